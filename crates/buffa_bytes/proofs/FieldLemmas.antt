@@ -1,0 +1,380 @@
+-- What is read of tags, payloads and groups, and their grammar.
+use Rattle.std.proofs.Common.{◌≡◌, ◌≢◌, ◌⊎◌, inl, inr, ℕ, zero, suc, ◌+◌, ◌-◌, ◌*◌, ◌/◌, ◌%◌, ◌^◌, ◌==◌, nat_lt, nat_eq, ◌<◌, ◌≤◌, Bool, true, false, List, [], ◌∷◌, ◌++◌, length, take, drop, Option, None, Some, Result, Ok, Err, refl, sym, ap, subst, ◌∙◌, arith, append_assoc, append-nil, length-append, length-take, if◌then◌else◌}
+use Rattle.std.proofs.lemmas.Bool.{lt-ltb, le-ltb, ltb-true, ltb-false, cond_both, eqb-true, eqb-false, eq-eqb, ne_eqb}
+use Rattle.std.proofs.lemmas.List.{take-append-drop, append_cancel_right}
+use Rattle.std.proofs.Math.Seq.{drop-append_seam}
+use Rattle.buffa_bytes.specs.WireType.{wire_number, wire_kind}
+use Rattle.buffa_bytes.specs.Gives.{◌>>=◌}
+use Rattle.buffa_bytes.specs.declared.wire_type.WireType.{WireType}
+use Rattle.buffa_bytes.specs.declared.wire_type.WireType.TheVariants.{Varint, Fixed64, LengthDelimited, StartGroup, EndGroup, Fixed32}
+use Rattle.buffa_bytes.specs.declared.error.DecodeError.{DecodeError}
+use Rattle.buffa_bytes.specs.declared.error.DecodeError.TheVariants.{UnexpectedEof, InvalidFieldNumber, InvalidWireType, RecursionLimitExceeded, InvalidEndGroup}
+use Rattle.buffa_bytes.specs.Varint.{Var, TakesVar, VarFault}
+use Rattle.buffa_bytes.specs.Join.{Join}
+use Rattle.buffa_bytes.specs.Number.{IsNumber}
+use Rattle.buffa_bytes.specs.Join.Join.{none, more}
+use Rattle.buffa_bytes.specs.Field.{IsTag, PayloadOver, FieldOver, SomeFieldOver, SomeField, Group, TakesTag, TakesPayload, BadTag, TagFault, LengthFault, PayloadFaultOver, FieldFaultOver, GroupFault, PayloadFault, TakesGroup}
+use Rattle.buffa_bytes.specs.Reading.{varint_within, varint_at, tag_of, tag_at, past, skip_by, is_end, fields_within, group_at, skip_at, group_step}
+use Rattle.buffa_bytes.proofs.StepLemmas.{Agrees, agree_bind, agree_if, agree_ok, agree_err, agree_weaker, same_answer, bind_same}
+use Rattle.buffa_bytes.proofs.VarintLemmas.{varint_sound, varint_complete, varint_faulty, varint_falls}
+
+-- ---- tags
+kind_back : (w : WireType) → wire_kind (wire_number w) ≡ Some w
+kind_back Varint = refl
+kind_back Fixed64 = refl
+kind_back LengthDelimited = refl
+kind_back StartGroup = refl
+kind_back EndGroup = refl
+kind_back Fixed32 = refl
+
+pub wire_small : (w : WireType) → wire_number w < 6
+wire_small Varint = omega arith
+wire_small Fixed64 = omega arith
+wire_small LengthDelimited = omega arith
+wire_small StartGroup = omega arith
+wire_small EndGroup = omega arith
+wire_small Fixed32 = omega arith
+
+kind_none : (n : ℕ) → 6 ≤ n → wire_kind n ≡ None
+kind_none n h = rw (ne_eqb n 0 (λ e. absurd (omega arith)), ne_eqb n 1 (λ e. absurd (omega arith)), ne_eqb n 2 (λ e. absurd (omega arith)), ne_eqb n 3 (λ e. absurd (omega arith)), ne_eqb n 4 (λ e. absurd (omega arith)), ne_eqb n 5 (λ e. absurd (omega arith))) refl
+
+abbrev kind_of : ℕ → Option WireType → Type 0
+kind_of n None = 6 ≤ n
+kind_of n (Some w) = wire_number w ≡ n
+
+none_of : (n : ℕ) → n ≢ 0 → n ≢ 1 → n ≢ 2 → n ≢ 3 → n ≢ 4 → n ≢ 5 → 6 ≤ n
+none_of n a b c d e f = omega arith
+
+kind_is : (n : ℕ) → kind_of n (wire_kind n)
+kind_is n =
+    cond_both (nat_eq n 0) _ _ (kind_of n) (λ e. sym (eqb-true n 0 e)) (λ a.
+    cond_both (nat_eq n 1) _ _ (kind_of n) (λ e. sym (eqb-true n 1 e)) (λ b.
+    cond_both (nat_eq n 2) _ _ (kind_of n) (λ e. sym (eqb-true n 2 e)) (λ c.
+    cond_both (nat_eq n 3) _ _ (kind_of n) (λ e. sym (eqb-true n 3 e)) (λ d.
+    cond_both (nat_eq n 4) _ _ (kind_of n) (λ e. sym (eqb-true n 4 e)) (λ e.
+    cond_both (nat_eq n 5) _ _ (kind_of n) (λ e. sym (eqb-true n 5 e)) (λ f.
+    none_of n (eqb-false n 0 a) (eqb-false n 1 b) (eqb-false n 2 c) (eqb-false n 3 d) (eqb-false n 4 e) (eqb-false n 5 f)))))))
+
+kind_sound : (n : ℕ) (k : Option WireType) → 8 ≤ n → n < 2 ^ 32 → kind_of (n % 8) k →
+    Agrees {A = ℕ × WireType} (elim k [ None ↦ Err (InvalidWireType (n % 8)) | Some w ↦ Ok (n / 8, w) ]) (λ t. IsNumber t.0 × (n ≡ 8 * t.0 + wire_number t.1)) (BadTag n)
+kind_sound n None h l k = record { holds = (h, l, refl, k) }
+kind_sound n (Some w) h l k = record { holds = ((omega arith, omega arith), omega arith) }
+
+tag_of_sound : (n : ℕ) → Agrees (tag_of n) (λ t. IsNumber t.0 × (n ≡ 8 * t.0 + wire_number t.1)) (BadTag n)
+unfolding tag_of
+tag_of_sound n = agree_if (nat_lt n (2 ^ 32))
+    (λ e. agree_if (nat_lt n 8)
+    (λ f. record { holds = inr (ltb-true n 8 f) })
+    (λ f. kind_sound n (wire_kind (n % 8)) (ltb-false n 8 f) (ltb-true n (2 ^ 32) e) (kind_is (n % 8))))
+    (λ e. record { holds = inl (ltb-false n (2 ^ 32) e) })
+
+tag_of_complete : (f : ℕ) (w : WireType) → IsNumber f → tag_of (8 * f + wire_number w) ≡ Ok (f, w)
+unfolding tag_of
+tag_of_complete f w h =
+    let s = wire_small w in
+    let m : (8 * f + wire_number w) % 8 ≡ wire_number w = omega arith in
+    let d : (8 * f + wire_number w) / 8 ≡ f = omega arith in
+    rw (lt-ltb (8 * f + wire_number w) (2 ^ 32) (omega arith), le-ltb (8 * f + wire_number w) 8 (omega arith), m, kind_back w, d) refl
+
+tag_of_faulty : (n : ℕ) (e : DecodeError) → BadTag n e → tag_of n ≡ Err e
+unfolding tag_of
+tag_of_faulty n InvalidFieldNumber (inl h) = rw (le-ltb n (2 ^ 32) h) refl
+tag_of_faulty n InvalidFieldNumber (inr h) = rw (lt-ltb n (2 ^ 32) (omega arith), lt-ltb n 8 h) refl
+tag_of_faulty n (InvalidWireType w) (a, b, c, d) = rw (lt-ltb n (2 ^ 32) b, le-ltb n 8 a, kind_none (n % 8) (omega arith)) (ap (λ x. Err (InvalidWireType x)) (sym c))
+tag_of_faulty n _ h = absurd h
+
+pub tag_sound : (bs : List ℕ) → Agrees (tag_at bs) (λ t. TakesTag bs t.0 t.1 t.2) (TagFault bs)
+unfolding tag_at
+tag_sound bs = agree_bind (varint_sound bs)
+    (λ n v. agree_bind (tag_of_sound n.0) (λ t h. record { holds = (v.0, (h.0, subst (λ m. Var v.0 m) h.1 v.1), v.2) }) (λ e h. inr (n.0, n.1, v, h)))
+    (λ e f. inl f)
+
+pub tag_complete : (t : List ℕ) (f : ℕ) (w : WireType) (rest : List ℕ) → IsTag t f w → tag_at (t ++ rest) ≡ Ok (f, w, rest)
+unfolding tag_at
+tag_complete t f w rest h = rw (varint_complete t (8 * f + wire_number w) rest h.1, tag_of_complete f w h.0) refl
+
+pub tag_faulty : (bs : List ℕ) (e : DecodeError) → TagFault bs e → tag_at bs ≡ Err e
+unfolding tag_at
+tag_faulty bs e (inl f) = rw (varint_faulty bs e f) refl
+tag_faulty bs e (inr (n, rest, (t, v, is), b)) = rw (is, varint_complete t n rest v, tag_of_faulty n e b) refl
+
+pub tag_some : (t : List ℕ) (f : ℕ) (w : WireType) → IsTag t f w → 0 < length t
+tag_some t f w h = varint_falls t (8 * f + wire_number w) h.1
+
+-- ---- payloads
+abbrev TakesBytes : ℕ → List ℕ → List ℕ → Type 0
+TakesBytes n bs rest = (p : List ℕ) × (length p ≡ n) × (bs ≡ p ++ rest)
+
+past_sound : (n : ℕ) (bs : List ℕ) → Agrees (past n bs) (λ rest. TakesBytes n bs rest) (λ e. (length bs < n) × (e ≡ UnexpectedEof))
+unfolding past
+past_sound n bs = agree_if (nat_lt (length bs) n)
+    (λ e. record { holds = (ltb-true (length bs) n e, refl) })
+    (λ e. record { holds = (take n bs, omega (arith, length-take n bs, ltb-false (length bs) n e), sym (take-append-drop n bs)) })
+
+past_complete : (n : ℕ) (p rest : List ℕ) → length p ≡ n → past n (p ++ rest) ≡ Ok rest
+unfolding past
+past_complete n p rest e = rw (le-ltb (length (p ++ rest)) n (omega (arith, length-append p rest)), ← e) (ap (λ x. Ok x) (drop-append_seam p rest))
+
+past_faulty : (n : ℕ) (bs : List ℕ) → length bs < n → past n bs ≡ Err UnexpectedEof
+unfolding past
+past_faulty n bs h = rw (lt-ltb (length bs) n h) refl
+
+abbrev Inner : Type 0
+Inner = ℕ → List ℕ → Result (List ℕ) DecodeError
+
+abbrev pub Takes : (ℕ → List ℕ → Type 0) → ℕ → List ℕ → List ℕ → Type 0
+Takes G f bs rest = (p : List ℕ) × G f p × (bs ≡ p ++ rest)
+
+end_true : (w : WireType) → is_end w ≡ true → w ≡ EndGroup
+end_true EndGroup e = refl
+end_true Varint e = cc
+end_true Fixed64 e = cc
+end_true LengthDelimited e = cc
+end_true StartGroup e = cc
+end_true Fixed32 e = cc
+
+end_false : (w : WireType) → is_end w ≡ false → w ≢ EndGroup
+end_false w e h = let k : is_end EndGroup ≡ false = subst (λ v. is_end v ≡ false) h e in cc
+
+pub not_end : (w : WireType) → w ≢ EndGroup → is_end w ≡ false
+not_end EndGroup h = absurd (h refl)
+not_end Varint h = refl
+not_end Fixed64 h = refl
+not_end LengthDelimited h = refl
+not_end StartGroup h = refl
+not_end Fixed32 h = refl
+
+module _ (inner : Inner) (G : ℕ → List ℕ → Type 0) (F : ℕ → List ℕ → DecodeError → Type 0) where
+  -- a reader of groups answers as the grammar says
+  abbrev pub Sound : Type 0
+  Sound = (f : ℕ) (bs : List ℕ) → Agrees (inner f bs) (λ rest. Takes G f bs rest) (F f bs)
+
+  abbrev pub Complete : Type 0
+  Complete = (f : ℕ) (p rest : List ℕ) → G f p → inner f (p ++ rest) ≡ Ok rest
+
+  abbrev pub Faults : Type 0
+  Faults = (f : ℕ) (bs : List ℕ) (e : DecodeError) → F f bs e → inner f bs ≡ Err e
+
+  pub skip_sound : Sound → (f : ℕ) (w : WireType) (bs : List ℕ) → Agrees (skip_by inner f w bs) (λ rest. (p : List ℕ) × PayloadOver G f w p × (bs ≡ p ++ rest)) (PayloadFaultOver F f w bs)
+  skip_sound s f Varint bs = agree_bind (varint_sound bs) (λ n v. record { holds = (v.0, (n.0, v.1), v.2) }) (λ e h. h)
+  skip_sound s f Fixed64 bs = past_sound 8 bs
+  skip_sound s f LengthDelimited bs = agree_bind (varint_sound bs)
+      (λ n v. agree_weaker (past_sound n.0 n.1)
+      (λ rest b. (v.0 ++ b.0, (v.0, b.0, subst (λ k. Var v.0 k) (sym b.1) v.1, refl), v.2 ∙ ap (λ m. v.0 ++ m) b.2 ∙ sym (append_assoc v.0 b.0 rest)))
+      (λ e b. inr (n.0, n.1, v, b.0, b.1)))
+      (λ e h. inl h)
+  skip_sound s f StartGroup bs = s f bs
+  skip_sound s f EndGroup bs = record { holds = refl }
+  skip_sound s f Fixed32 bs = past_sound 4 bs
+
+  pub skip_complete : Complete → (f : ℕ) (w : WireType) (p rest : List ℕ) → PayloadOver G f w p → skip_by inner f w (p ++ rest) ≡ Ok rest
+  skip_complete c f Varint p rest h = rw (varint_complete p h.0 rest h.1) refl
+  skip_complete c f Fixed64 p rest h = past_complete 8 p rest h
+  skip_complete c f LengthDelimited p rest (t, body, v, e) = rw (e, append_assoc t body rest, varint_complete t (length body) (body ++ rest) v) (past_complete (length body) body rest refl)
+  skip_complete c f StartGroup p rest h = c f p rest h
+  skip_complete c f EndGroup p rest h = absurd h
+  skip_complete c f Fixed32 p rest h = past_complete 4 p rest h
+
+  pub skip_faulty : Faults → (f : ℕ) (w : WireType) (bs : List ℕ) (e : DecodeError) → PayloadFaultOver F f w bs e → skip_by inner f w bs ≡ Err e
+  skip_faulty c f Varint bs e h = rw (varint_faulty bs e h) refl
+  skip_faulty c f Fixed64 bs e h = past_faulty 8 bs h.0 ∙ ap (λ x. Err x) (sym h.1)
+  skip_faulty c f LengthDelimited bs e (inl h) = rw (varint_faulty bs e h) refl
+  skip_faulty c f LengthDelimited bs e (inr (n, rest, (t, v, is), l, k)) = rw (is, varint_complete t n rest v) (past_faulty n rest l ∙ ap (λ x. Err x) (sym k))
+  skip_faulty c f StartGroup bs e h = c f bs e h
+  skip_faulty c f EndGroup bs e h = ap (λ x. Err x) (sym h)
+  skip_faulty c f Fixed32 bs e h = past_faulty 4 bs h.0 ∙ ap (λ x. Err x) (sym h.1)
+
+  abbrev pub TakesFields : ℕ → List ℕ → List ℕ → Type 0
+  TakesFields f bs rest = (body : List ℕ) × (t : List ℕ) × Join (SomeFieldOver G) body × IsTag t f EndGroup × (bs ≡ body ++ (t ++ rest))
+
+  abbrev pub FieldsFault : ℕ → List ℕ → DecodeError → Type 0
+  FieldsFault f bs e = (body : List ℕ) × (rest : List ℕ) × Join (SomeFieldOver G) body × (bs ≡ body ++ rest) × FieldFaultOver F f rest e
+
+  one_more : (bs t p mid : List ℕ) (after body x : List ℕ) → bs ≡ t ++ after → after ≡ p ++ mid → mid ≡ body ++ x → bs ≡ ((t ++ p) ++ body) ++ x
+  one_more bs t p mid after body x a b c = a ∙ ap (λ z. t ++ z) (b ∙ ap (λ z. p ++ z) c) ∙ simp append_assoc
+
+  pub fields_sound : Sound → (k f : ℕ) (bs : List ℕ) → length bs ≤ k → Agrees (fields_within inner k f bs) (λ rest. TakesFields f bs rest) (FieldsFault f bs)
+  unfolding fields_within
+  fields_sound s zero f [] h = record { holds = ([], [], none, refl, inl (inl (tt, omega arith))) }
+  fields_sound s zero f (b ∷ bs) h = absurd (omega arith)
+  fields_sound s (suc k) f bs h = agree_bind (tag_sound bs)
+      (λ t u. agree_if (is_end t.1)
+      (λ e. let end : IsTag u.0 t.0 EndGroup = subst (λ w. IsTag u.0 t.0 w) (end_true t.1 e) u.1 in agree_if (t.0 == f)
+      (λ m. record { holds = ([], u.0, none, subst (λ g. IsTag u.0 g EndGroup) (eqb-true t.0 f m) end, u.2) })
+      (λ m. record { holds = ([], bs, none, refl, inr (inl (t.0, t.2, (u.0, end, u.2), eqb-false t.0 f m, refl))) }))
+      (λ e. agree_bind (skip_sound s t.0 t.1 t.2)
+      (λ mid p. agree_weaker (fields_sound s k f mid (omega (arith, tag_some u.0 t.0 t.1 u.1, ap length u.2, ap length p.2, length-append u.0 t.2, length-append p.0 mid)))
+      (λ rest x. ((u.0 ++ p.0) ++ x.0, x.1, more (u.0 ++ p.0) x.0 (t.0, t.1, (u.0, p.0, u.1, p.1, refl)) x.2, x.3, one_more bs u.0 p.0 mid t.2 x.0 (x.1 ++ rest) u.2 p.2 x.4))
+      (λ d x. ((u.0 ++ p.0) ++ x.0, x.1, more (u.0 ++ p.0) x.0 (t.0, t.1, (u.0, p.0, u.1, p.1, refl)) x.2, one_more bs u.0 p.0 mid t.2 x.0 x.1 u.2 p.2 x.3, x.4)))
+      (λ d x. ([], bs, none, refl, inr (inr (t.0, t.1, t.2, u, end_false t.1 e, x))))))
+      (λ e x. ([], bs, none, refl, inl x))
+
+  -- an end tag has no payload
+  payload_no_end : (f : ℕ) (w : WireType) (p : List ℕ) → PayloadOver G f w p → w ≢ EndGroup
+  payload_no_end f w p h e = subst (λ v. PayloadOver G f v p) e h
+
+  pass_one : Complete → (k f : ℕ) (first rest x : List ℕ) (g : ℕ) (w : WireType) (t p : List ℕ) → IsTag t g w → PayloadOver G g w p → first ≡ t ++ p → fields_within inner (suc k) f ((first ++ rest) ++ x) ≡ fields_within inner k f (rest ++ x)
+  unfolding fields_within
+  pass_one c k f first rest x g w t p s q e =
+      let is : (first ++ rest) ++ x ≡ t ++ (p ++ (rest ++ x)) = ap (λ z. (z ++ rest) ++ x) e ∙ simp append_assoc in
+      rw (is, tag_complete t g w (p ++ (rest ++ x)) s, not_end w (payload_no_end g w p q), skip_complete c g w p (rest ++ x) q) refl
+
+  -- whole fields are passed
+  pass : Complete → (k f : ℕ) (body x : List ℕ) → Join (SomeFieldOver G) body → length (body ++ x) ≤ k → (m : ℕ) × (length x ≤ m) × (fields_within inner k f (body ++ x) ≡ fields_within inner m f x)
+  unfolding fields_within
+  pass c k f body x none h = (k, h, refl)
+  pass c zero f body x (more first rest (g, w, (t, p, s, q, e)) j) h = absurd (omega (arith, tag_some t g w s, ap length e, length-append t p, length-append first rest, length-append (first ++ rest) x))
+  pass c (suc k) f body x (more first rest (g, w, (t, p, s, q, e)) j) h =
+      let i = pass c k f rest x j (omega (arith, tag_some t g w s, ap length e, length-append t p, length-append first rest, length-append (first ++ rest) x, length-append rest x)) in
+      (i.0, i.1, pass_one c k f first rest x g w t p s q e ∙ i.2)
+
+  at_end : (t : List ℕ) (f : ℕ) (rest : List ℕ) → IsTag t f EndGroup → (m : ℕ) → length (t ++ rest) ≤ m → fields_within inner m f (t ++ rest) ≡ Ok rest
+  unfolding fields_within
+  at_end t f rest s zero h = absurd (omega (arith, tag_some t f EndGroup s, length-append t rest))
+  at_end t f rest s (suc m) h = rw (tag_complete t f EndGroup rest s, eq-eqb f f refl) refl
+
+  at_fault : Faults → (f : ℕ) (bs : List ℕ) (e : DecodeError) → FieldFaultOver F f bs e → (m : ℕ) → length bs ≤ m → fields_within inner m f bs ≡ Err e
+  unfolding fields_within tag_at varint_at varint_within
+  at_fault c f [] e (inl x) zero h = ap (λ r. r >>= (λ t. Ok t.2)) (tag_faulty [] e x)
+  at_fault c f [] e (inr (inl (g, rest, (t, s, is), n, k))) zero h = absurd (omega (arith, tag_some t g EndGroup s, ap length is, length-append t rest))
+  at_fault c f [] e (inr (inr (g, w, rest, (t, s, is), n, x))) zero h = absurd (omega (arith, tag_some t g w s, ap length is, length-append t rest))
+  at_fault c f (b ∷ bs) e x zero h = absurd (omega arith)
+  at_fault c f bs e (inl x) (suc m) h = rw (tag_faulty bs e x) refl
+  at_fault c f bs e (inr (inl (g, rest, (t, s, is), n, k))) (suc m) h = rw (is, tag_complete t g EndGroup rest s, ne_eqb g f n) (ap (λ x. Err x) (sym k))
+  at_fault c f bs e (inr (inr (g, w, rest, (t, s, is), n, x))) (suc m) h = rw (is, tag_complete t g w rest s, not_end w n, skip_faulty c g w rest e x) refl
+
+  pub fields_faulty : Complete → Faults → (k f : ℕ) (bs : List ℕ) (e : DecodeError) → length bs ≤ k → FieldsFault f bs e → fields_within inner k f bs ≡ Err e
+  fields_faulty c d k f bs e h (body, rest, j, is, x) =
+      let l : length (body ++ rest) ≤ k = subst (λ z. length z ≤ k) is h in
+      let i = pass c k f body rest j l in
+      ap (fields_within inner k f) is ∙ i.2 ∙ at_fault d f rest e x i.0 i.1
+
+  pub fields_complete : Complete → (k f : ℕ) (bs rest : List ℕ) → length bs ≤ k → TakesFields f bs rest → fields_within inner k f bs ≡ Ok rest
+  unfolding fields_within
+  fields_complete c k f bs rest h (body, t, j, s, e) =
+      let l : length (body ++ (t ++ rest)) ≤ k = subst (λ z. length z ≤ k) e h in
+      let i = pass c k f body (t ++ rest) j l in
+      ap (fields_within inner k f) e ∙ i.2 ∙ at_end t f rest s i.0 i.1
+
+  -- more steps than bytes change nothing
+  pub enough : Sound → Complete → Faults → (k m f : ℕ) (bs : List ℕ) → length bs ≤ k → length bs ≤ m → fields_within inner k f bs ≡ fields_within inner m f bs
+  enough s c d k m f bs h l = same_answer _ _ (fields_sound s k f bs h) (λ rest x. fields_complete c m f bs rest l x) (λ e x. fields_faulty c d m f bs e l x)
+
+pub group_sound : (d : ℕ) → Sound (group_at d) (Group d) (GroupFault d)
+unfolding group_at Group GroupFault
+group_sound zero f bs = record { holds = refl }
+group_sound (suc d) f bs = agree_weaker (fields_sound (group_at d) (Group d) (GroupFault d) (group_sound d) (length bs) f bs (omega arith))
+    (λ rest x. (x.0 ++ x.1, (x.0, x.1, x.2, x.3, refl), x.4 ∙ sym (append_assoc x.0 x.1 rest)))
+    (λ e x. x)
+
+pub group_complete : (d : ℕ) → Complete (group_at d) (Group d) (GroupFault d)
+unfolding group_at Group
+group_complete zero f p rest h = absurd h
+group_complete (suc d) f p rest (body, t, j, s, e) =
+    fields_complete (group_at d) (Group d) (GroupFault d) (group_complete d) (length (p ++ rest)) f (p ++ rest) rest (omega arith) (body, t, j, s, ap (λ z. z ++ rest) e ∙ append_assoc body t rest)
+
+pub group_faulty : (d : ℕ) → Faults (group_at d) (Group d) (GroupFault d)
+unfolding group_at GroupFault
+group_faulty zero f bs e h = ap (λ x. Err x) (sym h)
+group_faulty (suc d) f bs e h = fields_faulty (group_at d) (Group d) (GroupFault d) (group_complete d) (group_faulty d) (length bs) f bs e (omega arith) h
+
+pub payload_sound : (d f : ℕ) (w : WireType) (bs : List ℕ) → Agrees (skip_at d f w bs) (λ rest. TakesPayload d f w bs rest) (PayloadFault d f w bs)
+payload_sound d f w bs = skip_sound (group_at d) (Group d) (GroupFault d) (group_sound d) f w bs
+
+pub payload_complete : (d f : ℕ) (w : WireType) (p rest : List ℕ) → PayloadOver (Group d) f w p → skip_at d f w (p ++ rest) ≡ Ok rest
+payload_complete d f w p rest h = skip_complete (group_at d) (Group d) (GroupFault d) (group_complete d) f w p rest h
+
+pub payload_faulty : (d f : ℕ) (w : WireType) (bs : List ℕ) (e : DecodeError) → PayloadFault d f w bs e → skip_at d f w bs ≡ Err e
+payload_faulty d f w bs e h = skip_faulty (group_at d) (Group d) (GroupFault d) (group_faulty d) f w bs e h
+
+-- ---- what is read leaves less
+pub tag_falls : (bs : List ℕ) (t : ℕ × WireType × List ℕ) → tag_at bs ≡ Ok t → length t.2 < length bs
+tag_falls bs t e = let u = agree_ok (tag_at bs) t (tag_sound bs) e in omega (arith, tag_some u.0 t.0 t.1 u.1, ap length u.2, length-append u.0 t.2)
+
+pub skip_falls : (d f : ℕ) (w : WireType) (bs rest : List ℕ) → skip_at d f w bs ≡ Ok rest → length rest ≤ length bs
+skip_falls d f w bs rest e = let u = agree_ok (skip_at d f w bs) rest (payload_sound d f w bs) e in omega (arith, ap length u.2, length-append u.0 rest)
+
+-- ---- a group, with no count of steps
+cond_same : {A : Type 0} (b : Bool) (x y q : A) → y ≡ q → (if b then x else y) ≡ (if b then x else q)
+cond_same b x y q e = ap (λ z. if b then x else z) e
+
+pub group_is : (d f : ℕ) (bs : List ℕ) → group_at (suc d) f bs ≡ (tag_at bs >>= group_step d f)
+unfolding group_at fields_within
+group_is d f bs =
+    let enough_for : (k m : ℕ) (cs : List ℕ) → length cs ≤ k → length cs ≤ m → fields_within (group_at d) k f cs ≡ fields_within (group_at d) m f cs =
+    (λ k m cs h l. enough (group_at d) (Group d) (GroupFault d) (group_sound d) (group_complete d) (group_faulty d) k m f cs h l) in
+    enough_for (length bs) (suc (length bs)) bs (omega arith) (omega arith) ∙
+    bind_same (tag_at bs) _ _ (λ t e. cond_same (is_end t.1) _ _ _
+    (bind_same (skip_at d t.0 t.1 t.2) _ _ (λ mid q. enough_for (length bs) (length mid) mid (omega (arith, tag_falls bs t e, skip_falls d t.0 t.1 t.2 mid q)) (omega arith))))
+
+-- ---- the loop over the fields of a group
+pub group_limit : (d f : ℕ) (bs : List ℕ) → d ≡ 0 → group_at d f bs ≡ Err RecursionLimitExceeded
+unfolding group_at
+group_limit d f bs e = rw e refl
+
+at_least : (d f : ℕ) (bs : List ℕ) → d ≢ 0 → group_at d f bs ≡ (tag_at bs >>= group_step (d - 1) f)
+at_least zero f bs n = absurd (n refl)
+at_least (suc d) f bs n = let e : suc d - 1 ≡ d = omega arith in rw e (group_is d f bs)
+
+pub group_tag_err : (d f : ℕ) (bs : List ℕ) (all : Result (List ℕ) DecodeError) (e : DecodeError) → d ≢ 0 → group_at d f bs ≡ all → tag_at bs ≡ Err e → all ≡ Err e
+group_tag_err d f bs all e n h t = sym h ∙ at_least d f bs n ∙ rw t refl
+
+pub group_end : (d f : ℕ) (bs : List ℕ) (all : Result (List ℕ) DecodeError) (t : ℕ × WireType × List ℕ) → d ≢ 0 → group_at d f bs ≡ all → tag_at bs ≡ Ok t → t.1 ≡ EndGroup → t.0 ≡ f → all ≡ Ok t.2
+group_end d f bs all t n h e w m = sym h ∙ at_least d f bs n ∙ rw (e, w, eq-eqb t.0 f m) refl
+
+pub group_other : (d f : ℕ) (bs : List ℕ) (all : Result (List ℕ) DecodeError) (t : ℕ × WireType × List ℕ) → d ≢ 0 → group_at d f bs ≡ all → tag_at bs ≡ Ok t → t.1 ≡ EndGroup → t.0 ≢ f → all ≡ Err (InvalidEndGroup t.0)
+group_other d f bs all t n h e w m = sym h ∙ at_least d f bs n ∙ rw (e, w, ne_eqb t.0 f m) refl
+
+pub group_skip_err : (d f : ℕ) (bs : List ℕ) (all : Result (List ℕ) DecodeError) (t : ℕ × WireType × List ℕ) (x : DecodeError) → d ≢ 0 → group_at d f bs ≡ all → tag_at bs ≡ Ok t → t.1 ≢ EndGroup → skip_at (d - 1) t.0 t.1 t.2 ≡ Err x → all ≡ Err x
+group_skip_err d f bs all t x n h e w s = sym h ∙ at_least d f bs n ∙ rw (e, not_end t.1 w, s) refl
+
+pub group_next : (d f : ℕ) (bs rest : List ℕ) (all : Result (List ℕ) DecodeError) (t : ℕ × WireType × List ℕ) → d ≢ 0 → group_at d f bs ≡ all → tag_at bs ≡ Ok t → t.1 ≢ EndGroup → skip_at (d - 1) t.0 t.1 t.2 ≡ Ok rest → group_at d f rest ≡ all
+group_next zero f bs rest all t n h e w s = absurd (n refl)
+group_next (suc d) f bs rest all t n h e w s =
+    let k : suc d - 1 ≡ d = omega arith in
+    let s2 : skip_at d t.0 t.1 t.2 ≡ Ok rest = subst (λ m. skip_at m t.0 t.1 t.2 ≡ Ok rest) k s in
+    sym (group_is d f bs ∙ rw (e, not_end t.1 w, s2) refl) ∙ h
+
+-- ---- laws
+pub payload_taken : (d f : ℕ) (w : WireType) (bs rest : List ℕ) → TakesPayload d f w bs rest → skip_at d f w bs ≡ Ok rest
+payload_taken d f w bs rest h = ap (λ z. skip_at d f w z) h.2 ∙ payload_complete d f w h.0 rest h.1
+
+pub onward : (bs t rest x : List ℕ) → bs ≡ t ++ rest → bs ++ x ≡ t ++ (rest ++ x)
+onward bs t rest x e = ap (λ z. z ++ x) e ∙ append_assoc t rest x
+
+pub varint_less : (bs : List ℕ) (n : ℕ) (rest : List ℕ) → varint_at bs ≡ Ok (n, rest) → length rest < length bs
+varint_less bs n rest e = let t = agree_ok (varint_at bs) (n, rest) (varint_sound bs) e in omega (arith, varint_falls t.0 n t.1, ap length t.2, length-append t.0 rest)
+
+abbrev good : List ℕ → Result (List ℕ) DecodeError
+good x = Ok x
+
+abbrev bad : DecodeError → Result (List ℕ) DecodeError
+bad e = Err e
+
+pub ok_same : {x y : List ℕ} → good x ≡ good y → x ≡ y
+ok_same e = cc
+
+pub err_same : {x y : DecodeError} → bad x ≡ bad y → x ≡ y
+err_same e = cc
+
+pub ok_no_err : {x : List ℕ} {y : DecodeError} → good x ≡ bad y → ⊥
+ok_no_err e = cc
+
+-- ---- no payload and no field begins another
+pub one_payload : (d f : ℕ) (w : WireType) (bs x y : List ℕ) → TakesPayload d f w bs x → TakesPayload d f w bs y → x ≡ y
+one_payload d f w bs x y h k = ok_same (sym (payload_taken d f w bs x h) ∙ payload_taken d f w bs y k)
+
+-- a field, as a tag and what follows its payload
+field_at : ℕ → List ℕ → Result (List ℕ) DecodeError
+field_at d bs = tag_at bs >>= (λ t. skip_at d t.0 t.1 t.2)
+
+field_taken : (d : ℕ) (b x : List ℕ) → SomeField d b → field_at d (b ++ x) ≡ Ok x
+unfolding field_at
+field_taken d b x (f, w, (t, p, tag, payload, is)) =
+    let whole : b ++ x ≡ t ++ (p ++ x) = ap (λ z. z ++ x) is ∙ append_assoc t p x in
+    rw (whole, tag_complete t f w (p ++ x) tag) (payload_complete d f w p x payload)
+
+pub one_field : (d : ℕ) (first second x y : List ℕ) → SomeField d first → SomeField d second → first ++ x ≡ second ++ y → first ≡ second
+one_field d first second x y h k e =
+    let rest : x ≡ y = ok_same (sym (field_taken d first x h) ∙ ap (field_at d) e ∙ field_taken d second y k) in
+    append_cancel_right first second y (ap (λ z. first ++ z) (sym rest) ∙ e)

@@ -1,0 +1,9 @@
+pub mod DigitLemmas
+pub mod ShortestLemmas
+pub mod StepLemmas
+pub mod VarintLemmas
+pub mod FieldLemmas
+pub mod DelimitedLemmas
+pub mod BufLemmas
+pub mod SinkLemmas
+pub mod IntLemmas

@@ -1,0 +1,34 @@
+-- One text after another.
+use Rattle.std.proofs.lemmas.List.{take_more_set, length-take}
+use Rattle.buffa_bytes.specs.Varint.{V}
+use Rattle.buffa_bytes.proofs.ShortestLemmas.{V-more, V-last, V-some}
+use Rattle.std.proofs.Common.{[], ◌∷◌, ◌+◌, ◌*◌, ◌/◌, ◌%◌, ◌<◌, ◌≤◌, length, take, set, refl, arith, ◌≡◌, ℕ, List, ◌++◌, sym, ◌∙◌, ap, append_assoc}
+use Rattle.std.specs.Prelude.{Result}
+use Rattle.std.specs.Result.{MatchResult}
+use Rattle.std.proofs.lemmas.Result.{MatchResult-weaker}
+use Rattle.buffa_bytes.specs.declared.error.EncodeError.{EncodeError}
+use Rattle.buffa_bytes.specs.Written.{Writes, WritesFront}
+
+-- a front of the first is a front of both
+pub front_first : (old a b new : List ℕ) → WritesFront old a new → WritesFront old (a ++ b) new
+front_first old a b new h = (h.0, h.1 ++ b, ap (λ t. t ++ b) h.2 ∙ append_assoc h.0 h.1 b, h.3)
+
+-- after the first, a front of the second
+pub front_second : (old a b mid new : List ℕ) → mid ≡ old ++ a → WritesFront mid b new → WritesFront old (a ++ b) new
+front_second old a b mid new e h = (a ++ h.0, h.1, ap (λ t. a ++ t) h.2 ∙ sym (append_assoc a h.0 h.1), h.3 ∙ ap (λ t. t ++ h.0) e ∙ append_assoc old a h.0)
+
+-- both
+pub writes_then : {T : Type 0} (r : Result T EncodeError) (old a b mid new : List ℕ) → mid ≡ old ++ a → Writes r mid b new → Writes r old (a ++ b) new
+writes_then r old a b mid new e h = MatchResult-weaker r h
+    (λ x w. w ∙ ap (λ t. t ++ b) e ∙ append_assoc old a b)
+    (λ x w. (w.0, front_second old a b mid new e w.1))
+
+-- a digit more in the text
+pub digit_more : (text all : List ℕ) (len rest : ℕ) → len < length text → 128 ≤ rest → take len text ++ V rest ≡ all → take (len + 1) (set text len (rest % 128 + 128)) ++ V (rest / 128) ≡ all
+digit_more text all len rest h large e = ap (λ t. t ++ V (rest / 128)) (take_more_set text len _ h) ∙ append_assoc (take len text) _ _ ∙ ap (λ t. take len text ++ t) (sym (V-more rest large)) ∙ e
+
+pub digit_last : (text all : List ℕ) (len rest : ℕ) → len < length text → rest < 128 → take len text ++ V rest ≡ all → take (len + 1) (set text len rest) ≡ all
+digit_last text all len rest h small e = take_more_set text len rest h ∙ ap (λ t. take len text ++ t) (sym (V-last rest small)) ∙ e
+
+pub digit_room : (rest len : ℕ) → 128 ≤ rest → len + length (V rest) ≤ 10 → len + 1 + length (V (rest / 128)) ≤ 10
+digit_room rest len large h = let k : len + length ((rest % 128 + 128) ∷ V (rest / 128)) ≤ 10 = rw (V-more rest large) at h in omega arith

@@ -1,0 +1,139 @@
+-- What is read of a varint, and its spellings.
+use Rattle.std.proofs.Common.{◌≡◌, ◌⊎◌, inl, inr, ℕ, zero, suc, ◌+◌, ◌*◌, ◌/◌, ◌%◌, ◌^◌, nat_lt, ◌<◌, ◌≤◌, List, [], ◌∷◌, ◌++◌, length, Result, Ok, Err, refl, sym, ap, subst, ◌∙◌, arith, append_assoc, length-append}
+use Rattle.std.proofs.lemmas.Bool.{lt-ltb, le-ltb, ltb-true, ltb-false, cases_lt}
+use Rattle.std.proofs.Math.Nat.{pow-suc}
+use Rattle.buffa_bytes.specs.declared.error.DecodeError.{DecodeError}
+use Rattle.buffa_bytes.specs.declared.error.DecodeError.TheVariants.{UnexpectedEof, VarintTooLong}
+use Rattle.buffa_bytes.specs.Varint.{base128, Continue, Var, TakesVar, VarFault, shortest, V}
+use Rattle.buffa_bytes.specs.Reading.{varint_within, varint_at}
+use Rattle.buffa_bytes.proofs.StepLemmas.{Agrees, agree_bind, agree_if, agree_ok, agree_err, agree_weaker}
+use Rattle.buffa_bytes.proofs.DigitLemmas.{base128-lt, some_scale}
+use Rattle.buffa_bytes.proofs.ShortestLemmas.{one_byte, more_bytes, length-V, length-shortest}
+
+record Spelled (k : ℕ) (bs : List ℕ) (n : ℕ) (rest : List ℕ) : Type 0 where
+  front : List ℕ
+  last : ℕ
+  is : bs ≡ front ++ last ∷ rest
+  continue : Continue front
+  ends : last < 128
+  short : length front ≤ k
+  value : n ≡ base128 (front ++ last ∷ [])
+  fits : n < 2 * 128 ^ k
+
+abbrev Faulty : ℕ → List ℕ → DecodeError → Type 0
+Faulty k bs UnexpectedEof = Continue bs × (length bs ≤ k)
+Faulty k bs VarintTooLong = (front : List ℕ) × (b : ℕ) × (rest : List ℕ) × Continue front × (length front ≡ k) × (2 ≤ b) × (bs ≡ front ++ b ∷ rest)
+Faulty k bs _ = ⊥
+
+faulty_more : (k b : ℕ) (bs : List ℕ) (e : DecodeError) → 128 ≤ b → Faulty k bs e → Faulty (suc k) (b ∷ bs) e
+faulty_more k b bs UnexpectedEof h f = ((h, f.0), omega (arith, f.1))
+faulty_more k b bs VarintTooLong h (front, c, rest, o, l, m, e) = (b ∷ front, c, rest, (h, o), omega (arith, l), m, ap (λ x. b ∷ x) e)
+faulty_more k b bs _ h f = absurd f
+
+sound_in : (k : ℕ) (bs : List ℕ) → Agrees (varint_within k bs) (λ v. Spelled k bs v.0 v.1) (Faulty k bs)
+unfolding varint_within
+sound_in k [] = record { holds = (tt, omega arith) }
+sound_in zero (b ∷ bs) = agree_if (nat_lt b 2)
+    (λ e. let h = ltb-true b 2 e in record { holds = record { front = []; last = b; is = refl; continue = tt; ends = omega arith; short = omega arith; value = omega arith; fits = omega arith } })
+    (λ e. record { holds = ([], b, bs, tt, refl, ltb-false b 2 e, refl) })
+sound_in (suc k) (b ∷ bs) = agree_if (nat_lt b 128)
+    (λ e. let h = ltb-true b 128 e in record { holds = record { front = []; last = b; is = refl; continue = tt; ends = h; short = omega arith; value = omega arith; fits = rw pow-suc (omega (arith, some_scale k)) } })
+    (λ e. let h = ltb-false b 128 e in agree_bind (sound_in k bs)
+    (λ v s. record {
+      holds = record {
+        front = b ∷ s.front;
+        last = s.last;
+        is = ap (λ x. b ∷ x) s.is;
+        continue = (h, s.continue);
+        ends = s.ends;
+        short = omega (arith, s.short);
+        value = omega (arith, s.value);
+        fits = rw pow-suc (omega (arith, s.fits));
+      };
+    })
+    (λ d f. faulty_more k b bs d h f))
+
+fault_of : (bs : List ℕ) (e : DecodeError) → Faulty 9 bs e → VarFault bs e
+fault_of bs UnexpectedEof f = (f.0, omega (arith, f.1))
+fault_of bs VarintTooLong f = f
+fault_of bs _ f = absurd f
+
+pub varint_sound : (bs : List ℕ) → Agrees (varint_at bs) (λ v. TakesVar bs v.0 v.1) (VarFault bs)
+unfolding varint_at
+varint_sound bs = agree_weaker (sound_in 9 bs)
+    (λ v s. (
+      s.front ++ s.last ∷ [],
+      record { front = s.front; last = s.last; spelled = refl; continue = s.continue; ends = s.ends; short = omega (arith, s.short); value = s.value; fits = omega (arith, s.fits) },
+      s.is ∙ sym (append_assoc s.front (s.last ∷ []) v.1),
+    ))
+    (fault_of bs)
+
+complete_in : (k : ℕ) (front : List ℕ) (last : ℕ) (rest : List ℕ) → Continue front → last < 128 → length front ≤ k → base128 (front ++ last ∷ []) < 2 * 128 ^ k →
+    varint_within k (front ++ last ∷ rest) ≡ Ok (base128 (front ++ last ∷ []), rest)
+unfolding varint_within
+complete_in zero [] b rest c h l f = let e : b ≡ b % 128 + 128 * 0 = omega arith in rw (lt-ltb b 2 (omega arith)) (ap (λ x. Ok (x, rest)) e)
+complete_in (suc k) [] b rest c h l f = let e : b ≡ b % 128 + 128 * 0 = omega arith in rw (lt-ltb b 128 h) (ap (λ x. Ok (x, rest)) e)
+complete_in zero (b ∷ front) last rest c h l f = absurd (omega arith)
+complete_in (suc k) (b ∷ front) last rest c h l f =
+    let g : b % 128 + 128 * base128 (front ++ last ∷ []) < 2 * (128 ^ k * 128) = rw pow-suc at f in
+    rw (le-ltb b 128 c.0, complete_in k front last rest c.1 h (omega arith) (omega arith)) refl
+
+pub varint_complete : (bytes : List ℕ) (n : ℕ) (rest : List ℕ) → Var bytes n → varint_at (bytes ++ rest) ≡ Ok (n, rest)
+unfolding varint_at
+varint_complete bytes n rest v =
+    let e : bytes ++ rest ≡ v.front ++ v.last ∷ rest = ap (λ x. x ++ rest) v.spelled ∙ append_assoc v.front (v.last ∷ []) rest in
+    let m : base128 (v.front ++ v.last ∷ []) ≡ n = sym (v.value ∙ ap base128 v.spelled) in
+    let p : 2 * 128 ^ 9 ≡ 2 ^ 64 = refl in
+    ap (varint_within 9) e ∙ complete_in 9 v.front v.last rest v.continue v.ends (omega (arith, v.short)) (omega (arith, m, v.fits, p)) ∙ ap (λ x. Ok (x, rest)) m
+
+eof_in : (k : ℕ) (bs : List ℕ) → Continue bs → length bs ≤ k → varint_within k bs ≡ Err UnexpectedEof
+unfolding varint_within
+eof_in k [] c l = refl
+eof_in zero (b ∷ bs) c l = absurd (omega arith)
+eof_in (suc k) (b ∷ bs) c l = rw (le-ltb b 128 c.0, eof_in k bs c.1 (omega arith)) refl
+
+long_in : (k : ℕ) (front : List ℕ) (b : ℕ) (rest : List ℕ) → Continue front → length front ≡ k → 2 ≤ b → varint_within k (front ++ b ∷ rest) ≡ Err VarintTooLong
+unfolding varint_within
+long_in zero [] b rest c l h = rw (le-ltb b 2 h) refl
+long_in (suc k) [] b rest c l h = absurd (omega arith)
+long_in zero (x ∷ front) b rest c l h = absurd (omega arith)
+long_in (suc k) (x ∷ front) b rest c l h = rw (le-ltb x 128 c.0, long_in k front b rest c.1 (omega arith) h) refl
+
+pub varint_faulty : (bs : List ℕ) (e : DecodeError) → VarFault bs e → varint_at bs ≡ Err e
+unfolding varint_at
+varint_faulty bs UnexpectedEof f = eof_in 9 bs f.0 (omega (arith, f.1))
+varint_faulty bs VarintTooLong (front, b, rest, c, l, h, e) = ap (varint_within 9) e ∙ long_in 9 front b rest c l h
+varint_faulty bs _ f = absurd f
+
+pub varint_falls : (bytes : List ℕ) (n : ℕ) → Var bytes n → 0 < length bytes
+varint_falls bytes n v = rw v.spelled (omega (arith, length-append v.front (v.last ∷ [])))
+
+-- ---- the shortest spelling
+record Short (bs : List ℕ) (n : ℕ) : Type 0 where
+  front : List ℕ
+  last : ℕ
+  is : bs ≡ front ++ last ∷ []
+  continue : Continue front
+  ends : last < 128
+  value : n ≡ base128 bs
+
+short_in : (k n : ℕ) → n ≤ k → Short (shortest k n) n
+unfolding shortest
+short_in zero n h = record { front = []; last = n; is = refl; continue = tt; ends = omega arith; value = omega arith }
+short_in (suc k) n h = elim (cases_lt n 128) [
+  | inl small ↦ rw (one_byte (suc k) n small) (record { front = []; last = n; is = refl; continue = tt; ends = small; value = omega arith })
+  | inr large ↦ (let s = short_in k (n / 128) (omega arith) in rw (more_bytes k n large) (record { front = (n % 128 + 128) ∷ s.front; last = s.last; is = ap (λ x. (n % 128 + 128) ∷ x) s.is; continue = (omega arith, s.continue); ends = s.ends; value = omega (arith, s.value) }))
+]
+
+pub Var-V : (n : ℕ) → n < 2 ^ 64 → Var (V n) n
+unfolding V
+Var-V n h = let s = short_in n n (omega arith) in
+    record { front = s.front; last = s.last; spelled = s.is; continue = s.continue; ends = s.ends; short = omega (arith, length-V n h, ap length s.is, length-append s.front (s.last ∷ [])); value = s.value; fits = h }
+
+pub V-shortest : (bytes : List ℕ) (n : ℕ) → Var bytes n → length (V n) ≤ length bytes
+unfolding V
+V-shortest bytes n v =
+    let e : length bytes ≡ suc (length v.front) = ap length v.spelled ∙ omega (arith, length-append v.front (v.last ∷ [])) in
+    let b : n < 128 ^ length bytes = rw v.value (base128-lt bytes) in
+    let c : n < 128 ^ suc (length v.front) = rw e at b in
+    omega (arith, length-shortest (length v.front) n n c)

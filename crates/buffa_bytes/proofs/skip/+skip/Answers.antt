@@ -1,0 +1,37 @@
+use Rattle.std.proofs.Common.{arith, ◌≡◌, ◌∙◌, refl, sym, ap}
+use Rattle.std.proofs.lemmas.Result.{err_from_is_err_and}
+use Rattle.buffa_bytes.proofs.FieldLemmas.{tag_falls, skip_falls, group_limit, group_tag_err, group_end, group_other, group_skip_err, group_next}
+use Rattle.buffa_bytes.proofs.skip.+skip.Goals as goal
+
+pub skip_group-returns-then-depth-eq0-clause-reads : goal.skip_group-returns-then-depth-eq0-clause-reads
+skip_group-returns-then-depth-eq0-clause-reads g t c = group_limit _ _ _ c.if-depth-eq0.true
+
+pub skip_group-returns-in_err-tag-clause-reads : goal.skip_group-returns-in_err-tag-clause-reads
+skip_group-returns-in_err-tag-clause-reads g t c =
+    let p = err_from_is_err_and c.from_residual.result c.from_residual.ensures.1 in
+    rw (p.1, p.2) (group_tag_err _ _ _ _ _ c.if-depth-eq0.false c.loop-tag.invariant.read c.in_err-tag.ensures.reads)
+
+pub skip_group-returns-then-field_number-number-clause-reads : goal.skip_group-returns-then-field_number-number-clause-reads
+skip_group-returns-then-field_number-number-clause-reads g t c =
+    group_end _ _ _ _ _ c.if-depth-eq0.false c.loop-tag.invariant.read c.in_ok-tag.ensures.reads (sym c.in-EndGroup.ensures) (sym c.field_number.ensures ∙ c.if-field_number-number.true)
+
+pub skip_group-returns-in-EndGroup-clause-reads : goal.skip_group-returns-in-EndGroup-clause-reads
+skip_group-returns-in-EndGroup-clause-reads g t c =
+    rw c.field_number-in-EndGroup.ensures (group_other _ _ _ _ _ c.if-depth-eq0.false c.loop-tag.invariant.read c.in_ok-tag.ensures.reads (sym c.in-EndGroup.ensures) (λ e. c.if-field_number-number.false (c.field_number.ensures ∙ e)))
+
+pub skip_group-loop-tag-smaller : goal.skip_group-loop-tag-smaller
+skip_group-loop-tag-smaller g t c = omega (arith, tag_falls _ _ c.in_ok-tag.ensures.reads, skip_falls _ _ _ _ _ c.in_ok-skip_field_depth.ensures.reads)
+
+pub skip_group-loop-tag-preserved : goal.skip_group-loop-tag-preserved
+skip_group-loop-tag-preserved g t c = record {
+  kept = c.in_ok-skip_field_depth.ensures.kept ∙ c.in_ok-tag.ensures.kept ∙ c.loop-tag.invariant.kept;
+  read = group_next _ _ _ _ _ _ c.if-depth-eq0.false c.loop-tag.invariant.read c.in_ok-tag.ensures.reads (λ e. c.in_default.not-EndGroup (c.wire_type.ensures ∙ e)) c.in_ok-skip_field_depth.ensures.reads;
+}
+
+pub skip_group-returns-in_err-skip_field_depth : goal.skip_group-returns-in_err-skip_field_depth
+skip_group-returns-in_err-skip_field_depth g t c =
+    let p = err_from_is_err_and c.from_residual-in_err-skip_field_depth.result c.from_residual-in_err-skip_field_depth.ensures.1 in
+    record {
+      reads = rw (p.1, p.2) (group_skip_err _ _ _ _ _ _ c.if-depth-eq0.false c.loop-tag.invariant.read c.in_ok-tag.ensures.reads (λ e. c.in_default.not-EndGroup (c.wire_type.ensures ∙ e)) c.in_err-skip_field_depth.ensures.reads);
+      kept = c.in_err-skip_field_depth.ensures.kept ∙ c.in_ok-tag.ensures.kept ∙ c.loop-tag.invariant.kept;
+    }

@@ -1,0 +1,12 @@
+use Rattle.std.proofs.Common.{◌≡◌, ◌-◌, ◌^◌, ◌<◌}
+use Rattle.buffa_bytes.specs.Reading.{varint_within, varint_at}
+use Rattle.buffa_bytes.proofs.StepLemmas.{behind}
+use Rattle.buffa_bytes.proofs.varint.decode_varint.Given as goal
+
+abbrev pub invariant-loop-place : goal.invariant-loop-place
+invariant-loop-place g l = record {
+  scale : l.scale ≡ 128 ^ l.place;
+  below : l.value < l.scale;
+  kept : g.B.Buf.kept l.buf ≡ g.B.Buf.kept l.fn.buf;
+  read : behind l.value l.scale (varint_within (9 - l.place) (g.B.Buf.unread l.buf)) ≡ varint_at (g.B.Buf.unread l.fn.buf);
+}

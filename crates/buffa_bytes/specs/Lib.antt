@@ -1,0 +1,12 @@
+pub mod Gives
+pub mod WireType
+pub mod ErrorText
+pub mod Unread
+pub mod Written
+pub mod Varint
+pub mod Join
+pub mod Number
+pub mod Field
+pub mod Reading
+pub mod Values
+pub mod Plain

@@ -1,0 +1,89 @@
+-- What is read at the front of bytes: what stands there and the bytes that follow, or the first fault.
+use Rattle.std.specs.Prelude.{◌≡◌, ℕ, zero, suc, ◌+◌, ◌*◌, ◌/◌, ◌%◌, ◌^◌, ◌==◌, nat_lt, Bool, true, false, List, [], ◌∷◌, length, take, drop, Option, None, Some, Result, Ok, Err, if◌then◌else◌}
+use Rattle.buffa_bytes.specs.WireType.{wire_kind, same_wire}
+use Rattle.buffa_bytes.specs.Gives.{◌>>=◌}
+use Rattle.buffa_bytes.specs.declared.wire_type.WireType.{WireType}
+use Rattle.buffa_bytes.specs.declared.wire_type.WireType.TheVariants.{Varint, Fixed64, LengthDelimited, StartGroup, EndGroup, Fixed32}
+use Rattle.buffa_bytes.specs.declared.error.DecodeError.{DecodeError}
+use Rattle.buffa_bytes.specs.declared.error.DecodeError.TheVariants.{UnexpectedEof, VarintTooLong, InvalidFieldNumber, InvalidWireType, WireTypeMismatch, RecursionLimitExceeded, InvalidEndGroup}
+
+-- a varint of k bytes at most and one more, which is 0 or 1 where all k come before it
+unfoldable pub varint_within : ℕ → List ℕ → Result (ℕ × List ℕ) DecodeError
+varint_within k [] = Err UnexpectedEof
+varint_within zero (b ∷ bs) = if nat_lt b 2 then Ok (b, bs) else Err VarintTooLong
+varint_within (suc k) (b ∷ bs) = if nat_lt b 128 then Ok (b, bs) else (do
+  v ← varint_within k bs
+  Ok (b % 128 + 128 * v.0, v.1))
+
+unfoldable pub varint_at : List ℕ → Result (ℕ × List ℕ) DecodeError
+varint_at bs = varint_within 9 bs
+
+-- the varint alone
+abbrev pub number_at : List ℕ → Result ℕ DecodeError
+number_at bs = varint_at bs >>= (λ n. Ok n.0)
+
+-- the number and the wire type in the value of a tag
+unfoldable pub tag_of : ℕ → Result (ℕ × WireType) DecodeError
+tag_of n = if nat_lt n (2 ^ 32) then (if nat_lt n 8 then Err InvalidFieldNumber else
+    (elim (wire_kind (n % 8)) [ None ↦ Err (InvalidWireType (n % 8)) | Some w ↦ Ok (n / 8, w) ])) else Err InvalidFieldNumber
+
+-- a tag: a number, a wire type, and what follows
+unfoldable pub tag_at : List ℕ → Result (ℕ × WireType × List ℕ) DecodeError
+tag_at bs = do
+  n ← varint_at bs
+  t ← tag_of n.0
+  Ok (t.0, t.1, n.1)
+
+-- what follows n bytes
+unfoldable pub past : ℕ → List ℕ → Result (List ℕ) DecodeError
+past n bs = if nat_lt (length bs) n then Err UnexpectedEof else Ok (drop n bs)
+
+-- the first n bytes, and what follows them
+unfoldable pub taken : ℕ → List ℕ → Result (List ℕ × List ℕ) DecodeError
+taken n bs = if nat_lt (length bs) n then Err UnexpectedEof else Ok (take n bs, drop n bs)
+
+-- a length and so many bytes: these bytes, and what follows them
+abbrev pub delimited_at : List ℕ → Result (List ℕ × List ℕ) DecodeError
+delimited_at bs = varint_at bs >>= (λ n. taken n.0 n.1)
+
+-- what follows the payload of a field, where inner says what follows the fields and the end tag of a group
+abbrev pub skip_by : (ℕ → List ℕ → Result (List ℕ) DecodeError) → ℕ → WireType → List ℕ → Result (List ℕ) DecodeError
+skip_by inner f Varint bs = varint_at bs >>= (λ n. Ok n.1)
+skip_by inner f Fixed64 bs = past 8 bs
+skip_by inner f LengthDelimited bs = varint_at bs >>= (λ n. past n.0 n.1)
+skip_by inner f StartGroup bs = inner f bs
+skip_by inner f EndGroup bs = Err (InvalidEndGroup f)
+skip_by inner f Fixed32 bs = past 4 bs
+
+abbrev pub is_end : WireType → Bool
+is_end EndGroup = true
+is_end _ = false
+
+-- what follows the fields and the end tag of group f; the second number bounds the steps
+unfoldable pub fields_within : (ℕ → List ℕ → Result (List ℕ) DecodeError) → ℕ → ℕ → List ℕ → Result (List ℕ) DecodeError
+fields_within inner zero f bs = Err UnexpectedEof
+fields_within inner (suc k) f bs = do
+  t ← tag_at bs
+  if is_end t.1 then (if t.0 == f then Ok t.2 else Err (InvalidEndGroup t.0)) else (do
+    rest ← skip_by inner t.0 t.1 t.2
+    fields_within inner k f rest)
+
+-- the same, where groups are nested at most d deep; each field has a tag, so the bytes bound the steps
+unfoldable pub group_at : ℕ → ℕ → List ℕ → Result (List ℕ) DecodeError
+group_at zero f bs = Err RecursionLimitExceeded
+group_at (suc d) f bs = fields_within (group_at d) (length bs) f bs
+
+-- what follows the payload of a field
+abbrev pub skip_at : ℕ → ℕ → WireType → List ℕ → Result (List ℕ) DecodeError
+skip_at d = skip_by (group_at d)
+
+-- what follows the rest of group f, where t is what was read of the next tag
+abbrev pub group_step : ℕ → ℕ → ℕ × WireType × List ℕ → Result (List ℕ) DecodeError
+group_step d f t = if is_end t.1 then (if t.0 == f then Ok t.2 else Err (InvalidEndGroup t.0)) else (skip_at d t.0 t.1 t.2 >>= group_at (suc d) f)
+
+abbrev pub group_by_field : ℕ → ℕ → List ℕ → Result (List ℕ) DecodeError
+group_by_field d f bs = tag_at bs >>= group_step d f
+
+-- whether field f has the wire type that is wanted
+abbrev pub check_wire : ℕ → WireType → WireType → Result (Unit {0}) DecodeError
+check_wire f expected actual = if same_wire expected actual then Ok tt else Err (WireTypeMismatch f expected actual)

@@ -1,0 +1,14 @@
+-- What a buffer shows of the bytes that are left.
+use Rattle.std.specs.Prelude.{◌≡◌, ℕ, ◌<◌, ◌≤◌, List, ◌++◌, length, take, drop, Result, MatchResult}
+use Rattle.buffa_bytes.specs.declared.error.DecodeError.{DecodeError}
+use Rattle.buffa_bytes.specs.declared.error.DecodeError.TheVariants.{OutOfMemory}
+
+-- part begins all, and it is empty only if all is
+pub record IsChunkOf (part all : List ℕ) : Type 0 where
+  pub front : take (length part) all ≡ part
+  pub fits : length part ≤ length all
+  pub some : 0 < length all → 0 < length part
+
+-- the first n bytes of old went behind held, unless memory ran out
+abbrev pub MovesUnlessFull : Result (Unit {0}) DecodeError → ℕ → List ℕ → List ℕ → List ℕ → List ℕ → Type 0
+MovesUnlessFull r n old new held holds = MatchResult r (λ _. (holds ≡ held ++ take n old) × (new ≡ drop n old)) (λ e. e ≡ OutOfMemory)

@@ -1,0 +1,13 @@
+-- What a write leaves of a sink.
+use Rattle.std.specs.Prelude.{◌≡◌, ℕ, List, ◌++◌, Result}
+use Rattle.std.specs.Result.{MatchResult}
+use Rattle.buffa_bytes.specs.declared.error.EncodeError.{EncodeError}
+use Rattle.buffa_bytes.specs.declared.error.EncodeError.TheVariants.{OutOfMemory}
+
+-- a beginning of the text was written
+abbrev pub WritesFront : List ℕ → List ℕ → List ℕ → Type 0
+WritesFront old text new = (front : List ℕ) × (rest : List ℕ) × (text ≡ front ++ rest) × (new ≡ old ++ front)
+
+-- the text was written, or memory ran out after a beginning of it
+abbrev pub Writes : {T : Type 0} → Result T EncodeError → List ℕ → List ℕ → List ℕ → Type 0
+Writes r old text new = MatchResult r (λ _. new ≡ old ++ text) (λ e. (e ≡ OutOfMemory) × WritesFront old text new)

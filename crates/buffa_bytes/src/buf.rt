@@ -1,0 +1,101 @@
+//! Bytes in: reading from the front of a buffer.
+
+ghost use Rattle.std.specs.Prelude.{◌≡◌, ℕ, ◌≤◌, List, [], length, drop};
+ghost use Rattle.buffa_bytes.specs.Gives.{GivesUnlessFull};
+ghost use Rattle.buffa_bytes.specs.Reading.{taken};
+ghost use Rattle.buffa_bytes.specs.Unread.{IsChunkOf, MovesUnlessFull};
+
+use crate::error::DecodeError;
+use std::alloc::Global;
+
+/// Bytes that are read from the front, in one piece or in several.
+///
+/// A contract over a `Buf` names `unread`, the list of the bytes that are left, and nothing of how they
+/// are cut. It says as well that `kept` stays: a buffer that shows the front of a lent one loses neither
+/// the lender nor the bytes past its limit, whatever is read and however that ends.
+///
+/// ```ignore
+/// let mut rest: &[u8] = &[0x96, 0x01, 7];
+/// let number = decode_varint(&mut rest)?; // 150, and `rest` is [7]
+/// ```
+pub trait Buf {
+    /// The bytes that are left.
+    ghost unread: { Self → List ℕ };
+
+    /// What no read changes: for each lent buffer its ghost name, and the bytes past its limit.
+    ghost kept: { Self → List (ℕ × List ℕ) } = { λ _. [] };
+
+    /// How many bytes are left.
+    fn remaining(&self) -> usize
+        ensures { result ≡ length (unread self.now) };
+
+    /// The bytes at the front that lie together; some, while any are left.
+    fn chunk(&self) -> &[u8]
+        ensures { IsChunkOf result.now (unread self.now) };
+
+    /// Drops the first `n` bytes, which have to be there.
+    fn advance(&mut self, n: usize)
+        requires { n ≤ length (unread self.old) }
+        ensures rest { unread self.new ≡ drop n (unread self.old) }
+        ensures kept { kept self.new ≡ kept self.old };
+}
+
+impl Buf for &[u8] {
+    ghost unread = { λ s. s.now };
+
+    fn remaining(&self) -> usize {
+        self.len()
+    }
+
+    fn chunk(&self) -> &[u8] {
+        *self
+    }
+
+    fn advance(&mut self, n: usize) {
+        let all: &[u8] = *self;
+        *self = &all[n..];
+    }
+}
+
+// Moves the first `len` bytes, which are there, behind those of `bytes`.
+fn move_bytes<B: Buf>(buf: &mut B, len: usize, bytes: &mut Vec<u8>) -> Result<(), DecodeError>
+    requires { len ≤ length (B.unread buf.old) }
+    ensures moved { MovesUnlessFull result len (B.unread buf.old) (B.unread buf.new) bytes.old.items bytes.new.items }
+    ensures kept { B.kept buf.new ≡ B.kept buf.old }
+{
+    let mut left = len;
+    while left > 0 {
+        let chunk = buf.chunk();
+        let part = chunk.len().min(left);
+        if bytes.extend_from_slice(&chunk[..part]).is_err() {
+            return Err(DecodeError::OutOfMemory);
+        }
+        buf.advance(part);
+        left -= part;
+    }
+    Ok(())
+}
+
+/// Copies the first `len` bytes out of the buffer.
+///
+/// # Errors
+/// [`DecodeError::UnexpectedEof`] where fewer are left, and nothing is asked of memory then.
+///
+/// ```ignore
+/// let mut rest: &[u8] = b"abc";
+/// let front = copy_bytes(alloc, &mut rest, 2)?; // "ab", and `rest` is "c"
+/// ```
+#[tactic(auto, unfolding(crate::specs::Reading::taken))]
+pub fn copy_bytes<B: Buf>(alloc: Global, buf: &mut B, len: u64) -> Result<Vec<u8>, DecodeError>
+    ensures reads { GivesUnlessFull (λ bytes. (bytes.items, B.unread buf.new)) result (taken len (B.unread buf.old)) }
+    ensures kept { B.kept buf.new ≡ B.kept buf.old }
+{
+    if len > buf.remaining() as u64 {
+        return Err(DecodeError::UnexpectedEof);
+    }
+    let Ok(mut bytes) = Vec::with_capacity(alloc, len as usize) else {
+        return Err(DecodeError::OutOfMemory);
+    };
+    move_bytes(buf, len as usize, &mut bytes)?;
+    Ok(bytes)
+}

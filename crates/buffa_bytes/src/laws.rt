@@ -1,0 +1,91 @@
+//! What the definitions say together: each law is a function with nothing to do, whose contract is the law.
+
+ghost use Rattle.std.specs.Prelude.{◌≡◌, ◌<◌, ◌≤◌, ◌<ℤ◌, ◌^◌, ◌+◌, ◌↔◌, ℕ, ℤ, suc, pos, List, ◌++◌, length, Ok, Err, FitsSigned, true};
+ghost use Rattle.std.specs.Int.{w32};
+ghost use Rattle.std.specs.Str.{is_utf8};
+ghost use Rattle.buffa_bytes.specs.declared.wire_type.WireType.{WireType};
+ghost use Rattle.buffa_bytes.specs.declared.error.DecodeError.{DecodeError};
+ghost use Rattle.buffa_bytes.specs.Varint.{V, Var, TakesVar, VarFault};
+ghost use Rattle.buffa_bytes.specs.Number.{IsNumber};
+ghost use Rattle.buffa_bytes.specs.Field.{LengthFault, SomeField, TakesDelimited, TakesTag, TagFault, TakesPayload, PayloadFault};
+ghost use Rattle.buffa_bytes.specs.Reading.{delimited_at, varint_at, tag_at, skip_at, group_at, group_by_field};
+ghost use Rattle.buffa_bytes.specs.Values.{delimited_text, int32_at, int32_text, string_at, tag_text};
+
+/// A varint is read exactly where a spelling begins the bytes, and a fault is told exactly where the
+/// grammar has it.
+pub fn varints_are_read()
+    ensures ok { (bs : List ℕ) (n : ℕ) (rest : List ℕ) → (varint_at bs ≡ Ok (n, rest)) ↔ TakesVar bs n rest }
+    ensures err { (bs : List ℕ) (e : DecodeError) → (varint_at bs ≡ Err e) ↔ VarFault bs e }
+{}
+
+/// The same of tags.
+pub fn tags_are_read()
+    ensures ok { (bs : List ℕ) (f : ℕ) (w : WireType) (rest : List ℕ) → (tag_at bs ≡ Ok (f, w, rest)) ↔ TakesTag bs f w rest }
+    ensures err { (bs : List ℕ) (e : DecodeError) → (tag_at bs ≡ Err e) ↔ TagFault bs e }
+{}
+
+/// The same of a length and so many bytes.
+pub fn delimited_bytes_are_read()
+    ensures ok { (bs bytes rest : List ℕ) → (delimited_at bs ≡ Ok (bytes, rest)) ↔ TakesDelimited bs bytes rest }
+    ensures err { (bs : List ℕ) (e : DecodeError) → (delimited_at bs ≡ Err e) ↔ LengthFault bs e }
+{}
+
+/// The same of payloads, groups to any depth among them.
+pub fn payloads_are_read()
+    ensures ok { (d f : ℕ) (w : WireType) (bs rest : List ℕ) → (skip_at d f w bs ≡ Ok rest) ↔ TakesPayload d f w bs rest }
+    ensures err { (d f : ℕ) (w : WireType) (bs : List ℕ) (e : DecodeError) → (skip_at d f w bs ≡ Err e) ↔ PayloadFault d f w bs e }
+{}
+
+/// The shortest spelling is one, none is shorter, and it is read back whatever follows.
+pub fn shortest_spelling()
+    ensures spells { (n : ℕ) → n < 2 ^ 64 → Var (V n) n }
+    ensures shortest { (bytes : List ℕ) (n : ℕ) → Var bytes n → length (V n) ≤ length bytes }
+    ensures read_back { (n : ℕ) (rest : List ℕ) → n < 2 ^ 64 → varint_at (V n ++ rest) ≡ Ok (n, rest) }
+{}
+
+/// What is read does not depend on what follows.
+pub fn more_bytes_change_nothing()
+    ensures varint { (bs : List ℕ) (n : ℕ) (rest more : List ℕ) → varint_at bs ≡ Ok (n, rest) → varint_at (bs ++ more) ≡ Ok (n, rest ++ more) }
+    ensures tag { (bs : List ℕ) (f : ℕ) (w : WireType) (rest more : List ℕ) → tag_at bs ≡ Ok (f, w, rest) → tag_at (bs ++ more) ≡ Ok (f, w, rest ++ more) }
+    ensures skip { (d f : ℕ) (w : WireType) (bs rest more : List ℕ) → skip_at d f w bs ≡ Ok rest → skip_at d f w (bs ++ more) ≡ Ok (rest ++ more) }
+{}
+
+/// What is read leaves less.
+pub fn readings_shorten()
+    ensures varint { (bs : List ℕ) (n : ℕ) (rest : List ℕ) → varint_at bs ≡ Ok (n, rest) → length rest < length bs }
+    ensures tag { (bs : List ℕ) (f : ℕ) (w : WireType) (rest : List ℕ) → tag_at bs ≡ Ok (f, w, rest) → length rest < length bs }
+    ensures skip { (d f : ℕ) (w : WireType) (bs rest : List ℕ) → skip_at d f w bs ≡ Ok rest → length rest ≤ length bs }
+{}
+
+/// A group is read field by field, with no count of steps.
+pub fn group_field_by_field()
+    ensures { (d f : ℕ) (bs : List ℕ) → group_at (suc d) f bs ≡ group_by_field d f bs }
+{}
+
+/// No payload is a proper beginning of another of its wire type, and no field of another.
+pub fn no_field_begins_another()
+    ensures payload { (d f : ℕ) (w : WireType) (bs x y : List ℕ) → TakesPayload d f w bs x → TakesPayload d f w bs y → x ≡ y }
+    ensures field { (d : ℕ) (first second x y : List ℕ) → SomeField d first → SomeField d second → first ++ x ≡ second ++ y → first ≡ second }
+{}
+
+/// Bytes have one fault at most, and none where a payload begins them.
+pub fn one_fault()
+    ensures one { (d f : ℕ) (w : WireType) (bs : List ℕ) (e k : DecodeError) → PayloadFault d f w bs e → PayloadFault d f w bs k → e ≡ k }
+    ensures none { (d f : ℕ) (w : WireType) (bs rest : List ℕ) (e : DecodeError) → TakesPayload d f w bs rest → PayloadFault d f w bs e → ⊥ }
+{}
+
+/// A tag that was written is read back, whatever follows.
+pub fn tags_are_read_back()
+    ensures { (f : ℕ) (w : WireType) (rest : List ℕ) → IsNumber f → tag_at (tag_text f w ++ rest) ≡ Ok (f, w, rest) }
+{}
+
+/// An int32 that was written is read back, whatever follows, and a negative one takes ten bytes.
+pub fn int32_is_read_back()
+    ensures read_back { (v : ℤ) (rest : List ℕ) → FitsSigned w32 v → int32_at (int32_text v ++ rest) ≡ Ok (v, rest) }
+    ensures negative { (v : ℤ) → FitsSigned w32 v → v <ℤ pos 0 → length (int32_text v) ≡ 10 }
+{}
+
+/// A text of UTF-8 that was written is read back, whatever follows.
+pub fn strings_are_read_back()
+    ensures { (text rest : List ℕ) → is_utf8 text ≡ true → length text < 2 ^ 64 → string_at (delimited_text text ++ rest) ≡ Ok (text, rest) }
+{}

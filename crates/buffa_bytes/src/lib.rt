@@ -1,0 +1,29 @@
+//! The ground floor of the wire: bytes come in through a [`Buf`] and go out through an [`EncodeSink`].
+//!
+//! A byte flows from a buffer into a varint, a tag and a payload, or from a value into its text and a
+//! sink. What each call answers is a definition of `specs/`, in the words of the protobuf encoding guide.
+#![tactic(auto)]
+
+pub mod blank;
+pub mod buf;
+pub mod check;
+pub mod error;
+pub mod key;
+pub mod laws;
+pub mod sink;
+pub mod skip;
+pub mod tag;
+pub mod types;
+pub mod varint;
+pub mod wire_type;
+
+pub use blank::Blank;
+pub use buf::Buf;
+pub use check::check_wire_type;
+pub use error::{DecodeError, EncodeError};
+pub use key::{MapKey, PlainKey};
+pub use sink::EncodeSink;
+pub use skip::skip_field_depth;
+pub use tag::{MAX_FIELD_NUMBER, Tag};
+pub use varint::{decode_varint, encode_varint, varint_len};
+pub use wire_type::WireType;

@@ -1,0 +1,80 @@
+//! Passing over a field that is not looked at.
+
+ghost use Rattle.std.specs.Prelude.{◌≡◌};
+ghost use Rattle.buffa_bytes.specs.Gives.{Gives};
+ghost use Rattle.buffa_bytes.specs.Reading.{past, skip_at, group_at};
+
+use crate::buf::Buf;
+use crate::error::DecodeError;
+use crate::tag::Tag;
+use crate::varint::decode_varint;
+use crate::wire_type::WireType;
+
+// Passes over `n` bytes.
+#[tactic(auto, unfolding(crate::specs::Reading::past))]
+fn skip_bytes<B: Buf>(buf: &mut B, n: u64) -> Result<(), DecodeError>
+    ensures reads { Gives (λ _. B.unread buf.new) result (past n (B.unread buf.old)) }
+    ensures kept { B.kept buf.new ≡ B.kept buf.old }
+{
+    if n > buf.remaining() as u64 {
+        return Err(DecodeError::UnexpectedEof);
+    }
+    buf.advance(n as usize);
+    Ok(())
+}
+
+/// Passes over the payload of a field whose tag was read, with groups nested at most `depth` deep.
+///
+/// # Errors
+/// The first fault of the payload: of a varint; [`DecodeError::UnexpectedEof`] where bytes are missing;
+/// [`DecodeError::RecursionLimitExceeded`] at a start of group where `depth` is 0; inside a group the
+/// faults of its tags and payloads, one level less deep; [`DecodeError::InvalidEndGroup`] for the end
+/// tag of a group that is not open. It takes no memory.
+///
+/// Source: the protobuf encoding guide, "Message Structure" and "Groups".
+///
+/// ```ignore
+/// let tag = Tag::decode(&mut rest)?;
+/// skip_field_depth(tag, &mut rest, 100)?;
+/// ```
+#[cycle(skip)]
+pub fn skip_field_depth<B: Buf>(tag: Tag, buf: &mut B, depth: u32) -> Result<(), DecodeError>
+    ensures reads { Gives (λ _. B.unread buf.new) result (skip_at depth tag.number tag.wire_type (B.unread buf.old)) }
+    ensures kept { B.kept buf.new ≡ B.kept buf.old }
+{
+    match tag.wire_type() {
+        WireType::Varint => {
+            decode_varint(buf)?;
+            Ok(())
+        }
+        WireType::Fixed64 => skip_bytes(buf, 8),
+        WireType::LengthDelimited => {
+            let len = decode_varint(buf)?;
+            skip_bytes(buf, len)
+        }
+        WireType::StartGroup => skip_group(tag.field_number(), buf, depth),
+        WireType::EndGroup => Err(DecodeError::InvalidEndGroup(tag.field_number())),
+        WireType::Fixed32 => skip_bytes(buf, 4),
+    }
+}
+
+// Passes over the fields of a group, and its end tag.
+#[cycle(skip)]
+fn skip_group<B: Buf>(number: u32, buf: &mut B, depth: u32) -> Result<(), DecodeError>
+    ensures reads { Gives (λ _. B.unread buf.new) result (group_at depth number (B.unread buf.old)) }
+    ensures kept { B.kept buf.new ≡ B.kept buf.old }
+{
+    if depth == 0 {
+        return Err(DecodeError::RecursionLimitExceeded);
+    }
+    loop {
+        let tag = Tag::decode(buf)?;
+        if let WireType::EndGroup = tag.wire_type() {
+            if tag.field_number() == number {
+                return Ok(());
+            }
+            return Err(DecodeError::InvalidEndGroup(tag.field_number()));
+        }
+        skip_field_depth(tag, buf, depth - 1)?;
+    }
+}

@@ -1,0 +1,109 @@
+//! Tags: the number and the wire type of a field.
+
+ghost use Rattle.std.specs.Prelude.{◌<◌, ◌≤◌};
+
+use crate::buf::Buf;
+use crate::error::{DecodeError, EncodeError};
+use crate::sink::EncodeSink;
+use crate::varint::{decode_varint, encode_varint};
+use crate::wire_type::WireType;
+
+/// The largest number that a field may have. Source: the protobuf language guide, "Assigning Field Numbers".
+pub const MAX_FIELD_NUMBER: u32 = 536_870_911;
+
+/// The number, 1 to [`MAX_FIELD_NUMBER`], and the wire type of a field.
+///
+/// On the wire it is the varint of `8 * number + wire type`. Source: the protobuf encoding guide,
+/// "Message Structure".
+///
+/// ```ignore
+/// let tag = Tag::new(1, WireType::Varint); // 08
+/// ```
+#[derive(Clone, Copy, Debug, PartialEq, Eq)]
+pub struct Tag {
+    /// The number of the field.
+    pub number: u32,
+    /// How the field's payload is laid out.
+    pub wire_type: WireType,
+    ghost in_range: { (0 < number) × (number ≤ 536870911) },
+}
+
+impl Tag {
+    ghost use Rattle.std.specs.Prelude.{◌≡◌};
+    ghost use Rattle.buffa_bytes.specs.Gives.{Gives};
+    ghost use Rattle.buffa_bytes.specs.Number.{IsNumber};
+    ghost use Rattle.buffa_bytes.specs.Reading.{tag_at};
+    ghost use Rattle.buffa_bytes.specs.Values.{tag_text};
+    ghost use Rattle.buffa_bytes.specs.Written.{Writes};
+
+    /// A tag of a number from 1 to [`MAX_FIELD_NUMBER`].
+    ///
+    /// ```ignore
+    /// let tag = Tag::new(5, WireType::LengthDelimited);
+    /// ```
+    pub fn new(number: u32, wire_type: WireType) -> Tag
+        requires { IsNumber number }
+        ensures number { result.number ≡ number }
+        ensures wire_type { result.wire_type ≡ wire_type }
+    {
+        Tag { number, wire_type }
+    }
+
+    /// The number of the field.
+    pub fn field_number(self) -> u32
+        ensures { result ≡ self.number }
+    {
+        self.number
+    }
+
+    /// How the field's payload is laid out.
+    pub fn wire_type(self) -> WireType
+        ensures { result ≡ self.wire_type }
+    {
+        self.wire_type
+    }
+
+    /// Writes the shortest spelling of the tag, 1 to 5 bytes.
+    ///
+    /// # Errors
+    /// [`EncodeError::OutOfMemory`] alone, after a beginning of the spelling.
+    ///
+    /// ```ignore
+    /// Tag::new(5, WireType::LengthDelimited).encode(&mut text)?; // 2A
+    /// ```
+    pub fn encode<S: EncodeSink>(self, sink: &mut S) -> Result<(), EncodeError>
+        ensures { Writes result (S.written sink.old) (tag_text self.number self.wire_type) (S.written sink.new) }
+    {
+        let number = u64::from(self.number) * 8 + u64::from(self.wire_type.number());
+        encode_varint(number, sink)
+    }
+
+    /// Reads a tag, in any spelling.
+    ///
+    /// # Errors
+    /// In this order: the faults of a varint; [`DecodeError::InvalidFieldNumber`] for a value of 2^32 or
+    /// more and for number 0; [`DecodeError::InvalidWireType`] for the wire types 6 and 7. It takes no
+    /// memory.
+    ///
+    /// ```ignore
+    /// let mut rest: &[u8] = &[0x2A];
+    /// let tag = Tag::decode(&mut rest)?;
+    /// ```
+    #[tactic(auto, unfolding(crate::specs::Reading::tag_at, crate::specs::Reading::tag_of))]
+    pub fn decode<B: Buf>(buf: &mut B) -> Result<Tag, DecodeError>
+        ensures reads { Gives (λ tag. (tag.number, tag.wire_type, B.unread buf.new)) result (tag_at (B.unread buf.old)) }
+        ensures kept { B.kept buf.new ≡ B.kept buf.old }
+    {
+        let value = decode_varint(buf)?;
+        if value >= 1 << 32 || value < 8 {
+            return Err(DecodeError::InvalidFieldNumber);
+        }
+        let Some(wire_type) = WireType::from_number(value % 8) else {
+            return Err(DecodeError::InvalidWireType((value % 8) as u32));
+        };
+        Ok(Tag {
+            number: (value / 8) as u32,
+            wire_type,
+        })
+    }
+}

@@ -1,0 +1,103 @@
+//! Varints: seven bits a byte, the lowest first.
+
+ghost use Rattle.std.specs.Prelude.{◌≡◌, ◌∷◌, [], length, MatchOption};
+ghost use Rattle.buffa_bytes.specs.Gives.{Gives};
+ghost use Rattle.buffa_bytes.specs.Reading.{varint_at};
+ghost use Rattle.buffa_bytes.specs.Varint.{V};
+ghost use Rattle.buffa_bytes.specs.Written.{Writes};
+
+use crate::buf::Buf;
+use crate::error::{DecodeError, EncodeError};
+use crate::sink::EncodeSink;
+
+/// Takes the next byte, where one is left.
+///
+/// ```ignore
+/// let mut rest: &[u8] = &[7];
+/// let seven = take_byte(&mut rest);
+/// ```
+pub fn take_byte<B: Buf>(buf: &mut B) -> Option<u8>
+    ensures taken { MatchOption result ((B.unread buf.old ≡ []) × (B.unread buf.new ≡ []))
+        (λ byte. B.unread buf.old ≡ byte ∷ B.unread buf.new) }
+    ensures kept { B.kept buf.new ≡ B.kept buf.old }
+{
+    let byte = *buf.chunk().first()?;
+    buf.advance(1);
+    Some(byte)
+}
+
+/// Reads a varint: 1 to 10 bytes, in the shortest spelling or a longer one.
+///
+/// # Errors
+/// [`DecodeError::UnexpectedEof`] where the bytes end before a byte below 128 and fewer than ten were
+/// there; [`DecodeError::VarintTooLong`] where the tenth byte is neither 0 nor 1. It takes no memory.
+///
+/// Source: the protobuf encoding guide, "Base 128 Varints".
+///
+/// ```ignore
+/// let mut rest: &[u8] = &[0x96, 0x01];
+/// let number = decode_varint(&mut rest)?; // 150
+/// ```
+pub fn decode_varint<B: Buf>(buf: &mut B) -> Result<u64, DecodeError>
+    ensures reads { Gives (λ n. (n, B.unread buf.new)) result (varint_at (B.unread buf.old)) }
+    ensures kept { B.kept buf.new ≡ B.kept buf.old }
+{
+    let mut value: u64 = 0;
+    let mut scale: u64 = 1;
+    for place in 0..10u32 {
+        let Some(byte) = take_byte(buf) else {
+            return Err(DecodeError::UnexpectedEof);
+        };
+        if place == 9 && byte > 1 {
+            return Err(DecodeError::VarintTooLong);
+        }
+        value += u64::from(byte % 128) * scale;
+        if byte < 128 {
+            return Ok(value);
+        }
+        scale *= 128;
+    }
+    unreachable!()
+}
+
+/// Writes the shortest spelling of a number, 1 to 10 bytes.
+///
+/// # Errors
+/// [`EncodeError::OutOfMemory`] alone, after a beginning of the spelling.
+///
+/// ```ignore
+/// encode_varint(150, &mut text)?; // 96 01
+/// ```
+#[tactic(auto, using(crate::proofs::ShortestLemmas::v_laws, crate::proofs::SinkLemmas::digit_more, crate::proofs::SinkLemmas::digit_last, crate::proofs::SinkLemmas::digit_room))]
+pub fn encode_varint<S: EncodeSink>(n: u64, sink: &mut S) -> Result<(), EncodeError>
+    ensures { Writes result (S.written sink.old) (V n) (S.written sink.new) }
+{
+    let mut text = [0u8; 10];
+    let mut len = 0;
+    let mut rest = n;
+    while rest >= 128 {
+        text[len] = (rest % 128) as u8 + 128;
+        len += 1;
+        rest /= 128;
+    }
+    text[len] = rest as u8;
+    sink.put_slice(&text[..len + 1])
+}
+
+/// The length of the shortest spelling of a number, 1 to 10 bytes.
+///
+/// ```ignore
+/// let two = varint_len(150);
+/// ```
+#[tactic(auto, using(crate::proofs::ShortestLemmas::v_laws))]
+pub fn varint_len(n: u64) -> usize
+    ensures { result ≡ length (V n) }
+{
+    let mut len = 1;
+    let mut rest = n;
+    while rest >= 128 {
+        len += 1;
+        rest /= 128;
+    }
+    len
+}

@@ -1,0 +1,67 @@
+//! How the payload of a field is laid out.
+
+ghost use Rattle.std.specs.Prelude.{◌≡◌};
+ghost use Rattle.buffa_bytes.specs.WireType.{wire_kind, wire_number};
+
+/// How the payload of a field is laid out: the low three bits of its tag.
+///
+/// The numbers 6 and 7 name no wire type. Source: the protobuf encoding guide, "Message Structure".
+///
+/// ```ignore
+/// let wire_type = WireType::LengthDelimited;
+/// prove!(wire_type.number() == 2);
+/// ```
+#[derive(Clone, Copy, Debug, PartialEq, Eq)]
+pub enum WireType {
+    /// 0: a varint.
+    Varint,
+    /// 1: eight bytes.
+    Fixed64,
+    /// 2: a length and so many bytes.
+    LengthDelimited,
+    /// 3: fields, up to the end tag of the same number.
+    StartGroup,
+    /// 4: the end of a group; no payload.
+    EndGroup,
+    /// 5: four bytes.
+    Fixed32,
+}
+
+impl WireType {
+    /// The number in a tag, 0 to 5.
+    ///
+    /// ```ignore
+    /// let five = WireType::Fixed32.number();
+    /// ```
+    pub fn number(self) -> u32
+        ensures { result ≡ wire_number self }
+    {
+        match self {
+            WireType::Varint => 0,
+            WireType::Fixed64 => 1,
+            WireType::LengthDelimited => 2,
+            WireType::StartGroup => 3,
+            WireType::EndGroup => 4,
+            WireType::Fixed32 => 5,
+        }
+    }
+
+    /// The wire type of a number, or `None` from 6 on.
+    ///
+    /// ```ignore
+    /// let varint = WireType::from_number(0);
+    /// ```
+    pub fn from_number(number: u64) -> Option<WireType>
+        ensures { result ≡ wire_kind number }
+    {
+        match number {
+            0 => Some(WireType::Varint),
+            1 => Some(WireType::Fixed64),
+            2 => Some(WireType::LengthDelimited),
+            3 => Some(WireType::StartGroup),
+            4 => Some(WireType::EndGroup),
+            5 => Some(WireType::Fixed32),
+            _ => None,
+        }
+    }
+}
