@@ -4,6 +4,7 @@ pub mod StepLemmas
 pub mod VarintLemmas
 pub mod FieldLemmas
 pub mod DelimitedLemmas
+pub mod ContentLemmas
 pub mod BufLemmas
 pub mod SinkLemmas
 pub mod IntLemmas

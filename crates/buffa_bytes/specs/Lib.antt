@@ -8,5 +8,6 @@ pub mod Join
 pub mod Number
 pub mod Field
 pub mod Reading
+pub mod Content
 pub mod Values
 pub mod Plain

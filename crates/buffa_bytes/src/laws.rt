@@ -7,6 +7,7 @@ ghost use Rattle.buffa_bytes.specs.declared.wire_type.WireType.{WireType};
 ghost use Rattle.buffa_bytes.specs.declared.error.DecodeError.{DecodeError};
 ghost use Rattle.buffa_bytes.specs.Varint.{V, Var, TakesVar, VarFault};
 ghost use Rattle.buffa_bytes.specs.Number.{IsNumber};
+ghost use Rattle.buffa_bytes.specs.Content.{Content, ContentFault, TakesContent, content_at};
 ghost use Rattle.buffa_bytes.specs.Field.{LengthFault, SomeField, TakesDelimited, TakesTag, TagFault, TakesPayload, PayloadFault};
 ghost use Rattle.buffa_bytes.specs.Reading.{delimited_at, varint_at, tag_at, skip_at, group_at, group_by_field};
 ghost use Rattle.buffa_bytes.specs.Values.{delimited_text, int32_at, int32_text, string_at, tag_text};
@@ -28,6 +29,12 @@ pub fn tags_are_read()
 pub fn delimited_bytes_are_read()
     ensures ok { (bs bytes rest : List ℕ) → (delimited_at bs ≡ Ok (bytes, rest)) ↔ TakesDelimited bs bytes rest }
     ensures err { (bs : List ℕ) (e : DecodeError) → (delimited_at bs ≡ Err e) ↔ LengthFault bs e }
+{}
+
+/// The same of what a payload holds, a number or bytes.
+pub fn contents_are_read()
+    ensures ok { (w : WireType) (bs : List ℕ) (c : Content) (rest : List ℕ) → (content_at w bs ≡ Ok (c, rest)) ↔ TakesContent w bs c rest }
+    ensures err { (w : WireType) (bs : List ℕ) (e : DecodeError) → (content_at w bs ≡ Err e) ↔ ContentFault w bs e }
 {}
 
 /// The same of payloads, groups to any depth among them.

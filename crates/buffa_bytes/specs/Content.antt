@@ -1,0 +1,56 @@
+-- What the payload of a field holds, groups apart: a number or bytes.
+-- Source: the protobuf encoding guide, "Message Structure".
+use Rattle.std.specs.Prelude.{◌≡◌, ℕ, ◌<◌, List, [], ◌++◌, length, Result, Ok, Err}
+use Rattle.std.specs.Int.{from_le_bytes, w32, w64}
+use Rattle.buffa_bytes.specs.Gives.{◌>>=◌}
+use Rattle.buffa_bytes.specs.declared.wire_type.WireType.{WireType}
+use Rattle.buffa_bytes.specs.declared.wire_type.WireType.TheVariants.{Varint, Fixed64, LengthDelimited, StartGroup, EndGroup, Fixed32}
+use Rattle.buffa_bytes.specs.declared.error.DecodeError.{DecodeError}
+use Rattle.buffa_bytes.specs.declared.error.DecodeError.TheVariants.{UnexpectedEof, InvalidWireType}
+use Rattle.buffa_bytes.specs.Varint.{Var, VarFault}
+use Rattle.buffa_bytes.specs.Field.{LengthFault}
+use Rattle.buffa_bytes.specs.Reading.{varint_at, taken, delimited_at}
+
+pub data Content : Type 0 where
+  number : ℕ → Content
+  bytes : List ℕ → Content
+
+-- p is a payload of wire type w that holds c: a varint its value, four or eight bytes the number that they
+-- spell, lowest byte first, and a length and so many bytes these bytes
+abbrev pub HasContent : WireType → List ℕ → Content → Type 0
+HasContent Varint p (number n) = Var p n
+HasContent Fixed64 p (number n) = (length p ≡ 8) × (n ≡ from_le_bytes w64 p)
+HasContent LengthDelimited p (bytes b) = (t : List ℕ) × Var t (length b) × (p ≡ t ++ b)
+HasContent Fixed32 p (number n) = (length p ≡ 4) × (n ≡ from_le_bytes w32 p)
+HasContent _ _ _ = ⊥
+
+-- a payload that holds c begins old, and new is what follows it
+abbrev pub TakesContent : WireType → List ℕ → Content → List ℕ → Type 0
+TakesContent w old c new = (p : List ℕ) × HasContent w p c × (old ≡ p ++ new)
+
+-- why no payload of wire type w begins these bytes; the two that hold neither a number nor bytes are named
+abbrev pub ContentFault : WireType → List ℕ → DecodeError → Type 0
+ContentFault Varint bs e = VarFault bs e
+ContentFault Fixed64 bs e = (length bs < 8) × (e ≡ UnexpectedEof)
+ContentFault LengthDelimited bs e = LengthFault bs e
+ContentFault StartGroup bs e = e ≡ InvalidWireType 3
+ContentFault EndGroup bs e = e ≡ InvalidWireType 4
+ContentFault Fixed32 bs e = (length bs < 4) × (e ≡ UnexpectedEof)
+
+-- the content of the payload at the front, and what follows it; or the first fault
+abbrev pub content_at : WireType → List ℕ → Result (Content × List ℕ) DecodeError
+content_at Varint bs = varint_at bs >>= (λ n. Ok (number n.0, n.1))
+content_at Fixed64 bs = taken 8 bs >>= (λ p. Ok (number (from_le_bytes w64 p.0), p.1))
+content_at LengthDelimited bs = delimited_at bs >>= (λ p. Ok (bytes p.0, p.1))
+content_at StartGroup bs = Err (InvalidWireType 3)
+content_at EndGroup bs = Err (InvalidWireType 4)
+content_at Fixed32 bs = taken 4 bs >>= (λ p. Ok (number (from_le_bytes w32 p.0), p.1))
+
+-- the number, and the bytes, of a content; 0 and none where it is the other kind
+abbrev pub number_in : Content → ℕ
+number_in (number n) = n
+number_in (bytes b) = 0
+
+abbrev pub bytes_in : Content → List ℕ
+bytes_in (number n) = []
+bytes_in (bytes b) = b
