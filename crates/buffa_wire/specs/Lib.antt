@@ -1,0 +1,13 @@
+pub mod Left
+pub use Rattle.buffa_bytes.specs.Content
+pub use Rattle.buffa_bytes.specs.ErrorText
+pub use Rattle.buffa_bytes.specs.Field
+pub use Rattle.buffa_bytes.specs.Gives
+pub use Rattle.buffa_bytes.specs.Join
+pub use Rattle.buffa_bytes.specs.Number
+pub use Rattle.buffa_bytes.specs.Reading
+pub use Rattle.buffa_bytes.specs.Unread
+pub use Rattle.buffa_bytes.specs.Values
+pub use Rattle.buffa_bytes.specs.Varint
+pub use Rattle.buffa_bytes.specs.WireType
+pub use Rattle.buffa_bytes.specs.Written

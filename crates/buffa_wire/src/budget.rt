@@ -1,0 +1,124 @@
+//! What reading may still spend: slots for unknown fields, and units of element memory.
+
+ghost use Rattle.std.specs.Prelude.{◌≡◌, ◌+◌, ◌<◌, IfErr, OnErr, OnOk};
+ghost use Rattle.buffa_bytes.specs.declared.error.DecodeError.TheVariants as error;
+
+use buffa_bytes::DecodeError;
+use std::marker::Model;
+
+/// The slots for unknown fields that a message is read with where nothing else is said.
+pub const DEFAULT_UNKNOWN_FIELD_LIMIT: usize = 1_000_000;
+
+/// The units of element memory that a message is read with where nothing else is said.
+pub const DEFAULT_ELEMENT_MEMORY_LIMIT: usize = 268_435_456;
+
+/// What reading may still spend.
+///
+/// One slot is spent for each unknown field that is kept, nested ones too, and for each map entry or
+/// repeated element the units that its codec costs. What was spent stays spent, also where the reading
+/// is refused later.
+///
+/// ```ignore
+/// let mut budget = Budget::new(DEFAULT_UNKNOWN_FIELD_LIMIT);
+/// let ctx = DecodeContext::new(RECURSION_LIMIT, &mut budget);
+/// ```
+#[derive(Drop)]
+pub struct Budget {
+    unknown: usize,
+    memory: usize,
+}
+
+impl Model for Budget {
+    ghost use Rattle.buffa_wire.specs.Left.{Left};
+
+    ghost Value = { Left };
+
+    ghost view = { λ b. record { unknown = b.unknown; memory = b.memory } };
+}
+
+impl Budget {
+    /// A budget of `unknown` slots and [`DEFAULT_ELEMENT_MEMORY_LIMIT`] units of element memory.
+    ///
+    /// ```ignore
+    /// let budget = Budget::new(10);
+    /// ```
+    pub fn new(unknown: usize) -> Budget
+        ensures unknown { result.unknown ≡ unknown }
+        ensures memory { result.memory ≡ DEFAULT_ELEMENT_MEMORY_LIMIT }
+    {
+        Budget {
+            unknown,
+            memory: DEFAULT_ELEMENT_MEMORY_LIMIT,
+        }
+    }
+
+    /// The same slots, and `memory` units of element memory.
+    ///
+    /// ```ignore
+    /// let budget = Budget::new(10).with_element_memory(56);
+    /// ```
+    pub fn with_element_memory(self, memory: usize) -> Budget
+        ensures { result ≡ record { unknown = self.unknown; memory = memory } }
+    {
+        Budget {
+            unknown: self.unknown,
+            memory,
+        }
+    }
+
+    /// Spends one slot.
+    ///
+    /// # Errors
+    /// [`DecodeError::UnknownFieldLimitExceeded`] where none is left; nothing is spent then. It takes no
+    /// memory.
+    ///
+    /// ```ignore
+    /// budget.take_slot()?;
+    /// ```
+    pub fn take_slot(&mut self) -> Result<(), DecodeError>
+        ensures ok { OnOk result ((self.new.unknown + 1 ≡ self.old.unknown) × (self.new.memory ≡ self.old.memory)) }
+        ensures err { OnErr result ((self.old.unknown ≡ 0) × (self.new ≡ self.old)) }
+        ensures which { IfErr result (λ e. e ≡ error.UnknownFieldLimitExceeded) }
+    {
+        if self.unknown == 0 {
+            return Err(DecodeError::UnknownFieldLimitExceeded);
+        }
+        self.unknown -= 1;
+        Ok(())
+    }
+
+    /// Spends `n` units of element memory.
+    ///
+    /// # Errors
+    /// [`DecodeError::ElementMemoryLimitExceeded`] where fewer are left; nothing is spent then. It takes
+    /// no memory.
+    ///
+    /// ```ignore
+    /// budget.take_memory(28)?;
+    /// ```
+    pub fn take_memory(&mut self, n: usize) -> Result<(), DecodeError>
+        ensures ok { OnOk result ((self.new.memory + n ≡ self.old.memory) × (self.new.unknown ≡ self.old.unknown)) }
+        ensures err { OnErr result ((self.old.memory < n) × (self.new ≡ self.old)) }
+        ensures which { IfErr result (λ e. e ≡ error.ElementMemoryLimitExceeded) }
+    {
+        if self.memory < n {
+            return Err(DecodeError::ElementMemoryLimitExceeded);
+        }
+        self.memory -= n;
+        Ok(())
+    }
+
+    /// The slots that are left.
+    pub fn unknown_left(&self) -> usize
+        ensures { result ≡ self.now.unknown }
+    {
+        self.unknown
+    }
+
+    /// The units of element memory that are left.
+    pub fn memory_left(&self) -> usize
+        ensures { result ≡ self.now.memory }
+    {
+        self.memory
+    }
+}

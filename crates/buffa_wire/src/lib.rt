@@ -1,0 +1,14 @@
+//! The wire layer: the ground floor of `buffa_bytes`, and the budgets and contexts that reading lends on.
+//!
+//! A crate above needs this one alone: it re-exports all of `buffa_bytes`.
+#![tactic(auto)]
+
+pub mod budget;
+pub mod context;
+
+pub use budget::{Budget, DEFAULT_ELEMENT_MEMORY_LIMIT, DEFAULT_UNKNOWN_FIELD_LIMIT};
+pub use buffa_bytes::{
+    Blank, Buf, DecodeError, EncodeError, EncodeSink, MAX_FIELD_NUMBER, MapKey, PlainKey, Tag,
+    WireType, check_wire_type, decode_varint, encode_varint, skip_field_depth, types, varint_len,
+};
+pub use context::{DecodeContext, RECURSION_LIMIT};
