@@ -19,13 +19,17 @@ low : (v : ℤ) → FitsSigned w32 v → cast_unsigned w64 v % 2 ^ 32 ≡ cast_u
 low (pos n) h = omega (arith, h.sfits)
 low (negsuc n) h = omega (arith, h.sfits)
 
-wide_fits : (v : ℤ) → FitsSigned w32 v → cast_unsigned w64 v < 2 ^ 64
-wide_fits (pos n) h = omega (arith, h.sfits)
-wide_fits (negsuc n) h = omega (arith, h.sfits)
+pub int32_below : (v : ℤ) → FitsSigned w32 v → cast_unsigned w64 v < 2 ^ 64
+int32_below (pos n) h = omega (arith, h.sfits)
+int32_below (negsuc n) h = omega (arith, h.sfits)
+
+-- the low 32 bits of an int32's number are the int32
+pub int32_back_of : (v : ℤ) → FitsSigned w32 v → int32_of (cast_unsigned w64 v) ≡ v
+int32_back_of v h = rw (low v h) (to_z-of_z w32 v h)
 
 pub int32_back : (v : ℤ) (rest : List ℕ) → FitsSigned w32 v → int32_at (int32_text v ++ rest) ≡ Ok (v, rest)
 int32_back v rest h =
-    let f = wide_fits v h in
+    let f = int32_below v h in
     rw (varint_complete (V (cast_unsigned w64 v)) (cast_unsigned w64 v) rest (Var-V (cast_unsigned w64 v) f), low v h, to_z-of_z w32 v h) refl
 
 small_fits : (n : ℕ) (bs : List ℕ) → n ≡ base128 bs → length bs ≤ 9 → n < 2 ^ 63

@@ -3,10 +3,11 @@ use Rattle.std.proofs.lemmas.List.{take_more_set, length-take}
 use Rattle.buffa_bytes.specs.Varint.{V}
 use Rattle.buffa_bytes.proofs.ShortestLemmas.{V-more, V-last, V-some}
 use Rattle.std.proofs.Common.{[], ◌∷◌, ◌+◌, ◌*◌, ◌/◌, ◌%◌, ◌<◌, ◌≤◌, length, take, set, refl, arith, ◌≡◌, ℕ, List, ◌++◌, sym, ◌∙◌, ap, append_assoc}
-use Rattle.std.specs.Prelude.{Result}
+use Rattle.std.specs.Prelude.{Result, Err}
 use Rattle.std.specs.Result.{MatchResult}
 use Rattle.std.proofs.lemmas.Result.{MatchResult-weaker}
 use Rattle.buffa_bytes.specs.declared.error.EncodeError.{EncodeError}
+use Rattle.buffa_bytes.specs.declared.error.EncodeError.TheVariants.{OutOfMemory}
 use Rattle.buffa_bytes.specs.Written.{Writes, WritesFront}
 
 -- a front of the first is a front of both
@@ -32,3 +33,7 @@ digit_last text all len rest h small e = take_more_set text len rest h ∙ ap (�
 
 pub digit_room : (rest len : ℕ) → 128 ≤ rest → len + length (V rest) ≤ 10 → len + 1 + length (V (rest / 128)) ≤ 10
 digit_room rest len large h = let k : len + length ((rest % 128 + 128) ∷ V (rest / 128)) ≤ 10 = rw (V-more rest large) at h in omega arith
+
+-- a refusal of the first text, as `?` hands it on, is one of both
+pub exits_first : {T : Type 0} {r : Result T EncodeError} {e d : EncodeError} → r ≡ Err e → e ≡ d → (old a b new : List ℕ) → (d ≡ OutOfMemory) × WritesFront old a new → Writes r old (a ++ b) new
+exits_first is same old a b new w = rw (is, same) (w.0, front_first old a b new w.1)

@@ -2,10 +2,17 @@
 use Rattle.std.specs.Prelude.{ℕ, List, ◌++◌, codes}
 use Rattle.std.specs.Fmt.{decimal}
 use Rattle.buffa_bytes.specs.WireType.{wire_number}
+use Rattle.buffa_bytes.specs.declared.error.MessageSetFault.{MessageSetFault}
+use Rattle.buffa_bytes.specs.declared.error.MessageSetFault.TheVariants.{MissingTypeId, TypeIdOutOfRange}
 use Rattle.buffa_bytes.specs.declared.error.DecodeError.{DecodeError}
 use Rattle.buffa_bytes.specs.declared.error.DecodeError.TheVariants as decode
 use Rattle.buffa_bytes.specs.declared.error.EncodeError.{EncodeError}
 use Rattle.buffa_bytes.specs.declared.error.EncodeError.TheVariants as encode
+
+-- the text of what is wrong with an Item
+abbrev pub message_set_fault_text : MessageSetFault → List ℕ
+message_set_fault_text MissingTypeId = codes "missing type_id"
+message_set_fault_text TypeIdOutOfRange = codes "type_id out of range"
 
 -- the text of a refusal of bytes
 abbrev pub decode_error_text : DecodeError → List ℕ
@@ -21,7 +28,7 @@ decode_error_text decode.RecursionLimitExceeded = codes "RecursionLimitExceeded"
 decode_error_text decode.UnknownFieldLimitExceeded = codes "UnknownFieldLimitExceeded"
 decode_error_text decode.ElementMemoryLimitExceeded = codes "ElementMemoryLimitExceeded"
 decode_error_text (decode.InvalidEndGroup number) = codes "InvalidEndGroup " ++ decimal number
-decode_error_text (decode.InvalidMessageSet what) = codes "InvalidMessageSet " ++ what.now
+decode_error_text (decode.InvalidMessageSet what) = codes "InvalidMessageSet " ++ message_set_fault_text what
 decode_error_text (decode.UnexpectedField number) = codes "UnexpectedField " ++ decimal number
 decode_error_text decode.OutOfMemory = codes "OutOfMemory"
 

@@ -1,11 +1,39 @@
 //! Why bytes were refused, and why a text was not written.
 
 ghost use Rattle.std.specs.Prelude.{◌≡◌, Some};
-ghost use Rattle.buffa_bytes.specs.ErrorText.{decode_error_text, encode_error_text};
+ghost use Rattle.buffa_bytes.specs.ErrorText.{decode_error_text, encode_error_text, message_set_fault_text};
 
 use crate::wire_type::WireType;
 use std::error::Error;
 use std::fmt;
+
+/// What is wrong with a MessageSet Item.
+///
+/// `Display` prints `missing type_id` or `type_id out of range`.
+///
+/// ```ignore
+/// let refused = DecodeError::InvalidMessageSet(MessageSetFault::MissingTypeId);
+/// ```
+#[derive(Clone, Copy, Debug, PartialEq, Eq)]
+pub enum MessageSetFault {
+    /// The Item ends and no type id was there.
+    MissingTypeId,
+    /// The type id is 0, or more than 2,147,483,647.
+    TypeIdOutOfRange,
+}
+
+impl fmt::Display for MessageSetFault {
+    ghost output = { λ e. Some (message_set_fault_text e) };
+
+    fn fmt<W: fmt::Write>(&self, f: &mut fmt::Formatter<W>) -> fmt::Result {
+        match self {
+            MessageSetFault::MissingTypeId => write!(f, "missing type_id"),
+            MessageSetFault::TypeIdOutOfRange => write!(f, "type_id out of range"),
+        }
+    }
+}
+
+impl Error for MessageSetFault {}
 
 /// Why bytes were refused.
 ///
@@ -46,8 +74,8 @@ pub enum DecodeError {
     ElementMemoryLimitExceeded,
     /// The end tag of a group that is not open; its number is held.
     InvalidEndGroup(u32),
-    /// A MessageSet Item that says no type, or one out of range.
-    InvalidMessageSet(&'static str),
+    /// A MessageSet Item that gives no type id, or one out of range; which is held.
+    InvalidMessageSet(MessageSetFault),
     /// A field of another number than the one that is read; its number is held.
     UnexpectedField(u32),
     /// A growth was refused. It says nothing of the bytes.

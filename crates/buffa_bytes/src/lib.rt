@@ -20,7 +20,7 @@ pub mod wire_type;
 pub use blank::Blank;
 pub use buf::Buf;
 pub use check::check_wire_type;
-pub use error::{DecodeError, EncodeError};
+pub use error::{DecodeError, EncodeError, MessageSetFault};
 pub use key::{MapKey, PlainKey};
 pub use sink::EncodeSink;
 pub use skip::skip_field_depth;

@@ -1,0 +1,76 @@
+-- Runs of map records, and what they mean. Source: the protobuf encoding guide, "Maps".
+use Rattle.std.specs.Prelude.{◌≡◌, ◌≢◌, ℕ, ◌==◌, Bool, List, [], ◌∷◌, ◌++◌, length, cond, ◌⊎◌, if◌then◌else◌, Result, Ok, Err}
+use Rattle.buffa_wire.specs.Gives.{◌>>=◌}
+use Rattle.buffa_wire.specs.Varint.{Var}
+use Rattle.buffa_wire.specs.Field.{IsTag, TakesTag, TagFault}
+use Rattle.buffa_wire.specs.Reading.{tag_at, check_wire, delimited_at}
+use Rattle.buffa_bytes.specs.declared.wire_type.WireType.{WireType}
+use Rattle.buffa_bytes.specs.declared.wire_type.WireType.TheVariants.{LengthDelimited}
+use Rattle.buffa_bytes.specs.declared.error.DecodeError.{DecodeError}
+use Rattle.buffa_bytes.specs.declared.error.DecodeError.TheVariants.{UnexpectedField, WireTypeMismatch}
+use Rattle.buffa_map.specs.Along.{along_at}
+use Rattle.buffa_map.specs.Codec.{Reading}
+use Rattle.buffa_map.specs.Entry.{IsEntry, EntryFault, entry_of}
+use Rattle.buffa_map.specs.Pairs.{put}
+use Rattle.buffa_map.specs.declared.parts.Parts.{Parts}
+
+-- an entry of a run, and what it says
+pub record Said (K V : Type 0) : Type 0 where
+  pub bytes : List ℕ
+  pub parts : Parts K V
+
+module _ {K V : Type 0} (key : Reading K) (val : Reading V) (d n : ℕ) where
+  -- r is a tag of number n, a length, and the entry x of that length
+  abbrev pub IsRecord : List ℕ → Said K V → Type 0
+  IsRecord r x =
+      (t : List ℕ) × (l : List ℕ) × IsTag t n LengthDelimited × Var l (length x.bytes) × (r ≡ t ++ (l ++ x.bytes))
+      × IsEntry key val d x.bytes x.parts
+
+  -- b is a join of records of the entries es, in order
+  abbrev pub Run : List ℕ → List (Said K V) → Type 0
+  Run b [] = b ≡ []
+  Run b (x ∷ xs) = (r : List ℕ) × (rest : List ℕ) × IsRecord r x × (b ≡ r ++ rest) × Run rest xs
+
+  -- f is why no record begins these bytes, in this order: the tag's fault, another number, another wire
+  -- type, the fault of the length and the entry, where left units are there of cost
+  abbrev pub RecordFault : ℕ → ℕ → List ℕ → DecodeError → Type 0
+  RecordFault cost left bs f =
+      TagFault bs f
+      ⊎ (((g : ℕ) × (w : WireType) × (rest : List ℕ) × TakesTag bs g w rest × (g ≢ n) × (f ≡ UnexpectedField g))
+      ⊎ (((w : WireType) × (rest : List ℕ) × TakesTag bs n w rest × (w ≢ LengthDelimited) × (f ≡ WireTypeMismatch n LengthDelimited w))
+      ⊎ ((rest : List ℕ) × TakesTag bs n LengthDelimited rest × EntryFault key val d cost left rest f)))
+
+  -- after the records of some entries, f is the first fault of what is left; nothing is charged here
+  abbrev pub RunFault : List ℕ → DecodeError → Type 0
+  RunFault bs f = (front : List ℕ) × (rest : List ℕ) × (es : List (Said K V)) × (bs ≡ front ++ rest) × Run front es × (rest ≢ []) × RecordFault 0 0 rest f
+
+  -- the readings: of the record at the front, and of a whole run
+  abbrev pub said_at : List ℕ → Result (Said K V × List ℕ) DecodeError
+  said_at bs = do
+    t ← tag_at bs
+    if t.0 == n then (do
+      _ ← check_wire n LengthDelimited t.1
+      e ← delimited_at t.2
+      s ← entry_of key val d e.0
+      Ok (record { bytes = e.0; parts = s }, e.1)) else Err (UnexpectedField t.0)
+
+  abbrev pub next_said : List (Said K V) → List ℕ → Result (List (Said K V) × List ℕ) DecodeError
+  next_said es bs = said_at bs >>= (λ x. Ok (es ++ x.0 ∷ [], x.1))
+
+  abbrev pub run_of : List ℕ → Result (List (Said K V)) DecodeError
+  run_of bs = along_at next_said [] bs
+
+module _ {K V : Type 0} (eq : K → K → Bool) where
+  -- the pairs after an entry that said s: a declared one is put
+  abbrev pub step : List (K × V) → Parts K V → List (K × V)
+  step m s = cond s.known (put eq m s.key s.value) m
+
+  -- the pairs after the entries, in order
+  abbrev pub Fold : List (K × V) → List (Said K V) → List (K × V)
+  Fold m [] = m
+  Fold m (x ∷ xs) = Fold (step m x.parts) xs
+
+-- the bytes of the entries that aren't declared, in order
+abbrev pub Kept : {K V : Type 0} → List (Said K V) → List (List ℕ)
+Kept [] = []
+Kept (x ∷ xs) = cond x.parts.known (Kept xs) (x.bytes ∷ Kept xs)

@@ -1,0 +1,127 @@
+//! Codecs: how the keys and values of a map field are read and written.
+
+ghost use Rattle.std.specs.Prelude.{◌≡◌, ℕ, Bool, List, Option, Some, false, true, length, IsTrue, Ok, OnErr};
+ghost use Rattle.buffa_bytes.specs.declared.wire_type.WireType.{WireType};
+ghost use Rattle.buffa_wire.specs.Content.{Content, HasContent};
+ghost use Rattle.buffa_wire.specs.Gives.{GivesUnlessFull};
+ghost use Rattle.buffa_wire.specs.Left.{left_in};
+ghost use Rattle.buffa_wire.specs.Written.{Writes};
+ghost use Rattle.buffa_map.specs.Codec.{Reading, Writing, is_known, value_at};
+
+use buffa_wire::{Blank, Buf, DecodeContext, DecodeError, EncodeError, EncodeSink, WireType};
+use std::alloc::Global;
+
+pub(crate) mod sealed {
+    /// Codecs are those of this crate: the rules of the wire can't be said by a type.
+    pub trait Sealed {}
+}
+
+/// Whether a payload held a declared value.
+#[derive(Clone, Copy, Debug, PartialEq, Eq)]
+#[non_exhaustive]
+pub enum MapValueDecodeStatus {
+    /// The value is taken.
+    Known,
+    /// A number that a closed enum doesn't declare; the value stands as it stood.
+    Unknown,
+}
+
+/// How the payloads of one proto type are read.
+///
+/// ```ignore
+/// let mut value = 0;
+/// let status = <Int32 as MapValueDecode>::merge(alloc, &mut value, &mut rest, ctx)?;
+/// ```
+pub trait MapValueDecode: sealed::Sealed {
+    /// The Rust type of the values.
+    type Value: Blank;
+
+    /// The wire type of the payloads.
+    const WIRE_TYPE: WireType;
+
+    /// Whether a payload may hold a value that isn't declared.
+    const MAY_RETURN_UNKNOWN: bool;
+
+    /// The units of element memory that a value costs.
+    const COST: usize;
+
+    ghost WIRE_TYPE: { WireType };
+
+    ghost MAY_RETURN_UNKNOWN: { Bool };
+
+    ghost COST: { ℕ };
+
+    /// What a payload makes of a value.
+    ghost reading: { Reading Self.Value.Meaning };
+
+    /// Whether a payload is taken whole or not at all, so that a refusal leaves the value as it was.
+    ghost whole: { Bool };
+
+    /// Reads the payload at the front into the value.
+    ///
+    /// # Errors
+    /// The first fault of the payload, or want of memory.
+    fn merge<B: Buf>(
+        alloc: Global,
+        value: &mut Self::Value,
+        buf: &mut B,
+        ctx: DecodeContext<'_>,
+    ) -> Result<MapValueDecodeStatus, DecodeError>
+        ensures reads { GivesUnlessFull (λ s. ((Self.Value.meaning value.new, is_known s), B.unread buf.new)) result (value_at reading ctx.entry.depth (Self.Value.meaning value.old) (B.unread buf.old)) }
+        ensures err { OnErr result (IsTrue whole → Self.Value.meaning value.new ≡ Self.Value.meaning value.old) }
+        ensures kept { B.kept buf.new ≡ B.kept buf.old }
+        ensures spends { left_in ctx.exit ≡ ctx.entry.budget.now };
+
+    /// The reading cuts payloads of the wire type.
+    ghost wire: { reading.wire ≡ WIRE_TYPE };
+
+    /// The reading starts with the default of the values.
+    ghost blank: { reading.blank ≡ Self.Value.blank_is };
+
+    /// Undeclared values come only where that is said.
+    ghost declared: { MAY_RETURN_UNKNOWN ≡ false → (d : ℕ) (old : Self.Value.Meaning) (c : Content) (new : Self.Value.Meaning) (known : Bool) → reading.reads d old c ≡ Ok (new, known) → known ≡ true };
+}
+
+/// How the payloads of one proto type are read and written.
+///
+/// ```ignore
+/// let len = <Int32 as MapCodec>::encoded_len(&7);
+/// <Int32 as MapCodec>::encode(&7, &mut text)?; // 07
+/// ```
+pub trait MapCodec: MapValueDecode {
+    /// The length of every payload, where they have one length.
+    const FIXED_LEN: Option<u64>;
+
+    ghost FIXED_LEN: { Option ℕ };
+
+    /// How a value is written.
+    ghost writing: { Writing Self.Value.Meaning };
+
+    /// What the type holds: each value means something of this.
+    ghost fits: { Self.Value.Meaning → Type 0 };
+
+    /// The values whose payload reads back to them; all, but for an open enum.
+    ghost normal: { Self.Value.Meaning → Type 0 };
+
+    /// The length of the payload, a length varint of its own included and the tag not. It takes no memory.
+    fn encoded_len(value: &Self::Value) -> u64
+        ensures len { result ≡ length (writing.text (Self.Value.meaning value.now)) }
+        ensures fits { fits (Self.Value.meaning value.now) };
+
+    /// Writes the payload.
+    ///
+    /// # Errors
+    /// [`EncodeError::OutOfMemory`] alone, after a beginning of the payload.
+    fn encode<S: EncodeSink>(value: &Self::Value, sink: &mut S) -> Result<(), EncodeError>
+        ensures { Writes result (S.written sink.old) (writing.text (Self.Value.meaning value.now)) (S.written sink.new) };
+
+    /// Payloads are written with the wire type that they are read with.
+    ghost written_wire: { writing.wire ≡ Self.WIRE_TYPE };
+
+    /// A payload reads back to its value, whatever stood before, and as a declared one.
+    ghost reads_back: { (d : ℕ) (old v : Self.Value.Meaning) → fits v → normal v →
+        (c : Content) × HasContent writing.wire (writing.text v) c × (Self.reading.reads d old c ≡ Ok (v, true)) };
+
+    /// The fixed length is that of every payload.
+    ghost fixed: { (n : ℕ) → FIXED_LEN ≡ Some n → (v : Self.Value.Meaning) → fits v → length (writing.text v) ≡ n };
+}

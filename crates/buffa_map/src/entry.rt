@@ -1,0 +1,79 @@
+//! One entry of a map field.
+
+ghost use Rattle.std.specs.Prelude.{◌≡◌, ◌≢◌, ◌+◌, ◌<◌, IfErr, OnErr, OnOk};
+ghost use Rattle.buffa_bytes.specs.declared.error.DecodeError.TheVariants.{ElementMemoryLimitExceeded, OutOfMemory};
+ghost use Rattle.buffa_wire.specs.Left.{left_in};
+ghost use Rattle.buffa_map.specs.Entry.{EntryAt, EntryFault};
+ghost use Rattle.buffa_map.specs.Pairs.{SamePairs};
+ghost use Rattle.buffa_map.specs.Run.{step};
+ghost use Rattle.buffa_map.specs.declared.parts.Parts.{Parts};
+
+use crate::codec::{MapCodec, MapValueDecode};
+use crate::fields::merge_fields;
+use crate::storage::MapStorage;
+use buffa_wire::types::decode_bytes;
+use buffa_wire::{Budget, Buf, DecodeContext, DecodeError};
+use std::alloc::Global;
+
+// Spends the cost of a pair. A sum past what a number of units can be is more than any budget has.
+fn charge(budget: &mut Budget, key: usize, value: usize) -> Result<(), DecodeError>
+    ensures ok { OnOk result ((budget.new.memory + (key + value) ≡ budget.old.memory) × (budget.new.unknown ≡ budget.old.unknown)) }
+    ensures err { OnErr result ((budget.old.memory < key + value) × (budget.new ≡ budget.old)) }
+    ensures which { IfErr result (λ e. e ≡ ElementMemoryLimitExceeded) }
+{
+    let _left = budget.memory_left();
+    match key.checked_add(value) {
+        Some(cost) => budget.take_memory(cost),
+        None => Err(DecodeError::ElementMemoryLimitExceeded),
+    }
+}
+
+/// Merges one entry of a map field, its length varint first, into the map.
+///
+/// Key and value start as defaults, each occurrence is merged in order, and other fields are skipped at
+/// the context's depth. A declared pair is put into the map; one with a value that isn't declared is
+/// dropped. Each entry costs `KC::COST + VC::COST` units of element memory.
+///
+/// # Errors
+/// The first of these, in this order: the faults of the length's varint; [`DecodeError::UnexpectedEof`]
+/// where the length passes what is left; [`DecodeError::ElementMemoryLimitExceeded`] where the units
+/// aren't left; the first fault of the entry's fields. Or [`DecodeError::OutOfMemory`]. The map is as it
+/// was then; units that were charged stay spent.
+///
+/// Source: the protobuf encoding guide, "Maps".
+///
+/// ```ignore
+/// merge_entry::<Str, Int32, _, _>(alloc, &mut map, &mut rest, ctx)?;
+/// ```
+pub fn merge_entry<
+    KC: MapCodec,
+    VC: MapValueDecode,
+    C: MapStorage<Key = KC::Value, Value = VC::Value>,
+    B: Buf,
+>(alloc: Global, map: &mut C, buf: &mut B, ctx: DecodeContext<'_>) -> Result<(), DecodeError>
+    ensures ok { OnOk result ((s : Parts KC.Value.Meaning VC.Value.Meaning)
+        × EntryAt KC.reading VC.reading ctx.entry.depth (B.unread buf.old) s (B.unread buf.new)
+        × SamePairs C.equal (step C.equal (C.pairs map.old) s) (C.pairs map.new)
+        × ((left_in ctx.exit).memory + (KC.COST + VC.COST) ≡ ctx.entry.budget.now.memory)) }
+    ensures fault { IfErr result (λ f. f ≢ OutOfMemory → EntryFault KC.reading VC.reading ctx.entry.depth (KC.COST + VC.COST) ctx.entry.budget.now.memory (B.unread buf.old) f) }
+    ensures err { OnErr result (C.pairs map.new ≡ C.pairs map.old) }
+    ensures slots { (left_in ctx.exit).unknown ≡ ctx.entry.budget.now.unknown }
+    ensures kept { B.kept buf.new ≡ B.kept buf.old }
+{
+    let DecodeContext { depth, budget } = ctx;
+    let entry = decode_bytes(alloc, buf)?;
+    charge(&mut *budget, KC::COST, VC::COST)?;
+    let lent = DecodeContext {
+        depth,
+        budget: &mut *budget,
+    };
+    let parts = merge_fields::<KC, VC>(alloc, &entry, lent)?;
+    if parts.known {
+        match map.storage_insert(parts.key, parts.value) {
+            Ok(()) => Ok(()),
+            Err(_) => Err(DecodeError::OutOfMemory),
+        }
+    } else {
+        Ok(())
+    }
+}

@@ -1,0 +1,20 @@
+//! Map fields: storages, codecs, entries, runs, sizes and texts.
+//!
+//! A map field is a run of records of one number, each of them a length and an entry, a small message of a
+//! key field and a value field. [`map_codec`] has the public surface. A byte flows from the buffer through
+//! a record ([`run`]), its entry ([`entry`]) and the entry's fields ([`fields`]) by way of a [`codec`] into
+//! a [`storage`], and from a walk of the storage by way of a size ([`size`]) into a text ([`write`]).
+#![tactic(auto)]
+
+pub mod codec;
+pub mod entry;
+pub mod fields;
+pub mod laws;
+pub mod map_codec;
+mod ordered;
+pub mod parts;
+pub mod run;
+pub mod scalars;
+pub mod size;
+pub mod storage;
+pub mod write;

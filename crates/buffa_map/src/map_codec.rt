@@ -1,0 +1,17 @@
+//! The public surface of map fields, under upstream's names.
+//!
+//! ```ignore
+//! use buffa_map::map_codec::{Int32, Str, field_len, merge_entry, write_field};
+//!
+//! let size = field_len::<Str, Int32, _>(&map, 1);
+//! write_field::<Str, Int32, _, _>(&map, 5, &mut text)?;
+//! merge_entry::<Str, Int32, _, _>(alloc, &mut map, &mut rest, ctx)?;
+//! ```
+
+pub use crate::codec::{MapCodec, MapValueDecode, MapValueDecodeStatus};
+pub use crate::entry::merge_entry;
+pub use crate::run::read_map_field;
+pub use crate::scalars::{Int32, Str};
+pub use crate::size::field_len;
+pub use crate::storage::{MapStorage, MapWalk, StableOrder, StableWalk};
+pub use crate::write::write_field;

@@ -1,0 +1,57 @@
+//! The size of a map field.
+
+ghost use Rattle.std.specs.Prelude.{◌≡◌, ◌+◌, List, length};
+ghost use Rattle.buffa_wire.specs.Varint.{V};
+ghost use Rattle.buffa_map.specs.Pairs.{Enum};
+ghost use Rattle.buffa_map.specs.Text.{as_u64, entry_text, field_size, saturated};
+
+use crate::codec::MapCodec;
+use crate::storage::{MapStorage, MapWalk};
+use buffa_wire::varint_len;
+
+// The length of an entry, two tags of one byte each and the payloads, if it fits 64 bits.
+pub(crate) fn entry_len<KC: MapCodec, VC: MapCodec>(key: &KC::Value, value: &VC::Value) -> Option<u64>
+    ensures { result ≡ as_u64 (length (entry_text KC.writing VC.writing (KC.Value.meaning key.now, VC.Value.meaning value.now))) }
+{
+    let payloads = KC::encoded_len(key).checked_add(VC::encoded_len(value))?;
+    payloads.checked_add(2)
+}
+
+// The length of a record, or 2^64 - 1.
+fn record_len<KC: MapCodec, VC: MapCodec>(outer_tag_len: u64, key: &KC::Value, value: &VC::Value) -> u64
+    ensures { let n = length (entry_text KC.writing VC.writing (KC.Value.meaning key.now, VC.Value.meaning value.now)) in
+        result ≡ saturated (outer_tag_len + (length (V n) + n)) }
+{
+    match entry_len::<KC, VC>(key, value) {
+        Some(len) => outer_tag_len
+            .saturating_add(varint_len(len) as u64)
+            .saturating_add(len),
+        None => u64::MAX,
+    }
+}
+
+/// The length of a map field, in bytes, or 2^64 - 1 where it is more.
+///
+/// `outer_tag_len` is the length of the field's tag, which each record has. It takes no memory.
+///
+/// ```ignore
+/// let size = field_len::<Str, Int32, _>(&map, 1);
+/// ```
+pub fn field_len<
+    'a,
+    KC: MapCodec,
+    VC: MapCodec,
+    C: MapWalk<'a> + MapStorage<Key = KC::Value, Value = VC::Value>,
+>(map: &'a C, outer_tag_len: u64) -> u64
+where
+    KC::Value: 'a,
+    VC::Value: 'a,
+    ensures { (l : List (KC.Value.Meaning × VC.Value.Meaning)) × C.walks map.now l × Enum C.equal (C.pairs map.now) l
+        × (result ≡ saturated (field_size KC.writing VC.writing outer_tag_len l)) }
+{
+    let mut total: u64 = 0;
+    for (key, value) in map.storage_iter() {
+        total = total.saturating_add(record_len::<KC, VC>(outer_tag_len, key, value));
+    }
+    total
+}

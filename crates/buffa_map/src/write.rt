@@ -1,0 +1,98 @@
+//! The text of a map field.
+
+ghost use Rattle.std.specs.Prelude.{◌≡◌, ◌++◌, List};
+ghost use Rattle.buffa_wire.specs.Number.{IsNumber};
+ghost use Rattle.buffa_wire.specs.Values.{delimited_text, tag_text};
+ghost use Rattle.buffa_wire.specs.Varint.{V};
+ghost use Rattle.buffa_wire.specs.Written.{Writes};
+ghost use Rattle.buffa_map.specs.Pairs.{Enum};
+ghost use Rattle.buffa_map.specs.Text.{WritesField, WritesRecord, entry_text};
+
+use crate::codec::MapCodec;
+use crate::size::entry_len;
+use crate::storage::{MapStorage, MapWalk};
+use buffa_wire::{EncodeError, EncodeSink, Tag, WireType, encode_varint};
+
+// Writes a field of an entry.
+#[tactic(auto, using(buffa_bytes::proofs::SinkLemmas::writes_then, buffa_bytes::proofs::SinkLemmas::front_first))]
+fn write_part<VC: MapCodec, S: EncodeSink>(number: u32, value: &VC::Value, sink: &mut S) -> Result<(), EncodeError>
+    requires { IsNumber number }
+    ensures { Writes result (S.written sink.old) (tag_text number VC.writing.wire ++ VC.writing.text (VC.Value.meaning value.now)) (S.written sink.new) }
+{
+    Tag::new(number, VC::WIRE_TYPE).encode(sink)?;
+    VC::encode(value, sink)
+}
+
+// Writes the fields of an entry.
+#[tactic(auto, using(buffa_bytes::proofs::SinkLemmas::writes_then, buffa_bytes::proofs::SinkLemmas::front_first))]
+fn write_entry<KC: MapCodec, VC: MapCodec, S: EncodeSink>(
+    key: &KC::Value,
+    value: &VC::Value,
+    sink: &mut S,
+) -> Result<(), EncodeError>
+    ensures { Writes result (S.written sink.old) (entry_text KC.writing VC.writing (KC.Value.meaning key.now, VC.Value.meaning value.now)) (S.written sink.new) }
+{
+    write_part::<KC, S>(1, key, sink)?;
+    write_part::<VC, S>(2, value, sink)
+}
+
+// Writes the tag and the length of a record.
+#[tactic(auto, using(buffa_bytes::proofs::SinkLemmas::writes_then, buffa_bytes::proofs::SinkLemmas::front_first))]
+fn write_head<S: EncodeSink>(number: u32, len: u64, sink: &mut S) -> Result<(), EncodeError>
+    requires { IsNumber number }
+    ensures { Writes result (S.written sink.old) (tag_text number WireType.LengthDelimited ++ V len) (S.written sink.new) }
+{
+    Tag::new(number, WireType::LengthDelimited).encode(sink)?;
+    encode_varint(len, sink)
+}
+
+// Writes the record of a pair.
+fn write_record<KC: MapCodec, VC: MapCodec, S: EncodeSink>(
+    number: u32,
+    key: &KC::Value,
+    value: &VC::Value,
+    sink: &mut S,
+) -> Result<(), EncodeError>
+    requires { IsNumber number }
+    ensures written { WritesRecord KC.writing VC.writing number (S.written sink.old) (S.written sink.new) result (KC.Value.meaning key.now, VC.Value.meaning value.now) }
+    ensures fits { KC.fits (KC.Value.meaning key.now) × VC.fits (VC.Value.meaning value.now) }
+{
+    let Some(len) = entry_len::<KC, VC>(key, value) else {
+        return Err(EncodeError::MessageTooLarge);
+    };
+    write_head(number, len, sink)?;
+    write_entry::<KC, VC, S>(key, value, sink)
+}
+
+/// Writes a map field: a record for each pair, in the order of a walk; blanks are written too.
+///
+/// `field_number` is 1 to [`MAX_FIELD_NUMBER`](buffa_wire::MAX_FIELD_NUMBER).
+///
+/// # Errors
+/// [`EncodeError::MessageTooLarge`] at the first entry of 2^64 bytes or more, after the records of the
+/// pairs before it; [`EncodeError::OutOfMemory`], after a beginning of the text.
+///
+/// Source: the protobuf encoding guide, "Maps".
+///
+/// ```ignore
+/// write_field::<Str, Int32, _, _>(&map, 5, &mut text)?;
+/// ```
+pub fn write_field<
+    'a,
+    KC: MapCodec,
+    VC: MapCodec,
+    C: MapWalk<'a> + MapStorage<Key = KC::Value, Value = VC::Value>,
+    S: EncodeSink,
+>(map: &'a C, field_number: u32, sink: &mut S) -> Result<(), EncodeError>
+where
+    KC::Value: 'a,
+    VC::Value: 'a,
+    requires { IsNumber field_number }
+    ensures { (l : List (KC.Value.Meaning × VC.Value.Meaning)) × C.walks map.now l × Enum C.equal (C.pairs map.now) l
+        × WritesField KC.writing VC.writing field_number (S.written sink.old) (S.written sink.new) result l }
+{
+    for (key, value) in map.storage_iter() {
+        write_record::<KC, VC, S>(field_number, key, value, sink)?;
+    }
+    Ok(())
+}
