@@ -27,10 +27,10 @@ module _ {S : Type 0} (Step : S → List ℕ → S → Type 0) where
   -- one piece more
   pub Leads-more : (bs : List ℕ) (s t u : S) (p rest x : List ℕ) → Leads Step s bs t rest → Step t p u → rest ≡ p ++ x → Leads Step s bs u x
   Leads-more bs s t u p rest x h k e = (
-      h.0 ++ p ∷ [],
-      h.1 ∙ ap (λ z. join h.0 ++ z) e ∙ sym (append_assoc (join h.0) p x) ∙ ap (λ z. z ++ x) (sym (join-last h.0 p)),
-      Along-last h.0 p s t u h.2 k,
-    )
+    h.0 ++ p ∷ [],
+    h.1 ∙ ap (λ z. join h.0 ++ z) e ∙ sym (append_assoc (join h.0) p x) ∙ ap (λ z. z ++ x) (sym (join-last h.0 p)),
+    Along-last h.0 p s t u h.2 k,
+  )
 
   -- a piece before
   pub Leads-first : (bs : List ℕ) (s t u : S) (p mid rest : List ℕ) → Step s p t → bs ≡ p ++ mid → Leads Step t mid u rest → Leads Step s bs u rest
@@ -47,8 +47,8 @@ module _ {S : Type 0} (Step : S → List ℕ → S → Type 0) where
     sound_in zero s (b ∷ bs) h = absurd (omega arith)
     sound_in (suc k) s (b ∷ bs) h = agree_bind (sound s (b ∷ bs))
         (λ x u. agree_weaker (sound_in k x.0 x.1 (omega (arith, some s x.0 u.0 u.1, ap length u.2, length-append u.0 x.1)))
-          (λ t w. Leads-first (b ∷ bs) s x.0 t u.0 x.1 [] u.1 u.2 w)
-          (λ e w. (w.0, w.1, Leads-first (b ∷ bs) s x.0 w.0 u.0 x.1 w.1 u.1 u.2 w.2, w.3, w.4)))
+        (λ t w. Leads-first (b ∷ bs) s x.0 t u.0 x.1 [] u.1 u.2 w)
+        (λ e w. (w.0, w.1, Leads-first (b ∷ bs) s x.0 w.0 u.0 x.1 w.1 u.1 u.2 w.2, w.3, w.4)))
         (λ e w. (s, b ∷ bs, ([], refl, refl), (λ z. cc), w))
 
     -- the next piece
@@ -67,7 +67,7 @@ module _ {S : Type 0} (Step : S → List ℕ → S → Type 0) where
         let i = pass k ps u t rest w (omega (arith, more, length-append p (join ps), length-append (p ++ join ps) rest, length-append (join ps) rest)) in
         let here : f s ((p ++ join ps) ++ rest) ≡ Ok (u, join ps ++ rest) = ap (f s) (append_assoc p (join ps) rest) ∙ complete s u p (join ps ++ rest) h in
         let turn : along_within f (suc k) s ((p ++ join ps) ++ rest) ≡ along_within f k u (join ps ++ rest) =
-            next k s ((p ++ join ps) ++ rest) (omega (arith, more, length-append p (join ps), length-append (p ++ join ps) rest)) ∙ rw here refl in
+        next k s ((p ++ join ps) ++ rest) (omega (arith, more, length-append p (join ps), length-append (p ++ join ps) rest)) ∙ rw here refl in
         (i.0, i.1, turn ∙ i.2)
 
     at_end : (m : ℕ) (t : S) → along_within f m t [] ≡ Ok t

@@ -43,4 +43,4 @@ pub int32_reads_back : (v : ℤ) → FitsSigned w32 v → (c : Content) × HasCo
 int32_reads_back v h = (number (cast_unsigned w64 v), Var-V (cast_unsigned w64 v) (int32_below v h), ap (λ z. Ok (z, true)) (int32_back_of v h))
 
 pub string_reads_back : (v : List ℕ) → IsText v → (c : Content) × HasContent LengthDelimited (V (length v) ++ v) c × ((text_of (bytes_in c) >>= (λ text. read (text, true))) ≡ Ok (v, true))
-string_reads_back v h = (bytes v, (V (length v), Var-V (length v) (omega (arith, h.1)), refl), rw h.0 refl)
+string_reads_back v h = (bytes v, (V (length v), Var-V (length v) h.1, refl), rw h.0 refl)

@@ -23,4 +23,4 @@ string_writing = record { wire = LengthDelimited; text = delimited_text }
 
 -- a text that a string can hold
 abbrev pub IsText : List ℕ → Type 0
-IsText v = (is_utf8 v ≡ true) × (length v < 2 ^ 63)
+IsText v = (is_utf8 v ≡ true) × (length v < 2 ^ 64)

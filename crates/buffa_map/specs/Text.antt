@@ -8,50 +8,50 @@ use Rattle.buffa_bytes.specs.declared.error.EncodeError.{EncodeError}
 use Rattle.buffa_bytes.specs.declared.error.EncodeError.TheVariants.{MessageTooLarge, GroupRefused, OutOfMemory}
 use Rattle.buffa_map.specs.Codec.{Writing}
 
-module _ {K V : Type 0} (key : Writing K) (val : Writing V) where
+module _ {K W : Type 0} (key : Writing K) (val : Writing W) where
   -- the key field and the value field, blanks too
-  abbrev pub entry_text : K × V → List ℕ
+  abbrev pub entry_text : K × W → List ℕ
   entry_text p = (tag_text 1 key.wire ++ key.text p.0) ++ (tag_text 2 val.wire ++ val.text p.1)
 
   -- the tag of number n, the entry's length, the entry
-  abbrev pub record_text : ℕ → K × V → List ℕ
+  abbrev pub record_text : ℕ → K × W → List ℕ
   record_text n p = tag_text n LengthDelimited ++ delimited_text (entry_text p)
 
   -- a record for each pair, in order
-  abbrev pub field_text : ℕ → List (K × V) → List ℕ
+  abbrev pub field_text : ℕ → List (K × W) → List ℕ
   field_text n [] = []
   field_text n (p ∷ ps) = record_text n p ++ field_text n ps
 
   -- no entry is too long for its length to be a varint
-  abbrev pub HasText : List (K × V) → Type 0
+  abbrev pub HasText : List (K × W) → Type 0
   HasText [] = Unit {0}
   HasText (p ∷ ps) = (length (entry_text p) < 2 ^ 64) × HasText ps
 
   -- the sum of the records' lengths, where t is the length of the field's tag
-  abbrev pub field_size : ℕ → List (K × V) → ℕ
+  abbrev pub field_size : ℕ → List (K × W) → ℕ
   field_size t [] = 0
   field_size t (p ∷ ps) = t + (length (V (length (entry_text p))) + length (entry_text p)) + field_size t ps
 
-module _ {K V : Type 0} (key : Writing K) (val : Writing V) (n : ℕ) (old new : List ℕ) where
+module _ {K W : Type 0} (key : Writing K) (val : Writing W) (n : ℕ) (old new : List ℕ) where
   -- the record of p was written; or memory ran out after a beginning of it; or its entry is too long, and nothing was written
-  abbrev pub RefusesRecord : K × V → EncodeError → Type 0
+  abbrev pub RefusesRecord : K × W → EncodeError → Type 0
   RefusesRecord p OutOfMemory = WritesFront old (record_text key val n p) new
   RefusesRecord p MessageTooLarge = (2 ^ 64 ≤ length (entry_text key val p)) × (new ≡ old)
   RefusesRecord p (GroupRefused e) = ⊥
 
-  abbrev pub WritesRecord : {T : Type 0} → Result T EncodeError → K × V → Type 0
+  abbrev pub WritesRecord : {T : Type 0} → Result T EncodeError → K × W → Type 0
   WritesRecord r p = MatchResult r (λ _. (length (entry_text key val p) < 2 ^ 64) × (new ≡ old ++ record_text key val n p)) (RefusesRecord p)
 
   -- the records of l were written; or memory ran out after a beginning of them; or the first entry that is
   -- too long follows the pairs of done, whose records were written
-  abbrev pub RefusesField : List (K × V) → EncodeError → Type 0
+  abbrev pub RefusesField : List (K × W) → EncodeError → Type 0
   RefusesField l OutOfMemory = WritesFront old (field_text key val n l) new
   RefusesField l MessageTooLarge =
-      (done : List (K × V)) × (p : K × V) × (rest : List (K × V)) × (l ≡ done ++ p ∷ rest) × HasText key val done
+      (done : List (K × W)) × (p : K × W) × (rest : List (K × W)) × (l ≡ done ++ p ∷ rest) × HasText key val done
       × (2 ^ 64 ≤ length (entry_text key val p)) × (new ≡ old ++ field_text key val n done)
   RefusesField l (GroupRefused e) = ⊥
 
-  abbrev pub WritesField : {T : Type 0} → Result T EncodeError → List (K × V) → Type 0
+  abbrev pub WritesField : {T : Type 0} → Result T EncodeError → List (K × W) → Type 0
   WritesField r l = MatchResult r (λ _. HasText key val l × (new ≡ old ++ field_text key val n l)) (RefusesField l)
 
 -- a length, if it is a number of 64 bits

@@ -14,3 +14,9 @@ pub fn entries_are_read<KC: MapValueDecode, VC: MapValueDecode>()
     ensures ok { (d : ℕ) (e : List ℕ) (s : Parts KC.Value.Meaning VC.Value.Meaning) → (entry_of KC.reading VC.reading d e ≡ Ok s) ↔ IsEntry KC.reading VC.reading d e s }
     ensures err { (d : ℕ) (e : List ℕ) (f : DecodeError) → (entry_of KC.reading VC.reading d e ≡ Err f) ↔ FaultOf KC.reading VC.reading d e f }
 {}
+
+/// The same of a whole run of records, where nothing is charged.
+pub fn runs_are_read<KC: MapValueDecode, VC: MapValueDecode>()
+    ensures ok { (d n : ℕ) (bs : List ℕ) (es : List (Said KC.Value.Meaning VC.Value.Meaning)) → (run_of KC.reading VC.reading d n bs ≡ Ok es) ↔ Run KC.reading VC.reading d n bs es }
+    ensures err { (d n : ℕ) (bs : List ℕ) (f : DecodeError) → (run_of KC.reading VC.reading d n bs ≡ Err f) ↔ RunFault KC.reading VC.reading d n bs f }
+{}

@@ -4,8 +4,8 @@ ghost use Rattle.std.specs.Prelude.{◌≡◌};
 ghost use Rattle.buffa_map.specs.Pairs.{means};
 ghost use Rattle.std.specs.BTreeMap.{BTreeMap};
 
-use buffa_wire::{Blank, MapKey};
 use crate::storage::{MapStorage, MapWalk, StableOrder, StableWalk};
+use buffa_wire::{Blank, MapKey};
 use std::alloc::AllocError;
 use std::collections::{BTreeMap, btree_map};
 

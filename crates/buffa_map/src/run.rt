@@ -48,7 +48,7 @@ pub fn read_map_field<
     ensures kept { B.kept buf.new ≡ B.kept buf.old }
 {
     let DecodeContext { depth, budget } = ctx;
-    while buf.remaining() > 0 {
+    'records: while buf.remaining() > 0 {
         let tag = Tag::decode(buf)?;
         if tag.field_number() != number {
             return Err(DecodeError::UnexpectedField(tag.field_number()));

@@ -10,15 +10,23 @@ use crate::storage::{MapStorage, MapWalk};
 use buffa_wire::varint_len;
 
 // The length of an entry, two tags of one byte each and the payloads, if it fits 64 bits.
-pub(crate) fn entry_len<KC: MapCodec, VC: MapCodec>(key: &KC::Value, value: &VC::Value) -> Option<u64>
-    ensures { result ≡ as_u64 (length (entry_text KC.writing VC.writing (KC.Value.meaning key.now, VC.Value.meaning value.now))) }
+pub(crate) fn entry_len<KC: MapCodec, VC: MapCodec>(
+    key: &KC::Value,
+    value: &VC::Value,
+) -> Option<u64>
+    ensures len { result ≡ as_u64 (length (entry_text KC.writing VC.writing (KC.Value.meaning key.now, VC.Value.meaning value.now))) }
+    ensures fits { KC.fits (KC.Value.meaning key.now) × VC.fits (VC.Value.meaning value.now) }
 {
     let payloads = KC::encoded_len(key).checked_add(VC::encoded_len(value))?;
     payloads.checked_add(2)
 }
 
 // The length of a record, or 2^64 - 1.
-fn record_len<KC: MapCodec, VC: MapCodec>(outer_tag_len: u64, key: &KC::Value, value: &VC::Value) -> u64
+fn record_len<KC: MapCodec, VC: MapCodec>(
+    outer_tag_len: u64,
+    key: &KC::Value,
+    value: &VC::Value,
+) -> u64
     ensures { let n = length (entry_text KC.writing VC.writing (KC.Value.meaning key.now, VC.Value.meaning value.now)) in
         result ≡ saturated (outer_tag_len + (length (V n) + n)) }
 {

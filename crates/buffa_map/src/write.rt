@@ -15,7 +15,11 @@ use buffa_wire::{EncodeError, EncodeSink, Tag, WireType, encode_varint};
 
 // Writes a field of an entry.
 #[tactic(auto, using(buffa_bytes::proofs::SinkLemmas::writes_then, buffa_bytes::proofs::SinkLemmas::front_first))]
-fn write_part<VC: MapCodec, S: EncodeSink>(number: u32, value: &VC::Value, sink: &mut S) -> Result<(), EncodeError>
+fn write_part<VC: MapCodec, S: EncodeSink>(
+    number: u32,
+    value: &VC::Value,
+    sink: &mut S,
+) -> Result<(), EncodeError>
     requires { IsNumber number }
     ensures { Writes result (S.written sink.old) (tag_text number VC.writing.wire ++ VC.writing.text (VC.Value.meaning value.now)) (S.written sink.new) }
 {

@@ -1,0 +1,55 @@
+-- Records written one after another.
+use Rattle.std.proofs.Common.{◌≡◌, ℕ, ◌^◌, ◌<◌, ◌≤◌, List, [], ◌∷◌, ◌++◌, length, Result, Ok, Err, refl, sym, ap, subst, ◌∙◌, append_assoc, append-nil}
+use Rattle.std.proofs.lemmas.Result.{MatchResult-weaker}
+use Rattle.buffa_wire.specs.Varint.{V}
+use Rattle.buffa_wire.specs.Values.{tag_text}
+use Rattle.buffa_wire.specs.Written.{Writes, WritesFront}
+use Rattle.buffa_bytes.specs.declared.wire_type.WireType.TheVariants.{LengthDelimited}
+use Rattle.buffa_bytes.specs.declared.error.EncodeError.{EncodeError}
+use Rattle.buffa_bytes.specs.declared.error.EncodeError.TheVariants.{MessageTooLarge, GroupRefused, OutOfMemory}
+use Rattle.buffa_bytes.proofs.SinkLemmas.{front_first, front_second}
+use Rattle.buffa_map.specs.Codec.{Writing}
+use Rattle.buffa_map.specs.Text.{entry_text, record_text, field_text, HasText, RefusesRecord, WritesRecord, RefusesField, WritesField}
+
+module _ {K W : Type 0} (key : Writing K) (val : Writing W) (n : ℕ) where
+  -- a record's text: its head, and its entry
+  record_whole : (p : K × W) (len : ℕ) → len ≡ length (entry_text key val p) → (tag_text n LengthDelimited ++ V len) ++ entry_text key val p ≡ record_text key val n p
+  record_whole p len e = ap (λ k. (tag_text n LengthDelimited ++ V k) ++ entry_text key val p) e ∙ append_assoc (tag_text n LengthDelimited) (V (length (entry_text key val p))) (entry_text key val p)
+
+  -- a refusal of the head, as `?` hands it on
+  pub head_refused : {T : Type 0} {r : Result T EncodeError} {e d : EncodeError} → r ≡ Err e → e ≡ d → (old new : List ℕ) (p : K × W) (len : ℕ) → len ≡ length (entry_text key val p) →
+      (d ≡ OutOfMemory) × WritesFront old (tag_text n LengthDelimited ++ V len) new → WritesRecord key val n old new r p
+  head_refused is same old new p len l w =
+      rw (is, same, w.0) (subst (λ z. WritesFront old z new) (record_whole p len l) (front_first old (tag_text n LengthDelimited ++ V len) (entry_text key val p) new w.1))
+
+  -- the entry behind the head
+  pub entry_written : {T : Type 0} (r : Result T EncodeError) (old mid new : List ℕ) (p : K × W) (len : ℕ) → len ≡ length (entry_text key val p) → length (entry_text key val p) < 2 ^ 64 →
+      mid ≡ old ++ (tag_text n LengthDelimited ++ V len) → Writes r mid (entry_text key val p) new → WritesRecord key val n old new r p
+  entry_written r old mid new p len l fits m h = MatchResult-weaker r h
+      (λ x w. (fits, w ∙ ap (λ z. z ++ entry_text key val p) m ∙ append_assoc old (tag_text n LengthDelimited ++ V len) (entry_text key val p) ∙ ap (λ z. old ++ z) (record_whole p len l)))
+      (λ e w. subst (RefusesRecord key val n old new p) (sym w.0) (subst (λ z. WritesFront old z new) (record_whole p len l) (front_second old (tag_text n LengthDelimited ++ V len) (entry_text key val p) mid new m w.1)))
+
+  pub field_text-append : (ps rs : List (K × W)) → field_text key val n (ps ++ rs) ≡ field_text key val n ps ++ field_text key val n rs
+  field_text-append [] rs = refl
+  field_text-append (p ∷ ps) rs = ap (λ z. record_text key val n p ++ z) (field_text-append ps rs) ∙ sym (append_assoc (record_text key val n p) (field_text key val n ps) (field_text key val n rs))
+
+  pub field_text-last : (ps : List (K × W)) (p : K × W) → field_text key val n (ps ++ p ∷ []) ≡ field_text key val n ps ++ record_text key val n p
+  field_text-last ps p = field_text-append ps (p ∷ []) ∙ ap (λ z. field_text key val n ps ++ z) (append-nil (record_text key val n p))
+
+  pub HasText-last : (ps : List (K × W)) (p : K × W) → HasText key val ps → length (entry_text key val p) < 2 ^ 64 → HasText key val (ps ++ p ∷ [])
+  HasText-last [] p h k = (k, tt)
+  HasText-last (q ∷ ps) p h k = (h.0, HasText-last ps p h.1 k)
+
+  refused : (old mid new : List ℕ) (all done : List (K × W)) (p : K × W) (rest : List (K × W)) → all ≡ done ++ p ∷ rest → HasText key val done → mid ≡ old ++ field_text key val n done →
+      (e : EncodeError) → RefusesRecord key val n mid new p e → RefusesField key val n old new all e
+  refused old mid new all done p rest is has m OutOfMemory w =
+      let first : WritesFront mid (record_text key val n p ++ field_text key val n rest) new = front_first mid (record_text key val n p) (field_text key val n rest) new w in
+      let whole : field_text key val n done ++ (record_text key val n p ++ field_text key val n rest) ≡ field_text key val n all = sym (ap (field_text key val n) is ∙ field_text-append done (p ∷ rest)) in
+      subst (λ z. WritesFront old z new) whole (front_second old (field_text key val n done) (record_text key val n p ++ field_text key val n rest) mid new m first)
+  refused old mid new all done p rest is has m MessageTooLarge w = (done, p, rest, is, has, w.0, w.1 ∙ m)
+  refused old mid new all done p rest is has m (GroupRefused e) w = absurd w
+
+  -- a refusal of a record after those of done, as `?` hands it on
+  pub field_refused : {T : Type 0} {r : Result T EncodeError} {e d : EncodeError} → r ≡ Err e → e ≡ d → (old mid new : List ℕ) (all done : List (K × W)) (p : K × W) (rest : List (K × W)) →
+      all ≡ done ++ p ∷ rest → HasText key val done → mid ≡ old ++ field_text key val n done → RefusesRecord key val n mid new p d → WritesField key val n old new r all
+  field_refused {d = d} eq same old mid new all done p rest is has m w = rw (eq, same) (refused old mid new all done p rest is has m d w)
