@@ -13,6 +13,8 @@ pub mod laws;
 pub mod sink;
 pub mod skip;
 pub mod tag;
+#[cfg(test)]
+mod tests;
 pub mod types;
 pub mod varint;
 pub mod wire_type;
