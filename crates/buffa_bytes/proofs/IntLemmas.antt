@@ -23,6 +23,9 @@ wide_fits : (v : ℤ) → FitsSigned w32 v → cast_unsigned w64 v < 2 ^ 64
 wide_fits (pos n) h = omega (arith, h.sfits)
 wide_fits (negsuc n) h = omega (arith, h.sfits)
 
+pub int32_means : (v : ℤ) → FitsSigned w32 v → int32_of (cast_unsigned w64 v) ≡ v
+int32_means v h = rw (low v h) (to_z-of_z w32 v h)
+
 pub int32_back : (v : ℤ) (rest : List ℕ) → FitsSigned w32 v → int32_at (int32_text v ++ rest) ≡ Ok (v, rest)
 int32_back v rest h =
     let f = wide_fits v h in

@@ -1,5 +1,8 @@
 //! Values from outside: the protobuf encoding guide and the table of printed errors.
 
+mod buffers;
+mod scalars;
+
 use crate::blank::Blank;
 use crate::buf::{Buf, copy_bytes};
 use crate::error::{DecodeError, EncodeError};
