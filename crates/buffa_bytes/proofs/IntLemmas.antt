@@ -27,6 +27,9 @@ int32_below (negsuc n) h = omega (arith, h.sfits)
 pub int32_back_of : (v : ℤ) → FitsSigned w32 v → int32_of (cast_unsigned w64 v) ≡ v
 int32_back_of v h = rw (low v h) (to_z-of_z w32 v h)
 
+pub int32_means : (v : ℤ) → FitsSigned w32 v → int32_of (cast_unsigned w64 v) ≡ v
+int32_means v h = rw (low v h) (to_z-of_z w32 v h)
+
 pub int32_back : (v : ℤ) (rest : List ℕ) → FitsSigned w32 v → int32_at (int32_text v ++ rest) ≡ Ok (v, rest)
 int32_back v rest h =
     let f = int32_below v h in

@@ -8,3 +8,6 @@ pub mod ContentLemmas
 pub mod BufLemmas
 pub mod SinkLemmas
 pub mod IntLemmas
+pub mod LimitLemmas
+pub mod PieceLemmas
+pub mod ScalarLemmas

@@ -2,6 +2,7 @@ pub mod Gives
 pub mod WireType
 pub mod ErrorText
 pub mod Unread
+pub mod Pieces
 pub mod Written
 pub mod Varint
 pub mod Join
@@ -10,4 +11,5 @@ pub mod Field
 pub mod Reading
 pub mod Content
 pub mod Values
+pub mod Scalars
 pub mod Plain

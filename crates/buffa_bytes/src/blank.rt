@@ -2,6 +2,7 @@
 
 ghost use Rattle.std.specs.Prelude.{◌≡◌, [], false, pos, string_bytes};
 
+use bytes::Bytes;
 use std::alloc::Global;
 
 /// A type with a default: 0 for integers, `false`, the empty text, the empty bytes.
@@ -109,5 +110,17 @@ impl Blank for Vec<u8> {
 
     fn blank(alloc: Global) -> Vec<u8> {
         Vec::new(alloc)
+    }
+}
+
+impl Blank for Bytes {
+    type Meaning = [u8; 0];
+
+    ghost meaning = { λ b. b };
+
+    ghost blank_is = { [] };
+
+    fn blank(_alloc: Global) -> Bytes {
+        Bytes::new()
     }
 }

@@ -6,6 +6,7 @@ ghost use Rattle.buffa_bytes.specs.Reading.{taken};
 ghost use Rattle.buffa_bytes.specs.Unread.{IsChunkOf, MovesUnlessFull};
 
 use crate::error::DecodeError;
+use bytes::Bytes;
 use std::alloc::Global;
 
 /// Bytes that are read from the front, in one piece or in several.
@@ -54,6 +55,22 @@ impl Buf for &[u8] {
     fn advance(&mut self, n: usize) {
         let all: &[u8] = *self;
         *self = &all[n..];
+    }
+}
+
+impl Buf for Bytes {
+    ghost unread = { λ b. b };
+
+    fn remaining(&self) -> usize {
+        Bytes::len(self)
+    }
+
+    fn chunk(&self) -> &[u8] {
+        self.as_slice()
+    }
+
+    fn advance(&mut self, n: usize) {
+        Bytes::advance(self, n)
     }
 }
 

@@ -8,6 +8,7 @@ ghost use Rattle.std.specs.Ordering.{int_eq};
 ghost use Rattle.buffa_bytes.specs.Plain.{bits_plain, bytes_plain, integers_plain, numbers_plain};
 
 use crate::blank::Blank;
+use bytes::Bytes;
 
 /// A value that a map can take as its key: what it means decides which keys are one.
 ///
@@ -112,5 +113,17 @@ impl MapKey for Vec<u8> {
 }
 
 impl PlainKey for Vec<u8> {
+    ghost plain = { bytes_plain };
+}
+
+impl MapKey for Bytes {
+    ghost same = { pointwise nat_eq };
+
+    ghost equivalence = { nat_list_eq_equiv };
+
+    ghost respects = { λ a b. refl };
+}
+
+impl PlainKey for Bytes {
     ghost plain = { bytes_plain };
 }

@@ -1,7 +1,7 @@
 //! What the definitions say together: each law is a function with nothing to do, whose contract is the law.
 
-ghost use Rattle.std.specs.Prelude.{◌≡◌, ◌<◌, ◌≤◌, ◌<ℤ◌, ◌^◌, ◌+◌, ◌↔◌, ℕ, ℤ, suc, pos, List, ◌++◌, length, Ok, Err, FitsSigned, true};
-ghost use Rattle.std.specs.Int.{w32};
+ghost use Rattle.std.specs.Prelude.{◌≡◌, ◌<◌, ◌≤◌, ◌<ℤ◌, ◌^◌, ◌+◌, ◌↔◌, ℕ, ℤ, suc, pos, Bool, List, ◌++◌, length, Ok, Err, FitsSigned, true};
+ghost use Rattle.std.specs.Int.{cast_unsigned, from_bool, w32, w64};
 ghost use Rattle.std.specs.Str.{is_utf8};
 ghost use Rattle.buffa_bytes.specs.declared.wire_type.WireType.{WireType};
 ghost use Rattle.buffa_bytes.specs.declared.error.DecodeError.{DecodeError};
@@ -10,6 +10,7 @@ ghost use Rattle.buffa_bytes.specs.Number.{IsNumber};
 ghost use Rattle.buffa_bytes.specs.Content.{Content, ContentFault, TakesContent, content_at};
 ghost use Rattle.buffa_bytes.specs.Field.{LengthFault, SomeField, TakesDelimited, TakesTag, TagFault, TakesPayload, PayloadFault};
 ghost use Rattle.buffa_bytes.specs.Reading.{delimited_at, varint_at, tag_at, skip_at, group_at, group_by_field};
+ghost use Rattle.buffa_bytes.specs.Scalars.{bool_at, bool_of, bool_text, fixed32_at, fixed32_text, fixed64_at, fixed64_text, int32_of, int64_at, int64_of, int64_text, sfixed32_at, sfixed32_of, sfixed32_text, sfixed64_at, sfixed64_of, sfixed64_text, sint32_at, sint32_of, sint32_text, sint64_at, sint64_of, sint64_text, uint32_at, uint32_of, uint32_text, uint64_at, uint64_text, unzigzag, zigzag};
 ghost use Rattle.buffa_bytes.specs.Values.{delimited_text, int32_at, int32_text, string_at, tag_text};
 
 /// A varint is read exactly where a spelling begins the bytes, and a fault is told exactly where the
@@ -90,6 +91,53 @@ pub fn tags_are_read_back()
 pub fn int32_is_read_back()
     ensures read_back { (v : ℤ) (rest : List ℕ) → FitsSigned w32 v → int32_at (int32_text v ++ rest) ≡ Ok (v, rest) }
     ensures negative { (v : ℤ) → FitsSigned w32 v → v <ℤ pos 0 → length (int32_text v) ≡ 10 }
+{}
+
+/// Zigzag is undone, from either side, and keeps within the width.
+pub fn zigzag_is_undone()
+    ensures of_a_value { (v : ℤ) → unzigzag (zigzag v) ≡ v }
+    ensures of_a_number { (n : ℕ) → zigzag (unzigzag n) ≡ n }
+    ensures fits32 { (v : ℤ) → FitsSigned w32 v → zigzag v < 2 ^ 32 }
+    ensures fits64 { (v : ℤ) → FitsSigned w64 v → zigzag v < 2 ^ 64 }
+{}
+
+/// The number that is written of a scalar means that scalar.
+pub fn numbers_mean_their_values()
+    ensures int32 { (v : ℤ) → FitsSigned w32 v → int32_of (cast_unsigned w64 v) ≡ v }
+    ensures int64 { (v : ℤ) → FitsSigned w64 v → int64_of (cast_unsigned w64 v) ≡ v }
+    ensures uint32 { (n : ℕ) → n < 2 ^ 32 → uint32_of n ≡ n }
+    ensures sint32 { (v : ℤ) → FitsSigned w32 v → sint32_of (zigzag v) ≡ v }
+    ensures sint64 { (v : ℤ) → sint64_of (zigzag v) ≡ v }
+    ensures bool { (b : Bool) → bool_of (from_bool b) ≡ b }
+    ensures sfixed32 { (v : ℤ) → FitsSigned w32 v → sfixed32_of (cast_unsigned w32 v) ≡ v }
+    ensures sfixed64 { (v : ℤ) → FitsSigned w64 v → sfixed64_of (cast_unsigned w64 v) ≡ v }
+{}
+
+/// A scalar that was written as a varint is read back, whatever follows.
+pub fn varint_scalars_are_read_back()
+    ensures int64 { (v : ℤ) (rest : List ℕ) → FitsSigned w64 v → int64_at (int64_text v ++ rest) ≡ Ok (v, rest) }
+    ensures uint32 { (n : ℕ) (rest : List ℕ) → n < 2 ^ 32 → uint32_at (uint32_text n ++ rest) ≡ Ok (n, rest) }
+    ensures uint64 { (n : ℕ) (rest : List ℕ) → n < 2 ^ 64 → uint64_at (uint64_text n ++ rest) ≡ Ok (n, rest) }
+    ensures sint32 { (v : ℤ) (rest : List ℕ) → FitsSigned w32 v → sint32_at (sint32_text v ++ rest) ≡ Ok (v, rest) }
+    ensures sint64 { (v : ℤ) (rest : List ℕ) → FitsSigned w64 v → sint64_at (sint64_text v ++ rest) ≡ Ok (v, rest) }
+    ensures bool { (b : Bool) (rest : List ℕ) → bool_at (bool_text b ++ rest) ≡ Ok (b, rest) }
+{}
+
+/// A scalar that was written as four or eight bytes is read back, whatever follows.
+pub fn fixed_scalars_are_read_back()
+    ensures fixed32 { (n : ℕ) (rest : List ℕ) → n < 2 ^ 32 → fixed32_at (fixed32_text n ++ rest) ≡ Ok (n, rest) }
+    ensures fixed64 { (n : ℕ) (rest : List ℕ) → n < 2 ^ 64 → fixed64_at (fixed64_text n ++ rest) ≡ Ok (n, rest) }
+    ensures sfixed32 { (v : ℤ) (rest : List ℕ) → FitsSigned w32 v → sfixed32_at (sfixed32_text v ++ rest) ≡ Ok (v, rest) }
+    ensures sfixed64 { (v : ℤ) (rest : List ℕ) → FitsSigned w64 v → sfixed64_at (sfixed64_text v ++ rest) ≡ Ok (v, rest) }
+{}
+
+/// The scalars of one length, whatever the value.
+pub fn scalars_of_one_length()
+    ensures bool { (b : Bool) → length (bool_text b) ≡ 1 }
+    ensures fixed32 { (n : ℕ) → length (fixed32_text n) ≡ 4 }
+    ensures fixed64 { (n : ℕ) → length (fixed64_text n) ≡ 8 }
+    ensures sfixed32 { (v : ℤ) → length (sfixed32_text v) ≡ 4 }
+    ensures sfixed64 { (v : ℤ) → length (sfixed64_text v) ≡ 8 }
 {}
 
 /// A text of UTF-8 that was written is read back, whatever follows.

@@ -1,147 +1,21 @@
 //! The texts of scalars and strings, without their tags.
 
-ghost use Rattle.std.specs.Prelude.{◌≡◌, length, string_bytes};
-ghost use Rattle.buffa_bytes.specs.Gives.{Gives, GivesUnlessFull};
-ghost use Rattle.buffa_bytes.specs.Reading.{delimited_at};
-ghost use Rattle.buffa_bytes.specs.Values.{delimited_text, int32_at, int32_text, string_at};
-ghost use Rattle.buffa_bytes.specs.Written.{Writes};
+mod fixed;
+mod integer;
+mod text;
+mod zigzag;
 
-use crate::buf::{Buf, copy_bytes};
-use crate::error::{DecodeError, EncodeError};
-use crate::sink::EncodeSink;
-use crate::varint::{decode_varint, encode_varint, varint_len};
-use std::alloc::Global;
-
-/// The length of an int32's text: 1 to 5 bytes, or 10 for a negative one.
-///
-/// ```ignore
-/// let ten = int32_encoded_len(-1);
-/// ```
-pub fn int32_encoded_len(value: i32) -> usize
-    ensures { result ≡ length (int32_text value) }
-{
-    varint_len(i64::from(value).cast_unsigned())
-}
-
-/// Writes an int32: its 64-bit two's complement as a varint. Source: the protobuf encoding guide,
-/// "Signed Integers".
-///
-/// # Errors
-/// [`EncodeError::OutOfMemory`] alone, after a beginning of the text.
-///
-/// ```ignore
-/// encode_int32(-7, &mut text)?; // F9 FF FF FF FF FF FF FF FF 01
-/// ```
-pub fn encode_int32<S: EncodeSink>(value: i32, sink: &mut S) -> Result<(), EncodeError>
-    ensures { Writes result (S.written sink.old) (int32_text value) (S.written sink.new) }
-{
-    encode_varint(i64::from(value).cast_unsigned(), sink)
-}
-
-/// Reads an int32: the low 32 bits of a varint.
-///
-/// # Errors
-/// Those of a varint. It takes no memory.
-///
-/// ```ignore
-/// let mut rest: &[u8] = &[0x2A];
-/// let answer = decode_int32(&mut rest)?; // 42
-/// ```
-pub fn decode_int32<B: Buf>(buf: &mut B) -> Result<i32, DecodeError>
-    ensures reads { Gives (λ v. (v, B.unread buf.new)) result (int32_at (B.unread buf.old)) }
-    ensures kept { B.kept buf.new ≡ B.kept buf.old }
-{
-    let number = decode_varint(buf)?;
-    Ok(((number % (1 << 32)) as u32).cast_signed())
-}
-
-/// The length of a string's text: the length varint and the bytes.
-///
-/// ```ignore
-/// let four = string_encoded_len("bee");
-/// ```
-pub fn string_encoded_len(value: &str) -> usize
-    ensures { result ≡ length (delimited_text value.now) }
-{
-    bytes_encoded_len(value.as_bytes())
-}
-
-/// Writes a string: the length as a varint, and the bytes.
-///
-/// # Errors
-/// [`EncodeError::OutOfMemory`] alone, after a beginning of the text.
-///
-/// ```ignore
-/// encode_string("bee", &mut text)?; // 03 62 65 65
-/// ```
-pub fn encode_string<S: EncodeSink>(value: &str, sink: &mut S) -> Result<(), EncodeError>
-    ensures { Writes result (S.written sink.old) (delimited_text value.now) (S.written sink.new) }
-{
-    encode_bytes(value.as_bytes(), sink)
-}
-
-/// Reads a string: a length varint and so many bytes of UTF-8.
-///
-/// # Errors
-/// In this order: those of a varint, [`DecodeError::UnexpectedEof`] where the length passes what is
-/// left, [`DecodeError::InvalidUtf8`]; or [`DecodeError::OutOfMemory`].
-///
-/// ```ignore
-/// let mut rest: &[u8] = &[3, b'b', b'e', b'e'];
-/// let bee = decode_string(alloc, &mut rest)?;
-/// ```
-pub fn decode_string<B: Buf>(alloc: Global, buf: &mut B) -> Result<String, DecodeError>
-    ensures reads { GivesUnlessFull (λ s. (string_bytes s, B.unread buf.new)) result (string_at (B.unread buf.old)) }
-    ensures kept { B.kept buf.new ≡ B.kept buf.old }
-{
-    let bytes = decode_bytes(alloc, buf)?;
-    match String::from_utf8(bytes) {
-        Ok(text) => Ok(text),
-        Err(_) => Err(DecodeError::InvalidUtf8),
-    }
-}
-
-/// The length of a bytes value's text: the length varint and the bytes.
-///
-/// ```ignore
-/// let three = bytes_encoded_len(&[0xDE, 0xAD]);
-/// ```
-pub fn bytes_encoded_len(value: &[u8]) -> usize
-    ensures { result ≡ length (delimited_text value.now) }
-{
-    varint_len(value.len() as u64) + value.len()
-}
-
-/// Writes bytes: the length as a varint, and the bytes.
-///
-/// # Errors
-/// [`EncodeError::OutOfMemory`] alone, after a beginning of the text.
-///
-/// ```ignore
-/// encode_bytes(&[0xDE, 0xAD], &mut text)?; // 02 DE AD
-/// ```
-#[tactic(auto, using(crate::proofs::SinkLemmas::writes_then, crate::proofs::SinkLemmas::front_first))]
-pub fn encode_bytes<S: EncodeSink>(value: &[u8], sink: &mut S) -> Result<(), EncodeError>
-    ensures { Writes result (S.written sink.old) (delimited_text value.now) (S.written sink.new) }
-{
-    encode_varint(value.len() as u64, sink)?;
-    sink.put_slice(value)
-}
-
-/// Reads bytes: a length varint and so many bytes.
-///
-/// # Errors
-/// In this order: those of a varint, [`DecodeError::UnexpectedEof`] where the length passes what is left;
-/// or [`DecodeError::OutOfMemory`].
-///
-/// ```ignore
-/// let mut rest: &[u8] = &[2, 0xDE, 0xAD];
-/// let dead = decode_bytes(alloc, &mut rest)?;
-/// ```
-pub fn decode_bytes<B: Buf>(alloc: Global, buf: &mut B) -> Result<Vec<u8>, DecodeError>
-    ensures reads { GivesUnlessFull (λ v. (v.items, B.unread buf.new)) result (delimited_at (B.unread buf.old)) }
-    ensures kept { B.kept buf.new ≡ B.kept buf.old }
-{
-    let len = decode_varint(buf)?;
-    copy_bytes(alloc, buf, len)
-}
+pub use fixed::{
+    FIXED32_ENCODED_LEN, FIXED64_ENCODED_LEN, decode_fixed32, decode_fixed64, decode_sfixed32,
+    decode_sfixed64, encode_fixed32, encode_fixed64, encode_sfixed32, encode_sfixed64,
+};
+pub use integer::{
+    BOOL_ENCODED_LEN, decode_bool, decode_int32, decode_int64, decode_sint32, decode_sint64,
+    decode_uint32, decode_uint64, encode_bool, encode_int32, encode_int64, encode_sint32,
+    encode_sint64, encode_uint32, encode_uint64, int32_encoded_len, int64_encoded_len,
+    sint32_encoded_len, sint64_encoded_len, uint32_encoded_len, uint64_encoded_len,
+};
+pub use text::{
+    bytes_encoded_len, decode_bytes, decode_string, encode_bytes, encode_string, string_encoded_len,
+};
+pub use zigzag::{zigzag_decode_i32, zigzag_decode_i64, zigzag_encode_i32, zigzag_encode_i64};

@@ -2,7 +2,7 @@ use Rattle.std.proofs.Common.{length}
 use Rattle.std.proofs.lemmas.Result.{err_from_is_err_and}
 use Rattle.buffa_bytes.specs.Varint.{V}
 use Rattle.buffa_bytes.proofs.SinkLemmas.{exits_first}
-use Rattle.buffa_bytes.proofs.types.encode_bytes.Goals as goal
+use Rattle.buffa_bytes.proofs.types.text.encode_bytes.Goals as goal
 
 pub returns-in_err-encode_varint : goal.returns-in_err-encode_varint
 returns-in_err-encode_varint g c =

@@ -1,0 +1,67 @@
+//! The front of a buffer, which is lent.
+
+ghost use Rattle.std.specs.Prelude.{◌≡◌, ◌≤◌, ◌∷◌, length, take, drop};
+ghost use Rattle.buffa_bytes.specs.Unread.{IsChunkOf};
+
+use crate::buf::Buf;
+
+/// The first `limit` bytes of a buffer, which stays lent meanwhile.
+///
+/// What lies past the limit is out of reach of every reader: the contracts over a [`Buf`] say that it is
+/// kept, whatever is read and however that ends. A limit may be set within a limit.
+///
+/// ```ignore
+/// let mut front = Limited::new(&mut rest, 3);
+/// let number = decode_varint(&mut front)?;
+/// front.finish(); // `rest` is past the three bytes
+/// ```
+#[derive(Drop)]
+pub struct Limited<'a, B> {
+    inner: &'a mut B,
+    limit: usize,
+}
+
+impl<'a, B: Buf> Limited<'a, B> {
+    /// Lends the first `limit` bytes, which have to be there.
+    pub fn new(inner: &'a mut B, limit: usize) -> Limited<'a, B>
+        requires { limit ≤ length (B.unread inner.old) }
+        ensures same_reference { result.inner.ghost_name ≡ inner.entry.ghost_name }
+        ensures inner { result.inner.now ≡ inner.old }
+        ensures limit { result.limit ≡ limit }
+    {
+        Limited { inner, limit }
+    }
+}
+
+impl<B: Buf> Limited<'_, B> {
+    /// Passes over what is left within the limit, and ends the loan.
+    #[tactic(auto, using(crate::proofs::LimitLemmas::drop_min))]
+    pub fn finish(self)
+        ensures rest { B.unread self.exit.0.now ≡ drop self.entry.limit (B.unread self.entry.inner.now) }
+        ensures kept { B.kept self.exit.0.now ≡ B.kept self.entry.inner.now }
+    {
+        let Limited { inner, limit } = self;
+        let left = inner.remaining().min(limit);
+        inner.advance(left);
+    }
+}
+
+impl<B: Buf> Buf for Limited<'_, B> {
+    ghost unread = { λ s. take s.limit (B.unread s.inner.now) };
+
+    ghost kept = { λ s. (s.inner.ghost_name, drop s.limit (B.unread s.inner.now)) ∷ B.kept s.inner.now };
+
+    fn remaining(&self) -> usize {
+        self.inner.remaining().min(self.limit)
+    }
+
+    fn chunk(&self) -> &[u8] {
+        let chunk = self.inner.chunk();
+        &chunk[..chunk.len().min(self.limit)]
+    }
+
+    fn advance(&mut self, n: usize) {
+        self.inner.advance(n);
+        self.limit -= n;
+    }
+}

@@ -1,0 +1,166 @@
+//! Scalars of four and of eight bytes, the lowest first.
+
+ghost use Rattle.std.specs.Prelude.{◌≡◌, length};
+ghost use Rattle.buffa_bytes.specs.Gives.{Gives};
+ghost use Rattle.buffa_bytes.specs.Reading.{taken};
+ghost use Rattle.buffa_bytes.specs.Scalars.{fixed32_at, fixed32_text, fixed64_at, fixed64_text, sfixed32_at, sfixed32_text, sfixed64_at, sfixed64_text};
+ghost use Rattle.buffa_bytes.specs.Written.{Writes};
+
+use crate::buf::Buf;
+use crate::error::{DecodeError, EncodeError};
+use crate::sink::EncodeSink;
+
+/// The length of a fixed32's and an sfixed32's text, in bytes.
+pub const FIXED32_ENCODED_LEN: usize = 4;
+
+/// The length of a fixed64's and an sfixed64's text, in bytes.
+pub const FIXED64_ENCODED_LEN: usize = 8;
+
+// Fills `bytes` with the first bytes of the buffer.
+#[tactic(auto, unfolding(crate::specs::Reading::taken))]
+fn take_into<B: Buf>(buf: &mut B, bytes: &mut [u8]) -> Result<(), DecodeError>
+    ensures reads { Gives (λ _. (bytes.new, B.unread buf.new)) result (taken (length bytes.old) (B.unread buf.old)) }
+    ensures kept { B.kept buf.new ≡ B.kept buf.old }
+{
+    if buf.remaining() < bytes.len() {
+        return Err(DecodeError::UnexpectedEof);
+    }
+    let mut at = 0;
+    while at < bytes.len() {
+        let chunk = buf.chunk();
+        let part = chunk.len().min(bytes.len() - at);
+        bytes[at..at + part].copy_from_slice(&chunk[..part]);
+        buf.advance(part);
+        at += part;
+    }
+    Ok(())
+}
+
+/// Writes a fixed32: four bytes, the lowest first. Source: the protobuf encoding guide, "Non-varint
+/// Numbers".
+///
+/// # Errors
+/// [`EncodeError::OutOfMemory`] alone, after a beginning of the text.
+///
+/// ```ignore
+/// encode_fixed32(1, &mut text)?; // 01 00 00 00
+/// ```
+pub fn encode_fixed32<S: EncodeSink>(value: u32, sink: &mut S) -> Result<(), EncodeError>
+    ensures { Writes result (S.written sink.old) (fixed32_text value) (S.written sink.new) }
+{
+    sink.put_slice(&value.to_le_bytes())
+}
+
+/// Reads a fixed32: four bytes, the lowest first.
+///
+/// # Errors
+/// [`DecodeError::UnexpectedEof`] where fewer bytes are left. It takes no memory.
+///
+/// ```ignore
+/// let mut rest: &[u8] = &[1, 0, 0, 0];
+/// let one = decode_fixed32(&mut rest)?;
+/// ```
+pub fn decode_fixed32<B: Buf>(buf: &mut B) -> Result<u32, DecodeError>
+    ensures reads { Gives (λ v. (v, B.unread buf.new)) result (fixed32_at (B.unread buf.old)) }
+    ensures kept { B.kept buf.new ≡ B.kept buf.old }
+{
+    let mut bytes = [0; 4];
+    take_into(buf, &mut bytes)?;
+    Ok(u32::from_le_bytes(bytes))
+}
+
+/// Writes a fixed64: eight bytes, the lowest first.
+///
+/// # Errors
+/// [`EncodeError::OutOfMemory`] alone, after a beginning of the text.
+///
+/// ```ignore
+/// encode_fixed64(1, &mut text)?; // 01 00 00 00 00 00 00 00
+/// ```
+pub fn encode_fixed64<S: EncodeSink>(value: u64, sink: &mut S) -> Result<(), EncodeError>
+    ensures { Writes result (S.written sink.old) (fixed64_text value) (S.written sink.new) }
+{
+    sink.put_slice(&value.to_le_bytes())
+}
+
+/// Reads a fixed64: eight bytes, the lowest first.
+///
+/// # Errors
+/// [`DecodeError::UnexpectedEof`] where fewer bytes are left. It takes no memory.
+///
+/// ```ignore
+/// let mut rest: &[u8] = &[1, 0, 0, 0, 0, 0, 0, 0];
+/// let one = decode_fixed64(&mut rest)?;
+/// ```
+pub fn decode_fixed64<B: Buf>(buf: &mut B) -> Result<u64, DecodeError>
+    ensures reads { Gives (λ v. (v, B.unread buf.new)) result (fixed64_at (B.unread buf.old)) }
+    ensures kept { B.kept buf.new ≡ B.kept buf.old }
+{
+    let mut bytes = [0; 8];
+    take_into(buf, &mut bytes)?;
+    Ok(u64::from_le_bytes(bytes))
+}
+
+/// Writes an sfixed32: four bytes in two's complement, the lowest first.
+///
+/// # Errors
+/// [`EncodeError::OutOfMemory`] alone, after a beginning of the text.
+///
+/// ```ignore
+/// encode_sfixed32(-1, &mut text)?; // FF FF FF FF
+/// ```
+pub fn encode_sfixed32<S: EncodeSink>(value: i32, sink: &mut S) -> Result<(), EncodeError>
+    ensures { Writes result (S.written sink.old) (sfixed32_text value) (S.written sink.new) }
+{
+    sink.put_slice(&value.to_le_bytes())
+}
+
+/// Reads an sfixed32: four bytes in two's complement, the lowest first.
+///
+/// # Errors
+/// [`DecodeError::UnexpectedEof`] where fewer bytes are left. It takes no memory.
+///
+/// ```ignore
+/// let mut rest: &[u8] = &[0xFF; 4];
+/// let minus_one = decode_sfixed32(&mut rest)?;
+/// ```
+pub fn decode_sfixed32<B: Buf>(buf: &mut B) -> Result<i32, DecodeError>
+    ensures reads { Gives (λ v. (v, B.unread buf.new)) result (sfixed32_at (B.unread buf.old)) }
+    ensures kept { B.kept buf.new ≡ B.kept buf.old }
+{
+    let mut bytes = [0; 4];
+    take_into(buf, &mut bytes)?;
+    Ok(i32::from_le_bytes(bytes))
+}
+
+/// Writes an sfixed64: eight bytes in two's complement, the lowest first.
+///
+/// # Errors
+/// [`EncodeError::OutOfMemory`] alone, after a beginning of the text.
+///
+/// ```ignore
+/// encode_sfixed64(-1, &mut text)?; // FF FF FF FF FF FF FF FF
+/// ```
+pub fn encode_sfixed64<S: EncodeSink>(value: i64, sink: &mut S) -> Result<(), EncodeError>
+    ensures { Writes result (S.written sink.old) (sfixed64_text value) (S.written sink.new) }
+{
+    sink.put_slice(&value.to_le_bytes())
+}
+
+/// Reads an sfixed64: eight bytes in two's complement, the lowest first.
+///
+/// # Errors
+/// [`DecodeError::UnexpectedEof`] where fewer bytes are left. It takes no memory.
+///
+/// ```ignore
+/// let mut rest: &[u8] = &[0xFF; 8];
+/// let minus_one = decode_sfixed64(&mut rest)?;
+/// ```
+pub fn decode_sfixed64<B: Buf>(buf: &mut B) -> Result<i64, DecodeError>
+    ensures reads { Gives (λ v. (v, B.unread buf.new)) result (sfixed64_at (B.unread buf.old)) }
+    ensures kept { B.kept buf.new ≡ B.kept buf.old }
+{
+    let mut bytes = [0; 8];
+    take_into(buf, &mut bytes)?;
+    Ok(i64::from_le_bytes(bytes))
+}

@@ -1,0 +1,301 @@
+//! Scalars that are varints.
+
+ghost use Rattle.std.specs.Prelude.{◌≡◌, length};
+ghost use Rattle.buffa_bytes.specs.Gives.{Gives};
+ghost use Rattle.buffa_bytes.specs.Scalars.{bool_at, bool_text, int32_at, int32_text, int64_at, int64_text, sint32_at, sint32_text, sint64_at, sint64_text, uint32_at, uint32_text, uint64_at, uint64_text};
+ghost use Rattle.buffa_bytes.specs.Written.{Writes};
+
+use crate::buf::Buf;
+use crate::error::{DecodeError, EncodeError};
+use crate::sink::EncodeSink;
+use crate::types::zigzag::{
+    zigzag_decode_i32, zigzag_decode_i64, zigzag_encode_i32, zigzag_encode_i64,
+};
+use crate::varint::{decode_varint, encode_varint, varint_len};
+
+/// The length of an int32's text: 1 to 5 bytes, or 10 for a negative one.
+///
+/// ```ignore
+/// let ten = int32_encoded_len(-1);
+/// ```
+pub fn int32_encoded_len(value: i32) -> usize
+    ensures { result ≡ length (int32_text value) }
+{
+    varint_len(i64::from(value).cast_unsigned())
+}
+
+/// Writes an int32: its 64-bit two's complement as a varint. Source: the protobuf encoding guide,
+/// "Signed Integers".
+///
+/// # Errors
+/// [`EncodeError::OutOfMemory`] alone, after a beginning of the text.
+///
+/// ```ignore
+/// encode_int32(-7, &mut text)?; // F9 FF FF FF FF FF FF FF FF 01
+/// ```
+pub fn encode_int32<S: EncodeSink>(value: i32, sink: &mut S) -> Result<(), EncodeError>
+    ensures { Writes result (S.written sink.old) (int32_text value) (S.written sink.new) }
+{
+    encode_varint(i64::from(value).cast_unsigned(), sink)
+}
+
+/// Reads an int32: the low 32 bits of a varint.
+///
+/// # Errors
+/// Those of a varint. It takes no memory.
+///
+/// ```ignore
+/// let mut rest: &[u8] = &[0x2A];
+/// let answer = decode_int32(&mut rest)?; // 42
+/// ```
+pub fn decode_int32<B: Buf>(buf: &mut B) -> Result<i32, DecodeError>
+    ensures reads { Gives (λ v. (v, B.unread buf.new)) result (int32_at (B.unread buf.old)) }
+    ensures kept { B.kept buf.new ≡ B.kept buf.old }
+{
+    let number = decode_varint(buf)?;
+    Ok(((number % (1 << 32)) as u32).cast_signed())
+}
+
+/// The length of an int64's text: 1 to 9 bytes, or 10 for a negative one.
+///
+/// ```ignore
+/// let ten = int64_encoded_len(-1);
+/// ```
+pub fn int64_encoded_len(value: i64) -> usize
+    ensures { result ≡ length (int64_text value) }
+{
+    varint_len(value.cast_unsigned())
+}
+
+/// Writes an int64: its two's complement as a varint. Source: the protobuf encoding guide,
+/// "Signed Integers".
+///
+/// # Errors
+/// [`EncodeError::OutOfMemory`] alone, after a beginning of the text.
+///
+/// ```ignore
+/// encode_int64(-7, &mut text)?; // F9 FF FF FF FF FF FF FF FF 01
+/// ```
+pub fn encode_int64<S: EncodeSink>(value: i64, sink: &mut S) -> Result<(), EncodeError>
+    ensures { Writes result (S.written sink.old) (int64_text value) (S.written sink.new) }
+{
+    encode_varint(value.cast_unsigned(), sink)
+}
+
+/// Reads an int64: a varint in two's complement.
+///
+/// # Errors
+/// Those of a varint. It takes no memory.
+///
+/// ```ignore
+/// let mut rest: &[u8] = &[0x2A];
+/// let answer = decode_int64(&mut rest)?; // 42
+/// ```
+pub fn decode_int64<B: Buf>(buf: &mut B) -> Result<i64, DecodeError>
+    ensures reads { Gives (λ v. (v, B.unread buf.new)) result (int64_at (B.unread buf.old)) }
+    ensures kept { B.kept buf.new ≡ B.kept buf.old }
+{
+    let number = decode_varint(buf)?;
+    Ok(number.cast_signed())
+}
+
+/// The length of a uint32's text: 1 to 5 bytes.
+///
+/// ```ignore
+/// let two = uint32_encoded_len(150);
+/// ```
+pub fn uint32_encoded_len(value: u32) -> usize
+    ensures { result ≡ length (uint32_text value) }
+{
+    varint_len(u64::from(value))
+}
+
+/// Writes a uint32: a varint.
+///
+/// # Errors
+/// [`EncodeError::OutOfMemory`] alone, after a beginning of the text.
+///
+/// ```ignore
+/// encode_uint32(150, &mut text)?; // 96 01
+/// ```
+pub fn encode_uint32<S: EncodeSink>(value: u32, sink: &mut S) -> Result<(), EncodeError>
+    ensures { Writes result (S.written sink.old) (uint32_text value) (S.written sink.new) }
+{
+    encode_varint(u64::from(value), sink)
+}
+
+/// Reads a uint32: the low 32 bits of a varint.
+///
+/// # Errors
+/// Those of a varint. It takes no memory.
+///
+/// ```ignore
+/// let mut rest: &[u8] = &[0x96, 0x01];
+/// let number = decode_uint32(&mut rest)?; // 150
+/// ```
+pub fn decode_uint32<B: Buf>(buf: &mut B) -> Result<u32, DecodeError>
+    ensures reads { Gives (λ v. (v, B.unread buf.new)) result (uint32_at (B.unread buf.old)) }
+    ensures kept { B.kept buf.new ≡ B.kept buf.old }
+{
+    let number = decode_varint(buf)?;
+    Ok((number % (1 << 32)) as u32)
+}
+
+/// The length of a uint64's text: 1 to 10 bytes.
+///
+/// ```ignore
+/// let two = uint64_encoded_len(150);
+/// ```
+pub fn uint64_encoded_len(value: u64) -> usize
+    ensures { result ≡ length (uint64_text value) }
+{
+    varint_len(value)
+}
+
+/// Writes a uint64: a varint.
+///
+/// # Errors
+/// [`EncodeError::OutOfMemory`] alone, after a beginning of the text.
+///
+/// ```ignore
+/// encode_uint64(150, &mut text)?; // 96 01
+/// ```
+pub fn encode_uint64<S: EncodeSink>(value: u64, sink: &mut S) -> Result<(), EncodeError>
+    ensures { Writes result (S.written sink.old) (uint64_text value) (S.written sink.new) }
+{
+    encode_varint(value, sink)
+}
+
+/// Reads a uint64: a varint.
+///
+/// # Errors
+/// Those of a varint. It takes no memory.
+///
+/// ```ignore
+/// let mut rest: &[u8] = &[0x96, 0x01];
+/// let number = decode_uint64(&mut rest)?; // 150
+/// ```
+pub fn decode_uint64<B: Buf>(buf: &mut B) -> Result<u64, DecodeError>
+    ensures reads { Gives (λ v. (v, B.unread buf.new)) result (uint64_at (B.unread buf.old)) }
+    ensures kept { B.kept buf.new ≡ B.kept buf.old }
+{
+    decode_varint(buf)
+}
+
+/// The length of a sint32's text: 1 to 5 bytes.
+///
+/// ```ignore
+/// let one = sint32_encoded_len(-1);
+/// ```
+pub fn sint32_encoded_len(value: i32) -> usize
+    ensures { result ≡ length (sint32_text value) }
+{
+    varint_len(u64::from(zigzag_encode_i32(value)))
+}
+
+/// Writes a sint32: its zigzag as a varint.
+///
+/// # Errors
+/// [`EncodeError::OutOfMemory`] alone, after a beginning of the text.
+///
+/// ```ignore
+/// encode_sint32(-2, &mut text)?; // 03
+/// ```
+pub fn encode_sint32<S: EncodeSink>(value: i32, sink: &mut S) -> Result<(), EncodeError>
+    ensures { Writes result (S.written sink.old) (sint32_text value) (S.written sink.new) }
+{
+    encode_varint(u64::from(zigzag_encode_i32(value)), sink)
+}
+
+/// Reads a sint32: the zigzag in the low 32 bits of a varint.
+///
+/// # Errors
+/// Those of a varint. It takes no memory.
+///
+/// ```ignore
+/// let mut rest: &[u8] = &[3];
+/// let minus_two = decode_sint32(&mut rest)?;
+/// ```
+pub fn decode_sint32<B: Buf>(buf: &mut B) -> Result<i32, DecodeError>
+    ensures reads { Gives (λ v. (v, B.unread buf.new)) result (sint32_at (B.unread buf.old)) }
+    ensures kept { B.kept buf.new ≡ B.kept buf.old }
+{
+    let number = decode_varint(buf)?;
+    Ok(zigzag_decode_i32((number % (1 << 32)) as u32))
+}
+
+/// The length of a sint64's text: 1 to 10 bytes.
+///
+/// ```ignore
+/// let one = sint64_encoded_len(-1);
+/// ```
+pub fn sint64_encoded_len(value: i64) -> usize
+    ensures { result ≡ length (sint64_text value) }
+{
+    varint_len(zigzag_encode_i64(value))
+}
+
+/// Writes a sint64: its zigzag as a varint.
+///
+/// # Errors
+/// [`EncodeError::OutOfMemory`] alone, after a beginning of the text.
+///
+/// ```ignore
+/// encode_sint64(-2, &mut text)?; // 03
+/// ```
+pub fn encode_sint64<S: EncodeSink>(value: i64, sink: &mut S) -> Result<(), EncodeError>
+    ensures { Writes result (S.written sink.old) (sint64_text value) (S.written sink.new) }
+{
+    encode_varint(zigzag_encode_i64(value), sink)
+}
+
+/// Reads a sint64: the zigzag in a varint.
+///
+/// # Errors
+/// Those of a varint. It takes no memory.
+///
+/// ```ignore
+/// let mut rest: &[u8] = &[3];
+/// let minus_two = decode_sint64(&mut rest)?;
+/// ```
+pub fn decode_sint64<B: Buf>(buf: &mut B) -> Result<i64, DecodeError>
+    ensures reads { Gives (λ v. (v, B.unread buf.new)) result (sint64_at (B.unread buf.old)) }
+    ensures kept { B.kept buf.new ≡ B.kept buf.old }
+{
+    let number = decode_varint(buf)?;
+    Ok(zigzag_decode_i64(number))
+}
+
+/// The length of a bool's text, in bytes.
+pub const BOOL_ENCODED_LEN: usize = 1;
+
+/// Writes a bool: 1 for true, 0 for false. Source: the protobuf encoding guide, "Bools and Enums".
+///
+/// # Errors
+/// [`EncodeError::OutOfMemory`] alone, after a beginning of the text.
+///
+/// ```ignore
+/// encode_bool(true, &mut text)?; // 01
+/// ```
+pub fn encode_bool<S: EncodeSink>(value: bool, sink: &mut S) -> Result<(), EncodeError>
+    ensures { Writes result (S.written sink.old) (bool_text value) (S.written sink.new) }
+{
+    encode_varint(u64::from(value), sink)
+}
+
+/// Reads a bool: a varint of which anything but 0 is true.
+///
+/// # Errors
+/// Those of a varint. It takes no memory.
+///
+/// ```ignore
+/// let mut rest: &[u8] = &[1];
+/// let yes = decode_bool(&mut rest)?;
+/// ```
+pub fn decode_bool<B: Buf>(buf: &mut B) -> Result<bool, DecodeError>
+    ensures reads { Gives (λ v. (v, B.unread buf.new)) result (bool_at (B.unread buf.old)) }
+    ensures kept { B.kept buf.new ≡ B.kept buf.old }
+{
+    let number = decode_varint(buf)?;
+    Ok(number != 0)
+}

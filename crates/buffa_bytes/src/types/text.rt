@@ -1,0 +1,104 @@
+//! Strings and bytes: a length and so many bytes.
+
+ghost use Rattle.std.specs.Prelude.{◌≡◌, length, string_bytes};
+ghost use Rattle.buffa_bytes.specs.Gives.{GivesUnlessFull};
+ghost use Rattle.buffa_bytes.specs.Reading.{delimited_at};
+ghost use Rattle.buffa_bytes.specs.Values.{delimited_text, string_at};
+ghost use Rattle.buffa_bytes.specs.Written.{Writes};
+
+use crate::buf::{Buf, copy_bytes};
+use crate::error::{DecodeError, EncodeError};
+use crate::sink::EncodeSink;
+use crate::varint::{decode_varint, encode_varint, varint_len};
+use std::alloc::Global;
+
+/// The length of a string's text: the length varint and the bytes.
+///
+/// ```ignore
+/// let four = string_encoded_len("bee");
+/// ```
+pub fn string_encoded_len(value: &str) -> usize
+    ensures { result ≡ length (delimited_text value.now) }
+{
+    bytes_encoded_len(value.as_bytes())
+}
+
+/// Writes a string: the length as a varint, and the bytes.
+///
+/// # Errors
+/// [`EncodeError::OutOfMemory`] alone, after a beginning of the text.
+///
+/// ```ignore
+/// encode_string("bee", &mut text)?; // 03 62 65 65
+/// ```
+pub fn encode_string<S: EncodeSink>(value: &str, sink: &mut S) -> Result<(), EncodeError>
+    ensures { Writes result (S.written sink.old) (delimited_text value.now) (S.written sink.new) }
+{
+    encode_bytes(value.as_bytes(), sink)
+}
+
+/// Reads a string: a length varint and so many bytes of UTF-8.
+///
+/// # Errors
+/// In this order: those of a varint, [`DecodeError::UnexpectedEof`] where the length passes what is
+/// left, [`DecodeError::InvalidUtf8`]; or [`DecodeError::OutOfMemory`].
+///
+/// ```ignore
+/// let mut rest: &[u8] = &[3, b'b', b'e', b'e'];
+/// let bee = decode_string(alloc, &mut rest)?;
+/// ```
+pub fn decode_string<B: Buf>(alloc: Global, buf: &mut B) -> Result<String, DecodeError>
+    ensures reads { GivesUnlessFull (λ s. (string_bytes s, B.unread buf.new)) result (string_at (B.unread buf.old)) }
+    ensures kept { B.kept buf.new ≡ B.kept buf.old }
+{
+    let bytes = decode_bytes(alloc, buf)?;
+    match String::from_utf8(bytes) {
+        Ok(text) => Ok(text),
+        Err(_) => Err(DecodeError::InvalidUtf8),
+    }
+}
+
+/// The length of a bytes value's text: the length varint and the bytes.
+///
+/// ```ignore
+/// let three = bytes_encoded_len(&[0xDE, 0xAD]);
+/// ```
+pub fn bytes_encoded_len(value: &[u8]) -> usize
+    ensures { result ≡ length (delimited_text value.now) }
+{
+    varint_len(value.len() as u64) + value.len()
+}
+
+/// Writes bytes: the length as a varint, and the bytes.
+///
+/// # Errors
+/// [`EncodeError::OutOfMemory`] alone, after a beginning of the text.
+///
+/// ```ignore
+/// encode_bytes(&[0xDE, 0xAD], &mut text)?; // 02 DE AD
+/// ```
+#[tactic(auto, using(crate::proofs::SinkLemmas::writes_then, crate::proofs::SinkLemmas::front_first))]
+pub fn encode_bytes<S: EncodeSink>(value: &[u8], sink: &mut S) -> Result<(), EncodeError>
+    ensures { Writes result (S.written sink.old) (delimited_text value.now) (S.written sink.new) }
+{
+    encode_varint(value.len() as u64, sink)?;
+    sink.put_slice(value)
+}
+
+/// Reads bytes: a length varint and so many bytes.
+///
+/// # Errors
+/// In this order: those of a varint, [`DecodeError::UnexpectedEof`] where the length passes what is left;
+/// or [`DecodeError::OutOfMemory`].
+///
+/// ```ignore
+/// let mut rest: &[u8] = &[2, 0xDE, 0xAD];
+/// let dead = decode_bytes(alloc, &mut rest)?;
+/// ```
+pub fn decode_bytes<B: Buf>(alloc: Global, buf: &mut B) -> Result<Vec<u8>, DecodeError>
+    ensures reads { GivesUnlessFull (λ v. (v.items, B.unread buf.new)) result (delimited_at (B.unread buf.old)) }
+    ensures kept { B.kept buf.new ≡ B.kept buf.old }
+{
+    let len = decode_varint(buf)?;
+    copy_bytes(alloc, buf, len)
+}
