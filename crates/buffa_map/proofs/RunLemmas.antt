@@ -1,6 +1,6 @@
 -- Records one after another: what is read of them, and the grammar; and what they mean.
-use Rattle.std.proofs.Common.{◌≡◌, ◌≢◌, inl, inr, ℕ, ◌+◌, ◌*◌, ◌==◌, nat_eq, ◌<◌, ◌≤◌, Bool, true, false, cond, List, [], ◌∷◌, ◌++◌, length, Result, Ok, Err, refl, sym, ap, subst, ◌∙◌, arith, append_assoc, append-nil, length-append, if◌then◌else◌}
-use Rattle.std.proofs.lemmas.Bool.{eqb-true, eqb-false, eq-eqb, ne_eqb}
+use Rattle.std.proofs.Common.{◌≡◌, ◌≢◌, inl, inr, ℕ, ◌+◌, ◌-◌, ◌*◌, ◌==◌, nat_eq, nat_lt, ◌<◌, ◌≤◌, Bool, true, false, cond, List, [], ◌∷◌, ◌++◌, length, Result, Ok, Err, refl, sym, ap, subst, ◌∙◌, arith, append_assoc, append-nil, length-append, if◌then◌else◌}
+use Rattle.std.proofs.lemmas.Bool.{eqb-true, eqb-false, eq-eqb, ne_eqb, lt-ltb, le-ltb, ltb-true, ltb-false}
 use Rattle.std.specs.Cmp.{IsEquivalence}
 use Rattle.buffa_wire.specs.Gives.{◌>>=◌}
 use Rattle.buffa_wire.specs.Varint.{Var}
@@ -17,7 +17,7 @@ use Rattle.buffa_map.specs.Along.{join, Along, Leads, Stops}
 use Rattle.buffa_map.specs.Codec.{Reading}
 use Rattle.buffa_map.specs.Entry.{IsEntry, FaultOf, EntryAt, EntryFault, entry_of}
 use Rattle.buffa_map.specs.Pairs.{put, SamePairs}
-use Rattle.buffa_map.specs.Run.{Said, IsRecord, Run, RecordFault, RunFault, said_at, next_said, run_of, step, Fold}
+use Rattle.buffa_map.specs.Run.{Said, IsRecord, Run, RunBegins, RecordFault, RunFault, said_at, next_said, run_of, step, Fold}
 use Rattle.buffa_map.specs.declared.parts.Parts.{Parts}
 use Rattle.buffa_map.proofs.AlongLemmas.{along_sound, along_complete, along_faulty}
 use Rattle.buffa_map.proofs.EntryLemmas.{check_sound, check_same, check_differs, entry_sound, entry_complete, entry_faulty}
@@ -71,95 +71,115 @@ module _ {K V : Type 0} (key : Reading K) (val : Reading V) (d n : ℕ) where
   entry_falls bs s rest (l, e, v, is, entry) = omega (arith, ap length is, length-append l (e ++ rest), length-append e rest)
 
   -- ---- the reading
-  abbrev pub SaidAt : List ℕ → Said K V × List ℕ → Type 0
-  SaidAt bs x = (r : List ℕ) × IsRecord key val d n r x.0 × (bs ≡ r ++ x.1)
+  module _ (cost left : ℕ) where
+    -- the record at the front, and what was paid for it
+    abbrev pub SaidAt : List ℕ → Said K V × List ℕ → Type 0
+    SaidAt bs x = (r : List ℕ) × IsRecord key val d n r x.0 × (bs ≡ r ++ x.1) × (cost ≤ left)
 
-  pub said_sound : (bs : List ℕ) → Agrees (said_at key val d n bs) (SaidAt bs) (RecordFault key val d n 0 0 bs)
-  said_sound bs = agree_bind (tag_sound bs)
-      (λ t u. agree_if (t.0 == n)
-      (λ same. let is : t.0 ≡ n = eqb-true t.0 n same in
-      agree_bind (check_sound n LengthDelimited t.1)
-      (λ _ wire. agree_bind (delimited_sound t.2)
-      (λ e b. agree_bind (entry_sound key val d e.0)
-      (λ s entry. record {
-        holds = (
-          u.0 ++ (b.0 ++ e.0),
-          (u.0, b.0, (let tag : IsTag u.0 t.0 t.1 = u.1 in subst (λ f. IsTag u.0 f LengthDelimited) is (subst (λ z. IsTag u.0 t.0 z) wire tag)), b.1, refl, entry),
-          u.2 ∙ ap (λ z. u.0 ++ z) (b.2 ∙ sym (append_assoc b.0 e.0 e.1)) ∙ sym (append_assoc u.0 (b.0 ++ e.0) e.1),
-        );
-      })
-      (λ f broken. inr (inr (inr (t.2, (let w : TakesTag bs t.0 t.1 t.2 = u in subst (λ z. TakesTag bs z LengthDelimited t.2) is (subst (λ z. TakesTag bs t.0 z t.2) wire w)), inr (b.0, e.0, e.1, b.1, b.2, inr (omega arith, broken)))))))
-      (λ f short. inr (inr (inr (t.2, (let w : TakesTag bs t.0 t.1 t.2 = u in subst (λ z. TakesTag bs z LengthDelimited t.2) is (subst (λ z. TakesTag bs t.0 z t.2) wire w)), inl short)))))
-      (λ f bad. inr (inr (inl (t.1, t.2, (let w : TakesTag bs t.0 t.1 t.2 = u in subst (λ z. TakesTag bs z t.1 t.2) is w), bad.0, bad.1)))))
-      (λ other. record { holds = inr (inl (t.0, t.1, t.2, u, eqb-false t.0 n other, refl)) }))
-      (λ f h. inl h)
+    retag : (bs rest : List ℕ) (g : ℕ) (w : WireType) → TakesTag bs g w rest → g ≡ n → w ≡ LengthDelimited → TakesTag bs n LengthDelimited rest
+    retag bs rest g w u is wire = subst (λ z. TakesTag bs z LengthDelimited rest) is (subst (λ z. TakesTag bs g z rest) wire u)
 
-  pub said_complete : (r rest : List ℕ) (x : Said K V) → IsRecord key val d n r x → said_at key val d n (r ++ rest) ≡ Ok (x, rest)
-  said_complete r rest x (t, l, tag, v, e, entry) =
-      let split : r ++ rest ≡ t ++ (l ++ (x.bytes ++ rest)) = ap (λ z. z ++ rest) e ∙ append_assoc t (l ++ x.bytes) rest ∙ ap (λ z. t ++ z) (append_assoc l x.bytes rest) in
-      rw (split, tag_complete t n LengthDelimited (l ++ (x.bytes ++ rest)) tag, eq-eqb n n refl, delimited_complete l x.bytes rest v, entry_complete key val d x.bytes x.parts entry) refl
+    pub said_sound : (bs : List ℕ) → Agrees (said_at key val d n cost left bs) (SaidAt bs) (RecordFault key val d n cost left bs)
+    said_sound bs = agree_bind (tag_sound bs)
+        (λ t u. agree_if (t.0 == n)
+          (λ same. let is : t.0 ≡ n = eqb-true t.0 n same in
+            agree_bind (check_sound n LengthDelimited t.1)
+            (λ _ wire. agree_bind (delimited_sound t.2)
+              (λ e b. agree_if (nat_lt left cost)
+                (λ few. record { holds = inr (inr (inr (t.2, retag bs t.2 t.0 t.1 u is wire, inr (b.0, e.0, e.1, b.1, b.2, inl (ltb-true left cost few, refl))))) })
+                (λ many. agree_bind (entry_sound key val d e.0)
+                  (λ s entry. let tag = retag bs t.2 t.0 t.1 u is wire in record { holds = (
+                    tag.0 ++ (b.0 ++ e.0),
+                    (tag.0, b.0, tag.1, b.1, refl, entry),
+                    tag.2 ∙ ap (λ z. tag.0 ++ z) (b.2 ∙ sym (append_assoc b.0 e.0 e.1)) ∙ sym (append_assoc tag.0 (b.0 ++ e.0) e.1),
+                    ltb-false left cost many) })
+                  (λ f broken. inr (inr (inr (t.2, retag bs t.2 t.0 t.1 u is wire, inr (b.0, e.0, e.1, b.1, b.2, inr (ltb-false left cost many, broken))))))))
+              (λ f short. inr (inr (inr (t.2, retag bs t.2 t.0 t.1 u is wire, inl short)))))
+            (λ f bad. inr (inr (inl (t.1, t.2, subst (λ z. TakesTag bs z t.1 t.2) is u, bad.0, bad.1)))))
+          (λ other. record { holds = inr (inl (t.0, t.1, t.2, u, eqb-false t.0 n other, refl)) }))
+        (λ f h. inl h)
 
-  tag_read : (bs rest : List ℕ) (g : ℕ) (w : WireType) → TakesTag bs g w rest → tag_at bs ≡ Ok (g, w, rest)
-  tag_read bs rest g w (t, is_tag, e) = ap tag_at e ∙ tag_complete t g w rest is_tag
+    pub said_complete : (r rest : List ℕ) (x : Said K V) → cost ≤ left → IsRecord key val d n r x → said_at key val d n cost left (r ++ rest) ≡ Ok (x, rest)
+    said_complete r rest x many (t, l, tag, v, e, entry) =
+        let split : r ++ rest ≡ t ++ (l ++ (x.bytes ++ rest)) = ap (λ z. z ++ rest) e ∙ append_assoc t (l ++ x.bytes) rest ∙ ap (λ z. t ++ z) (append_assoc l x.bytes rest) in
+        rw (split, tag_complete t n LengthDelimited (l ++ (x.bytes ++ rest)) tag, eq-eqb n n refl, delimited_complete l x.bytes rest v, le-ltb left cost many, entry_complete key val d x.bytes x.parts entry) refl
 
-  pub said_faulty : (bs : List ℕ) (f : DecodeError) → RecordFault key val d n 0 0 bs f → said_at key val d n bs ≡ Err f
-  said_faulty bs f (inl h) = rw (tag_faulty bs f h) refl
-  said_faulty bs f (inr (inl (g, w, rest, t, other, is))) = rw (tag_read bs rest g w t, ne_eqb g n other) (ap (λ z. Err z) (sym is))
-  said_faulty bs f (inr (inr (inl (w, rest, t, other, is)))) = rw (tag_read bs rest n w t, eq-eqb n n refl, check_differs n LengthDelimited w other) (ap (λ z. Err z) (sym is))
-  said_faulty bs f (inr (inr (inr (rest, t, inl h)))) = rw (tag_read bs rest n LengthDelimited t, eq-eqb n n refl, delimited_faulty rest f h) refl
-  said_faulty bs f (inr (inr (inr (rest, t, inr (l, e, more, v, is, inl h))))) = absurd (omega (arith, h.0))
-  said_faulty bs f (inr (inr (inr (rest, t, inr (l, e, more, v, is, inr h))))) =
-      rw (tag_read bs rest n LengthDelimited t, eq-eqb n n refl, ap delimited_at is ∙ delimited_complete l e more v, entry_faulty key val d e f h.1) refl
+    tag_read : (bs rest : List ℕ) (g : ℕ) (w : WireType) → TakesTag bs g w rest → tag_at bs ≡ Ok (g, w, rest)
+    tag_read bs rest g w (t, is_tag, e) = ap tag_at e ∙ tag_complete t g w rest is_tag
 
-  -- a run as pieces that make a list longer
-  abbrev Longer : List (Said K V) → List ℕ → List (Said K V) → Type 0
-  Longer es r fs = (x : Said K V) × IsRecord key val d n r x × (fs ≡ es ++ x ∷ [])
-
-  abbrev Broken : List (Said K V) → List ℕ → DecodeError → Type 0
-  Broken es bs f = RecordFault key val d n 0 0 bs f
-
-  next_sound : (es : List (Said K V)) (bs : List ℕ) → Agrees (next_said key val d n es bs) (λ x. (r : List ℕ) × Longer es r x.0 × (bs ≡ r ++ x.1)) (Broken es bs)
-  next_sound es bs = agree_bind (said_sound bs) (λ x h. record { holds = (h.0, (x.0, h.1, refl), h.2) }) (λ f h. h)
-
-  next_complete : (es fs : List (Said K V)) (r rest : List ℕ) → Longer es r fs → next_said key val d n es (r ++ rest) ≡ Ok (fs, rest)
-  next_complete es fs r rest (x, h, e) = rw (said_complete r rest x h) (ap (λ z. Ok (z, rest)) (sym e))
-
-  next_faulty : (es : List (Said K V)) (bs : List ℕ) (f : DecodeError) → Broken es bs f → next_said key val d n es bs ≡ Err f
-  next_faulty es bs f h = rw (said_faulty bs f h) refl
+    pub said_faulty : (bs : List ℕ) (f : DecodeError) → RecordFault key val d n cost left bs f → said_at key val d n cost left bs ≡ Err f
+    said_faulty bs f (inl h) = rw (tag_faulty bs f h) refl
+    said_faulty bs f (inr (inl (g, w, rest, t, other, is))) = rw (tag_read bs rest g w t, ne_eqb g n other) (ap (λ z. Err z) (sym is))
+    said_faulty bs f (inr (inr (inl (w, rest, t, other, is)))) = rw (tag_read bs rest n w t, eq-eqb n n refl, check_differs n LengthDelimited w other) (ap (λ z. Err z) (sym is))
+    said_faulty bs f (inr (inr (inr (rest, t, inl h)))) = rw (tag_read bs rest n LengthDelimited t, eq-eqb n n refl, delimited_faulty rest f h) refl
+    said_faulty bs f (inr (inr (inr (rest, t, inr (l, e, more, v, is, inl h))))) =
+        rw (tag_read bs rest n LengthDelimited t, eq-eqb n n refl, ap delimited_at is ∙ delimited_complete l e more v, lt-ltb left cost h.0) (ap (λ z. Err z) (sym h.1))
+    said_faulty bs f (inr (inr (inr (rest, t, inr (l, e, more, v, is, inr h))))) =
+        rw (tag_read bs rest n LengthDelimited t, eq-eqb n n refl, ap delimited_at is ∙ delimited_complete l e more v, le-ltb left cost h.0, entry_faulty key val d e f h.1) refl
 
   record_some : (r : List ℕ) (x : Said K V) → IsRecord key val d n r x → 0 < length r
   record_some r x (t, l, tag, v, e, entry) = omega (arith, tag_some t n LengthDelimited tag, ap length e, length-append t (l ++ x.bytes))
 
-  next_some : (es fs : List (Said K V)) (r : List ℕ) → Longer es r fs → 0 < length r
-  next_some es fs r (x, h, e) = record_some r x h
+  -- a run as pieces that make a list longer, and pay
+  module _ (cost : ℕ) where
+    abbrev Paid : Type 0
+    Paid = List (Said K V) × ℕ
 
-  -- pieces that lead from one list to another are a run of what was added
-  run_of_pieces : (ps : List (List ℕ)) (es fs : List (Said K V)) → Along Longer es ps fs → (xs : List (Said K V)) × Run key val d n (join ps) xs × (fs ≡ es ++ xs)
-  run_of_pieces [] es fs h = ([], refl, sym h ∙ sym (append-nil es))
-  run_of_pieces (p ∷ ps) es fs (gs, (x, m, e), h) =
-      let i = run_of_pieces ps gs fs h in
-      (x ∷ i.0, (p, join ps, m, refl, i.1), i.2 ∙ ap (λ z. z ++ i.0) e ∙ append_assoc es (x ∷ []) i.0)
+    abbrev Longer : Paid → List ℕ → Paid → Type 0
+    Longer s r t = (x : Said K V) × IsRecord key val d n r x × (t.0 ≡ s.0 ++ x ∷ []) × (t.1 + cost ≡ s.1)
 
-  pieces_of_run : (b : List ℕ) (es xs : List (Said K V)) → Run key val d n b xs → (ps : List (List ℕ)) × (b ≡ join ps) × Along Longer es ps (es ++ xs)
-  pieces_of_run b es [] h = ([], h, sym (append-nil es))
-  pieces_of_run b es (x ∷ xs) (r, rest, m, e, h) =
-      let i = pieces_of_run rest (es ++ x ∷ []) xs h in
-      (r ∷ i.0, e ∙ ap (λ z. r ++ z) i.1, (es ++ x ∷ [], (x, m, refl), subst (λ z. Along Longer (es ++ x ∷ []) i.0 z) (append_assoc es (x ∷ []) xs) i.2))
+    abbrev Broken : Paid → List ℕ → DecodeError → Type 0
+    Broken s bs f = RecordFault key val d n cost s.1 bs f
 
-  pub run_sound : (bs : List ℕ) → Agrees (run_of key val d n bs) (Run key val d n bs) (RunFault key val d n bs)
-  run_sound bs = agree_weaker (along_sound Longer (next_said key val d n) Broken next_sound next_complete next_faulty next_some [] bs)
-      (λ fs h. let i = run_of_pieces h.0 [] fs h.2 in subst (λ z. Run key val d n bs z) (sym i.2) (subst (λ z. Run key val d n z i.0) (sym (h.1 ∙ append-nil (join h.0))) i.1))
-      (λ f h. let i = run_of_pieces h.2.0 [] h.0 h.2.2 in (join h.2.0, h.1, i.0, h.2.1, i.1, h.3, h.4))
+    next_sound : (s : Paid) (bs : List ℕ) → Agrees (next_said key val d n cost s bs) (λ x. (r : List ℕ) × Longer s r x.0 × (bs ≡ r ++ x.1)) (Broken s bs)
+    next_sound s bs = agree_bind (said_sound cost s.1 bs) (λ x h. record { holds = (h.0, (x.0, h.1, refl, omega (arith, h.3)), h.2) }) (λ f h. h)
 
-  pub run_complete : (bs : List ℕ) (es : List (Said K V)) → Run key val d n bs es → run_of key val d n bs ≡ Ok es
-  run_complete bs es h =
-      let i = pieces_of_run bs [] es h in
-      along_complete Longer (next_said key val d n) Broken next_sound next_complete next_faulty next_some [] es bs (i.0, i.1 ∙ sym (append-nil (join i.0)), i.2)
+    next_complete : (s t : Paid) (r rest : List ℕ) → Longer s r t → next_said key val d n cost s (r ++ rest) ≡ Ok (t, rest)
+    next_complete s t r rest (x, h, e, paid) =
+        let over : s.1 - cost ≡ t.1 = omega arith in
+        let same : (let made : Paid = (s.0 ++ x ∷ [], s.1 - cost) in made ≡ t) = (λ i. (sym e i, over i)) in
+        rw (said_complete cost s.1 r rest x (omega arith) h) (ap (λ z. Ok (z, rest)) same)
 
-  pub run_faulty : (bs : List ℕ) (f : DecodeError) → RunFault key val d n bs f → run_of key val d n bs ≡ Err f
-  run_faulty bs f (front, rest, es, e, h, some, broken) =
-      let i = pieces_of_run front [] es h in
-      along_faulty Longer (next_said key val d n) Broken next_sound next_complete next_faulty next_some [] bs f (es, rest, (i.0, e ∙ ap (λ z. z ++ rest) i.1, i.2), some, broken)
+    next_faulty : (s : Paid) (bs : List ℕ) (f : DecodeError) → Broken s bs f → next_said key val d n cost s bs ≡ Err f
+    next_faulty s bs f h = rw (said_faulty cost s.1 bs f h) refl
+
+    next_some : (s t : Paid) (r : List ℕ) → Longer s r t → 0 < length r
+    next_some s t r (x, h, e, paid) = record_some r x h
+
+    -- pieces that lead from one list to another are a run of what was added
+    run_of_pieces : (ps : List (List ℕ)) (s t : Paid) → Along Longer s ps t → (xs : List (Said K V)) × Run key val d n (join ps) xs × (t.0 ≡ s.0 ++ xs) × (t.1 + length xs * cost ≡ s.1)
+    run_of_pieces [] s t h = ([], refl, sym (ap (λ z. z.0) h) ∙ sym (append-nil s.0), omega (arith, ap (λ z. z.1) h))
+    run_of_pieces (p ∷ ps) s t (u, (x, m, e, paid), h) =
+        let i = run_of_pieces ps u t h in
+        (x ∷ i.0, (p, join ps, m, refl, i.1), i.2 ∙ ap (λ z. z ++ i.0) e ∙ append_assoc s.0 (x ∷ []) i.0, omega (arith, i.3, paid))
+
+    pieces_of_run : (b : List ℕ) (s : Paid) (xs : List (Said K V)) (over : ℕ) → Run key val d n b xs → over + length xs * cost ≡ s.1 → (ps : List (List ℕ)) × (b ≡ join ps) × Along Longer s ps (s.0 ++ xs, over)
+    pieces_of_run b s [] over h paid = ([], h, (λ i. (sym (append-nil s.0) i, (let same : s.1 ≡ over = omega arith in same) i)))
+    pieces_of_run b s (x ∷ xs) over (r, rest, m, e, h) paid =
+        let u : Paid = (s.0 ++ x ∷ [], over + length xs * cost) in
+        let i = pieces_of_run rest u xs over h refl in
+        (r ∷ i.0, e ∙ ap (λ z. r ++ z) i.1, (u, (x, m, refl, omega (arith, paid)), subst (λ z. Along Longer u i.0 (z, over)) (append_assoc s.0 (x ∷ []) xs) i.2))
+
+    -- what a whole run says, and what is over
+    abbrev pub WholeRun : ℕ → List ℕ → Paid → Type 0
+    WholeRun left bs t = Run key val d n bs t.0 × (t.1 + length t.0 * cost ≡ left)
+
+    pub run_sound : (left : ℕ) (bs : List ℕ) → Agrees (run_of key val d n cost left bs) (WholeRun left bs) (RunFault key val d n cost left bs)
+    run_sound left bs = agree_weaker (along_sound Longer (next_said key val d n cost) Broken next_sound next_complete next_faulty next_some ([], left) bs)
+        (λ t h. let i = run_of_pieces h.0 ([], left) t h.2 in
+          (subst (λ z. Run key val d n bs z) (sym i.2) (subst (λ z. Run key val d n z i.0) (sym (h.1 ∙ append-nil (join h.0))) i.1), ap (λ z. t.1 + length z * cost) i.2 ∙ i.3))
+        (λ f h. let i = run_of_pieces h.2.0 ([], left) h.0 h.2.2 in
+          (i.0, h.1, h.0.1, (join h.2.0, h.2.1, i.1, i.3), h.3, h.4))
+
+    pub run_complete : (left : ℕ) (bs : List ℕ) (es : List (Said K V)) (over : ℕ) → Run key val d n bs es → over + length es * cost ≡ left → run_of key val d n cost left bs ≡ Ok (es, over)
+    run_complete left bs es over h paid =
+        let i = pieces_of_run bs ([], left) es over h paid in
+        along_complete Longer (next_said key val d n cost) Broken next_sound next_complete next_faulty next_some ([], left) (es, over) bs (i.0, i.1 ∙ sym (append-nil (join i.0)), i.2)
+
+    pub run_faulty : (left : ℕ) (bs : List ℕ) (f : DecodeError) → RunFault key val d n cost left bs f → run_of key val d n cost left bs ≡ Err f
+    run_faulty left bs f (es, rest, over, (front, e, h, paid), some, broken) =
+        let i = pieces_of_run front ([], left) es over h paid in
+        along_faulty Longer (next_said key val d n cost) Broken next_sound next_complete next_faulty next_some ([], left) bs f ((es, over), rest, (i.0, e ∙ ap (λ z. z ++ rest) i.1, i.2), some, broken)
 
 -- ---- what a run means
 pub Fold-append : {K V : Type 0} (eq : K → K → Bool) (m : List (K × V)) (es fs : List (Said K V)) → Fold eq m (es ++ fs) ≡ Fold eq (Fold eq m es) fs

@@ -1,5 +1,5 @@
 -- Runs of map records, and what they mean. Source: the protobuf encoding guide, "Maps".
-use Rattle.std.specs.Prelude.{◌≡◌, ◌≢◌, ℕ, ◌==◌, Bool, List, [], ◌∷◌, ◌++◌, length, cond, ◌⊎◌, if◌then◌else◌, Result, Ok, Err}
+use Rattle.std.specs.Prelude.{◌≡◌, ◌≢◌, ℕ, ◌+◌, ◌-◌, ◌*◌, nat_lt, ◌==◌, Bool, List, [], ◌∷◌, ◌++◌, length, cond, ◌⊎◌, if◌then◌else◌, Result, Ok, Err}
 use Rattle.buffa_wire.specs.Gives.{◌>>=◌}
 use Rattle.buffa_wire.specs.Varint.{Var}
 use Rattle.buffa_wire.specs.Field.{IsTag, TakesTag, TagFault}
@@ -7,7 +7,7 @@ use Rattle.buffa_wire.specs.Reading.{tag_at, check_wire, delimited_at}
 use Rattle.buffa_bytes.specs.declared.wire_type.WireType.{WireType}
 use Rattle.buffa_bytes.specs.declared.wire_type.WireType.TheVariants.{LengthDelimited}
 use Rattle.buffa_bytes.specs.declared.error.DecodeError.{DecodeError}
-use Rattle.buffa_bytes.specs.declared.error.DecodeError.TheVariants.{UnexpectedField, WireTypeMismatch}
+use Rattle.buffa_bytes.specs.declared.error.DecodeError.TheVariants.{ElementMemoryLimitExceeded, UnexpectedField, WireTypeMismatch}
 use Rattle.buffa_map.specs.Along.{along_at}
 use Rattle.buffa_map.specs.Codec.{Reading}
 use Rattle.buffa_map.specs.Entry.{IsEntry, EntryFault, entry_of}
@@ -40,25 +40,33 @@ module _ {K V : Type 0} (key : Reading K) (val : Reading V) (d n : ℕ) where
       ⊎ (((w : WireType) × (rest : List ℕ) × TakesTag bs n w rest × (w ≢ LengthDelimited) × (f ≡ WireTypeMismatch n LengthDelimited w))
       ⊎ ((rest : List ℕ) × TakesTag bs n LengthDelimited rest × EntryFault key val d cost left rest f)))
 
-  -- after the records of some entries, f is the first fault of what is left; nothing is charged here
-  abbrev pub RunFault : List ℕ → DecodeError → Type 0
-  RunFault bs f = (front : List ℕ) × (rest : List ℕ) × (es : List (Said K V)) × (bs ≡ front ++ rest) × Run front es × (rest ≢ []) × RecordFault 0 0 rest f
+  -- records of the entries es begin the bytes, rest follows, and of left units of element memory, of which
+  -- each entry costs some, over are over
+  abbrev pub RunBegins : ℕ → ℕ → List ℕ → List (Said K V) → List ℕ → ℕ → Type 0
+  RunBegins cost left bs es rest over = (front : List ℕ) × (bs ≡ front ++ rest) × Run front es × (over + length es * cost ≡ left)
 
-  -- the readings: of the record at the front, and of a whole run
-  abbrev pub said_at : List ℕ → Result (Said K V × List ℕ) DecodeError
-  said_at bs = do
+  -- after the records of some entries, f is the first fault of what is left
+  abbrev pub RunFault : ℕ → ℕ → List ℕ → DecodeError → Type 0
+  RunFault cost left bs f =
+      (es : List (Said K V)) × (rest : List ℕ) × (over : ℕ) × RunBegins cost left bs es rest over × (rest ≢ []) × RecordFault cost over rest f
+
+  -- the readings, where left units are there of cost: of the record at the front, and of a whole run, which
+  -- answers the entries and the units that are over
+  abbrev pub said_at : ℕ → ℕ → List ℕ → Result (Said K V × List ℕ) DecodeError
+  said_at cost left bs = do
     t ← tag_at bs
     if t.0 == n then (do
       _ ← check_wire n LengthDelimited t.1
       e ← delimited_at t.2
-      s ← entry_of key val d e.0
-      Ok (record { bytes = e.0; parts = s }, e.1)) else Err (UnexpectedField t.0)
+      if nat_lt left cost then Err ElementMemoryLimitExceeded else (do
+        s ← entry_of key val d e.0
+        Ok (record { bytes = e.0; parts = s }, e.1))) else Err (UnexpectedField t.0)
 
-  abbrev pub next_said : List (Said K V) → List ℕ → Result (List (Said K V) × List ℕ) DecodeError
-  next_said es bs = said_at bs >>= (λ x. Ok (es ++ x.0 ∷ [], x.1))
+  abbrev pub next_said : ℕ → List (Said K V) × ℕ → List ℕ → Result ((List (Said K V) × ℕ) × List ℕ) DecodeError
+  next_said cost s bs = said_at cost s.1 bs >>= (λ x. Ok ((s.0 ++ x.0 ∷ [], s.1 - cost), x.1))
 
-  abbrev pub run_of : List ℕ → Result (List (Said K V)) DecodeError
-  run_of bs = along_at next_said [] bs
+  abbrev pub run_of : ℕ → ℕ → List ℕ → Result (List (Said K V) × ℕ) DecodeError
+  run_of cost left bs = along_at (next_said cost) ([], left) bs
 
 module _ {K V : Type 0} (eq : K → K → Bool) where
   -- the pairs after an entry that said s: a declared one is put

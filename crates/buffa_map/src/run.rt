@@ -1,10 +1,10 @@
 //! A run of map records.
 
-ghost use Rattle.std.specs.Prelude.{◌≡◌, ◌≢◌, ◌+◌, ◌*◌, ◌++◌, ◌≤◌, ℕ, List, IfErr, OnOk, length};
+ghost use Rattle.std.specs.Prelude.{◌≡◌, ◌≢◌, ◌+◌, ◌*◌, ℕ, List, [], IfErr, OnOk, length};
 ghost use Rattle.buffa_bytes.specs.declared.error.DecodeError.TheVariants.{OutOfMemory};
 ghost use Rattle.buffa_wire.specs.Left.{left_in};
 ghost use Rattle.buffa_map.specs.Pairs.{SamePairs};
-ghost use Rattle.buffa_map.specs.Run.{Fold, RecordFault, Run, Said};
+ghost use Rattle.buffa_map.specs.Run.{Fold, RecordFault, Run, RunBegins, Said};
 
 use crate::codec::{MapCodec, MapValueDecode};
 use crate::entry::merge_entry;
@@ -38,12 +38,10 @@ pub fn read_map_field<
         × Run KC.reading VC.reading ctx.entry.depth number (B.unread buf.old) es
         × SamePairs C.equal (Fold C.equal (C.pairs map.old) es) (C.pairs map.new)
         × ((left_in ctx.exit).memory + length es * (KC.COST + VC.COST) ≡ ctx.entry.budget.now.memory)) }
-    ensures fault { IfErr result (λ f. (front : List ℕ) × (rest : List ℕ) × (es : List (Said KC.Value.Meaning VC.Value.Meaning)) × (left : ℕ)
-        × (B.unread buf.old ≡ front ++ rest)
-        × Run KC.reading VC.reading ctx.entry.depth number front es
+    ensures fault { IfErr result (λ f. (es : List (Said KC.Value.Meaning VC.Value.Meaning)) × (rest : List ℕ) × (over : ℕ)
+        × RunBegins KC.reading VC.reading ctx.entry.depth number (KC.COST + VC.COST) ctx.entry.budget.now.memory (B.unread buf.old) es rest over
         × SamePairs C.equal (Fold C.equal (C.pairs map.old) es) (C.pairs map.new)
-        × (left + length es * (KC.COST + VC.COST) ≡ ctx.entry.budget.now.memory)
-        × (f ≢ OutOfMemory → RecordFault KC.reading VC.reading ctx.entry.depth number (KC.COST + VC.COST) left rest f)) }
+        × (f ≢ OutOfMemory → (rest ≢ []) × RecordFault KC.reading VC.reading ctx.entry.depth number (KC.COST + VC.COST) over rest f)) }
     ensures slots { (left_in ctx.exit).unknown ≡ ctx.entry.budget.now.unknown }
     ensures kept { B.kept buf.new ≡ B.kept buf.old }
 {
