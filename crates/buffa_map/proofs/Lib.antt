@@ -5,3 +5,4 @@ pub mod EntryLemmas
 pub mod RunLemmas
 pub mod SizeLemmas
 pub mod WriteLemmas
+pub mod BackLemmas

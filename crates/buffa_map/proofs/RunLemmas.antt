@@ -17,7 +17,7 @@ use Rattle.buffa_map.specs.Along.{join, Along, Leads, Stops}
 use Rattle.buffa_map.specs.Codec.{Reading}
 use Rattle.buffa_map.specs.Entry.{IsEntry, FaultOf, EntryAt, EntryFault, entry_of}
 use Rattle.buffa_map.specs.Pairs.{put, SamePairs}
-use Rattle.buffa_map.specs.Run.{Said, IsRecord, Run, RunBegins, RecordFault, RunFault, said_at, next_said, run_of, step, Fold}
+use Rattle.buffa_map.specs.Run.{Said, IsRecord, Run, RunBegins, RecordFault, RunFault, said_at, next_said, run_of, step, Fold, Kept}
 use Rattle.buffa_map.specs.declared.parts.Parts.{Parts}
 use Rattle.buffa_map.proofs.AlongLemmas.{along_sound, along_complete, along_faulty}
 use Rattle.buffa_map.proofs.EntryLemmas.{check_sound, check_same, check_differs, entry_sound, entry_complete, entry_faulty}
@@ -82,21 +82,24 @@ module _ {K V : Type 0} (key : Reading K) (val : Reading V) (d n : ℕ) where
     pub said_sound : (bs : List ℕ) → Agrees (said_at key val d n cost left bs) (SaidAt bs) (RecordFault key val d n cost left bs)
     said_sound bs = agree_bind (tag_sound bs)
         (λ t u. agree_if (t.0 == n)
-          (λ same. let is : t.0 ≡ n = eqb-true t.0 n same in
-            agree_bind (check_sound n LengthDelimited t.1)
-            (λ _ wire. agree_bind (delimited_sound t.2)
-              (λ e b. agree_if (nat_lt left cost)
-                (λ few. record { holds = inr (inr (inr (t.2, retag bs t.2 t.0 t.1 u is wire, inr (b.0, e.0, e.1, b.1, b.2, inl (ltb-true left cost few, refl))))) })
-                (λ many. agree_bind (entry_sound key val d e.0)
-                  (λ s entry. let tag = retag bs t.2 t.0 t.1 u is wire in record { holds = (
-                    tag.0 ++ (b.0 ++ e.0),
-                    (tag.0, b.0, tag.1, b.1, refl, entry),
-                    tag.2 ∙ ap (λ z. tag.0 ++ z) (b.2 ∙ sym (append_assoc b.0 e.0 e.1)) ∙ sym (append_assoc tag.0 (b.0 ++ e.0) e.1),
-                    ltb-false left cost many) })
-                  (λ f broken. inr (inr (inr (t.2, retag bs t.2 t.0 t.1 u is wire, inr (b.0, e.0, e.1, b.1, b.2, inr (ltb-false left cost many, broken))))))))
-              (λ f short. inr (inr (inr (t.2, retag bs t.2 t.0 t.1 u is wire, inl short)))))
-            (λ f bad. inr (inr (inl (t.1, t.2, subst (λ z. TakesTag bs z t.1 t.2) is u, bad.0, bad.1)))))
-          (λ other. record { holds = inr (inl (t.0, t.1, t.2, u, eqb-false t.0 n other, refl)) }))
+        (λ same. let is : t.0 ≡ n = eqb-true t.0 n same in
+        agree_bind (check_sound n LengthDelimited t.1)
+        (λ _ wire. agree_bind (delimited_sound t.2)
+        (λ e b. agree_if (nat_lt left cost)
+        (λ few. record { holds = inr (inr (inr (t.2, retag bs t.2 t.0 t.1 u is wire, inr (b.0, e.0, e.1, b.1, b.2, inl (ltb-true left cost few, refl))))) })
+        (λ many. agree_bind (entry_sound key val d e.0)
+        (λ s entry. let tag = retag bs t.2 t.0 t.1 u is wire in record {
+          holds = (
+            tag.0 ++ (b.0 ++ e.0),
+            (tag.0, b.0, tag.1, b.1, refl, entry),
+            tag.2 ∙ ap (λ z. tag.0 ++ z) (b.2 ∙ sym (append_assoc b.0 e.0 e.1)) ∙ sym (append_assoc tag.0 (b.0 ++ e.0) e.1),
+            ltb-false left cost many,
+          );
+        })
+        (λ f broken. inr (inr (inr (t.2, retag bs t.2 t.0 t.1 u is wire, inr (b.0, e.0, e.1, b.1, b.2, inr (ltb-false left cost many, broken))))))))
+        (λ f short. inr (inr (inr (t.2, retag bs t.2 t.0 t.1 u is wire, inl short)))))
+        (λ f bad. inr (inr (inl (t.1, t.2, subst (λ z. TakesTag bs z t.1 t.2) is u, bad.0, bad.1)))))
+        (λ other. record { holds = inr (inl (t.0, t.1, t.2, u, eqb-false t.0 n other, refl)) }))
         (λ f h. inl h)
 
     pub said_complete : (r rest : List ℕ) (x : Said K V) → cost ≤ left → IsRecord key val d n r x → said_at key val d n cost left (r ++ rest) ≡ Ok (x, rest)
@@ -167,9 +170,9 @@ module _ {K V : Type 0} (key : Reading K) (val : Reading V) (d n : ℕ) where
     pub run_sound : (left : ℕ) (bs : List ℕ) → Agrees (run_of key val d n cost left bs) (WholeRun left bs) (RunFault key val d n cost left bs)
     run_sound left bs = agree_weaker (along_sound Longer (next_said key val d n cost) Broken next_sound next_complete next_faulty next_some ([], left) bs)
         (λ t h. let i = run_of_pieces h.0 ([], left) t h.2 in
-          (subst (λ z. Run key val d n bs z) (sym i.2) (subst (λ z. Run key val d n z i.0) (sym (h.1 ∙ append-nil (join h.0))) i.1), ap (λ z. t.1 + length z * cost) i.2 ∙ i.3))
+        (subst (λ z. Run key val d n bs z) (sym i.2) (subst (λ z. Run key val d n z i.0) (sym (h.1 ∙ append-nil (join h.0))) i.1), ap (λ z. t.1 + length z * cost) i.2 ∙ i.3))
         (λ f h. let i = run_of_pieces h.2.0 ([], left) h.0 h.2.2 in
-          (i.0, h.1, h.0.1, (join h.2.0, h.2.1, i.1, i.3), h.3, h.4))
+        (i.0, h.1, h.0.1, (join h.2.0, h.2.1, i.1, i.3), h.3, h.4))
 
     pub run_complete : (left : ℕ) (bs : List ℕ) (es : List (Said K V)) (over : ℕ) → Run key val d n bs es → over + length es * cost ≡ left → run_of key val d n cost left bs ≡ Ok (es, over)
     run_complete left bs es over h paid =
@@ -200,3 +203,11 @@ Fold-more {eq = eq} laws m k l es x s is h i =
 
 pub spent : {X : Type 0} (xs : List X) (x : X) (a b c cost : ℕ) → b + length xs * cost ≡ a → c + cost ≡ b → c + length (xs ++ x ∷ []) * cost ≡ a
 spent xs x a b c cost h k = rw (length-append xs (x ∷ [])) (omega (arith, h, k))
+
+kept_first : {K V : Type 0} (b : Bool) (e : List ℕ) (es fs : List (Said K V)) → Kept (es ++ fs) ≡ Kept es ++ Kept fs → cond b (Kept (es ++ fs)) (e ∷ Kept (es ++ fs)) ≡ cond b (Kept es) (e ∷ Kept es) ++ Kept fs
+kept_first true e es fs h = h
+kept_first false e es fs h = ap (λ z. e ∷ z) h
+
+pub Kept-append : {K V : Type 0} (es fs : List (Said K V)) → Kept (es ++ fs) ≡ Kept es ++ Kept fs
+Kept-append [] fs = refl
+Kept-append (x ∷ es) fs = kept_first x.parts.known x.bytes es fs (Kept-append es fs)

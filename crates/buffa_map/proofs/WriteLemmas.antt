@@ -9,7 +9,7 @@ use Rattle.buffa_bytes.specs.declared.error.EncodeError.{EncodeError}
 use Rattle.buffa_bytes.specs.declared.error.EncodeError.TheVariants.{MessageTooLarge, GroupRefused, OutOfMemory}
 use Rattle.buffa_bytes.proofs.SinkLemmas.{front_first, front_second}
 use Rattle.buffa_map.specs.Codec.{Writing}
-use Rattle.buffa_map.specs.Text.{entry_text, record_text, field_text, HasText, RefusesRecord, WritesRecord, RefusesField, WritesField}
+use Rattle.buffa_map.specs.Text.{entry_text, record_text, field_text, AllHold, HasText, RefusesRecord, WritesRecord, RefusesField, WritesField}
 
 module _ {K W : Type 0} (key : Writing K) (val : Writing W) (n : ℕ) where
   -- a record's text: its head, and its entry
@@ -39,6 +39,10 @@ module _ {K W : Type 0} (key : Writing K) (val : Writing W) (n : ℕ) where
   pub HasText-last : (ps : List (K × W)) (p : K × W) → HasText key val ps → length (entry_text key val p) < 2 ^ 64 → HasText key val (ps ++ p ∷ [])
   HasText-last [] p h k = (k, tt)
   HasText-last (q ∷ ps) p h k = (h.0, HasText-last ps p h.1 k)
+
+  pub AllHold-last : (P : K → Type 0) (Q : W → Type 0) (ps : List (K × W)) (p : K × W) → AllHold P Q ps → P p.0 → Q p.1 → AllHold P Q (ps ++ p ∷ [])
+  AllHold-last P Q [] p h a b = (a, b, tt)
+  AllHold-last P Q (q ∷ ps) p h a b = (h.0, h.1, AllHold-last P Q ps p h.2 a b)
 
   refused : (old mid new : List ℕ) (all done : List (K × W)) (p : K × W) (rest : List (K × W)) → all ≡ done ++ p ∷ rest → HasText key val done → mid ≡ old ++ field_text key val n done →
       (e : EncodeError) → RefusesRecord key val n mid new p e → RefusesField key val n old new all e

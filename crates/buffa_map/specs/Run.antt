@@ -1,5 +1,5 @@
 -- Runs of map records, and what they mean. Source: the protobuf encoding guide, "Maps".
-use Rattle.std.specs.Prelude.{◌≡◌, ◌≢◌, ℕ, ◌+◌, ◌-◌, ◌*◌, nat_lt, ◌==◌, Bool, List, [], ◌∷◌, ◌++◌, length, cond, ◌⊎◌, if◌then◌else◌, Result, Ok, Err}
+use Rattle.std.specs.Prelude.{◌≡◌, ◌≢◌, ℕ, ◌+◌, ◌-◌, ◌*◌, nat_lt, ◌==◌, Bool, true, List, [], ◌∷◌, ◌++◌, length, cond, ◌⊎◌, if◌then◌else◌, Result, Ok, Err}
 use Rattle.buffa_wire.specs.Gives.{◌>>=◌}
 use Rattle.buffa_wire.specs.Varint.{Var}
 use Rattle.buffa_wire.specs.Field.{IsTag, TakesTag, TagFault}
@@ -18,6 +18,10 @@ use Rattle.buffa_map.specs.declared.parts.Parts.{Parts}
 pub record Said (K V : Type 0) : Type 0 where
   pub bytes : List ℕ
   pub parts : Parts K V
+
+-- what the entry of a pair says
+abbrev pub pair_parts : {K V : Type 0} → K × V → Parts K V
+pair_parts p = record { key = p.0; value = p.1; known = true }
 
 module _ {K V : Type 0} (key : Reading K) (val : Reading V) (d n : ℕ) where
   -- r is a tag of number n, a length, and the entry x of that length

@@ -32,6 +32,11 @@ module _ {K W : Type 0} (key : Writing K) (val : Writing W) where
   field_size t [] = 0
   field_size t (p ∷ ps) = t + (length (V (length (entry_text p))) + length (entry_text p)) + field_size t ps
 
+-- each key is P, and each value is Q
+abbrev pub AllHold : {K W : Type 0} → (K → Type 0) → (W → Type 0) → List (K × W) → Type 0
+AllHold P Q [] = Unit {0}
+AllHold P Q (p ∷ ps) = P p.0 × Q p.1 × AllHold P Q ps
+
 module _ {K W : Type 0} (key : Writing K) (val : Writing W) (n : ℕ) (old new : List ℕ) where
   -- the record of p was written; or memory ran out after a beginning of it; or its entry is too long, and nothing was written
   abbrev pub RefusesRecord : K × W → EncodeError → Type 0

@@ -1,12 +1,12 @@
 //! The text of a map field.
 
-ghost use Rattle.std.specs.Prelude.{◌≡◌, ◌++◌, List};
+ghost use Rattle.std.specs.Prelude.{◌≡◌, ◌++◌, List, OnOk};
 ghost use Rattle.buffa_wire.specs.Number.{IsNumber};
 ghost use Rattle.buffa_wire.specs.Values.{delimited_text, tag_text};
 ghost use Rattle.buffa_wire.specs.Varint.{V};
 ghost use Rattle.buffa_wire.specs.Written.{Writes};
 ghost use Rattle.buffa_map.specs.Pairs.{Enum};
-ghost use Rattle.buffa_map.specs.Text.{WritesField, WritesRecord, entry_text};
+ghost use Rattle.buffa_map.specs.Text.{AllHold, WritesField, WritesRecord, entry_text};
 
 use crate::codec::MapCodec;
 use crate::size::entry_len;
@@ -92,8 +92,10 @@ where
     KC::Value: 'a,
     VC::Value: 'a,
     requires { IsNumber field_number }
+    // Of the last line: what was written is what the types of key and value hold.
     ensures { (l : List (KC.Value.Meaning × VC.Value.Meaning)) × C.walks map.now l × Enum C.equal (C.pairs map.now) l
-        × WritesField KC.writing VC.writing field_number (S.written sink.old) (S.written sink.new) result l }
+        × WritesField KC.writing VC.writing field_number (S.written sink.old) (S.written sink.new) result l
+        × OnOk result (AllHold KC.fits VC.fits l) }
 {
     for (key, value) in map.storage_iter() {
         write_record::<KC, VC, S>(field_number, key, value, sink)?;

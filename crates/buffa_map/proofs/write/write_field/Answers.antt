@@ -2,7 +2,7 @@ use Rattle.std.proofs.Common.{◌≡◌, ◌++◌, List, [], ◌∷◌, refl, sy
 use Rattle.std.proofs.lemmas.Result.{err_from_is_err_and}
 use Rattle.buffa_map.specs.Pairs.{mean, means}
 use Rattle.buffa_map.specs.Text.{HasText, field_text, record_text}
-use Rattle.buffa_map.proofs.WriteLemmas.{HasText-last, field_refused, field_text-last}
+use Rattle.buffa_map.proofs.WriteLemmas.{AllHold-last, HasText-last, field_refused, field_text-last}
 use Rattle.buffa_map.proofs.write.write_field.Goals as goal
 
 pub loop-key-init : goal.loop-key-init
@@ -12,6 +12,7 @@ loop-key-init g c = (
   c.storage_iter-key-items.ensures.walk,
   c.storage_iter-key-items.ensures.pairs,
   ap (λ z. means g.KC.Value.Blank.meaning g.VC.Value.Blank.meaning (g.C.MapWalk.left z)) (sym c.into_iter-key-iterator.ensures.into_iter_gives),
+  tt,
   tt,
   sym (append-nil (g.S.EncodeSink.written c.args.sink.now)),
 )
@@ -31,7 +32,8 @@ loop-key-preserved g c =
       inv.3,
       inv.4 ∙ ap (λ (z : List (g.row.KC-Value.Denot × g.row.VC-Value.Denot)). inv.1 ++ means g.KC.Value.Blank.meaning g.VC.Value.Blank.meaning z) step ∙ sym (append_assoc inv.1 (m ∷ []) (means g.KC.Value.Blank.meaning g.VC.Value.Blank.meaning (g.C.MapWalk.left c.next.new.self))),
       HasText-last key val c.args.field_number inv.1 m inv.5 wrote.0,
-      wrote.1 ∙ ap (λ z. z ++ record_text key val c.args.field_number m) inv.6 ∙ append_assoc (g.S.EncodeSink.written c.args.sink.now) (field_text key val c.args.field_number inv.1) (record_text key val c.args.field_number m)
+      AllHold-last key val c.args.field_number g.KC.MapCodec.fits g.VC.MapCodec.fits inv.1 m inv.6 c.in_ok-write_record.ensures.fits.0 c.in_ok-write_record.ensures.fits.1,
+      wrote.1 ∙ ap (λ z. z ++ record_text key val c.args.field_number m) inv.7 ∙ append_assoc (g.S.EncodeSink.written c.args.sink.now) (field_text key val c.args.field_number inv.1) (record_text key val c.args.field_number m)
           ∙ ap (λ z. g.S.EncodeSink.written c.args.sink.now ++ z) (sym (field_text-last key val c.args.field_number inv.1 m)),
     )
 
@@ -49,7 +51,8 @@ returns-in_err-write_record g c =
       inv.2,
       inv.3,
       field_refused key val c.args.field_number q.1 q.2 (g.S.EncodeSink.written c.args.sink.now) (g.S.EncodeSink.written c.loop-key.sink) (g.S.EncodeSink.written c.write_record.new.sink) inv.0 inv.1 m rest
-          (inv.4 ∙ ap (λ (z : List (g.row.KC-Value.Denot × g.row.VC-Value.Denot)). inv.1 ++ means g.KC.Value.Blank.meaning g.VC.Value.Blank.meaning z) step) inv.5 inv.6 c.in_err-write_record.ensures.written,
+          (inv.4 ∙ ap (λ (z : List (g.row.KC-Value.Denot × g.row.VC-Value.Denot)). inv.1 ++ means g.KC.Value.Blank.meaning g.VC.Value.Blank.meaning z) step) inv.5 inv.7 c.in_err-write_record.ensures.written,
+      rw q.1 tt,
     )
 
 pub returns : goal.returns
@@ -59,4 +62,4 @@ returns g c =
     let val = g.VC.MapCodec.writing in
     let step = c.storage_iter-key-items.ensures.steps c.loop-key.key-iterator None c.next.new.self c.in-None.ensures.steps in
     let all : inv.0 ≡ inv.1 = inv.4 ∙ ap (λ (z : List (g.row.KC-Value.Denot × g.row.VC-Value.Denot)). inv.1 ++ means g.KC.Value.Blank.meaning g.VC.Value.Blank.meaning z) step.0 ∙ append-nil inv.1 in
-    (inv.0, inv.2, inv.3, rw all (inv.5, inv.6))
+    (inv.0, inv.2, inv.3, rw all (inv.5, inv.7), rw all inv.6)

@@ -1,0 +1,20 @@
+use Rattle.std.proofs.Common.{◌≡◌, ◌∙◌, ap, refl, sym, map, ℕ}
+use Rattle.buffa_wire.specs.Content.{Content, HasContent}
+use Rattle.buffa_map.proofs.BackLemmas.{as_said, both_hold, fold_back, run_back}
+use Rattle.buffa_map.proofs.laws.written_is_read.Goals as goal
+
+pub returns : goal.returns
+returns g c d n l num has fits normal distinct =
+    let key = g.KC.MapValueDecode.reading in
+    let val = g.VC.MapValueDecode.reading in
+    let kw = g.KC.MapCodec.writing in
+    let vw = g.VC.MapCodec.writing in
+    let same_key : kw.wire ≡ key.wire = g.met.KC.MapCodec.written_wire ∙ sym g.met.KC.MapValueDecode.wire in
+    let same_val : vw.wire ≡ val.wire = g.met.VC.MapCodec.written_wire ∙ sym g.met.VC.MapValueDecode.wire in
+    let say = as_said key val kw vw same_key same_val (λ k. g.KC.MapCodec.fits k × g.KC.MapCodec.normal k) (λ v. g.VC.MapCodec.fits v × g.VC.MapCodec.normal v)
+    (λ d old v h. g.met.KC.MapCodec.reads_back d old v h.0 h.1) (λ d old v h. g.met.VC.MapCodec.reads_back d old v h.0 h.1) in (
+      map say l,
+      run_back key val kw vw same_key same_val (λ k. g.KC.MapCodec.fits k × g.KC.MapCodec.normal k) (λ v. g.VC.MapCodec.fits v × g.VC.MapCodec.normal v)
+          (λ d old v h. g.met.KC.MapCodec.reads_back d old v h.0 h.1) (λ d old v h. g.met.VC.MapCodec.reads_back d old v h.0 h.1) d n l num has (both_hold g.KC.MapCodec.fits g.KC.MapCodec.normal g.VC.MapCodec.fits g.VC.MapCodec.normal l fits normal),
+      fold_back g.met.C.MapStorage.equivalence say (λ p. refl) l distinct,
+    )
