@@ -37,6 +37,12 @@ pub zigzag_fits64 : (v : ℤ) → FitsSigned w64 v → zigzag v < 2 ^ 64
 zigzag_fits64 (pos n) h = omega (arith, h.sfits)
 zigzag_fits64 (negsuc n) h = omega (arith, h.sfits)
 
+pub unzigzag_fits32 : (n : ℕ) → n < 2 ^ 32 → FitsSigned w32 (unzigzag n)
+unzigzag_fits32 n h = elim (cases_lt (n % 2) 1) [
+  | inl even ↦ let e : n % 2 ≡ 0 = omega arith in rw e (record { sfits = omega (arith, h) })
+  | inr odd ↦ let e : n % 2 ≡ 1 = omega arith in rw e (record { sfits = omega (arith, h) })
+]
+
 -- ---- the number that is written, and what it means
 
 pub unsigned64_fits : (v : ℤ) → FitsSigned w64 v → cast_unsigned w64 v < 2 ^ 64
