@@ -1,4 +1,5 @@
 -- Strings and bytes in a type of one's own: what is read of their texts.
+-- Source: the protobuf encoding guide, "Length-Delimited Records".
 use Rattle.std.specs.Prelude.{◌≡◌, ℕ, List, true, Result, Ok, Err, if◌then◌else◌, String, string_bytes}
 use Rattle.std.specs.Str.{is_utf8}
 use Rattle.std.proofs.lemmas.Str.{is_utf8-from_IsUtf8, IsUtf8-string_bytes}

@@ -4,14 +4,15 @@ ghost use Rattle.std.specs.Prelude.{◌≡◌, ◌<◌, ◌≤◌, ◌<ℤ◌, �
 ghost use Rattle.std.specs.Int.{cast_unsigned, from_bool, w32, w64};
 ghost use Rattle.std.specs.Str.{is_utf8};
 ghost use Rattle.buffa_bytes.specs.declared.wire_type.WireType.{WireType};
+ghost use Rattle.buffa_bytes.specs.declared.wire_type.WireType.TheVariants.{Fixed32, Fixed64, LengthDelimited, Varint};
 ghost use Rattle.buffa_bytes.specs.declared.error.DecodeError.{DecodeError};
 ghost use Rattle.buffa_bytes.specs.Varint.{V, Var, TakesVar, VarFault};
 ghost use Rattle.buffa_bytes.specs.Number.{IsNumber};
-ghost use Rattle.buffa_bytes.specs.Content.{Content, ContentFault, TakesContent, content_at};
+ghost use Rattle.buffa_bytes.specs.Content.{Content, ContentFault, TakesContent, bytes_in, content_at, content_by, number_in};
 ghost use Rattle.buffa_bytes.specs.Field.{LengthFault, SomeField, TakesDelimited, TakesTag, TagFault, TakesPayload, PayloadFault};
 ghost use Rattle.buffa_bytes.specs.Reading.{delimited_at, varint_at, tag_at, skip_at, group_at, group_by_field};
-ghost use Rattle.buffa_bytes.specs.Scalars.{bool_at, bool_of, bool_text, fixed32_at, fixed32_text, fixed64_at, fixed64_text, int32_of, int64_at, int64_of, int64_text, sfixed32_at, sfixed32_of, sfixed32_text, sfixed64_at, sfixed64_of, sfixed64_text, sint32_at, sint32_of, sint32_text, sint64_at, sint64_of, sint64_text, uint32_at, uint32_of, uint32_text, uint64_at, uint64_text, unzigzag, zigzag};
-ghost use Rattle.buffa_bytes.specs.Texts.{bytes_as, string_as};
+ghost use Rattle.buffa_bytes.specs.Scalars.{bool_at, bool_of, bool_text, eight_as, fixed32_at, fixed32_text, fixed64_at, fixed64_text, four_as, int32_of, int64_at, int64_of, int64_text, sfixed32_at, sfixed32_of, sfixed32_text, sfixed64_at, sfixed64_of, sfixed64_text, sint32_at, sint32_of, sint32_text, sint64_at, sint64_of, sint64_text, uint32_at, uint32_of, uint32_text, uint64_at, uint64_text, unzigzag, varint_as, zigzag};
+ghost use Rattle.buffa_bytes.specs.Texts.{bytes_as, string_as, text_as};
 ghost use Rattle.buffa_bytes.specs.Values.{delimited_text, int32_at, int32_text, string_at, tag_text};
 
 use crate::proto::{ProtoBytes, ProtoString};
@@ -156,4 +157,13 @@ pub fn own_strings_are_read_back<S: ProtoString>()
 /// Bytes in a type of one's own that were written are read back, whatever follows.
 pub fn own_bytes_are_read_back<P: ProtoBytes>()
     ensures { (value : P.Meaning) (rest : List ℕ) → length (P.bytes value) < 2 ^ 64 → bytes_as P.of_bytes (delimited_text (P.bytes value) ++ rest) ≡ Ok (value, rest) }
+{}
+
+/// A value is read as the content of its payload.
+pub fn values_are_read_of_contents<V>()
+    ensures varint { (of : ℕ → V) (bs : List ℕ) → varint_as of bs ≡ content_by Varint (λ c. Ok (of (number_in c))) bs }
+    ensures four_bytes { (of : ℕ → V) (bs : List ℕ) → four_as of bs ≡ content_by Fixed32 (λ c. Ok (of (number_in c))) bs }
+    ensures eight_bytes { (of : ℕ → V) (bs : List ℕ) → eight_as of bs ≡ content_by Fixed64 (λ c. Ok (of (number_in c))) bs }
+    ensures bytes { (of : List ℕ → V) (bs : List ℕ) → bytes_as of bs ≡ content_by LengthDelimited (λ c. Ok (of (bytes_in c))) bs }
+    ensures string { (of : List ℕ → V) (bs : List ℕ) → string_as of bs ≡ content_by LengthDelimited (λ c. text_as of (bytes_in c)) bs }
 {}
