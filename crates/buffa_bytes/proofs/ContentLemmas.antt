@@ -1,12 +1,8 @@
 -- What payloads hold: what is read of them, and the grammar.
-use Rattle.std.proofs.Common.{◌≡◌, ◌≢◌, ℕ, ◌+◌, ◌<◌, List, ◌++◌, length, Result, Ok, Err, refl, sym, ap, subst, ◌∙◌, append_assoc}
-use Rattle.std.specs.Int.{from_le_bytes, w32, w64}
-use Rattle.buffa_bytes.specs.Gives.{◌>>=◌}
+use Rattle.std.proofs.Common.{◌≡◌, ℕ, List, ◌++◌, Ok, Err, refl, sym, ap, ◌∙◌, append_assoc}
 use Rattle.buffa_bytes.specs.declared.wire_type.WireType.{WireType}
 use Rattle.buffa_bytes.specs.declared.wire_type.WireType.TheVariants.{Varint, Fixed64, LengthDelimited, StartGroup, EndGroup, Fixed32}
 use Rattle.buffa_bytes.specs.declared.error.DecodeError.{DecodeError}
-use Rattle.buffa_bytes.specs.declared.error.DecodeError.TheVariants.{UnexpectedEof, InvalidWireType}
-use Rattle.buffa_bytes.specs.Varint.{Var}
 use Rattle.buffa_bytes.specs.Content.{Content, HasContent, TakesContent, ContentFault, content_at}
 use Rattle.buffa_bytes.specs.Content.Content.{number, bytes}
 use Rattle.buffa_bytes.proofs.StepLemmas.{Agrees, agree_bind}

@@ -1,16 +1,15 @@
 -- A length and so many bytes: what is read of them, and the grammar.
-use Rattle.std.proofs.Common.{◌≡◌, ◌⊎◌, inl, inr, ℕ, ◌+◌, nat_lt, ◌<◌, ◌≤◌, ◌^◌, List, ◌++◌, length, take, drop, Result, Ok, Err, refl, sym, ap, subst, ◌∙◌, arith, append_assoc, length-append, length-take, Bool, true, false}
+use Rattle.std.proofs.Common.{◌≡◌, inl, inr, ℕ, nat_lt, ◌<◌, ◌^◌, List, ◌++◌, length, Ok, Err, refl, sym, ap, subst, ◌∙◌, arith, append_assoc, length-append, length-take, true}
 use Rattle.std.specs.Str.{is_utf8}
 use Rattle.std.proofs.lemmas.Bool.{lt-ltb, le-ltb, ltb-true, ltb-false}
 use Rattle.std.proofs.lemmas.List.{take-append-drop}
 use Rattle.std.proofs.Math.Seq.{drop-append_seam, take-append_seam}
-use Rattle.buffa_bytes.specs.Gives.{◌>>=◌}
 use Rattle.buffa_bytes.specs.declared.error.DecodeError.{DecodeError}
 use Rattle.buffa_bytes.specs.declared.error.DecodeError.TheVariants.{UnexpectedEof}
-use Rattle.buffa_bytes.specs.Varint.{V, Var, TakesVar, VarFault}
+use Rattle.buffa_bytes.specs.Varint.{V, Var}
 use Rattle.buffa_bytes.specs.Field.{LengthFault, TakesDelimited}
-use Rattle.buffa_bytes.specs.Reading.{varint_at, taken, delimited_at}
-use Rattle.buffa_bytes.specs.Values.{delimited_text, text_of, string_at}
+use Rattle.buffa_bytes.specs.Reading.{taken, delimited_at}
+use Rattle.buffa_bytes.specs.Values.{delimited_text, string_at}
 use Rattle.buffa_bytes.proofs.StepLemmas.{Agrees, agree_bind, agree_if, agree_weaker}
 use Rattle.buffa_bytes.proofs.VarintLemmas.{varint_sound, varint_complete, varint_faulty, Var-V}
 

@@ -1,6 +1,6 @@
 -- Laws of varints.
-use Rattle.std.proofs.Common.{◌≡◌, ℕ, zero, suc, ◌+◌, ◌-◌, ◌*◌, ◌%◌, ◌^◌, ◌<◌, ◌≤◌, List, [], ◌∷◌, ◌++◌, length, refl, sym, ◌∙◌, ap, subst, arith, length-append, append_assoc, add-one, add-zero, ◌⊎◌, inl, inr, ◌≢◌}
-use Rattle.std.proofs.Math.Nat.{pow-suc, mul-le-mul_right, mod-lt, le_refl}
+use Rattle.std.proofs.Common.{◌≡◌, ℕ, zero, suc, ◌+◌, ◌-◌, ◌*◌, ◌%◌, ◌^◌, ◌<◌, ◌≤◌, List, [], ◌∷◌, ◌++◌, length, refl, ◌∙◌, ap, arith, add-one, add-zero, ◌⊎◌, inl, inr, ◌≢◌}
+use Rattle.std.proofs.Math.Nat.{pow-suc, mul-le-mul_right, le_refl}
 use Rattle.buffa_bytes.specs.Varint.{base128}
 
 -- one byte more at the end

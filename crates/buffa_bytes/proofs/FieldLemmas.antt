@@ -1,5 +1,5 @@
 -- What is read of tags, payloads and groups, and their grammar.
-use Rattle.std.proofs.Common.{◌≡◌, ◌≢◌, ◌⊎◌, inl, inr, ℕ, zero, suc, ◌+◌, ◌-◌, ◌*◌, ◌/◌, ◌%◌, ◌^◌, ◌==◌, nat_lt, nat_eq, ◌<◌, ◌≤◌, Bool, true, false, List, [], ◌∷◌, ◌++◌, length, take, drop, Option, None, Some, Result, Ok, Err, refl, sym, ap, subst, ◌∙◌, arith, append_assoc, append-nil, length-append, length-take, if◌then◌else◌}
+use Rattle.std.proofs.Common.{◌≡◌, ◌≢◌, inl, inr, ℕ, zero, suc, ◌+◌, ◌-◌, ◌*◌, ◌/◌, ◌%◌, ◌^◌, ◌==◌, nat_lt, nat_eq, ◌<◌, ◌≤◌, Bool, true, false, List, [], ◌∷◌, ◌++◌, length, take, Option, None, Some, Result, Ok, Err, refl, sym, ap, subst, ◌∙◌, arith, append_assoc, length-append, length-take, if◌then◌else◌}
 use Rattle.std.proofs.lemmas.Bool.{lt-ltb, le-ltb, ltb-true, ltb-false, cond_both, eqb-true, eqb-false, eq-eqb, ne_eqb}
 use Rattle.std.proofs.lemmas.List.{take-append-drop, append_cancel_right}
 use Rattle.std.proofs.Math.Seq.{drop-append_seam}
@@ -9,13 +9,13 @@ use Rattle.buffa_bytes.specs.declared.wire_type.WireType.{WireType}
 use Rattle.buffa_bytes.specs.declared.wire_type.WireType.TheVariants.{Varint, Fixed64, LengthDelimited, StartGroup, EndGroup, Fixed32}
 use Rattle.buffa_bytes.specs.declared.error.DecodeError.{DecodeError}
 use Rattle.buffa_bytes.specs.declared.error.DecodeError.TheVariants.{UnexpectedEof, InvalidFieldNumber, InvalidWireType, RecursionLimitExceeded, InvalidEndGroup}
-use Rattle.buffa_bytes.specs.Varint.{Var, TakesVar, VarFault}
+use Rattle.buffa_bytes.specs.Varint.{Var}
 use Rattle.buffa_bytes.specs.Join.{Join}
 use Rattle.buffa_bytes.specs.Number.{IsNumber}
 use Rattle.buffa_bytes.specs.Join.Join.{none, more}
-use Rattle.buffa_bytes.specs.Field.{IsTag, PayloadOver, FieldOver, SomeFieldOver, SomeField, Group, TakesTag, TakesPayload, BadTag, TagFault, LengthFault, PayloadFaultOver, FieldFaultOver, GroupFault, PayloadFault, TakesGroup}
+use Rattle.buffa_bytes.specs.Field.{IsTag, PayloadOver, SomeFieldOver, SomeField, Group, TakesTag, TakesPayload, BadTag, TagFault, PayloadFaultOver, FieldFaultOver, GroupFault, PayloadFault}
 use Rattle.buffa_bytes.specs.Reading.{varint_within, varint_at, tag_of, tag_at, past, skip_by, is_end, fields_within, group_at, skip_at, group_step}
-use Rattle.buffa_bytes.proofs.StepLemmas.{Agrees, agree_bind, agree_if, agree_ok, agree_err, agree_weaker, same_answer, bind_same}
+use Rattle.buffa_bytes.proofs.StepLemmas.{Agrees, agree_bind, agree_if, agree_ok, agree_weaker, same_answer, bind_same}
 use Rattle.buffa_bytes.proofs.VarintLemmas.{varint_sound, varint_complete, varint_faulty, varint_falls}
 
 -- ---- tags

@@ -1,14 +1,14 @@
 -- The varints of int32 values, and tags.
-use Rattle.std.proofs.Common.{◌≡◌, ℕ, zero, suc, ◌+◌, ◌-◌, ◌*◌, ◌%◌, ◌^◌, ◌<◌, ◌≤◌, List, ◌++◌, length, Ok, refl, sym, ap, ◌∙◌, arith, ℤ, pos, negsuc, inl, inr}
+use Rattle.std.proofs.Common.{◌≡◌, ℕ, ◌+◌, ◌-◌, ◌*◌, ◌%◌, ◌^◌, ◌<◌, ◌≤◌, List, ◌++◌, length, Ok, refl, arith, ℤ, pos, negsuc, inl, inr}
 use Rattle.std.specs.Prelude.{FitsSigned, ◌<ℤ◌}
-use Rattle.std.specs.Int.{cast_unsigned, cast_signed, w32, w64}
+use Rattle.std.specs.Int.{cast_unsigned, w32, w64}
 use Rattle.std.proofs.lemmas.Int.{to_z-of_z, ints}
 use Rattle.std.proofs.lemmas.Bool.{cases_lt}
 use Rattle.buffa_bytes.specs.WireType.{wire_number}
 use Rattle.buffa_bytes.specs.declared.wire_type.WireType.{WireType}
 use Rattle.buffa_bytes.specs.Varint.{V, base128}
 use Rattle.buffa_bytes.specs.Number.{IsNumber}
-use Rattle.buffa_bytes.specs.Reading.{varint_at, tag_at}
+use Rattle.buffa_bytes.specs.Reading.{tag_at}
 use Rattle.buffa_bytes.proofs.VarintLemmas.{varint_complete, Var-V}
 use Rattle.buffa_bytes.proofs.DigitLemmas.{base128-lt, grows}
 use Rattle.buffa_bytes.proofs.ShortestLemmas.{length-V}

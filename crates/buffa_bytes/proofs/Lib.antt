@@ -11,3 +11,4 @@ pub mod IntLemmas
 pub mod LimitLemmas
 pub mod PieceLemmas
 pub mod ScalarLemmas
+pub mod TextLemmas

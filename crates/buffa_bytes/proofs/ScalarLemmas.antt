@@ -1,13 +1,12 @@
 -- Scalars: what the numbers in their texts mean, and that they are read back.
-use Rattle.std.proofs.Common.{◌≡◌, ℕ, zero, suc, ◌+◌, ◌*◌, ◌/◌, ◌%◌, ◌^◌, ◌<◌, ◌≤◌, nat_eq, Bool, true, false, List, [], ◌∷◌, ◌++◌, length, Ok, refl, sym, ap, ◌∙◌, arith, ℤ, pos, negsuc, inl, inr}
+use Rattle.std.proofs.Common.{◌≡◌, ℕ, ◌+◌, ◌*◌, ◌/◌, ◌%◌, ◌^◌, ◌<◌, Bool, true, false, List, ◌++◌, length, Ok, refl, ap, ◌∙◌, arith, ℤ, pos, negsuc, inl, inr}
 use Rattle.std.specs.Prelude.{FitsSigned}
-use Rattle.std.specs.Int.{cast_unsigned, cast_signed, from_bool, from_le_bytes, to_le_bytes, w32, w64}
+use Rattle.std.specs.Int.{cast_unsigned, from_bool, to_le_bytes, w32, w64}
 use Rattle.std.proofs.lemmas.Int.{to_z-of_z}
 use Rattle.std.proofs.lemmas.Nat.{from_le_bytes-to_le_bytes_4, from_le_bytes-to_le_bytes_8}
 use Rattle.std.proofs.lemmas.Bool.{cases_lt}
 use Rattle.buffa_bytes.specs.Varint.{V, shortest}
-use Rattle.buffa_bytes.specs.Reading.{varint_at, taken}
-use Rattle.buffa_bytes.specs.Scalars.{zigzag, unzigzag, varint_as, four_as, eight_as, int32_of, int64_of, uint32_of, sint32_of, sint64_of, bool_of, bool_text, sfixed32_of, sfixed64_of}
+use Rattle.buffa_bytes.specs.Scalars.{zigzag, unzigzag, varint_as, four_as, eight_as, int64_of, uint32_of, sint32_of, sint64_of, bool_of, bool_text, sfixed32_of, sfixed64_of}
 use Rattle.buffa_bytes.proofs.VarintLemmas.{varint_complete, Var-V}
 use Rattle.buffa_bytes.proofs.DelimitedLemmas.{taken_complete}
 
@@ -36,6 +35,12 @@ zigzag_fits32 (negsuc n) h = omega (arith, h.sfits)
 pub zigzag_fits64 : (v : ℤ) → FitsSigned w64 v → zigzag v < 2 ^ 64
 zigzag_fits64 (pos n) h = omega (arith, h.sfits)
 zigzag_fits64 (negsuc n) h = omega (arith, h.sfits)
+
+pub unzigzag_fits32 : (n : ℕ) → n < 2 ^ 32 → FitsSigned w32 (unzigzag n)
+unzigzag_fits32 n h = elim (cases_lt (n % 2) 1) [
+  | inl even ↦ let e : n % 2 ≡ 0 = omega arith in rw e (record { sfits = omega (arith, h) })
+  | inr odd ↦ let e : n % 2 ≡ 1 = omega arith in rw e (record { sfits = omega (arith, h) })
+]
 
 -- ---- the number that is written, and what it means
 

@@ -1,9 +1,8 @@
 -- Laws of the shortest spelling.
-use Rattle.std.proofs.Common.{◌≡◌, ℕ, zero, suc, ◌+◌, ◌-◌, ◌*◌, ◌/◌, ◌%◌, ◌^◌, ◌<◌, ◌≤◌, Bool, true, false, List, [], ◌∷◌, ◌++◌, length, refl, sym, ◌∙◌, ap, subst, arith, length-append, add-one, inl, inr}
-use Rattle.std.specs.Prelude.{nat_lt}
+use Rattle.std.proofs.Common.{◌≡◌, ℕ, zero, suc, ◌+◌, ◌-◌, ◌*◌, ◌/◌, ◌%◌, ◌^◌, ◌<◌, ◌≤◌, [], ◌∷◌, length, refl, sym, ◌∙◌, ap, arith, inl, inr}
 use Rattle.std.proofs.lemmas.Bool.{lt-ltb, cases_lt, le-ltb}
 use Rattle.std.proofs.Math.Nat.{pow-suc}
-use Rattle.buffa_bytes.specs.Varint.{base128, Continue, Var, shortest, V}
+use Rattle.buffa_bytes.specs.Varint.{shortest, V}
 
 pub one_byte : (k n : ℕ) → n < 128 → shortest k n ≡ n ∷ []
 unfolding shortest

@@ -1,10 +1,9 @@
 -- One text after another.
-use Rattle.std.proofs.lemmas.List.{take_more_set, length-take}
+use Rattle.std.proofs.lemmas.List.{take_more_set}
 use Rattle.buffa_bytes.specs.Varint.{V}
-use Rattle.buffa_bytes.proofs.ShortestLemmas.{V-more, V-last, V-some}
-use Rattle.std.proofs.Common.{[], ◌∷◌, ◌+◌, ◌*◌, ◌/◌, ◌%◌, ◌<◌, ◌≤◌, length, take, set, refl, arith, ◌≡◌, ℕ, List, ◌++◌, sym, ◌∙◌, ap, append_assoc}
+use Rattle.buffa_bytes.proofs.ShortestLemmas.{V-more, V-last}
+use Rattle.std.proofs.Common.{◌∷◌, ◌+◌, ◌/◌, ◌%◌, ◌<◌, ◌≤◌, length, take, set, arith, ◌≡◌, ℕ, List, ◌++◌, sym, ◌∙◌, ap, append_assoc}
 use Rattle.std.specs.Prelude.{Result, Err}
-use Rattle.std.specs.Result.{MatchResult}
 use Rattle.std.proofs.lemmas.Result.{MatchResult-weaker}
 use Rattle.buffa_bytes.specs.declared.error.EncodeError.{EncodeError}
 use Rattle.buffa_bytes.specs.declared.error.EncodeError.TheVariants.{OutOfMemory}

@@ -54,3 +54,7 @@ number_in (bytes b) = 0
 abbrev pub bytes_in : Content → List ℕ
 bytes_in (number n) = []
 bytes_in (bytes b) = b
+
+-- what is made of the content of the payload at the front, and what follows the payload
+abbrev pub content_by : {A : Type 0} → WireType → (Content → Result A DecodeError) → List ℕ → Result (A × List ℕ) DecodeError
+content_by w reads bs = content_at w bs >>= (λ c. reads c.0 >>= (λ v. Ok (v, c.1)))

@@ -12,4 +12,5 @@ pub mod Reading
 pub mod Content
 pub mod Values
 pub mod Scalars
+pub mod Texts
 pub mod Plain

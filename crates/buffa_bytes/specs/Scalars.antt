@@ -1,7 +1,7 @@
 -- Scalars: what is written of each, what the number in a payload means, and what is read.
 -- Source: the protobuf encoding guide, "Base 128 Varints", "Bools and Enums", "Signed Integers" and
 -- "Non-varint Numbers".
-use Rattle.std.specs.Prelude.{ℕ, ℤ, pos, negsuc, ◌+◌, ◌*◌, ◌/◌, ◌%◌, ◌^◌, ◌==◌, Bool, true, false, List, Result, Ok, Err, if◌then◌else◌}
+use Rattle.std.specs.Prelude.{ℕ, ℤ, pos, negsuc, ◌+◌, ◌*◌, ◌/◌, ◌%◌, ◌^◌, ◌==◌, Bool, true, false, List, Result, Ok, if◌then◌else◌}
 use Rattle.std.specs.Int.{cast_unsigned, cast_signed, from_bool, from_le_bytes, to_le_bytes, w32, w64}
 use Rattle.buffa_bytes.specs.Gives.{◌>>=◌}
 use Rattle.buffa_bytes.specs.declared.error.DecodeError.{DecodeError}

@@ -4,14 +4,18 @@ ghost use Rattle.std.specs.Prelude.{◌≡◌, ◌<◌, ◌≤◌, ◌<ℤ◌, �
 ghost use Rattle.std.specs.Int.{cast_unsigned, from_bool, w32, w64};
 ghost use Rattle.std.specs.Str.{is_utf8};
 ghost use Rattle.buffa_bytes.specs.declared.wire_type.WireType.{WireType};
+ghost use Rattle.buffa_bytes.specs.declared.wire_type.WireType.TheVariants.{Fixed32, Fixed64, LengthDelimited, Varint};
 ghost use Rattle.buffa_bytes.specs.declared.error.DecodeError.{DecodeError};
 ghost use Rattle.buffa_bytes.specs.Varint.{V, Var, TakesVar, VarFault};
 ghost use Rattle.buffa_bytes.specs.Number.{IsNumber};
-ghost use Rattle.buffa_bytes.specs.Content.{Content, ContentFault, TakesContent, content_at};
+ghost use Rattle.buffa_bytes.specs.Content.{Content, ContentFault, TakesContent, bytes_in, content_at, content_by, number_in};
 ghost use Rattle.buffa_bytes.specs.Field.{LengthFault, SomeField, TakesDelimited, TakesTag, TagFault, TakesPayload, PayloadFault};
 ghost use Rattle.buffa_bytes.specs.Reading.{delimited_at, varint_at, tag_at, skip_at, group_at, group_by_field};
-ghost use Rattle.buffa_bytes.specs.Scalars.{bool_at, bool_of, bool_text, fixed32_at, fixed32_text, fixed64_at, fixed64_text, int32_of, int64_at, int64_of, int64_text, sfixed32_at, sfixed32_of, sfixed32_text, sfixed64_at, sfixed64_of, sfixed64_text, sint32_at, sint32_of, sint32_text, sint64_at, sint64_of, sint64_text, uint32_at, uint32_of, uint32_text, uint64_at, uint64_text, unzigzag, zigzag};
+ghost use Rattle.buffa_bytes.specs.Scalars.{bool_at, bool_of, bool_text, eight_as, fixed32_at, fixed32_text, fixed64_at, fixed64_text, four_as, int32_of, int64_at, int64_of, int64_text, sfixed32_at, sfixed32_of, sfixed32_text, sfixed64_at, sfixed64_of, sfixed64_text, sint32_at, sint32_of, sint32_text, sint64_at, sint64_of, sint64_text, uint32_at, uint32_of, uint32_text, uint64_at, uint64_text, unzigzag, varint_as, zigzag};
+ghost use Rattle.buffa_bytes.specs.Texts.{bytes_as, string_as, text_as};
 ghost use Rattle.buffa_bytes.specs.Values.{delimited_text, int32_at, int32_text, string_at, tag_text};
+
+use crate::proto::{ProtoBytes, ProtoString};
 
 /// A varint is read exactly where a spelling begins the bytes, and a fault is told exactly where the
 /// grammar has it.
@@ -143,4 +147,23 @@ pub fn scalars_of_one_length()
 /// A text of UTF-8 that was written is read back, whatever follows.
 pub fn strings_are_read_back()
     ensures { (text rest : List ℕ) → is_utf8 text ≡ true → length text < 2 ^ 64 → string_at (delimited_text text ++ rest) ≡ Ok (text, rest) }
+{}
+
+/// A string in a type of one's own that was written is read back, whatever follows.
+pub fn own_strings_are_read_back<S: ProtoString>()
+    ensures { (value : S) (rest : List ℕ) → length (S.text (S.meaning value)) < 2 ^ 64 → string_as S.of_text (delimited_text (S.text (S.meaning value)) ++ rest) ≡ Ok (S.meaning value, rest) }
+{}
+
+/// Bytes in a type of one's own that were written are read back, whatever follows.
+pub fn own_bytes_are_read_back<P: ProtoBytes>()
+    ensures { (value : P.Meaning) (rest : List ℕ) → length (P.bytes value) < 2 ^ 64 → bytes_as P.of_bytes (delimited_text (P.bytes value) ++ rest) ≡ Ok (value, rest) }
+{}
+
+/// A value is read as the content of its payload.
+pub fn values_are_read_of_contents<V>()
+    ensures varint { (of : ℕ → V) (bs : List ℕ) → varint_as of bs ≡ content_by Varint (λ c. Ok (of (number_in c))) bs }
+    ensures four_bytes { (of : ℕ → V) (bs : List ℕ) → four_as of bs ≡ content_by Fixed32 (λ c. Ok (of (number_in c))) bs }
+    ensures eight_bytes { (of : ℕ → V) (bs : List ℕ) → eight_as of bs ≡ content_by Fixed64 (λ c. Ok (of (number_in c))) bs }
+    ensures bytes { (of : List ℕ → V) (bs : List ℕ) → bytes_as of bs ≡ content_by LengthDelimited (λ c. Ok (of (bytes_in c))) bs }
+    ensures string { (of : List ℕ → V) (bs : List ℕ) → string_as of bs ≡ content_by LengthDelimited (λ c. text_as of (bytes_in c)) bs }
 {}

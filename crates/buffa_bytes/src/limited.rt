@@ -23,6 +23,10 @@ pub struct Limited<'a, B> {
 
 impl<'a, B: Buf> Limited<'a, B> {
     /// Lends the first `limit` bytes, which have to be there.
+    ///
+    /// ```ignore
+    /// let mut front = Limited::new(&mut rest, 3);
+    /// ```
     pub fn new(inner: &'a mut B, limit: usize) -> Limited<'a, B>
         requires { limit ≤ length (B.unread inner.old) }
         ensures same_reference { result.inner.ghost_name ≡ inner.entry.ghost_name }
@@ -35,6 +39,10 @@ impl<'a, B: Buf> Limited<'a, B> {
 
 impl<B: Buf> Limited<'_, B> {
     /// Passes over what is left within the limit, and ends the loan.
+    ///
+    /// ```ignore
+    /// Limited::new(&mut rest, 3).finish(); // `rest` is past three bytes
+    /// ```
     #[tactic(auto, using(crate::proofs::LimitLemmas::drop_min))]
     pub fn finish(self)
         ensures rest { B.unread self.exit.0.now ≡ drop self.entry.limit (B.unread self.entry.inner.now) }

@@ -31,7 +31,11 @@ impl<'a> Model for Pieces<'a> {
 }
 
 impl<'a> Pieces<'a> {
-    /// Reads the slices in order. They have fewer than 2^64 bytes together, which no memory exceeds.
+    /// Reads the slices in order. They have fewer than 2^64 bytes together.
+    ///
+    /// ```ignore
+    /// let mut pieces = Pieces::new(&[b"ab", b"", b"c"]);
+    /// ```
     pub fn new(pieces: &'a [&'a [u8]]) -> Pieces<'a>
         requires { length (joined pieces.now) < 2 ^ 64 }
         ensures { result ≡ joined pieces.now }

@@ -2,6 +2,7 @@
 
 mod buffers;
 mod scalars;
+mod texts;
 
 use crate::blank::Blank;
 use crate::buf::{Buf, copy_bytes};

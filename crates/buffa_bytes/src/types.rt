@@ -16,6 +16,7 @@ pub use integer::{
     sint32_encoded_len, sint64_encoded_len, uint32_encoded_len, uint64_encoded_len,
 };
 pub use text::{
-    bytes_encoded_len, decode_bytes, decode_string, encode_bytes, encode_string, string_encoded_len,
+    bytes_encoded_len, decode_bytes, decode_bytes_to, decode_bytes_to_bytes, decode_string,
+    decode_string_to, encode_bytes, encode_string, string_encoded_len,
 };
 pub use zigzag::{zigzag_decode_i32, zigzag_decode_i64, zigzag_encode_i32, zigzag_encode_i64};

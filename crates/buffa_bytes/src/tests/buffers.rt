@@ -1,6 +1,6 @@
 //! Readers over bytes that are cut, shared and limited.
 
-ghost use Rattle.std.specs.Prelude.{◌≤◌, length};
+ghost use Rattle.std.specs.Prelude.{◌≡◌, ◌≤◌, length, drop, OnOk};
 
 use crate::buf::Buf;
 use crate::error::DecodeError;
@@ -15,7 +15,9 @@ use std::test::Fail;
 // 150, "ok" and the fixed32 1, as the protobuf encoding guide spells them; then a 7.
 const TEXT: [u8; 10] = [0x96, 0x01, 2, b'o', b'k', 1, 0, 0, 0, 7];
 
-fn read_three<B: Buf>(alloc: Global, buf: &mut B) -> Result<(u64, String, u32), DecodeError> {
+fn read_three<B: Buf>(alloc: Global, buf: &mut B) -> Result<(u64, String, u32), DecodeError>
+    ensures kept { B.kept buf.new ≡ B.kept buf.old }
+{
     let number = decode_varint(buf)?;
     let word = types::decode_string(alloc, buf)?;
     let one = types::decode_fixed32(buf)?;
@@ -29,6 +31,8 @@ fn read_within<B: Buf>(
     limit: usize,
 ) -> Result<(u64, String, u32), DecodeError>
     requires { limit ≤ length (B.unread buf.old) }
+    ensures rest { OnOk result (B.unread buf.new ≡ drop limit (B.unread buf.old)) }
+    ensures kept { B.kept buf.new ≡ B.kept buf.old }
 {
     let mut front = Limited::new(buf, limit);
     let read = read_three(alloc, &mut front)?;
@@ -44,6 +48,8 @@ fn read_within_twice<B: Buf>(
     inner: usize,
 ) -> Result<(u64, String, u32), DecodeError>
     requires { (inner ≤ outer) × (outer ≤ length (B.unread buf.old)) }
+    ensures rest { OnOk result (B.unread buf.new ≡ drop outer (B.unread buf.old)) }
+    ensures kept { B.kept buf.new ≡ B.kept buf.old }
 {
     let mut front = Limited::new(buf, outer);
     let read = read_within(alloc, &mut front, inner)?;

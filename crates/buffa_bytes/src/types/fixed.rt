@@ -48,7 +48,7 @@ fn take_into<B: Buf>(buf: &mut B, bytes: &mut [u8]) -> Result<(), DecodeError>
 pub fn encode_fixed32<S: EncodeSink>(value: u32, sink: &mut S) -> Result<(), EncodeError>
     ensures { Writes result (S.written sink.old) (fixed32_text value) (S.written sink.new) }
 {
-    sink.put_slice(&value.to_le_bytes())
+    sink.put_slice(&u32::to_le_bytes(value))
 }
 
 /// Reads a fixed32: four bytes, the lowest first.
@@ -80,7 +80,7 @@ pub fn decode_fixed32<B: Buf>(buf: &mut B) -> Result<u32, DecodeError>
 pub fn encode_fixed64<S: EncodeSink>(value: u64, sink: &mut S) -> Result<(), EncodeError>
     ensures { Writes result (S.written sink.old) (fixed64_text value) (S.written sink.new) }
 {
-    sink.put_slice(&value.to_le_bytes())
+    sink.put_slice(&u64::to_le_bytes(value))
 }
 
 /// Reads a fixed64: eight bytes, the lowest first.
@@ -112,7 +112,7 @@ pub fn decode_fixed64<B: Buf>(buf: &mut B) -> Result<u64, DecodeError>
 pub fn encode_sfixed32<S: EncodeSink>(value: i32, sink: &mut S) -> Result<(), EncodeError>
     ensures { Writes result (S.written sink.old) (sfixed32_text value) (S.written sink.new) }
 {
-    sink.put_slice(&value.to_le_bytes())
+    sink.put_slice(&i32::to_le_bytes(value))
 }
 
 /// Reads an sfixed32: four bytes in two's complement, the lowest first.
@@ -144,7 +144,7 @@ pub fn decode_sfixed32<B: Buf>(buf: &mut B) -> Result<i32, DecodeError>
 pub fn encode_sfixed64<S: EncodeSink>(value: i64, sink: &mut S) -> Result<(), EncodeError>
     ensures { Writes result (S.written sink.old) (sfixed64_text value) (S.written sink.new) }
 {
-    sink.put_slice(&value.to_le_bytes())
+    sink.put_slice(&i64::to_le_bytes(value))
 }
 
 /// Reads an sfixed64: eight bytes in two's complement, the lowest first.

@@ -280,7 +280,7 @@ pub const BOOL_ENCODED_LEN: usize = 1;
 pub fn encode_bool<S: EncodeSink>(value: bool, sink: &mut S) -> Result<(), EncodeError>
     ensures { Writes result (S.written sink.old) (bool_text value) (S.written sink.new) }
 {
-    encode_varint(u64::from(value), sink)
+    encode_uint64(u64::from(value), sink)
 }
 
 /// Reads a bool: a varint of which anything but 0 is true.

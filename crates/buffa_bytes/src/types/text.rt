@@ -3,13 +3,16 @@
 ghost use Rattle.std.specs.Prelude.{◌≡◌, length, string_bytes};
 ghost use Rattle.buffa_bytes.specs.Gives.{GivesUnlessFull};
 ghost use Rattle.buffa_bytes.specs.Reading.{delimited_at};
+ghost use Rattle.buffa_bytes.specs.Texts.{bytes_as, string_as};
 ghost use Rattle.buffa_bytes.specs.Values.{delimited_text, string_at};
 ghost use Rattle.buffa_bytes.specs.Written.{Writes};
 
 use crate::buf::{Buf, copy_bytes};
 use crate::error::{DecodeError, EncodeError};
+use crate::proto::{ProtoBytes, ProtoString};
 use crate::sink::EncodeSink;
 use crate::varint::{decode_varint, encode_varint, varint_len};
+use bytes::Bytes;
 use std::alloc::Global;
 
 /// The length of a string's text: the length varint and the bytes.
@@ -101,4 +104,61 @@ pub fn decode_bytes<B: Buf>(alloc: Global, buf: &mut B) -> Result<Vec<u8>, Decod
 {
     let len = decode_varint(buf)?;
     copy_bytes(alloc, buf, len)
+}
+
+/// Reads bytes into a buffer that can be shared.
+///
+/// # Errors
+/// As [`decode_bytes`].
+///
+/// ```ignore
+/// let mut rest: &[u8] = &[2, 0xDE, 0xAD];
+/// let dead: Bytes = decode_bytes_to_bytes(alloc, &mut rest)?;
+/// ```
+pub fn decode_bytes_to_bytes<B: Buf>(alloc: Global, buf: &mut B) -> Result<Bytes, DecodeError>
+    ensures reads { GivesUnlessFull (λ b. (b, B.unread buf.new)) result (delimited_at (B.unread buf.old)) }
+    ensures kept { B.kept buf.new ≡ B.kept buf.old }
+{
+    let bytes = decode_bytes(alloc, buf)?;
+    let Ok(shared) = Bytes::from_vec(bytes) else {
+        return Err(DecodeError::OutOfMemory);
+    };
+    Ok(shared)
+}
+
+/// Reads a string into a type of one's own.
+///
+/// # Errors
+/// As [`decode_string`].
+///
+/// ```ignore
+/// let mut rest: &[u8] = &[3, b'b', b'e', b'e'];
+/// let bee = decode_string_to::<String, _>(alloc, &mut rest)?;
+/// ```
+pub fn decode_string_to<S: ProtoString, B: Buf>(
+    alloc: Global,
+    buf: &mut B,
+) -> Result<S, DecodeError>
+    ensures reads { GivesUnlessFull (λ s. (S.meaning s, B.unread buf.new)) result (string_as S.of_text (B.unread buf.old)) }
+    ensures kept { B.kept buf.new ≡ B.kept buf.old }
+{
+    let bytes = decode_bytes(alloc, buf)?;
+    S::from_wire(alloc, &bytes)
+}
+
+/// Reads bytes into a type of one's own.
+///
+/// # Errors
+/// As [`decode_bytes`].
+///
+/// ```ignore
+/// let mut rest: &[u8] = &[2, 0xDE, 0xAD];
+/// let dead = decode_bytes_to::<Vec<u8>, _>(alloc, &mut rest)?;
+/// ```
+pub fn decode_bytes_to<P: ProtoBytes, B: Buf>(alloc: Global, buf: &mut B) -> Result<P, DecodeError>
+    ensures reads { GivesUnlessFull (λ p. (P.meaning p, B.unread buf.new)) result (bytes_as P.of_bytes (B.unread buf.old)) }
+    ensures kept { B.kept buf.new ≡ B.kept buf.old }
+{
+    let bytes = decode_bytes(alloc, buf)?;
+    P::from_wire(alloc, &bytes)
 }

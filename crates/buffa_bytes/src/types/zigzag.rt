@@ -9,14 +9,11 @@ ghost use Rattle.buffa_bytes.specs.Scalars.{unzigzag, zigzag};
 /// ```ignore
 /// let one = zigzag_encode_i32(-1);
 /// ```
+#[tactic(auto, using(crate::proofs::ScalarLemmas::zigzag_fits32))]
 pub fn zigzag_encode_i32(value: i32) -> u32
     ensures { result ≡ zigzag value }
 {
-    if value < 0 {
-        2 * (-(value + 1)).cast_unsigned() + 1
-    } else {
-        2 * value.cast_unsigned()
-    }
+    zigzag_encode_i64(i64::from(value)) as u32
 }
 
 /// The number whose zigzag this is.
@@ -24,11 +21,11 @@ pub fn zigzag_encode_i32(value: i32) -> u32
 /// ```ignore
 /// let minus_one = zigzag_decode_i32(1);
 /// ```
+#[tactic(auto, using(crate::proofs::ScalarLemmas::unzigzag_fits32))]
 pub fn zigzag_decode_i32(number: u32) -> i32
     ensures { result ≡ unzigzag number }
 {
-    let half = (number / 2).cast_signed();
-    if number % 2 == 0 { half } else { -half - 1 }
+    zigzag_decode_i64(u64::from(number)) as i32
 }
 
 /// The zigzag of a number: `2v` for v of 0 or more, else `-2v - 1`. Source: the protobuf encoding

@@ -1,4 +1,4 @@
-use Rattle.std.proofs.Common.{rules, arith, ◌≡◌, ◌∙◌, ◌++◌, ◌-◌, ◌<◌, ◌≤◌, ap, drop, take, length, length-drop}
+use Rattle.std.proofs.Common.{rules, arith, ◌≡◌, ◌∙◌, ◌++◌, ◌≤◌, take, length, length-drop}
 use Rattle.buffa_bytes.proofs.BufLemmas.{chunk_moved, chunk_dropped}
 use Rattle.buffa_bytes.proofs.buf.move_bytes.Goals as goal
 

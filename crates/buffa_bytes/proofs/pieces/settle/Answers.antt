@@ -1,4 +1,4 @@
-use Rattle.std.proofs.Common.{arith, ◌≡◌, ◌∙◌, []}
+use Rattle.std.proofs.Common.{arith, ◌∙◌, []}
 use Rattle.buffa_bytes.proofs.PieceLemmas.{settled, settle_rest, settle_fits}
 use Rattle.buffa_bytes.proofs.pieces.settle.Goals as goal
 

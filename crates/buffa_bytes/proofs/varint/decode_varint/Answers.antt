@@ -1,5 +1,4 @@
-use Rattle.std.proofs.Common.{arith, refl, sym, ◌≡◌, ◌∙◌, ◌+◌, ◌*◌, ◌^◌, ◌<◌, ◌≤◌, ℕ, add-one}
-use Rattle.std.proofs.Math.Nat.{pow-suc}
+use Rattle.std.proofs.Common.{arith, refl, ◌∙◌, ◌+◌, ◌*◌, ◌^◌, ◌≤◌}
 use Rattle.buffa_bytes.proofs.DigitLemmas.{digit_room, next_scale, next_scale_is, next_below}
 use Rattle.buffa_bytes.proofs.StepLemmas.{behind_none, digit_end, digit_long, digit_last, digit_more}
 use Rattle.buffa_bytes.specs.Reading.{varint_at}

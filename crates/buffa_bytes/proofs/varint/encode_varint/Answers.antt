@@ -1,4 +1,4 @@
-use Rattle.std.proofs.Common.{arith, ◌≡◌, ◌∙◌, length, take, length-take, set, ◌+◌}
+use Rattle.std.proofs.Common.{arith, ◌≡◌, ◌∙◌, length, length-take, set, ◌+◌}
 use Rattle.std.proofs.Math.ListN.{length-set}
 use Rattle.buffa_bytes.proofs.SinkLemmas.{digit_more, digit_room}
 use Rattle.buffa_bytes.proofs.ShortestLemmas.{V-some}

@@ -1,4 +1,4 @@
-use Rattle.std.proofs.Common.{◌≡◌, ◌+◌, ◌<◌, ◌^◌, length}
+use Rattle.std.proofs.Common.{◌≡◌, ◌+◌, length}
 use Rattle.buffa_bytes.specs.Varint.{V}
 use Rattle.buffa_bytes.proofs.varint.varint_len.Given as goal
 

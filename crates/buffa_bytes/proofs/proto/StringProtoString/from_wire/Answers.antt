@@ -1,0 +1,14 @@
+use Rattle.std.proofs.Common.{◌≡◌, false, refl}
+use Rattle.std.specs.Str.{is_utf8}
+use Rattle.std.proofs.lemmas.Bool.{false_from_ne_true}
+use Rattle.std.proofs.lemmas.Str.{IsUtf8-from_is_utf8, is_utf8-from_IsUtf8}
+use Rattle.buffa_bytes.proofs.proto.StringProtoString.from_wire.Goals as goal
+
+pub returns-in_default : goal.returns-in_default
+returns-in_default c ne =
+    let bad : is_utf8 c.args.bytes.now ≡ false = false_from_ne_true (is_utf8 c.args.bytes.now) (λ h. c.in_default.ensures.cases.0 (IsUtf8-from_is_utf8 c.args.bytes.now h)) in
+    rw bad refl
+
+pub returns : goal.returns
+returns c =
+    rw (is_utf8-from_IsUtf8 c.args.bytes.now c.in-Ok.ensures.cases.1, c.in-Ok-from_str.ensures.ok, c.in-Ok.ensures.cases.0) refl

@@ -1,0 +1,25 @@
+-- Strings and bytes in a type of one's own: what is read of their texts.
+-- Source: the protobuf encoding guide, "Length-Delimited Records".
+use Rattle.std.specs.Prelude.{◌≡◌, ℕ, List, true, Result, Ok, Err, if◌then◌else◌, String, string_bytes}
+use Rattle.std.specs.Str.{is_utf8}
+use Rattle.std.proofs.lemmas.Str.{is_utf8-from_IsUtf8, IsUtf8-string_bytes}
+use Rattle.buffa_bytes.specs.Gives.{◌>>=◌}
+use Rattle.buffa_bytes.specs.declared.error.DecodeError.{DecodeError}
+use Rattle.buffa_bytes.specs.declared.error.DecodeError.TheVariants.{InvalidUtf8}
+use Rattle.buffa_bytes.specs.Reading.{delimited_at}
+
+-- what these bytes mean by of, if they are UTF-8
+abbrev pub text_as : {A : Type 0} → (List ℕ → A) → List ℕ → Result A DecodeError
+text_as of bytes = if is_utf8 bytes then Ok (of bytes) else Err InvalidUtf8
+
+-- what the string at the front means by of, and what follows it
+abbrev pub string_as : {A : Type 0} → (List ℕ → A) → List ℕ → Result (A × List ℕ) DecodeError
+string_as of bs = delimited_at bs >>= (λ p. text_as of p.0 >>= (λ v. Ok (v, p.1)))
+
+-- what the bytes at the front mean by of, and what follows them
+abbrev pub bytes_as : {A : Type 0} → (List ℕ → A) → List ℕ → Result (A × List ℕ) DecodeError
+bytes_as of bs = delimited_at bs >>= (λ p. Ok (of p.0, p.1))
+
+-- the bytes of a string are UTF-8
+pub string_is_text : {Z : Type 0} (s : String Z) → is_utf8 (string_bytes s) ≡ true
+string_is_text s = is_utf8-from_IsUtf8 (string_bytes s) (IsUtf8-string_bytes s)

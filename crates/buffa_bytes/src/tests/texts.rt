@@ -1,0 +1,91 @@
+//! Strings and bytes in types of one's own.
+
+ghost use Rattle.std.specs.Prelude.{[], refl, string_bytes};
+ghost use Rattle.buffa_bytes.specs.Texts.{string_is_text};
+
+use crate::blank::Blank;
+use crate::error::DecodeError;
+use crate::proto::{ProtoBytes, ProtoString};
+use crate::types;
+use bytes::Bytes;
+use std::alloc::Global;
+use std::test::Fail;
+
+const TESTING: [u8; 8] = [0x07, 0x74, 0x65, 0x73, 0x74, 0x69, 0x6E, 0x67];
+
+// A type of one's own.
+#[derive(Drop)]
+struct Word {
+    text: String,
+}
+
+impl Blank for Word {
+    type Meaning = [u8; 0];
+
+    ghost meaning = { λ word. string_bytes word.text };
+
+    ghost blank_is = { [] };
+
+    fn blank(alloc: Global) -> Word {
+        Word {
+            text: String::new(alloc),
+        }
+    }
+}
+
+impl ProtoString for Word {
+    ghost text = { λ text. text };
+
+    ghost of_text = { λ text. text };
+
+    fn from_wire(alloc: Global, bytes: &[u8]) -> Result<Word, DecodeError> {
+        let text = <String as ProtoString>::from_wire(alloc, bytes)?;
+        Ok(Word { text })
+    }
+
+    fn as_str(&self) -> &str {
+        self.text.as_str()
+    }
+
+    ghost is_text = { λ word. string_is_text word.text };
+
+    ghost text_stays = { λ bytes good. refl };
+
+    ghost meaning_stays = { λ text. refl };
+
+    ghost blank_text = { refl };
+}
+
+#[test]
+fn a_text_is_read_into_each_type(rt: HostRuntime) -> Result<(), Fail> {
+    let mut rest: &[u8] = &TESTING;
+    let word = types::decode_string_to::<String, _>(rt.alloc(), &mut rest)?;
+    assert_eq!(rt; ProtoString::as_str(&word), "testing");
+
+    let mut rest: &[u8] = &TESTING;
+    let word = types::decode_string_to::<Word, _>(rt.alloc(), &mut rest)?;
+    assert_eq!(rt; word.as_str(), "testing");
+
+    let mut rest: &[u8] = &TESTING;
+    let bytes = types::decode_bytes_to::<Vec<u8>, _>(rt.alloc(), &mut rest)?;
+    assert_eq!(rt; ProtoBytes::as_bytes(&bytes), b"testing".as_slice());
+
+    let mut rest: &[u8] = &TESTING;
+    let shared = types::decode_bytes_to_bytes(rt.alloc(), &mut rest)?;
+    assert_eq!(rt; shared.as_slice(), b"testing".as_slice());
+
+    let empty: Bytes = Blank::blank(rt.alloc());
+    assert_eq!(rt; empty.len(), 0);
+    Ok(())
+}
+
+#[test]
+fn bytes_that_are_no_text(rt: HostRuntime) {
+    let bad = [2, 0xC3, 0x28];
+    let mut rest: &[u8] = &bad;
+    let refused = types::decode_string_to::<String, _>(rt.alloc(), &mut rest).err();
+    assert_eq!(rt; refused, Some(DecodeError::InvalidUtf8));
+    let mut cut: &[u8] = &bad[..2];
+    let refused = types::decode_string_to::<String, _>(rt.alloc(), &mut cut).err();
+    assert_eq!(rt; refused, Some(DecodeError::UnexpectedEof));
+}
