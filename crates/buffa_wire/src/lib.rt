@@ -1,4 +1,5 @@
-//! The wire layer: the ground floor of `buffa_bytes`, and the budgets and contexts that reading lends on.
+//! The wire layer: the ground floor of `buffa_bytes`, the budgets and contexts that reading lends on, and
+//! the unknown fields that it keeps.
 //!
 //! A crate above needs this one alone: it re-exports all of `buffa_bytes`.
 #![tactic(auto)]
@@ -7,6 +8,7 @@ pub mod budget;
 pub mod context;
 #[cfg(test)]
 mod tests;
+pub mod unknown_fields;
 
 pub use budget::{Budget, DEFAULT_ELEMENT_MEMORY_LIMIT, DEFAULT_UNKNOWN_FIELD_LIMIT};
 pub use buffa_bytes::{
@@ -15,3 +17,4 @@ pub use buffa_bytes::{
     types, varint_len,
 };
 pub use context::{DecodeContext, RECURSION_LIMIT};
+pub use unknown_fields::{UnknownField, UnknownFieldData, UnknownFields};
