@@ -2,6 +2,7 @@ pub mod PutLemmas
 pub mod MeaningLemmas
 pub mod AlongLemmas
 pub mod EntryLemmas
+pub mod ResultLemmas
 pub mod RunLemmas
 pub mod SizeLemmas
 pub mod WriteLemmas

@@ -1,5 +1,5 @@
 -- The codecs of proto types. Source: the protobuf encoding guide, "Signed Integers" and "Length-Delimited Records".
-use Rattle.std.specs.Prelude.{◌≡◌, ℕ, ℤ, ◌<◌, ◌^◌, pos, true, List, [], length, Result, Ok}
+use Rattle.std.specs.Prelude.{◌≡◌, ℕ, ℤ, ◌<◌, ◌^◌, pos, true, List, [], length, Ok}
 use Rattle.std.specs.Str.{is_utf8}
 use Rattle.buffa_wire.specs.Gives.{◌>>=◌}
 use Rattle.buffa_wire.specs.Content.{number_in, bytes_in}

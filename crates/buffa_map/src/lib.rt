@@ -9,6 +9,7 @@
 pub mod codec;
 pub mod entry;
 pub mod fields;
+mod keep;
 pub mod laws;
 pub mod map_codec;
 mod ordered;
