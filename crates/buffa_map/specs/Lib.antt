@@ -7,3 +7,4 @@ pub mod Entry
 pub mod Run
 pub mod Lent
 pub mod Text
+pub mod Colour
