@@ -1,2 +1,4 @@
 pub mod RecordLemmas
 pub mod TextLemmas
+pub mod ReadLemmas
+pub mod LoopLemmas

@@ -17,4 +17,5 @@ pub use buffa_bytes::{
     types, varint_len,
 };
 pub use context::{DecodeContext, RECURSION_LIMIT};
+pub use unknown_fields::read::decode_unknown_field;
 pub use unknown_fields::{UnknownField, UnknownFieldData, UnknownFields};
