@@ -1,5 +1,5 @@
 -- The loops that read fields, step by step.
-use Rattle.std.proofs.Common.{◌≡◌, ◌≢◌, ℕ, zero, suc, ◌+◌, ◌-◌, ◌==◌, ◌<◌, ◌≤◌, ◌&&◌, Bool, List, [], ◌∷◌, ◌++◌, length, Result, Ok, Err, refl, sym, ap, subst, ◌∙◌, arith, length-append, if◌then◌else◌}
+use Rattle.std.proofs.Common.{◌≡◌, ◌≢◌, ℕ, zero, suc, ◌+◌, ◌-◌, ◌==◌, ◌<◌, ◌≤◌, ◌&&◌, Bool, List, [], ◌∷◌, ◌++◌, length, Result, Ok, Err, refl, sym, ap, subst, ◌∙◌, arith, length-append, append-nil, if◌then◌else◌}
 use Rattle.buffa_bytes.specs.Gives.{◌>>=◌}
 use Rattle.buffa_bytes.specs.declared.wire_type.WireType.{WireType}
 use Rattle.buffa_bytes.specs.declared.wire_type.WireType.TheVariants as wire
@@ -8,13 +8,13 @@ use Rattle.buffa_bytes.specs.declared.error.DecodeError.TheVariants.{RecursionLi
 use Rattle.buffa_bytes.specs.Reading.{tag_at, is_end}
 use Rattle.buffa_bytes.proofs.StepLemmas.{Agrees, agree_ok, same_answer, bind_same}
 use Rattle.buffa_bytes.proofs.FieldLemmas.{tag_falls}
-use Rattle.buffa_wire.specs.Records.{Datum, group, Records, no_records, one, records_of}
-use Rattle.buffa_wire.specs.Parse.{GroupFault, TakesRecords, TakesField, FieldFault, RecordsFault}
+use Rattle.buffa_wire.specs.Records.{Datum, group, Records, no_records, one, records_of, list_of}
+use Rattle.buffa_wire.specs.Parse.{Parse, GroupFault, TakesField, FieldFault}
 use Rattle.buffa_wire.specs.RecordReading.{GroupReader, plain_at, payload_by, field_by, field_then, group_within, group_at, field_at, records_within, records_at, list_at}
-use Rattle.buffa_wire.proofs.ReadLemmas.{Group, also, also-none, behind, behind_none, then_one, behind_one, end_true, end_false, closes_no, closes_yes, InGroup, FieldsFault,
-    group_sound, group_complete, group_faulty, group_sound_in, group_complete_in, group_faulty_in, records_sound_in, records_complete_in, records_faulty_in, field_sound, field_complete, field_faulty}
+use Rattle.buffa_wire.proofs.ReadLemmas.{Group, also, also-none, behind, behind_none, then_one, closes_no, closes_yes, group_sound, group_complete, group_faulty, group_sound_in, group_complete_in, group_faulty_in, records_sound_in, records_complete_in, records_faulty_in, field_sound}
 use Rattle.buffa_bytes.proofs.FieldLemmas.{not_end}
 use Rattle.std.proofs.lemmas.Bool.{eq-eqb, ne_eqb}
+use Rattle.buffa_wire.proofs.RecordLemmas.{list-records}
 
 -- ---- a field
 pub field_is_read : (d s n : ℕ) (w : WireType) (bs : List ℕ) → Agrees (field_at d s n w bs) (λ v. TakesField d s n w bs v.0 v.1 v.2) (FieldFault d s n w bs)
@@ -98,7 +98,7 @@ module _ (d s n : ℕ) (bs : List ℕ) (rs : List (ℕ × Datum)) (all : Result 
         behind (records_of next) (group_at d x.1 n x.2) ≡ all
     group_next w x m next f k e =
         ap (λ z. behind (records_of z) (group_at d x.1 n x.2)) (e ∙ ap (λ z. rs ++ (z, x.0) ∷ []) k) ∙ behind_more rs t.0 x.0 (group_at d x.1 n x.2)
-            ∙ ap (behind (records_of rs)) (sym (group_goes d s n bs t x deep tag w f)) ∙ read
+        ∙ ap (behind (records_of rs)) (sym (group_goes d s n bs t x deep tag w f)) ∙ read
 
 -- ---- a field after its tag, case by case
 pub field_end : (d s n : ℕ) (w : WireType) (bs : List ℕ) → w ≡ wire.EndGroup → field_at d s n w bs ≡ Err (InvalidEndGroup n)
@@ -132,3 +132,46 @@ field_plain_ok d s left n w bs x o g e f = field_paid d s left n w bs o e ∙ pa
 
 pub field_plain_err : (d s left n : ℕ) (w : WireType) (bs : List ℕ) (e : DecodeError) → w ≢ wire.EndGroup → w ≢ wire.StartGroup → left + 1 ≡ s → plain_at w bs ≡ Err e → field_at d s n w bs ≡ Err e
 field_plain_err d s left n w bs x o g e f = field_paid d s left n w bs o e ∙ payload_is_plain (group_at d) left n w bs g ∙ rw f refl
+
+-- ---- fields to the end of the bytes
+records_enough : (d k m s : ℕ) (bs : List ℕ) → length bs ≤ k → length bs ≤ m → records_within (group_at d) k s bs ≡ records_within (group_at d) m s bs
+records_enough d k m s bs h l =
+    same_answer _ _ (records_sound_in d (group_at d) (GroupFault d) (group_sound d) k s bs h)
+    (λ v x. let is : x.0.0 ≡ bs = sym (x.0.3 ∙ ap (λ z. x.0.0 ++ z) x.1 ∙ append-nil x.0.0) in
+    records_complete_in d (group_at d) (GroupFault d) (group_complete d) m s v.1 v.0 bs (subst (λ z. Parse d z v.0) is x.0.1) x.0.2 l ∙ ap (λ z. Ok (v.0, v.1, z)) (sym x.1))
+    (λ e x. records_faulty_in d (group_at d) (GroupFault d) (group_complete d) (group_faulty d) m s x.1 x.0 bs x.2 e x.3 x.4 x.5 l)
+
+records_none : (d s : ℕ) → records_at d s [] ≡ Ok (no_records, s, [])
+unfolding records_at records_within
+records_none d s = refl
+
+records_is : (d s : ℕ) (bs : List ℕ) → 0 < length bs → records_at d s bs ≡ (tag_at bs >>= field_then (group_at d) (records_at d) s)
+unfolding records_at records_within
+records_is d s [] o = absurd (omega arith)
+records_is d s (b ∷ bs) o =
+    records_enough d (length (b ∷ bs)) (suc (length bs)) s (b ∷ bs) (omega arith) (omega arith) ∙
+    bind_same (tag_at (b ∷ bs)) _ _ (λ t e.
+    bind_same (field_at d s t.0 t.1 t.2) _ _ (λ x f. ap (then_one t.0 x.0) (records_enough d (length bs) (length x.2) x.1 x.2 (omega (arith, tag_falls (b ∷ bs) t e, field_falls d s t.0 t.1 t.2 x f)) (omega arith))))
+
+pub list_begins : (d s left : ℕ) (bs : List ℕ) (rs : List (ℕ × Datum)) → rs ≡ [] → left ≡ s → behind (records_of rs) (records_at d left bs) ≡ records_at d s bs
+list_begins d s left bs rs e f = rw (e, f) (behind_none (records_at d s bs))
+
+pub list_ends : (d s left : ℕ) (all bs : List ℕ) (rs : List (ℕ × Datum)) → behind (records_of rs) (records_at d left bs) ≡ records_at d s all → length bs ≡ 0 → list_at d s all ≡ Ok rs
+list_ends d s left all [] rs h e = rw (sym h ∙ ap (behind (records_of rs)) (records_none d left)) (ap (λ z. Ok z) (ap list_of (also-none (records_of rs)) ∙ list-records rs))
+list_ends d s left all (b ∷ bs) rs h e = absurd (omega arith)
+
+module _ (d s left : ℕ) (all bs : List ℕ) (rs : List (ℕ × Datum)) (read : behind (records_of rs) (records_at d left bs) ≡ records_at d s all) (some : 0 < length bs) where
+  told : records_at d s all ≡ behind (records_of rs) (tag_at bs >>= field_then (group_at d) (records_at d) left)
+  told = sym read ∙ ap (behind (records_of rs)) (records_is d left bs some)
+
+  pub list_tag_err : (e : DecodeError) → tag_at bs ≡ Err e → list_at d s all ≡ Err e
+  list_tag_err e t = rw (told, t) refl
+
+  pub list_field_err : (t : ℕ × WireType × List ℕ) → tag_at bs ≡ Ok t → (e : DecodeError) → field_at d left t.0 t.1 t.2 ≡ Err e → list_at d s all ≡ Err e
+  list_field_err t g e f = rw (told, g, f) refl
+
+  pub list_next : (t : ℕ × WireType × List ℕ) → tag_at bs ≡ Ok t → (x : Datum × ℕ × List ℕ) (m : ℕ) (next : List (ℕ × Datum)) → field_at d left t.0 t.1 t.2 ≡ Ok x → m ≡ t.0 → next ≡ rs ++ (m, x.0) ∷ [] →
+      behind (records_of next) (records_at d x.1 x.2) ≡ records_at d s all
+  list_next t g x m next f k e =
+      ap (λ z. behind (records_of z) (records_at d x.1 x.2)) (e ∙ ap (λ z. rs ++ (z, x.0) ∷ []) k) ∙ behind_more rs t.0 x.0 (records_at d x.1 x.2)
+      ∙ ap (behind (records_of rs)) (sym (records_is d left bs some ∙ rw (g, f) refl)) ∙ read

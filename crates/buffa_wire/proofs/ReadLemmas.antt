@@ -1,23 +1,23 @@
 -- What is read of records, and their grammar.
-use Rattle.std.proofs.Common.{◌≡◌, ◌≢◌, ◌⊎◌, inl, inr, ℕ, zero, suc, ◌+◌, ◌-◌, ◌==◌, ◌<◌, ◌≤◌, ◌&&◌, Bool, true, false, true≢false, List, [], ◌∷◌, ◌++◌, length, Result, Ok, Err, refl, sym, ap, subst, ◌∙◌, arith, append_assoc, append-nil, length-append, if◌then◌else◌}
+use Rattle.std.proofs.Common.{◌≡◌, ◌≢◌, inl, inr, ℕ, zero, suc, ◌+◌, ◌-◌, ◌==◌, ◌<◌, ◌≤◌, ◌&&◌, true, false, true≢false, List, [], ◌∷◌, ◌++◌, length, Result, Ok, Err, refl, sym, ap, subst, ◌∙◌, arith, append_assoc, append-nil, length-append}
 use Rattle.std.specs.Int.{from_le_bytes, w32, w64}
 use Rattle.std.proofs.lemmas.Bool.{eqb-true, eqb-false, eq-eqb, ne_eqb}
 use Rattle.buffa_bytes.specs.Gives.{◌>>=◌}
 use Rattle.buffa_bytes.specs.declared.wire_type.WireType.{WireType}
 use Rattle.buffa_bytes.specs.declared.wire_type.WireType.TheVariants as wire
 use Rattle.buffa_bytes.specs.declared.error.DecodeError.{DecodeError}
-use Rattle.buffa_bytes.specs.declared.error.DecodeError.TheVariants.{UnexpectedEof, RecursionLimitExceeded, UnknownFieldLimitExceeded, InvalidEndGroup}
+use Rattle.buffa_bytes.specs.declared.error.DecodeError.TheVariants.{UnexpectedEof}
 use Rattle.buffa_bytes.specs.Field.{IsTag, TagFault, TakesTag}
 use Rattle.buffa_bytes.specs.Content.{ContentFault}
 use Rattle.buffa_bytes.specs.Reading.{varint_within, varint_at, tag_at, is_end}
-use Rattle.buffa_bytes.proofs.StepLemmas.{Agrees, agree_bind, agree_if, agree_ok, agree_weaker, same_answer, bind_same}
+use Rattle.buffa_bytes.proofs.StepLemmas.{Agrees, agree_bind, agree_if, agree_weaker}
 use Rattle.buffa_bytes.proofs.VarintLemmas.{varint_sound, varint_complete, varint_faulty}
 use Rattle.buffa_bytes.proofs.DelimitedLemmas.{taken_sound, taken_complete, taken_faulty, delimited_sound, delimited_complete, delimited_faulty}
 use Rattle.buffa_bytes.proofs.FieldLemmas.{tag_sound, tag_complete, tag_faulty, tag_some, not_end}
 use Rattle.buffa_wire.specs.Records.{Datum, varint, fixed32, fixed64, bytes, group, Records, no_records, one}
 use Rattle.buffa_wire.specs.Text.{wire_of}
-use Rattle.buffa_wire.specs.Parse.{FieldOf, Parse, IsPayload, slots, slots_inside, TakesField, TakesRecords, InsideFault, FieldFaultOf, NextFault, GroupFault}
-use Rattle.buffa_wire.specs.RecordReading.{GroupReader, plain_at, payload_by, field_by, field_then, group_within, group_at, records_within, records_at}
+use Rattle.buffa_wire.specs.Parse.{Parse, IsPayload, slots, slots_inside, TakesField, TakesRecords, InsideFault, FieldFaultOf, NextFault, GroupFault}
+use Rattle.buffa_wire.specs.RecordReading.{GroupReader, plain_at, payload_by, field_by, group_within, group_at, records_within}
 
 -- ---- wire types
 pub end_true : (w : WireType) → is_end w ≡ true → w ≡ wire.EndGroup
@@ -250,7 +250,7 @@ module _ (d : ℕ) (inner : GroupReader) (F : ℕ → ℕ → List ℕ → Decod
   -- whole fields are passed, by what reads a field and then goes on
   pass : (within : ℕ → ℕ → List ℕ → Result Group DecodeError) →
       ((k s n : ℕ) (x : Datum) (left : ℕ) (t p rest : List ℕ) → IsTag t n (wire_of x) → IsPayload d n x p → 1 + slots_inside x + left ≡ s →
-          within (suc k) s (t ++ (p ++ rest)) ≡ then_one n x (within k left rest)) →
+      within (suc k) s (t ++ (p ++ rest)) ≡ then_one n x (within k left rest)) →
       (rs : Records) (k s left : ℕ) (b x : List ℕ) → Parse d b rs → slots rs + left ≡ s → length (b ++ x) ≤ k → (m : ℕ) × (length x ≤ m) × (within k s (b ++ x) ≡ behind rs (within m left x))
   pass within step no_records k s left b x h e l =
       let is : b ++ x ≡ x = ap (λ z. z ++ x) h in

@@ -152,8 +152,11 @@ impl UnknownFields {
         let mut fields = UnknownFields::new(alloc);
         while !rest.is_empty() {
             let tag = Tag::decode(&mut rest)?;
-            let ctx = DecodeContext::new(RECURSION_LIMIT, &mut budget);
-            let field = decode_unknown_field(alloc, tag, &mut rest, ctx)?;
+            let lent = DecodeContext {
+                depth: RECURSION_LIMIT,
+                budget: &mut budget,
+            };
+            let field = decode_unknown_field(alloc, tag, &mut rest, lent)?;
             let Ok(_) = fields.push(field) else {
                 return Err(DecodeError::OutOfMemory);
             };
