@@ -2,3 +2,5 @@ pub mod RecordLemmas
 pub mod TextLemmas
 pub mod ReadLemmas
 pub mod LoopLemmas
+pub mod ParseLemmas
+pub mod JoinLemmas

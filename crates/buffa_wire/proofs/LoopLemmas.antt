@@ -6,15 +6,16 @@ use Rattle.buffa_bytes.specs.declared.wire_type.WireType.TheVariants as wire
 use Rattle.buffa_bytes.specs.declared.error.DecodeError.{DecodeError}
 use Rattle.buffa_bytes.specs.declared.error.DecodeError.TheVariants.{RecursionLimitExceeded, UnknownFieldLimitExceeded, InvalidEndGroup}
 use Rattle.buffa_bytes.specs.Reading.{tag_at, is_end}
-use Rattle.buffa_bytes.proofs.StepLemmas.{Agrees, agree_ok, same_answer, bind_same}
+use Rattle.buffa_bytes.proofs.StepLemmas.{Agrees, agree_ok, agree_bind, same_answer, bind_same}
 use Rattle.buffa_bytes.proofs.FieldLemmas.{tag_falls}
 use Rattle.buffa_wire.specs.Records.{Datum, group, Records, no_records, one, records_of, list_of}
-use Rattle.buffa_wire.specs.Parse.{Parse, GroupFault, TakesField, FieldFault}
+use Rattle.buffa_wire.specs.Text.{wire_of}
+use Rattle.buffa_wire.specs.Parse.{Parse, GroupFault, TakesField, FieldFault, RecordsFault, slots}
 use Rattle.buffa_wire.specs.RecordReading.{GroupReader, plain_at, payload_by, field_by, field_then, group_within, group_at, field_at, records_within, records_at, list_at}
-use Rattle.buffa_wire.proofs.ReadLemmas.{Group, also, also-none, behind, behind_none, then_one, closes_no, closes_yes, group_sound, group_complete, group_faulty, group_sound_in, group_complete_in, group_faulty_in, records_sound_in, records_complete_in, records_faulty_in, field_sound}
+use Rattle.buffa_wire.proofs.ReadLemmas.{Group, also, also-none, behind, behind_none, then_one, closes_no, closes_yes, group_sound, group_complete, group_faulty, group_sound_in, group_complete_in, group_faulty_in, records_sound_in, records_complete_in, records_faulty_in, field_sound, field_complete, field_faulty}
 use Rattle.buffa_bytes.proofs.FieldLemmas.{not_end}
 use Rattle.std.proofs.lemmas.Bool.{eq-eqb, ne_eqb}
-use Rattle.buffa_wire.proofs.RecordLemmas.{list-records}
+use Rattle.buffa_wire.proofs.RecordLemmas.{list-records, records-list}
 
 -- ---- a field
 pub field_is_read : (d s n : ℕ) (w : WireType) (bs : List ℕ) → Agrees (field_at d s n w bs) (λ v. TakesField d s n w bs v.0 v.1 v.2) (FieldFault d s n w bs)
@@ -175,3 +176,30 @@ module _ (d s left : ℕ) (all bs : List ℕ) (rs : List (ℕ × Datum)) (read :
   list_next t g x m next f k e =
       ap (λ z. behind (records_of z) (records_at d x.1 x.2)) (e ∙ ap (λ z. rs ++ (z, x.0) ∷ []) k) ∙ behind_more rs t.0 x.0 (records_at d x.1 x.2)
       ∙ ap (behind (records_of rs)) (sym (records_is d left bs some ∙ rw (g, f) refl)) ∙ read
+
+-- ---- what is read, and the grammar
+pub field_taken : (d s n : ℕ) (w : WireType) (bs : List ℕ) (x : Datum) (left : ℕ) (rest : List ℕ) → TakesField d s n w bs x left rest → field_at d s n w bs ≡ Ok (x, left, rest)
+field_taken d s n w bs x left rest (p, payload, same, e, is) =
+    subst (λ v. field_at d s n v bs ≡ Ok (x, left, rest)) same
+    (ap (field_at d s n (wire_of x)) is ∙ field_complete d (group_at d) (GroupFault d) (group_complete d) s n x left p rest payload e)
+
+pub field_refused : (d s n : ℕ) (w : WireType) (bs : List ℕ) (e : DecodeError) → FieldFault d s n w bs e → field_at d s n w bs ≡ Err e
+field_refused d = field_faulty d (group_at d) (GroupFault d) (group_faulty d)
+
+pub list_is_read : (d s : ℕ) (bs : List ℕ) → Agrees (list_at d s bs) (λ rs. Parse d bs (records_of rs) × (slots (records_of rs) ≤ s)) (RecordsFault d s bs)
+unfolding records_at
+list_is_read d s bs = agree_bind (records_sound_in d (group_at d) (GroupFault d) (group_sound d) (length bs) s bs (omega arith))
+    (λ v x. let is : x.0.0 ≡ bs = sym (x.0.3 ∙ ap (λ z. x.0.0 ++ z) x.1 ∙ append-nil x.0.0) in
+    let back = records-list v.0 in
+    record { holds = (subst (λ z. Parse d bs z) (sym back) (subst (λ z. Parse d z v.0) is x.0.1), subst (λ z. slots z ≤ s) (sym back) (omega (arith, x.0.2))) })
+    (λ e x. x)
+
+pub list_taken : (d s : ℕ) (bs : List ℕ) (rs : List (ℕ × Datum)) → Parse d bs (records_of rs) → slots (records_of rs) ≤ s → list_at d s bs ≡ Ok rs
+unfolding records_at
+list_taken d s bs rs h l =
+    rw (records_complete_in d (group_at d) (GroupFault d) (group_complete d) (length bs) s (s - slots (records_of rs)) (records_of rs) bs h (omega arith) (omega arith)) (ap (λ z. Ok z) (list-records rs))
+
+pub list_refused : (d s : ℕ) (bs : List ℕ) (e : DecodeError) → RecordsFault d s bs e → list_at d s bs ≡ Err e
+unfolding records_at
+list_refused d s bs e (rs, left, rest, h, o, x) =
+    rw (records_faulty_in d (group_at d) (GroupFault d) (group_complete d) (group_faulty d) (length bs) s left rs bs rest e h o x (omega arith)) refl

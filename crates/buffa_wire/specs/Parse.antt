@@ -49,6 +49,19 @@ abbrev mutual
   FitsDatum (bytes v) = length v < 2 ^ 64
   FitsDatum (group rs) = Fits rs
 
+-- records whose data are in range
+abbrev mutual
+  pub InRange : Records → Type 0
+  InRange no_records = Unit {0}
+  InRange (one n x rs) = DatumInRange x × InRange rs
+
+  pub DatumInRange : Datum → Type 0
+  DatumInRange (varint v) = v < 2 ^ 64
+  DatumInRange (fixed32 v) = v < 2 ^ 32
+  DatumInRange (fixed64 v) = v < 2 ^ 64
+  DatumInRange (bytes v) = Unit {0}
+  DatumInRange (group rs) = InRange rs
+
 -- one slot for each record, nested ones too
 abbrev mutual
   pub slots : Records → ℕ

@@ -6,6 +6,7 @@
 
 pub mod budget;
 pub mod context;
+pub mod laws;
 #[cfg(test)]
 mod tests;
 pub mod unknown_fields;
