@@ -6,6 +6,7 @@
 
 pub mod budget;
 pub mod context;
+pub mod laws;
 #[cfg(test)]
 mod tests;
 pub mod unknown_fields;
@@ -17,4 +18,5 @@ pub use buffa_bytes::{
     types, varint_len,
 };
 pub use context::{DecodeContext, RECURSION_LIMIT};
+pub use unknown_fields::read::decode_unknown_field;
 pub use unknown_fields::{UnknownField, UnknownFieldData, UnknownFields};

@@ -6,6 +6,7 @@
 pub mod copy;
 pub mod equal;
 pub mod list;
+pub mod read;
 pub mod size;
 pub mod tag;
 pub mod write;
