@@ -17,4 +17,6 @@ pub mod run;
 pub mod scalars;
 pub mod size;
 pub mod storage;
+#[cfg(test)]
+mod tests;
 pub mod write;

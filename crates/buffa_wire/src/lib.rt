@@ -5,10 +5,13 @@
 
 pub mod budget;
 pub mod context;
+#[cfg(test)]
+mod tests;
 
 pub use budget::{Budget, DEFAULT_ELEMENT_MEMORY_LIMIT, DEFAULT_UNKNOWN_FIELD_LIMIT};
 pub use buffa_bytes::{
-    Blank, Buf, DecodeError, EncodeError, EncodeSink, MAX_FIELD_NUMBER, MapKey, MessageSetFault, PlainKey, Tag,
-    WireType, check_wire_type, decode_varint, encode_varint, skip_field_depth, types, varint_len,
+    Blank, Buf, DecodeError, EncodeError, EncodeSink, MAX_FIELD_NUMBER, MapKey, MessageSetFault,
+    PlainKey, Tag, WireType, check_wire_type, decode_varint, encode_varint, skip_field_depth,
+    types, varint_len,
 };
 pub use context::{DecodeContext, RECURSION_LIMIT};
