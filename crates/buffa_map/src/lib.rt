@@ -9,6 +9,8 @@
 pub mod codec;
 pub mod entry;
 pub mod fields;
+mod hashed;
+pub mod indexed;
 pub mod laws;
 pub mod map_codec;
 mod ordered;
