@@ -143,11 +143,11 @@ impl<T: ProtoString> MapCodec for ProtoStringMap<T> {
     ghost normal = { λ _. Unit {0} };
 
     fn encoded_len(value: &T) -> u64 {
-        string_encoded_len(value.as_str()) as u64
+        string_encoded_len(T::as_str(value)) as u64
     }
 
     fn encode<S: EncodeSink>(value: &T, sink: &mut S) -> Result<(), EncodeError> {
-        encode_string(value.as_str(), sink)
+        encode_string(T::as_str(value), sink)
     }
 
     ghost written_wire = { refl };
@@ -277,11 +277,11 @@ impl MapCodec for BytesBuf {
     ghost normal = { λ _. Unit {0} };
 
     fn encoded_len(value: &Bytes) -> u64 {
-        bytes_encoded_len(value.as_slice()) as u64
+        bytes_encoded_len(Bytes::as_slice(value)) as u64
     }
 
     fn encode<S: EncodeSink>(value: &Bytes, sink: &mut S) -> Result<(), EncodeError> {
-        encode_bytes(value.as_slice(), sink)
+        encode_bytes(Bytes::as_slice(value), sink)
     }
 
     ghost written_wire = { refl };
@@ -350,11 +350,11 @@ impl<T: ProtoBytes> MapCodec for ProtoBytesMap<T> {
     ghost normal = { λ _. Unit {0} };
 
     fn encoded_len(value: &T) -> u64 {
-        bytes_encoded_len(value.as_bytes()) as u64
+        bytes_encoded_len(T::as_bytes(value)) as u64
     }
 
     fn encode<S: EncodeSink>(value: &T, sink: &mut S) -> Result<(), EncodeError> {
-        encode_bytes(value.as_bytes(), sink)
+        encode_bytes(T::as_bytes(value), sink)
     }
 
     ghost written_wire = { refl };
