@@ -1,19 +1,25 @@
--- What the codecs of scalars and strings owe.
-use Rattle.std.proofs.Common.{◌≡◌, ℕ, ℤ, Bool, true, false, List, ◌++◌, length, Option, None, Some, Result, Ok, Err, refl, sym, ap, if◌then◌else◌}
+-- What the codecs of scalars, strings and bytes owe: one law for each shape.
+use Rattle.std.proofs.Common.{◌≡◌, ℕ, ℤ, ◌<◌, ◌^◌, Bool, true, false, List, length, Option, None, Some, Result, Ok, Err, refl, sym, ap, ◌∙◌, arith, if◌then◌else◌}
 use Rattle.std.specs.Prelude.{FitsSigned}
-use Rattle.std.specs.Int.{w32, cast_unsigned, w64}
+use Rattle.std.specs.Int.{to_le_bytes, w32, w64}
 use Rattle.std.specs.Str.{is_utf8}
+use Rattle.std.proofs.lemmas.Nat.{from_le_bytes-to_le_bytes_4, from_le_bytes-to_le_bytes_8}
 use Rattle.buffa_wire.specs.Gives.{◌>>=◌}
-use Rattle.buffa_wire.specs.Content.{Content, HasContent, number_in, bytes_in}
+use Rattle.buffa_wire.specs.Content.{Content, HasContent, bytes_in, number_in}
 use Rattle.buffa_wire.specs.Content.Content.{number, bytes}
-use Rattle.buffa_wire.specs.Values.{text_of, int32_of, int32_text}
+use Rattle.buffa_wire.specs.Values.{delimited_text}
 use Rattle.buffa_wire.specs.Varint.{V}
-use Rattle.buffa_bytes.specs.declared.wire_type.WireType.TheVariants.{Varint, LengthDelimited}
+use Rattle.buffa_bytes.specs.Scalars.{zigzag}
+use Rattle.buffa_bytes.specs.Texts.{text_as}
+use Rattle.buffa_bytes.specs.declared.wire_type.WireType.{WireType}
+use Rattle.buffa_bytes.specs.declared.wire_type.WireType.TheVariants.{Varint, Fixed64, LengthDelimited, Fixed32}
 use Rattle.buffa_bytes.specs.declared.error.DecodeError.{DecodeError}
 use Rattle.buffa_bytes.specs.declared.error.DecodeError.TheVariants.{InvalidUtf8}
-use Rattle.buffa_bytes.proofs.IntLemmas.{int32_back_of, int32_below}
+use Rattle.buffa_bytes.proofs.ScalarLemmas.{zigzag_fits32}
 use Rattle.buffa_bytes.proofs.VarintLemmas.{Var-V}
-use Rattle.buffa_map.specs.Scalars.{IsText}
+use Rattle.buffa_map.specs.Scalars.{IsLengthy, IsText}
+
+-- ---- every value is a declared one
 
 abbrev read : {V : Type 0} → V × Bool → Result (V × Bool) DecodeError
 read x = Ok x
@@ -26,21 +32,57 @@ pub always_known : {V : Type 0} {x : V} (y : V) (known : Bool) → read (x, true
 unfolding flag
 always_known y known h = sym (ap flag h)
 
-known_of : (t : List ℕ) (b : Bool) (new : List ℕ) (known : Bool) → ((if b then Ok t else Err InvalidUtf8) >>= (λ text. read (text, true))) ≡ Ok (new, known) → known ≡ true
+known_of : {V : Type 0} (t : V) (b : Bool) (new : V) (known : Bool) → ((if b then Ok t else Err InvalidUtf8) >>= (λ v. read (v, true))) ≡ Ok (new, known) → known ≡ true
 known_of t true new known h = always_known new known h
 known_of t false new known h = cc
 
-pub text_known : (c : Content) (new : List ℕ) (known : Bool) → (text_of (bytes_in c) >>= (λ text. read (text, true))) ≡ Ok (new, known) → known ≡ true
-text_known c new known h = known_of (bytes_in c) (is_utf8 (bytes_in c)) new known h
+pub string_known : {V : Type 0} (of : List ℕ → V) (c : Content) (new : V) (known : Bool) → (text_as of (bytes_in c) >>= (λ v. read (v, true))) ≡ Ok (new, known) → known ≡ true
+string_known of c new known h = known_of (of (bytes_in c)) (is_utf8 (bytes_in c)) new known h
+
+-- ---- lengths of payloads
 
 abbrev none : Option ℕ
 none = None
 
-pub no_fixed_len : {n : ℕ} {P : Type 0} → none ≡ Some n → P
-no_fixed_len h = cc
+abbrev some : ℕ → Option ℕ
+some n = Some n
 
-pub int32_reads_back : (v : ℤ) → FitsSigned w32 v → (c : Content) × HasContent Varint (int32_text v) c × (read (int32_of (number_in c), true) ≡ Ok (v, true))
-int32_reads_back v h = (number (cast_unsigned w64 v), Var-V (cast_unsigned w64 v) (int32_below v h), ap (λ z. Ok (z, true)) (int32_back_of v h))
+pub no_fixed_length : {n : ℕ} {P : Type 0} → none ≡ Some n → P
+no_fixed_length h = cc
 
-pub string_reads_back : (v : List ℕ) → IsText v → (c : Content) × HasContent LengthDelimited (V (length v) ++ v) c × ((text_of (bytes_in c) >>= (λ text. read (text, true))) ≡ Ok (v, true))
-string_reads_back v h = (bytes v, (V (length v), Var-V (length v) h.1, refl), rw h.0 refl)
+same_length : {k n : ℕ} → some k ≡ Some n → k ≡ n
+same_length h = cc
+
+pub one_length : {k n m : ℕ} → some k ≡ Some n → m ≡ k → m ≡ n
+one_length h e = e ∙ same_length h
+
+-- ---- a payload reads back to its value, whatever stood before
+
+-- p is a payload of wire type w that reads makes v of
+abbrev pub ReadsAs : {V : Type 0} → WireType → (Content → Result (V × Bool) DecodeError) → List ℕ → V → Type 0
+ReadsAs w reads p v = (c : Content) × HasContent w p c × (reads c ≡ Ok (v, true))
+
+module _ {A : Type 0} (of : ℕ → A) (num : A → ℕ) (v : A) where
+  pub varint_reads_back : num v < 2 ^ 64 → of (num v) ≡ v → ReadsAs Varint (λ c. read (of (number_in c), true)) (V (num v)) v
+  varint_reads_back h e = (number (num v), Var-V (num v) h, ap (λ z. Ok (z, true)) e)
+
+  pub four_reads_back : num v < 2 ^ 32 → of (num v) ≡ v → ReadsAs Fixed32 (λ c. read (of (number_in c), true)) (to_le_bytes w32 (num v)) v
+  four_reads_back h e = (number (num v), (refl, sym (from_le_bytes-to_le_bytes_4 (num v) h)), ap (λ z. Ok (z, true)) e)
+
+  pub eight_reads_back : num v < 2 ^ 64 → of (num v) ≡ v → ReadsAs Fixed64 (λ c. read (of (number_in c), true)) (to_le_bytes w64 (num v)) v
+  eight_reads_back h e = (number (num v), (refl, sym (from_le_bytes-to_le_bytes_8 (num v) h)), ap (λ z. Ok (z, true)) e)
+
+module _ {A : Type 0} (of : List ℕ → A) (content : A → List ℕ) (v : A) where
+  pub bytes_read_back : IsLengthy (content v) → of (content v) ≡ v → ReadsAs LengthDelimited (λ c. read (of (bytes_in c), true)) (delimited_text (content v)) v
+  bytes_read_back h e = (bytes (content v), (V (length (content v)), Var-V (length (content v)) h, refl), ap (λ z. Ok (z, true)) e)
+
+  pub string_reads_back : IsText (content v) → of (content v) ≡ v → ReadsAs LengthDelimited (λ c. text_as of (bytes_in c) >>= (λ x. read (x, true))) (delimited_text (content v)) v
+  string_reads_back h e = (bytes (content v), (V (length (content v)), Var-V (length (content v)) h.1, refl), rw (h.0, e) refl)
+
+-- ---- numbers of 32 bits as varints
+
+pub below_64 : (n : ℕ) → n < 2 ^ 32 → n < 2 ^ 64
+below_64 n h = omega (arith, h)
+
+pub zigzag32_below : (v : ℤ) → FitsSigned w32 v → zigzag v < 2 ^ 64
+zigzag32_below v h = below_64 (zigzag v) (zigzag_fits32 v h)

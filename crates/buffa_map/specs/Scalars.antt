@@ -1,26 +1,54 @@
--- The codecs of proto types. Source: the protobuf encoding guide, "Signed Integers" and "Length-Delimited Records".
-use Rattle.std.specs.Prelude.{◌≡◌, ℕ, ℤ, ◌<◌, ◌^◌, pos, true, List, [], length, Ok}
+-- How scalars, strings and bytes are read and written: a number, a string or bytes in a payload, which
+-- means a value and takes the place of what stood.
+-- Source: the protobuf encoding guide, "Message Structure" and "Length-Delimited Records".
+use Rattle.std.specs.Prelude.{◌≡◌, ℕ, ◌<◌, ◌^◌, true, List, length, Ok}
+use Rattle.std.specs.Int.{to_le_bytes, w32, w64}
 use Rattle.std.specs.Str.{is_utf8}
 use Rattle.buffa_wire.specs.Gives.{◌>>=◌}
 use Rattle.buffa_wire.specs.Content.{number_in, bytes_in}
-use Rattle.buffa_wire.specs.Values.{delimited_text, int32_of, int32_text, text_of}
-use Rattle.buffa_bytes.specs.declared.wire_type.WireType.TheVariants.{Varint, LengthDelimited}
+use Rattle.buffa_wire.specs.Values.{delimited_text}
+use Rattle.buffa_wire.specs.Varint.{V}
+use Rattle.buffa_bytes.specs.Texts.{text_as}
+use Rattle.buffa_bytes.specs.declared.wire_type.WireType.{WireType}
+use Rattle.buffa_bytes.specs.declared.wire_type.WireType.TheVariants.{Varint, Fixed64, LengthDelimited, Fixed32}
 use Rattle.buffa_map.specs.Codec.{Reading, Writing}
 
--- int32: the low 32 bits of a varint
-abbrev pub int32_reading : Reading ℤ
-int32_reading = record { blank = pos 0; wire = Varint; reads = λ d old c. Ok (int32_of (number_in c), true) }
+-- ---- reading: the value starts as blank, and what the payload holds means a value by of
 
-abbrev pub int32_writing : Writing ℤ
-int32_writing = record { wire = Varint; text = int32_text }
+-- the number in a payload of wire type w
+abbrev pub number_reading : {V : Type 0} → WireType → V → (ℕ → V) → Reading V
+number_reading w blank of = record { blank = blank; wire = w; reads = λ d old c. Ok (of (number_in c), true) }
 
--- string: bytes that are UTF-8
-abbrev pub string_reading : Reading (List ℕ)
-string_reading = record { blank = []; wire = LengthDelimited; reads = λ d old c. text_of (bytes_in c) >>= (λ text. Ok (text, true)) }
+abbrev pub bytes_reading : {V : Type 0} → V → (List ℕ → V) → Reading V
+bytes_reading blank of = record { blank = blank; wire = LengthDelimited; reads = λ d old c. Ok (of (bytes_in c), true) }
 
-abbrev pub string_writing : Writing (List ℕ)
-string_writing = record { wire = LengthDelimited; text = delimited_text }
+-- bytes that are UTF-8
+abbrev pub string_reading : {V : Type 0} → V → (List ℕ → V) → Reading V
+string_reading blank of = record { blank = blank; wire = LengthDelimited; reads = λ d old c. text_as of (bytes_in c) >>= (λ v. Ok (v, true)) }
 
--- a text that a string can hold
+-- ---- writing: the number, or the bytes, of a value
+
+abbrev pub varint_writing : {V : Type 0} → (V → ℕ) → Writing V
+varint_writing num = record { wire = Varint; text = λ v. V (num v) }
+
+-- four bytes, the lowest first
+abbrev pub four_writing : {V : Type 0} → (V → ℕ) → Writing V
+four_writing num = record { wire = Fixed32; text = λ v. to_le_bytes w32 (num v) }
+
+-- eight bytes, the lowest first
+abbrev pub eight_writing : {V : Type 0} → (V → ℕ) → Writing V
+eight_writing num = record { wire = Fixed64; text = λ v. to_le_bytes w64 (num v) }
+
+-- a length and the bytes
+abbrev pub delimited_writing : {V : Type 0} → (V → List ℕ) → Writing V
+delimited_writing bytes = record { wire = LengthDelimited; text = λ v. delimited_text (bytes v) }
+
+-- ---- what a type holds
+
+-- as many bytes as a length can tell
+abbrev pub IsLengthy : List ℕ → Type 0
+IsLengthy bytes = length bytes < 2 ^ 64
+
+-- the bytes of a string
 abbrev pub IsText : List ℕ → Type 0
-IsText v = (is_utf8 v ≡ true) × (length v < 2 ^ 64)
+IsText bytes = (is_utf8 bytes ≡ true) × IsLengthy bytes

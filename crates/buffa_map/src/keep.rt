@@ -42,6 +42,7 @@ impl Keeper for Dropped {
         _entry: Vec<u8>,
         _budget: &mut Budget,
     ) -> Result<(), DecodeError> {
+        // Nothing is kept, and nothing is spent.
         Ok(())
     }
 }

@@ -11,6 +11,8 @@ pub mod codec;
 mod colour;
 pub mod entry;
 pub mod fields;
+mod hashed;
+pub mod indexed;
 mod keep;
 #[cfg(test)]
 mod kept_tests;

@@ -10,8 +10,12 @@
 
 pub use crate::codec::{MapCodec, MapValueDecode, MapValueDecodeStatus};
 pub use crate::entry::{merge_entry, merge_entry_with_unknowns};
+pub use crate::indexed::Map;
 pub use crate::run::read_map_field;
-pub use crate::scalars::{Int32, Str};
+pub use crate::scalars::{
+    Bool, BytesBuf, BytesVec, Fixed32, Fixed64, Int32, Int64, ProtoBytesMap, ProtoStringMap,
+    Sfixed32, Sfixed64, Sint32, Sint64, Str, Uint32, Uint64,
+};
 pub use crate::size::field_len;
 pub use crate::storage::{MapStorage, MapWalk, StableOrder, StableWalk};
 pub use crate::write::write_field;

@@ -1,162 +1,25 @@
-//! The codecs of scalars and strings.
+//! The codecs of scalars, strings and bytes.
+//!
+//! | Codec | Value | Wire type | Bytes of the payload | Units of element memory |
+//! |---|---|---|---|---|
+//! | [`Int32`], [`Sint32`], [`Uint32`] | `i32`, `i32`, `u32` | varint | 1 to 5, 10 for a negative `Int32` | 4 |
+//! | [`Int64`], [`Sint64`], [`Uint64`] | `i64`, `i64`, `u64` | varint | 1 to 10 | 8 |
+//! | [`Bool`] | `bool` | varint | 1 | 1 |
+//! | [`Fixed32`], [`Sfixed32`] | `u32`, `i32` | four bytes | 4 | 4 |
+//! | [`Fixed64`], [`Sfixed64`] | `u64`, `i64` | eight bytes | 8 | 8 |
+//! | [`Str`], [`ProtoStringMap`] | `String`, a type of one's own | length and bytes | | 24 |
+//! | [`BytesVec`], [`ProtoBytesMap`] | `Vec<u8>`, a type of one's own | length and bytes | | 24 |
+//! | [`BytesBuf`] | `bytes::Bytes` | length and bytes | | 32 |
+//!
+//! Each of them replaces the value that stood, and leaves it where a payload is refused.
+//! Source: the protobuf encoding guide, "Message Structure".
 
-use crate::codec::sealed::Sealed;
-use crate::codec::{MapCodec, MapValueDecode, MapValueDecodeStatus};
-use buffa_wire::types::{
-    decode_int32, decode_string, encode_int32, encode_string, int32_encoded_len, string_encoded_len,
-};
-use buffa_wire::{Buf, DecodeContext, DecodeError, EncodeError, EncodeSink, WireType};
-use std::alloc::Global;
+mod delimited;
+mod fixed;
+mod integer;
+mod zigzag;
 
-/// `int32`: an `i32` as a varint of its 64-bit two's complement.
-pub struct Int32;
-
-/// `string`: a `String`, as a length and bytes of UTF-8.
-pub struct Str;
-
-impl Sealed for Int32 {}
-
-impl Sealed for Str {}
-
-impl MapValueDecode for Int32 {
-    ghost use Rattle.std.specs.Prelude.{false, refl, true};
-    ghost use Rattle.buffa_bytes.specs.declared.wire_type.WireType.TheVariants.{Varint};
-    ghost use Rattle.buffa_map.specs.Scalars.{int32_reading};
-    ghost use Rattle.buffa_map.specs.ScalarLaws.{always_known};
-
-    type Value = i32;
-
-    const WIRE_TYPE: WireType = WireType::Varint;
-
-    const MAY_RETURN_UNKNOWN: bool = false;
-
-    const COST: usize = 4;
-
-    ghost WIRE_TYPE = { Varint };
-
-    ghost MAY_RETURN_UNKNOWN = { false };
-
-    ghost COST = { 4 };
-
-    ghost reading = { int32_reading };
-
-    ghost whole = { true };
-
-    fn merge<B: Buf>(
-        _alloc: Global,
-        value: &mut i32,
-        buf: &mut B,
-        _ctx: DecodeContext<'_>,
-    ) -> Result<MapValueDecodeStatus, DecodeError> {
-        *value = decode_int32(buf)?;
-        Ok(MapValueDecodeStatus::Known)
-    }
-
-    ghost wire = { refl };
-
-    ghost blank = { refl };
-
-    ghost declared = { λ _ d old c new known h. always_known new known h };
-}
-
-impl MapCodec for Int32 {
-    ghost use Rattle.std.specs.Prelude.{FitsSigned, None, refl};
-    ghost use Rattle.std.specs.Int.{w32};
-    ghost use Rattle.buffa_map.specs.Scalars.{int32_writing};
-    ghost use Rattle.buffa_map.specs.ScalarLaws.{int32_reads_back, no_fixed_len};
-
-    const FIXED_LEN: Option<u64> = None;
-
-    ghost FIXED_LEN = { None };
-
-    ghost writing = { int32_writing };
-
-    ghost fits = { FitsSigned w32 };
-
-    ghost normal = { λ _. Unit {0} };
-
-    fn encoded_len(value: &i32) -> u64 {
-        int32_encoded_len(*value) as u64
-    }
-
-    fn encode<S: EncodeSink>(value: &i32, sink: &mut S) -> Result<(), EncodeError> {
-        encode_int32(*value, sink)
-    }
-
-    ghost written_wire = { refl };
-
-    ghost reads_back = { λ d old v h _. int32_reads_back v h };
-
-    ghost fixed = { λ n h. no_fixed_len h };
-}
-
-impl MapValueDecode for Str {
-    ghost use Rattle.std.specs.Prelude.{false, refl, true};
-    ghost use Rattle.buffa_bytes.specs.declared.wire_type.WireType.TheVariants.{LengthDelimited};
-    ghost use Rattle.buffa_map.specs.Scalars.{string_reading};
-    ghost use Rattle.buffa_map.specs.ScalarLaws.{text_known};
-
-    type Value = String;
-
-    const WIRE_TYPE: WireType = WireType::LengthDelimited;
-
-    const MAY_RETURN_UNKNOWN: bool = false;
-
-    const COST: usize = 24;
-
-    ghost WIRE_TYPE = { LengthDelimited };
-
-    ghost MAY_RETURN_UNKNOWN = { false };
-
-    ghost COST = { 24 };
-
-    ghost reading = { string_reading };
-
-    ghost whole = { true };
-
-    fn merge<B: Buf>(
-        alloc: Global,
-        value: &mut String,
-        buf: &mut B,
-        _ctx: DecodeContext<'_>,
-    ) -> Result<MapValueDecodeStatus, DecodeError> {
-        *value = decode_string(alloc, buf)?;
-        Ok(MapValueDecodeStatus::Known)
-    }
-
-    ghost wire = { refl };
-
-    ghost blank = { refl };
-
-    ghost declared = { λ _ d old c new known h. text_known c new known h };
-}
-
-impl MapCodec for Str {
-    ghost use Rattle.std.specs.Prelude.{None, refl};
-    ghost use Rattle.buffa_map.specs.Scalars.{IsText, string_writing};
-    ghost use Rattle.buffa_map.specs.ScalarLaws.{no_fixed_len, string_reads_back};
-
-    const FIXED_LEN: Option<u64> = None;
-
-    ghost FIXED_LEN = { None };
-
-    ghost writing = { string_writing };
-
-    ghost fits = { IsText };
-
-    ghost normal = { λ _. Unit {0} };
-
-    fn encoded_len(value: &String) -> u64 {
-        string_encoded_len(value.as_str()) as u64
-    }
-
-    fn encode<S: EncodeSink>(value: &String, sink: &mut S) -> Result<(), EncodeError> {
-        encode_string(value.as_str(), sink)
-    }
-
-    ghost written_wire = { refl };
-
-    ghost reads_back = { λ d old v h _. string_reads_back v h };
-
-    ghost fixed = { λ n h. no_fixed_len h };
-}
+pub use delimited::{BytesBuf, BytesVec, ProtoBytesMap, ProtoStringMap, Str};
+pub use fixed::{Fixed32, Fixed64, Sfixed32, Sfixed64};
+pub use integer::{Bool, Int32, Int64, Uint32, Uint64};
+pub use zigzag::{Sint32, Sint64};

@@ -1,0 +1,74 @@
+//! `IndexMap` as a storage, walked in the order in which its keys came.
+
+ghost use Rattle.std.specs.Prelude.{◌≡◌, OnErr, OnOk};
+ghost use Rattle.std.specs.HashMap.{HashMap};
+ghost use Rattle.buffa_map.specs.Pairs.{SamePairs, means, put};
+
+use crate::storage::{MapStorage, MapWalk, StableOrder, StableWalk};
+use buffa_wire::{Blank, MapKey};
+use indexmap::IndexMap;
+use std::alloc::AllocError;
+use std::hash::{BuildHasher, Hash};
+
+/// The map to take where nothing speaks for another one: it is walked in the order in which its keys came.
+///
+/// ```ignore
+/// let mut map: Map<String, i32> = Map::new(alloc);
+/// ```
+pub type Map<K, V> = IndexMap<K, V>;
+
+impl<K: MapKey + Hash, V: Blank, S: BuildHasher> MapStorage for IndexMap<K, V, S> {
+    type Key = K;
+
+    type Value = V;
+
+    ghost equal = { K.same };
+
+    ghost pairs = { λ m. means K.meaning V.meaning m.entries };
+
+    ghost use Rattle.std.specs.Prelude.{◌≡◌};
+
+    ghost walks = { λ m l. l ≡ means K.meaning V.meaning m.entries };
+
+    fn storage_len(&self) -> usize {
+        self.len()
+    }
+
+    // A pair that is there keeps its place, and a new one goes last.
+    fn storage_insert(&mut self, key: K, value: V) -> Result<(), AllocError>
+        ensures ok { OnOk result (SamePairs K.same (put K.same (means K.meaning V.meaning self.old.entries) (K.meaning key) (V.meaning value)) (means K.meaning V.meaning self.new.entries)) }
+        ensures err { OnErr result (means K.meaning V.meaning self.new.entries ≡ means K.meaning V.meaning self.old.entries) }
+        ensures places { OnOk result (means K.meaning V.meaning self.new.entries ≡ put K.same (means K.meaning V.meaning self.old.entries) (K.meaning key) (V.meaning value)) }
+    {
+        match self.insert(key, value) {
+            Ok(_) => Ok(()),
+            Err(_) => Err(AllocError),
+        }
+    }
+
+    fn storage_clear(&mut self) {
+        self.clear();
+    }
+
+    ghost equivalence = { K.MapKey.equivalence };
+}
+
+impl<'a, K: MapKey + Hash + 'a, V: Blank + 'a, S: BuildHasher + 'a> MapWalk<'a>
+    for IndexMap<K, V, S> {
+    type Iter = indexmap::map::Iter<'a, K, V>;
+
+    ghost left = { λ s. s };
+
+    fn storage_iter(&'a self) -> indexmap::map::Iter<'a, K, V> {
+        self.iter()
+    }
+}
+
+impl<K: MapKey + Hash, V: Blank, S: BuildHasher> StableOrder for IndexMap<K, V, S> {
+    ghost use Rattle.std.proofs.Common.{◌∙◌, sym};
+
+    ghost stable = { λ m k l p q. p ∙ sym q };
+}
+
+impl<'a, K: MapKey + Hash + 'a, V: Blank + 'a, S: BuildHasher + 'a> StableWalk<'a>
+    for IndexMap<K, V, S> {}

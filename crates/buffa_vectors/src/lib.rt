@@ -1,0 +1,7 @@
+//! Tests of the crates below, against values that others made.
+#![tactic(auto)]
+
+#[cfg(test)]
+mod maps;
+#[cfg(test)]
+mod maps_table;
