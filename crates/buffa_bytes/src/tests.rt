@@ -6,7 +6,7 @@ mod texts;
 
 use crate::blank::Blank;
 use crate::buf::{Buf, copy_bytes};
-use crate::error::{DecodeError, EncodeError};
+use crate::error::{DecodeError, EncodeError, MessageSetFault};
 use crate::sink::EncodeSink;
 use crate::skip::skip_field_depth;
 use crate::tag::Tag;
@@ -155,8 +155,12 @@ fn errors_are_printed_by_name(rt: HostRuntime) -> Result<(), Fail> {
         ),
         (DecodeError::InvalidEndGroup(7), "InvalidEndGroup 7"),
         (
-            DecodeError::InvalidMessageSet("missing type_id"),
+            DecodeError::InvalidMessageSet(MessageSetFault::MissingTypeId),
             "InvalidMessageSet missing type_id",
+        ),
+        (
+            DecodeError::InvalidMessageSet(MessageSetFault::TypeIdOutOfRange),
+            "InvalidMessageSet type_id out of range",
         ),
         (DecodeError::UnexpectedField(6), "UnexpectedField 6"),
         (DecodeError::OutOfMemory, "OutOfMemory"),

@@ -1,23 +1,23 @@
 -- The fields of an entry: what is read of them, and the grammar.
-use Rattle.std.proofs.Common.{◌≡◌, ◌≢◌, ◌⊎◌, inl, inr, ℕ, ◌+◌, ◌==◌, nat_eq, ◌<◌, ◌≤◌, Bool, true, false, List, [], ◌∷◌, ◌++◌, length, Result, Ok, Err, refl, sym, ap, subst, ◌∙◌, arith, append_assoc, append-nil, length-append, if◌then◌else◌}
-use Rattle.std.proofs.lemmas.Bool.{eqb-true, eqb-false, eq-eqb, ne_eqb}
+use Rattle.std.proofs.Common.{◌≡◌, ◌≢◌, inl, inr, ℕ, ◌==◌, ◌<◌, ◌≤◌, Bool, true, false, List, ◌++◌, length, Result, Ok, Err, refl, sym, ap, subst, ◌∙◌, arith, append_assoc, length-append}
+use Rattle.std.proofs.lemmas.Bool.{eqb-true, eqb-false, ne_eqb}
 use Rattle.buffa_wire.specs.Gives.{◌>>=◌}
-use Rattle.buffa_wire.specs.Varint.{Var}
-use Rattle.buffa_wire.specs.Field.{IsTag, Field, TakesTag, TagFault, PayloadFault}
-use Rattle.buffa_wire.specs.Content.{Content, HasContent, TakesContent, ContentFault, content_at}
-use Rattle.buffa_wire.specs.Reading.{tag_at, check_wire, delimited_at, skip_at}
+use Rattle.buffa_wire.specs.Field.{TakesDelimited, IsTag, TakesTag}
+use Rattle.buffa_wire.specs.Content.{Content, HasContent}
+use Rattle.buffa_wire.specs.Reading.{tag_at, check_wire, delimited_at}
 use Rattle.buffa_wire.specs.WireType.{same_wire}
 use Rattle.buffa_bytes.specs.declared.wire_type.WireType.{WireType}
 use Rattle.buffa_bytes.specs.declared.wire_type.WireType.TheVariants.{Varint, Fixed64, LengthDelimited, StartGroup, EndGroup, Fixed32}
 use Rattle.buffa_bytes.specs.declared.error.DecodeError.{DecodeError}
-use Rattle.buffa_bytes.specs.declared.error.DecodeError.TheVariants.{ElementMemoryLimitExceeded, WireTypeMismatch}
+use Rattle.buffa_bytes.specs.declared.error.DecodeError.TheVariants.{ElementMemoryLimitExceeded, UnknownFieldLimitExceeded, WireTypeMismatch}
 use Rattle.buffa_bytes.proofs.StepLemmas.{Agrees, agree_bind, agree_if, agree_ok, agree_err, agree_weaker}
 use Rattle.buffa_bytes.proofs.FieldLemmas.{tag_sound, tag_complete, tag_faulty, tag_some, payload_sound, payload_complete, payload_faulty}
 use Rattle.buffa_bytes.proofs.ContentLemmas.{content_sound, content_complete, content_taken, content_faulty}
-use Rattle.buffa_bytes.proofs.DelimitedLemmas.{delimited_sound}
-use Rattle.buffa_map.specs.Along.{Leads, Stops}
-use Rattle.buffa_map.specs.Codec.{Reading, value_at}
-use Rattle.buffa_map.specs.Entry.{IsCodecField, CodecFault, codec_at, blanks, IsField, FieldFault, IsEntry, FaultOf, EntryAt, EntryFault, field_at, entry_of}
+use Rattle.buffa_bytes.proofs.DelimitedLemmas.{delimited_sound, delimited_taken}
+use Rattle.buffa_wire.specs.Left.{Left}
+use Rattle.buffa_map.specs.Along.{Leads}
+use Rattle.buffa_map.specs.Codec.{Reading}
+use Rattle.buffa_map.specs.Entry.{CodecFault, codec_at, blanks, IsField, FieldFault, IsEntry, FaultOf, EntryFault, EntryOf, field_at, entry_of}
 use Rattle.buffa_map.specs.declared.parts.Parts.{Parts}
 use Rattle.buffa_map.proofs.AlongLemmas.{along_sound, along_complete, along_faulty, Leads-more}
 
@@ -178,14 +178,22 @@ module _ {K V : Type 0} (key : Reading K) (val : Reading V) (d : ℕ) where
   field_stops e s r f h n k = (s, r, h, (λ z. absurd (omega (arith, ap length z))), agree_err (field_at key val d s r) f (field_sound s r) k)
 
   -- ---- a length and an entry
-  pub entry_short : (cost left : ℕ) (bs : List ℕ) (f : DecodeError) → delimited_at bs ≡ Err f → EntryFault key val d cost left bs f
-  entry_short cost left bs f h = inl (agree_err (delimited_at bs) f (delimited_sound bs) h)
+  pub entry_short : (cost slot : ℕ) (left : Left) (bs : List ℕ) (f : DecodeError) → delimited_at bs ≡ Err f → EntryFault key val d cost slot left bs f
+  entry_short cost slot left bs f h = inl (agree_err (delimited_at bs) f (delimited_sound bs) h)
 
-  pub entry_charged : (cost left : ℕ) (bs e rest : List ℕ) (f : DecodeError) → delimited_at bs ≡ Ok (e, rest) → left < cost → f ≡ ElementMemoryLimitExceeded → EntryFault key val d cost left bs f
-  entry_charged cost left bs e rest f h l k = let t = agree_ok (delimited_at bs) (e, rest) (delimited_sound bs) h in inr (t.0, e, rest, t.1, t.2, inl (l, k))
+  pub entry_charged : (cost slot : ℕ) (left : Left) (bs e rest : List ℕ) (f : DecodeError) → delimited_at bs ≡ Ok (e, rest) → left.memory < cost → f ≡ ElementMemoryLimitExceeded → EntryFault key val d cost slot left bs f
+  entry_charged cost slot left bs e rest f h l k = let t = agree_ok (delimited_at bs) (e, rest) (delimited_sound bs) h in inr (t.0, e, rest, t.1, t.2, inl (l, k))
 
-  pub entry_broken : (cost left : ℕ) (bs e rest : List ℕ) (f : DecodeError) → delimited_at bs ≡ Ok (e, rest) → cost ≤ left → FaultOf key val d e f → EntryFault key val d cost left bs f
-  entry_broken cost left bs e rest f h l k = let t = agree_ok (delimited_at bs) (e, rest) (delimited_sound bs) h in inr (t.0, e, rest, t.1, t.2, inr (l, k))
+  pub entry_broken : (cost slot : ℕ) (left : Left) (bs e rest : List ℕ) (f : DecodeError) → delimited_at bs ≡ Ok (e, rest) → cost ≤ left.memory → FaultOf key val d e f → EntryFault key val d cost slot left bs f
+  entry_broken cost slot left bs e rest f h l k = let t = agree_ok (delimited_at bs) (e, rest) (delimited_sound bs) h in inr (t.0, e, rest, t.1, t.2, inr (l, inl k))
 
-  pub entry_found : (bs e rest : List ℕ) (s : Parts K V) → delimited_at bs ≡ Ok (e, rest) → IsEntry key val d e s → EntryAt key val d bs s rest
-  entry_found bs e rest s h k = let t = agree_ok (delimited_at bs) (e, rest) (delimited_sound bs) h in (t.0, e, t.1, t.2, k)
+  pub entry_slotless : (cost slot : ℕ) (left : Left) (bs e rest : List ℕ) (s : Parts K V) (f : DecodeError) → delimited_at bs ≡ Ok (e, rest) → cost ≤ left.memory → IsEntry key val d e s → s.known ≡ false → left.unknown < slot → f ≡ UnknownFieldLimitExceeded →
+      EntryFault key val d cost slot left bs f
+  entry_slotless cost slot left bs e rest s f h l k no_value few is = let t = agree_ok (delimited_at bs) (e, rest) (delimited_sound bs) h in inr (t.0, e, rest, t.1, t.2, inr (l, inr (s, k, no_value, few, is)))
+
+  pub entry_found : (bs e rest : List ℕ) (s : Parts K V) → delimited_at bs ≡ Ok (e, rest) → IsEntry key val d e s → EntryOf key val d bs e s rest
+  entry_found bs e rest s h k = let t = agree_ok (delimited_at bs) (e, rest) (delimited_sound bs) h in (t.0, t.1, t.2, k)
+
+  -- where no length and so many bytes begin them, none do
+  pub no_length : {P : Type 0} (bs : List ℕ) (f : DecodeError) → delimited_at bs ≡ Err f → (e rest : List ℕ) → TakesDelimited bs e rest → P
+  no_length bs f h e rest t = let k = sym h ∙ delimited_taken bs e rest t in cc

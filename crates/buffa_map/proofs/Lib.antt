@@ -3,6 +3,7 @@ pub mod MeaningLemmas
 pub mod HashedLemmas
 pub mod AlongLemmas
 pub mod EntryLemmas
+pub mod ResultLemmas
 pub mod RunLemmas
 pub mod SizeLemmas
 pub mod WriteLemmas

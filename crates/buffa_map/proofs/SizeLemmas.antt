@@ -1,5 +1,5 @@
 -- Lengths as numbers of 64 bits.
-use Rattle.std.proofs.Common.{◌≡◌, ℕ, ◌+◌, ◌*◌, ◌^◌, ◌<◌, ◌≤◌, nat_lt, Bool, true, false, List, [], ◌∷◌, ◌++◌, length, Option, None, Some, refl, sym, ap, ◌∙◌, arith, length-append, inl, inr, if◌then◌else◌, min}
+use Rattle.std.proofs.Common.{◌≡◌, ℕ, ◌+◌, ◌*◌, ◌^◌, ◌<◌, ◌≤◌, nat_lt, Bool, true, false, List, [], ◌∷◌, ◌++◌, length, Option, None, Some, refl, sym, ap, ◌∙◌, arith, length-append, inl, inr, if◌then◌else◌}
 use Rattle.std.proofs.lemmas.Bool.{lt-ltb, le-ltb, ltb-true, ltb-false, cases_lt}
 use Rattle.std.specs.Option.{SomeIff}
 use Rattle.buffa_wire.specs.Varint.{V}
@@ -8,7 +8,7 @@ use Rattle.buffa_wire.specs.WireType.{wire_number}
 use Rattle.buffa_bytes.specs.declared.wire_type.WireType.{WireType}
 use Rattle.buffa_bytes.specs.declared.wire_type.WireType.TheVariants.{LengthDelimited}
 use Rattle.buffa_bytes.proofs.FieldLemmas.{wire_small}
-use Rattle.buffa_bytes.proofs.ShortestLemmas.{V-last, length-V}
+use Rattle.buffa_bytes.proofs.ShortestLemmas.{V-last}
 use Rattle.buffa_map.specs.Codec.{Writing}
 use Rattle.buffa_map.specs.Text.{entry_text, record_text, field_text, field_size, as_u64, saturated}
 

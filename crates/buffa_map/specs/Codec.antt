@@ -1,5 +1,5 @@
 -- What a codec makes of payloads and of values.
-use Rattle.std.specs.Prelude.{◌≡◌, ℕ, Bool, true, false, List, Result, Ok, Err}
+use Rattle.std.specs.Prelude.{ℕ, Bool, true, false, List, Result, Ok}
 use Rattle.buffa_wire.specs.Gives.{◌>>=◌}
 use Rattle.buffa_wire.specs.Content.{Content, content_at}
 use Rattle.buffa_bytes.specs.declared.wire_type.WireType.{WireType}

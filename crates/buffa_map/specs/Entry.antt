@@ -1,6 +1,6 @@
 -- Map entries: a join of fields, of which those of number 1 are the key and those of number 2 the value.
 -- Source: the protobuf encoding guide, "Maps".
-use Rattle.std.specs.Prelude.{◌≡◌, ◌≢◌, ℕ, ◌<◌, ◌≤◌, ◌==◌, Bool, true, List, [], ◌++◌, length, ◌⊎◌, if◌then◌else◌, Result, Ok, Err}
+use Rattle.std.specs.Prelude.{◌≡◌, ◌≢◌, ℕ, ◌<◌, ◌≤◌, ◌==◌, Bool, false, true, List, [], ◌++◌, length, ◌⊎◌, if◌then◌else◌, Result, Ok, Err}
 use Rattle.buffa_wire.specs.Gives.{◌>>=◌}
 use Rattle.buffa_wire.specs.Varint.{Var}
 use Rattle.buffa_wire.specs.Field.{IsTag, Field, TakesTag, TagFault, LengthFault, PayloadFault}
@@ -8,7 +8,8 @@ use Rattle.buffa_wire.specs.Content.{Content, HasContent, TakesContent, ContentF
 use Rattle.buffa_wire.specs.Reading.{tag_at, check_wire, skip_at}
 use Rattle.buffa_bytes.specs.declared.wire_type.WireType.{WireType}
 use Rattle.buffa_bytes.specs.declared.error.DecodeError.{DecodeError}
-use Rattle.buffa_bytes.specs.declared.error.DecodeError.TheVariants.{WireTypeMismatch, ElementMemoryLimitExceeded}
+use Rattle.buffa_bytes.specs.declared.error.DecodeError.TheVariants.{ElementMemoryLimitExceeded, UnknownFieldLimitExceeded, WireTypeMismatch}
+use Rattle.buffa_wire.specs.Left.{Left}
 use Rattle.buffa_map.specs.Along.{Leads, Stops, along_at}
 use Rattle.buffa_map.specs.Codec.{Reading, value_at}
 use Rattle.buffa_map.specs.declared.parts.Parts.{Parts}
@@ -64,16 +65,22 @@ module _ {K V : Type 0} (key : Reading K) (val : Reading V) (d : ℕ) where
   abbrev pub FaultOf : List ℕ → DecodeError → Type 0
   FaultOf e f = Stops IsField FieldFault blanks e f
 
-  -- a length and an entry, which says s, begin the bytes, and rest follows
-  abbrev pub EntryAt : List ℕ → Parts K V → List ℕ → Type 0
-  EntryAt bs s rest = (t : List ℕ) × (e : List ℕ) × Var t (length e) × (bs ≡ t ++ (e ++ rest)) × IsEntry e s
+  -- a length and the entry e, which says s, begin the bytes, and rest follows
+  abbrev pub EntryOf : List ℕ → List ℕ → Parts K V → List ℕ → Type 0
+  EntryOf bs e s rest = (t : List ℕ) × Var t (length e) × (bs ≡ t ++ (e ++ rest)) × IsEntry e s
 
-  -- f is the first fault: of the length, of the charge where left units are there of cost, of the fields
-  abbrev pub EntryFault : ℕ → ℕ → List ℕ → DecodeError → Type 0
-  EntryFault cost left bs f =
+  abbrev pub EntryAt : List ℕ → Parts K V → List ℕ → Type 0
+  EntryAt bs s rest = (e : List ℕ) × EntryOf bs e s rest
+
+  -- f is the first fault, where an entry costs so many units of element memory, and one that isn't declared so
+  -- many slots (none where it is dropped): of the length; of the units; of the fields; of the slots
+  abbrev pub EntryFault : ℕ → ℕ → Left → List ℕ → DecodeError → Type 0
+  EntryFault cost slot left bs f =
       LengthFault bs f
       ⊎ ((t : List ℕ) × (e : List ℕ) × (rest : List ℕ) × Var t (length e) × (bs ≡ t ++ (e ++ rest))
-      × (((left < cost) × (f ≡ ElementMemoryLimitExceeded)) ⊎ ((cost ≤ left) × FaultOf e f)))
+      × (((left.memory < cost) × (f ≡ ElementMemoryLimitExceeded))
+      ⊎ ((cost ≤ left.memory) × (FaultOf e f
+      ⊎ ((s : Parts K V) × IsEntry e s × (s.known ≡ false) × (left.unknown < slot) × (f ≡ UnknownFieldLimitExceeded))))))
 
   -- the readings: of the field at the front, and of a whole entry
   abbrev pub field_at : Parts K V → List ℕ → Result (Parts K V × List ℕ) DecodeError

@@ -5,4 +5,6 @@ pub mod Scalars
 pub mod ScalarLaws
 pub mod Entry
 pub mod Run
+pub mod Lent
 pub mod Text
+pub mod Colour

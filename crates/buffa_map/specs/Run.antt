@@ -1,5 +1,5 @@
 -- Runs of map records, and what they mean. Source: the protobuf encoding guide, "Maps".
-use Rattle.std.specs.Prelude.{◌≡◌, ◌≢◌, ℕ, ◌+◌, ◌-◌, ◌*◌, nat_lt, ◌==◌, Bool, true, List, [], ◌∷◌, ◌++◌, length, cond, ◌⊎◌, if◌then◌else◌, Result, Ok, Err}
+use Rattle.std.specs.Prelude.{◌≡◌, ◌≢◌, ℕ, ◌+◌, ◌-◌, ◌*◌, nat_lt, ◌==◌, ◌&&◌, not, Bool, true, List, [], ◌∷◌, ◌++◌, length, map, cond, ◌⊎◌, if◌then◌else◌, Result, Ok, Err}
 use Rattle.buffa_wire.specs.Gives.{◌>>=◌}
 use Rattle.buffa_wire.specs.Varint.{Var}
 use Rattle.buffa_wire.specs.Field.{IsTag, TakesTag, TagFault}
@@ -7,7 +7,9 @@ use Rattle.buffa_wire.specs.Reading.{tag_at, check_wire, delimited_at}
 use Rattle.buffa_bytes.specs.declared.wire_type.WireType.{WireType}
 use Rattle.buffa_bytes.specs.declared.wire_type.WireType.TheVariants.{LengthDelimited}
 use Rattle.buffa_bytes.specs.declared.error.DecodeError.{DecodeError}
-use Rattle.buffa_bytes.specs.declared.error.DecodeError.TheVariants.{ElementMemoryLimitExceeded, UnexpectedField, WireTypeMismatch}
+use Rattle.buffa_bytes.specs.declared.error.DecodeError.TheVariants.{ElementMemoryLimitExceeded, UnexpectedField, UnknownFieldLimitExceeded, WireTypeMismatch}
+use Rattle.buffa_wire.specs.Left.{Left}
+use Rattle.buffa_wire.specs.Records.{Datum, bytes}
 use Rattle.buffa_map.specs.Along.{along_at}
 use Rattle.buffa_map.specs.Codec.{Reading}
 use Rattle.buffa_map.specs.Entry.{IsEntry, EntryFault, entry_of}
@@ -18,6 +20,33 @@ use Rattle.buffa_map.specs.declared.parts.Parts.{Parts}
 pub record Said (K V : Type 0) : Type 0 where
   pub bytes : List ℕ
   pub parts : Parts K V
+
+-- the bytes of the entries that aren't declared, in order
+abbrev pub Kept : {K V : Type 0} → List (Said K V) → List (List ℕ)
+Kept [] = []
+Kept (x ∷ xs) = cond x.parts.known (Kept xs) (x.bytes ∷ Kept xs)
+
+-- the record of an entry of a field of number n, if it isn't declared
+abbrev pub kept_record : ℕ → List ℕ → Bool → List (ℕ × Datum)
+kept_record n e known = cond known [] ((n, bytes e) ∷ [])
+
+-- what the entries that aren't declared add, in order, where one of bytes e adds so
+abbrev pub added : {K V X : Type 0} → (ℕ → List ℕ → List X) → ℕ → List (Said K V) → List X
+added adds n [] = []
+added adds n (x ∷ xs) = cond x.parts.known [] (adds n x.bytes) ++ added adds n xs
+
+-- the same as records of number n, length-delimited
+abbrev pub kept_records : {K V : Type 0} → ℕ → List (Said K V) → List (ℕ × Datum)
+kept_records n es = map (λ e. (n, bytes e)) (Kept es)
+
+-- over is over of left after these entries, each of which costs some units of element memory, and each one
+-- that isn't declared some slots
+abbrev pub Paid : {K V : Type 0} → ℕ → ℕ → Left → List (Said K V) → Left → Type 0
+Paid cost slot left es over = (over.memory + length es * cost ≡ left.memory) × (over.unknown + length (Kept es) * slot ≡ left.unknown)
+
+-- what is left after an entry that was paid
+abbrev pub after_entry : {K V : Type 0} → ℕ → ℕ → Left → Said K V → Left
+after_entry cost slot left x = record { unknown = cond x.parts.known left.unknown (left.unknown - slot); memory = left.memory - cost }
 
 -- what the entry of a pair says
 abbrev pub pair_parts : {K V : Type 0} → K × V → Parts K V
@@ -36,41 +65,39 @@ module _ {K V : Type 0} (key : Reading K) (val : Reading V) (d n : ℕ) where
   Run b (x ∷ xs) = (r : List ℕ) × (rest : List ℕ) × IsRecord r x × (b ≡ r ++ rest) × Run rest xs
 
   -- f is why no record begins these bytes, in this order: the tag's fault, another number, another wire
-  -- type, the fault of the length and the entry, where left units are there of cost
-  abbrev pub RecordFault : ℕ → ℕ → List ℕ → DecodeError → Type 0
-  RecordFault cost left bs f =
+  -- type, the fault of the length and the entry
+  abbrev pub RecordFault : ℕ → ℕ → Left → List ℕ → DecodeError → Type 0
+  RecordFault cost slot left bs f =
       TagFault bs f
       ⊎ (((g : ℕ) × (w : WireType) × (rest : List ℕ) × TakesTag bs g w rest × (g ≢ n) × (f ≡ UnexpectedField g))
       ⊎ (((w : WireType) × (rest : List ℕ) × TakesTag bs n w rest × (w ≢ LengthDelimited) × (f ≡ WireTypeMismatch n LengthDelimited w))
-      ⊎ ((rest : List ℕ) × TakesTag bs n LengthDelimited rest × EntryFault key val d cost left rest f)))
+      ⊎ ((rest : List ℕ) × TakesTag bs n LengthDelimited rest × EntryFault key val d cost slot left rest f)))
 
-  -- records of the entries es begin the bytes, rest follows, and of left units of element memory, of which
-  -- each entry costs some, over are over
-  abbrev pub RunBegins : ℕ → ℕ → List ℕ → List (Said K V) → List ℕ → ℕ → Type 0
-  RunBegins cost left bs es rest over = (front : List ℕ) × (bs ≡ front ++ rest) × Run front es × (over + length es * cost ≡ left)
+  -- records of the entries es begin the bytes, rest follows, and they are paid
+  abbrev pub RunBegins : ℕ → ℕ → Left → List ℕ → List (Said K V) → List ℕ → Left → Type 0
+  RunBegins cost slot left bs es rest over = (front : List ℕ) × (bs ≡ front ++ rest) × Run front es × Paid cost slot left es over
 
   -- after the records of some entries, f is the first fault of what is left
-  abbrev pub RunFault : ℕ → ℕ → List ℕ → DecodeError → Type 0
-  RunFault cost left bs f =
-      (es : List (Said K V)) × (rest : List ℕ) × (over : ℕ) × RunBegins cost left bs es rest over × (rest ≢ []) × RecordFault cost over rest f
+  abbrev pub RunFault : ℕ → ℕ → Left → List ℕ → DecodeError → Type 0
+  RunFault cost slot left bs f =
+      (es : List (Said K V)) × (rest : List ℕ) × (over : Left) × RunBegins cost slot left bs es rest over × (rest ≢ []) × RecordFault cost slot over rest f
 
-  -- the readings, where left units are there of cost: of the record at the front, and of a whole run, which
-  -- answers the entries and the units that are over
-  abbrev pub said_at : ℕ → ℕ → List ℕ → Result (Said K V × List ℕ) DecodeError
-  said_at cost left bs = do
+  -- the readings: of the record at the front, and of a whole run, which answers the entries and what is over
+  abbrev pub said_at : ℕ → ℕ → Left → List ℕ → Result (Said K V × List ℕ) DecodeError
+  said_at cost slot left bs = do
     t ← tag_at bs
     if t.0 == n then (do
       _ ← check_wire n LengthDelimited t.1
       e ← delimited_at t.2
-      if nat_lt left cost then Err ElementMemoryLimitExceeded else (do
+      if nat_lt left.memory cost then Err ElementMemoryLimitExceeded else (do
         s ← entry_of key val d e.0
-        Ok (record { bytes = e.0; parts = s }, e.1))) else Err (UnexpectedField t.0)
+        if not s.known && nat_lt left.unknown slot then Err UnknownFieldLimitExceeded else Ok (record { bytes = e.0; parts = s }, e.1))) else Err (UnexpectedField t.0)
 
-  abbrev pub next_said : ℕ → List (Said K V) × ℕ → List ℕ → Result ((List (Said K V) × ℕ) × List ℕ) DecodeError
-  next_said cost s bs = said_at cost s.1 bs >>= (λ x. Ok ((s.0 ++ x.0 ∷ [], s.1 - cost), x.1))
+  abbrev pub next_said : ℕ → ℕ → List (Said K V) × Left → List ℕ → Result ((List (Said K V) × Left) × List ℕ) DecodeError
+  next_said cost slot s bs = said_at cost slot s.1 bs >>= (λ x. Ok ((s.0 ++ x.0 ∷ [], after_entry cost slot s.1 x.0), x.1))
 
-  abbrev pub run_of : ℕ → ℕ → List ℕ → Result (List (Said K V) × ℕ) DecodeError
-  run_of cost left bs = along_at (next_said cost) ([], left) bs
+  abbrev pub run_of : ℕ → ℕ → Left → List ℕ → Result (List (Said K V) × Left) DecodeError
+  run_of cost slot left bs = along_at (next_said cost slot) ([], left) bs
 
 module _ {K V : Type 0} (eq : K → K → Bool) where
   -- the pairs after an entry that said s: a declared one is put
@@ -81,8 +108,3 @@ module _ {K V : Type 0} (eq : K → K → Bool) where
   abbrev pub Fold : List (K × V) → List (Said K V) → List (K × V)
   Fold m [] = m
   Fold m (x ∷ xs) = Fold (step m x.parts) xs
-
--- the bytes of the entries that aren't declared, in order
-abbrev pub Kept : {K V : Type 0} → List (Said K V) → List (List ℕ)
-Kept [] = []
-Kept (x ∷ xs) = cond x.parts.known (Kept xs) (x.bytes ∷ Kept xs)

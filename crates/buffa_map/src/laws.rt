@@ -7,8 +7,9 @@ ghost use Rattle.buffa_bytes.specs.declared.error.DecodeError.{DecodeError};
 ghost use Rattle.buffa_bytes.specs.declared.wire_type.WireType.TheVariants.{LengthDelimited};
 ghost use Rattle.buffa_wire.specs.Number.{IsNumber};
 ghost use Rattle.buffa_wire.specs.Values.{tag_text};
+ghost use Rattle.buffa_wire.specs.Left.{Left};
 ghost use Rattle.buffa_map.specs.Entry.{FaultOf, IsEntry, entry_of};
-ghost use Rattle.buffa_map.specs.Run.{Fold, Kept, Run, RunFault, Said, run_of};
+ghost use Rattle.buffa_map.specs.Run.{Fold, Kept, Paid, Run, RunFault, Said, run_of};
 ghost use Rattle.buffa_map.specs.Text.{AllHold, HasText, field_size, field_text};
 ghost use Rattle.buffa_map.specs.declared.parts.Parts.{Parts};
 
@@ -22,12 +23,12 @@ pub fn entries_are_read<KC: MapValueDecode, VC: MapValueDecode>()
     ensures err { (d : ℕ) (e : List ℕ) (f : DecodeError) → (entry_of KC.reading VC.reading d e ≡ Err f) ↔ FaultOf KC.reading VC.reading d e f }
 {}
 
-/// The same of a whole run of records, where left units of element memory are there and each entry costs
-/// some: what is read is the entries, and what is over.
+/// The same of a whole run of records, where some units and slots are left, each entry costs units of
+/// element memory, and each one that isn't declared slots: what is read is the entries, and what is over.
 pub fn runs_are_read<KC: MapValueDecode, VC: MapValueDecode>()
-    ensures ok { (d n cost left : ℕ) (bs : List ℕ) (es : List (Said KC.Value.Meaning VC.Value.Meaning)) (over : ℕ) →
-        (run_of KC.reading VC.reading d n cost left bs ≡ Ok (es, over)) ↔ (Run KC.reading VC.reading d n bs es × (over + length es * cost ≡ left)) }
-    ensures err { (d n cost left : ℕ) (bs : List ℕ) (f : DecodeError) → (run_of KC.reading VC.reading d n cost left bs ≡ Err f) ↔ RunFault KC.reading VC.reading d n cost left bs f }
+    ensures ok { (d n cost slot : ℕ) (left : Left) (bs : List ℕ) (es : List (Said KC.Value.Meaning VC.Value.Meaning)) (over : Left) →
+        (run_of KC.reading VC.reading d n cost slot left bs ≡ Ok (es, over)) ↔ (Run KC.reading VC.reading d n bs es × Paid cost slot left es over) }
+    ensures err { (d n cost slot : ℕ) (left : Left) (bs : List ℕ) (f : DecodeError) → (run_of KC.reading VC.reading d n cost slot left bs ≡ Err f) ↔ RunFault KC.reading VC.reading d n cost slot left bs f }
 {}
 
 /// Bytes are an entry, or a run, in one way only, and not while they have a fault.
@@ -36,8 +37,8 @@ pub fn one_reading<KC: MapValueDecode, VC: MapValueDecode>()
     ensures entry_or_fault { (d : ℕ) (e : List ℕ) (s : Parts KC.Value.Meaning VC.Value.Meaning) (f : DecodeError) → IsEntry KC.reading VC.reading d e s → FaultOf KC.reading VC.reading d e f → ⊥ }
     ensures run { (d n : ℕ) (bs : List ℕ) (es fs : List (Said KC.Value.Meaning VC.Value.Meaning)) → Run KC.reading VC.reading d n bs es → Run KC.reading VC.reading d n bs fs → es ≡ fs }
     // A run whose charges are met has no fault.
-    ensures run_or_fault { (d n cost left over : ℕ) (bs : List ℕ) (es : List (Said KC.Value.Meaning VC.Value.Meaning)) (f : DecodeError) →
-        Run KC.reading VC.reading d n bs es → over + length es * cost ≡ left → RunFault KC.reading VC.reading d n cost left bs f → ⊥ }
+    ensures run_or_fault { (d n cost slot : ℕ) (left over : Left) (bs : List ℕ) (es : List (Said KC.Value.Meaning VC.Value.Meaning)) (f : DecodeError) →
+        Run KC.reading VC.reading d n bs es → Paid cost slot left es over → RunFault KC.reading VC.reading d n cost slot left bs f → ⊥ }
 {}
 
 /// Two runs, one after the other, are a run of the entries of both; it means what the second one makes of

@@ -7,10 +7,15 @@
 #![tactic(auto)]
 
 pub mod codec;
+#[cfg(test)]
+mod colour;
 pub mod entry;
 pub mod fields;
 mod hashed;
 pub mod indexed;
+mod keep;
+#[cfg(test)]
+mod kept_tests;
 pub mod laws;
 pub mod map_codec;
 mod ordered;

@@ -9,7 +9,7 @@
 //! ```
 
 pub use crate::codec::{MapCodec, MapValueDecode, MapValueDecodeStatus};
-pub use crate::entry::merge_entry;
+pub use crate::entry::{merge_entry, merge_entry_with_unknowns};
 pub use crate::indexed::Map;
 pub use crate::run::read_map_field;
 pub use crate::scalars::{

@@ -75,6 +75,7 @@ fn fields_have_the_bytes_of_the_guide(rt: HostRuntime) -> Result<(), Fail> {
             5,
             &mut rest,
             DecodeContext::new(10, &mut budget),
+            None,
         )?;
         assert!(rt; holds(&read, pairs));
     }
@@ -94,7 +95,7 @@ fn numbers_may_be_keys_of_texts(rt: HostRuntime) -> Result<(), Fail> {
     let mut budget = Budget::new(0);
     let mut rest = bytes;
     let ctx = DecodeContext::new(10, &mut budget);
-    read_map_field::<Int32, Str, _, _>(rt.alloc(), &mut map, 3, &mut rest, ctx)?;
+    read_map_field::<Int32, Str, _, _>(rt.alloc(), &mut map, 3, &mut rest, ctx, None)?;
     assert_eq!(rt; map.storage_len(), 1);
     match map.get(&1) {
         Some(value) => assert_eq!(rt; value.as_str(), "x"),
@@ -304,7 +305,7 @@ fn runs_are_merged_up_to_a_fault(rt: HostRuntime) -> Result<(), Fail> {
         let mut rest = bytes;
         let ctx = DecodeContext::new(10, &mut budget);
         assert_eq!(rt;
-            read_map_field::<Str, Int32, _, _>(rt.alloc(), &mut map, number, &mut rest, ctx),
+            read_map_field::<Str, Int32, _, _>(rt.alloc(), &mut map, number, &mut rest, ctx, None),
             expected
         );
         assert!(rt; holds(&map, pairs));
@@ -320,7 +321,14 @@ fn a_record_that_is_cut_is_refused(rt: HostRuntime) -> Result<(), Fail> {
         let mut budget = Budget::new(0);
         let mut rest = &whole[..len];
         let ctx = DecodeContext::new(10, &mut budget);
-        let answer = read_map_field::<Str, Int32, _, _>(rt.alloc(), &mut map, 5, &mut rest, ctx);
+        let answer = read_map_field::<Str, Int32, _, _>(
+            rt.alloc(),
+            &mut map,
+            5,
+            &mut rest,
+            ctx,
+            None,
+        );
         assert_eq!(rt; answer, Err(DecodeError::UnexpectedEof));
         assert_eq!(rt; map.storage_len(), 0);
     }

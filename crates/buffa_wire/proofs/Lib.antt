@@ -1,0 +1,6 @@
+pub mod RecordLemmas
+pub mod TextLemmas
+pub mod ReadLemmas
+pub mod LoopLemmas
+pub mod ParseLemmas
+pub mod JoinLemmas

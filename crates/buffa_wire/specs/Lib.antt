@@ -1,4 +1,12 @@
 pub mod Left
+pub mod Records
+pub mod Code
+pub mod View
+pub mod Falls
+pub mod Equal
+pub mod Text
+pub mod Parse
+pub mod RecordReading
 pub use Rattle.buffa_bytes.specs.Content
 pub use Rattle.buffa_bytes.specs.ErrorText
 pub use Rattle.buffa_bytes.specs.Field

@@ -1,12 +1,15 @@
-//! The wire layer: the ground floor of `buffa_bytes`, and the budgets and contexts that reading lends on.
+//! The wire layer: the ground floor of `buffa_bytes`, the budgets and contexts that reading lends on, and
+//! the unknown fields that it keeps.
 //!
 //! A crate above needs this one alone: it re-exports all of `buffa_bytes`.
 #![tactic(auto)]
 
 pub mod budget;
 pub mod context;
+pub mod laws;
 #[cfg(test)]
 mod tests;
+pub mod unknown_fields;
 
 pub use budget::{Budget, DEFAULT_ELEMENT_MEMORY_LIMIT, DEFAULT_UNKNOWN_FIELD_LIMIT};
 pub use buffa_bytes::{
@@ -15,3 +18,5 @@ pub use buffa_bytes::{
     types, varint_len,
 };
 pub use context::{DecodeContext, RECURSION_LIMIT};
+pub use unknown_fields::read::decode_unknown_field;
+pub use unknown_fields::{UnknownField, UnknownFieldData, UnknownFields};

@@ -1,11 +1,11 @@
 -- Pairs in the order of their keys: two such lists in which each key finds the same pair are one list.
-use Rattle.std.proofs.Common.{◌≡◌, Bool, true, false, cond, List, [], ◌∷◌, Option, Some, None, refl, sym, ◌∙◌, ap, subst, arith, map, Ordering, ℕ, ℤ, String, string_bytes}
-use Rattle.std.specs.Cmp.{IsTotalOrder, IsEquivalence, eq_by_cmp_equiv}
+use Rattle.std.proofs.Common.{◌≡◌, Bool, true, false, cond, List, [], ◌∷◌, Some, None, refl, sym, ◌∙◌, ap, subst, Ordering, ℕ, ℤ, String, string_bytes}
+use Rattle.std.specs.Cmp.{IsTotalOrder, eq_by_cmp_equiv}
 use Rattle.std.specs.Cmp.Lexicographic.{nat_list_cmp_total, pointwise, slice_cmp, texts_ties}
 use Rattle.std.proofs.lemmas.Map.Entries.{none_below_head, none_past_head}
 use Rattle.std.proofs.lemmas.Map.Keys.{IsDistinct-from_sorted, sorted_tail}
 use Rattle.std.proofs.Common.{nat_eq}
-use Rattle.std.specs.Ordering.{nat_cmp, eq_by_cmp, is_eq, match_ordering, ordering_reverse}
+use Rattle.std.specs.Ordering.{nat_cmp, eq_by_cmp, match_ordering, ordering_reverse}
 use Rattle.std.specs.String.{string_cmp}
 use Rattle.std.specs.Map.{keys_of, lookup_entry}
 use Rattle.std.specs.List.{AllByRecursion}

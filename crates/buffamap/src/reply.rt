@@ -4,11 +4,12 @@ ghost use Rattle.std.specs.Cmp.Lexicographic.{pointwise};
 ghost use Rattle.hex.specs.Hex.{decode_of};
 ghost use Rattle.buffa_bytes.specs.declared.error.DecodeError.TheVariants.{OutOfMemory};
 ghost use Rattle.buffa_wire.specs.Number.{IsNumber};
+ghost use Rattle.buffa_wire.specs.Left.{Left};
 ghost use Rattle.buffa_map.specs.Pairs.{SamePairs};
 ghost use Rattle.buffa_map.specs.Run.{Fold, Said, run_of};
 ghost use Rattle.buffa_map.specs.Scalars.{int32_reading, string_reading};
 ghost use Rattle.buffamap.specs.Lines.{pairs_in, pairs_of, without_newline};
-ghost use Rattle.buffamap.specs.Reply.{bad_input, read_reply, read_run, run_reply, write_pairs, write_reply};
+ghost use Rattle.buffamap.specs.Reply.{bad_input, default_left, read_reply, read_run, run_reply, write_pairs, write_reply};
 
 use crate::lines::{LineFault, lines_of, pairs_in, without_newline};
 use buffa_map::map_codec::{Int32, Str, read_map_field, write_field};
@@ -61,15 +62,17 @@ fn read_pairs(
     pairs: &mut BTreeMap<String, i32>,
 ) -> Result<(), DecodeError>
     requires { pairs.old.entries ≡ [] }
-    ensures ok { OnOk result ((es : List (Said (List ℕ) ℤ)) × (over : ℕ)
-        × (run_of string_reading int32_reading 100 number 28 268435456 bytes.now ≡ Ok (es, over))
+    ensures ok { OnOk result ((es : List (Said (List ℕ) ℤ)) × (over : Left)
+        × (run_of string_reading int32_reading 100 number 28 0 default_left bytes.now ≡ Ok (es, over))
         × SamePairs (pointwise nat_eq) (Fold (pointwise nat_eq) [] es) (pairs_of pairs.new.entries)) }
-    ensures fault { IfErr result (λ f. f ≢ OutOfMemory → run_of string_reading int32_reading 100 number 28 268435456 bytes.now ≡ Err f) }
+    ensures fault { IfErr result (λ f. f ≢ OutOfMemory → run_of string_reading int32_reading 100 number 28 0 default_left bytes.now ≡ Err f) }
 {
     let mut budget = Budget::new(DEFAULT_UNKNOWN_FIELD_LIMIT);
     let ctx = DecodeContext::new(RECURSION_LIMIT, &mut budget);
     let mut rest = bytes;
-    read_map_field::<Str, Int32, BTreeMap<String, i32>, &[u8]>(alloc, pairs, number, &mut rest, ctx)
+    read_map_field::<Str, Int32, BTreeMap<String, i32>, &[u8]>(
+        alloc, pairs, number, &mut rest, ctx, None,
+    )
 }
 
 // The answer to a run.

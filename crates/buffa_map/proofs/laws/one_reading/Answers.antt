@@ -1,8 +1,9 @@
-use Rattle.std.proofs.Common.{◌≡◌, ◌∙◌, sym, ap, Ok, Err, Result}
+use Rattle.std.proofs.Common.{◌∙◌, sym, ap}
+use Rattle.buffa_wire.specs.Left.{Left}
 use Rattle.buffa_map.proofs.AlongLemmas.{ok_same, ok_no_err}
 use Rattle.buffa_map.proofs.EntryLemmas.{entry_complete, entry_faulty}
 use Rattle.buffa_map.proofs.RunLemmas.{run_complete, run_faulty}
-use Rattle.std.proofs.Common.{arith, ◌+◌, ◌*◌, length}
+use Rattle.std.proofs.Common.{arith}
 use Rattle.buffa_map.proofs.laws.one_reading.Goals as goal
 
 pub returns-clause-entry : goal.returns-clause-entry
@@ -21,10 +22,11 @@ pub returns-clause-run : goal.returns-clause-run
 returns-clause-run g c d n bs es fs h k =
     let key = g.KC.MapValueDecode.reading in
     let val = g.VC.MapValueDecode.reading in
-    ap (λ z. z.0) (ok_same (sym (run_complete key val d n 0 0 bs es 0 h (omega arith)) ∙ run_complete key val d n 0 0 bs fs 0 k (omega arith)))
+    let none : Left = record { unknown = 0; memory = 0 } in
+    ap (λ z. z.0) (ok_same (sym (run_complete key val d n 0 0 none bs es none h (omega arith, omega arith)) ∙ run_complete key val d n 0 0 none bs fs none k (omega arith, omega arith)))
 
 pub returns-clause-run_or_fault : goal.returns-clause-run_or_fault
-returns-clause-run_or_fault g c d n cost left over bs es f h paid k =
+returns-clause-run_or_fault g c d n cost slot left over bs es f h paid k =
     let key = g.KC.MapValueDecode.reading in
     let val = g.VC.MapValueDecode.reading in
-    ok_no_err (sym (run_complete key val d n cost left bs es over h paid) ∙ run_faulty key val d n cost left bs f k)
+    ok_no_err (sym (run_complete key val d n cost slot left bs es over h paid) ∙ run_faulty key val d n cost slot left bs f k)

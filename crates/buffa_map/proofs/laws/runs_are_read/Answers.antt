@@ -4,13 +4,13 @@ use Rattle.buffa_map.proofs.RunLemmas.{run_sound, run_complete, run_faulty}
 use Rattle.buffa_map.proofs.laws.runs_are_read.Goals as goal
 
 pub returns-clause-ok : goal.returns-clause-ok
-returns-clause-ok g c = λ d n cost left bs es over.
+returns-clause-ok g c = λ d n cost slot left bs es over.
     let key = g.KC.MapValueDecode.reading in
     let val = g.VC.MapValueDecode.reading in
-    (λ h. agree_ok (run_of key val d n cost left bs) (es, over) (run_sound key val d n cost left bs) h, λ h. run_complete key val d n cost left bs es over h.0 h.1)
+    (λ h. agree_ok (run_of key val d n cost slot left bs) (es, over) (run_sound key val d n cost slot left bs) h, λ h. run_complete key val d n cost slot left bs es over h.0 h.1)
 
 pub returns-clause-err : goal.returns-clause-err
-returns-clause-err g c = λ d n cost left bs f.
+returns-clause-err g c = λ d n cost slot left bs f.
     let key = g.KC.MapValueDecode.reading in
     let val = g.VC.MapValueDecode.reading in
-    (λ h. agree_err (run_of key val d n cost left bs) f (run_sound key val d n cost left bs) h, run_faulty key val d n cost left bs f)
+    (λ h. agree_err (run_of key val d n cost slot left bs) f (run_sound key val d n cost slot left bs) h, run_faulty key val d n cost slot left bs f)

@@ -1,5 +1,4 @@
-use Rattle.std.proofs.Common.{◌≡◌, ◌∙◌, ap, refl, sym, map, ℕ}
-use Rattle.buffa_wire.specs.Content.{Content, HasContent}
+use Rattle.std.proofs.Common.{◌≡◌, ◌∙◌, refl, sym, map}
 use Rattle.buffa_map.proofs.BackLemmas.{as_said, both_hold, fold_back, run_back}
 use Rattle.buffa_map.proofs.laws.written_is_read.Goals as goal
 

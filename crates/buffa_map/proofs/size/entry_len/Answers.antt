@@ -1,4 +1,4 @@
-use Rattle.std.proofs.Common.{arith, ◌≡◌, ◌+◌, ℕ, length, None, sym, Some}
+use Rattle.std.proofs.Common.{arith, ◌+◌, length}
 use Rattle.buffa_map.specs.Text.{entry_text}
 use Rattle.buffa_map.proofs.SizeLemmas.{checked-as_u64, length-entry_text}
 use Rattle.buffa_map.proofs.size.entry_len.Goals as goal

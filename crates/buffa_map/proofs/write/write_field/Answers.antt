@@ -1,7 +1,7 @@
-use Rattle.std.proofs.Common.{◌≡◌, ◌++◌, List, [], ◌∷◌, refl, sym, ◌∙◌, ap, append-nil, append_assoc, Some, None, subst}
+use Rattle.std.proofs.Common.{◌≡◌, ◌++◌, List, [], ◌∷◌, sym, ◌∙◌, ap, append-nil, append_assoc, Some, None}
 use Rattle.std.proofs.lemmas.Result.{err_from_is_err_and}
 use Rattle.buffa_map.specs.Pairs.{mean, means}
-use Rattle.buffa_map.specs.Text.{HasText, field_text, record_text}
+use Rattle.buffa_map.specs.Text.{field_text, record_text}
 use Rattle.buffa_map.proofs.WriteLemmas.{AllHold-last, HasText-last, field_refused, field_text-last}
 use Rattle.buffa_map.proofs.write.write_field.Goals as goal
 

@@ -1,4 +1,4 @@
-use Rattle.std.proofs.Common.{◌≡◌, ℕ, length}
+use Rattle.std.proofs.Common.{length}
 use Rattle.std.proofs.lemmas.Result.{err_from_is_err_and}
 use Rattle.buffa_map.specs.Text.{entry_text}
 use Rattle.buffa_map.proofs.SizeLemmas.{as_u64-some}

@@ -1,4 +1,4 @@
-use Rattle.std.proofs.Common.{rules, ◌≡◌, ◌∙◌, sym, ap, ℕ, List, map, [], inl, inr, unwrap_or, Bor, refl}
+use Rattle.std.proofs.Common.{◌∙◌, sym, ap, ℕ, List, map, [], inl, inr, unwrap_or, Bor}
 use Rattle.buffamap.proofs.Replies.{run_from_reply, run_from_usage, front_of_line, known_input, cut_at_once}
 use Rattle.buffamap.specs.Reply.{reply_to, usage_line}
 use Rattle.buffamap.proofs.engine.run.Goals as goal

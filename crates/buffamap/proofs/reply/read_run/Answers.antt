@@ -1,5 +1,5 @@
-use Rattle.std.proofs.Common.{◌≡◌, ◌∙◌, ap, sym}
-use Rattle.buffamap.specs.Lines.{lines_of, pairs_of}
+use Rattle.std.proofs.Common.{◌∙◌, ap, sym}
+use Rattle.buffamap.specs.Lines.{lines_of}
 use Rattle.buffamap.specs.Reply.{run_reply}
 use Rattle.buffamap.proofs.Ordered.{pairs_of_run}
 use Rattle.buffamap.proofs.reply.read_run.Goals as goal

@@ -1,4 +1,4 @@
-use Rattle.std.proofs.Common.{rules, ◌≡◌, ◌++◌, ◌∙◌, ℕ, List, [], ◌∷◌, ap, sym}
+use Rattle.std.proofs.Common.{rules, ◌≡◌, ◌∙◌, ℕ, List, ap, sym}
 use Rattle.hex.specs.Hex.{encode_lower}
 use Rattle.buffa_map.specs.Scalars.{int32_writing, string_writing}
 use Rattle.buffa_map.specs.Text.{field_text}

@@ -1,0 +1,73 @@
+//! What becomes of an entry whose value isn't declared.
+
+ghost use Rattle.std.specs.Prelude.{◌≡◌, ◌≢◌, ◌+◌, ◌<◌, ◌≤◌, ◌++◌, ◌∷◌, ℕ, List, [], IfErr, OnErr, OnOk};
+ghost use Rattle.buffa_bytes.specs.declared.error.DecodeError.TheVariants.{OutOfMemory, UnknownFieldLimitExceeded};
+ghost use Rattle.buffa_wire.specs.Records.{Datum, bytes};
+
+use buffa_wire::{Budget, DecodeError, UnknownField, UnknownFieldData, UnknownFields};
+
+/// What becomes of an entry whose value isn't declared: it is kept whole, or dropped.
+pub(crate) trait Keeper {
+    /// The records so far.
+    ghost kept: { Self → List (ℕ × Datum) };
+
+    /// The slots for unknown fields that one entry takes.
+    ghost slot: { ℕ };
+
+    /// What the bytes of an entry of a field of this number add.
+    ghost adds: { ℕ → List ℕ → List (ℕ × Datum) };
+
+    /// Takes the bytes of an entry.
+    fn keep(&mut self, number: u32, entry: Vec<u8>, budget: &mut Budget) -> Result<(), DecodeError>
+        ensures ok { OnOk result ((kept self.new ≡ kept self.old ++ adds number entry.items) × (budget.new.unknown + slot ≡ budget.old.unknown)) }
+        ensures err { OnErr result ((kept self.new ≡ kept self.old) × (budget.new.unknown ≤ budget.old.unknown) × (budget.old.unknown ≤ budget.new.unknown + slot)) }
+        ensures fault { IfErr result (λ f. f ≢ OutOfMemory → (budget.old.unknown < slot) × (f ≡ UnknownFieldLimitExceeded)) }
+        ensures memory { budget.new.memory ≡ budget.old.memory };
+}
+
+/// Entries are dropped, and take no slot.
+#[derive(Drop)]
+pub(crate) struct Dropped;
+
+impl Keeper for Dropped {
+    ghost kept = { λ _. [] };
+
+    ghost slot = { 0 };
+
+    ghost adds = { λ _ _. [] };
+
+    fn keep(
+        &mut self,
+        _number: u32,
+        _entry: Vec<u8>,
+        _budget: &mut Budget,
+    ) -> Result<(), DecodeError> {
+        // Nothing is kept, and nothing is spent.
+        Ok(())
+    }
+}
+
+impl Keeper for UnknownFields {
+    ghost kept = { λ list. list.records };
+
+    ghost slot = { 1 };
+
+    ghost adds = { λ number entry. (number, bytes entry) ∷ [] };
+
+    fn keep(
+        &mut self,
+        number: u32,
+        entry: Vec<u8>,
+        budget: &mut Budget,
+    ) -> Result<(), DecodeError> {
+        budget.take_slot()?;
+        let field = UnknownField {
+            number,
+            payload: UnknownFieldData::LengthDelimited(entry),
+        };
+        match self.push(field) {
+            Ok(()) => Ok(()),
+            Err(_) => Err(DecodeError::OutOfMemory),
+        }
+    }
+}

@@ -1,0 +1,80 @@
+-- Lists of records: as fields, filtered, and compared.
+use Rattle.std.proofs.Common.{◌≡◌, ◌≢◌, ℕ, zero, suc, ◌+◌, ◌<◌, ◌≤◌, Bool, true, false, true≢false, List, [], ◌∷◌, length, get_or, refl, sym, ap, ◌∙◌, arith, cond, take}
+use Rattle.std.specs.List.{filter}
+use Rattle.buffa_wire.specs.Records.{Datum, Records, one, no_records, records_of, list_of, Held}
+use Rattle.buffa_wire.specs.Equal.{held_eq, records_eq-Decides, field_eq, field_eq-Decides}
+use Rattle.buffa_wire.specs.View.{record_of, records_in}
+use Rattle.buffa_wire.specs.declared.unknown_fields.UnknownField.{UnknownField}
+
+pub list-records : (rs : List (ℕ × Datum)) → list_of (records_of rs) ≡ rs
+list-records [] = refl
+list-records (r ∷ rs) = ap (λ q. r ∷ q) (list-records rs)
+
+pub records-list : (rs : Records) → records_of (list_of rs) ≡ rs
+records-list no_records = refl
+records-list (one n d rs) = ap (λ q. one n d q) (records-list rs)
+
+pub length-records_in : (fs : List UnknownField) → length (records_in fs) ≡ length fs
+length-records_in [] = refl
+length-records_in (f ∷ fs) = ap (λ n. suc n) (length-records_in fs)
+
+differs : (b c : Bool) → b ≡ c → (b ≡ true → ⊥) → c ≡ false
+differs b true e other = absurd (other e)
+differs b false e other = refl
+
+pub lengths_differ : (xs ys : List UnknownField) (a b : Held) → a.records ≡ records_in xs → b.records ≡ records_in ys → length xs ≢ length ys → false ≡ held_eq a b
+lengths_differ xs ys a b p q other =
+    sym (differs (held_eq a b) (held_eq a b) refl
+    (λ h. other (sym (length-records_in xs) ∙ ap length (sym p) ∙ ap length (sym (list-records a.records) ∙ ap list_of ((records_eq-Decides (records_of a.records) (records_of b.records)).0 h) ∙ list-records b.records) ∙ ap length q ∙ length-records_in ys)))
+
+step : (b : Bool) (f : UnknownField) (fs : List UnknownField) {q : List (ℕ × Datum)} → records_in fs ≡ q → records_in (cond b (f ∷ fs) fs) ≡ cond b (record_of f ∷ q) q
+step true f fs e = ap (λ l. record_of f ∷ l) e
+step false f fs e = e
+
+pub filter-records_in : (p : ℕ × Datum → Bool) (fs : List UnknownField) → records_in (filter (λ f. p (record_of f)) fs) ≡ filter p (records_in fs)
+filter-records_in p [] = refl
+filter-records_in p (f ∷ fs) = step (p (record_of f)) f _ (filter-records_in p fs)
+
+take_all : (xs : List UnknownField) (i : ℕ) → length xs ≤ i → take i xs ≡ xs
+take_all [] zero h = refl
+take_all [] (suc i) h = refl
+take_all (x ∷ xs) zero h = absurd (omega arith)
+take_all (x ∷ xs) (suc i) h = ap (λ z. x ∷ z) (take_all xs i (omega arith))
+
+-- ---- equality, field by field
+pub more_equal : (xs ys : List UnknownField) (i : ℕ) (f g d e : UnknownField) → i < length xs → i < length ys → f ≡ get_or xs i d → g ≡ get_or ys i e → record_of f ≡ record_of g
+    → records_in (take i xs) ≡ records_in (take i ys) → records_in (take (i + 1) xs) ≡ records_in (take (i + 1) ys)
+more_equal [] ys i f g d e h k p q r s = absurd (omega arith)
+more_equal (x ∷ xs) [] i f g d e h k p q r s = absurd (omega arith)
+more_equal (x ∷ xs) (y ∷ ys) zero f g d e h k p q r s = let n : record_of x ≡ record_of y = ap record_of (sym p) ∙ r ∙ ap record_of q in ap (λ z. z ∷ []) n
+more_equal (x ∷ xs) (y ∷ ys) (suc i) f g d e h k p q r s =
+    let j : suc i + 1 ≡ suc (i + 1) = omega arith in
+    let a : record_of x ≡ record_of y = cc in
+    let b : records_in (take i xs) ≡ records_in (take i ys) = cc in
+    rw j (λ z. a z ∷ more_equal xs ys i f g d e (omega arith) (omega arith) p q r b z)
+
+pub item_equal : (xs ys : List UnknownField) (i : ℕ) (d e : UnknownField) → i < length xs → i < length ys → records_in xs ≡ records_in ys → record_of (get_or xs i d) ≡ record_of (get_or ys i e)
+item_equal [] ys i d e h k p = absurd (omega arith)
+item_equal (x ∷ xs) [] i d e h k p = absurd (omega arith)
+item_equal (x ∷ xs) (y ∷ ys) zero d e h k p = cc
+item_equal (x ∷ xs) (y ∷ ys) (suc i) d e h k p = let b : records_in xs ≡ records_in ys = cc in item_equal xs ys i d e (omega arith) (omega arith) b
+
+pub held_eq_yes : (a b : Held) → a.records ≡ b.records → held_eq a b ≡ true
+held_eq_yes a b e = (records_eq-Decides (records_of a.records) (records_of b.records)).1 (ap records_of e)
+
+pub held_eq_no : (a b : Held) → (a.records ≡ b.records → ⊥) → held_eq a b ≡ false
+held_eq_no a b other = differs (held_eq a b) (held_eq a b) refl (λ h. other (sym (list-records a.records) ∙ ap list_of ((records_eq-Decides (records_of a.records) (records_of b.records)).0 h) ∙ list-records b.records))
+
+pub not_same : (s o : Held) (xs ys : List UnknownField) (i : ℕ) (a b : UnknownField) → records_in xs ≡ s.records → records_in ys ≡ o.records → i < length xs → i < length ys
+    → a ≡ get_or xs i a → b ≡ get_or ys i b → field_eq a b ≡ false → false ≡ held_eq s o
+not_same s o xs ys i a b p q h k f g n =
+    sym (held_eq_no s o (λ e.
+    let r : record_of (get_or xs i a) ≡ record_of (get_or ys i b) = item_equal xs ys i a b h k (p ∙ e ∙ sym q) in
+    let t = (field_eq-Decides a b).1 (ap record_of f ∙ r ∙ sym (ap record_of g)) in
+    true≢false (sym t ∙ n)))
+
+pub all_same : (s o : Held) (xs ys : List UnknownField) (i : ℕ) → records_in xs ≡ s.records → records_in ys ≡ o.records → length xs ≡ length ys → length xs ≤ i → records_in (take i xs) ≡ records_in (take i ys) → true ≡ held_eq s o
+all_same s o xs ys i p q l h e =
+    let a : take i xs ≡ xs = take_all xs i h in
+    let b : take i ys ≡ ys = take_all ys i (omega arith) in
+    sym (held_eq_yes s o (sym p ∙ ap records_in (sym a) ∙ e ∙ ap records_in b ∙ q))

@@ -1,0 +1,90 @@
+use Rattle.std.proofs.Common.{rules, ◌∙◌, arith, refl, sym, ap, Err}
+use Rattle.std.proofs.lemmas.Result.{err_from_is_err_and}
+use Rattle.buffa_bytes.proofs.FieldLemmas.{tag_falls}
+use Rattle.buffa_wire.specs.Left.{Left}
+use Rattle.buffa_wire.proofs.LoopLemmas.{field_falls, field_end, field_no_slot, field_group_ok, field_group_err, field_plain_ok, field_plain_err, group_limit, group_tag_err, group_end, group_other, group_field_err, group_next}
+use Rattle.buffa_wire.proofs.unknown_fields.read.+decode.Goals as goal
+
+pub decode_group-returns-then-depth-eq0-clause-reads : goal.decode_group-returns-then-depth-eq0-clause-reads
+decode_group-returns-then-depth-eq0-clause-reads g t c = λ other. group_limit _ _ _ _ c.if-depth-eq0.true
+
+pub decode_group-returns-in_err-tag-clause-reads : goal.decode_group-returns-in_err-tag-clause-reads
+decode_group-returns-in_err-tag-clause-reads g t c =
+    let p = err_from_is_err_and c.from_residual.result c.from_residual.ensures.1 in
+    rw (p.1, p.2) (λ other. group_tag_err _ _ _ _ _ _ c.if-depth-eq0.false c.loop-fields.invariant.read _ c.in_err-tag.ensures.reads)
+
+pub decode_group-returns-then-field_number-number-clause-reads : goal.decode_group-returns-then-field_number-number-clause-reads
+decode_group-returns-then-field_number-number-clause-reads g t c =
+    group_end _ _ _ _ _ _ c.if-depth-eq0.false c.loop-fields.invariant.read _ c.in_ok-tag.ensures.reads (sym c.in-EndGroup.ensures) (sym c.field_number.ensures ∙ c.if-field_number-number.true)
+
+pub decode_group-returns-in-EndGroup-clause-reads : goal.decode_group-returns-in-EndGroup-clause-reads
+decode_group-returns-in-EndGroup-clause-reads g t c =
+    rw c.field_number-in-EndGroup.ensures (λ other. group_other _ _ _ _ _ _ c.if-depth-eq0.false c.loop-fields.invariant.read _ c.in_ok-tag.ensures.reads (sym c.in-EndGroup.ensures) (λ e. c.if-field_number-number.false (c.field_number.ensures ∙ e)))
+
+pub decode_group-loop-fields-smaller : goal.decode_group-loop-fields-smaller
+decode_group-loop-fields-smaller g t c = omega (arith, tag_falls _ _ c.in_ok-tag.ensures.reads, field_falls _ _ _ _ _ _ c.in_ok-field.ensures.reads)
+
+pub decode_group-returns-in_err-field : goal.decode_group-returns-in_err-field
+decode_group-returns-in_err-field g t c =
+    let p = err_from_is_err_and c.from_residual-in_err-field.result c.from_residual-in_err-field.ensures.1 in
+    record {
+      reads = rw (p.1, p.2) (λ other. group_field_err _ _ _ _ _ _ c.if-depth-eq0.false c.loop-fields.invariant.read _ c.in_ok-tag.ensures.reads (λ e. c.in_default.not-EndGroup (c.wire_type.ensures ∙ e)) _ (c.in_err-field.ensures.reads other));
+      memory = c.in_err-field.ensures.memory ∙ c.loop-fields.invariant.memory;
+      kept = c.in_err-field.ensures.kept ∙ c.in_ok-tag.ensures.kept ∙ c.loop-fields.invariant.kept;
+    }
+
+pub decode_group-loop-fields-preserved : goal.decode_group-loop-fields-preserved
+decode_group-loop-fields-preserved g t c = record {
+  read = group_next _ _ _ _ _ _ c.if-depth-eq0.false c.loop-fields.invariant.read _ c.in_ok-tag.ensures.reads (λ e. c.in_default.not-EndGroup (c.wire_type.ensures ∙ e)) _ _ _ c.in_ok-field.ensures.reads c.in_ok-field.ensures.number c.in-Ok.ensures.ok;
+  memory = c.in_ok-field.ensures.memory ∙ c.loop-fields.invariant.memory;
+  kept = c.in_ok-field.ensures.kept ∙ c.in_ok-tag.ensures.kept ∙ c.loop-fields.invariant.kept;
+}
+
+pub decode_unknown_field-returns-in-EndGroup-clause-reads : goal.decode_unknown_field-returns-in-EndGroup-clause-reads
+decode_unknown_field-returns-in-EndGroup-clause-reads g t c = λ other. field_end _ _ _ _ _ c.in-EndGroup.is
+
+pub decode_unknown_field-returns-in_err-take_slot : goal.decode_unknown_field-returns-in_err-take_slot
+decode_unknown_field-returns-in_err-take_slot g t c =
+    let p = err_from_is_err_and c.from_residual.result c.from_residual.ensures.1 in
+    record {
+      reads = rw (p.1, p.2) (λ other. field_no_slot _ _ _ _ _ c.in_default.not-EndGroup c.in_err-take_slot.ensures.err.0 ∙ ap (λ e. Err e) (sym c.in_err-take_slot.ensures.which));
+      number = search rules;
+      memory = ap (λ (b : Left). b.memory) c.in_err-take_slot.ensures.err.1;
+      kept = refl;
+    }
+
+pub decode_unknown_field-returns-in_err-fields : goal.decode_unknown_field-returns-in_err-fields
+decode_unknown_field-returns-in_err-fields g t c =
+    let p = err_from_is_err_and c.from_residual-in_err-fields.result c.from_residual-in_err-fields.ensures.1 in
+    record {
+      reads = rw (p.1, p.2) (λ other. field_group_err _ _ _ _ _ _ _ c.in-StartGroup.is c.in_ok-take_slot.ensures.ok.0 (c.in_err-fields.ensures.reads other));
+      number = search rules;
+      memory = c.in_err-fields.ensures.memory ∙ c.in_ok-take_slot.ensures.ok.1;
+      kept = c.in_err-fields.ensures.kept;
+    }
+
+pub decode_unknown_field-returns-in-StartGroup : goal.decode_unknown_field-returns-in-StartGroup
+decode_unknown_field-returns-in-StartGroup g t c = record {
+  reads = field_group_ok _ _ _ _ _ _ _ c.in-StartGroup.is c.in_ok-take_slot.ensures.ok.0 c.in_ok-fields.ensures.reads;
+  number = refl;
+  memory = c.in_ok-fields.ensures.memory ∙ c.in_ok-take_slot.ensures.ok.1;
+  kept = c.in_ok-fields.ensures.kept;
+}
+
+pub decode_unknown_field-returns-in_err-payload : goal.decode_unknown_field-returns-in_err-payload
+decode_unknown_field-returns-in_err-payload g t c =
+    let p = err_from_is_err_and c.from_residual-in_err-payload.result c.from_residual-in_err-payload.ensures.1 in
+    record {
+      reads = rw (p.1, p.2) (λ other. field_plain_err _ _ _ _ _ _ _ c.in_default.not-EndGroup c.in_default-wire_type.not-StartGroup c.in_ok-take_slot.ensures.ok.0 (c.in_err-payload.ensures.reads other));
+      number = search rules;
+      memory = c.in_ok-take_slot.ensures.ok.1;
+      kept = c.in_err-payload.ensures.kept;
+    }
+
+pub decode_unknown_field-returns : goal.decode_unknown_field-returns
+decode_unknown_field-returns g t c = record {
+  reads = field_plain_ok _ _ _ _ _ _ _ c.in_default.not-EndGroup c.in_default-wire_type.not-StartGroup c.in_ok-take_slot.ensures.ok.0 c.in_ok-payload.ensures.reads;
+  number = refl;
+  memory = c.in_ok-take_slot.ensures.ok.1;
+  kept = c.in_ok-payload.ensures.kept;
+}

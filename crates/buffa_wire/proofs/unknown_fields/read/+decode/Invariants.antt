@@ -1,0 +1,22 @@
+use Rattle.std.proofs.Common.{◌≡◌, ◌+◌, ◌*◌, length}
+use Rattle.buffa_wire.specs.Records.{records_of}
+use Rattle.buffa_wire.specs.RecordReading.{group_at}
+use Rattle.buffa_wire.proofs.ReadLemmas.{behind}
+use Rattle.buffa_wire.proofs.unknown_fields.read.+decode.Given as goal
+
+abbrev pub decreases-decode_unknown_field : goal.decreases-decode_unknown_field
+decreases-decode_unknown_field g l = 2 * l.ctx.depth + 1
+
+abbrev pub decreases-decode_group : goal.decreases-decode_group
+decreases-decode_group g l = 2 * l.ctx.depth
+
+-- what is read so far, and then the rest of the group, is the group
+abbrev pub invariant-decode_group-loop-fields : goal.invariant-decode_group-loop-fields
+invariant-decode_group-loop-fields g l = record {
+  read : behind (records_of l.fields.records) (group_at l.depth l.budget.unknown l.number (g.B.Buf.unread l.buf)) ≡ group_at l.fn.ctx.depth l.fn.ctx.budget.now.unknown l.fn.number (g.B.Buf.unread l.fn.buf);
+  memory : l.budget.memory ≡ l.fn.ctx.budget.now.memory;
+  kept : g.B.Buf.kept l.buf ≡ g.B.Buf.kept l.fn.buf;
+}
+
+abbrev pub decreases-decode_group-loop-fields : goal.decreases-decode_group-loop-fields
+decreases-decode_group-loop-fields g l = length (g.B.Buf.unread l.buf)

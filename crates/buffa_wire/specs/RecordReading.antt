@@ -1,0 +1,67 @@
+-- What reading records gives: the records, the slots for unknown fields that are left, and the bytes that
+-- follow; or the first fault.
+use Rattle.std.specs.Prelude.{ℕ, zero, suc, ◌-◌, ◌==◌, ◌&&◌, List, [], ◌∷◌, length, Result, Ok, Err, if◌then◌else◌}
+use Rattle.buffa_bytes.specs.Gives.{◌>>=◌}
+use Rattle.buffa_bytes.specs.declared.wire_type.WireType.{WireType}
+use Rattle.buffa_bytes.specs.declared.wire_type.WireType.TheVariants as wire
+use Rattle.buffa_bytes.specs.declared.error.DecodeError.{DecodeError}
+use Rattle.buffa_bytes.specs.declared.error.DecodeError.TheVariants.{UnexpectedEof, InvalidWireType, RecursionLimitExceeded, UnknownFieldLimitExceeded, InvalidEndGroup}
+use Rattle.buffa_bytes.specs.Reading.{varint_at, delimited_at, tag_at, is_end}
+use Rattle.buffa_bytes.specs.Scalars.{fixed32_at, fixed64_at}
+use Rattle.buffa_wire.specs.Records.{Datum, varint, fixed32, fixed64, bytes, group, Records, no_records, one, list_of}
+
+-- what reads the rest of a group: of the slots that are left, the group's number, and the bytes
+abbrev pub GroupReader : Type 0
+GroupReader = ℕ → ℕ → List ℕ → Result (Records × ℕ × List ℕ) DecodeError
+
+-- the payload of a field that is no group; the two wire types that have none are named
+abbrev pub plain_at : WireType → List ℕ → Result (Datum × List ℕ) DecodeError
+plain_at wire.Varint bs = varint_at bs >>= (λ v. Ok (varint v.0, v.1))
+plain_at wire.Fixed64 bs = fixed64_at bs >>= (λ v. Ok (fixed64 v.0, v.1))
+plain_at wire.LengthDelimited bs = delimited_at bs >>= (λ v. Ok (bytes v.0, v.1))
+plain_at wire.StartGroup bs = Err (InvalidWireType 3)
+plain_at wire.EndGroup bs = Err (InvalidWireType 4)
+plain_at wire.Fixed32 bs = fixed32_at bs >>= (λ v. Ok (fixed32 v.0, v.1))
+
+-- the payload of a field whose slot is spent
+abbrev pub payload_by : GroupReader → ℕ → ℕ → WireType → List ℕ → Result (Datum × ℕ × List ℕ) DecodeError
+payload_by inner s n wire.StartGroup bs = inner s n bs >>= (λ v. Ok (group v.0, v.1, v.2))
+payload_by inner s n w bs = plain_at w bs >>= (λ v. Ok (v.0, s, v.1))
+
+-- the field after its tag: an end tag is none, then a slot is spent, then the payload is read
+unfoldable pub field_by : GroupReader → ℕ → ℕ → WireType → List ℕ → Result (Datum × ℕ × List ℕ) DecodeError
+field_by inner s n w bs =
+    if is_end w then Err (InvalidEndGroup n) else
+    if s == 0 then Err UnknownFieldLimitExceeded else payload_by inner (s - 1) n w bs
+
+-- the field after its tag t, and then what more reads
+abbrev pub field_then : GroupReader → (ℕ → List ℕ → Result (Records × ℕ × List ℕ) DecodeError) → ℕ → ℕ × WireType × List ℕ → Result (Records × ℕ × List ℕ) DecodeError
+field_then inner more s t = field_by inner s t.0 t.1 t.2 >>= (λ x. more x.1 x.2 >>= (λ rs. Ok (one t.0 x.0 rs.0, rs.1, rs.2)))
+
+-- the fields and the end tag of group n; the first number bounds the steps
+unfoldable pub group_within : GroupReader → ℕ → GroupReader
+group_within inner zero s n bs = Err UnexpectedEof
+group_within inner (suc k) s n bs = tag_at bs >>= (λ t.
+    if is_end t.1 && (t.0 == n) then Ok (no_records, s, t.2) else field_then inner (λ left rest. group_within inner k left n rest) s t)
+
+-- the same, with groups nested at most d deep; each field has a tag, so the bytes bound the steps
+unfoldable pub group_at : ℕ → GroupReader
+group_at zero s n bs = Err RecursionLimitExceeded
+group_at (suc d) s n bs = group_within (group_at d) (length bs) s n bs
+
+-- the field after a tag of number n and wire type w
+abbrev pub field_at : ℕ → ℕ → ℕ → WireType → List ℕ → Result (Datum × ℕ × List ℕ) DecodeError
+field_at d = field_by (group_at d)
+
+-- fields, to the end of the bytes
+unfoldable pub records_within : GroupReader → ℕ → ℕ → List ℕ → Result (Records × ℕ × List ℕ) DecodeError
+records_within inner k s [] = Ok (no_records, s, [])
+records_within inner zero s (b ∷ bs) = Err UnexpectedEof
+records_within inner (suc k) s (b ∷ bs) = tag_at (b ∷ bs) >>= field_then inner (records_within inner k) s
+
+unfoldable pub records_at : ℕ → ℕ → List ℕ → Result (Records × ℕ × List ℕ) DecodeError
+records_at d s bs = records_within (group_at d) (length bs) s bs
+
+-- the records alone
+abbrev pub list_at : ℕ → ℕ → List ℕ → Result (List (ℕ × Datum)) DecodeError
+list_at d s bs = records_at d s bs >>= (λ v. Ok (list_of v.0))

@@ -1,0 +1,46 @@
+-- Records: what a field says, whatever its spelling. A number, and a varint's value, four or eight bytes as
+-- a number, bytes, or the records of a group. Source: the protobuf encoding guide, "Message Structure".
+use Rattle.std.specs.Prelude.{ℕ, suc, max, List, [], ◌∷◌}
+
+mutual
+  pub data Datum : Type 0 where
+    varint : ℕ → Datum
+    fixed32 : ℕ → Datum
+    fixed64 : ℕ → Datum
+    bytes : List ℕ → Datum
+    group : Records → Datum
+
+  pub data Records : Type 0 where
+    no_records : Records
+    one : ℕ → Datum → Records → Records
+
+-- records as a list, and back
+abbrev pub records_of : List (ℕ × Datum) → Records
+records_of [] = no_records
+records_of (r ∷ rs) = one r.0 r.1 (records_of rs)
+
+abbrev pub list_of : Records → List (ℕ × Datum)
+list_of no_records = []
+list_of (one n d rs) = (n, d) ∷ list_of rs
+
+-- how deep groups nest
+abbrev mutual
+  pub datum_height : Datum → ℕ
+  datum_height (varint v) = 0
+  datum_height (fixed32 v) = 0
+  datum_height (fixed64 v) = 0
+  datum_height (bytes bs) = 0
+  datum_height (group rs) = suc (records_height rs)
+
+  pub records_height : Records → ℕ
+  records_height no_records = 0
+  records_height (one n d rs) = max (datum_height d) (records_height rs)
+
+abbrev pub height : List (ℕ × Datum) → ℕ
+height [] = 0
+height (r ∷ rs) = max (datum_height r.1) (height rs)
+
+-- a list of records, and how many more fit without new memory
+pub record Held : Type 0 where
+  pub records : List (ℕ × Datum)
+  pub spare : ℕ

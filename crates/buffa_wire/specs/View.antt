@@ -1,0 +1,27 @@
+-- The records that values of the program stand for.
+use Rattle.std.specs.Prelude.{◌≡◌, ℕ, ◌-◌, Bool, List, map, vec_len, vec_capacity}
+use Rattle.buffa_wire.specs.Records.{Datum, varint, fixed32, fixed64, bytes, group, records_of, Held}
+use Rattle.buffa_wire.specs.declared.unknown_fields.UnknownField.{UnknownField}
+use Rattle.buffa_wire.specs.declared.unknown_fields.UnknownFieldData.{UnknownFieldData}
+use Rattle.buffa_wire.specs.declared.unknown_fields.UnknownFieldData.TheVariants.{Varint, Fixed32, Fixed64, LengthDelimited, Group}
+use Rattle.buffa_wire.specs.declared.unknown_fields.UnknownFields.TheInside.{Inside}
+
+abbrev pub datum_of : UnknownFieldData → Datum
+datum_of (Varint v) = varint v
+datum_of (Fixed32 v) = fixed32 v
+datum_of (Fixed64 v) = fixed64 v
+datum_of (LengthDelimited bs) = bytes bs.items
+datum_of (Group fs) = group (records_of fs.records)
+
+abbrev pub record_of : UnknownField → ℕ × Datum
+record_of f = (f.number, datum_of f.payload)
+
+abbrev pub records_in : List UnknownField → List (ℕ × Datum)
+records_in fs = map record_of fs
+
+abbrev pub held : Inside → Held
+held a = record { records = records_in a.fields.items; spare = vec_capacity a.fields - vec_len a.fields }
+
+-- a test of fields that goes by their records alone
+abbrev pub AnswersRecords : {F : Type 0} → (F → UnknownField → Bool → F → Type 0) → (ℕ × Datum → Bool) → Type 0
+AnswersRecords {F} R p = (f : F) (x : UnknownField) (b : Bool) (g : F) → R f x b g → b ≡ p (record_of x)

@@ -1,0 +1,55 @@
+//! What the definitions of records say together: each law is a function with nothing to do, whose contract
+//! is the law.
+
+ghost use Rattle.std.specs.Prelude.{◌≡◌, ◌≤◌, ◌↔◌, ℕ, List, Ok, Err, true};
+ghost use Rattle.buffa_bytes.specs.declared.wire_type.WireType.{WireType};
+ghost use Rattle.buffa_bytes.specs.declared.error.DecodeError.{DecodeError};
+ghost use Rattle.buffa_wire.specs.Field.{SomeField};
+ghost use Rattle.buffa_wire.specs.Join.{Join};
+ghost use Rattle.buffa_wire.specs.Records.{Datum, Held, height, records_of};
+ghost use Rattle.buffa_wire.specs.View.{record_of};
+ghost use Rattle.buffa_wire.specs.Equal.{field_eq, held_eq};
+ghost use Rattle.buffa_wire.specs.Text.{W};
+ghost use Rattle.buffa_wire.specs.Parse.{FieldFault, Fits, InRange, Parse, RecordsFault, TakesField, slots};
+ghost use Rattle.buffa_wire.specs.RecordReading.{field_at, list_at};
+
+use crate::unknown_fields::UnknownField;
+
+/// Whole bytes are read as records exactly where the grammar has them and a slot is left for each record,
+/// nested ones too; else the first fault is told.
+pub fn records_are_read()
+    ensures ok { (d s : ℕ) (bs : List ℕ) (rs : List (ℕ × Datum)) → (list_at d s bs ≡ Ok rs) ↔ (Parse d bs (records_of rs) × (slots (records_of rs) ≤ s)) }
+    ensures err { (d s : ℕ) (bs : List ℕ) (e : DecodeError) → (list_at d s bs ≡ Err e) ↔ RecordsFault d s bs e }
+{}
+
+/// The same of one field after its tag, and what it leaves of the slots and of the bytes.
+pub fn fields_are_read()
+    ensures ok { (d s n : ℕ) (w : WireType) (bs : List ℕ) (x : Datum) (left : ℕ) (rest : List ℕ) → (field_at d s n w bs ≡ Ok (x, left, rest)) ↔ TakesField d s n w bs x left rest }
+    ensures err { (d s n : ℕ) (w : WireType) (bs : List ℕ) (e : DecodeError) → (field_at d s n w bs ≡ Err e) ↔ FieldFault d s n w bs e }
+{}
+
+/// Records are what fields say: bytes are a join of fields exactly where they are the text of records, and
+/// more depth changes nothing.
+pub fn records_are_fields()
+    ensures fields { (d : ℕ) (bs : List ℕ) → Join (SomeField d) bs ↔ ((rs : List (ℕ × Datum)) × Parse d bs (records_of rs)) }
+    ensures deeper { (c d : ℕ) (bs : List ℕ) (rs : List (ℕ × Datum)) → c ≤ d → Parse c bs (records_of rs) → Parse d bs (records_of rs) }
+{}
+
+/// Bytes are the text of one list of records, at any depths.
+pub fn one_reading()
+    ensures { (bs : List ℕ) (c d : ℕ) (rs qs : List (ℕ × Datum)) → Parse c bs (records_of rs) → Parse d bs (records_of qs) → rs ≡ qs }
+{}
+
+/// The text of records that fit is theirs, at a depth that their groups need, and it is read back with a
+/// slot for each. The text of any records whose data are in range is that of no others.
+pub fn texts_are_read_back()
+    ensures parses { (d : ℕ) (rs : List (ℕ × Datum)) → Fits (records_of rs) → height rs ≤ d → Parse d (W rs) (records_of rs) }
+    ensures read { (d s : ℕ) (rs : List (ℕ × Datum)) → Fits (records_of rs) → height rs ≤ d → slots (records_of rs) ≤ s → list_at d s (W rs) ≡ Ok rs }
+    ensures theirs { (d : ℕ) (rs qs : List (ℕ × Datum)) → InRange (records_of rs) → Parse d (W rs) (records_of qs) → qs ≡ rs }
+{}
+
+/// `==` holds of unknown fields exactly where their records are equal.
+pub fn equality_is_of_records()
+    ensures fields { (a b : Held) → (held_eq a b ≡ true) ↔ (a.records ≡ b.records) }
+    ensures field { (a b : UnknownField) → (field_eq a b ≡ true) ↔ (record_of a ≡ record_of b) }
+{}

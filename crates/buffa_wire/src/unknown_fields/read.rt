@@ -1,0 +1,166 @@
+//! Reading unknown fields.
+
+ghost use Rattle.std.specs.Prelude.{◌≡◌, ◌≢◌, IfOk};
+ghost use Rattle.buffa_wire.specs.Gives.{GivesUnlessFull};
+ghost use Rattle.buffa_wire.specs.Left.{left_in};
+ghost use Rattle.buffa_wire.specs.Records.{records_of};
+ghost use Rattle.buffa_wire.specs.RecordReading.{field_at, group_at, list_at, plain_at};
+ghost use Rattle.buffa_wire.specs.View.{datum_of};
+
+use crate::budget::{Budget, DEFAULT_UNKNOWN_FIELD_LIMIT};
+use crate::context::{DecodeContext, RECURSION_LIMIT};
+use crate::unknown_fields::{UnknownField, UnknownFieldData, UnknownFields};
+use buffa_bytes::{Buf, DecodeError, Tag, WireType, decode_varint, types};
+use std::alloc::Global;
+
+// Reads a payload that is no group.
+#[tactic(auto, unfolding(crate::specs::RecordReading::plain_at))]
+fn decode_plain<B: Buf>(
+    alloc: Global,
+    wire_type: WireType,
+    buf: &mut B,
+) -> Result<UnknownFieldData, DecodeError>
+    requires no_group { wire_type ≢ WireType.StartGroup }
+    requires no_end { wire_type ≢ WireType.EndGroup }
+    ensures reads { GivesUnlessFull (λ d. (datum_of d, B.unread buf.new)) result (plain_at wire_type (B.unread buf.old)) }
+    ensures kept { B.kept buf.new ≡ B.kept buf.old }
+{
+    match wire_type {
+        WireType::Varint => {
+            let v = decode_varint(buf)?;
+            return Ok(UnknownFieldData::Varint(v));
+        }
+        WireType::Fixed64 => {
+            let v = types::decode_fixed64(buf)?;
+            return Ok(UnknownFieldData::Fixed64(v));
+        }
+        WireType::LengthDelimited => {
+            let v = types::decode_bytes(alloc, buf)?;
+            return Ok(UnknownFieldData::LengthDelimited(v));
+        }
+        WireType::Fixed32 => {
+            let v = types::decode_fixed32(buf)?;
+            return Ok(UnknownFieldData::Fixed32(v));
+        }
+        WireType::StartGroup | WireType::EndGroup => unreachable!(),
+    }
+}
+
+/// Reads the field whose tag was read, and keeps it.
+///
+/// It spends one slot for the field, and one for each field in its groups, and no element memory.
+///
+/// # Errors
+/// The first fault, in this order: [`DecodeError::InvalidEndGroup`] for an end tag, which takes no slot;
+/// [`DecodeError::UnknownFieldLimitExceeded`] where no slot is left; those of the payload, as
+/// [`skip_field_depth`](crate::skip_field_depth) tells them. Inside a group, one level less deep, the same
+/// of each tag and field. Or [`DecodeError::OutOfMemory`].
+///
+/// Source: the protobuf encoding guide, "Message Structure" and "Groups".
+///
+/// ```ignore
+/// let tag = Tag::decode(&mut rest)?;
+/// let field = decode_unknown_field(alloc, tag, &mut rest, ctx)?;
+/// ```
+#[cycle(decode)]
+pub fn decode_unknown_field<B: Buf>(
+    alloc: Global,
+    tag: Tag,
+    buf: &mut B,
+    ctx: DecodeContext<'_>,
+) -> Result<UnknownField, DecodeError>
+    ensures reads { GivesUnlessFull (λ f. (datum_of f.payload, (left_in ctx.exit).unknown, B.unread buf.new)) result
+        (field_at ctx.entry.depth ctx.entry.budget.now.unknown tag.number tag.wire_type (B.unread buf.old)) }
+    ensures number { IfOk result (λ f. f.number ≡ tag.number) }
+    ensures memory { (left_in ctx.exit).memory ≡ ctx.entry.budget.now.memory }
+    ensures kept { B.kept buf.new ≡ B.kept buf.old }
+{
+    let DecodeContext { depth, budget } = ctx;
+    let Tag { number, wire_type } = tag;
+    if let WireType::EndGroup = wire_type {
+        return Err(DecodeError::InvalidEndGroup(number));
+    }
+    budget.take_slot()?;
+    if let WireType::StartGroup = wire_type {
+        let lent = DecodeContext {
+            depth,
+            budget: &mut *budget,
+        };
+        let fields = decode_group(alloc, number, buf, lent)?;
+        return Ok(UnknownField {
+            number,
+            payload: UnknownFieldData::Group(fields),
+        });
+    }
+    let payload = decode_plain(alloc, wire_type, buf)?;
+    Ok(UnknownField { number, payload })
+}
+
+// Reads the fields of a group, and its end tag.
+#[cycle(decode)]
+fn decode_group<B: Buf>(
+    alloc: Global,
+    number: u32,
+    buf: &mut B,
+    ctx: DecodeContext<'_>,
+) -> Result<UnknownFields, DecodeError>
+    ensures reads { GivesUnlessFull (λ f. (records_of f.records, (left_in ctx.exit).unknown, B.unread buf.new)) result
+        (group_at ctx.entry.depth ctx.entry.budget.now.unknown number (B.unread buf.old)) }
+    ensures memory { (left_in ctx.exit).memory ≡ ctx.entry.budget.now.memory }
+    ensures kept { B.kept buf.new ≡ B.kept buf.old }
+{
+    let DecodeContext { depth, budget } = ctx;
+    if depth == 0 {
+        return Err(DecodeError::RecursionLimitExceeded);
+    }
+    let mut fields = UnknownFields::new(alloc);
+    loop {
+        let tag = Tag::decode(buf)?;
+        if let WireType::EndGroup = tag.wire_type() {
+            if tag.field_number() == number {
+                return Ok(fields);
+            }
+            return Err(DecodeError::InvalidEndGroup(tag.field_number()));
+        }
+        let lent = DecodeContext {
+            depth: depth - 1,
+            budget: &mut *budget,
+        };
+        let field = decode_unknown_field(alloc, tag, buf, lent)?;
+        let Ok(_) = fields.push(field) else {
+            return Err(DecodeError::OutOfMemory);
+        };
+    }
+}
+
+impl UnknownFields {
+    /// Reads fields to the end of the bytes, with groups nested at most [`RECURSION_LIMIT`] deep and
+    /// [`DEFAULT_UNKNOWN_FIELD_LIMIT`] slots.
+    ///
+    /// # Errors
+    /// The first fault: of a tag, as [`Tag::decode`] tells it, or of the field behind it, as
+    /// [`decode_unknown_field`] does. Or [`DecodeError::OutOfMemory`].
+    ///
+    /// ```ignore
+    /// let fields = UnknownFields::decode_from_slice(alloc, &[0x38, 0x96, 0x01])?;
+    /// ```
+    pub fn decode_from_slice(alloc: Global, bytes: &[u8]) -> Result<UnknownFields, DecodeError>
+        ensures { GivesUnlessFull (λ f. f.records) result (list_at RECURSION_LIMIT DEFAULT_UNKNOWN_FIELD_LIMIT bytes.now) }
+    {
+        let mut budget = Budget::new(DEFAULT_UNKNOWN_FIELD_LIMIT);
+        let mut rest = bytes;
+        let mut fields = UnknownFields::new(alloc);
+        while !rest.is_empty() {
+            let tag = Tag::decode(&mut rest)?;
+            let lent = DecodeContext {
+                depth: RECURSION_LIMIT,
+                budget: &mut budget,
+            };
+            let field = decode_unknown_field(alloc, tag, &mut rest, lent)?;
+            let Ok(_) = fields.push(field) else {
+                return Err(DecodeError::OutOfMemory);
+            };
+        }
+        Ok(fields)
+    }
+}

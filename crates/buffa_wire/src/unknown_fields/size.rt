@@ -1,0 +1,68 @@
+//! The lengths of texts of unknown fields.
+
+ghost use Rattle.std.specs.Prelude.{◌≡◌, ◌≤◌, length, min};
+ghost use Rattle.buffa_wire.specs.Text.{W, field_text, payload_text};
+ghost use Rattle.buffa_wire.specs.View.{datum_of};
+ghost use Rattle.buffa_wire.specs.Varint.{V};
+
+use crate::unknown_fields::tag::tag_value;
+use crate::unknown_fields::{UnknownFieldData, UnknownFields};
+use buffa_bytes::{WireType, varint_len};
+
+impl UnknownFields {
+    /// The length of the text that [`UnknownFields::write_to`] writes, in bytes, or 2^64 - 1 where it is
+    /// longer. It takes no memory.
+    ///
+    /// ```ignore
+    /// let three = fields.encoded_len(); // of 38 96 01
+    /// ```
+    #[cycle(size)]
+    pub fn encoded_len(&self) -> u64
+        ensures { result ≡ min (length (W self.now.records)) 18446744073709551615 }
+    {
+        let mut total: u64 = 0;
+        for field in &self.fields {
+            let len = field_len(field.number, &field.payload);
+            total = total.saturating_add(len);
+        }
+        total
+    }
+}
+
+// The length of a varint.
+#[tactic(auto, using(crate::proofs::TextLemmas::ten_at_most))]
+fn number_len(n: u64) -> u64
+    ensures len { result ≡ length (V n) }
+    ensures short { result ≤ 10 }
+{
+    varint_len(n) as u64
+}
+
+// The length of a field's text, or 2^64 - 1 where it is longer.
+#[cycle(size)]
+fn field_len(number: u32, payload: &UnknownFieldData) -> u64
+    ensures { result ≡ min (length (field_text number (datum_of payload.now))) 18446744073709551615 }
+{
+    let tag = number_len(tag_value(number, payload.wire_type()));
+    tag.saturating_add(payload_len(number, payload))
+}
+
+// The length of what follows the tag, or 2^64 - 1 where it is longer.
+#[cycle(size)]
+fn payload_len(number: u32, payload: &UnknownFieldData) -> u64
+    ensures { result ≡ min (length (payload_text number (datum_of payload.now))) 18446744073709551615 }
+{
+    match payload {
+        UnknownFieldData::Varint(v) => return number_len(*v),
+        UnknownFieldData::Fixed32(_) => return 4,
+        UnknownFieldData::Fixed64(_) => return 8,
+        UnknownFieldData::LengthDelimited(b) => {
+            let len = b.len() as u64;
+            return len.saturating_add(number_len(len));
+        }
+        UnknownFieldData::Group(g) => {
+            let end = number_len(tag_value(number, WireType::EndGroup));
+            return end.saturating_add(g.encoded_len());
+        }
+    }
+}

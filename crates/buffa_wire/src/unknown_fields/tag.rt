@@ -1,0 +1,35 @@
+//! The tags of unknown fields.
+
+ghost use Rattle.std.specs.Prelude.{◌≡◌, ◌+◌, ◌*◌};
+ghost use Rattle.buffa_wire.specs.Text.{wire_of};
+ghost use Rattle.buffa_wire.specs.View.{datum_of};
+ghost use Rattle.buffa_wire.specs.WireType.{wire_number};
+
+use crate::unknown_fields::UnknownFieldData;
+use buffa_bytes::WireType;
+
+impl UnknownFieldData {
+    /// The wire type of the field's tag.
+    ///
+    /// ```ignore
+    /// let varint = UnknownFieldData::Varint(150).wire_type();
+    /// ```
+    pub fn wire_type(&self) -> WireType
+        ensures { result ≡ wire_of (datum_of self.now) }
+    {
+        match self {
+            UnknownFieldData::Varint(_) => WireType::Varint,
+            UnknownFieldData::Fixed32(_) => WireType::Fixed32,
+            UnknownFieldData::Fixed64(_) => WireType::Fixed64,
+            UnknownFieldData::LengthDelimited(_) => WireType::LengthDelimited,
+            UnknownFieldData::Group(_) => WireType::StartGroup,
+        }
+    }
+}
+
+// The value of the varint that is a tag, of any number.
+pub(crate) fn tag_value(number: u32, wire_type: WireType) -> u64
+    ensures { result ≡ 8 * number + wire_number wire_type }
+{
+    8 * u64::from(number) + u64::from(wire_type.number())
+}

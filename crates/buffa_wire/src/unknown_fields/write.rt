@@ -1,0 +1,70 @@
+//! The texts of unknown fields.
+
+ghost use Rattle.buffa_wire.specs.Text.{W, field_text, payload_text};
+ghost use Rattle.buffa_wire.specs.View.{datum_of};
+ghost use Rattle.buffa_wire.specs.Written.{Writes};
+
+use crate::unknown_fields::tag::tag_value;
+use crate::unknown_fields::{UnknownFieldData, UnknownFields};
+use buffa_bytes::{EncodeError, EncodeSink, WireType, encode_varint, types};
+
+impl UnknownFields {
+    /// Writes the fields, one after another, with the shortest tags and lengths.
+    ///
+    /// Every number is written, 0 and those past [`MAX_FIELD_NUMBER`](crate::MAX_FIELD_NUMBER) too; only 1
+    /// to that are read back.
+    ///
+    /// # Errors
+    /// [`EncodeError::OutOfMemory`] alone, after a beginning of the text.
+    ///
+    /// Source: the protobuf encoding guide, "Message Structure".
+    ///
+    /// ```ignore
+    /// fields.write_to(&mut text)?; // 38 96 01
+    /// ```
+    #[cycle(write)]
+    pub fn write_to<S: EncodeSink>(&self, sink: &mut S) -> Result<(), EncodeError>
+        ensures { Writes result (S.written sink.old) (W self.now.records) (S.written sink.new) }
+    {
+        for field in &self.fields {
+            write_field(field.number, &field.payload, sink)?;
+        }
+        Ok(())
+    }
+}
+
+// Writes a field.
+#[cycle(write)]
+#[tactic(auto, using(buffa_bytes::proofs::SinkLemmas::writes_then, buffa_bytes::proofs::SinkLemmas::front_first))]
+fn write_field<S: EncodeSink>(
+    number: u32,
+    payload: &UnknownFieldData,
+    sink: &mut S,
+) -> Result<(), EncodeError>
+    ensures { Writes result (S.written sink.old) (field_text number (datum_of payload.now)) (S.written sink.new) }
+{
+    encode_varint(tag_value(number, payload.wire_type()), sink)?;
+    write_payload(number, payload, sink)
+}
+
+// Writes what follows the tag.
+#[cycle(write)]
+#[tactic(auto, using(buffa_bytes::proofs::SinkLemmas::writes_then, buffa_bytes::proofs::SinkLemmas::front_first))]
+fn write_payload<S: EncodeSink>(
+    number: u32,
+    payload: &UnknownFieldData,
+    sink: &mut S,
+) -> Result<(), EncodeError>
+    ensures { Writes result (S.written sink.old) (payload_text number (datum_of payload.now)) (S.written sink.new) }
+{
+    match payload {
+        UnknownFieldData::Varint(v) => return encode_varint(*v, sink),
+        UnknownFieldData::Fixed32(v) => return types::encode_fixed32(*v, sink),
+        UnknownFieldData::Fixed64(v) => return types::encode_fixed64(*v, sink),
+        UnknownFieldData::LengthDelimited(b) => return types::encode_bytes(b.as_slice(), sink),
+        UnknownFieldData::Group(g) => {
+            g.write_to(sink)?;
+            return encode_varint(tag_value(number, WireType::EndGroup), sink);
+        }
+    }
+}
