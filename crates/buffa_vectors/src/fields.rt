@@ -20,7 +20,7 @@ fn read<KC: MapCodec, VC: MapCodec, C: MapStorage<Key = KC::Value, Value = VC::V
     let mut budget = Budget::new(0);
     let mut rest = field;
     let ctx = DecodeContext::new(10, &mut budget);
-    read_map_field::<KC, VC, C, _>(alloc, map, number, &mut rest, ctx)?;
+    read_map_field::<KC, VC, C, _>(alloc, map, number, &mut rest, ctx, None)?;
     Ok(())
 }
 

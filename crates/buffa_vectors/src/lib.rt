@@ -11,4 +11,5 @@ mod fields;
 mod maps;
 #[cfg(test)]
 mod maps_table;
+pub mod round_trip;
 pub mod word;

@@ -18,7 +18,7 @@ use std::hash::{Hash, Hasher};
 ///
 /// ```ignore
 /// let mut map: Map<Word, i32> = Map::new(alloc);
-/// read_map_field::<ProtoStringMap<Word>, Int32, _, _>(alloc, &mut map, 5, &mut rest, ctx)?;
+/// read_map_field::<ProtoStringMap<Word>, Int32, _, _>(alloc, &mut map, 5, &mut rest, ctx, None)?;
 /// ```
 #[derive(Drop)]
 pub struct Word {
