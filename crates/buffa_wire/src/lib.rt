@@ -13,9 +13,9 @@ pub mod unknown_fields;
 
 pub use budget::{Budget, DEFAULT_ELEMENT_MEMORY_LIMIT, DEFAULT_UNKNOWN_FIELD_LIMIT};
 pub use buffa_bytes::{
-    Blank, Buf, DecodeError, EncodeError, EncodeSink, MAX_FIELD_NUMBER, MapKey, MessageSetFault,
-    PlainKey, Tag, WireType, check_wire_type, decode_varint, encode_varint, skip_field_depth,
-    types, varint_len,
+    Blank, Buf, DecodeError, EncodeError, EncodeSink, Limited, MAX_FIELD_NUMBER, MapKey,
+    MessageSetFault, Pieces, PlainKey, ProtoBytes, ProtoString, Tag, WireType, check_wire_type,
+    decode_varint, encode_varint, skip_field_depth, types, varint_len,
 };
 pub use context::{DecodeContext, RECURSION_LIMIT};
 pub use unknown_fields::read::decode_unknown_field;

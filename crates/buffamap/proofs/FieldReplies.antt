@@ -3,7 +3,7 @@ use Rattle.std.proofs.Common.{◌≡◌, ℕ, ◌^◌, ◌≤◌, nat_lt, Bool, 
 use Rattle.std.specs.Prelude.{codes, ◌&&◌}
 use Rattle.std.proofs.lemmas.Bool.{lt-ltb, le-ltb}
 use Rattle.hex.specs.Hex.{encode_lower}
-use Rattle.buffa_map.specs.Scalars.{int32_writing, string_writing}
+use Rattle.buffamap.specs.Codecs.{int32_writing, string_writing}
 use Rattle.buffa_map.specs.Text.{HasText, entry_text, field_text}
 use Rattle.buffamap.specs.Lines.{Pair}
 use Rattle.buffamap.specs.Reply.{Reply, has_text, line, write_pairs}

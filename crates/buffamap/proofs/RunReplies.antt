@@ -8,7 +8,7 @@ use Rattle.buffa_bytes.specs.declared.error.DecodeError.TheVariants.{OutOfMemory
 use Rattle.buffa_wire.specs.Left.{Left}
 use Rattle.buffa_map.specs.Pairs.{SamePairs}
 use Rattle.buffa_map.specs.Run.{Fold, Paid, RecordFault, Run, RunBegins, Said, run_of}
-use Rattle.buffa_map.specs.Scalars.{int32_reading, string_reading}
+use Rattle.buffamap.specs.Codecs.{int32_reading, string_reading}
 use Rattle.buffa_map.proofs.RunLemmas.{run_complete, run_faulty}
 use Rattle.buffa_map.proofs.ResultLemmas.{IfErr-map}
 use Rattle.buffamap.specs.Reply.{default_left}

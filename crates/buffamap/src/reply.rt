@@ -7,7 +7,7 @@ ghost use Rattle.buffa_wire.specs.Number.{IsNumber};
 ghost use Rattle.buffa_wire.specs.Left.{Left};
 ghost use Rattle.buffa_map.specs.Pairs.{SamePairs};
 ghost use Rattle.buffa_map.specs.Run.{Fold, Said, run_of};
-ghost use Rattle.buffa_map.specs.Scalars.{int32_reading, string_reading};
+ghost use Rattle.buffamap.specs.Codecs.{int32_reading, string_reading};
 ghost use Rattle.buffamap.specs.Lines.{pairs_in, pairs_of, without_newline};
 ghost use Rattle.buffamap.specs.Reply.{bad_input, default_left, read_reply, read_run, run_reply, write_pairs, write_reply};
 

@@ -1,6 +1,6 @@
 use Rattle.std.proofs.Common.{rules, ◌≡◌, ◌∙◌, ℕ, List, ap, sym}
 use Rattle.hex.specs.Hex.{encode_lower}
-use Rattle.buffa_map.specs.Scalars.{int32_writing, string_writing}
+use Rattle.buffamap.specs.Codecs.{int32_writing, string_writing}
 use Rattle.buffa_map.specs.Text.{field_text}
 use Rattle.buffamap.specs.Lines.{pairs_of}
 use Rattle.buffamap.specs.Reply.{Reply, line}
