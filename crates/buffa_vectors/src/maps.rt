@@ -226,7 +226,7 @@ where
     let mut budget = Budget::new(0);
     let mut rest = row.field.as_slice();
     let ctx = DecodeContext::new(0, &mut budget);
-    read_map_field::<K, V, _, _>(alloc, &mut read, row.number, &mut rest, ctx)?;
+    read_map_field::<K, V, _, _>(alloc, &mut read, row.number, &mut rest, ctx, None)?;
     Ok(alike::<K, V>(&map, &read))
 }
 
