@@ -107,10 +107,10 @@ fn lists_grow_and_shrink(rt: HostRuntime) -> Result<(), Fail> {
     fields.push(field(u32::MAX, UnknownFieldData::Varint(300)))?;
     let mut text = Vec::new(rt.alloc());
     fields.write_to(&mut text)?;
-    let first: [u8; 9] = [1, 2, 0, 0, 0, 0, 0, 0, 0];
-    let second: [u8; 7] = [0xF8, 0xFF, 0xFF, 0xFF, 0x7F, 0xAC, 2];
-    assert_eq!(rt; &text[..9], first.as_slice());
-    assert_eq!(rt; &text[9..], second.as_slice());
+    let expected: [u8; 16] = [
+        1, 2, 0, 0, 0, 0, 0, 0, 0, 0xF8, 0xFF, 0xFF, 0xFF, 0x7F, 0xAC, 2,
+    ];
+    assert_eq!(rt; text.as_slice(), expected.as_slice());
     assert_eq!(rt; fields.encoded_len(), 16);
     let inside = list_of(rt.alloc(), field(3, UnknownFieldData::Varint(1)))?;
     let group = field(7, UnknownFieldData::Group(inside));

@@ -51,7 +51,7 @@ decode_unknown_field-returns-in_err-take_slot g t c =
       reads = rw (p.1, p.2) (λ other. field_no_slot _ _ _ _ _ c.in_default.not-EndGroup c.in_err-take_slot.ensures.err.0 ∙ ap (λ e. Err e) (sym c.in_err-take_slot.ensures.which));
       number = search rules;
       memory = ap (λ (b : Left). b.memory) c.in_err-take_slot.ensures.err.1;
-      kept = refl;
+      kept = refl {a = g.B.Buf.kept c.args.buf.now};
     }
 
 pub decode_unknown_field-returns-in_err-fields : goal.decode_unknown_field-returns-in_err-fields
