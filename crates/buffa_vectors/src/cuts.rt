@@ -22,7 +22,7 @@ type Pairs = &'static [(&'static str, i32)];
 // A call, bytes, the answer, and the pairs that stand then.
 type Row = (Call, &'static [u8], Result<(), DecodeError>, Pairs);
 
-const ROWS: [Row; 12] = [
+const ROWS: [Row; 15] = [
     (Call::Run(1000), &[], Ok(()), &[]),
     (
         Call::Run(1000),
@@ -93,6 +93,33 @@ const ROWS: [Row; 12] = [
         &[0x82, 0x00, 0x10, 0x05],
         Ok(()),
         &[("", 5)],
+    ),
+    (
+        Call::Run(1000),
+        &[
+            0x2A, 0x10, 0x0A, 0x03, 0x62, 0x65, 0x65, 0x10, 0xF9, 0xFF, 0xFF, 0xFF, 0xFF, 0xFF,
+            0xFF, 0xFF, 0xFF, 0x01,
+        ],
+        Ok(()),
+        &[("bee", -7)],
+    ),
+    (
+        Call::Entry(10),
+        &[0x09, 0x09, 0, 0, 0, 0, 0, 0, 0, 0],
+        Err(DecodeError::WireTypeMismatch {
+            field_number: 1,
+            expected: WireType::LengthDelimited,
+            actual: WireType::Fixed64,
+        }),
+        &[],
+    ),
+    (
+        Call::Entry(10),
+        &[
+            0x0B, 0x10, 0xFF, 0xFF, 0xFF, 0xFF, 0xFF, 0xFF, 0xFF, 0xFF, 0xFF, 0x02,
+        ],
+        Err(DecodeError::VarintTooLong),
+        &[],
     ),
 ];
 
