@@ -8,6 +8,8 @@ mod codecs;
 #[cfg(test)]
 mod fields;
 #[cfg(test)]
+mod guide;
+#[cfg(test)]
 mod maps;
 #[cfg(test)]
 mod maps_table;
