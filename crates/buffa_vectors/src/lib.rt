@@ -6,6 +6,8 @@
 #[cfg(test)]
 mod codecs;
 #[cfg(test)]
+mod cuts;
+#[cfg(test)]
 mod fields;
 #[cfg(test)]
 mod guide;

@@ -1,5 +1,5 @@
 -- How the logic stores records.
-use Rattle.std.proofs.Common.{◌≡◌, ◌≢◌, ℕ, List, refl, ap, arith}
+use Rattle.std.proofs.Common.{◌≡◌, ℕ, List, refl, ap}
 use Rattle.std.specs.Coded.{Coded, code_by, coded×, coded_ℕ, coded_list}
 use base.Stored.{Gv, gnil, gnum, gcons}
 use Rattle.buffa_wire.specs.Records.{Datum, varint, fixed32, fixed64, bytes, group, Records, no_records, one, Held}
@@ -13,9 +13,6 @@ abbrev tail : Gv → Gv
 tail gnil = gnil
 tail (gnum n) = gnil
 tail (gcons a b) = b
-
-apart : (m n : ℕ) {a b : Gv} → gcons (gnum m) a ≡ gcons (gnum n) b → m ≢ n → ⊥
-apart m n p other = other (cc)
 
 abbrev mutual
   pub datum_code : Datum → Gv
@@ -32,30 +29,11 @@ abbrev mutual
 mutual
   pub datum_inj : (x y : Datum) → datum_code x ≡ datum_code y → x ≡ y
   datum_inj (varint a) (varint b) p = ap varint (coded_ℕ.inj a b (ap (λ g. tail g) p))
-  datum_inj (varint a) (fixed32 b) p = absurd (apart 0 1 p (omega arith))
-  datum_inj (varint a) (fixed64 b) p = absurd (apart 0 2 p (omega arith))
-  datum_inj (varint a) (bytes b) p = absurd (apart 0 3 p (omega arith))
-  datum_inj (varint a) (group b) p = absurd (apart 0 4 p (omega arith))
-  datum_inj (fixed32 a) (varint b) p = absurd (apart 1 0 p (omega arith))
   datum_inj (fixed32 a) (fixed32 b) p = ap fixed32 (coded_ℕ.inj a b (ap (λ g. tail g) p))
-  datum_inj (fixed32 a) (fixed64 b) p = absurd (apart 1 2 p (omega arith))
-  datum_inj (fixed32 a) (bytes b) p = absurd (apart 1 3 p (omega arith))
-  datum_inj (fixed32 a) (group b) p = absurd (apart 1 4 p (omega arith))
-  datum_inj (fixed64 a) (varint b) p = absurd (apart 2 0 p (omega arith))
-  datum_inj (fixed64 a) (fixed32 b) p = absurd (apart 2 1 p (omega arith))
   datum_inj (fixed64 a) (fixed64 b) p = ap fixed64 (coded_ℕ.inj a b (ap (λ g. tail g) p))
-  datum_inj (fixed64 a) (bytes b) p = absurd (apart 2 3 p (omega arith))
-  datum_inj (fixed64 a) (group b) p = absurd (apart 2 4 p (omega arith))
-  datum_inj (bytes a) (varint b) p = absurd (apart 3 0 p (omega arith))
-  datum_inj (bytes a) (fixed32 b) p = absurd (apart 3 1 p (omega arith))
-  datum_inj (bytes a) (fixed64 b) p = absurd (apart 3 2 p (omega arith))
   datum_inj (bytes a) (bytes b) p = ap bytes ((coded_list coded_ℕ).inj a b (ap (λ g. tail g) p))
-  datum_inj (bytes a) (group b) p = absurd (apart 3 4 p (omega arith))
-  datum_inj (group a) (varint b) p = absurd (apart 4 0 p (omega arith))
-  datum_inj (group a) (fixed32 b) p = absurd (apart 4 1 p (omega arith))
-  datum_inj (group a) (fixed64 b) p = absurd (apart 4 2 p (omega arith))
-  datum_inj (group a) (bytes b) p = absurd (apart 4 3 p (omega arith))
   datum_inj (group a) (group b) p = ap group (records_inj a b (ap (λ g. tail g) p))
+  datum_inj _ _ p = absurd (cc)
 
   pub records_inj : (x y : Records) → records_code x ≡ records_code y → x ≡ y
   records_inj no_records no_records p = refl

@@ -1,4 +1,4 @@
--- Equality of records, as a test.
+-- Equality of records, as a test, and that it decides equality.
 use Rattle.std.specs.Prelude.{◌≡◌, ℕ, Bool, true, false, ◌&&◌, nat_eq, refl}
 use Rattle.std.specs.Bool.{Decides}
 use Rattle.std.specs.Str.{bytes_eq}
@@ -13,30 +13,11 @@ use Rattle.buffa_wire.specs.Records.{Datum, varint, fixed32, fixed64, bytes, gro
 abbrev mutual
   pub datum_eq : Datum → Datum → Bool
   datum_eq (varint a) (varint b) = nat_eq a b
-  datum_eq (varint a) (fixed32 b) = false
-  datum_eq (varint a) (fixed64 b) = false
-  datum_eq (varint a) (bytes b) = false
-  datum_eq (varint a) (group b) = false
-  datum_eq (fixed32 a) (varint b) = false
   datum_eq (fixed32 a) (fixed32 b) = nat_eq a b
-  datum_eq (fixed32 a) (fixed64 b) = false
-  datum_eq (fixed32 a) (bytes b) = false
-  datum_eq (fixed32 a) (group b) = false
-  datum_eq (fixed64 a) (varint b) = false
-  datum_eq (fixed64 a) (fixed32 b) = false
   datum_eq (fixed64 a) (fixed64 b) = nat_eq a b
-  datum_eq (fixed64 a) (bytes b) = false
-  datum_eq (fixed64 a) (group b) = false
-  datum_eq (bytes a) (varint b) = false
-  datum_eq (bytes a) (fixed32 b) = false
-  datum_eq (bytes a) (fixed64 b) = false
   datum_eq (bytes a) (bytes b) = bytes_eq a b
-  datum_eq (bytes a) (group b) = false
-  datum_eq (group a) (varint b) = false
-  datum_eq (group a) (fixed32 b) = false
-  datum_eq (group a) (fixed64 b) = false
-  datum_eq (group a) (bytes b) = false
   datum_eq (group a) (group b) = records_eq a b
+  datum_eq _ _ = false
 
   pub records_eq : Records → Records → Bool
   records_eq no_records no_records = true
@@ -56,30 +37,11 @@ both b c p q = cc
 mutual
   pub datum_eq-Decides : (x y : Datum) → Decides (datum_eq x y) (x ≡ y)
   datum_eq-Decides (varint a) (varint b) = (λ h. ap varint ((nat_decides a b).0 h), λ e. (nat_decides a b).1 (cc))
-  datum_eq-Decides (varint a) (fixed32 b) = (λ h. never h, λ e. cc)
-  datum_eq-Decides (varint a) (fixed64 b) = (λ h. never h, λ e. cc)
-  datum_eq-Decides (varint a) (bytes b) = (λ h. never h, λ e. cc)
-  datum_eq-Decides (varint a) (group b) = (λ h. never h, λ e. cc)
-  datum_eq-Decides (fixed32 a) (varint b) = (λ h. never h, λ e. cc)
   datum_eq-Decides (fixed32 a) (fixed32 b) = (λ h. ap fixed32 ((nat_decides a b).0 h), λ e. (nat_decides a b).1 (cc))
-  datum_eq-Decides (fixed32 a) (fixed64 b) = (λ h. never h, λ e. cc)
-  datum_eq-Decides (fixed32 a) (bytes b) = (λ h. never h, λ e. cc)
-  datum_eq-Decides (fixed32 a) (group b) = (λ h. never h, λ e. cc)
-  datum_eq-Decides (fixed64 a) (varint b) = (λ h. never h, λ e. cc)
-  datum_eq-Decides (fixed64 a) (fixed32 b) = (λ h. never h, λ e. cc)
   datum_eq-Decides (fixed64 a) (fixed64 b) = (λ h. ap fixed64 ((nat_decides a b).0 h), λ e. (nat_decides a b).1 (cc))
-  datum_eq-Decides (fixed64 a) (bytes b) = (λ h. never h, λ e. cc)
-  datum_eq-Decides (fixed64 a) (group b) = (λ h. never h, λ e. cc)
-  datum_eq-Decides (bytes a) (varint b) = (λ h. never h, λ e. cc)
-  datum_eq-Decides (bytes a) (fixed32 b) = (λ h. never h, λ e. cc)
-  datum_eq-Decides (bytes a) (fixed64 b) = (λ h. never h, λ e. cc)
   datum_eq-Decides (bytes a) (bytes b) = (λ h. ap bytes ((bytes_eq-Decides a b).0 h), λ e. (bytes_eq-Decides a b).1 (cc))
-  datum_eq-Decides (bytes a) (group b) = (λ h. never h, λ e. cc)
-  datum_eq-Decides (group a) (varint b) = (λ h. never h, λ e. cc)
-  datum_eq-Decides (group a) (fixed32 b) = (λ h. never h, λ e. cc)
-  datum_eq-Decides (group a) (fixed64 b) = (λ h. never h, λ e. cc)
-  datum_eq-Decides (group a) (bytes b) = (λ h. never h, λ e. cc)
   datum_eq-Decides (group a) (group b) = (λ h. ap group ((records_eq-Decides a b).0 h), λ e. (records_eq-Decides a b).1 (cc))
+  datum_eq-Decides _ _ = (λ h. never h, λ e. cc)
 
   pub records_eq-Decides : (x y : Records) → Decides (records_eq x y) (x ≡ y)
   records_eq-Decides no_records no_records = (λ h. refl, λ e. refl)

@@ -1,5 +1,7 @@
 //! Budgets and contexts at their defaults and at their ends.
 
+mod records;
+
 use crate::budget::{Budget, DEFAULT_ELEMENT_MEMORY_LIMIT, DEFAULT_UNKNOWN_FIELD_LIMIT};
 use crate::context::{DecodeContext, RECURSION_LIMIT};
 use buffa_bytes::DecodeError;

@@ -2,6 +2,7 @@ use Rattle.std.proofs.Common.{rules, ◌∙◌, arith, refl, sym, ap, Err}
 use Rattle.std.proofs.lemmas.Result.{err_from_is_err_and}
 use Rattle.buffa_bytes.proofs.FieldLemmas.{tag_falls}
 use Rattle.buffa_wire.specs.Left.{Left}
+use Rattle.buffa_wire.specs.RecordReading.{group_at}
 use Rattle.buffa_wire.proofs.LoopLemmas.{field_falls, field_end, field_no_slot, field_group_ok, field_group_err, field_plain_ok, field_plain_err, group_limit, group_tag_err, group_end, group_other, group_field_err, group_next}
 use Rattle.buffa_wire.proofs.unknown_fields.read.+decode.Goals as goal
 
@@ -11,15 +12,15 @@ decode_group-returns-then-depth-eq0-clause-reads g t c = λ other. group_limit _
 pub decode_group-returns-in_err-tag-clause-reads : goal.decode_group-returns-in_err-tag-clause-reads
 decode_group-returns-in_err-tag-clause-reads g t c =
     let p = err_from_is_err_and c.from_residual.result c.from_residual.ensures.1 in
-    rw (p.1, p.2) (λ other. group_tag_err _ _ _ _ _ _ c.if-depth-eq0.false c.loop-fields.invariant.read _ c.in_err-tag.ensures.reads)
+    rw (p.1, p.2) (λ other. group_tag_err c.args.ctx.depth c.loop-fields.budget.unknown c.args.number (g.B.Buf.unread c.loop-fields.buf) c.loop-fields.fields.records (group_at c.args.ctx.depth c.args.ctx.budget.now.unknown c.args.number (g.B.Buf.unread c.args.buf.now)) c.if-depth-eq0.false c.loop-fields.invariant.read _ c.in_err-tag.ensures.reads)
 
 pub decode_group-returns-then-field_number-number-clause-reads : goal.decode_group-returns-then-field_number-number-clause-reads
 decode_group-returns-then-field_number-number-clause-reads g t c =
-    group_end _ _ _ _ _ _ c.if-depth-eq0.false c.loop-fields.invariant.read _ c.in_ok-tag.ensures.reads (sym c.in-EndGroup.ensures) (sym c.field_number.ensures ∙ c.if-field_number-number.true)
+    group_end c.args.ctx.depth c.loop-fields.budget.unknown c.args.number (g.B.Buf.unread c.loop-fields.buf) c.loop-fields.fields.records (group_at c.args.ctx.depth c.args.ctx.budget.now.unknown c.args.number (g.B.Buf.unread c.args.buf.now)) c.if-depth-eq0.false c.loop-fields.invariant.read _ c.in_ok-tag.ensures.reads (sym c.in-EndGroup.ensures) (sym c.field_number.ensures ∙ c.if-field_number-number.true)
 
 pub decode_group-returns-in-EndGroup-clause-reads : goal.decode_group-returns-in-EndGroup-clause-reads
 decode_group-returns-in-EndGroup-clause-reads g t c =
-    rw c.field_number-in-EndGroup.ensures (λ other. group_other _ _ _ _ _ _ c.if-depth-eq0.false c.loop-fields.invariant.read _ c.in_ok-tag.ensures.reads (sym c.in-EndGroup.ensures) (λ e. c.if-field_number-number.false (c.field_number.ensures ∙ e)))
+    rw c.field_number-in-EndGroup.ensures (λ other. group_other c.args.ctx.depth c.loop-fields.budget.unknown c.args.number (g.B.Buf.unread c.loop-fields.buf) c.loop-fields.fields.records (group_at c.args.ctx.depth c.args.ctx.budget.now.unknown c.args.number (g.B.Buf.unread c.args.buf.now)) c.if-depth-eq0.false c.loop-fields.invariant.read _ c.in_ok-tag.ensures.reads (sym c.in-EndGroup.ensures) (λ e. c.if-field_number-number.false (c.field_number.ensures ∙ e)))
 
 pub decode_group-loop-fields-smaller : goal.decode_group-loop-fields-smaller
 decode_group-loop-fields-smaller g t c = omega (arith, tag_falls _ _ c.in_ok-tag.ensures.reads, field_falls _ _ _ _ _ _ c.in_ok-field.ensures.reads)
@@ -28,14 +29,14 @@ pub decode_group-returns-in_err-field : goal.decode_group-returns-in_err-field
 decode_group-returns-in_err-field g t c =
     let p = err_from_is_err_and c.from_residual-in_err-field.result c.from_residual-in_err-field.ensures.1 in
     record {
-      reads = rw (p.1, p.2) (λ other. group_field_err _ _ _ _ _ _ c.if-depth-eq0.false c.loop-fields.invariant.read _ c.in_ok-tag.ensures.reads (λ e. c.in_default.not-EndGroup (c.wire_type.ensures ∙ e)) _ (c.in_err-field.ensures.reads other));
+      reads = rw (p.1, p.2) (λ other. group_field_err c.args.ctx.depth c.loop-fields.budget.unknown c.args.number (g.B.Buf.unread c.loop-fields.buf) c.loop-fields.fields.records (group_at c.args.ctx.depth c.args.ctx.budget.now.unknown c.args.number (g.B.Buf.unread c.args.buf.now)) c.if-depth-eq0.false c.loop-fields.invariant.read _ c.in_ok-tag.ensures.reads (λ e. c.in_default.not-EndGroup (c.wire_type.ensures ∙ e)) _ (c.in_err-field.ensures.reads other));
       memory = c.in_err-field.ensures.memory ∙ c.loop-fields.invariant.memory;
       kept = c.in_err-field.ensures.kept ∙ c.in_ok-tag.ensures.kept ∙ c.loop-fields.invariant.kept;
     }
 
 pub decode_group-loop-fields-preserved : goal.decode_group-loop-fields-preserved
 decode_group-loop-fields-preserved g t c = record {
-  read = group_next _ _ _ _ _ _ c.if-depth-eq0.false c.loop-fields.invariant.read _ c.in_ok-tag.ensures.reads (λ e. c.in_default.not-EndGroup (c.wire_type.ensures ∙ e)) _ _ _ c.in_ok-field.ensures.reads c.in_ok-field.ensures.number c.in-Ok.ensures.ok;
+  read = group_next c.args.ctx.depth c.loop-fields.budget.unknown c.args.number (g.B.Buf.unread c.loop-fields.buf) c.loop-fields.fields.records (group_at c.args.ctx.depth c.args.ctx.budget.now.unknown c.args.number (g.B.Buf.unread c.args.buf.now)) c.if-depth-eq0.false c.loop-fields.invariant.read _ c.in_ok-tag.ensures.reads (λ e. c.in_default.not-EndGroup (c.wire_type.ensures ∙ e)) _ _ _ c.in_ok-field.ensures.reads c.in_ok-field.ensures.number c.in-Ok.ensures.ok;
   memory = c.in_ok-field.ensures.memory ∙ c.loop-fields.invariant.memory;
   kept = c.in_ok-field.ensures.kept ∙ c.in_ok-tag.ensures.kept ∙ c.loop-fields.invariant.kept;
 }
@@ -50,7 +51,7 @@ decode_unknown_field-returns-in_err-take_slot g t c =
       reads = rw (p.1, p.2) (λ other. field_no_slot _ _ _ _ _ c.in_default.not-EndGroup c.in_err-take_slot.ensures.err.0 ∙ ap (λ e. Err e) (sym c.in_err-take_slot.ensures.which));
       number = search rules;
       memory = ap (λ (b : Left). b.memory) c.in_err-take_slot.ensures.err.1;
-      kept = refl;
+      kept = refl {a = g.B.Buf.kept c.args.buf.now};
     }
 
 pub decode_unknown_field-returns-in_err-fields : goal.decode_unknown_field-returns-in_err-fields

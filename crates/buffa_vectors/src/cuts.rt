@@ -1,0 +1,176 @@
+//! One answer for one list of bytes: whole, shared, cut anywhere, in single bytes, with empty pieces between.
+
+use buffa_map::map_codec::{Int32, MapStorage, MapWalk, Str, merge_entry, read_map_field};
+use buffa_wire::{Budget, Buf, DecodeContext, DecodeError, Pieces, WireType};
+use bytes::Bytes;
+use std::alloc::Global;
+use std::collections::BTreeMap;
+use std::test::Fail;
+
+// How the bytes of a row are read.
+#[derive(Clone, Copy)]
+enum Call {
+    // As a run of number 5, with so many units.
+    Run(usize),
+    // As an entry of a map<string, int32>, so deep.
+    Entry(u32),
+}
+
+// The pairs of a row.
+type Pairs = &'static [(&'static str, i32)];
+
+// A call, bytes, the answer, and the pairs that stand then.
+type Row = (Call, &'static [u8], Result<(), DecodeError>, Pairs);
+
+const ROWS: [Row; 12] = [
+    (Call::Run(1000), &[], Ok(()), &[]),
+    (
+        Call::Run(1000),
+        &[0x2A, 0x05, 0x0A, 0x01, 0x61, 0x10, 0x01],
+        Ok(()),
+        &[("a", 1)],
+    ),
+    (
+        Call::Run(1000),
+        &[
+            0x2A, 5, 0x0A, 1, 0x61, 0x10, 1, 0x2A, 5, 0x0A, 1, 0x61, 0x10, 2,
+        ],
+        Ok(()),
+        &[("a", 2)],
+    ),
+    (
+        Call::Run(56),
+        &[
+            0x2A, 5, 0x0A, 1, 0x61, 0x10, 1, 0x2A, 5, 0x0A, 1, 0x62, 0x10, 1, 0x2A, 5, 0x0A, 1,
+            0x63, 0x10, 1,
+        ],
+        Err(DecodeError::ElementMemoryLimitExceeded),
+        &[("a", 1), ("b", 1)],
+    ),
+    (
+        Call::Run(1000),
+        &[0x32, 0x00],
+        Err(DecodeError::UnexpectedField(6)),
+        &[],
+    ),
+    (
+        Call::Run(1000),
+        &[0x28, 0x05],
+        Err(DecodeError::WireTypeMismatch {
+            field_number: 5,
+            expected: WireType::LengthDelimited,
+            actual: WireType::Varint,
+        }),
+        &[],
+    ),
+    (Call::Entry(10), &[0x00], Ok(()), &[("", 0)]),
+    (
+        Call::Entry(10),
+        &[0x05, 0x08],
+        Err(DecodeError::UnexpectedEof),
+        &[],
+    ),
+    (
+        Call::Entry(10),
+        &[0x02, 0x10, 0x80, 0x01],
+        Err(DecodeError::UnexpectedEof),
+        &[],
+    ),
+    (
+        Call::Entry(1),
+        &[0x04, 0x1B, 0x08, 0x01, 0x1C],
+        Ok(()),
+        &[("", 0)],
+    ),
+    (
+        Call::Entry(0),
+        &[0x04, 0x1B, 0x08, 0x01, 0x1C],
+        Err(DecodeError::RecursionLimitExceeded),
+        &[],
+    ),
+    (
+        Call::Entry(10),
+        &[0x82, 0x00, 0x10, 0x05],
+        Ok(()),
+        &[("", 5)],
+    ),
+];
+
+// Whether the buffer is read as the row says.
+fn holds<B: Buf>(alloc: Global, buf: &mut B, row: &Row) -> bool {
+    let mut map: BTreeMap<String, i32> = BTreeMap::new(alloc);
+    let answer = match row.0 {
+        Call::Run(units) => {
+            let mut budget = Budget::new(0).with_element_memory(units);
+            let ctx = DecodeContext::new(10, &mut budget);
+            read_map_field::<Str, Int32, _, _>(alloc, &mut map, 5, buf, ctx, None)
+        }
+        Call::Entry(depth) => {
+            let mut budget = Budget::new(0);
+            let ctx = DecodeContext::new(depth, &mut budget);
+            merge_entry::<Str, Int32, _, _>(alloc, &mut map, buf, ctx)
+        }
+    };
+    let mut same = answer == row.2 && map.storage_len() == row.3.len();
+    let mut expected = row.3.iter();
+    for (key, value) in map.storage_iter() {
+        match expected.next() {
+            Some(pair) => same = same && key.as_str() == pair.0 && *value == pair.1,
+            None => same = false,
+        }
+    }
+    same
+}
+
+#[test]
+fn a_cut_anywhere_changes_no_answer(rt: HostRuntime) -> Result<(), Fail> {
+    for row in ROWS.iter() {
+        let bytes = row.1;
+        for cut in 0..=bytes.len() {
+            let parts: [&[u8]; 4] = [&[], &bytes[..cut], &[], &bytes[cut..]];
+            assert!(rt; holds(rt.alloc(), &mut Pieces::new(&parts), row));
+        }
+    }
+    Ok(())
+}
+
+#[test]
+fn single_bytes_and_empty_pieces_change_no_answer(rt: HostRuntime) -> Result<(), Fail> {
+    let run: [&[u8]; 18] = [
+        &[0x2A],
+        &[],
+        &[5],
+        &[0x0A],
+        &[1],
+        &[],
+        &[0x61],
+        &[0x10],
+        &[1],
+        &[0x2A],
+        &[5],
+        &[],
+        &[0x0A],
+        &[1],
+        &[0x61],
+        &[],
+        &[0x10],
+        &[2],
+    ];
+    assert!(rt; holds(rt.alloc(), &mut Pieces::new(&run), &ROWS[2]));
+    let entry: [&[u8]; 8] = [&[0x82], &[], &[], &[0x00], &[0x10], &[], &[0x05], &[]];
+    assert!(rt; holds(rt.alloc(), &mut Pieces::new(&entry), &ROWS[11]));
+    let group: [&[u8]; 6] = [&[0x04], &[0x1B], &[0x08], &[0x01], &[], &[0x1C]];
+    assert!(rt; holds(rt.alloc(), &mut Pieces::new(&group), &ROWS[9]));
+    assert!(rt; holds(rt.alloc(), &mut Pieces::new(&group), &ROWS[10]));
+    Ok(())
+}
+
+#[test]
+fn shared_bytes_change_no_answer(rt: HostRuntime) -> Result<(), Fail> {
+    for row in ROWS.iter() {
+        let mut whole = row.1;
+        assert!(rt; holds(rt.alloc(), &mut whole, row));
+        assert!(rt; holds(rt.alloc(), &mut Bytes::from_static(row.1), row));
+    }
+    Ok(())
+}
