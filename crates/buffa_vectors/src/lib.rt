@@ -10,6 +10,8 @@ mod cuts;
 #[cfg(test)]
 mod fields;
 #[cfg(test)]
+mod guide;
+#[cfg(test)]
 mod maps;
 #[cfg(test)]
 mod maps_table;
