@@ -1,6 +1,7 @@
 //! Tests of the crates below, against values that others made.
 //!
-//! [`word`] has a key type of one's own; the tests are in files of their own.
+//! [`word`] is a key type of one's own, and [`round_trip`] takes a map through its bytes and back; the rest
+//! are tests.
 #![tactic(auto)]
 
 #[cfg(test)]
