@@ -58,6 +58,7 @@ pub(crate) fn merge_entry_by<
     ensures stays_spent { IfErr result (λ f. f ≢ OutOfMemory → (e rest : List ℕ) → TakesDelimited (B.unread buf.old) e rest → KC.COST + VC.COST ≤ ctx.entry.budget.now.memory →
         (left_in ctx.exit).memory + (KC.COST + VC.COST) ≡ ctx.entry.budget.now.memory) }
     ensures slots { OnErr result (((left_in ctx.exit).unknown ≤ ctx.entry.budget.now.unknown) × (ctx.entry.budget.now.unknown ≤ (left_in ctx.exit).unknown + L.slot)) }
+    ensures no_slot { IfErr result (λ f. f ≢ OutOfMemory → (left_in ctx.exit).unknown ≡ ctx.entry.budget.now.unknown) }
     ensures kept { B.kept buf.new ≡ B.kept buf.old }
 {
     let DecodeContext { depth, budget } = ctx;
@@ -156,6 +157,7 @@ pub fn merge_entry_with_unknowns<
     ensures stays_spent { IfErr result (λ f. f ≢ OutOfMemory → (e rest : List ℕ) → TakesDelimited (B.unread buf.old) e rest → KC.COST + VC.COST ≤ ctx.entry.budget.now.memory →
         (left_in ctx.exit).memory + (KC.COST + VC.COST) ≡ ctx.entry.budget.now.memory) }
     ensures slots { OnErr result (((left_in ctx.exit).unknown ≤ ctx.entry.budget.now.unknown) × (ctx.entry.budget.now.unknown ≤ (left_in ctx.exit).unknown + slot_of unknown.entry)) }
+    ensures no_slot { IfErr result (λ f. f ≢ OutOfMemory → (left_in ctx.exit).unknown ≡ ctx.entry.budget.now.unknown) }
     ensures kept { B.kept buf.new ≡ B.kept buf.old }
 {
     match unknown {

@@ -21,7 +21,7 @@ pub(crate) trait Keeper {
     fn keep(&mut self, number: u32, entry: Vec<u8>, budget: &mut Budget) -> Result<(), DecodeError>
         ensures ok { OnOk result ((kept self.new ≡ kept self.old ++ adds number entry.items) × (budget.new.unknown + slot ≡ budget.old.unknown)) }
         ensures err { OnErr result ((kept self.new ≡ kept self.old) × (budget.new.unknown ≤ budget.old.unknown) × (budget.old.unknown ≤ budget.new.unknown + slot)) }
-        ensures fault { IfErr result (λ f. f ≢ OutOfMemory → (budget.old.unknown < slot) × (f ≡ UnknownFieldLimitExceeded)) }
+        ensures fault { IfErr result (λ f. f ≢ OutOfMemory → (budget.old.unknown < slot) × (f ≡ UnknownFieldLimitExceeded) × (budget.new.unknown ≡ budget.old.unknown)) }
         ensures memory { budget.new.memory ≡ budget.old.memory };
 }
 

@@ -41,7 +41,7 @@ pub(crate) fn read_run_by<
         × (L.kept keeper.new ≡ L.kept keeper.old ++ added L.adds number es)
         × ((left_in ctx.exit).memory ≤ over.memory) × ((left_in ctx.exit).unknown ≤ over.unknown)
         × (over.memory ≤ (left_in ctx.exit).memory + (KC.COST + VC.COST)) × (over.unknown ≤ (left_in ctx.exit).unknown + L.slot)
-        × (f ≢ OutOfMemory → (rest ≢ []) × RecordFault KC.reading VC.reading ctx.entry.depth number (KC.COST + VC.COST) L.slot over rest f)) }
+        × (f ≢ OutOfMemory → (rest ≢ []) × RecordFault KC.reading VC.reading ctx.entry.depth number (KC.COST + VC.COST) L.slot over rest f × ((left_in ctx.exit).unknown ≡ over.unknown))) }
     ensures kept { B.kept buf.new ≡ B.kept buf.old }
 {
     let DecodeContext { depth, budget } = ctx;
@@ -101,7 +101,7 @@ pub fn read_map_field<
         × IfSome unknown.entry (λ list. records_left unknown.exit ≡ list.now.records ++ kept_records number es)
         × ((left_in ctx.exit).memory ≤ over.memory) × ((left_in ctx.exit).unknown ≤ over.unknown)
         × (over.memory ≤ (left_in ctx.exit).memory + (KC.COST + VC.COST)) × (over.unknown ≤ (left_in ctx.exit).unknown + slot_of unknown.entry)
-        × (f ≢ OutOfMemory → (rest ≢ []) × RecordFault KC.reading VC.reading ctx.entry.depth number (KC.COST + VC.COST) (slot_of unknown.entry) over rest f)) }
+        × (f ≢ OutOfMemory → (rest ≢ []) × RecordFault KC.reading VC.reading ctx.entry.depth number (KC.COST + VC.COST) (slot_of unknown.entry) over rest f × ((left_in ctx.exit).unknown ≡ over.unknown))) }
     ensures kept { B.kept buf.new ≡ B.kept buf.old }
 {
     match unknown {

@@ -27,11 +27,11 @@ ran r d n left over bs rest old new is_d is_left is_old h = on_ok_weaker r (λ k
   subst (λ z. SamePairs (pointwise nat_eq) (Fold (pointwise nat_eq) z k.0) new) is_old k.2,
 )) h
 
-pub stopped : {X : Type 0} (r : Result X DecodeError) (d n : ℕ) (left : Left) (bs : List ℕ) (S : Entries → Type 0) (A B C D : Left → Type 0) → d ≡ 100 → left ≡ default_left →
+pub stopped : {X : Type 0} (r : Result X DecodeError) (d n : ℕ) (left : Left) (bs : List ℕ) (S : Entries → Type 0) (A B C D : Left → Type 0) (u : ℕ) → d ≡ 100 → left ≡ default_left →
     IfErr r (λ f. (es : Entries) × (rest : List ℕ) × (over : Left) × RunBegins string_reading int32_reading d n 28 0 left bs es rest over × S es × Unit {0} × A over × B over × C over × D over
-    × (f ≢ OutOfMemory → (rest ≢ []) × RecordFault string_reading int32_reading d n 28 0 over rest f)) →
+    × (f ≢ OutOfMemory → (rest ≢ []) × RecordFault string_reading int32_reading d n 28 0 over rest f × (u ≡ over.unknown))) →
     IfErr r (λ f. f ≢ OutOfMemory → run_of string_reading int32_reading 100 n 28 0 default_left bs ≡ Err f)
-stopped r d n left bs S A B C D is_d is_left h =
+stopped r d n left bs S A B C D u is_d is_left h =
     IfErr-map r (λ f k ne.
     (let all : run_of string_reading int32_reading d n 28 0 left bs ≡ Err f = run_faulty string_reading int32_reading d n 28 0 left bs f (k.0, k.1, k.2, k.3, (k.10 ne).0, (k.10 ne).1) in
     subst (λ z. run_of string_reading int32_reading z n 28 0 default_left bs ≡ Err f) is_d (subst (λ z. run_of string_reading int32_reading d n 28 0 z bs ≡ Err f) is_left all))) h

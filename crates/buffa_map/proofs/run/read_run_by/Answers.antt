@@ -33,6 +33,7 @@ returns-in_err-tag-clause-fault g c =
       λ ne. (
         some (omega (arith, c.remaining.ensures, c.records-test.true)),
         record_tag g.KC.MapValueDecode.reading g.VC.MapValueDecode.reading c.args.ctx.depth c.args.number _ g.L.Keeper.slot c.records.budget (g.B.Buf.unread c.records.buf) c.in_err-tag.field-0.0 c.in_err-tag.ensures.reads,
+        refl,
       ),
     )
 
@@ -53,6 +54,7 @@ returns-then-field_number-number-clause-fault g c =
       λ ne. (
         some (omega (arith, c.remaining.ensures, c.records-test.true)),
         record_other g.KC.MapValueDecode.reading g.VC.MapValueDecode.reading c.args.ctx.depth c.args.number _ g.L.Keeper.slot c.records.budget (g.B.Buf.unread c.records.buf) (g.B.Buf.unread c.decode.new.buf) c.in_ok-tag.tag.number c.in_ok-tag.tag.wire_type c.in_ok-tag.ensures.reads (λ e. c.if-field_number-number.true (c.field_number.ensures ∙ e)),
+        refl,
       ),
     )
 
@@ -74,6 +76,7 @@ returns-in_err-check_wire_type-clause-fault g c =
       λ ne. (
         some (omega (arith, c.remaining.ensures, c.records-test.true)),
         record_mismatch g.KC.MapValueDecode.reading g.VC.MapValueDecode.reading c.args.ctx.depth c.args.number _ g.L.Keeper.slot c.records.budget (g.B.Buf.unread c.records.buf) (g.B.Buf.unread c.decode.new.buf) c.in_ok-tag.tag.number c.in_ok-tag.tag.wire_type c.in_err-check_wire_type.field-0.0 c.in_ok-tag.ensures.reads (sym c.field_number.ensures ∙ c.if-field_number-number.false) c.in_err-check_wire_type.ensures,
+        refl,
       ),
     )
 
@@ -121,5 +124,6 @@ returns-in_err-merge_entry_by-clause-fault g c =
         some (omega (arith, c.remaining.ensures, c.records-test.true)),
         record_entry g.KC.MapValueDecode.reading g.VC.MapValueDecode.reading c.args.ctx.depth c.args.number (g.KC.MapValueDecode.COST + g.VC.MapValueDecode.COST) g.L.Keeper.slot c.records.budget (g.B.Buf.unread c.records.buf) (g.B.Buf.unread c.decode.new.buf) c.in_ok-tag.tag.number c.in_ok-tag.tag.wire_type c.in_err-merge_entry_by.field-0.0
             c.in_ok-tag.ensures.reads (sym c.field_number.ensures ∙ c.if-field_number-number.false) c.in_ok-check_wire_type.ensures (c.in_err-merge_entry_by.ensures.fault ne),
+        c.in_err-merge_entry_by.ensures.no_slot ne,
       ),
     )
