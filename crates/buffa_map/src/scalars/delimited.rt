@@ -18,6 +18,10 @@ use std::alloc::Global;
 use std::marker::PhantomData;
 
 /// `string`: a `String`.
+///
+/// ```ignore
+/// Str::encode(&bee, &mut text)?; // 03 62 65 65
+/// ```
 pub struct Str;
 
 impl Sealed for Str {}
@@ -158,6 +162,10 @@ impl<T: ProtoString> MapCodec for ProtoStringMap<T> {
 }
 
 /// `bytes`: a `Vec<u8>`.
+///
+/// ```ignore
+/// BytesVec::encode(&dead, &mut text)?; // 02 DE AD
+/// ```
 pub struct BytesVec;
 
 impl Sealed for BytesVec {}
@@ -225,6 +233,10 @@ impl MapCodec for BytesVec {
 }
 
 /// `bytes`: a `bytes::Bytes`, which can be shared with no copy.
+///
+/// ```ignore
+/// BytesBuf::encode(&dead, &mut text)?; // 02 DE AD
+/// ```
 pub struct BytesBuf;
 
 impl Sealed for BytesBuf {}

@@ -16,6 +16,10 @@ use buffa_wire::{Buf, DecodeContext, DecodeError, EncodeError, EncodeSink, WireT
 use std::alloc::Global;
 
 /// `fixed32`: a `u32` as four bytes, the lowest first.
+///
+/// ```ignore
+/// Fixed32::encode(&1, &mut text)?; // 01 00 00 00
+/// ```
 pub struct Fixed32;
 
 impl Sealed for Fixed32 {}
@@ -68,6 +72,7 @@ impl MapCodec for Fixed32 {
     ghost normal = { λ _. Unit {0} };
 
     fn encoded_len(value: &u32) -> u64 {
+        // Reading the value tells that it is in range.
         let _fits = *value;
         FIXED32_ENCODED_LEN as u64
     }
@@ -84,6 +89,10 @@ impl MapCodec for Fixed32 {
 }
 
 /// `fixed64`: a `u64` as eight bytes, the lowest first.
+///
+/// ```ignore
+/// Fixed64::encode(&1, &mut text)?; // 01 00 00 00 00 00 00 00
+/// ```
 pub struct Fixed64;
 
 impl Sealed for Fixed64 {}
@@ -136,6 +145,7 @@ impl MapCodec for Fixed64 {
     ghost normal = { λ _. Unit {0} };
 
     fn encoded_len(value: &u64) -> u64 {
+        // Reading the value tells that it is in range.
         let _fits = *value;
         FIXED64_ENCODED_LEN as u64
     }

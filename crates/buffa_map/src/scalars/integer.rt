@@ -20,6 +20,10 @@ use buffa_wire::{Buf, DecodeContext, DecodeError, EncodeError, EncodeSink, WireT
 use std::alloc::Global;
 
 /// `int32`: an `i32` as a varint of its 64-bit two's complement; the low 32 bits are read.
+///
+/// ```ignore
+/// Int32::encode(&-1, &mut text)?; // FF FF FF FF FF FF FF FF FF 01
+/// ```
 pub struct Int32;
 
 impl Sealed for Int32 {}
@@ -87,6 +91,10 @@ impl MapCodec for Int32 {
 }
 
 /// `int64`: an `i64` as a varint of its two's complement.
+///
+/// ```ignore
+/// Int64::encode(&300, &mut text)?; // AC 02
+/// ```
 pub struct Int64;
 
 impl Sealed for Int64 {}
@@ -154,6 +162,10 @@ impl MapCodec for Int64 {
 }
 
 /// `uint32`: a `u32` as a varint; the low 32 bits are read.
+///
+/// ```ignore
+/// Uint32::encode(&150, &mut text)?; // 96 01
+/// ```
 pub struct Uint32;
 
 impl Sealed for Uint32 {}
@@ -221,6 +233,10 @@ impl MapCodec for Uint32 {
 }
 
 /// `uint64`: a `u64` as a varint.
+///
+/// ```ignore
+/// Uint64::encode(&150, &mut text)?; // 96 01
+/// ```
 pub struct Uint64;
 
 impl Sealed for Uint64 {}
@@ -288,6 +304,10 @@ impl MapCodec for Uint64 {
 }
 
 /// `bool`: a varint, 0 or 1; anything but 0 is read as true.
+///
+/// ```ignore
+/// Bool::encode(&true, &mut text)?; // 01
+/// ```
 pub struct Bool;
 
 impl Sealed for Bool {}

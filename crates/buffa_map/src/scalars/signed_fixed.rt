@@ -18,6 +18,10 @@ use buffa_wire::{Buf, DecodeContext, DecodeError, EncodeError, EncodeSink, WireT
 use std::alloc::Global;
 
 /// `sfixed32`: an `i32` as four bytes in two's complement, the lowest first.
+///
+/// ```ignore
+/// Sfixed32::encode(&-1, &mut text)?; // FF FF FF FF
+/// ```
 pub struct Sfixed32;
 
 impl Sealed for Sfixed32 {}
@@ -70,6 +74,7 @@ impl MapCodec for Sfixed32 {
     ghost normal = { λ _. Unit {0} };
 
     fn encoded_len(value: &i32) -> u64 {
+        // Reading the value tells that it is in range.
         let _fits = *value;
         FIXED32_ENCODED_LEN as u64
     }
@@ -86,6 +91,10 @@ impl MapCodec for Sfixed32 {
 }
 
 /// `sfixed64`: an `i64` as eight bytes in two's complement, the lowest first.
+///
+/// ```ignore
+/// Sfixed64::encode(&-2, &mut text)?; // FE FF FF FF FF FF FF FF
+/// ```
 pub struct Sfixed64;
 
 impl Sealed for Sfixed64 {}
@@ -138,6 +147,7 @@ impl MapCodec for Sfixed64 {
     ghost normal = { λ _. Unit {0} };
 
     fn encoded_len(value: &i64) -> u64 {
+        // Reading the value tells that it is in range.
         let _fits = *value;
         FIXED64_ENCODED_LEN as u64
     }

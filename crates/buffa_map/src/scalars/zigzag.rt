@@ -19,6 +19,10 @@ use std::alloc::Global;
 
 /// `sint32`: an `i32` as a varint of its zigzag, so that a small magnitude is short; the low 32 bits are
 /// read.
+///
+/// ```ignore
+/// Sint32::encode(&-2, &mut text)?; // 03
+/// ```
 pub struct Sint32;
 
 impl Sealed for Sint32 {}
@@ -86,6 +90,10 @@ impl MapCodec for Sint32 {
 }
 
 /// `sint64`: an `i64` as a varint of its zigzag.
+///
+/// ```ignore
+/// Sint64::encode(&-1, &mut text)?; // 01
+/// ```
 pub struct Sint64;
 
 impl Sealed for Sint64 {}
