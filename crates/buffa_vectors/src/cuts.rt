@@ -1,5 +1,7 @@
 //! One answer for one list of bytes: whole, shared, cut anywhere, in single bytes, with empty pieces between.
 
+ghost use Rattle.std.specs.Prelude.{◌≤◌, length};
+
 use buffa_map::map_codec::{Int32, MapStorage, MapWalk, Str, merge_entry, read_map_field};
 use buffa_wire::{Budget, Buf, DecodeContext, DecodeError, Pieces, WireType};
 use bytes::Bytes;
@@ -161,34 +163,68 @@ fn a_cut_anywhere_changes_no_answer(rt: HostRuntime) -> Result<(), Fail> {
     Ok(())
 }
 
+// The byte at a place, or nothing.
+fn at(bytes: &[u8], place: usize) -> &[u8]
+    ensures { length result.now ≤ 1 }
+{
+    if place < bytes.len() {
+        &bytes[place..place + 1]
+    } else {
+        &[]
+    }
+}
+
 #[test]
 fn single_bytes_and_empty_pieces_change_no_answer(rt: HostRuntime) -> Result<(), Fail> {
-    let run: [&[u8]; 18] = [
-        &[0x2A],
-        &[],
-        &[5],
-        &[0x0A],
-        &[1],
-        &[],
-        &[0x61],
-        &[0x10],
-        &[1],
-        &[0x2A],
-        &[5],
-        &[],
-        &[0x0A],
-        &[1],
-        &[0x61],
-        &[],
-        &[0x10],
-        &[2],
-    ];
-    assert!(rt; holds(rt.alloc(), &mut Pieces::new(&run), &ROWS[2]));
-    let entry: [&[u8]; 8] = [&[0x82], &[], &[], &[0x00], &[0x10], &[], &[0x05], &[]];
-    assert!(rt; holds(rt.alloc(), &mut Pieces::new(&entry), &ROWS[11]));
-    let group: [&[u8]; 6] = [&[0x04], &[0x1B], &[0x08], &[0x01], &[], &[0x1C]];
-    assert!(rt; holds(rt.alloc(), &mut Pieces::new(&group), &ROWS[9]));
-    assert!(rt; holds(rt.alloc(), &mut Pieces::new(&group), &ROWS[10]));
+    for row in ROWS.iter() {
+        let b = row.1;
+        let parts: [&[u8]; 42] = [
+            at(b, 0),
+            &[],
+            at(b, 1),
+            &[],
+            at(b, 2),
+            &[],
+            at(b, 3),
+            &[],
+            at(b, 4),
+            &[],
+            at(b, 5),
+            &[],
+            at(b, 6),
+            &[],
+            at(b, 7),
+            &[],
+            at(b, 8),
+            &[],
+            at(b, 9),
+            &[],
+            at(b, 10),
+            &[],
+            at(b, 11),
+            &[],
+            at(b, 12),
+            &[],
+            at(b, 13),
+            &[],
+            at(b, 14),
+            &[],
+            at(b, 15),
+            &[],
+            at(b, 16),
+            &[],
+            at(b, 17),
+            &[],
+            at(b, 18),
+            &[],
+            at(b, 19),
+            &[],
+            at(b, 20),
+            &[],
+        ];
+        assert!(rt; b.len() <= 21);
+        assert!(rt; holds(rt.alloc(), &mut Pieces::new(&parts), row));
+    }
     Ok(())
 }
 
