@@ -18,6 +18,17 @@ err_same e = cc
 pub ok_no_err : {A : Type 0} {x : A} {y : DecodeError} → (let r : Result A DecodeError = Ok x in r ≡ Err y) → ⊥
 ok_no_err e = cc
 
+-- r is a fault, and e is told of it; where P holds, e is that fault
+abbrev pub Answers : {A : Type 0} → Type 0 → Result A DecodeError → DecodeError → Type 0
+Answers P r e = (x : DecodeError) × (r ≡ Err x) × (P → e ≡ x)
+
+pub answer : {A : Type 0} {P : Type 0} {r : Result A DecodeError} {e : DecodeError} → r ≡ Err e → Answers P r e
+answer {e = e} h = (e, h, λ _. refl)
+
+-- the same of another reading, which is that fault too
+pub answers_as : {A B : Type 0} {P : Type 0} {r : Result A DecodeError} {q : Result B DecodeError} {e : DecodeError} → ((x : DecodeError) → r ≡ Err x → q ≡ Err x) → Answers P r e → Answers P q e
+answers_as f (x, h, k) = (x, f x h, k)
+
 module _ {S : Type 0} (Step : S → List ℕ → S → Type 0) where
   pub Along-last : (ps : List (List ℕ)) (p : List ℕ) (s t u : S) → Along Step s ps t → Step t p u → Along Step s (ps ++ p ∷ []) u
   Along-last [] p s t u h k = (u, subst (λ (z : S). Step z p u) (sym h) k, refl)
@@ -38,7 +49,7 @@ module _ {S : Type 0} (Step : S → List ℕ → S → Type 0) where
   module _ (f : S → List ℕ → Result (S × List ℕ) DecodeError) (Fault : S → List ℕ → DecodeError → Type 0)
       (sound : (s : S) (bs : List ℕ) → Agrees (f s bs) (λ x. (p : List ℕ) × Step s p x.0 × (bs ≡ p ++ x.1)) (Fault s bs))
       (complete : (s t : S) (p rest : List ℕ) → Step s p t → f s (p ++ rest) ≡ Ok (t, rest))
-      (faulty : (s : S) (bs : List ℕ) (e : DecodeError) → Fault s bs e → f s bs ≡ Err e)
+      (P : Type 0) (faulty : (s : S) (bs : List ℕ) (e : DecodeError) → Fault s bs e → Answers P (f s bs) e)
       (some : (s t : S) (p : List ℕ) → Step s p t → 0 < length p) where
     sound_in : (k : ℕ) (s : S) (bs : List ℕ) → length bs ≤ k → Agrees (along_within f k s bs) (λ t. Leads Step s bs t []) (λ e. Stops Step Fault s bs e)
     unfolding along_within
@@ -85,11 +96,11 @@ module _ {S : Type 0} (Step : S → List ℕ → S → Type 0) where
         let i = pass (length (join ps ++ [])) ps s t [] w (omega arith) in
         ap (λ z. along_within f (length z) s z) is ∙ i.2 ∙ at_end i.0 t
 
-    pub along_faulty : (s : S) (bs : List ℕ) (e : DecodeError) → Stops Step Fault s bs e → along_at f s bs ≡ Err e
+    pub along_faulty : (s : S) (bs : List ℕ) (e : DecodeError) → Stops Step Fault s bs e → Answers P (along_at f s bs) e
     unfolding along_at
     along_faulty s bs e (t, rest, (ps, is, w), n, h) =
         let i = pass (length (join ps ++ rest)) ps s t rest w (omega arith) in
-        ap (λ z. along_within f (length z) s z) is ∙ i.2 ∙ at_fault i.0 t rest e n i.1 (faulty t rest e h)
+        answers_as (λ x k. ap (λ z. along_within f (length z) s z) is ∙ i.2 ∙ at_fault i.0 t rest x n i.1 k) (faulty t rest e h)
 
     pub along_sound : (s : S) (bs : List ℕ) → Agrees (along_at f s bs) (λ t. Leads Step s bs t []) (λ e. Stops Step Fault s bs e)
     unfolding along_at

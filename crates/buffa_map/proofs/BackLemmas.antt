@@ -24,11 +24,12 @@ is_tag : (n : ℕ) (w : WireType) → IsNumber n → IsTag (tag_text n w) n w
 is_tag n w h = (h, Var-V (8 * n + wire_number w) (omega (arith, wire_small w)))
 
 module _ {K W : Type 0} (key : Reading K) (val : Reading W) (kw : Writing K) (vw : Writing W) (same_key : kw.wire ≡ key.wire) (same_val : vw.wire ≡ val.wire)
+    (plain_key : key.nested ≡ false) (plain_val : val.nested ≡ false)
     (KeyOk : K → Type 0) (ValOk : W → Type 0)
     (key_back : (d : ℕ) (old v : K) → KeyOk v → (c : Content) × HasContent kw.wire (kw.text v) c × (key.reads d old c ≡ Ok (v, true)))
     (val_back : (d : ℕ) (old v : W) → ValOk v → (c : Content) × HasContent vw.wire (vw.text v) c × (val.reads d old c ≡ Ok (v, true))) where
-  part : {X : Type 0} (r : Reading X) (w : Writing X) (d n : ℕ) (old v : X) → IsNumber n → w.wire ≡ r.wire → (c : Content) × HasContent w.wire (w.text v) c × (r.reads d old c ≡ Ok (v, true)) → IsCodecField r d n old (tag_text n w.wire ++ w.text v) v true
-  part r w d n old v num same (c, h, k) = (tag_text n w.wire, w.text v, c, subst (λ z. IsTag (tag_text n w.wire) n z) same (is_tag n w.wire num), subst (λ z. HasContent z (w.text v) c) same h, k, refl)
+  part : {X : Type 0} (r : Reading X) (w : Writing X) (d n : ℕ) (old v : X) → IsNumber n → w.wire ≡ r.wire → r.nested ≡ false → (c : Content) × HasContent w.wire (w.text v) c × (r.reads d old c ≡ Ok (v, true)) → IsCodecField r d n old (tag_text n w.wire ++ w.text v) v true
+  part r w d n old v num same plain (c, h, k) = (tag_text n w.wire, w.text v, c, subst (λ z. IsTag (tag_text n w.wire) n z) same (is_tag n w.wire num), rw plain refl, subst (λ z. HasContent z (w.text v) c) same h, k, refl)
 
   pub entry_back : (d : ℕ) (p : K × W) → KeyOk p.0 → ValOk p.1 → IsEntry key val d (entry_text kw vw p) (pair_parts p)
   entry_back d p a b =
@@ -36,8 +37,8 @@ module _ {K W : Type 0} (key : Reading K) (val : Reading W) (kw : Writing K) (vw
       let g = tag_text 2 vw.wire ++ vw.text p.1 in
       let s = blanks key val d in
       let t : Parts K W = record { key = p.0; value = val.blank; known = true } in
-      let one : IsField key val d s f t = inl (p.0, true, part key kw d 1 key.blank p.0 (omega arith, omega arith) same_key (key_back d key.blank p.0 a), refl) in
-      let two : IsField key val d t g (pair_parts p) = inr (inl (p.1, true, part val vw d 2 val.blank p.1 (omega arith, omega arith) same_val (val_back d val.blank p.1 b), refl)) in
+      let one : IsField key val d s f t = inl (p.0, true, part key kw d 1 key.blank p.0 (omega arith, omega arith) same_key plain_key (key_back d key.blank p.0 a), refl) in
+      let two : IsField key val d t g (pair_parts p) = inr (inl (p.1, true, part val vw d 2 val.blank p.1 (omega arith, omega arith) same_val plain_val (val_back d val.blank p.1 b), refl)) in
       (f ∷ g ∷ [], sym (append-nil (f ++ (g ++ [])) ∙ ap (λ z. f ++ z) (append-nil g)), (t, one, (pair_parts p, two, refl)))
 
   pub record_back : (d n : ℕ) (p : K × W) → IsNumber n → length (entry_text kw vw p) < 2 ^ 64 → KeyOk p.0 → ValOk p.1 → IsRecord key val d n (record_text kw vw n p) (record { bytes = entry_text kw vw p; parts = pair_parts p })

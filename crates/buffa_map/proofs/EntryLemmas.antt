@@ -1,25 +1,24 @@
 -- The fields of an entry: what is read of them, and the grammar.
-use Rattle.std.proofs.Common.{◌≡◌, ◌≢◌, inl, inr, ℕ, ◌==◌, ◌<◌, ◌≤◌, Bool, true, false, List, ◌++◌, length, Result, Ok, Err, refl, sym, ap, subst, ◌∙◌, arith, append_assoc, length-append}
+use Rattle.std.proofs.Common.{◌≡◌, ◌≢◌, ◌⊎◌, inl, inr, ℕ, ◌==◌, ◌<◌, Bool, true, false, List, ◌++◌, length, Result, Ok, Err, refl, sym, ap, subst, ◌∙◌, arith, append_assoc, length-append}
 use Rattle.std.proofs.lemmas.Bool.{eqb-true, eqb-false, ne_eqb}
 use Rattle.buffa_wire.specs.Gives.{◌>>=◌}
-use Rattle.buffa_wire.specs.Field.{TakesDelimited, IsTag, TakesTag}
-use Rattle.buffa_wire.specs.Content.{Content, HasContent}
-use Rattle.buffa_wire.specs.Reading.{tag_at, check_wire, delimited_at}
+use Rattle.buffa_wire.specs.Field.{IsTag, TakesTag}
+use Rattle.buffa_wire.specs.Content.{Content, HasContent, content_at}
+use Rattle.buffa_wire.specs.Reading.{tag_at, check_wire}
 use Rattle.buffa_wire.specs.WireType.{same_wire}
 use Rattle.buffa_bytes.specs.declared.wire_type.WireType.{WireType}
 use Rattle.buffa_bytes.specs.declared.wire_type.WireType.TheVariants.{Varint, Fixed64, LengthDelimited, StartGroup, EndGroup, Fixed32}
 use Rattle.buffa_bytes.specs.declared.error.DecodeError.{DecodeError}
-use Rattle.buffa_bytes.specs.declared.error.DecodeError.TheVariants.{ElementMemoryLimitExceeded, UnknownFieldLimitExceeded, WireTypeMismatch}
+use Rattle.buffa_bytes.specs.declared.error.DecodeError.TheVariants.{WireTypeMismatch}
 use Rattle.buffa_bytes.proofs.StepLemmas.{Agrees, agree_bind, agree_if, agree_ok, agree_err, agree_weaker}
 use Rattle.buffa_bytes.proofs.FieldLemmas.{tag_sound, tag_complete, tag_faulty, tag_some, payload_sound, payload_complete, payload_faulty}
 use Rattle.buffa_bytes.proofs.ContentLemmas.{content_sound, content_complete, content_taken, content_faulty}
-use Rattle.buffa_bytes.proofs.DelimitedLemmas.{delimited_sound, delimited_taken}
-use Rattle.buffa_wire.specs.Left.{Left}
+use Rattle.buffa_wire.specs.Left.{Left, Lacks, Pays, PaysAtMost, nothing}
 use Rattle.buffa_map.specs.Along.{Leads}
-use Rattle.buffa_map.specs.Codec.{Reading}
-use Rattle.buffa_map.specs.Entry.{CodecFault, codec_at, blanks, IsField, FieldFault, IsEntry, FaultOf, EntryFault, EntryOf, field_at, entry_of}
+use Rattle.buffa_map.specs.Codec.{Reading, Refuses, Spends, Tells, ValueFault, level, need_by, value_at, value_need}
+use Rattle.buffa_map.specs.Entry.{CodecFault, codec_at, blanks, IsField, FieldFault, IsEntry, FaultOf, field_at, entry_of}
 use Rattle.buffa_map.specs.declared.parts.Parts.{Parts}
-use Rattle.buffa_map.proofs.AlongLemmas.{along_sound, along_complete, along_faulty, Leads-more}
+use Rattle.buffa_map.proofs.AlongLemmas.{Answers, answer, answers_as, along_sound, along_complete, along_faulty, Leads-more}
 
 -- ---- wire types
 pub same_true : (v w : WireType) → same_wire v w ≡ true → v ≡ w
@@ -59,32 +58,88 @@ check_same f v w e = rw e (rw (same_refl v) refl)
 pub check_differs : (f : ℕ) (v w : WireType) → w ≢ v → check_wire f v w ≡ Err (WireTypeMismatch f v w)
 check_differs f v w n = rw (same_false v w n) refl
 
-module _ {V : Type 0} (codec : Reading V) (d n : ℕ) (old : V) where
+-- ---- budgets
+pub Pays_nothing : (left over : Left) (need : Left) → need ≡ nothing → over ≡ left → Pays left need over
+Pays_nothing left over need h k = rw (h, k) (omega arith, omega arith)
+
+pub PaysAtMost_nothing : (left over : Left) (need : Left) → over ≡ left → PaysAtMost left need over
+PaysAtMost_nothing left over need k = rw k (omega arith, omega arith, omega arith, omega arith)
+
+-- what a codec spends, whether its payloads are nested or not
+pub spent_in : {T : Type 0} (b : Bool) (r : Result T DecodeError) (left need over : Left) → (b ≡ false → need ≡ nothing) → Spends b r left need over → Spends true r left need over
+spent_in false (Ok x) left need over free h = Pays_nothing left over need (free refl) h
+spent_in false (Err e) left need over free h = PaysAtMost_nothing left over need h
+spent_in true r left need over free h = h
+
+-- ---- what a codec makes of a payload
+tells_itself : (b : Bool) (x : DecodeError) → Tells b x x
+tells_itself false x = refl
+tells_itself true x = inl refl
+
+told_plainly : (b : Bool) (x e : DecodeError) → Tells b x e → b ≡ false → e ≡ x
+told_plainly false x e h k = h
+told_plainly true x e h k = cc
+
+itself : {A : Type 0} (r : Result A DecodeError) → Agrees r (λ x. r ≡ Ok x) (λ e. r ≡ Err e)
+itself (Ok x) = record { holds = refl }
+itself (Err e) = record { holds = refl }
+
+-- nothing is needed, where nothing is by what may be read
+pub need_by-nothing : {A : Type 0} (r : Result A DecodeError) (f : A → Left) → ((x : A) → f x ≡ nothing) → need_by r f ≡ nothing
+need_by-nothing (Ok x) f h = h x
+need_by-nothing (Err e) f h = refl
+
+module _ {V : Type 0} (codec : Reading V) (d : ℕ) (old : V) where
   -- what a codec makes of the payload at the front
-  abbrev pub MakesAt : WireType → List ℕ → (V × Bool) × List ℕ → Type 0
-  MakesAt w bs x = (w ≡ codec.wire) × (p : List ℕ) × (c : Content) × HasContent codec.wire p c × (codec.reads d old c ≡ Ok x.0) × (bs ≡ p ++ x.1)
+  abbrev pub MakesValue : List ℕ → (V × Bool) × List ℕ → Type 0
+  MakesValue bs x = (level codec.nested d ≡ Ok tt) × (p : List ℕ) × (c : Content) × HasContent codec.wire p c × (codec.reads d old c ≡ Ok x.0) × (bs ≡ p ++ x.1)
 
   read_sound : (c : Content) (rest : List ℕ) (r : Result (V × Bool) DecodeError) → codec.reads d old c ≡ r →
       Agrees (r >>= (λ v. let x : (V × Bool) × List ℕ = (v, rest) in Ok x)) (λ x. (codec.reads d old c ≡ Ok x.0) × (rest ≡ x.1)) (λ e. codec.reads d old c ≡ Err e)
   read_sound c rest (Ok v) h = record { holds = (h, refl) }
   read_sound c rest (Err e) h = record { holds = h }
 
-  pub codec_sound : (w : WireType) (bs : List ℕ) → Agrees (codec_at codec d n old w bs) (MakesAt w bs) (CodecFault codec d n old w bs)
-  codec_sound w bs = agree_bind (check_sound n codec.wire w)
-      (λ _ same. agree_bind (content_sound codec.wire bs)
+  pub value_sound : (bs : List ℕ) → Agrees (value_at codec d old bs) (MakesValue bs) (ValueFault codec d old bs)
+  value_sound bs = agree_bind (itself (level codec.nested d))
+      (λ _ open_level. agree_bind (content_sound codec.wire bs)
       (λ c t. agree_weaker (read_sound c.0 c.1 (codec.reads d old c.0) refl)
-      (λ x h. (same, t.0, c.0, t.1, h.0, t.2 ∙ ap (λ z. t.0 ++ z) h.1))
-      (λ e h. inr (inr (same, c.0, c.1, t, h))))
-      (λ e h. inr (inl (same, h))))
+      (λ x h. (open_level, t.0, c.0, t.1, h.0, t.2 ∙ ap (λ z. t.0 ++ z) h.1))
+      (λ e h. inr (inr (open_level, c.0, c.1, e, t, h, tells_itself codec.nested e))))
+      (λ e h. inr (inl (open_level, h))))
       (λ e h. inl h)
 
-  pub codec_complete : (w : WireType) (p rest : List ℕ) (c : Content) (x : V × Bool) → w ≡ codec.wire → HasContent codec.wire p c → codec.reads d old c ≡ Ok x → codec_at codec d n old w (p ++ rest) ≡ Ok (x, rest)
-  codec_complete w p rest c x same h k = rw (check_same n codec.wire w same, content_complete codec.wire p c rest h, k) refl
+  pub value_complete : (p rest : List ℕ) (c : Content) (x : V × Bool) → level codec.nested d ≡ Ok tt → HasContent codec.wire p c → codec.reads d old c ≡ Ok x → value_at codec d old (p ++ rest) ≡ Ok (x, rest)
+  value_complete p rest c x open_level h k = rw (open_level, content_complete codec.wire p c rest h, k) refl
 
-  pub codec_faulty : (w : WireType) (bs : List ℕ) (e : DecodeError) → CodecFault codec d n old w bs e → codec_at codec d n old w bs ≡ Err e
-  codec_faulty w bs e (inl h) = rw (check_differs n codec.wire w h.0) (ap (λ x. Err x) (sym h.1))
-  codec_faulty w bs e (inr (inl h)) = rw (check_same n codec.wire w h.0, content_faulty codec.wire bs e h.1) refl
-  codec_faulty w bs e (inr (inr (same, c, rest, t, h))) = rw (check_same n codec.wire w same, content_taken codec.wire bs c rest t, h) refl
+  pub value_faulty : (bs : List ℕ) (e : DecodeError) → ValueFault codec d old bs e → Answers (codec.nested ≡ false) (value_at codec d old bs) e
+  value_faulty bs e (inl h) = answer (rw h refl)
+  value_faulty bs e (inr (inl (open_level, h))) = answer (rw (open_level, content_faulty codec.wire bs e h) refl)
+  value_faulty bs e (inr (inr (open_level, c, rest, x, t, h, k))) = (x, rw (open_level, content_taken codec.wire bs c rest t, h) refl, told_plainly codec.nested x e k)
+
+  -- why merging refuses, whether payloads are nested or not
+  pub refused_in : (b : Bool) (bs : List ℕ) (left : Left) (e : DecodeError) → Refuses b codec d old bs left e → Lacks left (value_need codec d bs) ⊎ ValueFault codec d old bs e
+  refused_in false bs left e h = inr (agree_err (value_at codec d old bs) e (value_sound bs) h)
+  refused_in true bs left e h = h
+
+  pub value_free : (bs : List ℕ) → ((c : Content) → codec.cost d c ≡ nothing) → value_need codec d bs ≡ nothing
+  value_free bs h = need_by-nothing (content_at codec.wire bs) (λ c. codec.cost d c.0) (λ c. h c.0)
+
+module _ {V : Type 0} (codec : Reading V) (d n : ℕ) (old : V) where
+  -- what a codec makes of the payload at the front, in a field of wire type w
+  abbrev pub MakesAt : WireType → List ℕ → (V × Bool) × List ℕ → Type 0
+  MakesAt w bs x = (w ≡ codec.wire) × (level codec.nested d ≡ Ok tt) × (p : List ℕ) × (c : Content) × HasContent codec.wire p c × (codec.reads d old c ≡ Ok x.0) × (bs ≡ p ++ x.1)
+
+  pub codec_sound : (w : WireType) (bs : List ℕ) → Agrees (codec_at codec d n old w bs) (MakesAt w bs) (CodecFault codec d n old w bs)
+  codec_sound w bs = agree_bind (check_sound n codec.wire w)
+      (λ _ same. agree_weaker (value_sound codec d old bs) (λ x m. (same, m.0, m.1, m.2, m.3, m.4, m.5)) (λ e h. inr (same, h)))
+      (λ e h. inl h)
+
+  pub codec_complete : (w : WireType) (p rest : List ℕ) (c : Content) (x : V × Bool) → w ≡ codec.wire → level codec.nested d ≡ Ok tt → HasContent codec.wire p c → codec.reads d old c ≡ Ok x → codec_at codec d n old w (p ++ rest) ≡ Ok (x, rest)
+  codec_complete w p rest c x same open_level h k = rw (check_same n codec.wire w same) (value_complete codec d old p rest c x open_level h k)
+
+  pub codec_faulty : (w : WireType) (bs : List ℕ) (e : DecodeError) → CodecFault codec d n old w bs e → Answers (codec.nested ≡ false) (codec_at codec d n old w bs) e
+  codec_faulty w bs e (inl h) = answer (rw (check_differs n codec.wire w h.0) (ap (λ x. Err x) (sym h.1)))
+  codec_faulty w bs e (inr (same, h)) = answers_as (λ x k. rw (check_same n codec.wire w same) k) (value_faulty codec d old bs e h)
 
 module _ {K V : Type 0} (key : Reading K) (val : Reading V) (d : ℕ) where
   -- one field at the front of the bytes
@@ -101,9 +156,9 @@ module _ {K V : Type 0} (key : Reading K) (val : Reading V) (d : ℕ) where
       agree_bind (codec_sound key d 1 s.key t.1 t.2)
       (λ x m. record {
         holds = (
-          u.0 ++ m.1,
-          inl (x.0.0, x.0.1, (u.0, m.1, m.2, (let tag : IsTag u.0 t.0 t.1 = u.1 in subst (λ f. IsTag u.0 f key.wire) is (subst (λ w. IsTag u.0 t.0 w) m.0 tag)), m.3, m.4, refl), refl),
-          whole bs u.0 m.1 t.2 x.1 u.2 m.5,
+          u.0 ++ m.2,
+          inl (x.0.0, x.0.1, (u.0, m.2, m.3, (let tag : IsTag u.0 t.0 t.1 = u.1 in subst (λ f. IsTag u.0 f key.wire) is (subst (λ w. IsTag u.0 t.0 w) m.0 tag)), m.1, m.4, m.5, refl), refl),
+          whole bs u.0 m.2 t.2 x.1 u.2 m.6,
         );
       })
       (λ e h. inr (inl (t.1, t.2, subst (λ f. TakesTag bs f t.1 t.2) is u, h))))
@@ -112,9 +167,9 @@ module _ {K V : Type 0} (key : Reading K) (val : Reading V) (d : ℕ) where
       agree_bind (codec_sound val d 2 s.value t.1 t.2)
       (λ x m. record {
         holds = (
-          u.0 ++ m.1,
-          inr (inl (x.0.0, x.0.1, (u.0, m.1, m.2, (let tag : IsTag u.0 t.0 t.1 = u.1 in subst (λ f. IsTag u.0 f val.wire) is (subst (λ w. IsTag u.0 t.0 w) m.0 tag)), m.3, m.4, refl), refl)),
-          whole bs u.0 m.1 t.2 x.1 u.2 m.5,
+          u.0 ++ m.2,
+          inr (inl (x.0.0, x.0.1, (u.0, m.2, m.3, (let tag : IsTag u.0 t.0 t.1 = u.1 in subst (λ f. IsTag u.0 f val.wire) is (subst (λ w. IsTag u.0 t.0 w) m.0 tag)), m.1, m.4, m.5, refl), refl)),
+          whole bs u.0 m.2 t.2 x.1 u.2 m.6,
         );
       })
       (λ e h. inr (inr (inl (t.1, t.2, subst (λ f. TakesTag bs f t.1 t.2) is u, h)))))
@@ -130,12 +185,12 @@ module _ {K V : Type 0} (key : Reading K) (val : Reading V) (d : ℕ) where
       (λ e h. inl h)
 
   pub field_complete : (s t : Parts K V) (f rest : List ℕ) → IsField key val d s f t → field_at key val d s (f ++ rest) ≡ Ok (t, rest)
-  field_complete s t f rest (inl (k, known, (tag, p, c, is_tag, h, r, e), st)) =
+  field_complete s t f rest (inl (k, known, (tag, p, c, is_tag, o, h, r, e), st)) =
       let split : f ++ rest ≡ tag ++ (p ++ rest) = ap (λ z. z ++ rest) e ∙ append_assoc tag p rest in
-      rw (split, tag_complete tag 1 key.wire (p ++ rest) is_tag, codec_complete key d 1 s.key key.wire p rest c (k, known) refl h r) (ap (λ z. Ok (z, rest)) (sym st))
-  field_complete s t f rest (inr (inl (v, known, (tag, p, c, is_tag, h, r, e), st))) =
+      rw (split, tag_complete tag 1 key.wire (p ++ rest) is_tag, codec_complete key d 1 s.key key.wire p rest c (k, known) refl o h r) (ap (λ z. Ok (z, rest)) (sym st))
+  field_complete s t f rest (inr (inl (v, known, (tag, p, c, is_tag, o, h, r, e), st))) =
       let split : f ++ rest ≡ tag ++ (p ++ rest) = ap (λ z. z ++ rest) e ∙ append_assoc tag p rest in
-      rw (split, tag_complete tag 2 val.wire (p ++ rest) is_tag, codec_complete val d 2 s.value val.wire p rest c (v, known) refl h r) (ap (λ z. Ok (z, rest)) (sym st))
+      rw (split, tag_complete tag 2 val.wire (p ++ rest) is_tag, codec_complete val d 2 s.value val.wire p rest c (v, known) refl o h r) (ap (λ z. Ok (z, rest)) (sym st))
   field_complete s t f rest (inr (inr (n, w, not_one, not_two, (tag, p, is_tag, h, e), st))) =
       let split : f ++ rest ≡ tag ++ (p ++ rest) = ap (λ z. z ++ rest) e ∙ append_assoc tag p rest in
       rw (split, tag_complete tag n w (p ++ rest) is_tag, ne_eqb n 1 not_one, ne_eqb n 2 not_two, payload_complete d n w p rest h) (ap (λ z. Ok (z, rest)) (sym st))
@@ -143,25 +198,29 @@ module _ {K V : Type 0} (key : Reading K) (val : Reading V) (d : ℕ) where
   tag_read : (bs rest : List ℕ) (n : ℕ) (w : WireType) → TakesTag bs n w rest → tag_at bs ≡ Ok (n, w, rest)
   tag_read bs rest n w (t, is_tag, e) = ap tag_at e ∙ tag_complete t n w rest is_tag
 
-  pub field_faulty : (s : Parts K V) (bs : List ℕ) (e : DecodeError) → FieldFault key val d s bs e → field_at key val d s bs ≡ Err e
-  field_faulty s bs e (inl h) = rw (tag_faulty bs e h) refl
-  field_faulty s bs e (inr (inl (w, rest, t, h))) = rw (tag_read bs rest 1 w t, codec_faulty key d 1 s.key w rest e h) refl
-  field_faulty s bs e (inr (inr (inl (w, rest, t, h)))) = rw (tag_read bs rest 2 w t, codec_faulty val d 2 s.value w rest e h) refl
-  field_faulty s bs e (inr (inr (inr (n, w, rest, not_one, not_two, t, h)))) = rw (tag_read bs rest n w t, ne_eqb n 1 not_one, ne_eqb n 2 not_two, payload_faulty d n w rest e h) refl
+  -- no payload of a key or a value is nested
+  abbrev pub Plain : Type 0
+  Plain = (key.nested ≡ false) × (val.nested ≡ false)
+
+  pub field_faulty : (s : Parts K V) (bs : List ℕ) (e : DecodeError) → FieldFault key val d s bs e → Answers Plain (field_at key val d s bs) e
+  field_faulty s bs e (inl h) = answer (rw (tag_faulty bs e h) refl)
+  field_faulty s bs e (inr (inl (w, rest, t, h))) = let q = codec_faulty key d 1 s.key w rest e h in (q.0, rw (tag_read bs rest 1 w t, q.1) refl, λ p. q.2 p.0)
+  field_faulty s bs e (inr (inr (inl (w, rest, t, h)))) = let q = codec_faulty val d 2 s.value w rest e h in (q.0, rw (tag_read bs rest 2 w t, q.1) refl, λ p. q.2 p.1)
+  field_faulty s bs e (inr (inr (inr (n, w, rest, not_one, not_two, t, h)))) = answer (rw (tag_read bs rest n w t, ne_eqb n 1 not_one, ne_eqb n 2 not_two, payload_faulty d n w rest e h) refl)
 
   field_some : (s t : Parts K V) (f : List ℕ) → IsField key val d s f t → 0 < length f
-  field_some s t f (inl (k, known, (tag, p, c, is_tag, h, r, e), st)) = omega (arith, tag_some tag 1 key.wire is_tag, ap length e, length-append tag p)
-  field_some s t f (inr (inl (v, known, (tag, p, c, is_tag, h, r, e), st))) = omega (arith, tag_some tag 2 val.wire is_tag, ap length e, length-append tag p)
+  field_some s t f (inl (k, known, (tag, p, c, is_tag, o, h, r, e), st)) = omega (arith, tag_some tag 1 key.wire is_tag, ap length e, length-append tag p)
+  field_some s t f (inr (inl (v, known, (tag, p, c, is_tag, o, h, r, e), st))) = omega (arith, tag_some tag 2 val.wire is_tag, ap length e, length-append tag p)
   field_some s t f (inr (inr (n, w, not_one, not_two, (tag, p, is_tag, h, e), st))) = omega (arith, tag_some tag n w is_tag, ap length e, length-append tag p)
 
   pub entry_sound : (e : List ℕ) → Agrees (entry_of key val d e) (IsEntry key val d e) (FaultOf key val d e)
-  entry_sound e = along_sound (IsField key val d) (field_at key val d) (FieldFault key val d) field_sound field_complete field_faulty field_some (blanks key val d) e
+  entry_sound e = along_sound (IsField key val d) (field_at key val d) (FieldFault key val d) field_sound field_complete Plain field_faulty field_some (blanks key val d) e
 
   pub entry_complete : (e : List ℕ) (s : Parts K V) → IsEntry key val d e s → entry_of key val d e ≡ Ok s
-  entry_complete e s h = along_complete (IsField key val d) (field_at key val d) (FieldFault key val d) field_sound field_complete field_faulty field_some (blanks key val d) s e h
+  entry_complete e s h = along_complete (IsField key val d) (field_at key val d) (FieldFault key val d) field_sound field_complete Plain field_faulty field_some (blanks key val d) s e h
 
-  pub entry_faulty : (e : List ℕ) (f : DecodeError) → FaultOf key val d e f → entry_of key val d e ≡ Err f
-  entry_faulty e f h = along_faulty (IsField key val d) (field_at key val d) (FieldFault key val d) field_sound field_complete field_faulty field_some (blanks key val d) e f h
+  pub entry_faulty : (e : List ℕ) (f : DecodeError) → FaultOf key val d e f → Answers Plain (entry_of key val d e) f
+  entry_faulty e f h = along_faulty (IsField key val d) (field_at key val d) (FieldFault key val d) field_sound field_complete Plain field_faulty field_some (blanks key val d) e f h
 
   -- ---- the loop over the fields
   pub field_step : (e : List ℕ) (s t : Parts K V) (r x : List ℕ) → Leads (IsField key val d) (blanks key val d) e s r → field_at key val d s r ≡ Ok (t, x) → Leads (IsField key val d) (blanks key val d) e t x
@@ -176,24 +235,3 @@ module _ {K V : Type 0} (key : Reading K) (val : Reading V) (d : ℕ) where
 
   pub field_stops : (e : List ℕ) (s : Parts K V) (r : List ℕ) (f : DecodeError) → Leads (IsField key val d) (blanks key val d) e s r → 0 < length r → field_at key val d s r ≡ Err f → FaultOf key val d e f
   field_stops e s r f h n k = (s, r, h, (λ z. absurd (omega (arith, ap length z))), agree_err (field_at key val d s r) f (field_sound s r) k)
-
-  -- ---- a length and an entry
-  pub entry_short : (cost slot : ℕ) (left : Left) (bs : List ℕ) (f : DecodeError) → delimited_at bs ≡ Err f → EntryFault key val d cost slot left bs f
-  entry_short cost slot left bs f h = inl (agree_err (delimited_at bs) f (delimited_sound bs) h)
-
-  pub entry_charged : (cost slot : ℕ) (left : Left) (bs e rest : List ℕ) (f : DecodeError) → delimited_at bs ≡ Ok (e, rest) → left.memory < cost → f ≡ ElementMemoryLimitExceeded → EntryFault key val d cost slot left bs f
-  entry_charged cost slot left bs e rest f h l k = let t = agree_ok (delimited_at bs) (e, rest) (delimited_sound bs) h in inr (t.0, e, rest, t.1, t.2, inl (l, k))
-
-  pub entry_broken : (cost slot : ℕ) (left : Left) (bs e rest : List ℕ) (f : DecodeError) → delimited_at bs ≡ Ok (e, rest) → cost ≤ left.memory → FaultOf key val d e f → EntryFault key val d cost slot left bs f
-  entry_broken cost slot left bs e rest f h l k = let t = agree_ok (delimited_at bs) (e, rest) (delimited_sound bs) h in inr (t.0, e, rest, t.1, t.2, inr (l, inl k))
-
-  pub entry_slotless : (cost slot : ℕ) (left : Left) (bs e rest : List ℕ) (s : Parts K V) (f : DecodeError) → delimited_at bs ≡ Ok (e, rest) → cost ≤ left.memory → IsEntry key val d e s → s.known ≡ false → left.unknown < slot → f ≡ UnknownFieldLimitExceeded →
-      EntryFault key val d cost slot left bs f
-  entry_slotless cost slot left bs e rest s f h l k no_value few is = let t = agree_ok (delimited_at bs) (e, rest) (delimited_sound bs) h in inr (t.0, e, rest, t.1, t.2, inr (l, inr (s, k, no_value, few, is)))
-
-  pub entry_found : (bs e rest : List ℕ) (s : Parts K V) → delimited_at bs ≡ Ok (e, rest) → IsEntry key val d e s → EntryOf key val d bs e s rest
-  entry_found bs e rest s h k = let t = agree_ok (delimited_at bs) (e, rest) (delimited_sound bs) h in (t.0, t.1, t.2, k)
-
-  -- where no length and so many bytes begin them, none do
-  pub no_length : {P : Type 0} (bs : List ℕ) (f : DecodeError) → delimited_at bs ≡ Err f → (e rest : List ℕ) → TakesDelimited bs e rest → P
-  no_length bs f h e rest t = let k = sym h ∙ delimited_taken bs e rest t in cc

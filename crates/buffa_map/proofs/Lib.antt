@@ -3,6 +3,8 @@ pub mod MeaningLemmas
 pub mod HashedLemmas
 pub mod AlongLemmas
 pub mod EntryLemmas
+pub mod NeedLemmas
+pub mod MessageLemmas
 pub mod ResultLemmas
 pub mod RunLemmas
 pub mod SizeLemmas

@@ -1,9 +1,7 @@
 -- Records one after another: what is read of them, and the grammar; and what they mean.
-use Rattle.std.proofs.Common.{◌≡◌, ◌≢◌, ◌⊎◌, inl, inr, ℕ, ◌+◌, ◌-◌, ◌*◌, ◌==◌, nat_lt, ◌<◌, ◌≤◌, Bool, true, false, ◌&&◌, not, cond, List, [], ◌∷◌, ◌++◌, length, map, Result, Ok, Err, refl, sym, ap, subst, ◌∙◌, arith, append_assoc, append-nil, length-append, if◌then◌else◌}
-use Rattle.std.proofs.lemmas.Bool.{eqb-true, eqb-false, eq-eqb, ne_eqb, lt-ltb, le-ltb, ltb-true, ltb-false}
+use Rattle.std.proofs.Common.{◌≡◌, ◌≢◌, ◌⊎◌, inl, inr, ℕ, ◌+◌, ◌-◌, ◌*◌, ◌==◌, nat_lt, ◌<◌, ◌≤◌, Bool, true, false, ◌&&◌, ◌||◌, not, cond, List, [], ◌∷◌, ◌++◌, length, map, Ok, Err, refl, sym, ap, subst, ◌∙◌, arith, append_assoc, append-nil, length-append}
+use Rattle.std.proofs.lemmas.Bool.{cases_lt, eqb-true, eqb-false, eq-eqb, ne_eqb, lt-ltb, le-ltb, ltb-true, ltb-false}
 use Rattle.std.specs.Cmp.{IsEquivalence}
-use Rattle.buffa_wire.specs.Gives.{◌>>=◌}
-use Rattle.buffa_wire.specs.Varint.{Var}
 use Rattle.buffa_wire.specs.Field.{IsTag, TakesTag}
 use Rattle.buffa_wire.specs.Reading.{tag_at, check_wire, delimited_at}
 use Rattle.buffa_bytes.specs.declared.wire_type.WireType.{WireType}
@@ -13,41 +11,66 @@ use Rattle.buffa_bytes.specs.declared.error.DecodeError.TheVariants.{ElementMemo
 use Rattle.buffa_bytes.proofs.StepLemmas.{Agrees, agree_bind, agree_if, agree_ok, agree_err, agree_weaker}
 use Rattle.buffa_bytes.proofs.FieldLemmas.{tag_sound, tag_complete, tag_faulty, tag_some}
 use Rattle.buffa_bytes.proofs.DelimitedLemmas.{delimited_sound, delimited_complete, delimited_faulty}
-use Rattle.buffa_wire.specs.Left.{Left}
+use Rattle.buffa_wire.specs.Left.{Left, Lacks, Pays, nothing, plus, slots}
+use Rattle.buffa_wire.specs.Content.{Content}
 use Rattle.buffa_wire.specs.Records.{Datum, bytes}
 use Rattle.buffa_map.specs.Along.{join, Along}
 use Rattle.buffa_map.specs.Codec.{Reading}
-use Rattle.buffa_map.specs.Entry.{IsEntry, FaultOf, EntryOf, EntryFault, entry_of}
+use Rattle.buffa_map.specs.Entry.{IsEntry, FaultOf, EntryOf, EntryFault, blanks, inner_need, need_at, need_of}
 use Rattle.buffa_map.specs.Pairs.{put, SamePairs}
-use Rattle.buffa_map.specs.Run.{Said, IsRecord, Run, Paid, RecordFault, RunFault, said_at, after_entry, next_said, run_of, step, Fold, Kept, added, kept_record, kept_records}
+use Rattle.buffa_map.specs.Run.{Said, IsRecord, Run, Paid, RecordFault, RunFault, entry_in, inner_needs, lacks, record_need, said_at, after_entry, next_said, run_of, step, Fold, Kept, added, kept_record, kept_records}
 use Rattle.buffa_map.specs.declared.parts.Parts.{Parts}
-use Rattle.buffa_map.proofs.AlongLemmas.{along_sound, along_complete, along_faulty}
-use Rattle.buffa_map.proofs.EntryLemmas.{check_sound, check_differs, entry_sound, entry_complete, entry_faulty}
+use Rattle.buffa_map.proofs.AlongLemmas.{Answers, answer, answers_as, along_sound, along_complete, along_faulty}
+use Rattle.buffa_map.proofs.EntryLemmas.{Plain, check_sound, check_differs, entry_sound, entry_complete, entry_faulty}
+use Rattle.buffa_map.proofs.NeedLemmas.{need_free}
 use Rattle.buffa_map.proofs.PutLemmas.{SamePairs-put}
 
--- ---- the slot of an entry that isn't declared
-slots_test : (b : Bool) (u slot : ℕ) → cond b 0 slot ≤ u → (not b && nat_lt u slot) ≡ false
-slots_test true u slot h = refl
-slots_test false u slot h = le-ltb u slot h
+-- ---- the slot of an entry that isn't declared, where n slots are spent in it
+slots_test : (b : Bool) (u n slot : ℕ) → n + cond b 0 slot ≤ u → (not b && nat_lt u (n + slot)) ≡ false
+slots_test true u n slot h = refl
+slots_test false u n slot h = le-ltb u (n + slot) h
 
-slots_many : (b : Bool) (u slot : ℕ) → (not b && nat_lt u slot) ≡ false → cond b 0 slot ≤ u
-slots_many true u slot h = omega arith
-slots_many false u slot h = ltb-false u slot h
+slots_many : (b : Bool) (u n slot : ℕ) → n ≤ u → (not b && nat_lt u (n + slot)) ≡ false → n + cond b 0 slot ≤ u
+slots_many true u n slot l h = omega (arith, l)
+slots_many false u n slot l h = ltb-false u (n + slot) h
 
-slots_few : (b : Bool) (u slot : ℕ) → (not b && nat_lt u slot) ≡ true → (b ≡ false) × (u < slot)
-slots_few true u slot h = cc
-slots_few false u slot h = (refl, ltb-true u slot h)
+slots_few : (b : Bool) (u n slot : ℕ) → (not b && nat_lt u (n + slot)) ≡ true → (b ≡ false) × (u < n + slot)
+slots_few true u n slot h = cc
+slots_few false u n slot h = (refl, ltb-true u (n + slot) h)
 
-slots_short : (b : Bool) (u slot : ℕ) → b ≡ false → u < slot → (not b && nat_lt u slot) ≡ true
-slots_short b u slot h k = rw (h, lt-ltb u slot k) refl
+slots_short : (b : Bool) (u n slot : ℕ) → b ≡ false → u < n + slot → (not b && nat_lt u (n + slot)) ≡ true
+slots_short b u n slot h k = rw (h, lt-ltb u (n + slot) k) refl
 
-slots_left : (b : Bool) (u slot : ℕ) → cond b 0 slot ≤ u → cond b u (u - slot) + cond b 0 slot ≡ u
-slots_left true u slot h = omega arith
-slots_left false u slot h = omega (arith, h)
+-- ---- whether a need is left
+either_true : (a b : Bool) → (a || b) ≡ true → (a ≡ true) ⊎ (b ≡ true)
+either_true true b h = inl refl
+either_true false b h = inr h
 
-slots_over : (b : Bool) (t u slot : ℕ) → t + cond b 0 slot ≡ u → cond b u (u - slot) ≡ t
-slots_over true t u slot h = omega (arith, h)
-slots_over false t u slot h = omega (arith, h)
+neither : (a b : Bool) → (a || b) ≡ false → (a ≡ false) × (b ≡ false)
+neither true b h = cc
+neither false b h = (refl, h)
+
+or_right : (a : Bool) → (a || true) ≡ true
+or_right true = refl
+or_right false = refl
+
+lacks_true : (left need : Left) → lacks left need ≡ true → Lacks left need
+lacks_true left need h = elim (either_true (nat_lt left.unknown need.unknown) (nat_lt left.memory need.memory) h)
+    [ inl a ↦ inl (ltb-true left.unknown need.unknown a) | inr b ↦ inr (ltb-true left.memory need.memory b) ]
+
+lacks_false : (left need : Left) → lacks left need ≡ false → (need.unknown ≤ left.unknown) × (need.memory ≤ left.memory)
+lacks_false left need h = let n = neither (nat_lt left.unknown need.unknown) (nat_lt left.memory need.memory) h in (ltb-false left.unknown need.unknown n.0, ltb-false left.memory need.memory n.1)
+
+lacks_some : (left need : Left) → Lacks left need → lacks left need ≡ true
+lacks_some left need (inl h) = rw (lt-ltb left.unknown need.unknown h) refl
+lacks_some left need (inr h) = rw (lt-ltb left.memory need.memory h) (or_right (nat_lt left.unknown need.unknown))
+
+lacks_none : (left need : Left) → need.unknown ≤ left.unknown → need.memory ≤ left.memory → lacks left need ≡ false
+lacks_none left need h k = rw (le-ltb left.unknown need.unknown h, le-ltb left.memory need.memory k) refl
+
+either : (b : Bool) {P : Type 0} → (b ≡ true → P) → (b ≡ false → P) → P
+either true h k = h refl
+either false h k = k refl
 
 slots_kept : (b : Bool) (e : List ℕ) (ks : List (List ℕ)) (slot : ℕ) → length (cond b ks (e ∷ ks)) * slot ≡ cond b 0 slot + length ks * slot
 slots_kept true e ks slot = omega arith
@@ -94,6 +117,10 @@ module _ {K V : Type 0} (key : Reading K) (val : Reading V) (d n : ℕ) where
       let wire : w ≡ LengthDelimited = agree_ok (check_wire g LengthDelimited w) tt (check_sound g LengthDelimited w) checked in
       inr (inr (inr (mid, subst (λ z. TakesTag bs z LengthDelimited mid) same (subst (λ z. TakesTag bs g z mid) wire u), k)))
 
+  -- what is needed in a record, once its tag is read
+  pub record_needs : (bs mid : List ℕ) (g : ℕ) (w : WireType) → tag_at bs ≡ Ok (g, w, mid) → record_need key val d bs ≡ inner_need key val d mid
+  record_needs bs mid g w h = rw h refl
+
   -- what follows a length and an entry is less
   pub entry_falls : (bs e : List ℕ) (s : Parts K V) (rest : List ℕ) → EntryOf key val d bs e s rest → length rest ≤ length bs
   entry_falls bs e s rest (l, v, is, entry) = omega (arith, ap length is, length-append l (e ++ rest), length-append e rest)
@@ -102,33 +129,35 @@ module _ {K V : Type 0} (key : Reading K) (val : Reading V) (d n : ℕ) where
   module _ (cost slot : ℕ) (left : Left) where
     -- the record at the front, and what was paid for it
     abbrev pub SaidAt : List ℕ → Said K V × List ℕ → Type 0
-    SaidAt bs x = (r : List ℕ) × IsRecord key val d n r x.0 × (bs ≡ r ++ x.1) × (cost ≤ left.memory) × (cond x.0.parts.known 0 slot ≤ left.unknown)
+    SaidAt bs x =
+        (r : List ℕ) × IsRecord key val d n r x.0 × (bs ≡ r ++ x.1)
+        × ((need_of key val d cost x.0.bytes).memory ≤ left.memory) × ((need_of key val d cost x.0.bytes).unknown + cond x.0.parts.known 0 slot ≤ left.unknown)
 
     retag : (bs rest : List ℕ) (g : ℕ) (w : WireType) → TakesTag bs g w rest → g ≡ n → w ≡ LengthDelimited → TakesTag bs n LengthDelimited rest
     retag bs rest g w u is wire = subst (λ z. TakesTag bs z LengthDelimited rest) is (subst (λ z. TakesTag bs g z rest) wire u)
 
     -- the entry of a length
-    abbrev InEntry : List ℕ → List ℕ → Said K V × List ℕ → Type 0
-    InEntry e rest x = (x.0.bytes ≡ e) × (x.1 ≡ rest) × IsEntry key val d e x.0.parts × (cost ≤ left.memory) × (cond x.0.parts.known 0 slot ≤ left.unknown)
+    abbrev InEntry : List ℕ → Parts K V → Type 0
+    InEntry e s = IsEntry key val d e s × ((need_of key val d cost e).memory ≤ left.memory) × ((need_of key val d cost e).unknown + cond s.known 0 slot ≤ left.unknown)
 
     abbrev InFault : List ℕ → DecodeError → Type 0
     InFault e f = ((left.memory < cost) × (f ≡ ElementMemoryLimitExceeded))
-        ⊎ ((cost ≤ left.memory) × (FaultOf key val d e f
-        ⊎ ((s : Parts K V) × IsEntry key val d e s × (s.known ≡ false) × (left.unknown < slot) × (f ≡ UnknownFieldLimitExceeded))))
+        ⊎ ((cost ≤ left.memory) × (Lacks left (need_of key val d cost e) ⊎ (FaultOf key val d e f
+        ⊎ ((s : Parts K V) × IsEntry key val d e s × (s.known ≡ false) × (left.unknown < (need_of key val d cost e).unknown + slot) × (f ≡ UnknownFieldLimitExceeded)))))
 
-    abbrev in_entry : List ℕ → List ℕ → Result (Said K V × List ℕ) DecodeError
-    in_entry e rest = if nat_lt left.memory cost then Err ElementMemoryLimitExceeded else (do
-      s ← entry_of key val d e
-      if not s.known && nat_lt left.unknown slot then Err UnknownFieldLimitExceeded else Ok (record { bytes = e; parts = s }, rest))
+    in_lacks : (e : List ℕ) → Lacks left (need_of key val d cost e) → InFault e ElementMemoryLimitExceeded
+    in_lacks e h = elim (cases_lt left.memory cost) [ inl less ↦ inl (less, refl) | inr many ↦ inr (omega (arith, many), inl h) ]
 
-    in_sound : (e rest : List ℕ) → Agrees (in_entry e rest) (InEntry e rest) (InFault e)
-    in_sound e rest = agree_if (nat_lt left.memory cost)
-        (λ few. record { holds = inl (ltb-true left.memory cost few, refl) })
-        (λ many. agree_bind (entry_sound key val d e)
-        (λ s entry. agree_if (not s.known && nat_lt left.unknown slot)
-        (λ few. let h = slots_few s.known left.unknown slot few in record { holds = inr (ltb-false left.memory cost many, inr (s, entry, h.0, h.1, refl)) })
-        (λ enough. record { holds = (refl, refl, entry, ltb-false left.memory cost many, slots_many s.known left.unknown slot enough) }))
-        (λ f broken. inr (ltb-false left.memory cost many, inl broken)))
+    in_sound : (e : List ℕ) → Agrees (entry_in key val d cost slot left e) (InEntry e) (InFault e)
+    in_sound e = agree_if (lacks left (need_of key val d cost e))
+        (λ few. record { holds = in_lacks e (lacks_true left (need_of key val d cost e) few) })
+        (λ many. let room = lacks_false left (need_of key val d cost e) many in
+        let units : cost ≤ left.memory = omega (arith, room.1) in
+        agree_bind (entry_sound key val d e)
+        (λ s entry. agree_if (not s.known && nat_lt left.unknown ((need_of key val d cost e).unknown + slot))
+        (λ few. let h = slots_few s.known left.unknown (need_of key val d cost e).unknown slot few in record { holds = inr (units, inr (inr (s, entry, h.0, h.1, refl))) })
+        (λ some. record { holds = (entry, room.1, slots_many s.known left.unknown (need_of key val d cost e).unknown slot room.0 some) }))
+        (λ f broken. inr (units, inr (inl broken))))
 
     pub said_sound : (bs : List ℕ) → Agrees (said_at key val d n cost slot left bs) (SaidAt bs) (RecordFault key val d n cost slot left bs)
     said_sound bs = agree_bind (tag_sound bs)
@@ -136,39 +165,59 @@ module _ {K V : Type 0} (key : Reading K) (val : Reading V) (d n : ℕ) where
         (λ same. let is : t.0 ≡ n = eqb-true t.0 n same in
         agree_bind (check_sound n LengthDelimited t.1)
         (λ _ wire. agree_bind (delimited_sound t.2)
-        (λ e b. let tag = retag bs t.2 t.0 t.1 u is wire in agree_weaker (in_sound e.0 e.1)
-        (λ x h. (
-          tag.0 ++ (b.0 ++ e.0),
-          (tag.0, b.0, tag.1, subst (λ z. Var b.0 (length z)) (sym h.0) b.1, ap (λ z. tag.0 ++ (b.0 ++ z)) (sym h.0), subst (λ z. IsEntry key val d z x.0.parts) (sym h.0) h.2),
-          tag.2 ∙ ap (λ z. tag.0 ++ z) (b.2 ∙ sym (append_assoc b.0 e.0 e.1)) ∙ sym (append_assoc tag.0 (b.0 ++ e.0) e.1) ∙ ap (λ z. (tag.0 ++ (b.0 ++ e.0)) ++ z) (sym h.1),
-          h.3,
-          h.4,
-        ))
+        (λ e b. let tag = retag bs t.2 t.0 t.1 u is wire in agree_bind (in_sound e.0)
+        (λ s h. record {
+          holds = (
+            tag.0 ++ (b.0 ++ e.0),
+            (tag.0, b.0, tag.1, b.1, refl, h.0),
+            tag.2 ∙ ap (λ z. tag.0 ++ z) (b.2 ∙ sym (append_assoc b.0 e.0 e.1)) ∙ sym (append_assoc tag.0 (b.0 ++ e.0) e.1),
+            h.1,
+            h.2,
+          );
+        })
         (λ f h. inr (inr (inr (t.2, tag, inr (b.0, e.0, e.1, b.1, b.2, h))))))
         (λ f short. inr (inr (inr (t.2, retag bs t.2 t.0 t.1 u is wire, inl short)))))
         (λ f bad. inr (inr (inl (t.1, t.2, subst (λ z. TakesTag bs z t.1 t.2) is u, bad.0, bad.1)))))
         (λ other. record { holds = inr (inl (t.0, t.1, t.2, u, eqb-false t.0 n other, refl)) }))
         (λ f h. inl h)
 
-    pub said_complete : (r rest : List ℕ) (x : Said K V) → cost ≤ left.memory → cond x.parts.known 0 slot ≤ left.unknown → IsRecord key val d n r x → said_at key val d n cost slot left (r ++ rest) ≡ Ok (x, rest)
+    pub said_complete : (r rest : List ℕ) (x : Said K V) → (need_of key val d cost x.bytes).memory ≤ left.memory → (need_of key val d cost x.bytes).unknown + cond x.parts.known 0 slot ≤ left.unknown → IsRecord key val d n r x →
+        said_at key val d n cost slot left (r ++ rest) ≡ Ok (x, rest)
     said_complete r rest x many slots (t, l, tag, v, e, entry) =
         let split : r ++ rest ≡ t ++ (l ++ (x.bytes ++ rest)) = ap (λ z. z ++ rest) e ∙ append_assoc t (l ++ x.bytes) rest ∙ ap (λ z. t ++ z) (append_assoc l x.bytes rest) in
-        rw (split, tag_complete t n LengthDelimited (l ++ (x.bytes ++ rest)) tag, eq-eqb n n refl, delimited_complete l x.bytes rest v, le-ltb left.memory cost many, entry_complete key val d x.bytes x.parts entry, slots_test x.parts.known left.unknown slot slots) refl
+        let room = lacks_none left (need_of key val d cost x.bytes) (omega (arith, slots)) many in
+        let inside : entry_in key val d cost slot left x.bytes ≡ Ok x.parts = rw (room, entry_complete key val d x.bytes x.parts entry, slots_test x.parts.known left.unknown (need_of key val d cost x.bytes).unknown slot slots) refl in
+        rw (split, tag_complete t n LengthDelimited (l ++ (x.bytes ++ rest)) tag, eq-eqb n n refl, delimited_complete l x.bytes rest v, inside) refl
 
     tag_read : (bs rest : List ℕ) (g : ℕ) (w : WireType) → TakesTag bs g w rest → tag_at bs ≡ Ok (g, w, rest)
     tag_read bs rest g w (t, is_tag, e) = ap tag_at e ∙ tag_complete t g w rest is_tag
 
-    pub said_faulty : (bs : List ℕ) (f : DecodeError) → RecordFault key val d n cost slot left bs f → said_at key val d n cost slot left bs ≡ Err f
-    said_faulty bs f (inl h) = rw (tag_faulty bs f h) refl
-    said_faulty bs f (inr (inl (g, w, rest, t, other, is))) = rw (tag_read bs rest g w t, ne_eqb g n other) (ap (λ z. Err z) (sym is))
-    said_faulty bs f (inr (inr (inl (w, rest, t, other, is)))) = rw (tag_read bs rest n w t, eq-eqb n n refl, check_differs n LengthDelimited w other) (ap (λ z. Err z) (sym is))
-    said_faulty bs f (inr (inr (inr (rest, t, inl h)))) = rw (tag_read bs rest n LengthDelimited t, eq-eqb n n refl, delimited_faulty rest f h) refl
-    said_faulty bs f (inr (inr (inr (rest, t, inr (l, e, more, v, is, inl h))))) =
-        rw (tag_read bs rest n LengthDelimited t, eq-eqb n n refl, ap delimited_at is ∙ delimited_complete l e more v, lt-ltb left.memory cost h.0) (ap (λ z. Err z) (sym h.1))
-    said_faulty bs f (inr (inr (inr (rest, t, inr (l, e, more, v, is, inr (many, inl h)))))) =
-        rw (tag_read bs rest n LengthDelimited t, eq-eqb n n refl, ap delimited_at is ∙ delimited_complete l e more v, le-ltb left.memory cost many, entry_faulty key val d e f h) refl
-    said_faulty bs f (inr (inr (inr (rest, t, inr (l, e, more, v, is, inr (many, inr (s, entry, no_value, few, f_is))))))) =
-        rw (tag_read bs rest n LengthDelimited t, eq-eqb n n refl, ap delimited_at is ∙ delimited_complete l e more v, le-ltb left.memory cost many, entry_complete key val d e s entry, slots_short s.known left.unknown slot no_value few) (ap (λ z. Err z) (sym f_is))
+    module _ (key_free : key.nested ≡ false → (d : ℕ) (c : Content) → key.cost d c ≡ nothing) (val_free : val.nested ≡ false → (d : ℕ) (c : Content) → val.cost d c ≡ nothing) where
+      -- where no payload is nested, the units are all that is needed
+      not_lacking : (e : List ℕ) {Q : Type 0} → cost ≤ left.memory → Lacks left (need_of key val d cost e) → Plain key val d → Q
+      not_lacking e many (inl few) p = let none = need_free key val d key_free val_free (blanks key val d) e p in absurd (omega (arith, few, ap (λ (z : Left). z.unknown) none))
+      not_lacking e many (inr few) p = let none = need_free key val d key_free val_free (blanks key val d) e p in absurd (omega (arith, many, few, ap (λ (z : Left). z.memory) none))
+
+      in_none : (e : List ℕ) (f : DecodeError) → cost ≤ left.memory → Lacks left (need_of key val d cost e) → Answers (Plain key val d) (entry_in key val d cost slot left e) f
+      in_none e f many h = (ElementMemoryLimitExceeded, rw (lacks_some left (need_of key val d cost e) h) refl, λ p. not_lacking e many h p)
+
+      in_faulty : (e : List ℕ) (f : DecodeError) → InFault e f → Answers (Plain key val d) (entry_in key val d cost slot left e) f
+      in_faulty e f (inl (few, is)) = let h : Lacks left (need_of key val d cost e) = inr (omega (arith, few)) in answer (rw (lacks_some left (need_of key val d cost e) h) (ap (λ z. Err z) (sym is)))
+      in_faulty e f (inr (many, inl h)) = in_none e f many h
+      in_faulty e f (inr (many, inr (inl h))) = either (lacks left (need_of key val d cost e))
+          (λ few. in_none e f many (lacks_true left (need_of key val d cost e) few))
+          (λ room. answers_as (λ x k. rw (room, k) refl) (entry_faulty key val d e f h))
+      in_faulty e f (inr (many, inr (inr (s, entry, no_value, few, is)))) = either (lacks left (need_of key val d cost e))
+          (λ less. in_none e f many (lacks_true left (need_of key val d cost e) less))
+          (λ room. answer (rw (room, entry_complete key val d e s entry, slots_short s.known left.unknown (need_of key val d cost e).unknown slot no_value few) (ap (λ z. Err z) (sym is))))
+
+      pub said_faulty : (bs : List ℕ) (f : DecodeError) → RecordFault key val d n cost slot left bs f → Answers (Plain key val d) (said_at key val d n cost slot left bs) f
+      said_faulty bs f (inl h) = answer (rw (tag_faulty bs f h) refl)
+      said_faulty bs f (inr (inl (g, w, rest, t, other, is))) = answer (rw (tag_read bs rest g w t, ne_eqb g n other) (ap (λ z. Err z) (sym is)))
+      said_faulty bs f (inr (inr (inl (w, rest, t, other, is)))) = answer (rw (tag_read bs rest n w t, eq-eqb n n refl, check_differs n LengthDelimited w other) (ap (λ z. Err z) (sym is)))
+      said_faulty bs f (inr (inr (inr (rest, t, inl h)))) = answer (rw (tag_read bs rest n LengthDelimited t, eq-eqb n n refl, delimited_faulty rest f h) refl)
+      said_faulty bs f (inr (inr (inr (rest, t, inr (l, e, more, v, is, h))))) =
+          answers_as (λ x k. rw (tag_read bs rest n LengthDelimited t, eq-eqb n n refl, ap delimited_at is ∙ delimited_complete l e more v, k) refl) (in_faulty e f h)
 
   record_some : (r : List ℕ) (x : Said K V) → IsRecord key val d n r x → 0 < length r
   record_some r x (t, l, tag, v, e, entry) = omega (arith, tag_some t n LengthDelimited tag, ap length e, length-append t (l ++ x.bytes))
@@ -179,29 +228,28 @@ module _ {K V : Type 0} (key : Reading K) (val : Reading V) (d n : ℕ) where
     Paying = List (Said K V) × Left
 
     abbrev Longer : Paying → List ℕ → Paying → Type 0
-    Longer s r t = (x : Said K V) × IsRecord key val d n r x × (t.0 ≡ s.0 ++ x ∷ []) × (t.1.memory + cost ≡ s.1.memory) × (t.1.unknown + cond x.parts.known 0 slot ≡ s.1.unknown)
+    Longer s r t =
+        (x : Said K V) × IsRecord key val d n r x × (t.0 ≡ s.0 ++ x ∷ []) × (t.1.memory + (need_of key val d cost x.bytes).memory ≡ s.1.memory)
+        × (t.1.unknown + ((need_of key val d cost x.bytes).unknown + cond x.parts.known 0 slot) ≡ s.1.unknown)
 
     abbrev Broken : Paying → List ℕ → DecodeError → Type 0
     Broken s bs f = RecordFault key val d n cost slot s.1 bs f
 
     next_sound : (s : Paying) (bs : List ℕ) → Agrees (next_said key val d n cost slot s bs) (λ x. (r : List ℕ) × Longer s r x.0 × (bs ≡ r ++ x.1)) (Broken s bs)
-    next_sound s bs = agree_bind (said_sound cost slot s.1 bs) (λ x h. record { holds = (h.0, (x.0, h.1, refl, omega (arith, h.3), slots_left x.0.parts.known s.1.unknown slot h.4), h.2) }) (λ f h. h)
+    next_sound s bs = agree_bind (said_sound cost slot s.1 bs) (λ x h. record { holds = (h.0, (x.0, h.1, refl, omega (arith, h.3), omega (arith, h.4)), h.2) }) (λ f h. h)
 
     next_complete : (s t : Paying) (r rest : List ℕ) → Longer s r t → next_said key val d n cost slot s (r ++ rest) ≡ Ok (t, rest)
     next_complete s t r rest (x, h, e, paid, slots) =
-        let memory : s.1.memory - cost ≡ t.1.memory = omega arith in
-        let unknown : cond x.parts.known s.1.unknown (s.1.unknown - slot) ≡ t.1.unknown = slots_over x.parts.known t.1.unknown s.1.unknown slot slots in
-        let same : (let made : Paying = (s.0 ++ x ∷ [], after_entry cost slot s.1 x) in made ≡ t) = (λ i. (sym e i, record { unknown = unknown i; memory = memory i })) in
-        rw (said_complete cost slot s.1 r rest x (omega arith) (omega (arith, slots)) h) (ap (λ z. Ok (z, rest)) same)
-
-    next_faulty : (s : Paying) (bs : List ℕ) (f : DecodeError) → Broken s bs f → next_said key val d n cost slot s bs ≡ Err f
-    next_faulty s bs f h = rw (said_faulty cost slot s.1 bs f h) refl
+        let memory : s.1.memory - (need_of key val d cost x.bytes).memory ≡ t.1.memory = omega (arith, paid) in
+        let unknown : s.1.unknown - ((need_of key val d cost x.bytes).unknown + cond x.parts.known 0 slot) ≡ t.1.unknown = omega (arith, slots) in
+        let same : (let made : Paying = (s.0 ++ x ∷ [], after_entry key val d cost slot s.1 x) in made ≡ t) = (λ i. (sym e i, record { unknown = unknown i; memory = memory i })) in
+        rw (said_complete cost slot s.1 r rest x (omega (arith, paid)) (omega (arith, slots)) h) (ap (λ z. Ok (z, rest)) same)
 
     next_some : (s t : Paying) (r : List ℕ) → Longer s r t → 0 < length r
     next_some s t r (x, h, e, paid, slots) = record_some r x h
 
     -- pieces that lead from one list to another are a run of what was added
-    run_of_pieces : (ps : List (List ℕ)) (s t : Paying) → Along Longer s ps t → (xs : List (Said K V)) × Run key val d n (join ps) xs × (t.0 ≡ s.0 ++ xs) × Paid cost slot s.1 xs t.1
+    run_of_pieces : (ps : List (List ℕ)) (s t : Paying) → Along Longer s ps t → (xs : List (Said K V)) × Run key val d n (join ps) xs × (t.0 ≡ s.0 ++ xs) × Paid key val d cost slot s.1 xs t.1
     run_of_pieces [] s t h = ([], refl, sym (ap (λ z. z.0) h) ∙ sym (append-nil s.0), (omega (arith, ap (λ z. z.1.memory) h), omega (arith, ap (λ z. z.1.unknown) h)))
     run_of_pieces (p ∷ ps) s t (u, (x, m, e, paid, slots), h) =
         let i = run_of_pieces ps u t h in (
@@ -211,13 +259,13 @@ module _ {K V : Type 0} (key : Reading K) (val : Reading V) (d n : ℕ) where
           (omega (arith, i.3.0, paid), omega (arith, i.3.1, slots, slots_kept x.parts.known x.bytes (Kept i.0) slot)),
         )
 
-    pieces_of_run : (b : List ℕ) (s : Paying) (xs : List (Said K V)) (over : Left) → Run key val d n b xs → Paid cost slot s.1 xs over → (ps : List (List ℕ)) × (b ≡ join ps) × Along Longer s ps (s.0 ++ xs, over)
+    pieces_of_run : (b : List ℕ) (s : Paying) (xs : List (Said K V)) (over : Left) → Run key val d n b xs → Paid key val d cost slot s.1 xs over → (ps : List (List ℕ)) × (b ≡ join ps) × Along Longer s ps (s.0 ++ xs, over)
     pieces_of_run b s [] over h paid =
         let memory : s.1.memory ≡ over.memory = omega (arith, paid.0) in
         let unknown : s.1.unknown ≡ over.unknown = omega (arith, paid.1) in
         ([], h, (λ i. (sym (append-nil s.0) i, record { unknown = unknown i; memory = memory i })))
     pieces_of_run b s (x ∷ xs) over (r, rest, m, e, h) paid =
-        let u : Paying = (s.0 ++ x ∷ [], record { unknown = over.unknown + length (Kept xs) * slot; memory = over.memory + length xs * cost }) in
+        let u : Paying = (s.0 ++ x ∷ [], record { unknown = over.unknown + (length (Kept xs) * slot + (inner_needs key val d xs).unknown); memory = over.memory + (length xs * cost + (inner_needs key val d xs).memory) }) in
         let i = pieces_of_run rest u xs over h (refl, refl) in (
           r ∷ i.0,
           e ∙ ap (λ z. r ++ z) i.1,
@@ -226,24 +274,34 @@ module _ {K V : Type 0} (key : Reading K) (val : Reading V) (d n : ℕ) where
 
     -- what a whole run says, and what is over
     abbrev pub WholeRun : Left → List ℕ → Paying → Type 0
-    WholeRun left bs t = Run key val d n bs t.0 × Paid cost slot left t.0 t.1
+    WholeRun left bs t = Run key val d n bs t.0 × Paid key val d cost slot left t.0 t.1
 
-    pub run_sound : (left : Left) (bs : List ℕ) → Agrees (run_of key val d n cost slot left bs) (WholeRun left bs) (RunFault key val d n cost slot left bs)
-    run_sound left bs = agree_weaker (along_sound Longer (next_said key val d n cost slot) Broken next_sound next_complete next_faulty next_some ([], left) bs)
-        (λ t h. let i = run_of_pieces h.0 ([], left) t h.2 in
-        (subst (λ z. Run key val d n bs z) (sym i.2) (subst (λ z. Run key val d n z i.0) (sym (h.1 ∙ append-nil (join h.0))) i.1), subst (λ z. Paid cost slot left z t.1) (sym i.2) i.3))
-        (λ f h. let i = run_of_pieces h.2.0 ([], left) h.0 h.2.2 in
-        (i.0, h.1, h.0.1, (join h.2.0, h.2.1, i.1, i.3), h.3, h.4))
+    module _ (key_free : key.nested ≡ false → (d : ℕ) (c : Content) → key.cost d c ≡ nothing) (val_free : val.nested ≡ false → (d : ℕ) (c : Content) → val.cost d c ≡ nothing) where
+      next_faulty : (s : Paying) (bs : List ℕ) (f : DecodeError) → Broken s bs f → Answers (Plain key val d) (next_said key val d n cost slot s bs) f
+      next_faulty s bs f h = answers_as (λ x k. rw k refl) (said_faulty cost slot s.1 key_free val_free bs f h)
 
-    pub run_complete : (left : Left) (bs : List ℕ) (es : List (Said K V)) (over : Left) → Run key val d n bs es → Paid cost slot left es over → run_of key val d n cost slot left bs ≡ Ok (es, over)
-    run_complete left bs es over h paid =
-        let i = pieces_of_run bs ([], left) es over h paid in
-        along_complete Longer (next_said key val d n cost slot) Broken next_sound next_complete next_faulty next_some ([], left) (es, over) bs (i.0, i.1 ∙ sym (append-nil (join i.0)), i.2)
+      pub run_sound : (left : Left) (bs : List ℕ) → Agrees (run_of key val d n cost slot left bs) (WholeRun left bs) (RunFault key val d n cost slot left bs)
+      run_sound left bs = agree_weaker (along_sound Longer (next_said key val d n cost slot) Broken next_sound next_complete (Plain key val d) next_faulty next_some ([], left) bs)
+          (λ t h. let i = run_of_pieces h.0 ([], left) t h.2 in
+          (subst (λ z. Run key val d n bs z) (sym i.2) (subst (λ z. Run key val d n z i.0) (sym (h.1 ∙ append-nil (join h.0))) i.1), subst (λ z. Paid key val d cost slot left z t.1) (sym i.2) i.3))
+          (λ f h. let i = run_of_pieces h.2.0 ([], left) h.0 h.2.2 in
+          (i.0, h.1, h.0.1, (join h.2.0, h.2.1, i.1, i.3), h.3, h.4))
 
-    pub run_faulty : (left : Left) (bs : List ℕ) (f : DecodeError) → RunFault key val d n cost slot left bs f → run_of key val d n cost slot left bs ≡ Err f
-    run_faulty left bs f (es, rest, over, (front, e, h, paid), some, broken) =
-        let i = pieces_of_run front ([], left) es over h paid in
-        along_faulty Longer (next_said key val d n cost slot) Broken next_sound next_complete next_faulty next_some ([], left) bs f ((es, over), rest, (i.0, e ∙ ap (λ z. z ++ rest) i.1, i.2), some, broken)
+      pub run_complete : (left : Left) (bs : List ℕ) (es : List (Said K V)) (over : Left) → Run key val d n bs es → Paid key val d cost slot left es over → run_of key val d n cost slot left bs ≡ Ok (es, over)
+      run_complete left bs es over h paid =
+          let i = pieces_of_run bs ([], left) es over h paid in
+          along_complete Longer (next_said key val d n cost slot) Broken next_sound next_complete (Plain key val d) next_faulty next_some ([], left) (es, over) bs (i.0, i.1 ∙ sym (append-nil (join i.0)), i.2)
+
+      pub run_faulty : (left : Left) (bs : List ℕ) (f : DecodeError) → RunFault key val d n cost slot left bs f → Answers (Plain key val d) (run_of key val d n cost slot left bs) f
+      run_faulty left bs f (es, rest, over, (front, e, h, paid), some, broken) =
+          let i = pieces_of_run front ([], left) es over h paid in
+          along_faulty Longer (next_said key val d n cost slot) Broken next_sound next_complete (Plain key val d) next_faulty next_some ([], left) bs f ((es, over), rest, (i.0, e ∙ ap (λ z. z ++ rest) i.1, i.2), some, broken)
+
+-- what no payload of which is nested costs is the units
+pub inner_free : {K V : Type 0} (key : Reading K) (val : Reading V) (d : ℕ) → (key.nested ≡ false → (d : ℕ) (c : Content) → key.cost d c ≡ nothing) → (val.nested ≡ false → (d : ℕ) (c : Content) → val.cost d c ≡ nothing) →
+    (es : List (Said K V)) → Plain key val d → inner_needs key val d es ≡ nothing
+inner_free key val d key_free val_free [] p = refl
+inner_free key val d key_free val_free (x ∷ xs) p = rw (need_free key val d key_free val_free (blanks key val d) x.bytes p, inner_free key val d key_free val_free xs p) refl
 
 -- ---- what a run means
 pub Fold-append : {K V : Type 0} (eq : K → K → Bool) (m : List (K × V)) (es fs : List (Said K V)) → Fold eq m (es ++ fs) ≡ Fold eq (Fold eq m es) fs
@@ -261,9 +319,6 @@ SamePairs-step laws m k s h = chosen laws m k s.key s.value s.known h
 pub Fold-more : {K V : Type 0} {eq : K → K → Bool} → IsEquivalence eq → (m k l : List (K × V)) (es : List (Said K V)) (x : Said K V) (s : Parts K V) → x.parts ≡ s → SamePairs eq (Fold eq m es) k → SamePairs eq (step eq k s) l → SamePairs eq (Fold eq m (es ++ x ∷ [])) l
 Fold-more {eq = eq} laws m k l es x s is h i =
     rw (Fold-append eq m es (x ∷ []), is) (λ q. SamePairs-step laws (Fold eq m es) k s h q ∙ i q)
-
-pub spent : {X : Type 0} (xs : List X) (x : X) (a b c cost : ℕ) → b + length xs * cost ≡ a → c + cost ≡ b → c + length (xs ++ x ∷ []) * cost ≡ a
-spent xs x a b c cost h k = rw (length-append xs (x ∷ [])) (omega (arith, h, k))
 
 kept_first : {K V : Type 0} (b : Bool) (e : List ℕ) (es fs : List (Said K V)) → Kept (es ++ fs) ≡ Kept es ++ Kept fs → cond b (Kept (es ++ fs)) (e ∷ Kept (es ++ fs)) ≡ cond b (Kept es) (e ∷ Kept es) ++ Kept fs
 kept_first true e es fs h = h
@@ -292,6 +347,17 @@ pub added_records : {K V : Type 0} (n : ℕ) (es : List (Said K V)) → added (�
 added_records n [] = refl
 added_records n (x ∷ es) = record_first n x.parts.known x.bytes (Kept es) (added (λ m e. (m, bytes e) ∷ []) n es) (added_records n es)
 
--- the slots of one entry more
-pub slotted : {K V : Type 0} (es : List (Said K V)) (x : Said K V) (a b c slot : ℕ) → b + length (Kept es) * slot ≡ a → c + cond x.parts.known 0 slot ≡ b → c + length (Kept (es ++ x ∷ [])) * slot ≡ a
-slotted es x a b c slot h k = rw (Kept-append es (x ∷ []), length-append (Kept es) (Kept (x ∷ []))) (omega (arith, h, k, slots_kept x.parts.known x.bytes [] slot))
+-- ---- one entry more is paid
+inner_needs-last : {K V : Type 0} (key : Reading K) (val : Reading V) (d : ℕ) (xs : List (Said K V)) (x : Said K V) →
+    ((inner_needs key val d (xs ++ x ∷ [])).memory ≡ (inner_needs key val d xs).memory + (need_at key val d (blanks key val d) x.bytes).memory)
+    × ((inner_needs key val d (xs ++ x ∷ [])).unknown ≡ (inner_needs key val d xs).unknown + (need_at key val d (blanks key val d) x.bytes).unknown)
+inner_needs-last key val d [] x = (omega arith, omega arith)
+inner_needs-last key val d (y ∷ xs) x = let i = inner_needs-last key val d xs x in (omega (arith, i.0), omega (arith, i.1))
+
+pub Paid-more : {K V : Type 0} (key : Reading K) (val : Reading V) (d cost slot : ℕ) (a b c : Left) (xs : List (Said K V)) (x : Said K V) → Paid key val d cost slot a xs b →
+    Pays b (plus (need_of key val d cost x.bytes) (slots (cond x.parts.known 0 slot))) c → Paid key val d cost slot a (xs ++ x ∷ []) c
+Paid-more key val d cost slot a b c xs x h k =
+    let i = inner_needs-last key val d xs x in (
+      rw (length-append xs (x ∷ [])) (omega (arith, h.0, k.1, i.0)),
+      rw (Kept-append xs (x ∷ []), length-append (Kept xs) (Kept (x ∷ []))) (omega (arith, h.1, k.0, i.1, slots_kept x.parts.known x.bytes [] slot)),
+    )

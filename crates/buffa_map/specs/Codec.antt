@@ -1,30 +1,77 @@
 -- What a codec makes of payloads and of values.
-use Rattle.std.specs.Prelude.{ℕ, Bool, true, false, List, Result, Ok}
+use Rattle.std.specs.Prelude.{◌≡◌, ℕ, zero, suc, ◌⊎◌, Bool, true, false, List, Result, Ok, Err, MatchResult}
 use Rattle.buffa_wire.specs.Gives.{◌>>=◌}
-use Rattle.buffa_wire.specs.Content.{Content, content_at}
+use Rattle.buffa_wire.specs.Content.{Content, TakesContent, ContentFault, content_at}
+use Rattle.buffa_wire.specs.Left.{Left, Lacks, Pays, PaysAtMost, nothing}
+use Rattle.buffa_wire.specs.Message.{IsLimit}
 use Rattle.buffa_bytes.specs.declared.wire_type.WireType.{WireType}
 use Rattle.buffa_bytes.specs.declared.error.DecodeError.{DecodeError}
+use Rattle.buffa_bytes.specs.declared.error.DecodeError.TheVariants.{RecursionLimitExceeded}
 use Rattle.buffa_map.specs.declared.codec.MapValueDecodeStatus.{MapValueDecodeStatus}
 use Rattle.buffa_map.specs.declared.codec.MapValueDecodeStatus.TheVariants.{Known, Unknown}
 
 -- How a codec reads: what a value starts with, the wire type of its payloads, and at a depth what a content
--- makes of the value that stood: the new value, and whether the content is a declared one.
+-- makes of the value that stood: the new value, and whether the content is a declared one; or the fault.
+-- Payloads are plain, or they are nested: messages, of which each opens a level, costs something, and leaves open
+-- which fault it has inside. Where they are plain they cost nothing.
 pub record Reading (V : Type 0) : Type 0 where
   pub blank : V
   pub wire : WireType
   pub reads : ℕ → V → Content → Result (V × Bool) DecodeError
+  pub nested : Bool
+  pub cost : ℕ → Content → Left
 
 -- how a codec writes: the wire type, and the payload of a value
 pub record Writing (V : Type 0) : Type 0 where
   pub wire : WireType
   pub text : V → List ℕ
 
+-- whether a level is left at a depth, where payloads are nested or not
+abbrev pub level : Bool → ℕ → Result (Unit {0}) DecodeError
+level false d = Ok tt
+level true zero = Err RecursionLimitExceeded
+level true (suc d) = Ok tt
+
 -- the value after the payload at the front, whether that is a declared one, and what follows
 abbrev pub value_at : {V : Type 0} → Reading V → ℕ → V → List ℕ → Result ((V × Bool) × List ℕ) DecodeError
 value_at codec d old bs = do
+  _ ← level codec.nested d
   c ← content_at codec.wire bs
   v ← codec.reads d old c.0
   Ok (v, c.1)
+
+-- what is needed by what was read, if it was read
+abbrev pub need_by : {A : Type 0} → Result A DecodeError → (A → Left) → Left
+need_by (Ok x) f = f x
+need_by (Err e) f = nothing
+
+-- what the payload at the front costs, if there is one
+abbrev pub value_need : {V : Type 0} → Reading V → ℕ → List ℕ → Left
+value_need codec d bs = need_by (content_at codec.wire bs) (λ c. codec.cost d c.0)
+
+-- the errors that are told of a fault: itself, and of one inside a nested payload any that is no limit's
+abbrev pub Tells : Bool → DecodeError → DecodeError → Type 0
+Tells false x e = e ≡ x
+Tells true x e = (e ≡ x) ⊎ (IsLimit e → ⊥)
+
+-- why no payload that the codec takes begins these bytes: no level is left, the payload's fault, or its own
+abbrev pub ValueFault : {V : Type 0} → Reading V → ℕ → V → List ℕ → DecodeError → Type 0
+ValueFault codec d old bs e =
+    (level codec.nested d ≡ Err e)
+    ⊎ (((level codec.nested d ≡ Ok tt) × ContentFault codec.wire bs e)
+    ⊎ ((level codec.nested d ≡ Ok tt) × (c : Content) × (rest : List ℕ) × (x : DecodeError) × TakesContent codec.wire bs c rest × (codec.reads d old c ≡ Err x) × Tells codec.nested x e))
+
+-- ---- what merging a payload promises, where payloads are nested or not
+
+-- why it refuses, where left is left
+abbrev pub Refuses : {V : Type 0} → Bool → Reading V → ℕ → V → List ℕ → Left → DecodeError → Type 0
+Refuses false codec d old bs left e = value_at codec d old bs ≡ Err e
+Refuses true codec d old bs left e = Lacks left (value_need codec d bs) ⊎ ValueFault codec d old bs e
+
+-- what it spends: nothing; or exactly the need, and on a refusal at most that
+abbrev pub Spends : {T : Type 0} → Bool → Result T DecodeError → Left → Left → Left → Type 0
+Spends false r left need over = over ≡ left
+Spends true r left need over = MatchResult r (λ _. Pays left need over) (λ _. PaysAtMost left need over)
 
 abbrev pub is_known : MapValueDecodeStatus → Bool
 is_known Known = true

@@ -7,4 +7,7 @@ pub mod Entry
 pub mod Run
 pub mod Lent
 pub mod Text
+pub mod Message
+pub mod MessageLaws
+pub mod Plain
 pub mod Colour

@@ -1,5 +1,5 @@
 -- Runs of map records, and what they mean. Source: the protobuf encoding guide, "Maps".
-use Rattle.std.specs.Prelude.{◌≡◌, ◌≢◌, ℕ, ◌+◌, ◌-◌, ◌*◌, nat_lt, ◌==◌, ◌&&◌, not, Bool, true, List, [], ◌∷◌, ◌++◌, length, map, cond, ◌⊎◌, if◌then◌else◌, Result, Ok, Err}
+use Rattle.std.specs.Prelude.{◌≡◌, ◌≢◌, ℕ, ◌+◌, ◌-◌, ◌*◌, nat_lt, ◌==◌, ◌&&◌, ◌||◌, not, Bool, true, List, [], ◌∷◌, ◌++◌, length, map, cond, ◌⊎◌, if◌then◌else◌, Result, Ok, Err}
 use Rattle.buffa_wire.specs.Gives.{◌>>=◌}
 use Rattle.buffa_wire.specs.Varint.{Var}
 use Rattle.buffa_wire.specs.Field.{IsTag, TakesTag, TagFault}
@@ -8,11 +8,11 @@ use Rattle.buffa_bytes.specs.declared.wire_type.WireType.{WireType}
 use Rattle.buffa_bytes.specs.declared.wire_type.WireType.TheVariants.{LengthDelimited}
 use Rattle.buffa_bytes.specs.declared.error.DecodeError.{DecodeError}
 use Rattle.buffa_bytes.specs.declared.error.DecodeError.TheVariants.{ElementMemoryLimitExceeded, UnexpectedField, UnknownFieldLimitExceeded, WireTypeMismatch}
-use Rattle.buffa_wire.specs.Left.{Left}
+use Rattle.buffa_wire.specs.Left.{Left, nothing, plus}
 use Rattle.buffa_wire.specs.Records.{Datum, bytes}
 use Rattle.buffa_map.specs.Along.{along_at}
-use Rattle.buffa_map.specs.Codec.{Reading}
-use Rattle.buffa_map.specs.Entry.{IsEntry, EntryFault, entry_of}
+use Rattle.buffa_map.specs.Codec.{Reading, need_by}
+use Rattle.buffa_map.specs.Entry.{IsEntry, EntryFault, blanks, entry_of, inner_need, need_at, need_of}
 use Rattle.buffa_map.specs.Pairs.{put}
 use Rattle.buffa_map.specs.declared.parts.Parts.{Parts}
 
@@ -39,18 +39,45 @@ added adds n (x ∷ xs) = cond x.parts.known [] (adds n x.bytes) ++ added adds n
 abbrev pub kept_records : {K V : Type 0} → ℕ → List (Said K V) → List (ℕ × Datum)
 kept_records n es = map (λ e. (n, bytes e)) (Kept es)
 
--- over is over of left after these entries, each of which costs some units of element memory, and each one
--- that isn't declared some slots
-abbrev pub Paid : {K V : Type 0} → ℕ → ℕ → Left → List (Said K V) → Left → Type 0
-Paid cost slot left es over = (over.memory + length es * cost ≡ left.memory) × (over.unknown + length (Kept es) * slot ≡ left.unknown)
-
--- what is left after an entry that was paid
-abbrev pub after_entry : {K V : Type 0} → ℕ → ℕ → Left → Said K V → Left
-after_entry cost slot left x = record { unknown = cond x.parts.known left.unknown (left.unknown - slot); memory = left.memory - cost }
+-- whether need can't be spent of left
+abbrev pub lacks : Left → Left → Bool
+lacks left need = nat_lt left.unknown need.unknown || nat_lt left.memory need.memory
 
 -- what the entry of a pair says
 abbrev pub pair_parts : {K V : Type 0} → K × V → Parts K V
 pair_parts p = record { key = p.0; value = p.1; known = true }
+
+module _ {K V : Type 0} (key : Reading K) (val : Reading V) (d : ℕ) where
+  -- what the messages in these entries cost
+  abbrev pub inner_needs : List (Said K V) → Left
+  inner_needs [] = nothing
+  inner_needs (x ∷ xs) = plus (need_at key val d (blanks key val d) x.bytes) (inner_needs xs)
+
+  -- over is over of left after these entries, each of which costs some units of element memory and what the
+  -- messages in it cost, and each one that isn't declared some slots
+  abbrev pub Paid : ℕ → ℕ → Left → List (Said K V) → Left → Type 0
+  Paid cost slot left es over =
+      (over.memory + (length es * cost + (inner_needs es).memory) ≡ left.memory)
+      × (over.unknown + (length (Kept es) * slot + (inner_needs es).unknown) ≡ left.unknown)
+
+  -- what the messages cost that are merged in the record at the front, if a tag, a length and an entry are there
+  abbrev pub record_need : List ℕ → Left
+  record_need bs = need_by (tag_at bs) (λ t. inner_need key val d t.2)
+
+  -- What an entry that is paid says. Where a fault inside a message isn't named, or what the messages cost isn't left,
+  -- the error stands for any that may be told.
+  abbrev pub entry_in : ℕ → ℕ → Left → List ℕ → Result (Parts K V) DecodeError
+  entry_in cost slot left e =
+      let need : Left = need_of key val d cost e in
+      if lacks left need then Err ElementMemoryLimitExceeded else (do
+        s ← entry_of key val d e
+        if not s.known && nat_lt left.unknown (need.unknown + slot) then Err UnknownFieldLimitExceeded else Ok s)
+
+  -- what is left after it
+  abbrev pub after_entry : ℕ → ℕ → Left → Said K V → Left
+  after_entry cost slot left x =
+      let need : Left = need_of key val d cost x.bytes in
+      record { unknown = left.unknown - (need.unknown + cond x.parts.known 0 slot); memory = left.memory - need.memory }
 
 module _ {K V : Type 0} (key : Reading K) (val : Reading V) (d n : ℕ) where
   -- r is a tag of number n, a length, and the entry x of that length
@@ -75,7 +102,7 @@ module _ {K V : Type 0} (key : Reading K) (val : Reading V) (d n : ℕ) where
 
   -- records of the entries es begin the bytes, rest follows, and they are paid
   abbrev pub RunBegins : ℕ → ℕ → Left → List ℕ → List (Said K V) → List ℕ → Left → Type 0
-  RunBegins cost slot left bs es rest over = (front : List ℕ) × (bs ≡ front ++ rest) × Run front es × Paid cost slot left es over
+  RunBegins cost slot left bs es rest over = (front : List ℕ) × (bs ≡ front ++ rest) × Run front es × Paid key val d cost slot left es over
 
   -- after the records of some entries, f is the first fault of what is left
   abbrev pub RunFault : ℕ → ℕ → Left → List ℕ → DecodeError → Type 0
@@ -89,12 +116,11 @@ module _ {K V : Type 0} (key : Reading K) (val : Reading V) (d n : ℕ) where
     if t.0 == n then (do
       _ ← check_wire n LengthDelimited t.1
       e ← delimited_at t.2
-      if nat_lt left.memory cost then Err ElementMemoryLimitExceeded else (do
-        s ← entry_of key val d e.0
-        if not s.known && nat_lt left.unknown slot then Err UnknownFieldLimitExceeded else Ok (record { bytes = e.0; parts = s }, e.1))) else Err (UnexpectedField t.0)
+      s ← entry_in key val d cost slot left e.0
+      Ok (record { bytes = e.0; parts = s }, e.1)) else Err (UnexpectedField t.0)
 
   abbrev pub next_said : ℕ → ℕ → List (Said K V) × Left → List ℕ → Result ((List (Said K V) × Left) × List ℕ) DecodeError
-  next_said cost slot s bs = said_at cost slot s.1 bs >>= (λ x. Ok ((s.0 ++ x.0 ∷ [], after_entry cost slot s.1 x.0), x.1))
+  next_said cost slot s bs = said_at cost slot s.1 bs >>= (λ x. Ok ((s.0 ++ x.0 ∷ [], after_entry key val d cost slot s.1 x.0), x.1))
 
   abbrev pub run_of : ℕ → ℕ → Left → List ℕ → Result (List (Said K V) × Left) DecodeError
   run_of cost slot left bs = along_at (next_said cost slot) ([], left) bs

@@ -7,6 +7,7 @@ use Rattle.std.proofs.lemmas.Nat.{from_le_bytes-to_le_bytes_4, from_le_bytes-to_
 use Rattle.buffa_wire.specs.Gives.{◌>>=◌}
 use Rattle.buffa_wire.specs.Content.{Content, HasContent, bytes_in, number_in}
 use Rattle.buffa_wire.specs.Content.Content.{number, bytes}
+use Rattle.buffa_wire.specs.Message.{IsLimit}
 use Rattle.buffa_wire.specs.Values.{delimited_text}
 use Rattle.buffa_wire.specs.Varint.{V}
 use Rattle.buffa_bytes.specs.Scalars.{zigzag}
@@ -38,6 +39,19 @@ known_of t false new known h = cc
 
 pub string_known : {V : Type 0} (of : List ℕ → V) (c : Content) (new : V) (known : Bool) → (text_as of (bytes_in c) >>= (λ v. read (v, true))) ≡ Ok (new, known) → known ≡ true
 string_known of c new known h = known_of (of (bytes_in c)) (is_utf8 (bytes_in c)) new known h
+
+-- ---- no fault is a limit's
+
+pub never_faulty : {V : Type 0} {y : V × Bool} (x : DecodeError) → read y ≡ Err x → IsLimit x → ⊥
+never_faulty x h l = cc
+
+limit_of : {V : Type 0} (t : V) (b : Bool) (x : DecodeError) → ((if b then Ok t else Err InvalidUtf8) >>= (λ v. read (v, true))) ≡ Err x → IsLimit x → ⊥
+limit_of t true x h l = cc
+limit_of t false InvalidUtf8 h l = l
+limit_of t false _ h l = cc
+
+pub string_no_limit : {V : Type 0} (of : List ℕ → V) (c : Content) (x : DecodeError) → (text_as of (bytes_in c) >>= (λ v. read (v, true))) ≡ Err x → IsLimit x → ⊥
+string_no_limit of c x h = limit_of (of (bytes_in c)) (is_utf8 (bytes_in c)) x h
 
 -- ---- lengths of payloads
 

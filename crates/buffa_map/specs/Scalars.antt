@@ -1,11 +1,12 @@
 -- How scalars, strings and bytes are read and written: a number, a string or bytes in a payload, which
 -- means a value and takes the place of what stood.
 -- Source: the protobuf encoding guide, "Message Structure" and "Length-Delimited Records".
-use Rattle.std.specs.Prelude.{◌≡◌, ℕ, ◌<◌, ◌^◌, true, List, length, Ok}
+use Rattle.std.specs.Prelude.{◌≡◌, ℕ, ◌<◌, ◌^◌, true, false, List, length, Ok}
 use Rattle.std.specs.Int.{to_le_bytes, w32, w64}
 use Rattle.std.specs.Str.{is_utf8}
 use Rattle.buffa_wire.specs.Gives.{◌>>=◌}
 use Rattle.buffa_wire.specs.Content.{number_in, bytes_in}
+use Rattle.buffa_wire.specs.Left.{nothing}
 use Rattle.buffa_wire.specs.Values.{delimited_text}
 use Rattle.buffa_wire.specs.Varint.{V}
 use Rattle.buffa_bytes.specs.Texts.{text_as}
@@ -17,14 +18,14 @@ use Rattle.buffa_map.specs.Codec.{Reading, Writing}
 
 -- the number in a payload of wire type w
 abbrev pub number_reading : {V : Type 0} → WireType → V → (ℕ → V) → Reading V
-number_reading w blank of = record { blank = blank; wire = w; reads = λ d old c. Ok (of (number_in c), true) }
+number_reading w blank of = record { blank = blank; wire = w; reads = λ d old c. Ok (of (number_in c), true); nested = false; cost = λ d c. nothing }
 
 abbrev pub bytes_reading : {V : Type 0} → V → (List ℕ → V) → Reading V
-bytes_reading blank of = record { blank = blank; wire = LengthDelimited; reads = λ d old c. Ok (of (bytes_in c), true) }
+bytes_reading blank of = record { blank = blank; wire = LengthDelimited; reads = λ d old c. Ok (of (bytes_in c), true); nested = false; cost = λ d c. nothing }
 
 -- bytes that are UTF-8
 abbrev pub string_reading : {V : Type 0} → V → (List ℕ → V) → Reading V
-string_reading blank of = record { blank = blank; wire = LengthDelimited; reads = λ d old c. text_as of (bytes_in c) >>= (λ v. Ok (v, true)) }
+string_reading blank of = record { blank = blank; wire = LengthDelimited; reads = λ d old c. text_as of (bytes_in c) >>= (λ v. Ok (v, true)); nested = false; cost = λ d c. nothing }
 
 -- ---- writing: the number, or the bytes, of a value
 

@@ -1,12 +1,14 @@
 //! Codecs: how the keys and values of a map field are read and written.
 
-ghost use Rattle.std.specs.Prelude.{◌≡◌, ℕ, Bool, List, Option, Some, false, true, length, IsTrue, Ok, OnErr};
+ghost use Rattle.std.specs.Prelude.{◌≡◌, ◌≢◌, ℕ, Bool, List, Option, Some, false, true, length, Ok, Err, IfErr, IfOk, OnErr};
+ghost use Rattle.buffa_bytes.specs.declared.error.DecodeError.TheVariants.{OutOfMemory};
 ghost use Rattle.buffa_bytes.specs.declared.wire_type.WireType.{WireType};
 ghost use Rattle.buffa_wire.specs.Content.{Content, HasContent};
-ghost use Rattle.buffa_wire.specs.Gives.{GivesUnlessFull};
-ghost use Rattle.buffa_wire.specs.Left.{left_in};
+ghost use Rattle.buffa_wire.specs.Left.{left_in, nothing};
+ghost use Rattle.buffa_wire.specs.Message.{IsLimit};
 ghost use Rattle.buffa_wire.specs.Written.{Writes};
-ghost use Rattle.buffa_map.specs.Codec.{Reading, Writing, is_known, value_at};
+ghost use Rattle.buffa_bytes.specs.declared.error.DecodeError.{DecodeError};
+ghost use Rattle.buffa_map.specs.Codec.{Reading, Refuses, Spends, Writing, is_known, value_at, value_need};
 
 use buffa_wire::{Blank, Buf, DecodeContext, DecodeError, EncodeError, EncodeSink, WireType};
 use std::alloc::Global;
@@ -54,23 +56,29 @@ pub trait MapValueDecode: sealed::Sealed {
     /// What a payload makes of a value.
     ghost reading: { Reading Self.Value.Meaning };
 
-    /// Whether a payload is taken whole or not at all, so that a refusal leaves the value as it was.
-    ghost whole: { Bool };
-
     /// Reads the payload at the front into the value.
     ///
     /// # Errors
-    /// The first fault of the payload, or want of memory.
+    /// The first fault of the payload, or want of memory; the value is as it was then, and nothing is spent.
+    /// Of a message's inside any error, but a limit's only where its cost isn't left; the value is then some
+    /// value of its type.
     fn merge<B: Buf>(
         alloc: Global,
         value: &mut Self::Value,
         buf: &mut B,
         ctx: DecodeContext<'_>,
     ) -> Result<MapValueDecodeStatus, DecodeError>
-        ensures reads { GivesUnlessFull (λ s. ((Self.Value.meaning value.new, is_known s), B.unread buf.new)) result (value_at reading ctx.entry.depth (Self.Value.meaning value.old) (B.unread buf.old)) }
-        ensures err { OnErr result (IsTrue whole → Self.Value.meaning value.new ≡ Self.Value.meaning value.old) }
+        ensures ok { IfOk result (λ s. value_at reading ctx.entry.depth (Self.Value.meaning value.old) (B.unread buf.old) ≡ Ok ((Self.Value.meaning value.new, is_known s), B.unread buf.new)) }
+        ensures fault { IfErr result (λ e. e ≢ OutOfMemory → Refuses reading.nested reading ctx.entry.depth (Self.Value.meaning value.old) (B.unread buf.old) ctx.entry.budget.now e) }
+        ensures err { OnErr result (reading.nested ≡ false → Self.Value.meaning value.new ≡ Self.Value.meaning value.old) }
         ensures kept { B.kept buf.new ≡ B.kept buf.old }
-        ensures spends { left_in ctx.exit ≡ ctx.entry.budget.now };
+        ensures spends { Spends reading.nested result ctx.entry.budget.now (value_need reading ctx.entry.depth (B.unread buf.old)) (left_in ctx.exit) };
+
+    /// Plain payloads cost nothing.
+    ghost free: { reading.nested ≡ false → (d : ℕ) (c : Content) → reading.cost d c ≡ nothing };
+
+    /// No fault that the reading has is a limit's.
+    ghost no_limit: { (d : ℕ) (old : Self.Value.Meaning) (c : Content) (x : DecodeError) → reading.reads d old c ≡ Err x → IsLimit x → ⊥ };
 
     /// The reading cuts payloads of the wire type.
     ghost wire: { reading.wire ≡ WIRE_TYPE };
@@ -114,6 +122,9 @@ pub trait MapCodec: MapValueDecode {
     /// [`EncodeError::OutOfMemory`] alone, after a beginning of the payload.
     fn encode<S: EncodeSink>(value: &Self::Value, sink: &mut S) -> Result<(), EncodeError>
         ensures { Writes result (S.written sink.old) (writing.text (Self.Value.meaning value.now)) (S.written sink.new) };
+
+    /// What is written here is no message.
+    ghost plain: { Self.reading.nested ≡ false };
 
     /// Payloads are written with the wire type that they are read with.
     ghost written_wire: { writing.wire ≡ Self.WIRE_TYPE };

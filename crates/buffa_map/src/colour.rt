@@ -15,6 +15,7 @@ impl MapValueDecode for Colour {
     ghost use Rattle.std.specs.Prelude.{refl, true};
     ghost use Rattle.buffa_bytes.specs.declared.wire_type.WireType.TheVariants.{Varint};
     ghost use Rattle.buffa_map.specs.Colour.{colour_reading};
+    ghost use Rattle.buffa_map.specs.ScalarLaws.{never_faulty};
 
     type Value = u32;
 
@@ -32,8 +33,6 @@ impl MapValueDecode for Colour {
 
     ghost reading = { colour_reading };
 
-    ghost whole = { true };
-
     fn merge<B: Buf>(
         _alloc: Global,
         value: &mut u32,
@@ -48,6 +47,10 @@ impl MapValueDecode for Colour {
             Ok(MapValueDecodeStatus::Unknown)
         }
     }
+
+    ghost free = { λ _ d c. refl };
+
+    ghost no_limit = { λ d old c x h. never_faulty x h };
 
     ghost wire = { refl };
 

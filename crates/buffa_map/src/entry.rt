@@ -3,8 +3,8 @@
 ghost use Rattle.std.specs.Prelude.{◌≡◌, ◌≢◌, ◌+◌, ◌<◌, ◌≤◌, ◌++◌, ◌⊎◌, [], ℕ, List, IfErr, IfSome, OnErr, OnOk, cond};
 ghost use Rattle.buffa_bytes.specs.declared.error.DecodeError.TheVariants.{ElementMemoryLimitExceeded, OutOfMemory};
 ghost use Rattle.buffa_wire.specs.Field.{TakesDelimited};
-ghost use Rattle.buffa_wire.specs.Left.{left_in};
-ghost use Rattle.buffa_map.specs.Entry.{EntryAt, EntryFault, EntryOf};
+ghost use Rattle.buffa_wire.specs.Left.{Pays, left_in, plus, slots};
+ghost use Rattle.buffa_map.specs.Entry.{EntryFault, EntryOf, inner_need, need_of};
 ghost use Rattle.buffa_map.specs.Lent.{records_left, slot_of};
 ghost use Rattle.buffa_map.specs.Pairs.{SamePairs};
 ghost use Rattle.buffa_map.specs.Run.{kept_record, step};
@@ -50,15 +50,15 @@ pub(crate) fn merge_entry_by<
         × EntryOf KC.reading VC.reading ctx.entry.depth (B.unread buf.old) e s (B.unread buf.new)
         × SamePairs C.equal (step C.equal (C.pairs map.old) s) (C.pairs map.new)
         × (L.kept keeper.new ≡ L.kept keeper.old ++ cond s.known [] (L.adds number e))
-        × ((left_in ctx.exit).memory + (KC.COST + VC.COST) ≡ ctx.entry.budget.now.memory)
-        × ((left_in ctx.exit).unknown + cond s.known 0 L.slot ≡ ctx.entry.budget.now.unknown)) }
+        × Pays ctx.entry.budget.now (plus (need_of KC.reading VC.reading ctx.entry.depth (KC.COST + VC.COST) e) (slots (cond s.known 0 L.slot))) (left_in ctx.exit)) }
     ensures fault { IfErr result (λ f. f ≢ OutOfMemory → EntryFault KC.reading VC.reading ctx.entry.depth (KC.COST + VC.COST) L.slot ctx.entry.budget.now (B.unread buf.old) f) }
     ensures err { OnErr result ((C.pairs map.new ≡ C.pairs map.old) × (L.kept keeper.new ≡ L.kept keeper.old)) }
-    ensures spent { ((left_in ctx.exit).memory ≡ ctx.entry.budget.now.memory) ⊎ ((left_in ctx.exit).memory + (KC.COST + VC.COST) ≡ ctx.entry.budget.now.memory) }
+    ensures spent { ((left_in ctx.exit).memory ≡ ctx.entry.budget.now.memory) ⊎ (((left_in ctx.exit).memory + (KC.COST + VC.COST) ≤ ctx.entry.budget.now.memory)
+        × (ctx.entry.budget.now.memory ≤ (left_in ctx.exit).memory + (KC.COST + VC.COST + (inner_need KC.reading VC.reading ctx.entry.depth (B.unread buf.old)).memory))) }
     ensures stays_spent { IfErr result (λ f. f ≢ OutOfMemory → (e rest : List ℕ) → TakesDelimited (B.unread buf.old) e rest → KC.COST + VC.COST ≤ ctx.entry.budget.now.memory →
-        (left_in ctx.exit).memory + (KC.COST + VC.COST) ≡ ctx.entry.budget.now.memory) }
-    ensures slots { OnErr result (((left_in ctx.exit).unknown ≤ ctx.entry.budget.now.unknown) × (ctx.entry.budget.now.unknown ≤ (left_in ctx.exit).unknown + L.slot)) }
-    ensures no_slot { IfErr result (λ f. f ≢ OutOfMemory → (left_in ctx.exit).unknown ≡ ctx.entry.budget.now.unknown) }
+        (left_in ctx.exit).memory + (KC.COST + VC.COST) ≤ ctx.entry.budget.now.memory) }
+    ensures slots { OnErr result (((left_in ctx.exit).unknown ≤ ctx.entry.budget.now.unknown) × (ctx.entry.budget.now.unknown ≤ (left_in ctx.exit).unknown + (L.slot + (inner_need KC.reading VC.reading ctx.entry.depth (B.unread buf.old)).unknown))) }
+    ensures no_slot { IfErr result (λ f. f ≢ OutOfMemory → ctx.entry.budget.now.unknown ≤ (left_in ctx.exit).unknown + (inner_need KC.reading VC.reading ctx.entry.depth (B.unread buf.old)).unknown) }
     ensures kept { B.kept buf.new ≡ B.kept buf.old }
 {
     let DecodeContext { depth, budget } = ctx;
@@ -102,16 +102,17 @@ pub fn merge_entry<
     C: MapStorage<Key = KC::Value, Value = VC::Value>,
     B: Buf,
 >(alloc: Global, map: &mut C, buf: &mut B, ctx: DecodeContext<'_>) -> Result<(), DecodeError>
-    ensures ok { OnOk result ((s : Parts KC.Value.Meaning VC.Value.Meaning)
-        × EntryAt KC.reading VC.reading ctx.entry.depth (B.unread buf.old) s (B.unread buf.new)
+    ensures ok { OnOk result ((s : Parts KC.Value.Meaning VC.Value.Meaning) × (e : List ℕ)
+        × EntryOf KC.reading VC.reading ctx.entry.depth (B.unread buf.old) e s (B.unread buf.new)
         × SamePairs C.equal (step C.equal (C.pairs map.old) s) (C.pairs map.new)
-        × ((left_in ctx.exit).memory + (KC.COST + VC.COST) ≡ ctx.entry.budget.now.memory)) }
+        × Pays ctx.entry.budget.now (need_of KC.reading VC.reading ctx.entry.depth (KC.COST + VC.COST) e) (left_in ctx.exit)) }
     ensures fault { IfErr result (λ f. f ≢ OutOfMemory → EntryFault KC.reading VC.reading ctx.entry.depth (KC.COST + VC.COST) 0 ctx.entry.budget.now (B.unread buf.old) f) }
     ensures err { OnErr result (C.pairs map.new ≡ C.pairs map.old) }
-    ensures spent { ((left_in ctx.exit).memory ≡ ctx.entry.budget.now.memory) ⊎ ((left_in ctx.exit).memory + (KC.COST + VC.COST) ≡ ctx.entry.budget.now.memory) }
+    ensures spent { ((left_in ctx.exit).memory ≡ ctx.entry.budget.now.memory) ⊎ (((left_in ctx.exit).memory + (KC.COST + VC.COST) ≤ ctx.entry.budget.now.memory)
+        × (ctx.entry.budget.now.memory ≤ (left_in ctx.exit).memory + (KC.COST + VC.COST + (inner_need KC.reading VC.reading ctx.entry.depth (B.unread buf.old)).memory))) }
     ensures stays_spent { IfErr result (λ f. f ≢ OutOfMemory → (e rest : List ℕ) → TakesDelimited (B.unread buf.old) e rest → KC.COST + VC.COST ≤ ctx.entry.budget.now.memory →
-        (left_in ctx.exit).memory + (KC.COST + VC.COST) ≡ ctx.entry.budget.now.memory) }
-    ensures slots { (left_in ctx.exit).unknown ≡ ctx.entry.budget.now.unknown }
+        (left_in ctx.exit).memory + (KC.COST + VC.COST) ≤ ctx.entry.budget.now.memory) }
+    ensures slots { OnErr result (((left_in ctx.exit).unknown ≤ ctx.entry.budget.now.unknown) × (ctx.entry.budget.now.unknown ≤ (left_in ctx.exit).unknown + (inner_need KC.reading VC.reading ctx.entry.depth (B.unread buf.old)).unknown)) }
     ensures kept { B.kept buf.new ≡ B.kept buf.old }
 {
     merge_entry_by::<KC, VC, C, B, Dropped>(alloc, map, buf, ctx, 0, &mut Dropped)
@@ -149,15 +150,15 @@ pub fn merge_entry_with_unknowns<
         × EntryOf KC.reading VC.reading ctx.entry.depth (B.unread buf.old) e s (B.unread buf.new)
         × SamePairs C.equal (step C.equal (C.pairs map.old) s) (C.pairs map.new)
         × IfSome unknown.entry (λ list. records_left unknown.exit ≡ list.now.records ++ kept_record number e s.known)
-        × ((left_in ctx.exit).memory + (KC.COST + VC.COST) ≡ ctx.entry.budget.now.memory)
-        × ((left_in ctx.exit).unknown + cond s.known 0 (slot_of unknown.entry) ≡ ctx.entry.budget.now.unknown)) }
+        × Pays ctx.entry.budget.now (plus (need_of KC.reading VC.reading ctx.entry.depth (KC.COST + VC.COST) e) (slots (cond s.known 0 (slot_of unknown.entry)))) (left_in ctx.exit)) }
     ensures fault { IfErr result (λ f. f ≢ OutOfMemory → EntryFault KC.reading VC.reading ctx.entry.depth (KC.COST + VC.COST) (slot_of unknown.entry) ctx.entry.budget.now (B.unread buf.old) f) }
     ensures err { OnErr result ((C.pairs map.new ≡ C.pairs map.old) × IfSome unknown.entry (λ list. records_left unknown.exit ≡ list.now.records)) }
-    ensures spent { ((left_in ctx.exit).memory ≡ ctx.entry.budget.now.memory) ⊎ ((left_in ctx.exit).memory + (KC.COST + VC.COST) ≡ ctx.entry.budget.now.memory) }
+    ensures spent { ((left_in ctx.exit).memory ≡ ctx.entry.budget.now.memory) ⊎ (((left_in ctx.exit).memory + (KC.COST + VC.COST) ≤ ctx.entry.budget.now.memory)
+        × (ctx.entry.budget.now.memory ≤ (left_in ctx.exit).memory + (KC.COST + VC.COST + (inner_need KC.reading VC.reading ctx.entry.depth (B.unread buf.old)).memory))) }
     ensures stays_spent { IfErr result (λ f. f ≢ OutOfMemory → (e rest : List ℕ) → TakesDelimited (B.unread buf.old) e rest → KC.COST + VC.COST ≤ ctx.entry.budget.now.memory →
-        (left_in ctx.exit).memory + (KC.COST + VC.COST) ≡ ctx.entry.budget.now.memory) }
-    ensures slots { OnErr result (((left_in ctx.exit).unknown ≤ ctx.entry.budget.now.unknown) × (ctx.entry.budget.now.unknown ≤ (left_in ctx.exit).unknown + slot_of unknown.entry)) }
-    ensures no_slot { IfErr result (λ f. f ≢ OutOfMemory → (left_in ctx.exit).unknown ≡ ctx.entry.budget.now.unknown) }
+        (left_in ctx.exit).memory + (KC.COST + VC.COST) ≤ ctx.entry.budget.now.memory) }
+    ensures slots { OnErr result (((left_in ctx.exit).unknown ≤ ctx.entry.budget.now.unknown) × (ctx.entry.budget.now.unknown ≤ (left_in ctx.exit).unknown + (slot_of unknown.entry + (inner_need KC.reading VC.reading ctx.entry.depth (B.unread buf.old)).unknown))) }
+    ensures no_slot { IfErr result (λ f. f ≢ OutOfMemory → ctx.entry.budget.now.unknown ≤ (left_in ctx.exit).unknown + (inner_need KC.reading VC.reading ctx.entry.depth (B.unread buf.old)).unknown) }
     ensures kept { B.kept buf.new ≡ B.kept buf.old }
 {
     match unknown {

@@ -1,10 +1,9 @@
 //! The fields of an entry.
 
-ghost use Rattle.std.specs.Prelude.{◌≡◌, ◌≢◌, IfErr, IfOk};
+ghost use Rattle.std.specs.Prelude.{◌≡◌, ◌≢◌, ◌⊎◌, IfErr, IfOk, Ok, OnErr, OnOk};
 ghost use Rattle.buffa_bytes.specs.declared.error.DecodeError.TheVariants.{OutOfMemory};
-ghost use Rattle.buffa_wire.specs.Gives.{GivesUnlessFull};
-ghost use Rattle.buffa_wire.specs.Left.{left_in};
-ghost use Rattle.buffa_map.specs.Entry.{FaultOf, IsEntry, field_at, said};
+ghost use Rattle.buffa_wire.specs.Left.{Lacks, Pays, PaysAtMost, left_in};
+ghost use Rattle.buffa_map.specs.Entry.{FaultOf, FieldFault, IsEntry, blanks, field_at, field_need, need_at, said};
 
 use crate::codec::{MapValueDecode, MapValueDecodeStatus};
 use crate::parts::Parts;
@@ -18,9 +17,12 @@ fn merge_field<KC: MapValueDecode, VC: MapValueDecode, B: Buf>(
     buf: &mut B,
     ctx: DecodeContext<'_>,
 ) -> Result<(), DecodeError>
-    ensures reads { GivesUnlessFull (λ _. (said KC.Value.meaning VC.Value.meaning parts.new, B.unread buf.new)) result (field_at KC.reading VC.reading ctx.entry.depth (said KC.Value.meaning VC.Value.meaning parts.old) (B.unread buf.old)) }
+    ensures ok { OnOk result ((field_at KC.reading VC.reading ctx.entry.depth (said KC.Value.meaning VC.Value.meaning parts.old) (B.unread buf.old) ≡ Ok (said KC.Value.meaning VC.Value.meaning parts.new, B.unread buf.new))
+        × Pays ctx.entry.budget.now (field_need KC.reading VC.reading ctx.entry.depth (B.unread buf.old)) (left_in ctx.exit)) }
+    ensures fault { IfErr result (λ e. e ≢ OutOfMemory → Lacks ctx.entry.budget.now (field_need KC.reading VC.reading ctx.entry.depth (B.unread buf.old))
+        ⊎ FieldFault KC.reading VC.reading ctx.entry.depth (said KC.Value.meaning VC.Value.meaning parts.old) (B.unread buf.old) e) }
+    ensures err { OnErr result (PaysAtMost ctx.entry.budget.now (field_need KC.reading VC.reading ctx.entry.depth (B.unread buf.old)) (left_in ctx.exit)) }
     ensures kept { B.kept buf.new ≡ B.kept buf.old }
-    ensures spends { left_in ctx.exit ≡ ctx.entry.budget.now }
 {
     let tag = Tag::decode(buf)?;
     if tag.field_number() == 1 {
@@ -46,8 +48,9 @@ pub(crate) fn merge_fields<KC: MapValueDecode, VC: MapValueDecode>(
     ctx: DecodeContext<'_>,
 ) -> Result<Parts<KC::Value, VC::Value>, DecodeError>
     ensures entry { IfOk result (λ parts. IsEntry KC.reading VC.reading ctx.entry.depth bytes.now (said KC.Value.meaning VC.Value.meaning parts)) }
-    ensures fault { IfErr result (λ e. e ≢ OutOfMemory → FaultOf KC.reading VC.reading ctx.entry.depth bytes.now e) }
-    ensures spends { left_in ctx.exit ≡ ctx.entry.budget.now }
+    ensures fault { IfErr result (λ e. e ≢ OutOfMemory → Lacks ctx.entry.budget.now (need_at KC.reading VC.reading ctx.entry.depth (blanks KC.reading VC.reading ctx.entry.depth) bytes.now) ⊎ FaultOf KC.reading VC.reading ctx.entry.depth bytes.now e) }
+    ensures pays { OnOk result (Pays ctx.entry.budget.now (need_at KC.reading VC.reading ctx.entry.depth (blanks KC.reading VC.reading ctx.entry.depth) bytes.now) (left_in ctx.exit)) }
+    ensures err { OnErr result (PaysAtMost ctx.entry.budget.now (need_at KC.reading VC.reading ctx.entry.depth (blanks KC.reading VC.reading ctx.entry.depth) bytes.now) (left_in ctx.exit)) }
 {
     let mut parts = Parts {
         key: <KC::Value as Blank>::blank(alloc),

@@ -1,34 +1,54 @@
 //! What the definitions say together: each law is a function with nothing to do, whose contract is the law.
 
-ghost use Rattle.std.specs.Prelude.{◌≡◌, ◌+◌, ◌*◌, ◌++◌, ◌↔◌, ℕ, List, [], length, Ok, Err};
+ghost use Rattle.std.specs.Prelude.{◌≡◌, ◌+◌, ◌*◌, ◌++◌, ◌↔◌, ℕ, List, [], false, length, Ok, Err};
 ghost use Rattle.std.specs.List.{IsDistinct};
 ghost use Rattle.std.specs.Map.{keys_of};
 ghost use Rattle.buffa_bytes.specs.declared.error.DecodeError.{DecodeError};
 ghost use Rattle.buffa_bytes.specs.declared.wire_type.WireType.TheVariants.{LengthDelimited};
+ghost use Rattle.buffa_wire.specs.Field.{TakesDelimited};
+ghost use Rattle.buffa_wire.specs.Message.{IsLimit};
 ghost use Rattle.buffa_wire.specs.Number.{IsNumber};
 ghost use Rattle.buffa_wire.specs.Values.{tag_text};
-ghost use Rattle.buffa_wire.specs.Left.{Left};
-ghost use Rattle.buffa_map.specs.Entry.{FaultOf, IsEntry, entry_of};
-ghost use Rattle.buffa_map.specs.Run.{Fold, Kept, Paid, Run, RunFault, Said, run_of};
+ghost use Rattle.buffa_wire.specs.Left.{Lacks, Left, nothing, plus, slots, units};
+ghost use Rattle.buffa_map.specs.Entry.{EntryFault, FaultOf, IsEntry, entry_of, inner_need, need_of};
+ghost use Rattle.buffa_map.specs.Run.{Fold, Kept, Paid, Run, RunFault, Said, inner_needs, record_need, run_of};
 ghost use Rattle.buffa_map.specs.Text.{AllHold, HasText, field_size, field_text};
 ghost use Rattle.buffa_map.specs.declared.parts.Parts.{Parts};
 
 use crate::codec::{MapCodec, MapValueDecode};
 use crate::storage::MapStorage;
 
-/// A whole entry is read exactly where the grammar has it, and a fault is told exactly where the grammar
-/// has it; what is read and which fault it is are each one.
+/// A whole entry is read exactly where the grammar has it, and a fault is told only where the grammar has
+/// one; where no payload is a message, which fault it is is one too.
 pub fn entries_are_read<KC: MapValueDecode, VC: MapValueDecode>()
     ensures ok { (d : ℕ) (e : List ℕ) (s : Parts KC.Value.Meaning VC.Value.Meaning) → (entry_of KC.reading VC.reading d e ≡ Ok s) ↔ IsEntry KC.reading VC.reading d e s }
-    ensures err { (d : ℕ) (e : List ℕ) (f : DecodeError) → (entry_of KC.reading VC.reading d e ≡ Err f) ↔ FaultOf KC.reading VC.reading d e f }
+    ensures err { KC.reading.nested ≡ false → VC.reading.nested ≡ false → (d : ℕ) (e : List ℕ) (f : DecodeError) → (entry_of KC.reading VC.reading d e ≡ Err f) ↔ FaultOf KC.reading VC.reading d e f }
+    ensures refused { (d : ℕ) (e : List ℕ) (f : DecodeError) → FaultOf KC.reading VC.reading d e f → (x : DecodeError) × (entry_of KC.reading VC.reading d e ≡ Err x) }
 {}
 
 /// The same of a whole run of records, where some units and slots are left, each entry costs units of
-/// element memory, and each one that isn't declared slots: what is read is the entries, and what is over.
+/// element memory and what the messages in it cost, and each one that isn't declared slots: what is read is
+/// the entries, and what is over.
 pub fn runs_are_read<KC: MapValueDecode, VC: MapValueDecode>()
     ensures ok { (d n cost slot : ℕ) (left : Left) (bs : List ℕ) (es : List (Said KC.Value.Meaning VC.Value.Meaning)) (over : Left) →
-        (run_of KC.reading VC.reading d n cost slot left bs ≡ Ok (es, over)) ↔ (Run KC.reading VC.reading d n bs es × Paid cost slot left es over) }
-    ensures err { (d n cost slot : ℕ) (left : Left) (bs : List ℕ) (f : DecodeError) → (run_of KC.reading VC.reading d n cost slot left bs ≡ Err f) ↔ RunFault KC.reading VC.reading d n cost slot left bs f }
+        (run_of KC.reading VC.reading d n cost slot left bs ≡ Ok (es, over)) ↔ (Run KC.reading VC.reading d n bs es × Paid KC.reading VC.reading d cost slot left es over) }
+    ensures err { KC.reading.nested ≡ false → VC.reading.nested ≡ false → (d n cost slot : ℕ) (left : Left) (bs : List ℕ) (f : DecodeError) → (run_of KC.reading VC.reading d n cost slot left bs ≡ Err f) ↔ RunFault KC.reading VC.reading d n cost slot left bs f }
+    ensures refused { (d n cost slot : ℕ) (left : Left) (bs : List ℕ) (f : DecodeError) → RunFault KC.reading VC.reading d n cost slot left bs f → (x : DecodeError) × (run_of KC.reading VC.reading d n cost slot left bs ≡ Err x) }
+{}
+
+/// Where no payload is a message, an entry needs its units and nothing more.
+pub fn plain_entries_need_units<KC: MapValueDecode, VC: MapValueDecode>()
+    ensures entry { KC.reading.nested ≡ false → VC.reading.nested ≡ false → (d cost : ℕ) (e : List ℕ) → need_of KC.reading VC.reading d cost e ≡ units cost }
+    ensures front { KC.reading.nested ≡ false → VC.reading.nested ≡ false → (d : ℕ) (bs : List ℕ) → inner_need KC.reading VC.reading d bs ≡ nothing }
+    ensures record { KC.reading.nested ≡ false → VC.reading.nested ≡ false → (d : ℕ) (bs : List ℕ) → record_need KC.reading VC.reading d bs ≡ nothing }
+    ensures run { KC.reading.nested ≡ false → VC.reading.nested ≡ false → (d : ℕ) (es : List (Said KC.Value.Meaning VC.Value.Meaning)) → inner_needs KC.reading VC.reading d es ≡ nothing }
+{}
+
+/// A budget's error is told of an entry only where what it needs isn't left: its units, what the messages in
+/// it cost, and the slot where it is kept.
+pub fn limits_are_told_where_needs_are_not_left<KC: MapValueDecode, VC: MapValueDecode>()
+    ensures { (d cost slot : ℕ) (left : Left) (bs : List ℕ) (f : DecodeError) → EntryFault KC.reading VC.reading d cost slot left bs f → IsLimit f →
+        (e : List ℕ) × (rest : List ℕ) × TakesDelimited bs e rest × Lacks left (plus (need_of KC.reading VC.reading d cost e) (slots slot)) }
 {}
 
 /// Bytes are an entry, or a run, in one way only, and not while they have a fault.
@@ -38,7 +58,7 @@ pub fn one_reading<KC: MapValueDecode, VC: MapValueDecode>()
     ensures run { (d n : ℕ) (bs : List ℕ) (es fs : List (Said KC.Value.Meaning VC.Value.Meaning)) → Run KC.reading VC.reading d n bs es → Run KC.reading VC.reading d n bs fs → es ≡ fs }
     // A run whose charges are met has no fault.
     ensures run_or_fault { (d n cost slot : ℕ) (left over : Left) (bs : List ℕ) (es : List (Said KC.Value.Meaning VC.Value.Meaning)) (f : DecodeError) →
-        Run KC.reading VC.reading d n bs es → Paid cost slot left es over → RunFault KC.reading VC.reading d n cost slot left bs f → ⊥ }
+        Run KC.reading VC.reading d n bs es → Paid KC.reading VC.reading d cost slot left es over → RunFault KC.reading VC.reading d n cost slot left bs f → ⊥ }
 {}
 
 /// Two runs, one after the other, are a run of the entries of both; it means what the second one makes of

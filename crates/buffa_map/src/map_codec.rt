@@ -11,6 +11,7 @@
 pub use crate::codec::{MapCodec, MapValueDecode, MapValueDecodeStatus};
 pub use crate::entry::{merge_entry, merge_entry_with_unknowns};
 pub use crate::indexed::Map;
+pub use crate::message::Msg;
 pub use crate::run::read_map_field;
 pub use crate::scalars::{
     Bool, BytesBuf, BytesVec, Fixed32, Fixed64, Int32, Int64, ProtoBytesMap, ProtoStringMap,

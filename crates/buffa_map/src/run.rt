@@ -5,7 +5,7 @@ ghost use Rattle.buffa_bytes.specs.declared.error.DecodeError.TheVariants.{OutOf
 ghost use Rattle.buffa_wire.specs.Left.{Left, left_in};
 ghost use Rattle.buffa_map.specs.Lent.{records_left, slot_of};
 ghost use Rattle.buffa_map.specs.Pairs.{SamePairs};
-ghost use Rattle.buffa_map.specs.Run.{Fold, Paid, RecordFault, Run, RunBegins, Said, added, kept_records};
+ghost use Rattle.buffa_map.specs.Run.{Fold, Paid, RecordFault, Run, RunBegins, Said, added, kept_records, record_need};
 
 use crate::codec::{MapCodec, MapValueDecode};
 use crate::entry::merge_entry_by;
@@ -33,15 +33,15 @@ pub(crate) fn read_run_by<
         × Run KC.reading VC.reading ctx.entry.depth number (B.unread buf.old) es
         × SamePairs C.equal (Fold C.equal (C.pairs map.old) es) (C.pairs map.new)
         × (L.kept keeper.new ≡ L.kept keeper.old ++ added L.adds number es)
-        × Paid (KC.COST + VC.COST) L.slot ctx.entry.budget.now es (left_in ctx.exit)
+        × Paid KC.reading VC.reading ctx.entry.depth (KC.COST + VC.COST) L.slot ctx.entry.budget.now es (left_in ctx.exit)
         × (B.unread buf.new ≡ [])) }
     ensures fault { IfErr result (λ f. (es : List (Said KC.Value.Meaning VC.Value.Meaning)) × (rest : List ℕ) × (over : Left)
         × RunBegins KC.reading VC.reading ctx.entry.depth number (KC.COST + VC.COST) L.slot ctx.entry.budget.now (B.unread buf.old) es rest over
         × SamePairs C.equal (Fold C.equal (C.pairs map.old) es) (C.pairs map.new)
         × (L.kept keeper.new ≡ L.kept keeper.old ++ added L.adds number es)
         × ((left_in ctx.exit).memory ≤ over.memory) × ((left_in ctx.exit).unknown ≤ over.unknown)
-        × (over.memory ≤ (left_in ctx.exit).memory + (KC.COST + VC.COST)) × (over.unknown ≤ (left_in ctx.exit).unknown + L.slot)
-        × (f ≢ OutOfMemory → (rest ≢ []) × RecordFault KC.reading VC.reading ctx.entry.depth number (KC.COST + VC.COST) L.slot over rest f × ((left_in ctx.exit).unknown ≡ over.unknown))) }
+        × (over.memory ≤ (left_in ctx.exit).memory + (KC.COST + VC.COST + (record_need KC.reading VC.reading ctx.entry.depth rest).memory)) × (over.unknown ≤ (left_in ctx.exit).unknown + (L.slot + (record_need KC.reading VC.reading ctx.entry.depth rest).unknown))
+        × (f ≢ OutOfMemory → (rest ≢ []) × RecordFault KC.reading VC.reading ctx.entry.depth number (KC.COST + VC.COST) L.slot over rest f × (over.unknown ≤ (left_in ctx.exit).unknown + (record_need KC.reading VC.reading ctx.entry.depth rest).unknown))) }
     ensures kept { B.kept buf.new ≡ B.kept buf.old }
 {
     let DecodeContext { depth, budget } = ctx;
@@ -93,15 +93,15 @@ pub fn read_map_field<
         × Run KC.reading VC.reading ctx.entry.depth number (B.unread buf.old) es
         × SamePairs C.equal (Fold C.equal (C.pairs map.old) es) (C.pairs map.new)
         × IfSome unknown.entry (λ list. records_left unknown.exit ≡ list.now.records ++ kept_records number es)
-        × Paid (KC.COST + VC.COST) (slot_of unknown.entry) ctx.entry.budget.now es (left_in ctx.exit)
+        × Paid KC.reading VC.reading ctx.entry.depth (KC.COST + VC.COST) (slot_of unknown.entry) ctx.entry.budget.now es (left_in ctx.exit)
         × (B.unread buf.new ≡ [])) }
     ensures fault { IfErr result (λ f. (es : List (Said KC.Value.Meaning VC.Value.Meaning)) × (rest : List ℕ) × (over : Left)
         × RunBegins KC.reading VC.reading ctx.entry.depth number (KC.COST + VC.COST) (slot_of unknown.entry) ctx.entry.budget.now (B.unread buf.old) es rest over
         × SamePairs C.equal (Fold C.equal (C.pairs map.old) es) (C.pairs map.new)
         × IfSome unknown.entry (λ list. records_left unknown.exit ≡ list.now.records ++ kept_records number es)
         × ((left_in ctx.exit).memory ≤ over.memory) × ((left_in ctx.exit).unknown ≤ over.unknown)
-        × (over.memory ≤ (left_in ctx.exit).memory + (KC.COST + VC.COST)) × (over.unknown ≤ (left_in ctx.exit).unknown + slot_of unknown.entry)
-        × (f ≢ OutOfMemory → (rest ≢ []) × RecordFault KC.reading VC.reading ctx.entry.depth number (KC.COST + VC.COST) (slot_of unknown.entry) over rest f × ((left_in ctx.exit).unknown ≡ over.unknown))) }
+        × (over.memory ≤ (left_in ctx.exit).memory + (KC.COST + VC.COST + (record_need KC.reading VC.reading ctx.entry.depth rest).memory)) × (over.unknown ≤ (left_in ctx.exit).unknown + (slot_of unknown.entry + (record_need KC.reading VC.reading ctx.entry.depth rest).unknown))
+        × (f ≢ OutOfMemory → (rest ≢ []) × RecordFault KC.reading VC.reading ctx.entry.depth number (KC.COST + VC.COST) (slot_of unknown.entry) over rest f × (over.unknown ≤ (left_in ctx.exit).unknown + (record_need KC.reading VC.reading ctx.entry.depth rest).unknown))) }
     ensures kept { B.kept buf.new ≡ B.kept buf.old }
 {
     match unknown {

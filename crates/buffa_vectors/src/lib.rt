@@ -10,11 +10,14 @@ mod codecs;
 mod cuts;
 #[cfg(test)]
 mod fields;
+pub mod flat;
 #[cfg(test)]
 mod guide;
 #[cfg(test)]
 mod maps;
 #[cfg(test)]
 mod maps_table;
+#[cfg(test)]
+mod messages;
 pub mod round_trip;
 pub mod word;

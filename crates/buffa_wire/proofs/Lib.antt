@@ -4,3 +4,4 @@ pub mod ReadLemmas
 pub mod LoopLemmas
 pub mod ParseLemmas
 pub mod JoinLemmas
+pub mod MessageLemmas

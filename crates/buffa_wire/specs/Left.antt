@@ -1,11 +1,41 @@
 -- What is left of a budget.
-use Rattle.std.specs.Prelude.{ℕ}
+use Rattle.std.specs.Prelude.{◌≡◌, ℕ, ◌+◌, ◌<◌, ◌≤◌, ◌⊎◌}
 use denote.Ref.{MutBor}
 
 -- slots for unknown fields, and units of element memory
 pub record Left : Type 0 where
   pub unknown : ℕ
   pub memory : ℕ
+
+-- no slot and no unit
+abbrev pub nothing : Left
+nothing = record { unknown = 0; memory = 0 }
+
+-- no slot, and so many units
+abbrev pub units : ℕ → Left
+units n = record { unknown = 0; memory = n }
+
+-- so many slots, and no unit
+abbrev pub slots : ℕ → Left
+slots n = record { unknown = n; memory = 0 }
+
+-- both together
+abbrev pub plus : Left → Left → Left
+plus a b = record { unknown = a.unknown + b.unknown; memory = a.memory + b.memory }
+
+-- of left, need can't be spent
+abbrev pub Lacks : Left → Left → Type 0
+Lacks left need = (left.unknown < need.unknown) ⊎ (left.memory < need.memory)
+
+-- of left, need is spent, and over is over
+abbrev pub Pays : Left → Left → Left → Type 0
+Pays left need over = (over.unknown + need.unknown ≡ left.unknown) × (over.memory + need.memory ≡ left.memory)
+
+-- of left, at most need is spent, and over is over
+abbrev pub PaysAtMost : Left → Left → Left → Type 0
+PaysAtMost left need over =
+    (over.unknown ≤ left.unknown) × (left.unknown ≤ over.unknown + need.unknown)
+    × (over.memory ≤ left.memory) × (left.memory ≤ over.memory + need.memory)
 
 -- what a call that took a context left in the budget that was lent with it
 abbrev pub left_in : {D X : Type 0} → D × (MutBor X × Unit {0}) → X

@@ -1,4 +1,5 @@
 pub mod Left
+pub mod Message
 pub mod Records
 pub mod Code
 pub mod View

@@ -7,6 +7,7 @@
 pub mod budget;
 pub mod context;
 pub mod laws;
+pub mod message;
 #[cfg(test)]
 mod tests;
 pub mod unknown_fields;
@@ -18,5 +19,6 @@ pub use buffa_bytes::{
     decode_varint, encode_varint, skip_field_depth, types, varint_len,
 };
 pub use context::{DecodeContext, RECURSION_LIMIT};
+pub use message::{Message, MessageSpec};
 pub use unknown_fields::read::decode_unknown_field;
 pub use unknown_fields::{UnknownField, UnknownFieldData, UnknownFields};

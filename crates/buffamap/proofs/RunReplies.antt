@@ -1,5 +1,5 @@
 -- What a run into an empty map gives, as the reading of the run.
-use Rattle.std.proofs.Common.{◌≡◌, ◌≢◌, ℕ, ℤ, List, [], Result, Ok, Err, subst}
+use Rattle.std.proofs.Common.{◌≡◌, ◌≢◌, ℕ, ℤ, List, [], Result, Ok, Err, refl, sym, ap, ◌∙◌, subst}
 use Rattle.std.specs.Prelude.{IfErr, OnOk, nat_eq}
 use Rattle.std.specs.Cmp.Lexicographic.{pointwise}
 use Rattle.std.proofs.lemmas.Result.{on_ok_weaker}
@@ -18,20 +18,22 @@ abbrev Entries : Type 0
 Entries = List (Said (List ℕ) ℤ)
 
 pub ran : {X : Type 0} (r : Result X DecodeError) (d n : ℕ) (left over : Left) (bs rest : List ℕ) (old new : List Pair) → d ≡ 100 → left ≡ default_left → old ≡ [] →
-    OnOk r ((es : Entries) × Run string_reading int32_reading d n bs es × SamePairs (pointwise nat_eq) (Fold (pointwise nat_eq) old es) new × Unit {0} × Paid 28 0 left es over × (rest ≡ [])) →
+    OnOk r ((es : Entries) × Run string_reading int32_reading d n bs es × SamePairs (pointwise nat_eq) (Fold (pointwise nat_eq) old es) new × Unit {0} × Paid string_reading int32_reading d 28 0 left es over × (rest ≡ [])) →
     OnOk r ((es : Entries) × (over : Left) × (run_of string_reading int32_reading 100 n 28 0 default_left bs ≡ Ok (es, over)) × SamePairs (pointwise nat_eq) (Fold (pointwise nat_eq) [] es) new)
 ran r d n left over bs rest old new is_d is_left is_old h = on_ok_weaker r (λ k. (
   k.0,
   over,
-  run_complete string_reading int32_reading 100 n 28 0 default_left bs k.0 over (subst (λ z. Run string_reading int32_reading z n bs k.0) is_d k.1) (subst (λ z. Paid 28 0 z k.0 over) is_left k.4),
+  run_complete string_reading int32_reading 100 n 28 0 (λ _ d c. refl) (λ _ d c. refl) default_left bs k.0 over (subst (λ z. Run string_reading int32_reading z n bs k.0) is_d k.1)
+      (subst (λ z. Paid string_reading int32_reading z 28 0 default_left k.0 over) is_d (subst (λ z. Paid string_reading int32_reading d 28 0 z k.0 over) is_left k.4)),
   subst (λ z. SamePairs (pointwise nat_eq) (Fold (pointwise nat_eq) z k.0) new) is_old k.2,
 )) h
 
-pub stopped : {X : Type 0} (r : Result X DecodeError) (d n : ℕ) (left : Left) (bs : List ℕ) (S : Entries → Type 0) (A B C D : Left → Type 0) (u : ℕ) → d ≡ 100 → left ≡ default_left →
-    IfErr r (λ f. (es : Entries) × (rest : List ℕ) × (over : Left) × RunBegins string_reading int32_reading d n 28 0 left bs es rest over × S es × Unit {0} × A over × B over × C over × D over
-    × (f ≢ OutOfMemory → (rest ≢ []) × RecordFault string_reading int32_reading d n 28 0 over rest f × (u ≡ over.unknown))) →
+pub stopped : {X : Type 0} (r : Result X DecodeError) (d n : ℕ) (left : Left) (bs : List ℕ) (S : Entries → Type 0) (A B : Left → Type 0) (C D E : Left → List ℕ → Type 0) → d ≡ 100 → left ≡ default_left →
+    IfErr r (λ f. (es : Entries) × (rest : List ℕ) × (over : Left) × RunBegins string_reading int32_reading d n 28 0 left bs es rest over × S es × Unit {0} × A over × B over × C over rest × D over rest
+    × (f ≢ OutOfMemory → (rest ≢ []) × RecordFault string_reading int32_reading d n 28 0 over rest f × E over rest)) →
     IfErr r (λ f. f ≢ OutOfMemory → run_of string_reading int32_reading 100 n 28 0 default_left bs ≡ Err f)
-stopped r d n left bs S A B C D u is_d is_left h =
+stopped r d n left bs S A B C D E is_d is_left h =
     IfErr-map r (λ f k ne.
-    (let all : run_of string_reading int32_reading d n 28 0 left bs ≡ Err f = run_faulty string_reading int32_reading d n 28 0 left bs f (k.0, k.1, k.2, k.3, (k.10 ne).0, (k.10 ne).1) in
+    (let q = run_faulty string_reading int32_reading d n 28 0 (λ _ d c. refl) (λ _ d c. refl) left bs f (k.0, k.1, k.2, k.3, (k.10 ne).0, (k.10 ne).1) in
+    let all : run_of string_reading int32_reading d n 28 0 left bs ≡ Err f = q.1 ∙ ap (λ z. Err z) (sym (q.2 (refl, refl))) in
     subst (λ z. run_of string_reading int32_reading z n 28 0 default_left bs ≡ Err f) is_d (subst (λ z. run_of string_reading int32_reading d n 28 0 z bs ≡ Err f) is_left all))) h

@@ -3,7 +3,7 @@
 ghost use Rattle.std.specs.Prelude.{◌≡◌, [], None, false, refl, true};
 ghost use Rattle.buffa_bytes.specs.declared.wire_type.WireType.TheVariants.{LengthDelimited};
 ghost use Rattle.buffa_map.specs.Scalars.{IsLengthy, IsText, bytes_reading, delimited_writing, string_reading};
-ghost use Rattle.buffa_map.specs.ScalarLaws.{always_known, bytes_read_back, no_fixed_length, string_known, string_reads_back};
+ghost use Rattle.buffa_map.specs.ScalarLaws.{always_known, bytes_read_back, never_faulty, no_fixed_length, string_known, string_no_limit, string_reads_back};
 
 use crate::codec::sealed::Sealed;
 use crate::codec::{MapCodec, MapValueDecode, MapValueDecodeStatus};
@@ -43,8 +43,6 @@ impl MapValueDecode for Str {
 
     ghost reading = { string_reading [] (λ text. text) };
 
-    ghost whole = { true };
-
     fn merge<B: Buf>(
         alloc: Global,
         value: &mut String,
@@ -54,6 +52,10 @@ impl MapValueDecode for Str {
         *value = decode_string(alloc, buf)?;
         Ok(MapValueDecodeStatus::Known)
     }
+
+    ghost free = { λ _ d c. refl };
+
+    ghost no_limit = { λ d old c x h. string_no_limit (λ text. text) c x h };
 
     ghost wire = { refl };
 
@@ -80,6 +82,8 @@ impl MapCodec for Str {
     fn encode<S: EncodeSink>(value: &String, sink: &mut S) -> Result<(), EncodeError> {
         encode_string(value.as_str(), sink)
     }
+
+    ghost plain = { refl };
 
     ghost written_wire = { refl };
 
@@ -116,8 +120,6 @@ impl<T: ProtoString> MapValueDecode for ProtoStringMap<T> {
 
     ghost reading = { string_reading T.blank_is T.of_text };
 
-    ghost whole = { true };
-
     fn merge<B: Buf>(
         alloc: Global,
         value: &mut T,
@@ -127,6 +129,10 @@ impl<T: ProtoString> MapValueDecode for ProtoStringMap<T> {
         *value = decode_string_to(alloc, buf)?;
         Ok(MapValueDecodeStatus::Known)
     }
+
+    ghost free = { λ _ d c. refl };
+
+    ghost no_limit = { λ d old c x h. string_no_limit T.of_text c x h };
 
     ghost wire = { refl };
 
@@ -153,6 +159,8 @@ impl<T: ProtoString> MapCodec for ProtoStringMap<T> {
     fn encode<S: EncodeSink>(value: &T, sink: &mut S) -> Result<(), EncodeError> {
         encode_string(T::as_str(value), sink)
     }
+
+    ghost plain = { refl };
 
     ghost written_wire = { refl };
 
@@ -187,8 +195,6 @@ impl MapValueDecode for BytesVec {
 
     ghost reading = { bytes_reading [] (λ bytes. bytes) };
 
-    ghost whole = { true };
-
     fn merge<B: Buf>(
         alloc: Global,
         value: &mut Vec<u8>,
@@ -198,6 +204,10 @@ impl MapValueDecode for BytesVec {
         *value = decode_bytes(alloc, buf)?;
         Ok(MapValueDecodeStatus::Known)
     }
+
+    ghost free = { λ _ d c. refl };
+
+    ghost no_limit = { λ d old c x h. never_faulty x h };
 
     ghost wire = { refl };
 
@@ -224,6 +234,8 @@ impl MapCodec for BytesVec {
     fn encode<S: EncodeSink>(value: &Vec<u8>, sink: &mut S) -> Result<(), EncodeError> {
         encode_bytes(value.as_slice(), sink)
     }
+
+    ghost plain = { refl };
 
     ghost written_wire = { refl };
 
@@ -258,8 +270,6 @@ impl MapValueDecode for BytesBuf {
 
     ghost reading = { bytes_reading [] (λ bytes. bytes) };
 
-    ghost whole = { true };
-
     fn merge<B: Buf>(
         alloc: Global,
         value: &mut Bytes,
@@ -269,6 +279,10 @@ impl MapValueDecode for BytesBuf {
         *value = decode_bytes_to_bytes(alloc, buf)?;
         Ok(MapValueDecodeStatus::Known)
     }
+
+    ghost free = { λ _ d c. refl };
+
+    ghost no_limit = { λ d old c x h. never_faulty x h };
 
     ghost wire = { refl };
 
@@ -295,6 +309,8 @@ impl MapCodec for BytesBuf {
     fn encode<S: EncodeSink>(value: &Bytes, sink: &mut S) -> Result<(), EncodeError> {
         encode_bytes(Bytes::as_slice(value), sink)
     }
+
+    ghost plain = { refl };
 
     ghost written_wire = { refl };
 
@@ -331,8 +347,6 @@ impl<T: ProtoBytes> MapValueDecode for ProtoBytesMap<T> {
 
     ghost reading = { bytes_reading T.blank_is T.of_bytes };
 
-    ghost whole = { true };
-
     fn merge<B: Buf>(
         alloc: Global,
         value: &mut T,
@@ -342,6 +356,10 @@ impl<T: ProtoBytes> MapValueDecode for ProtoBytesMap<T> {
         *value = decode_bytes_to(alloc, buf)?;
         Ok(MapValueDecodeStatus::Known)
     }
+
+    ghost free = { λ _ d c. refl };
+
+    ghost no_limit = { λ d old c x h. never_faulty x h };
 
     ghost wire = { refl };
 
@@ -368,6 +386,8 @@ impl<T: ProtoBytes> MapCodec for ProtoBytesMap<T> {
     fn encode<S: EncodeSink>(value: &T, sink: &mut S) -> Result<(), EncodeError> {
         encode_bytes(T::as_bytes(value), sink)
     }
+
+    ghost plain = { refl };
 
     ghost written_wire = { refl };
 

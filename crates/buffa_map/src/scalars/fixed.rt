@@ -4,7 +4,7 @@ ghost use Rattle.std.specs.Prelude.{◌≡◌, ◌<◌, ◌^◌, Some, false, re
 ghost use Rattle.buffa_bytes.specs.Scalars.{fixed32_of, fixed64_of};
 ghost use Rattle.buffa_bytes.specs.declared.wire_type.WireType.TheVariants.{Fixed32, Fixed64};
 ghost use Rattle.buffa_map.specs.Scalars.{eight_writing, four_writing, number_reading};
-ghost use Rattle.buffa_map.specs.ScalarLaws.{always_known, eight_reads_back, four_reads_back, one_length};
+ghost use Rattle.buffa_map.specs.ScalarLaws.{always_known, eight_reads_back, four_reads_back, never_faulty, one_length};
 
 use crate::codec::sealed::Sealed;
 use crate::codec::{MapCodec, MapValueDecode, MapValueDecodeStatus};
@@ -41,8 +41,6 @@ impl MapValueDecode for Fixed32 {
 
     ghost reading = { number_reading Fixed32 0 fixed32_of };
 
-    ghost whole = { true };
-
     fn merge<B: Buf>(
         _alloc: Global,
         value: &mut u32,
@@ -52,6 +50,10 @@ impl MapValueDecode for Fixed32 {
         *value = decode_fixed32(buf)?;
         Ok(MapValueDecodeStatus::Known)
     }
+
+    ghost free = { λ _ d c. refl };
+
+    ghost no_limit = { λ d old c x h. never_faulty x h };
 
     ghost wire = { refl };
 
@@ -80,6 +82,8 @@ impl MapCodec for Fixed32 {
     fn encode<S: EncodeSink>(value: &u32, sink: &mut S) -> Result<(), EncodeError> {
         encode_fixed32(*value, sink)
     }
+
+    ghost plain = { refl };
 
     ghost written_wire = { refl };
 
@@ -114,8 +118,6 @@ impl MapValueDecode for Fixed64 {
 
     ghost reading = { number_reading Fixed64 0 fixed64_of };
 
-    ghost whole = { true };
-
     fn merge<B: Buf>(
         _alloc: Global,
         value: &mut u64,
@@ -125,6 +127,10 @@ impl MapValueDecode for Fixed64 {
         *value = decode_fixed64(buf)?;
         Ok(MapValueDecodeStatus::Known)
     }
+
+    ghost free = { λ _ d c. refl };
+
+    ghost no_limit = { λ d old c x h. never_faulty x h };
 
     ghost wire = { refl };
 
@@ -153,6 +159,8 @@ impl MapCodec for Fixed64 {
     fn encode<S: EncodeSink>(value: &u64, sink: &mut S) -> Result<(), EncodeError> {
         encode_fixed64(*value, sink)
     }
+
+    ghost plain = { refl };
 
     ghost written_wire = { refl };
 

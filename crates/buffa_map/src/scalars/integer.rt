@@ -7,7 +7,7 @@ ghost use Rattle.buffa_bytes.specs.declared.wire_type.WireType.TheVariants.{Vari
 ghost use Rattle.buffa_bytes.proofs.IntLemmas.{int32_below, int32_means};
 ghost use Rattle.buffa_bytes.proofs.ScalarLemmas.{bool_fits, bool_length, bool_means, int64_means, uint32_means, unsigned64_fits};
 ghost use Rattle.buffa_map.specs.Scalars.{number_reading, varint_writing};
-ghost use Rattle.buffa_map.specs.ScalarLaws.{always_known, below_64, no_fixed_length, one_length, varint_reads_back};
+ghost use Rattle.buffa_map.specs.ScalarLaws.{always_known, below_64, never_faulty, no_fixed_length, one_length, varint_reads_back};
 
 use crate::codec::sealed::Sealed;
 use crate::codec::{MapCodec, MapValueDecode, MapValueDecodeStatus};
@@ -45,8 +45,6 @@ impl MapValueDecode for Int32 {
 
     ghost reading = { number_reading Varint (pos 0) int32_of };
 
-    ghost whole = { true };
-
     fn merge<B: Buf>(
         _alloc: Global,
         value: &mut i32,
@@ -56,6 +54,10 @@ impl MapValueDecode for Int32 {
         *value = decode_int32(buf)?;
         Ok(MapValueDecodeStatus::Known)
     }
+
+    ghost free = { λ _ d c. refl };
+
+    ghost no_limit = { λ d old c x h. never_faulty x h };
 
     ghost wire = { refl };
 
@@ -82,6 +84,8 @@ impl MapCodec for Int32 {
     fn encode<S: EncodeSink>(value: &i32, sink: &mut S) -> Result<(), EncodeError> {
         encode_int32(*value, sink)
     }
+
+    ghost plain = { refl };
 
     ghost written_wire = { refl };
 
@@ -116,8 +120,6 @@ impl MapValueDecode for Int64 {
 
     ghost reading = { number_reading Varint (pos 0) int64_of };
 
-    ghost whole = { true };
-
     fn merge<B: Buf>(
         _alloc: Global,
         value: &mut i64,
@@ -127,6 +129,10 @@ impl MapValueDecode for Int64 {
         *value = decode_int64(buf)?;
         Ok(MapValueDecodeStatus::Known)
     }
+
+    ghost free = { λ _ d c. refl };
+
+    ghost no_limit = { λ d old c x h. never_faulty x h };
 
     ghost wire = { refl };
 
@@ -153,6 +159,8 @@ impl MapCodec for Int64 {
     fn encode<S: EncodeSink>(value: &i64, sink: &mut S) -> Result<(), EncodeError> {
         encode_int64(*value, sink)
     }
+
+    ghost plain = { refl };
 
     ghost written_wire = { refl };
 
@@ -187,8 +195,6 @@ impl MapValueDecode for Uint32 {
 
     ghost reading = { number_reading Varint 0 uint32_of };
 
-    ghost whole = { true };
-
     fn merge<B: Buf>(
         _alloc: Global,
         value: &mut u32,
@@ -198,6 +204,10 @@ impl MapValueDecode for Uint32 {
         *value = decode_uint32(buf)?;
         Ok(MapValueDecodeStatus::Known)
     }
+
+    ghost free = { λ _ d c. refl };
+
+    ghost no_limit = { λ d old c x h. never_faulty x h };
 
     ghost wire = { refl };
 
@@ -224,6 +234,8 @@ impl MapCodec for Uint32 {
     fn encode<S: EncodeSink>(value: &u32, sink: &mut S) -> Result<(), EncodeError> {
         encode_uint32(*value, sink)
     }
+
+    ghost plain = { refl };
 
     ghost written_wire = { refl };
 
@@ -258,8 +270,6 @@ impl MapValueDecode for Uint64 {
 
     ghost reading = { number_reading Varint 0 uint64_of };
 
-    ghost whole = { true };
-
     fn merge<B: Buf>(
         _alloc: Global,
         value: &mut u64,
@@ -269,6 +279,10 @@ impl MapValueDecode for Uint64 {
         *value = decode_uint64(buf)?;
         Ok(MapValueDecodeStatus::Known)
     }
+
+    ghost free = { λ _ d c. refl };
+
+    ghost no_limit = { λ d old c x h. never_faulty x h };
 
     ghost wire = { refl };
 
@@ -295,6 +309,8 @@ impl MapCodec for Uint64 {
     fn encode<S: EncodeSink>(value: &u64, sink: &mut S) -> Result<(), EncodeError> {
         encode_uint64(*value, sink)
     }
+
+    ghost plain = { refl };
 
     ghost written_wire = { refl };
 
@@ -329,8 +345,6 @@ impl MapValueDecode for Bool {
 
     ghost reading = { number_reading Varint false bool_of };
 
-    ghost whole = { true };
-
     fn merge<B: Buf>(
         _alloc: Global,
         value: &mut bool,
@@ -340,6 +354,10 @@ impl MapValueDecode for Bool {
         *value = decode_bool(buf)?;
         Ok(MapValueDecodeStatus::Known)
     }
+
+    ghost free = { λ _ d c. refl };
+
+    ghost no_limit = { λ d old c x h. never_faulty x h };
 
     ghost wire = { refl };
 
@@ -366,6 +384,8 @@ impl MapCodec for Bool {
     fn encode<S: EncodeSink>(value: &bool, sink: &mut S) -> Result<(), EncodeError> {
         encode_bool(*value, sink)
     }
+
+    ghost plain = { refl };
 
     ghost written_wire = { refl };
 

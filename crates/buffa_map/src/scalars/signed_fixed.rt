@@ -6,7 +6,7 @@ ghost use Rattle.buffa_bytes.specs.Scalars.{sfixed32_of, sfixed64_of};
 ghost use Rattle.buffa_bytes.specs.declared.wire_type.WireType.TheVariants.{Fixed32, Fixed64};
 ghost use Rattle.buffa_bytes.proofs.ScalarLemmas.{sfixed32_means, sfixed64_means, unsigned32_fits, unsigned64_fits};
 ghost use Rattle.buffa_map.specs.Scalars.{eight_writing, four_writing, number_reading};
-ghost use Rattle.buffa_map.specs.ScalarLaws.{always_known, eight_reads_back, four_reads_back, one_length};
+ghost use Rattle.buffa_map.specs.ScalarLaws.{always_known, eight_reads_back, four_reads_back, never_faulty, one_length};
 
 use crate::codec::sealed::Sealed;
 use crate::codec::{MapCodec, MapValueDecode, MapValueDecodeStatus};
@@ -43,8 +43,6 @@ impl MapValueDecode for Sfixed32 {
 
     ghost reading = { number_reading Fixed32 (pos 0) sfixed32_of };
 
-    ghost whole = { true };
-
     fn merge<B: Buf>(
         _alloc: Global,
         value: &mut i32,
@@ -54,6 +52,10 @@ impl MapValueDecode for Sfixed32 {
         *value = decode_sfixed32(buf)?;
         Ok(MapValueDecodeStatus::Known)
     }
+
+    ghost free = { λ _ d c. refl };
+
+    ghost no_limit = { λ d old c x h. never_faulty x h };
 
     ghost wire = { refl };
 
@@ -82,6 +84,8 @@ impl MapCodec for Sfixed32 {
     fn encode<S: EncodeSink>(value: &i32, sink: &mut S) -> Result<(), EncodeError> {
         encode_sfixed32(*value, sink)
     }
+
+    ghost plain = { refl };
 
     ghost written_wire = { refl };
 
@@ -116,8 +120,6 @@ impl MapValueDecode for Sfixed64 {
 
     ghost reading = { number_reading Fixed64 (pos 0) sfixed64_of };
 
-    ghost whole = { true };
-
     fn merge<B: Buf>(
         _alloc: Global,
         value: &mut i64,
@@ -127,6 +129,10 @@ impl MapValueDecode for Sfixed64 {
         *value = decode_sfixed64(buf)?;
         Ok(MapValueDecodeStatus::Known)
     }
+
+    ghost free = { λ _ d c. refl };
+
+    ghost no_limit = { λ d old c x h. never_faulty x h };
 
     ghost wire = { refl };
 
@@ -155,6 +161,8 @@ impl MapCodec for Sfixed64 {
     fn encode<S: EncodeSink>(value: &i64, sink: &mut S) -> Result<(), EncodeError> {
         encode_sfixed64(*value, sink)
     }
+
+    ghost plain = { refl };
 
     ghost written_wire = { refl };
 

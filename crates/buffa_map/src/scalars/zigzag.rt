@@ -6,7 +6,7 @@ ghost use Rattle.buffa_bytes.specs.Scalars.{sint32_of, sint64_of, zigzag};
 ghost use Rattle.buffa_bytes.specs.declared.wire_type.WireType.TheVariants.{Varint};
 ghost use Rattle.buffa_bytes.proofs.ScalarLemmas.{sint32_means, sint64_means, zigzag_fits64};
 ghost use Rattle.buffa_map.specs.Scalars.{number_reading, varint_writing};
-ghost use Rattle.buffa_map.specs.ScalarLaws.{always_known, no_fixed_length, varint_reads_back, zigzag32_below};
+ghost use Rattle.buffa_map.specs.ScalarLaws.{always_known, never_faulty, no_fixed_length, varint_reads_back, zigzag32_below};
 
 use crate::codec::sealed::Sealed;
 use crate::codec::{MapCodec, MapValueDecode, MapValueDecodeStatus};
@@ -44,8 +44,6 @@ impl MapValueDecode for Sint32 {
 
     ghost reading = { number_reading Varint (pos 0) sint32_of };
 
-    ghost whole = { true };
-
     fn merge<B: Buf>(
         _alloc: Global,
         value: &mut i32,
@@ -55,6 +53,10 @@ impl MapValueDecode for Sint32 {
         *value = decode_sint32(buf)?;
         Ok(MapValueDecodeStatus::Known)
     }
+
+    ghost free = { λ _ d c. refl };
+
+    ghost no_limit = { λ d old c x h. never_faulty x h };
 
     ghost wire = { refl };
 
@@ -81,6 +83,8 @@ impl MapCodec for Sint32 {
     fn encode<S: EncodeSink>(value: &i32, sink: &mut S) -> Result<(), EncodeError> {
         encode_sint32(*value, sink)
     }
+
+    ghost plain = { refl };
 
     ghost written_wire = { refl };
 
@@ -115,8 +119,6 @@ impl MapValueDecode for Sint64 {
 
     ghost reading = { number_reading Varint (pos 0) sint64_of };
 
-    ghost whole = { true };
-
     fn merge<B: Buf>(
         _alloc: Global,
         value: &mut i64,
@@ -126,6 +128,10 @@ impl MapValueDecode for Sint64 {
         *value = decode_sint64(buf)?;
         Ok(MapValueDecodeStatus::Known)
     }
+
+    ghost free = { λ _ d c. refl };
+
+    ghost no_limit = { λ d old c x h. never_faulty x h };
 
     ghost wire = { refl };
 
@@ -152,6 +158,8 @@ impl MapCodec for Sint64 {
     fn encode<S: EncodeSink>(value: &i64, sink: &mut S) -> Result<(), EncodeError> {
         encode_sint64(*value, sink)
     }
+
+    ghost plain = { refl };
 
     ghost written_wire = { refl };
 

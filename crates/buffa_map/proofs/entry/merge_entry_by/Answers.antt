@@ -1,8 +1,8 @@
-use Rattle.std.proofs.Common.{arith, ◌+◌, ◌≤◌, ℕ, List, ap, append-nil, refl, subst, sym}
+use Rattle.std.proofs.Common.{arith, ◌+◌, ◌≤◌, ◌⊎◌, ℕ, List, append-nil, refl, subst, sym}
 use Rattle.std.proofs.lemmas.Result.{err_from_is_err_and}
-use Rattle.buffa_wire.specs.Left.{Left}
-use Rattle.buffa_map.specs.Entry.{FaultOf, IsEntry, said}
-use Rattle.buffa_map.proofs.EntryLemmas.{entry_short, entry_charged, entry_broken, entry_found, entry_slotless, no_length}
+use Rattle.buffa_wire.specs.Left.{Left, Lacks, Pays}
+use Rattle.buffa_map.specs.Entry.{FaultOf, IsEntry, blanks, need_at, said}
+use Rattle.buffa_map.proofs.NeedLemmas.{entry_short, entry_charged, entry_broken, entry_found, entry_slotless, no_length}
 use Rattle.buffa_map.proofs.ResultLemmas.{IfErr-map, OnOk-map}
 use Rattle.buffa_map.proofs.entry.merge_entry_by.Goals as goal
 
@@ -25,47 +25,43 @@ returns-in_err-charge-clause-fault g c =
 pub returns-in_err-parts-clause-fault : goal.returns-in_err-parts-clause-fault
 returns-in_err-parts-clause-fault g c =
     let p = err_from_is_err_and c.from_residual-in_err-parts.result c.from_residual-in_err-parts.ensures.1 in
-    let room : g.KC.MapValueDecode.COST + g.VC.MapValueDecode.COST ≤ c.args.ctx.budget.now.memory = omega (arith, c.in_ok-charge.ensures.ok.0, c.COST.ensures, c.COST-2.ensures) in
-    rw (p.1, p.2) (λ ne. entry_broken g.KC.MapValueDecode.reading g.VC.MapValueDecode.reading c.args.ctx.depth (g.KC.MapValueDecode.COST + g.VC.MapValueDecode.COST) g.L.Keeper.slot c.args.ctx.budget.now (g.B.Buf.unread c.args.buf.now) c.in_ok-entry.entry.items (g.B.Buf.unread c.decode_bytes.new.buf) c.in_err-parts.field-0.0
-    c.in_ok-entry.ensures.reads room (subst (λ (z : List ℕ). FaultOf g.KC.MapValueDecode.reading g.VC.MapValueDecode.reading c.args.ctx.depth z c.in_err-parts.field-0.0) c.deref.ensures.value (c.in_err-parts.ensures.fault ne)))
+    let now : Left = c.charge.new.budget in
+    rw (p.1, p.2) (λ ne. entry_broken g.KC.MapValueDecode.reading g.VC.MapValueDecode.reading c.args.ctx.depth (g.KC.MapValueDecode.COST + g.VC.MapValueDecode.COST) g.L.Keeper.slot c.args.ctx.budget.now now (g.B.Buf.unread c.args.buf.now) c.in_ok-entry.entry.items (g.B.Buf.unread c.decode_bytes.new.buf) c.in_err-parts.field-0.0
+    c.in_ok-entry.ensures.reads (omega (arith, c.in_ok-charge.ensures.ok.0, c.COST.ensures, c.COST-2.ensures)) c.in_ok-charge.ensures.ok.1
+    (subst (λ (z : List ℕ). Lacks now (need_at g.KC.MapValueDecode.reading g.VC.MapValueDecode.reading c.args.ctx.depth (blanks g.KC.MapValueDecode.reading g.VC.MapValueDecode.reading c.args.ctx.depth) z) ⊎ FaultOf g.KC.MapValueDecode.reading g.VC.MapValueDecode.reading c.args.ctx.depth z c.in_err-parts.field-0.0) c.deref.ensures.value (c.in_err-parts.ensures.fault ne)))
 
 pub returns-in-Ok-clause-ok : goal.returns-in-Ok-clause-ok
 returns-in-Ok-clause-ok g c =
-    let key = g.KC.MapValueDecode.reading in
-    let val = g.VC.MapValueDecode.reading in
     let s = said g.KC.Value.Blank.meaning g.VC.Value.Blank.meaning c.in_ok-parts.parts in
-    let entry : IsEntry key val c.args.ctx.depth c.in_ok-entry.entry.items s = subst (λ (z : List ℕ). IsEntry key val c.args.ctx.depth z s) c.deref.ensures.value c.in_ok-parts.ensures.entry in (
+    let entry : IsEntry g.KC.MapValueDecode.reading g.VC.MapValueDecode.reading c.args.ctx.depth c.in_ok-entry.entry.items s = subst (λ (z : List ℕ). IsEntry g.KC.MapValueDecode.reading g.VC.MapValueDecode.reading c.args.ctx.depth z s) c.deref.ensures.value c.in_ok-parts.ensures.entry in
+    let pays = subst (λ (z : List ℕ). Pays c.charge.new.budget (need_at g.KC.MapValueDecode.reading g.VC.MapValueDecode.reading c.args.ctx.depth (blanks g.KC.MapValueDecode.reading g.VC.MapValueDecode.reading c.args.ctx.depth) z) c.merge_fields.new.ctx.1.0) c.deref.ensures.value c.in_ok-parts.ensures.pays in (
       s,
       c.in_ok-entry.entry.items,
-      entry_found key val c.args.ctx.depth (g.B.Buf.unread c.args.buf.now) c.in_ok-entry.entry.items (g.B.Buf.unread c.decode_bytes.new.buf) s c.in_ok-entry.ensures.reads entry,
+      entry_found g.KC.MapValueDecode.reading g.VC.MapValueDecode.reading c.args.ctx.depth (g.B.Buf.unread c.args.buf.now) c.in_ok-entry.entry.items (g.B.Buf.unread c.decode_bytes.new.buf) s c.in_ok-entry.ensures.reads entry,
       λ q. rw c.if-parts.true (c.in-Ok.ensures.ok q),
       rw c.if-parts.true (sym (append-nil (g.L.Keeper.kept c.args.keeper.now))),
-      omega (arith, c.in_ok-charge.ensures.ok.0, c.COST.ensures, c.COST-2.ensures, ap (λ (b : Left). b.memory) c.merge_fields.ensures.spends),
-      rw c.if-parts.true (omega (arith, c.in_ok-charge.ensures.ok.1, ap (λ (b : Left). b.unknown) c.merge_fields.ensures.spends)),
+      (rw c.if-parts.true (omega (arith, c.in_ok-charge.ensures.ok.1, pays.0)), omega (arith, c.in_ok-charge.ensures.ok.0, c.COST.ensures, c.COST-2.ensures, pays.1)),
     )
 
 pub returns-clause-ok : goal.returns-clause-ok
 returns-clause-ok g c =
-    let key = g.KC.MapValueDecode.reading in
-    let val = g.VC.MapValueDecode.reading in
     let s = said g.KC.Value.Blank.meaning g.VC.Value.Blank.meaning c.in_ok-parts.parts in
-    let entry : IsEntry key val c.args.ctx.depth c.in_ok-entry.entry.items s = subst (λ (z : List ℕ). IsEntry key val c.args.ctx.depth z s) c.deref.ensures.value c.in_ok-parts.ensures.entry in
+    let entry : IsEntry g.KC.MapValueDecode.reading g.VC.MapValueDecode.reading c.args.ctx.depth c.in_ok-entry.entry.items s = subst (λ (z : List ℕ). IsEntry g.KC.MapValueDecode.reading g.VC.MapValueDecode.reading c.args.ctx.depth z s) c.deref.ensures.value c.in_ok-parts.ensures.entry in
+    let pays = subst (λ (z : List ℕ). Pays c.charge.new.budget (need_at g.KC.MapValueDecode.reading g.VC.MapValueDecode.reading c.args.ctx.depth (blanks g.KC.MapValueDecode.reading g.VC.MapValueDecode.reading c.args.ctx.depth) z) c.merge_fields.new.ctx.1.0) c.deref.ensures.value c.in_ok-parts.ensures.pays in
     OnOk-map c.keep.result (λ h. (
       s,
       c.in_ok-entry.entry.items,
-      entry_found key val c.args.ctx.depth (g.B.Buf.unread c.args.buf.now) c.in_ok-entry.entry.items (g.B.Buf.unread c.decode_bytes.new.buf) s c.in_ok-entry.ensures.reads entry,
+      entry_found g.KC.MapValueDecode.reading g.VC.MapValueDecode.reading c.args.ctx.depth (g.B.Buf.unread c.args.buf.now) c.in_ok-entry.entry.items (g.B.Buf.unread c.decode_bytes.new.buf) s c.in_ok-entry.ensures.reads entry,
       λ q. rw c.if-parts.false refl,
       rw c.if-parts.false h.0,
-      omega (arith, c.in_ok-charge.ensures.ok.0, c.COST.ensures, c.COST-2.ensures, ap (λ (b : Left). b.memory) c.merge_fields.ensures.spends, c.keep.ensures.memory),
-      rw c.if-parts.false (omega (arith, h.1, c.in_ok-charge.ensures.ok.1, ap (λ (b : Left). b.unknown) c.merge_fields.ensures.spends)),
+      (rw c.if-parts.false (omega (arith, h.1, c.in_ok-charge.ensures.ok.1, pays.0)), omega (arith, c.in_ok-charge.ensures.ok.0, c.COST.ensures, c.COST-2.ensures, pays.1, c.keep.ensures.memory)),
     )) c.keep.ensures.ok
 
 pub returns-clause-fault : goal.returns-clause-fault
 returns-clause-fault g c =
-    let key = g.KC.MapValueDecode.reading in
-    let val = g.VC.MapValueDecode.reading in
     let s = said g.KC.Value.Blank.meaning g.VC.Value.Blank.meaning c.in_ok-parts.parts in
-    let room : g.KC.MapValueDecode.COST + g.VC.MapValueDecode.COST ≤ c.args.ctx.budget.now.memory = omega (arith, c.in_ok-charge.ensures.ok.0, c.COST.ensures, c.COST-2.ensures) in
-    let entry : IsEntry key val c.args.ctx.depth c.in_ok-entry.entry.items s = subst (λ (z : List ℕ). IsEntry key val c.args.ctx.depth z s) c.deref.ensures.value c.in_ok-parts.ensures.entry in
-    IfErr-map c.keep.result (λ f h ne. entry_slotless key val c.args.ctx.depth (g.KC.MapValueDecode.COST + g.VC.MapValueDecode.COST) g.L.Keeper.slot c.args.ctx.budget.now (g.B.Buf.unread c.args.buf.now) c.in_ok-entry.entry.items (g.B.Buf.unread c.decode_bytes.new.buf) s f
-    c.in_ok-entry.ensures.reads room entry c.if-parts.false (omega (arith, (h ne).0, c.in_ok-charge.ensures.ok.1, ap (λ (b : Left). b.unknown) c.merge_fields.ensures.spends)) (h ne).1) c.keep.ensures.fault
+    let room : (g.KC.MapValueDecode.COST + g.VC.MapValueDecode.COST) ≤ c.args.ctx.budget.now.memory = omega (arith, c.in_ok-charge.ensures.ok.0, c.COST.ensures, c.COST-2.ensures) in
+    let entry : IsEntry g.KC.MapValueDecode.reading g.VC.MapValueDecode.reading c.args.ctx.depth c.in_ok-entry.entry.items s = subst (λ (z : List ℕ). IsEntry g.KC.MapValueDecode.reading g.VC.MapValueDecode.reading c.args.ctx.depth z s) c.deref.ensures.value c.in_ok-parts.ensures.entry in
+    let pays = subst (λ (z : List ℕ). Pays c.charge.new.budget (need_at g.KC.MapValueDecode.reading g.VC.MapValueDecode.reading c.args.ctx.depth (blanks g.KC.MapValueDecode.reading g.VC.MapValueDecode.reading c.args.ctx.depth) z) c.merge_fields.new.ctx.1.0) c.deref.ensures.value c.in_ok-parts.ensures.pays in
+    IfErr-map c.keep.result (λ f h ne. entry_slotless g.KC.MapValueDecode.reading g.VC.MapValueDecode.reading c.args.ctx.depth (g.KC.MapValueDecode.COST + g.VC.MapValueDecode.COST) g.L.Keeper.slot c.args.ctx.budget.now (g.B.Buf.unread c.args.buf.now) c.in_ok-entry.entry.items (g.B.Buf.unread c.decode_bytes.new.buf) s f
+    c.in_ok-entry.ensures.reads room entry c.if-parts.false (omega (arith, (h ne).0, c.in_ok-charge.ensures.ok.1, pays.0)) (h ne).1) c.keep.ensures.fault

@@ -1,17 +1,23 @@
-use Rattle.std.proofs.Common.{◌≡◌, length}
+use Rattle.std.proofs.Common.{◌≡◌, ◌+◌, ◌≤◌, length}
 use Rattle.buffa_map.specs.Along.{Leads}
-use Rattle.buffa_map.specs.Entry.{IsField, blanks, said}
+use Rattle.buffa_map.specs.Entry.{IsField, blanks, need_at, said}
 use Rattle.buffa_map.proofs.fields.merge_fields.Given as goal
 
--- the fields so far lead from the blanks to what the parts mean
+-- the fields so far lead from the blanks to what the parts mean, and what they cost was spent
 abbrev pub invariant-loop-rest : goal.invariant-loop-rest
 invariant-loop-rest g l =
     let key = g.KC.MapValueDecode.reading in
     let val = g.VC.MapValueDecode.reading in
+    let s = said g.KC.Value.Blank.meaning g.VC.Value.Blank.meaning l.parts in
+    let all = need_at key val l.fn.ctx.depth (blanks key val l.fn.ctx.depth) l.bytes in
+    let more = need_at key val l.fn.ctx.depth s l.rest in
     record {
-      reached : Leads (IsField key val l.fn.ctx.depth) (blanks key val l.fn.ctx.depth) l.bytes (said g.KC.Value.Blank.meaning g.VC.Value.Blank.meaning l.parts) l.rest;
+      reached : Leads (IsField key val l.fn.ctx.depth) (blanks key val l.fn.ctx.depth) l.bytes s l.rest;
       depth : l.ctx.depth ≡ l.fn.ctx.depth;
-      left : l.ctx.budget.now ≡ l.fn.ctx.budget.now;
+      unknown : l.ctx.budget.now.unknown + all.unknown ≡ l.fn.ctx.budget.now.unknown + more.unknown;
+      memory : l.ctx.budget.now.memory + all.memory ≡ l.fn.ctx.budget.now.memory + more.memory;
+      no_slot : l.ctx.budget.now.unknown ≤ l.fn.ctx.budget.now.unknown;
+      no_unit : l.ctx.budget.now.memory ≤ l.fn.ctx.budget.now.memory;
     }
 
 abbrev pub decreases-loop-rest : goal.decreases-loop-rest

@@ -1,5 +1,6 @@
 use Rattle.std.proofs.Common.{◌∙◌, sym, ap}
-use Rattle.buffa_wire.specs.Left.{Left}
+use Rattle.buffa_wire.specs.Left.{Left, plus}
+use Rattle.buffa_map.specs.Run.{inner_needs}
 use Rattle.buffa_map.proofs.AlongLemmas.{ok_same, ok_no_err}
 use Rattle.buffa_map.proofs.EntryLemmas.{entry_complete, entry_faulty}
 use Rattle.buffa_map.proofs.RunLemmas.{run_complete, run_faulty}
@@ -16,17 +17,23 @@ pub returns-clause-entry_or_fault : goal.returns-clause-entry_or_fault
 returns-clause-entry_or_fault g c d e s f h k =
     let key = g.KC.MapValueDecode.reading in
     let val = g.VC.MapValueDecode.reading in
-    ok_no_err (sym (entry_complete key val d e s h) ∙ entry_faulty key val d e f k)
+    ok_no_err (sym (entry_complete key val d e s h) ∙ (entry_faulty key val d e f k).1)
 
 pub returns-clause-run : goal.returns-clause-run
 returns-clause-run g c d n bs es fs h k =
     let key = g.KC.MapValueDecode.reading in
     let val = g.VC.MapValueDecode.reading in
-    let none : Left = record { unknown = 0; memory = 0 } in
-    ap (λ z. z.0) (ok_same (sym (run_complete key val d n 0 0 none bs es none h (omega arith, omega arith)) ∙ run_complete key val d n 0 0 none bs fs none k (omega arith, omega arith)))
+    let key_free = g.met.KC.MapValueDecode.free in
+    let val_free = g.met.VC.MapValueDecode.free in
+    let a = inner_needs key val d es in
+    let b = inner_needs key val d fs in
+    let both : Left = plus a b in
+    ap (λ z. z.0) (ok_same (sym (run_complete key val d n 0 0 key_free val_free both bs es b h (omega arith, omega arith)) ∙ run_complete key val d n 0 0 key_free val_free both bs fs a k (omega arith, omega arith)))
 
 pub returns-clause-run_or_fault : goal.returns-clause-run_or_fault
 returns-clause-run_or_fault g c d n cost slot left over bs es f h paid k =
     let key = g.KC.MapValueDecode.reading in
     let val = g.VC.MapValueDecode.reading in
-    ok_no_err (sym (run_complete key val d n cost slot left bs es over h paid) ∙ run_faulty key val d n cost slot left bs f k)
+    let key_free = g.met.KC.MapValueDecode.free in
+    let val_free = g.met.VC.MapValueDecode.free in
+    ok_no_err (sym (run_complete key val d n cost slot key_free val_free left bs es over h paid) ∙ (run_faulty key val d n cost slot key_free val_free left bs f k).1)

@@ -10,10 +10,12 @@ returns g c d n l num has fits normal distinct =
     let vw = g.VC.MapCodec.writing in
     let same_key : kw.wire ≡ key.wire = g.met.KC.MapCodec.written_wire ∙ sym g.met.KC.MapValueDecode.wire in
     let same_val : vw.wire ≡ val.wire = g.met.VC.MapCodec.written_wire ∙ sym g.met.VC.MapValueDecode.wire in
-    let say = as_said key val kw vw same_key same_val (λ k. g.KC.MapCodec.fits k × g.KC.MapCodec.normal k) (λ v. g.VC.MapCodec.fits v × g.VC.MapCodec.normal v)
+    let plain_key = g.met.KC.MapCodec.plain in
+    let plain_val = g.met.VC.MapCodec.plain in
+    let say = as_said key val kw vw same_key same_val plain_key plain_val (λ k. g.KC.MapCodec.fits k × g.KC.MapCodec.normal k) (λ v. g.VC.MapCodec.fits v × g.VC.MapCodec.normal v)
     (λ d old v h. g.met.KC.MapCodec.reads_back d old v h.0 h.1) (λ d old v h. g.met.VC.MapCodec.reads_back d old v h.0 h.1) in (
       map say l,
-      run_back key val kw vw same_key same_val (λ k. g.KC.MapCodec.fits k × g.KC.MapCodec.normal k) (λ v. g.VC.MapCodec.fits v × g.VC.MapCodec.normal v)
+      run_back key val kw vw same_key same_val plain_key plain_val (λ k. g.KC.MapCodec.fits k × g.KC.MapCodec.normal k) (λ v. g.VC.MapCodec.fits v × g.VC.MapCodec.normal v)
           (λ d old v h. g.met.KC.MapCodec.reads_back d old v h.0 h.1) (λ d old v h. g.met.VC.MapCodec.reads_back d old v h.0 h.1) d n l num has (both_hold g.KC.MapCodec.fits g.KC.MapCodec.normal g.VC.MapCodec.fits g.VC.MapCodec.normal l fits normal),
       fold_back g.met.C.MapStorage.equivalence say (λ p. refl) l distinct,
     )

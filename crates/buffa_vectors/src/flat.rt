@@ -1,0 +1,83 @@
+//! A message of one int32.
+
+ghost use Rattle.std.specs.Prelude.{◌≡◌, ◌≢◌, ◌<◌, pos, refl};
+ghost use Rattle.buffa_wire.specs.Gives.{Gives};
+ghost use Rattle.buffa_vectors.specs.Flat.{flat_cost, flat_merged, flat_payload};
+ghost use Rattle.buffa_vectors.specs.FlatLaws.{flat_cost_some, flat_empty, flat_fields, flat_next};
+
+use buffa_wire::types::decode_int32;
+use buffa_wire::{
+    Blank, Buf, DecodeContext, DecodeError, Message, MessageSpec, Tag, WireType, check_wire_type,
+    skip_field_depth,
+};
+use std::alloc::Global;
+
+/// Field 1 is the value, an int32; other fields are passed over.
+///
+/// ```ignore
+/// merge_entry::<Int32, Msg<FlatMsg>, _, _>(alloc, &mut map, &mut rest, ctx)?;
+/// ```
+#[derive(Drop)]
+pub struct FlatMsg {
+    /// The value of the last field 1, or 0.
+    pub value: i32,
+}
+
+impl Blank for FlatMsg {
+    type Meaning = i32;
+
+    ghost meaning = { λ m. m.value };
+
+    ghost blank_is = { pos 0 };
+
+    fn blank(_alloc: Global) -> FlatMsg {
+        FlatMsg { value: 0 }
+    }
+}
+
+impl MessageSpec for FlatMsg {
+    const COST: usize = 4;
+
+    ghost COST = { 4 };
+
+    ghost merged = { flat_merged };
+
+    ghost cost = { flat_cost };
+
+    ghost positive = { flat_cost_some };
+
+    ghost merged_empty = { flat_empty };
+
+    ghost merged_fields = { flat_fields };
+
+    ghost merged_next = { flat_next };
+
+    ghost cost_empty = { λ d. refl };
+
+    ghost cost_next = { λ d f r _. refl };
+}
+
+// Merges the field whose tag was read.
+fn merge_value(value: &mut i32, tag: Tag, buf: &mut &[u8], depth: u32) -> Result<(), DecodeError>
+    ensures { Gives (λ _. (value.new, buf.new.now)) result (flat_payload depth value.old tag.number tag.wire_type buf.old.now) }
+{
+    if tag.field_number() == 1 {
+        check_wire_type(tag, WireType::Varint)?;
+        *value = decode_int32(buf)?;
+    } else {
+        skip_field_depth(tag, buf, depth)?;
+    }
+    Ok(())
+}
+
+impl Message for FlatMsg {
+    fn merge_field(
+        &mut self,
+        _alloc: Global,
+        tag: Tag,
+        buf: &mut &[u8],
+        ctx: DecodeContext<'_>,
+    ) -> Result<(), DecodeError> {
+        merge_value(&mut self.value, tag, buf, ctx.depth)
+    }
+}

@@ -1,0 +1,91 @@
+//! Entries whose values are messages.
+
+use crate::flat::FlatMsg;
+use buffa_map::map_codec::{Int32, MapStorage, Msg, merge_entry, read_map_field};
+use buffa_wire::{Budget, DecodeContext, DecodeError, Pieces, RECURSION_LIMIT, WireType};
+use std::collections::BTreeMap;
+use std::test::Fail;
+
+#[test]
+fn messages_are_merged_into_blanks(rt: HostRuntime) -> Result<(), Fail> {
+    let run: &[u8] = &[
+        0x22, 0x04, 0x08, 0x01, 0x12, 0x00, // 1: 0
+        0x22, 0x0F, 0x08, 0x02, 0x12, 0x0B, // 2: -3
+        0x08, 0xFD, 0xFF, 0xFF, 0xFF, 0xFF, 0xFF, 0xFF, 0xFF, 0xFF, 0x01,
+    ];
+    let mut map: BTreeMap<i32, FlatMsg> = BTreeMap::new(rt.alloc());
+    let mut budget = Budget::new(0).with_element_memory(16);
+    let mut rest = run;
+    let ctx = DecodeContext::new(RECURSION_LIMIT, &mut budget);
+    read_map_field::<Int32, Msg<FlatMsg>, _, _>(rt.alloc(), &mut map, 4, &mut rest, ctx, None)?;
+    assert_eq!(rt; map.storage_len(), 2);
+    match (map.get(&1), map.get(&2)) {
+        (Some(one), Some(two)) => {
+            assert_eq!(rt; one.value, 0);
+            assert_eq!(rt; two.value, -3);
+        }
+        _ => assert!(rt; false),
+    }
+    assert_eq!(rt; budget.memory_left(), 0);
+    Ok(())
+}
+
+#[test]
+fn messages_of_one_entry_are_merged_in_order(rt: HostRuntime) -> Result<(), Fail> {
+    // A value, a value without a field, a field of another number, and the last byte past the entry.
+    let mut entry = Pieces::new(&[
+        &[0x0C, 0x08, 0x05, 0x12, 0x02, 0x08],
+        &[0x07, 0x12, 0x00, 0x12, 0x02, 0x18, 0x09, 0x63],
+    ]);
+    let mut map: BTreeMap<i32, FlatMsg> = BTreeMap::new(rt.alloc());
+    let mut budget = Budget::new(0);
+    let ctx = DecodeContext::new(1, &mut budget);
+    merge_entry::<Int32, Msg<FlatMsg>, _, _>(rt.alloc(), &mut map, &mut entry, ctx)?;
+    match map.get(&5) {
+        Some(five) => assert_eq!(rt; five.value, 7),
+        None => assert!(rt; false),
+    }
+    Ok(())
+}
+
+#[test]
+fn messages_are_refused(rt: HostRuntime) -> Result<(), Fail> {
+    let mismatch = DecodeError::WireTypeMismatch {
+        field_number: 1,
+        expected: WireType::Varint,
+        actual: WireType::LengthDelimited,
+    };
+    let table: [(u32, usize, &[u8], DecodeError); 6] = [
+        (
+            0,
+            8,
+            &[0x04, 0x08, 0x01, 0x12, 0x00],
+            DecodeError::RecursionLimitExceeded,
+        ),
+        (
+            0,
+            8,
+            &[0x02, 0x12, 0x80],
+            DecodeError::RecursionLimitExceeded,
+        ),
+        (1, 8, &[0x02, 0x12, 0x80], DecodeError::UnexpectedEof),
+        (1, 8, &[0x03, 0x12, 0x01, 0x08], DecodeError::UnexpectedEof),
+        (1, 8, &[0x04, 0x12, 0x02, 0x0A, 0x00], mismatch),
+        (
+            1,
+            7,
+            &[0x02, 0x12, 0x00],
+            DecodeError::ElementMemoryLimitExceeded,
+        ),
+    ];
+    for (depth, memory, bytes, fault) in table {
+        let mut map: BTreeMap<i32, FlatMsg> = BTreeMap::new(rt.alloc());
+        let mut budget = Budget::new(0).with_element_memory(memory);
+        let mut rest = bytes;
+        let ctx = DecodeContext::new(depth, &mut budget);
+        let answer = merge_entry::<Int32, Msg<FlatMsg>, _, _>(rt.alloc(), &mut map, &mut rest, ctx);
+        assert_eq!(rt; answer, Err(fault));
+        assert_eq!(rt; map.storage_len(), 0);
+    }
+    Ok(())
+}

@@ -1,0 +1,107 @@
+-- Messages field by field, and what reading bytes never answers.
+use Rattle.std.proofs.Common.{◌≡◌, ◌≢◌, ◌⊎◌, inl, inr, ℕ, zero, suc, ◌+◌, ◌<◌, ◌≤◌, List, [], ◌∷◌, ◌++◌, length, Option, Some, None, Result, Ok, Err, refl, sym, ap, subst, ◌∙◌, arith, append_assoc, length-append}
+use Rattle.std.specs.Option.{option_and_then}
+use Rattle.buffa_bytes.specs.declared.wire_type.WireType.{WireType}
+use Rattle.buffa_bytes.specs.declared.wire_type.WireType.TheVariants.{Varint, Fixed64, LengthDelimited, StartGroup, EndGroup, Fixed32}
+use Rattle.buffa_bytes.specs.declared.error.DecodeError.{DecodeError}
+use Rattle.buffa_bytes.specs.declared.error.DecodeError.TheVariants as error
+use Rattle.buffa_bytes.specs.Varint.{VarFault}
+use Rattle.buffa_bytes.specs.Field.{BadTag, FieldFaultOver, GroupFault, IsTag, LengthFault, Payload, PayloadFault, PayloadFaultOver, SomeField, TagFault}
+use Rattle.buffa_bytes.specs.Join.{Join}
+use Rattle.buffa_bytes.specs.Join.Join.{none, more}
+use Rattle.buffa_bytes.specs.Reading.{tag_at}
+use Rattle.buffa_bytes.proofs.StepLemmas.{agree_err}
+use Rattle.buffa_bytes.proofs.FieldLemmas.{tag_complete, tag_sound}
+use Rattle.buffa_wire.specs.Left.{Left, Lacks, Pays, PaysAtMost, nothing, plus}
+use Rattle.buffa_wire.specs.Message.{IsLimit, MergeFault}
+
+-- ---- no fault of bytes is a limit's
+abbrev pub NoLimit : DecodeError → Type 0
+NoLimit e = IsLimit e → ⊥
+
+as_no_limit : (e f : DecodeError) → e ≡ f → NoLimit f → NoLimit e
+as_no_limit e f h k = subst (λ z. NoLimit z) (sym h) k
+
+pub var_no_limit : (bs : List ℕ) (e : DecodeError) → VarFault bs e → NoLimit e
+var_no_limit bs error.UnexpectedEof h = λ l. l
+var_no_limit bs error.VarintTooLong h = λ l. l
+var_no_limit bs _ h = absurd h
+
+bad_no_limit : (n : ℕ) (e : DecodeError) → BadTag n e → NoLimit e
+bad_no_limit n error.InvalidFieldNumber h = λ l. l
+bad_no_limit n (error.InvalidWireType w) h = λ l. l
+bad_no_limit n _ h = absurd h
+
+pub tag_no_limit : (bs : List ℕ) (e : DecodeError) → TagFault bs e → NoLimit e
+tag_no_limit bs e (inl h) = var_no_limit bs e h
+tag_no_limit bs e (inr (n, rest, t, h)) = bad_no_limit n e h
+
+pub length_no_limit : (bs : List ℕ) (e : DecodeError) → LengthFault bs e → NoLimit e
+length_no_limit bs e (inl h) = var_no_limit bs e h
+length_no_limit bs e (inr (n, rest, t, l, h)) = as_no_limit e error.UnexpectedEof h (λ l. l)
+
+over_no_limit : (G : ℕ → List ℕ → DecodeError → Type 0) → ((f : ℕ) (bs : List ℕ) (e : DecodeError) → G f bs e → NoLimit e) → (f : ℕ) (w : WireType) (bs : List ℕ) (e : DecodeError) → PayloadFaultOver G f w bs e → NoLimit e
+over_no_limit G g f Varint bs e h = var_no_limit bs e h
+over_no_limit G g f Fixed64 bs e h = as_no_limit e error.UnexpectedEof h.1 (λ l. l)
+over_no_limit G g f LengthDelimited bs e h = length_no_limit bs e h
+over_no_limit G g f StartGroup bs e h = g f bs e h
+over_no_limit G g f EndGroup bs e h = as_no_limit e (error.InvalidEndGroup f) h (λ l. l)
+over_no_limit G g f Fixed32 bs e h = as_no_limit e error.UnexpectedEof h.1 (λ l. l)
+
+field_no_limit : (G : ℕ → List ℕ → DecodeError → Type 0) → ((f : ℕ) (bs : List ℕ) (e : DecodeError) → G f bs e → NoLimit e) → (f : ℕ) (bs : List ℕ) (e : DecodeError) → FieldFaultOver G f bs e → NoLimit e
+field_no_limit G g f bs e (inl h) = tag_no_limit bs e h
+field_no_limit G g f bs e (inr (inl (n, rest, t, other, h))) = as_no_limit e (error.InvalidEndGroup n) h (λ l. l)
+field_no_limit G g f bs e (inr (inr (n, w, rest, t, other, h))) = over_no_limit G g n w rest e h
+
+group_no_limit : (d f : ℕ) (bs : List ℕ) (e : DecodeError) → GroupFault d f bs e → NoLimit e
+unfolding GroupFault
+group_no_limit zero f bs e h = as_no_limit e error.RecursionLimitExceeded h (λ l. l)
+group_no_limit (suc d) f bs e (body, rest, joined, split, h) = field_no_limit (GroupFault d) (group_no_limit d) f rest e h
+
+pub payload_no_limit : (d f : ℕ) (w : WireType) (bs : List ℕ) (e : DecodeError) → PayloadFault d f w bs e → NoLimit e
+payload_no_limit d f w bs e h = over_no_limit (GroupFault d) (group_no_limit d) f w bs e h
+
+-- ---- a message, field by field
+join_front : {P : List ℕ → Type 0} (b : List ℕ) → Join P b → 0 < length b → (f : List ℕ) × (r : List ℕ) × P f × (b ≡ f ++ r)
+join_front _ none h = absurd (omega (arith, h))
+join_front _ (more f r one k) h = (f, r, one, refl)
+
+-- bytes that a field begins have a tag
+tagged : (d : ℕ) (bs f r : List ℕ) (e : DecodeError) → SomeField d f → bs ≡ f ++ r → tag_at bs ≡ Err e → ⊥
+tagged d bs f r e (n, w, (t, p, is_tag, payload, is)) split h =
+    let q : tag_at bs ≡ Ok (n, w, p ++ r) = ap tag_at (split ∙ ap (λ z. z ++ r) is ∙ append_assoc t p r) ∙ tag_complete t n w (p ++ r) is_tag in
+    let k = sym q ∙ h in cc
+
+module _ {X : Type 0} (merged : ℕ → X → List ℕ → Option X) (cost : ℕ → List ℕ → Left)
+    (fields : (d : ℕ) (v w : X) (b : List ℕ) → merged d v b ≡ Some w → Join (SomeField d) b)
+    (next : (d : ℕ) (v : X) (f r : List ℕ) → SomeField d f → merged d v (f ++ r) ≡ option_and_then (λ w. merged d w r) (merged d v f))
+    (cost_next : (d : ℕ) (f r : List ℕ) → SomeField d f → cost d (f ++ r) ≡ plus (cost d f) (cost d r)) where
+  no_value : (d : ℕ) (v : X) (bs : List ℕ) (e : DecodeError) (o : Option X) → merged d v bs ≡ o → 0 < length bs → tag_at bs ≡ Err e → o ≡ None
+  no_value d v bs e None is some h = refl
+  no_value d v bs e (Some w) is some h = let j = join_front bs (fields d v w bs is) some in absurd (tagged d bs j.0 j.1 e j.2 j.3 h)
+
+  -- no tag begins what is left
+  pub untagged : (d : ℕ) (v : X) (bs : List ℕ) (left : Left) (e : DecodeError) → 0 < length bs → tag_at bs ≡ Err e → MergeFault (merged d v bs) (cost d bs) left e
+  untagged d v bs left e some h = inr (no_value d v bs e (merged d v bs) refl some h, tag_no_limit bs e (agree_err (tag_at bs) e (tag_sound bs) h))
+
+  -- one field is merged
+  pub field_means : (d : ℕ) (v u : X) (bs t p x : List ℕ) (n : ℕ) (w : WireType) → IsTag t n w → Payload d n w p → bs ≡ t ++ (p ++ x) → merged d v (t ++ p) ≡ Some u → merged d v bs ≡ merged d u x
+  field_means d v u bs t p x n w tag payload is h =
+      ap (merged d v) (is ∙ sym (append_assoc t p x)) ∙ next d v (t ++ p) x (n, w, (t, p, tag, payload, refl)) ∙ ap (option_and_then (λ z. merged d z x)) h
+
+  pub field_costs : (d : ℕ) (bs t p x : List ℕ) (n : ℕ) (w : WireType) → IsTag t n w → Payload d n w p → bs ≡ t ++ (p ++ x) → cost d bs ≡ plus (cost d (t ++ p)) (cost d x)
+  field_costs d bs t p x n w tag payload is = ap (cost d) (is ∙ sym (append_assoc t p x)) ∙ cost_next d (t ++ p) x (n, w, (t, p, tag, payload, refl))
+
+-- what is lacked of what is left is lacked of all
+lacks_all : (start now all rest : Left) → now.unknown + all.unknown ≡ start.unknown + rest.unknown → now.memory + all.memory ≡ start.memory + rest.memory → Lacks now rest → Lacks start all
+lacks_all start now all rest u m (inl few) = inl (omega (arith, u, few))
+lacks_all start now all rest u m (inr few) = inr (omega (arith, m, few))
+
+-- why what is left isn't merged is why all isn't
+pub loop_fault : {X : Type 0} (o p : Option X) (start now over all rest : Left) (e : DecodeError) → o ≡ p →
+    now.unknown + all.unknown ≡ start.unknown + rest.unknown → now.memory + all.memory ≡ start.memory + rest.memory → now.unknown ≤ start.unknown → now.memory ≤ start.memory →
+    PaysAtMost now rest over × (e ≢ error.OutOfMemory → MergeFault p rest now e) → PaysAtMost start all over × (e ≢ error.OutOfMemory → MergeFault o all start e)
+loop_fault o p start now over all rest e same u m no_slot no_unit (spent, why) = (
+  (omega (arith, no_slot, spent.0), omega (arith, u, spent.1), omega (arith, no_unit, spent.2), omega (arith, m, spent.3)),
+  λ ne. elim (why ne) [ inl few ↦ inl (lacks_all start now all rest u m few) | inr bad ↦ inr (same ∙ bad.0, bad.1) ],
+)

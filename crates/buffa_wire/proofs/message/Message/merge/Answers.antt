@@ -1,0 +1,68 @@
+use Rattle.std.proofs.Common.{◌≡◌, ◌≢◌, ◌++◌, ◌<◌, ◌∙◌, ℕ, List, length, length-append, Option, arith, ap, subst, sym}
+use Rattle.std.proofs.lemmas.Result.{err_from_is_err_and}
+use Rattle.buffa_bytes.specs.declared.error.DecodeError.TheVariants.{OutOfMemory}
+use Rattle.buffa_bytes.specs.Field.{TakesTag}
+use Rattle.buffa_bytes.specs.Reading.{tag_at}
+use Rattle.buffa_bytes.proofs.StepLemmas.{agree_ok}
+use Rattle.buffa_bytes.proofs.FieldLemmas.{tag_some, tag_sound}
+use Rattle.buffa_wire.specs.Left.{Left, PaysAtMost}
+use Rattle.buffa_wire.specs.Message.{MergeFault}
+use Rattle.buffa_wire.proofs.MessageLemmas.{field_costs, field_means, loop_fault, untagged}
+use Rattle.buffa_wire.proofs.message.Message.merge.Goals as goal
+
+pub returns-in_err-tag : goal.returns-in_err-tag
+returns-in_err-tag g c =
+    let p = err_from_is_err_and c.from_residual.result c.from_residual.ensures.1 in
+    let inv = c.loop-rest.invariant in
+    let d = c.args.ctx.depth in
+    let v = g.Self.Blank.meaning c.loop-rest.self in
+    let rest = c.loop-rest.rest.now in
+    let some : 0 < length rest = omega (arith, c.remaining.ensures, c.loop-rest-test.true) in
+    rw (p.1, p.2) (loop_fault (g.Self.MessageSpec.merged d (g.Self.Blank.meaning c.args.self.now) c.args.bytes.now) (g.Self.MessageSpec.merged d v rest) c.args.ctx.budget.now c.loop-rest.budget c.loop-rest.budget
+    (g.Self.MessageSpec.cost d c.args.bytes.now) (g.Self.MessageSpec.cost d rest) c.in_err-tag.field-0.0 inv.means inv.unknown inv.memory inv.no_slot inv.no_unit
+    ((omega arith, omega arith, omega arith, omega arith), λ ne. untagged g.Self.MessageSpec.merged g.Self.MessageSpec.cost g.Self.MessageSpec.merged_fields g.Self.MessageSpec.merged_next g.Self.MessageSpec.cost_next d v rest c.loop-rest.budget c.in_err-tag.field-0.0 some c.in_err-tag.ensures.reads))
+
+pub loop-rest-smaller : goal.loop-rest-smaller
+loop-rest-smaller g c =
+    let rest = c.loop-rest.rest.now in
+    let u : TakesTag rest c.in_ok-tag.tag.number c.in_ok-tag.tag.wire_type c.decode.new.buf.now = agree_ok (tag_at rest) (c.in_ok-tag.tag.number, c.in_ok-tag.tag.wire_type, c.decode.new.buf.now) (tag_sound rest) c.in_ok-tag.ensures.reads in
+    let m = c.in_ok-merge_field.ensures in
+    omega (arith, tag_some u.0 c.in_ok-tag.tag.number c.in_ok-tag.tag.wire_type u.1, ap length u.2, length-append u.0 c.decode.new.buf.now, ap length m.2, length-append m.0 c.merge_field.new.buf.now)
+
+pub loop-rest-preserved : goal.loop-rest-preserved
+loop-rest-preserved g c =
+    let inv = c.loop-rest.invariant in
+    let d = c.args.ctx.depth in
+    let n = c.in_ok-tag.tag.number in
+    let w = c.in_ok-tag.tag.wire_type in
+    let rest = c.loop-rest.rest.now in
+    let x = c.merge_field.new.buf.now in
+    let u : TakesTag rest n w c.decode.new.buf.now = agree_ok (tag_at rest) (n, w, c.decode.new.buf.now) (tag_sound rest) c.in_ok-tag.ensures.reads in
+    let m = c.in_ok-merge_field.ensures in
+    let split : rest ≡ u.0 ++ (m.0 ++ x) = u.2 ∙ ap (λ z. u.0 ++ z) m.2 in
+    let one = m.3 u.0 u.1 in
+    let costs = field_costs g.Self.MessageSpec.merged g.Self.MessageSpec.cost g.Self.MessageSpec.merged_fields g.Self.MessageSpec.merged_next g.Self.MessageSpec.cost_next d rest u.0 m.0 x n w u.1 m.1 split in
+    record {
+      means = inv.means ∙ field_means g.Self.MessageSpec.merged g.Self.MessageSpec.cost g.Self.MessageSpec.merged_fields g.Self.MessageSpec.merged_next g.Self.MessageSpec.cost_next d (g.Self.Blank.meaning c.loop-rest.self) (g.Self.Blank.meaning c.merge_field.new.self) rest u.0 m.0 x n w u.1 m.1 split one.0;
+      unknown = omega (arith, inv.unknown, one.1.0, ap (λ (z : Left). z.unknown) costs);
+      memory = omega (arith, inv.memory, one.1.1, ap (λ (z : Left). z.memory) costs);
+      no_slot = omega (arith, inv.no_slot, one.1.0);
+      no_unit = omega (arith, inv.no_unit, one.1.1);
+    }
+
+pub returns-in_err-merge_field : goal.returns-in_err-merge_field
+returns-in_err-merge_field g c =
+    let p = err_from_is_err_and c.from_residual-in_err-merge_field.result c.from_residual-in_err-merge_field.ensures.1 in
+    let inv = c.loop-rest.invariant in
+    let d = c.args.ctx.depth in
+    let n = c.in_ok-tag.tag.number in
+    let w = c.in_ok-tag.tag.wire_type in
+    let v = g.Self.Blank.meaning c.loop-rest.self in
+    let rest = c.loop-rest.rest.now in
+    let e = c.in_err-merge_field.field-0.0 in
+    let u : TakesTag rest n w c.decode.new.buf.now = agree_ok (tag_at rest) (n, w, c.decode.new.buf.now) (tag_sound rest) c.in_ok-tag.ensures.reads in
+    let over = c.merge_field.new.ctx.1.0 in
+    let why : PaysAtMost c.loop-rest.budget (g.Self.MessageSpec.cost d rest) over × (e ≢ OutOfMemory → MergeFault (g.Self.MessageSpec.merged d v rest) (g.Self.MessageSpec.cost d rest) c.loop-rest.budget e) =
+    subst (λ (z : List ℕ). PaysAtMost c.loop-rest.budget (g.Self.MessageSpec.cost d z) over × (e ≢ OutOfMemory → MergeFault (g.Self.MessageSpec.merged d v z) (g.Self.MessageSpec.cost d z) c.loop-rest.budget e)) (sym u.2) (c.in_err-merge_field.ensures u.0 u.1) in
+    rw (p.1, p.2) (loop_fault (g.Self.MessageSpec.merged d (g.Self.Blank.meaning c.args.self.now) c.args.bytes.now) (g.Self.MessageSpec.merged d v rest) c.args.ctx.budget.now c.loop-rest.budget over
+    (g.Self.MessageSpec.cost d c.args.bytes.now) (g.Self.MessageSpec.cost d rest) e inv.means inv.unknown inv.memory inv.no_slot inv.no_unit why)
