@@ -10,3 +10,4 @@ pub mod RunLemmas
 pub mod SizeLemmas
 pub mod WriteLemmas
 pub mod BackLemmas
+pub mod MessageFieldLemmas

@@ -9,5 +9,6 @@ pub mod Lent
 pub mod Text
 pub mod Message
 pub mod MessageLaws
+pub mod MessageField
 pub mod Plain
 pub mod Colour

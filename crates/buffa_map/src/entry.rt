@@ -19,7 +19,7 @@ use buffa_wire::{Budget, Buf, DecodeContext, DecodeError, UnknownFields};
 use std::alloc::Global;
 
 // Spends the cost of a pair. A sum past what a number of units can be is more than any budget has.
-fn charge(budget: &mut Budget, key: usize, value: usize) -> Result<(), DecodeError>
+pub(crate) fn charge(budget: &mut Budget, key: usize, value: usize) -> Result<(), DecodeError>
     ensures ok { OnOk result ((budget.new.memory + (key + value) ≡ budget.old.memory) × (budget.new.unknown ≡ budget.old.unknown)) }
     ensures err { OnErr result ((budget.old.memory < key + value) × (budget.new ≡ budget.old)) }
     ensures which { IfErr result (λ e. e ≡ ElementMemoryLimitExceeded) }

@@ -65,9 +65,9 @@ impl<'a, K: MapKey + Hash + 'a, V: Blank + 'a, S: BuildHasher + 'a> MapWalk<'a>
 }
 
 impl<K: MapKey + Hash, V: Blank, S: BuildHasher> StableOrder for IndexMap<K, V, S> {
-    ghost use Rattle.std.proofs.Common.{◌∙◌, sym};
+    ghost walk = { λ m. means K.meaning V.meaning m.entries };
 
-    ghost stable = { λ m k l p q. p ∙ sym q };
+    ghost stable = { λ m l h. h };
 }
 
 impl<'a, K: MapKey + Hash + 'a, V: Blank + 'a, S: BuildHasher + 'a> StableWalk<'a>

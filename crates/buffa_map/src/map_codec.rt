@@ -12,6 +12,9 @@ pub use crate::codec::{MapCodec, MapValueDecode, MapValueDecodeStatus};
 pub use crate::entry::{merge_entry, merge_entry_with_unknowns};
 pub use crate::indexed::Map;
 pub use crate::message::Msg;
+pub use crate::message_merge::merge_message_entry_by;
+pub use crate::message_size::{message_field_len, message_field_len_by};
+pub use crate::message_write::{write_message_field, write_message_field_by};
 pub use crate::run::read_map_field;
 pub use crate::scalars::{
     Bool, BytesBuf, BytesVec, Fixed32, Fixed64, Int32, Int64, ProtoBytesMap, ProtoStringMap,

@@ -53,9 +53,9 @@ impl<'a, K: MapKey + Ord + 'a, V: Blank + 'a> MapWalk<'a> for BTreeMap<K, V> {
 }
 
 impl<K: MapKey + Ord, V: Blank> StableOrder for BTreeMap<K, V> {
-    ghost use Rattle.std.proofs.Common.{◌∙◌, sym};
+    ghost walk = { λ m. means K.meaning V.meaning m.entries };
 
-    ghost stable = { λ m k l p q. p ∙ sym q };
+    ghost stable = { λ m l h. h };
 }
 
 impl<'a, K: MapKey + Ord + 'a, V: Blank + 'a> StableWalk<'a> for BTreeMap<K, V> {}

@@ -83,8 +83,11 @@ where
 
 /// A map whose order is a function of its value: two walks of one value are one list.
 pub trait StableOrder: MapStorage {
-    /// Two walks of one value are one list.
-    ghost stable: { (m : Self) (k l : List (Self.Key.Meaning × Self.Value.Meaning)) → Self.walks m k → Self.walks m l → k ≡ l };
+    /// What each walk of a map gives.
+    ghost walk: { Self → List (Self.Key.Meaning × Self.Value.Meaning) };
+
+    /// No walk gives another list.
+    ghost stable: { (m : Self) (l : List (Self.Key.Meaning × Self.Value.Meaning)) → Self.walks m l → l ≡ walk m };
 }
 
 /// The same, which can be walked while it is lent for `'a`.

@@ -15,7 +15,7 @@ use buffa_wire::{EncodeError, EncodeSink, Tag, WireType, encode_varint};
 
 // Writes a field of an entry.
 #[tactic(auto, using(buffa_bytes::proofs::SinkLemmas::writes_then, buffa_bytes::proofs::SinkLemmas::front_first))]
-fn write_part<VC: MapCodec, S: EncodeSink>(
+pub(crate) fn write_part<VC: MapCodec, S: EncodeSink>(
     number: u32,
     value: &VC::Value,
     sink: &mut S,
@@ -42,7 +42,7 @@ fn write_entry<KC: MapCodec, VC: MapCodec, S: EncodeSink>(
 
 // Writes the tag and the length of a record.
 #[tactic(auto, using(buffa_bytes::proofs::SinkLemmas::writes_then, buffa_bytes::proofs::SinkLemmas::front_first))]
-fn write_head<S: EncodeSink>(number: u32, len: u64, sink: &mut S) -> Result<(), EncodeError>
+pub(crate) fn write_head<S: EncodeSink>(number: u32, len: u64, sink: &mut S) -> Result<(), EncodeError>
     requires { IsNumber number }
     ensures { Writes result (S.written sink.old) (tag_text number WireType.LengthDelimited ++ V len) (S.written sink.new) }
 {

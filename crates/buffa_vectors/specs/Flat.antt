@@ -1,10 +1,12 @@
 -- What bytes mean to a message of one int32: a field of number 1 is the value, others are passed over.
 -- Source: the protobuf encoding guide, "Message Structure".
-use Rattle.std.specs.Prelude.{ℤ, ℕ, ◌==◌, List, Option, Some, None, Result, Ok, Err, if◌then◌else◌}
+use Rattle.std.specs.Prelude.{ℤ, pos, negsuc, ℕ, zero, suc, ◌==◌, List, [], ◌∷◌, ◌++◌, Option, Some, None, Result, Ok, Err, if◌then◌else◌}
+use Rattle.std.specs.Int.{cast_unsigned, w64}
+use Rattle.buffa_wire.specs.Records.{Datum, varint}
 use Rattle.buffa_wire.specs.Gives.{◌>>=◌}
 use Rattle.buffa_wire.specs.Left.{Left, nothing}
 use Rattle.buffa_wire.specs.Reading.{tag_at, check_wire, skip_at}
-use Rattle.buffa_wire.specs.Values.{int32_at}
+use Rattle.buffa_wire.specs.Values.{int32_at, int32_text, tag_text}
 use Rattle.buffa_bytes.specs.declared.wire_type.WireType.{WireType}
 use Rattle.buffa_bytes.specs.declared.wire_type.WireType.TheVariants.{Varint}
 use Rattle.buffa_bytes.specs.declared.error.DecodeError.{DecodeError}
@@ -27,3 +29,15 @@ flat_merged d v bs = value_of (along_at (flat_at d) v bs)
 
 abbrev pub flat_cost : ℕ → List ℕ → Left
 flat_cost d bs = nothing
+
+-- the field of the value, not written at 0
+abbrev pub value_text : ℤ → List ℕ
+value_text (pos zero) = []
+value_text (pos (suc n)) = tag_text 1 Varint ++ int32_text (pos (suc n))
+value_text (negsuc n) = tag_text 1 Varint ++ int32_text (negsuc n)
+
+-- its record
+abbrev pub value_records : ℤ → List (ℕ × Datum)
+value_records (pos zero) = []
+value_records (pos (suc n)) = (1, varint (cast_unsigned w64 (pos (suc n)))) ∷ []
+value_records (negsuc n) = (1, varint (cast_unsigned w64 (negsuc n))) ∷ []

@@ -1,5 +1,5 @@
 -- What a message of one int32 owes.
-use Rattle.std.proofs.Common.{◌≡◌, ◌⊎◌, inl, inr, ℤ, ℕ, zero, suc, ◌==◌, ◌<◌, ◌≤◌, Bool, true, false, List, [], ◌∷◌, ◌++◌, length, Option, Some, None, Result, Ok, Err, refl, sym, ap, subst, ◌∙◌, arith, append_assoc, append-nil, length-append, if◌then◌else◌}
+use Rattle.std.proofs.Common.{◌≡◌, ◌⊎◌, inl, inr, ℤ, FitsSigned, pos, negsuc, ℕ, ◌+◌, zero, suc, ◌==◌, ◌<◌, ◌≤◌, Bool, true, false, List, [], ◌∷◌, ◌++◌, length, Option, Some, None, Result, Ok, Err, refl, sym, ap, subst, ◌∙◌, arith, append_assoc, append-nil, length-append, if◌then◌else◌}
 use Rattle.std.specs.Option.{option_and_then}
 use Rattle.std.proofs.lemmas.Bool.{eqb-true, eqb-false, eq-eqb, ne_eqb}
 use Rattle.buffa_wire.specs.Gives.{◌>>=◌}
@@ -19,7 +19,13 @@ use Rattle.buffa_wire.proofs.MessageLemmas.{NoLimit, payload_no_limit, tag_no_li
 use Rattle.buffa_map.specs.Along.{along_at, along_within}
 use Rattle.buffa_map.proofs.AlongLemmas.{ok_same}
 use Rattle.buffa_map.proofs.EntryLemmas.{check_sound}
-use Rattle.buffa_vectors.specs.Flat.{flat_at, flat_merged, flat_payload, value_of}
+use Rattle.std.specs.Int.{cast_unsigned, w32, w64}
+use Rattle.buffa_bytes.proofs.IntLemmas.{int32_back, int32_below}
+use Rattle.buffa_bytes.proofs.ShortestLemmas.{V-last, length-V}
+use Rattle.buffa_bytes.proofs.VarintLemmas.{Var-V}
+use Rattle.buffa_wire.specs.Text.{W}
+use Rattle.buffa_wire.specs.Values.{int32_text, tag_text}
+use Rattle.buffa_vectors.specs.Flat.{flat_at, flat_merged, flat_payload, value_of, value_records, value_text}
 
 -- ---- steps along bytes, each of which takes some
 module _ {S : Type 0} (f : S → List ℕ → Result (S × List ℕ) DecodeError) (falls : (s : S) (bs : List ℕ) (x : S × List ℕ) → f s bs ≡ Ok x → length x.1 < length bs) where
@@ -171,3 +177,40 @@ field_refused d v n w bs e h t tag =
 
 pub flat_cost_some : 0 < 4
 flat_cost_some = omega arith
+
+-- ---- the text
+pub zero_text : (v : ℤ) → v ≡ pos 0 → value_text v ≡ []
+zero_text v h = ap value_text h
+
+pub some_text : (v : ℤ) → (v ≡ pos 0 → ⊥) → value_text v ≡ tag_text 1 Varint ++ int32_text v
+some_text (pos zero) h = absurd (h refl)
+some_text (pos (suc n)) h = refl
+some_text (negsuc n) h = refl
+
+pub value_text_records : (v : ℤ) → value_text v ≡ W (value_records v)
+value_text_records (pos zero) = refl
+value_text_records (pos (suc n)) = sym (append-nil (tag_text 1 Varint ++ int32_text (pos (suc n))))
+value_text_records (negsuc n) = sym (append-nil (tag_text 1 Varint ++ int32_text (negsuc n)))
+
+pub value_tag : IsTag (tag_text 1 Varint) 1 Varint
+value_tag = ((omega arith, omega arith), Var-V 8 (omega arith))
+
+-- the length of a field that is written
+pub length_field : (v : ℤ) → FitsSigned w32 v → length (tag_text 1 Varint ++ int32_text v) ≤ 11
+length_field v h = omega (arith, length-append (tag_text 1 Varint) (int32_text v), ap length (V-last 8 (omega arith)), length-V (cast_unsigned w64 v) (int32_below v h))
+
+pub length_tag : (v : ℤ) → length (tag_text 1 Varint ++ int32_text v) ≡ 1 + length (int32_text v)
+length_tag v = omega (arith, length-append (tag_text 1 Varint) (int32_text v), ap length (V-last 8 (omega arith)))
+
+read_field : (d : ℕ) (v : ℤ) → FitsSigned w32 v → flat_merged d (pos 0) (tag_text 1 Varint ++ int32_text v) ≡ Some v
+read_field d v h =
+    let text = tag_text 1 Varint ++ int32_text v in
+    let here : flat_at d (pos 0) text ≡ Ok (v, []) =
+    ap (λ z. flat_at d (pos 0) (tag_text 1 Varint ++ z)) (sym (append-nil (int32_text v))) ∙ rw (tag_complete (tag_text 1 Varint) 1 Varint (int32_text v ++ []) value_tag) (int32_back v [] h) in
+    let some : 0 < length text = omega (arith, length_tag v) in
+    ap value_of (along_ok (flat_at d) (flat_falls d) (pos 0) v text [] some here ∙ along_none (flat_at d) (flat_falls d) v)
+
+pub flat_back : (d : ℕ) (v : ℤ) → FitsSigned w32 v → flat_merged d (pos 0) (value_text v) ≡ Some v
+flat_back d (pos zero) h = flat_empty d (pos 0)
+flat_back d (pos (suc n)) h = read_field d (pos (suc n)) h
+flat_back d (negsuc n) h = read_field d (negsuc n) h

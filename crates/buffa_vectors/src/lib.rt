@@ -20,4 +20,5 @@ mod maps_table;
 #[cfg(test)]
 mod messages;
 pub mod round_trip;
+pub mod tree;
 pub mod word;

@@ -1,8 +1,11 @@
 //! Entries whose values are messages.
 
 use crate::flat::FlatMsg;
-use buffa_map::map_codec::{Int32, MapStorage, Msg, merge_entry, read_map_field};
-use buffa_wire::{Budget, DecodeContext, DecodeError, Pieces, RECURSION_LIMIT, WireType};
+use crate::tree::{Tree, size_tree, write_tree};
+use buffa_map::map_codec::{
+    Int32, MapStorage, Msg, merge_entry, message_field_len, read_map_field, write_message_field,
+};
+use buffa_wire::{Blank, Budget, DecodeContext, DecodeError, Pieces, RECURSION_LIMIT, SizeCache, WireType};
 use std::collections::BTreeMap;
 use std::test::Fail;
 
@@ -87,5 +90,45 @@ fn messages_are_refused(rt: HostRuntime) -> Result<(), Fail> {
         assert_eq!(rt; answer, Err(fault));
         assert_eq!(rt; map.storage_len(), 0);
     }
+    Ok(())
+}
+
+#[test]
+fn messages_are_sized_and_written(rt: HostRuntime) -> Result<(), Fail> {
+    let mut map: BTreeMap<i32, FlatMsg> = BTreeMap::new(rt.alloc());
+    map.storage_insert(2, FlatMsg { value: -3 })?;
+    map.storage_insert(1, FlatMsg { value: 0 })?;
+    let mut cache = SizeCache::new(rt.alloc());
+    let size = message_field_len::<Int32, FlatMsg, _>(&map, 1, &mut cache)?;
+    assert_eq!(rt; size, 23);
+    let mut text = Vec::new(rt.alloc());
+    write_message_field::<Int32, FlatMsg, _, _>(&map, 4, &mut cache, &mut text)?;
+    let expected: &[u8] = &[
+        0x22, 0x04, 0x08, 0x01, 0x12, 0x00, 0x22, 0x0F, 0x08, 0x02, 0x12, 0x0B, 0x08, 0xFD, 0xFF,
+        0xFF, 0xFF, 0xFF, 0xFF, 0xFF, 0xFF, 0xFF, 0x01,
+    ];
+    assert_eq!(rt; text.as_slice(), expected);
+    Ok(())
+}
+
+#[test]
+fn trees_are_sized_and_written(rt: HostRuntime) -> Result<(), Fail> {
+    let mut one: Tree = Blank::blank(rt.alloc());
+    one.children.storage_insert(2, Blank::blank(rt.alloc()))?;
+    let mut three: Tree = Blank::blank(rt.alloc());
+    three.label = 5;
+    let mut tree: Tree = Blank::blank(rt.alloc());
+    tree.children.storage_insert(3, three)?;
+    tree.children.storage_insert(1, one)?;
+    let mut cache = SizeCache::new(rt.alloc());
+    let size = size_tree(&tree, &mut cache)?;
+    assert_eq!(rt; size, 20);
+    let mut text = Vec::new(rt.alloc());
+    write_tree(&tree, &mut cache, &mut text)?;
+    let expected: &[u8] = &[
+        0x12, 0x0A, 0x08, 0x01, 0x12, 0x06, 0x12, 0x04, 0x08, 0x02, 0x12, 0x00, 0x12, 0x06, 0x08,
+        0x03, 0x12, 0x02, 0x08, 0x05,
+    ];
+    assert_eq!(rt; text.as_slice(), expected);
     Ok(())
 }

@@ -5,3 +5,4 @@ pub mod LoopLemmas
 pub mod ParseLemmas
 pub mod JoinLemmas
 pub mod MessageLemmas
+pub mod PassLemmas

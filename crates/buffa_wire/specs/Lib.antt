@@ -1,4 +1,6 @@
 pub mod Left
+pub mod Cache
+pub mod Passes
 pub mod Message
 pub mod Records
 pub mod Code

@@ -5,6 +5,7 @@
 #![tactic(auto)]
 
 pub mod budget;
+pub mod cache;
 pub mod context;
 pub mod laws;
 pub mod message;
@@ -18,6 +19,7 @@ pub use buffa_bytes::{
     MessageSetFault, Pieces, PlainKey, ProtoBytes, ProtoString, Tag, WireType, check_wire_type,
     decode_varint, encode_varint, skip_field_depth, types, varint_len,
 };
+pub use cache::SizeCache;
 pub use context::{DecodeContext, RECURSION_LIMIT};
 pub use message::{Message, MessageSpec};
 pub use unknown_fields::read::decode_unknown_field;

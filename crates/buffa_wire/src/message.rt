@@ -1,18 +1,27 @@
 //! Messages: values that bytes are merged into.
 
-ghost use Rattle.std.specs.Prelude.{◌≡◌, ◌≢◌, ◌++◌, ◌<◌, ℕ, List, [], Option, Some, IfErr, Ok, OnErr, OnOk};
+ghost use Rattle.std.specs.Prelude.{◌≡◌, ◌≢◌, ◌++◌, ◌<◌, ◌≤◌, ◌^◌, ℕ, List, [], length, Option, Some, IfErr, IfOk, Ok, OnErr, OnOk};
 ghost use Rattle.std.specs.Option.{option_and_then};
 ghost use Rattle.buffa_bytes.specs.declared.error.DecodeError.TheVariants.{OutOfMemory};
 ghost use Rattle.buffa_bytes.specs.Field.{SomeField};
 ghost use Rattle.buffa_bytes.specs.Join.{Join};
 ghost use Rattle.buffa_bytes.specs.Reading.{delimited_at};
 ghost use Rattle.buffa_wire.specs.Left.{Left, Pays, PaysAtMost, left_in, nothing, plus};
+ghost use Rattle.buffa_bytes.specs.declared.error.EncodeError.TheVariants as error;
+ghost use Rattle.buffa_wire.specs.Parse.{Fits};
+ghost use Rattle.buffa_wire.specs.Passes.{IsNext, IsSized, IsWritten};
+ghost use Rattle.buffa_wire.specs.Records.{Datum, records_of};
+ghost use Rattle.buffa_wire.specs.Text.{W};
 ghost use Rattle.buffa_wire.specs.Message.{IsFieldMerged, IsMerged, PayloadFault, cost_in, cost_of_payload, merged_in};
 
+use crate::cache::SizeCache;
 use crate::context::DecodeContext;
 use buffa_bytes::types::decode_bytes;
-use buffa_bytes::{Blank, Buf, DecodeError, Tag};
+use buffa_bytes::{Blank, Buf, DecodeError, EncodeError, EncodeSink, Tag};
 use std::alloc::Global;
+
+/// The bytes that a message's text may have.
+pub const MAX_MESSAGE_BYTES: u32 = 2_147_483_647;
 
 /// What the bytes of a type of messages mean.
 pub trait MessageSpec: Blank {
@@ -26,6 +35,27 @@ pub trait MessageSpec: Blank {
 
     /// At a depth, the slots and units that merging bytes costs, malformed ones too.
     ghost cost: { ℕ → List ℕ → Left };
+
+    /// The text of a value.
+    ghost text: { Self.Meaning → List ℕ };
+
+    /// The records whose text it is.
+    ghost records: { Self.Meaning → List (ℕ × Datum) };
+
+    /// The sizes of the messages in it, in the order in which its passes reserve and consume them.
+    ghost slots: { Self.Meaning → List ℕ };
+
+    /// How deep groups and messages nest in the text.
+    ghost levels: { Self.Meaning → ℕ };
+
+    /// The values that their text reads back to.
+    ghost normal: { Self.Meaning → Type 0 };
+
+    /// The text is that of the records.
+    ghost text_records: { (v : Self.Meaning) → text v ≡ W (records v) };
+
+    /// The text reads back, where no length is too large to be read.
+    ghost merged_text: { (d : ℕ) (v : Self.Meaning) → Fits (records_of (records v)) → normal v → levels v ≤ d → merged d Self.blank_is (text v) ≡ Some v };
 
     /// An element has a cost.
     ghost positive: { 0 < COST };
@@ -45,8 +75,54 @@ pub trait MessageSpec: Blank {
     ghost cost_next: { (d : ℕ) (f r : List ℕ) → SomeField d f → cost d (f ++ r) ≡ plus (cost d f) (cost d r) };
 }
 
-/// A message, which bytes can be merged into.
+/// A message, which bytes can be merged into, and which is written in two passes.
 pub trait Message: MessageSpec {
+    /// The size pass: the length of the text, or 2^32 - 1 where it is more. The value's slots are appended.
+    ///
+    /// # Errors
+    /// [`EncodeError::OutOfMemory`] alone; the old slots come first then.
+    fn compute_size(&self, cache: &mut SizeCache) -> Result<u32, EncodeError>
+        ensures { IsSized (Self.text (Self.meaning self.now)) (Self.slots (Self.meaning self.now)) cache.old result cache.new };
+
+    /// The write pass, which consumes the value's slots. Where the text has at most 2^31 - 1 bytes it is
+    /// appended to the sink.
+    ///
+    /// # Errors
+    /// [`EncodeError::OutOfMemory`] alone, after a beginning of the text.
+    fn write_to<S: EncodeSink>(
+        &self,
+        cache: &mut SizeCache,
+        sink: &mut S,
+    ) -> Result<(), EncodeError>
+        requires { IsNext (Self.slots (Self.meaning self.now)) cache.old }
+        ensures { IsWritten (Self.text (Self.meaning self.now)) (Self.slots (Self.meaning self.now)) cache.old (S.written sink.old) result cache.new (S.written sink.new) };
+
+    /// Leaves the default.
+    fn clear(&mut self, alloc: Global)
+        ensures { Self.meaning self.new ≡ Self.blank_is }
+    {
+        *self = Self::blank(alloc);
+    }
+
+    /// The text, by both passes.
+    ///
+    /// # Errors
+    /// [`EncodeError::MessageTooLarge`] where the text is longer than 2^31 - 1 bytes; or
+    /// [`EncodeError::OutOfMemory`].
+    fn try_encode_to_vec(&self, alloc: Global) -> Result<Vec<u8>, EncodeError>
+        ensures text { IfOk result (λ v. (v.items ≡ Self.text (Self.meaning self.now)) × (length (Self.text (Self.meaning self.now)) < 2 ^ 31)) }
+        ensures err { IfErr result (λ e. e ≢ error.OutOfMemory → (e ≡ error.MessageTooLarge) × (2 ^ 31 ≤ length (Self.text (Self.meaning self.now)))) }
+    {
+        let mut cache = SizeCache::new(alloc);
+        let size = self.compute_size(&mut cache)?;
+        if size > MAX_MESSAGE_BYTES {
+            return Err(EncodeError::MessageTooLarge);
+        }
+        let mut text = Vec::new(alloc);
+        self.write_to(&mut cache, &mut text)?;
+        Ok(text)
+    }
+
     /// Merges the field whose tag was read, and leaves what follows it.
     ///
     /// # Errors

@@ -1,0 +1,43 @@
+-- What the two passes promise that write a message: the one sizes it, the other writes it.
+use Rattle.std.specs.Prelude.{◌≡◌, ℕ, ◌+◌, ◌-◌, ◌<◌, ◌^◌, List, ◌++◌, length, min, Result, MatchResult}
+use Rattle.buffa_bytes.specs.declared.error.EncodeError.{EncodeError}
+use Rattle.buffa_bytes.specs.declared.error.EncodeError.TheVariants.{OutOfMemory}
+use Rattle.buffa_wire.specs.Cache.{Cache, left, appended, advanced}
+
+-- a length as a number of 32 bits, which a greater one doesn't pass
+abbrev pub cap : ℕ → ℕ
+cap n = min n (2 ^ 32 - 1)
+
+-- a message of this text isn't too large to be written
+abbrev pub IsSmall : List ℕ → Type 0
+IsSmall text = length text < 2 ^ 31
+
+-- the old slots come first, and nothing was consumed
+abbrev pub IsLonger : Cache → Cache → Type 0
+IsLonger old new = (more : List ℕ) × (new ≡ appended more old)
+
+-- the size pass over a value of this text and these slots
+abbrev pub IsSized : List ℕ → List ℕ → Cache → Result ℕ EncodeError → Cache → Type 0
+IsSized text slots old r new =
+    MatchResult r (λ n. (n ≡ cap (length text)) × (new ≡ appended slots old)) (λ e. (e ≡ OutOfMemory) × IsLonger old new)
+
+-- the next slots are these
+abbrev pub IsNext : List ℕ → Cache → Type 0
+IsNext slots c = (rest : List ℕ) × (left c ≡ slots ++ rest)
+
+-- bs begins the text
+abbrev pub Begins : List ℕ → List ℕ → Type 0
+Begins bs text = (rest : List ℕ) × (text ≡ bs ++ rest)
+
+-- the write pass over it: the sink's old bytes stay first, and these slots are consumed; where the premise holds the
+-- text is written, or a beginning of it if memory runs out
+abbrev pub WritesIf : {T : Type 0} → Type 0 → List ℕ → List ℕ → Cache → List ℕ → Result T EncodeError → Cache → List ℕ → Type 0
+WritesIf small text slots old before r new after =
+    (bs : List ℕ) × (after ≡ before ++ bs)
+    × MatchResult r
+    (λ _. (new ≡ advanced (length slots) old) × (small → bs ≡ text))
+    (λ e. (e ≡ OutOfMemory) × (small → Begins bs text))
+
+-- the same of a message, whose text is written where it isn't too large
+abbrev pub IsWritten : {T : Type 0} → List ℕ → List ℕ → Cache → List ℕ → Result T EncodeError → Cache → List ℕ → Type 0
+IsWritten text slots old before r new after = WritesIf (IsSmall text) text slots old before r new after

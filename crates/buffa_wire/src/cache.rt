@@ -1,0 +1,81 @@
+//! The sizes that one pass reserves and the other consumes.
+
+ghost use Rattle.std.specs.Prelude.{◌≡◌, ◌+◌, ◌<◌, ◌∷◌, [], length, slice_index, slice_set, IfErr, IfOk, OnErr, OnOk};
+ghost use Rattle.buffa_bytes.specs.declared.error.EncodeError.TheVariants as error;
+ghost use Rattle.buffa_wire.specs.Cache.{advanced, appended};
+
+use buffa_bytes::EncodeError;
+use std::alloc::Global;
+use std::marker::Model;
+
+/// Sizes of nested messages, which the size pass puts in and the write pass takes out, in one order.
+///
+/// ```ignore
+/// let mut cache = SizeCache::new(alloc);
+/// let size = message.compute_size(&mut cache)?;
+/// message.write_to(&mut cache, &mut text)?;
+/// ```
+#[derive(Drop)]
+pub struct SizeCache {
+    slots: Vec<u32>,
+    next: usize,
+}
+
+impl Model for SizeCache {
+    ghost use Rattle.std.specs.Prelude.{◌≤◌, length};
+    ghost use Rattle.buffa_wire.specs.Cache.{Cache};
+
+    ghost Value = { Cache };
+
+    ghost view = { λ c. record { slots = c.slots.items; next = c.next } };
+
+    ghost invariant = { λ c. c.next ≤ length c.slots.items };
+}
+
+impl SizeCache {
+    /// No slots. It takes no memory.
+    pub fn new(alloc: Global) -> SizeCache
+        ensures { result ≡ record { slots = []; next = 0 } }
+    {
+        SizeCache {
+            slots: Vec::new(alloc),
+            next: 0,
+        }
+    }
+
+    /// Reserves the next slot, which holds 0 until it is set, and gives its place.
+    ///
+    /// # Errors
+    /// [`EncodeError::OutOfMemory`] alone; nothing is reserved then.
+    pub fn reserve(&mut self) -> Result<usize, EncodeError>
+        ensures place { IfOk result (λ slot. slot ≡ length self.old.slots) }
+        ensures ok { OnOk result (self.new ≡ appended (0 ∷ []) self.old) }
+        ensures err { OnErr result (self.new ≡ self.old) }
+        ensures which { IfErr result (λ e. e ≡ error.OutOfMemory) }
+    {
+        let slot = self.slots.len();
+        match self.slots.push(0) {
+            Ok(()) => Ok(slot),
+            Err(_) => Err(EncodeError::OutOfMemory),
+        }
+    }
+
+    /// Puts a size into a reserved slot. It takes no memory.
+    pub fn set(&mut self, slot: usize, size: u32)
+        requires { slot < length self.old.slots }
+        ensures { self.new ≡ record { slots = slice_set self.old.slots slot size; next = self.old.next } }
+    {
+        self.slots[slot] = size;
+    }
+
+    /// Takes the next slot, in the order reserved. It takes no memory.
+    pub fn consume_next(&mut self) -> u32
+        requires { self.old.next < length self.old.slots }
+        ensures size { result ≡ slice_index self.old.slots self.old.next }
+        ensures rest { self.new ≡ advanced 1 self.old }
+    {
+        let size = self.slots[self.next];
+        self.next += 1;
+        size
+    }
+}
