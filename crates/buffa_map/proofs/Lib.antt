@@ -8,3 +8,5 @@ pub mod RunLemmas
 pub mod SizeLemmas
 pub mod WriteLemmas
 pub mod BackLemmas
+pub mod ClassLemmas
+pub mod RewriteLemmas

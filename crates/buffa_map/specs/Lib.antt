@@ -8,3 +8,6 @@ pub mod Run
 pub mod Lent
 pub mod Text
 pub mod Colour
+pub mod Enums
+pub mod Rewrite
+pub mod EnumLaws

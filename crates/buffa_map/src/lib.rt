@@ -20,6 +20,7 @@ pub mod laws;
 pub mod map_codec;
 mod ordered;
 pub mod parts;
+pub mod rewrite;
 pub mod run;
 pub mod scalars;
 pub mod size;

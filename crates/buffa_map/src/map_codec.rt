@@ -11,11 +11,12 @@
 pub use crate::codec::{MapCodec, MapValueDecode, MapValueDecodeStatus};
 pub use crate::entry::{merge_entry, merge_entry_with_unknowns};
 pub use crate::indexed::Map;
+pub use crate::rewrite::{RewriteError, rewrite_map_field};
 pub use crate::run::read_map_field;
 pub use crate::scalars::{
-    Bool, BytesBuf, BytesVec, Fixed32, Fixed64, Int32, Int64, ProtoBytesMap, ProtoStringMap,
-    Sfixed32, Sfixed64, Sint32, Sint64, Str, Uint32, Uint64,
+    Bool, BytesBuf, BytesVec, ClosedEnum, Fixed32, Fixed64, Int32, Int64, OpenEnum, ProtoBytesMap,
+    ProtoStringMap, Sfixed32, Sfixed64, Sint32, Sint64, Str, Uint32, Uint64,
 };
 pub use crate::size::field_len;
-pub use crate::storage::{MapStorage, MapWalk, StableOrder, StableWalk};
+pub use crate::storage::{MapStorage, MapWalk, MapWrite, StableOrder, StableWalk};
 pub use crate::write::write_field;

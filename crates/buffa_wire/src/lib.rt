@@ -6,6 +6,7 @@
 
 pub mod budget;
 pub mod context;
+pub mod enumeration;
 pub mod laws;
 #[cfg(test)]
 mod tests;
@@ -18,5 +19,6 @@ pub use buffa_bytes::{
     decode_varint, encode_varint, skip_field_depth, types, varint_len,
 };
 pub use context::{DecodeContext, RECURSION_LIMIT};
+pub use enumeration::{EnumValue, Enumeration};
 pub use unknown_fields::read::decode_unknown_field;
 pub use unknown_fields::{UnknownField, UnknownFieldData, UnknownFields};
