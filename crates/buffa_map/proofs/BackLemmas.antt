@@ -20,7 +20,7 @@ use Rattle.buffa_map.specs.Run.{Fold, IsRecord, Run, Said, pair_parts}
 use Rattle.buffa_map.specs.Text.{AllHold, HasText, entry_text, field_text, record_text}
 use Rattle.buffa_map.specs.declared.parts.Parts.{Parts}
 
-is_tag : (n : ℕ) (w : WireType) → IsNumber n → IsTag (tag_text n w) n w
+pub is_tag : (n : ℕ) (w : WireType) → IsNumber n → IsTag (tag_text n w) n w
 is_tag n w h = (h, Var-V (8 * n + wire_number w) (omega (arith, wire_small w)))
 
 module _ {K W : Type 0} (key : Reading K) (val : Reading W) (kw : Writing K) (vw : Writing W) (same_key : kw.wire ≡ key.wire) (same_val : vw.wire ≡ val.wire)

@@ -11,3 +11,5 @@ pub mod SizeLemmas
 pub mod WriteLemmas
 pub mod BackLemmas
 pub mod MessageFieldLemmas
+pub mod ClassLemmas
+pub mod RewriteLemmas

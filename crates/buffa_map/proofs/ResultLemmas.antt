@@ -12,3 +12,7 @@ OnErr-map (Err e) f h = f h
 pub IfErr-map : {T E : Type 0} {P Q : E → Type 0} (r : Result T E) → ((e : E) → P e → Q e) → IfErr r P → IfErr r Q
 IfErr-map (Ok v) f h = h
 IfErr-map (Err e) f h = f e h
+
+pub OnOk-always : {T E : Type 0} {P : Type 0} (r : Result T E) → P → OnOk r P
+OnOk-always (Ok v) h = h
+OnOk-always (Err e) h = tt

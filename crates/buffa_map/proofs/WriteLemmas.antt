@@ -8,7 +8,10 @@ use Rattle.buffa_bytes.specs.declared.wire_type.WireType.TheVariants.{LengthDeli
 use Rattle.buffa_bytes.specs.declared.error.EncodeError.{EncodeError}
 use Rattle.buffa_bytes.specs.declared.error.EncodeError.TheVariants.{MessageTooLarge, GroupRefused, OutOfMemory}
 use Rattle.buffa_bytes.proofs.SinkLemmas.{front_first, front_second}
+use Rattle.buffa_wire.specs.Records.{Datum}
+use Rattle.buffa_wire.specs.Text as records
 use Rattle.buffa_map.specs.Codec.{Writing}
+use Rattle.buffa_map.specs.Rewrite.{RefusesRewrite, WritesRewrite}
 use Rattle.buffa_map.specs.Text.{entry_text, record_text, field_text, AllHold, HasText, RefusesRecord, WritesRecord, RefusesField, WritesField}
 
 module _ {K W : Type 0} (key : Writing K) (val : Writing W) (n : ℕ) where
@@ -57,3 +60,20 @@ module _ {K W : Type 0} (key : Writing K) (val : Writing W) (n : ℕ) where
   pub field_refused : {T : Type 0} {r : Result T EncodeError} {e d : EncodeError} → r ≡ Err e → e ≡ d → (old mid new : List ℕ) (all done : List (K × W)) (p : K × W) (rest : List (K × W)) →
       all ≡ done ++ p ∷ rest → HasText key val done → mid ≡ old ++ field_text key val n done → RefusesRecord key val n mid new p d → WritesField key val n old new r all
   field_refused {d = d} eq same old mid new all done p rest is has m w = rw (eq, same) (refused old mid new all done p rest is has m d w)
+
+-- ---- a map, and kept records behind it
+module _ {K W : Type 0} (key : Writing K) (val : Writing W) (n : ℕ) (kept : List (ℕ × Datum)) where
+  rewrite_stops : (old new : List ℕ) (l : List (K × W)) (e : EncodeError) → RefusesField key val n old new l e → RefusesRewrite key val n kept old new l e
+  rewrite_stops old new l OutOfMemory w = front_first old (field_text key val n l) (records.W kept) new w
+  rewrite_stops old new l MessageTooLarge w = w
+  rewrite_stops old new l (GroupRefused e) w = absurd w
+
+  -- a refusal of the map, as `?` hands it on
+  pub rewrite_refused : {T : Type 0} {r : Result T EncodeError} {e d : EncodeError} → r ≡ Err e → e ≡ d → (old new : List ℕ) (l : List (K × W)) → RefusesField key val n old new l d → WritesRewrite key val n kept old new r l
+  rewrite_refused {d = d} is same old new l w = rw (is, same) (rewrite_stops old new l d w)
+
+  -- the records behind the map
+  pub rewrite_written : {T : Type 0} (r : Result T EncodeError) (old mid new : List ℕ) (l : List (K × W)) → HasText key val l → mid ≡ old ++ field_text key val n l → Writes r mid (records.W kept) new → WritesRewrite key val n kept old new r l
+  rewrite_written r old mid new l has m h = MatchResult-weaker r h
+      (λ x w. (has, w ∙ ap (λ z. z ++ records.W kept) m ∙ append_assoc old (field_text key val n l) (records.W kept)))
+      (λ e w. subst (RefusesRewrite key val n kept old new l) (sym w.0) (front_second old (field_text key val n l) (records.W kept) mid new m w.1))

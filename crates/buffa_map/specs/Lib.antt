@@ -12,3 +12,6 @@ pub mod MessageLaws
 pub mod MessageField
 pub mod Plain
 pub mod Colour
+pub mod Enums
+pub mod Rewrite
+pub mod EnumLaws

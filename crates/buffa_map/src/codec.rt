@@ -133,6 +133,12 @@ pub trait MapCodec: MapValueDecode {
     ghost reads_back: { (d : ℕ) (old v : Self.Value.Meaning) → fits v → normal v →
         (c : Content) × HasContent writing.wire (writing.text v) c × (Self.reading.reads d old c ≡ Ok (v, true)) };
 
+    /// The default is normal.
+    ghost blank_normal: { normal Self.Value.blank_is };
+
+    /// What is read is normal, where what stood was, so that what a map took in is written and read back.
+    ghost stays_normal: { (d : ℕ) (old : Self.Value.Meaning) (c : Content) (new : Self.Value.Meaning) (known : Bool) → normal old → Self.reading.reads d old c ≡ Ok (new, known) → normal new };
+
     /// The fixed length is that of every payload.
     ghost fixed: { (n : ℕ) → FIXED_LEN ≡ Some n → (v : Self.Value.Meaning) → fits v → length (writing.text v) ≡ n };
 }

@@ -4,8 +4,10 @@ ghost use Rattle.std.specs.HashMap.{HashMap};
 ghost use Rattle.std.specs.List.Sorted.{IsPermutation};
 ghost use Rattle.buffa_map.specs.Pairs.{means};
 
-use crate::storage::{MapStorage, MapWalk};
-use buffa_wire::{Blank, MapKey};
+use crate::codec::MapCodec;
+use crate::storage::{MapStorage, MapWalk, MapWrite};
+use crate::write::write_field;
+use buffa_wire::{Blank, EncodeError, EncodeSink, MapKey};
 use std::alloc::AllocError;
 use std::collections::{HashMap, hash_map};
 use std::hash::{BuildHasher, Hash};
@@ -48,5 +50,15 @@ impl<'a, K: MapKey + Hash + 'a, V: Blank + 'a, S: BuildHasher + 'a> MapWalk<'a>
 
     fn storage_iter(&'a self) -> hash_map::Iter<'a, K, V> {
         self.iter()
+    }
+}
+
+impl<K: MapKey + Hash, V: Blank> MapWrite for HashMap<K, V> {
+    fn storage_write<KC: MapCodec<Value = K>, VC: MapCodec<Value = V>, W: EncodeSink>(
+        &self,
+        number: u32,
+        sink: &mut W,
+    ) -> Result<(), EncodeError> {
+        write_field::<KC, VC, HashMap<K, V>, W>(self, number, sink)
     }
 }

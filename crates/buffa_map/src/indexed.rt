@@ -4,8 +4,10 @@ ghost use Rattle.std.specs.Prelude.{◌≡◌, OnErr, OnOk};
 ghost use Rattle.std.specs.HashMap.{HashMap};
 ghost use Rattle.buffa_map.specs.Pairs.{SamePairs, means, put};
 
-use crate::storage::{MapStorage, MapWalk, StableOrder, StableWalk};
-use buffa_wire::{Blank, MapKey};
+use crate::codec::MapCodec;
+use crate::storage::{MapStorage, MapWalk, MapWrite, StableOrder, StableWalk};
+use crate::write::write_field;
+use buffa_wire::{Blank, EncodeError, EncodeSink, MapKey};
 use indexmap::IndexMap;
 use std::alloc::AllocError;
 use std::hash::{BuildHasher, Hash};
@@ -72,3 +74,13 @@ impl<K: MapKey + Hash, V: Blank, S: BuildHasher> StableOrder for IndexMap<K, V, 
 
 impl<'a, K: MapKey + Hash + 'a, V: Blank + 'a, S: BuildHasher + 'a> StableWalk<'a>
     for IndexMap<K, V, S> {}
+
+impl<K: MapKey + Hash, V: Blank> MapWrite for IndexMap<K, V> {
+    fn storage_write<KC: MapCodec<Value = K>, VC: MapCodec<Value = V>, W: EncodeSink>(
+        &self,
+        number: u32,
+        sink: &mut W,
+    ) -> Result<(), EncodeError> {
+        write_field::<KC, VC, IndexMap<K, V>, W>(self, number, sink)
+    }
+}

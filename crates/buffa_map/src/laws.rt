@@ -1,6 +1,7 @@
 //! What the definitions say together: each law is a function with nothing to do, whose contract is the law.
 
-ghost use Rattle.std.specs.Prelude.{◌≡◌, ◌+◌, ◌*◌, ◌++◌, ◌↔◌, ℕ, List, [], false, length, Ok, Err};
+ghost use Rattle.std.specs.Prelude.{◌≡◌, ◌+◌, ◌*◌, ◌++◌, ◌↔◌, ℕ, List, [], false, length, Ok, Err, ℤ, Bool};
+ghost use Rattle.std.specs.Cmp.{IsEquivalence};
 ghost use Rattle.std.specs.List.{IsDistinct};
 ghost use Rattle.std.specs.Map.{keys_of};
 ghost use Rattle.buffa_bytes.specs.declared.error.DecodeError.{DecodeError};
@@ -12,6 +13,9 @@ ghost use Rattle.buffa_wire.specs.Values.{tag_text};
 ghost use Rattle.buffa_wire.specs.Left.{Lacks, Left, nothing, plus, slots, units};
 ghost use Rattle.buffa_map.specs.Entry.{EntryFault, FaultOf, IsEntry, entry_of, inner_need, need_of};
 ghost use Rattle.buffa_map.specs.Run.{Fold, Kept, Paid, Run, RunFault, Said, inner_needs, record_need, run_of};
+ghost use Rattle.buffa_wire.specs.Enums.{DeclaresBlank, Numbers, Refines};
+ghost use Rattle.buffa_map.specs.Enums.{ClosedFits, closed_reading, closed_writing};
+ghost use Rattle.buffa_map.specs.Rewrite.{IsRewrite, KeepsMeaning};
 ghost use Rattle.buffa_map.specs.Text.{AllHold, HasText, field_size, field_text};
 ghost use Rattle.buffa_map.specs.declared.parts.Parts.{Parts};
 
@@ -87,4 +91,16 @@ pub fn written_is_read<
 >()
     ensures { (d n : ℕ) (l : List (KC.Value.Meaning × VC.Value.Meaning)) → IsNumber n → HasText KC.writing VC.writing l → AllHold KC.fits VC.fits l → AllHold KC.normal VC.normal l → IsDistinct C.equal (keys_of l) →
         (es : List (Said KC.Value.Meaning VC.Value.Meaning)) × Run KC.reading VC.reading d n (field_text KC.writing VC.writing n l) es × (Fold C.equal [] es ≡ l) }
+{}
+
+/// A rewrite means to a reader who knows more what the run means, where the run is ordered, and only there.
+///
+/// A reader of the enum `e` reads a run, and writes the map and the entries that `e` doesn't declare. The
+/// enum `f` declares all that `e` declares, and has the same default. Its reader reads the rewrite as it
+/// reads the run itself: it keeps the same entries, and makes the same map of any old one, stored keys too.
+pub fn rewrite_means<KC: MapCodec>()
+    ensures { (same : KC.Value.Meaning → KC.Value.Meaning → Bool) → IsEquivalence same → (e f : Numbers) → DeclaresBlank e → Refines e f →
+        (d n : ℕ) (b out : List ℕ) (es fs : List (Said KC.Value.Meaning ℤ)) → IsNumber n →
+        Run KC.reading (closed_reading e) d n b es → Run KC.reading (closed_reading f) d n b fs → IsRewrite same KC.writing closed_writing KC.fits (ClosedFits e) n es out →
+        (gs : List (Said KC.Value.Meaning ℤ)) × Run KC.reading (closed_reading f) d n out gs × KeepsMeaning same es fs gs }
 {}

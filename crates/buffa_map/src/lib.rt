@@ -25,6 +25,7 @@ pub mod message_write;
 mod ordered;
 pub mod parts;
 pub mod plain;
+pub mod rewrite;
 pub mod run;
 pub mod scalars;
 pub mod size;

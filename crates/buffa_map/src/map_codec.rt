@@ -15,11 +15,12 @@ pub use crate::message::Msg;
 pub use crate::message_merge::merge_message_entry_by;
 pub use crate::message_size::{message_field_len, message_field_len_by};
 pub use crate::message_write::{write_message_field, write_message_field_by};
+pub use crate::rewrite::{RewriteError, rewrite_map_field};
 pub use crate::run::read_map_field;
 pub use crate::scalars::{
-    Bool, BytesBuf, BytesVec, Fixed32, Fixed64, Int32, Int64, ProtoBytesMap, ProtoStringMap,
-    Sfixed32, Sfixed64, Sint32, Sint64, Str, Uint32, Uint64,
+    Bool, BytesBuf, BytesVec, ClosedEnum, Fixed32, Fixed64, Int32, Int64, OpenEnum, ProtoBytesMap,
+    ProtoStringMap, Sfixed32, Sfixed64, Sint32, Sint64, Str, Uint32, Uint64,
 };
 pub use crate::size::field_len;
-pub use crate::storage::{MapStorage, MapWalk, StableOrder, StableWalk};
+pub use crate::storage::{MapStorage, MapWalk, MapWrite, StableOrder, StableWalk};
 pub use crate::write::write_field;

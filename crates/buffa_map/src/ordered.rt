@@ -4,8 +4,10 @@ ghost use Rattle.std.specs.Prelude.{◌≡◌};
 ghost use Rattle.buffa_map.specs.Pairs.{means};
 ghost use Rattle.std.specs.BTreeMap.{BTreeMap};
 
-use crate::storage::{MapStorage, MapWalk, StableOrder, StableWalk};
-use buffa_wire::{Blank, MapKey};
+use crate::codec::MapCodec;
+use crate::storage::{MapStorage, MapWalk, MapWrite, StableOrder, StableWalk};
+use crate::write::write_field;
+use buffa_wire::{Blank, EncodeError, EncodeSink, MapKey};
 use std::alloc::AllocError;
 use std::collections::{BTreeMap, btree_map};
 
@@ -59,3 +61,13 @@ impl<K: MapKey + Ord, V: Blank> StableOrder for BTreeMap<K, V> {
 }
 
 impl<'a, K: MapKey + Ord + 'a, V: Blank + 'a> StableWalk<'a> for BTreeMap<K, V> {}
+
+impl<K: MapKey + Ord, V: Blank> MapWrite for BTreeMap<K, V> {
+    fn storage_write<KC: MapCodec<Value = K>, VC: MapCodec<Value = V>, S: EncodeSink>(
+        &self,
+        number: u32,
+        sink: &mut S,
+    ) -> Result<(), EncodeError> {
+        write_field::<KC, VC, BTreeMap<K, V>, S>(self, number, sink)
+    }
+}

@@ -10,17 +10,21 @@
 //! | [`Str`], [`ProtoStringMap`] | `String`, a type of one's own | length and bytes | | 24 |
 //! | [`BytesVec`], [`ProtoBytesMap`] | `Vec<u8>`, a type of one's own | length and bytes | | 24 |
 //! | [`BytesBuf`] | `bytes::Bytes` | length and bytes | | 32 |
+//! | [`ClosedEnum`] | a type that is an [`Enumeration`](buffa_wire::Enumeration) | varint | as `Int32` | 4 |
+//! | [`OpenEnum`] | [`EnumValue`](buffa_wire::EnumValue) of it | varint | as `Int32` | 8 |
 //!
 //! Each of them replaces the value that stood, and leaves it where a payload is refused.
 //! Source: the protobuf encoding guide, "Message Structure".
 
 mod delimited;
+mod enums;
 mod fixed;
 mod integer;
 mod signed_fixed;
 mod zigzag;
 
 pub use delimited::{BytesBuf, BytesVec, ProtoBytesMap, ProtoStringMap, Str};
+pub use enums::{ClosedEnum, OpenEnum};
 pub use fixed::{Fixed32, Fixed64};
 pub use integer::{Bool, Int32, Int64, Uint32, Uint64};
 pub use signed_fixed::{Sfixed32, Sfixed64};

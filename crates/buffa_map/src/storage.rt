@@ -6,10 +6,13 @@ ghost use Rattle.std.specs.Iterator.{IsFinite};
 ghost use Rattle.std.specs.List.{IsDistinct};
 ghost use Rattle.std.specs.Map.{keys_of};
 ghost use Rattle.std.specs.Map.Iter.{TakesFirst, deref_pair};
+ghost use Rattle.buffa_wire.specs.Number.{IsNumber};
+ghost use Rattle.buffa_map.specs.Text.{AllHold, WritesField};
 ghost use Rattle.buffa_map.specs.Pairs.{Enum, SamePairs, means, put};
 ghost use denote.Ref.{Bor};
 
-use buffa_wire::Blank;
+use crate::codec::MapCodec;
+use buffa_wire::{Blank, EncodeError, EncodeSink};
 use std::alloc::AllocError;
 
 /// A map, seen as the set of its pairs. Keys that are equal under the map's own equality are one key.
@@ -96,3 +99,22 @@ where
     Self::Key: 'a,
     Self::Value: 'a,
 {}
+
+/// A map that can be written while it is lent for as long as a call: each type that is a [`MapWalk`] for
+/// every lifetime, by [`crate::write::write_field`]. A function that both fills and writes a map asks for it,
+/// since it can't ask for a walk of every lifetime.
+pub trait MapWrite: MapStorage {
+    /// Writes the map as a map field, like [`crate::write::write_field`].
+    ///
+    /// # Errors
+    /// Those of [`crate::write::write_field`].
+    fn storage_write<
+        KC: MapCodec<Value = Self::Key>,
+        VC: MapCodec<Value = Self::Value>,
+        S: EncodeSink,
+    >(&self, number: u32, sink: &mut S) -> Result<(), EncodeError>
+        requires { IsNumber number }
+        ensures { (l : List (Self.Key.Meaning × Self.Value.Meaning)) × Enum Self.equal (Self.pairs self.now) l
+            × WritesField KC.writing VC.writing number (S.written sink.old) (S.written sink.new) result l
+            × OnOk result (AllHold KC.fits VC.fits l) };
+}

@@ -1,6 +1,7 @@
 //! Tests of the crates below, against values that others made.
 //!
-//! [`word`] is a key type of one's own, and [`round_trip`] takes a map through its bytes and back; the rest
+//! [`word`] is a key type of one's own, [`round_trip`] takes a map through its bytes and back, and [`passed_on`]
+//! through a reader that does not know all its values; the rest
 //! are tests.
 #![tactic(auto)]
 
@@ -13,12 +14,16 @@ mod fields;
 pub mod flat;
 #[cfg(test)]
 mod guide;
+pub mod hues;
 #[cfg(test)]
 mod maps;
 #[cfg(test)]
 mod maps_table;
 #[cfg(test)]
 mod messages;
+pub mod passed_on;
+#[cfg(test)]
+mod rewrites;
 pub mod round_trip;
 pub mod tree;
 pub mod word;

@@ -22,3 +22,4 @@ pub use Rattle.buffa_bytes.specs.Values
 pub use Rattle.buffa_bytes.specs.Varint
 pub use Rattle.buffa_bytes.specs.WireType
 pub use Rattle.buffa_bytes.specs.Written
+pub mod Enums

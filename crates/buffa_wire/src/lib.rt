@@ -7,6 +7,7 @@
 pub mod budget;
 pub mod cache;
 pub mod context;
+pub mod enumeration;
 pub mod laws;
 pub mod message;
 #[cfg(test)]
@@ -22,5 +23,6 @@ pub use buffa_bytes::{
 pub use cache::SizeCache;
 pub use context::{DecodeContext, RECURSION_LIMIT};
 pub use message::{Message, MessageSpec};
+pub use enumeration::{EnumValue, Enumeration};
 pub use unknown_fields::read::decode_unknown_field;
 pub use unknown_fields::{UnknownField, UnknownFieldData, UnknownFields};

@@ -89,6 +89,10 @@ impl MapCodec for Str {
 
     ghost reads_back = { λ d old v h _. string_reads_back (λ text. text) (λ text. text) v h refl };
 
+    ghost blank_normal = { tt };
+
+    ghost stays_normal = { λ d old c new known h _. tt };
+
     ghost fixed = { λ n h v _. no_fixed_length h };
 }
 
@@ -166,6 +170,10 @@ impl<T: ProtoString> MapCodec for ProtoStringMap<T> {
 
     ghost reads_back = { λ d old v h _. string_reads_back T.of_text T.text v h (T.ProtoString.meaning_stays v) };
 
+    ghost blank_normal = { tt };
+
+    ghost stays_normal = { λ d old c new known h _. tt };
+
     ghost fixed = { λ n h v _. no_fixed_length h };
 }
 
@@ -241,6 +249,10 @@ impl MapCodec for BytesVec {
 
     ghost reads_back = { λ d old v h _. bytes_read_back (λ bytes. bytes) (λ bytes. bytes) v h refl };
 
+    ghost blank_normal = { tt };
+
+    ghost stays_normal = { λ d old c new known h _. tt };
+
     ghost fixed = { λ n h v _. no_fixed_length h };
 }
 
@@ -315,6 +327,10 @@ impl MapCodec for BytesBuf {
     ghost written_wire = { refl };
 
     ghost reads_back = { λ d old v h _. bytes_read_back (λ bytes. bytes) (λ bytes. bytes) v h refl };
+
+    ghost blank_normal = { tt };
+
+    ghost stays_normal = { λ d old c new known h _. tt };
 
     ghost fixed = { λ n h v _. no_fixed_length h };
 }
@@ -392,6 +408,10 @@ impl<T: ProtoBytes> MapCodec for ProtoBytesMap<T> {
     ghost written_wire = { refl };
 
     ghost reads_back = { λ d old v h _. bytes_read_back T.of_bytes T.bytes v h (T.ProtoBytes.meaning_stays v) };
+
+    ghost blank_normal = { tt };
+
+    ghost stays_normal = { λ d old c new known h _. tt };
 
     ghost fixed = { λ n h v _. no_fixed_length h };
 }

@@ -89,6 +89,10 @@ impl MapCodec for Fixed32 {
 
     ghost reads_back = { λ d old v h _. four_reads_back fixed32_of (λ n. n) v (h) (refl) };
 
+    ghost blank_normal = { tt };
+
+    ghost stays_normal = { λ d old c new known h _. tt };
+
     ghost fixed = { λ n h v _. one_length h refl };
 }
 
@@ -165,6 +169,10 @@ impl MapCodec for Fixed64 {
     ghost written_wire = { refl };
 
     ghost reads_back = { λ d old v h _. eight_reads_back fixed64_of (λ n. n) v (h) (refl) };
+
+    ghost blank_normal = { tt };
+
+    ghost stays_normal = { λ d old c new known h _. tt };
 
     ghost fixed = { λ n h v _. one_length h refl };
 }

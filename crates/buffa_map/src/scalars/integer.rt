@@ -91,6 +91,10 @@ impl MapCodec for Int32 {
 
     ghost reads_back = { λ d old v h _. varint_reads_back int32_of (cast_unsigned w64) v (int32_below v h) (int32_means v h) };
 
+    ghost blank_normal = { tt };
+
+    ghost stays_normal = { λ d old c new known h _. tt };
+
     ghost fixed = { λ n h v _. no_fixed_length h };
 }
 
@@ -165,6 +169,10 @@ impl MapCodec for Int64 {
     ghost written_wire = { refl };
 
     ghost reads_back = { λ d old v h _. varint_reads_back int64_of (cast_unsigned w64) v (unsigned64_fits v h) (int64_means v h) };
+
+    ghost blank_normal = { tt };
+
+    ghost stays_normal = { λ d old c new known h _. tt };
 
     ghost fixed = { λ n h v _. no_fixed_length h };
 }
@@ -241,6 +249,10 @@ impl MapCodec for Uint32 {
 
     ghost reads_back = { λ d old v h _. varint_reads_back uint32_of (λ n. n) v (below_64 v h) (uint32_means v h) };
 
+    ghost blank_normal = { tt };
+
+    ghost stays_normal = { λ d old c new known h _. tt };
+
     ghost fixed = { λ n h v _. no_fixed_length h };
 }
 
@@ -316,6 +328,10 @@ impl MapCodec for Uint64 {
 
     ghost reads_back = { λ d old v h _. varint_reads_back uint64_of (λ n. n) v (h) (refl) };
 
+    ghost blank_normal = { tt };
+
+    ghost stays_normal = { λ d old c new known h _. tt };
+
     ghost fixed = { λ n h v _. no_fixed_length h };
 }
 
@@ -390,6 +406,10 @@ impl MapCodec for Bool {
     ghost written_wire = { refl };
 
     ghost reads_back = { λ d old v h _. varint_reads_back bool_of from_bool v (bool_fits v) (bool_means v) };
+
+    ghost blank_normal = { tt };
+
+    ghost stays_normal = { λ d old c new known h _. tt };
 
     ghost fixed = { λ n h v _. one_length h (bool_length v) };
 }

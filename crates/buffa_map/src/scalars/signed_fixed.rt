@@ -91,6 +91,10 @@ impl MapCodec for Sfixed32 {
 
     ghost reads_back = { λ d old v h _. four_reads_back sfixed32_of (cast_unsigned w32) v (unsigned32_fits v h) (sfixed32_means v h) };
 
+    ghost blank_normal = { tt };
+
+    ghost stays_normal = { λ d old c new known h _. tt };
+
     ghost fixed = { λ n h v _. one_length h refl };
 }
 
@@ -167,6 +171,10 @@ impl MapCodec for Sfixed64 {
     ghost written_wire = { refl };
 
     ghost reads_back = { λ d old v h _. eight_reads_back sfixed64_of (cast_unsigned w64) v (unsigned64_fits v h) (sfixed64_means v h) };
+
+    ghost blank_normal = { tt };
+
+    ghost stays_normal = { λ d old c new known h _. tt };
 
     ghost fixed = { λ n h v _. one_length h refl };
 }

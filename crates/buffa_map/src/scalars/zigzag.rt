@@ -90,6 +90,10 @@ impl MapCodec for Sint32 {
 
     ghost reads_back = { λ d old v h _. varint_reads_back sint32_of zigzag v (zigzag32_below v h) (sint32_means v h) };
 
+    ghost blank_normal = { tt };
+
+    ghost stays_normal = { λ d old c new known h _. tt };
+
     ghost fixed = { λ n h v _. no_fixed_length h };
 }
 
@@ -164,6 +168,10 @@ impl MapCodec for Sint64 {
     ghost written_wire = { refl };
 
     ghost reads_back = { λ d old v h _. varint_reads_back sint64_of zigzag v (zigzag_fits64 v h) (sint64_means v) };
+
+    ghost blank_normal = { tt };
+
+    ghost stays_normal = { λ d old c new known h _. tt };
 
     ghost fixed = { λ n h v _. no_fixed_length h };
 }

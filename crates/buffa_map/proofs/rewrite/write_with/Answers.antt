@@ -1,0 +1,20 @@
+use Rattle.std.proofs.lemmas.Result.{err_from_is_err_and}
+use Rattle.buffa_map.proofs.ResultLemmas.{OnOk-always}
+use Rattle.buffa_map.proofs.WriteLemmas.{rewrite_refused, rewrite_written}
+use Rattle.buffa_map.proofs.rewrite.write_with.Goals as goal
+
+pub returns-in_err-storage_write : goal.returns-in_err-storage_write
+returns-in_err-storage_write g c =
+    let q = err_from_is_err_and c.from_residual.result c.from_residual.ensures.1 in
+    let w = c.in_err-storage_write.ensures in
+    let old = g.S.EncodeSink.written c.args.sink.now in
+    let new = g.S.EncodeSink.written c.storage_write.new.sink in
+    (w.0, w.1, rewrite_refused g.KC.MapCodec.writing g.VC.MapCodec.writing c.args.number c.args.kept.now.records q.1 q.2 old new w.0 w.2, rw q.1 tt)
+
+pub returns : goal.returns
+returns g c =
+    let w = c.in_ok-storage_write.ensures in
+    let old = g.S.EncodeSink.written c.args.sink.now in
+    let mid = g.S.EncodeSink.written c.storage_write.new.sink in
+    let new = g.S.EncodeSink.written c.write_to.new.sink in
+    (w.0, w.1, rewrite_written g.KC.MapCodec.writing g.VC.MapCodec.writing c.args.number c.args.kept.now.records c.write_to.result old mid new w.0 w.2.0 w.2.1 c.write_to.ensures, OnOk-always c.write_to.result w.3)

@@ -1,0 +1,85 @@
+-- Rewrites: a reader of one enum reads a run, and writes the map and behind it the entries that it doesn't
+-- know. And when that means to a reader of another enum, who knows more, what the run means.
+use Rattle.std.specs.Prelude.{◌≡◌, ◌≢◌, ℕ, Bool, true, ◌&&◌, not, List, [], ◌∷◌, ◌++◌, Option, None, Some, IfSome, Result, MatchResult}
+use Rattle.std.specs.List.{filter}
+use Rattle.buffa_wire.specs.Text.{W}
+use Rattle.buffa_wire.specs.Records.{Datum}
+use Rattle.buffa_wire.specs.Written.{WritesFront}
+use Rattle.buffa_bytes.specs.declared.error.DecodeError.{DecodeError}
+use Rattle.buffa_bytes.specs.declared.error.EncodeError.{EncodeError}
+use Rattle.buffa_bytes.specs.declared.error.EncodeError.TheVariants.{GroupRefused, MessageTooLarge, OutOfMemory}
+use Rattle.buffa_map.specs.Codec.{Writing}
+use Rattle.buffa_map.specs.Pairs.{Enum, SamePairs}
+use Rattle.buffa_map.specs.Run.{Said, Fold, Kept, kept_records}
+use Rattle.buffa_map.specs.Text.{AllHold, HasText, RefusesField, field_text}
+use Rattle.buffa_map.specs.declared.rewrite.RewriteError.{RewriteError}
+use Rattle.buffa_map.specs.declared.rewrite.RewriteError.TheVariants.{Decode, Encode}
+
+-- out is a text of the map that the entries es make of the empty one, its pairs in any order, and behind it a
+-- record for each entry of es that isn't declared, in order
+abbrev pub IsRewrite : {K V : Type 0} → (K → K → Bool) → Writing K → Writing V → (K → Type 0) → (V → Type 0) → ℕ → List (Said K V) → List ℕ → Type 0
+IsRewrite {K} {V} eq key val KeyFits ValFits n es out =
+    (l : List (K × V)) × Enum eq (Fold eq [] es) l × HasText key val l × AllHold KeyFits ValFits l × (out ≡ field_text key val n l ++ W (kept_records n es))
+
+-- an entry to two readers of one run: its key, and whether its value is one that the first, and that the second reader's enum declares
+pub record Seen (K : Type 0) : Type 0 where
+  pub key : K
+  pub ignorant : Bool
+  pub informed : Bool
+
+-- the entries of one run, read by two readers
+abbrev pub seen : {K V : Type 0} → List (Said K V) → List (Said K V) → List (Seen K)
+seen [] fs = []
+seen (x ∷ es) [] = []
+seen (x ∷ es) (y ∷ fs) = record { key = y.parts.key; ignorant = x.parts.known; informed = y.parts.known } ∷ seen es fs
+
+-- only the informed reader's enum declares it
+abbrev pub is_new : {K : Type 0} → Seen K → Bool
+is_new x = x.informed && not x.ignorant
+
+abbrev pub first : {A : Type 0} → List A → Option A
+first [] = None
+first (x ∷ xs) = Some x
+
+abbrev pub last : {A : Type 0} → List A → Option A
+last [] = None
+last {A} (x ∷ xs) = elim (last xs) as (λ _. Option A) [ None ↦ Some x | Some y ↦ Some y ]
+
+-- Of the entries with one key: if one is new, then the last that the informed reader knows is new, and the
+-- first that it knows has the very key of the first that the ignorant one knows, if that knows any.
+abbrev pub IsOrderedClass : {K : Type 0} → List (Seen K) → Type 0
+IsOrderedClass xs =
+    filter is_new xs ≢ [] →
+    IfSome (last (filter (λ x. x.informed) xs)) (λ x. is_new x ≡ true)
+    × IfSome (first (filter (λ x. x.ignorant) xs)) (λ x. IfSome (first (filter (λ y. y.informed) xs)) (λ y. y.key ≡ x.key))
+
+-- the order condition, for each class of entries with equal keys
+abbrev pub Ordered : {K V : Type 0} → (K → K → Bool) → List (Said K V) → List (Said K V) → Type 0
+Ordered {K} eq es fs = (q : K) → IsOrderedClass (filter (λ x. eq q x.key) (seen es fs))
+
+-- What the entries gs of a rewrite have to do with the entries fs of the run, both as the informed reader has
+-- them, where es are the run's to the ignorant one. What the informed reader keeps is kept, in order; if the
+-- run is ordered, both make one map of any old map; and only then do both make one map of the empty one.
+abbrev pub KeepsMeaning : {K V : Type 0} → (K → K → Bool) → List (Said K V) → List (Said K V) → List (Said K V) → Type 0
+KeepsMeaning {K} {V} eq es fs gs =
+    (Kept gs ≡ Kept fs)
+    × (Ordered eq es fs → (m : List (K × V)) → SamePairs eq (Fold eq m gs) (Fold eq m fs))
+    × (SamePairs eq (Fold eq [] gs) (Fold eq [] fs) → Ordered eq es fs)
+
+-- ---- what is written
+module _ {K V : Type 0} (key : Writing K) (val : Writing V) (n : ℕ) (kept : List (ℕ × Datum)) (old new : List ℕ) where
+  -- Memory ran out after a beginning of the text of l and of the kept records; or an entry of l is too long,
+  -- and the records of the pairs before it were written.
+  abbrev pub RefusesRewrite : List (K × V) → EncodeError → Type 0
+  RefusesRewrite l OutOfMemory = WritesFront old (field_text key val n l ++ W kept) new
+  RefusesRewrite l MessageTooLarge = RefusesField key val n old new l MessageTooLarge
+  RefusesRewrite l (GroupRefused e) = ⊥
+
+  -- the text of l and of the kept records was written, or refused
+  abbrev pub WritesRewrite : {T : Type 0} → Result T EncodeError → List (K × V) → Type 0
+  WritesRewrite r l = MatchResult r (λ _. HasText key val l × (new ≡ old ++ (field_text key val n l ++ W kept))) (RefusesRewrite l)
+
+-- P of the fault, if the bytes were refused; and Q of the error, if the writing was
+abbrev pub MatchRefusal : RewriteError → (DecodeError → Type 0) → (EncodeError → Type 0) → Type 0
+MatchRefusal (Decode f) P Q = P f
+MatchRefusal (Encode e) P Q = Q e

@@ -1,0 +1,92 @@
+//! A map field passed on by a reader that doesn't know all its values.
+
+ghost use Rattle.std.specs.Prelude.{◌≡◌, ◌++◌, ℤ, List, OnOk};
+ghost use Rattle.buffa_wire.specs.Enums.{Refines, numbers};
+ghost use Rattle.buffa_wire.specs.Number.{IsNumber};
+ghost use Rattle.buffa_map.specs.Enums.{closed_reading};
+ghost use Rattle.buffa_map.specs.Pairs.{SamePairs};
+ghost use Rattle.buffa_map.specs.Rewrite.{Ordered};
+ghost use Rattle.buffa_map.specs.Run.{Fold, Run, Said, kept_records};
+
+use buffa_map::laws::{one_reading, rewrite_means};
+use buffa_map::map_codec::{
+    ClosedEnum, MapCodec, MapStorage, MapWrite, RewriteError, read_map_field, rewrite_map_field,
+};
+use buffa_wire::{
+    Budget, DEFAULT_UNKNOWN_FIELD_LIMIT, DecodeContext, DecodeError, Enumeration, UnknownFields,
+};
+use std::alloc::Global;
+
+/// Why a map field wasn't passed on.
+#[derive(Debug, Drop)]
+pub enum PassFault {
+    /// It couldn't be rewritten.
+    Rewrite(RewriteError),
+    /// The rewrite couldn't be read, for want of memory or of budget.
+    Decode(DecodeError),
+}
+
+/// Rewrites a map field through a map of the enum `E`, as a proxy does, and reads what was written into a
+/// map of the enum `F`, which declares all that `E` declares and has the same default.
+///
+/// Where the run is ordered that is what the run itself makes of the map, stored keys too; and the entries
+/// that `F` doesn't declare are kept as they are in the run.
+///
+/// # Errors
+/// Those of [`rewrite_map_field`] and of [`read_map_field`] at the default limits.
+///
+/// ```ignore
+/// passed_on::<Int32, Old, New, _, _>(alloc, 5, &bytes, 10, &mut scratch, &mut map, &mut unknown)?;
+/// ```
+pub fn passed_on<
+    KC: MapCodec,
+    E: Enumeration,
+    F: Enumeration,
+    C: MapWrite + MapStorage<Key = KC::Value, Value = E>,
+    D: MapStorage<Key = KC::Value, Value = F>,
+>(
+    alloc: Global,
+    number: u32,
+    bytes: &[u8],
+    depth: u32,
+    scratch: &mut C,
+    map: &mut D,
+    unknown: &mut UnknownFields,
+) -> Result<(), PassFault>
+    requires number { IsNumber number }
+    requires refines { Refines (numbers E.of_number E.blank_is) (numbers F.of_number F.blank_is) }
+    requires keys { C.equal ≡ D.equal }
+    ensures { OnOk result ((es fs : List (Said KC.Value.Meaning ℤ)) →
+        Run KC.reading (closed_reading (numbers E.of_number E.blank_is)) depth number bytes.now es →
+        Run KC.reading (closed_reading (numbers F.of_number F.blank_is)) depth number bytes.now fs →
+        (unknown.new.records ≡ unknown.old.records ++ kept_records number fs)
+        × (Ordered D.equal es fs → SamePairs D.equal (Fold D.equal (D.pairs map.old) fs) (D.pairs map.new))) }
+{
+    let mut text = Vec::new(alloc);
+    let mut budget = Budget::new(DEFAULT_UNKNOWN_FIELD_LIMIT);
+    let mut rest = bytes;
+    let ctx = DecodeContext::new(depth, &mut budget);
+    match rewrite_map_field::<KC, ClosedEnum<E>, C, _, _>(
+        alloc, scratch, number, &mut rest, ctx, &mut text,
+    ) {
+        Ok(()) => {}
+        Err(error) => return Err(PassFault::Rewrite(error)),
+    }
+    let mut fresh = Budget::new(DEFAULT_UNKNOWN_FIELD_LIMIT);
+    let mut written = text.as_slice();
+    let ctx = DecodeContext::new(depth, &mut fresh);
+    rewrite_means::<KC>();
+    one_reading::<KC, ClosedEnum<E>>();
+    one_reading::<KC, ClosedEnum<F>>();
+    match read_map_field::<KC, ClosedEnum<F>, D, _>(
+        alloc,
+        map,
+        number,
+        &mut written,
+        ctx,
+        Some(unknown),
+    ) {
+        Ok(()) => Ok(()),
+        Err(error) => Err(PassFault::Decode(error)),
+    }
+}

@@ -1,0 +1,83 @@
+//! Enums: types whose values are declared numbers, and values of open enums.
+
+ghost use Rattle.std.specs.Prelude.{◌≡◌, ℤ, IfSome, Option, Some, pos};
+ghost use Rattle.buffa_wire.specs.Enums.{DeclaresBlank, numbers, open_number};
+
+use buffa_bytes::Blank;
+use std::alloc::Global;
+
+/// An enum: each value has a number, and no two have one. A value means its number.
+///
+/// ```ignore
+/// let hue = Hue::from_i32(1); // Some(Hue::Green)
+/// let number = Hue::Green.to_i32(); // 1
+/// ```
+pub trait Enumeration: Blank<Meaning = i32> {
+    /// The value that has the number, if one has it.
+    ghost of_number: { ℤ → Option Self };
+
+    /// The value of the number, if one has it.
+    fn from_i32(number: i32) -> Option<Self>
+        ensures value { result ≡ of_number number }
+        ensures number { IfSome result (λ value. Self.meaning value ≡ number) };
+
+    /// The number.
+    fn to_i32(&self) -> i32
+        ensures { result ≡ Self.meaning self.now };
+
+    /// A value is the one of its number.
+    ghost stays: { (value : Self) → of_number (Self.meaning value) ≡ Some value };
+
+    /// The default is one of the values.
+    ghost blank_declared: { DeclaresBlank (numbers of_number Self.blank_is) };
+}
+
+/// A value of an open enum: a declared value, or a number.
+///
+/// ```ignore
+/// let hue = EnumValue::<Hue>::from_i32(7); // EnumValue::Unknown(7)
+/// ```
+#[derive(Clone, Copy, Debug, PartialEq, Eq, Drop)]
+pub enum EnumValue<E> {
+    /// A value that the enum declares.
+    Known(E),
+    /// A number, as a rule one that the enum doesn't declare.
+    Unknown(i32),
+}
+
+impl<E: Enumeration> EnumValue<E> {
+    /// The declared value of the number, or the number where none has it.
+    pub fn from_i32(number: i32) -> EnumValue<E>
+        ensures { ⟦<EnumValue<E> as Blank>⟧.meaning result ≡ open_number E.of_number number }
+    {
+        match E::from_i32(number) {
+            Some(value) => EnumValue::Known(value),
+            None => EnumValue::Unknown(number),
+        }
+    }
+
+    /// The number.
+    pub fn to_i32(&self) -> i32
+        ensures { result ≡ (⟦<EnumValue<E> as Blank>⟧.meaning self.now).1 }
+    {
+        match self {
+            EnumValue::Known(value) => value.to_i32(),
+            EnumValue::Unknown(number) => *number,
+        }
+    }
+}
+
+impl<E: Enumeration> Blank for EnumValue<E> {
+    ghost use Rattle.std.specs.Prelude.{true, false};
+    ghost use Rattle.buffa_wire.specs.declared.enumeration.EnumValue.TheVariants.{Known, Unknown};
+
+    type Meaning = (bool, i32);
+
+    ghost meaning = { elim [ Known value ↦ (true, E.meaning value) | Unknown number ↦ (false, number) ] };
+
+    ghost blank_is = { open_number E.of_number (pos 0) };
+
+    fn blank(_alloc: Global) -> EnumValue<E> {
+        EnumValue::from_i32(0)
+    }
+}
