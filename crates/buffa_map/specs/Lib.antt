@@ -8,3 +8,4 @@ pub mod Run
 pub mod Lent
 pub mod Text
 pub mod Colour
+pub mod Found

@@ -11,6 +11,7 @@ pub mod codec;
 mod colour;
 pub mod entry;
 pub mod fields;
+pub mod form;
 mod hashed;
 pub mod indexed;
 mod keep;
@@ -21,7 +22,9 @@ pub mod map_codec;
 mod ordered;
 pub mod parts;
 pub mod run;
+pub mod scalar;
 pub mod scalars;
+pub mod singular;
 pub mod size;
 pub mod storage;
 #[cfg(test)]

@@ -16,12 +16,8 @@
 
 mod delimited;
 mod fixed;
-mod integer;
-mod signed_fixed;
-mod zigzag;
+mod varint;
 
 pub use delimited::{BytesBuf, BytesVec, ProtoBytesMap, ProtoStringMap, Str};
-pub use fixed::{Fixed32, Fixed64};
-pub use integer::{Bool, Int32, Int64, Uint32, Uint64};
-pub use signed_fixed::{Sfixed32, Sfixed64};
-pub use zigzag::{Sint32, Sint64};
+pub use fixed::{Fixed32, Fixed64, Sfixed32, Sfixed64};
+pub use varint::{Bool, Int32, Int64, Sint32, Sint64, Uint32, Uint64};

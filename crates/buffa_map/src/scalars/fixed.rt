@@ -1,162 +1,167 @@
-//! Codecs of integers of 0 or more that are four or eight bytes, the lowest first.
+//! Scalars of four and of eight bytes, the lowest first.
 
-ghost use Rattle.std.specs.Prelude.{◌≡◌, ◌<◌, ◌^◌, Some, false, refl, true};
-ghost use Rattle.buffa_bytes.specs.Scalars.{fixed32_of, fixed64_of};
-ghost use Rattle.buffa_bytes.specs.declared.wire_type.WireType.TheVariants.{Fixed32, Fixed64};
-ghost use Rattle.buffa_map.specs.Scalars.{eight_writing, four_writing, number_reading};
-ghost use Rattle.buffa_map.specs.ScalarLaws.{always_known, eight_reads_back, four_reads_back, one_length};
+ghost use Rattle.std.specs.Prelude.{◌≡◌, ◌<◌, ◌^◌, FitsSigned, Some, refl};
+ghost use Rattle.std.specs.Int.{cast_unsigned, w32, w64};
+ghost use Rattle.buffa_bytes.specs.Scalars.{sfixed32_of, sfixed64_of};
+ghost use Rattle.buffa_bytes.proofs.ScalarLemmas.{sfixed32_means, sfixed64_means, unsigned32_fits, unsigned64_fits};
+ghost use Rattle.buffa_map.specs.ScalarLaws.{one_length};
 
 use crate::codec::sealed::Sealed;
-use crate::codec::{MapCodec, MapValueDecode, MapValueDecodeStatus};
-use buffa_wire::types::{
-    FIXED32_ENCODED_LEN, FIXED64_ENCODED_LEN, decode_fixed32, decode_fixed64, encode_fixed32,
-    encode_fixed64,
-};
-use buffa_wire::{Buf, DecodeContext, DecodeError, EncodeError, EncodeSink, WireType};
-use std::alloc::Global;
+use crate::form::{EightBytes, FourBytes};
+use crate::scalar::Scalar;
 
-/// `fixed32`: a `u32` as four bytes, the lowest first.
-///
-/// ```ignore
-/// Fixed32::encode(&1, &mut text)?; // 01 00 00 00
-/// ```
+/// `fixed32`: a `u32` as four bytes.
 pub struct Fixed32;
 
 impl Sealed for Fixed32 {}
 
-impl MapValueDecode for Fixed32 {
+impl Scalar for Fixed32 {
     type Value = u32;
 
-    const WIRE_TYPE: WireType = WireType::Fixed32;
+    type Form = FourBytes;
 
-    const MAY_RETURN_UNKNOWN: bool = false;
+    const UNITS: usize = 4;
 
-    const COST: usize = 4;
+    const LEN: Option<u64> = Some(4);
 
-    ghost WIRE_TYPE = { Fixed32 };
+    ghost UNITS = { 4 };
 
-    ghost MAY_RETURN_UNKNOWN = { false };
+    ghost LEN = { Some 4 };
 
-    ghost COST = { 4 };
+    ghost value_of = { λ n. n };
 
-    ghost reading = { number_reading Fixed32 0 fixed32_of };
-
-    ghost whole = { true };
-
-    fn merge<B: Buf>(
-        _alloc: Global,
-        value: &mut u32,
-        buf: &mut B,
-        _ctx: DecodeContext<'_>,
-    ) -> Result<MapValueDecodeStatus, DecodeError> {
-        *value = decode_fixed32(buf)?;
-        Ok(MapValueDecodeStatus::Known)
-    }
-
-    ghost wire = { refl };
-
-    ghost blank = { refl };
-
-    ghost declared = { λ _ d old c new known h. always_known new known h };
-}
-
-impl MapCodec for Fixed32 {
-    const FIXED_LEN: Option<u64> = Some(4);
-
-    ghost FIXED_LEN = { Some 4 };
-
-    ghost writing = { four_writing (λ n. n) };
+    ghost number_of = { λ n. n };
 
     ghost fits = { λ n. n < 2 ^ 32 };
 
-    ghost normal = { λ _. Unit {0} };
-
-    fn encoded_len(value: &u32) -> u64 {
-        // Reading the value tells that it is in range.
-        let _fits = *value;
-        FIXED32_ENCODED_LEN as u64
+    fn value_of(n: u64) -> u32 {
+        n as u32
     }
 
-    fn encode<S: EncodeSink>(value: &u32, sink: &mut S) -> Result<(), EncodeError> {
-        encode_fixed32(*value, sink)
+    fn number_of(value: &u32) -> u64 {
+        u64::from(*value)
     }
 
-    ghost written_wire = { refl };
+    ghost spelled = { λ v h. h };
 
-    ghost reads_back = { λ d old v h _. four_reads_back fixed32_of (λ n. n) v (h) (refl) };
+    ghost means = { λ v h. refl };
 
     ghost fixed = { λ n h v _. one_length h refl };
 }
 
-/// `fixed64`: a `u64` as eight bytes, the lowest first.
-///
-/// ```ignore
-/// Fixed64::encode(&1, &mut text)?; // 01 00 00 00 00 00 00 00
-/// ```
+/// `fixed64`: a `u64` as eight bytes.
 pub struct Fixed64;
 
 impl Sealed for Fixed64 {}
 
-impl MapValueDecode for Fixed64 {
+impl Scalar for Fixed64 {
     type Value = u64;
 
-    const WIRE_TYPE: WireType = WireType::Fixed64;
+    type Form = EightBytes;
 
-    const MAY_RETURN_UNKNOWN: bool = false;
+    const UNITS: usize = 8;
 
-    const COST: usize = 8;
+    const LEN: Option<u64> = Some(8);
 
-    ghost WIRE_TYPE = { Fixed64 };
+    ghost UNITS = { 8 };
 
-    ghost MAY_RETURN_UNKNOWN = { false };
+    ghost LEN = { Some 8 };
 
-    ghost COST = { 8 };
+    ghost value_of = { λ n. n };
 
-    ghost reading = { number_reading Fixed64 0 fixed64_of };
-
-    ghost whole = { true };
-
-    fn merge<B: Buf>(
-        _alloc: Global,
-        value: &mut u64,
-        buf: &mut B,
-        _ctx: DecodeContext<'_>,
-    ) -> Result<MapValueDecodeStatus, DecodeError> {
-        *value = decode_fixed64(buf)?;
-        Ok(MapValueDecodeStatus::Known)
-    }
-
-    ghost wire = { refl };
-
-    ghost blank = { refl };
-
-    ghost declared = { λ _ d old c new known h. always_known new known h };
-}
-
-impl MapCodec for Fixed64 {
-    const FIXED_LEN: Option<u64> = Some(8);
-
-    ghost FIXED_LEN = { Some 8 };
-
-    ghost writing = { eight_writing (λ n. n) };
+    ghost number_of = { λ n. n };
 
     ghost fits = { λ n. n < 2 ^ 64 };
 
-    ghost normal = { λ _. Unit {0} };
-
-    fn encoded_len(value: &u64) -> u64 {
-        // Reading the value tells that it is in range.
-        let _fits = *value;
-        FIXED64_ENCODED_LEN as u64
+    fn value_of(n: u64) -> u64 {
+        n
     }
 
-    fn encode<S: EncodeSink>(value: &u64, sink: &mut S) -> Result<(), EncodeError> {
-        encode_fixed64(*value, sink)
+    fn number_of(value: &u64) -> u64 {
+        *value
     }
 
-    ghost written_wire = { refl };
+    ghost spelled = { λ v h. h };
 
-    ghost reads_back = { λ d old v h _. eight_reads_back fixed64_of (λ n. n) v (h) (refl) };
+    ghost means = { λ v h. refl };
+
+    ghost fixed = { λ n h v _. one_length h refl };
+}
+
+/// `sfixed32`: an `i32` as four bytes in two's complement.
+pub struct Sfixed32;
+
+impl Sealed for Sfixed32 {}
+
+impl Scalar for Sfixed32 {
+    type Value = i32;
+
+    type Form = FourBytes;
+
+    const UNITS: usize = 4;
+
+    const LEN: Option<u64> = Some(4);
+
+    ghost UNITS = { 4 };
+
+    ghost LEN = { Some 4 };
+
+    ghost value_of = { sfixed32_of };
+
+    ghost number_of = { cast_unsigned w32 };
+
+    ghost fits = { FitsSigned w32 };
+
+    fn value_of(n: u64) -> i32 {
+        (n as u32).cast_signed()
+    }
+
+    fn number_of(value: &i32) -> u64 {
+        u64::from(value.cast_unsigned())
+    }
+
+    ghost spelled = { unsigned32_fits };
+
+    ghost means = { sfixed32_means };
+
+    ghost fixed = { λ n h v _. one_length h refl };
+}
+
+/// `sfixed64`: an `i64` as eight bytes in two's complement.
+pub struct Sfixed64;
+
+impl Sealed for Sfixed64 {}
+
+impl Scalar for Sfixed64 {
+    type Value = i64;
+
+    type Form = EightBytes;
+
+    const UNITS: usize = 8;
+
+    const LEN: Option<u64> = Some(8);
+
+    ghost UNITS = { 8 };
+
+    ghost LEN = { Some 8 };
+
+    ghost value_of = { sfixed64_of };
+
+    ghost number_of = { cast_unsigned w64 };
+
+    ghost fits = { FitsSigned w64 };
+
+    fn value_of(n: u64) -> i64 {
+        n.cast_signed()
+    }
+
+    fn number_of(value: &i64) -> u64 {
+        value.cast_unsigned()
+    }
+
+    ghost spelled = { unsigned64_fits };
+
+    ghost means = { sfixed64_means };
 
     ghost fixed = { λ n h v _. one_length h refl };
 }
