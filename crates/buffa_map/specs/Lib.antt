@@ -8,4 +8,3 @@ pub mod Run
 pub mod Lent
 pub mod Text
 pub mod Colour
-pub mod Found

@@ -18,6 +18,7 @@ use Rattle.buffa_bytes.specs.declared.error.DecodeError.TheVariants.{InvalidUtf8
 use Rattle.buffa_bytes.proofs.ScalarLemmas.{zigzag_fits32}
 use Rattle.buffa_bytes.proofs.VarintLemmas.{Var-V}
 use Rattle.buffa_map.specs.Scalars.{IsLengthy, IsText}
+pub use Rattle.buffa_wire.specs.ScalarFacts.{no_fixed_length}
 
 -- ---- every value is a declared one
 
@@ -39,38 +40,11 @@ known_of t false new known h = cc
 pub string_known : {V : Type 0} (of : List ℕ → V) (c : Content) (new : V) (known : Bool) → (text_as of (bytes_in c) >>= (λ v. read (v, true))) ≡ Ok (new, known) → known ≡ true
 string_known of c new known h = known_of (of (bytes_in c)) (is_utf8 (bytes_in c)) new known h
 
--- ---- lengths of payloads
-
-abbrev none : Option ℕ
-none = None
-
-abbrev some : ℕ → Option ℕ
-some n = Some n
-
-pub no_fixed_length : {n : ℕ} {P : Type 0} → none ≡ Some n → P
-no_fixed_length h = cc
-
-same_length : {k n : ℕ} → some k ≡ Some n → k ≡ n
-same_length h = cc
-
-pub one_length : {k n m : ℕ} → some k ≡ Some n → m ≡ k → m ≡ n
-one_length h e = e ∙ same_length h
-
 -- ---- a payload reads back to its value, whatever stood before
 
 -- p is a payload of wire type w that reads makes v of
 abbrev pub ReadsAs : {V : Type 0} → WireType → (Content → Result (V × Bool) DecodeError) → List ℕ → V → Type 0
 ReadsAs w reads p v = (c : Content) × HasContent w p c × (reads c ≡ Ok (v, true))
-
-module _ {A : Type 0} (of : ℕ → A) (num : A → ℕ) (v : A) where
-  pub varint_reads_back : num v < 2 ^ 64 → of (num v) ≡ v → ReadsAs Varint (λ c. read (of (number_in c), true)) (V (num v)) v
-  varint_reads_back h e = (number (num v), Var-V (num v) h, ap (λ z. Ok (z, true)) e)
-
-  pub four_reads_back : num v < 2 ^ 32 → of (num v) ≡ v → ReadsAs Fixed32 (λ c. read (of (number_in c), true)) (to_le_bytes w32 (num v)) v
-  four_reads_back h e = (number (num v), (refl, sym (from_le_bytes-to_le_bytes_4 (num v) h)), ap (λ z. Ok (z, true)) e)
-
-  pub eight_reads_back : num v < 2 ^ 64 → of (num v) ≡ v → ReadsAs Fixed64 (λ c. read (of (number_in c), true)) (to_le_bytes w64 (num v)) v
-  eight_reads_back h e = (number (num v), (refl, sym (from_le_bytes-to_le_bytes_8 (num v) h)), ap (λ z. Ok (z, true)) e)
 
 module _ {A : Type 0} (of : List ℕ → A) (content : A → List ℕ) (v : A) where
   pub bytes_read_back : IsLengthy (content v) → of (content v) ≡ v → ReadsAs LengthDelimited (λ c. read (of (bytes_in c), true)) (delimited_text (content v)) v
@@ -78,11 +52,3 @@ module _ {A : Type 0} (of : List ℕ → A) (content : A → List ℕ) (v : A) w
 
   pub string_reads_back : IsText (content v) → of (content v) ≡ v → ReadsAs LengthDelimited (λ c. text_as of (bytes_in c) >>= (λ x. read (x, true))) (delimited_text (content v)) v
   string_reads_back h e = (bytes (content v), (V (length (content v)), Var-V (length (content v)) h.1, refl), rw (h.0, e) refl)
-
--- ---- numbers of 32 bits as varints
-
-pub below_64 : (n : ℕ) → n < 2 ^ 32 → n < 2 ^ 64
-below_64 n h = omega (arith, h)
-
-pub zigzag32_below : (v : ℤ) → FitsSigned w32 v → zigzag v < 2 ^ 64
-zigzag32_below v h = below_64 (zigzag v) (zigzag_fits32 v h)

@@ -11,7 +11,6 @@ pub mod codec;
 mod colour;
 pub mod entry;
 pub mod fields;
-pub mod form;
 mod hashed;
 pub mod indexed;
 mod keep;
@@ -24,7 +23,6 @@ pub mod parts;
 pub mod run;
 pub mod scalar;
 pub mod scalars;
-pub mod singular;
 pub mod size;
 pub mod storage;
 #[cfg(test)]

@@ -1,65 +1,19 @@
-//! Values that are one number, and their codec.
+//! Map codecs of scalars: one for each [`Scalar`].
 
-ghost use Rattle.std.specs.Prelude.{◌≡◌, ℕ, Option, Some, false, length, refl, true};
+ghost use Rattle.std.specs.Prelude.{false, refl, true};
 ghost use Rattle.std.proofs.Common.{Ok, ap};
 ghost use Rattle.buffa_wire.specs.Content.Content.{number};
 ghost use Rattle.buffa_map.specs.Scalars.{number_reading};
-ghost use Rattle.buffa_map.specs.Codec.{Writing};
 ghost use Rattle.buffa_map.specs.ScalarLaws.{always_known};
 
 use crate::codec::sealed::Sealed;
 use crate::codec::{MapCodec, MapValueDecode, MapValueDecodeStatus};
-use crate::form::Form;
-use buffa_wire::{Blank, Buf, DecodeContext, DecodeError, EncodeError, EncodeSink, WireType};
+use buffa_wire::{
+    Buf, DecodeContext, DecodeError, EncodeError, EncodeSink, Form, Scalar, WireType,
+};
 use std::alloc::Global;
 
-/// A proto type whose values are one number each.
-pub trait Scalar: Sealed {
-    /// The Rust type of the values.
-    type Value: Blank;
-
-    /// How the numbers are spelled.
-    type Form: Form;
-
-    /// The units of element memory that a value costs.
-    const UNITS: usize;
-
-    /// The length of every payload, where they have one length.
-    const LEN: Option<u64>;
-
-    ghost UNITS: { ℕ };
-
-    ghost LEN: { Option ℕ };
-
-    /// The value that a number means.
-    ghost value_of: { ℕ → Self.Value.Meaning };
-
-    /// The number of a value.
-    ghost number_of: { Self.Value.Meaning → ℕ };
-
-    /// What the type holds.
-    ghost fits: { Self.Value.Meaning → Type 0 };
-
-    /// The value that a number means.
-    fn value_of(n: u64) -> Self::Value
-        requires { Self.Form.spells n }
-        ensures { Self.Value.meaning result ≡ value_of n };
-
-    /// The number of a value.
-    fn number_of(value: &Self::Value) -> u64
-        ensures number { result ≡ number_of (Self.Value.meaning value.now) }
-        ensures fits { fits (Self.Value.meaning value.now) }
-        ensures spelled { Self.Form.spells result };
-
-    /// The number of a value can be spelled.
-    ghost spelled: { (v : Self.Value.Meaning) → fits v → Self.Form.spells (number_of v) };
-
-    /// The number of a value means that value.
-    ghost means: { (v : Self.Value.Meaning) → fits v → value_of (number_of v) ≡ v };
-
-    /// The fixed length is that of every payload.
-    ghost fixed: { (n : ℕ) → LEN ≡ Some n → (v : Self.Value.Meaning) → fits v → length (Self.Form.payload (number_of v)) ≡ n };
-}
+impl<N: Scalar> Sealed for N {}
 
 impl<N: Scalar> MapValueDecode for N {
     type Value = N::Value;

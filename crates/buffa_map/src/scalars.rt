@@ -15,9 +15,8 @@
 //! Source: the protobuf encoding guide, "Message Structure".
 
 mod delimited;
-mod fixed;
-mod varint;
 
+pub use buffa_wire::scalars::{
+    Bool, Fixed32, Fixed64, Int32, Int64, Sfixed32, Sfixed64, Sint32, Sint64, Uint32, Uint64,
+};
 pub use delimited::{BytesBuf, BytesVec, ProtoBytesMap, ProtoStringMap, Str};
-pub use fixed::{Fixed32, Fixed64, Sfixed32, Sfixed64};
-pub use varint::{Bool, Int32, Int64, Sint32, Sint64, Uint32, Uint64};

@@ -9,7 +9,8 @@ use crate::codec::sealed::Sealed;
 use crate::codec::{MapCodec, MapValueDecode, MapValueDecodeStatus};
 use buffa_bytes::{ProtoBytes, ProtoString};
 use buffa_wire::types::{
-    bytes_encoded_len, decode_bytes_to, decode_bytes_to_bytes, decode_string_to, encode_bytes, encode_string, string_encoded_len,
+    bytes_encoded_len, decode_bytes_to, decode_bytes_to_bytes, decode_string_to, encode_bytes,
+    encode_string, string_encoded_len,
 };
 use buffa_wire::{Buf, DecodeContext, DecodeError, EncodeError, EncodeSink, WireType};
 use bytes::Bytes;

@@ -5,12 +5,12 @@ ghost use Rattle.std.specs.Int.{cast_unsigned, from_bool, w32, w64};
 ghost use Rattle.buffa_bytes.specs.Scalars.{bool_of, int32_of, int64_of, sint32_of, sint64_of, uint32_of, zigzag};
 ghost use Rattle.buffa_bytes.proofs.IntLemmas.{int32_below, int32_means};
 ghost use Rattle.buffa_bytes.proofs.ScalarLemmas.{bool_fits, bool_length, bool_means, int64_means, sint32_means, sint64_means, uint32_means, unsigned64_fits, zigzag_fits64};
-ghost use Rattle.buffa_map.specs.ScalarLaws.{below_64, no_fixed_length, one_length, zigzag32_below};
+ghost use Rattle.buffa_wire.specs.ScalarFacts.{below_64, no_fixed_length, one_length, zigzag32_below};
 
-use crate::codec::sealed::Sealed;
 use crate::form::Varint;
 use crate::scalar::Scalar;
-use buffa_wire::types::{
+use crate::sealed::Sealed;
+use buffa_bytes::types::{
     zigzag_decode_i32, zigzag_decode_i64, zigzag_encode_i32, zigzag_encode_i64,
 };
 

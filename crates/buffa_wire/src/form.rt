@@ -1,20 +1,20 @@
 //! How one number is spelled in a payload: as a varint, or in four or eight bytes.
 
-ghost use Rattle.std.specs.Prelude.{◌≡◌, ◌<◌, ◌^◌, ℕ, List, IfOk, IfSome, Option, Some, length, refl};
-ghost use Rattle.buffa_wire.specs.Records.{Datum, fixed32, fixed64, varint};
+ghost use Rattle.std.specs.Prelude.{◌≡◌, ◌<◌, ◌^◌, ℕ, List, IfOk, IfSome, None, Option, Some, length, refl};
+ghost use Rattle.buffa_wire.specs.Records.{Datum, bytes, fixed32, fixed64, varint};
 ghost use Rattle.buffa_wire.specs.View.{datum_of};
-ghost use Rattle.buffa_map.specs.Found.{fixed32_in, fixed64_in, varint_in};
+ghost use Rattle.buffa_wire.specs.Found.{fixed32_in, fixed64_in, varint_in};
 ghost use Rattle.buffa_bytes.specs.declared.wire_type.WireType.{WireType};
-ghost use Rattle.buffa_wire.specs.Content.{HasContent, content_at};
-ghost use Rattle.buffa_wire.specs.Content.Content.{number};
-ghost use Rattle.buffa_wire.specs.Gives.{Gives};
-ghost use Rattle.buffa_wire.specs.Written.{Writes};
+ghost use Rattle.buffa_bytes.specs.Content.{HasContent, content_at};
+ghost use Rattle.buffa_bytes.specs.Content.Content.{number};
+ghost use Rattle.buffa_bytes.specs.Gives.{Gives};
+ghost use Rattle.buffa_bytes.specs.Written.{Writes};
 
-use crate::codec::sealed::Sealed;
-use buffa_wire::types::{decode_fixed32, decode_fixed64, encode_fixed32, encode_fixed64};
-use buffa_wire::{
-    Buf, DecodeError, EncodeError, EncodeSink, UnknownFieldData, WireType, decode_varint,
-    encode_varint, varint_len,
+use crate::sealed::Sealed;
+use crate::unknown_fields::UnknownFieldData;
+use buffa_bytes::types::{decode_fixed32, decode_fixed64, encode_fixed32, encode_fixed64};
+use buffa_bytes::{
+    Buf, DecodeError, EncodeError, EncodeSink, WireType, decode_varint, encode_varint, varint_len,
 };
 
 /// A spelling of numbers.
@@ -53,8 +53,8 @@ pub trait Form: Sealed {
     ghost found: { Datum → Option ℕ };
 
     /// The number in a record of this form.
-    fn in_record(record: &UnknownFieldData) -> Option<u64>
-        ensures found { result ≡ found (datum_of record.now) }
+    fn in_record(held: &UnknownFieldData) -> Option<u64>
+        ensures found { result ≡ found (datum_of held.now) }
         ensures spelled { IfSome result spells };
 
     /// The record data of a number.
@@ -67,6 +67,9 @@ pub trait Form: Sealed {
 
     /// The record of a number has it.
     ghost kept: { (n : ℕ) → found (datum n) ≡ Some n };
+
+    /// A record of bytes has no number.
+    ghost bytes_other: { (bs : List ℕ) → found (bytes bs) ≡ None };
 }
 
 /// A varint.
@@ -102,8 +105,8 @@ impl Form for Varint {
         encode_varint(n, sink)
     }
 
-    fn in_record(record: &UnknownFieldData) -> Option<u64> {
-        match record {
+    fn in_record(held: &UnknownFieldData) -> Option<u64> {
+        match held {
             UnknownFieldData::Varint(n) => Some(*n),
             _ => None,
         }
@@ -116,6 +119,8 @@ impl Form for Varint {
     ghost reads_back = { Var-V };
 
     ghost kept = { λ n. refl };
+
+    ghost bytes_other = { λ bs. refl };
 }
 
 /// Four bytes, the lowest first.
@@ -152,8 +157,8 @@ impl Form for FourBytes {
         encode_fixed32(n as u32, sink)
     }
 
-    fn in_record(record: &UnknownFieldData) -> Option<u64> {
-        match record {
+    fn in_record(held: &UnknownFieldData) -> Option<u64> {
+        match held {
             UnknownFieldData::Fixed32(n) => Some(u64::from(*n)),
             _ => None,
         }
@@ -166,6 +171,8 @@ impl Form for FourBytes {
     ghost reads_back = { λ n h. (refl, sym (from_le_bytes-to_le_bytes_4 n h)) };
 
     ghost kept = { λ n. refl };
+
+    ghost bytes_other = { λ bs. refl };
 }
 
 /// Eight bytes, the lowest first.
@@ -202,8 +209,8 @@ impl Form for EightBytes {
         encode_fixed64(n, sink)
     }
 
-    fn in_record(record: &UnknownFieldData) -> Option<u64> {
-        match record {
+    fn in_record(held: &UnknownFieldData) -> Option<u64> {
+        match held {
             UnknownFieldData::Fixed64(n) => Some(*n),
             _ => None,
         }
@@ -216,4 +223,6 @@ impl Form for EightBytes {
     ghost reads_back = { λ n h. (refl, sym (from_le_bytes-to_le_bytes_8 n h)) };
 
     ghost kept = { λ n. refl };
+
+    ghost bytes_other = { λ bs. refl };
 }

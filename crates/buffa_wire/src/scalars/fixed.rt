@@ -4,11 +4,11 @@ ghost use Rattle.std.specs.Prelude.{◌≡◌, ◌<◌, ◌^◌, FitsSigned, Som
 ghost use Rattle.std.specs.Int.{cast_unsigned, w32, w64};
 ghost use Rattle.buffa_bytes.specs.Scalars.{sfixed32_of, sfixed64_of};
 ghost use Rattle.buffa_bytes.proofs.ScalarLemmas.{sfixed32_means, sfixed64_means, unsigned32_fits, unsigned64_fits};
-ghost use Rattle.buffa_map.specs.ScalarLaws.{one_length};
+ghost use Rattle.buffa_wire.specs.ScalarFacts.{one_length};
 
-use crate::codec::sealed::Sealed;
 use crate::form::{EightBytes, FourBytes};
 use crate::scalar::Scalar;
+use crate::sealed::Sealed;
 
 /// `fixed32`: a `u32` as four bytes.
 pub struct Fixed32;
