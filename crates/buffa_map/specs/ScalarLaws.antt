@@ -19,6 +19,7 @@ use Rattle.buffa_bytes.specs.declared.error.DecodeError.TheVariants.{InvalidUtf8
 use Rattle.buffa_bytes.proofs.ScalarLemmas.{zigzag_fits32}
 use Rattle.buffa_bytes.proofs.VarintLemmas.{Var-V}
 use Rattle.buffa_map.specs.Scalars.{IsLengthy, IsText}
+pub use Rattle.buffa_wire.specs.ScalarFacts.{no_fixed_length}
 
 -- ---- every value is a declared one
 
@@ -76,27 +77,9 @@ one_length h e = e ∙ same_length h
 abbrev pub ReadsAs : {V : Type 0} → WireType → (Content → Result (V × Bool) DecodeError) → List ℕ → V → Type 0
 ReadsAs w reads p v = (c : Content) × HasContent w p c × (reads c ≡ Ok (v, true))
 
-module _ {A : Type 0} (of : ℕ → A) (num : A → ℕ) (v : A) where
-  pub varint_reads_back : num v < 2 ^ 64 → of (num v) ≡ v → ReadsAs Varint (λ c. read (of (number_in c), true)) (V (num v)) v
-  varint_reads_back h e = (number (num v), Var-V (num v) h, ap (λ z. Ok (z, true)) e)
-
-  pub four_reads_back : num v < 2 ^ 32 → of (num v) ≡ v → ReadsAs Fixed32 (λ c. read (of (number_in c), true)) (to_le_bytes w32 (num v)) v
-  four_reads_back h e = (number (num v), (refl, sym (from_le_bytes-to_le_bytes_4 (num v) h)), ap (λ z. Ok (z, true)) e)
-
-  pub eight_reads_back : num v < 2 ^ 64 → of (num v) ≡ v → ReadsAs Fixed64 (λ c. read (of (number_in c), true)) (to_le_bytes w64 (num v)) v
-  eight_reads_back h e = (number (num v), (refl, sym (from_le_bytes-to_le_bytes_8 (num v) h)), ap (λ z. Ok (z, true)) e)
-
 module _ {A : Type 0} (of : List ℕ → A) (content : A → List ℕ) (v : A) where
   pub bytes_read_back : IsLengthy (content v) → of (content v) ≡ v → ReadsAs LengthDelimited (λ c. read (of (bytes_in c), true)) (delimited_text (content v)) v
   bytes_read_back h e = (bytes (content v), (V (length (content v)), Var-V (length (content v)) h, refl), ap (λ z. Ok (z, true)) e)
 
   pub string_reads_back : IsText (content v) → of (content v) ≡ v → ReadsAs LengthDelimited (λ c. text_as of (bytes_in c) >>= (λ x. read (x, true))) (delimited_text (content v)) v
   string_reads_back h e = (bytes (content v), (V (length (content v)), Var-V (length (content v)) h.1, refl), rw (h.0, e) refl)
-
--- ---- numbers of 32 bits as varints
-
-pub below_64 : (n : ℕ) → n < 2 ^ 32 → n < 2 ^ 64
-below_64 n h = omega (arith, h)
-
-pub zigzag32_below : (v : ℤ) → FitsSigned w32 v → zigzag v < 2 ^ 64
-zigzag32_below v h = below_64 (zigzag v) (zigzag_fits32 v h)

@@ -27,6 +27,7 @@ pub mod parts;
 pub mod plain;
 pub mod rewrite;
 pub mod run;
+pub mod scalar;
 pub mod scalars;
 pub mod size;
 pub mod storage;

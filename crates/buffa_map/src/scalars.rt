@@ -18,14 +18,9 @@
 
 mod delimited;
 mod enums;
-mod fixed;
-mod integer;
-mod signed_fixed;
-mod zigzag;
 
+pub use buffa_wire::scalars::{
+    Bool, Fixed32, Fixed64, Int32, Int64, Sfixed32, Sfixed64, Sint32, Sint64, Uint32, Uint64,
+};
 pub use delimited::{BytesBuf, BytesVec, ProtoBytesMap, ProtoStringMap, Str};
 pub use enums::{ClosedEnum, OpenEnum};
-pub use fixed::{Fixed32, Fixed64};
-pub use integer::{Bool, Int32, Int64, Uint32, Uint64};
-pub use signed_fixed::{Sfixed32, Sfixed64};
-pub use zigzag::{Sint32, Sint64};

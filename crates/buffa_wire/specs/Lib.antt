@@ -10,6 +10,8 @@ pub mod Equal
 pub mod Text
 pub mod Parse
 pub mod RecordReading
+pub mod Found
+pub mod ScalarFacts
 pub use Rattle.buffa_bytes.specs.Content
 pub use Rattle.buffa_bytes.specs.ErrorText
 pub use Rattle.buffa_bytes.specs.Field

@@ -22,6 +22,6 @@ records_in fs = map record_of fs
 abbrev pub held : Inside → Held
 held a = record { records = records_in a.fields.items; spare = vec_capacity a.fields - vec_len a.fields }
 
--- a test of fields that goes by their records alone
-abbrev pub AnswersRecords : {F : Type 0} → (F → UnknownField → Bool → F → Type 0) → (ℕ × Datum → Bool) → Type 0
-AnswersRecords {F} R p = (f : F) (x : UnknownField) (b : Bool) (g : F) → R f x b g → b ≡ p (record_of x)
+-- the test f of fields goes by their records alone, as p does, and a call leaves f as it is
+abbrev pub AnswersRecords : {F : Type 0} → (F → UnknownField → Bool → F → Type 0) → F → (ℕ × Datum → Bool) → Type 0
+AnswersRecords {F} R f p = (x : UnknownField) (b : Bool) (g : F) → R f x b g → (b ≡ p (record_of x)) × (g ≡ f)

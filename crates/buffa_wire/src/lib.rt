@@ -8,11 +8,19 @@ pub mod budget;
 pub mod cache;
 pub mod context;
 pub mod enumeration;
+pub mod form;
 pub mod laws;
 pub mod message;
+pub mod scalar;
+pub mod scalars;
 #[cfg(test)]
 mod tests;
 pub mod unknown_fields;
+
+pub(crate) mod sealed {
+    /// Scalars are those of this crate: the rules of the wire can't be said by a type.
+    pub trait Sealed {}
+}
 
 pub use budget::{Budget, DEFAULT_ELEMENT_MEMORY_LIMIT, DEFAULT_UNKNOWN_FIELD_LIMIT};
 pub use buffa_bytes::{
@@ -24,5 +32,7 @@ pub use cache::SizeCache;
 pub use context::{DecodeContext, RECURSION_LIMIT};
 pub use message::{Message, MessageSpec};
 pub use enumeration::{EnumValue, Enumeration};
+pub use form::Form;
+pub use scalar::Scalar;
 pub use unknown_fields::read::decode_unknown_field;
 pub use unknown_fields::{UnknownField, UnknownFieldData, UnknownFields};

@@ -9,92 +9,13 @@ use crate::codec::sealed::Sealed;
 use crate::codec::{MapCodec, MapValueDecode, MapValueDecodeStatus};
 use buffa_bytes::{ProtoBytes, ProtoString};
 use buffa_wire::types::{
-    bytes_encoded_len, decode_bytes, decode_bytes_to, decode_bytes_to_bytes, decode_string,
-    decode_string_to, encode_bytes, encode_string, string_encoded_len,
+    bytes_encoded_len, decode_bytes_to, decode_bytes_to_bytes, decode_string_to, encode_bytes,
+    encode_string, string_encoded_len,
 };
 use buffa_wire::{Buf, DecodeContext, DecodeError, EncodeError, EncodeSink, WireType};
 use bytes::Bytes;
 use std::alloc::Global;
 use std::marker::PhantomData;
-
-/// `string`: a `String`.
-///
-/// ```ignore
-/// Str::encode(&bee, &mut text)?; // 03 62 65 65
-/// ```
-pub struct Str;
-
-impl Sealed for Str {}
-
-impl MapValueDecode for Str {
-    type Value = String;
-
-    const WIRE_TYPE: WireType = WireType::LengthDelimited;
-
-    const MAY_RETURN_UNKNOWN: bool = false;
-
-    const COST: usize = 24;
-
-    ghost WIRE_TYPE = { LengthDelimited };
-
-    ghost MAY_RETURN_UNKNOWN = { false };
-
-    ghost COST = { 24 };
-
-    ghost reading = { string_reading [] (λ text. text) };
-
-    fn merge<B: Buf>(
-        alloc: Global,
-        value: &mut String,
-        buf: &mut B,
-        _ctx: DecodeContext<'_>,
-    ) -> Result<MapValueDecodeStatus, DecodeError> {
-        *value = decode_string(alloc, buf)?;
-        Ok(MapValueDecodeStatus::Known)
-    }
-
-    ghost free = { λ _ d c. refl };
-
-    ghost no_limit = { λ d old c x h. string_no_limit (λ text. text) c x h };
-
-    ghost wire = { refl };
-
-    ghost blank = { refl };
-
-    ghost declared = { λ _ d old c new known h. string_known (λ text. text) c new known h };
-}
-
-impl MapCodec for Str {
-    const FIXED_LEN: Option<u64> = None;
-
-    ghost FIXED_LEN = { None };
-
-    ghost writing = { delimited_writing (λ text. text) };
-
-    ghost fits = { IsText };
-
-    ghost normal = { λ _. Unit {0} };
-
-    fn encoded_len(value: &String) -> u64 {
-        string_encoded_len(value.as_str()) as u64
-    }
-
-    fn encode<S: EncodeSink>(value: &String, sink: &mut S) -> Result<(), EncodeError> {
-        encode_string(value.as_str(), sink)
-    }
-
-    ghost plain = { refl };
-
-    ghost written_wire = { refl };
-
-    ghost reads_back = { λ d old v h _. string_reads_back (λ text. text) (λ text. text) v h refl };
-
-    ghost blank_normal = { tt };
-
-    ghost stays_normal = { λ d old c new known h _. tt };
-
-    ghost fixed = { λ n h v _. no_fixed_length h };
-}
 
 /// `string`, held as a type of one's own.
 ///
@@ -177,84 +98,11 @@ impl<T: ProtoString> MapCodec for ProtoStringMap<T> {
     ghost fixed = { λ n h v _. no_fixed_length h };
 }
 
+/// `string`: a `String`.
+pub type Str = ProtoStringMap<String>;
+
 /// `bytes`: a `Vec<u8>`.
-///
-/// ```ignore
-/// BytesVec::encode(&dead, &mut text)?; // 02 DE AD
-/// ```
-pub struct BytesVec;
-
-impl Sealed for BytesVec {}
-
-impl MapValueDecode for BytesVec {
-    type Value = Vec<u8>;
-
-    const WIRE_TYPE: WireType = WireType::LengthDelimited;
-
-    const MAY_RETURN_UNKNOWN: bool = false;
-
-    const COST: usize = 24;
-
-    ghost WIRE_TYPE = { LengthDelimited };
-
-    ghost MAY_RETURN_UNKNOWN = { false };
-
-    ghost COST = { 24 };
-
-    ghost reading = { bytes_reading [] (λ bytes. bytes) };
-
-    fn merge<B: Buf>(
-        alloc: Global,
-        value: &mut Vec<u8>,
-        buf: &mut B,
-        _ctx: DecodeContext<'_>,
-    ) -> Result<MapValueDecodeStatus, DecodeError> {
-        *value = decode_bytes(alloc, buf)?;
-        Ok(MapValueDecodeStatus::Known)
-    }
-
-    ghost free = { λ _ d c. refl };
-
-    ghost no_limit = { λ d old c x h. never_faulty x h };
-
-    ghost wire = { refl };
-
-    ghost blank = { refl };
-
-    ghost declared = { λ _ d old c new known h. always_known new known h };
-}
-
-impl MapCodec for BytesVec {
-    const FIXED_LEN: Option<u64> = None;
-
-    ghost FIXED_LEN = { None };
-
-    ghost writing = { delimited_writing (λ bytes. bytes) };
-
-    ghost fits = { IsLengthy };
-
-    ghost normal = { λ _. Unit {0} };
-
-    fn encoded_len(value: &Vec<u8>) -> u64 {
-        bytes_encoded_len(value.as_slice()) as u64
-    }
-
-    fn encode<S: EncodeSink>(value: &Vec<u8>, sink: &mut S) -> Result<(), EncodeError> {
-        encode_bytes(value.as_slice(), sink)
-    }
-
-    ghost plain = { refl };
-
-    ghost written_wire = { refl };
-
-    ghost reads_back = { λ d old v h _. bytes_read_back (λ bytes. bytes) (λ bytes. bytes) v h refl };
-
-    ghost blank_normal = { tt };
-
-    ghost stays_normal = { λ d old c new known h _. tt };
-
-    ghost fixed = { λ n h v _. no_fixed_length h };
-}
+pub type BytesVec = ProtoBytesMap<Vec<u8>>;
 
 /// `bytes`: a `bytes::Bytes`, which can be shared with no copy.
 ///

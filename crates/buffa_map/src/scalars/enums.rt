@@ -5,7 +5,7 @@ ghost use Rattle.buffa_bytes.specs.declared.wire_type.WireType.TheVariants.{Vari
 ghost use Rattle.buffa_wire.specs.Enums.{numbers};
 ghost use Rattle.buffa_map.specs.Enums.{ClosedFits, OpenFits, OpenNormal, closed_reading, closed_writing, open_reading, open_writing};
 ghost use Rattle.buffa_map.specs.EnumLaws.{closed_reads_back, open_reads_back, open_stays_normal};
-ghost use Rattle.buffa_map.specs.ScalarLaws.{always_known, no_fixed_length};
+ghost use Rattle.buffa_map.specs.ScalarLaws.{always_known, never_faulty, no_fixed_length};
 
 use crate::codec::sealed::Sealed;
 use crate::codec::{MapCodec, MapValueDecode, MapValueDecodeStatus};
@@ -45,8 +45,6 @@ impl<E: Enumeration> MapValueDecode for ClosedEnum<E> {
 
     ghost reading = { closed_reading (numbers E.of_number E.blank_is) };
 
-    ghost whole = { true };
-
     fn merge<B: Buf>(
         _alloc: Global,
         value: &mut E,
@@ -62,6 +60,10 @@ impl<E: Enumeration> MapValueDecode for ClosedEnum<E> {
             None => Ok(MapValueDecodeStatus::Unknown),
         }
     }
+
+    ghost free = { λ _ d c. refl };
+
+    ghost no_limit = { λ d old c x h. never_faulty x h };
 
     ghost wire = { refl };
 
@@ -88,6 +90,8 @@ impl<E: Enumeration> MapCodec for ClosedEnum<E> {
     fn encode<S: EncodeSink>(value: &E, sink: &mut S) -> Result<(), EncodeError> {
         encode_int32(value.to_i32(), sink)
     }
+
+    ghost plain = { refl };
 
     ghost written_wire = { refl };
 
@@ -128,8 +132,6 @@ impl<E: Enumeration> MapValueDecode for OpenEnum<E> {
 
     ghost reading = { open_reading E.of_number };
 
-    ghost whole = { true };
-
     fn merge<B: Buf>(
         _alloc: Global,
         value: &mut EnumValue<E>,
@@ -139,6 +141,10 @@ impl<E: Enumeration> MapValueDecode for OpenEnum<E> {
         *value = EnumValue::from_i32(decode_int32(buf)?);
         Ok(MapValueDecodeStatus::Known)
     }
+
+    ghost free = { λ _ d c. refl };
+
+    ghost no_limit = { λ d old c x h. never_faulty x h };
 
     ghost wire = { refl };
 
@@ -165,6 +171,8 @@ impl<E: Enumeration> MapCodec for OpenEnum<E> {
     fn encode<S: EncodeSink>(value: &EnumValue<E>, sink: &mut S) -> Result<(), EncodeError> {
         encode_int32(value.to_i32(), sink)
     }
+
+    ghost plain = { refl };
 
     ghost written_wire = { refl };
 

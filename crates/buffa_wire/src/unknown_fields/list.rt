@@ -113,7 +113,7 @@ impl UnknownFields {
     where
         F: Drop,
         requires { F.IsAlwaysCallable f }
-        ensures records { (p : ℕ × Datum → Bool) → AnswersRecords (CalledAt F.FnMut) p → self.new.records ≡ filter p self.old.records }
+        ensures records { (p : ℕ × Datum → Bool) → AnswersRecords (CalledAt F.FnMut) f p → self.new.records ≡ filter p self.old.records }
         ensures spare { self.old.spare ≤ self.new.spare }
     {
         self.fields.retain(f);

@@ -1,0 +1,7 @@
+pub mod Filtered
+pub mod Lists
+pub mod Helds
+pub mod Packs
+pub mod Joins
+pub mod Turns
+pub mod Lasts

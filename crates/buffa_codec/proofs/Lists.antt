@@ -1,0 +1,55 @@
+-- Lists of values, one more at a time.
+use Rattle.std.proofs.Common.{◌≡◌, ℕ, ◌+◌, ◌<◌, List, [], ◌∷◌, ◌++◌, Option, Some, None, Result, Ok, Err, refl, sym, ◌∙◌, ap, map, take, drop, length, get_or, append_assoc, subst, ◌⊎◌, inl, inr}
+use Rattle.std.proofs.lemmas.List.{map-append, append-nil, take_more, take-map, drop_more, take-append-drop}
+use Rattle.buffa_wire.specs.Records.{Datum}
+use Rattle.buffa_bytes.specs.declared.error.EncodeError.{EncodeError}
+use Rattle.buffa_codec.specs.Sub.{tagged}
+use Rattle.buffa_bytes.specs.declared.error.EncodeError.TheVariants.{OutOfMemory}
+use Rattle.buffa_codec.specs.Reading.{Each, Refuses, first_refusal, joined, packed_record}
+
+-- what the first values mean, and what one more means
+pub means_more : {V M : Type 0} (meaning : V → M) (xs : List V) (i : ℕ) (x : V) → i < length xs → x ≡ get_or xs i x
+    → map meaning (take (i + 1) xs) ≡ map meaning (take i xs) ++ meaning x ∷ []
+means_more meaning xs i x lt e = ap (map meaning) (take_more xs i x lt) ∙ map-append meaning (take i xs) (get_or xs i x ∷ []) ∙ ap (λ y. map meaning (take i xs) ++ meaning y ∷ []) (sym e)
+
+-- what all values mean, cut at one
+pub means_cut : {V M : Type 0} (meaning : V → M) (xs : List V) (i : ℕ) (x : V) → i < length xs → x ≡ get_or xs i x
+    → map meaning xs ≡ map meaning (take i xs) ++ meaning x ∷ map meaning (drop (i + 1) xs)
+means_cut meaning xs i x lt e =
+    ap (map meaning) (sym (take-append-drop i xs)) ∙ map-append meaning (take i xs) (drop i xs)
+    ∙ ap (λ l. map meaning (take i xs) ++ map meaning l) (drop_more xs i x lt) ∙ ap (λ y. map meaning (take i xs) ++ meaning y ∷ map meaning (drop (i + 1) xs)) (sym e)
+
+pub Each-append : {M : Type 0} (P : M → Type 0) (ms : List M) (m : M) → Each P ms → P m → Each P (ms ++ m ∷ [])
+Each-append P [] m h k = (k, tt)
+Each-append P (x ∷ ms) m h k = (h.0, Each-append P ms m h.1 k)
+
+-- no refusal before, and then that of the next, or of what follows
+abbrev refused_by : {M : Type 0} → (M → Option EncodeError) → List M → Option EncodeError → Option EncodeError
+refused_by refusal ms (Some e) = Some e
+refused_by refusal ms None = first_refusal refusal ms
+
+passed_over : {M : Type 0} (refusal : M → Option EncodeError) (ms ks : List M) (o : Option EncodeError)
+    → (first_refusal refusal ms ≡ None → first_refusal refusal (ms ++ ks) ≡ first_refusal refusal ks)
+    → refused_by refusal ms o ≡ None → refused_by refusal (ms ++ ks) o ≡ first_refusal refusal ks
+passed_over refusal ms ks (Some e) again h = cc
+passed_over refusal ms ks None again h = again h
+
+pub first_refusal-append : {M : Type 0} (refusal : M → Option EncodeError) (ms ks : List M) → first_refusal refusal ms ≡ None → first_refusal refusal (ms ++ ks) ≡ first_refusal refusal ks
+first_refusal-append refusal [] ks h = refl
+first_refusal-append refusal (m ∷ ms) ks h = passed_over refusal ms ks (refusal m) (first_refusal-append refusal ms ks) h
+
+pub first_refusal-one : {M : Type 0} (refusal : M → Option EncodeError) (m : M) (ks : List M) (e : EncodeError) → refusal m ≡ Some e → first_refusal refusal (m ∷ ks) ≡ Some e
+first_refusal-one refusal m ks e h = ap (refused_by refusal ks) h
+
+pub first_refusal-pass : {M : Type 0} (refusal : M → Option EncodeError) (m : M) (ks : List M) → refusal m ≡ None → first_refusal refusal (m ∷ ks) ≡ first_refusal refusal ks
+first_refusal-pass refusal m ks h = ap (refused_by refusal ks) h
+
+pub joined-append : {M : Type 0} (text : M → List ℕ) (ms : List M) (m : M) → joined text (ms ++ m ∷ []) ≡ joined text ms ++ text m
+joined-append text [] m = append-nil (text m)
+joined-append text (x ∷ ms) m = ap (λ l. text x ++ l) (joined-append text ms m) ∙ sym (append_assoc (text x) (joined text ms) (text m))
+
+-- a refusal after values that are not refused is that of the whole list
+pub refused_whole : {M : Type 0} (refusal : M → Option EncodeError) (ms : List M) (m : M) (ks all : List M) (e : EncodeError)
+    → all ≡ ms ++ m ∷ ks → first_refusal refusal ms ≡ None → (e ≡ OutOfMemory) ⊎ (refusal m ≡ Some e) → (e ≡ OutOfMemory) ⊎ (first_refusal refusal all ≡ Some e)
+refused_whole refusal ms m ks all e cut none (inl a) = inl a
+refused_whole refusal ms m ks all e cut none (inr b) = inr (ap (first_refusal refusal) cut ∙ first_refusal-append refusal ms (m ∷ ks) none ∙ first_refusal-one refusal m ks e b)

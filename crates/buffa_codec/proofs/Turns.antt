@@ -1,0 +1,113 @@
+-- One turn of a loop over the records.
+use Rattle.std.proofs.Common.{◌≡◌, ◌≢◌, ℕ, ◌+◌, ◌<◌, List, [], ◌∷◌, ◌++◌, Option, Some, None, Bool, true, false, cond, refl, sym, ◌∙◌, ap, map, take, drop, length, get_or, rules, ◌==◌, arith, append_assoc, subst, Result, Ok, Err}
+use Rattle.std.proofs.lemmas.Grind.{common_steps}
+use Rattle.std.proofs.lemmas.List.{map-append, append-nil, take_more, take-map, take-append-drop}
+use Rattle.std.specs.Result.{OnErr}
+use Rattle.buffa_wire.specs.Records.{Datum}
+use Rattle.buffa_wire.specs.View.{record_of, records_in, datum_of}
+use Rattle.buffa_wire.specs.Left.{Left}
+use Rattle.buffa_wire.specs.declared.unknown_fields.UnknownField.{UnknownField}
+use Rattle.buffa_codec.specs.Sub.{sub, tagged}
+use Rattle.buffa_codec.specs.Reading.{ReadsAll, elements}
+use Rattle.buffa_codec.proofs.Lists.{means_more}
+use Rattle.buffa_codec.proofs.Filtered.{sub-append, sub-cons}
+
+-- one more record is read
+pub ReadsAll-snoc : {M : Type 0} (one : Left → Datum → Option M) (leaves : Left → Datum → Left → Type 0) (packed : List ℕ → List M) (ds : List Datum) (d : Datum) (b : Left) (vs : List M) (mid left : Left)
+    → ReadsAll one leaves packed b ds vs mid → leaves mid d left → ReadsAll one leaves packed b (ds ++ d ∷ []) (vs ++ elements packed d (one mid d)) left
+ReadsAll-snoc one leaves packed [] d b vs mid left h s =
+    (left, [], subst (λ m. leaves m d left) h.1 s, (refl, refl), ap (λ l. l ++ elements packed d (one mid d)) h.0 ∙ ap (λ m. elements packed d (one m d)) h.1 ∙ sym (append-nil (elements packed d (one b d))))
+ReadsAll-snoc one leaves packed (e ∷ ds) d b vs mid left h s =
+    (h.0, h.1 ++ elements packed d (one mid d), h.2, ReadsAll-snoc one leaves packed ds d h.0 h.1 mid left h.3 s, ap (λ l. l ++ elements packed d (one mid d)) h.4 ∙ append_assoc (elements packed e (one b e)) h.1 (elements packed d (one mid d)))
+
+test_same : (m n : ℕ) → m ≡ n → (m == n) ≡ true
+test_same m n e = grind (arith, common_steps)
+
+test_other : (m n : ℕ) → m ≢ n → (m == n) ≡ false
+test_other m n e = grind (arith, common_steps)
+
+-- the records of one number, with one more field
+pub sub-take_more : (n : ℕ) (xs : List UnknownField) (i : ℕ) (x : UnknownField) → i < length xs → x ≡ get_or xs i x → sub n (records_in (take (i + 1) xs)) ≡ sub n (records_in (take i xs)) ++ sub n (record_of x ∷ [])
+sub-take_more n xs i x lt e =
+    ap (λ l. sub n (records_in l)) (take_more xs i x lt)
+    ∙ ap (sub n) (map-append record_of (take i xs) (get_or xs i x ∷ []))
+    ∙ sub-append n (records_in (take i xs)) (record_of (get_or xs i x) ∷ [])
+    ∙ ap (λ y. sub n (records_in (take i xs)) ++ sub n (record_of y ∷ [])) (sym e)
+
+pub sub-one_same : (n : ℕ) (x : UnknownField) → x.number ≡ n → sub n (record_of x ∷ []) ≡ datum_of x.payload ∷ []
+sub-one_same n x same =
+    sub-cons n _ []
+    ∙ ap (λ b. cond b (datum_of x.payload ∷ []) []) (test_same _ n same)
+
+pub sub-one_other : (n : ℕ) (x : UnknownField) → x.number ≢ n → sub n (record_of x ∷ []) ≡ []
+sub-one_other n x other =
+    sub-cons n _ []
+    ∙ ap (λ b. cond b (datum_of x.payload ∷ []) []) (test_other _ n other)
+
+-- a turn at a record of the number
+pub reads_one_more : {M : Type 0} (one : Left → Datum → Option M) (leaves : Left → Datum → Left → Type 0) (packed : List ℕ → List M) (b : Left) (n : ℕ) (xs : List UnknownField) (i : ℕ) (x : UnknownField) (vs vs' : List M) (mid left : Left)
+    → i < length xs → x ≡ get_or xs i x → x.number ≡ n
+    → ReadsAll one leaves packed b (sub n (records_in (take i xs))) vs mid → leaves mid (datum_of x.payload) left
+    → vs' ≡ vs ++ elements packed (datum_of x.payload) (one mid (datum_of x.payload))
+    → ReadsAll one leaves packed b (sub n (records_in (take (i + 1) xs))) vs' left
+reads_one_more one leaves packed b n xs i x vs vs' mid left lt e same h s more =
+    subst (λ ds. ReadsAll one leaves packed b ds vs' left) (sym (sub-take_more n xs i x lt e ∙ ap (λ l. sub n (records_in (take i xs)) ++ l) (sub-one_same n x same)))
+    (subst (λ l. ReadsAll one leaves packed b (sub n (records_in (take i xs)) ++ datum_of x.payload ∷ []) l left) (sym more)
+    (ReadsAll-snoc one leaves packed (sub n (records_in (take i xs))) (datum_of x.payload) b vs mid left h s))
+
+-- a turn at another record
+pub passes_one_over : {M : Type 0} (one : Left → Datum → Option M) (leaves : Left → Datum → Left → Type 0) (packed : List ℕ → List M) (b : Left) (n : ℕ) (xs : List UnknownField) (i : ℕ) (x : UnknownField) (vs vs' : List M) (left left' : Left)
+    → i < length xs → x ≡ get_or xs i x → x.number ≢ n → vs' ≡ vs → left' ≡ left
+    → ReadsAll one leaves packed b (sub n (records_in (take i xs))) vs left
+    → ReadsAll one leaves packed b (sub n (records_in (take (i + 1) xs))) vs' left'
+passes_one_over one leaves packed b n xs i x vs vs' left left' lt e other ev el h =
+    subst (λ ds. ReadsAll one leaves packed b ds vs' left') (sym (sub-take_more n xs i x lt e ∙ ap (λ l. sub n (records_in (take i xs)) ++ l) (sub-one_other n x other) ∙ append-nil (sub n (records_in (take i xs)))))
+    (subst (λ l. ReadsAll one leaves packed b (sub n (records_in (take i xs))) l left') (sym ev) (subst (λ m. ReadsAll one leaves packed b (sub n (records_in (take i xs))) vs m) (sym el) h))
+
+-- one more record is written
+pub writes_one_more : {V M : Type 0} (text : M → Datum) (meaning : V → M) (n : ℕ) (vs : List V) (i : ℕ) (v : V) (d : Datum) (start now next : List (ℕ × Datum)) (r : ℕ × Datum)
+    → i < length vs → v ≡ get_or vs i v → d ≡ text (meaning v) → r ≡ (n, d)
+    → now ≡ start ++ tagged n (map text (map meaning (take i vs))) → next ≡ now ++ r ∷ []
+    → next ≡ start ++ tagged n (map text (map meaning (take (i + 1) vs)))
+writes_one_more text meaning n vs i v d start now next r lt e written made before grown =
+    grown ∙ ap (λ l. l ++ r ∷ []) before ∙ append_assoc start (tagged n (map text (map meaning (take i vs)))) (r ∷ [])
+    ∙ ap (λ l. start ++ l) (ap (λ q. tagged n (map text (map meaning (take i vs))) ++ q ∷ []) (made ∙ ap (λ x. (n, x)) written)
+    ∙ sym (ap (λ l. tagged n (map text l)) (means_more meaning vs i v lt e)
+    ∙ ap (tagged n) (map-append text (map meaning (take i vs)) (meaning v ∷ [])) ∙ map-append (λ x. (n, x)) (map text (map meaning (take i vs))) (text (meaning v) ∷ [])))
+
+-- what was written of a list is a front of what it writes
+pub writes_part : {V M : Type 0} (text : M → Datum) (meaning : V → M) (n : ℕ) (vs ws : List V) (i : ℕ) (start now : List (ℕ × Datum)) → ws ≡ vs
+    → now ≡ start ++ tagged n (map text (map meaning (take i ws))) → (k : ℕ) × (now ≡ start ++ take k (tagged n (map text (map meaning vs))))
+writes_part text meaning n vs ws i start now same e = (
+  i,
+  e ∙ ap (λ l. start ++ l) (ap (λ l. tagged n (map text (map meaning (take i l)))) same
+      ∙ ap (λ l. tagged n (map text l)) (sym (take-map meaning i vs)) ∙ ap (tagged n) (sym (take-map text i (map meaning vs))) ∙ sym (take-map (λ x. (n, x)) i (map text (map meaning vs)))),
+)
+
+pub writes_front : {V M T E : Type 0} (r : Result T E) (text : M → Datum) (meaning : V → M) (n : ℕ) (vs ws : List V) (i : ℕ) (start now : List (ℕ × Datum)) → ws ≡ vs
+    → now ≡ start ++ tagged n (map text (map meaning (take i ws))) → OnErr r ((k : ℕ) × (now ≡ start ++ take k (tagged n (map text (map meaning vs)))))
+writes_front (Ok u) text meaning n vs ws i start now same e = tt
+writes_front (Err u) text meaning n vs ws i start now same e = writes_part text meaning n vs ws i start now same e
+
+-- nothing was written
+pub writes_none : {T E : Type 0} (r : Result T E) (start ds : List (ℕ × Datum)) → OnErr r ((k : ℕ) × (start ≡ start ++ take k ds))
+writes_none (Ok u) start ds = tt
+writes_none (Err u) start ds = (0, sym (append-nil start))
+
+pub none_so_far : (n : ℕ) (xs : List UnknownField) (i : ℕ) (x : UnknownField) → i < length xs → x ≡ get_or xs i x → x.number ≢ n
+    → sub n (records_in (take i xs)) ≡ [] → sub n (records_in (take (i + 1) xs)) ≡ []
+none_so_far n xs i x lt e other h = sub-take_more n xs i x lt e ∙ ap (λ l. sub n (records_in (take i xs)) ++ l) (sub-one_other n x other) ∙ append-nil (sub n (records_in (take i xs))) ∙ h
+
+no_append : {A : Type 0} (xs ys : List A) (y : A) → (xs ++ y ∷ []) ++ ys ≡ [] → ⊥
+no_append [] ys y e = cc
+no_append (x ∷ xs) ys y e = cc
+
+-- a record of the number that stands somewhere
+pub one_is_there : (n : ℕ) (xs : List UnknownField) (i : ℕ) (x : UnknownField) → i < length xs → x ≡ get_or xs i x → x.number ≡ n → sub n (records_in xs) ≢ []
+one_is_there n xs i x lt e same none =
+    no_append (sub n (records_in (take i xs))) (sub n (records_in (drop (i + 1) xs))) (datum_of x.payload)
+    (ap (λ l. l ++ sub n (records_in (drop (i + 1) xs))) (sym (sub-take_more n xs i x lt e ∙ ap (λ l. sub n (records_in (take i xs)) ++ l) (sub-one_same n x same)))
+    ∙ sym (sub-append n (records_in (take (i + 1) xs)) (records_in (drop (i + 1) xs)))
+    ∙ ap (sub n) (sym (map-append record_of (take (i + 1) xs) (drop (i + 1) xs)))
+    ∙ ap (λ l. sub n (records_in l)) (take-append-drop (i + 1) xs)
+    ∙ none)

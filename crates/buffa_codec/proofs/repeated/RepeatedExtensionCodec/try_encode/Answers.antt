@@ -1,0 +1,36 @@
+use Rattle.std.proofs.Common.{◌≡◌, sym, ap, ◌∙◌, map, take, drop, None, ◌++◌, ◌∷◌, [], ◌+◌, refl, subst}
+use Rattle.std.proofs.lemmas.Result.{err_from_is_err_and}
+use Rattle.buffa_wire.specs.View.{datum_of, record_of}
+use Rattle.buffa_codec.specs.Reading.{Each, first_refusal}
+use Rattle.buffa_codec.proofs.Turns.{writes_one_more, writes_front, writes_part}
+use Rattle.buffa_codec.proofs.Lists.{means_more, means_cut, Each-append, first_refusal-append, first_refusal-pass, refused_whole}
+use Rattle.buffa_codec.proofs.repeated.RepeatedExtensionCodec.try_encode.Goals as goal
+
+pub returns-in_err-payload-clause-err : goal.returns-in_err-payload-clause-err
+returns-in_err-payload-clause-err g c =
+    writes_front _ g.C.SingularCodec.text g.C.Value.Blank.meaning c.args.number c.args.value.items c.as_slice-v-items.result.now c.loop-v.v-index c.args.fields.now.records c.loop-v.fields.records c.as_slice-v-items.ensures.value c.loop-v.invariant.written
+
+pub returns-in_err-payload-clause-refused : goal.returns-in_err-payload-clause-refused
+returns-in_err-payload-clause-refused g c =
+    let m = g.C.Value.Blank.meaning in
+    let xs = c.as_slice-v-items.result.now in
+    let p = err_from_is_err_and c.from_residual.result c.from_residual.ensures.1 in
+    rw (p.1, p.2) (refused_whole g.C.SingularCodec.refusal (map m (take c.loop-v.v-index xs)) (m c.v-item.result) (map m (drop (c.loop-v.v-index + 1) xs)) (map m c.args.value.items) c.in_err-payload.field-0.0
+    (ap (map m) (sym c.as_slice-v-items.ensures.value) ∙ means_cut m xs c.loop-v.v-index c.v-item.result c.loop-v-test.true c.v-item.is)
+    c.loop-v.invariant.allowed c.in_err-payload.ensures.refused)
+
+pub returns-in_default-clause-err : goal.returns-in_default-clause-err
+returns-in_default-clause-err g c =
+    writes_part g.C.SingularCodec.text g.C.Value.Blank.meaning c.args.number c.args.value.items c.as_slice-v-items.result.now c.loop-v.v-index c.args.fields.now.records c.push.new.self.records c.as_slice-v-items.ensures.value (ap (λ f. f.records) c.in_default.ensures.err ∙ c.loop-v.invariant.written)
+
+pub loop-v-preserved : goal.loop-v-preserved
+loop-v-preserved g c =
+    let m = g.C.Value.Blank.meaning in
+    let xs = c.as_slice-v-items.result.now in
+    let more = means_more m xs c.loop-v.v-index c.v-item.result c.loop-v-test.true c.v-item.is in
+    record {
+      written = writes_one_more g.C.SingularCodec.text m c.args.number xs c.loop-v.v-index c.v-item.result (datum_of c.in_ok-payload.payload) c.args.fields.now.records c.loop-v.fields.records c.push.new.self.records (c.args.number, datum_of c.in_ok-payload.payload)
+          c.loop-v-test.true c.v-item.is c.in_ok-payload.ensures.record refl c.loop-v.invariant.written c.in-Ok.ensures.ok;
+      allowed = ap (first_refusal g.C.SingularCodec.refusal) more ∙ first_refusal-append g.C.SingularCodec.refusal (map m (take c.loop-v.v-index xs)) (m c.v-item.result ∷ []) c.loop-v.invariant.allowed ∙ first_refusal-pass g.C.SingularCodec.refusal (m c.v-item.result) [] c.in_ok-payload.ensures.refused;
+      fit = subst (Each g.C.SingularCodec.fits) (sym more) (Each-append g.C.SingularCodec.fits (map m (take c.loop-v.v-index xs)) (m c.v-item.result) c.loop-v.invariant.fit c.in_ok-payload.ensures.fits);
+    }

@@ -1,0 +1,20 @@
+use Rattle.std.proofs.Common.{◌≡◌, false, true, None, Some, sym, ap, ◌∙◌}
+use Rattle.std.specs.Str.{is_utf8}
+use Rattle.std.proofs.lemmas.Bool.{false_from_ne_true}
+use Rattle.std.proofs.lemmas.Str.{IsUtf8-from_is_utf8, is_utf8-from_IsUtf8}
+use Rattle.buffa_wire.specs.View.{datum_of}
+use Rattle.buffa_codec.specs.Reading.{string_held}
+use Rattle.buffa_codec.proofs.Helds.{held_not, held_text}
+use Rattle.buffa_codec.proofs.text.StringCodecSingularCodec.decode_one.Goals as goal
+
+pub returns-in_default-from_utf8-clause-reads : goal.returns-in_default-from_utf8-clause-reads
+returns-in_default-from_utf8-clause-reads c =
+    let held = c.in-LengthDelimited.held.items in
+    let bad : is_utf8 c.as_slice.result.now ≡ false = false_from_ne_true (is_utf8 c.as_slice.result.now) (λ h. c.in_default-from_utf8.ensures.cases.0 (IsUtf8-from_is_utf8 c.as_slice.result.now h)) in
+    held_not held (ap is_utf8 (sym c.as_slice.ensures.value) ∙ bad) ∙ sym (ap (λ d. string_held (datum_of d)) c.in-LengthDelimited.is)
+
+pub returns-clause-reads : goal.returns-clause-reads
+returns-clause-reads c =
+    let held = c.in-LengthDelimited.held.items in
+    let good : is_utf8 held ≡ true = ap is_utf8 (sym c.as_slice.ensures.value) ∙ is_utf8-from_IsUtf8 c.as_slice.result.now c.in-Ok.ensures.cases.1 in
+    ap (λ b. Some b) (c.in_ok-owned.ensures.ok ∙ c.in-Ok.ensures.cases.0 ∙ c.as_slice.ensures.value) ∙ held_text held good ∙ sym (ap (λ d. string_held (datum_of d)) c.in-LengthDelimited.is)

@@ -1,0 +1,5 @@
+pub mod Sub
+pub mod Packed
+pub mod Reading
+pub mod Texts
+pub mod PackedFacts

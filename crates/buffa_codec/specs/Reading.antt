@@ -1,0 +1,87 @@
+-- What the records of a number are read as.
+use Rattle.std.specs.Prelude.{ℕ, ◌≡◌, ◌≤◌, ◌-◌, ◌⊎◌, List, [], ◌∷◌, ◌++◌, Option, Some, None, Result, Ok, Err, if◌then◌else◌}
+use Rattle.std.specs.Str.{is_utf8}
+use Rattle.std.specs.List.{filter_map, last_or}
+use Rattle.buffa_wire.specs.Records.{Datum, varint, fixed32, fixed64, bytes, group}
+use Rattle.buffa_wire.specs.Left.{Left}
+use Rattle.buffa_bytes.specs.declared.error.EncodeError.{EncodeError}
+use Rattle.buffa_bytes.specs.declared.error.EncodeError.TheVariants.{OutOfMemory}
+
+-- what is read with where nothing else is said
+abbrev pub full : Left
+full = record { unknown = 1000000; memory = 268435456 }
+
+abbrev pub nothing : Left
+nothing = record { unknown = 0; memory = 0 }
+
+-- what the last record is read as that is read at all
+abbrev pub last_read : {M : Type 0} → (Datum → Option M) → List Datum → Option M
+last_read one ds = last_or None (filter_map one ds)
+
+-- the bytes of a record
+abbrev pub bytes_held : Datum → Option (List ℕ)
+bytes_held (bytes b) = Some b
+bytes_held _ = None
+
+-- the bytes of a record, where they are UTF-8
+abbrev pub string_held : Datum → Option (List ℕ)
+string_held (bytes b) = if is_utf8 b then Some b else None
+string_held _ = None
+
+-- the packed values of a record
+abbrev pub unpacked : {M : Type 0} → (List ℕ → List M) → Datum → List M
+unpacked packed (bytes b) = packed b
+unpacked packed _ = []
+
+-- the values of one record of a list: its own, or else its packed ones
+abbrev pub elements : {M : Type 0} → (List ℕ → List M) → Datum → Option M → List M
+elements packed d None = unpacked packed d
+elements packed d (Some v) = v ∷ []
+
+-- the records, read one after the other from what is left, hold these values
+abbrev pub ReadsAll : {M : Type 0} → (Left → Datum → Option M) → (Left → Datum → Left → Type 0) → (List ℕ → List M) → Left → List Datum → List M → Left → Type 0
+ReadsAll one leaves packed b [] vs left = (vs ≡ []) × (left ≡ b)
+ReadsAll {M = M} one leaves packed b (d ∷ ds) vs left =
+    (mid : Left) × (rest : List M) × leaves b d mid × ReadsAll one leaves packed mid ds rest left × (vs ≡ elements packed d (one b d) ++ rest)
+
+-- the same under one pair of default budgets
+abbrev pub ReadsList : {M : Type 0} → (Left → Datum → Option M) → (Left → Datum → Left → Type 0) → (List ℕ → List M) → List Datum → List M → Type 0
+ReadsList one leaves packed ds vs = (left : Left) × ReadsAll one leaves packed full ds vs left
+
+-- one budget has room for what another is
+abbrev pub Covers : Left → Left → Type 0
+Covers b c = (c.unknown ≤ b.unknown) × (c.memory ≤ b.memory)
+
+-- what is left of a budget
+abbrev pub minus : Left → Left → Left
+minus b c = record { unknown = b.unknown - c.unknown; memory = b.memory - c.memory }
+
+-- the records, one after the other, cost no more than what is left
+abbrev pub CoversAll : (Datum → Left) → Left → List Datum → Type 0
+CoversAll cost b [] = Unit {0}
+CoversAll cost b (d ∷ ds) = Covers b (cost d) × CoversAll cost (minus b (cost d)) ds
+
+-- a fact holds of each value
+abbrev pub Each : {V : Type 0} → (V → Type 0) → List V → Type 0
+Each P [] = Unit {0}
+Each P (v ∷ vs) = P v × Each P vs
+
+-- the texts of the values, joined
+abbrev pub joined : {V : Type 0} → (V → List ℕ) → List V → List ℕ
+joined text [] = []
+joined text (v ∷ vs) = text v ++ joined text vs
+
+-- one record of packed bytes, or none for no values
+abbrev pub packed_record : {V : Type 0} → (V → List ℕ) → List V → List Datum
+packed_record text [] = []
+packed_record text (v ∷ vs) = bytes (joined text (v ∷ vs)) ∷ []
+
+-- why the first of the values is refused that is refused at all
+abbrev pub first_refusal : {V : Type 0} → (V → Option EncodeError) → List V → Option EncodeError
+first_refusal refusal [] = None
+first_refusal refusal (v ∷ vs) = elim (refusal v) [ Some e ↦ Some e | None ↦ first_refusal refusal vs ]
+
+-- nothing is refused, or that is told, unless memory ran out
+abbrev pub Refuses : {T : Type 0} → Result T EncodeError → Option EncodeError → Type 0
+Refuses (Ok x) refusal = refusal ≡ None
+Refuses (Err e) refusal = (e ≡ OutOfMemory) ⊎ (refusal ≡ Some e)

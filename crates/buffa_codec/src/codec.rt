@@ -1,0 +1,239 @@
+//! What the codecs of extensions owe.
+
+ghost use Rattle.std.specs.Prelude.{◌≡◌, ℕ, List, [], ◌∷◌, ◌++◌, map, take, Option, Some, None, option_map, OnOk, OnErr, IfOk, IsOk};
+ghost use Rattle.buffa_bytes.specs.declared.error.EncodeError.{EncodeError};
+ghost use Rattle.buffa_wire.specs.Left.{Left, left_in};
+ghost use Rattle.buffa_wire.specs.Records.{Datum, bytes};
+ghost use Rattle.buffa_wire.specs.View.{datum_of};
+ghost use Rattle.buffa_codec.specs.Sub.{sub, tagged};
+ghost use Rattle.buffa_codec.specs.Reading.{Covers, Refuses, full, minus};
+
+use buffa_wire::{Blank, DecodeContext, EncodeError, UnknownFieldData, UnknownFields};
+use std::alloc::{AllocError, Global};
+
+/// How the value of an extension is read of the records of its number, and written as such records.
+///
+/// ```ignore
+/// let value = Int32::decode(alloc, 7, &fields)?;
+/// Repeated::<Int32>::encode(alloc, 7, numbers, &mut fields)?;
+/// ```
+pub trait ExtensionCodec {
+    /// The Rust type of the values that are written.
+    type Value;
+
+    /// The Rust type of what is read.
+    type Output;
+
+    /// What two values have in common that mean the same.
+    ghost Meaning: { Type 0 };
+
+    /// What is read means one of these.
+    ghost Answer: { Type 0 };
+
+    /// What a value means.
+    ghost meaning: { Self.Value → Meaning };
+
+    /// What an output means.
+    ghost answer: { Self.Output → Answer };
+
+    /// Whether the records of the number may be read as that.
+    ghost reads: { List Datum → Answer → Type 0 };
+
+    /// The records of a value.
+    ghost recs: { Meaning → List Datum };
+
+    /// Why a value can't be written, memory aside.
+    ghost refusal: { Meaning → Option EncodeError };
+
+    /// What the type holds.
+    ghost fits: { Meaning → Type 0 };
+
+    /// The values whose records are read back.
+    ghost normal: { Meaning → Type 0 };
+
+    /// The answer that holds a value.
+    ghost holds: { Meaning → Answer → Type 0 };
+
+    /// Reading takes no memory.
+    ghost never_fails: { Type 0 };
+
+    /// Reads the records of the number.
+    ///
+    /// # Errors
+    /// Where memory runs out.
+    fn decode(
+        alloc: Global,
+        number: u32,
+        fields: &UnknownFields,
+    ) -> Result<Self::Output, AllocError>
+        ensures reads { IfOk result (λ o. reads (sub number fields.now.records) (answer o)) }
+        ensures always { never_fails → IsOk result };
+
+    /// Puts the records of the value behind the others.
+    ///
+    /// # Errors
+    /// What is wrong with the value, or want of memory; a beginning of its records stands then.
+    fn try_encode(
+        alloc: Global,
+        number: u32,
+        value: Self::Value,
+        fields: &mut UnknownFields,
+    ) -> Result<(), EncodeError>
+        ensures ok { OnOk result (fields.new.records ≡ fields.old.records ++ tagged number (recs (meaning value))) }
+        ensures err { OnErr result ((k : ℕ) × (fields.new.records ≡ fields.old.records ++ take k (tagged number (recs (meaning value))))) }
+        ensures refused { Refuses result (refusal (meaning value)) }
+        ensures fits { OnOk result (fits (meaning value)) };
+
+    /// The same as [`ExtensionCodec::try_encode`].
+    ///
+    /// # Errors
+    /// Those of [`ExtensionCodec::try_encode`].
+    fn encode(
+        alloc: Global,
+        number: u32,
+        value: Self::Value,
+        fields: &mut UnknownFields,
+    ) -> Result<(), EncodeError>
+        ensures ok { OnOk result (fields.new.records ≡ fields.old.records ++ tagged number (recs (meaning value))) }
+        ensures err { OnErr result ((k : ℕ) × (fields.new.records ≡ fields.old.records ++ take k (tagged number (recs (meaning value))))) }
+        ensures refused { Refuses result (refusal (meaning value)) }
+        ensures fits { OnOk result (fits (meaning value)) }
+    {
+        Self::try_encode(alloc, number, value, fields)
+    }
+
+    /// The records of a value are read as that value.
+    ghost reads_back: { (v : Meaning) (o : Answer) → fits v → normal v → reads (recs v) o → holds v o };
+}
+
+/// How one record is read as a value, and a value is written as one record.
+///
+/// ```ignore
+/// let value = Uint32::decode_one(alloc, &field.payload)?;
+/// let payload = Uint32::encode_one(alloc, &42)?;
+/// ```
+pub trait SingularCodec {
+    /// The Rust type of the values.
+    type Value: Blank;
+
+    /// What a record is read as, at a depth and of what is left of a budget.
+    ghost one: { ℕ → Left → Datum → Option Self.Value.Meaning };
+
+    /// What reading a record may leave of a budget.
+    ghost leaves: { ℕ → Left → Datum → Left → Type 0 };
+
+    /// The packed values in bytes.
+    ghost packed: { List ℕ → List Self.Value.Meaning };
+
+    /// The record of a value.
+    ghost text: { Self.Value.Meaning → Datum };
+
+    /// Why a value can't be written, memory aside.
+    ghost refusal: { Self.Value.Meaning → Option EncodeError };
+
+    /// What the type holds: each value means something of this.
+    ghost fits: { Self.Value.Meaning → Type 0 };
+
+    /// The values whose record is read back.
+    ghost normal: { Self.Value.Meaning → Type 0 };
+
+    /// What a record costs that is read as a value.
+    ghost cost: { Datum → Left };
+
+    /// Reading takes no memory.
+    ghost never_fails: { Type 0 };
+
+    /// Reads a record under a pair of default budgets, as deep as messages nest.
+    ///
+    /// # Errors
+    /// Where memory runs out.
+    fn decode_one(
+        alloc: Global,
+        payload: &UnknownFieldData,
+    ) -> Result<Option<Self::Value>, AllocError>
+        ensures reads { IfOk result (λ o. option_map Self.Value.meaning o ≡ one 100 full (datum_of payload.now)) }
+        ensures always { never_fails → IsOk result };
+
+    /// Reads a record at the context's depth, of what its budget has left.
+    ///
+    /// # Errors
+    /// Where memory runs out.
+    fn decode_one_ctx(
+        alloc: Global,
+        payload: &UnknownFieldData,
+        ctx: DecodeContext<'_>,
+    ) -> Result<Option<Self::Value>, AllocError>
+        ensures reads { IfOk result (λ o. option_map Self.Value.meaning o ≡ one ctx.entry.depth ctx.entry.budget.now (datum_of payload.now)) }
+        ensures left { IsOk result → leaves ctx.entry.depth ctx.entry.budget.now (datum_of payload.now) (left_in ctx.exit) }
+        ensures always { never_fails → IsOk result };
+
+    /// Puts the packed values behind the others.
+    ///
+    /// # Errors
+    /// Where memory runs out; a beginning of the values stands then.
+    fn decode_packed(bytes: &[u8], out: &mut Vec<Self::Value>) -> Result<(), AllocError>
+        ensures ok { OnOk result (map Self.Value.meaning out.new.items ≡ map Self.Value.meaning out.old.items ++ packed bytes.now) }
+        ensures err { OnErr result ((k : ℕ) × (map Self.Value.meaning out.new.items ≡ map Self.Value.meaning out.old.items ++ take k (packed bytes.now))) };
+
+    /// The record of a value.
+    ///
+    /// # Errors
+    /// What is wrong with the value, or want of memory.
+    fn try_encode_one(alloc: Global, value: &Self::Value) -> Result<UnknownFieldData, EncodeError>
+        ensures record { IfOk result (λ d. datum_of d ≡ text (Self.Value.meaning value.now)) }
+        ensures refused { Refuses result (refusal (Self.Value.meaning value.now)) }
+        ensures fits { fits (Self.Value.meaning value.now) };
+
+    /// The same as [`SingularCodec::try_encode_one`].
+    ///
+    /// # Errors
+    /// Those of [`SingularCodec::try_encode_one`].
+    fn encode_one(alloc: Global, value: &Self::Value) -> Result<UnknownFieldData, EncodeError>
+        ensures record { IfOk result (λ d. datum_of d ≡ text (Self.Value.meaning value.now)) }
+        ensures refused { Refuses result (refusal (Self.Value.meaning value.now)) }
+        ensures fits { fits (Self.Value.meaning value.now) }
+    {
+        Self::try_encode_one(alloc, value)
+    }
+
+    /// The record of a value is read as that value, where its cost is left.
+    ghost reads_text: { (v : Self.Value.Meaning) (b : Left) → fits v → normal v → Covers b (cost (text v)) → one 100 b (text v) ≡ Some v };
+
+    /// A record that is read as a value spends its cost, and that was left.
+    ghost spends_cost: { (b left : Left) (d : Datum) (v : Self.Value.Meaning) → one 100 b d ≡ Some v → leaves 100 b d left → Covers b (cost d) × (left ≡ minus b (cost d)) };
+
+    /// No record gives back what was spent.
+    ghost spends: { (b left : Left) (d : Datum) → leaves 100 b d left → Covers b left };
+}
+
+/// How values are packed into the bytes of one record.
+///
+/// ```ignore
+/// Int32::encode_packed(&300, &mut bytes)?; // AC 02
+/// ```
+pub trait PackableCodec: SingularCodec {
+    /// The bytes of a value.
+    ghost packed_text: { Self.Value.Meaning → List ℕ };
+
+    /// Puts the bytes of a value behind the others.
+    ///
+    /// # Errors
+    /// [`EncodeError::OutOfMemory`] alone; nothing is changed then.
+    fn encode_packed(value: &Self::Value, buf: &mut Vec<u8>) -> Result<(), EncodeError>
+        ensures ok { OnOk result (buf.new.items ≡ buf.old.items ++ packed_text (Self.Value.meaning value.now)) }
+        ensures err { OnErr result (buf.new.items ≡ buf.old.items) }
+        ensures refused { Refuses result None }
+        ensures fits { Self.fits (Self.Value.meaning value.now) };
+
+    /// Packed bytes of values are read as these values.
+    ghost unpacks: { (v : Self.Value.Meaning) (rest : List ℕ) → Self.fits v → Self.packed (packed_text v ++ rest) ≡ v ∷ Self.packed rest };
+
+    /// No bytes hold no values.
+    ghost unpacks_none: { Self.packed [] ≡ [] };
+
+    /// A record of bytes is no value of its own.
+    ghost bytes_unread: { (b : Left) (bs : List ℕ) → Self.one 100 b (bytes bs) ≡ None };
+
+    /// A record of bytes costs nothing.
+    ghost bytes_cost: { (b left : Left) (bs : List ℕ) → Self.leaves 100 b (bytes bs) left → left ≡ b };
+}

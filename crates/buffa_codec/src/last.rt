@@ -1,0 +1,89 @@
+//! Codecs of one value: the last record that is read at all.
+
+ghost use Rattle.std.specs.Prelude.{◌≡◌, List, [], ◌∷◌, Option, Some, None, option_map};
+ghost use Rattle.buffa_wire.specs.Left.{Left};
+ghost use Rattle.buffa_wire.specs.Records.{Datum};
+ghost use Rattle.buffa_codec.specs.Reading.{Covers, full, last_read};
+ghost use Rattle.buffa_codec.specs.Texts.{last_of_one};
+
+use crate::codec::{ExtensionCodec, SingularCodec};
+use buffa_wire::{EncodeError, UnknownField, UnknownFields};
+use std::alloc::{AllocError, Global};
+
+/// A codec of which the last record that is read is the value, and whose reading spends nothing.
+pub trait LastWins: SingularCodec {
+    /// No budget changes what a record is read as.
+    ghost same: { (b c : Left) (d : Datum) → Self.one 100 b d ≡ Self.one 100 c d };
+
+    /// A reading spends nothing.
+    ghost free: { (b left : Left) (d : Datum) → Self.leaves 100 b d left → left ≡ b };
+
+    /// A reading may be made.
+    ghost made: { (b : Left) (d : Datum) → Self.leaves 100 b d b };
+
+    /// The record of a value costs no more than there is.
+    ghost covered: { (v : Self.Value.Meaning) → Covers full (Self.cost (Self.text v)) };
+}
+
+impl<C: LastWins> ExtensionCodec for C {
+    type Value = C::Value;
+
+    type Output = Option<C::Value>;
+
+    ghost Meaning = { C.Value.Meaning };
+
+    ghost Answer = { Option C.Value.Meaning };
+
+    ghost meaning = { C.Value.meaning };
+
+    ghost answer = { option_map C.Value.meaning };
+
+    ghost reads = { λ ds o. o ≡ last_read (C.one 100 full) ds };
+
+    ghost recs = { λ v. C.text v ∷ [] };
+
+    ghost refusal = { C.refusal };
+
+    ghost fits = { C.fits };
+
+    ghost normal = { C.normal };
+
+    ghost holds = { λ v o. o ≡ Some v };
+
+    ghost never_fails = { C.never_fails };
+
+    fn decode(
+        alloc: Global,
+        number: u32,
+        fields: &UnknownFields,
+    ) -> Result<Option<C::Value>, AllocError> {
+        let all = fields.iter().as_slice();
+        let mut i = all.len();
+        while i > 0 {
+            i -= 1;
+            let field = &all[i];
+            if field.number == number {
+                match C::decode_one(alloc, &field.payload)? {
+                    Some(value) => return Ok(Some(value)),
+                    None => {}
+                }
+            }
+        }
+        Ok(None)
+    }
+
+    fn try_encode(
+        alloc: Global,
+        number: u32,
+        value: C::Value,
+        fields: &mut UnknownFields,
+    ) -> Result<(), EncodeError> {
+        let payload = C::encode_one(alloc, &value)?;
+        let Ok(()) = fields.push(UnknownField { number, payload }) else {
+            return Err(EncodeError::OutOfMemory);
+        };
+        Ok(())
+    }
+
+    ghost reads_back = { λ v o f n h. last_of_one (C.one 100 full) (C.text v) v o (C.SingularCodec.reads_text v full f n (C.LastWins.covered v)) h };
+}

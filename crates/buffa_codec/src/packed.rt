@@ -1,0 +1,78 @@
+//! Codecs of lists, all elements in one record.
+
+ghost use Rattle.std.specs.Prelude.{◌≡◌, List, map, None};
+ghost use Rattle.buffa_codec.specs.Reading.{Each, ReadsList, packed_record};
+ghost use Rattle.buffa_codec.specs.Texts.{packed_back};
+
+use crate::codec::{ExtensionCodec, PackableCodec};
+use crate::repeated::Repeated;
+use buffa_wire::{EncodeError, UnknownField, UnknownFieldData, UnknownFields};
+use std::alloc::{AllocError, Global};
+use std::marker::PhantomData;
+
+/// A list: one packed record is written, none for no elements. It is read as [`Repeated`] is.
+///
+/// ```ignore
+/// PackedRepeated::<Int32>::encode(alloc, 7, numbers, &mut fields)?;
+/// ```
+pub struct PackedRepeated<C> {
+    of: PhantomData<C>,
+}
+
+impl<C: PackableCodec> ExtensionCodec for PackedRepeated<C> {
+    type Value = Vec<C::Value>;
+
+    type Output = Vec<C::Value>;
+
+    ghost Meaning = { List C.Value.Meaning };
+
+    ghost Answer = { List C.Value.Meaning };
+
+    ghost meaning = { λ vs. map C.Value.meaning vs.items };
+
+    ghost answer = { λ vs. map C.Value.meaning vs.items };
+
+    ghost reads = { ReadsList (C.one 100) (C.leaves 100) C.packed };
+
+    ghost recs = { packed_record C.packed_text };
+
+    ghost refusal = { λ vs. None };
+
+    ghost fits = { Each C.fits };
+
+    ghost normal = { λ vs. Unit {0} };
+
+    ghost holds = { λ v o. o ≡ v };
+
+    ghost never_fails = { ⊥ };
+
+    fn decode(
+        alloc: Global,
+        number: u32,
+        fields: &UnknownFields,
+    ) -> Result<Vec<C::Value>, AllocError> {
+        Repeated::<C>::decode(alloc, number, fields)
+    }
+
+    fn try_encode(
+        alloc: Global,
+        number: u32,
+        value: Vec<C::Value>,
+        fields: &mut UnknownFields,
+    ) -> Result<(), EncodeError> {
+        let mut bytes = Vec::new(alloc);
+        for v in value.as_slice() {
+            C::encode_packed(v, &mut bytes)?;
+        }
+        if value.is_empty() {
+            return Ok(());
+        }
+        let payload = UnknownFieldData::LengthDelimited(bytes);
+        let Ok(()) = fields.push(UnknownField { number, payload }) else {
+            return Err(EncodeError::OutOfMemory);
+        };
+        Ok(())
+    }
+
+    ghost reads_back = { λ v o f n h. packed_back C.fits (C.one 100) (C.leaves 100) C.packed C.packed_text C.PackableCodec.unpacks C.PackableCodec.unpacks_none C.PackableCodec.bytes_unread v o h.0 f h.1 };
+}

@@ -1,0 +1,109 @@
+//! Codecs of lists, one record an element.
+
+ghost use Rattle.std.specs.Prelude.{◌≡◌, ◌++◌, List, map, OnOk, IfErr};
+ghost use Rattle.buffa_wire.specs.Records.{Datum};
+ghost use Rattle.buffa_wire.specs.View.{datum_of};
+ghost use Rattle.buffa_codec.specs.Reading.{CoversAll, Each, ReadsList, elements, first_refusal, full};
+ghost use Rattle.buffa_codec.specs.Texts.{list_back};
+
+use crate::codec::{ExtensionCodec, SingularCodec};
+use buffa_wire::{
+    Budget, DEFAULT_UNKNOWN_FIELD_LIMIT, DecodeContext, EncodeError, RECURSION_LIMIT, UnknownField,
+    UnknownFieldData, UnknownFields,
+};
+use std::alloc::{AllocError, Global};
+use std::marker::PhantomData;
+
+/// A list: one record an element is written, and packed records are read too.
+///
+/// ```ignore
+/// let numbers = Repeated::<Int32>::decode(alloc, 7, &fields)?;
+/// ```
+pub struct Repeated<C> {
+    of: PhantomData<C>,
+}
+
+impl<C: SingularCodec> ExtensionCodec for Repeated<C> {
+    type Value = Vec<C::Value>;
+
+    type Output = Vec<C::Value>;
+
+    ghost Meaning = { List C.Value.Meaning };
+
+    ghost Answer = { List C.Value.Meaning };
+
+    ghost meaning = { λ vs. map C.Value.meaning vs.items };
+
+    ghost answer = { λ vs. map C.Value.meaning vs.items };
+
+    ghost reads = { ReadsList (C.one 100) (C.leaves 100) C.packed };
+
+    ghost recs = { map C.text };
+
+    ghost refusal = { first_refusal C.refusal };
+
+    ghost fits = { Each C.fits };
+
+    ghost normal = { λ vs. Each C.normal vs × CoversAll C.cost full (map C.text vs) };
+
+    ghost holds = { λ v o. o ≡ v };
+
+    ghost never_fails = { ⊥ };
+
+    fn decode(
+        alloc: Global,
+        number: u32,
+        fields: &UnknownFields,
+    ) -> Result<Vec<C::Value>, AllocError> {
+        let mut out = Vec::new(alloc);
+        let mut budget = Budget::new(DEFAULT_UNKNOWN_FIELD_LIMIT);
+        for field in fields.iter().as_slice() {
+            if field.number == number {
+                read_one::<C>(alloc, &field.payload, &mut budget, &mut out)?;
+            }
+        }
+        Ok(out)
+    }
+
+    fn try_encode(
+        alloc: Global,
+        number: u32,
+        value: Vec<C::Value>,
+        fields: &mut UnknownFields,
+    ) -> Result<(), EncodeError> {
+        for v in value.as_slice() {
+            let payload = C::encode_one(alloc, v)?;
+            let Ok(()) = fields.push(UnknownField { number, payload }) else {
+                return Err(EncodeError::OutOfMemory);
+            };
+        }
+        Ok(())
+    }
+
+    ghost reads_back = { λ v o f n h. list_back C.fits C.normal C.cost (C.one 100) (C.leaves 100) C.packed C.text C.SingularCodec.reads_text C.SingularCodec.spends_cost full v o h.0 f n.0 n.1 h.1 };
+}
+
+// Puts the values of one record behind the others, and spends what reading it costs.
+fn read_one<C: SingularCodec>(
+    alloc: Global,
+    payload: &UnknownFieldData,
+    budget: &mut Budget,
+    out: &mut Vec<C::Value>,
+) -> Result<(), AllocError>
+    ensures left { OnOk result (C.leaves 100 budget.old (datum_of payload.now) budget.new) }
+    ensures values { OnOk result (map C.Value.meaning out.new.items ≡ map C.Value.meaning out.old.items ++ elements C.packed (datum_of payload.now) (C.one 100 budget.old (datum_of payload.now))) }
+{
+    let ctx = DecodeContext {
+        depth: RECURSION_LIMIT,
+        budget: &mut *budget,
+    };
+    match C::decode_one_ctx(alloc, payload, ctx)? {
+        Some(v) => out.push(v)?,
+        None => {
+            if let UnknownFieldData::LengthDelimited(bytes) = payload {
+                C::decode_packed(bytes.as_slice(), out)?;
+            }
+        }
+    }
+    Ok(())
+}

@@ -1,0 +1,155 @@
+//! Codecs of strings and bytes.
+
+ghost use Rattle.std.specs.Prelude.{◌≡◌, ℕ, List, [], None, refl, string_bytes, true};
+ghost use Rattle.std.specs.Str.{is_utf8};
+ghost use Rattle.std.proofs.Common.{◌∙◌};
+ghost use Rattle.buffa_wire.specs.Records.{bytes};
+ghost use Rattle.buffa_codec.specs.Reading.{bytes_held, full, nothing, string_held};
+ghost use Rattle.buffa_codec.specs.Texts.{covers_nothing, covers_same, minus_nothing, string_back};
+
+use crate::codec::SingularCodec;
+use crate::last::LastWins;
+use buffa_wire::{DecodeContext, EncodeError, UnknownFieldData};
+use std::alloc::{AllocError, Global};
+
+/// `string`: the bytes of a record, where they are UTF-8.
+pub struct StringCodec;
+
+impl SingularCodec for StringCodec {
+    type Value = String;
+
+    ghost one = { λ depth b d. string_held d };
+
+    ghost leaves = { λ depth b d left. left ≡ b };
+
+    ghost packed = { λ bs. [] };
+
+    ghost text = { bytes };
+
+    ghost refusal = { λ v. None };
+
+    ghost fits = { λ v. is_utf8 v ≡ true };
+
+    ghost normal = { λ v. Unit {0} };
+
+    ghost cost = { λ d. nothing };
+
+    ghost never_fails = { ⊥ };
+
+    fn decode_one(alloc: Global, payload: &UnknownFieldData) -> Result<Option<String>, AllocError> {
+        let UnknownFieldData::LengthDelimited(held) = payload else {
+            return Ok(None);
+        };
+        let Ok(text) = str::from_utf8(held.as_slice()) else {
+            return Ok(None);
+        };
+        let owned = String::from_str(alloc, text)?;
+        Ok(Some(owned))
+    }
+
+    fn decode_one_ctx(
+        alloc: Global,
+        payload: &UnknownFieldData,
+        _ctx: DecodeContext<'_>,
+    ) -> Result<Option<String>, AllocError> {
+        Self::decode_one(alloc, payload)
+    }
+
+    fn decode_packed(_bytes: &[u8], _out: &mut Vec<String>) -> Result<(), AllocError> {
+        Ok(())
+    }
+
+    fn try_encode_one(alloc: Global, value: &String) -> Result<UnknownFieldData, EncodeError> {
+        let Ok(held) = Vec::from_slice(alloc, value.as_bytes()) else {
+            return Err(EncodeError::OutOfMemory);
+        };
+        Ok(UnknownFieldData::LengthDelimited(held))
+    }
+
+    ghost reads_text = { λ v b f n h. string_back v f };
+
+    ghost spends_cost = { λ b left d v e h. (covers_nothing b, h ∙ minus_nothing b) };
+
+    ghost spends = { λ b left d h. covers_same b left h };
+}
+
+impl LastWins for StringCodec {
+    ghost same = { λ b c d. refl };
+
+    ghost free = { λ b left d h. h };
+
+    ghost made = { λ b d. refl };
+
+    ghost covered = { λ v. covers_nothing full };
+}
+
+/// `bytes`: the bytes of a record.
+pub struct BytesCodec;
+
+impl SingularCodec for BytesCodec {
+    type Value = Vec<u8>;
+
+    ghost one = { λ depth b d. bytes_held d };
+
+    ghost leaves = { λ depth b d left. left ≡ b };
+
+    ghost packed = { λ bs. [] };
+
+    ghost text = { bytes };
+
+    ghost refusal = { λ v. None };
+
+    ghost fits = { λ v. Unit {0} };
+
+    ghost normal = { λ v. Unit {0} };
+
+    ghost cost = { λ d. nothing };
+
+    ghost never_fails = { ⊥ };
+
+    fn decode_one(
+        alloc: Global,
+        payload: &UnknownFieldData,
+    ) -> Result<Option<Vec<u8>>, AllocError> {
+        let UnknownFieldData::LengthDelimited(held) = payload else {
+            return Ok(None);
+        };
+        let owned = Vec::from_slice(alloc, held.as_slice())?;
+        Ok(Some(owned))
+    }
+
+    fn decode_one_ctx(
+        alloc: Global,
+        payload: &UnknownFieldData,
+        _ctx: DecodeContext<'_>,
+    ) -> Result<Option<Vec<u8>>, AllocError> {
+        Self::decode_one(alloc, payload)
+    }
+
+    fn decode_packed(_bytes: &[u8], _out: &mut Vec<Vec<u8>>) -> Result<(), AllocError> {
+        Ok(())
+    }
+
+    fn try_encode_one(alloc: Global, value: &Vec<u8>) -> Result<UnknownFieldData, EncodeError> {
+        let Ok(held) = Vec::from_slice(alloc, value.as_slice()) else {
+            return Err(EncodeError::OutOfMemory);
+        };
+        Ok(UnknownFieldData::LengthDelimited(held))
+    }
+
+    ghost reads_text = { λ v b f n h. refl };
+
+    ghost spends_cost = { λ b left d v e h. (covers_nothing b, h ∙ minus_nothing b) };
+
+    ghost spends = { λ b left d h. covers_same b left h };
+}
+
+impl LastWins for BytesCodec {
+    ghost same = { λ b c d. refl };
+
+    ghost free = { λ b left d h. h };
+
+    ghost made = { λ b d. refl };
+
+    ghost covered = { λ v. covers_nothing full };
+}

@@ -1,0 +1,5 @@
+use Rattle.buffa_ext.proofs.Histories.{sub-after}
+use Rattle.buffa_ext.proofs.laws.last_change_counts.Goals as goal
+
+pub returns : goal.returns
+returns c = sub-after

@@ -1,0 +1,12 @@
+use Rattle.std.proofs.Common.{◌≡◌, ◌∷◌, [], ◌++◌, sym, ap, ◌∙◌, append_assoc, arith, length, length-append}
+use Rattle.std.proofs.lemmas.Grind.{common_steps}
+use Rattle.buffa_ext.specs.Changes.{change_of}
+use Rattle.buffa_ext.proofs.Replays.{replays_one_more}
+use Rattle.buffa_ext.proofs.steps.replay.Goals as goal
+
+pub loop-step-preserved : goal.loop-step-preserved
+loop-step-preserved c = record {
+  whole = c.loop-step.invariant.whole ∙ ap (λ l. c.loop-step.yielded ++ l) c.in-Some.ensures.steps.0 ∙ sym (append_assoc c.loop-step.yielded (c.in-Some.step ∷ []) c.next.new.self.rest.items);
+  count = omega (arith, c.loop-step.invariant.count, length-append c.loop-step.yielded (c.in-Some.step ∷ []));
+  so_far = replays_one_more change_of c.args.fields.now.records c.loop-step.fields.records c.replay_one.new.fields.records c.loop-step.yielded c.in-Some.step c.loop-step.invariant.so_far c.in-Ok.ensures.ok;
+}

@@ -1,0 +1,29 @@
+-- Sets and clears of numbers, and what they leave.
+use Rattle.std.specs.Prelude.{◌≡◌, ℕ, List, [], ◌∷◌, ◌++◌, Option, Some, None, unwrap_or, ◌==◌, if◌then◌else◌}
+use Rattle.std.specs.List.{filter_map, last_or}
+use Rattle.buffa_wire.specs.Records.{Datum}
+use Rattle.buffa_codec.specs.Sub.{sub, without, tagged}
+
+-- a set of a number to what its records are to hold, or a clear of a number
+pub data Change : Type 0 where
+  set : ℕ → List Datum → Change
+  clear : ℕ → Change
+
+-- the records that one change leaves
+abbrev pub after_one : List (ℕ × Datum) → Change → List (ℕ × Datum)
+after_one rs (set n ds) = without n rs ++ tagged n ds
+after_one rs (clear n) = without n rs
+
+-- the records that changes leave, one after the other
+abbrev pub after : List (ℕ × Datum) → List Change → List (ℕ × Datum)
+after rs [] = rs
+after rs (c ∷ cs) = after (after_one rs c) cs
+
+-- what a change says of a number, where it says something
+abbrev pub says : ℕ → Change → Option (List Datum)
+says n (set m ds) = (if m == n then Some ds else None)
+says n (clear m) = (if m == n then Some [] else None)
+
+-- what the last change of a number leaves there, or else what was there
+abbrev pub history : ℕ → List (ℕ × Datum) → List Change → List Datum
+history n rs cs = unwrap_or (last_or None (filter_map (says n) cs)) (sub n rs)

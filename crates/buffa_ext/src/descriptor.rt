@@ -1,0 +1,138 @@
+//! What names an extension, and its declared default.
+ghost use Rattle.std.specs.Prelude.{◌≡◌, ℕ, List, Option, Some, None, Ok, IfOk};
+ghost use Rattle.std.specs.declared.alloc.Global.{Global};
+
+use buffa_codec::ExtensionCodec;
+use std::alloc::{AllocError, Global};
+use std::marker::PhantomData;
+
+/// A default that a descriptor may declare.
+pub trait Declared<V> {
+    // The default may be asked for.
+    ghost can_declare: { Self → Type 0 };
+
+    // Holds of what the default may be.
+    ghost may_declare: { Self → Option V → Type 0 };
+
+    fn declared(&self, alloc: Global) -> Result<Option<V>, AllocError>
+        requires { can_declare self.now }
+        ensures { IfOk result (may_declare self.now) };
+}
+
+/// No default is declared.
+#[derive(Clone, Copy)]
+pub struct NoDefault;
+
+impl<V> Declared<V> for NoDefault {
+    ghost can_declare = { λ s. Unit {0} };
+
+    ghost may_declare = { λ s o. o ≡ None };
+
+    fn declared(&self, _alloc: Global) -> Result<Option<V>, AllocError> {
+        Ok(None)
+    }
+}
+
+/// A default that a function makes anew each time.
+pub struct Make<F> {
+    make: F,
+}
+
+impl<V, F: Fn(Global) -> Result<V, AllocError>> Declared<V> for Make<F> {
+    ghost can_declare = { λ s. F.IsAlwaysCallable s.make };
+
+    ghost may_declare = { λ s o. (a : Global) × (v : V) × F.post s.make a (Ok v) × (o ≡ Some v) };
+
+    fn declared(&self, alloc: Global) -> Result<Option<V>, AllocError> {
+        let value = (self.make)(alloc)?;
+        Ok(Some(value))
+    }
+}
+
+impl<F: Copy> Clone for Make<F> {
+    fn clone(&self) -> Result<Make<F>, AllocError> {
+        let make = self.make;
+        Ok(Make { make })
+    }
+}
+
+impl<F: Copy> Copy for Make<F> {}
+
+/// A number of an extendee, with the codec of its values.
+pub struct Extension<C: ExtensionCodec, D = NoDefault> {
+    pub(crate) number: u32,
+    pub(crate) extendee: &'static str,
+    pub(crate) default: D,
+    codec: PhantomData<C>,
+}
+
+impl<C: ExtensionCodec, D: Copy> Clone for Extension<C, D> {
+    fn clone(&self) -> Result<Extension<C, D>, AllocError> {
+        let default = self.default;
+        Ok(Extension {
+            number: self.number,
+            extendee: self.extendee,
+            default,
+            codec: PhantomData,
+        })
+    }
+}
+
+impl<C: ExtensionCodec, D: Copy> Copy for Extension<C, D> {}
+
+impl<C: ExtensionCodec> Extension<C> {
+    pub fn new(number: u32, extendee: &'static str) -> Extension<C>
+        ensures number { result.number ≡ number }
+        ensures extendee { result.extendee.now ≡ extendee.now }
+    {
+        Extension {
+            number,
+            extendee,
+            default: NoDefault,
+            codec: PhantomData,
+        }
+    }
+}
+
+impl<C: ExtensionCodec> Extension<C> {
+    pub fn with_default<F: Fn(Global) -> Result<C::Value, AllocError> + Copy>(
+        number: u32,
+        extendee: &'static str,
+        default: F,
+    ) -> Extension<C, Make<F>>
+        requires { F.IsAlwaysCallable default }
+        ensures number { result.number ≡ number }
+        ensures extendee { result.extendee.now ≡ extendee.now }
+        ensures default { result.default.make ≡ default }
+    {
+        Extension {
+            number,
+            extendee,
+            default: Make { make: default },
+            codec: PhantomData,
+        }
+    }
+}
+
+impl<C: ExtensionCodec, D> Extension<C, D> {
+    pub fn number(&self) -> u32
+        ensures { result ≡ self.now.number }
+    {
+        self.number
+    }
+
+    pub fn extendee(&self) -> &'static str
+        ensures { result.now ≡ self.now.extendee.now }
+    {
+        self.extendee
+    }
+}
+
+impl<C: ExtensionCodec, D: Declared<C::Value>> Extension<C, D> {
+    pub fn declared(&self, alloc: Global) -> Result<Option<C::Value>, AllocError>
+        requires { D.can_declare self.now.default }
+        ensures { IfOk result (D.may_declare self.now.default) }
+    {
+        self.default.declared(alloc)
+    }
+}

@@ -1,0 +1,132 @@
+//! Messages that keep extensions.
+
+ghost use Rattle.std.specs.Prelude.{◌≡◌, ◌≢◌, ◌↔◌, IsTrue, ℕ, List, [], ◌++◌, Option, Some, None, OnOk, OnErr, IfOk, IsOk};
+ghost use Rattle.std.specs.Borrow.{sem, Lends};
+ghost use Rattle.buffa_wire.specs.Records.{Held};
+ghost use Rattle.buffa_wire.specs.contracts.unknown_fields.UnknownFields.{the_row as fields_row};
+ghost use Rattle.buffa_codec.specs.Sub.{sub, without, tagged};
+ghost use Rattle.buffa_codec.specs.Reading.{Refuses};
+ghost use Rattle.buffa_ext.specs.Defaults.{IsDefaulted};
+
+use crate::descriptor::{Declared, Extension};
+use crate::stage::{has_number, remove, replace};
+use buffa_codec::ExtensionCodec;
+use buffa_wire::{Blank, EncodeError, UnknownFields};
+use std::alloc::{AllocError, Global};
+
+/// A message that lends its list of unknown fields.
+pub trait ExtensionSet {
+    const PROTO_FQN: &'static str;
+
+    ghost fqn: { List ℕ };
+
+    ghost fields_of: { Self → Held };
+
+    ghost with_fields: { Self → Held → Self };
+
+    fn extendee_name() -> &'static str
+        ensures { result.now ≡ fqn };
+
+    fn unknown_fields(&self) -> &UnknownFields
+        ensures { result.now ≡ fields_of self.now };
+
+    fn unknown_fields_mut(&mut self) -> &mut UnknownFields
+        ensures* lends { sem 𝓛 (Lends Self.row fields_row self.entry result (λ w. with_fields self.old w)) }
+        ensures value { result.now ≡ fields_of self.old };
+
+    final fn extension<C: ExtensionCodec, D>(
+        &self,
+        alloc: Global,
+        ext: &Extension<C, D>,
+    ) -> Result<C::Output, AllocError>
+        requires { ext.now.extendee.now ≡ fqn }
+        ensures value { IfOk result (λ o. C.reads (sub ext.now.number (fields_of self.now).records) (C.answer o)) }
+        ensures always { C.never_fails → IsOk result }
+    {
+        C::decode(alloc, ext.number(), self.unknown_fields())
+    }
+
+    /// Puts the value's records behind the others, in the place of those of its number. No other record is
+    /// copied.
+    ///
+    /// # Errors
+    /// What is wrong with the value, or want of memory; nothing is changed then.
+    final fn try_set_extension<C: ExtensionCodec, D>(
+        &mut self,
+        alloc: Global,
+        ext: &Extension<C, D>,
+        value: C::Value,
+    ) -> Result<(), EncodeError>
+        requires { ext.now.extendee.now ≡ fqn }
+        ensures ok { OnOk result ((fields_of self.new).records ≡ without ext.now.number (fields_of self.old).records ++ tagged ext.now.number (C.recs (C.meaning value))) }
+        ensures err { OnErr result (self.new ≡ self.old) }
+        ensures refused { Refuses result (C.refusal (C.meaning value)) }
+        ensures fits { OnOk result (C.fits (C.meaning value)) }
+        ensures rest { (w : Held) × (self.new ≡ with_fields self.old w) }
+    {
+        let number = ext.number();
+        let mut staged = UnknownFields::new(alloc);
+        C::try_encode(alloc, number, value, &mut staged)?;
+        let Ok(()) = replace(self.unknown_fields_mut(), number, staged) else {
+            return Err(EncodeError::OutOfMemory);
+        };
+        Ok(())
+    }
+
+    /// The same as [`ExtensionSet::try_set_extension`].
+    ///
+    /// # Errors
+    /// Those of [`ExtensionSet::try_set_extension`].
+    final fn set_extension<C: ExtensionCodec, D>(
+        &mut self,
+        alloc: Global,
+        ext: &Extension<C, D>,
+        value: C::Value,
+    ) -> Result<(), EncodeError>
+        requires { ext.now.extendee.now ≡ fqn }
+        ensures ok { OnOk result ((fields_of self.new).records ≡ without ext.now.number (fields_of self.old).records ++ tagged ext.now.number (C.recs (C.meaning value))) }
+        ensures err { OnErr result (self.new ≡ self.old) }
+        ensures refused { Refuses result (C.refusal (C.meaning value)) }
+        ensures fits { OnOk result (C.fits (C.meaning value)) }
+        ensures rest { (w : Held) × (self.new ≡ with_fields self.old w) }
+    {
+        self.try_set_extension(alloc, ext, value)
+    }
+
+    final fn clear_extension<C: ExtensionCodec, D>(&mut self, ext: &Extension<C, D>)
+        requires { ext.now.extendee.now ≡ fqn }
+        ensures records { (fields_of self.new).records ≡ without ext.now.number (fields_of self.old).records }
+        ensures rest { (w : Held) × (self.new ≡ with_fields self.old w) }
+    {
+        let number = ext.number();
+        remove(self.unknown_fields_mut(), number);
+    }
+
+    final fn has_extension<C: ExtensionCodec, D>(&self, ext: &Extension<C, D>) -> bool
+        ensures { IsTrue result ↔ ((ext.now.extendee.now ≡ fqn) × (sub ext.now.number ((fields_of self.now).records) ≢ [])) }
+    {
+        ext.extendee() == Self::extendee_name() && has_number(self.unknown_fields(), ext.number())
+    }
+
+    final fn extension_or_default<
+        V: Blank,
+        C: ExtensionCodec<Value = V, Output = Option<V>>,
+        D: Declared<V>,
+    >(&self, alloc: Global, ext: &Extension<C, D>) -> Result<V, AllocError>
+        requires extendee { ext.now.extendee.now ≡ fqn }
+        requires callable { D.can_declare ext.now.default }
+        ensures { IfOk result (IsDefaulted (λ o. C.reads (sub ext.now.number (fields_of self.now).records) (C.answer o)) (D.may_declare ext.now.default) (λ v. V.meaning v ≡ V.blank_is)) }
+    {
+        if let Some(value) = self.extension(alloc, ext)? {
+            return Ok(value);
+        }
+        if let Some(value) = ext.declared(alloc)? {
+            return Ok(value);
+        }
+        Ok(V::blank(alloc))
+    }
+
+    ghost fields_of_with: { (m : Self) (w : Held) → fields_of (with_fields m w) ≡ w };
+
+    ghost with_fields_of: { (m : Self) → with_fields m (fields_of m) ≡ m };
+}

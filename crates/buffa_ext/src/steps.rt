@@ -1,0 +1,84 @@
+//! Sets and clears, one after the other.
+
+ghost use Rattle.std.specs.Prelude.{◌≡◌, ◌<◌, List, ◌++◌, length, map, take, OnOk, OnErr, IfErr, IfOk};
+ghost use Rattle.buffa_wire.specs.View.{datum_of};
+ghost use Rattle.buffa_codec.specs.Sub.{tagged};
+ghost use Rattle.buffa_ext.specs.Steps.{after, after_one};
+ghost use Rattle.buffa_ext.specs.Changes.{change_of};
+
+use crate::stage::{remove, replace};
+use buffa_wire::{UnknownField, UnknownFieldData, UnknownFields};
+use std::alloc::{AllocError, Global};
+
+/// A change of the records of one number.
+#[derive(Drop)]
+pub enum Step {
+    /// Records that hold these take the place of the number's.
+    Set {
+        number: u32,
+        records: Vec<UnknownFieldData>,
+    },
+    /// The number's records are taken out.
+    Clear {
+        number: u32,
+    },
+}
+
+/// Why a replay ended early: memory ran out.
+#[derive(Clone, Copy, Debug, PartialEq, Eq)]
+pub struct ReplayFault {
+    /// How many steps stand; the next one changed nothing.
+    pub done: usize,
+}
+
+// The records of a number that hold these.
+fn staged(
+    alloc: Global,
+    number: u32,
+    payloads: Vec<UnknownFieldData>,
+) -> Result<UnknownFields, AllocError>
+    ensures { IfOk result (λ f. f.records ≡ tagged number (map datum_of payloads.items)) }
+{
+    let mut fields = UnknownFields::new(alloc);
+    for payload in payloads {
+        fields.push(UnknownField { number, payload })?;
+    }
+    Ok(fields)
+}
+
+// Takes one step, or leaves everything as it was.
+fn replay_one(alloc: Global, fields: &mut UnknownFields, step: Step) -> Result<(), AllocError>
+    ensures ok { OnOk result (fields.new.records ≡ after_one fields.old.records (change_of step)) }
+    ensures err { OnErr result (fields.new.records ≡ fields.old.records) }
+{
+    match step {
+        Step::Set { number, records } => {
+            let list = staged(alloc, number, records)?;
+            replace(fields, number, list)?;
+        }
+        Step::Clear { number } => remove(fields, number),
+    }
+    Ok(())
+}
+
+/// Takes the steps, or those before the first for which there is no memory.
+///
+/// # Errors
+/// Where memory runs out: how many steps stand.
+pub fn replay(
+    alloc: Global,
+    fields: &mut UnknownFields,
+    steps: Vec<Step>,
+) -> Result<(), ReplayFault>
+    ensures ok { OnOk result (fields.new.records ≡ after fields.old.records (map change_of steps.items)) }
+    ensures err { IfErr result (λ e. (e.done < length steps.items) × (fields.new.records ≡ after fields.old.records (take e.done (map change_of steps.items)))) }
+{
+    let mut done = 0usize;
+    for step in steps {
+        match replay_one(alloc, fields, step) {
+            Ok(()) => done += 1,
+            Err(_) => return Err(ReplayFault { done }),
+        }
+    }
+    Ok(())
+}

@@ -1,0 +1,228 @@
+//! How one number is spelled in a payload: as a varint, or in four or eight bytes.
+
+ghost use Rattle.std.specs.Prelude.{◌≡◌, ◌<◌, ◌^◌, ℕ, List, IfOk, IfSome, None, Option, Some, length, refl};
+ghost use Rattle.buffa_wire.specs.Records.{Datum, bytes, fixed32, fixed64, varint};
+ghost use Rattle.buffa_wire.specs.View.{datum_of};
+ghost use Rattle.buffa_wire.specs.Found.{fixed32_in, fixed64_in, varint_in};
+ghost use Rattle.buffa_bytes.specs.declared.wire_type.WireType.{WireType};
+ghost use Rattle.buffa_bytes.specs.Content.{HasContent, content_at};
+ghost use Rattle.buffa_bytes.specs.Content.Content.{number};
+ghost use Rattle.buffa_bytes.specs.Gives.{Gives};
+ghost use Rattle.buffa_bytes.specs.Written.{Writes};
+
+use crate::sealed::Sealed;
+use crate::unknown_fields::UnknownFieldData;
+use buffa_bytes::types::{decode_fixed32, decode_fixed64, encode_fixed32, encode_fixed64};
+use buffa_bytes::{
+    Buf, DecodeError, EncodeError, EncodeSink, WireType, decode_varint, encode_varint, varint_len,
+};
+
+/// A spelling of numbers.
+pub trait Form: Sealed {
+    /// The wire type of the payloads.
+    const WIRE_TYPE: WireType;
+
+    ghost WIRE_TYPE: { WireType };
+
+    /// The numbers that can be spelled.
+    ghost spells: { ℕ → Type 0 };
+
+    /// The payload of a number.
+    ghost payload: { ℕ → List ℕ };
+
+    /// Reads the number at the front.
+    fn read<B: Buf>(buf: &mut B) -> Result<u64, DecodeError>
+        ensures reads { Gives (λ n. (number n, B.unread buf.new)) result (content_at WIRE_TYPE (B.unread buf.old)) }
+        ensures spelled { IfOk result spells }
+        ensures kept { B.kept buf.new ≡ B.kept buf.old };
+
+    /// The length of a number's payload.
+    fn len(n: u64) -> u64
+        requires { spells n }
+        ensures { result ≡ length (payload n) };
+
+    /// Writes a number.
+    fn write<S: EncodeSink>(n: u64, sink: &mut S) -> Result<(), EncodeError>
+        requires { spells n }
+        ensures { Writes result (S.written sink.old) (payload n) (S.written sink.new) };
+
+    /// The record data of a number.
+    ghost datum: { ℕ → Datum };
+
+    /// The number of record data of this form.
+    ghost found: { Datum → Option ℕ };
+
+    /// The number in a record of this form.
+    fn in_record(held: &UnknownFieldData) -> Option<u64>
+        ensures found { result ≡ found (datum_of held.now) }
+        ensures spelled { IfSome result spells };
+
+    /// The record data of a number.
+    fn record_of(n: u64) -> UnknownFieldData
+        requires { spells n }
+        ensures { datum_of result ≡ datum n };
+
+    /// The payload of a number holds it.
+    ghost reads_back: { (n : ℕ) → spells n → HasContent WIRE_TYPE (payload n) (number n) };
+
+    /// The record of a number has it.
+    ghost kept: { (n : ℕ) → found (datum n) ≡ Some n };
+
+    /// A record of bytes has no number.
+    ghost bytes_other: { (bs : List ℕ) → found (bytes bs) ≡ None };
+}
+
+/// A varint.
+pub struct Varint;
+
+impl Sealed for Varint {}
+
+impl Form for Varint {
+    ghost use Rattle.buffa_bytes.proofs.VarintLemmas.{Var-V};
+    ghost use Rattle.buffa_bytes.specs.Varint.{V};
+
+    const WIRE_TYPE: WireType = WireType::Varint;
+
+    ghost WIRE_TYPE = { WireType.Varint };
+
+    ghost spells = { λ n. n < 2 ^ 64 };
+
+    ghost payload = { V };
+
+    ghost datum = { varint };
+
+    ghost found = { varint_in };
+
+    fn read<B: Buf>(buf: &mut B) -> Result<u64, DecodeError> {
+        decode_varint(buf)
+    }
+
+    fn len(n: u64) -> u64 {
+        varint_len(n) as u64
+    }
+
+    fn write<S: EncodeSink>(n: u64, sink: &mut S) -> Result<(), EncodeError> {
+        encode_varint(n, sink)
+    }
+
+    fn in_record(held: &UnknownFieldData) -> Option<u64> {
+        match held {
+            UnknownFieldData::Varint(n) => Some(*n),
+            _ => None,
+        }
+    }
+
+    fn record_of(n: u64) -> UnknownFieldData {
+        UnknownFieldData::Varint(n)
+    }
+
+    ghost reads_back = { Var-V };
+
+    ghost kept = { λ n. refl };
+
+    ghost bytes_other = { λ bs. refl };
+}
+
+/// Four bytes, the lowest first.
+pub struct FourBytes;
+
+impl Sealed for FourBytes {}
+
+impl Form for FourBytes {
+    ghost use Rattle.std.proofs.Common.{sym};
+    ghost use Rattle.std.specs.Int.{to_le_bytes, w32};
+    ghost use Rattle.std.proofs.lemmas.Nat.{from_le_bytes-to_le_bytes_4};
+
+    const WIRE_TYPE: WireType = WireType::Fixed32;
+
+    ghost WIRE_TYPE = { WireType.Fixed32 };
+
+    ghost spells = { λ n. n < 2 ^ 32 };
+
+    ghost payload = { to_le_bytes w32 };
+
+    ghost datum = { fixed32 };
+
+    ghost found = { fixed32_in };
+
+    fn read<B: Buf>(buf: &mut B) -> Result<u64, DecodeError> {
+        Ok(u64::from(decode_fixed32(buf)?))
+    }
+
+    fn len(_n: u64) -> u64 {
+        4
+    }
+
+    fn write<S: EncodeSink>(n: u64, sink: &mut S) -> Result<(), EncodeError> {
+        encode_fixed32(n as u32, sink)
+    }
+
+    fn in_record(held: &UnknownFieldData) -> Option<u64> {
+        match held {
+            UnknownFieldData::Fixed32(n) => Some(u64::from(*n)),
+            _ => None,
+        }
+    }
+
+    fn record_of(n: u64) -> UnknownFieldData {
+        UnknownFieldData::Fixed32(n as u32)
+    }
+
+    ghost reads_back = { λ n h. (refl, sym (from_le_bytes-to_le_bytes_4 n h)) };
+
+    ghost kept = { λ n. refl };
+
+    ghost bytes_other = { λ bs. refl };
+}
+
+/// Eight bytes, the lowest first.
+pub struct EightBytes;
+
+impl Sealed for EightBytes {}
+
+impl Form for EightBytes {
+    ghost use Rattle.std.proofs.Common.{sym};
+    ghost use Rattle.std.specs.Int.{to_le_bytes, w64};
+    ghost use Rattle.std.proofs.lemmas.Nat.{from_le_bytes-to_le_bytes_8};
+
+    const WIRE_TYPE: WireType = WireType::Fixed64;
+
+    ghost WIRE_TYPE = { WireType.Fixed64 };
+
+    ghost spells = { λ n. n < 2 ^ 64 };
+
+    ghost payload = { to_le_bytes w64 };
+
+    ghost datum = { fixed64 };
+
+    ghost found = { fixed64_in };
+
+    fn read<B: Buf>(buf: &mut B) -> Result<u64, DecodeError> {
+        decode_fixed64(buf)
+    }
+
+    fn len(_n: u64) -> u64 {
+        8
+    }
+
+    fn write<S: EncodeSink>(n: u64, sink: &mut S) -> Result<(), EncodeError> {
+        encode_fixed64(n, sink)
+    }
+
+    fn in_record(held: &UnknownFieldData) -> Option<u64> {
+        match held {
+            UnknownFieldData::Fixed64(n) => Some(*n),
+            _ => None,
+        }
+    }
+
+    fn record_of(n: u64) -> UnknownFieldData {
+        UnknownFieldData::Fixed64(n)
+    }
+
+    ghost reads_back = { λ n h. (refl, sym (from_le_bytes-to_le_bytes_8 n h)) };
+
+    ghost kept = { λ n. refl };
+
+    ghost bytes_other = { λ bs. refl };
+}
