@@ -13,7 +13,7 @@ use Rattle.buffa_wire.specs.Records.{bytes}
 use Rattle.buffa_wire.specs.Text.{W}
 use Rattle.buffa_wire.specs.Values.{int32_of, tag_text}
 use Rattle.buffa_wire.specs.Varint.{V}
-use Rattle.buffa_wire.specs.Left.{Left}
+use Rattle.buffa_wire.specs.Left.{Left, nothing, plus}
 use Rattle.buffa_bytes.specs.declared.wire_type.WireType.TheVariants.{LengthDelimited}
 use Rattle.buffa_bytes.proofs.VarintLemmas.{Var-V}
 use Rattle.buffa_map.specs.Along.{Along}
@@ -23,7 +23,7 @@ use Rattle.buffa_map.specs.EnumLaws.{closed_reads_back}
 use Rattle.buffa_map.specs.Enums.{ClosedFits, closed_reading, closed_writing}
 use Rattle.buffa_map.specs.Pairs.{Enum, SamePairs, put}
 use Rattle.buffa_map.specs.Rewrite.{IsOrderedClass, IsRewrite, KeepsMeaning, Ordered, Seen, first, is_new, last, seen}
-use Rattle.buffa_map.specs.Run.{Fold, Kept, Run, Said, kept_records}
+use Rattle.buffa_map.specs.Run.{Fold, Kept, Run, Said, inner_needs, kept_records}
 use Rattle.buffa_map.specs.Text.{AllHold, field_text}
 use Rattle.buffa_map.specs.declared.parts.Parts.{Parts}
 use Rattle.buffa_map.proofs.AlongLemmas.{ok_same}
@@ -127,12 +127,12 @@ module _ {K : Type 0} (key : Reading K) (Normal : K → Type 0) (blank_normal : 
   value_twin n v w false false h k = inr (inr (refl, refl))
 
   field_twin : (d : ℕ) (s r t : Parts K ℤ) (p : List ℕ) → Twin Normal e s r → IsField key (closed_reading e) d s p t → (u : Parts K ℤ) × IsField key (closed_reading f) d r p u × Twin Normal e t u
-  field_twin d s r t p h (inl (k, known, (tag, body, c, is, has, reads, split), st)) =
+  field_twin d s r t p h (inl (k, known, (tag, body, c, is, level_left, has, reads, split), st)) =
       let u : Parts K ℤ = record r { key = k } in
       let again : key.reads d r.key c ≡ Ok (k, known) = subst (λ z. key.reads d z c ≡ Ok (k, known)) h.0 reads in
       let twin : Twin Normal e (record s { key = k }) u = (refl, stays d r.key c k known h.1 again, h.2) in
-      (u, inl (k, known, (tag, body, c, is, has, again, split), refl), subst (λ z. Twin Normal e z u) (sym st) twin)
-  field_twin d s r t p h (inr (inl (v, known, (tag, body, c, is, has, reads, split), st))) =
+      (u, inl (k, known, (tag, body, c, is, level_left, has, again, split), refl), subst (λ z. Twin Normal e z u) (sym st) twin)
+  field_twin d s r t p h (inr (inl (v, known, (tag, body, c, is, level_left, has, reads, split), st))) =
       let n : ℤ = int32_of (number_in c) in
       let x : ℤ × Bool = cond (e.declares n) (n, true) (s.value, false) in
       let y : ℤ × Bool = cond (f.declares n) (n, true) (r.value, false) in
@@ -140,7 +140,7 @@ module _ {K : Type 0} (key : Reading K) (Normal : K → Type 0) (blank_normal : 
       let both : SeesMore e x.1 x.0 y.1 y.0 = value_twin n s.value r.value (e.declares n) (f.declares n) refl refl in
       let made : x ≡ (v, known) = ok_same reads in
       let twin : Twin Normal e (record s { value = v; known = known }) u = (h.0, h.1, subst (λ (z : ℤ × Bool). SeesMore e z.1 z.0 y.1 y.0) made both) in
-      (u, inr (inl (y.0, y.1, (tag, body, c, is, has, refl, split), refl)), subst (λ z. Twin Normal e z u) (sym st) twin)
+      (u, inr (inl (y.0, y.1, (tag, body, c, is, level_left, has, refl, split), refl)), subst (λ z. Twin Normal e z u) (sym st) twin)
   field_twin d s r t p h (inr (inr (n, w, not_one, not_two, field, st))) =
       (r, inr (inr (n, w, not_one, not_two, field, refl)), subst (λ z. Twin Normal e z r) (sym st) h)
 
@@ -166,11 +166,13 @@ module _ {K : Type 0} (key : Reading K) (Normal : K → Type 0) (blank_normal : 
       (y ∷ i.0, (r, rest, (t, l, tag, len, is, one.1), split, i.1), (refl, one.2, i.2))
 
   -- two readings of one run
-  pub twins : (d n : ℕ) (b : List ℕ) (es fs : List (Said K ℤ)) → Run key (closed_reading e) d n b es → Run key (closed_reading f) d n b fs → Twins Normal e es fs
-  twins d n b es fs h k =
-      let i = run_twin d n b es h in
-      let none : Left = record { unknown = 0; memory = 0 } in
-      let same : i.0 ≡ fs = ap (λ z. z.0) (ok_same (sym (run_complete key (closed_reading f) d n 0 0 none b i.0 none i.1 (omega arith, omega arith)) ∙ run_complete key (closed_reading f) d n 0 0 none b fs none k (omega arith, omega arith))) in
+  pub twins : (key.nested ≡ false → (d : ℕ) (c : Content) → key.cost d c ≡ nothing) → (d n : ℕ) (b : List ℕ) (es fs : List (Said K ℤ)) → Run key (closed_reading e) d n b es → Run key (closed_reading f) d n b fs → Twins Normal e es fs
+  twins free d n bs es fs h k =
+      let i = run_twin d n bs es h in
+      let a = inner_needs key (closed_reading f) d i.0 in
+      let b = inner_needs key (closed_reading f) d fs in
+      let both : Left = plus a b in
+      let same : i.0 ≡ fs = ap (λ z. z.0) (ok_same (sym (run_complete key (closed_reading f) d n 0 0 free (λ _ d c. refl) both bs i.0 b i.1 (omega arith, omega arith)) ∙ run_complete key (closed_reading f) d n 0 0 free (λ _ d c. refl) both bs fs a k (omega arith, omega arith))) in
       subst (λ z. Twins Normal e es z) same i.2
 
 -- ---- the two readings as a list of kinds
@@ -373,7 +375,7 @@ all_fit : {K : Type 0} (P N : K → Type 0) (e f : Numbers) → ((n : ℤ) → e
 all_fit P N e f more [] h k = tt
 all_fit P N e f more (p ∷ l) h k = ((h.0, k.0), (h.1.0, more p.1 h.1.1), all_fit P N e f more l h.2 k.2)
 
-module _ {K : Type 0} (key : Reading K) (write : Writing K) (same_wire : write.wire ≡ key.wire) (Fits Normal : K → Type 0) (blank_normal : Normal key.blank)
+module _ {K : Type 0} (key : Reading K) (write : Writing K) (same_wire : write.wire ≡ key.wire) (plain : key.nested ≡ false) (free : key.nested ≡ false → (d : ℕ) (c : Content) → key.cost d c ≡ nothing) (Fits Normal : K → Type 0) (blank_normal : Normal key.blank)
     (stays : (d : ℕ) (old : K) (c : Content) (new : K) (known : Bool) → Normal old → key.reads d old c ≡ Ok (new, known) → Normal new)
     (back : (d : ℕ) (old v : K) → Fits v → Normal v → (c : Content) × HasContent write.wire (write.text v) c × (key.reads d old c ≡ Ok (v, true)))
     (e f : Numbers) (has_blank : DeclaresBlank e) (refines : Refines e f) (eq : K → K → Bool) (laws : IsEquivalence eq) where
@@ -386,7 +388,7 @@ module _ {K : Type 0} (key : Reading K) (write : Writing K) (same_wire : write.w
 
   -- a pair of the map, as its record is read
   abbrev says : K × ℤ → Said K ℤ
-  says p = as_said key (closed_reading f) write closed_writing same_wire refl (λ k. Fits k × Normal k) (ClosedFits f) key_back value_back p
+  says p = as_said key (closed_reading f) write closed_writing same_wire refl plain refl (λ k. Fits k × Normal k) (ClosedFits f) key_back value_back p
 
   Kept-says : (l : List (K × ℤ)) → Kept (map says l) ≡ []
   Kept-says [] = refl
@@ -436,9 +438,9 @@ module _ {K : Type 0} (key : Reading K) (write : Writing K) (same_wire : write.w
 
   pub rewrite_means : (d n : ℕ) (b out : List ℕ) (es fs : List (Said K ℤ)) → IsNumber n → Run key (closed_reading e) d n b es → Run key (closed_reading f) d n b fs → IsRewrite eq write closed_writing Fits (ClosedFits e) n es out → Means d n es fs out
   rewrite_means d n b out es fs num h k (l, enum, has, fits, is) =
-      let t = twins key Normal blank_normal stays e f has_blank refines d n b es fs h k in
+      let t = twins key Normal blank_normal stays e f has_blank refines free d n b es fs h k in
       let ok = all_fit Fits Normal e f refines.0 l fits (keys_of_walk es fs t l enum) in
-      let one = run_back key (closed_reading f) write closed_writing same_wire refl (λ k. Fits k × Normal k) (ClosedFits f) key_back value_back d n l num has ok in
+      let one = run_back key (closed_reading f) write closed_writing same_wire refl plain refl (λ k. Fits k × Normal k) (ClosedFits f) key_back value_back d n l num has ok in
       let two = unread_run key Normal e f d n b es fs num t k in
       let both = Run-join key (closed_reading f) d n (field_text write closed_writing n l) (W (kept_records n es)) (map says l) (unread es fs) one two in (
         said_again es fs t l enum,

@@ -54,23 +54,6 @@ limit_of t false _ h l = cc
 pub string_no_limit : {V : Type 0} (of : List ℕ → V) (c : Content) (x : DecodeError) → (text_as of (bytes_in c) >>= (λ v. read (v, true))) ≡ Err x → IsLimit x → ⊥
 string_no_limit of c x h = limit_of (of (bytes_in c)) (is_utf8 (bytes_in c)) x h
 
--- ---- lengths of payloads
-
-abbrev none : Option ℕ
-none = None
-
-abbrev some : ℕ → Option ℕ
-some n = Some n
-
-pub no_fixed_length : {n : ℕ} {P : Type 0} → none ≡ Some n → P
-no_fixed_length h = cc
-
-same_length : {k n : ℕ} → some k ≡ Some n → k ≡ n
-same_length h = cc
-
-pub one_length : {k n m : ℕ} → some k ≡ Some n → m ≡ k → m ≡ n
-one_length h e = e ∙ same_length h
-
 -- ---- a payload reads back to its value, whatever stood before
 
 -- p is a payload of wire type w that reads makes v of

@@ -6,7 +6,7 @@ ghost use Rattle.buffa_wire.specs.Left.{Left, left_in};
 ghost use Rattle.buffa_wire.specs.Number.{IsNumber};
 ghost use Rattle.buffa_map.specs.Pairs.{Enum, SamePairs};
 ghost use Rattle.buffa_map.specs.Rewrite.{IsRewrite, MatchRefusal, RefusesRewrite, WritesRewrite};
-ghost use Rattle.buffa_map.specs.Run.{Fold, Paid, RecordFault, Run, RunBegins, Said, kept_records};
+ghost use Rattle.buffa_map.specs.Run.{Fold, Paid, RecordFault, Run, RunBegins, Said, kept_records, record_need};
 ghost use Rattle.buffa_map.specs.Text.{AllHold};
 
 use crate::codec::MapCodec;
@@ -37,14 +37,14 @@ fn read_anew<KC: MapCodec, VC: MapCodec, C: MapStorage<Key = KC::Value, Value = 
         × Run KC.reading VC.reading ctx.entry.depth number (B.unread buf.old) es
         × SamePairs C.equal (Fold C.equal [] es) (C.pairs map.new)
         × (kept.new.records ≡ kept.old.records ++ kept_records number es)
-        × Paid (KC.COST + VC.COST) 1 ctx.entry.budget.now es (left_in ctx.exit)
+        × Paid KC.reading VC.reading ctx.entry.depth (KC.COST + VC.COST) 1 ctx.entry.budget.now es (left_in ctx.exit)
         × (B.unread buf.new ≡ [])) }
     ensures fault { IfErr result (λ f. (es : List (Said KC.Value.Meaning VC.Value.Meaning)) × (rest : List ℕ) × (over : Left)
         × RunBegins KC.reading VC.reading ctx.entry.depth number (KC.COST + VC.COST) 1 ctx.entry.budget.now (B.unread buf.old) es rest over
         × SamePairs C.equal (Fold C.equal [] es) (C.pairs map.new)
         × ((left_in ctx.exit).memory ≤ over.memory) × ((left_in ctx.exit).unknown ≤ over.unknown)
-        × (over.memory ≤ (left_in ctx.exit).memory + (KC.COST + VC.COST)) × (over.unknown ≤ (left_in ctx.exit).unknown + 1)
-        × (f ≢ OutOfMemory → (rest ≢ []) × RecordFault KC.reading VC.reading ctx.entry.depth number (KC.COST + VC.COST) 1 over rest f × ((left_in ctx.exit).unknown ≡ over.unknown))) }
+        × (over.memory ≤ (left_in ctx.exit).memory + (KC.COST + VC.COST + (record_need KC.reading VC.reading ctx.entry.depth rest).memory)) × (over.unknown ≤ (left_in ctx.exit).unknown + (1 + (record_need KC.reading VC.reading ctx.entry.depth rest).unknown))
+        × (f ≢ OutOfMemory → (rest ≢ []) × RecordFault KC.reading VC.reading ctx.entry.depth number (KC.COST + VC.COST) 1 over rest f × (over.unknown ≤ (left_in ctx.exit).unknown + (record_need KC.reading VC.reading ctx.entry.depth rest).unknown))) }
     ensures buffer { B.kept buf.new ≡ B.kept buf.old }
 {
     map.storage_clear();
@@ -104,7 +104,7 @@ pub fn rewrite_map_field<
         × SamePairs C.equal (Fold C.equal [] es) (C.pairs map.new)
         × IsRewrite C.equal KC.writing VC.writing KC.fits VC.fits number es out
         × (S.written sink.new ≡ S.written sink.old ++ out)
-        × Paid (KC.COST + VC.COST) 1 ctx.entry.budget.now es (left_in ctx.exit)
+        × Paid KC.reading VC.reading ctx.entry.depth (KC.COST + VC.COST) 1 ctx.entry.budget.now es (left_in ctx.exit)
         × (B.unread buf.new ≡ [])) }
     ensures refused { IfErr result (λ r. MatchRefusal r
         (λ f. (es : List (Said KC.Value.Meaning VC.Value.Meaning)) × (rest : List ℕ) × (over : Left)
@@ -112,14 +112,14 @@ pub fn rewrite_map_field<
         × SamePairs C.equal (Fold C.equal [] es) (C.pairs map.new)
         × (S.written sink.new ≡ S.written sink.old)
         × ((left_in ctx.exit).memory ≤ over.memory) × ((left_in ctx.exit).unknown ≤ over.unknown)
-        × (over.memory ≤ (left_in ctx.exit).memory + (KC.COST + VC.COST)) × (over.unknown ≤ (left_in ctx.exit).unknown + 1)
-        × (f ≢ OutOfMemory → (rest ≢ []) × RecordFault KC.reading VC.reading ctx.entry.depth number (KC.COST + VC.COST) 1 over rest f × ((left_in ctx.exit).unknown ≡ over.unknown)))
+        × (over.memory ≤ (left_in ctx.exit).memory + (KC.COST + VC.COST + (record_need KC.reading VC.reading ctx.entry.depth rest).memory)) × (over.unknown ≤ (left_in ctx.exit).unknown + (1 + (record_need KC.reading VC.reading ctx.entry.depth rest).unknown))
+        × (f ≢ OutOfMemory → (rest ≢ []) × RecordFault KC.reading VC.reading ctx.entry.depth number (KC.COST + VC.COST) 1 over rest f × (over.unknown ≤ (left_in ctx.exit).unknown + (record_need KC.reading VC.reading ctx.entry.depth rest).unknown)))
         (λ e. (es : List (Said KC.Value.Meaning VC.Value.Meaning)) × (l : List (KC.Value.Meaning × VC.Value.Meaning))
         × Run KC.reading VC.reading ctx.entry.depth number (B.unread buf.old) es
         × SamePairs C.equal (Fold C.equal [] es) (C.pairs map.new)
         × Enum C.equal (Fold C.equal [] es) l
         × RefusesRewrite KC.writing VC.writing number (kept_records number es) (S.written sink.old) (S.written sink.new) l e
-        × Paid (KC.COST + VC.COST) 1 ctx.entry.budget.now es (left_in ctx.exit)
+        × Paid KC.reading VC.reading ctx.entry.depth (KC.COST + VC.COST) 1 ctx.entry.budget.now es (left_in ctx.exit)
         × (B.unread buf.new ≡ []))) }
     ensures kept { B.kept buf.new ≡ B.kept buf.old }
 {
