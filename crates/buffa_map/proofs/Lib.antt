@@ -4,12 +4,16 @@ pub mod HashedLemmas
 pub mod AlongLemmas
 pub mod EntryLemmas
 pub mod NeedLemmas
+pub mod MergeLemmas
 pub mod MessageLemmas
 pub mod ResultLemmas
 pub mod RunLemmas
+pub mod StepLemmas
 pub mod SizeLemmas
 pub mod WriteLemmas
 pub mod BackLemmas
 pub mod MessageFieldLemmas
 pub mod ClassLemmas
 pub mod RewriteLemmas
+pub mod RewriteCallLemmas
+pub mod PlainLemmas

@@ -16,3 +16,7 @@ IfErr-map (Err e) f h = f e h
 pub OnOk-always : {T E : Type 0} {P : Type 0} (r : Result T E) → P → OnOk r P
 OnOk-always (Ok v) h = h
 OnOk-always (Err e) h = tt
+
+pub IfErr-with : {T E : Type 0} {A : Type 0} {P Q : E → Type 0} (r : Result T E) → ((e : E) → A → P e → Q e) → OnErr r A → IfErr r P → IfErr r Q
+IfErr-with (Ok v) f a h = h
+IfErr-with (Err e) f a h = f e a h

@@ -10,7 +10,7 @@ records_left (inl u) = []
 records_left (inr (inl s)) = s.0.now.records
 records_left (inr (inr s)) = []
 
--- the slots that a kept entry takes: one where a list was lent
-abbrev pub slot_of : {X : Type 0} → Option X → ℕ
-slot_of None = 0
-slot_of (Some list) = 1
+-- the records of the list at the call, none where no list was lent
+abbrev pub records_in : Option (MutBor Held) → List (ℕ × Datum)
+records_in None = []
+records_in (Some list) = list.now.records

@@ -5,6 +5,7 @@ pub mod Scalars
 pub mod ScalarLaws
 pub mod Entry
 pub mod Run
+pub mod Merge
 pub mod Lent
 pub mod Text
 pub mod Message

@@ -1,7 +1,8 @@
 -- Rewrites: a reader of one enum reads a run, and writes the map and behind it the entries that it doesn't
 -- know. And when that means to a reader of another enum, who knows more, what the run means.
-use Rattle.std.specs.Prelude.{◌≡◌, ◌≢◌, ℕ, Bool, true, ◌&&◌, not, List, [], ◌∷◌, ◌++◌, Option, None, Some, IfSome, Result, MatchResult}
+use Rattle.std.specs.Prelude.{◌≡◌, ◌≢◌, ℕ, Bool, true, ◌&&◌, not, List, [], ◌∷◌, ◌++◌, Option, None, Some, IfSome, OnOk, Result, MatchResult}
 use Rattle.std.specs.List.{filter}
+use Rattle.buffa_wire.specs.Left.{Left}
 use Rattle.buffa_wire.specs.Text.{W}
 use Rattle.buffa_wire.specs.Records.{Datum}
 use Rattle.buffa_wire.specs.Written.{WritesFront}
@@ -10,7 +11,8 @@ use Rattle.buffa_bytes.specs.declared.error.EncodeError.{EncodeError}
 use Rattle.buffa_bytes.specs.declared.error.EncodeError.TheVariants.{GroupRefused, MessageTooLarge, OutOfMemory}
 use Rattle.buffa_map.specs.Codec.{Writing}
 use Rattle.buffa_map.specs.Pairs.{Enum, SamePairs}
-use Rattle.buffa_map.specs.Run.{Said, Fold, Kept, kept_records}
+use Rattle.buffa_map.specs.Merge.{Rules, StopsRun, state}
+use Rattle.buffa_map.specs.Run.{Said, Fold, Kept, Paid, Run, kept_records}
 use Rattle.buffa_map.specs.Text.{AllHold, HasText, RefusesField, field_text}
 use Rattle.buffa_map.specs.declared.rewrite.RewriteError.{RewriteError}
 use Rattle.buffa_map.specs.declared.rewrite.RewriteError.TheVariants.{Decode, Encode}
@@ -67,6 +69,7 @@ KeepsMeaning {K} {V} eq es fs gs =
     × (SamePairs eq (Fold eq [] gs) (Fold eq [] fs) → Ordered eq es fs)
 
 -- ---- what is written
+
 module _ {K V : Type 0} (key : Writing K) (val : Writing V) (n : ℕ) (kept : List (ℕ × Datum)) (old new : List ℕ) where
   -- Memory ran out after a beginning of the text of l and of the kept records; or an entry of l is too long,
   -- and the records of the pairs before it were written.
@@ -78,6 +81,42 @@ module _ {K V : Type 0} (key : Writing K) (val : Writing V) (n : ℕ) (kept : Li
   -- the text of l and of the kept records was written, or refused
   abbrev pub WritesRewrite : {T : Type 0} → Result T EncodeError → List (K × V) → Type 0
   WritesRewrite r l = MatchResult r (λ _. HasText key val l × (new ≡ old ++ (field_text key val n l ++ W kept))) (RefusesRewrite l)
+
+-- a map was walked once, and its text and the kept records' were written, or refused
+pub record WritesWalk {K V : Type 0} (eq : K → K → Bool) (key : Writing K) (val : Writing V) (KeyFits : K → Type 0) (ValFits : V → Type 0) (n : ℕ) (pairs : List (K × V)) (kept : List (ℕ × Datum)) (old : List ℕ) {T : Type 0} (r : Result T EncodeError) (new : List ℕ) : Type 0 where
+  pub walk : List (K × V)
+  pub once : Enum eq pairs walk
+  pub text : WritesRewrite key val n kept old new r walk
+  pub fits : OnOk r (AllHold KeyFits ValFits walk)
+
+-- ---- what a rewrite does
+
+-- the records of the bytes were read into an empty map; and the rewrite was written
+pub record RewritesRun {K V : Type 0} (r : Rules K V) (key : Writing K) (val : Writing V) (KeyFits : K → Type 0) (ValFits : V → Type 0) (left : Left) (bytes : List ℕ) (new : List (K × V)) (over : Left) (rest : List ℕ) (old written : List ℕ) : Type 0 where
+  pub entries : List (Said K V)
+  pub out : List ℕ
+  pub run : Run r.key r.val r.depth r.number bytes entries
+  pub folded : SamePairs r.same (Fold r.same [] entries) new
+  pub rewrite : IsRewrite r.same key val KeyFits ValFits r.number entries out
+  pub text : written ≡ old ++ out
+  pub paid : Paid r.key r.val r.depth r.cost r.slot left entries over
+  pub whole : rest ≡ []
+
+-- f is why the bytes were refused; the entries before it stand in the map, and nothing was written
+abbrev pub RefusesBytes : {K V : Type 0} → Rules K V → Left → List ℕ → List (K × V) → Left → List ℕ → List ℕ → DecodeError → Type 0
+RefusesBytes r left bytes new over old written f =
+    (kept : List (ℕ × Datum)) × StopsRun r (state [] [] left) bytes (state new kept over) f × (written ≡ old)
+
+-- the records were read, and e is why the text wasn't written whole
+pub record RefusesOutput {K V : Type 0} (r : Rules K V) (key : Writing K) (val : Writing V) (left : Left) (bytes : List ℕ) (new : List (K × V)) (over : Left) (rest : List ℕ) (old written : List ℕ) (e : EncodeError) : Type 0 where
+  pub entries : List (Said K V)
+  pub walk : List (K × V)
+  pub run : Run r.key r.val r.depth r.number bytes entries
+  pub folded : SamePairs r.same (Fold r.same [] entries) new
+  pub once : Enum r.same (Fold r.same [] entries) walk
+  pub text : RefusesRewrite key val r.number (kept_records r.number entries) old written walk e
+  pub paid : Paid r.key r.val r.depth r.cost r.slot left entries over
+  pub whole : rest ≡ []
 
 -- P of the fault, if the bytes were refused; and Q of the error, if the writing was
 abbrev pub MatchRefusal : RewriteError → (DecodeError → Type 0) → (EncodeError → Type 0) → Type 0

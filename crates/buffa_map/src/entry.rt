@@ -1,14 +1,10 @@
 //! One entry of a map field.
 
-ghost use Rattle.std.specs.Prelude.{◌≡◌, ◌≢◌, ◌+◌, ◌<◌, ◌≤◌, ◌++◌, ◌⊎◌, [], ℕ, List, IfErr, IfSome, OnErr, OnOk, cond};
-ghost use Rattle.buffa_bytes.specs.declared.error.DecodeError.TheVariants.{ElementMemoryLimitExceeded, OutOfMemory};
-ghost use Rattle.buffa_wire.specs.Field.{TakesDelimited};
-ghost use Rattle.buffa_wire.specs.Left.{Pays, left_in, plus, slots};
-ghost use Rattle.buffa_map.specs.Entry.{EntryFault, EntryOf, inner_need, need_of};
-ghost use Rattle.buffa_map.specs.Lent.{records_left, slot_of};
-ghost use Rattle.buffa_map.specs.Pairs.{SamePairs};
-ghost use Rattle.buffa_map.specs.Run.{kept_record, step};
-ghost use Rattle.buffa_map.specs.declared.parts.Parts.{Parts};
+ghost use Rattle.std.specs.Prelude.{◌≡◌, ◌+◌, ◌<◌, [], IfErr, OnErr, OnOk};
+ghost use Rattle.buffa_bytes.specs.declared.error.DecodeError.TheVariants.{ElementMemoryLimitExceeded};
+ghost use Rattle.buffa_wire.specs.Left.{left_in};
+ghost use Rattle.buffa_map.specs.Lent.{records_in, records_left};
+ghost use Rattle.buffa_map.specs.Merge.{MergesEntry, RefusesEntry, dropping, lending, rules, state};
 
 use crate::codec::{MapCodec, MapValueDecode};
 use crate::fields::merge_fields;
@@ -46,19 +42,14 @@ pub(crate) fn merge_entry_by<
     number: u32,
     keeper: &mut L,
 ) -> Result<(), DecodeError>
-    ensures ok { OnOk result ((s : Parts KC.Value.Meaning VC.Value.Meaning) × (e : List ℕ)
-        × EntryOf KC.reading VC.reading ctx.entry.depth (B.unread buf.old) e s (B.unread buf.new)
-        × SamePairs C.equal (step C.equal (C.pairs map.old) s) (C.pairs map.new)
-        × (L.kept keeper.new ≡ L.kept keeper.old ++ cond s.known [] (L.adds number e))
-        × Pays ctx.entry.budget.now (plus (need_of KC.reading VC.reading ctx.entry.depth (KC.COST + VC.COST) e) (slots (cond s.known 0 L.slot))) (left_in ctx.exit)) }
-    ensures fault { IfErr result (λ f. f ≢ OutOfMemory → EntryFault KC.reading VC.reading ctx.entry.depth (KC.COST + VC.COST) L.slot ctx.entry.budget.now (B.unread buf.old) f) }
-    ensures err { OnErr result ((C.pairs map.new ≡ C.pairs map.old) × (L.kept keeper.new ≡ L.kept keeper.old)) }
-    ensures spent { ((left_in ctx.exit).memory ≡ ctx.entry.budget.now.memory) ⊎ (((left_in ctx.exit).memory + (KC.COST + VC.COST) ≤ ctx.entry.budget.now.memory)
-        × (ctx.entry.budget.now.memory ≤ (left_in ctx.exit).memory + (KC.COST + VC.COST + (inner_need KC.reading VC.reading ctx.entry.depth (B.unread buf.old)).memory))) }
-    ensures stays_spent { IfErr result (λ f. f ≢ OutOfMemory → (e rest : List ℕ) → TakesDelimited (B.unread buf.old) e rest → KC.COST + VC.COST ≤ ctx.entry.budget.now.memory →
-        (left_in ctx.exit).memory + (KC.COST + VC.COST) ≤ ctx.entry.budget.now.memory) }
-    ensures slots { OnErr result (((left_in ctx.exit).unknown ≤ ctx.entry.budget.now.unknown) × (ctx.entry.budget.now.unknown ≤ (left_in ctx.exit).unknown + (L.slot + (inner_need KC.reading VC.reading ctx.entry.depth (B.unread buf.old)).unknown))) }
-    ensures no_slot { IfErr result (λ f. f ≢ OutOfMemory → ctx.entry.budget.now.unknown ≤ (left_in ctx.exit).unknown + (inner_need KC.reading VC.reading ctx.entry.depth (B.unread buf.old)).unknown) }
+    ensures ok { OnOk result (MergesEntry
+        (rules KC.reading VC.reading C.equal ctx.entry.depth number (KC.COST + VC.COST) L.slot L.adds)
+        (state (C.pairs map.old) (L.kept keeper.old) ctx.entry.budget.now) (B.unread buf.old)
+        (state (C.pairs map.new) (L.kept keeper.new) (left_in ctx.exit)) (B.unread buf.new)) }
+    ensures err { IfErr result (RefusesEntry
+        (rules KC.reading VC.reading C.equal ctx.entry.depth number (KC.COST + VC.COST) L.slot L.adds)
+        (state (C.pairs map.old) (L.kept keeper.old) ctx.entry.budget.now) (B.unread buf.old)
+        (state (C.pairs map.new) (L.kept keeper.new) (left_in ctx.exit))) }
     ensures kept { B.kept buf.new ≡ B.kept buf.old }
 {
     let DecodeContext { depth, budget } = ctx;
@@ -102,17 +93,14 @@ pub fn merge_entry<
     C: MapStorage<Key = KC::Value, Value = VC::Value>,
     B: Buf,
 >(alloc: Global, map: &mut C, buf: &mut B, ctx: DecodeContext<'_>) -> Result<(), DecodeError>
-    ensures ok { OnOk result ((s : Parts KC.Value.Meaning VC.Value.Meaning) × (e : List ℕ)
-        × EntryOf KC.reading VC.reading ctx.entry.depth (B.unread buf.old) e s (B.unread buf.new)
-        × SamePairs C.equal (step C.equal (C.pairs map.old) s) (C.pairs map.new)
-        × Pays ctx.entry.budget.now (need_of KC.reading VC.reading ctx.entry.depth (KC.COST + VC.COST) e) (left_in ctx.exit)) }
-    ensures fault { IfErr result (λ f. f ≢ OutOfMemory → EntryFault KC.reading VC.reading ctx.entry.depth (KC.COST + VC.COST) 0 ctx.entry.budget.now (B.unread buf.old) f) }
-    ensures err { OnErr result (C.pairs map.new ≡ C.pairs map.old) }
-    ensures spent { ((left_in ctx.exit).memory ≡ ctx.entry.budget.now.memory) ⊎ (((left_in ctx.exit).memory + (KC.COST + VC.COST) ≤ ctx.entry.budget.now.memory)
-        × (ctx.entry.budget.now.memory ≤ (left_in ctx.exit).memory + (KC.COST + VC.COST + (inner_need KC.reading VC.reading ctx.entry.depth (B.unread buf.old)).memory))) }
-    ensures stays_spent { IfErr result (λ f. f ≢ OutOfMemory → (e rest : List ℕ) → TakesDelimited (B.unread buf.old) e rest → KC.COST + VC.COST ≤ ctx.entry.budget.now.memory →
-        (left_in ctx.exit).memory + (KC.COST + VC.COST) ≤ ctx.entry.budget.now.memory) }
-    ensures slots { OnErr result (((left_in ctx.exit).unknown ≤ ctx.entry.budget.now.unknown) × (ctx.entry.budget.now.unknown ≤ (left_in ctx.exit).unknown + (inner_need KC.reading VC.reading ctx.entry.depth (B.unread buf.old)).unknown)) }
+    ensures ok { OnOk result (MergesEntry
+        (dropping KC.reading VC.reading C.equal ctx.entry.depth 0 (KC.COST + VC.COST))
+        (state (C.pairs map.old) [] ctx.entry.budget.now) (B.unread buf.old)
+        (state (C.pairs map.new) [] (left_in ctx.exit)) (B.unread buf.new)) }
+    ensures err { IfErr result (RefusesEntry
+        (dropping KC.reading VC.reading C.equal ctx.entry.depth 0 (KC.COST + VC.COST))
+        (state (C.pairs map.old) [] ctx.entry.budget.now) (B.unread buf.old)
+        (state (C.pairs map.new) [] (left_in ctx.exit))) }
     ensures kept { B.kept buf.new ≡ B.kept buf.old }
 {
     merge_entry_by::<KC, VC, C, B, Dropped>(alloc, map, buf, ctx, 0, &mut Dropped)
@@ -146,19 +134,14 @@ pub fn merge_entry_with_unknowns<
     number: u32,
     unknown: Option<&mut UnknownFields>,
 ) -> Result<(), DecodeError>
-    ensures ok { OnOk result ((s : Parts KC.Value.Meaning VC.Value.Meaning) × (e : List ℕ)
-        × EntryOf KC.reading VC.reading ctx.entry.depth (B.unread buf.old) e s (B.unread buf.new)
-        × SamePairs C.equal (step C.equal (C.pairs map.old) s) (C.pairs map.new)
-        × IfSome unknown.entry (λ list. records_left unknown.exit ≡ list.now.records ++ kept_record number e s.known)
-        × Pays ctx.entry.budget.now (plus (need_of KC.reading VC.reading ctx.entry.depth (KC.COST + VC.COST) e) (slots (cond s.known 0 (slot_of unknown.entry)))) (left_in ctx.exit)) }
-    ensures fault { IfErr result (λ f. f ≢ OutOfMemory → EntryFault KC.reading VC.reading ctx.entry.depth (KC.COST + VC.COST) (slot_of unknown.entry) ctx.entry.budget.now (B.unread buf.old) f) }
-    ensures err { OnErr result ((C.pairs map.new ≡ C.pairs map.old) × IfSome unknown.entry (λ list. records_left unknown.exit ≡ list.now.records)) }
-    ensures spent { ((left_in ctx.exit).memory ≡ ctx.entry.budget.now.memory) ⊎ (((left_in ctx.exit).memory + (KC.COST + VC.COST) ≤ ctx.entry.budget.now.memory)
-        × (ctx.entry.budget.now.memory ≤ (left_in ctx.exit).memory + (KC.COST + VC.COST + (inner_need KC.reading VC.reading ctx.entry.depth (B.unread buf.old)).memory))) }
-    ensures stays_spent { IfErr result (λ f. f ≢ OutOfMemory → (e rest : List ℕ) → TakesDelimited (B.unread buf.old) e rest → KC.COST + VC.COST ≤ ctx.entry.budget.now.memory →
-        (left_in ctx.exit).memory + (KC.COST + VC.COST) ≤ ctx.entry.budget.now.memory) }
-    ensures slots { OnErr result (((left_in ctx.exit).unknown ≤ ctx.entry.budget.now.unknown) × (ctx.entry.budget.now.unknown ≤ (left_in ctx.exit).unknown + (slot_of unknown.entry + (inner_need KC.reading VC.reading ctx.entry.depth (B.unread buf.old)).unknown))) }
-    ensures no_slot { IfErr result (λ f. f ≢ OutOfMemory → ctx.entry.budget.now.unknown ≤ (left_in ctx.exit).unknown + (inner_need KC.reading VC.reading ctx.entry.depth (B.unread buf.old)).unknown) }
+    ensures ok { OnOk result (MergesEntry
+        (lending KC.reading VC.reading C.equal ctx.entry.depth number (KC.COST + VC.COST) unknown.entry)
+        (state (C.pairs map.old) (records_in unknown.entry) ctx.entry.budget.now) (B.unread buf.old)
+        (state (C.pairs map.new) (records_left unknown.exit) (left_in ctx.exit)) (B.unread buf.new)) }
+    ensures err { IfErr result (RefusesEntry
+        (lending KC.reading VC.reading C.equal ctx.entry.depth number (KC.COST + VC.COST) unknown.entry)
+        (state (C.pairs map.old) (records_in unknown.entry) ctx.entry.budget.now) (B.unread buf.old)
+        (state (C.pairs map.new) (records_left unknown.exit) (left_in ctx.exit))) }
     ensures kept { B.kept buf.new ≡ B.kept buf.old }
 {
     match unknown {

@@ -15,6 +15,9 @@ ghost use Rattle.buffa_map.specs.Entry.{EntryFault, FaultOf, IsEntry, entry_of, 
 ghost use Rattle.buffa_map.specs.Run.{Fold, Kept, Paid, Run, RunFault, Said, inner_needs, record_need, run_of};
 ghost use Rattle.buffa_wire.specs.Enums.{DeclaresBlank, Numbers, Refines};
 ghost use Rattle.buffa_map.specs.Enums.{ClosedFits, closed_reading, closed_writing};
+ghost use Rattle.buffa_wire.specs.Records.{Datum};
+ghost use Rattle.buffa_map.specs.Merge.{rules};
+ghost use Rattle.buffa_map.specs.Plain.{IsExact};
 ghost use Rattle.buffa_map.specs.Rewrite.{IsRewrite, KeepsMeaning};
 ghost use Rattle.buffa_map.specs.Text.{AllHold, HasText, field_size, field_text};
 ghost use Rattle.buffa_map.specs.declared.parts.Parts.{Parts};
@@ -47,6 +50,14 @@ pub fn plain_entries_need_units<KC: MapValueDecode, VC: MapValueDecode>()
     ensures record { KC.reading.nested ≡ false → VC.reading.nested ≡ false → (d : ℕ) (bs : List ℕ) → record_need KC.reading VC.reading d bs ≡ nothing }
     ensures run { KC.reading.nested ≡ false → VC.reading.nested ≡ false → (d : ℕ) (es : List (Said KC.Value.Meaning VC.Value.Meaning)) → inner_needs KC.reading VC.reading d es ≡ nothing }
 {}
+
+/// Where no payload is a message, an entry's fault is the first, and it spends its cost or nothing.
+pub fn plain_entries_are_exact<KC: MapCodec, VC: MapCodec>()
+    ensures { (same : KC.Value.Meaning → KC.Value.Meaning → Bool) (d n cost slot : ℕ) (adds : ℕ → List ℕ → List (ℕ × Datum)) →
+        IsExact (rules KC.reading VC.reading same d n cost slot adds) }
+{
+    plain_entries_need_units::<KC, VC>();
+}
 
 /// A budget's error is told of an entry only where what it needs isn't left: its units, what the messages in
 /// it cost, and the slot where it is kept.

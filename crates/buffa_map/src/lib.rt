@@ -24,7 +24,6 @@ pub mod message_size;
 pub mod message_write;
 mod ordered;
 pub mod parts;
-pub mod plain;
 pub mod rewrite;
 pub mod run;
 pub mod scalar;

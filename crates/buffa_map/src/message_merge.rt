@@ -1,17 +1,14 @@
 //! Entries of messages, merged by a function.
 
-ghost use Rattle.std.specs.Prelude.{◌≡◌, ◌≢◌, ◌+◌, ◌≤◌, ◌⊎◌, List, ℕ, IfErr, IfOk, Ok, OnErr, OnOk, Some, true};
+ghost use Rattle.std.specs.Prelude.{◌≡◌, ◌≢◌, ◌+◌, ◌⊎◌, List, [], ℕ, IfErr, IfOk, Ok, OnErr, OnOk, Some, true};
 ghost use Rattle.buffa_bytes.specs.Reading.{delimited_at};
 ghost use Rattle.buffa_bytes.specs.declared.error.DecodeError.TheVariants.{OutOfMemory};
 ghost use Rattle.buffa_wire.specs.Left.{Lacks, Pays, PaysAtMost, left_in};
 ghost use Rattle.buffa_wire.specs.Message.{IsMerged, PayloadFault, cost_in, cost_of_payload, merged_in};
 ghost use Rattle.buffa_map.specs.Codec.{Refuses, Spends, value_at, value_need};
-ghost use Rattle.buffa_map.specs.Entry.{EntryFault, EntryOf, FaultOf, FieldFault, IsEntry, blanks, field_at, field_need, inner_need, need_at, need_of, said};
+ghost use Rattle.buffa_map.specs.Entry.{FaultOf, FieldFault, IsEntry, blanks, field_at, field_need, need_at, said};
+ghost use Rattle.buffa_map.specs.Merge.{MergesEntry, RefusesEntry, dropping, state};
 ghost use Rattle.buffa_map.specs.Message.{message_reading};
-
-ghost use Rattle.buffa_map.specs.Pairs.{SamePairs};
-ghost use Rattle.buffa_map.specs.Run.{step};
-ghost use Rattle.buffa_map.specs.declared.parts.Parts.{Parts};
 
 use crate::codec::{MapCodec, MapValueDecode};
 use crate::entry::charge;
@@ -159,15 +156,14 @@ pub fn merge_message_entry_by<
 ) -> Result<(), DecodeError>
     requires may { (x : _) (b : _) (d : _) (w : _) → d + 1 ≡ ctx.depth → F.pre merge x b d w }
     requires keeps { (x : _) (b : _) (d : _) (w : _) (r : _) (y : _) (v : _) → d + 1 ≡ ctx.depth → F.post merge x b d w r y v → IsMerged (M.merged d (M.meaning x.now) b.now) (M.cost d b.now) w.now r (M.meaning y.now) v.now }
-    ensures ok { OnOk result ((s : Parts KC.Value.Meaning M.Meaning) × (e : List ℕ)
-        × EntryOf KC.reading (message_reading M.blank_is M.merged M.cost) ctx.entry.depth (B.unread buf.old) e s (B.unread buf.new)
-        × SamePairs C.equal (step C.equal (C.pairs map.old) s) (C.pairs map.new)
-        × Pays ctx.entry.budget.now (need_of KC.reading (message_reading M.blank_is M.merged M.cost) ctx.entry.depth (KC.COST + M.COST) e) (left_in ctx.exit)) }
-    ensures fault { IfErr result (λ f. f ≢ OutOfMemory → EntryFault KC.reading (message_reading M.blank_is M.merged M.cost) ctx.entry.depth (KC.COST + M.COST) 0 ctx.entry.budget.now (B.unread buf.old) f) }
-    ensures err { OnErr result (C.pairs map.new ≡ C.pairs map.old) }
-    ensures spent { ((left_in ctx.exit).memory ≡ ctx.entry.budget.now.memory) ⊎ (((left_in ctx.exit).memory + (KC.COST + M.COST) ≤ ctx.entry.budget.now.memory)
-        × (ctx.entry.budget.now.memory ≤ (left_in ctx.exit).memory + (KC.COST + M.COST + (inner_need KC.reading (message_reading M.blank_is M.merged M.cost) ctx.entry.depth (B.unread buf.old)).memory))) }
-    ensures slots { OnErr result (((left_in ctx.exit).unknown ≤ ctx.entry.budget.now.unknown) × (ctx.entry.budget.now.unknown ≤ (left_in ctx.exit).unknown + (inner_need KC.reading (message_reading M.blank_is M.merged M.cost) ctx.entry.depth (B.unread buf.old)).unknown)) }
+    ensures ok { OnOk result (MergesEntry
+        (dropping KC.reading (message_reading M.blank_is M.merged M.cost) C.equal ctx.entry.depth 0 (KC.COST + M.COST))
+        (state (C.pairs map.old) [] ctx.entry.budget.now) (B.unread buf.old)
+        (state (C.pairs map.new) [] (left_in ctx.exit)) (B.unread buf.new)) }
+    ensures err { IfErr result (RefusesEntry
+        (dropping KC.reading (message_reading M.blank_is M.merged M.cost) C.equal ctx.entry.depth 0 (KC.COST + M.COST))
+        (state (C.pairs map.old) [] ctx.entry.budget.now) (B.unread buf.old)
+        (state (C.pairs map.new) [] (left_in ctx.exit))) }
     ensures kept { B.kept buf.new ≡ B.kept buf.old }
 {
     let DecodeContext { depth, budget } = ctx;

@@ -1,13 +1,10 @@
 //! The rewrite of a map field by a reader that doesn't know all its values.
 
-ghost use Rattle.std.specs.Prelude.{◌≡◌, ◌≢◌, ◌+◌, ◌++◌, ◌≤◌, ℕ, List, [], IfErr, OnOk};
-ghost use Rattle.buffa_bytes.specs.declared.error.DecodeError.TheVariants.{OutOfMemory};
-ghost use Rattle.buffa_wire.specs.Left.{Left, left_in};
+ghost use Rattle.std.specs.Prelude.{◌≡◌, ◌+◌, [], IfErr, OnOk};
+ghost use Rattle.buffa_wire.specs.Left.{left_in};
 ghost use Rattle.buffa_wire.specs.Number.{IsNumber};
-ghost use Rattle.buffa_map.specs.Pairs.{Enum, SamePairs};
-ghost use Rattle.buffa_map.specs.Rewrite.{IsRewrite, MatchRefusal, RefusesRewrite, WritesRewrite};
-ghost use Rattle.buffa_map.specs.Run.{Fold, Paid, RecordFault, Run, RunBegins, Said, kept_records, record_need};
-ghost use Rattle.buffa_map.specs.Text.{AllHold};
+ghost use Rattle.buffa_map.specs.Merge.{ReadsRun, StopsRun, keeping, state};
+ghost use Rattle.buffa_map.specs.Rewrite.{MatchRefusal, RefusesBytes, RefusesOutput, RewritesRun, WritesWalk};
 
 use crate::codec::MapCodec;
 use crate::run::read_run_by;
@@ -33,18 +30,14 @@ fn read_anew<KC: MapCodec, VC: MapCodec, C: MapStorage<Key = KC::Value, Value = 
     ctx: DecodeContext<'_>,
     kept: &mut UnknownFields,
 ) -> Result<(), DecodeError>
-    ensures ok { OnOk result ((es : List (Said KC.Value.Meaning VC.Value.Meaning))
-        × Run KC.reading VC.reading ctx.entry.depth number (B.unread buf.old) es
-        × SamePairs C.equal (Fold C.equal [] es) (C.pairs map.new)
-        × (kept.new.records ≡ kept.old.records ++ kept_records number es)
-        × Paid KC.reading VC.reading ctx.entry.depth (KC.COST + VC.COST) 1 ctx.entry.budget.now es (left_in ctx.exit)
-        × (B.unread buf.new ≡ [])) }
-    ensures fault { IfErr result (λ f. (es : List (Said KC.Value.Meaning VC.Value.Meaning)) × (rest : List ℕ) × (over : Left)
-        × RunBegins KC.reading VC.reading ctx.entry.depth number (KC.COST + VC.COST) 1 ctx.entry.budget.now (B.unread buf.old) es rest over
-        × SamePairs C.equal (Fold C.equal [] es) (C.pairs map.new)
-        × ((left_in ctx.exit).memory ≤ over.memory) × ((left_in ctx.exit).unknown ≤ over.unknown)
-        × (over.memory ≤ (left_in ctx.exit).memory + (KC.COST + VC.COST + (record_need KC.reading VC.reading ctx.entry.depth rest).memory)) × (over.unknown ≤ (left_in ctx.exit).unknown + (1 + (record_need KC.reading VC.reading ctx.entry.depth rest).unknown))
-        × (f ≢ OutOfMemory → (rest ≢ []) × RecordFault KC.reading VC.reading ctx.entry.depth number (KC.COST + VC.COST) 1 over rest f × (over.unknown ≤ (left_in ctx.exit).unknown + (record_need KC.reading VC.reading ctx.entry.depth rest).unknown))) }
+    ensures ok { OnOk result (ReadsRun
+        (keeping KC.reading VC.reading C.equal ctx.entry.depth number (KC.COST + VC.COST))
+        (state [] kept.old.records ctx.entry.budget.now) (B.unread buf.old)
+        (state (C.pairs map.new) kept.new.records (left_in ctx.exit)) (B.unread buf.new)) }
+    ensures err { IfErr result (StopsRun
+        (keeping KC.reading VC.reading C.equal ctx.entry.depth number (KC.COST + VC.COST))
+        (state [] kept.old.records ctx.entry.budget.now) (B.unread buf.old)
+        (state (C.pairs map.new) kept.new.records (left_in ctx.exit))) }
     ensures buffer { B.kept buf.new ≡ B.kept buf.old }
 {
     map.storage_clear();
@@ -59,9 +52,8 @@ fn write_with<
     S: EncodeSink,
 >(map: &C, number: u32, kept: &UnknownFields, sink: &mut S) -> Result<(), EncodeError>
     requires { IsNumber number }
-    ensures { (l : List (KC.Value.Meaning × VC.Value.Meaning)) × Enum C.equal (C.pairs map.now) l
-        × WritesRewrite KC.writing VC.writing number kept.now.records (S.written sink.old) (S.written sink.new) result l
-        × OnOk result (AllHold KC.fits VC.fits l) }
+    ensures { WritesWalk C.equal KC.writing VC.writing KC.fits VC.fits number (C.pairs map.now) kept.now.records
+        (S.written sink.old) result (S.written sink.new) }
 {
     map.storage_write::<KC, VC, S>(number, sink)?;
     kept.write_to(sink)
@@ -99,36 +91,25 @@ pub fn rewrite_map_field<
     sink: &mut S,
 ) -> Result<(), RewriteError>
     requires { IsNumber number }
-    ensures ok { OnOk result ((es : List (Said KC.Value.Meaning VC.Value.Meaning)) × (out : List ℕ)
-        × Run KC.reading VC.reading ctx.entry.depth number (B.unread buf.old) es
-        × SamePairs C.equal (Fold C.equal [] es) (C.pairs map.new)
-        × IsRewrite C.equal KC.writing VC.writing KC.fits VC.fits number es out
-        × (S.written sink.new ≡ S.written sink.old ++ out)
-        × Paid KC.reading VC.reading ctx.entry.depth (KC.COST + VC.COST) 1 ctx.entry.budget.now es (left_in ctx.exit)
-        × (B.unread buf.new ≡ [])) }
+    ensures ok { OnOk result (RewritesRun
+        (keeping KC.reading VC.reading C.equal ctx.entry.depth number (KC.COST + VC.COST))
+        KC.writing VC.writing KC.fits VC.fits ctx.entry.budget.now (B.unread buf.old)
+        (C.pairs map.new) (left_in ctx.exit) (B.unread buf.new) (S.written sink.old) (S.written sink.new)) }
     ensures refused { IfErr result (λ r. MatchRefusal r
-        (λ f. (es : List (Said KC.Value.Meaning VC.Value.Meaning)) × (rest : List ℕ) × (over : Left)
-        × RunBegins KC.reading VC.reading ctx.entry.depth number (KC.COST + VC.COST) 1 ctx.entry.budget.now (B.unread buf.old) es rest over
-        × SamePairs C.equal (Fold C.equal [] es) (C.pairs map.new)
-        × (S.written sink.new ≡ S.written sink.old)
-        × ((left_in ctx.exit).memory ≤ over.memory) × ((left_in ctx.exit).unknown ≤ over.unknown)
-        × (over.memory ≤ (left_in ctx.exit).memory + (KC.COST + VC.COST + (record_need KC.reading VC.reading ctx.entry.depth rest).memory)) × (over.unknown ≤ (left_in ctx.exit).unknown + (1 + (record_need KC.reading VC.reading ctx.entry.depth rest).unknown))
-        × (f ≢ OutOfMemory → (rest ≢ []) × RecordFault KC.reading VC.reading ctx.entry.depth number (KC.COST + VC.COST) 1 over rest f × (over.unknown ≤ (left_in ctx.exit).unknown + (record_need KC.reading VC.reading ctx.entry.depth rest).unknown)))
-        (λ e. (es : List (Said KC.Value.Meaning VC.Value.Meaning)) × (l : List (KC.Value.Meaning × VC.Value.Meaning))
-        × Run KC.reading VC.reading ctx.entry.depth number (B.unread buf.old) es
-        × SamePairs C.equal (Fold C.equal [] es) (C.pairs map.new)
-        × Enum C.equal (Fold C.equal [] es) l
-        × RefusesRewrite KC.writing VC.writing number (kept_records number es) (S.written sink.old) (S.written sink.new) l e
-        × Paid KC.reading VC.reading ctx.entry.depth (KC.COST + VC.COST) 1 ctx.entry.budget.now es (left_in ctx.exit)
-        × (B.unread buf.new ≡ []))) }
+        (RefusesBytes (keeping KC.reading VC.reading C.equal ctx.entry.depth number (KC.COST + VC.COST))
+        ctx.entry.budget.now (B.unread buf.old)
+        (C.pairs map.new) (left_in ctx.exit) (S.written sink.old) (S.written sink.new))
+        (RefusesOutput (keeping KC.reading VC.reading C.equal ctx.entry.depth number (KC.COST + VC.COST))
+        KC.writing VC.writing ctx.entry.budget.now (B.unread buf.old)
+        (C.pairs map.new) (left_in ctx.exit) (B.unread buf.new) (S.written sink.old) (S.written sink.new))) }
     ensures kept { B.kept buf.new ≡ B.kept buf.old }
 {
     let mut unread = UnknownFields::new(alloc);
-    if let Err(fault) = read_anew::<KC, VC, C, B>(alloc, map, number, buf, ctx, &mut unread) {
-        return Err(RewriteError::Decode(fault));
-    }
-    match write_with::<KC, VC, C, S>(map, number, &unread, sink) {
-        Ok(()) => Ok(()),
-        Err(error) => Err(RewriteError::Encode(error)),
+    match read_anew::<KC, VC, C, B>(alloc, map, number, buf, ctx, &mut unread) {
+        Err(fault) => Err(RewriteError::Decode(fault)),
+        Ok(()) => match write_with::<KC, VC, C, S>(map, number, &unread, sink) {
+            Ok(()) => Ok(()),
+            Err(error) => Err(RewriteError::Encode(error)),
+        },
     }
 }

@@ -1,11 +1,9 @@
 //! A run of map records.
 
-ghost use Rattle.std.specs.Prelude.{◌≡◌, ◌≢◌, ◌+◌, ◌*◌, ◌++◌, ◌≤◌, ℕ, List, [], IfErr, IfSome, OnErr, OnOk, length};
-ghost use Rattle.buffa_bytes.specs.declared.error.DecodeError.TheVariants.{OutOfMemory};
-ghost use Rattle.buffa_wire.specs.Left.{Left, left_in};
-ghost use Rattle.buffa_map.specs.Lent.{records_left, slot_of};
-ghost use Rattle.buffa_map.specs.Pairs.{SamePairs};
-ghost use Rattle.buffa_map.specs.Run.{Fold, Paid, RecordFault, Run, RunBegins, Said, added, kept_records, record_need};
+ghost use Rattle.std.specs.Prelude.{◌≡◌, ◌+◌, IfErr, OnOk};
+ghost use Rattle.buffa_wire.specs.Left.{left_in};
+ghost use Rattle.buffa_map.specs.Lent.{records_in, records_left};
+ghost use Rattle.buffa_map.specs.Merge.{ReadsRun, StopsRun, lending, rules, state};
 
 use crate::codec::{MapCodec, MapValueDecode};
 use crate::entry::merge_entry_by;
@@ -29,19 +27,14 @@ pub(crate) fn read_run_by<
     ctx: DecodeContext<'_>,
     keeper: &mut L,
 ) -> Result<(), DecodeError>
-    ensures ok { OnOk result ((es : List (Said KC.Value.Meaning VC.Value.Meaning))
-        × Run KC.reading VC.reading ctx.entry.depth number (B.unread buf.old) es
-        × SamePairs C.equal (Fold C.equal (C.pairs map.old) es) (C.pairs map.new)
-        × (L.kept keeper.new ≡ L.kept keeper.old ++ added L.adds number es)
-        × Paid KC.reading VC.reading ctx.entry.depth (KC.COST + VC.COST) L.slot ctx.entry.budget.now es (left_in ctx.exit)
-        × (B.unread buf.new ≡ [])) }
-    ensures fault { IfErr result (λ f. (es : List (Said KC.Value.Meaning VC.Value.Meaning)) × (rest : List ℕ) × (over : Left)
-        × RunBegins KC.reading VC.reading ctx.entry.depth number (KC.COST + VC.COST) L.slot ctx.entry.budget.now (B.unread buf.old) es rest over
-        × SamePairs C.equal (Fold C.equal (C.pairs map.old) es) (C.pairs map.new)
-        × (L.kept keeper.new ≡ L.kept keeper.old ++ added L.adds number es)
-        × ((left_in ctx.exit).memory ≤ over.memory) × ((left_in ctx.exit).unknown ≤ over.unknown)
-        × (over.memory ≤ (left_in ctx.exit).memory + (KC.COST + VC.COST + (record_need KC.reading VC.reading ctx.entry.depth rest).memory)) × (over.unknown ≤ (left_in ctx.exit).unknown + (L.slot + (record_need KC.reading VC.reading ctx.entry.depth rest).unknown))
-        × (f ≢ OutOfMemory → (rest ≢ []) × RecordFault KC.reading VC.reading ctx.entry.depth number (KC.COST + VC.COST) L.slot over rest f × (over.unknown ≤ (left_in ctx.exit).unknown + (record_need KC.reading VC.reading ctx.entry.depth rest).unknown))) }
+    ensures ok { OnOk result (ReadsRun
+        (rules KC.reading VC.reading C.equal ctx.entry.depth number (KC.COST + VC.COST) L.slot L.adds)
+        (state (C.pairs map.old) (L.kept keeper.old) ctx.entry.budget.now) (B.unread buf.old)
+        (state (C.pairs map.new) (L.kept keeper.new) (left_in ctx.exit)) (B.unread buf.new)) }
+    ensures err { IfErr result (StopsRun
+        (rules KC.reading VC.reading C.equal ctx.entry.depth number (KC.COST + VC.COST) L.slot L.adds)
+        (state (C.pairs map.old) (L.kept keeper.old) ctx.entry.budget.now) (B.unread buf.old)
+        (state (C.pairs map.new) (L.kept keeper.new) (left_in ctx.exit))) }
     ensures kept { B.kept buf.new ≡ B.kept buf.old }
 {
     let DecodeContext { depth, budget } = ctx;
@@ -89,19 +82,14 @@ pub fn read_map_field<
     ctx: DecodeContext<'_>,
     unknown: Option<&mut UnknownFields>,
 ) -> Result<(), DecodeError>
-    ensures ok { OnOk result ((es : List (Said KC.Value.Meaning VC.Value.Meaning))
-        × Run KC.reading VC.reading ctx.entry.depth number (B.unread buf.old) es
-        × SamePairs C.equal (Fold C.equal (C.pairs map.old) es) (C.pairs map.new)
-        × IfSome unknown.entry (λ list. records_left unknown.exit ≡ list.now.records ++ kept_records number es)
-        × Paid KC.reading VC.reading ctx.entry.depth (KC.COST + VC.COST) (slot_of unknown.entry) ctx.entry.budget.now es (left_in ctx.exit)
-        × (B.unread buf.new ≡ [])) }
-    ensures fault { IfErr result (λ f. (es : List (Said KC.Value.Meaning VC.Value.Meaning)) × (rest : List ℕ) × (over : Left)
-        × RunBegins KC.reading VC.reading ctx.entry.depth number (KC.COST + VC.COST) (slot_of unknown.entry) ctx.entry.budget.now (B.unread buf.old) es rest over
-        × SamePairs C.equal (Fold C.equal (C.pairs map.old) es) (C.pairs map.new)
-        × IfSome unknown.entry (λ list. records_left unknown.exit ≡ list.now.records ++ kept_records number es)
-        × ((left_in ctx.exit).memory ≤ over.memory) × ((left_in ctx.exit).unknown ≤ over.unknown)
-        × (over.memory ≤ (left_in ctx.exit).memory + (KC.COST + VC.COST + (record_need KC.reading VC.reading ctx.entry.depth rest).memory)) × (over.unknown ≤ (left_in ctx.exit).unknown + (slot_of unknown.entry + (record_need KC.reading VC.reading ctx.entry.depth rest).unknown))
-        × (f ≢ OutOfMemory → (rest ≢ []) × RecordFault KC.reading VC.reading ctx.entry.depth number (KC.COST + VC.COST) (slot_of unknown.entry) over rest f × (over.unknown ≤ (left_in ctx.exit).unknown + (record_need KC.reading VC.reading ctx.entry.depth rest).unknown))) }
+    ensures ok { OnOk result (ReadsRun
+        (lending KC.reading VC.reading C.equal ctx.entry.depth number (KC.COST + VC.COST) unknown.entry)
+        (state (C.pairs map.old) (records_in unknown.entry) ctx.entry.budget.now) (B.unread buf.old)
+        (state (C.pairs map.new) (records_left unknown.exit) (left_in ctx.exit)) (B.unread buf.new)) }
+    ensures err { IfErr result (StopsRun
+        (lending KC.reading VC.reading C.equal ctx.entry.depth number (KC.COST + VC.COST) unknown.entry)
+        (state (C.pairs map.old) (records_in unknown.entry) ctx.entry.budget.now) (B.unread buf.old)
+        (state (C.pairs map.new) (records_left unknown.exit) (left_in ctx.exit))) }
     ensures kept { B.kept buf.new ≡ B.kept buf.old }
 {
     match unknown {

@@ -1,67 +1,66 @@
-use Rattle.std.proofs.Common.{arith, ◌+◌, ◌≤◌, ◌⊎◌, ℕ, List, append-nil, refl, subst, sym}
+use Rattle.std.proofs.Common.{arith, ◌≡◌, ◌⊎◌, ℕ, List, subst}
 use Rattle.std.proofs.lemmas.Result.{err_from_is_err_and}
-use Rattle.buffa_wire.specs.Left.{Left, Lacks, Pays}
+use Rattle.buffa_wire.specs.Left.{Left, Lacks, Pays, PaysAtMost}
 use Rattle.buffa_map.specs.Entry.{FaultOf, IsEntry, blanks, need_at, said}
-use Rattle.buffa_map.proofs.NeedLemmas.{entry_short, entry_charged, entry_broken, entry_found, entry_slotless, no_length}
-use Rattle.buffa_map.proofs.ResultLemmas.{IfErr-map, OnOk-map}
+use Rattle.buffa_map.proofs.MergeLemmas.{bad_fields, is_kept, is_put, no_entry, no_units, not_kept}
+use Rattle.buffa_map.proofs.ResultLemmas.{IfErr-with, OnOk-map}
 use Rattle.buffa_map.proofs.entry.merge_entry_by.Goals as goal
 
-pub returns-in_err-entry-clause-fault : goal.returns-in_err-entry-clause-fault
-returns-in_err-entry-clause-fault g c =
+pub returns-in_err-entry-clause-err : goal.returns-in_err-entry-clause-err
+returns-in_err-entry-clause-err g c =
     let p = err_from_is_err_and c.from_residual.result c.from_residual.ensures.1 in
-    rw (p.1, p.2) (λ ne. entry_short g.KC.MapValueDecode.reading g.VC.MapValueDecode.reading c.args.ctx.depth _ g.L.Keeper.slot c.args.ctx.budget.now (g.B.Buf.unread c.args.buf.now) c.in_err-entry.field-0.0 (c.in_err-entry.ensures.reads ne))
+    rw (p.1, p.2) (no_entry _ _ _ _ _ c.in_err-entry.field-0.0 (λ ne. c.in_err-entry.ensures.reads ne))
 
-pub returns-in_err-entry-clause-stays_spent : goal.returns-in_err-entry-clause-stays_spent
-returns-in_err-entry-clause-stays_spent g c =
-    let p = err_from_is_err_and c.from_residual.result c.from_residual.ensures.1 in
-    rw (p.1, p.2) (λ ne e rest t room. no_length g.KC.MapValueDecode.reading g.VC.MapValueDecode.reading c.args.ctx.depth (g.B.Buf.unread c.args.buf.now) c.in_err-entry.field-0.0 (c.in_err-entry.ensures.reads ne) e rest t)
-
-pub returns-in_err-charge-clause-fault : goal.returns-in_err-charge-clause-fault
-returns-in_err-charge-clause-fault g c =
+pub returns-in_err-charge-clause-err : goal.returns-in_err-charge-clause-err
+returns-in_err-charge-clause-err g c =
     let p = err_from_is_err_and c.from_residual-in_err-charge.result c.from_residual-in_err-charge.ensures.1 in
-    rw (p.1, p.2) (λ ne. entry_charged g.KC.MapValueDecode.reading g.VC.MapValueDecode.reading c.args.ctx.depth (g.KC.MapValueDecode.COST + g.VC.MapValueDecode.COST) g.L.Keeper.slot c.args.ctx.budget.now (g.B.Buf.unread c.args.buf.now) c.in_ok-entry.entry.items (g.B.Buf.unread c.decode_bytes.new.buf) c.in_err-charge.field-0.0
-    c.in_ok-entry.ensures.reads (omega (arith, c.in_err-charge.ensures.err.0, c.COST.ensures, c.COST-2.ensures)) c.in_err-charge.ensures.which)
+    let err = c.in_err-charge.ensures in
+    rw (p.1, p.2) (no_units _ _ _ _ _ _ _ c.in_ok-entry.ensures.reads c.charge.new.budget c.in_err-charge.field-0.0 (omega (arith, err.err.0, c.COST.ensures, c.COST-2.ensures)) err.err.1 err.which)
 
-pub returns-in_err-parts-clause-fault : goal.returns-in_err-parts-clause-fault
-returns-in_err-parts-clause-fault g c =
+pub returns-in_err-parts-clause-err : goal.returns-in_err-parts-clause-err
+returns-in_err-parts-clause-err g c =
     let p = err_from_is_err_and c.from_residual-in_err-parts.result c.from_residual-in_err-parts.ensures.1 in
+    let key = g.KC.MapValueDecode.reading in
+    let val = g.VC.MapValueDecode.reading in
+    let d = c.args.ctx.depth in
     let now : Left = c.charge.new.budget in
-    rw (p.1, p.2) (λ ne. entry_broken g.KC.MapValueDecode.reading g.VC.MapValueDecode.reading c.args.ctx.depth (g.KC.MapValueDecode.COST + g.VC.MapValueDecode.COST) g.L.Keeper.slot c.args.ctx.budget.now now (g.B.Buf.unread c.args.buf.now) c.in_ok-entry.entry.items (g.B.Buf.unread c.decode_bytes.new.buf) c.in_err-parts.field-0.0
-    c.in_ok-entry.ensures.reads (omega (arith, c.in_ok-charge.ensures.ok.0, c.COST.ensures, c.COST-2.ensures)) c.in_ok-charge.ensures.ok.1
-    (subst (λ (z : List ℕ). Lacks now (need_at g.KC.MapValueDecode.reading g.VC.MapValueDecode.reading c.args.ctx.depth (blanks g.KC.MapValueDecode.reading g.VC.MapValueDecode.reading c.args.ctx.depth) z) ⊎ FaultOf g.KC.MapValueDecode.reading g.VC.MapValueDecode.reading c.args.ctx.depth z c.in_err-parts.field-0.0) c.deref.ensures.value (c.in_err-parts.ensures.fault ne)))
+    let charged = c.in_ok-charge.ensures.ok in
+    let spent = subst (λ (z : List ℕ). PaysAtMost now (need_at key val d (blanks key val d) z) c.merge_fields.new.ctx.1.0) c.deref.ensures.value c.in_err-parts.ensures.err in
+    rw (p.1, p.2) (bad_fields _ _ _ _ _ _ _ c.in_ok-entry.ensures.reads now (omega (arith, charged.0, c.COST.ensures, c.COST-2.ensures)) charged.1 c.merge_fields.new.ctx.1.0 c.in_err-parts.field-0.0
+    (λ ne. subst (λ (z : List ℕ). Lacks now (need_at key val d (blanks key val d) z) ⊎ FaultOf key val d z c.in_err-parts.field-0.0) c.deref.ensures.value (c.in_err-parts.ensures.fault ne)) spent)
 
 pub returns-in-Ok-clause-ok : goal.returns-in-Ok-clause-ok
 returns-in-Ok-clause-ok g c =
+    let key = g.KC.MapValueDecode.reading in
+    let val = g.VC.MapValueDecode.reading in
+    let d = c.args.ctx.depth in
+    let now : Left = c.charge.new.budget in
+    let charged = c.in_ok-charge.ensures.ok in
     let s = said g.KC.Value.Blank.meaning g.VC.Value.Blank.meaning c.in_ok-parts.parts in
-    let entry : IsEntry g.KC.MapValueDecode.reading g.VC.MapValueDecode.reading c.args.ctx.depth c.in_ok-entry.entry.items s = subst (λ (z : List ℕ). IsEntry g.KC.MapValueDecode.reading g.VC.MapValueDecode.reading c.args.ctx.depth z s) c.deref.ensures.value c.in_ok-parts.ensures.entry in
-    let pays = subst (λ (z : List ℕ). Pays c.charge.new.budget (need_at g.KC.MapValueDecode.reading g.VC.MapValueDecode.reading c.args.ctx.depth (blanks g.KC.MapValueDecode.reading g.VC.MapValueDecode.reading c.args.ctx.depth) z) c.merge_fields.new.ctx.1.0) c.deref.ensures.value c.in_ok-parts.ensures.pays in (
-      s,
-      c.in_ok-entry.entry.items,
-      entry_found g.KC.MapValueDecode.reading g.VC.MapValueDecode.reading c.args.ctx.depth (g.B.Buf.unread c.args.buf.now) c.in_ok-entry.entry.items (g.B.Buf.unread c.decode_bytes.new.buf) s c.in_ok-entry.ensures.reads entry,
-      λ q. rw c.if-parts.true (c.in-Ok.ensures.ok q),
-      rw c.if-parts.true (sym (append-nil (g.L.Keeper.kept c.args.keeper.now))),
-      (rw c.if-parts.true (omega (arith, c.in_ok-charge.ensures.ok.1, pays.0)), omega (arith, c.in_ok-charge.ensures.ok.0, c.COST.ensures, c.COST-2.ensures, pays.1)),
-    )
+    let entry : IsEntry key val d c.in_ok-entry.entry.items s = subst (λ (z : List ℕ). IsEntry key val d z s) c.deref.ensures.value c.in_ok-parts.ensures.entry in
+    let pays = subst (λ (z : List ℕ). Pays now (need_at key val d (blanks key val d) z) c.merge_fields.new.ctx.1.0) c.deref.ensures.value c.in_ok-parts.ensures.pays in
+    is_put _ _ _ _ _ _ _ c.in_ok-entry.ensures.reads now (omega (arith, charged.0, c.COST.ensures, c.COST-2.ensures)) charged.1 s entry c.merge_fields.new.ctx.1.0 pays c.if-parts.true _ (λ q. c.in-Ok.ensures.ok q)
 
 pub returns-clause-ok : goal.returns-clause-ok
 returns-clause-ok g c =
+    let key = g.KC.MapValueDecode.reading in
+    let val = g.VC.MapValueDecode.reading in
+    let d = c.args.ctx.depth in
+    let now : Left = c.charge.new.budget in
+    let charged = c.in_ok-charge.ensures.ok in
     let s = said g.KC.Value.Blank.meaning g.VC.Value.Blank.meaning c.in_ok-parts.parts in
-    let entry : IsEntry g.KC.MapValueDecode.reading g.VC.MapValueDecode.reading c.args.ctx.depth c.in_ok-entry.entry.items s = subst (λ (z : List ℕ). IsEntry g.KC.MapValueDecode.reading g.VC.MapValueDecode.reading c.args.ctx.depth z s) c.deref.ensures.value c.in_ok-parts.ensures.entry in
-    let pays = subst (λ (z : List ℕ). Pays c.charge.new.budget (need_at g.KC.MapValueDecode.reading g.VC.MapValueDecode.reading c.args.ctx.depth (blanks g.KC.MapValueDecode.reading g.VC.MapValueDecode.reading c.args.ctx.depth) z) c.merge_fields.new.ctx.1.0) c.deref.ensures.value c.in_ok-parts.ensures.pays in
-    OnOk-map c.keep.result (λ h. (
-      s,
-      c.in_ok-entry.entry.items,
-      entry_found g.KC.MapValueDecode.reading g.VC.MapValueDecode.reading c.args.ctx.depth (g.B.Buf.unread c.args.buf.now) c.in_ok-entry.entry.items (g.B.Buf.unread c.decode_bytes.new.buf) s c.in_ok-entry.ensures.reads entry,
-      λ q. rw c.if-parts.false refl,
-      rw c.if-parts.false h.0,
-      (rw c.if-parts.false (omega (arith, h.1, c.in_ok-charge.ensures.ok.1, pays.0)), omega (arith, c.in_ok-charge.ensures.ok.0, c.COST.ensures, c.COST-2.ensures, pays.1, c.keep.ensures.memory)),
-    )) c.keep.ensures.ok
+    let entry : IsEntry key val d c.in_ok-entry.entry.items s = subst (λ (z : List ℕ). IsEntry key val d z s) c.deref.ensures.value c.in_ok-parts.ensures.entry in
+    let pays = subst (λ (z : List ℕ). Pays now (need_at key val d (blanks key val d) z) c.merge_fields.new.ctx.1.0) c.deref.ensures.value c.in_ok-parts.ensures.pays in
+    OnOk-map c.keep.result (λ h. is_kept _ _ _ _ _ _ _ c.in_ok-entry.ensures.reads now (omega (arith, charged.0, c.COST.ensures, c.COST-2.ensures)) charged.1 s entry c.merge_fields.new.ctx.1.0 pays c.if-parts.false _ _ h.0 h.1 c.keep.ensures.memory) c.keep.ensures.ok
 
-pub returns-clause-fault : goal.returns-clause-fault
-returns-clause-fault g c =
+pub returns-clause-err : goal.returns-clause-err
+returns-clause-err g c =
+    let key = g.KC.MapValueDecode.reading in
+    let val = g.VC.MapValueDecode.reading in
+    let d = c.args.ctx.depth in
+    let now : Left = c.charge.new.budget in
+    let charged = c.in_ok-charge.ensures.ok in
     let s = said g.KC.Value.Blank.meaning g.VC.Value.Blank.meaning c.in_ok-parts.parts in
-    let room : (g.KC.MapValueDecode.COST + g.VC.MapValueDecode.COST) ≤ c.args.ctx.budget.now.memory = omega (arith, c.in_ok-charge.ensures.ok.0, c.COST.ensures, c.COST-2.ensures) in
-    let entry : IsEntry g.KC.MapValueDecode.reading g.VC.MapValueDecode.reading c.args.ctx.depth c.in_ok-entry.entry.items s = subst (λ (z : List ℕ). IsEntry g.KC.MapValueDecode.reading g.VC.MapValueDecode.reading c.args.ctx.depth z s) c.deref.ensures.value c.in_ok-parts.ensures.entry in
-    let pays = subst (λ (z : List ℕ). Pays c.charge.new.budget (need_at g.KC.MapValueDecode.reading g.VC.MapValueDecode.reading c.args.ctx.depth (blanks g.KC.MapValueDecode.reading g.VC.MapValueDecode.reading c.args.ctx.depth) z) c.merge_fields.new.ctx.1.0) c.deref.ensures.value c.in_ok-parts.ensures.pays in
-    IfErr-map c.keep.result (λ f h ne. entry_slotless g.KC.MapValueDecode.reading g.VC.MapValueDecode.reading c.args.ctx.depth (g.KC.MapValueDecode.COST + g.VC.MapValueDecode.COST) g.L.Keeper.slot c.args.ctx.budget.now (g.B.Buf.unread c.args.buf.now) c.in_ok-entry.entry.items (g.B.Buf.unread c.decode_bytes.new.buf) s f
-    c.in_ok-entry.ensures.reads room entry c.if-parts.false (omega (arith, (h ne).0, c.in_ok-charge.ensures.ok.1, pays.0)) (h ne).1) c.keep.ensures.fault
+    let entry : IsEntry key val d c.in_ok-entry.entry.items s = subst (λ (z : List ℕ). IsEntry key val d z s) c.deref.ensures.value c.in_ok-parts.ensures.entry in
+    let pays = subst (λ (z : List ℕ). Pays now (need_at key val d (blanks key val d) z) c.merge_fields.new.ctx.1.0) c.deref.ensures.value c.in_ok-parts.ensures.pays in
+    IfErr-with c.keep.result (λ f a h. not_kept _ _ _ _ _ _ _ c.in_ok-entry.ensures.reads now (omega (arith, charged.0, c.COST.ensures, c.COST-2.ensures)) charged.1 s entry c.merge_fields.new.ctx.1.0 pays c.if-parts.false _ _ f a.0 a.1 a.2 c.keep.ensures.memory h) c.keep.ensures.err c.keep.ensures.fault

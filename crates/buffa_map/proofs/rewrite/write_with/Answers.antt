@@ -9,7 +9,12 @@ returns-in_err-storage_write g c =
     let w = c.in_err-storage_write.ensures in
     let old = g.S.EncodeSink.written c.args.sink.now in
     let new = g.S.EncodeSink.written c.storage_write.new.sink in
-    (w.0, w.1, rewrite_refused g.KC.MapCodec.writing g.VC.MapCodec.writing c.args.number c.args.kept.now.records q.1 q.2 old new w.0 w.2, rw q.1 tt)
+    record {
+      walk = w.0;
+      once = w.1;
+      text = rewrite_refused g.KC.MapCodec.writing g.VC.MapCodec.writing c.args.number c.args.kept.now.records q.1 q.2 old new w.0 w.2;
+      fits = rw q.1 tt
+    }
 
 pub returns : goal.returns
 returns g c =
@@ -17,4 +22,9 @@ returns g c =
     let old = g.S.EncodeSink.written c.args.sink.now in
     let mid = g.S.EncodeSink.written c.storage_write.new.sink in
     let new = g.S.EncodeSink.written c.write_to.new.sink in
-    (w.0, w.1, rewrite_written g.KC.MapCodec.writing g.VC.MapCodec.writing c.args.number c.args.kept.now.records c.write_to.result old mid new w.0 w.2.0 w.2.1 c.write_to.ensures, OnOk-always c.write_to.result w.3)
+    record {
+      walk = w.0;
+      once = w.1;
+      text = rewrite_written g.KC.MapCodec.writing g.VC.MapCodec.writing c.args.number c.args.kept.now.records c.write_to.result old mid new w.0 w.2.0 w.2.1 c.write_to.ensures;
+      fits = OnOk-always c.write_to.result w.3
+    }

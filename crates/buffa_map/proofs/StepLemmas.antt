@@ -1,0 +1,116 @@
+-- A run, record by record: what was read so far, and how reading it ends.
+use Rattle.std.proofs.Common.{arith, ◌≡◌, ◌≢◌, ◌+◌, ◌<◌, ◌≤◌, ◌++◌, ◌⊎◌, inl, inr, ℕ, Bool, List, [], ◌∷◌, Ok, Err, ap, append-nil, append_assoc, length, refl, subst, sym, ◌∙◌}
+use Rattle.std.specs.Cmp.{IsEquivalence}
+use Rattle.buffa_bytes.proofs.FieldLemmas.{tag_falls}
+use Rattle.buffa_bytes.specs.declared.error.DecodeError.{DecodeError}
+use Rattle.buffa_bytes.specs.declared.error.DecodeError.TheVariants.{OutOfMemory, UnexpectedField}
+use Rattle.buffa_bytes.specs.declared.wire_type.WireType.{WireType}
+use Rattle.buffa_bytes.specs.declared.wire_type.WireType.TheVariants.{LengthDelimited}
+use Rattle.buffa_wire.specs.Left.{Left}
+use Rattle.buffa_wire.specs.Reading.{check_wire, tag_at}
+use Rattle.buffa_wire.specs.Records.{Datum}
+use Rattle.buffa_map.specs.Merge.{MergesEntry, ReadsRun, RefusesEntry, Rules, State, StopsRun}
+use Rattle.buffa_map.specs.Pairs.{SamePairs}
+use Rattle.buffa_map.specs.Run.{Fold, Paid, RecordFault, Run, Said, added}
+use Rattle.buffa_map.proofs.RunLemmas.{Fold-more, Paid-more, Run-last, added-more, entry_falls, record_entry, record_found, record_mismatch, record_needs, record_other, record_tag}
+
+some : {bs : List ℕ} → 0 < length bs → bs ≢ []
+some h e = absurd (omega (arith, ap length e))
+
+none : {bs : List ℕ} → length bs ≡ 0 → bs ≡ []
+none {bs = []} h = refl
+none {bs = b ∷ bs} h = absurd (omega (arith, h))
+
+module _ {K V : Type 0} (r : Rules K V) (old : State K V) (bs : List ℕ) where
+  -- the records of some entries begin the bytes, and were read; rest follows them
+  pub record Reached (now : State K V) (rest : List ℕ) : Type 0 where
+    pub front : List ℕ
+    pub entries : List (Said K V)
+    pub split : bs ≡ front ++ rest
+    pub run : Run r.key r.val r.depth r.number front entries
+    pub folded : SamePairs r.same (Fold r.same old.pairs entries) now.pairs
+    pub keeps : now.records ≡ old.records ++ added r.adds r.number entries
+    pub paid : Paid r.key r.val r.depth r.cost r.slot old.left entries now.left
+
+  pub none_reached : Reached old bs
+  none_reached = record { front = []; entries = []; split = refl; run = refl; folded = λ q. refl; keeps = sym (append-nil old.records); paid = (omega arith, omega arith) }
+
+  module _ (now : State K V) (rest : List ℕ) (h : Reached now rest) where
+    pub all_reached : length rest ≡ 0 → ReadsRun r old bs now rest
+    all_reached empty =
+        let is : rest ≡ [] = none empty in
+        record {
+          entries = h.entries;
+          run = subst (λ z. Run r.key r.val r.depth r.number z h.entries) (sym (h.split ∙ ap (λ z. h.front ++ z) is ∙ append-nil h.front)) h.run;
+          folded = h.folded;
+          keeps = h.keeps;
+          paid = h.paid;
+          whole = is
+        }
+
+    -- the next record is refused before its entry
+    stop_here : (f : DecodeError) → 0 < length rest → (f ≢ OutOfMemory → RecordFault r.key r.val r.depth r.number r.cost r.slot now.left rest f) → StopsRun r old bs now f
+    stop_here f more fault = record {
+      entries = h.entries;
+      rest = rest;
+      over = now.left;
+      begins = (h.front, h.split, h.run, h.paid);
+      folded = h.folded;
+      keeps = h.keeps;
+      some = some more;
+      units = omega arith;
+      most = omega arith;
+      one_cost = omega arith;
+      one_slot = omega arith;
+      fault = fault;
+      no_slot = λ ne. omega arith
+    }
+
+    pub stop_tag : (f : DecodeError) → 0 < length rest → tag_at rest ≡ Err f → StopsRun r old bs now f
+    stop_tag f more is = stop_here f more (λ ne. record_tag r.key r.val r.depth r.number r.cost r.slot now.left rest f is)
+
+    module _ (mid : List ℕ) (g : ℕ) (w : WireType) (more : 0 < length rest) (tag : tag_at rest ≡ Ok (g, w, mid)) where
+      pub stop_other : g ≢ r.number → StopsRun r old bs now (UnexpectedField g)
+      stop_other other = stop_here (UnexpectedField g) more (λ ne. record_other r.key r.val r.depth r.number r.cost r.slot now.left rest mid g w tag other)
+
+      pub stop_mismatch : (f : DecodeError) → g ≡ r.number → check_wire g LengthDelimited w ≡ Err f → StopsRun r old bs now f
+      stop_mismatch f same is = stop_here f more (λ ne. record_mismatch r.key r.val r.depth r.number r.cost r.slot now.left rest mid g w f tag same is)
+
+      module _ (same : g ≡ r.number) (wire : check_wire g LengthDelimited w ≡ Ok tt) where
+        pub stop_entry : (new : State K V) (f : DecodeError) → RefusesEntry r now mid new f → StopsRun r old bs new f
+        stop_entry new f k =
+            let need = record_needs r.key r.val r.depth r.number rest mid g w tag in
+            let units = ap (λ (z : Left). z.memory) need in
+            let taken = ap (λ (z : Left). z.unknown) need in
+            record {
+              entries = h.entries;
+              rest = rest;
+              over = now.left;
+              begins = (h.front, h.split, h.run, h.paid);
+              folded = rw k.pairs h.folded;
+              keeps = rw k.records h.keeps;
+              some = some more;
+              units = elim k.units [ inl e ↦ omega (arith, e) | inr e ↦ omega (arith, e.0) ];
+              most = k.most;
+              one_cost = elim k.units [ inl e ↦ omega (arith, e) | inr e ↦ omega (arith, e.1, units) ];
+              one_slot = omega (arith, k.least, taken);
+              fault = λ ne. record_entry r.key r.val r.depth r.number r.cost r.slot now.left rest mid g w f tag same wire (k.fault ne);
+              no_slot = λ ne. omega (arith, k.no_slot ne, taken)
+            }
+
+        pub one_more : IsEquivalence r.same → (new : State K V) (after : List ℕ) → MergesEntry r now mid new after → Reached new after
+        one_more laws new after k =
+            let x : Said K V = record { bytes = k.entry; parts = k.says } in
+            let one = record_found r.key r.val r.depth r.number rest mid after g w k.says tag same wire k.entry k.read in
+            record {
+              front = h.front ++ one.0;
+              entries = h.entries ++ x ∷ [];
+              split = h.split ∙ ap (λ z. h.front ++ z) one.2 ∙ sym (append_assoc h.front one.0 after);
+              run = Run-last r.key r.val r.depth r.number h.front h.entries one.0 x h.run one.1;
+              folded = Fold-more laws old.pairs now.pairs new.pairs h.entries x k.says refl h.folded k.put;
+              keeps = added-more r.adds r.number old.records now.records new.records h.entries x h.keeps k.keeps;
+              paid = Paid-more r.key r.val r.depth r.cost r.slot old.left now.left new.left h.entries x h.paid k.pays
+            }
+
+        pub less : (new : State K V) (after : List ℕ) → MergesEntry r now mid new after → length after < length rest
+        less new after k = omega (arith, tag_falls rest (g, w, mid) tag, entry_falls r.key r.val r.depth r.number mid k.entry k.says after k.read)
