@@ -18,5 +18,5 @@ returns-clause-ok c =
 pub returns-clause-fault : goal.returns-clause-fault
 returns-clause-fault c =
     let left : c.new-ctx.result.budget.now ≡ default_left = (λ i. record { unknown = (ap (λ (b : Left). b.unknown) c.new-ctx.ensures.left ∙ c.new-budget.ensures.unknown) i; memory = (ap (λ (b : Left). b.memory) c.new-ctx.ensures.left ∙ c.new-budget.ensures.memory) i }) in
-    stopped c.read_map_field.result c.new-ctx.result.depth c.args.number c.new-ctx.result.budget.now c.args.bytes.now (λ es. SamePairs (pointwise nat_eq) (Fold (pointwise nat_eq) (pairs_of c.args.pairs.now.entries) es) (pairs_of c.read_map_field.new.map.entries)) _ _ _ _ _
-    c.new-ctx.ensures.depth left c.read_map_field.ensures.fault
+    stopped c.read_map_field.result c.new-ctx.result.depth c.args.number c.new-ctx.result.budget.now c.read_map_field.new.ctx.1.0 c.args.bytes.now (pairs_of c.args.pairs.now.entries) (pairs_of c.read_map_field.new.map.entries)
+    c.new-ctx.ensures.depth left c.read_map_field.ensures.err

@@ -9,7 +9,7 @@ use Rattle.buffa_vectors.proofs.guide.Inventory.merge.Goals as goal
 pub fields-smaller-in-Continue-branch-3 : goal.fields-smaller-in-Continue-branch-3
 fields-smaller-in-Continue-branch-3 g c =
     let ok = c.in_ok-merge_entry.ensures.ok in
-    let entry = entry_falls (string_reading [] (λ text. text)) (number_reading Varint (pos 0) int32_of) c.args.ctx.depth 5 (g.B.Buf.unread c.decode.new.buf) ok.1 ok.0 (g.B.Buf.unread c.merge_entry.new.buf) ok.2 in
+    let entry = entry_falls (string_reading [] (λ text. text)) (number_reading Varint (pos 0) int32_of) c.args.ctx.depth 5 (g.B.Buf.unread c.decode.new.buf) ok.entry ok.says (g.B.Buf.unread c.merge_entry.new.buf) ok.read in
     omega (arith, tag_falls _ _ c.in_ok-tag.ensures.reads, entry)
 
 pub fields-smaller : goal.fields-smaller
