@@ -18,6 +18,7 @@ mod keep;
 mod kept_tests;
 pub mod laws;
 pub mod map_codec;
+mod merge_value;
 pub mod message;
 pub mod message_merge;
 pub mod message_size;

@@ -49,7 +49,7 @@ where
 }
 
 // The same, said as merging by the codec of messages is.
-fn merge_value_by<M: MessageSpec, B: Buf, F>(
+pub(crate) fn merge_value_by<M: MessageSpec, B: Buf, F>(
     alloc: Global,
     value: &mut M,
     buf: &mut B,

@@ -1,0 +1,146 @@
+//! How the value of an entry is merged: by its codec, or by a function.
+
+ghost use Rattle.std.specs.Prelude.{◌≡◌, ◌≢◌, ◌+◌, ℕ, false, refl, IfErr, IfOk, Ok};
+ghost use Rattle.buffa_bytes.specs.declared.error.DecodeError.TheVariants.{OutOfMemory};
+ghost use Rattle.buffa_bytes.specs.declared.wire_type.WireType.{WireType};
+ghost use Rattle.buffa_bytes.specs.declared.wire_type.WireType.TheVariants.{LengthDelimited};
+ghost use Rattle.buffa_wire.specs.Content.{Content};
+ghost use Rattle.buffa_wire.specs.Left.{left_in, nothing};
+ghost use Rattle.buffa_wire.specs.Message.{IsMerged};
+ghost use Rattle.buffa_map.specs.Codec.{Reading, Refuses, Spends, is_known, value_at, value_need};
+ghost use Rattle.buffa_map.specs.Message.{message_reading};
+
+use crate::codec::{MapValueDecode, MapValueDecodeStatus};
+use crate::message_merge::merge_value_by;
+use buffa_wire::{Blank, Budget, Buf, DecodeContext, DecodeError, MessageSpec, WireType};
+use std::alloc::Global;
+use std::marker::PhantomData;
+
+/// How the value of an entry is merged.
+pub(crate) trait MergeValue {
+    /// The Rust type of the values.
+    type Value: Blank;
+
+    /// The wire type of the payloads.
+    const WIRE_TYPE: WireType;
+
+    /// The units of element memory that a value costs.
+    const COST: usize;
+
+    ghost WIRE_TYPE: { WireType };
+
+    ghost COST: { ℕ };
+
+    /// What a payload makes of a value.
+    ghost reading: { Reading Self.Value.Meaning };
+
+    /// At which depths payloads may be merged.
+    ghost may: { Self → ℕ → Type 0 };
+
+    /// Merges the payload at the front into the value.
+    fn merge<B: Buf>(
+        &self,
+        alloc: Global,
+        value: &mut Self::Value,
+        buf: &mut B,
+        ctx: DecodeContext<'_>,
+    ) -> Result<MapValueDecodeStatus, DecodeError>
+        requires { may self.now ctx.depth }
+        ensures ok { IfOk result (λ s. value_at reading ctx.entry.depth (Self.Value.meaning value.old) (B.unread buf.old)
+            ≡ Ok ((Self.Value.meaning value.new, is_known s), B.unread buf.new)) }
+        ensures fault { IfErr result (λ e. e ≢ OutOfMemory →
+            Refuses reading.nested reading ctx.entry.depth (Self.Value.meaning value.old) (B.unread buf.old) ctx.entry.budget.now e) }
+        ensures kept { B.kept buf.new ≡ B.kept buf.old }
+        ensures spends { Spends reading.nested result ctx.entry.budget.now
+            (value_need reading ctx.entry.depth (B.unread buf.old)) (left_in ctx.exit) };
+
+    /// Plain payloads cost nothing.
+    ghost free: { reading.nested ≡ false → (d : ℕ) (c : Content) → reading.cost d c ≡ nothing };
+
+    /// The reading cuts payloads of the wire type.
+    ghost wire: { reading.wire ≡ WIRE_TYPE };
+
+    /// The reading starts with the default of the values.
+    ghost blank: { reading.blank ≡ Self.Value.blank_is };
+}
+
+/// By its codec.
+pub(crate) struct ByCodec<VC> {
+    of: PhantomData<VC>,
+}
+
+impl<VC: MapValueDecode> MergeValue for ByCodec<VC> {
+    type Value = VC::Value;
+
+    const WIRE_TYPE: WireType = VC::WIRE_TYPE;
+
+    const COST: usize = VC::COST;
+
+    ghost WIRE_TYPE = { VC.WIRE_TYPE };
+
+    ghost COST = { VC.COST };
+
+    ghost reading = { VC.reading };
+
+    ghost may = { λ _ _. Unit {0} };
+
+    fn merge<B: Buf>(
+        &self,
+        alloc: Global,
+        value: &mut VC::Value,
+        buf: &mut B,
+        ctx: DecodeContext<'_>,
+    ) -> Result<MapValueDecodeStatus, DecodeError> {
+        VC::merge(alloc, value, buf, ctx)
+    }
+
+    ghost free = { VC.MapValueDecode.free };
+
+    ghost wire = { VC.MapValueDecode.wire };
+
+    ghost blank = { VC.MapValueDecode.blank };
+}
+
+/// By a function that merges the bytes of a message one level down.
+pub(crate) struct ByFunction<M, F> {
+    pub(crate) merge: F,
+    of: PhantomData<M>,
+}
+
+impl<M: MessageSpec, F: Fn(&mut M, &[u8], u32, &mut Budget) -> Result<(), DecodeError>> MergeValue
+    for ByFunction<M, F>
+{
+    type Value = M;
+
+    const WIRE_TYPE: WireType = WireType::LengthDelimited;
+
+    const COST: usize = M::COST;
+
+    ghost WIRE_TYPE = { LengthDelimited };
+
+    ghost COST = { M.COST };
+
+    ghost reading = { message_reading M.blank_is M.merged M.cost };
+
+    ghost may = { λ by d.
+        ((x : _) (b : _) (e : _) (w : _) → e + 1 ≡ d → F.pre by.merge x b e w)
+        × ((x : _) (b : _) (e : _) (w : _) (r : _) (y : _) (v : _) → e + 1 ≡ d → F.post by.merge x b e w r y v →
+            IsMerged (M.merged e (M.meaning x.now) b.now) (M.cost e b.now) w.now r (M.meaning y.now) v.now) };
+
+    fn merge<B: Buf>(
+        &self,
+        alloc: Global,
+        value: &mut M,
+        buf: &mut B,
+        ctx: DecodeContext<'_>,
+    ) -> Result<MapValueDecodeStatus, DecodeError> {
+        merge_value_by(alloc, value, buf, ctx, &self.merge)?;
+        Ok(MapValueDecodeStatus::Known)
+    }
+
+    ghost free = { λ no d c. cc };
+
+    ghost wire = { refl };
+
+    ghost blank = { refl };
+}
