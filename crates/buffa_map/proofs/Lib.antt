@@ -4,6 +4,7 @@ pub mod HashedLemmas
 pub mod AlongLemmas
 pub mod EntryLemmas
 pub mod NeedLemmas
+pub mod FieldsLemmas
 pub mod MergeLemmas
 pub mod MessageLemmas
 pub mod ResultLemmas

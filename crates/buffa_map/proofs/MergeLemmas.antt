@@ -28,7 +28,7 @@ module _ {K V : Type 0} (r : Rules K V) (pairs : List (K × V)) (records : List 
     charged = λ ne e rest t room. no_length r.key r.val r.depth bs f (h ne) e rest t;
     most = omega arith;
     least = omega arith;
-    no_slot = λ ne. omega arith
+    no_slot = λ ne. omega arith;
   }
 
   module _ (e rest : List ℕ) (is : delimited_at bs ≡ Ok (e, rest)) where
@@ -47,7 +47,7 @@ module _ {K V : Type 0} (r : Rules K V) (pairs : List (K × V)) (records : List 
           charged = λ ne e rest t room. absurd (omega (arith, room, few));
           most = omega (arith, slots);
           least = omega (arith, slots);
-          no_slot = λ ne. omega (arith, slots)
+          no_slot = λ ne. omega (arith, slots);
         }
 
     module _ (now : Left) (charged : now.memory + r.cost ≡ left.memory) (slots : now.unknown ≡ left.unknown) where
@@ -64,7 +64,7 @@ module _ {K V : Type 0} (r : Rules K V) (pairs : List (K × V)) (records : List 
             charged = λ ne e rest t room. omega (arith, charged, p);
             most = omega (arith, slots, p);
             least = omega (arith, slots, p, taken);
-            no_slot = λ ne. omega (arith, slots, p, taken)
+            no_slot = λ ne. omega (arith, slots, p, taken);
           }
 
       module _ (s : Parts K V) (entry : IsEntry r.key r.val r.depth e s) (over : Left) (p : Pays now (fields_need e) over) where
@@ -75,7 +75,7 @@ module _ {K V : Type 0} (r : Rules K V) (pairs : List (K × V)) (records : List 
           read = entry_found r.key r.val r.depth bs e rest s is entry;
           put = rw known h;
           keeps = rw known (sym (append-nil records));
-          pays = (rw known (omega (arith, slots, p)), omega (arith, charged, p))
+          pays = (rw known (omega (arith, slots, p)), omega (arith, charged, p));
         }
 
         pub is_kept : s.known ≡ false → (kept : List (ℕ × Datum)) (last : Left) → kept ≡ records ++ r.adds r.number e → last.unknown + r.slot ≡ over.unknown → last.memory ≡ over.memory → MergesEntry r (state pairs records left) bs (state pairs kept last) rest
@@ -85,7 +85,7 @@ module _ {K V : Type 0} (r : Rules K V) (pairs : List (K × V)) (records : List 
           read = entry_found r.key r.val r.depth bs e rest s is entry;
           put = rw known (λ q. refl);
           keeps = rw known h;
-          pays = (rw known (omega (arith, slots, p, slot)), omega (arith, charged, p, unit))
+          pays = (rw known (omega (arith, slots, p, slot)), omega (arith, charged, p, unit));
         }
 
         pub not_kept : s.known ≡ false → (kept : List (ℕ × Datum)) (last : Left) (f : DecodeError) → kept ≡ records → last.unknown ≤ over.unknown → over.unknown ≤ last.unknown + r.slot → last.memory ≡ over.memory →
@@ -101,5 +101,5 @@ module _ {K V : Type 0} (r : Rules K V) (pairs : List (K × V)) (records : List 
               charged = λ ne e rest t room. omega (arith, charged, p, unit);
               most = omega (arith, slots, p, most);
               least = omega (arith, slots, p, least, taken);
-              no_slot = λ ne. omega (arith, slots, p, (which ne).2, taken)
+              no_slot = λ ne. omega (arith, slots, p, (which ne).2, taken);
             }

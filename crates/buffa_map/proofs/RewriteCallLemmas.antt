@@ -38,7 +38,7 @@ module _ {K V : Type 0} (rk : Reading K) (rv : Reading V) (key : Writing K) (val
     rewrite = (w.walk, (w.once.0, λ q. read.folded q ∙ w.once.1 q), w.text.0, w.fits, refl);
     text = w.text.1 ∙ ap (λ z. old ++ (field_text key val n w.walk ++ W z)) is_kept;
     paid = read.paid;
-    whole = read.whole
+    whole = read.whole;
   }
 
   pub refuses : (e : EncodeError) → WritesWalk eq key val KeyFits ValFits n pairs kept old {T = Unit {0}} (Err e) new →
@@ -51,5 +51,5 @@ module _ {K V : Type 0} (rk : Reading K) (rv : Reading V) (key : Writing K) (val
     once = (w.once.0, λ q. read.folded q ∙ w.once.1 q);
     text = subst (λ (z : List (ℕ × Datum)). RefusesRewrite key val n z old new w.walk e) is_kept w.text;
     paid = read.paid;
-    whole = read.whole
+    whole = read.whole;
   }

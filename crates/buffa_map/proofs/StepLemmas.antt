@@ -45,7 +45,7 @@ module _ {K V : Type 0} (r : Rules K V) (old : State K V) (bs : List ℕ) where
           folded = h.folded;
           keeps = h.keeps;
           paid = h.paid;
-          whole = is
+          whole = is;
         }
 
     -- the next record is refused before its entry
@@ -63,7 +63,7 @@ module _ {K V : Type 0} (r : Rules K V) (old : State K V) (bs : List ℕ) where
       one_cost = omega arith;
       one_slot = omega arith;
       fault = fault;
-      no_slot = λ ne. omega arith
+      no_slot = λ ne. omega arith;
     }
 
     pub stop_tag : (f : DecodeError) → 0 < length rest → tag_at rest ≡ Err f → StopsRun r old bs now f
@@ -95,7 +95,7 @@ module _ {K V : Type 0} (r : Rules K V) (old : State K V) (bs : List ℕ) where
               one_cost = elim k.units [ inl e ↦ omega (arith, e) | inr e ↦ omega (arith, e.1, units) ];
               one_slot = omega (arith, k.least, taken);
               fault = λ ne. record_entry r.key r.val r.depth r.number r.cost r.slot now.left rest mid g w f tag same wire (k.fault ne);
-              no_slot = λ ne. omega (arith, k.no_slot ne, taken)
+              no_slot = λ ne. omega (arith, k.no_slot ne, taken);
             }
 
         pub one_more : IsEquivalence r.same → (new : State K V) (after : List ℕ) → MergesEntry r now mid new after → Reached new after
@@ -109,7 +109,7 @@ module _ {K V : Type 0} (r : Rules K V) (old : State K V) (bs : List ℕ) where
               run = Run-last r.key r.val r.depth r.number h.front h.entries one.0 x h.run one.1;
               folded = Fold-more laws old.pairs now.pairs new.pairs h.entries x k.says refl h.folded k.put;
               keeps = added-more r.adds r.number old.records now.records new.records h.entries x h.keeps k.keeps;
-              paid = Paid-more r.key r.val r.depth r.cost r.slot old.left now.left new.left h.entries x h.paid k.pays
+              paid = Paid-more r.key r.val r.depth r.cost r.slot old.left now.left new.left h.entries x h.paid k.pays;
             }
 
         pub less : (new : State K V) (after : List ℕ) → MergesEntry r now mid new after → length after < length rest

@@ -4,6 +4,7 @@ pub mod Codec
 pub mod Scalars
 pub mod ScalarLaws
 pub mod Entry
+pub mod Fields
 pub mod Run
 pub mod Merge
 pub mod Lent

@@ -9,13 +9,14 @@ ghost use Rattle.buffa_map.specs.Merge.{MergesEntry, RefusesEntry, dropping, len
 use crate::codec::{MapCodec, MapValueDecode};
 use crate::fields::merge_fields;
 use crate::keep::{Dropped, Keeper};
+use crate::merge_value::{ByCodec, MergeValue};
 use crate::storage::MapStorage;
 use buffa_wire::types::decode_bytes;
 use buffa_wire::{Budget, Buf, DecodeContext, DecodeError, UnknownFields};
 use std::alloc::Global;
 
 // Spends the cost of a pair. A sum past what a number of units can be is more than any budget has.
-pub(crate) fn charge(budget: &mut Budget, key: usize, value: usize) -> Result<(), DecodeError>
+fn charge(budget: &mut Budget, key: usize, value: usize) -> Result<(), DecodeError>
     ensures ok { OnOk result ((budget.new.memory + (key + value) ≡ budget.old.memory) × (budget.new.unknown ≡ budget.old.unknown)) }
     ensures err { OnErr result ((budget.old.memory < key + value) × (budget.new ≡ budget.old)) }
     ensures which { IfErr result (λ e. e ≡ ElementMemoryLimitExceeded) }
@@ -30,8 +31,8 @@ pub(crate) fn charge(budget: &mut Budget, key: usize, value: usize) -> Result<()
 // Merges one entry; one that isn't declared goes to the keeper.
 pub(crate) fn merge_entry_by<
     KC: MapCodec,
-    VC: MapValueDecode,
-    C: MapStorage<Key = KC::Value, Value = VC::Value>,
+    W: MergeValue,
+    C: MapStorage<Key = KC::Value, Value = W::Value>,
     B: Buf,
     L: Keeper,
 >(
@@ -40,26 +41,28 @@ pub(crate) fn merge_entry_by<
     buf: &mut B,
     ctx: DecodeContext<'_>,
     number: u32,
+    how: &W,
     keeper: &mut L,
 ) -> Result<(), DecodeError>
+    requires { W.may how.now ctx.depth }
     ensures ok { OnOk result (MergesEntry
-        (rules KC.reading VC.reading C.equal ctx.entry.depth number (KC.COST + VC.COST) L.slot L.adds)
+        (rules KC.reading W.reading C.equal ctx.entry.depth number (KC.COST + W.COST) L.slot L.adds)
         (state (C.pairs map.old) (L.kept keeper.old) ctx.entry.budget.now) (B.unread buf.old)
         (state (C.pairs map.new) (L.kept keeper.new) (left_in ctx.exit)) (B.unread buf.new)) }
     ensures err { IfErr result (RefusesEntry
-        (rules KC.reading VC.reading C.equal ctx.entry.depth number (KC.COST + VC.COST) L.slot L.adds)
+        (rules KC.reading W.reading C.equal ctx.entry.depth number (KC.COST + W.COST) L.slot L.adds)
         (state (C.pairs map.old) (L.kept keeper.old) ctx.entry.budget.now) (B.unread buf.old)
         (state (C.pairs map.new) (L.kept keeper.new) (left_in ctx.exit))) }
     ensures kept { B.kept buf.new ≡ B.kept buf.old }
 {
     let DecodeContext { depth, budget } = ctx;
     let entry = decode_bytes(alloc, buf)?;
-    charge(&mut *budget, KC::COST, VC::COST)?;
+    charge(&mut *budget, KC::COST, W::COST)?;
     let lent = DecodeContext {
         depth,
         budget: &mut *budget,
     };
-    let parts = merge_fields::<KC, VC>(alloc, &entry, lent)?;
+    let parts = merge_fields::<KC, W>(alloc, &entry, lent, how)?;
     if parts.known {
         match map.storage_insert(parts.key, parts.value) {
             Ok(()) => Ok(()),
@@ -103,7 +106,8 @@ pub fn merge_entry<
         (state (C.pairs map.new) [] (left_in ctx.exit))) }
     ensures kept { B.kept buf.new ≡ B.kept buf.old }
 {
-    merge_entry_by::<KC, VC, C, B, Dropped>(alloc, map, buf, ctx, 0, &mut Dropped)
+    let how = ByCodec::<VC>::new();
+    merge_entry_by::<KC, _, C, B, Dropped>(alloc, map, buf, ctx, 0, &how, &mut Dropped)
 }
 
 /// The same, where an entry with a value that isn't declared is kept, if a list is handed in.
@@ -144,10 +148,19 @@ pub fn merge_entry_with_unknowns<
         (state (C.pairs map.new) (records_left unknown.exit) (left_in ctx.exit))) }
     ensures kept { B.kept buf.new ≡ B.kept buf.old }
 {
+    let how = ByCodec::<VC>::new();
     match unknown {
-        None => merge_entry_by::<KC, VC, C, B, Dropped>(alloc, map, buf, ctx, number, &mut Dropped),
-        Some(list) => merge_entry_by::<KC, VC, C, B, UnknownFields>(
-            alloc, map, buf, ctx, number, list,
+        None => merge_entry_by::<KC, _, C, B, Dropped>(
+            alloc,
+            map,
+            buf,
+            ctx,
+            number,
+            &how,
+            &mut Dropped,
+        ),
+        Some(list) => merge_entry_by::<KC, _, C, B, UnknownFields>(
+            alloc, map, buf, ctx, number, &how, list,
         ),
     }
 }

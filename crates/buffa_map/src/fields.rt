@@ -1,27 +1,30 @@
 //! The fields of an entry.
 
-ghost use Rattle.std.specs.Prelude.{◌≡◌, ◌≢◌, ◌⊎◌, IfErr, IfOk, Ok, OnErr, OnOk};
-ghost use Rattle.buffa_bytes.specs.declared.error.DecodeError.TheVariants.{OutOfMemory};
-ghost use Rattle.buffa_wire.specs.Left.{Lacks, Pays, PaysAtMost, left_in};
-ghost use Rattle.buffa_map.specs.Entry.{FaultOf, FieldFault, IsEntry, blanks, field_at, field_need, need_at, said};
+ghost use Rattle.std.specs.Prelude.{◌≡◌, IfErr, IfOk, OnOk};
+ghost use Rattle.buffa_wire.specs.Left.{left_in};
+ghost use Rattle.buffa_map.specs.Entry.{said};
+ghost use Rattle.buffa_map.specs.Fields.{MergesField, MergesFields, RefusesField, RefusesFields};
 
 use crate::codec::{MapValueDecode, MapValueDecodeStatus};
+use crate::merge_value::MergeValue;
 use crate::parts::Parts;
 use buffa_wire::{Blank, Buf, DecodeContext, DecodeError, Tag, check_wire_type, skip_field_depth};
 use std::alloc::Global;
 
 // Merges the field at the front.
-fn merge_field<KC: MapValueDecode, VC: MapValueDecode, B: Buf>(
+fn merge_field<KC: MapValueDecode, W: MergeValue, B: Buf>(
     alloc: Global,
-    parts: &mut Parts<KC::Value, VC::Value>,
+    parts: &mut Parts<KC::Value, W::Value>,
     buf: &mut B,
     ctx: DecodeContext<'_>,
+    how: &W,
 ) -> Result<(), DecodeError>
-    ensures ok { OnOk result ((field_at KC.reading VC.reading ctx.entry.depth (said KC.Value.meaning VC.Value.meaning parts.old) (B.unread buf.old) ≡ Ok (said KC.Value.meaning VC.Value.meaning parts.new, B.unread buf.new))
-        × Pays ctx.entry.budget.now (field_need KC.reading VC.reading ctx.entry.depth (B.unread buf.old)) (left_in ctx.exit)) }
-    ensures fault { IfErr result (λ e. e ≢ OutOfMemory → Lacks ctx.entry.budget.now (field_need KC.reading VC.reading ctx.entry.depth (B.unread buf.old))
-        ⊎ FieldFault KC.reading VC.reading ctx.entry.depth (said KC.Value.meaning VC.Value.meaning parts.old) (B.unread buf.old) e) }
-    ensures err { OnErr result (PaysAtMost ctx.entry.budget.now (field_need KC.reading VC.reading ctx.entry.depth (B.unread buf.old)) (left_in ctx.exit)) }
+    requires { W.may how.now ctx.depth }
+    ensures ok { OnOk result (MergesField KC.reading W.reading ctx.entry.depth
+        (said KC.Value.meaning W.Value.meaning parts.old) ctx.entry.budget.now (B.unread buf.old)
+        (said KC.Value.meaning W.Value.meaning parts.new) (left_in ctx.exit) (B.unread buf.new)) }
+    ensures err { IfErr result (RefusesField KC.reading W.reading ctx.entry.depth
+        (said KC.Value.meaning W.Value.meaning parts.old) ctx.entry.budget.now (B.unread buf.old) (left_in ctx.exit)) }
     ensures kept { B.kept buf.new ≡ B.kept buf.old }
 {
     let tag = Tag::decode(buf)?;
@@ -29,8 +32,8 @@ fn merge_field<KC: MapValueDecode, VC: MapValueDecode, B: Buf>(
         check_wire_type(tag, KC::WIRE_TYPE)?;
         KC::merge(alloc, &mut parts.key, buf, ctx)?;
     } else if tag.field_number() == 2 {
-        check_wire_type(tag, VC::WIRE_TYPE)?;
-        let status = VC::merge(alloc, &mut parts.value, buf, ctx)?;
+        check_wire_type(tag, W::WIRE_TYPE)?;
+        let status = how.merge(alloc, &mut parts.value, buf, ctx)?;
         parts.known = match status {
             MapValueDecodeStatus::Known => true,
             MapValueDecodeStatus::Unknown => false,
@@ -42,19 +45,21 @@ fn merge_field<KC: MapValueDecode, VC: MapValueDecode, B: Buf>(
 }
 
 // Merges the fields of an entry, all of the bytes.
-pub(crate) fn merge_fields<KC: MapValueDecode, VC: MapValueDecode>(
+pub(crate) fn merge_fields<KC: MapValueDecode, W: MergeValue>(
     alloc: Global,
     bytes: &[u8],
     ctx: DecodeContext<'_>,
-) -> Result<Parts<KC::Value, VC::Value>, DecodeError>
-    ensures entry { IfOk result (λ parts. IsEntry KC.reading VC.reading ctx.entry.depth bytes.now (said KC.Value.meaning VC.Value.meaning parts)) }
-    ensures fault { IfErr result (λ e. e ≢ OutOfMemory → Lacks ctx.entry.budget.now (need_at KC.reading VC.reading ctx.entry.depth (blanks KC.reading VC.reading ctx.entry.depth) bytes.now) ⊎ FaultOf KC.reading VC.reading ctx.entry.depth bytes.now e) }
-    ensures pays { OnOk result (Pays ctx.entry.budget.now (need_at KC.reading VC.reading ctx.entry.depth (blanks KC.reading VC.reading ctx.entry.depth) bytes.now) (left_in ctx.exit)) }
-    ensures err { OnErr result (PaysAtMost ctx.entry.budget.now (need_at KC.reading VC.reading ctx.entry.depth (blanks KC.reading VC.reading ctx.entry.depth) bytes.now) (left_in ctx.exit)) }
+    how: &W,
+) -> Result<Parts<KC::Value, W::Value>, DecodeError>
+    requires { W.may how.now ctx.depth }
+    ensures ok { IfOk result (λ parts. MergesFields KC.reading W.reading ctx.entry.depth bytes.now
+        ctx.entry.budget.now (said KC.Value.meaning W.Value.meaning parts) (left_in ctx.exit)) }
+    ensures err { IfErr result (RefusesFields KC.reading W.reading ctx.entry.depth bytes.now
+        ctx.entry.budget.now (left_in ctx.exit)) }
 {
     let mut parts = Parts {
         key: <KC::Value as Blank>::blank(alloc),
-        value: <VC::Value as Blank>::blank(alloc),
+        value: <W::Value as Blank>::blank(alloc),
         known: true,
     };
     let mut rest = bytes;
@@ -63,7 +68,7 @@ pub(crate) fn merge_fields<KC: MapValueDecode, VC: MapValueDecode>(
             depth: ctx.depth,
             budget: &mut *ctx.budget,
         };
-        merge_field::<KC, VC, &[u8]>(alloc, &mut parts, &mut rest, lent)?;
+        merge_field::<KC, W, &[u8]>(alloc, &mut parts, &mut rest, lent, how)?;
     }
     Ok(parts)
 }

@@ -65,8 +65,15 @@ pub(crate) trait MergeValue {
 }
 
 /// By its codec.
+#[derive(Drop)]
 pub(crate) struct ByCodec<VC> {
     of: PhantomData<VC>,
+}
+
+impl<VC> ByCodec<VC> {
+    pub(crate) fn new() -> ByCodec<VC> {
+        ByCodec { of: PhantomData }
+    }
 }
 
 impl<VC: MapValueDecode> MergeValue for ByCodec<VC> {
@@ -102,14 +109,25 @@ impl<VC: MapValueDecode> MergeValue for ByCodec<VC> {
 }
 
 /// By a function that merges the bytes of a message one level down.
+#[derive(Drop)]
 pub(crate) struct ByFunction<M, F> {
     pub(crate) merge: F,
     of: PhantomData<M>,
 }
 
+impl<M, F> ByFunction<M, F> {
+    pub(crate) fn new(merge: F) -> ByFunction<M, F>
+        ensures { result.merge ≡ merge }
+    {
+        ByFunction {
+            merge,
+            of: PhantomData,
+        }
+    }
+}
+
 impl<M: MessageSpec, F: Fn(&mut M, &[u8], u32, &mut Budget) -> Result<(), DecodeError>> MergeValue
-    for ByFunction<M, F>
-{
+    for ByFunction<M, F> {
     type Value = M;
 
     const WIRE_TYPE: WireType = WireType::LengthDelimited;
@@ -125,7 +143,7 @@ impl<M: MessageSpec, F: Fn(&mut M, &[u8], u32, &mut Budget) -> Result<(), Decode
     ghost may = { λ by d.
         ((x : _) (b : _) (e : _) (w : _) → e + 1 ≡ d → F.pre by.merge x b e w)
         × ((x : _) (b : _) (e : _) (w : _) (r : _) (y : _) (v : _) → e + 1 ≡ d → F.post by.merge x b e w r y v →
-            IsMerged (M.merged e (M.meaning x.now) b.now) (M.cost e b.now) w.now r (M.meaning y.now) v.now) };
+        IsMerged (M.merged e (M.meaning x.now) b.now) (M.cost e b.now) w.now r (M.meaning y.now) v.now) };
 
     fn merge<B: Buf>(
         &self,

@@ -1,24 +1,21 @@
 //! Entries of messages, merged by a function.
 
-ghost use Rattle.std.specs.Prelude.{◌≡◌, ◌≢◌, ◌+◌, ◌⊎◌, List, [], ℕ, IfErr, IfOk, Ok, OnErr, OnOk, Some, true};
+ghost use Rattle.std.specs.Prelude.{◌≡◌, ◌≢◌, ◌+◌, List, [], ℕ, IfErr, Ok, OnErr, OnOk, Some, true};
 ghost use Rattle.buffa_bytes.specs.Reading.{delimited_at};
 ghost use Rattle.buffa_bytes.specs.declared.error.DecodeError.TheVariants.{OutOfMemory};
-ghost use Rattle.buffa_wire.specs.Left.{Lacks, Pays, PaysAtMost, left_in};
+ghost use Rattle.buffa_wire.specs.Left.{Pays, PaysAtMost, left_in};
 ghost use Rattle.buffa_wire.specs.Message.{IsMerged, PayloadFault, cost_in, cost_of_payload, merged_in};
 ghost use Rattle.buffa_map.specs.Codec.{Refuses, Spends, value_at, value_need};
-ghost use Rattle.buffa_map.specs.Entry.{FaultOf, FieldFault, IsEntry, blanks, field_at, field_need, need_at, said};
 ghost use Rattle.buffa_map.specs.Merge.{MergesEntry, RefusesEntry, dropping, state};
 ghost use Rattle.buffa_map.specs.Message.{message_reading};
 
-use crate::codec::{MapCodec, MapValueDecode};
-use crate::entry::charge;
-use crate::parts::Parts;
+use crate::codec::MapCodec;
+use crate::entry::merge_entry_by;
+use crate::keep::Dropped;
+use crate::merge_value::ByFunction;
 use crate::storage::MapStorage;
 use buffa_wire::types::decode_bytes;
-use buffa_wire::{
-    Blank, Budget, Buf, DecodeContext, DecodeError, MessageSpec, Tag, WireType, check_wire_type,
-    skip_field_depth,
-};
+use buffa_wire::{Budget, Buf, DecodeContext, DecodeError, MessageSpec};
 use std::alloc::Global;
 
 // Merges the length and so many bytes at the front, one level down, by a function.
@@ -69,71 +66,6 @@ where
     Ok(())
 }
 
-// Merges the field of an entry at the front.
-fn merge_message_field_by<KC: MapValueDecode, M: MessageSpec, B: Buf, F>(
-    alloc: Global,
-    parts: &mut Parts<KC::Value, M>,
-    buf: &mut B,
-    ctx: DecodeContext<'_>,
-    merge: &F,
-) -> Result<(), DecodeError>
-where
-    F: Fn(&mut M, &[u8], u32, &mut Budget) -> Result<(), DecodeError>,
-    requires may { (x : _) (b : _) (d : _) (w : _) → d + 1 ≡ ctx.depth → F.pre merge.now x b d w }
-    requires keeps { (x : _) (b : _) (d : _) (w : _) (r : _) (y : _) (v : _) → d + 1 ≡ ctx.depth → F.post merge.now x b d w r y v → IsMerged (M.merged d (M.meaning x.now) b.now) (M.cost d b.now) w.now r (M.meaning y.now) v.now }
-    ensures ok { OnOk result ((field_at KC.reading (message_reading M.blank_is M.merged M.cost) ctx.entry.depth (said KC.Value.meaning M.meaning parts.old) (B.unread buf.old) ≡ Ok (said KC.Value.meaning M.meaning parts.new, B.unread buf.new))
-        × Pays ctx.entry.budget.now (field_need KC.reading (message_reading M.blank_is M.merged M.cost) ctx.entry.depth (B.unread buf.old)) (left_in ctx.exit)) }
-    ensures fault { IfErr result (λ e. e ≢ OutOfMemory → Lacks ctx.entry.budget.now (field_need KC.reading (message_reading M.blank_is M.merged M.cost) ctx.entry.depth (B.unread buf.old))
-        ⊎ FieldFault KC.reading (message_reading M.blank_is M.merged M.cost) ctx.entry.depth (said KC.Value.meaning M.meaning parts.old) (B.unread buf.old) e) }
-    ensures err { OnErr result (PaysAtMost ctx.entry.budget.now (field_need KC.reading (message_reading M.blank_is M.merged M.cost) ctx.entry.depth (B.unread buf.old)) (left_in ctx.exit)) }
-    ensures kept { B.kept buf.new ≡ B.kept buf.old }
-{
-    let tag = Tag::decode(buf)?;
-    if tag.field_number() == 1 {
-        check_wire_type(tag, KC::WIRE_TYPE)?;
-        KC::merge(alloc, &mut parts.key, buf, ctx)?;
-    } else if tag.field_number() == 2 {
-        check_wire_type(tag, WireType::LengthDelimited)?;
-        merge_value_by::<M, B, F>(alloc, &mut parts.value, buf, ctx, merge)?;
-        parts.known = true;
-    } else {
-        skip_field_depth(tag, buf, ctx.depth)?;
-    }
-    Ok(())
-}
-
-// Merges the fields of an entry, all of the bytes.
-fn merge_message_fields_by<KC: MapValueDecode, M: MessageSpec, F>(
-    alloc: Global,
-    bytes: &[u8],
-    ctx: DecodeContext<'_>,
-    merge: &F,
-) -> Result<Parts<KC::Value, M>, DecodeError>
-where
-    F: Fn(&mut M, &[u8], u32, &mut Budget) -> Result<(), DecodeError>,
-    requires may { (x : _) (b : _) (d : _) (w : _) → d + 1 ≡ ctx.depth → F.pre merge.now x b d w }
-    requires keeps { (x : _) (b : _) (d : _) (w : _) (r : _) (y : _) (v : _) → d + 1 ≡ ctx.depth → F.post merge.now x b d w r y v → IsMerged (M.merged d (M.meaning x.now) b.now) (M.cost d b.now) w.now r (M.meaning y.now) v.now }
-    ensures entry { IfOk result (λ parts. IsEntry KC.reading (message_reading M.blank_is M.merged M.cost) ctx.entry.depth bytes.now (said KC.Value.meaning M.meaning parts)) }
-    ensures fault { IfErr result (λ e. e ≢ OutOfMemory → Lacks ctx.entry.budget.now (need_at KC.reading (message_reading M.blank_is M.merged M.cost) ctx.entry.depth (blanks KC.reading (message_reading M.blank_is M.merged M.cost) ctx.entry.depth) bytes.now) ⊎ FaultOf KC.reading (message_reading M.blank_is M.merged M.cost) ctx.entry.depth bytes.now e) }
-    ensures pays { OnOk result (Pays ctx.entry.budget.now (need_at KC.reading (message_reading M.blank_is M.merged M.cost) ctx.entry.depth (blanks KC.reading (message_reading M.blank_is M.merged M.cost) ctx.entry.depth) bytes.now) (left_in ctx.exit)) }
-    ensures err { OnErr result (PaysAtMost ctx.entry.budget.now (need_at KC.reading (message_reading M.blank_is M.merged M.cost) ctx.entry.depth (blanks KC.reading (message_reading M.blank_is M.merged M.cost) ctx.entry.depth) bytes.now) (left_in ctx.exit)) }
-{
-    let mut parts = Parts {
-        key: <KC::Value as Blank>::blank(alloc),
-        value: <M as Blank>::blank(alloc),
-        known: true,
-    };
-    let mut rest = bytes;
-    while rest.remaining() > 0 {
-        let lent = DecodeContext {
-            depth: ctx.depth,
-            budget: &mut *ctx.budget,
-        };
-        merge_message_field_by::<KC, M, &[u8], F>(alloc, &mut parts, &mut rest, lent, merge)?;
-    }
-    Ok(parts)
-}
-
 /// Merges one entry of a map field of messages, by a function that merges a message's bytes.
 ///
 /// The function may be called at one level less, and is asked for nothing at others; so a type that holds
@@ -166,20 +98,6 @@ pub fn merge_message_entry_by<
         (state (C.pairs map.new) [] (left_in ctx.exit))) }
     ensures kept { B.kept buf.new ≡ B.kept buf.old }
 {
-    let DecodeContext { depth, budget } = ctx;
-    let entry = decode_bytes(alloc, buf)?;
-    charge(&mut *budget, KC::COST, M::COST)?;
-    let lent = DecodeContext {
-        depth,
-        budget: &mut *budget,
-    };
-    let parts = merge_message_fields_by::<KC, M, F>(alloc, &entry, lent, &merge)?;
-    if parts.known {
-        match map.storage_insert(parts.key, parts.value) {
-            Ok(()) => Ok(()),
-            Err(_) => Err(DecodeError::OutOfMemory),
-        }
-    } else {
-        Ok(())
-    }
+    let how = ByFunction::new(merge);
+    merge_entry_by::<KC, _, C, B, Dropped>(alloc, map, buf, ctx, 0, &how, &mut Dropped)
 }

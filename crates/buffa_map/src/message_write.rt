@@ -118,12 +118,7 @@ pub fn write_message_field<
     M: Message + 'a,
     C: StableWalk<'a> + MapStorage<Key = KC::Value, Value = M>,
     S: EncodeSink,
->(
-    map: &'a C,
-    field_number: u32,
-    cache: &mut SizeCache,
-    sink: &mut S,
-) -> Result<(), EncodeError>
+>(map: &'a C, field_number: u32, cache: &mut SizeCache, sink: &mut S) -> Result<(), EncodeError>
 where
     KC::Value: 'a,
     requires number { IsNumber field_number }

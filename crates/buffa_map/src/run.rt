@@ -8,6 +8,7 @@ ghost use Rattle.buffa_map.specs.Merge.{ReadsRun, StopsRun, lending, rules, stat
 use crate::codec::{MapCodec, MapValueDecode};
 use crate::entry::merge_entry_by;
 use crate::keep::{Dropped, Keeper};
+use crate::merge_value::ByCodec;
 use crate::storage::MapStorage;
 use buffa_wire::{Buf, DecodeContext, DecodeError, Tag, UnknownFields, WireType, check_wire_type};
 use std::alloc::Global;
@@ -38,6 +39,7 @@ pub(crate) fn read_run_by<
     ensures kept { B.kept buf.new ≡ B.kept buf.old }
 {
     let DecodeContext { depth, budget } = ctx;
+    let how = ByCodec::<VC>::new();
     'records: while buf.remaining() > 0 {
         let tag = Tag::decode(buf)?;
         if tag.field_number() != number {
@@ -48,7 +50,7 @@ pub(crate) fn read_run_by<
             depth,
             budget: &mut *budget,
         };
-        merge_entry_by::<KC, VC, C, B, L>(alloc, map, buf, lent, number, keeper)?;
+        merge_entry_by::<KC, _, C, B, L>(alloc, map, buf, lent, number, &how, keeper)?;
     }
     Ok(())
 }

@@ -42,7 +42,11 @@ fn write_entry<KC: MapCodec, VC: MapCodec, S: EncodeSink>(
 
 // Writes the tag and the length of a record.
 #[tactic(auto, using(buffa_bytes::proofs::SinkLemmas::writes_then, buffa_bytes::proofs::SinkLemmas::front_first))]
-pub(crate) fn write_head<S: EncodeSink>(number: u32, len: u64, sink: &mut S) -> Result<(), EncodeError>
+pub(crate) fn write_head<S: EncodeSink>(
+    number: u32,
+    len: u64,
+    sink: &mut S,
+) -> Result<(), EncodeError>
     requires { IsNumber number }
     ensures { Writes result (S.written sink.old) (tag_text number WireType.LengthDelimited ++ V len) (S.written sink.new) }
 {

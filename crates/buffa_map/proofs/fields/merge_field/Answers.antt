@@ -1,62 +1,56 @@
-use Rattle.std.proofs.Common.{◌≡◌, ◌∙◌, Result, Ok, inr, refl, sym, ap}
+use Rattle.std.proofs.Common.{◌≡◌, ◌∙◌, Result, sym, ap}
 use Rattle.buffa_bytes.specs.declared.error.DecodeError.{DecodeError}
 use Rattle.buffa_map.specs.declared.codec.MapValueDecodeStatus.{MapValueDecodeStatus}
 use Rattle.std.proofs.lemmas.Result.{err_from_is_err_and}
 use Rattle.buffa_map.specs.Codec.{is_known}
-use Rattle.buffa_map.specs.Entry.{said}
-use Rattle.buffa_map.proofs.EntryLemmas.{refused_in, spent_in, value_free}
-use Rattle.buffa_map.proofs.NeedLemmas.{checked, field_broken, key_mismatch, key_refused, other_broken, value_merged, value_mismatch, value_refused}
+use Rattle.buffa_map.proofs.FieldsLemmas.{bad_key, bad_other, bad_value, good_value, no_tag, wrong_key, wrong_value}
 use Rattle.buffa_map.proofs.fields.merge_field.Goals as goal
 use Rattle.buffa_map.proofs.fields.merge_field.Goals.{in-Known, in-Unknown}
 
-pub returns-in_err-tag-clause-fault : goal.returns-in_err-tag-clause-fault
-returns-in_err-tag-clause-fault g c =
+pub returns-in_err-tag-clause-err : goal.returns-in_err-tag-clause-err
+returns-in_err-tag-clause-err g c =
     let p = err_from_is_err_and c.from_residual.result c.from_residual.ensures.1 in
-    rw (p.1, p.2) (λ ne. inr (field_broken g.KC.MapValueDecode.reading g.VC.MapValueDecode.reading c.args.ctx.depth (said g.KC.Value.Blank.meaning g.VC.Value.Blank.meaning c.args.parts.now) (g.B.Buf.unread c.args.buf.now) c.in_err-tag.field-0.0 (rw c.in_err-tag.ensures.reads refl)))
+    rw (p.1, p.2) (no_tag _ _ _ _ _ _ c.in_err-tag.field-0.0 c.in_err-tag.ensures.reads)
 
-pub returns-in_err-check_wire_type-clause-fault : goal.returns-in_err-check_wire_type-clause-fault
-returns-in_err-check_wire_type-clause-fault g c =
+pub returns-in_err-check_wire_type-clause-err : goal.returns-in_err-check_wire_type-clause-err
+returns-in_err-check_wire_type-clause-err g c =
     let p = err_from_is_err_and c.from_residual-in_err-check_wire_type.result c.from_residual-in_err-check_wire_type.ensures.1 in
     let one = sym c.field_number.ensures ∙ c.if-field_number-eq1.true in
     let wire = c.WIRE_TYPE.ensures ∙ sym g.met.KC.MapValueDecode.wire in
-    rw (p.1, p.2) (λ ne. inr (key_mismatch g.KC.MapValueDecode.reading g.VC.MapValueDecode.reading c.args.ctx.depth (said g.KC.Value.Blank.meaning g.VC.Value.Blank.meaning c.args.parts.now) (g.B.Buf.unread c.args.buf.now) (g.B.Buf.unread c.decode.new.buf) c.in_ok-tag.tag.number c.WIRE_TYPE.result c.in_ok-tag.tag.wire_type c.in_err-check_wire_type.field-0.0 c.in_ok-tag.ensures.reads one wire c.in_err-check_wire_type.ensures))
+    rw (p.1, p.2) (wrong_key _ _ _ _ _ _ _ _ _ c.in_ok-tag.ensures.reads one c.WIRE_TYPE.result wire c.in_err-check_wire_type.field-0.0 c.in_err-check_wire_type.ensures)
 
-pub returns-in_err-merge-clause-fault : goal.returns-in_err-merge-clause-fault
-returns-in_err-merge-clause-fault g c =
+pub returns-in_err-merge-clause-err : goal.returns-in_err-merge-clause-err
+returns-in_err-merge-clause-err g c =
     let p = err_from_is_err_and c.from_residual-in_err-merge.result c.from_residual-in_err-merge.ensures.1 in
-    let key = g.KC.MapValueDecode.reading in
     let one = sym c.field_number.ensures ∙ c.if-field_number-eq1.true in
-    let same = checked c.in_ok-tag.tag.number c.WIRE_TYPE.result c.in_ok-tag.tag.wire_type c.in_ok-check_wire_type.ensures ∙ c.WIRE_TYPE.ensures ∙ sym g.met.KC.MapValueDecode.wire in
-    rw (p.1, p.2) (λ ne. key_refused g.KC.MapValueDecode.reading g.VC.MapValueDecode.reading c.args.ctx.depth (said g.KC.Value.Blank.meaning g.VC.Value.Blank.meaning c.args.parts.now) (g.B.Buf.unread c.args.buf.now) (g.B.Buf.unread c.decode.new.buf) c.in_ok-tag.tag.number c.in_ok-tag.tag.wire_type c.args.ctx.budget.now c.in_err-merge.field-0.0 c.in_ok-tag.ensures.reads one same
-    (refused_in key c.args.ctx.depth (g.KC.Value.Blank.meaning c.args.parts.now.key) key.nested (g.B.Buf.unread c.decode.new.buf) c.args.ctx.budget.now c.in_err-merge.field-0.0 (c.in_err-merge.ensures.fault ne)))
+    let wire = c.WIRE_TYPE.ensures ∙ sym g.met.KC.MapValueDecode.wire in
+    rw (p.1, p.2) (bad_key _ _ _ _ _ _ _ _ _ c.in_ok-tag.ensures.reads one c.WIRE_TYPE.result wire MapValueDecodeStatus _ c.in_err-merge.field-0.0 c.in_ok-check_wire_type.ensures
+    (λ plain. g.met.KC.MapValueDecode.free plain c.args.ctx.depth) (λ ne. c.in_err-merge.ensures.fault ne) c.in_err-merge.ensures.spends)
 
-pub returns-in_err-check_wire_type-2-clause-fault : goal.returns-in_err-check_wire_type-2-clause-fault
-returns-in_err-check_wire_type-2-clause-fault g c =
+pub returns-in_err-check_wire_type-2-clause-err : goal.returns-in_err-check_wire_type-2-clause-err
+returns-in_err-check_wire_type-2-clause-err g c =
     let p = err_from_is_err_and c.from_residual-in_err-check_wire_type-2.result c.from_residual-in_err-check_wire_type-2.ensures.1 in
-    let wire = c.WIRE_TYPE-then-field_number-eq2.ensures ∙ sym g.met.VC.MapValueDecode.wire in
-    rw (p.1, p.2) (λ ne. inr (value_mismatch g.KC.MapValueDecode.reading g.VC.MapValueDecode.reading c.args.ctx.depth (said g.KC.Value.Blank.meaning g.VC.Value.Blank.meaning c.args.parts.now) (g.B.Buf.unread c.args.buf.now) (g.B.Buf.unread c.decode.new.buf) c.in_ok-tag.tag.number c.WIRE_TYPE-then-field_number-eq2.result c.in_ok-tag.tag.wire_type c.in_err-check_wire_type-2.field-0.0 c.in_ok-tag.ensures.reads
-    (λ e. c.if-field_number-eq1.false (c.field_number.ensures ∙ e)) (sym c.field_number-else-field_number-eq1.ensures ∙ c.if-field_number-eq2.true) wire c.in_err-check_wire_type-2.ensures))
+    let wire = c.WIRE_TYPE-then-field_number-eq2.ensures ∙ sym g.met.W.MergeValue.wire in
+    rw (p.1, p.2) (wrong_value _ _ _ _ _ _ _ _ _ c.in_ok-tag.ensures.reads (λ e. c.if-field_number-eq1.false (c.field_number.ensures ∙ e)) (sym c.field_number-else-field_number-eq1.ensures ∙ c.if-field_number-eq2.true)
+    c.WIRE_TYPE-then-field_number-eq2.result wire c.in_err-check_wire_type-2.field-0.0 c.in_err-check_wire_type-2.ensures)
 
-pub returns-in_err-status-clause-fault : goal.returns-in_err-status-clause-fault
-returns-in_err-status-clause-fault g c =
+pub returns-in_err-status-clause-err : goal.returns-in_err-status-clause-err
+returns-in_err-status-clause-err g c =
     let p = err_from_is_err_and c.from_residual-in_err-status.result c.from_residual-in_err-status.ensures.1 in
-    let val = g.VC.MapValueDecode.reading in
-    let same = checked c.in_ok-tag.tag.number c.WIRE_TYPE-then-field_number-eq2.result c.in_ok-tag.tag.wire_type c.in_ok-check_wire_type-2.ensures ∙ c.WIRE_TYPE-then-field_number-eq2.ensures ∙ sym g.met.VC.MapValueDecode.wire in
-    rw (p.1, p.2) (λ ne. value_refused g.KC.MapValueDecode.reading g.VC.MapValueDecode.reading c.args.ctx.depth (said g.KC.Value.Blank.meaning g.VC.Value.Blank.meaning c.args.parts.now) (g.B.Buf.unread c.args.buf.now) (g.B.Buf.unread c.decode.new.buf) c.in_ok-tag.tag.number c.in_ok-tag.tag.wire_type c.args.ctx.budget.now c.in_err-status.field-0.0 c.in_ok-tag.ensures.reads (λ e. c.if-field_number-eq1.false (c.field_number.ensures ∙ e)) (sym c.field_number-else-field_number-eq1.ensures ∙ c.if-field_number-eq2.true) same
-    (refused_in val c.args.ctx.depth (g.VC.Value.Blank.meaning c.args.parts.now.value) val.nested (g.B.Buf.unread c.decode.new.buf) c.args.ctx.budget.now c.in_err-status.field-0.0 (c.in_err-status.ensures.fault ne)))
+    let wire = c.WIRE_TYPE-then-field_number-eq2.ensures ∙ sym g.met.W.MergeValue.wire in
+    rw (p.1, p.2) (bad_value _ _ _ _ _ _ _ _ _ c.in_ok-tag.ensures.reads (λ e. c.if-field_number-eq1.false (c.field_number.ensures ∙ e)) (sym c.field_number-else-field_number-eq1.ensures ∙ c.if-field_number-eq2.true)
+    c.WIRE_TYPE-then-field_number-eq2.result wire c.in_ok-check_wire_type-2.ensures (λ plain. g.met.W.MergeValue.free plain c.args.ctx.depth) MapValueDecodeStatus _ c.in_err-status.field-0.0 (λ ne. c.in_err-status.ensures.fault ne) c.in_err-status.ensures.spends)
 
-pub returns-in_err-skip_field_depth-clause-fault : goal.returns-in_err-skip_field_depth-clause-fault
-returns-in_err-skip_field_depth-clause-fault g c =
+pub returns-in_err-skip_field_depth-clause-err : goal.returns-in_err-skip_field_depth-clause-err
+returns-in_err-skip_field_depth-clause-err g c =
     let p = err_from_is_err_and c.from_residual-in_err-skip_field_depth.result c.from_residual-in_err-skip_field_depth.ensures.1 in
-    rw (p.1, p.2) (λ ne. inr (other_broken g.KC.MapValueDecode.reading g.VC.MapValueDecode.reading c.args.ctx.depth (said g.KC.Value.Blank.meaning g.VC.Value.Blank.meaning c.args.parts.now) (g.B.Buf.unread c.args.buf.now) (g.B.Buf.unread c.decode.new.buf) c.in_ok-tag.tag.number c.in_ok-tag.tag.wire_type c.in_err-skip_field_depth.field-0.0 c.in_ok-tag.ensures.reads (λ e. c.if-field_number-eq1.false (c.field_number.ensures ∙ e)) (λ e. c.if-field_number-eq2.false (c.field_number-else-field_number-eq1.ensures ∙ e)) c.in_err-skip_field_depth.ensures.reads))
+    rw (p.1, p.2) (bad_other _ _ _ _ _ _ _ _ _ c.in_ok-tag.ensures.reads c.in_err-skip_field_depth.field-0.0 (λ e. c.if-field_number-eq1.false (c.field_number.ensures ∙ e))
+    (λ e. c.if-field_number-eq2.false (c.field_number-else-field_number-eq1.ensures ∙ e)) c.in_err-skip_field_depth.ensures.reads)
 
 pub returns-after-status-clause-ok : goal.returns-after-status-clause-ok
 returns-after-status-clause-ok g c =
-    let val = g.VC.MapValueDecode.reading in
-    let same = checked c.in_ok-tag.tag.number c.WIRE_TYPE-then-field_number-eq2.result c.in_ok-tag.tag.wire_type c.in_ok-check_wire_type-2.ensures ∙ c.WIRE_TYPE-then-field_number-eq2.ensures ∙ sym g.met.VC.MapValueDecode.wire in
-    let answered : Result MapValueDecodeStatus DecodeError = Ok c.in_ok-status.status in
+    let wire = c.WIRE_TYPE-then-field_number-eq2.ensures ∙ sym g.met.W.MergeValue.wire in
     let known : is_known c.in_ok-status.status ≡ c.match-status.parts =
     elim c.match-status.branch [ in-Known w ↦ ap is_known w.in-Known.is ∙ sym w.parts-is | in-Unknown w ↦ ap is_known w.in-Unknown.is ∙ sym w.parts-is ] in
-    value_merged g.KC.MapValueDecode.reading g.VC.MapValueDecode.reading c.args.ctx.depth (said g.KC.Value.Blank.meaning g.VC.Value.Blank.meaning c.args.parts.now) (g.B.Buf.unread c.args.buf.now) (g.B.Buf.unread c.decode.new.buf) (g.B.Buf.unread c.merge-then-field_number-eq2.new.buf) c.in_ok-tag.tag.number c.in_ok-tag.tag.wire_type (g.VC.Value.Blank.meaning c.merge-then-field_number-eq2.new.value) (is_known c.in_ok-status.status) c.match-status.parts c.args.ctx.budget.now _ c.in_ok-tag.ensures.reads (λ e. c.if-field_number-eq1.false (c.field_number.ensures ∙ e)) (sym c.field_number-else-field_number-eq1.ensures ∙ c.if-field_number-eq2.true) same
-    c.in_ok-status.ensures.ok known
-    (spent_in val.nested answered c.args.ctx.budget.now _ _ (λ plain. value_free val c.args.ctx.depth val.blank (g.B.Buf.unread c.decode.new.buf) (g.met.VC.MapValueDecode.free plain c.args.ctx.depth)) c.in_ok-status.ensures.spends)
+    good_value _ _ _ _ _ _ _ _ _ c.in_ok-tag.ensures.reads (λ e. c.if-field_number-eq1.false (c.field_number.ensures ∙ e)) (sym c.field_number-else-field_number-eq1.ensures ∙ c.if-field_number-eq2.true)
+    c.WIRE_TYPE-then-field_number-eq2.result wire c.in_ok-check_wire_type-2.ensures (λ plain. g.met.W.MergeValue.free plain c.args.ctx.depth) c.in_ok-status.status _ _ _ _ _ c.in_ok-status.ensures.ok known c.in_ok-status.ensures.spends

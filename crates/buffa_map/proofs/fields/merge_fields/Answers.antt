@@ -1,51 +1,27 @@
-use Rattle.std.proofs.Common.{arith, ap, ◌<◌, length, refl}
+use Rattle.std.proofs.Common.{arith, ◌<◌, ◌∙◌, true, length, refl, sym}
 use Rattle.std.proofs.lemmas.Result.{err_from_is_err_and}
-use Rattle.buffa_wire.specs.Left.{Left}
-use Rattle.buffa_map.specs.Entry.{said}
-use Rattle.buffa_map.proofs.EntryLemmas.{field_step, field_shorter}
-use Rattle.buffa_map.proofs.NeedLemmas.{fields_fault, fields_spent, need_end, need_step}
+use Rattle.buffa_map.proofs.FieldsLemmas.{all_fields, bad_field, fewer, no_field, one_field}
 use Rattle.buffa_map.proofs.fields.merge_fields.Goals as goal
 
+pub loop-rest-init : goal.loop-rest-init
+loop-rest-init g c =
+    let key = c.blank.ensures ∙ sym g.met.KC.MapValueDecode.blank in
+    let val = c.blank-2.ensures ∙ sym g.met.W.MergeValue.blank in
+    (no_field _ _ _ _ _ _ (λ i. record { key = key i; value = val i; known = true }), refl)
+
 pub loop-rest-smaller : goal.loop-rest-smaller
-loop-rest-smaller g c =
-    let m = said g.KC.Value.Blank.meaning g.VC.Value.Blank.meaning in
-    field_shorter g.KC.MapValueDecode.reading g.VC.MapValueDecode.reading c.args.ctx.depth (m c.loop-rest.parts) (m c.merge_field.new.parts) c.loop-rest.rest.now c.merge_field.new.buf.now c.in_ok-merge_field.ensures.ok.0
+loop-rest-smaller g c = fewer _ _ _ _ _ _ _ _ c.loop-rest.invariant.0 _ _ _ c.in_ok-merge_field.ensures.ok
 
 pub loop-rest-preserved : goal.loop-rest-preserved
 loop-rest-preserved g c =
-    let m = said g.KC.Value.Blank.meaning g.VC.Value.Blank.meaning in
-    let inv = c.loop-rest.invariant in
-    let ok = c.in_ok-merge_field.ensures.ok in
     let some : 0 < length c.loop-rest.rest.now = omega (arith, c.remaining.ensures, c.loop-rest-test.true) in
-    let e = need_step g.KC.MapValueDecode.reading g.VC.MapValueDecode.reading c.args.ctx.depth (m c.loop-rest.parts) (m c.merge_field.new.parts) c.loop-rest.rest.now c.merge_field.new.buf.now some ok.0 in
-    record {
-      reached = field_step g.KC.MapValueDecode.reading g.VC.MapValueDecode.reading c.args.ctx.depth c.args.bytes.now (m c.loop-rest.parts) (m c.merge_field.new.parts) c.loop-rest.rest.now c.merge_field.new.buf.now inv.reached ok.0;
-      depth = refl;
-      unknown = omega (arith, inv.unknown, ok.1.0, ap (λ (z : Left). z.unknown) e);
-      memory = omega (arith, inv.memory, ok.1.1, ap (λ (z : Left). z.memory) e);
-      no_slot = omega (arith, inv.no_slot, ok.1.0);
-      no_unit = omega (arith, inv.no_unit, ok.1.1);
-    }
-
-pub returns-in_err-merge_field-clause-fault : goal.returns-in_err-merge_field-clause-fault
-returns-in_err-merge_field-clause-fault g c =
-    let p = err_from_is_err_and c.from_residual.result c.from_residual.ensures.1 in
-    let m = said g.KC.Value.Blank.meaning g.VC.Value.Blank.meaning in
-    let inv = c.loop-rest.invariant in
-    let some : 0 < length c.loop-rest.rest.now = omega (arith, c.remaining.ensures, c.loop-rest-test.true) in
-    rw (p.1, p.2) (λ ne. fields_fault g.KC.MapValueDecode.reading g.VC.MapValueDecode.reading c.args.ctx.depth c.args.bytes.now (m c.loop-rest.parts) c.loop-rest.rest.now c.args.ctx.budget.now c.loop-rest.ctx.budget.now some inv.unknown inv.memory c.in_err-merge_field.field-0.0 inv.reached (c.in_err-merge_field.ensures.fault ne))
+    (one_field _ _ _ _ _ _ _ _ c.loop-rest.invariant.0 _ _ _ some c.in_ok-merge_field.ensures.ok, refl)
 
 pub returns-in_err-merge_field-clause-err : goal.returns-in_err-merge_field-clause-err
 returns-in_err-merge_field-clause-err g c =
     let p = err_from_is_err_and c.from_residual.result c.from_residual.ensures.1 in
-    let m = said g.KC.Value.Blank.meaning g.VC.Value.Blank.meaning in
-    let inv = c.loop-rest.invariant in
     let some : 0 < length c.loop-rest.rest.now = omega (arith, c.remaining.ensures, c.loop-rest-test.true) in
-    rw p.1 (fields_spent g.KC.MapValueDecode.reading g.VC.MapValueDecode.reading c.args.ctx.depth c.args.bytes.now (m c.loop-rest.parts) c.loop-rest.rest.now c.args.ctx.budget.now c.loop-rest.ctx.budget.now some inv.unknown inv.memory _ inv.no_slot inv.no_unit c.in_err-merge_field.ensures.err)
+    rw (p.1, p.2) (bad_field _ _ _ _ _ _ _ _ c.loop-rest.invariant.0 _ c.in_err-merge_field.field-0.0 some c.in_err-merge_field.ensures.err)
 
-pub returns-clause-pays : goal.returns-clause-pays
-returns-clause-pays g c =
-    let m = said g.KC.Value.Blank.meaning g.VC.Value.Blank.meaning in
-    let inv = c.loop-rest.invariant in
-    let e = need_end g.KC.MapValueDecode.reading g.VC.MapValueDecode.reading c.args.ctx.depth (m c.loop-rest.parts) c.loop-rest.rest.now (omega (arith, c.remaining.ensures, c.loop-rest-test.false)) in
-    (omega (arith, inv.unknown, ap (λ (z : Left). z.unknown) e), omega (arith, inv.memory, ap (λ (z : Left). z.memory) e))
+pub returns-clause-ok : goal.returns-clause-ok
+returns-clause-ok g c = all_fields _ _ _ _ _ _ _ _ c.loop-rest.invariant.0 (omega (arith, c.remaining.ensures, c.loop-rest-test.false))

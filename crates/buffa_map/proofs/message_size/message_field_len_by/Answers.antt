@@ -90,10 +90,11 @@ loop-key-preserved g c =
           ∙ ap (λ l. cap (c.loop-key.total + field_size key (delimited_writing text) c.args.outer_tag_len l)) (sym n) ∙ i.capped;
       exact = λ small.
           let o : IsSmallField key text now = (i.exact small).0 in
-          let u : IsSmallField key text (m ∷ rest) = subst (λ l. IsSmallField key text l) n o in
-          (u.1,
-          size_exact key text m c.in_ok-inner.inner t.0 c.args.outer_tag_len c.loop-key.total left c.message_record_len.result c.saturating_add-total.result c.message_record_len.ensures c.saturating_add-total.ensures u.0.0 u.0.1
-          ∙ ap (λ l. saturated (c.loop-key.total + field_size key (delimited_writing text) c.args.outer_tag_len l)) (sym n) ∙ (i.exact small).1);
+          let u : IsSmallField key text (m ∷ rest) = subst (λ l. IsSmallField key text l) n o in (
+            u.1,
+            size_exact key text m c.in_ok-inner.inner t.0 c.args.outer_tag_len c.loop-key.total left c.message_record_len.result c.saturating_add-total.result c.message_record_len.ensures c.saturating_add-total.ensures u.0.0 u.0.1
+                ∙ ap (λ l. saturated (c.loop-key.total + field_size key (delimited_writing text) c.args.outer_tag_len l)) (sym n) ∙ (i.exact small).1,
+          );
       cache = appended_twice _ (field_slots text slots rest) _ _ added
           ∙ ap (λ (x : ℕ). appended (x ∷ slots m.1 ++ field_slots text slots rest) c.loop-key.cache) t.0
           ∙ ap (λ l. appended (field_slots text slots l) c.loop-key.cache) (sym n) ∙ i.cache;

@@ -13,7 +13,7 @@ returns-in_err-storage_write g c =
       walk = w.0;
       once = w.1;
       text = rewrite_refused g.KC.MapCodec.writing g.VC.MapCodec.writing c.args.number c.args.kept.now.records q.1 q.2 old new w.0 w.2;
-      fits = rw q.1 tt
+      fits = rw q.1 tt;
     }
 
 pub returns : goal.returns
@@ -26,5 +26,5 @@ returns g c =
       walk = w.0;
       once = w.1;
       text = rewrite_written g.KC.MapCodec.writing g.VC.MapCodec.writing c.args.number c.args.kept.now.records c.write_to.result old mid new w.0 w.2.0 w.2.1 c.write_to.ensures;
-      fits = OnOk-always c.write_to.result w.3
+      fits = OnOk-always c.write_to.result w.3;
     }
