@@ -16,7 +16,7 @@ use Rattle.buffa_bytes.proofs.VarintLemmas.{Var-V}
 use Rattle.buffa_map.specs.Codec.{Reading, Writing}
 use Rattle.buffa_map.specs.Entry.{IsCodecField, IsEntry, IsField, blanks}
 use Rattle.buffa_map.specs.Pairs.{put}
-use Rattle.buffa_map.specs.Run.{Fold, IsRecord, Run, Said, pair_parts}
+use Rattle.buffa_map.specs.Run.{Fold, IsRecord, Kept, Run, Said, pair_parts}
 use Rattle.buffa_map.specs.Text.{AllHold, HasText, entry_text, field_text, record_text}
 use Rattle.buffa_map.specs.declared.parts.Parts.{Parts}
 
@@ -83,3 +83,8 @@ module _ {K W : Type 0} {eq : K → K → Bool} (laws : IsEquivalence eq) where
 pub both_hold : {K W : Type 0} (P R : K → Type 0) (Q S : W → Type 0) (l : List (K × W)) → AllHold P Q l → AllHold R S l → AllHold (λ k. P k × R k) (λ v. Q v × S v) l
 both_hold P R Q S [] a b = tt
 both_hold P R Q S (p ∷ ps) a b = ((a.0, b.0), (a.1, b.1), both_hold P R Q S ps a.2 b.2)
+
+-- each pair's entry is declared
+pub all_declared : {K W : Type 0} (say : K × W → Said K W) → ((p : K × W) → (say p).parts.known ≡ true) → (l : List (K × W)) → Kept (map say l) ≡ []
+all_declared say is [] = refl
+all_declared say is (p ∷ l) = rw (is p) (all_declared say is l)

@@ -1,5 +1,5 @@
 -- A field of an entry that was merged, or refused, at each place where reading it ends; and the fields of an entry.
-use Rattle.std.proofs.Common.{arith, ◌≡◌, ◌≢◌, ◌+◌, ◌<◌, ◌≤◌, ◌⊎◌, inl, inr, ℕ, Bool, true, false, List, [], ◌∷◌, Result, Ok, Err, length, ap, refl, subst, sym, ◌∙◌}
+use Rattle.std.proofs.Common.{arith, ◌≡◌, ◌≢◌, ◌+◌, ◌<◌, ◌≤◌, inr, ℕ, Bool, false, List, [], ◌∷◌, Ok, Err, length, ap, refl, subst, sym, ◌∙◌}
 use Rattle.buffa_bytes.specs.declared.error.DecodeError.{DecodeError}
 use Rattle.buffa_bytes.specs.declared.error.DecodeError.TheVariants.{OutOfMemory}
 use Rattle.buffa_bytes.specs.declared.wire_type.WireType.{WireType}
@@ -8,7 +8,7 @@ use Rattle.buffa_wire.specs.Left.{Left, Pays, PaysAtMost, nothing}
 use Rattle.buffa_wire.specs.Reading.{check_wire, skip_at, tag_at}
 use Rattle.buffa_map.specs.Along.{Leads}
 use Rattle.buffa_map.specs.Codec.{Reading, Refuses, Spends, value_at, value_need}
-use Rattle.buffa_map.specs.Entry.{FieldFault, IsField, blanks, field_at, field_need, need_at}
+use Rattle.buffa_map.specs.Entry.{FieldFault, IsField, blanks, need_at}
 use Rattle.buffa_map.specs.Fields.{MergesField, MergesFields, RefusesField, RefusesFields}
 use Rattle.buffa_map.specs.declared.parts.Parts.{Parts}
 use Rattle.buffa_map.proofs.EntryLemmas.{field_shorter, field_step, refused_in, spent_in, value_free}
@@ -34,7 +34,7 @@ module _ {K V : Type 0} (key : Reading K) (val : Reading V) (d : ℕ) (s : Parts
           let paid : PaysAtMost left (value_need key d rest) over = spent_in {T = T} key.nested (Err f) left (value_need key d rest) over (λ plain. value_free key d s.key rest (free plain)) spent in
           record {
             fault = λ ne. key_refused key val d s bs rest n w left f tag one same (refused_in key d s.key key.nested rest left f (fault ne));
-            pays = subst (λ z. PaysAtMost left z over) (sym (need-key key val d bs rest n w tag one same)) paid
+            pays = subst (λ z. PaysAtMost left z over) (sym (need-key key val d bs rest n w tag one same)) paid;
           }
 
     module _ (not_one : n ≢ 1) (two : n ≡ 2) (v : WireType) (is : v ≡ val.wire) where
@@ -49,7 +49,7 @@ module _ {K V : Type 0} (key : Reading K) (val : Reading V) (d : ℕ) (s : Parts
             let paid : PaysAtMost left (value_need val d rest) over = spent_in {T = T} val.nested (Err f) left (value_need val d rest) over (λ plain. value_free val d s.value rest (free plain)) spent in
             record {
               fault = λ ne. value_refused key val d s bs rest n w left f tag not_one two same (refused_in val d s.value val.nested rest left f (fault ne));
-              pays = subst (λ z. PaysAtMost left z over) (sym (need-value key val d bs rest n w tag not_one two same)) paid
+              pays = subst (λ z. PaysAtMost left z over) (sym (need-value key val d bs rest n w tag not_one two same)) paid;
             }
 
         pub good_value : {T : Type 0} (x : T) (over : Left) (after : List ℕ) (new : V) (known now : Bool) → value_at val d s.value rest ≡ Ok ((new, known), after) → known ≡ now →
@@ -86,7 +86,7 @@ module _ {K V : Type 0} (key : Reading K) (val : Reading V) (d : ℕ) (bytes : L
     unknown = rw is refl;
     memory = rw is refl;
     no_slot = omega arith;
-    no_unit = omega arith
+    no_unit = omega arith;
   }
 
   module _ (s : Parts K V) (now : Left) (rest : List ℕ) (h : Merged s now rest) where
@@ -95,7 +95,7 @@ module _ {K V : Type 0} (key : Reading K) (val : Reading V) (d : ℕ) (bytes : L
         let e = need_end key val d s rest empty in
         record {
           entry = subst (λ z. Leads (IsField key val d) start bytes s z) (none empty) h.reached;
-          pays = (omega (arith, h.unknown, ap (λ (z : Left). z.unknown) e), omega (arith, h.memory, ap (λ (z : Left). z.memory) e))
+          pays = (omega (arith, h.unknown, ap (λ (z : Left). z.unknown) e), omega (arith, h.memory, ap (λ (z : Left). z.memory) e));
         }
 
     pub one_field : (t : Parts K V) (over : Left) (after : List ℕ) → 0 < length rest → MergesField key val d s now rest t over after → Merged t over after
@@ -106,7 +106,7 @@ module _ {K V : Type 0} (key : Reading K) (val : Reading V) (d : ℕ) (bytes : L
           unknown = omega (arith, h.unknown, m.pays.0, ap (λ (z : Left). z.unknown) e);
           memory = omega (arith, h.memory, m.pays.1, ap (λ (z : Left). z.memory) e);
           no_slot = omega (arith, h.no_slot, m.pays.0);
-          no_unit = omega (arith, h.no_unit, m.pays.1)
+          no_unit = omega (arith, h.no_unit, m.pays.1);
         }
 
     pub fewer : (t : Parts K V) (over : Left) (after : List ℕ) → MergesField key val d s now rest t over after → length after < length rest
@@ -115,5 +115,5 @@ module _ {K V : Type 0} (key : Reading K) (val : Reading V) (d : ℕ) (bytes : L
     pub bad_field : (over : Left) (f : DecodeError) → 0 < length rest → RefusesField key val d s now rest over f → RefusesFields key val d bytes left over f
     bad_field over f some k = record {
       fault = λ ne. fields_fault key val d bytes s rest left now some h.unknown h.memory f h.reached (k.fault ne);
-      pays = fields_spent key val d bytes s rest left now some h.unknown h.memory over h.no_slot h.no_unit k.pays
+      pays = fields_spent key val d bytes s rest left now some h.unknown h.memory over h.no_slot h.no_unit k.pays;
     }

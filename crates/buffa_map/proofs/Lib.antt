@@ -10,6 +10,7 @@ pub mod MessageLemmas
 pub mod ResultLemmas
 pub mod RunLemmas
 pub mod StepLemmas
+pub mod FrontLemmas
 pub mod SizeLemmas
 pub mod WriteLemmas
 pub mod BackLemmas

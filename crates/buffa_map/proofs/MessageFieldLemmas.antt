@@ -1,5 +1,5 @@
 -- A map field of messages, pair by pair.
-use Rattle.std.proofs.Common.{◌≡◌, ℕ, ◌+◌, ◌^◌, ◌<◌, ◌≤◌, List, [], ◌∷◌, ◌++◌, length, inl, inr, refl, sym, ap, subst, ◌∙◌, arith, append_assoc, length-append, Result, Ok, Err}
+use Rattle.std.proofs.Common.{◌≡◌, ℕ, ◌+◌, ◌^◌, ◌<◌, ◌≤◌, List, [], ◌∷◌, ◌++◌, length, inl, inr, refl, sym, ap, subst, ◌∙◌, arith, append_assoc, length-append, Result}
 use Rattle.std.proofs.lemmas.Bool.{cases_lt}
 use Rattle.std.proofs.lemmas.List.Elements.{Contains-append_right}
 use Rattle.std.specs.List.{Contains}
@@ -9,15 +9,15 @@ use Rattle.buffa_bytes.specs.Written.{WritesFront}
 use Rattle.buffa_bytes.specs.declared.error.EncodeError.{EncodeError}
 use Rattle.buffa_bytes.specs.declared.error.EncodeError.TheVariants.{OutOfMemory}
 use Rattle.buffa_wire.specs.Cache.{Cache, advanced}
-use Rattle.buffa_wire.specs.Passes.{IsSmall, IsWritten, WritesIf, cap}
+use Rattle.buffa_wire.specs.Passes.{IsSmall, IsWritten, cap}
 use Rattle.buffa_wire.proofs.PassLemmas.{done, refused, written_behind, written_put, written_same, written_then}
 use Rattle.buffa_wire.specs.Values.{tag_text}
 use Rattle.buffa_wire.specs.Varint.{V}
 use Rattle.buffa_map.specs.Codec.{Writing}
 use Rattle.buffa_map.specs.MessageField.{IsRecordWritten, IsSmallField, IsSmallPair, entry_size, head_text}
 use Rattle.buffa_map.specs.Scalars.{delimited_writing}
-use Rattle.buffa_map.specs.Text.{entry_text, field_size, field_text, record_text, saturated}
-use Rattle.buffa_map.proofs.SizeLemmas.{length-entry_text, length-field_text}
+use Rattle.buffa_map.specs.Text.{entry_text, field_size, record_text, saturated}
+use Rattle.buffa_map.proofs.SizeLemmas.{length-entry_text}
 
 module _ {K M : Type 0} (key : Writing K) (text : M → List ℕ) (p : K × M) (inner : ℕ) (is : inner ≡ cap (length (text p.1))) where
   abbrev whole : List ℕ

@@ -1,5 +1,5 @@
 -- Entries in which no payload is a message.
-use Rattle.std.proofs.Common.{arith, ◌≡◌, ◌+◌, ◌≤◌, ◌⊎◌, inl, inr, ℕ, List, ap, cond}
+use Rattle.std.proofs.Common.{arith, ◌≡◌, ◌+◌, ◌≤◌, ◌⊎◌, inl, inr, ℕ, List, ap}
 use Rattle.buffa_bytes.specs.declared.error.DecodeError.{DecodeError}
 use Rattle.buffa_wire.specs.Left.{Left, nothing, units}
 use Rattle.buffa_map.specs.Entry.{EntryFault, inner_need, need_of}

@@ -1,6 +1,6 @@
 -- The steps of a rewrite, one after the other.
-use Rattle.std.proofs.Common.{◌≡◌, ◌++◌, ℕ, Bool, List, [], Result, Ok, Err, ap, refl, subst, ◌∙◌}
-use Rattle.std.specs.Prelude.{OnOk, ◌∷◌}
+use Rattle.std.proofs.Common.{◌≡◌, ◌++◌, ℕ, Bool, List, [], Ok, Err, ap, refl, subst, ◌∙◌}
+use Rattle.std.specs.Prelude.{◌∷◌}
 use Rattle.buffa_bytes.specs.declared.error.DecodeError.{DecodeError}
 use Rattle.buffa_bytes.specs.declared.error.EncodeError.{EncodeError}
 use Rattle.buffa_wire.specs.Left.{Left}
@@ -8,9 +8,8 @@ use Rattle.buffa_wire.specs.Records.{Datum, bytes}
 use Rattle.buffa_wire.specs.Text.{W}
 use Rattle.buffa_map.specs.Codec.{Reading, Writing}
 use Rattle.buffa_map.specs.Merge.{ReadsRun, Rules, State, StopsRun, keeping, state}
-use Rattle.buffa_map.specs.Pairs.{Enum, SamePairs}
 use Rattle.buffa_map.specs.Rewrite.{RefusesOutput, RefusesRewrite, RewritesRun, WritesWalk}
-use Rattle.buffa_map.specs.Run.{Fold, added, kept_records}
+use Rattle.buffa_map.specs.Run.{added, kept_records}
 use Rattle.buffa_map.specs.Text.{field_text}
 use Rattle.buffa_map.proofs.RunLemmas.{added_records}
 

@@ -1,5 +1,5 @@
 -- A run, record by record: what was read so far, and how reading it ends.
-use Rattle.std.proofs.Common.{arith, ◌≡◌, ◌≢◌, ◌+◌, ◌<◌, ◌≤◌, ◌++◌, ◌⊎◌, inl, inr, ℕ, Bool, List, [], ◌∷◌, Ok, Err, ap, append-nil, append_assoc, length, refl, subst, sym, ◌∙◌}
+use Rattle.std.proofs.Common.{arith, ◌≡◌, ◌≢◌, ◌<◌, ◌++◌, inl, inr, ℕ, List, [], ◌∷◌, Ok, Err, ap, append-nil, append_assoc, length, refl, subst, sym, ◌∙◌}
 use Rattle.std.specs.Cmp.{IsEquivalence}
 use Rattle.buffa_bytes.proofs.FieldLemmas.{tag_falls}
 use Rattle.buffa_bytes.specs.declared.error.DecodeError.{DecodeError}
@@ -8,7 +8,6 @@ use Rattle.buffa_bytes.specs.declared.wire_type.WireType.{WireType}
 use Rattle.buffa_bytes.specs.declared.wire_type.WireType.TheVariants.{LengthDelimited}
 use Rattle.buffa_wire.specs.Left.{Left}
 use Rattle.buffa_wire.specs.Reading.{check_wire, tag_at}
-use Rattle.buffa_wire.specs.Records.{Datum}
 use Rattle.buffa_map.specs.Merge.{MergesEntry, ReadsRun, RefusesEntry, Rules, State, StopsRun}
 use Rattle.buffa_map.specs.Pairs.{SamePairs}
 use Rattle.buffa_map.specs.Run.{Fold, Paid, RecordFault, Run, Said, added}

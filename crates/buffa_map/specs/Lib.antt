@@ -17,3 +17,4 @@ pub mod Colour
 pub mod Enums
 pub mod Rewrite
 pub mod EnumLaws
+pub mod Laws

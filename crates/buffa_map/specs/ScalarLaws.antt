@@ -1,22 +1,17 @@
 -- What the codecs of scalars, strings and bytes owe: one law for each shape.
-use Rattle.std.proofs.Common.{◌≡◌, ℕ, ℤ, ◌<◌, ◌^◌, Bool, true, false, List, length, Option, None, Some, Result, Ok, Err, refl, sym, ap, ◌∙◌, arith, if◌then◌else◌}
-use Rattle.std.specs.Prelude.{FitsSigned}
-use Rattle.std.specs.Int.{to_le_bytes, w32, w64}
+use Rattle.std.proofs.Common.{◌≡◌, ℕ, Bool, true, false, List, length, Result, Ok, Err, refl, sym, ap, if◌then◌else◌}
 use Rattle.std.specs.Str.{is_utf8}
-use Rattle.std.proofs.lemmas.Nat.{from_le_bytes-to_le_bytes_4, from_le_bytes-to_le_bytes_8}
 use Rattle.buffa_wire.specs.Gives.{◌>>=◌}
-use Rattle.buffa_wire.specs.Content.{Content, HasContent, bytes_in, number_in}
-use Rattle.buffa_wire.specs.Content.Content.{number, bytes}
+use Rattle.buffa_wire.specs.Content.{Content, HasContent, bytes_in}
+use Rattle.buffa_wire.specs.Content.Content.{bytes}
 use Rattle.buffa_wire.specs.Message.{IsLimit}
 use Rattle.buffa_wire.specs.Values.{delimited_text}
 use Rattle.buffa_wire.specs.Varint.{V}
-use Rattle.buffa_bytes.specs.Scalars.{zigzag}
 use Rattle.buffa_bytes.specs.Texts.{text_as}
 use Rattle.buffa_bytes.specs.declared.wire_type.WireType.{WireType}
-use Rattle.buffa_bytes.specs.declared.wire_type.WireType.TheVariants.{Varint, Fixed64, LengthDelimited, Fixed32}
+use Rattle.buffa_bytes.specs.declared.wire_type.WireType.TheVariants.{LengthDelimited}
 use Rattle.buffa_bytes.specs.declared.error.DecodeError.{DecodeError}
 use Rattle.buffa_bytes.specs.declared.error.DecodeError.TheVariants.{InvalidUtf8}
-use Rattle.buffa_bytes.proofs.ScalarLemmas.{zigzag_fits32}
 use Rattle.buffa_bytes.proofs.VarintLemmas.{Var-V}
 use Rattle.buffa_map.specs.Scalars.{IsLengthy, IsText}
 pub use Rattle.buffa_wire.specs.ScalarFacts.{no_fixed_length}

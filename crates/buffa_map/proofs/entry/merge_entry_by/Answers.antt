@@ -1,4 +1,4 @@
-use Rattle.std.proofs.Common.{arith, ◌≡◌, ◌⊎◌, ℕ, List, subst}
+use Rattle.std.proofs.Common.{arith, ◌⊎◌, ℕ, List, subst}
 use Rattle.std.proofs.lemmas.Result.{err_from_is_err_and}
 use Rattle.buffa_wire.specs.Left.{Left, Lacks, Pays, PaysAtMost}
 use Rattle.buffa_map.specs.Entry.{FaultOf, IsEntry, blanks, need_at, said}

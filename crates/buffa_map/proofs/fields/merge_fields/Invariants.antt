@@ -7,7 +7,7 @@ use Rattle.buffa_map.proofs.fields.merge_fields.Given as goal
 abbrev pub invariant-loop-rest : goal.invariant-loop-rest
 invariant-loop-rest g l =
     Merged g.KC.MapValueDecode.reading g.W.MergeValue.reading l.fn.ctx.depth l.bytes l.fn.ctx.budget.now
-        (said g.KC.Value.Blank.meaning g.W.Value.Blank.meaning l.parts) l.ctx.budget.now l.rest
+    (said g.KC.Value.Blank.meaning g.W.Value.Blank.meaning l.parts) l.ctx.budget.now l.rest
     × (l.ctx.depth ≡ l.fn.ctx.depth)
 
 abbrev pub decreases-loop-rest : goal.decreases-loop-rest

@@ -7,27 +7,23 @@ use Rattle.buffa_map.proofs.NeedLemmas.{need_free}
 use Rattle.buffa_map.proofs.RunLemmas.{inner_free}
 use Rattle.buffa_map.proofs.laws.plain_entries_need_units.Goals as goal
 
-pub returns-clause-entry : goal.returns-clause-entry
-returns-clause-entry g c plain_key plain_val d cost e =
-    let key = g.KC.MapValueDecode.reading in
-    let val = g.VC.MapValueDecode.reading in
-    let none = need_free key val d g.met.KC.MapValueDecode.free g.met.VC.MapValueDecode.free (blanks key val d) e (plain_key, plain_val) in
-    let sum : cost + 0 ≡ cost = omega arith in
-    rw none (ap units sum)
-
-pub returns-clause-front : goal.returns-clause-front
-returns-clause-front g c plain_key plain_val d bs =
-    let key = g.KC.MapValueDecode.reading in
-    let val = g.VC.MapValueDecode.reading in
-    need_by-nothing (delimited_at bs) (λ e. need_at key val d (blanks key val d) e.0) (λ e. need_free key val d g.met.KC.MapValueDecode.free g.met.VC.MapValueDecode.free (blanks key val d) e.0 (plain_key, plain_val))
-
-pub returns-clause-record : goal.returns-clause-record
-returns-clause-record g c plain_key plain_val d bs =
-    let key = g.KC.MapValueDecode.reading in
-    let val = g.VC.MapValueDecode.reading in
-    need_by-nothing (tag_at bs) (λ t. inner_need key val d t.2) (λ t. need_by-nothing (delimited_at t.2) (λ e. need_at key val d (blanks key val d) e.0)
-    (λ e. need_free key val d g.met.KC.MapValueDecode.free g.met.VC.MapValueDecode.free (blanks key val d) e.0 (plain_key, plain_val)))
-
-pub returns-clause-run : goal.returns-clause-run
-returns-clause-run g c plain_key plain_val d es =
-    inner_free g.KC.MapValueDecode.reading g.VC.MapValueDecode.reading d g.met.KC.MapValueDecode.free g.met.VC.MapValueDecode.free es (plain_key, plain_val)
+pub returns : goal.returns
+returns g c = record {
+  entry = λ plain d cost e.
+      let key = g.KC.MapValueDecode.reading in
+      let val = g.VC.MapValueDecode.reading in
+      let none = need_free key val d g.met.KC.MapValueDecode.free g.met.VC.MapValueDecode.free (blanks key val d) e plain in
+      let sum : cost + 0 ≡ cost = omega arith in
+      rw none (ap units sum);
+  front = λ plain d bs.
+      let key = g.KC.MapValueDecode.reading in
+      let val = g.VC.MapValueDecode.reading in
+      need_by-nothing (delimited_at bs) (λ e. need_at key val d (blanks key val d) e.0) (λ e. need_free key val d g.met.KC.MapValueDecode.free g.met.VC.MapValueDecode.free (blanks key val d) e.0 plain);
+  next = λ plain d bs.
+      let key = g.KC.MapValueDecode.reading in
+      let val = g.VC.MapValueDecode.reading in
+      need_by-nothing (tag_at bs) (λ t. inner_need key val d t.2) (λ t. need_by-nothing (delimited_at t.2) (λ e. need_at key val d (blanks key val d) e.0)
+      (λ e. need_free key val d g.met.KC.MapValueDecode.free g.met.VC.MapValueDecode.free (blanks key val d) e.0 plain));
+  run = λ plain d es.
+      inner_free g.KC.MapValueDecode.reading g.VC.MapValueDecode.reading d g.met.KC.MapValueDecode.free g.met.VC.MapValueDecode.free es plain;
+}

@@ -1,4 +1,4 @@
-use Rattle.std.proofs.Common.{◌≡◌, ℕ, ◌+◌, ◌^◌, ◌<◌, ◌++◌, List}
+use Rattle.std.proofs.Common.{◌≡◌, ◌+◌, ◌^◌, ◌<◌, ◌++◌, List}
 use Rattle.buffa_wire.specs.Cache.{appended}
 use Rattle.buffa_wire.specs.Passes.{IsLonger, cap}
 use Rattle.buffa_map.specs.MessageField.{IsSmallField, field_slots}

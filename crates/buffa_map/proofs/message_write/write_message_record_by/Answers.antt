@@ -1,4 +1,4 @@
-use Rattle.std.proofs.Common.{◌≡◌, ◌∙◌, ap, length, refl, ◌∷◌}
+use Rattle.std.proofs.Common.{◌∙◌, length, refl, ◌∷◌}
 use Rattle.std.proofs.lemmas.Result.{err_from_is_err_and}
 use Rattle.buffa_wire.specs.Passes.{cap}
 use Rattle.buffa_wire.proofs.PassLemmas.{next_ok, written_err}

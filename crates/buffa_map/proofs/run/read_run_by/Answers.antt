@@ -1,4 +1,4 @@
-use Rattle.std.proofs.Common.{arith, ◌≡◌, ◌<◌, length, refl, sym, ◌∙◌}
+use Rattle.std.proofs.Common.{arith, ◌<◌, length, refl, sym, ◌∙◌}
 use Rattle.std.proofs.lemmas.Result.{err_from_is_err_and}
 use Rattle.buffa_map.proofs.StepLemmas.{all_reached, less, none_reached, one_more, stop_entry, stop_mismatch, stop_other, stop_tag}
 use Rattle.buffa_map.proofs.run.read_run_by.Goals as goal
