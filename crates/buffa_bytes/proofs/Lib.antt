@@ -12,3 +12,4 @@ pub mod LimitLemmas
 pub mod PieceLemmas
 pub mod ScalarLemmas
 pub mod TextLemmas
+pub mod TailLemmas

@@ -9,6 +9,11 @@ pub record IsChunkOf (part all : List ℕ) : Type 0 where
   pub fits : length part ≤ length all
   pub some : 0 < length all → 0 < length part
 
+-- tail is what follows some front of all
+pub record IsTailOf (tail all : List ℕ) : Type 0 where
+  pub past : ℕ
+  pub follows : tail ≡ drop past all
+
 -- the first n bytes of old went behind held, unless memory ran out
 abbrev pub MovesUnlessFull : Result (Unit {0}) DecodeError → ℕ → List ℕ → List ℕ → List ℕ → List ℕ → Type 0
 MovesUnlessFull r n old new held holds = MatchResult r (λ _. (holds ≡ held ++ take n old) × (new ≡ drop n old)) (λ e. e ≡ OutOfMemory)

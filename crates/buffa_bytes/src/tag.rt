@@ -35,6 +35,7 @@ impl Tag {
     ghost use Rattle.buffa_bytes.specs.Reading.{tag_at};
     ghost use Rattle.buffa_bytes.specs.Values.{tag_text};
     ghost use Rattle.buffa_bytes.specs.Written.{Writes};
+    ghost use Rattle.buffa_bytes.specs.Unread.{IsTailOf};
 
     /// A tag of a number from 1 to [`MAX_FIELD_NUMBER`].
     ///
@@ -93,6 +94,7 @@ impl Tag {
     pub fn decode<B: Buf>(buf: &mut B) -> Result<Tag, DecodeError>
         ensures reads { Gives (λ tag. (tag.number, tag.wire_type, B.unread buf.new)) result (tag_at (B.unread buf.old)) }
         ensures kept { B.kept buf.new ≡ B.kept buf.old }
+        ensures tail { IsTailOf (B.unread buf.new) (B.unread buf.old) }
     {
         let value = decode_varint(buf)?;
         if value >= 1 << 32 || value < 8 {

@@ -5,6 +5,7 @@ ghost use Rattle.buffa_bytes.specs.Gives.{Gives};
 ghost use Rattle.buffa_bytes.specs.Reading.{taken};
 ghost use Rattle.buffa_bytes.specs.Scalars.{fixed32_at, fixed32_text, fixed64_at, fixed64_text, sfixed32_at, sfixed32_text, sfixed64_at, sfixed64_text};
 ghost use Rattle.buffa_bytes.specs.Written.{Writes};
+ghost use Rattle.buffa_bytes.specs.Unread.{IsTailOf};
 
 use crate::buf::Buf;
 use crate::error::{DecodeError, EncodeError};
@@ -17,10 +18,11 @@ pub const FIXED32_ENCODED_LEN: usize = 4;
 pub const FIXED64_ENCODED_LEN: usize = 8;
 
 // Fills `bytes` with the first bytes of the buffer.
-#[tactic(auto, unfolding(crate::specs::Reading::taken))]
+#[tactic(auto, using(crate::proofs::TailLemmas::tail_whole, crate::proofs::TailLemmas::tail_dropped), unfolding(crate::specs::Reading::taken))]
 fn take_into<B: Buf>(buf: &mut B, bytes: &mut [u8]) -> Result<(), DecodeError>
     ensures reads { Gives (λ _. (bytes.new, B.unread buf.new)) result (taken (length bytes.old) (B.unread buf.old)) }
     ensures kept { B.kept buf.new ≡ B.kept buf.old }
+    ensures tail { IsTailOf (B.unread buf.new) (B.unread buf.old) }
 {
     if buf.remaining() < bytes.len() {
         return Err(DecodeError::UnexpectedEof);
@@ -63,6 +65,7 @@ pub fn encode_fixed32<S: EncodeSink>(value: u32, sink: &mut S) -> Result<(), Enc
 pub fn decode_fixed32<B: Buf>(buf: &mut B) -> Result<u32, DecodeError>
     ensures reads { Gives (λ v. (v, B.unread buf.new)) result (fixed32_at (B.unread buf.old)) }
     ensures kept { B.kept buf.new ≡ B.kept buf.old }
+    ensures tail { IsTailOf (B.unread buf.new) (B.unread buf.old) }
 {
     let mut bytes = [0; 4];
     take_into(buf, &mut bytes)?;
@@ -95,6 +98,7 @@ pub fn encode_fixed64<S: EncodeSink>(value: u64, sink: &mut S) -> Result<(), Enc
 pub fn decode_fixed64<B: Buf>(buf: &mut B) -> Result<u64, DecodeError>
     ensures reads { Gives (λ v. (v, B.unread buf.new)) result (fixed64_at (B.unread buf.old)) }
     ensures kept { B.kept buf.new ≡ B.kept buf.old }
+    ensures tail { IsTailOf (B.unread buf.new) (B.unread buf.old) }
 {
     let mut bytes = [0; 8];
     take_into(buf, &mut bytes)?;
@@ -127,6 +131,7 @@ pub fn encode_sfixed32<S: EncodeSink>(value: i32, sink: &mut S) -> Result<(), En
 pub fn decode_sfixed32<B: Buf>(buf: &mut B) -> Result<i32, DecodeError>
     ensures reads { Gives (λ v. (v, B.unread buf.new)) result (sfixed32_at (B.unread buf.old)) }
     ensures kept { B.kept buf.new ≡ B.kept buf.old }
+    ensures tail { IsTailOf (B.unread buf.new) (B.unread buf.old) }
 {
     let mut bytes = [0; 4];
     take_into(buf, &mut bytes)?;
@@ -159,6 +164,7 @@ pub fn encode_sfixed64<S: EncodeSink>(value: i64, sink: &mut S) -> Result<(), En
 pub fn decode_sfixed64<B: Buf>(buf: &mut B) -> Result<i64, DecodeError>
     ensures reads { Gives (λ v. (v, B.unread buf.new)) result (sfixed64_at (B.unread buf.old)) }
     ensures kept { B.kept buf.new ≡ B.kept buf.old }
+    ensures tail { IsTailOf (B.unread buf.new) (B.unread buf.old) }
 {
     let mut bytes = [0; 8];
     take_into(buf, &mut bytes)?;

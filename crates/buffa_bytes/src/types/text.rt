@@ -1,11 +1,12 @@
 //! Strings and bytes: a length and so many bytes.
 
-ghost use Rattle.std.specs.Prelude.{◌≡◌, length, string_bytes};
-ghost use Rattle.buffa_bytes.specs.Gives.{GivesUnlessFull};
+ghost use Rattle.std.specs.Prelude.{◌≡◌, length, string_bytes, IsOk};
+ghost use Rattle.buffa_bytes.specs.Gives.{FullOnlyIf, GivesUnlessFull};
 ghost use Rattle.buffa_bytes.specs.Reading.{delimited_at};
 ghost use Rattle.buffa_bytes.specs.Texts.{bytes_as, string_as};
 ghost use Rattle.buffa_bytes.specs.Values.{delimited_text, string_at};
 ghost use Rattle.buffa_bytes.specs.Written.{Writes};
+ghost use Rattle.buffa_bytes.specs.Unread.{IsTailOf};
 
 use crate::buf::{Buf, copy_bytes};
 use crate::error::{DecodeError, EncodeError};
@@ -52,7 +53,9 @@ pub fn encode_string<S: EncodeSink>(value: &str, sink: &mut S) -> Result<(), Enc
 /// ```
 pub fn decode_string<B: Buf>(alloc: Global, buf: &mut B) -> Result<String, DecodeError>
     ensures reads { GivesUnlessFull (λ s. (string_bytes s, B.unread buf.new)) result (string_at (B.unread buf.old)) }
+    ensures full { FullOnlyIf result (IsOk (delimited_at (B.unread buf.old))) }
     ensures kept { B.kept buf.new ≡ B.kept buf.old }
+    ensures tail { IsTailOf (B.unread buf.new) (B.unread buf.old) }
 {
     let bytes = decode_bytes(alloc, buf)?;
     match String::from_utf8(bytes) {
@@ -98,9 +101,12 @@ pub fn encode_bytes<S: EncodeSink>(value: &[u8], sink: &mut S) -> Result<(), Enc
 /// let mut rest: &[u8] = &[2, 0xDE, 0xAD];
 /// let dead = decode_bytes(alloc, &mut rest)?;
 /// ```
+#[tactic(auto, using(crate::proofs::TailLemmas::tail_more))]
 pub fn decode_bytes<B: Buf>(alloc: Global, buf: &mut B) -> Result<Vec<u8>, DecodeError>
     ensures reads { GivesUnlessFull (λ v. (v.items, B.unread buf.new)) result (delimited_at (B.unread buf.old)) }
+    ensures full { FullOnlyIf result (IsOk (delimited_at (B.unread buf.old))) }
     ensures kept { B.kept buf.new ≡ B.kept buf.old }
+    ensures tail { IsTailOf (B.unread buf.new) (B.unread buf.old) }
 {
     let len = decode_varint(buf)?;
     copy_bytes(alloc, buf, len)
@@ -117,7 +123,9 @@ pub fn decode_bytes<B: Buf>(alloc: Global, buf: &mut B) -> Result<Vec<u8>, Decod
 /// ```
 pub fn decode_bytes_to_bytes<B: Buf>(alloc: Global, buf: &mut B) -> Result<Bytes, DecodeError>
     ensures reads { GivesUnlessFull (λ b. (b, B.unread buf.new)) result (delimited_at (B.unread buf.old)) }
+    ensures full { FullOnlyIf result (IsOk (delimited_at (B.unread buf.old))) }
     ensures kept { B.kept buf.new ≡ B.kept buf.old }
+    ensures tail { IsTailOf (B.unread buf.new) (B.unread buf.old) }
 {
     let bytes = decode_bytes(alloc, buf)?;
     let Ok(shared) = Bytes::from_vec(bytes) else {
@@ -140,7 +148,9 @@ pub fn decode_string_to<S: ProtoString, B: Buf>(
     buf: &mut B,
 ) -> Result<S, DecodeError>
     ensures reads { GivesUnlessFull (λ s. (S.meaning s, B.unread buf.new)) result (string_as S.of_text (B.unread buf.old)) }
+    ensures full { FullOnlyIf result (IsOk (delimited_at (B.unread buf.old))) }
     ensures kept { B.kept buf.new ≡ B.kept buf.old }
+    ensures tail { IsTailOf (B.unread buf.new) (B.unread buf.old) }
 {
     let bytes = decode_bytes(alloc, buf)?;
     S::from_wire(alloc, &bytes)
@@ -157,7 +167,9 @@ pub fn decode_string_to<S: ProtoString, B: Buf>(
 /// ```
 pub fn decode_bytes_to<P: ProtoBytes, B: Buf>(alloc: Global, buf: &mut B) -> Result<P, DecodeError>
     ensures reads { GivesUnlessFull (λ p. (P.meaning p, B.unread buf.new)) result (bytes_as P.of_bytes (B.unread buf.old)) }
+    ensures full { FullOnlyIf result (IsOk (delimited_at (B.unread buf.old))) }
     ensures kept { B.kept buf.new ≡ B.kept buf.old }
+    ensures tail { IsTailOf (B.unread buf.new) (B.unread buf.old) }
 {
     let bytes = decode_bytes(alloc, buf)?;
     P::from_wire(alloc, &bytes)
