@@ -13,3 +13,4 @@ pub mod PieceLemmas
 pub mod ScalarLemmas
 pub mod TextLemmas
 pub mod TailLemmas
+pub mod FullLemmas
