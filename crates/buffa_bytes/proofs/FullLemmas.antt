@@ -1,15 +1,18 @@
 -- Out of memory is no fault of the bytes.
-use Rattle.std.proofs.Common.{◌≡◌, ℕ, zero, suc, inl, inr, List, Err}
+use Rattle.std.proofs.Common.{◌≡◌, ℕ, zero, suc, ◌<◌, inl, inr, List, length, Result, Ok, Err}
 use Rattle.buffa_bytes.specs.declared.wire_type.WireType.{WireType}
 use Rattle.buffa_bytes.specs.declared.wire_type.WireType.TheVariants.{Varint, Fixed64, LengthDelimited, StartGroup, EndGroup, Fixed32}
 use Rattle.buffa_bytes.specs.declared.error.DecodeError.{DecodeError}
-use Rattle.buffa_bytes.specs.declared.error.DecodeError.TheVariants.{OutOfMemory}
+use Rattle.buffa_bytes.specs.declared.error.DecodeError.TheVariants.{OutOfMemory, UnexpectedEof}
 use Rattle.buffa_bytes.specs.Content.{ContentFault, content_at}
 use Rattle.buffa_bytes.specs.Field.{TagFault, LengthFault, PayloadFaultOver, GroupFault, PayloadFault}
-use Rattle.buffa_bytes.specs.Reading.{varint_at, tag_at, delimited_at, skip_at}
-use Rattle.buffa_bytes.proofs.StepLemmas.{agree_err}
+use Rattle.buffa_bytes.specs.Reading.{varint_at, tag_at, taken, delimited_at, skip_at}
+use Rattle.buffa_bytes.specs.Scalars.{fixed32_at, fixed64_at}
+use Rattle.buffa_bytes.specs.Gives.{◌>>=◌}
+use Rattle.std.specs.Int.{from_le_bytes, w32, w64}
+use Rattle.buffa_bytes.proofs.StepLemmas.{Agrees, agree_bind, agree_err}
 use Rattle.buffa_bytes.proofs.VarintLemmas.{varint_sound}
-use Rattle.buffa_bytes.proofs.DelimitedLemmas.{delimited_sound}
+use Rattle.buffa_bytes.proofs.DelimitedLemmas.{delimited_sound, taken_sound}
 use Rattle.buffa_bytes.proofs.ContentLemmas.{content_sound}
 use Rattle.buffa_bytes.proofs.FieldLemmas.{tag_sound, payload_sound}
 
@@ -62,6 +65,26 @@ content_full w bs e = content_fault_full w bs (agree_err (content_at w bs) OutOf
 pub payload_full : (d f : ℕ) (w : WireType) (bs : List ℕ) → skip_at d f w bs ≡ Err OutOfMemory → ⊥
 payload_full d f w bs e = payload_fault_full d f w bs (agree_err (skip_at d f w bs) OutOfMemory (payload_sound d f w bs) e)
 
--- a varint's fault, told on, is no want of memory
+-- a fault of a varint or a tag, told on, is no want of memory
 pub varint_no_full : {P : Type 0} (bs : List ℕ) (e : DecodeError) → varint_at bs ≡ Err e → e ≡ OutOfMemory → P
 varint_no_full bs e h k = absurd (varint_full bs (rw k at h))
+
+pub tag_no_full : {P : Type 0} (bs : List ℕ) (e : DecodeError) → tag_at bs ≡ Err e → e ≡ OutOfMemory → P
+tag_no_full bs e h k = absurd (tag_full bs (rw k at h))
+
+-- the same of four and eight bytes
+abbrev some_as : {A : Type 0} → ℕ → (List ℕ → A) → List ℕ → Result (A × List ℕ) DecodeError
+some_as k of bs = taken k bs >>= (λ p. Ok (of p.0, p.1))
+
+some_bytes_no_full : {A P : Type 0} (k : ℕ) (of : List ℕ → A) (bs : List ℕ) (e : DecodeError) → some_as k of bs ≡ Err e → e ≡ OutOfMemory → P
+some_bytes_no_full {A} k of bs e h m =
+    let all : Agrees (some_as k of bs) (λ (v : A × List ℕ). Unit {0}) (λ d. (length bs < k) × (d ≡ UnexpectedEof)) =
+    agree_bind (taken_sound k bs) (λ p x. record { holds = tt }) (λ d x. x) in
+    let f : e ≡ UnexpectedEof = (agree_err (some_as k of bs) e all h).1 in
+    cc
+
+pub fixed32_no_full : {P : Type 0} (bs : List ℕ) (e : DecodeError) → fixed32_at bs ≡ Err e → e ≡ OutOfMemory → P
+fixed32_no_full bs e h m = some_bytes_no_full 4 (from_le_bytes w32) bs e h m
+
+pub fixed64_no_full : {P : Type 0} (bs : List ℕ) (e : DecodeError) → fixed64_at bs ≡ Err e → e ≡ OutOfMemory → P
+fixed64_no_full bs e h m = some_bytes_no_full 8 (from_le_bytes w64) bs e h m

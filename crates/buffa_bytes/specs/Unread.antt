@@ -1,5 +1,5 @@
 -- What a buffer shows of the bytes that are left.
-use Rattle.std.specs.Prelude.{◌≡◌, ℕ, ◌<◌, ◌≤◌, List, ◌++◌, length, take, drop, Result, MatchResult}
+use Rattle.std.specs.Prelude.{◌≡◌, ℕ, ◌<◌, ◌≤◌, ◌-◌, List, ◌++◌, length, take, drop, Result, MatchResult}
 use Rattle.buffa_bytes.specs.declared.error.DecodeError.{DecodeError}
 use Rattle.buffa_bytes.specs.declared.error.DecodeError.TheVariants.{OutOfMemory}
 
@@ -13,6 +13,10 @@ pub record IsChunkOf (part all : List ℕ) : Type 0 where
 pub record IsTailOf (tail all : List ℕ) : Type 0 where
   pub past : ℕ
   pub follows : tail ≡ drop past all
+
+-- how many bytes of old were read, where new are left
+abbrev pub bytes_read : List ℕ → List ℕ → ℕ
+bytes_read old new = length old - length new
 
 -- the first n bytes of old went behind held, unless memory ran out
 abbrev pub MovesUnlessFull : Result (Unit {0}) DecodeError → ℕ → List ℕ → List ℕ → List ℕ → List ℕ → Type 0

@@ -8,6 +8,7 @@ ghost use Rattle.buffa_bytes.specs.declared.wire_type.WireType.{WireType};
 ghost use Rattle.buffa_bytes.specs.Content.{HasContent, content_at};
 ghost use Rattle.buffa_bytes.specs.Content.Content.{number};
 ghost use Rattle.buffa_bytes.specs.Gives.{Gives};
+ghost use Rattle.buffa_bytes.specs.Unread.{IsTailOf};
 ghost use Rattle.buffa_bytes.specs.Written.{Writes};
 
 use crate::sealed::Sealed;
@@ -34,7 +35,8 @@ pub trait Form: Sealed {
     fn read<B: Buf>(buf: &mut B) -> Result<u64, DecodeError>
         ensures reads { Gives (λ n. (number n, B.unread buf.new)) result (content_at WIRE_TYPE (B.unread buf.old)) }
         ensures spelled { IfOk result spells }
-        ensures kept { B.kept buf.new ≡ B.kept buf.old };
+        ensures kept { B.kept buf.new ≡ B.kept buf.old }
+        ensures tail { IsTailOf (B.unread buf.new) (B.unread buf.old) };
 
     /// The length of a number's payload.
     fn len(n: u64) -> u64
