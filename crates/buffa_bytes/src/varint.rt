@@ -4,7 +4,7 @@ ghost use Rattle.std.specs.Prelude.{◌≡◌, ◌∷◌, [], length, MatchOptio
 ghost use Rattle.buffa_bytes.specs.Gives.{Gives};
 ghost use Rattle.buffa_bytes.specs.Reading.{varint_at};
 ghost use Rattle.buffa_bytes.specs.Varint.{V};
-ghost use Rattle.buffa_bytes.specs.Written.{Writes};
+ghost use Rattle.buffa_bytes.specs.Written.{UsesRoom, Writes};
 ghost use Rattle.buffa_bytes.specs.Unread.{IsTailOf};
 
 use crate::buf::Buf;
@@ -74,7 +74,8 @@ pub fn decode_varint<B: Buf>(buf: &mut B) -> Result<u64, DecodeError>
 /// ```
 #[tactic(auto, using(crate::proofs::ShortestLemmas::v_laws, crate::proofs::SinkLemmas::digit_more, crate::proofs::SinkLemmas::digit_last, crate::proofs::SinkLemmas::digit_room))]
 pub fn encode_varint<S: EncodeSink>(n: u64, sink: &mut S) -> Result<(), EncodeError>
-    ensures { Writes result (S.written sink.old) (V n) (S.written sink.new) }
+    ensures writes { Writes result (S.written sink.old) (V n) (S.written sink.new) }
+    ensures room { UsesRoom result (S.room sink.old) (V n) (S.room sink.new) }
 {
     let mut text = [0u8; 10];
     let mut len = 0;

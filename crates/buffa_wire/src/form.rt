@@ -9,7 +9,7 @@ ghost use Rattle.buffa_bytes.specs.Content.{HasContent, content_at};
 ghost use Rattle.buffa_bytes.specs.Content.Content.{number};
 ghost use Rattle.buffa_bytes.specs.Gives.{Gives};
 ghost use Rattle.buffa_bytes.specs.Unread.{IsTailOf};
-ghost use Rattle.buffa_bytes.specs.Written.{Writes};
+ghost use Rattle.buffa_bytes.specs.Written.{UsesRoom, Writes};
 
 use crate::sealed::Sealed;
 use crate::unknown_fields::UnknownFieldData;
@@ -46,7 +46,8 @@ pub trait Form: Sealed {
     /// Writes a number.
     fn write<S: EncodeSink>(n: u64, sink: &mut S) -> Result<(), EncodeError>
         requires { spells n }
-        ensures { Writes result (S.written sink.old) (payload n) (S.written sink.new) };
+        ensures writes { Writes result (S.written sink.old) (payload n) (S.written sink.new) }
+        ensures room { UsesRoom result (S.room sink.old) (payload n) (S.room sink.new) };
 
     /// The record data of a number.
     ghost datum: { ℕ → Datum };

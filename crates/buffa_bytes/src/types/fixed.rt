@@ -4,7 +4,7 @@ ghost use Rattle.std.specs.Prelude.{◌≡◌, length};
 ghost use Rattle.buffa_bytes.specs.Gives.{Gives};
 ghost use Rattle.buffa_bytes.specs.Reading.{taken};
 ghost use Rattle.buffa_bytes.specs.Scalars.{fixed32_at, fixed32_text, fixed64_at, fixed64_text, sfixed32_at, sfixed32_text, sfixed64_at, sfixed64_text};
-ghost use Rattle.buffa_bytes.specs.Written.{Writes};
+ghost use Rattle.buffa_bytes.specs.Written.{UsesRoom, Writes};
 ghost use Rattle.buffa_bytes.specs.Unread.{IsTailOf};
 
 use crate::buf::Buf;
@@ -48,7 +48,8 @@ fn take_into<B: Buf>(buf: &mut B, bytes: &mut [u8]) -> Result<(), DecodeError>
 /// encode_fixed32(1, &mut text)?; // 01 00 00 00
 /// ```
 pub fn encode_fixed32<S: EncodeSink>(value: u32, sink: &mut S) -> Result<(), EncodeError>
-    ensures { Writes result (S.written sink.old) (fixed32_text value) (S.written sink.new) }
+    ensures writes { Writes result (S.written sink.old) (fixed32_text value) (S.written sink.new) }
+    ensures room { UsesRoom result (S.room sink.old) (fixed32_text value) (S.room sink.new) }
 {
     sink.put_slice(&u32::to_le_bytes(value))
 }
@@ -81,7 +82,8 @@ pub fn decode_fixed32<B: Buf>(buf: &mut B) -> Result<u32, DecodeError>
 /// encode_fixed64(1, &mut text)?; // 01 00 00 00 00 00 00 00
 /// ```
 pub fn encode_fixed64<S: EncodeSink>(value: u64, sink: &mut S) -> Result<(), EncodeError>
-    ensures { Writes result (S.written sink.old) (fixed64_text value) (S.written sink.new) }
+    ensures writes { Writes result (S.written sink.old) (fixed64_text value) (S.written sink.new) }
+    ensures room { UsesRoom result (S.room sink.old) (fixed64_text value) (S.room sink.new) }
 {
     sink.put_slice(&u64::to_le_bytes(value))
 }
@@ -114,7 +116,8 @@ pub fn decode_fixed64<B: Buf>(buf: &mut B) -> Result<u64, DecodeError>
 /// encode_sfixed32(-1, &mut text)?; // FF FF FF FF
 /// ```
 pub fn encode_sfixed32<S: EncodeSink>(value: i32, sink: &mut S) -> Result<(), EncodeError>
-    ensures { Writes result (S.written sink.old) (sfixed32_text value) (S.written sink.new) }
+    ensures writes { Writes result (S.written sink.old) (sfixed32_text value) (S.written sink.new) }
+    ensures room { UsesRoom result (S.room sink.old) (sfixed32_text value) (S.room sink.new) }
 {
     sink.put_slice(&i32::to_le_bytes(value))
 }
@@ -147,7 +150,8 @@ pub fn decode_sfixed32<B: Buf>(buf: &mut B) -> Result<i32, DecodeError>
 /// encode_sfixed64(-1, &mut text)?; // FF FF FF FF FF FF FF FF
 /// ```
 pub fn encode_sfixed64<S: EncodeSink>(value: i64, sink: &mut S) -> Result<(), EncodeError>
-    ensures { Writes result (S.written sink.old) (sfixed64_text value) (S.written sink.new) }
+    ensures writes { Writes result (S.written sink.old) (sfixed64_text value) (S.written sink.new) }
+    ensures room { UsesRoom result (S.room sink.old) (sfixed64_text value) (S.room sink.new) }
 {
     sink.put_slice(&i64::to_le_bytes(value))
 }

@@ -3,7 +3,7 @@
 ghost use Rattle.std.specs.Prelude.{◌≡◌, length};
 ghost use Rattle.buffa_bytes.specs.Gives.{Gives};
 ghost use Rattle.buffa_bytes.specs.Scalars.{bool_at, bool_text, int32_at, int32_text, int64_at, int64_text, sint32_at, sint32_text, sint64_at, sint64_text, uint32_at, uint32_text, uint64_at, uint64_text};
-ghost use Rattle.buffa_bytes.specs.Written.{Writes};
+ghost use Rattle.buffa_bytes.specs.Written.{UsesRoom, Writes};
 ghost use Rattle.buffa_bytes.specs.Unread.{IsTailOf};
 
 use crate::buf::Buf;
@@ -35,7 +35,8 @@ pub fn int32_encoded_len(value: i32) -> usize
 /// encode_int32(-7, &mut text)?; // F9 FF FF FF FF FF FF FF FF 01
 /// ```
 pub fn encode_int32<S: EncodeSink>(value: i32, sink: &mut S) -> Result<(), EncodeError>
-    ensures { Writes result (S.written sink.old) (int32_text value) (S.written sink.new) }
+    ensures writes { Writes result (S.written sink.old) (int32_text value) (S.written sink.new) }
+    ensures room { UsesRoom result (S.room sink.old) (int32_text value) (S.room sink.new) }
 {
     encode_varint(i64::from(value).cast_unsigned(), sink)
 }
@@ -79,7 +80,8 @@ pub fn int64_encoded_len(value: i64) -> usize
 /// encode_int64(-7, &mut text)?; // F9 FF FF FF FF FF FF FF FF 01
 /// ```
 pub fn encode_int64<S: EncodeSink>(value: i64, sink: &mut S) -> Result<(), EncodeError>
-    ensures { Writes result (S.written sink.old) (int64_text value) (S.written sink.new) }
+    ensures writes { Writes result (S.written sink.old) (int64_text value) (S.written sink.new) }
+    ensures room { UsesRoom result (S.room sink.old) (int64_text value) (S.room sink.new) }
 {
     encode_varint(value.cast_unsigned(), sink)
 }
@@ -122,7 +124,8 @@ pub fn uint32_encoded_len(value: u32) -> usize
 /// encode_uint32(150, &mut text)?; // 96 01
 /// ```
 pub fn encode_uint32<S: EncodeSink>(value: u32, sink: &mut S) -> Result<(), EncodeError>
-    ensures { Writes result (S.written sink.old) (uint32_text value) (S.written sink.new) }
+    ensures writes { Writes result (S.written sink.old) (uint32_text value) (S.written sink.new) }
+    ensures room { UsesRoom result (S.room sink.old) (uint32_text value) (S.room sink.new) }
 {
     encode_varint(u64::from(value), sink)
 }
@@ -165,7 +168,8 @@ pub fn uint64_encoded_len(value: u64) -> usize
 /// encode_uint64(150, &mut text)?; // 96 01
 /// ```
 pub fn encode_uint64<S: EncodeSink>(value: u64, sink: &mut S) -> Result<(), EncodeError>
-    ensures { Writes result (S.written sink.old) (uint64_text value) (S.written sink.new) }
+    ensures writes { Writes result (S.written sink.old) (uint64_text value) (S.written sink.new) }
+    ensures room { UsesRoom result (S.room sink.old) (uint64_text value) (S.room sink.new) }
 {
     encode_varint(value, sink)
 }
@@ -207,7 +211,8 @@ pub fn sint32_encoded_len(value: i32) -> usize
 /// encode_sint32(-2, &mut text)?; // 03
 /// ```
 pub fn encode_sint32<S: EncodeSink>(value: i32, sink: &mut S) -> Result<(), EncodeError>
-    ensures { Writes result (S.written sink.old) (sint32_text value) (S.written sink.new) }
+    ensures writes { Writes result (S.written sink.old) (sint32_text value) (S.written sink.new) }
+    ensures room { UsesRoom result (S.room sink.old) (sint32_text value) (S.room sink.new) }
 {
     encode_varint(u64::from(zigzag_encode_i32(value)), sink)
 }
@@ -250,7 +255,8 @@ pub fn sint64_encoded_len(value: i64) -> usize
 /// encode_sint64(-2, &mut text)?; // 03
 /// ```
 pub fn encode_sint64<S: EncodeSink>(value: i64, sink: &mut S) -> Result<(), EncodeError>
-    ensures { Writes result (S.written sink.old) (sint64_text value) (S.written sink.new) }
+    ensures writes { Writes result (S.written sink.old) (sint64_text value) (S.written sink.new) }
+    ensures room { UsesRoom result (S.room sink.old) (sint64_text value) (S.room sink.new) }
 {
     encode_varint(zigzag_encode_i64(value), sink)
 }
@@ -285,7 +291,8 @@ pub const BOOL_ENCODED_LEN: usize = 1;
 /// encode_bool(true, &mut text)?; // 01
 /// ```
 pub fn encode_bool<S: EncodeSink>(value: bool, sink: &mut S) -> Result<(), EncodeError>
-    ensures { Writes result (S.written sink.old) (bool_text value) (S.written sink.new) }
+    ensures writes { Writes result (S.written sink.old) (bool_text value) (S.written sink.new) }
+    ensures room { UsesRoom result (S.room sink.old) (bool_text value) (S.room sink.new) }
 {
     encode_uint64(u64::from(value), sink)
 }

@@ -5,7 +5,7 @@ ghost use Rattle.buffa_bytes.specs.Gives.{FullOnlyIf, GivesUnlessFull};
 ghost use Rattle.buffa_bytes.specs.Reading.{delimited_at};
 ghost use Rattle.buffa_bytes.specs.Texts.{bytes_as, string_as};
 ghost use Rattle.buffa_bytes.specs.Values.{delimited_text, string_at};
-ghost use Rattle.buffa_bytes.specs.Written.{Writes};
+ghost use Rattle.buffa_bytes.specs.Written.{UsesRoom, Writes};
 ghost use Rattle.buffa_bytes.specs.Unread.{IsTailOf};
 
 use crate::buf::{Buf, copy_bytes};
@@ -36,7 +36,8 @@ pub fn string_encoded_len(value: &str) -> usize
 /// encode_string("bee", &mut text)?; // 03 62 65 65
 /// ```
 pub fn encode_string<S: EncodeSink>(value: &str, sink: &mut S) -> Result<(), EncodeError>
-    ensures { Writes result (S.written sink.old) (delimited_text value.now) (S.written sink.new) }
+    ensures writes { Writes result (S.written sink.old) (delimited_text value.now) (S.written sink.new) }
+    ensures room { UsesRoom result (S.room sink.old) (delimited_text value.now) (S.room sink.new) }
 {
     encode_bytes(value.as_bytes(), sink)
 }
@@ -83,9 +84,10 @@ pub fn bytes_encoded_len(value: &[u8]) -> usize
 /// ```ignore
 /// encode_bytes(&[0xDE, 0xAD], &mut text)?; // 02 DE AD
 /// ```
-#[tactic(auto, using(crate::proofs::SinkLemmas::writes_then, crate::proofs::SinkLemmas::front_first))]
+#[tactic(auto, using(crate::proofs::SinkLemmas::writes_then, crate::proofs::SinkLemmas::front_first, crate::proofs::SinkLemmas::room_then))]
 pub fn encode_bytes<S: EncodeSink>(value: &[u8], sink: &mut S) -> Result<(), EncodeError>
-    ensures { Writes result (S.written sink.old) (delimited_text value.now) (S.written sink.new) }
+    ensures writes { Writes result (S.written sink.old) (delimited_text value.now) (S.written sink.new) }
+    ensures room { UsesRoom result (S.room sink.old) (delimited_text value.now) (S.room sink.new) }
 {
     encode_varint(value.len() as u64, sink)?;
     sink.put_slice(value)
