@@ -20,11 +20,11 @@ length_full : (bs : List ℕ) → LengthFault bs OutOfMemory → ⊥
 length_full bs (inl h) = h
 length_full bs (inr h) = let e = h.4 in cc
 
-tag_fault_full : (bs : List ℕ) → TagFault bs OutOfMemory → ⊥
+pub tag_fault_full : (bs : List ℕ) → TagFault bs OutOfMemory → ⊥
 tag_fault_full bs (inl h) = h
 tag_fault_full bs (inr h) = h.3
 
-content_fault_full : (w : WireType) (bs : List ℕ) → ContentFault w bs OutOfMemory → ⊥
+pub content_fault_full : (w : WireType) (bs : List ℕ) → ContentFault w bs OutOfMemory → ⊥
 content_fault_full Varint bs h = h
 content_fault_full Fixed64 bs h = let e = h.1 in cc
 content_fault_full LengthDelimited bs h = length_full bs h

@@ -7,3 +7,4 @@ pub mod JoinLemmas
 pub mod MessageLemmas
 pub mod PassLemmas
 pub mod SpentLemmas
+pub mod FaultLemmas

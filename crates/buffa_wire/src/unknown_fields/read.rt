@@ -52,7 +52,9 @@ fn decode_plain<B: Buf>(
 
 /// Reads the field whose tag was read, and keeps it.
 ///
-/// It spends one slot for the field, and one for each field in its groups, and no element memory.
+/// It spends one slot for the field, and one for each field in its groups, and no element memory. After an
+/// error no more slots are spent than one and the bytes that were read. Memory is asked for only where a slot
+/// was left, for bytes that are there and for the fields of a group.
 ///
 /// # Errors
 /// The first fault, in this order: [`DecodeError::InvalidEndGroup`] for an end tag, which takes no slot;
@@ -153,7 +155,7 @@ impl UnknownFields {
     ///
     /// # Errors
     /// The first fault: of a tag, as [`Tag::decode`] tells it, or of the field behind it, as
-    /// [`decode_unknown_field`] does. Or [`DecodeError::OutOfMemory`].
+    /// [`decode_unknown_field`] does. Or [`DecodeError::OutOfMemory`], only where a tag begins the bytes.
     ///
     /// ```ignore
     /// let fields = UnknownFields::decode_from_slice(alloc, &[0x38, 0x96, 0x01])?;
