@@ -12,3 +12,5 @@ pub mod LimitLemmas
 pub mod PieceLemmas
 pub mod ScalarLemmas
 pub mod TextLemmas
+pub mod TailLemmas
+pub mod FullLemmas

@@ -2,12 +2,12 @@
 use Rattle.std.proofs.lemmas.List.{take_more_set}
 use Rattle.buffa_bytes.specs.Varint.{V}
 use Rattle.buffa_bytes.proofs.ShortestLemmas.{V-more, V-last}
-use Rattle.std.proofs.Common.{◌∷◌, ◌+◌, ◌/◌, ◌%◌, ◌<◌, ◌≤◌, length, take, set, arith, ◌≡◌, ℕ, List, ◌++◌, sym, ◌∙◌, ap, append_assoc}
+use Rattle.std.proofs.Common.{◌∷◌, ◌+◌, ◌/◌, ◌%◌, ◌<◌, ◌≤◌, length, take, set, arith, ◌≡◌, ℕ, List, ◌++◌, sym, ◌∙◌, ap, append_assoc, length-append}
 use Rattle.std.specs.Prelude.{Result, Err}
 use Rattle.std.proofs.lemmas.Result.{MatchResult-weaker}
 use Rattle.buffa_bytes.specs.declared.error.EncodeError.{EncodeError}
 use Rattle.buffa_bytes.specs.declared.error.EncodeError.TheVariants.{OutOfMemory}
-use Rattle.buffa_bytes.specs.Written.{Writes, WritesFront}
+use Rattle.buffa_bytes.specs.Written.{UsesRoom, Writes, WritesFront}
 
 -- a front of the first is a front of both
 pub front_first : (old a b new : List ℕ) → WritesFront old a new → WritesFront old (a ++ b) new
@@ -22,6 +22,16 @@ pub writes_then : {T : Type 0} (r : Result T EncodeError) (old a b mid new : Lis
 writes_then r old a b mid new e h = MatchResult-weaker r h
     (λ x w. w ∙ ap (λ t. t ++ b) e ∙ append_assoc old a b)
     (λ x w. (w.0, front_second old a b mid new e w.1))
+
+-- the room of both
+pub room_then : {T : Type 0} (r : Result T EncodeError) (room mid left : ℕ) (a b : List ℕ) → room ≤ mid + length a → UsesRoom r mid b left → UsesRoom r room (a ++ b) left
+room_then r room mid left a b e h = MatchResult-weaker r h
+    (λ x w. omega (arith, e, w, length-append a b))
+    (λ x w. omega (arith, e, w, length-append a b))
+
+-- a refusal of the first text, as `?` hands it on, is one of both
+pub room_first : {T : Type 0} {r : Result T EncodeError} {e : EncodeError} → r ≡ Err e → (room left : ℕ) (a b : List ℕ) → room < length a → UsesRoom r room (a ++ b) left
+room_first is room left a b w = rw is (omega (arith, w, length-append a b))
 
 -- a digit more in the text
 pub digit_more : (text all : List ℕ) (len rest : ℕ) → len < length text → 128 ≤ rest → take len text ++ V rest ≡ all → take (len + 1) (set text len (rest % 128 + 128)) ++ V (rest / 128) ≡ all

@@ -1,10 +1,12 @@
 -- What is read of a varint, and its spellings.
-use Rattle.std.proofs.Common.{◌≡◌, inl, inr, ℕ, zero, suc, ◌+◌, ◌*◌, ◌/◌, ◌%◌, ◌^◌, nat_lt, ◌<◌, ◌≤◌, List, [], ◌∷◌, ◌++◌, length, Ok, Err, refl, sym, ap, ◌∙◌, arith, append_assoc, length-append}
+use Rattle.std.proofs.Common.{◌≡◌, inl, inr, ℕ, zero, suc, ◌+◌, ◌*◌, ◌/◌, ◌%◌, ◌^◌, nat_lt, ◌<◌, ◌≤◌, List, [], ◌∷◌, ◌++◌, length, Ok, Err, refl, sym, ap, subst, ◌∙◌, arith, append_assoc, length-append}
 use Rattle.std.proofs.lemmas.Bool.{lt-ltb, le-ltb, ltb-true, ltb-false, cases_lt}
+use Rattle.std.specs.List.{All}
+use Rattle.std.proofs.lemmas.List.Elements.{All-head, All-tail, All-cons, All-nil}
 use Rattle.std.proofs.Math.Nat.{pow-suc}
 use Rattle.buffa_bytes.specs.declared.error.DecodeError.{DecodeError}
 use Rattle.buffa_bytes.specs.declared.error.DecodeError.TheVariants.{UnexpectedEof, VarintTooLong}
-use Rattle.buffa_bytes.specs.Varint.{base128, Continue, Var, TakesVar, VarFault, shortest, V}
+use Rattle.buffa_bytes.specs.Varint.{IsByte, base128, Continue, Var, TakesVar, VarFault, shortest, V}
 use Rattle.buffa_bytes.specs.Reading.{varint_within, varint_at}
 use Rattle.buffa_bytes.proofs.StepLemmas.{Agrees, agree_bind, agree_if, agree_weaker}
 use Rattle.buffa_bytes.proofs.DigitLemmas.{base128-lt, some_scale}
@@ -107,6 +109,35 @@ varint_faulty bs _ f = absurd f
 
 pub varint_falls : (bytes : List ℕ) (n : ℕ) → Var bytes n → 0 < length bytes
 varint_falls bytes n v = rw v.spelled (omega (arith, length-append v.front (v.last ∷ [])))
+
+-- ---- spellings of one length
+digit_same : (a b r s : ℕ) → 128 ≤ a → 128 ≤ b → a < 256 → b < 256 → a % 128 + 128 * r ≡ b % 128 + 128 * s → (a ≡ b) × (r ≡ s)
+digit_same a b r s h k l m e = (omega arith, omega arith)
+
+digits_same : (f g : List ℕ) (x y : ℕ) → Continue f → Continue g → x < 128 → y < 128 → All IsByte f → All IsByte g → length f ≡ length g → base128 (f ++ x ∷ []) ≡ base128 (g ++ y ∷ []) → f ++ x ∷ [] ≡ g ++ y ∷ []
+digits_same [] [] x y c d h k l m n e = let s : x ≡ y = omega arith in ap (λ z. z ∷ []) s
+digits_same [] (b ∷ g) x y c d h k l m n e = absurd (omega arith)
+digits_same (a ∷ f) [] x y c d h k l m n e = absurd (omega arith)
+digits_same (a ∷ f) (b ∷ g) x y c d h k l m n e =
+    let s = digit_same a b (base128 (f ++ x ∷ [])) (base128 (g ++ y ∷ [])) c.0 d.0 (All-head IsByte a f l) (All-head IsByte b g m) e in
+    let t = digits_same f g x y c.1 d.1 h k (All-tail IsByte a f l) (All-tail IsByte b g m) (omega arith) s.1 in
+    λ i. s.0 i ∷ t i
+
+bytes_before : (f : List ℕ) (x : ℕ) → All IsByte (f ++ x ∷ []) → All IsByte f
+bytes_before [] x h = All-nil IsByte
+bytes_before (b ∷ f) x h = All-cons IsByte b f (All-head IsByte b (f ++ x ∷ []) h) (bytes_before f x (All-tail IsByte b (f ++ x ∷ []) h))
+
+front_bytes : (f : List ℕ) (x : ℕ) (c : List ℕ) → c ≡ f ++ x ∷ [] → All IsByte c → All IsByte f
+front_bytes f x c s h = bytes_before f x (subst (All IsByte) s h)
+
+pub spelling_same : (a b : List ℕ) (n : ℕ) → All IsByte a → All IsByte b → Var a n → Var b n → length a ≡ length b → a ≡ b
+spelling_same a b n p q v w e =
+    v.spelled
+    ∙ digits_same v.front w.front v.last w.last v.continue w.continue v.ends w.ends
+    (front_bytes v.front v.last a v.spelled p) (front_bytes w.front w.last b w.spelled q)
+    (omega (arith, e, ap length v.spelled, ap length w.spelled, length-append v.front (v.last ∷ []), length-append w.front (w.last ∷ [])))
+    (sym (ap base128 v.spelled) ∙ sym v.value ∙ w.value ∙ ap base128 w.spelled)
+    ∙ sym w.spelled
 
 -- ---- the shortest spelling
 record Short (bs : List ℕ) (n : ℕ) : Type 0 where

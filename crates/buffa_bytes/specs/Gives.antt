@@ -1,5 +1,5 @@
 -- What a call gives, beside what is read.
-use Rattle.std.specs.Prelude.{◌≡◌, ◌≢◌, Result, Ok, Err}
+use Rattle.std.specs.Prelude.{◌≡◌, ◌≢◌, Result, Ok, Err, IfErr}
 use Rattle.buffa_bytes.specs.declared.error.DecodeError.{DecodeError}
 use Rattle.buffa_bytes.specs.declared.error.DecodeError.TheVariants.{OutOfMemory}
 
@@ -18,3 +18,7 @@ Gives view (Err e) read = read ≡ Err e
 abbrev pub GivesUnlessFull : {X Y : Type 0} → (X → Y) → Result X DecodeError → Result Y DecodeError → Type 0
 GivesUnlessFull view (Ok x) read = read ≡ Ok (view x)
 GivesUnlessFull view (Err e) read = e ≢ OutOfMemory → read ≡ Err e
+
+-- memory ran out only where P holds
+abbrev pub FullOnlyIf : {X : Type 0} → Result X DecodeError → Type 0 → Type 0
+FullOnlyIf r P = IfErr r (λ e. e ≡ OutOfMemory → P)

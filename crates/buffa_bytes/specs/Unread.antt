@@ -1,5 +1,5 @@
 -- What a buffer shows of the bytes that are left.
-use Rattle.std.specs.Prelude.{◌≡◌, ℕ, ◌<◌, ◌≤◌, List, ◌++◌, length, take, drop, Result, MatchResult}
+use Rattle.std.specs.Prelude.{◌≡◌, ℕ, ◌<◌, ◌≤◌, ◌-◌, List, ◌++◌, length, take, drop, Result, MatchResult}
 use Rattle.buffa_bytes.specs.declared.error.DecodeError.{DecodeError}
 use Rattle.buffa_bytes.specs.declared.error.DecodeError.TheVariants.{OutOfMemory}
 
@@ -8,6 +8,15 @@ pub record IsChunkOf (part all : List ℕ) : Type 0 where
   pub front : take (length part) all ≡ part
   pub fits : length part ≤ length all
   pub some : 0 < length all → 0 < length part
+
+-- tail is what follows some front of all
+pub record IsTailOf (tail all : List ℕ) : Type 0 where
+  pub past : ℕ
+  pub follows : tail ≡ drop past all
+
+-- how many bytes of old were read, where new are left
+abbrev pub bytes_read : List ℕ → List ℕ → ℕ
+bytes_read old new = length old - length new
 
 -- the first n bytes of old went behind held, unless memory ran out
 abbrev pub MovesUnlessFull : Result (Unit {0}) DecodeError → ℕ → List ℕ → List ℕ → List ℕ → List ℕ → Type 0

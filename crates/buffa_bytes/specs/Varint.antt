@@ -8,6 +8,10 @@ abbrev pub base128 : List ℕ → ℕ
 base128 [] = 0
 base128 (b ∷ bs) = b % 128 + 128 * base128 bs
 
+-- what a byte can hold
+abbrev pub IsByte : ℕ → Type 0
+IsByte b = b < 256
+
 -- each of these bytes says that another one follows
 abbrev pub Continue : List ℕ → Type 0
 Continue [] = Unit {0}

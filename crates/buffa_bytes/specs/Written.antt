@@ -1,5 +1,5 @@
 -- What a write leaves of a sink.
-use Rattle.std.specs.Prelude.{◌≡◌, ℕ, List, ◌++◌, Result}
+use Rattle.std.specs.Prelude.{◌≡◌, ℕ, ◌+◌, ◌<◌, ◌≤◌, List, ◌++◌, length, Result}
 use Rattle.std.specs.Result.{MatchResult}
 use Rattle.buffa_bytes.specs.declared.error.EncodeError.{EncodeError}
 use Rattle.buffa_bytes.specs.declared.error.EncodeError.TheVariants.{OutOfMemory}
@@ -11,3 +11,7 @@ WritesFront old text new = (front : List ℕ) × (rest : List ℕ) × (text ≡ 
 -- the text was written, or memory ran out after a beginning of it
 abbrev pub Writes : {T : Type 0} → Result T EncodeError → List ℕ → List ℕ → List ℕ → Type 0
 Writes r old text new = MatchResult r (λ _. new ≡ old ++ text) (λ e. (e ≡ OutOfMemory) × WritesFront old text new)
+
+-- a text that fits is written, and takes no more room than it has bytes
+abbrev pub UsesRoom : {T : Type 0} → Result T EncodeError → ℕ → List ℕ → ℕ → Type 0
+UsesRoom r room text left = MatchResult r (λ _. room ≤ left + length text) (λ _. room < length text)

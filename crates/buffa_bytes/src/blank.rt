@@ -1,6 +1,6 @@
 //! The value that a field starts with.
 
-ghost use Rattle.std.specs.Prelude.{◌≡◌, [], false, pos, string_bytes};
+ghost use Rattle.std.specs.Prelude.{◌≡◌, [], false, pos, string_bytes, vec_capacity};
 
 use bytes::Bytes;
 use std::alloc::Global;
@@ -108,7 +108,10 @@ impl Blank for Vec<u8> {
 
     ghost blank_is = { [] };
 
-    fn blank(alloc: Global) -> Vec<u8> {
+    fn blank(alloc: Global) -> Vec<u8>
+        ensures meaning { result.items ≡ [] }
+        ensures room { vec_capacity result ≡ 0 }
+    {
         Vec::new(alloc)
     }
 }

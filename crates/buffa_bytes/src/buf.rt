@@ -1,9 +1,9 @@
 //! Bytes in: reading from the front of a buffer.
 
-ghost use Rattle.std.specs.Prelude.{◌≡◌, ℕ, ◌≤◌, List, [], length, drop};
-ghost use Rattle.buffa_bytes.specs.Gives.{GivesUnlessFull};
+ghost use Rattle.std.specs.Prelude.{◌≡◌, ℕ, ◌≤◌, List, [], length, drop, IsOk};
+ghost use Rattle.buffa_bytes.specs.Gives.{FullOnlyIf, GivesUnlessFull};
 ghost use Rattle.buffa_bytes.specs.Reading.{taken};
-ghost use Rattle.buffa_bytes.specs.Unread.{IsChunkOf, MovesUnlessFull};
+ghost use Rattle.buffa_bytes.specs.Unread.{IsChunkOf, IsTailOf, MovesUnlessFull};
 
 use crate::error::DecodeError;
 use bytes::Bytes;
@@ -75,10 +75,12 @@ impl Buf for Bytes {
 }
 
 // Moves the first `len` bytes, which are there, behind those of `bytes`.
+#[tactic(auto, using(crate::proofs::TailLemmas::tail_whole, crate::proofs::TailLemmas::tail_dropped))]
 fn move_bytes<B: Buf>(buf: &mut B, len: usize, bytes: &mut Vec<u8>) -> Result<(), DecodeError>
     requires { len ≤ length (B.unread buf.old) }
     ensures moved { MovesUnlessFull result len (B.unread buf.old) (B.unread buf.new) bytes.old.items bytes.new.items }
     ensures kept { B.kept buf.new ≡ B.kept buf.old }
+    ensures tail { IsTailOf (B.unread buf.new) (B.unread buf.old) }
 {
     let mut left = len;
     while left > 0 {
@@ -102,10 +104,12 @@ fn move_bytes<B: Buf>(buf: &mut B, len: usize, bytes: &mut Vec<u8>) -> Result<()
 /// let mut rest: &[u8] = b"abc";
 /// let front = copy_bytes(alloc, &mut rest, 2)?; // "ab", and `rest` is "c"
 /// ```
-#[tactic(auto, unfolding(crate::specs::Reading::taken))]
+#[tactic(auto, using(crate::proofs::TailLemmas::tail_whole), unfolding(crate::specs::Reading::taken))]
 pub fn copy_bytes<B: Buf>(alloc: Global, buf: &mut B, len: u64) -> Result<Vec<u8>, DecodeError>
     ensures reads { GivesUnlessFull (λ bytes. (bytes.items, B.unread buf.new)) result (taken len (B.unread buf.old)) }
+    ensures full { FullOnlyIf result (IsOk (taken len (B.unread buf.old))) }
     ensures kept { B.kept buf.new ≡ B.kept buf.old }
+    ensures tail { IsTailOf (B.unread buf.new) (B.unread buf.old) }
 {
     if len > buf.remaining() as u64 {
         return Err(DecodeError::UnexpectedEof);

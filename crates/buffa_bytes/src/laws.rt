@@ -1,12 +1,14 @@
 //! What the definitions say together: each law is a function with nothing to do, whose contract is the law.
 
-ghost use Rattle.std.specs.Prelude.{◌≡◌, ◌<◌, ◌≤◌, ◌<ℤ◌, ◌^◌, ◌+◌, ◌↔◌, ℕ, ℤ, suc, pos, Bool, List, ◌++◌, length, Ok, Err, FitsSigned, true};
+ghost use Rattle.std.specs.Prelude.{◌≡◌, ◌≢◌, ◌<◌, ◌≤◌, ◌<ℤ◌, ◌^◌, ◌+◌, ◌↔◌, ℕ, ℤ, suc, pos, Bool, List, ◌++◌, length, Ok, Err, FitsSigned, true};
 ghost use Rattle.std.specs.Int.{cast_unsigned, from_bool, w32, w64};
+ghost use Rattle.std.specs.List.{All};
 ghost use Rattle.std.specs.Str.{is_utf8};
 ghost use Rattle.buffa_bytes.specs.declared.wire_type.WireType.{WireType};
 ghost use Rattle.buffa_bytes.specs.declared.wire_type.WireType.TheVariants.{Fixed32, Fixed64, LengthDelimited, Varint};
 ghost use Rattle.buffa_bytes.specs.declared.error.DecodeError.{DecodeError};
-ghost use Rattle.buffa_bytes.specs.Varint.{V, Var, TakesVar, VarFault};
+ghost use Rattle.buffa_bytes.specs.declared.error.DecodeError.TheVariants.{OutOfMemory};
+ghost use Rattle.buffa_bytes.specs.Varint.{IsByte, V, Var, TakesVar, VarFault};
 ghost use Rattle.buffa_bytes.specs.Number.{IsNumber};
 ghost use Rattle.buffa_bytes.specs.Content.{Content, ContentFault, TakesContent, bytes_in, content_at, content_by, number_in};
 ghost use Rattle.buffa_bytes.specs.Field.{LengthFault, SomeField, TakesDelimited, TakesTag, TagFault, TakesPayload, PayloadFault};
@@ -16,6 +18,8 @@ ghost use Rattle.buffa_bytes.specs.Texts.{bytes_as, string_as, text_as};
 ghost use Rattle.buffa_bytes.specs.Values.{delimited_text, int32_at, int32_text, string_at, tag_text};
 
 use crate::proto::{ProtoBytes, ProtoString};
+use crate::tag::MAX_FIELD_NUMBER;
+use crate::types::{BOOL_ENCODED_LEN, FIXED32_ENCODED_LEN, FIXED64_ENCODED_LEN};
 
 /// A varint is read exactly where a spelling begins the bytes, and a fault is told exactly where the
 /// grammar has it.
@@ -53,6 +57,29 @@ pub fn shortest_spelling()
     ensures spells { (n : ℕ) → n < 2 ^ 64 → Var (V n) n }
     ensures shortest { (bytes : List ℕ) (n : ℕ) → Var bytes n → length (V n) ≤ length bytes }
     ensures read_back { (n : ℕ) (rest : List ℕ) → n < 2 ^ 64 → varint_at (V n ++ rest) ≡ Ok (n, rest) }
+{}
+
+/// Of two spellings of a number in as many bytes there is one: the shortest is the only one of its length.
+pub fn one_spelling_of_a_length()
+    ensures { (a b : List ℕ) (n : ℕ) → All IsByte a → All IsByte b → Var a n → Var b n → length a ≡ length b → a ≡ b }
+{}
+
+/// Out of memory is no fault of the bytes.
+pub fn memory_is_no_fault()
+    ensures varint { (bs : List ℕ) → varint_at bs ≢ Err OutOfMemory }
+    ensures tag { (bs : List ℕ) → tag_at bs ≢ Err OutOfMemory }
+    ensures delimited { (bs : List ℕ) → delimited_at bs ≢ Err OutOfMemory }
+    ensures content { (w : WireType) (bs : List ℕ) → content_at w bs ≢ Err OutOfMemory }
+    ensures payload { (d f : ℕ) (w : WireType) (bs : List ℕ) → skip_at d f w bs ≢ Err OutOfMemory }
+    ensures fault { (d f : ℕ) (w : WireType) (bs : List ℕ) → PayloadFault d f w bs OutOfMemory → ⊥ }
+{}
+
+/// The constants: the largest field number, and the lengths of scalars of one length.
+pub fn constants()
+    ensures max_field_number { (f : ℕ) → IsNumber f ↔ ((0 < f) × (f ≤ MAX_FIELD_NUMBER)) }
+    ensures bool { BOOL_ENCODED_LEN ≡ 1 }
+    ensures fixed32 { FIXED32_ENCODED_LEN ≡ 4 }
+    ensures fixed64 { FIXED64_ENCODED_LEN ≡ 8 }
 {}
 
 /// What is read does not depend on what follows.

@@ -2,7 +2,7 @@
 
 ghost use Rattle.std.specs.Prelude.{◌≡◌, ℕ, List, [], MatchResult, refl, string_bytes, true};
 ghost use Rattle.std.specs.Str.{is_utf8};
-ghost use Rattle.buffa_bytes.specs.Gives.{GivesUnlessFull};
+ghost use Rattle.buffa_bytes.specs.Gives.{FullOnlyIf, GivesUnlessFull};
 ghost use Rattle.buffa_bytes.specs.Texts.{string_is_text, text_as};
 ghost use Rattle.buffa_bytes.specs.declared.error.DecodeError.TheVariants.{OutOfMemory};
 
@@ -31,7 +31,8 @@ pub trait ProtoString: Blank {
     /// # Errors
     /// [`DecodeError::InvalidUtf8`] exactly where they are not, and [`DecodeError::OutOfMemory`].
     fn from_wire(alloc: Global, bytes: &[u8]) -> Result<Self, DecodeError>
-        ensures { GivesUnlessFull Self.meaning result (text_as of_text bytes.now) };
+        ensures reads { GivesUnlessFull Self.meaning result (text_as of_text bytes.now) }
+        ensures full { FullOnlyIf result (is_utf8 bytes.now ≡ true) };
 
     /// The text of the value.
     fn as_str(&self) -> &str

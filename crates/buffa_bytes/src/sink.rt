@@ -1,7 +1,7 @@
 //! Bytes out: a place that text is appended to.
 
-ghost use Rattle.std.specs.Prelude.{◌≡◌, ℕ, List, OnErr};
-ghost use Rattle.buffa_bytes.specs.Written.{Writes};
+ghost use Rattle.std.specs.Prelude.{◌≡◌, ◌-◌, ℕ, List, OnErr, vec_capacity, vec_len};
+ghost use Rattle.buffa_bytes.specs.Written.{UsesRoom, Writes};
 
 use crate::error::EncodeError;
 
@@ -15,20 +15,27 @@ pub trait EncodeSink {
     /// The bytes so far.
     ghost written: { Self → List ℕ };
 
+    /// How many more bytes fit for sure, with no new memory; 0 where a sink promises nothing.
+    ghost room: { Self → ℕ } = { λ _. 0 };
+
     /// Appends `b`.
     ///
     /// # Errors
-    /// [`EncodeError::OutOfMemory`] alone; a beginning of `b` stands then.
+    /// [`EncodeError::OutOfMemory`] alone, where `b` doesn't fit for sure; a beginning of `b` stands then.
     fn put_slice(&mut self, b: &[u8]) -> Result<(), EncodeError>
-        ensures { Writes result (written self.old) b.now (written self.new) };
+        ensures writes { Writes result (written self.old) b.now (written self.new) }
+        ensures room { UsesRoom result (room self.old) b.now (room self.new) };
 }
 
 impl EncodeSink for Vec<u8> {
     ghost written = { λ v. v.items };
 
+    ghost room = { λ v. vec_capacity v - vec_len v };
+
     /// Appends `b`, or leaves the vector's items as they were where memory runs out.
     fn put_slice(&mut self, b: &[u8]) -> Result<(), EncodeError>
         ensures writes { Writes result self.old.items b.now self.new.items }
+        ensures room { UsesRoom result (vec_capacity self.old - vec_len self.old) b.now (vec_capacity self.new - vec_len self.new) }
         ensures err { OnErr result (self.new.items ≡ self.old.items) }
     {
         self.extend_from_slice(b)

@@ -3,6 +3,7 @@
 ghost use Rattle.std.specs.Prelude.{◌≡◌};
 ghost use Rattle.buffa_bytes.specs.Gives.{Gives};
 ghost use Rattle.buffa_bytes.specs.Reading.{past, skip_at, group_at};
+ghost use Rattle.buffa_bytes.specs.Unread.{IsTailOf};
 
 use crate::buf::Buf;
 use crate::error::DecodeError;
@@ -11,10 +12,11 @@ use crate::varint::decode_varint;
 use crate::wire_type::WireType;
 
 // Passes over `n` bytes.
-#[tactic(auto, unfolding(crate::specs::Reading::past))]
+#[tactic(auto, using(crate::proofs::TailLemmas::tail_whole, crate::proofs::TailLemmas::tail_dropped), unfolding(crate::specs::Reading::past))]
 fn skip_bytes<B: Buf>(buf: &mut B, n: u64) -> Result<(), DecodeError>
     ensures reads { Gives (λ _. B.unread buf.new) result (past n (B.unread buf.old)) }
     ensures kept { B.kept buf.new ≡ B.kept buf.old }
+    ensures tail { IsTailOf (B.unread buf.new) (B.unread buf.old) }
 {
     if n > buf.remaining() as u64 {
         return Err(DecodeError::UnexpectedEof);
@@ -38,9 +40,11 @@ fn skip_bytes<B: Buf>(buf: &mut B, n: u64) -> Result<(), DecodeError>
 /// skip_field_depth(tag, &mut rest, 100)?;
 /// ```
 #[cycle(skip)]
+#[tactic(auto, using(crate::proofs::TailLemmas::tail_whole, crate::proofs::TailLemmas::tail_more))]
 pub fn skip_field_depth<B: Buf>(tag: Tag, buf: &mut B, depth: u32) -> Result<(), DecodeError>
     ensures reads { Gives (λ _. B.unread buf.new) result (skip_at depth tag.number tag.wire_type (B.unread buf.old)) }
     ensures kept { B.kept buf.new ≡ B.kept buf.old }
+    ensures tail { IsTailOf (B.unread buf.new) (B.unread buf.old) }
 {
     match tag.wire_type() {
         WireType::Varint => {
@@ -60,9 +64,11 @@ pub fn skip_field_depth<B: Buf>(tag: Tag, buf: &mut B, depth: u32) -> Result<(),
 
 // Passes over the fields of a group, and its end tag.
 #[cycle(skip)]
+#[tactic(auto, using(crate::proofs::TailLemmas::tail_whole, crate::proofs::TailLemmas::tail_more))]
 fn skip_group<B: Buf>(number: u32, buf: &mut B, depth: u32) -> Result<(), DecodeError>
     ensures reads { Gives (λ _. B.unread buf.new) result (group_at depth number (B.unread buf.old)) }
     ensures kept { B.kept buf.new ≡ B.kept buf.old }
+    ensures tail { IsTailOf (B.unread buf.new) (B.unread buf.old) }
 {
     if depth == 0 {
         return Err(DecodeError::RecursionLimitExceeded);

@@ -34,7 +34,8 @@ impl Tag {
     ghost use Rattle.buffa_bytes.specs.Number.{IsNumber};
     ghost use Rattle.buffa_bytes.specs.Reading.{tag_at};
     ghost use Rattle.buffa_bytes.specs.Values.{tag_text};
-    ghost use Rattle.buffa_bytes.specs.Written.{Writes};
+    ghost use Rattle.buffa_bytes.specs.Written.{UsesRoom, Writes};
+    ghost use Rattle.buffa_bytes.specs.Unread.{IsTailOf};
 
     /// A tag of a number from 1 to [`MAX_FIELD_NUMBER`].
     ///
@@ -72,7 +73,8 @@ impl Tag {
     /// Tag::new(5, WireType::LengthDelimited).encode(&mut text)?; // 2A
     /// ```
     pub fn encode<S: EncodeSink>(self, sink: &mut S) -> Result<(), EncodeError>
-        ensures { Writes result (S.written sink.old) (tag_text self.number self.wire_type) (S.written sink.new) }
+        ensures writes { Writes result (S.written sink.old) (tag_text self.number self.wire_type) (S.written sink.new) }
+        ensures room { UsesRoom result (S.room sink.old) (tag_text self.number self.wire_type) (S.room sink.new) }
     {
         let number = u64::from(self.number) * 8 + u64::from(self.wire_type.number());
         encode_varint(number, sink)
@@ -93,6 +95,7 @@ impl Tag {
     pub fn decode<B: Buf>(buf: &mut B) -> Result<Tag, DecodeError>
         ensures reads { Gives (λ tag. (tag.number, tag.wire_type, B.unread buf.new)) result (tag_at (B.unread buf.old)) }
         ensures kept { B.kept buf.new ≡ B.kept buf.old }
+        ensures tail { IsTailOf (B.unread buf.new) (B.unread buf.old) }
     {
         let value = decode_varint(buf)?;
         if value >= 1 << 32 || value < 8 {

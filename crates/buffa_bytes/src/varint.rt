@@ -4,7 +4,8 @@ ghost use Rattle.std.specs.Prelude.{◌≡◌, ◌∷◌, [], length, MatchOptio
 ghost use Rattle.buffa_bytes.specs.Gives.{Gives};
 ghost use Rattle.buffa_bytes.specs.Reading.{varint_at};
 ghost use Rattle.buffa_bytes.specs.Varint.{V};
-ghost use Rattle.buffa_bytes.specs.Written.{Writes};
+ghost use Rattle.buffa_bytes.specs.Written.{UsesRoom, Writes};
+ghost use Rattle.buffa_bytes.specs.Unread.{IsTailOf};
 
 use crate::buf::Buf;
 use crate::error::{DecodeError, EncodeError};
@@ -16,10 +17,12 @@ use crate::sink::EncodeSink;
 /// let mut rest: &[u8] = &[7];
 /// let seven = take_byte(&mut rest);
 /// ```
+#[tactic(auto, using(crate::proofs::TailLemmas::tail_whole, crate::proofs::TailLemmas::tail_dropped))]
 pub fn take_byte<B: Buf>(buf: &mut B) -> Option<u8>
     ensures taken { MatchOption result ((B.unread buf.old ≡ []) × (B.unread buf.new ≡ []))
         (λ byte. B.unread buf.old ≡ byte ∷ B.unread buf.new) }
     ensures kept { B.kept buf.new ≡ B.kept buf.old }
+    ensures tail { IsTailOf (B.unread buf.new) (B.unread buf.old) }
 {
     let byte = *buf.chunk().first()?;
     buf.advance(1);
@@ -41,6 +44,7 @@ pub fn take_byte<B: Buf>(buf: &mut B) -> Option<u8>
 pub fn decode_varint<B: Buf>(buf: &mut B) -> Result<u64, DecodeError>
     ensures reads { Gives (λ n. (n, B.unread buf.new)) result (varint_at (B.unread buf.old)) }
     ensures kept { B.kept buf.new ≡ B.kept buf.old }
+    ensures tail { IsTailOf (B.unread buf.new) (B.unread buf.old) }
 {
     let mut value: u64 = 0;
     let mut scale: u64 = 1;
@@ -70,7 +74,8 @@ pub fn decode_varint<B: Buf>(buf: &mut B) -> Result<u64, DecodeError>
 /// ```
 #[tactic(auto, using(crate::proofs::ShortestLemmas::v_laws, crate::proofs::SinkLemmas::digit_more, crate::proofs::SinkLemmas::digit_last, crate::proofs::SinkLemmas::digit_room))]
 pub fn encode_varint<S: EncodeSink>(n: u64, sink: &mut S) -> Result<(), EncodeError>
-    ensures { Writes result (S.written sink.old) (V n) (S.written sink.new) }
+    ensures writes { Writes result (S.written sink.old) (V n) (S.written sink.new) }
+    ensures room { UsesRoom result (S.room sink.old) (V n) (S.room sink.new) }
 {
     let mut text = [0u8; 10];
     let mut len = 0;

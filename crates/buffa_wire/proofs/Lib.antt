@@ -6,3 +6,5 @@ pub mod ParseLemmas
 pub mod JoinLemmas
 pub mod MessageLemmas
 pub mod PassLemmas
+pub mod SpentLemmas
+pub mod FaultLemmas

@@ -1,9 +1,10 @@
 -- Lists of records: as fields, filtered, and compared.
 use Rattle.std.proofs.Common.{◌≡◌, ◌≢◌, ℕ, zero, suc, ◌+◌, ◌<◌, ◌≤◌, Bool, true, false, true≢false, List, [], ◌∷◌, length, get_or, refl, sym, ap, ◌∙◌, arith, cond, take}
-use Rattle.std.specs.List.{filter}
+use Rattle.std.specs.List.{filter, items_where_true}
+use Rattle.std.specs.List.Retain.{IsFiltered, ReturnsInTurn}
 use Rattle.buffa_wire.specs.Records.{Datum, Records, one, no_records, records_of, list_of, Held}
 use Rattle.buffa_wire.specs.Equal.{held_eq, records_eq-Decides, field_eq, field_eq-Decides}
-use Rattle.buffa_wire.specs.View.{record_of, records_in}
+use Rattle.buffa_wire.specs.View.{CalledAtRecord, record_of, records_in}
 use Rattle.buffa_wire.specs.declared.unknown_fields.UnknownField.{UnknownField}
 
 pub list-records : (rs : List (ℕ × Datum)) → list_of (records_of rs) ≡ rs
@@ -34,6 +35,21 @@ step false f fs e = e
 pub filter-records_in : (p : ℕ × Datum → Bool) (fs : List UnknownField) → records_in (filter (λ f. p (record_of f)) fs) ≡ filter p (records_in fs)
 filter-records_in p [] = refl
 filter-records_in p (f ∷ fs) = step (p (record_of f)) f _ (filter-records_in p fs)
+
+-- calls at fields are calls at their records
+called_in_turn : {F : Type 0} (R : F → UnknownField → Bool → F → Type 0) (f g : F) (bs : List Bool) (xs : List UnknownField) → ReturnsInTurn R f bs xs g → ReturnsInTurn (CalledAtRecord R) f bs (records_in xs) g
+called_in_turn R f g [] xs h = h
+called_in_turn R f g (b ∷ bs) [] h = absurd h
+called_in_turn R f g (b ∷ bs) (x ∷ xs) h = (h.0, (x, refl, h.1), called_in_turn R h.0 g bs xs h.2)
+
+records_where_true : (bs : List Bool) (xs : List UnknownField) → records_in (items_where_true bs xs) ≡ items_where_true bs (records_in xs)
+records_where_true [] xs = refl
+records_where_true (b ∷ bs) [] = refl
+records_where_true (true ∷ bs) (x ∷ xs) = ap (λ z. record_of x ∷ z) (records_where_true bs xs)
+records_where_true (false ∷ bs) (x ∷ xs) = records_where_true bs xs
+
+pub filtered_records : {F : Type 0} (R : F → UnknownField → Bool → F → Type 0) (f : F) (xs ys : List UnknownField) → IsFiltered R f xs ys → IsFiltered (CalledAtRecord R) f (records_in xs) (records_in ys)
+filtered_records R f xs ys h = (h.0, h.1, h.2 ∙ sym (length-records_in xs), called_in_turn R f h.1 h.0 xs h.3, ap records_in h.4 ∙ records_where_true h.0 xs)
 
 take_all : (xs : List UnknownField) (i : ℕ) → length xs ≤ i → take i xs ≡ xs
 take_all [] zero h = refl

@@ -8,9 +8,9 @@ use Rattle.buffa_bytes.specs.declared.error.EncodeError.TheVariants.{OutOfMemory
 use Rattle.buffa_bytes.specs.declared.wire_type.WireType.{WireType}
 use Rattle.buffa_bytes.specs.WireType.{wire_number}
 use Rattle.buffa_bytes.specs.Values.{tag_text}
-use Rattle.buffa_bytes.specs.Written.{Writes, WritesFront}
+use Rattle.buffa_bytes.specs.Written.{UsesRoom, Writes, WritesFront}
 use Rattle.buffa_bytes.proofs.ShortestLemmas.{length-V}
-use Rattle.buffa_bytes.proofs.SinkLemmas.{front_first, front_second, exits_first}
+use Rattle.buffa_bytes.proofs.SinkLemmas.{front_first, front_second, exits_first, room_first}
 use Rattle.buffa_wire.specs.Records.{Datum}
 use Rattle.buffa_wire.specs.View.{datum_of, record_of, records_in}
 use Rattle.buffa_wire.specs.Text.{W, field_text}
@@ -70,3 +70,21 @@ pub tag_refused : {T : Type 0} {r : Result T EncodeError} {e d : EncodeError} �
 tag_refused is same n k w v rest old new e f h =
     let t : V n ≡ tag_text k v = ap V (e ∙ ap (λ x. 8 * k + wire_number x) f) in
     exits_first is same old (tag_text k v) rest new (h.0, subst (λ z. WritesFront old z new) t h.1)
+
+-- the lengths of these texts
+pub length-W_more : (xs : List UnknownField) (i : ℕ) (f d : UnknownField) → i < length xs → f ≡ get_or xs i d →
+    length (W (records_in (take (i + 1) xs))) ≡ length (W (records_in (take i xs))) + length (field_text f.number (datum_of f.payload))
+length-W_more xs i f d h e = ap length (W_more xs i f d h e) ∙ length-append (W (records_in (take i xs))) (field_text f.number (datum_of f.payload))
+
+pub length-W_parts : (xs : List UnknownField) (i : ℕ) (f d : UnknownField) → i < length xs → f ≡ get_or xs i d →
+    length (W (records_in (take i xs))) + length (field_text f.number (datum_of f.payload)) ≤ length (W (records_in xs))
+length-W_parts xs i f d h e =
+    let text = field_text f.number (datum_of f.payload) in
+    let rest = W (records_in (drop (i + 1) xs)) in
+    omega (arith, ap length (W-parts xs i f d h e), length-append (W (records_in (take i xs))) (text ++ rest), length-append text rest)
+
+pub tag_no_room : {T : Type 0} {r : Result T EncodeError} {e : EncodeError} → r ≡ Err e → (n k : ℕ) (w v : WireType) (rest : List ℕ) (room left : ℕ) → n ≡ 8 * k + wire_number w → w ≡ v →
+    room < length (V n) → UsesRoom r room (tag_text k v ++ rest) left
+tag_no_room is n k w v rest room left e f h =
+    let t : V n ≡ tag_text k v = ap V (e ∙ ap (λ x. 8 * k + wire_number x) f) in
+    room_first is room left (tag_text k v) rest (omega (arith, h, ap length t))

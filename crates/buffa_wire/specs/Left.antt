@@ -37,6 +37,10 @@ PaysAtMost left need over =
     (over.unknown ≤ left.unknown) × (left.unknown ≤ over.unknown + need.unknown)
     × (over.memory ≤ left.memory) × (left.memory ≤ over.memory + need.memory)
 
+-- of before slots, at most n were spent, and after are left
+abbrev pub SlotsSpent : ℕ → ℕ → ℕ → Type 0
+SlotsSpent n before after = (after ≤ before) × (before ≤ after + n)
+
 -- what a call that took a context left in the budget that was lent with it
 abbrev pub left_in : {D X : Type 0} → D × (MutBor X × Unit {0}) → X
 left_in ctx = ctx.1.0.now

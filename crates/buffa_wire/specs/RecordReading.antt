@@ -1,6 +1,6 @@
 -- What reading records gives: the records, the slots for unknown fields that are left, and the bytes that
 -- follow; or the first fault.
-use Rattle.std.specs.Prelude.{ℕ, zero, suc, ◌-◌, ◌==◌, ◌&&◌, List, [], ◌∷◌, length, Result, Ok, Err, if◌then◌else◌}
+use Rattle.std.specs.Prelude.{ℕ, zero, suc, ◌-◌, ◌<◌, ◌==◌, ◌&&◌, List, [], ◌∷◌, length, IsOk, Result, Ok, Err, if◌then◌else◌}
 use Rattle.buffa_bytes.specs.Gives.{◌>>=◌}
 use Rattle.buffa_bytes.specs.declared.wire_type.WireType.{WireType}
 use Rattle.buffa_bytes.specs.declared.wire_type.WireType.TheVariants as wire
@@ -22,6 +22,12 @@ plain_at wire.LengthDelimited bs = delimited_at bs >>= (λ v. Ok (bytes v.0, v.1
 plain_at wire.StartGroup bs = Err (InvalidWireType 3)
 plain_at wire.EndGroup bs = Err (InvalidWireType 4)
 plain_at wire.Fixed32 bs = fixed32_at bs >>= (λ v. Ok (fixed32 v.0, v.1))
+
+-- a field of this wire type takes memory: for the bytes, which are there, or for a group's fields
+abbrev pub TakesMemory : ℕ → WireType → List ℕ → Type 0
+TakesMemory d wire.LengthDelimited bs = IsOk (delimited_at bs)
+TakesMemory d wire.StartGroup bs = (0 < d) × IsOk (tag_at bs)
+TakesMemory d w bs = ⊥
 
 -- the payload of a field whose slot is spent
 abbrev pub payload_by : GroupReader → ℕ → ℕ → WireType → List ℕ → Result (Datum × ℕ × List ℕ) DecodeError

@@ -14,6 +14,13 @@ mutual
     no_records : Records
     one : ℕ → Datum → Records → Records
 
+-- data that are a number
+abbrev pub IsNumeric : Datum → Type 0
+IsNumeric (varint v) = Unit {0}
+IsNumeric (fixed32 v) = Unit {0}
+IsNumeric (fixed64 v) = Unit {0}
+IsNumeric _ = ⊥
+
 -- records as a list, and back
 abbrev pub records_of : List (ℕ × Datum) → Records
 records_of [] = no_records

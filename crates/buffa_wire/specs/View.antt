@@ -22,6 +22,10 @@ records_in fs = map record_of fs
 abbrev pub held : Inside → Held
 held a = record { records = records_in a.fields.items; spare = vec_capacity a.fields - vec_len a.fields }
 
+-- a call of f at a field of record r answers b, and leaves g
+abbrev pub CalledAtRecord : {F : Type 0} → (F → UnknownField → Bool → F → Type 0) → F → ℕ × Datum → Bool → F → Type 0
+CalledAtRecord R f r b g = (x : UnknownField) × (record_of x ≡ r) × R f x b g
+
 -- the test f of fields goes by their records alone, as p does, and a call leaves f as it is
 abbrev pub AnswersRecords : {F : Type 0} → (F → UnknownField → Bool → F → Type 0) → F → (ℕ × Datum → Bool) → Type 0
 AnswersRecords {F} R f p = (x : UnknownField) (b : Bool) (g : F) → R f x b g → (b ≡ p (record_of x)) × (g ≡ f)

@@ -8,7 +8,8 @@ ghost use Rattle.buffa_bytes.specs.declared.wire_type.WireType.{WireType};
 ghost use Rattle.buffa_bytes.specs.Content.{HasContent, content_at};
 ghost use Rattle.buffa_bytes.specs.Content.Content.{number};
 ghost use Rattle.buffa_bytes.specs.Gives.{Gives};
-ghost use Rattle.buffa_bytes.specs.Written.{Writes};
+ghost use Rattle.buffa_bytes.specs.Unread.{IsTailOf};
+ghost use Rattle.buffa_bytes.specs.Written.{UsesRoom, Writes};
 
 use crate::sealed::Sealed;
 use crate::unknown_fields::UnknownFieldData;
@@ -34,7 +35,8 @@ pub trait Form: Sealed {
     fn read<B: Buf>(buf: &mut B) -> Result<u64, DecodeError>
         ensures reads { Gives (λ n. (number n, B.unread buf.new)) result (content_at WIRE_TYPE (B.unread buf.old)) }
         ensures spelled { IfOk result spells }
-        ensures kept { B.kept buf.new ≡ B.kept buf.old };
+        ensures kept { B.kept buf.new ≡ B.kept buf.old }
+        ensures tail { IsTailOf (B.unread buf.new) (B.unread buf.old) };
 
     /// The length of a number's payload.
     fn len(n: u64) -> u64
@@ -44,7 +46,8 @@ pub trait Form: Sealed {
     /// Writes a number.
     fn write<S: EncodeSink>(n: u64, sink: &mut S) -> Result<(), EncodeError>
         requires { spells n }
-        ensures { Writes result (S.written sink.old) (payload n) (S.written sink.new) };
+        ensures writes { Writes result (S.written sink.old) (payload n) (S.written sink.new) }
+        ensures room { UsesRoom result (S.room sink.old) (payload n) (S.room sink.new) };
 
     /// The record data of a number.
     ghost datum: { ℕ → Datum };

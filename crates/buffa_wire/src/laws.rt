@@ -1,9 +1,10 @@
 //! What the definitions of records say together: each law is a function with nothing to do, whose contract
 //! is the law.
 
-ghost use Rattle.std.specs.Prelude.{◌≡◌, ◌≤◌, ◌↔◌, ℕ, List, Ok, Err, true};
+ghost use Rattle.std.specs.Prelude.{◌≡◌, ◌≢◌, ◌-◌, ◌^◌, ◌≤◌, ◌↔◌, ℕ, List, Ok, Err, true};
 ghost use Rattle.buffa_bytes.specs.declared.wire_type.WireType.{WireType};
 ghost use Rattle.buffa_bytes.specs.declared.error.DecodeError.{DecodeError};
+ghost use Rattle.buffa_bytes.specs.declared.error.DecodeError.TheVariants.{OutOfMemory};
 ghost use Rattle.buffa_wire.specs.Field.{SomeField};
 ghost use Rattle.buffa_wire.specs.Join.{Join};
 ghost use Rattle.buffa_wire.specs.Records.{Datum, Held, height, records_of};
@@ -13,6 +14,9 @@ ghost use Rattle.buffa_wire.specs.Text.{W};
 ghost use Rattle.buffa_wire.specs.Parse.{FieldFault, Fits, InRange, Parse, RecordsFault, TakesField, slots};
 ghost use Rattle.buffa_wire.specs.RecordReading.{field_at, list_at};
 
+use crate::budget::{DEFAULT_ELEMENT_MEMORY_LIMIT, DEFAULT_UNKNOWN_FIELD_LIMIT};
+use crate::context::RECURSION_LIMIT;
+use crate::message::MAX_MESSAGE_BYTES;
 use crate::unknown_fields::UnknownField;
 
 /// Whole bytes are read as records exactly where the grammar has them and a slot is left for each record,
@@ -26,6 +30,21 @@ pub fn records_are_read()
 pub fn fields_are_read()
     ensures ok { (d s n : ℕ) (w : WireType) (bs : List ℕ) (x : Datum) (left : ℕ) (rest : List ℕ) → (field_at d s n w bs ≡ Ok (x, left, rest)) ↔ TakesField d s n w bs x left rest }
     ensures err { (d s n : ℕ) (w : WireType) (bs : List ℕ) (e : DecodeError) → (field_at d s n w bs ≡ Err e) ↔ FieldFault d s n w bs e }
+{}
+
+/// Out of memory is no fault of the bytes.
+pub fn memory_is_no_fault()
+    ensures field { (d s n : ℕ) (w : WireType) (bs : List ℕ) → field_at d s n w bs ≢ Err OutOfMemory }
+    ensures records { (d s : ℕ) (bs : List ℕ) → list_at d s bs ≢ Err OutOfMemory }
+{}
+
+/// The constants: how deep and with which budget a message is read where nothing else is said, and how
+/// long a message may be.
+pub fn constants()
+    ensures recursion_limit { RECURSION_LIMIT ≡ 100 }
+    ensures unknown_fields { DEFAULT_UNKNOWN_FIELD_LIMIT ≡ 1000000 }
+    ensures element_memory { DEFAULT_ELEMENT_MEMORY_LIMIT ≡ 2 ^ 28 }
+    ensures message_bytes { MAX_MESSAGE_BYTES ≡ 2 ^ 31 - 1 }
 {}
 
 /// Records are what fields say: bytes are a join of fields exactly where they are the text of records, and

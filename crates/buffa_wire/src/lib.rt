@@ -1,7 +1,7 @@
 //! The wire layer: the ground floor of `buffa_bytes`, the budgets and contexts that reading lends on, and
 //! the unknown fields that it keeps.
 //!
-//! A crate above needs this one alone: it re-exports all of `buffa_bytes`.
+//! It re-exports the types of `buffa_bytes`, its readers and writers, and the module of the texts of scalars.
 #![tactic(auto)]
 
 pub mod budget;
@@ -30,9 +30,9 @@ pub use buffa_bytes::{
 };
 pub use cache::SizeCache;
 pub use context::{DecodeContext, RECURSION_LIMIT};
-pub use message::{Message, MessageSpec};
 pub use enumeration::{EnumValue, Enumeration};
 pub use form::Form;
+pub use message::{Message, MessageSpec};
 pub use scalar::Scalar;
 pub use unknown_fields::read::decode_unknown_field;
 pub use unknown_fields::{UnknownField, UnknownFieldData, UnknownFields};

@@ -1,11 +1,13 @@
 //! Messages: values that bytes are merged into.
 
-ghost use Rattle.std.specs.Prelude.{◌≡◌, ◌≢◌, ◌++◌, ◌<◌, ◌≤◌, ◌^◌, ℕ, List, [], length, Option, Some, IfErr, IfOk, Ok, OnErr, OnOk};
+ghost use Rattle.std.specs.Prelude.{◌≡◌, ◌≢◌, ◌++◌, ◌<◌, ◌≤◌, ◌^◌, ℕ, List, [], length, Option, Some, IfErr, IfOk, IsOk, Ok, OnErr, OnOk};
 ghost use Rattle.std.specs.Option.{option_and_then};
 ghost use Rattle.buffa_bytes.specs.declared.error.DecodeError.TheVariants.{OutOfMemory};
 ghost use Rattle.buffa_bytes.specs.Field.{SomeField};
+ghost use Rattle.buffa_bytes.specs.Gives.{FullOnlyIf};
 ghost use Rattle.buffa_bytes.specs.Join.{Join};
 ghost use Rattle.buffa_bytes.specs.Reading.{delimited_at};
+ghost use Rattle.buffa_bytes.specs.Unread.{IsTailOf};
 ghost use Rattle.buffa_wire.specs.Left.{Left, Pays, PaysAtMost, left_in, nothing, plus};
 ghost use Rattle.buffa_bytes.specs.declared.error.EncodeError.TheVariants as error;
 ghost use Rattle.buffa_wire.specs.Parse.{Fits};
@@ -178,7 +180,9 @@ pub trait Message: MessageSpec {
             × Pays ctx.entry.budget.now (cost_in Self.cost ctx.entry.depth b) (left_in ctx.exit)) }
         ensures fault { IfErr result (λ e. e ≢ OutOfMemory → PayloadFault Self.merged Self.cost ctx.entry.depth (Self.meaning self.old) (B.unread buf.old) ctx.entry.budget.now e) }
         ensures spent { OnErr result (PaysAtMost ctx.entry.budget.now (cost_of_payload Self.cost ctx.entry.depth (delimited_at (B.unread buf.old))) (left_in ctx.exit)) }
+        ensures full { FullOnlyIf result ((0 < ctx.entry.depth) × IsOk (delimited_at (B.unread buf.old))) }
         ensures kept { B.kept buf.new ≡ B.kept buf.old }
+        ensures tail { IsTailOf (B.unread buf.new) (B.unread buf.old) }
     {
         let DecodeContext { depth, budget } = ctx;
         if depth == 0 {

@@ -50,6 +50,6 @@ pub trait Scalar: Sealed {
     /// The number of a value means that value.
     ghost means: { (v : Self.Value.Meaning) → fits v → value_of (number_of v) ≡ v };
 
-    /// The fixed length is that of every payload.
-    ghost fixed: { (n : ℕ) → LEN ≡ Some n → (v : Self.Value.Meaning) → fits v → length (Self.Form.payload (number_of v)) ≡ n };
+    /// The fixed length is that of every payload, whatever the value.
+    ghost fixed: { (n : ℕ) → LEN ≡ Some n → (v : Self.Value.Meaning) → length (Self.Form.payload (number_of v)) ≡ n };
 }

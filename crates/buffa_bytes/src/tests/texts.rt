@@ -80,6 +80,30 @@ fn a_text_is_read_into_each_type(rt: HostRuntime) -> Result<(), Fail> {
 }
 
 #[test]
+fn a_length_past_the_end_asks_for_no_memory(rt: HostRuntime) {
+    // 2^63, and then nothing.
+    let huge: [u8; 10] = [0x80, 0x80, 0x80, 0x80, 0x80, 0x80, 0x80, 0x80, 0x80, 0x01];
+    let mut rest: &[u8] = &huge;
+    let refused = types::decode_bytes(rt.alloc(), &mut rest).err();
+    assert_eq!(rt; refused, Some(DecodeError::UnexpectedEof));
+    let mut rest: &[u8] = &huge;
+    let refused = types::decode_string(rt.alloc(), &mut rest).err();
+    assert_eq!(rt; refused, Some(DecodeError::UnexpectedEof));
+    let mut rest: &[u8] = &huge;
+    let refused = types::decode_bytes_to_bytes(rt.alloc(), &mut rest).err();
+    assert_eq!(rt; refused, Some(DecodeError::UnexpectedEof));
+}
+
+#[test]
+fn what_fits_is_written(rt: HostRuntime) -> Result<(), Fail> {
+    let mut text = Vec::with_capacity(rt.alloc(), 8)?;
+    types::encode_string("testing", &mut text)?;
+    assert_eq!(rt; text.as_slice(), TESTING.as_slice());
+    assert_eq!(rt; text.capacity(), 8);
+    Ok(())
+}
+
+#[test]
 fn bytes_that_are_no_text(rt: HostRuntime) {
     let bad = [2, 0xC3, 0x28];
     let mut rest: &[u8] = &bad;

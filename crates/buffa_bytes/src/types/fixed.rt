@@ -4,7 +4,8 @@ ghost use Rattle.std.specs.Prelude.{◌≡◌, length};
 ghost use Rattle.buffa_bytes.specs.Gives.{Gives};
 ghost use Rattle.buffa_bytes.specs.Reading.{taken};
 ghost use Rattle.buffa_bytes.specs.Scalars.{fixed32_at, fixed32_text, fixed64_at, fixed64_text, sfixed32_at, sfixed32_text, sfixed64_at, sfixed64_text};
-ghost use Rattle.buffa_bytes.specs.Written.{Writes};
+ghost use Rattle.buffa_bytes.specs.Written.{UsesRoom, Writes};
+ghost use Rattle.buffa_bytes.specs.Unread.{IsTailOf};
 
 use crate::buf::Buf;
 use crate::error::{DecodeError, EncodeError};
@@ -17,10 +18,11 @@ pub const FIXED32_ENCODED_LEN: usize = 4;
 pub const FIXED64_ENCODED_LEN: usize = 8;
 
 // Fills `bytes` with the first bytes of the buffer.
-#[tactic(auto, unfolding(crate::specs::Reading::taken))]
+#[tactic(auto, using(crate::proofs::TailLemmas::tail_whole, crate::proofs::TailLemmas::tail_dropped), unfolding(crate::specs::Reading::taken))]
 fn take_into<B: Buf>(buf: &mut B, bytes: &mut [u8]) -> Result<(), DecodeError>
     ensures reads { Gives (λ _. (bytes.new, B.unread buf.new)) result (taken (length bytes.old) (B.unread buf.old)) }
     ensures kept { B.kept buf.new ≡ B.kept buf.old }
+    ensures tail { IsTailOf (B.unread buf.new) (B.unread buf.old) }
 {
     if buf.remaining() < bytes.len() {
         return Err(DecodeError::UnexpectedEof);
@@ -46,7 +48,8 @@ fn take_into<B: Buf>(buf: &mut B, bytes: &mut [u8]) -> Result<(), DecodeError>
 /// encode_fixed32(1, &mut text)?; // 01 00 00 00
 /// ```
 pub fn encode_fixed32<S: EncodeSink>(value: u32, sink: &mut S) -> Result<(), EncodeError>
-    ensures { Writes result (S.written sink.old) (fixed32_text value) (S.written sink.new) }
+    ensures writes { Writes result (S.written sink.old) (fixed32_text value) (S.written sink.new) }
+    ensures room { UsesRoom result (S.room sink.old) (fixed32_text value) (S.room sink.new) }
 {
     sink.put_slice(&u32::to_le_bytes(value))
 }
@@ -63,6 +66,7 @@ pub fn encode_fixed32<S: EncodeSink>(value: u32, sink: &mut S) -> Result<(), Enc
 pub fn decode_fixed32<B: Buf>(buf: &mut B) -> Result<u32, DecodeError>
     ensures reads { Gives (λ v. (v, B.unread buf.new)) result (fixed32_at (B.unread buf.old)) }
     ensures kept { B.kept buf.new ≡ B.kept buf.old }
+    ensures tail { IsTailOf (B.unread buf.new) (B.unread buf.old) }
 {
     let mut bytes = [0; 4];
     take_into(buf, &mut bytes)?;
@@ -78,7 +82,8 @@ pub fn decode_fixed32<B: Buf>(buf: &mut B) -> Result<u32, DecodeError>
 /// encode_fixed64(1, &mut text)?; // 01 00 00 00 00 00 00 00
 /// ```
 pub fn encode_fixed64<S: EncodeSink>(value: u64, sink: &mut S) -> Result<(), EncodeError>
-    ensures { Writes result (S.written sink.old) (fixed64_text value) (S.written sink.new) }
+    ensures writes { Writes result (S.written sink.old) (fixed64_text value) (S.written sink.new) }
+    ensures room { UsesRoom result (S.room sink.old) (fixed64_text value) (S.room sink.new) }
 {
     sink.put_slice(&u64::to_le_bytes(value))
 }
@@ -95,6 +100,7 @@ pub fn encode_fixed64<S: EncodeSink>(value: u64, sink: &mut S) -> Result<(), Enc
 pub fn decode_fixed64<B: Buf>(buf: &mut B) -> Result<u64, DecodeError>
     ensures reads { Gives (λ v. (v, B.unread buf.new)) result (fixed64_at (B.unread buf.old)) }
     ensures kept { B.kept buf.new ≡ B.kept buf.old }
+    ensures tail { IsTailOf (B.unread buf.new) (B.unread buf.old) }
 {
     let mut bytes = [0; 8];
     take_into(buf, &mut bytes)?;
@@ -110,7 +116,8 @@ pub fn decode_fixed64<B: Buf>(buf: &mut B) -> Result<u64, DecodeError>
 /// encode_sfixed32(-1, &mut text)?; // FF FF FF FF
 /// ```
 pub fn encode_sfixed32<S: EncodeSink>(value: i32, sink: &mut S) -> Result<(), EncodeError>
-    ensures { Writes result (S.written sink.old) (sfixed32_text value) (S.written sink.new) }
+    ensures writes { Writes result (S.written sink.old) (sfixed32_text value) (S.written sink.new) }
+    ensures room { UsesRoom result (S.room sink.old) (sfixed32_text value) (S.room sink.new) }
 {
     sink.put_slice(&i32::to_le_bytes(value))
 }
@@ -127,6 +134,7 @@ pub fn encode_sfixed32<S: EncodeSink>(value: i32, sink: &mut S) -> Result<(), En
 pub fn decode_sfixed32<B: Buf>(buf: &mut B) -> Result<i32, DecodeError>
     ensures reads { Gives (λ v. (v, B.unread buf.new)) result (sfixed32_at (B.unread buf.old)) }
     ensures kept { B.kept buf.new ≡ B.kept buf.old }
+    ensures tail { IsTailOf (B.unread buf.new) (B.unread buf.old) }
 {
     let mut bytes = [0; 4];
     take_into(buf, &mut bytes)?;
@@ -142,7 +150,8 @@ pub fn decode_sfixed32<B: Buf>(buf: &mut B) -> Result<i32, DecodeError>
 /// encode_sfixed64(-1, &mut text)?; // FF FF FF FF FF FF FF FF
 /// ```
 pub fn encode_sfixed64<S: EncodeSink>(value: i64, sink: &mut S) -> Result<(), EncodeError>
-    ensures { Writes result (S.written sink.old) (sfixed64_text value) (S.written sink.new) }
+    ensures writes { Writes result (S.written sink.old) (sfixed64_text value) (S.written sink.new) }
+    ensures room { UsesRoom result (S.room sink.old) (sfixed64_text value) (S.room sink.new) }
 {
     sink.put_slice(&i64::to_le_bytes(value))
 }
@@ -159,6 +168,7 @@ pub fn encode_sfixed64<S: EncodeSink>(value: i64, sink: &mut S) -> Result<(), En
 pub fn decode_sfixed64<B: Buf>(buf: &mut B) -> Result<i64, DecodeError>
     ensures reads { Gives (λ v. (v, B.unread buf.new)) result (sfixed64_at (B.unread buf.old)) }
     ensures kept { B.kept buf.new ≡ B.kept buf.old }
+    ensures tail { IsTailOf (B.unread buf.new) (B.unread buf.old) }
 {
     let mut bytes = [0; 8];
     take_into(buf, &mut bytes)?;

@@ -3,7 +3,8 @@
 ghost use Rattle.std.specs.Prelude.{◌≡◌, length};
 ghost use Rattle.buffa_bytes.specs.Gives.{Gives};
 ghost use Rattle.buffa_bytes.specs.Scalars.{bool_at, bool_text, int32_at, int32_text, int64_at, int64_text, sint32_at, sint32_text, sint64_at, sint64_text, uint32_at, uint32_text, uint64_at, uint64_text};
-ghost use Rattle.buffa_bytes.specs.Written.{Writes};
+ghost use Rattle.buffa_bytes.specs.Written.{UsesRoom, Writes};
+ghost use Rattle.buffa_bytes.specs.Unread.{IsTailOf};
 
 use crate::buf::Buf;
 use crate::error::{DecodeError, EncodeError};
@@ -34,7 +35,8 @@ pub fn int32_encoded_len(value: i32) -> usize
 /// encode_int32(-7, &mut text)?; // F9 FF FF FF FF FF FF FF FF 01
 /// ```
 pub fn encode_int32<S: EncodeSink>(value: i32, sink: &mut S) -> Result<(), EncodeError>
-    ensures { Writes result (S.written sink.old) (int32_text value) (S.written sink.new) }
+    ensures writes { Writes result (S.written sink.old) (int32_text value) (S.written sink.new) }
+    ensures room { UsesRoom result (S.room sink.old) (int32_text value) (S.room sink.new) }
 {
     encode_varint(i64::from(value).cast_unsigned(), sink)
 }
@@ -51,6 +53,7 @@ pub fn encode_int32<S: EncodeSink>(value: i32, sink: &mut S) -> Result<(), Encod
 pub fn decode_int32<B: Buf>(buf: &mut B) -> Result<i32, DecodeError>
     ensures reads { Gives (λ v. (v, B.unread buf.new)) result (int32_at (B.unread buf.old)) }
     ensures kept { B.kept buf.new ≡ B.kept buf.old }
+    ensures tail { IsTailOf (B.unread buf.new) (B.unread buf.old) }
 {
     let number = decode_varint(buf)?;
     Ok(((number % (1 << 32)) as u32).cast_signed())
@@ -77,7 +80,8 @@ pub fn int64_encoded_len(value: i64) -> usize
 /// encode_int64(-7, &mut text)?; // F9 FF FF FF FF FF FF FF FF 01
 /// ```
 pub fn encode_int64<S: EncodeSink>(value: i64, sink: &mut S) -> Result<(), EncodeError>
-    ensures { Writes result (S.written sink.old) (int64_text value) (S.written sink.new) }
+    ensures writes { Writes result (S.written sink.old) (int64_text value) (S.written sink.new) }
+    ensures room { UsesRoom result (S.room sink.old) (int64_text value) (S.room sink.new) }
 {
     encode_varint(value.cast_unsigned(), sink)
 }
@@ -94,6 +98,7 @@ pub fn encode_int64<S: EncodeSink>(value: i64, sink: &mut S) -> Result<(), Encod
 pub fn decode_int64<B: Buf>(buf: &mut B) -> Result<i64, DecodeError>
     ensures reads { Gives (λ v. (v, B.unread buf.new)) result (int64_at (B.unread buf.old)) }
     ensures kept { B.kept buf.new ≡ B.kept buf.old }
+    ensures tail { IsTailOf (B.unread buf.new) (B.unread buf.old) }
 {
     let number = decode_varint(buf)?;
     Ok(number.cast_signed())
@@ -119,7 +124,8 @@ pub fn uint32_encoded_len(value: u32) -> usize
 /// encode_uint32(150, &mut text)?; // 96 01
 /// ```
 pub fn encode_uint32<S: EncodeSink>(value: u32, sink: &mut S) -> Result<(), EncodeError>
-    ensures { Writes result (S.written sink.old) (uint32_text value) (S.written sink.new) }
+    ensures writes { Writes result (S.written sink.old) (uint32_text value) (S.written sink.new) }
+    ensures room { UsesRoom result (S.room sink.old) (uint32_text value) (S.room sink.new) }
 {
     encode_varint(u64::from(value), sink)
 }
@@ -136,6 +142,7 @@ pub fn encode_uint32<S: EncodeSink>(value: u32, sink: &mut S) -> Result<(), Enco
 pub fn decode_uint32<B: Buf>(buf: &mut B) -> Result<u32, DecodeError>
     ensures reads { Gives (λ v. (v, B.unread buf.new)) result (uint32_at (B.unread buf.old)) }
     ensures kept { B.kept buf.new ≡ B.kept buf.old }
+    ensures tail { IsTailOf (B.unread buf.new) (B.unread buf.old) }
 {
     let number = decode_varint(buf)?;
     Ok((number % (1 << 32)) as u32)
@@ -161,7 +168,8 @@ pub fn uint64_encoded_len(value: u64) -> usize
 /// encode_uint64(150, &mut text)?; // 96 01
 /// ```
 pub fn encode_uint64<S: EncodeSink>(value: u64, sink: &mut S) -> Result<(), EncodeError>
-    ensures { Writes result (S.written sink.old) (uint64_text value) (S.written sink.new) }
+    ensures writes { Writes result (S.written sink.old) (uint64_text value) (S.written sink.new) }
+    ensures room { UsesRoom result (S.room sink.old) (uint64_text value) (S.room sink.new) }
 {
     encode_varint(value, sink)
 }
@@ -178,6 +186,7 @@ pub fn encode_uint64<S: EncodeSink>(value: u64, sink: &mut S) -> Result<(), Enco
 pub fn decode_uint64<B: Buf>(buf: &mut B) -> Result<u64, DecodeError>
     ensures reads { Gives (λ v. (v, B.unread buf.new)) result (uint64_at (B.unread buf.old)) }
     ensures kept { B.kept buf.new ≡ B.kept buf.old }
+    ensures tail { IsTailOf (B.unread buf.new) (B.unread buf.old) }
 {
     decode_varint(buf)
 }
@@ -202,7 +211,8 @@ pub fn sint32_encoded_len(value: i32) -> usize
 /// encode_sint32(-2, &mut text)?; // 03
 /// ```
 pub fn encode_sint32<S: EncodeSink>(value: i32, sink: &mut S) -> Result<(), EncodeError>
-    ensures { Writes result (S.written sink.old) (sint32_text value) (S.written sink.new) }
+    ensures writes { Writes result (S.written sink.old) (sint32_text value) (S.written sink.new) }
+    ensures room { UsesRoom result (S.room sink.old) (sint32_text value) (S.room sink.new) }
 {
     encode_varint(u64::from(zigzag_encode_i32(value)), sink)
 }
@@ -219,6 +229,7 @@ pub fn encode_sint32<S: EncodeSink>(value: i32, sink: &mut S) -> Result<(), Enco
 pub fn decode_sint32<B: Buf>(buf: &mut B) -> Result<i32, DecodeError>
     ensures reads { Gives (λ v. (v, B.unread buf.new)) result (sint32_at (B.unread buf.old)) }
     ensures kept { B.kept buf.new ≡ B.kept buf.old }
+    ensures tail { IsTailOf (B.unread buf.new) (B.unread buf.old) }
 {
     let number = decode_varint(buf)?;
     Ok(zigzag_decode_i32((number % (1 << 32)) as u32))
@@ -244,7 +255,8 @@ pub fn sint64_encoded_len(value: i64) -> usize
 /// encode_sint64(-2, &mut text)?; // 03
 /// ```
 pub fn encode_sint64<S: EncodeSink>(value: i64, sink: &mut S) -> Result<(), EncodeError>
-    ensures { Writes result (S.written sink.old) (sint64_text value) (S.written sink.new) }
+    ensures writes { Writes result (S.written sink.old) (sint64_text value) (S.written sink.new) }
+    ensures room { UsesRoom result (S.room sink.old) (sint64_text value) (S.room sink.new) }
 {
     encode_varint(zigzag_encode_i64(value), sink)
 }
@@ -261,6 +273,7 @@ pub fn encode_sint64<S: EncodeSink>(value: i64, sink: &mut S) -> Result<(), Enco
 pub fn decode_sint64<B: Buf>(buf: &mut B) -> Result<i64, DecodeError>
     ensures reads { Gives (λ v. (v, B.unread buf.new)) result (sint64_at (B.unread buf.old)) }
     ensures kept { B.kept buf.new ≡ B.kept buf.old }
+    ensures tail { IsTailOf (B.unread buf.new) (B.unread buf.old) }
 {
     let number = decode_varint(buf)?;
     Ok(zigzag_decode_i64(number))
@@ -278,7 +291,8 @@ pub const BOOL_ENCODED_LEN: usize = 1;
 /// encode_bool(true, &mut text)?; // 01
 /// ```
 pub fn encode_bool<S: EncodeSink>(value: bool, sink: &mut S) -> Result<(), EncodeError>
-    ensures { Writes result (S.written sink.old) (bool_text value) (S.written sink.new) }
+    ensures writes { Writes result (S.written sink.old) (bool_text value) (S.written sink.new) }
+    ensures room { UsesRoom result (S.room sink.old) (bool_text value) (S.room sink.new) }
 {
     encode_uint64(u64::from(value), sink)
 }
@@ -295,6 +309,7 @@ pub fn encode_bool<S: EncodeSink>(value: bool, sink: &mut S) -> Result<(), Encod
 pub fn decode_bool<B: Buf>(buf: &mut B) -> Result<bool, DecodeError>
     ensures reads { Gives (λ v. (v, B.unread buf.new)) result (bool_at (B.unread buf.old)) }
     ensures kept { B.kept buf.new ≡ B.kept buf.old }
+    ensures tail { IsTailOf (B.unread buf.new) (B.unread buf.old) }
 {
     let number = decode_varint(buf)?;
     Ok(number != 0)

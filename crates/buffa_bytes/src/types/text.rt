@@ -1,11 +1,12 @@
 //! Strings and bytes: a length and so many bytes.
 
-ghost use Rattle.std.specs.Prelude.{◌≡◌, length, string_bytes};
-ghost use Rattle.buffa_bytes.specs.Gives.{GivesUnlessFull};
+ghost use Rattle.std.specs.Prelude.{◌≡◌, length, string_bytes, IsOk};
+ghost use Rattle.buffa_bytes.specs.Gives.{FullOnlyIf, GivesUnlessFull};
 ghost use Rattle.buffa_bytes.specs.Reading.{delimited_at};
 ghost use Rattle.buffa_bytes.specs.Texts.{bytes_as, string_as};
 ghost use Rattle.buffa_bytes.specs.Values.{delimited_text, string_at};
-ghost use Rattle.buffa_bytes.specs.Written.{Writes};
+ghost use Rattle.buffa_bytes.specs.Written.{UsesRoom, Writes};
+ghost use Rattle.buffa_bytes.specs.Unread.{IsTailOf};
 
 use crate::buf::{Buf, copy_bytes};
 use crate::error::{DecodeError, EncodeError};
@@ -35,7 +36,8 @@ pub fn string_encoded_len(value: &str) -> usize
 /// encode_string("bee", &mut text)?; // 03 62 65 65
 /// ```
 pub fn encode_string<S: EncodeSink>(value: &str, sink: &mut S) -> Result<(), EncodeError>
-    ensures { Writes result (S.written sink.old) (delimited_text value.now) (S.written sink.new) }
+    ensures writes { Writes result (S.written sink.old) (delimited_text value.now) (S.written sink.new) }
+    ensures room { UsesRoom result (S.room sink.old) (delimited_text value.now) (S.room sink.new) }
 {
     encode_bytes(value.as_bytes(), sink)
 }
@@ -52,7 +54,9 @@ pub fn encode_string<S: EncodeSink>(value: &str, sink: &mut S) -> Result<(), Enc
 /// ```
 pub fn decode_string<B: Buf>(alloc: Global, buf: &mut B) -> Result<String, DecodeError>
     ensures reads { GivesUnlessFull (λ s. (string_bytes s, B.unread buf.new)) result (string_at (B.unread buf.old)) }
+    ensures full { FullOnlyIf result (IsOk (delimited_at (B.unread buf.old))) }
     ensures kept { B.kept buf.new ≡ B.kept buf.old }
+    ensures tail { IsTailOf (B.unread buf.new) (B.unread buf.old) }
 {
     let bytes = decode_bytes(alloc, buf)?;
     match String::from_utf8(bytes) {
@@ -80,9 +84,10 @@ pub fn bytes_encoded_len(value: &[u8]) -> usize
 /// ```ignore
 /// encode_bytes(&[0xDE, 0xAD], &mut text)?; // 02 DE AD
 /// ```
-#[tactic(auto, using(crate::proofs::SinkLemmas::writes_then, crate::proofs::SinkLemmas::front_first))]
+#[tactic(auto, using(crate::proofs::SinkLemmas::writes_then, crate::proofs::SinkLemmas::front_first, crate::proofs::SinkLemmas::room_then))]
 pub fn encode_bytes<S: EncodeSink>(value: &[u8], sink: &mut S) -> Result<(), EncodeError>
-    ensures { Writes result (S.written sink.old) (delimited_text value.now) (S.written sink.new) }
+    ensures writes { Writes result (S.written sink.old) (delimited_text value.now) (S.written sink.new) }
+    ensures room { UsesRoom result (S.room sink.old) (delimited_text value.now) (S.room sink.new) }
 {
     encode_varint(value.len() as u64, sink)?;
     sink.put_slice(value)
@@ -98,9 +103,12 @@ pub fn encode_bytes<S: EncodeSink>(value: &[u8], sink: &mut S) -> Result<(), Enc
 /// let mut rest: &[u8] = &[2, 0xDE, 0xAD];
 /// let dead = decode_bytes(alloc, &mut rest)?;
 /// ```
+#[tactic(auto, using(crate::proofs::TailLemmas::tail_more))]
 pub fn decode_bytes<B: Buf>(alloc: Global, buf: &mut B) -> Result<Vec<u8>, DecodeError>
     ensures reads { GivesUnlessFull (λ v. (v.items, B.unread buf.new)) result (delimited_at (B.unread buf.old)) }
+    ensures full { FullOnlyIf result (IsOk (delimited_at (B.unread buf.old))) }
     ensures kept { B.kept buf.new ≡ B.kept buf.old }
+    ensures tail { IsTailOf (B.unread buf.new) (B.unread buf.old) }
 {
     let len = decode_varint(buf)?;
     copy_bytes(alloc, buf, len)
@@ -117,7 +125,9 @@ pub fn decode_bytes<B: Buf>(alloc: Global, buf: &mut B) -> Result<Vec<u8>, Decod
 /// ```
 pub fn decode_bytes_to_bytes<B: Buf>(alloc: Global, buf: &mut B) -> Result<Bytes, DecodeError>
     ensures reads { GivesUnlessFull (λ b. (b, B.unread buf.new)) result (delimited_at (B.unread buf.old)) }
+    ensures full { FullOnlyIf result (IsOk (delimited_at (B.unread buf.old))) }
     ensures kept { B.kept buf.new ≡ B.kept buf.old }
+    ensures tail { IsTailOf (B.unread buf.new) (B.unread buf.old) }
 {
     let bytes = decode_bytes(alloc, buf)?;
     let Ok(shared) = Bytes::from_vec(bytes) else {
@@ -140,7 +150,9 @@ pub fn decode_string_to<S: ProtoString, B: Buf>(
     buf: &mut B,
 ) -> Result<S, DecodeError>
     ensures reads { GivesUnlessFull (λ s. (S.meaning s, B.unread buf.new)) result (string_as S.of_text (B.unread buf.old)) }
+    ensures full { FullOnlyIf result (IsOk (delimited_at (B.unread buf.old))) }
     ensures kept { B.kept buf.new ≡ B.kept buf.old }
+    ensures tail { IsTailOf (B.unread buf.new) (B.unread buf.old) }
 {
     let bytes = decode_bytes(alloc, buf)?;
     S::from_wire(alloc, &bytes)
@@ -157,7 +169,9 @@ pub fn decode_string_to<S: ProtoString, B: Buf>(
 /// ```
 pub fn decode_bytes_to<P: ProtoBytes, B: Buf>(alloc: Global, buf: &mut B) -> Result<P, DecodeError>
     ensures reads { GivesUnlessFull (λ p. (P.meaning p, B.unread buf.new)) result (bytes_as P.of_bytes (B.unread buf.old)) }
+    ensures full { FullOnlyIf result (IsOk (delimited_at (B.unread buf.old))) }
     ensures kept { B.kept buf.new ≡ B.kept buf.old }
+    ensures tail { IsTailOf (B.unread buf.new) (B.unread buf.old) }
 {
     let bytes = decode_bytes(alloc, buf)?;
     P::from_wire(alloc, &bytes)

@@ -46,7 +46,7 @@ impl Scalar for Fixed32 {
 
     ghost means = { λ v h. refl };
 
-    ghost fixed = { λ n h v _. one_length h refl };
+    ghost fixed = { λ n h v. one_length h refl };
 }
 
 /// `fixed64`: a `u64` as eight bytes.
@@ -85,7 +85,7 @@ impl Scalar for Fixed64 {
 
     ghost means = { λ v h. refl };
 
-    ghost fixed = { λ n h v _. one_length h refl };
+    ghost fixed = { λ n h v. one_length h refl };
 }
 
 /// `sfixed32`: an `i32` as four bytes in two's complement.
@@ -124,7 +124,7 @@ impl Scalar for Sfixed32 {
 
     ghost means = { sfixed32_means };
 
-    ghost fixed = { λ n h v _. one_length h refl };
+    ghost fixed = { λ n h v. one_length h refl };
 }
 
 /// `sfixed64`: an `i64` as eight bytes in two's complement.
@@ -163,5 +163,5 @@ impl Scalar for Sfixed64 {
 
     ghost means = { sfixed64_means };
 
-    ghost fixed = { λ n h v _. one_length h refl };
+    ghost fixed = { λ n h v. one_length h refl };
 }

@@ -50,7 +50,7 @@ impl Scalar for Int32 {
 
     ghost means = { int32_means };
 
-    ghost fixed = { λ n h v _. no_fixed_length h };
+    ghost fixed = { λ n h v. no_fixed_length h };
 }
 
 /// `int64`: an `i64` as a varint of its two's complement.
@@ -89,7 +89,7 @@ impl Scalar for Int64 {
 
     ghost means = { int64_means };
 
-    ghost fixed = { λ n h v _. no_fixed_length h };
+    ghost fixed = { λ n h v. no_fixed_length h };
 }
 
 /// `uint32`: a `u32` as a varint; the low 32 bits are read.
@@ -128,7 +128,7 @@ impl Scalar for Uint32 {
 
     ghost means = { uint32_means };
 
-    ghost fixed = { λ n h v _. no_fixed_length h };
+    ghost fixed = { λ n h v. no_fixed_length h };
 }
 
 /// `uint64`: a `u64` as a varint.
@@ -167,7 +167,7 @@ impl Scalar for Uint64 {
 
     ghost means = { λ v h. refl };
 
-    ghost fixed = { λ n h v _. no_fixed_length h };
+    ghost fixed = { λ n h v. no_fixed_length h };
 }
 
 /// `sint32`: an `i32` as a varint of its zigzag; the low 32 bits are read.
@@ -206,7 +206,7 @@ impl Scalar for Sint32 {
 
     ghost means = { sint32_means };
 
-    ghost fixed = { λ n h v _. no_fixed_length h };
+    ghost fixed = { λ n h v. no_fixed_length h };
 }
 
 /// `sint64`: an `i64` as a varint of its zigzag.
@@ -245,7 +245,7 @@ impl Scalar for Sint64 {
 
     ghost means = { λ v h. sint64_means v };
 
-    ghost fixed = { λ n h v _. no_fixed_length h };
+    ghost fixed = { λ n h v. no_fixed_length h };
 }
 
 /// `bool`: a varint, 0 or 1; anything but 0 is read as true.
@@ -284,5 +284,5 @@ impl Scalar for Bool {
 
     ghost means = { λ v h. bool_means v };
 
-    ghost fixed = { λ n h v _. one_length h (bool_length v) };
+    ghost fixed = { λ n h v. one_length h (bool_length v) };
 }

@@ -128,3 +128,43 @@ fn lists_grow_and_shrink(rt: HostRuntime) -> Result<(), Fail> {
     assert!(rt; left.next().is_none());
     Ok(())
 }
+
+#[test]
+fn retain_looks_at_each_field_once(rt: HostRuntime) -> Result<(), Fail> {
+    let mut fields = UnknownFields::new(rt.alloc());
+    for number in [3, 7, 3] {
+        fields.push(field(number, UnknownFieldData::Varint(u64::from(number))))?;
+    }
+    let mut calls = 0u32;
+    fields.retain(|_| {
+        calls = calls.saturating_add(1);
+        calls != 2
+    });
+    assert_eq!(rt; calls, 3);
+    assert_eq!(rt; fields.len(), 2);
+    let gone = 7;
+    fields.retain(|kept| kept.number != gone);
+    assert_eq!(rt; fields.len(), 2);
+    Ok(())
+}
+
+#[test]
+fn slots_stay_spent_after_a_fault(rt: HostRuntime) -> Result<(), Fail> {
+    // A group of two fields, whose end tag has another number.
+    let mut rest: &[u8] = &[0x08, 1, 0x08, 2, 0x14];
+    let mut budget = Budget::new(5).with_element_memory(9);
+    let ctx = DecodeContext::new(RECURSION_LIMIT, &mut budget);
+    let tag = Tag::new(1, WireType::StartGroup);
+    let refused = decode_unknown_field(rt.alloc(), tag, &mut rest, ctx).err();
+    assert_eq!(rt; refused, Some(DecodeError::InvalidEndGroup(2)));
+    assert_eq!(rt; budget.unknown_left(), 2);
+    assert_eq!(rt; budget.memory_left(), 9);
+    Ok(())
+}
+
+#[test]
+fn no_bytes_are_no_fields(rt: HostRuntime) -> Result<(), Fail> {
+    let fields = UnknownFields::decode_from_slice(rt.alloc(), &[])?;
+    assert_eq!(rt; fields.len(), 0);
+    Ok(())
+}

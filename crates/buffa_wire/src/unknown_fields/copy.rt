@@ -1,6 +1,7 @@
 //! Copies of unknown fields.
 
-ghost use Rattle.std.specs.Prelude.{◌≡◌, IfOk};
+ghost use Rattle.std.specs.Prelude.{◌≡◌, IfOk, IsOk};
+ghost use Rattle.buffa_wire.specs.Records.{IsNumeric};
 ghost use Rattle.buffa_wire.specs.View.{datum_of, record_of, records_in};
 
 use crate::unknown_fields::{UnknownField, UnknownFieldData, UnknownFields};
@@ -10,14 +11,15 @@ impl UnknownField {
     /// An equal field, groups and all, whose memory comes from the same allocator.
     ///
     /// # Errors
-    /// Where memory runs out.
+    /// Where memory runs out; a number takes none.
     ///
     /// ```ignore
     /// kept.push(field.copy()?)?;
     /// ```
     #[cycle(copy)]
     pub fn copy(&self) -> Result<UnknownField, AllocError>
-        ensures { IfOk result (λ f. record_of f ≡ record_of self.now) }
+        ensures equal { IfOk result (λ f. record_of f ≡ record_of self.now) }
+        ensures number { IsNumeric (datum_of self.now.payload) → IsOk result }
     {
         let payload = self.payload.copy()?;
         Ok(UnknownField {
@@ -30,7 +32,8 @@ impl UnknownField {
 impl UnknownFieldData {
     #[cycle(copy)]
     fn copy(&self) -> Result<UnknownFieldData, AllocError>
-        ensures { IfOk result (λ d. datum_of d ≡ datum_of self.now) }
+        ensures equal { IfOk result (λ d. datum_of d ≡ datum_of self.now) }
+        ensures number { IsNumeric (datum_of self.now) → IsOk result }
     {
         match self {
             UnknownFieldData::Varint(v) => Ok(UnknownFieldData::Varint(*v)),

@@ -3,8 +3,9 @@
 ghost use Rattle.std.specs.Prelude.{◌≡◌, ◌+◌, ◌<◌, ◌≤◌, ℕ, Bool, [], ◌∷◌, ◌++◌, length, IsOk, OnErr, OnOk};
 ghost use Rattle.std.specs.Fn.{CalledAt};
 ghost use Rattle.std.specs.List.{filter};
+ghost use Rattle.std.specs.List.Retain.{IsFiltered};
 ghost use Rattle.buffa_wire.specs.Records.{Datum};
-ghost use Rattle.buffa_wire.specs.View.{AnswersRecords, record_of, records_in};
+ghost use Rattle.buffa_wire.specs.View.{AnswersRecords, CalledAtRecord, record_of, records_in};
 
 use crate::unknown_fields::{UnknownField, UnknownFields};
 use std::alloc::{AllocError, Global};
@@ -103,8 +104,8 @@ impl UnknownFields {
         prove!(done.is_ok());
     }
 
-    /// Keeps the fields of which `f` says true, in order, and lets the others go. It takes no memory, and
-    /// leaves no less room.
+    /// Keeps the fields of which `f` says true, in order, and lets the others go. It calls `f` at each field
+    /// once, in order. It takes no memory, and leaves no less room.
     ///
     /// ```ignore
     /// fields.retain(|field| field.number != 7);
@@ -113,6 +114,7 @@ impl UnknownFields {
     where
         F: Drop,
         requires { F.IsAlwaysCallable f }
+        ensures calls { IsFiltered (CalledAtRecord (CalledAt F.FnMut)) f self.old.records self.new.records }
         ensures records { (p : ℕ × Datum → Bool) → AnswersRecords (CalledAt F.FnMut) f p → self.new.records ≡ filter p self.old.records }
         ensures spare { self.old.spare ≤ self.new.spare }
     {

@@ -1,10 +1,12 @@
 //! Reading unknown fields.
 
-ghost use Rattle.std.specs.Prelude.{◌≡◌, ◌≢◌, IfOk};
-ghost use Rattle.buffa_wire.specs.Gives.{GivesUnlessFull};
-ghost use Rattle.buffa_wire.specs.Left.{left_in};
+ghost use Rattle.std.specs.Prelude.{◌≡◌, ◌≢◌, ◌<◌, ◌+◌, IfOk, IsOk};
+ghost use Rattle.buffa_wire.specs.Gives.{FullOnlyIf, GivesUnlessFull};
+ghost use Rattle.buffa_wire.specs.Left.{SlotsSpent, left_in};
+ghost use Rattle.buffa_wire.specs.Reading.{tag_at};
 ghost use Rattle.buffa_wire.specs.Records.{records_of};
-ghost use Rattle.buffa_wire.specs.RecordReading.{field_at, group_at, list_at, plain_at};
+ghost use Rattle.buffa_wire.specs.RecordReading.{TakesMemory, field_at, group_at, list_at, plain_at};
+ghost use Rattle.buffa_wire.specs.Unread.{IsTailOf, bytes_read};
 ghost use Rattle.buffa_wire.specs.View.{datum_of};
 
 use crate::budget::{Budget, DEFAULT_UNKNOWN_FIELD_LIMIT};
@@ -23,7 +25,9 @@ fn decode_plain<B: Buf>(
     requires no_group { wire_type ≢ WireType.StartGroup }
     requires no_end { wire_type ≢ WireType.EndGroup }
     ensures reads { GivesUnlessFull (λ d. (datum_of d, B.unread buf.new)) result (plain_at wire_type (B.unread buf.old)) }
+    ensures full { FullOnlyIf result (TakesMemory 0 wire_type (B.unread buf.old)) }
     ensures kept { B.kept buf.new ≡ B.kept buf.old }
+    ensures tail { IsTailOf (B.unread buf.new) (B.unread buf.old) }
 {
     match wire_type {
         WireType::Varint => {
@@ -48,7 +52,9 @@ fn decode_plain<B: Buf>(
 
 /// Reads the field whose tag was read, and keeps it.
 ///
-/// It spends one slot for the field, and one for each field in its groups, and no element memory.
+/// It spends one slot for the field, and one for each field in its groups, and no element memory. After an
+/// error no more slots are spent than one and the bytes that were read. Memory is asked for only where a slot
+/// was left, for bytes that are there and for the fields of a group.
 ///
 /// # Errors
 /// The first fault, in this order: [`DecodeError::InvalidEndGroup`] for an end tag, which takes no slot;
@@ -71,9 +77,15 @@ pub fn decode_unknown_field<B: Buf>(
 ) -> Result<UnknownField, DecodeError>
     ensures reads { GivesUnlessFull (λ f. (datum_of f.payload, (left_in ctx.exit).unknown, B.unread buf.new)) result
         (field_at ctx.entry.depth ctx.entry.budget.now.unknown tag.number tag.wire_type (B.unread buf.old)) }
+    ensures full { FullOnlyIf result ((0 < ctx.entry.budget.now.unknown)
+        × TakesMemory ctx.entry.depth tag.wire_type (B.unread buf.old)) }
     ensures number { IfOk result (λ f. f.number ≡ tag.number) }
     ensures memory { (left_in ctx.exit).memory ≡ ctx.entry.budget.now.memory }
+    ensures spent { SlotsSpent (1 + bytes_read (B.unread buf.old) (B.unread buf.new))
+        ctx.entry.budget.now.unknown (left_in ctx.exit).unknown }
+    ensures end { tag.wire_type ≡ WireType.EndGroup → left_in ctx.exit ≡ ctx.entry.budget.now }
     ensures kept { B.kept buf.new ≡ B.kept buf.old }
+    ensures tail { IsTailOf (B.unread buf.new) (B.unread buf.old) }
 {
     let DecodeContext { depth, budget } = ctx;
     let Tag { number, wire_type } = tag;
@@ -106,8 +118,12 @@ fn decode_group<B: Buf>(
 ) -> Result<UnknownFields, DecodeError>
     ensures reads { GivesUnlessFull (λ f. (records_of f.records, (left_in ctx.exit).unknown, B.unread buf.new)) result
         (group_at ctx.entry.depth ctx.entry.budget.now.unknown number (B.unread buf.old)) }
+    ensures full { FullOnlyIf result ((0 < ctx.entry.depth) × IsOk (tag_at (B.unread buf.old))) }
     ensures memory { (left_in ctx.exit).memory ≡ ctx.entry.budget.now.memory }
+    ensures spent { SlotsSpent (bytes_read (B.unread buf.old) (B.unread buf.new))
+        ctx.entry.budget.now.unknown (left_in ctx.exit).unknown }
     ensures kept { B.kept buf.new ≡ B.kept buf.old }
+    ensures tail { IsTailOf (B.unread buf.new) (B.unread buf.old) }
 {
     let DecodeContext { depth, budget } = ctx;
     if depth == 0 {
@@ -139,13 +155,14 @@ impl UnknownFields {
     ///
     /// # Errors
     /// The first fault: of a tag, as [`Tag::decode`] tells it, or of the field behind it, as
-    /// [`decode_unknown_field`] does. Or [`DecodeError::OutOfMemory`].
+    /// [`decode_unknown_field`] does. Or [`DecodeError::OutOfMemory`], only where a tag begins the bytes.
     ///
     /// ```ignore
     /// let fields = UnknownFields::decode_from_slice(alloc, &[0x38, 0x96, 0x01])?;
     /// ```
     pub fn decode_from_slice(alloc: Global, bytes: &[u8]) -> Result<UnknownFields, DecodeError>
-        ensures { GivesUnlessFull (λ f. f.records) result (list_at RECURSION_LIMIT DEFAULT_UNKNOWN_FIELD_LIMIT bytes.now) }
+        ensures reads { GivesUnlessFull (λ f. f.records) result (list_at RECURSION_LIMIT DEFAULT_UNKNOWN_FIELD_LIMIT bytes.now) }
+        ensures full { FullOnlyIf result (IsOk (tag_at bytes.now)) }
     {
         let mut budget = Budget::new(DEFAULT_UNKNOWN_FIELD_LIMIT);
         let mut rest = bytes;

@@ -2,7 +2,7 @@
 
 ghost use Rattle.buffa_wire.specs.Text.{W, field_text, payload_text};
 ghost use Rattle.buffa_wire.specs.View.{datum_of};
-ghost use Rattle.buffa_wire.specs.Written.{Writes};
+ghost use Rattle.buffa_wire.specs.Written.{UsesRoom, Writes};
 
 use crate::unknown_fields::tag::tag_value;
 use crate::unknown_fields::{UnknownFieldData, UnknownFields};
@@ -24,7 +24,8 @@ impl UnknownFields {
     /// ```
     #[cycle(write)]
     pub fn write_to<S: EncodeSink>(&self, sink: &mut S) -> Result<(), EncodeError>
-        ensures { Writes result (S.written sink.old) (W self.now.records) (S.written sink.new) }
+        ensures writes { Writes result (S.written sink.old) (W self.now.records) (S.written sink.new) }
+        ensures room { UsesRoom result (S.room sink.old) (W self.now.records) (S.room sink.new) }
     {
         for field in &self.fields {
             write_field(field.number, &field.payload, sink)?;
@@ -35,13 +36,14 @@ impl UnknownFields {
 
 // Writes a field.
 #[cycle(write)]
-#[tactic(auto, using(buffa_bytes::proofs::SinkLemmas::writes_then, buffa_bytes::proofs::SinkLemmas::front_first))]
+#[tactic(auto, using(buffa_bytes::proofs::SinkLemmas::writes_then, buffa_bytes::proofs::SinkLemmas::front_first, buffa_bytes::proofs::SinkLemmas::room_then))]
 fn write_field<S: EncodeSink>(
     number: u32,
     payload: &UnknownFieldData,
     sink: &mut S,
 ) -> Result<(), EncodeError>
-    ensures { Writes result (S.written sink.old) (field_text number (datum_of payload.now)) (S.written sink.new) }
+    ensures writes { Writes result (S.written sink.old) (field_text number (datum_of payload.now)) (S.written sink.new) }
+    ensures room { UsesRoom result (S.room sink.old) (field_text number (datum_of payload.now)) (S.room sink.new) }
 {
     encode_varint(tag_value(number, payload.wire_type()), sink)?;
     write_payload(number, payload, sink)
@@ -49,13 +51,14 @@ fn write_field<S: EncodeSink>(
 
 // Writes what follows the tag.
 #[cycle(write)]
-#[tactic(auto, using(buffa_bytes::proofs::SinkLemmas::writes_then, buffa_bytes::proofs::SinkLemmas::front_first))]
+#[tactic(auto, using(buffa_bytes::proofs::SinkLemmas::writes_then, buffa_bytes::proofs::SinkLemmas::front_first, buffa_bytes::proofs::SinkLemmas::room_then))]
 fn write_payload<S: EncodeSink>(
     number: u32,
     payload: &UnknownFieldData,
     sink: &mut S,
 ) -> Result<(), EncodeError>
-    ensures { Writes result (S.written sink.old) (payload_text number (datum_of payload.now)) (S.written sink.new) }
+    ensures writes { Writes result (S.written sink.old) (payload_text number (datum_of payload.now)) (S.written sink.new) }
+    ensures room { UsesRoom result (S.room sink.old) (payload_text number (datum_of payload.now)) (S.room sink.new) }
 {
     match payload {
         UnknownFieldData::Varint(v) => return encode_varint(*v, sink),

@@ -1,5 +1,6 @@
 use Rattle.std.proofs.Common.{rules, arith, ◌≡◌, ◌∙◌, ◌++◌, ◌≤◌, take, length, length-drop}
 use Rattle.buffa_bytes.proofs.BufLemmas.{chunk_moved, chunk_dropped}
+use Rattle.buffa_bytes.proofs.TailLemmas.{tail_more, tail_dropped}
 use Rattle.buffa_bytes.proofs.buf.move_bytes.Goals as goal
 
 pub loop-left-preserved : goal.loop-left-preserved
@@ -15,5 +16,6 @@ loop-left-preserved g c =
       within = rw c.advance.ensures.rest (omega (arith, length-drop n (u p.buf), p.invariant.within));
       moved = rw (c.advance.ensures.rest, held) (chunk_moved n p.left p.bytes.items chunk (u p.buf) c.chunk-chunk.ensures within_chunk within_left ∙ p.invariant.moved);
       rest = rw c.advance.ensures.rest (chunk_dropped n p.left (u p.buf) within_left ∙ p.invariant.rest);
+      tail = tail_more _ _ _ (tail_dropped n _ _ c.advance.ensures.rest) p.invariant.tail;
       kept = c.advance.ensures.kept ∙ p.invariant.kept;
     }

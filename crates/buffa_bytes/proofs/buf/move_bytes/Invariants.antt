@@ -1,4 +1,5 @@
 use Rattle.std.proofs.Common.{◌≡◌, ◌≤◌, ◌++◌, length, take, drop}
+use Rattle.buffa_bytes.specs.Unread.{IsTailOf}
 use Rattle.buffa_bytes.proofs.buf.move_bytes.Given as goal
 
 abbrev pub invariant-loop-left : goal.invariant-loop-left
@@ -6,6 +7,7 @@ invariant-loop-left g l = record {
   within : l.left ≤ length (g.B.Buf.unread l.buf);
   moved : l.bytes.items ++ take l.left (g.B.Buf.unread l.buf) ≡ l.fn.bytes.items ++ take l.len (g.B.Buf.unread l.fn.buf);
   rest : drop l.left (g.B.Buf.unread l.buf) ≡ drop l.len (g.B.Buf.unread l.fn.buf);
+  tail : IsTailOf (g.B.Buf.unread l.buf) (g.B.Buf.unread l.fn.buf);
   kept : g.B.Buf.kept l.buf ≡ g.B.Buf.kept l.fn.buf;
 }
 

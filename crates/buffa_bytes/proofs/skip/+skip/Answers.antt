@@ -1,6 +1,7 @@
 use Rattle.std.proofs.Common.{arith, ◌∙◌, sym}
 use Rattle.std.proofs.lemmas.Result.{err_from_is_err_and}
 use Rattle.buffa_bytes.proofs.FieldLemmas.{tag_falls, skip_falls, group_limit, group_tag_err, group_end, group_other, group_skip_err, group_next}
+use Rattle.buffa_bytes.proofs.TailLemmas.{tail_more}
 use Rattle.buffa_bytes.proofs.skip.+skip.Goals as goal
 
 pub skip_group-returns-then-depth-eq0-clause-reads : goal.skip_group-returns-then-depth-eq0-clause-reads
@@ -24,6 +25,7 @@ skip_group-loop-tag-smaller g t c = omega (arith, tag_falls _ _ c.in_ok-tag.ensu
 
 pub skip_group-loop-tag-preserved : goal.skip_group-loop-tag-preserved
 skip_group-loop-tag-preserved g t c = record {
+  tail = tail_more _ _ _ c.in_ok-skip_field_depth.ensures.tail (tail_more _ _ _ c.in_ok-tag.ensures.tail c.loop-tag.invariant.tail);
   kept = c.in_ok-skip_field_depth.ensures.kept ∙ c.in_ok-tag.ensures.kept ∙ c.loop-tag.invariant.kept;
   read = group_next _ _ _ _ _ _ c.if-depth-eq0.false c.loop-tag.invariant.read c.in_ok-tag.ensures.reads (λ e. c.in_default.not-EndGroup (c.wire_type.ensures ∙ e)) c.in_ok-skip_field_depth.ensures.reads;
 }
@@ -33,5 +35,6 @@ skip_group-returns-in_err-skip_field_depth g t c =
     let p = err_from_is_err_and c.from_residual-in_err-skip_field_depth.result c.from_residual-in_err-skip_field_depth.ensures.1 in
     record {
       reads = rw (p.1, p.2) (group_skip_err _ _ _ _ _ _ c.if-depth-eq0.false c.loop-tag.invariant.read c.in_ok-tag.ensures.reads (λ e. c.in_default.not-EndGroup (c.wire_type.ensures ∙ e)) c.in_err-skip_field_depth.ensures.reads);
+      tail = tail_more _ _ _ c.in_err-skip_field_depth.ensures.tail (tail_more _ _ _ c.in_ok-tag.ensures.tail c.loop-tag.invariant.tail);
       kept = c.in_err-skip_field_depth.ensures.kept ∙ c.in_ok-tag.ensures.kept ∙ c.loop-tag.invariant.kept;
     }

@@ -1,5 +1,6 @@
 use Rattle.std.proofs.Common.{◌≡◌, length, ◌+◌, ◌*◌}
 use Rattle.buffa_bytes.specs.Reading.{group_at}
+use Rattle.buffa_bytes.specs.Unread.{IsTailOf}
 use Rattle.buffa_bytes.proofs.skip.+skip.Given as goal
 
 abbrev pub decreases-skip_field_depth : goal.decreases-skip_field_depth
@@ -10,6 +11,7 @@ decreases-skip_group g l = 2 * l.depth
 
 abbrev pub invariant-skip_group-loop-tag : goal.invariant-skip_group-loop-tag
 invariant-skip_group-loop-tag g l = record {
+  tail : IsTailOf (g.B.Buf.unread l.buf) (g.B.Buf.unread l.fn.buf);
   kept : g.B.Buf.kept l.buf ≡ g.B.Buf.kept l.fn.buf;
   read : group_at l.depth l.number (g.B.Buf.unread l.buf) ≡ group_at l.depth l.number (g.B.Buf.unread l.fn.buf);
 }

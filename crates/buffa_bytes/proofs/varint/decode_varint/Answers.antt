@@ -1,13 +1,14 @@
 use Rattle.std.proofs.Common.{arith, refl, ◌∙◌, ◌+◌, ◌*◌, ◌^◌, ◌≤◌}
 use Rattle.buffa_bytes.proofs.DigitLemmas.{digit_room, next_scale, next_scale_is, next_below}
 use Rattle.buffa_bytes.proofs.StepLemmas.{behind_none, digit_end, digit_long, digit_last, digit_more}
+use Rattle.buffa_bytes.proofs.TailLemmas.{tail_whole, tail_more}
 use Rattle.buffa_bytes.specs.Reading.{varint_at}
 use Rattle.buffa_bytes.proofs.varint.decode_varint.Goals as goal
 use Rattle.buffa_bytes.proofs.varint.decode_varint.Goals.{After-from}
 
 pub loop-place-init : goal.loop-place-init
 unfolding varint_at
-loop-place-init g c = record { scale = refl; below = omega arith; kept = refl; read = behind_none _ }
+loop-place-init g c = record { scale = refl; below = omega arith; tail = tail_whole _; kept = refl; read = behind_none _ }
 
 pub returns-in_default-clause-reads : goal.returns-in_default-clause-reads
 returns-in_default-clause-reads g c = digit_end _ _ _ _ _ c.in_default.ensures.taken.0 c.loop-place.invariant.read
@@ -39,6 +40,7 @@ loop-place-preserved g c =
     record {
       scale = next_scale_is p.place p.scale p.invariant.scale;
       below = next_below p.value p.scale c.from.result c.in-Some.byte p.invariant.below c.from.ensures;
+      tail = tail_more _ _ _ c.in-Some.ensures.tail p.invariant.tail;
       kept = c.in-Some.ensures.kept ∙ p.invariant.kept;
       read = digit_more _ _ _ _ _ _ _ _ (omega arith) c.else-place-eq9.either c.if-byte-lt128.false c.from.ensures c.in-Some.ensures.taken p.invariant.read;
     }

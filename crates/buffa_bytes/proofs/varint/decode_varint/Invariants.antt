@@ -1,5 +1,6 @@
 use Rattle.std.proofs.Common.{◌≡◌, ◌-◌, ◌^◌, ◌<◌}
 use Rattle.buffa_bytes.specs.Reading.{varint_within, varint_at}
+use Rattle.buffa_bytes.specs.Unread.{IsTailOf}
 use Rattle.buffa_bytes.proofs.StepLemmas.{behind}
 use Rattle.buffa_bytes.proofs.varint.decode_varint.Given as goal
 
@@ -7,6 +8,7 @@ abbrev pub invariant-loop-place : goal.invariant-loop-place
 invariant-loop-place g l = record {
   scale : l.scale ≡ 128 ^ l.place;
   below : l.value < l.scale;
+  tail : IsTailOf (g.B.Buf.unread l.buf) (g.B.Buf.unread l.fn.buf);
   kept : g.B.Buf.kept l.buf ≡ g.B.Buf.kept l.fn.buf;
   read : behind l.value l.scale (varint_within (9 - l.place) (g.B.Buf.unread l.buf)) ≡ varint_at (g.B.Buf.unread l.fn.buf);
 }

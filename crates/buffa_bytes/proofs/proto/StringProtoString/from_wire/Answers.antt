@@ -4,11 +4,14 @@ use Rattle.std.proofs.lemmas.Bool.{false_from_ne_true}
 use Rattle.std.proofs.lemmas.Str.{IsUtf8-from_is_utf8, is_utf8-from_IsUtf8}
 use Rattle.buffa_bytes.proofs.proto.StringProtoString.from_wire.Goals as goal
 
-pub returns-in_default : goal.returns-in_default
-returns-in_default c ne =
+pub returns-in_default-clause-reads : goal.returns-in_default-clause-reads
+returns-in_default-clause-reads c ne =
     let bad : is_utf8 c.args.bytes.now ≡ false = false_from_ne_true (is_utf8 c.args.bytes.now) (λ h. c.in_default.ensures.cases.0 (IsUtf8-from_is_utf8 c.args.bytes.now h)) in
     rw bad refl
 
-pub returns : goal.returns
-returns c =
+pub returns-in_default-from_str-clause-full : goal.returns-in_default-from_str-clause-full
+returns-in_default-from_str-clause-full c = λ e. is_utf8-from_IsUtf8 c.args.bytes.now c.in-Ok.ensures.cases.1
+
+pub returns-clause-reads : goal.returns-clause-reads
+returns-clause-reads c =
     rw (is_utf8-from_IsUtf8 c.args.bytes.now c.in-Ok.ensures.cases.1, c.in-Ok-from_str.ensures.ok, c.in-Ok.ensures.cases.0) refl

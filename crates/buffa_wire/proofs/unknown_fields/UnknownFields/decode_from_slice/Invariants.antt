@@ -2,11 +2,15 @@ use Rattle.std.proofs.Common.{◌≡◌, length}
 use Rattle.buffa_wire.specs.Records.{records_of}
 use Rattle.buffa_wire.specs.RecordReading.{records_at}
 use Rattle.buffa_wire.proofs.ReadLemmas.{behind}
+use Rattle.buffa_wire.proofs.SpentLemmas.{IsBegun}
 use Rattle.buffa_wire.proofs.unknown_fields.UnknownFields.decode_from_slice.Given as goal
 
--- what is read so far, and then the rest, is all
+-- what is read so far, and then the rest, is all; and a tag begins all, or nothing was read
 abbrev pub invariant-loop-rest : goal.invariant-loop-rest
-invariant-loop-rest l = behind (records_of l.fields.records) (records_at 100 l.budget.unknown l.rest) ≡ records_at 100 1000000 l.fn.bytes
+invariant-loop-rest l = record {
+  read : behind (records_of l.fields.records) (records_at 100 l.budget.unknown l.rest) ≡ records_at 100 1000000 l.fn.bytes;
+  begun : IsBegun l.fn.bytes l.rest;
+}
 
 abbrev pub decreases-loop-rest : goal.decreases-loop-rest
 decreases-loop-rest l = length l.rest

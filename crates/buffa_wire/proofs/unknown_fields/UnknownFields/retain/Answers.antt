@@ -1,8 +1,11 @@
 use Rattle.std.proofs.Common.{ap, ◌∙◌, sym}
 use Rattle.std.proofs.lemmas.Fn.{filter_same}
 use Rattle.buffa_wire.specs.View.{record_of, records_in}
-use Rattle.buffa_wire.proofs.RecordLemmas.{filter-records_in}
+use Rattle.buffa_wire.proofs.RecordLemmas.{filter-records_in, filtered_records}
 use Rattle.buffa_wire.proofs.unknown_fields.UnknownFields.retain.Goals as goal
+
+pub returns-clause-calls : goal.returns-clause-calls
+returns-clause-calls g c = rw (sym c.self.view_is) (filtered_records _ _ _ _ c.retain.ensures.filtered)
 
 pub returns-clause-records : goal.returns-clause-records
 returns-clause-records g c = λ p a. rw (sym c.self.view_is)

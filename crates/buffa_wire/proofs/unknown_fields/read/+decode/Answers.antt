@@ -1,8 +1,11 @@
-use Rattle.std.proofs.Common.{rules, ◌∙◌, arith, refl, sym, ap, Err}
+use Rattle.std.proofs.Common.{rules, ◌∙◌, arith, refl, sym, ap, Err, inr}
 use Rattle.std.proofs.lemmas.Result.{err_from_is_err_and}
 use Rattle.buffa_bytes.proofs.FieldLemmas.{tag_falls}
 use Rattle.buffa_wire.specs.Left.{Left}
 use Rattle.buffa_wire.specs.RecordReading.{group_at}
+use Rattle.buffa_bytes.proofs.TailLemmas.{tail_more, tail_whole}
+use Rattle.buffa_bytes.proofs.FullLemmas.{tag_no_full}
+use Rattle.buffa_wire.proofs.SpentLemmas.{field_spent, further_spent, next_spent, none_spent, one_spent, tag_is_there, takes_at, takes_group}
 use Rattle.buffa_wire.proofs.LoopLemmas.{field_falls, field_end, field_no_slot, field_group_ok, field_group_err, field_plain_ok, field_plain_err, group_limit, group_tag_err, group_end, group_other, group_field_err, group_next}
 use Rattle.buffa_wire.proofs.unknown_fields.read.+decode.Goals as goal
 
@@ -13,6 +16,29 @@ pub decode_group-returns-in_err-tag-clause-reads : goal.decode_group-returns-in_
 decode_group-returns-in_err-tag-clause-reads g t c =
     let p = err_from_is_err_and c.from_residual.result c.from_residual.ensures.1 in
     rw (p.1, p.2) (λ other. group_tag_err c.args.ctx.depth c.loop-fields.budget.unknown c.args.number (g.B.Buf.unread c.loop-fields.buf) c.loop-fields.fields.records (group_at c.args.ctx.depth c.args.ctx.budget.now.unknown c.args.number (g.B.Buf.unread c.args.buf.now)) c.if-depth-eq0.false c.loop-fields.invariant.read _ c.in_err-tag.ensures.reads)
+
+pub decode_group-returns-in_err-tag-clause-full : goal.decode_group-returns-in_err-tag-clause-full
+decode_group-returns-in_err-tag-clause-full g t c =
+    let p = err_from_is_err_and c.from_residual.result c.from_residual.ensures.1 in
+    rw (p.1, p.2) (tag_no_full (g.B.Buf.unread c.loop-fields.buf) _ c.in_err-tag.ensures.reads)
+
+pub decode_group-returns-in_err-tag-clause-spent : goal.decode_group-returns-in_err-tag-clause-spent
+decode_group-returns-in_err-tag-clause-spent g t c = further_spent _ _ _ _ _ c.loop-fields.invariant.tail c.in_err-tag.ensures.tail c.loop-fields.invariant.spent
+
+pub decode_group-returns-in_err-tag-clause-tail : goal.decode_group-returns-in_err-tag-clause-tail
+decode_group-returns-in_err-tag-clause-tail g t c = tail_more _ _ _ c.in_err-tag.ensures.tail c.loop-fields.invariant.tail
+
+pub decode_group-returns-then-field_number-number-clause-spent : goal.decode_group-returns-then-field_number-number-clause-spent
+decode_group-returns-then-field_number-number-clause-spent g t c = further_spent _ _ _ _ _ c.loop-fields.invariant.tail c.in_ok-tag.ensures.tail c.loop-fields.invariant.spent
+
+pub decode_group-returns-then-field_number-number-clause-tail : goal.decode_group-returns-then-field_number-number-clause-tail
+decode_group-returns-then-field_number-number-clause-tail g t c = tail_more _ _ _ c.in_ok-tag.ensures.tail c.loop-fields.invariant.tail
+
+pub decode_group-returns-in-EndGroup-clause-spent : goal.decode_group-returns-in-EndGroup-clause-spent
+decode_group-returns-in-EndGroup-clause-spent g t c = further_spent _ _ _ _ _ c.loop-fields.invariant.tail c.in_ok-tag.ensures.tail c.loop-fields.invariant.spent
+
+pub decode_group-returns-in-EndGroup-clause-tail : goal.decode_group-returns-in-EndGroup-clause-tail
+decode_group-returns-in-EndGroup-clause-tail g t c = tail_more _ _ _ c.in_ok-tag.ensures.tail c.loop-fields.invariant.tail
 
 pub decode_group-returns-then-field_number-number-clause-reads : goal.decode_group-returns-then-field_number-number-clause-reads
 decode_group-returns-then-field_number-number-clause-reads g t c =
@@ -31,13 +57,29 @@ decode_group-returns-in_err-field g t c =
     record {
       reads = rw (p.1, p.2) (λ other. group_field_err c.args.ctx.depth c.loop-fields.budget.unknown c.args.number (g.B.Buf.unread c.loop-fields.buf) c.loop-fields.fields.records (group_at c.args.ctx.depth c.args.ctx.budget.now.unknown c.args.number (g.B.Buf.unread c.args.buf.now)) c.if-depth-eq0.false c.loop-fields.invariant.read _ c.in_ok-tag.ensures.reads (λ e. c.in_default.not-EndGroup (c.wire_type.ensures ∙ e)) _ (c.in_err-field.ensures.reads other));
       memory = c.in_err-field.ensures.memory ∙ c.loop-fields.invariant.memory;
+      full = rw (p.1, p.2) (λ k. (omega (arith, c.if-depth-eq0.false), tag_is_there _ _ _ c.loop-fields.invariant.begun c.in_ok-tag.ensures.reads));
+      spent = next_spent _ _ _ _ _ _ _ c.loop-fields.invariant.tail c.in_ok-tag.ensures.tail c.in_err-field.ensures.tail (tag_falls _ _ c.in_ok-tag.ensures.reads) c.loop-fields.invariant.spent c.in_err-field.ensures.spent;
+      tail = tail_more _ _ _ c.in_err-field.ensures.tail (tail_more _ _ _ c.in_ok-tag.ensures.tail c.loop-fields.invariant.tail);
       kept = c.in_err-field.ensures.kept ∙ c.in_ok-tag.ensures.kept ∙ c.loop-fields.invariant.kept;
     }
+
+pub decode_group-returns-in_default-push : goal.decode_group-returns-in_default-push
+decode_group-returns-in_default-push g t c = record {
+  reads = λ other. absurd (other refl);
+  full = λ k. (omega (arith, c.if-depth-eq0.false), tag_is_there _ _ _ c.loop-fields.invariant.begun c.in_ok-tag.ensures.reads);
+  memory = c.in_ok-field.ensures.memory ∙ c.loop-fields.invariant.memory;
+  spent = next_spent _ _ _ _ _ _ _ c.loop-fields.invariant.tail c.in_ok-tag.ensures.tail c.in_ok-field.ensures.tail (tag_falls _ _ c.in_ok-tag.ensures.reads) c.loop-fields.invariant.spent c.in_ok-field.ensures.spent;
+  kept = c.in_ok-field.ensures.kept ∙ c.in_ok-tag.ensures.kept ∙ c.loop-fields.invariant.kept;
+  tail = tail_more _ _ _ c.in_ok-field.ensures.tail (tail_more _ _ _ c.in_ok-tag.ensures.tail c.loop-fields.invariant.tail);
+}
 
 pub decode_group-loop-fields-preserved : goal.decode_group-loop-fields-preserved
 decode_group-loop-fields-preserved g t c = record {
   read = group_next c.args.ctx.depth c.loop-fields.budget.unknown c.args.number (g.B.Buf.unread c.loop-fields.buf) c.loop-fields.fields.records (group_at c.args.ctx.depth c.args.ctx.budget.now.unknown c.args.number (g.B.Buf.unread c.args.buf.now)) c.if-depth-eq0.false c.loop-fields.invariant.read _ c.in_ok-tag.ensures.reads (λ e. c.in_default.not-EndGroup (c.wire_type.ensures ∙ e)) _ _ _ c.in_ok-field.ensures.reads c.in_ok-field.ensures.number c.in-Ok.ensures.ok;
   memory = c.in_ok-field.ensures.memory ∙ c.loop-fields.invariant.memory;
+  spent = next_spent _ _ _ _ _ _ _ c.loop-fields.invariant.tail c.in_ok-tag.ensures.tail c.in_ok-field.ensures.tail (tag_falls _ _ c.in_ok-tag.ensures.reads) c.loop-fields.invariant.spent c.in_ok-field.ensures.spent;
+  tail = tail_more _ _ _ c.in_ok-field.ensures.tail (tail_more _ _ _ c.in_ok-tag.ensures.tail c.loop-fields.invariant.tail);
+  begun = inr (tag_is_there _ _ _ c.loop-fields.invariant.begun c.in_ok-tag.ensures.reads);
   kept = c.in_ok-field.ensures.kept ∙ c.in_ok-tag.ensures.kept ∙ c.loop-fields.invariant.kept;
 }
 
@@ -51,6 +93,10 @@ decode_unknown_field-returns-in_err-take_slot g t c =
       reads = rw (p.1, p.2) (λ other. field_no_slot _ _ _ _ _ c.in_default.not-EndGroup c.in_err-take_slot.ensures.err.0 ∙ ap (λ e. Err e) (sym c.in_err-take_slot.ensures.which));
       number = search rules;
       memory = ap (λ (b : Left). b.memory) c.in_err-take_slot.ensures.err.1;
+      full = rw (p.1, p.2) (λ k. let w = c.in_err-take_slot.ensures.which in cc);
+      spent = none_spent _ _ _ (ap (λ (b : Left). b.unknown) c.in_err-take_slot.ensures.err.1);
+      end = λ k. c.in_err-take_slot.ensures.err.1;
+      tail = tail_whole _;
       kept = refl {a = g.B.Buf.kept c.args.buf.now};
     }
 
@@ -61,6 +107,10 @@ decode_unknown_field-returns-in_err-fields g t c =
       reads = rw (p.1, p.2) (λ other. field_group_err _ _ _ _ _ _ _ c.in-StartGroup.is c.in_ok-take_slot.ensures.ok.0 (c.in_err-fields.ensures.reads other));
       number = search rules;
       memory = c.in_err-fields.ensures.memory ∙ c.in_ok-take_slot.ensures.ok.1;
+      full = rw (p.1, p.2) (λ k. (omega (arith, c.in_ok-take_slot.ensures.ok.0), takes_group _ _ _ c.in-StartGroup.is (c.in_err-fields.ensures.full k)));
+      spent = field_spent _ _ _ _ c.in_ok-take_slot.ensures.ok.0 c.in_err-fields.ensures.spent;
+      end = λ k. absurd (c.in_default.not-EndGroup k);
+      tail = c.in_err-fields.ensures.tail;
       kept = c.in_err-fields.ensures.kept;
     }
 
@@ -69,6 +119,10 @@ decode_unknown_field-returns-in-StartGroup g t c = record {
   reads = field_group_ok _ _ _ _ _ _ _ c.in-StartGroup.is c.in_ok-take_slot.ensures.ok.0 c.in_ok-fields.ensures.reads;
   number = refl;
   memory = c.in_ok-fields.ensures.memory ∙ c.in_ok-take_slot.ensures.ok.1;
+  full = tt;
+  spent = field_spent _ _ _ _ c.in_ok-take_slot.ensures.ok.0 c.in_ok-fields.ensures.spent;
+  end = λ k. absurd (c.in_default.not-EndGroup k);
+  tail = c.in_ok-fields.ensures.tail;
   kept = c.in_ok-fields.ensures.kept;
 }
 
@@ -79,6 +133,10 @@ decode_unknown_field-returns-in_err-payload g t c =
       reads = rw (p.1, p.2) (λ other. field_plain_err _ _ _ _ _ _ _ c.in_default.not-EndGroup c.in_default-wire_type.not-StartGroup c.in_ok-take_slot.ensures.ok.0 (c.in_err-payload.ensures.reads other));
       number = search rules;
       memory = c.in_ok-take_slot.ensures.ok.1;
+      full = rw (p.1, p.2) (λ k. (omega (arith, c.in_ok-take_slot.ensures.ok.0), takes_at _ _ _ _ c.in_default-wire_type.not-StartGroup (c.in_err-payload.ensures.full k)));
+      spent = one_spent _ _ _ c.in_ok-take_slot.ensures.ok.0;
+      end = λ k. absurd (c.in_default.not-EndGroup k);
+      tail = c.in_err-payload.ensures.tail;
       kept = c.in_err-payload.ensures.kept;
     }
 
@@ -87,5 +145,9 @@ decode_unknown_field-returns g t c = record {
   reads = field_plain_ok _ _ _ _ _ _ _ c.in_default.not-EndGroup c.in_default-wire_type.not-StartGroup c.in_ok-take_slot.ensures.ok.0 c.in_ok-payload.ensures.reads;
   number = refl;
   memory = c.in_ok-take_slot.ensures.ok.1;
+  full = tt;
+  spent = one_spent _ _ _ c.in_ok-take_slot.ensures.ok.0;
+  end = λ k. absurd (c.in_default.not-EndGroup k);
+  tail = c.in_ok-payload.ensures.tail;
   kept = c.in_ok-payload.ensures.kept;
 }
