@@ -1,7 +1,5 @@
 // `write N`: the field of a map whose pairs are given in lines.
 ghost use Rattle.std.specs.Prelude.{◌≡◌, IfOk};
-ghost use Rattle.std.specs.BTreeMap.{IsOrdered};
-ghost use Rattle.std.specs.String.{string_cmp};
 ghost use Rattle.buffa_wire.specs.Number.{IsNumber};
 ghost use Rattle.buffamap.specs.Lines.{pairs_of};
 ghost use Rattle.buffamap.specs.Reply.{reply_of};
@@ -21,8 +19,7 @@ fn write_pairs(
     pairs: &BTreeMap<String, i32>,
 ) -> Result<Answer, AllocError>
     requires { IsNumber number }
-    ensures reply { IfOk result (λ a. reply_of a ≡ field_reply number (pairs_of pairs.now.entries)) }
-    ensures ordered { IsOrdered string_cmp pairs.now }
+    ensures { IfOk result (λ a. reply_of a ≡ field_reply number (pairs_of pairs.now.entries)) }
 {
     let mut field = Vec::new(alloc);
     match write_field::<Str, Int32, BTreeMap<String, i32>, Vec<u8>>(pairs, number, &mut field) {
