@@ -150,8 +150,13 @@ def failed_writes(program, room, seen):
         wanted = (b"", FAILED, 3) if text else (b"", errors, status)
         for output in (CLOSED, Stream("full", "/dev/full", os.O_WRONLY), Stream("no writer", "/dev/null", os.O_RDONLY)):
             seen.compare(f"{words} on {given} with the output {name_of(output)}", call(program, words, given, output=output), wanted)
-            seen.compare(f"the same, errors closed", call(program, words, given, output=output, errors=CLOSED), (b"", b"", wanted[2]))
+            seen.compare("the same, errors closed", call(program, words, given, output=output, errors=CLOSED), (b"", b"", wanted[2]))
             runs += 2
+        reads, writes = os.pipe()
+        os.close(reads)
+        seen.compare(f"{words} on {given} with an output that nobody reads", call(program, words, given, output=writes), wanted)
+        os.close(writes)
+        runs += 1
     return runs
 
 
