@@ -16,7 +16,7 @@ use Rattle.buffa_bytes.proofs.VarintLemmas.{Var-V}
 use Rattle.buffa_map.specs.Codec.{Reading, Writing}
 use Rattle.buffa_map.specs.Entry.{IsCodecField, IsEntry, IsField, blanks}
 use Rattle.buffa_map.specs.Pairs.{put}
-use Rattle.buffa_map.specs.Run.{Fold, IsRecord, Run, Said, pair_parts}
+use Rattle.buffa_map.specs.Run.{Fold, IsRecord, Kept, Run, Said, pair_parts}
 use Rattle.buffa_map.specs.Text.{AllHold, HasText, entry_text, field_text, record_text}
 use Rattle.buffa_map.specs.declared.parts.Parts.{Parts}
 
@@ -78,6 +78,11 @@ module _ {K W : Type 0} {eq : K → K → Bool} (laws : IsEquivalence eq) where
 
   pub fold_back : (as_said : K × W → Said K W) → ((p : K × W) → (as_said p).parts ≡ pair_parts p) → (l : List (K × W)) → IsDistinct eq (keys_of l) → Fold eq [] (map as_said l) ≡ l
   fold_back f is l d = fold_in f is [] l (nothing-before eq (keys_of l)) d
+
+-- each entry of pairs is declared
+pub kept_back : {K W : Type 0} (as_said : K × W → Said K W) → ((p : K × W) → (as_said p).parts.known ≡ true) → (l : List (K × W)) → Kept (map as_said l) ≡ []
+kept_back f is [] = refl
+kept_back f is (p ∷ ps) = rw (is p) (kept_back f is ps)
 
 pub both_hold : {K W : Type 0} (P R : K → Type 0) (Q S : W → Type 0) (l : List (K × W)) → AllHold P Q l → AllHold R S l → AllHold (λ k. P k × R k) (λ v. Q v × S v) l
 both_hold P R Q S [] a b = tt

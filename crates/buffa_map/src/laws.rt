@@ -59,12 +59,14 @@ pub fn size_is_length<KC: MapCodec, VC: MapCodec>()
 {}
 
 /// The text of pairs is a run that says these pairs, so that a map that is written and then read into an
-/// empty one is that map, stored keys too, in whatever order it was walked.
+/// empty one is that map, stored keys too, in whatever order it was walked. Each entry is declared, and there
+/// are as many as there are pairs.
 pub fn written_is_read<
     KC: MapCodec,
     VC: MapCodec,
     C: MapStorage<Key = KC::Value, Value = VC::Value>,
 >()
     ensures { (d n : ℕ) (l : List (KC.Value.Meaning × VC.Value.Meaning)) → IsNumber n → HasText KC.writing VC.writing l → AllHold KC.fits VC.fits l → AllHold KC.normal VC.normal l → IsDistinct C.equal (keys_of l) →
-        (es : List (Said KC.Value.Meaning VC.Value.Meaning)) × Run KC.reading VC.reading d n (field_text KC.writing VC.writing n l) es × (Fold C.equal [] es ≡ l) }
+        (es : List (Said KC.Value.Meaning VC.Value.Meaning)) × Run KC.reading VC.reading d n (field_text KC.writing VC.writing n l) es × (Fold C.equal [] es ≡ l)
+        × (Kept es ≡ []) × (length es ≡ length l) }
 {}

@@ -1,5 +1,6 @@
 use Rattle.std.proofs.Common.{◌≡◌, ◌∙◌, refl, sym, map}
-use Rattle.buffa_map.proofs.BackLemmas.{as_said, both_hold, fold_back, run_back}
+use Rattle.buffa_map.proofs.BackLemmas.{as_said, both_hold, fold_back, kept_back, run_back}
+use Rattle.std.proofs.lemmas.List.{length-map}
 use Rattle.buffa_map.proofs.laws.written_is_read.Goals as goal
 
 pub returns : goal.returns
@@ -16,4 +17,6 @@ returns g c d n l num has fits normal distinct =
       run_back key val kw vw same_key same_val (λ k. g.KC.MapCodec.fits k × g.KC.MapCodec.normal k) (λ v. g.VC.MapCodec.fits v × g.VC.MapCodec.normal v)
           (λ d old v h. g.met.KC.MapCodec.reads_back d old v h.0 h.1) (λ d old v h. g.met.VC.MapCodec.reads_back d old v h.0 h.1) d n l num has (both_hold g.KC.MapCodec.fits g.KC.MapCodec.normal g.VC.MapCodec.fits g.VC.MapCodec.normal l fits normal),
       fold_back g.met.C.MapStorage.equivalence say (λ p. refl) l distinct,
+      kept_back say (λ p. refl) l,
+      length-map l say,
     )
