@@ -9,15 +9,21 @@ use Rattle.buffa_map.specs.Text.{entry_text}
 use Rattle.buffa_vectors.specs.declared.round_trip.TripFault.{TripFault}
 use Rattle.buffa_vectors.specs.declared.round_trip.TripFault.TheVariants.{Decode, Encode}
 
+-- P holds of the pairs of each walk
+abbrev pub EachWalk : {X : Type 0} → (List X → Type 0) → (List X → Type 0) → Type 0
+EachWalk {X} Walk P = (l : List X) → Walk l → P l
+
 module _ {K V : Type 0} (key : Writing K) (val : Writing V) (cost : ℕ) where
   -- The entry of a pair is too long for its length to be a varint; or the pairs, each of which costs so many units,
   -- cost more than a budget starts with; or memory ran out.
   abbrev pub RefusesPairs : List (K × V) → TripFault → Type 0
   RefusesPairs l (Encode encode.MessageTooLarge) =
-      (done : List (K × V)) × (p : K × V) × (rest : List (K × V)) × (l ≡ done ++ p ∷ rest) × (2 ^ 64 ≤ length (entry_text key val p))
+      (done : List (K × V)) × (p : K × V) × (rest : List (K × V)) × (l ≡ done ++ p ∷ rest)
+      × (2 ^ 64 ≤ length (entry_text key val p))
   RefusesPairs l (Encode encode.OutOfMemory) = Unit {0}
   RefusesPairs l (Encode (encode.GroupRefused e)) = ⊥
-  RefusesPairs l (Decode f) = f ≢ decode.OutOfMemory → (f ≡ decode.ElementMemoryLimitExceeded) × (268435456 < length l * cost)
+  RefusesPairs l (Decode f) =
+      f ≢ decode.OutOfMemory → (f ≡ decode.ElementMemoryLimitExceeded) × (268435456 < length l * cost)
 
   -- the same of the pairs of some walk
   abbrev pub RefusesTrip : (List (K × V) → Type 0) → TripFault → Type 0

@@ -1,11 +1,11 @@
 //! A map through its bytes and back: whatever the codecs, the storage and the order of its walk.
 
-ghost use Rattle.std.specs.Prelude.{◌≡◌, ◌+◌, List, [], IfErr, OnOk, IsPermutation};
+ghost use Rattle.std.specs.Prelude.{◌≡◌, ◌+◌, [], IfErr, OnOk, IsPermutation};
 ghost use Rattle.buffa_wire.specs.Number.{IsNumber};
 ghost use Rattle.buffa_map.specs.Pairs.{SamePairs};
 ghost use Rattle.buffa_map.specs.Text.{AllHold};
 ghost use Rattle.buffa_vectors.specs.Letters.{same_letters, spelled};
-ghost use Rattle.buffa_vectors.specs.RoundTrip.{RefusesTrip, flag_writing, word_writing};
+ghost use Rattle.buffa_vectors.specs.RoundTrip.{EachWalk, RefusesTrip, flag_writing, word_writing};
 
 use crate::word::Word;
 use buffa_map::laws::{one_reading, written_is_read};
@@ -47,7 +47,7 @@ where
     VC::Value: 'a,
     requires number { IsNumber number }
     requires empty { C.pairs copy.old ≡ [] }
-    requires normal { (l : List (KC.Value.Meaning × VC.Value.Meaning)) → C.walks map.now l → AllHold KC.normal VC.normal l }
+    requires normal { EachWalk (C.walks map.now) (AllHold KC.normal VC.normal) }
     ensures ok { OnOk result (SamePairs C.equal (C.pairs map.now) (C.pairs copy.new)) }
     ensures err { IfErr result (RefusesTrip KC.writing VC.writing (KC.COST + VC.COST) (C.walks map.now)) }
 {
