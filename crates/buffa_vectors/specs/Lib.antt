@@ -5,3 +5,4 @@ pub mod Grown
 pub mod GrownFalls
 pub mod TreeText
 pub mod TreeMeaning
+pub mod RoundTrip
