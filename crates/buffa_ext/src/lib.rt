@@ -1,6 +1,7 @@
 //! Extensions: typed values in the unknown fields of a message.
 #![tactic(auto)]
 
+pub mod back;
 pub mod codecs;
 pub mod descriptor;
 pub mod laws;
@@ -10,9 +11,10 @@ pub mod steps;
 #[cfg(test)]
 mod tests;
 
+pub use back::set_then_read;
 pub use buffa_codec::{
-    BytesCodec, ExtensionCodec, LastWins, PackableCodec, PackedRepeated, Repeated, SingularCodec,
-    StringCodec,
+    BytesCodec, EnumCodec, ExtensionCodec, LastWins, Numbered, PackableCodec, PackedRepeated,
+    Repeated, SingularCodec, StringCodec,
 };
 pub use descriptor::{Declared, Extension, Make, NoDefault};
 pub use set::ExtensionSet;
