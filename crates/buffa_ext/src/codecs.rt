@@ -1,5 +1,6 @@
 //! The codecs of extensions, under upstream's names.
 
+pub use crate::message::{GroupCodec, MessageCodec};
 pub use buffa_codec::{
     BytesCodec, EnumCodec, PackableCodec, PackedRepeated, Repeated, SingularCodec, StringCodec,
 };

@@ -5,6 +5,8 @@ pub mod back;
 pub mod codecs;
 pub mod descriptor;
 pub mod laws;
+pub mod message;
+pub mod record;
 pub mod set;
 pub mod stage;
 pub mod steps;
@@ -17,5 +19,7 @@ pub use buffa_codec::{
     Repeated, SingularCodec, StringCodec,
 };
 pub use descriptor::{Declared, Extension, Make, NoDefault};
+pub use message::{GroupCodec, MessageCodec, MessageIn};
+pub use record::MessageRecord;
 pub use set::ExtensionSet;
 pub use steps::{ReplayFault, Step, replay};
