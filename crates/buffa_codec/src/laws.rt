@@ -2,6 +2,7 @@
 //! is the law.
 
 ghost use Rattle.std.specs.Prelude.{◌≡◌, ◌≢◌, []};
+ghost use Rattle.buffa_codec.specs.Costs.{StaysWithin};
 ghost use Rattle.buffa_codec.specs.Reading.{LaterWins, ReadAlike, ReadingsJoin, full};
 
 use crate::codec::{ExtensionCodec, PackableCodec, SingularCodec};
@@ -29,4 +30,10 @@ pub fn records_of_values<C: LastWins, P: PackableCodec>()
     ensures one { (v : C.Value.Meaning) → ⟦<C as ExtensionCodec>⟧.recs v ≢ [] }
     ensures repeated { ⟦<Repeated<C> as ExtensionCodec>⟧.recs [] ≡ [] }
     ensures packed { ⟦<PackedRepeated<P> as ExtensionCodec>⟧.recs [] ≡ [] }
+{}
+
+/// However records are read one after the other from a pair of default budgets, those that are read as
+/// values cost together no more than the pair.
+pub fn lists_stay_within_a_budget<C: SingularCodec>()
+    ensures { StaysWithin (C.one 100) (C.leaves 100) C.cost }
 {}
