@@ -41,6 +41,22 @@ left_no : (b need : Left) → Lacks b need → is_left b need ≡ false
 left_no b need (inl h) = rw (le_no need.unknown b.unknown h) refl
 left_no b need (inr h) = rw (le_no need.memory b.memory h) (and_no (nat_le need.unknown b.unknown))
 
+true_le : (m n : ℕ) → nat_le m n ≡ true → m ≤ n
+true_le m n h = grind (arith, common_steps)
+
+both_true : (b c : Bool) → (b && c) ≡ true → (b ≡ true) × (c ≡ true)
+both_true true c h = (refl, h)
+both_true false c h = cc
+
+left_true : (b need : Left) → is_left b need ≡ true → Covers b need
+left_true b need h =
+    let t = both_true (nat_le need.unknown b.unknown) (nat_le need.memory b.memory) h in
+    (true_le need.unknown b.unknown t.0, true_le need.memory b.memory t.1)
+
+some_if : {X : Type 0} (b : Bool) (o : Option X) (v : X) → (if b then o else None) ≡ Some v → b ≡ true
+some_if true o v h = refl
+some_if false o v h = cc
+
 pub pays_covers : (b need over : Left) → Pays b need over → Covers b need
 pays_covers b need over h = (omega (arith, h.0), omega (arith, h.1))
 
@@ -101,6 +117,11 @@ module _ {X : Type 0} (merged : X → List ℕ → Option X) (cost : List ℕ �
 
   pub spent_cost : (blank v : X) (b left : Left) (bs : List (List ℕ)) → message_of merged cost blank b bs ≡ Some v → LeavesOf (message_of merged cost blank b bs) b (cost_all cost bs) left → Pays b (cost_all cost bs) left
   spent_cost blank v b left bs e h = subst (λ x. LeavesOf x b (cost_all cost bs) left) e h
+
+  -- what is read as a message costs no more than is left
+  pub within : (blank v : X) (left : Left) (bs : List (List ℕ)) → message_of merged cost blank left bs ≡ Some v → Covers left (cost_all cost bs)
+  within blank v left [] e = cc
+  within blank v left (b ∷ bs) e = left_true left (cost_all cost (b ∷ bs)) (some_if (is_left left (cost_all cost (b ∷ bs))) (merged_all merged blank (b ∷ bs)) v e)
 
   -- ---- texts one after the other
 

@@ -11,6 +11,7 @@ use Rattle.buffa_wire.specs.Left.{Left, Lacks, Pays, PaysAtMost, nothing, plus}
 use Rattle.buffa_wire.specs.Records.{Datum, group, records_of}
 use Rattle.buffa_wire.specs.RecordReading.{list_at}
 use Rattle.buffa_wire.specs.Text.{records_text}
+use Rattle.buffa_codec.specs.Reading.{Covers, full}
 
 -- the message's text in a group: that of its records
 abbrev pub group_held : Datum → Option (List ℕ)
@@ -39,6 +40,11 @@ is_left left need = nat_le need.unknown left.unknown && nat_le need.memory left.
 abbrev pub message_of : {X : Type 0} → (X → List ℕ → Option X) → (List ℕ → Left) → X → Left → List (List ℕ) → Option X
 message_of merged cost blank left [] = None
 message_of merged cost blank left (b ∷ bs) = if is_left left (cost_all cost (b ∷ bs)) then merged_all merged blank (b ∷ bs) else None
+
+-- the texts of a message cost together no more than a pair of default budgets
+abbrev pub StaysWithin : {X : Type 0} → (X → List ℕ → Option X) → (List ℕ → Left) → X → (Datum → Option (List ℕ)) → Type 0
+StaysWithin {X = X} merged cost blank held =
+    (ds : List Datum) (v : X) → message_of merged cost blank full (texts_in held ds) ≡ Some v → Covers full (cost_all cost (texts_in held ds))
 
 -- reading a message spends its cost, and otherwise no more than that
 abbrev pub LeavesOf : {X : Type 0} → Option X → Left → Left → Left → Type 0

@@ -4,7 +4,11 @@
 ghost use Rattle.std.specs.Prelude.{◌≡◌, ℕ, List};
 ghost use Rattle.buffa_wire.specs.Records.{Datum};
 ghost use Rattle.buffa_codec.specs.Sub.{sub};
+ghost use Rattle.buffa_ext.specs.Messages.{StaysWithin};
 ghost use Rattle.buffa_ext.specs.Steps.{Change, ClearsAreOne, LeavesOthers, SecondCounts, StandsLast, after, history};
+
+use crate::record::MessageRecord;
+use buffa_wire::Message;
 
 /// The records of a number after changes are what its last change says.
 pub fn last_change_counts()
@@ -21,4 +25,9 @@ pub fn sets_leave_others()
 pub fn last_set_counts()
     ensures sets { SecondCounts }
     ensures clears { ClearsAreOne }
+{}
+
+/// The records that are merged into one message cost together no more than a pair of default budgets.
+pub fn messages_stay_within_a_budget<K: MessageRecord, M: Message>()
+    ensures { StaysWithin (M.merged 100) (M.cost 100) M.blank_is K.held }
 {}
