@@ -1,7 +1,7 @@
 use Rattle.std.proofs.Common.{ap, ◌∙◌, subst}
 use Rattle.buffa_codec.specs.Sub.{sub}
 use Rattle.buffa_codec.proofs.Filtered.{sub-set}
-use Rattle.buffa_ext.proofs.tests.set_then_read.Goals as goal
+use Rattle.buffa_ext.proofs.back.set_then_read.Goals as goal
 
 pub returns : goal.returns
 returns g c =
