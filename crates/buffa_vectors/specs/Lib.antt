@@ -1,6 +1,10 @@
 pub mod Letters
+pub mod Fields
+pub mod FieldsLaws
 pub mod Flat
 pub mod FlatLaws
+pub mod Two
+pub mod TwoLaws
 pub mod Grown
 pub mod GrownFalls
 pub mod TreeText

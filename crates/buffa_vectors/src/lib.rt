@@ -15,6 +15,7 @@ pub mod flat;
 #[cfg(test)]
 mod guide;
 pub mod hues;
+mod int32_field;
 #[cfg(test)]
 mod maps;
 #[cfg(test)]
@@ -25,5 +26,8 @@ pub mod passed_on;
 #[cfg(test)]
 mod rewrites;
 pub mod round_trip;
+#[cfg(test)]
+mod rows;
 pub mod tree;
+pub mod two;
 pub mod word;
