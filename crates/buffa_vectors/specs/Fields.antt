@@ -2,7 +2,7 @@
 -- Source: the protobuf encoding guide, "Message Structure".
 use Rattle.std.specs.Prelude.{ℕ, zero, suc, ℤ, pos, negsuc, List, [], ◌∷◌, ◌++◌, Option, Some, None, Result, Ok, Err}
 use Rattle.buffa_wire.specs.Gives.{◌>>=◌}
-use Rattle.buffa_wire.specs.Reading.{tag_at, check_wire, skip_at}
+use Rattle.buffa_wire.specs.Reading.{tag_at, check_wire, skip_at, varint_at}
 use Rattle.buffa_wire.specs.Records.{Datum, varint}
 use Rattle.buffa_wire.specs.Values.{int32_at, int32_text, tag_text}
 use Rattle.std.specs.Int.{cast_unsigned, w64}
@@ -27,6 +27,10 @@ value_of (Err e) = None
 -- what fields, to the end of the bytes, make of a value
 abbrev pub merged_by : {X : Type 0} → FieldReader X → X → List ℕ → Option X
 merged_by field v bs = value_of (along_at (next_at field) v bs)
+
+-- a varint field of number n, whose value is put where it belongs
+abbrev pub varint_field : {X : Type 0} → ℕ → (ℕ → X) → WireType → List ℕ → Result (X × List ℕ) DecodeError
+varint_field n put w bs = check_wire n Varint w >>= (λ _. varint_at bs >>= (λ x. Ok (put x.0, x.1)))
 
 -- an int32 field of number n, whose value is put where it belongs
 abbrev pub int32_field : {X : Type 0} → ℕ → (ℤ → X) → WireType → List ℕ → Result (X × List ℕ) DecodeError

@@ -21,13 +21,13 @@ use Rattle.buffa_bytes.proofs.StepLemmas.{Agrees, agree_bind, agree_err, agree_i
 use Rattle.buffa_bytes.proofs.FieldLemmas.{payload_complete, payload_sound, tag_complete, tag_some, tag_sound}
 use Rattle.buffa_bytes.proofs.IntLemmas.{int32_below}
 use Rattle.buffa_bytes.proofs.ShortestLemmas.{V-last, length-V}
-use Rattle.buffa_bytes.proofs.VarintLemmas.{Var-V, varint_complete, varint_sound}
+use Rattle.buffa_bytes.proofs.VarintLemmas.{Var-V, varint_complete, varint_sound as varint_is_sound}
 use Rattle.std.specs.Int.{cast_unsigned, w32, w64}
 use Rattle.buffa_wire.proofs.MessageLemmas.{NoLimit, payload_no_limit, tag_no_limit, var_no_limit}
 use Rattle.buffa_map.specs.Along.{along_at, along_within}
 use Rattle.buffa_map.proofs.AlongLemmas.{ok_same}
 use Rattle.buffa_map.proofs.EntryLemmas.{check_sound}
-use Rattle.buffa_vectors.specs.Fields.{FieldReader, int32_field, merged_by, next_at, number_records, number_text, skipped_field, value_of}
+use Rattle.buffa_vectors.specs.Fields.{FieldReader, int32_field, merged_by, next_at, number_records, number_text, skipped_field, value_of, varint_field}
 
 -- ---- steps along bytes, each of which takes some
 module _ {S : Type 0} (f : S → List ℕ → Result (S × List ℕ) DecodeError) (falls : (s : S) (bs : List ℕ) (x : S × List ℕ) → f s bs ≡ Ok x → length x.1 < length bs) where
@@ -172,9 +172,27 @@ module _ {X : Type 0} (d : ℕ) (v : X) (n : ℕ) (w : WireType) where
   pub skipped_same : (p : List ℕ) → Payload d n w p → Same (skipped_field d v n w) p
   skipped_same p h = inl (v, λ x. rw (payload_complete d n w p x h) refl)
 
+-- ---- varint fields of number m, in a field of number n, which is m
+module _ {X : Type 0} (d n m : ℕ) (put : ℕ → X) where
+  other_wire : (w : WireType) (e : DecodeError) → e ≡ WireTypeMismatch m Varint w → NoLimit e
+  other_wire w e h = subst (λ z. NoLimit z) (sym h) (λ l. l)
+
+  pub varint_sound : (w : WireType) (bs : List ℕ) → Agrees (varint_field m put w bs) (λ x. (p : List ℕ) × Payload d n w p × (bs ≡ p ++ x.1)) NoLimit
+  varint_sound w bs = agree_bind (check_sound m Varint w)
+      (λ _ wire. agree_bind (varint_is_sound bs) (λ k u. record { holds = (u.0, subst (λ z. Payload d n z u.0) (sym wire) (k.0, u.1), u.2) }) (λ e h. var_no_limit bs e h))
+      (λ e h. other_wire w e h.1)
+
+  pub varint_same : (w : WireType) (p : List ℕ) → Payload d n w p → Same (varint_field m put w) p
+  varint_same Varint p (k, h) = inl (put k, λ x. rw (varint_complete p k x h) refl)
+  varint_same Fixed64 p h = inr (WireTypeMismatch m Varint Fixed64, λ x. refl)
+  varint_same LengthDelimited p h = inr (WireTypeMismatch m Varint LengthDelimited, λ x. refl)
+  varint_same StartGroup p h = inr (WireTypeMismatch m Varint StartGroup, λ x. refl)
+  varint_same EndGroup p h = inr (WireTypeMismatch m Varint EndGroup, λ x. refl)
+  varint_same Fixed32 p h = inr (WireTypeMismatch m Varint Fixed32, λ x. refl)
+
 -- ---- int32 fields
 int32_takes : (bs : List ℕ) → Agrees (int32_at bs) (λ x. (k : ℕ) × TakesVar bs k x.1) (VarFault bs)
-int32_takes bs = agree_bind (varint_sound bs) (λ k u. record { holds = (k.0, u) }) (λ e h. h)
+int32_takes bs = agree_bind (varint_is_sound bs) (λ k u. record { holds = (k.0, u) }) (λ e h. h)
 
 -- of number m, in a field of number n, which is m
 module _ {X : Type 0} (d n m : ℕ) (put : ℤ → X) where

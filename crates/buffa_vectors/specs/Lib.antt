@@ -5,6 +5,8 @@ pub mod Flat
 pub mod FlatLaws
 pub mod Two
 pub mod TwoLaws
+pub mod Count
+pub mod CountLaws
 pub mod Grown
 pub mod GrownFalls
 pub mod TreeText

@@ -7,6 +7,7 @@
 
 #[cfg(test)]
 mod codecs;
+pub mod count;
 #[cfg(test)]
 mod cuts;
 #[cfg(test)]
