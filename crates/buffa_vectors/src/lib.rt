@@ -23,7 +23,11 @@ mod maps;
 mod maps_table;
 #[cfg(test)]
 mod messages;
+#[cfg(test)]
+mod messages_table;
 pub mod passed_on;
+#[cfg(test)]
+mod proto_messages;
 #[cfg(test)]
 mod rewrites;
 pub mod round_trip;
