@@ -7,6 +7,9 @@ pub mod Two
 pub mod TwoLaws
 pub mod Count
 pub mod CountLaws
+pub mod CostLaws
+pub mod Keep
+pub mod KeepLaws
 pub mod Grown
 pub mod GrownFalls
 pub mod TreeText

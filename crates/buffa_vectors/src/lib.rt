@@ -17,6 +17,7 @@ pub mod flat;
 mod guide;
 pub mod hues;
 mod int32_field;
+pub mod keep;
 #[cfg(test)]
 mod maps;
 #[cfg(test)]
