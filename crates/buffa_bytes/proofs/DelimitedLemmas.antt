@@ -6,12 +6,12 @@ use Rattle.std.proofs.lemmas.List.{take-append-drop}
 use Rattle.std.proofs.Math.Seq.{drop-append_seam, take-append_seam}
 use Rattle.buffa_bytes.specs.declared.error.DecodeError.{DecodeError}
 use Rattle.buffa_bytes.specs.declared.error.DecodeError.TheVariants.{UnexpectedEof}
-use Rattle.buffa_bytes.specs.Varint.{V, Var}
+use Rattle.buffa_bytes.specs.Varint.{varint_text, IsVarint}
 use Rattle.buffa_bytes.specs.Field.{LengthFault, TakesDelimited}
 use Rattle.buffa_bytes.specs.Reading.{taken, delimited_at}
 use Rattle.buffa_bytes.specs.Values.{delimited_text, string_at}
 use Rattle.buffa_bytes.proofs.StepLemmas.{Agrees, agree_bind, agree_if, agree_weaker}
-use Rattle.buffa_bytes.proofs.VarintLemmas.{varint_sound, varint_complete, varint_faulty, Var-V}
+use Rattle.buffa_bytes.proofs.VarintLemmas.{varint_sound, varint_complete, varint_faulty, IsVarint-varint_text}
 
 pub taken_sound : (n : ℕ) (bs : List ℕ) → Agrees (taken n bs) (λ p. (length p.0 ≡ n) × (bs ≡ p.0 ++ p.1)) (λ e. (length bs < n) × (e ≡ UnexpectedEof))
 unfolding taken
@@ -31,11 +31,11 @@ taken_faulty n bs h = rw (lt-ltb (length bs) n h) refl
 pub delimited_sound : (bs : List ℕ) → Agrees (delimited_at bs) (λ p. TakesDelimited bs p.0 p.1) (LengthFault bs)
 delimited_sound bs = agree_bind (varint_sound bs)
     (λ n v. agree_weaker (taken_sound n.0 n.1)
-    (λ p h. (v.0, subst (λ k. Var v.0 k) (sym h.0) v.1, v.2 ∙ ap (λ z. v.0 ++ z) h.1))
+    (λ p h. (v.0, subst (λ k. IsVarint v.0 k) (sym h.0) v.1, v.2 ∙ ap (λ z. v.0 ++ z) h.1))
     (λ e h. inr (n.0, n.1, v, h.0, h.1)))
     (λ e h. inl h)
 
-pub delimited_complete : (t p rest : List ℕ) → Var t (length p) → delimited_at (t ++ (p ++ rest)) ≡ Ok (p, rest)
+pub delimited_complete : (t p rest : List ℕ) → IsVarint t (length p) → delimited_at (t ++ (p ++ rest)) ≡ Ok (p, rest)
 delimited_complete t p rest v = rw (varint_complete t (length p) (p ++ rest) v) (taken_complete (length p) p rest refl)
 
 pub delimited_taken : (bs p rest : List ℕ) → TakesDelimited bs p rest → delimited_at bs ≡ Ok (p, rest)
@@ -46,7 +46,7 @@ delimited_faulty bs e (inl h) = rw (varint_faulty bs e h) refl
 delimited_faulty bs e (inr (n, rest, (t, v, is), l, k)) = rw (is, varint_complete t n rest v) (taken_faulty n rest l ∙ ap (λ x. Err x) (sym k))
 
 pub delimited_back : (p rest : List ℕ) → length p < 2 ^ 64 → delimited_at (delimited_text p ++ rest) ≡ Ok (p, rest)
-delimited_back p rest h = ap delimited_at (append_assoc (V (length p)) p rest) ∙ delimited_complete (V (length p)) p rest (Var-V (length p) h)
+delimited_back p rest h = ap delimited_at (append_assoc (varint_text (length p)) p rest) ∙ delimited_complete (varint_text (length p)) p rest (IsVarint-varint_text (length p) h)
 
 pub string_back : (text rest : List ℕ) → is_utf8 text ≡ true → length text < 2 ^ 64 → string_at (delimited_text text ++ rest) ≡ Ok (text, rest)
 string_back text rest u h = rw (delimited_back text rest h, u) refl

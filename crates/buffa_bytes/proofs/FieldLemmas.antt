@@ -9,7 +9,7 @@ use Rattle.buffa_bytes.specs.declared.wire_type.WireType.{WireType}
 use Rattle.buffa_bytes.specs.declared.wire_type.WireType.TheVariants.{Varint, Fixed64, LengthDelimited, StartGroup, EndGroup, Fixed32}
 use Rattle.buffa_bytes.specs.declared.error.DecodeError.{DecodeError}
 use Rattle.buffa_bytes.specs.declared.error.DecodeError.TheVariants.{UnexpectedEof, InvalidFieldNumber, InvalidWireType, RecursionLimitExceeded, InvalidEndGroup}
-use Rattle.buffa_bytes.specs.Varint.{Var}
+use Rattle.buffa_bytes.specs.Varint.{IsVarint}
 use Rattle.buffa_bytes.specs.Join.{Join}
 use Rattle.buffa_bytes.specs.Number.{IsNumber}
 use Rattle.buffa_bytes.specs.Join.Join.{none, more}
@@ -86,7 +86,7 @@ tag_of_faulty n _ h = absurd h
 pub tag_sound : (bs : List ℕ) → Agrees (tag_at bs) (λ t. TakesTag bs t.0 t.1 t.2) (TagFault bs)
 unfolding tag_at
 tag_sound bs = agree_bind (varint_sound bs)
-    (λ n v. agree_bind (tag_of_sound n.0) (λ t h. record { holds = (v.0, (h.0, subst (λ m. Var v.0 m) h.1 v.1), v.2) }) (λ e h. inr (n.0, n.1, v, h)))
+    (λ n v. agree_bind (tag_of_sound n.0) (λ t h. record { holds = (v.0, (h.0, subst (λ m. IsVarint v.0 m) h.1 v.1), v.2) }) (λ e h. inr (n.0, n.1, v, h)))
     (λ e f. inl f)
 
 pub tag_complete : (t : List ℕ) (f : ℕ) (w : WireType) (rest : List ℕ) → IsTag t f w → tag_at (t ++ rest) ≡ Ok (f, w, rest)
@@ -160,7 +160,7 @@ module _ (inner : Inner) (G : ℕ → List ℕ → Type 0) (F : ℕ → List ℕ
   skip_sound s f Fixed64 bs = past_sound 8 bs
   skip_sound s f LengthDelimited bs = agree_bind (varint_sound bs)
       (λ n v. agree_weaker (past_sound n.0 n.1)
-      (λ rest b. (v.0 ++ b.0, (v.0, b.0, subst (λ k. Var v.0 k) (sym b.1) v.1, refl), v.2 ∙ ap (λ m. v.0 ++ m) b.2 ∙ sym (append_assoc v.0 b.0 rest)))
+      (λ rest b. (v.0 ++ b.0, (v.0, b.0, subst (λ k. IsVarint v.0 k) (sym b.1) v.1, refl), v.2 ∙ ap (λ m. v.0 ++ m) b.2 ∙ sym (append_assoc v.0 b.0 rest)))
       (λ e b. inr (n.0, n.1, v, b.0, b.1)))
       (λ e h. inl h)
   skip_sound s f StartGroup bs = s f bs

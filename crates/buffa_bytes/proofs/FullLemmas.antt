@@ -65,7 +65,7 @@ content_full w bs e = content_fault_full w bs (agree_err (content_at w bs) OutOf
 pub payload_full : (d f : ℕ) (w : WireType) (bs : List ℕ) → skip_at d f w bs ≡ Err OutOfMemory → ⊥
 payload_full d f w bs e = payload_fault_full d f w bs (agree_err (skip_at d f w bs) OutOfMemory (payload_sound d f w bs) e)
 
--- a fault of a varint or a tag, told on, is no want of memory
+-- a fault of a varint or a tag, told on, is no out of memory
 pub varint_no_full : {P : Type 0} (bs : List ℕ) (e : DecodeError) → varint_at bs ≡ Err e → e ≡ OutOfMemory → P
 varint_no_full bs e h k = absurd (varint_full bs (rw k at h))
 

@@ -2,7 +2,7 @@
 use Rattle.std.proofs.Common.{◌≡◌, ℕ, zero, suc, ◌+◌, ◌-◌, ◌*◌, ◌/◌, ◌%◌, ◌^◌, ◌<◌, ◌≤◌, [], ◌∷◌, length, refl, sym, ◌∙◌, ap, arith, inl, inr}
 use Rattle.std.proofs.lemmas.Bool.{lt-ltb, cases_lt, le-ltb}
 use Rattle.std.proofs.Math.Nat.{pow-suc}
-use Rattle.buffa_bytes.specs.Varint.{shortest, V}
+use Rattle.buffa_bytes.specs.Varint.{shortest, varint_text}
 
 pub one_byte : (k n : ℕ) → n < 128 → shortest k n ≡ n ∷ []
 unfolding shortest
@@ -23,14 +23,14 @@ room_enough (suc k) (suc j) n h i = elim (cases_lt n 128) [
 ]
 
 -- a number below 128 is its own spelling
-pub V-last : (n : ℕ) → n < 128 → V n ≡ n ∷ []
-unfolding V
-V-last n h = one_byte n n h
+pub varint_text-last : (n : ℕ) → n < 128 → varint_text n ≡ n ∷ []
+unfolding varint_text
+varint_text-last n h = one_byte n n h
 
 -- a larger one has its low seven bits first
-pub V-more : (n : ℕ) → 128 ≤ n → V n ≡ (n % 128 + 128) ∷ V (n / 128)
-unfolding V
-V-more n h = let e : n ≡ suc (n - 1) = omega arith in
+pub varint_text-more : (n : ℕ) → 128 ≤ n → varint_text n ≡ (n % 128 + 128) ∷ varint_text (n / 128)
+unfolding varint_text
+varint_text-more n h = let e : n ≡ suc (n - 1) = omega arith in
     ap (λ k. shortest k n) e ∙ more_bytes (n - 1) n h ∙ ap (λ t. (n % 128 + 128) ∷ t) (room_enough (n - 1) (n / 128) (n / 128) (omega arith) (omega arith))
 
 pub length-shortest : (j k n : ℕ) → n < 128 ^ suc j → length (shortest k n) ≤ suc j
@@ -42,11 +42,11 @@ length-shortest (suc j) (suc k) n h = elim (cases_lt n 128) [
   | inr large ↦ rw (more_bytes k n large) (let below : n / 128 < 128 ^ suc j = (let f : n < 128 ^ suc j * 128 = rw pow-suc at h in omega arith) in omega (arith, length-shortest j k (n / 128) below))
 ]
 
-pub length-V : (n : ℕ) → n < 2 ^ 64 → length (V n) ≤ 10
-unfolding V
-length-V n h = length-shortest 9 n n (omega arith)
+pub length-varint_text : (n : ℕ) → n < 2 ^ 64 → length (varint_text n) ≤ 10
+unfolding varint_text
+length-varint_text n h = length-shortest 9 n n (omega arith)
 
-pub V-some : (n : ℕ) → 0 < length (V n)
-V-some n = elim (cases_lt n 128) [ inl small ↦ rw (V-last n small) (omega arith) | inr large ↦ rw (V-more n large) (omega arith) ]
+pub varint_text-some : (n : ℕ) → 0 < length (varint_text n)
+varint_text-some n = elim (cases_lt n 128) [ inl small ↦ rw (varint_text-last n small) (omega arith) | inr large ↦ rw (varint_text-more n large) (omega arith) ]
 
-pub ruleset v_laws = (V-last, V-more, V-some, length-V)
+pub ruleset v_laws = (varint_text-last, varint_text-more, varint_text-some, length-varint_text)

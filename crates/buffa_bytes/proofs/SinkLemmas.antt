@@ -1,7 +1,7 @@
 -- One text after another.
 use Rattle.std.proofs.lemmas.List.{take_more_set}
-use Rattle.buffa_bytes.specs.Varint.{V}
-use Rattle.buffa_bytes.proofs.ShortestLemmas.{V-more, V-last}
+use Rattle.buffa_bytes.specs.Varint.{varint_text}
+use Rattle.buffa_bytes.proofs.ShortestLemmas.{varint_text-more, varint_text-last}
 use Rattle.std.proofs.Common.{◌∷◌, ◌+◌, ◌/◌, ◌%◌, ◌<◌, ◌≤◌, length, take, set, arith, ◌≡◌, ℕ, List, ◌++◌, sym, ◌∙◌, ap, append_assoc, length-append}
 use Rattle.std.specs.Prelude.{Result, Err}
 use Rattle.std.proofs.lemmas.Result.{MatchResult-weaker}
@@ -34,14 +34,14 @@ pub room_first : {T : Type 0} {r : Result T EncodeError} {e : EncodeError} → r
 room_first is room left a b w = rw is (omega (arith, w, length-append a b))
 
 -- a digit more in the text
-pub digit_more : (text all : List ℕ) (len rest : ℕ) → len < length text → 128 ≤ rest → take len text ++ V rest ≡ all → take (len + 1) (set text len (rest % 128 + 128)) ++ V (rest / 128) ≡ all
-digit_more text all len rest h large e = ap (λ t. t ++ V (rest / 128)) (take_more_set text len _ h) ∙ append_assoc (take len text) _ _ ∙ ap (λ t. take len text ++ t) (sym (V-more rest large)) ∙ e
+pub digit_more : (text all : List ℕ) (len rest : ℕ) → len < length text → 128 ≤ rest → take len text ++ varint_text rest ≡ all → take (len + 1) (set text len (rest % 128 + 128)) ++ varint_text (rest / 128) ≡ all
+digit_more text all len rest h large e = ap (λ t. t ++ varint_text (rest / 128)) (take_more_set text len _ h) ∙ append_assoc (take len text) _ _ ∙ ap (λ t. take len text ++ t) (sym (varint_text-more rest large)) ∙ e
 
-pub digit_last : (text all : List ℕ) (len rest : ℕ) → len < length text → rest < 128 → take len text ++ V rest ≡ all → take (len + 1) (set text len rest) ≡ all
-digit_last text all len rest h small e = take_more_set text len rest h ∙ ap (λ t. take len text ++ t) (sym (V-last rest small)) ∙ e
+pub digit_last : (text all : List ℕ) (len rest : ℕ) → len < length text → rest < 128 → take len text ++ varint_text rest ≡ all → take (len + 1) (set text len rest) ≡ all
+digit_last text all len rest h small e = take_more_set text len rest h ∙ ap (λ t. take len text ++ t) (sym (varint_text-last rest small)) ∙ e
 
-pub digit_room : (rest len : ℕ) → 128 ≤ rest → len + length (V rest) ≤ 10 → len + 1 + length (V (rest / 128)) ≤ 10
-digit_room rest len large h = let k : len + length ((rest % 128 + 128) ∷ V (rest / 128)) ≤ 10 = rw (V-more rest large) at h in omega arith
+pub digit_room : (rest len : ℕ) → 128 ≤ rest → len + length (varint_text rest) ≤ 10 → len + 1 + length (varint_text (rest / 128)) ≤ 10
+digit_room rest len large h = let k : len + length ((rest % 128 + 128) ∷ varint_text (rest / 128)) ≤ 10 = rw (varint_text-more rest large) at h in omega arith
 
 -- a refusal of the first text, as `?` hands it on, is one of both
 pub exits_first : {T : Type 0} {r : Result T EncodeError} {e d : EncodeError} → r ≡ Err e → e ≡ d → (old a b new : List ℕ) → (d ≡ OutOfMemory) × WritesFront old a new → Writes r old (a ++ b) new

@@ -6,11 +6,11 @@ use Rattle.std.proofs.lemmas.List.Elements.{All-head, All-tail, All-cons, All-ni
 use Rattle.std.proofs.Math.Nat.{pow-suc}
 use Rattle.buffa_bytes.specs.declared.error.DecodeError.{DecodeError}
 use Rattle.buffa_bytes.specs.declared.error.DecodeError.TheVariants.{UnexpectedEof, VarintTooLong}
-use Rattle.buffa_bytes.specs.Varint.{IsByte, base128, Continue, Var, TakesVar, VarFault, shortest, V}
+use Rattle.buffa_bytes.specs.Varint.{IsByte, base128, Continue, IsVarint, TakesVarint, VarintFault, shortest, varint_text}
 use Rattle.buffa_bytes.specs.Reading.{varint_within, varint_at}
 use Rattle.buffa_bytes.proofs.StepLemmas.{Agrees, agree_bind, agree_if, agree_weaker}
 use Rattle.buffa_bytes.proofs.DigitLemmas.{base128-lt, some_scale}
-use Rattle.buffa_bytes.proofs.ShortestLemmas.{one_byte, more_bytes, length-V, length-shortest}
+use Rattle.buffa_bytes.proofs.ShortestLemmas.{one_byte, more_bytes, length-varint_text, length-shortest}
 
 record Spelled (k : ℕ) (bs : List ℕ) (n : ℕ) (rest : List ℕ) : Type 0 where
   front : List ℕ
@@ -55,12 +55,12 @@ sound_in (suc k) (b ∷ bs) = agree_if (nat_lt b 128)
     })
     (λ d f. faulty_more k b bs d h f))
 
-fault_of : (bs : List ℕ) (e : DecodeError) → Faulty 9 bs e → VarFault bs e
+fault_of : (bs : List ℕ) (e : DecodeError) → Faulty 9 bs e → VarintFault bs e
 fault_of bs UnexpectedEof f = (f.0, omega (arith, f.1))
 fault_of bs VarintTooLong f = f
 fault_of bs _ f = absurd f
 
-pub varint_sound : (bs : List ℕ) → Agrees (varint_at bs) (λ v. TakesVar bs v.0 v.1) (VarFault bs)
+pub varint_sound : (bs : List ℕ) → Agrees (varint_at bs) (λ v. TakesVarint bs v.0 v.1) (VarintFault bs)
 unfolding varint_at
 varint_sound bs = agree_weaker (sound_in 9 bs)
     (λ v s. (
@@ -80,7 +80,7 @@ complete_in (suc k) (b ∷ front) last rest c h l f =
     let g : b % 128 + 128 * base128 (front ++ last ∷ []) < 2 * (128 ^ k * 128) = rw pow-suc at f in
     rw (le-ltb b 128 c.0, complete_in k front last rest c.1 h (omega arith) (omega arith)) refl
 
-pub varint_complete : (bytes : List ℕ) (n : ℕ) (rest : List ℕ) → Var bytes n → varint_at (bytes ++ rest) ≡ Ok (n, rest)
+pub varint_complete : (bytes : List ℕ) (n : ℕ) (rest : List ℕ) → IsVarint bytes n → varint_at (bytes ++ rest) ≡ Ok (n, rest)
 unfolding varint_at
 varint_complete bytes n rest v =
     let e : bytes ++ rest ≡ v.front ++ v.last ∷ rest = ap (λ x. x ++ rest) v.spelled ∙ append_assoc v.front (v.last ∷ []) rest in
@@ -101,13 +101,13 @@ long_in (suc k) [] b rest c l h = absurd (omega arith)
 long_in zero (x ∷ front) b rest c l h = absurd (omega arith)
 long_in (suc k) (x ∷ front) b rest c l h = rw (le-ltb x 128 c.0, long_in k front b rest c.1 (omega arith) h) refl
 
-pub varint_faulty : (bs : List ℕ) (e : DecodeError) → VarFault bs e → varint_at bs ≡ Err e
+pub varint_faulty : (bs : List ℕ) (e : DecodeError) → VarintFault bs e → varint_at bs ≡ Err e
 unfolding varint_at
 varint_faulty bs UnexpectedEof f = eof_in 9 bs f.0 (omega (arith, f.1))
 varint_faulty bs VarintTooLong (front, b, rest, c, l, h, e) = ap (varint_within 9) e ∙ long_in 9 front b rest c l h
 varint_faulty bs _ f = absurd f
 
-pub varint_falls : (bytes : List ℕ) (n : ℕ) → Var bytes n → 0 < length bytes
+pub varint_falls : (bytes : List ℕ) (n : ℕ) → IsVarint bytes n → 0 < length bytes
 varint_falls bytes n v = rw v.spelled (omega (arith, length-append v.front (v.last ∷ [])))
 
 -- ---- spellings of one length
@@ -130,7 +130,7 @@ bytes_before (b ∷ f) x h = All-cons IsByte b f (All-head IsByte b (f ++ x ∷ 
 front_bytes : (f : List ℕ) (x : ℕ) (c : List ℕ) → c ≡ f ++ x ∷ [] → All IsByte c → All IsByte f
 front_bytes f x c s h = bytes_before f x (subst (All IsByte) s h)
 
-pub spelling_same : (a b : List ℕ) (n : ℕ) → All IsByte a → All IsByte b → Var a n → Var b n → length a ≡ length b → a ≡ b
+pub spelling_same : (a b : List ℕ) (n : ℕ) → All IsByte a → All IsByte b → IsVarint a n → IsVarint b n → length a ≡ length b → a ≡ b
 spelling_same a b n p q v w e =
     v.spelled
     ∙ digits_same v.front w.front v.last w.last v.continue w.continue v.ends w.ends
@@ -156,14 +156,14 @@ short_in (suc k) n h = elim (cases_lt n 128) [
   | inr large ↦ (let s = short_in k (n / 128) (omega arith) in rw (more_bytes k n large) (record { front = (n % 128 + 128) ∷ s.front; last = s.last; is = ap (λ x. (n % 128 + 128) ∷ x) s.is; continue = (omega arith, s.continue); ends = s.ends; value = omega (arith, s.value) }))
 ]
 
-pub Var-V : (n : ℕ) → n < 2 ^ 64 → Var (V n) n
-unfolding V
-Var-V n h = let s = short_in n n (omega arith) in
-    record { front = s.front; last = s.last; spelled = s.is; continue = s.continue; ends = s.ends; short = omega (arith, length-V n h, ap length s.is, length-append s.front (s.last ∷ [])); value = s.value; fits = h }
+pub IsVarint-varint_text : (n : ℕ) → n < 2 ^ 64 → IsVarint (varint_text n) n
+unfolding varint_text
+IsVarint-varint_text n h = let s = short_in n n (omega arith) in
+    record { front = s.front; last = s.last; spelled = s.is; continue = s.continue; ends = s.ends; short = omega (arith, length-varint_text n h, ap length s.is, length-append s.front (s.last ∷ [])); value = s.value; fits = h }
 
-pub V-shortest : (bytes : List ℕ) (n : ℕ) → Var bytes n → length (V n) ≤ length bytes
-unfolding V
-V-shortest bytes n v =
+pub varint_text-shortest : (bytes : List ℕ) (n : ℕ) → IsVarint bytes n → length (varint_text n) ≤ length bytes
+unfolding varint_text
+varint_text-shortest bytes n v =
     let e : length bytes ≡ suc (length v.front) = ap length v.spelled ∙ omega (arith, length-append v.front (v.last ∷ [])) in
     let b : n < 128 ^ length bytes = rw v.value (base128-lt bytes) in
     let c : n < 128 ^ suc (length v.front) = rw e at b in

@@ -7,7 +7,7 @@ use Rattle.buffa_bytes.specs.declared.wire_type.WireType.{WireType}
 use Rattle.buffa_bytes.specs.declared.wire_type.WireType.TheVariants.{Varint, Fixed64, LengthDelimited, StartGroup, EndGroup, Fixed32}
 use Rattle.buffa_bytes.specs.declared.error.DecodeError.{DecodeError}
 use Rattle.buffa_bytes.specs.declared.error.DecodeError.TheVariants.{UnexpectedEof, InvalidWireType}
-use Rattle.buffa_bytes.specs.Varint.{Var, VarFault}
+use Rattle.buffa_bytes.specs.Varint.{IsVarint, VarintFault}
 use Rattle.buffa_bytes.specs.Field.{LengthFault}
 use Rattle.buffa_bytes.specs.Reading.{varint_at, taken, delimited_at}
 
@@ -18,9 +18,9 @@ pub data Content : Type 0 where
 -- p is a payload of wire type w that holds c: a varint its value, four or eight bytes the number that they
 -- spell, lowest byte first, and a length and so many bytes these bytes
 abbrev pub HasContent : WireType → List ℕ → Content → Type 0
-HasContent Varint p (number n) = Var p n
+HasContent Varint p (number n) = IsVarint p n
 HasContent Fixed64 p (number n) = (length p ≡ 8) × (n ≡ from_le_bytes w64 p)
-HasContent LengthDelimited p (bytes b) = (t : List ℕ) × Var t (length b) × (p ≡ t ++ b)
+HasContent LengthDelimited p (bytes b) = (t : List ℕ) × IsVarint t (length b) × (p ≡ t ++ b)
 HasContent Fixed32 p (number n) = (length p ≡ 4) × (n ≡ from_le_bytes w32 p)
 HasContent _ _ _ = ⊥
 
@@ -30,7 +30,7 @@ TakesContent w old c new = (p : List ℕ) × HasContent w p c × (old ≡ p ++ n
 
 -- why no payload of wire type w begins these bytes; the two that hold neither a number nor bytes are named
 abbrev pub ContentFault : WireType → List ℕ → DecodeError → Type 0
-ContentFault Varint bs e = VarFault bs e
+ContentFault Varint bs e = VarintFault bs e
 ContentFault Fixed64 bs e = (length bs < 8) × (e ≡ UnexpectedEof)
 ContentFault LengthDelimited bs e = LengthFault bs e
 ContentFault StartGroup bs e = e ≡ InvalidWireType 3

@@ -5,19 +5,19 @@ use Rattle.buffa_bytes.specs.declared.wire_type.WireType.{WireType}
 use Rattle.buffa_bytes.specs.declared.wire_type.WireType.TheVariants.{Varint, Fixed64, LengthDelimited, StartGroup, EndGroup, Fixed32}
 use Rattle.buffa_bytes.specs.declared.error.DecodeError.{DecodeError}
 use Rattle.buffa_bytes.specs.declared.error.DecodeError.TheVariants.{UnexpectedEof, InvalidFieldNumber, InvalidWireType, RecursionLimitExceeded, InvalidEndGroup}
-use Rattle.buffa_bytes.specs.Varint.{Var, TakesVar, VarFault}
+use Rattle.buffa_bytes.specs.Varint.{IsVarint, TakesVarint, VarintFault}
 use Rattle.buffa_bytes.specs.Join.{Join}
 use Rattle.buffa_bytes.specs.Number.{IsNumber}
 
 -- a spelling of the tag of number f and wire type w
 abbrev pub IsTag : List ℕ → ℕ → WireType → Type 0
-IsTag t f w = IsNumber f × Var t (8 * f + wire_number w)
+IsTag t f w = IsNumber f × IsVarint t (8 * f + wire_number w)
 
 -- A payload of wire type w in a field of number f, where G says which bytes follow the start of a group.
 abbrev pub PayloadOver : (ℕ → List ℕ → Type 0) → ℕ → WireType → List ℕ → Type 0
-PayloadOver G f Varint p = (n : ℕ) × Var p n
+PayloadOver G f Varint p = (n : ℕ) × IsVarint p n
 PayloadOver G f Fixed64 p = length p ≡ 8
-PayloadOver G f LengthDelimited p = (t : List ℕ) × (body : List ℕ) × Var t (length body) × (p ≡ t ++ body)
+PayloadOver G f LengthDelimited p = (t : List ℕ) × (body : List ℕ) × IsVarint t (length body) × (p ≡ t ++ body)
 PayloadOver G f StartGroup p = G f p
 PayloadOver G f EndGroup p = ⊥
 PayloadOver G f Fixed32 p = length p ≡ 4
@@ -56,7 +56,7 @@ TakesPayload d f w old new = (p : List ℕ) × Payload d f w p × (old ≡ p ++ 
 
 -- a length and the bytes p begin old, and new is what follows them
 abbrev pub TakesDelimited : List ℕ → List ℕ → List ℕ → Type 0
-TakesDelimited old p new = (t : List ℕ) × Var t (length p) × (old ≡ t ++ (p ++ new))
+TakesDelimited old p new = (t : List ℕ) × IsVarint t (length p) × (old ≡ t ++ (p ++ new))
 
 -- what is wrong with the number of a tag
 abbrev pub BadTag : ℕ → DecodeError → Type 0
@@ -66,15 +66,15 @@ BadTag n _ = ⊥
 
 -- why no tag begins these bytes
 abbrev pub TagFault : List ℕ → DecodeError → Type 0
-TagFault bytes e = VarFault bytes e ⊎ ((n : ℕ) × (rest : List ℕ) × TakesVar bytes n rest × BadTag n e)
+TagFault bytes e = VarintFault bytes e ⊎ ((n : ℕ) × (rest : List ℕ) × TakesVarint bytes n rest × BadTag n e)
 
 -- why no length and so many bytes begin these
 abbrev pub LengthFault : List ℕ → DecodeError → Type 0
-LengthFault bytes e = VarFault bytes e ⊎ ((n : ℕ) × (rest : List ℕ) × TakesVar bytes n rest × (length rest < n) × (e ≡ UnexpectedEof))
+LengthFault bytes e = VarintFault bytes e ⊎ ((n : ℕ) × (rest : List ℕ) × TakesVarint bytes n rest × (length rest < n) × (e ≡ UnexpectedEof))
 
 -- Why no payload of a field begins these bytes, where G says why nothing follows the start of a group.
 abbrev pub PayloadFaultOver : (ℕ → List ℕ → DecodeError → Type 0) → ℕ → WireType → List ℕ → DecodeError → Type 0
-PayloadFaultOver G f Varint bytes e = VarFault bytes e
+PayloadFaultOver G f Varint bytes e = VarintFault bytes e
 PayloadFaultOver G f Fixed64 bytes e = (length bytes < 8) × (e ≡ UnexpectedEof)
 PayloadFaultOver G f LengthDelimited bytes e = LengthFault bytes e
 PayloadFaultOver G f StartGroup bytes e = G f bytes e

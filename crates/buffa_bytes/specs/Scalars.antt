@@ -5,7 +5,7 @@ use Rattle.std.specs.Prelude.{ℕ, ℤ, pos, negsuc, ◌+◌, ◌*◌, ◌/◌, 
 use Rattle.std.specs.Int.{cast_unsigned, cast_signed, from_bool, from_le_bytes, to_le_bytes, w32, w64}
 use Rattle.buffa_bytes.specs.Gives.{◌>>=◌}
 use Rattle.buffa_bytes.specs.declared.error.DecodeError.{DecodeError}
-use Rattle.buffa_bytes.specs.Varint.{V}
+use Rattle.buffa_bytes.specs.Varint.{varint_text}
 use Rattle.buffa_bytes.specs.Reading.{varint_at, taken}
 pub use Rattle.buffa_bytes.specs.Values.{int32_text, int32_of, int32_at}
 
@@ -27,40 +27,40 @@ abbrev pub varint_as : {A : Type 0} → (ℕ → A) → List ℕ → Result (A �
 varint_as of bs = varint_at bs >>= (λ n. Ok (of n.0, n.1))
 
 abbrev pub int64_text : ℤ → List ℕ
-int64_text v = V (cast_unsigned w64 v)
+int64_text v = varint_text (cast_unsigned w64 v)
 
 abbrev pub int64_of : ℕ → ℤ
 int64_of n = cast_signed w64 n
 
 abbrev pub uint32_text : ℕ → List ℕ
-uint32_text n = V n
+uint32_text n = varint_text n
 
 -- the low 32 bits
 abbrev pub uint32_of : ℕ → ℕ
 uint32_of n = n % 2 ^ 32
 
 abbrev pub uint64_text : ℕ → List ℕ
-uint64_text n = V n
+uint64_text n = varint_text n
 
 abbrev pub uint64_of : ℕ → ℕ
 uint64_of n = n
 
 abbrev pub sint32_text : ℤ → List ℕ
-sint32_text v = V (zigzag v)
+sint32_text v = varint_text (zigzag v)
 
 -- the zigzag in the low 32 bits
 abbrev pub sint32_of : ℕ → ℤ
 sint32_of n = unzigzag (n % 2 ^ 32)
 
 abbrev pub sint64_text : ℤ → List ℕ
-sint64_text v = V (zigzag v)
+sint64_text v = varint_text (zigzag v)
 
 abbrev pub sint64_of : ℕ → ℤ
 sint64_of n = unzigzag n
 
 -- 1 for true, 0 for false
 abbrev pub bool_text : Bool → List ℕ
-bool_text b = V (from_bool b)
+bool_text b = varint_text (from_bool b)
 
 -- anything but 0 is true
 abbrev pub bool_of : ℕ → Bool

@@ -18,7 +18,7 @@ Continue [] = Unit {0}
 Continue (b ∷ bs) = (128 ≤ b) × Continue bs
 
 -- bytes is a spelling of n: bytes that continue and a last one below 128, at most ten
-pub record Var (bytes : List ℕ) (n : ℕ) : Type 0 where
+pub record IsVarint (bytes : List ℕ) (n : ℕ) : Type 0 where
   pub front : List ℕ
   pub last : ℕ
   pub spelled : bytes ≡ front ++ last ∷ []
@@ -29,14 +29,14 @@ pub record Var (bytes : List ℕ) (n : ℕ) : Type 0 where
   pub fits : n < 2 ^ 64
 
 -- a spelling of n begins old, and new is what follows it
-abbrev pub TakesVar : List ℕ → ℕ → List ℕ → Type 0
-TakesVar old n new = (bytes : List ℕ) × Var bytes n × (old ≡ bytes ++ new)
+abbrev pub TakesVarint : List ℕ → ℕ → List ℕ → Type 0
+TakesVarint old n new = (bytes : List ℕ) × IsVarint bytes n × (old ≡ bytes ++ new)
 
 -- why no spelling begins these bytes: they end before a spelling does, or the tenth is neither 0 nor 1
-abbrev pub VarFault : List ℕ → DecodeError → Type 0
-VarFault bytes UnexpectedEof = Continue bytes × (length bytes < 10)
-VarFault bytes VarintTooLong = (front : List ℕ) × (b : ℕ) × (rest : List ℕ) × Continue front × (length front ≡ 9) × (2 ≤ b) × (bytes ≡ front ++ b ∷ rest)
-VarFault bytes _ = ⊥
+abbrev pub VarintFault : List ℕ → DecodeError → Type 0
+VarintFault bytes UnexpectedEof = Continue bytes × (length bytes < 10)
+VarintFault bytes VarintTooLong = (front : List ℕ) × (b : ℕ) × (rest : List ℕ) × Continue front × (length front ≡ 9) × (2 ≤ b) × (bytes ≡ front ++ b ∷ rest)
+VarintFault bytes _ = ⊥
 
 -- the bytes of n, with room for k more after the first
 unfoldable pub shortest : ℕ → ℕ → List ℕ
@@ -44,5 +44,5 @@ shortest zero n = n ∷ []
 shortest (suc k) n = elim (nat_lt n 128) [ true ↦ n ∷ [] | false ↦ (n % 128 + 128) ∷ shortest k (n / 128) ]
 
 -- the shortest spelling of n
-unfoldable pub V : ℕ → List ℕ
-V n = shortest n n
+unfoldable pub varint_text : ℕ → List ℕ
+varint_text n = shortest n n

@@ -24,7 +24,7 @@ pub trait Buf {
     ghost unread: { Self → List ℕ };
 
     /// What no read changes: for each lent buffer its ghost name, and the bytes past its limit.
-    ghost kept: { Self → List (ℕ × List ℕ) } = { λ _. [] };
+    ghost beyond: { Self → List (ℕ × List ℕ) } = { λ _. [] };
 
     /// How many bytes are left.
     fn remaining(&self) -> usize
@@ -38,7 +38,7 @@ pub trait Buf {
     fn advance(&mut self, n: usize)
         requires { n ≤ length (unread self.old) }
         ensures rest { unread self.new ≡ drop n (unread self.old) }
-        ensures kept { kept self.new ≡ kept self.old };
+        ensures kept { beyond self.new ≡ beyond self.old };
 }
 
 impl Buf for &[u8] {
@@ -79,7 +79,7 @@ impl Buf for Bytes {
 fn move_bytes<B: Buf>(buf: &mut B, len: usize, bytes: &mut Vec<u8>) -> Result<(), DecodeError>
     requires { len ≤ length (B.unread buf.old) }
     ensures moved { MovesUnlessFull result len (B.unread buf.old) (B.unread buf.new) bytes.old.items bytes.new.items }
-    ensures kept { B.kept buf.new ≡ B.kept buf.old }
+    ensures kept { B.beyond buf.new ≡ B.beyond buf.old }
     ensures tail { IsTailOf (B.unread buf.new) (B.unread buf.old) }
 {
     let mut left = len;
@@ -108,7 +108,7 @@ fn move_bytes<B: Buf>(buf: &mut B, len: usize, bytes: &mut Vec<u8>) -> Result<()
 pub fn copy_bytes<B: Buf>(alloc: Global, buf: &mut B, len: u64) -> Result<Vec<u8>, DecodeError>
     ensures reads { GivesUnlessFull (λ bytes. (bytes.items, B.unread buf.new)) result (taken len (B.unread buf.old)) }
     ensures full { FullOnlyIf result (IsOk (taken len (B.unread buf.old))) }
-    ensures kept { B.kept buf.new ≡ B.kept buf.old }
+    ensures kept { B.beyond buf.new ≡ B.beyond buf.old }
     ensures tail { IsTailOf (B.unread buf.new) (B.unread buf.old) }
 {
     if len > buf.remaining() as u64 {

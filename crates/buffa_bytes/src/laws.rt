@@ -1,6 +1,7 @@
 //! What the definitions say together: each law is a function with nothing to do, whose contract is the law.
 
-ghost use Rattle.std.specs.Prelude.{◌≡◌, ◌≢◌, ◌<◌, ◌≤◌, ◌<ℤ◌, ◌^◌, ◌+◌, ◌↔◌, ℕ, ℤ, suc, pos, Bool, List, ◌++◌, length, Ok, Err, FitsSigned, true};
+ghost use Rattle.std.specs.Prelude.{◌≡◌, ◌≢◌, ◌<◌, ◌≤◌, ◌<ℤ◌, ◌^◌, ◌+◌, ◌↔◌, ℕ, ℤ, suc, pos, Bool, List, ◌++◌};
+ghost use Rattle.std.specs.Prelude.{length, Ok, Err, FitsSigned, true};
 ghost use Rattle.std.specs.Int.{cast_unsigned, from_bool, w32, w64};
 ghost use Rattle.std.specs.List.{All};
 ghost use Rattle.std.specs.Str.{is_utf8};
@@ -8,12 +9,19 @@ ghost use Rattle.buffa_bytes.specs.declared.wire_type.WireType.{WireType};
 ghost use Rattle.buffa_bytes.specs.declared.wire_type.WireType.TheVariants.{Fixed32, Fixed64, LengthDelimited, Varint};
 ghost use Rattle.buffa_bytes.specs.declared.error.DecodeError.{DecodeError};
 ghost use Rattle.buffa_bytes.specs.declared.error.DecodeError.TheVariants.{OutOfMemory};
-ghost use Rattle.buffa_bytes.specs.Varint.{IsByte, V, Var, TakesVar, VarFault};
+ghost use Rattle.buffa_bytes.specs.Varint.{IsByte, varint_text, IsVarint, TakesVarint, VarintFault};
 ghost use Rattle.buffa_bytes.specs.Number.{IsNumber};
-ghost use Rattle.buffa_bytes.specs.Content.{Content, ContentFault, TakesContent, bytes_in, content_at, content_by, number_in};
-ghost use Rattle.buffa_bytes.specs.Field.{LengthFault, SomeField, TakesDelimited, TakesTag, TagFault, TakesPayload, PayloadFault};
+ghost use Rattle.buffa_bytes.specs.Content.{Content, ContentFault, TakesContent, bytes_in, content_at, content_by};
+ghost use Rattle.buffa_bytes.specs.Content.{number_in};
+ghost use Rattle.buffa_bytes.specs.Field.{LengthFault, SomeField, TakesDelimited, TakesTag, TagFault, TakesPayload};
+ghost use Rattle.buffa_bytes.specs.Field.{PayloadFault};
 ghost use Rattle.buffa_bytes.specs.Reading.{delimited_at, varint_at, tag_at, skip_at, group_at, group_by_field};
-ghost use Rattle.buffa_bytes.specs.Scalars.{bool_at, bool_of, bool_text, eight_as, fixed32_at, fixed32_text, fixed64_at, fixed64_text, four_as, int32_of, int64_at, int64_of, int64_text, sfixed32_at, sfixed32_of, sfixed32_text, sfixed64_at, sfixed64_of, sfixed64_text, sint32_at, sint32_of, sint32_text, sint64_at, sint64_of, sint64_text, uint32_at, uint32_of, uint32_text, uint64_at, uint64_text, unzigzag, varint_as, zigzag};
+ghost use Rattle.buffa_bytes.specs.Scalars.{bool_at, bool_of, bool_text, eight_as, fixed32_at, fixed32_text};
+ghost use Rattle.buffa_bytes.specs.Scalars.{fixed64_at, fixed64_text, four_as, int32_of, int64_at, int64_of};
+ghost use Rattle.buffa_bytes.specs.Scalars.{int64_text, sfixed32_at, sfixed32_of, sfixed32_text, sfixed64_at};
+ghost use Rattle.buffa_bytes.specs.Scalars.{sfixed64_of, sfixed64_text, sint32_at, sint32_of, sint32_text, sint64_at};
+ghost use Rattle.buffa_bytes.specs.Scalars.{sint64_of, sint64_text, uint32_at, uint32_of, uint32_text, uint64_at};
+ghost use Rattle.buffa_bytes.specs.Scalars.{uint64_text, unzigzag, varint_as, zigzag};
 ghost use Rattle.buffa_bytes.specs.Texts.{bytes_as, string_as, text_as};
 ghost use Rattle.buffa_bytes.specs.Values.{delimited_text, int32_at, int32_text, string_at, tag_text};
 
@@ -24,13 +32,14 @@ use crate::types::{BOOL_ENCODED_LEN, FIXED32_ENCODED_LEN, FIXED64_ENCODED_LEN};
 /// A varint is read exactly where a spelling begins the bytes, and a fault is told exactly where the
 /// grammar has it.
 pub fn varints_are_read()
-    ensures ok { (bs : List ℕ) (n : ℕ) (rest : List ℕ) → (varint_at bs ≡ Ok (n, rest)) ↔ TakesVar bs n rest }
-    ensures err { (bs : List ℕ) (e : DecodeError) → (varint_at bs ≡ Err e) ↔ VarFault bs e }
+    ensures ok { (bs : List ℕ) (n : ℕ) (rest : List ℕ) → (varint_at bs ≡ Ok (n, rest)) ↔ TakesVarint bs n rest }
+    ensures err { (bs : List ℕ) (e : DecodeError) → (varint_at bs ≡ Err e) ↔ VarintFault bs e }
 {}
 
 /// The same of tags.
 pub fn tags_are_read()
-    ensures ok { (bs : List ℕ) (f : ℕ) (w : WireType) (rest : List ℕ) → (tag_at bs ≡ Ok (f, w, rest)) ↔ TakesTag bs f w rest }
+    ensures ok { (bs : List ℕ) (f : ℕ) (w : WireType) (rest : List ℕ) → (tag_at bs ≡ Ok (f, w, rest))
+        ↔ TakesTag bs f w rest }
     ensures err { (bs : List ℕ) (e : DecodeError) → (tag_at bs ≡ Err e) ↔ TagFault bs e }
 {}
 
@@ -42,26 +51,30 @@ pub fn delimited_bytes_are_read()
 
 /// The same of what a payload holds, a number or bytes.
 pub fn contents_are_read()
-    ensures ok { (w : WireType) (bs : List ℕ) (c : Content) (rest : List ℕ) → (content_at w bs ≡ Ok (c, rest)) ↔ TakesContent w bs c rest }
+    ensures ok { (w : WireType) (bs : List ℕ) (c : Content) (rest : List ℕ) → (content_at w bs ≡ Ok (c, rest))
+        ↔ TakesContent w bs c rest }
     ensures err { (w : WireType) (bs : List ℕ) (e : DecodeError) → (content_at w bs ≡ Err e) ↔ ContentFault w bs e }
 {}
 
 /// The same of payloads, groups to any depth among them.
 pub fn payloads_are_read()
-    ensures ok { (d f : ℕ) (w : WireType) (bs rest : List ℕ) → (skip_at d f w bs ≡ Ok rest) ↔ TakesPayload d f w bs rest }
-    ensures err { (d f : ℕ) (w : WireType) (bs : List ℕ) (e : DecodeError) → (skip_at d f w bs ≡ Err e) ↔ PayloadFault d f w bs e }
+    ensures ok { (d f : ℕ) (w : WireType) (bs rest : List ℕ) → (skip_at d f w bs ≡ Ok rest)
+        ↔ TakesPayload d f w bs rest }
+    ensures err { (d f : ℕ) (w : WireType) (bs : List ℕ) (e : DecodeError) → (skip_at d f w bs ≡ Err e)
+        ↔ PayloadFault d f w bs e }
 {}
 
 /// The shortest spelling is one, none is shorter, and it is read back whatever follows.
 pub fn shortest_spelling()
-    ensures spells { (n : ℕ) → n < 2 ^ 64 → Var (V n) n }
-    ensures shortest { (bytes : List ℕ) (n : ℕ) → Var bytes n → length (V n) ≤ length bytes }
-    ensures read_back { (n : ℕ) (rest : List ℕ) → n < 2 ^ 64 → varint_at (V n ++ rest) ≡ Ok (n, rest) }
+    ensures spells { (n : ℕ) → n < 2 ^ 64 → IsVarint (varint_text n) n }
+    ensures shortest { (bytes : List ℕ) (n : ℕ) → IsVarint bytes n → length (varint_text n) ≤ length bytes }
+    ensures read_back { (n : ℕ) (rest : List ℕ) → n < 2 ^ 64 → varint_at (varint_text n ++ rest) ≡ Ok (n, rest) }
 {}
 
 /// Of two spellings of a number in as many bytes there is one: the shortest is the only one of its length.
 pub fn one_spelling_of_a_length()
-    ensures { (a b : List ℕ) (n : ℕ) → All IsByte a → All IsByte b → Var a n → Var b n → length a ≡ length b → a ≡ b }
+    ensures { (a b : List ℕ) (n : ℕ) → All IsByte a → All IsByte b → IsVarint a n → IsVarint b n → length a
+        ≡ length b → a ≡ b }
 {}
 
 /// Out of memory is no fault of the bytes.
@@ -84,15 +97,19 @@ pub fn constants()
 
 /// What is read does not depend on what follows.
 pub fn more_bytes_change_nothing()
-    ensures varint { (bs : List ℕ) (n : ℕ) (rest more : List ℕ) → varint_at bs ≡ Ok (n, rest) → varint_at (bs ++ more) ≡ Ok (n, rest ++ more) }
-    ensures tag { (bs : List ℕ) (f : ℕ) (w : WireType) (rest more : List ℕ) → tag_at bs ≡ Ok (f, w, rest) → tag_at (bs ++ more) ≡ Ok (f, w, rest ++ more) }
-    ensures skip { (d f : ℕ) (w : WireType) (bs rest more : List ℕ) → skip_at d f w bs ≡ Ok rest → skip_at d f w (bs ++ more) ≡ Ok (rest ++ more) }
+    ensures varint { (bs : List ℕ) (n : ℕ) (rest more : List ℕ) → varint_at bs ≡ Ok (n, rest) →
+        varint_at (bs ++ more) ≡ Ok (n, rest ++ more) }
+    ensures tag { (bs : List ℕ) (f : ℕ) (w : WireType) (rest more : List ℕ) → tag_at bs ≡ Ok (f, w, rest) →
+        tag_at (bs ++ more) ≡ Ok (f, w, rest ++ more) }
+    ensures skip { (d f : ℕ) (w : WireType) (bs rest more : List ℕ) → skip_at d f w bs ≡ Ok rest →
+        skip_at d f w (bs ++ more) ≡ Ok (rest ++ more) }
 {}
 
 /// What is read leaves less.
 pub fn readings_shorten()
     ensures varint { (bs : List ℕ) (n : ℕ) (rest : List ℕ) → varint_at bs ≡ Ok (n, rest) → length rest < length bs }
-    ensures tag { (bs : List ℕ) (f : ℕ) (w : WireType) (rest : List ℕ) → tag_at bs ≡ Ok (f, w, rest) → length rest < length bs }
+    ensures tag { (bs : List ℕ) (f : ℕ) (w : WireType) (rest : List ℕ) → tag_at bs ≡ Ok (f, w, rest) →
+        length rest < length bs }
     ensures skip { (d f : ℕ) (w : WireType) (bs rest : List ℕ) → skip_at d f w bs ≡ Ok rest → length rest ≤ length bs }
 {}
 
@@ -103,14 +120,18 @@ pub fn group_field_by_field()
 
 /// No payload is a proper beginning of another of its wire type, and no field of another.
 pub fn no_field_begins_another()
-    ensures payload { (d f : ℕ) (w : WireType) (bs x y : List ℕ) → TakesPayload d f w bs x → TakesPayload d f w bs y → x ≡ y }
-    ensures field { (d : ℕ) (first second x y : List ℕ) → SomeField d first → SomeField d second → first ++ x ≡ second ++ y → first ≡ second }
+    ensures payload { (d f : ℕ) (w : WireType) (bs x y : List ℕ) → TakesPayload d f w bs x →
+        TakesPayload d f w bs y → x ≡ y }
+    ensures field { (d : ℕ) (first second x y : List ℕ) → SomeField d first → SomeField d second → first ++ x
+        ≡ second ++ y → first ≡ second }
 {}
 
 /// Bytes have one fault at most, and none where a payload begins them.
 pub fn one_fault()
-    ensures one { (d f : ℕ) (w : WireType) (bs : List ℕ) (e k : DecodeError) → PayloadFault d f w bs e → PayloadFault d f w bs k → e ≡ k }
-    ensures none { (d f : ℕ) (w : WireType) (bs rest : List ℕ) (e : DecodeError) → TakesPayload d f w bs rest → PayloadFault d f w bs e → ⊥ }
+    ensures one { (d f : ℕ) (w : WireType) (bs : List ℕ) (e k : DecodeError) → PayloadFault d f w bs e →
+        PayloadFault d f w bs k → e ≡ k }
+    ensures none { (d f : ℕ) (w : WireType) (bs rest : List ℕ) (e : DecodeError) → TakesPayload d f w bs rest →
+        PayloadFault d f w bs e → ⊥ }
 {}
 
 /// A tag that was written is read back, whatever follows.
@@ -158,8 +179,10 @@ pub fn varint_scalars_are_read_back()
 pub fn fixed_scalars_are_read_back()
     ensures fixed32 { (n : ℕ) (rest : List ℕ) → n < 2 ^ 32 → fixed32_at (fixed32_text n ++ rest) ≡ Ok (n, rest) }
     ensures fixed64 { (n : ℕ) (rest : List ℕ) → n < 2 ^ 64 → fixed64_at (fixed64_text n ++ rest) ≡ Ok (n, rest) }
-    ensures sfixed32 { (v : ℤ) (rest : List ℕ) → FitsSigned w32 v → sfixed32_at (sfixed32_text v ++ rest) ≡ Ok (v, rest) }
-    ensures sfixed64 { (v : ℤ) (rest : List ℕ) → FitsSigned w64 v → sfixed64_at (sfixed64_text v ++ rest) ≡ Ok (v, rest) }
+    ensures sfixed32 { (v : ℤ) (rest : List ℕ) → FitsSigned w32 v → sfixed32_at (sfixed32_text v ++ rest)
+        ≡ Ok (v, rest) }
+    ensures sfixed64 { (v : ℤ) (rest : List ℕ) → FitsSigned w64 v → sfixed64_at (sfixed64_text v ++ rest)
+        ≡ Ok (v, rest) }
 {}
 
 /// The scalars of one length, whatever the value.
@@ -173,24 +196,32 @@ pub fn scalars_of_one_length()
 
 /// A text of UTF-8 that was written is read back, whatever follows.
 pub fn strings_are_read_back()
-    ensures { (text rest : List ℕ) → is_utf8 text ≡ true → length text < 2 ^ 64 → string_at (delimited_text text ++ rest) ≡ Ok (text, rest) }
+    ensures { (text rest : List ℕ) → is_utf8 text ≡ true → length text < 2 ^ 64 →
+        string_at (delimited_text text ++ rest) ≡ Ok (text, rest) }
 {}
 
 /// A string in a type of one's own that was written is read back, whatever follows.
 pub fn own_strings_are_read_back<S: ProtoString>()
-    ensures { (value : S) (rest : List ℕ) → length (S.text (S.meaning value)) < 2 ^ 64 → string_as S.of_text (delimited_text (S.text (S.meaning value)) ++ rest) ≡ Ok (S.meaning value, rest) }
+    ensures { (value : S) (rest : List ℕ) → length (S.text (S.meaning value)) < 2 ^ 64 →
+        string_as S.of_text (delimited_text (S.text (S.meaning value)) ++ rest) ≡ Ok (S.meaning value, rest) }
 {}
 
 /// Bytes in a type of one's own that were written are read back, whatever follows.
 pub fn own_bytes_are_read_back<P: ProtoBytes>()
-    ensures { (value : P.Meaning) (rest : List ℕ) → length (P.bytes value) < 2 ^ 64 → bytes_as P.of_bytes (delimited_text (P.bytes value) ++ rest) ≡ Ok (value, rest) }
+    ensures { (value : P.Meaning) (rest : List ℕ) → length (P.bytes value) < 2 ^ 64 →
+        bytes_as P.of_bytes (delimited_text (P.bytes value) ++ rest) ≡ Ok (value, rest) }
 {}
 
 /// A value is read as the content of its payload.
-pub fn values_are_read_of_contents<V>()
-    ensures varint { (of : ℕ → V) (bs : List ℕ) → varint_as of bs ≡ content_by Varint (λ c. Ok (of (number_in c))) bs }
-    ensures four_bytes { (of : ℕ → V) (bs : List ℕ) → four_as of bs ≡ content_by Fixed32 (λ c. Ok (of (number_in c))) bs }
-    ensures eight_bytes { (of : ℕ → V) (bs : List ℕ) → eight_as of bs ≡ content_by Fixed64 (λ c. Ok (of (number_in c))) bs }
-    ensures bytes { (of : List ℕ → V) (bs : List ℕ) → bytes_as of bs ≡ content_by LengthDelimited (λ c. Ok (of (bytes_in c))) bs }
-    ensures string { (of : List ℕ → V) (bs : List ℕ) → string_as of bs ≡ content_by LengthDelimited (λ c. text_as of (bytes_in c)) bs }
+pub fn values_are_read_of_contents<varint_text>()
+    ensures varint { (of : ℕ → varint_text) (bs : List ℕ) → varint_as of bs
+        ≡ content_by Varint (λ c. Ok (of (number_in c))) bs }
+    ensures four_bytes { (of : ℕ → varint_text) (bs : List ℕ) → four_as of bs
+        ≡ content_by Fixed32 (λ c. Ok (of (number_in c))) bs }
+    ensures eight_bytes { (of : ℕ → varint_text) (bs : List ℕ) → eight_as of bs
+        ≡ content_by Fixed64 (λ c. Ok (of (number_in c))) bs }
+    ensures bytes { (of : List ℕ → varint_text) (bs : List ℕ) → bytes_as of bs
+        ≡ content_by LengthDelimited (λ c. Ok (of (bytes_in c))) bs }
+    ensures string { (of : List ℕ → varint_text) (bs : List ℕ) → string_as of bs
+        ≡ content_by LengthDelimited (λ c. text_as of (bytes_in c)) bs }
 {}

@@ -46,7 +46,7 @@ impl<B: Buf> Limited<'_, B> {
     #[tactic(auto, using(crate::proofs::LimitLemmas::drop_min))]
     pub fn finish(self)
         ensures rest { B.unread self.exit.0.now ≡ drop self.entry.limit (B.unread self.entry.inner.now) }
-        ensures kept { B.kept self.exit.0.now ≡ B.kept self.entry.inner.now }
+        ensures kept { B.beyond self.exit.0.now ≡ B.beyond self.entry.inner.now }
     {
         let Limited { inner, limit } = self;
         let left = inner.remaining().min(limit);
@@ -57,7 +57,7 @@ impl<B: Buf> Limited<'_, B> {
 impl<B: Buf> Buf for Limited<'_, B> {
     ghost unread = { λ s. take s.limit (B.unread s.inner.now) };
 
-    ghost kept = { λ s. (s.inner.ghost_name, drop s.limit (B.unread s.inner.now)) ∷ B.kept s.inner.now };
+    ghost beyond = { λ s. (s.inner.ghost_name, drop s.limit (B.unread s.inner.now)) ∷ B.beyond s.inner.now };
 
     fn remaining(&self) -> usize {
         self.inner.remaining().min(self.limit)

@@ -35,7 +35,8 @@ impl EncodeSink for Vec<u8> {
     /// Appends `b`, or leaves the vector's items as they were where memory runs out.
     fn put_slice(&mut self, b: &[u8]) -> Result<(), EncodeError>
         ensures writes { Writes result self.old.items b.now self.new.items }
-        ensures room { UsesRoom result (vec_capacity self.old - vec_len self.old) b.now (vec_capacity self.new - vec_len self.new) }
+        ensures room { UsesRoom result (vec_capacity self.old - vec_len self.old) b.now
+            (vec_capacity self.new - vec_len self.new) }
         ensures err { OnErr result (self.new.items ≡ self.old.items) }
     {
         self.extend_from_slice(b)

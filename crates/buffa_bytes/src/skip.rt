@@ -15,7 +15,7 @@ use crate::wire_type::WireType;
 #[tactic(auto, using(crate::proofs::TailLemmas::tail_whole, crate::proofs::TailLemmas::tail_dropped), unfolding(crate::specs::Reading::past))]
 fn skip_bytes<B: Buf>(buf: &mut B, n: u64) -> Result<(), DecodeError>
     ensures reads { Gives (λ _. B.unread buf.new) result (past n (B.unread buf.old)) }
-    ensures kept { B.kept buf.new ≡ B.kept buf.old }
+    ensures kept { B.beyond buf.new ≡ B.beyond buf.old }
     ensures tail { IsTailOf (B.unread buf.new) (B.unread buf.old) }
 {
     if n > buf.remaining() as u64 {
@@ -43,7 +43,7 @@ fn skip_bytes<B: Buf>(buf: &mut B, n: u64) -> Result<(), DecodeError>
 #[tactic(auto, using(crate::proofs::TailLemmas::tail_whole, crate::proofs::TailLemmas::tail_more))]
 pub fn skip_field_depth<B: Buf>(tag: Tag, buf: &mut B, depth: u32) -> Result<(), DecodeError>
     ensures reads { Gives (λ _. B.unread buf.new) result (skip_at depth tag.number tag.wire_type (B.unread buf.old)) }
-    ensures kept { B.kept buf.new ≡ B.kept buf.old }
+    ensures kept { B.beyond buf.new ≡ B.beyond buf.old }
     ensures tail { IsTailOf (B.unread buf.new) (B.unread buf.old) }
 {
     match tag.wire_type() {
@@ -67,7 +67,7 @@ pub fn skip_field_depth<B: Buf>(tag: Tag, buf: &mut B, depth: u32) -> Result<(),
 #[tactic(auto, using(crate::proofs::TailLemmas::tail_whole, crate::proofs::TailLemmas::tail_more))]
 fn skip_group<B: Buf>(number: u32, buf: &mut B, depth: u32) -> Result<(), DecodeError>
     ensures reads { Gives (λ _. B.unread buf.new) result (group_at depth number (B.unread buf.old)) }
-    ensures kept { B.kept buf.new ≡ B.kept buf.old }
+    ensures kept { B.beyond buf.new ≡ B.beyond buf.old }
     ensures tail { IsTailOf (B.unread buf.new) (B.unread buf.old) }
 {
     if depth == 0 {

@@ -93,8 +93,9 @@ impl Tag {
     /// ```
     #[tactic(auto, unfolding(crate::specs::Reading::tag_at, crate::specs::Reading::tag_of))]
     pub fn decode<B: Buf>(buf: &mut B) -> Result<Tag, DecodeError>
-        ensures reads { Gives (λ tag. (tag.number, tag.wire_type, B.unread buf.new)) result (tag_at (B.unread buf.old)) }
-        ensures kept { B.kept buf.new ≡ B.kept buf.old }
+        ensures reads { Gives (λ tag. (tag.number, tag.wire_type, B.unread buf.new)) result
+            (tag_at (B.unread buf.old)) }
+        ensures kept { B.beyond buf.new ≡ B.beyond buf.old }
         ensures tail { IsTailOf (B.unread buf.new) (B.unread buf.old) }
     {
         let value = decode_varint(buf)?;

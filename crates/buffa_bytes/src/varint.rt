@@ -3,7 +3,7 @@
 ghost use Rattle.std.specs.Prelude.{◌≡◌, ◌∷◌, [], length, MatchOption};
 ghost use Rattle.buffa_bytes.specs.Gives.{Gives};
 ghost use Rattle.buffa_bytes.specs.Reading.{varint_at};
-ghost use Rattle.buffa_bytes.specs.Varint.{V};
+ghost use Rattle.buffa_bytes.specs.Varint.{varint_text};
 ghost use Rattle.buffa_bytes.specs.Written.{UsesRoom, Writes};
 ghost use Rattle.buffa_bytes.specs.Unread.{IsTailOf};
 
@@ -21,7 +21,7 @@ use crate::sink::EncodeSink;
 pub fn take_byte<B: Buf>(buf: &mut B) -> Option<u8>
     ensures taken { MatchOption result ((B.unread buf.old ≡ []) × (B.unread buf.new ≡ []))
         (λ byte. B.unread buf.old ≡ byte ∷ B.unread buf.new) }
-    ensures kept { B.kept buf.new ≡ B.kept buf.old }
+    ensures kept { B.beyond buf.new ≡ B.beyond buf.old }
     ensures tail { IsTailOf (B.unread buf.new) (B.unread buf.old) }
 {
     let byte = *buf.chunk().first()?;
@@ -43,7 +43,7 @@ pub fn take_byte<B: Buf>(buf: &mut B) -> Option<u8>
 /// ```
 pub fn decode_varint<B: Buf>(buf: &mut B) -> Result<u64, DecodeError>
     ensures reads { Gives (λ n. (n, B.unread buf.new)) result (varint_at (B.unread buf.old)) }
-    ensures kept { B.kept buf.new ≡ B.kept buf.old }
+    ensures kept { B.beyond buf.new ≡ B.beyond buf.old }
     ensures tail { IsTailOf (B.unread buf.new) (B.unread buf.old) }
 {
     let mut value: u64 = 0;
@@ -74,8 +74,8 @@ pub fn decode_varint<B: Buf>(buf: &mut B) -> Result<u64, DecodeError>
 /// ```
 #[tactic(auto, using(crate::proofs::ShortestLemmas::v_laws, crate::proofs::SinkLemmas::digit_more, crate::proofs::SinkLemmas::digit_last, crate::proofs::SinkLemmas::digit_room))]
 pub fn encode_varint<S: EncodeSink>(n: u64, sink: &mut S) -> Result<(), EncodeError>
-    ensures writes { Writes result (S.written sink.old) (V n) (S.written sink.new) }
-    ensures room { UsesRoom result (S.room sink.old) (V n) (S.room sink.new) }
+    ensures writes { Writes result (S.written sink.old) (varint_text n) (S.written sink.new) }
+    ensures room { UsesRoom result (S.room sink.old) (varint_text n) (S.room sink.new) }
 {
     let mut text = [0u8; 10];
     let mut len = 0;
@@ -96,7 +96,7 @@ pub fn encode_varint<S: EncodeSink>(n: u64, sink: &mut S) -> Result<(), EncodeEr
 /// ```
 #[tactic(auto, using(crate::proofs::ShortestLemmas::v_laws))]
 pub fn varint_len(n: u64) -> usize
-    ensures { result ≡ length (V n) }
+    ensures { result ≡ length (varint_text n) }
 {
     let mut len = 1;
     let mut rest = n;

@@ -5,7 +5,7 @@ use Rattle.std.proofs.lemmas.List.{map-append, append-nil, take_more, take-map, 
 use Rattle.std.specs.Result.{OnErr}
 use Rattle.buffa_wire.specs.Records.{Datum}
 use Rattle.buffa_wire.specs.View.{record_of, records_in, datum_of}
-use Rattle.buffa_wire.specs.Left.{Left}
+use Rattle.buffa_wire.specs.BudgetLeft.{BudgetLeft}
 use Rattle.buffa_wire.specs.declared.unknown_fields.UnknownField.{UnknownField}
 use Rattle.buffa_codec.specs.Sub.{sub, tagged}
 use Rattle.buffa_codec.specs.Reading.{ReadsAll, elements}
@@ -13,7 +13,7 @@ use Rattle.buffa_codec.proofs.Lists.{means_more}
 use Rattle.buffa_codec.proofs.Filtered.{sub-append, sub-cons}
 
 -- one more record is read
-pub ReadsAll-snoc : {M : Type 0} (one : Left → Datum → Option M) (leaves : Left → Datum → Left → Type 0) (packed : List ℕ → List M) (ds : List Datum) (d : Datum) (b : Left) (vs : List M) (mid left : Left)
+pub ReadsAll-snoc : {M : Type 0} (one : BudgetLeft → Datum → Option M) (leaves : BudgetLeft → Datum → BudgetLeft → Type 0) (packed : List ℕ → List M) (ds : List Datum) (d : Datum) (b : BudgetLeft) (vs : List M) (mid left : BudgetLeft)
     → ReadsAll one leaves packed b ds vs mid → leaves mid d left → ReadsAll one leaves packed b (ds ++ d ∷ []) (vs ++ elements packed d (one mid d)) left
 ReadsAll-snoc one leaves packed [] d b vs mid left h s =
     (left, [], subst (λ m. leaves m d left) h.1 s, (refl, refl), ap (λ l. l ++ elements packed d (one mid d)) h.0 ∙ ap (λ m. elements packed d (one m d)) h.1 ∙ sym (append-nil (elements packed d (one b d))))
@@ -45,7 +45,7 @@ sub-one_other n x other =
     ∙ ap (λ b. cond b (datum_of x.payload ∷ []) []) (test_other _ n other)
 
 -- a turn at a record of the number
-pub reads_one_more : {M : Type 0} (one : Left → Datum → Option M) (leaves : Left → Datum → Left → Type 0) (packed : List ℕ → List M) (b : Left) (n : ℕ) (xs : List UnknownField) (i : ℕ) (x : UnknownField) (vs vs' : List M) (mid left : Left)
+pub reads_one_more : {M : Type 0} (one : BudgetLeft → Datum → Option M) (leaves : BudgetLeft → Datum → BudgetLeft → Type 0) (packed : List ℕ → List M) (b : BudgetLeft) (n : ℕ) (xs : List UnknownField) (i : ℕ) (x : UnknownField) (vs vs' : List M) (mid left : BudgetLeft)
     → i < length xs → x ≡ get_or xs i x → x.number ≡ n
     → ReadsAll one leaves packed b (sub n (records_in (take i xs))) vs mid → leaves mid (datum_of x.payload) left
     → vs' ≡ vs ++ elements packed (datum_of x.payload) (one mid (datum_of x.payload))
@@ -56,7 +56,7 @@ reads_one_more one leaves packed b n xs i x vs vs' mid left lt e same h s more =
     (ReadsAll-snoc one leaves packed (sub n (records_in (take i xs))) (datum_of x.payload) b vs mid left h s))
 
 -- a turn at another record
-pub passes_one_over : {M : Type 0} (one : Left → Datum → Option M) (leaves : Left → Datum → Left → Type 0) (packed : List ℕ → List M) (b : Left) (n : ℕ) (xs : List UnknownField) (i : ℕ) (x : UnknownField) (vs vs' : List M) (left left' : Left)
+pub passes_one_over : {M : Type 0} (one : BudgetLeft → Datum → Option M) (leaves : BudgetLeft → Datum → BudgetLeft → Type 0) (packed : List ℕ → List M) (b : BudgetLeft) (n : ℕ) (xs : List UnknownField) (i : ℕ) (x : UnknownField) (vs vs' : List M) (left left' : BudgetLeft)
     → i < length xs → x ≡ get_or xs i x → x.number ≢ n → vs' ≡ vs → left' ≡ left
     → ReadsAll one leaves packed b (sub n (records_in (take i xs))) vs left
     → ReadsAll one leaves packed b (sub n (records_in (take (i + 1) xs))) vs' left'

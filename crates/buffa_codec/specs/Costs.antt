@@ -1,20 +1,20 @@
 -- What the records of a list cost that are read as values.
 use Rattle.std.specs.Prelude.{◌≡◌, List, [], ◌∷◌, Option, Some, None}
-use Rattle.buffa_wire.specs.Left.{Left, nothing, plus}
+use Rattle.buffa_wire.specs.BudgetLeft.{BudgetLeft, nothing, plus}
 use Rattle.buffa_wire.specs.Records.{Datum}
 use Rattle.buffa_codec.specs.Reading.{Covers, full}
 
 -- what a record costs if it is read as a value
-abbrev pub cost_if : {M : Type 0} → Left → Option M → Left
+abbrev pub cost_if : {M : Type 0} → BudgetLeft → Option M → BudgetLeft
 cost_if cost (Some v) = cost
 cost_if cost None = nothing
 
 -- the records are read one after the other from what is left, and those that are read as values cost so much together
-abbrev pub Costs : {M : Type 0} → (Left → Datum → Option M) → (Left → Datum → Left → Type 0) → (Datum → Left) → Left → List Datum → Left → Type 0
+abbrev pub Costs : {M : Type 0} → (BudgetLeft → Datum → Option M) → (BudgetLeft → Datum → BudgetLeft → Type 0) → (Datum → BudgetLeft) → BudgetLeft → List Datum → BudgetLeft → Type 0
 Costs one leaves cost b [] total = total ≡ nothing
 Costs one leaves cost b (d ∷ ds) total =
-    (mid : Left) × (rest : Left) × leaves b d mid × Costs one leaves cost mid ds rest × (total ≡ plus (cost_if (cost d) (one b d)) rest)
+    (mid : BudgetLeft) × (rest : BudgetLeft) × leaves b d mid × Costs one leaves cost mid ds rest × (total ≡ plus (cost_if (cost d) (one b d)) rest)
 
 -- however records are read so from a pair of default budgets, they cost no more than the pair
-abbrev pub StaysWithin : {M : Type 0} → (Left → Datum → Option M) → (Left → Datum → Left → Type 0) → (Datum → Left) → Type 0
-StaysWithin one leaves cost = (ds : List Datum) (total : Left) → Costs one leaves cost full ds total → Covers full total
+abbrev pub StaysWithin : {M : Type 0} → (BudgetLeft → Datum → Option M) → (BudgetLeft → Datum → BudgetLeft → Type 0) → (Datum → BudgetLeft) → Type 0
+StaysWithin one leaves cost = (ds : List Datum) (total : BudgetLeft) → Costs one leaves cost full ds total → Covers full total

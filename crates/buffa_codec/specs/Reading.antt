@@ -4,13 +4,13 @@ use Rattle.std.specs.Option.{option_or}
 use Rattle.std.specs.Str.{is_utf8}
 use Rattle.std.specs.List.{filter_map, last_or}
 use Rattle.buffa_wire.specs.Records.{Datum, varint, fixed32, fixed64, bytes, group}
-use Rattle.buffa_wire.specs.Left.{Left}
+use Rattle.buffa_wire.specs.BudgetLeft.{BudgetLeft}
 use Rattle.buffa_wire.specs.declared.context.DecodeContext.{DecodeContext}
 use Rattle.buffa_bytes.specs.declared.error.EncodeError.{EncodeError}
 use Rattle.buffa_bytes.specs.declared.error.EncodeError.TheVariants.{OutOfMemory}
 
--- what is read with where nothing else is said
-abbrev pub full : Left
+-- what is read with where nothing else is meant_entry
+abbrev pub full : BudgetLeft
 full = record { unknown = 1000000; memory = 268435456 }
 
 -- what the last record is read as that is read at all
@@ -38,10 +38,10 @@ elements packed d None = unpacked packed d
 elements packed d (Some v) = v ∷ []
 
 -- what a record is read as in a context, and what that leaves of its budget
-abbrev pub one_in : {M : Type 0} → (ℕ → Left → Datum → Option M) → DecodeContext → Datum → Option M
+abbrev pub one_in : {M : Type 0} → (ℕ → BudgetLeft → Datum → Option M) → DecodeContext → Datum → Option M
 one_in one ctx d = one ctx.depth ctx.budget.now d
 
-abbrev pub LeavesIn : (ℕ → Left → Datum → Left → Type 0) → DecodeContext → Datum → Left → Type 0
+abbrev pub LeavesIn : (ℕ → BudgetLeft → Datum → BudgetLeft → Type 0) → DecodeContext → Datum → BudgetLeft → Type 0
 LeavesIn leaves ctx d left = leaves ctx.depth ctx.budget.now d left
 
 -- new is old with more behind it, or with a beginning of more
@@ -63,14 +63,14 @@ abbrev pub AddsRecord : {V M : Type 0} → (V → M) → (List ℕ → List M) �
 AddsRecord meaning packed one old d new = AddsValues meaning old (elements packed d (one d)) new
 
 -- the records, read one after the other from what is left, hold these values
-abbrev pub ReadsAll : {M : Type 0} → (Left → Datum → Option M) → (Left → Datum → Left → Type 0) → (List ℕ → List M) → Left → List Datum → List M → Left → Type 0
+abbrev pub ReadsAll : {M : Type 0} → (BudgetLeft → Datum → Option M) → (BudgetLeft → Datum → BudgetLeft → Type 0) → (List ℕ → List M) → BudgetLeft → List Datum → List M → BudgetLeft → Type 0
 ReadsAll one leaves packed b [] vs left = (vs ≡ []) × (left ≡ b)
 ReadsAll {M = M} one leaves packed b (d ∷ ds) vs left =
-    (mid : Left) × (rest : List M) × leaves b d mid × ReadsAll one leaves packed mid ds rest left × (vs ≡ elements packed d (one b d) ++ rest)
+    (mid : BudgetLeft) × (rest : List M) × leaves b d mid × ReadsAll one leaves packed mid ds rest left × (vs ≡ elements packed d (one b d) ++ rest)
 
 -- the same under one pair of default budgets
-abbrev pub ReadsList : {M : Type 0} → (Left → Datum → Option M) → (Left → Datum → Left → Type 0) → (List ℕ → List M) → List Datum → List M → Type 0
-ReadsList one leaves packed ds vs = (left : Left) × ReadsAll one leaves packed full ds vs left
+abbrev pub ReadsList : {M : Type 0} → (BudgetLeft → Datum → Option M) → (BudgetLeft → Datum → BudgetLeft → Type 0) → (List ℕ → List M) → List Datum → List M → Type 0
+ReadsList one leaves packed ds vs = (left : BudgetLeft) × ReadsAll one leaves packed full ds vs left
 
 -- what stands later wins, where it is read at all
 abbrev pub LaterWins : {M : Type 0} → (Datum → Option M) → Type 0
@@ -86,15 +86,15 @@ abbrev pub ReadAlike : {A : Type 0} → (List Datum → A → Type 0) → (List 
 ReadAlike {A = A} reads also = (s : List Datum) (out : A) → reads s out ↔ also s out
 
 -- one budget has room for what another is
-abbrev pub Covers : Left → Left → Type 0
+abbrev pub Covers : BudgetLeft → BudgetLeft → Type 0
 Covers b c = (c.unknown ≤ b.unknown) × (c.memory ≤ b.memory)
 
 -- what is left of a budget
-abbrev pub minus : Left → Left → Left
+abbrev pub minus : BudgetLeft → BudgetLeft → BudgetLeft
 minus b c = record { unknown = b.unknown - c.unknown; memory = b.memory - c.memory }
 
 -- the records, one after the other, cost no more than what is left
-abbrev pub CoversAll : (Datum → Left) → Left → List Datum → Type 0
+abbrev pub CoversAll : (Datum → BudgetLeft) → BudgetLeft → List Datum → Type 0
 CoversAll cost b [] = Unit {0}
 CoversAll cost b (d ∷ ds) = Covers b (cost d) × CoversAll cost (minus b (cost d)) ds
 

@@ -5,24 +5,24 @@ use Rattle.std.proofs.Common.{sym, ◌∙◌, ap, subst, arith}
 use Rattle.buffa_wire.specs.Records.{Datum, bytes}
 use Rattle.std.proofs.lemmas.List.{append-nil}
 use Rattle.std.specs.Str.{is_utf8}
-use Rattle.buffa_wire.specs.Left.{Left, Pays, nothing}
+use Rattle.buffa_wire.specs.BudgetLeft.{BudgetLeft, Pays, nothing}
 use Rattle.buffa_codec.specs.Reading.{ReadsAll, Covers, CoversAll, minus, full, Each, elements, joined, last_read, packed_record, string_held}
 
-pub minus_nothing : (b : Left) → b ≡ minus b nothing
+pub minus_nothing : (b : BudgetLeft) → b ≡ minus b nothing
 minus_nothing b = simp sub-zero
 
 -- what is left is what was there less the need
-left_over : (b need left : Left) → Pays b need left → left ≡ minus b need
+left_over : (b need left : BudgetLeft) → Pays b need left → left ≡ minus b need
 left_over b need left h =
     let slots : b.unknown - need.unknown ≡ left.unknown = omega (arith, h.0) in
     let units : b.memory - need.memory ≡ left.memory = omega (arith, h.1) in
     rw (slots, units) refl
 
 -- reading that spends nothing
-pub pays_nothing : (b left : Left) → left ≡ b → Pays b nothing left
+pub pays_nothing : (b left : BudgetLeft) → left ≡ b → Pays b nothing left
 pays_nothing b left e = rw e (omega arith, omega arith)
 
-pub covers_nothing : (b : Left) → Covers b nothing
+pub covers_nothing : (b : BudgetLeft) → Covers b nothing
 covers_nothing b = (omega arith, omega arith)
 
 pub last_of_one : {M : Type 0} (one : Datum → Option M) (d : Datum) (v : M) (o : Option M) → one d ≡ Some v → o ≡ last_read one (d ∷ []) → o ≡ Some v
@@ -31,7 +31,7 @@ last_of_one one d v o e h = h ∙ rw e refl
 abbrev pub some_of : {M : Type 0} → M → Option M
 some_of v = Some v
 
-pub covers_same : (b left : Left) → left ≡ b → Covers b left
+pub covers_same : (b left : BudgetLeft) → left ≡ b → Covers b left
 covers_same b left e = rw e (omega arith, omega arith)
 
 pub string_back : (v : List ℕ) → is_utf8 v ≡ true → string_held (bytes v) ≡ Some v
@@ -39,25 +39,25 @@ string_back v h = rw h refl
 
 -- ---- lists
 
-module _ {M : Type 0} (fits normal : M → Type 0) (cost : Datum → Left) (one : Left → Datum → Option M) (leaves : Left → Datum → Left → Type 0) (packed : List ℕ → List M) (text : M → Datum) (back : M → M)
-    (reads : (v : M) (b : Left) → fits v → normal v → Covers b (cost (text v)) → one b (text v) ≡ Some (back v))
-    (spends : (b left : Left) (d : Datum) (v : M) → one b d ≡ Some v → leaves b d left → Pays b (cost d) left) where
-  pub list_back : (b : Left) (vs out : List M) (left : Left) → Each fits vs → Each normal vs → CoversAll cost b (map text vs) → ReadsAll one leaves packed b (map text vs) out left → out ≡ map back vs
+module _ {M : Type 0} (fits normal : M → Type 0) (cost : Datum → BudgetLeft) (one : BudgetLeft → Datum → Option M) (leaves : BudgetLeft → Datum → BudgetLeft → Type 0) (packed : List ℕ → List M) (text : M → Datum) (back : M → M)
+    (reads : (v : M) (b : BudgetLeft) → fits v → normal v → Covers b (cost (text v)) → one b (text v) ≡ Some (back v))
+    (spends : (b left : BudgetLeft) (d : Datum) (v : M) → one b d ≡ Some v → leaves b d left → Pays b (cost d) left) where
+  pub list_back : (b : BudgetLeft) (vs out : List M) (left : BudgetLeft) → Each fits vs → Each normal vs → CoversAll cost b (map text vs) → ReadsAll one leaves packed b (map text vs) out left → out ≡ map back vs
   list_back b [] out left f n k h = h.0
   list_back b (v ∷ vs) out left f n k h =
       h.4 ∙ ap (λ o. elements packed (text v) o ++ h.1) (reads v b f.0 n.0 k.0)
       ∙ ap (λ l. back v ∷ l) (list_back h.0 vs h.1 left f.1 n.1
       (subst (λ m. CoversAll cost m (map text vs)) (sym (left_over b (cost (text v)) h.0 (spends b h.0 (text v) (back v) (reads v b f.0 n.0 k.0) h.2))) k.1) h.3)
 
-module _ {M : Type 0} (fits : M → Type 0) (one : Left → Datum → Option M) (leaves : Left → Datum → Left → Type 0) (packed : List ℕ → List M) (text : M → List ℕ) (back : M → M)
+module _ {M : Type 0} (fits : M → Type 0) (one : BudgetLeft → Datum → Option M) (leaves : BudgetLeft → Datum → BudgetLeft → Type 0) (packed : List ℕ → List M) (text : M → List ℕ) (back : M → M)
     (unpacks : (v : M) (rest : List ℕ) → fits v → packed (text v ++ rest) ≡ back v ∷ packed rest)
     (unpacks_none : packed [] ≡ [])
-    (unread : (b : Left) (bs : List ℕ) → one b (bytes bs) ≡ None) where
+    (unread : (b : BudgetLeft) (bs : List ℕ) → one b (bytes bs) ≡ None) where
   pub unpacks_all : (vs : List M) → Each fits vs → packed (joined text vs) ≡ map back vs
   unpacks_all [] f = unpacks_none
   unpacks_all (v ∷ vs) f = unpacks v (joined text vs) f.0 ∙ ap (λ l. back v ∷ l) (unpacks_all vs f.1)
 
-  pub packed_back : (vs out : List M) (left : Left) → Each fits vs → ReadsAll one leaves packed full (packed_record text vs) out left → out ≡ map back vs
+  pub packed_back : (vs out : List M) (left : BudgetLeft) → Each fits vs → ReadsAll one leaves packed full (packed_record text vs) out left → out ≡ map back vs
   packed_back [] out left f h = h.0
   packed_back (v ∷ vs) out left f h =
       h.4 ∙ ap (λ o. elements packed (bytes (joined text (v ∷ vs))) o ++ h.1) (unread full (joined text (v ∷ vs)))

@@ -1,12 +1,14 @@
 //! What the codecs of extensions owe.
 
-ghost use Rattle.std.specs.Prelude.{◌≡◌, ℕ, List, [], ◌∷◌, ◌++◌, Option, Some, None, option_map, OnOk, OnErr, IfOk, IsOk};
+ghost use Rattle.std.specs.Prelude.{◌≡◌, ℕ, List, [], ◌∷◌, ◌++◌, Option, Some, None, option_map, OnOk, OnErr, IfOk};
+ghost use Rattle.std.specs.Prelude.{IsOk};
 ghost use Rattle.buffa_bytes.specs.declared.error.EncodeError.{EncodeError};
-ghost use Rattle.buffa_wire.specs.Left.{Left, Pays, left_in};
+ghost use Rattle.buffa_wire.specs.BudgetLeft.{BudgetLeft, Pays, budget_left};
 ghost use Rattle.buffa_wire.specs.Records.{Datum, bytes};
 ghost use Rattle.buffa_wire.specs.View.{datum_of};
 ghost use Rattle.buffa_codec.specs.Sub.{sub, tagged};
-ghost use Rattle.buffa_codec.specs.Reading.{Adds, AddsSome, AddsSomeValues, AddsValues, Covers, LeavesIn, Refuses, full, one_in};
+ghost use Rattle.buffa_codec.specs.Reading.{Adds, AddsSome, AddsSomeValues, AddsValues, Covers, LeavesIn, Refuses};
+ghost use Rattle.buffa_codec.specs.Reading.{full, one_in};
 
 use buffa_wire::{Blank, DecodeContext, EncodeError, UnknownFieldData, UnknownFields};
 use std::alloc::{AllocError, Global};
@@ -72,7 +74,7 @@ pub trait ExtensionCodec {
     /// Puts the records of the value behind the others.
     ///
     /// # Errors
-    /// What is wrong with the value, or want of memory; a beginning of its records stands then.
+    /// What is wrong with the value, or out of memory; a beginning of its records stands then.
     fn try_encode(
         alloc: Global,
         number: u32,
@@ -80,7 +82,8 @@ pub trait ExtensionCodec {
         fields: &mut UnknownFields,
     ) -> Result<(), EncodeError>
         ensures ok { OnOk result (Adds fields.old.records (tagged number (recs (meaning value))) fields.new.records) }
-        ensures err { OnErr result (AddsSome fields.old.records (tagged number (recs (meaning value))) fields.new.records) }
+        ensures err { OnErr result (AddsSome fields.old.records (tagged number (recs (meaning value)))
+            fields.new.records) }
         ensures refused { Refuses result (refusal (meaning value)) }
         ensures fits { OnOk result (fits (meaning value)) };
 
@@ -95,7 +98,8 @@ pub trait ExtensionCodec {
         fields: &mut UnknownFields,
     ) -> Result<(), EncodeError>
         ensures ok { OnOk result (Adds fields.old.records (tagged number (recs (meaning value))) fields.new.records) }
-        ensures err { OnErr result (AddsSome fields.old.records (tagged number (recs (meaning value))) fields.new.records) }
+        ensures err { OnErr result (AddsSome fields.old.records (tagged number (recs (meaning value)))
+            fields.new.records) }
         ensures refused { Refuses result (refusal (meaning value)) }
         ensures fits { OnOk result (fits (meaning value)) }
     {
@@ -117,10 +121,10 @@ pub trait SingularCodec {
     type Value: Blank;
 
     /// What a record is read as, at a depth and of what is left of a budget.
-    ghost one: { ℕ → Left → Datum → Option Self.Value.Meaning };
+    ghost one: { ℕ → BudgetLeft → Datum → Option Self.Value.Meaning };
 
     /// What reading a record may leave of a budget.
-    ghost leaves: { ℕ → Left → Datum → Left → Type 0 };
+    ghost leaves: { ℕ → BudgetLeft → Datum → BudgetLeft → Type 0 };
 
     /// The packed values in bytes.
     ghost packed: { List ℕ → List Self.Value.Meaning };
@@ -141,7 +145,7 @@ pub trait SingularCodec {
     ghost back: { Self.Value.Meaning → Self.Value.Meaning };
 
     /// What a record costs that is read as a value.
-    ghost cost: { Datum → Left };
+    ghost cost: { Datum → BudgetLeft };
 
     /// Reading takes no memory.
     ghost never_fails: { Type 0 };
@@ -166,8 +170,9 @@ pub trait SingularCodec {
         payload: &UnknownFieldData,
         ctx: DecodeContext<'_>,
     ) -> Result<Option<Self::Value>, AllocError>
-        ensures reads { IfOk result (λ o. option_map Self.Value.meaning o ≡ one_in one ctx.entry (datum_of payload.now)) }
-        ensures left { IsOk result → LeavesIn leaves ctx.entry (datum_of payload.now) (left_in ctx.exit) }
+        ensures reads { IfOk result (λ o. option_map Self.Value.meaning o
+            ≡ one_in one ctx.entry (datum_of payload.now)) }
+        ensures left { IsOk result → LeavesIn leaves ctx.entry (datum_of payload.now) (budget_left ctx.exit) }
         ensures always { never_fails → IsOk result };
 
     /// Puts the packed values behind the others.
@@ -181,7 +186,7 @@ pub trait SingularCodec {
     /// The record of a value.
     ///
     /// # Errors
-    /// What is wrong with the value, or want of memory.
+    /// What is wrong with the value, or out of memory.
     fn try_encode_one(alloc: Global, value: &Self::Value) -> Result<UnknownFieldData, EncodeError>
         ensures record { IfOk result (λ d. datum_of d ≡ text (Self.Value.meaning value.now)) }
         ensures refused { Refuses result (refusal (Self.Value.meaning value.now)) }
@@ -200,13 +205,15 @@ pub trait SingularCodec {
     }
 
     /// The record of a value is read back, where its cost is left.
-    ghost reads_text: { (v : _) (b : _) → fits v → normal v → Covers b (cost (text v)) → one 100 b (text v) ≡ Some (back v) };
+    ghost reads_text: { (v : _) (b : _) → fits v → normal v → Covers b (cost (text v)) → one 100 b (text v)
+        ≡ Some (back v) };
 
     /// A record that is read as a value spends its cost.
-    ghost spends_cost: { (b : _) (left : _) (d : _) (v : _) → one 100 b d ≡ Some v → leaves 100 b d left → Pays b (cost d) left };
+    ghost spends_cost: { (b : _) (left : _) (d : _) (v : _) → one 100 b d ≡ Some v → leaves 100 b d left →
+        Pays b (cost d) left };
 
     /// No record gives back what was spent.
-    ghost spends: { (b left : Left) (d : Datum) → leaves 100 b d left → Covers b left };
+    ghost spends: { (b left : BudgetLeft) (d : Datum) → leaves 100 b d left → Covers b left };
 }
 
 /// How values are packed into the bytes of one record.
@@ -229,14 +236,15 @@ pub trait PackableCodec: SingularCodec {
         ensures fits { OnOk result (Self.fits (Self.Value.meaning value.now)) };
 
     /// Packed bytes of values are read back.
-    ghost unpacks: { (v : _) (rest : _) → Self.fits v → Self.packed (packed_text v ++ rest) ≡ Self.back v ∷ Self.packed rest };
+    ghost unpacks: { (v : _) (rest : _) → Self.fits v → Self.packed (packed_text v ++ rest)
+        ≡ Self.back v ∷ Self.packed rest };
 
     /// No bytes hold no values.
     ghost unpacks_none: { Self.packed [] ≡ [] };
 
     /// A record of bytes is no value of its own.
-    ghost bytes_unread: { (b : Left) (bs : List ℕ) → Self.one 100 b (bytes bs) ≡ None };
+    ghost bytes_unread: { (b : BudgetLeft) (bs : List ℕ) → Self.one 100 b (bytes bs) ≡ None };
 
     /// A record of bytes costs nothing.
-    ghost bytes_cost: { (b left : Left) (bs : List ℕ) → Self.leaves 100 b (bytes bs) left → left ≡ b };
+    ghost bytes_cost: { (b left : BudgetLeft) (bs : List ℕ) → Self.leaves 100 b (bytes bs) left → left ≡ b };
 }

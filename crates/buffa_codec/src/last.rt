@@ -1,7 +1,7 @@
 //! Codecs of one value: the last record that is read at all.
 
 ghost use Rattle.std.specs.Prelude.{◌≡◌, List, [], ◌∷◌, Option, Some, None, option_map};
-ghost use Rattle.buffa_wire.specs.Left.{Left};
+ghost use Rattle.buffa_wire.specs.BudgetLeft.{BudgetLeft};
 ghost use Rattle.buffa_wire.specs.Records.{Datum};
 ghost use Rattle.buffa_codec.specs.Reading.{Covers, full, last_read};
 ghost use Rattle.buffa_codec.specs.Texts.{last_of_one};
@@ -13,13 +13,13 @@ use std::alloc::{AllocError, Global};
 /// A codec of which the last record that is read is the value, and whose reading spends nothing.
 pub trait LastWins: SingularCodec {
     /// No budget changes what a record is read as.
-    ghost same: { (b c : Left) (d : Datum) → Self.one 100 b d ≡ Self.one 100 c d };
+    ghost same: { (b c : BudgetLeft) (d : Datum) → Self.one 100 b d ≡ Self.one 100 c d };
 
     /// A reading spends nothing.
-    ghost free: { (b left : Left) (d : Datum) → Self.leaves 100 b d left → left ≡ b };
+    ghost free: { (b left : BudgetLeft) (d : Datum) → Self.leaves 100 b d left → left ≡ b };
 
     /// A reading may be made.
-    ghost made: { (b : Left) (d : Datum) → Self.leaves 100 b d b };
+    ghost made: { (b : BudgetLeft) (d : Datum) → Self.leaves 100 b d b };
 
     /// The record of a value costs no more than there is.
     ghost covered: { (v : Self.Value.Meaning) → Covers full (Self.cost (Self.text v)) };
@@ -86,5 +86,6 @@ impl<C: LastWins> ExtensionCodec for C {
     }
 
     ghost reads_back = { λ v o f n h.
-        last_of_one (C.one 100 full) (C.text v) (C.back v) o (C.SingularCodec.reads_text v full f n (C.LastWins.covered v)) h };
+        last_of_one (C.one 100 full) (C.text v) (C.back v) o
+            (C.SingularCodec.reads_text v full f n (C.LastWins.covered v)) h };
 }

@@ -2,7 +2,7 @@
 
 ghost use Rattle.std.specs.Prelude.{◌≡◌, ℕ, map, None, option_map, refl};
 ghost use Rattle.std.proofs.Common.{ap, ◌∙◌};
-ghost use Rattle.buffa_wire.specs.Left.{nothing};
+ghost use Rattle.buffa_wire.specs.BudgetLeft.{nothing};
 ghost use Rattle.buffa_codec.specs.Packed.{numbers_in};
 ghost use Rattle.buffa_codec.specs.Reading.{full};
 ghost use Rattle.buffa_codec.specs.Texts.{covers_nothing, covers_same, pays_nothing, some_of};

@@ -93,7 +93,8 @@ fn read_one<C: SingularCodec>(
     out: &mut Vec<C::Value>,
 ) -> Result<(), AllocError>
     ensures left { OnOk result (C.leaves 100 budget.old (datum_of payload.now) budget.new) }
-    ensures values { OnOk result (AddsRecord C.Value.meaning C.packed (C.one 100 budget.old) out.old.items (datum_of payload.now) out.new.items) }
+    ensures values { OnOk result (AddsRecord C.Value.meaning C.packed (C.one 100 budget.old) out.old.items
+        (datum_of payload.now) out.new.items) }
 {
     let ctx = DecodeContext {
         depth: RECURSION_LIMIT,

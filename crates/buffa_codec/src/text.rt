@@ -3,7 +3,7 @@
 ghost use Rattle.std.specs.Prelude.{◌≡◌, ℕ, List, [], None, refl, string_bytes, true};
 ghost use Rattle.std.specs.Str.{is_utf8};
 ghost use Rattle.buffa_wire.specs.Records.{bytes};
-ghost use Rattle.buffa_wire.specs.Left.{nothing};
+ghost use Rattle.buffa_wire.specs.BudgetLeft.{nothing};
 ghost use Rattle.buffa_codec.specs.Reading.{bytes_held, full, string_held};
 ghost use Rattle.buffa_codec.specs.Texts.{covers_nothing, covers_same, pays_nothing, string_back};
 

@@ -3,7 +3,7 @@ use Rattle.std.proofs.Common.{◌≡◌, ◌≢◌, ℕ, ◌+◌, ◌<◌, Bool,
 use Rattle.std.proofs.lemmas.List.{map-append, append-nil, take-append-drop}
 use Rattle.std.proofs.lemmas.List.Elements.{filter_map-append}
 use Rattle.buffa_bytes.specs.declared.error.DecodeError.{DecodeError}
-use Rattle.buffa_wire.specs.Left.{Left}
+use Rattle.buffa_wire.specs.BudgetLeft.{BudgetLeft}
 use Rattle.buffa_wire.specs.Records.{Datum}
 use Rattle.buffa_wire.specs.View.{record_of, records_in, datum_of}
 use Rattle.buffa_wire.specs.declared.unknown_fields.UnknownField.{UnknownField}
@@ -36,10 +36,10 @@ module _ (held : Datum → Option (List ℕ)) (n : ℕ) (xs : List UnknownField)
       ∙ ap (λ l. l ++ texts_in held (sub n (records_in (drop (i + 1) xs)))) (texts_more same)
       ∙ append_assoc (texts_in held (sub n (records_in (take i xs)))) (texts_in held (datum_of x.payload ∷ [])) (texts_in held (sub n (records_in (drop (i + 1) xs))))
 
-  module _ {X : Type 0} (merged : X → List ℕ → Option X) (cost : List ℕ → Left) (old mid : X) (b m : Left) (f : Bool)
+  module _ {X : Type 0} (merged : X → List ℕ → Option X) (cost : List ℕ → BudgetLeft) (old mid : X) (b m : BudgetLeft) (f : Bool)
       (h : IsAllMerged merged cost (texts_in held (sub n (records_in (take i xs)))) old b (Ok f) mid m) where
     -- a record of the number is merged
-    pub one_more : (new newer : X) (a after : Left) (g found : Bool) → x.number ≡ n → newer ≡ new → after ≡ a → found ≡ (f || g)
+    pub one_more : (new newer : X) (a after : BudgetLeft) (g found : Bool) → x.number ≡ n → newer ≡ new → after ≡ a → found ≡ (f || g)
         → IsAllMerged merged cost (texts_in held (datum_of x.payload ∷ [])) mid m (Ok g) new a
         → IsAllMerged merged cost (texts_in held (sub n (records_in (take (i + 1) xs)))) old b (Ok found) newer after
     one_more new newer a after g found same en ea ef k =
@@ -49,7 +49,7 @@ module _ (held : Datum → Option (List ℕ)) (n : ℕ) (xs : List UnknownField)
         (merged_more merged cost (texts_in held (sub n (records_in (take i xs)))) (texts_in held (datum_of x.payload ∷ [])) old mid new f g found b m a ef h k)))
 
     -- another record is passed over
-    pub passed_over : (newer : X) (after : Left) (found : Bool) → x.number ≢ n → newer ≡ mid → after ≡ m → found ≡ f
+    pub passed_over : (newer : X) (after : BudgetLeft) (found : Bool) → x.number ≢ n → newer ≡ mid → after ≡ m → found ≡ f
         → IsAllMerged merged cost (texts_in held (sub n (records_in (take (i + 1) xs)))) old b (Ok found) newer after
     passed_over newer after found other en ea ef =
         subst (λ l. IsAllMerged merged cost l old b (Ok found) newer after) (sym (texts_same other))
@@ -58,7 +58,7 @@ module _ (held : Datum → Option (List ℕ)) (n : ℕ) (xs : List UnknownField)
         (subst (λ y. IsAllMerged merged cost (texts_in held (sub n (records_in (take i xs)))) old b (Ok y) mid m) (sym ef) h)))
 
     -- a fault in a record is one of all
-    pub fault_in_all : (new : X) (a : Left) (err : DecodeError) (all : List (ℕ × Datum)) → x.number ≡ n → records_in xs ≡ all
+    pub fault_in_all : (new : X) (a : BudgetLeft) (err : DecodeError) (all : List (ℕ × Datum)) → x.number ≡ n → records_in xs ≡ all
         → IsAllMerged merged cost (texts_in held (datum_of x.payload ∷ [])) mid m (Err err) new a
         → IsAllMerged merged cost (texts_in held (sub n all)) old b (Err err) new a
     fault_in_all new a err all same whole k =

@@ -7,12 +7,12 @@ use Rattle.buffa_bytes.specs.declared.error.DecodeError.{DecodeError}
 use Rattle.buffa_bytes.specs.declared.error.EncodeError.{EncodeError}
 use Rattle.buffa_bytes.specs.declared.error.EncodeError.TheVariants.{GroupRefused, MessageTooLarge}
 use Rattle.buffa_bytes.proofs.StepLemmas.{agree_ok}
-use Rattle.buffa_wire.specs.Left.{Left, Lacks, Pays, PaysAtMost, nothing, plus}
+use Rattle.buffa_wire.specs.BudgetLeft.{BudgetLeft, Lacks, Pays, PaysAtMost, nothing, plus}
 use Rattle.buffa_wire.specs.Message.{IsMerged}
 use Rattle.buffa_wire.specs.Parse.{Fits, Parse}
 use Rattle.buffa_wire.specs.RecordReading.{list_at}
 use Rattle.buffa_wire.specs.Records.{Datum, group, records_of, records_height}
-use Rattle.buffa_wire.specs.Text.{W, records_text}
+use Rattle.buffa_wire.specs.Text.{records_text, fields_text}
 use Rattle.buffa_wire.proofs.LoopLemmas.{list_is_read}
 use Rattle.buffa_wire.proofs.ParseLemmas.{one_reading, text_parses}
 use Rattle.buffa_codec.specs.Reading.{Covers, full}
@@ -34,10 +34,10 @@ and_no : (b : Bool) → (b && false) ≡ false
 and_no true = refl
 and_no false = refl
 
-pub left_yes : (b need : Left) → Covers b need → is_left b need ≡ true
+pub left_yes : (b need : BudgetLeft) → Covers b need → is_left b need ≡ true
 left_yes b need h = rw (le_yes need.unknown b.unknown h.0, le_yes need.memory b.memory h.1) refl
 
-left_no : (b need : Left) → Lacks b need → is_left b need ≡ false
+left_no : (b need : BudgetLeft) → Lacks b need → is_left b need ≡ false
 left_no b need (inl h) = rw (le_no need.unknown b.unknown h) refl
 left_no b need (inr h) = rw (le_no need.memory b.memory h) (and_no (nat_le need.unknown b.unknown))
 
@@ -48,7 +48,7 @@ both_true : (b c : Bool) → (b && c) ≡ true → (b ≡ true) × (c ≡ true)
 both_true true c h = (refl, h)
 both_true false c h = cc
 
-left_true : (b need : Left) → is_left b need ≡ true → Covers b need
+left_true : (b need : BudgetLeft) → is_left b need ≡ true → Covers b need
 left_true b need h =
     let t = both_true (nat_le need.unknown b.unknown) (nat_le need.memory b.memory) h in
     (true_le need.unknown b.unknown t.0, true_le need.memory b.memory t.1)
@@ -57,20 +57,20 @@ some_if : {X : Type 0} (b : Bool) (o : Option X) (v : X) → (if b then o else N
 some_if true o v h = refl
 some_if false o v h = cc
 
-pub pays_covers : (b need over : Left) → Pays b need over → Covers b need
+pub pays_covers : (b need over : BudgetLeft) → Pays b need over → Covers b need
 pays_covers b need over h = (omega (arith, h.0), omega (arith, h.1))
 
 none_either : {X : Type 0} (b : Bool) (o : Option X) → o ≡ None → (if b then o else None) ≡ None
 none_either true o h = h
 none_either false o h = refl
 
-plus_assoc : (a b c : Left) → plus a (plus b c) ≡ plus (plus a b) c
+plus_assoc : (a b c : BudgetLeft) → plus a (plus b c) ≡ plus (plus a b) c
 plus_assoc a b c =
     let slots : a.unknown + (b.unknown + c.unknown) ≡ (a.unknown + b.unknown) + c.unknown = omega arith in
     let units : a.memory + (b.memory + c.memory) ≡ (a.memory + b.memory) + c.memory = omega arith in
     rw (slots, units) refl
 
-nothing_plus : (a : Left) → a ≡ plus nothing a
+nothing_plus : (a : BudgetLeft) → a ≡ plus nothing a
 nothing_plus a =
     let slots : 0 + a.unknown ≡ a.unknown = omega arith in
     let units : 0 + a.memory ≡ a.memory = omega arith in
@@ -80,46 +80,46 @@ there-append : (xs ys : List (List ℕ)) → some_there (xs ++ ys) ≡ (some_the
 there-append [] ys = refl
 there-append (x ∷ xs) ys = refl
 
-module _ {X : Type 0} (merged : X → List ℕ → Option X) (cost : List ℕ → Left) where
-  pub message_some : (blank new : X) (left after : Left) (bs : List (List ℕ)) → some_there bs ≡ true → merged_all merged blank bs ≡ Some new → Pays left (cost_all cost bs) after
+module _ {X : Type 0} (merged : X → List ℕ → Option X) (cost : List ℕ → BudgetLeft) where
+  pub message_some : (blank new : X) (left after : BudgetLeft) (bs : List (List ℕ)) → some_there bs ≡ true → merged_all merged blank bs ≡ Some new → Pays left (cost_all cost bs) after
       → message_of merged cost blank left bs ≡ Some new
   message_some blank new left after [] t e p = cc
   message_some blank new left after (b ∷ bs) t e p = rw (left_yes left (cost_all cost (b ∷ bs)) (pays_covers left (cost_all cost (b ∷ bs)) after p)) e
 
-  pub message_none : (blank : X) (left : Left) (bs : List (List ℕ)) → Lacks left (cost_all cost bs) ⊎ (merged_all merged blank bs ≡ None) → message_of merged cost blank left bs ≡ None
+  pub message_none : (blank : X) (left : BudgetLeft) (bs : List (List ℕ)) → Lacks left (cost_all cost bs) ⊎ (merged_all merged blank bs ≡ None) → message_of merged cost blank left bs ≡ None
   message_none blank left [] h = refl
   message_none blank left (b ∷ bs) (inl h) = rw (left_no left (cost_all cost (b ∷ bs)) h) refl
   message_none blank left (b ∷ bs) (inr h) = none_either (is_left left (cost_all cost (b ∷ bs))) (merged_all merged blank (b ∷ bs)) h
 
-  no_text : (blank : X) (left : Left) (bs : List (List ℕ)) → false ≡ some_there bs → message_of merged cost blank left bs ≡ None
+  no_text : (blank : X) (left : BudgetLeft) (bs : List (List ℕ)) → false ≡ some_there bs → message_of merged cost blank left bs ≡ None
   no_text blank left [] h = refl
   no_text blank left (b ∷ bs) h = cc
 
   -- the answer after merging is the message of the texts
-  pub answers : (blank new : X) (left after : Left) (bs : List (List ℕ)) (r : Result Bool DecodeError) (o : Option X)
+  pub answers : (blank new : X) (left after : BudgetLeft) (bs : List (List ℕ)) (r : Result Bool DecodeError) (o : Option X)
       → IsAllMerged merged cost bs blank left r new after → IsAnswer r new o → o ≡ message_of merged cost blank left bs
   answers blank new left after bs (Ok true) o m a = a ∙ sym (message_some blank new left after bs (sym m.0) m.1 m.2)
   answers blank new left after bs (Ok false) o m a = a ∙ sym (no_text blank left bs m.0)
   answers blank new left after bs (Err e) o m a = a.0 ∙ sym (message_none blank left bs (m.1 a.1))
 
-  pub leaves : (blank new : X) (left after : Left) (bs : List (List ℕ)) (r : Result Bool DecodeError) (o : Option X)
+  pub leaves : (blank new : X) (left after : BudgetLeft) (bs : List (List ℕ)) (r : Result Bool DecodeError) (o : Option X)
       → IsAllMerged merged cost bs blank left r new after → IsAnswer r new o → LeavesOf (message_of merged cost blank left bs) left (cost_all cost bs) after
   leaves blank new left after bs (Ok true) o m a = subst (λ x. LeavesOf x left (cost_all cost bs) after) (sym (message_some blank new left after bs (sym m.0) m.1 m.2)) m.2
   leaves blank new left after bs (Ok false) o m a = subst (λ x. LeavesOf x left (cost_all cost bs) after) (sym (no_text blank left bs m.0)) (omega (arith, m.2), omega (arith, m.2), omega (arith, m.2), omega (arith, m.2))
   leaves blank new left after bs (Err e) o m a = subst (λ x. LeavesOf x left (cost_all cost bs) after) (sym (message_none blank left bs (m.1 a.1))) m.0
 
-  spent_by : (o : Option X) (b need left : Left) → LeavesOf o b need left → Covers b left
+  spent_by : (o : Option X) (b need left : BudgetLeft) → LeavesOf o b need left → Covers b left
   spent_by (Some v) b need left h = (omega (arith, h), omega (arith, h))
   spent_by None b need left h = (omega (arith, h), omega (arith, h))
 
-  pub spent : (blank : X) (b left : Left) (bs : List (List ℕ)) → LeavesOf (message_of merged cost blank b bs) b (cost_all cost bs) left → Covers b left
+  pub spent : (blank : X) (b left : BudgetLeft) (bs : List (List ℕ)) → LeavesOf (message_of merged cost blank b bs) b (cost_all cost bs) left → Covers b left
   spent blank b left bs h = spent_by (message_of merged cost blank b bs) b (cost_all cost bs) left h
 
-  pub spent_cost : (blank v : X) (b left : Left) (bs : List (List ℕ)) → message_of merged cost blank b bs ≡ Some v → LeavesOf (message_of merged cost blank b bs) b (cost_all cost bs) left → Pays b (cost_all cost bs) left
+  pub spent_cost : (blank v : X) (b left : BudgetLeft) (bs : List (List ℕ)) → message_of merged cost blank b bs ≡ Some v → LeavesOf (message_of merged cost blank b bs) b (cost_all cost bs) left → Pays b (cost_all cost bs) left
   spent_cost blank v b left bs e h = subst (λ x. LeavesOf x b (cost_all cost bs) left) e h
 
   -- what is read as a message costs no more than is left
-  pub within : (blank v : X) (left : Left) (bs : List (List ℕ)) → message_of merged cost blank left bs ≡ Some v → Covers left (cost_all cost bs)
+  pub within : (blank v : X) (left : BudgetLeft) (bs : List (List ℕ)) → message_of merged cost blank left bs ≡ Some v → Covers left (cost_all cost bs)
   within blank v left [] e = cc
   within blank v left (b ∷ bs) e = left_true left (cost_all cost (b ∷ bs)) (some_if (is_left left (cost_all cost (b ∷ bs))) (merged_all merged blank (b ∷ bs)) v e)
 
@@ -143,7 +143,7 @@ module _ {X : Type 0} (merged : X → List ℕ → Option X) (cost : List ℕ �
   merged_both xs ys old mid e = merged-append xs ys old ∙ ap (option_and_then (λ v. merged_all merged v ys)) e
 
   -- more texts after those that are merged
-  pub merged_more : (xs ys : List (List ℕ)) (old mid new : X) (f g h : Bool) (b m a : Left) → h ≡ (f || g)
+  pub merged_more : (xs ys : List (List ℕ)) (old mid new : X) (f g h : Bool) (b m a : BudgetLeft) → h ≡ (f || g)
       → IsAllMerged merged cost xs old b (Ok f) mid m → IsAllMerged merged cost ys mid m (Ok g) new a → IsAllMerged merged cost (xs ++ ys) old b (Ok h) new a
   merged_more xs ys old mid new f g h b m a e p q = (
     e ∙ ap (λ x. x || g) p.0 ∙ ap (λ y. some_there xs || y) q.0 ∙ sym (there-append xs ys),
@@ -154,7 +154,7 @@ module _ {X : Type 0} (merged : X → List ℕ → Option X) (cost : List ℕ �
   none_then : (zs : List (List ℕ)) (o : Option X) → o ≡ None → option_and_then (λ v. merged_all merged v zs) o ≡ None
   none_then zs o h = ap (option_and_then (λ v. merged_all merged v zs)) h
 
-  still : (xs ys zs : List (List ℕ)) (old mid : X) (b m : Left) → merged_all merged old xs ≡ Some mid → Pays b (cost_all cost xs) m
+  still : (xs ys zs : List (List ℕ)) (old mid : X) (b m : BudgetLeft) → merged_all merged old xs ≡ Some mid → Pays b (cost_all cost xs) m
       → Lacks m (cost_all cost ys) ⊎ (merged_all merged mid ys ≡ None)
       → Lacks b (plus (cost_all cost xs) (plus (cost_all cost ys) (cost_all cost zs))) ⊎ (merged_all merged old (xs ++ (ys ++ zs)) ≡ None)
   still xs ys zs old mid b m e p (inl (inl h)) = inl (inl (omega (arith, p, h)))
@@ -162,7 +162,7 @@ module _ {X : Type 0} (merged : X → List ℕ → Option X) (cost : List ℕ �
   still xs ys zs old mid b m e p (inr h) = inr (merged_both xs (ys ++ zs) old mid e ∙ merged-append ys zs mid ∙ none_then zs (merged_all merged mid ys) h)
 
   -- a fault after those that are merged, whatever follows
-  pub merged_fault : (xs ys zs all : List (List ℕ)) (old mid new : X) (f : Bool) (e : DecodeError) (b m a : Left) → all ≡ xs ++ (ys ++ zs)
+  pub merged_fault : (xs ys zs all : List (List ℕ)) (old mid new : X) (f : Bool) (e : DecodeError) (b m a : BudgetLeft) → all ≡ xs ++ (ys ++ zs)
       → IsAllMerged merged cost xs old b (Ok f) mid m → IsAllMerged merged cost ys mid m (Err e) new a → IsAllMerged merged cost all old b (Err e) new a
   merged_fault xs ys zs all old mid new f e b m a cut p q =
       let costs : cost_all cost all ≡ plus (cost_all cost xs) (plus (cost_all cost ys) (cost_all cost zs)) =
@@ -173,7 +173,7 @@ module _ {X : Type 0} (merged : X → List ℕ → Option X) (cost : List ℕ �
       )
 
   -- one record, read back
-  pub one_back : (held : Datum → Option (List ℕ)) (blank v : X) (b : Left) (d : Datum) (t : List ℕ) → held d ≡ Some t → merged blank t ≡ Some v
+  pub one_back : (held : Datum → Option (List ℕ)) (blank v : X) (b : BudgetLeft) (d : Datum) (t : List ℕ) → held d ≡ Some t → merged blank t ≡ Some v
       → Covers b (cost_all cost (texts_in held (d ∷ []))) → message_of merged cost blank b (texts_in held (d ∷ [])) ≡ Some v
   one_back held blank v b d t h e k =
       let same : texts_in held (d ∷ []) ≡ t ∷ [] = ap (λ o. cons_option o []) h in
@@ -201,25 +201,25 @@ large_refusal refusal t h = ap (λ c. if c then refusal t else Some MessageTooLa
 
 -- ---- groups
 
-group_by : (rs : List (ℕ × Datum)) (r : Result (List (ℕ × Datum)) DecodeError) → list_at 100 1000000 (W rs) ≡ r → Fits (records_of rs) → why_refused r ≡ None
-    → group_held (group (records_of (or_none r))) ≡ Some (W rs)
+group_by : (rs : List (ℕ × Datum)) (r : Result (List (ℕ × Datum)) DecodeError) → list_at 100 1000000 (records_text rs) ≡ r → Fits (records_of rs) → why_refused r ≡ None
+    → group_held (group (records_of (or_none r))) ≡ Some (records_text rs)
 group_by rs (Ok qs) e f h =
-    let read = agree_ok (list_at 100 1000000 (W rs)) qs (list_is_read 100 1000000 (W rs)) e in
+    let read = agree_ok (list_at 100 1000000 (records_text rs)) qs (list_is_read 100 1000000 (records_text rs)) e in
     let parse = text_parses (records_of rs) (records_height (records_of rs)) f (omega arith) in
-    ap (λ x. Some (records_text x)) (sym (one_reading (W rs) (records_height (records_of rs)) 100 (records_of rs) (records_of qs) parse read.0))
+    ap (λ x. Some (fields_text x)) (sym (one_reading (records_text rs) (records_height (records_of rs)) 100 (records_of rs) (records_of qs) parse read.0))
 group_by rs (Err g) e f h = some_none (GroupRefused g) h
 
 -- the group of a text holds it
-pub group_back : (rs : List (ℕ × Datum)) → Fits (records_of rs) → group_refusal (W rs) ≡ None → group_held (group_of (W rs)) ≡ Some (W rs)
-group_back rs f h = group_by rs (list_at 100 1000000 (W rs)) refl f h
+pub group_back : (rs : List (ℕ × Datum)) → Fits (records_of rs) → group_refusal (records_text rs) ≡ None → group_held (group_of (records_text rs)) ≡ Some (records_text rs)
+group_back rs f h = group_by rs (list_at 100 1000000 (records_text rs)) refl f h
 
 -- what a message's record is read as
-pub message_back : {X : Type 0} (merged : ℕ → X → List ℕ → Option X) (cost : ℕ → List ℕ → Left) (held : Datum → Option (List ℕ)) (holder : List ℕ → Datum) (refusal : List ℕ → Option EncodeError)
+pub message_back : {X : Type 0} (merged : ℕ → X → List ℕ → Option X) (cost : ℕ → List ℕ → BudgetLeft) (held : Datum → Option (List ℕ)) (holder : List ℕ → Datum) (refusal : List ℕ → Option EncodeError)
     (blank : X) (text : X → List ℕ) (records : X → List (ℕ × Datum)) (levels : X → ℕ) (normal : X → Type 0)
-    → ((v : X) → text v ≡ W (records v))
+    → ((v : X) → text v ≡ records_text (records v))
     → ((d : ℕ) (v : X) → Fits (records_of (records v)) → normal v → levels v ≤ d → merged d blank (text v) ≡ Some v)
-    → ((rs : List (ℕ × Datum)) → Fits (records_of rs) → refusal (W rs) ≡ None → held (holder (W rs)) ≡ Some (W rs))
-    → (v : X) (b : Left) → text_refusal refusal (text v) ≡ None → normal v × (levels v ≤ 100) × Fits (records_of (records v))
+    → ((rs : List (ℕ × Datum)) → Fits (records_of rs) → refusal (records_text rs) ≡ None → held (holder (records_text rs)) ≡ Some (records_text rs))
+    → (v : X) (b : BudgetLeft) → text_refusal refusal (text v) ≡ None → normal v × (levels v ≤ 100) × Fits (records_of (records v))
     → Covers b (cost_all (cost 100) (texts_in held (holder (text v) ∷ []))) → message_of (merged 100) (cost 100) blank b (texts_in held (holder (text v) ∷ [])) ≡ Some v
 message_back merged cost held holder refusal blank text records levels normal is_text back kept v b f n k =
     let same = is_text v in

@@ -7,15 +7,15 @@ use Rattle.buffa_bytes.specs.declared.error.DecodeError.{DecodeError}
 use Rattle.buffa_bytes.specs.declared.error.DecodeError.TheVariants.{OutOfMemory}
 use Rattle.buffa_bytes.specs.declared.error.EncodeError.{EncodeError}
 use Rattle.buffa_bytes.specs.declared.error.EncodeError.TheVariants.{GroupRefused, MessageTooLarge}
-use Rattle.buffa_wire.specs.Left.{Left, Lacks, Pays, PaysAtMost, nothing, plus}
+use Rattle.buffa_wire.specs.BudgetLeft.{BudgetLeft, Lacks, Pays, PaysAtMost, nothing, plus}
 use Rattle.buffa_wire.specs.Records.{Datum, group, records_of}
 use Rattle.buffa_wire.specs.RecordReading.{list_at}
-use Rattle.buffa_wire.specs.Text.{records_text}
+use Rattle.buffa_wire.specs.Text.{fields_text}
 use Rattle.buffa_codec.specs.Reading.{Covers, full}
 
 -- the message's text in a group: that of its records
 abbrev pub group_held : Datum → Option (List ℕ)
-group_held (group rs) = Some (records_text rs)
+group_held (group rs) = Some (fields_text rs)
 group_held _ = None
 
 -- the texts in records
@@ -28,26 +28,26 @@ merged_all merged old [] = Some old
 merged_all merged old (b ∷ bs) = option_and_then (λ new. merged_all merged new bs) (merged old b)
 
 -- what they cost together
-abbrev pub cost_all : (List ℕ → Left) → List (List ℕ) → Left
+abbrev pub cost_all : (List ℕ → BudgetLeft) → List (List ℕ) → BudgetLeft
 cost_all cost [] = nothing
 cost_all cost (b ∷ bs) = plus (cost b) (cost_all cost bs)
 
 -- the need is left
-abbrev pub is_left : Left → Left → Bool
+abbrev pub is_left : BudgetLeft → BudgetLeft → Bool
 is_left left need = nat_le need.unknown left.unknown && nat_le need.memory left.memory
 
 -- the message of texts, where there is one at all and their cost is left
-abbrev pub message_of : {X : Type 0} → (X → List ℕ → Option X) → (List ℕ → Left) → X → Left → List (List ℕ) → Option X
+abbrev pub message_of : {X : Type 0} → (X → List ℕ → Option X) → (List ℕ → BudgetLeft) → X → BudgetLeft → List (List ℕ) → Option X
 message_of merged cost blank left [] = None
 message_of merged cost blank left (b ∷ bs) = if is_left left (cost_all cost (b ∷ bs)) then merged_all merged blank (b ∷ bs) else None
 
 -- the texts of a message cost together no more than a pair of default budgets
-abbrev pub StaysWithin : {X : Type 0} → (X → List ℕ → Option X) → (List ℕ → Left) → X → (Datum → Option (List ℕ)) → Type 0
+abbrev pub StaysWithin : {X : Type 0} → (X → List ℕ → Option X) → (List ℕ → BudgetLeft) → X → (Datum → Option (List ℕ)) → Type 0
 StaysWithin {X = X} merged cost blank held =
     (ds : List Datum) (v : X) → message_of merged cost blank full (texts_in held ds) ≡ Some v → Covers full (cost_all cost (texts_in held ds))
 
 -- reading a message spends its cost, and otherwise no more than that
-abbrev pub LeavesOf : {X : Type 0} → Option X → Left → Left → Left → Type 0
+abbrev pub LeavesOf : {X : Type 0} → Option X → BudgetLeft → BudgetLeft → BudgetLeft → Type 0
 LeavesOf (Some v) before need after = Pays before need after
 LeavesOf None before need after = PaysAtMost before need after
 
@@ -58,7 +58,7 @@ some_there (b ∷ bs) = true
 
 -- merging texts in order tells whether there was one; on a refusal at most their cost is spent, and it tells that
 -- this isn't left, or that they mean no message
-abbrev pub IsAllMerged : {X : Type 0} → (X → List ℕ → Option X) → (List ℕ → Left) → List (List ℕ) → X → Left → Result Bool DecodeError → X → Left → Type 0
+abbrev pub IsAllMerged : {X : Type 0} → (X → List ℕ → Option X) → (List ℕ → BudgetLeft) → List (List ℕ) → X → BudgetLeft → Result Bool DecodeError → X → BudgetLeft → Type 0
 IsAllMerged merged cost bs old before r new after =
     MatchResult r
     (λ some. (some ≡ some_there bs) × (merged_all merged old bs ≡ Some new) × Pays before (cost_all cost bs) after)

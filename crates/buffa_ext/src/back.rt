@@ -11,7 +11,7 @@ use std::alloc::Global;
 /// Sets a value, and reads what is there then: the value, or what the codec makes of its records.
 ///
 /// # Errors
-/// Those of [`ExtensionSet::set_extension`]; or want of memory for the reading.
+/// Those of [`ExtensionSet::set_extension`]; or out of memory for the reading.
 ///
 /// ```ignore
 /// let stored = set_then_read(alloc, &mut options, &RETRIES, 3)?; // Some(3)

@@ -2,12 +2,13 @@
 
 ghost use Rattle.std.specs.Prelude.{◌≡◌, ◌≤◌, ℕ, List, [], ◌∷◌, Option, Some, None, option_map, IfOk};
 ghost use Rattle.std.proofs.Common.{◌∙◌};
-ghost use Rattle.buffa_wire.specs.Left.{Left};
+ghost use Rattle.buffa_wire.specs.BudgetLeft.{BudgetLeft};
 ghost use Rattle.buffa_wire.specs.Parse.{Fits};
 ghost use Rattle.buffa_wire.specs.Records.{records_of};
 ghost use Rattle.buffa_codec.specs.Reading.{Covers, full};
 ghost use Rattle.buffa_codec.specs.Sub.{sub};
-ghost use Rattle.buffa_ext.specs.Messages.{IsAllMerged, IsAnswer, LeavesOf, cost_all, message_of, text_refusal, texts_in};
+ghost use Rattle.buffa_ext.specs.Messages.{IsAllMerged, IsAnswer, LeavesOf, cost_all, message_of, text_refusal};
+ghost use Rattle.buffa_ext.specs.Messages.{texts_in};
 ghost use Rattle.buffa_ext.specs.MessageFacts.{message_back, spent, spent_cost};
 
 use crate::record::{Delimited, Grouped, MessageRecord};
@@ -39,7 +40,7 @@ pub struct MessageIn<K, M> {
     of: PhantomData<M>,
 }
 
-// The message, where a text was there; none after a fault, but for want of memory.
+// The message, where a text was there; none after a fault, but since memory ran out.
 fn answer<M: Message>(
     merged: Result<bool, DecodeError>,
     message: M,
@@ -116,7 +117,8 @@ impl<K: MessageRecord, M: Message> SingularCodec for MessageIn<K, M> {
         message_back M.merged M.cost K.held K.holder K.refusal M.blank_is M.text M.records M.levels M.normal
         M.MessageSpec.text_records M.MessageSpec.merged_text K.MessageRecord.held_back v b f n h };
 
-    ghost spends_cost = { λ b left d v e h. spent_cost (M.merged 100) (M.cost 100) M.blank_is v b left (texts_in K.held (d ∷ [])) e h };
+    ghost spends_cost = { λ b left d v e h. spent_cost (M.merged 100) (M.cost 100) M.blank_is v b left
+        (texts_in K.held (d ∷ [])) e h };
 
     ghost spends = { λ b left d h. spent (M.merged 100) (M.cost 100) M.blank_is b left (texts_in K.held (d ∷ [])) h };
 }

@@ -2,10 +2,10 @@
 
 ghost use Rattle.std.specs.Prelude.{◌≡◌, ℕ, List, [], ◌∷◌, Option, Some, None, IfOk, refl};
 ghost use Rattle.buffa_bytes.specs.declared.error.EncodeError.{EncodeError};
-ghost use Rattle.buffa_wire.specs.Left.{left_in};
+ghost use Rattle.buffa_wire.specs.BudgetLeft.{budget_left};
 ghost use Rattle.buffa_wire.specs.Parse.{Fits};
 ghost use Rattle.buffa_wire.specs.Records.{Datum, bytes, records_of};
-ghost use Rattle.buffa_wire.specs.Text.{W};
+ghost use Rattle.buffa_wire.specs.Text.{records_text};
 ghost use Rattle.buffa_wire.specs.View.{datum_of};
 ghost use Rattle.buffa_codec.specs.Reading.{Refuses, bytes_held};
 ghost use Rattle.buffa_ext.specs.Messages.{IsAllMerged, group_held, group_of, group_refusal, texts_in};
@@ -37,19 +37,21 @@ pub trait MessageRecord {
         message: &mut M,
         ctx: DecodeContext<'_>,
     ) -> Result<bool, DecodeError>
-        ensures { IsAllMerged (M.merged ctx.entry.depth) (M.cost ctx.entry.depth) (texts_in held (datum_of payload.now ∷ []))
-            (M.meaning message.old) ctx.entry.budget.now result (M.meaning message.new) (left_in ctx.exit) };
+        ensures { IsAllMerged (M.merged ctx.entry.depth) (M.cost ctx.entry.depth)
+            (texts_in held (datum_of payload.now ∷ []))
+            (M.meaning message.old) ctx.entry.budget.now result (M.meaning message.new) (budget_left ctx.exit) };
 
     /// The record of a text.
     ///
     /// # Errors
-    /// Why no record holds it, or want of memory.
+    /// Why no record holds it, or out of memory.
     fn hold(alloc: Global, text: Vec<u8>) -> Result<UnknownFieldData, EncodeError>
         ensures record { IfOk result (λ d. datum_of d ≡ holder text.items) }
         ensures refused { Refuses result (refusal text.items) };
 
     /// The record of a text holds it.
-    ghost held_back: { (rs : _) → Fits (records_of rs) → refusal (W rs) ≡ None → held (holder (W rs)) ≡ Some (W rs) };
+    ghost held_back: { (rs : _) → Fits (records_of rs) → refusal (records_text rs) ≡ None →
+        held (holder (records_text rs)) ≡ Some (records_text rs) };
 }
 
 /// A length-delimited record, whose bytes are the text.

@@ -51,7 +51,7 @@ pub trait ExtensionSet {
     /// copied.
     ///
     /// # Errors
-    /// What is wrong with the value, or want of memory; nothing is changed then.
+    /// What is wrong with the value, or out of memory; nothing is changed then.
     final fn try_set_extension<C: ExtensionCodec, D>(
         &mut self,
         alloc: Global,
@@ -59,7 +59,8 @@ pub trait ExtensionSet {
         value: C::Value,
     ) -> Result<(), EncodeError>
         requires { ext.now.extendee.now ≡ fqn }
-        ensures ok { OnOk result (IsSet ext.now.number (C.recs (C.meaning value)) (fields_of self.old) (fields_of self.new)) }
+        ensures ok { OnOk result (IsSet ext.now.number (C.recs (C.meaning value)) (fields_of self.old)
+            (fields_of self.new)) }
         ensures err { OnErr result (self.new ≡ self.old) }
         ensures refused { Refuses result (C.refusal (C.meaning value)) }
         ensures fits { OnOk result (C.fits (C.meaning value)) }
@@ -85,7 +86,8 @@ pub trait ExtensionSet {
         value: C::Value,
     ) -> Result<(), EncodeError>
         requires { ext.now.extendee.now ≡ fqn }
-        ensures ok { OnOk result (IsSet ext.now.number (C.recs (C.meaning value)) (fields_of self.old) (fields_of self.new)) }
+        ensures ok { OnOk result (IsSet ext.now.number (C.recs (C.meaning value)) (fields_of self.old)
+            (fields_of self.new)) }
         ensures err { OnErr result (self.new ≡ self.old) }
         ensures refused { Refuses result (C.refusal (C.meaning value)) }
         ensures fits { OnOk result (C.fits (C.meaning value)) }
@@ -117,7 +119,8 @@ pub trait ExtensionSet {
         requires extendee { ext.now.extendee.now ≡ fqn }
         requires callable { D.can_declare ext.now.default }
         ensures { IfOk result (λ v. let records = sub ext.now.number (fields_of self.now).records in
-            IsDefaulted (λ o. C.reads records (C.answer o)) (D.may_declare ext.now.default) (V.meaning v ≡ V.blank_is) v) }
+            IsDefaulted (λ o. C.reads records (C.answer o)) (D.may_declare ext.now.default) (V.meaning v
+                ≡ V.blank_is) v) }
     {
         if let Some(value) = self.extension(alloc, ext)? {
             return Ok(value);

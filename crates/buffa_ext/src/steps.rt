@@ -72,7 +72,8 @@ pub fn replay(
 ) -> Result<(), ReplayFault>
     ensures ok { OnOk result (fields.new.records ≡ after fields.old.records (map change_of steps.items)) }
     ensures done { IfErr result (λ e. e.done < length steps.items) }
-    ensures err { IfErr result (λ e. fields.new.records ≡ after fields.old.records (take e.done (map change_of steps.items))) }
+    ensures err { IfErr result (λ e. fields.new.records
+        ≡ after fields.old.records (take e.done (map change_of steps.items))) }
 {
     let mut done = 0usize;
     for step in steps {

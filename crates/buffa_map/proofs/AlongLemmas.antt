@@ -3,7 +3,7 @@ use Rattle.std.proofs.Common.{◌≡◌, ◌≢◌, ℕ, zero, suc, ◌<◌, ◌
 use Rattle.buffa_wire.specs.Gives.{◌>>=◌}
 use Rattle.buffa_bytes.specs.declared.error.DecodeError.{DecodeError}
 use Rattle.buffa_bytes.proofs.StepLemmas.{Agrees, agree_bind, agree_weaker}
-use Rattle.buffa_map.specs.Along.{join, Along, Leads, Stops, along_within, along_at}
+use Rattle.buffa_map.specs.Parses.{join, ParsesEach, ParsesTo, ParseStops, parse_within, parse_all}
 
 join-last : (ps : List (List ℕ)) (p : List ℕ) → join (ps ++ p ∷ []) ≡ join ps ++ p
 join-last [] p = append-nil p
@@ -30,78 +30,78 @@ pub answers_as : {A B : Type 0} {P : Type 0} {r : Result A DecodeError} {q : Res
 answers_as f (x, h, k) = (x, f x h, k)
 
 module _ {S : Type 0} (Step : S → List ℕ → S → Type 0) where
-  pub Along-last : (ps : List (List ℕ)) (p : List ℕ) (s t u : S) → Along Step s ps t → Step t p u → Along Step s (ps ++ p ∷ []) u
-  Along-last [] p s t u h k = (u, subst (λ (z : S). Step z p u) (sym h) k, refl)
-  Along-last (q ∷ ps) p s t u h k = (h.0, h.1, Along-last ps p h.0 t u h.2 k)
+  pub ParsesEach-last : (ps : List (List ℕ)) (p : List ℕ) (s t u : S) → ParsesEach Step s ps t → Step t p u → ParsesEach Step s (ps ++ p ∷ []) u
+  ParsesEach-last [] p s t u h k = (u, subst (λ (z : S). Step z p u) (sym h) k, refl)
+  ParsesEach-last (q ∷ ps) p s t u h k = (h.0, h.1, ParsesEach-last ps p h.0 t u h.2 k)
 
   -- one piece more
-  pub Leads-more : (bs : List ℕ) (s t u : S) (p rest x : List ℕ) → Leads Step s bs t rest → Step t p u → rest ≡ p ++ x → Leads Step s bs u x
-  Leads-more bs s t u p rest x h k e = (
+  pub ParsesTo-more : (bs : List ℕ) (s t u : S) (p rest x : List ℕ) → ParsesTo Step s bs t rest → Step t p u → rest ≡ p ++ x → ParsesTo Step s bs u x
+  ParsesTo-more bs s t u p rest x h k e = (
     h.0 ++ p ∷ [],
     h.1 ∙ ap (λ z. join h.0 ++ z) e ∙ sym (append_assoc (join h.0) p x) ∙ ap (λ z. z ++ x) (sym (join-last h.0 p)),
-    Along-last h.0 p s t u h.2 k,
+    ParsesEach-last h.0 p s t u h.2 k,
   )
 
   -- a piece before
-  pub Leads-first : (bs : List ℕ) (s t u : S) (p mid rest : List ℕ) → Step s p t → bs ≡ p ++ mid → Leads Step t mid u rest → Leads Step s bs u rest
-  Leads-first bs s t u p mid rest h e k = (p ∷ k.0, e ∙ ap (λ z. p ++ z) k.1 ∙ sym (append_assoc p (join k.0) rest), (t, h, k.2))
+  pub ParsesTo-first : (bs : List ℕ) (s t u : S) (p mid rest : List ℕ) → Step s p t → bs ≡ p ++ mid → ParsesTo Step t mid u rest → ParsesTo Step s bs u rest
+  ParsesTo-first bs s t u p mid rest h e k = (p ∷ k.0, e ∙ ap (λ z. p ++ z) k.1 ∙ sym (append_assoc p (join k.0) rest), (t, h, k.2))
 
   module _ (f : S → List ℕ → Result (S × List ℕ) DecodeError) (Fault : S → List ℕ → DecodeError → Type 0)
       (sound : (s : S) (bs : List ℕ) → Agrees (f s bs) (λ x. (p : List ℕ) × Step s p x.0 × (bs ≡ p ++ x.1)) (Fault s bs))
       (complete : (s t : S) (p rest : List ℕ) → Step s p t → f s (p ++ rest) ≡ Ok (t, rest))
       (P : Type 0) (faulty : (s : S) (bs : List ℕ) (e : DecodeError) → Fault s bs e → Answers P (f s bs) e)
       (some : (s t : S) (p : List ℕ) → Step s p t → 0 < length p) where
-    sound_in : (k : ℕ) (s : S) (bs : List ℕ) → length bs ≤ k → Agrees (along_within f k s bs) (λ t. Leads Step s bs t []) (λ e. Stops Step Fault s bs e)
-    unfolding along_within
+    sound_in : (k : ℕ) (s : S) (bs : List ℕ) → length bs ≤ k → Agrees (parse_within f k s bs) (λ t. ParsesTo Step s bs t []) (λ e. ParseStops Step Fault s bs e)
+    unfolding parse_within
     sound_in k s [] h = record { holds = ([], refl, refl) }
     sound_in zero s (b ∷ bs) h = absurd (omega arith)
     sound_in (suc k) s (b ∷ bs) h = agree_bind (sound s (b ∷ bs))
         (λ x u. agree_weaker (sound_in k x.0 x.1 (omega (arith, some s x.0 u.0 u.1, ap length u.2, length-append u.0 x.1)))
-        (λ t w. Leads-first (b ∷ bs) s x.0 t u.0 x.1 [] u.1 u.2 w)
-        (λ e w. (w.0, w.1, Leads-first (b ∷ bs) s x.0 w.0 u.0 x.1 w.1 u.1 u.2 w.2, w.3, w.4)))
+        (λ t w. ParsesTo-first (b ∷ bs) s x.0 t u.0 x.1 [] u.1 u.2 w)
+        (λ e w. (w.0, w.1, ParsesTo-first (b ∷ bs) s x.0 w.0 u.0 x.1 w.1 u.1 u.2 w.2, w.3, w.4)))
         (λ e w. (s, b ∷ bs, ([], refl, refl), (λ z. cc), w))
 
     -- the next piece
-    next : (k : ℕ) (s : S) (bs : List ℕ) → 0 < length bs → along_within f (suc k) s bs ≡ (f s bs >>= (λ x. along_within f k x.0 x.1))
-    unfolding along_within
+    next : (k : ℕ) (s : S) (bs : List ℕ) → 0 < length bs → parse_within f (suc k) s bs ≡ (f s bs >>= (λ x. parse_within f k x.0 x.1))
+    unfolding parse_within
     next k s [] h = absurd (omega arith)
     next k s (b ∷ bs) h = refl
 
     -- whole pieces are passed
-    pass : (k : ℕ) (ps : List (List ℕ)) (s t : S) (rest : List ℕ) → Along Step s ps t → length (join ps ++ rest) ≤ k →
-        (m : ℕ) × (length rest ≤ m) × (along_within f k s (join ps ++ rest) ≡ along_within f m t rest)
-    pass k [] s t rest h l = (k, l, ap (λ z. along_within f k z rest) h)
+    pass : (k : ℕ) (ps : List (List ℕ)) (s t : S) (rest : List ℕ) → ParsesEach Step s ps t → length (join ps ++ rest) ≤ k →
+        (m : ℕ) × (length rest ≤ m) × (parse_within f k s (join ps ++ rest) ≡ parse_within f m t rest)
+    pass k [] s t rest h l = (k, l, ap (λ z. parse_within f k z rest) h)
     pass zero (p ∷ ps) s t rest (u, h, w) l = absurd (omega (arith, some s u p h, length-append p (join ps), length-append (p ++ join ps) rest))
     pass (suc k) (p ∷ ps) s t rest (u, h, w) l =
         let more = some s u p h in
         let i = pass k ps u t rest w (omega (arith, more, length-append p (join ps), length-append (p ++ join ps) rest, length-append (join ps) rest)) in
         let here : f s ((p ++ join ps) ++ rest) ≡ Ok (u, join ps ++ rest) = ap (f s) (append_assoc p (join ps) rest) ∙ complete s u p (join ps ++ rest) h in
-        let turn : along_within f (suc k) s ((p ++ join ps) ++ rest) ≡ along_within f k u (join ps ++ rest) =
+        let turn : parse_within f (suc k) s ((p ++ join ps) ++ rest) ≡ parse_within f k u (join ps ++ rest) =
         next k s ((p ++ join ps) ++ rest) (omega (arith, more, length-append p (join ps), length-append (p ++ join ps) rest)) ∙ rw here refl in
         (i.0, i.1, turn ∙ i.2)
 
-    at_end : (m : ℕ) (t : S) → along_within f m t [] ≡ Ok t
-    unfolding along_within
+    at_end : (m : ℕ) (t : S) → parse_within f m t [] ≡ Ok t
+    unfolding parse_within
     at_end m t = refl
 
-    at_fault : (m : ℕ) (t : S) (rest : List ℕ) (e : DecodeError) → rest ≢ [] → length rest ≤ m → f t rest ≡ Err e → along_within f m t rest ≡ Err e
-    unfolding along_within
+    at_fault : (m : ℕ) (t : S) (rest : List ℕ) (e : DecodeError) → rest ≢ [] → length rest ≤ m → f t rest ≡ Err e → parse_within f m t rest ≡ Err e
+    unfolding parse_within
     at_fault m t [] e n l h = absurd (n refl)
     at_fault zero t (b ∷ bs) e n l h = absurd (omega arith)
     at_fault (suc m) t (b ∷ bs) e n l h = rw h refl
 
-    pub along_complete : (s t : S) (bs : List ℕ) → Leads Step s bs t [] → along_at f s bs ≡ Ok t
-    unfolding along_at
+    pub along_complete : (s t : S) (bs : List ℕ) → ParsesTo Step s bs t [] → parse_all f s bs ≡ Ok t
+    unfolding parse_all
     along_complete s t bs (ps, is, w) =
         let i = pass (length (join ps ++ [])) ps s t [] w (omega arith) in
-        ap (λ z. along_within f (length z) s z) is ∙ i.2 ∙ at_end i.0 t
+        ap (λ z. parse_within f (length z) s z) is ∙ i.2 ∙ at_end i.0 t
 
-    pub along_faulty : (s : S) (bs : List ℕ) (e : DecodeError) → Stops Step Fault s bs e → Answers P (along_at f s bs) e
-    unfolding along_at
+    pub along_faulty : (s : S) (bs : List ℕ) (e : DecodeError) → ParseStops Step Fault s bs e → Answers P (parse_all f s bs) e
+    unfolding parse_all
     along_faulty s bs e (t, rest, (ps, is, w), n, h) =
         let i = pass (length (join ps ++ rest)) ps s t rest w (omega arith) in
-        answers_as (λ x k. ap (λ z. along_within f (length z) s z) is ∙ i.2 ∙ at_fault i.0 t rest x n i.1 k) (faulty t rest e h)
+        answers_as (λ x k. ap (λ z. parse_within f (length z) s z) is ∙ i.2 ∙ at_fault i.0 t rest x n i.1 k) (faulty t rest e h)
 
-    pub along_sound : (s : S) (bs : List ℕ) → Agrees (along_at f s bs) (λ t. Leads Step s bs t []) (λ e. Stops Step Fault s bs e)
-    unfolding along_at
+    pub along_sound : (s : S) (bs : List ℕ) → Agrees (parse_all f s bs) (λ t. ParsesTo Step s bs t []) (λ e. ParseStops Step Fault s bs e)
+    unfolding parse_all
     along_sound s bs = sound_in (length bs) s bs (omega arith)

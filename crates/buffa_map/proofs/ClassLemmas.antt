@@ -9,7 +9,7 @@ use Rattle.std.proofs.lemmas.Map.{NonePasses}
 use Rattle.std.proofs.lemmas.Map.Entries.{none_past_head}
 use Rattle.std.proofs.lemmas.List.Elements.{filter-append}
 use Rattle.std.proofs.lemmas.Map.Keys.{IsDistinct-tail}
-use Rattle.buffa_map.specs.Pairs.{put, SamePairs, Enum}
+use Rattle.buffa_map.specs.Pairs.{put, SamePairs, ListsOnce}
 use Rattle.buffa_map.proofs.PutLemmas.{key_or, lookup_entry-put}
 
 -- ---- a run to two readers
@@ -309,7 +309,7 @@ module _ {K V : Type 0} where
     new_class t (y ∷ ys) n = new_chosen (t y.0) y ys (filter (λ x. t x.0) ys) n (new_class t ys (new_tail y ys n))
 
 -- ---- whole lists
-module _ {K V : Type 0} {eq : K → K → Bool} (laws : IsEquivalence eq) (xs : List (K × Kind V)) (l : List (K × V)) (e : Enum eq (put_all eq [] (ignorant xs)) l) where
+module _ {K V : Type 0} {eq : K → K → Bool} (laws : IsEquivalence eq) (xs : List (K × Kind V)) (l : List (K × V)) (e : ListsOnce eq (put_all eq [] (ignorant xs)) l) where
   -- what the rewrite's pairs leave of a class
   walked : (q : K) → ends (filter (λ p. eq q p.0) l) ≡ ends (ignorant (filter (λ x. eq q x.0) xs))
   walked q = ends-distinct laws q l e.0 ∙ sym (e.1 q) ∙ lookup_entry-put_all laws q [] (ignorant xs) ∙ combine-none (ends (filter (λ p. eq q p.0) (ignorant xs))) ∙ ap ends (filter-ignorant (eq q) xs)

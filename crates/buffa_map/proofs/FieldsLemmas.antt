@@ -4,17 +4,17 @@ use Rattle.buffa_bytes.specs.declared.error.DecodeError.{DecodeError}
 use Rattle.buffa_bytes.specs.declared.error.DecodeError.TheVariants.{OutOfMemory}
 use Rattle.buffa_bytes.specs.declared.wire_type.WireType.{WireType}
 use Rattle.buffa_wire.specs.Content.{Content}
-use Rattle.buffa_wire.specs.Left.{Left, Pays, PaysAtMost, nothing}
+use Rattle.buffa_wire.specs.BudgetLeft.{BudgetLeft, Pays, PaysAtMost, nothing}
 use Rattle.buffa_wire.specs.Reading.{check_wire, skip_at, tag_at}
-use Rattle.buffa_map.specs.Along.{Leads}
+use Rattle.buffa_map.specs.Parses.{ParsesTo}
 use Rattle.buffa_map.specs.Codec.{Reading, Refuses, Spends, value_at, value_need}
 use Rattle.buffa_map.specs.Entry.{FieldFault, IsField, blanks, need_at}
 use Rattle.buffa_map.specs.Fields.{MergesField, MergesFields, RefusesField, RefusesFields}
-use Rattle.buffa_map.specs.declared.parts.Parts.{Parts}
+use Rattle.buffa_map.specs.declared.map_entry.MapEntry.{MapEntry}
 use Rattle.buffa_map.proofs.EntryLemmas.{field_shorter, field_step, refused_in, spent_in, value_free}
 use Rattle.buffa_map.proofs.NeedLemmas.{checked, field_broken, fields_fault, fields_spent, key_mismatch, key_refused, need-key, need-value, need_end, need_step, other_broken, value_merged, value_mismatch, value_refused}
 
-module _ {K V : Type 0} (key : Reading K) (val : Reading V) (d : ℕ) (s : Parts K V) (left : Left) (bs : List ℕ) where
+module _ {K V : Type 0} (key : Reading K) (val : Reading V) (d : ℕ) (s : MapEntry K V) (left : BudgetLeft) (bs : List ℕ) where
   -- nothing was spent
   refused : (f : DecodeError) → (f ≢ OutOfMemory → FieldFault key val d s bs f) → RefusesField key val d s left bs left f
   refused f h = record { fault = λ ne. inr (h ne); pays = (omega arith, omega arith, omega arith, omega arith) }
@@ -27,7 +27,7 @@ module _ {K V : Type 0} (key : Reading K) (val : Reading V) (d : ℕ) (s : Parts
       pub wrong_key : (f : DecodeError) → check_wire n v w ≡ Err f → RefusesField key val d s left bs left f
       wrong_key f h = refused f (λ ne. key_mismatch key val d s bs rest n v w f tag one is h)
 
-      pub bad_key : (T : Type 0) (over : Left) (f : DecodeError) → check_wire n v w ≡ Ok tt → (key.nested ≡ false → (c : Content) → key.cost d c ≡ nothing) →
+      pub bad_key : (T : Type 0) (over : BudgetLeft) (f : DecodeError) → check_wire n v w ≡ Ok tt → (key.nested ≡ false → (c : Content) → key.cost d c ≡ nothing) →
           (f ≢ OutOfMemory → Refuses key.nested key d s.key rest left f) → Spends {T = T} key.nested (Err f) left (value_need key d rest) over → RefusesField key val d s left bs over f
       bad_key T over f wire free fault spent =
           let same : w ≡ key.wire = checked n v w wire ∙ is in
@@ -42,7 +42,7 @@ module _ {K V : Type 0} (key : Reading K) (val : Reading V) (d : ℕ) (s : Parts
       wrong_value f h = refused f (λ ne. value_mismatch key val d s bs rest n v w f tag not_one two is h)
 
       module _ (wire : check_wire n v w ≡ Ok tt) (free : val.nested ≡ false → (c : Content) → val.cost d c ≡ nothing) where
-        pub bad_value : (T : Type 0) (over : Left) (f : DecodeError) →
+        pub bad_value : (T : Type 0) (over : BudgetLeft) (f : DecodeError) →
             (f ≢ OutOfMemory → Refuses val.nested val d s.value rest left f) → Spends {T = T} val.nested (Err f) left (value_need val d rest) over → RefusesField key val d s left bs over f
         bad_value T over f fault spent =
             let same : w ≡ val.wire = checked n v w wire ∙ is in
@@ -52,7 +52,7 @@ module _ {K V : Type 0} (key : Reading K) (val : Reading V) (d : ℕ) (s : Parts
               pays = subst (λ z. PaysAtMost left z over) (sym (need-value key val d bs rest n w tag not_one two same)) paid;
             }
 
-        pub good_value : {T : Type 0} (x : T) (over : Left) (after : List ℕ) (new : V) (known now : Bool) → value_at val d s.value rest ≡ Ok ((new, known), after) → known ≡ now →
+        pub good_value : {T : Type 0} (x : T) (over : BudgetLeft) (after : List ℕ) (new : V) (known now : Bool) → value_at val d s.value rest ≡ Ok ((new, known), after) → known ≡ now →
             Spends {T = T} val.nested (Ok x) left (value_need val d rest) over → MergesField key val d s left bs (record s { value = new; known = now }) over after
         good_value {T = T} x over after new known now reads same_known spent =
             let same : w ≡ val.wire = checked n v w wire ∙ is in
@@ -68,19 +68,19 @@ none : {bs : List ℕ} → length bs ≡ 0 → bs ≡ []
 none {bs = []} h = refl
 none {bs = b ∷ bs} h = absurd (omega (arith, h))
 
-module _ {K V : Type 0} (key : Reading K) (val : Reading V) (d : ℕ) (bytes : List ℕ) (left : Left) where
-  abbrev start : Parts K V
+module _ {K V : Type 0} (key : Reading K) (val : Reading V) (d : ℕ) (bytes : List ℕ) (left : BudgetLeft) where
+  abbrev start : MapEntry K V
   start = blanks key val d
 
-  -- the fields so far were merged: s was said, now is left, and rest follows them
-  pub record Merged (s : Parts K V) (now : Left) (rest : List ℕ) : Type 0 where
-    pub reached : Leads (IsField key val d) start bytes s rest
+  -- the fields so far were merged: s was meant_entry, now is left, and rest follows them
+  pub record Merged (s : MapEntry K V) (now : BudgetLeft) (rest : List ℕ) : Type 0 where
+    pub reached : ParsesTo (IsField key val d) start bytes s rest
     pub unknown : now.unknown + (need_at key val d start bytes).unknown ≡ left.unknown + (need_at key val d s rest).unknown
     pub memory : now.memory + (need_at key val d start bytes).memory ≡ left.memory + (need_at key val d s rest).memory
     pub no_slot : now.unknown ≤ left.unknown
     pub no_unit : now.memory ≤ left.memory
 
-  pub no_field : (s : Parts K V) → s ≡ start → Merged s left bytes
+  pub no_field : (s : MapEntry K V) → s ≡ start → Merged s left bytes
   no_field s is = record {
     reached = ([], refl, sym is);
     unknown = rw is refl;
@@ -89,30 +89,30 @@ module _ {K V : Type 0} (key : Reading K) (val : Reading V) (d : ℕ) (bytes : L
     no_unit = omega arith;
   }
 
-  module _ (s : Parts K V) (now : Left) (rest : List ℕ) (h : Merged s now rest) where
+  module _ (s : MapEntry K V) (now : BudgetLeft) (rest : List ℕ) (h : Merged s now rest) where
     pub all_fields : length rest ≡ 0 → MergesFields key val d bytes left s now
     all_fields empty =
         let e = need_end key val d s rest empty in
         record {
-          entry = subst (λ z. Leads (IsField key val d) start bytes s z) (none empty) h.reached;
-          pays = (omega (arith, h.unknown, ap (λ (z : Left). z.unknown) e), omega (arith, h.memory, ap (λ (z : Left). z.memory) e));
+          entry = subst (λ z. ParsesTo (IsField key val d) start bytes s z) (none empty) h.reached;
+          pays = (omega (arith, h.unknown, ap (λ (z : BudgetLeft). z.unknown) e), omega (arith, h.memory, ap (λ (z : BudgetLeft). z.memory) e));
         }
 
-    pub one_field : (t : Parts K V) (over : Left) (after : List ℕ) → 0 < length rest → MergesField key val d s now rest t over after → Merged t over after
+    pub one_field : (t : MapEntry K V) (over : BudgetLeft) (after : List ℕ) → 0 < length rest → MergesField key val d s now rest t over after → Merged t over after
     one_field t over after some m =
         let e = need_step key val d s t rest after some m.field in
         record {
           reached = field_step key val d bytes s t rest after h.reached m.field;
-          unknown = omega (arith, h.unknown, m.pays.0, ap (λ (z : Left). z.unknown) e);
-          memory = omega (arith, h.memory, m.pays.1, ap (λ (z : Left). z.memory) e);
+          unknown = omega (arith, h.unknown, m.pays.0, ap (λ (z : BudgetLeft). z.unknown) e);
+          memory = omega (arith, h.memory, m.pays.1, ap (λ (z : BudgetLeft). z.memory) e);
           no_slot = omega (arith, h.no_slot, m.pays.0);
           no_unit = omega (arith, h.no_unit, m.pays.1);
         }
 
-    pub fewer : (t : Parts K V) (over : Left) (after : List ℕ) → MergesField key val d s now rest t over after → length after < length rest
+    pub fewer : (t : MapEntry K V) (over : BudgetLeft) (after : List ℕ) → MergesField key val d s now rest t over after → length after < length rest
     fewer t over after m = field_shorter key val d s t rest after m.field
 
-    pub bad_field : (over : Left) (f : DecodeError) → 0 < length rest → RefusesField key val d s now rest over f → RefusesFields key val d bytes left over f
+    pub bad_field : (over : BudgetLeft) (f : DecodeError) → 0 < length rest → RefusesField key val d s now rest over f → RefusesFields key val d bytes left over f
     bad_field over f some k = record {
       fault = λ ne. fields_fault key val d bytes s rest left now some h.unknown h.memory f h.reached (k.fault ne);
       pays = fields_spent key val d bytes s rest left now some h.unknown h.memory over h.no_slot h.no_unit k.pays;

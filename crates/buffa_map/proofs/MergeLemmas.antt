@@ -2,21 +2,21 @@
 use Rattle.std.proofs.Common.{arith, ◌≡◌, ◌≢◌, ◌+◌, ◌<◌, ◌≤◌, ◌++◌, ◌⊎◌, inl, inr, ℕ, true, false, List, Ok, Err, ap, append-nil, refl, sym}
 use Rattle.buffa_bytes.specs.declared.error.DecodeError.{DecodeError}
 use Rattle.buffa_bytes.specs.declared.error.DecodeError.TheVariants.{ElementMemoryLimitExceeded, OutOfMemory, UnknownFieldLimitExceeded}
-use Rattle.buffa_wire.specs.Left.{Left, Lacks, Pays, PaysAtMost}
+use Rattle.buffa_wire.specs.BudgetLeft.{BudgetLeft, Lacks, Pays, PaysAtMost}
 use Rattle.buffa_wire.specs.Reading.{delimited_at}
 use Rattle.buffa_wire.specs.Records.{Datum}
 use Rattle.buffa_map.specs.Codec.{need_by}
 use Rattle.buffa_map.specs.Entry.{FaultOf, IsEntry, blanks, inner_need, need_at}
 use Rattle.buffa_map.specs.Merge.{MergesEntry, RefusesEntry, Rules, State, state}
 use Rattle.buffa_map.specs.Pairs.{SamePairs, put}
-use Rattle.buffa_map.specs.declared.parts.Parts.{Parts}
+use Rattle.buffa_map.specs.declared.map_entry.MapEntry.{MapEntry}
 use Rattle.buffa_map.proofs.NeedLemmas.{entry_broken, entry_charged, entry_found, entry_short, entry_slotless, no_length}
 
-module _ {K V : Type 0} (r : Rules K V) (pairs : List (K × V)) (records : List (ℕ × Datum)) (left : Left) (bs : List ℕ) where
+module _ {K V : Type 0} (r : Rules K V) (pairs : List (K × V)) (records : List (ℕ × Datum)) (left : BudgetLeft) (bs : List ℕ) where
   abbrev old : State K V
   old = state pairs records left
 
-  abbrev fields_need : List ℕ → Left
+  abbrev fields_need : List ℕ → BudgetLeft
   fields_need e = need_at r.key r.val r.depth (blanks r.key r.val r.depth) e
 
   pub no_entry : (f : DecodeError) → (f ≢ OutOfMemory → delimited_at bs ≡ Err f) → RefusesEntry r (state pairs records left) bs (state pairs records left) f
@@ -35,10 +35,10 @@ module _ {K V : Type 0} (r : Rules K V) (pairs : List (K × V)) (records : List 
     inner : inner_need r.key r.val r.depth bs ≡ fields_need e
     inner = ap (λ z. need_by z (λ x. fields_need x.0)) is
 
-    pub no_units : (now : Left) (f : DecodeError) → left.memory < r.cost → now ≡ left → f ≡ ElementMemoryLimitExceeded → RefusesEntry r (state pairs records left) bs (state pairs records now) f
+    pub no_units : (now : BudgetLeft) (f : DecodeError) → left.memory < r.cost → now ≡ left → f ≡ ElementMemoryLimitExceeded → RefusesEntry r (state pairs records left) bs (state pairs records now) f
     no_units now f few same which =
-        let units = ap (λ (z : Left). z.memory) same in
-        let slots = ap (λ (z : Left). z.unknown) same in
+        let units = ap (λ (z : BudgetLeft). z.memory) same in
+        let slots = ap (λ (z : BudgetLeft). z.unknown) same in
         record {
           fault = λ ne. entry_charged r.key r.val r.depth r.cost r.slot left bs e rest f is few which;
           pairs = refl;
@@ -50,12 +50,12 @@ module _ {K V : Type 0} (r : Rules K V) (pairs : List (K × V)) (records : List 
           no_slot = λ ne. omega (arith, slots);
         }
 
-    module _ (now : Left) (charged : now.memory + r.cost ≡ left.memory) (slots : now.unknown ≡ left.unknown) where
+    module _ (now : BudgetLeft) (charged : now.memory + r.cost ≡ left.memory) (slots : now.unknown ≡ left.unknown) where
       -- the fields are refused, or the pair is
-      pub bad_fields : (over : Left) (f : DecodeError) → (f ≢ OutOfMemory → Lacks now (fields_need e) ⊎ FaultOf r.key r.val r.depth e f) → PaysAtMost now (fields_need e) over → RefusesEntry r (state pairs records left) bs (state pairs records over) f
+      pub bad_fields : (over : BudgetLeft) (f : DecodeError) → (f ≢ OutOfMemory → Lacks now (fields_need e) ⊎ FaultOf r.key r.val r.depth e f) → PaysAtMost now (fields_need e) over → RefusesEntry r (state pairs records left) bs (state pairs records over) f
       bad_fields over f h p =
-          let units = ap (λ (z : Left). z.memory) inner in
-          let taken = ap (λ (z : Left). z.unknown) inner in
+          let units = ap (λ (z : BudgetLeft). z.memory) inner in
+          let taken = ap (λ (z : BudgetLeft). z.unknown) inner in
           record {
             fault = λ ne. entry_broken r.key r.val r.depth r.cost r.slot left now bs e rest f is charged slots (h ne);
             pairs = refl;
@@ -67,7 +67,7 @@ module _ {K V : Type 0} (r : Rules K V) (pairs : List (K × V)) (records : List 
             no_slot = λ ne. omega (arith, slots, p, taken);
           }
 
-      module _ (s : Parts K V) (entry : IsEntry r.key r.val r.depth e s) (over : Left) (p : Pays now (fields_need e) over) where
+      module _ (s : MapEntry K V) (entry : IsEntry r.key r.val r.depth e s) (over : BudgetLeft) (p : Pays now (fields_need e) over) where
         pub is_put : s.known ≡ true → (new : List (K × V)) → SamePairs r.same (put r.same pairs s.key s.value) new → MergesEntry r (state pairs records left) bs (state new records over) rest
         is_put known new h = record {
           says = s;
@@ -78,7 +78,7 @@ module _ {K V : Type 0} (r : Rules K V) (pairs : List (K × V)) (records : List 
           pays = (rw known (omega (arith, slots, p)), omega (arith, charged, p));
         }
 
-        pub is_kept : s.known ≡ false → (kept : List (ℕ × Datum)) (last : Left) → kept ≡ records ++ r.adds r.number e → last.unknown + r.slot ≡ over.unknown → last.memory ≡ over.memory → MergesEntry r (state pairs records left) bs (state pairs kept last) rest
+        pub is_kept : s.known ≡ false → (kept : List (ℕ × Datum)) (last : BudgetLeft) → kept ≡ records ++ r.adds r.number e → last.unknown + r.slot ≡ over.unknown → last.memory ≡ over.memory → MergesEntry r (state pairs records left) bs (state pairs kept last) rest
         is_kept known kept last h slot unit = record {
           says = s;
           entry = e;
@@ -88,11 +88,11 @@ module _ {K V : Type 0} (r : Rules K V) (pairs : List (K × V)) (records : List 
           pays = (rw known (omega (arith, slots, p, slot)), omega (arith, charged, p, unit));
         }
 
-        pub not_kept : s.known ≡ false → (kept : List (ℕ × Datum)) (last : Left) (f : DecodeError) → kept ≡ records → last.unknown ≤ over.unknown → over.unknown ≤ last.unknown + r.slot → last.memory ≡ over.memory →
+        pub not_kept : s.known ≡ false → (kept : List (ℕ × Datum)) (last : BudgetLeft) (f : DecodeError) → kept ≡ records → last.unknown ≤ over.unknown → over.unknown ≤ last.unknown + r.slot → last.memory ≡ over.memory →
             (f ≢ OutOfMemory → (over.unknown < r.slot) × (f ≡ UnknownFieldLimitExceeded) × (last.unknown ≡ over.unknown)) → RefusesEntry r (state pairs records left) bs (state pairs kept last) f
         not_kept known kept last f h most least unit which =
-            let units = ap (λ (z : Left). z.memory) inner in
-            let taken = ap (λ (z : Left). z.unknown) inner in
+            let units = ap (λ (z : BudgetLeft). z.memory) inner in
+            let taken = ap (λ (z : BudgetLeft). z.unknown) inner in
             record {
               fault = λ ne. entry_slotless r.key r.val r.depth r.cost r.slot left bs e rest s f is (omega (arith, charged)) entry known (omega (arith, (which ne).0, slots, p)) (which ne).1;
               pairs = refl;

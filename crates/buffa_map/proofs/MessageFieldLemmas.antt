@@ -12,7 +12,7 @@ use Rattle.buffa_wire.specs.Cache.{Cache, advanced}
 use Rattle.buffa_wire.specs.Passes.{IsSmall, IsWritten, cap}
 use Rattle.buffa_wire.proofs.PassLemmas.{done, refused, written_behind, written_put, written_same, written_then}
 use Rattle.buffa_wire.specs.Values.{tag_text}
-use Rattle.buffa_wire.specs.Varint.{V}
+use Rattle.buffa_wire.specs.Varint.{varint_text}
 use Rattle.buffa_map.specs.Codec.{Writing}
 use Rattle.buffa_map.specs.MessageField.{IsRecordWritten, IsSmallField, IsSmallPair, entry_size, head_text}
 use Rattle.buffa_map.specs.Scalars.{delimited_writing}
@@ -26,8 +26,8 @@ module _ {K M : Type 0} (key : Writing K) (text : M → List ℕ) (p : K × M) (
   abbrev sized : ℕ
   sized = entry_size key p.0 inner
 
-  length_whole : length whole ≡ 2 + (length (key.text p.0) + (length (V (length (text p.1))) + length (text p.1)))
-  length_whole = length-entry_text key (delimited_writing text) p ∙ ap (λ (n : ℕ). 2 + (length (key.text p.0) + n)) (length-append (V (length (text p.1))) (text p.1))
+  length_whole : length whole ≡ 2 + (length (key.text p.0) + (length (varint_text (length (text p.1))) + length (text p.1)))
+  length_whole = length-entry_text key (delimited_writing text) p ∙ ap (λ (n : ℕ). 2 + (length (key.text p.0) + n)) (length-append (varint_text (length (text p.1))) (text p.1))
 
   -- the length that was told is the length
   told : length (text p.1) < 2 ^ 32 → inner ≡ length (text p.1)
@@ -39,23 +39,23 @@ module _ {K M : Type 0} (key : Writing K) (text : M → List ℕ) (p : K × M) (
   same_len : length (text p.1) < 2 ^ 32 → length whole < 2 ^ 64 → saturated sized ≡ length whole
   same_len h k = omega (arith, same_size h)
 
-  module _ (t total rest added next : ℕ) (recorded : added ≡ saturated (t + (length (V (saturated sized)) + sized))) (summed : next ≡ saturated (total + added)) where
-    exact : length (text p.1) < 2 ^ 32 → length whole < 2 ^ 64 → saturated (next + rest) ≡ saturated (total + (t + (length (V (length whole)) + length whole) + rest))
-    exact h k = omega (arith, recorded, summed, same_size h, ap (λ (n : ℕ). length (V n)) (same_len h k))
+  module _ (t total rest added next : ℕ) (recorded : added ≡ saturated (t + (length (varint_text (saturated sized)) + sized))) (summed : next ≡ saturated (total + added)) where
+    exact : length (text p.1) < 2 ^ 32 → length whole < 2 ^ 64 → saturated (next + rest) ≡ saturated (total + (t + (length (varint_text (length whole)) + length whole) + rest))
+    exact h k = omega (arith, recorded, summed, same_size h, ap (λ (n : ℕ). length (varint_text n)) (same_len h k))
 
-    at_large : 2 ^ 32 ≤ length (text p.1) → cap (next + rest) ≡ cap (total + (t + (length (V (length whole)) + length whole) + rest))
+    at_large : 2 ^ 32 ≤ length (text p.1) → cap (next + rest) ≡ cap (total + (t + (length (varint_text (length whole)) + length whole) + rest))
     at_large h = omega (arith, recorded, summed, is, length_whole)
 
-    at_long : 2 ^ 64 ≤ length whole → length (text p.1) < 2 ^ 32 → cap (next + rest) ≡ cap (total + (t + (length (V (length whole)) + length whole) + rest))
+    at_long : 2 ^ 64 ≤ length whole → length (text p.1) < 2 ^ 32 → cap (next + rest) ≡ cap (total + (t + (length (varint_text (length whole)) + length whole) + rest))
     at_long k h = omega (arith, recorded, summed, same_size h)
 
-    pub size_capped : cap (next + rest) ≡ cap (total + (t + (length (V (length whole)) + length whole) + rest))
+    pub size_capped : cap (next + rest) ≡ cap (total + (t + (length (varint_text (length whole)) + length whole) + rest))
     size_capped = elim (cases_lt (length (text p.1)) (2 ^ 32)) [
       | inl h ↦ elim (cases_lt (length whole) (2 ^ 64)) [ inl k ↦ omega (arith, exact h k) | inr k ↦ at_long (omega (arith, k)) h ]
       | inr h ↦ at_large (omega (arith, h))
     ]
 
-    pub size_exact : IsSmall (text p.1) → length whole < 2 ^ 64 → saturated (next + rest) ≡ saturated (total + (t + (length (V (length whole)) + length whole) + rest))
+    pub size_exact : IsSmall (text p.1) → length whole < 2 ^ 64 → saturated (next + rest) ≡ saturated (total + (t + (length (varint_text (length whole)) + length whole) + rest))
     size_exact h k = exact (omega (arith, h)) k
 
   -- the head, and then the message's text, are the record
@@ -64,11 +64,11 @@ module _ {K M : Type 0} (key : Writing K) (text : M → List ℕ) (p : K × M) (
       let tag = tag_text n LengthDelimited in
       let first = tag_text 1 key.wire ++ key.text p.0 in
       let second = tag_text 2 LengthDelimited in
-      let len = V (length (text p.1)) in
-      let a : head_text key n p.0 inner ≡ (tag ++ V (length whole)) ++ (first ++ (second ++ len)) =
-      (λ i. (tag ++ V (same_len (omega (arith, h)) k i)) ++ (first ++ (second ++ V (told (omega (arith, h)) i)))) in
+      let len = varint_text (length (text p.1)) in
+      let a : head_text key n p.0 inner ≡ (tag ++ varint_text (length whole)) ++ (first ++ (second ++ len)) =
+      (λ i. (tag ++ varint_text (same_len (omega (arith, h)) k i)) ++ (first ++ (second ++ varint_text (told (omega (arith, h)) i)))) in
       let b : (first ++ (second ++ len)) ++ text p.1 ≡ whole = append_assoc first (second ++ len) (text p.1) ∙ ap (λ z. first ++ z) (append_assoc second len (text p.1)) in
-      ap (λ z. z ++ text p.1) a ∙ append_assoc (tag ++ V (length whole)) (first ++ (second ++ len)) (text p.1) ∙ ap (λ z. (tag ++ V (length whole)) ++ z) b ∙ append_assoc tag (V (length whole)) whole
+      ap (λ z. z ++ text p.1) a ∙ append_assoc (tag ++ varint_text (length whole)) (first ++ (second ++ len)) (text p.1) ∙ ap (λ z. (tag ++ varint_text (length whole)) ++ z) b ∙ append_assoc tag (varint_text (length whole)) whole
 
 -- the value after the first pairs is among the values
 module _ {K X : Type 0} (p : K × X) (rest : List (K × X)) where
@@ -86,7 +86,7 @@ module _ {K X : Type 0} (p : K × X) (rest : List (K × X)) where
 pub small_field : {K M : Type 0} (key : Writing K) (text : M → List ℕ) (t : ℕ) (l : List (K × M)) → field_size key (delimited_writing text) t l < 2 ^ 31 → IsSmallField key text l
 small_field key text t [] h = tt
 small_field key text t (p ∷ ps) h =
-    let w = length-entry_text key (delimited_writing text) p ∙ ap (λ (n : ℕ). 2 + (length (key.text p.0) + n)) (length-append (V (length (text p.1))) (text p.1)) in
+    let w = length-entry_text key (delimited_writing text) p ∙ ap (λ (n : ℕ). 2 + (length (key.text p.0) + n)) (length-append (varint_text (length (text p.1))) (text p.1)) in
     ((omega (arith, w), omega (arith, w)), small_field key text t ps (omega arith))
 
 -- a record: its head, and then the message's text, behind a slot that tells its length

@@ -5,7 +5,7 @@ use Rattle.buffa_wire.specs.Content.{Content, bytes_in}
 use Rattle.buffa_wire.specs.Content.Content.{bytes}
 use Rattle.buffa_wire.specs.Field.{TakesDelimited}
 use Rattle.buffa_wire.specs.Reading.{delimited_at}
-use Rattle.buffa_wire.specs.Left.{Left, Lacks}
+use Rattle.buffa_wire.specs.BudgetLeft.{BudgetLeft, Lacks}
 use Rattle.buffa_wire.specs.Message.{PayloadFault, cost_in, cost_of_payload}
 use Rattle.buffa_bytes.specs.declared.error.DecodeError.{DecodeError}
 use Rattle.buffa_bytes.specs.declared.error.DecodeError.TheVariants.{UnexpectedEof}
@@ -14,17 +14,17 @@ use Rattle.buffa_bytes.proofs.DelimitedLemmas.{delimited_sound}
 use Rattle.buffa_map.specs.Codec.{ValueFault, need_by, value_need}
 use Rattle.buffa_map.specs.Message.{meant, message_reading}
 
-need_in : (cost : ℕ → List ℕ → Left) (d : ℕ) (r : Result (List ℕ × List ℕ) DecodeError) →
+need_in : (cost : ℕ → List ℕ → BudgetLeft) (d : ℕ) (r : Result (List ℕ × List ℕ) DecodeError) →
     need_by (r >>= (λ p. let x : Content × List ℕ = (bytes p.0, p.1) in Ok x)) (λ c. cost_in cost d (bytes_in c.0)) ≡ cost_of_payload cost d r
 need_in cost d (Ok p) = refl
 need_in cost d (Err e) = refl
 
-module _ {V : Type 0} (blank : V) (merged : ℕ → V → List ℕ → Option V) (cost : ℕ → List ℕ → Left) where
+module _ {V : Type 0} (blank : V) (merged : ℕ → V → List ℕ → Option V) (cost : ℕ → List ℕ → BudgetLeft) where
   -- what the codec says is needed
   pub need_is : (d : ℕ) (bs : List ℕ) → value_need (message_reading blank merged cost) d bs ≡ cost_of_payload cost d (delimited_at bs)
   need_is d bs = need_in cost d (delimited_at bs)
 
-  pub message_refused : (d : ℕ) (old : V) (bs : List ℕ) (left : Left) (e : DecodeError) → PayloadFault merged cost d old bs left e →
+  pub message_refused : (d : ℕ) (old : V) (bs : List ℕ) (left : BudgetLeft) (e : DecodeError) → PayloadFault merged cost d old bs left e →
       Lacks left (value_need (message_reading blank merged cost) d bs) ⊎ ValueFault (message_reading blank merged cost) d old bs e
   message_refused zero old bs left e h = inr (inl (ap (λ z. Err z) (sym h)))
   message_refused (suc d) old bs left e (inl h) = inr (inr (inl (refl, agree_err (delimited_at bs) e (delimited_sound bs) h)))

@@ -3,18 +3,18 @@ use Rattle.std.proofs.Common.{◌≡◌, ◌++◌, ℕ, Bool, List, [], Ok, Err,
 use Rattle.std.specs.Prelude.{◌∷◌}
 use Rattle.buffa_bytes.specs.declared.error.DecodeError.{DecodeError}
 use Rattle.buffa_bytes.specs.declared.error.EncodeError.{EncodeError}
-use Rattle.buffa_wire.specs.Left.{Left}
+use Rattle.buffa_wire.specs.BudgetLeft.{BudgetLeft}
 use Rattle.buffa_wire.specs.Records.{Datum, bytes}
-use Rattle.buffa_wire.specs.Text.{W}
+use Rattle.buffa_wire.specs.Text.{records_text}
 use Rattle.buffa_map.specs.Codec.{Reading, Writing}
 use Rattle.buffa_map.specs.Merge.{ReadsRun, Rules, State, StopsRun, keeping, state}
 use Rattle.buffa_map.specs.Rewrite.{RefusesOutput, RefusesRewrite, RewritesRun, WritesWalk}
-use Rattle.buffa_map.specs.Run.{added, kept_records}
+use Rattle.buffa_map.specs.Run.{added, undeclared_records}
 use Rattle.buffa_map.specs.Text.{field_text}
 use Rattle.buffa_map.proofs.RunLemmas.{added_records}
 
 -- a run that is read into an emptied map
-module _ {K V : Type 0} (r : Rules K V) (cleared : List (K × V)) (records : List (ℕ × Datum)) (left : Left) (bs : List ℕ) (new : State K V) where
+module _ {K V : Type 0} (r : Rules K V) (cleared : List (K × V)) (records : List (ℕ × Datum)) (left : BudgetLeft) (bs : List ℕ) (new : State K V) where
   pub anew : (rest : List ℕ) → cleared ≡ [] → ReadsRun r (state cleared records left) bs new rest → ReadsRun r (state [] records left) bs new rest
   anew rest is h = subst (λ z. ReadsRun r (state z records left) bs new rest) is h
 
@@ -22,20 +22,20 @@ module _ {K V : Type 0} (r : Rules K V) (cleared : List (K × V)) (records : Lis
   anew_stopped f is h = subst (λ z. StopsRun r (state z records left) bs new f) is h
 
 module _ {K V : Type 0} (rk : Reading K) (rv : Reading V) (key : Writing K) (val : Writing V) (eq : K → K → Bool) (d n cost : ℕ) (KeyFits : K → Type 0) (ValFits : V → Type 0)
-    (left over : Left) (bs rest : List ℕ) (pairs : List (K × V)) (none kept : List (ℕ × Datum)) (old new : List ℕ)
+    (left over : BudgetLeft) (bs rest : List ℕ) (pairs : List (K × V)) (none kept : List (ℕ × Datum)) (old new : List ℕ)
     (empty : none ≡ []) (read : ReadsRun (keeping rk rv eq d n cost) (state [] none left) bs (state pairs kept over) rest) where
-  is_kept : kept ≡ kept_records n read.entries
+  is_kept : kept ≡ undeclared_records n read.entries
   is_kept = read.keeps ∙ ap (λ z. z ++ added (λ m e. (m, bytes e) ∷ []) n read.entries) empty ∙ added_records n read.entries
 
   pub rewrites : (u : Unit {0}) → WritesWalk eq key val KeyFits ValFits n pairs kept old {T = Unit {0}} (Ok u) new →
       RewritesRun (keeping rk rv eq d n cost) key val KeyFits ValFits left bs pairs over rest old new
   rewrites u w = record {
     entries = read.entries;
-    out = field_text key val n w.walk ++ W (kept_records n read.entries);
+    out = field_text key val n w.walk ++ records_text (undeclared_records n read.entries);
     run = read.run;
     folded = read.folded;
     rewrite = (w.walk, (w.once.0, λ q. read.folded q ∙ w.once.1 q), w.text.0, w.fits, refl);
-    text = w.text.1 ∙ ap (λ z. old ++ (field_text key val n w.walk ++ W z)) is_kept;
+    text = w.text.1 ∙ ap (λ z. old ++ (field_text key val n w.walk ++ records_text z)) is_kept;
     paid = read.paid;
     whole = read.whole;
   }

@@ -2,13 +2,13 @@
 use Rattle.std.proofs.Common.{◌≡◌, ℕ, ◌+◌, ◌*◌, ◌^◌, ◌<◌, ◌≤◌, nat_lt, Bool, true, false, List, [], ◌∷◌, ◌++◌, length, Option, None, Some, refl, sym, ap, ◌∙◌, arith, length-append, inl, inr, if◌then◌else◌}
 use Rattle.std.proofs.lemmas.Bool.{lt-ltb, le-ltb, ltb-true, ltb-false, cases_lt}
 use Rattle.std.specs.Option.{SomeIff}
-use Rattle.buffa_wire.specs.Varint.{V}
+use Rattle.buffa_wire.specs.Varint.{varint_text}
 use Rattle.buffa_wire.specs.Values.{delimited_text, tag_text}
 use Rattle.buffa_wire.specs.WireType.{wire_number}
 use Rattle.buffa_bytes.specs.declared.wire_type.WireType.{WireType}
 use Rattle.buffa_bytes.specs.declared.wire_type.WireType.TheVariants.{LengthDelimited}
 use Rattle.buffa_bytes.proofs.FieldLemmas.{wire_small}
-use Rattle.buffa_bytes.proofs.ShortestLemmas.{V-last}
+use Rattle.buffa_bytes.proofs.ShortestLemmas.{varint_text-last}
 use Rattle.buffa_map.specs.Codec.{Writing}
 use Rattle.buffa_map.specs.Text.{entry_text, record_text, field_text, field_size, as_u64, saturated}
 
@@ -34,7 +34,7 @@ as_u64-past n h = rw (le-ltb n (2 ^ 64) h) refl
 
 -- a tag of number 1 or 2 has one byte
 small_tag : (n : ℕ) (w : WireType) → n < 15 → length (tag_text n w) ≡ 1
-small_tag n w h = ap length (V-last (8 * n + wire_number w) (omega (arith, wire_small w)))
+small_tag n w h = ap length (varint_text-last (8 * n + wire_number w) (omega (arith, wire_small w)))
 
 module _ {K W : Type 0} (key : Writing K) (val : Writing W) where
   pub length-entry_text : (p : K × W) → length (entry_text key val p) ≡ 2 + (length (key.text p.0) + length (val.text p.1))
@@ -52,7 +52,7 @@ module _ {K W : Type 0} (key : Writing K) (val : Writing W) where
   pub length-field_text : (n : ℕ) (l : List (K × W)) → length (field_text key val n l) ≡ field_size key val (length (tag_text n LengthDelimited)) l
   length-field_text n [] = refl
   length-field_text n (p ∷ ps) =
-      omega (arith, length-field_text n ps, length-append (record_text key val n p) (field_text key val n ps), length-append (tag_text n LengthDelimited) (delimited_text (entry_text key val p)), length-append (V (length (entry_text key val p))) (entry_text key val p))
+      omega (arith, length-field_text n ps, length-append (record_text key val n p) (field_text key val n ps), length-append (tag_text n LengthDelimited) (delimited_text (entry_text key val p)), length-append (varint_text (length (entry_text key val p))) (entry_text key val p))
 
   pub field_size-append : (t : ℕ) (ps qs : List (K × W)) → field_size key val t (ps ++ qs) ≡ field_size key val t ps + field_size key val t qs
   field_size-append t [] qs = omega arith

@@ -6,12 +6,12 @@ use Rattle.buffa_bytes.specs.declared.error.DecodeError.{DecodeError}
 use Rattle.buffa_bytes.specs.declared.error.DecodeError.TheVariants.{OutOfMemory, UnexpectedField}
 use Rattle.buffa_bytes.specs.declared.wire_type.WireType.{WireType}
 use Rattle.buffa_bytes.specs.declared.wire_type.WireType.TheVariants.{LengthDelimited}
-use Rattle.buffa_wire.specs.Left.{Left}
+use Rattle.buffa_wire.specs.BudgetLeft.{BudgetLeft}
 use Rattle.buffa_wire.specs.Reading.{check_wire, tag_at}
 use Rattle.buffa_map.specs.Merge.{MergesEntry, ReadsRun, RefusesEntry, Rules, State, StopsRun}
 use Rattle.buffa_map.specs.Pairs.{SamePairs}
-use Rattle.buffa_map.specs.Run.{Fold, Paid, RecordFault, Run, Said, added}
-use Rattle.buffa_map.proofs.RunLemmas.{Fold-more, Paid-more, Run-last, added-more, entry_falls, record_entry, record_found, record_mismatch, record_needs, record_other, record_tag}
+use Rattle.buffa_map.specs.Run.{fold_entries, Paid, RecordFault, Run, EntryRecord, added}
+use Rattle.buffa_map.proofs.RunLemmas.{fold_entries-more, Paid-more, Run-last, added-more, entry_falls, record_entry, record_found, record_mismatch, record_needs, record_other, record_tag}
 
 some : {bs : List ℕ} → 0 < length bs → bs ≢ []
 some h e = absurd (omega (arith, ap length e))
@@ -24,10 +24,10 @@ module _ {K V : Type 0} (r : Rules K V) (old : State K V) (bs : List ℕ) where
   -- the records of some entries begin the bytes, and were read; rest follows them
   pub record Reached (now : State K V) (rest : List ℕ) : Type 0 where
     pub front : List ℕ
-    pub entries : List (Said K V)
+    pub entries : List (EntryRecord K V)
     pub split : bs ≡ front ++ rest
     pub run : Run r.key r.val r.depth r.number front entries
-    pub folded : SamePairs r.same (Fold r.same old.pairs entries) now.pairs
+    pub folded : SamePairs r.same (fold_entries r.same old.pairs entries) now.pairs
     pub keeps : now.records ≡ old.records ++ added r.adds r.number entries
     pub paid : Paid r.key r.val r.depth r.cost r.slot old.left entries now.left
 
@@ -79,8 +79,8 @@ module _ {K V : Type 0} (r : Rules K V) (old : State K V) (bs : List ℕ) where
         pub stop_entry : (new : State K V) (f : DecodeError) → RefusesEntry r now mid new f → StopsRun r old bs new f
         stop_entry new f k =
             let need = record_needs r.key r.val r.depth r.number rest mid g w tag in
-            let units = ap (λ (z : Left). z.memory) need in
-            let taken = ap (λ (z : Left). z.unknown) need in
+            let units = ap (λ (z : BudgetLeft). z.memory) need in
+            let taken = ap (λ (z : BudgetLeft). z.unknown) need in
             record {
               entries = h.entries;
               rest = rest;
@@ -99,14 +99,14 @@ module _ {K V : Type 0} (r : Rules K V) (old : State K V) (bs : List ℕ) where
 
         pub one_more : IsEquivalence r.same → (new : State K V) (after : List ℕ) → MergesEntry r now mid new after → Reached new after
         one_more laws new after k =
-            let x : Said K V = record { bytes = k.entry; parts = k.says } in
+            let x : EntryRecord K V = record { bytes = k.entry; parts = k.says } in
             let one = record_found r.key r.val r.depth r.number rest mid after g w k.says tag same wire k.entry k.read in
             record {
               front = h.front ++ one.0;
               entries = h.entries ++ x ∷ [];
               split = h.split ∙ ap (λ z. h.front ++ z) one.2 ∙ sym (append_assoc h.front one.0 after);
               run = Run-last r.key r.val r.depth r.number h.front h.entries one.0 x h.run one.1;
-              folded = Fold-more laws old.pairs now.pairs new.pairs h.entries x k.says refl h.folded k.put;
+              folded = fold_entries-more laws old.pairs now.pairs new.pairs h.entries x k.says refl h.folded k.put;
               keeps = added-more r.adds r.number old.records now.records new.records h.entries x h.keeps k.keeps;
               paid = Paid-more r.key r.val r.depth r.cost r.slot old.left now.left new.left h.entries x h.paid k.pays;
             }

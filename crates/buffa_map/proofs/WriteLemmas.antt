@@ -1,7 +1,7 @@
 -- Records written one after another.
 use Rattle.std.proofs.Common.{◌≡◌, ℕ, ◌^◌, ◌<◌, List, [], ◌∷◌, ◌++◌, length, Result, Err, refl, sym, ap, subst, ◌∙◌, append_assoc, append-nil}
 use Rattle.std.proofs.lemmas.Result.{MatchResult-weaker}
-use Rattle.buffa_wire.specs.Varint.{V}
+use Rattle.buffa_wire.specs.Varint.{varint_text}
 use Rattle.buffa_wire.specs.Values.{tag_text}
 use Rattle.buffa_wire.specs.Written.{Writes, WritesFront}
 use Rattle.buffa_bytes.specs.declared.wire_type.WireType.TheVariants.{LengthDelimited}
@@ -16,21 +16,21 @@ use Rattle.buffa_map.specs.Text.{entry_text, record_text, field_text, AllHold, H
 
 module _ {K W : Type 0} (key : Writing K) (val : Writing W) (n : ℕ) where
   -- a record's text: its head, and its entry
-  record_whole : (p : K × W) (len : ℕ) → len ≡ length (entry_text key val p) → (tag_text n LengthDelimited ++ V len) ++ entry_text key val p ≡ record_text key val n p
-  record_whole p len e = ap (λ k. (tag_text n LengthDelimited ++ V k) ++ entry_text key val p) e ∙ append_assoc (tag_text n LengthDelimited) (V (length (entry_text key val p))) (entry_text key val p)
+  record_whole : (p : K × W) (len : ℕ) → len ≡ length (entry_text key val p) → (tag_text n LengthDelimited ++ varint_text len) ++ entry_text key val p ≡ record_text key val n p
+  record_whole p len e = ap (λ k. (tag_text n LengthDelimited ++ varint_text k) ++ entry_text key val p) e ∙ append_assoc (tag_text n LengthDelimited) (varint_text (length (entry_text key val p))) (entry_text key val p)
 
   -- a refusal of the head, as `?` hands it on
   pub head_refused : {T : Type 0} {r : Result T EncodeError} {e d : EncodeError} → r ≡ Err e → e ≡ d → (old new : List ℕ) (p : K × W) (len : ℕ) → len ≡ length (entry_text key val p) →
-      (d ≡ OutOfMemory) × WritesFront old (tag_text n LengthDelimited ++ V len) new → WritesRecord key val n old new r p
+      (d ≡ OutOfMemory) × WritesFront old (tag_text n LengthDelimited ++ varint_text len) new → WritesRecord key val n old new r p
   head_refused is same old new p len l w =
-      rw (is, same, w.0) (subst (λ z. WritesFront old z new) (record_whole p len l) (front_first old (tag_text n LengthDelimited ++ V len) (entry_text key val p) new w.1))
+      rw (is, same, w.0) (subst (λ z. WritesFront old z new) (record_whole p len l) (front_first old (tag_text n LengthDelimited ++ varint_text len) (entry_text key val p) new w.1))
 
   -- the entry behind the head
   pub entry_written : {T : Type 0} (r : Result T EncodeError) (old mid new : List ℕ) (p : K × W) (len : ℕ) → len ≡ length (entry_text key val p) → length (entry_text key val p) < 2 ^ 64 →
-      mid ≡ old ++ (tag_text n LengthDelimited ++ V len) → Writes r mid (entry_text key val p) new → WritesRecord key val n old new r p
+      mid ≡ old ++ (tag_text n LengthDelimited ++ varint_text len) → Writes r mid (entry_text key val p) new → WritesRecord key val n old new r p
   entry_written r old mid new p len l fits m h = MatchResult-weaker r h
-      (λ x w. (fits, w ∙ ap (λ z. z ++ entry_text key val p) m ∙ append_assoc old (tag_text n LengthDelimited ++ V len) (entry_text key val p) ∙ ap (λ z. old ++ z) (record_whole p len l)))
-      (λ e w. subst (RefusesRecord key val n old new p) (sym w.0) (subst (λ z. WritesFront old z new) (record_whole p len l) (front_second old (tag_text n LengthDelimited ++ V len) (entry_text key val p) mid new m w.1)))
+      (λ x w. (fits, w ∙ ap (λ z. z ++ entry_text key val p) m ∙ append_assoc old (tag_text n LengthDelimited ++ varint_text len) (entry_text key val p) ∙ ap (λ z. old ++ z) (record_whole p len l)))
+      (λ e w. subst (RefusesRecord key val n old new p) (sym w.0) (subst (λ z. WritesFront old z new) (record_whole p len l) (front_second old (tag_text n LengthDelimited ++ varint_text len) (entry_text key val p) mid new m w.1)))
 
   pub field_text-append : (ps rs : List (K × W)) → field_text key val n (ps ++ rs) ≡ field_text key val n ps ++ field_text key val n rs
   field_text-append [] rs = refl
@@ -64,7 +64,7 @@ module _ {K W : Type 0} (key : Writing K) (val : Writing W) (n : ℕ) where
 -- ---- a map, and kept records behind it
 module _ {K W : Type 0} (key : Writing K) (val : Writing W) (n : ℕ) (kept : List (ℕ × Datum)) where
   rewrite_stops : (old new : List ℕ) (l : List (K × W)) (e : EncodeError) → RefusesField key val n old new l e → RefusesRewrite key val n kept old new l e
-  rewrite_stops old new l OutOfMemory w = front_first old (field_text key val n l) (records.W kept) new w
+  rewrite_stops old new l OutOfMemory w = front_first old (field_text key val n l) (records.records_text kept) new w
   rewrite_stops old new l MessageTooLarge w = w
   rewrite_stops old new l (GroupRefused e) w = absurd w
 
@@ -73,7 +73,7 @@ module _ {K W : Type 0} (key : Writing K) (val : Writing W) (n : ℕ) (kept : Li
   rewrite_refused {d = d} is same old new l w = rw (is, same) (rewrite_stops old new l d w)
 
   -- the records behind the map
-  pub rewrite_written : {T : Type 0} (r : Result T EncodeError) (old mid new : List ℕ) (l : List (K × W)) → HasText key val l → mid ≡ old ++ field_text key val n l → Writes r mid (records.W kept) new → WritesRewrite key val n kept old new r l
+  pub rewrite_written : {T : Type 0} (r : Result T EncodeError) (old mid new : List ℕ) (l : List (K × W)) → HasText key val l → mid ≡ old ++ field_text key val n l → Writes r mid (records.records_text kept) new → WritesRewrite key val n kept old new r l
   rewrite_written r old mid new l has m h = MatchResult-weaker r h
-      (λ x w. (has, w ∙ ap (λ z. z ++ records.W kept) m ∙ append_assoc old (field_text key val n l) (records.W kept)))
-      (λ e w. subst (RefusesRewrite key val n kept old new l) (sym w.0) (front_second old (field_text key val n l) (records.W kept) mid new m w.1))
+      (λ x w. (has, w ∙ ap (λ z. z ++ records.records_text kept) m ∙ append_assoc old (field_text key val n l) (records.records_text kept)))
+      (λ e w. subst (RefusesRewrite key val n kept old new l) (sym w.0) (front_second old (field_text key val n l) (records.records_text kept) mid new m w.1))

@@ -2,7 +2,7 @@
 use Rattle.std.specs.Prelude.{◌≡◌, ℕ, zero, suc, ◌⊎◌, Bool, true, false, List, Result, Ok, Err, MatchResult}
 use Rattle.buffa_wire.specs.Gives.{◌>>=◌}
 use Rattle.buffa_wire.specs.Content.{Content, TakesContent, ContentFault, content_at}
-use Rattle.buffa_wire.specs.Left.{Left, Lacks, Pays, PaysAtMost, nothing}
+use Rattle.buffa_wire.specs.BudgetLeft.{BudgetLeft, Lacks, Pays, PaysAtMost, nothing}
 use Rattle.buffa_wire.specs.Message.{IsLimit}
 use Rattle.buffa_bytes.specs.declared.wire_type.WireType.{WireType}
 use Rattle.buffa_bytes.specs.declared.error.DecodeError.{DecodeError}
@@ -19,7 +19,7 @@ pub record Reading (V : Type 0) : Type 0 where
   pub wire : WireType
   pub reads : ℕ → V → Content → Result (V × Bool) DecodeError
   pub nested : Bool
-  pub cost : ℕ → Content → Left
+  pub cost : ℕ → Content → BudgetLeft
 
 -- how a codec writes: the wire type, and the payload of a value
 pub record Writing (V : Type 0) : Type 0 where
@@ -41,12 +41,12 @@ value_at codec d old bs = do
   Ok (v, c.1)
 
 -- what is needed by what was read, if it was read
-abbrev pub need_by : {A : Type 0} → Result A DecodeError → (A → Left) → Left
+abbrev pub need_by : {A : Type 0} → Result A DecodeError → (A → BudgetLeft) → BudgetLeft
 need_by (Ok x) f = f x
 need_by (Err e) f = nothing
 
 -- what the payload at the front costs, if there is one
-abbrev pub value_need : {V : Type 0} → Reading V → ℕ → List ℕ → Left
+abbrev pub value_need : {V : Type 0} → Reading V → ℕ → List ℕ → BudgetLeft
 value_need codec d bs = need_by (content_at codec.wire bs) (λ c. codec.cost d c.0)
 
 -- the errors that are told of a fault: itself, and of one inside a nested payload any that is no limit's
@@ -64,12 +64,12 @@ ValueFault codec d old bs e =
 -- ---- what merging a payload promises, where payloads are nested or not
 
 -- why it refuses, where left is left
-abbrev pub Refuses : {V : Type 0} → Bool → Reading V → ℕ → V → List ℕ → Left → DecodeError → Type 0
+abbrev pub Refuses : {V : Type 0} → Bool → Reading V → ℕ → V → List ℕ → BudgetLeft → DecodeError → Type 0
 Refuses false codec d old bs left e = value_at codec d old bs ≡ Err e
 Refuses true codec d old bs left e = Lacks left (value_need codec d bs) ⊎ ValueFault codec d old bs e
 
 -- what it spends: nothing; or exactly the need, and on a refusal at most that
-abbrev pub Spends : {T : Type 0} → Bool → Result T DecodeError → Left → Left → Left → Type 0
+abbrev pub Spends : {T : Type 0} → Bool → Result T DecodeError → BudgetLeft → BudgetLeft → BudgetLeft → Type 0
 Spends false r left need over = over ≡ left
 Spends true r left need over = MatchResult r (λ _. Pays left need over) (λ _. PaysAtMost left need over)
 

@@ -1,7 +1,7 @@
 -- The codec of the crate's own tests: an enum of the numbers 0, 1 and 2, and of no others.
 use Rattle.std.specs.Prelude.{ℕ, nat_lt, true, false, cond, Ok}
 use Rattle.buffa_wire.specs.Content.{number_in}
-use Rattle.buffa_wire.specs.Left.{nothing}
+use Rattle.buffa_wire.specs.BudgetLeft.{nothing}
 use Rattle.buffa_bytes.specs.Scalars.{uint32_of}
 use Rattle.buffa_bytes.specs.declared.wire_type.WireType.TheVariants.{Varint}
 use Rattle.buffa_map.specs.Codec.{Reading}

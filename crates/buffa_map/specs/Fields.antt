@@ -1,29 +1,29 @@
--- What merging the fields of an entry does to what was said, and to a budget.
+-- What merging the fields of an entry does to what was meant_entry, and to a budget.
 use Rattle.std.specs.Prelude.{◌≡◌, ◌≢◌, ℕ, List, ◌⊎◌, Ok}
 use Rattle.buffa_bytes.specs.declared.error.DecodeError.{DecodeError}
 use Rattle.buffa_bytes.specs.declared.error.DecodeError.TheVariants.{OutOfMemory}
-use Rattle.buffa_wire.specs.Left.{Lacks, Left, Pays, PaysAtMost}
+use Rattle.buffa_wire.specs.BudgetLeft.{Lacks, BudgetLeft, Pays, PaysAtMost}
 use Rattle.buffa_map.specs.Codec.{Reading}
 use Rattle.buffa_map.specs.Entry.{FaultOf, FieldFault, IsEntry, blanks, field_at, field_need, need_at}
-use Rattle.buffa_map.specs.declared.parts.Parts.{Parts}
+use Rattle.buffa_map.specs.declared.map_entry.MapEntry.{MapEntry}
 
 module _ {K V : Type 0} (key : Reading K) (val : Reading V) (d : ℕ) where
   -- the field at the front was merged, rest follows it, and what it costs is spent
-  pub record MergesField (old : Parts K V) (left : Left) (bytes : List ℕ) (new : Parts K V) (over : Left) (rest : List ℕ) : Type 0 where
+  pub record MergesField (old : MapEntry K V) (left : BudgetLeft) (bytes : List ℕ) (new : MapEntry K V) (over : BudgetLeft) (rest : List ℕ) : Type 0 where
     pub field : field_at key val d old bytes ≡ Ok (new, rest)
     pub pays : Pays left (field_need key val d bytes) over
 
   -- f is why not; at most what the field costs is spent
-  pub record RefusesField (old : Parts K V) (left : Left) (bytes : List ℕ) (over : Left) (f : DecodeError) : Type 0 where
+  pub record RefusesField (old : MapEntry K V) (left : BudgetLeft) (bytes : List ℕ) (over : BudgetLeft) (f : DecodeError) : Type 0 where
     pub fault : f ≢ OutOfMemory → Lacks left (field_need key val d bytes) ⊎ FieldFault key val d old bytes f
     pub pays : PaysAtMost left (field_need key val d bytes) over
 
   -- the bytes are an entry that says so, and what its fields cost is spent
-  pub record MergesFields (bytes : List ℕ) (left : Left) (says : Parts K V) (over : Left) : Type 0 where
+  pub record MergesFields (bytes : List ℕ) (left : BudgetLeft) (says : MapEntry K V) (over : BudgetLeft) : Type 0 where
     pub entry : IsEntry key val d bytes says
     pub pays : Pays left (need_at key val d (blanks key val d) bytes) over
 
   -- f is why not; at most what its fields cost is spent
-  pub record RefusesFields (bytes : List ℕ) (left over : Left) (f : DecodeError) : Type 0 where
+  pub record RefusesFields (bytes : List ℕ) (left over : BudgetLeft) (f : DecodeError) : Type 0 where
     pub fault : f ≢ OutOfMemory → Lacks left (need_at key val d (blanks key val d) bytes) ⊎ FaultOf key val d bytes f
     pub pays : PaysAtMost left (need_at key val d (blanks key val d) bytes) over

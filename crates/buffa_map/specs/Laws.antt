@@ -8,7 +8,7 @@ use Rattle.buffa_bytes.specs.declared.wire_type.WireType.TheVariants.{LengthDeli
 use Rattle.buffa_wire.specs.Content.{Content, TakesContent}
 use Rattle.buffa_wire.specs.Enums.{DeclaresBlank, Numbers, Refines}
 use Rattle.buffa_wire.specs.Field.{TakesDelimited}
-use Rattle.buffa_wire.specs.Left.{Lacks, Left, nothing, plus, slots, units}
+use Rattle.buffa_wire.specs.BudgetLeft.{Lacks, BudgetLeft, nothing, plus, slots, units}
 use Rattle.buffa_wire.specs.Message.{IsLimit}
 use Rattle.buffa_wire.specs.Number.{IsNumber}
 use Rattle.buffa_wire.specs.Values.{tag_text}
@@ -16,9 +16,9 @@ use Rattle.buffa_map.specs.Codec.{Reading, ValueFault, Writing, level, value_at}
 use Rattle.buffa_map.specs.Entry.{EntryFault, EntryOf, FaultOf, IsEntry, entry_of, inner_need, need_of}
 use Rattle.buffa_map.specs.Enums.{ClosedFits, closed_reading, closed_writing}
 use Rattle.buffa_map.specs.Rewrite.{IsRewrite, KeepsMeaning}
-use Rattle.buffa_map.specs.Run.{Fold, Kept, Paid, Run, RunFault, Said, inner_needs, record_need, run_of}
+use Rattle.buffa_map.specs.Run.{fold_entries, undeclared, Paid, Run, RunFault, EntryRecord, inner_needs, record_need, run_of}
 use Rattle.buffa_map.specs.Text.{AllHold, HasText, field_size, field_text}
-use Rattle.buffa_map.specs.declared.parts.Parts.{Parts}
+use Rattle.buffa_map.specs.declared.map_entry.MapEntry.{MapEntry}
 
 module _ {V : Type 0} (codec : Reading V) where
   -- A payload is read exactly where its wire type has one that the codec takes, and refused exactly where not.
@@ -36,17 +36,17 @@ module _ {K V : Type 0} (key : Reading K) (val : Reading V) where
   -- A whole entry is read exactly where the grammar has it, and refused where the grammar has a fault; where no
   -- payload is a message, with that fault.
   pub record EntriesAreRead : Type 0 where
-    pub ok : (d : ℕ) (e : List ℕ) (s : Parts K V) → (entry_of key val d e ≡ Ok s) ↔ IsEntry key val d e s
+    pub ok : (d : ℕ) (e : List ℕ) (s : MapEntry K V) → (entry_of key val d e ≡ Ok s) ↔ IsEntry key val d e s
     pub err : ArePlain → (d : ℕ) (e : List ℕ) (f : DecodeError) → (entry_of key val d e ≡ Err f) ↔ FaultOf key val d e f
     pub refused : (d : ℕ) (e : List ℕ) (f : DecodeError) → FaultOf key val d e f → (x : DecodeError) × (entry_of key val d e ≡ Err x)
 
   -- the same of a run of records, of which each is paid
   pub record RunsAreRead : Type 0 where
-    pub ok : (d n cost slot : ℕ) (left : Left) (bs : List ℕ) (es : List (Said K V)) (over : Left) →
+    pub ok : (d n cost slot : ℕ) (left : BudgetLeft) (bs : List ℕ) (es : List (EntryRecord K V)) (over : BudgetLeft) →
         (run_of key val d n cost slot left bs ≡ Ok (es, over)) ↔ (Run key val d n bs es × Paid key val d cost slot left es over)
-    pub err : ArePlain → (d n cost slot : ℕ) (left : Left) (bs : List ℕ) (f : DecodeError) →
+    pub err : ArePlain → (d n cost slot : ℕ) (left : BudgetLeft) (bs : List ℕ) (f : DecodeError) →
         (run_of key val d n cost slot left bs ≡ Err f) ↔ RunFault key val d n cost slot left bs f
-    pub refused : (d n cost slot : ℕ) (left : Left) (bs : List ℕ) (f : DecodeError) →
+    pub refused : (d n cost slot : ℕ) (left : BudgetLeft) (bs : List ℕ) (f : DecodeError) →
         RunFault key val d n cost slot left bs f → (x : DecodeError) × (run_of key val d n cost slot left bs ≡ Err x)
 
   -- where no payload is a message, units are all that is needed
@@ -54,36 +54,36 @@ module _ {K V : Type 0} (key : Reading K) (val : Reading V) where
     pub entry : ArePlain → (d cost : ℕ) (e : List ℕ) → need_of key val d cost e ≡ units cost
     pub front : ArePlain → (d : ℕ) (bs : List ℕ) → inner_need key val d bs ≡ nothing
     pub next : ArePlain → (d : ℕ) (bs : List ℕ) → record_need key val d bs ≡ nothing
-    pub run : ArePlain → (d : ℕ) (es : List (Said K V)) → inner_needs key val d es ≡ nothing
+    pub run : ArePlain → (d : ℕ) (es : List (EntryRecord K V)) → inner_needs key val d es ≡ nothing
 
   -- a limit's error is a fault of an entry only where what it needs isn't left: its units, what the messages in it
   -- cost, and its slots
   abbrev pub LimitsAreTrue : Type 0
   LimitsAreTrue =
-      (d cost slot : ℕ) (left : Left) (bs : List ℕ) (f : DecodeError) → EntryFault key val d cost slot left bs f → IsLimit f →
+      (d cost slot : ℕ) (left : BudgetLeft) (bs : List ℕ) (f : DecodeError) → EntryFault key val d cost slot left bs f → IsLimit f →
       (e : List ℕ) × (rest : List ℕ) × TakesDelimited bs e rest × Lacks left (plus (need_of key val d cost e) (slots slot))
 
   -- bytes are an entry, or a run, in one way only, and not while they have a fault
   pub record OneReading : Type 0 where
-    pub entry : (d : ℕ) (e : List ℕ) (s t : Parts K V) → IsEntry key val d e s → IsEntry key val d e t → s ≡ t
-    pub entry_or_fault : (d : ℕ) (e : List ℕ) (s : Parts K V) (f : DecodeError) → IsEntry key val d e s → FaultOf key val d e f → ⊥
+    pub entry : (d : ℕ) (e : List ℕ) (s t : MapEntry K V) → IsEntry key val d e s → IsEntry key val d e t → s ≡ t
+    pub entry_or_fault : (d : ℕ) (e : List ℕ) (s : MapEntry K V) (f : DecodeError) → IsEntry key val d e s → FaultOf key val d e f → ⊥
     -- one length, one entry and one rest begin the bytes
-    pub front : (d : ℕ) (bs e a : List ℕ) (s : Parts K V) (f b : List ℕ) (t : Parts K V) → EntryOf key val d bs e s a → EntryOf key val d bs f t b → (e ≡ f) × (a ≡ b) × (s ≡ t)
+    pub front : (d : ℕ) (bs e a : List ℕ) (s : MapEntry K V) (f b : List ℕ) (t : MapEntry K V) → EntryOf key val d bs e s a → EntryOf key val d bs f t b → (e ≡ f) × (a ≡ b) × (s ≡ t)
     -- an entry that is paid has no fault
-    pub front_or_fault : (d cost slot : ℕ) (left : Left) (bs e rest : List ℕ) (s : Parts K V) (f : DecodeError) → EntryOf key val d bs e s rest →
+    pub front_or_fault : (d cost slot : ℕ) (left : BudgetLeft) (bs e rest : List ℕ) (s : MapEntry K V) (f : DecodeError) → EntryOf key val d bs e s rest →
         (need_of key val d cost e).memory ≤ left.memory → (need_of key val d cost e).unknown + cond s.known 0 slot ≤ left.unknown →
         EntryFault key val d cost slot left bs f → ⊥
-    pub run : (d n : ℕ) (bs : List ℕ) (es fs : List (Said K V)) → Run key val d n bs es → Run key val d n bs fs → es ≡ fs
+    pub run : (d n : ℕ) (bs : List ℕ) (es fs : List (EntryRecord K V)) → Run key val d n bs es → Run key val d n bs fs → es ≡ fs
     -- a run that is paid has no fault
-    pub run_or_fault : (d n cost slot : ℕ) (left over : Left) (bs : List ℕ) (es : List (Said K V)) (f : DecodeError) →
+    pub run_or_fault : (d n cost slot : ℕ) (left over : BudgetLeft) (bs : List ℕ) (es : List (EntryRecord K V)) (f : DecodeError) →
         Run key val d n bs es → Paid key val d cost slot left es over → RunFault key val d n cost slot left bs f → ⊥
 
   -- Two runs, one after the other, are a run of the entries of both; it makes of a map what the second one makes of
   -- what the first one makes of it, and keeps what both keep, in order.
   pub record RunsJoin (eq : K → K → Bool) : Type 0 where
-    pub run : (d n : ℕ) (a b : List ℕ) (es fs : List (Said K V)) → Run key val d n a es → Run key val d n b fs → Run key val d n (a ++ b) (es ++ fs)
-    pub fold : (m : List (K × V)) (es fs : List (Said K V)) → Fold eq m (es ++ fs) ≡ Fold eq (Fold eq m es) fs
-    pub kept : (es fs : List (Said K V)) → Kept (es ++ fs) ≡ Kept es ++ Kept fs
+    pub run : (d n : ℕ) (a b : List ℕ) (es fs : List (EntryRecord K V)) → Run key val d n a es → Run key val d n b fs → Run key val d n (a ++ b) (es ++ fs)
+    pub fold : (m : List (K × V)) (es fs : List (EntryRecord K V)) → fold_entries eq m (es ++ fs) ≡ fold_entries eq (fold_entries eq m es) fs
+    pub kept : (es fs : List (EntryRecord K V)) → undeclared (es ++ fs) ≡ undeclared es ++ undeclared fs
 
 -- the size of a field is the length of its text
 abbrev pub SizeIsLength : {K V : Type 0} → Writing K → Writing V → Type 0
@@ -94,10 +94,10 @@ SizeIsLength {K} {V} key val = (n : ℕ) (l : List (K × V)) → length (field_t
 module _ {K V : Type 0} (key : Reading K) (val : Reading V) (kw : Writing K) (vw : Writing V) (eq : K → K → Bool)
     (KeyFits KeyNormal : K → Type 0) (ValFits ValNormal : V → Type 0) where
   pub record ReadsBack (d n : ℕ) (l : List (K × V)) : Type 0 where
-    pub entries : List (Said K V)
+    pub entries : List (EntryRecord K V)
     pub run : Run key val d n (field_text kw vw n l) entries
-    pub folded : Fold eq [] entries ≡ l
-    pub declared : Kept entries ≡ []
+    pub folded : fold_entries eq [] entries ≡ l
+    pub declared : undeclared entries ≡ []
     pub many : length entries ≡ length l
 
   abbrev pub WrittenIsRead : Type 0
@@ -109,6 +109,6 @@ module _ {K V : Type 0} (key : Reading K) (val : Reading V) (kw : Writing K) (vw
 abbrev pub RewriteMeans : {K : Type 0} → Reading K → Writing K → (K → Type 0) → Type 0
 RewriteMeans {K} key kw KeyFits =
     (same : K → K → Bool) → IsEquivalence same → (e f : Numbers) → DeclaresBlank e → Refines e f →
-    (d n : ℕ) (b out : List ℕ) (es fs : List (Said K ℤ)) → IsNumber n →
+    (d n : ℕ) (b out : List ℕ) (es fs : List (EntryRecord K ℤ)) → IsNumber n →
     Run key (closed_reading e) d n b es → Run key (closed_reading f) d n b fs → IsRewrite same kw closed_writing KeyFits (ClosedFits e) n es out →
-    (gs : List (Said K ℤ)) × Run key (closed_reading f) d n out gs × KeepsMeaning same es fs gs
+    (gs : List (EntryRecord K ℤ)) × Run key (closed_reading f) d n out gs × KeepsMeaning same es fs gs

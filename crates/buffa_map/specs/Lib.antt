@@ -1,5 +1,5 @@
 pub mod Pairs
-pub mod Along
+pub mod Parses
 pub mod Codec
 pub mod Scalars
 pub mod ScalarLaws

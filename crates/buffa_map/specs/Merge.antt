@@ -3,21 +3,21 @@ use Rattle.std.specs.Prelude.{◌≡◌, ◌≢◌, ℕ, ◌+◌, ◌≤◌, Boo
 use Rattle.buffa_bytes.specs.declared.error.DecodeError.{DecodeError}
 use Rattle.buffa_bytes.specs.declared.error.DecodeError.TheVariants.{OutOfMemory}
 use Rattle.buffa_wire.specs.Field.{TakesDelimited}
-use Rattle.buffa_wire.specs.Left.{Left, Pays, plus, slots}
+use Rattle.buffa_wire.specs.BudgetLeft.{BudgetLeft, Pays, plus, slots}
 use Rattle.buffa_wire.specs.Records.{Datum, bytes}
 use Rattle.buffa_map.specs.Codec.{Reading}
 use Rattle.buffa_map.specs.Entry.{EntryFault, EntryOf, inner_need, need_of}
 use Rattle.buffa_map.specs.Pairs.{SamePairs}
-use Rattle.buffa_map.specs.Run.{Fold, Paid, RecordFault, Run, RunBegins, Said, added, record_need, step}
-use Rattle.buffa_map.specs.declared.parts.Parts.{Parts}
+use Rattle.buffa_map.specs.Run.{fold_entries, Paid, RecordFault, Run, RunBegins, EntryRecord, added, record_need, step}
+use Rattle.buffa_map.specs.declared.map_entry.MapEntry.{MapEntry}
 
 -- the pairs of the map, the records that are kept, and what is left of the budget
 pub record State (K V : Type 0) : Type 0 where
   pub pairs : List (K × V)
   pub records : List (ℕ × Datum)
-  pub left : Left
+  pub left : BudgetLeft
 
-abbrev pub state : {K V : Type 0} → List (K × V) → List (ℕ × Datum) → Left → State K V
+abbrev pub state : {K V : Type 0} → List (K × V) → List (ℕ × Datum) → BudgetLeft → State K V
 state pairs records left = record { pairs = pairs; records = records; left = left }
 
 -- how entries are read: by which codecs, under which equality of keys, how deep, under which number, at which
@@ -51,7 +51,7 @@ lending key val same depth number cost (Some list) = keeping key val same depth 
 
 -- the entry at the front of the bytes was read, and rest follows it: it is one step of the fold, or it is kept
 pub record MergesEntry {K V : Type 0} (r : Rules K V) (old : State K V) (bytes : List ℕ) (new : State K V) (rest : List ℕ) : Type 0 where
-  pub says : Parts K V
+  pub says : MapEntry K V
   pub entry : List ℕ
   pub read : EntryOf r.key r.val r.depth bytes entry says rest
   pub put : SamePairs r.same (step r.same old.pairs says) new.pairs
@@ -74,9 +74,9 @@ pub record RefusesEntry {K V : Type 0} (r : Rules K V) (old : State K V) (bytes 
 
 -- the records of some entries are all of the bytes, and were read
 pub record ReadsRun {K V : Type 0} (r : Rules K V) (old : State K V) (bytes : List ℕ) (new : State K V) (rest : List ℕ) : Type 0 where
-  pub entries : List (Said K V)
+  pub entries : List (EntryRecord K V)
   pub run : Run r.key r.val r.depth r.number bytes entries
-  pub folded : SamePairs r.same (Fold r.same old.pairs entries) new.pairs
+  pub folded : SamePairs r.same (fold_entries r.same old.pairs entries) new.pairs
   pub keeps : new.records ≡ old.records ++ added r.adds r.number entries
   pub paid : Paid r.key r.val r.depth r.cost r.slot old.left entries new.left
   pub whole : rest ≡ []
@@ -84,11 +84,11 @@ pub record ReadsRun {K V : Type 0} (r : Rules K V) (old : State K V) (bytes : Li
 -- The records of some entries begin the bytes, and were read; f is why what follows them wasn't. Of what they leave
 -- at most one entry's cost, its slot and what the messages in it cost are gone.
 pub record StopsRun {K V : Type 0} (r : Rules K V) (old : State K V) (bytes : List ℕ) (new : State K V) (f : DecodeError) : Type 0 where
-  pub entries : List (Said K V)
+  pub entries : List (EntryRecord K V)
   pub rest : List ℕ
-  pub over : Left
+  pub over : BudgetLeft
   pub begins : RunBegins r.key r.val r.depth r.number r.cost r.slot old.left bytes entries rest over
-  pub folded : SamePairs r.same (Fold r.same old.pairs entries) new.pairs
+  pub folded : SamePairs r.same (fold_entries r.same old.pairs entries) new.pairs
   pub keeps : new.records ≡ old.records ++ added r.adds r.number entries
   pub some : rest ≢ []
   pub units : new.left.memory ≤ over.memory

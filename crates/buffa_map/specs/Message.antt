@@ -2,7 +2,7 @@
 -- Source: the protobuf encoding guide, "Submessages".
 use Rattle.std.specs.Prelude.{ℕ, Bool, true, List, Option, Some, None, Result, Ok, Err}
 use Rattle.buffa_wire.specs.Content.{bytes_in}
-use Rattle.buffa_wire.specs.Left.{Left}
+use Rattle.buffa_wire.specs.BudgetLeft.{BudgetLeft}
 use Rattle.buffa_wire.specs.Message.{cost_in, merged_in}
 use Rattle.buffa_bytes.specs.declared.wire_type.WireType.TheVariants.{LengthDelimited}
 use Rattle.buffa_bytes.specs.declared.error.DecodeError.{DecodeError}
@@ -14,7 +14,7 @@ abbrev pub meant : {V : Type 0} → Option V → Result (V × Bool) DecodeError
 meant (Some v) = Ok (v, true)
 meant None = Err UnexpectedEof
 
-abbrev pub message_reading : {V : Type 0} → V → (ℕ → V → List ℕ → Option V) → (ℕ → List ℕ → Left) → Reading V
+abbrev pub message_reading : {V : Type 0} → V → (ℕ → V → List ℕ → Option V) → (ℕ → List ℕ → BudgetLeft) → Reading V
 message_reading blank merged cost = record {
   blank = blank;
   wire = LengthDelimited;

@@ -7,7 +7,7 @@ use Rattle.buffa_bytes.specs.declared.error.EncodeError.TheVariants.{OutOfMemory
 use Rattle.buffa_wire.specs.Cache.{Cache, appended}
 use Rattle.buffa_wire.specs.Passes.{IsLonger, IsSmall, WritesIf, cap}
 use Rattle.buffa_wire.specs.Values.{tag_text}
-use Rattle.buffa_wire.specs.Varint.{V}
+use Rattle.buffa_wire.specs.Varint.{varint_text}
 use Rattle.buffa_map.specs.Codec.{Writing}
 use Rattle.buffa_map.specs.Scalars.{delimited_writing}
 use Rattle.buffa_map.specs.Text.{entry_text, field_size, field_text, record_text, saturated}
@@ -15,14 +15,14 @@ use Rattle.buffa_map.specs.Text.{entry_text, field_size, field_text, record_text
 -- a message whose length is known: the entry's length, and what stands before the message's text in its record of number n
 module _ {K : Type 0} (key : Writing K) where
   abbrev pub entry_size : K → ℕ → ℕ
-  entry_size k inner = 2 + (length (key.text k) + (length (V inner) + inner))
+  entry_size k inner = 2 + (length (key.text k) + (length (varint_text inner) + inner))
 
   -- the key field, and the tag and the length of the value
   abbrev pub key_and_length : K → ℕ → List ℕ
-  key_and_length k inner = (tag_text 1 key.wire ++ key.text k) ++ (tag_text 2 LengthDelimited ++ V inner)
+  key_and_length k inner = (tag_text 1 key.wire ++ key.text k) ++ (tag_text 2 LengthDelimited ++ varint_text inner)
 
   abbrev pub head_text : ℕ → K → ℕ → List ℕ
-  head_text n k inner = (tag_text n LengthDelimited ++ V (saturated (entry_size k inner))) ++ key_and_length k inner
+  head_text n k inner = (tag_text n LengthDelimited ++ varint_text (saturated (entry_size k inner))) ++ key_and_length k inner
 
 -- for each pair in order the capped length of the message's text, and then its own slots
 abbrev pub field_slots : {K M : Type 0} → (M → List ℕ) → (M → List ℕ) → List (K × M) → List ℕ

@@ -22,5 +22,5 @@ module _ {K V : Type 0} (eq : K → K → Bool) where
   SamePairs m n = (q : K) → lookup_entry (eq q) m ≡ lookup_entry (eq q) n
 
   -- l holds each pair of m once
-  abbrev pub Enum : List (K × V) → List (K × V) → Type 0
-  Enum m l = IsDistinct eq (keys_of l) × SamePairs m l
+  abbrev pub ListsOnce : List (K × V) → List (K × V) → Type 0
+  ListsOnce m l = IsDistinct eq (keys_of l) × SamePairs m l

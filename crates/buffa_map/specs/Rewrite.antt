@@ -2,26 +2,26 @@
 -- know. And when that means to a reader of another enum, who knows more, what the run means.
 use Rattle.std.specs.Prelude.{◌≡◌, ◌≢◌, ℕ, Bool, true, ◌&&◌, not, List, [], ◌∷◌, ◌++◌, Option, None, Some, IfSome, OnOk, Result, MatchResult}
 use Rattle.std.specs.List.{filter}
-use Rattle.buffa_wire.specs.Left.{Left}
-use Rattle.buffa_wire.specs.Text.{W}
+use Rattle.buffa_wire.specs.BudgetLeft.{BudgetLeft}
+use Rattle.buffa_wire.specs.Text.{records_text}
 use Rattle.buffa_wire.specs.Records.{Datum}
 use Rattle.buffa_wire.specs.Written.{WritesFront}
 use Rattle.buffa_bytes.specs.declared.error.DecodeError.{DecodeError}
 use Rattle.buffa_bytes.specs.declared.error.EncodeError.{EncodeError}
 use Rattle.buffa_bytes.specs.declared.error.EncodeError.TheVariants.{GroupRefused, MessageTooLarge, OutOfMemory}
 use Rattle.buffa_map.specs.Codec.{Writing}
-use Rattle.buffa_map.specs.Pairs.{Enum, SamePairs}
+use Rattle.buffa_map.specs.Pairs.{ListsOnce, SamePairs}
 use Rattle.buffa_map.specs.Merge.{Rules, StopsRun, state}
-use Rattle.buffa_map.specs.Run.{Said, Fold, Kept, Paid, Run, kept_records}
+use Rattle.buffa_map.specs.Run.{EntryRecord, fold_entries, undeclared, Paid, Run, undeclared_records}
 use Rattle.buffa_map.specs.Text.{AllHold, HasText, RefusesField, field_text}
 use Rattle.buffa_map.specs.declared.rewrite.RewriteError.{RewriteError}
 use Rattle.buffa_map.specs.declared.rewrite.RewriteError.TheVariants.{Decode, Encode}
 
 -- out is a text of the map that the entries es make of the empty one, its pairs in any order, and behind it a
--- record for each entry of es that isn't declared, in order
-abbrev pub IsRewrite : {K V : Type 0} → (K → K → Bool) → Writing K → Writing V → (K → Type 0) → (V → Type 0) → ℕ → List (Said K V) → List ℕ → Type 0
+-- record for each entry of es that is undeclared, in order
+abbrev pub IsRewrite : {K V : Type 0} → (K → K → Bool) → Writing K → Writing V → (K → Type 0) → (V → Type 0) → ℕ → List (EntryRecord K V) → List ℕ → Type 0
 IsRewrite {K} {V} eq key val KeyFits ValFits n es out =
-    (l : List (K × V)) × Enum eq (Fold eq [] es) l × HasText key val l × AllHold KeyFits ValFits l × (out ≡ field_text key val n l ++ W (kept_records n es))
+    (l : List (K × V)) × ListsOnce eq (fold_entries eq [] es) l × HasText key val l × AllHold KeyFits ValFits l × (out ≡ field_text key val n l ++ records_text (undeclared_records n es))
 
 -- an entry to two readers of one run: its key, and whether its value is one that the first, and that the second reader's enum declares
 pub record Seen (K : Type 0) : Type 0 where
@@ -30,7 +30,7 @@ pub record Seen (K : Type 0) : Type 0 where
   pub informed : Bool
 
 -- the entries of one run, read by two readers
-abbrev pub seen : {K V : Type 0} → List (Said K V) → List (Said K V) → List (Seen K)
+abbrev pub seen : {K V : Type 0} → List (EntryRecord K V) → List (EntryRecord K V) → List (Seen K)
 seen [] fs = []
 seen (x ∷ es) [] = []
 seen (x ∷ es) (y ∷ fs) = record { key = y.parts.key; ignorant = x.parts.known; informed = y.parts.known } ∷ seen es fs
@@ -56,17 +56,17 @@ IsOrderedClass xs =
     × IfSome (first (filter (λ x. x.ignorant) xs)) (λ x. IfSome (first (filter (λ y. y.informed) xs)) (λ y. y.key ≡ x.key))
 
 -- the order condition, for each class of entries with equal keys
-abbrev pub Ordered : {K V : Type 0} → (K → K → Bool) → List (Said K V) → List (Said K V) → Type 0
+abbrev pub Ordered : {K V : Type 0} → (K → K → Bool) → List (EntryRecord K V) → List (EntryRecord K V) → Type 0
 Ordered {K} eq es fs = (q : K) → IsOrderedClass (filter (λ x. eq q x.key) (seen es fs))
 
 -- What the entries gs of a rewrite have to do with the entries fs of the run, both as the informed reader has
 -- them, where es are the run's to the ignorant one. What the informed reader keeps is kept, in order; if the
 -- run is ordered, both make one map of any old map; and only then do both make one map of the empty one.
-abbrev pub KeepsMeaning : {K V : Type 0} → (K → K → Bool) → List (Said K V) → List (Said K V) → List (Said K V) → Type 0
+abbrev pub KeepsMeaning : {K V : Type 0} → (K → K → Bool) → List (EntryRecord K V) → List (EntryRecord K V) → List (EntryRecord K V) → Type 0
 KeepsMeaning {K} {V} eq es fs gs =
-    (Kept gs ≡ Kept fs)
-    × (Ordered eq es fs → (m : List (K × V)) → SamePairs eq (Fold eq m gs) (Fold eq m fs))
-    × (SamePairs eq (Fold eq [] gs) (Fold eq [] fs) → Ordered eq es fs)
+    (undeclared gs ≡ undeclared fs)
+    × (Ordered eq es fs → (m : List (K × V)) → SamePairs eq (fold_entries eq m gs) (fold_entries eq m fs))
+    × (SamePairs eq (fold_entries eq [] gs) (fold_entries eq [] fs) → Ordered eq es fs)
 
 -- ---- what is written
 
@@ -74,47 +74,47 @@ module _ {K V : Type 0} (key : Writing K) (val : Writing V) (n : ℕ) (kept : Li
   -- Memory ran out after a beginning of the text of l and of the kept records; or an entry of l is too long,
   -- and the records of the pairs before it were written.
   abbrev pub RefusesRewrite : List (K × V) → EncodeError → Type 0
-  RefusesRewrite l OutOfMemory = WritesFront old (field_text key val n l ++ W kept) new
+  RefusesRewrite l OutOfMemory = WritesFront old (field_text key val n l ++ records_text kept) new
   RefusesRewrite l MessageTooLarge = RefusesField key val n old new l MessageTooLarge
   RefusesRewrite l (GroupRefused e) = ⊥
 
   -- the text of l and of the kept records was written, or refused
   abbrev pub WritesRewrite : {T : Type 0} → Result T EncodeError → List (K × V) → Type 0
-  WritesRewrite r l = MatchResult r (λ _. HasText key val l × (new ≡ old ++ (field_text key val n l ++ W kept))) (RefusesRewrite l)
+  WritesRewrite r l = MatchResult r (λ _. HasText key val l × (new ≡ old ++ (field_text key val n l ++ records_text kept))) (RefusesRewrite l)
 
 -- a map was walked once, and its text and the kept records' were written, or refused
 pub record WritesWalk {K V : Type 0} (eq : K → K → Bool) (key : Writing K) (val : Writing V) (KeyFits : K → Type 0) (ValFits : V → Type 0) (n : ℕ) (pairs : List (K × V)) (kept : List (ℕ × Datum)) (old : List ℕ) {T : Type 0} (r : Result T EncodeError) (new : List ℕ) : Type 0 where
   pub walk : List (K × V)
-  pub once : Enum eq pairs walk
+  pub once : ListsOnce eq pairs walk
   pub text : WritesRewrite key val n kept old new r walk
   pub fits : OnOk r (AllHold KeyFits ValFits walk)
 
 -- ---- what a rewrite does
 
 -- the records of the bytes were read into an empty map; and the rewrite was written
-pub record RewritesRun {K V : Type 0} (r : Rules K V) (key : Writing K) (val : Writing V) (KeyFits : K → Type 0) (ValFits : V → Type 0) (left : Left) (bytes : List ℕ) (new : List (K × V)) (over : Left) (rest : List ℕ) (old written : List ℕ) : Type 0 where
-  pub entries : List (Said K V)
+pub record RewritesRun {K V : Type 0} (r : Rules K V) (key : Writing K) (val : Writing V) (KeyFits : K → Type 0) (ValFits : V → Type 0) (left : BudgetLeft) (bytes : List ℕ) (new : List (K × V)) (over : BudgetLeft) (rest : List ℕ) (old written : List ℕ) : Type 0 where
+  pub entries : List (EntryRecord K V)
   pub out : List ℕ
   pub run : Run r.key r.val r.depth r.number bytes entries
-  pub folded : SamePairs r.same (Fold r.same [] entries) new
+  pub folded : SamePairs r.same (fold_entries r.same [] entries) new
   pub rewrite : IsRewrite r.same key val KeyFits ValFits r.number entries out
   pub text : written ≡ old ++ out
   pub paid : Paid r.key r.val r.depth r.cost r.slot left entries over
   pub whole : rest ≡ []
 
 -- f is why the bytes were refused; the entries before it stand in the map, and nothing was written
-abbrev pub RefusesBytes : {K V : Type 0} → Rules K V → Left → List ℕ → List (K × V) → Left → List ℕ → List ℕ → DecodeError → Type 0
+abbrev pub RefusesBytes : {K V : Type 0} → Rules K V → BudgetLeft → List ℕ → List (K × V) → BudgetLeft → List ℕ → List ℕ → DecodeError → Type 0
 RefusesBytes r left bytes new over old written f =
     (kept : List (ℕ × Datum)) × StopsRun r (state [] [] left) bytes (state new kept over) f × (written ≡ old)
 
 -- the records were read, and e is why the text wasn't written whole
-pub record RefusesOutput {K V : Type 0} (r : Rules K V) (key : Writing K) (val : Writing V) (left : Left) (bytes : List ℕ) (new : List (K × V)) (over : Left) (rest : List ℕ) (old written : List ℕ) (e : EncodeError) : Type 0 where
-  pub entries : List (Said K V)
+pub record RefusesOutput {K V : Type 0} (r : Rules K V) (key : Writing K) (val : Writing V) (left : BudgetLeft) (bytes : List ℕ) (new : List (K × V)) (over : BudgetLeft) (rest : List ℕ) (old written : List ℕ) (e : EncodeError) : Type 0 where
+  pub entries : List (EntryRecord K V)
   pub walk : List (K × V)
   pub run : Run r.key r.val r.depth r.number bytes entries
-  pub folded : SamePairs r.same (Fold r.same [] entries) new
-  pub once : Enum r.same (Fold r.same [] entries) walk
-  pub text : RefusesRewrite key val r.number (kept_records r.number entries) old written walk e
+  pub folded : SamePairs r.same (fold_entries r.same [] entries) new
+  pub once : ListsOnce r.same (fold_entries r.same [] entries) walk
+  pub text : RefusesRewrite key val r.number (undeclared_records r.number entries) old written walk e
   pub paid : Paid r.key r.val r.depth r.cost r.slot left entries over
   pub whole : rest ≡ []
 

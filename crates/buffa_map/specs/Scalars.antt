@@ -6,9 +6,9 @@ use Rattle.std.specs.Int.{to_le_bytes, w32, w64}
 use Rattle.std.specs.Str.{is_utf8}
 use Rattle.buffa_wire.specs.Gives.{◌>>=◌}
 use Rattle.buffa_wire.specs.Content.{number_in, bytes_in}
-use Rattle.buffa_wire.specs.Left.{nothing}
+use Rattle.buffa_wire.specs.BudgetLeft.{nothing}
 use Rattle.buffa_wire.specs.Values.{delimited_text}
-use Rattle.buffa_wire.specs.Varint.{V}
+use Rattle.buffa_wire.specs.Varint.{varint_text}
 use Rattle.buffa_bytes.specs.Texts.{text_as}
 use Rattle.buffa_bytes.specs.declared.wire_type.WireType.{WireType}
 use Rattle.buffa_bytes.specs.declared.wire_type.WireType.TheVariants.{Varint, Fixed64, LengthDelimited, Fixed32}
@@ -30,7 +30,7 @@ string_reading blank of = record { blank = blank; wire = LengthDelimited; reads 
 -- ---- writing: the number, or the bytes, of a value
 
 abbrev pub varint_writing : {V : Type 0} → (V → ℕ) → Writing V
-varint_writing num = record { wire = Varint; text = λ v. V (num v) }
+varint_writing num = record { wire = Varint; text = λ v. varint_text (num v) }
 
 -- four bytes, the lowest first
 abbrev pub four_writing : {V : Type 0} → (V → ℕ) → Writing V

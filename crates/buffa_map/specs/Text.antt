@@ -1,6 +1,6 @@
 -- The text of a map field, and its size. Source: the protobuf encoding guide, "Maps".
 use Rattle.std.specs.Prelude.{◌≡◌, ℕ, ◌+◌, ◌-◌, ◌^◌, ◌<◌, List, [], ◌∷◌, ◌++◌, length, min, nat_lt, Option, None, Some, if◌then◌else◌, ◌≤◌, Result, MatchResult}
-use Rattle.buffa_wire.specs.Varint.{V}
+use Rattle.buffa_wire.specs.Varint.{varint_text}
 use Rattle.buffa_wire.specs.Values.{delimited_text, tag_text}
 use Rattle.buffa_bytes.specs.declared.wire_type.WireType.TheVariants.{LengthDelimited}
 use Rattle.buffa_wire.specs.Written.{WritesFront}
@@ -30,7 +30,7 @@ module _ {K W : Type 0} (key : Writing K) (val : Writing W) where
   -- the sum of the records' lengths, where t is the length of the field's tag
   abbrev pub field_size : ℕ → List (K × W) → ℕ
   field_size t [] = 0
-  field_size t (p ∷ ps) = t + (length (V (length (entry_text p))) + length (entry_text p)) + field_size t ps
+  field_size t (p ∷ ps) = t + (length (varint_text (length (entry_text p))) + length (entry_text p)) + field_size t ps
 
 -- each key is P, and each value is Q
 abbrev pub AllHold : {K W : Type 0} → (K → Type 0) → (W → Type 0) → List (K × W) → Type 0

@@ -1,10 +1,11 @@
 //! Codecs: how the keys and values of a map field are read and written.
 
-ghost use Rattle.std.specs.Prelude.{◌≡◌, ◌≢◌, ℕ, Bool, List, Option, Some, false, true, length, Ok, Err, IfErr, IfOk, OnErr};
+ghost use Rattle.std.specs.Prelude.{◌≡◌, ◌≢◌, ℕ, Bool, List, Option, Some, false, true, length, Ok, Err, IfErr, IfOk};
+ghost use Rattle.std.specs.Prelude.{OnErr};
 ghost use Rattle.buffa_bytes.specs.declared.error.DecodeError.TheVariants.{OutOfMemory};
 ghost use Rattle.buffa_bytes.specs.declared.wire_type.WireType.{WireType};
 ghost use Rattle.buffa_wire.specs.Content.{Content, HasContent};
-ghost use Rattle.buffa_wire.specs.Left.{left_in, nothing};
+ghost use Rattle.buffa_wire.specs.BudgetLeft.{budget_left, nothing};
 ghost use Rattle.buffa_wire.specs.Message.{IsLimit};
 ghost use Rattle.buffa_wire.specs.Written.{Writes};
 ghost use Rattle.buffa_bytes.specs.declared.error.DecodeError.{DecodeError};
@@ -14,7 +15,7 @@ use buffa_wire::{Blank, Buf, DecodeContext, DecodeError, EncodeError, EncodeSink
 use std::alloc::Global;
 
 pub(crate) mod sealed {
-    /// Codecs are those of this crate: the rules of the wire can't be said by a type.
+    /// Codecs are those of this crate: the rules of the wire can't be meant_entry by a type.
     pub trait Sealed {}
 }
 
@@ -41,7 +42,7 @@ pub trait MapValueDecode: sealed::Sealed {
     /// The wire type of the payloads.
     const WIRE_TYPE: WireType;
 
-    /// Whether a payload may hold a value that isn't declared.
+    /// Whether a payload may hold a value that is undeclared.
     const MAY_RETURN_UNKNOWN: bool;
 
     /// The units of element memory that a value costs.
@@ -59,7 +60,7 @@ pub trait MapValueDecode: sealed::Sealed {
     /// Reads the payload at the front into the value.
     ///
     /// # Errors
-    /// The first fault of the payload, or want of memory; the value is as it was then, and nothing is spent.
+    /// The first fault of the payload, or out of memory; the value is as it was then, and nothing is spent.
     /// Of a message's inside any error, but a limit's only where its cost isn't left; the value is then some
     /// value of its type.
     fn merge<B: Buf>(
@@ -68,17 +69,23 @@ pub trait MapValueDecode: sealed::Sealed {
         buf: &mut B,
         ctx: DecodeContext<'_>,
     ) -> Result<MapValueDecodeStatus, DecodeError>
-        ensures ok { IfOk result (λ s. value_at reading ctx.entry.depth (Self.Value.meaning value.old) (B.unread buf.old) ≡ Ok ((Self.Value.meaning value.new, is_known s), B.unread buf.new)) }
-        ensures fault { IfErr result (λ e. e ≢ OutOfMemory → Refuses reading.nested reading ctx.entry.depth (Self.Value.meaning value.old) (B.unread buf.old) ctx.entry.budget.now e) }
-        ensures err { OnErr result (reading.nested ≡ false → Self.Value.meaning value.new ≡ Self.Value.meaning value.old) }
-        ensures kept { B.kept buf.new ≡ B.kept buf.old }
-        ensures spends { Spends reading.nested result ctx.entry.budget.now (value_need reading ctx.entry.depth (B.unread buf.old)) (left_in ctx.exit) };
+        ensures ok { IfOk result (λ s. value_at reading ctx.entry.depth (Self.Value.meaning value.old)
+            (B.unread buf.old) ≡ Ok ((Self.Value.meaning value.new, is_known s), B.unread buf.new)) }
+        ensures fault { IfErr result (λ e. e ≢ OutOfMemory →
+            Refuses reading.nested reading ctx.entry.depth (Self.Value.meaning value.old) (B.unread buf.old)
+            ctx.entry.budget.now e) }
+        ensures err { OnErr result (reading.nested ≡ false → Self.Value.meaning value.new
+            ≡ Self.Value.meaning value.old) }
+        ensures kept { B.beyond buf.new ≡ B.beyond buf.old }
+        ensures spends { Spends reading.nested result ctx.entry.budget.now
+            (value_need reading ctx.entry.depth (B.unread buf.old)) (budget_left ctx.exit) };
 
     /// Plain payloads cost nothing.
     ghost free: { reading.nested ≡ false → (d : ℕ) (c : Content) → reading.cost d c ≡ nothing };
 
     /// No fault that the reading has is a limit's.
-    ghost no_limit: { (d : ℕ) (old : Self.Value.Meaning) (c : Content) (x : DecodeError) → reading.reads d old c ≡ Err x → IsLimit x → ⊥ };
+    ghost no_limit: { (d : ℕ) (old : Self.Value.Meaning) (c : Content) (x : DecodeError) → reading.reads d old c
+        ≡ Err x → IsLimit x → ⊥ };
 
     /// The reading cuts payloads of the wire type.
     ghost wire: { reading.wire ≡ WIRE_TYPE };
@@ -86,8 +93,10 @@ pub trait MapValueDecode: sealed::Sealed {
     /// The reading starts with the default of the values.
     ghost blank: { reading.blank ≡ Self.Value.blank_is };
 
-    /// Undeclared values come only where that is said.
-    ghost declared: { MAY_RETURN_UNKNOWN ≡ false → (d : ℕ) (old : Self.Value.Meaning) (c : Content) (new : Self.Value.Meaning) (known : Bool) → reading.reads d old c ≡ Ok (new, known) → known ≡ true };
+    /// Undeclared values come only where that is meant_entry.
+    ghost declared: { MAY_RETURN_UNKNOWN ≡ false →
+        (d : ℕ) (old : Self.Value.Meaning) (c : Content) (new : Self.Value.Meaning) (known : Bool) →
+        reading.reads d old c ≡ Ok (new, known) → known ≡ true };
 }
 
 /// How the payloads of one proto type are read and written.
@@ -121,7 +130,8 @@ pub trait MapCodec: MapValueDecode {
     /// # Errors
     /// [`EncodeError::OutOfMemory`] alone, after a beginning of the payload.
     fn encode<S: EncodeSink>(value: &Self::Value, sink: &mut S) -> Result<(), EncodeError>
-        ensures { Writes result (S.written sink.old) (writing.text (Self.Value.meaning value.now)) (S.written sink.new) };
+        ensures { Writes result (S.written sink.old) (writing.text (Self.Value.meaning value.now))
+            (S.written sink.new) };
 
     /// What is written here is no message.
     ghost plain: { Self.reading.nested ≡ false };
@@ -137,7 +147,8 @@ pub trait MapCodec: MapValueDecode {
     ghost blank_normal: { normal Self.Value.blank_is };
 
     /// What is read is normal, where what stood was, so that what a map took in is written and read back.
-    ghost stays_normal: { (d : ℕ) (old : Self.Value.Meaning) (c : Content) (new : Self.Value.Meaning) (known : Bool) → normal old → Self.reading.reads d old c ≡ Ok (new, known) → normal new };
+    ghost stays_normal: { (d : ℕ) (old : Self.Value.Meaning) (c : Content) (new : Self.Value.Meaning)
+        (known : Bool) → normal old → Self.reading.reads d old c ≡ Ok (new, known) → normal new };
 
     /// The fixed length is that of every payload.
     ghost fixed: { (n : ℕ) → FIXED_LEN ≡ Some n → (v : Self.Value.Meaning) → length (writing.text v) ≡ n };

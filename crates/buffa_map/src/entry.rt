@@ -2,7 +2,7 @@
 
 ghost use Rattle.std.specs.Prelude.{◌≡◌, ◌+◌, ◌<◌, [], IfErr, OnErr, OnOk};
 ghost use Rattle.buffa_bytes.specs.declared.error.DecodeError.TheVariants.{ElementMemoryLimitExceeded};
-ghost use Rattle.buffa_wire.specs.Left.{left_in};
+ghost use Rattle.buffa_wire.specs.BudgetLeft.{budget_left};
 ghost use Rattle.buffa_map.specs.Lent.{records_in, records_left};
 ghost use Rattle.buffa_map.specs.Merge.{MergesEntry, RefusesEntry, dropping, lending, rules, state};
 
@@ -17,7 +17,8 @@ use std::alloc::Global;
 
 // Spends the cost of a pair. A sum past what a number of units can be is more than any budget has.
 fn charge(budget: &mut Budget, key: usize, value: usize) -> Result<(), DecodeError>
-    ensures ok { OnOk result ((budget.new.memory + (key + value) ≡ budget.old.memory) × (budget.new.unknown ≡ budget.old.unknown)) }
+    ensures ok { OnOk result ((budget.new.memory + (key + value) ≡ budget.old.memory)
+        × (budget.new.unknown ≡ budget.old.unknown)) }
     ensures err { OnErr result ((budget.old.memory < key + value) × (budget.new ≡ budget.old)) }
     ensures which { IfErr result (λ e. e ≡ ElementMemoryLimitExceeded) }
 {
@@ -28,7 +29,7 @@ fn charge(budget: &mut Budget, key: usize, value: usize) -> Result<(), DecodeErr
     }
 }
 
-// Merges one entry; one that isn't declared goes to the keeper.
+// Merges one entry; one that is undeclared goes to the keeper.
 pub(crate) fn merge_entry_by<
     KC: MapCodec,
     W: MergeValue,
@@ -47,13 +48,13 @@ pub(crate) fn merge_entry_by<
     requires { W.may how.now ctx.depth }
     ensures ok { OnOk result (MergesEntry
         (rules KC.reading W.reading C.equal ctx.entry.depth number (KC.COST + W.COST) L.slot L.adds)
-        (state (C.pairs map.old) (L.kept keeper.old) ctx.entry.budget.now) (B.unread buf.old)
-        (state (C.pairs map.new) (L.kept keeper.new) (left_in ctx.exit)) (B.unread buf.new)) }
+        (state (C.pairs map.old) (L.records keeper.old) ctx.entry.budget.now) (B.unread buf.old)
+        (state (C.pairs map.new) (L.records keeper.new) (budget_left ctx.exit)) (B.unread buf.new)) }
     ensures err { IfErr result (RefusesEntry
         (rules KC.reading W.reading C.equal ctx.entry.depth number (KC.COST + W.COST) L.slot L.adds)
-        (state (C.pairs map.old) (L.kept keeper.old) ctx.entry.budget.now) (B.unread buf.old)
-        (state (C.pairs map.new) (L.kept keeper.new) (left_in ctx.exit))) }
-    ensures kept { B.kept buf.new ≡ B.kept buf.old }
+        (state (C.pairs map.old) (L.records keeper.old) ctx.entry.budget.now) (B.unread buf.old)
+        (state (C.pairs map.new) (L.records keeper.new) (budget_left ctx.exit))) }
+    ensures kept { B.beyond buf.new ≡ B.beyond buf.old }
 {
     let DecodeContext { depth, budget } = ctx;
     let entry = decode_bytes(alloc, buf)?;
@@ -76,7 +77,7 @@ pub(crate) fn merge_entry_by<
 /// Merges one entry of a map field, its length varint first, into the map.
 ///
 /// Key and value start as defaults, each occurrence is merged in order, and other fields are skipped at
-/// the context's depth. A declared pair is put into the map; one with a value that isn't declared is
+/// the context's depth. A declared pair is put into the map; one with a value that is undeclared is
 /// dropped. Each entry costs `KC::COST + VC::COST` units of element memory.
 ///
 /// # Errors
@@ -99,18 +100,18 @@ pub fn merge_entry<
     ensures ok { OnOk result (MergesEntry
         (dropping KC.reading VC.reading C.equal ctx.entry.depth 0 (KC.COST + VC.COST))
         (state (C.pairs map.old) [] ctx.entry.budget.now) (B.unread buf.old)
-        (state (C.pairs map.new) [] (left_in ctx.exit)) (B.unread buf.new)) }
+        (state (C.pairs map.new) [] (budget_left ctx.exit)) (B.unread buf.new)) }
     ensures err { IfErr result (RefusesEntry
         (dropping KC.reading VC.reading C.equal ctx.entry.depth 0 (KC.COST + VC.COST))
         (state (C.pairs map.old) [] ctx.entry.budget.now) (B.unread buf.old)
-        (state (C.pairs map.new) [] (left_in ctx.exit))) }
-    ensures kept { B.kept buf.new ≡ B.kept buf.old }
+        (state (C.pairs map.new) [] (budget_left ctx.exit))) }
+    ensures kept { B.beyond buf.new ≡ B.beyond buf.old }
 {
     let how = ByCodec::<VC>::new();
     merge_entry_by::<KC, _, C, B, Dropped>(alloc, map, buf, ctx, 0, &how, &mut Dropped)
 }
 
-/// The same, where an entry with a value that isn't declared is kept, if a list is handed in.
+/// The same, where an entry with a value that is undeclared is kept, if a list is passed.
 ///
 /// It is appended to the list as a length-delimited record of the field's `number`, byte for byte as it
 /// was read, and takes one slot of the budget of unknown fields. Without a list it is dropped, and takes
@@ -141,12 +142,12 @@ pub fn merge_entry_with_unknowns<
     ensures ok { OnOk result (MergesEntry
         (lending KC.reading VC.reading C.equal ctx.entry.depth number (KC.COST + VC.COST) unknown.entry)
         (state (C.pairs map.old) (records_in unknown.entry) ctx.entry.budget.now) (B.unread buf.old)
-        (state (C.pairs map.new) (records_left unknown.exit) (left_in ctx.exit)) (B.unread buf.new)) }
+        (state (C.pairs map.new) (records_left unknown.exit) (budget_left ctx.exit)) (B.unread buf.new)) }
     ensures err { IfErr result (RefusesEntry
         (lending KC.reading VC.reading C.equal ctx.entry.depth number (KC.COST + VC.COST) unknown.entry)
         (state (C.pairs map.old) (records_in unknown.entry) ctx.entry.budget.now) (B.unread buf.old)
-        (state (C.pairs map.new) (records_left unknown.exit) (left_in ctx.exit))) }
-    ensures kept { B.kept buf.new ≡ B.kept buf.old }
+        (state (C.pairs map.new) (records_left unknown.exit) (budget_left ctx.exit))) }
+    ensures kept { B.beyond buf.new ≡ B.beyond buf.old }
 {
     let how = ByCodec::<VC>::new();
     match unknown {

@@ -1,31 +1,32 @@
 //! The fields of an entry.
 
 ghost use Rattle.std.specs.Prelude.{◌≡◌, IfErr, IfOk, OnOk};
-ghost use Rattle.buffa_wire.specs.Left.{left_in};
-ghost use Rattle.buffa_map.specs.Entry.{said};
+ghost use Rattle.buffa_wire.specs.BudgetLeft.{budget_left};
+ghost use Rattle.buffa_map.specs.Entry.{meant_entry};
 ghost use Rattle.buffa_map.specs.Fields.{MergesField, MergesFields, RefusesField, RefusesFields};
 
 use crate::codec::{MapValueDecode, MapValueDecodeStatus};
 use crate::merge_value::MergeValue;
-use crate::parts::Parts;
+use crate::map_entry::MapEntry;
 use buffa_wire::{Blank, Buf, DecodeContext, DecodeError, Tag, check_wire_type, skip_field_depth};
 use std::alloc::Global;
 
 // Merges the field at the front.
 fn merge_field<KC: MapValueDecode, W: MergeValue, B: Buf>(
     alloc: Global,
-    parts: &mut Parts<KC::Value, W::Value>,
+    parts: &mut MapEntry<KC::Value, W::Value>,
     buf: &mut B,
     ctx: DecodeContext<'_>,
     how: &W,
 ) -> Result<(), DecodeError>
     requires { W.may how.now ctx.depth }
     ensures ok { OnOk result (MergesField KC.reading W.reading ctx.entry.depth
-        (said KC.Value.meaning W.Value.meaning parts.old) ctx.entry.budget.now (B.unread buf.old)
-        (said KC.Value.meaning W.Value.meaning parts.new) (left_in ctx.exit) (B.unread buf.new)) }
+        (meant_entry KC.Value.meaning W.Value.meaning parts.old) ctx.entry.budget.now (B.unread buf.old)
+        (meant_entry KC.Value.meaning W.Value.meaning parts.new) (budget_left ctx.exit) (B.unread buf.new)) }
     ensures err { IfErr result (RefusesField KC.reading W.reading ctx.entry.depth
-        (said KC.Value.meaning W.Value.meaning parts.old) ctx.entry.budget.now (B.unread buf.old) (left_in ctx.exit)) }
-    ensures kept { B.kept buf.new ≡ B.kept buf.old }
+        (meant_entry KC.Value.meaning W.Value.meaning parts.old) ctx.entry.budget.now (B.unread buf.old)
+            (budget_left ctx.exit)) }
+    ensures kept { B.beyond buf.new ≡ B.beyond buf.old }
 {
     let tag = Tag::decode(buf)?;
     if tag.field_number() == 1 {
@@ -50,14 +51,14 @@ pub(crate) fn merge_fields<KC: MapValueDecode, W: MergeValue>(
     bytes: &[u8],
     ctx: DecodeContext<'_>,
     how: &W,
-) -> Result<Parts<KC::Value, W::Value>, DecodeError>
+) -> Result<MapEntry<KC::Value, W::Value>, DecodeError>
     requires { W.may how.now ctx.depth }
     ensures ok { IfOk result (λ parts. MergesFields KC.reading W.reading ctx.entry.depth bytes.now
-        ctx.entry.budget.now (said KC.Value.meaning W.Value.meaning parts) (left_in ctx.exit)) }
+        ctx.entry.budget.now (meant_entry KC.Value.meaning W.Value.meaning parts) (budget_left ctx.exit)) }
     ensures err { IfErr result (RefusesFields KC.reading W.reading ctx.entry.depth bytes.now
-        ctx.entry.budget.now (left_in ctx.exit)) }
+        ctx.entry.budget.now (budget_left ctx.exit)) }
 {
-    let mut parts = Parts {
+    let mut parts = MapEntry {
         key: <KC::Value as Blank>::blank(alloc),
         value: <W::Value as Blank>::blank(alloc),
         known: true,

@@ -38,9 +38,13 @@ impl<K: MapKey + Hash, V: Blank, S: BuildHasher> MapStorage for IndexMap<K, V, S
 
     // A pair that is there keeps its place, and a new one goes last.
     fn storage_insert(&mut self, key: K, value: V) -> Result<(), AllocError>
-        ensures ok { OnOk result (SamePairs K.same (put K.same (means K.meaning V.meaning self.old.entries) (K.meaning key) (V.meaning value)) (means K.meaning V.meaning self.new.entries)) }
-        ensures err { OnErr result (means K.meaning V.meaning self.new.entries ≡ means K.meaning V.meaning self.old.entries) }
-        ensures places { OnOk result (means K.meaning V.meaning self.new.entries ≡ put K.same (means K.meaning V.meaning self.old.entries) (K.meaning key) (V.meaning value)) }
+        ensures ok { OnOk result (SamePairs K.same
+            (put K.same (means K.meaning V.meaning self.old.entries) (K.meaning key) (V.meaning value))
+            (means K.meaning V.meaning self.new.entries)) }
+        ensures err { OnErr result (means K.meaning V.meaning self.new.entries
+            ≡ means K.meaning V.meaning self.old.entries) }
+        ensures places { OnOk result (means K.meaning V.meaning self.new.entries
+            ≡ put K.same (means K.meaning V.meaning self.old.entries) (K.meaning key) (V.meaning value)) }
     {
         match self.insert(key, value) {
             Ok(_) => Ok(()),

@@ -1,4 +1,4 @@
-//! What becomes of an entry whose value isn't declared.
+//! What becomes of an entry whose value is undeclared.
 
 ghost use Rattle.std.specs.Prelude.{◌≡◌, ◌≢◌, ◌+◌, ◌<◌, ◌≤◌, ◌++◌, ◌∷◌, ℕ, List, [], IfErr, OnErr, OnOk};
 ghost use Rattle.buffa_bytes.specs.declared.error.DecodeError.TheVariants.{OutOfMemory, UnknownFieldLimitExceeded};
@@ -6,10 +6,10 @@ ghost use Rattle.buffa_wire.specs.Records.{Datum, bytes};
 
 use buffa_wire::{Budget, DecodeError, UnknownField, UnknownFieldData, UnknownFields};
 
-/// What becomes of an entry whose value isn't declared: it is kept whole, or dropped.
+/// What becomes of an entry whose value is undeclared: it is kept whole, or dropped.
 pub(crate) trait Keeper {
     /// The records so far.
-    ghost kept: { Self → List (ℕ × Datum) };
+    ghost records: { Self → List (ℕ × Datum) };
 
     /// The slots for unknown fields that one entry takes.
     ghost slot: { ℕ };
@@ -19,9 +19,12 @@ pub(crate) trait Keeper {
 
     /// Takes the bytes of an entry.
     fn keep(&mut self, number: u32, entry: Vec<u8>, budget: &mut Budget) -> Result<(), DecodeError>
-        ensures ok { OnOk result ((kept self.new ≡ kept self.old ++ adds number entry.items) × (budget.new.unknown + slot ≡ budget.old.unknown)) }
-        ensures err { OnErr result ((kept self.new ≡ kept self.old) × (budget.new.unknown ≤ budget.old.unknown) × (budget.old.unknown ≤ budget.new.unknown + slot)) }
-        ensures fault { IfErr result (λ f. f ≢ OutOfMemory → (budget.old.unknown < slot) × (f ≡ UnknownFieldLimitExceeded) × (budget.new.unknown ≡ budget.old.unknown)) }
+        ensures ok { OnOk result ((records self.new ≡ records self.old ++ adds number entry.items)
+            × (budget.new.unknown + slot ≡ budget.old.unknown)) }
+        ensures err { OnErr result ((records self.new ≡ records self.old) × (budget.new.unknown ≤ budget.old.unknown)
+            × (budget.old.unknown ≤ budget.new.unknown + slot)) }
+        ensures fault { IfErr result (λ f. f ≢ OutOfMemory → (budget.old.unknown < slot)
+            × (f ≡ UnknownFieldLimitExceeded) × (budget.new.unknown ≡ budget.old.unknown)) }
         ensures memory { budget.new.memory ≡ budget.old.memory };
 }
 
@@ -30,7 +33,7 @@ pub(crate) trait Keeper {
 pub(crate) struct Dropped;
 
 impl Keeper for Dropped {
-    ghost kept = { λ _. [] };
+    ghost records = { λ _. [] };
 
     ghost slot = { 0 };
 
@@ -48,7 +51,7 @@ impl Keeper for Dropped {
 }
 
 impl Keeper for UnknownFields {
-    ghost kept = { λ list. list.records };
+    ghost records = { λ list. list.records };
 
     ghost slot = { 1 };
 

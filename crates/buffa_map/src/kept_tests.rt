@@ -1,4 +1,4 @@
-//! Entries with values that aren't declared.
+//! Entries with values that are undeclared.
 
 use crate::colour::Colour;
 use crate::map_codec::{MapStorage, Str, merge_entry, merge_entry_with_unknowns, read_map_field};
@@ -22,7 +22,7 @@ fn holds(list: &UnknownFields, number: u32, payloads: &[&[u8]]) -> bool {
     same
 }
 
-// Three entries of number 5: a = 1, b = 9, which isn't declared and has a field of number 3, and c = 2.
+// Three entries of number 5: a = 1, b = 9, which is undeclared and has a field of number 3, and c = 2.
 const RUN: &[u8] = &[
     0x2A, 0x05, 0x0A, 0x01, 0x61, 0x10, 0x01, // a = 1
     0x2A, 0x07, 0x0A, 0x01, 0x62, 0x18, 0x63, 0x10, 0x09, // b = 9
@@ -164,7 +164,7 @@ fn the_last_value_decides(rt: HostRuntime) -> Result<(), Fail> {
     let alloc = rt.alloc();
     // A declared value after one that isn't.
     assert!(rt; leaves(alloc, &[0x04, 0x10, 0x63, 0x10, 0x01], 1, &[])?);
-    // One that isn't declared after one that is.
+    // One that is undeclared after one that is.
     let undeclared: &[u8] = &[0x10, 0x01, 0x10, 0x63];
     assert!(rt; leaves(alloc, &[0x04, 0x10, 0x01, 0x10, 0x63], 0, &[undeclared])?);
     // No value: the default, which is declared.

@@ -24,7 +24,7 @@ pub mod message_merge;
 pub mod message_size;
 pub mod message_write;
 mod ordered;
-pub mod parts;
+pub mod map_entry;
 pub mod rewrite;
 pub mod run;
 pub mod scalar;

@@ -5,7 +5,7 @@ ghost use Rattle.buffa_bytes.specs.declared.error.DecodeError.TheVariants.{OutOf
 ghost use Rattle.buffa_bytes.specs.declared.wire_type.WireType.{WireType};
 ghost use Rattle.buffa_bytes.specs.declared.wire_type.WireType.TheVariants.{LengthDelimited};
 ghost use Rattle.buffa_wire.specs.Content.{Content};
-ghost use Rattle.buffa_wire.specs.Left.{left_in, nothing};
+ghost use Rattle.buffa_wire.specs.BudgetLeft.{budget_left, nothing};
 ghost use Rattle.buffa_wire.specs.Message.{IsMerged};
 ghost use Rattle.buffa_map.specs.Codec.{Reading, Refuses, Spends, is_known, value_at, value_need};
 ghost use Rattle.buffa_map.specs.Message.{message_reading};
@@ -46,13 +46,15 @@ pub(crate) trait MergeValue {
         ctx: DecodeContext<'_>,
     ) -> Result<MapValueDecodeStatus, DecodeError>
         requires { may self.now ctx.depth }
-        ensures ok { IfOk result (λ s. value_at reading ctx.entry.depth (Self.Value.meaning value.old) (B.unread buf.old)
+        ensures ok { IfOk result (λ s. value_at reading ctx.entry.depth (Self.Value.meaning value.old)
+            (B.unread buf.old)
             ≡ Ok ((Self.Value.meaning value.new, is_known s), B.unread buf.new)) }
         ensures fault { IfErr result (λ e. e ≢ OutOfMemory →
-            Refuses reading.nested reading ctx.entry.depth (Self.Value.meaning value.old) (B.unread buf.old) ctx.entry.budget.now e) }
-        ensures kept { B.kept buf.new ≡ B.kept buf.old }
+            Refuses reading.nested reading ctx.entry.depth (Self.Value.meaning value.old) (B.unread buf.old)
+                ctx.entry.budget.now e) }
+        ensures kept { B.beyond buf.new ≡ B.beyond buf.old }
         ensures spends { Spends reading.nested result ctx.entry.budget.now
-            (value_need reading ctx.entry.depth (B.unread buf.old)) (left_in ctx.exit) };
+            (value_need reading ctx.entry.depth (B.unread buf.old)) (budget_left ctx.exit) };
 
     /// Plain payloads cost nothing.
     ghost free: { reading.nested ≡ false → (d : ℕ) (c : Content) → reading.cost d c ≡ nothing };

@@ -3,7 +3,7 @@
 ghost use Rattle.std.specs.Prelude.{◌≡◌, ◌≢◌, ◌+◌, List, [], ℕ, IfErr, Ok, OnErr, OnOk, Some, true};
 ghost use Rattle.buffa_bytes.specs.Reading.{delimited_at};
 ghost use Rattle.buffa_bytes.specs.declared.error.DecodeError.TheVariants.{OutOfMemory};
-ghost use Rattle.buffa_wire.specs.Left.{Pays, PaysAtMost, left_in};
+ghost use Rattle.buffa_wire.specs.BudgetLeft.{Pays, PaysAtMost, budget_left};
 ghost use Rattle.buffa_wire.specs.Message.{IsMerged, PayloadFault, cost_in, cost_of_payload, merged_in};
 ghost use Rattle.buffa_map.specs.Codec.{Refuses, Spends, value_at, value_need};
 ghost use Rattle.buffa_map.specs.Merge.{MergesEntry, RefusesEntry, dropping, state};
@@ -29,13 +29,18 @@ fn merge_payload_by<M: MessageSpec, B: Buf, F>(
 where
     F: Fn(&mut M, &[u8], u32, &mut Budget) -> Result<(), DecodeError>,
     requires may { (x : _) (b : _) (d : _) (w : _) → d + 1 ≡ ctx.depth → F.pre merge.now x b d w }
-    requires keeps { (x : _) (b : _) (d : _) (w : _) (r : _) (y : _) (v : _) → d + 1 ≡ ctx.depth → F.post merge.now x b d w r y v → IsMerged (M.merged d (M.meaning x.now) b.now) (M.cost d b.now) w.now r (M.meaning y.now) v.now }
+    requires keeps { (x : _) (b : _) (d : _) (w : _) (r : _) (y : _) (v : _) → d + 1 ≡ ctx.depth →
+        F.post merge.now x b d w r y v →
+        IsMerged (M.merged d (M.meaning x.now) b.now) (M.cost d b.now) w.now r (M.meaning y.now) v.now }
     ensures ok { OnOk result ((b : List ℕ) × (delimited_at (B.unread buf.old) ≡ Ok (b, B.unread buf.new))
         × (merged_in M.merged ctx.entry.depth (M.meaning value.old) b ≡ Some (M.meaning value.new))
-        × Pays ctx.entry.budget.now (cost_in M.cost ctx.entry.depth b) (left_in ctx.exit)) }
-    ensures fault { IfErr result (λ e. e ≢ OutOfMemory → PayloadFault M.merged M.cost ctx.entry.depth (M.meaning value.old) (B.unread buf.old) ctx.entry.budget.now e) }
-    ensures spent { OnErr result (PaysAtMost ctx.entry.budget.now (cost_of_payload M.cost ctx.entry.depth (delimited_at (B.unread buf.old))) (left_in ctx.exit)) }
-    ensures kept { B.kept buf.new ≡ B.kept buf.old }
+        × Pays ctx.entry.budget.now (cost_in M.cost ctx.entry.depth b) (budget_left ctx.exit)) }
+    ensures fault { IfErr result (λ e. e ≢ OutOfMemory →
+        PayloadFault M.merged M.cost ctx.entry.depth (M.meaning value.old) (B.unread buf.old) ctx.entry.budget.now
+        e) }
+    ensures spent { OnErr result (PaysAtMost ctx.entry.budget.now
+        (cost_of_payload M.cost ctx.entry.depth (delimited_at (B.unread buf.old))) (budget_left ctx.exit)) }
+    ensures kept { B.beyond buf.new ≡ B.beyond buf.old }
 {
     let DecodeContext { depth, budget } = ctx;
     if depth == 0 {
@@ -45,7 +50,7 @@ where
     merge(value, &payload, depth - 1, &mut *budget)
 }
 
-// The same, said as merging by the codec of messages is.
+// The same, meant_entry as merging by the codec of messages is.
 pub(crate) fn merge_value_by<M: MessageSpec, B: Buf, F>(
     alloc: Global,
     value: &mut M,
@@ -56,11 +61,18 @@ pub(crate) fn merge_value_by<M: MessageSpec, B: Buf, F>(
 where
     F: Fn(&mut M, &[u8], u32, &mut Budget) -> Result<(), DecodeError>,
     requires may { (x : _) (b : _) (d : _) (w : _) → d + 1 ≡ ctx.depth → F.pre merge.now x b d w }
-    requires keeps { (x : _) (b : _) (d : _) (w : _) (r : _) (y : _) (v : _) → d + 1 ≡ ctx.depth → F.post merge.now x b d w r y v → IsMerged (M.merged d (M.meaning x.now) b.now) (M.cost d b.now) w.now r (M.meaning y.now) v.now }
-    ensures ok { OnOk result (value_at (message_reading M.blank_is M.merged M.cost) ctx.entry.depth (M.meaning value.old) (B.unread buf.old) ≡ Ok ((M.meaning value.new, true), B.unread buf.new)) }
-    ensures fault { IfErr result (λ e. e ≢ OutOfMemory → Refuses true (message_reading M.blank_is M.merged M.cost) ctx.entry.depth (M.meaning value.old) (B.unread buf.old) ctx.entry.budget.now e) }
-    ensures kept { B.kept buf.new ≡ B.kept buf.old }
-    ensures spends { Spends true result ctx.entry.budget.now (value_need (message_reading M.blank_is M.merged M.cost) ctx.entry.depth (B.unread buf.old)) (left_in ctx.exit) }
+    requires keeps { (x : _) (b : _) (d : _) (w : _) (r : _) (y : _) (v : _) → d + 1 ≡ ctx.depth →
+        F.post merge.now x b d w r y v →
+        IsMerged (M.merged d (M.meaning x.now) b.now) (M.cost d b.now) w.now r (M.meaning y.now) v.now }
+    ensures ok { OnOk result (value_at (message_reading M.blank_is M.merged M.cost) ctx.entry.depth
+        (M.meaning value.old) (B.unread buf.old) ≡ Ok ((M.meaning value.new, true), B.unread buf.new)) }
+    ensures fault { IfErr result (λ e. e ≢ OutOfMemory →
+        Refuses true (message_reading M.blank_is M.merged M.cost) ctx.entry.depth (M.meaning value.old)
+        (B.unread buf.old) ctx.entry.budget.now e) }
+    ensures kept { B.beyond buf.new ≡ B.beyond buf.old }
+    ensures spends { Spends true result ctx.entry.budget.now
+        (value_need (message_reading M.blank_is M.merged M.cost) ctx.entry.depth (B.unread buf.old))
+        (budget_left ctx.exit) }
 {
     merge_payload_by(alloc, value, buf, ctx, merge)?;
     Ok(())
@@ -87,16 +99,18 @@ pub fn merge_message_entry_by<
     merge: F,
 ) -> Result<(), DecodeError>
     requires may { (x : _) (b : _) (d : _) (w : _) → d + 1 ≡ ctx.depth → F.pre merge x b d w }
-    requires keeps { (x : _) (b : _) (d : _) (w : _) (r : _) (y : _) (v : _) → d + 1 ≡ ctx.depth → F.post merge x b d w r y v → IsMerged (M.merged d (M.meaning x.now) b.now) (M.cost d b.now) w.now r (M.meaning y.now) v.now }
+    requires keeps { (x : _) (b : _) (d : _) (w : _) (r : _) (y : _) (v : _) → d + 1 ≡ ctx.depth →
+        F.post merge x b d w r y v → IsMerged (M.merged d (M.meaning x.now) b.now) (M.cost d b.now) w.now r
+        (M.meaning y.now) v.now }
     ensures ok { OnOk result (MergesEntry
         (dropping KC.reading (message_reading M.blank_is M.merged M.cost) C.equal ctx.entry.depth 0 (KC.COST + M.COST))
         (state (C.pairs map.old) [] ctx.entry.budget.now) (B.unread buf.old)
-        (state (C.pairs map.new) [] (left_in ctx.exit)) (B.unread buf.new)) }
+        (state (C.pairs map.new) [] (budget_left ctx.exit)) (B.unread buf.new)) }
     ensures err { IfErr result (RefusesEntry
         (dropping KC.reading (message_reading M.blank_is M.merged M.cost) C.equal ctx.entry.depth 0 (KC.COST + M.COST))
         (state (C.pairs map.old) [] ctx.entry.budget.now) (B.unread buf.old)
-        (state (C.pairs map.new) [] (left_in ctx.exit))) }
-    ensures kept { B.kept buf.new ≡ B.kept buf.old }
+        (state (C.pairs map.new) [] (budget_left ctx.exit))) }
+    ensures kept { B.beyond buf.new ≡ B.beyond buf.old }
 {
     let how = ByFunction::new(merge);
     merge_entry_by::<KC, _, C, B, Dropped>(alloc, map, buf, ctx, 0, &how, &mut Dropped)

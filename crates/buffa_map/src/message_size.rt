@@ -4,7 +4,7 @@ ghost use Rattle.std.specs.Prelude.{◌≡◌, ◌+◌, length};
 ghost use Rattle.std.specs.List.{Contains};
 ghost use Rattle.std.specs.Map.{values_of};
 ghost use Rattle.buffa_wire.specs.Passes.{IsSized};
-ghost use Rattle.buffa_wire.specs.Varint.{V};
+ghost use Rattle.buffa_wire.specs.Varint.{varint_text};
 ghost use Rattle.buffa_map.specs.MessageField.{IsFieldSized, entry_size};
 ghost use Rattle.buffa_map.specs.Text.{saturated};
 
@@ -25,7 +25,7 @@ pub(crate) fn message_entry_len<KC: MapCodec>(key: &KC::Value, inner: u32) -> u6
 // The length of its record, or 2^64 - 1.
 fn message_record_len<KC: MapCodec>(outer_tag_len: u64, key: &KC::Value, inner: u32) -> u64
     ensures { let n = entry_size KC.writing (KC.Value.meaning key.now) inner in
-        result ≡ saturated (outer_tag_len + (length (V (saturated n)) + n)) }
+        result ≡ saturated (outer_tag_len + (length (varint_text (saturated n)) + n)) }
 {
     let len = message_entry_len::<KC>(key, inner);
     outer_tag_len
@@ -51,7 +51,8 @@ pub fn message_field_len_by<
 where
     KC::Value: 'a,
     requires may { (x : _) (c : _) → Contains (values_of (C.walk map.now)) (M.meaning x.now) → F.pre size x c }
-    requires keeps { (x : _) (c : _) (r : _) (d : _) → Contains (values_of (C.walk map.now)) (M.meaning x.now) → F.post size x c r d → IsSized (M.text (M.meaning x.now)) (M.slots (M.meaning x.now)) c.now r d.now }
+    requires keeps { (x : _) (c : _) (r : _) (d : _) → Contains (values_of (C.walk map.now)) (M.meaning x.now) →
+        F.post size x c r d → IsSized (M.text (M.meaning x.now)) (M.slots (M.meaning x.now)) c.now r d.now }
     ensures { IsFieldSized KC.writing M.text M.slots outer_tag_len (C.walk map.now) cache.old result cache.new }
 {
     let mut total: u64 = 0;

@@ -21,7 +21,8 @@ fn write_key_and_length<KC: MapCodec, S: EncodeSink>(
     inner: u32,
     sink: &mut S,
 ) -> Result<(), EncodeError>
-    ensures { Writes result (S.written sink.old) (key_and_length KC.writing (KC.Value.meaning key.now) inner) (S.written sink.new) }
+    ensures { Writes result (S.written sink.old) (key_and_length KC.writing (KC.Value.meaning key.now) inner)
+        (S.written sink.new) }
 {
     write_part::<KC, S>(1, key, sink)?;
     write_head(2, u64::from(inner), sink)
@@ -36,7 +37,8 @@ fn write_message_head<KC: MapCodec, S: EncodeSink>(
     sink: &mut S,
 ) -> Result<(), EncodeError>
     requires { IsNumber number }
-    ensures { Writes result (S.written sink.old) (head_text KC.writing number (KC.Value.meaning key.now) inner) (S.written sink.new) }
+    ensures { Writes result (S.written sink.old) (head_text KC.writing number (KC.Value.meaning key.now) inner)
+        (S.written sink.new) }
 {
     write_head(number, message_entry_len::<KC>(key, inner), sink)?;
     write_key_and_length::<KC, S>(key, inner, sink)
@@ -55,9 +57,14 @@ where
     F: Fn(&M, &mut SizeCache, &mut S) -> Result<(), EncodeError>,
     requires number { IsNumber number }
     requires next { IsNext (cap (length (M.text (M.meaning value.now))) ∷ M.slots (M.meaning value.now)) cache.old }
-    requires may { (x : _) (c : _) (s : _) → x.now ≡ value.now → IsNext (M.slots (M.meaning x.now)) c.now → F.pre write.now x c s }
-    requires keeps { (x : _) (c : _) (s : _) (r : _) (d : _) (t : _) → x.now ≡ value.now → F.post write.now x c s r d t → IsWritten (M.text (M.meaning x.now)) (M.slots (M.meaning x.now)) c.now (S.written s.now) r d.now (S.written t.now) }
-    ensures { IsRecordWritten KC.writing M.text M.slots number (KC.Value.meaning key.now, M.meaning value.now) cache.old (S.written sink.old) result cache.new (S.written sink.new) }
+    requires may { (x : _) (c : _) (s : _) → x.now ≡ value.now → IsNext (M.slots (M.meaning x.now)) c.now →
+        F.pre write.now x c s }
+    requires keeps { (x : _) (c : _) (s : _) (r : _) (d : _) (t : _) → x.now ≡ value.now →
+        F.post write.now x c s r d t →
+        IsWritten (M.text (M.meaning x.now)) (M.slots (M.meaning x.now)) c.now (S.written s.now) r d.now
+        (S.written t.now) }
+    ensures { IsRecordWritten KC.writing M.text M.slots number (KC.Value.meaning key.now, M.meaning value.now)
+        cache.old (S.written sink.old) result cache.new (S.written sink.new) }
 {
     let inner = cache.consume_next();
     write_message_head::<KC, S>(number, key, inner, sink)?;
@@ -90,9 +97,14 @@ where
     KC::Value: 'a,
     requires number { IsNumber field_number }
     requires next { IsNext (field_slots M.text M.slots (C.walk map.now)) cache.old }
-    requires may { (x : _) (c : _) (s : _) → Contains (values_of (C.walk map.now)) (M.meaning x.now) → IsNext (M.slots (M.meaning x.now)) c.now → F.pre write x c s }
-    requires keeps { (x : _) (c : _) (s : _) (r : _) (d : _) (t : _) → Contains (values_of (C.walk map.now)) (M.meaning x.now) → F.post write x c s r d t → IsWritten (M.text (M.meaning x.now)) (M.slots (M.meaning x.now)) c.now (S.written s.now) r d.now (S.written t.now) }
-    ensures { IsFieldWritten KC.writing M.text M.slots field_number (C.walk map.now) cache.old (S.written sink.old) result cache.new (S.written sink.new) }
+    requires may { (x : _) (c : _) (s : _) → Contains (values_of (C.walk map.now)) (M.meaning x.now) →
+        IsNext (M.slots (M.meaning x.now)) c.now → F.pre write x c s }
+    requires keeps { (x : _) (c : _) (s : _) (r : _) (d : _) (t : _) →
+        Contains (values_of (C.walk map.now)) (M.meaning x.now) → F.post write x c s r d t →
+        IsWritten (M.text (M.meaning x.now)) (M.slots (M.meaning x.now)) c.now (S.written s.now) r d.now
+        (S.written t.now) }
+    ensures { IsFieldWritten KC.writing M.text M.slots field_number (C.walk map.now) cache.old (S.written sink.old)
+        result cache.new (S.written sink.new) }
 {
     for (key, value) in map.storage_iter() {
         write_message_record_by::<KC, M, S, F>(field_number, key, value, cache, sink, &write)?;
@@ -123,7 +135,8 @@ where
     KC::Value: 'a,
     requires number { IsNumber field_number }
     requires next { IsNext (field_slots M.text M.slots (C.walk map.now)) cache.old }
-    ensures { IsFieldWritten KC.writing M.text M.slots field_number (C.walk map.now) cache.old (S.written sink.old) result cache.new (S.written sink.new) }
+    ensures { IsFieldWritten KC.writing M.text M.slots field_number (C.walk map.now) cache.old (S.written sink.old)
+        result cache.new (S.written sink.new) }
 {
     write_message_field_by::<KC, M, C, S, _>(
         map,

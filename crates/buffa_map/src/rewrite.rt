@@ -1,7 +1,7 @@
 //! The rewrite of a map field by a reader that doesn't know all its values.
 
 ghost use Rattle.std.specs.Prelude.{◌≡◌, ◌+◌, [], IfErr, OnOk};
-ghost use Rattle.buffa_wire.specs.Left.{left_in};
+ghost use Rattle.buffa_wire.specs.BudgetLeft.{budget_left};
 ghost use Rattle.buffa_wire.specs.Number.{IsNumber};
 ghost use Rattle.buffa_map.specs.Merge.{ReadsRun, StopsRun, keeping, state};
 ghost use Rattle.buffa_map.specs.Rewrite.{MatchRefusal, RefusesBytes, RefusesOutput, RewritesRun, WritesWalk};
@@ -21,7 +21,7 @@ pub enum RewriteError {
     Encode(EncodeError),
 }
 
-// Empties the map, and merges the records of a run into it; the entries that aren't declared go to the list.
+// Empties the map, and merges the records of a run into it; the entries that are undeclared go to the list.
 fn read_anew<KC: MapCodec, VC: MapCodec, C: MapStorage<Key = KC::Value, Value = VC::Value>, B: Buf>(
     alloc: Global,
     map: &mut C,
@@ -33,12 +33,12 @@ fn read_anew<KC: MapCodec, VC: MapCodec, C: MapStorage<Key = KC::Value, Value = 
     ensures ok { OnOk result (ReadsRun
         (keeping KC.reading VC.reading C.equal ctx.entry.depth number (KC.COST + VC.COST))
         (state [] kept.old.records ctx.entry.budget.now) (B.unread buf.old)
-        (state (C.pairs map.new) kept.new.records (left_in ctx.exit)) (B.unread buf.new)) }
+        (state (C.pairs map.new) kept.new.records (budget_left ctx.exit)) (B.unread buf.new)) }
     ensures err { IfErr result (StopsRun
         (keeping KC.reading VC.reading C.equal ctx.entry.depth number (KC.COST + VC.COST))
         (state [] kept.old.records ctx.entry.budget.now) (B.unread buf.old)
-        (state (C.pairs map.new) kept.new.records (left_in ctx.exit))) }
-    ensures buffer { B.kept buf.new ≡ B.kept buf.old }
+        (state (C.pairs map.new) kept.new.records (budget_left ctx.exit))) }
+    ensures buffer { B.beyond buf.new ≡ B.beyond buf.old }
 {
     map.storage_clear();
     read_run_by::<KC, VC, C, B, UnknownFields>(alloc, map, number, buf, ctx, kept)
@@ -60,14 +60,14 @@ fn write_with<
 }
 
 /// Rewrites a map field: empties the map, reads the records to the end of the buffer into it, and writes
-/// the map and behind it, in order, the entries with a value that isn't declared, byte for byte.
+/// the map and behind it, in order, the entries with a value that is undeclared, byte for byte.
 ///
 /// `number` is 1 to [`MAX_FIELD_NUMBER`](buffa_wire::MAX_FIELD_NUMBER). A reader whose enum declares more
 /// numbers reads the same map from what was written as from what was read, if the run is ordered, and only
 /// then: [`crate::laws::rewrite_means`].
 ///
 /// # Errors
-/// [`RewriteError::Decode`] with the faults of [`crate::run::read_map_field`] where a list is handed in;
+/// [`RewriteError::Decode`] with the faults of [`crate::run::read_map_field`] where a list is passed;
 /// nothing was written, and the map has the entries before the fault. [`RewriteError::Encode`] with those
 /// of [`crate::write::write_field`]; the map has all entries.
 ///
@@ -94,15 +94,15 @@ pub fn rewrite_map_field<
     ensures ok { OnOk result (RewritesRun
         (keeping KC.reading VC.reading C.equal ctx.entry.depth number (KC.COST + VC.COST))
         KC.writing VC.writing KC.fits VC.fits ctx.entry.budget.now (B.unread buf.old)
-        (C.pairs map.new) (left_in ctx.exit) (B.unread buf.new) (S.written sink.old) (S.written sink.new)) }
+        (C.pairs map.new) (budget_left ctx.exit) (B.unread buf.new) (S.written sink.old) (S.written sink.new)) }
     ensures refused { IfErr result (λ r. MatchRefusal r
         (RefusesBytes (keeping KC.reading VC.reading C.equal ctx.entry.depth number (KC.COST + VC.COST))
         ctx.entry.budget.now (B.unread buf.old)
-        (C.pairs map.new) (left_in ctx.exit) (S.written sink.old) (S.written sink.new))
+        (C.pairs map.new) (budget_left ctx.exit) (S.written sink.old) (S.written sink.new))
         (RefusesOutput (keeping KC.reading VC.reading C.equal ctx.entry.depth number (KC.COST + VC.COST))
         KC.writing VC.writing ctx.entry.budget.now (B.unread buf.old)
-        (C.pairs map.new) (left_in ctx.exit) (B.unread buf.new) (S.written sink.old) (S.written sink.new))) }
-    ensures kept { B.kept buf.new ≡ B.kept buf.old }
+        (C.pairs map.new) (budget_left ctx.exit) (B.unread buf.new) (S.written sink.old) (S.written sink.new))) }
+    ensures kept { B.beyond buf.new ≡ B.beyond buf.old }
 {
     let mut unread = UnknownFields::new(alloc);
     match read_anew::<KC, VC, C, B>(alloc, map, number, buf, ctx, &mut unread) {

@@ -1,7 +1,7 @@
 //! A run of map records.
 
 ghost use Rattle.std.specs.Prelude.{◌≡◌, ◌+◌, IfErr, OnOk};
-ghost use Rattle.buffa_wire.specs.Left.{left_in};
+ghost use Rattle.buffa_wire.specs.BudgetLeft.{budget_left};
 ghost use Rattle.buffa_map.specs.Lent.{records_in, records_left};
 ghost use Rattle.buffa_map.specs.Merge.{ReadsRun, StopsRun, lending, rules, state};
 
@@ -13,7 +13,7 @@ use crate::storage::MapStorage;
 use buffa_wire::{Buf, DecodeContext, DecodeError, Tag, UnknownFields, WireType, check_wire_type};
 use std::alloc::Global;
 
-// Merges the records of a run; the entries that aren't declared go to the keeper.
+// Merges the records of a run; the entries that are undeclared go to the keeper.
 pub(crate) fn read_run_by<
     KC: MapCodec,
     VC: MapValueDecode,
@@ -30,13 +30,13 @@ pub(crate) fn read_run_by<
 ) -> Result<(), DecodeError>
     ensures ok { OnOk result (ReadsRun
         (rules KC.reading VC.reading C.equal ctx.entry.depth number (KC.COST + VC.COST) L.slot L.adds)
-        (state (C.pairs map.old) (L.kept keeper.old) ctx.entry.budget.now) (B.unread buf.old)
-        (state (C.pairs map.new) (L.kept keeper.new) (left_in ctx.exit)) (B.unread buf.new)) }
+        (state (C.pairs map.old) (L.records keeper.old) ctx.entry.budget.now) (B.unread buf.old)
+        (state (C.pairs map.new) (L.records keeper.new) (budget_left ctx.exit)) (B.unread buf.new)) }
     ensures err { IfErr result (StopsRun
         (rules KC.reading VC.reading C.equal ctx.entry.depth number (KC.COST + VC.COST) L.slot L.adds)
-        (state (C.pairs map.old) (L.kept keeper.old) ctx.entry.budget.now) (B.unread buf.old)
-        (state (C.pairs map.new) (L.kept keeper.new) (left_in ctx.exit))) }
-    ensures kept { B.kept buf.new ≡ B.kept buf.old }
+        (state (C.pairs map.old) (L.records keeper.old) ctx.entry.budget.now) (B.unread buf.old)
+        (state (C.pairs map.new) (L.records keeper.new) (budget_left ctx.exit))) }
+    ensures kept { B.beyond buf.new ≡ B.beyond buf.old }
 {
     let DecodeContext { depth, budget } = ctx;
     let how = ByCodec::<VC>::new();
@@ -57,7 +57,7 @@ pub(crate) fn read_run_by<
 
 /// Merges the records of a map field, to the end of the buffer, into the map.
 ///
-/// An entry with a value that isn't declared is appended to the list, if one is handed in, as a
+/// An entry with a value that is undeclared is appended to the list, if one is passed, as a
 /// length-delimited record of the field's `number`, byte for byte, and takes a slot of the budget of
 /// unknown fields; without a list it is dropped, and takes none.
 ///
@@ -87,12 +87,12 @@ pub fn read_map_field<
     ensures ok { OnOk result (ReadsRun
         (lending KC.reading VC.reading C.equal ctx.entry.depth number (KC.COST + VC.COST) unknown.entry)
         (state (C.pairs map.old) (records_in unknown.entry) ctx.entry.budget.now) (B.unread buf.old)
-        (state (C.pairs map.new) (records_left unknown.exit) (left_in ctx.exit)) (B.unread buf.new)) }
+        (state (C.pairs map.new) (records_left unknown.exit) (budget_left ctx.exit)) (B.unread buf.new)) }
     ensures err { IfErr result (StopsRun
         (lending KC.reading VC.reading C.equal ctx.entry.depth number (KC.COST + VC.COST) unknown.entry)
         (state (C.pairs map.old) (records_in unknown.entry) ctx.entry.budget.now) (B.unread buf.old)
-        (state (C.pairs map.new) (records_left unknown.exit) (left_in ctx.exit))) }
-    ensures kept { B.kept buf.new ≡ B.kept buf.old }
+        (state (C.pairs map.new) (records_left unknown.exit) (budget_left ctx.exit))) }
+    ensures kept { B.beyond buf.new ≡ B.beyond buf.old }
 {
     match unknown {
         None => read_run_by::<KC, VC, C, B, Dropped>(alloc, map, number, buf, ctx, &mut Dropped),

@@ -1,8 +1,8 @@
 //! The size of a map field.
 
 ghost use Rattle.std.specs.Prelude.{◌≡◌, ◌+◌, List, length};
-ghost use Rattle.buffa_wire.specs.Varint.{V};
-ghost use Rattle.buffa_map.specs.Pairs.{Enum};
+ghost use Rattle.buffa_wire.specs.Varint.{varint_text};
+ghost use Rattle.buffa_map.specs.Pairs.{ListsOnce};
 ghost use Rattle.buffa_map.specs.Text.{as_u64, entry_text, field_size, saturated};
 
 use crate::codec::MapCodec;
@@ -14,7 +14,8 @@ pub(crate) fn entry_len<KC: MapCodec, VC: MapCodec>(
     key: &KC::Value,
     value: &VC::Value,
 ) -> Option<u64>
-    ensures len { result ≡ as_u64 (length (entry_text KC.writing VC.writing (KC.Value.meaning key.now, VC.Value.meaning value.now))) }
+    ensures len { result ≡ as_u64 (length (entry_text KC.writing VC.writing
+        (KC.Value.meaning key.now, VC.Value.meaning value.now))) }
     ensures fits { KC.fits (KC.Value.meaning key.now) × VC.fits (VC.Value.meaning value.now) }
 {
     let payloads = KC::encoded_len(key).checked_add(VC::encoded_len(value))?;
@@ -27,8 +28,9 @@ fn record_len<KC: MapCodec, VC: MapCodec>(
     key: &KC::Value,
     value: &VC::Value,
 ) -> u64
-    ensures { let n = length (entry_text KC.writing VC.writing (KC.Value.meaning key.now, VC.Value.meaning value.now)) in
-        result ≡ saturated (outer_tag_len + (length (V n) + n)) }
+    ensures { let n = length (entry_text KC.writing VC.writing
+        (KC.Value.meaning key.now, VC.Value.meaning value.now)) in
+        result ≡ saturated (outer_tag_len + (length (varint_text n) + n)) }
 {
     match entry_len::<KC, VC>(key, value) {
         Some(len) => outer_tag_len
@@ -54,7 +56,8 @@ pub fn field_len<
 where
     KC::Value: 'a,
     VC::Value: 'a,
-    ensures { (l : List (KC.Value.Meaning × VC.Value.Meaning)) × C.walks map.now l × Enum C.equal (C.pairs map.now) l
+    ensures { (l : List (KC.Value.Meaning × VC.Value.Meaning)) × C.walks map.now l
+        × ListsOnce C.equal (C.pairs map.now) l
         × (result ≡ saturated (field_size KC.writing VC.writing outer_tag_len l)) }
 {
     let mut total: u64 = 0;

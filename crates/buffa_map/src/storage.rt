@@ -8,7 +8,7 @@ ghost use Rattle.std.specs.Map.{keys_of};
 ghost use Rattle.std.specs.Map.Iter.{TakesFirst, deref_pair};
 ghost use Rattle.buffa_wire.specs.Number.{IsNumber};
 ghost use Rattle.buffa_map.specs.Text.{AllHold, WritesField};
-ghost use Rattle.buffa_map.specs.Pairs.{Enum, SamePairs, means, put};
+ghost use Rattle.buffa_map.specs.Pairs.{ListsOnce, SamePairs, means, put};
 ghost use denote.Ref.{Bor};
 
 use crate::codec::MapCodec;
@@ -47,7 +47,8 @@ pub trait MapStorage {
     /// # Errors
     /// `AllocError` alone; the map is as it was then.
     fn storage_insert(&mut self, key: Self::Key, value: Self::Value) -> Result<(), AllocError>
-        ensures ok { OnOk result (SamePairs equal (put equal (pairs self.old) (Self.Key.meaning key) (Self.Value.meaning value)) (pairs self.new)) }
+        ensures ok { OnOk result (SamePairs equal
+            (put equal (pairs self.old) (Self.Key.meaning key) (Self.Value.meaning value)) (pairs self.new)) }
         ensures err { OnErr result (pairs self.new ≡ pairs self.old) };
 
     /// Takes all pairs out.
@@ -77,11 +78,13 @@ where
     /// A walk, which gives each pair once.
     fn storage_iter(&'a self) -> Self::Iter
         ensures walk { Self.walks self.now (means Self.Key.meaning Self.Value.meaning (left result)) }
-        ensures pairs { Enum Self.equal (Self.pairs self.now) (means Self.Key.meaning Self.Value.meaning (left result)) }
+        ensures pairs { ListsOnce Self.equal (Self.pairs self.now)
+            (means Self.Key.meaning Self.Value.meaning (left result)) }
         ensures can { Self.Iter.can_next result }
         ensures ends { IsFinite (Self.Iter.remaining result) }
         // Each call of `next` gives the first of what is left.
-        ensures steps { (s : Self.Iter) (r : Option (Bor Self.Key × Bor Self.Value)) (t : Self.Iter) → Self.Iter.next_gives s r t → TakesFirst deref_pair (left s) r (left t) };
+        ensures steps { (s : Self.Iter) (r : Option (Bor Self.Key × Bor Self.Value)) (t : Self.Iter) →
+            Self.Iter.next_gives s r t → TakesFirst deref_pair (left s) r (left t) };
 }
 
 /// A map whose order is a function of its value: two walks of one value are one list.
@@ -114,7 +117,7 @@ pub trait MapWrite: MapStorage {
         S: EncodeSink,
     >(&self, number: u32, sink: &mut S) -> Result<(), EncodeError>
         requires { IsNumber number }
-        ensures { (l : List (Self.Key.Meaning × Self.Value.Meaning)) × Enum Self.equal (Self.pairs self.now) l
+        ensures { (l : List (Self.Key.Meaning × Self.Value.Meaning)) × ListsOnce Self.equal (Self.pairs self.now) l
             × WritesField KC.writing VC.writing number (S.written sink.old) (S.written sink.new) result l
             × OnOk result (AllHold KC.fits VC.fits l) };
 }

@@ -3,9 +3,9 @@
 ghost use Rattle.std.specs.Prelude.{◌≡◌, ◌++◌, List, OnOk};
 ghost use Rattle.buffa_wire.specs.Number.{IsNumber};
 ghost use Rattle.buffa_wire.specs.Values.{delimited_text, tag_text};
-ghost use Rattle.buffa_wire.specs.Varint.{V};
+ghost use Rattle.buffa_wire.specs.Varint.{varint_text};
 ghost use Rattle.buffa_wire.specs.Written.{Writes};
-ghost use Rattle.buffa_map.specs.Pairs.{Enum};
+ghost use Rattle.buffa_map.specs.Pairs.{ListsOnce};
 ghost use Rattle.buffa_map.specs.Text.{AllHold, WritesField, WritesRecord, entry_text};
 
 use crate::codec::MapCodec;
@@ -21,7 +21,8 @@ pub(crate) fn write_part<VC: MapCodec, S: EncodeSink>(
     sink: &mut S,
 ) -> Result<(), EncodeError>
     requires { IsNumber number }
-    ensures { Writes result (S.written sink.old) (tag_text number VC.writing.wire ++ VC.writing.text (VC.Value.meaning value.now)) (S.written sink.new) }
+    ensures { Writes result (S.written sink.old)
+        (tag_text number VC.writing.wire ++ VC.writing.text (VC.Value.meaning value.now)) (S.written sink.new) }
 {
     Tag::new(number, VC::WIRE_TYPE).encode(sink)?;
     VC::encode(value, sink)
@@ -34,7 +35,9 @@ fn write_entry<KC: MapCodec, VC: MapCodec, S: EncodeSink>(
     value: &VC::Value,
     sink: &mut S,
 ) -> Result<(), EncodeError>
-    ensures { Writes result (S.written sink.old) (entry_text KC.writing VC.writing (KC.Value.meaning key.now, VC.Value.meaning value.now)) (S.written sink.new) }
+    ensures { Writes result (S.written sink.old)
+        (entry_text KC.writing VC.writing (KC.Value.meaning key.now, VC.Value.meaning value.now))
+        (S.written sink.new) }
 {
     write_part::<KC, S>(1, key, sink)?;
     write_part::<VC, S>(2, value, sink)
@@ -48,7 +51,8 @@ pub(crate) fn write_head<S: EncodeSink>(
     sink: &mut S,
 ) -> Result<(), EncodeError>
     requires { IsNumber number }
-    ensures { Writes result (S.written sink.old) (tag_text number WireType.LengthDelimited ++ V len) (S.written sink.new) }
+    ensures { Writes result (S.written sink.old) (tag_text number WireType.LengthDelimited ++ varint_text len)
+        (S.written sink.new) }
 {
     Tag::new(number, WireType::LengthDelimited).encode(sink)?;
     encode_varint(len, sink)
@@ -62,7 +66,8 @@ fn write_record<KC: MapCodec, VC: MapCodec, S: EncodeSink>(
     sink: &mut S,
 ) -> Result<(), EncodeError>
     requires { IsNumber number }
-    ensures written { WritesRecord KC.writing VC.writing number (S.written sink.old) (S.written sink.new) result (KC.Value.meaning key.now, VC.Value.meaning value.now) }
+    ensures written { WritesRecord KC.writing VC.writing number (S.written sink.old) (S.written sink.new) result
+        (KC.Value.meaning key.now, VC.Value.meaning value.now) }
     ensures fits { KC.fits (KC.Value.meaning key.now) × VC.fits (VC.Value.meaning value.now) }
 {
     let Some(len) = entry_len::<KC, VC>(key, value) else {
@@ -97,7 +102,8 @@ where
     VC::Value: 'a,
     requires { IsNumber field_number }
     // Of the last line: what was written is what the types of key and value hold.
-    ensures { (l : List (KC.Value.Meaning × VC.Value.Meaning)) × C.walks map.now l × Enum C.equal (C.pairs map.now) l
+    ensures { (l : List (KC.Value.Meaning × VC.Value.Meaning)) × C.walks map.now l
+        × ListsOnce C.equal (C.pairs map.now) l
         × WritesField KC.writing VC.writing field_number (S.written sink.old) (S.written sink.new) result l
         × OnOk result (AllHold KC.fits VC.fits l) }
 {

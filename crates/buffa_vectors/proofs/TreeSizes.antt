@@ -2,7 +2,7 @@
 use Rattle.std.proofs.Common.{◌≡◌, ◌<◌, ◌≤◌, ◌^◌, ℕ, zero, suc, ℤ, ◌+◌, List, [], ◌∷◌, ◌++◌, length, min, max, refl, sym, ap, ◌∙◌, arith, length-append, ◌⊎◌, inl, inr, subst, slice_index}
 use Rattle.std.specs.List.{Contains}
 use Rattle.std.specs.Map.{values_of}
-use Rattle.buffa_bytes.proofs.ShortestLemmas.{V-last}
+use Rattle.buffa_bytes.proofs.ShortestLemmas.{varint_text-last}
 use Rattle.buffa_bytes.specs.declared.wire_type.WireType.TheVariants.{LengthDelimited}
 use Rattle.buffa_wire.specs.Cache.{Cache, appended}
 use Rattle.buffa_wire.specs.Passes.{IsSmall, cap}
@@ -17,7 +17,7 @@ use Rattle.buffa_vectors.specs.Grown.{Grown, grown, height, heights, kids}
 use Rattle.buffa_vectors.specs.TreeText.{key_writing, meant, meant-is, slots, slots-field, text, texts, texts-field}
 
 tag_one : length (tag_text 2 LengthDelimited) ≡ 1
-tag_one = ap length (V-last 18 (omega arith))
+tag_one = ap length (varint_text-last 18 (omega arith))
 
 module _ (t : Grown) (l : ℤ) (es : List (ℤ × Grown)) (is : grown l (kids es) ≡ t) where
   pub text_is : text t ≡ value_text l ++ field_text key_writing (delimited_writing text) 2 (meant es)

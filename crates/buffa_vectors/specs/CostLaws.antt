@@ -7,18 +7,18 @@ use Rattle.buffa_bytes.specs.declared.error.DecodeError.{DecodeError}
 use Rattle.buffa_bytes.specs.declared.error.DecodeError.TheVariants.{OutOfMemory}
 use Rattle.buffa_wire.proofs.MessageLemmas.{NoLimit}
 use Rattle.buffa_wire.specs.Field.{IsTag, Payload, SomeField}
-use Rattle.buffa_wire.specs.Left.{Left, Lacks, Pays, PaysAtMost, nothing, plus}
+use Rattle.buffa_wire.specs.BudgetLeft.{BudgetLeft, Lacks, Pays, PaysAtMost, nothing, plus}
 use Rattle.buffa_wire.specs.Message.{IsFieldMerged, MergeFault}
 use Rattle.buffa_wire.specs.Reading.{skip_at, tag_at}
 use Rattle.buffa_map.specs.Codec.{need_by}
 use Rattle.buffa_vectors.specs.Fields.{FieldNeed, FieldReader, cost_by, cost_within, merged_by}
 use Rattle.buffa_vectors.specs.FieldsLaws.{IsSame, IsSound, refused, taken}
 
-need_same : {A : Type 0} (r : Result A DecodeError) (f g : A → Left) → ((x : A) → r ≡ Ok x → f x ≡ g x) → need_by r f ≡ need_by r g
+need_same : {A : Type 0} (r : Result A DecodeError) (f g : A → BudgetLeft) → ((x : A) → r ≡ Ok x → f x ≡ g x) → need_by r f ≡ need_by r g
 need_same (Ok x) f g h = h x refl
 need_same (Err e) f g h = refl
 
-pub plus_nothing : (a : Left) → plus a nothing ≡ a
+pub plus_nothing : (a : BudgetLeft) → plus a nothing ≡ a
 plus_nothing a =
     let u : a.unknown + 0 ≡ a.unknown = omega arith in
     let m : a.memory + 0 ≡ a.memory = omega arith in
@@ -70,18 +70,18 @@ module _ (need : FieldNeed) (d : ℕ) where
     -- one field, whose tag was read, where messages cost something
     module _ {X : Type 0} (field : FieldReader X) (sound : IsSound d field) (same : IsSame d field) where
       -- the field's part of a contract
-      abbrev pub IsPaid : {T : Type 0} → Result T DecodeError → X → X → ℕ → WireType → List ℕ → List ℕ → Left → Left → Type 0
+      abbrev pub IsPaid : {T : Type 0} → Result T DecodeError → X → X → ℕ → WireType → List ℕ → List ℕ → BudgetLeft → BudgetLeft → Type 0
       IsPaid r old new n w bs rest before after =
           MatchResult r
           (λ _. (field old n w bs ≡ Ok (new, rest)) × Pays before (need n w bs) after)
           (λ e. PaysAtMost before (need n w bs) after
           × (e ≢ OutOfMemory → Lacks before (need n w bs) ⊎ ((x : DecodeError) × (field old n w bs ≡ Err x) × NoLimit e)))
 
-      lacks : (a b left : Left) → Lacks left a → Lacks left (plus a b)
+      lacks : (a b left : BudgetLeft) → Lacks left a → Lacks left (plus a b)
       lacks a b left (inl h) = inl (omega (arith, h))
       lacks a b left (inr h) = inr (omega (arith, h))
 
-      pub paid : (r : Result (Unit {0}) DecodeError) (old new : X) (n : ℕ) (w : WireType) (bs rest : List ℕ) (before after : Left) → IsPaid r old new n w bs rest before after →
+      pub paid : (r : Result (Unit {0}) DecodeError) (old new : X) (n : ℕ) (w : WireType) (bs rest : List ℕ) (before after : BudgetLeft) → IsPaid r old new n w bs rest before after →
           IsFieldMerged (λ _. merged_by field) (λ _. cost_by need d) d old n w bs before r new after rest
       paid (Ok x) old new n w bs rest before after (h, k) =
           let q = taken d field sound same old new n w bs rest h in

@@ -2,10 +2,10 @@
 -- passed over. Source: the protobuf encoding guide, "Repeated Elements".
 use Rattle.std.specs.Prelude.{ℕ, zero, suc, ◌+◌, ◌-◌, ◌^◌, ◌==◌, List, [], ◌∷◌, ◌++◌, min, Option, if◌then◌else◌}
 use Rattle.buffa_bytes.specs.declared.wire_type.WireType.TheVariants.{Varint}
-use Rattle.buffa_wire.specs.Left.{Left, nothing}
+use Rattle.buffa_wire.specs.BudgetLeft.{BudgetLeft, nothing}
 use Rattle.buffa_wire.specs.Records.{Datum, varint}
 use Rattle.buffa_wire.specs.Values.{tag_text}
-use Rattle.buffa_wire.specs.Varint.{V}
+use Rattle.buffa_wire.specs.Varint.{varint_text}
 use Rattle.buffa_vectors.specs.Fields.{FieldReader, merged_by, skipped_field, varint_field}
 
 -- one more, but no more than a u64 holds
@@ -19,12 +19,12 @@ abbrev pub count_merged : ℕ → ℕ → List ℕ → Option ℕ
 count_merged d v bs = merged_by (count_field d) v bs
 
 -- it costs nothing
-abbrev pub count_cost : ℕ → List ℕ → Left
+abbrev pub count_cost : ℕ → List ℕ → BudgetLeft
 count_cost d bs = nothing
 
 -- one field
 abbrev pub one_text : List ℕ
-one_text = tag_text 9 Varint ++ V 0
+one_text = tag_text 9 Varint ++ varint_text 0
 
 -- so many fields
 abbrev pub count_text : ℕ → List ℕ

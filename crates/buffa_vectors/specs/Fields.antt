@@ -9,8 +9,8 @@ use Rattle.std.specs.Int.{cast_unsigned, w64}
 use Rattle.buffa_bytes.specs.declared.wire_type.WireType.{WireType}
 use Rattle.buffa_bytes.specs.declared.wire_type.WireType.TheVariants.{Varint}
 use Rattle.buffa_bytes.specs.declared.error.DecodeError.{DecodeError}
-use Rattle.buffa_wire.specs.Left.{Left, nothing, plus}
-use Rattle.buffa_map.specs.Along.{along_at}
+use Rattle.buffa_wire.specs.BudgetLeft.{BudgetLeft, nothing, plus}
+use Rattle.buffa_map.specs.Parses.{parse_all}
 use Rattle.buffa_map.specs.Codec.{need_by}
 
 -- What the field whose tag, of a number and a wire type, was read makes of a value, and what follows the field.
@@ -28,20 +28,20 @@ value_of (Err e) = None
 
 -- what fields, to the end of the bytes, make of a value
 abbrev pub merged_by : {X : Type 0} → FieldReader X → X → List ℕ → Option X
-merged_by field v bs = value_of (along_at (next_at field) v bs)
+merged_by field v bs = value_of (parse_all (next_at field) v bs)
 
 -- What the field whose tag, of a number and a wire type, was read costs, a malformed one too.
 abbrev pub FieldNeed : Type 0
-FieldNeed = ℕ → WireType → List ℕ → Left
+FieldNeed = ℕ → WireType → List ℕ → BudgetLeft
 
 -- What fields cost, to the end of the bytes or to what is no field, which counts too. Each field has a byte at least,
 -- so the bytes bound the steps.
-unfoldable pub cost_within : FieldNeed → ℕ → ℕ → List ℕ → Left
+unfoldable pub cost_within : FieldNeed → ℕ → ℕ → List ℕ → BudgetLeft
 cost_within need d k [] = nothing
 cost_within need d zero (b ∷ bs) = nothing
 cost_within need d (suc k) (b ∷ bs) = need_by (tag_at (b ∷ bs)) (λ t. plus (need t.0 t.1 t.2) (need_by (skip_at d t.0 t.1 t.2) (cost_within need d k)))
 
-unfoldable pub cost_by : FieldNeed → ℕ → List ℕ → Left
+unfoldable pub cost_by : FieldNeed → ℕ → List ℕ → BudgetLeft
 cost_by need d bs = cost_within need d (length bs) bs
 
 -- a varint field of number n, whose value is put where it belongs

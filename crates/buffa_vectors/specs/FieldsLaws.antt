@@ -5,14 +5,14 @@ use Rattle.buffa_wire.specs.Gives.{◌>>=◌, Gives}
 use Rattle.buffa_wire.specs.Field.{IsTag, Payload, SomeField}
 use Rattle.buffa_wire.specs.Join.{Join}
 use Rattle.buffa_wire.specs.Join.Join.{none, more}
-use Rattle.buffa_wire.specs.Left.{Left, nothing}
+use Rattle.buffa_wire.specs.BudgetLeft.{BudgetLeft, nothing}
 use Rattle.buffa_wire.specs.Message.{IsFieldMerged}
 use Rattle.buffa_wire.specs.Reading.{tag_at}
 use Rattle.buffa_wire.specs.Number.{IsNumber}
 use Rattle.buffa_wire.specs.Records.{Datum}
-use Rattle.buffa_wire.specs.Text.{W, field_text}
+use Rattle.buffa_wire.specs.Text.{records_text, field_text}
 use Rattle.buffa_wire.specs.Values.{int32_at, int32_of, int32_text, tag_text}
-use Rattle.buffa_bytes.specs.Varint.{TakesVar, VarFault}
+use Rattle.buffa_bytes.specs.Varint.{TakesVarint, VarintFault}
 use Rattle.buffa_bytes.specs.declared.wire_type.WireType.{WireType}
 use Rattle.buffa_bytes.specs.declared.wire_type.WireType.TheVariants.{Varint, Fixed64, LengthDelimited, StartGroup, EndGroup, Fixed32}
 use Rattle.buffa_bytes.specs.declared.error.DecodeError.{DecodeError}
@@ -20,45 +20,45 @@ use Rattle.buffa_bytes.specs.declared.error.DecodeError.TheVariants.{WireTypeMis
 use Rattle.buffa_bytes.proofs.StepLemmas.{Agrees, agree_bind, agree_err, agree_if, agree_ok, agree_weaker, bind_same}
 use Rattle.buffa_bytes.proofs.FieldLemmas.{payload_complete, payload_sound, tag_complete, tag_some, tag_sound}
 use Rattle.buffa_bytes.proofs.IntLemmas.{int32_below}
-use Rattle.buffa_bytes.proofs.ShortestLemmas.{V-last, length-V}
-use Rattle.buffa_bytes.proofs.VarintLemmas.{Var-V, varint_complete, varint_sound as varint_is_sound}
+use Rattle.buffa_bytes.proofs.ShortestLemmas.{varint_text-last, length-varint_text}
+use Rattle.buffa_bytes.proofs.VarintLemmas.{IsVarint-varint_text, varint_complete, varint_sound as varint_is_sound}
 use Rattle.std.specs.Int.{cast_unsigned, w32, w64}
 use Rattle.buffa_wire.proofs.MessageLemmas.{NoLimit, payload_no_limit, tag_no_limit, var_no_limit}
-use Rattle.buffa_map.specs.Along.{along_at, along_within}
+use Rattle.buffa_map.specs.Parses.{parse_all, parse_within}
 use Rattle.buffa_map.proofs.AlongLemmas.{ok_same}
 use Rattle.buffa_map.proofs.EntryLemmas.{check_sound}
 use Rattle.buffa_vectors.specs.Fields.{FieldReader, int32_field, merged_by, next_at, number_records, number_text, skipped_field, value_of, varint_field}
 
 -- ---- steps along bytes, each of which takes some
 module _ {S : Type 0} (f : S → List ℕ → Result (S × List ℕ) DecodeError) (falls : (s : S) (bs : List ℕ) (x : S × List ℕ) → f s bs ≡ Ok x → length x.1 < length bs) where
-  enough : (k m : ℕ) (s : S) (bs : List ℕ) → length bs ≤ k → length bs ≤ m → along_within f k s bs ≡ along_within f m s bs
-  unfolding along_within
+  enough : (k m : ℕ) (s : S) (bs : List ℕ) → length bs ≤ k → length bs ≤ m → parse_within f k s bs ≡ parse_within f m s bs
+  unfolding parse_within
   enough k m s [] h l = refl
   enough zero m s (b ∷ bs) h l = absurd (omega arith)
   enough (suc k) zero s (b ∷ bs) h l = absurd (omega arith)
-  enough (suc k) (suc m) s (b ∷ bs) h l = bind_same (f s (b ∷ bs)) (λ x. along_within f k x.0 x.1) (λ x. along_within f m x.0 x.1)
+  enough (suc k) (suc m) s (b ∷ bs) h l = bind_same (f s (b ∷ bs)) (λ x. parse_within f k x.0 x.1) (λ x. parse_within f m x.0 x.1)
       (λ x e. let short = falls s (b ∷ bs) x e in enough k m x.0 x.1 (omega (arith, short)) (omega (arith, short)))
 
-  turn : (s : S) (b : ℕ) (bs : List ℕ) → along_at f s (b ∷ bs) ≡ (f s (b ∷ bs) >>= (λ x. along_within f (length bs) x.0 x.1))
-  unfolding along_within along_at
+  turn : (s : S) (b : ℕ) (bs : List ℕ) → parse_all f s (b ∷ bs) ≡ (f s (b ∷ bs) >>= (λ x. parse_within f (length bs) x.0 x.1))
+  unfolding parse_within parse_all
   turn s b bs = refl
 
-  whole : (s : S) (bs : List ℕ) → along_at f s bs ≡ along_within f (length bs) s bs
-  unfolding along_at
+  whole : (s : S) (bs : List ℕ) → parse_all f s bs ≡ parse_within f (length bs) s bs
+  unfolding parse_all
   whole s bs = refl
 
-  along_ok : (s t : S) (bs x : List ℕ) → 0 < length bs → f s bs ≡ Ok (t, x) → along_at f s bs ≡ along_at f t x
+  along_ok : (s t : S) (bs x : List ℕ) → 0 < length bs → f s bs ≡ Ok (t, x) → parse_all f s bs ≡ parse_all f t x
   along_ok s t [] x some h = absurd (omega arith)
   along_ok s t (b ∷ bs) x some h =
       let short = falls s (b ∷ bs) (t, x) h in
       turn s b bs ∙ rw h (enough (length bs) (length x) t x (omega (arith, short)) (omega arith)) ∙ sym (whole t x)
 
-  along_err : (s : S) (bs : List ℕ) (e : DecodeError) → 0 < length bs → f s bs ≡ Err e → along_at f s bs ≡ Err e
+  along_err : (s : S) (bs : List ℕ) (e : DecodeError) → 0 < length bs → f s bs ≡ Err e → parse_all f s bs ≡ Err e
   along_err s [] e some h = absurd (omega arith)
   along_err s (b ∷ bs) e some h = turn s b bs ∙ rw h refl
 
-  along_none : (s : S) → along_at f s [] ≡ Ok s
-  unfolding along_within along_at
+  along_none : (s : S) → parse_all f s [] ≡ Ok s
+  unfolding parse_within parse_all
   along_none s = refl
 
 some_of : {A : Type 0} (r : Result A DecodeError) (w : A) → value_of r ≡ Some w → r ≡ Ok w
@@ -92,21 +92,21 @@ module _ {X : Type 0} (d : ℕ) (field : FieldReader X) (sound : IsSound d field
   falls : (v : X) (bs : List ℕ) (x : X × List ℕ) → next_at field v bs ≡ Ok x → length x.1 < length bs
   falls v bs x h = let u = agree_ok (next_at field v bs) x (next_sound v bs) h in omega (arith, u.3, ap length u.2, length-append u.0 x.1)
 
-  then_joined : (k : ℕ) (v : X) (bs : List ℕ) (w : X) (r : Result (X × List ℕ) DecodeError) → next_at field v bs ≡ r → (r >>= (λ x. along_within (next_at field) k x.0 x.1)) ≡ Ok w →
-      ((u : X) (x : List ℕ) → along_within (next_at field) k u x ≡ Ok w → Join (SomeField d) x) → Join (SomeField d) bs
+  then_joined : (k : ℕ) (v : X) (bs : List ℕ) (w : X) (r : Result (X × List ℕ) DecodeError) → next_at field v bs ≡ r → (r >>= (λ x. parse_within (next_at field) k x.0 x.1)) ≡ Ok w →
+      ((u : X) (x : List ℕ) → parse_within (next_at field) k u x ≡ Ok w → Join (SomeField d) x) → Join (SomeField d) bs
   then_joined k v bs w (Ok x) is h again =
       let u = agree_ok (next_at field v bs) x (next_sound v bs) is in subst (λ z. Join (SomeField d) z) (sym u.2) (more u.0 x.1 u.1 (again x.0 x.1 h))
   then_joined k v bs w (Err e) is h again = cc
 
-  joined : (k : ℕ) (v : X) (bs : List ℕ) (w : X) → along_within (next_at field) k v bs ≡ Ok w → Join (SomeField d) bs
-  unfolding along_within
+  joined : (k : ℕ) (v : X) (bs : List ℕ) (w : X) → parse_within (next_at field) k v bs ≡ Ok w → Join (SomeField d) bs
+  unfolding parse_within
   joined k v [] w h = none
   joined zero v (b ∷ bs) w h = cc
   joined (suc k) v (b ∷ bs) w h = then_joined k v (b ∷ bs) w (next_at field v (b ∷ bs)) refl h (λ u x q. joined k u x w q)
 
   -- what is merged is a join of fields
   pub fields : (v w : X) (b : List ℕ) → merged_by field v b ≡ Some w → Join (SomeField d) b
-  fields v w b h = joined (length b) v b w (sym (whole (next_at field) falls v b) ∙ some_of (along_at (next_at field) v b) w h)
+  fields v w b h = joined (length b) v b w (sym (whole (next_at field) falls v b) ∙ some_of (parse_all (next_at field) v b) w h)
 
   -- no bytes change nothing
   pub empty : (v : X) → merged_by field v [] ≡ Some v
@@ -158,7 +158,7 @@ module _ {X : Type 0} (d : ℕ) (field : FieldReader X) (sound : IsSound d field
       (q.0, q.1, q.2, λ t tag. taken_by v n w t tag u bs rest q.0 h q.2 (same v n w q.0 q.1))
 
   -- where messages cost nothing
-  pub free : (r : Result (Unit {0}) DecodeError) (old new : X) (n : ℕ) (w : WireType) (bs rest : List ℕ) (left : Left) → Gives (λ _. (new, rest)) r (field old n w bs) →
+  pub free : (r : Result (Unit {0}) DecodeError) (old new : X) (n : ℕ) (w : WireType) (bs rest : List ℕ) (left : BudgetLeft) → Gives (λ _. (new, rest)) r (field old n w bs) →
       IsFieldMerged (λ _. merged_by field) (λ _ _. nothing) d old n w bs left r new left rest
   free (Ok x) old new n w bs rest left h = let q = taken old new n w bs rest h in (q.0, q.1, q.2, λ t tag. (q.3 t tag, (omega arith, omega arith)))
   free (Err e) old new n w bs rest left h =
@@ -191,7 +191,7 @@ module _ {X : Type 0} (d n m : ℕ) (put : ℕ → X) where
   varint_same Fixed32 p h = inr (WireTypeMismatch m Varint Fixed32, λ x. refl)
 
 -- ---- int32 fields
-int32_takes : (bs : List ℕ) → Agrees (int32_at bs) (λ x. (k : ℕ) × TakesVar bs k x.1) (VarFault bs)
+int32_takes : (bs : List ℕ) → Agrees (int32_at bs) (λ x. (k : ℕ) × TakesVarint bs k x.1) (VarintFault bs)
 int32_takes bs = agree_bind (varint_is_sound bs) (λ k u. record { holds = (k.0, u) }) (λ e h. h)
 
 -- of number m, in a field of number n, which is m
@@ -226,33 +226,33 @@ some_text n (pos zero) h = absurd (h refl)
 some_text n (pos (suc k)) h = refl
 some_text n (negsuc k) h = refl
 
-pub number_text_records : (n : ℕ) (v : ℤ) → number_text n v ≡ W (number_records n v)
+pub number_text_records : (n : ℕ) (v : ℤ) → number_text n v ≡ records_text (number_records n v)
 number_text_records n (pos zero) = refl
 number_text_records n (pos (suc k)) = sym (append-nil (tag_text n Varint ++ int32_text (pos (suc k))))
 number_text_records n (negsuc k) = sym (append-nil (tag_text n Varint ++ int32_text (negsuc k)))
 
-W-append : (xs ys : List (ℕ × Datum)) → W (xs ++ ys) ≡ W xs ++ W ys
-W-append [] ys = refl
-W-append (x ∷ xs) ys = ap (λ (z : List ℕ). field_text x.0 x.1 ++ z) (W-append xs ys) ∙ sym (append_assoc (field_text x.0 x.1) (W xs) (W ys))
+records_text-append : (xs ys : List (ℕ × Datum)) → records_text (xs ++ ys) ≡ records_text xs ++ records_text ys
+records_text-append [] ys = refl
+records_text-append (x ∷ xs) ys = ap (λ (z : List ℕ). field_text x.0 x.1 ++ z) (records_text-append xs ys) ∙ sym (append_assoc (field_text x.0 x.1) (records_text xs) (records_text ys))
 
 -- the text of records and of more records
-pub both_records : (a b : List ℕ) (xs ys : List (ℕ × Datum)) → a ≡ W xs → b ≡ W ys → a ++ b ≡ W (xs ++ ys)
-both_records a b xs ys h k = (λ i. h i ++ k i) ∙ sym (W-append xs ys)
+pub both_records : (a b : List ℕ) (xs ys : List (ℕ × Datum)) → a ≡ records_text xs → b ≡ records_text ys → a ++ b ≡ records_text (xs ++ ys)
+both_records a b xs ys h k = (λ i. h i ++ k i) ∙ sym (records_text-append xs ys)
 
 -- the tag of a small number is one byte
 pub tag_one : (n : ℕ) → n < 16 → length (tag_text n Varint) ≡ 1
-tag_one n h = ap length (V-last (8 * n + 0) (omega (arith, h)))
+tag_one n h = ap length (varint_text-last (8 * n + 0) (omega (arith, h)))
 
 pub length_tag : (n : ℕ) (v : ℤ) → n < 16 → length (tag_text n Varint ++ int32_text v) ≡ 1 + length (int32_text v)
 length_tag n v h = omega (arith, length-append (tag_text n Varint) (int32_text v), tag_one n h)
 
 pub length_number : (n : ℕ) (v : ℤ) → n < 16 → FitsSigned w32 v → length (number_text n v) ≤ 11
 length_number n (pos zero) h f = omega arith
-length_number n (pos (suc k)) h f = omega (arith, length_tag n (pos (suc k)) h, length-V (cast_unsigned w64 (pos (suc k))) (int32_below (pos (suc k)) f))
-length_number n (negsuc k) h f = omega (arith, length_tag n (negsuc k) h, length-V (cast_unsigned w64 (negsuc k)) (int32_below (negsuc k) f))
+length_number n (pos (suc k)) h f = omega (arith, length_tag n (pos (suc k)) h, length-varint_text (cast_unsigned w64 (pos (suc k))) (int32_below (pos (suc k)) f))
+length_number n (negsuc k) h f = omega (arith, length_tag n (negsuc k) h, length-varint_text (cast_unsigned w64 (negsuc k)) (int32_below (negsuc k) f))
 
 pub number_tag : (n : ℕ) → IsNumber n → n < 16 → IsTag (tag_text n Varint) n Varint
-number_tag n is h = (is, Var-V (8 * n + 0) (omega (arith, h)))
+number_tag n is h = (is, IsVarint-varint_text (8 * n + 0) (omega (arith, h)))
 
 -- the text of an int32 field is merged, and then what follows it
 module _ {X : Type 0} (d : ℕ) (field : FieldReader X) (sound : IsSound d field) (same : IsSame d field) (n : ℕ) (number : IsNumber n) (small : n < 16) where

@@ -1,7 +1,7 @@
 -- What bytes mean to a message of one int32: a field of number 1 is the value, others are passed over.
 -- Source: the protobuf encoding guide, "Message Structure".
 use Rattle.std.specs.Prelude.{ℤ, ℕ, ◌==◌, List, Option, if◌then◌else◌}
-use Rattle.buffa_wire.specs.Left.{Left, nothing}
+use Rattle.buffa_wire.specs.BudgetLeft.{BudgetLeft, nothing}
 use Rattle.buffa_wire.specs.Records.{Datum}
 use Rattle.buffa_vectors.specs.Fields.{FieldReader, int32_field, merged_by, number_records, number_text, skipped_field}
 
@@ -12,7 +12,7 @@ abbrev pub flat_merged : ℕ → ℤ → List ℕ → Option ℤ
 flat_merged d v bs = merged_by (flat_field d) v bs
 
 -- it costs nothing
-abbrev pub flat_cost : ℕ → List ℕ → Left
+abbrev pub flat_cost : ℕ → List ℕ → BudgetLeft
 flat_cost d bs = nothing
 
 -- the field of the value, not written at 0

@@ -4,7 +4,7 @@ use Rattle.std.specs.Prelude.{ℕ, suc, ◌-◌, List, [], ◌∷◌, ◌++◌, 
 use Rattle.buffa_bytes.specs.declared.wire_type.WireType.{WireType}
 use Rattle.buffa_bytes.specs.declared.error.DecodeError.{DecodeError}
 use Rattle.buffa_wire.specs.Gives.{◌>>=◌}
-use Rattle.buffa_wire.specs.Left.{Left, slots}
+use Rattle.buffa_wire.specs.BudgetLeft.{BudgetLeft, slots}
 use Rattle.buffa_wire.specs.RecordReading.{field_at}
 use Rattle.buffa_wire.specs.Records.{Datum}
 use Rattle.buffa_vectors.specs.Fields.{FieldNeed, FieldReader, cost_by, merged_by}
@@ -20,7 +20,7 @@ abbrev pub keep_merged : ℕ → List (ℕ × Datum) → List ℕ → Option (Li
 keep_merged d v bs = merged_by (keep_field d) v bs
 
 -- the slots that so many steps left were spent of those that were there for all
-abbrev pub spent_of : ℕ → Result (Datum × ℕ × List ℕ) DecodeError → Left
+abbrev pub spent_of : ℕ → Result (Datum × ℕ × List ℕ) DecodeError → BudgetLeft
 spent_of all (Ok x) = slots (all - x.1)
 spent_of all (Err e) = slots all
 
@@ -28,5 +28,5 @@ spent_of all (Err e) = slots all
 abbrev pub keep_need : ℕ → FieldNeed
 keep_need d n w bs = spent_of (suc (length bs)) (record_at d n w bs)
 
-abbrev pub keep_cost : ℕ → List ℕ → Left
+abbrev pub keep_cost : ℕ → List ℕ → BudgetLeft
 keep_cost d bs = cost_by (keep_need d) d bs

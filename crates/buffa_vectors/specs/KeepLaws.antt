@@ -13,14 +13,14 @@ use Rattle.buffa_wire.proofs.JoinLemmas.{join_records, records_join}
 use Rattle.buffa_wire.proofs.LoopLemmas.{field_is_read, field_taken}
 use Rattle.buffa_wire.proofs.MessageLemmas.{NoLimit, length_no_limit, tag_no_limit, var_no_limit}
 use Rattle.buffa_wire.specs.Field.{IsTag, Payload}
-use Rattle.buffa_wire.specs.Left.{Left, Lacks, Pays, PaysAtMost, slots as left_slots}
+use Rattle.buffa_wire.specs.BudgetLeft.{BudgetLeft, Lacks, Pays, PaysAtMost, slots as left_slots}
 use Rattle.buffa_wire.specs.Message.{IsFieldMerged, IsLimit}
 use Rattle.buffa_wire.proofs.ParseLemmas.{text_parses}
 use Rattle.buffa_wire.specs.Falls.{height-records}
 use Rattle.buffa_wire.specs.Parse.{FieldFault, FieldFaultOf, GroupFault, InsideFault, Fits, IsPayload, Parse, TakesField, slots, slots_inside}
 use Rattle.buffa_wire.specs.RecordReading.{field_at}
 use Rattle.buffa_wire.specs.Records.{Datum, Records, bytes, fixed32, fixed64, group, height, no_records, one, records_of, varint}
-use Rattle.buffa_wire.specs.Text.{W, wire_of}
+use Rattle.buffa_wire.specs.Text.{records_text, wire_of}
 use Rattle.buffa_vectors.specs.Fields.{merged_by}
 use Rattle.buffa_vectors.specs.FieldsLaws.{IsSame, IsSound, empty, read}
 use Rattle.buffa_vectors.specs.CostLaws.{paid}
@@ -142,8 +142,8 @@ keep_parsed (y ∷ ys) d v b (f, r, (t, p, tag, payload, is), next, all) =
     ∙ read d (keep_field d) (keep_sound d) (keep_same d) v y.0 (wire_of y.1) t tag (v ++ (y.0, y.1) ∷ []) (p ++ r) r kept
     ∙ keep_parsed ys d (v ++ (y.0, y.1) ∷ []) r next ∙ ap (λ z. Some z) (append_assoc v (y ∷ []) ys)
 
-pub keep_back : (d : ℕ) (v : List (ℕ × Datum)) → Fits (records_of v) → height v ≤ d → keep_merged d [] (W v) ≡ Some v
-keep_back d v fits h = keep_parsed v d [] (W v) (text_parses (records_of v) d fits (subst (λ k. k ≤ d) (sym (height-records v)) h))
+pub keep_back : (d : ℕ) (v : List (ℕ × Datum)) → Fits (records_of v) → height v ≤ d → keep_merged d [] (records_text v) ≡ Some v
+keep_back d v fits h = keep_parsed v d [] (records_text v) (text_parses (records_of v) d fits (subst (λ k. k ≤ d) (sym (height-records v)) h))
 
 le_or_lt : (a b : ℕ) → (a ≤ b) ⊎ (b < a)
 le_or_lt zero b = inl (omega arith)
@@ -160,7 +160,7 @@ module _ (d s n : ℕ) (w : WireType) (bs : List ℕ) where
       let need = needed d n w bs u.0 rest x u.1 u.2 u.4 in
       (rw (all_slots d n w bs u.0 rest x u.1 u.2 u.4) refl, omega (arith, ap (λ z. z.unknown) need, u.3), ap (λ z. z.memory) need)
 
-  refused_by : (r : Result (Datum × ℕ × List ℕ) DecodeError) → record_at d n w bs ≡ r → (v : List (ℕ × Datum)) (left : Left) (e : DecodeError) → left.unknown ≡ s → field_at d s n w bs ≡ Err e →
+  refused_by : (r : Result (Datum × ℕ × List ℕ) DecodeError) → record_at d n w bs ≡ r → (v : List (ℕ × Datum)) (left : BudgetLeft) (e : DecodeError) → left.unknown ≡ s → field_at d s n w bs ≡ Err e →
       Lacks left (keep_need d n w bs) ⊎ ((x : DecodeError) × (keep_field d v n w bs ≡ Err x) × NoLimit e)
   refused_by (Ok y) is v left e same h =
       let u = agree_ok (record_at d n w bs) y (field_is_read d (suc (length bs)) n w bs) is in
@@ -176,7 +176,7 @@ module _ (d s n : ℕ) (w : WireType) (bs : List ℕ) where
       ]
 
   -- it is refused
-  pub keeps_no : (v : List (ℕ × Datum)) (left : Left) (e : DecodeError) → left.unknown ≡ s → field_at d s n w bs ≡ Err e →
+  pub keeps_no : (v : List (ℕ × Datum)) (left : BudgetLeft) (e : DecodeError) → left.unknown ≡ s → field_at d s n w bs ≡ Err e →
       Lacks left (keep_need d n w bs) ⊎ ((x : DecodeError) × (keep_field d v n w bs ≡ Err x) × NoLimit e)
   keeps_no v left e same h = refused_by (record_at d n w bs) refl v left e same h
 
@@ -185,7 +185,7 @@ well = Ok tt
 
 -- the contract of merging a field that was read
 module _ (d n : ℕ) (w : WireType) (bs rest : List ℕ) (v : List (ℕ × Datum)) where
-  pub keep_err : (r : Result (Unit {0}) DecodeError) (e f : DecodeError) → r ≡ Err f → f ≡ e → (left : Left) (s : ℕ) → s ≡ left.unknown → (e ≢ error.OutOfMemory → field_at d s n w bs ≡ Err e) →
+  pub keep_err : (r : Result (Unit {0}) DecodeError) (e f : DecodeError) → r ≡ Err f → f ≡ e → (left : BudgetLeft) (s : ℕ) → s ≡ left.unknown → (e ≢ error.OutOfMemory → field_at d s n w bs ≡ Err e) →
       IsFieldMerged keep_merged keep_cost d v n w bs left r v left rest
   keep_err r e f is same left s all h =
       let bad : Result (Unit {0}) DecodeError = Err e in
@@ -193,7 +193,7 @@ module _ (d n : ℕ) (w : WireType) (bs rest : List ℕ) (v : List (ℕ × Datum
       (paid (keep_need d) d (keep_stays d) (keep_field d) (keep_sound d) (keep_same d) bad v v n w bs rest left left
       ((omega arith, omega arith, omega arith, omega arith), λ ne. keeps_no d s n w bs v left e (sym all) (h ne)))
 
-  pub keep_ok : (x : Datum) (slots_left : ℕ) (new : List (ℕ × Datum)) (before after : Left) (s : ℕ) → s ≡ before.unknown → field_at d s n w bs ≡ Ok (x, slots_left, rest) → new ≡ v ++ (n, x) ∷ [] →
+  pub keep_ok : (x : Datum) (slots_left : ℕ) (new : List (ℕ × Datum)) (before after : BudgetLeft) (s : ℕ) → s ≡ before.unknown → field_at d s n w bs ≡ Ok (x, slots_left, rest) → new ≡ v ++ (n, x) ∷ [] →
       after.unknown ≡ slots_left → after.memory ≡ before.memory → IsFieldMerged keep_merged keep_cost d v n w bs before well new after rest
   keep_ok x slots_left new before after s all h is u m =
       let k = keeps d s n w bs x slots_left rest h v in

@@ -4,8 +4,8 @@ use Rattle.std.specs.Option.{option_and_then}
 use Rattle.buffa_wire.specs.Field.{SomeField}
 use Rattle.buffa_wire.specs.Join.{Join}
 use Rattle.buffa_wire.specs.Join.Join.{none, more}
-use Rattle.buffa_wire.specs.Left.{Left, nothing}
-use Rattle.buffa_wire.specs.Text.{W, field_text}
+use Rattle.buffa_wire.specs.BudgetLeft.{BudgetLeft, nothing}
+use Rattle.buffa_wire.specs.Text.{records_text, field_text}
 use Rattle.buffa_wire.specs.Records.{Datum}
 use Rattle.buffa_bytes.proofs.FieldLemmas.{tag_some}
 use Rattle.std.proofs.Common.{append_assoc}
@@ -18,7 +18,7 @@ abbrev pub merged : ℕ → Grown → List ℕ → Option Grown
 merged d t [] = Some t
 merged d t (b ∷ bs) = None
 
-abbrev pub cost : ℕ → List ℕ → Left
+abbrev pub cost : ℕ → List ℕ → BudgetLeft
 cost d b = nothing
 
 pub merged_fields : (d : ℕ) (v w : Grown) (b : List ℕ) → merged d v b ≡ Some w → Join (SomeField d) b
@@ -32,9 +32,9 @@ next_in d v (x ∷ f) r h = refl
 pub merged_next : (d : ℕ) (v : Grown) (f r : List ℕ) → SomeField d f → merged d v (f ++ r) ≡ option_and_then (λ w. merged d w r) (merged d v f)
 merged_next d v f r (n, w, (t, p, tag, payload, is)) = next_in d v f r (omega (arith, tag_some t n w tag, ap length is, length-append t p))
 
-kids_text : (ks : Kids) → texts ks ≡ W (kids_records ks)
+kids_text : (ks : Kids) → texts ks ≡ records_text (kids_records ks)
 kids_text no_kids = refl
 kids_text (kid k t ks) = ap (λ (z : List ℕ). kid_record k (text t) ++ z) (kids_text ks)
 
-pub text_records : (t : Grown) → text t ≡ W (records t)
+pub text_records : (t : Grown) → text t ≡ records_text (records t)
 text_records (grown l ks) = both_records (value_text l) (texts ks) (value_records l) (kids_records ks) (number_text_records 1 l) (kids_text ks)

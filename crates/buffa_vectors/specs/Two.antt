@@ -1,7 +1,7 @@
 -- What bytes mean to a message of two int32: fields of number 1 and 2 are its values, others are passed over.
 -- Source: the protobuf encoding guide, "Message Structure".
 use Rattle.std.specs.Prelude.{ℤ, ℕ, ◌==◌, List, ◌++◌, Option, if◌then◌else◌}
-use Rattle.buffa_wire.specs.Left.{Left, nothing}
+use Rattle.buffa_wire.specs.BudgetLeft.{BudgetLeft, nothing}
 use Rattle.buffa_wire.specs.Records.{Datum}
 use Rattle.buffa_vectors.specs.Fields.{FieldReader, int32_field, merged_by, number_records, number_text, skipped_field}
 
@@ -14,7 +14,7 @@ abbrev pub two_merged : ℕ → ℤ × ℤ → List ℕ → Option (ℤ × ℤ)
 two_merged d v bs = merged_by (two_field d) v bs
 
 -- it costs nothing
-abbrev pub two_cost : ℕ → List ℕ → Left
+abbrev pub two_cost : ℕ → List ℕ → BudgetLeft
 two_cost d bs = nothing
 
 -- the fields of both values, each not written at 0

@@ -5,7 +5,7 @@ use Rattle.buffa_bytes.proofs.IntLemmas.{int32_back}
 use Rattle.buffa_bytes.proofs.StepLemmas.{agree_if}
 use Rattle.buffa_bytes.specs.declared.wire_type.WireType.TheVariants.{Varint}
 use Rattle.buffa_bytes.specs.declared.error.DecodeError.{DecodeError}
-use Rattle.buffa_wire.specs.Text.{W}
+use Rattle.buffa_wire.specs.Text.{records_text}
 use Rattle.buffa_wire.specs.Values.{int32_text}
 use Rattle.buffa_vectors.specs.Fields.{int32_field, merged_by, number_records, number_text, skipped_field}
 use Rattle.buffa_vectors.specs.FieldsLaws.{IsSame, IsSound, both_records, empty, int32_same, int32_sound, number_read, number_text_records, same_if, skipped_same, skipped_sound}
@@ -24,7 +24,7 @@ two_same d v n w p h =
 pub two_cost_some : 0 < 32
 two_cost_some = omega arith
 
-pub two_text_records : (v : ℤ × ℤ) → two_text v ≡ W (two_records v)
+pub two_text_records : (v : ℤ × ℤ) → two_text v ≡ records_text (two_records v)
 two_text_records v = both_records (number_text 1 v.0) (number_text 2 v.1) (number_records 1 v.0) (number_records 2 v.1) (number_text_records 1 v.0) (number_text_records 2 v.1)
 
 pub two_back : (d : ℕ) (v : ℤ × ℤ) → FitsSigned w32 v.0 → FitsSigned w32 v.1 → two_merged d (pos 0, pos 0) (two_text v) ≡ Some v

@@ -5,7 +5,8 @@ ghost use Rattle.buffa_wire.specs.Gives.{Gives};
 ghost use Rattle.buffa_wire.specs.Written.{Writes};
 ghost use Rattle.buffa_vectors.specs.FieldsLaws.{empty, fields, next};
 ghost use Rattle.buffa_vectors.specs.Count.{count_cost, count_field, count_merged, count_records, count_text, one_text};
-ghost use Rattle.buffa_vectors.specs.CountLaws.{count_back, count_cost_some, count_same, count_sound, count_text_records};
+ghost use Rattle.buffa_vectors.specs.CountLaws.{count_back, count_cost_some, count_same, count_sound};
+ghost use Rattle.buffa_vectors.specs.CountLaws.{count_text_records};
 
 use buffa_wire::{
     Blank, Buf, DecodeContext, DecodeError, EncodeError, EncodeSink, Message, MessageSpec,
@@ -74,7 +75,8 @@ impl MessageSpec for CountMsg {
 
 // Merges the field whose tag was read.
 fn merge_count(count: &mut u64, tag: Tag, buf: &mut &[u8], depth: u32) -> Result<(), DecodeError>
-    ensures { Gives (λ _. (count.new, buf.new.now)) result (count_field depth count.old tag.number tag.wire_type buf.old.now) }
+    ensures { Gives (λ _. (count.new, buf.new.now)) result
+        (count_field depth count.old tag.number tag.wire_type buf.old.now) }
 {
     if tag.field_number() == 9 {
         check_wire_type(tag, WireType::Varint)?;

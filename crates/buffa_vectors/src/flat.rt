@@ -76,7 +76,8 @@ impl MessageSpec for FlatMsg {
 
 // Merges the field whose tag was read.
 fn merge_value(value: &mut i32, tag: Tag, buf: &mut &[u8], depth: u32) -> Result<(), DecodeError>
-    ensures { Gives (λ _. (value.new, buf.new.now)) result (flat_field depth value.old tag.number tag.wire_type buf.old.now) }
+    ensures { Gives (λ _. (value.new, buf.new.now)) result
+        (flat_field depth value.old tag.number tag.wire_type buf.old.now) }
 {
     if tag.field_number() == 1 {
         check_wire_type(tag, WireType::Varint)?;

@@ -107,7 +107,8 @@ impl Blank for New {
 impl Enumeration for New {
     ghost use Rattle.buffa_vectors.specs.declared.hues.New.TheVariants.{A, B, C};
 
-    ghost of_number = { λ n. if int_eq n (pos 0) then Some A else if int_eq n (pos 1) then Some B else if int_eq n (pos 2) then Some C else None };
+    ghost of_number = { λ n. if int_eq n (pos 0) then Some A else if int_eq n (pos 1) then Some B else if int_eq n
+        (pos 2) then Some C else None };
 
     fn from_i32(number: i32) -> Option<New> {
         match number {

@@ -6,7 +6,7 @@ ghost use Rattle.buffa_wire.specs.RecordReading.{field_at};
 ghost use Rattle.buffa_wire.specs.View.{datum_of};
 ghost use Rattle.buffa_wire.specs.Parse.{Fits};
 ghost use Rattle.buffa_wire.specs.Records.{Datum, height, records_of};
-ghost use Rattle.buffa_wire.specs.Text.{W};
+ghost use Rattle.buffa_wire.specs.Text.{records_text};
 ghost use Rattle.buffa_vectors.specs.CostLaws.{cost_empty, cost_next};
 ghost use Rattle.buffa_vectors.specs.FieldsLaws.{empty, fields, next};
 ghost use Rattle.buffa_vectors.specs.Keep.{keep_cost, keep_field, keep_merged, keep_need};
@@ -68,7 +68,7 @@ impl MessageSpec for BudgetMsg {
 
     ghost cost = { keep_cost };
 
-    ghost text = { W };
+    ghost text = { records_text };
 
     ghost records = { λ v. v };
 
@@ -103,7 +103,8 @@ fn read_alone(
     depth: u32,
     slots: usize,
 ) -> Result<(UnknownField, usize), DecodeError>
-    ensures reads { GivesUnlessFull (λ x. (datum_of x.0.payload, x.1, buf.new.now)) result (field_at depth slots tag.number tag.wire_type buf.old.now) }
+    ensures reads { GivesUnlessFull (λ x. (datum_of x.0.payload, x.1, buf.new.now)) result
+        (field_at depth slots tag.number tag.wire_type buf.old.now) }
     ensures number { IfOk result (λ x. x.0.number ≡ tag.number) }
 {
     let mut own = Budget::new(slots);

@@ -6,7 +6,7 @@ ghost use Rattle.buffa_wire.specs.Number.{IsNumber};
 ghost use Rattle.buffa_map.specs.Enums.{closed_reading};
 ghost use Rattle.buffa_map.specs.Pairs.{SamePairs};
 ghost use Rattle.buffa_map.specs.Rewrite.{Ordered};
-ghost use Rattle.buffa_map.specs.Run.{Fold, Run, Said, kept_records};
+ghost use Rattle.buffa_map.specs.Run.{fold_entries, Run, EntryRecord, undeclared_records};
 
 use buffa_map::laws::{one_reading, rewrite_means};
 use buffa_map::map_codec::{
@@ -22,7 +22,7 @@ use std::alloc::Global;
 pub enum PassFault {
     /// It couldn't be rewritten.
     Rewrite(RewriteError),
-    /// The rewrite couldn't be read, for want of memory or of budget.
+    /// The rewrite couldn't be read, since memory ran out or of budget.
     Decode(DecodeError),
 }
 
@@ -56,11 +56,11 @@ pub fn passed_on<
     requires number { IsNumber number }
     requires refines { Refines (numbers E.of_number E.blank_is) (numbers F.of_number F.blank_is) }
     requires keys { C.equal ≡ D.equal }
-    ensures { OnOk result ((es fs : List (Said KC.Value.Meaning ℤ)) →
+    ensures { OnOk result ((es fs : List (EntryRecord KC.Value.Meaning ℤ)) →
         Run KC.reading (closed_reading (numbers E.of_number E.blank_is)) depth number bytes.now es →
         Run KC.reading (closed_reading (numbers F.of_number F.blank_is)) depth number bytes.now fs →
-        (unknown.new.records ≡ unknown.old.records ++ kept_records number fs)
-        × (Ordered D.equal es fs → SamePairs D.equal (Fold D.equal (D.pairs map.old) fs) (D.pairs map.new))) }
+        (unknown.new.records ≡ unknown.old.records ++ undeclared_records number fs)
+        × (Ordered D.equal es fs → SamePairs D.equal (fold_entries D.equal (D.pairs map.old) fs) (D.pairs map.new))) }
 {
     let mut text = Vec::new(alloc);
     let mut budget = Budget::new(DEFAULT_UNKNOWN_FIELD_LIMIT);

@@ -21,7 +21,7 @@ use std::collections::HashMap;
 pub enum TripFault {
     /// It couldn't be written.
     Encode(EncodeError),
-    /// Its bytes couldn't be read, for want of memory or of budget.
+    /// Its bytes couldn't be read, since memory ran out or of budget.
     Decode(DecodeError),
 }
 

@@ -19,7 +19,7 @@ use std::test::Fail;
 #[derive(Clone, Copy)]
 enum Call {
     // An entry of a map<int32, Old> with so many slots; undeclared values are kept in a list of number 5.
-    Kept(usize),
+    undeclared(usize),
     // A run of a map<int32, Old> of this number, with no slot and no list.
     Dropped(u32),
     // A run of a map<int32, New> of number 5.
@@ -32,7 +32,7 @@ enum Call {
     Flat(u32),
     // An entry of a map<int32, TestMsg> that has a pair.
     Two,
-    // An entry of a map<Old, int32>, of which what isn't declared would be kept.
+    // An entry of a map<Old, int32>, of which what is undeclared would be kept.
     Keyed,
 }
 
@@ -41,10 +41,10 @@ type Row = (&'static str, Call, &'static str, &'static str);
 
 #[rattlefmt::skip]
 const ROWS: [Row; 23] = [
-    ("an undeclared value is kept", Call::Kept(9), "0408071063", "ok 2a0408071063"),
-    ("an undeclared value without a slot", Call::Kept(0), "0408071063", "UnknownFieldLimitExceeded "),
-    ("a declared value comes last", Call::Kept(9), "06080710631001", "ok 7=1 "),
-    ("an undeclared value comes last", Call::Kept(9), "06080710011063", "ok 2a06080710011063"),
+    ("an undeclared value is kept", Call::undeclared(9), "0408071063", "ok 2a0408071063"),
+    ("an undeclared value without a slot", Call::undeclared(0), "0408071063", "UnknownFieldLimitExceeded "),
+    ("a declared value comes last", Call::undeclared(9), "06080710631001", "ok 7=1 "),
+    ("an undeclared value comes last", Call::undeclared(9), "06080710011063", "ok 2a06080710011063"),
     ("an undeclared value is dropped", Call::Dropped(2), "12040801102a", "ok "),
     ("a declared value stands", Call::Dropped(2), "120408011001", "ok 1=1 "),
     ("a rewrite puts pairs first", Call::Rewritten, "2a04080110002a04080210022a0408011001", "ok 2a04080110012a0408021002"),
@@ -67,7 +67,7 @@ const ROWS: [Row; 23] = [
 ];
 
 // An answer in words.
-fn said(alloc: Global, answer: Result<(), DecodeError>) -> Result<String, Fail> {
+fn meant_entry(alloc: Global, answer: Result<(), DecodeError>) -> Result<String, Fail> {
     match answer {
         Ok(()) => Ok(format!(in alloc; "ok ")?),
         Err(fault) => Ok(format!(in alloc; "{fault} ")?),
@@ -87,7 +87,7 @@ fn with_enums<E: Enumeration>(
     Ok(text)
 }
 
-// An entry, with a list of what isn't declared.
+// An entry, with a list of what is undeclared.
 fn kept<B: Buf>(alloc: Global, buf: &mut B, slots: usize) -> Result<String, Fail> {
     let mut map: BTreeMap<i32, Old> = BTreeMap::new(alloc);
     let mut list = UnknownFields::new(alloc);
@@ -101,7 +101,7 @@ fn kept<B: Buf>(alloc: Global, buf: &mut B, slots: usize) -> Result<String, Fail
         5,
         Some(&mut list),
     );
-    let text = with_enums(alloc, said(alloc, answer)?, &map)?;
+    let text = with_enums(alloc, meant_entry(alloc, answer)?, &map)?;
     let mut records = Vec::new(alloc);
     list.write_to(&mut records)?;
     let records = hex::encode(alloc, &records)?;
@@ -116,7 +116,7 @@ fn read<E: Enumeration, B: Buf>(alloc: Global, buf: &mut B, number: u32) -> Resu
     let answer = read_map_field::<Int32, ClosedEnum<E>, _, _>(
         alloc, &mut map, number, buf, ctx, None,
     );
-    with_enums(alloc, said(alloc, answer)?, &map)
+    with_enums(alloc, meant_entry(alloc, answer)?, &map)
 }
 
 // What is written by a reader of the old enum.
@@ -149,7 +149,7 @@ fn flats<B: Buf>(alloc: Global, buf: &mut B, entry: Option<u32>) -> Result<Strin
             read_map_field::<Int32, Msg<FlatMsg>, _, _>(alloc, &mut map, 4, buf, ctx, None)
         }
     };
-    let mut text = said(alloc, answer)?;
+    let mut text = meant_entry(alloc, answer)?;
     for (key, message) in map.storage_iter() {
         text = format!(in alloc; "{text}{key}={} ", message.value)?;
     }
@@ -163,7 +163,7 @@ fn two<B: Buf>(alloc: Global, buf: &mut B) -> Result<String, Fail> {
     let mut budget = Budget::new(0);
     let ctx = DecodeContext::new(10, &mut budget);
     let answer = merge_entry::<Int32, Msg<TestMsg>, _, _>(alloc, &mut map, buf, ctx);
-    let mut text = said(alloc, answer)?;
+    let mut text = meant_entry(alloc, answer)?;
     for (key, message) in map.storage_iter() {
         text = format!(in alloc; "{text}{key}={},{} ", message.a, message.b)?;
     }
@@ -184,7 +184,7 @@ fn keyed<B: Buf>(alloc: Global, buf: &mut B) -> Result<String, Fail> {
         5,
         Some(&mut list),
     );
-    let mut text = said(alloc, answer)?;
+    let mut text = meant_entry(alloc, answer)?;
     for (key, value) in map.storage_iter() {
         text = format!(in alloc; "{text}{}={value} ", key.to_i32())?;
     }
@@ -197,7 +197,7 @@ fn keyed<B: Buf>(alloc: Global, buf: &mut B) -> Result<String, Fail> {
 // The answer of a call.
 fn answer<B: Buf>(alloc: Global, buf: &mut B, call: Call) -> Result<String, Fail> {
     match call {
-        Call::Kept(slots) => kept(alloc, buf, slots),
+        Call::undeclared(slots) => kept(alloc, buf, slots),
         Call::Dropped(number) => read::<Old, B>(alloc, buf, number),
         Call::Informed => read::<New, B>(alloc, buf, 5),
         Call::Rewritten => rewritten(alloc, buf),

@@ -135,9 +135,13 @@ fn write_children_by<S: EncodeSink, F>(
 where
     F: Fn(&Tree, &mut SizeCache, &mut S) -> Result<(), EncodeError>,
     requires next { IsNext (field_slots text slots (meant children.now.entries)) cache.old }
-    requires may { (x : _) (c : _) (s : _) → Contains (values children.now) x.now → IsNext (slots x.now) c.now → F.pre write x c s }
-    requires keeps { (x : _) (c : _) (s : _) (r : _) (d : _) (t : _) → Contains (values children.now) x.now → F.post write x c s r d t → IsWritten (text x.now) (slots x.now) c.now (S.written s.now) r d.now (S.written t.now) }
-    ensures { IsFieldWritten key_writing text slots 2 (meant children.now.entries) cache.old (S.written sink.old) result cache.new (S.written sink.new) }
+    requires may { (x : _) (c : _) (s : _) → Contains (values children.now) x.now → IsNext (slots x.now) c.now →
+        F.pre write x c s }
+    requires keeps { (x : _) (c : _) (s : _) (r : _) (d : _) (t : _) → Contains (values children.now) x.now →
+        F.post write x c s r d t → IsWritten (text x.now) (slots x.now) c.now (S.written s.now) r d.now
+        (S.written t.now) }
+    ensures { IsFieldWritten key_writing text slots 2 (meant children.now.entries) cache.old (S.written sink.old)
+        result cache.new (S.written sink.new) }
 {
     write_message_field_by::<Int32, Tree, BTreeMap<i32, Tree>, S, F>(
         children, 2, cache, sink, write,
@@ -151,7 +155,8 @@ pub(crate) fn write_tree<S: EncodeSink>(
     sink: &mut S,
 ) -> Result<(), EncodeError>
     requires { IsNext (slots tree.now) cache.old }
-    ensures { IsWritten (text tree.now) (slots tree.now) cache.old (S.written sink.old) result cache.new (S.written sink.new) }
+    ensures { IsWritten (text tree.now) (slots tree.now) cache.old (S.written sink.old) result cache.new
+        (S.written sink.new) }
 {
     write_number(1, &tree.label, sink)?;
     write_children_by(
@@ -160,7 +165,8 @@ pub(crate) fn write_tree<S: EncodeSink>(
         sink,
         |child: &Tree, cache: &mut SizeCache, sink: &mut S| -> Result<(), EncodeError>
             requires { IsNext (slots child.now) cache.old }
-            ensures { IsWritten (text child.now) (slots child.now) cache.old (S.written sink.old) result cache.new (S.written sink.new) }
+            ensures { IsWritten (text child.now) (slots child.now) cache.old (S.written sink.old) result cache.new
+                (S.written sink.new) }
         { write_tree(child, cache, sink) },
     )
 }
@@ -191,7 +197,8 @@ pub(crate) fn merge_tree(
         &mut rest,
         ctx,
         |child: &mut Tree, bytes: &[u8], depth: u32, budget: &mut Budget| -> Result<(), DecodeError>
-            ensures { IsMerged (merged depth child.old bytes.now) (cost depth bytes.now) budget.old result child.new budget.new }
+            ensures { IsMerged (merged depth child.old bytes.now) (cost depth bytes.now) budget.old result child.new
+                budget.new }
         { merge_tree(alloc, child, bytes, depth, budget) },
     );
     match merged {

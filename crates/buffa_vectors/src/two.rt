@@ -84,7 +84,8 @@ fn merge_values(
     buf: &mut &[u8],
     depth: u32,
 ) -> Result<(), DecodeError>
-    ensures { Gives (λ _. ((a.new, b.new), buf.new.now)) result (two_field depth (a.old, b.old) tag.number tag.wire_type buf.old.now) }
+    ensures { Gives (λ _. ((a.new, b.new), buf.new.now)) result
+        (two_field depth (a.old, b.old) tag.number tag.wire_type buf.old.now) }
 {
     match tag.field_number() {
         1 => {

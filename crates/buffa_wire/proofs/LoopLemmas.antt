@@ -76,24 +76,24 @@ unfolding group_at
 group_limit d s n bs e = rw e refl
 
 module _ (d s n : ℕ) (bs : List ℕ) (rs : List (ℕ × Datum)) (all : Result Group DecodeError) (deep : d ≢ 0) (read : behind (records_of rs) (group_at d s n bs) ≡ all) where
-  said : all ≡ behind (records_of rs) (tag_at bs >>= after_tag (d - 1) s n)
-  said = sym read ∙ ap (behind (records_of rs)) (at_least d s n bs deep)
+  meant_entry : all ≡ behind (records_of rs) (tag_at bs >>= after_tag (d - 1) s n)
+  meant_entry = sym read ∙ ap (behind (records_of rs)) (at_least d s n bs deep)
 
   pub group_tag_err : (e : DecodeError) → tag_at bs ≡ Err e → all ≡ Err e
-  group_tag_err e t = said ∙ rw t refl
+  group_tag_err e t = meant_entry ∙ rw t refl
 
   module _ (t : ℕ × WireType × List ℕ) (tag : tag_at bs ≡ Ok t) where
     pub group_end : t.1 ≡ wire.EndGroup → t.0 ≡ n → all ≡ Ok (records_of rs, s, t.2)
     unfolding after_tag
-    group_end w m = said ∙ rw (tag, closes_yes t.1 t.0 n w m) (ap (λ z. Ok (z, s, t.2)) (also-none (records_of rs)))
+    group_end w m = meant_entry ∙ rw (tag, closes_yes t.1 t.0 n w m) (ap (λ z. Ok (z, s, t.2)) (also-none (records_of rs)))
 
     pub group_other : t.1 ≡ wire.EndGroup → t.0 ≢ n → all ≡ Err (InvalidEndGroup t.0)
     unfolding after_tag field_by
-    group_other w m = said ∙ rw (tag, closes_no t.1 t.0 n (λ e. m), w) refl
+    group_other w m = meant_entry ∙ rw (tag, closes_no t.1 t.0 n (λ e. m), w) refl
 
     pub group_field_err : t.1 ≢ wire.EndGroup → (e : DecodeError) → field_at (d - 1) s t.0 t.1 t.2 ≡ Err e → all ≡ Err e
     unfolding after_tag
-    group_field_err w e f = said ∙ rw (tag, closes_no t.1 t.0 n (λ q. absurd (w q)), f) refl
+    group_field_err w e f = meant_entry ∙ rw (tag, closes_no t.1 t.0 n (λ q. absurd (w q)), f) refl
 
     pub group_next : t.1 ≢ wire.EndGroup → (x : Datum × ℕ × List ℕ) (m : ℕ) (next : List (ℕ × Datum)) → field_at (d - 1) s t.0 t.1 t.2 ≡ Ok x → m ≡ t.0 → next ≡ rs ++ (m, x.0) ∷ [] →
         behind (records_of next) (group_at d x.1 n x.2) ≡ all

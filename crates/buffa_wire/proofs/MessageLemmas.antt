@@ -5,14 +5,14 @@ use Rattle.buffa_bytes.specs.declared.wire_type.WireType.{WireType}
 use Rattle.buffa_bytes.specs.declared.wire_type.WireType.TheVariants.{Varint, Fixed64, LengthDelimited, StartGroup, EndGroup, Fixed32}
 use Rattle.buffa_bytes.specs.declared.error.DecodeError.{DecodeError}
 use Rattle.buffa_bytes.specs.declared.error.DecodeError.TheVariants as error
-use Rattle.buffa_bytes.specs.Varint.{VarFault}
+use Rattle.buffa_bytes.specs.Varint.{VarintFault}
 use Rattle.buffa_bytes.specs.Field.{BadTag, FieldFaultOver, GroupFault, IsTag, LengthFault, Payload, PayloadFault, PayloadFaultOver, SomeField, TagFault}
 use Rattle.buffa_bytes.specs.Join.{Join}
 use Rattle.buffa_bytes.specs.Join.Join.{none, more}
 use Rattle.buffa_bytes.specs.Reading.{tag_at}
 use Rattle.buffa_bytes.proofs.StepLemmas.{agree_err}
 use Rattle.buffa_bytes.proofs.FieldLemmas.{tag_complete, tag_sound}
-use Rattle.buffa_wire.specs.Left.{Left, Lacks, Pays, PaysAtMost, nothing, plus}
+use Rattle.buffa_wire.specs.BudgetLeft.{BudgetLeft, Lacks, Pays, PaysAtMost, nothing, plus}
 use Rattle.buffa_wire.specs.Message.{IsLimit, MergeFault}
 
 -- ---- no fault of bytes is a limit's
@@ -22,7 +22,7 @@ NoLimit e = IsLimit e → ⊥
 as_no_limit : (e f : DecodeError) → e ≡ f → NoLimit f → NoLimit e
 as_no_limit e f h k = subst (λ z. NoLimit z) (sym h) k
 
-pub var_no_limit : (bs : List ℕ) (e : DecodeError) → VarFault bs e → NoLimit e
+pub var_no_limit : (bs : List ℕ) (e : DecodeError) → VarintFault bs e → NoLimit e
 var_no_limit bs error.UnexpectedEof h = λ l. l
 var_no_limit bs error.VarintTooLong h = λ l. l
 var_no_limit bs _ h = absurd h
@@ -72,7 +72,7 @@ tagged d bs f r e (n, w, (t, p, is_tag, payload, is)) split h =
     let q : tag_at bs ≡ Ok (n, w, p ++ r) = ap tag_at (split ∙ ap (λ z. z ++ r) is ∙ append_assoc t p r) ∙ tag_complete t n w (p ++ r) is_tag in
     let k = sym q ∙ h in cc
 
-module _ {X : Type 0} (merged : ℕ → X → List ℕ → Option X) (cost : ℕ → List ℕ → Left)
+module _ {X : Type 0} (merged : ℕ → X → List ℕ → Option X) (cost : ℕ → List ℕ → BudgetLeft)
     (fields : (d : ℕ) (v w : X) (b : List ℕ) → merged d v b ≡ Some w → Join (SomeField d) b)
     (next : (d : ℕ) (v : X) (f r : List ℕ) → SomeField d f → merged d v (f ++ r) ≡ option_and_then (λ w. merged d w r) (merged d v f))
     (cost_next : (d : ℕ) (f r : List ℕ) → SomeField d f → cost d (f ++ r) ≡ plus (cost d f) (cost d r)) where
@@ -81,7 +81,7 @@ module _ {X : Type 0} (merged : ℕ → X → List ℕ → Option X) (cost : ℕ
   no_value d v bs e (Some w) is some h = let j = join_front bs (fields d v w bs is) some in absurd (tagged d bs j.0 j.1 e j.2 j.3 h)
 
   -- no tag begins what is left
-  pub untagged : (d : ℕ) (v : X) (bs : List ℕ) (left : Left) (e : DecodeError) → 0 < length bs → tag_at bs ≡ Err e → MergeFault (merged d v bs) (cost d bs) left e
+  pub untagged : (d : ℕ) (v : X) (bs : List ℕ) (left : BudgetLeft) (e : DecodeError) → 0 < length bs → tag_at bs ≡ Err e → MergeFault (merged d v bs) (cost d bs) left e
   untagged d v bs left e some h = inr (no_value d v bs e (merged d v bs) refl some h, tag_no_limit bs e (agree_err (tag_at bs) e (tag_sound bs) h))
 
   -- one field is merged
@@ -93,12 +93,12 @@ module _ {X : Type 0} (merged : ℕ → X → List ℕ → Option X) (cost : ℕ
   field_costs d bs t p x n w tag payload is = ap (cost d) (is ∙ sym (append_assoc t p x)) ∙ cost_next d (t ++ p) x (n, w, (t, p, tag, payload, refl))
 
 -- what is lacked of what is left is lacked of all
-lacks_all : (start now all rest : Left) → now.unknown + all.unknown ≡ start.unknown + rest.unknown → now.memory + all.memory ≡ start.memory + rest.memory → Lacks now rest → Lacks start all
+lacks_all : (start now all rest : BudgetLeft) → now.unknown + all.unknown ≡ start.unknown + rest.unknown → now.memory + all.memory ≡ start.memory + rest.memory → Lacks now rest → Lacks start all
 lacks_all start now all rest u m (inl few) = inl (omega (arith, u, few))
 lacks_all start now all rest u m (inr few) = inr (omega (arith, m, few))
 
 -- why what is left isn't merged is why all isn't
-pub loop_fault : {X : Type 0} (o p : Option X) (start now over all rest : Left) (e : DecodeError) → o ≡ p →
+pub loop_fault : {X : Type 0} (o p : Option X) (start now over all rest : BudgetLeft) (e : DecodeError) → o ≡ p →
     now.unknown + all.unknown ≡ start.unknown + rest.unknown → now.memory + all.memory ≡ start.memory + rest.memory → now.unknown ≤ start.unknown → now.memory ≤ start.memory →
     PaysAtMost now rest over × (e ≢ error.OutOfMemory → MergeFault p rest now e) → PaysAtMost start all over × (e ≢ error.OutOfMemory → MergeFault o all start e)
 loop_fault o p start now over all rest e same u m no_slot no_unit (spent, why) = (

@@ -9,7 +9,7 @@ use Rattle.buffa_bytes.specs.Reading.{tag_at}
 use Rattle.buffa_bytes.specs.Unread.{IsTailOf, bytes_read}
 use Rattle.buffa_bytes.proofs.TailLemmas.{tail_shorter}
 use Rattle.buffa_bytes.proofs.FieldLemmas.{tag_falls}
-use Rattle.buffa_wire.specs.Left.{SlotsSpent}
+use Rattle.buffa_wire.specs.BudgetLeft.{SlotsSpent}
 
 -- ---- slots
 pub none_spent : (n s t : ℕ) → t ≡ s → SlotsSpent n s t

@@ -1,4 +1,4 @@
-pub mod Left
+pub mod BudgetLeft
 pub mod Cache
 pub mod Passes
 pub mod Message

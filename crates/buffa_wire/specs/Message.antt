@@ -1,11 +1,11 @@
--- What merging a message promises: what bytes make of a value, and what they cost, is said by the message's type.
+-- What merging a message promises: what bytes make of a value, and what they cost, is meant_entry by the message's type.
 use Rattle.std.specs.Prelude.{◌≡◌, ◌≢◌, ℕ, zero, suc, ◌⊎◌, List, ◌++◌, Option, Some, None, Result, Ok, Err, MatchResult}
 use Rattle.buffa_bytes.specs.declared.error.DecodeError.{DecodeError}
 use Rattle.buffa_bytes.specs.declared.error.DecodeError.TheVariants.{ElementMemoryLimitExceeded, OutOfMemory, RecursionLimitExceeded, UnknownFieldLimitExceeded}
 use Rattle.buffa_bytes.specs.declared.wire_type.WireType.{WireType}
 use Rattle.buffa_bytes.specs.Field.{IsTag, Payload}
 use Rattle.buffa_bytes.specs.Reading.{delimited_at}
-use Rattle.buffa_wire.specs.Left.{Left, Lacks, Pays, PaysAtMost, nothing}
+use Rattle.buffa_wire.specs.BudgetLeft.{BudgetLeft, Lacks, Pays, PaysAtMost, nothing}
 
 -- an error that a budget makes
 abbrev pub IsLimit : DecodeError → Type 0
@@ -15,11 +15,11 @@ IsLimit _ = ⊥
 
 -- why bytes aren't merged that mean so and need so much, where left is left: that isn't left, and then any error may
 -- be told; or they mean no value, and then any but a limit's
-abbrev pub MergeFault : {X : Type 0} → Option X → Left → Left → DecodeError → Type 0
+abbrev pub MergeFault : {X : Type 0} → Option X → BudgetLeft → BudgetLeft → DecodeError → Type 0
 MergeFault meant need left e = Lacks left need ⊎ ((meant ≡ None) × (IsLimit e → ⊥))
 
 -- merging bytes that mean so and need so much leaves new: exactly the need is spent, and on a refusal at most that
-abbrev pub IsMerged : {X T : Type 0} → Option X → Left → Left → Result T DecodeError → X → Left → Type 0
+abbrev pub IsMerged : {X T : Type 0} → Option X → BudgetLeft → BudgetLeft → Result T DecodeError → X → BudgetLeft → Type 0
 IsMerged meant need before r new after =
     MatchResult r
     (λ _. (meant ≡ Some new) × Pays before need after)
@@ -28,7 +28,7 @@ IsMerged meant need before r new after =
 -- Merging the field whose tag, of number n and wire type w, was read, however it was spelled, where bs follows the tag:
 -- what the field means is left, exactly what it costs is spent, and rest follows it; on a refusal at most what the
 -- tag and bs cost is spent, and it tells why they aren't merged.
-abbrev pub IsFieldMerged : {X T : Type 0} → (ℕ → X → List ℕ → Option X) → (ℕ → List ℕ → Left) → ℕ → X → ℕ → WireType → List ℕ → Left → Result T DecodeError → X → Left → List ℕ → Type 0
+abbrev pub IsFieldMerged : {X T : Type 0} → (ℕ → X → List ℕ → Option X) → (ℕ → List ℕ → BudgetLeft) → ℕ → X → ℕ → WireType → List ℕ → BudgetLeft → Result T DecodeError → X → BudgetLeft → List ℕ → Type 0
 IsFieldMerged merged cost d old n w bs before r new after rest =
     MatchResult r
     (λ _. (p : List ℕ) × Payload d n w p × (bs ≡ p ++ rest)
@@ -40,18 +40,18 @@ abbrev pub merged_in : {X : Type 0} → (ℕ → X → List ℕ → Option X) �
 merged_in merged zero old b = None
 merged_in merged (suc d) old b = merged d old b
 
-abbrev pub cost_in : (ℕ → List ℕ → Left) → ℕ → List ℕ → Left
+abbrev pub cost_in : (ℕ → List ℕ → BudgetLeft) → ℕ → List ℕ → BudgetLeft
 cost_in cost zero b = nothing
 cost_in cost (suc d) b = cost d b
 
 -- what the length and the message at the front cost, if a length and so many bytes are there
-abbrev pub cost_of_payload : (ℕ → List ℕ → Left) → ℕ → Result (List ℕ × List ℕ) DecodeError → Left
+abbrev pub cost_of_payload : (ℕ → List ℕ → BudgetLeft) → ℕ → Result (List ℕ × List ℕ) DecodeError → BudgetLeft
 cost_of_payload cost d (Ok p) = cost_in cost d p.0
 cost_of_payload cost d (Err e) = nothing
 
 -- why no length and message at the front are merged, in this order: no level is left; the length's fault, or too few
 -- bytes; the message's
-abbrev pub PayloadFault : {X : Type 0} → (ℕ → X → List ℕ → Option X) → (ℕ → List ℕ → Left) → ℕ → X → List ℕ → Left → DecodeError → Type 0
+abbrev pub PayloadFault : {X : Type 0} → (ℕ → X → List ℕ → Option X) → (ℕ → List ℕ → BudgetLeft) → ℕ → X → List ℕ → BudgetLeft → DecodeError → Type 0
 PayloadFault merged cost zero old bs left e = e ≡ RecursionLimitExceeded
 PayloadFault merged cost (suc d) old bs left e =
     (delimited_at bs ≡ Err e)

@@ -8,7 +8,7 @@ use Rattle.buffa_bytes.specs.declared.error.DecodeError.{DecodeError}
 use Rattle.buffa_bytes.specs.declared.error.DecodeError.TheVariants.{RecursionLimitExceeded, UnknownFieldLimitExceeded, InvalidEndGroup}
 use Rattle.buffa_bytes.specs.Number.{IsNumber}
 use Rattle.buffa_bytes.specs.Field.{IsTag, TagFault, TakesTag}
-use Rattle.buffa_bytes.specs.Varint.{Var}
+use Rattle.buffa_bytes.specs.Varint.{IsVarint}
 use Rattle.buffa_bytes.specs.Content.{ContentFault}
 use Rattle.buffa_wire.specs.Records.{Datum, varint, fixed32, fixed64, bytes, group, Records, no_records, one}
 use Rattle.buffa_wire.specs.Text.{wire_of}
@@ -26,10 +26,10 @@ abbrev mutual
   -- p is a payload, in a field of number n, that holds x: a varint its value, four or eight bytes the number that they
   -- spell, lowest byte first, a length and so many bytes these bytes, fields and an end tag of number n a group's records
   pub IsPayload : ℕ → ℕ → Datum → List ℕ → Type 0
-  IsPayload d n (varint v) p = Var p v
+  IsPayload d n (varint v) p = IsVarint p v
   IsPayload d n (fixed32 v) p = (length p ≡ 4) × (v ≡ from_le_bytes w32 p)
   IsPayload d n (fixed64 v) p = (length p ≡ 8) × (v ≡ from_le_bytes w64 p)
-  IsPayload d n (bytes v) p = (t : List ℕ) × Var t (length v) × (p ≡ t ++ v)
+  IsPayload d n (bytes v) p = (t : List ℕ) × IsVarint t (length v) × (p ≡ t ++ v)
   IsPayload d n (group rs) p = (0 < d) × (b : List ℕ) × (t : List ℕ) × Parse (d - 1) b rs × IsTag t n wire.EndGroup × (p ≡ b ++ t)
 
 -- f is the field of a record

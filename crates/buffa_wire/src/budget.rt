@@ -6,10 +6,10 @@ ghost use Rattle.buffa_bytes.specs.declared.error.DecodeError.TheVariants as err
 use buffa_bytes::DecodeError;
 use std::marker::Model;
 
-/// The slots for unknown fields that a message is read with where nothing else is said.
+/// The slots for unknown fields that a message is read with where nothing else is meant_entry.
 pub const DEFAULT_UNKNOWN_FIELD_LIMIT: usize = 1_000_000;
 
-/// The units of element memory that a message is read with where nothing else is said.
+/// The units of element memory that a message is read with where nothing else is meant_entry.
 pub const DEFAULT_ELEMENT_MEMORY_LIMIT: usize = 268_435_456;
 
 /// What reading may still spend.
@@ -29,9 +29,9 @@ pub struct Budget {
 }
 
 impl Model for Budget {
-    ghost use Rattle.buffa_wire.specs.Left.{Left};
+    ghost use Rattle.buffa_wire.specs.BudgetLeft.{BudgetLeft};
 
-    ghost Value = { Left };
+    ghost Value = { BudgetLeft };
 
     ghost view = { λ b. record { unknown = b.unknown; memory = b.memory } };
 }

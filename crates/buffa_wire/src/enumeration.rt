@@ -72,7 +72,8 @@ impl<E: Enumeration> EnumValue<E> {
     /// let hue = EnumValue::<Hue>::Unknown(1).normal(); // EnumValue::Known(Hue::Green)
     /// ```
     pub fn normal(self) -> EnumValue<E>
-        ensures { ⟦<EnumValue<E> as Blank>⟧.meaning result ≡ open_number E.of_number (⟦<EnumValue<E> as Blank>⟧.meaning self).1 }
+        ensures { ⟦<EnumValue<E> as Blank>⟧.meaning result
+            ≡ open_number E.of_number (⟦<EnumValue<E> as Blank>⟧.meaning self).1 }
     {
         match self {
             EnumValue::Known(value) => EnumValue::Known(value),

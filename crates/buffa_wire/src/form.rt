@@ -35,7 +35,7 @@ pub trait Form: Sealed {
     fn read<B: Buf>(buf: &mut B) -> Result<u64, DecodeError>
         ensures reads { Gives (λ n. (number n, B.unread buf.new)) result (content_at WIRE_TYPE (B.unread buf.old)) }
         ensures spelled { IfOk result spells }
-        ensures kept { B.kept buf.new ≡ B.kept buf.old }
+        ensures kept { B.beyond buf.new ≡ B.beyond buf.old }
         ensures tail { IsTailOf (B.unread buf.new) (B.unread buf.old) };
 
     /// The length of a number's payload.
@@ -81,8 +81,8 @@ pub struct Varint;
 impl Sealed for Varint {}
 
 impl Form for Varint {
-    ghost use Rattle.buffa_bytes.proofs.VarintLemmas.{Var-V};
-    ghost use Rattle.buffa_bytes.specs.Varint.{V};
+    ghost use Rattle.buffa_bytes.proofs.VarintLemmas.{IsVarint-varint_text};
+    ghost use Rattle.buffa_bytes.specs.Varint.{varint_text};
 
     const WIRE_TYPE: WireType = WireType::Varint;
 
@@ -90,7 +90,7 @@ impl Form for Varint {
 
     ghost spells = { λ n. n < 2 ^ 64 };
 
-    ghost payload = { V };
+    ghost payload = { varint_text };
 
     ghost datum = { varint };
 
@@ -119,7 +119,7 @@ impl Form for Varint {
         UnknownFieldData::Varint(n)
     }
 
-    ghost reads_back = { Var-V };
+    ghost reads_back = { IsVarint-varint_text };
 
     ghost kept = { λ n. refl };
 

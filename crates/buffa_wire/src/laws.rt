@@ -10,7 +10,7 @@ ghost use Rattle.buffa_wire.specs.Join.{Join};
 ghost use Rattle.buffa_wire.specs.Records.{Datum, Held, height, records_of};
 ghost use Rattle.buffa_wire.specs.View.{record_of};
 ghost use Rattle.buffa_wire.specs.Equal.{field_eq, held_eq};
-ghost use Rattle.buffa_wire.specs.Text.{W};
+ghost use Rattle.buffa_wire.specs.Text.{records_text};
 ghost use Rattle.buffa_wire.specs.Parse.{FieldFault, Fits, InRange, Parse, RecordsFault, TakesField, slots};
 ghost use Rattle.buffa_wire.specs.RecordReading.{field_at, list_at};
 
@@ -22,14 +22,17 @@ use crate::unknown_fields::UnknownField;
 /// Whole bytes are read as records exactly where the grammar has them and a slot is left for each record,
 /// nested ones too; else the first fault is told.
 pub fn records_are_read()
-    ensures ok { (d s : ℕ) (bs : List ℕ) (rs : List (ℕ × Datum)) → (list_at d s bs ≡ Ok rs) ↔ (Parse d bs (records_of rs) × (slots (records_of rs) ≤ s)) }
+    ensures ok { (d s : ℕ) (bs : List ℕ) (rs : List (ℕ × Datum)) → (list_at d s bs ≡ Ok rs)
+        ↔ (Parse d bs (records_of rs) × (slots (records_of rs) ≤ s)) }
     ensures err { (d s : ℕ) (bs : List ℕ) (e : DecodeError) → (list_at d s bs ≡ Err e) ↔ RecordsFault d s bs e }
 {}
 
 /// The same of one field after its tag, and what it leaves of the slots and of the bytes.
 pub fn fields_are_read()
-    ensures ok { (d s n : ℕ) (w : WireType) (bs : List ℕ) (x : Datum) (left : ℕ) (rest : List ℕ) → (field_at d s n w bs ≡ Ok (x, left, rest)) ↔ TakesField d s n w bs x left rest }
-    ensures err { (d s n : ℕ) (w : WireType) (bs : List ℕ) (e : DecodeError) → (field_at d s n w bs ≡ Err e) ↔ FieldFault d s n w bs e }
+    ensures ok { (d s n : ℕ) (w : WireType) (bs : List ℕ) (x : Datum) (left : ℕ) (rest : List ℕ) →
+        (field_at d s n w bs ≡ Ok (x, left, rest)) ↔ TakesField d s n w bs x left rest }
+    ensures err { (d s n : ℕ) (w : WireType) (bs : List ℕ) (e : DecodeError) → (field_at d s n w bs ≡ Err e)
+        ↔ FieldFault d s n w bs e }
 {}
 
 /// Out of memory is no fault of the bytes.
@@ -38,7 +41,7 @@ pub fn memory_is_no_fault()
     ensures records { (d s : ℕ) (bs : List ℕ) → list_at d s bs ≢ Err OutOfMemory }
 {}
 
-/// The constants: how deep and with which budget a message is read where nothing else is said, and how
+/// The constants: how deep and with which budget a message is read where nothing else is meant_entry, and how
 /// long a message may be.
 pub fn constants()
     ensures recursion_limit { RECURSION_LIMIT ≡ 100 }
@@ -50,21 +53,27 @@ pub fn constants()
 /// Records are what fields say: bytes are a join of fields exactly where they are the text of records, and
 /// more depth changes nothing.
 pub fn records_are_fields()
-    ensures fields { (d : ℕ) (bs : List ℕ) → Join (SomeField d) bs ↔ ((rs : List (ℕ × Datum)) × Parse d bs (records_of rs)) }
-    ensures deeper { (c d : ℕ) (bs : List ℕ) (rs : List (ℕ × Datum)) → c ≤ d → Parse c bs (records_of rs) → Parse d bs (records_of rs) }
+    ensures fields { (d : ℕ) (bs : List ℕ) → Join (SomeField d) bs
+        ↔ ((rs : List (ℕ × Datum)) × Parse d bs (records_of rs)) }
+    ensures deeper { (c d : ℕ) (bs : List ℕ) (rs : List (ℕ × Datum)) → c ≤ d → Parse c bs (records_of rs) →
+        Parse d bs (records_of rs) }
 {}
 
 /// Bytes are the text of one list of records, at any depths.
 pub fn one_reading()
-    ensures { (bs : List ℕ) (c d : ℕ) (rs qs : List (ℕ × Datum)) → Parse c bs (records_of rs) → Parse d bs (records_of qs) → rs ≡ qs }
+    ensures { (bs : List ℕ) (c d : ℕ) (rs qs : List (ℕ × Datum)) → Parse c bs (records_of rs) →
+        Parse d bs (records_of qs) → rs ≡ qs }
 {}
 
 /// The text of records that fit is theirs, at a depth that their groups need, and it is read back with a
 /// slot for each. The text of any records whose data are in range is that of no others.
 pub fn texts_are_read_back()
-    ensures parses { (d : ℕ) (rs : List (ℕ × Datum)) → Fits (records_of rs) → height rs ≤ d → Parse d (W rs) (records_of rs) }
-    ensures read { (d s : ℕ) (rs : List (ℕ × Datum)) → Fits (records_of rs) → height rs ≤ d → slots (records_of rs) ≤ s → list_at d s (W rs) ≡ Ok rs }
-    ensures theirs { (d : ℕ) (rs qs : List (ℕ × Datum)) → InRange (records_of rs) → Parse d (W rs) (records_of qs) → qs ≡ rs }
+    ensures parses { (d : ℕ) (rs : List (ℕ × Datum)) → Fits (records_of rs) → height rs ≤ d →
+        Parse d (records_text rs) (records_of rs) }
+    ensures read { (d s : ℕ) (rs : List (ℕ × Datum)) → Fits (records_of rs) → height rs ≤ d →
+        slots (records_of rs) ≤ s → list_at d s (records_text rs) ≡ Ok rs }
+    ensures theirs { (d : ℕ) (rs qs : List (ℕ × Datum)) → InRange (records_of rs) →
+        Parse d (records_text rs) (records_of qs) → qs ≡ rs }
 {}
 
 /// `==` holds of unknown fields exactly where their records are equal.

@@ -1,6 +1,7 @@
 //! Messages: values that bytes are merged into.
 
-ghost use Rattle.std.specs.Prelude.{◌≡◌, ◌≢◌, ◌++◌, ◌<◌, ◌≤◌, ◌^◌, ℕ, List, [], length, Option, Some, IfErr, IfOk, IsOk, Ok, OnErr, OnOk};
+ghost use Rattle.std.specs.Prelude.{◌≡◌, ◌≢◌, ◌++◌, ◌<◌, ◌≤◌, ◌^◌, ℕ, List, [], length, Option, Some, IfErr, IfOk};
+ghost use Rattle.std.specs.Prelude.{IsOk, Ok, OnErr, OnOk};
 ghost use Rattle.std.specs.Option.{option_and_then};
 ghost use Rattle.buffa_bytes.specs.declared.error.DecodeError.TheVariants.{OutOfMemory};
 ghost use Rattle.buffa_bytes.specs.Field.{SomeField};
@@ -8,12 +9,12 @@ ghost use Rattle.buffa_bytes.specs.Gives.{FullOnlyIf};
 ghost use Rattle.buffa_bytes.specs.Join.{Join};
 ghost use Rattle.buffa_bytes.specs.Reading.{delimited_at};
 ghost use Rattle.buffa_bytes.specs.Unread.{IsTailOf};
-ghost use Rattle.buffa_wire.specs.Left.{Left, Pays, PaysAtMost, left_in, nothing, plus};
+ghost use Rattle.buffa_wire.specs.BudgetLeft.{BudgetLeft, Pays, PaysAtMost, budget_left, nothing, plus};
 ghost use Rattle.buffa_bytes.specs.declared.error.EncodeError.TheVariants as error;
 ghost use Rattle.buffa_wire.specs.Parse.{Fits};
 ghost use Rattle.buffa_wire.specs.Passes.{IsNext, IsSized, IsWritten};
 ghost use Rattle.buffa_wire.specs.Records.{Datum, records_of};
-ghost use Rattle.buffa_wire.specs.Text.{W};
+ghost use Rattle.buffa_wire.specs.Text.{records_text};
 ghost use Rattle.buffa_wire.specs.Message.{IsFieldMerged, IsMerged, PayloadFault, cost_in, cost_of_payload, merged_in};
 
 use crate::cache::SizeCache;
@@ -36,7 +37,7 @@ pub trait MessageSpec: Blank {
     ghost merged: { ℕ → Self.Meaning → List ℕ → Option Self.Meaning };
 
     /// At a depth, the slots and units that merging bytes costs, malformed ones too.
-    ghost cost: { ℕ → List ℕ → Left };
+    ghost cost: { ℕ → List ℕ → BudgetLeft };
 
     /// The text of a value.
     ghost text: { Self.Meaning → List ℕ };
@@ -54,10 +55,11 @@ pub trait MessageSpec: Blank {
     ghost normal: { Self.Meaning → Type 0 };
 
     /// The text is that of the records.
-    ghost text_records: { (v : Self.Meaning) → text v ≡ W (records v) };
+    ghost text_records: { (v : Self.Meaning) → text v ≡ records_text (records v) };
 
     /// The text reads back, where no length is too large to be read.
-    ghost merged_text: { (d : ℕ) (v : Self.Meaning) → Fits (records_of (records v)) → normal v → levels v ≤ d → merged d Self.blank_is (text v) ≡ Some v };
+    ghost merged_text: { (d : ℕ) (v : Self.Meaning) → Fits (records_of (records v)) → normal v → levels v ≤ d →
+        merged d Self.blank_is (text v) ≡ Some v };
 
     /// An element has a cost.
     ghost positive: { 0 < COST };
@@ -69,7 +71,8 @@ pub trait MessageSpec: Blank {
     ghost merged_fields: { (d : ℕ) (v w : Self.Meaning) (b : List ℕ) → merged d v b ≡ Some w → Join (SomeField d) b };
 
     /// A field, and then what follows it.
-    ghost merged_next: { (d : ℕ) (v : Self.Meaning) (f r : List ℕ) → SomeField d f → merged d v (f ++ r) ≡ option_and_then (λ w. merged d w r) (merged d v f) };
+    ghost merged_next: { (d : ℕ) (v : Self.Meaning) (f r : List ℕ) → SomeField d f → merged d v (f ++ r)
+        ≡ option_and_then (λ w. merged d w r) (merged d v f) };
 
     ghost cost_empty: { (d : ℕ) → cost d [] ≡ nothing };
 
@@ -84,7 +87,8 @@ pub trait Message: MessageSpec {
     /// # Errors
     /// [`EncodeError::OutOfMemory`] alone; the old slots come first then.
     fn compute_size(&self, cache: &mut SizeCache) -> Result<u32, EncodeError>
-        ensures { IsSized (Self.text (Self.meaning self.now)) (Self.slots (Self.meaning self.now)) cache.old result cache.new };
+        ensures { IsSized (Self.text (Self.meaning self.now)) (Self.slots (Self.meaning self.now)) cache.old result
+            cache.new };
 
     /// The write pass, which consumes the value's slots. Where the text has at most 2^31 - 1 bytes it is
     /// appended to the sink.
@@ -97,7 +101,8 @@ pub trait Message: MessageSpec {
         sink: &mut S,
     ) -> Result<(), EncodeError>
         requires { IsNext (Self.slots (Self.meaning self.now)) cache.old }
-        ensures { IsWritten (Self.text (Self.meaning self.now)) (Self.slots (Self.meaning self.now)) cache.old (S.written sink.old) result cache.new (S.written sink.new) };
+        ensures { IsWritten (Self.text (Self.meaning self.now)) (Self.slots (Self.meaning self.now)) cache.old
+            (S.written sink.old) result cache.new (S.written sink.new) };
 
     /// Leaves the default.
     fn clear(&mut self, alloc: Global)
@@ -112,8 +117,10 @@ pub trait Message: MessageSpec {
     /// [`EncodeError::MessageTooLarge`] where the text is longer than 2^31 - 1 bytes; or
     /// [`EncodeError::OutOfMemory`].
     fn try_encode_to_vec(&self, alloc: Global) -> Result<Vec<u8>, EncodeError>
-        ensures text { IfOk result (λ v. (v.items ≡ Self.text (Self.meaning self.now)) × (length (Self.text (Self.meaning self.now)) < 2 ^ 31)) }
-        ensures err { IfErr result (λ e. e ≢ error.OutOfMemory → (e ≡ error.MessageTooLarge) × (2 ^ 31 ≤ length (Self.text (Self.meaning self.now)))) }
+        ensures text { IfOk result (λ v. (v.items ≡ Self.text (Self.meaning self.now))
+            × (length (Self.text (Self.meaning self.now)) < 2 ^ 31)) }
+        ensures err { IfErr result (λ e. e ≢ error.OutOfMemory → (e ≡ error.MessageTooLarge)
+            × (2 ^ 31 ≤ length (Self.text (Self.meaning self.now)))) }
     {
         let mut cache = SizeCache::new(alloc);
         let size = self.compute_size(&mut cache)?;
@@ -136,7 +143,9 @@ pub trait Message: MessageSpec {
         buf: &mut &[u8],
         ctx: DecodeContext<'_>,
     ) -> Result<(), DecodeError>
-        ensures { IsFieldMerged Self.merged Self.cost ctx.entry.depth (Self.meaning self.old) tag.number tag.wire_type buf.old.now ctx.entry.budget.now result (Self.meaning self.new) (left_in ctx.exit) buf.new.now };
+        ensures { IsFieldMerged Self.merged Self.cost ctx.entry.depth (Self.meaning self.old) tag.number
+            tag.wire_type buf.old.now ctx.entry.budget.now result (Self.meaning self.new) (budget_left ctx.exit)
+            buf.new.now };
 
     /// Merges the fields that the bytes are, all of them.
     ///
@@ -149,7 +158,9 @@ pub trait Message: MessageSpec {
         bytes: &[u8],
         ctx: DecodeContext<'_>,
     ) -> Result<(), DecodeError>
-        ensures { IsMerged (Self.merged ctx.entry.depth (Self.meaning self.old) bytes.now) (Self.cost ctx.entry.depth bytes.now) ctx.entry.budget.now result (Self.meaning self.new) (left_in ctx.exit) }
+        ensures { IsMerged (Self.merged ctx.entry.depth (Self.meaning self.old) bytes.now)
+            (Self.cost ctx.entry.depth bytes.now) ctx.entry.budget.now result (Self.meaning self.new)
+            (budget_left ctx.exit) }
     {
         let DecodeContext { depth, budget } = ctx;
         let mut rest = bytes;
@@ -177,11 +188,14 @@ pub trait Message: MessageSpec {
     ) -> Result<(), DecodeError>
         ensures ok { OnOk result ((b : List ℕ) × (delimited_at (B.unread buf.old) ≡ Ok (b, B.unread buf.new))
             × (merged_in Self.merged ctx.entry.depth (Self.meaning self.old) b ≡ Some (Self.meaning self.new))
-            × Pays ctx.entry.budget.now (cost_in Self.cost ctx.entry.depth b) (left_in ctx.exit)) }
-        ensures fault { IfErr result (λ e. e ≢ OutOfMemory → PayloadFault Self.merged Self.cost ctx.entry.depth (Self.meaning self.old) (B.unread buf.old) ctx.entry.budget.now e) }
-        ensures spent { OnErr result (PaysAtMost ctx.entry.budget.now (cost_of_payload Self.cost ctx.entry.depth (delimited_at (B.unread buf.old))) (left_in ctx.exit)) }
+            × Pays ctx.entry.budget.now (cost_in Self.cost ctx.entry.depth b) (budget_left ctx.exit)) }
+        ensures fault { IfErr result (λ e. e ≢ OutOfMemory →
+            PayloadFault Self.merged Self.cost ctx.entry.depth (Self.meaning self.old) (B.unread buf.old)
+            ctx.entry.budget.now e) }
+        ensures spent { OnErr result (PaysAtMost ctx.entry.budget.now
+            (cost_of_payload Self.cost ctx.entry.depth (delimited_at (B.unread buf.old))) (budget_left ctx.exit)) }
         ensures full { FullOnlyIf result ((0 < ctx.entry.depth) × IsOk (delimited_at (B.unread buf.old))) }
-        ensures kept { B.kept buf.new ≡ B.kept buf.old }
+        ensures kept { B.beyond buf.new ≡ B.beyond buf.old }
         ensures tail { IsTailOf (B.unread buf.new) (B.unread buf.old) }
     {
         let DecodeContext { depth, budget } = ctx;

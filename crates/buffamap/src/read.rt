@@ -2,9 +2,9 @@
 ghost use Rattle.std.specs.Prelude.{◌≡◌, ◌≢◌, ℕ, ℤ, List, [], nat_eq, IfErr, IfOk, OnOk, Err, Ok};
 ghost use Rattle.std.specs.Cmp.Lexicographic.{pointwise};
 ghost use Rattle.buffa_bytes.specs.declared.error.DecodeError.TheVariants.{OutOfMemory};
-ghost use Rattle.buffa_wire.specs.Left.{Left};
+ghost use Rattle.buffa_wire.specs.BudgetLeft.{BudgetLeft};
 ghost use Rattle.buffa_map.specs.Pairs.{SamePairs};
-ghost use Rattle.buffa_map.specs.Run.{Fold, Said};
+ghost use Rattle.buffa_map.specs.Run.{fold_entries, EntryRecord};
 ghost use Rattle.buffamap.specs.Lines.{pairs_of, same_key};
 ghost use Rattle.buffamap.specs.Read.{MeansRun, RepliesToRead, RepliesToRun, run_from};
 ghost use Rattle.buffamap.specs.Reply.{reply_of};

@@ -16,7 +16,7 @@ use std::test::Fail;
 const TEXT: [u8; 10] = [0x96, 0x01, 2, b'o', b'k', 1, 0, 0, 0, 7];
 
 fn read_three<B: Buf>(alloc: Global, buf: &mut B) -> Result<(u64, String, u32), DecodeError>
-    ensures kept { B.kept buf.new ≡ B.kept buf.old }
+    ensures kept { B.beyond buf.new ≡ B.beyond buf.old }
 {
     let number = decode_varint(buf)?;
     let word = types::decode_string(alloc, buf)?;
@@ -32,7 +32,7 @@ fn read_within<B: Buf>(
 ) -> Result<(u64, String, u32), DecodeError>
     requires { limit ≤ length (B.unread buf.old) }
     ensures rest { OnOk result (B.unread buf.new ≡ drop limit (B.unread buf.old)) }
-    ensures kept { B.kept buf.new ≡ B.kept buf.old }
+    ensures kept { B.beyond buf.new ≡ B.beyond buf.old }
 {
     let mut front = Limited::new(buf, limit);
     let read = read_three(alloc, &mut front)?;
@@ -49,7 +49,7 @@ fn read_within_twice<B: Buf>(
 ) -> Result<(u64, String, u32), DecodeError>
     requires { (inner ≤ outer) × (outer ≤ length (B.unread buf.old)) }
     ensures rest { OnOk result (B.unread buf.new ≡ drop outer (B.unread buf.old)) }
-    ensures kept { B.kept buf.new ≡ B.kept buf.old }
+    ensures kept { B.beyond buf.new ≡ B.beyond buf.old }
 {
     let mut front = Limited::new(buf, outer);
     let read = read_within(alloc, &mut front, inner)?;

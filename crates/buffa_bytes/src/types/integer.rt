@@ -2,7 +2,9 @@
 
 ghost use Rattle.std.specs.Prelude.{◌≡◌, length};
 ghost use Rattle.buffa_bytes.specs.Gives.{Gives};
-ghost use Rattle.buffa_bytes.specs.Scalars.{bool_at, bool_text, int32_at, int32_text, int64_at, int64_text, sint32_at, sint32_text, sint64_at, sint64_text, uint32_at, uint32_text, uint64_at, uint64_text};
+ghost use Rattle.buffa_bytes.specs.Scalars.{bool_at, bool_text, int32_at, int32_text, int64_at, int64_text};
+ghost use Rattle.buffa_bytes.specs.Scalars.{sint32_at, sint32_text, sint64_at, sint64_text, uint32_at, uint32_text};
+ghost use Rattle.buffa_bytes.specs.Scalars.{uint64_at, uint64_text};
 ghost use Rattle.buffa_bytes.specs.Written.{UsesRoom, Writes};
 ghost use Rattle.buffa_bytes.specs.Unread.{IsTailOf};
 
@@ -52,7 +54,7 @@ pub fn encode_int32<S: EncodeSink>(value: i32, sink: &mut S) -> Result<(), Encod
 /// ```
 pub fn decode_int32<B: Buf>(buf: &mut B) -> Result<i32, DecodeError>
     ensures reads { Gives (λ v. (v, B.unread buf.new)) result (int32_at (B.unread buf.old)) }
-    ensures kept { B.kept buf.new ≡ B.kept buf.old }
+    ensures kept { B.beyond buf.new ≡ B.beyond buf.old }
     ensures tail { IsTailOf (B.unread buf.new) (B.unread buf.old) }
 {
     let number = decode_varint(buf)?;
@@ -97,7 +99,7 @@ pub fn encode_int64<S: EncodeSink>(value: i64, sink: &mut S) -> Result<(), Encod
 /// ```
 pub fn decode_int64<B: Buf>(buf: &mut B) -> Result<i64, DecodeError>
     ensures reads { Gives (λ v. (v, B.unread buf.new)) result (int64_at (B.unread buf.old)) }
-    ensures kept { B.kept buf.new ≡ B.kept buf.old }
+    ensures kept { B.beyond buf.new ≡ B.beyond buf.old }
     ensures tail { IsTailOf (B.unread buf.new) (B.unread buf.old) }
 {
     let number = decode_varint(buf)?;
@@ -141,7 +143,7 @@ pub fn encode_uint32<S: EncodeSink>(value: u32, sink: &mut S) -> Result<(), Enco
 /// ```
 pub fn decode_uint32<B: Buf>(buf: &mut B) -> Result<u32, DecodeError>
     ensures reads { Gives (λ v. (v, B.unread buf.new)) result (uint32_at (B.unread buf.old)) }
-    ensures kept { B.kept buf.new ≡ B.kept buf.old }
+    ensures kept { B.beyond buf.new ≡ B.beyond buf.old }
     ensures tail { IsTailOf (B.unread buf.new) (B.unread buf.old) }
 {
     let number = decode_varint(buf)?;
@@ -185,7 +187,7 @@ pub fn encode_uint64<S: EncodeSink>(value: u64, sink: &mut S) -> Result<(), Enco
 /// ```
 pub fn decode_uint64<B: Buf>(buf: &mut B) -> Result<u64, DecodeError>
     ensures reads { Gives (λ v. (v, B.unread buf.new)) result (uint64_at (B.unread buf.old)) }
-    ensures kept { B.kept buf.new ≡ B.kept buf.old }
+    ensures kept { B.beyond buf.new ≡ B.beyond buf.old }
     ensures tail { IsTailOf (B.unread buf.new) (B.unread buf.old) }
 {
     decode_varint(buf)
@@ -228,7 +230,7 @@ pub fn encode_sint32<S: EncodeSink>(value: i32, sink: &mut S) -> Result<(), Enco
 /// ```
 pub fn decode_sint32<B: Buf>(buf: &mut B) -> Result<i32, DecodeError>
     ensures reads { Gives (λ v. (v, B.unread buf.new)) result (sint32_at (B.unread buf.old)) }
-    ensures kept { B.kept buf.new ≡ B.kept buf.old }
+    ensures kept { B.beyond buf.new ≡ B.beyond buf.old }
     ensures tail { IsTailOf (B.unread buf.new) (B.unread buf.old) }
 {
     let number = decode_varint(buf)?;
@@ -272,7 +274,7 @@ pub fn encode_sint64<S: EncodeSink>(value: i64, sink: &mut S) -> Result<(), Enco
 /// ```
 pub fn decode_sint64<B: Buf>(buf: &mut B) -> Result<i64, DecodeError>
     ensures reads { Gives (λ v. (v, B.unread buf.new)) result (sint64_at (B.unread buf.old)) }
-    ensures kept { B.kept buf.new ≡ B.kept buf.old }
+    ensures kept { B.beyond buf.new ≡ B.beyond buf.old }
     ensures tail { IsTailOf (B.unread buf.new) (B.unread buf.old) }
 {
     let number = decode_varint(buf)?;
@@ -308,7 +310,7 @@ pub fn encode_bool<S: EncodeSink>(value: bool, sink: &mut S) -> Result<(), Encod
 /// ```
 pub fn decode_bool<B: Buf>(buf: &mut B) -> Result<bool, DecodeError>
     ensures reads { Gives (λ v. (v, B.unread buf.new)) result (bool_at (B.unread buf.old)) }
-    ensures kept { B.kept buf.new ≡ B.kept buf.old }
+    ensures kept { B.beyond buf.new ≡ B.beyond buf.old }
     ensures tail { IsTailOf (B.unread buf.new) (B.unread buf.old) }
 {
     let number = decode_varint(buf)?;

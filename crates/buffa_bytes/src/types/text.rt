@@ -55,7 +55,7 @@ pub fn encode_string<S: EncodeSink>(value: &str, sink: &mut S) -> Result<(), Enc
 pub fn decode_string<B: Buf>(alloc: Global, buf: &mut B) -> Result<String, DecodeError>
     ensures reads { GivesUnlessFull (λ s. (string_bytes s, B.unread buf.new)) result (string_at (B.unread buf.old)) }
     ensures full { FullOnlyIf result (IsOk (delimited_at (B.unread buf.old))) }
-    ensures kept { B.kept buf.new ≡ B.kept buf.old }
+    ensures kept { B.beyond buf.new ≡ B.beyond buf.old }
     ensures tail { IsTailOf (B.unread buf.new) (B.unread buf.old) }
 {
     let bytes = decode_bytes(alloc, buf)?;
@@ -107,7 +107,7 @@ pub fn encode_bytes<S: EncodeSink>(value: &[u8], sink: &mut S) -> Result<(), Enc
 pub fn decode_bytes<B: Buf>(alloc: Global, buf: &mut B) -> Result<Vec<u8>, DecodeError>
     ensures reads { GivesUnlessFull (λ v. (v.items, B.unread buf.new)) result (delimited_at (B.unread buf.old)) }
     ensures full { FullOnlyIf result (IsOk (delimited_at (B.unread buf.old))) }
-    ensures kept { B.kept buf.new ≡ B.kept buf.old }
+    ensures kept { B.beyond buf.new ≡ B.beyond buf.old }
     ensures tail { IsTailOf (B.unread buf.new) (B.unread buf.old) }
 {
     let len = decode_varint(buf)?;
@@ -126,7 +126,7 @@ pub fn decode_bytes<B: Buf>(alloc: Global, buf: &mut B) -> Result<Vec<u8>, Decod
 pub fn decode_bytes_to_bytes<B: Buf>(alloc: Global, buf: &mut B) -> Result<Bytes, DecodeError>
     ensures reads { GivesUnlessFull (λ b. (b, B.unread buf.new)) result (delimited_at (B.unread buf.old)) }
     ensures full { FullOnlyIf result (IsOk (delimited_at (B.unread buf.old))) }
-    ensures kept { B.kept buf.new ≡ B.kept buf.old }
+    ensures kept { B.beyond buf.new ≡ B.beyond buf.old }
     ensures tail { IsTailOf (B.unread buf.new) (B.unread buf.old) }
 {
     let bytes = decode_bytes(alloc, buf)?;
@@ -149,9 +149,10 @@ pub fn decode_string_to<S: ProtoString, B: Buf>(
     alloc: Global,
     buf: &mut B,
 ) -> Result<S, DecodeError>
-    ensures reads { GivesUnlessFull (λ s. (S.meaning s, B.unread buf.new)) result (string_as S.of_text (B.unread buf.old)) }
+    ensures reads { GivesUnlessFull (λ s. (S.meaning s, B.unread buf.new)) result
+        (string_as S.of_text (B.unread buf.old)) }
     ensures full { FullOnlyIf result (IsOk (delimited_at (B.unread buf.old))) }
-    ensures kept { B.kept buf.new ≡ B.kept buf.old }
+    ensures kept { B.beyond buf.new ≡ B.beyond buf.old }
     ensures tail { IsTailOf (B.unread buf.new) (B.unread buf.old) }
 {
     let bytes = decode_bytes(alloc, buf)?;
@@ -168,9 +169,10 @@ pub fn decode_string_to<S: ProtoString, B: Buf>(
 /// let dead = decode_bytes_to::<Vec<u8>, _>(alloc, &mut rest)?;
 /// ```
 pub fn decode_bytes_to<P: ProtoBytes, B: Buf>(alloc: Global, buf: &mut B) -> Result<P, DecodeError>
-    ensures reads { GivesUnlessFull (λ p. (P.meaning p, B.unread buf.new)) result (bytes_as P.of_bytes (B.unread buf.old)) }
+    ensures reads { GivesUnlessFull (λ p. (P.meaning p, B.unread buf.new)) result
+        (bytes_as P.of_bytes (B.unread buf.old)) }
     ensures full { FullOnlyIf result (IsOk (delimited_at (B.unread buf.old))) }
-    ensures kept { B.kept buf.new ≡ B.kept buf.old }
+    ensures kept { B.beyond buf.new ≡ B.beyond buf.old }
     ensures tail { IsTailOf (B.unread buf.new) (B.unread buf.old) }
 {
     let bytes = decode_bytes(alloc, buf)?;

@@ -3,7 +3,8 @@
 ghost use Rattle.std.specs.Prelude.{◌≡◌, [], None, false, refl, true};
 ghost use Rattle.buffa_bytes.specs.declared.wire_type.WireType.TheVariants.{LengthDelimited};
 ghost use Rattle.buffa_map.specs.Scalars.{IsLengthy, IsText, bytes_reading, delimited_writing, string_reading};
-ghost use Rattle.buffa_map.specs.ScalarLaws.{always_known, bytes_read_back, never_faulty, no_fixed_length, string_known, string_no_limit, string_reads_back};
+ghost use Rattle.buffa_map.specs.ScalarLaws.{always_known, bytes_read_back, never_faulty, no_fixed_length};
+ghost use Rattle.buffa_map.specs.ScalarLaws.{string_known, string_no_limit, string_reads_back};
 
 use crate::codec::sealed::Sealed;
 use crate::codec::{MapCodec, MapValueDecode, MapValueDecodeStatus};

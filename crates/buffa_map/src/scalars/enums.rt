@@ -3,7 +3,8 @@
 ghost use Rattle.std.specs.Prelude.{◌≡◌, None, false, refl, true};
 ghost use Rattle.buffa_bytes.specs.declared.wire_type.WireType.TheVariants.{Varint};
 ghost use Rattle.buffa_wire.specs.Enums.{numbers};
-ghost use Rattle.buffa_map.specs.Enums.{ClosedFits, OpenFits, OpenNormal, closed_reading, closed_writing, open_reading, open_writing};
+ghost use Rattle.buffa_map.specs.Enums.{ClosedFits, OpenFits, OpenNormal, closed_reading, closed_writing};
+ghost use Rattle.buffa_map.specs.Enums.{open_reading, open_writing};
 ghost use Rattle.buffa_map.specs.EnumLaws.{closed_reads_back, open_reads_back, open_stays_normal};
 ghost use Rattle.buffa_map.specs.ScalarLaws.{always_known, never_faulty, no_fixed_length};
 

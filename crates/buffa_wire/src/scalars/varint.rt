@@ -4,7 +4,8 @@ ghost use Rattle.std.specs.Prelude.{◌≡◌, ◌<◌, ◌^◌, FitsSigned, Non
 ghost use Rattle.std.specs.Int.{cast_unsigned, from_bool, w32, w64};
 ghost use Rattle.buffa_bytes.specs.Scalars.{bool_of, int32_of, int64_of, sint32_of, sint64_of, uint32_of, zigzag};
 ghost use Rattle.buffa_bytes.proofs.IntLemmas.{int32_below, int32_means};
-ghost use Rattle.buffa_bytes.proofs.ScalarLemmas.{bool_fits, bool_length, bool_means, int64_means, sint32_means, sint64_means, uint32_means, unsigned64_fits, zigzag_fits64};
+ghost use Rattle.buffa_bytes.proofs.ScalarLemmas.{bool_fits, bool_length, bool_means, int64_means, sint32_means};
+ghost use Rattle.buffa_bytes.proofs.ScalarLemmas.{sint64_means, uint32_means, unsigned64_fits, zigzag_fits64};
 ghost use Rattle.buffa_wire.specs.ScalarFacts.{below_64, no_fixed_length, one_length, zigzag32_below};
 
 use crate::form::Varint;

@@ -115,7 +115,8 @@ impl UnknownFields {
         F: Drop,
         requires { F.IsAlwaysCallable f }
         ensures calls { IsFiltered (CalledAtRecord (CalledAt F.FnMut)) f self.old.records self.new.records }
-        ensures records { (p : ℕ × Datum → Bool) → AnswersRecords (CalledAt F.FnMut) f p → self.new.records ≡ filter p self.old.records }
+        ensures records { (p : ℕ × Datum → Bool) → AnswersRecords (CalledAt F.FnMut) f p → self.new.records
+            ≡ filter p self.old.records }
         ensures spare { self.old.spare ≤ self.new.spare }
     {
         self.fields.retain(f);

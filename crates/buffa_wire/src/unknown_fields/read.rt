@@ -2,7 +2,7 @@
 
 ghost use Rattle.std.specs.Prelude.{◌≡◌, ◌≢◌, ◌<◌, ◌+◌, IfOk, IsOk};
 ghost use Rattle.buffa_wire.specs.Gives.{FullOnlyIf, GivesUnlessFull};
-ghost use Rattle.buffa_wire.specs.Left.{SlotsSpent, left_in};
+ghost use Rattle.buffa_wire.specs.BudgetLeft.{SlotsSpent, budget_left};
 ghost use Rattle.buffa_wire.specs.Reading.{tag_at};
 ghost use Rattle.buffa_wire.specs.Records.{records_of};
 ghost use Rattle.buffa_wire.specs.RecordReading.{TakesMemory, field_at, group_at, list_at, plain_at};
@@ -24,9 +24,10 @@ fn decode_plain<B: Buf>(
 ) -> Result<UnknownFieldData, DecodeError>
     requires no_group { wire_type ≢ WireType.StartGroup }
     requires no_end { wire_type ≢ WireType.EndGroup }
-    ensures reads { GivesUnlessFull (λ d. (datum_of d, B.unread buf.new)) result (plain_at wire_type (B.unread buf.old)) }
+    ensures reads { GivesUnlessFull (λ d. (datum_of d, B.unread buf.new)) result
+        (plain_at wire_type (B.unread buf.old)) }
     ensures full { FullOnlyIf result (TakesMemory 0 wire_type (B.unread buf.old)) }
-    ensures kept { B.kept buf.new ≡ B.kept buf.old }
+    ensures kept { B.beyond buf.new ≡ B.beyond buf.old }
     ensures tail { IsTailOf (B.unread buf.new) (B.unread buf.old) }
 {
     match wire_type {
@@ -75,16 +76,16 @@ pub fn decode_unknown_field<B: Buf>(
     buf: &mut B,
     ctx: DecodeContext<'_>,
 ) -> Result<UnknownField, DecodeError>
-    ensures reads { GivesUnlessFull (λ f. (datum_of f.payload, (left_in ctx.exit).unknown, B.unread buf.new)) result
+    ensures reads { GivesUnlessFull (λ f. (datum_of f.payload, (budget_left ctx.exit).unknown, B.unread buf.new)) result
         (field_at ctx.entry.depth ctx.entry.budget.now.unknown tag.number tag.wire_type (B.unread buf.old)) }
     ensures full { FullOnlyIf result ((0 < ctx.entry.budget.now.unknown)
         × TakesMemory ctx.entry.depth tag.wire_type (B.unread buf.old)) }
     ensures number { IfOk result (λ f. f.number ≡ tag.number) }
-    ensures memory { (left_in ctx.exit).memory ≡ ctx.entry.budget.now.memory }
+    ensures memory { (budget_left ctx.exit).memory ≡ ctx.entry.budget.now.memory }
     ensures spent { SlotsSpent (1 + bytes_read (B.unread buf.old) (B.unread buf.new))
-        ctx.entry.budget.now.unknown (left_in ctx.exit).unknown }
-    ensures end { tag.wire_type ≡ WireType.EndGroup → left_in ctx.exit ≡ ctx.entry.budget.now }
-    ensures kept { B.kept buf.new ≡ B.kept buf.old }
+        ctx.entry.budget.now.unknown (budget_left ctx.exit).unknown }
+    ensures end { tag.wire_type ≡ WireType.EndGroup → budget_left ctx.exit ≡ ctx.entry.budget.now }
+    ensures kept { B.beyond buf.new ≡ B.beyond buf.old }
     ensures tail { IsTailOf (B.unread buf.new) (B.unread buf.old) }
 {
     let DecodeContext { depth, budget } = ctx;
@@ -116,13 +117,14 @@ fn decode_group<B: Buf>(
     buf: &mut B,
     ctx: DecodeContext<'_>,
 ) -> Result<UnknownFields, DecodeError>
-    ensures reads { GivesUnlessFull (λ f. (records_of f.records, (left_in ctx.exit).unknown, B.unread buf.new)) result
+    ensures reads { GivesUnlessFull (λ f. (records_of f.records, (budget_left ctx.exit).unknown, B.unread buf.new))
+        result
         (group_at ctx.entry.depth ctx.entry.budget.now.unknown number (B.unread buf.old)) }
     ensures full { FullOnlyIf result ((0 < ctx.entry.depth) × IsOk (tag_at (B.unread buf.old))) }
-    ensures memory { (left_in ctx.exit).memory ≡ ctx.entry.budget.now.memory }
+    ensures memory { (budget_left ctx.exit).memory ≡ ctx.entry.budget.now.memory }
     ensures spent { SlotsSpent (bytes_read (B.unread buf.old) (B.unread buf.new))
-        ctx.entry.budget.now.unknown (left_in ctx.exit).unknown }
-    ensures kept { B.kept buf.new ≡ B.kept buf.old }
+        ctx.entry.budget.now.unknown (budget_left ctx.exit).unknown }
+    ensures kept { B.beyond buf.new ≡ B.beyond buf.old }
     ensures tail { IsTailOf (B.unread buf.new) (B.unread buf.old) }
 {
     let DecodeContext { depth, budget } = ctx;
@@ -161,7 +163,8 @@ impl UnknownFields {
     /// let fields = UnknownFields::decode_from_slice(alloc, &[0x38, 0x96, 0x01])?;
     /// ```
     pub fn decode_from_slice(alloc: Global, bytes: &[u8]) -> Result<UnknownFields, DecodeError>
-        ensures reads { GivesUnlessFull (λ f. f.records) result (list_at RECURSION_LIMIT DEFAULT_UNKNOWN_FIELD_LIMIT bytes.now) }
+        ensures reads { GivesUnlessFull (λ f. f.records) result
+            (list_at RECURSION_LIMIT DEFAULT_UNKNOWN_FIELD_LIMIT bytes.now) }
         ensures full { FullOnlyIf result (IsOk (tag_at bytes.now)) }
     {
         let mut budget = Budget::new(DEFAULT_UNKNOWN_FIELD_LIMIT);

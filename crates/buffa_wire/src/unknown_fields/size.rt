@@ -1,9 +1,9 @@
 //! The lengths of texts of unknown fields.
 
 ghost use Rattle.std.specs.Prelude.{◌≡◌, ◌≤◌, length, min};
-ghost use Rattle.buffa_wire.specs.Text.{W, field_text, payload_text};
+ghost use Rattle.buffa_wire.specs.Text.{records_text, field_text, payload_text};
 ghost use Rattle.buffa_wire.specs.View.{datum_of};
-ghost use Rattle.buffa_wire.specs.Varint.{V};
+ghost use Rattle.buffa_wire.specs.Varint.{varint_text};
 
 use crate::unknown_fields::tag::tag_value;
 use crate::unknown_fields::{UnknownFieldData, UnknownFields};
@@ -18,7 +18,7 @@ impl UnknownFields {
     /// ```
     #[cycle(size)]
     pub fn encoded_len(&self) -> u64
-        ensures { result ≡ min (length (W self.now.records)) 18446744073709551615 }
+        ensures { result ≡ min (length (records_text self.now.records)) 18446744073709551615 }
     {
         let mut total: u64 = 0;
         for field in &self.fields {
@@ -32,7 +32,7 @@ impl UnknownFields {
 // The length of a varint.
 #[tactic(auto, using(crate::proofs::TextLemmas::ten_at_most))]
 fn number_len(n: u64) -> u64
-    ensures len { result ≡ length (V n) }
+    ensures len { result ≡ length (varint_text n) }
     ensures short { result ≤ 10 }
 {
     varint_len(n) as u64

@@ -1,6 +1,6 @@
 //! The texts of unknown fields.
 
-ghost use Rattle.buffa_wire.specs.Text.{W, field_text, payload_text};
+ghost use Rattle.buffa_wire.specs.Text.{records_text, field_text, payload_text};
 ghost use Rattle.buffa_wire.specs.View.{datum_of};
 ghost use Rattle.buffa_wire.specs.Written.{UsesRoom, Writes};
 
@@ -24,8 +24,8 @@ impl UnknownFields {
     /// ```
     #[cycle(write)]
     pub fn write_to<S: EncodeSink>(&self, sink: &mut S) -> Result<(), EncodeError>
-        ensures writes { Writes result (S.written sink.old) (W self.now.records) (S.written sink.new) }
-        ensures room { UsesRoom result (S.room sink.old) (W self.now.records) (S.room sink.new) }
+        ensures writes { Writes result (S.written sink.old) (records_text self.now.records) (S.written sink.new) }
+        ensures room { UsesRoom result (S.room sink.old) (records_text self.now.records) (S.room sink.new) }
     {
         for field in &self.fields {
             write_field(field.number, &field.payload, sink)?;
@@ -42,7 +42,8 @@ fn write_field<S: EncodeSink>(
     payload: &UnknownFieldData,
     sink: &mut S,
 ) -> Result<(), EncodeError>
-    ensures writes { Writes result (S.written sink.old) (field_text number (datum_of payload.now)) (S.written sink.new) }
+    ensures writes { Writes result (S.written sink.old) (field_text number (datum_of payload.now))
+        (S.written sink.new) }
     ensures room { UsesRoom result (S.room sink.old) (field_text number (datum_of payload.now)) (S.room sink.new) }
 {
     encode_varint(tag_value(number, payload.wire_type()), sink)?;
@@ -57,7 +58,8 @@ fn write_payload<S: EncodeSink>(
     payload: &UnknownFieldData,
     sink: &mut S,
 ) -> Result<(), EncodeError>
-    ensures writes { Writes result (S.written sink.old) (payload_text number (datum_of payload.now)) (S.written sink.new) }
+    ensures writes { Writes result (S.written sink.old) (payload_text number (datum_of payload.now))
+        (S.written sink.new) }
     ensures room { UsesRoom result (S.room sink.old) (payload_text number (datum_of payload.now)) (S.room sink.new) }
 {
     match payload {

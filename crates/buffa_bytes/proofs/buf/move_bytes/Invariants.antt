@@ -8,7 +8,7 @@ invariant-loop-left g l = record {
   moved : l.bytes.items ++ take l.left (g.B.Buf.unread l.buf) ≡ l.fn.bytes.items ++ take l.len (g.B.Buf.unread l.fn.buf);
   rest : drop l.left (g.B.Buf.unread l.buf) ≡ drop l.len (g.B.Buf.unread l.fn.buf);
   tail : IsTailOf (g.B.Buf.unread l.buf) (g.B.Buf.unread l.fn.buf);
-  kept : g.B.Buf.kept l.buf ≡ g.B.Buf.kept l.fn.buf;
+  kept : g.B.Buf.beyond l.buf ≡ g.B.Buf.beyond l.fn.buf;
 }
 
 abbrev pub decreases-loop-left : goal.decreases-loop-left

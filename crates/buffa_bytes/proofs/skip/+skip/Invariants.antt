@@ -12,7 +12,7 @@ decreases-skip_group g l = 2 * l.depth
 abbrev pub invariant-skip_group-loop-tag : goal.invariant-skip_group-loop-tag
 invariant-skip_group-loop-tag g l = record {
   tail : IsTailOf (g.B.Buf.unread l.buf) (g.B.Buf.unread l.fn.buf);
-  kept : g.B.Buf.kept l.buf ≡ g.B.Buf.kept l.fn.buf;
+  kept : g.B.Buf.beyond l.buf ≡ g.B.Buf.beyond l.fn.buf;
   read : group_at l.depth l.number (g.B.Buf.unread l.buf) ≡ group_at l.depth l.number (g.B.Buf.unread l.fn.buf);
 }
 

@@ -9,6 +9,6 @@ invariant-loop-place g l = record {
   scale : l.scale ≡ 128 ^ l.place;
   below : l.value < l.scale;
   tail : IsTailOf (g.B.Buf.unread l.buf) (g.B.Buf.unread l.fn.buf);
-  kept : g.B.Buf.kept l.buf ≡ g.B.Buf.kept l.fn.buf;
+  kept : g.B.Buf.beyond l.buf ≡ g.B.Buf.beyond l.fn.buf;
   read : behind l.value l.scale (varint_within (9 - l.place) (g.B.Buf.unread l.buf)) ≡ varint_at (g.B.Buf.unread l.fn.buf);
 }

@@ -1,7 +1,7 @@
 use Rattle.std.proofs.Common.{arith, ◌⊎◌, ℕ, List, subst}
 use Rattle.std.proofs.lemmas.Result.{err_from_is_err_and}
-use Rattle.buffa_wire.specs.Left.{Left, Lacks, Pays, PaysAtMost}
-use Rattle.buffa_map.specs.Entry.{FaultOf, IsEntry, blanks, need_at, said}
+use Rattle.buffa_wire.specs.BudgetLeft.{BudgetLeft, Lacks, Pays, PaysAtMost}
+use Rattle.buffa_map.specs.Entry.{FaultOf, IsEntry, blanks, need_at, meant_entry}
 use Rattle.buffa_map.proofs.MergeLemmas.{bad_fields, is_kept, is_put, no_entry, no_units, not_kept}
 use Rattle.buffa_map.proofs.ResultLemmas.{IfErr-with, OnOk-map}
 use Rattle.buffa_map.proofs.entry.merge_entry_by.Goals as goal
@@ -23,7 +23,7 @@ returns-in_err-parts-clause-err g c =
     let key = g.KC.MapValueDecode.reading in
     let val = g.W.MergeValue.reading in
     let d = c.args.ctx.depth in
-    let now : Left = c.charge.new.budget in
+    let now : BudgetLeft = c.charge.new.budget in
     let charged = c.in_ok-charge.ensures.ok in
     let spent = subst (λ (z : List ℕ). PaysAtMost now (need_at key val d (blanks key val d) z) c.merge_fields.new.ctx.1.0) c.deref.ensures.value c.in_err-parts.ensures.err.pays in
     rw (p.1, p.2) (bad_fields _ _ _ _ _ _ _ c.in_ok-entry.ensures.reads now (omega (arith, charged.0, c.COST.ensures, c.COST-2.ensures)) charged.1 c.merge_fields.new.ctx.1.0 c.in_err-parts.field-0.0
@@ -34,9 +34,9 @@ returns-in-Ok-clause-ok g c =
     let key = g.KC.MapValueDecode.reading in
     let val = g.W.MergeValue.reading in
     let d = c.args.ctx.depth in
-    let now : Left = c.charge.new.budget in
+    let now : BudgetLeft = c.charge.new.budget in
     let charged = c.in_ok-charge.ensures.ok in
-    let s = said g.KC.Value.Blank.meaning g.W.Value.Blank.meaning c.in_ok-parts.parts in
+    let s = meant_entry g.KC.Value.Blank.meaning g.W.Value.Blank.meaning c.in_ok-parts.parts in
     let entry : IsEntry key val d c.in_ok-entry.entry.items s = subst (λ (z : List ℕ). IsEntry key val d z s) c.deref.ensures.value c.in_ok-parts.ensures.ok.entry in
     let pays = subst (λ (z : List ℕ). Pays now (need_at key val d (blanks key val d) z) c.merge_fields.new.ctx.1.0) c.deref.ensures.value c.in_ok-parts.ensures.ok.pays in
     is_put _ _ _ _ _ _ _ c.in_ok-entry.ensures.reads now (omega (arith, charged.0, c.COST.ensures, c.COST-2.ensures)) charged.1 s entry c.merge_fields.new.ctx.1.0 pays c.if-parts.true _ (λ q. c.in-Ok.ensures.ok q)
@@ -46,9 +46,9 @@ returns-clause-ok g c =
     let key = g.KC.MapValueDecode.reading in
     let val = g.W.MergeValue.reading in
     let d = c.args.ctx.depth in
-    let now : Left = c.charge.new.budget in
+    let now : BudgetLeft = c.charge.new.budget in
     let charged = c.in_ok-charge.ensures.ok in
-    let s = said g.KC.Value.Blank.meaning g.W.Value.Blank.meaning c.in_ok-parts.parts in
+    let s = meant_entry g.KC.Value.Blank.meaning g.W.Value.Blank.meaning c.in_ok-parts.parts in
     let entry : IsEntry key val d c.in_ok-entry.entry.items s = subst (λ (z : List ℕ). IsEntry key val d z s) c.deref.ensures.value c.in_ok-parts.ensures.ok.entry in
     let pays = subst (λ (z : List ℕ). Pays now (need_at key val d (blanks key val d) z) c.merge_fields.new.ctx.1.0) c.deref.ensures.value c.in_ok-parts.ensures.ok.pays in
     OnOk-map c.keep.result (λ h. is_kept _ _ _ _ _ _ _ c.in_ok-entry.ensures.reads now (omega (arith, charged.0, c.COST.ensures, c.COST-2.ensures)) charged.1 s entry c.merge_fields.new.ctx.1.0 pays c.if-parts.false _ _ h.0 h.1 c.keep.ensures.memory) c.keep.ensures.ok
@@ -58,9 +58,9 @@ returns-clause-err g c =
     let key = g.KC.MapValueDecode.reading in
     let val = g.W.MergeValue.reading in
     let d = c.args.ctx.depth in
-    let now : Left = c.charge.new.budget in
+    let now : BudgetLeft = c.charge.new.budget in
     let charged = c.in_ok-charge.ensures.ok in
-    let s = said g.KC.Value.Blank.meaning g.W.Value.Blank.meaning c.in_ok-parts.parts in
+    let s = meant_entry g.KC.Value.Blank.meaning g.W.Value.Blank.meaning c.in_ok-parts.parts in
     let entry : IsEntry key val d c.in_ok-entry.entry.items s = subst (λ (z : List ℕ). IsEntry key val d z s) c.deref.ensures.value c.in_ok-parts.ensures.ok.entry in
     let pays = subst (λ (z : List ℕ). Pays now (need_at key val d (blanks key val d) z) c.merge_fields.new.ctx.1.0) c.deref.ensures.value c.in_ok-parts.ensures.ok.pays in
     IfErr-with c.keep.result (λ f a h. not_kept _ _ _ _ _ _ _ c.in_ok-entry.ensures.reads now (omega (arith, charged.0, c.COST.ensures, c.COST-2.ensures)) charged.1 s entry c.merge_fields.new.ctx.1.0 pays c.if-parts.false _ _ f a.0 a.1 a.2 c.keep.ensures.memory h) c.keep.ensures.err c.keep.ensures.fault

@@ -1,5 +1,5 @@
 use Rattle.std.proofs.Common.{◌∙◌, sym, ap}
-use Rattle.buffa_wire.specs.Left.{Left, plus}
+use Rattle.buffa_wire.specs.BudgetLeft.{BudgetLeft, plus}
 use Rattle.buffa_map.specs.Run.{inner_needs}
 use Rattle.buffa_map.proofs.AlongLemmas.{ok_same, ok_no_err}
 use Rattle.buffa_map.proofs.RunLemmas.{run_complete, run_faulty}
@@ -20,7 +20,7 @@ returns g c = record {
       let val_free = g.met.VC.MapValueDecode.free in
       let a = inner_needs key val d es in
       let b = inner_needs key val d fs in
-      let both : Left = plus a b in
+      let both : BudgetLeft = plus a b in
       ap (λ z. z.0) (ok_same (sym (run_complete key val d n 0 0 key_free val_free both bs es b h (omega arith, omega arith)) ∙ run_complete key val d n 0 0 key_free val_free both bs fs a k (omega arith, omega arith)));
   run_or_fault = λ d n cost slot left over bs es f h paid k.
       let key = g.KC.MapValueDecode.reading in

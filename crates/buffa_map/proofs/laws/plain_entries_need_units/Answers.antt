@@ -1,5 +1,5 @@
 use Rattle.std.proofs.Common.{◌≡◌, ◌+◌, ap, arith}
-use Rattle.buffa_wire.specs.Left.{units}
+use Rattle.buffa_wire.specs.BudgetLeft.{units}
 use Rattle.buffa_wire.specs.Reading.{delimited_at, tag_at}
 use Rattle.buffa_map.specs.Entry.{blanks, inner_need, need_at}
 use Rattle.buffa_map.proofs.EntryLemmas.{need_by-nothing}

@@ -8,9 +8,9 @@ abbrev pub invariant-records : goal.invariant-records
 invariant-records g l =
     Reached (rules g.KC.MapValueDecode.reading g.VC.MapValueDecode.reading g.C.MapStorage.equal l.fn.ctx.depth l.number
     (g.KC.MapValueDecode.COST + g.VC.MapValueDecode.COST) g.L.Keeper.slot g.L.Keeper.adds)
-    (state (g.C.MapStorage.pairs l.fn.map) (g.L.Keeper.kept l.fn.keeper) l.fn.ctx.budget.now) (g.B.Buf.unread l.fn.buf)
-    (state (g.C.MapStorage.pairs l.map) (g.L.Keeper.kept l.keeper) l.budget) (g.B.Buf.unread l.buf)
-    × (g.B.Buf.kept l.buf ≡ g.B.Buf.kept l.fn.buf)
+    (state (g.C.MapStorage.pairs l.fn.map) (g.L.Keeper.records l.fn.keeper) l.fn.ctx.budget.now) (g.B.Buf.unread l.fn.buf)
+    (state (g.C.MapStorage.pairs l.map) (g.L.Keeper.records l.keeper) l.budget) (g.B.Buf.unread l.buf)
+    × (g.B.Buf.beyond l.buf ≡ g.B.Buf.beyond l.fn.buf)
 
 abbrev pub decreases-records : goal.decreases-records
 decreases-records g l = length (g.B.Buf.unread l.buf)

@@ -1,7 +1,7 @@
 use Rattle.std.proofs.Common.{◌≡◌, ◌∙◌, ◌+◌, ◌*◌, ◌<◌, ◌++◌, ap, sym, subst, length, List, [], ℕ}
 use Rattle.std.specs.Map.{lookup_entry}
-use Rattle.buffa_wire.specs.Left.{Left}
-use Rattle.buffa_map.specs.Run.{Fold, Run}
+use Rattle.buffa_wire.specs.BudgetLeft.{BudgetLeft}
+use Rattle.buffa_map.specs.Run.{fold_entries, Run}
 use Rattle.buffa_map.specs.Text.{field_text}
 use Rattle.buffa_vectors.proofs.TripLemmas.{costs_more, unwritten}
 use Rattle.buffa_vectors.proofs.round_trip.through_bytes.Goals as goal
@@ -19,7 +19,7 @@ returns-in-Ok-read_map_field-clause-ok g c q =
     let text : c.as_slice-rest.result.now ≡ field = c.as_slice-rest.ensures.value ∙ w.3.1 ∙ ap (λ z. z ++ field) c.new-text.ensures.items in
     let run : Run key val depth c.args.number field r.entries = subst (λ (b : List ℕ). Run key val depth c.args.number b r.entries) text r.run in
     let same : r.entries ≡ t.entries = c.one_reading.ensures.run depth c.args.number field r.entries t.entries run t.run in
-    w.2.1 q ∙ ap (lookup_entry (eq q)) (sym t.folded ∙ ap (Fold eq []) (sym same) ∙ ap (λ m. Fold eq m r.entries) (sym c.requires.empty)) ∙ r.folded q
+    w.2.1 q ∙ ap (lookup_entry (eq q)) (sym t.folded ∙ ap (fold_entries eq []) (sym same) ∙ ap (λ m. fold_entries eq m r.entries) (sym c.requires.empty)) ∙ r.folded q
 
 pub returns-in-Err-clause-err : goal.returns-in-Err-clause-err
 returns-in-Err-clause-err g c =
@@ -38,7 +38,7 @@ returns-clause-err g c =
     let field = field_text g.KC.MapCodec.writing g.VC.MapCodec.writing c.args.number w.0 in
     let text : c.as_slice-rest.result.now ≡ field = c.as_slice-rest.ensures.value ∙ w.3.1 ∙ ap (λ z. z ++ field) c.new-text.ensures.items in
     let run : Run key val depth c.args.number c.as_slice-rest.result.now t.entries = subst (λ (b : List ℕ). Run key val depth c.args.number b t.entries) (sym text) t.run in
-    let memory : c.new-ctx.result.budget.now.memory ≡ 268435456 = ap (λ (b : Left). b.memory) c.new-ctx.ensures.left ∙ c.new-budget.ensures.memory in (
+    let memory : c.new-ctx.result.budget.now.memory ≡ 268435456 = ap (λ (b : BudgetLeft). b.memory) c.new-ctx.ensures.left ∙ c.new-budget.ensures.memory in (
       w.0,
       w.1,
       λ named.

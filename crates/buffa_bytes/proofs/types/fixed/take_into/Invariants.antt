@@ -9,7 +9,7 @@ invariant-loop-at g l =
       size : length l.bytes ≡ length l.fn.bytes;
       filled : take l.at l.bytes ≡ take l.at (unread l.fn.buf);
       rest : unread l.buf ≡ drop l.at (unread l.fn.buf);
-      kept : g.B.Buf.kept l.buf ≡ g.B.Buf.kept l.fn.buf;
+      kept : g.B.Buf.beyond l.buf ≡ g.B.Buf.beyond l.fn.buf;
     }
 
 abbrev pub decreases-loop-at : goal.decreases-loop-at

@@ -5,7 +5,7 @@ use Rattle.buffa_bytes.specs.Field.{TakesTag}
 use Rattle.buffa_bytes.specs.Reading.{tag_at}
 use Rattle.buffa_bytes.proofs.StepLemmas.{agree_ok}
 use Rattle.buffa_bytes.proofs.FieldLemmas.{tag_some, tag_sound}
-use Rattle.buffa_wire.specs.Left.{Left, PaysAtMost}
+use Rattle.buffa_wire.specs.BudgetLeft.{BudgetLeft, PaysAtMost}
 use Rattle.buffa_wire.specs.Message.{MergeFault}
 use Rattle.buffa_wire.proofs.MessageLemmas.{field_costs, field_means, loop_fault, untagged}
 use Rattle.buffa_wire.proofs.message.Message.merge.Goals as goal
@@ -44,8 +44,8 @@ loop-rest-preserved g c =
     let costs = field_costs g.Self.MessageSpec.merged g.Self.MessageSpec.cost g.Self.MessageSpec.merged_fields g.Self.MessageSpec.merged_next g.Self.MessageSpec.cost_next d rest u.0 m.0 x n w u.1 m.1 split in
     record {
       means = inv.means ∙ field_means g.Self.MessageSpec.merged g.Self.MessageSpec.cost g.Self.MessageSpec.merged_fields g.Self.MessageSpec.merged_next g.Self.MessageSpec.cost_next d (g.Self.Blank.meaning c.loop-rest.self) (g.Self.Blank.meaning c.merge_field.new.self) rest u.0 m.0 x n w u.1 m.1 split one.0;
-      unknown = omega (arith, inv.unknown, one.1.0, ap (λ (z : Left). z.unknown) costs);
-      memory = omega (arith, inv.memory, one.1.1, ap (λ (z : Left). z.memory) costs);
+      unknown = omega (arith, inv.unknown, one.1.0, ap (λ (z : BudgetLeft). z.unknown) costs);
+      memory = omega (arith, inv.memory, one.1.1, ap (λ (z : BudgetLeft). z.memory) costs);
       no_slot = omega (arith, inv.no_slot, one.1.0);
       no_unit = omega (arith, inv.no_unit, one.1.1);
     }

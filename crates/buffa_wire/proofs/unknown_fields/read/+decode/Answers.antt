@@ -1,7 +1,7 @@
 use Rattle.std.proofs.Common.{rules, ◌∙◌, arith, refl, sym, ap, Err, inr}
 use Rattle.std.proofs.lemmas.Result.{err_from_is_err_and}
 use Rattle.buffa_bytes.proofs.FieldLemmas.{tag_falls}
-use Rattle.buffa_wire.specs.Left.{Left}
+use Rattle.buffa_wire.specs.BudgetLeft.{BudgetLeft}
 use Rattle.buffa_wire.specs.RecordReading.{group_at}
 use Rattle.buffa_bytes.proofs.TailLemmas.{tail_more, tail_whole}
 use Rattle.buffa_bytes.proofs.FullLemmas.{tag_no_full}
@@ -92,12 +92,12 @@ decode_unknown_field-returns-in_err-take_slot g t c =
     record {
       reads = rw (p.1, p.2) (λ other. field_no_slot _ _ _ _ _ c.in_default.not-EndGroup c.in_err-take_slot.ensures.err.0 ∙ ap (λ e. Err e) (sym c.in_err-take_slot.ensures.which));
       number = search rules;
-      memory = ap (λ (b : Left). b.memory) c.in_err-take_slot.ensures.err.1;
+      memory = ap (λ (b : BudgetLeft). b.memory) c.in_err-take_slot.ensures.err.1;
       full = rw (p.1, p.2) (λ k. let w = c.in_err-take_slot.ensures.which in cc);
-      spent = none_spent _ _ _ (ap (λ (b : Left). b.unknown) c.in_err-take_slot.ensures.err.1);
+      spent = none_spent _ _ _ (ap (λ (b : BudgetLeft). b.unknown) c.in_err-take_slot.ensures.err.1);
       end = λ k. c.in_err-take_slot.ensures.err.1;
       tail = tail_whole _;
-      kept = refl {a = g.B.Buf.kept c.args.buf.now};
+      kept = refl {a = g.B.Buf.beyond c.args.buf.now};
     }
 
 pub decode_unknown_field-returns-in_err-fields : goal.decode_unknown_field-returns-in_err-fields

@@ -1,6 +1,6 @@
 use Rattle.std.proofs.Common.{◌≡◌, ◌+◌, ◌*◌, length}
 use Rattle.buffa_bytes.specs.Unread.{IsTailOf, bytes_read}
-use Rattle.buffa_wire.specs.Left.{SlotsSpent}
+use Rattle.buffa_wire.specs.BudgetLeft.{SlotsSpent}
 use Rattle.buffa_wire.proofs.SpentLemmas.{IsBegun}
 use Rattle.buffa_wire.specs.Records.{records_of}
 use Rattle.buffa_wire.specs.RecordReading.{group_at}
@@ -21,7 +21,7 @@ invariant-decode_group-loop-fields g l = record {
   spent : SlotsSpent (bytes_read (g.B.Buf.unread l.fn.buf) (g.B.Buf.unread l.buf)) l.fn.ctx.budget.now.unknown l.budget.unknown;
   tail : IsTailOf (g.B.Buf.unread l.buf) (g.B.Buf.unread l.fn.buf);
   begun : IsBegun (g.B.Buf.unread l.fn.buf) (g.B.Buf.unread l.buf);
-  kept : g.B.Buf.kept l.buf ≡ g.B.Buf.kept l.fn.buf;
+  kept : g.B.Buf.beyond l.buf ≡ g.B.Buf.beyond l.fn.buf;
 }
 
 abbrev pub decreases-decode_group-loop-fields : goal.decreases-decode_group-loop-fields

@@ -3,36 +3,36 @@ use Rattle.std.specs.Prelude.{◌≡◌, ℕ, ◌+◌, ◌<◌, ◌≤◌, ◌�
 use denote.Ref.{MutBor}
 
 -- slots for unknown fields, and units of element memory
-pub record Left : Type 0 where
+pub record BudgetLeft : Type 0 where
   pub unknown : ℕ
   pub memory : ℕ
 
 -- no slot and no unit
-abbrev pub nothing : Left
+abbrev pub nothing : BudgetLeft
 nothing = record { unknown = 0; memory = 0 }
 
 -- no slot, and so many units
-abbrev pub units : ℕ → Left
+abbrev pub units : ℕ → BudgetLeft
 units n = record { unknown = 0; memory = n }
 
 -- so many slots, and no unit
-abbrev pub slots : ℕ → Left
+abbrev pub slots : ℕ → BudgetLeft
 slots n = record { unknown = n; memory = 0 }
 
 -- both together
-abbrev pub plus : Left → Left → Left
+abbrev pub plus : BudgetLeft → BudgetLeft → BudgetLeft
 plus a b = record { unknown = a.unknown + b.unknown; memory = a.memory + b.memory }
 
 -- of left, need can't be spent
-abbrev pub Lacks : Left → Left → Type 0
+abbrev pub Lacks : BudgetLeft → BudgetLeft → Type 0
 Lacks left need = (left.unknown < need.unknown) ⊎ (left.memory < need.memory)
 
 -- of left, need is spent, and over is over
-abbrev pub Pays : Left → Left → Left → Type 0
+abbrev pub Pays : BudgetLeft → BudgetLeft → BudgetLeft → Type 0
 Pays left need over = (over.unknown + need.unknown ≡ left.unknown) × (over.memory + need.memory ≡ left.memory)
 
 -- of left, at most need is spent, and over is over
-abbrev pub PaysAtMost : Left → Left → Left → Type 0
+abbrev pub PaysAtMost : BudgetLeft → BudgetLeft → BudgetLeft → Type 0
 PaysAtMost left need over =
     (over.unknown ≤ left.unknown) × (left.unknown ≤ over.unknown + need.unknown)
     × (over.memory ≤ left.memory) × (left.memory ≤ over.memory + need.memory)
@@ -42,5 +42,5 @@ abbrev pub SlotsSpent : ℕ → ℕ → ℕ → Type 0
 SlotsSpent n before after = (after ≤ before) × (before ≤ after + n)
 
 -- what a call that took a context left in the budget that was lent with it
-abbrev pub left_in : {D X : Type 0} → D × (MutBor X × Unit {0}) → X
-left_in ctx = ctx.1.0.now
+abbrev pub budget_left : {D X : Type 0} → D × (MutBor X × Unit {0}) → X
+budget_left ctx = ctx.1.0.now
