@@ -1,4 +1,5 @@
 -- An entry that was merged, or refused, at each place where reading it ends.
+use Rattle.std.specs.Prelude.{IsOk}
 use Rattle.std.proofs.Common.{arith, ◌≡◌, ◌≢◌, ◌+◌, ◌<◌, ◌≤◌, ◌++◌, ◌⊎◌, inl, inr, ℕ, true, false, List, Ok, Err, ap, append-nil, refl, sym}
 use Rattle.buffa_bytes.specs.declared.error.DecodeError.{DecodeError}
 use Rattle.buffa_bytes.specs.declared.error.DecodeError.TheVariants.{ElementMemoryLimitExceeded, OutOfMemory, UnknownFieldLimitExceeded}
@@ -19,9 +20,10 @@ module _ {K V : Type 0} (r : Rules K V) (pairs : List (K × V)) (records : List 
   abbrev fields_need : List ℕ → BudgetLeft
   fields_need e = need_at r.key r.val r.depth (blanks r.key r.val r.depth) e
 
-  pub no_entry : (f : DecodeError) → (f ≢ OutOfMemory → delimited_at bs ≡ Err f) → RefusesEntry r (state pairs records left) bs (state pairs records left) f
-  no_entry f h = record {
+  pub no_entry : (f : DecodeError) → (f ≢ OutOfMemory → delimited_at bs ≡ Err f) → (f ≡ OutOfMemory → IsOk (delimited_at bs)) → RefusesEntry r (state pairs records left) bs (state pairs records left) f
+  no_entry f h full = record {
     fault = λ ne. entry_short r.key r.val r.depth r.cost r.slot left bs f (h ne);
+    memory = full;
     pairs = refl;
     records = refl;
     units = inl refl;
@@ -41,6 +43,7 @@ module _ {K V : Type 0} (r : Rules K V) (pairs : List (K × V)) (records : List 
         let slots = ap (λ (z : BudgetLeft). z.unknown) same in
         record {
           fault = λ ne. entry_charged r.key r.val r.depth r.cost r.slot left bs e rest f is few which;
+          memory = λ out. rw is refl;
           pairs = refl;
           records = refl;
           units = inl units;
@@ -58,6 +61,7 @@ module _ {K V : Type 0} (r : Rules K V) (pairs : List (K × V)) (records : List 
           let taken = ap (λ (z : BudgetLeft). z.unknown) inner in
           record {
             fault = λ ne. entry_broken r.key r.val r.depth r.cost r.slot left now bs e rest f is charged slots (h ne);
+            memory = λ out. rw is refl;
             pairs = refl;
             records = refl;
             units = inr (omega (arith, charged, p), omega (arith, charged, p, units));
@@ -95,6 +99,7 @@ module _ {K V : Type 0} (r : Rules K V) (pairs : List (K × V)) (records : List 
             let taken = ap (λ (z : BudgetLeft). z.unknown) inner in
             record {
               fault = λ ne. entry_slotless r.key r.val r.depth r.cost r.slot left bs e rest s f is (omega (arith, charged)) entry known (omega (arith, (which ne).0, slots, p)) (which ne).1;
+              memory = λ out. rw is refl;
               pairs = refl;
               records = h;
               units = inr (omega (arith, charged, p, unit), omega (arith, charged, p, unit, units));

@@ -2,8 +2,10 @@
 use Rattle.std.proofs.Common.{arith, ◌≡◌, ◌≢◌, ◌<◌, ◌++◌, inl, inr, ℕ, List, [], ◌∷◌, Ok, Err, ap, append-nil, append_assoc, length, refl, subst, sym, ◌∙◌}
 use Rattle.std.specs.Cmp.{IsEquivalence}
 use Rattle.buffa_bytes.proofs.FieldLemmas.{tag_falls}
+use Rattle.buffa_bytes.proofs.FullLemmas.{tag_no_full}
+use Rattle.buffa_bytes.proofs.StepLemmas.{agree_err, agree_ok}
 use Rattle.buffa_bytes.specs.declared.error.DecodeError.{DecodeError}
-use Rattle.buffa_bytes.specs.declared.error.DecodeError.TheVariants.{OutOfMemory, UnexpectedField}
+use Rattle.buffa_bytes.specs.declared.error.DecodeError.TheVariants.{OutOfMemory, UnexpectedField, WireTypeMismatch}
 use Rattle.buffa_bytes.specs.declared.wire_type.WireType.{WireType}
 use Rattle.buffa_bytes.specs.declared.wire_type.WireType.TheVariants.{LengthDelimited}
 use Rattle.buffa_wire.specs.BudgetLeft.{BudgetLeft}
@@ -11,6 +13,7 @@ use Rattle.buffa_wire.specs.Reading.{check_wire, tag_at}
 use Rattle.buffa_map.specs.Merge.{MergesEntry, ReadsRun, RefusesEntry, Rules, State, StopsRun}
 use Rattle.buffa_map.specs.Pairs.{SamePairs}
 use Rattle.buffa_map.specs.Run.{fold_entries, Paid, RecordFault, Run, EntryRecord, added}
+use Rattle.buffa_map.proofs.EntryLemmas.{check_sound}
 use Rattle.buffa_map.proofs.RunLemmas.{fold_entries-more, Paid-more, Run-last, added-more, entry_falls, record_entry, record_found, record_mismatch, record_needs, record_other, record_tag}
 
 some : {bs : List ℕ} → 0 < length bs → bs ≢ []
@@ -48,8 +51,8 @@ module _ {K V : Type 0} (r : Rules K V) (old : State K V) (bs : List ℕ) where
         }
 
     -- the next record is refused before its entry
-    stop_here : (f : DecodeError) → 0 < length rest → (f ≢ OutOfMemory → RecordFault r.key r.val r.depth r.number r.cost r.slot now.left rest f) → StopsRun r old bs now f
-    stop_here f more fault = record {
+    stop_here : (f : DecodeError) → 0 < length rest → (f ≡ OutOfMemory → ⊥) → (f ≢ OutOfMemory → RecordFault r.key r.val r.depth r.number r.cost r.slot now.left rest f) → StopsRun r old bs now f
+    stop_here f more full fault = record {
       entries = h.entries;
       rest = rest;
       over = now.left;
@@ -62,22 +65,31 @@ module _ {K V : Type 0} (r : Rules K V) (old : State K V) (bs : List ℕ) where
       one_cost = omega arith;
       one_slot = omega arith;
       fault = fault;
+      memory = λ out. absurd (full out);
       no_slot = λ ne. omega arith;
     }
 
     pub stop_tag : (f : DecodeError) → 0 < length rest → tag_at rest ≡ Err f → StopsRun r old bs now f
-    stop_tag f more is = stop_here f more (λ ne. record_tag r.key r.val r.depth r.number r.cost r.slot now.left rest f is)
+    stop_tag f more is = stop_here f more (tag_no_full rest f is) (λ ne. record_tag r.key r.val r.depth r.number r.cost r.slot now.left rest f is)
 
     module _ (mid : List ℕ) (g : ℕ) (w : WireType) (more : 0 < length rest) (tag : tag_at rest ≡ Ok (g, w, mid)) where
       pub stop_other : g ≢ r.number → StopsRun r old bs now (UnexpectedField g)
-      stop_other other = stop_here (UnexpectedField g) more (λ ne. record_other r.key r.val r.depth r.number r.cost r.slot now.left rest mid g w tag other)
+      stop_other other = stop_here (UnexpectedField g) more (λ out. cc) (λ ne. record_other r.key r.val r.depth r.number r.cost r.slot now.left rest mid g w tag other)
+
+      mismatch_no_full : (f : DecodeError) → check_wire g LengthDelimited w ≡ Err f → f ≡ OutOfMemory → ⊥
+      mismatch_no_full f is out =
+          let m = agree_err (check_wire g LengthDelimited w) f (check_sound g LengthDelimited w) is in
+          let which : f ≡ WireTypeMismatch g LengthDelimited w = m.1 in
+          cc
 
       pub stop_mismatch : (f : DecodeError) → g ≡ r.number → check_wire g LengthDelimited w ≡ Err f → StopsRun r old bs now f
-      stop_mismatch f same is = stop_here f more (λ ne. record_mismatch r.key r.val r.depth r.number r.cost r.slot now.left rest mid g w f tag same is)
+      stop_mismatch f same is = stop_here f more (mismatch_no_full f is) (λ ne. record_mismatch r.key r.val r.depth r.number r.cost r.slot now.left rest mid g w f tag same is)
 
       module _ (same : g ≡ r.number) (wire : check_wire g LengthDelimited w ≡ Ok tt) where
         pub stop_entry : (new : State K V) (f : DecodeError) → RefusesEntry r now mid new f → StopsRun r old bs new f
         stop_entry new f k =
+            let is_wire : w ≡ LengthDelimited = agree_ok (check_wire g LengthDelimited w) tt (check_sound g LengthDelimited w) wire in
+            let found : tag_at rest ≡ Ok (r.number, LengthDelimited, mid) = subst (λ (z : WireType). tag_at rest ≡ Ok (r.number, z, mid)) is_wire (subst (λ (z : ℕ). tag_at rest ≡ Ok (z, w, mid)) same tag) in
             let need = record_needs r.key r.val r.depth r.number rest mid g w tag in
             let units = ap (λ (z : BudgetLeft). z.memory) need in
             let taken = ap (λ (z : BudgetLeft). z.unknown) need in
@@ -94,6 +106,7 @@ module _ {K V : Type 0} (r : Rules K V) (old : State K V) (bs : List ℕ) where
               one_cost = elim k.units [ inl e ↦ omega (arith, e) | inr e ↦ omega (arith, e.1, units) ];
               one_slot = omega (arith, k.least, taken);
               fault = λ ne. record_entry r.key r.val r.depth r.number r.cost r.slot now.left rest mid g w f tag same wire (k.fault ne);
+              memory = λ out. (mid, found, k.memory out);
               no_slot = λ ne. omega (arith, k.no_slot ne, taken);
             }
 

@@ -1,10 +1,12 @@
 -- What reading entries does to a map, to the records that are kept beside it, and to a budget.
-use Rattle.std.specs.Prelude.{◌≡◌, ◌≢◌, ℕ, ◌+◌, ◌≤◌, Bool, List, [], ◌∷◌, ◌++◌, ◌⊎◌, cond, Option, None, Some}
+use Rattle.std.specs.Prelude.{◌≡◌, ◌≢◌, ℕ, ◌+◌, ◌≤◌, Bool, List, [], ◌∷◌, ◌++◌, ◌⊎◌, cond, Option, None, Some, Ok, IsOk}
 use Rattle.buffa_bytes.specs.declared.error.DecodeError.{DecodeError}
 use Rattle.buffa_bytes.specs.declared.error.DecodeError.TheVariants.{OutOfMemory}
 use Rattle.buffa_wire.specs.Field.{TakesDelimited}
 use Rattle.buffa_wire.specs.BudgetLeft.{BudgetLeft, Pays, plus, slots}
+use Rattle.buffa_wire.specs.Reading.{delimited_at, tag_at}
 use Rattle.buffa_wire.specs.Records.{Datum, bytes}
+use Rattle.buffa_bytes.specs.declared.wire_type.WireType.TheVariants.{LengthDelimited}
 use Rattle.buffa_map.specs.Codec.{Reading}
 use Rattle.buffa_map.specs.Entry.{EntryFault, EntryOf, inner_need, need_of}
 use Rattle.buffa_map.specs.Pairs.{SamePairs}
@@ -58,10 +60,11 @@ pub record MergesEntry {K V : Type 0} (r : Rules K V) (old : State K V) (bytes :
   pub keeps : new.records ≡ old.records ++ cond says.known [] (r.adds r.number entry)
   pub pays : Pays old.left (plus (need_of r.key r.val r.depth r.cost entry) (slots (cond says.known 0 r.slot))) new.left
 
--- f is why not; map and records stand. Of the budget at most the entry's cost, its slot and what the messages in it
+-- f is why not, and out of memory only where a length and so many bytes were there; map and records stand. Of the budget at most the entry's cost, its slot and what the messages in it
 -- cost are gone; the cost is gone where the entry was there and had a fault; the slot is not, where f is a fault.
 pub record RefusesEntry {K V : Type 0} (r : Rules K V) (old : State K V) (bytes : List ℕ) (new : State K V) (f : DecodeError) : Type 0 where
   pub fault : f ≢ OutOfMemory → EntryFault r.key r.val r.depth r.cost r.slot old.left bytes f
+  pub memory : f ≡ OutOfMemory → IsOk (delimited_at bytes)
   pub pairs : new.pairs ≡ old.pairs
   pub records : new.records ≡ old.records
   pub units : (new.left.memory ≡ old.left.memory)
@@ -81,7 +84,8 @@ pub record ReadsRun {K V : Type 0} (r : Rules K V) (old : State K V) (bytes : Li
   pub paid : Paid r.key r.val r.depth r.cost r.slot old.left entries new.left
   pub whole : rest ≡ []
 
--- The records of some entries begin the bytes, and were read; f is why what follows them wasn't. Of what they leave
+-- The records of some entries begin the bytes, and were read; f is why what follows them wasn't, and out of memory only
+-- where a record was there. Of what they leave
 -- at most one entry's cost, its slot and what the messages in it cost are gone.
 pub record StopsRun {K V : Type 0} (r : Rules K V) (old : State K V) (bytes : List ℕ) (new : State K V) (f : DecodeError) : Type 0 where
   pub entries : List (EntryRecord K V)
@@ -96,4 +100,5 @@ pub record StopsRun {K V : Type 0} (r : Rules K V) (old : State K V) (bytes : Li
   pub one_cost : over.memory ≤ new.left.memory + (r.cost + (record_need r.key r.val r.depth rest).memory)
   pub one_slot : over.unknown ≤ new.left.unknown + (r.slot + (record_need r.key r.val r.depth rest).unknown)
   pub fault : f ≢ OutOfMemory → RecordFault r.key r.val r.depth r.number r.cost r.slot over rest f
+  pub memory : f ≡ OutOfMemory → (mid : List ℕ) × (tag_at rest ≡ Ok (r.number, LengthDelimited, mid)) × IsOk (delimited_at mid)
   pub no_slot : f ≢ OutOfMemory → over.unknown ≤ new.left.unknown + (record_need r.key r.val r.depth rest).unknown

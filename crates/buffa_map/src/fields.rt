@@ -6,8 +6,8 @@ ghost use Rattle.buffa_map.specs.Entry.{meant_entry};
 ghost use Rattle.buffa_map.specs.Fields.{MergesField, MergesFields, RefusesField, RefusesFields};
 
 use crate::codec::{MapValueDecode, MapValueDecodeStatus};
-use crate::merge_value::MergeValue;
 use crate::map_entry::MapEntry;
+use crate::merge_value::MergeValue;
 use buffa_wire::{Blank, Buf, DecodeContext, DecodeError, Tag, check_wire_type, skip_field_depth};
 use std::alloc::Global;
 
@@ -25,7 +25,7 @@ fn merge_field<KC: MapValueDecode, W: MergeValue, B: Buf>(
         (meant_entry KC.Value.meaning W.Value.meaning parts.new) (budget_left ctx.exit) (B.unread buf.new)) }
     ensures err { IfErr result (RefusesField KC.reading W.reading ctx.entry.depth
         (meant_entry KC.Value.meaning W.Value.meaning parts.old) ctx.entry.budget.now (B.unread buf.old)
-            (budget_left ctx.exit)) }
+        (budget_left ctx.exit)) }
     ensures kept { B.beyond buf.new ≡ B.beyond buf.old }
 {
     let tag = Tag::decode(buf)?;

@@ -51,7 +51,7 @@ pub(crate) trait MergeValue {
             ≡ Ok ((Self.Value.meaning value.new, is_known s), B.unread buf.new)) }
         ensures fault { IfErr result (λ e. e ≢ OutOfMemory →
             Refuses reading.nested reading ctx.entry.depth (Self.Value.meaning value.old) (B.unread buf.old)
-                ctx.entry.budget.now e) }
+            ctx.entry.budget.now e) }
         ensures kept { B.beyond buf.new ≡ B.beyond buf.old }
         ensures spends { Spends reading.nested result ctx.entry.budget.now
             (value_need reading ctx.entry.depth (B.unread buf.old)) (budget_left ctx.exit) };

@@ -76,8 +76,12 @@ impl<N: Scalar> MapCodec for N {
 
     ghost written_wire = { refl };
 
-    ghost reads_back = { λ d old v h _. (number (N.number_of v), N.Form.Form.reads_back (N.number_of v)
-        (N.Scalar.spelled v h), ap (λ z. Ok (z, true)) (N.Scalar.means v h)) };
+    ghost reads_back = { λ d old v h _. (
+      number (N.number_of v),
+      N.Form.Form.reads_back (N.number_of v)
+          (N.Scalar.spelled v h),
+      ap (λ z. Ok (z, true)) (N.Scalar.means v h),
+    ) };
 
     ghost blank_normal = { tt };
 

@@ -9,7 +9,7 @@ use Rattle.buffa_map.proofs.entry.merge_entry_by.Goals as goal
 pub returns-in_err-entry-clause-err : goal.returns-in_err-entry-clause-err
 returns-in_err-entry-clause-err g c =
     let p = err_from_is_err_and c.from_residual.result c.from_residual.ensures.1 in
-    rw (p.1, p.2) (no_entry _ _ _ _ _ c.in_err-entry.field-0.0 (λ ne. c.in_err-entry.ensures.reads ne))
+    rw (p.1, p.2) (no_entry _ _ _ _ _ c.in_err-entry.field-0.0 (λ ne. c.in_err-entry.ensures.reads ne) c.in_err-entry.ensures.full)
 
 pub returns-in_err-charge-clause-err : goal.returns-in_err-charge-clause-err
 returns-in_err-charge-clause-err g c =
