@@ -39,8 +39,7 @@ module _ {M N : Type 0} (f : M → N) (one : Left → Datum → Option M) (two :
         → (ms : List M) × ReadsAll one leaves packed b ds ms left × (out ≡ map f ms)
     list_from b [] out left h = ([], (refl, h.1), h.0)
     list_from b (d ∷ ds) out left h =
-        let t = list_from h.0 ds h.1 left h.3 in
-        (
+        let t = list_from h.0 ds h.1 left h.3 in (
           elements packed d (one b d) ++ t.0,
           (h.0, t.0, h.2, t.1, refl),
           h.4 ∙ ap (λ x. elements also d x ++ h.1) (same b d) ∙ ap (λ l. l ++ h.1) (elements_by d (one b d))
@@ -50,7 +49,10 @@ module _ {M N : Type 0} (f : M → N) (one : Left → Datum → Option M) (two :
     pub list_to : (b : Left) (ds : List Datum) (ms : List M) (left : Left) → ReadsAll one leaves packed b ds ms left → ReadsAll two leaves also b ds (map f ms) left
     list_to b [] ms left h = (ap (map f) h.0, h.1)
     list_to b (d ∷ ds) ms left h = (
-      h.0, map f h.1, h.2, list_to h.0 ds h.1 left h.3,
+      h.0,
+      map f h.1,
+      h.2,
+      list_to h.0 ds h.1 left h.3,
       ap (map f) h.4 ∙ map-append f (elements packed d (one b d)) h.1 ∙ ap (λ l. l ++ map f h.1) (sym (elements_by d (one b d)))
           ∙ ap (λ x. elements also d x ++ map f h.1) (sym (same b d)),
     )

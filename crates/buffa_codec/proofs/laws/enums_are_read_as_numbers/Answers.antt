@@ -16,10 +16,12 @@ returns-clause-one g c = λ ds.
 
 pub returns-clause-lists : goal.returns-clause-lists
 returns-clause-lists g c = λ ds out.
-    let turn = open_number g.E.Enumeration.of_number in
-    (
+    let turn = open_number g.E.Enumeration.of_number in (
       λ h. (let t = list_from turn (λ b d. option_map int32_of (varint_in d)) (λ b d. option_map (λ n. turn (int32_of n)) (varint_in d)) (λ b d. option_twice int32_of turn (varint_in d))
           (λ b d left. left ≡ b) (λ bs. map int32_of (numbers_in Varint bs)) (λ bs. map (λ n. turn (int32_of n)) (numbers_in Varint bs)) (λ bs. map_twice int32_of turn (numbers_in Varint bs)) full ds out h.0 h.1 in (t.0, (h.0, t.1), t.2)),
-      λ k. (k.1.0, rw k.2 (list_to turn (λ b d. option_map int32_of (varint_in d)) (λ b d. option_map (λ n. turn (int32_of n)) (varint_in d)) (λ b d. option_twice int32_of turn (varint_in d))
-          (λ b d left. left ≡ b) (λ bs. map int32_of (numbers_in Varint bs)) (λ bs. map (λ n. turn (int32_of n)) (numbers_in Varint bs)) (λ bs. map_twice int32_of turn (numbers_in Varint bs)) full ds k.0 k.1.0 k.1.1)),
+      λ k. (
+        k.1.0,
+        rw k.2 (list_to turn (λ b d. option_map int32_of (varint_in d)) (λ b d. option_map (λ n. turn (int32_of n)) (varint_in d)) (λ b d. option_twice int32_of turn (varint_in d))
+            (λ b d left. left ≡ b) (λ bs. map int32_of (numbers_in Varint bs)) (λ bs. map (λ n. turn (int32_of n)) (numbers_in Varint bs)) (λ bs. map_twice int32_of turn (numbers_in Varint bs)) full ds k.0 k.1.0 k.1.1),
+      ),
     )
