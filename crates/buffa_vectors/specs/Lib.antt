@@ -14,3 +14,4 @@ pub mod Grown
 pub mod GrownFalls
 pub mod TreeText
 pub mod TreeMeaning
+pub mod TreeLaws
