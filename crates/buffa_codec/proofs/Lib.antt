@@ -5,3 +5,4 @@ pub mod Packs
 pub mod Joins
 pub mod Turns
 pub mod Lasts
+pub mod Bounds

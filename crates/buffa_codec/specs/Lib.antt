@@ -3,3 +3,4 @@ pub mod Packed
 pub mod Reading
 pub mod Texts
 pub mod PackedFacts
+pub mod Costs

@@ -1,18 +1,17 @@
 -- What the records of a number are read as.
-use Rattle.std.specs.Prelude.{ℕ, ◌≡◌, ◌≤◌, ◌-◌, ◌⊎◌, List, [], ◌∷◌, ◌++◌, Option, Some, None, Result, Ok, Err, if◌then◌else◌}
+use Rattle.std.specs.Prelude.{ℕ, ◌≡◌, ◌↔◌, ◌≤◌, ◌-◌, ◌⊎◌, List, [], ◌∷◌, ◌++◌, map, take, Option, Some, None, Result, Ok, Err, if◌then◌else◌}
+use Rattle.std.specs.Option.{option_or}
 use Rattle.std.specs.Str.{is_utf8}
 use Rattle.std.specs.List.{filter_map, last_or}
 use Rattle.buffa_wire.specs.Records.{Datum, varint, fixed32, fixed64, bytes, group}
 use Rattle.buffa_wire.specs.Left.{Left}
+use Rattle.buffa_wire.specs.declared.context.DecodeContext.{DecodeContext}
 use Rattle.buffa_bytes.specs.declared.error.EncodeError.{EncodeError}
 use Rattle.buffa_bytes.specs.declared.error.EncodeError.TheVariants.{OutOfMemory}
 
 -- what is read with where nothing else is said
 abbrev pub full : Left
 full = record { unknown = 1000000; memory = 268435456 }
-
-abbrev pub nothing : Left
-nothing = record { unknown = 0; memory = 0 }
 
 -- what the last record is read as that is read at all
 abbrev pub last_read : {M : Type 0} → (Datum → Option M) → List Datum → Option M
@@ -38,6 +37,31 @@ abbrev pub elements : {M : Type 0} → (List ℕ → List M) → Datum → Optio
 elements packed d None = unpacked packed d
 elements packed d (Some v) = v ∷ []
 
+-- what a record is read as in a context, and what that leaves of its budget
+abbrev pub one_in : {M : Type 0} → (ℕ → Left → Datum → Option M) → DecodeContext → Datum → Option M
+one_in one ctx d = one ctx.depth ctx.budget.now d
+
+abbrev pub LeavesIn : (ℕ → Left → Datum → Left → Type 0) → DecodeContext → Datum → Left → Type 0
+LeavesIn leaves ctx d left = leaves ctx.depth ctx.budget.now d left
+
+-- new is old with more behind it, or with a beginning of more
+abbrev pub Adds : {A : Type 0} → List A → List A → List A → Type 0
+Adds old more new = new ≡ old ++ more
+
+abbrev pub AddsSome : {A : Type 0} → List A → List A → List A → Type 0
+AddsSome old more new = (k : ℕ) × (new ≡ old ++ take k more)
+
+-- the values that mean so stand behind the others, or a beginning of them
+abbrev pub AddsValues : {V M : Type 0} → (V → M) → List V → List M → List V → Type 0
+AddsValues meaning old more new = map meaning new ≡ map meaning old ++ more
+
+abbrev pub AddsSomeValues : {V M : Type 0} → (V → M) → List V → List M → List V → Type 0
+AddsSomeValues meaning old more new = (k : ℕ) × (map meaning new ≡ map meaning old ++ take k more)
+
+-- the values of a record stand behind the others
+abbrev pub AddsRecord : {V M : Type 0} → (V → M) → (List ℕ → List M) → (Datum → Option M) → List V → Datum → List V → Type 0
+AddsRecord meaning packed one old d new = AddsValues meaning old (elements packed d (one d)) new
+
 -- the records, read one after the other from what is left, hold these values
 abbrev pub ReadsAll : {M : Type 0} → (Left → Datum → Option M) → (Left → Datum → Left → Type 0) → (List ℕ → List M) → Left → List Datum → List M → Left → Type 0
 ReadsAll one leaves packed b [] vs left = (vs ≡ []) × (left ≡ b)
@@ -47,6 +71,19 @@ ReadsAll {M = M} one leaves packed b (d ∷ ds) vs left =
 -- the same under one pair of default budgets
 abbrev pub ReadsList : {M : Type 0} → (Left → Datum → Option M) → (Left → Datum → Left → Type 0) → (List ℕ → List M) → List Datum → List M → Type 0
 ReadsList one leaves packed ds vs = (left : Left) × ReadsAll one leaves packed full ds vs left
+
+-- what stands later wins, where it is read at all
+abbrev pub LaterWins : {M : Type 0} → (Datum → Option M) → Type 0
+LaterWins one = (s r : List Datum) → last_read one (s ++ r) ≡ option_or (last_read one r) (last_read one s)
+
+-- the values of joined records are the joined values
+abbrev pub ReadingsJoin : {M : Type 0} → (List Datum → List M → Type 0) → Type 0
+ReadingsJoin {M = M} reads =
+    (s r : List Datum) (out : List M) → reads (s ++ r) out ↔ ((vs : List M) × (ws : List M) × reads s vs × reads r ws × (out ≡ vs ++ ws))
+
+-- records are read alike
+abbrev pub ReadAlike : {A : Type 0} → (List Datum → A → Type 0) → (List Datum → A → Type 0) → Type 0
+ReadAlike {A = A} reads also = (s : List Datum) (out : A) → reads s out ↔ also s out
 
 -- one budget has room for what another is
 abbrev pub Covers : Left → Left → Type 0

@@ -1,15 +1,26 @@
 -- What was written of a list is read back.
-use Rattle.std.specs.Prelude.{◌≡◌, ℕ, List, [], ◌∷◌, ◌++◌, map, Option, Some, None, refl, true}
+use Rattle.std.specs.Prelude.{◌≡◌, ℕ, ◌-◌, List, [], ◌∷◌, ◌++◌, map, Option, Some, None, refl, true}
 use Rattle.std.proofs.Math.Nat.{sub-zero}
 use Rattle.std.proofs.Common.{sym, ◌∙◌, ap, subst, arith}
 use Rattle.buffa_wire.specs.Records.{Datum, bytes}
 use Rattle.std.proofs.lemmas.List.{append-nil}
 use Rattle.std.specs.Str.{is_utf8}
-use Rattle.buffa_wire.specs.Left.{Left}
-use Rattle.buffa_codec.specs.Reading.{ReadsAll, Covers, CoversAll, minus, nothing, full, Each, elements, joined, last_read, packed_record, string_held}
+use Rattle.buffa_wire.specs.Left.{Left, Pays, nothing}
+use Rattle.buffa_codec.specs.Reading.{ReadsAll, Covers, CoversAll, minus, full, Each, elements, joined, last_read, packed_record, string_held}
 
 pub minus_nothing : (b : Left) → b ≡ minus b nothing
 minus_nothing b = simp sub-zero
+
+-- what is left is what was there less the need
+left_over : (b need left : Left) → Pays b need left → left ≡ minus b need
+left_over b need left h =
+    let slots : b.unknown - need.unknown ≡ left.unknown = omega (arith, h.0) in
+    let units : b.memory - need.memory ≡ left.memory = omega (arith, h.1) in
+    rw (slots, units) refl
+
+-- reading that spends nothing
+pub pays_nothing : (b left : Left) → left ≡ b → Pays b nothing left
+pays_nothing b left e = rw e (omega arith, omega arith)
 
 pub covers_nothing : (b : Left) → Covers b nothing
 covers_nothing b = (omega arith, omega arith)
@@ -28,25 +39,26 @@ string_back v h = rw h refl
 
 -- ---- lists
 
-module _ {M : Type 0} (fits normal : M → Type 0) (cost : Datum → Left) (one : Left → Datum → Option M) (leaves : Left → Datum → Left → Type 0) (packed : List ℕ → List M) (text : M → Datum)
-    (reads : (v : M) (b : Left) → fits v → normal v → Covers b (cost (text v)) → one b (text v) ≡ Some v)
-    (spends : (b left : Left) (d : Datum) (v : M) → one b d ≡ Some v → leaves b d left → Covers b (cost d) × (left ≡ minus b (cost d))) where
-  pub list_back : (b : Left) (vs out : List M) (left : Left) → Each fits vs → Each normal vs → CoversAll cost b (map text vs) → ReadsAll one leaves packed b (map text vs) out left → out ≡ vs
+module _ {M : Type 0} (fits normal : M → Type 0) (cost : Datum → Left) (one : Left → Datum → Option M) (leaves : Left → Datum → Left → Type 0) (packed : List ℕ → List M) (text : M → Datum) (back : M → M)
+    (reads : (v : M) (b : Left) → fits v → normal v → Covers b (cost (text v)) → one b (text v) ≡ Some (back v))
+    (spends : (b left : Left) (d : Datum) (v : M) → one b d ≡ Some v → leaves b d left → Pays b (cost d) left) where
+  pub list_back : (b : Left) (vs out : List M) (left : Left) → Each fits vs → Each normal vs → CoversAll cost b (map text vs) → ReadsAll one leaves packed b (map text vs) out left → out ≡ map back vs
   list_back b [] out left f n k h = h.0
   list_back b (v ∷ vs) out left f n k h =
       h.4 ∙ ap (λ o. elements packed (text v) o ++ h.1) (reads v b f.0 n.0 k.0)
-      ∙ ap (λ l. v ∷ l) (list_back h.0 vs h.1 left f.1 n.1 (subst (λ m. CoversAll cost m (map text vs)) (sym ((spends b h.0 (text v) v (reads v b f.0 n.0 k.0) h.2).1)) k.1) h.3)
+      ∙ ap (λ l. back v ∷ l) (list_back h.0 vs h.1 left f.1 n.1
+      (subst (λ m. CoversAll cost m (map text vs)) (sym (left_over b (cost (text v)) h.0 (spends b h.0 (text v) (back v) (reads v b f.0 n.0 k.0) h.2))) k.1) h.3)
 
-module _ {M : Type 0} (fits : M → Type 0) (one : Left → Datum → Option M) (leaves : Left → Datum → Left → Type 0) (packed : List ℕ → List M) (text : M → List ℕ)
-    (unpacks : (v : M) (rest : List ℕ) → fits v → packed (text v ++ rest) ≡ v ∷ packed rest)
+module _ {M : Type 0} (fits : M → Type 0) (one : Left → Datum → Option M) (leaves : Left → Datum → Left → Type 0) (packed : List ℕ → List M) (text : M → List ℕ) (back : M → M)
+    (unpacks : (v : M) (rest : List ℕ) → fits v → packed (text v ++ rest) ≡ back v ∷ packed rest)
     (unpacks_none : packed [] ≡ [])
     (unread : (b : Left) (bs : List ℕ) → one b (bytes bs) ≡ None) where
-  pub unpacks_all : (vs : List M) → Each fits vs → packed (joined text vs) ≡ vs
+  pub unpacks_all : (vs : List M) → Each fits vs → packed (joined text vs) ≡ map back vs
   unpacks_all [] f = unpacks_none
-  unpacks_all (v ∷ vs) f = unpacks v (joined text vs) f.0 ∙ ap (λ l. v ∷ l) (unpacks_all vs f.1)
+  unpacks_all (v ∷ vs) f = unpacks v (joined text vs) f.0 ∙ ap (λ l. back v ∷ l) (unpacks_all vs f.1)
 
-  pub packed_back : (vs out : List M) (left : Left) → Each fits vs → ReadsAll one leaves packed full (packed_record text vs) out left → out ≡ vs
+  pub packed_back : (vs out : List M) (left : Left) → Each fits vs → ReadsAll one leaves packed full (packed_record text vs) out left → out ≡ map back vs
   packed_back [] out left f h = h.0
   packed_back (v ∷ vs) out left f h =
       h.4 ∙ ap (λ o. elements packed (bytes (joined text (v ∷ vs))) o ++ h.1) (unread full (joined text (v ∷ vs)))
-      ∙ ap (λ l. l ++ h.1) (unpacks_all (v ∷ vs) f) ∙ ap (λ l. (v ∷ vs) ++ l) (h.3.0) ∙ append-nil (v ∷ vs)
+      ∙ ap (λ l. l ++ h.1) (unpacks_all (v ∷ vs) f) ∙ ap (λ l. map back (v ∷ vs) ++ l) (h.3.0) ∙ append-nil (map back (v ∷ vs))

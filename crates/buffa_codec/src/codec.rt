@@ -1,12 +1,12 @@
 //! What the codecs of extensions owe.
 
-ghost use Rattle.std.specs.Prelude.{◌≡◌, ℕ, List, [], ◌∷◌, ◌++◌, map, take, Option, Some, None, option_map, OnOk, OnErr, IfOk, IsOk};
+ghost use Rattle.std.specs.Prelude.{◌≡◌, ℕ, List, [], ◌∷◌, ◌++◌, Option, Some, None, option_map, OnOk, OnErr, IfOk, IsOk};
 ghost use Rattle.buffa_bytes.specs.declared.error.EncodeError.{EncodeError};
-ghost use Rattle.buffa_wire.specs.Left.{Left, left_in};
+ghost use Rattle.buffa_wire.specs.Left.{Left, Pays, left_in};
 ghost use Rattle.buffa_wire.specs.Records.{Datum, bytes};
 ghost use Rattle.buffa_wire.specs.View.{datum_of};
 ghost use Rattle.buffa_codec.specs.Sub.{sub, tagged};
-ghost use Rattle.buffa_codec.specs.Reading.{Covers, Refuses, full, minus};
+ghost use Rattle.buffa_codec.specs.Reading.{Adds, AddsSome, AddsSomeValues, AddsValues, Covers, LeavesIn, Refuses, full, one_in};
 
 use buffa_wire::{Blank, DecodeContext, EncodeError, UnknownFieldData, UnknownFields};
 use std::alloc::{AllocError, Global};
@@ -45,13 +45,13 @@ pub trait ExtensionCodec {
     /// Why a value can't be written, memory aside.
     ghost refusal: { Meaning → Option EncodeError };
 
-    /// What the type holds.
+    /// The values that are written, where memory is.
     ghost fits: { Meaning → Type 0 };
 
     /// The values whose records are read back.
     ghost normal: { Meaning → Type 0 };
 
-    /// The answer that holds a value.
+    /// What the records of a value are read as.
     ghost holds: { Meaning → Answer → Type 0 };
 
     /// Reading takes no memory.
@@ -79,8 +79,8 @@ pub trait ExtensionCodec {
         value: Self::Value,
         fields: &mut UnknownFields,
     ) -> Result<(), EncodeError>
-        ensures ok { OnOk result (fields.new.records ≡ fields.old.records ++ tagged number (recs (meaning value))) }
-        ensures err { OnErr result ((k : ℕ) × (fields.new.records ≡ fields.old.records ++ take k (tagged number (recs (meaning value))))) }
+        ensures ok { OnOk result (Adds fields.old.records (tagged number (recs (meaning value))) fields.new.records) }
+        ensures err { OnErr result (AddsSome fields.old.records (tagged number (recs (meaning value))) fields.new.records) }
         ensures refused { Refuses result (refusal (meaning value)) }
         ensures fits { OnOk result (fits (meaning value)) };
 
@@ -94,15 +94,15 @@ pub trait ExtensionCodec {
         value: Self::Value,
         fields: &mut UnknownFields,
     ) -> Result<(), EncodeError>
-        ensures ok { OnOk result (fields.new.records ≡ fields.old.records ++ tagged number (recs (meaning value))) }
-        ensures err { OnErr result ((k : ℕ) × (fields.new.records ≡ fields.old.records ++ take k (tagged number (recs (meaning value))))) }
+        ensures ok { OnOk result (Adds fields.old.records (tagged number (recs (meaning value))) fields.new.records) }
+        ensures err { OnErr result (AddsSome fields.old.records (tagged number (recs (meaning value))) fields.new.records) }
         ensures refused { Refuses result (refusal (meaning value)) }
         ensures fits { OnOk result (fits (meaning value)) }
     {
         Self::try_encode(alloc, number, value, fields)
     }
 
-    /// The records of a value are read as that value.
+    /// The records of a value are read back.
     ghost reads_back: { (v : Meaning) (o : Answer) → fits v → normal v → reads (recs v) o → holds v o };
 }
 
@@ -131,11 +131,14 @@ pub trait SingularCodec {
     /// Why a value can't be written, memory aside.
     ghost refusal: { Self.Value.Meaning → Option EncodeError };
 
-    /// What the type holds: each value means something of this.
+    /// The values that are written, where memory is.
     ghost fits: { Self.Value.Meaning → Type 0 };
 
     /// The values whose record is read back.
     ghost normal: { Self.Value.Meaning → Type 0 };
+
+    /// What the record of a value is read as: mostly that value.
+    ghost back: { Self.Value.Meaning → Self.Value.Meaning };
 
     /// What a record costs that is read as a value.
     ghost cost: { Datum → Left };
@@ -163,8 +166,8 @@ pub trait SingularCodec {
         payload: &UnknownFieldData,
         ctx: DecodeContext<'_>,
     ) -> Result<Option<Self::Value>, AllocError>
-        ensures reads { IfOk result (λ o. option_map Self.Value.meaning o ≡ one ctx.entry.depth ctx.entry.budget.now (datum_of payload.now)) }
-        ensures left { IsOk result → leaves ctx.entry.depth ctx.entry.budget.now (datum_of payload.now) (left_in ctx.exit) }
+        ensures reads { IfOk result (λ o. option_map Self.Value.meaning o ≡ one_in one ctx.entry (datum_of payload.now)) }
+        ensures left { IsOk result → LeavesIn leaves ctx.entry (datum_of payload.now) (left_in ctx.exit) }
         ensures always { never_fails → IsOk result };
 
     /// Puts the packed values behind the others.
@@ -172,8 +175,8 @@ pub trait SingularCodec {
     /// # Errors
     /// Where memory runs out; a beginning of the values stands then.
     fn decode_packed(bytes: &[u8], out: &mut Vec<Self::Value>) -> Result<(), AllocError>
-        ensures ok { OnOk result (map Self.Value.meaning out.new.items ≡ map Self.Value.meaning out.old.items ++ packed bytes.now) }
-        ensures err { OnErr result ((k : ℕ) × (map Self.Value.meaning out.new.items ≡ map Self.Value.meaning out.old.items ++ take k (packed bytes.now))) };
+        ensures ok { OnOk result (AddsValues Self.Value.meaning out.old.items (packed bytes.now) out.new.items) }
+        ensures err { OnErr result (AddsSomeValues Self.Value.meaning out.old.items (packed bytes.now) out.new.items) };
 
     /// The record of a value.
     ///
@@ -182,7 +185,7 @@ pub trait SingularCodec {
     fn try_encode_one(alloc: Global, value: &Self::Value) -> Result<UnknownFieldData, EncodeError>
         ensures record { IfOk result (λ d. datum_of d ≡ text (Self.Value.meaning value.now)) }
         ensures refused { Refuses result (refusal (Self.Value.meaning value.now)) }
-        ensures fits { fits (Self.Value.meaning value.now) };
+        ensures fits { OnOk result (fits (Self.Value.meaning value.now)) };
 
     /// The same as [`SingularCodec::try_encode_one`].
     ///
@@ -191,16 +194,16 @@ pub trait SingularCodec {
     fn encode_one(alloc: Global, value: &Self::Value) -> Result<UnknownFieldData, EncodeError>
         ensures record { IfOk result (λ d. datum_of d ≡ text (Self.Value.meaning value.now)) }
         ensures refused { Refuses result (refusal (Self.Value.meaning value.now)) }
-        ensures fits { fits (Self.Value.meaning value.now) }
+        ensures fits { OnOk result (fits (Self.Value.meaning value.now)) }
     {
         Self::try_encode_one(alloc, value)
     }
 
-    /// The record of a value is read as that value, where its cost is left.
-    ghost reads_text: { (v : Self.Value.Meaning) (b : Left) → fits v → normal v → Covers b (cost (text v)) → one 100 b (text v) ≡ Some v };
+    /// The record of a value is read back, where its cost is left.
+    ghost reads_text: { (v : _) (b : _) → fits v → normal v → Covers b (cost (text v)) → one 100 b (text v) ≡ Some (back v) };
 
-    /// A record that is read as a value spends its cost, and that was left.
-    ghost spends_cost: { (b left : Left) (d : Datum) (v : Self.Value.Meaning) → one 100 b d ≡ Some v → leaves 100 b d left → Covers b (cost d) × (left ≡ minus b (cost d)) };
+    /// A record that is read as a value spends its cost.
+    ghost spends_cost: { (b : _) (left : _) (d : _) (v : _) → one 100 b d ≡ Some v → leaves 100 b d left → Pays b (cost d) left };
 
     /// No record gives back what was spent.
     ghost spends: { (b left : Left) (d : Datum) → leaves 100 b d left → Covers b left };
@@ -223,10 +226,10 @@ pub trait PackableCodec: SingularCodec {
         ensures ok { OnOk result (buf.new.items ≡ buf.old.items ++ packed_text (Self.Value.meaning value.now)) }
         ensures err { OnErr result (buf.new.items ≡ buf.old.items) }
         ensures refused { Refuses result None }
-        ensures fits { Self.fits (Self.Value.meaning value.now) };
+        ensures fits { OnOk result (Self.fits (Self.Value.meaning value.now)) };
 
-    /// Packed bytes of values are read as these values.
-    ghost unpacks: { (v : Self.Value.Meaning) (rest : List ℕ) → Self.fits v → Self.packed (packed_text v ++ rest) ≡ v ∷ Self.packed rest };
+    /// Packed bytes of values are read back.
+    ghost unpacks: { (v : _) (rest : _) → Self.fits v → Self.packed (packed_text v ++ rest) ≡ Self.back v ∷ Self.packed rest };
 
     /// No bytes hold no values.
     ghost unpacks_none: { Self.packed [] ≡ [] };

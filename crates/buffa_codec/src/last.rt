@@ -48,7 +48,7 @@ impl<C: LastWins> ExtensionCodec for C {
 
     ghost normal = { C.normal };
 
-    ghost holds = { λ v o. o ≡ Some v };
+    ghost holds = { λ v o. o ≡ Some (C.back v) };
 
     ghost never_fails = { C.never_fails };
 
@@ -85,5 +85,6 @@ impl<C: LastWins> ExtensionCodec for C {
         Ok(())
     }
 
-    ghost reads_back = { λ v o f n h. last_of_one (C.one 100 full) (C.text v) v o (C.SingularCodec.reads_text v full f n (C.LastWins.covered v)) h };
+    ghost reads_back = { λ v o f n h.
+        last_of_one (C.one 100 full) (C.text v) (C.back v) o (C.SingularCodec.reads_text v full f n (C.LastWins.covered v)) h };
 }

@@ -7,6 +7,7 @@
 #![tactic(auto)]
 
 pub mod codec;
+pub mod enums;
 pub mod last;
 pub mod laws;
 pub mod number;
@@ -15,7 +16,9 @@ pub mod repeated;
 pub mod text;
 
 pub use codec::{ExtensionCodec, PackableCodec, SingularCodec};
+pub use enums::EnumCodec;
 pub use last::LastWins;
+pub use number::Numbered;
 pub use packed::PackedRepeated;
 pub use repeated::Repeated;
 pub use text::{BytesCodec, StringCodec};

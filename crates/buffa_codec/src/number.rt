@@ -1,18 +1,87 @@
-//! Codecs of scalars: one for each [`Scalar`].
+//! Codecs of values that are one number each: scalars and enums.
 
-ghost use Rattle.std.specs.Prelude.{◌≡◌, map, None, option_map, refl};
+ghost use Rattle.std.specs.Prelude.{◌≡◌, ℕ, map, None, option_map, refl};
 ghost use Rattle.std.proofs.Common.{ap, ◌∙◌};
+ghost use Rattle.buffa_wire.specs.Left.{nothing};
 ghost use Rattle.buffa_codec.specs.Packed.{numbers_in};
-ghost use Rattle.buffa_codec.specs.Reading.{full, nothing};
-ghost use Rattle.buffa_codec.specs.Texts.{covers_nothing, covers_same, minus_nothing, some_of};
+ghost use Rattle.buffa_codec.specs.Reading.{full};
+ghost use Rattle.buffa_codec.specs.Texts.{covers_nothing, covers_same, pays_nothing, some_of};
 ghost use Rattle.buffa_codec.specs.PackedFacts.{none_unpacked, number_unpacks};
 
 use crate::codec::{PackableCodec, SingularCodec};
 use crate::last::LastWins;
-use buffa_wire::{DecodeContext, EncodeError, Form, Scalar, UnknownFieldData};
+use buffa_wire::{Blank, DecodeContext, EncodeError, Form, Scalar, UnknownFieldData};
 use std::alloc::{AllocError, Global};
 
-impl<N: Scalar> SingularCodec for N {
+/// A type of values that are written as one number each. Every [`Scalar`] is one.
+///
+/// ```ignore
+/// let payload = <Int32 as Numbered>::number_of(&-1); // 18446744073709551615
+/// ```
+pub trait Numbered {
+    /// The Rust type of the values.
+    type Value: Blank;
+
+    /// How the numbers are spelled.
+    type Form: Form;
+
+    /// The value that a number means.
+    ghost value_of: { ℕ → Self.Value.Meaning };
+
+    /// The number of a value.
+    ghost number_of: { Self.Value.Meaning → ℕ };
+
+    /// What the type holds.
+    ghost fits: { Self.Value.Meaning → Type 0 };
+
+    /// What the number of a value means: mostly that value.
+    ghost back: { Self.Value.Meaning → Self.Value.Meaning };
+
+    /// The value that a number means. It takes no memory.
+    fn value_of(n: u64) -> Self::Value
+        requires { Self.Form.spells n }
+        ensures { Self.Value.meaning result ≡ value_of n };
+
+    /// The number of a value. It takes no memory.
+    fn number_of(value: &Self::Value) -> u64
+        ensures number { result ≡ number_of (Self.Value.meaning value.now) }
+        ensures fits { fits (Self.Value.meaning value.now) }
+        ensures spelled { Self.Form.spells result };
+
+    /// The number of a value can be spelled.
+    ghost spelled: { (v : Self.Value.Meaning) → fits v → Self.Form.spells (number_of v) };
+
+    /// The number of a value means what comes back of it.
+    ghost means: { (v : Self.Value.Meaning) → fits v → value_of (number_of v) ≡ back v };
+}
+
+impl<N: Scalar> Numbered for N {
+    type Value = N::Value;
+
+    type Form = N::Form;
+
+    ghost value_of = { N.value_of };
+
+    ghost number_of = { N.number_of };
+
+    ghost fits = { N.fits };
+
+    ghost back = { λ v. v };
+
+    fn value_of(n: u64) -> N::Value {
+        <N as Scalar>::value_of(n)
+    }
+
+    fn number_of(value: &N::Value) -> u64 {
+        <N as Scalar>::number_of(value)
+    }
+
+    ghost spelled = { N.Scalar.spelled };
+
+    ghost means = { N.Scalar.means };
+}
+
+impl<N: Numbered> SingularCodec for N {
     type Value = N::Value;
 
     ghost one = { λ depth b d. option_map N.value_of (N.Form.found d) };
@@ -28,6 +97,8 @@ impl<N: Scalar> SingularCodec for N {
     ghost fits = { N.fits };
 
     ghost normal = { λ v. Unit {0} };
+
+    ghost back = { N.back };
 
     ghost cost = { λ d. nothing };
 
@@ -63,14 +134,15 @@ impl<N: Scalar> SingularCodec for N {
         Ok(<N::Form as Form>::record_of(N::number_of(value)))
     }
 
-    ghost reads_text = { λ v b f n h. ap (option_map N.value_of) (N.Form.Form.kept (N.number_of v)) ∙ ap some_of (N.Scalar.means v f) };
+    ghost reads_text = { λ v b f n h.
+        ap (option_map N.value_of) (N.Form.Form.kept (N.number_of v)) ∙ ap some_of (N.Numbered.means v f) };
 
-    ghost spends_cost = { λ b left d v e h. (covers_nothing b, h ∙ minus_nothing b) };
+    ghost spends_cost = { λ b left d v e h. pays_nothing b left h };
 
     ghost spends = { λ b left d h. covers_same b left h };
 }
 
-impl<N: Scalar> LastWins for N {
+impl<N: Numbered> LastWins for N {
     ghost same = { λ b c d. refl };
 
     ghost free = { λ b left d h. h };
@@ -80,7 +152,7 @@ impl<N: Scalar> LastWins for N {
     ghost covered = { λ v. covers_nothing full };
 }
 
-impl<N: Scalar> PackableCodec for N {
+impl<N: Numbered> PackableCodec for N {
     ghost packed_text = { λ v. N.Form.payload (N.number_of v) };
 
     fn encode_packed(value: &N::Value, buf: &mut Vec<u8>) -> Result<(), EncodeError> {
@@ -92,7 +164,9 @@ impl<N: Scalar> PackableCodec for N {
         done
     }
 
-    ghost unpacks = { λ v rest f. number_unpacks N.Form.WIRE_TYPE N.value_of (N.Form.payload (N.number_of v)) (N.number_of v) v rest (N.Form.Form.reads_back (N.number_of v) (N.Scalar.spelled v f)) (N.Scalar.means v f) };
+    ghost unpacks = { λ v rest f.
+        number_unpacks N.Form.WIRE_TYPE N.value_of (N.Form.payload (N.number_of v)) (N.number_of v) (N.back v) rest
+        (N.Form.Form.reads_back (N.number_of v) (N.Numbered.spelled v f)) (N.Numbered.means v f) };
 
     ghost unpacks_none = { none_unpacked N.Form.WIRE_TYPE N.value_of };
 

@@ -42,7 +42,7 @@ impl<C: PackableCodec> ExtensionCodec for PackedRepeated<C> {
 
     ghost normal = { λ vs. Unit {0} };
 
-    ghost holds = { λ v o. o ≡ v };
+    ghost holds = { λ v o. o ≡ map C.back v };
 
     ghost never_fails = { ⊥ };
 
@@ -74,5 +74,7 @@ impl<C: PackableCodec> ExtensionCodec for PackedRepeated<C> {
         Ok(())
     }
 
-    ghost reads_back = { λ v o f n h. packed_back C.fits (C.one 100) (C.leaves 100) C.packed C.packed_text C.PackableCodec.unpacks C.PackableCodec.unpacks_none C.PackableCodec.bytes_unread v o h.0 f h.1 };
+    ghost reads_back = { λ v o f n h.
+        packed_back C.fits (C.one 100) (C.leaves 100) C.packed C.packed_text C.back C.PackableCodec.unpacks
+        C.PackableCodec.unpacks_none C.PackableCodec.bytes_unread v o h.0 f h.1 };
 }

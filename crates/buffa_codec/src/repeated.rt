@@ -1,9 +1,9 @@
 //! Codecs of lists, one record an element.
 
-ghost use Rattle.std.specs.Prelude.{◌≡◌, ◌++◌, List, map, OnOk, IfErr};
+ghost use Rattle.std.specs.Prelude.{◌≡◌, List, map, OnOk, IfErr};
 ghost use Rattle.buffa_wire.specs.Records.{Datum};
 ghost use Rattle.buffa_wire.specs.View.{datum_of};
-ghost use Rattle.buffa_codec.specs.Reading.{CoversAll, Each, ReadsList, elements, first_refusal, full};
+ghost use Rattle.buffa_codec.specs.Reading.{AddsRecord, CoversAll, Each, ReadsList, first_refusal, full};
 ghost use Rattle.buffa_codec.specs.Texts.{list_back};
 
 use crate::codec::{ExtensionCodec, SingularCodec};
@@ -46,7 +46,7 @@ impl<C: SingularCodec> ExtensionCodec for Repeated<C> {
 
     ghost normal = { λ vs. Each C.normal vs × CoversAll C.cost full (map C.text vs) };
 
-    ghost holds = { λ v o. o ≡ v };
+    ghost holds = { λ v o. o ≡ map C.back v };
 
     ghost never_fails = { ⊥ };
 
@@ -80,7 +80,9 @@ impl<C: SingularCodec> ExtensionCodec for Repeated<C> {
         Ok(())
     }
 
-    ghost reads_back = { λ v o f n h. list_back C.fits C.normal C.cost (C.one 100) (C.leaves 100) C.packed C.text C.SingularCodec.reads_text C.SingularCodec.spends_cost full v o h.0 f n.0 n.1 h.1 };
+    ghost reads_back = { λ v o f n h.
+        list_back C.fits C.normal C.cost (C.one 100) (C.leaves 100) C.packed C.text C.back C.SingularCodec.reads_text
+        C.SingularCodec.spends_cost full v o h.0 f n.0 n.1 h.1 };
 }
 
 // Puts the values of one record behind the others, and spends what reading it costs.
@@ -91,7 +93,7 @@ fn read_one<C: SingularCodec>(
     out: &mut Vec<C::Value>,
 ) -> Result<(), AllocError>
     ensures left { OnOk result (C.leaves 100 budget.old (datum_of payload.now) budget.new) }
-    ensures values { OnOk result (map C.Value.meaning out.new.items ≡ map C.Value.meaning out.old.items ++ elements C.packed (datum_of payload.now) (C.one 100 budget.old (datum_of payload.now))) }
+    ensures values { OnOk result (AddsRecord C.Value.meaning C.packed (C.one 100 budget.old) out.old.items (datum_of payload.now) out.new.items) }
 {
     let ctx = DecodeContext {
         depth: RECURSION_LIMIT,

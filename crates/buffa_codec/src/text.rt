@@ -2,10 +2,10 @@
 
 ghost use Rattle.std.specs.Prelude.{◌≡◌, ℕ, List, [], None, refl, string_bytes, true};
 ghost use Rattle.std.specs.Str.{is_utf8};
-ghost use Rattle.std.proofs.Common.{◌∙◌};
 ghost use Rattle.buffa_wire.specs.Records.{bytes};
-ghost use Rattle.buffa_codec.specs.Reading.{bytes_held, full, nothing, string_held};
-ghost use Rattle.buffa_codec.specs.Texts.{covers_nothing, covers_same, minus_nothing, string_back};
+ghost use Rattle.buffa_wire.specs.Left.{nothing};
+ghost use Rattle.buffa_codec.specs.Reading.{bytes_held, full, string_held};
+ghost use Rattle.buffa_codec.specs.Texts.{covers_nothing, covers_same, pays_nothing, string_back};
 
 use crate::codec::SingularCodec;
 use crate::last::LastWins;
@@ -31,6 +31,8 @@ impl SingularCodec for StringCodec {
     ghost fits = { λ v. is_utf8 v ≡ true };
 
     ghost normal = { λ v. Unit {0} };
+
+    ghost back = { λ v. v };
 
     ghost cost = { λ d. nothing };
 
@@ -68,7 +70,7 @@ impl SingularCodec for StringCodec {
 
     ghost reads_text = { λ v b f n h. string_back v f };
 
-    ghost spends_cost = { λ b left d v e h. (covers_nothing b, h ∙ minus_nothing b) };
+    ghost spends_cost = { λ b left d v e h. pays_nothing b left h };
 
     ghost spends = { λ b left d h. covers_same b left h };
 }
@@ -102,6 +104,8 @@ impl SingularCodec for BytesCodec {
     ghost fits = { λ v. Unit {0} };
 
     ghost normal = { λ v. Unit {0} };
+
+    ghost back = { λ v. v };
 
     ghost cost = { λ d. nothing };
 
@@ -139,7 +143,7 @@ impl SingularCodec for BytesCodec {
 
     ghost reads_text = { λ v b f n h. refl };
 
-    ghost spends_cost = { λ b left d v e h. (covers_nothing b, h ∙ minus_nothing b) };
+    ghost spends_cost = { λ b left d v e h. pays_nothing b left h };
 
     ghost spends = { λ b left d h. covers_same b left h };
 }

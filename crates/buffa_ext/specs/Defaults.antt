@@ -1,6 +1,6 @@
 -- Declared defaults.
 use Rattle.std.specs.Prelude.{ℕ, ◌≡◌, ◌⊎◌, Option, Some, None}
 
--- the value is the one that is read, else a declared one, else a blank one
-abbrev pub IsDefaulted : {V : Type 0} → (Option V → Type 0) → (Option V → Type 0) → (V → Type 0) → V → Type 0
-IsDefaulted reads declared blank v = reads (Some v) ⊎ (reads None × (declared (Some v) ⊎ (declared None × blank v)))
+-- the value is the one that is read, else a declared one, else the blank
+abbrev pub IsDefaulted : {V : Type 0} → (Option V → Type 0) → (Option V → Type 0) → Type 0 → V → Type 0
+IsDefaulted reads declared blank v = reads (Some v) ⊎ (reads None × (declared (Some v) ⊎ (declared None × blank)))

@@ -1,3 +1,5 @@
 pub mod Steps
 pub mod Changes
 pub mod Defaults
+pub mod Messages
+pub mod MessageFacts

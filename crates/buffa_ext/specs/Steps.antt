@@ -1,7 +1,7 @@
 -- Sets and clears of numbers, and what they leave.
-use Rattle.std.specs.Prelude.{◌≡◌, ℕ, List, [], ◌∷◌, ◌++◌, Option, Some, None, unwrap_or, ◌==◌, if◌then◌else◌}
+use Rattle.std.specs.Prelude.{◌≡◌, ◌≢◌, ℕ, List, [], ◌∷◌, ◌++◌, Option, Some, None, unwrap_or, ◌==◌, if◌then◌else◌}
 use Rattle.std.specs.List.{filter_map, last_or}
-use Rattle.buffa_wire.specs.Records.{Datum}
+use Rattle.buffa_wire.specs.Records.{Datum, Held}
 use Rattle.buffa_codec.specs.Sub.{sub, without, tagged}
 
 -- a set of a number to what its records are to hold, or a clear of a number
@@ -27,3 +27,28 @@ says n (clear m) = (if m == n then Some [] else None)
 -- what the last change of a number leaves there, or else what was there
 abbrev pub history : ℕ → List (ℕ × Datum) → List Change → List Datum
 history n rs cs = unwrap_or (last_or None (filter_map (says n) cs)) (sub n rs)
+
+-- a list of records after a set of a number, or a clear
+abbrev pub IsSet : ℕ → List Datum → Held → Held → Type 0
+IsSet n ds old new = new.records ≡ after_one old.records (set n ds)
+
+abbrev pub IsCleared : ℕ → Held → Held → Type 0
+IsCleared n old new = new.records ≡ after_one old.records (clear n)
+
+-- a record of the number is there
+abbrev pub HasRecord : ℕ → Held → Type 0
+HasRecord n held = sub n held.records ≢ []
+
+-- a set leaves the records of other numbers, and its own stand last
+abbrev pub LeavesOthers : Type 0
+LeavesOthers = (n k : ℕ) (rs : List (ℕ × Datum)) (ds : List Datum) → n ≢ k → sub k (after_one rs (set n ds)) ≡ sub k rs
+
+abbrev pub StandsLast : Type 0
+StandsLast = (n : ℕ) (rs : List (ℕ × Datum)) (ds : List Datum) → after_one rs (set n ds) ≡ without n rs ++ tagged n ds
+
+-- of two sets of a number the second counts, and two clears are one
+abbrev pub SecondCounts : Type 0
+SecondCounts = (n : ℕ) (rs : List (ℕ × Datum)) (ds es : List Datum) → after_one (after_one rs (set n ds)) (set n es) ≡ after_one rs (set n es)
+
+abbrev pub ClearsAreOne : Type 0
+ClearsAreOne = (n : ℕ) (rs : List (ℕ × Datum)) → after_one (after_one rs (clear n)) (clear n) ≡ after_one rs (clear n)

@@ -1,12 +1,13 @@
 //! Messages that keep extensions.
 
-ghost use Rattle.std.specs.Prelude.{◌≡◌, ◌≢◌, ◌↔◌, IsTrue, ℕ, List, [], ◌++◌, Option, Some, None, OnOk, OnErr, IfOk, IsOk};
+ghost use Rattle.std.specs.Prelude.{◌≡◌, ◌↔◌, IsTrue, ℕ, List, Option, OnOk, OnErr, IfOk, IsOk};
 ghost use Rattle.std.specs.Borrow.{sem, Lends};
 ghost use Rattle.buffa_wire.specs.Records.{Held};
 ghost use Rattle.buffa_wire.specs.contracts.unknown_fields.UnknownFields.{the_row as fields_row};
-ghost use Rattle.buffa_codec.specs.Sub.{sub, without, tagged};
+ghost use Rattle.buffa_codec.specs.Sub.{sub};
 ghost use Rattle.buffa_codec.specs.Reading.{Refuses};
 ghost use Rattle.buffa_ext.specs.Defaults.{IsDefaulted};
+ghost use Rattle.buffa_ext.specs.Steps.{HasRecord, IsCleared, IsSet};
 
 use crate::descriptor::{Declared, Extension};
 use crate::stage::{has_number, remove, replace};
@@ -58,7 +59,7 @@ pub trait ExtensionSet {
         value: C::Value,
     ) -> Result<(), EncodeError>
         requires { ext.now.extendee.now ≡ fqn }
-        ensures ok { OnOk result ((fields_of self.new).records ≡ without ext.now.number (fields_of self.old).records ++ tagged ext.now.number (C.recs (C.meaning value))) }
+        ensures ok { OnOk result (IsSet ext.now.number (C.recs (C.meaning value)) (fields_of self.old) (fields_of self.new)) }
         ensures err { OnErr result (self.new ≡ self.old) }
         ensures refused { Refuses result (C.refusal (C.meaning value)) }
         ensures fits { OnOk result (C.fits (C.meaning value)) }
@@ -84,7 +85,7 @@ pub trait ExtensionSet {
         value: C::Value,
     ) -> Result<(), EncodeError>
         requires { ext.now.extendee.now ≡ fqn }
-        ensures ok { OnOk result ((fields_of self.new).records ≡ without ext.now.number (fields_of self.old).records ++ tagged ext.now.number (C.recs (C.meaning value))) }
+        ensures ok { OnOk result (IsSet ext.now.number (C.recs (C.meaning value)) (fields_of self.old) (fields_of self.new)) }
         ensures err { OnErr result (self.new ≡ self.old) }
         ensures refused { Refuses result (C.refusal (C.meaning value)) }
         ensures fits { OnOk result (C.fits (C.meaning value)) }
@@ -95,7 +96,7 @@ pub trait ExtensionSet {
 
     final fn clear_extension<C: ExtensionCodec, D>(&mut self, ext: &Extension<C, D>)
         requires { ext.now.extendee.now ≡ fqn }
-        ensures records { (fields_of self.new).records ≡ without ext.now.number (fields_of self.old).records }
+        ensures records { IsCleared ext.now.number (fields_of self.old) (fields_of self.new) }
         ensures rest { (w : Held) × (self.new ≡ with_fields self.old w) }
     {
         let number = ext.number();
@@ -103,7 +104,7 @@ pub trait ExtensionSet {
     }
 
     final fn has_extension<C: ExtensionCodec, D>(&self, ext: &Extension<C, D>) -> bool
-        ensures { IsTrue result ↔ ((ext.now.extendee.now ≡ fqn) × (sub ext.now.number ((fields_of self.now).records) ≢ [])) }
+        ensures { IsTrue result ↔ ((ext.now.extendee.now ≡ fqn) × HasRecord ext.now.number (fields_of self.now)) }
     {
         ext.extendee() == Self::extendee_name() && has_number(self.unknown_fields(), ext.number())
     }
@@ -115,7 +116,8 @@ pub trait ExtensionSet {
     >(&self, alloc: Global, ext: &Extension<C, D>) -> Result<V, AllocError>
         requires extendee { ext.now.extendee.now ≡ fqn }
         requires callable { D.can_declare ext.now.default }
-        ensures { IfOk result (IsDefaulted (λ o. C.reads (sub ext.now.number (fields_of self.now).records) (C.answer o)) (D.may_declare ext.now.default) (λ v. V.meaning v ≡ V.blank_is)) }
+        ensures { IfOk result (λ v. let records = sub ext.now.number (fields_of self.now).records in
+            IsDefaulted (λ o. C.reads records (C.answer o)) (D.may_declare ext.now.default) (V.meaning v ≡ V.blank_is) v) }
     {
         if let Some(value) = self.extension(alloc, ext)? {
             return Ok(value);

@@ -1,6 +1,6 @@
 //! Sets and clears, one after the other.
 
-ghost use Rattle.std.specs.Prelude.{◌≡◌, ◌<◌, List, ◌++◌, length, map, take, OnOk, OnErr, IfErr, IfOk};
+ghost use Rattle.std.specs.Prelude.{◌≡◌, ◌<◌, length, map, take, OnOk, OnErr, IfErr, IfOk};
 ghost use Rattle.buffa_wire.specs.View.{datum_of};
 ghost use Rattle.buffa_codec.specs.Sub.{tagged};
 ghost use Rattle.buffa_ext.specs.Steps.{after, after_one};
@@ -71,7 +71,8 @@ pub fn replay(
     steps: Vec<Step>,
 ) -> Result<(), ReplayFault>
     ensures ok { OnOk result (fields.new.records ≡ after fields.old.records (map change_of steps.items)) }
-    ensures err { IfErr result (λ e. (e.done < length steps.items) × (fields.new.records ≡ after fields.old.records (take e.done (map change_of steps.items)))) }
+    ensures done { IfErr result (λ e. e.done < length steps.items) }
+    ensures err { IfErr result (λ e. fields.new.records ≡ after fields.old.records (take e.done (map change_of steps.items))) }
 {
     let mut done = 0usize;
     for step in steps {

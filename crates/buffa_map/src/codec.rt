@@ -140,5 +140,5 @@ pub trait MapCodec: MapValueDecode {
     ghost stays_normal: { (d : ℕ) (old : Self.Value.Meaning) (c : Content) (new : Self.Value.Meaning) (known : Bool) → normal old → Self.reading.reads d old c ≡ Ok (new, known) → normal new };
 
     /// The fixed length is that of every payload.
-    ghost fixed: { (n : ℕ) → FIXED_LEN ≡ Some n → (v : Self.Value.Meaning) → fits v → length (writing.text v) ≡ n };
+    ghost fixed: { (n : ℕ) → FIXED_LEN ≡ Some n → (v : Self.Value.Meaning) → length (writing.text v) ≡ n };
 }

@@ -68,7 +68,8 @@ pub fn size_is_length<KC: MapCodec, VC: MapCodec>()
 {}
 
 /// The text of pairs is a run that says these pairs, so that a map that is written and then read into an
-/// empty one is that map, stored keys too, in whatever order it was walked.
+/// empty one is that map, stored keys too, in whatever order it was walked. Each entry is declared, and there
+/// are as many as there are pairs.
 pub fn written_is_read<
     KC: MapCodec,
     VC: MapCodec,

@@ -1,2 +1,3 @@
 pub mod NormalLemmas
 pub mod TreeSizes
+pub mod TripLemmas

@@ -1,7 +1,17 @@
 pub mod Letters
+pub mod Fields
+pub mod FieldsLaws
 pub mod Flat
 pub mod FlatLaws
+pub mod Two
+pub mod TwoLaws
+pub mod Count
+pub mod CountLaws
+pub mod CostLaws
+pub mod Keep
+pub mod KeepLaws
 pub mod Grown
 pub mod GrownFalls
 pub mod TreeText
 pub mod TreeMeaning
+pub mod RoundTrip

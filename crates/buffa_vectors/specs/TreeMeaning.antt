@@ -9,7 +9,7 @@ use Rattle.buffa_wire.specs.Text.{W, field_text}
 use Rattle.buffa_wire.specs.Records.{Datum}
 use Rattle.buffa_bytes.proofs.FieldLemmas.{tag_some}
 use Rattle.std.proofs.Common.{append_assoc}
-use Rattle.buffa_vectors.specs.FlatLaws.{value_text_records}
+use Rattle.buffa_vectors.specs.FieldsLaws.{both_records, number_text_records}
 use Rattle.buffa_vectors.specs.Flat.{value_records, value_text}
 use Rattle.buffa_vectors.specs.Grown.{Grown, grown, Kids, no_kids, kid}
 use Rattle.buffa_vectors.specs.TreeText.{text, texts, records, kids_records, kid_record}
@@ -32,16 +32,9 @@ next_in d v (x ∷ f) r h = refl
 pub merged_next : (d : ℕ) (v : Grown) (f r : List ℕ) → SomeField d f → merged d v (f ++ r) ≡ option_and_then (λ w. merged d w r) (merged d v f)
 merged_next d v f r (n, w, (t, p, tag, payload, is)) = next_in d v f r (omega (arith, tag_some t n w tag, ap length is, length-append t p))
 
-front : (x : ℕ × Datum) (xs : List (ℕ × Datum)) → W (x ∷ xs) ≡ field_text x.0 x.1 ++ W xs
-front x xs = refl
-
-W-append : (xs ys : List (ℕ × Datum)) → W (xs ++ ys) ≡ W xs ++ W ys
-W-append [] ys = refl
-W-append (x ∷ xs) ys = ap (λ (z : List ℕ). field_text x.0 x.1 ++ z) (W-append xs ys) ∙ sym (append_assoc (field_text x.0 x.1) (W xs) (W ys))
-
 kids_text : (ks : Kids) → texts ks ≡ W (kids_records ks)
 kids_text no_kids = refl
 kids_text (kid k t ks) = ap (λ (z : List ℕ). kid_record k (text t) ++ z) (kids_text ks)
 
 pub text_records : (t : Grown) → text t ≡ W (records t)
-text_records (grown l ks) = (λ i. value_text_records l i ++ kids_text ks i) ∙ sym (W-append (value_records l) (kids_records ks))
+text_records (grown l ks) = both_records (value_text l) (texts ks) (value_records l) (kids_records ks) (number_text_records 1 l) (kids_text ks)

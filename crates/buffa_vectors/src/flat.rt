@@ -1,18 +1,17 @@
 //! A message of one int32.
 
-ghost use Rattle.std.specs.Prelude.{◌≡◌, ◌≢◌, ◌<◌, ◌++◌, [], length, pos, refl, FitsSigned};
+ghost use Rattle.std.specs.Prelude.{◌≡◌, [], pos, refl, FitsSigned};
 ghost use Rattle.std.specs.Int.{w32};
-ghost use Rattle.buffa_bytes.specs.declared.wire_type.WireType.TheVariants.{Varint};
-ghost use Rattle.buffa_wire.specs.Values.{int32_text, tag_text};
-ghost use Rattle.buffa_wire.specs.Written.{Writes};
 ghost use Rattle.buffa_wire.specs.Gives.{Gives};
-ghost use Rattle.buffa_vectors.specs.Flat.{flat_cost, flat_merged, flat_payload, value_records, value_text};
-ghost use Rattle.buffa_vectors.specs.FlatLaws.{flat_back, flat_cost_some, flat_empty, flat_fields, flat_next, value_text_records};
+ghost use Rattle.buffa_vectors.specs.FieldsLaws.{empty, fields, next, number_text_records};
+ghost use Rattle.buffa_vectors.specs.Flat.{flat_cost, flat_field, flat_merged, value_records, value_text};
+ghost use Rattle.buffa_vectors.specs.FlatLaws.{flat_back, flat_cost_some, flat_same, flat_sound};
 
-use buffa_wire::types::{decode_int32, encode_int32, int32_encoded_len};
+use crate::int32_field::{number_len, write_number};
+use buffa_wire::types::decode_int32;
 use buffa_wire::{
-    Blank, Buf, DecodeContext, DecodeError, EncodeError, EncodeSink, Message, MessageSpec, SizeCache,
-    Tag, WireType, check_wire_type, skip_field_depth,
+    Blank, Buf, DecodeContext, DecodeError, EncodeError, EncodeSink, Message, MessageSpec,
+    SizeCache, Tag, WireType, check_wire_type, skip_field_depth,
 };
 use std::alloc::Global;
 
@@ -58,17 +57,17 @@ impl MessageSpec for FlatMsg {
 
     ghost normal = { FitsSigned w32 };
 
-    ghost text_records = { value_text_records };
+    ghost text_records = { number_text_records 1 };
 
     ghost merged_text = { λ d v _ h _. flat_back d v h };
 
     ghost positive = { flat_cost_some };
 
-    ghost merged_empty = { flat_empty };
+    ghost merged_empty = { λ d v. empty d (flat_field d) (flat_sound d) (flat_same d) v };
 
-    ghost merged_fields = { flat_fields };
+    ghost merged_fields = { λ d v w b h. fields d (flat_field d) (flat_sound d) (flat_same d) v w b h };
 
-    ghost merged_next = { flat_next };
+    ghost merged_next = { λ d v f r h. next d (flat_field d) (flat_sound d) (flat_same d) v f r h };
 
     ghost cost_empty = { λ d. refl };
 
@@ -77,7 +76,7 @@ impl MessageSpec for FlatMsg {
 
 // Merges the field whose tag was read.
 fn merge_value(value: &mut i32, tag: Tag, buf: &mut &[u8], depth: u32) -> Result<(), DecodeError>
-    ensures { Gives (λ _. (value.new, buf.new.now)) result (flat_payload depth value.old tag.number tag.wire_type buf.old.now) }
+    ensures { Gives (λ _. (value.new, buf.new.now)) result (flat_field depth value.old tag.number tag.wire_type buf.old.now) }
 {
     if tag.field_number() == 1 {
         check_wire_type(tag, WireType::Varint)?;
@@ -88,44 +87,9 @@ fn merge_value(value: &mut i32, tag: Tag, buf: &mut &[u8], depth: u32) -> Result
     Ok(())
 }
 
-// The length of a field of the value, also at 0.
-fn int32_len(value: i32) -> u32
-    ensures { result ≡ length (tag_text 1 Varint ++ int32_text value) }
-{
-    int32_encoded_len(value) as u32 + 1
-}
-
-// The length of the value's field.
-#[tactic(auto, using(crate::specs::FlatLaws::zero_text, crate::specs::FlatLaws::some_text))]
-pub(crate) fn value_len(value: &i32) -> u32
-    ensures { result ≡ length (value_text value.now) }
-{
-    if *value == 0 { 0 } else { int32_len(*value) }
-}
-
-// Writes a field of the value, also at 0.
-#[tactic(auto, using(buffa_bytes::proofs::SinkLemmas::writes_then, buffa_bytes::proofs::SinkLemmas::front_first))]
-fn write_int32<S: EncodeSink>(value: i32, sink: &mut S) -> Result<(), EncodeError>
-    ensures { Writes result (S.written sink.old) (tag_text 1 Varint ++ int32_text value) (S.written sink.new) }
-{
-    Tag::new(1, WireType::Varint).encode(sink)?;
-    encode_int32(value, sink)
-}
-
-// Writes the value's field.
-pub(crate) fn write_value<S: EncodeSink>(value: &i32, sink: &mut S) -> Result<(), EncodeError>
-    ensures { Writes result (S.written sink.old) (value_text value.now) (S.written sink.new) }
-{
-    if *value == 0 {
-        Ok(())
-    } else {
-        write_int32(*value, sink)
-    }
-}
-
 impl Message for FlatMsg {
     fn compute_size(&self, _cache: &mut SizeCache) -> Result<u32, EncodeError> {
-        Ok(value_len(&self.value))
+        Ok(number_len(1, &self.value))
     }
 
     fn write_to<S: EncodeSink>(
@@ -133,7 +97,7 @@ impl Message for FlatMsg {
         _cache: &mut SizeCache,
         sink: &mut S,
     ) -> Result<(), EncodeError> {
-        write_value(&self.value, sink)
+        write_number(1, &self.value, sink)
     }
 
     fn merge_field(

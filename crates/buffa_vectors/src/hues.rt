@@ -3,7 +3,7 @@
 ghost use Rattle.std.specs.Prelude.{◌≡◌, None, Some, if◌then◌else◌, pos, refl};
 ghost use Rattle.std.specs.Ordering.{int_eq};
 
-use buffa_wire::{Blank, Enumeration};
+use buffa_wire::{Blank, Enumeration, MapKey, PlainKey};
 use std::alloc::Global;
 
 /// Two values; `A` is the default.
@@ -11,7 +11,7 @@ use std::alloc::Global;
 /// ```ignore
 /// let b = Old::from_i32(1); // Some(Old::B)
 /// ```
-#[derive(Clone, Copy, Debug, PartialEq, Eq)]
+#[derive(Clone, Copy, Debug, PartialEq, Eq, PartialOrd, Ord)]
 pub enum Old {
     /// The number 0.
     A,
@@ -56,6 +56,23 @@ impl Enumeration for Old {
     ghost stays = { elim [ A ↦ refl | B ↦ refl ] };
 
     ghost blank_declared = { refl };
+}
+
+impl MapKey for Old {
+    ghost use Rattle.buffa_vectors.specs.declared.hues.Old.TheVariants.{A, B};
+    ghost use Rattle.std.specs.Cmp.{int_eq_equiv};
+
+    ghost same = { int_eq };
+
+    ghost equivalence = { int_eq_equiv };
+
+    ghost respects = { elim [ A ↦ elim [ A ↦ refl | B ↦ refl ] | B ↦ elim [ A ↦ refl | B ↦ refl ] ] };
+}
+
+impl PlainKey for Old {
+    ghost use Rattle.buffa_bytes.specs.Plain.{integers_plain};
+
+    ghost plain = { integers_plain };
 }
 
 /// The values of [`Old`], and a third.

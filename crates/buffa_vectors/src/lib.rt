@@ -7,6 +7,7 @@
 
 #[cfg(test)]
 mod codecs;
+pub mod count;
 #[cfg(test)]
 mod cuts;
 #[cfg(test)]
@@ -15,15 +16,24 @@ pub mod flat;
 #[cfg(test)]
 mod guide;
 pub mod hues;
+mod int32_field;
+pub mod keep;
 #[cfg(test)]
 mod maps;
 #[cfg(test)]
 mod maps_table;
 #[cfg(test)]
 mod messages;
+#[cfg(test)]
+mod messages_table;
 pub mod passed_on;
+#[cfg(test)]
+mod proto_messages;
 #[cfg(test)]
 mod rewrites;
 pub mod round_trip;
+#[cfg(test)]
+mod rows;
 pub mod tree;
+pub mod two;
 pub mod word;

@@ -3,9 +3,13 @@
 use crate::flat::FlatMsg;
 use crate::tree::{Tree, size_tree, write_tree};
 use buffa_map::map_codec::{
-    Int32, MapStorage, Msg, merge_entry, message_field_len, read_map_field, write_message_field,
+    Int32, Map, MapStorage, MapWalk, Msg, StableWalk, merge_entry, message_field_len,
+    read_map_field, write_message_field,
 };
-use buffa_wire::{Blank, Budget, DecodeContext, DecodeError, Pieces, RECURSION_LIMIT, SizeCache, WireType};
+use buffa_wire::{
+    Blank, Budget, DecodeContext, DecodeError, Pieces, RECURSION_LIMIT, SizeCache, WireType,
+};
+use std::alloc::Global;
 use std::collections::BTreeMap;
 use std::test::Fail;
 
@@ -108,6 +112,53 @@ fn messages_are_sized_and_written(rt: HostRuntime) -> Result<(), Fail> {
         0xFF, 0xFF, 0xFF, 0xFF, 0xFF, 0xFF, 0xFF, 0x01,
     ];
     assert_eq!(rt; text.as_slice(), expected);
+    Ok(())
+}
+
+// Whether the field of the messages has this length, and is written and read back to the same messages.
+fn comes_back<'a, C>(alloc: Global, map: &'a C, read: &mut C) -> Result<bool, Fail>
+where
+    C: StableWalk<'a> + MapStorage<Key = i32, Value = FlatMsg>,
+{
+    let mut cache = SizeCache::new(alloc);
+    let size = message_field_len::<Int32, FlatMsg, C>(map, 1, &mut cache)?;
+    let mut text = Vec::new(alloc);
+    write_message_field::<Int32, FlatMsg, C, _>(map, 4, &mut cache, &mut text)?;
+    let mut budget = Budget::new(0);
+    let mut rest = text.as_slice();
+    let ctx = DecodeContext::new(RECURSION_LIMIT, &mut budget);
+    read_map_field::<Int32, Msg<FlatMsg>, C, _>(alloc, read, 4, &mut rest, ctx, None)?;
+    Ok(size == text.len() as u64)
+}
+
+#[test]
+fn message_fields_come_back(rt: HostRuntime) -> Result<(), Fail> {
+    let mut tree: BTreeMap<i32, FlatMsg> = BTreeMap::new(rt.alloc());
+    let mut list: Map<i32, FlatMsg> = Map::new(rt.alloc());
+    for (key, value) in [(9, 7), (1, 0), (2, -3)] {
+        tree.storage_insert(key, FlatMsg { value })?;
+        list.storage_insert(key, FlatMsg { value })?;
+    }
+    let mut same_tree: BTreeMap<i32, FlatMsg> = BTreeMap::new(rt.alloc());
+    assert!(rt; comes_back(rt.alloc(), &tree, &mut same_tree)?);
+    let mut found = same_tree.storage_iter();
+    for expected in [(1, 0), (2, -3), (9, 7)] {
+        match found.next() {
+            Some((key, message)) => assert_eq!(rt; (*key, message.value), expected),
+            None => assert!(rt; false),
+        }
+    }
+    assert!(rt; found.next().is_none());
+    let mut same_list: Map<i32, FlatMsg> = Map::new(rt.alloc());
+    assert!(rt; comes_back(rt.alloc(), &list, &mut same_list)?);
+    let mut found = same_list.storage_iter();
+    for expected in [(9, 7), (1, 0), (2, -3)] {
+        match found.next() {
+            Some((key, message)) => assert_eq!(rt; (*key, message.value), expected),
+            None => assert!(rt; false),
+        }
+    }
+    assert!(rt; found.next().is_none());
     Ok(())
 }
 

@@ -1,13 +1,14 @@
 //! A map through its bytes and back: whatever the codecs, the storage and the order of its walk.
 
-ghost use Rattle.std.specs.Prelude.{◌≡◌, List, [], OnOk};
+ghost use Rattle.std.specs.Prelude.{◌≡◌, ◌+◌, [], IfErr, OnOk, IsPermutation};
 ghost use Rattle.buffa_wire.specs.Number.{IsNumber};
 ghost use Rattle.buffa_map.specs.Pairs.{SamePairs};
 ghost use Rattle.buffa_map.specs.Text.{AllHold};
 ghost use Rattle.buffa_vectors.specs.Letters.{same_letters, spelled};
+ghost use Rattle.buffa_vectors.specs.RoundTrip.{EachWalk, RefusesTrip, flag_writing, word_writing};
 
 use crate::word::Word;
-use buffa_map::laws::{one_reading, written_is_read};
+use buffa_map::laws::{one_reading, plain_entries_need_units, written_is_read};
 use buffa_map::map_codec::{
     Bool, MapCodec, MapStorage, MapWalk, ProtoStringMap, read_map_field, write_field,
 };
@@ -28,7 +29,9 @@ pub enum TripFault {
 /// same stored keys.
 ///
 /// # Errors
-/// Those of [`write_field`] and of [`read_map_field`] at the default limits.
+/// [`EncodeError::MessageTooLarge`] only where the entry of a pair has 2^64 bytes or more;
+/// [`DecodeError::ElementMemoryLimitExceeded`] only where the pairs cost more than 268,435,456 units; and
+/// out of memory, in either.
 ///
 /// ```ignore
 /// through_bytes::<ProtoStringMap<Word>, Bool, _>(alloc, 5, &words, &mut copy)?;
@@ -44,8 +47,9 @@ where
     VC::Value: 'a,
     requires number { IsNumber number }
     requires empty { C.pairs copy.old ≡ [] }
-    requires normal { (l : List (KC.Value.Meaning × VC.Value.Meaning)) → C.walks map.now l → AllHold KC.normal VC.normal l }
-    ensures { OnOk result (SamePairs C.equal (C.pairs map.now) (C.pairs copy.new)) }
+    requires normal { EachWalk (C.walks map.now) (AllHold KC.normal VC.normal) }
+    ensures ok { OnOk result (SamePairs C.equal (C.pairs map.now) (C.pairs copy.new)) }
+    ensures err { IfErr result (RefusesTrip KC.writing VC.writing (KC.COST + VC.COST) (C.walks map.now)) }
 {
     let mut text = Vec::new(alloc);
     match write_field::<KC, VC, C, _>(map, number, &mut text) {
@@ -57,6 +61,7 @@ where
     let ctx = DecodeContext::new(0, &mut budget);
     written_is_read::<KC, VC, C>();
     one_reading::<KC, VC>();
+    plain_entries_need_units::<KC, VC>();
     match read_map_field::<KC, VC, C, _>(alloc, copy, number, &mut rest, ctx, None) {
         Ok(()) => Ok(()),
         Err(error) => Err(TripFault::Decode(error)),
@@ -67,7 +72,7 @@ where
 /// as it was spelled.
 ///
 /// # Errors
-/// Those of [`through_bytes`].
+/// Those of [`through_bytes`], where a pair costs 25 units.
 ///
 /// ```ignore
 /// words_through_bytes(alloc, &words, &mut copy)?;
@@ -78,7 +83,8 @@ pub fn words_through_bytes(
     copy: &mut HashMap<Word, bool>,
 ) -> Result<(), TripFault>
     requires { copy.old.entries ≡ [] }
-    ensures { OnOk result (SamePairs same_letters (spelled words.now.entries) (spelled copy.new.entries)) }
+    ensures ok { OnOk result (SamePairs same_letters (spelled words.now.entries) (spelled copy.new.entries)) }
+    ensures err { IfErr result (RefusesTrip word_writing flag_writing 25 (IsPermutation (spelled words.now.entries))) }
 {
     through_bytes::<ProtoStringMap<Word>, Bool, HashMap<Word, bool>>(alloc, 1, words, copy)
 }

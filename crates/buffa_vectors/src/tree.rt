@@ -9,7 +9,7 @@ ghost use Rattle.std.specs.List.{Contains};
 ghost use Rattle.buffa_map.specs.MessageField.{IsFieldWritten, field_slots};
 ghost use Rattle.buffa_vectors.specs.TreeText.{key_writing, meant, slots, text};
 
-use crate::flat::{value_len, write_value};
+use crate::int32_field::{number_len, write_number};
 use buffa_map::map_codec::{
     Int32, merge_message_entry_by, message_field_len_by, write_message_field_by,
 };
@@ -116,7 +116,7 @@ pub(crate) fn size_tree(tree: &Tree, cache: &mut SizeCache) -> Result<u32, Encod
             ensures { IsSized (text child.now) (slots child.now) cache.old result cache.new }
         { size_tree(child, cache) },
     )?;
-    let total = children.saturating_add(u64::from(value_len(&tree.label)));
+    let total = children.saturating_add(u64::from(number_len(1, &tree.label)));
     if total < 4_294_967_295 {
         Ok(total as u32)
     } else {
@@ -153,7 +153,7 @@ pub(crate) fn write_tree<S: EncodeSink>(
     requires { IsNext (slots tree.now) cache.old }
     ensures { IsWritten (text tree.now) (slots tree.now) cache.old (S.written sink.old) result cache.new (S.written sink.new) }
 {
-    write_value(&tree.label, sink)?;
+    write_number(1, &tree.label, sink)?;
     write_children_by(
         &tree.children,
         cache,

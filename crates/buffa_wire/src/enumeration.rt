@@ -65,6 +65,20 @@ impl<E: Enumeration> EnumValue<E> {
             EnumValue::Unknown(number) => *number,
         }
     }
+
+    /// The value as it is read: the declared value of its number, where one has it. It takes no memory.
+    ///
+    /// ```ignore
+    /// let hue = EnumValue::<Hue>::Unknown(1).normal(); // EnumValue::Known(Hue::Green)
+    /// ```
+    pub fn normal(self) -> EnumValue<E>
+        ensures { ⟦<EnumValue<E> as Blank>⟧.meaning result ≡ open_number E.of_number (⟦<EnumValue<E> as Blank>⟧.meaning self).1 }
+    {
+        match self {
+            EnumValue::Known(value) => EnumValue::Known(value),
+            EnumValue::Unknown(number) => EnumValue::from_i32(number),
+        }
+    }
 }
 
 impl<E: Enumeration> Blank for EnumValue<E> {

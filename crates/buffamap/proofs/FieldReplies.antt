@@ -6,7 +6,8 @@ use Rattle.hex.specs.Hex.{encode_lower}
 use Rattle.buffamap.specs.Codecs.{int32_writing, string_writing}
 use Rattle.buffa_map.specs.Text.{HasText, entry_text, field_text}
 use Rattle.buffamap.specs.Lines.{Pair}
-use Rattle.buffamap.specs.Reply.{Reply, has_text, line, write_pairs}
+use Rattle.buffamap.specs.Reply.{done, fault, line}
+use Rattle.buffamap.specs.Write.{field_reply, has_text}
 
 abbrev size : Pair → ℕ
 size p = length (entry_text string_writing int32_writing p)
@@ -23,8 +24,8 @@ lacks : (done : List Pair) (p : Pair) (rest : List Pair) → 2 ^ 64 ≤ size p �
 lacks [] p rest h = rw (le-ltb (size p) (2 ^ 64) h) refl
 lacks (q ∷ done) p rest h = rw (lacks done p rest h) (left_false (nat_lt (size q) (2 ^ 64)))
 
-pub written : (n : ℕ) (ps l : List Pair) → l ≡ ps → HasText string_writing int32_writing l → write_pairs n ps ≡ (let r : Reply = record { status = 0; text = line (encode_lower (field_text string_writing int32_writing n l)) } in r)
+pub written : (n : ℕ) (ps l : List Pair) → l ≡ ps → HasText string_writing int32_writing l → field_reply n ps ≡ done (line (encode_lower (field_text string_writing int32_writing n l)))
 written n ps l e h = rw (sym e) (rw (has l h) refl)
 
-pub too_large : (n : ℕ) (ps l done : List Pair) (p : Pair) (rest : List Pair) → l ≡ ps → l ≡ done ++ p ∷ rest → 2 ^ 64 ≤ size p → write_pairs n ps ≡ (let r : Reply = record { status = 1; text = line (codes "fault MessageTooLarge") } in r)
+pub too_large : (n : ℕ) (ps l done : List Pair) (p : Pair) (rest : List Pair) → l ≡ ps → l ≡ done ++ p ∷ rest → 2 ^ 64 ≤ size p → field_reply n ps ≡ fault (codes "MessageTooLarge")
 too_large n ps l done p rest e s h = rw (sym e ∙ s, lacks done p rest h) refl

@@ -12,7 +12,7 @@ use Rattle.buffa_map.specs.Run.{Fold, Paid, Run, Said, run_of}
 use Rattle.buffamap.specs.Codecs.{int32_reading, string_reading}
 use Rattle.buffa_map.proofs.RunLemmas.{run_complete, run_faulty}
 use Rattle.buffa_map.proofs.ResultLemmas.{IfErr-map}
-use Rattle.buffamap.specs.Reply.{default_left}
+use Rattle.buffamap.specs.Read.{default_left}
 use Rattle.buffamap.specs.Lines.{Pair}
 
 abbrev dropped : ℕ → ℕ → Rules (List ℕ) ℤ

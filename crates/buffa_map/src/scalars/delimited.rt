@@ -95,7 +95,7 @@ impl<T: ProtoString> MapCodec for ProtoStringMap<T> {
 
     ghost stays_normal = { λ d old c new known h _. tt };
 
-    ghost fixed = { λ n h v _. no_fixed_length h };
+    ghost fixed = { λ n h v. no_fixed_length h };
 }
 
 /// `string`: a `String`.
@@ -180,7 +180,7 @@ impl MapCodec for BytesBuf {
 
     ghost stays_normal = { λ d old c new known h _. tt };
 
-    ghost fixed = { λ n h v _. no_fixed_length h };
+    ghost fixed = { λ n h v. no_fixed_length h };
 }
 
 /// `bytes`, held as a type of one's own.
@@ -261,5 +261,5 @@ impl<T: ProtoBytes> MapCodec for ProtoBytesMap<T> {
 
     ghost stays_normal = { λ d old c new known h _. tt };
 
-    ghost fixed = { λ n h v _. no_fixed_length h };
+    ghost fixed = { λ n h v. no_fixed_length h };
 }

@@ -101,7 +101,7 @@ impl<E: Enumeration> MapCodec for ClosedEnum<E> {
 
     ghost stays_normal = { λ d old c new known h _. tt };
 
-    ghost fixed = { λ n h v _. no_fixed_length h };
+    ghost fixed = { λ n h v. no_fixed_length h };
 }
 
 /// An open enum: any number, as the declared value where one has it.
@@ -182,5 +182,5 @@ impl<E: Enumeration> MapCodec for OpenEnum<E> {
 
     ghost stays_normal = { λ d old c new known _ h. open_stays_normal E.of_number _ new known h };
 
-    ghost fixed = { λ n h v _. no_fixed_length h };
+    ghost fixed = { λ n h v. no_fixed_length h };
 }

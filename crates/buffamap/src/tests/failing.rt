@@ -1,4 +1,4 @@
-// Readers and writers that fail at one call, and memory that is refused.
+// Readers and writers that fail at one call.
 use super::{Case, USAGE_LINE};
 use crate::engine::run;
 use std::alloc::Global;
@@ -8,7 +8,7 @@ use std::process::Abort;
 
 const FAILED_LINE: &str = "buffamap: input or output failed\n";
 
-const NO_MEMORY: &str = "fault OutOfMemory\n";
+const WRONG_WORDS: [&[&str]; 4] = [&[], &["read"], &["read", "0"], &["rewrite", "5"]];
 
 const EXAMPLES: [Case; 3] = [
     (&["read", "5"], "2a050a01611001", "61 1\n", 0),
@@ -181,21 +181,18 @@ fn a_failed_line_changes_no_status(rt: HostRuntime) {
     }
 }
 
-// Run with each request for memory refused in turn: the answer is the right one, or want of memory.
+// Words that are no command ask for no input.
 #[test]
-fn want_of_memory_is_told(rt: HostRuntime) {
-    for (words, given, text, answer) in EXAMPLES {
-        let mut input = given.as_bytes();
-        let mut output = FailingWriter::new(64, End::Error);
+fn wrong_words_read_nothing(rt: HostRuntime) {
+    for words in WRONG_WORDS {
+        let mut input = FailingReader {
+            bytes: &[],
+            calls_left: 0,
+        };
+        let mut output = FailingWriter::new(0, End::Error);
         let mut errors = FailingWriter::new(64, End::Error);
         let status = run(rt.alloc(), words, &mut input, &mut output, &mut errors);
-        let (status_owed, text_owed) = if status == 4 {
-            (4, NO_MEMORY)
-        } else {
-            (answer, text)
-        };
-        assert_eq!(rt; status, status_owed, "{words:?}");
-        assert_eq!(rt; output.taken(), text_owed.as_bytes(), "{words:?}");
-        assert!(rt; errors.taken().is_empty());
+        assert_eq!(rt; status, 2, "{words:?}");
+        assert_eq!(rt; errors.taken(), USAGE_LINE.as_bytes(), "{words:?}");
     }
 }

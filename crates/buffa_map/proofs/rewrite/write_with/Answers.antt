@@ -25,6 +25,6 @@ returns g c =
     record {
       walk = w.0;
       once = w.1;
-      text = rewrite_written g.KC.MapCodec.writing g.VC.MapCodec.writing c.args.number c.args.kept.now.records c.write_to.result old mid new w.0 w.2.0 w.2.1 c.write_to.ensures;
+      text = rewrite_written g.KC.MapCodec.writing g.VC.MapCodec.writing c.args.number c.args.kept.now.records c.write_to.result old mid new w.0 w.2.0 w.2.1 c.write_to.ensures.writes;
       fits = OnOk-always c.write_to.result w.3;
     }

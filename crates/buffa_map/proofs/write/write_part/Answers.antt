@@ -12,7 +12,7 @@ returns-in_err-encode g c =
     let new = g.S.EncodeSink.written c.encode.new.sink in
     let same : tag_text c.new.result.number c.new.result.wire_type ≡ tag_text c.args.number g.VC.MapCodec.writing.wire =
     (λ i. tag_text (c.new.ensures.number i) ((c.new.ensures.wire_type ∙ c.WIRE_TYPE.ensures ∙ sym g.met.VC.MapCodec.written_wire) i)) in
-    exits_first p.1 p.2 old (tag_text c.args.number g.VC.MapCodec.writing.wire) (g.VC.MapCodec.writing.text (g.VC.Value.Blank.meaning c.args.value.now)) new (c.in_err-encode.ensures.0, subst (λ z. WritesFront old z new) same c.in_err-encode.ensures.1)
+    exits_first p.1 p.2 old (tag_text c.args.number g.VC.MapCodec.writing.wire) (g.VC.MapCodec.writing.text (g.VC.Value.Blank.meaning c.args.value.now)) new (c.in_err-encode.ensures.writes.0, subst (λ z. WritesFront old z new) same c.in_err-encode.ensures.writes.1)
 
 pub returns : goal.returns
 returns g c =
@@ -20,4 +20,4 @@ returns g c =
     let same : tag_text c.new.result.number c.new.result.wire_type ≡ tag_text c.args.number g.VC.MapCodec.writing.wire =
     (λ i. tag_text (c.new.ensures.number i) ((c.new.ensures.wire_type ∙ c.WIRE_TYPE.ensures ∙ sym g.met.VC.MapCodec.written_wire) i)) in
     writes_then c.encode-2.result old (tag_text c.args.number g.VC.MapCodec.writing.wire) (g.VC.MapCodec.writing.text (g.VC.Value.Blank.meaning c.args.value.now)) (g.S.EncodeSink.written c.encode.new.sink) (g.S.EncodeSink.written c.encode-2.new.sink)
-    (c.in_ok-encode.ensures ∙ ap (λ z. old ++ z) same) c.encode-2.ensures
+    (c.in_ok-encode.ensures.writes ∙ ap (λ z. old ++ z) same) c.encode-2.ensures

@@ -16,17 +16,17 @@ pub returns : goal.returns
 returns g t c =
     let written = g.S.EncodeSink.written in
     let es = c.tree.inside.children.entries in
-    let w = rw c.in_ok-write_value.was at c.write_value.ensures in
+    let w = rw c.in_ok-write_number.was at c.write_number.ensures in
     let cache = c.args.cache.now in
     let last = c.write_children_by.new.cache in
     let r = c.write_children_by.result in
     let b0 = written c.args.sink.now in
-    let b1 = written c.write_value.new.sink in
+    let b1 = written c.write_number.new.sink in
     let b2 = written c.write_children_by.new.sink in
     let small = IsSmall (text c.args.tree.now) in
     let label = value_text c.tree.inside.label in
     let field = field_text key_writing (delimited_writing text) 2 (meant es) in
     let h = written_then small (IsSmallField key_writing text (meant es)) small label field [] (field_slots text slots (meant es)) cache cache last b0 b1 b2
-        (λ s. (s, small_kids _ _ _ c.tree.view_is s)) r (written_put small label cache b0 b1 done w) c.write_children_by.ensures in
+    (λ s. (s, small_kids _ _ _ c.tree.view_is s)) r (written_put small label cache b0 b1 done w) c.write_children_by.ensures in
     subst (λ ss. IsWritten (text c.args.tree.now) ss cache b0 r last b2) (slots_is _ _ _ c.tree.view_is)
     (subst (λ ts. WritesIf small ts (field_slots text slots (meant es)) cache b0 r last b2) (sym (text_is _ _ _ c.tree.view_is)) h)

@@ -5,7 +5,7 @@ use Rattle.buffa_codec.proofs.number.AnySingularCodec.decode_packed.Given as goa
 -- the numbers so far and those of the rest are those of all
 abbrev pub invariant-loop-n : goal.invariant-loop-n
 invariant-loop-n g l =
-    (done : List ℕ) × (map g.N.Value.Blank.meaning l.out.items ≡ map g.N.Value.Blank.meaning l.fn.out.items ++ map g.N.Scalar.value_of done)
+    (done : List ℕ) × (map g.N.Value.Blank.meaning l.out.items ≡ map g.N.Value.Blank.meaning l.fn.out.items ++ map g.N.Numbered.value_of done)
     × (numbers_in g.N.Form.Form.WIRE_TYPE l.bytes ≡ done ++ numbers_in g.N.Form.Form.WIRE_TYPE l.rest)
 
 abbrev pub decreases-loop-n : goal.decreases-loop-n

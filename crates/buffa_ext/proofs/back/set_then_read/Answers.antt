@@ -1,0 +1,14 @@
+use Rattle.std.proofs.Common.{ap, ◌∙◌, subst}
+use Rattle.buffa_codec.specs.Sub.{sub}
+use Rattle.buffa_codec.proofs.Filtered.{sub-set}
+use Rattle.buffa_ext.proofs.back.set_then_read.Goals as goal
+
+pub returns : goal.returns
+returns g c =
+    let t = g.C.ExtensionCodec in
+    let n = c.args.ext.now.number in
+    let v = t.meaning c.args.value in
+    g.met.C.ExtensionCodec.reads_back v (t.answer c.in-Ok.answer) c.in_ok-set_extension.ensures.fits c.requires.normal
+    (subst (λ ds. t.reads ds (t.answer c.in-Ok.answer))
+    (ap (sub n) c.in_ok-set_extension.ensures.ok ∙ sub-set n (g.M.ExtensionSet.fields_of c.args.message.now).records (t.recs v))
+    c.in-Ok.ensures.value)

@@ -1,0 +1,228 @@
+-- What merging the texts of records comes to.
+use Rattle.std.proofs.Common.{◌≡◌, ◌≢◌, ℕ, ◌+◌, ◌<◌, ◌≤◌, ◌^◌, Bool, true, false, List, [], ◌∷◌, ◌++◌, ◌&&◌, ◌||◌, nat_le, nat_lt, length, Option, Some, None, Result, Ok, Err, ◌⊎◌, inl, inr, refl, sym, ap, subst, ◌∙◌, arith, if◌then◌else◌}
+use Rattle.std.proofs.lemmas.Grind.{common_steps}
+use Rattle.std.specs.Option.{option_and_then}
+use Rattle.std.specs.List.{filter_map, cons_option}
+use Rattle.buffa_bytes.specs.declared.error.DecodeError.{DecodeError}
+use Rattle.buffa_bytes.specs.declared.error.EncodeError.{EncodeError}
+use Rattle.buffa_bytes.specs.declared.error.EncodeError.TheVariants.{GroupRefused, MessageTooLarge}
+use Rattle.buffa_bytes.proofs.StepLemmas.{agree_ok}
+use Rattle.buffa_wire.specs.Left.{Left, Lacks, Pays, PaysAtMost, nothing, plus}
+use Rattle.buffa_wire.specs.Message.{IsMerged}
+use Rattle.buffa_wire.specs.Parse.{Fits, Parse}
+use Rattle.buffa_wire.specs.RecordReading.{list_at}
+use Rattle.buffa_wire.specs.Records.{Datum, group, records_of, records_height}
+use Rattle.buffa_wire.specs.Text.{W, records_text}
+use Rattle.buffa_wire.proofs.LoopLemmas.{list_is_read}
+use Rattle.buffa_wire.proofs.ParseLemmas.{one_reading, text_parses}
+use Rattle.buffa_codec.specs.Reading.{Covers, full}
+use Rattle.buffa_ext.specs.Messages.{LeavesOf, IsAllMerged, IsAnswer, cost_all, group_held, group_of, group_refusal, is_left, merged_all, message_of, or_none, some_there, text_refusal, texts_in, why_refused}
+
+le_yes : (m n : ℕ) → m ≤ n → nat_le m n ≡ true
+le_yes m n h = grind (arith, common_steps)
+
+le_no : (m n : ℕ) → n < m → nat_le m n ≡ false
+le_no m n h = grind (arith, common_steps)
+
+lt_no : (m n : ℕ) → n ≤ m → nat_lt m n ≡ false
+lt_no m n h = grind (arith, common_steps)
+
+lt_yes : (m n : ℕ) → m < n → nat_lt m n ≡ true
+lt_yes m n h = grind (arith, common_steps)
+
+and_no : (b : Bool) → (b && false) ≡ false
+and_no true = refl
+and_no false = refl
+
+pub left_yes : (b need : Left) → Covers b need → is_left b need ≡ true
+left_yes b need h = rw (le_yes need.unknown b.unknown h.0, le_yes need.memory b.memory h.1) refl
+
+left_no : (b need : Left) → Lacks b need → is_left b need ≡ false
+left_no b need (inl h) = rw (le_no need.unknown b.unknown h) refl
+left_no b need (inr h) = rw (le_no need.memory b.memory h) (and_no (nat_le need.unknown b.unknown))
+
+true_le : (m n : ℕ) → nat_le m n ≡ true → m ≤ n
+true_le m n h = grind (arith, common_steps)
+
+both_true : (b c : Bool) → (b && c) ≡ true → (b ≡ true) × (c ≡ true)
+both_true true c h = (refl, h)
+both_true false c h = cc
+
+left_true : (b need : Left) → is_left b need ≡ true → Covers b need
+left_true b need h =
+    let t = both_true (nat_le need.unknown b.unknown) (nat_le need.memory b.memory) h in
+    (true_le need.unknown b.unknown t.0, true_le need.memory b.memory t.1)
+
+some_if : {X : Type 0} (b : Bool) (o : Option X) (v : X) → (if b then o else None) ≡ Some v → b ≡ true
+some_if true o v h = refl
+some_if false o v h = cc
+
+pub pays_covers : (b need over : Left) → Pays b need over → Covers b need
+pays_covers b need over h = (omega (arith, h.0), omega (arith, h.1))
+
+none_either : {X : Type 0} (b : Bool) (o : Option X) → o ≡ None → (if b then o else None) ≡ None
+none_either true o h = h
+none_either false o h = refl
+
+plus_assoc : (a b c : Left) → plus a (plus b c) ≡ plus (plus a b) c
+plus_assoc a b c =
+    let slots : a.unknown + (b.unknown + c.unknown) ≡ (a.unknown + b.unknown) + c.unknown = omega arith in
+    let units : a.memory + (b.memory + c.memory) ≡ (a.memory + b.memory) + c.memory = omega arith in
+    rw (slots, units) refl
+
+nothing_plus : (a : Left) → a ≡ plus nothing a
+nothing_plus a =
+    let slots : 0 + a.unknown ≡ a.unknown = omega arith in
+    let units : 0 + a.memory ≡ a.memory = omega arith in
+    rw (slots, units) refl
+
+there-append : (xs ys : List (List ℕ)) → some_there (xs ++ ys) ≡ (some_there xs || some_there ys)
+there-append [] ys = refl
+there-append (x ∷ xs) ys = refl
+
+module _ {X : Type 0} (merged : X → List ℕ → Option X) (cost : List ℕ → Left) where
+  pub message_some : (blank new : X) (left after : Left) (bs : List (List ℕ)) → some_there bs ≡ true → merged_all merged blank bs ≡ Some new → Pays left (cost_all cost bs) after
+      → message_of merged cost blank left bs ≡ Some new
+  message_some blank new left after [] t e p = cc
+  message_some blank new left after (b ∷ bs) t e p = rw (left_yes left (cost_all cost (b ∷ bs)) (pays_covers left (cost_all cost (b ∷ bs)) after p)) e
+
+  pub message_none : (blank : X) (left : Left) (bs : List (List ℕ)) → Lacks left (cost_all cost bs) ⊎ (merged_all merged blank bs ≡ None) → message_of merged cost blank left bs ≡ None
+  message_none blank left [] h = refl
+  message_none blank left (b ∷ bs) (inl h) = rw (left_no left (cost_all cost (b ∷ bs)) h) refl
+  message_none blank left (b ∷ bs) (inr h) = none_either (is_left left (cost_all cost (b ∷ bs))) (merged_all merged blank (b ∷ bs)) h
+
+  no_text : (blank : X) (left : Left) (bs : List (List ℕ)) → false ≡ some_there bs → message_of merged cost blank left bs ≡ None
+  no_text blank left [] h = refl
+  no_text blank left (b ∷ bs) h = cc
+
+  -- the answer after merging is the message of the texts
+  pub answers : (blank new : X) (left after : Left) (bs : List (List ℕ)) (r : Result Bool DecodeError) (o : Option X)
+      → IsAllMerged merged cost bs blank left r new after → IsAnswer r new o → o ≡ message_of merged cost blank left bs
+  answers blank new left after bs (Ok true) o m a = a ∙ sym (message_some blank new left after bs (sym m.0) m.1 m.2)
+  answers blank new left after bs (Ok false) o m a = a ∙ sym (no_text blank left bs m.0)
+  answers blank new left after bs (Err e) o m a = a.0 ∙ sym (message_none blank left bs (m.1 a.1))
+
+  pub leaves : (blank new : X) (left after : Left) (bs : List (List ℕ)) (r : Result Bool DecodeError) (o : Option X)
+      → IsAllMerged merged cost bs blank left r new after → IsAnswer r new o → LeavesOf (message_of merged cost blank left bs) left (cost_all cost bs) after
+  leaves blank new left after bs (Ok true) o m a = subst (λ x. LeavesOf x left (cost_all cost bs) after) (sym (message_some blank new left after bs (sym m.0) m.1 m.2)) m.2
+  leaves blank new left after bs (Ok false) o m a = subst (λ x. LeavesOf x left (cost_all cost bs) after) (sym (no_text blank left bs m.0)) (omega (arith, m.2), omega (arith, m.2), omega (arith, m.2), omega (arith, m.2))
+  leaves blank new left after bs (Err e) o m a = subst (λ x. LeavesOf x left (cost_all cost bs) after) (sym (message_none blank left bs (m.1 a.1))) m.0
+
+  spent_by : (o : Option X) (b need left : Left) → LeavesOf o b need left → Covers b left
+  spent_by (Some v) b need left h = (omega (arith, h), omega (arith, h))
+  spent_by None b need left h = (omega (arith, h), omega (arith, h))
+
+  pub spent : (blank : X) (b left : Left) (bs : List (List ℕ)) → LeavesOf (message_of merged cost blank b bs) b (cost_all cost bs) left → Covers b left
+  spent blank b left bs h = spent_by (message_of merged cost blank b bs) b (cost_all cost bs) left h
+
+  pub spent_cost : (blank v : X) (b left : Left) (bs : List (List ℕ)) → message_of merged cost blank b bs ≡ Some v → LeavesOf (message_of merged cost blank b bs) b (cost_all cost bs) left → Pays b (cost_all cost bs) left
+  spent_cost blank v b left bs e h = subst (λ x. LeavesOf x b (cost_all cost bs) left) e h
+
+  -- what is read as a message costs no more than is left
+  pub within : (blank v : X) (left : Left) (bs : List (List ℕ)) → message_of merged cost blank left bs ≡ Some v → Covers left (cost_all cost bs)
+  within blank v left [] e = cc
+  within blank v left (b ∷ bs) e = left_true left (cost_all cost (b ∷ bs)) (some_if (is_left left (cost_all cost (b ∷ bs))) (merged_all merged blank (b ∷ bs)) v e)
+
+  -- ---- texts one after the other
+
+  then_merged : (ys : List (List ℕ)) (xs : List (List ℕ)) (o : Option X)
+      → ((w : X) → merged_all merged w (xs ++ ys) ≡ option_and_then (λ v. merged_all merged v ys) (merged_all merged w xs))
+      → option_and_then (λ w. merged_all merged w (xs ++ ys)) o ≡ option_and_then (λ v. merged_all merged v ys) (option_and_then (λ w. merged_all merged w xs) o)
+  then_merged ys xs None again = refl
+  then_merged ys xs (Some w) again = again w
+
+  pub merged-append : (xs ys : List (List ℕ)) (old : X) → merged_all merged old (xs ++ ys) ≡ option_and_then (λ v. merged_all merged v ys) (merged_all merged old xs)
+  merged-append [] ys old = refl
+  merged-append (x ∷ xs) ys old = then_merged ys xs (merged old x) (merged-append xs ys)
+
+  pub cost-append : (xs ys : List (List ℕ)) → cost_all cost (xs ++ ys) ≡ plus (cost_all cost xs) (cost_all cost ys)
+  cost-append [] ys = nothing_plus (cost_all cost ys)
+  cost-append (x ∷ xs) ys = ap (plus (cost x)) (cost-append xs ys) ∙ plus_assoc (cost x) (cost_all cost xs) (cost_all cost ys)
+
+  merged_both : (xs ys : List (List ℕ)) (old mid : X) → merged_all merged old xs ≡ Some mid → merged_all merged old (xs ++ ys) ≡ merged_all merged mid ys
+  merged_both xs ys old mid e = merged-append xs ys old ∙ ap (option_and_then (λ v. merged_all merged v ys)) e
+
+  -- more texts after those that are merged
+  pub merged_more : (xs ys : List (List ℕ)) (old mid new : X) (f g h : Bool) (b m a : Left) → h ≡ (f || g)
+      → IsAllMerged merged cost xs old b (Ok f) mid m → IsAllMerged merged cost ys mid m (Ok g) new a → IsAllMerged merged cost (xs ++ ys) old b (Ok h) new a
+  merged_more xs ys old mid new f g h b m a e p q = (
+    e ∙ ap (λ x. x || g) p.0 ∙ ap (λ y. some_there xs || y) q.0 ∙ sym (there-append xs ys),
+    merged_both xs ys old mid p.1 ∙ q.1,
+    subst (λ c. Pays b c a) (sym (cost-append xs ys)) (omega (arith, p.2, q.2), omega (arith, p.2, q.2)),
+  )
+
+  none_then : (zs : List (List ℕ)) (o : Option X) → o ≡ None → option_and_then (λ v. merged_all merged v zs) o ≡ None
+  none_then zs o h = ap (option_and_then (λ v. merged_all merged v zs)) h
+
+  still : (xs ys zs : List (List ℕ)) (old mid : X) (b m : Left) → merged_all merged old xs ≡ Some mid → Pays b (cost_all cost xs) m
+      → Lacks m (cost_all cost ys) ⊎ (merged_all merged mid ys ≡ None)
+      → Lacks b (plus (cost_all cost xs) (plus (cost_all cost ys) (cost_all cost zs))) ⊎ (merged_all merged old (xs ++ (ys ++ zs)) ≡ None)
+  still xs ys zs old mid b m e p (inl (inl h)) = inl (inl (omega (arith, p, h)))
+  still xs ys zs old mid b m e p (inl (inr h)) = inl (inr (omega (arith, p, h)))
+  still xs ys zs old mid b m e p (inr h) = inr (merged_both xs (ys ++ zs) old mid e ∙ merged-append ys zs mid ∙ none_then zs (merged_all merged mid ys) h)
+
+  -- a fault after those that are merged, whatever follows
+  pub merged_fault : (xs ys zs all : List (List ℕ)) (old mid new : X) (f : Bool) (e : DecodeError) (b m a : Left) → all ≡ xs ++ (ys ++ zs)
+      → IsAllMerged merged cost xs old b (Ok f) mid m → IsAllMerged merged cost ys mid m (Err e) new a → IsAllMerged merged cost all old b (Err e) new a
+  merged_fault xs ys zs all old mid new f e b m a cut p q =
+      let costs : cost_all cost all ≡ plus (cost_all cost xs) (plus (cost_all cost ys) (cost_all cost zs)) =
+      ap (cost_all cost) cut ∙ cost-append xs (ys ++ zs) ∙ ap (plus (cost_all cost xs)) (cost-append ys zs) in (
+        subst (λ c. PaysAtMost b c a) (sym costs) (omega (arith, p.2, q.0), omega (arith, p.2, q.0), omega (arith, p.2, q.0), omega (arith, p.2, q.0)),
+        λ ne. subst (λ c. Lacks b c ⊎ (merged_all merged old all ≡ None)) (sym costs)
+            (subst (λ l. Lacks b (plus (cost_all cost xs) (plus (cost_all cost ys) (cost_all cost zs))) ⊎ (merged_all merged old l ≡ None)) (sym cut) (still xs ys zs old mid b m p.1 p.2 (q.1 ne))),
+      )
+
+  -- one record, read back
+  pub one_back : (held : Datum → Option (List ℕ)) (blank v : X) (b : Left) (d : Datum) (t : List ℕ) → held d ≡ Some t → merged blank t ≡ Some v
+      → Covers b (cost_all cost (texts_in held (d ∷ []))) → message_of merged cost blank b (texts_in held (d ∷ [])) ≡ Some v
+  one_back held blank v b d t h e k =
+      let same : texts_in held (d ∷ []) ≡ t ∷ [] = ap (λ o. cons_option o []) h in
+      ap (message_of merged cost blank b) same
+      ∙ ap (λ c. if c then merged_all merged blank (t ∷ []) else None) (left_yes b (cost_all cost (t ∷ [])) (subst (λ l. Covers b (cost_all cost l)) same k))
+      ∙ ap (option_and_then (λ w. merged_all merged w [])) e
+
+some_none : {A P : Type 0} (x : A) → Some x ≡ None → P
+some_none x h = cc
+
+-- ---- texts
+
+refusal_by : {A : Type 0} (b : Bool) (o : Option A) (e : A) → (if b then o else Some e) ≡ None → o ≡ None
+refusal_by true o e h = h
+refusal_by false o e h = cc
+
+pub held_too : (refusal : List ℕ → Option EncodeError) (t : List ℕ) → text_refusal refusal t ≡ None → refusal t ≡ None
+held_too refusal t h = refusal_by (nat_lt (length t) (2 ^ 31)) (refusal t) MessageTooLarge h
+
+pub small_refusal : (refusal : List ℕ → Option EncodeError) (t : List ℕ) → length t < 2 ^ 31 → text_refusal refusal t ≡ refusal t
+small_refusal refusal t h = ap (λ c. if c then refusal t else Some MessageTooLarge) (lt_yes (length t) (2 ^ 31) h)
+
+pub large_refusal : (refusal : List ℕ → Option EncodeError) (t : List ℕ) → 2 ^ 31 ≤ length t → text_refusal refusal t ≡ Some MessageTooLarge
+large_refusal refusal t h = ap (λ c. if c then refusal t else Some MessageTooLarge) (lt_no (length t) (2 ^ 31) h)
+
+-- ---- groups
+
+group_by : (rs : List (ℕ × Datum)) (r : Result (List (ℕ × Datum)) DecodeError) → list_at 100 1000000 (W rs) ≡ r → Fits (records_of rs) → why_refused r ≡ None
+    → group_held (group (records_of (or_none r))) ≡ Some (W rs)
+group_by rs (Ok qs) e f h =
+    let read = agree_ok (list_at 100 1000000 (W rs)) qs (list_is_read 100 1000000 (W rs)) e in
+    let parse = text_parses (records_of rs) (records_height (records_of rs)) f (omega arith) in
+    ap (λ x. Some (records_text x)) (sym (one_reading (W rs) (records_height (records_of rs)) 100 (records_of rs) (records_of qs) parse read.0))
+group_by rs (Err g) e f h = some_none (GroupRefused g) h
+
+-- the group of a text holds it
+pub group_back : (rs : List (ℕ × Datum)) → Fits (records_of rs) → group_refusal (W rs) ≡ None → group_held (group_of (W rs)) ≡ Some (W rs)
+group_back rs f h = group_by rs (list_at 100 1000000 (W rs)) refl f h
+
+-- what a message's record is read as
+pub message_back : {X : Type 0} (merged : ℕ → X → List ℕ → Option X) (cost : ℕ → List ℕ → Left) (held : Datum → Option (List ℕ)) (holder : List ℕ → Datum) (refusal : List ℕ → Option EncodeError)
+    (blank : X) (text : X → List ℕ) (records : X → List (ℕ × Datum)) (levels : X → ℕ) (normal : X → Type 0)
+    → ((v : X) → text v ≡ W (records v))
+    → ((d : ℕ) (v : X) → Fits (records_of (records v)) → normal v → levels v ≤ d → merged d blank (text v) ≡ Some v)
+    → ((rs : List (ℕ × Datum)) → Fits (records_of rs) → refusal (W rs) ≡ None → held (holder (W rs)) ≡ Some (W rs))
+    → (v : X) (b : Left) → text_refusal refusal (text v) ≡ None → normal v × (levels v ≤ 100) × Fits (records_of (records v))
+    → Covers b (cost_all (cost 100) (texts_in held (holder (text v) ∷ []))) → message_of (merged 100) (cost 100) blank b (texts_in held (holder (text v) ∷ [])) ≡ Some v
+message_back merged cost held holder refusal blank text records levels normal is_text back kept v b f n k =
+    let same = is_text v in
+    one_back (merged 100) (cost 100) held blank v b (holder (text v)) (text v)
+    (subst (λ t. held (holder t) ≡ Some t) (sym same) (kept (records v) n.2 (subst (λ t. refusal t ≡ None) same (held_too refusal (text v) f))))
+    (back 100 v n.2 n.0 n.1) k

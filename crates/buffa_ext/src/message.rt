@@ -1,0 +1,202 @@
+//! Codecs of messages: all records of the right kind, merged in order.
+
+ghost use Rattle.std.specs.Prelude.{◌≡◌, ◌≤◌, ℕ, List, [], ◌∷◌, Option, Some, None, option_map, IfOk};
+ghost use Rattle.std.proofs.Common.{◌∙◌};
+ghost use Rattle.buffa_wire.specs.Left.{Left};
+ghost use Rattle.buffa_wire.specs.Parse.{Fits};
+ghost use Rattle.buffa_wire.specs.Records.{records_of};
+ghost use Rattle.buffa_codec.specs.Reading.{Covers, full};
+ghost use Rattle.buffa_codec.specs.Sub.{sub};
+ghost use Rattle.buffa_ext.specs.Messages.{IsAllMerged, IsAnswer, LeavesOf, cost_all, message_of, text_refusal, texts_in};
+ghost use Rattle.buffa_ext.specs.MessageFacts.{message_back, spent, spent_cost};
+
+use crate::record::{Delimited, Grouped, MessageRecord};
+use buffa_codec::{ExtensionCodec, SingularCodec};
+use buffa_wire::{
+    Budget, DEFAULT_UNKNOWN_FIELD_LIMIT, DecodeContext, DecodeError, EncodeError, Message,
+    RECURSION_LIMIT, UnknownField, UnknownFieldData, UnknownFields,
+};
+use std::alloc::{AllocError, Global};
+use std::marker::PhantomData;
+
+/// A message, whose text is the bytes of a record.
+///
+/// ```ignore
+/// let point = MessageCodec::<Point>::decode(alloc, 7, &fields)?;
+/// ```
+pub type MessageCodec<M> = MessageIn<Delimited, M>;
+
+/// A message, whose text is that of a group's records.
+///
+/// ```ignore
+/// let point = GroupCodec::<Point>::decode(alloc, 7, &fields)?;
+/// ```
+pub type GroupCodec<M> = MessageIn<Grouped, M>;
+
+/// A message in records of one kind. All of a number are merged in order, under one pair of default budgets.
+pub struct MessageIn<K, M> {
+    kind: PhantomData<K>,
+    of: PhantomData<M>,
+}
+
+// The message, where a text was there; none after a fault, but for want of memory.
+fn answer<M: Message>(
+    merged: Result<bool, DecodeError>,
+    message: M,
+) -> Result<Option<M>, AllocError>
+    ensures { IfOk result (λ o. IsAnswer merged (M.meaning message) (option_map M.meaning o)) }
+{
+    match merged {
+        Ok(true) => Ok(Some(message)),
+        Ok(false) => Ok(None),
+        Err(DecodeError::OutOfMemory) => Err(AllocError),
+        Err(_) => Ok(None),
+    }
+}
+
+impl<K: MessageRecord, M: Message> SingularCodec for MessageIn<K, M> {
+    type Value = M;
+
+    ghost one = { λ depth b d. message_of (M.merged depth) (M.cost depth) M.blank_is b (texts_in K.held (d ∷ [])) };
+
+    ghost leaves = { λ depth b d.
+        let texts = texts_in K.held (d ∷ []) in
+        LeavesOf (message_of (M.merged depth) (M.cost depth) M.blank_is b texts) b (cost_all (M.cost depth) texts) };
+
+    ghost packed = { λ bs. [] };
+
+    ghost text = { λ v. K.holder (M.text v) };
+
+    ghost refusal = { λ v. text_refusal K.refusal (M.text v) };
+
+    ghost fits = { λ v. text_refusal K.refusal (M.text v) ≡ None };
+
+    ghost normal = { λ v. M.normal v × (M.levels v ≤ 100) × Fits (records_of (M.records v)) };
+
+    ghost back = { λ v. v };
+
+    ghost cost = { λ d. cost_all (M.cost 100) (texts_in K.held (d ∷ [])) };
+
+    ghost never_fails = { ⊥ };
+
+    fn decode_one(alloc: Global, payload: &UnknownFieldData) -> Result<Option<M>, AllocError> {
+        let mut budget = Budget::new(DEFAULT_UNKNOWN_FIELD_LIMIT);
+        let ctx = DecodeContext {
+            depth: RECURSION_LIMIT,
+            budget: &mut budget,
+        };
+        Self::decode_one_ctx(alloc, payload, ctx)
+    }
+
+    fn decode_one_ctx(
+        alloc: Global,
+        payload: &UnknownFieldData,
+        ctx: DecodeContext<'_>,
+    ) -> Result<Option<M>, AllocError> {
+        let DecodeContext { depth, budget } = ctx;
+        let mut message = M::blank(alloc);
+        let lent = DecodeContext {
+            depth,
+            budget: &mut *budget,
+        };
+        let merged = K::merge_in(alloc, payload, &mut message, lent);
+        answer(merged, message)
+    }
+
+    fn decode_packed(_bytes: &[u8], _out: &mut Vec<M>) -> Result<(), AllocError> {
+        Ok(())
+    }
+
+    fn try_encode_one(alloc: Global, value: &M) -> Result<UnknownFieldData, EncodeError> {
+        let text = value.try_encode_to_vec(alloc)?;
+        K::hold(alloc, text)
+    }
+
+    ghost reads_text = { λ v b f n h.
+        message_back M.merged M.cost K.held K.holder K.refusal M.blank_is M.text M.records M.levels M.normal
+        M.MessageSpec.text_records M.MessageSpec.merged_text K.MessageRecord.held_back v b f n h };
+
+    ghost spends_cost = { λ b left d v e h. spent_cost (M.merged 100) (M.cost 100) M.blank_is v b left (texts_in K.held (d ∷ [])) e h };
+
+    ghost spends = { λ b left d h. spent (M.merged 100) (M.cost 100) M.blank_is b left (texts_in K.held (d ∷ [])) h };
+}
+
+// Merges the texts in all records of the number, and tells whether there is one.
+fn merge_number<K: MessageRecord, M: Message>(
+    alloc: Global,
+    number: u32,
+    fields: &UnknownFields,
+    budget: &mut Budget,
+    message: &mut M,
+) -> Result<bool, DecodeError>
+    ensures { IsAllMerged (M.merged 100) (M.cost 100) (texts_in K.held (sub number fields.now.records))
+        (M.meaning message.old) budget.old result (M.meaning message.new) budget.new }
+{
+    let mut found = false;
+    for field in fields.iter().as_slice() {
+        if field.number == number {
+            let lent = DecodeContext {
+                depth: RECURSION_LIMIT,
+                budget: &mut *budget,
+            };
+            match K::merge_in(alloc, &field.payload, message, lent) {
+                Ok(here) => found |= here,
+                Err(error) => return Err(error),
+            }
+        }
+    }
+    Ok(found)
+}
+
+impl<K: MessageRecord, M: Message> ExtensionCodec for MessageIn<K, M> {
+    type Value = M;
+
+    type Output = Option<M>;
+
+    ghost Meaning = { M.Meaning };
+
+    ghost Answer = { Option M.Meaning };
+
+    ghost meaning = { M.meaning };
+
+    ghost answer = { option_map M.meaning };
+
+    ghost reads = { λ ds o. o ≡ message_of (M.merged 100) (M.cost 100) M.blank_is full (texts_in K.held ds) };
+
+    ghost recs = { λ v. K.holder (M.text v) ∷ [] };
+
+    ghost refusal = { λ v. text_refusal K.refusal (M.text v) };
+
+    ghost fits = { λ v. text_refusal K.refusal (M.text v) ≡ None };
+
+    ghost normal = { λ v. ⟦<MessageIn<K, M> as SingularCodec>⟧.normal v
+        × Covers full (⟦<MessageIn<K, M> as SingularCodec>⟧.cost (K.holder (M.text v))) };
+
+    ghost holds = { λ v o. o ≡ Some v };
+
+    ghost never_fails = { ⊥ };
+
+    fn decode(alloc: Global, number: u32, fields: &UnknownFields) -> Result<Option<M>, AllocError> {
+        let mut budget = Budget::new(DEFAULT_UNKNOWN_FIELD_LIMIT);
+        let mut message = M::blank(alloc);
+        let merged = merge_number::<K, M>(alloc, number, fields, &mut budget, &mut message);
+        answer(merged, message)
+    }
+
+    fn try_encode(
+        alloc: Global,
+        number: u32,
+        value: M,
+        fields: &mut UnknownFields,
+    ) -> Result<(), EncodeError> {
+        let payload = <Self as SingularCodec>::encode_one(alloc, &value)?;
+        let Ok(()) = fields.push(UnknownField { number, payload }) else {
+            return Err(EncodeError::OutOfMemory);
+        };
+        Ok(())
+    }
+
+    ghost reads_back = { λ v o f n h.
+        h ∙ message_back M.merged M.cost K.held K.holder K.refusal M.blank_is M.text M.records M.levels M.normal
+        M.MessageSpec.text_records M.MessageSpec.merged_text K.MessageRecord.held_back v full f n.0 n.1 };
+}

@@ -1,0 +1,135 @@
+//! How records hold the texts of messages: in bytes, or as a group.
+
+ghost use Rattle.std.specs.Prelude.{◌≡◌, ℕ, List, [], ◌∷◌, Option, Some, None, IfOk, refl};
+ghost use Rattle.buffa_bytes.specs.declared.error.EncodeError.{EncodeError};
+ghost use Rattle.buffa_wire.specs.Left.{left_in};
+ghost use Rattle.buffa_wire.specs.Parse.{Fits};
+ghost use Rattle.buffa_wire.specs.Records.{Datum, bytes, records_of};
+ghost use Rattle.buffa_wire.specs.Text.{W};
+ghost use Rattle.buffa_wire.specs.View.{datum_of};
+ghost use Rattle.buffa_codec.specs.Reading.{Refuses, bytes_held};
+ghost use Rattle.buffa_ext.specs.Messages.{IsAllMerged, group_held, group_of, group_refusal, texts_in};
+ghost use Rattle.buffa_ext.specs.MessageFacts.{group_back};
+
+use buffa_wire::{
+    DecodeContext, DecodeError, EncodeError, Message, UnknownFieldData, UnknownFields,
+};
+use std::alloc::Global;
+
+/// How records of one kind hold the texts of messages.
+pub trait MessageRecord {
+    /// The text in a record of this kind.
+    ghost held: { Datum → Option (List ℕ) };
+
+    /// The record of a text.
+    ghost holder: { List ℕ → Datum };
+
+    /// Why no record holds a text, memory aside.
+    ghost refusal: { List ℕ → Option EncodeError };
+
+    /// Merges the text in a record of this kind, at the context's depth, and tells whether there is one.
+    ///
+    /// # Errors
+    /// Those of [`Message::merge`].
+    fn merge_in<M: Message>(
+        alloc: Global,
+        payload: &UnknownFieldData,
+        message: &mut M,
+        ctx: DecodeContext<'_>,
+    ) -> Result<bool, DecodeError>
+        ensures { IsAllMerged (M.merged ctx.entry.depth) (M.cost ctx.entry.depth) (texts_in held (datum_of payload.now ∷ []))
+            (M.meaning message.old) ctx.entry.budget.now result (M.meaning message.new) (left_in ctx.exit) };
+
+    /// The record of a text.
+    ///
+    /// # Errors
+    /// Why no record holds it, or want of memory.
+    fn hold(alloc: Global, text: Vec<u8>) -> Result<UnknownFieldData, EncodeError>
+        ensures record { IfOk result (λ d. datum_of d ≡ holder text.items) }
+        ensures refused { Refuses result (refusal text.items) };
+
+    /// The record of a text holds it.
+    ghost held_back: { (rs : _) → Fits (records_of rs) → refusal (W rs) ≡ None → held (holder (W rs)) ≡ Some (W rs) };
+}
+
+/// A length-delimited record, whose bytes are the text.
+pub struct Delimited;
+
+impl MessageRecord for Delimited {
+    ghost held = { bytes_held };
+
+    ghost holder = { bytes };
+
+    ghost refusal = { λ t. None };
+
+    fn merge_in<M: Message>(
+        alloc: Global,
+        payload: &UnknownFieldData,
+        message: &mut M,
+        ctx: DecodeContext<'_>,
+    ) -> Result<bool, DecodeError> {
+        let DecodeContext { depth, budget } = ctx;
+        let UnknownFieldData::LengthDelimited(text) = payload else {
+            return Ok(false);
+        };
+        let lent = DecodeContext {
+            depth,
+            budget: &mut *budget,
+        };
+        match message.merge(alloc, text.as_slice(), lent) {
+            Ok(()) => Ok(true),
+            Err(error) => Err(error),
+        }
+    }
+
+    fn hold(_alloc: Global, text: Vec<u8>) -> Result<UnknownFieldData, EncodeError> {
+        Ok(UnknownFieldData::LengthDelimited(text))
+    }
+
+    ghost held_back = { λ rs f h. refl };
+}
+
+/// A group, whose records' text is the text.
+pub struct Grouped;
+
+impl MessageRecord for Grouped {
+    ghost held = { group_held };
+
+    ghost holder = { group_of };
+
+    ghost refusal = { group_refusal };
+
+    fn merge_in<M: Message>(
+        alloc: Global,
+        payload: &UnknownFieldData,
+        message: &mut M,
+        ctx: DecodeContext<'_>,
+    ) -> Result<bool, DecodeError> {
+        let DecodeContext { depth, budget } = ctx;
+        let UnknownFieldData::Group(fields) = payload else {
+            return Ok(false);
+        };
+        let mut text = Vec::new(alloc);
+        let Ok(()) = fields.write_to(&mut text) else {
+            return Err(DecodeError::OutOfMemory);
+        };
+        let lent = DecodeContext {
+            depth,
+            budget: &mut *budget,
+        };
+        match message.merge(alloc, text.as_slice(), lent) {
+            Ok(()) => Ok(true),
+            Err(error) => Err(error),
+        }
+    }
+
+    fn hold(alloc: Global, text: Vec<u8>) -> Result<UnknownFieldData, EncodeError> {
+        match UnknownFields::decode_from_slice(alloc, text.as_slice()) {
+            Ok(fields) => Ok(UnknownFieldData::Group(fields)),
+            Err(DecodeError::OutOfMemory) => Err(EncodeError::OutOfMemory),
+            Err(error) => Err(EncodeError::GroupRefused(error)),
+        }
+    }
+
+    ghost held_back = { group_back };
+}
