@@ -87,5 +87,5 @@ impl<C: LastWins> ExtensionCodec for C {
 
     ghost reads_back = { λ v o f n h.
         last_of_one (C.one 100 full) (C.text v) (C.back v) o
-            (C.SingularCodec.reads_text v full f n (C.LastWins.covered v)) h };
+        (C.SingularCodec.reads_text v full f n (C.LastWins.covered v)) h };
 }

@@ -47,8 +47,7 @@ pub fn lists_stay_within_a_budget<C: SingularCodec>()
 pub fn enums_are_read_as_numbers<E: Enumeration>()
     ensures one { LastThrough (open_number E.of_number) (⟦<Int32 as SingularCodec>⟧.one 100 full)
         (⟦<EnumCodec<E> as SingularCodec>⟧.one 100 full) }
-    ensures lists { ListsThrough (open_number E.of_number) ⟦<Repeated<Int32> as
-        ExtensionCodec>⟧.reads ⟦<Repeated<EnumCodec<E>> as ExtensionCodec>⟧.reads }
+    ensures lists { ListsThrough (open_number E.of_number) ⟦<Repeated<Int32> as ExtensionCodec>⟧.reads ⟦<Repeated<EnumCodec<E>> as ExtensionCodec>⟧.reads }
     ensures records { (v : Bool × ℤ) → ⟦<EnumCodec<E> as ExtensionCodec>⟧.recs v
         ≡ ⟦<Int32 as ExtensionCodec>⟧.recs v.1 }
 {}

@@ -162,7 +162,7 @@ pub trait ExtensionSet {
         requires callable { D.can_declare ext.now.default }
         ensures { IfOk result (λ v. let records = sub ext.now.number (fields_of self.now).records in
             IsDefaulted (λ o. C.reads records (C.answer o)) (D.may_declare ext.now.default) (V.meaning v
-                ≡ V.blank_is) v) }
+            ≡ V.blank_is) v) }
     {
         if let Some(value) = self.extension(alloc, ext)? {
             return Ok(value);

@@ -43,7 +43,7 @@ module _ (d : ℕ) (m : ChildMeaning) where
   entry_no_limit bs e rest (t, v, is) f h l =
       let need = need_of key_reading (child_reading m (λ _. nothing)) d 0 e in
       let u = entry_fair key_reading (child_reading m (λ _. nothing)) d (λ k old c x q. cc) (λ k old c x q. meant_no_limit (merged_in (λ _. m) k old (bytes_in c)) x q)
-          0 0 need bs f (inr (t, e, rest, v, is, inr (omega arith, inr (inl h)))) l in
+      0 0 need bs f (inr (t, e, rest, v, is, inr (omega arith, inr (inl h)))) l in
       let same : u.0 ≡ e = ap (λ z. z.0) (ok_same (sym (delimited_taken bs u.0 u.1 u.2) ∙ delimited_taken bs e rest (t, v, is))) in
       lacks_not need (subst (λ z. Lacks need (plus (need_of key_reading (child_reading m (λ _. nothing)) d 0 z) (slots 0))) same u.3)
 

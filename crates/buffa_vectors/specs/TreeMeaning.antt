@@ -46,7 +46,7 @@ child_field d m t w bs = check_wire 2 LengthDelimited w >>= (λ _. delimited_at 
 abbrev pub tree_field : ℕ → ChildMeaning → FieldReader Grown
 tree_field d m t n w bs =
     if n == 1 then int32_field 1 (with_label t) w bs
-        else (if n == 2 then child_field d m t w bs else skipped_field d t n w bs)
+    else (if n == 2 then child_field d m t w bs else skipped_field d t n w bs)
 
 abbrev pub merged : ℕ → Grown → List ℕ → Option Grown
 merged zero t bs = merged_by (tree_field zero (λ _ _. None)) t bs

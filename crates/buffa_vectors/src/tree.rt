@@ -8,12 +8,8 @@ ghost use Rattle.buffa_map.specs.MessageField.{IsFieldWritten, field_slots};
 ghost use Rattle.buffa_vectors.specs.TreeText.{key_writing, meant, slots, text};
 
 use crate::int32_field::{number_len, write_number};
-use buffa_map::map_codec::{
-    Int32, message_field_len_by, write_message_field_by,
-};
-use buffa_wire::{
-    Blank, EncodeError, EncodeSink, MessageSpec, SizeCache,
-};
+use buffa_map::map_codec::{Int32, message_field_len_by, write_message_field_by};
+use buffa_wire::{Blank, EncodeError, EncodeSink, MessageSpec, SizeCache};
 use std::alloc::Global;
 use std::collections::BTreeMap;
 use std::marker::Model;
