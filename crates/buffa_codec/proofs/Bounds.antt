@@ -1,6 +1,6 @@
 -- The bound on what reading a list spends.
-use Rattle.std.proofs.Common.{◌≡◌, List, [], ◌∷◌, Option, Some, None, refl, arith, subst}
-use Rattle.buffa_wire.specs.BudgetLeft.{BudgetLeft, Pays, nothing, plus}
+use Rattle.std.proofs.Common.{◌≡◌, List, [], ◌∷◌, Option, Some, None, refl, arith}
+use Rattle.buffa_wire.specs.BudgetLeft.{BudgetLeft, Pays, plus}
 use Rattle.buffa_wire.specs.Records.{Datum}
 use Rattle.buffa_codec.specs.Reading.{Covers}
 use Rattle.buffa_codec.specs.Costs.{Costs, cost_if}

@@ -1,7 +1,7 @@
 -- What the bytes of a record are as a string.
-use Rattle.std.proofs.Common.{◌≡◌, ℕ, List, Option, Some, None, true, false, refl, sym, ap, ◌∙◌}
+use Rattle.std.proofs.Common.{◌≡◌, ℕ, List, Some, None, true, false, refl}
 use Rattle.std.specs.Str.{is_utf8}
-use Rattle.buffa_wire.specs.Records.{Datum, bytes}
+use Rattle.buffa_wire.specs.Records.{bytes}
 use Rattle.buffa_codec.specs.Reading.{string_held}
 
 pub held_not : (b : List ℕ) → is_utf8 b ≡ false → None ≡ string_held (bytes b)

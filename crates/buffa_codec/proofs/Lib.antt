@@ -6,3 +6,4 @@ pub mod Joins
 pub mod Turns
 pub mod Lasts
 pub mod Bounds
+pub mod Throughs

@@ -1,11 +1,9 @@
 -- Lists of values, one more at a time.
-use Rattle.std.proofs.Common.{◌≡◌, ℕ, ◌+◌, ◌<◌, List, [], ◌∷◌, ◌++◌, Option, Some, None, Result, Ok, Err, refl, sym, ◌∙◌, ap, map, take, drop, length, get_or, append_assoc, subst, ◌⊎◌, inl, inr}
-use Rattle.std.proofs.lemmas.List.{map-append, append-nil, take_more, take-map, drop_more, take-append-drop}
-use Rattle.buffa_wire.specs.Records.{Datum}
+use Rattle.std.proofs.Common.{◌≡◌, ℕ, ◌+◌, ◌<◌, List, [], ◌∷◌, ◌++◌, Option, Some, None, refl, sym, ◌∙◌, ap, map, take, drop, length, get_or, append_assoc, ◌⊎◌, inl, inr}
+use Rattle.std.proofs.lemmas.List.{map-append, append-nil, take_more, drop_more, take-append-drop}
 use Rattle.buffa_bytes.specs.declared.error.EncodeError.{EncodeError}
-use Rattle.buffa_codec.specs.Sub.{tagged}
 use Rattle.buffa_bytes.specs.declared.error.EncodeError.TheVariants.{OutOfMemory}
-use Rattle.buffa_codec.specs.Reading.{Each, Refuses, first_refusal, joined, packed_record}
+use Rattle.buffa_codec.specs.Reading.{Each, first_refusal, joined}
 
 -- what the first values mean, and what one more means
 pub means_more : {V M : Type 0} (meaning : V → M) (xs : List V) (i : ℕ) (x : V) → i < length xs → x ≡ get_or xs i x

@@ -1,5 +1,5 @@
 -- One turn of a loop over the records.
-use Rattle.std.proofs.Common.{◌≡◌, ◌≢◌, ℕ, ◌+◌, ◌<◌, List, [], ◌∷◌, ◌++◌, Option, Some, None, Bool, true, false, cond, refl, sym, ◌∙◌, ap, map, take, drop, length, get_or, rules, ◌==◌, arith, append_assoc, subst, Result, Ok, Err}
+use Rattle.std.proofs.Common.{◌≡◌, ◌≢◌, ℕ, ◌+◌, ◌<◌, List, [], ◌∷◌, ◌++◌, Option, true, false, cond, refl, sym, ◌∙◌, ap, map, take, drop, length, get_or, ◌==◌, arith, append_assoc, subst, Result, Ok, Err}
 use Rattle.std.proofs.lemmas.Grind.{common_steps}
 use Rattle.std.proofs.lemmas.List.{map-append, append-nil, take_more, take-map, take-append-drop}
 use Rattle.std.specs.Result.{OnErr}

@@ -4,3 +4,4 @@ pub mod Reading
 pub mod Texts
 pub mod PackedFacts
 pub mod Costs
+pub mod Through

@@ -1,8 +1,8 @@
 -- The records of a number after changes.
-use Rattle.std.proofs.Common.{◌≡◌, ◌≢◌, ℕ, ◌+◌, ◌<◌, List, [], ◌∷◌, ◌++◌, Option, Some, None, Bool, true, false, cond, refl, sym, ◌∙◌, ap, not, unwrap_or, map, take, length, rules, ◌==◌, arith}
+use Rattle.std.proofs.Common.{◌≡◌, ◌≢◌, ℕ, List, [], ◌∷◌, ◌++◌, Option, Some, None, true, false, cond, refl, sym, ◌∙◌, unwrap_or, ◌==◌, arith}
 use Rattle.std.specs.List.{filter_map, last_or, cons_option}
 use Rattle.std.proofs.lemmas.Grind.{common_steps}
-use Rattle.std.proofs.lemmas.List.{map-append, append-nil, take-map}
+use Rattle.std.proofs.lemmas.List.{append-nil}
 use Rattle.buffa_wire.specs.Records.{Datum}
 use Rattle.buffa_codec.specs.Sub.{sub, without, tagged}
 use Rattle.buffa_codec.proofs.Filtered.{sub-append, sub-without_same, sub-without_other, sub-tagged_same, sub-tagged_other}

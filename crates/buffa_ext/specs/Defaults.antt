@@ -1,5 +1,5 @@
 -- Declared defaults.
-use Rattle.std.specs.Prelude.{ℕ, ◌≡◌, ◌⊎◌, Option, Some, None}
+use Rattle.std.specs.Prelude.{◌⊎◌, Option, Some, None}
 
 -- the value is the one that is read, else a declared one, else the blank
 abbrev pub IsDefaulted : {V : Type 0} → (Option V → Type 0) → (Option V → Type 0) → Type 0 → V → Type 0

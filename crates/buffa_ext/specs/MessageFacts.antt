@@ -1,21 +1,20 @@
 -- What merging the texts of records comes to.
-use Rattle.std.proofs.Common.{◌≡◌, ◌≢◌, ℕ, ◌+◌, ◌<◌, ◌≤◌, ◌^◌, Bool, true, false, List, [], ◌∷◌, ◌++◌, ◌&&◌, ◌||◌, nat_le, nat_lt, length, Option, Some, None, Result, Ok, Err, ◌⊎◌, inl, inr, refl, sym, ap, subst, ◌∙◌, arith, if◌then◌else◌}
+use Rattle.std.proofs.Common.{◌≡◌, ℕ, ◌+◌, ◌<◌, ◌≤◌, ◌^◌, Bool, true, false, List, [], ◌∷◌, ◌++◌, ◌&&◌, ◌||◌, nat_le, nat_lt, length, Option, Some, None, Result, Ok, Err, ◌⊎◌, inl, inr, refl, sym, ap, subst, ◌∙◌, arith, if◌then◌else◌}
 use Rattle.std.proofs.lemmas.Grind.{common_steps}
 use Rattle.std.specs.Option.{option_and_then}
-use Rattle.std.specs.List.{filter_map, cons_option}
+use Rattle.std.specs.List.{cons_option}
 use Rattle.buffa_bytes.specs.declared.error.DecodeError.{DecodeError}
 use Rattle.buffa_bytes.specs.declared.error.EncodeError.{EncodeError}
 use Rattle.buffa_bytes.specs.declared.error.EncodeError.TheVariants.{GroupRefused, MessageTooLarge}
 use Rattle.buffa_bytes.proofs.StepLemmas.{agree_ok}
 use Rattle.buffa_wire.specs.BudgetLeft.{BudgetLeft, Lacks, Pays, PaysAtMost, nothing, plus}
-use Rattle.buffa_wire.specs.Message.{IsMerged}
-use Rattle.buffa_wire.specs.Parse.{Fits, Parse}
+use Rattle.buffa_wire.specs.Parse.{Fits}
 use Rattle.buffa_wire.specs.RecordReading.{list_at}
 use Rattle.buffa_wire.specs.Records.{Datum, group, records_of, records_height}
 use Rattle.buffa_wire.specs.Text.{records_text, fields_text}
 use Rattle.buffa_wire.proofs.LoopLemmas.{list_is_read}
 use Rattle.buffa_wire.proofs.ParseLemmas.{one_reading, text_parses}
-use Rattle.buffa_codec.specs.Reading.{Covers, full}
+use Rattle.buffa_codec.specs.Reading.{Covers}
 use Rattle.buffa_ext.specs.Messages.{LeavesOf, IsAllMerged, IsAnswer, cost_all, group_held, group_of, group_refusal, is_left, merged_all, message_of, or_none, some_there, text_refusal, texts_in, why_refused}
 
 le_yes : (m n : ℕ) → m ≤ n → nat_le m n ≡ true

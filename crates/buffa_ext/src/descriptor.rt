@@ -6,14 +6,22 @@ use buffa_codec::ExtensionCodec;
 use std::alloc::{AllocError, Global};
 use std::marker::PhantomData;
 
-/// A default that a descriptor may declare.
+/// A default that a descriptor may declare: [`NoDefault`], or [`Make`].
+///
+/// ```ignore
+/// let default = ext.declared(alloc)?;
+/// ```
 pub trait Declared<V> {
-    // The default may be asked for.
+    /// The default may be asked for.
     ghost can_declare: { Self → Type 0 };
 
-    // Holds of what the default may be.
+    /// Holds of what the default may be.
     ghost may_declare: { Self → Option V → Type 0 };
 
+    /// The default, made anew, or none.
+    ///
+    /// # Errors
+    /// Where memory runs out.
     fn declared(&self, alloc: Global) -> Result<Option<V>, AllocError>
         requires { can_declare self.now }
         ensures { IfOk result (may_declare self.now) };
@@ -33,7 +41,7 @@ impl<V> Declared<V> for NoDefault {
     }
 }
 
-/// A default that a function makes anew each time.
+/// A default that a function makes anew each time. [`Extension::with_default`] declares it.
 pub struct Make<F> {
     make: F,
 }
@@ -58,7 +66,13 @@ impl<F: Copy> Clone for Make<F> {
 
 impl<F: Copy> Copy for Make<F> {}
 
-/// A number of an extendee, with the codec of its values.
+/// A number of an extendee, with the codec of its values, and its declared default.
+///
+/// Every number is taken; records of number 0, and past 536,870,911, never come from bytes.
+///
+/// ```ignore
+/// let retries = Extension::<Int32>::new(50001, "google.protobuf.MethodOptions");
+/// ```
 pub struct Extension<C: ExtensionCodec, D = NoDefault> {
     pub(crate) number: u32,
     pub(crate) extendee: &'static str,
@@ -81,6 +95,11 @@ impl<C: ExtensionCodec, D: Copy> Clone for Extension<C, D> {
 impl<C: ExtensionCodec, D: Copy> Copy for Extension<C, D> {}
 
 impl<C: ExtensionCodec> Extension<C> {
+    /// An extension of messages of the full name `extendee`, without a default. It takes no memory.
+    ///
+    /// ```ignore
+    /// let retries = Extension::<Int32>::new(50001, "google.protobuf.MethodOptions");
+    /// ```
     pub fn new(number: u32, extendee: &'static str) -> Extension<C>
         ensures number { result.number ≡ number }
         ensures extendee { result.extendee.now ≡ extendee.now }
@@ -95,6 +114,11 @@ impl<C: ExtensionCodec> Extension<C> {
 }
 
 impl<C: ExtensionCodec> Extension<C> {
+    /// The same with a default, which `default` makes each time. It takes no memory here.
+    ///
+    /// ```ignore
+    /// let limit = Extension::<Int32>::with_default(1, "test.Carrier", |_alloc| Ok(7));
+    /// ```
     pub fn with_default<F: Fn(Global) -> Result<C::Value, AllocError> + Copy>(
         number: u32,
         extendee: &'static str,
@@ -115,12 +139,14 @@ impl<C: ExtensionCodec> Extension<C> {
 }
 
 impl<C: ExtensionCodec, D> Extension<C, D> {
+    /// The number of its records. It takes no memory.
     pub fn number(&self) -> u32
         ensures { result ≡ self.now.number }
     {
         self.number
     }
 
+    /// The full name of the messages that it extends. It takes no memory.
     pub fn extendee(&self) -> &'static str
         ensures { result.now ≡ self.now.extendee.now }
     {
@@ -129,6 +155,10 @@ impl<C: ExtensionCodec, D> Extension<C, D> {
 }
 
 impl<C: ExtensionCodec, D: Declared<C::Value>> Extension<C, D> {
+    /// The declared default, made anew, or none.
+    ///
+    /// # Errors
+    /// Where memory runs out.
     pub fn declared(&self, alloc: Global) -> Result<Option<C::Value>, AllocError>
         requires { D.can_declare self.now.default }
         ensures { IfOk result (D.may_declare self.now.default) }

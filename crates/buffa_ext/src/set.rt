@@ -15,26 +15,49 @@ use buffa_codec::ExtensionCodec;
 use buffa_wire::{Blank, EncodeError, UnknownFields};
 use std::alloc::{AllocError, Global};
 
-/// A message that lends its list of unknown fields.
+/// A message that lends its list of unknown fields, whose extensions are read and set there.
+///
+/// An impl gives the list and its name; the calls come with it.
+///
+/// ```ignore
+/// if options.has_extension(&RETRIES) {
+///     let retries = options.extension(alloc, &RETRIES)?;
+/// }
+/// ```
 pub trait ExtensionSet {
+    /// The full name of the message's type, as `google.protobuf.MethodOptions`.
     const PROTO_FQN: &'static str;
 
+    /// The same as bytes.
     ghost fqn: { List ℕ };
 
+    /// The records of its unknown fields.
     ghost fields_of: { Self → Held };
 
+    /// The message with other unknown fields.
     ghost with_fields: { Self → Held → Self };
 
+    /// [`ExtensionSet::PROTO_FQN`].
     fn extendee_name() -> &'static str
         ensures { result.now ≡ fqn };
 
+    /// The unknown fields.
     fn unknown_fields(&self) -> &UnknownFields
         ensures { result.now ≡ fields_of self.now };
 
+    /// The unknown fields, to be changed; the rest of the message stays.
     fn unknown_fields_mut(&mut self) -> &mut UnknownFields
         ensures* lends { sem 𝓛 (Lends Self.row fields_row self.entry result (λ w. with_fields self.old w)) }
         ensures value { result.now ≡ fields_of self.old };
 
+    /// What the records of the number are read as.
+    ///
+    /// # Errors
+    /// Where memory runs out; never with codecs of numbers, whose reading takes none.
+    ///
+    /// ```ignore
+    /// let retries = options.extension(alloc, &RETRIES)?;
+    /// ```
     final fn extension<C: ExtensionCodec, D>(
         &self,
         alloc: Global,
@@ -96,6 +119,11 @@ pub trait ExtensionSet {
         self.try_set_extension(alloc, ext, value)
     }
 
+    /// Takes the records of the number out; the others keep their order. It takes no memory.
+    ///
+    /// ```ignore
+    /// options.clear_extension(&RETRIES);
+    /// ```
     final fn clear_extension<C: ExtensionCodec, D>(&mut self, ext: &Extension<C, D>)
         requires { ext.now.extendee.now ≡ fqn }
         ensures records { IsCleared ext.now.number (fields_of self.old) (fields_of self.new) }
@@ -105,12 +133,26 @@ pub trait ExtensionSet {
         remove(self.unknown_fields_mut(), number);
     }
 
+    /// Whether a record of the number is there, whatever it is read as; never on another extendee. It takes
+    /// no memory.
+    ///
+    /// ```ignore
+    /// let set = options.has_extension(&RETRIES);
+    /// ```
     final fn has_extension<C: ExtensionCodec, D>(&self, ext: &Extension<C, D>) -> bool
         ensures { IsTrue result ↔ ((ext.now.extendee.now ≡ fqn) × HasRecord ext.now.number (fields_of self.now)) }
     {
         ext.extendee() == Self::extendee_name() && has_number(self.unknown_fields(), ext.number())
     }
 
+    /// The value that is read; or else the declared default, made anew; or else the type's.
+    ///
+    /// # Errors
+    /// Where memory runs out.
+    ///
+    /// ```ignore
+    /// let retries = options.extension_or_default(alloc, &RETRIES)?;
+    /// ```
     final fn extension_or_default<
         V: Blank,
         C: ExtensionCodec<Value = V, Output = Option<V>>,
@@ -131,7 +173,9 @@ pub trait ExtensionSet {
         Ok(V::blank(alloc))
     }
 
+    /// The unknown fields that were put in are those.
     ghost fields_of_with: { (m : Self) (w : Held) → fields_of (with_fields m w) ≡ w };
 
+    /// Its own unknown fields change nothing.
     ghost with_fields_of: { (m : Self) → with_fields m (fields_of m) ≡ m };
 }

@@ -15,3 +15,4 @@ pub mod GrownFalls
 pub mod TreeText
 pub mod TreeMeaning
 pub mod RoundTrip
+pub mod TreeLaws

@@ -1,40 +1,65 @@
--- A stand-in: only no bytes mean a tree.
-use Rattle.std.proofs.Common.{◌≡◌, ℕ, ◌<◌, List, [], ◌∷◌, ◌++◌, length, Option, Some, None, refl, sym, ap, ◌∙◌, arith, length-append}
-use Rattle.std.specs.Option.{option_and_then}
-use Rattle.buffa_wire.specs.Field.{SomeField}
-use Rattle.buffa_wire.specs.Join.{Join}
-use Rattle.buffa_wire.specs.Join.Join.{none, more}
+-- What bytes mean to a tree: field 1 is its label, each field 2 puts a child at a key, others are passed over. A child
+-- is read one level deeper, so the depth bounds the steps. Source: the protobuf encoding guide, "Maps".
+use Rattle.std.specs.Prelude.{ℕ, zero, suc, ℤ, pos, ◌==◌, List, Option, None, Result, Ok, if◌then◌else◌}
+use Rattle.std.specs.BTreeMap.{insert_entry}
+use Rattle.std.specs.Ordering.{int_cmp}
+use Rattle.buffa_bytes.specs.declared.error.DecodeError.{DecodeError}
+use Rattle.buffa_bytes.specs.declared.wire_type.WireType.{WireType}
+use Rattle.buffa_bytes.specs.declared.wire_type.WireType.TheVariants.{LengthDelimited, Varint}
+use Rattle.buffa_wire.specs.Gives.{◌>>=◌}
 use Rattle.buffa_wire.specs.BudgetLeft.{BudgetLeft, nothing}
-use Rattle.buffa_wire.specs.Text.{records_text, field_text}
-use Rattle.buffa_wire.specs.Records.{Datum}
-use Rattle.buffa_bytes.proofs.FieldLemmas.{tag_some}
-use Rattle.std.proofs.Common.{append_assoc}
-use Rattle.buffa_vectors.specs.FieldsLaws.{both_records, number_text_records}
-use Rattle.buffa_vectors.specs.Flat.{value_records, value_text}
-use Rattle.buffa_vectors.specs.Grown.{Grown, grown, Kids, no_kids, kid}
-use Rattle.buffa_vectors.specs.TreeText.{text, texts, records, kids_records, kid_record}
+use Rattle.buffa_wire.specs.Reading.{check_wire, delimited_at}
+use Rattle.buffa_wire.specs.Values.{int32_of}
+use Rattle.buffa_wire.specs.WireType.{same_wire}
+use Rattle.buffa_map.specs.Codec.{Reading, need_by}
+use Rattle.buffa_map.specs.Entry.{entry_of, need_of}
+use Rattle.buffa_map.specs.Message.{message_reading}
+use Rattle.buffa_map.specs.Scalars.{number_reading}
+use Rattle.buffa_vectors.specs.Fields.{FieldNeed, FieldReader, cost_by, int32_field, merged_by, skipped_field}
+use Rattle.buffa_vectors.specs.Grown.{Grown, grown, kids, listed, no_kids}
+
+-- what a level below makes of a child, and what it costs there
+abbrev pub ChildMeaning : Type 0
+ChildMeaning = Grown → List ℕ → Option Grown
+
+abbrev pub ChildCost : Type 0
+ChildCost = List ℕ → BudgetLeft
+
+abbrev pub key_reading : Reading ℤ
+key_reading = number_reading Varint (pos 0) int32_of
+
+abbrev pub child_reading : ChildMeaning → ChildCost → Reading Grown
+child_reading m c = message_reading (grown (pos 0) no_kids) (λ _. m) (λ _. c)
+
+abbrev pub with_label : Grown → ℤ → Grown
+with_label (grown l ks) new = grown new ks
+
+-- the tree with a child at a key, in the order of the keys
+abbrev pub with_child : Grown → ℤ → Grown → Grown
+with_child (grown l ks) k t = grown l (kids (insert_entry int_cmp (listed ks) k t))
+
+-- a field of the children
+abbrev pub child_field : ℕ → ChildMeaning → Grown → WireType → List ℕ → Result (Grown × List ℕ) DecodeError
+child_field d m t w bs = check_wire 2 LengthDelimited w >>= (λ _. delimited_at bs >>= (λ e.
+    entry_of key_reading (child_reading m (λ _. nothing)) d e.0 >>= (λ s. Ok (with_child t s.key s.value, e.1))))
+
+abbrev pub tree_field : ℕ → ChildMeaning → FieldReader Grown
+tree_field d m t n w bs =
+    if n == 1 then int32_field 1 (with_label t) w bs
+        else (if n == 2 then child_field d m t w bs else skipped_field d t n w bs)
 
 abbrev pub merged : ℕ → Grown → List ℕ → Option Grown
-merged d t [] = Some t
-merged d t (b ∷ bs) = None
+merged zero t bs = merged_by (tree_field zero (λ _ _. None)) t bs
+merged (suc d) t bs = merged_by (tree_field (suc d) (merged d)) t bs
+
+-- an entry costs the units of a key and of a tree, and what the tree in it costs
+abbrev pub child_need : ℕ → ChildMeaning → ChildCost → WireType → List ℕ → BudgetLeft
+child_need d m c w bs =
+    if same_wire LengthDelimited w then need_by (delimited_at bs) (λ e. need_of key_reading (child_reading m c) d 36 e.0) else nothing
+
+abbrev pub tree_need : ℕ → ChildMeaning → ChildCost → FieldNeed
+tree_need d m c n w bs = if n == 2 then child_need d m c w bs else nothing
 
 abbrev pub cost : ℕ → List ℕ → BudgetLeft
-cost d b = nothing
-
-pub merged_fields : (d : ℕ) (v w : Grown) (b : List ℕ) → merged d v b ≡ Some w → Join (SomeField d) b
-merged_fields d v w [] h = none
-merged_fields d v w (b ∷ bs) h = cc
-
-next_in : (d : ℕ) (v : Grown) (f r : List ℕ) → 0 < length f → merged d v (f ++ r) ≡ option_and_then (λ w. merged d w r) (merged d v f)
-next_in d v [] r h = absurd (omega arith)
-next_in d v (x ∷ f) r h = refl
-
-pub merged_next : (d : ℕ) (v : Grown) (f r : List ℕ) → SomeField d f → merged d v (f ++ r) ≡ option_and_then (λ w. merged d w r) (merged d v f)
-merged_next d v f r (n, w, (t, p, tag, payload, is)) = next_in d v f r (omega (arith, tag_some t n w tag, ap length is, length-append t p))
-
-kids_text : (ks : Kids) → texts ks ≡ records_text (kids_records ks)
-kids_text no_kids = refl
-kids_text (kid k t ks) = ap (λ (z : List ℕ). kid_record k (text t) ++ z) (kids_text ks)
-
-pub text_records : (t : Grown) → text t ≡ records_text (records t)
-text_records (grown l ks) = both_records (value_text l) (texts ks) (value_records l) (kids_records ks) (number_text_records 1 l) (kids_text ks)
+cost zero bs = cost_by (tree_need zero (λ _ _. None) (λ _. nothing)) zero bs
+cost (suc d) bs = cost_by (tree_need (suc d) (merged d) (cost d)) (suc d) bs

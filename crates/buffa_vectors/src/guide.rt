@@ -1,9 +1,13 @@
 //! The worked example of docs/GUIDE.md: a message type with a map field.
 
-use buffa_map::map_codec::{Int32, Map, MapStorage, Str, field_len, merge_entry, write_field};
+use crate::two::TestMsg;
+use buffa_map::map_codec::{
+    Int32, Map, MapStorage, Msg, Str, field_len, merge_entry, message_field_len, read_map_field,
+    write_field, write_message_field,
+};
 use buffa_wire::{
-    Budget, Buf, DecodeContext, DecodeError, EncodeError, EncodeSink, RECURSION_LIMIT, Tag,
-    WireType, check_wire_type, skip_field_depth,
+    Budget, Buf, DecodeContext, DecodeError, EncodeError, EncodeSink, RECURSION_LIMIT, SizeCache,
+    Tag, WireType, check_wire_type, skip_field_depth,
 };
 use std::alloc::Global;
 use std::test::Fail;
@@ -75,5 +79,28 @@ fn a_message_with_a_map_field(rt: HostRuntime) -> Result<(), Fail> {
         0x2A, 0x05, 0x0A, 0x01, 0x61, 0x10, 0x01, 0x2A, 0x05, 0x0A, 0x01, 0x62, 0x10, 0x02,
     ];
     assert_eq!(rt; text.as_slice(), written);
+    Ok(())
+}
+
+#[test]
+fn a_map_field_of_messages(rt: HostRuntime) -> Result<(), Fail> {
+    let mut map: Map<i32, TestMsg> = Map::new(rt.alloc());
+    map.storage_insert(3, TestMsg { a: 5, b: 0 })?;
+    let mut cache = SizeCache::new(rt.alloc());
+    let size = message_field_len::<Int32, TestMsg, _>(&map, 1, &mut cache)?;
+    assert_eq!(rt; size, 8);
+    let mut text = Vec::new(rt.alloc());
+    write_message_field::<Int32, TestMsg, _, _>(&map, 5, &mut cache, &mut text)?;
+    let written: &[u8] = &[0x2A, 0x06, 0x08, 0x03, 0x12, 0x02, 0x08, 0x05];
+    assert_eq!(rt; text.as_slice(), written);
+    let mut read: Map<i32, TestMsg> = Map::new(rt.alloc());
+    let mut budget = Budget::new(0);
+    let mut rest = text.as_slice();
+    let ctx = DecodeContext::new(RECURSION_LIMIT, &mut budget);
+    read_map_field::<Int32, Msg<TestMsg>, _, _>(rt.alloc(), &mut read, 5, &mut rest, ctx, None)?;
+    match read.get(&3) {
+        Some(message) => assert_eq!(rt; (message.a, message.b), (5, 0)),
+        None => assert!(rt; false),
+    }
     Ok(())
 }

@@ -1,8 +1,8 @@
 //! Tests of the crates below, against values that others made.
 //!
 //! [`word`] is a key type of one's own, [`round_trip`] takes a map through its bytes and back, and [`passed_on`]
-//! through a reader that does not know all its values; the rest
-//! are tests.
+//! through a reader that does not know all its values; [`flat`], [`two`], [`count`], [`keep`] and [`tree`] are
+//! messages written by hand; the rest are tests.
 #![tactic(auto)]
 
 #[cfg(test)]

@@ -1,13 +1,15 @@
 //! Entries whose values are messages.
 
 use crate::flat::FlatMsg;
+use crate::keep::BudgetMsg;
 use crate::tree::{Tree, size_tree, write_tree};
 use buffa_map::map_codec::{
     Int32, Map, MapStorage, MapWalk, Msg, StableWalk, merge_entry, message_field_len,
     read_map_field, write_message_field,
 };
 use buffa_wire::{
-    Blank, Budget, DecodeContext, DecodeError, Pieces, RECURSION_LIMIT, SizeCache, WireType,
+    Blank, Budget, DecodeContext, DecodeError, Message, Pieces, RECURSION_LIMIT, SizeCache,
+    WireType,
 };
 use std::alloc::Global;
 use std::collections::BTreeMap;
@@ -181,5 +183,67 @@ fn trees_are_sized_and_written(rt: HostRuntime) -> Result<(), Fail> {
         0x03, 0x12, 0x02, 0x08, 0x05,
     ];
     assert_eq!(rt; text.as_slice(), expected);
+    Ok(())
+}
+
+#[test]
+fn kept_fields_take_slots(rt: HostRuntime) -> Result<(), Fail> {
+    // A varint, and a group of one field.
+    let bytes: &[u8] = &[0x08, 0x05, 0x0B, 0x10, 0x01, 0x0C];
+    let mut message: BudgetMsg = Blank::blank(rt.alloc());
+    let mut budget = Budget::new(3);
+    message.merge(rt.alloc(), bytes, DecodeContext::new(1, &mut budget))?;
+    assert_eq!(rt; budget.unknown_left(), 0);
+    assert_eq!(rt; message.fields.len(), 2);
+    let text = message.try_encode_to_vec(rt.alloc())?;
+    assert_eq!(rt; text.as_slice(), bytes);
+    message.clear(rt.alloc());
+    assert_eq!(rt; message.fields.len(), 0);
+    // The field that was refused spends nothing.
+    let mut budget = Budget::new(2);
+    let answer = message.merge(rt.alloc(), bytes, DecodeContext::new(1, &mut budget));
+    assert_eq!(rt; answer, Err(DecodeError::UnknownFieldLimitExceeded));
+    assert_eq!(rt; budget.unknown_left(), 1);
+    assert_eq!(rt; message.fields.len(), 1);
+    let answer = message.merge(rt.alloc(), bytes, DecodeContext::new(0, &mut budget));
+    assert_eq!(rt; answer, Err(DecodeError::UnknownFieldLimitExceeded));
+    Ok(())
+}
+
+#[test]
+fn messages_in_entries_spend_of_one_budget(rt: HostRuntime) -> Result<(), Fail> {
+    let table: [(usize, &[u8], Result<(), DecodeError>, usize, usize); 4] = [
+        (2, &[0x04, 0x12, 0x02, 0x08, 0x05], Ok(()), 1, 1),
+        (2, &[0x06, 0x12, 0x04, 0x08, 0x05, 0x10, 0x06], Ok(()), 0, 1),
+        (
+            1,
+            &[0x06, 0x12, 0x04, 0x08, 0x05, 0x10, 0x06],
+            Err(DecodeError::UnknownFieldLimitExceeded),
+            0,
+            0,
+        ),
+        (
+            9,
+            &[0x06, 0x12, 0x04, 0x08, 0x05, 0x10, 0x86],
+            Err(DecodeError::UnexpectedEof),
+            8,
+            0,
+        ),
+    ];
+    for (slots, bytes, expected, left, pairs) in table {
+        let mut map: BTreeMap<i32, BudgetMsg> = BTreeMap::new(rt.alloc());
+        let mut budget = Budget::new(slots);
+        let mut rest = bytes;
+        let ctx = DecodeContext::new(2, &mut budget);
+        let answer = merge_entry::<Int32, Msg<BudgetMsg>, _, _>(
+            rt.alloc(),
+            &mut map,
+            &mut rest,
+            ctx,
+        );
+        assert_eq!(rt; answer, expected);
+        assert_eq!(rt; budget.unknown_left(), left);
+        assert_eq!(rt; map.storage_len(), pairs);
+    }
     Ok(())
 }

@@ -1,8 +1,6 @@
 //! A message that holds itself.
 
-ghost use Rattle.std.specs.Prelude.{◌≡◌, pos};
-ghost use Rattle.buffa_wire.specs.Message.{IsMerged};
-ghost use Rattle.buffa_vectors.specs.TreeMeaning.{cost, merged};
+ghost use Rattle.std.specs.Prelude.{pos};
 ghost use Rattle.buffa_wire.specs.Passes.{IsNext, IsSized, IsWritten};
 ghost use Rattle.std.specs.BTreeMap.{values};
 ghost use Rattle.std.specs.List.{Contains};
@@ -11,10 +9,10 @@ ghost use Rattle.buffa_vectors.specs.TreeText.{key_writing, meant, slots, text};
 
 use crate::int32_field::{number_len, write_number};
 use buffa_map::map_codec::{
-    Int32, merge_message_entry_by, message_field_len_by, write_message_field_by,
+    Int32, message_field_len_by, write_message_field_by,
 };
 use buffa_wire::{
-    Blank, Budget, DecodeContext, DecodeError, EncodeError, EncodeSink, MessageSpec, SizeCache,
+    Blank, EncodeError, EncodeSink, MessageSpec, SizeCache,
 };
 use std::alloc::Global;
 use std::collections::BTreeMap;
@@ -64,10 +62,10 @@ impl Blank for Tree {
 }
 
 impl MessageSpec for Tree {
-    ghost use Rattle.std.specs.Prelude.{refl};
     ghost use Rattle.std.proofs.Common.{arith};
     ghost use Rattle.buffa_vectors.specs.TreeText.{levels, records};
-    ghost use Rattle.buffa_vectors.specs.TreeMeaning.{cost, merged, merged_fields, merged_next, text_records};
+    ghost use Rattle.buffa_vectors.specs.TreeLaws.{cost_empty, cost_next, merged_empty, merged_fields, merged_next, text_records};
+    ghost use Rattle.buffa_vectors.specs.TreeMeaning.{cost, merged};
 
     const COST: usize = 32;
 
@@ -93,15 +91,15 @@ impl MessageSpec for Tree {
 
     ghost positive = { omega arith };
 
-    ghost merged_empty = { λ d v. refl };
+    ghost merged_empty = { merged_empty };
 
     ghost merged_fields = { merged_fields };
 
     ghost merged_next = { merged_next };
 
-    ghost cost_empty = { λ d. refl };
+    ghost cost_empty = { cost_empty };
 
-    ghost cost_next = { λ d f r _. refl };
+    ghost cost_next = { cost_next };
 }
 
 // The size pass.
@@ -169,40 +167,4 @@ pub(crate) fn write_tree<S: EncodeSink>(
                 (S.written sink.new) }
         { write_tree(child, cache, sink) },
     )
-}
-
-// A stand-in, as what bytes mean is: it shows that merging recurs through the function that is passed on.
-pub(crate) fn merge_tree(
-    alloc: Global,
-    tree: &mut Tree,
-    bytes: &[u8],
-    depth: u32,
-    budget: &mut Budget,
-) -> Result<(), DecodeError>
-    ensures { IsMerged (merged depth tree.old bytes.now) (cost depth bytes.now) budget.old result tree.new budget.new }
-{
-    let _left = budget.unknown_left();
-    if bytes.is_empty() {
-        return Ok(());
-    }
-    let mut own = Budget::new(0);
-    let mut rest = bytes;
-    let ctx = DecodeContext {
-        depth,
-        budget: &mut own,
-    };
-    let merged = merge_message_entry_by::<Int32, Tree, BTreeMap<i32, Tree>, &[u8], _>(
-        alloc,
-        &mut tree.children,
-        &mut rest,
-        ctx,
-        |child: &mut Tree, bytes: &[u8], depth: u32, budget: &mut Budget| -> Result<(), DecodeError>
-            ensures { IsMerged (merged depth child.old bytes.now) (cost depth bytes.now) budget.old result child.new
-                budget.new }
-        { merge_tree(alloc, child, bytes, depth, budget) },
-    );
-    match merged {
-        Ok(()) => Err(DecodeError::UnexpectedEof),
-        Err(_) => Err(DecodeError::UnexpectedEof),
-    }
 }

@@ -1,4 +1,4 @@
-use Rattle.std.proofs.Common.{sym, ap, ◌∙◌, ◌≢◌, [], refl}
+use Rattle.std.proofs.Common.{ap, ◌∙◌, ◌≢◌, [], refl}
 use Rattle.buffa_wire.specs.View.{records_in}
 use Rattle.buffa_codec.specs.Sub.{sub}
 use Rattle.buffa_codec.proofs.Turns.{one_is_there, none_so_far}

@@ -1,5 +1,4 @@
-use Rattle.std.proofs.Common.{◌≡◌, ◌∷◌, [], ◌++◌, sym, ap, ◌∙◌, append_assoc, arith, length, length-append}
-use Rattle.std.proofs.lemmas.Grind.{common_steps}
+use Rattle.std.proofs.Common.{◌∷◌, [], ◌++◌, sym, ap, ◌∙◌, append_assoc, arith, length-append}
 use Rattle.buffa_ext.specs.Changes.{change_of}
 use Rattle.buffa_ext.proofs.Replays.{replays_one_more}
 use Rattle.buffa_ext.proofs.steps.replay.Goals as goal

@@ -1,4 +1,3 @@
-use Rattle.std.proofs.Common.{◌≡◌, ℕ, List, ◌++◌, ◌∷◌, [], map, length, Ok, Err, refl, sym, ap, ◌∙◌}
 use Rattle.buffa_wire.specs.Content.Content.{number}
 use Rattle.buffa_codec.specs.PackedFacts.{numbers_shorten}
 use Rattle.buffa_codec.proofs.Packs.{packs_more, packs_front, packs_end}

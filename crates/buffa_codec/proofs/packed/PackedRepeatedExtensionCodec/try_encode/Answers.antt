@@ -1,4 +1,4 @@
-use Rattle.std.proofs.Common.{◌≡◌, sym, ap, ◌∙◌, map, take, ◌++◌, ◌∷◌, [], subst}
+use Rattle.std.proofs.Common.{sym, ap, ◌∙◌, map, take, ◌++◌, subst}
 use Rattle.buffa_codec.specs.Reading.{Each, joined}
 use Rattle.buffa_codec.proofs.Turns.{writes_none}
 use Rattle.buffa_codec.proofs.Lists.{means_more, Each-append, joined-append}

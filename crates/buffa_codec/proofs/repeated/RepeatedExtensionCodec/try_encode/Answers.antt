@@ -1,6 +1,6 @@
-use Rattle.std.proofs.Common.{◌≡◌, sym, ap, ◌∙◌, map, take, drop, None, ◌++◌, ◌∷◌, [], ◌+◌, refl, subst}
+use Rattle.std.proofs.Common.{sym, ap, ◌∙◌, map, take, drop, ◌∷◌, [], ◌+◌, refl, subst}
 use Rattle.std.proofs.lemmas.Result.{err_from_is_err_and}
-use Rattle.buffa_wire.specs.View.{datum_of, record_of}
+use Rattle.buffa_wire.specs.View.{datum_of}
 use Rattle.buffa_codec.specs.Reading.{Each, first_refusal}
 use Rattle.buffa_codec.proofs.Turns.{writes_one_more, writes_front, writes_part}
 use Rattle.buffa_codec.proofs.Lists.{means_more, means_cut, Each-append, first_refusal-append, first_refusal-pass, refused_whole}

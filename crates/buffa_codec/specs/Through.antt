@@ -1,0 +1,12 @@
+-- Readings by way of others, each value turned into another one.
+use Rattle.std.specs.Prelude.{◌≡◌, ◌↔◌, List, map, Option, option_map}
+use Rattle.buffa_wire.specs.Records.{Datum}
+use Rattle.buffa_codec.specs.Reading.{last_read}
+
+-- the last record is read by two as by one, and then turned by f
+abbrev pub LastThrough : {M N : Type 0} → (M → N) → (Datum → Option M) → (Datum → Option N) → Type 0
+LastThrough f one two = (ds : List Datum) → last_read two ds ≡ option_map f (last_read one ds)
+
+-- the same of lists, element by element
+abbrev pub ListsThrough : {M N : Type 0} → (M → N) → (List Datum → List M → Type 0) → (List Datum → List N → Type 0) → Type 0
+ListsThrough {M = M} {N = N} f reads also = (ds : List Datum) (out : List N) → also ds out ↔ ((ms : List M) × reads ds ms × (out ≡ map f ms))
