@@ -13,4 +13,4 @@ returns-in_err-encode g c =
     let old = g.S.EncodeSink.written c.args.sink.now in
     let new = g.S.EncodeSink.written c.encode.new.sink in
     let same : tag_text c.new.result.number c.new.result.wire_type ≡ tag_text 9 Varint = (λ i. tag_text (c.new.ensures.number i) (c.new.ensures.wire_type i)) in
-    exits_first p.1 p.2 old (tag_text 9 Varint) (varint_text 0) new (c.in_err-encode.ensures.0, subst (λ z. WritesFront old z new) same c.in_err-encode.ensures.1)
+    exits_first p.1 p.2 old (tag_text 9 Varint) (varint_text 0) new (c.in_err-encode.ensures.writes.0, subst (λ z. WritesFront old z new) same c.in_err-encode.ensures.writes.1)
