@@ -12,7 +12,7 @@ use std::alloc::Global;
 /// Bytes that are read from the front, in one piece or in several.
 ///
 /// A contract over a `Buf` names `unread`, the list of the bytes that are left, and nothing of how they
-/// are cut. It says as well that `kept` stays: a buffer that shows the front of a lent one loses neither
+/// are cut. It says as well that `beyond` stays: a buffer that shows the front of a lent one loses neither
 /// the lender nor the bytes past its limit, whatever is read and however that ends.
 ///
 /// ```ignore

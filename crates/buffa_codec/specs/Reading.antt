@@ -9,7 +9,7 @@ use Rattle.buffa_wire.specs.declared.context.DecodeContext.{DecodeContext}
 use Rattle.buffa_bytes.specs.declared.error.EncodeError.{EncodeError}
 use Rattle.buffa_bytes.specs.declared.error.EncodeError.TheVariants.{OutOfMemory}
 
--- what is read with where nothing else is meant_entry
+-- what is read with where nothing else is said
 abbrev pub full : BudgetLeft
 full = record { unknown = 1000000; memory = 268435456 }
 

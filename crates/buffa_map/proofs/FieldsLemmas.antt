@@ -72,7 +72,7 @@ module _ {K V : Type 0} (key : Reading K) (val : Reading V) (d : ℕ) (bytes : L
   abbrev start : MapEntry K V
   start = blanks key val d
 
-  -- the fields so far were merged: s was meant_entry, now is left, and rest follows them
+  -- the fields so far were merged: s was said, now is left, and rest follows them
   pub record Merged (s : MapEntry K V) (now : BudgetLeft) (rest : List ℕ) : Type 0 where
     pub reached : ParsesTo (IsField key val d) start bytes s rest
     pub unknown : now.unknown + (need_at key val d start bytes).unknown ≡ left.unknown + (need_at key val d s rest).unknown

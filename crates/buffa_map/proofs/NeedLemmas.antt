@@ -147,7 +147,7 @@ module _ {K V : Type 0} (key : Reading K) (val : Reading V) (d : ℕ) where
   need_end s [] h = refl
   need_end s (b ∷ bs) h = absurd (omega (arith, h))
 
-  -- ---- the loop over the fields of e: s was meant_entry, r is left, and of start now is left
+  -- ---- the loop over the fields of e: s was said, r is left, and of start now is left
   module _ (e : List ℕ) (s : MapEntry K V) (r : List ℕ) (start now : BudgetLeft) (some : 0 < length r)
       (unknown : now.unknown + (need_at key val d (blanks key val d) e).unknown ≡ start.unknown + (need_at key val d s r).unknown)
       (memory : now.memory + (need_at key val d (blanks key val d) e).memory ≡ start.memory + (need_at key val d s r).memory) where

@@ -45,7 +45,7 @@ module _ {K V : Type 0} (key : Reading K) (val : Reading V) (d : ℕ) where
   abbrev pub blanks : MapEntry K V
   blanks = record { key = key.blank; value = val.blank; known = true }
 
-  -- f is one field of an entry, which takes what was meant_entry from s to t: a key field, a value field, or a
+  -- f is one field of an entry, which takes what was said from s to t: a key field, a value field, or a
   -- field of another number, with groups nested at most d deep
   abbrev pub IsField : MapEntry K V → List ℕ → MapEntry K V → Type 0
   IsField s f t =
@@ -53,7 +53,7 @@ module _ {K V : Type 0} (key : Reading K) (val : Reading V) (d : ℕ) where
       ⊎ (((v : V) × (known : Bool) × IsCodecField val d 2 s.value f v known × (t ≡ record s { value = v; known = known }))
       ⊎ ((n : ℕ) × (w : WireType) × (n ≢ 1) × (n ≢ 2) × Field d n w f × (t ≡ s)))
 
-  -- why no field of an entry begins these bytes, where s was meant_entry
+  -- why no field of an entry begins these bytes, where s was said
   abbrev pub FieldFault : MapEntry K V → List ℕ → DecodeError → Type 0
   FieldFault s bs e =
       TagFault bs e
@@ -94,7 +94,7 @@ module _ {K V : Type 0} (key : Reading K) (val : Reading V) (d : ℕ) where
   field_need bs = need_by (tag_at bs) (λ t.
       if t.0 == 1 then codec_need key d t.1 t.2 else (if t.0 == 2 then codec_need val d t.1 t.2 else nothing))
 
-  -- What fields cost, where s was meant_entry, up to the first that isn't merged, which counts too. Each field has a byte
+  -- What fields cost, where s was said, up to the first that isn't merged, which counts too. Each field has a byte
   -- at least, so the bytes bound the steps.
   unfoldable pub need_within : ℕ → MapEntry K V → List ℕ → BudgetLeft
   need_within k s [] = nothing

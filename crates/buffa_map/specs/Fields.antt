@@ -1,4 +1,4 @@
--- What merging the fields of an entry does to what was meant_entry, and to a budget.
+-- What merging the fields of an entry does to what was said, and to a budget.
 use Rattle.std.specs.Prelude.{◌≡◌, ◌≢◌, ℕ, List, ◌⊎◌, Ok}
 use Rattle.buffa_bytes.specs.declared.error.DecodeError.{DecodeError}
 use Rattle.buffa_bytes.specs.declared.error.DecodeError.TheVariants.{OutOfMemory}

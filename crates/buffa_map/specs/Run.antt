@@ -126,7 +126,7 @@ module _ {K V : Type 0} (key : Reading K) (val : Reading V) (d n : ℕ) where
   run_of cost slot left bs = parse_all (next_record cost slot) ([], left) bs
 
 module _ {K V : Type 0} (eq : K → K → Bool) where
-  -- the pairs after an entry that meant_entry s: a declared one is put
+  -- the pairs after an entry that said s: a declared one is put
   abbrev pub step : List (K × V) → MapEntry K V → List (K × V)
   step m s = cond s.known (put eq m s.key s.value) m
 

@@ -15,7 +15,7 @@ use buffa_wire::{Blank, Buf, DecodeContext, DecodeError, EncodeError, EncodeSink
 use std::alloc::Global;
 
 pub(crate) mod sealed {
-    /// Codecs are those of this crate: the rules of the wire can't be meant_entry by a type.
+    /// Codecs are those of this crate: the rules of the wire can't be said by a type.
     pub trait Sealed {}
 }
 
@@ -93,7 +93,7 @@ pub trait MapValueDecode: sealed::Sealed {
     /// The reading starts with the default of the values.
     ghost blank: { reading.blank ≡ Self.Value.blank_is };
 
-    /// Undeclared values come only where that is meant_entry.
+    /// Undeclared values come only where that is said.
     ghost declared: { MAY_RETURN_UNKNOWN ≡ false →
         (d : ℕ) (old : Self.Value.Meaning) (c : Content) (new : Self.Value.Meaning) (known : Bool) →
         reading.reads d old c ≡ Ok (new, known) → known ≡ true };

@@ -1,6 +1,6 @@
 //! What an entry says.
 
-/// What the fields of an entry have meant_entry: the key, the value, and whether the value is a declared one.
+/// What the fields of an entry have said: the key, the value, and whether the value is a declared one.
 #[derive(Drop)]
 pub struct MapEntry<K, V> {
     /// The key of the last key field, or the default.

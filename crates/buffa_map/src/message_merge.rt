@@ -50,7 +50,7 @@ where
     merge(value, &payload, depth - 1, &mut *budget)
 }
 
-// The same, meant_entry as merging by the codec of messages is.
+// The same, said as merging by the codec of messages is.
 pub(crate) fn merge_value_by<M: MessageSpec, B: Buf, F>(
     alloc: Global,
     value: &mut M,

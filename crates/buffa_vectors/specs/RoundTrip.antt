@@ -29,7 +29,7 @@ module _ {K V : Type 0} (key : Writing K) (val : Writing V) (cost : ℕ) where
   abbrev pub RefusesTrip : (List (K × V) → Type 0) → TripFault → Type 0
   RefusesTrip Walk f = (l : List (K × V)) × Walk l × RefusesPairs l f
 
--- words as keys, and what is meant_entry of each
+-- words as keys, and what is said of each
 abbrev pub word_writing : Writing (List ℕ)
 word_writing = delimited_writing (λ text. text)
 

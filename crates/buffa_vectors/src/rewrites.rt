@@ -1,4 +1,4 @@
-//! ListsOnce values, kept entries, and rewrites by a reader that doesn't know all values.
+//! Enum values, kept entries, and rewrites by a reader that doesn't know all values.
 
 use crate::hues::{New, Old};
 use crate::passed_on::passed_on;

@@ -67,7 +67,7 @@ const ROWS: [Row; 23] = [
 ];
 
 // An answer in words.
-fn meant_entry(alloc: Global, answer: Result<(), DecodeError>) -> Result<String, Fail> {
+fn told(alloc: Global, answer: Result<(), DecodeError>) -> Result<String, Fail> {
     match answer {
         Ok(()) => Ok(format!(in alloc; "ok ")?),
         Err(fault) => Ok(format!(in alloc; "{fault} ")?),
@@ -101,7 +101,7 @@ fn kept<B: Buf>(alloc: Global, buf: &mut B, slots: usize) -> Result<String, Fail
         5,
         Some(&mut list),
     );
-    let text = with_enums(alloc, meant_entry(alloc, answer)?, &map)?;
+    let text = with_enums(alloc, told(alloc, answer)?, &map)?;
     let mut records = Vec::new(alloc);
     list.write_to(&mut records)?;
     let records = hex::encode(alloc, &records)?;
@@ -116,7 +116,7 @@ fn read<E: Enumeration, B: Buf>(alloc: Global, buf: &mut B, number: u32) -> Resu
     let answer = read_map_field::<Int32, ClosedEnum<E>, _, _>(
         alloc, &mut map, number, buf, ctx, None,
     );
-    with_enums(alloc, meant_entry(alloc, answer)?, &map)
+    with_enums(alloc, told(alloc, answer)?, &map)
 }
 
 // What is written by a reader of the old enum.
@@ -149,7 +149,7 @@ fn flats<B: Buf>(alloc: Global, buf: &mut B, entry: Option<u32>) -> Result<Strin
             read_map_field::<Int32, Msg<FlatMsg>, _, _>(alloc, &mut map, 4, buf, ctx, None)
         }
     };
-    let mut text = meant_entry(alloc, answer)?;
+    let mut text = told(alloc, answer)?;
     for (key, message) in map.storage_iter() {
         text = format!(in alloc; "{text}{key}={} ", message.value)?;
     }
@@ -163,7 +163,7 @@ fn two<B: Buf>(alloc: Global, buf: &mut B) -> Result<String, Fail> {
     let mut budget = Budget::new(0);
     let ctx = DecodeContext::new(10, &mut budget);
     let answer = merge_entry::<Int32, Msg<TestMsg>, _, _>(alloc, &mut map, buf, ctx);
-    let mut text = meant_entry(alloc, answer)?;
+    let mut text = told(alloc, answer)?;
     for (key, message) in map.storage_iter() {
         text = format!(in alloc; "{text}{key}={},{} ", message.a, message.b)?;
     }
@@ -184,7 +184,7 @@ fn keyed<B: Buf>(alloc: Global, buf: &mut B) -> Result<String, Fail> {
         5,
         Some(&mut list),
     );
-    let mut text = meant_entry(alloc, answer)?;
+    let mut text = told(alloc, answer)?;
     for (key, value) in map.storage_iter() {
         text = format!(in alloc; "{text}{}={value} ", key.to_i32())?;
     }

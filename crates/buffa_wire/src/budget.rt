@@ -6,10 +6,10 @@ ghost use Rattle.buffa_bytes.specs.declared.error.DecodeError.TheVariants as err
 use buffa_bytes::DecodeError;
 use std::marker::Model;
 
-/// The slots for unknown fields that a message is read with where nothing else is meant_entry.
+/// The slots for unknown fields that a message is read with where nothing else is said.
 pub const DEFAULT_UNKNOWN_FIELD_LIMIT: usize = 1_000_000;
 
-/// The units of element memory that a message is read with where nothing else is meant_entry.
+/// The units of element memory that a message is read with where nothing else is said.
 pub const DEFAULT_ELEMENT_MEMORY_LIMIT: usize = 268_435_456;
 
 /// What reading may still spend.

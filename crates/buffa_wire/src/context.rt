@@ -6,7 +6,7 @@ ghost use Rattle.buffa_bytes.specs.declared.error.DecodeError.TheVariants as err
 use crate::budget::Budget;
 use buffa_bytes::DecodeError;
 
-/// How deep a message is read where nothing else is meant_entry: groups and messages nested 100 deep.
+/// How deep a message is read where nothing else is said: groups and messages nested 100 deep.
 pub const RECURSION_LIMIT: u32 = 100;
 
 /// How deep reading may still go, and the one budget that all of it spends.

@@ -41,7 +41,7 @@ pub fn memory_is_no_fault()
     ensures records { (d s : ℕ) (bs : List ℕ) → list_at d s bs ≢ Err OutOfMemory }
 {}
 
-/// The constants: how deep and with which budget a message is read where nothing else is meant_entry, and how
+/// The constants: how deep and with which budget a message is read where nothing else is said, and how
 /// long a message may be.
 pub fn constants()
     ensures recursion_limit { RECURSION_LIMIT ≡ 100 }

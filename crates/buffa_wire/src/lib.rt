@@ -18,7 +18,7 @@ mod tests;
 pub mod unknown_fields;
 
 pub(crate) mod sealed {
-    /// Scalars are those of this crate: the rules of the wire can't be meant_entry by a type.
+    /// Scalars are those of this crate: the rules of the wire can't be said by a type.
     pub trait Sealed {}
 }
 
