@@ -35,9 +35,34 @@ ROWS = [
     ("read 5", b"2a00\n\n", b"fault input\n", b"", 3),
     ("write 5", b"61 2147483648\n", b"fault input\n", b"", 3),
     ("write 5", b"ff 1\n", b"fault input\n", b"", 3),
+    ("rewrite 5", b"", b"\n", b"", 0),
+    ("rewrite 5", b"2a04080110002a04080210022a0408011001", b"2a04080110012a0408021002\n", b"", 0),
+    ("rewrite 5", b"2a020801", b"2a0408011000\n", b"", 0),
+    ("rewrite 5", b"2A0408071063\n", b"2a0408071063\n", b"", 0),
+    ("rewrite 5", b"2a04080110022a04080110012a0408011002", b"2a04080110012a04080110022a0408011002\n", b"", 0),
+    ("rewrite 5", b"3200", b"fault UnexpectedField 6\n", b"", 1),
+    ("rewrite 5", b"2a05", b"fault UnexpectedEof\n", b"", 1),
+    ("rewrite 5", b"2a010c", b"fault WireTypeMismatch 1 0 4\n", b"", 1),
+    ("rewrite 5", b"2a0", b"fault input\n", b"", 3),
+    ("ext 1", b"", b"has no\nint32 none\nstring none\nints\n", b"", 0),
+    ("ext 1", b"08050807\n", b"has yes\nint32 7\nstring none\nints 5 7\n", b"", 0),
+    ("ext 1", b"0A020102", b"has yes\nint32 none\nstring 0102\nints 1 2\n", b"", 0),
+    ("ext 1", b"0a00", b"has yes\nint32 none\nstring \nints\n", b"", 0),
+    ("ext 1", b"0d01000000", b"has yes\nint32 none\nstring none\nints\n", b"", 0),
+    ("ext 2", b"0805", b"has no\nint32 none\nstring none\nints\n", b"", 0),
+    ("ext 1", b"0c", b"fault InvalidEndGroup 1\n", b"", 1),
+    ("ext 1", b"0f", b"fault InvalidWireType 7\n", b"", 1),
+    ("ext 1", b"080", b"fault input\n", b"", 3),
+    ("item", b"10030c", b"3\n\n\n", b"", 0),
+    ("item", b"1a05776f726c64102a0c0BFF\n", b"42\n776f726c64\n0bff\n", b"", 0),
+    ("item", b"10091a0261621a0263640c", b"9\n61626364\n\n", b"", 0),
+    ("item", b"1a01780c", b"fault InvalidMessageSet missing type_id\n", b"", 1),
+    ("item", b"1000", b"fault InvalidMessageSet type_id out of range\n", b"", 1),
+    ("item", b"100314", b"fault InvalidEndGroup 2\n", b"", 1),
+    ("item", b"100", b"fault input\n", b"", 3),
 ]
 
-WRONG_WORDS = ["", "read", "write", "read 0", "read 536870912", "read 0000000005", "write +5", "read 5 5", "Read 5", "help", "--help"]
+WRONG_WORDS = ["", "read", "write", "read 0", "read 536870912", "read 0000000005", "write +5", "rewrite", "rewrite 0", "rewrite 5 5", "ext", "ext 0", "ext 1 1", "item 5", "Item", "read 5 5", "Read 5", "help", "--help"]
 
 
 class Stream:
@@ -135,7 +160,7 @@ def wrong_words(program, room, seen):
 def failed_reads(program, room, seen):
     """A read that fails: status 3, a line on the errors, and nothing on the output."""
     runs = 0
-    for words in ("read 5", "write 5"):
+    for words in ("read 5", "write 5", "rewrite 5", "ext 1", "item"):
         for reader in (CLOSED, Stream("a directory", room, os.O_RDONLY), Stream("no reader", "/dev/null", os.O_WRONLY)):
             seen.compare(f"{words} with the input {name_of(reader)}", call(program, words, reader=reader), (b"", FAILED, 3))
             seen.compare(f"{words} with the input {name_of(reader)}, errors closed", call(program, words, reader=reader, errors=CLOSED), (b"", b"", 3))
@@ -184,7 +209,10 @@ def refusals(program, room, seen):
     """Each request for memory refused, alone and with all that follow: the right answer, or want of memory."""
     run = b"".join(b"2a060a02%02x%02x1001" % (97 + i // 26, 97 + i % 26) for i in range(300))
     pairs = b"".join(b"%02x%02x %d\n" % (97 + i // 26, 97 + i % 26, i) for i in range(60))
-    cases = [(words, given) for words, given, *_ in ROWS] + [("read 5", run), ("write 5", pairs), ("read 0", b""), ("", b"")]
+    choices = b"".join(b"2a0408%02x10%02x" % (i, i % 3) for i in range(120))
+    message = b"0805" * 40 + b"0a0201020b0801130c" * 20
+    item = b"10031a026f6b" * 30 + b"0c0bff"
+    cases = [(words, given) for words, given, *_ in ROWS] + [("read 5", run), ("write 5", pairs), ("rewrite 5", choices), ("ext 1", message), ("item", item), ("read 0", b""), ("", b"")]
     runs = told = 0
     for words, given in cases:
         right = call(program, words, given)

@@ -1,8 +1,7 @@
 -- One text after another.
-use Rattle.std.proofs.lemmas.List.{take_more_set}
 use Rattle.buffa_bytes.specs.Varint.{varint_text}
-use Rattle.buffa_bytes.proofs.ShortestLemmas.{varint_text-more, varint_text-last}
-use Rattle.std.proofs.Common.{◌∷◌, ◌+◌, ◌/◌, ◌%◌, ◌<◌, ◌≤◌, length, take, set, arith, ◌≡◌, ℕ, List, ◌++◌, sym, ◌∙◌, ap, append_assoc, length-append}
+use Rattle.buffa_bytes.proofs.ShortestLemmas.{varint_text-more, varint_text-last, varint_text-some}
+use Rattle.std.proofs.Common.{[], ◌∷◌, ◌+◌, ◌/◌, ◌%◌, ◌<◌, ◌≤◌, length, arith, ◌≡◌, ℕ, List, ◌++◌, refl, sym, subst, ◌∙◌, ap, append_assoc, append-nil, length-append}
 use Rattle.std.specs.Prelude.{Result, Err}
 use Rattle.std.proofs.lemmas.Result.{MatchResult-weaker}
 use Rattle.buffa_bytes.specs.declared.error.EncodeError.{EncodeError}
@@ -33,16 +32,46 @@ room_then r room mid left a b e h = MatchResult-weaker r h
 pub room_first : {T : Type 0} {r : Result T EncodeError} {e : EncodeError} → r ≡ Err e → (room left : ℕ) (a b : List ℕ) → room < length a → UsesRoom r room (a ++ b) left
 room_first is room left a b w = rw is (omega (arith, w, length-append a b))
 
--- a digit more in the text
-pub digit_more : (text all : List ℕ) (len rest : ℕ) → len < length text → 128 ≤ rest → take len text ++ varint_text rest ≡ all → take (len + 1) (set text len (rest % 128 + 128)) ++ varint_text (rest / 128) ≡ all
-digit_more text all len rest h large e = ap (λ t. t ++ varint_text (rest / 128)) (take_more_set text len _ h) ∙ append_assoc (take len text) _ _ ∙ ap (λ t. take len text ++ t) (sym (varint_text-more rest large)) ∙ e
-
-pub digit_last : (text all : List ℕ) (len rest : ℕ) → len < length text → rest < 128 → take len text ++ varint_text rest ≡ all → take (len + 1) (set text len rest) ≡ all
-digit_last text all len rest h small e = take_more_set text len rest h ∙ ap (λ t. take len text ++ t) (sym (varint_text-last rest small)) ∙ e
-
-pub digit_room : (rest len : ℕ) → 128 ≤ rest → len + length (varint_text rest) ≤ 10 → len + 1 + length (varint_text (rest / 128)) ≤ 10
-digit_room rest len large h = let k : len + length ((rest % 128 + 128) ∷ varint_text (rest / 128)) ≤ 10 = rw (varint_text-more rest large) at h in omega arith
-
 -- a refusal of the first text, as `?` hands it on, is one of both
 pub exits_first : {T : Type 0} {r : Result T EncodeError} {e d : EncodeError} → r ≡ Err e → e ≡ d → (old a b new : List ℕ) → (d ≡ OutOfMemory) × WritesFront old a new → Writes r old (a ++ b) new
 exits_first is same old a b new w = rw (is, same) (w.0, front_first old a b new w.1)
+
+-- a front of all was written, and rest is what is left of all
+pub record Sent (old now : List ℕ) (room left : ℕ) (all rest : List ℕ) : Type 0 where
+  pub done : List ℕ
+  pub is : now ≡ old ++ done
+  pub whole : done ++ rest ≡ all
+  pub fits : room ≤ left + length done
+
+pub sent_none : (old : List ℕ) (room : ℕ) (all : List ℕ) → Sent old old room room all all
+sent_none old room all = record { done = []; is = sym (append-nil old); whole = refl; fits = omega arith }
+
+-- a digit more
+pub sent_digit : (old mid new : List ℕ) (room left less : ℕ) (all : List ℕ) (n : ℕ) → 128 ≤ n → Sent old mid room left all (varint_text n) → new ≡ mid ++ ((n % 128 + 128) ∷ []) → left ≤ less + 1 → Sent old new room less all (varint_text (n / 128))
+sent_digit old mid new room left less all n large s e h = record {
+  done = s.done ++ (n % 128 + 128) ∷ [];
+  is = e ∙ ap (λ t. t ++ (n % 128 + 128) ∷ []) s.is ∙ append_assoc old s.done ((n % 128 + 128) ∷ []);
+  whole = append_assoc s.done ((n % 128 + 128) ∷ []) (varint_text (n / 128)) ∙ ap (λ t. s.done ++ t) (sym (varint_text-more n large)) ∙ s.whole;
+  fits = omega (arith, s.fits, h, length-append s.done ((n % 128 + 128) ∷ []));
+}
+
+-- the last digit
+pub sent_last : {T : Type 0} (r : Result T EncodeError) (old mid new : List ℕ) (room left : ℕ) (all : List ℕ) (n : ℕ) → n < 128 → Sent old mid room left all (varint_text n) → Writes r mid (n ∷ []) new → Writes r old all new
+sent_last r old mid new room left all n small s w =
+    subst (λ t. Writes r old t new) (ap (λ t. s.done ++ t) (sym (varint_text-last n small)) ∙ s.whole) (writes_then r old s.done (n ∷ []) mid new s.is w)
+
+pub sent_room : {T : Type 0} (r : Result T EncodeError) (old mid : List ℕ) (room left less : ℕ) (all : List ℕ) (n : ℕ) → n < 128 → Sent old mid room left all (varint_text n) → UsesRoom r left (n ∷ []) less → UsesRoom r room all less
+sent_room r old mid room left less all n small s w =
+    subst (λ t. UsesRoom r room t less) (ap (λ t. s.done ++ t) (sym (varint_text-last n small)) ∙ s.whole) (room_then r room left less s.done (n ∷ []) s.fits w)
+
+-- a refusal of a digit, as `?` hands it on
+pub sent_refused : {T : Type 0} {r : Result T EncodeError} {e d : EncodeError} → r ≡ Err e → e ≡ d → (old mid new : List ℕ) (room left : ℕ) (all : List ℕ) (n : ℕ) → 128 ≤ n → Sent old mid room left all (varint_text n) →
+    (d ≡ OutOfMemory) × WritesFront mid ((n % 128 + 128) ∷ []) new → Writes r old all new
+sent_refused {r = r} is same old mid new room left all n large s w =
+    let b : List ℕ = (n % 128 + 128) ∷ [] in
+    let whole : (s.done ++ b) ++ varint_text (n / 128) ≡ all = append_assoc s.done b (varint_text (n / 128)) ∙ ap (λ t. s.done ++ t) (sym (varint_text-more n large)) ∙ s.whole in
+    subst (λ t. Writes r old t new) whole (exits_first is same old (s.done ++ b) (varint_text (n / 128)) new (w.0, front_second old s.done b mid new s.is w.1))
+
+pub sent_full : {T : Type 0} {r : Result T EncodeError} {e : EncodeError} → r ≡ Err e → (old mid : List ℕ) (room left less : ℕ) (all : List ℕ) (n : ℕ) → 128 ≤ n → Sent old mid room left all (varint_text n) → left < 1 → UsesRoom r room all less
+sent_full is old mid room left less all n large s h =
+    rw is (omega (arith, s.fits, h, ap length s.whole, length-append s.done (varint_text n), varint_text-some n))

@@ -1,5 +1,5 @@
 -- What readers leave of the bytes.
-use Rattle.std.proofs.Common.{◌≡◌, ℕ, ◌+◌, ◌≤◌, List, [], ◌∷◌, length, drop, length-drop, drop-drop, refl, sym, ap, ◌∙◌, arith}
+use Rattle.std.proofs.Common.{◌≡◌, ℕ, ◌+◌, ◌≤◌, List, ◌∷◌, length, drop, length-drop, drop-drop, refl, sym, ap, ◌∙◌, arith}
 use Rattle.buffa_bytes.specs.Unread.{IsTailOf}
 
 pub tail_whole : (all : List ℕ) → IsTailOf all all

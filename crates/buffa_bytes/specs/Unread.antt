@@ -9,6 +9,15 @@ pub record IsChunkOf (part all : List ℕ) : Type 0 where
   pub fits : length part ≤ length all
   pub some : 0 < length all → 0 < length part
 
+-- part is the first n of these bytes
+pub record IsFrontOf (part : List ℕ) (n : ℕ) (all : List ℕ) : Type 0 where
+  pub is : part ≡ take n all
+  pub fits : n ≤ length all
+
+-- the first n of these bytes need not lie together: they are two or more, or not all there
+abbrev pub MayBeCut : ℕ → List ℕ → Type 0
+MayBeCut n all = n ≤ length all → 1 < n
+
 -- tail is what follows some front of all
 pub record IsTailOf (tail all : List ℕ) : Type 0 where
   pub past : ℕ

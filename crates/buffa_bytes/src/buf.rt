@@ -1,9 +1,9 @@
 //! Bytes in: reading from the front of a buffer.
 
-ghost use Rattle.std.specs.Prelude.{◌≡◌, ℕ, ◌≤◌, List, [], length, drop, IsOk};
+ghost use Rattle.std.specs.Prelude.{◌≡◌, ℕ, ◌≤◌, List, [], length, drop, IsOk, MatchOption};
 ghost use Rattle.buffa_bytes.specs.Gives.{FullOnlyIf, GivesUnlessFull};
 ghost use Rattle.buffa_bytes.specs.Reading.{taken};
-ghost use Rattle.buffa_bytes.specs.Unread.{IsChunkOf, IsTailOf, MovesUnlessFull};
+ghost use Rattle.buffa_bytes.specs.Unread.{IsChunkOf, IsFrontOf, IsTailOf, MayBeCut, MovesUnlessFull};
 
 use crate::error::DecodeError;
 use bytes::Bytes;
@@ -93,6 +93,25 @@ fn move_bytes<B: Buf>(buf: &mut B, len: usize, bytes: &mut Vec<u8>) -> Result<()
         left -= part;
     }
     Ok(())
+}
+
+/// The first `len` bytes, where the buffer shows them in one piece; they stay unread.
+///
+/// `None` where fewer are left, and where the bytes that lie together at the front are fewer; never for one
+/// byte that is left.
+///
+/// ```ignore
+/// let rest: &[u8] = b"abc";
+/// let ab = front(&rest, 2); // "ab", and `rest` is "abc" still
+/// ```
+pub fn front<B: Buf>(buf: &B, len: u64) -> Option<&[u8]>
+    ensures { MatchOption result (MayBeCut len (B.unread buf.now)) (λ part. IsFrontOf part.now len (B.unread buf.now)) }
+{
+    let chunk = buf.chunk();
+    if len > chunk.len() as u64 {
+        return None;
+    }
+    Some(&chunk[..len as usize])
 }
 
 /// Copies the first `len` bytes out of the buffer.

@@ -1,6 +1,6 @@
 //! Bytes out: a place that text is appended to.
 
-ghost use Rattle.std.specs.Prelude.{◌≡◌, ◌-◌, ℕ, List, OnErr, vec_capacity, vec_len};
+ghost use Rattle.std.specs.Prelude.{◌≡◌, ◌∷◌, ◌-◌, [], ℕ, List, OnErr, vec_capacity, vec_len};
 ghost use Rattle.buffa_bytes.specs.Written.{UsesRoom, Writes};
 
 use crate::error::EncodeError;
@@ -25,6 +25,17 @@ pub trait EncodeSink {
     fn put_slice(&mut self, b: &[u8]) -> Result<(), EncodeError>
         ensures writes { Writes result (written self.old) b.now (written self.new) }
         ensures room { UsesRoom result (room self.old) b.now (room self.new) };
+
+    /// Appends one byte.
+    ///
+    /// # Errors
+    /// [`EncodeError::OutOfMemory`] alone, where no byte fits for sure.
+    fn put_byte(&mut self, byte: u8) -> Result<(), EncodeError>
+        ensures writes { Writes result (written self.old) (byte ∷ []) (written self.new) }
+        ensures room { UsesRoom result (room self.old) (byte ∷ []) (room self.new) }
+    {
+        self.put_slice(&[byte])
+    }
 }
 
 impl EncodeSink for Vec<u8> {
@@ -41,5 +52,15 @@ impl EncodeSink for Vec<u8> {
     {
         self.extend_from_slice(b)
             .map_err(|_| EncodeError::OutOfMemory)
+    }
+
+    /// Appends one byte, or leaves the vector's items as they were where memory runs out.
+    fn put_byte(&mut self, byte: u8) -> Result<(), EncodeError>
+        ensures writes { Writes result self.old.items (byte ∷ []) self.new.items }
+        ensures room { UsesRoom result (vec_capacity self.old - vec_len self.old) (byte ∷ [])
+            (vec_capacity self.new - vec_len self.new) }
+        ensures err { OnErr result (self.new.items ≡ self.old.items) }
+    {
+        self.push(byte).map_err(|_| EncodeError::OutOfMemory)
     }
 }

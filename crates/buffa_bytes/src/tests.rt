@@ -17,8 +17,10 @@ use std::test::Fail;
 
 #[test]
 fn numbers_have_the_bytes_of_the_guide(rt: HostRuntime) -> Result<(), Fail> {
-    let table: [(u64, &[u8]); 4] = [
+    let table: [(u64, &[u8]); 6] = [
         (0, &[0]),
+        (127, &[0x7F]),
+        (128, &[0x80, 0x01]),
         (150, &[0x96, 0x01]),
         (300, &[0xAC, 0x02]),
         (
@@ -121,7 +123,7 @@ fn bytes_are_copied_and_put(rt: HostRuntime) -> Result<(), Fail> {
     assert_eq!(rt; rest.remaining(), 1);
     let mut text: Vec<u8> = Blank::blank(rt.alloc());
     text.put_slice(b"ab")?;
-    text.put_slice(b"c")?;
+    text.put_byte(b'c')?;
     assert_eq!(rt; text.as_slice(), b"abc".as_slice());
     Ok(())
 }

@@ -1,6 +1,6 @@
 //! Varints: seven bits a byte, the lowest first.
 
-ghost use Rattle.std.specs.Prelude.{◌≡◌, ◌∷◌, [], length, MatchOption};
+ghost use Rattle.std.specs.Prelude.{◌≡◌, ◌<◌, ◌∷◌, [], length, MatchOption};
 ghost use Rattle.buffa_bytes.specs.Gives.{Gives};
 ghost use Rattle.buffa_bytes.specs.Reading.{varint_at};
 ghost use Rattle.buffa_bytes.specs.Varint.{varint_text};
@@ -41,7 +41,39 @@ pub fn take_byte<B: Buf>(buf: &mut B) -> Option<u8>
 /// let mut rest: &[u8] = &[0x96, 0x01];
 /// let number = decode_varint(&mut rest)?; // 150
 /// ```
+#[tactic(auto, unfolding(crate::specs::Reading::varint_at, crate::specs::Reading::varint_within))]
+#[inline]
 pub fn decode_varint<B: Buf>(buf: &mut B) -> Result<u64, DecodeError>
+    ensures reads { Gives (λ n. (n, B.unread buf.new)) result (varint_at (B.unread buf.old)) }
+    ensures kept { B.beyond buf.new ≡ B.beyond buf.old }
+    ensures tail { IsTailOf (B.unread buf.new) (B.unread buf.old) }
+{
+    match take_small(buf) {
+        Some(digit) => Ok(u64::from(digit)),
+        None => decode_digits(buf),
+    }
+}
+
+// Takes the next byte, where one is left and it ends a varint.
+#[tactic(auto, using(crate::proofs::TailLemmas::tail_whole, crate::proofs::TailLemmas::tail_dropped))]
+#[inline(always)]
+fn take_small<B: Buf>(buf: &mut B) -> Option<u8>
+    ensures taken { MatchOption result (B.unread buf.new ≡ B.unread buf.old)
+        (λ digit. (digit < 128) × (B.unread buf.old ≡ digit ∷ B.unread buf.new)) }
+    ensures kept { B.beyond buf.new ≡ B.beyond buf.old }
+    ensures tail { IsTailOf (B.unread buf.new) (B.unread buf.old) }
+{
+    let digit = *buf.chunk().first()?;
+    if digit >= 128 {
+        return None;
+    }
+    buf.advance(1);
+    Some(digit)
+}
+
+// Reads a varint byte by byte.
+#[inline(never)]
+fn decode_digits<B: Buf>(buf: &mut B) -> Result<u64, DecodeError>
     ensures reads { Gives (λ n. (n, B.unread buf.new)) result (varint_at (B.unread buf.old)) }
     ensures kept { B.beyond buf.new ≡ B.beyond buf.old }
     ensures tail { IsTailOf (B.unread buf.new) (B.unread buf.old) }
@@ -72,21 +104,17 @@ pub fn decode_varint<B: Buf>(buf: &mut B) -> Result<u64, DecodeError>
 /// ```ignore
 /// encode_varint(150, &mut text)?; // 96 01
 /// ```
-#[tactic(auto, using(crate::proofs::ShortestLemmas::v_laws, crate::proofs::SinkLemmas::digit_more, crate::proofs::SinkLemmas::digit_last, crate::proofs::SinkLemmas::digit_room))]
+#[tactic(auto, using(crate::proofs::ShortestLemmas::v_laws))]
 pub fn encode_varint<S: EncodeSink>(n: u64, sink: &mut S) -> Result<(), EncodeError>
     ensures writes { Writes result (S.written sink.old) (varint_text n) (S.written sink.new) }
     ensures room { UsesRoom result (S.room sink.old) (varint_text n) (S.room sink.new) }
 {
-    let mut text = [0u8; 10];
-    let mut len = 0;
     let mut rest = n;
     while rest >= 128 {
-        text[len] = (rest % 128) as u8 + 128;
-        len += 1;
+        sink.put_byte((rest % 128) as u8 + 128)?;
         rest /= 128;
     }
-    text[len] = rest as u8;
-    sink.put_slice(&text[..len + 1])
+    sink.put_byte(rest as u8)
 }
 
 /// The length of the shortest spelling of a number, 1 to 10 bytes.
@@ -94,15 +122,9 @@ pub fn encode_varint<S: EncodeSink>(n: u64, sink: &mut S) -> Result<(), EncodeEr
 /// ```ignore
 /// let two = varint_len(150);
 /// ```
-#[tactic(auto, using(crate::proofs::ShortestLemmas::v_laws))]
 pub fn varint_len(n: u64) -> usize
     ensures { result ≡ length (varint_text n) }
 {
-    let mut len = 1;
-    let mut rest = n;
-    while rest >= 128 {
-        len += 1;
-        rest /= 128;
-    }
-    len
+    let bits = 64 - (n | 1).leading_zeros();
+    ((bits * 9 + 64) / 64) as usize
 }

@@ -14,7 +14,7 @@ use Rattle.buffa_codec.proofs.Turns.{sub-one_same, sub-one_other}
 step_down : (i : ℕ) → 0 < i → (i - 1) + 1 ≡ i
 step_down i h = omega arith
 
-below : (i n : ℕ) → 0 < i → i ≤ n → i - 1 < n
+pub below : (i n : ℕ) → 0 < i → i ≤ n → i - 1 < n
 below i n h k = omega arith
 
 -- one field more from behind

@@ -7,3 +7,5 @@ pub mod Turns
 pub mod Lasts
 pub mod Bounds
 pub mod Throughs
+pub mod Takes
+pub mod Grammars

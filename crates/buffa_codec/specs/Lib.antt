@@ -5,3 +5,4 @@ pub mod Texts
 pub mod PackedFacts
 pub mod Costs
 pub mod Through
+pub mod PackedGrammar

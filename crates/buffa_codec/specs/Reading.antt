@@ -1,5 +1,5 @@
 -- What the records of a number are read as.
-use Rattle.std.specs.Prelude.{ℕ, ◌≡◌, ◌↔◌, ◌≤◌, ◌-◌, ◌⊎◌, List, [], ◌∷◌, ◌++◌, map, take, Option, Some, None, Result, Ok, Err, if◌then◌else◌}
+use Rattle.std.specs.Prelude.{ℕ, ◌≡◌, ◌≢◌, ◌↔◌, ◌≤◌, ◌-◌, ◌⊎◌, List, [], ◌∷◌, ◌++◌, map, take, Option, Some, None, Result, Ok, Err, if◌then◌else◌}
 use Rattle.std.specs.Option.{option_or}
 use Rattle.std.specs.Str.{is_utf8}
 use Rattle.std.specs.List.{filter_map, last_or}
@@ -43,6 +43,14 @@ one_in one ctx d = one ctx.depth ctx.budget.now d
 
 abbrev pub LeavesIn : (ℕ → BudgetLeft → Datum → BudgetLeft → Type 0) → DecodeContext → Datum → BudgetLeft → Type 0
 LeavesIn leaves ctx d left = leaves ctx.depth ctx.budget.now d left
+
+-- one of the records is such
+abbrev pub Has : (Datum → Type 0) → List Datum → Type 0
+Has P ds = (front : List Datum) × (d : Datum) × (back : List Datum) × P d × (ds ≡ front ++ d ∷ back)
+
+-- a record of a list takes memory: its reading does, or it has a value, which is stored
+abbrev pub TakesElement : {M : Type 0} → (Datum → Type 0) → (BudgetLeft → Datum → Option M) → (List ℕ → List M) → Datum → Type 0
+TakesElement takes one packed d = takes d ⊎ ((b : BudgetLeft) × (elements packed d (one b d) ≢ []))
 
 -- new is old with more behind it, or with a beginning of more
 abbrev pub Adds : {A : Type 0} → List A → List A → List A → Type 0

@@ -1,6 +1,7 @@
 //! What the codecs of extensions owe.
 
-ghost use Rattle.std.specs.Prelude.{◌≡◌, ℕ, List, [], ◌∷◌, ◌++◌, Option, Some, None, option_map, OnOk, OnErr, IfOk};
+ghost use Rattle.std.specs.Prelude.{◌≡◌, ◌≢◌, ℕ, List, [], ◌∷◌, ◌++◌, Option, Some, None, option_map};
+ghost use Rattle.std.specs.Prelude.{OnOk, OnErr, IfOk};
 ghost use Rattle.std.specs.Prelude.{IsOk};
 ghost use Rattle.buffa_bytes.specs.declared.error.EncodeError.{EncodeError};
 ghost use Rattle.buffa_wire.specs.BudgetLeft.{BudgetLeft, Pays, budget_left};
@@ -59,17 +60,21 @@ pub trait ExtensionCodec {
     /// Reading takes no memory.
     ghost never_fails: { Type 0 };
 
+    /// The records of the number whose reading takes memory.
+    ghost takes: { List Datum → Type 0 };
+
     /// Reads the records of the number.
     ///
     /// # Errors
-    /// Where memory runs out.
+    /// Where memory runs out; never where the records are of no use to the codec.
     fn decode(
         alloc: Global,
         number: u32,
         fields: &UnknownFields,
     ) -> Result<Self::Output, AllocError>
         ensures reads { IfOk result (λ o. reads (sub number fields.now.records) (answer o)) }
-        ensures always { never_fails → IsOk result };
+        ensures always { never_fails → IsOk result }
+        ensures full { OnErr result (takes (sub number fields.now.records)) };
 
     /// Puts the records of the value behind the others.
     ///
@@ -147,24 +152,28 @@ pub trait SingularCodec {
     /// What a record costs that is read as a value.
     ghost cost: { Datum → BudgetLeft };
 
-    /// Reading takes no memory.
+    /// Neither reading nor writing one record takes memory.
     ghost never_fails: { Type 0 };
+
+    /// A record whose reading takes memory.
+    ghost takes: { Datum → Type 0 };
 
     /// Reads a record under a pair of default budgets, as deep as messages nest.
     ///
     /// # Errors
-    /// Where memory runs out.
+    /// Where memory runs out; never at a record that is of no use to the codec.
     fn decode_one(
         alloc: Global,
         payload: &UnknownFieldData,
     ) -> Result<Option<Self::Value>, AllocError>
         ensures reads { IfOk result (λ o. option_map Self.Value.meaning o ≡ one 100 full (datum_of payload.now)) }
-        ensures always { never_fails → IsOk result };
+        ensures always { never_fails → IsOk result }
+        ensures full { OnErr result (takes (datum_of payload.now)) };
 
     /// Reads a record at the context's depth, of what its budget has left.
     ///
     /// # Errors
-    /// Where memory runs out.
+    /// Where memory runs out; never at a record that is of no use to the codec. What was spent stays spent.
     fn decode_one_ctx(
         alloc: Global,
         payload: &UnknownFieldData,
@@ -173,15 +182,18 @@ pub trait SingularCodec {
         ensures reads { IfOk result (λ o. option_map Self.Value.meaning o
             ≡ one_in one ctx.entry (datum_of payload.now)) }
         ensures left { IsOk result → LeavesIn leaves ctx.entry (datum_of payload.now) (budget_left ctx.exit) }
-        ensures always { never_fails → IsOk result };
+        ensures spent { OnErr result (Covers ctx.entry.budget.now (budget_left ctx.exit)) }
+        ensures always { never_fails → IsOk result }
+        ensures full { OnErr result (takes (datum_of payload.now)) };
 
     /// Puts the packed values behind the others.
     ///
     /// # Errors
-    /// Where memory runs out; a beginning of the values stands then.
+    /// Where memory runs out, if there is a value; a beginning of the values stands then.
     fn decode_packed(bytes: &[u8], out: &mut Vec<Self::Value>) -> Result<(), AllocError>
         ensures ok { OnOk result (AddsValues Self.Value.meaning out.old.items (packed bytes.now) out.new.items) }
-        ensures err { OnErr result (AddsSomeValues Self.Value.meaning out.old.items (packed bytes.now) out.new.items) };
+        ensures err { OnErr result (AddsSomeValues Self.Value.meaning out.old.items (packed bytes.now) out.new.items) }
+        ensures full { OnErr result (packed bytes.now ≢ []) };
 
     /// The record of a value.
     ///
@@ -190,7 +202,8 @@ pub trait SingularCodec {
     fn try_encode_one(alloc: Global, value: &Self::Value) -> Result<UnknownFieldData, EncodeError>
         ensures record { IfOk result (λ d. datum_of d ≡ text (Self.Value.meaning value.now)) }
         ensures refused { Refuses result (refusal (Self.Value.meaning value.now)) }
-        ensures fits { OnOk result (fits (Self.Value.meaning value.now)) };
+        ensures fits { OnOk result (fits (Self.Value.meaning value.now)) }
+        ensures always { never_fails → IsOk result };
 
     /// The same as [`SingularCodec::try_encode_one`].
     ///
@@ -200,6 +213,7 @@ pub trait SingularCodec {
         ensures record { IfOk result (λ d. datum_of d ≡ text (Self.Value.meaning value.now)) }
         ensures refused { Refuses result (refusal (Self.Value.meaning value.now)) }
         ensures fits { OnOk result (fits (Self.Value.meaning value.now)) }
+        ensures always { never_fails → IsOk result }
     {
         Self::try_encode_one(alloc, value)
     }

@@ -3,7 +3,7 @@
 ghost use Rattle.std.specs.Prelude.{◌≡◌, List, [], ◌∷◌, Option, Some, None, option_map};
 ghost use Rattle.buffa_wire.specs.BudgetLeft.{BudgetLeft};
 ghost use Rattle.buffa_wire.specs.Records.{Datum};
-ghost use Rattle.buffa_codec.specs.Reading.{Covers, full, last_read};
+ghost use Rattle.buffa_codec.specs.Reading.{Covers, Has, full, last_read};
 ghost use Rattle.buffa_codec.specs.Texts.{last_of_one};
 
 use crate::codec::{ExtensionCodec, SingularCodec};
@@ -51,6 +51,8 @@ impl<C: LastWins> ExtensionCodec for C {
     ghost holds = { λ v o. o ≡ Some (C.back v) };
 
     ghost never_fails = { C.never_fails };
+
+    ghost takes = { Has C.takes };
 
     fn decode(
         alloc: Global,

@@ -1,19 +1,32 @@
 //! What the definitions of readings say together: each law is a function with nothing to do, whose contract
 //! is the law.
 
-ghost use Rattle.std.specs.Prelude.{◌≡◌, ◌≢◌, [], ℤ, Bool};
+ghost use Rattle.std.specs.Prelude.{◌≡◌, ◌≢◌, ◌↔◌, ℕ, ℤ, List, [], ◌∷◌, map, Bool, Option, Some, None, option_map};
+ghost use Rattle.buffa_bytes.specs.Scalars.{bool_of, int32_of, int64_of, sfixed32_of, sfixed64_of, sint32_of};
+ghost use Rattle.buffa_bytes.specs.Scalars.{sint64_of, uint32_of};
 ghost use Rattle.buffa_wire.specs.Enums.{open_number};
+ghost use Rattle.buffa_wire.specs.Found.{fixed32_in, fixed64_in, varint_in};
+ghost use Rattle.buffa_wire.specs.Records.{Datum, bytes as held_bytes};
 ghost use Rattle.buffa_codec.specs.Costs.{StaysWithin};
-ghost use Rattle.buffa_codec.specs.Reading.{LaterWins, ReadAlike, ReadingsJoin, full};
+ghost use Rattle.buffa_codec.specs.Packed.{numbers_in};
+ghost use Rattle.buffa_codec.specs.Reading.{LaterWins, ReadAlike, ReadingsJoin, bytes_held, full, last_read};
+ghost use Rattle.buffa_codec.specs.Reading.{string_held};
+ghost use Rattle.buffa_bytes.specs.declared.wire_type.WireType.{WireType};
+ghost use Rattle.buffa_codec.specs.PackedGrammar.{ArePacked};
 ghost use Rattle.buffa_codec.specs.Through.{LastThrough, ListsThrough};
 
 use crate::codec::{ExtensionCodec, PackableCodec, SingularCodec};
 use crate::enums::EnumCodec;
 use crate::last::LastWins;
+use crate::number::Numbered;
 use crate::packed::PackedRepeated;
 use crate::repeated::Repeated;
-use buffa_wire::Enumeration;
-use buffa_wire::scalars::Int32;
+use crate::text::{BytesCodec, StringCodec};
+use buffa_wire::scalars::{
+    Bool as BoolScalar, Fixed32, Fixed64, Int32, Int64, Sfixed32, Sfixed64, Sint32, Sint64, Uint32,
+    Uint64,
+};
+use buffa_wire::{Enumeration, Form};
 
 /// Later records win, where one of them is read at all.
 pub fn later_records_win<C: LastWins>()
@@ -43,11 +56,67 @@ pub fn lists_stay_within_a_budget<C: SingularCodec>()
     ensures { StaysWithin (C.one 100) (C.leaves 100) C.cost }
 {}
 
+/// Packed bytes are read as the numbers of the payloads that begin them one after the other, up to where none
+/// begins what follows: those before a malformed one count, and no others.
+pub fn packed_numbers_are_read()
+    ensures { (w : WireType) (bs ns : List ℕ) → (numbers_in w bs ≡ ns) ↔ ArePacked w ns bs }
+{}
+
 /// Enums are read and written as `int32` is, each number as what it means.
 pub fn enums_are_read_as_numbers<E: Enumeration>()
     ensures one { LastThrough (open_number E.of_number) (⟦<Int32 as SingularCodec>⟧.one 100 full)
         (⟦<EnumCodec<E> as SingularCodec>⟧.one 100 full) }
-    ensures lists { ListsThrough (open_number E.of_number) ⟦<Repeated<Int32> as ExtensionCodec>⟧.reads ⟦<Repeated<EnumCodec<E>> as ExtensionCodec>⟧.reads }
+    ensures lists { ListsThrough (open_number E.of_number) ⟦<Repeated<Int32> as ExtensionCodec>⟧.reads
+        ⟦<Repeated<EnumCodec<E>> as ExtensionCodec>⟧.reads }
     ensures records { (v : Bool × ℤ) → ⟦<EnumCodec<E> as ExtensionCodec>⟧.recs v
         ≡ ⟦<Int32 as ExtensionCodec>⟧.recs v.1 }
+{}
+
+/// Values of numbers are read of the last record of their form, and packed ones of the payloads that begin
+/// the bytes; all of them are written, and read back; and neither takes memory.
+pub fn numbers_are_read<N: Numbered>()
+    ensures reads { (ds : List Datum) (o : Option N.Value.Meaning) → ⟦<N as ExtensionCodec>⟧.reads ds o
+        ↔ (o ≡ last_read (λ d. option_map N.value_of (N.Form.found d)) ds) }
+    ensures packed { (bs : List ℕ) → ⟦<N as SingularCodec>⟧.packed bs
+        ≡ map N.value_of (numbers_in N.Form.WIRE_TYPE bs) }
+    ensures records { (v : N.Value.Meaning) → ⟦<N as ExtensionCodec>⟧.recs v ≡ N.Form.datum (N.number_of v) ∷ [] }
+    ensures written { (v : N.Value.Meaning) → ⟦<N as ExtensionCodec>⟧.refusal v ≡ None }
+    ensures normal { (v : N.Value.Meaning) → ⟦<N as ExtensionCodec>⟧.normal v }
+    ensures holds { (v : N.Value.Meaning) (o : Option N.Value.Meaning) → ⟦<N as ExtensionCodec>⟧.holds v o
+        ↔ (o ≡ Some (N.back v)) }
+    ensures memory { ⟦<N as ExtensionCodec>⟧.never_fails }
+{}
+
+/// Which values each scalar reads in a record, also of numbers that its values don't have.
+pub fn scalars_are_read()
+    ensures int32 { (d : Datum) → ⟦<Int32 as SingularCodec>⟧.one 100 full d ≡ option_map int32_of (varint_in d) }
+    ensures int64 { (d : Datum) → ⟦<Int64 as SingularCodec>⟧.one 100 full d ≡ option_map int64_of (varint_in d) }
+    ensures uint32 { (d : Datum) → ⟦<Uint32 as SingularCodec>⟧.one 100 full d ≡ option_map uint32_of (varint_in d) }
+    ensures uint64 { (d : Datum) → ⟦<Uint64 as SingularCodec>⟧.one 100 full d ≡ option_map (λ n. n) (varint_in d) }
+    ensures sint32 { (d : Datum) → ⟦<Sint32 as SingularCodec>⟧.one 100 full d ≡ option_map sint32_of (varint_in d) }
+    ensures sint64 { (d : Datum) → ⟦<Sint64 as SingularCodec>⟧.one 100 full d ≡ option_map sint64_of (varint_in d) }
+    ensures bool { (d : Datum) → ⟦<BoolScalar as SingularCodec>⟧.one 100 full d ≡ option_map bool_of (varint_in d) }
+    ensures fixed32 { (d : Datum) → ⟦<Fixed32 as SingularCodec>⟧.one 100 full d ≡ option_map (λ n. n) (fixed32_in d) }
+    ensures fixed64 { (d : Datum) → ⟦<Fixed64 as SingularCodec>⟧.one 100 full d ≡ option_map (λ n. n) (fixed64_in d) }
+    ensures sfixed32 { (d : Datum) → ⟦<Sfixed32 as SingularCodec>⟧.one 100 full d
+        ≡ option_map sfixed32_of (fixed32_in d) }
+    ensures sfixed64 { (d : Datum) → ⟦<Sfixed64 as SingularCodec>⟧.one 100 full d
+        ≡ option_map sfixed64_of (fixed64_in d) }
+{}
+
+/// Strings and bytes are read of the last record of bytes, strings where these are UTF-8; all of them are
+/// written, and read back; and no packed ones are read.
+pub fn texts_are_read()
+    ensures strings { (ds : List Datum) (o : Option (List ℕ)) → ⟦<StringCodec as ExtensionCodec>⟧.reads ds o
+        ↔ (o ≡ last_read string_held ds) }
+    ensures bytes { (ds : List Datum) (o : Option (List ℕ)) → ⟦<BytesCodec as ExtensionCodec>⟧.reads ds o
+        ↔ (o ≡ last_read bytes_held ds) }
+    ensures string { (v : List ℕ) → ⟦<StringCodec as ExtensionCodec>⟧.recs v ≡ held_bytes v ∷ [] }
+    ensures byte_string { (v : List ℕ) → ⟦<BytesCodec as ExtensionCodec>⟧.recs v ≡ held_bytes v ∷ [] }
+    ensures written { (v : List ℕ) → (⟦<StringCodec as ExtensionCodec>⟧.refusal v ≡ None)
+        × (⟦<BytesCodec as ExtensionCodec>⟧.refusal v ≡ None) }
+    ensures normal { (v : List ℕ) → ⟦<StringCodec as ExtensionCodec>⟧.normal v
+        × ⟦<BytesCodec as ExtensionCodec>⟧.normal v }
+    ensures packed { (bs : List ℕ) → (⟦<StringCodec as SingularCodec>⟧.packed bs ≡ [])
+        × (⟦<BytesCodec as SingularCodec>⟧.packed bs ≡ []) }
 {}

@@ -104,6 +104,8 @@ impl<N: Numbered> SingularCodec for N {
 
     ghost never_fails = { Unit {0} };
 
+    ghost takes = { λ d. ⊥ };
+
     fn decode_one(
         _alloc: Global,
         payload: &UnknownFieldData,

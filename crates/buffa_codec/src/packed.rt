@@ -1,7 +1,7 @@
 //! Codecs of lists, all elements in one record.
 
 ghost use Rattle.std.specs.Prelude.{◌≡◌, List, map, None};
-ghost use Rattle.buffa_codec.specs.Reading.{Each, ReadsList, packed_record};
+ghost use Rattle.buffa_codec.specs.Reading.{Each, Has, ReadsList, TakesElement, packed_record};
 ghost use Rattle.buffa_codec.specs.Texts.{packed_back};
 
 use crate::codec::{ExtensionCodec, PackableCodec};
@@ -45,6 +45,8 @@ impl<C: PackableCodec> ExtensionCodec for PackedRepeated<C> {
     ghost holds = { λ v o. o ≡ map C.back v };
 
     ghost never_fails = { ⊥ };
+
+    ghost takes = { Has (TakesElement C.takes (C.one 100) C.packed) };
 
     fn decode(
         alloc: Global,

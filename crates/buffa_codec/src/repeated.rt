@@ -1,9 +1,10 @@
 //! Codecs of lists, one record an element.
 
-ghost use Rattle.std.specs.Prelude.{◌≡◌, List, map, OnOk, IfErr};
+ghost use Rattle.std.specs.Prelude.{◌≡◌, List, map, OnErr, OnOk, IfErr};
 ghost use Rattle.buffa_wire.specs.Records.{Datum};
 ghost use Rattle.buffa_wire.specs.View.{datum_of};
-ghost use Rattle.buffa_codec.specs.Reading.{AddsRecord, CoversAll, Each, ReadsList, first_refusal, full};
+ghost use Rattle.buffa_codec.specs.Reading.{AddsRecord, CoversAll, Each, Has, ReadsList, TakesElement};
+ghost use Rattle.buffa_codec.specs.Reading.{first_refusal, full};
 ghost use Rattle.buffa_codec.specs.Texts.{list_back};
 
 use crate::codec::{ExtensionCodec, SingularCodec};
@@ -50,6 +51,8 @@ impl<C: SingularCodec> ExtensionCodec for Repeated<C> {
 
     ghost never_fails = { ⊥ };
 
+    ghost takes = { Has (TakesElement C.takes (C.one 100) C.packed) };
+
     fn decode(
         alloc: Global,
         number: u32,
@@ -95,6 +98,7 @@ fn read_one<C: SingularCodec>(
     ensures left { OnOk result (C.leaves 100 budget.old (datum_of payload.now) budget.new) }
     ensures values { OnOk result (AddsRecord C.Value.meaning C.packed (C.one 100 budget.old) out.old.items
         (datum_of payload.now) out.new.items) }
+    ensures full { OnErr result (TakesElement C.takes (C.one 100) C.packed (datum_of payload.now)) }
 {
     let ctx = DecodeContext {
         depth: RECURSION_LIMIT,

@@ -1,6 +1,6 @@
 //! Codecs of strings and bytes.
 
-ghost use Rattle.std.specs.Prelude.{◌≡◌, ℕ, List, [], None, refl, string_bytes, true};
+ghost use Rattle.std.specs.Prelude.{◌≡◌, ◌≢◌, ℕ, List, [], None, refl, string_bytes, true};
 ghost use Rattle.std.specs.Str.{is_utf8};
 ghost use Rattle.buffa_wire.specs.Records.{bytes};
 ghost use Rattle.buffa_wire.specs.BudgetLeft.{nothing};
@@ -37,6 +37,8 @@ impl SingularCodec for StringCodec {
     ghost cost = { λ d. nothing };
 
     ghost never_fails = { ⊥ };
+
+    ghost takes = { λ d. string_held d ≢ None };
 
     fn decode_one(alloc: Global, payload: &UnknownFieldData) -> Result<Option<String>, AllocError> {
         let UnknownFieldData::LengthDelimited(held) = payload else {
@@ -110,6 +112,8 @@ impl SingularCodec for BytesCodec {
     ghost cost = { λ d. nothing };
 
     ghost never_fails = { ⊥ };
+
+    ghost takes = { λ d. bytes_held d ≢ None };
 
     fn decode_one(
         alloc: Global,

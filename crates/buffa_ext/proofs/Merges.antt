@@ -1,5 +1,5 @@
 -- One turn of a loop that merges the records of a number.
-use Rattle.std.proofs.Common.{◌≡◌, ◌≢◌, ℕ, ◌+◌, ◌<◌, Bool, List, [], ◌∷◌, ◌++◌, ◌||◌, Option, Ok, Err, sym, ◌∙◌, ap, take, drop, length, get_or, append_assoc, subst}
+use Rattle.std.proofs.Common.{◌≡◌, ◌≢◌, ℕ, ◌+◌, ◌<◌, Bool, List, [], ◌∷◌, ◌++◌, ◌||◌, Option, Ok, Err, refl, sym, ◌∙◌, ap, take, drop, length, get_or, append_assoc, subst}
 use Rattle.std.proofs.lemmas.List.{map-append, append-nil, take-append-drop}
 use Rattle.std.proofs.lemmas.List.Elements.{filter_map-append}
 use Rattle.buffa_bytes.specs.declared.error.DecodeError.{DecodeError}
@@ -12,6 +12,11 @@ use Rattle.buffa_codec.proofs.Filtered.{sub-append}
 use Rattle.buffa_codec.proofs.Turns.{sub-take_more, sub-one_same, sub-one_other}
 use Rattle.buffa_ext.specs.Messages.{IsAllMerged, texts_in}
 use Rattle.buffa_ext.specs.MessageFacts.{merged_more, merged_fault}
+
+middle_none : {A : Type 0} (xs ys zs : List A) → xs ++ (ys ++ zs) ≡ [] → ys ≡ []
+middle_none [] [] zs h = refl
+middle_none [] (y ∷ ys) zs h = cc
+middle_none (x ∷ xs) ys zs h = cc
 
 module _ (held : Datum → Option (List ℕ)) (n : ℕ) (xs : List UnknownField) (i : ℕ) (x : UnknownField) (lt : i < length xs) (e : x ≡ get_or xs i x) where
   so_far : List (List ℕ)
@@ -35,6 +40,12 @@ module _ (held : Datum → Option (List ℕ)) (n : ℕ) (xs : List UnknownField)
       ∙ filter_map-append held (sub n (records_in (take (i + 1) xs))) (sub n (records_in (drop (i + 1) xs)))
       ∙ ap (λ l. l ++ texts_in held (sub n (records_in (drop (i + 1) xs)))) (texts_more same)
       ∙ append_assoc (texts_in held (sub n (records_in (take i xs)))) (texts_in held (datum_of x.payload ∷ [])) (texts_in held (sub n (records_in (drop (i + 1) xs))))
+
+  -- a text in a record of the number is one of all
+  pub text_is_there : (rs : List (ℕ × Datum)) → x.number ≡ n → records_in xs ≡ rs → texts_in held (datum_of x.payload ∷ []) ≢ [] → texts_in held (sub n rs) ≢ []
+  text_is_there rs same whole some none =
+      some (middle_none (texts_in held (sub n (records_in (take i xs)))) (texts_in held (datum_of x.payload ∷ [])) (texts_in held (sub n (records_in (drop (i + 1) xs))))
+      (sym (texts_cut same) ∙ ap (λ l. texts_in held (sub n l)) whole ∙ none))
 
   module _ {X : Type 0} (merged : X → List ℕ → Option X) (cost : List ℕ → BudgetLeft) (old mid : X) (b m : BudgetLeft) (f : Bool)
       (h : IsAllMerged merged cost (texts_in held (sub n (records_in (take i xs)))) old b (Ok f) mid m) where

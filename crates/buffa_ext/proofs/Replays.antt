@@ -1,9 +1,9 @@
 -- One turn of a replay.
-use Rattle.std.proofs.Common.{◌≡◌, ℕ, ◌<◌, List, [], ◌∷◌, ◌++◌, refl, sym, ◌∙◌, ap, map, take, length, arith}
+use Rattle.std.proofs.Common.{◌≡◌, ℕ, ◌<◌, List, [], ◌∷◌, ◌++◌, refl, sym, ◌∙◌, ap, drop, map, take, length, arith}
 use Rattle.std.proofs.lemmas.Grind.{common_steps}
 use Rattle.std.proofs.lemmas.List.{map-append, take-map}
 use Rattle.buffa_wire.specs.Records.{Datum}
-use Rattle.buffa_ext.specs.Steps.{Change, after, after_one}
+use Rattle.buffa_ext.specs.Steps.{Change, RefusedAt, TakesMemory, after, after_one}
 
 -- one more change
 pub after-snoc : (rs : List (ℕ × Datum)) (cs : List Change) (c : Change) → after rs (cs ++ c ∷ []) ≡ after_one (after rs cs) c
@@ -27,3 +27,12 @@ pub replays_front : {S : Type 0} (f : S → Change) (start now next : List (ℕ 
     → next ≡ after start (take n (map f all))
 replays_front f start now next all done rest n whole count so_far same =
     same ∙ so_far ∙ ap (λ l. after start (map f l)) (sym (take-front done rest) ∙ ap (λ k. take k (done ++ rest)) (sym count) ∙ ap (take n) (sym whole)) ∙ ap (after start) (sym (take-map f n all))
+
+drop-front : {S : Type 0} (f : S → Change) (xs ys : List S) → drop (length xs) (map f (xs ++ ys)) ≡ map f ys
+drop-front f [] ys = refl
+drop-front f (x ∷ xs) ys = drop-front f xs ys
+
+-- the step for which there is no memory takes some
+pub replay_refused : {S : Type 0} (f : S → Change) (all done rest : List S) (s : S) (n : ℕ) → all ≡ done ++ (s ∷ rest) → n ≡ length done → TakesMemory (f s) → RefusedAt n (map f all)
+replay_refused f all done rest s n whole count memory =
+    (f s, map f rest, ap (λ k. drop k (map f all)) count ∙ ap (λ l. drop (length done) (map f l)) whole ∙ drop-front f done (s ∷ rest), memory)

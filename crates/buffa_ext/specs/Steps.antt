@@ -1,5 +1,5 @@
 -- Sets and clears of numbers, and what they leave.
-use Rattle.std.specs.Prelude.{◌≡◌, ◌≢◌, ℕ, List, [], ◌∷◌, ◌++◌, Option, Some, None, unwrap_or, ◌==◌, if◌then◌else◌}
+use Rattle.std.specs.Prelude.{◌≡◌, ◌≢◌, ℕ, List, [], ◌∷◌, ◌++◌, Option, Some, None, drop, unwrap_or, ◌==◌, if◌then◌else◌}
 use Rattle.std.specs.List.{filter_map, last_or}
 use Rattle.buffa_wire.specs.Records.{Datum, Held}
 use Rattle.buffa_codec.specs.Sub.{sub, without, tagged}
@@ -18,6 +18,15 @@ after_one rs (clear n) = without n rs
 abbrev pub after : List (ℕ × Datum) → List Change → List (ℕ × Datum)
 after rs [] = rs
 after rs (c ∷ cs) = after (after_one rs c) cs
+
+-- a change that takes memory: a set to some records
+abbrev pub TakesMemory : Change → Type 0
+TakesMemory (set n ds) = ds ≢ []
+TakesMemory (clear n) = ⊥
+
+-- the change after so many takes memory
+abbrev pub RefusedAt : ℕ → List Change → Type 0
+RefusedAt k cs = (c : Change) × (rest : List Change) × (drop k cs ≡ c ∷ rest) × TakesMemory c
 
 -- what a change says of a number, where it says something
 abbrev pub says : ℕ → Change → Option (List Datum)

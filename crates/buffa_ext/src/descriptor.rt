@@ -1,6 +1,7 @@
 //! What names an extension, and its declared default.
-ghost use Rattle.std.specs.Prelude.{◌≡◌, ℕ, List, Option, Some, None, Ok, IfOk};
+ghost use Rattle.std.specs.Prelude.{◌≡◌, ℕ, List, Option, Some, None, Ok, Err, IfOk, OnErr};
 ghost use Rattle.std.specs.declared.alloc.Global.{Global};
+ghost use Rattle.std.specs.declared.alloc.AllocError.{AllocError};
 
 use buffa_codec::ExtensionCodec;
 use std::alloc::{AllocError, Global};
@@ -18,13 +19,17 @@ pub trait Declared<V> {
     /// Holds of what the default may be.
     ghost may_declare: { Self → Option V → Type 0 };
 
+    /// Making the default may be refused.
+    ghost may_refuse: { Self → Type 0 };
+
     /// The default, made anew, or none.
     ///
     /// # Errors
-    /// Where memory runs out.
+    /// Where memory runs out; never where none is declared.
     fn declared(&self, alloc: Global) -> Result<Option<V>, AllocError>
         requires { can_declare self.now }
-        ensures { IfOk result (may_declare self.now) };
+        ensures value { IfOk result (may_declare self.now) }
+        ensures full { OnErr result (may_refuse self.now) };
 }
 
 /// No default is declared.
@@ -35,6 +40,8 @@ impl<V> Declared<V> for NoDefault {
     ghost can_declare = { λ s. Unit {0} };
 
     ghost may_declare = { λ s o. o ≡ None };
+
+    ghost may_refuse = { λ s. ⊥ };
 
     fn declared(&self, _alloc: Global) -> Result<Option<V>, AllocError> {
         Ok(None)
@@ -50,6 +57,8 @@ impl<V, F: Fn(Global) -> Result<V, AllocError>> Declared<V> for Make<F> {
     ghost can_declare = { λ s. F.IsAlwaysCallable s.make };
 
     ghost may_declare = { λ s o. (a : Global) × (v : V) × F.post s.make a (Ok v) × (o ≡ Some v) };
+
+    ghost may_refuse = { λ s. (a : Global) × (e : AllocError) × F.post s.make a (Err e) };
 
     fn declared(&self, alloc: Global) -> Result<Option<V>, AllocError> {
         let value = (self.make)(alloc)?;
@@ -158,10 +167,11 @@ impl<C: ExtensionCodec, D: Declared<C::Value>> Extension<C, D> {
     /// The declared default, made anew, or none.
     ///
     /// # Errors
-    /// Where memory runs out.
+    /// Where memory runs out; never where none is declared.
     pub fn declared(&self, alloc: Global) -> Result<Option<C::Value>, AllocError>
         requires { D.can_declare self.now.default }
-        ensures { IfOk result (D.may_declare self.now.default) }
+        ensures value { IfOk result (D.may_declare self.now.default) }
+        ensures full { OnErr result (D.may_refuse self.now.default) }
     {
         self.default.declared(alloc)
     }

@@ -1,7 +1,8 @@
 //! Codecs of messages: all records of the right kind, merged in order.
 
-ghost use Rattle.std.specs.Prelude.{◌≡◌, ◌≤◌, ℕ, List, [], ◌∷◌, Option, Some, None, option_map, IfOk};
+ghost use Rattle.std.specs.Prelude.{◌≡◌, ◌≢◌, ◌≤◌, ℕ, List, [], ◌∷◌, Option, Some, None, Err, option_map, IfOk, OnErr};
 ghost use Rattle.std.proofs.Common.{◌∙◌};
+ghost use Rattle.buffa_bytes.specs.declared.error.DecodeError.TheVariants.{OutOfMemory};
 ghost use Rattle.buffa_wire.specs.BudgetLeft.{BudgetLeft};
 ghost use Rattle.buffa_wire.specs.Parse.{Fits};
 ghost use Rattle.buffa_wire.specs.Records.{records_of};
@@ -45,7 +46,8 @@ fn answer<M: Message>(
     merged: Result<bool, DecodeError>,
     message: M,
 ) -> Result<Option<M>, AllocError>
-    ensures { IfOk result (λ o. IsAnswer merged (M.meaning message) (option_map M.meaning o)) }
+    ensures answer { IfOk result (λ o. IsAnswer merged (M.meaning message) (option_map M.meaning o)) }
+    ensures memory { OnErr result (merged ≡ Err OutOfMemory) }
 {
     match merged {
         Ok(true) => Ok(Some(message)),
@@ -79,6 +81,8 @@ impl<K: MessageRecord, M: Message> SingularCodec for MessageIn<K, M> {
     ghost cost = { λ d. cost_all (M.cost 100) (texts_in K.held (d ∷ [])) };
 
     ghost never_fails = { ⊥ };
+
+    ghost takes = { λ d. texts_in K.held (d ∷ []) ≢ [] };
 
     fn decode_one(alloc: Global, payload: &UnknownFieldData) -> Result<Option<M>, AllocError> {
         let mut budget = Budget::new(DEFAULT_UNKNOWN_FIELD_LIMIT);
@@ -131,8 +135,9 @@ fn merge_number<K: MessageRecord, M: Message>(
     budget: &mut Budget,
     message: &mut M,
 ) -> Result<bool, DecodeError>
-    ensures { IsAllMerged (M.merged 100) (M.cost 100) (texts_in K.held (sub number fields.now.records))
+    ensures merged { IsAllMerged (M.merged 100) (M.cost 100) (texts_in K.held (sub number fields.now.records))
         (M.meaning message.old) budget.old result (M.meaning message.new) budget.new }
+    ensures text { OnErr result (texts_in K.held (sub number fields.now.records) ≢ []) }
 {
     let mut found = false;
     for field in fields.iter().as_slice() {
@@ -177,6 +182,8 @@ impl<K: MessageRecord, M: Message> ExtensionCodec for MessageIn<K, M> {
     ghost holds = { λ v o. o ≡ Some v };
 
     ghost never_fails = { ⊥ };
+
+    ghost takes = { λ ds. texts_in K.held ds ≢ [] };
 
     fn decode(alloc: Global, number: u32, fields: &UnknownFields) -> Result<Option<M>, AllocError> {
         let mut budget = Budget::new(DEFAULT_UNKNOWN_FIELD_LIMIT);

@@ -1,6 +1,6 @@
 //! How records hold the texts of messages: in bytes, or as a group.
 
-ghost use Rattle.std.specs.Prelude.{◌≡◌, ℕ, List, [], ◌∷◌, Option, Some, None, IfOk, refl};
+ghost use Rattle.std.specs.Prelude.{◌≡◌, ◌≢◌, ℕ, List, [], ◌∷◌, Option, Some, None, IfOk, OnErr, refl};
 ghost use Rattle.buffa_bytes.specs.declared.error.EncodeError.{EncodeError};
 ghost use Rattle.buffa_wire.specs.BudgetLeft.{budget_left};
 ghost use Rattle.buffa_wire.specs.Parse.{Fits};
@@ -30,16 +30,17 @@ pub trait MessageRecord {
     /// Merges the text in a record of this kind, at the context's depth, and tells whether there is one.
     ///
     /// # Errors
-    /// Those of [`Message::merge`].
+    /// Those of [`Message::merge`], where there is one.
     fn merge_in<M: Message>(
         alloc: Global,
         payload: &UnknownFieldData,
         message: &mut M,
         ctx: DecodeContext<'_>,
     ) -> Result<bool, DecodeError>
-        ensures { IsAllMerged (M.merged ctx.entry.depth) (M.cost ctx.entry.depth)
+        ensures merged { IsAllMerged (M.merged ctx.entry.depth) (M.cost ctx.entry.depth)
             (texts_in held (datum_of payload.now ∷ []))
-            (M.meaning message.old) ctx.entry.budget.now result (M.meaning message.new) (budget_left ctx.exit) };
+            (M.meaning message.old) ctx.entry.budget.now result (M.meaning message.new) (budget_left ctx.exit) }
+        ensures text { OnErr result (texts_in held (datum_of payload.now ∷ []) ≢ []) };
 
     /// The record of a text.
     ///

@@ -1,6 +1,6 @@
 //! Messages that keep extensions.
 
-ghost use Rattle.std.specs.Prelude.{◌≡◌, ◌↔◌, IsTrue, ℕ, List, Option, OnOk, OnErr, IfOk, IsOk};
+ghost use Rattle.std.specs.Prelude.{◌≡◌, ◌↔◌, ◌⊎◌, IsTrue, ℕ, List, Option, OnOk, OnErr, IfOk, IsOk};
 ghost use Rattle.std.specs.Borrow.{sem, Lends};
 ghost use Rattle.buffa_wire.specs.Records.{Held};
 ghost use Rattle.buffa_wire.specs.contracts.unknown_fields.UnknownFields.{the_row as fields_row};
@@ -53,7 +53,8 @@ pub trait ExtensionSet {
     /// What the records of the number are read as.
     ///
     /// # Errors
-    /// Where memory runs out; never with codecs of numbers, whose reading takes none.
+    /// Where memory runs out; never with codecs of numbers, whose reading takes none, nor where the records
+    /// are of no use to the codec.
     ///
     /// ```ignore
     /// let retries = options.extension(alloc, &RETRIES)?;
@@ -66,6 +67,7 @@ pub trait ExtensionSet {
         requires { ext.now.extendee.now ≡ fqn }
         ensures value { IfOk result (λ o. C.reads (sub ext.now.number (fields_of self.now).records) (C.answer o)) }
         ensures always { C.never_fails → IsOk result }
+        ensures full { OnErr result (C.takes (sub ext.now.number (fields_of self.now).records)) }
     {
         C::decode(alloc, ext.number(), self.unknown_fields())
     }
@@ -148,7 +150,7 @@ pub trait ExtensionSet {
     /// The value that is read; or else the declared default, made anew; or else the type's.
     ///
     /// # Errors
-    /// Where memory runs out.
+    /// Where memory runs out for the reading, or for the declared default.
     ///
     /// ```ignore
     /// let retries = options.extension_or_default(alloc, &RETRIES)?;
@@ -160,9 +162,11 @@ pub trait ExtensionSet {
     >(&self, alloc: Global, ext: &Extension<C, D>) -> Result<V, AllocError>
         requires extendee { ext.now.extendee.now ≡ fqn }
         requires callable { D.can_declare ext.now.default }
-        ensures { IfOk result (λ v. let records = sub ext.now.number (fields_of self.now).records in
+        ensures value { IfOk result (λ v. let records = sub ext.now.number (fields_of self.now).records in
             IsDefaulted (λ o. C.reads records (C.answer o)) (D.may_declare ext.now.default) (V.meaning v
             ≡ V.blank_is) v) }
+        ensures full { OnErr result (C.takes (sub ext.now.number (fields_of self.now).records)
+            ⊎ D.may_refuse ext.now.default) }
     {
         if let Some(value) = self.extension(alloc, ext)? {
             return Ok(value);

@@ -1,9 +1,9 @@
 //! Sets and clears, one after the other.
 
-ghost use Rattle.std.specs.Prelude.{◌≡◌, ◌<◌, length, map, take, OnOk, OnErr, IfErr, IfOk};
+ghost use Rattle.std.specs.Prelude.{◌≡◌, ◌≢◌, ◌<◌, [], length, map, take, OnOk, OnErr, IfErr, IfOk};
 ghost use Rattle.buffa_wire.specs.View.{datum_of};
 ghost use Rattle.buffa_codec.specs.Sub.{tagged};
-ghost use Rattle.buffa_ext.specs.Steps.{after, after_one};
+ghost use Rattle.buffa_ext.specs.Steps.{RefusedAt, TakesMemory, after, after_one};
 ghost use Rattle.buffa_ext.specs.Changes.{change_of};
 
 use crate::stage::{remove, replace};
@@ -37,7 +37,8 @@ fn staged(
     number: u32,
     payloads: Vec<UnknownFieldData>,
 ) -> Result<UnknownFields, AllocError>
-    ensures { IfOk result (λ f. f.records ≡ tagged number (map datum_of payloads.items)) }
+    ensures records { IfOk result (λ f. f.records ≡ tagged number (map datum_of payloads.items)) }
+    ensures memory { OnErr result (map datum_of payloads.items ≢ []) }
 {
     let mut fields = UnknownFields::new(alloc);
     for payload in payloads {
@@ -50,6 +51,7 @@ fn staged(
 fn replay_one(alloc: Global, fields: &mut UnknownFields, step: Step) -> Result<(), AllocError>
     ensures ok { OnOk result (fields.new.records ≡ after_one fields.old.records (change_of step)) }
     ensures err { OnErr result (fields.new.records ≡ fields.old.records) }
+    ensures memory { OnErr result (TakesMemory (change_of step)) }
 {
     match step {
         Step::Set { number, records } => {
@@ -64,7 +66,7 @@ fn replay_one(alloc: Global, fields: &mut UnknownFields, step: Step) -> Result<(
 /// Takes the steps, or those before the first for which there is no memory.
 ///
 /// # Errors
-/// Where memory runs out: how many steps stand.
+/// Where memory runs out: how many steps stand. It runs out at no clear, and at no set to no records.
 pub fn replay(
     alloc: Global,
     fields: &mut UnknownFields,
@@ -74,6 +76,7 @@ pub fn replay(
     ensures done { IfErr result (λ e. e.done < length steps.items) }
     ensures err { IfErr result (λ e. fields.new.records
         ≡ after fields.old.records (take e.done (map change_of steps.items))) }
+    ensures memory { IfErr result (λ e. RefusedAt e.done (map change_of steps.items)) }
 {
     let mut done = 0usize;
     for step in steps {

@@ -1,5 +1,6 @@
 -- A field of an entry that was merged, or refused, at each place where reading it ends; and the fields of an entry.
-use Rattle.std.proofs.Common.{arith, ◌≡◌, ◌≢◌, ◌+◌, ◌<◌, ◌≤◌, inr, ℕ, Bool, false, List, [], ◌∷◌, Ok, Err, length, ap, refl, subst, sym, ◌∙◌}
+use Rattle.std.proofs.Common.{arith, ◌≡◌, ◌≢◌, ◌+◌, ◌<◌, ◌≤◌, inl, inr, ℕ, Bool, false, List, [], ◌∷◌, Ok, Err, length, ap, refl, subst, sym, ◌∙◌}
+use Rattle.buffa_bytes.proofs.FullLemmas.{tag_no_full}
 use Rattle.buffa_bytes.specs.declared.error.DecodeError.{DecodeError}
 use Rattle.buffa_bytes.specs.declared.error.DecodeError.TheVariants.{OutOfMemory}
 use Rattle.buffa_bytes.specs.declared.wire_type.WireType.{WireType}
@@ -7,48 +8,54 @@ use Rattle.buffa_wire.specs.Content.{Content}
 use Rattle.buffa_wire.specs.BudgetLeft.{BudgetLeft, Pays, PaysAtMost, nothing}
 use Rattle.buffa_wire.specs.Reading.{check_wire, skip_at, tag_at}
 use Rattle.buffa_map.specs.Parses.{ParsesTo}
-use Rattle.buffa_map.specs.Codec.{Reading, Refuses, Spends, value_at, value_need}
+use Rattle.buffa_map.specs.Codec.{Reading, Refuses, Spends, TakesMemory, value_at, value_need}
 use Rattle.buffa_map.specs.Entry.{FieldFault, IsField, blanks, need_at}
-use Rattle.buffa_map.specs.Fields.{MergesField, MergesFields, RefusesField, RefusesFields}
+use Rattle.buffa_map.specs.Fields.{FieldTakesMemory, MergesField, MergesFields, RefusesField, RefusesFields}
 use Rattle.buffa_map.specs.declared.map_entry.MapEntry.{MapEntry}
 use Rattle.buffa_map.proofs.EntryLemmas.{field_shorter, field_step, refused_in, spent_in, value_free}
+use Rattle.buffa_map.proofs.MemoryLemmas.{mismatch_no_full, skip_no_full}
 use Rattle.buffa_map.proofs.NeedLemmas.{checked, field_broken, fields_fault, fields_spent, key_mismatch, key_refused, need-key, need-value, need_end, need_step, other_broken, value_merged, value_mismatch, value_refused}
 
 module _ {K V : Type 0} (key : Reading K) (val : Reading V) (d : ℕ) (s : MapEntry K V) (left : BudgetLeft) (bs : List ℕ) where
   -- nothing was spent
-  refused : (f : DecodeError) → (f ≢ OutOfMemory → FieldFault key val d s bs f) → RefusesField key val d s left bs left f
-  refused f h = record { fault = λ ne. inr (h ne); pays = (omega arith, omega arith, omega arith, omega arith) }
+  refused : (f : DecodeError) → (f ≡ OutOfMemory → FieldTakesMemory key val d bs) → (f ≢ OutOfMemory → FieldFault key val d s bs f) → RefusesField key val d s left bs left f
+  refused f full h = record { fault = λ ne. inr (h ne); full = full; pays = (omega arith, omega arith, omega arith, omega arith) }
 
   pub no_tag : (f : DecodeError) → tag_at bs ≡ Err f → RefusesField key val d s left bs left f
-  no_tag f h = refused f (λ ne. field_broken key val d s bs f (rw h refl))
+  no_tag f h = refused f (tag_no_full bs f h) (λ ne. field_broken key val d s bs f (rw h refl))
 
   module _ (n : ℕ) (w : WireType) (rest : List ℕ) (tag : tag_at bs ≡ Ok (n, w, rest)) where
+    tag_as : (m : ℕ) (v : WireType) → n ≡ m → w ≡ v → tag_at bs ≡ Ok (m, v, rest)
+    tag_as m v same wire = subst (λ (z : WireType). tag_at bs ≡ Ok (m, z, rest)) wire (subst (λ (z : ℕ). tag_at bs ≡ Ok (z, w, rest)) same tag)
+
     module _ (one : n ≡ 1) (v : WireType) (is : v ≡ key.wire) where
       pub wrong_key : (f : DecodeError) → check_wire n v w ≡ Err f → RefusesField key val d s left bs left f
-      wrong_key f h = refused f (λ ne. key_mismatch key val d s bs rest n v w f tag one is h)
+      wrong_key f h = refused f (mismatch_no_full n v w f h) (λ ne. key_mismatch key val d s bs rest n v w f tag one is h)
 
       pub bad_key : (T : Type 0) (over : BudgetLeft) (f : DecodeError) → check_wire n v w ≡ Ok tt → (key.nested ≡ false → (c : Content) → key.cost d c ≡ nothing) →
-          (f ≢ OutOfMemory → Refuses key.nested key d s.key rest left f) → Spends {T = T} key.nested (Err f) left (value_need key d rest) over → RefusesField key val d s left bs over f
-      bad_key T over f wire free fault spent =
+          (f ≢ OutOfMemory → Refuses key.nested key d s.key rest left f) → (f ≡ OutOfMemory → TakesMemory key d rest) → Spends {T = T} key.nested (Err f) left (value_need key d rest) over → RefusesField key val d s left bs over f
+      bad_key T over f wire free fault full spent =
           let same : w ≡ key.wire = checked n v w wire ∙ is in
           let paid : PaysAtMost left (value_need key d rest) over = spent_in {T = T} key.nested (Err f) left (value_need key d rest) over (λ plain. value_free key d s.key rest (free plain)) spent in
           record {
             fault = λ ne. key_refused key val d s bs rest n w left f tag one same (refused_in key d s.key key.nested rest left f (fault ne));
+            full = λ out. inl (rest, tag_as 1 key.wire one same, full out);
             pays = subst (λ z. PaysAtMost left z over) (sym (need-key key val d bs rest n w tag one same)) paid;
           }
 
     module _ (not_one : n ≢ 1) (two : n ≡ 2) (v : WireType) (is : v ≡ val.wire) where
       pub wrong_value : (f : DecodeError) → check_wire n v w ≡ Err f → RefusesField key val d s left bs left f
-      wrong_value f h = refused f (λ ne. value_mismatch key val d s bs rest n v w f tag not_one two is h)
+      wrong_value f h = refused f (mismatch_no_full n v w f h) (λ ne. value_mismatch key val d s bs rest n v w f tag not_one two is h)
 
       module _ (wire : check_wire n v w ≡ Ok tt) (free : val.nested ≡ false → (c : Content) → val.cost d c ≡ nothing) where
         pub bad_value : (T : Type 0) (over : BudgetLeft) (f : DecodeError) →
-            (f ≢ OutOfMemory → Refuses val.nested val d s.value rest left f) → Spends {T = T} val.nested (Err f) left (value_need val d rest) over → RefusesField key val d s left bs over f
-        bad_value T over f fault spent =
+            (f ≢ OutOfMemory → Refuses val.nested val d s.value rest left f) → (f ≡ OutOfMemory → TakesMemory val d rest) → Spends {T = T} val.nested (Err f) left (value_need val d rest) over → RefusesField key val d s left bs over f
+        bad_value T over f fault full spent =
             let same : w ≡ val.wire = checked n v w wire ∙ is in
             let paid : PaysAtMost left (value_need val d rest) over = spent_in {T = T} val.nested (Err f) left (value_need val d rest) over (λ plain. value_free val d s.value rest (free plain)) spent in
             record {
               fault = λ ne. value_refused key val d s bs rest n w left f tag not_one two same (refused_in val d s.value val.nested rest left f (fault ne));
+              full = λ out. inr (rest, tag_as 2 val.wire two same, full out);
               pays = subst (λ z. PaysAtMost left z over) (sym (need-value key val d bs rest n w tag not_one two same)) paid;
             }
 
@@ -61,9 +68,12 @@ module _ {K V : Type 0} (key : Reading K) (val : Reading V) (d : ℕ) (s : MapEn
             record { field = both.0; pays = both.1 }
 
     pub bad_other : (f : DecodeError) → n ≢ 1 → n ≢ 2 → skip_at d n w rest ≡ Err f → RefusesField key val d s left bs left f
-    bad_other f not_one not_two h = refused f (λ ne. other_broken key val d s bs rest n w f tag not_one not_two h)
+    bad_other f not_one not_two h = refused f (skip_no_full d n w rest f h) (λ ne. other_broken key val d s bs rest n w f tag not_one not_two h)
 
 -- ---- all fields
+some_left : {bs : List ℕ} → 0 < length bs → bs ≢ []
+some_left h e = absurd (omega (arith, ap length e))
+
 none : {bs : List ℕ} → length bs ≡ 0 → bs ≡ []
 none {bs = []} h = refl
 none {bs = b ∷ bs} h = absurd (omega (arith, h))
@@ -114,6 +124,7 @@ module _ {K V : Type 0} (key : Reading K) (val : Reading V) (d : ℕ) (bytes : L
 
     pub bad_field : (over : BudgetLeft) (f : DecodeError) → 0 < length rest → RefusesField key val d s now rest over f → RefusesFields key val d bytes left over f
     bad_field over f some k = record {
+      full = λ out. (s, rest, h.reached, some_left some, k.full out);
       fault = λ ne. fields_fault key val d bytes s rest left now some h.unknown h.memory f h.reached (k.fault ne);
       pays = fields_spent key val d bytes s rest left now some h.unknown h.memory over h.no_slot h.no_unit k.pays;
     }

@@ -16,11 +16,11 @@ use Rattle.buffa_map.proofs.PutLemmas.{lookup_entry-put, key_or}
 abbrev pub beside : {K V : Type 0} → K × V → K × (K × V)
 beside e = (e.0, e)
 
-lookup-beside : {K V : Type 0} (t : K → Bool) (es : List (K × V)) → lookup t (map beside es) ≡ lookup_entry t es
+pub lookup-beside : {K V : Type 0} (t : K → Bool) (es : List (K × V)) → lookup t (map beside es) ≡ lookup_entry t es
 lookup-beside t [] = refl
 lookup-beside t (e ∷ es) = ap (cond (t e.0) (Some e)) (lookup-beside t es)
 
-keys-beside : {K V : Type 0} (es : List (K × V)) → keys_of (map beside es) ≡ keys_of es
+pub keys-beside : {K V : Type 0} (es : List (K × V)) → keys_of (map beside es) ≡ keys_of es
 keys-beside [] = refl
 keys-beside (e ∷ es) = ap (λ z. e.0 ∷ z) (keys-beside es)
 

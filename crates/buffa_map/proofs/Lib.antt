@@ -5,6 +5,8 @@ pub mod AlongLemmas
 pub mod EntryLemmas
 pub mod NeedLemmas
 pub mod FieldsLemmas
+pub mod MemoryLemmas
+pub mod TailLemmas
 pub mod MergeLemmas
 pub mod MessageLemmas
 pub mod ResultLemmas
@@ -19,3 +21,4 @@ pub mod ClassLemmas
 pub mod RewriteLemmas
 pub mod RewriteCallLemmas
 pub mod PlainLemmas
+pub mod WalkLemmas

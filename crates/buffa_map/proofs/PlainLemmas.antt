@@ -27,8 +27,8 @@ module _ {K V : Type 0} (r : Rules K V) (need : (e : List ℕ) → need_of r.key
   pub exact_merge : (new : State K V) (rest : List ℕ) → MergesExactly r old bs new rest
   exact_merge new rest m = (omega (arith, m.pays.1, ap (λ (z : BudgetLeft). z.memory) (need m.entry)), omega (arith, m.pays.0, ap (λ (z : BudgetLeft). z.unknown) (need m.entry)))
 
-  pub exact_refusal : inner_need r.key r.val r.depth bs ≡ nothing → (new : State K V) (f : DecodeError) → RefusesEntry r old bs new f → SpendsExactly r old bs new f
-  exact_refusal inner new f h =
+  pub exact_refusal : inner_need r.key r.val r.depth bs ≡ nothing → (new : State K V) (rest : List ℕ) (f : DecodeError) → RefusesEntry r old bs new rest f → SpendsExactly r old bs new f
+  exact_refusal inner new rest f h =
       let unit = ap (λ (z : BudgetLeft). z.memory) inner in
       let slot = ap (λ (z : BudgetLeft). z.unknown) inner in
       record {

@@ -18,22 +18,23 @@ module _ {K V : Type 0} (r : Rules K V) (cleared : List (K × V)) (records : Lis
   pub anew : (rest : List ℕ) → cleared ≡ [] → ReadsRun r (state cleared records left) bs new rest → ReadsRun r (state [] records left) bs new rest
   anew rest is h = subst (λ z. ReadsRun r (state z records left) bs new rest) is h
 
-  pub anew_stopped : (f : DecodeError) → cleared ≡ [] → StopsRun r (state cleared records left) bs new f → StopsRun r (state [] records left) bs new f
-  anew_stopped f is h = subst (λ z. StopsRun r (state z records left) bs new f) is h
+  pub anew_stopped : (unread : List ℕ) (f : DecodeError) → cleared ≡ [] → StopsRun r (state cleared records left) bs new unread f → StopsRun r (state [] records left) bs new unread f
+  anew_stopped unread f is h = subst (λ z. StopsRun r (state z records left) bs new unread f) is h
 
-module _ {K V : Type 0} (rk : Reading K) (rv : Reading V) (key : Writing K) (val : Writing V) (eq : K → K → Bool) (d n cost : ℕ) (KeyFits : K → Type 0) (ValFits : V → Type 0)
+module _ {K V : Type 0} (rk : Reading K) (rv : Reading V) (key : Writing K) (val : Writing V) (eq : K → K → Bool) (keeps : Bool) (d n cost : ℕ) (KeyFits : K → Type 0) (ValFits : V → Type 0)
     (left over : BudgetLeft) (bs rest : List ℕ) (pairs : List (K × V)) (none kept : List (ℕ × Datum)) (old new : List ℕ)
-    (empty : none ≡ []) (read : ReadsRun (keeping rk rv eq d n cost) (state [] none left) bs (state pairs kept over) rest) where
+    (empty : none ≡ []) (read : ReadsRun (keeping rk rv eq keeps d n cost) (state [] none left) bs (state pairs kept over) rest) where
   is_kept : kept ≡ undeclared_records n read.entries
   is_kept = read.keeps ∙ ap (λ z. z ++ added (λ m e. (m, bytes e) ∷ []) n read.entries) empty ∙ added_records n read.entries
 
   pub rewrites : (u : Unit {0}) → WritesWalk eq key val KeyFits ValFits n pairs kept old {T = Unit {0}} (Ok u) new →
-      RewritesRun (keeping rk rv eq d n cost) key val KeyFits ValFits left bs pairs over rest old new
+      RewritesRun (keeping rk rv eq keeps d n cost) key val KeyFits ValFits left bs pairs over rest old new
   rewrites u w = record {
     entries = read.entries;
     out = field_text key val n w.walk ++ records_text (undeclared_records n read.entries);
     run = read.run;
     folded = read.folded;
+    order = read.order;
     rewrite = (w.walk, (w.once.0, λ q. read.folded q ∙ w.once.1 q), w.text.0, w.fits, refl);
     text = w.text.1 ∙ ap (λ z. old ++ (field_text key val n w.walk ++ records_text z)) is_kept;
     paid = read.paid;
@@ -41,12 +42,13 @@ module _ {K V : Type 0} (rk : Reading K) (rv : Reading V) (key : Writing K) (val
   }
 
   pub refuses : (e : EncodeError) → WritesWalk eq key val KeyFits ValFits n pairs kept old {T = Unit {0}} (Err e) new →
-      RefusesOutput (keeping rk rv eq d n cost) key val left bs pairs over rest old new e
+      RefusesOutput (keeping rk rv eq keeps d n cost) key val left bs pairs over rest old new e
   refuses e w = record {
     entries = read.entries;
     walk = w.walk;
     run = read.run;
     folded = read.folded;
+    order = read.order;
     once = (w.once.0, λ q. read.folded q ∙ w.once.1 q);
     text = subst (λ (z : List (ℕ × Datum)). RefusesRewrite key val n z old new w.walk e) is_kept w.text;
     paid = read.paid;

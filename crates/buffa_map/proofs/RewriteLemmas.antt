@@ -27,7 +27,7 @@ use Rattle.buffa_map.specs.Run.{fold_entries, undeclared, Run, EntryRecord, inne
 use Rattle.buffa_map.specs.Text.{AllHold, field_text}
 use Rattle.buffa_map.specs.declared.map_entry.MapEntry.{MapEntry}
 use Rattle.buffa_map.proofs.AlongLemmas.{ok_same}
-use Rattle.buffa_map.proofs.BackLemmas.{as_record, is_tag, run_back}
+use Rattle.buffa_map.proofs.BackLemmas.{as_record, is_tag, plain_back, run_back}
 use Rattle.buffa_map.proofs.ClassLemmas.{AreNew, IsLater, IsOrderedKinds, Kind, exact, first_key, ignorant, informed, kept_meaning, last_kind, later, nothing_known, put_all}
 use Rattle.buffa_map.proofs.ClassLemmas.Kind.{Both, Later, Neither}
 use Rattle.buffa_map.proofs.PutLemmas.{lookup_entry-none}
@@ -157,7 +157,7 @@ module _ {K : Type 0} (key : Reading K) (Normal : K → Type 0) (blank_normal : 
       let i = along_twin d ps (blanks key (closed_reading e) d) (blanks key (closed_reading f) d) s start a in
       (i.0, (ps, is, i.1), i.2)
 
-  run_twin : (d n : ℕ) (b : List ℕ) (es : List (EntryRecord K ℤ)) → Run key (closed_reading e) d n b es → (fs : List (EntryRecord K ℤ)) × Run key (closed_reading f) d n b fs × Twins Normal e es fs
+  pub run_twin : (d n : ℕ) (b : List ℕ) (es : List (EntryRecord K ℤ)) → Run key (closed_reading e) d n b es → (fs : List (EntryRecord K ℤ)) × Run key (closed_reading f) d n b fs × Twins Normal e es fs
   run_twin d n b [] h = ([], h, tt)
   run_twin d n b (x ∷ es) (r, rest, (t, l, tag, len, is, entry), split, more) =
       let one = entry_twin d x.bytes x.parts entry in
@@ -388,7 +388,7 @@ module _ {K : Type 0} (key : Reading K) (write : Writing K) (same_wire : write.w
 
   -- a pair of the map, as its record is read
   abbrev says : K × ℤ → EntryRecord K ℤ
-  says p = as_record key (closed_reading f) write closed_writing same_wire refl plain refl (λ k. Fits k × Normal k) (ClosedFits f) key_back value_back p
+  says p = as_record write closed_writing p
 
   undeclared-says : (l : List (K × ℤ)) → undeclared (map says l) ≡ []
   undeclared-says [] = refl
@@ -440,7 +440,7 @@ module _ {K : Type 0} (key : Reading K) (write : Writing K) (same_wire : write.w
   rewrite_means d n b out es fs num h k (l, enum, has, fits, is) =
       let t = twins key Normal blank_normal stays e f has_blank refines free d n b es fs h k in
       let ok = all_fit Fits Normal e f refines.0 l fits (keys_of_walk es fs t l enum) in
-      let one = run_back key (closed_reading f) write closed_writing same_wire refl plain refl (λ k. Fits k × Normal k) (ClosedFits f) key_back value_back d n l num has ok in
+      let one = run_back key (closed_reading f) write closed_writing same_wire refl d (λ k. Fits k × Normal k) (ClosedFits f) (λ v ok. plain_back key write d v plain (key_back d key.blank v ok)) (λ v ok. plain_back (closed_reading f) closed_writing d v refl (value_back d f.blank v ok)) n l num has ok in
       let two = unread_run key Normal e f d n b es fs num t k in
       let both = Run-join key (closed_reading f) d n (field_text write closed_writing n l) (records_text (undeclared_records n es)) (map says l) (unread es fs) one two in (
         said_again es fs t l enum,

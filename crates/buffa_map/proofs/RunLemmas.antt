@@ -17,7 +17,7 @@ use Rattle.buffa_wire.specs.Records.{Datum, bytes}
 use Rattle.buffa_map.specs.Parses.{join, ParsesEach}
 use Rattle.buffa_map.specs.Codec.{Reading}
 use Rattle.buffa_map.specs.Entry.{IsEntry, FaultOf, EntryOf, EntryFault, blanks, inner_need, need_at, need_of}
-use Rattle.buffa_map.specs.Pairs.{put, SamePairs}
+use Rattle.buffa_map.specs.Pairs.{InOrder, put, SamePairs}
 use Rattle.buffa_map.specs.Run.{EntryRecord, IsRecord, Run, Paid, RecordFault, RunFault, entry_in, inner_needs, lacks, record_need, record_at, after_entry, next_record, run_of, step, fold_entries, undeclared, added, undeclared_record, undeclared_records}
 use Rattle.buffa_map.specs.declared.map_entry.MapEntry.{MapEntry}
 use Rattle.buffa_map.proofs.AlongLemmas.{Answers, answer, answers_as, along_sound, along_complete, along_faulty}
@@ -319,6 +319,11 @@ SamePairs-step laws m k s h = chosen laws m k s.key s.value s.known h
 pub fold_entries-more : {K V : Type 0} {eq : K → K → Bool} → IsEquivalence eq → (m k l : List (K × V)) (es : List (EntryRecord K V)) (x : EntryRecord K V) (s : MapEntry K V) → x.parts ≡ s → SamePairs eq (fold_entries eq m es) k → SamePairs eq (step eq k s) l → SamePairs eq (fold_entries eq m (es ++ x ∷ [])) l
 fold_entries-more {eq = eq} laws m k l es x s is h i =
     rw (fold_entries-append eq m es (x ∷ []), is) (λ q. SamePairs-step laws (fold_entries eq m es) k s h q ∙ i q)
+
+pub fold_entries-order : {K V : Type 0} (eq : K → K → Bool) (keeps : Bool) (m k l : List (K × V)) (es : List (EntryRecord K V)) (x : EntryRecord K V) (s : MapEntry K V) → x.parts ≡ s →
+    InOrder keeps (fold_entries eq m es) k → InOrder keeps (step eq k s) l → InOrder keeps (fold_entries eq m (es ++ x ∷ [])) l
+fold_entries-order eq keeps m k l es x s is h i kept =
+    i kept ∙ ap (λ z. step eq z s) (h kept) ∙ sym (fold_entries-append eq m es (x ∷ []) ∙ ap (λ z. step eq (fold_entries eq m es) z) is)
 
 kept_first : {K V : Type 0} (b : Bool) (e : List ℕ) (es fs : List (EntryRecord K V)) → undeclared (es ++ fs) ≡ undeclared es ++ undeclared fs → cond b (undeclared (es ++ fs)) (e ∷ undeclared (es ++ fs)) ≡ cond b (undeclared es) (e ∷ undeclared es) ++ undeclared fs
 kept_first true e es fs h = h

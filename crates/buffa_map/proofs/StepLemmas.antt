@@ -1,20 +1,25 @@
 -- A run, record by record: what was read so far, and how reading it ends.
-use Rattle.std.proofs.Common.{arith, ◌≡◌, ◌≢◌, ◌<◌, ◌++◌, inl, inr, ℕ, List, [], ◌∷◌, Ok, Err, ap, append-nil, append_assoc, length, refl, subst, sym, ◌∙◌}
+use Rattle.std.proofs.Common.{arith, ◌≡◌, ◌≢◌, ◌<◌, ◌++◌, ◌⊎◌, inl, inr, ℕ, List, [], ◌∷◌, Ok, Err, ap, append-nil, append_assoc, length, refl, subst, sym, ◌∙◌}
 use Rattle.std.specs.Cmp.{IsEquivalence}
 use Rattle.buffa_bytes.proofs.FieldLemmas.{tag_falls}
 use Rattle.buffa_bytes.proofs.FullLemmas.{tag_no_full}
 use Rattle.buffa_bytes.proofs.StepLemmas.{agree_err, agree_ok}
 use Rattle.buffa_bytes.specs.declared.error.DecodeError.{DecodeError}
-use Rattle.buffa_bytes.specs.declared.error.DecodeError.TheVariants.{OutOfMemory, UnexpectedField, WireTypeMismatch}
+use Rattle.buffa_bytes.specs.declared.error.DecodeError.TheVariants.{OutOfMemory, UnexpectedField}
 use Rattle.buffa_bytes.specs.declared.wire_type.WireType.{WireType}
 use Rattle.buffa_bytes.specs.declared.wire_type.WireType.TheVariants.{LengthDelimited}
 use Rattle.buffa_wire.specs.BudgetLeft.{BudgetLeft}
 use Rattle.buffa_wire.specs.Reading.{check_wire, tag_at}
 use Rattle.buffa_map.specs.Merge.{MergesEntry, ReadsRun, RefusesEntry, Rules, State, StopsRun}
-use Rattle.buffa_map.specs.Pairs.{SamePairs}
+use Rattle.buffa_map.specs.Pairs.{InOrder, SamePairs}
 use Rattle.buffa_map.specs.Run.{fold_entries, Paid, RecordFault, Run, EntryRecord, added}
 use Rattle.buffa_map.proofs.EntryLemmas.{check_sound}
-use Rattle.buffa_map.proofs.RunLemmas.{fold_entries-more, Paid-more, Run-last, added-more, entry_falls, record_entry, record_found, record_mismatch, record_needs, record_other, record_tag}
+use Rattle.buffa_bytes.proofs.TailLemmas.{tail_more}
+use Rattle.buffa_bytes.specs.Unread.{IsTailOf}
+use Rattle.buffa_wire.specs.Field.{TakesDelimited}
+use Rattle.buffa_map.proofs.MemoryLemmas.{mismatch_no_full}
+use Rattle.buffa_map.proofs.TailLemmas.{no_tag, one_after, one_number, one_wire, tag_tail}
+use Rattle.buffa_map.proofs.RunLemmas.{fold_entries-more, fold_entries-order, Paid-more, Run-last, added-more, entry_falls, record_entry, record_found, record_mismatch, record_needs, record_other, record_tag}
 
 some : {bs : List ℕ} → 0 < length bs → bs ≢ []
 some h e = absurd (omega (arith, ap length e))
@@ -31,11 +36,12 @@ module _ {K V : Type 0} (r : Rules K V) (old : State K V) (bs : List ℕ) where
     pub split : bs ≡ front ++ rest
     pub run : Run r.key r.val r.depth r.number front entries
     pub folded : SamePairs r.same (fold_entries r.same old.pairs entries) now.pairs
+    pub order : InOrder r.keeps_order (fold_entries r.same old.pairs entries) now.pairs
     pub keeps : now.records ≡ old.records ++ added r.adds r.number entries
     pub paid : Paid r.key r.val r.depth r.cost r.slot old.left entries now.left
 
   pub none_reached : Reached old bs
-  none_reached = record { front = []; entries = []; split = refl; run = refl; folded = λ q. refl; keeps = sym (append-nil old.records); paid = (omega arith, omega arith) }
+  none_reached = record { front = []; entries = []; split = refl; run = refl; folded = λ q. refl; order = λ keeps. refl; keeps = sym (append-nil old.records); paid = (omega arith, omega arith) }
 
   module _ (now : State K V) (rest : List ℕ) (h : Reached now rest) where
     pub all_reached : length rest ≡ 0 → ReadsRun r old bs now rest
@@ -45,19 +51,27 @@ module _ {K V : Type 0} (r : Rules K V) (old : State K V) (bs : List ℕ) where
           entries = h.entries;
           run = subst (λ z. Run r.key r.val r.depth r.number z h.entries) (sym (h.split ∙ ap (λ z. h.front ++ z) is ∙ append-nil h.front)) h.run;
           folded = h.folded;
+          order = h.order;
           keeps = h.keeps;
           paid = h.paid;
           whole = is;
         }
 
+    -- what is unread follows the next tag, if one is there, which is no map record's
+    abbrev Unread : List ℕ → Type 0
+    Unread unread =
+        ((g : ℕ) (w : WireType) (mid : List ℕ) → tag_at rest ≡ Ok (g, w, mid) → (g ≢ r.number) ⊎ (w ≢ LengthDelimited) → unread ≡ mid)
+        × ((mid : List ℕ) → tag_at rest ≡ Ok (r.number, LengthDelimited, mid) → ⊥)
+
     -- the next record is refused before its entry
-    stop_here : (f : DecodeError) → 0 < length rest → (f ≡ OutOfMemory → ⊥) → (f ≢ OutOfMemory → RecordFault r.key r.val r.depth r.number r.cost r.slot now.left rest f) → StopsRun r old bs now f
-    stop_here f more full fault = record {
+    stop_here : (unread : List ℕ) (f : DecodeError) → IsTailOf unread rest → Unread unread → 0 < length rest → (f ≡ OutOfMemory → ⊥) → (f ≢ OutOfMemory → RecordFault r.key r.val r.depth r.number r.cost r.slot now.left rest f) → StopsRun r old bs now unread f
+    stop_here unread f tail past more full fault = record {
       entries = h.entries;
       rest = rest;
       over = now.left;
       begins = (h.front, h.split, h.run, h.paid);
       folded = h.folded;
+      order = h.order;
       keeps = h.keeps;
       some = some more;
       units = omega arith;
@@ -67,27 +81,26 @@ module _ {K V : Type 0} (r : Rules K V) (old : State K V) (bs : List ℕ) where
       fault = fault;
       memory = λ out. absurd (full out);
       no_slot = λ ne. omega arith;
+      tail = tail;
+      past_tag = past.0;
+      past = λ ne mid e after is t. absurd (past.1 mid is);
     }
 
-    pub stop_tag : (f : DecodeError) → 0 < length rest → tag_at rest ≡ Err f → StopsRun r old bs now f
-    stop_tag f more is = stop_here f more (tag_no_full rest f is) (λ ne. record_tag r.key r.val r.depth r.number r.cost r.slot now.left rest f is)
+    pub stop_tag : (unread : List ℕ) (f : DecodeError) → IsTailOf unread rest → 0 < length rest → tag_at rest ≡ Err f → StopsRun r old bs now unread f
+    stop_tag unread f tail more is = stop_here unread f tail (λ g w mid k. no_tag rest f is g w mid k, λ mid k. no_tag rest f is r.number LengthDelimited mid k) more (tag_no_full rest f is) (λ ne. record_tag r.key r.val r.depth r.number r.cost r.slot now.left rest f is)
 
     module _ (mid : List ℕ) (g : ℕ) (w : WireType) (more : 0 < length rest) (tag : tag_at rest ≡ Ok (g, w, mid)) where
-      pub stop_other : g ≢ r.number → StopsRun r old bs now (UnexpectedField g)
-      stop_other other = stop_here (UnexpectedField g) more (λ out. cc) (λ ne. record_other r.key r.val r.depth r.number r.cost r.slot now.left rest mid g w tag other)
+      pub stop_other : g ≢ r.number → StopsRun r old bs now mid (UnexpectedField g)
+      stop_other other = stop_here mid (UnexpectedField g) (tag_tail rest mid g w tag) (λ h v m k _. one_after rest mid m g h w v tag k, λ m k. other (one_number rest mid m g r.number w LengthDelimited tag k)) more (λ out. cc) (λ ne. record_other r.key r.val r.depth r.number r.cost r.slot now.left rest mid g w tag other)
 
-      mismatch_no_full : (f : DecodeError) → check_wire g LengthDelimited w ≡ Err f → f ≡ OutOfMemory → ⊥
-      mismatch_no_full f is out =
-          let m = agree_err (check_wire g LengthDelimited w) f (check_sound g LengthDelimited w) is in
-          let which : f ≡ WireTypeMismatch g LengthDelimited w = m.1 in
-          cc
-
-      pub stop_mismatch : (f : DecodeError) → g ≡ r.number → check_wire g LengthDelimited w ≡ Err f → StopsRun r old bs now f
-      stop_mismatch f same is = stop_here f more (mismatch_no_full f is) (λ ne. record_mismatch r.key r.val r.depth r.number r.cost r.slot now.left rest mid g w f tag same is)
+      pub stop_mismatch : (f : DecodeError) → g ≡ r.number → check_wire g LengthDelimited w ≡ Err f → StopsRun r old bs now mid f
+      stop_mismatch f same is =
+          let differs = (agree_err (check_wire g LengthDelimited w) f (check_sound g LengthDelimited w) is).0 in
+          stop_here mid f (tag_tail rest mid g w tag) (λ h v m k _. one_after rest mid m g h w v tag k, λ m k. differs (one_wire rest mid m g r.number w LengthDelimited tag k)) more (mismatch_no_full g LengthDelimited w f is) (λ ne. record_mismatch r.key r.val r.depth r.number r.cost r.slot now.left rest mid g w f tag same is)
 
       module _ (same : g ≡ r.number) (wire : check_wire g LengthDelimited w ≡ Ok tt) where
-        pub stop_entry : (new : State K V) (f : DecodeError) → RefusesEntry r now mid new f → StopsRun r old bs new f
-        stop_entry new f k =
+        pub stop_entry : (new : State K V) (unread : List ℕ) (f : DecodeError) → RefusesEntry r now mid new unread f → StopsRun r old bs new unread f
+        stop_entry new unread f k =
             let is_wire : w ≡ LengthDelimited = agree_ok (check_wire g LengthDelimited w) tt (check_sound g LengthDelimited w) wire in
             let found : tag_at rest ≡ Ok (r.number, LengthDelimited, mid) = subst (λ (z : WireType). tag_at rest ≡ Ok (r.number, z, mid)) is_wire (subst (λ (z : ℕ). tag_at rest ≡ Ok (z, w, mid)) same tag) in
             let need = record_needs r.key r.val r.depth r.number rest mid g w tag in
@@ -99,6 +112,7 @@ module _ {K V : Type 0} (r : Rules K V) (old : State K V) (bs : List ℕ) where
               over = now.left;
               begins = (h.front, h.split, h.run, h.paid);
               folded = rw k.pairs h.folded;
+              order = rw k.pairs h.order;
               keeps = rw k.records h.keeps;
               some = some more;
               units = elim k.units [ inl e ↦ omega (arith, e) | inr e ↦ omega (arith, e.0) ];
@@ -108,6 +122,9 @@ module _ {K V : Type 0} (r : Rules K V) (old : State K V) (bs : List ℕ) where
               fault = λ ne. record_entry r.key r.val r.depth r.number r.cost r.slot now.left rest mid g w f tag same wire (k.fault ne);
               memory = λ out. (mid, found, k.memory out);
               no_slot = λ ne. omega (arith, k.no_slot ne, taken);
+              tail = tail_more rest mid unread k.tail (tag_tail rest mid g w tag);
+              past_tag = λ h v m is other. absurd (elim other [ inl n ↦ n (one_number rest m mid h r.number v w is (tag ∙ ap (λ z. Ok (z, w, mid)) same)) | inr n ↦ n (one_wire rest m mid h r.number v LengthDelimited is found) ]);
+              past = λ ne m e after is t. k.past ne e after (subst (λ z. TakesDelimited z e after) (one_after rest m mid r.number r.number LengthDelimited LengthDelimited is found) t);
             }
 
         pub one_more : IsEquivalence r.same → (new : State K V) (after : List ℕ) → MergesEntry r now mid new after → Reached new after
@@ -119,6 +136,7 @@ module _ {K V : Type 0} (r : Rules K V) (old : State K V) (bs : List ℕ) where
               entries = h.entries ++ x ∷ [];
               split = h.split ∙ ap (λ z. h.front ++ z) one.2 ∙ sym (append_assoc h.front one.0 after);
               run = Run-last r.key r.val r.depth r.number h.front h.entries one.0 x h.run one.1;
+              order = fold_entries-order r.same r.keeps_order old.pairs now.pairs new.pairs h.entries x k.says refl h.order k.order;
               folded = fold_entries-more laws old.pairs now.pairs new.pairs h.entries x k.says refl h.folded k.put;
               keeps = added-more r.adds r.number old.records now.records new.records h.entries x h.keeps k.keeps;
               paid = Paid-more r.key r.val r.depth r.cost r.slot old.left now.left new.left h.entries x h.paid k.pays;

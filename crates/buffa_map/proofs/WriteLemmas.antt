@@ -11,6 +11,7 @@ use Rattle.buffa_bytes.proofs.SinkLemmas.{front_first, front_second}
 use Rattle.buffa_wire.specs.Records.{Datum}
 use Rattle.buffa_wire.specs.Text as records
 use Rattle.buffa_map.specs.Codec.{Writing}
+use Rattle.buffa_map.specs.Pairs.{means}
 use Rattle.buffa_map.specs.Rewrite.{RefusesRewrite, WritesRewrite}
 use Rattle.buffa_map.specs.Text.{entry_text, record_text, field_text, AllHold, HasText, RefusesRecord, WritesRecord, RefusesField, WritesField}
 
@@ -60,6 +61,37 @@ module _ {K W : Type 0} (key : Writing K) (val : Writing W) (n : ℕ) where
   pub field_refused : {T : Type 0} {r : Result T EncodeError} {e d : EncodeError} → r ≡ Err e → e ≡ d → (old mid new : List ℕ) (all done : List (K × W)) (p : K × W) (rest : List (K × W)) →
       all ≡ done ++ p ∷ rest → HasText key val done → mid ≡ old ++ field_text key val n done → RefusesRecord key val n mid new p d → WritesField key val n old new r all
   field_refused {d = d} eq same old mid new all done p rest is has m w = rw (eq, same) (refused old mid new all done p rest is has m d w)
+
+-- ---- the pairs of a walk, one after another
+module _ {K W A B : Type 0} (mk : A → K) (mv : B → W) (key : Writing K) (val : Writing W) (n : ℕ) (P : K → Type 0) (Q : W → Type 0) (all : List (K × W)) (old : List ℕ) where
+  -- of all pairs the records of some are written, and the others are left
+  abbrev pub IsSent : List (A × B) → List ℕ → Type 0
+  IsSent left now = (done : List (K × W)) × (all ≡ done ++ means mk mv left) × HasText key val done × AllHold P Q done × (now ≡ old ++ field_text key val n done)
+
+  pub sent_none : (l : List (A × B)) → all ≡ means mk mv l → IsSent l old
+  sent_none l e = ([], e, tt, tt, sym (append-nil old))
+
+  pub sent_more : (l rest : List (A × B)) (a : A) (b : B) → l ≡ (a, b) ∷ rest → (mid new : List ℕ) → IsSent l mid →
+      length (entry_text key val (mk a, mv b)) < 2 ^ 64 → new ≡ mid ++ record_text key val n (mk a, mv b) → P (mk a) → Q (mv b) → IsSent rest new
+  sent_more l rest a b e mid new s fits w p q =
+      let m : K × W = (mk a, mv b) in (
+        s.0 ++ m ∷ [],
+        s.1 ∙ ap (λ (z : List (A × B)). s.0 ++ means mk mv z) e ∙ sym (append_assoc s.0 (m ∷ []) (means mk mv rest)),
+        HasText-last key val n s.0 m s.2 fits,
+        AllHold-last key val n P Q s.0 m s.3 p q,
+        w ∙ ap (λ z. z ++ record_text key val n m) s.4 ∙ append_assoc old (field_text key val n s.0) (record_text key val n m) ∙ ap (λ z. old ++ z) (sym (field_text-last key val n s.0 m)),
+      )
+
+  -- a refusal of the next record, as `?` hands it on
+  pub sent_refused : {T : Type 0} {r : Result T EncodeError} {e d : EncodeError} → r ≡ Err e → e ≡ d → (l rest : List (A × B)) (a : A) (b : B) → l ≡ (a, b) ∷ rest → (mid new : List ℕ) → IsSent l mid →
+      RefusesRecord key val n mid new (mk a, mv b) d → WritesField key val n old new r all
+  sent_refused is same l rest a b e mid new s w =
+      field_refused key val n is same old mid new all s.0 (mk a, mv b) (means mk mv rest) (s.1 ∙ ap (λ (z : List (A × B)). s.0 ++ means mk mv z) e) s.2 s.4 w
+
+  pub sent_all : (l : List (A × B)) → l ≡ [] → (now : List ℕ) → IsSent l now → (HasText key val all × (now ≡ old ++ field_text key val n all)) × AllHold P Q all
+  sent_all l e now s =
+      let whole : all ≡ s.0 = s.1 ∙ ap (λ (z : List (A × B)). s.0 ++ means mk mv z) e ∙ append-nil s.0 in
+      rw whole ((s.2, s.4), s.3)
 
 -- ---- a map, and kept records behind it
 module _ {K W : Type 0} (key : Writing K) (val : Writing W) (n : ℕ) (kept : List (ℕ × Datum)) where

@@ -1,5 +1,5 @@
 -- What a codec makes of payloads and of values.
-use Rattle.std.specs.Prelude.{◌≡◌, ℕ, zero, suc, ◌⊎◌, Bool, true, false, List, Result, Ok, Err, MatchResult}
+use Rattle.std.specs.Prelude.{◌≡◌, ℕ, zero, suc, ◌⊎◌, Bool, true, false, List, Option, Result, Ok, Err, IsOk, MatchResult}
 use Rattle.buffa_wire.specs.Gives.{◌>>=◌}
 use Rattle.buffa_wire.specs.Content.{Content, TakesContent, ContentFault, content_at}
 use Rattle.buffa_wire.specs.BudgetLeft.{BudgetLeft, Lacks, Pays, PaysAtMost, nothing}
@@ -13,12 +13,13 @@ use Rattle.buffa_map.specs.declared.codec.MapValueDecodeStatus.TheVariants.{Know
 -- How a codec reads: what a value starts with, the wire type of its payloads, and at a depth what a content
 -- makes of the value that stood: the new value, and whether the content is a declared one; or the fault.
 -- Payloads are plain, or they are nested: messages, of which each opens a level, costs something, and leaves open
--- which fault it has inside. Where they are plain they cost nothing.
+-- which fault it has inside. Where they are plain they cost nothing. Reading some takes memory, which may run out.
 pub record Reading (V : Type 0) : Type 0 where
   pub blank : V
   pub wire : WireType
   pub reads : ℕ → V → Content → Result (V × Bool) DecodeError
   pub nested : Bool
+  pub takes_memory : Bool
   pub cost : ℕ → Content → BudgetLeft
 
 -- how a codec writes: the wire type, and the payload of a value
@@ -39,6 +40,10 @@ value_at codec d old bs = do
   c ← content_at codec.wire bs
   v ← codec.reads d old c.0
   Ok (v, c.1)
+
+-- where reading the payload at the front takes memory: the codec takes it, a level is left, and a whole payload is there
+abbrev pub TakesMemory : {V : Type 0} → Reading V → ℕ → List ℕ → Type 0
+TakesMemory codec d bs = (codec.takes_memory ≡ true) × (level codec.nested d ≡ Ok tt) × IsOk (content_at codec.wire bs)
 
 -- what is needed by what was read, if it was read
 abbrev pub need_by : {A : Type 0} → Result A DecodeError → (A → BudgetLeft) → BudgetLeft
@@ -76,3 +81,9 @@ Spends true r left need over = MatchResult r (λ _. Pays left need over) (λ _. 
 abbrev pub is_known : MapValueDecodeStatus → Bool
 is_known Known = true
 is_known Unknown = false
+
+-- A codec is this one: it reads and writes so, a value costs so much, payloads have this length, if they have one, and
+-- the values that are read back are these at least.
+abbrev pub Codes : {V : Type 0} → Reading V → Writing V → ℕ → Option ℕ → (V → Type 0) → Reading V → Writing V → ℕ → Option ℕ → (V → Type 0) → Type 0
+Codes {V} reading writing cost len Normal reads writes costs fixed Back =
+    (reading ≡ reads) × (writing ≡ writes) × (cost ≡ costs) × (len ≡ fixed) × ((v : V) → Back v → Normal v)

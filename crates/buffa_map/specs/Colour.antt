@@ -7,4 +7,4 @@ use Rattle.buffa_bytes.specs.declared.wire_type.WireType.TheVariants.{Varint}
 use Rattle.buffa_map.specs.Codec.{Reading}
 
 abbrev pub colour_reading : Reading ℕ
-colour_reading = record { blank = 0; wire = Varint; reads = λ d old c. let v : ℕ = uint32_of (number_in c) in Ok (cond (nat_lt v 3) (v, true) (old, false)); nested = false; cost = λ d c. nothing }
+colour_reading = record { blank = 0; wire = Varint; reads = λ d old c. let v : ℕ = uint32_of (number_in c) in Ok (cond (nat_lt v 3) (v, true) (old, false)); nested = false; takes_memory = false; cost = λ d c. nothing }

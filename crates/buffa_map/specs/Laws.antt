@@ -1,7 +1,8 @@
 -- What the definitions say together.
-use Rattle.std.specs.Prelude.{◌≡◌, ◌≤◌, ◌+◌, ◌↔◌, ℕ, ℤ, Bool, false, List, [], ◌++◌, length, Ok, Err, cond}
+use Rattle.std.specs.Prelude.{◌≡◌, ◌<◌, ◌≤◌, ◌+◌, ◌↔◌, ℕ, ℤ, Bool, false, List, [], ◌++◌, length, Ok, Err, cond}
 use Rattle.std.specs.Cmp.{IsEquivalence}
 use Rattle.std.specs.List.{IsDistinct}
+use Rattle.std.specs.List.Sorted.{IsPermutation}
 use Rattle.std.specs.Map.{keys_of}
 use Rattle.buffa_bytes.specs.declared.error.DecodeError.{DecodeError}
 use Rattle.buffa_bytes.specs.declared.wire_type.WireType.TheVariants.{LengthDelimited}
@@ -15,6 +16,9 @@ use Rattle.buffa_wire.specs.Values.{tag_text}
 use Rattle.buffa_map.specs.Codec.{Reading, ValueFault, Writing, level, value_at}
 use Rattle.buffa_map.specs.Entry.{EntryFault, EntryOf, FaultOf, IsEntry, entry_of, inner_need, need_of}
 use Rattle.buffa_map.specs.Enums.{ClosedFits, closed_reading, closed_writing}
+use Rattle.buffa_map.specs.MessageField.{IsSmallField}
+use Rattle.buffa_map.specs.Scalars.{delimited_writing}
+use Rattle.buffa_map.specs.Pairs.{ListsOnce}
 use Rattle.buffa_map.specs.Rewrite.{IsRewrite, KeepsMeaning}
 use Rattle.buffa_map.specs.Run.{fold_entries, undeclared, Paid, Run, RunFault, EntryRecord, inner_needs, record_need, run_of}
 use Rattle.buffa_map.specs.Text.{AllHold, HasText, field_size, field_text}
@@ -89,6 +93,11 @@ module _ {K V : Type 0} (key : Reading K) (val : Reading V) where
 abbrev pub SizeIsLength : {K V : Type 0} → Writing K → Writing V → Type 0
 SizeIsLength {K} {V} key val = (n : ℕ) (l : List (K × V)) → length (field_text key val n l) ≡ field_size key val (length (tag_text n LengthDelimited)) l
 
+-- Two walks of one map give the same pairs, in some order, and have one size.
+pub record WalksAgree {K V : Type 0} (key : Writing K) (val : Writing V) (eq : K → K → Bool) : Type 0 where
+  pub pairs : (m a b : List (K × V)) → ListsOnce eq m a → ListsOnce eq m b → IsPermutation a b
+  pub size : (t : ℕ) (m a b : List (K × V)) → ListsOnce eq m a → ListsOnce eq m b → field_size key val t a ≡ field_size key val t b
+
 -- The text of normal pairs with distinct keys is a run, which makes these pairs of the empty map, keeps nothing, and
 -- has an entry for each pair.
 module _ {K V : Type 0} (key : Reading K) (val : Reading V) (kw : Writing K) (vw : Writing V) (eq : K → K → Bool)
@@ -103,6 +112,20 @@ module _ {K V : Type 0} (key : Reading K) (val : Reading V) (kw : Writing K) (vw
   abbrev pub WrittenIsRead : Type 0
   WrittenIsRead =
       (d n : ℕ) (l : List (K × V)) → IsNumber n → HasText kw vw l → AllHold KeyFits ValFits l → AllHold KeyNormal ValNormal l → IsDistinct eq (keys_of l) → ReadsBack d n l
+
+-- The same of normal messages, where they are small enough to be written, and a level is left for each of theirs.
+module _ {K M : Type 0} (key : Reading K) (val : Reading M) (kw : Writing K) (text : M → List ℕ) (eq : K → K → Bool)
+    (KeyFits KeyNormal : K → Type 0) (ValFits ValNormal : M → Type 0) (levels : M → ℕ) where
+  abbrev pub MessagesAreRead : Type 0
+  MessagesAreRead =
+      (d n : ℕ) (l : List (K × M)) → IsNumber n → IsSmallField kw text l → AllHold KeyFits ValFits l → AllHold KeyNormal ValNormal l →
+      AllHold (λ k. Unit {0}) (λ v. levels v < d) l → IsDistinct eq (keys_of l) → ReadsBack key val kw (delimited_writing text) eq KeyFits KeyNormal ValFits ValNormal d n l
+
+-- A run that a reader of the enum e takes is taken by a reader of an enum f that declares all that e declares.
+abbrev pub NewerTakes : {K : Type 0} → Reading K → Type 0
+NewerTakes {K} key =
+    (e f : Numbers) → DeclaresBlank e → Refines e f → (d n : ℕ) (b : List ℕ) (es : List (EntryRecord K ℤ)) →
+    Run key (closed_reading e) d n b es → (fs : List (EntryRecord K ℤ)) × Run key (closed_reading f) d n b fs
 
 -- A reader of the enum e reads a run, and writes the map and the entries that e doesn't declare. The enum f declares all
 -- that e declares, and has the same default. Its reader reads the rewrite as a run that keeps the meaning of the first.

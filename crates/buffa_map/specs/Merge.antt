@@ -2,6 +2,8 @@
 use Rattle.std.specs.Prelude.{◌≡◌, ◌≢◌, ℕ, ◌+◌, ◌≤◌, Bool, List, [], ◌∷◌, ◌++◌, ◌⊎◌, cond, Option, None, Some, Ok, IsOk}
 use Rattle.buffa_bytes.specs.declared.error.DecodeError.{DecodeError}
 use Rattle.buffa_bytes.specs.declared.error.DecodeError.TheVariants.{OutOfMemory}
+use Rattle.buffa_bytes.specs.Unread.{IsTailOf}
+use Rattle.buffa_bytes.specs.declared.wire_type.WireType.{WireType}
 use Rattle.buffa_wire.specs.Field.{TakesDelimited}
 use Rattle.buffa_wire.specs.BudgetLeft.{BudgetLeft, Pays, plus, slots}
 use Rattle.buffa_wire.specs.Reading.{delimited_at, tag_at}
@@ -9,7 +11,7 @@ use Rattle.buffa_wire.specs.Records.{Datum, bytes}
 use Rattle.buffa_bytes.specs.declared.wire_type.WireType.TheVariants.{LengthDelimited}
 use Rattle.buffa_map.specs.Codec.{Reading}
 use Rattle.buffa_map.specs.Entry.{EntryFault, EntryOf, inner_need, need_of}
-use Rattle.buffa_map.specs.Pairs.{SamePairs}
+use Rattle.buffa_map.specs.Pairs.{InOrder, SamePairs}
 use Rattle.buffa_map.specs.Run.{fold_entries, Paid, RecordFault, Run, RunBegins, EntryRecord, added, record_need, step}
 use Rattle.buffa_map.specs.declared.map_entry.MapEntry.{MapEntry}
 
@@ -22,34 +24,35 @@ pub record State (K V : Type 0) : Type 0 where
 abbrev pub state : {K V : Type 0} → List (K × V) → List (ℕ × Datum) → BudgetLeft → State K V
 state pairs records left = record { pairs = pairs; records = records; left = left }
 
--- how entries are read: by which codecs, under which equality of keys, how deep, under which number, at which
+-- how entries are read: by which codecs, under which equality of keys, in which order, how deep, under which number, at which
 -- cost; and what one with an undeclared value adds to the records, and takes of the slots
 pub record Rules (K V : Type 0) : Type 0 where
   pub key : Reading K
   pub val : Reading V
   pub same : K → K → Bool
+  pub keeps_order : Bool
   pub depth : ℕ
   pub number : ℕ
   pub cost : ℕ
   pub slot : ℕ
   pub adds : ℕ → List ℕ → List (ℕ × Datum)
 
-abbrev pub rules : {K V : Type 0} → Reading K → Reading V → (K → K → Bool) → ℕ → ℕ → ℕ → ℕ → (ℕ → List ℕ → List (ℕ × Datum)) → Rules K V
-rules key val same depth number cost slot adds =
-    record { key = key; val = val; same = same; depth = depth; number = number; cost = cost; slot = slot; adds = adds }
+abbrev pub rules : {K V : Type 0} → Reading K → Reading V → (K → K → Bool) → Bool → ℕ → ℕ → ℕ → ℕ → (ℕ → List ℕ → List (ℕ × Datum)) → Rules K V
+rules key val same ordered depth number cost slot adds =
+    record { key = key; val = val; same = same; keeps_order = ordered; depth = depth; number = number; cost = cost; slot = slot; adds = adds }
 
 -- entries with an undeclared value are dropped
-abbrev pub dropping : {K V : Type 0} → Reading K → Reading V → (K → K → Bool) → ℕ → ℕ → ℕ → Rules K V
-dropping key val same depth number cost = rules key val same depth number cost 0 (λ n e. [])
+abbrev pub dropping : {K V : Type 0} → Reading K → Reading V → (K → K → Bool) → Bool → ℕ → ℕ → ℕ → Rules K V
+dropping key val same ordered depth number cost = rules key val same ordered depth number cost 0 (λ n e. [])
 
 -- they are kept, each as a record, and each takes a slot
-abbrev pub keeping : {K V : Type 0} → Reading K → Reading V → (K → K → Bool) → ℕ → ℕ → ℕ → Rules K V
-keeping key val same depth number cost = rules key val same depth number cost 1 (λ n e. (n, bytes e) ∷ [])
+abbrev pub keeping : {K V : Type 0} → Reading K → Reading V → (K → K → Bool) → Bool → ℕ → ℕ → ℕ → Rules K V
+keeping key val same ordered depth number cost = rules key val same ordered depth number cost 1 (λ n e. (n, bytes e) ∷ [])
 
 -- they are kept where a list was lent
-abbrev pub lending : {K V X : Type 0} → Reading K → Reading V → (K → K → Bool) → ℕ → ℕ → ℕ → Option X → Rules K V
-lending key val same depth number cost None = dropping key val same depth number cost
-lending key val same depth number cost (Some list) = keeping key val same depth number cost
+abbrev pub lending : {K V X : Type 0} → Reading K → Reading V → (K → K → Bool) → Bool → ℕ → ℕ → ℕ → Option X → Rules K V
+lending key val same ordered depth number cost None = dropping key val same ordered depth number cost
+lending key val same ordered depth number cost (Some list) = keeping key val same ordered depth number cost
 
 -- the entry at the front of the bytes was read, and rest follows it: it is one step of the fold, or it is kept
 pub record MergesEntry {K V : Type 0} (r : Rules K V) (old : State K V) (bytes : List ℕ) (new : State K V) (rest : List ℕ) : Type 0 where
@@ -57,14 +60,19 @@ pub record MergesEntry {K V : Type 0} (r : Rules K V) (old : State K V) (bytes :
   pub entry : List ℕ
   pub read : EntryOf r.key r.val r.depth bytes entry says rest
   pub put : SamePairs r.same (step r.same old.pairs says) new.pairs
+  pub order : InOrder r.keeps_order (step r.same old.pairs says) new.pairs
   pub keeps : new.records ≡ old.records ++ cond says.known [] (r.adds r.number entry)
   pub pays : Pays old.left (plus (need_of r.key r.val r.depth r.cost entry) (slots (cond says.known 0 r.slot))) new.left
 
--- f is why not, and out of memory only where a length and so many bytes were there; map and records stand. Of the budget at most the entry's cost, its slot and what the messages in it
--- cost are gone; the cost is gone where the entry was there and had a fault; the slot is not, where f is a fault.
-pub record RefusesEntry {K V : Type 0} (r : Rules K V) (old : State K V) (bytes : List ℕ) (new : State K V) (f : DecodeError) : Type 0 where
+-- f is why not, and out of memory only where a length and so many bytes were there; map and records stand. What is
+-- unread is a tail of what was; it is what follows the entry, where that was there and had a fault. Of the budget at
+-- most the entry's cost, its slot and what the messages in it cost are gone; the cost is gone where the entry was there
+-- and had a fault; the slot is not, where f is a fault.
+pub record RefusesEntry {K V : Type 0} (r : Rules K V) (old : State K V) (bytes : List ℕ) (new : State K V) (unread : List ℕ) (f : DecodeError) : Type 0 where
   pub fault : f ≢ OutOfMemory → EntryFault r.key r.val r.depth r.cost r.slot old.left bytes f
   pub memory : f ≡ OutOfMemory → IsOk (delimited_at bytes)
+  pub tail : IsTailOf unread bytes
+  pub past : f ≢ OutOfMemory → (e rest : List ℕ) → TakesDelimited bytes e rest → unread ≡ rest
   pub pairs : new.pairs ≡ old.pairs
   pub records : new.records ≡ old.records
   pub units : (new.left.memory ≡ old.left.memory)
@@ -80,19 +88,22 @@ pub record ReadsRun {K V : Type 0} (r : Rules K V) (old : State K V) (bytes : Li
   pub entries : List (EntryRecord K V)
   pub run : Run r.key r.val r.depth r.number bytes entries
   pub folded : SamePairs r.same (fold_entries r.same old.pairs entries) new.pairs
+  pub order : InOrder r.keeps_order (fold_entries r.same old.pairs entries) new.pairs
   pub keeps : new.records ≡ old.records ++ added r.adds r.number entries
   pub paid : Paid r.key r.val r.depth r.cost r.slot old.left entries new.left
   pub whole : rest ≡ []
 
 -- The records of some entries begin the bytes, and were read; f is why what follows them wasn't, and out of memory only
--- where a record was there. Of what they leave
--- at most one entry's cost, its slot and what the messages in it cost are gone.
-pub record StopsRun {K V : Type 0} (r : Rules K V) (old : State K V) (bytes : List ℕ) (new : State K V) (f : DecodeError) : Type 0 where
+-- where a record was there. What is unread is a tail of what follows them: what follows the tag, where it is another;
+-- what follows the entry, where that was there and had a fault. Of the budget that they leave at most one entry's cost,
+-- its slot and what the messages in it cost are gone.
+pub record StopsRun {K V : Type 0} (r : Rules K V) (old : State K V) (bytes : List ℕ) (new : State K V) (unread : List ℕ) (f : DecodeError) : Type 0 where
   pub entries : List (EntryRecord K V)
   pub rest : List ℕ
   pub over : BudgetLeft
   pub begins : RunBegins r.key r.val r.depth r.number r.cost r.slot old.left bytes entries rest over
   pub folded : SamePairs r.same (fold_entries r.same old.pairs entries) new.pairs
+  pub order : InOrder r.keeps_order (fold_entries r.same old.pairs entries) new.pairs
   pub keeps : new.records ≡ old.records ++ added r.adds r.number entries
   pub some : rest ≢ []
   pub units : new.left.memory ≤ over.memory
@@ -101,4 +112,7 @@ pub record StopsRun {K V : Type 0} (r : Rules K V) (old : State K V) (bytes : Li
   pub one_slot : over.unknown ≤ new.left.unknown + (r.slot + (record_need r.key r.val r.depth rest).unknown)
   pub fault : f ≢ OutOfMemory → RecordFault r.key r.val r.depth r.number r.cost r.slot over rest f
   pub memory : f ≡ OutOfMemory → (mid : List ℕ) × (tag_at rest ≡ Ok (r.number, LengthDelimited, mid)) × IsOk (delimited_at mid)
+  pub tail : IsTailOf unread rest
+  pub past_tag : (g : ℕ) (w : WireType) (mid : List ℕ) → tag_at rest ≡ Ok (g, w, mid) → (g ≢ r.number) ⊎ (w ≢ LengthDelimited) → unread ≡ mid
+  pub past : f ≢ OutOfMemory → (mid e after : List ℕ) → tag_at rest ≡ Ok (r.number, LengthDelimited, mid) → TakesDelimited mid e after → unread ≡ after
   pub no_slot : f ≢ OutOfMemory → over.unknown ≤ new.left.unknown + (record_need r.key r.val r.depth rest).unknown

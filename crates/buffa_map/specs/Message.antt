@@ -20,5 +20,6 @@ message_reading blank merged cost = record {
   wire = LengthDelimited;
   reads = λ d old c. meant (merged_in merged d old (bytes_in c));
   nested = true;
+  takes_memory = true;
   cost = λ d c. cost_in cost d (bytes_in c);
 }

@@ -1,5 +1,5 @@
 -- A map as the list of its pairs, in any order.
-use Rattle.std.specs.Prelude.{◌≡◌, Bool, List, [], ◌∷◌, map, if◌then◌else◌}
+use Rattle.std.specs.Prelude.{◌≡◌, Bool, true, List, [], ◌∷◌, map, if◌then◌else◌}
 use Rattle.std.specs.List.{IsDistinct}
 use Rattle.std.specs.Map.{keys_of, lookup_entry}
 
@@ -10,9 +10,13 @@ mean f g p = (f p.0, g p.1)
 abbrev pub means : {K V A B : Type 0} → (K → A) → (V → B) → List (K × V) → List (A × B)
 means f g = map (mean f g)
 
+-- where the order is kept, new is this very list; where it isn't, nothing is said
+abbrev pub InOrder : {A : Type 0} → Bool → List A → List A → Type 0
+InOrder keeps l new = keeps ≡ true → new ≡ l
+
 module _ {K V : Type 0} (eq : K → K → Bool) where
   -- The pairs with v at k: the pair whose key equals k keeps its key and takes the value; if there is none,
-  -- (k, v) is added.
+  -- (k, v) is added at the end.
   abbrev pub put : List (K × V) → K → V → List (K × V)
   put [] k v = (k, v) ∷ []
   put (e ∷ es) k v = if eq k e.0 then (e.0, v) ∷ es else e ∷ put es k v

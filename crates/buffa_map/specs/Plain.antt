@@ -40,4 +40,4 @@ module _ {K V : Type 0} (r : Rules K V) (old : State K V) (bytes : List ℕ) whe
 abbrev pub IsExact : {K V : Type 0} → Rules K V → Type 0
 IsExact {K} {V} r =
     (old : State K V) (bytes : List ℕ) (new : State K V) →
-    ((rest : List ℕ) → MergesExactly r old bytes new rest) × ((f : DecodeError) → RefusesEntry r old bytes new f → SpendsExactly r old bytes new f)
+    ((rest : List ℕ) → MergesExactly r old bytes new rest) × ((rest : List ℕ) (f : DecodeError) → RefusesEntry r old bytes new rest f → SpendsExactly r old bytes new f)

@@ -6,11 +6,12 @@ use Rattle.buffa_wire.specs.BudgetLeft.{BudgetLeft}
 use Rattle.buffa_wire.specs.Text.{records_text}
 use Rattle.buffa_wire.specs.Records.{Datum}
 use Rattle.buffa_wire.specs.Written.{WritesFront}
+use Rattle.buffa_bytes.specs.ErrorText.{decode_error_text, encode_error_text}
 use Rattle.buffa_bytes.specs.declared.error.DecodeError.{DecodeError}
 use Rattle.buffa_bytes.specs.declared.error.EncodeError.{EncodeError}
 use Rattle.buffa_bytes.specs.declared.error.EncodeError.TheVariants.{GroupRefused, MessageTooLarge, OutOfMemory}
 use Rattle.buffa_map.specs.Codec.{Writing}
-use Rattle.buffa_map.specs.Pairs.{ListsOnce, SamePairs}
+use Rattle.buffa_map.specs.Pairs.{InOrder, ListsOnce, SamePairs}
 use Rattle.buffa_map.specs.Merge.{Rules, StopsRun, state}
 use Rattle.buffa_map.specs.Run.{EntryRecord, fold_entries, undeclared, Paid, Run, undeclared_records}
 use Rattle.buffa_map.specs.Text.{AllHold, HasText, RefusesField, field_text}
@@ -97,15 +98,16 @@ pub record RewritesRun {K V : Type 0} (r : Rules K V) (key : Writing K) (val : W
   pub out : List ℕ
   pub run : Run r.key r.val r.depth r.number bytes entries
   pub folded : SamePairs r.same (fold_entries r.same [] entries) new
+  pub order : InOrder r.keeps_order (fold_entries r.same [] entries) new
   pub rewrite : IsRewrite r.same key val KeyFits ValFits r.number entries out
   pub text : written ≡ old ++ out
   pub paid : Paid r.key r.val r.depth r.cost r.slot left entries over
   pub whole : rest ≡ []
 
 -- f is why the bytes were refused; the entries before it stand in the map, and nothing was written
-abbrev pub RefusesBytes : {K V : Type 0} → Rules K V → BudgetLeft → List ℕ → List (K × V) → BudgetLeft → List ℕ → List ℕ → DecodeError → Type 0
-RefusesBytes r left bytes new over old written f =
-    (kept : List (ℕ × Datum)) × StopsRun r (state [] [] left) bytes (state new kept over) f × (written ≡ old)
+abbrev pub RefusesBytes : {K V : Type 0} → Rules K V → BudgetLeft → List ℕ → List (K × V) → BudgetLeft → List ℕ → List ℕ → List ℕ → DecodeError → Type 0
+RefusesBytes r left bytes new over unread old written f =
+    (kept : List (ℕ × Datum)) × StopsRun r (state [] [] left) bytes (state new kept over) unread f × (written ≡ old)
 
 -- the records were read, and e is why the text wasn't written whole
 pub record RefusesOutput {K V : Type 0} (r : Rules K V) (key : Writing K) (val : Writing V) (left : BudgetLeft) (bytes : List ℕ) (new : List (K × V)) (over : BudgetLeft) (rest : List ℕ) (old written : List ℕ) (e : EncodeError) : Type 0 where
@@ -113,6 +115,7 @@ pub record RefusesOutput {K V : Type 0} (r : Rules K V) (key : Writing K) (val :
   pub walk : List (K × V)
   pub run : Run r.key r.val r.depth r.number bytes entries
   pub folded : SamePairs r.same (fold_entries r.same [] entries) new
+  pub order : InOrder r.keeps_order (fold_entries r.same [] entries) new
   pub once : ListsOnce r.same (fold_entries r.same [] entries) walk
   pub text : RefusesRewrite key val r.number (undeclared_records r.number entries) old written walk e
   pub paid : Paid r.key r.val r.depth r.cost r.slot left entries over
@@ -122,3 +125,8 @@ pub record RefusesOutput {K V : Type 0} (r : Rules K V) (key : Writing K) (val :
 abbrev pub MatchRefusal : RewriteError → (DecodeError → Type 0) → (EncodeError → Type 0) → Type 0
 MatchRefusal (Decode f) P Q = P f
 MatchRefusal (Encode e) P Q = Q e
+
+-- the text of a refusal is that of what it holds
+abbrev pub rewrite_error_text : RewriteError → List ℕ
+rewrite_error_text (Decode f) = decode_error_text f
+rewrite_error_text (Encode e) = encode_error_text e

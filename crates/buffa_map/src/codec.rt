@@ -4,12 +4,14 @@ ghost use Rattle.std.specs.Prelude.{◌≡◌, ◌≢◌, ℕ, Bool, List, Optio
 ghost use Rattle.std.specs.Prelude.{OnErr};
 ghost use Rattle.buffa_bytes.specs.declared.error.DecodeError.TheVariants.{OutOfMemory};
 ghost use Rattle.buffa_bytes.specs.declared.wire_type.WireType.{WireType};
+ghost use Rattle.buffa_bytes.specs.Gives.{FullOnlyIf};
 ghost use Rattle.buffa_wire.specs.Content.{Content, HasContent};
 ghost use Rattle.buffa_wire.specs.BudgetLeft.{budget_left, nothing};
 ghost use Rattle.buffa_wire.specs.Message.{IsLimit};
 ghost use Rattle.buffa_wire.specs.Written.{Writes};
 ghost use Rattle.buffa_bytes.specs.declared.error.DecodeError.{DecodeError};
-ghost use Rattle.buffa_map.specs.Codec.{Reading, Refuses, Spends, Writing, is_known, value_at, value_need};
+ghost use Rattle.buffa_map.specs.Codec.{Reading, Refuses, Spends, TakesMemory, Writing, is_known};
+ghost use Rattle.buffa_map.specs.Codec.{value_at, value_need};
 
 use buffa_wire::{Blank, Buf, DecodeContext, DecodeError, EncodeError, EncodeSink, WireType};
 use std::alloc::Global;
@@ -60,7 +62,8 @@ pub trait MapValueDecode: sealed::Sealed {
     /// Reads the payload at the front into the value.
     ///
     /// # Errors
-    /// The first fault of the payload, or out of memory; the value is as it was then, and nothing is spent.
+    /// The first fault of the payload, or out of memory, where the codec takes memory and the payload is whole; the
+    /// value is as it was then, and nothing is spent.
     /// Of a message's inside any error, but a limit's only where its cost isn't left; the value is then some
     /// value of its type.
     fn merge<B: Buf>(
@@ -74,6 +77,7 @@ pub trait MapValueDecode: sealed::Sealed {
         ensures fault { IfErr result (λ e. e ≢ OutOfMemory →
             Refuses reading.nested reading ctx.entry.depth (Self.Value.meaning value.old) (B.unread buf.old)
             ctx.entry.budget.now e) }
+        ensures full { FullOnlyIf result (TakesMemory reading ctx.entry.depth (B.unread buf.old)) }
         ensures err { OnErr result (reading.nested ≡ false → Self.Value.meaning value.new
             ≡ Self.Value.meaning value.old) }
         ensures kept { B.beyond buf.new ≡ B.beyond buf.old }

@@ -47,13 +47,13 @@ pub(crate) fn merge_entry_by<
 ) -> Result<(), DecodeError>
     requires { W.may how.now ctx.depth }
     ensures ok { OnOk result (MergesEntry
-        (rules KC.reading W.reading C.equal ctx.entry.depth number (KC.COST + W.COST) L.slot L.adds)
+        (rules KC.reading W.reading C.equal C.keeps_order ctx.entry.depth number (KC.COST + W.COST) L.slot L.adds)
         (state (C.pairs map.old) (L.records keeper.old) ctx.entry.budget.now) (B.unread buf.old)
         (state (C.pairs map.new) (L.records keeper.new) (budget_left ctx.exit)) (B.unread buf.new)) }
     ensures err { IfErr result (RefusesEntry
-        (rules KC.reading W.reading C.equal ctx.entry.depth number (KC.COST + W.COST) L.slot L.adds)
+        (rules KC.reading W.reading C.equal C.keeps_order ctx.entry.depth number (KC.COST + W.COST) L.slot L.adds)
         (state (C.pairs map.old) (L.records keeper.old) ctx.entry.budget.now) (B.unread buf.old)
-        (state (C.pairs map.new) (L.records keeper.new) (budget_left ctx.exit))) }
+        (state (C.pairs map.new) (L.records keeper.new) (budget_left ctx.exit)) (B.unread buf.new)) }
     ensures kept { B.beyond buf.new ≡ B.beyond buf.old }
 {
     let DecodeContext { depth, budget } = ctx;
@@ -98,13 +98,13 @@ pub fn merge_entry<
     B: Buf,
 >(alloc: Global, map: &mut C, buf: &mut B, ctx: DecodeContext<'_>) -> Result<(), DecodeError>
     ensures ok { OnOk result (MergesEntry
-        (dropping KC.reading VC.reading C.equal ctx.entry.depth 0 (KC.COST + VC.COST))
+        (dropping KC.reading VC.reading C.equal C.keeps_order ctx.entry.depth 0 (KC.COST + VC.COST))
         (state (C.pairs map.old) [] ctx.entry.budget.now) (B.unread buf.old)
         (state (C.pairs map.new) [] (budget_left ctx.exit)) (B.unread buf.new)) }
     ensures err { IfErr result (RefusesEntry
-        (dropping KC.reading VC.reading C.equal ctx.entry.depth 0 (KC.COST + VC.COST))
+        (dropping KC.reading VC.reading C.equal C.keeps_order ctx.entry.depth 0 (KC.COST + VC.COST))
         (state (C.pairs map.old) [] ctx.entry.budget.now) (B.unread buf.old)
-        (state (C.pairs map.new) [] (budget_left ctx.exit))) }
+        (state (C.pairs map.new) [] (budget_left ctx.exit)) (B.unread buf.new)) }
     ensures kept { B.beyond buf.new ≡ B.beyond buf.old }
 {
     let how = ByCodec::<VC>::new();
@@ -140,13 +140,13 @@ pub fn merge_entry_with_unknowns<
     unknown: Option<&mut UnknownFields>,
 ) -> Result<(), DecodeError>
     ensures ok { OnOk result (MergesEntry
-        (lending KC.reading VC.reading C.equal ctx.entry.depth number (KC.COST + VC.COST) unknown.entry)
+        (lending KC.reading VC.reading C.equal C.keeps_order ctx.entry.depth number (KC.COST + VC.COST) unknown.entry)
         (state (C.pairs map.old) (records_in unknown.entry) ctx.entry.budget.now) (B.unread buf.old)
         (state (C.pairs map.new) (records_left unknown.exit) (budget_left ctx.exit)) (B.unread buf.new)) }
     ensures err { IfErr result (RefusesEntry
-        (lending KC.reading VC.reading C.equal ctx.entry.depth number (KC.COST + VC.COST) unknown.entry)
+        (lending KC.reading VC.reading C.equal C.keeps_order ctx.entry.depth number (KC.COST + VC.COST) unknown.entry)
         (state (C.pairs map.old) (records_in unknown.entry) ctx.entry.budget.now) (B.unread buf.old)
-        (state (C.pairs map.new) (records_left unknown.exit) (budget_left ctx.exit))) }
+        (state (C.pairs map.new) (records_left unknown.exit) (budget_left ctx.exit)) (B.unread buf.new)) }
     ensures kept { B.beyond buf.new ≡ B.beyond buf.old }
 {
     let how = ByCodec::<VC>::new();

@@ -1,12 +1,13 @@
 //! `HashMap` as a storage, walked in any order.
 
+ghost use Rattle.std.specs.Prelude.{false};
 ghost use Rattle.std.specs.HashMap.{HashMap};
 ghost use Rattle.std.specs.List.Sorted.{IsPermutation};
 ghost use Rattle.buffa_map.specs.Pairs.{means};
 
 use crate::codec::MapCodec;
 use crate::storage::{MapStorage, MapWalk, MapWrite};
-use crate::write::write_field;
+use crate::write::write_record;
 use buffa_wire::{Blank, EncodeError, EncodeSink, MapKey};
 use std::alloc::AllocError;
 use std::collections::{HashMap, hash_map};
@@ -24,6 +25,8 @@ impl<K: MapKey + Hash, V: Blank, S: BuildHasher> MapStorage for HashMap<K, V, S>
     // The order is that of the hasher, which may change from one walk to the next.
     ghost walks = { λ m l. IsPermutation (means K.meaning V.meaning m.entries) l };
 
+    ghost keeps_order = { false };
+
     fn storage_len(&self) -> usize {
         self.len()
     }
@@ -40,6 +43,8 @@ impl<K: MapKey + Hash, V: Blank, S: BuildHasher> MapStorage for HashMap<K, V, S>
     }
 
     ghost equivalence = { K.MapKey.equivalence };
+
+    ghost walked = { λ m l walk never. cc };
 }
 
 impl<'a, K: MapKey + Hash + 'a, V: Blank + 'a, S: BuildHasher + 'a> MapWalk<'a>
@@ -53,12 +58,15 @@ impl<'a, K: MapKey + Hash + 'a, V: Blank + 'a, S: BuildHasher + 'a> MapWalk<'a>
     }
 }
 
-impl<K: MapKey + Hash, V: Blank> MapWrite for HashMap<K, V> {
+impl<K: MapKey + Hash, V: Blank, S: BuildHasher> MapWrite for HashMap<K, V, S> {
     fn storage_write<KC: MapCodec<Value = K>, VC: MapCodec<Value = V>, W: EncodeSink>(
         &self,
         number: u32,
         sink: &mut W,
     ) -> Result<(), EncodeError> {
-        write_field::<KC, VC, HashMap<K, V>, W>(self, number, sink)
+        for (key, value) in self.iter() {
+            write_record::<KC, VC, W>(number, key, value, sink)?;
+        }
+        Ok(())
     }
 }

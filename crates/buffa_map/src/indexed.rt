@@ -1,12 +1,12 @@
 //! `IndexMap` as a storage, walked in the order in which its keys came.
 
-ghost use Rattle.std.specs.Prelude.{◌≡◌, OnErr, OnOk};
+ghost use Rattle.std.specs.Prelude.{◌≡◌, true};
 ghost use Rattle.std.specs.HashMap.{HashMap};
-ghost use Rattle.buffa_map.specs.Pairs.{SamePairs, means, put};
+ghost use Rattle.buffa_map.specs.Pairs.{means};
 
 use crate::codec::MapCodec;
 use crate::storage::{MapStorage, MapWalk, MapWrite, StableOrder, StableWalk};
-use crate::write::write_field;
+use crate::write::write_record;
 use buffa_wire::{Blank, EncodeError, EncodeSink, MapKey};
 use indexmap::IndexMap;
 use std::alloc::AllocError;
@@ -32,20 +32,13 @@ impl<K: MapKey + Hash, V: Blank, S: BuildHasher> MapStorage for IndexMap<K, V, S
 
     ghost walks = { λ m l. l ≡ means K.meaning V.meaning m.entries };
 
+    ghost keeps_order = { true };
+
     fn storage_len(&self) -> usize {
         self.len()
     }
 
-    // A pair that is there keeps its place, and a new one goes last.
-    fn storage_insert(&mut self, key: K, value: V) -> Result<(), AllocError>
-        ensures ok { OnOk result (SamePairs K.same
-            (put K.same (means K.meaning V.meaning self.old.entries) (K.meaning key) (V.meaning value))
-            (means K.meaning V.meaning self.new.entries)) }
-        ensures err { OnErr result (means K.meaning V.meaning self.new.entries
-            ≡ means K.meaning V.meaning self.old.entries) }
-        ensures places { OnOk result (means K.meaning V.meaning self.new.entries
-            ≡ put K.same (means K.meaning V.meaning self.old.entries) (K.meaning key) (V.meaning value)) }
-    {
+    fn storage_insert(&mut self, key: K, value: V) -> Result<(), AllocError> {
         match self.insert(key, value) {
             Ok(_) => Ok(()),
             Err(_) => Err(AllocError),
@@ -57,6 +50,8 @@ impl<K: MapKey + Hash, V: Blank, S: BuildHasher> MapStorage for IndexMap<K, V, S
     }
 
     ghost equivalence = { K.MapKey.equivalence };
+
+    ghost walked = { λ m l walk _. walk };
 }
 
 impl<'a, K: MapKey + Hash + 'a, V: Blank + 'a, S: BuildHasher + 'a> MapWalk<'a>
@@ -79,12 +74,15 @@ impl<K: MapKey + Hash, V: Blank, S: BuildHasher> StableOrder for IndexMap<K, V, 
 impl<'a, K: MapKey + Hash + 'a, V: Blank + 'a, S: BuildHasher + 'a> StableWalk<'a>
     for IndexMap<K, V, S> {}
 
-impl<K: MapKey + Hash, V: Blank> MapWrite for IndexMap<K, V> {
+impl<K: MapKey + Hash, V: Blank, S: BuildHasher> MapWrite for IndexMap<K, V, S> {
     fn storage_write<KC: MapCodec<Value = K>, VC: MapCodec<Value = V>, W: EncodeSink>(
         &self,
         number: u32,
         sink: &mut W,
     ) -> Result<(), EncodeError> {
-        write_field::<KC, VC, IndexMap<K, V>, W>(self, number, sink)
+        for (key, value) in self.iter() {
+            write_record::<KC, VC, W>(number, key, value, sink)?;
+        }
+        Ok(())
     }
 }

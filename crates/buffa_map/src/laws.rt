@@ -1,14 +1,19 @@
 //! What the definitions say together: each law is a function with nothing to do, whose contract is the law.
 
 ghost use Rattle.std.specs.Prelude.{Bool, List, ℕ};
-ghost use Rattle.buffa_wire.specs.Records.{Datum};
+ghost use Rattle.buffa_wire.specs.Parse.{Fits};
+ghost use Rattle.buffa_wire.specs.Records.{Datum, records_of};
 ghost use Rattle.buffa_map.specs.Laws.{EntriesAreRead, LimitsAreTrue, NeedsUnits, OneReading, RewriteMeans};
-ghost use Rattle.buffa_map.specs.Laws.{RunsAreRead, RunsJoin, SizeIsLength, ValuesAreRead, WrittenIsRead};
+ghost use Rattle.buffa_map.specs.Laws.{RunsAreRead, RunsJoin, SizeIsLength, ValuesAreRead, WalksAgree, WrittenIsRead};
+ghost use Rattle.buffa_map.specs.Laws.{MessagesAreRead, NewerTakes};
 ghost use Rattle.buffa_map.specs.Merge.{rules};
+ghost use Rattle.buffa_map.specs.Message.{message_reading};
 ghost use Rattle.buffa_map.specs.Plain.{IsExact};
 
 use crate::codec::{MapCodec, MapValueDecode};
+pub use crate::codec_laws::{codecs_are_these, scalars_cost_so_much};
 use crate::storage::MapStorage;
+use buffa_wire::MessageSpec;
 
 /// A payload is read exactly where its wire type has one that the codec takes, and refused exactly where not.
 pub fn values_are_read<VC: MapValueDecode>()
@@ -35,8 +40,8 @@ pub fn plain_entries_need_units<KC: MapValueDecode, VC: MapValueDecode>()
 
 /// Where no payload is a message, an entry's fault is the first, and it spends its cost or nothing.
 pub fn plain_entries_are_exact<KC: MapCodec, VC: MapCodec>()
-    ensures { (same : KC.Value.Meaning → KC.Value.Meaning → Bool) (d n cost slot : ℕ) →
-        (adds : ℕ → List ℕ → List (ℕ × Datum)) → IsExact (rules KC.reading VC.reading same d n cost slot adds) }
+    ensures { (same : KC.Value.Meaning → KC.Value.Meaning → Bool) (ordered : Bool) (d n cost slot : ℕ) →
+        (adds : ℕ → List ℕ → List (ℕ × Datum)) → IsExact (rules KC.reading VC.reading same ordered d n cost slot adds) }
 {
     plain_entries_need_units::<KC, VC>();
 }
@@ -67,6 +72,12 @@ pub fn size_is_length<KC: MapCodec, VC: MapCodec>()
     ensures { SizeIsLength KC.writing VC.writing }
 {}
 
+/// Two walks of one map give the same pairs, in some order, and have one size: what one walk announces is what
+/// another one writes, also where no two walks are alike.
+pub fn walks_agree<KC: MapCodec, VC: MapCodec, C: MapStorage<Key = KC::Value, Value = VC::Value>>()
+    ensures { WalksAgree KC.writing VC.writing C.equal }
+{}
+
 /// The text of pairs is a run that says these pairs, so that a map that is written and then read into an
 /// empty one is that map, stored keys too, in whatever order it was walked. Each entry is declared, and there
 /// are as many as there are pairs.
@@ -76,6 +87,22 @@ pub fn written_is_read<
     C: MapStorage<Key = KC::Value, Value = VC::Value>,
 >()
     ensures { WrittenIsRead KC.reading VC.reading KC.writing VC.writing C.equal KC.fits KC.normal VC.fits VC.normal }
+{}
+
+/// The same of messages: the text that [`write_message_field`](crate::map_codec::write_message_field) writes
+/// of normal ones is a run that says these pairs, where a level is left for each of theirs.
+pub fn written_messages_are_read<
+    KC: MapCodec,
+    M: MessageSpec,
+    C: MapStorage<Key = KC::Value, Value = M>,
+>()
+    ensures { MessagesAreRead KC.reading (message_reading M.blank_is M.merged M.cost) KC.writing M.text C.equal KC.fits
+        KC.normal (λ v. Fits (records_of (M.records v))) M.normal M.levels }
+{}
+
+/// A run that a reader of an enum takes, a reader of a newer one takes, which declares more.
+pub fn newer_enums_take_it_too<KC: MapCodec>()
+    ensures { NewerTakes KC.reading }
 {}
 
 /// A rewrite means to a reader who knows more what the run means, where the run is ordered, and only there.

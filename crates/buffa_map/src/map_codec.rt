@@ -22,5 +22,6 @@ pub use crate::scalars::{
     ProtoStringMap, Sfixed32, Sfixed64, Sint32, Sint64, Str, Uint32, Uint64,
 };
 pub use crate::size::field_len;
+pub use crate::sized::size_and_write_field;
 pub use crate::storage::{MapStorage, MapWalk, MapWrite, StableOrder, StableWalk};
 pub use crate::write::write_field;

@@ -4,10 +4,12 @@ ghost use Rattle.std.specs.Prelude.{◌≡◌, ◌≢◌, ◌+◌, ℕ, false, r
 ghost use Rattle.buffa_bytes.specs.declared.error.DecodeError.TheVariants.{OutOfMemory};
 ghost use Rattle.buffa_bytes.specs.declared.wire_type.WireType.{WireType};
 ghost use Rattle.buffa_bytes.specs.declared.wire_type.WireType.TheVariants.{LengthDelimited};
+ghost use Rattle.buffa_bytes.specs.Gives.{FullOnlyIf};
 ghost use Rattle.buffa_wire.specs.Content.{Content};
 ghost use Rattle.buffa_wire.specs.BudgetLeft.{budget_left, nothing};
 ghost use Rattle.buffa_wire.specs.Message.{IsMerged};
-ghost use Rattle.buffa_map.specs.Codec.{Reading, Refuses, Spends, is_known, value_at, value_need};
+ghost use Rattle.buffa_map.specs.Codec.{Reading, Refuses, Spends, TakesMemory, is_known};
+ghost use Rattle.buffa_map.specs.Codec.{value_at, value_need};
 ghost use Rattle.buffa_map.specs.Message.{message_reading};
 
 use crate::codec::{MapValueDecode, MapValueDecodeStatus};
@@ -52,6 +54,7 @@ pub(crate) trait MergeValue {
         ensures fault { IfErr result (λ e. e ≢ OutOfMemory →
             Refuses reading.nested reading ctx.entry.depth (Self.Value.meaning value.old) (B.unread buf.old)
             ctx.entry.budget.now e) }
+        ensures full { FullOnlyIf result (TakesMemory reading ctx.entry.depth (B.unread buf.old)) }
         ensures kept { B.beyond buf.new ≡ B.beyond buf.old }
         ensures spends { Spends reading.nested result ctx.entry.budget.now
             (value_need reading ctx.entry.depth (B.unread buf.old)) (budget_left ctx.exit) };

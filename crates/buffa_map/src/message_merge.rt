@@ -1,11 +1,12 @@
 //! Entries of messages, merged by a function.
 
-ghost use Rattle.std.specs.Prelude.{◌≡◌, ◌≢◌, ◌+◌, List, [], ℕ, IfErr, Ok, OnErr, OnOk, Some, true};
+ghost use Rattle.std.specs.Prelude.{◌≡◌, ◌≢◌, ◌+◌, ◌<◌, List, [], ℕ, IfErr, IsOk, Ok, OnErr, OnOk, Some, true};
+ghost use Rattle.buffa_bytes.specs.Gives.{FullOnlyIf};
 ghost use Rattle.buffa_bytes.specs.Reading.{delimited_at};
 ghost use Rattle.buffa_bytes.specs.declared.error.DecodeError.TheVariants.{OutOfMemory};
 ghost use Rattle.buffa_wire.specs.BudgetLeft.{Pays, PaysAtMost, budget_left};
 ghost use Rattle.buffa_wire.specs.Message.{IsMerged, PayloadFault, cost_in, cost_of_payload, merged_in};
-ghost use Rattle.buffa_map.specs.Codec.{Refuses, Spends, value_at, value_need};
+ghost use Rattle.buffa_map.specs.Codec.{Refuses, Spends, TakesMemory, value_at, value_need};
 ghost use Rattle.buffa_map.specs.Merge.{MergesEntry, RefusesEntry, dropping, state};
 ghost use Rattle.buffa_map.specs.Message.{message_reading};
 
@@ -38,6 +39,7 @@ where
     ensures fault { IfErr result (λ e. e ≢ OutOfMemory →
         PayloadFault M.merged M.cost ctx.entry.depth (M.meaning value.old) (B.unread buf.old) ctx.entry.budget.now
         e) }
+    ensures full { FullOnlyIf result ((0 < ctx.entry.depth) × IsOk (delimited_at (B.unread buf.old))) }
     ensures spent { OnErr result (PaysAtMost ctx.entry.budget.now
         (cost_of_payload M.cost ctx.entry.depth (delimited_at (B.unread buf.old))) (budget_left ctx.exit)) }
     ensures kept { B.beyond buf.new ≡ B.beyond buf.old }
@@ -69,6 +71,8 @@ where
     ensures fault { IfErr result (λ e. e ≢ OutOfMemory →
         Refuses true (message_reading M.blank_is M.merged M.cost) ctx.entry.depth (M.meaning value.old)
         (B.unread buf.old) ctx.entry.budget.now e) }
+    ensures full { FullOnlyIf result (TakesMemory (message_reading M.blank_is M.merged M.cost) ctx.entry.depth
+        (B.unread buf.old)) }
     ensures kept { B.beyond buf.new ≡ B.beyond buf.old }
     ensures spends { Spends true result ctx.entry.budget.now
         (value_need (message_reading M.blank_is M.merged M.cost) ctx.entry.depth (B.unread buf.old))
@@ -84,7 +88,7 @@ where
 /// itself is merged by a function that recurs through this one.
 ///
 /// # Errors
-/// Those of [`merge_entry`](crate::entry::merge_entry).
+/// Those of [`merge_entry`](crate::map_codec::merge_entry).
 pub fn merge_message_entry_by<
     KC: MapCodec,
     M: MessageSpec,
@@ -103,13 +107,15 @@ pub fn merge_message_entry_by<
         F.post merge x b d w r y v → IsMerged (M.merged d (M.meaning x.now) b.now) (M.cost d b.now) w.now r
         (M.meaning y.now) v.now }
     ensures ok { OnOk result (MergesEntry
-        (dropping KC.reading (message_reading M.blank_is M.merged M.cost) C.equal ctx.entry.depth 0 (KC.COST + M.COST))
+        (dropping KC.reading (message_reading M.blank_is M.merged M.cost) C.equal C.keeps_order ctx.entry.depth 0
+        (KC.COST + M.COST))
         (state (C.pairs map.old) [] ctx.entry.budget.now) (B.unread buf.old)
         (state (C.pairs map.new) [] (budget_left ctx.exit)) (B.unread buf.new)) }
     ensures err { IfErr result (RefusesEntry
-        (dropping KC.reading (message_reading M.blank_is M.merged M.cost) C.equal ctx.entry.depth 0 (KC.COST + M.COST))
+        (dropping KC.reading (message_reading M.blank_is M.merged M.cost) C.equal C.keeps_order ctx.entry.depth 0
+        (KC.COST + M.COST))
         (state (C.pairs map.old) [] ctx.entry.budget.now) (B.unread buf.old)
-        (state (C.pairs map.new) [] (budget_left ctx.exit))) }
+        (state (C.pairs map.new) [] (budget_left ctx.exit)) (B.unread buf.new)) }
     ensures kept { B.beyond buf.new ≡ B.beyond buf.old }
 {
     let how = ByFunction::new(merge);

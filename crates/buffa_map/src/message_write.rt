@@ -115,7 +115,7 @@ where
 /// Writes a map field of messages, whose lengths the cache has.
 ///
 /// `field_number` is 1 to [`MAX_FIELD_NUMBER`](buffa_wire::MAX_FIELD_NUMBER). The next slots of the cache
-/// are those that [`message_field_len`](crate::message_size::message_field_len) put there, and they are
+/// are those that [`message_field_len`](crate::map_codec::message_field_len) put there, and they are
 /// consumed. What is written is the field's text where no message is longer than 2^31 - 1 bytes.
 ///
 /// # Errors

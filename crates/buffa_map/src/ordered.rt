@@ -1,6 +1,6 @@
 //! `BTreeMap` as a storage, walked in the order of its keys.
 
-ghost use Rattle.std.specs.Prelude.{◌≡◌};
+ghost use Rattle.std.specs.Prelude.{◌≡◌, false};
 ghost use Rattle.buffa_map.specs.Pairs.{means};
 ghost use Rattle.std.specs.BTreeMap.{BTreeMap};
 
@@ -24,6 +24,8 @@ impl<K: MapKey + Ord, V: Blank> MapStorage for BTreeMap<K, V> {
 
     ghost walks = { λ m l. l ≡ means K.meaning V.meaning m.entries };
 
+    ghost keeps_order = { false };
+
     fn storage_len(&self) -> usize {
         self.len()
     }
@@ -40,6 +42,8 @@ impl<K: MapKey + Ord, V: Blank> MapStorage for BTreeMap<K, V> {
     }
 
     ghost equivalence = { K.MapKey.equivalence };
+
+    ghost walked = { λ m l walk never. cc };
 }
 
 impl<'a, K: MapKey + Ord + 'a, V: Blank + 'a> MapWalk<'a> for BTreeMap<K, V> {

@@ -5,14 +5,23 @@ ghost use Rattle.buffa_wire.specs.BudgetLeft.{budget_left};
 ghost use Rattle.buffa_wire.specs.Number.{IsNumber};
 ghost use Rattle.buffa_map.specs.Merge.{ReadsRun, StopsRun, keeping, state};
 ghost use Rattle.buffa_map.specs.Rewrite.{MatchRefusal, RefusesBytes, RefusesOutput, RewritesRun, WritesWalk};
+ghost use Rattle.buffa_map.specs.Rewrite.{rewrite_error_text};
 
 use crate::codec::MapCodec;
 use crate::run::read_run_by;
 use crate::storage::{MapStorage, MapWrite};
 use buffa_wire::{Buf, DecodeContext, DecodeError, EncodeError, EncodeSink, UnknownFields};
 use std::alloc::Global;
+use std::error::Error;
+use std::fmt;
 
 /// Why a map field was not rewritten.
+///
+/// `Display` prints the text of the error that it holds.
+///
+/// ```ignore
+/// let refused = RewriteError::Decode(DecodeError::UnexpectedEof); // UnexpectedEof
+/// ```
 #[derive(Clone, Copy, Debug, PartialEq, Eq)]
 pub enum RewriteError {
     /// The bytes were refused; nothing was written.
@@ -20,6 +29,21 @@ pub enum RewriteError {
     /// The text was refused, after a beginning of it.
     Encode(EncodeError),
 }
+
+impl fmt::Display for RewriteError {
+    ghost use Rattle.std.specs.Prelude.{Some};
+
+    ghost output = { λ e. Some (rewrite_error_text e) };
+
+    fn fmt<W: fmt::Write>(&self, f: &mut fmt::Formatter<W>) -> fmt::Result {
+        match self {
+            RewriteError::Decode(fault) => write!(f, "{fault}"),
+            RewriteError::Encode(error) => write!(f, "{error}"),
+        }
+    }
+}
+
+impl Error for RewriteError {}
 
 // Empties the map, and merges the records of a run into it; the entries that are undeclared go to the list.
 fn read_anew<KC: MapCodec, VC: MapCodec, C: MapStorage<Key = KC::Value, Value = VC::Value>, B: Buf>(
@@ -31,13 +55,13 @@ fn read_anew<KC: MapCodec, VC: MapCodec, C: MapStorage<Key = KC::Value, Value = 
     kept: &mut UnknownFields,
 ) -> Result<(), DecodeError>
     ensures ok { OnOk result (ReadsRun
-        (keeping KC.reading VC.reading C.equal ctx.entry.depth number (KC.COST + VC.COST))
+        (keeping KC.reading VC.reading C.equal C.keeps_order ctx.entry.depth number (KC.COST + VC.COST))
         (state [] kept.old.records ctx.entry.budget.now) (B.unread buf.old)
         (state (C.pairs map.new) kept.new.records (budget_left ctx.exit)) (B.unread buf.new)) }
     ensures err { IfErr result (StopsRun
-        (keeping KC.reading VC.reading C.equal ctx.entry.depth number (KC.COST + VC.COST))
+        (keeping KC.reading VC.reading C.equal C.keeps_order ctx.entry.depth number (KC.COST + VC.COST))
         (state [] kept.old.records ctx.entry.budget.now) (B.unread buf.old)
-        (state (C.pairs map.new) kept.new.records (budget_left ctx.exit))) }
+        (state (C.pairs map.new) kept.new.records (budget_left ctx.exit)) (B.unread buf.new)) }
     ensures buffer { B.beyond buf.new ≡ B.beyond buf.old }
 {
     map.storage_clear();
@@ -67,9 +91,9 @@ fn write_with<
 /// then: [`crate::laws::rewrite_means`].
 ///
 /// # Errors
-/// [`RewriteError::Decode`] with the faults of [`crate::run::read_map_field`] where a list is passed;
+/// [`RewriteError::Decode`] with the faults of [`crate::map_codec::read_map_field`] where a list is passed;
 /// nothing was written, and the map has the entries before the fault. [`RewriteError::Encode`] with those
-/// of [`crate::write::write_field`]; the map has all entries.
+/// of [`crate::map_codec::write_field`]; the map has all entries.
 ///
 /// Source: the protobuf language guide on unknown values of an enum in a map.
 ///
@@ -92,14 +116,14 @@ pub fn rewrite_map_field<
 ) -> Result<(), RewriteError>
     requires { IsNumber number }
     ensures ok { OnOk result (RewritesRun
-        (keeping KC.reading VC.reading C.equal ctx.entry.depth number (KC.COST + VC.COST))
+        (keeping KC.reading VC.reading C.equal C.keeps_order ctx.entry.depth number (KC.COST + VC.COST))
         KC.writing VC.writing KC.fits VC.fits ctx.entry.budget.now (B.unread buf.old)
         (C.pairs map.new) (budget_left ctx.exit) (B.unread buf.new) (S.written sink.old) (S.written sink.new)) }
     ensures refused { IfErr result (λ r. MatchRefusal r
-        (RefusesBytes (keeping KC.reading VC.reading C.equal ctx.entry.depth number (KC.COST + VC.COST))
+        (RefusesBytes (keeping KC.reading VC.reading C.equal C.keeps_order ctx.entry.depth number (KC.COST + VC.COST))
         ctx.entry.budget.now (B.unread buf.old)
-        (C.pairs map.new) (budget_left ctx.exit) (S.written sink.old) (S.written sink.new))
-        (RefusesOutput (keeping KC.reading VC.reading C.equal ctx.entry.depth number (KC.COST + VC.COST))
+        (C.pairs map.new) (budget_left ctx.exit) (B.unread buf.new) (S.written sink.old) (S.written sink.new))
+        (RefusesOutput (keeping KC.reading VC.reading C.equal C.keeps_order ctx.entry.depth number (KC.COST + VC.COST))
         KC.writing VC.writing ctx.entry.budget.now (B.unread buf.old)
         (C.pairs map.new) (budget_left ctx.exit) (B.unread buf.new) (S.written sink.old) (S.written sink.new))) }
     ensures kept { B.beyond buf.new ≡ B.beyond buf.old }

@@ -29,13 +29,13 @@ pub(crate) fn read_run_by<
     keeper: &mut L,
 ) -> Result<(), DecodeError>
     ensures ok { OnOk result (ReadsRun
-        (rules KC.reading VC.reading C.equal ctx.entry.depth number (KC.COST + VC.COST) L.slot L.adds)
+        (rules KC.reading VC.reading C.equal C.keeps_order ctx.entry.depth number (KC.COST + VC.COST) L.slot L.adds)
         (state (C.pairs map.old) (L.records keeper.old) ctx.entry.budget.now) (B.unread buf.old)
         (state (C.pairs map.new) (L.records keeper.new) (budget_left ctx.exit)) (B.unread buf.new)) }
     ensures err { IfErr result (StopsRun
-        (rules KC.reading VC.reading C.equal ctx.entry.depth number (KC.COST + VC.COST) L.slot L.adds)
+        (rules KC.reading VC.reading C.equal C.keeps_order ctx.entry.depth number (KC.COST + VC.COST) L.slot L.adds)
         (state (C.pairs map.old) (L.records keeper.old) ctx.entry.budget.now) (B.unread buf.old)
-        (state (C.pairs map.new) (L.records keeper.new) (budget_left ctx.exit))) }
+        (state (C.pairs map.new) (L.records keeper.new) (budget_left ctx.exit)) (B.unread buf.new)) }
     ensures kept { B.beyond buf.new ≡ B.beyond buf.old }
 {
     let DecodeContext { depth, budget } = ctx;
@@ -63,7 +63,7 @@ pub(crate) fn read_run_by<
 ///
 /// # Errors
 /// The first fault of a record, in this order: of its tag; [`DecodeError::UnexpectedField`] for another
-/// number; [`DecodeError::WireTypeMismatch`]; those of [`crate::entry::merge_entry_with_unknowns`]. What
+/// number; [`DecodeError::WireTypeMismatch`]; those of [`crate::map_codec::merge_entry_with_unknowns`]. What
 /// the records before it say stands in the map and in the list, and what they cost stays spent.
 ///
 /// Source: the protobuf encoding guide, "Maps".
@@ -85,13 +85,13 @@ pub fn read_map_field<
     unknown: Option<&mut UnknownFields>,
 ) -> Result<(), DecodeError>
     ensures ok { OnOk result (ReadsRun
-        (lending KC.reading VC.reading C.equal ctx.entry.depth number (KC.COST + VC.COST) unknown.entry)
+        (lending KC.reading VC.reading C.equal C.keeps_order ctx.entry.depth number (KC.COST + VC.COST) unknown.entry)
         (state (C.pairs map.old) (records_in unknown.entry) ctx.entry.budget.now) (B.unread buf.old)
         (state (C.pairs map.new) (records_left unknown.exit) (budget_left ctx.exit)) (B.unread buf.new)) }
     ensures err { IfErr result (StopsRun
-        (lending KC.reading VC.reading C.equal ctx.entry.depth number (KC.COST + VC.COST) unknown.entry)
+        (lending KC.reading VC.reading C.equal C.keeps_order ctx.entry.depth number (KC.COST + VC.COST) unknown.entry)
         (state (C.pairs map.old) (records_in unknown.entry) ctx.entry.budget.now) (B.unread buf.old)
-        (state (C.pairs map.new) (records_left unknown.exit) (budget_left ctx.exit))) }
+        (state (C.pairs map.new) (records_left unknown.exit) (budget_left ctx.exit)) (B.unread buf.new)) }
     ensures kept { B.beyond buf.new ≡ B.beyond buf.old }
 {
     match unknown {

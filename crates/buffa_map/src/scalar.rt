@@ -3,7 +3,7 @@
 ghost use Rattle.std.specs.Prelude.{false, refl, true};
 ghost use Rattle.std.proofs.Common.{Ok, ap};
 ghost use Rattle.buffa_wire.specs.Content.Content.{number};
-ghost use Rattle.buffa_map.specs.Scalars.{number_reading};
+ghost use Rattle.buffa_map.specs.Scalars.{number_reading, number_writing};
 ghost use Rattle.buffa_map.specs.ScalarLaws.{always_known, never_faulty};
 
 use crate::codec::sealed::Sealed;
@@ -58,7 +58,7 @@ impl<N: Scalar> MapCodec for N {
 
     ghost FIXED_LEN = { N.LEN };
 
-    ghost writing = { record { wire = N.Form.WIRE_TYPE; text = λ v. N.Form.payload (N.number_of v) } };
+    ghost writing = { number_writing N.Form.WIRE_TYPE N.Form.payload N.number_of };
 
     ghost fits = { N.fits };
 

@@ -8,7 +8,7 @@ ghost use Rattle.std.specs.Map.{keys_of};
 ghost use Rattle.std.specs.Map.Iter.{TakesFirst, deref_pair};
 ghost use Rattle.buffa_wire.specs.Number.{IsNumber};
 ghost use Rattle.buffa_map.specs.Text.{AllHold, WritesField};
-ghost use Rattle.buffa_map.specs.Pairs.{ListsOnce, SamePairs, means, put};
+ghost use Rattle.buffa_map.specs.Pairs.{InOrder, ListsOnce, SamePairs, means, put};
 ghost use denote.Ref.{Bor};
 
 use crate::codec::MapCodec;
@@ -37,17 +37,23 @@ pub trait MapStorage {
     /// Holds of a map and what one walk of it may give.
     ghost walks: { Self → List (Self.Key.Meaning × Self.Value.Meaning) → Type 0 };
 
+    /// Whether the pairs stand in the order in which their keys came.
+    ghost keeps_order: { Bool };
+
     /// The number of pairs.
     fn storage_len(&self) -> usize
         ensures len { result ≡ length (pairs self.now) }
         ensures distinct { IsDistinct equal (keys_of (pairs self.now)) };
 
-    /// Puts the value at the key. A key that is there stays as it is stored, and its value is replaced.
+    /// Puts the value at the key. A key that is there stays as it is stored, and its value is replaced. Where the
+    /// order is kept, a key that is there keeps its place, and a new one comes last.
     ///
     /// # Errors
     /// `AllocError` alone; the map is as it was then.
     fn storage_insert(&mut self, key: Self::Key, value: Self::Value) -> Result<(), AllocError>
         ensures ok { OnOk result (SamePairs equal
+            (put equal (pairs self.old) (Self.Key.meaning key) (Self.Value.meaning value)) (pairs self.new)) }
+        ensures order { OnOk result (InOrder keeps_order
             (put equal (pairs self.old) (Self.Key.meaning key) (Self.Value.meaning value)) (pairs self.new)) }
         ensures err { OnErr result (pairs self.new ≡ pairs self.old) };
 
@@ -57,6 +63,10 @@ pub trait MapStorage {
 
     /// The equality of keys is an equivalence.
     ghost equivalence: { IsEquivalence equal };
+
+    /// Where the order is kept, each walk gives the pairs in that order.
+    ghost walked: { (m : Self) (l : List (Self.Key.Meaning × Self.Value.Meaning)) → walks m l →
+        InOrder keeps_order (pairs m) l };
 }
 
 /// A map that can be walked while it is lent for `'a`.
@@ -103,14 +113,13 @@ where
     Self::Value: 'a,
 {}
 
-/// A map that can be written while it is lent for as long as a call: each type that is a [`MapWalk`] for
-/// every lifetime, by [`crate::write::write_field`]. A function that both fills and writes a map asks for it,
-/// since it can't ask for a walk of every lifetime.
+/// A map that can be written while it is lent for as long as a call, as [`crate::map_codec::write_field`] does.
+/// A function that both fills and writes a map asks for it, since it can't ask for a walk of every lifetime.
 pub trait MapWrite: MapStorage {
-    /// Writes the map as a map field, like [`crate::write::write_field`].
+    /// Writes the map as a map field, like [`crate::map_codec::write_field`].
     ///
     /// # Errors
-    /// Those of [`crate::write::write_field`].
+    /// Those of [`crate::map_codec::write_field`].
     fn storage_write<
         KC: MapCodec<Value = Self::Key>,
         VC: MapCodec<Value = Self::Value>,

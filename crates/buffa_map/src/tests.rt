@@ -1,7 +1,8 @@
 //! Values from outside: texts worked out by hand from the protobuf encoding guide, and hostile bytes.
 
 use crate::map_codec::{
-    Int32, MapStorage, MapWalk, Str, field_len, merge_entry, read_map_field, write_field,
+    Int32, MapStorage, MapWalk, Str, field_len, merge_entry, read_map_field, size_and_write_field,
+    write_field,
 };
 use buffa_wire::{Budget, DEFAULT_ELEMENT_MEMORY_LIMIT, DecodeContext, DecodeError, WireType};
 use std::alloc::Global;
@@ -66,6 +67,9 @@ fn fields_have_the_bytes_of_the_guide(rt: HostRuntime) -> Result<(), Fail> {
         let mut text = Vec::new(rt.alloc());
         write_field::<Str, Int32, _, _>(&map, 5, &mut text)?;
         assert_eq!(rt; text.as_slice(), bytes);
+        let size = size_and_write_field::<Str, Int32, _>(&map, 5, &mut text)?;
+        assert_eq!(rt; size, bytes.len() as u64);
+        assert_eq!(rt; text.len(), 2 * bytes.len());
         let mut read: BTreeMap<String, i32> = BTreeMap::new(rt.alloc());
         let mut budget = Budget::new(0);
         let mut rest = bytes;

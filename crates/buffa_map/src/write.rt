@@ -59,7 +59,7 @@ pub(crate) fn write_head<S: EncodeSink>(
 }
 
 // Writes the record of a pair.
-fn write_record<KC: MapCodec, VC: MapCodec, S: EncodeSink>(
+pub(crate) fn write_record<KC: MapCodec, VC: MapCodec, S: EncodeSink>(
     number: u32,
     key: &KC::Value,
     value: &VC::Value,

@@ -1,11 +1,13 @@
 //! What codecs write and read: values worked out by hand from the protobuf encoding guide.
 
 use buffa_map::map_codec::{
-    Bool, BytesBuf, BytesVec, Fixed32, Fixed64, Int32, Int64, MapCodec, MapValueDecode,
-    MapValueDecodeStatus, ProtoBytesMap, ProtoStringMap, Sfixed32, Sfixed64, Sint32, Sint64, Str,
-    Uint32, Uint64,
+    Bool, BytesBuf, BytesVec, ClosedEnum, Fixed32, Fixed64, Int32, Int64, MapCodec, MapValueDecode,
+    MapValueDecodeStatus, Msg, OpenEnum, ProtoBytesMap, ProtoStringMap, Sfixed32, Sfixed64, Sint32,
+    Sint64, Str, Uint32, Uint64,
 };
-use buffa_wire::{Blank, Budget, DecodeContext};
+use buffa_samples::flat::FlatMsg;
+use buffa_samples::hues::Old;
+use buffa_wire::{Blank, Budget, DecodeContext, WireType};
 use std::alloc::Global;
 use std::test::Fail;
 
@@ -76,5 +78,58 @@ fn strings_and_bytes_are_a_length_and_bytes(rt: HostRuntime) -> Result<(), Fail>
     assert!(rt; writes::<BytesBuf>(alloc, &shared, accent)?);
     let own = read::<ProtoBytesMap<Vec<u8>>>(alloc, accent)?;
     assert_eq!(rt; own.as_slice(), &accent[1..]);
+    Ok(())
+}
+
+#[test]
+fn each_codec_has_its_cost_and_its_wire_type(rt: HostRuntime) -> Result<(), Fail> {
+    let found = [
+        (Int32::COST, Int32::WIRE_TYPE, 4, WireType::Varint),
+        (Sint32::COST, Sint32::WIRE_TYPE, 4, WireType::Varint),
+        (Uint32::COST, Uint32::WIRE_TYPE, 4, WireType::Varint),
+        (Int64::COST, Int64::WIRE_TYPE, 8, WireType::Varint),
+        (Sint64::COST, Sint64::WIRE_TYPE, 8, WireType::Varint),
+        (Uint64::COST, Uint64::WIRE_TYPE, 8, WireType::Varint),
+        (Bool::COST, Bool::WIRE_TYPE, 1, WireType::Varint),
+        (Fixed32::COST, Fixed32::WIRE_TYPE, 4, WireType::Fixed32),
+        (Sfixed32::COST, Sfixed32::WIRE_TYPE, 4, WireType::Fixed32),
+        (Fixed64::COST, Fixed64::WIRE_TYPE, 8, WireType::Fixed64),
+        (Sfixed64::COST, Sfixed64::WIRE_TYPE, 8, WireType::Fixed64),
+        (Str::COST, Str::WIRE_TYPE, 24, WireType::LengthDelimited),
+        (
+            BytesVec::COST,
+            BytesVec::WIRE_TYPE,
+            24,
+            WireType::LengthDelimited,
+        ),
+        (
+            BytesBuf::COST,
+            BytesBuf::WIRE_TYPE,
+            32,
+            WireType::LengthDelimited,
+        ),
+        (
+            ClosedEnum::<Old>::COST,
+            ClosedEnum::<Old>::WIRE_TYPE,
+            4,
+            WireType::Varint,
+        ),
+        (
+            OpenEnum::<Old>::COST,
+            OpenEnum::<Old>::WIRE_TYPE,
+            8,
+            WireType::Varint,
+        ),
+        (
+            Msg::<FlatMsg>::COST,
+            Msg::<FlatMsg>::WIRE_TYPE,
+            4,
+            WireType::LengthDelimited,
+        ),
+    ];
+    for (cost, wire_type, expected, expected_type) in found {
+        assert_eq!(rt; cost, expected);
+        assert_eq!(rt; wire_type, expected_type);
+    }
     Ok(())
 }

@@ -1,10 +1,10 @@
 //! Whole map fields, in each of the storages.
 
-use crate::word::Word;
 use buffa_map::map_codec::{
     Bool, Fixed32, Fixed64, Int32, Map, MapCodec, MapStorage, MapWalk, ProtoStringMap, Sint32, Str,
-    field_len, merge_entry, read_map_field, write_field,
+    field_len, read_map_field, write_field,
 };
+use buffa_samples::word::Word;
 use buffa_wire::{Budget, DecodeContext, MAX_FIELD_NUMBER};
 use std::alloc::Global;
 use std::collections::HashMap;
@@ -71,6 +71,8 @@ fn fields_in_each_storage(rt: HostRuntime) -> Result<(), Fail> {
     let mut again: HashMap<u32, u64> = HashMap::new(alloc);
     read::<Fixed32, Fixed64, _>(alloc, &mut again, 1, &text)?;
     assert_eq!(rt; again.storage_len(), 3);
+    assert_eq!(rt; again.get(&1), Some(&5));
+    assert_eq!(rt; again.get(&9), Some(&2));
     assert_eq!(rt; again.get(&1000), Some(&0));
     Ok(())
 }
@@ -110,7 +112,12 @@ fn an_index_map_keeps_place_and_key(rt: HostRuntime) -> Result<(), Fail> {
         0x2A, 0x05, 0x0A, 0x01, 0x61, 0x10, 0x02, 0x2A, 0x05, 0x0A, 0x01, 0x7A, 0x10, 0x08,
     ];
     assert!(rt; has_text::<Str, Int32, _>(alloc, &counts, 5, &field)?);
+    Ok(())
+}
 
+#[test]
+fn a_key_that_came_first_is_stored(rt: HostRuntime) -> Result<(), Fail> {
+    let alloc = rt.alloc();
     // `Bee` came first, so that `BEE` replaces its value alone.
     let mut words: Map<Word, bool> = Map::new(alloc);
     let mixed = [
@@ -123,23 +130,5 @@ fn an_index_map_keeps_place_and_key(rt: HostRuntime) -> Result<(), Fail> {
         0x00,
     ];
     assert!(rt; has_text::<ProtoStringMap<Word>, Bool, _>(alloc, &words, 1, &kept)?);
-    Ok(())
-}
-
-#[test]
-fn entries_in_an_index_map(rt: HostRuntime) -> Result<(), Fail> {
-    let mut budget = Budget::new(0);
-    let mut numbers: Map<i32, i32> = Map::new(rt.alloc());
-    // A long spelling of the length.
-    let mut rest: &[u8] = &[0x82, 0x00, 0x08, 0x05];
-    let ctx = DecodeContext::new(10, &mut budget);
-    merge_entry::<Int32, Int32, _, _>(rt.alloc(), &mut numbers, &mut rest, ctx)?;
-    assert_eq!(rt; numbers.get(&5), Some(&0));
-    let mut texts: Map<String, i32> = Map::new(rt.alloc());
-    // A field of number 3 between key and value.
-    let mut rest: &[u8] = &[0x07, 0x0A, 0x01, 0x61, 0x18, 0x63, 0x10, 0x07];
-    let ctx = DecodeContext::new(10, &mut budget);
-    merge_entry::<Str, Int32, _, _>(rt.alloc(), &mut texts, &mut rest, ctx)?;
-    assert_eq!(rt; texts.get("a"), Some(&7));
     Ok(())
 }

@@ -1,23 +1,18 @@
-//! Tests of the crates below, against values that others made.
+//! Tests of the crates below, against values that others made: fields of maps, enums and rewrites, messages.
 //!
-//! [`word`] is a key type of one's own, [`round_trip`] takes a map through its bytes and back, and [`passed_on`]
-//! through a reader that does not know all its values; [`flat`], [`two`], [`count`], [`keep`] and [`tree`] are
-//! messages written by hand; the rest are tests.
+//! The message types, enums and keys that the tests use stand in the crate `buffa_samples`.
 #![tactic(auto)]
 
 #[cfg(test)]
-mod codecs;
-pub mod count;
+mod calls;
 #[cfg(test)]
-mod cuts;
+mod codecs;
+#[cfg(test)]
+mod enums;
+#[cfg(test)]
+mod enums_table;
 #[cfg(test)]
 mod fields;
-pub mod flat;
-#[cfg(test)]
-mod guide;
-pub mod hues;
-mod int32_field;
-pub mod keep;
 #[cfg(test)]
 mod maps;
 #[cfg(test)]
@@ -26,14 +21,11 @@ mod maps_table;
 mod messages;
 #[cfg(test)]
 mod messages_table;
-pub mod passed_on;
 #[cfg(test)]
 mod proto_messages;
 #[cfg(test)]
 mod rewrites;
-pub mod round_trip;
 #[cfg(test)]
 mod rows;
-pub mod tree;
-pub mod two;
-pub mod word;
+#[cfg(test)]
+mod storages;

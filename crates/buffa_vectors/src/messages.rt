@@ -1,15 +1,15 @@
 //! Entries whose values are messages.
 
-use crate::flat::FlatMsg;
-use crate::keep::BudgetMsg;
-use crate::tree::{Tree, size_tree, write_tree};
 use buffa_map::map_codec::{
     Int32, Map, MapStorage, MapWalk, Msg, StableWalk, merge_entry, message_field_len,
     read_map_field, write_message_field,
 };
+use buffa_samples::flat::FlatMsg;
+use buffa_samples::keep::BudgetMsg;
+use buffa_samples::tree::{Tree, size_tree, write_tree};
 use buffa_wire::{
-    Blank, Budget, DecodeContext, DecodeError, Message, Pieces, RECURSION_LIMIT, SizeCache,
-    WireType,
+    Blank, Budget, DecodeContext, DecodeError, Message, RECURSION_LIMIT, SizeCache, WireType,
+    encode_varint,
 };
 use std::alloc::Global;
 use std::collections::BTreeMap;
@@ -40,62 +40,15 @@ fn messages_are_merged_into_blanks(rt: HostRuntime) -> Result<(), Fail> {
 }
 
 #[test]
-fn messages_of_one_entry_are_merged_in_order(rt: HostRuntime) -> Result<(), Fail> {
-    // A value, a value without a field, a field of another number, and the last byte past the entry.
-    let mut entry = Pieces::new(&[
-        &[0x0C, 0x08, 0x05, 0x12, 0x02, 0x08],
-        &[0x07, 0x12, 0x00, 0x12, 0x02, 0x18, 0x09, 0x63],
-    ]);
-    let mut map: BTreeMap<i32, FlatMsg> = BTreeMap::new(rt.alloc());
-    let mut budget = Budget::new(0);
-    let ctx = DecodeContext::new(1, &mut budget);
-    merge_entry::<Int32, Msg<FlatMsg>, _, _>(rt.alloc(), &mut map, &mut entry, ctx)?;
-    match map.get(&5) {
-        Some(five) => assert_eq!(rt; five.value, 7),
-        None => assert!(rt; false),
-    }
-    Ok(())
-}
-
-#[test]
-fn messages_are_refused(rt: HostRuntime) -> Result<(), Fail> {
-    let mismatch = DecodeError::WireTypeMismatch {
-        field_number: 1,
-        expected: WireType::Varint,
-        actual: WireType::LengthDelimited,
-    };
-    let table: [(u32, usize, &[u8], DecodeError); 6] = [
-        (
-            0,
-            8,
-            &[0x04, 0x08, 0x01, 0x12, 0x00],
-            DecodeError::RecursionLimitExceeded,
-        ),
-        (
-            0,
-            8,
-            &[0x02, 0x12, 0x80],
-            DecodeError::RecursionLimitExceeded,
-        ),
-        (1, 8, &[0x02, 0x12, 0x80], DecodeError::UnexpectedEof),
-        (1, 8, &[0x03, 0x12, 0x01, 0x08], DecodeError::UnexpectedEof),
-        (1, 8, &[0x04, 0x12, 0x02, 0x0A, 0x00], mismatch),
-        (
-            1,
-            7,
-            &[0x02, 0x12, 0x00],
-            DecodeError::ElementMemoryLimitExceeded,
-        ),
-    ];
-    for (depth, memory, bytes, fault) in table {
-        let mut map: BTreeMap<i32, FlatMsg> = BTreeMap::new(rt.alloc());
-        let mut budget = Budget::new(0).with_element_memory(memory);
-        let mut rest = bytes;
-        let ctx = DecodeContext::new(depth, &mut budget);
-        let answer = merge_entry::<Int32, Msg<FlatMsg>, _, _>(rt.alloc(), &mut map, &mut rest, ctx);
-        assert_eq!(rt; answer, Err(fault));
-        assert_eq!(rt; map.storage_len(), 0);
-    }
+fn a_message_is_merged_from_a_slice(rt: HostRuntime) -> Result<(), Fail> {
+    let mut message = FlatMsg { value: 9 };
+    message.merge_from_slice(rt.alloc(), &[])?;
+    assert_eq!(rt; message.value, 9);
+    // Two values, of which the last stays, and a field of another number.
+    message.merge_from_slice(rt.alloc(), &[0x08, 0x05, 0x10, 0x01, 0x08, 0x96, 0x01])?;
+    assert_eq!(rt; message.value, 150);
+    let answer = message.merge_from_slice(rt.alloc(), &[0x08]);
+    assert_eq!(rt; answer, Err(DecodeError::UnexpectedEof));
     Ok(())
 }
 
@@ -183,6 +136,138 @@ fn trees_are_sized_and_written(rt: HostRuntime) -> Result<(), Fail> {
         0x03, 0x12, 0x02, 0x08, 0x05,
     ];
     assert_eq!(rt; text.as_slice(), expected);
+    Ok(())
+}
+
+#[test]
+fn trees_are_read_and_written_back(rt: HostRuntime) -> Result<(), Fail> {
+    // Child 1 has the blank child 2; child 3 has the label 5.
+    let bytes: &[u8] = &[
+        0x12, 0x0A, 0x08, 0x01, 0x12, 0x06, 0x12, 0x04, 0x08, 0x02, 0x12, 0x00, 0x12, 0x06, 0x08,
+        0x03, 0x12, 0x02, 0x08, 0x05,
+    ];
+    let mut tree: Tree = Blank::blank(rt.alloc());
+    tree.merge_from_slice(rt.alloc(), bytes)?;
+    assert_eq!(rt; (tree.label, tree.children.len()), (0, 2));
+    match (tree.children.get(&1), tree.children.get(&3)) {
+        (Some(one), Some(three)) => {
+            assert_eq!(rt; (one.label, one.children.len()), (0, 1));
+            assert_eq!(rt; (three.label, three.children.len()), (5, 0));
+        }
+        _ => assert!(rt; false),
+    }
+    let mut cache = SizeCache::new(rt.alloc());
+    assert_eq!(rt; tree.compute_size(&mut cache)?, 20);
+    // Slots behind those of the tree, since a slot that is consumed has to be there.
+    cache.reserve()?;
+    cache.reserve()?;
+    cache.reserve()?;
+    assert_eq!(rt; cache.consume_next(), 6);
+    assert_eq!(rt; cache.consume_next(), 0);
+    assert_eq!(rt; cache.consume_next(), 2);
+    let text = tree.try_encode_to_vec(rt.alloc())?;
+    assert_eq!(rt; text.as_slice(), bytes);
+    // An entry of a key that is there takes the place of the old child; the other one stays.
+    tree.merge_from_slice(
+        rt.alloc(),
+        &[0x12, 0x06, 0x08, 0x03, 0x12, 0x02, 0x18, 0x07],
+    )?;
+    match tree.children.get(&3) {
+        Some(three) => assert_eq!(rt; three.label, 0),
+        None => assert!(rt; false),
+    }
+    assert_eq!(rt; tree.children.len(), 2);
+    tree.clear(rt.alloc());
+    assert_eq!(rt; tree.children.len(), 0);
+    Ok(())
+}
+
+// The field of number 2 with these bytes.
+fn field_2(alloc: Global, bytes: &[u8]) -> Result<Vec<u8>, Fail> {
+    let mut text = Vec::new(alloc);
+    text.push(0x12)?;
+    encode_varint(bytes.len() as u64, &mut text)?;
+    text.extend_from_slice(bytes)?;
+    Ok(text)
+}
+
+// A tree that is a chain of so many levels, each the only child of the one above, at key 0.
+fn chain(alloc: Global, levels: u32) -> Result<Vec<u8>, Fail> {
+    let mut text = Vec::new(alloc);
+    for _ in 0..levels {
+        let value = field_2(alloc, &text)?;
+        text = field_2(alloc, &value)?;
+    }
+    Ok(text)
+}
+
+#[test]
+fn trees_are_read_to_a_depth(rt: HostRuntime) -> Result<(), Fail> {
+    let mut tree: Tree = Blank::blank(rt.alloc());
+    tree.merge_from_slice(rt.alloc(), &chain(rt.alloc(), RECURSION_LIMIT)?)?;
+    let mut cache = SizeCache::new(rt.alloc());
+    let _size = tree.compute_size(&mut cache)?;
+    let text = tree.try_encode_to_vec(rt.alloc())?;
+    let mut again: Tree = Blank::blank(rt.alloc());
+    again.merge_from_slice(rt.alloc(), &text)?;
+    let answer = again.merge_from_slice(rt.alloc(), &chain(rt.alloc(), RECURSION_LIMIT + 1)?);
+    assert_eq!(rt; answer, Err(DecodeError::RecursionLimitExceeded));
+    // The refused entry left the child that stood.
+    assert_eq!(rt; again.children.len(), 1);
+    Ok(())
+}
+
+#[test]
+fn trees_are_refused(rt: HostRuntime) -> Result<(), Fail> {
+    let mismatch = |field_number: u32, expected: WireType, actual: WireType| {
+        DecodeError::WireTypeMismatch {
+            field_number,
+            expected,
+            actual,
+        }
+    };
+    let limit = DecodeError::ElementMemoryLimitExceeded;
+    let table: [(u32, usize, &[u8], Result<(), DecodeError>, usize); 8] = [
+        (1, 36, &[0x12, 0x00], Ok(()), 0),
+        (
+            0,
+            36,
+            &[0x12, 0x02, 0x12, 0x00],
+            Err(DecodeError::RecursionLimitExceeded),
+            0,
+        ),
+        (1, 35, &[0x12, 0x00], Err(limit), 35),
+        (2, 72, &[0x12, 0x04, 0x12, 0x02, 0x12, 0x00], Ok(()), 0),
+        (2, 71, &[0x12, 0x04, 0x12, 0x02, 0x12, 0x00], Err(limit), 35),
+        (
+            2,
+            72,
+            &[0x12, 0x03, 0x12, 0x01, 0x08],
+            Err(DecodeError::UnexpectedEof),
+            36,
+        ),
+        (
+            2,
+            72,
+            &[0x12, 0x04, 0x12, 0x02, 0x0A, 0x00],
+            Err(mismatch(1, WireType::Varint, WireType::LengthDelimited)),
+            36,
+        ),
+        (
+            2,
+            72,
+            &[0x10, 0x01],
+            Err(mismatch(2, WireType::LengthDelimited, WireType::Varint)),
+            72,
+        ),
+    ];
+    for (depth, memory, bytes, expected, left) in table {
+        let mut tree: Tree = Blank::blank(rt.alloc());
+        let mut budget = Budget::new(0).with_element_memory(memory);
+        let answer = tree.merge(rt.alloc(), bytes, DecodeContext::new(depth, &mut budget));
+        assert_eq!(rt; answer, expected);
+        assert_eq!(rt; budget.memory_left(), left);
+    }
     Ok(())
 }
 

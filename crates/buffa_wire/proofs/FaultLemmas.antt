@@ -6,7 +6,7 @@ use Rattle.buffa_bytes.specs.declared.error.DecodeError.{DecodeError}
 use Rattle.buffa_bytes.specs.declared.error.DecodeError.TheVariants.{OutOfMemory}
 use Rattle.buffa_bytes.proofs.FullLemmas.{content_fault_full, tag_fault_full}
 use Rattle.buffa_bytes.proofs.StepLemmas.{agree_err}
-use Rattle.buffa_wire.specs.Parse.{FieldFault, FieldFaultOf, GroupFault, InsideFault, NextFault, RecordsFault}
+use Rattle.buffa_wire.specs.Parse.{FieldFaultOf, GroupFault, InsideFault, NextFault, RecordsFault}
 use Rattle.buffa_wire.specs.RecordReading.{field_at, list_at}
 use Rattle.buffa_wire.proofs.LoopLemmas.{field_is_read, list_is_read}
 

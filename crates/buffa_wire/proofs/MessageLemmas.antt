@@ -1,5 +1,5 @@
 -- Messages field by field, and what reading bytes never answers.
-use Rattle.std.proofs.Common.{◌≡◌, ◌≢◌, ◌⊎◌, inl, inr, ℕ, zero, suc, ◌+◌, ◌<◌, ◌≤◌, List, [], ◌∷◌, ◌++◌, length, Option, Some, None, Result, Ok, Err, refl, sym, ap, subst, ◌∙◌, arith, append_assoc, length-append}
+use Rattle.std.proofs.Common.{◌≡◌, ◌≢◌, inl, inr, ℕ, zero, suc, ◌+◌, ◌<◌, ◌≤◌, List, [], ◌++◌, length, Option, Some, None, Result, Ok, Err, refl, sym, ap, subst, ◌∙◌, arith, append-nil, append_assoc, IsOk}
 use Rattle.std.specs.Option.{option_and_then}
 use Rattle.buffa_bytes.specs.declared.wire_type.WireType.{WireType}
 use Rattle.buffa_bytes.specs.declared.wire_type.WireType.TheVariants.{Varint, Fixed64, LengthDelimited, StartGroup, EndGroup, Fixed32}
@@ -12,8 +12,8 @@ use Rattle.buffa_bytes.specs.Join.Join.{none, more}
 use Rattle.buffa_bytes.specs.Reading.{tag_at}
 use Rattle.buffa_bytes.proofs.StepLemmas.{agree_err}
 use Rattle.buffa_bytes.proofs.FieldLemmas.{tag_complete, tag_sound}
-use Rattle.buffa_wire.specs.BudgetLeft.{BudgetLeft, Lacks, Pays, PaysAtMost, nothing, plus}
-use Rattle.buffa_wire.specs.Message.{IsLimit, MergeFault}
+use Rattle.buffa_wire.specs.BudgetLeft.{BudgetLeft, Lacks, PaysAtMost, plus}
+use Rattle.buffa_wire.specs.Message.{IsLimit, MergeFault, ReachesTag}
 
 -- ---- no fault of bytes is a limit's
 abbrev pub NoLimit : DecodeError → Type 0
@@ -105,3 +105,25 @@ loop_fault o p start now over all rest e same u m no_slot no_unit (spent, why) =
   (omega (arith, no_slot, spent.0), omega (arith, u, spent.1), omega (arith, no_unit, spent.2), omega (arith, m, spent.3)),
   λ ne. elim (why ne) [ inl few ↦ inl (lacks_all start now all rest u m few) | inr bad ↦ inr (same ∙ bad.0, bad.1) ],
 )
+
+-- ---- how far merging came
+
+join_more : {P : List ℕ → Type 0} (f x : List ℕ) → Join P f → P x → Join P (f ++ x)
+join_more {P = P} f x none h = subst (λ z. Join P z) (append-nil x) (more x [] h none)
+join_more {P = P} f x (more first rest a j) h = subst (λ z. Join P z) (sym (append_assoc first rest x)) (more first (rest ++ x) a (join_more rest x j h))
+
+-- one more field stands in front of what is left
+pub front_more : (d : ℕ) (f bs rest t p x : List ℕ) (n : ℕ) (w : WireType) → Join (SomeField d) f → bs ≡ f ++ rest → IsTag t n w → Payload d n w p → rest ≡ t ++ (p ++ x)
+    → (g : List ℕ) × Join (SomeField d) g × (bs ≡ g ++ x)
+front_more d f bs rest t p x n w j whole tag payload is = (
+  f ++ (t ++ p),
+  join_more f (t ++ p) j (n, w, (t, p, tag, payload, refl)),
+  whole ∙ ap (λ z. f ++ z) (is ∙ sym (append_assoc t p x)) ∙ sym (append_assoc f (t ++ p) x),
+)
+
+is_there : {A E : Type 0} (r : Result A E) (a : A) → r ≡ Ok a → IsOk r
+is_there (Ok b) a e = refl
+is_there (Err f) a e = cc
+
+pub reaches_tag : (d : ℕ) (f bs rest : List ℕ) (tag : ℕ × WireType × List ℕ) → Join (SomeField d) f → bs ≡ f ++ rest → tag_at rest ≡ Ok tag → ReachesTag d bs
+reaches_tag d f bs rest tag j whole e = (f, rest, j, whole, is_there (tag_at rest) tag e)

@@ -1,10 +1,9 @@
 -- Steps of the two passes, over plain variables.
-use Rattle.std.proofs.Common.{◌≡◌, ℕ, zero, suc, ◌+◌, ◌^◌, ◌<◌, ◌≤◌, List, [], ◌∷◌, ◌++◌, length, min, refl, sym, ap, subst, ◌∙◌, arith, append_assoc, append-nil, drop, slice_index, slice_set, length-append, Result, Ok, Err, MatchResult, OnErr, add-one, add-zero}
-use Rattle.buffa_bytes.specs.Written.{Writes, WritesFront}
+use Rattle.std.proofs.Common.{◌≡◌, ℕ, zero, suc, ◌+◌, ◌<◌, List, [], ◌∷◌, ◌++◌, length, refl, sym, ap, subst, ◌∙◌, arith, append_assoc, append-nil, drop, slice_index, slice_set, length-append, Result, Ok, Err, add-one, add-zero}
+use Rattle.buffa_bytes.specs.Written.{Writes}
 use Rattle.buffa_bytes.specs.declared.error.EncodeError.{EncodeError}
-use Rattle.buffa_bytes.specs.declared.error.EncodeError.TheVariants.{OutOfMemory}
-use Rattle.buffa_wire.specs.Passes.{Begins, IsLonger, IsNext, IsSmall, IsWritten, WritesIf, cap}
-use Rattle.buffa_wire.specs.Cache.{Cache, advanced, appended, left}
+use Rattle.buffa_wire.specs.Passes.{IsLonger, IsNext, WritesIf}
+use Rattle.buffa_wire.specs.Cache.{Cache, advanced, appended}
 
 -- ---- the cursor
 

@@ -1,10 +1,11 @@
 -- What merging a message promises: what bytes make of a value, and what they cost, is said by the message's type.
-use Rattle.std.specs.Prelude.{◌≡◌, ◌≢◌, ℕ, zero, suc, ◌⊎◌, List, ◌++◌, Option, Some, None, Result, Ok, Err, MatchResult}
+use Rattle.std.specs.Prelude.{◌≡◌, ◌≢◌, ◌^◌, ℕ, zero, suc, ◌⊎◌, List, ◌++◌, Option, Some, None, IsOk, Result, Ok, Err, MatchResult}
 use Rattle.buffa_bytes.specs.declared.error.DecodeError.{DecodeError}
 use Rattle.buffa_bytes.specs.declared.error.DecodeError.TheVariants.{ElementMemoryLimitExceeded, OutOfMemory, RecursionLimitExceeded, UnknownFieldLimitExceeded}
 use Rattle.buffa_bytes.specs.declared.wire_type.WireType.{WireType}
-use Rattle.buffa_bytes.specs.Field.{IsTag, Payload}
-use Rattle.buffa_bytes.specs.Reading.{delimited_at}
+use Rattle.buffa_bytes.specs.Field.{IsTag, Payload, SomeField}
+use Rattle.buffa_bytes.specs.Join.{Join}
+use Rattle.buffa_bytes.specs.Reading.{delimited_at, tag_at}
 use Rattle.buffa_wire.specs.BudgetLeft.{BudgetLeft, Lacks, Pays, PaysAtMost, nothing}
 
 -- an error that a budget makes
@@ -24,6 +25,21 @@ IsMerged meant need before r new after =
     MatchResult r
     (λ _. (meant ≡ Some new) × Pays before need after)
     (λ e. PaysAtMost before need after × (e ≢ OutOfMemory → MergeFault meant need before e))
+
+-- some fields of the bytes, and then a tag: where merging them may take memory
+abbrev pub ReachesTag : ℕ → List ℕ → Type 0
+ReachesTag d bs = (front : List ℕ) × (rest : List ℕ) × Join (SomeField d) front × (bs ≡ front ++ rest) × IsOk (tag_at rest)
+
+-- the budgets where nothing else is said
+abbrev pub defaults : BudgetLeft
+defaults = record { unknown = 1000000; memory = 2 ^ 28 }
+
+-- the same from the default budgets: what bytes mean is left where their need is there, and else it tells why not
+abbrev pub IsMergedAlone : {X T : Type 0} → Option X → BudgetLeft → Result T DecodeError → X → Type 0
+IsMergedAlone meant need r new =
+    MatchResult r
+    (λ _. (meant ≡ Some new) × (Lacks defaults need → ⊥))
+    (λ e. e ≢ OutOfMemory → MergeFault meant need defaults e)
 
 -- Merging the field whose tag, of number n and wire type w, was read, however it was spelled, where bs follows the tag:
 -- what the field means is left, exactly what it costs is spent, and rest follows it; on a refusal at most what the

@@ -1,5 +1,5 @@
 -- What the two passes promise that write a message: the one sizes it, the other writes it.
-use Rattle.std.specs.Prelude.{◌≡◌, ℕ, ◌+◌, ◌-◌, ◌<◌, ◌^◌, List, ◌++◌, length, min, Result, MatchResult}
+use Rattle.std.specs.Prelude.{◌≡◌, ℕ, ◌-◌, ◌<◌, ◌^◌, List, ◌++◌, length, min, Result, MatchResult}
 use Rattle.buffa_bytes.specs.declared.error.EncodeError.{EncodeError}
 use Rattle.buffa_bytes.specs.declared.error.EncodeError.TheVariants.{OutOfMemory}
 use Rattle.buffa_wire.specs.Cache.{Cache, left, appended, advanced}

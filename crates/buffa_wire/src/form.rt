@@ -3,7 +3,7 @@
 ghost use Rattle.std.specs.Prelude.{◌≡◌, ◌<◌, ◌^◌, ℕ, List, IfOk, IfSome, None, Option, Some, length, refl};
 ghost use Rattle.buffa_wire.specs.Records.{Datum, bytes, fixed32, fixed64, varint};
 ghost use Rattle.buffa_wire.specs.View.{datum_of};
-ghost use Rattle.buffa_wire.specs.Found.{fixed32_in, fixed64_in, varint_in};
+ghost use Rattle.buffa_wire.specs.Found.{fixed32_in, fixed32_only, fixed64_in, fixed64_only, varint_in, varint_only};
 ghost use Rattle.buffa_bytes.specs.declared.wire_type.WireType.{WireType};
 ghost use Rattle.buffa_bytes.specs.Content.{HasContent, content_at};
 ghost use Rattle.buffa_bytes.specs.Content.Content.{number};
@@ -71,6 +71,9 @@ pub trait Form: Sealed {
     /// The record of a number has it.
     ghost kept: { (n : ℕ) → found (datum n) ≡ Some n };
 
+    /// No other record has it.
+    ghost only: { (d : Datum) (n : ℕ) → found d ≡ Some n → d ≡ datum n };
+
     /// A record of bytes has no number.
     ghost bytes_other: { (bs : List ℕ) → found (bytes bs) ≡ None };
 }
@@ -122,6 +125,8 @@ impl Form for Varint {
     ghost reads_back = { IsVarint-varint_text };
 
     ghost kept = { λ n. refl };
+
+    ghost only = { varint_only };
 
     ghost bytes_other = { λ bs. refl };
 }
@@ -175,6 +180,8 @@ impl Form for FourBytes {
 
     ghost kept = { λ n. refl };
 
+    ghost only = { fixed32_only };
+
     ghost bytes_other = { λ bs. refl };
 }
 
@@ -226,6 +233,8 @@ impl Form for EightBytes {
     ghost reads_back = { λ n h. (refl, sym (from_le_bytes-to_le_bytes_8 n h)) };
 
     ghost kept = { λ n. refl };
+
+    ghost only = { fixed64_only };
 
     ghost bytes_other = { λ bs. refl };
 }

@@ -15,10 +15,12 @@ ghost use Rattle.buffa_wire.specs.Parse.{Fits};
 ghost use Rattle.buffa_wire.specs.Passes.{IsNext, IsSized, IsWritten};
 ghost use Rattle.buffa_wire.specs.Records.{Datum, records_of};
 ghost use Rattle.buffa_wire.specs.Text.{records_text};
-ghost use Rattle.buffa_wire.specs.Message.{IsFieldMerged, IsMerged, PayloadFault, cost_in, cost_of_payload, merged_in};
+ghost use Rattle.buffa_wire.specs.Message.{IsFieldMerged, IsMerged, IsMergedAlone, PayloadFault, ReachesTag, cost_in};
+ghost use Rattle.buffa_wire.specs.Message.{cost_of_payload, merged_in};
 
+use crate::budget::{Budget, DEFAULT_UNKNOWN_FIELD_LIMIT};
 use crate::cache::SizeCache;
-use crate::context::DecodeContext;
+use crate::context::{DecodeContext, RECURSION_LIMIT};
 use buffa_bytes::types::decode_bytes;
 use buffa_bytes::{Blank, Buf, DecodeError, EncodeError, EncodeSink, Tag};
 use std::alloc::Global;
@@ -151,16 +153,17 @@ pub trait Message: MessageSpec {
     ///
     /// # Errors
     /// Any but a limit's where the bytes mean no value; any where their cost isn't left; or
-    /// [`DecodeError::OutOfMemory`]. The value is then some value of its type.
+    /// [`DecodeError::OutOfMemory`], though never for a fault of a tag. The value is then some value of its type.
     fn merge(
         &mut self,
         alloc: Global,
         bytes: &[u8],
         ctx: DecodeContext<'_>,
     ) -> Result<(), DecodeError>
-        ensures { IsMerged (Self.merged ctx.entry.depth (Self.meaning self.old) bytes.now)
+        ensures merged { IsMerged (Self.merged ctx.entry.depth (Self.meaning self.old) bytes.now)
             (Self.cost ctx.entry.depth bytes.now) ctx.entry.budget.now result (Self.meaning self.new)
             (budget_left ctx.exit) }
+        ensures full { FullOnlyIf result (ReachesTag ctx.entry.depth bytes.now) }
     {
         let DecodeContext { depth, budget } = ctx;
         let mut rest = bytes;
@@ -173,6 +176,27 @@ pub trait Message: MessageSpec {
             self.merge_field(alloc, tag, &mut rest, lent)?;
         }
         Ok(())
+    }
+
+    /// Merges the fields that the bytes are, at most [`RECURSION_LIMIT`] deep, under default budgets of its own.
+    ///
+    /// # Errors
+    /// Those of [`Message::merge`]. The value is then some value of its type.
+    ///
+    /// ```ignore
+    /// message.merge_from_slice(alloc, &[0x08, 0x96, 0x01])?;
+    /// ```
+    fn merge_from_slice(&mut self, alloc: Global, bytes: &[u8]) -> Result<(), DecodeError>
+        ensures merged { IsMergedAlone (Self.merged RECURSION_LIMIT (Self.meaning self.old) bytes.now)
+            (Self.cost RECURSION_LIMIT bytes.now) result (Self.meaning self.new) }
+        ensures full { FullOnlyIf result (ReachesTag RECURSION_LIMIT bytes.now) }
+    {
+        let mut budget = Budget::new(DEFAULT_UNKNOWN_FIELD_LIMIT);
+        self.merge(
+            alloc,
+            bytes,
+            DecodeContext::new(RECURSION_LIMIT, &mut budget),
+        )
     }
 
     /// Merges the length and so many bytes at the front, one level down.

@@ -1,20 +1,20 @@
 -- What `write N` answers: the field of a map whose pairs are given in lines.
 use Rattle.std.specs.Prelude.{◌≡◌, ℕ, nat_lt, Bool, List, length, ◌^◌, codes, Option, Some, None, if◌then◌else◌}
 use Rattle.std.specs.List.{list_all}
-use Rattle.hex.specs.Hex.{encode_lower}
+use Rattle.buffa_map.specs.Codec.{Writing}
 use Rattle.buffa_map.specs.Text.{entry_text, field_text}
 use Rattle.buffamap.specs.Codecs.{int32_writing, string_writing}
 use Rattle.buffamap.specs.Lines.{InOrder, Pair, map_in}
-use Rattle.buffamap.specs.Reply.{Reply, bad_input, done, fault, line}
+use Rattle.buffamap.specs.Reply.{Reply, bad_input, done, fault, hex_line}
 
 -- no entry is too long for its length to be a varint
-abbrev pub has_text : List Pair → Bool
-has_text ps = list_all (λ p. nat_lt (length (entry_text string_writing int32_writing p)) (2 ^ 64)) ps
+abbrev pub has_text : {K V : Type 0} → Writing K → Writing V → List (K × V) → Bool
+has_text key val ps = list_all (λ p. nat_lt (length (entry_text key val p)) (2 ^ 64)) ps
 
 -- the field of pairs in hexadecimal
 abbrev pub field_reply : ℕ → List Pair → Reply
 field_reply n ps =
-    if has_text ps then done (line (encode_lower (field_text string_writing int32_writing n ps)))
+    if has_text string_writing int32_writing ps then done (hex_line (field_text string_writing int32_writing n ps))
     else fault (codes "MessageTooLarge")
 
 -- the field of the map's pairs, in the order of the keys' bytes

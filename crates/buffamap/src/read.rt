@@ -12,10 +12,8 @@ ghost use Rattle.buffamap.specs.Reply.{reply_of};
 use crate::forms::{hex_bytes, without_newline};
 use crate::lines::lines_of;
 use crate::reply::{Answer, bad_input, done, refused};
-use buffa_map::map_codec::{Int32, Str, read_map_field};
-use buffa_wire::{
-    Budget, DEFAULT_UNKNOWN_FIELD_LIMIT, DecodeContext, DecodeError, RECURSION_LIMIT,
-};
+use buffa::map_codec::{Int32, Str, read_map_field};
+use buffa::{Budget, DEFAULT_UNKNOWN_FIELD_LIMIT, DecodeContext, DecodeError, RECURSION_LIMIT};
 use std::alloc::{AllocError, Global};
 use std::collections::BTreeMap;
 

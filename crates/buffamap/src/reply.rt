@@ -1,9 +1,9 @@
 // What every command may answer.
 ghost use Rattle.std.specs.Prelude.{◌≡◌, IfOk};
 ghost use Rattle.buffa_wire.specs.ErrorText.{decode_error_text};
-ghost use Rattle.buffamap.specs.Reply.{bad_input, done, fault, reply_of};
+ghost use Rattle.buffamap.specs.Reply.{bad_input, done, fault, hex_line, reply_of};
 
-use buffa_wire::DecodeError;
+use buffa::DecodeError;
 use std::alloc::{AllocError, Global};
 
 /// A status and a text.
@@ -18,6 +18,15 @@ pub fn done(text: Vec<u8>) -> Answer
     ensures { reply_of result ≡ done text.items }
 {
     Answer { status: 0, text }
+}
+
+/// The answer of bytes, in hexadecimal on a line.
+pub fn done_in_hex(alloc: Global, bytes: &[u8]) -> Result<Answer, AllocError>
+    ensures { IfOk result (λ a. reply_of a ≡ done (hex_line bytes.now)) }
+{
+    let mut text = hex::encode(alloc, bytes)?.into_bytes();
+    text.push(b'\n')?;
+    Ok(done(text))
 }
 
 /// The answer to an input that isn't in the stated form.

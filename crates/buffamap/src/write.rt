@@ -6,9 +6,9 @@ ghost use Rattle.buffamap.specs.Reply.{reply_of};
 ghost use Rattle.buffamap.specs.Write.{RepliesToWrite, field_reply};
 
 use crate::lines::map_in;
-use crate::reply::{Answer, bad_input, done, fault};
-use buffa_map::map_codec::{Int32, Str, write_field};
-use buffa_wire::EncodeError;
+use crate::reply::{Answer, bad_input, done_in_hex, fault};
+use buffa::EncodeError;
+use buffa::map_codec::{Int32, Str, write_field};
 use std::alloc::{AllocError, Global};
 use std::collections::BTreeMap;
 
@@ -23,11 +23,7 @@ fn write_pairs(
 {
     let mut field = Vec::new(alloc);
     match write_field::<Str, Int32, BTreeMap<String, i32>, Vec<u8>>(pairs, number, &mut field) {
-        Ok(()) => {
-            let mut text = hex::encode(alloc, field.as_slice())?.into_bytes();
-            text.push(b'\n')?;
-            Ok(done(text))
-        }
+        Ok(()) => done_in_hex(alloc, field.as_slice()),
         Err(EncodeError::OutOfMemory) => Err(AllocError),
         Err(_) => fault(alloc, "MessageTooLarge"),
     }

@@ -2,7 +2,7 @@
 
 ghost use Rattle.std.specs.Prelude.{◌≡◌, ◌≤◌, length, drop, OnOk};
 
-use crate::buf::Buf;
+use crate::buf::{Buf, front};
 use crate::error::DecodeError;
 use crate::limited::Limited;
 use crate::pieces::Pieces;
@@ -34,9 +34,9 @@ fn read_within<B: Buf>(
     ensures rest { OnOk result (B.unread buf.new ≡ drop limit (B.unread buf.old)) }
     ensures kept { B.beyond buf.new ≡ B.beyond buf.old }
 {
-    let mut front = Limited::new(buf, limit);
-    let read = read_three(alloc, &mut front)?;
-    front.finish();
+    let mut within = Limited::new(buf, limit);
+    let read = read_three(alloc, &mut within)?;
+    within.finish();
     Ok(read)
 }
 
@@ -51,9 +51,9 @@ fn read_within_twice<B: Buf>(
     ensures rest { OnOk result (B.unread buf.new ≡ drop outer (B.unread buf.old)) }
     ensures kept { B.beyond buf.new ≡ B.beyond buf.old }
 {
-    let mut front = Limited::new(buf, outer);
-    let read = read_within(alloc, &mut front, inner)?;
-    front.finish();
+    let mut within = Limited::new(buf, outer);
+    let read = read_within(alloc, &mut within, inner)?;
+    within.finish();
     Ok(read)
 }
 
@@ -96,6 +96,18 @@ fn single_bytes_with_empty_pieces_between(rt: HostRuntime) -> Result<(), Fail> {
     assert_eq!(rt; one, 1);
     assert_eq!(rt; pieces.remaining(), 1);
     Ok(())
+}
+
+#[test]
+fn the_front_is_shown_where_it_lies_together(rt: HostRuntime) {
+    let text: &[u8] = &TEXT;
+    assert_eq!(rt; front(&text, 2), Some([0x96, 0x01].as_slice()));
+    assert_eq!(rt; front(&text, 10), Some(text));
+    assert_eq!(rt; front(&text, 11), None);
+    let parts: [&[u8]; 2] = [&text[..1], &text[1..]];
+    let pieces = Pieces::new(&parts);
+    assert_eq!(rt; front(&pieces, 1), Some([0x96].as_slice()));
+    assert_eq!(rt; front(&pieces, 2), None);
 }
 
 #[test]

@@ -4,7 +4,9 @@ ghost use Rattle.std.specs.Prelude.{[], refl, string_bytes};
 ghost use Rattle.buffa_bytes.specs.Texts.{string_is_text};
 
 use crate::blank::Blank;
+use crate::buf::Buf;
 use crate::error::DecodeError;
+use crate::pieces::Pieces;
 use crate::proto::{ProtoBytes, ProtoString};
 use crate::types;
 use bytes::Bytes;
@@ -76,6 +78,24 @@ fn a_text_is_read_into_each_type(rt: HostRuntime) -> Result<(), Fail> {
 
     let empty: Bytes = Blank::blank(rt.alloc());
     assert_eq!(rt; empty.len(), 0);
+    Ok(())
+}
+
+#[test]
+fn a_text_that_is_cut_is_read_into_each_type(rt: HostRuntime) -> Result<(), Fail> {
+    let text: &[u8] = &TESTING;
+    for cut in 0..=text.len() {
+        let parts: [&[u8]; 3] = [&text[..cut], &[], &text[cut..]];
+        let mut pieces = Pieces::new(&parts);
+        let word = types::decode_string_to::<Word, _>(rt.alloc(), &mut pieces)?;
+        assert_eq!(rt; word.as_str(), "testing");
+        assert_eq!(rt; pieces.remaining(), 0);
+
+        let mut pieces = Pieces::new(&parts);
+        let bytes = types::decode_bytes_to::<Vec<u8>, _>(rt.alloc(), &mut pieces)?;
+        assert_eq!(rt; ProtoBytes::as_bytes(&bytes), b"testing".as_slice());
+        assert_eq!(rt; pieces.remaining(), 0);
+    }
     Ok(())
 }
 

@@ -8,7 +8,7 @@ ghost use Rattle.buffa_bytes.specs.Values.{delimited_text, string_at};
 ghost use Rattle.buffa_bytes.specs.Written.{UsesRoom, Writes};
 ghost use Rattle.buffa_bytes.specs.Unread.{IsTailOf};
 
-use crate::buf::{Buf, copy_bytes};
+use crate::buf::{Buf, copy_bytes, front};
 use crate::error::{DecodeError, EncodeError};
 use crate::proto::{ProtoBytes, ProtoString};
 use crate::sink::EncodeSink;
@@ -44,6 +44,8 @@ pub fn encode_string<S: EncodeSink>(value: &str, sink: &mut S) -> Result<(), Enc
 
 /// Reads a string: a length varint and so many bytes of UTF-8.
 ///
+/// Bytes that lie together are looked at where they lie; either way they are copied once.
+///
 /// # Errors
 /// In this order: those of a varint, [`DecodeError::UnexpectedEof`] where the length passes what is
 /// left, [`DecodeError::InvalidUtf8`]; or [`DecodeError::OutOfMemory`].
@@ -58,7 +60,13 @@ pub fn decode_string<B: Buf>(alloc: Global, buf: &mut B) -> Result<String, Decod
     ensures kept { B.beyond buf.new ≡ B.beyond buf.old }
     ensures tail { IsTailOf (B.unread buf.new) (B.unread buf.old) }
 {
-    let bytes = decode_bytes(alloc, buf)?;
+    let len = decode_varint(buf)?;
+    if let Some(part) = front(buf, len) {
+        let read = <String as ProtoString>::from_wire(alloc, part);
+        buf.advance(len as usize);
+        return read;
+    }
+    let bytes = copy_bytes(alloc, buf, len)?;
     match String::from_utf8(bytes) {
         Ok(text) => Ok(text),
         Err(_) => Err(DecodeError::InvalidUtf8),
@@ -138,6 +146,9 @@ pub fn decode_bytes_to_bytes<B: Buf>(alloc: Global, buf: &mut B) -> Result<Bytes
 
 /// Reads a string into a type of one's own.
 ///
+/// Bytes that lie together are handed to [`ProtoString::from_wire`] where they lie; others are put together
+/// first.
+///
 /// # Errors
 /// As [`decode_string`].
 ///
@@ -155,11 +166,20 @@ pub fn decode_string_to<S: ProtoString, B: Buf>(
     ensures kept { B.beyond buf.new ≡ B.beyond buf.old }
     ensures tail { IsTailOf (B.unread buf.new) (B.unread buf.old) }
 {
-    let bytes = decode_bytes(alloc, buf)?;
+    let len = decode_varint(buf)?;
+    if let Some(part) = front(buf, len) {
+        let read = S::from_wire(alloc, part);
+        buf.advance(len as usize);
+        return read;
+    }
+    let bytes = copy_bytes(alloc, buf, len)?;
     S::from_wire(alloc, &bytes)
 }
 
 /// Reads bytes into a type of one's own.
+///
+/// Bytes that lie together are handed to [`ProtoBytes::from_wire`] where they lie; others are put together
+/// first.
 ///
 /// # Errors
 /// As [`decode_bytes`].
@@ -175,6 +195,12 @@ pub fn decode_bytes_to<P: ProtoBytes, B: Buf>(alloc: Global, buf: &mut B) -> Res
     ensures kept { B.beyond buf.new ≡ B.beyond buf.old }
     ensures tail { IsTailOf (B.unread buf.new) (B.unread buf.old) }
 {
-    let bytes = decode_bytes(alloc, buf)?;
+    let len = decode_varint(buf)?;
+    if let Some(part) = front(buf, len) {
+        let read = P::from_wire(alloc, part);
+        buf.advance(len as usize);
+        return read;
+    }
+    let bytes = copy_bytes(alloc, buf, len)?;
     P::from_wire(alloc, &bytes)
 }

@@ -8,12 +8,20 @@ use std::process::Abort;
 
 const FAILED_LINE: &str = "buffamap: input or output failed\n";
 
-const WRONG_WORDS: [&[&str]; 4] = [&[], &["read"], &["read", "0"], &["rewrite", "5"]];
+const WRONG_WORDS: [&[&str]; 4] = [&[], &["read"], &["read", "0"], &["rewrite", "0"]];
 
-const EXAMPLES: [Case; 3] = [
+const EXAMPLES: [Case; 6] = [
     (&["read", "5"], "2a050a01611001", "61 1\n", 0),
     (&["read", "5"], "3200", "fault UnexpectedField 6\n", 1),
     (&["write", "5"], "61 1\n", "2a050a01611001\n", 0),
+    (&["rewrite", "5"], "2a0408071063", "2a0408071063\n", 0),
+    (
+        &["ext", "1"],
+        "0805",
+        "has yes\nint32 5\nstring none\nints 5\n",
+        0,
+    ),
+    (&["item"], "10031a01780c00", "3\n78\n00\n", 0),
 ];
 
 // Gives the bytes one at a time, and fails after some calls.
@@ -174,7 +182,7 @@ fn a_failed_line_changes_no_status(rt: HostRuntime) {
         let mut input = "2a00".as_bytes();
         let mut output = FailingWriter::new(64, End::Error);
         let mut errors = FailingWriter::new(room, End::NoByte);
-        let status = run(rt.alloc(), &["item"], &mut input, &mut output, &mut errors);
+        let status = run(rt.alloc(), &["items"], &mut input, &mut output, &mut errors);
         assert_eq!(rt; status, 2, "at {room}");
         assert!(rt; output.taken().is_empty());
         assert_eq!(rt; errors.taken(), front(USAGE_LINE, room), "at {room}");

@@ -1,6 +1,6 @@
 use Rattle.std.proofs.Common.{◌∷◌, [], ◌++◌, sym, ap, ◌∙◌, append_assoc, arith, length-append}
 use Rattle.buffa_ext.specs.Changes.{change_of}
-use Rattle.buffa_ext.proofs.Replays.{replays_one_more}
+use Rattle.buffa_ext.proofs.Replays.{replay_refused, replays_one_more}
 use Rattle.buffa_ext.proofs.steps.replay.Goals as goal
 
 pub loop-step-preserved : goal.loop-step-preserved
@@ -9,3 +9,8 @@ loop-step-preserved c = record {
   count = omega (arith, c.loop-step.invariant.count, length-append c.loop-step.yielded (c.in-Some.step ∷ []));
   so_far = replays_one_more change_of c.args.fields.now.records c.loop-step.fields.records c.replay_one.new.fields.records c.loop-step.yielded c.in-Some.step c.loop-step.invariant.so_far c.in-Ok.ensures.ok;
 }
+
+pub returns-in-Err-clause-memory : goal.returns-in-Err-clause-memory
+returns-in-Err-clause-memory c =
+    replay_refused change_of c.args.steps.items c.loop-step.yielded c.next.new.self.rest.items c.in-Some.step c.loop-step.done
+    (c.loop-step.invariant.whole ∙ ap (λ l. c.loop-step.yielded ++ l) c.in-Some.ensures.steps.0) c.loop-step.invariant.count c.in-Err.ensures.memory

@@ -9,7 +9,7 @@ use Rattle.buffa_map.proofs.entry.merge_entry_by.Goals as goal
 pub returns-in_err-entry-clause-err : goal.returns-in_err-entry-clause-err
 returns-in_err-entry-clause-err g c =
     let p = err_from_is_err_and c.from_residual.result c.from_residual.ensures.1 in
-    rw (p.1, p.2) (no_entry _ _ _ _ _ c.in_err-entry.field-0.0 (λ ne. c.in_err-entry.ensures.reads ne) c.in_err-entry.ensures.full)
+    rw (p.1, p.2) (no_entry _ _ _ _ _ _ c.in_err-entry.field-0.0 c.in_err-entry.ensures.tail (λ ne. c.in_err-entry.ensures.reads ne) c.in_err-entry.ensures.full)
 
 pub returns-in_err-charge-clause-err : goal.returns-in_err-charge-clause-err
 returns-in_err-charge-clause-err g c =
@@ -39,7 +39,7 @@ returns-in-Ok-clause-ok g c =
     let s = meant_entry g.KC.Value.Blank.meaning g.W.Value.Blank.meaning c.in_ok-parts.parts in
     let entry : IsEntry key val d c.in_ok-entry.entry.items s = subst (λ (z : List ℕ). IsEntry key val d z s) c.deref.ensures.value c.in_ok-parts.ensures.ok.entry in
     let pays = subst (λ (z : List ℕ). Pays now (need_at key val d (blanks key val d) z) c.merge_fields.new.ctx.1.0) c.deref.ensures.value c.in_ok-parts.ensures.ok.pays in
-    is_put _ _ _ _ _ _ _ c.in_ok-entry.ensures.reads now (omega (arith, charged.0, c.COST.ensures, c.COST-2.ensures)) charged.1 s entry c.merge_fields.new.ctx.1.0 pays c.if-parts.true _ (λ q. c.in-Ok.ensures.ok q)
+    is_put _ _ _ _ _ _ _ c.in_ok-entry.ensures.reads now (omega (arith, charged.0, c.COST.ensures, c.COST-2.ensures)) charged.1 s entry c.merge_fields.new.ctx.1.0 pays c.if-parts.true _ (λ q. c.in-Ok.ensures.ok q) c.in-Ok.ensures.order
 
 pub returns-clause-ok : goal.returns-clause-ok
 returns-clause-ok g c =

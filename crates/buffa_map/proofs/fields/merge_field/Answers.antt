@@ -24,7 +24,7 @@ returns-in_err-merge-clause-err g c =
     let one = sym c.field_number.ensures ∙ c.if-field_number-eq1.true in
     let wire = c.WIRE_TYPE.ensures ∙ sym g.met.KC.MapValueDecode.wire in
     rw (p.1, p.2) (bad_key _ _ _ _ _ _ _ _ _ c.in_ok-tag.ensures.reads one c.WIRE_TYPE.result wire MapValueDecodeStatus _ c.in_err-merge.field-0.0 c.in_ok-check_wire_type.ensures
-    (λ plain. g.met.KC.MapValueDecode.free plain c.args.ctx.depth) (λ ne. c.in_err-merge.ensures.fault ne) c.in_err-merge.ensures.spends)
+    (λ plain. g.met.KC.MapValueDecode.free plain c.args.ctx.depth) (λ ne. c.in_err-merge.ensures.fault ne) c.in_err-merge.ensures.full c.in_err-merge.ensures.spends)
 
 pub returns-in_err-check_wire_type-2-clause-err : goal.returns-in_err-check_wire_type-2-clause-err
 returns-in_err-check_wire_type-2-clause-err g c =
@@ -38,7 +38,7 @@ returns-in_err-status-clause-err g c =
     let p = err_from_is_err_and c.from_residual-in_err-status.result c.from_residual-in_err-status.ensures.1 in
     let wire = c.WIRE_TYPE-then-field_number-eq2.ensures ∙ sym g.met.W.MergeValue.wire in
     rw (p.1, p.2) (bad_value _ _ _ _ _ _ _ _ _ c.in_ok-tag.ensures.reads (λ e. c.if-field_number-eq1.false (c.field_number.ensures ∙ e)) (sym c.field_number-else-field_number-eq1.ensures ∙ c.if-field_number-eq2.true)
-    c.WIRE_TYPE-then-field_number-eq2.result wire c.in_ok-check_wire_type-2.ensures (λ plain. g.met.W.MergeValue.free plain c.args.ctx.depth) MapValueDecodeStatus _ c.in_err-status.field-0.0 (λ ne. c.in_err-status.ensures.fault ne) c.in_err-status.ensures.spends)
+    c.WIRE_TYPE-then-field_number-eq2.result wire c.in_ok-check_wire_type-2.ensures (λ plain. g.met.W.MergeValue.free plain c.args.ctx.depth) MapValueDecodeStatus _ c.in_err-status.field-0.0 (λ ne. c.in_err-status.ensures.fault ne) c.in_err-status.ensures.full c.in_err-status.ensures.spends)
 
 pub returns-in_err-skip_field_depth-clause-err : goal.returns-in_err-skip_field_depth-clause-err
 returns-in_err-skip_field_depth-clause-err g c =

@@ -6,4 +6,4 @@ pub returns-clause-ok : goal.returns-clause-ok
 returns-clause-ok g c = OnOk-map c.read_run_by.result (anew _ _ _ _ _ _ _ c.storage_clear.ensures) c.read_run_by.ensures.ok
 
 pub returns-clause-err : goal.returns-clause-err
-returns-clause-err g c = IfErr-map c.read_run_by.result (λ f h. anew_stopped _ _ _ _ _ _ f c.storage_clear.ensures h) c.read_run_by.ensures.err
+returns-clause-err g c = IfErr-map c.read_run_by.result (λ f h. anew_stopped _ _ _ _ _ _ _ f c.storage_clear.ensures h) c.read_run_by.ensures.err

@@ -10,7 +10,7 @@ pub returns-in_err-tag-clause-err : goal.returns-in_err-tag-clause-err
 returns-in_err-tag-clause-err g c =
     let p = err_from_is_err_and c.from_residual.result c.from_residual.ensures.1 in
     let more : 0 < length (g.B.Buf.unread c.records.buf) = omega (arith, c.remaining.ensures, c.records-test.true) in
-    rw (p.1, p.2) (stop_tag _ _ _ _ _ c.records.invariant.0 c.in_err-tag.field-0.0 more c.in_err-tag.ensures.reads)
+    rw (p.1, p.2) (stop_tag _ _ _ _ _ c.records.invariant.0 _ c.in_err-tag.field-0.0 c.in_err-tag.ensures.tail more c.in_err-tag.ensures.reads)
 
 pub returns-then-field_number-number-clause-err : goal.returns-then-field_number-number-clause-err
 returns-then-field_number-number-clause-err g c =
@@ -42,7 +42,7 @@ returns-in_err-merge_entry_by-clause-err g c =
     let p = err_from_is_err_and c.from_residual-in_err-merge_entry_by.result c.from_residual-in_err-merge_entry_by.ensures.1 in
     let more : 0 < length (g.B.Buf.unread c.records.buf) = omega (arith, c.remaining.ensures, c.records-test.true) in
     let same = sym c.field_number.ensures ∙ c.if-field_number-number.false in
-    rw (p.1, p.2) (stop_entry _ _ _ _ _ c.records.invariant.0 _ _ _ more c.in_ok-tag.ensures.reads same c.in_ok-check_wire_type.ensures _ c.in_err-merge_entry_by.field-0.0 c.in_err-merge_entry_by.ensures.err)
+    rw (p.1, p.2) (stop_entry _ _ _ _ _ c.records.invariant.0 _ _ _ more c.in_ok-tag.ensures.reads same c.in_ok-check_wire_type.ensures _ _ c.in_err-merge_entry_by.field-0.0 c.in_err-merge_entry_by.ensures.err)
 
 pub returns-clause-ok : goal.returns-clause-ok
 returns-clause-ok g c = all_reached _ _ _ _ _ c.records.invariant.0 (omega (arith, c.remaining.ensures, c.records-test.false))

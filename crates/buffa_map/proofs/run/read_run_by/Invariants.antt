@@ -6,7 +6,7 @@ use Rattle.buffa_map.proofs.run.read_run_by.Given as goal
 -- a run of some entries was read, which are folded over the old map, kept, and charged
 abbrev pub invariant-records : goal.invariant-records
 invariant-records g l =
-    Reached (rules g.KC.MapValueDecode.reading g.VC.MapValueDecode.reading g.C.MapStorage.equal l.fn.ctx.depth l.number
+    Reached (rules g.KC.MapValueDecode.reading g.VC.MapValueDecode.reading g.C.MapStorage.equal g.C.MapStorage.keeps_order l.fn.ctx.depth l.number
     (g.KC.MapValueDecode.COST + g.VC.MapValueDecode.COST) g.L.Keeper.slot g.L.Keeper.adds)
     (state (g.C.MapStorage.pairs l.fn.map) (g.L.Keeper.records l.fn.keeper) l.fn.ctx.budget.now) (g.B.Buf.unread l.fn.buf)
     (state (g.C.MapStorage.pairs l.map) (g.L.Keeper.records l.keeper) l.budget) (g.B.Buf.unread l.buf)

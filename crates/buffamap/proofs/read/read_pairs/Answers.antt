@@ -1,9 +1,8 @@
-use Rattle.std.proofs.Common.{ap, ◌∙◌, ◌≡◌}
+use Rattle.std.proofs.Common.{ap, ◌∙◌, ◌≡◌, [], refl}
 use Rattle.std.specs.Prelude.{nat_eq}
 use Rattle.std.specs.Cmp.Lexicographic.{pointwise}
 use Rattle.buffa_wire.specs.BudgetLeft.{BudgetLeft}
-use Rattle.buffa_map.specs.Pairs.{SamePairs}
-use Rattle.buffa_map.specs.Run.{fold_entries}
+use Rattle.buffamap.specs.Codecs.{int32_reading, string_reading}
 use Rattle.buffamap.specs.Lines.{pairs_of}
 use Rattle.buffamap.specs.Read.{default_left}
 use Rattle.buffamap.proofs.ReadReplies.{means}
@@ -14,11 +13,11 @@ pub returns-clause-ok : goal.returns-clause-ok
 returns-clause-ok c =
     let left : c.new-ctx.result.budget.now ≡ default_left = (λ i. record { unknown = (ap (λ (b : BudgetLeft). b.unknown) c.new-ctx.ensures.left ∙ c.new-budget.ensures.unknown) i; memory = (ap (λ (b : BudgetLeft). b.memory) c.new-ctx.ensures.left ∙ c.new-budget.ensures.memory) i }) in
     means c.read_map_field.result c.args.number c.args.bytes.now (pairs_of c.read_map_field.new.map.entries)
-    (ran c.read_map_field.result c.new-ctx.result.depth c.args.number c.new-ctx.result.budget.now c.read_map_field.new.ctx.1.0 c.args.bytes.now _ (pairs_of c.args.pairs.now.entries) (pairs_of c.read_map_field.new.map.entries)
-    c.new-ctx.ensures.depth left (ap pairs_of c.requires) c.read_map_field.ensures.ok)
+    (ran string_reading int32_reading (pointwise nat_eq) 28 0 (λ n e. []) (λ _ d c. refl) (λ _ d c. refl) refl refl c.read_map_field.result c.new-ctx.result.depth c.args.number c.new-ctx.result.budget.now _ c.args.bytes.now (pairs_of c.args.pairs.now.entries) (pairs_of c.read_map_field.new.map.entries) [] []
+    c.new-ctx.ensures.depth left _ (ap pairs_of c.requires) c.read_map_field.ensures.ok)
 
 pub returns-clause-fault : goal.returns-clause-fault
 returns-clause-fault c =
     let left : c.new-ctx.result.budget.now ≡ default_left = (λ i. record { unknown = (ap (λ (b : BudgetLeft). b.unknown) c.new-ctx.ensures.left ∙ c.new-budget.ensures.unknown) i; memory = (ap (λ (b : BudgetLeft). b.memory) c.new-ctx.ensures.left ∙ c.new-budget.ensures.memory) i }) in
-    stopped c.read_map_field.result c.new-ctx.result.depth c.args.number c.new-ctx.result.budget.now c.read_map_field.new.ctx.1.0 c.args.bytes.now (pairs_of c.args.pairs.now.entries) (pairs_of c.read_map_field.new.map.entries)
-    c.new-ctx.ensures.depth left c.read_map_field.ensures.err
+    stopped string_reading int32_reading (pointwise nat_eq) 28 0 (λ n e. []) (λ _ d c. refl) (λ _ d c. refl) refl refl c.read_map_field.result c.new-ctx.result.depth c.args.number c.new-ctx.result.budget.now _ c.args.bytes.now (pairs_of c.args.pairs.now.entries) (pairs_of c.read_map_field.new.map.entries) [] []
+    c.new-ctx.ensures.depth left _ c.read_map_field.ensures.err

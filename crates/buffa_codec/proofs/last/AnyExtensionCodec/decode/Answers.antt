@@ -1,8 +1,9 @@
-use Rattle.std.proofs.Common.{sym, ap, ◌∙◌, arith, option_map}
+use Rattle.buffa_codec.proofs.Takes.{has_record}
+use Rattle.std.proofs.Common.{sym, ap, ◌∙◌, ◌-◌, arith, option_map}
 use Rattle.buffa_wire.specs.View.{records_in}
 use Rattle.buffa_codec.specs.Sub.{sub}
 use Rattle.buffa_codec.specs.Reading.{full, last_read}
-use Rattle.buffa_codec.proofs.Lasts.{none_at_other, none_at_unread, found_last}
+use Rattle.buffa_codec.proofs.Lasts.{none_at_other, none_at_unread, found_last, below}
 use Rattle.buffa_codec.proofs.last.AnyExtensionCodec.decode.Goals as goal
 
 pub loop-i-preserved-in-None : goal.loop-i-preserved-in-None
@@ -25,3 +26,8 @@ returns-in-Some-clause-reads g c =
     found_last one c.args.number c.as_slice-all.result.now c.loop-i.i c.index-all-i.result (g.C.Value.Blank.meaning c.in-Some.value)
     c.loop-i-test.true c.loop-i.invariant.in_range c.index-all-i.is c.if-field-number.true (sym (ap (option_map g.C.Value.Blank.meaning) c.in-Some.is) ∙ c.in_ok-value.ensures.reads) c.loop-i.invariant.none_after
     ∙ ap (λ l. last_read one (sub c.args.number l)) (ap records_in c.as_slice-all.ensures.value ∙ c.iter.ensures)
+
+pub returns-in_err-value-clause-full : goal.returns-in_err-value-clause-full
+returns-in_err-value-clause-full g c =
+    has_record c.from_residual.result g.C.SingularCodec.takes c.args.number c.as_slice-all.result.now (c.loop-i.i - 1) c.index-all-i.result c.args.fields.now.records
+    (below c.loop-i.i _ c.loop-i-test.true c.loop-i.invariant.in_range) c.index-all-i.is c.if-field-number.true (ap records_in c.as_slice-all.ensures.value ∙ c.iter.ensures) c.in_err-value.ensures.full

@@ -1,3 +1,4 @@
+use Rattle.buffa_codec.proofs.Takes.{packs_some}
 use Rattle.buffa_wire.specs.Content.Content.{number}
 use Rattle.buffa_codec.specs.PackedFacts.{numbers_shorten}
 use Rattle.buffa_codec.proofs.Packs.{packs_more, packs_front, packs_end}
@@ -19,3 +20,7 @@ returns-in_err-push-clause-err g c =
 pub returns-clause-ok : goal.returns-clause-ok
 returns-clause-ok g c =
     packs_end g.N.Form.Form.WIRE_TYPE g.N.Value.Blank.meaning g.N.Numbered.value_of c.args.bytes.now c.loop-n.rest.now c.in_default.field-0 c.args.out.now.items c.loop-n.out.items c.in_default.ensures.reads c.loop-n.invariant
+
+pub returns-in_err-push-clause-full : goal.returns-in_err-push-clause-full
+returns-in_err-push-clause-full g c =
+    packs_some c.from_residual.result g.N.Form.Form.WIRE_TYPE g.N.Numbered.value_of c.args.bytes.now c.loop-n.rest.now c.read.new.buf.now c.in-Ok.n c.loop-n.invariant.0 c.in-Ok.ensures.reads c.loop-n.invariant.2

@@ -1,3 +1,6 @@
+use Rattle.buffa_wire.specs.View.{records_in}
+use Rattle.buffa_codec.specs.Reading.{TakesElement}
+use Rattle.buffa_codec.proofs.Takes.{has_record}
 use Rattle.std.proofs.Common.{sym, ap, ◌∙◌, subst, map}
 use Rattle.buffa_wire.specs.View.{datum_of}
 use Rattle.buffa_codec.specs.Reading.{full}
@@ -20,3 +23,9 @@ loop-field-preserved g c =
           (map g.C.Value.Blank.meaning c.loop-field.out.items) (map g.C.Value.Blank.meaning c.if-field-number.out.items) c.loop-field.budget c.if-field-number.budget
           c.loop-field-test.true c.field-item.is w.if-field-number.false (ap (λ o. map g.C.Value.Blank.meaning o.items) w.out-is) w.budget-is c.loop-field.invariant
     ]
+
+pub returns-in_err-read_one-clause-full : goal.returns-in_err-read_one-clause-full
+returns-in_err-read_one-clause-full g c =
+    let t = g.C.SingularCodec in
+    has_record c.from_residual.result (TakesElement t.takes (t.one 100) t.packed) c.args.number c.as_slice-field-items.result.now c.loop-field.field-index c.field-item.result c.args.fields.now.records
+    c.loop-field-test.true c.field-item.is c.if-field-number.true (ap records_in c.as_slice-field-items.ensures.value ∙ c.iter.ensures) c.in_err-read_one.ensures.full

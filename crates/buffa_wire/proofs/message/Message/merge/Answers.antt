@@ -1,17 +1,29 @@
-use Rattle.std.proofs.Common.{◌≡◌, ◌≢◌, ◌++◌, ◌<◌, ◌∙◌, ℕ, List, length, length-append, Option, arith, ap, subst, sym}
+use Rattle.std.proofs.Common.{◌≡◌, ◌≢◌, [], refl, ◌++◌, ◌<◌, ◌∙◌, ℕ, List, length, length-append, Err, arith, ap, subst, sym}
 use Rattle.std.proofs.lemmas.Result.{err_from_is_err_and}
 use Rattle.buffa_bytes.specs.declared.error.DecodeError.TheVariants.{OutOfMemory}
 use Rattle.buffa_bytes.specs.Field.{TakesTag}
+use Rattle.buffa_bytes.specs.Join.Join.{none}
 use Rattle.buffa_bytes.specs.Reading.{tag_at}
 use Rattle.buffa_bytes.proofs.StepLemmas.{agree_ok}
 use Rattle.buffa_bytes.proofs.FieldLemmas.{tag_some, tag_sound}
+use Rattle.buffa_bytes.proofs.FullLemmas.{tag_full}
 use Rattle.buffa_wire.specs.BudgetLeft.{BudgetLeft, PaysAtMost}
 use Rattle.buffa_wire.specs.Message.{MergeFault}
-use Rattle.buffa_wire.proofs.MessageLemmas.{field_costs, field_means, loop_fault, untagged}
+use Rattle.buffa_wire.proofs.MessageLemmas.{field_costs, field_means, front_more, loop_fault, reaches_tag, untagged}
 use Rattle.buffa_wire.proofs.message.Message.merge.Goals as goal
 
-pub returns-in_err-tag : goal.returns-in_err-tag
-returns-in_err-tag g c =
+pub loop-rest-init : goal.loop-rest-init
+loop-rest-init g c = record {
+  means = refl;
+  unknown = refl;
+  memory = refl;
+  no_slot = omega arith;
+  no_unit = omega arith;
+  front = ([], none, refl);
+}
+
+pub returns-in_err-tag-clause-merged : goal.returns-in_err-tag-clause-merged
+returns-in_err-tag-clause-merged g c =
     let p = err_from_is_err_and c.from_residual.result c.from_residual.ensures.1 in
     let inv = c.loop-rest.invariant in
     let d = c.args.ctx.depth in
@@ -48,10 +60,11 @@ loop-rest-preserved g c =
       memory = omega (arith, inv.memory, one.1.1, ap (λ (z : BudgetLeft). z.memory) costs);
       no_slot = omega (arith, inv.no_slot, one.1.0);
       no_unit = omega (arith, inv.no_unit, one.1.1);
+      front = front_more d inv.front.0 c.args.bytes.now rest u.0 m.0 x n w inv.front.1 inv.front.2 u.1 m.1 split;
     }
 
-pub returns-in_err-merge_field : goal.returns-in_err-merge_field
-returns-in_err-merge_field g c =
+pub returns-in_err-merge_field-clause-merged : goal.returns-in_err-merge_field-clause-merged
+returns-in_err-merge_field-clause-merged g c =
     let p = err_from_is_err_and c.from_residual-in_err-merge_field.result c.from_residual-in_err-merge_field.ensures.1 in
     let inv = c.loop-rest.invariant in
     let d = c.args.ctx.depth in
@@ -66,3 +79,16 @@ returns-in_err-merge_field g c =
     subst (λ (z : List ℕ). PaysAtMost c.loop-rest.budget (g.Self.MessageSpec.cost d z) over × (e ≢ OutOfMemory → MergeFault (g.Self.MessageSpec.merged d v z) (g.Self.MessageSpec.cost d z) c.loop-rest.budget e)) (sym u.2) (c.in_err-merge_field.ensures u.0 u.1) in
     rw (p.1, p.2) (loop_fault (g.Self.MessageSpec.merged d (g.Self.Blank.meaning c.args.self.now) c.args.bytes.now) (g.Self.MessageSpec.merged d v rest) c.args.ctx.budget.now c.loop-rest.budget over
     (g.Self.MessageSpec.cost d c.args.bytes.now) (g.Self.MessageSpec.cost d rest) e inv.means inv.unknown inv.memory inv.no_slot inv.no_unit why)
+
+pub returns-in_err-tag-clause-full : goal.returns-in_err-tag-clause-full
+returns-in_err-tag-clause-full g c =
+    let p = err_from_is_err_and c.from_residual.result c.from_residual.ensures.1 in
+    let rest = c.loop-rest.rest.now in
+    rw (p.1, p.2) (λ h. absurd (tag_full rest (c.in_err-tag.ensures.reads ∙ ap (λ e. Err e) h)))
+
+pub returns-in_err-merge_field-clause-full : goal.returns-in_err-merge_field-clause-full
+returns-in_err-merge_field-clause-full g c =
+    let p = err_from_is_err_and c.from_residual-in_err-merge_field.result c.from_residual-in_err-merge_field.ensures.1 in
+    let rest = c.loop-rest.rest.now in
+    let f = c.loop-rest.invariant.front in
+    rw (p.1, p.2) (λ h. reaches_tag c.args.ctx.depth f.0 c.args.bytes.now rest (c.in_ok-tag.tag.number, c.in_ok-tag.tag.wire_type, c.decode.new.buf.now) f.1 f.2 c.in_ok-tag.ensures.reads)

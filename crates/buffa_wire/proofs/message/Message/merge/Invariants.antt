@@ -1,4 +1,6 @@
-use Rattle.std.proofs.Common.{◌≡◌, ◌+◌, ◌≤◌, length}
+use Rattle.std.proofs.Common.{◌≡◌, ◌+◌, ◌≤◌, ◌++◌, ℕ, List, length}
+use Rattle.buffa_bytes.specs.Field.{SomeField}
+use Rattle.buffa_bytes.specs.Join.{Join}
 use Rattle.buffa_wire.proofs.message.Message.merge.Given as goal
 
 -- what is left means in the value what all bytes meant in the old one, and what the fields so far cost was spent
@@ -13,6 +15,7 @@ invariant-loop-rest g l =
       memory : l.budget.memory + all.memory ≡ l.fn.ctx.budget.now.memory + more.memory;
       no_slot : l.budget.unknown ≤ l.fn.ctx.budget.now.unknown;
       no_unit : l.budget.memory ≤ l.fn.ctx.budget.now.memory;
+      front : (f : List ℕ) × Join (SomeField d) f × (l.bytes ≡ f ++ l.rest);
     }
 
 abbrev pub decreases-loop-rest : goal.decreases-loop-rest

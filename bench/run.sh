@@ -1,0 +1,93 @@
+#!/usr/bin/env bash
+# bench/run.sh [ENTRIES..]: map fields beside the peers, at 1,000, 10,000 and 100,000 entries if none are given
+# (1000000 is an option). Prints tables of parse, size and write, and of requests for memory at parse.
+#
+# Ours is a static library over the crates of this repository; the peers are C++ protobuf and prost, by Debian's
+# packages (libprotobuf-dev, protobuf-compiler, librust-prost-dev, librust-indexmap-dev), and plain Rust. All run
+# in turn on one core, timed by the processor time of their one thread. Not part of the gate.
+#
+#   BENCH_BUILD   where it builds, outside the repository (/tmp/buffa-bench); what it proves there, it keeps
+#   BENCH_CORE    the core (the last one)
+#   BENCH_PASSES  how often all of them run (3)
+set -euo pipefail
+bench=$(cd "$(dirname "$0")" && pwd)
+top=$(dirname "$bench")
+build=${BENCH_BUILD:-/tmp/buffa-bench}
+core=${BENCH_CORE:-$(($(nproc) - 1))}
+passes=${BENCH_PASSES:-3}
+sizes=("$@")
+[ $# -gt 0 ] || sizes=(1000 10000 100000)
+kit=$(dirname "$(dirname "$(readlink -f "$(command -v rattle || echo /opt/rattle/bin/rattle)")")")
+crates=(buffa_bytes buffa_wire buffa_map buffa_samples)
+
+# Ours: the crates copied, with what their last check kept, and a static library over them. The gate reads every
+# Rattle file of this repository, so the library stands outside it, in a repository of its own.
+build_ours() {
+    local house=$build/house
+    mkdir -p "$house/crates/speed/src" "$house/crates/speed/c"
+    [ -d "$house/.git" ] || git init -q "$house"
+    for crate in "${crates[@]}"; do
+        mkdir -p "$house/crates/$crate"
+        [ -e "$house/crates/$crate/out" ] || [ ! -e "$top/crates/$crate/out" ] \
+            || cp -r "$top/crates/$crate/out" "$house/crates/$crate/"
+        for part in src specs proofs; do
+            rm -rf "$house/crates/$crate/$part"
+            [ ! -e "$top/crates/$crate/$part" ] || cp -r "$top/crates/$crate/$part" "$house/crates/$crate/"
+        done
+    done
+    for crate in "${crates[@]}"; do grep "^$crate:" "$top/crates.txt"; done > "$house/crates.txt"
+    echo "speed staticlib: ${crates[*]} indexmap" >> "$house/crates.txt"
+    cp "$bench/ours/lib.rt.in" "$house/crates/speed/src/lib.rt"
+    (cd "$house/crates/speed" && RT_ALLOW_C=speed rt lib >&2)
+    gcc -O2 -Wall -o "$build/ours" "$bench/ours/driver.c" "$house/crates/speed/out/libspeed.a" "$kit/c/liblibc_c.a" -lm
+}
+
+build_peers() {
+    mkdir -p "$build/cpp" "$build/rust/.cargo"
+    protoc --proto_path="$bench/peers" --cpp_out="$build/cpp" bench.proto
+    g++ -O2 -Wall -std=c++17 -I"$build/cpp" -o "$build/peer_cpp" "$bench/peers/cpp.cc" "$build/cpp/bench.pb.cc" \
+        -lprotobuf -lpthread
+    cp -r "$bench/peers/rust/." "$build/rust/"
+    printf '[source.crates-io]\nreplace-with = "debian"\n\n[source.debian]\ndirectory = "/usr/share/cargo/registry"\n' \
+        > "$build/rust/.cargo/config.toml"
+    (cd "$build/rust" && cargo build --release --offline --quiet)
+    cp "$build/rust/target/release/bench_rust" "$build/peer_rust"
+    gcc -O2 -shared -fPIC -o "$build/count.so" "$bench/count.c"
+}
+
+# Requests for memory of one parse: those of three parses less those of one, halved.
+count() {
+    local once thrice
+    once=$({ LD_PRELOAD=$build/count.so "$@" 1 > /dev/null; } 2>&1 | tail -n 1)
+    thrice=$({ LD_PRELOAD=$build/count.so "$@" 3 > /dev/null; } 2>&1 | tail -n 1)
+    echo $(((thrice - once) / 2))
+}
+
+mkdir -p "$build/data"
+build_ours
+build_peers
+cd "$build"
+python3 "$bench/data.py" "${sizes[@]}"
+: > lines.tsv
+for _ in $(seq "$passes"); do
+    for n in "${sizes[@]}"; do
+        for program in ./ours ./peer_rust ./peer_cpp; do
+            taskset -c "$core" "$program" "$n" >> lines.tsv
+        done
+    done
+done
+cut -f 1,2 lines.tsv | sort -u | while IFS=$'\t' read -r field who; do
+    for n in "${sizes[@]}"; do
+        case $who in
+            ours*) program=./ours ;;
+            C++*) program=./peer_cpp ;;
+            *) program=./peer_rust ;;
+        esac
+        calls=$(count "$program" "$n" "$field" "$who")
+        printf '%s\t%s\tallocations\t%s\t%s\n' "$field" "$who" "$n" "$(python3 -c "print($calls / $n)")" >> lines.tsv
+    done
+done
+prost=$(awk '/^name = "prost"$/ {getline; gsub(/[^0-9.]/, ""); print}' rust/Cargo.lock)
+echo "$(date -u +%F), $(rt version | head -n 1); protobuf $(protoc --version | cut -d ' ' -f 2), prost $prost, $(rustc --version);"
+echo "least of $passes passes, and the median of their medians."
+python3 "$bench/table.py" lines.tsv

@@ -1,0 +1,3 @@
+pub mod Item
+pub mod Keys
+pub mod Slots

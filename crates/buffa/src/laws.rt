@@ -1,0 +1,178 @@
+//! What the definitions say together, one function a law: it has nothing to do, and its contract is the law.
+//! The numbers are names, which stay.
+
+ghost use Rattle.std.specs.Prelude.{◌≡◌, ◌≢◌, ◌↔◌, [], ◌∷◌, ℕ, List, ℤ, Bool, Ok, Err};
+ghost use Rattle.buffa_bytes.specs.declared.error.DecodeError.{DecodeError};
+ghost use Rattle.buffa_bytes.specs.declared.error.DecodeError.TheVariants.{OutOfMemory};
+ghost use Rattle.buffa_bytes.specs.declared.wire_type.WireType.TheVariants.{EndGroup, LengthDelimited};
+ghost use Rattle.buffa_bytes.specs.declared.wire_type.WireType.TheVariants.{StartGroup, Varint};
+ghost use Rattle.buffa_wire.specs.Values.{tag_text};
+ghost use Rattle.buffa_wire.specs.Enums.{open_number};
+ghost use Rattle.buffa_codec.specs.Reading.{LaterWins, ReadAlike, ReadingsJoin, full};
+ghost use Rattle.buffa_codec.specs.Through.{LastThrough, ListsThrough};
+ghost use Rattle.buffa_ext.specs.Steps.{ClearsAreOne, LeavesOthers, SecondCounts, StandsLast};
+ghost use Rattle.buffa_map.specs.Laws.{RewriteMeans, RunsJoin, SizeIsLength};
+ghost use Rattle.buffa_map.specs.Scalars.{delimited_writing};
+ghost use Rattle.buffa.specs.Item.{IsTypeId, Item, ItemFault, NoOtherFront, OneItem, TakesItem, WrittenIsItem};
+ghost use Rattle.buffa.specs.Item.{body_text, item_at, item_text};
+ghost use Rattle.buffa.specs.Keys.{KeepsStoredKeys};
+ghost use Rattle.buffa.specs.Slots.{SlotsAreLengths};
+
+use crate::message_set::{ITEM_END_TAG, ITEM_START_TAG, MESSAGE_TAG, TYPE_ID_TAG};
+use buffa_codec::{
+    EnumCodec, ExtensionCodec, LastWins, PackableCodec, PackedRepeated, Repeated, SingularCodec,
+};
+use buffa_ext::{MessageIn, MessageRecord};
+use buffa_map::map_codec::{MapCodec, MapStorage, MapValueDecode};
+use buffa_wire::scalars::Int32;
+use buffa_wire::{Enumeration, Message, MessageSpec};
+
+/// Two runs of a map field, one after the other, are a run of the entries of both.
+///
+/// It means what the second one makes of what the first one makes of a map, and keeps the entries with
+/// undeclared values that both keep, in order.
+pub fn law_1<
+    KC: MapValueDecode,
+    VC: MapValueDecode,
+    C: MapStorage<Key = KC::Value, Value = VC::Value>,
+>()
+    ensures { RunsJoin KC.reading VC.reading C.equal }
+{
+    buffa_map::laws::runs_join::<KC, VC, C>();
+}
+
+/// Of the records of an extension of one value later ones win, if one of them is read at all.
+///
+/// What records and then more records are read as is what the later ones are, or where they are read as
+/// nothing, what the earlier ones are. It holds of the codecs of scalars, enums, strings and bytes.
+pub fn law_2<C: LastWins>()
+    ensures { LaterWins (C.one 100 full) }
+{
+    buffa_codec::laws::later_records_win::<C>();
+}
+
+/// The values of joined records of a repeated extension are the joined values.
+///
+/// It holds of lists of scalars, enums, strings and bytes.
+pub fn law_3<C: LastWins>()
+    ensures { ReadingsJoin ⟦<Repeated<C> as ExtensionCodec>⟧.reads }
+{
+    buffa_codec::laws::lists_join::<C>();
+}
+
+/// A repeated extension is read alike by the packed codec and by the one that isn't, whatever its records.
+pub fn law_4<C: PackableCodec>()
+    ensures { ReadAlike ⟦<Repeated<C> as ExtensionCodec>⟧.reads ⟦<PackedRepeated<C> as ExtensionCodec>⟧.reads }
+{
+    buffa_codec::laws::lists_read_alike::<C>();
+}
+
+/// A set of a number leaves the records of every other number, and the new records stand last.
+pub fn law_5()
+    ensures others { LeavesOthers }
+    ensures last { StandsLast }
+{
+    buffa_ext::laws::sets_leave_others();
+}
+
+/// Two sets of a number are the second one, and two clears are one.
+pub fn law_6()
+    ensures sets { SecondCounts }
+    ensures clears { ClearsAreOne }
+{
+    buffa_ext::laws::last_set_counts();
+}
+
+/// A value of a codec of one value has a record, and an empty list has none.
+///
+/// So an extension that is set to a scalar's default, or to an empty text or message, is there; a repeated
+/// one that is set to no values isn't.
+pub fn law_7<C: LastWins, K: MessageRecord, M: Message, R: SingularCodec, P: PackableCodec>()
+    ensures one { (v : C.Value.Meaning) → ⟦<C as ExtensionCodec>⟧.recs v ≢ [] }
+    ensures message { (v : M.Meaning) → ⟦<MessageIn<K, M> as ExtensionCodec>⟧.recs v ≢ [] }
+    ensures repeated { ⟦<Repeated<R> as ExtensionCodec>⟧.recs [] ≡ [] }
+    ensures packed { ⟦<PackedRepeated<P> as ExtensionCodec>⟧.recs [] ≡ [] }
+{}
+
+/// The announced size of a map field is the length of its text, where the tag's length is that of its tag.
+///
+/// So it is of a field of messages too, where the size is the sum of the records' lengths.
+pub fn law_8<KC: MapCodec, VC: MapCodec, M: MessageSpec>()
+    ensures values { SizeIsLength KC.writing VC.writing }
+    ensures messages { SizeIsLength KC.writing (delimited_writing M.text) }
+{
+    buffa_map::laws::size_is_length::<KC, VC>();
+}
+
+/// The slots of a map of messages, consumed in order, are the lengths in the field's text.
+///
+/// For each pair of a walk the next slot is the length of the message's text, and the message's own slots
+/// follow it; the text with these lengths is the field's text. No message is longer than 2^31 - 1 bytes.
+pub fn law_9<KC: MapCodec, M: MessageSpec>()
+    ensures { SlotsAreLengths KC.writing M.text M.slots }
+{}
+
+/// A put keeps the stored key of a pair that is there, and every other key.
+pub fn law_10<C: MapStorage>()
+    ensures { KeepsStoredKeys C.Value.Meaning C.equal }
+{}
+
+/// A written Item is an Item with its number and its message, and nothing else that begins it is one.
+///
+/// The Item is what follows the start tag, which is one byte. Whatever follows the Item, no other front of the
+/// bytes is an Item. The number is 1 to 2,147,483,647.
+pub fn law_11()
+    ensures start { (id : ℕ) (msg : List ℕ) → item_text id msg ≡ ITEM_START_TAG ∷ body_text id msg }
+    ensures item { WrittenIsItem }
+    ensures only { NoOtherFront }
+{}
+
+/// A rewrite of a run by an older reader means to a newer one what the run means, if the run is ordered.
+///
+/// And only then. The newer reader's enum declares all that the older one's does, with the same default; it
+/// keeps the same entries in any case.
+pub fn law_12<KC: MapCodec>()
+    ensures { RewriteMeans KC.reading KC.writing KC.fits }
+{
+    buffa_map::laws::rewrite_means::<KC>();
+}
+
+/// An extension of an enum is read and written as `int32` is, each number as the value that it means.
+///
+/// So it is in lists too, packed or not; and a value that is set comes back as its `normal` one.
+pub fn law_13<E: Enumeration>()
+    ensures one { LastThrough (open_number E.of_number) (⟦<Int32 as SingularCodec>⟧.one 100 full)
+        (⟦<EnumCodec<E> as SingularCodec>⟧.one 100 full) }
+    ensures lists { ListsThrough (open_number E.of_number) ⟦<Repeated<Int32> as ExtensionCodec>⟧.reads
+        ⟦<Repeated<EnumCodec<E>> as ExtensionCodec>⟧.reads }
+    ensures packed { ListsThrough (open_number E.of_number) ⟦<PackedRepeated<Int32> as ExtensionCodec>⟧.reads
+        ⟦<PackedRepeated<EnumCodec<E>> as ExtensionCodec>⟧.reads }
+    ensures records { (v : Bool × ℤ) → ⟦<EnumCodec<E> as ExtensionCodec>⟧.recs v
+        ≡ ⟦<Int32 as ExtensionCodec>⟧.recs v.1 }
+    ensures normal { (v : Bool × ℤ) → ⟦<EnumCodec<E> as SingularCodec>⟧.back v ≡ open_number E.of_number v.1 }
+{
+    buffa_codec::laws::enums_are_read_as_numbers::<E>();
+}
+
+/// An Item is read exactly where the grammar has one, and a fault is told exactly where the grammar has it.
+///
+/// Out of memory is no fault of the bytes, and the type id of an Item is 1 to 2,147,483,647.
+pub fn items_are_read()
+    ensures ok { (d id : ℕ) (bs msg rest : List ℕ) → (item_at d bs ≡ Ok (id, msg, rest)) ↔ TakesItem d bs id msg rest }
+    ensures err { (d : ℕ) (bs : List ℕ) (e : DecodeError) → (item_at d bs ≡ Err e) ↔ ItemFault d bs e }
+    ensures memory { (d : ℕ) (bs : List ℕ) → item_at d bs ≢ Err OutOfMemory }
+    ensures range { (d id : ℕ) (bs msg : List ℕ) → Item d bs id msg → IsTypeId id }
+{}
+
+/// No Item is a proper beginning of another, and bytes are an Item in one way.
+pub fn no_item_begins_another()
+    ensures { OneItem }
+{}
+
+/// The four tags of an Item, each of which has one byte.
+pub fn item_tags()
+    ensures start { tag_text 1 StartGroup ≡ ITEM_START_TAG ∷ [] }
+    ensures end { tag_text 1 EndGroup ≡ ITEM_END_TAG ∷ [] }
+    ensures type_id { tag_text 2 Varint ≡ TYPE_ID_TAG ∷ [] }
+    ensures message { tag_text 3 LengthDelimited ≡ MESSAGE_TAG ∷ [] }
+{}

@@ -1,0 +1,25 @@
+//! Map fields, typed extensions and MessageSet Items of protobuf messages, proved.
+//!
+//! This crate is the one that a user names. [`map_codec`] has map fields, [`extension`] typed extensions,
+//! [`message_set`] Items, and [`laws`] what is proved of them together, one function a law. The items of the
+//! wire stand at the top.
+#![tactic(auto)]
+
+pub mod extension;
+pub mod laws;
+pub mod message_set;
+#[cfg(test)]
+mod tests;
+
+pub use buffa_ext::{Extension, ExtensionSet};
+pub use buffa_map::map_codec;
+pub use buffa_map::map_codec::{Map, MapStorage};
+pub use buffa_wire::message::MAX_MESSAGE_BYTES;
+pub use buffa_wire::{
+    Blank, Budget, Buf, DEFAULT_ELEMENT_MEMORY_LIMIT, DEFAULT_UNKNOWN_FIELD_LIMIT, DecodeContext,
+    DecodeError, EncodeError, EncodeSink, EnumValue, Enumeration, Form, Limited, MAX_FIELD_NUMBER,
+    MapKey, Message, MessageSetFault, MessageSpec, Pieces, PlainKey, ProtoBytes, ProtoString,
+    RECURSION_LIMIT, Scalar, SizeCache, Tag, UnknownField, UnknownFieldData, UnknownFields,
+    WireType, check_wire_type, decode_unknown_field, decode_varint, encode_varint,
+    skip_field_depth, types, varint_len,
+};

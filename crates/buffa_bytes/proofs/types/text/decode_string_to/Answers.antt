@@ -1,0 +1,16 @@
+use Rattle.std.proofs.lemmas.Result.{err_from_is_err_and}
+use Rattle.buffa_bytes.proofs.TextLemmas.{string_in_place, whole_in_place, length_no_full}
+use Rattle.buffa_bytes.proofs.types.text.decode_string_to.Goals as goal
+
+pub returns-in_err-len-clause-full : goal.returns-in_err-len-clause-full
+returns-in_err-len-clause-full g c =
+    let p = err_from_is_err_and c.from_residual.result c.from_residual.ensures.1 in
+    length_no_full p.1 p.2 (g.B.Buf.unread c.args.buf.now) c.in_err-len.ensures.reads
+
+pub returns-in-Some-clause-reads : goal.returns-in-Some-clause-reads
+returns-in-Some-clause-reads g c =
+    string_in_place _ _ c.from_wire-read.result _ _ _ _ _ c.in_ok-len.ensures.reads c.in-Some.ensures c.advance.ensures.rest c.from_wire-read.ensures.reads
+
+pub returns-in-Some-clause-full : goal.returns-in-Some-clause-full
+returns-in-Some-clause-full g c =
+    whole_in_place c.from_wire-read.result _ _ _ _ c.in_ok-len.ensures.reads c.in-Some.ensures

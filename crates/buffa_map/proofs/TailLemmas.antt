@@ -1,0 +1,64 @@
+-- Where readers leave what is unread.
+use Rattle.std.proofs.Common.{◌≡◌, ℕ, List, [], ◌++◌, Result, Ok, Err, length, drop, ap, append_assoc, sym, ◌∙◌}
+use Rattle.std.proofs.Math.Seq.{drop-append_seam}
+use Rattle.buffa_bytes.proofs.DelimitedLemmas.{delimited_sound, delimited_taken}
+use Rattle.buffa_bytes.proofs.FieldLemmas.{tag_sound}
+use Rattle.buffa_bytes.proofs.StepLemmas.{agree_ok}
+use Rattle.buffa_bytes.proofs.TailLemmas.{tail_dropped}
+use Rattle.buffa_bytes.specs.Unread.{IsTailOf}
+use Rattle.buffa_bytes.specs.declared.error.DecodeError.{DecodeError}
+use Rattle.buffa_bytes.specs.declared.wire_type.WireType.{WireType}
+use Rattle.buffa_wire.specs.Field.{TakesDelimited}
+use Rattle.buffa_wire.specs.Reading.{delimited_at, tag_at}
+
+tail_behind : (front rest all : List ℕ) → all ≡ front ++ rest → IsTailOf rest all
+tail_behind front rest all e = tail_dropped (length front) all rest (sym (ap (drop (length front)) e ∙ drop-append_seam front rest))
+
+pub tag_tail : (bs rest : List ℕ) (n : ℕ) (w : WireType) → tag_at bs ≡ Ok (n, w, rest) → IsTailOf rest bs
+tag_tail bs rest n w h =
+    let t = agree_ok (tag_at bs) (n, w, rest) (tag_sound bs) h in
+    tail_behind t.0 rest bs t.2
+
+pub delimited_tail : (bs e rest : List ℕ) → delimited_at bs ≡ Ok (e, rest) → IsTailOf rest bs
+delimited_tail bs e rest h =
+    let t = agree_ok (delimited_at bs) (e, rest) (delimited_sound bs) h in
+    tail_behind (t.0 ++ e) rest bs (t.2 ∙ sym (append_assoc t.0 e rest))
+
+rest_of : Result (List ℕ × List ℕ) DecodeError → List ℕ
+rest_of (Ok p) = p.1
+rest_of (Err e) = []
+
+-- one rest follows a length and so many bytes
+pub one_rest : (bs e rest x after : List ℕ) → delimited_at bs ≡ Ok (e, rest) → TakesDelimited bs x after → rest ≡ after
+unfolding rest_of
+one_rest bs e rest x after h t = ap rest_of (sym h ∙ delimited_taken bs x after t)
+
+number_of : Result (ℕ × WireType × List ℕ) DecodeError → ℕ
+number_of (Ok t) = t.0
+number_of (Err e) = 0
+
+wire_of : WireType → Result (ℕ × WireType × List ℕ) DecodeError → WireType
+wire_of v (Ok t) = t.1
+wire_of v (Err e) = v
+
+-- one number and one wire type
+pub one_number : (bs a b : List ℕ) (m n : ℕ) (v w : WireType) → tag_at bs ≡ Ok (m, v, a) → tag_at bs ≡ Ok (n, w, b) → m ≡ n
+unfolding number_of
+one_number bs a b m n v w h k = ap number_of (sym h ∙ k)
+
+pub one_wire : (bs a b : List ℕ) (m n : ℕ) (v w : WireType) → tag_at bs ≡ Ok (m, v, a) → tag_at bs ≡ Ok (n, w, b) → v ≡ w
+unfolding wire_of
+one_wire bs a b m n v w h k = ap (wire_of v) (sym h ∙ k)
+
+after_of : Result (ℕ × WireType × List ℕ) DecodeError → List ℕ
+after_of (Ok t) = t.2
+after_of (Err e) = []
+
+-- one rest follows a tag
+pub one_after : (bs a b : List ℕ) (m n : ℕ) (v w : WireType) → tag_at bs ≡ Ok (m, v, a) → tag_at bs ≡ Ok (n, w, b) → a ≡ b
+unfolding after_of
+one_after bs a b m n v w h k = ap after_of (sym h ∙ k)
+
+-- where no tag begins them, none does
+pub no_tag : {P : Type 0} (bs : List ℕ) (f : DecodeError) → tag_at bs ≡ Err f → (n : ℕ) (w : WireType) (rest : List ℕ) → tag_at bs ≡ Ok (n, w, rest) → P
+no_tag bs f h n w rest k = let z = sym h ∙ k in cc

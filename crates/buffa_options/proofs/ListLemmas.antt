@@ -1,0 +1,34 @@
+-- What a repeated option is read as.
+use Rattle.std.proofs.Common.{◌≡◌, ℕ, ℤ, List, [], ◌∷◌, ◌++◌, map, Option, option_map, refl, ◌∙◌, ap}
+use Rattle.std.specs.List.{flat_map}
+use Rattle.buffa_bytes.specs.Values.{int32_of}
+use Rattle.buffa_bytes.specs.declared.wire_type.WireType.TheVariants.{Varint}
+use Rattle.buffa_wire.specs.BudgetLeft.{BudgetLeft}
+use Rattle.buffa_wire.specs.Found.{varint_in}
+use Rattle.buffa_wire.specs.Records.{Datum, varint, fixed32, fixed64, bytes, group}
+use Rattle.buffa_codec.specs.Packed.{numbers_in}
+use Rattle.buffa_codec.specs.Reading.{ReadsAll, ReadsList, elements, full}
+use Rattle.buffa_options.specs.Options.{int32s_in}
+
+abbrev one : BudgetLeft → Datum → Option ℤ
+one b d = option_map int32_of (varint_in d)
+
+abbrev leaves : BudgetLeft → Datum → BudgetLeft → Type 0
+leaves b d left = left ≡ b
+
+abbrev packed : List ℕ → List ℤ
+packed bs = map int32_of (numbers_in Varint bs)
+
+in_record : (b : BudgetLeft) (d : Datum) → elements packed d (one b d) ≡ int32s_in d
+in_record b (varint n) = refl
+in_record b (fixed32 n) = refl
+in_record b (fixed64 n) = refl
+in_record b (bytes bs) = refl
+in_record b (group rs) = refl
+
+in_records : (b left : BudgetLeft) (ds : List Datum) (vs : List ℤ) → ReadsAll one leaves packed b ds vs left → vs ≡ flat_map int32s_in ds
+in_records b left [] vs h = h.0
+in_records b left (d ∷ ds) vs (mid, rest, l, more, e) = e ∙ ap (λ x. x ++ rest) (in_record b d) ∙ ap (λ x. int32s_in d ++ x) (in_records mid left ds rest more)
+
+pub in_list : (ds : List Datum) (vs : List ℤ) → ReadsList one leaves packed ds vs → vs ≡ flat_map int32s_in ds
+in_list ds vs h = in_records full h.0 ds vs h.1

@@ -1,0 +1,45 @@
+//! A message that is nothing but its unknown fields.
+
+ghost use Rattle.std.specs.Prelude.{codes, refl};
+ghost use Rattle.buffa_wire.specs.Records.{Held};
+
+use buffa_ext::ExtensionSet;
+use buffa_wire::UnknownFields;
+
+/// A list of records, which lends itself to extensions of `test.Carrier`.
+///
+/// ```ignore
+/// let carrier = Carrier { fields: UnknownFields::decode_from_slice(alloc, &[0x08, 0x05])? };
+/// let five = carrier.extension(alloc, &Extension::<Int32>::new(1, "test.Carrier"))?; // Some(5)
+/// ```
+#[derive(Drop)]
+pub struct Carrier {
+    /// The records, in order.
+    pub fields: UnknownFields,
+}
+
+impl ExtensionSet for Carrier {
+    const PROTO_FQN: &'static str = "test.Carrier";
+
+    ghost fqn = { codes "test.Carrier" };
+
+    ghost fields_of = { λ m. m.fields };
+
+    ghost with_fields = { λ m w. record m { fields = w } };
+
+    fn extendee_name() -> &'static str {
+        Self::PROTO_FQN
+    }
+
+    fn unknown_fields(&self) -> &UnknownFields {
+        &self.fields
+    }
+
+    fn unknown_fields_mut(&mut self) -> &mut UnknownFields {
+        &mut self.fields
+    }
+
+    ghost fields_of_with = { λ m w. refl };
+
+    ghost with_fields_of = { λ m. refl };
+}

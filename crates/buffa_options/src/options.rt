@@ -1,0 +1,138 @@
+//! The custom options of a field, read of the unknown fields of its options.
+
+ghost use Rattle.std.specs.Prelude.{◌≡◌, codes, refl, pos, unwrap_or, IfOk, IsOk, option_map, string_bytes};
+ghost use Rattle.buffa_wire.specs.Records.{Held};
+ghost use Rattle.buffa_options.specs.Options.{bool_option, int32_list, int32_option, string_option};
+
+use buffa_codec::{Repeated, StringCodec};
+use buffa_ext::{Extension, ExtensionSet};
+use buffa_wire::UnknownFields;
+use buffa_wire::scalars::{Bool, Int32};
+use std::alloc::{AllocError, Global};
+
+/// The options of a field, as `google.protobuf.FieldOptions` has them: one that is declared, and the records
+/// of all others, custom options among them.
+#[derive(Drop)]
+pub struct FieldOptions {
+    /// Whether the field is deprecated.
+    pub deprecated: bool,
+    /// The records of the other options, in order.
+    pub fields: UnknownFields,
+}
+
+impl ExtensionSet for FieldOptions {
+    const PROTO_FQN: &'static str = "google.protobuf.FieldOptions";
+
+    ghost fqn = { codes "google.protobuf.FieldOptions" };
+
+    ghost fields_of = { λ m. m.fields };
+
+    ghost with_fields = { λ m w. record m { fields = w } };
+
+    fn extendee_name() -> &'static str {
+        Self::PROTO_FQN
+    }
+
+    fn unknown_fields(&self) -> &UnknownFields {
+        &self.fields
+    }
+
+    fn unknown_fields_mut(&mut self) -> &mut UnknownFields {
+        &mut self.fields
+    }
+
+    ghost fields_of_with = { λ m w. refl };
+
+    ghost with_fields_of = { λ m. refl };
+}
+
+/// A custom option of type `int32`, by its number; none where no record says it.
+///
+/// # Errors
+/// None: reading a number takes no memory.
+///
+/// ```ignore
+/// let limit = read_int32(alloc, &options, MAX_LENGTH)?; // Some(80)
+/// ```
+pub fn read_int32(
+    alloc: Global,
+    options: &FieldOptions,
+    number: u32,
+) -> Result<Option<i32>, AllocError>
+    ensures value { IfOk result (λ o. o ≡ int32_option number options.now.fields.records) }
+    ensures always { IsOk result }
+{
+    let option = Extension::<Int32>::new(number, FieldOptions::PROTO_FQN);
+    options.extension(alloc, &option)
+}
+
+/// A custom option of type `bool`, by its number; none where no record says it.
+///
+/// # Errors
+/// None: reading a number takes no memory.
+///
+/// ```ignore
+/// let required = read_bool(alloc, &options, REQUIRED)?; // Some(true)
+/// ```
+pub fn read_bool(
+    alloc: Global,
+    options: &FieldOptions,
+    number: u32,
+) -> Result<Option<bool>, AllocError>
+    ensures value { IfOk result (λ o. o ≡ bool_option number options.now.fields.records) }
+    ensures always { IsOk result }
+{
+    let option = Extension::<Bool>::new(number, FieldOptions::PROTO_FQN);
+    options.extension(alloc, &option)
+}
+
+/// The option `int32 max_length = 50001`, or 255 where no record says it.
+///
+/// # Errors
+/// Where memory runs out; making this default takes none.
+///
+/// ```ignore
+/// let limit = max_length_or_default(alloc, &options)?; // 255
+/// ```
+pub fn max_length_or_default(alloc: Global, options: &FieldOptions) -> Result<i32, AllocError>
+    ensures { IfOk result (λ v. v ≡ unwrap_or (int32_option 50001 options.now.fields.records) (pos 255)) }
+{
+    let max_length = Extension::<Int32>::with_default(
+        50001,
+        FieldOptions::PROTO_FQN,
+        |_alloc: Global| -> Result<i32, AllocError>
+            ensures { IfOk result (λ v. v ≡ pos 255) }
+        { Ok(255) },
+    );
+    options.extension_or_default(alloc, &max_length)
+}
+
+/// The option `string label = 50002`: the last that is UTF-8.
+///
+/// # Errors
+/// Where memory runs out.
+///
+/// ```ignore
+/// let label = read_label(alloc, &options)?; // Some("name")
+/// ```
+pub fn read_label(alloc: Global, options: &FieldOptions) -> Result<Option<String>, AllocError>
+    ensures { IfOk result (λ o. option_map string_bytes o ≡ string_option 50002 options.now.fields.records) }
+{
+    let label = Extension::<StringCodec>::new(50002, FieldOptions::PROTO_FQN);
+    options.extension(alloc, &label)
+}
+
+/// The option `repeated int32 choices = 50003`: the numbers of all its records, packed or not.
+///
+/// # Errors
+/// Where memory runs out.
+///
+/// ```ignore
+/// let choices = read_choices(alloc, &options)?; // [1, 2, 300]
+/// ```
+pub fn read_choices(alloc: Global, options: &FieldOptions) -> Result<Vec<i32>, AllocError>
+    ensures { IfOk result (λ v. v.items ≡ int32_list 50003 options.now.fields.records) }
+{
+    let choices = Extension::<Repeated<Int32>>::new(50003, FieldOptions::PROTO_FQN);
+    options.extension(alloc, &choices)
+}

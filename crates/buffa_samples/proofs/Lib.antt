@@ -1,0 +1,6 @@
+pub mod NormalLemmas
+pub mod SortedLemmas
+pub mod TreeFields
+pub mod TreeMerge
+pub mod TreeSizes
+pub mod TripLemmas

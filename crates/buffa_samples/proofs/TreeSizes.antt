@@ -1,0 +1,54 @@
+-- The size of a tree, by the size of its label and of its children.
+use Rattle.std.proofs.Common.{◌≡◌, ◌<◌, ◌≤◌, ℕ, zero, suc, ℤ, ◌+◌, List, [], ◌∷◌, ◌++◌, length, min, sym, ap, ◌∙◌, arith, length-append, subst}
+use Rattle.std.specs.List.{Contains}
+use Rattle.std.specs.Map.{values_of}
+use Rattle.buffa_bytes.proofs.ShortestLemmas.{varint_text-last}
+use Rattle.buffa_bytes.specs.declared.wire_type.WireType.TheVariants.{LengthDelimited}
+use Rattle.buffa_wire.specs.Passes.{IsSmall, cap}
+use Rattle.buffa_wire.specs.Values.{tag_text}
+use Rattle.buffa_map.specs.MessageField.{IsSmallField, field_slots}
+use Rattle.buffa_map.specs.Scalars.{delimited_writing}
+use Rattle.buffa_map.specs.Text.{field_size, field_text}
+use Rattle.buffa_map.proofs.MessageFieldLemmas.{small_field}
+use Rattle.buffa_map.proofs.SizeLemmas.{length-field_text}
+use Rattle.buffa_samples.specs.Flat.{value_text}
+use Rattle.buffa_samples.specs.Grown.{Grown, grown, height, heights, kids}
+use Rattle.buffa_samples.specs.TreeText.{key_writing, meant, meant-is, slots, slots-field, text, texts-field}
+
+tag_one : length (tag_text 2 LengthDelimited) ≡ 1
+tag_one = ap length (varint_text-last 18 (omega arith))
+
+module _ (t : Grown) (l : ℤ) (es : List (ℤ × Grown)) (is : grown l (kids es) ≡ t) where
+  pub text_is : text t ≡ value_text l ++ field_text key_writing (delimited_writing text) 2 (meant es)
+  text_is = ap text (sym is) ∙ ap (λ (r : List ℕ). value_text l ++ r) (texts-field es)
+
+  pub length_is : length (text t) ≡ length (value_text l) + field_size key_writing (delimited_writing text) 1 (meant es)
+  length_is = ap length text_is ∙ length-append (value_text l) (field_text key_writing (delimited_writing text) 2 (meant es))
+      ∙ ap (λ (n : ℕ). length (value_text l) + n) (length-field_text key_writing (delimited_writing text) 2 (meant es))
+      ∙ ap (λ (k : ℕ). length (value_text l) + field_size key_writing (delimited_writing text) k (meant es)) tag_one
+
+  pub slots_is : field_slots text slots (meant es) ≡ slots t
+  slots_is = sym (slots-field es) ∙ ap slots is
+
+  -- a tree that is small has a small field
+  pub small_kids : IsSmall (text t) → IsSmallField key_writing text (meant es)
+  small_kids h = small_field key_writing text 1 (meant es) (omega (arith, length_is, h))
+
+  module _ (n label total : ℕ) (sized : cap n ≡ cap (field_size key_writing (delimited_writing text) 1 (meant es))) (labelled : label ≡ length (value_text l)) (summed : total ≡ min (n + label) 18446744073709551615) where
+    pub small_total : total < 4294967295 → total ≡ cap (length (text t))
+    small_total h = omega (arith, length_is, sized, labelled, summed)
+
+    pub large_total : 4294967295 ≤ total → 4294967295 ≡ cap (length (text t))
+    large_total h = omega (arith, length_is, sized, labelled, summed)
+
+-- a child is smaller than the tree
+low_in : (es : List (ℤ × Grown)) (x : Grown) → Contains (values_of (meant es)) x → height x ≤ heights (kids es)
+low_in [] x (i, b, q) = absurd (omega (arith, b))
+low_in (e ∷ es) x (zero, b, q) = omega (arith, ap height q)
+low_in (e ∷ es) x (suc i, b, q) = omega (arith, low_in es x (i, omega (arith, b), q))
+
+pub low_child : (t : Grown) (l : ℤ) (es : List (ℤ × Grown)) → grown l (kids es) ≡ t → (x : Grown) → Contains (values_of (meant es)) x → height x < height t
+low_child t l es is x h = omega (arith, low_in es x h, ap height is)
+
+pub meant-values : (es : List (ℤ × Grown)) (x : Grown) → Contains (values_of (meant es)) x → Contains (values_of es) x
+meant-values es x h = subst (λ (l : List (ℤ × Grown)). Contains (values_of l) x) (meant-is es) h

@@ -1,0 +1,53 @@
+-- Why a map may not come back: what is read is a run, so only the budget has a fault.
+use Rattle.std.proofs.Common.{◌≡◌, ◌+◌, ap, ◌-◌, ◌*◌, ◌<◌, ◌≤◌, ℕ, List, length, inl, inr, arith}
+use Rattle.std.specs.Prelude.{◌⊎◌}
+use Rattle.std.proofs.Math.Nat.{lt_of_not-le}
+use Rattle.buffa_bytes.specs.declared.error.DecodeError.{DecodeError}
+use Rattle.buffa_bytes.specs.declared.error.DecodeError.TheVariants.{ElementMemoryLimitExceeded}
+use Rattle.buffa_bytes.specs.declared.error.EncodeError.{EncodeError}
+use Rattle.buffa_bytes.specs.declared.error.EncodeError.TheVariants.{MessageTooLarge, GroupRefused, OutOfMemory}
+use Rattle.buffa_wire.specs.BudgetLeft.{BudgetLeft, nothing, units}
+use Rattle.buffa_map.specs.Entry.{need_of}
+use Rattle.buffa_map.specs.Codec.{Reading, Writing}
+use Rattle.buffa_map.specs.Run.{Paid, RecordFault, Run, RunFault, EntryRecord, inner_needs}
+use Rattle.buffa_map.specs.Text.{RefusesField}
+use Rattle.buffa_samples.specs.RoundTrip.{RefusesPairs}
+use Rattle.buffa_samples.specs.declared.round_trip.TripFault.TheVariants.{Encode}
+
+-- a refusal to write
+pub unwritten : {K V : Type 0} (key : Writing K) (val : Writing V) (cost n : ℕ) (old new : List ℕ) (l : List (K × V)) (f : EncodeError) →
+    RefusesField key val n old new l f → RefusesPairs key val cost l (Encode f)
+unwritten key val cost n old new l MessageTooLarge h = (h.0, h.1, h.2, h.3, h.5)
+unwritten key val cost n old new l OutOfMemory h = tt
+unwritten key val cost n old new l (GroupRefused e) h = h
+
+module _ {K V : Type 0} (key : Reading K) (val : Reading V) (d n : ℕ)
+    (needs : (cost : ℕ) (e : List ℕ) → need_of key val d cost e ≡ units cost) (inner : (es : List (EntryRecord K V)) → inner_needs key val d es ≡ nothing)
+    (no_fault : (cost slot : ℕ) (left over : BudgetLeft) (bs : List ℕ) (es : List (EntryRecord K V)) (f : DecodeError) → Run key val d n bs es → Paid key val d cost slot left es over → RunFault key val d n cost slot left bs f → ⊥) where
+  -- where no slot is asked for, the fault of a record is that of the budget, or one that it has at no cost
+  at_no_cost : (cost : ℕ) (left : BudgetLeft) (bs : List ℕ) (f : DecodeError) → RecordFault key val d n cost 0 left bs f → (f ≡ ElementMemoryLimitExceeded) ⊎ RecordFault key val d n 0 0 left bs f
+  at_no_cost cost left bs f (inl h) = inr (inl h)
+  at_no_cost cost left bs f (inr (inl h)) = inr (inr (inl h))
+  at_no_cost cost left bs f (inr (inr (inl h))) = inr (inr (inr (inl h)))
+  at_no_cost cost left bs f (inr (inr (inr (r, t, inl h)))) = inr (inr (inr (inr (r, t, inl h))))
+  at_no_cost cost left bs f (inr (inr (inr (r, t, inr (v, e, rest, len, is, inl h))))) = inl h.1
+  at_no_cost cost left bs f (inr (inr (inr (r, t, inr (v, e, rest, len, is, inr (enough, inl (inl few))))))) = absurd (omega (arith, few, ap (λ (z : BudgetLeft). z.unknown) (needs cost e)))
+  at_no_cost cost left bs f (inr (inr (inr (r, t, inr (v, e, rest, len, is, inr (enough, inl (inr few))))))) = absurd (omega (arith, enough, few, ap (λ (z : BudgetLeft). z.memory) (needs cost e)))
+  at_no_cost cost left bs f (inr (inr (inr (r, t, inr (v, e, rest, len, is, inr (enough, inr (inl h))))))) =
+      inr (inr (inr (inr (r, t, inr (v, e, rest, len, is, inr (omega arith, inr (inl h)))))))
+  at_no_cost cost left bs f (inr (inr (inr (r, t, inr (v, e, rest, len, is, inr (enough, inr (inr h))))))) = absurd (omega (arith, h.3, ap (λ (z : BudgetLeft). z.unknown) (needs cost e)))
+
+  paid_at : (cost : ℕ) (es : List (EntryRecord K V)) (left over : BudgetLeft) → over.memory + length es * cost ≡ left.memory → over.unknown ≡ left.unknown → Paid key val d cost 0 left es over
+  paid_at cost es left over m u = (omega (arith, m, ap (λ (z : BudgetLeft). z.memory) (inner es)), omega (arith, u, ap (λ (z : BudgetLeft). z.unknown) (inner es)))
+
+  -- bytes that are a run have no fault but the budget's, and that only where the entries cost more than is left
+  pub costs_more : (cost : ℕ) (left : BudgetLeft) (bs : List ℕ) (es : List (EntryRecord K V)) (f : DecodeError) → Run key val d n bs es → RunFault key val d n cost 0 left bs f →
+      (f ≡ ElementMemoryLimitExceeded) × (left.memory < length es * cost)
+  costs_more cost left bs es f run h = (named (at_no_cost cost h.2 h.1 f h.5), lt_of_not-le unpaid)
+    where
+      named : (f ≡ ElementMemoryLimitExceeded) ⊎ RecordFault key val d n 0 0 h.2 h.1 f → f ≡ ElementMemoryLimitExceeded
+      named (inl e) = e
+      named (inr g) = absurd (no_fault 0 0 h.2 h.2 bs es f run (paid_at 0 es h.2 h.2 (omega arith) (omega arith)) (h.0, h.1, h.2, (h.3.0, h.3.1, h.3.2, paid_at 0 h.0 h.2 h.2 (omega arith) (omega arith)), h.4, g))
+
+      unpaid : ¬ (length es * cost ≤ left.memory)
+      unpaid enough = no_fault cost 0 left (record { unknown = left.unknown; memory = left.memory - length es * cost }) bs es f run (paid_at cost es left (record { unknown = left.unknown; memory = left.memory - length es * cost }) (omega (arith, enough)) (omega arith)) h

@@ -1,0 +1,35 @@
+use Rattle.std.proofs.Common.{◌≡◌, ◌∙◌, ◌++◌, ap, map, sym, subst, List, ℕ, ℤ}
+use Rattle.std.specs.Map.{lookup_entry}
+use Rattle.buffa_wire.specs.Enums.{numbers}
+use Rattle.buffa_wire.specs.Records.{bytes}
+use Rattle.buffa_map.specs.Enums.{ClosedFits, closed_reading, closed_writing}
+use Rattle.buffa_map.specs.Pairs.{SamePairs}
+use Rattle.buffa_map.specs.Rewrite.{IsRewrite, Ordered}
+use Rattle.buffa_map.specs.Run.{fold_entries, undeclared, Run}
+use Rattle.buffa_map.proofs.RunLemmas.{added_records}
+use Rattle.buffa_samples.proofs.passed_on.passed_on.Goals as goal
+
+pub returns-in-Ok-read_map_field : goal.returns-in-Ok-read_map_field
+returns-in-Ok-read_map_field g c es fs h k =
+    let key = g.KC.MapValueDecode.reading in
+    let e = numbers g.E.Enumeration.of_number g.E.Blank.blank_is in
+    let f = numbers g.F.Enumeration.of_number g.F.Blank.blank_is in
+    let depth = c.args.depth in
+    let n = c.args.number in
+    let given = c.args.bytes.now in
+    let w = c.in-Ok.ensures.ok in
+    let r = c.in-Ok-read_map_field.ensures.ok in
+    let run = subst (λ (z : ℕ). Run key (closed_reading e) z n given w.entries) c.new-ctx.ensures.depth w.run in
+    let same : w.entries ≡ es = c.one_reading.ensures.run depth n given w.entries es run h in
+    let rewrite = subst (λ z. IsRewrite g.C.MapStorage.equal g.KC.MapCodec.writing closed_writing g.KC.MapCodec.fits (ClosedFits e) n z w.out) same w.rewrite in
+    let t = c.rewrite_means.ensures g.C.MapStorage.equal g.met.C.MapStorage.equivalence e f g.met.E.Enumeration.blank_declared c.requires.refines depth n given w.out es fs c.requires.number h k rewrite in
+    let text : c.as_slice-written.result.now ≡ w.out = c.as_slice-written.ensures.value ∙ w.text ∙ ap (λ z. z ++ w.out) c.new-text.ensures.items in
+    let again = subst (λ (b : List ℕ). Run key (closed_reading f) depth n b r.entries) text (subst (λ (z : ℕ). Run key (closed_reading f) z n c.as_slice-written.result.now r.entries) c.new-ctx-2.ensures.depth r.run) in
+    let read : t.0 ≡ r.entries = c.one_reading-2.ensures.run depth n w.out t.0 r.entries t.1 again in
+    let kept : undeclared r.entries ≡ undeclared fs = ap undeclared (sym read) ∙ t.2.0 in
+    let folds = subst (λ eq. Ordered eq es fs → (m : List (g.row.KC-Value-Meaning.Denot × ℤ)) → SamePairs eq (fold_entries eq m t.0) (fold_entries eq m fs)) c.requires.keys t.2.1 in
+    let old = g.D.MapStorage.pairs c.args.map.now in
+    let eq = g.D.MapStorage.equal in (
+      r.keeps ∙ ap (λ z. c.args.unknown.now.records ++ z) (added_records n r.entries) ∙ ap (λ z. c.args.unknown.now.records ++ map (λ (x : List ℕ). (n, bytes x)) z) kept,
+      λ o q. sym (folds o old q) ∙ ap (λ z. lookup_entry (eq q) (fold_entries eq old z)) read ∙ r.folded q,
+    )

@@ -1,0 +1,50 @@
+use Rattle.std.proofs.Common.{◌≡◌, ◌∙◌, ◌+◌, ◌*◌, ◌<◌, ◌++◌, ap, sym, subst, length, List, [], ℕ}
+use Rattle.std.specs.Map.{lookup_entry}
+use Rattle.buffa_wire.specs.BudgetLeft.{BudgetLeft}
+use Rattle.buffa_map.specs.Run.{fold_entries, Run}
+use Rattle.buffa_map.specs.Text.{field_text}
+use Rattle.buffa_samples.proofs.TripLemmas.{costs_more, unwritten}
+use Rattle.buffa_samples.proofs.round_trip.through_bytes.Goals as goal
+
+pub returns-in-Ok-read_map_field-clause-ok : goal.returns-in-Ok-read_map_field-clause-ok
+returns-in-Ok-read_map_field-clause-ok g c q =
+    let key = g.KC.MapValueDecode.reading in
+    let val = g.VC.MapValueDecode.reading in
+    let eq = g.C.MapStorage.equal in
+    let depth = c.new-ctx.result.depth in
+    let w = c.in-Ok.ensures in
+    let r = c.in-Ok-read_map_field.ensures.ok in
+    let t = c.written_is_read.ensures depth c.args.number w.0 c.requires.number w.3.0 w.4 (c.requires.normal w.0 w.1) w.2.0 in
+    let field = field_text g.KC.MapCodec.writing g.VC.MapCodec.writing c.args.number w.0 in
+    let text : c.as_slice-rest.result.now ≡ field = c.as_slice-rest.ensures.value ∙ w.3.1 ∙ ap (λ z. z ++ field) c.new-text.ensures.items in
+    let run : Run key val depth c.args.number field r.entries = subst (λ (b : List ℕ). Run key val depth c.args.number b r.entries) text r.run in
+    let same : r.entries ≡ t.entries = c.one_reading.ensures.run depth c.args.number field r.entries t.entries run t.run in
+    w.2.1 q ∙ ap (lookup_entry (eq q)) (sym t.folded ∙ ap (fold_entries eq []) (sym same) ∙ ap (λ m. fold_entries eq m r.entries) (sym c.requires.empty)) ∙ r.folded q
+
+pub returns-in-Err-clause-err : goal.returns-in-Err-clause-err
+returns-in-Err-clause-err g c =
+    let w = c.in-Err.ensures in
+    (w.0, w.1, unwritten g.KC.MapCodec.writing g.VC.MapCodec.writing (g.KC.MapValueDecode.COST + g.VC.MapValueDecode.COST) c.args.number _ _ w.0 c.in-Err.error w.3)
+
+pub returns-clause-err : goal.returns-clause-err
+returns-clause-err g c =
+    let key = g.KC.MapValueDecode.reading in
+    let val = g.VC.MapValueDecode.reading in
+    let cost = g.KC.MapValueDecode.COST + g.VC.MapValueDecode.COST in
+    let depth = c.new-ctx.result.depth in
+    let w = c.in-Ok.ensures in
+    let k = c.in-Err-read_map_field.ensures.err in
+    let t = c.written_is_read.ensures depth c.args.number w.0 c.requires.number w.3.0 w.4 (c.requires.normal w.0 w.1) w.2.0 in
+    let field = field_text g.KC.MapCodec.writing g.VC.MapCodec.writing c.args.number w.0 in
+    let text : c.as_slice-rest.result.now ≡ field = c.as_slice-rest.ensures.value ∙ w.3.1 ∙ ap (λ z. z ++ field) c.new-text.ensures.items in
+    let run : Run key val depth c.args.number c.as_slice-rest.result.now t.entries = subst (λ (b : List ℕ). Run key val depth c.args.number b t.entries) (sym text) t.run in
+    let memory : c.new-ctx.result.budget.now.memory ≡ 268435456 = ap (λ (b : BudgetLeft). b.memory) c.new-ctx.ensures.left ∙ c.new-budget.ensures.memory in (
+      w.0,
+      w.1,
+      λ named.
+          let more = costs_more key val depth c.args.number
+          (λ one e. c.plain_entries_need_units.ensures.entry (g.met.KC.MapCodec.plain, g.met.VC.MapCodec.plain) depth one e)
+          (λ es. c.plain_entries_need_units.ensures.run (g.met.KC.MapCodec.plain, g.met.VC.MapCodec.plain) depth es) (c.one_reading.ensures.run_or_fault depth c.args.number) cost c.new-ctx.result.budget.now c.as_slice-rest.result.now t.entries c.in-Err-read_map_field.error run
+          (k.entries, k.rest, k.over, k.begins, k.some, k.fault named) in
+          (more.0, subst (λ x. x < length w.0 * cost) memory (subst (λ x. c.new-ctx.result.budget.now.memory < x * cost) t.many more.1)),
+    )

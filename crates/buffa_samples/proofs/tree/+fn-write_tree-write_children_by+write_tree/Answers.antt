@@ -1,0 +1,32 @@
+use Rattle.std.proofs.Common.{[], sym, subst}
+use Rattle.buffa_wire.specs.Passes.{IsNext, IsSmall, IsWritten, WritesIf}
+use Rattle.buffa_wire.proofs.PassLemmas.{done, written_put, written_then}
+use Rattle.buffa_map.specs.MessageField.{IsSmallField, field_slots}
+use Rattle.buffa_map.specs.Scalars.{delimited_writing}
+use Rattle.buffa_map.specs.Text.{field_text}
+use Rattle.buffa_samples.specs.Flat.{value_text}
+use Rattle.buffa_samples.specs.TreeText.{key_writing, meant, slots, text}
+use Rattle.buffa_samples.proofs.TreeSizes.{slots_is, small_kids, text_is}
+use Rattle.buffa_samples.proofs.tree.+fn-write_tree-write_children_by+write_tree.Goals as goal
+
+pub write_children_by-requires-clause-next : goal.write_children_by-requires-clause-next
+write_children_by-requires-clause-next g t c = subst (λ ss. IsNext ss c.args.cache.now) (sym (slots_is _ _ _ c.tree.view_is)) c.requires
+
+pub returns : goal.returns
+returns g t c =
+    let written = g.S.EncodeSink.written in
+    let es = c.tree.inside.children.entries in
+    let w = rw c.in_ok-write_number.was at c.write_number.ensures in
+    let cache = c.args.cache.now in
+    let last = c.write_children_by.new.cache in
+    let r = c.write_children_by.result in
+    let b0 = written c.args.sink.now in
+    let b1 = written c.write_number.new.sink in
+    let b2 = written c.write_children_by.new.sink in
+    let small = IsSmall (text c.args.tree.now) in
+    let label = value_text c.tree.inside.label in
+    let field = field_text key_writing (delimited_writing text) 2 (meant es) in
+    let h = written_then small (IsSmallField key_writing text (meant es)) small label field [] (field_slots text slots (meant es)) cache cache last b0 b1 b2
+    (λ s. (s, small_kids _ _ _ c.tree.view_is s)) r (written_put small label cache b0 b1 done w) c.write_children_by.ensures in
+    subst (λ ss. IsWritten (text c.args.tree.now) ss cache b0 r last b2) (slots_is _ _ _ c.tree.view_is)
+    (subst (λ ts. WritesIf small ts (field_slots text slots (meant es)) cache b0 r last b2) (sym (text_is _ _ _ c.tree.view_is)) h)

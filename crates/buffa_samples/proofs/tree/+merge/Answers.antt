@@ -1,0 +1,95 @@
+use Rattle.std.proofs.Common.{◌≡◌, ◌≢◌, ◌++◌, ◌<◌, ◌∙◌, ℕ, List, length, length-append, arith, ap, subst, sym}
+use Rattle.std.proofs.lemmas.Result.{err_from_is_err_and}
+use Rattle.buffa_bytes.specs.declared.error.DecodeError.TheVariants.{OutOfMemory}
+use Rattle.buffa_bytes.specs.Field.{TakesTag}
+use Rattle.buffa_bytes.specs.Reading.{tag_at}
+use Rattle.buffa_bytes.proofs.StepLemmas.{agree_ok}
+use Rattle.buffa_bytes.proofs.FieldLemmas.{tag_some, tag_sound}
+use Rattle.buffa_wire.specs.BudgetLeft.{BudgetLeft, PaysAtMost}
+use Rattle.buffa_wire.specs.Message.{MergeFault}
+use Rattle.buffa_wire.proofs.MessageLemmas.{field_costs, field_means, loop_fault, untagged}
+use Rattle.buffa_samples.proofs.TreeFields.{all_merged, child_merged, label_merged, wire_merged}
+use Rattle.buffa_samples.specs.TreeLaws.{cost_next, merged_fields, merged_next}
+use Rattle.buffa_samples.specs.TreeMeaning.{cost, merged}
+use Rattle.buffa_samples.proofs.tree.+merge.Goals as goal
+
+pub merge_tree-returns-in_err-tag : goal.merge_tree-returns-in_err-tag
+merge_tree-returns-in_err-tag t c =
+    let p = err_from_is_err_and c.from_residual.result c.from_residual.ensures.1 in
+    let inv = c.loop-rest.invariant in
+    let d = c.args.depth in
+    let v = c.loop-rest.tree in
+    let rest = c.loop-rest.rest.now in
+    let some : 0 < length rest = omega (arith, c.remaining.ensures, c.loop-rest-test.true) in
+    rw (p.1, p.2) (loop_fault (merged d c.args.tree.now c.args.bytes.now) (merged d v rest) c.args.budget.now c.loop-rest.budget c.loop-rest.budget
+    (cost d c.args.bytes.now) (cost d rest) c.in_err-tag.field-0.0 inv.means inv.unknown inv.memory inv.no_slot inv.no_unit
+    ((omega arith, omega arith, omega arith, omega arith), λ ne. untagged merged cost merged_fields merged_next cost_next d v rest c.loop-rest.budget c.in_err-tag.field-0.0 some c.in_err-tag.ensures.reads))
+
+pub merge_tree-loop-rest-smaller : goal.merge_tree-loop-rest-smaller
+merge_tree-loop-rest-smaller t c =
+    let rest = c.loop-rest.rest.now in
+    let u : TakesTag rest c.in_ok-tag.tag.number c.in_ok-tag.tag.wire_type c.decode.new.buf.now = agree_ok (tag_at rest) (c.in_ok-tag.tag.number, c.in_ok-tag.tag.wire_type, c.decode.new.buf.now) (tag_sound rest) c.in_ok-tag.ensures.reads in
+    let m = c.in_ok-merge_tree_field.ensures in
+    omega (arith, tag_some u.0 c.in_ok-tag.tag.number c.in_ok-tag.tag.wire_type u.1, ap length u.2, length-append u.0 c.decode.new.buf.now, ap length m.2, length-append m.0 c.merge_tree_field.new.buf.now)
+
+pub merge_tree-loop-rest-preserved : goal.merge_tree-loop-rest-preserved
+merge_tree-loop-rest-preserved t c =
+    let inv = c.loop-rest.invariant in
+    let d = c.args.depth in
+    let n = c.in_ok-tag.tag.number in
+    let w = c.in_ok-tag.tag.wire_type in
+    let rest = c.loop-rest.rest.now in
+    let x = c.merge_tree_field.new.buf.now in
+    let u : TakesTag rest n w c.decode.new.buf.now = agree_ok (tag_at rest) (n, w, c.decode.new.buf.now) (tag_sound rest) c.in_ok-tag.ensures.reads in
+    let m = c.in_ok-merge_tree_field.ensures in
+    let split : rest ≡ u.0 ++ (m.0 ++ x) = u.2 ∙ ap (λ z. u.0 ++ z) m.2 in
+    let one = m.3 u.0 u.1 in
+    let costs = field_costs merged cost merged_fields merged_next cost_next d rest u.0 m.0 x n w u.1 m.1 split in
+    record {
+      means = inv.means ∙ field_means merged cost merged_fields merged_next cost_next d c.loop-rest.tree c.merge_tree_field.new.tree rest u.0 m.0 x n w u.1 m.1 split one.0;
+      unknown = omega (arith, inv.unknown, one.1.0, ap (λ (z : BudgetLeft). z.unknown) costs);
+      memory = omega (arith, inv.memory, one.1.1, ap (λ (z : BudgetLeft). z.memory) costs);
+      no_slot = omega (arith, inv.no_slot, one.1.0);
+      no_unit = omega (arith, inv.no_unit, one.1.1);
+    }
+
+pub merge_tree-returns-in_err-merge_tree_field : goal.merge_tree-returns-in_err-merge_tree_field
+merge_tree-returns-in_err-merge_tree_field t c =
+    let p = err_from_is_err_and c.from_residual-in_err-merge_tree_field.result c.from_residual-in_err-merge_tree_field.ensures.1 in
+    let inv = c.loop-rest.invariant in
+    let d = c.args.depth in
+    let n = c.in_ok-tag.tag.number in
+    let w = c.in_ok-tag.tag.wire_type in
+    let v = c.loop-rest.tree in
+    let rest = c.loop-rest.rest.now in
+    let e = c.in_err-merge_tree_field.field-0.0 in
+    let u : TakesTag rest n w c.decode.new.buf.now = agree_ok (tag_at rest) (n, w, c.decode.new.buf.now) (tag_sound rest) c.in_ok-tag.ensures.reads in
+    let over = c.merge_tree_field.new.budget in
+    let why : PaysAtMost c.loop-rest.budget (cost d rest) over × (e ≢ OutOfMemory → MergeFault (merged d v rest) (cost d rest) c.loop-rest.budget e) =
+    subst (λ (z : List ℕ). PaysAtMost c.loop-rest.budget (cost d z) over × (e ≢ OutOfMemory → MergeFault (merged d v z) (cost d z) c.loop-rest.budget e)) (sym u.2) (c.in_err-merge_tree_field.ensures u.0 u.1) in
+    rw (p.1, p.2) (loop_fault (merged d c.args.tree.now c.args.bytes.now) (merged d v rest) c.args.budget.now c.loop-rest.budget over
+    (cost d c.args.bytes.now) (cost d rest) e inv.means inv.unknown inv.memory inv.no_slot inv.no_unit why)
+
+pub merge_tree-returns : goal.merge_tree-returns
+merge_tree-returns t c =
+    let inv = c.loop-rest.invariant in
+    let none : length c.loop-rest.rest.now ≡ 0 = omega (arith, c.remaining.ensures, c.loop-rest-test.false) in
+    all_merged c.args.depth c.args.tree.now c.loop-rest.tree c.args.bytes.now c.loop-rest.rest.now c.args.budget.now c.loop-rest.budget none inv.means inv.unknown inv.memory
+
+pub merge_tree_field-returns-then-field_number-ne2 : goal.merge_tree_field-returns-then-field_number-ne2
+merge_tree_field-returns-then-field_number-ne2 t c =
+    let other : c.args.tag.number ≢ 2 = λ z. absurd (omega (arith, c.field_number.ensures, c.if-field_number-ne2.true, z)) in
+    label_merged c.args.tag.number c.args.tag.wire_type c.args.buf.now.now c.merge_value.new.buf.now c.args.budget.now c.args.depth c.args.tree.now c.tree.inside.label c.tree.inside.children.entries c.tree.view_is
+    c.merge_value.result c.merge_value.new.value other c.merge_value.ensures
+
+pub merge_tree_field-returns-in_err-check_wire_type : goal.merge_tree_field-returns-in_err-check_wire_type
+merge_tree_field-returns-in_err-check_wire_type t c =
+    let p = err_from_is_err_and c.from_residual.result c.from_residual.ensures.1 in
+    let two : c.args.tag.number ≡ 2 = omega (arith, c.field_number.ensures, c.if-field_number-ne2.false) in
+    rw (p.1, p.2) (wire_merged c.args.tag.number c.args.tag.wire_type c.args.buf.now.now c.args.buf.now.now c.args.budget.now c.args.depth c.args.tree.now c.in_err-check_wire_type.field-0.0 two c.in_err-check_wire_type.ensures)
+
+pub merge_tree_field-returns : goal.merge_tree_field-returns
+merge_tree_field-returns t c =
+    let two : c.args.tag.number ≡ 2 = omega (arith, c.field_number.ensures, c.if-field_number-ne2.false) in
+    child_merged c.args.tag.number c.args.tag.wire_type c.args.buf.now.now c.merge_child_by.new.buf.now c.args.budget.now c.merge_child_by.new.budget c.args.depth c.args.tree.now c.tree.inside.label c.tree.inside.children.entries c.tree.view_is
+    c.merge_child_by.result c.merge_child_by.new.children.entries two c.in_ok-check_wire_type.ensures c.merge_child_by.ensures

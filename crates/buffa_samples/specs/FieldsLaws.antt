@@ -1,0 +1,265 @@
+-- What a message owes follows from what each of its fields does.
+use Rattle.std.proofs.Common.{◌≡◌, ◌⊎◌, inl, inr, ℤ, FitsSigned, pos, negsuc, ℕ, ◌+◌, ◌*◌, zero, suc, ◌<◌, ◌≤◌, Bool, true, false, List, [], ◌∷◌, ◌++◌, length, Some, None, Result, Ok, Err, refl, sym, ap, subst, ◌∙◌, arith, append_assoc, append-nil, length-append, if◌then◌else◌}
+use Rattle.std.specs.Option.{option_and_then}
+use Rattle.buffa_wire.specs.Gives.{◌>>=◌, Gives}
+use Rattle.buffa_wire.specs.Field.{IsTag, Payload, SomeField}
+use Rattle.buffa_wire.specs.Join.{Join}
+use Rattle.buffa_wire.specs.Join.Join.{none, more}
+use Rattle.buffa_wire.specs.BudgetLeft.{BudgetLeft, nothing}
+use Rattle.buffa_wire.specs.Message.{IsFieldMerged}
+use Rattle.buffa_wire.specs.Number.{IsNumber}
+use Rattle.buffa_wire.specs.Records.{Datum}
+use Rattle.buffa_wire.specs.Text.{records_text, field_text}
+use Rattle.buffa_wire.specs.Values.{int32_at, int32_of, int32_text, tag_text}
+use Rattle.buffa_bytes.specs.Varint.{TakesVarint, VarintFault}
+use Rattle.buffa_bytes.specs.declared.wire_type.WireType.{WireType}
+use Rattle.buffa_bytes.specs.declared.wire_type.WireType.TheVariants.{Varint, Fixed64, LengthDelimited, StartGroup, EndGroup, Fixed32}
+use Rattle.buffa_bytes.specs.declared.error.DecodeError.{DecodeError}
+use Rattle.buffa_bytes.specs.declared.error.DecodeError.TheVariants.{WireTypeMismatch}
+use Rattle.buffa_bytes.proofs.StepLemmas.{Agrees, agree_bind, agree_err, agree_ok, agree_weaker, bind_same}
+use Rattle.buffa_bytes.proofs.FieldLemmas.{payload_complete, payload_sound, tag_complete, tag_some, tag_sound}
+use Rattle.buffa_bytes.proofs.IntLemmas.{int32_below}
+use Rattle.buffa_bytes.proofs.ShortestLemmas.{varint_text-last, length-varint_text}
+use Rattle.buffa_bytes.proofs.VarintLemmas.{IsVarint-varint_text, varint_complete, varint_sound as varint_is_sound}
+use Rattle.std.specs.Int.{cast_unsigned, w32, w64}
+use Rattle.buffa_wire.proofs.MessageLemmas.{NoLimit, payload_no_limit, tag_no_limit, var_no_limit}
+use Rattle.buffa_map.specs.Parses.{parse_all, parse_within}
+use Rattle.buffa_map.proofs.AlongLemmas.{ok_same}
+use Rattle.buffa_map.proofs.EntryLemmas.{check_sound}
+use Rattle.buffa_samples.specs.Fields.{FieldReader, int32_field, merged_by, next_at, number_records, number_text, skipped_field, value_of, varint_field}
+
+-- ---- steps along bytes, each of which takes some
+module _ {S : Type 0} (f : S → List ℕ → Result (S × List ℕ) DecodeError) (falls : (s : S) (bs : List ℕ) (x : S × List ℕ) → f s bs ≡ Ok x → length x.1 < length bs) where
+  enough : (k m : ℕ) (s : S) (bs : List ℕ) → length bs ≤ k → length bs ≤ m → parse_within f k s bs ≡ parse_within f m s bs
+  unfolding parse_within
+  enough k m s [] h l = refl
+  enough zero m s (b ∷ bs) h l = absurd (omega arith)
+  enough (suc k) zero s (b ∷ bs) h l = absurd (omega arith)
+  enough (suc k) (suc m) s (b ∷ bs) h l = bind_same (f s (b ∷ bs)) (λ x. parse_within f k x.0 x.1) (λ x. parse_within f m x.0 x.1)
+      (λ x e. let short = falls s (b ∷ bs) x e in enough k m x.0 x.1 (omega (arith, short)) (omega (arith, short)))
+
+  turn : (s : S) (b : ℕ) (bs : List ℕ) → parse_all f s (b ∷ bs) ≡ (f s (b ∷ bs) >>= (λ x. parse_within f (length bs) x.0 x.1))
+  unfolding parse_within parse_all
+  turn s b bs = refl
+
+  whole : (s : S) (bs : List ℕ) → parse_all f s bs ≡ parse_within f (length bs) s bs
+  unfolding parse_all
+  whole s bs = refl
+
+  along_ok : (s t : S) (bs x : List ℕ) → 0 < length bs → f s bs ≡ Ok (t, x) → parse_all f s bs ≡ parse_all f t x
+  along_ok s t [] x some h = absurd (omega arith)
+  along_ok s t (b ∷ bs) x some h =
+      let short = falls s (b ∷ bs) (t, x) h in
+      turn s b bs ∙ rw h (enough (length bs) (length x) t x (omega (arith, short)) (omega arith)) ∙ sym (whole t x)
+
+  along_err : (s : S) (bs : List ℕ) (e : DecodeError) → 0 < length bs → f s bs ≡ Err e → parse_all f s bs ≡ Err e
+  along_err s [] e some h = absurd (omega arith)
+  along_err s (b ∷ bs) e some h = turn s b bs ∙ rw h refl
+
+  along_none : (s : S) → parse_all f s [] ≡ Ok s
+  unfolding parse_within parse_all
+  along_none s = refl
+
+some_of : {A : Type 0} (r : Result A DecodeError) (w : A) → value_of r ≡ Some w → r ≡ Ok w
+some_of (Ok x) w h = cc
+some_of (Err e) w h = cc
+
+-- ---- what one field owes
+-- its reading takes a payload of the grammar, or tells a fault that is no limit's
+abbrev pub IsSound : {X : Type 0} → ℕ → FieldReader X → Type 0
+IsSound {X} d field = (v : X) (n : ℕ) (w : WireType) (bs : List ℕ) → Agrees (field v n w bs) (λ x. (p : List ℕ) × Payload d n w p × (bs ≡ p ++ x.1)) NoLimit
+
+-- a payload is read the same whatever follows it
+abbrev pub Same : {X : Type 0} → (List ℕ → Result (X × List ℕ) DecodeError) → List ℕ → Type 0
+Same {X} read p = ((u : X) × ((x : List ℕ) → read (p ++ x) ≡ Ok (u, x))) ⊎ ((e : DecodeError) × ((x : List ℕ) → read (p ++ x) ≡ Err e))
+
+abbrev pub IsSame : {X : Type 0} → ℕ → FieldReader X → Type 0
+IsSame {X} d field = (v : X) (n : ℕ) (w : WireType) (p : List ℕ) → Payload d n w p → Same (field v n w) p
+
+-- ---- what the message then owes
+module _ {X : Type 0} (d : ℕ) (field : FieldReader X) (sound : IsSound d field) (same : IsSame d field) where
+  next_sound : (v : X) (bs : List ℕ) → Agrees (next_at field v bs) (λ x. (f : List ℕ) × SomeField d f × (bs ≡ f ++ x.1) × (0 < length f)) NoLimit
+  next_sound v bs = agree_bind (tag_sound bs)
+      (λ t u. agree_weaker (sound v t.0 t.1 t.2) (λ x p. (
+        u.0 ++ p.0,
+        (t.0, t.1, (u.0, p.0, u.1, p.1, refl)),
+        u.2 ∙ ap (λ z. u.0 ++ z) p.2 ∙ sym (append_assoc u.0 p.0 x.1),
+        omega (arith, tag_some u.0 t.0 t.1 u.1, length-append u.0 p.0),
+      )) (λ e h. h))
+      (λ e h. tag_no_limit bs e h)
+
+  falls : (v : X) (bs : List ℕ) (x : X × List ℕ) → next_at field v bs ≡ Ok x → length x.1 < length bs
+  falls v bs x h = let u = agree_ok (next_at field v bs) x (next_sound v bs) h in omega (arith, u.3, ap length u.2, length-append u.0 x.1)
+
+  then_joined : (k : ℕ) (v : X) (bs : List ℕ) (w : X) (r : Result (X × List ℕ) DecodeError) → next_at field v bs ≡ r → (r >>= (λ x. parse_within (next_at field) k x.0 x.1)) ≡ Ok w →
+      ((u : X) (x : List ℕ) → parse_within (next_at field) k u x ≡ Ok w → Join (SomeField d) x) → Join (SomeField d) bs
+  then_joined k v bs w (Ok x) is h again =
+      let u = agree_ok (next_at field v bs) x (next_sound v bs) is in subst (λ z. Join (SomeField d) z) (sym u.2) (more u.0 x.1 u.1 (again x.0 x.1 h))
+  then_joined k v bs w (Err e) is h again = cc
+
+  joined : (k : ℕ) (v : X) (bs : List ℕ) (w : X) → parse_within (next_at field) k v bs ≡ Ok w → Join (SomeField d) bs
+  unfolding parse_within
+  joined k v [] w h = none
+  joined zero v (b ∷ bs) w h = cc
+  joined (suc k) v (b ∷ bs) w h = then_joined k v (b ∷ bs) w (next_at field v (b ∷ bs)) refl h (λ u x q. joined k u x w q)
+
+  -- what is merged is a join of fields
+  pub fields : (v w : X) (b : List ℕ) → merged_by field v b ≡ Some w → Join (SomeField d) b
+  fields v w b h = joined (length b) v b w (sym (whole (next_at field) falls v b) ∙ some_of (parse_all (next_at field) v b) w h)
+
+  -- no bytes change nothing
+  pub empty : (v : X) → merged_by field v [] ≡ Some v
+  empty v = ap value_of (along_none (next_at field) falls v)
+
+  module _ (v : X) (n : ℕ) (w : WireType) (t : List ℕ) (tag : IsTag t n w) where
+    here : (bs : List ℕ) → next_at field v (t ++ bs) ≡ field v n w bs
+    here bs = rw (tag_complete t n w bs tag) refl
+
+    some : (bs : List ℕ) → 0 < length (t ++ bs)
+    some bs = omega (arith, tag_some t n w tag, length-append t bs)
+
+    -- a field is merged, and then what follows it
+    pub read : (u : X) (bs rest : List ℕ) → field v n w bs ≡ Ok (u, rest) → merged_by field v (t ++ bs) ≡ merged_by field u rest
+    read u bs rest h = ap value_of (along_ok (next_at field) falls v u (t ++ bs) rest (some bs) (here bs ∙ h))
+
+    -- a field is refused, and so is all
+    pub refused : (bs : List ℕ) (e : DecodeError) → field v n w bs ≡ Err e → merged_by field v (t ++ bs) ≡ None
+    refused bs e h = ap value_of (along_err (next_at field) falls v (t ++ bs) e (some bs) (here bs ∙ h))
+
+    -- a field alone
+    pub read_last : (u : X) (p : List ℕ) → field v n w (p ++ []) ≡ Ok (u, []) → merged_by field v (t ++ p) ≡ Some u
+    read_last u p h = ap (λ z. merged_by field v (t ++ z)) (sym (append-nil p)) ∙ read u (p ++ []) [] h ∙ empty u
+
+    then_rest : (p r : List ℕ) → Same (field v n w) p → merged_by field v (t ++ (p ++ r)) ≡ option_and_then (λ u. merged_by field u r) (merged_by field v (t ++ p))
+    then_rest p r (inl (u, k)) = read u (p ++ r) r (k r) ∙ sym (ap (option_and_then (λ z. merged_by field z r)) (read_last u p (k [])))
+    then_rest p r (inr (e, k)) =
+        let alone : merged_by field v (t ++ p) ≡ None = ap (λ z. merged_by field v (t ++ z)) (sym (append-nil p)) ∙ refused (p ++ []) e (k []) in
+        refused (p ++ r) e (k r) ∙ sym (ap (option_and_then (λ z. merged_by field z r)) alone)
+
+    taken_by : (u : X) (bs rest p : List ℕ) → field v n w bs ≡ Ok (u, rest) → bs ≡ p ++ rest → Same (field v n w) p → merged_by field v (t ++ p) ≡ Some u
+    taken_by u bs rest p h is (inl (x, k)) =
+        let both : (let r : Result (X × List ℕ) DecodeError = Ok (x, rest) in r ≡ Ok (u, rest)) = sym (k rest) ∙ ap (field v n w) (sym is) ∙ h in
+        let first : x ≡ u = ap (λ z. z.0) (ok_same both) in
+        read_last x p (k []) ∙ ap (λ z. Some z) first
+    taken_by u bs rest p h is (inr (e, k)) = let bad = sym (k rest) ∙ ap (field v n w) (sym is) ∙ h in cc
+
+  -- a field, and what follows it
+  pub next : (v : X) (f r : List ℕ) → SomeField d f → merged_by field v (f ++ r) ≡ option_and_then (λ w. merged_by field w r) (merged_by field v f)
+  next v f r (n, w, (t, p, tag, payload, is)) =
+      ap (merged_by field v) (ap (λ z. z ++ r) is ∙ append_assoc t p r) ∙ then_rest v n w t tag p r (same v n w p payload)
+      ∙ sym (ap (λ z. option_and_then (λ u. merged_by field u r) (merged_by field v z)) is)
+
+  -- one field, whose tag was read, is taken
+  pub taken : (v u : X) (n : ℕ) (w : WireType) (bs rest : List ℕ) → field v n w bs ≡ Ok (u, rest) →
+      (p : List ℕ) × Payload d n w p × (bs ≡ p ++ rest) × ((t : List ℕ) → IsTag t n w → merged_by field v (t ++ p) ≡ Some u)
+  taken v u n w bs rest h =
+      let q = agree_ok (field v n w bs) (u, rest) (sound v n w bs) h in
+      (q.0, q.1, q.2, λ t tag. taken_by v n w t tag u bs rest q.0 h q.2 (same v n w q.0 q.1))
+
+  -- where messages cost nothing
+  pub free : (r : Result (Unit {0}) DecodeError) (old new : X) (n : ℕ) (w : WireType) (bs rest : List ℕ) (left : BudgetLeft) → Gives (λ _. (new, rest)) r (field old n w bs) →
+      IsFieldMerged (λ _. merged_by field) (λ _ _. nothing) d old n w bs left r new left rest
+  free (Ok x) old new n w bs rest left h = let q = taken old new n w bs rest h in (q.0, q.1, q.2, λ t tag. (q.3 t tag, (omega arith, omega arith)))
+  free (Err e) old new n w bs rest left h =
+      λ t tag. ((omega arith, omega arith, omega arith, omega arith), λ ne. inr (refused old n w t tag bs e h, agree_err (field old n w bs) e (sound old n w bs) h))
+
+-- ---- fields that are passed over
+module _ {X : Type 0} (d : ℕ) (v : X) (n : ℕ) (w : WireType) where
+  pub skipped_sound : (bs : List ℕ) → Agrees (skipped_field d v n w bs) (λ x. (p : List ℕ) × Payload d n w p × (bs ≡ p ++ x.1)) NoLimit
+  skipped_sound bs = agree_bind (payload_sound d n w bs) (λ rest u. record { holds = (u.0, u.1, u.2) }) (λ e h. payload_no_limit d n w bs e h)
+
+  pub skipped_same : (p : List ℕ) → Payload d n w p → Same (skipped_field d v n w) p
+  skipped_same p h = inl (v, λ x. rw (payload_complete d n w p x h) refl)
+
+-- ---- varint fields of number m, in a field of number n, which is m
+module _ {X : Type 0} (d n m : ℕ) (put : ℕ → X) where
+  other_wire : (w : WireType) (e : DecodeError) → e ≡ WireTypeMismatch m Varint w → NoLimit e
+  other_wire w e h = subst (λ z. NoLimit z) (sym h) (λ l. l)
+
+  pub varint_sound : (w : WireType) (bs : List ℕ) → Agrees (varint_field m put w bs) (λ x. (p : List ℕ) × Payload d n w p × (bs ≡ p ++ x.1)) NoLimit
+  varint_sound w bs = agree_bind (check_sound m Varint w)
+      (λ _ wire. agree_bind (varint_is_sound bs) (λ k u. record { holds = (u.0, subst (λ z. Payload d n z u.0) (sym wire) (k.0, u.1), u.2) }) (λ e h. var_no_limit bs e h))
+      (λ e h. other_wire w e h.1)
+
+  pub varint_same : (w : WireType) (p : List ℕ) → Payload d n w p → Same (varint_field m put w) p
+  varint_same Varint p (k, h) = inl (put k, λ x. rw (varint_complete p k x h) refl)
+  varint_same Fixed64 p h = inr (WireTypeMismatch m Varint Fixed64, λ x. refl)
+  varint_same LengthDelimited p h = inr (WireTypeMismatch m Varint LengthDelimited, λ x. refl)
+  varint_same StartGroup p h = inr (WireTypeMismatch m Varint StartGroup, λ x. refl)
+  varint_same EndGroup p h = inr (WireTypeMismatch m Varint EndGroup, λ x. refl)
+  varint_same Fixed32 p h = inr (WireTypeMismatch m Varint Fixed32, λ x. refl)
+
+-- ---- int32 fields
+int32_takes : (bs : List ℕ) → Agrees (int32_at bs) (λ x. (k : ℕ) × TakesVarint bs k x.1) (VarintFault bs)
+int32_takes bs = agree_bind (varint_is_sound bs) (λ k u. record { holds = (k.0, u) }) (λ e h. h)
+
+-- of number m, in a field of number n, which is m
+module _ {X : Type 0} (d n m : ℕ) (put : ℤ → X) where
+  mismatch : (w : WireType) (e : DecodeError) → e ≡ WireTypeMismatch m Varint w → NoLimit e
+  mismatch w e h = subst (λ z. NoLimit z) (sym h) (λ l. l)
+
+  pub int32_sound : (w : WireType) (bs : List ℕ) → Agrees (int32_field m put w bs) (λ x. (p : List ℕ) × Payload d n w p × (bs ≡ p ++ x.1)) NoLimit
+  int32_sound w bs = agree_bind (check_sound m Varint w)
+      (λ _ wire. agree_bind (int32_takes bs) (λ x u. record { holds = (u.1.0, subst (λ z. Payload d n z u.1.0) (sym wire) (u.0, u.1.1), u.1.2) }) (λ e h. var_no_limit bs e h))
+      (λ e h. mismatch w e h.1)
+
+  pub int32_same : (w : WireType) (p : List ℕ) → Payload d n w p → Same (int32_field m put w) p
+  int32_same Varint p (k, h) = inl (put (int32_of k), λ x. rw (varint_complete p k x h) refl)
+  int32_same Fixed64 p h = inr (WireTypeMismatch m Varint Fixed64, λ x. refl)
+  int32_same LengthDelimited p h = inr (WireTypeMismatch m Varint LengthDelimited, λ x. refl)
+  int32_same StartGroup p h = inr (WireTypeMismatch m Varint StartGroup, λ x. refl)
+  int32_same EndGroup p h = inr (WireTypeMismatch m Varint EndGroup, λ x. refl)
+  int32_same Fixed32 p h = inr (WireTypeMismatch m Varint Fixed32, λ x. refl)
+
+-- one of two fields
+pub same_if : {X : Type 0} (f g : List ℕ → Result (X × List ℕ) DecodeError) (p : List ℕ) (b : Bool) → Same f p → Same g p → Same (λ bs. if b then f bs else g bs) p
+same_if f g p true h k = h
+same_if f g p false h k = k
+
+-- ---- the text of an int32 field
+pub zero_text : (n : ℕ) (v : ℤ) → v ≡ pos 0 → number_text n v ≡ []
+zero_text n v h = ap (number_text n) h
+
+pub some_text : (n : ℕ) (v : ℤ) → (v ≡ pos 0 → ⊥) → number_text n v ≡ tag_text n Varint ++ int32_text v
+some_text n (pos zero) h = absurd (h refl)
+some_text n (pos (suc k)) h = refl
+some_text n (negsuc k) h = refl
+
+pub number_text_records : (n : ℕ) (v : ℤ) → number_text n v ≡ records_text (number_records n v)
+number_text_records n (pos zero) = refl
+number_text_records n (pos (suc k)) = sym (append-nil (tag_text n Varint ++ int32_text (pos (suc k))))
+number_text_records n (negsuc k) = sym (append-nil (tag_text n Varint ++ int32_text (negsuc k)))
+
+records_text-append : (xs ys : List (ℕ × Datum)) → records_text (xs ++ ys) ≡ records_text xs ++ records_text ys
+records_text-append [] ys = refl
+records_text-append (x ∷ xs) ys = ap (λ (z : List ℕ). field_text x.0 x.1 ++ z) (records_text-append xs ys) ∙ sym (append_assoc (field_text x.0 x.1) (records_text xs) (records_text ys))
+
+-- the text of records and of more records
+pub both_records : (a b : List ℕ) (xs ys : List (ℕ × Datum)) → a ≡ records_text xs → b ≡ records_text ys → a ++ b ≡ records_text (xs ++ ys)
+both_records a b xs ys h k = (λ i. h i ++ k i) ∙ sym (records_text-append xs ys)
+
+-- the tag of a small number is one byte
+pub tag_one : (n : ℕ) → n < 16 → length (tag_text n Varint) ≡ 1
+tag_one n h = ap length (varint_text-last (8 * n + 0) (omega (arith, h)))
+
+pub length_tag : (n : ℕ) (v : ℤ) → n < 16 → length (tag_text n Varint ++ int32_text v) ≡ 1 + length (int32_text v)
+length_tag n v h = omega (arith, length-append (tag_text n Varint) (int32_text v), tag_one n h)
+
+pub length_number : (n : ℕ) (v : ℤ) → n < 16 → FitsSigned w32 v → length (number_text n v) ≤ 11
+length_number n (pos zero) h f = omega arith
+length_number n (pos (suc k)) h f = omega (arith, length_tag n (pos (suc k)) h, length-varint_text (cast_unsigned w64 (pos (suc k))) (int32_below (pos (suc k)) f))
+length_number n (negsuc k) h f = omega (arith, length_tag n (negsuc k) h, length-varint_text (cast_unsigned w64 (negsuc k)) (int32_below (negsuc k) f))
+
+pub number_tag : (n : ℕ) → IsNumber n → n < 16 → IsTag (tag_text n Varint) n Varint
+number_tag n is h = (is, IsVarint-varint_text (8 * n + 0) (omega (arith, h)))
+
+-- the text of an int32 field is merged, and then what follows it
+module _ {X : Type 0} (d : ℕ) (field : FieldReader X) (sound : IsSound d field) (same : IsSame d field) (n : ℕ) (number : IsNumber n) (small : n < 16) where
+  pub number_read : (v : ℤ) (u put : X) (rest : List ℕ) → (v ≡ pos 0 → u ≡ put) → (field u n Varint (int32_text v ++ rest) ≡ Ok (put, rest)) → merged_by field u (number_text n v ++ rest) ≡ merged_by field put rest
+  number_read (pos zero) u put rest h k = ap (λ z. merged_by field z rest) (h refl)
+  number_read (pos (suc m)) u put rest h k =
+      let v = pos (suc m) in
+      ap (merged_by field u) (append_assoc (tag_text n Varint) (int32_text v) rest) ∙ read d field sound same u n Varint (tag_text n Varint) (number_tag n number small) put (int32_text v ++ rest) rest k
+  number_read (negsuc m) u put rest h k =
+      let v = negsuc m in
+      ap (merged_by field u) (append_assoc (tag_text n Varint) (int32_text v) rest) ∙ read d field sound same u n Varint (tag_text n Varint) (number_tag n number small) put (int32_text v ++ rest) rest k

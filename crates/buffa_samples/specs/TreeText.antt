@@ -1,0 +1,88 @@
+-- The text, the records and the slots of a tree.
+use Rattle.std.specs.Prelude.{◌≡◌, ℕ, ℤ, FitsSigned, suc, max, List, [], ◌∷◌, ◌++◌, length, refl}
+use Rattle.std.proofs.Common.{ap}
+use Rattle.std.specs.Int.{cast_unsigned, w32, w64}
+use Rattle.std.specs.List.Sorted.{IsStrictlySortedBy}
+use Rattle.std.specs.Map.{keys_of}
+use Rattle.std.specs.Ordering.{int_cmp}
+use Rattle.buffa_wire.specs.Passes.{cap}
+use Rattle.buffa_wire.specs.Records.{Datum, bytes}
+use Rattle.buffa_map.specs.Codec.{Writing}
+use Rattle.buffa_map.specs.MessageField.{field_slots}
+use Rattle.buffa_map.specs.Pairs.{means}
+use Rattle.buffa_map.specs.Scalars.{delimited_writing, varint_writing}
+use Rattle.buffa_map.specs.Text.{entry_text, field_text, record_text}
+use Rattle.buffa_samples.specs.Flat.{value_records, value_text}
+use Rattle.buffa_samples.specs.Grown.{Grown, grown, Kids, no_kids, kid, kids, listed}
+
+-- keys are int32
+abbrev pub key_writing : Writing ℤ
+key_writing = varint_writing (cast_unsigned w64)
+
+-- a child's entry, where its text is given
+abbrev pub kid_entry : ℤ → List ℕ → List ℕ
+kid_entry k t = entry_text key_writing (delimited_writing (λ (x : List ℕ). x)) (k, t)
+
+abbrev pub kid_record : ℤ → List ℕ → List ℕ
+kid_record k t = record_text key_writing (delimited_writing (λ (x : List ℕ). x)) 2 (k, t)
+
+abbrev mutual
+  -- the label, and then a record of field 2 for each child
+  pub text : Grown → List ℕ
+  text (grown l ks) = value_text l ++ texts ks
+
+  pub texts : Kids → List ℕ
+  texts no_kids = []
+  texts (kid k t ks) = kid_record k (text t) ++ texts ks
+
+abbrev mutual
+  -- for each child the capped length of its text, and then its own slots
+  pub slots : Grown → List ℕ
+  slots (grown l ks) = slots_below ks
+
+  pub slots_below : Kids → List ℕ
+  slots_below no_kids = []
+  slots_below (kid k t ks) = cap (length (text t)) ∷ slots t ++ slots_below ks
+
+-- the records
+abbrev pub kids_records : Kids → List (ℕ × Datum)
+kids_records no_kids = []
+kids_records (kid k t ks) = (2, bytes (kid_entry k (text t))) ∷ kids_records ks
+
+abbrev pub records : Grown → List (ℕ × Datum)
+records (grown l ks) = value_records l ++ kids_records ks
+
+-- how deep messages nest
+abbrev mutual
+  pub levels : Grown → ℕ
+  levels (grown l ks) = levels_below ks
+
+  pub levels_below : Kids → ℕ
+  levels_below no_kids = 0
+  levels_below (kid k t ks) = max (suc (levels t)) (levels_below ks)
+
+-- the trees that their text reads back to: labels and keys are int32, and the keys ascend
+abbrev mutual
+  pub IsNormal : Grown → Type 0
+  IsNormal (grown l ks) = FitsSigned w32 l × IsStrictlySortedBy int_cmp (keys_of (listed ks)) × AreNormal ks
+
+  pub AreNormal : Kids → Type 0
+  AreNormal no_kids = Unit {0}
+  AreNormal (kid k t ks) = FitsSigned w32 k × IsNormal t × AreNormal ks
+
+-- what the children mean
+abbrev pub meant : List (ℤ × Grown) → List (ℤ × Grown)
+meant es = means (λ (k : ℤ). k) (λ (t : Grown). t) es
+
+pub meant-is : (es : List (ℤ × Grown)) → meant es ≡ es
+meant-is [] = refl
+meant-is (e ∷ es) = ap (λ (xs : List (ℤ × Grown)). (e.0, e.1) ∷ xs) (meant-is es)
+
+-- the children's records are the field of the map
+pub texts-field : (es : List (ℤ × Grown)) → texts (kids es) ≡ field_text key_writing (delimited_writing text) 2 (meant es)
+texts-field [] = refl
+texts-field (e ∷ es) = ap (λ (r : List ℕ). kid_record e.0 (text e.1) ++ r) (texts-field es)
+
+pub slots-field : (es : List (ℤ × Grown)) → slots_below (kids es) ≡ field_slots text slots (meant es)
+slots-field [] = refl
+slots-field (e ∷ es) = ap (λ (r : List ℕ). cap (length (text e.1)) ∷ slots e.1 ++ r) (slots-field es)

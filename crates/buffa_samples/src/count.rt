@@ -1,0 +1,139 @@
+//! A message that is a count of repeated fields.
+
+ghost use Rattle.std.specs.Prelude.{◌≡◌, ◌<◌, ◌^◌, [], refl};
+ghost use Rattle.buffa_wire.specs.Gives.{Gives};
+ghost use Rattle.buffa_wire.specs.Written.{Writes};
+ghost use Rattle.buffa_samples.specs.FieldsLaws.{empty, fields, next};
+ghost use Rattle.buffa_samples.specs.Count.{count_cost, count_field, count_merged, count_records, count_text, one_text};
+ghost use Rattle.buffa_samples.specs.CountLaws.{count_back, count_cost_some, count_same, count_sound};
+ghost use Rattle.buffa_samples.specs.CountLaws.{count_text_records};
+
+use buffa_wire::{
+    Blank, Buf, DecodeContext, DecodeError, EncodeError, EncodeSink, Message, MessageSpec,
+    SizeCache, Tag, WireType, check_wire_type, decode_varint, encode_varint, skip_field_depth,
+};
+use std::alloc::Global;
+
+/// Each field 9, a varint, counts one; other fields are passed over. It is written as so many zeros.
+///
+/// ```ignore
+/// message.merge(alloc, &[0x48, 0x00, 0x48, 0x00], ctx)?; // counts two
+/// ```
+#[derive(Drop)]
+pub struct CountMsg {
+    /// How many fields 9 there were, at most 2^64 - 1.
+    pub count: u64,
+}
+
+impl Blank for CountMsg {
+    type Meaning = u64;
+
+    ghost meaning = { λ m. m.count };
+
+    ghost blank_is = { 0 };
+
+    fn blank(_alloc: Global) -> CountMsg {
+        CountMsg { count: 0 }
+    }
+}
+
+impl MessageSpec for CountMsg {
+    const COST: usize = 8;
+
+    ghost COST = { 8 };
+
+    ghost merged = { count_merged };
+
+    ghost cost = { count_cost };
+
+    ghost text = { count_text };
+
+    ghost records = { count_records };
+
+    ghost slots = { λ _. [] };
+
+    ghost levels = { λ _. 0 };
+
+    ghost normal = { λ n. n < 2 ^ 64 };
+
+    ghost text_records = { count_text_records };
+
+    ghost merged_text = { λ d n _ h _. count_back d n h };
+
+    ghost positive = { count_cost_some };
+
+    ghost merged_empty = { λ d v. empty d (count_field d) (count_sound d) (count_same d) v };
+
+    ghost merged_fields = { λ d v w b h. fields d (count_field d) (count_sound d) (count_same d) v w b h };
+
+    ghost merged_next = { λ d v f r h. next d (count_field d) (count_sound d) (count_same d) v f r h };
+
+    ghost cost_empty = { λ d. refl };
+
+    ghost cost_next = { λ d f r _. refl };
+}
+
+// Merges the field whose tag was read.
+fn merge_count(count: &mut u64, tag: Tag, buf: &mut &[u8], depth: u32) -> Result<(), DecodeError>
+    ensures { Gives (λ _. (count.new, buf.new.now)) result
+        (count_field depth count.old tag.number tag.wire_type buf.old.now) }
+{
+    if tag.field_number() == 9 {
+        check_wire_type(tag, WireType::Varint)?;
+        decode_varint(buf)?;
+        *count = count.saturating_add(1);
+    } else {
+        skip_field_depth(tag, buf, depth)?;
+    }
+    Ok(())
+}
+
+// Writes one field.
+#[tactic(auto, using(buffa_bytes::proofs::SinkLemmas::writes_then, buffa_bytes::proofs::SinkLemmas::front_first))]
+fn write_one<S: EncodeSink>(sink: &mut S) -> Result<(), EncodeError>
+    ensures { Writes result (S.written sink.old) one_text (S.written sink.new) }
+{
+    Tag::new(9, WireType::Varint).encode(sink)?;
+    encode_varint(0, sink)
+}
+
+// Writes so many fields.
+fn write_count<S: EncodeSink>(count: u64, sink: &mut S) -> Result<(), EncodeError>
+    ensures { Writes result (S.written sink.old) (count_text count) (S.written sink.new) }
+{
+    let mut left = count;
+    'fields: while left > 0 {
+        write_one(sink)?;
+        left -= 1;
+    }
+    Ok(())
+}
+
+impl Message for CountMsg {
+    fn compute_size(&self, _cache: &mut SizeCache) -> Result<u32, EncodeError> {
+        let total = self.count.saturating_mul(2);
+        if total < 4_294_967_295 {
+            Ok(total as u32)
+        } else {
+            Ok(4_294_967_295)
+        }
+    }
+
+    fn write_to<S: EncodeSink>(
+        &self,
+        _cache: &mut SizeCache,
+        sink: &mut S,
+    ) -> Result<(), EncodeError> {
+        write_count(self.count, sink)
+    }
+
+    fn merge_field(
+        &mut self,
+        _alloc: Global,
+        tag: Tag,
+        buf: &mut &[u8],
+        ctx: DecodeContext<'_>,
+    ) -> Result<(), DecodeError> {
+        merge_count(&mut self.count, tag, buf, ctx.depth)
+    }
+}

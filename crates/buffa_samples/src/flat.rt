@@ -1,0 +1,118 @@
+//! A message of one int32.
+
+ghost use Rattle.std.specs.Prelude.{◌≡◌, [], pos, refl, FitsSigned};
+ghost use Rattle.std.specs.Int.{w32};
+ghost use Rattle.buffa_wire.specs.Gives.{Gives};
+ghost use Rattle.buffa_samples.specs.FieldsLaws.{empty, fields, next, number_text_records};
+ghost use Rattle.buffa_samples.specs.Flat.{flat_cost, flat_field, flat_merged, value_records, value_text};
+ghost use Rattle.buffa_samples.specs.FlatLaws.{flat_back, flat_cost_some, flat_same, flat_sound};
+
+use crate::int32_field::{number_len, write_number};
+use buffa_wire::types::decode_int32;
+use buffa_wire::{
+    Blank, Buf, DecodeContext, DecodeError, EncodeError, EncodeSink, Message, MessageSpec,
+    SizeCache, Tag, WireType, check_wire_type, skip_field_depth,
+};
+use std::alloc::Global;
+
+/// Field 1 is the value, an int32; other fields are passed over.
+///
+/// ```ignore
+/// merge_entry::<Int32, Msg<FlatMsg>, _, _>(alloc, &mut map, &mut rest, ctx)?;
+/// ```
+#[derive(Drop)]
+pub struct FlatMsg {
+    /// The value of the last field 1, or 0.
+    pub value: i32,
+}
+
+impl Blank for FlatMsg {
+    type Meaning = i32;
+
+    ghost meaning = { λ m. m.value };
+
+    ghost blank_is = { pos 0 };
+
+    fn blank(_alloc: Global) -> FlatMsg {
+        FlatMsg { value: 0 }
+    }
+}
+
+impl MessageSpec for FlatMsg {
+    const COST: usize = 4;
+
+    ghost COST = { 4 };
+
+    ghost merged = { flat_merged };
+
+    ghost cost = { flat_cost };
+
+    ghost text = { value_text };
+
+    ghost records = { value_records };
+
+    ghost slots = { λ _. [] };
+
+    ghost levels = { λ _. 0 };
+
+    ghost normal = { FitsSigned w32 };
+
+    ghost text_records = { number_text_records 1 };
+
+    ghost merged_text = { λ d v _ h _. flat_back d v h };
+
+    ghost positive = { flat_cost_some };
+
+    ghost merged_empty = { λ d v. empty d (flat_field d) (flat_sound d) (flat_same d) v };
+
+    ghost merged_fields = { λ d v w b h. fields d (flat_field d) (flat_sound d) (flat_same d) v w b h };
+
+    ghost merged_next = { λ d v f r h. next d (flat_field d) (flat_sound d) (flat_same d) v f r h };
+
+    ghost cost_empty = { λ d. refl };
+
+    ghost cost_next = { λ d f r _. refl };
+}
+
+// Merges the field whose tag was read.
+pub(crate) fn merge_value(
+    value: &mut i32,
+    tag: Tag,
+    buf: &mut &[u8],
+    depth: u32,
+) -> Result<(), DecodeError>
+    ensures { Gives (λ _. (value.new, buf.new.now)) result
+        (flat_field depth value.old tag.number tag.wire_type buf.old.now) }
+{
+    if tag.field_number() == 1 {
+        check_wire_type(tag, WireType::Varint)?;
+        *value = decode_int32(buf)?;
+    } else {
+        skip_field_depth(tag, buf, depth)?;
+    }
+    Ok(())
+}
+
+impl Message for FlatMsg {
+    fn compute_size(&self, _cache: &mut SizeCache) -> Result<u32, EncodeError> {
+        Ok(number_len(1, &self.value))
+    }
+
+    fn write_to<S: EncodeSink>(
+        &self,
+        _cache: &mut SizeCache,
+        sink: &mut S,
+    ) -> Result<(), EncodeError> {
+        write_number(1, &self.value, sink)
+    }
+
+    fn merge_field(
+        &mut self,
+        _alloc: Global,
+        tag: Tag,
+        buf: &mut &[u8],
+        ctx: DecodeContext<'_>,
+    ) -> Result<(), DecodeError> {
+        merge_value(&mut self.value, tag, buf, ctx.depth)
+    }
+}

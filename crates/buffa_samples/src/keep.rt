@@ -1,0 +1,153 @@
+//! A message that keeps every field.
+
+ghost use Rattle.std.specs.Prelude.{◌≡◌, [], refl, IfOk};
+ghost use Rattle.buffa_wire.specs.Gives.{GivesUnlessFull};
+ghost use Rattle.buffa_wire.specs.RecordReading.{field_at};
+ghost use Rattle.buffa_wire.specs.View.{datum_of};
+ghost use Rattle.buffa_wire.specs.Parse.{Fits};
+ghost use Rattle.buffa_wire.specs.Records.{Datum, height, records_of};
+ghost use Rattle.buffa_wire.specs.Text.{records_text};
+ghost use Rattle.buffa_samples.specs.CostLaws.{cost_empty, cost_next};
+ghost use Rattle.buffa_samples.specs.FieldsLaws.{empty, fields, next};
+ghost use Rattle.buffa_samples.specs.Keep.{keep_cost, keep_field, keep_merged, keep_need};
+ghost use Rattle.buffa_samples.specs.KeepLaws.{keep_back, keep_cost_some, keep_same, keep_sound, keep_stays};
+
+use buffa_wire::{
+    Blank, Budget, DecodeContext, DecodeError, EncodeError, EncodeSink, Message, MessageSpec,
+    SizeCache, Tag, UnknownField, UnknownFields, decode_unknown_field,
+};
+use std::alloc::Global;
+use std::marker::Model;
+
+/// No field is declared: each is kept as an unknown field, behind those that it has.
+///
+/// A field costs a slot of the budget, and so does each field in its groups.
+///
+/// ```ignore
+/// message.merge(alloc, &[0x38, 0x96, 0x01], ctx)?; // keeps field 7, the varint 150
+/// ```
+#[derive(Drop)]
+pub struct BudgetMsg {
+    /// The fields, in order.
+    pub fields: UnknownFields,
+}
+
+impl Model for BudgetMsg {
+    ghost use Rattle.std.specs.Prelude.{ℕ, List};
+    ghost use Rattle.std.specs.Coded.{coded_list, coded_ℕ, coded×};
+    ghost use Rattle.buffa_wire.specs.Code.{coded_datum};
+    ghost use Rattle.buffa_wire.specs.Records.{Datum};
+
+    ghost Value = { List (ℕ × Datum) };
+
+    ghost coded = { coded_list (coded× coded_ℕ coded_datum) };
+
+    ghost view = { λ m. m.fields.records };
+}
+
+impl Blank for BudgetMsg {
+    type Meaning = BudgetMsg;
+
+    ghost meaning = { λ m. m };
+
+    ghost blank_is = { [] };
+
+    fn blank(alloc: Global) -> BudgetMsg {
+        BudgetMsg {
+            fields: UnknownFields::new(alloc),
+        }
+    }
+}
+
+impl MessageSpec for BudgetMsg {
+    const COST: usize = 24;
+
+    ghost COST = { 24 };
+
+    ghost merged = { keep_merged };
+
+    ghost cost = { keep_cost };
+
+    ghost text = { records_text };
+
+    ghost records = { λ v. v };
+
+    ghost slots = { λ _. [] };
+
+    ghost levels = { height };
+
+    ghost normal = { λ v. Fits (records_of v) };
+
+    ghost text_records = { λ v. refl };
+
+    ghost merged_text = { λ d v f _ h. keep_back d v f h };
+
+    ghost positive = { keep_cost_some };
+
+    ghost merged_empty = { λ d v. empty d (keep_field d) (keep_sound d) (keep_same d) v };
+
+    ghost merged_fields = { λ d v w b h. fields d (keep_field d) (keep_sound d) (keep_same d) v w b h };
+
+    ghost merged_next = { λ d v f r h. next d (keep_field d) (keep_sound d) (keep_same d) v f r h };
+
+    ghost cost_empty = { λ d. cost_empty (keep_need d) d };
+
+    ghost cost_next = { λ d f r h. cost_next (keep_need d) d (keep_stays d) f r h };
+}
+
+// Reads the field whose tag was read, with so many slots, and says how many are left.
+fn read_alone(
+    alloc: Global,
+    tag: Tag,
+    buf: &mut &[u8],
+    depth: u32,
+    slots: usize,
+) -> Result<(UnknownField, usize), DecodeError>
+    ensures reads { GivesUnlessFull (λ x. (datum_of x.0.payload, x.1, buf.new.now)) result
+        (field_at depth slots tag.number tag.wire_type buf.old.now) }
+    ensures number { IfOk result (λ x. x.0.number ≡ tag.number) }
+{
+    let mut own = Budget::new(slots);
+    let lent = DecodeContext {
+        depth,
+        budget: &mut own,
+    };
+    let field = decode_unknown_field(alloc, tag, buf, lent)?;
+    Ok((field, own.unknown_left()))
+}
+
+impl Message for BudgetMsg {
+    fn compute_size(&self, _cache: &mut SizeCache) -> Result<u32, EncodeError> {
+        let total = self.fields.encoded_len();
+        if total < 4_294_967_295 {
+            Ok(total as u32)
+        } else {
+            Ok(4_294_967_295)
+        }
+    }
+
+    fn write_to<S: EncodeSink>(
+        &self,
+        _cache: &mut SizeCache,
+        sink: &mut S,
+    ) -> Result<(), EncodeError> {
+        self.fields.write_to(sink)
+    }
+
+    // What is refused spends nothing.
+    fn merge_field(
+        &mut self,
+        alloc: Global,
+        tag: Tag,
+        buf: &mut &[u8],
+        ctx: DecodeContext<'_>,
+    ) -> Result<(), DecodeError> {
+        let DecodeContext { depth, budget } = ctx;
+        let (field, left) = read_alone(alloc, tag, buf, depth, budget.unknown_left())?;
+        let Ok(()) = self.fields.push(field) else {
+            return Err(DecodeError::OutOfMemory);
+        };
+        *budget = Budget::new(left).with_element_memory(budget.memory_left());
+        Ok(())
+    }
+}

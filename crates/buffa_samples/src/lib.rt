@@ -1,0 +1,19 @@
+//! Types that a program would write by hand over the crates below, each proved to keep their laws.
+//!
+//! [`word`] is a key type of one's own, [`hues`] has two enums, of which one declares more; [`flat`], [`two`],
+//! [`count`], [`keep`] and [`tree`] are messages. [`round_trip`] takes a map through its bytes and back, and
+//! [`passed_on`] through a reader that does not know all its values.
+#![tactic(auto)]
+
+pub mod count;
+pub mod flat;
+#[cfg(test)]
+mod guide;
+pub mod hues;
+mod int32_field;
+pub mod keep;
+pub mod passed_on;
+pub mod round_trip;
+pub mod tree;
+pub mod two;
+pub mod word;

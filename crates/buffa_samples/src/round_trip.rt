@@ -1,0 +1,116 @@
+//! A map through its bytes and back: whatever the codecs, the storage and the order of its walk.
+
+ghost use Rattle.std.specs.Prelude.{◌≡◌, ◌+◌, [], IfErr, OnOk, IsPermutation};
+ghost use Rattle.buffa_wire.specs.Number.{IsNumber};
+ghost use Rattle.buffa_map.specs.Pairs.{SamePairs};
+ghost use Rattle.buffa_map.specs.Text.{AllHold};
+ghost use Rattle.buffa_samples.specs.Letters.{same_letters, spelled};
+ghost use Rattle.buffa_samples.specs.RoundTrip.{EachWalk, RefusesTrip, flag_writing, word_writing};
+
+use crate::word::Word;
+use buffa_map::laws::{one_reading, plain_entries_need_units, written_is_read};
+use buffa_map::map_codec::{
+    Bool, MapCodec, MapStorage, MapWalk, ProtoStringMap, read_map_field, write_field,
+};
+use buffa_wire::{Budget, DecodeContext, DecodeError, EncodeError};
+use std::alloc::Global;
+use std::collections::HashMap;
+
+/// Why a map didn't come back.
+#[derive(Debug, Drop)]
+pub enum TripFault {
+    /// It couldn't be written.
+    Encode(EncodeError),
+    /// Its bytes couldn't be read, since memory ran out or of budget.
+    Decode(DecodeError),
+}
+
+/// Writes a map as a field, and reads the field into an empty map: it then holds the same pairs, and the
+/// same stored keys.
+///
+/// # Errors
+/// [`EncodeError::MessageTooLarge`] only where the entry of a pair has 2^64 bytes or more;
+/// [`DecodeError::ElementMemoryLimitExceeded`] only where the pairs cost more than 268,435,456 units; and
+/// out of memory, in either.
+///
+/// ```ignore
+/// through_bytes::<ProtoStringMap<Word>, Bool, _>(alloc, 5, &words, &mut copy)?;
+/// ```
+pub fn through_bytes<
+    'a,
+    KC: MapCodec,
+    VC: MapCodec,
+    C: MapWalk<'a> + MapStorage<Key = KC::Value, Value = VC::Value>,
+>(alloc: Global, number: u32, map: &'a C, copy: &mut C) -> Result<(), TripFault>
+where
+    KC::Value: 'a,
+    VC::Value: 'a,
+    requires number { IsNumber number }
+    requires empty { C.pairs copy.old ≡ [] }
+    requires normal { EachWalk (C.walks map.now) (AllHold KC.normal VC.normal) }
+    ensures ok { OnOk result (SamePairs C.equal (C.pairs map.now) (C.pairs copy.new)) }
+    ensures err { IfErr result (RefusesTrip KC.writing VC.writing (KC.COST + VC.COST) (C.walks map.now)) }
+{
+    let mut text = Vec::new(alloc);
+    match write_field::<KC, VC, C, _>(map, number, &mut text) {
+        Ok(()) => {}
+        Err(error) => return Err(TripFault::Encode(error)),
+    }
+    let mut budget = Budget::new(0);
+    let mut rest = text.as_slice();
+    let ctx = DecodeContext::new(0, &mut budget);
+    written_is_read::<KC, VC, C>();
+    one_reading::<KC, VC>();
+    plain_entries_need_units::<KC, VC>();
+    match read_map_field::<KC, VC, C, _>(alloc, copy, number, &mut rest, ctx, None) {
+        Ok(()) => Ok(()),
+        Err(error) => Err(TripFault::Decode(error)),
+    }
+}
+
+/// The same of words in a map whose order is open, where `Bee` and `BEE` are one key: each word comes back
+/// as it was spelled.
+///
+/// # Errors
+/// Those of [`through_bytes`], where a pair costs 25 units.
+///
+/// ```ignore
+/// words_through_bytes(alloc, &words, &mut copy)?;
+/// ```
+pub fn words_through_bytes(
+    alloc: Global,
+    words: &HashMap<Word, bool>,
+    copy: &mut HashMap<Word, bool>,
+) -> Result<(), TripFault>
+    requires { copy.old.entries ≡ [] }
+    ensures ok { OnOk result (SamePairs same_letters (spelled words.now.entries) (spelled copy.new.entries)) }
+    ensures err { IfErr result (RefusesTrip word_writing flag_writing 25 (IsPermutation (spelled words.now.entries))) }
+{
+    through_bytes::<ProtoStringMap<Word>, Bool, HashMap<Word, bool>>(alloc, 1, words, copy)
+}
+
+#[cfg(test)]
+mod tests {
+    use super::words_through_bytes;
+    use crate::word::Word;
+    use buffa_map::map_codec::MapStorage;
+    use std::collections::HashMap;
+    use std::test::Fail;
+
+    #[test]
+    fn words_come_back(rt: HostRuntime) -> Result<(), Fail> {
+        let mut words: HashMap<Word, bool> = HashMap::new(rt.alloc());
+        for (text, value) in [("Bee", false), ("a", true), ("BEE", true)] {
+            let text = String::from_str(rt.alloc(), text)?;
+            words.storage_insert(Word { text }, value)?;
+        }
+        let mut copy: HashMap<Word, bool> = HashMap::new(rt.alloc());
+        assert!(rt; words_through_bytes(rt.alloc(), &words, &mut copy).is_ok());
+        assert_eq!(rt; copy.storage_len(), 2);
+        for (word, value) in &copy {
+            assert!(rt; *value);
+            assert!(rt; word.text.as_str() == "Bee" || word.text.as_str() == "a");
+        }
+        Ok(())
+    }
+}

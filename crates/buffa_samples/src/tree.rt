@@ -1,0 +1,288 @@
+//! A message that holds itself.
+
+ghost use Rattle.std.specs.Prelude.{pos};
+ghost use Rattle.buffa_wire.specs.Passes.{IsNext, IsSized, IsWritten};
+ghost use Rattle.std.specs.BTreeMap.{values};
+ghost use Rattle.std.specs.List.{Contains};
+ghost use Rattle.buffa_map.specs.MessageField.{IsFieldWritten, field_slots};
+ghost use Rattle.std.specs.Prelude.{◌≡◌, ◌+◌};
+ghost use Rattle.buffa_wire.specs.Message.{IsFieldMerged, IsMerged};
+ghost use Rattle.buffa_samples.specs.TreeMeaning.{IsChildMerged, cost, merged};
+ghost use Rattle.buffa_samples.specs.TreeText.{key_writing, meant, slots, text};
+
+use crate::flat::merge_value;
+use crate::int32_field::{number_len, write_number};
+use buffa_map::map_codec::{
+    Int32, merge_message_entry_by, message_field_len_by, write_message_field_by,
+};
+use buffa_wire::{
+    Blank, Budget, Buf, DecodeContext, DecodeError, EncodeError, EncodeSink, Message, MessageSpec,
+    SizeCache, Tag, WireType, check_wire_type,
+};
+use std::alloc::Global;
+use std::collections::BTreeMap;
+use std::marker::Model;
+
+/// Field 1 is the label, an int32; field 2 the children, by int32 keys; other fields are passed over.
+#[derive(Drop)]
+pub struct Tree {
+    /// The label of the last field 1, or 0.
+    pub label: i32,
+    /// The children by their keys.
+    pub children: BTreeMap<i32, Tree>,
+}
+
+impl Model for Tree {
+    ghost use Rattle.buffa_samples.specs.Grown.{Grown, grown, grown_code, height, kids};
+
+    ghost Value = { Grown };
+
+    ghost coded = { grown_code };
+
+    ghost view = { λ t. grown t.label (kids t.children.entries) };
+
+    ghost size = { height };
+
+    ghost use Rattle.buffa_samples.specs.GrownFalls.{most-heights};
+    ghost use Rattle.std.proofs.Common.{arith};
+
+    ghost size_decreases = { λ t h. omega (arith, most-heights t.children.entries) };
+}
+
+impl Blank for Tree {
+    ghost use Rattle.buffa_samples.specs.Grown.{grown, no_kids};
+
+    type Meaning = Tree;
+
+    ghost meaning = { λ t. t };
+
+    ghost blank_is = { grown (pos 0) no_kids };
+
+    fn blank(alloc: Global) -> Tree {
+        Tree {
+            label: 0,
+            children: BTreeMap::new(alloc),
+        }
+    }
+}
+
+impl MessageSpec for Tree {
+    ghost use Rattle.std.proofs.Common.{arith};
+    ghost use Rattle.buffa_samples.specs.TreeText.{IsNormal, levels, records};
+    ghost use Rattle.buffa_samples.specs.TreeBack.{back};
+    ghost use Rattle.buffa_samples.specs.TreeLaws.{cost_empty, cost_next, text_records};
+    ghost use Rattle.buffa_samples.specs.TreeLaws.{merged_empty, merged_fields, merged_next};
+
+    const COST: usize = 32;
+
+    ghost COST = { 32 };
+
+    ghost merged = { merged };
+
+    ghost cost = { cost };
+
+    ghost text = { text };
+
+    ghost records = { records };
+
+    ghost slots = { slots };
+
+    ghost levels = { levels };
+
+    ghost normal = { IsNormal };
+
+    ghost text_records = { text_records };
+
+    ghost merged_text = { back };
+
+    ghost positive = { omega arith };
+
+    ghost merged_empty = { merged_empty };
+
+    ghost merged_fields = { merged_fields };
+
+    ghost merged_next = { merged_next };
+
+    ghost cost_empty = { cost_empty };
+
+    ghost cost_next = { cost_next };
+}
+
+impl Message for Tree {
+    fn compute_size(&self, cache: &mut SizeCache) -> Result<u32, EncodeError> {
+        size_tree(self, cache)
+    }
+
+    fn write_to<S: EncodeSink>(
+        &self,
+        cache: &mut SizeCache,
+        sink: &mut S,
+    ) -> Result<(), EncodeError> {
+        write_tree(self, cache, sink)
+    }
+
+    fn merge_field(
+        &mut self,
+        alloc: Global,
+        tag: Tag,
+        buf: &mut &[u8],
+        ctx: DecodeContext<'_>,
+    ) -> Result<(), DecodeError> {
+        let DecodeContext { depth, budget } = ctx;
+        merge_tree_field(alloc, self, tag, buf, depth, budget)
+    }
+}
+
+/// The size pass: the length of the text, and the slots of the children appended.
+pub fn size_tree(tree: &Tree, cache: &mut SizeCache) -> Result<u32, EncodeError>
+    ensures { IsSized (text tree.now) (slots tree.now) cache.old result cache.new }
+{
+    let children = message_field_len_by::<Int32, Tree, BTreeMap<i32, Tree>, _>(
+        &tree.children,
+        1,
+        cache,
+        |child: &Tree, cache: &mut SizeCache| -> Result<u32, EncodeError>
+            ensures { IsSized (text child.now) (slots child.now) cache.old result cache.new }
+        { size_tree(child, cache) },
+    )?;
+    let total = children.saturating_add(u64::from(number_len(1, &tree.label)));
+    if total < 4_294_967_295 {
+        Ok(total as u32)
+    } else {
+        Ok(4_294_967_295)
+    }
+}
+
+// The write pass of the children, by a function that writes a child. Its contract names no trait, so that the goals of
+// the recursion stay small.
+fn write_children_by<S: EncodeSink, F>(
+    children: &BTreeMap<i32, Tree>,
+    cache: &mut SizeCache,
+    sink: &mut S,
+    write: F,
+) -> Result<(), EncodeError>
+where
+    F: Fn(&Tree, &mut SizeCache, &mut S) -> Result<(), EncodeError>,
+    requires next { IsNext (field_slots text slots (meant children.now.entries)) cache.old }
+    requires may { (x : _) (c : _) (s : _) → Contains (values children.now) x.now → IsNext (slots x.now) c.now →
+        F.pre write x c s }
+    requires keeps { (x : _) (c : _) (s : _) (r : _) (d : _) (t : _) → Contains (values children.now) x.now →
+        F.post write x c s r d t → IsWritten (text x.now) (slots x.now) c.now (S.written s.now) r d.now
+        (S.written t.now) }
+    ensures { IsFieldWritten key_writing text slots 2 (meant children.now.entries) cache.old (S.written sink.old)
+        result cache.new (S.written sink.new) }
+{
+    write_message_field_by::<Int32, Tree, BTreeMap<i32, Tree>, S, F>(
+        children, 2, cache, sink, write,
+    )
+}
+
+/// The write pass: the text, and the slots of the children consumed.
+pub fn write_tree<S: EncodeSink>(
+    tree: &Tree,
+    cache: &mut SizeCache,
+    sink: &mut S,
+) -> Result<(), EncodeError>
+    requires { IsNext (slots tree.now) cache.old }
+    ensures { IsWritten (text tree.now) (slots tree.now) cache.old (S.written sink.old) result cache.new
+        (S.written sink.new) }
+{
+    write_number(1, &tree.label, sink)?;
+    write_children_by(
+        &tree.children,
+        cache,
+        sink,
+        |child: &Tree, cache: &mut SizeCache, sink: &mut S| -> Result<(), EncodeError>
+            requires { IsNext (slots child.now) cache.old }
+            ensures { IsWritten (text child.now) (slots child.now) cache.old (S.written sink.old) result cache.new
+                (S.written sink.new) }
+        { write_tree(child, cache, sink) },
+    )
+}
+
+// Merges the entry of a child, by a function that merges the child's bytes. Its contract names no trait, so that the
+// goals of the recursion stay small; the two lengths are there since they tell that the keys ascend.
+fn merge_child_by<F>(
+    alloc: Global,
+    children: &mut BTreeMap<i32, Tree>,
+    buf: &mut &[u8],
+    depth: u32,
+    budget: &mut Budget,
+    merge: F,
+) -> Result<(), DecodeError>
+where
+    F: Fn(&mut Tree, &[u8], u32, &mut Budget) -> Result<(), DecodeError>,
+    requires may { (x : _) (b : _) (d : _) (w : _) → d + 1 ≡ depth → F.pre merge x b d w }
+    requires keeps { (x : _) (b : _) (d : _) (w : _) (r : _) (y : _) (v : _) → d + 1 ≡ depth →
+        F.post merge x b d w r y v → IsMerged (merged d x.now b.now) (cost d b.now) w.now r y.now v.now }
+    ensures { IsChildMerged depth children.old.entries buf.old.now budget.old result children.new.entries budget.new
+        buf.new.now }
+{
+    let _old = children.len();
+    let lent = DecodeContext {
+        depth,
+        budget: &mut *budget,
+    };
+    let answer = merge_message_entry_by::<Int32, Tree, BTreeMap<i32, Tree>, &[u8], F>(
+        alloc, children, buf, lent, merge,
+    );
+    let _new = children.len();
+    answer
+}
+
+// Merges the field whose tag was read.
+#[cycle(merge)]
+fn merge_tree_field(
+    alloc: Global,
+    tree: &mut Tree,
+    tag: Tag,
+    buf: &mut &[u8],
+    depth: u32,
+    budget: &mut Budget,
+) -> Result<(), DecodeError>
+    ensures { IsFieldMerged merged cost depth tree.old tag.number tag.wire_type buf.old.now budget.old result tree.new
+        budget.new buf.new.now }
+{
+    if tag.field_number() != 2 {
+        return merge_value(&mut tree.label, tag, buf, depth);
+    }
+    check_wire_type(tag, WireType::LengthDelimited)?;
+    merge_child_by(
+        alloc,
+        &mut tree.children,
+        buf,
+        depth,
+        budget,
+        |child: &mut Tree, bytes: &[u8], depth: u32, budget: &mut Budget| -> Result<(), DecodeError>
+            ensures { IsMerged (merged depth child.old bytes.now) (cost depth bytes.now) budget.old result child.new
+                budget.new }
+        { merge_tree(alloc, child, bytes, depth, budget) },
+    )
+}
+
+/// Merges the fields that the bytes are, all of them, where so many levels may still open: a child is one level
+/// deeper. A field 2 costs 36 units of element memory, and what its child costs.
+///
+/// # Errors
+/// Those of [`Message::merge`].
+///
+/// ```ignore
+/// merge_tree(alloc, &mut tree, &[0x08, 0x05], RECURSION_LIMIT, &mut budget)?;
+/// ```
+#[cycle(merge)]
+pub fn merge_tree(
+    alloc: Global,
+    tree: &mut Tree,
+    bytes: &[u8],
+    depth: u32,
+    budget: &mut Budget,
+) -> Result<(), DecodeError>
+    ensures { IsMerged (merged depth tree.old bytes.now) (cost depth bytes.now) budget.old result tree.new budget.new }
+{
+    let mut rest = bytes;
+    while rest.remaining() > 0 {
+        let tag = Tag::decode(&mut rest)?;
+        merge_tree_field(alloc, tree, tag, &mut rest, depth, budget)?;
+    }
+    Ok(())
+}

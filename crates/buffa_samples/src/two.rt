@@ -1,0 +1,128 @@
+//! A message of two int32.
+
+ghost use Rattle.std.specs.Prelude.{◌≡◌, [], pos, refl, FitsSigned};
+ghost use Rattle.std.specs.Int.{w32};
+ghost use Rattle.buffa_wire.specs.Gives.{Gives};
+ghost use Rattle.buffa_samples.specs.FieldsLaws.{empty, fields, next};
+ghost use Rattle.buffa_samples.specs.Two.{two_cost, two_field, two_merged, two_records, two_text};
+ghost use Rattle.buffa_samples.specs.TwoLaws.{two_back, two_cost_some, two_same, two_sound, two_text_records};
+
+use crate::int32_field::{number_len, write_number};
+use buffa_wire::types::decode_int32;
+use buffa_wire::{
+    Blank, Buf, DecodeContext, DecodeError, EncodeError, EncodeSink, Message, MessageSpec,
+    SizeCache, Tag, WireType, check_wire_type, skip_field_depth,
+};
+use std::alloc::Global;
+
+/// Fields 1 and 2 are its values, both int32; other fields are passed over.
+///
+/// ```ignore
+/// merge_entry::<Int32, Msg<TestMsg>, _, _>(alloc, &mut map, &mut rest, ctx)?;
+/// ```
+#[derive(Drop)]
+pub struct TestMsg {
+    /// The value of the last field 1, or 0.
+    pub a: i32,
+    /// The value of the last field 2, or 0.
+    pub b: i32,
+}
+
+impl Blank for TestMsg {
+    type Meaning = (i32, i32);
+
+    ghost meaning = { λ m. (m.a, m.b) };
+
+    ghost blank_is = { (pos 0, pos 0) };
+
+    fn blank(_alloc: Global) -> TestMsg {
+        TestMsg { a: 0, b: 0 }
+    }
+}
+
+impl MessageSpec for TestMsg {
+    const COST: usize = 32;
+
+    ghost COST = { 32 };
+
+    ghost merged = { two_merged };
+
+    ghost cost = { two_cost };
+
+    ghost text = { two_text };
+
+    ghost records = { two_records };
+
+    ghost slots = { λ _. [] };
+
+    ghost levels = { λ _. 0 };
+
+    ghost normal = { λ v. FitsSigned w32 v.0 × FitsSigned w32 v.1 };
+
+    ghost text_records = { two_text_records };
+
+    ghost merged_text = { λ d v _ h _. two_back d v h.0 h.1 };
+
+    ghost positive = { two_cost_some };
+
+    ghost merged_empty = { λ d v. empty d (two_field d) (two_sound d) (two_same d) v };
+
+    ghost merged_fields = { λ d v w b h. fields d (two_field d) (two_sound d) (two_same d) v w b h };
+
+    ghost merged_next = { λ d v f r h. next d (two_field d) (two_sound d) (two_same d) v f r h };
+
+    ghost cost_empty = { λ d. refl };
+
+    ghost cost_next = { λ d f r _. refl };
+}
+
+// Merges the field whose tag was read.
+fn merge_values(
+    a: &mut i32,
+    b: &mut i32,
+    tag: Tag,
+    buf: &mut &[u8],
+    depth: u32,
+) -> Result<(), DecodeError>
+    ensures { Gives (λ _. ((a.new, b.new), buf.new.now)) result
+        (two_field depth (a.old, b.old) tag.number tag.wire_type buf.old.now) }
+{
+    match tag.field_number() {
+        1 => {
+            check_wire_type(tag, WireType::Varint)?;
+            *a = decode_int32(buf)?;
+        }
+        2 => {
+            check_wire_type(tag, WireType::Varint)?;
+            *b = decode_int32(buf)?;
+        }
+        _ => skip_field_depth(tag, buf, depth)?,
+    }
+    Ok(())
+}
+
+impl Message for TestMsg {
+    fn compute_size(&self, _cache: &mut SizeCache) -> Result<u32, EncodeError> {
+        Ok(number_len(1, &self.a) + number_len(2, &self.b))
+    }
+
+    #[tactic(auto, using(buffa_bytes::proofs::SinkLemmas::writes_then, buffa_bytes::proofs::SinkLemmas::front_first))]
+    fn write_to<S: EncodeSink>(
+        &self,
+        _cache: &mut SizeCache,
+        sink: &mut S,
+    ) -> Result<(), EncodeError> {
+        write_number(1, &self.a, sink)?;
+        write_number(2, &self.b, sink)
+    }
+
+    fn merge_field(
+        &mut self,
+        _alloc: Global,
+        tag: Tag,
+        buf: &mut &[u8],
+        ctx: DecodeContext<'_>,
+    ) -> Result<(), DecodeError> {
+        merge_values(&mut self.a, &mut self.b, tag, buf, ctx.depth)
+    }
+}

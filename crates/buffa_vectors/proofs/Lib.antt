@@ -1,3 +1,0 @@
-pub mod NormalLemmas
-pub mod TreeSizes
-pub mod TripLemmas

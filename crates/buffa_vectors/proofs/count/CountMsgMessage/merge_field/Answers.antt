@@ -1,9 +1,0 @@
-use Rattle.buffa_vectors.specs.FieldsLaws.{free}
-use Rattle.buffa_vectors.specs.Count.{count_field}
-use Rattle.buffa_vectors.specs.CountLaws.{count_same, count_sound}
-use Rattle.buffa_vectors.proofs.count.CountMsgMessage.merge_field.Goals as goal
-
-pub returns : goal.returns
-returns c =
-    let d = c.args.ctx.depth in
-    free d (count_field d) (count_sound d) (count_same d) c.merge_count.result c.args.self.now.count c.merge_count.new.count c.args.tag.number c.args.tag.wire_type c.args.buf.now.now c.merge_count.new.buf.now c.args.ctx.budget.now c.merge_count.ensures

@@ -1,0 +1,111 @@
+-- Lists of pairs in the order of their keys: one map has one such list.
+use Rattle.std.proofs.Common.{◌≡◌, ℤ, true, false, cond, List, [], ◌∷◌, Option, Some, None, refl, sym, ap, ◌∙◌, true≢false, inl, inr}
+use Rattle.std.proofs.lemmas.Bool.{cases_Bool}
+use Rattle.std.specs.Prelude.{is_some}
+use Rattle.std.specs.BTreeMap.{insert_entry}
+use Rattle.std.specs.Cmp.{IsTotalOrder, eq_by_cmp_equiv}
+use Rattle.std.specs.List.{AllByRecursion}
+use Rattle.std.specs.List.Sorted.{IsStrictlySortedBy}
+use Rattle.std.specs.Map.{keys_of, lookup_entry}
+use Rattle.std.specs.Ordering.{eq_by_cmp, int_cmp, int_eq, is_eq, ordering_reverse, match_ordering}
+use Rattle.std.specs.declared.cmp.Ordering.{Ordering}
+use Rattle.std.specs.declared.cmp.Ordering.TheVariants.{Less, Equal, Greater}
+use Rattle.std.proofs.lemmas.Cmp.{int_cmp_total}
+use Rattle.std.proofs.lemmas.Bool.Decides.{Decides-int_eq}
+use Rattle.std.proofs.lemmas.Map.Entries.{none_below_head, none_past_head}
+use Rattle.std.proofs.lemmas.Map.Keys.{IsDistinct-from_sorted, sorted_tail}
+use Rattle.buffa_map.specs.Pairs.{SamePairs}
+use Rattle.buffa_map.proofs.PutLemmas.{key_or, lookup_entry-insert_entry, lookup_entry-none}
+use Rattle.buffamap.specs.Rewrite.{Pair, in_order}
+
+some_is_some : {A : Type 0} (x : A) → None ≡ Some x → ⊥
+some_is_some x e = true≢false (sym (ap is_some e))
+
+itself : {K : Type 0} {cmp : K → K → Ordering} → IsTotalOrder cmp → (q : K) → eq_by_cmp cmp q q ≡ true
+itself o q = (eq_by_cmp_equiv o).refl q
+
+module _ {K V : Type 0} {cmp : K → K → Ordering} (o : IsTotalOrder cmp) where
+  -- the first pair is found by a key that is equal to its own
+  head_found : (q : K) (e : K × V) (es : List (K × V)) → eq_by_cmp cmp q e.0 ≡ true → lookup_entry (eq_by_cmp cmp q) (e ∷ es) ≡ Some e
+  head_found q e es h = rw h refl
+
+  head_passed : (q : K) (e : K × V) (es : List (K × V)) → eq_by_cmp cmp q e.0 ≡ false → lookup_entry (eq_by_cmp cmp q) (e ∷ es) ≡ lookup_entry (eq_by_cmp cmp q) es
+  head_passed q e es h = rw h refl
+
+  below : (p q : K × V) (m l : List (K × V)) → IsStrictlySortedBy cmp (keys_of (q ∷ l)) → lookup_entry (eq_by_cmp cmp p.0) (p ∷ m) ≡ lookup_entry (eq_by_cmp cmp p.0) (q ∷ l) → cmp p.0 q.0 ≡ Less → ⊥
+  below p q m l s h less = some_is_some p (sym (lookup_entry-none _ (q ∷ l) (none_below_head o p.0 q l s less)) ∙ sym h ∙ head_found p.0 p m (itself o p.0))
+
+  tails : (p q : K × V) (m l : List (K × V)) → IsStrictlySortedBy cmp (keys_of (p ∷ m)) → IsStrictlySortedBy cmp (keys_of (q ∷ l)) → SamePairs (eq_by_cmp cmp) (p ∷ m) (q ∷ l) → cmp p.0 q.0 ≡ Equal → SamePairs (eq_by_cmp cmp) m l
+  tails p q m l s t h e k = elim (cases_Bool (eq_by_cmp cmp k p.0)) [
+    | inl y ↦
+        lookup_entry-none _ m (none_past_head (eq_by_cmp_equiv o) k p m (IsDistinct-from_sorted cmp (keys_of (p ∷ m)) s) y)
+        ∙ sym (lookup_entry-none _ l (none_past_head (eq_by_cmp_equiv o) k q l (IsDistinct-from_sorted cmp (keys_of (q ∷ l)) t) (sym (alike k) ∙ y)))
+    | inr n ↦ sym (head_passed k p m n) ∙ h k ∙ head_passed k q l (sym (alike k) ∙ n)
+  ]
+    where
+      alike : (k : K) → eq_by_cmp cmp k p.0 ≡ eq_by_cmp cmp k q.0
+      alike k = (eq_by_cmp_equiv o).symm k p.0 ∙ (eq_by_cmp_equiv o).congr p.0 q.0 k (ap is_eq e) ∙ (eq_by_cmp_equiv o).symm q.0 k
+
+  -- one map, in order in two lists: they are one list
+  pub same_sorted : (m l : List (K × V)) → IsStrictlySortedBy cmp (keys_of m) → IsStrictlySortedBy cmp (keys_of l) → SamePairs (eq_by_cmp cmp) m l → m ≡ l
+  same_sorted [] [] s t h = refl
+  same_sorted [] (q ∷ l) s t h = absurd (some_is_some q (h q.0 ∙ head_found q.0 q l (itself o q.0)))
+  same_sorted (p ∷ m) [] s t h = absurd (some_is_some p (sym (h p.0) ∙ head_found p.0 p m (itself o p.0)))
+  same_sorted (p ∷ m) (q ∷ l) s t h = by (cmp p.0 q.0) refl (same_sorted m l (sorted_tail cmp p.0 (keys_of m) s) (sorted_tail cmp q.0 (keys_of l) t))
+    where
+      by : (r : Ordering) → cmp p.0 q.0 ≡ r → (SamePairs (eq_by_cmp cmp) m l → m ≡ l) → p ∷ m ≡ q ∷ l
+      by Less e again = absurd (below p q m l t (h p.0) e)
+      by Equal e again =
+          let head : p ≡ q = ap (λ (x : Option (K × V)). elim x as (λ _. K × V) [ Some y ↦ y | None ↦ p ]) (sym (head_found p.0 p m (itself o p.0)) ∙ h p.0 ∙ head_found p.0 q l (ap is_eq e)) in
+          rw (head, again (tails p q m l s t h e)) refl
+      by Greater e again = absurd (below q p l m s (sym (h q.0)) (o.antisymm q.0 p.0 ∙ ap ordering_reverse e))
+
+  -- what is above x stays so, where what is inserted is
+  stays_above : (x k : K) (v : V) (es : List (K × V)) → AllByRecursion (λ z. cmp x z ≡ Less) (keys_of es) → cmp x k ≡ Less → AllByRecursion (λ z. cmp x z ≡ Less) (keys_of (insert_entry cmp es k v))
+  stays_above x k v [] a h = (h, tt)
+  stays_above x k v (e ∷ es) a h = by (cmp k e.0) (stays_above x k v es a.1 h)
+    where
+      by : (r : Ordering) → AllByRecursion (λ z. cmp x z ≡ Less) (keys_of (insert_entry cmp es k v)) → AllByRecursion (λ z. cmp x z ≡ Less) (keys_of (match_ordering r ((k, v) ∷ e ∷ es) ((e.0, v) ∷ es) (e ∷ insert_entry cmp es k v)))
+      by Less again = (h, (a.0, a.1))
+      by Equal again = a
+      by Greater again = (a.0, again)
+
+  -- an insert keeps the order
+  pub sorted_insert : (es : List (K × V)) (k : K) (v : V) → IsStrictlySortedBy cmp (keys_of es) → IsStrictlySortedBy cmp (keys_of (insert_entry cmp es k v))
+  unfolding IsStrictlySortedBy
+  sorted_insert [] k v s = (tt, tt)
+  sorted_insert (e ∷ es) k v s = by (cmp k e.0) refl (sorted_insert es k v s.1)
+    where
+      under : (x y : K) (ks : List K) → cmp x y ≡ Less → AllByRecursion (λ z. cmp y z ≡ Less) ks → AllByRecursion (λ z. cmp x z ≡ Less) ks
+      under x y [] h a = tt
+      under x y (z ∷ ks) h a = (o.trans x y z h a.0, under x y ks h a.1)
+
+      by : (r : Ordering) → cmp k e.0 ≡ r → IsStrictlySortedBy cmp (keys_of (insert_entry cmp es k v)) → IsStrictlySortedBy cmp (keys_of (match_ordering r ((k, v) ∷ e ∷ es) ((e.0, v) ∷ es) (e ∷ insert_entry cmp es k v)))
+      by Less h again = ((h, under k e.0 (keys_of es) h s.0), s)
+      by Equal h again = s
+      by Greater h again = (stays_above e.0 k v es s.0 (o.antisymm e.0 k ∙ ap ordering_reverse h), again)
+
+-- a number that is found is the number that was sought
+found_itself : {V : Type 0} (q : ℤ) (es : List (ℤ × V)) → key_or q (lookup_entry (int_eq q) es) ≡ q
+found_itself q [] = refl
+found_itself {V} q (e ∷ es) = elim (cases_Bool (int_eq q e.0)) [
+  | inl y ↦ rw y (sym ((Decides-int_eq q e.0).0 y))
+  | inr n ↦ rw n (found_itself q es)
+]
+
+-- the pairs in the order of their keys are in order, and the same pairs
+pub in_order-sorted : (ps : List Pair) → IsStrictlySortedBy int_cmp (keys_of (in_order ps))
+unfolding IsStrictlySortedBy
+in_order-sorted [] = tt
+in_order-sorted (p ∷ ps) = sorted_insert int_cmp_total (in_order ps) p.0 p.1 (in_order-sorted ps)
+
+pub in_order-same : (ps : List Pair) → SamePairs int_eq ps (in_order ps)
+in_order-same [] q = refl
+in_order-same (p ∷ ps) q =
+    sym (lookup_entry-insert_entry int_cmp_total (in_order ps) p.0 p.1 q (in_order-sorted ps)
+    ∙ ap (λ z. cond (int_eq q p.0) (Some (z, p.1)) (lookup_entry (int_eq q) (in_order ps))) (found_itself p.0 (in_order ps))
+    ∙ ap (cond (int_eq q p.0) (Some p)) (sym (in_order-same ps q)))
+
+-- the pairs in the order of their keys are the entries of an ordered map that has them
+pub in_order-unique : (m ps : List Pair) → IsStrictlySortedBy int_cmp (keys_of ps) → SamePairs int_eq m ps → ps ≡ in_order m
+in_order-unique m ps s h = same_sorted int_cmp_total ps (in_order m) s (in_order-sorted m) (λ q. sym (h q) ∙ in_order-same m q)

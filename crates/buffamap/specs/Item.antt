@@ -1,0 +1,32 @@
+-- What `item` answers: the number, the message bytes and the rest of an Item whose start tag was read.
+use Rattle.std.specs.Prelude.{◌≡◌, ℕ, List, ◌++◌, Option, Some, None, Result, Ok, Err}
+use Rattle.std.specs.Fmt.{decimal}
+use Rattle.buffa.specs.Item.{item_in}
+use Rattle.buffa_bytes.specs.declared.error.DecodeError.{DecodeError}
+use Rattle.buffa_wire.specs.ErrorText.{decode_error_text}
+use Rattle.buffamap.specs.Forms.{hex_bytes, without_newline}
+use Rattle.buffamap.specs.Reply.{Reply, bad_input, done, fault, hex_line, line}
+
+-- the number, the message bytes and what follows the Item, or the first fault: fields that are passed over 99 levels
+-- deep, and a million slots
+abbrev pub item_from : List ℕ → Result (ℕ × List ℕ × List ℕ) DecodeError
+item_from bytes = item_in 99 1000000 bytes
+
+-- a line each
+abbrev pub item_lines : ℕ → List ℕ → List ℕ → List ℕ
+item_lines number payload rest = line (decimal number) ++ (hex_line payload ++ hex_line rest)
+
+abbrev pub found_reply : Result (ℕ × List ℕ × List ℕ) DecodeError → Reply
+found_reply (Ok item) = done (item_lines item.0 item.1 item.2)
+found_reply (Err f) = fault (decode_error_text f)
+
+abbrev pub bytes_reply : Option (List ℕ) → Reply
+bytes_reply None = bad_input
+bytes_reply (Some bytes) = found_reply (item_from bytes)
+
+-- the input is what follows the start tag, in hexadecimal, which one newline may end
+abbrev pub item_reply : List ℕ → Reply
+item_reply input = bytes_reply (hex_bytes (without_newline input))
+
+abbrev pub RepliesToItem : List ℕ → Reply → Type 0
+RepliesToItem input reply = reply ≡ item_reply input
