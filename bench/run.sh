@@ -6,13 +6,13 @@
 # packages (libprotobuf-dev, protobuf-compiler, librust-prost-dev, librust-indexmap-dev), and plain Rust. All run
 # in turn on one core, timed by the processor time of their one thread. Not part of the gate.
 #
-#   BENCH_BUILD   where it builds, outside the repository (/tmp/buffa-bench); what it proves there, it keeps
+#   BENCH_BUILD   where it builds, outside the repository (buffa-bench in the user's cache); what it proves there, it keeps
 #   BENCH_CORE    the core (the last one)
 #   BENCH_PASSES  how often all of them run (3)
 set -euo pipefail
 bench=$(cd "$(dirname "$0")" && pwd)
 top=$(dirname "$bench")
-build=${BENCH_BUILD:-/tmp/buffa-bench}
+build=${BENCH_BUILD:-${XDG_CACHE_HOME:-$HOME/.cache}/buffa-bench}
 core=${BENCH_CORE:-$(($(nproc) - 1))}
 passes=${BENCH_PASSES:-3}
 sizes=("$@")
