@@ -10,7 +10,7 @@ ghost use Rattle.buffa_wire.specs.Records.{Datum, bytes as held_bytes};
 ghost use Rattle.buffa_codec.specs.Costs.{StaysWithin};
 ghost use Rattle.buffa_codec.specs.Packed.{numbers_in};
 ghost use Rattle.buffa_codec.specs.Reading.{LaterWins, ReadAlike, ReadingsJoin, bytes_held, full, last_read};
-ghost use Rattle.buffa_codec.specs.Reading.{string_held};
+ghost use Rattle.buffa_codec.specs.Reading.{CoversAll, Each, ReadsList, first_refusal, packed_record, string_held};
 ghost use Rattle.buffa_bytes.specs.declared.wire_type.WireType.{WireType};
 ghost use Rattle.buffa_codec.specs.PackedGrammar.{ArePacked};
 ghost use Rattle.buffa_codec.specs.Through.{LastThrough, ListsThrough};
@@ -119,4 +119,26 @@ pub fn texts_are_read()
         × ⟦<BytesCodec as ExtensionCodec>⟧.normal v }
     ensures packed { (bs : List ℕ) → (⟦<StringCodec as SingularCodec>⟧.packed bs ≡ [])
         × (⟦<BytesCodec as SingularCodec>⟧.packed bs ≡ []) }
+{}
+
+/// Lists are read of all records of their number, from one pair of default budgets, the packed ones too. They
+/// are written as a record for each value, or all in one where there is a value; and a list holds its values,
+/// each as it is read back. A list is read back of records that are, and that together cost no more than the
+/// budgets; a packed one always.
+pub fn lists_are_read<C: SingularCodec, P: PackableCodec>()
+    ensures reads { (ds : List Datum) (vs : List C.Value.Meaning) → ⟦<Repeated<C> as ExtensionCodec>⟧.reads ds vs
+        ↔ ReadsList (C.one 100) (C.leaves 100) C.packed ds vs }
+    ensures records { (vs : List C.Value.Meaning) → ⟦<Repeated<C> as ExtensionCodec>⟧.recs vs ≡ map C.text vs }
+    ensures packed { (vs : List P.Value.Meaning) → ⟦<PackedRepeated<P> as ExtensionCodec>⟧.recs vs
+        ≡ packed_record P.packed_text vs }
+    ensures refusal { (vs : List C.Value.Meaning) → ⟦<Repeated<C> as ExtensionCodec>⟧.refusal vs
+        ≡ first_refusal C.refusal vs }
+    ensures written { (vs : List P.Value.Meaning) → ⟦<PackedRepeated<P> as ExtensionCodec>⟧.refusal vs ≡ None }
+    ensures normal { (vs : List C.Value.Meaning) → ⟦<Repeated<C> as ExtensionCodec>⟧.normal vs
+        ↔ (Each C.normal vs × CoversAll C.cost full (map C.text vs)) }
+    ensures always { (vs : List P.Value.Meaning) → ⟦<PackedRepeated<P> as ExtensionCodec>⟧.normal vs }
+    ensures holds { (vs os : List C.Value.Meaning) → ⟦<Repeated<C> as ExtensionCodec>⟧.holds vs os
+        ↔ (os ≡ map C.back vs) }
+    ensures packed_holds { (vs os : List P.Value.Meaning) → ⟦<PackedRepeated<P> as ExtensionCodec>⟧.holds vs os
+        ↔ (os ≡ map P.back vs) }
 {}
