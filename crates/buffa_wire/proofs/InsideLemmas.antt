@@ -11,9 +11,9 @@ use Rattle.buffa_wire.specs.BudgetLeft.{BudgetLeft, Pays, PaysAtMost}
 use Rattle.buffa_wire.specs.Message.{IsMerged, PayloadFault, cost_in, cost_of_payload, merged_in}
 
 -- a length, and so many bytes at the front of what follows it
-pub delimited_front : (n : ℕ) (bs mid part rest : List ℕ) → varint_at bs ≡ Ok (n, mid) → IsFrontOf part n mid → rest ≡ drop n mid → delimited_at bs ≡ Ok (part, rest)
+pub delimited_front : (n : ℕ) (bs mid part : List ℕ) → varint_at bs ≡ Ok (n, mid) → IsFrontOf part n mid → delimited_at bs ≡ Ok (part, drop n mid)
 unfolding taken
-delimited_front n bs mid part rest v f e = rw (v, le-ltb (length mid) n f.fits, e, f.is) refl
+delimited_front n bs mid part v f = rw (v, le-ltb (length mid) n f.fits, f.is) refl
 
 module _ {X T : Type 0} (merged : ℕ → X → List ℕ → Option X) (cost : ℕ → List ℕ → BudgetLeft) where
   -- at a depth of one or more the bytes are merged one level down

@@ -10,20 +10,20 @@ returns-in_err-len-clause-full g c =
 
 pub returns-in-Some-clause-ok : goal.returns-in-Some-clause-ok
 returns-in-Some-clause-ok g c =
-    inside_ok g.Self.MessageSpec.merged g.Self.MessageSpec.cost c.args.ctx.depth _ _ _ _ _ _ _ c.merge-merged.result c.if-depth-eq0.false
-    (delimited_front _ _ _ _ _ c.in_ok-len.ensures.reads c.in-Some.ensures c.advance.ensures.rest) c.merge-merged.ensures.merged
+    rw c.advance.ensures.rest (inside_ok g.Self.MessageSpec.merged g.Self.MessageSpec.cost c.args.ctx.depth _ _ _ _ _ _ _ c.merge-merged.result c.if-depth-eq0.false
+    (delimited_front _ _ _ _ c.in_ok-len.ensures.reads c.in-Some.ensures) c.merge-merged.ensures.merged)
 
 pub returns-in-Some-clause-fault : goal.returns-in-Some-clause-fault
 returns-in-Some-clause-fault g c =
     inside_fault g.Self.MessageSpec.merged g.Self.MessageSpec.cost c.args.ctx.depth _ _ _ _ _ _ _ c.merge-merged.result c.if-depth-eq0.false
-    (delimited_front _ _ _ _ _ c.in_ok-len.ensures.reads c.in-Some.ensures c.advance.ensures.rest) c.merge-merged.ensures.merged
+    (delimited_front _ _ _ _ c.in_ok-len.ensures.reads c.in-Some.ensures) c.merge-merged.ensures.merged
 
 pub returns-in-Some-clause-spent : goal.returns-in-Some-clause-spent
 returns-in-Some-clause-spent g c =
     inside_spent g.Self.MessageSpec.merged g.Self.MessageSpec.cost c.args.ctx.depth _ _ _ _ _ _ _ c.merge-merged.result c.if-depth-eq0.false
-    (delimited_front _ _ _ _ _ c.in_ok-len.ensures.reads c.in-Some.ensures c.advance.ensures.rest) c.merge-merged.ensures.merged
+    (delimited_front _ _ _ _ c.in_ok-len.ensures.reads c.in-Some.ensures) c.merge-merged.ensures.merged
 
 pub returns-in-Some-clause-full : goal.returns-in-Some-clause-full
 returns-in-Some-clause-full g c =
     inside_full c.args.ctx.depth _ _ _ c.merge-merged.result c.if-depth-eq0.false
-    (delimited_front _ _ _ _ _ c.in_ok-len.ensures.reads c.in-Some.ensures c.advance.ensures.rest)
+    (delimited_front _ _ _ _ c.in_ok-len.ensures.reads c.in-Some.ensures)
