@@ -5,6 +5,7 @@ pub mod LoopLemmas
 pub mod ParseLemmas
 pub mod JoinLemmas
 pub mod MessageLemmas
+pub mod InsideLemmas
 pub mod PassLemmas
 pub mod SpentLemmas
 pub mod FaultLemmas

@@ -21,8 +21,8 @@ ghost use Rattle.buffa_wire.specs.Message.{cost_of_payload, merged_in};
 use crate::budget::{Budget, DEFAULT_UNKNOWN_FIELD_LIMIT};
 use crate::cache::SizeCache;
 use crate::context::{DecodeContext, RECURSION_LIMIT};
-use buffa_bytes::types::decode_bytes;
-use buffa_bytes::{Blank, Buf, DecodeError, EncodeError, EncodeSink, Tag};
+use buffa_bytes::buf::{copy_bytes, front};
+use buffa_bytes::{Blank, Buf, DecodeError, EncodeError, EncodeSink, Tag, decode_varint};
 use std::alloc::Global;
 
 /// The bytes that a message's text may have.
@@ -201,6 +201,8 @@ pub trait Message: MessageSpec {
 
     /// Merges the length and so many bytes at the front, one level down.
     ///
+    /// Bytes that lie together are merged where they lie; others are put together first.
+    ///
     /// # Errors
     /// In this order: [`DecodeError::RecursionLimitExceeded`] where no level is left; the length's faults;
     /// those of [`Message::merge`].
@@ -226,11 +228,17 @@ pub trait Message: MessageSpec {
         if depth == 0 {
             return Err(DecodeError::RecursionLimitExceeded);
         }
-        let payload = decode_bytes(alloc, buf)?;
+        let len = decode_varint(buf)?;
         let inner = DecodeContext {
             depth: depth - 1,
             budget: &mut *budget,
         };
+        if let Some(part) = front(buf, len) {
+            let merged = self.merge(alloc, part, inner);
+            buf.advance(len as usize);
+            return merged;
+        }
+        let payload = copy_bytes(alloc, buf, len)?;
         self.merge(alloc, &payload, inner)
     }
 }
