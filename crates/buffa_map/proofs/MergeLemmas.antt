@@ -91,6 +91,9 @@ module _ {K V : Type 0} (r : Rules K V) (pairs : List (K × V)) (records : List 
           pays = (rw known (omega (arith, slots, p)), omega (arith, charged, p));
         }
 
+        pub not_put : (new : List (K × V)) → new ≡ pairs → RefusesEntry r (state pairs records left) bs (state new records over) rest OutOfMemory
+        not_put new same = rw same (bad_fields over OutOfMemory (λ ne. absurd (ne refl)) (omega (arith, p), omega (arith, p), omega (arith, p), omega (arith, p)))
+
         pub is_kept : s.known ≡ false → (kept : List (ℕ × Datum)) (last : BudgetLeft) → kept ≡ records ++ r.adds r.number e → last.unknown + r.slot ≡ over.unknown → last.memory ≡ over.memory → MergesEntry r (state pairs records left) bs (state pairs kept last) rest
         is_kept known kept last h slot unit = record {
           says = s;

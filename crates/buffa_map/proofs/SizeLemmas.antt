@@ -1,5 +1,5 @@
 -- Lengths as numbers of 64 bits.
-use Rattle.std.proofs.Common.{◌≡◌, ℕ, ◌+◌, ◌*◌, ◌^◌, ◌<◌, ◌≤◌, nat_lt, Bool, true, false, List, [], ◌∷◌, ◌++◌, length, Option, None, Some, refl, sym, ap, ◌∙◌, arith, length-append, inl, inr, if◌then◌else◌}
+use Rattle.std.proofs.Common.{◌≡◌, ℕ, ◌+◌, ◌*◌, ◌^◌, ◌<◌, ◌≤◌, nat_lt, Bool, true, false, List, [], ◌∷◌, ◌++◌, length, Option, None, Some, refl, sym, ap, ◌∙◌, arith, length-append, inl, inr, if◌then◌else◌, suc-mul, zero-mul}
 use Rattle.std.proofs.lemmas.Bool.{lt-ltb, le-ltb, ltb-true, ltb-false, cases_lt}
 use Rattle.std.specs.Option.{SomeIff}
 use Rattle.buffa_wire.specs.Varint.{varint_text}
@@ -57,6 +57,11 @@ module _ {K W : Type 0} (key : Writing K) (val : Writing W) where
   pub field_size-append : (t : ℕ) (ps qs : List (K × W)) → field_size key val t (ps ++ qs) ≡ field_size key val t ps + field_size key val t qs
   field_size-append t [] qs = omega arith
   field_size-append t (p ∷ ps) qs = omega (arith, field_size-append t ps qs)
+
+  -- the size, where each record has the length r
+  pub counted_size : (t r : ℕ) (l : List (K × W)) → ((p : K × W) → r ≡ saturated (field_size key val t (p ∷ []))) → saturated (field_size key val t l) ≡ saturated (length l * r)
+  counted_size t r [] h = omega (arith, zero-mul r)
+  counted_size t r (p ∷ ps) h = omega (arith, h p, counted_size t r ps h, suc-mul (length ps) r)
 
 pub saturated-add : (a b : ℕ) → saturated (saturated a + saturated b) ≡ saturated (a + b)
 saturated-add a b = omega arith

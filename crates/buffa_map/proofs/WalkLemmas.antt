@@ -1,11 +1,11 @@
 -- Two walks of one map.
-use Rattle.std.proofs.Common.{◌≡◌, ◌⊎◌, inl, inr, ℕ, ◌+◌, ◌^◌, ◌<◌, Bool, true, false, cond, List, [], ◌∷◌, ◌++◌, Some, None, length, map, refl, sym, ap, subst, ◌∙◌, arith, length-append}
+use Rattle.std.proofs.Common.{◌≡◌, ◌⊎◌, inl, inr, ℕ, ◌+◌, ◌*◌, ◌^◌, ◌<◌, Bool, true, false, cond, List, [], ◌∷◌, ◌++◌, Some, None, length, map, refl, sym, ap, subst, ◌∙◌, arith, length-append}
 use Rattle.std.specs.Cmp.{IsEquivalence}
 use Rattle.std.specs.List.{AllByRecursion, IsDistinct, sum_by}
 use Rattle.std.specs.List.Sorted.{IsPermutation}
 use Rattle.std.specs.Map.{keys_of, lookup, remove_entry}
 use Rattle.std.proofs.lemmas.Bool.{cases_Bool, cond-false, cond-true, cond_both}
-use Rattle.std.proofs.lemmas.List.Sorted.{IsPermutation-cons, IsPermutation-refl, IsPermutation-swap, IsPermutation-sym, IsPermutation-trans, sum_by-IsPermutation}
+use Rattle.std.proofs.lemmas.List.Sorted.{IsPermutation-cons, IsPermutation-refl, IsPermutation-swap, IsPermutation-sym, IsPermutation-trans, length_permutation, sum_by-IsPermutation}
 use Rattle.std.proofs.lemmas.List.Sums.{sum_by-cons}
 use Rattle.std.proofs.lemmas.Map.{lookup-remove_entry}
 use Rattle.std.proofs.lemmas.Map.Entries.{lookup_head, lookup_tail}
@@ -18,7 +18,7 @@ use Rattle.buffa_map.specs.Codec.{Writing}
 use Rattle.buffa_map.specs.Pairs.{ListsOnce}
 use Rattle.buffa_map.specs.Text.{entry_text, field_size, field_text, saturated}
 use Rattle.buffa_map.proofs.HashedLemmas.{beside, keys-beside, lookup-beside}
-use Rattle.buffa_map.proofs.SizeLemmas.{length-field_text}
+use Rattle.buffa_map.proofs.SizeLemmas.{counted_size, length-field_text}
 
 -- ---- values under keys that differ: equal look-ups give equal values, in some order
 
@@ -76,6 +76,10 @@ module _ {K V : Type 0} {eq : K → K → Bool} (laws : IsEquivalence eq) where
       let found = reordered laws (map beside a) (map beside b) (apart a x.0) (apart b y.0) (λ q. lookup-beside (eq q) a ∙ sym (x.1 q) ∙ y.1 q ∙ sym (lookup-beside (eq q) b)) in
       subst (λ z. IsPermutation z b) (values_beside a) (subst (λ z. IsPermutation (map (λ e. e.1) (map beside a)) z) (values_beside b) found)
 
+  -- a walk has as many pairs as the map
+  pub one_count : (m l : List (K × V)) → IsDistinct eq (keys_of m) → ListsOnce eq m l → length l ≡ length m
+  one_count m l d h = length_permutation m l (permuted m m l (d, λ q. refl) h)
+
 module _ {K V : Type 0} (key : Writing K) (val : Writing V) where
   abbrev pair_size : ℕ → K × V → ℕ
   pair_size t p = t + (length (varint_text (length (entry_text key val p))) + length (entry_text key val p))
@@ -87,6 +91,12 @@ module _ {K V : Type 0} (key : Writing K) (val : Writing V) where
   module _ {eq : K → K → Bool} (laws : IsEquivalence eq) where
     pub one_size : (t : ℕ) (m a b : List (K × V)) → ListsOnce eq m a → ListsOnce eq m b → field_size key val t a ≡ field_size key val t b
     one_size t m a b x y = size_is_sum t a ∙ sym (sum_by-IsPermutation (pair_size t) a b (permuted laws m a b x y)) ∙ sym (size_is_sum t b)
+
+    -- the size of as many records of one length as the map has pairs
+    pub counted : (t r n size : ℕ) (m l : List (K × V)) → ((p : K × V) → r ≡ saturated (field_size key val t (p ∷ []))) →
+        IsDistinct eq (keys_of m) → ListsOnce eq m l → n ≡ length m → size ≡ saturated (n * r) → size ≡ saturated (field_size key val t l)
+    counted t r n size m l one d h count is =
+        is ∙ ap (λ z. saturated (z * r)) (count ∙ sym (one_count laws m l d h)) ∙ sym (counted_size key val t r l one)
 
     -- a size that one walk announced, and the text of another one
     pub announced : (t n size : ℕ) (m a b : List (K × V)) (old new : List ℕ) → ListsOnce eq m a → ListsOnce eq m b → t ≡ length (tag_text n LengthDelimited) →

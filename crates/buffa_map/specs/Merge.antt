@@ -83,6 +83,13 @@ pub record RefusesEntry {K V : Type 0} (r : Rules K V) (old : State K V) (bytes 
   pub least : old.left.unknown ≤ new.left.unknown + (r.slot + (inner_need r.key r.val r.depth bytes).unknown)
   pub no_slot : f ≢ OutOfMemory → old.left.unknown ≤ new.left.unknown + (inner_need r.key r.val r.depth bytes).unknown
 
+-- the entry was merged, or refused, whatever bytes it begins behind its length
+abbrev pub MergesWhole : {K V : Type 0} → Rules K V → State K V → List ℕ → State K V → Type 0
+MergesWhole r old e new = (bytes rest : List ℕ) → delimited_at bytes ≡ Ok (e, rest) → MergesEntry r old bytes new rest
+
+abbrev pub RefusesWhole : {K V : Type 0} → Rules K V → State K V → List ℕ → State K V → DecodeError → Type 0
+RefusesWhole r old e new f = (bytes rest : List ℕ) → delimited_at bytes ≡ Ok (e, rest) → RefusesEntry r old bytes new rest f
+
 -- the records of some entries are all of the bytes, and were read
 pub record ReadsRun {K V : Type 0} (r : Rules K V) (old : State K V) (bytes : List ℕ) (new : State K V) (rest : List ℕ) : Type 0 where
   pub entries : List (EntryRecord K V)

@@ -4,15 +4,16 @@ ghost use Rattle.std.specs.Prelude.{◌≡◌, ◌+◌, ◌<◌, [], IfErr, OnEr
 ghost use Rattle.buffa_bytes.specs.declared.error.DecodeError.TheVariants.{ElementMemoryLimitExceeded};
 ghost use Rattle.buffa_wire.specs.BudgetLeft.{budget_left};
 ghost use Rattle.buffa_map.specs.Lent.{records_in, records_left};
-ghost use Rattle.buffa_map.specs.Merge.{MergesEntry, RefusesEntry, dropping, lending, rules, state};
+ghost use Rattle.buffa_map.specs.Merge.{MergesEntry, MergesWhole, RefusesEntry, RefusesWhole};
+ghost use Rattle.buffa_map.specs.Merge.{dropping, lending, rules, state};
 
 use crate::codec::{MapCodec, MapValueDecode};
 use crate::fields::merge_fields;
 use crate::keep::{Dropped, Keeper};
 use crate::merge_value::{ByCodec, MergeValue};
 use crate::storage::MapStorage;
-use buffa_wire::types::decode_bytes;
-use buffa_wire::{Budget, Buf, DecodeContext, DecodeError, UnknownFields};
+use buffa_bytes::buf::{copy_bytes, front};
+use buffa_wire::{Budget, Buf, DecodeContext, DecodeError, UnknownFields, decode_varint};
 use std::alloc::Global;
 
 // Spends the cost of a pair. A sum past what a number of units can be is more than any budget has.
@@ -29,7 +30,49 @@ fn charge(budget: &mut Budget, key: usize, value: usize) -> Result<(), DecodeErr
     }
 }
 
-// Merges one entry; one that is undeclared goes to the keeper.
+// Merges an entry, all of the bytes: its pair is put, and one that is undeclared goes to the keeper.
+fn merge_whole<
+    KC: MapCodec,
+    W: MergeValue,
+    C: MapStorage<Key = KC::Value, Value = W::Value>,
+    L: Keeper,
+>(
+    alloc: Global,
+    map: &mut C,
+    entry: &[u8],
+    ctx: DecodeContext<'_>,
+    number: u32,
+    how: &W,
+    keeper: &mut L,
+) -> Result<(), DecodeError>
+    requires { W.may how.now ctx.depth }
+    ensures ok { OnOk result (MergesWhole
+        (rules KC.reading W.reading C.equal C.keeps_order ctx.entry.depth number (KC.COST + W.COST) L.slot L.adds)
+        (state (C.pairs map.old) (L.records keeper.old) ctx.entry.budget.now) entry.now
+        (state (C.pairs map.new) (L.records keeper.new) (budget_left ctx.exit))) }
+    ensures err { IfErr result (RefusesWhole
+        (rules KC.reading W.reading C.equal C.keeps_order ctx.entry.depth number (KC.COST + W.COST) L.slot L.adds)
+        (state (C.pairs map.old) (L.records keeper.old) ctx.entry.budget.now) entry.now
+        (state (C.pairs map.new) (L.records keeper.new) (budget_left ctx.exit))) }
+{
+    let DecodeContext { depth, budget } = ctx;
+    charge(&mut *budget, KC::COST, W::COST)?;
+    let lent = DecodeContext {
+        depth,
+        budget: &mut *budget,
+    };
+    let parts = merge_fields::<KC, W>(alloc, entry, lent, how)?;
+    if !parts.known {
+        return keeper.keep(alloc, number, entry, budget);
+    }
+    let Ok(()) = map.storage_insert(parts.key, parts.value) else {
+        return Err(DecodeError::OutOfMemory);
+    };
+    Ok(())
+}
+
+// Merges one entry; one that is undeclared goes to the keeper. It is read where it lies, and copied only
+// where it is cut.
 pub(crate) fn merge_entry_by<
     KC: MapCodec,
     W: MergeValue,
@@ -56,22 +99,14 @@ pub(crate) fn merge_entry_by<
         (state (C.pairs map.new) (L.records keeper.new) (budget_left ctx.exit)) (B.unread buf.new)) }
     ensures kept { B.beyond buf.new ≡ B.beyond buf.old }
 {
-    let DecodeContext { depth, budget } = ctx;
-    let entry = decode_bytes(alloc, buf)?;
-    charge(&mut *budget, KC::COST, W::COST)?;
-    let lent = DecodeContext {
-        depth,
-        budget: &mut *budget,
-    };
-    let parts = merge_fields::<KC, W>(alloc, &entry, lent, how)?;
-    if parts.known {
-        match map.storage_insert(parts.key, parts.value) {
-            Ok(()) => Ok(()),
-            Err(_) => Err(DecodeError::OutOfMemory),
-        }
-    } else {
-        keeper.keep(number, entry, budget)
+    let len = decode_varint(buf)?;
+    if let Some(entry) = front(buf, len) {
+        let merged = merge_whole::<KC, W, C, L>(alloc, map, entry, ctx, number, how, keeper);
+        buf.advance(len as usize);
+        return merged;
     }
+    let entry = copy_bytes(alloc, buf, len)?;
+    merge_whole::<KC, W, C, L>(alloc, map, &entry, ctx, number, how, keeper)
 }
 
 /// Merges one entry of a map field, its length varint first, into the map.

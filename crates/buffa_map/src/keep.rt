@@ -5,6 +5,7 @@ ghost use Rattle.buffa_bytes.specs.declared.error.DecodeError.TheVariants.{OutOf
 ghost use Rattle.buffa_wire.specs.Records.{Datum, bytes};
 
 use buffa_wire::{Budget, DecodeError, UnknownField, UnknownFieldData, UnknownFields};
+use std::alloc::Global;
 
 /// What becomes of an entry whose value is undeclared: it is kept whole, or dropped.
 pub(crate) trait Keeper {
@@ -17,9 +18,15 @@ pub(crate) trait Keeper {
     /// What the bytes of an entry of a field of this number add.
     ghost adds: { ℕ → List ℕ → List (ℕ × Datum) };
 
-    /// Takes the bytes of an entry.
-    fn keep(&mut self, number: u32, entry: Vec<u8>, budget: &mut Budget) -> Result<(), DecodeError>
-        ensures ok { OnOk result ((records self.new ≡ records self.old ++ adds number entry.items)
+    /// Takes a copy of the bytes of an entry, if it keeps them.
+    fn keep(
+        &mut self,
+        alloc: Global,
+        number: u32,
+        entry: &[u8],
+        budget: &mut Budget,
+    ) -> Result<(), DecodeError>
+        ensures ok { OnOk result ((records self.new ≡ records self.old ++ adds number entry.now)
             × (budget.new.unknown + slot ≡ budget.old.unknown)) }
         ensures err { OnErr result ((records self.new ≡ records self.old) × (budget.new.unknown ≤ budget.old.unknown)
             × (budget.old.unknown ≤ budget.new.unknown + slot)) }
@@ -41,8 +48,9 @@ impl Keeper for Dropped {
 
     fn keep(
         &mut self,
+        _alloc: Global,
         _number: u32,
-        _entry: Vec<u8>,
+        _entry: &[u8],
         _budget: &mut Budget,
     ) -> Result<(), DecodeError> {
         // Nothing is kept, and nothing is spent.
@@ -59,14 +67,18 @@ impl Keeper for UnknownFields {
 
     fn keep(
         &mut self,
+        alloc: Global,
         number: u32,
-        entry: Vec<u8>,
+        entry: &[u8],
         budget: &mut Budget,
     ) -> Result<(), DecodeError> {
         budget.take_slot()?;
+        let Ok(kept) = Vec::from_slice(alloc, entry) else {
+            return Err(DecodeError::OutOfMemory);
+        };
         let field = UnknownField {
             number,
-            payload: UnknownFieldData::LengthDelimited(entry),
+            payload: UnknownFieldData::LengthDelimited(kept),
         };
         match self.push(field) {
             Ok(()) => Ok(()),

@@ -1,6 +1,6 @@
 //! The size of a map field.
 
-ghost use Rattle.std.specs.Prelude.{◌≡◌, ◌+◌, List, length};
+ghost use Rattle.std.specs.Prelude.{◌≡◌, ◌+◌, ◌∷◌, List, [], IfSome, length};
 ghost use Rattle.buffa_wire.specs.Varint.{varint_text};
 ghost use Rattle.buffa_map.specs.Pairs.{ListsOnce};
 ghost use Rattle.buffa_map.specs.Text.{as_u64, entry_text, field_size, saturated};
@@ -22,6 +22,15 @@ pub(crate) fn entry_len<KC: MapCodec, VC: MapCodec>(
     payloads.checked_add(2)
 }
 
+// The length of a record whose entry has so many bytes, or 2^64 - 1.
+fn framed_len(outer_tag_len: u64, entry_len: u64) -> u64
+    ensures { result ≡ saturated (outer_tag_len + (length (varint_text entry_len) + entry_len)) }
+{
+    outer_tag_len
+        .saturating_add(varint_len(entry_len) as u64)
+        .saturating_add(entry_len)
+}
+
 // The length of a record, or 2^64 - 1.
 fn record_len<KC: MapCodec, VC: MapCodec>(
     outer_tag_len: u64,
@@ -33,16 +42,25 @@ fn record_len<KC: MapCodec, VC: MapCodec>(
         result ≡ saturated (outer_tag_len + (length (varint_text n) + n)) }
 {
     match entry_len::<KC, VC>(key, value) {
-        Some(len) => outer_tag_len
-            .saturating_add(varint_len(len) as u64)
-            .saturating_add(len),
+        Some(len) => framed_len(outer_tag_len, len),
         None => u64::MAX,
     }
 }
 
+// The length of every record, or 2^64 - 1, where all keys have one length, and all values.
+fn fixed_record_len<KC: MapCodec, VC: MapCodec>(outer_tag_len: u64) -> Option<u64>
+    ensures { IfSome result (λ len. (p : KC.Value.Meaning × VC.Value.Meaning) →
+        len ≡ saturated (field_size KC.writing VC.writing outer_tag_len (p ∷ []))) }
+{
+    let payloads = KC::FIXED_LEN?.checked_add(VC::FIXED_LEN?)?;
+    let entry_len = payloads.checked_add(2)?;
+    Some(framed_len(outer_tag_len, entry_len))
+}
+
 /// The length of a map field, in bytes, or 2^64 - 1 where it is more.
 ///
-/// `outer_tag_len` is the length of the field's tag, which each record has. It takes no memory.
+/// `outer_tag_len` is the length of the field's tag, which each record has. It takes no memory. Where both
+/// codecs have a fixed length, the pairs are counted and not walked.
 ///
 /// ```ignore
 /// let size = field_len::<Str, Int32, _>(&map, 1);
@@ -60,8 +78,13 @@ where
         × ListsOnce C.equal (C.pairs map.now) l
         × (result ≡ saturated (field_size KC.writing VC.writing outer_tag_len l)) }
 {
+    // The contract names this walk, also where nothing is taken from it.
+    let walk = map.storage_iter();
+    if let Some(len) = fixed_record_len::<KC, VC>(outer_tag_len) {
+        return (map.storage_len() as u64).saturating_mul(len);
+    }
     let mut total: u64 = 0;
-    for (key, value) in map.storage_iter() {
+    for (key, value) in walk {
         total = total.saturating_add(record_len::<KC, VC>(outer_tag_len, key, value));
     }
     total
