@@ -17,8 +17,8 @@ use Rattle.buffa_bytes.proofs.DelimitedLemmas.{delimited_complete, delimited_fau
 use Rattle.buffa_bytes.proofs.FieldLemmas.{payload_complete, payload_faulty, payload_sound, tag_complete, tag_faulty, tag_some, tag_sound}
 use Rattle.buffa_bytes.proofs.FullLemmas.{delimited_full, payload_fault_full, payload_full, tag_fault_full}
 use Rattle.buffa_bytes.proofs.VarintLemmas.{IsVarint-varint_text, varint_complete, varint_faulty, varint_sound}
-use Rattle.buffa_map.specs.Parses.{ParsesEach, ParsesTo, join}
-use Rattle.buffa_map.proofs.AlongLemmas.{ParsesTo-first, ParsesTo-more, ok_same}
+use Rattle.buffa_wire.specs.Sequence.{ParsesEach, ParsesTo, join}
+use Rattle.buffa_wire.proofs.SequenceLemmas.{ParsesTo-first, ParsesTo-more, ok_same}
 use Rattle.buffa_map.proofs.EntryLemmas.{same_refl, same_true}
 use Rattle.buffa.specs.Item.{EndFault, FieldFault, HasMessage, IsField, IsMessageAt, IsOther, IsOutOfRange, IsTypeId, Item, ItemFault, Reaches, Said, TakesItem, TypeIdFault, body_text, ended, ends, field_at, item_at, item_within, said, says, type_id_at, unsaid}
 

@@ -13,7 +13,7 @@ use Rattle.buffa_bytes.specs.declared.wire_type.WireType.TheVariants.{Varint, Le
 use Rattle.buffa_bytes.specs.declared.error.DecodeError.{DecodeError}
 use Rattle.buffa_bytes.specs.declared.error.DecodeError.TheVariants.{InvalidMessageSet, UnexpectedEof, UnknownFieldLimitExceeded}
 use Rattle.buffa_bytes.specs.declared.error.MessageSetFault.TheVariants.{MissingTypeId, TypeIdOutOfRange}
-use Rattle.buffa_map.specs.Parses.{ParsesTo}
+use Rattle.buffa_wire.specs.Sequence.{ParsesTo}
 
 -- the numbers that a type id may be, and the others
 abbrev pub IsTypeId : ℕ → Type 0

@@ -7,7 +7,7 @@ use Rattle.buffa_bytes.specs.declared.wire_type.WireType.{WireType}
 use Rattle.buffa_wire.specs.Content.{Content}
 use Rattle.buffa_wire.specs.BudgetLeft.{BudgetLeft, Pays, PaysAtMost, nothing}
 use Rattle.buffa_wire.specs.Reading.{check_wire, skip_at, tag_at}
-use Rattle.buffa_map.specs.Parses.{ParsesTo}
+use Rattle.buffa_wire.specs.Sequence.{ParsesTo}
 use Rattle.buffa_map.specs.Codec.{Reading, Refuses, Spends, TakesMemory, value_at, value_need}
 use Rattle.buffa_map.specs.Entry.{FieldFault, IsField, blanks, need_at}
 use Rattle.buffa_map.specs.Fields.{FieldTakesMemory, MergesField, MergesFields, RefusesField, RefusesFields}

@@ -1,7 +1,6 @@
 pub mod PutLemmas
 pub mod MeaningLemmas
 pub mod HashedLemmas
-pub mod AlongLemmas
 pub mod EntryLemmas
 pub mod NeedLemmas
 pub mod FieldsLemmas

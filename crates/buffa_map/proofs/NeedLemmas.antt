@@ -15,7 +15,7 @@ use Rattle.buffa_bytes.proofs.DelimitedLemmas.{delimited_sound, delimited_taken}
 use Rattle.buffa_bytes.proofs.StepLemmas.{agree_ok, agree_err}
 use Rattle.buffa_bytes.proofs.FieldLemmas.{tag_sound}
 use Rattle.buffa_wire.specs.Content.{Content, ContentFault}
-use Rattle.buffa_map.specs.Parses.{ParsesTo}
+use Rattle.buffa_wire.specs.Sequence.{ParsesTo}
 use Rattle.buffa_map.specs.Codec.{Reading, Tells, ValueFault, level, need_by, value_at, value_need}
 use Rattle.buffa_map.specs.Entry.{CodecFault, EntryFault, EntryOf, FaultOf, FieldFault, IsEntry, IsField, blanks, codec_need, field_at, field_need, inner_need, need_at, need_of, need_within}
 use Rattle.buffa_map.specs.declared.map_entry.MapEntry.{MapEntry}

@@ -14,13 +14,13 @@ use Rattle.buffa_bytes.proofs.DelimitedLemmas.{delimited_sound, delimited_comple
 use Rattle.buffa_wire.specs.BudgetLeft.{BudgetLeft, Lacks, Pays, nothing, plus, slots}
 use Rattle.buffa_wire.specs.Content.{Content}
 use Rattle.buffa_wire.specs.Records.{Datum, bytes}
-use Rattle.buffa_map.specs.Parses.{join, ParsesEach}
+use Rattle.buffa_wire.specs.Sequence.{join, ParsesEach}
 use Rattle.buffa_map.specs.Codec.{Reading}
 use Rattle.buffa_map.specs.Entry.{IsEntry, FaultOf, EntryOf, EntryFault, blanks, inner_need, need_at, need_of}
 use Rattle.buffa_map.specs.Pairs.{InOrder, put, SamePairs}
 use Rattle.buffa_map.specs.Run.{EntryRecord, IsRecord, Run, Paid, RecordFault, RunFault, entry_in, inner_needs, lacks, record_need, record_at, after_entry, next_record, run_of, step, fold_entries, undeclared, added, undeclared_record, undeclared_records}
 use Rattle.buffa_map.specs.declared.map_entry.MapEntry.{MapEntry}
-use Rattle.buffa_map.proofs.AlongLemmas.{Answers, answer, answers_as, along_sound, along_complete, along_faulty}
+use Rattle.buffa_wire.proofs.SequenceLemmas.{Answers, answer, answers_as, along_sound, along_complete, along_faulty}
 use Rattle.buffa_map.proofs.EntryLemmas.{Plain, check_sound, check_differs, entry_sound, entry_complete, entry_faulty}
 use Rattle.buffa_map.proofs.NeedLemmas.{need_free}
 use Rattle.buffa_map.proofs.PutLemmas.{SamePairs-put}

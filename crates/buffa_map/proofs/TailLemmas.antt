@@ -1,12 +1,11 @@
 -- Where readers leave what is unread.
 use Rattle.std.proofs.Common.{◌≡◌, ℕ, List, [], ◌++◌, Result, Ok, Err, length, drop, ap, append_assoc, refl, sym, ◌∙◌}
-use Rattle.std.proofs.lemmas.Bool.{le-ltb}
 use Rattle.std.proofs.Math.Seq.{drop-append_seam}
 use Rattle.buffa_bytes.proofs.DelimitedLemmas.{delimited_sound, delimited_taken}
 use Rattle.buffa_bytes.proofs.FieldLemmas.{tag_sound}
 use Rattle.buffa_bytes.proofs.StepLemmas.{agree_ok}
 use Rattle.buffa_bytes.proofs.TailLemmas.{tail_dropped}
-use Rattle.buffa_bytes.specs.Unread.{IsFrontOf, IsTailOf}
+use Rattle.buffa_bytes.specs.Unread.{IsTailOf}
 use Rattle.buffa_bytes.specs.declared.error.DecodeError.{DecodeError}
 use Rattle.buffa_bytes.specs.declared.wire_type.WireType.{WireType}
 use Rattle.buffa_wire.specs.Field.{TakesDelimited}
@@ -27,11 +26,6 @@ delimited_after n bs mid v = rw v refl
 
 pub delimited_short : (bs : List ℕ) (f : DecodeError) → varint_at bs ≡ Err f → delimited_at bs ≡ Err f
 delimited_short bs f v = rw v refl
-
--- the bytes lie together behind their length
-pub delimited_in_place : (n : ℕ) (bs mid part rest : List ℕ) → varint_at bs ≡ Ok (n, mid) → IsFrontOf part n mid → rest ≡ drop n mid → delimited_at bs ≡ Ok (part, rest)
-unfolding taken
-delimited_in_place n bs mid part rest v f e = delimited_after n bs mid v ∙ rw (le-ltb (length mid) n f.fits) (rw e (ap (λ z. Ok (z, drop n mid)) (sym f.is)))
 
 pub delimited_tail : (bs e rest : List ℕ) → delimited_at bs ≡ Ok (e, rest) → IsTailOf rest bs
 delimited_tail bs e rest h =

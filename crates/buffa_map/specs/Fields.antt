@@ -4,7 +4,7 @@ use Rattle.buffa_bytes.specs.declared.error.DecodeError.{DecodeError}
 use Rattle.buffa_bytes.specs.declared.error.DecodeError.TheVariants.{OutOfMemory}
 use Rattle.buffa_wire.specs.BudgetLeft.{Lacks, BudgetLeft, Pays, PaysAtMost}
 use Rattle.buffa_wire.specs.Reading.{tag_at}
-use Rattle.buffa_map.specs.Parses.{ParseStops}
+use Rattle.buffa_wire.specs.Sequence.{ParseStops}
 use Rattle.buffa_map.specs.Codec.{Reading, TakesMemory}
 use Rattle.buffa_map.specs.Entry.{FaultOf, FieldFault, IsEntry, IsField, blanks, field_at, field_need, need_at}
 use Rattle.buffa_map.specs.declared.map_entry.MapEntry.{MapEntry}

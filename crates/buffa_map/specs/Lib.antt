@@ -1,5 +1,4 @@
 pub mod Pairs
-pub mod Parses
 pub mod Codec
 pub mod Scalars
 pub mod ScalarLaws

@@ -20,7 +20,7 @@ use Rattle.buffa_map.specs.Merge.{MergesEntry, RefusesEntry, dropping, state}
 use Rattle.buffa_map.specs.Message.{message_reading}
 use Rattle.buffa_map.specs.MessageLaws.{meant_known}
 use Rattle.buffa_map.specs.Pairs.{SamePairs, put}
-use Rattle.buffa_map.specs.Parses.{ParsesEach}
+use Rattle.buffa_wire.specs.Sequence.{ParsesEach}
 use Rattle.buffa_map.specs.Run.{step}
 use Rattle.buffa_map.specs.declared.map_entry.MapEntry.{MapEntry}
 use Rattle.buffa_samples.proofs.SortedLemmas.{same_sorted, sorted_put}

@@ -23,8 +23,8 @@ use Rattle.buffa_bytes.proofs.ShortestLemmas.{varint_text-last, length-varint_te
 use Rattle.buffa_bytes.proofs.VarintLemmas.{IsVarint-varint_text, varint_complete, varint_sound as varint_is_sound}
 use Rattle.std.specs.Int.{cast_unsigned, w32, w64}
 use Rattle.buffa_wire.proofs.MessageLemmas.{NoLimit, payload_no_limit, tag_no_limit, var_no_limit}
-use Rattle.buffa_map.specs.Parses.{parse_all, parse_within}
-use Rattle.buffa_map.proofs.AlongLemmas.{ok_same}
+use Rattle.buffa_wire.specs.Sequence.{parse_all, parse_within}
+use Rattle.buffa_wire.proofs.SequenceLemmas.{ok_same}
 use Rattle.buffa_map.proofs.EntryLemmas.{check_sound}
 use Rattle.buffa_samples.specs.Fields.{FieldReader, int32_field, merged_by, next_at, number_records, number_text, skipped_field, value_of, varint_field}
 

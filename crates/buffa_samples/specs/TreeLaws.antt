@@ -16,7 +16,7 @@ use Rattle.buffa_wire.specs.BudgetLeft.{BudgetLeft, Lacks, nothing, plus, slots}
 use Rattle.buffa_wire.specs.Message.{merged_in}
 use Rattle.buffa_wire.specs.Text.{records_text}
 use Rattle.buffa_wire.specs.Varint.{IsVarint}
-use Rattle.buffa_map.proofs.AlongLemmas.{ok_same}
+use Rattle.buffa_wire.proofs.SequenceLemmas.{ok_same}
 use Rattle.buffa_map.proofs.EntryLemmas.{check_sound, entry_sound}
 use Rattle.buffa_map.proofs.NeedLemmas.{entry_fair}
 use Rattle.buffa_map.specs.Entry.{FaultOf, entry_of, need_of}

@@ -9,3 +9,4 @@ pub mod InsideLemmas
 pub mod PassLemmas
 pub mod SpentLemmas
 pub mod FaultLemmas
+pub mod SequenceLemmas

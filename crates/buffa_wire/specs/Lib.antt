@@ -25,3 +25,4 @@ pub use Rattle.buffa_bytes.specs.Varint
 pub use Rattle.buffa_bytes.specs.WireType
 pub use Rattle.buffa_bytes.specs.Written
 pub mod Enums
+pub mod Sequence

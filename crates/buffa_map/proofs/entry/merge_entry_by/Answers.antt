@@ -3,9 +3,10 @@ use Rattle.std.specs.Prelude.{IsOk}
 use Rattle.std.proofs.lemmas.Result.{err_from_is_err_and}
 use Rattle.buffa_bytes.proofs.FullLemmas.{varint_no_full}
 use Rattle.buffa_bytes.proofs.TailLemmas.{tail_more}
+use Rattle.buffa_wire.proofs.InsideLemmas.{delimited_front}
 use Rattle.buffa_map.proofs.MergeLemmas.{no_entry}
 use Rattle.buffa_map.proofs.ResultLemmas.{IfErr-map, OnOk-map}
-use Rattle.buffa_map.proofs.TailLemmas.{delimited_after, delimited_in_place, delimited_short}
+use Rattle.buffa_map.proofs.TailLemmas.{delimited_after, delimited_short}
 use Rattle.buffa_map.proofs.entry.merge_entry_by.Goals as goal
 
 pub returns-in_err-len-clause-err : goal.returns-in_err-len-clause-err
@@ -16,11 +17,11 @@ returns-in_err-len-clause-err g c =
 
 pub returns-in-Some-clause-ok : goal.returns-in-Some-clause-ok
 returns-in-Some-clause-ok g c =
-    OnOk-map c.merge_whole-merged.result (λ h. h _ _ (delimited_in_place _ _ _ _ _ c.in_ok-len.ensures.reads c.in-Some.ensures c.advance.ensures.rest)) c.merge_whole-merged.ensures.ok
+    OnOk-map c.merge_whole-merged.result (λ h. h _ _ (rw c.advance.ensures.rest (delimited_front _ _ _ _ c.in_ok-len.ensures.reads c.in-Some.ensures))) c.merge_whole-merged.ensures.ok
 
 pub returns-in-Some-clause-err : goal.returns-in-Some-clause-err
 returns-in-Some-clause-err g c =
-    IfErr-map c.merge_whole-merged.result (λ f h. h _ _ (delimited_in_place _ _ _ _ _ c.in_ok-len.ensures.reads c.in-Some.ensures c.advance.ensures.rest)) c.merge_whole-merged.ensures.err
+    IfErr-map c.merge_whole-merged.result (λ f h. h _ _ (rw c.advance.ensures.rest (delimited_front _ _ _ _ c.in_ok-len.ensures.reads c.in-Some.ensures))) c.merge_whole-merged.ensures.err
 
 pub returns-in_err-entry-clause-err : goal.returns-in_err-entry-clause-err
 returns-in_err-entry-clause-err g c =

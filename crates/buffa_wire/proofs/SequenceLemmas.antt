@@ -1,9 +1,9 @@
 -- Pieces one after another: what is read of them, and the grammar.
 use Rattle.std.proofs.Common.{◌≡◌, ◌≢◌, ℕ, zero, suc, ◌<◌, ◌≤◌, List, [], ◌∷◌, ◌++◌, length, Result, Ok, Err, refl, sym, ap, subst, ◌∙◌, arith, append_assoc, append-nil, length-append}
-use Rattle.buffa_wire.specs.Gives.{◌>>=◌}
+use Rattle.buffa_bytes.specs.Gives.{◌>>=◌}
 use Rattle.buffa_bytes.specs.declared.error.DecodeError.{DecodeError}
 use Rattle.buffa_bytes.proofs.StepLemmas.{Agrees, agree_bind, agree_weaker}
-use Rattle.buffa_map.specs.Parses.{join, ParsesEach, ParsesTo, ParseStops, parse_within, parse_all}
+use Rattle.buffa_wire.specs.Sequence.{join, ParsesEach, ParsesTo, ParseStops, parse_within, parse_all}
 
 join-last : (ps : List (List ℕ)) (p : List ℕ) → join (ps ++ p ∷ []) ≡ join ps ++ p
 join-last [] p = append-nil p
