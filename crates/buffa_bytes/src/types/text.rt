@@ -35,6 +35,7 @@ pub fn string_encoded_len(value: &str) -> usize
 /// ```ignore
 /// encode_string("bee", &mut text)?; // 03 62 65 65
 /// ```
+#[inline(always)]
 pub fn encode_string<S: EncodeSink>(value: &str, sink: &mut S) -> Result<(), EncodeError>
     ensures writes { Writes result (S.written sink.old) (delimited_text value.now) (S.written sink.new) }
     ensures room { UsesRoom result (S.room sink.old) (delimited_text value.now) (S.room sink.new) }
@@ -92,6 +93,7 @@ pub fn bytes_encoded_len(value: &[u8]) -> usize
 /// ```ignore
 /// encode_bytes(&[0xDE, 0xAD], &mut text)?; // 02 DE AD
 /// ```
+#[inline(always)]
 #[tactic(auto, using(crate::proofs::SinkLemmas::writes_then, crate::proofs::SinkLemmas::front_first, crate::proofs::SinkLemmas::room_then))]
 pub fn encode_bytes<S: EncodeSink>(value: &[u8], sink: &mut S) -> Result<(), EncodeError>
     ensures writes { Writes result (S.written sink.old) (delimited_text value.now) (S.written sink.new) }

@@ -82,6 +82,7 @@ impl<T: ProtoString> MapCodec for ProtoStringMap<T> {
         string_encoded_len(T::as_str(value)) as u64
     }
 
+    #[inline(always)]
     fn encode<S: EncodeSink>(value: &T, sink: &mut S) -> Result<(), EncodeError> {
         encode_string(T::as_str(value), sink)
     }
@@ -167,6 +168,7 @@ impl MapCodec for BytesBuf {
         bytes_encoded_len(Bytes::as_slice(value)) as u64
     }
 
+    #[inline(always)]
     fn encode<S: EncodeSink>(value: &Bytes, sink: &mut S) -> Result<(), EncodeError> {
         encode_bytes(Bytes::as_slice(value), sink)
     }
@@ -248,6 +250,7 @@ impl<T: ProtoBytes> MapCodec for ProtoBytesMap<T> {
         bytes_encoded_len(T::as_bytes(value)) as u64
     }
 
+    #[inline(always)]
     fn encode<S: EncodeSink>(value: &T, sink: &mut S) -> Result<(), EncodeError> {
         encode_bytes(T::as_bytes(value), sink)
     }
