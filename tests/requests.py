@@ -1,10 +1,11 @@
 #!/usr/bin/env python3
-"""Counts the requests for memory that a set of an extension makes beside a thousand groups.
+"""Counts the requests for memory that a set of an extension and the merging of map entries make.
 
-A set copies no record of another number, so that it makes at most four, however many groups there are. The program
-`buffa_refusals` says when it has the groups and when the set is done; `refuse.c` tells on the same stream when it
-refuses a request, so that the order says in which part of the program the request was made. Needs python3 and gcc.
-`rt ci` leaves the program; where there is none, `rt run` builds it.
+A set copies no record of another number, so that beside a thousand groups it makes at most four, however many groups
+there are. Entries of numbers whose key the map has are merged with none, in one piece and cut anywhere. The program
+`buffa_refusals` says when it has the groups, when the set is done, when the map has the key, and when the entries are
+merged; `refuse.c` tells on the same stream when it refuses a request, so that the order says in which part of the
+program the request was made. Needs python3 and gcc. `rt ci` leaves the program; where there is none, `rt run` builds it.
 """
 import os
 import shutil
@@ -16,6 +17,7 @@ TOP = os.path.dirname(os.path.dirname(os.path.abspath(__file__)))
 CRATE = f"{TOP}/crates/buffa_refusals"
 MOST = 4
 SECONDS = 20
+WHOLE = b"groups\nset\npair\nmerged\n"
 
 
 def run(program, library, at=0, on=False):
@@ -38,28 +40,48 @@ def groups_take(program, library):
     return low
 
 
-def differences(program, library):
-    """Each way in which the program isn't as it must be, and how many requests the set made."""
-    found = []
-    if run(program, library) != (b"groups\nset\n", 0):
-        found.append("with nothing refused the set is not done")
-    before = groups_take(program, library)
-    if before < 1000:
-        found.append(f"a thousand groups took only {before} requests")
+def set_takes(program, library, before, found):
+    """How many requests the set makes: with any of these refused it is refused, and all that follows is done."""
     made = 0
     while made < 100:
         text, status = run(program, library, before + made + 1)
-        if text == b"groups\nset\n" or text.startswith(b"groups\nset\nx"):
+        if text.startswith(b"groups\nset\n"):
             break
-        if (text, status) != (b"groups\nxrefused\n", 0):
+        if (text, status) != (b"groups\nxrefused\npair\nmerged\n", 0):
             found.append(f"with request {made + 1} of the set refused it wrote {text!r}, status {status}")
         made += 1
     if not 1 <= made <= MOST:
         found.append(f"the set made {made} requests, in place of 1 to {MOST}")
-    for on in (False, True):
-        text, status = run(program, library, before + MOST + 1, on)
-        if (text.replace(b"x", b""), status) != (b"groups\nset\n", 0):
-            found.append(f"with request {MOST + 1} refused it wrote {text!r}, status {status}")
+    return made
+
+
+def entries_take(program, library, before, found):
+    """How many requests the map makes for its key. After it every request is refused, and there must be none."""
+    made = 0
+    while made < 100:
+        text, status = run(program, library, before + made + 1)
+        if text == WHOLE:
+            break
+        if (text, status) != (b"groups\nset\nx", 4):
+            found.append(f"with request {made + 1} after the set refused it wrote {text!r}, status {status}")
+        made += 1
+    text, status = run(program, library, before + made + 1, on=True)
+    if (text, status) != (WHOLE, 0):
+        found.append(f"with each request refused, once the map had its key, it wrote {text!r}, status {status}")
+    return made
+
+
+def differences(program, library):
+    """Each way in which the program isn't as it must be, and how many requests the set made."""
+    found = []
+    if run(program, library) != (WHOLE, 0):
+        found.append("with nothing refused the set or the entries are not done")
+    before = groups_take(program, library)
+    if before < 1000:
+        found.append(f"a thousand groups took only {before} requests")
+    made = set_takes(program, library, before, found)
+    if entries_take(program, library, before + made, found) < 1:
+        found.append("the map took no request for its key")
     return found, made
 
 
@@ -82,7 +104,7 @@ def main():
         for program in programs():
             found, made = differences(program, library)
             verdict = "as it must be" if not found else "; ".join(found)
-            print(f"requests: {os.path.basename(program)}, a set beside a thousand groups: {made} requests, {verdict}")
+            print(f"requests: {os.path.basename(program)}, a set beside a thousand groups: {made} requests, entries: {verdict}")
             failed |= bool(found)
     print("requests: FAILED" if failed else "requests: passed")
     return 1 if failed else 0

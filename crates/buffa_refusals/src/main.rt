@@ -1,11 +1,16 @@
-// Sets an extension beside a thousand groups, and says when: `tests/requests.py` counts what memory that asks for.
+// Sets an extension beside a thousand groups, then merges entries into a map that has their key, and says when:
+// `tests/requests.py` counts what memory that asks for.
 #![tactic(auto)]
 
 use buffa_ext::{Extension, ExtensionSet};
+use buffa_map::map_codec::{Int32 as Int32Entry, merge_entry};
 use buffa_options::Carrier;
 use buffa_wire::scalars::Int32;
-use buffa_wire::{UnknownField, UnknownFieldData, UnknownFields};
+use buffa_wire::{
+    Buf, Budget, DecodeContext, Pieces, RECURSION_LIMIT, UnknownField, UnknownFieldData, UnknownFields,
+};
 use std::alloc::{AllocError, Global};
+use std::collections::BTreeMap;
 use std::process::ExitCode;
 
 // A carrier of a thousand groups of number 7, each with one record inside.
@@ -25,28 +30,67 @@ fn groups(alloc: Global) -> Result<Carrier, AllocError> {
     Ok(Carrier { fields })
 }
 
+// Sets an extension of the carrier, and answers what is to be said of it.
+fn set(alloc: Global, carrier: &mut Carrier) -> Option<&'static [u8]> {
+    let ext = Extension::<Int32>::new(1, "test.Carrier");
+    let done = carrier.set_extension(alloc, &ext, 5).is_ok();
+    let kept = if done { 1001 } else { 1000 };
+    if carrier.fields.len() != kept || carrier.has_extension(&ext) != done {
+        return None;
+    }
+    Some(if done { b"set\n" } else { b"refused\n" })
+}
+
+// Merges an entry of the key 5; whether the map has its value then.
+fn merges<B: Buf>(
+    alloc: Global,
+    map: &mut BTreeMap<i32, i32>,
+    entry: &mut B,
+    value: i32,
+) -> bool {
+    let mut budget = Budget::new(0);
+    let ctx = DecodeContext::new(RECURSION_LIMIT, &mut budget);
+    let done = merge_entry::<Int32Entry, Int32Entry, _, _>(alloc, map, entry, ctx).is_ok();
+    done && map.get(&5) == Some(&value)
+}
+
+// Merges entries of the key 5, one in one piece and one at each cut.
+fn merges_all(alloc: Global, map: &mut BTreeMap<i32, i32>) -> bool {
+    let mut whole: &[u8] = &[4, 8, 5, 16, 1];
+    merges(alloc, map, &mut whole, 1)
+        && merges(alloc, map, &mut Pieces::new(&[&[4], &[8, 5, 16, 2]]), 2)
+        && merges(alloc, map, &mut Pieces::new(&[&[4, 8], &[5, 16, 3]]), 3)
+        && merges(alloc, map, &mut Pieces::new(&[&[4, 8, 5], &[16, 4]]), 4)
+        && merges(alloc, map, &mut Pieces::new(&[&[4, 8, 5, 16], &[5]]), 5)
+}
+
 fn main(rt: HostRuntime) -> ExitCode {
     let alloc = rt.alloc();
+    let mut out = rt.stdout();
     let Ok(mut carrier) = groups(alloc) else {
         return ExitCode::from(4);
     };
-    let ext = Extension::<Int32>::new(1, "test.Carrier");
-    if rt.stdout().write_all(b"groups\n").is_err() {
+    if out.write_all(b"groups\n").is_err() {
         return ExitCode::from(3);
     }
-    let answer = carrier.set_extension(alloc, &ext, 5);
-    let said: &[u8] = if answer.is_ok() {
-        b"set\n"
-    } else {
-        b"refused\n"
+    let Some(said) = set(alloc, &mut carrier) else {
+        return ExitCode::from(5);
     };
-    if rt.stdout().write_all(said).is_err() {
+    let mut map = BTreeMap::new(alloc);
+    if out.write_all(said).is_err() {
         return ExitCode::from(3);
     }
-    let kept = if answer.is_ok() { 1001 } else { 1000 };
-    if carrier.fields.len() == kept && carrier.has_extension(&ext) == answer.is_ok() {
-        ExitCode::from(0)
-    } else {
-        ExitCode::from(5)
+    let Ok(_) = map.insert(5, 0) else {
+        return ExitCode::from(4);
+    };
+    if out.write_all(b"pair\n").is_err() {
+        return ExitCode::from(3);
+    }
+    if !merges_all(alloc, &mut map) {
+        return ExitCode::from(5);
+    }
+    match out.write_all(b"merged\n") {
+        Ok(()) => ExitCode::from(0),
+        Err(_) => ExitCode::from(3),
     }
 }
