@@ -1,18 +1,19 @@
 -- An entry that was merged, or refused, at each place where reading it ends.
 use Rattle.std.specs.Prelude.{IsOk}
-use Rattle.std.proofs.Common.{arith, ◌≡◌, ◌≢◌, ◌+◌, ◌<◌, ◌≤◌, ◌++◌, ◌⊎◌, inl, inr, ℕ, true, false, List, [], Ok, Err, ap, append-nil, refl, sym}
+use Rattle.std.proofs.Common.{arith, ◌≡◌, ◌≢◌, ◌+◌, ◌<◌, ◌≤◌, ◌++◌, ◌⊎◌, inl, inr, ℕ, true, false, List, [], Ok, Err, ap, append-nil, refl, sym, take}
 use Rattle.buffa_bytes.specs.declared.error.DecodeError.{DecodeError}
-use Rattle.buffa_bytes.specs.declared.error.DecodeError.TheVariants.{ElementMemoryLimitExceeded, OutOfMemory, UnknownFieldLimitExceeded}
+use Rattle.buffa_bytes.specs.declared.error.DecodeError.TheVariants.{ElementMemoryLimitExceeded, OutOfMemory, UnexpectedEof, UnknownFieldLimitExceeded}
 use Rattle.buffa_wire.specs.BudgetLeft.{BudgetLeft, Lacks}
 use Rattle.buffa_wire.specs.Reading.{delimited_at}
+use Rattle.buffa_bytes.specs.Reading.{varint_at}
 use Rattle.buffa_wire.specs.Records.{Datum}
 use Rattle.buffa_map.specs.Codec.{need_by}
 use Rattle.buffa_map.specs.Entry.{EntryFault, FaultOf, blanks, inner_need, need_at, need_of}
 use Rattle.buffa_map.specs.Merge.{MergesEntry, RefusesEntry, Rules, State, state}
-use Rattle.buffa_map.specs.Parts.{ReadsParts, RefusesParts}
+use Rattle.buffa_map.specs.Parts.{ReadsParts, RefusesCut, RefusesParts}
 use Rattle.buffa_map.specs.Pairs.{InOrder, SamePairs, put}
 use Rattle.buffa_map.specs.declared.map_entry.MapEntry.{MapEntry}
-use Rattle.buffa_map.proofs.TailLemmas.{delimited_tail, one_rest}
+use Rattle.buffa_map.proofs.TailLemmas.{cut_front, cut_short, delimited_tail, one_rest}
 use Rattle.buffa_bytes.specs.Unread.{IsTailOf}
 use Rattle.buffa_map.proofs.NeedLemmas.{entry_charged, entry_found, entry_refused, entry_short, entry_slotless, no_length}
 
@@ -125,3 +126,8 @@ module _ {K V : Type 0} (r : Rules K V) (pairs : List (K × V)) (records : List 
             least = omega (arith, h.pays, least, taken);
             no_slot = λ ne. omega (arith, h.pays, (which ne).2, taken);
           }
+
+  -- a cut entry is refused
+  pub bad_cut : (n : ℕ) (mid unread : List ℕ) (over : BudgetLeft) (f : DecodeError) → varint_at bs ≡ Ok (n, mid) → IsTailOf mid bs → RefusesCut r.key r.val r.depth r.cost n mid left over unread f → RefusesEntry r (state pairs records left) bs (state pairs records over) unread f
+  bad_cut n mid unread over f len tail (inl (few, eof, same, kept)) = rw (same, kept, eof) (no_entry mid UnexpectedEof tail (λ ne. cut_short n bs mid len few) (λ out. cc))
+  bad_cut n mid unread over f len tail (inr (fits, follows, parts)) = bad_parts (take n mid) unread (cut_front n bs mid unread len fits follows) over f parts
