@@ -13,7 +13,7 @@ module _ {K V : Type 0} (key : Reading K) (val : Reading V) (d cost : ℕ) where
     pub entry : IsEntry key val d e says
     pub pays : Pays left (need_of key val d cost e) over
 
-  -- f is why not: the units, or the fields; at most what the entry needs is spent, and its cost if its fields were read
+  -- f is why not: the units, or the fields; at most what the entry needs is spent, and at least its cost, where that was left
   pub record RefusesParts (e : List ℕ) (left over : BudgetLeft) (f : DecodeError) : Type 0 where
     pub fault : f ≢ OutOfMemory → ((left.memory < cost) × (f ≡ ElementMemoryLimitExceeded))
         ⊎ ((cost ≤ left.memory) × (Lacks left (need_of key val d cost e) ⊎ FaultOf key val d e f))
