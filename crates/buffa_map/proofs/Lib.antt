@@ -6,6 +6,7 @@ pub mod NeedLemmas
 pub mod FieldsLemmas
 pub mod MemoryLemmas
 pub mod TailLemmas
+pub mod PartsLemmas
 pub mod MergeLemmas
 pub mod MessageLemmas
 pub mod ResultLemmas

@@ -1,19 +1,21 @@
 -- An entry that was merged, or refused, at each place where reading it ends.
 use Rattle.std.specs.Prelude.{IsOk}
-use Rattle.std.proofs.Common.{arith, ◌≡◌, ◌≢◌, ◌+◌, ◌<◌, ◌≤◌, ◌++◌, ◌⊎◌, inl, inr, ℕ, true, false, List, Ok, Err, ap, append-nil, refl, sym}
+use Rattle.std.proofs.Common.{arith, ◌≡◌, ◌≢◌, ◌+◌, ◌<◌, ◌≤◌, ◌++◌, ◌⊎◌, inl, inr, ℕ, true, false, List, [], Ok, Err, ap, append-nil, refl, sym, take}
 use Rattle.buffa_bytes.specs.declared.error.DecodeError.{DecodeError}
-use Rattle.buffa_bytes.specs.declared.error.DecodeError.TheVariants.{ElementMemoryLimitExceeded, OutOfMemory, UnknownFieldLimitExceeded}
-use Rattle.buffa_wire.specs.BudgetLeft.{BudgetLeft, Lacks, Pays, PaysAtMost}
+use Rattle.buffa_bytes.specs.declared.error.DecodeError.TheVariants.{ElementMemoryLimitExceeded, OutOfMemory, UnexpectedEof, UnknownFieldLimitExceeded}
+use Rattle.buffa_wire.specs.BudgetLeft.{BudgetLeft, Lacks}
 use Rattle.buffa_wire.specs.Reading.{delimited_at}
+use Rattle.buffa_bytes.specs.Reading.{varint_at}
 use Rattle.buffa_wire.specs.Records.{Datum}
 use Rattle.buffa_map.specs.Codec.{need_by}
-use Rattle.buffa_map.specs.Entry.{FaultOf, IsEntry, blanks, inner_need, need_at}
+use Rattle.buffa_map.specs.Entry.{EntryFault, FaultOf, blanks, inner_need, need_at, need_of}
 use Rattle.buffa_map.specs.Merge.{MergesEntry, RefusesEntry, Rules, State, state}
+use Rattle.buffa_map.specs.Parts.{ReadsParts, RefusesCut, RefusesParts}
 use Rattle.buffa_map.specs.Pairs.{InOrder, SamePairs, put}
 use Rattle.buffa_map.specs.declared.map_entry.MapEntry.{MapEntry}
-use Rattle.buffa_map.proofs.TailLemmas.{delimited_tail, one_rest}
+use Rattle.buffa_map.proofs.TailLemmas.{cut_front, cut_short, delimited_tail, one_rest}
 use Rattle.buffa_bytes.specs.Unread.{IsTailOf}
-use Rattle.buffa_map.proofs.NeedLemmas.{entry_broken, entry_charged, entry_found, entry_short, entry_slotless, no_length}
+use Rattle.buffa_map.proofs.NeedLemmas.{entry_charged, entry_found, entry_refused, entry_short, entry_slotless, no_length}
 
 module _ {K V : Type 0} (r : Rules K V) (pairs : List (K × V)) (records : List (ℕ × Datum)) (left : BudgetLeft) (bs : List ℕ) where
   abbrev old : State K V
@@ -41,85 +43,91 @@ module _ {K V : Type 0} (r : Rules K V) (pairs : List (K × V)) (records : List 
     inner : inner_need r.key r.val r.depth bs ≡ fields_need e
     inner = ap (λ z. need_by z (λ x. fields_need x.0)) is
 
-    pub no_units : (now : BudgetLeft) (f : DecodeError) → left.memory < r.cost → now ≡ left → f ≡ ElementMemoryLimitExceeded → RefusesEntry r (state pairs records left) bs (state pairs records now) rest f
-    no_units now f few same which =
-        let units = ap (λ (z : BudgetLeft). z.memory) same in
-        let slots = ap (λ (z : BudgetLeft). z.unknown) same in
+    parts_fault : (f : DecodeError) → ((left.memory < r.cost) × (f ≡ ElementMemoryLimitExceeded)) ⊎ ((r.cost ≤ left.memory) × (Lacks left (need_of r.key r.val r.depth r.cost e) ⊎ FaultOf r.key r.val r.depth e f)) →
+        EntryFault r.key r.val r.depth r.cost r.slot left bs f
+    parts_fault f (inl few) = entry_charged r.key r.val r.depth r.cost r.slot left bs e rest f is few.0 few.1
+    parts_fault f (inr (room, bad)) = entry_refused r.key r.val r.depth r.cost r.slot left bs e rest f is room bad
+
+    parts_units : (new : ℕ) → (new ≡ left.memory) ⊎ ((new + r.cost ≤ left.memory) × (left.memory ≤ new + (need_of r.key r.val r.depth r.cost e).memory)) →
+        (new ≡ left.memory) ⊎ ((new + r.cost ≤ left.memory) × (left.memory ≤ new + (r.cost + (inner_need r.key r.val r.depth bs).memory)))
+    parts_units new (inl same) = inl same
+    parts_units new (inr spent) = inr (spent.0, omega (arith, spent.1, ap (λ (z : BudgetLeft). z.memory) inner))
+
+    -- the fields are refused, or the cost is
+    pub bad_parts : (over : BudgetLeft) (f : DecodeError) → RefusesParts r.key r.val r.depth r.cost e left over f → RefusesEntry r (state pairs records left) bs (state pairs records over) rest f
+    bad_parts over f h =
+        let taken = ap (λ (z : BudgetLeft). z.unknown) inner in
         record {
-          fault = λ ne. entry_charged r.key r.val r.depth r.cost r.slot left bs e rest f is few which;
+          fault = λ ne. parts_fault f (h.fault ne);
           memory = λ out. rw is refl;
           tail = delimited_tail bs e rest is;
           past = λ ne x after t. one_rest bs e rest x after is t;
           pairs = refl;
           records = refl;
-          units = inl units;
-          charged = λ ne e rest t room. absurd (omega (arith, room, few));
-          most = omega (arith, slots);
-          least = omega (arith, slots);
-          no_slot = λ ne. omega (arith, slots);
+          units = parts_units over.memory h.units;
+          charged = λ ne e rest t room. h.charged room;
+          most = h.most;
+          least = omega (arith, h.least, taken);
+          no_slot = λ ne. omega (arith, h.least, taken);
         }
 
-    module _ (now : BudgetLeft) (charged : now.memory + r.cost ≡ left.memory) (slots : now.unknown ≡ left.unknown) where
-      -- the fields are refused, or the pair is
-      pub bad_fields : (over : BudgetLeft) (f : DecodeError) → (f ≢ OutOfMemory → Lacks now (fields_need e) ⊎ FaultOf r.key r.val r.depth e f) → PaysAtMost now (fields_need e) over → RefusesEntry r (state pairs records left) bs (state pairs records over) rest f
-      bad_fields over f h p =
+    module _ (s : MapEntry K V) (over : BudgetLeft) (h : ReadsParts r.key r.val r.depth r.cost e left s over) where
+      pub is_put : s.known ≡ true → (new : List (K × V)) → SamePairs r.same (put r.same pairs s.key s.value) new → InOrder r.keeps_order (put r.same pairs s.key s.value) new → MergesEntry r (state pairs records left) bs (state new records over) rest
+      is_put known new same order = record {
+        says = s;
+        entry = e;
+        read = entry_found r.key r.val r.depth bs e rest s is h.entry;
+        put = rw known same;
+        order = rw known order;
+        keeps = rw known (sym (append-nil records));
+        pays = (rw known (omega (arith, h.pays)), omega (arith, h.pays));
+      }
+
+      pub not_put : (new : List (K × V)) (f : DecodeError) → f ≡ OutOfMemory → new ≡ pairs → RefusesEntry r (state pairs records left) bs (state new records over) rest f
+      not_put new f out same =
+          rw same (bad_parts over f (record {
+            fault = λ ne. absurd (ne out);
+            units = inr (omega (arith, h.pays), omega (arith, h.pays));
+            charged = λ room. omega (arith, h.pays);
+            most = omega (arith, h.pays);
+            least = omega (arith, h.pays);
+          }))
+
+      pub is_kept : s.known ≡ false → (kept : List (ℕ × Datum)) (last : BudgetLeft) → kept ≡ records ++ r.adds r.number e → last.unknown + r.slot ≡ over.unknown → last.memory ≡ over.memory → MergesEntry r (state pairs records left) bs (state pairs kept last) rest
+      is_kept known kept last added slot unit = record {
+        says = s;
+        entry = e;
+        read = entry_found r.key r.val r.depth bs e rest s is h.entry;
+        put = rw known (λ q. refl);
+        order = rw known (λ keeps. refl);
+        keeps = rw known added;
+        pays = (rw known (omega (arith, h.pays, slot)), omega (arith, h.pays, unit));
+      }
+
+      -- where none is kept, the records and the budget stand
+      pub is_dropped : s.known ≡ false → r.slot ≡ 0 → ((n : ℕ) (x : List ℕ) → r.adds n x ≡ []) → MergesEntry r (state pairs records left) bs (state pairs records over) rest
+      is_dropped known no_slot none = is_kept known records over (rw (none r.number e) (sym (append-nil records))) (omega (arith, no_slot)) refl
+
+      pub not_kept : s.known ≡ false → (kept : List (ℕ × Datum)) (last : BudgetLeft) (f : DecodeError) → kept ≡ records → last.unknown ≤ over.unknown → over.unknown ≤ last.unknown + r.slot → last.memory ≡ over.memory →
+          (f ≢ OutOfMemory → (over.unknown < r.slot) × (f ≡ UnknownFieldLimitExceeded) × (last.unknown ≡ over.unknown)) → RefusesEntry r (state pairs records left) bs (state pairs kept last) rest f
+      not_kept known kept last f same most least unit which =
           let units = ap (λ (z : BudgetLeft). z.memory) inner in
           let taken = ap (λ (z : BudgetLeft). z.unknown) inner in
           record {
-            fault = λ ne. entry_broken r.key r.val r.depth r.cost r.slot left now bs e rest f is charged slots (h ne);
+            fault = λ ne. entry_slotless r.key r.val r.depth r.cost r.slot left bs e rest s f is (omega (arith, h.pays)) h.entry known (omega (arith, (which ne).0, h.pays)) (which ne).1;
             memory = λ out. rw is refl;
             tail = delimited_tail bs e rest is;
             past = λ ne x after t. one_rest bs e rest x after is t;
             pairs = refl;
-            records = refl;
-            units = inr (omega (arith, charged, p), omega (arith, charged, p, units));
-            charged = λ ne e rest t room. omega (arith, charged, p);
-            most = omega (arith, slots, p);
-            least = omega (arith, slots, p, taken);
-            no_slot = λ ne. omega (arith, slots, p, taken);
+            records = same;
+            units = inr (omega (arith, h.pays, unit), omega (arith, h.pays, unit, units));
+            charged = λ ne e rest t room. omega (arith, h.pays, unit);
+            most = omega (arith, h.pays, most);
+            least = omega (arith, h.pays, least, taken);
+            no_slot = λ ne. omega (arith, h.pays, (which ne).2, taken);
           }
 
-      module _ (s : MapEntry K V) (entry : IsEntry r.key r.val r.depth e s) (over : BudgetLeft) (p : Pays now (fields_need e) over) where
-        pub is_put : s.known ≡ true → (new : List (K × V)) → SamePairs r.same (put r.same pairs s.key s.value) new → InOrder r.keeps_order (put r.same pairs s.key s.value) new → MergesEntry r (state pairs records left) bs (state new records over) rest
-        is_put known new h order = record {
-          says = s;
-          entry = e;
-          read = entry_found r.key r.val r.depth bs e rest s is entry;
-          put = rw known h;
-          order = rw known order;
-          keeps = rw known (sym (append-nil records));
-          pays = (rw known (omega (arith, slots, p)), omega (arith, charged, p));
-        }
-
-        pub not_put : (new : List (K × V)) → new ≡ pairs → RefusesEntry r (state pairs records left) bs (state new records over) rest OutOfMemory
-        not_put new same = rw same (bad_fields over OutOfMemory (λ ne. absurd (ne refl)) (omega (arith, p), omega (arith, p), omega (arith, p), omega (arith, p)))
-
-        pub is_kept : s.known ≡ false → (kept : List (ℕ × Datum)) (last : BudgetLeft) → kept ≡ records ++ r.adds r.number e → last.unknown + r.slot ≡ over.unknown → last.memory ≡ over.memory → MergesEntry r (state pairs records left) bs (state pairs kept last) rest
-        is_kept known kept last h slot unit = record {
-          says = s;
-          entry = e;
-          read = entry_found r.key r.val r.depth bs e rest s is entry;
-          put = rw known (λ q. refl);
-          order = rw known (λ keeps. refl);
-          keeps = rw known h;
-          pays = (rw known (omega (arith, slots, p, slot)), omega (arith, charged, p, unit));
-        }
-
-        pub not_kept : s.known ≡ false → (kept : List (ℕ × Datum)) (last : BudgetLeft) (f : DecodeError) → kept ≡ records → last.unknown ≤ over.unknown → over.unknown ≤ last.unknown + r.slot → last.memory ≡ over.memory →
-            (f ≢ OutOfMemory → (over.unknown < r.slot) × (f ≡ UnknownFieldLimitExceeded) × (last.unknown ≡ over.unknown)) → RefusesEntry r (state pairs records left) bs (state pairs kept last) rest f
-        not_kept known kept last f h most least unit which =
-            let units = ap (λ (z : BudgetLeft). z.memory) inner in
-            let taken = ap (λ (z : BudgetLeft). z.unknown) inner in
-            record {
-              fault = λ ne. entry_slotless r.key r.val r.depth r.cost r.slot left bs e rest s f is (omega (arith, charged)) entry known (omega (arith, (which ne).0, slots, p)) (which ne).1;
-              memory = λ out. rw is refl;
-              tail = delimited_tail bs e rest is;
-              past = λ ne x after t. one_rest bs e rest x after is t;
-              pairs = refl;
-              records = h;
-              units = inr (omega (arith, charged, p, unit), omega (arith, charged, p, unit, units));
-              charged = λ ne e rest t room. omega (arith, charged, p, unit);
-              most = omega (arith, slots, p, most);
-              least = omega (arith, slots, p, least, taken);
-              no_slot = λ ne. omega (arith, slots, p, (which ne).2, taken);
-            }
+  -- a cut entry is refused
+  pub bad_cut : (n : ℕ) (mid unread : List ℕ) (over : BudgetLeft) (f : DecodeError) → varint_at bs ≡ Ok (n, mid) → IsTailOf mid bs → RefusesCut r.key r.val r.depth r.cost n mid left over unread f → RefusesEntry r (state pairs records left) bs (state pairs records over) unread f
+  bad_cut n mid unread over f len tail (inl (few, eof, same, kept)) = rw (same, kept, eof) (no_entry mid UnexpectedEof tail (λ ne. cut_short n bs mid len few) (λ out. cc))
+  bad_cut n mid unread over f len tail (inr (fits, follows, parts)) = bad_parts (take n mid) unread (cut_front n bs mid unread len fits follows) over f parts

@@ -176,12 +176,12 @@ module _ {K V : Type 0} (key : Reading K) (val : Reading V) (d : ℕ) where
   lacks_after cost left now e m u (inl few) = inl (omega (arith, u, few))
   lacks_after cost left now e m u (inr few) = inr (omega (arith, m, few))
 
-  pub entry_broken : (cost slot : ℕ) (left now : BudgetLeft) (bs e rest : List ℕ) (f : DecodeError) → delimited_at bs ≡ Ok (e, rest) → now.memory + cost ≡ left.memory → now.unknown ≡ left.unknown →
-      Lacks now (need_at key val d (blanks key val d) e) ⊎ FaultOf key val d e f → EntryFault key val d cost slot left bs f
-  entry_broken cost slot left now bs e rest f h m u (inl few) =
-      let t = agree_ok (delimited_at bs) (e, rest) (delimited_sound bs) h in inr (t.0, e, rest, t.1, t.2, inr (omega (arith, m), inl (lacks_after cost left now e m u few)))
-  entry_broken cost slot left now bs e rest f h m u (inr bad) =
-      let t = agree_ok (delimited_at bs) (e, rest) (delimited_sound bs) h in inr (t.0, e, rest, t.1, t.2, inr (omega (arith, m), inr (inl bad)))
+  pub entry_refused : (cost slot : ℕ) (left : BudgetLeft) (bs e rest : List ℕ) (f : DecodeError) → delimited_at bs ≡ Ok (e, rest) → cost ≤ left.memory →
+      Lacks left (need_of key val d cost e) ⊎ FaultOf key val d e f → EntryFault key val d cost slot left bs f
+  entry_refused cost slot left bs e rest f h m (inl few) =
+      let t = agree_ok (delimited_at bs) (e, rest) (delimited_sound bs) h in inr (t.0, e, rest, t.1, t.2, inr (m, inl few))
+  entry_refused cost slot left bs e rest f h m (inr bad) =
+      let t = agree_ok (delimited_at bs) (e, rest) (delimited_sound bs) h in inr (t.0, e, rest, t.1, t.2, inr (m, inr (inl bad)))
 
   pub entry_slotless : (cost slot : ℕ) (left : BudgetLeft) (bs e rest : List ℕ) (s : MapEntry K V) (f : DecodeError) → delimited_at bs ≡ Ok (e, rest) → cost ≤ left.memory → IsEntry key val d e s → s.known ≡ false → left.unknown < (need_of key val d cost e).unknown + slot →
       f ≡ UnknownFieldLimitExceeded → EntryFault key val d cost slot left bs f

@@ -1,5 +1,5 @@
 -- What holds of an answer, weakened.
-use Rattle.std.specs.Prelude.{Result, Ok, Err, OnOk, OnErr, IfErr}
+use Rattle.std.specs.Prelude.{Result, Ok, Err, OnOk, OnErr, IfErr, IfOk}
 
 pub OnOk-map : {T E : Type 0} {P Q : Type 0} (r : Result T E) → (P → Q) → OnOk r P → OnOk r Q
 OnOk-map (Ok v) f h = f h
@@ -12,6 +12,14 @@ OnErr-map (Err e) f h = f h
 pub IfErr-map : {T E : Type 0} {P Q : E → Type 0} (r : Result T E) → ((e : E) → P e → Q e) → IfErr r P → IfErr r Q
 IfErr-map (Ok v) f h = h
 IfErr-map (Err e) f h = f e h
+
+pub IfOk-map : {T E : Type 0} {P Q : T → Type 0} (r : Result T E) → ((v : T) → P v → Q v) → IfOk r P → IfOk r Q
+IfOk-map (Ok v) f h = f v h
+IfOk-map (Err e) f h = h
+
+pub OnOk-both : {T E : Type 0} {P Q R : Type 0} (r : Result T E) → (P → Q → R) → OnOk r P → OnOk r Q → OnOk r R
+OnOk-both (Ok v) f h k = f h k
+OnOk-both (Err e) f h k = h
 
 pub OnOk-always : {T E : Type 0} {P : Type 0} (r : Result T E) → P → OnOk r P
 OnOk-always (Ok v) h = h

@@ -1,5 +1,6 @@
 -- Where readers leave what is unread.
-use Rattle.std.proofs.Common.{◌≡◌, ℕ, List, [], ◌++◌, Result, Ok, Err, length, drop, ap, append_assoc, refl, sym, ◌∙◌}
+use Rattle.std.proofs.Common.{◌≡◌, ℕ, List, [], ◌++◌, Result, Ok, Err, length, take, drop, ap, append_assoc, refl, sym, ◌∙◌, ◌<◌, ◌≤◌}
+use Rattle.std.proofs.lemmas.Bool.{lt-ltb}
 use Rattle.std.proofs.Math.Seq.{drop-append_seam}
 use Rattle.buffa_bytes.proofs.DelimitedLemmas.{delimited_sound, delimited_taken}
 use Rattle.buffa_bytes.proofs.FieldLemmas.{tag_sound}
@@ -7,6 +8,8 @@ use Rattle.buffa_bytes.proofs.StepLemmas.{agree_ok}
 use Rattle.buffa_bytes.proofs.TailLemmas.{tail_dropped}
 use Rattle.buffa_bytes.specs.Unread.{IsTailOf}
 use Rattle.buffa_bytes.specs.declared.error.DecodeError.{DecodeError}
+use Rattle.buffa_bytes.specs.declared.error.DecodeError.TheVariants.{UnexpectedEof}
+use Rattle.buffa_wire.proofs.InsideLemmas.{delimited_front}
 use Rattle.buffa_bytes.specs.declared.wire_type.WireType.{WireType}
 use Rattle.buffa_wire.specs.Field.{TakesDelimited}
 use Rattle.buffa_bytes.specs.Reading.{taken, varint_at}
@@ -26,6 +29,14 @@ delimited_after n bs mid v = rw v refl
 
 pub delimited_short : (bs : List ℕ) (f : DecodeError) → varint_at bs ≡ Err f → delimited_at bs ≡ Err f
 delimited_short bs f v = rw v refl
+
+-- the same, where they are there, and where they aren't
+pub cut_front : (n : ℕ) (bs mid rest : List ℕ) → varint_at bs ≡ Ok (n, mid) → n ≤ length mid → rest ≡ drop n mid → delimited_at bs ≡ Ok (take n mid, rest)
+cut_front n bs mid rest v fits follows = rw follows (delimited_front n bs mid (take n mid) v (record { is = refl; fits = fits }))
+
+pub cut_short : (n : ℕ) (bs mid : List ℕ) → varint_at bs ≡ Ok (n, mid) → length mid < n → delimited_at bs ≡ Err UnexpectedEof
+unfolding taken
+cut_short n bs mid v few = rw (v, lt-ltb (length mid) n few) refl
 
 pub delimited_tail : (bs e rest : List ℕ) → delimited_at bs ≡ Ok (e, rest) → IsTailOf rest bs
 delimited_tail bs e rest h =

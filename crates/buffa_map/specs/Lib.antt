@@ -6,6 +6,7 @@ pub mod Entry
 pub mod Fields
 pub mod Run
 pub mod Merge
+pub mod Parts
 pub mod Lent
 pub mod Text
 pub mod Message

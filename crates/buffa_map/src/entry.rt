@@ -1,18 +1,23 @@
 //! One entry of a map field.
 
-ghost use Rattle.std.specs.Prelude.{◌≡◌, ◌+◌, ◌<◌, [], IfErr, OnErr, OnOk};
-ghost use Rattle.buffa_bytes.specs.declared.error.DecodeError.TheVariants.{ElementMemoryLimitExceeded};
+ghost use Rattle.std.specs.Prelude.{◌≡◌, ◌+◌, ◌<◌, [], IfErr, IfOk, OnErr, OnOk};
+ghost use Rattle.buffa_bytes.specs.declared.error.DecodeError.TheVariants.{ElementMemoryLimitExceeded, OutOfMemory};
 ghost use Rattle.buffa_wire.specs.BudgetLeft.{budget_left};
+ghost use Rattle.buffa_map.specs.Entry.{meant_entry};
 ghost use Rattle.buffa_map.specs.Lent.{records_in, records_left};
 ghost use Rattle.buffa_map.specs.Merge.{MergesEntry, MergesWhole, RefusesEntry, RefusesWhole};
 ghost use Rattle.buffa_map.specs.Merge.{dropping, lending, rules, state};
+ghost use Rattle.buffa_map.specs.Pairs.{InOrder, SamePairs, put};
+ghost use Rattle.buffa_map.specs.Parts.{ReadsCut, ReadsParts, RefusesCut, RefusesParts};
 
 use crate::codec::{MapCodec, MapValueDecode};
 use crate::fields::merge_fields;
 use crate::keep::{Dropped, Keeper};
+use crate::map_entry::MapEntry;
 use crate::merge_value::{ByCodec, MergeValue};
 use crate::storage::MapStorage;
 use buffa_bytes::buf::{copy_bytes, front};
+use buffa_bytes::limited::Limited;
 use buffa_wire::{Budget, Buf, DecodeContext, DecodeError, UnknownFields, decode_varint};
 use std::alloc::Global;
 
@@ -28,6 +33,70 @@ fn charge(budget: &mut Budget, key: usize, value: usize) -> Result<(), DecodeErr
         Some(cost) => budget.take_memory(cost),
         None => Err(DecodeError::ElementMemoryLimitExceeded),
     }
+}
+
+// Spends the cost of a pair, and reads the fields of an entry, all that is left of the bytes.
+fn read_parts<KC: MapCodec, W: MergeValue, B: Buf>(
+    alloc: Global,
+    buf: &mut B,
+    ctx: DecodeContext<'_>,
+    how: &W,
+) -> Result<MapEntry<KC::Value, W::Value>, DecodeError>
+    requires { W.may how.now ctx.depth }
+    ensures ok { IfOk result (λ parts. ReadsParts KC.reading W.reading ctx.entry.depth (KC.COST + W.COST)
+        (B.unread buf.old) ctx.entry.budget.now (meant_entry KC.Value.meaning W.Value.meaning parts)
+        (budget_left ctx.exit)) }
+    ensures err { IfErr result (RefusesParts KC.reading W.reading ctx.entry.depth (KC.COST + W.COST)
+        (B.unread buf.old) ctx.entry.budget.now (budget_left ctx.exit)) }
+    ensures kept { B.beyond buf.new ≡ B.beyond buf.old }
+{
+    let DecodeContext { depth, budget } = ctx;
+    charge(&mut *budget, KC::COST, W::COST)?;
+    let lent = DecodeContext { depth, budget };
+    merge_fields::<KC, W, B>(alloc, buf, lent, how)
+}
+
+// The same of an entry of `len` bytes, which is read as it comes; what is left of it is passed over.
+fn read_cut<KC: MapCodec, W: MergeValue, B: Buf>(
+    alloc: Global,
+    buf: &mut B,
+    len: u64,
+    ctx: DecodeContext<'_>,
+    how: &W,
+) -> Result<MapEntry<KC::Value, W::Value>, DecodeError>
+    requires { W.may how.now ctx.depth }
+    ensures ok { IfOk result (λ parts. ReadsCut KC.reading W.reading ctx.entry.depth (KC.COST + W.COST)
+        len (B.unread buf.old) ctx.entry.budget.now (meant_entry KC.Value.meaning W.Value.meaning parts)
+        (budget_left ctx.exit) (B.unread buf.new)) }
+    ensures err { IfErr result (RefusesCut KC.reading W.reading ctx.entry.depth (KC.COST + W.COST)
+        len (B.unread buf.old) ctx.entry.budget.now (budget_left ctx.exit) (B.unread buf.new)) }
+    ensures kept { B.beyond buf.new ≡ B.beyond buf.old }
+{
+    if len > buf.remaining() as u64 {
+        return Err(DecodeError::UnexpectedEof);
+    }
+    let mut entry = Limited::new(buf, len as usize);
+    let parts = read_parts::<KC, W, Limited<'_, B>>(alloc, &mut entry, ctx, how);
+    entry.finish();
+    parts
+}
+
+// Puts the pair of an entry.
+fn put_pair<C: MapStorage>(
+    map: &mut C,
+    parts: MapEntry<C::Key, C::Value>,
+) -> Result<(), DecodeError>
+    ensures ok { OnOk result (SamePairs C.equal
+        (put C.equal (C.pairs map.old) (C.Key.meaning parts.key) (C.Value.meaning parts.value)) (C.pairs map.new)) }
+    ensures order { OnOk result (InOrder C.keeps_order
+        (put C.equal (C.pairs map.old) (C.Key.meaning parts.key) (C.Value.meaning parts.value)) (C.pairs map.new)) }
+    ensures err { OnErr result (C.pairs map.new ≡ C.pairs map.old) }
+    ensures full { IfErr result (λ e. e ≡ OutOfMemory) }
+{
+    let Ok(()) = map.storage_insert(parts.key, parts.value) else {
+        return Err(DecodeError::OutOfMemory);
+    };
+    Ok(())
 }
 
 // Merges an entry, all of the bytes: its pair is put, and one that is undeclared goes to the keeper.
@@ -56,23 +125,20 @@ fn merge_whole<
         (state (C.pairs map.new) (L.records keeper.new) (budget_left ctx.exit))) }
 {
     let DecodeContext { depth, budget } = ctx;
-    charge(&mut *budget, KC::COST, W::COST)?;
     let lent = DecodeContext {
         depth,
         budget: &mut *budget,
     };
-    let parts = merge_fields::<KC, W>(alloc, entry, lent, how)?;
+    let mut rest = entry;
+    let parts = read_parts::<KC, W, &[u8]>(alloc, &mut rest, lent, how)?;
     if !parts.known {
         return keeper.keep(alloc, number, entry, budget);
     }
-    let Ok(()) = map.storage_insert(parts.key, parts.value) else {
-        return Err(DecodeError::OutOfMemory);
-    };
-    Ok(())
+    put_pair(map, parts)
 }
 
 // Merges one entry; one that is undeclared goes to the keeper. It is read where it lies, and copied only
-// where it is cut.
+// where it is cut and may be kept.
 pub(crate) fn merge_entry_by<
     KC: MapCodec,
     W: MergeValue,
@@ -105,8 +171,15 @@ pub(crate) fn merge_entry_by<
         buf.advance(len as usize);
         return merged;
     }
-    let entry = copy_bytes(alloc, buf, len)?;
-    merge_whole::<KC, W, C, L>(alloc, map, &entry, ctx, number, how, keeper)
+    if L::KEEPS {
+        let entry = copy_bytes(alloc, buf, len)?;
+        return merge_whole::<KC, W, C, L>(alloc, map, &entry, ctx, number, how, keeper);
+    }
+    let parts = read_cut::<KC, W, B>(alloc, buf, len, ctx, how)?;
+    if !parts.known {
+        return Ok(());
+    }
+    put_pair(map, parts)
 }
 
 /// Merges one entry of a map field, its length varint first, into the map.

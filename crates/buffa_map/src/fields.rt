@@ -45,31 +45,31 @@ fn merge_field<KC: MapValueDecode, W: MergeValue, B: Buf>(
     Ok(())
 }
 
-// Merges the fields of an entry, all of the bytes.
-pub(crate) fn merge_fields<KC: MapValueDecode, W: MergeValue>(
+// Merges the fields of an entry, all that is left of the bytes.
+pub(crate) fn merge_fields<KC: MapValueDecode, W: MergeValue, B: Buf>(
     alloc: Global,
-    bytes: &[u8],
+    buf: &mut B,
     ctx: DecodeContext<'_>,
     how: &W,
 ) -> Result<MapEntry<KC::Value, W::Value>, DecodeError>
     requires { W.may how.now ctx.depth }
-    ensures ok { IfOk result (λ parts. MergesFields KC.reading W.reading ctx.entry.depth bytes.now
+    ensures ok { IfOk result (λ parts. MergesFields KC.reading W.reading ctx.entry.depth (B.unread buf.old)
         ctx.entry.budget.now (meant_entry KC.Value.meaning W.Value.meaning parts) (budget_left ctx.exit)) }
-    ensures err { IfErr result (RefusesFields KC.reading W.reading ctx.entry.depth bytes.now
+    ensures err { IfErr result (RefusesFields KC.reading W.reading ctx.entry.depth (B.unread buf.old)
         ctx.entry.budget.now (budget_left ctx.exit)) }
+    ensures kept { B.beyond buf.new ≡ B.beyond buf.old }
 {
     let mut parts = MapEntry {
         key: <KC::Value as Blank>::blank(alloc),
         value: <W::Value as Blank>::blank(alloc),
         known: true,
     };
-    let mut rest = bytes;
-    while rest.remaining() > 0 {
+    'fields: while buf.remaining() > 0 {
         let lent = DecodeContext {
             depth: ctx.depth,
             budget: &mut *ctx.budget,
         };
-        merge_field::<KC, W, &[u8]>(alloc, &mut parts, &mut rest, lent, how)?;
+        merge_field::<KC, W, B>(alloc, &mut parts, buf, lent, how)?;
     }
     Ok(parts)
 }

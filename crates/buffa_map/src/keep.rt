@@ -1,6 +1,7 @@
 //! What becomes of an entry whose value is undeclared.
 
-ghost use Rattle.std.specs.Prelude.{◌≡◌, ◌≢◌, ◌+◌, ◌<◌, ◌≤◌, ◌++◌, ◌∷◌, ℕ, List, [], IfErr, OnErr, OnOk};
+ghost use Rattle.std.specs.Prelude.{◌≡◌, ◌≢◌, ◌+◌, ◌<◌, ◌≤◌, ◌++◌, ◌∷◌, ℕ, Bool, List, [], true, false};
+ghost use Rattle.std.specs.Prelude.{IfErr, OnErr, OnOk, refl};
 ghost use Rattle.buffa_bytes.specs.declared.error.DecodeError.TheVariants.{OutOfMemory, UnknownFieldLimitExceeded};
 ghost use Rattle.buffa_wire.specs.Records.{Datum, bytes};
 
@@ -9,6 +10,11 @@ use std::alloc::Global;
 
 /// What becomes of an entry whose value is undeclared: it is kept whole, or dropped.
 pub(crate) trait Keeper {
+    /// Whether it keeps any.
+    const KEEPS: bool;
+
+    ghost KEEPS: { Bool };
+
     /// The records so far.
     ghost records: { Self → List (ℕ × Datum) };
 
@@ -33,6 +39,9 @@ pub(crate) trait Keeper {
         ensures fault { IfErr result (λ f. f ≢ OutOfMemory → (budget.old.unknown < slot)
             × (f ≡ UnknownFieldLimitExceeded) × (budget.new.unknown ≡ budget.old.unknown)) }
         ensures memory { budget.new.memory ≡ budget.old.memory };
+
+    /// Where it keeps none, an entry takes no slot, and adds nothing.
+    ghost drops: { KEEPS ≡ false → (slot ≡ 0) × ((n : ℕ) (entry : List ℕ) → adds n entry ≡ []) };
 }
 
 /// Entries are dropped, and take no slot.
@@ -40,6 +49,10 @@ pub(crate) trait Keeper {
 pub(crate) struct Dropped;
 
 impl Keeper for Dropped {
+    const KEEPS: bool = false;
+
+    ghost KEEPS = { false };
+
     ghost records = { λ _. [] };
 
     ghost slot = { 0 };
@@ -56,9 +69,15 @@ impl Keeper for Dropped {
         // Nothing is kept, and nothing is spent.
         Ok(())
     }
+
+    ghost drops = { λ none. (refl, λ n entry. refl) };
 }
 
 impl Keeper for UnknownFields {
+    const KEEPS: bool = true;
+
+    ghost KEEPS = { true };
+
     ghost records = { λ list. list.records };
 
     ghost slot = { 1 };
@@ -85,4 +104,6 @@ impl Keeper for UnknownFields {
             Err(_) => Err(DecodeError::OutOfMemory),
         }
     }
+
+    ghost drops = { λ none. cc };
 }

@@ -4,9 +4,9 @@ use Rattle.std.proofs.lemmas.Result.{err_from_is_err_and}
 use Rattle.buffa_bytes.proofs.FullLemmas.{varint_no_full}
 use Rattle.buffa_bytes.proofs.TailLemmas.{tail_more}
 use Rattle.buffa_wire.proofs.InsideLemmas.{delimited_front}
-use Rattle.buffa_map.proofs.MergeLemmas.{no_entry}
-use Rattle.buffa_map.proofs.ResultLemmas.{IfErr-map, OnOk-map}
-use Rattle.buffa_map.proofs.TailLemmas.{delimited_after, delimited_short}
+use Rattle.buffa_map.proofs.MergeLemmas.{bad_cut, is_dropped, is_put, no_entry, not_put}
+use Rattle.buffa_map.proofs.ResultLemmas.{IfErr-map, IfErr-with, OnOk-both, OnOk-map}
+use Rattle.buffa_map.proofs.TailLemmas.{cut_front, delimited_after, delimited_short}
 use Rattle.buffa_map.proofs.entry.merge_entry_by.Goals as goal
 
 pub returns-in_err-len-clause-err : goal.returns-in_err-len-clause-err
@@ -30,3 +30,25 @@ returns-in_err-entry-clause-err g c =
     let copy = c.in_err-entry.ensures in
     let same = delimited_after _ _ _ len.reads in
     rw (p.1, p.2) (no_entry _ _ _ _ _ _ _ (tail_more _ _ _ copy.tail len.tail) (λ ne. same ∙ copy.reads ne) (λ out. subst (λ z. IsOk z) (sym same) (copy.full out)))
+
+pub returns-in_err-parts-clause-err : goal.returns-in_err-parts-clause-err
+returns-in_err-parts-clause-err g c =
+    let p = err_from_is_err_and c.from_residual-in_err-parts.result c.from_residual-in_err-parts.ensures.1 in
+    let len = c.in_ok-len.ensures in
+    rw (p.1, p.2) (bad_cut _ _ _ _ _ _ _ _ _ _ len.reads len.tail c.in_err-parts.ensures.err)
+
+pub returns-then-not-parts-clause-ok : goal.returns-then-not-parts-clause-ok
+returns-then-not-parts-clause-ok g c =
+    let cut = c.in_ok-parts.ensures.ok in
+    let none = g.met.L.Keeper.drops (sym c.KEEPS.ensures ∙ c.if-KEEPS.false) in
+    is_dropped _ _ _ _ _ _ _ (cut_front _ _ _ _ c.in_ok-len.ensures.reads cut.fits cut.follows) _ _ cut.parts c.if-not-parts.true none.0 none.1
+
+pub returns-clause-ok : goal.returns-clause-ok
+returns-clause-ok g c =
+    let cut = c.in_ok-parts.ensures.ok in
+    OnOk-both c.put_pair.result (λ h order. is_put _ _ _ _ _ _ _ (cut_front _ _ _ _ c.in_ok-len.ensures.reads cut.fits cut.follows) _ _ cut.parts c.if-not-parts.false _ h order) c.put_pair.ensures.ok c.put_pair.ensures.order
+
+pub returns-clause-err : goal.returns-clause-err
+returns-clause-err g c =
+    let cut = c.in_ok-parts.ensures.ok in
+    IfErr-with c.put_pair.result (λ f same out. not_put _ _ _ _ _ _ _ (cut_front _ _ _ _ c.in_ok-len.ensures.reads cut.fits cut.follows) _ _ cut.parts _ f out same) c.put_pair.ensures.err c.put_pair.ensures.full
