@@ -17,8 +17,7 @@ use crate::map_entry::MapEntry;
 use crate::merge_value::{ByCodec, MergeValue};
 use crate::storage::MapStorage;
 use buffa_bytes::buf::{copy_bytes, front};
-use buffa_bytes::limited::Limited;
-use buffa_wire::{Budget, Buf, DecodeContext, DecodeError, UnknownFields, decode_varint};
+use buffa_wire::{Budget, Buf, DecodeContext, DecodeError, Limited, UnknownFields, decode_varint};
 use std::alloc::Global;
 
 // Spends the cost of a pair. A sum past what a number of units can be is more than any budget has.

@@ -7,7 +7,8 @@ use buffa_map::map_codec::{Int32 as Int32Entry, merge_entry};
 use buffa_options::Carrier;
 use buffa_wire::scalars::Int32;
 use buffa_wire::{
-    Buf, Budget, DecodeContext, Pieces, RECURSION_LIMIT, UnknownField, UnknownFieldData, UnknownFields,
+    Budget, Buf, DecodeContext, Pieces, RECURSION_LIMIT, UnknownField, UnknownFieldData,
+    UnknownFields,
 };
 use std::alloc::{AllocError, Global};
 use std::collections::BTreeMap;
@@ -42,12 +43,7 @@ fn set(alloc: Global, carrier: &mut Carrier) -> Option<&'static [u8]> {
 }
 
 // Merges an entry of the key 5; whether the map has its value then.
-fn merges<B: Buf>(
-    alloc: Global,
-    map: &mut BTreeMap<i32, i32>,
-    entry: &mut B,
-    value: i32,
-) -> bool {
+fn merges<B: Buf>(alloc: Global, map: &mut BTreeMap<i32, i32>, entry: &mut B, value: i32) -> bool {
     let mut budget = Budget::new(0);
     let ctx = DecodeContext::new(RECURSION_LIMIT, &mut budget);
     let done = merge_entry::<Int32Entry, Int32Entry, _, _>(alloc, map, entry, ctx).is_ok();
