@@ -112,6 +112,7 @@ pub fn merge_item<B: Buf>(
     ensures full { FullOnlyIf result ((0 < ctx.entry.budget.now.unknown)
         × HasMessage ctx.entry.depth (B.unread buf.old)) }
     ensures spent { SpendsSlot ctx.entry.budget.now (budget_left ctx.exit) }
+    ensures untouched { ctx.entry.budget.now.unknown ≡ 0 → B.unread buf.new ≡ B.unread buf.old }
     ensures kept { B.beyond buf.new ≡ B.beyond buf.old }
     ensures tail { IsTailOf (B.unread buf.new) (B.unread buf.old) }
 {
