@@ -1,11 +1,11 @@
 -- Items: what is read of them, and the grammar.
-use Rattle.std.proofs.Common.{◌≡◌, ◌≢◌, ◌⊎◌, inl, inr, ℕ, zero, suc, ◌==◌, ◌&&◌, nat_lt, ◌<◌, ◌^◌, Bool, true, false, List, [], ◌∷◌, ◌++◌, length, Option, None, Some, Result, Ok, Err, IsOk, refl, true≢false, sym, ap, subst, ◌∙◌, arith, append_assoc, append-nil, length-append}
+use Rattle.std.proofs.Common.{◌≡◌, ◌≢◌, ◌⊎◌, inl, inr, ℕ, zero, suc, ◌==◌, ◌&&◌, nat_lt, ◌<◌, ◌^◌, Bool, true, false, List, [], ◌∷◌, ◌++◌, length, drop, Option, None, Some, Result, Ok, Err, IsOk, refl, true≢false, sym, ap, subst, ◌∙◌, arith, append_assoc, append-nil, length-append}
 use Rattle.std.proofs.lemmas.Bool.{eqb-true, eq-eqb, lt-ltb, le-ltb, ltb-true, ltb-false}
 use Rattle.std.proofs.lemmas.List.{append_cancel_right}
 use Rattle.buffa_wire.specs.Field.{IsTag, LengthFault, Payload, TakesDelimited, TakesTag}
 use Rattle.buffa_wire.specs.Values.{tag_text}
 use Rattle.buffa_wire.specs.Varint.{IsVarint, varint_text}
-use Rattle.buffa_wire.specs.Reading.{delimited_at, skip_at, tag_at}
+use Rattle.buffa_wire.specs.Reading.{delimited_at, skip_at, tag_at, taken, varint_at}
 use Rattle.buffa_wire.specs.WireType.{same_wire}
 use Rattle.buffa_bytes.specs.declared.wire_type.WireType.{WireType}
 use Rattle.buffa_bytes.specs.declared.wire_type.WireType.TheVariants.{Varint, LengthDelimited, EndGroup}
@@ -13,14 +13,16 @@ use Rattle.buffa_bytes.specs.declared.error.DecodeError.{DecodeError}
 use Rattle.buffa_bytes.specs.declared.error.DecodeError.TheVariants.{InvalidMessageSet, OutOfMemory}
 use Rattle.buffa_bytes.specs.declared.error.MessageSetFault.TheVariants.{MissingTypeId}
 use Rattle.buffa_bytes.proofs.StepLemmas.{Agrees, agree_bind, agree_err, agree_if, agree_ok, agree_weaker}
-use Rattle.buffa_bytes.proofs.DelimitedLemmas.{delimited_complete, delimited_faulty, delimited_sound}
+use Rattle.buffa_bytes.proofs.DelimitedLemmas.{delimited_complete, delimited_faulty, delimited_sound, taken_sound}
 use Rattle.buffa_bytes.proofs.FieldLemmas.{payload_complete, payload_faulty, payload_sound, tag_complete, tag_faulty, tag_some, tag_sound}
 use Rattle.buffa_bytes.proofs.FullLemmas.{delimited_full, payload_fault_full, payload_full, tag_fault_full}
 use Rattle.buffa_bytes.proofs.VarintLemmas.{IsVarint-varint_text, varint_complete, varint_faulty, varint_sound}
+use Rattle.buffa_wire.specs.Unread.{IsFrontOf}
 use Rattle.buffa_wire.specs.Sequence.{ParsesEach, ParsesTo, join}
+use Rattle.buffa_wire.proofs.InsideLemmas.{delimited_front}
 use Rattle.buffa_wire.proofs.SequenceLemmas.{ParsesTo-first, ParsesTo-more, ok_same}
 use Rattle.buffa_map.proofs.EntryLemmas.{same_refl, same_true}
-use Rattle.buffa.specs.Item.{EndFault, FieldFault, HasMessage, IsField, IsMessageAt, IsOther, IsOutOfRange, IsTypeId, Item, ItemFault, Reaches, Said, TakesItem, TypeIdFault, body_text, ended, ends, field_at, item_at, item_within, said, says, type_id_at, unsaid}
+use Rattle.buffa.specs.Item.{BytesAt, EndFault, FieldFault, HasMessage, IsField, IsMessageAt, IsOther, IsOutOfRange, IsTypeId, Item, ItemFault, Reaches, Said, TakesItem, TypeIdFault, appended_at, body_text, ended, ends, field_at, item_at, item_within, said, says, type_id_at, unsaid}
 
 -- ---- numbers and wire types that are looked for
 and_true : (a b : Bool) → (a && b) ≡ true → (a ≡ true) × (b ≡ true)
@@ -272,11 +274,32 @@ module _ (d : ℕ) where
   item_fault_full bs (s, rest, reached, inl h) = field_fault_full rest h
   item_fault_full bs (s, rest, reached, inr (after, t, no_id, e)) = cc
 
--- ---- the loop over the fields
+-- ---- message bytes
 ok_of : {A : Type 0} (r : Result A DecodeError) → IsOk r → (x : A) × (r ≡ Ok x)
 ok_of (Ok x) h = (x, refl)
 ok_of (Err e) h = cc
 
+-- no bytes change nothing
+pub no_bytes : (n : ℕ) (msg bs mid : List ℕ) → varint_at bs ≡ Ok (n, mid) → n ≡ 0 → appended_at msg bs ≡ Ok (msg, mid)
+unfolding taken
+no_bytes n msg bs mid v none = rw (v, none, le-ltb (length mid) 0 (omega arith), append-nil msg) refl
+
+-- bytes that lie at the front, after their length
+pub part_appended : (n : ℕ) (msg bs mid part rest : List ℕ) → varint_at bs ≡ Ok (n, mid) → IsFrontOf part n mid → rest ≡ drop n mid → appended_at msg bs ≡ Ok (msg ++ part, rest)
+part_appended n msg bs mid part rest v f e = rw (delimited_front n bs mid part v f, e) refl
+
+-- after a length that isn't 0 there are bytes, where so many are left
+pub some_bytes : (n : ℕ) (bs mid : List ℕ) → varint_at bs ≡ Ok (n, mid) → n ≢ 0 → IsOk (taken n mid) → BytesAt bs
+some_bytes n bs mid v some there =
+    let x = ok_of (taken n mid) there in
+    let t = agree_ok (taken n mid) x.0 (taken_sound n mid) x.1 in
+    (x.0.0, x.0.1, rw v x.1, λ e. some (sym t.0 ∙ ap length e))
+
+pub some_part : (n : ℕ) (bs mid part : List ℕ) → varint_at bs ≡ Ok (n, mid) → n ≢ 0 → IsFrontOf part n mid → BytesAt bs
+unfolding taken
+some_part n bs mid part v some f = some_bytes n bs mid v some (rw (le-ltb (length mid) n f.fits) refl)
+
+-- ---- the loop over the fields
 module _ (d : ℕ) (all : List ℕ) (s : Said) (bs : List ℕ) (reached : Reaches d all s bs) where
   pub no_tag : (e : DecodeError) → tag_at bs ≡ Err e → item_at d all ≡ Err e
   no_tag e h = read_faulty d all e (s, bs, reached, inl (inl (agree_err (tag_at bs) e (tag_sound bs) h)))
@@ -319,10 +342,9 @@ module _ (d : ℕ) (all : List ℕ) (s : Said) (bs : List ℕ) (reached : Reache
           omega (arith, field_some d s t u.0 u.1, ap length u.2, length-append u.0 after)
 
     pub found_message : IsMessageAt n w rest → HasMessage d all
-    found_message (three, delimited, there) =
-        let x = ok_of (delimited_at rest) there in
-        let b = agree_ok (delimited_at rest) x.0 (delimited_sound rest) x.1 in
-        (s, bs, rest, x.0.0, x.0.1, reached, (took.0, tag_of d took.0 n 3 LengthDelimited w took.1 three (sym delimited), took.2), b)
+    found_message (three, delimited, (b, after, e, some)) =
+        let t = agree_ok (delimited_at rest) (b, after) (delimited_sound rest) e in
+        (s, bs, rest, b, after, reached, (took.0, tag_of d took.0 n 3 LengthDelimited w took.1 three (sym delimited), took.2), t, some)
 
 -- ---- laws
 module _ (d : ℕ) where

@@ -1,6 +1,6 @@
 -- The Items of a MessageSet: what follows an Item's start tag, up to and with its end tag.
 -- Source: the documentation of buffa, "MessageSet wire format helpers"; the protobuf encoding guide, "Groups".
-use Rattle.std.specs.Prelude.{◌≡◌, ◌≢◌, ℕ, zero, suc, ◌+◌, ◌^◌, ◌<◌, ◌≤◌, ◌==◌, ◌&&◌, nat_lt, ◌⊎◌, Bool, List, [], ◌++◌, length, Option, None, Some, IsOk, Result, Ok, Err, if◌then◌else◌}
+use Rattle.std.specs.Prelude.{◌≡◌, ◌≢◌, ℕ, zero, suc, ◌+◌, ◌^◌, ◌<◌, ◌≤◌, ◌==◌, ◌&&◌, nat_lt, ◌⊎◌, Bool, List, [], ◌++◌, length, Option, None, Some, Result, Ok, Err, if◌then◌else◌}
 use Rattle.buffa_wire.specs.Gives.{◌>>=◌}
 use Rattle.buffa_wire.specs.Varint.{IsVarint, TakesVarint, VarintFault, varint_text}
 use Rattle.buffa_wire.specs.Values.{delimited_text, tag_text}
@@ -75,11 +75,11 @@ module _ (d : ℕ) where
   abbrev pub TakesItem : List ℕ → ℕ → List ℕ → List ℕ → Type 0
   TakesItem bs id msg rest = (b : List ℕ) × Item b id msg × (bs ≡ b ++ rest)
 
-  -- after some fields, a message field with all its bytes
+  -- after some fields, a message field with all its bytes, and some are there
   abbrev pub HasMessage : List ℕ → Type 0
   HasMessage bs =
       (s : Said) × (field : List ℕ) × (payload : List ℕ) × (b : List ℕ) × (rest : List ℕ)
-      × Reaches bs s field × TakesTag field 3 LengthDelimited payload × TakesDelimited payload b rest
+      × Reaches bs s field × TakesTag field 3 LengthDelimited payload × TakesDelimited payload b rest × (b ≢ [])
 
 -- ---- the first fault
 
@@ -118,9 +118,13 @@ type_id_at bs = varint_at bs >>= (λ n.
 abbrev pub appended_at : List ℕ → List ℕ → Result (List ℕ × List ℕ) DecodeError
 appended_at msg bs = delimited_at bs >>= (λ x. Ok (msg ++ x.0, x.1))
 
--- a message field of number n and wire type w, with all its bytes
+-- a length that isn't 0, and so many bytes
+abbrev pub BytesAt : List ℕ → Type 0
+BytesAt bs = (b : List ℕ) × (rest : List ℕ) × (delimited_at bs ≡ Ok (b, rest)) × (b ≢ [])
+
+-- a message field of number n and wire type w, with all its bytes, and some are there
 abbrev pub IsMessageAt : ℕ → WireType → List ℕ → Type 0
-IsMessageAt n w bs = (n ≡ 3) × (w ≡ LengthDelimited) × IsOk (delimited_at bs)
+IsMessageAt n w bs = (n ≡ 3) × (w ≡ LengthDelimited) × BytesAt bs
 
 -- what is said after a type id, and after message bytes
 abbrev pub id_then : Said → List ℕ → Result (Said × List ℕ) DecodeError

@@ -10,15 +10,15 @@
 //! let (number, payload) = merge_item(alloc, &mut rest, ctx.descend()?)?;
 //! ```
 
-ghost use Rattle.std.specs.Prelude.{◌≡◌, ◌^◌, ◌<◌, ℕ, List, length, IfOk, IsOk};
-ghost use Rattle.buffa_wire.specs.Reading.{delimited_at};
+ghost use Rattle.std.specs.Prelude.{◌≡◌, ◌^◌, ◌<◌, ℕ, List, length, IfOk};
 ghost use Rattle.buffa_wire.specs.BudgetLeft.{budget_left};
 ghost use Rattle.buffa_wire.specs.Gives.{FullOnlyIf, Gives, GivesUnlessFull};
 ghost use Rattle.buffa_wire.specs.Unread.{IsTailOf};
 ghost use Rattle.buffa_wire.specs.Written.{UsesRoom, Writes};
 ghost use Rattle.buffa.specs.Item.{HasMessage, IsTypeId, SpendsSlot, field_at, item_at, item_in, item_size, item_text};
-ghost use Rattle.buffa.specs.Item.{IsMessageAt, appended_at, ends, said, type_id_at};
+ghost use Rattle.buffa.specs.Item.{BytesAt, IsMessageAt, appended_at, ends, said, type_id_at};
 
+use buffa_bytes::buf::{copy_bytes, front};
 use buffa_wire::{
     Buf, DecodeContext, DecodeError, EncodeError, EncodeSink, MessageSetFault, Tag, WireType,
     decode_varint, encode_varint, skip_field_depth, types, varint_len,
@@ -86,12 +86,12 @@ pub fn write_item<S: EncodeSink>(
 /// It takes one slot for unknown fields first. The type id and the message come in either order; the last
 /// type id counts, and the bytes of several messages are joined. Other fields are passed over at the context's
 /// depth, so the context is to be one that was descended: `ctx.descend()?`. What follows the Item is left
-/// unread. Memory is asked for only for message bytes that are there.
+/// unread. Memory is asked for only for message bytes that are there, and never for a message of none.
 ///
 /// # Errors
 /// The first fault, and nothing else is handed out: [`DecodeError::UnknownFieldLimitExceeded`] where no slot
-/// is left, and then none is spent; of a tag, as [`Tag::decode`] tells it; of a varint or a length;
-/// [`DecodeError::InvalidMessageSet`] for a type id out of range, at once, and for none at the end;
+/// is left, and then none is spent and nothing is read; of a tag, as [`Tag::decode`] tells it; of a varint or
+/// a length; [`DecodeError::InvalidMessageSet`] for a type id out of range, at once, and for none at the end;
 /// [`DecodeError::InvalidEndGroup`] for an end tag of another number; of a field that is passed over, as
 /// [`skip_field_depth`] tells it. Or [`DecodeError::OutOfMemory`].
 ///
@@ -112,6 +112,7 @@ pub fn merge_item<B: Buf>(
     ensures full { FullOnlyIf result ((0 < ctx.entry.budget.now.unknown)
         × HasMessage ctx.entry.depth (B.unread buf.old)) }
     ensures spent { SpendsSlot ctx.entry.budget.now (budget_left ctx.exit) }
+    ensures untouched { ctx.entry.budget.now.unknown ≡ 0 → B.unread buf.new ≡ B.unread buf.old }
     ensures kept { B.beyond buf.new ≡ B.beyond buf.old }
     ensures tail { IsTailOf (B.unread buf.new) (B.unread buf.old) }
 {
@@ -199,7 +200,8 @@ fn decode_type_id<B: Buf>(buf: &mut B) -> Result<u32, DecodeError>
     Ok(number as u32)
 }
 
-// Reads a length and so many bytes, and puts them behind the others.
+// Reads a length and so many bytes, and puts them behind the others. For no bytes nothing is asked of memory.
+#[tactic(auto, using(buffa_bytes::proofs::TailLemmas::tail_more, buffa_bytes::proofs::TailLemmas::tail_dropped))]
 fn append_message<B: Buf>(
     alloc: Global,
     buf: &mut B,
@@ -207,11 +209,22 @@ fn append_message<B: Buf>(
 ) -> Result<(), DecodeError>
     ensures reads { GivesUnlessFull (λ _. (message.new.items, B.unread buf.new)) result
         (appended_at message.old.items (B.unread buf.old)) }
-    ensures full { FullOnlyIf result (IsOk (delimited_at (B.unread buf.old))) }
+    ensures full { FullOnlyIf result (BytesAt (B.unread buf.old)) }
     ensures kept { B.beyond buf.new ≡ B.beyond buf.old }
     ensures tail { IsTailOf (B.unread buf.new) (B.unread buf.old) }
 {
-    let bytes = types::decode_bytes(alloc, buf)?;
+    let len = decode_varint(buf)?;
+    if len == 0 {
+        return Ok(());
+    }
+    if let Some(part) = front(buf, len) {
+        let Ok(()) = message.extend_from_slice(part) else {
+            return Err(DecodeError::OutOfMemory);
+        };
+        buf.advance(len as usize);
+        return Ok(());
+    }
+    let bytes = copy_bytes(alloc, buf, len)?;
     if message.is_empty() {
         *message = bytes;
         return Ok(());
