@@ -16,7 +16,7 @@ use std::alloc::Global;
 ///
 /// # Errors
 /// Those of [`ExtensionSet::set_extension`], nothing is changed then; or out of memory for the reading, the
-/// value is set then.
+/// value is set then. Where reading takes no memory, nothing is changed on any error.
 ///
 /// ```ignore
 /// let stored = set_then_read(alloc, &mut options, &RETRIES, 3)?; // Some(3)
@@ -34,6 +34,7 @@ pub fn set_then_read<M: ExtensionSet, C: ExtensionCodec, D>(
         (M.fields_of message.new)) }
     ensures err { OnErr result ((message.new ≡ message.old) ⊎ IsSet ext.now.number (C.recs (C.meaning value))
         (M.fields_of message.old) (M.fields_of message.new)) }
+    ensures unchanged { C.never_fails → OnErr result (message.new ≡ message.old) }
     ensures refused { Refuses result (C.refusal (C.meaning value)) }
     ensures fits { OnOk result (C.fits (C.meaning value)) }
     ensures rest { (w : Held) × (message.new ≡ M.with_fields message.old w) }
