@@ -1,6 +1,9 @@
 //! What is set is read back.
 
-ghost use Rattle.std.specs.Prelude.{◌≡◌, IfOk};
+ghost use Rattle.std.specs.Prelude.{◌≡◌, ◌⊎◌, IfOk, OnOk, OnErr};
+ghost use Rattle.buffa_wire.specs.Records.{Held};
+ghost use Rattle.buffa_codec.specs.Reading.{Refuses};
+ghost use Rattle.buffa_ext.specs.Steps.{IsSet};
 
 use crate::descriptor::Extension;
 use crate::set::ExtensionSet;
@@ -8,10 +11,12 @@ use buffa_codec::ExtensionCodec;
 use buffa_wire::EncodeError;
 use std::alloc::Global;
 
-/// Sets a value, and reads what is there then: the value, or what the codec makes of its records.
+/// Sets a value, and reads what is there then: the value, or what the codec makes of its records. The value
+/// stays set; the rest of the message stays as it is.
 ///
 /// # Errors
-/// Those of [`ExtensionSet::set_extension`]; or out of memory for the reading.
+/// Those of [`ExtensionSet::set_extension`], nothing is changed then; or out of memory for the reading, the
+/// value is set then. Where reading takes no memory, nothing is changed on any error.
 ///
 /// ```ignore
 /// let stored = set_then_read(alloc, &mut options, &RETRIES, 3)?; // Some(3)
@@ -24,7 +29,15 @@ pub fn set_then_read<M: ExtensionSet, C: ExtensionCodec, D>(
 ) -> Result<C::Output, EncodeError>
     requires extendee { ext.now.extendee.now ≡ M.fqn }
     requires normal { C.normal (C.meaning value) }
-    ensures { IfOk result (λ o. C.holds (C.meaning value) (C.answer o)) }
+    ensures value { IfOk result (λ o. C.holds (C.meaning value) (C.answer o)) }
+    ensures ok { OnOk result (IsSet ext.now.number (C.recs (C.meaning value)) (M.fields_of message.old)
+        (M.fields_of message.new)) }
+    ensures err { OnErr result ((message.new ≡ message.old) ⊎ IsSet ext.now.number (C.recs (C.meaning value))
+        (M.fields_of message.old) (M.fields_of message.new)) }
+    ensures unchanged { C.never_fails → OnErr result (message.new ≡ message.old) }
+    ensures refused { Refuses result (C.refusal (C.meaning value)) }
+    ensures fits { OnOk result (C.fits (C.meaning value)) }
+    ensures rest { (w : Held) × (message.new ≡ M.with_fields message.old w) }
 {
     message.set_extension(alloc, ext, value)?;
     let Ok(answer) = message.extension(alloc, ext) else {

@@ -1,6 +1,7 @@
 //! The custom options of a field, read of the unknown fields of its options.
 
-ghost use Rattle.std.specs.Prelude.{◌≡◌, codes, refl, pos, unwrap_or, IfOk, IsOk, option_map, string_bytes};
+ghost use Rattle.std.specs.Prelude.{◌≡◌, ◌≢◌, [], None, codes, refl, pos, unwrap_or};
+ghost use Rattle.std.specs.Prelude.{IfOk, IsOk, OnErr, option_map, string_bytes};
 ghost use Rattle.buffa_wire.specs.Records.{Held};
 ghost use Rattle.buffa_options.specs.Options.{bool_option, int32_list, int32_option, string_option};
 
@@ -89,19 +90,21 @@ pub fn read_bool(
 /// The option `int32 max_length = 50001`, or 255 where no record says it.
 ///
 /// # Errors
-/// Where memory runs out; making this default takes none.
+/// None: neither reading a number nor making this default takes memory.
 ///
 /// ```ignore
 /// let limit = max_length_or_default(alloc, &options)?; // 255
 /// ```
 pub fn max_length_or_default(alloc: Global, options: &FieldOptions) -> Result<i32, AllocError>
-    ensures { IfOk result (λ v. v ≡ unwrap_or (int32_option 50001 options.now.fields.records) (pos 255)) }
+    ensures value { IfOk result (λ v. v ≡ unwrap_or (int32_option 50001 options.now.fields.records) (pos 255)) }
+    ensures always { IsOk result }
 {
     let max_length = Extension::<Int32>::with_default(
         50001,
         FieldOptions::PROTO_FQN,
         |_alloc: Global| -> Result<i32, AllocError>
-            ensures { IfOk result (λ v. v ≡ pos 255) }
+            ensures value { IfOk result (λ v. v ≡ pos 255) }
+            ensures always { IsOk result }
         { Ok(255) },
     );
     options.extension_or_default(alloc, &max_length)
@@ -110,13 +113,14 @@ pub fn max_length_or_default(alloc: Global, options: &FieldOptions) -> Result<i3
 /// The option `string label = 50002`: the last that is UTF-8.
 ///
 /// # Errors
-/// Where memory runs out.
+/// Where memory runs out; never where no record is a string.
 ///
 /// ```ignore
 /// let label = read_label(alloc, &options)?; // Some("name")
 /// ```
 pub fn read_label(alloc: Global, options: &FieldOptions) -> Result<Option<String>, AllocError>
-    ensures { IfOk result (λ o. option_map string_bytes o ≡ string_option 50002 options.now.fields.records) }
+    ensures value { IfOk result (λ o. option_map string_bytes o ≡ string_option 50002 options.now.fields.records) }
+    ensures full { OnErr result (string_option 50002 options.now.fields.records ≢ None) }
 {
     let label = Extension::<StringCodec>::new(50002, FieldOptions::PROTO_FQN);
     options.extension(alloc, &label)
@@ -125,13 +129,14 @@ pub fn read_label(alloc: Global, options: &FieldOptions) -> Result<Option<String
 /// The option `repeated int32 choices = 50003`: the numbers of all its records, packed or not.
 ///
 /// # Errors
-/// Where memory runs out.
+/// Where memory runs out; never where the records have no number.
 ///
 /// ```ignore
 /// let choices = read_choices(alloc, &options)?; // [1, 2, 300]
 /// ```
 pub fn read_choices(alloc: Global, options: &FieldOptions) -> Result<Vec<i32>, AllocError>
-    ensures { IfOk result (λ v. v.items ≡ int32_list 50003 options.now.fields.records) }
+    ensures value { IfOk result (λ v. v.items ≡ int32_list 50003 options.now.fields.records) }
+    ensures full { OnErr result (int32_list 50003 options.now.fields.records ≢ []) }
 {
     let choices = Extension::<Repeated<Int32>>::new(50003, FieldOptions::PROTO_FQN);
     options.extension(alloc, &choices)

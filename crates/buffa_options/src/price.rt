@@ -1,7 +1,11 @@
 //! A codec of one's own: amounts of money, which have a Rust type of their own and are written as `sint64`.
 
-ghost use Rattle.std.specs.Prelude.{◌≡◌, IfOk, Some, option_map, pos};
+ghost use Rattle.std.specs.Prelude.{◌≡◌, [], ◌∷◌, IfErr, IfOk, OnErr, OnOk, Some, option_map, pos};
+ghost use Rattle.buffa_bytes.specs.Scalars.{zigzag};
+ghost use Rattle.buffa_bytes.specs.declared.error.EncodeError.TheVariants.{OutOfMemory};
 ghost use Rattle.buffa_bytes.proofs.ScalarLemmas.{sint64_means, zigzag_fits64};
+ghost use Rattle.buffa_wire.specs.Records.{varint};
+ghost use Rattle.buffa_ext.specs.Steps.{IsSet};
 
 use crate::options::FieldOptions;
 use buffa_codec::Numbered;
@@ -68,10 +72,11 @@ impl Numbered for PriceCodec {
     ghost means = { λ v f. sint64_means v };
 }
 
-/// Sets the option `sint64 price = 50021`, and reads it: what was set.
+/// Sets the option `sint64 price = 50021`, and reads it: what was set. The other options stay as they are.
 ///
 /// # Errors
-/// Where memory runs out; nothing is changed then, or the option is set and wasn't read.
+/// Where memory runs out, and nothing else: a record of a price is never too large. Nothing is changed then,
+/// since reading a price takes no memory.
 ///
 /// ```ignore
 /// let stored = store_price(alloc, &mut options, Price { cents: 1999 })?; // Some(1999)
@@ -81,7 +86,11 @@ pub fn store_price(
     options: &mut FieldOptions,
     price: Price,
 ) -> Result<Option<Price>, EncodeError>
-    ensures { IfOk result (λ o. option_map (λ p. p.cents) o ≡ Some price.cents) }
+    ensures value { IfOk result (λ o. option_map (λ p. p.cents) o ≡ Some price.cents) }
+    ensures set { OnOk result (IsSet 50021 (varint (zigzag price.cents) ∷ []) options.old.fields options.new.fields) }
+    ensures err { OnErr result (options.new ≡ options.old) }
+    ensures refused { IfErr result (λ e. e ≡ OutOfMemory) }
+    ensures rest { options.new.deprecated ≡ options.old.deprecated }
 {
     let ext = Extension::<PriceCodec>::new(50021, FieldOptions::PROTO_FQN);
     set_then_read(alloc, options, &ext, price)

@@ -50,7 +50,7 @@ pub fn read_rules(alloc: Global, options: &FieldOptions) -> Result<Rules, AllocE
 /// Judges the value of a field, none where it has no value.
 ///
 /// # Errors
-/// The first rule that it breaks.
+/// The first rule that it breaks: the minimum comes before the maximum.
 ///
 /// ```ignore
 /// let judged = judge(&rules, Some(12)); // Err(Violation::TooGreat)
@@ -79,7 +79,7 @@ pub fn judge(rules: &Rules, value: Option<i32>) -> Result<(), Violation>
     Ok(())
 }
 
-/// Judges the value of a field by its options.
+/// Judges the value of a field by its options: of a value that isn't accepted, the first rule that it breaks.
 ///
 /// # Errors
 /// Where memory runs out; reading the rules takes none.
@@ -93,6 +93,7 @@ pub fn validate(
     value: Option<i32>,
 ) -> Result<Result<(), Violation>, AllocError>
     ensures judged { IfOk result (λ judged. IsOk judged ↔ Accepts (rules_in options.now.fields.records) value) }
+    ensures why { IfOk result (λ judged. IfErr judged (Breaks (rules_in options.now.fields.records) value)) }
     ensures always { IsOk result }
 {
     let rules = read_rules(alloc, options)?;

@@ -3,8 +3,8 @@ use Rattle.buffa_codec.specs.Sub.{sub}
 use Rattle.buffa_codec.proofs.Filtered.{sub-set}
 use Rattle.buffa_ext.proofs.back.set_then_read.Goals as goal
 
-pub returns : goal.returns
-returns g c =
+pub returns-clause-value : goal.returns-clause-value
+returns-clause-value g c =
     let t = g.C.ExtensionCodec in
     let n = c.args.ext.now.number in
     let v = t.meaning c.args.value in
