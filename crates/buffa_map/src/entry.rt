@@ -35,6 +35,7 @@ fn charge(budget: &mut Budget, key: usize, value: usize) -> Result<(), DecodeErr
 }
 
 // Spends the cost of a pair, and reads the fields of an entry, all that is left of the bytes.
+#[inline(always)]
 fn read_parts<KC: MapCodec, W: MergeValue, B: Buf>(
     alloc: Global,
     buf: &mut B,
@@ -81,6 +82,7 @@ fn read_cut<KC: MapCodec, W: MergeValue, B: Buf>(
 }
 
 // Puts the pair of an entry.
+#[inline(always)]
 fn put_pair<C: MapStorage>(
     map: &mut C,
     parts: MapEntry<C::Key, C::Value>,
