@@ -1,7 +1,7 @@
 -- Lengths as numbers of 64 bits.
 use Rattle.std.proofs.Common.{◌≡◌, ℕ, ◌+◌, ◌*◌, ◌^◌, ◌<◌, ◌≤◌, nat_lt, Bool, true, false, List, [], ◌∷◌, ◌++◌, length, Option, None, Some, refl, sym, ap, ◌∙◌, arith, length-append, inl, inr, if◌then◌else◌, suc-mul, zero-mul}
 use Rattle.std.proofs.lemmas.Bool.{lt-ltb, le-ltb, ltb-true, ltb-false, cases_lt}
-use Rattle.std.specs.Option.{SomeIff}
+use Rattle.std.specs.Option.{SomeIff, IfSome}
 use Rattle.buffa_wire.specs.Varint.{varint_text}
 use Rattle.buffa_wire.specs.Values.{delimited_text, tag_text}
 use Rattle.buffa_wire.specs.WireType.{wire_number}
@@ -59,7 +59,7 @@ module _ {K W : Type 0} (key : Writing K) (val : Writing W) where
   field_size-append t (p ∷ ps) qs = omega (arith, field_size-append t ps qs)
 
   -- the size, where each record has the length r
-  pub counted_size : (t r : ℕ) (l : List (K × W)) → ((p : K × W) → r ≡ saturated (field_size key val t (p ∷ []))) → saturated (field_size key val t l) ≡ saturated (length l * r)
+  pub counted_size : (t r : ℕ) (l : List (K × W)) → ((p : K × W) → r ≡ field_size key val t (p ∷ [])) → field_size key val t l ≡ length l * r
   counted_size t r [] h = omega (arith, zero-mul r)
   counted_size t r (p ∷ ps) h = omega (arith, h p, counted_size t r ps h, suc-mul (length ps) r)
 
@@ -70,9 +70,7 @@ pub checked-as_u64 : (r : Option ℕ) (m n : ℕ) → SomeIff r (m < 2 ^ 64) m �
 checked-as_u64 None m n h e = sym (as_u64-past n (elim (cases_lt m (2 ^ 64)) [ inl less ↦ absurd (h less) | inr not ↦ omega arith ]))
 checked-as_u64 (Some x) m n h e = ap (λ z. Some z) (h.1 ∙ e) ∙ sym (as_u64-fits n (omega (arith, h.0)))
 
--- a record's length, added up with a bound at each step
-pub saturated-record : (t v n : ℕ) → saturated (saturated (t + v) + n) ≡ saturated (t + (v + n))
-saturated-record t v n = omega arith
-
-pub saturated-past : (t v n : ℕ) → 2 ^ 64 ≤ n → 18446744073709551615 ≡ saturated (t + (v + n))
-saturated-past t v n h = omega arith
+-- what holds of a length holds of it where it fits
+pub if_fits : (r : Option ℕ) (n : ℕ) (P : ℕ → Type 0) → r ≡ as_u64 n → P n → IfSome r P
+if_fits None n P h p = tt
+if_fits (Some k) n P h p = rw (as_u64-some n k h).0 p

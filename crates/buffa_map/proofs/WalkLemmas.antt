@@ -93,10 +93,10 @@ module _ {K V : Type 0} (key : Writing K) (val : Writing V) where
     one_size t m a b x y = size_is_sum t a ∙ sym (sum_by-IsPermutation (pair_size t) a b (permuted laws m a b x y)) ∙ sym (size_is_sum t b)
 
     -- the size of as many records of one length as the map has pairs
-    pub counted : (t r n size : ℕ) (m l : List (K × V)) → ((p : K × V) → r ≡ saturated (field_size key val t (p ∷ []))) →
+    pub counted : (t r n size : ℕ) (m l : List (K × V)) → ((p : K × V) → r ≡ field_size key val t (p ∷ [])) →
         IsDistinct eq (keys_of m) → ListsOnce eq m l → n ≡ length m → size ≡ saturated (n * r) → size ≡ saturated (field_size key val t l)
     counted t r n size m l one d h count is =
-        is ∙ ap (λ z. saturated (z * r)) (count ∙ sym (one_count laws m l d h)) ∙ sym (counted_size key val t r l one)
+        is ∙ ap (λ z. saturated (z * r)) (count ∙ sym (one_count laws m l d h)) ∙ ap saturated (sym (counted_size key val t r l one))
 
     -- a size that one walk announced, and the text of another one
     pub announced : (t n size : ℕ) (m a b : List (K × V)) (old new : List ℕ) → ListsOnce eq m a → ListsOnce eq m b → t ≡ length (tag_text n LengthDelimited) →

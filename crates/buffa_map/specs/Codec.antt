@@ -22,6 +22,10 @@ pub record Reading (V : Type 0) : Type 0 where
   pub takes_memory : Bool
   pub cost : ℕ → Content → BudgetLeft
 
+-- what it reads is always a declared value
+abbrev pub AlwaysDeclared : {V : Type 0} → Reading V → Type 0
+AlwaysDeclared {V} codec = (d : ℕ) (old : V) (c : Content) (new : V) (known : Bool) → codec.reads d old c ≡ Ok (new, known) → known ≡ true
+
 -- how a codec writes: the wire type, and the payload of a value
 pub record Writing (V : Type 0) : Type 0 where
   pub wire : WireType

@@ -10,7 +10,7 @@ ghost use Rattle.buffa_wire.specs.BudgetLeft.{budget_left, nothing};
 ghost use Rattle.buffa_wire.specs.Message.{IsLimit};
 ghost use Rattle.buffa_wire.specs.Written.{Writes};
 ghost use Rattle.buffa_bytes.specs.declared.error.DecodeError.{DecodeError};
-ghost use Rattle.buffa_map.specs.Codec.{Reading, Refuses, Spends, TakesMemory, Writing, is_known};
+ghost use Rattle.buffa_map.specs.Codec.{AlwaysDeclared, Reading, Refuses, Spends, TakesMemory, Writing, is_known};
 ghost use Rattle.buffa_map.specs.Codec.{value_at, value_need};
 
 use buffa_wire::{Blank, Buf, DecodeContext, DecodeError, EncodeError, EncodeSink, WireType};
@@ -98,9 +98,7 @@ pub trait MapValueDecode: sealed::Sealed {
     ghost blank: { reading.blank ≡ Self.Value.blank_is };
 
     /// Undeclared values come only where that is said.
-    ghost declared: { MAY_RETURN_UNKNOWN ≡ false →
-        (d : ℕ) (old : Self.Value.Meaning) (c : Content) (new : Self.Value.Meaning) (known : Bool) →
-        reading.reads d old c ≡ Ok (new, known) → known ≡ true };
+    ghost declared: { MAY_RETURN_UNKNOWN ≡ false → AlwaysDeclared reading };
 }
 
 /// How the payloads of one proto type are read and written.

@@ -172,7 +172,7 @@ pub(crate) fn merge_entry_by<
         buf.advance(len as usize);
         return merged;
     }
-    if L::KEEPS {
+    if L::KEEPS && W::MAY_RETURN_UNKNOWN {
         let entry = copy_bytes(alloc, buf, len)?;
         return merge_whole::<KC, W, C, L>(alloc, map, &entry, ctx, number, how, keeper);
     }

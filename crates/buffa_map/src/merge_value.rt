@@ -1,16 +1,17 @@
 //! How the value of an entry is merged: by its codec, or by a function.
 
-ghost use Rattle.std.specs.Prelude.{◌≡◌, ◌≢◌, ◌+◌, ℕ, false, refl, IfErr, IfOk, Ok};
+ghost use Rattle.std.specs.Prelude.{◌≡◌, ◌≢◌, ◌+◌, ℕ, Bool, false, refl, IfErr, IfOk, Ok};
 ghost use Rattle.buffa_bytes.specs.declared.error.DecodeError.TheVariants.{OutOfMemory};
 ghost use Rattle.buffa_bytes.specs.declared.wire_type.WireType.{WireType};
 ghost use Rattle.buffa_bytes.specs.declared.wire_type.WireType.TheVariants.{LengthDelimited};
 ghost use Rattle.buffa_bytes.specs.Gives.{FullOnlyIf};
-ghost use Rattle.buffa_wire.specs.Content.{Content};
+ghost use Rattle.buffa_wire.specs.Content.{Content, bytes_in};
 ghost use Rattle.buffa_wire.specs.BudgetLeft.{budget_left, nothing};
-ghost use Rattle.buffa_wire.specs.Message.{IsMerged};
-ghost use Rattle.buffa_map.specs.Codec.{Reading, Refuses, Spends, TakesMemory, is_known};
+ghost use Rattle.buffa_wire.specs.Message.{IsMerged, merged_in};
+ghost use Rattle.buffa_map.specs.Codec.{AlwaysDeclared, Reading, Refuses, Spends, TakesMemory, is_known};
 ghost use Rattle.buffa_map.specs.Codec.{value_at, value_need};
 ghost use Rattle.buffa_map.specs.Message.{message_reading};
+ghost use Rattle.buffa_map.specs.MessageLaws.{meant_known};
 
 use crate::codec::{MapValueDecode, MapValueDecodeStatus};
 use crate::message_merge::merge_value_by;
@@ -26,10 +27,15 @@ pub(crate) trait MergeValue {
     /// The wire type of the payloads.
     const WIRE_TYPE: WireType;
 
+    /// Whether a payload may hold a value that is undeclared.
+    const MAY_RETURN_UNKNOWN: bool;
+
     /// The units of element memory that a value costs.
     const COST: usize;
 
     ghost WIRE_TYPE: { WireType };
+
+    ghost MAY_RETURN_UNKNOWN: { Bool };
 
     ghost COST: { ℕ };
 
@@ -67,6 +73,9 @@ pub(crate) trait MergeValue {
 
     /// The reading starts with the default of the values.
     ghost blank: { reading.blank ≡ Self.Value.blank_is };
+
+    /// Undeclared values come only where that is said.
+    ghost declared: { MAY_RETURN_UNKNOWN ≡ false → AlwaysDeclared reading };
 }
 
 /// By its codec.
@@ -86,9 +95,13 @@ impl<VC: MapValueDecode> MergeValue for ByCodec<VC> {
 
     const WIRE_TYPE: WireType = VC::WIRE_TYPE;
 
+    const MAY_RETURN_UNKNOWN: bool = VC::MAY_RETURN_UNKNOWN;
+
     const COST: usize = VC::COST;
 
     ghost WIRE_TYPE = { VC.WIRE_TYPE };
+
+    ghost MAY_RETURN_UNKNOWN = { VC.MAY_RETURN_UNKNOWN };
 
     ghost COST = { VC.COST };
 
@@ -111,6 +124,8 @@ impl<VC: MapValueDecode> MergeValue for ByCodec<VC> {
     ghost wire = { VC.MapValueDecode.wire };
 
     ghost blank = { VC.MapValueDecode.blank };
+
+    ghost declared = { VC.MapValueDecode.declared };
 }
 
 /// By a function that merges the bytes of a message one level down.
@@ -137,9 +152,13 @@ impl<M: MessageSpec, F: Fn(&mut M, &[u8], u32, &mut Budget) -> Result<(), Decode
 
     const WIRE_TYPE: WireType = WireType::LengthDelimited;
 
+    const MAY_RETURN_UNKNOWN: bool = false;
+
     const COST: usize = M::COST;
 
     ghost WIRE_TYPE = { LengthDelimited };
+
+    ghost MAY_RETURN_UNKNOWN = { false };
 
     ghost COST = { M.COST };
 
@@ -166,4 +185,6 @@ impl<M: MessageSpec, F: Fn(&mut M, &[u8], u32, &mut Budget) -> Result<(), Decode
     ghost wire = { refl };
 
     ghost blank = { refl };
+
+    ghost declared = { λ _ d old c new known h. meant_known (merged_in M.merged d old (bytes_in c)) new known h };
 }

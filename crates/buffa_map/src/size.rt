@@ -22,14 +22,30 @@ pub(crate) fn entry_len<KC: MapCodec, VC: MapCodec>(
     payloads.checked_add(2)
 }
 
-// The length of a record whose entry has so many bytes, or 2^64 - 1.
-fn framed_len(outer_tag_len: u64, entry_len: u64) -> u64
-    ensures { result ≡ saturated (outer_tag_len + (length (varint_text entry_len) + entry_len)) }
+// The length of a record whose payloads have so many bytes, if it fits 64 bits.
+fn framed_len(outer_tag_len: u64, key_len: u64, value_len: u64) -> Option<u64>
+    ensures { let n = 2 + (key_len + value_len) in
+        result ≡ as_u64 (outer_tag_len + (length (varint_text n) + n)) }
 {
-    outer_tag_len
-        .saturating_add(varint_len(entry_len) as u64)
-        .saturating_add(entry_len)
+    let entry_len = key_len.checked_add(value_len)?.checked_add(2)?;
+    let head = outer_tag_len.checked_add(varint_len(entry_len) as u64)?;
+    head.checked_add(entry_len)
 }
+
+// The same, or 2^64 - 1. It stands by itself, since no payload in memory is so long.
+#[inline(never)]
+fn large_record_len(outer_tag_len: u64, key_len: u64, value_len: u64) -> u64
+    ensures { let n = 2 + (key_len + value_len) in
+        result ≡ saturated (outer_tag_len + (length (varint_text n) + n)) }
+{
+    match framed_len(outer_tag_len, key_len, value_len) {
+        Some(len) => len,
+        None => u64::MAX,
+    }
+}
+
+// Three lengths below this add up to less than 2^64.
+const SMALL: u64 = 1 << 61;
 
 // The length of a record, or 2^64 - 1.
 fn record_len<KC: MapCodec, VC: MapCodec>(
@@ -41,20 +57,20 @@ fn record_len<KC: MapCodec, VC: MapCodec>(
         (KC.Value.meaning key.now, VC.Value.meaning value.now)) in
         result ≡ saturated (outer_tag_len + (length (varint_text n) + n)) }
 {
-    match entry_len::<KC, VC>(key, value) {
-        Some(len) => framed_len(outer_tag_len, len),
-        None => u64::MAX,
+    let (key_len, value_len) = (KC::encoded_len(key), VC::encoded_len(value));
+    if outer_tag_len >= SMALL || key_len >= SMALL || value_len >= SMALL {
+        return large_record_len(outer_tag_len, key_len, value_len);
     }
+    let entry_len = key_len + value_len + 2;
+    outer_tag_len + varint_len(entry_len) as u64 + entry_len
 }
 
-// The length of every record, or 2^64 - 1, where all keys have one length, and all values.
+// The length of every record, where all keys have one length, and all values, and it fits 64 bits.
 fn fixed_record_len<KC: MapCodec, VC: MapCodec>(outer_tag_len: u64) -> Option<u64>
     ensures { IfSome result (λ len. (p : KC.Value.Meaning × VC.Value.Meaning) →
-        len ≡ saturated (field_size KC.writing VC.writing outer_tag_len (p ∷ []))) }
+        len ≡ field_size KC.writing VC.writing outer_tag_len (p ∷ [])) }
 {
-    let payloads = KC::FIXED_LEN?.checked_add(VC::FIXED_LEN?)?;
-    let entry_len = payloads.checked_add(2)?;
-    Some(framed_len(outer_tag_len, entry_len))
+    framed_len(outer_tag_len, KC::FIXED_LEN?, VC::FIXED_LEN?)
 }
 
 /// The length of a map field, in bytes, or 2^64 - 1 where it is more.

@@ -1,13 +1,18 @@
-use Rattle.std.proofs.Common.{subst, sym, ◌∙◌}
+use Rattle.std.proofs.Common.{subst, sym, ◌≡◌, ◌∙◌, Bool, true, false}
 use Rattle.std.specs.Prelude.{IsOk}
 use Rattle.std.proofs.lemmas.Result.{err_from_is_err_and}
 use Rattle.buffa_bytes.proofs.FullLemmas.{varint_no_full}
 use Rattle.buffa_bytes.proofs.TailLemmas.{tail_more}
 use Rattle.buffa_wire.proofs.InsideLemmas.{delimited_front}
 use Rattle.buffa_map.proofs.MergeLemmas.{bad_cut, is_dropped, is_put, no_entry, not_put}
+use Rattle.buffa_map.proofs.PartsLemmas.{entry_declared}
 use Rattle.buffa_map.proofs.ResultLemmas.{IfErr-map, IfErr-with, OnOk-both, OnOk-map}
 use Rattle.buffa_map.proofs.TailLemmas.{cut_front, delimited_after, delimited_short}
+use Rattle.buffa_map.proofs.entry.merge_entry_by.Goals.{else-KEEPS-via-then-KEEPS+else-MAY_RETURN_UNKNOWN, else-KEEPS-via-else-KEEPS}
 use Rattle.buffa_map.proofs.entry.merge_entry_by.Goals as goal
+
+not_both : {b : Bool} → b ≡ true → b ≡ false → ⊥
+not_both is not = cc
 
 pub returns-in_err-len-clause-err : goal.returns-in_err-len-clause-err
 returns-in_err-len-clause-err g c =
@@ -40,8 +45,14 @@ returns-in_err-parts-clause-err g c =
 pub returns-then-not-parts-clause-ok : goal.returns-then-not-parts-clause-ok
 returns-then-not-parts-clause-ok g c =
     let cut = c.in_ok-parts.ensures.ok in
-    let none = g.met.L.Keeper.drops (sym c.KEEPS.ensures ∙ c.if-KEEPS.false) in
-    is_dropped _ _ _ _ _ _ _ (cut_front _ _ _ _ c.in_ok-len.ensures.reads cut.fits cut.follows) _ _ cut.parts c.if-not-parts.true none.0 none.1
+    elim c.else-KEEPS.branch [
+      | else-KEEPS-via-then-KEEPS+else-MAY_RETURN_UNKNOWN w ↦
+          let all = g.met.W.MergeValue.declared (sym w.MAY_RETURN_UNKNOWN.ensures ∙ w.if-MAY_RETURN_UNKNOWN.false) in
+          absurd (not_both (entry_declared _ _ _ all cut.parts) c.if-not-parts.true)
+      | else-KEEPS-via-else-KEEPS w ↦
+          let none = g.met.L.Keeper.drops (sym c.KEEPS.ensures ∙ w.if-KEEPS.false) in
+          is_dropped _ _ _ _ _ _ _ (cut_front _ _ _ _ c.in_ok-len.ensures.reads cut.fits cut.follows) _ _ cut.parts c.if-not-parts.true none.0 none.1
+    ]
 
 pub returns-clause-ok : goal.returns-clause-ok
 returns-clause-ok g c =
