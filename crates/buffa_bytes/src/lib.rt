@@ -33,5 +33,5 @@ pub use proto::{ProtoBytes, ProtoString};
 pub use sink::EncodeSink;
 pub use skip::skip_field_depth;
 pub use tag::{MAX_FIELD_NUMBER, Tag};
-pub use varint::{decode_varint, encode_varint, varint_len};
+pub use varint::{decode_varint, encode_varint, prefix_len, varint_len};
 pub use wire_type::WireType;

@@ -11,7 +11,7 @@ use crate::sink::EncodeSink;
 use crate::skip::skip_field_depth;
 use crate::tag::Tag;
 use crate::types;
-use crate::varint::{decode_varint, encode_varint, take_byte, varint_len};
+use crate::varint::{decode_varint, encode_varint, prefix_len, take_byte, varint_len};
 use crate::wire_type::WireType;
 use std::test::Fail;
 
@@ -33,6 +33,7 @@ fn numbers_have_the_bytes_of_the_guide(rt: HostRuntime) -> Result<(), Fail> {
         encode_varint(number, &mut text)?;
         assert_eq!(rt; text.as_slice(), bytes);
         assert_eq!(rt; varint_len(number), bytes.len());
+        assert_eq!(rt; prefix_len(number), bytes.len());
         let mut rest = bytes;
         assert_eq!(rt; decode_varint(&mut rest), Ok(number));
         assert_eq!(rt; rest.len(), 0);

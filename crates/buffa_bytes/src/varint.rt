@@ -128,3 +128,16 @@ pub fn varint_len(n: u64) -> usize
     let bits = 64 - (n | 1).leading_zeros();
     ((bits * 9 + 64) / 64) as usize
 }
+
+/// The length of a length prefix, 1 to 10 bytes: that of its varint. Most lengths are below 128, and have one byte.
+///
+/// ```ignore
+/// let one = prefix_len(3);
+/// ```
+#[tactic(auto, using(crate::proofs::ShortestLemmas::v_laws))]
+#[inline(always)]
+pub fn prefix_len(len: u64) -> usize
+    ensures { result ≡ length (varint_text len) }
+{
+    if len < 128 { 1 } else { varint_len(len) }
+}

@@ -10,13 +10,13 @@ ghost use Rattle.buffa_map.specs.Text.{saturated};
 
 use crate::codec::MapCodec;
 use crate::storage::{MapStorage, StableWalk};
-use buffa_wire::{EncodeError, Message, MessageSpec, SizeCache, varint_len};
+use buffa_wire::{EncodeError, Message, MessageSpec, SizeCache, prefix_len};
 
 // The length of an entry whose message has so many bytes, or 2^64 - 1.
 pub(crate) fn message_entry_len<KC: MapCodec>(key: &KC::Value, inner: u32) -> u64
     ensures { result ≡ saturated (entry_size KC.writing (KC.Value.meaning key.now) inner) }
 {
-    let message = (varint_len(u64::from(inner)) as u64).saturating_add(u64::from(inner));
+    let message = (prefix_len(u64::from(inner)) as u64).saturating_add(u64::from(inner));
     KC::encoded_len(key)
         .saturating_add(message)
         .saturating_add(2)
@@ -29,7 +29,7 @@ fn message_record_len<KC: MapCodec>(outer_tag_len: u64, key: &KC::Value, inner: 
 {
     let len = message_entry_len::<KC>(key, inner);
     outer_tag_len
-        .saturating_add(varint_len(len) as u64)
+        .saturating_add(prefix_len(len) as u64)
         .saturating_add(len)
 }
 
@@ -55,6 +55,7 @@ where
         F.post size x c r d → IsSized (M.text (M.meaning x.now)) (M.slots (M.meaning x.now)) c.now r d.now }
     ensures { IsFieldSized KC.writing M.text M.slots outer_tag_len (C.walk map.now) cache.old result cache.new }
 {
+    cache.make_room(map.storage_len())?;
     let mut total: u64 = 0;
     for (key, value) in map.storage_iter() {
         let slot = cache.reserve()?;

@@ -7,7 +7,7 @@ ghost use Rattle.buffa_map.specs.Text.{as_u64, entry_text, field_size, saturated
 
 use crate::codec::MapCodec;
 use crate::storage::{MapStorage, MapWalk};
-use buffa_wire::varint_len;
+use buffa_wire::prefix_len;
 
 // The length of an entry, two tags of one byte each and the payloads, if it fits 64 bits.
 pub(crate) fn entry_len<KC: MapCodec, VC: MapCodec>(
@@ -28,7 +28,7 @@ fn framed_len(outer_tag_len: u64, key_len: u64, value_len: u64) -> Option<u64>
         result ≡ as_u64 (outer_tag_len + (length (varint_text n) + n)) }
 {
     let entry_len = key_len.checked_add(value_len)?.checked_add(2)?;
-    let head = outer_tag_len.checked_add(varint_len(entry_len) as u64)?;
+    let head = outer_tag_len.checked_add(prefix_len(entry_len) as u64)?;
     head.checked_add(entry_len)
 }
 
@@ -62,7 +62,7 @@ fn record_len<KC: MapCodec, VC: MapCodec>(
         return large_record_len(outer_tag_len, key_len, value_len);
     }
     let entry_len = key_len + value_len + 2;
-    outer_tag_len + varint_len(entry_len) as u64 + entry_len
+    outer_tag_len + prefix_len(entry_len) as u64 + entry_len
 }
 
 // The length of every record, where all keys have one length, and all values, and it fits 64 bits.

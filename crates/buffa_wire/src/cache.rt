@@ -43,6 +43,20 @@ impl SizeCache {
         }
     }
 
+    /// Makes room for so many slots more, so that reserving them asks for no memory.
+    ///
+    /// # Errors
+    /// [`EncodeError::OutOfMemory`] alone. The slots stay in any case.
+    pub fn make_room(&mut self, slots: usize) -> Result<(), EncodeError>
+        ensures slots { self.new ≡ self.old }
+        ensures which { IfErr result (λ e. e ≡ error.OutOfMemory) }
+    {
+        match self.slots.reserve(slots) {
+            Ok(()) => Ok(()),
+            Err(_) => Err(EncodeError::OutOfMemory),
+        }
+    }
+
     /// Reserves the next slot, which holds 0 until it is set, and gives its place.
     ///
     /// # Errors

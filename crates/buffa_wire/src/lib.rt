@@ -26,7 +26,7 @@ pub use budget::{Budget, DEFAULT_ELEMENT_MEMORY_LIMIT, DEFAULT_UNKNOWN_FIELD_LIM
 pub use buffa_bytes::{
     Blank, Buf, DecodeError, EncodeError, EncodeSink, Limited, MAX_FIELD_NUMBER, MapKey,
     MessageSetFault, Pieces, PlainKey, ProtoBytes, ProtoString, Tag, WireType, check_wire_type,
-    decode_varint, encode_varint, skip_field_depth, types, varint_len,
+    decode_varint, encode_varint, prefix_len, skip_field_depth, types, varint_len,
 };
 pub use cache::SizeCache;
 pub use context::{DecodeContext, RECURSION_LIMIT};

@@ -12,7 +12,7 @@ use crate::buf::{Buf, copy_bytes, front};
 use crate::error::{DecodeError, EncodeError};
 use crate::proto::{ProtoBytes, ProtoString};
 use crate::sink::EncodeSink;
-use crate::varint::{decode_varint, encode_varint, varint_len};
+use crate::varint::{decode_varint, encode_varint, prefix_len};
 use bytes::Bytes;
 use std::alloc::Global;
 
@@ -82,7 +82,7 @@ pub fn decode_string<B: Buf>(alloc: Global, buf: &mut B) -> Result<String, Decod
 pub fn bytes_encoded_len(value: &[u8]) -> usize
     ensures { result ≡ length (delimited_text value.now) }
 {
-    varint_len(value.len() as u64) + value.len()
+    prefix_len(value.len() as u64) + value.len()
 }
 
 /// Writes bytes: the length as a varint, and the bytes.

@@ -23,8 +23,9 @@ loop-key-init g c =
       capped = ap (λ l. cap (0 + field_size g.KC.MapCodec.writing (delimited_writing text) c.args.outer_tag_len l)) same ∙ ap cap (omega arith);
       exact = λ h. (subst (λ l. IsSmallField g.KC.MapCodec.writing text l) (sym same) h, ap (λ l. saturated (0 + field_size g.KC.MapCodec.writing (delimited_writing text) c.args.outer_tag_len l)) same ∙ ap saturated (omega arith));
       bound = omega arith;
-      cache = ap (λ l. appended (field_slots text g.M.MessageSpec.slots l) c.args.cache.now) same;
-      longer = ([], sym (appended_none c.args.cache.now));
+      cache = ap (λ z. appended (field_slots text g.M.MessageSpec.slots (m (g.C.MapWalk.left c.into_iter-key-iterator.result))) z) c.make_room.ensures.slots
+          ∙ ap (λ l. appended (field_slots text g.M.MessageSpec.slots l) c.args.cache.now) same;
+      longer = ([], c.make_room.ensures.slots ∙ sym (appended_none c.args.cache.now));
     }
 
 pub size-requires : goal.size-requires

@@ -6,10 +6,10 @@ use Rattle.buffa_map.proofs.SizeLemmas.{length-entry_text}
 use Rattle.buffa_map.proofs.size.record_len.Goals as goal
 
 pub overflow_add-result : goal.overflow_add-result
-overflow_add-result g c = omega (arith, c.varint_len.ensures, ten_at_most (c.encoded_len-key_len.result + c.encoded_len-value_len.result + 2) (omega (arith, c.if-key_len-ge-SMALL.false, c.if-value_len-ge-SMALL.false)), c.if-outer_tag_len-ge-SMALL.false)
+overflow_add-result g c = omega (arith, c.prefix_len.ensures, ten_at_most (c.encoded_len-key_len.result + c.encoded_len-value_len.result + 2) (omega (arith, c.if-key_len-ge-SMALL.false, c.if-value_len-ge-SMALL.false)), c.if-outer_tag_len-ge-SMALL.false)
 
 pub overflow_add-result-2 : goal.overflow_add-result-2
-overflow_add-result-2 g c = omega (arith, c.varint_len.ensures, ten_at_most (c.encoded_len-key_len.result + c.encoded_len-value_len.result + 2) (omega (arith, c.if-key_len-ge-SMALL.false, c.if-value_len-ge-SMALL.false)), c.if-outer_tag_len-ge-SMALL.false, c.if-key_len-ge-SMALL.false, c.if-value_len-ge-SMALL.false)
+overflow_add-result-2 g c = omega (arith, c.prefix_len.ensures, ten_at_most (c.encoded_len-key_len.result + c.encoded_len-value_len.result + 2) (omega (arith, c.if-key_len-ge-SMALL.false, c.if-value_len-ge-SMALL.false)), c.if-outer_tag_len-ge-SMALL.false, c.if-key_len-ge-SMALL.false, c.if-value_len-ge-SMALL.false)
 
 pub returns : goal.returns
 returns g c =
@@ -18,8 +18,8 @@ returns g c =
     let ten : length (varint_text n) ≤ 10 = ten_at_most n (omega (arith, c.if-key_len-ge-SMALL.false, c.if-value_len-ge-SMALL.false)) in
     let same : n ≡ length (entry_text g.KC.MapCodec.writing g.VC.MapCodec.writing p) =
     omega (arith, c.encoded_len-key_len.ensures.len, c.encoded_len-value_len.ensures.len, length-entry_text g.KC.MapCodec.writing g.VC.MapCodec.writing p) in
-    let sum : c.args.outer_tag_len + c.varint_len.result + n ≡ saturated (c.args.outer_tag_len + (length (varint_text n) + n)) =
-    omega (arith, c.varint_len.ensures, ten, c.if-outer_tag_len-ge-SMALL.false, c.if-key_len-ge-SMALL.false, c.if-value_len-ge-SMALL.false) in
+    let sum : c.args.outer_tag_len + c.prefix_len.result + n ≡ saturated (c.args.outer_tag_len + (length (varint_text n) + n)) =
+    omega (arith, c.prefix_len.ensures, ten, c.if-outer_tag_len-ge-SMALL.false, c.if-key_len-ge-SMALL.false, c.if-value_len-ge-SMALL.false) in
     sum ∙ ap (λ z. saturated (c.args.outer_tag_len + (length (varint_text z) + z))) same
 
 pub returns-then-outer_tag_len-ge-SMALL : goal.returns-then-outer_tag_len-ge-SMALL
