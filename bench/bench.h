@@ -19,10 +19,12 @@ static int bench_up(const void *a, const void *b) {
     return (x > y) - (x < y);
 }
 
-/* One line: field, who, phase, entries, least and median of the runs in nanoseconds an entry. */
+/* One line: field, who, phase, entries, least and median of the runs in nanoseconds an entry. A run for which the
+   clock stood still counts for nothing. */
 static inline void bench_say(const char *field, const char *who, const char *phase, double *times, unsigned count, double n) {
-    if (!count) return;
     qsort(times, count, sizeof *times, bench_up);
+    while (count && !(times[0] > 0)) times++, count--;
+    if (!count) return;
     printf("%s\t%s\t%s\t%.0f\t%.3f\t%.3f\n", field, who, phase, n, times[0] / n, times[count / 2] / n);
     fflush(stdout);
 }

@@ -2,10 +2,11 @@
 """Counts the requests for memory that a set of an extension and the merging of map entries make.
 
 A set copies no record of another number, so that beside a thousand groups it makes at most four, however many groups
-there are. Entries of numbers whose key the map has are merged with none, in one piece and cut anywhere. The program
-`buffa_refusals` says when it has the groups, when the set is done, when the map has the key, and when the entries are
-merged; `refuse.c` tells on the same stream when it refuses a request, so that the order says in which part of the
-program the request was made. Needs python3 and gcc. `rt ci` leaves the program; where there is none, `rt run` builds it.
+there are. Entries of numbers whose key the map has are merged with none, in one piece and cut anywhere, also where a
+list for undeclared ones is lent. The program `buffa_refusals` says when it has the groups, when the set is done, when
+the map has the key, and when the entries are merged; `refuse.c` tells on the same stream when it refuses a request, so
+that the order says in which part of the program the request was made. Needs python3 and gcc. `rt ci` leaves the
+program; where there is none, `rt run` builds it.
 """
 import os
 import shutil

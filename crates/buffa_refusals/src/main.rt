@@ -3,7 +3,7 @@
 #![tactic(auto)]
 
 use buffa_ext::{Extension, ExtensionSet};
-use buffa_map::map_codec::{Int32 as Int32Entry, merge_entry};
+use buffa_map::map_codec::{Int32 as Int32Entry, merge_entry, merge_entry_with_unknowns};
 use buffa_options::Carrier;
 use buffa_wire::scalars::Int32;
 use buffa_wire::{
@@ -42,22 +42,46 @@ fn set(alloc: Global, carrier: &mut Carrier) -> Option<&'static [u8]> {
     Some(if done { b"set\n" } else { b"refused\n" })
 }
 
-// Merges an entry of the key 5; whether the map has its value then.
-fn merges<B: Buf>(alloc: Global, map: &mut BTreeMap<i32, i32>, entry: &mut B, value: i32) -> bool {
+// Merges an entry of the key 5, with a list lent or none; whether the map has its value then.
+fn merges<B: Buf>(
+    alloc: Global,
+    map: &mut BTreeMap<i32, i32>,
+    entry: &mut B,
+    value: i32,
+    lent: Option<&mut UnknownFields>,
+) -> bool {
     let mut budget = Budget::new(0);
     let ctx = DecodeContext::new(RECURSION_LIMIT, &mut budget);
-    let done = merge_entry::<Int32Entry, Int32Entry, _, _>(alloc, map, entry, ctx).is_ok();
-    done && map.get(&5) == Some(&value)
+    let done = match lent {
+        None => merge_entry::<Int32Entry, Int32Entry, _, _>(alloc, map, entry, ctx),
+        Some(_) => merge_entry_with_unknowns::<Int32Entry, Int32Entry, _, _>(
+            alloc, map, entry, ctx, 1, lent,
+        ),
+    };
+    done.is_ok() && map.get(&5) == Some(&value)
 }
 
-// Merges entries of the key 5, one in one piece and one at each cut.
-fn merges_all(alloc: Global, map: &mut BTreeMap<i32, i32>) -> bool {
+// Merges entries of the key 5, one in one piece and one at each cut. None can be undeclared, so a list that is lent
+// has them copied no more than where there is none.
+fn merges_all(
+    alloc: Global,
+    map: &mut BTreeMap<i32, i32>,
+    mut lent: Option<UnknownFields>,
+) -> bool {
     let mut whole: &[u8] = &[4, 8, 5, 16, 1];
-    merges(alloc, map, &mut whole, 1)
-        && merges(alloc, map, &mut Pieces::new(&[&[4], &[8, 5, 16, 2]]), 2)
-        && merges(alloc, map, &mut Pieces::new(&[&[4, 8], &[5, 16, 3]]), 3)
-        && merges(alloc, map, &mut Pieces::new(&[&[4, 8, 5], &[16, 4]]), 4)
-        && merges(alloc, map, &mut Pieces::new(&[&[4, 8, 5, 16], &[5]]), 5)
+    let cuts: [[&[u8]; 2]; 4] = [
+        [&[4], &[8, 5, 16, 2]],
+        [&[4, 8], &[5, 16, 3]],
+        [&[4, 8, 5], &[16, 4]],
+        [&[4, 8, 5, 16], &[5]],
+    ];
+    let mut done = merges(alloc, map, &mut whole, 1, lent.as_mut());
+    let mut value = 2;
+    for cut in &cuts {
+        done = done && merges(alloc, map, &mut Pieces::new(cut), value, lent.as_mut());
+        value += 1;
+    }
+    done
 }
 
 fn main(rt: HostRuntime) -> ExitCode {
@@ -82,7 +106,9 @@ fn main(rt: HostRuntime) -> ExitCode {
     if out.write_all(b"pair\n").is_err() {
         return ExitCode::from(3);
     }
-    if !merges_all(alloc, &mut map) {
+    if !merges_all(alloc, &mut map, None)
+        || !merges_all(alloc, &mut map, Some(UnknownFields::new(alloc)))
+    {
         return ExitCode::from(5);
     }
     match out.write_all(b"merged\n") {

@@ -68,6 +68,8 @@ impl Bench {
     }
 
     fn say(&self, field: &str, who: &str, phase: &str, mut times: Vec<f64>) {
+        // A run for which the clock stood still counts for nothing.
+        times.retain(|time| *time > 0.0);
         times.sort_by(f64::total_cmp);
         let (least, median) = (times[0] / self.n, times[times.len() / 2] / self.n);
         println!("{field}\t{who}\t{phase}\t{}\t{least:.3}\t{median:.3}", self.n);
