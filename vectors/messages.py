@@ -1,4 +1,4 @@
-"""Writes vectors/messages.tsv by Google's protobuf, and crates/buffa_vectors/src/messages_table.rt of it.
+"""Writes vectors/messages.tsv by Google's protobuf, and crates/buffa_message_vectors/src/messages_table.rt of it.
 
 It needs python3-protobuf (3.21.12 was used): python3 vectors/messages.py, at the top.
 """
@@ -9,7 +9,7 @@ from google.protobuf import descriptor_pb2, descriptor_pool, message, message_fa
 
 TOP = Path(__file__).resolve().parent.parent
 SOURCE = TOP / "vectors" / "messages.tsv"
-TARGET = TOP / "crates" / "buffa_vectors" / "src" / "messages_table.rt"
+TARGET = TOP / "crates" / "buffa_message_vectors" / "src" / "messages_table.rt"
 
 FIELD = descriptor_pb2.FieldDescriptorProto
 

@@ -1,4 +1,4 @@
-//! Tests of the crates below, against values that others made: fields of maps, enums and rewrites, messages.
+//! Tests of the crates below, against values that others made: fields of maps, enums and rewrites.
 //!
 //! The message types, enums and keys that the tests use stand in the crate `buffa_samples`.
 #![tactic(auto)]
@@ -17,12 +17,6 @@ mod fields;
 mod maps;
 #[cfg(test)]
 mod maps_table;
-#[cfg(test)]
-mod messages;
-#[cfg(test)]
-mod messages_table;
-#[cfg(test)]
-mod proto_messages;
 #[cfg(test)]
 mod rewrites;
 #[cfg(test)]
