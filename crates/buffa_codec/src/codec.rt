@@ -2,8 +2,9 @@
 
 ghost use Rattle.std.specs.Prelude.{◌≡◌, ◌≢◌, ℕ, List, [], ◌∷◌, ◌++◌, Option, Some, None, option_map};
 ghost use Rattle.std.specs.Prelude.{OnOk, OnErr, IfOk};
-ghost use Rattle.std.specs.Prelude.{IsOk};
+ghost use Rattle.std.specs.Prelude.{IsOk, ◌-◌, vec_capacity, vec_len};
 ghost use Rattle.buffa_bytes.specs.declared.error.EncodeError.{EncodeError};
+ghost use Rattle.buffa_bytes.specs.Written.{UsesRoom};
 ghost use Rattle.buffa_wire.specs.BudgetLeft.{BudgetLeft, Pays, budget_left};
 ghost use Rattle.buffa_wire.specs.Records.{Datum, bytes};
 ghost use Rattle.buffa_wire.specs.View.{datum_of};
@@ -242,10 +243,12 @@ pub trait PackableCodec: SingularCodec {
     /// Puts the bytes of a value behind the others.
     ///
     /// # Errors
-    /// [`EncodeError::OutOfMemory`] alone; nothing is changed then.
+    /// [`EncodeError::OutOfMemory`] alone, where they don't fit in the vector's room; nothing is changed then.
     fn encode_packed(value: &Self::Value, buf: &mut Vec<u8>) -> Result<(), EncodeError>
         ensures ok { OnOk result (buf.new.items ≡ buf.old.items ++ packed_text (Self.Value.meaning value.now)) }
         ensures err { OnErr result (buf.new.items ≡ buf.old.items) }
+        ensures room { UsesRoom result (vec_capacity buf.old - vec_len buf.old) (packed_text (Self.Value.meaning value.now))
+            (vec_capacity buf.new - vec_len buf.new) }
         ensures refused { Refuses result None }
         ensures fits { OnOk result (Self.fits (Self.Value.meaning value.now)) };
 
