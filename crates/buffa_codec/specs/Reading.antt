@@ -1,5 +1,5 @@
 -- What the records of a number are read as.
-use Rattle.std.specs.Prelude.{ℕ, ◌≡◌, ◌≢◌, ◌↔◌, ◌≤◌, ◌-◌, ◌⊎◌, List, [], ◌∷◌, ◌++◌, map, take, Option, Some, None, Result, Ok, Err, if◌then◌else◌}
+use Rattle.std.specs.Prelude.{ℕ, ◌≡◌, ◌≢◌, ◌↔◌, ◌<◌, ◌≤◌, ◌+◌, ◌-◌, ◌⊎◌, List, [], ◌∷◌, ◌++◌, length, map, take, MatchResult, Option, Some, None, Result, Ok, Err, if◌then◌else◌}
 use Rattle.std.specs.Option.{option_or}
 use Rattle.std.specs.Str.{is_utf8}
 use Rattle.std.specs.List.{filter_map, last_or}
@@ -52,19 +52,23 @@ Has P ds = (front : List Datum) × (d : Datum) × (back : List Datum) × P d × 
 abbrev pub TakesElement : {M : Type 0} → (Datum → Type 0) → (BudgetLeft → Datum → Option M) → (List ℕ → List M) → Datum → Type 0
 TakesElement takes one packed d = takes d ⊎ ((b : BudgetLeft) × (elements packed d (one b d) ≢ []))
 
--- new is old with more behind it, or with a beginning of more
+-- new is old with more behind it, or with a beginning of more that isn't all of it
 abbrev pub Adds : {A : Type 0} → List A → List A → List A → Type 0
 Adds old more new = new ≡ old ++ more
 
 abbrev pub AddsSome : {A : Type 0} → List A → List A → List A → Type 0
-AddsSome old more new = (k : ℕ) × (new ≡ old ++ take k more)
+AddsSome old more new = (k : ℕ) × (k < length more) × (new ≡ old ++ take k more)
 
--- the values that mean so stand behind the others, or a beginning of them
+-- the values that mean so stand behind the others, or a beginning of them that isn't all
 abbrev pub AddsValues : {V M : Type 0} → (V → M) → List V → List M → List V → Type 0
 AddsValues meaning old more new = map meaning new ≡ map meaning old ++ more
 
 abbrev pub AddsSomeValues : {V M : Type 0} → (V → M) → List V → List M → List V → Type 0
-AddsSomeValues meaning old more new = (k : ℕ) × (map meaning new ≡ map meaning old ++ take k more)
+AddsSomeValues meaning old more new = (k : ℕ) × (k < length more) × (map meaning new ≡ map meaning old ++ take k more)
+
+-- what fits in the places is never refused, and each takes one of them
+abbrev pub UsesPlaces : {T E A : Type 0} → Result T E → ℕ → List A → ℕ → Type 0
+UsesPlaces r places more left = MatchResult r (λ _. places ≤ left + length more) (λ _. places < length more)
 
 -- the values of a record stand behind the others
 abbrev pub AddsRecord : {V M : Type 0} → (V → M) → (List ℕ → List M) → (Datum → Option M) → List V → Datum → List V → Type 0

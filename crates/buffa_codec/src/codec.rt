@@ -2,7 +2,7 @@
 
 ghost use Rattle.std.specs.Prelude.{◌≡◌, ◌≢◌, ℕ, List, [], ◌∷◌, ◌++◌, Option, Some, None, option_map};
 ghost use Rattle.std.specs.Prelude.{OnOk, OnErr, IfOk};
-ghost use Rattle.std.specs.Prelude.{IsOk, ◌-◌, vec_capacity, vec_len};
+ghost use Rattle.std.specs.Prelude.{IsOk, ◌+◌, ◌-◌, ◌≤◌, length, vec_capacity, vec_len};
 ghost use Rattle.buffa_bytes.specs.declared.error.EncodeError.{EncodeError};
 ghost use Rattle.buffa_bytes.specs.Written.{UsesRoom};
 ghost use Rattle.buffa_wire.specs.BudgetLeft.{BudgetLeft, Pays, budget_left};
@@ -10,7 +10,7 @@ ghost use Rattle.buffa_wire.specs.Records.{Datum, bytes};
 ghost use Rattle.buffa_wire.specs.View.{datum_of};
 ghost use Rattle.buffa_codec.specs.Sub.{sub, tagged};
 ghost use Rattle.buffa_codec.specs.Reading.{Adds, AddsSome, AddsSomeValues, AddsValues, Covers, LeavesIn, Refuses};
-ghost use Rattle.buffa_codec.specs.Reading.{full, one_in};
+ghost use Rattle.buffa_codec.specs.Reading.{UsesPlaces, full, one_in};
 
 use buffa_wire::{Blank, DecodeContext, EncodeError, UnknownFieldData, UnknownFields};
 use std::alloc::{AllocError, Global};
@@ -61,6 +61,9 @@ pub trait ExtensionCodec {
     /// Reading takes no memory.
     ghost never_fails: { Type 0 };
 
+    /// The values that are written without memory where the list has room for their records.
+    ghost in_room: { Meaning → Type 0 };
+
     /// The records of the number whose reading takes memory.
     ghost takes: { List Datum → Type 0 };
 
@@ -80,7 +83,7 @@ pub trait ExtensionCodec {
     /// Puts the records of the value behind the others.
     ///
     /// # Errors
-    /// What is wrong with the value, or out of memory; a beginning of its records stands then.
+    /// What is wrong with the value, or out of memory; a beginning of its records stands then, and not all.
     fn try_encode(
         alloc: Global,
         number: u32,
@@ -91,6 +94,8 @@ pub trait ExtensionCodec {
         ensures err { OnErr result (AddsSome fields.old.records (tagged number (recs (meaning value)))
             fields.new.records) }
         ensures refused { Refuses result (refusal (meaning value)) }
+        ensures room { fields.old.spare ≤ fields.new.spare + length (recs (meaning value)) }
+        ensures reserved { in_room (meaning value) → length (recs (meaning value)) ≤ fields.old.spare → IsOk result }
         ensures fits { OnOk result (fits (meaning value)) };
 
     /// The same as [`ExtensionCodec::try_encode`].
@@ -107,6 +112,8 @@ pub trait ExtensionCodec {
         ensures err { OnErr result (AddsSome fields.old.records (tagged number (recs (meaning value)))
             fields.new.records) }
         ensures refused { Refuses result (refusal (meaning value)) }
+        ensures room { fields.old.spare ≤ fields.new.spare + length (recs (meaning value)) }
+        ensures reserved { in_room (meaning value) → length (recs (meaning value)) ≤ fields.old.spare → IsOk result }
         ensures fits { OnOk result (fits (meaning value)) }
     {
         Self::try_encode(alloc, number, value, fields)
@@ -190,10 +197,13 @@ pub trait SingularCodec {
     /// Puts the packed values behind the others.
     ///
     /// # Errors
-    /// Where memory runs out, if there is a value; a beginning of the values stands then.
+    /// Where memory runs out, if they don't fit in the vector's room; a beginning of the values stands then,
+    /// and not all.
     fn decode_packed(bytes: &[u8], out: &mut Vec<Self::Value>) -> Result<(), AllocError>
         ensures ok { OnOk result (AddsValues Self.Value.meaning out.old.items (packed bytes.now) out.new.items) }
         ensures err { OnErr result (AddsSomeValues Self.Value.meaning out.old.items (packed bytes.now) out.new.items) }
+        ensures room { UsesPlaces result (vec_capacity out.old - vec_len out.old) (packed bytes.now)
+            (vec_capacity out.new - vec_len out.new) }
         ensures full { OnErr result (packed bytes.now ≢ []) };
 
     /// The record of a value.

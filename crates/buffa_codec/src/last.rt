@@ -52,6 +52,8 @@ impl<C: LastWins> ExtensionCodec for C {
 
     ghost never_fails = { C.never_fails };
 
+    ghost in_room = { λ v. C.never_fails };
+
     ghost takes = { Has C.takes };
 
     fn decode(

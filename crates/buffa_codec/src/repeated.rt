@@ -51,6 +51,8 @@ impl<C: SingularCodec> ExtensionCodec for Repeated<C> {
 
     ghost never_fails = { ⊥ };
 
+    ghost in_room = { λ vs. C.never_fails };
+
     ghost takes = { Has (TakesElement C.takes (C.one 100) C.packed) };
 
     fn decode(
