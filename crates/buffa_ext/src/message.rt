@@ -183,6 +183,8 @@ impl<K: MessageRecord, M: Message> ExtensionCodec for MessageIn<K, M> {
 
     ghost never_fails = { ⊥ };
 
+    ghost in_room = { λ v. ⊥ };
+
     ghost takes = { λ ds. texts_in K.held ds ≢ [] };
 
     fn decode(alloc: Global, number: u32, fields: &UnknownFields) -> Result<Option<M>, AllocError> {
