@@ -1,5 +1,5 @@
 -- Lists of values, one more at a time.
-use Rattle.std.proofs.Common.{◌≡◌, ℕ, ◌+◌, ◌<◌, List, [], ◌∷◌, ◌++◌, Option, Some, None, refl, sym, ◌∙◌, ap, map, take, drop, length, get_or, append_assoc, arith, ◌⊎◌, inl, inr}
+use Rattle.std.proofs.Common.{◌≡◌, ℕ, ◌+◌, ◌<◌, List, [], ◌∷◌, ◌++◌, Option, Some, None, false, true, refl, sym, ◌∙◌, ap, map, take, drop, length, get_or, append_assoc, arith, subst, ◌⊎◌, inl, inr}
 use Rattle.std.proofs.lemmas.List.{map-append, append-nil, take_more, drop_more, take-append-drop}
 use Rattle.buffa_bytes.specs.declared.error.EncodeError.{EncodeError}
 use Rattle.buffa_bytes.specs.declared.error.EncodeError.TheVariants.{OutOfMemory}
@@ -21,6 +21,17 @@ means_cut meaning xs i x lt e =
 pub Each-append : {M : Type 0} (P : M → Type 0) (ms : List M) (m : M) → Each P ms → P m → Each P (ms ++ m ∷ [])
 Each-append P [] m h k = (k, tt)
 Each-append P (x ∷ ms) m h k = (h.0, Each-append P ms m h.1 k)
+
+pub no_truth : false ≡ true → ⊥
+no_truth e = cc
+
+-- a fact that holds of each value holds of one of them
+Each-middle : {M : Type 0} (P : M → Type 0) (front : List M) (m : M) (back : List M) → Each P (front ++ m ∷ back) → P m
+Each-middle P [] m back h = h.0
+Each-middle P (x ∷ front) m back h = Each-middle P front m back h.1
+
+pub Each-at : {V M : Type 0} (P : M → Type 0) (meaning : V → M) (xs : List V) (i : ℕ) (x : V) → i < length xs → x ≡ get_or xs i x → Each P (map meaning xs) → P (meaning x)
+Each-at P meaning xs i x lt e h = Each-middle P (map meaning (take i xs)) (meaning x) (map meaning (drop (i + 1) xs)) (subst (Each P) (means_cut meaning xs i x lt e) h)
 
 -- no refusal before, and then that of the next, or of what follows
 abbrev refused_by : {M : Type 0} → (M → Option EncodeError) → List M → Option EncodeError → Option EncodeError

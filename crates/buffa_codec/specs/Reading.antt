@@ -4,7 +4,7 @@ use Rattle.std.specs.Option.{option_or}
 use Rattle.std.specs.Str.{is_utf8}
 use Rattle.std.specs.List.{filter_map, last_or}
 use Rattle.buffa_wire.specs.Records.{Datum, bytes}
-use Rattle.buffa_wire.specs.BudgetLeft.{BudgetLeft}
+use Rattle.buffa_wire.specs.BudgetLeft.{BudgetLeft, PaysAtMost}
 use Rattle.buffa_wire.specs.declared.context.DecodeContext.{DecodeContext}
 use Rattle.buffa_bytes.specs.declared.error.EncodeError.{EncodeError}
 use Rattle.buffa_bytes.specs.declared.error.EncodeError.TheVariants.{OutOfMemory}
@@ -27,6 +27,11 @@ abbrev pub string_held : Datum → Option (List ℕ)
 string_held (bytes b) = if is_utf8 b then Some b else None
 string_held _ = None
 
+-- a text is there, and has a byte
+abbrev pub HasByte : Option (List ℕ) → Type 0
+HasByte None = ⊥
+HasByte (Some b) = b ≢ []
+
 -- the packed values of a record
 abbrev pub unpacked : {M : Type 0} → (List ℕ → List M) → Datum → List M
 unpacked packed (bytes b) = packed b
@@ -43,6 +48,10 @@ one_in one ctx d = one ctx.depth ctx.budget.now d
 
 abbrev pub LeavesIn : (ℕ → BudgetLeft → Datum → BudgetLeft → Type 0) → DecodeContext → Datum → BudgetLeft → Type 0
 LeavesIn leaves ctx d left = leaves ctx.depth ctx.budget.now d left
+
+-- of what is left in a context, at most that is spent
+abbrev pub SpendsIn : (ℕ → Datum → BudgetLeft) → DecodeContext → Datum → BudgetLeft → Type 0
+SpendsIn most ctx d left = PaysAtMost ctx.budget.now (most ctx.depth d) left
 
 -- one of the records is such
 abbrev pub Has : (Datum → Type 0) → List Datum → Type 0

@@ -10,7 +10,7 @@ ghost use Rattle.buffa_wire.specs.Records.{Datum, bytes};
 ghost use Rattle.buffa_wire.specs.View.{datum_of};
 ghost use Rattle.buffa_codec.specs.Sub.{sub, tagged};
 ghost use Rattle.buffa_codec.specs.Reading.{Adds, AddsSome, AddsSomeValues, AddsValues, Covers, LeavesIn, Refuses};
-ghost use Rattle.buffa_codec.specs.Reading.{UsesPlaces, full, one_in};
+ghost use Rattle.buffa_codec.specs.Reading.{SpendsIn, UsesPlaces, full, one_in};
 
 use buffa_wire::{Blank, DecodeContext, EncodeError, UnknownFieldData, UnknownFields};
 use std::alloc::{AllocError, Global};
@@ -160,8 +160,14 @@ pub trait SingularCodec {
     /// What a record costs that is read as a value.
     ghost cost: { Datum → BudgetLeft };
 
+    /// The most that reading a record spends, at a depth.
+    ghost most: { ℕ → Datum → BudgetLeft };
+
     /// Neither reading nor writing one record takes memory.
     ghost never_fails: { Type 0 };
+
+    /// The values whose record is made without memory.
+    ghost made_free: { Self.Value.Meaning → Type 0 };
 
     /// A record whose reading takes memory.
     ghost takes: { Datum → Type 0 };
@@ -181,7 +187,8 @@ pub trait SingularCodec {
     /// Reads a record at the context's depth, of what its budget has left.
     ///
     /// # Errors
-    /// Where memory runs out; never at a record that is of no use to the codec. What was spent stays spent.
+    /// Where memory runs out; never at a record that is of no use to the codec. What was spent stays spent,
+    /// and is no more than the record may cost.
     fn decode_one_ctx(
         alloc: Global,
         payload: &UnknownFieldData,
@@ -191,6 +198,7 @@ pub trait SingularCodec {
             ≡ one_in one ctx.entry (datum_of payload.now)) }
         ensures left { IsOk result → LeavesIn leaves ctx.entry (datum_of payload.now) (budget_left ctx.exit) }
         ensures spent { OnErr result (Covers ctx.entry.budget.now (budget_left ctx.exit)) }
+        ensures most { SpendsIn most ctx.entry (datum_of payload.now) (budget_left ctx.exit) }
         ensures always { never_fails → IsOk result }
         ensures full { OnErr result (takes (datum_of payload.now)) };
 
@@ -214,7 +222,8 @@ pub trait SingularCodec {
         ensures record { IfOk result (λ d. datum_of d ≡ text (Self.Value.meaning value.now)) }
         ensures refused { Refuses result (refusal (Self.Value.meaning value.now)) }
         ensures fits { OnOk result (fits (Self.Value.meaning value.now)) }
-        ensures always { never_fails → IsOk result };
+        ensures always { never_fails → IsOk result }
+        ensures free { made_free (Self.Value.meaning value.now) → IsOk result };
 
     /// The same as [`SingularCodec::try_encode_one`].
     ///
@@ -225,6 +234,7 @@ pub trait SingularCodec {
         ensures refused { Refuses result (refusal (Self.Value.meaning value.now)) }
         ensures fits { OnOk result (fits (Self.Value.meaning value.now)) }
         ensures always { never_fails → IsOk result }
+        ensures free { made_free (Self.Value.meaning value.now) → IsOk result }
     {
         Self::try_encode_one(alloc, value)
     }

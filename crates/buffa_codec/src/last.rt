@@ -52,7 +52,7 @@ impl<C: LastWins> ExtensionCodec for C {
 
     ghost never_fails = { C.never_fails };
 
-    ghost in_room = { λ v. C.never_fails };
+    ghost in_room = { C.made_free };
 
     ghost takes = { Has C.takes };
 

@@ -3,7 +3,7 @@ use Rattle.std.proofs.lemmas.Result.{err_from_is_err_and}
 use Rattle.buffa_wire.specs.View.{datum_of}
 use Rattle.buffa_codec.specs.Reading.{Each, first_refusal}
 use Rattle.buffa_codec.proofs.Turns.{values_length, writes_one_more, writes_front, writes_part}
-use Rattle.buffa_codec.proofs.Lists.{means_more, means_cut, Each-append, first_refusal-append, first_refusal-pass, refused_whole}
+use Rattle.buffa_codec.proofs.Lists.{Each-at, no_truth, means_more, means_cut, Each-append, first_refusal-append, first_refusal-pass, refused_whole}
 use Rattle.buffa_codec.proofs.repeated.RepeatedExtensionCodec.try_encode.Goals as goal
 
 pub returns-in_err-payload-clause-err : goal.returns-in_err-payload-clause-err
@@ -27,6 +27,11 @@ pub returns-in_err-payload-clause-room : goal.returns-in_err-payload-clause-room
 returns-in_err-payload-clause-room g c =
     let m = g.C.Value.Blank.meaning in
     omega (arith, c.loop-v.invariant.room, c.loop-v-test.true, ap length c.as_slice-v-items.ensures.value, values_length g.C.SingularCodec.text m c.args.value.items)
+
+pub returns-in_err-payload-clause-reserved : goal.returns-in_err-payload-clause-reserved
+returns-in_err-payload-clause-reserved g c =
+    λ free enough. absurd (no_truth (c.in_err-payload.ensures.free (Each-at g.C.SingularCodec.made_free g.C.Value.Blank.meaning c.as_slice-v-items.result.now c.loop-v.v-index c.v-item.result c.loop-v-test.true c.v-item.is
+    (subst (λ l. Each g.C.SingularCodec.made_free (map g.C.Value.Blank.meaning l)) (sym c.as_slice-v-items.ensures.value) free))))
 
 pub returns-in_default-clause-room : goal.returns-in_default-clause-room
 returns-in_default-clause-room g c =
