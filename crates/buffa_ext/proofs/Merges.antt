@@ -104,3 +104,7 @@ tag_has_byte d bs ((x ∷ front, rest, j, e, t)) none = some_left (sym e ∙ non
   where
     some_left : x ∷ (front ++ rest) ≡ [] → ⊥
     some_left h = cc
+
+-- a tag has a byte
+pub tag_begins : (bs : List ℕ) → IsOk (tag_at bs) → bs ≢ []
+tag_begins bs t none = no_bytes_no_tag (tag_at bs) UnexpectedEof (ap tag_at none ∙ tag_of_none) t

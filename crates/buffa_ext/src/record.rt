@@ -1,7 +1,8 @@
 //! How records hold the texts of messages: in bytes, or as a group.
 
-ghost use Rattle.std.specs.Prelude.{◌≡◌, ◌≢◌, ℕ, List, [], ◌∷◌, Option, Some, None, IfOk, IsOk, OnErr, refl};
+ghost use Rattle.std.specs.Prelude.{◌≡◌, ◌≢◌, ℕ, List, [], ◌∷◌, Option, Some, None, IfErr, IfOk, IsOk, OnErr, refl};
 ghost use Rattle.buffa_bytes.specs.declared.error.EncodeError.{EncodeError};
+ghost use Rattle.buffa_bytes.specs.declared.error.EncodeError.TheVariants.{OutOfMemory};
 ghost use Rattle.buffa_bytes.specs.Gives.{FullOnlyIf};
 ghost use Rattle.buffa_wire.specs.BudgetLeft.{budget_left};
 ghost use Rattle.buffa_wire.specs.Parse.{Fits};
@@ -50,10 +51,11 @@ pub trait MessageRecord {
     /// The record of a text.
     ///
     /// # Errors
-    /// Why no record holds it, or out of memory; never where holding takes none.
+    /// Why no record holds it, or out of memory; never for a text of no bytes, nor where holding takes none.
     fn hold(alloc: Global, text: Vec<u8>) -> Result<UnknownFieldData, EncodeError>
         ensures record { IfOk result (λ d. datum_of d ≡ holder text.items) }
         ensures refused { Refuses result (refusal text.items) }
+        ensures full { IfErr result (λ e. e ≡ OutOfMemory → text.items ≢ []) }
         ensures always { never_fails → IsOk result };
 
     /// The record of a text holds it.
