@@ -57,6 +57,10 @@ SpendsIn most ctx d left = PaysAtMost ctx.budget.now (most ctx.depth d) left
 abbrev pub Has : (Datum → Type 0) → List Datum → Type 0
 Has P ds = (front : List Datum) × (d : Datum) × (back : List Datum) × P d × (ds ≡ front ++ d ∷ back)
 
+-- one of the records is such, and none behind it is read
+abbrev pub HasLast : {M : Type 0} → (Datum → Type 0) → (Datum → Option M) → List Datum → Type 0
+HasLast P one ds = (front : List Datum) × (d : Datum) × (back : List Datum) × P d × (filter_map one back ≡ []) × (ds ≡ front ++ d ∷ back)
+
 -- a record of a list takes memory: its reading does, or it has a value, which is stored
 abbrev pub TakesElement : {M : Type 0} → (Datum → Type 0) → (BudgetLeft → Datum → Option M) → (List ℕ → List M) → Datum → Type 0
 TakesElement takes one packed d = takes d ⊎ ((b : BudgetLeft) × (elements packed d (one b d) ≢ []))

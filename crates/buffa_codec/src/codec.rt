@@ -64,7 +64,7 @@ pub trait ExtensionCodec {
     /// The values that are written without memory where the list has room for their records.
     ghost in_room: { Meaning → Type 0 };
 
-    /// The records of the number whose reading takes memory.
+    /// The records of the number whose reading takes memory: mostly one of them does that counts.
     ghost takes: { List Datum → Type 0 };
 
     /// Reads the records of the number.
