@@ -267,8 +267,8 @@ pub trait PackableCodec: SingularCodec {
     fn encode_packed(value: &Self::Value, buf: &mut Vec<u8>) -> Result<(), EncodeError>
         ensures ok { OnOk result (buf.new.items ≡ buf.old.items ++ packed_text (Self.Value.meaning value.now)) }
         ensures err { OnErr result (buf.new.items ≡ buf.old.items) }
-        ensures room { UsesRoom result (vec_capacity buf.old - vec_len buf.old) (packed_text (Self.Value.meaning value.now))
-            (vec_capacity buf.new - vec_len buf.new) }
+        ensures room { UsesRoom result (vec_capacity buf.old - vec_len buf.old)
+            (packed_text (Self.Value.meaning value.now)) (vec_capacity buf.new - vec_len buf.new) }
         ensures refused { Refuses result None }
         ensures fits { OnOk result (Self.fits (Self.Value.meaning value.now)) };
 

@@ -1,6 +1,7 @@
 //! Messages that keep extensions.
 
-ghost use Rattle.std.specs.Prelude.{◌≡◌, ◌≢◌, ◌↔◌, ◌≤◌, ◌+◌, IsTrue, ℕ, List, [], length, Option, OnOk, OnErr, IfOk, IsOk};
+ghost use Rattle.std.specs.Prelude.{◌≡◌, ◌≢◌, ◌↔◌, ◌≤◌, ◌+◌, IsTrue, ℕ, List, [], length, Option};
+ghost use Rattle.std.specs.Prelude.{OnOk, OnErr, IfOk, IsOk};
 ghost use Rattle.std.specs.Borrow.{sem, Lends};
 ghost use Rattle.buffa_wire.specs.Records.{Held};
 ghost use Rattle.buffa_wire.specs.contracts.unknown_fields.UnknownFields.{the_row as fields_row};
