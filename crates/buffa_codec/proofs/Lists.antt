@@ -1,9 +1,10 @@
 -- Lists of values, one more at a time.
-use Rattle.std.proofs.Common.{◌≡◌, ℕ, ◌+◌, ◌<◌, List, [], ◌∷◌, ◌++◌, Option, Some, None, refl, sym, ◌∙◌, ap, map, take, drop, length, get_or, append_assoc, ◌⊎◌, inl, inr}
+use Rattle.std.proofs.Common.{◌≡◌, ℕ, ◌+◌, ◌<◌, List, [], ◌∷◌, ◌++◌, Option, Some, None, false, true, refl, sym, ◌∙◌, ap, map, take, drop, length, get_or, append_assoc, arith, subst, ◌⊎◌, inl, inr}
 use Rattle.std.proofs.lemmas.List.{map-append, append-nil, take_more, drop_more, take-append-drop}
 use Rattle.buffa_bytes.specs.declared.error.EncodeError.{EncodeError}
 use Rattle.buffa_bytes.specs.declared.error.EncodeError.TheVariants.{OutOfMemory}
-use Rattle.buffa_codec.specs.Reading.{Each, first_refusal, joined}
+use Rattle.buffa_codec.specs.Reading.{Each, first_refusal, joined, packed_record}
+use Rattle.buffa_codec.specs.Sub.{tagged}
 
 -- what the first values mean, and what one more means
 pub means_more : {V M : Type 0} (meaning : V → M) (xs : List V) (i : ℕ) (x : V) → i < length xs → x ≡ get_or xs i x
@@ -20,6 +21,17 @@ means_cut meaning xs i x lt e =
 pub Each-append : {M : Type 0} (P : M → Type 0) (ms : List M) (m : M) → Each P ms → P m → Each P (ms ++ m ∷ [])
 Each-append P [] m h k = (k, tt)
 Each-append P (x ∷ ms) m h k = (h.0, Each-append P ms m h.1 k)
+
+pub no_truth : false ≡ true → ⊥
+no_truth e = cc
+
+-- a fact that holds of each value holds of one of them
+Each-middle : {M : Type 0} (P : M → Type 0) (front : List M) (m : M) (back : List M) → Each P (front ++ m ∷ back) → P m
+Each-middle P [] m back h = h.0
+Each-middle P (x ∷ front) m back h = Each-middle P front m back h.1
+
+pub Each-at : {V M : Type 0} (P : M → Type 0) (meaning : V → M) (xs : List V) (i : ℕ) (x : V) → i < length xs → x ≡ get_or xs i x → Each P (map meaning xs) → P (meaning x)
+Each-at P meaning xs i x lt e h = Each-middle P (map meaning (take i xs)) (meaning x) (map meaning (drop (i + 1) xs)) (subst (Each P) (means_cut meaning xs i x lt e) h)
 
 -- no refusal before, and then that of the next, or of what follows
 abbrev refused_by : {M : Type 0} → (M → Option EncodeError) → List M → Option EncodeError → Option EncodeError
@@ -45,6 +57,11 @@ first_refusal-pass refusal m ks h = ap (refused_by refusal ks) h
 pub joined-append : {M : Type 0} (text : M → List ℕ) (ms : List M) (m : M) → joined text (ms ++ m ∷ []) ≡ joined text ms ++ text m
 joined-append text [] m = append-nil (text m)
 joined-append text (x ∷ ms) m = ap (λ l. text x ++ l) (joined-append text ms m) ∙ sym (append_assoc (text x) (joined text ms) (text m))
+
+-- a packed list that has a value has a record
+pub packed_some : {V M : Type 0} (text : M → List ℕ) (meaning : V → M) (n : ℕ) (vs : List V) → 0 < length vs → 0 < length (tagged n (packed_record text (map meaning vs)))
+packed_some text meaning n [] some = some
+packed_some text meaning n (v ∷ vs) some = omega arith
 
 -- a refusal after values that are not refused is that of the whole list
 pub refused_whole : {M : Type 0} (refusal : M → Option EncodeError) (ms : List M) (m : M) (ks all : List M) (e : EncodeError)

@@ -1,5 +1,5 @@
 -- Records whose reading takes memory.
-use Rattle.std.proofs.Common.{◌≡◌, ◌≢◌, ℕ, ◌+◌, ◌<◌, List, [], ◌∷◌, ◌++◌, Option, Some, None, Result, Ok, Err, inl, inr, sym, ◌∙◌, ap, map, take, drop, length, get_or, append_assoc}
+use Rattle.std.proofs.Common.{◌≡◌, ◌≢◌, ℕ, ◌+◌, ◌<◌, List, [], ◌∷◌, ◌++◌, Option, Some, None, Result, Ok, Err, inl, inr, sym, ◌∙◌, ap, map, take, drop, length, get_or, append_assoc, subst}
 use Rattle.std.specs.Result.{OnErr}
 use Rattle.std.proofs.lemmas.List.{map-append, take-append-drop}
 use Rattle.buffa_bytes.specs.declared.wire_type.WireType.{WireType}
@@ -11,7 +11,7 @@ use Rattle.buffa_wire.specs.View.{record_of, records_in, datum_of}
 use Rattle.buffa_wire.specs.declared.unknown_fields.UnknownField.{UnknownField}
 use Rattle.buffa_codec.specs.Packed.{numbers_in}
 use Rattle.buffa_codec.specs.PackedFacts.{numbers_step}
-use Rattle.buffa_codec.specs.Reading.{Has, TakesElement, elements, string_held, unpacked}
+use Rattle.buffa_codec.specs.Reading.{Has, HasByte, TakesElement, elements, string_held, unpacked}
 use Rattle.buffa_codec.specs.Sub.{sub}
 use Rattle.buffa_codec.proofs.Filtered.{sub-append}
 use Rattle.buffa_codec.proofs.Turns.{sub-take_more, sub-one_same}
@@ -71,8 +71,5 @@ packs_some r w of all rest left n done e h =
 
 -- ---- strings
 
-no_string : (b : List ℕ) → Some b ≡ None → ⊥
-no_string b h = cc
-
-pub takes_text : {T E : Type 0} (r : Result T E) (d : Datum) (b : List ℕ) → Some b ≡ string_held d → OnErr r (string_held d ≢ None)
-takes_text r d b e = on_err r (λ h. no_string b (e ∙ h))
+pub takes_text : {T E : Type 0} (r : Result T E) (d : Datum) (b : List ℕ) → Some b ≡ string_held d → b ≢ [] → OnErr r (HasByte (string_held d))
+takes_text r d b e some = on_err r (subst HasByte e some)

@@ -1,14 +1,14 @@
 -- One turn of a loop over the records.
 use Rattle.std.proofs.Common.{◌≡◌, ◌≢◌, ℕ, ◌+◌, ◌<◌, List, [], ◌∷◌, ◌++◌, Option, true, false, cond, refl, sym, ◌∙◌, ap, map, take, drop, length, get_or, ◌==◌, arith, append_assoc, subst, Result, Ok, Err}
 use Rattle.std.proofs.lemmas.Grind.{common_steps}
-use Rattle.std.proofs.lemmas.List.{map-append, append-nil, take_more, take-map, take-append-drop}
+use Rattle.std.proofs.lemmas.List.{length-map, map-append, append-nil, take_more, take-map, take-append-drop}
 use Rattle.std.specs.Result.{OnErr}
 use Rattle.buffa_wire.specs.Records.{Datum}
 use Rattle.buffa_wire.specs.View.{record_of, records_in, datum_of}
 use Rattle.buffa_wire.specs.BudgetLeft.{BudgetLeft}
 use Rattle.buffa_wire.specs.declared.unknown_fields.UnknownField.{UnknownField}
 use Rattle.buffa_codec.specs.Sub.{sub, tagged}
-use Rattle.buffa_codec.specs.Reading.{ReadsAll, elements}
+use Rattle.buffa_codec.specs.Reading.{AddsSome, ReadsAll, elements}
 use Rattle.buffa_codec.proofs.Lists.{means_more}
 use Rattle.buffa_codec.proofs.Filtered.{sub-append, sub-cons}
 
@@ -75,24 +75,32 @@ writes_one_more text meaning n vs i v d start now next r lt e written made befor
     ∙ sym (ap (λ l. tagged n (map text l)) (means_more meaning vs i v lt e)
     ∙ ap (tagged n) (map-append text (map meaning (take i vs)) (meaning v ∷ [])) ∙ map-append (λ x. (n, x)) (map text (map meaning (take i vs))) (text (meaning v) ∷ [])))
 
--- what was written of a list is a front of what it writes
-pub writes_part : {V M : Type 0} (text : M → Datum) (meaning : V → M) (n : ℕ) (vs ws : List V) (i : ℕ) (start now : List (ℕ × Datum)) → ws ≡ vs
-    → now ≡ start ++ tagged n (map text (map meaning (take i ws))) → (k : ℕ) × (now ≡ start ++ take k (tagged n (map text (map meaning vs))))
-writes_part text meaning n vs ws i start now same e = (
+-- how many records a list has
+pub values_length : {V M : Type 0} (text : M → Datum) (meaning : V → M) (vs : List V) → length (map text (map meaning vs)) ≡ length vs
+values_length text meaning vs = length-map (map meaning vs) text ∙ length-map vs meaning
+
+records_length : {V M : Type 0} (text : M → Datum) (meaning : V → M) (n : ℕ) (vs : List V) → length (tagged n (map text (map meaning vs))) ≡ length vs
+records_length text meaning n vs = length-map (map text (map meaning vs)) (λ x. (n, x)) ∙ values_length text meaning vs
+
+-- what was written of a list is a front of what it writes, and not all
+pub writes_part : {V M : Type 0} (text : M → Datum) (meaning : V → M) (n : ℕ) (vs ws : List V) (i : ℕ) (start now : List (ℕ × Datum)) → ws ≡ vs → i < length ws
+    → now ≡ start ++ tagged n (map text (map meaning (take i ws))) → AddsSome start (tagged n (map text (map meaning vs))) now
+writes_part text meaning n vs ws i start now same lt e = (
   i,
+  omega (arith, lt, ap length same, records_length text meaning n vs),
   e ∙ ap (λ l. start ++ l) (ap (λ l. tagged n (map text (map meaning (take i l)))) same
       ∙ ap (λ l. tagged n (map text l)) (sym (take-map meaning i vs)) ∙ ap (tagged n) (sym (take-map text i (map meaning vs))) ∙ sym (take-map (λ x. (n, x)) i (map text (map meaning vs)))),
 )
 
-pub writes_front : {V M T E : Type 0} (r : Result T E) (text : M → Datum) (meaning : V → M) (n : ℕ) (vs ws : List V) (i : ℕ) (start now : List (ℕ × Datum)) → ws ≡ vs
-    → now ≡ start ++ tagged n (map text (map meaning (take i ws))) → OnErr r ((k : ℕ) × (now ≡ start ++ take k (tagged n (map text (map meaning vs)))))
-writes_front (Ok u) text meaning n vs ws i start now same e = tt
-writes_front (Err u) text meaning n vs ws i start now same e = writes_part text meaning n vs ws i start now same e
+pub writes_front : {V M T E : Type 0} (r : Result T E) (text : M → Datum) (meaning : V → M) (n : ℕ) (vs ws : List V) (i : ℕ) (start now : List (ℕ × Datum)) → ws ≡ vs → i < length ws
+    → now ≡ start ++ tagged n (map text (map meaning (take i ws))) → OnErr r (AddsSome start (tagged n (map text (map meaning vs))) now)
+writes_front (Ok u) text meaning n vs ws i start now same lt e = tt
+writes_front (Err u) text meaning n vs ws i start now same lt e = writes_part text meaning n vs ws i start now same lt e
 
 -- nothing was written
-pub writes_none : {T E : Type 0} (r : Result T E) (start ds : List (ℕ × Datum)) → OnErr r ((k : ℕ) × (start ≡ start ++ take k ds))
-writes_none (Ok u) start ds = tt
-writes_none (Err u) start ds = (0, sym (append-nil start))
+pub writes_none : {T E : Type 0} (r : Result T E) (start ds : List (ℕ × Datum)) → 0 < length ds → OnErr r (AddsSome start ds start)
+writes_none (Ok u) start ds some = tt
+writes_none (Err u) start ds some = (0, some, sym (append-nil start))
 
 pub none_so_far : (n : ℕ) (xs : List UnknownField) (i : ℕ) (x : UnknownField) → i < length xs → x ≡ get_or xs i x → x.number ≢ n
     → sub n (records_in (take i xs)) ≡ [] → sub n (records_in (take (i + 1) xs)) ≡ []

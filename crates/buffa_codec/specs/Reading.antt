@@ -1,10 +1,10 @@
 -- What the records of a number are read as.
-use Rattle.std.specs.Prelude.{ℕ, ◌≡◌, ◌≢◌, ◌↔◌, ◌≤◌, ◌-◌, ◌⊎◌, List, [], ◌∷◌, ◌++◌, map, take, Option, Some, None, Result, Ok, Err, if◌then◌else◌}
+use Rattle.std.specs.Prelude.{ℕ, ◌≡◌, ◌≢◌, ◌↔◌, ◌<◌, ◌≤◌, ◌+◌, ◌-◌, ◌⊎◌, List, [], ◌∷◌, ◌++◌, length, map, take, MatchResult, Option, Some, None, Result, Ok, Err, if◌then◌else◌}
 use Rattle.std.specs.Option.{option_or}
 use Rattle.std.specs.Str.{is_utf8}
 use Rattle.std.specs.List.{filter_map, last_or}
 use Rattle.buffa_wire.specs.Records.{Datum, bytes}
-use Rattle.buffa_wire.specs.BudgetLeft.{BudgetLeft}
+use Rattle.buffa_wire.specs.BudgetLeft.{BudgetLeft, PaysAtMost}
 use Rattle.buffa_wire.specs.declared.context.DecodeContext.{DecodeContext}
 use Rattle.buffa_bytes.specs.declared.error.EncodeError.{EncodeError}
 use Rattle.buffa_bytes.specs.declared.error.EncodeError.TheVariants.{OutOfMemory}
@@ -27,6 +27,11 @@ abbrev pub string_held : Datum → Option (List ℕ)
 string_held (bytes b) = if is_utf8 b then Some b else None
 string_held _ = None
 
+-- a text is there, and has a byte
+abbrev pub HasByte : Option (List ℕ) → Type 0
+HasByte None = ⊥
+HasByte (Some b) = b ≢ []
+
 -- the packed values of a record
 abbrev pub unpacked : {M : Type 0} → (List ℕ → List M) → Datum → List M
 unpacked packed (bytes b) = packed b
@@ -44,27 +49,39 @@ one_in one ctx d = one ctx.depth ctx.budget.now d
 abbrev pub LeavesIn : (ℕ → BudgetLeft → Datum → BudgetLeft → Type 0) → DecodeContext → Datum → BudgetLeft → Type 0
 LeavesIn leaves ctx d left = leaves ctx.depth ctx.budget.now d left
 
+-- of what is left in a context, at most that is spent
+abbrev pub SpendsIn : (ℕ → Datum → BudgetLeft) → DecodeContext → Datum → BudgetLeft → Type 0
+SpendsIn most ctx d left = PaysAtMost ctx.budget.now (most ctx.depth d) left
+
 -- one of the records is such
 abbrev pub Has : (Datum → Type 0) → List Datum → Type 0
 Has P ds = (front : List Datum) × (d : Datum) × (back : List Datum) × P d × (ds ≡ front ++ d ∷ back)
+
+-- one of the records is such, and none behind it is read
+abbrev pub HasLast : {M : Type 0} → (Datum → Type 0) → (Datum → Option M) → List Datum → Type 0
+HasLast P one ds = (front : List Datum) × (d : Datum) × (back : List Datum) × P d × (filter_map one back ≡ []) × (ds ≡ front ++ d ∷ back)
 
 -- a record of a list takes memory: its reading does, or it has a value, which is stored
 abbrev pub TakesElement : {M : Type 0} → (Datum → Type 0) → (BudgetLeft → Datum → Option M) → (List ℕ → List M) → Datum → Type 0
 TakesElement takes one packed d = takes d ⊎ ((b : BudgetLeft) × (elements packed d (one b d) ≢ []))
 
--- new is old with more behind it, or with a beginning of more
+-- new is old with more behind it, or with a beginning of more that isn't all of it
 abbrev pub Adds : {A : Type 0} → List A → List A → List A → Type 0
 Adds old more new = new ≡ old ++ more
 
 abbrev pub AddsSome : {A : Type 0} → List A → List A → List A → Type 0
-AddsSome old more new = (k : ℕ) × (new ≡ old ++ take k more)
+AddsSome old more new = (k : ℕ) × (k < length more) × (new ≡ old ++ take k more)
 
--- the values that mean so stand behind the others, or a beginning of them
+-- the values that mean so stand behind the others, or a beginning of them that isn't all
 abbrev pub AddsValues : {V M : Type 0} → (V → M) → List V → List M → List V → Type 0
 AddsValues meaning old more new = map meaning new ≡ map meaning old ++ more
 
 abbrev pub AddsSomeValues : {V M : Type 0} → (V → M) → List V → List M → List V → Type 0
-AddsSomeValues meaning old more new = (k : ℕ) × (map meaning new ≡ map meaning old ++ take k more)
+AddsSomeValues meaning old more new = (k : ℕ) × (k < length more) × (map meaning new ≡ map meaning old ++ take k more)
+
+-- what fits in the places is never refused, and each takes one of them
+abbrev pub UsesPlaces : {T E A : Type 0} → Result T E → ℕ → List A → ℕ → Type 0
+UsesPlaces r places more left = MatchResult r (λ _. places ≤ left + length more) (λ _. places < length more)
 
 -- the values of a record stand behind the others
 abbrev pub AddsRecord : {V M : Type 0} → (V → M) → (List ℕ → List M) → (Datum → Option M) → List V → Datum → List V → Type 0

@@ -2,14 +2,15 @@
 
 ghost use Rattle.std.specs.Prelude.{◌≡◌, ◌≢◌, ℕ, List, [], ◌∷◌, ◌++◌, Option, Some, None, option_map};
 ghost use Rattle.std.specs.Prelude.{OnOk, OnErr, IfOk};
-ghost use Rattle.std.specs.Prelude.{IsOk};
+ghost use Rattle.std.specs.Prelude.{IsOk, ◌+◌, ◌-◌, ◌≤◌, length, vec_capacity, vec_len};
 ghost use Rattle.buffa_bytes.specs.declared.error.EncodeError.{EncodeError};
+ghost use Rattle.buffa_bytes.specs.Written.{UsesRoom};
 ghost use Rattle.buffa_wire.specs.BudgetLeft.{BudgetLeft, Pays, budget_left};
 ghost use Rattle.buffa_wire.specs.Records.{Datum, bytes};
 ghost use Rattle.buffa_wire.specs.View.{datum_of};
 ghost use Rattle.buffa_codec.specs.Sub.{sub, tagged};
 ghost use Rattle.buffa_codec.specs.Reading.{Adds, AddsSome, AddsSomeValues, AddsValues, Covers, LeavesIn, Refuses};
-ghost use Rattle.buffa_codec.specs.Reading.{full, one_in};
+ghost use Rattle.buffa_codec.specs.Reading.{SpendsIn, UsesPlaces, full, one_in};
 
 use buffa_wire::{Blank, DecodeContext, EncodeError, UnknownFieldData, UnknownFields};
 use std::alloc::{AllocError, Global};
@@ -60,7 +61,10 @@ pub trait ExtensionCodec {
     /// Reading takes no memory.
     ghost never_fails: { Type 0 };
 
-    /// The records of the number whose reading takes memory.
+    /// The values that are written without memory where the list has room for their records.
+    ghost in_room: { Meaning → Type 0 };
+
+    /// The records of the number whose reading takes memory: mostly one of them does that counts.
     ghost takes: { List Datum → Type 0 };
 
     /// Reads the records of the number.
@@ -79,7 +83,7 @@ pub trait ExtensionCodec {
     /// Puts the records of the value behind the others.
     ///
     /// # Errors
-    /// What is wrong with the value, or out of memory; a beginning of its records stands then.
+    /// What is wrong with the value, or out of memory; a beginning of its records stands then, and not all.
     fn try_encode(
         alloc: Global,
         number: u32,
@@ -90,6 +94,8 @@ pub trait ExtensionCodec {
         ensures err { OnErr result (AddsSome fields.old.records (tagged number (recs (meaning value)))
             fields.new.records) }
         ensures refused { Refuses result (refusal (meaning value)) }
+        ensures room { fields.old.spare ≤ fields.new.spare + length (recs (meaning value)) }
+        ensures reserved { in_room (meaning value) → length (recs (meaning value)) ≤ fields.old.spare → IsOk result }
         ensures fits { OnOk result (fits (meaning value)) };
 
     /// The same as [`ExtensionCodec::try_encode`].
@@ -106,6 +112,8 @@ pub trait ExtensionCodec {
         ensures err { OnErr result (AddsSome fields.old.records (tagged number (recs (meaning value)))
             fields.new.records) }
         ensures refused { Refuses result (refusal (meaning value)) }
+        ensures room { fields.old.spare ≤ fields.new.spare + length (recs (meaning value)) }
+        ensures reserved { in_room (meaning value) → length (recs (meaning value)) ≤ fields.old.spare → IsOk result }
         ensures fits { OnOk result (fits (meaning value)) }
     {
         Self::try_encode(alloc, number, value, fields)
@@ -152,8 +160,14 @@ pub trait SingularCodec {
     /// What a record costs that is read as a value.
     ghost cost: { Datum → BudgetLeft };
 
+    /// The most that reading a record spends, at a depth.
+    ghost most: { ℕ → Datum → BudgetLeft };
+
     /// Neither reading nor writing one record takes memory.
     ghost never_fails: { Type 0 };
+
+    /// The values whose record is made without memory.
+    ghost made_free: { Self.Value.Meaning → Type 0 };
 
     /// A record whose reading takes memory.
     ghost takes: { Datum → Type 0 };
@@ -173,7 +187,8 @@ pub trait SingularCodec {
     /// Reads a record at the context's depth, of what its budget has left.
     ///
     /// # Errors
-    /// Where memory runs out; never at a record that is of no use to the codec. What was spent stays spent.
+    /// Where memory runs out; never at a record that is of no use to the codec. What was spent stays spent,
+    /// and is no more than the record may cost.
     fn decode_one_ctx(
         alloc: Global,
         payload: &UnknownFieldData,
@@ -183,16 +198,20 @@ pub trait SingularCodec {
             ≡ one_in one ctx.entry (datum_of payload.now)) }
         ensures left { IsOk result → LeavesIn leaves ctx.entry (datum_of payload.now) (budget_left ctx.exit) }
         ensures spent { OnErr result (Covers ctx.entry.budget.now (budget_left ctx.exit)) }
+        ensures most { SpendsIn most ctx.entry (datum_of payload.now) (budget_left ctx.exit) }
         ensures always { never_fails → IsOk result }
         ensures full { OnErr result (takes (datum_of payload.now)) };
 
     /// Puts the packed values behind the others.
     ///
     /// # Errors
-    /// Where memory runs out, if there is a value; a beginning of the values stands then.
+    /// Where memory runs out, if they don't fit in the vector's room; a beginning of the values stands then,
+    /// and not all.
     fn decode_packed(bytes: &[u8], out: &mut Vec<Self::Value>) -> Result<(), AllocError>
         ensures ok { OnOk result (AddsValues Self.Value.meaning out.old.items (packed bytes.now) out.new.items) }
         ensures err { OnErr result (AddsSomeValues Self.Value.meaning out.old.items (packed bytes.now) out.new.items) }
+        ensures room { UsesPlaces result (vec_capacity out.old - vec_len out.old) (packed bytes.now)
+            (vec_capacity out.new - vec_len out.new) }
         ensures full { OnErr result (packed bytes.now ≢ []) };
 
     /// The record of a value.
@@ -203,7 +222,8 @@ pub trait SingularCodec {
         ensures record { IfOk result (λ d. datum_of d ≡ text (Self.Value.meaning value.now)) }
         ensures refused { Refuses result (refusal (Self.Value.meaning value.now)) }
         ensures fits { OnOk result (fits (Self.Value.meaning value.now)) }
-        ensures always { never_fails → IsOk result };
+        ensures always { never_fails → IsOk result }
+        ensures free { made_free (Self.Value.meaning value.now) → IsOk result };
 
     /// The same as [`SingularCodec::try_encode_one`].
     ///
@@ -214,6 +234,7 @@ pub trait SingularCodec {
         ensures refused { Refuses result (refusal (Self.Value.meaning value.now)) }
         ensures fits { OnOk result (fits (Self.Value.meaning value.now)) }
         ensures always { never_fails → IsOk result }
+        ensures free { made_free (Self.Value.meaning value.now) → IsOk result }
     {
         Self::try_encode_one(alloc, value)
     }
@@ -242,10 +263,12 @@ pub trait PackableCodec: SingularCodec {
     /// Puts the bytes of a value behind the others.
     ///
     /// # Errors
-    /// [`EncodeError::OutOfMemory`] alone; nothing is changed then.
+    /// [`EncodeError::OutOfMemory`] alone, where they don't fit in the vector's room; nothing is changed then.
     fn encode_packed(value: &Self::Value, buf: &mut Vec<u8>) -> Result<(), EncodeError>
         ensures ok { OnOk result (buf.new.items ≡ buf.old.items ++ packed_text (Self.Value.meaning value.now)) }
         ensures err { OnErr result (buf.new.items ≡ buf.old.items) }
+        ensures room { UsesRoom result (vec_capacity buf.old - vec_len buf.old)
+            (packed_text (Self.Value.meaning value.now)) (vec_capacity buf.new - vec_len buf.new) }
         ensures refused { Refuses result None }
         ensures fits { OnOk result (Self.fits (Self.Value.meaning value.now)) };
 

@@ -3,7 +3,7 @@
 ghost use Rattle.std.specs.Prelude.{◌≡◌, List, [], ◌∷◌, Option, Some, None, option_map};
 ghost use Rattle.buffa_wire.specs.BudgetLeft.{BudgetLeft};
 ghost use Rattle.buffa_wire.specs.Records.{Datum};
-ghost use Rattle.buffa_codec.specs.Reading.{Covers, Has, full, last_read};
+ghost use Rattle.buffa_codec.specs.Reading.{Covers, HasLast, full, last_read};
 ghost use Rattle.buffa_codec.specs.Texts.{last_of_one};
 
 use crate::codec::{ExtensionCodec, SingularCodec};
@@ -52,7 +52,9 @@ impl<C: LastWins> ExtensionCodec for C {
 
     ghost never_fails = { C.never_fails };
 
-    ghost takes = { Has C.takes };
+    ghost in_room = { C.made_free };
+
+    ghost takes = { HasLast C.takes (C.one 100 full) };
 
     fn decode(
         alloc: Global,

@@ -9,6 +9,7 @@ ghost use Rattle.buffa_wire.specs.Found.{fixed32_in, fixed64_in, varint_in};
 ghost use Rattle.buffa_wire.specs.Records.{Datum, bytes as held_bytes};
 ghost use Rattle.buffa_codec.specs.Costs.{StaysWithin};
 ghost use Rattle.buffa_codec.specs.Packed.{numbers_in};
+ghost use Rattle.buffa_codec.specs.Reading.{HasByte};
 ghost use Rattle.buffa_codec.specs.Reading.{LaterWins, ReadAlike, ReadingsJoin, bytes_held, full, last_read};
 ghost use Rattle.buffa_codec.specs.Reading.{CoversAll, Each, ReadsList, first_refusal, packed_record, string_held};
 ghost use Rattle.buffa_bytes.specs.declared.wire_type.WireType.{WireType};
@@ -85,6 +86,7 @@ pub fn numbers_are_read<N: Numbered>()
     ensures holds { (v : N.Value.Meaning) (o : Option N.Value.Meaning) → ⟦<N as ExtensionCodec>⟧.holds v o
         ↔ (o ≡ Some (N.back v)) }
     ensures memory { ⟦<N as ExtensionCodec>⟧.never_fails }
+    ensures in_room { (v : N.Value.Meaning) → ⟦<N as ExtensionCodec>⟧.in_room v }
 {}
 
 /// Which values each scalar reads in a record, also of numbers that its values don't have.
@@ -105,7 +107,7 @@ pub fn scalars_are_read()
 {}
 
 /// Strings and bytes are read of the last record of bytes, strings where these are UTF-8; all of them are
-/// written, and read back; and no packed ones are read.
+/// written, and read back; and no packed ones are read. Only a text of a byte or more takes memory to be read.
 pub fn texts_are_read()
     ensures strings { (ds : List Datum) (o : Option (List ℕ)) → ⟦<StringCodec as ExtensionCodec>⟧.reads ds o
         ↔ (o ≡ last_read string_held ds) }
@@ -119,6 +121,8 @@ pub fn texts_are_read()
         × ⟦<BytesCodec as ExtensionCodec>⟧.normal v }
     ensures packed { (bs : List ℕ) → (⟦<StringCodec as SingularCodec>⟧.packed bs ≡ [])
         × (⟦<BytesCodec as SingularCodec>⟧.packed bs ≡ []) }
+    ensures memory { (d : Datum) → (⟦<StringCodec as SingularCodec>⟧.takes d ↔ HasByte (string_held d))
+        × (⟦<BytesCodec as SingularCodec>⟧.takes d ↔ HasByte (bytes_held d)) }
 {}
 
 /// Lists are read of all records of their number, from one pair of default budgets, the packed ones too. They

@@ -102,7 +102,11 @@ impl<N: Numbered> SingularCodec for N {
 
     ghost cost = { λ d. nothing };
 
+    ghost most = { λ depth d. nothing };
+
     ghost never_fails = { Unit {0} };
+
+    ghost made_free = { λ v. Unit {0} };
 
     ghost takes = { λ d. ⊥ };
 

@@ -46,6 +46,8 @@ impl<C: PackableCodec> ExtensionCodec for PackedRepeated<C> {
 
     ghost never_fails = { ⊥ };
 
+    ghost in_room = { λ vs. ⊥ };
+
     ghost takes = { Has (TakesElement C.takes (C.one 100) C.packed) };
 
     fn decode(

@@ -51,6 +51,8 @@ impl<C: SingularCodec> ExtensionCodec for Repeated<C> {
 
     ghost never_fails = { ⊥ };
 
+    ghost in_room = { Each C.made_free };
+
     ghost takes = { Has (TakesElement C.takes (C.one 100) C.packed) };
 
     fn decode(

@@ -1,16 +1,26 @@
 //! Codecs of strings and bytes.
 
-ghost use Rattle.std.specs.Prelude.{◌≡◌, ◌≢◌, ℕ, List, [], None, refl, string_bytes, true};
+ghost use Rattle.std.specs.Prelude.{◌≡◌, ◌≢◌, ℕ, List, [], None, IfOk, OnErr, refl, string_bytes, true};
 ghost use Rattle.std.specs.Str.{is_utf8};
 ghost use Rattle.buffa_wire.specs.Records.{bytes};
 ghost use Rattle.buffa_wire.specs.BudgetLeft.{nothing};
-ghost use Rattle.buffa_codec.specs.Reading.{bytes_held, full, string_held};
+ghost use Rattle.buffa_codec.specs.Reading.{HasByte, bytes_held, full, string_held};
 ghost use Rattle.buffa_codec.specs.Texts.{covers_nothing, covers_same, pays_nothing, string_back};
 
 use crate::codec::SingularCodec;
 use crate::last::LastWins;
 use buffa_wire::{DecodeContext, EncodeError, UnknownFieldData};
 use std::alloc::{AllocError, Global};
+
+// The same bytes. No memory is asked for where there are none.
+fn copied(alloc: Global, bytes: &[u8]) -> Result<Vec<u8>, AllocError>
+    ensures bytes { IfOk result (λ v. v.items ≡ bytes.now) }
+    ensures full { OnErr result (bytes.now ≢ []) }
+{
+    let mut copy = Vec::with_capacity(alloc, bytes.len())?;
+    copy.extend_from_slice(bytes)?;
+    Ok(copy)
+}
 
 /// `string`: the bytes of a record, where they are UTF-8.
 pub struct StringCodec;
@@ -36,9 +46,13 @@ impl SingularCodec for StringCodec {
 
     ghost cost = { λ d. nothing };
 
+    ghost most = { λ depth d. nothing };
+
     ghost never_fails = { ⊥ };
 
-    ghost takes = { λ d. string_held d ≢ None };
+    ghost made_free = { λ v. v ≡ [] };
+
+    ghost takes = { λ d. HasByte (string_held d) };
 
     fn decode_one(alloc: Global, payload: &UnknownFieldData) -> Result<Option<String>, AllocError> {
         let UnknownFieldData::LengthDelimited(held) = payload else {
@@ -47,7 +61,8 @@ impl SingularCodec for StringCodec {
         let Ok(text) = str::from_utf8(held.as_slice()) else {
             return Ok(None);
         };
-        let owned = String::from_str(alloc, text)?;
+        let mut owned = String::with_capacity(alloc, text.len())?;
+        owned.push_str(text)?;
         Ok(Some(owned))
     }
 
@@ -64,7 +79,7 @@ impl SingularCodec for StringCodec {
     }
 
     fn try_encode_one(alloc: Global, value: &String) -> Result<UnknownFieldData, EncodeError> {
-        let Ok(held) = Vec::from_slice(alloc, value.as_bytes()) else {
+        let Ok(held) = copied(alloc, value.as_bytes()) else {
             return Err(EncodeError::OutOfMemory);
         };
         Ok(UnknownFieldData::LengthDelimited(held))
@@ -111,9 +126,13 @@ impl SingularCodec for BytesCodec {
 
     ghost cost = { λ d. nothing };
 
+    ghost most = { λ depth d. nothing };
+
     ghost never_fails = { ⊥ };
 
-    ghost takes = { λ d. bytes_held d ≢ None };
+    ghost made_free = { λ v. v ≡ [] };
+
+    ghost takes = { λ d. HasByte (bytes_held d) };
 
     fn decode_one(
         alloc: Global,
@@ -122,7 +141,7 @@ impl SingularCodec for BytesCodec {
         let UnknownFieldData::LengthDelimited(held) = payload else {
             return Ok(None);
         };
-        let owned = Vec::from_slice(alloc, held.as_slice())?;
+        let owned = copied(alloc, held.as_slice())?;
         Ok(Some(owned))
     }
 
@@ -139,7 +158,7 @@ impl SingularCodec for BytesCodec {
     }
 
     fn try_encode_one(alloc: Global, value: &Vec<u8>) -> Result<UnknownFieldData, EncodeError> {
-        let Ok(held) = Vec::from_slice(alloc, value.as_slice()) else {
+        let Ok(held) = copied(alloc, value.as_slice()) else {
             return Err(EncodeError::OutOfMemory);
         };
         Ok(UnknownFieldData::LengthDelimited(held))

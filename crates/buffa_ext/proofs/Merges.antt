@@ -1,13 +1,19 @@
 -- One turn of a loop that merges the records of a number.
-use Rattle.std.proofs.Common.{◌≡◌, ◌≢◌, ℕ, ◌+◌, ◌<◌, Bool, List, [], ◌∷◌, ◌++◌, ◌||◌, Option, Ok, Err, refl, sym, ◌∙◌, ap, take, drop, length, get_or, append_assoc, subst}
+use Rattle.std.proofs.Common.{◌≡◌, ◌≢◌, ℕ, ◌+◌, ◌<◌, Bool, List, [], ◌∷◌, ◌++◌, ◌||◌, Option, Ok, Err, refl, sym, ◌∙◌, ap, take, drop, length, get_or, append_assoc, subst, Result, IsOk}
 use Rattle.std.proofs.lemmas.List.{map-append, append-nil, take-append-drop}
 use Rattle.std.proofs.lemmas.List.Elements.{filter_map-append}
 use Rattle.buffa_bytes.specs.declared.error.DecodeError.{DecodeError}
+use Rattle.buffa_bytes.specs.declared.error.DecodeError.TheVariants.{OutOfMemory, UnexpectedEof}
+use Rattle.buffa_bytes.specs.declared.wire_type.WireType.{WireType}
+use Rattle.buffa_bytes.specs.Reading.{tag_at, varint_at, varint_within}
+use Rattle.buffa_wire.specs.Message.{ReachesTag}
 use Rattle.buffa_wire.specs.BudgetLeft.{BudgetLeft}
 use Rattle.buffa_wire.specs.Records.{Datum}
 use Rattle.buffa_wire.specs.View.{record_of, records_in, datum_of}
 use Rattle.buffa_wire.specs.declared.unknown_fields.UnknownField.{UnknownField}
+use Rattle.buffa_codec.specs.Reading.{Has}
 use Rattle.buffa_codec.specs.Sub.{sub}
+use Rattle.buffa_codec.proofs.Takes.{has_record}
 use Rattle.buffa_codec.proofs.Filtered.{sub-append}
 use Rattle.buffa_codec.proofs.Turns.{sub-take_more, sub-one_same, sub-one_other}
 use Rattle.buffa_ext.specs.Messages.{IsAllMerged, texts_in}
@@ -76,3 +82,29 @@ module _ (held : Datum → Option (List ℕ)) (n : ℕ) (xs : List UnknownField)
         subst (λ l. IsAllMerged merged cost (texts_in held (sub n l)) old b (Err err) new a) whole
         (merged_fault merged cost (texts_in held (sub n (records_in (take i xs)))) (texts_in held (datum_of x.payload ∷ [])) (texts_in held (sub n (records_in (drop (i + 1) xs)))) (texts_in held (sub n (records_in xs)))
         old mid new f err b m a (texts_cut same) h k)
+
+-- ---- memory
+
+-- out of memory, told only where a record is such
+pub full_there : (P : Datum → Type 0) (e : DecodeError) (n : ℕ) (xs : List UnknownField) (i : ℕ) (x : UnknownField) (rs : List (ℕ × Datum)) → i < length xs → x ≡ get_or xs i x → x.number ≡ n
+    → records_in xs ≡ rs → (e ≡ OutOfMemory → P (datum_of x.payload)) → e ≡ OutOfMemory → Has P (sub n rs)
+full_there P e n xs i x rs lt same is whole p full = has_record {T = Unit {0}} {E = DecodeError} (Err e) P n xs i x rs lt same is whole (p full)
+
+tag_of_none : tag_at [] ≡ Err UnexpectedEof
+unfolding tag_at varint_at varint_within
+tag_of_none = refl
+
+no_bytes_no_tag : (r : Result (ℕ × WireType × List ℕ) DecodeError) (e : DecodeError) → r ≡ Err e → IsOk r → ⊥
+no_bytes_no_tag r e h k = cc
+
+-- bytes that reach a tag are some
+pub tag_has_byte : (d : ℕ) (bs : List ℕ) → ReachesTag d bs → bs ≢ []
+tag_has_byte d bs (([], rest, j, e, t)) none = no_bytes_no_tag (tag_at rest) UnexpectedEof (ap tag_at (sym e ∙ none) ∙ tag_of_none) t
+tag_has_byte d bs ((x ∷ front, rest, j, e, t)) none = some_left (sym e ∙ none)
+  where
+    some_left : x ∷ (front ++ rest) ≡ [] → ⊥
+    some_left h = cc
+
+-- a tag has a byte
+pub tag_begins : (bs : List ℕ) → IsOk (tag_at bs) → bs ≢ []
+tag_begins bs t none = no_bytes_no_tag (tag_at bs) UnexpectedEof (ap tag_at none ∙ tag_of_none) t

@@ -4,3 +4,7 @@ use Rattle.std.specs.Prelude.{◌⊎◌, Option, Some, None}
 -- the value is the one that is read, else a declared one, else the blank
 abbrev pub IsDefaulted : {V : Type 0} → (Option V → Type 0) → (Option V → Type 0) → Type 0 → V → Type 0
 IsDefaulted reads declared blank v = reads (Some v) ⊎ (reads None × (declared (Some v) ⊎ (declared None × blank)))
+
+-- the reading takes memory; or no value is read, and making the declared one may be refused
+abbrev pub IsRefused : {V : Type 0} → Type 0 → (Option V → Type 0) → Type 0 → Type 0
+IsRefused takes reads refuses = takes ⊎ (reads None × refuses)

@@ -1,6 +1,7 @@
 -- Sets and clears of numbers, and what they leave.
 use Rattle.std.specs.Prelude.{◌≡◌, ◌≢◌, ℕ, List, [], ◌∷◌, ◌++◌, Option, Some, None, drop, unwrap_or, ◌==◌, if◌then◌else◌}
 use Rattle.std.specs.List.{filter_map, last_or}
+use Rattle.buffa_bytes.specs.declared.error.EncodeError.{EncodeError}
 use Rattle.buffa_wire.specs.Records.{Datum, Held}
 use Rattle.buffa_codec.specs.Sub.{sub, without, tagged}
 
@@ -43,6 +44,10 @@ IsSet n ds old new = new.records ≡ after_one old.records (set n ds)
 
 abbrev pub IsCleared : ℕ → Held → Held → Type 0
 IsCleared n old new = new.records ≡ after_one old.records (clear n)
+
+-- a value was set that isn't refused, and reading it takes memory
+abbrev pub IsSetUnread : ℕ → List Datum → Option EncodeError → (List Datum → Type 0) → Held → Held → Type 0
+IsSetUnread n ds refusal takes old new = IsSet n ds old new × (refusal ≡ None) × takes ds
 
 -- a record of the number is there
 abbrev pub HasRecord : ℕ → Held → Type 0

@@ -1,9 +1,9 @@
 //! What is set is read back.
 
-ghost use Rattle.std.specs.Prelude.{◌≡◌, ◌⊎◌, IfOk, OnOk, OnErr};
+ghost use Rattle.std.specs.Prelude.{◌≡◌, ◌≢◌, ◌≤◌, ◌+◌, ◌⊎◌, [], length, IfOk, OnOk, OnErr};
 ghost use Rattle.buffa_wire.specs.Records.{Held};
 ghost use Rattle.buffa_codec.specs.Reading.{Refuses};
-ghost use Rattle.buffa_ext.specs.Steps.{IsSet};
+ghost use Rattle.buffa_ext.specs.Steps.{IsSet, IsSetUnread};
 
 use crate::descriptor::Extension;
 use crate::set::ExtensionSet;
@@ -32,8 +32,11 @@ pub fn set_then_read<M: ExtensionSet, C: ExtensionCodec, D>(
     ensures value { IfOk result (λ o. C.holds (C.meaning value) (C.answer o)) }
     ensures ok { OnOk result (IsSet ext.now.number (C.recs (C.meaning value)) (M.fields_of message.old)
         (M.fields_of message.new)) }
-    ensures err { OnErr result ((message.new ≡ message.old) ⊎ IsSet ext.now.number (C.recs (C.meaning value))
-        (M.fields_of message.old) (M.fields_of message.new)) }
+    ensures err { OnErr result ((message.new ≡ message.old) ⊎ IsSetUnread ext.now.number (C.recs (C.meaning value))
+        (C.refusal (C.meaning value)) C.takes (M.fields_of message.old) (M.fields_of message.new)) }
+    ensures full { OnErr result ((C.recs (C.meaning value) ≢ []) ⊎ C.takes (C.recs (C.meaning value))) }
+    ensures room { (M.fields_of message.old).spare ≤ (M.fields_of message.new).spare
+        + length (C.recs (C.meaning value)) }
     ensures unchanged { C.never_fails → OnErr result (message.new ≡ message.old) }
     ensures refused { Refuses result (C.refusal (C.meaning value)) }
     ensures fits { OnOk result (C.fits (C.meaning value)) }

@@ -3,10 +3,11 @@
 ghost use Rattle.std.specs.Prelude.{◌≡◌, ◌≢◌, ◌≤◌, ℕ, List, [], ◌∷◌, Option, Some, None, Err, option_map, IfOk, OnErr};
 ghost use Rattle.std.proofs.Common.{◌∙◌};
 ghost use Rattle.buffa_bytes.specs.declared.error.DecodeError.TheVariants.{OutOfMemory};
+ghost use Rattle.buffa_bytes.specs.Gives.{FullOnlyIf};
 ghost use Rattle.buffa_wire.specs.BudgetLeft.{BudgetLeft};
 ghost use Rattle.buffa_wire.specs.Parse.{Fits};
 ghost use Rattle.buffa_wire.specs.Records.{records_of};
-ghost use Rattle.buffa_codec.specs.Reading.{Covers, full};
+ghost use Rattle.buffa_codec.specs.Reading.{Covers, Has, HasByte, full};
 ghost use Rattle.buffa_codec.specs.Sub.{sub};
 ghost use Rattle.buffa_ext.specs.Messages.{IsAllMerged, IsAnswer, LeavesOf, cost_all, message_of, text_refusal};
 ghost use Rattle.buffa_ext.specs.Messages.{texts_in};
@@ -80,9 +81,13 @@ impl<K: MessageRecord, M: Message> SingularCodec for MessageIn<K, M> {
 
     ghost cost = { λ d. cost_all (M.cost 100) (texts_in K.held (d ∷ [])) };
 
+    ghost most = { λ depth d. cost_all (M.cost depth) (texts_in K.held (d ∷ [])) };
+
     ghost never_fails = { ⊥ };
 
-    ghost takes = { λ d. texts_in K.held (d ∷ []) ≢ [] };
+    ghost made_free = { λ v. ⊥ };
+
+    ghost takes = { λ d. HasByte (K.held d) };
 
     fn decode_one(alloc: Global, payload: &UnknownFieldData) -> Result<Option<M>, AllocError> {
         let mut budget = Budget::new(DEFAULT_UNKNOWN_FIELD_LIMIT);
@@ -138,6 +143,7 @@ fn merge_number<K: MessageRecord, M: Message>(
     ensures merged { IsAllMerged (M.merged 100) (M.cost 100) (texts_in K.held (sub number fields.now.records))
         (M.meaning message.old) budget.old result (M.meaning message.new) budget.new }
     ensures text { OnErr result (texts_in K.held (sub number fields.now.records) ≢ []) }
+    ensures full { FullOnlyIf result (Has (λ d. HasByte (K.held d)) (sub number fields.now.records)) }
 {
     let mut found = false;
     for field in fields.iter().as_slice() {
@@ -183,7 +189,9 @@ impl<K: MessageRecord, M: Message> ExtensionCodec for MessageIn<K, M> {
 
     ghost never_fails = { ⊥ };
 
-    ghost takes = { λ ds. texts_in K.held ds ≢ [] };
+    ghost in_room = { λ v. ⊥ };
+
+    ghost takes = { Has (λ d. HasByte (K.held d)) };
 
     fn decode(alloc: Global, number: u32, fields: &UnknownFields) -> Result<Option<M>, AllocError> {
         let mut budget = Budget::new(DEFAULT_UNKNOWN_FIELD_LIMIT);

@@ -1,13 +1,15 @@
 //! How records hold the texts of messages: in bytes, or as a group.
 
-ghost use Rattle.std.specs.Prelude.{◌≡◌, ◌≢◌, ℕ, List, [], ◌∷◌, Option, Some, None, IfOk, OnErr, refl};
+ghost use Rattle.std.specs.Prelude.{◌≡◌, ◌≢◌, ℕ, List, [], ◌∷◌, Option, Some, None, IfErr, IfOk, IsOk, OnErr, refl};
 ghost use Rattle.buffa_bytes.specs.declared.error.EncodeError.{EncodeError};
+ghost use Rattle.buffa_bytes.specs.declared.error.EncodeError.TheVariants.{OutOfMemory};
+ghost use Rattle.buffa_bytes.specs.Gives.{FullOnlyIf};
 ghost use Rattle.buffa_wire.specs.BudgetLeft.{budget_left};
 ghost use Rattle.buffa_wire.specs.Parse.{Fits};
 ghost use Rattle.buffa_wire.specs.Records.{Datum, bytes, records_of};
 ghost use Rattle.buffa_wire.specs.Text.{records_text};
 ghost use Rattle.buffa_wire.specs.View.{datum_of};
-ghost use Rattle.buffa_codec.specs.Reading.{Refuses, bytes_held};
+ghost use Rattle.buffa_codec.specs.Reading.{HasByte, Refuses, bytes_held};
 ghost use Rattle.buffa_ext.specs.Messages.{IsAllMerged, group_held, group_of, group_refusal, texts_in};
 ghost use Rattle.buffa_ext.specs.MessageFacts.{group_back};
 
@@ -27,10 +29,13 @@ pub trait MessageRecord {
     /// Why no record holds a text, memory aside.
     ghost refusal: { List ℕ → Option EncodeError };
 
+    /// Holding a text takes no memory.
+    ghost never_fails: { Type 0 };
+
     /// Merges the text in a record of this kind, at the context's depth, and tells whether there is one.
     ///
     /// # Errors
-    /// Those of [`Message::merge`], where there is one.
+    /// Those of [`Message::merge`], where there is one; out of memory only where it has a byte.
     fn merge_in<M: Message>(
         alloc: Global,
         payload: &UnknownFieldData,
@@ -40,15 +45,18 @@ pub trait MessageRecord {
         ensures merged { IsAllMerged (M.merged ctx.entry.depth) (M.cost ctx.entry.depth)
             (texts_in held (datum_of payload.now ∷ []))
             (M.meaning message.old) ctx.entry.budget.now result (M.meaning message.new) (budget_left ctx.exit) }
-        ensures text { OnErr result (texts_in held (datum_of payload.now ∷ []) ≢ []) };
+        ensures text { OnErr result (texts_in held (datum_of payload.now ∷ []) ≢ []) }
+        ensures full { FullOnlyIf result (HasByte (held (datum_of payload.now))) };
 
     /// The record of a text.
     ///
     /// # Errors
-    /// Why no record holds it, or out of memory.
+    /// Why no record holds it, or out of memory; never for a text of no bytes, nor where holding takes none.
     fn hold(alloc: Global, text: Vec<u8>) -> Result<UnknownFieldData, EncodeError>
         ensures record { IfOk result (λ d. datum_of d ≡ holder text.items) }
-        ensures refused { Refuses result (refusal text.items) };
+        ensures refused { Refuses result (refusal text.items) }
+        ensures full { IfErr result (λ e. e ≡ OutOfMemory → text.items ≢ []) }
+        ensures always { never_fails → IsOk result };
 
     /// The record of a text holds it.
     ghost held_back: { (rs : _) → Fits (records_of rs) → refusal (records_text rs) ≡ None →
@@ -64,6 +72,8 @@ impl MessageRecord for Delimited {
     ghost holder = { bytes };
 
     ghost refusal = { λ t. None };
+
+    ghost never_fails = { Unit {0} };
 
     fn merge_in<M: Message>(
         alloc: Global,
@@ -101,6 +111,8 @@ impl MessageRecord for Grouped {
     ghost holder = { group_of };
 
     ghost refusal = { group_refusal };
+
+    ghost never_fails = { ⊥ };
 
     fn merge_in<M: Message>(
         alloc: Global,

@@ -1,12 +1,13 @@
 //! Messages that keep extensions.
 
-ghost use Rattle.std.specs.Prelude.{◌≡◌, ◌↔◌, ◌⊎◌, IsTrue, ℕ, List, Option, OnOk, OnErr, IfOk, IsOk};
+ghost use Rattle.std.specs.Prelude.{◌≡◌, ◌≢◌, ◌↔◌, ◌≤◌, ◌+◌, IsTrue, ℕ, List, [], length, Option};
+ghost use Rattle.std.specs.Prelude.{OnOk, OnErr, IfOk, IsOk};
 ghost use Rattle.std.specs.Borrow.{sem, Lends};
 ghost use Rattle.buffa_wire.specs.Records.{Held};
 ghost use Rattle.buffa_wire.specs.contracts.unknown_fields.UnknownFields.{the_row as fields_row};
 ghost use Rattle.buffa_codec.specs.Sub.{sub};
 ghost use Rattle.buffa_codec.specs.Reading.{Refuses};
-ghost use Rattle.buffa_ext.specs.Defaults.{IsDefaulted};
+ghost use Rattle.buffa_ext.specs.Defaults.{IsDefaulted, IsRefused};
 ghost use Rattle.buffa_ext.specs.Steps.{HasRecord, IsCleared, IsSet};
 
 use crate::descriptor::{Declared, Extension};
@@ -76,7 +77,8 @@ pub trait ExtensionSet {
     /// copied.
     ///
     /// # Errors
-    /// What is wrong with the value, or out of memory; nothing is changed then.
+    /// What is wrong with the value, or out of memory; never for a value that has no records, as an empty
+    /// list. Nothing is changed then.
     final fn try_set_extension<C: ExtensionCodec, D>(
         &mut self,
         alloc: Global,
@@ -87,6 +89,8 @@ pub trait ExtensionSet {
         ensures ok { OnOk result (IsSet ext.now.number (C.recs (C.meaning value)) (fields_of self.old)
             (fields_of self.new)) }
         ensures err { OnErr result (self.new ≡ self.old) }
+        ensures room { (fields_of self.old).spare ≤ (fields_of self.new).spare + length (C.recs (C.meaning value)) }
+        ensures full { OnErr result (C.recs (C.meaning value) ≢ []) }
         ensures refused { Refuses result (C.refusal (C.meaning value)) }
         ensures fits { OnOk result (C.fits (C.meaning value)) }
         ensures rest { (w : Held) × (self.new ≡ with_fields self.old w) }
@@ -114,6 +118,8 @@ pub trait ExtensionSet {
         ensures ok { OnOk result (IsSet ext.now.number (C.recs (C.meaning value)) (fields_of self.old)
             (fields_of self.new)) }
         ensures err { OnErr result (self.new ≡ self.old) }
+        ensures room { (fields_of self.old).spare ≤ (fields_of self.new).spare + length (C.recs (C.meaning value)) }
+        ensures full { OnErr result (C.recs (C.meaning value) ≢ []) }
         ensures refused { Refuses result (C.refusal (C.meaning value)) }
         ensures fits { OnOk result (C.fits (C.meaning value)) }
         ensures rest { (w : Held) × (self.new ≡ with_fields self.old w) }
@@ -129,6 +135,7 @@ pub trait ExtensionSet {
     final fn clear_extension<C: ExtensionCodec, D>(&mut self, ext: &Extension<C, D>)
         requires { ext.now.extendee.now ≡ fqn }
         ensures records { IsCleared ext.now.number (fields_of self.old) (fields_of self.new) }
+        ensures room { (fields_of self.old).spare ≤ (fields_of self.new).spare }
         ensures rest { (w : Held) × (self.new ≡ with_fields self.old w) }
     {
         let number = ext.number();
@@ -150,7 +157,8 @@ pub trait ExtensionSet {
     /// The value that is read; or else the declared default, made anew; or else the type's.
     ///
     /// # Errors
-    /// Where memory runs out for the reading, or for the declared default.
+    /// Where memory runs out for the reading, or for the declared default, which is asked for only where no
+    /// value is read.
     ///
     /// ```ignore
     /// let retries = options.extension_or_default(alloc, &RETRIES)?;
@@ -165,8 +173,8 @@ pub trait ExtensionSet {
         ensures value { IfOk result (λ v. let records = sub ext.now.number (fields_of self.now).records in
             IsDefaulted (λ o. C.reads records (C.answer o)) (D.may_declare ext.now.default) (V.meaning v
             ≡ V.blank_is) v) }
-        ensures full { OnErr result (C.takes (sub ext.now.number (fields_of self.now).records)
-            ⊎ D.may_refuse ext.now.default) }
+        ensures full { OnErr result (let records = sub ext.now.number (fields_of self.now).records in
+            IsRefused (C.takes records) (λ o. C.reads records (C.answer o)) (D.may_refuse ext.now.default)) }
     {
         if let Some(value) = self.extension(alloc, ext)? {
             return Ok(value);

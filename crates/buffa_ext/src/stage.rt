@@ -1,6 +1,6 @@
 //! Changes in place of the records of one number.
 
-ghost use Rattle.std.specs.Prelude.{◌≡◌, ◌≢◌, ◌↔◌, ◌++◌, ◌==◌, ◌≤◌, IsTrue, IsOk, [], length, not, OnOk, OnErr};
+ghost use Rattle.std.specs.Prelude.{◌≡◌, ◌≢◌, ◌↔◌, ◌++◌, ◌==◌, ◌≤◌, ◌+◌, IsTrue, IsOk, [], length, not, OnOk, OnErr};
 ghost use Rattle.buffa_wire.specs.View.{record_of};
 ghost use Rattle.buffa_codec.specs.Sub.{sub, without};
 
@@ -43,6 +43,7 @@ pub fn replace(
 ) -> Result<(), AllocError>
     ensures ok { OnOk result (fields.new.records ≡ without number fields.old.records ++ staged.records) }
     ensures err { OnErr result (fields.new ≡ fields.old) }
+    ensures room { fields.old.spare ≤ fields.new.spare + length staged.records }
     ensures succeeds { length staged.records ≤ fields.old.spare → IsOk result }
 {
     fields.reserve(staged.len())?;

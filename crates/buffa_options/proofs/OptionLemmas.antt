@@ -1,10 +1,10 @@
 -- What an option is read as, or its default.
-use Rattle.std.proofs.Common.{◌≡◌, ◌≢◌, ◌⊎◌, inl, inr, List, [], ◌∷◌, ◌++◌, Option, Some, None, IfOk, Result, Ok, Err, unwrap_or, refl, sym, ◌∙◌, ap, Global}
+use Rattle.std.proofs.Common.{◌≡◌, ◌⊎◌, inl, inr, ℕ, List, [], ◌∷◌, ◌++◌, Option, Some, None, IfOk, Result, Ok, Err, unwrap_or, refl, sym, subst, Global}
 use Rattle.std.specs.List.{cons_option, filter_map, last_or}
 use Rattle.std.specs.Result.{IsOk, OnErr}
 use Rattle.std.specs.declared.alloc.AllocError.{AllocError}
 use Rattle.buffa_wire.specs.Records.{Datum}
-use Rattle.buffa_codec.specs.Reading.{Has, last_read}
+use Rattle.buffa_codec.specs.Reading.{HasByte, HasLast, last_read}
 use Rattle.buffa_ext.specs.Defaults.{IsDefaulted}
 
 some_read : {V : Type 0} (r : Option V) (v d : V) → Some v ≡ r → v ≡ unwrap_or r d
@@ -44,32 +44,27 @@ pub made_or : {V : Type 0} {reads : Option V → Type 0} {Q : Global → V → T
 made_or r d h is says = default_of r d h is (made d says)
 
 -- no record's reading takes memory, and making the default is never refused
-pub never_refused : {V E : Type 0} {Q : Global → AllocError → Type 0} (r : Result V E) (ds : List Datum)
-    → OnErr r (Has (λ d. ⊥) ds ⊎ ((a : Global) × (e : AllocError) × Q a e)) → ((a : Global) (e : AllocError) → Q a e → ⊥)
+pub never_refused : {V E M : Type 0} {Q : Global → AllocError → Type 0} (reads : Type 0) (one : Datum → Option M) (r : Result V E) (ds : List Datum)
+    → OnErr r (HasLast (λ d. ⊥) one ds ⊎ (reads × ((a : Global) × (e : AllocError) × Q a e))) → ((a : Global) (e : AllocError) → Q a e → ⊥)
     → IsOk r
-never_refused (Ok v) ds h made_it = refl
-never_refused (Err e) ds (inl h) made_it = absurd h.3
-never_refused (Err e) ds (inr (a, f, q)) made_it = absurd (made_it a f q)
+never_refused reads one (Ok v) ds h made_it = refl
+never_refused reads one (Err e) ds (inl h) made_it = absurd h.3
+never_refused reads one (Err e) ds (inr h) made_it = absurd (made_it h.1.0 h.1.1 h.1.2)
 
--- ---- a record that is read at all is read as something
+-- ---- a record whose text has a byte, and behind which none is read, is the one that counts
 
-last_some : {M : Type 0} (v : M) (xs : List M) → last_or (Some v) xs ≢ None
-last_some v [] e = cc
-last_some v (x ∷ xs) e = last_some x xs e
+byte_there : (o found : Option (List ℕ)) (xs : List (List ℕ)) → xs ≡ [] → HasByte found → HasByte (last_or o (cons_option found xs))
+byte_there o None xs e h = absurd h
+byte_there o (Some b) xs e h = subst (λ l. HasByte (last_or (Some b) l)) (sym e) h
 
-last_there : {M : Type 0} (o found : Option M) (xs : List M) → found ≢ None → last_or o (cons_option found xs) ≢ None
-last_there o None xs n = absurd (n refl)
-last_there o (Some v) xs n = last_some v xs
+byte_behind : (o found : Option (List ℕ)) (xs : List (List ℕ)) → ((p : Option (List ℕ)) → HasByte (last_or p xs)) → HasByte (last_or o (cons_option found xs))
+byte_behind o None xs h = h o
+byte_behind o (Some v) xs h = h (Some v)
 
-last_behind : {M : Type 0} (o found : Option M) (xs : List M) → ((p : Option M) → last_or p xs ≢ None)
-    → last_or o (cons_option found xs) ≢ None
-last_behind o None xs h = h o
-last_behind o (Some v) xs h = h (Some v)
+byte_of : (one : Datum → Option (List ℕ)) (front : List Datum) (d : Datum) (back : List Datum) (o : Option (List ℕ)) → filter_map one back ≡ []
+    → HasByte (one d) → HasByte (last_or o (filter_map one (front ++ d ∷ back)))
+byte_of one [] d back o none h = byte_there o (one d) (filter_map one back) none h
+byte_of one (x ∷ front) d back o none h = byte_behind o (one x) (filter_map one (front ++ d ∷ back)) (λ p. byte_of one front d back p none h)
 
-last_of : {M : Type 0} (one : Datum → Option M) (front : List Datum) (d : Datum) (back : List Datum) (o : Option M)
-    → one d ≢ None → last_or o (filter_map one (front ++ d ∷ back)) ≢ None
-last_of one [] d back o n = last_there o (one d) (filter_map one back) n
-last_of one (x ∷ front) d back o n = last_behind o (one x) (filter_map one (front ++ d ∷ back)) (λ p. last_of one front d back p n)
-
-pub some_read_last : {M : Type 0} (one : Datum → Option M) (ds : List Datum) → Has (λ d. one d ≢ None) ds → last_read one ds ≢ None
-some_read_last one ds (front, d, back, n, e) none = last_of one front d back None n (ap (last_read one) (sym e) ∙ none)
+pub last_has_byte : (one : Datum → Option (List ℕ)) (ds : List Datum) → HasLast (λ d. HasByte (one d)) one ds → HasByte (last_read one ds)
+last_has_byte one ds (front, d, back, h, none, e) = subst (λ l. HasByte (last_read one l)) (sym e) (byte_of one front d back None none h)

@@ -1,8 +1,9 @@
 //! The custom options of a field, read of the unknown fields of its options.
 
-ghost use Rattle.std.specs.Prelude.{◌≡◌, ◌≢◌, [], None, codes, refl, pos, unwrap_or};
+ghost use Rattle.std.specs.Prelude.{◌≡◌, ◌≢◌, [], codes, refl, pos, unwrap_or};
 ghost use Rattle.std.specs.Prelude.{IfOk, IsOk, OnErr, option_map, string_bytes};
 ghost use Rattle.buffa_wire.specs.Records.{Held};
+ghost use Rattle.buffa_codec.specs.Reading.{HasByte};
 ghost use Rattle.buffa_options.specs.Options.{bool_option, int32_list, int32_option, string_option};
 
 use buffa_codec::{Repeated, StringCodec};
@@ -113,14 +114,14 @@ pub fn max_length_or_default(alloc: Global, options: &FieldOptions) -> Result<i3
 /// The option `string label = 50002`: the last that is UTF-8.
 ///
 /// # Errors
-/// Where memory runs out; never where no record is a string.
+/// Where memory runs out; never where no record is a string, nor for an empty one.
 ///
 /// ```ignore
 /// let label = read_label(alloc, &options)?; // Some("name")
 /// ```
 pub fn read_label(alloc: Global, options: &FieldOptions) -> Result<Option<String>, AllocError>
     ensures value { IfOk result (λ o. option_map string_bytes o ≡ string_option 50002 options.now.fields.records) }
-    ensures full { OnErr result (string_option 50002 options.now.fields.records ≢ None) }
+    ensures full { OnErr result (HasByte (string_option 50002 options.now.fields.records)) }
 {
     let label = Extension::<StringCodec>::new(50002, FieldOptions::PROTO_FQN);
     options.extension(alloc, &label)

@@ -1,4 +1,4 @@
-use Rattle.std.proofs.Common.{ap, ◌∙◌, subst}
+use Rattle.std.proofs.Common.{ap, ◌∙◌, subst, inr}
 use Rattle.buffa_codec.specs.Sub.{sub}
 use Rattle.buffa_codec.proofs.Filtered.{sub-set}
 use Rattle.buffa_ext.proofs.back.set_then_read.Goals as goal
@@ -12,3 +12,22 @@ returns-clause-value g c =
     (subst (λ ds. t.reads ds (t.answer c.in-Ok.answer))
     (ap (sub n) c.in_ok-set_extension.ensures.ok ∙ sub-set n (g.M.ExtensionSet.fields_of c.args.message.now).records (t.recs v))
     c.in-Ok.ensures.value)
+
+pub returns-in_default-clause-err : goal.returns-in_default-clause-err
+returns-in_default-clause-err g c =
+    let t = g.C.ExtensionCodec in
+    let n = c.args.ext.now.number in
+    let v = t.meaning c.args.value in
+    inr (
+      c.in_ok-set_extension.ensures.ok,
+      c.in_ok-set_extension.ensures.refused,
+      subst t.takes
+          (ap (sub n) c.in_ok-set_extension.ensures.ok ∙ sub-set n (g.M.ExtensionSet.fields_of c.args.message.now).records (t.recs v)) c.in_default.ensures.full,
+    )
+
+pub returns-in_default-clause-full : goal.returns-in_default-clause-full
+returns-in_default-clause-full g c =
+    let t = g.C.ExtensionCodec in
+    let n = c.args.ext.now.number in
+    let v = t.meaning c.args.value in
+    inr (subst t.takes (ap (sub n) c.in_ok-set_extension.ensures.ok ∙ sub-set n (g.M.ExtensionSet.fields_of c.args.message.now).records (t.recs v)) c.in_default.ensures.full)

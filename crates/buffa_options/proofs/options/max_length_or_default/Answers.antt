@@ -14,4 +14,4 @@ returns-clause-value c =
     (λ a w q. q.1.0))
 
 pub returns-clause-always : goal.returns-clause-always
-returns-clause-always c = never_refused c.extension_or_default.result _ c.extension_or_default.ensures.full (λ a e q. false≢true q.1.1)
+returns-clause-always c = never_refused _ _ c.extension_or_default.result _ c.extension_or_default.ensures.full (λ a e q. false≢true q.1.1)

@@ -1,9 +1,8 @@
-use Rattle.buffa_codec.proofs.Takes.{has_record}
-use Rattle.std.proofs.Common.{sym, ap, ◌∙◌, ◌-◌, arith, option_map}
+use Rattle.std.proofs.Common.{sym, ap, ◌∙◌, arith, option_map}
 use Rattle.buffa_wire.specs.View.{records_in}
 use Rattle.buffa_codec.specs.Sub.{sub}
 use Rattle.buffa_codec.specs.Reading.{full, last_read}
-use Rattle.buffa_codec.proofs.Lasts.{none_at_other, none_at_unread, found_last, below}
+use Rattle.buffa_codec.proofs.Lasts.{none_at_other, none_at_unread, found_last, last_there}
 use Rattle.buffa_codec.proofs.last.AnyExtensionCodec.decode.Goals as goal
 
 pub loop-i-preserved-in-None : goal.loop-i-preserved-in-None
@@ -29,5 +28,5 @@ returns-in-Some-clause-reads g c =
 
 pub returns-in_err-value-clause-full : goal.returns-in_err-value-clause-full
 returns-in_err-value-clause-full g c =
-    has_record c.from_residual.result g.C.SingularCodec.takes c.args.number c.as_slice-all.result.now (c.loop-i.i - 1) c.index-all-i.result c.args.fields.now.records
-    (below c.loop-i.i _ c.loop-i-test.true c.loop-i.invariant.in_range) c.index-all-i.is c.if-field-number.true (ap records_in c.as_slice-all.ensures.value ∙ c.iter.ensures) c.in_err-value.ensures.full
+    last_there c.from_residual.result g.C.SingularCodec.takes (g.C.SingularCodec.one 100 full) c.args.number c.as_slice-all.result.now c.loop-i.i c.index-all-i.result c.args.fields.now.records
+    c.loop-i-test.true c.loop-i.invariant.in_range c.index-all-i.is c.if-field-number.true (ap records_in c.as_slice-all.ensures.value ∙ c.iter.ensures) c.loop-i.invariant.none_after c.in_err-value.ensures.full

@@ -1,11 +1,15 @@
-use Rattle.std.proofs.Common.{sym, ap, ◌∙◌, map, take, ◌++◌, subst}
-use Rattle.buffa_codec.specs.Reading.{Each, joined}
+use Rattle.std.proofs.Common.{sym, ap, ◌∙◌, map, take, ◌++◌, subst, length, arith}
+use Rattle.buffa_codec.specs.Reading.{Each, joined, packed_record}
+use Rattle.buffa_codec.specs.Sub.{tagged}
 use Rattle.buffa_codec.proofs.Turns.{writes_none}
-use Rattle.buffa_codec.proofs.Lists.{means_more, Each-append, joined-append}
+use Rattle.buffa_codec.proofs.Lists.{packed_some, means_more, Each-append, joined-append}
 use Rattle.buffa_codec.proofs.packed.PackedRepeatedExtensionCodec.try_encode.Goals as goal
 
 pub returns-in_err-encode_packed-clause-err : goal.returns-in_err-encode_packed-clause-err
-returns-in_err-encode_packed-clause-err g c = writes_none c.from_residual.result c.args.fields.now.records _
+returns-in_err-encode_packed-clause-err g c =
+    let m = g.C.Value.Blank.meaning in
+    writes_none c.from_residual.result c.args.fields.now.records (tagged c.args.number (packed_record g.C.PackableCodec.packed_text (map m c.args.value.items)))
+    (packed_some g.C.PackableCodec.packed_text m c.args.number c.args.value.items (omega (arith, c.loop-v-test.true, ap length c.as_slice-v-items.ensures.value)))
 
 pub loop-v-preserved : goal.loop-v-preserved
 loop-v-preserved g c =

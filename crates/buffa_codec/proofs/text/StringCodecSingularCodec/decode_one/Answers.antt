@@ -1,10 +1,11 @@
 use Rattle.buffa_codec.proofs.Takes.{takes_text}
-use Rattle.std.proofs.Common.{◌≡◌, false, true, Some, sym, ap, ◌∙◌}
+use Rattle.std.proofs.Common.{◌≡◌, ◌++◌, length, false, true, Some, sym, ap, ◌∙◌}
 use Rattle.std.specs.Str.{is_utf8}
 use Rattle.std.proofs.lemmas.Bool.{false_from_ne_true}
 use Rattle.std.proofs.lemmas.Str.{IsUtf8-from_is_utf8, is_utf8-from_IsUtf8}
 use Rattle.buffa_wire.specs.View.{datum_of}
 use Rattle.buffa_codec.specs.Reading.{string_held}
+use Rattle.buffa_codec.proofs.Lists.{no_truth}
 use Rattle.buffa_codec.proofs.Helds.{held_not, held_text}
 use Rattle.buffa_codec.proofs.text.StringCodecSingularCodec.decode_one.Goals as goal
 
@@ -18,10 +19,11 @@ pub returns-clause-reads : goal.returns-clause-reads
 returns-clause-reads c =
     let held = c.in-LengthDelimited.held.items in
     let good : is_utf8 held ≡ true = ap is_utf8 (sym c.as_slice.ensures.value) ∙ is_utf8-from_IsUtf8 c.as_slice.result.now c.in-Ok.ensures.cases.1 in
-    ap (λ b. Some b) (c.in_ok-owned.ensures.ok ∙ c.in-Ok.ensures.cases.0 ∙ c.as_slice.ensures.value) ∙ held_text held good ∙ sym (ap (λ d. string_held (datum_of d)) c.in-LengthDelimited.is)
+    ap (λ b. Some b) (c.in_ok-push_str.ensures.bytes ∙ ap (λ l. l ++ c.in-Ok.text.now) c.in_ok-owned.ensures.bytes ∙ c.in-Ok.ensures.cases.0 ∙ c.as_slice.ensures.value) ∙ held_text held good ∙ sym (ap (λ d. string_held (datum_of d)) c.in-LengthDelimited.is)
 
 pub returns-in_err-owned-clause-full : goal.returns-in_err-owned-clause-full
 returns-in_err-owned-clause-full c =
     let held = c.in-LengthDelimited.held.items in
     let good : is_utf8 held ≡ true = ap is_utf8 (sym c.as_slice.ensures.value) ∙ is_utf8-from_IsUtf8 c.as_slice.result.now c.in-Ok.ensures.cases.1 in
     takes_text c.from_residual.result (datum_of c.args.payload.now) held (held_text held good ∙ sym (ap (λ d. string_held (datum_of d)) c.in-LengthDelimited.is))
+    (λ none. no_truth (c.in_err-owned.ensures.succeeds (ap length (c.in-Ok.ensures.cases.0 ∙ c.as_slice.ensures.value ∙ none))))
