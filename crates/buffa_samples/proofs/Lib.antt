@@ -1,4 +1,5 @@
 pub mod NormalLemmas
+pub mod PassedLemmas
 pub mod SortedLemmas
 pub mod TreeFields
 pub mod TreeMerge

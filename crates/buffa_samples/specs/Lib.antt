@@ -9,6 +9,7 @@ pub mod Count
 pub mod CountLaws
 pub mod CostLaws
 pub mod Keep
+pub mod Passed
 pub mod KeepLaws
 pub mod Grown
 pub mod GrownFalls

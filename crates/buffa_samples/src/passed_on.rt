@@ -1,19 +1,24 @@
 //! A map field passed on by a reader that doesn't know all its values.
 
-ghost use Rattle.std.specs.Prelude.{◌≡◌, ◌++◌, ℤ, List, OnOk};
+ghost use Rattle.std.specs.Prelude.{◌≡◌, ◌++◌, ℤ, IfErr, List, OnOk};
 ghost use Rattle.buffa_wire.specs.Enums.{Refines, numbers};
 ghost use Rattle.buffa_wire.specs.Number.{IsNumber};
 ghost use Rattle.buffa_map.specs.Enums.{closed_reading};
+ghost use Rattle.buffa_map.specs.Merge.{state};
 ghost use Rattle.buffa_map.specs.Pairs.{SamePairs};
 ghost use Rattle.buffa_map.specs.Rewrite.{Ordered};
 ghost use Rattle.buffa_map.specs.Run.{fold_entries, Run, EntryRecord, undeclared_records};
+ghost use Rattle.buffa_samples.specs.Passed.{IsRunOf, MatchPass, NotRewritten, StopsInRewrite, reader_of};
 
-use buffa_map::laws::{one_reading, rewrite_means};
+use buffa_map::laws::{
+    newer_enums_take_it_too, one_reading, plain_entries_need_units, rewrite_means,
+};
 use buffa_map::map_codec::{
     ClosedEnum, MapCodec, MapStorage, MapWrite, RewriteError, read_map_field, rewrite_map_field,
 };
 use buffa_wire::{
-    Budget, DEFAULT_UNKNOWN_FIELD_LIMIT, DecodeContext, DecodeError, Enumeration, UnknownFields,
+    Budget, DEFAULT_ELEMENT_MEMORY_LIMIT, DEFAULT_UNKNOWN_FIELD_LIMIT, DecodeContext, DecodeError,
+    Enumeration, UnknownFields,
 };
 use std::alloc::Global;
 
@@ -33,7 +38,9 @@ pub enum PassFault {
 /// that `F` doesn't declare are kept as they are in the run.
 ///
 /// # Errors
-/// Those of [`rewrite_map_field`] and of [`read_map_field`] at the default limits.
+/// [`PassFault::Rewrite`] with those of [`rewrite_map_field`] at the default limits; the map and the list are as
+/// they were. [`PassFault::Decode`] where memory or the budget ran out as the rewrite was read; the entries before
+/// that stand.
 ///
 /// ```ignore
 /// passed_on::<Int32, Old, New, _, _>(alloc, 5, &bytes, 10, &mut scratch, &mut map, &mut unknown)?;
@@ -56,11 +63,24 @@ pub fn passed_on<
     requires number { IsNumber number }
     requires refines { Refines (numbers E.of_number E.blank_is) (numbers F.of_number F.blank_is) }
     requires keys { C.equal ≡ D.equal }
-    ensures { OnOk result ((es fs : List (EntryRecord KC.Value.Meaning ℤ)) →
+    ensures passed { OnOk result ((es fs : List (EntryRecord KC.Value.Meaning ℤ)) →
         Run KC.reading (closed_reading (numbers E.of_number E.blank_is)) depth number bytes.now es →
         Run KC.reading (closed_reading (numbers F.of_number F.blank_is)) depth number bytes.now fs →
         (unknown.new.records ≡ unknown.old.records ++ undeclared_records number fs)
         × (Ordered D.equal es fs → SamePairs D.equal (fold_entries D.equal (D.pairs map.old) fs) (D.pairs map.new))) }
+    ensures runs { OnOk result (IsRunOf KC.reading (numbers E.of_number E.blank_is) depth number bytes.now
+        × IsRunOf KC.reading (numbers F.of_number F.blank_is) depth number bytes.now) }
+    ensures refused { IfErr result (λ fault. MatchPass fault
+        (λ e. NotRewritten
+        (reader_of KC.reading KC.COST (numbers E.of_number E.blank_is) C.equal C.keeps_order depth number) KC.writing
+        (record { unknown = DEFAULT_UNKNOWN_FIELD_LIMIT; memory = DEFAULT_ELEMENT_MEMORY_LIMIT })
+        bytes.now (C.pairs scratch.new) e × (map.new ≡ map.old) × (unknown.new ≡ unknown.old))
+        (StopsInRewrite
+        (reader_of KC.reading KC.COST (numbers E.of_number E.blank_is) C.equal C.keeps_order depth number)
+        (reader_of KC.reading KC.COST (numbers F.of_number F.blank_is) D.equal D.keeps_order depth number)
+        KC.writing KC.fits (numbers E.of_number E.blank_is) bytes.now (state (D.pairs map.old) unknown.old.records
+        (record { unknown = DEFAULT_UNKNOWN_FIELD_LIMIT; memory = DEFAULT_ELEMENT_MEMORY_LIMIT }))
+        (D.pairs map.new) unknown.new.records)) }
 {
     let mut text = Vec::new(alloc);
     let mut budget = Budget::new(DEFAULT_UNKNOWN_FIELD_LIMIT);
@@ -75,9 +95,11 @@ pub fn passed_on<
     let mut fresh = Budget::new(DEFAULT_UNKNOWN_FIELD_LIMIT);
     let mut written = text.as_slice();
     let ctx = DecodeContext::new(depth, &mut fresh);
+    newer_enums_take_it_too::<KC>();
     rewrite_means::<KC>();
     one_reading::<KC, ClosedEnum<E>>();
     one_reading::<KC, ClosedEnum<F>>();
+    plain_entries_need_units::<KC, ClosedEnum<F>>();
     match read_map_field::<KC, ClosedEnum<F>, D, _>(
         alloc,
         map,

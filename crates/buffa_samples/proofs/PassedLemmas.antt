@@ -1,0 +1,89 @@
+-- The exits of passing a map field on.
+use Rattle.std.proofs.Common.{◌≡◌, ◌≢◌, ◌⊎◌, inl, inr, ℕ, ℤ, ◌≤◌, Bool, List, [], refl, sym, subst, arith}
+use Rattle.buffa_bytes.specs.declared.error.DecodeError.{DecodeError}
+use Rattle.buffa_bytes.specs.declared.error.DecodeError.TheVariants.{ElementMemoryLimitExceeded, OutOfMemory, UnknownFieldLimitExceeded}
+use Rattle.buffa_wire.specs.BudgetLeft.{BudgetLeft, Lacks, plus, units}
+use Rattle.buffa_wire.specs.Message.{IsLimit}
+use Rattle.buffa_wire.specs.Records.{Datum}
+use Rattle.buffa_map.specs.Codec.{Reading, Writing}
+use Rattle.buffa_map.specs.Entry.{EntryFault, need_of}
+use Rattle.buffa_map.specs.Enums.{closed_writing}
+use Rattle.buffa_map.specs.Laws.{OneReading}
+use Rattle.buffa_map.specs.Merge.{State, StopsRun, keeping, state}
+use Rattle.buffa_map.specs.Rewrite.{MatchRefusal, RefusesBytes, RefusesOutput}
+use Rattle.buffa_map.specs.Run.{EntryRecord, RecordFault, Run, RunBegins, inner_needs}
+use Rattle.buffa_map.specs.declared.rewrite.RewriteError.{RewriteError}
+use Rattle.buffa_samples.specs.Passed.{IsShortage, NotRewritten}
+
+-- a budget is what is left of its slots and its units
+pub left_is : (b : BudgetLeft) (u m : ℕ) → b.unknown ≡ u → b.memory ≡ m → b ≡ record { unknown = u; memory = m }
+left_is b u m h k = subst (λ (z : ℕ). b ≡ record { unknown = u; memory = z }) k (subst (λ (z : ℕ). b ≡ record { unknown = z; memory = b.memory }) h refl)
+
+-- the bytes were refused, or the text of the rewrite
+module _ {K : Type 0} (rk : Reading K) (rv : Reading ℤ) (key : Writing K) (eq : K → K → Bool) (keeps : Bool) (n cost : ℕ) (bs : List ℕ) (pairs : List (K × ℤ)) where
+  abbrev Refused : ℕ → BudgetLeft → List ℕ → BudgetLeft → List ℕ → List ℕ → RewriteError → Type 0
+  Refused d left old over rest written x = MatchRefusal x
+      (RefusesBytes (keeping rk rv eq keeps d n cost) left bs pairs over rest old written)
+      (RefusesOutput (keeping rk rv eq keeps d n cost) key closed_writing left bs pairs over rest old written)
+
+  pub not_rewritten : (d e : ℕ) (left given : BudgetLeft) (old : List ℕ) (over : BudgetLeft) (rest written : List ℕ) (x : RewriteError) → d ≡ e → left ≡ given → old ≡ [] →
+      Refused d left old over rest written x → NotRewritten (keeping rk rv eq keeps e n cost) key given bs pairs x
+  not_rewritten d e left given old over rest written x same is empty h = (
+    over,
+    rest,
+    written,
+    subst (λ (z : List ℕ). Refused e given z over rest written x) empty (subst (λ (z : BudgetLeft). Refused e z old over rest written x) is (subst (λ (z : ℕ). Refused z left old over rest written x) same h)),
+  )
+
+-- ---- bytes that are a run stop a reader only where memory or the budget ran out
+
+pub is_shortage : (f : DecodeError) → (f ≢ OutOfMemory → IsLimit f) → IsShortage f
+is_shortage OutOfMemory h = tt
+is_shortage UnknownFieldLimitExceeded h = tt
+is_shortage ElementMemoryLimitExceeded h = tt
+is_shortage _ h = h (λ e. cc)
+
+enough : (left : BudgetLeft) (cost : ℕ) → cost ≤ left.memory → Lacks left (units cost) → ⊥
+enough left cost h (inl x) = omega (arith, x)
+enough left cost h (inr x) = omega (arith, h, x)
+
+module _ {K V : Type 0} (key : Reading K) (val : Reading V) (d n cost slot : ℕ) (plain : (e : List ℕ) → need_of key val d cost e ≡ units cost) where
+  -- a fault that is no limit's is one whatever is left
+  entry_limit : (left other : BudgetLeft) (bs : List ℕ) (f : DecodeError) → EntryFault key val d cost slot left bs f → IsLimit f ⊎ EntryFault key val d 0 0 other bs f
+  entry_limit left other bs f (inl h) = inr (inl h)
+  entry_limit left other bs f (inr (t, e, rest, v, b, inl h)) = inl (subst IsLimit (sym h.1) tt)
+  entry_limit left other bs f (inr (t, e, rest, v, b, inr (some, inl h))) = absurd (enough left cost some (subst (λ z. Lacks left z) (plain e) h))
+  entry_limit left other bs f (inr (t, e, rest, v, b, inr (some, inr (inl h)))) = inr (inr (t, e, rest, v, b, inr (omega arith, inr (inl h))))
+  entry_limit left other bs f (inr (t, e, rest, v, b, inr (some, inr (inr (s, is, known, few, h))))) = inl (subst IsLimit (sym h) tt)
+
+  record_limit : (left other : BudgetLeft) (bs : List ℕ) (f : DecodeError) → RecordFault key val d n cost slot left bs f → IsLimit f ⊎ RecordFault key val d n 0 0 other bs f
+  record_limit left other bs f (inl h) = inr (inl h)
+  record_limit left other bs f (inr (inl h)) = inr (inr (inl h))
+  record_limit left other bs f (inr (inr (inl h))) = inr (inr (inr (inl h)))
+  record_limit left other bs f (inr (inr (inr (rest, takes, h)))) = elim (entry_limit left other rest f h) [ inl l ↦ inl l | inr k ↦ inr (inr (inr (inr (rest, takes, k)))) ]
+
+  pub stop_is_limit : OneReading key val → (left over : BudgetLeft) (out rest : List ℕ) (gs es : List (EntryRecord K V)) (f : DecodeError) → Run key val d n out gs →
+      RunBegins key val d n cost slot left out es rest over → rest ≢ [] → RecordFault key val d n cost slot over rest f → IsLimit f
+  stop_is_limit one left over out rest gs es f run begins some fault =
+      let a = inner_needs key val d gs in
+      let b = inner_needs key val d es in
+      let both : BudgetLeft = plus a b in
+      elim (record_limit over a rest f fault) [
+        | inl l ↦ l
+        | inr k ↦ absurd (one.run_or_fault d n 0 0 both b out gs f run (omega arith, omega arith)
+            (es, rest, a, (begins.0, begins.1, begins.2, (omega arith, omega arith)), some, k))
+      ]
+
+module _ {K : Type 0} (rk : Reading K) (rv : Reading ℤ) (eq : K → K → Bool) (keeps : Bool) (n cost : ℕ) (pairs : List (K × ℤ)) (records : List (ℕ × Datum)) (new : State K ℤ) (unread : List ℕ) (f : DecodeError) where
+  -- the same stop, by the names of the clause
+  pub stopped : (d e : ℕ) (left given : BudgetLeft) (text out : List ℕ) → d ≡ e → left ≡ given → text ≡ out →
+      StopsRun (keeping rk rv eq keeps d n cost) (state pairs records left) text new unread f → StopsRun (keeping rk rv eq keeps e n cost) (state pairs records given) out new unread f
+  stopped d e left given text out same is whole h =
+      subst (λ (z : List ℕ). StopsRun (keeping rk rv eq keeps e n cost) (state pairs records given) z new unread f) whole
+      (subst (λ (z : BudgetLeft). StopsRun (keeping rk rv eq keeps e n cost) (state pairs records z) text new unread f) is
+      (subst (λ (z : ℕ). StopsRun (keeping rk rv eq keeps z n cost) (state pairs records left) text new unread f) same h))
+
+  pub stop_is_shortage : (d : ℕ) (left : BudgetLeft) (out : List ℕ) (gs : List (EntryRecord K ℤ)) → ((e : List ℕ) → need_of rk rv d cost e ≡ units cost) → OneReading rk rv → Run rk rv d n out gs →
+      StopsRun (keeping rk rv eq keeps d n cost) (state pairs records left) out new unread f → IsShortage f
+  stop_is_shortage d left out gs plain one run h =
+      is_shortage f (λ no. stop_is_limit rk rv d n cost 1 plain one left h.over out h.rest gs h.entries f run h.begins h.some (h.fault no))

@@ -1,0 +1,57 @@
+-- What is true where a map field wasn't passed on, and of the bytes where it was.
+use Rattle.std.specs.Prelude.{◌+◌, ℕ, ℤ, Bool, List, []}
+use Rattle.buffa_bytes.specs.declared.error.DecodeError.{DecodeError}
+use Rattle.buffa_bytes.specs.declared.error.DecodeError.TheVariants.{ElementMemoryLimitExceeded, OutOfMemory, UnknownFieldLimitExceeded}
+use Rattle.buffa_wire.specs.BudgetLeft.{BudgetLeft}
+use Rattle.buffa_wire.specs.Enums.{Numbers}
+use Rattle.buffa_wire.specs.Records.{Datum}
+use Rattle.buffa_map.specs.Codec.{Reading, Writing}
+use Rattle.buffa_map.specs.Enums.{ClosedFits, closed_reading, closed_writing}
+use Rattle.buffa_map.specs.Merge.{Rules, State, StopsRun, keeping, state}
+use Rattle.buffa_map.specs.Rewrite.{IsRewrite, MatchRefusal, RefusesBytes, RefusesOutput}
+use Rattle.buffa_map.specs.Run.{EntryRecord, Run}
+use Rattle.buffa_map.specs.declared.rewrite.RewriteError.{RewriteError}
+use Rattle.buffa_samples.specs.declared.passed_on.PassFault.{PassFault}
+use Rattle.buffa_samples.specs.declared.passed_on.PassFault.TheVariants.{Decode, Rewrite}
+
+-- memory or a budget ran out
+abbrev pub IsShortage : DecodeError → Type 0
+IsShortage OutOfMemory = Unit {0}
+IsShortage UnknownFieldLimitExceeded = Unit {0}
+IsShortage ElementMemoryLimitExceeded = Unit {0}
+IsShortage _ = ⊥
+
+-- P of the error, if the field wasn't rewritten; and Q of the fault, if the rewrite wasn't read
+abbrev pub MatchPass : PassFault → (RewriteError → Type 0) → (DecodeError → Type 0) → Type 0
+MatchPass (Rewrite e) P Q = P e
+MatchPass (Decode f) P Q = Q f
+
+-- the bytes are a run of number n, which a reader of the enum e takes
+abbrev pub IsRunOf : {K : Type 0} → Reading K → Numbers → ℕ → ℕ → List ℕ → Type 0
+IsRunOf {K} key e d n bytes = (es : List (EntryRecord K ℤ)) × Run key (closed_reading e) d n bytes es
+
+-- how a reader of the enum e reads a field, where a key costs so many units, and the number of an enum four
+abbrev pub reader_of : {K : Type 0} → Reading K → ℕ → Numbers → (K → K → Bool) → Bool → ℕ → ℕ → Rules K ℤ
+reader_of key cost e same ordered d n = keeping key (closed_reading e) same ordered d n (cost + 4)
+
+-- Why the bytes weren't rewritten, where the map was left with these pairs: the fault that reading them into an
+-- empty map stopped at; or they are a run, and the error of its text.
+abbrev pub NotRewritten : {K : Type 0} → Rules K ℤ → Writing K → BudgetLeft → List ℕ → List (K × ℤ) → RewriteError → Type 0
+NotRewritten r key left bytes pairs e =
+    (over : BudgetLeft) × (rest : List ℕ) × (written : List ℕ)
+    × MatchRefusal e (RefusesBytes r left bytes pairs over rest [] written) (RefusesOutput r key closed_writing left bytes pairs over rest [] written)
+
+-- The bytes are a run to both readers, and out is a rewrite by the older one, of the enum e. The newer one read the
+-- entries that begin out, which stand; f is why not what follows them:
+-- memory or the budget ran out, for bytes that are a run have no other fault.
+pub record StopsInRewrite {K : Type 0} (older newer : Rules K ℤ) (key : Writing K) (KeyFits : K → Type 0) (e : Numbers) (bytes : List ℕ) (old : State K ℤ) (pairs : List (K × ℤ)) (records : List (ℕ × Datum)) (f : DecodeError) : Type 0 where
+  pub entries : List (EntryRecord K ℤ)
+  pub out : List ℕ
+  pub over : BudgetLeft
+  pub unread : List ℕ
+  pub run : Run older.key older.val older.depth older.number bytes entries
+  pub newer_entries : List (EntryRecord K ℤ)
+  pub newer_run : Run newer.key newer.val newer.depth newer.number bytes newer_entries
+  pub rewrite : IsRewrite older.same key closed_writing KeyFits (ClosedFits e) older.number entries out
+  pub stops : StopsRun newer old out (state pairs records over) unread f
+  pub short : IsShortage f
