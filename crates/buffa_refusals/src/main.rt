@@ -69,17 +69,15 @@ fn merges_all(
     mut lent: Option<UnknownFields>,
 ) -> bool {
     let mut whole: &[u8] = &[4, 8, 5, 16, 1];
-    let cuts: [[&[u8]; 2]; 4] = [
-        [&[4], &[8, 5, 16, 2]],
-        [&[4, 8], &[5, 16, 3]],
-        [&[4, 8, 5], &[16, 4]],
-        [&[4, 8, 5, 16], &[5]],
+    let cuts: [([&[u8]; 2], i32); 4] = [
+        ([&[4], &[8, 5, 16, 2]], 2),
+        ([&[4, 8], &[5, 16, 3]], 3),
+        ([&[4, 8, 5], &[16, 4]], 4),
+        ([&[4, 8, 5, 16], &[5]], 5),
     ];
     let mut done = merges(alloc, map, &mut whole, 1, lent.as_mut());
-    let mut value = 2;
-    for cut in &cuts {
-        done = done && merges(alloc, map, &mut Pieces::new(cut), value, lent.as_mut());
-        value += 1;
+    for (cut, value) in &cuts {
+        done = done && merges(alloc, map, &mut Pieces::new(cut), *value, lent.as_mut());
     }
     done
 }
