@@ -64,7 +64,7 @@ pub trait ExtensionCodec {
     /// The values that are written without memory where the list has room for their records.
     ghost in_room: { Meaning → Type 0 };
 
-    /// The records of the number whose reading takes memory: mostly one of them does that counts.
+    /// The records of the number whose reading takes memory. Of a codec of one value, only the record that counts does.
     ghost takes: { List Datum → Type 0 };
 
     /// Reads the records of the number.
