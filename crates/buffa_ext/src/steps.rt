@@ -15,11 +15,14 @@ use std::alloc::{AllocError, Global};
 pub enum Step {
     /// Records that hold these take the place of the number's.
     Set {
+        /// The number.
         number: u32,
+        /// What its records are to hold, in order.
         records: Vec<UnknownFieldData>,
     },
     /// The number's records are taken out.
     Clear {
+        /// The number.
         number: u32,
     },
 }

@@ -39,7 +39,7 @@ reader_of key cost e same ordered d n = keeping key (closed_reading e) same orde
 abbrev pub NotRewritten : {K : Type 0} → Rules K ℤ → Writing K → BudgetLeft → List ℕ → List (K × ℤ) → RewriteError → Type 0
 NotRewritten r key left bytes pairs e =
     (over : BudgetLeft) × (rest : List ℕ) × (written : List ℕ)
-    × MatchRefusal e (RefusesBytes r left bytes pairs over rest [] written) (RefusesOutput r key closed_writing left bytes pairs over rest [] written)
+    × MatchRefusal e (RefusesBytes r left bytes pairs over rest [] written) (RefusesOutput r key closed_writing left bytes pairs over rest [] written 0)
 
 -- The bytes are a run to both readers, and out is a rewrite by the older one, of the enum e. The newer one read the
 -- entries that begin out, which stand; f is why not what follows them:
