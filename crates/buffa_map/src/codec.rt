@@ -5,6 +5,7 @@ ghost use Rattle.std.specs.Prelude.{OnErr};
 ghost use Rattle.buffa_bytes.specs.declared.error.DecodeError.TheVariants.{OutOfMemory};
 ghost use Rattle.buffa_bytes.specs.declared.wire_type.WireType.{WireType};
 ghost use Rattle.buffa_bytes.specs.Gives.{FullOnlyIf};
+ghost use Rattle.buffa_bytes.specs.Unread.{IsTailOf};
 ghost use Rattle.buffa_wire.specs.Content.{Content, HasContent};
 ghost use Rattle.buffa_wire.specs.BudgetLeft.{budget_left, nothing};
 ghost use Rattle.buffa_wire.specs.Message.{IsLimit};
@@ -81,6 +82,7 @@ pub trait MapValueDecode: sealed::Sealed {
         ensures err { OnErr result (reading.nested ≡ false → Self.Value.meaning value.new
             ≡ Self.Value.meaning value.old) }
         ensures kept { B.beyond buf.new ≡ B.beyond buf.old }
+        ensures tail { IsTailOf (B.unread buf.new) (B.unread buf.old) }
         ensures spends { Spends reading.nested result ctx.entry.budget.now
             (value_need reading ctx.entry.depth (B.unread buf.old)) (budget_left ctx.exit) };
 
