@@ -228,7 +228,11 @@ fn are_records(bytes: &[u8]) -> bool {
 // Whether a whole entry, of which the length is spelled in one byte or in two, begins the bytes.
 fn has_entry(bytes: &[u8]) -> bool {
     let first = number_at(bytes, 0);
-    let end = if first < 128 { 1 + first } else { 2 + first % 128 };
+    let end = if first < 128 {
+        1 + first
+    } else {
+        2 + first % 128
+    };
     !bytes.is_empty() && end <= bytes.len()
 }
 
