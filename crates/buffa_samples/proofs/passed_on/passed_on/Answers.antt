@@ -62,8 +62,8 @@ returns-in-Ok-read_map_field-clause-reads g c =
       over = _;
       rewritten = record { entries = w.entries; run = run; folded = w.folded; order = w.order; rewrite = w.rewrite };
       reads = read_whole key (closed_reading f) g.D.MapStorage.equal g.D.MapStorage.keeps_order n (g.KC.MapValueDecode.COST + 4) (g.D.MapStorage.pairs c.args.map.now) c.args.unknown.now.records _ _
-      c.new-ctx-2.result.depth depth c.new-ctx-2.result.budget.now _ c.as_slice-written.result.now w.out c.new-ctx-2.ensures.depth
-      (c.new-ctx-2.ensures.left ∙ left_is c.new-fresh.result _ _ c.new-fresh.ensures.unknown c.new-fresh.ensures.memory) text c.in-Ok-read_map_field.ensures.ok;
+          c.new-ctx-2.result.depth depth c.new-ctx-2.result.budget.now _ c.as_slice-written.result.now w.out c.new-ctx-2.ensures.depth
+          (c.new-ctx-2.ensures.left ∙ left_is c.new-fresh.result _ _ c.new-fresh.ensures.unknown c.new-fresh.ensures.memory) text c.in-Ok-read_map_field.ensures.ok;
     }
 
 pub returns-in-Err-clause-refused : goal.returns-in-Err-clause-refused
