@@ -9,7 +9,7 @@ use Rattle.buffa_map.specs.Codec.{Reading, Writing}
 use Rattle.buffa_map.specs.Entry.{EntryFault, need_of}
 use Rattle.buffa_map.specs.Enums.{closed_writing}
 use Rattle.buffa_map.specs.Laws.{OneReading}
-use Rattle.buffa_map.specs.Merge.{State, StopsRun, keeping, state}
+use Rattle.buffa_map.specs.Merge.{ReadsRun, State, StopsRun, keeping, state}
 use Rattle.buffa_map.specs.Rewrite.{MatchRefusal, RefusesBytes, RefusesOutput}
 use Rattle.buffa_map.specs.Run.{EntryRecord, RecordFault, Run, RunBegins, inner_needs}
 use Rattle.buffa_map.specs.declared.rewrite.RewriteError.{RewriteError}
@@ -105,3 +105,13 @@ module _ {K : Type 0} (rk : Reading K) (rv : Reading ℤ) (eq : K → K → Bool
       StopsRun (keeping rk rv eq keeps d n cost) (state pairs records left) out new unread f → IsShortage f
   stop_is_shortage d left out gs plain one run h =
       is_shortage f (λ no. stop_is_limit rk rv d n cost 1 plain one left h.over out h.rest gs h.entries f run h.begins h.some (h.fault no))
+
+-- the same reading of the whole, by the names of the clause
+pub read_whole : {K : Type 0} (rk : Reading K) (rv : Reading ℤ) (eq : K → K → Bool) (keeps : Bool) (n cost : ℕ) (pairs : List (K × ℤ)) (records : List (ℕ × Datum)) (new : State K ℤ) (rest : List ℕ)
+    (d e : ℕ) (left given : BudgetLeft) (text out : List ℕ) → d ≡ e → left ≡ given → text ≡ out →
+    ReadsRun (keeping rk rv eq keeps d n cost) (state pairs records left) text new rest → ReadsRun (keeping rk rv eq keeps e n cost) (state pairs records given) out new []
+read_whole rk rv eq keeps n cost pairs records new rest d e left given text out same is whole h =
+    subst (λ (z : List ℕ). ReadsRun (keeping rk rv eq keeps e n cost) (state pairs records given) out new z) h.whole
+    (subst (λ (z : List ℕ). ReadsRun (keeping rk rv eq keeps e n cost) (state pairs records given) z new rest) whole
+    (subst (λ (z : BudgetLeft). ReadsRun (keeping rk rv eq keeps e n cost) (state pairs records z) text new rest) is
+    (subst (λ (z : ℕ). ReadsRun (keeping rk rv eq keeps z n cost) (state pairs records left) text new rest) same h)))
