@@ -11,7 +11,7 @@ use buffa_wire::{UnknownField, UnknownFieldData, UnknownFields};
 use std::alloc::{AllocError, Global};
 
 /// A change of the records of one number.
-#[derive(Drop)]
+#[derive(Debug, PartialEq, Eq, Drop)]
 pub enum Step {
     /// Records that hold these take the place of the number's.
     Set {
