@@ -40,7 +40,8 @@ pub const MESSAGE_TAG: u64 = 0x1A;
 // The greatest type id. Source: a type id is an int32, and positive.
 const MAX_TYPE_ID: u64 = 2_147_483_647;
 
-/// The length of an Item's text, start tag and end tag too, where the message has `payload_len` bytes.
+/// The length of an Item's text in bytes, start tag and end tag too, where the message has `payload_len` bytes.
+/// The sum has to be below 2^64.
 ///
 /// ```ignore
 /// let twelve = item_encoded_len(1000, 5);

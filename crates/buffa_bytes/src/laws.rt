@@ -213,15 +213,15 @@ pub fn own_bytes_are_read_back<P: ProtoBytes>()
 {}
 
 /// A value is read as the content of its payload.
-pub fn values_are_read_of_contents<varint_text>()
-    ensures varint { (of : ℕ → varint_text) (bs : List ℕ) → varint_as of bs
+pub fn values_are_read_of_contents<V>()
+    ensures varint { (of : ℕ → V) (bs : List ℕ) → varint_as of bs
         ≡ content_by Varint (λ c. Ok (of (number_in c))) bs }
-    ensures four_bytes { (of : ℕ → varint_text) (bs : List ℕ) → four_as of bs
+    ensures four_bytes { (of : ℕ → V) (bs : List ℕ) → four_as of bs
         ≡ content_by Fixed32 (λ c. Ok (of (number_in c))) bs }
-    ensures eight_bytes { (of : ℕ → varint_text) (bs : List ℕ) → eight_as of bs
+    ensures eight_bytes { (of : ℕ → V) (bs : List ℕ) → eight_as of bs
         ≡ content_by Fixed64 (λ c. Ok (of (number_in c))) bs }
-    ensures bytes { (of : List ℕ → varint_text) (bs : List ℕ) → bytes_as of bs
+    ensures bytes { (of : List ℕ → V) (bs : List ℕ) → bytes_as of bs
         ≡ content_by LengthDelimited (λ c. Ok (of (bytes_in c))) bs }
-    ensures string { (of : List ℕ → varint_text) (bs : List ℕ) → string_as of bs
+    ensures string { (of : List ℕ → V) (bs : List ℕ) → string_as of bs
         ≡ content_by LengthDelimited (λ c. text_as of (bytes_in c)) bs }
 {}

@@ -172,7 +172,7 @@ pub trait SingularCodec {
     /// A record whose reading takes memory.
     ghost takes: { Datum → Type 0 };
 
-    /// Reads a record under a pair of default budgets, as deep as messages nest.
+    /// Reads a record under a pair of default budgets, 100 levels deep.
     ///
     /// # Errors
     /// Where memory runs out; never at a record that is of no use to the codec.

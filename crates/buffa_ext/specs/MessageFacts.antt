@@ -1,5 +1,5 @@
 -- What merging the texts of records comes to.
-use Rattle.std.proofs.Common.{◌≡◌, ℕ, ◌+◌, ◌<◌, ◌≤◌, ◌^◌, Bool, true, false, List, [], ◌∷◌, ◌++◌, ◌&&◌, ◌||◌, nat_le, nat_lt, length, Option, Some, None, Result, Ok, Err, ◌⊎◌, inl, inr, refl, sym, ap, subst, ◌∙◌, arith, if◌then◌else◌}
+use Rattle.std.proofs.Common.{◌≡◌, ℕ, ◌+◌, ◌<◌, ◌≤◌, ◌^◌, Bool, true, false, List, [], ◌∷◌, ◌++◌, ◌&&◌, ◌||◌, nat_le, nat_lt, length, Option, Some, None, Result, Ok, Err, inl, inr, refl, sym, ap, subst, ◌∙◌, arith, if◌then◌else◌}
 use Rattle.std.proofs.lemmas.Grind.{common_steps}
 use Rattle.std.specs.Option.{option_and_then}
 use Rattle.std.specs.List.{cons_option}
@@ -8,6 +8,7 @@ use Rattle.buffa_bytes.specs.declared.error.EncodeError.{EncodeError}
 use Rattle.buffa_bytes.specs.declared.error.EncodeError.TheVariants.{GroupRefused, MessageTooLarge}
 use Rattle.buffa_bytes.proofs.StepLemmas.{agree_ok}
 use Rattle.buffa_wire.specs.BudgetLeft.{BudgetLeft, Lacks, Pays, PaysAtMost, nothing, plus}
+use Rattle.buffa_wire.specs.Message.{MergeFault}
 use Rattle.buffa_wire.specs.Parse.{Fits}
 use Rattle.buffa_wire.specs.RecordReading.{list_at}
 use Rattle.buffa_wire.specs.Records.{Datum, group, records_of, records_height}
@@ -85,10 +86,10 @@ module _ {X : Type 0} (merged : X → List ℕ → Option X) (cost : List ℕ �
   message_some blank new left after [] t e p = cc
   message_some blank new left after (b ∷ bs) t e p = rw (left_yes left (cost_all cost (b ∷ bs)) (pays_covers left (cost_all cost (b ∷ bs)) after p)) e
 
-  pub message_none : (blank : X) (left : BudgetLeft) (bs : List (List ℕ)) → Lacks left (cost_all cost bs) ⊎ (merged_all merged blank bs ≡ None) → message_of merged cost blank left bs ≡ None
-  message_none blank left [] h = refl
-  message_none blank left (b ∷ bs) (inl h) = rw (left_no left (cost_all cost (b ∷ bs)) h) refl
-  message_none blank left (b ∷ bs) (inr h) = none_either (is_left left (cost_all cost (b ∷ bs))) (merged_all merged blank (b ∷ bs)) h
+  pub message_none : (blank : X) (left : BudgetLeft) (bs : List (List ℕ)) (e : DecodeError) → MergeFault (merged_all merged blank bs) (cost_all cost bs) left e → message_of merged cost blank left bs ≡ None
+  message_none blank left [] e h = refl
+  message_none blank left (b ∷ bs) e (inl h) = rw (left_no left (cost_all cost (b ∷ bs)) h) refl
+  message_none blank left (b ∷ bs) e (inr h) = none_either (is_left left (cost_all cost (b ∷ bs))) (merged_all merged blank (b ∷ bs)) h.0
 
   no_text : (blank : X) (left : BudgetLeft) (bs : List (List ℕ)) → false ≡ some_there bs → message_of merged cost blank left bs ≡ None
   no_text blank left [] h = refl
@@ -99,13 +100,13 @@ module _ {X : Type 0} (merged : X → List ℕ → Option X) (cost : List ℕ �
       → IsAllMerged merged cost bs blank left r new after → IsAnswer r new o → o ≡ message_of merged cost blank left bs
   answers blank new left after bs (Ok true) o m a = a ∙ sym (message_some blank new left after bs (sym m.0) m.1 m.2)
   answers blank new left after bs (Ok false) o m a = a ∙ sym (no_text blank left bs m.0)
-  answers blank new left after bs (Err e) o m a = a.0 ∙ sym (message_none blank left bs (m.1 a.1))
+  answers blank new left after bs (Err e) o m a = a.0 ∙ sym (message_none blank left bs e (m.1 a.1))
 
   pub leaves : (blank new : X) (left after : BudgetLeft) (bs : List (List ℕ)) (r : Result Bool DecodeError) (o : Option X)
       → IsAllMerged merged cost bs blank left r new after → IsAnswer r new o → LeavesOf (message_of merged cost blank left bs) left (cost_all cost bs) after
   leaves blank new left after bs (Ok true) o m a = subst (λ x. LeavesOf x left (cost_all cost bs) after) (sym (message_some blank new left after bs (sym m.0) m.1 m.2)) m.2
   leaves blank new left after bs (Ok false) o m a = subst (λ x. LeavesOf x left (cost_all cost bs) after) (sym (no_text blank left bs m.0)) (omega (arith, m.2), omega (arith, m.2), omega (arith, m.2), omega (arith, m.2))
-  leaves blank new left after bs (Err e) o m a = subst (λ x. LeavesOf x left (cost_all cost bs) after) (sym (message_none blank left bs (m.1 a.1))) m.0
+  leaves blank new left after bs (Err e) o m a = subst (λ x. LeavesOf x left (cost_all cost bs) after) (sym (message_none blank left bs e (m.1 a.1))) m.0
 
   spent_by : (o : Option X) (b need left : BudgetLeft) → LeavesOf o b need left → Covers b left
   spent_by (Some v) b need left h = (omega (arith, h), omega (arith, h))
@@ -153,12 +154,13 @@ module _ {X : Type 0} (merged : X → List ℕ → Option X) (cost : List ℕ �
   none_then : (zs : List (List ℕ)) (o : Option X) → o ≡ None → option_and_then (λ v. merged_all merged v zs) o ≡ None
   none_then zs o h = ap (option_and_then (λ v. merged_all merged v zs)) h
 
-  still : (xs ys zs : List (List ℕ)) (old mid : X) (b m : BudgetLeft) → merged_all merged old xs ≡ Some mid → Pays b (cost_all cost xs) m
-      → Lacks m (cost_all cost ys) ⊎ (merged_all merged mid ys ≡ None)
-      → Lacks b (plus (cost_all cost xs) (plus (cost_all cost ys) (cost_all cost zs))) ⊎ (merged_all merged old (xs ++ (ys ++ zs)) ≡ None)
-  still xs ys zs old mid b m e p (inl (inl h)) = inl (inl (omega (arith, p, h)))
-  still xs ys zs old mid b m e p (inl (inr h)) = inl (inr (omega (arith, p, h)))
-  still xs ys zs old mid b m e p (inr h) = inr (merged_both xs (ys ++ zs) old mid e ∙ merged-append ys zs mid ∙ none_then zs (merged_all merged mid ys) h)
+  still : (xs ys zs : List (List ℕ)) (old mid : X) (b m : BudgetLeft) (err : DecodeError) → merged_all merged old xs ≡ Some mid → Pays b (cost_all cost xs) m
+      → MergeFault (merged_all merged mid ys) (cost_all cost ys) m err
+      → MergeFault (merged_all merged old (xs ++ (ys ++ zs))) (plus (cost_all cost xs) (plus (cost_all cost ys) (cost_all cost zs))) b err
+  still xs ys zs old mid b m err e p (inl (inl h)) = inl (inl (omega (arith, p, h)))
+  still xs ys zs old mid b m err e p (inl (inr h)) = inl (inr (omega (arith, p, h)))
+  still xs ys zs old mid b m err e p (inr h) =
+      inr (merged_both xs (ys ++ zs) old mid e ∙ merged-append ys zs mid ∙ none_then zs (merged_all merged mid ys) h.0, h.1)
 
   -- a fault after those that are merged, whatever follows
   pub merged_fault : (xs ys zs all : List (List ℕ)) (old mid new : X) (f : Bool) (e : DecodeError) (b m a : BudgetLeft) → all ≡ xs ++ (ys ++ zs)
@@ -167,8 +169,9 @@ module _ {X : Type 0} (merged : X → List ℕ → Option X) (cost : List ℕ �
       let costs : cost_all cost all ≡ plus (cost_all cost xs) (plus (cost_all cost ys) (cost_all cost zs)) =
       ap (cost_all cost) cut ∙ cost-append xs (ys ++ zs) ∙ ap (plus (cost_all cost xs)) (cost-append ys zs) in (
         subst (λ c. PaysAtMost b c a) (sym costs) (omega (arith, p.2, q.0), omega (arith, p.2, q.0), omega (arith, p.2, q.0), omega (arith, p.2, q.0)),
-        λ ne. subst (λ c. Lacks b c ⊎ (merged_all merged old all ≡ None)) (sym costs)
-            (subst (λ l. Lacks b (plus (cost_all cost xs) (plus (cost_all cost ys) (cost_all cost zs))) ⊎ (merged_all merged old l ≡ None)) (sym cut) (still xs ys zs old mid b m p.1 p.2 (q.1 ne))),
+        λ ne. subst (λ c. MergeFault (merged_all merged old all) c b e) (sym costs)
+            (subst (λ l. MergeFault (merged_all merged old l) (plus (cost_all cost xs) (plus (cost_all cost ys) (cost_all cost zs))) b e) (sym cut)
+            (still xs ys zs old mid b m e p.1 p.2 (q.1 ne))),
       )
 
   -- one record, read back

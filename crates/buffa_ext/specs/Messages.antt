@@ -1,13 +1,14 @@
 -- Extensions that hold messages: the bytes of their records are merged in order.
 -- Source: the protobuf encoding guide, "Last One Wins".
-use Rattle.std.specs.Prelude.{◌≡◌, ◌≢◌, ℕ, ◌^◌, Bool, true, false, List, [], ◌∷◌, ◌&&◌, nat_le, nat_lt, length, Option, Some, None, Result, Ok, Err, ◌⊎◌, MatchResult, if◌then◌else◌}
+use Rattle.std.specs.Prelude.{◌≡◌, ◌≢◌, ℕ, ◌^◌, Bool, true, false, List, [], ◌∷◌, ◌&&◌, nat_le, nat_lt, length, Option, Some, None, Result, Ok, Err, MatchResult, if◌then◌else◌}
 use Rattle.std.specs.Option.{option_and_then}
 use Rattle.std.specs.List.{filter_map}
 use Rattle.buffa_bytes.specs.declared.error.DecodeError.{DecodeError}
 use Rattle.buffa_bytes.specs.declared.error.DecodeError.TheVariants.{OutOfMemory}
 use Rattle.buffa_bytes.specs.declared.error.EncodeError.{EncodeError}
 use Rattle.buffa_bytes.specs.declared.error.EncodeError.TheVariants.{GroupRefused, MessageTooLarge}
-use Rattle.buffa_wire.specs.BudgetLeft.{BudgetLeft, Lacks, Pays, PaysAtMost, nothing, plus}
+use Rattle.buffa_wire.specs.BudgetLeft.{BudgetLeft, Pays, PaysAtMost, nothing, plus}
+use Rattle.buffa_wire.specs.Message.{MergeFault}
 use Rattle.buffa_wire.specs.Records.{Datum, group, records_of}
 use Rattle.buffa_wire.specs.RecordReading.{list_at}
 use Rattle.buffa_wire.specs.Text.{fields_text}
@@ -56,13 +57,13 @@ abbrev pub some_there : List (List ℕ) → Bool
 some_there [] = false
 some_there (b ∷ bs) = true
 
--- merging texts in order tells whether there was one; on a refusal at most their cost is spent, and it tells that
--- this isn't left, or that they mean no message
+-- merging texts in order tells whether there was one; on a refusal at most their cost is spent, and it tells why they
+-- aren't merged
 abbrev pub IsAllMerged : {X : Type 0} → (X → List ℕ → Option X) → (List ℕ → BudgetLeft) → List (List ℕ) → X → BudgetLeft → Result Bool DecodeError → X → BudgetLeft → Type 0
 IsAllMerged merged cost bs old before r new after =
     MatchResult r
     (λ some. (some ≡ some_there bs) × (merged_all merged old bs ≡ Some new) × Pays before (cost_all cost bs) after)
-    (λ e. PaysAtMost before (cost_all cost bs) after × (e ≢ OutOfMemory → Lacks before (cost_all cost bs) ⊎ (merged_all merged old bs ≡ None)))
+    (λ e. PaysAtMost before (cost_all cost bs) after × (e ≢ OutOfMemory → MergeFault (merged_all merged old bs) (cost_all cost bs) before e))
 
 -- what is answered after merging: the message where a text was there, and none after a fault
 abbrev pub IsAnswer : {X : Type 0} → Result Bool DecodeError → X → Option X → Type 0

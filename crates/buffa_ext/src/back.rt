@@ -19,7 +19,7 @@ use std::alloc::Global;
 /// value is set then. Where reading takes no memory, nothing is changed on any error.
 ///
 /// ```ignore
-/// let stored = set_then_read(alloc, &mut options, &RETRIES, 3)?; // Some(3)
+/// let stored = set_then_read(alloc, &mut options, &retries, 3)?; // Some(3)
 /// ```
 pub fn set_then_read<M: ExtensionSet, C: ExtensionCodec, D>(
     alloc: Global,

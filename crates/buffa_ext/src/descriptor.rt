@@ -123,7 +123,7 @@ impl<C: ExtensionCodec> Extension<C> {
 }
 
 impl<C: ExtensionCodec> Extension<C> {
-    /// The same with a default, which `default` makes each time. It takes no memory here.
+    /// An extension with a default, which `default` makes each time. It takes no memory here.
     ///
     /// ```ignore
     /// let limit = Extension::<Int32>::with_default(1, "test.Carrier", |_alloc| Ok(7));

@@ -124,15 +124,15 @@ impl MessageRecord for Grouped {
         let UnknownFieldData::Group(fields) = payload else {
             return Ok(false);
         };
-        let mut text = Vec::new(alloc);
-        let Ok(()) = fields.write_to(&mut text) else {
+        let mut bytes = Vec::new(alloc);
+        let Ok(()) = fields.write_to(&mut bytes) else {
             return Err(DecodeError::OutOfMemory);
         };
         let lent = DecodeContext {
             depth,
             budget: &mut *budget,
         };
-        match message.merge(alloc, text.as_slice(), lent) {
+        match message.merge(alloc, bytes.as_slice(), lent) {
             Ok(()) => Ok(true),
             Err(error) => Err(error),
         }

@@ -21,8 +21,9 @@ use std::alloc::{AllocError, Global};
 /// An impl gives the list and its name; the calls come with it.
 ///
 /// ```ignore
-/// if options.has_extension(&RETRIES) {
-///     let retries = options.extension(alloc, &RETRIES)?;
+/// let retries = Extension::<Int32>::new(50001, "google.protobuf.MethodOptions");
+/// if options.has_extension(&retries) {
+///     let count = options.extension(alloc, &retries)?;
 /// }
 /// ```
 pub trait ExtensionSet {
@@ -51,14 +52,15 @@ pub trait ExtensionSet {
         ensures* lends { sem 𝓛 (Lends Self.row fields_row self.entry result (λ w. with_fields self.old w)) }
         ensures value { result.now ≡ fields_of self.old };
 
-    /// What the records of the number are read as.
+    /// What the records of the number are read as. `ext` has to extend this message: its extendee is
+    /// [`ExtensionSet::extendee_name`].
     ///
     /// # Errors
     /// Where memory runs out; never with codecs of numbers, whose reading takes none, nor where the records
     /// are of no use to the codec.
     ///
     /// ```ignore
-    /// let retries = options.extension(alloc, &RETRIES)?;
+    /// let count = options.extension(alloc, &retries)?;
     /// ```
     final fn extension<C: ExtensionCodec, D>(
         &self,
@@ -127,10 +129,11 @@ pub trait ExtensionSet {
         self.try_set_extension(alloc, ext, value)
     }
 
-    /// Takes the records of the number out; the others keep their order. It takes no memory.
+    /// Takes the records of the number out; the others keep their order. It takes no memory. `ext` has to extend
+    /// this message.
     ///
     /// ```ignore
-    /// options.clear_extension(&RETRIES);
+    /// options.clear_extension(&retries);
     /// ```
     final fn clear_extension<C: ExtensionCodec, D>(&mut self, ext: &Extension<C, D>)
         requires { ext.now.extendee.now ≡ fqn }
@@ -146,7 +149,7 @@ pub trait ExtensionSet {
     /// no memory.
     ///
     /// ```ignore
-    /// let set = options.has_extension(&RETRIES);
+    /// let set = options.has_extension(&retries);
     /// ```
     final fn has_extension<C: ExtensionCodec, D>(&self, ext: &Extension<C, D>) -> bool
         ensures { IsTrue result ↔ ((ext.now.extendee.now ≡ fqn) × HasRecord ext.now.number (fields_of self.now)) }
@@ -154,14 +157,15 @@ pub trait ExtensionSet {
         ext.extendee() == Self::extendee_name() && has_number(self.unknown_fields(), ext.number())
     }
 
-    /// The value that is read; or else the declared default, made anew; or else the type's.
+    /// The value that is read; or else the declared default, made anew; or else the type's. `ext` has to extend
+    /// this message.
     ///
     /// # Errors
     /// Where memory runs out for the reading, or for the declared default, which is asked for only where no
     /// value is read.
     ///
     /// ```ignore
-    /// let retries = options.extension_or_default(alloc, &RETRIES)?;
+    /// let count = options.extension_or_default(alloc, &retries)?;
     /// ```
     final fn extension_or_default<
         V: Blank,

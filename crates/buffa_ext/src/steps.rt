@@ -11,15 +11,18 @@ use buffa_wire::{UnknownField, UnknownFieldData, UnknownFields};
 use std::alloc::{AllocError, Global};
 
 /// A change of the records of one number.
-#[derive(Drop)]
+#[derive(Debug, PartialEq, Eq, Drop)]
 pub enum Step {
     /// Records that hold these take the place of the number's.
     Set {
+        /// The number.
         number: u32,
+        /// What its records are to hold, in order.
         records: Vec<UnknownFieldData>,
     },
     /// The number's records are taken out.
     Clear {
+        /// The number.
         number: u32,
     },
 }

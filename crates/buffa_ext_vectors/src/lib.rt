@@ -6,6 +6,8 @@
 #[cfg(test)]
 mod calls;
 #[cfg(test)]
+mod direct;
+#[cfg(test)]
 mod extensions_table;
 #[cfg(test)]
 mod large;

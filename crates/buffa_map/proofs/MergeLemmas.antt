@@ -34,6 +34,7 @@ module _ {K V : Type 0} (r : Rules K V) (pairs : List (K × V)) (records : List 
     records = refl;
     units = inl refl;
     charged = λ ne e rest t room. no_length r.key r.val r.depth bs f (h ne) e rest t;
+    unspent = λ no. refl;
     most = omega arith;
     least = omega arith;
     no_slot = λ ne. omega arith;
@@ -66,6 +67,7 @@ module _ {K V : Type 0} (r : Rules K V) (pairs : List (K × V)) (records : List 
           records = refl;
           units = parts_units over.memory h.units;
           charged = λ ne e rest t room. h.charged room;
+          unspent = λ no. absurd (no (rw is refl));
           most = h.most;
           least = omega (arith, h.least, taken);
           no_slot = λ ne. omega (arith, h.least, taken);
@@ -122,6 +124,7 @@ module _ {K V : Type 0} (r : Rules K V) (pairs : List (K × V)) (records : List 
             records = same;
             units = inr (omega (arith, h.pays, unit), omega (arith, h.pays, unit, units));
             charged = λ ne e rest t room. omega (arith, h.pays, unit);
+            unspent = λ no. absurd (no (rw is refl));
             most = omega (arith, h.pays, most);
             least = omega (arith, h.pays, least, taken);
             no_slot = λ ne. omega (arith, h.pays, (which ne).2, taken);

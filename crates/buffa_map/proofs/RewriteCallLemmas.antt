@@ -1,8 +1,9 @@
 -- The steps of a rewrite, one after the other.
-use Rattle.std.proofs.Common.{◌≡◌, ◌++◌, ℕ, Bool, List, [], Ok, Err, ap, refl, subst, ◌∙◌}
+use Rattle.std.proofs.Common.{◌≡◌, ◌+◌, ◌<◌, ◌≤◌, ◌++◌, length, ℕ, Bool, List, [], Ok, Err, ap, refl, subst, ◌∙◌}
 use Rattle.std.specs.Prelude.{◌∷◌}
 use Rattle.buffa_bytes.specs.declared.error.DecodeError.{DecodeError}
 use Rattle.buffa_bytes.specs.declared.error.EncodeError.{EncodeError}
+use Rattle.buffa_bytes.specs.declared.error.EncodeError.TheVariants.{OutOfMemory}
 use Rattle.buffa_wire.specs.BudgetLeft.{BudgetLeft}
 use Rattle.buffa_wire.specs.Records.{Datum, bytes}
 use Rattle.buffa_wire.specs.Text.{records_text}
@@ -22,13 +23,13 @@ module _ {K V : Type 0} (r : Rules K V) (cleared : List (K × V)) (records : Lis
   anew_stopped unread f is h = subst (λ z. StopsRun r (state z records left) bs new unread f) is h
 
 module _ {K V : Type 0} (rk : Reading K) (rv : Reading V) (key : Writing K) (val : Writing V) (eq : K → K → Bool) (keeps : Bool) (d n cost : ℕ) (KeyFits : K → Type 0) (ValFits : V → Type 0)
-    (left over : BudgetLeft) (bs rest : List ℕ) (pairs : List (K × V)) (none kept : List (ℕ × Datum)) (old new : List ℕ)
+    (left over : BudgetLeft) (bs rest : List ℕ) (pairs : List (K × V)) (none kept : List (ℕ × Datum)) (old new : List ℕ) (before after : ℕ)
     (empty : none ≡ []) (read : ReadsRun (keeping rk rv eq keeps d n cost) (state [] none left) bs (state pairs kept over) rest) where
   is_kept : kept ≡ undeclared_records n read.entries
   is_kept = read.keeps ∙ ap (λ z. z ++ added (λ m e. (m, bytes e) ∷ []) n read.entries) empty ∙ added_records n read.entries
 
-  pub rewrites : (u : Unit {0}) → WritesWalk eq key val KeyFits ValFits n pairs kept old {T = Unit {0}} (Ok u) new →
-      RewritesRun (keeping rk rv eq keeps d n cost) key val KeyFits ValFits left bs pairs over rest old new
+  pub rewrites : (u : Unit {0}) → WritesWalk eq key val KeyFits ValFits n pairs kept old before {T = Unit {0}} (Ok u) new after →
+      RewritesRun (keeping rk rv eq keeps d n cost) key val KeyFits ValFits left bs pairs over rest old new before after
   rewrites u w = record {
     entries = read.entries;
     out = field_text key val n w.walk ++ records_text (undeclared_records n read.entries);
@@ -37,12 +38,13 @@ module _ {K V : Type 0} (rk : Reading K) (rv : Reading V) (key : Writing K) (val
     order = read.order;
     rewrite = (w.walk, (w.once.0, λ q. read.folded q ∙ w.once.1 q), w.text.0, w.fits, refl);
     text = w.text.1 ∙ ap (λ z. old ++ (field_text key val n w.walk ++ records_text z)) is_kept;
+    room = subst (λ z. before ≤ after + length (field_text key val n w.walk ++ records_text z)) is_kept w.room;
     paid = read.paid;
     whole = read.whole;
   }
 
-  pub refuses : (e : EncodeError) → WritesWalk eq key val KeyFits ValFits n pairs kept old {T = Unit {0}} (Err e) new →
-      RefusesOutput (keeping rk rv eq keeps d n cost) key val left bs pairs over rest old new e
+  pub refuses : (e : EncodeError) → WritesWalk eq key val KeyFits ValFits n pairs kept old before {T = Unit {0}} (Err e) new after →
+      RefusesOutput (keeping rk rv eq keeps d n cost) key val left bs pairs over rest old new before e
   refuses e w = record {
     entries = read.entries;
     walk = w.walk;
@@ -51,6 +53,7 @@ module _ {K V : Type 0} (rk : Reading K) (rv : Reading V) (key : Writing K) (val
     order = read.order;
     once = (w.once.0, λ q. read.folded q ∙ w.once.1 q);
     text = subst (λ (z : List (ℕ × Datum)). RefusesRewrite key val n z old new w.walk e) is_kept w.text;
+    room = subst (λ z. e ≡ OutOfMemory → before < length (field_text key val n w.walk ++ records_text z)) is_kept w.room;
     paid = read.paid;
     whole = read.whole;
   }

@@ -80,6 +80,8 @@ module _ {K V : Type 0} (r : Rules K V) (old : State K V) (bs : List ℕ) where
       one_slot = omega arith;
       fault = fault;
       memory = λ out. absurd (full out);
+      unspent = λ no. refl;
+      charged = λ ne mid e after is t room. absurd (past.1 mid is);
       no_slot = λ ne. omega arith;
       tail = tail;
       past_tag = past.0;
@@ -121,6 +123,8 @@ module _ {K V : Type 0} (r : Rules K V) (old : State K V) (bs : List ℕ) where
               one_slot = omega (arith, k.least, taken);
               fault = λ ne. record_entry r.key r.val r.depth r.number r.cost r.slot now.left rest mid g w f tag same wire (k.fault ne);
               memory = λ out. (mid, found, k.memory out);
+              unspent = λ no. k.unspent (λ is. no (mid, found, is));
+              charged = λ ne m e after is t room. k.charged ne e after (subst (λ z. TakesDelimited z e after) (one_after rest m mid r.number r.number LengthDelimited LengthDelimited is found) t) room;
               no_slot = λ ne. omega (arith, k.no_slot ne, taken);
               tail = tail_more rest mid unread k.tail (tag_tail rest mid g w tag);
               past_tag = λ h v m is other. absurd (elim other [ inl n ↦ n (one_number rest m mid h r.number v w is (tag ∙ ap (λ z. Ok (z, w, mid)) same)) | inr n ↦ n (one_wire rest m mid h r.number v LengthDelimited is found) ]);

@@ -67,7 +67,7 @@ pub record MergesEntry {K V : Type 0} (r : Rules K V) (old : State K V) (bytes :
 -- f is why not, and out of memory only where a length and so many bytes were there; map and records stand. What is
 -- unread is a tail of what was; it is what follows the entry, where that was there and had a fault. Of the budget at
 -- most the entry's cost, its slot and what the messages in it cost are gone; the cost is gone where the entry was there
--- and had a fault; the slot is not, where f is a fault.
+-- and had a fault; the slot is not, where f is a fault; nothing is, where no length and so many bytes were there.
 pub record RefusesEntry {K V : Type 0} (r : Rules K V) (old : State K V) (bytes : List ℕ) (new : State K V) (unread : List ℕ) (f : DecodeError) : Type 0 where
   pub fault : f ≢ OutOfMemory → EntryFault r.key r.val r.depth r.cost r.slot old.left bytes f
   pub memory : f ≡ OutOfMemory → IsOk (delimited_at bytes)
@@ -79,6 +79,7 @@ pub record RefusesEntry {K V : Type 0} (r : Rules K V) (old : State K V) (bytes 
       ⊎ ((new.left.memory + r.cost ≤ old.left.memory)
       × (old.left.memory ≤ new.left.memory + (r.cost + (inner_need r.key r.val r.depth bytes).memory)))
   pub charged : f ≢ OutOfMemory → (e rest : List ℕ) → TakesDelimited bytes e rest → r.cost ≤ old.left.memory → new.left.memory + r.cost ≤ old.left.memory
+  pub unspent : (IsOk (delimited_at bytes) → ⊥) → new.left ≡ old.left
   pub most : new.left.unknown ≤ old.left.unknown
   pub least : old.left.unknown ≤ new.left.unknown + (r.slot + (inner_need r.key r.val r.depth bytes).unknown)
   pub no_slot : f ≢ OutOfMemory → old.left.unknown ≤ new.left.unknown + (inner_need r.key r.val r.depth bytes).unknown
@@ -89,6 +90,10 @@ MergesWhole r old e new = (bytes rest : List ℕ) → delimited_at bytes ≡ Ok 
 
 abbrev pub RefusesWhole : {K V : Type 0} → Rules K V → State K V → List ℕ → State K V → DecodeError → Type 0
 RefusesWhole r old e new f = (bytes rest : List ℕ) → delimited_at bytes ≡ Ok (e, rest) → RefusesEntry r old bytes new rest f
+
+-- a tag of this number, a length and so many bytes begin the bytes
+abbrev pub HasRecord : ℕ → List ℕ → Type 0
+HasRecord n bs = (mid : List ℕ) × (tag_at bs ≡ Ok (n, LengthDelimited, mid)) × IsOk (delimited_at mid)
 
 -- the records of some entries are all of the bytes, and were read
 pub record ReadsRun {K V : Type 0} (r : Rules K V) (old : State K V) (bytes : List ℕ) (new : State K V) (rest : List ℕ) : Type 0 where
@@ -103,7 +108,8 @@ pub record ReadsRun {K V : Type 0} (r : Rules K V) (old : State K V) (bytes : Li
 -- The records of some entries begin the bytes, and were read; f is why what follows them wasn't, and out of memory only
 -- where a record was there. What is unread is a tail of what follows them: what follows the tag, where it is another;
 -- what follows the entry, where that was there and had a fault. Of the budget that they leave at most one entry's cost,
--- its slot and what the messages in it cost are gone.
+-- its slot and what the messages in it cost are gone; the cost is, where the entry was there and had a fault; nothing
+-- is, where no record of the number was there.
 pub record StopsRun {K V : Type 0} (r : Rules K V) (old : State K V) (bytes : List ℕ) (new : State K V) (unread : List ℕ) (f : DecodeError) : Type 0 where
   pub entries : List (EntryRecord K V)
   pub rest : List ℕ
@@ -118,7 +124,9 @@ pub record StopsRun {K V : Type 0} (r : Rules K V) (old : State K V) (bytes : Li
   pub one_cost : over.memory ≤ new.left.memory + (r.cost + (record_need r.key r.val r.depth rest).memory)
   pub one_slot : over.unknown ≤ new.left.unknown + (r.slot + (record_need r.key r.val r.depth rest).unknown)
   pub fault : f ≢ OutOfMemory → RecordFault r.key r.val r.depth r.number r.cost r.slot over rest f
-  pub memory : f ≡ OutOfMemory → (mid : List ℕ) × (tag_at rest ≡ Ok (r.number, LengthDelimited, mid)) × IsOk (delimited_at mid)
+  pub memory : f ≡ OutOfMemory → HasRecord r.number rest
+  pub unspent : (HasRecord r.number rest → ⊥) → new.left ≡ over
+  pub charged : f ≢ OutOfMemory → (mid e after : List ℕ) → tag_at rest ≡ Ok (r.number, LengthDelimited, mid) → TakesDelimited mid e after → r.cost ≤ over.memory → new.left.memory + r.cost ≤ over.memory
   pub tail : IsTailOf unread rest
   pub past_tag : (g : ℕ) (w : WireType) (mid : List ℕ) → tag_at rest ≡ Ok (g, w, mid) → (g ≢ r.number) ⊎ (w ≢ LengthDelimited) → unread ≡ mid
   pub past : f ≢ OutOfMemory → (mid e after : List ℕ) → tag_at rest ≡ Ok (r.number, LengthDelimited, mid) → TakesDelimited mid e after → unread ≡ after

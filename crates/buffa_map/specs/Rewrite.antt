@@ -1,6 +1,6 @@
 -- Rewrites: a reader of one enum reads a run, and writes the map and behind it the entries that it doesn't
 -- know. And when that means to a reader of another enum, who knows more, what the run means.
-use Rattle.std.specs.Prelude.{◌≡◌, ◌≢◌, ℕ, Bool, true, ◌&&◌, not, List, [], ◌∷◌, ◌++◌, Option, None, Some, IfSome, OnOk, Result, MatchResult}
+use Rattle.std.specs.Prelude.{◌≡◌, ◌≢◌, ◌+◌, ◌<◌, ◌≤◌, length, ℕ, Bool, true, ◌&&◌, not, List, [], ◌∷◌, ◌++◌, Option, None, Some, IfSome, OnOk, Result, MatchResult}
 use Rattle.std.specs.List.{filter}
 use Rattle.buffa_wire.specs.BudgetLeft.{BudgetLeft}
 use Rattle.buffa_wire.specs.Text.{records_text}
@@ -14,7 +14,7 @@ use Rattle.buffa_map.specs.Codec.{Writing}
 use Rattle.buffa_map.specs.Pairs.{InOrder, ListsOnce, SamePairs}
 use Rattle.buffa_map.specs.Merge.{Rules, StopsRun, state}
 use Rattle.buffa_map.specs.Run.{EntryRecord, fold_entries, undeclared, Paid, Run, undeclared_records}
-use Rattle.buffa_map.specs.Text.{AllHold, HasText, RefusesField, field_text}
+use Rattle.buffa_map.specs.Text.{AllHold, HasText, RefusesField, UsesRoomOf, field_text}
 use Rattle.buffa_map.specs.declared.rewrite.RewriteError.{RewriteError}
 use Rattle.buffa_map.specs.declared.rewrite.RewriteError.TheVariants.{Decode, Encode}
 
@@ -83,17 +83,18 @@ module _ {K V : Type 0} (key : Writing K) (val : Writing V) (n : ℕ) (kept : Li
   abbrev pub WritesRewrite : {T : Type 0} → Result T EncodeError → List (K × V) → Type 0
   WritesRewrite r l = MatchResult r (λ _. HasText key val l × (new ≡ old ++ (field_text key val n l ++ records_text kept))) (RefusesRewrite l)
 
--- a map was walked once, and its text and the kept records' were written, or refused
-pub record WritesWalk {K V : Type 0} (eq : K → K → Bool) (key : Writing K) (val : Writing V) (KeyFits : K → Type 0) (ValFits : V → Type 0) (n : ℕ) (pairs : List (K × V)) (kept : List (ℕ × Datum)) (old : List ℕ) {T : Type 0} (r : Result T EncodeError) (new : List ℕ) : Type 0 where
+-- a map was walked once, and its text and the kept records' were written, or refused; what had room wasn't
+pub record WritesWalk {K V : Type 0} (eq : K → K → Bool) (key : Writing K) (val : Writing V) (KeyFits : K → Type 0) (ValFits : V → Type 0) (n : ℕ) (pairs : List (K × V)) (kept : List (ℕ × Datum)) (old : List ℕ) (before : ℕ) {T : Type 0} (r : Result T EncodeError) (new : List ℕ) (after : ℕ) : Type 0 where
   pub walk : List (K × V)
   pub once : ListsOnce eq pairs walk
   pub text : WritesRewrite key val n kept old new r walk
   pub fits : OnOk r (AllHold KeyFits ValFits walk)
+  pub room : UsesRoomOf r before (field_text key val n walk ++ records_text kept) after
 
 -- ---- what a rewrite does
 
 -- the records of the bytes were read into an empty map; and the rewrite was written
-pub record RewritesRun {K V : Type 0} (r : Rules K V) (key : Writing K) (val : Writing V) (KeyFits : K → Type 0) (ValFits : V → Type 0) (left : BudgetLeft) (bytes : List ℕ) (new : List (K × V)) (over : BudgetLeft) (rest : List ℕ) (old written : List ℕ) : Type 0 where
+pub record RewritesRun {K V : Type 0} (r : Rules K V) (key : Writing K) (val : Writing V) (KeyFits : K → Type 0) (ValFits : V → Type 0) (left : BudgetLeft) (bytes : List ℕ) (new : List (K × V)) (over : BudgetLeft) (rest : List ℕ) (old written : List ℕ) (before after : ℕ) : Type 0 where
   pub entries : List (EntryRecord K V)
   pub out : List ℕ
   pub run : Run r.key r.val r.depth r.number bytes entries
@@ -101,6 +102,7 @@ pub record RewritesRun {K V : Type 0} (r : Rules K V) (key : Writing K) (val : W
   pub order : InOrder r.keeps_order (fold_entries r.same [] entries) new
   pub rewrite : IsRewrite r.same key val KeyFits ValFits r.number entries out
   pub text : written ≡ old ++ out
+  pub room : before ≤ after + length out
   pub paid : Paid r.key r.val r.depth r.cost r.slot left entries over
   pub whole : rest ≡ []
 
@@ -109,8 +111,8 @@ abbrev pub RefusesBytes : {K V : Type 0} → Rules K V → BudgetLeft → List �
 RefusesBytes r left bytes new over unread old written f =
     (kept : List (ℕ × Datum)) × StopsRun r (state [] [] left) bytes (state new kept over) unread f × (written ≡ old)
 
--- the records were read, and e is why the text wasn't written whole
-pub record RefusesOutput {K V : Type 0} (r : Rules K V) (key : Writing K) (val : Writing V) (left : BudgetLeft) (bytes : List ℕ) (new : List (K × V)) (over : BudgetLeft) (rest : List ℕ) (old written : List ℕ) (e : EncodeError) : Type 0 where
+-- the records were read, and e is why the text wasn't written whole: out of memory only where it has no room
+pub record RefusesOutput {K V : Type 0} (r : Rules K V) (key : Writing K) (val : Writing V) (left : BudgetLeft) (bytes : List ℕ) (new : List (K × V)) (over : BudgetLeft) (rest : List ℕ) (old written : List ℕ) (before : ℕ) (e : EncodeError) : Type 0 where
   pub entries : List (EntryRecord K V)
   pub walk : List (K × V)
   pub run : Run r.key r.val r.depth r.number bytes entries
@@ -118,6 +120,7 @@ pub record RefusesOutput {K V : Type 0} (r : Rules K V) (key : Writing K) (val :
   pub order : InOrder r.keeps_order (fold_entries r.same [] entries) new
   pub once : ListsOnce r.same (fold_entries r.same [] entries) walk
   pub text : RefusesRewrite key val r.number (undeclared_records r.number entries) old written walk e
+  pub room : e ≡ OutOfMemory → before < length (field_text key val r.number walk ++ records_text (undeclared_records r.number entries))
   pub paid : Paid r.key r.val r.depth r.cost r.slot left entries over
   pub whole : rest ≡ []
 

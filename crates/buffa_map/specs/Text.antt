@@ -37,6 +37,10 @@ abbrev pub AllHold : {K W : Type 0} → (K → Type 0) → (W → Type 0) → Li
 AllHold P Q [] = Unit {0}
 AllHold P Q (p ∷ ps) = P p.0 × Q p.1 × AllHold P Q ps
 
+-- what fits is not told as out of memory, and what is written takes no more room than it has bytes
+abbrev pub UsesRoomOf : {T : Type 0} → Result T EncodeError → ℕ → List ℕ → ℕ → Type 0
+UsesRoomOf r room text left = MatchResult r (λ _. room ≤ left + length text) (λ e. e ≡ OutOfMemory → room < length text)
+
 module _ {K W : Type 0} (key : Writing K) (val : Writing W) (n : ℕ) (old new : List ℕ) where
   -- the record of p was written; or memory ran out after a beginning of it; or its entry is too long, and nothing was written
   abbrev pub RefusesRecord : K × W → EncodeError → Type 0

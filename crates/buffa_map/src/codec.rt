@@ -5,10 +5,11 @@ ghost use Rattle.std.specs.Prelude.{OnErr};
 ghost use Rattle.buffa_bytes.specs.declared.error.DecodeError.TheVariants.{OutOfMemory};
 ghost use Rattle.buffa_bytes.specs.declared.wire_type.WireType.{WireType};
 ghost use Rattle.buffa_bytes.specs.Gives.{FullOnlyIf};
+ghost use Rattle.buffa_bytes.specs.Unread.{IsTailOf};
 ghost use Rattle.buffa_wire.specs.Content.{Content, HasContent};
 ghost use Rattle.buffa_wire.specs.BudgetLeft.{budget_left, nothing};
 ghost use Rattle.buffa_wire.specs.Message.{IsLimit};
-ghost use Rattle.buffa_wire.specs.Written.{Writes};
+ghost use Rattle.buffa_wire.specs.Written.{UsesRoom, Writes};
 ghost use Rattle.buffa_bytes.specs.declared.error.DecodeError.{DecodeError};
 ghost use Rattle.buffa_map.specs.Codec.{AlwaysDeclared, Reading, Refuses, Spends, TakesMemory, Writing, is_known};
 ghost use Rattle.buffa_map.specs.Codec.{value_at, value_need};
@@ -64,8 +65,8 @@ pub trait MapValueDecode: sealed::Sealed {
     /// # Errors
     /// The first fault of the payload, or out of memory, where the codec takes memory and the payload is whole; the
     /// value is as it was then, and nothing is spent.
-    /// Of a message's inside any error, but a limit's only where its cost isn't left; the value is then some
-    /// value of its type.
+    /// Inside a message any error may be told, but a limit's only where the message's cost isn't left; at most
+    /// that cost is spent then, and the value is some value of its type.
     fn merge<B: Buf>(
         alloc: Global,
         value: &mut Self::Value,
@@ -81,6 +82,7 @@ pub trait MapValueDecode: sealed::Sealed {
         ensures err { OnErr result (reading.nested ≡ false → Self.Value.meaning value.new
             ≡ Self.Value.meaning value.old) }
         ensures kept { B.beyond buf.new ≡ B.beyond buf.old }
+        ensures tail { IsTailOf (B.unread buf.new) (B.unread buf.old) }
         ensures spends { Spends reading.nested result ctx.entry.budget.now
             (value_need reading ctx.entry.depth (B.unread buf.old)) (budget_left ctx.exit) };
 
@@ -108,7 +110,7 @@ pub trait MapValueDecode: sealed::Sealed {
 /// <Int32 as MapCodec>::encode(&7, &mut text)?; // 07
 /// ```
 pub trait MapCodec: MapValueDecode {
-    /// The length of every payload, where they have one length.
+    /// The length of every payload in bytes, where they have one length.
     const FIXED_LEN: Option<u64>;
 
     ghost FIXED_LEN: { Option ℕ };
@@ -122,7 +124,8 @@ pub trait MapCodec: MapValueDecode {
     /// The values whose payload reads back to them; all, but for an open enum.
     ghost normal: { Self.Value.Meaning → Type 0 };
 
-    /// The length of the payload, a length varint of its own included and the tag not. It takes no memory.
+    /// The length of the payload in bytes, a length varint of its own included and the tag not. It takes no
+    /// memory.
     fn encoded_len(value: &Self::Value) -> u64
         ensures len { result ≡ length (writing.text (Self.Value.meaning value.now)) }
         ensures fits { fits (Self.Value.meaning value.now) };
@@ -130,10 +133,12 @@ pub trait MapCodec: MapValueDecode {
     /// Writes the payload.
     ///
     /// # Errors
-    /// [`EncodeError::OutOfMemory`] alone, after a beginning of the payload.
+    /// [`EncodeError::OutOfMemory`] alone, where the payload doesn't fit for sure; after a beginning of it.
     fn encode<S: EncodeSink>(value: &Self::Value, sink: &mut S) -> Result<(), EncodeError>
-        ensures { Writes result (S.written sink.old) (writing.text (Self.Value.meaning value.now))
-            (S.written sink.new) };
+        ensures writes { Writes result (S.written sink.old) (writing.text (Self.Value.meaning value.now))
+            (S.written sink.new) }
+        ensures room { UsesRoom result (S.room sink.old) (writing.text (Self.Value.meaning value.now))
+            (S.room sink.new) };
 
     /// What is written here is no message.
     ghost plain: { Self.reading.nested ≡ false };

@@ -220,7 +220,7 @@ pub fn merge_entry<
     merge_entry_by::<KC, _, C, B, Dropped>(alloc, map, buf, ctx, 0, &how, &mut Dropped)
 }
 
-/// The same, where an entry with a value that is undeclared is kept, if a list is passed.
+/// Merges one entry as [`merge_entry`] does, and keeps one with a value that is undeclared, if a list is passed.
 ///
 /// It is appended to the list as a length-delimited record of the field's `number`, byte for byte as it
 /// was read, and takes one slot of the budget of unknown fields. Without a list it is dropped, and takes
@@ -233,7 +233,7 @@ pub fn merge_entry<
 /// Source: the protobuf encoding guide, "Maps", and the language guide on unknown values of an enum.
 ///
 /// ```ignore
-/// merge_entry_with_unknowns::<Str, Colour, _, _>(alloc, &mut map, &mut rest, ctx, 5, Some(&mut unknown))?;
+/// merge_entry_with_unknowns::<Str, ClosedEnum<Hue>, _, _>(alloc, &mut map, &mut rest, ctx, 5, Some(&mut unknown))?;
 /// ```
 pub fn merge_entry_with_unknowns<
     KC: MapCodec,

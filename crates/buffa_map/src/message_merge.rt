@@ -84,8 +84,9 @@ where
 
 /// Merges one entry of a map field of messages, by a function that merges a message's bytes.
 ///
-/// The function may be called at one level less, and is asked for nothing at others; so a type that holds
-/// itself is merged by a function that recurs through this one.
+/// The function is passed the value, the message's bytes, the depth inside it, one less than the context's, and
+/// the budget. It is asked for nothing at other depths; so a type that holds itself is merged by a function that
+/// recurs through this one. An entry costs `KC::COST + M::COST` units, and what its messages cost.
 ///
 /// # Errors
 /// Those of [`merge_entry`](crate::map_codec::merge_entry).

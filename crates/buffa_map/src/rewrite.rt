@@ -77,7 +77,7 @@ fn write_with<
 >(map: &C, number: u32, kept: &UnknownFields, sink: &mut S) -> Result<(), EncodeError>
     requires { IsNumber number }
     ensures { WritesWalk C.equal KC.writing VC.writing KC.fits VC.fits number (C.pairs map.now) kept.now.records
-        (S.written sink.old) result (S.written sink.new) }
+        (S.written sink.old) (S.room sink.old) result (S.written sink.new) (S.room sink.new) }
 {
     map.storage_write::<KC, VC, S>(number, sink)?;
     kept.write_to(sink)
@@ -93,7 +93,8 @@ fn write_with<
 /// # Errors
 /// [`RewriteError::Decode`] with the faults of [`crate::map_codec::read_map_field`] where a list is passed;
 /// nothing was written, and the map has the entries before the fault. [`RewriteError::Encode`] with those
-/// of [`crate::map_codec::write_field`]; the map has all entries.
+/// of [`crate::map_codec::write_field`]; the map has all entries. What fits the sink for sure isn't refused for
+/// want of memory.
 ///
 /// Source: the protobuf language guide on unknown values of an enum in a map.
 ///
@@ -118,14 +119,16 @@ pub fn rewrite_map_field<
     ensures ok { OnOk result (RewritesRun
         (keeping KC.reading VC.reading C.equal C.keeps_order ctx.entry.depth number (KC.COST + VC.COST))
         KC.writing VC.writing KC.fits VC.fits ctx.entry.budget.now (B.unread buf.old)
-        (C.pairs map.new) (budget_left ctx.exit) (B.unread buf.new) (S.written sink.old) (S.written sink.new)) }
+        (C.pairs map.new) (budget_left ctx.exit) (B.unread buf.new) (S.written sink.old) (S.written sink.new)
+        (S.room sink.old) (S.room sink.new)) }
     ensures refused { IfErr result (λ r. MatchRefusal r
         (RefusesBytes (keeping KC.reading VC.reading C.equal C.keeps_order ctx.entry.depth number (KC.COST + VC.COST))
         ctx.entry.budget.now (B.unread buf.old)
         (C.pairs map.new) (budget_left ctx.exit) (B.unread buf.new) (S.written sink.old) (S.written sink.new))
         (RefusesOutput (keeping KC.reading VC.reading C.equal C.keeps_order ctx.entry.depth number (KC.COST + VC.COST))
         KC.writing VC.writing ctx.entry.budget.now (B.unread buf.old)
-        (C.pairs map.new) (budget_left ctx.exit) (B.unread buf.new) (S.written sink.old) (S.written sink.new))) }
+        (C.pairs map.new) (budget_left ctx.exit) (B.unread buf.new) (S.written sink.old) (S.written sink.new)
+        (S.room sink.old))) }
     ensures kept { B.beyond buf.new ≡ B.beyond buf.old }
 {
     let mut unread = UnknownFields::new(alloc);

@@ -1,9 +1,9 @@
 //! A map field, sized and written.
 
-ghost use Rattle.std.specs.Prelude.{◌≡◌, ◌+◌, List, IfOk, OnOk, length};
+ghost use Rattle.std.specs.Prelude.{◌≡◌, ◌+◌, ◌-◌, List, IfOk, OnOk, length, vec_capacity, vec_len};
 ghost use Rattle.buffa_wire.specs.Number.{IsNumber};
 ghost use Rattle.buffa_map.specs.Pairs.{ListsOnce};
-ghost use Rattle.buffa_map.specs.Text.{AllHold, WritesField};
+ghost use Rattle.buffa_map.specs.Text.{AllHold, UsesRoomOf, WritesField, field_text};
 
 use crate::codec::MapCodec;
 use crate::size::field_len;
@@ -36,7 +36,9 @@ where
     ensures text { (l : List (KC.Value.Meaning × VC.Value.Meaning)) × C.walks map.now l
         × ListsOnce C.equal (C.pairs map.now) l
         × WritesField KC.writing VC.writing field_number text.old.items text.new.items result l
-        × OnOk result (AllHold KC.fits VC.fits l) }
+        × OnOk result (AllHold KC.fits VC.fits l)
+        × UsesRoomOf result (vec_capacity text.old - vec_len text.old)
+        (field_text KC.writing VC.writing field_number l) (vec_capacity text.new - vec_len text.new) }
 {
     let tag_len = varint_len(u64::from(field_number) * 8 + 2) as u64;
     let size = field_len::<KC, VC, C>(map, tag_len);

@@ -7,7 +7,7 @@ ghost use Rattle.std.specs.List.{IsDistinct};
 ghost use Rattle.std.specs.Map.{keys_of};
 ghost use Rattle.std.specs.Map.Iter.{TakesFirst, deref_pair};
 ghost use Rattle.buffa_wire.specs.Number.{IsNumber};
-ghost use Rattle.buffa_map.specs.Text.{AllHold, WritesField};
+ghost use Rattle.buffa_map.specs.Text.{AllHold, UsesRoomOf, WritesField, field_text};
 ghost use Rattle.buffa_map.specs.Pairs.{InOrder, ListsOnce, SamePairs, means, put};
 ghost use denote.Ref.{Bor};
 
@@ -106,7 +106,7 @@ pub trait StableOrder: MapStorage {
     ghost stable: { (m : Self) (l : List (Self.Key.Meaning × Self.Value.Meaning)) → Self.walks m l → l ≡ walk m };
 }
 
-/// The same, which can be walked while it is lent for `'a`.
+/// A [`StableOrder`] that can be walked while it is lent for `'a`.
 pub trait StableWalk<'a>: MapWalk<'a> + StableOrder
 where
     Self::Key: 'a,
@@ -128,5 +128,6 @@ pub trait MapWrite: MapStorage {
         requires { IsNumber number }
         ensures { (l : List (Self.Key.Meaning × Self.Value.Meaning)) × ListsOnce Self.equal (Self.pairs self.now) l
             × WritesField KC.writing VC.writing number (S.written sink.old) (S.written sink.new) result l
-            × OnOk result (AllHold KC.fits VC.fits l) };
+            × OnOk result (AllHold KC.fits VC.fits l)
+            × UsesRoomOf result (S.room sink.old) (field_text KC.writing VC.writing number l) (S.room sink.new) };
 }

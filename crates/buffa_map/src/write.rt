@@ -1,15 +1,16 @@
 //! The text of a map field.
 //!
 //! The steps of a record stand inside the loop over the pairs (`inline`): a call would hand each result over in
-//! memory, a third of the time.
+//! memory, which cost a third of the time.
 
 ghost use Rattle.std.specs.Prelude.{◌≡◌, ◌++◌, List, OnOk};
 ghost use Rattle.buffa_wire.specs.Number.{IsNumber};
 ghost use Rattle.buffa_wire.specs.Values.{delimited_text, tag_text};
 ghost use Rattle.buffa_wire.specs.Varint.{varint_text};
-ghost use Rattle.buffa_wire.specs.Written.{Writes};
+ghost use Rattle.buffa_wire.specs.Written.{UsesRoom, Writes};
 ghost use Rattle.buffa_map.specs.Pairs.{ListsOnce};
-ghost use Rattle.buffa_map.specs.Text.{AllHold, WritesField, WritesRecord, entry_text};
+ghost use Rattle.buffa_map.specs.Text.{AllHold, UsesRoomOf, WritesField, WritesRecord, entry_text};
+ghost use Rattle.buffa_map.specs.Text.{field_text, record_text};
 
 use crate::codec::MapCodec;
 use crate::size::entry_len;
@@ -18,15 +19,17 @@ use buffa_wire::{EncodeError, EncodeSink, Tag, WireType, encode_varint};
 
 // Writes a field of an entry.
 #[inline(always)]
-#[tactic(auto, using(buffa_bytes::proofs::SinkLemmas::writes_then, buffa_bytes::proofs::SinkLemmas::front_first))]
+#[tactic(auto, using(buffa_bytes::proofs::SinkLemmas::writes_then, buffa_bytes::proofs::SinkLemmas::front_first, buffa_bytes::proofs::SinkLemmas::room_then))]
 pub(crate) fn write_part<VC: MapCodec, S: EncodeSink>(
     number: u32,
     value: &VC::Value,
     sink: &mut S,
 ) -> Result<(), EncodeError>
     requires { IsNumber number }
-    ensures { Writes result (S.written sink.old)
+    ensures writes { Writes result (S.written sink.old)
         (tag_text number VC.writing.wire ++ VC.writing.text (VC.Value.meaning value.now)) (S.written sink.new) }
+    ensures room { UsesRoom result (S.room sink.old)
+        (tag_text number VC.writing.wire ++ VC.writing.text (VC.Value.meaning value.now)) (S.room sink.new) }
 {
     Tag::new(number, VC::WIRE_TYPE).encode(sink)?;
     VC::encode(value, sink)
@@ -34,15 +37,18 @@ pub(crate) fn write_part<VC: MapCodec, S: EncodeSink>(
 
 // Writes the fields of an entry.
 #[inline(always)]
-#[tactic(auto, using(buffa_bytes::proofs::SinkLemmas::writes_then, buffa_bytes::proofs::SinkLemmas::front_first))]
+#[tactic(auto, using(buffa_bytes::proofs::SinkLemmas::writes_then, buffa_bytes::proofs::SinkLemmas::front_first, buffa_bytes::proofs::SinkLemmas::room_then))]
 fn write_entry<KC: MapCodec, VC: MapCodec, S: EncodeSink>(
     key: &KC::Value,
     value: &VC::Value,
     sink: &mut S,
 ) -> Result<(), EncodeError>
-    ensures { Writes result (S.written sink.old)
+    ensures writes { Writes result (S.written sink.old)
         (entry_text KC.writing VC.writing (KC.Value.meaning key.now, VC.Value.meaning value.now))
         (S.written sink.new) }
+    ensures room { UsesRoom result (S.room sink.old)
+        (entry_text KC.writing VC.writing (KC.Value.meaning key.now, VC.Value.meaning value.now))
+        (S.room sink.new) }
 {
     write_part::<KC, S>(1, key, sink)?;
     write_part::<VC, S>(2, value, sink)
@@ -50,15 +56,17 @@ fn write_entry<KC: MapCodec, VC: MapCodec, S: EncodeSink>(
 
 // Writes the tag and the length of a record.
 #[inline(always)]
-#[tactic(auto, using(buffa_bytes::proofs::SinkLemmas::writes_then, buffa_bytes::proofs::SinkLemmas::front_first))]
+#[tactic(auto, using(buffa_bytes::proofs::SinkLemmas::writes_then, buffa_bytes::proofs::SinkLemmas::front_first, buffa_bytes::proofs::SinkLemmas::room_then))]
 pub(crate) fn write_head<S: EncodeSink>(
     number: u32,
     len: u64,
     sink: &mut S,
 ) -> Result<(), EncodeError>
     requires { IsNumber number }
-    ensures { Writes result (S.written sink.old) (tag_text number WireType.LengthDelimited ++ varint_text len)
+    ensures writes { Writes result (S.written sink.old) (tag_text number WireType.LengthDelimited ++ varint_text len)
         (S.written sink.new) }
+    ensures room { UsesRoom result (S.room sink.old) (tag_text number WireType.LengthDelimited ++ varint_text len)
+        (S.room sink.new) }
 {
     Tag::new(number, WireType::LengthDelimited).encode(sink)?;
     encode_varint(len, sink)
@@ -75,6 +83,8 @@ pub(crate) fn write_record<KC: MapCodec, VC: MapCodec, S: EncodeSink>(
     requires { IsNumber number }
     ensures written { WritesRecord KC.writing VC.writing number (S.written sink.old) (S.written sink.new) result
         (KC.Value.meaning key.now, VC.Value.meaning value.now) }
+    ensures room { UsesRoomOf result (S.room sink.old) (record_text KC.writing VC.writing number
+        (KC.Value.meaning key.now, VC.Value.meaning value.now)) (S.room sink.new) }
     ensures fits { KC.fits (KC.Value.meaning key.now) × VC.fits (VC.Value.meaning value.now) }
 {
     let Some(len) = entry_len::<KC, VC>(key, value) else {
@@ -90,7 +100,8 @@ pub(crate) fn write_record<KC: MapCodec, VC: MapCodec, S: EncodeSink>(
 ///
 /// # Errors
 /// [`EncodeError::MessageTooLarge`] at the first entry of 2^64 bytes or more, after the records of the
-/// pairs before it; [`EncodeError::OutOfMemory`], after a beginning of the text.
+/// pairs before it; [`EncodeError::OutOfMemory`], after a beginning of the text, where the text doesn't fit
+/// for sure.
 ///
 /// Source: the protobuf encoding guide, "Maps".
 ///
@@ -108,11 +119,12 @@ where
     KC::Value: 'a,
     VC::Value: 'a,
     requires { IsNumber field_number }
-    // Of the last line: what was written is what the types of key and value hold.
+    // Of the line before the last: what was written is what the types of key and value hold.
     ensures { (l : List (KC.Value.Meaning × VC.Value.Meaning)) × C.walks map.now l
         × ListsOnce C.equal (C.pairs map.now) l
         × WritesField KC.writing VC.writing field_number (S.written sink.old) (S.written sink.new) result l
-        × OnOk result (AllHold KC.fits VC.fits l) }
+        × OnOk result (AllHold KC.fits VC.fits l)
+        × UsesRoomOf result (S.room sink.old) (field_text KC.writing VC.writing field_number l) (S.room sink.new) }
 {
     for (key, value) in map.storage_iter() {
         write_record::<KC, VC, S>(field_number, key, value, sink)?;

@@ -60,6 +60,13 @@ fn messages_are_sized_and_written(rt: HostRuntime) -> Result<(), Fail> {
     let mut cache = SizeCache::new(rt.alloc());
     let size = message_field_len::<Int32, FlatMsg, _>(&map, 1, &mut cache)?;
     assert_eq!(rt; size, 23);
+    let mut slots = SizeCache::new(rt.alloc());
+    message_field_len::<Int32, FlatMsg, _>(&map, 1, &mut slots)?;
+    // Slots behind those of the field, since a slot that is consumed has to be there.
+    slots.reserve()?;
+    slots.reserve()?;
+    assert_eq!(rt; slots.consume_next(), 0);
+    assert_eq!(rt; slots.consume_next(), 11);
     let mut text = Vec::new(rt.alloc());
     write_message_field::<Int32, FlatMsg, _, _>(&map, 4, &mut cache, &mut text)?;
     let expected: &[u8] = &[

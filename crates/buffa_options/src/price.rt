@@ -37,7 +37,7 @@ impl Blank for Price {
     }
 }
 
-/// The codec of prices: `PriceCodec`, `Repeated<PriceCodec>` and `PackedRepeated<PriceCodec>`.
+/// The codec of prices; `Repeated<PriceCodec>` and `PackedRepeated<PriceCodec>` are those of lists of them.
 ///
 /// ```ignore
 /// let price = Extension::<PriceCodec>::new(50021, "google.protobuf.FieldOptions");
@@ -79,7 +79,7 @@ impl Numbered for PriceCodec {
 /// since reading a price takes no memory.
 ///
 /// ```ignore
-/// let stored = store_price(alloc, &mut options, Price { cents: 1999 })?; // Some(1999)
+/// let stored = store_price(alloc, &mut options, Price { cents: 1999 })?; // Some(Price { cents: 1999 })
 /// ```
 pub fn store_price(
     alloc: Global,

@@ -31,7 +31,7 @@ pub enum Violation {
 /// The rules that the options `int32 min = 50011`, `int32 max = 50012` and `bool required = 50013` set.
 ///
 /// # Errors
-/// Where memory runs out; reading numbers takes none.
+/// None: reading numbers takes no memory.
 ///
 /// ```ignore
 /// let rules = read_rules(alloc, &options)?; // min 1, max 9, required
@@ -82,7 +82,7 @@ pub fn judge(rules: &Rules, value: Option<i32>) -> Result<(), Violation>
 /// Judges the value of a field by its options: of a value that isn't accepted, the first rule that it breaks.
 ///
 /// # Errors
-/// Where memory runs out; reading the rules takes none.
+/// None: reading the rules takes no memory.
 ///
 /// ```ignore
 /// let judged = validate(alloc, &options, Some(5))?; // Ok(())

@@ -9,10 +9,11 @@ use Rattle.buffa_map.specs.Codec.{Reading, Writing}
 use Rattle.buffa_map.specs.Entry.{EntryFault, need_of}
 use Rattle.buffa_map.specs.Enums.{closed_writing}
 use Rattle.buffa_map.specs.Laws.{OneReading}
-use Rattle.buffa_map.specs.Merge.{State, StopsRun, keeping, state}
+use Rattle.buffa_map.specs.Merge.{ReadsRun, State, StopsRun, keeping, state}
 use Rattle.buffa_map.specs.Rewrite.{MatchRefusal, RefusesBytes, RefusesOutput}
 use Rattle.buffa_map.specs.Run.{EntryRecord, RecordFault, Run, RunBegins, inner_needs}
 use Rattle.buffa_map.specs.declared.rewrite.RewriteError.{RewriteError}
+use Rattle.buffa_map.specs.declared.rewrite.RewriteError.TheVariants.{Decode, Encode}
 use Rattle.buffa_samples.specs.Passed.{IsShortage, NotRewritten}
 
 -- a budget is what is left of its slots and its units
@@ -21,18 +22,35 @@ left_is b u m h k = subst (λ (z : ℕ). b ≡ record { unknown = u; memory = z 
 
 -- the bytes were refused, or the text of the rewrite
 module _ {K : Type 0} (rk : Reading K) (rv : Reading ℤ) (key : Writing K) (eq : K → K → Bool) (keeps : Bool) (n cost : ℕ) (bs : List ℕ) (pairs : List (K × ℤ)) where
-  abbrev Refused : ℕ → BudgetLeft → List ℕ → BudgetLeft → List ℕ → List ℕ → RewriteError → Type 0
-  Refused d left old over rest written x = MatchRefusal x
+  abbrev Refused : ℕ → ℕ → BudgetLeft → List ℕ → BudgetLeft → List ℕ → List ℕ → RewriteError → Type 0
+  Refused room d left old over rest written x = MatchRefusal x
       (RefusesBytes (keeping rk rv eq keeps d n cost) left bs pairs over rest old written)
-      (RefusesOutput (keeping rk rv eq keeps d n cost) key closed_writing left bs pairs over rest old written)
+      (RefusesOutput (keeping rk rv eq keeps d n cost) key closed_writing left bs pairs over rest old written room)
 
-  pub not_rewritten : (d e : ℕ) (left given : BudgetLeft) (old : List ℕ) (over : BudgetLeft) (rest written : List ℕ) (x : RewriteError) → d ≡ e → left ≡ given → old ≡ [] →
-      Refused d left old over rest written x → NotRewritten (keeping rk rv eq keeps e n cost) key given bs pairs x
-  not_rewritten d e left given old over rest written x same is empty h = (
+  -- what didn't fit in some room doesn't fit in none
+  with_no_room : (room d : ℕ) (left : BudgetLeft) (old : List ℕ) (over : BudgetLeft) (rest written : List ℕ) (x : RewriteError) → Refused room d left old over rest written x → Refused 0 d left old over rest written x
+  with_no_room room d left old over rest written (Decode f) h = h
+  with_no_room room d left old over rest written (Encode e) h = record {
+    entries = h.entries;
+    walk = h.walk;
+    run = h.run;
+    folded = h.folded;
+    order = h.order;
+    once = h.once;
+    text = h.text;
+    room = λ is. omega (arith, h.room is);
+    paid = h.paid;
+    whole = h.whole;
+  }
+
+  pub not_rewritten : (room d e : ℕ) (left given : BudgetLeft) (old : List ℕ) (over : BudgetLeft) (rest written : List ℕ) (x : RewriteError) → d ≡ e → left ≡ given → old ≡ [] →
+      Refused room d left old over rest written x → NotRewritten (keeping rk rv eq keeps e n cost) key given bs pairs x
+  not_rewritten room d e left given old over rest written x same is empty h = (
     over,
     rest,
     written,
-    subst (λ (z : List ℕ). Refused e given z over rest written x) empty (subst (λ (z : BudgetLeft). Refused e z old over rest written x) is (subst (λ (z : ℕ). Refused z left old over rest written x) same h)),
+    with_no_room room e given [] over rest written x
+        (subst (λ (z : List ℕ). Refused room e given z over rest written x) empty (subst (λ (z : BudgetLeft). Refused room e z old over rest written x) is (subst (λ (z : ℕ). Refused room z left old over rest written x) same h))),
   )
 
 -- ---- bytes that are a run stop a reader only where memory or the budget ran out
@@ -87,3 +105,13 @@ module _ {K : Type 0} (rk : Reading K) (rv : Reading ℤ) (eq : K → K → Bool
       StopsRun (keeping rk rv eq keeps d n cost) (state pairs records left) out new unread f → IsShortage f
   stop_is_shortage d left out gs plain one run h =
       is_shortage f (λ no. stop_is_limit rk rv d n cost 1 plain one left h.over out h.rest gs h.entries f run h.begins h.some (h.fault no))
+
+-- the same reading of the whole, by the names of the clause
+pub read_whole : {K : Type 0} (rk : Reading K) (rv : Reading ℤ) (eq : K → K → Bool) (keeps : Bool) (n cost : ℕ) (pairs : List (K × ℤ)) (records : List (ℕ × Datum)) (new : State K ℤ) (rest : List ℕ)
+    (d e : ℕ) (left given : BudgetLeft) (text out : List ℕ) → d ≡ e → left ≡ given → text ≡ out →
+    ReadsRun (keeping rk rv eq keeps d n cost) (state pairs records left) text new rest → ReadsRun (keeping rk rv eq keeps e n cost) (state pairs records given) out new []
+read_whole rk rv eq keeps n cost pairs records new rest d e left given text out same is whole h =
+    subst (λ (z : List ℕ). ReadsRun (keeping rk rv eq keeps e n cost) (state pairs records given) out new z) h.whole
+    (subst (λ (z : List ℕ). ReadsRun (keeping rk rv eq keeps e n cost) (state pairs records given) z new rest) whole
+    (subst (λ (z : BudgetLeft). ReadsRun (keeping rk rv eq keeps e n cost) (state pairs records z) text new rest) is
+    (subst (λ (z : ℕ). ReadsRun (keeping rk rv eq keeps z n cost) (state pairs records left) text new rest) same h)))

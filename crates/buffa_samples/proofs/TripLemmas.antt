@@ -1,5 +1,5 @@
 -- Why a map may not come back: what is read is a run, so only the budget has a fault.
-use Rattle.std.proofs.Common.{◌≡◌, ◌+◌, ap, ◌-◌, ◌*◌, ◌<◌, ◌≤◌, ℕ, List, length, inl, inr, arith}
+use Rattle.std.proofs.Common.{◌≡◌, ◌+◌, ap, ◌-◌, ◌*◌, ◌<◌, ◌≤◌, ℕ, List, length, inl, inr, refl, arith}
 use Rattle.std.specs.Prelude.{◌⊎◌}
 use Rattle.std.proofs.Math.Nat.{lt_of_not-le}
 use Rattle.buffa_bytes.specs.declared.error.DecodeError.{DecodeError}
@@ -10,16 +10,16 @@ use Rattle.buffa_wire.specs.BudgetLeft.{BudgetLeft, nothing, units}
 use Rattle.buffa_map.specs.Entry.{need_of}
 use Rattle.buffa_map.specs.Codec.{Reading, Writing}
 use Rattle.buffa_map.specs.Run.{Paid, RecordFault, Run, RunFault, EntryRecord, inner_needs}
-use Rattle.buffa_map.specs.Text.{RefusesField}
+use Rattle.buffa_map.specs.Text.{RefusesField, field_text}
 use Rattle.buffa_samples.specs.RoundTrip.{RefusesPairs}
 use Rattle.buffa_samples.specs.declared.round_trip.TripFault.TheVariants.{Encode}
 
 -- a refusal to write
 pub unwritten : {K V : Type 0} (key : Writing K) (val : Writing V) (cost n : ℕ) (old new : List ℕ) (l : List (K × V)) (f : EncodeError) →
-    RefusesField key val n old new l f → RefusesPairs key val cost l (Encode f)
-unwritten key val cost n old new l MessageTooLarge h = (h.0, h.1, h.2, h.3, h.5)
-unwritten key val cost n old new l OutOfMemory h = tt
-unwritten key val cost n old new l (GroupRefused e) h = h
+    (room : ℕ) → RefusesField key val n old new l f → (f ≡ OutOfMemory → room < length (field_text key val n l)) → RefusesPairs key val cost l (Encode f)
+unwritten key val cost n old new l MessageTooLarge room h few = (h.0, h.1, h.2, h.3, h.5)
+unwritten key val cost n old new l OutOfMemory room h few = λ none. omega (arith, few refl, ap (λ z. length (field_text key val n z)) none)
+unwritten key val cost n old new l (GroupRefused e) room h few = h
 
 module _ {K V : Type 0} (key : Reading K) (val : Reading V) (d n : ℕ)
     (needs : (cost : ℕ) (e : List ℕ) → need_of key val d cost e ≡ units cost) (inner : (es : List (EntryRecord K V)) → inner_needs key val d es ≡ nothing)

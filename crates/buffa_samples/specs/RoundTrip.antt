@@ -1,10 +1,11 @@
 -- Why the pairs of a map may not come back from their bytes.
-use Rattle.std.specs.Prelude.{◌≡◌, ◌≢◌, ◌≤◌, ◌<◌, ◌*◌, ◌^◌, ℕ, Bool, List, ◌∷◌, ◌++◌, length}
+use Rattle.std.specs.Prelude.{◌≡◌, ◌≢◌, ◌≤◌, ◌<◌, ◌*◌, ◌^◌, ℕ, Bool, List, [], ◌∷◌, ◌++◌, length}
 use Rattle.std.specs.Int.{from_bool}
 use Rattle.buffa_bytes.specs.declared.error.DecodeError.TheVariants as decode
 use Rattle.buffa_bytes.specs.declared.error.EncodeError.TheVariants as encode
 use Rattle.buffa_map.specs.Codec.{Writing}
 use Rattle.buffa_map.specs.Scalars.{delimited_writing, varint_writing}
+use Rattle.buffa_map.specs.Pairs.{InOrder}
 use Rattle.buffa_map.specs.Text.{entry_text}
 use Rattle.buffa_samples.specs.declared.round_trip.TripFault.{TripFault}
 use Rattle.buffa_samples.specs.declared.round_trip.TripFault.TheVariants.{Decode, Encode}
@@ -15,12 +16,12 @@ EachWalk {X} Walk P = (l : List X) → Walk l → P l
 
 module _ {K V : Type 0} (key : Writing K) (val : Writing V) (cost : ℕ) where
   -- The entry of a pair is too long for its length to be a varint; or the pairs, each of which costs so many units,
-  -- cost more than a budget starts with; or memory ran out.
+  -- cost more than a budget starts with; or memory ran out, to write them only where there is one.
   abbrev pub RefusesPairs : List (K × V) → TripFault → Type 0
   RefusesPairs l (Encode encode.MessageTooLarge) =
       (done : List (K × V)) × (p : K × V) × (rest : List (K × V)) × (l ≡ done ++ p ∷ rest)
       × (2 ^ 64 ≤ length (entry_text key val p))
-  RefusesPairs l (Encode encode.OutOfMemory) = Unit {0}
+  RefusesPairs l (Encode encode.OutOfMemory) = l ≢ []
   RefusesPairs l (Encode (encode.GroupRefused e)) = ⊥
   RefusesPairs l (Decode f) =
       f ≢ decode.OutOfMemory → (f ≡ decode.ElementMemoryLimitExceeded) × (268435456 < length l * cost)
@@ -28,6 +29,15 @@ module _ {K V : Type 0} (key : Writing K) (val : Writing V) (cost : ℕ) where
   -- the same of the pairs of some walk
   abbrev pub RefusesTrip : (List (K × V) → Type 0) → TripFault → Type 0
   RefusesTrip Walk f = (l : List (K × V)) × Walk l × RefusesPairs l f
+
+-- P, if the pairs couldn't be written
+abbrev pub IfUnwritten : TripFault → Type 0 → Type 0
+IfUnwritten (Encode e) P = P
+IfUnwritten (Decode f) P = Unit {0}
+
+-- where the order is kept, these are the pairs of some walk, in its order
+abbrev pub InWalkOrder : {X : Type 0} → Bool → (List X → Type 0) → List X → Type 0
+InWalkOrder {X} keeps Walk pairs = (l : List X) × Walk l × InOrder keeps l pairs
 
 -- words as keys, and what is said of each
 abbrev pub word_writing : Writing (List ℕ)

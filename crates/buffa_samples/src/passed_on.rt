@@ -8,7 +8,8 @@ ghost use Rattle.buffa_map.specs.Merge.{state};
 ghost use Rattle.buffa_map.specs.Pairs.{SamePairs};
 ghost use Rattle.buffa_map.specs.Rewrite.{Ordered};
 ghost use Rattle.buffa_map.specs.Run.{fold_entries, Run, EntryRecord, undeclared_records};
-ghost use Rattle.buffa_samples.specs.Passed.{IsRunOf, MatchPass, NotRewritten, StopsInRewrite, reader_of};
+ghost use Rattle.buffa_samples.specs.Passed.{IsRunOf, MatchPass, NotRewritten, ReadsRewrite, StopsInRewrite};
+ghost use Rattle.buffa_samples.specs.Passed.{reader_of};
 
 use buffa_map::laws::{
     newer_enums_take_it_too, one_reading, plain_entries_need_units, rewrite_means,
@@ -35,7 +36,7 @@ pub enum PassFault {
 /// map of the enum `F`, which declares all that `E` declares and has the same default.
 ///
 /// Where the run is ordered that is what the run itself makes of the map, stored keys too; and the entries
-/// that `F` doesn't declare are kept as they are in the run.
+/// that `F` doesn't declare are kept as they are in the run. The first map then has what the run says to `E`.
 ///
 /// # Errors
 /// [`PassFault::Rewrite`] with those of [`rewrite_map_field`] at the default limits; the map and the list are as
@@ -70,6 +71,13 @@ pub fn passed_on<
         × (Ordered D.equal es fs → SamePairs D.equal (fold_entries D.equal (D.pairs map.old) fs) (D.pairs map.new))) }
     ensures runs { OnOk result (IsRunOf KC.reading (numbers E.of_number E.blank_is) depth number bytes.now
         × IsRunOf KC.reading (numbers F.of_number F.blank_is) depth number bytes.now) }
+    ensures reads { OnOk result (ReadsRewrite
+        (reader_of KC.reading KC.COST (numbers E.of_number E.blank_is) C.equal C.keeps_order depth number)
+        (reader_of KC.reading KC.COST (numbers F.of_number F.blank_is) D.equal D.keeps_order depth number)
+        KC.writing KC.fits (numbers E.of_number E.blank_is) bytes.now (C.pairs scratch.new)
+        (state (D.pairs map.old) unknown.old.records
+        (record { unknown = DEFAULT_UNKNOWN_FIELD_LIMIT; memory = DEFAULT_ELEMENT_MEMORY_LIMIT }))
+        (D.pairs map.new) unknown.new.records) }
     ensures refused { IfErr result (λ fault. MatchPass fault
         (λ e. NotRewritten
         (reader_of KC.reading KC.COST (numbers E.of_number E.blank_is) C.equal C.keeps_order depth number) KC.writing
@@ -78,7 +86,8 @@ pub fn passed_on<
         (StopsInRewrite
         (reader_of KC.reading KC.COST (numbers E.of_number E.blank_is) C.equal C.keeps_order depth number)
         (reader_of KC.reading KC.COST (numbers F.of_number F.blank_is) D.equal D.keeps_order depth number)
-        KC.writing KC.fits (numbers E.of_number E.blank_is) bytes.now (state (D.pairs map.old) unknown.old.records
+        KC.writing KC.fits (numbers E.of_number E.blank_is) bytes.now (C.pairs scratch.new)
+        (state (D.pairs map.old) unknown.old.records
         (record { unknown = DEFAULT_UNKNOWN_FIELD_LIMIT; memory = DEFAULT_ELEMENT_MEMORY_LIMIT }))
         (D.pairs map.new) unknown.new.records)) }
 {

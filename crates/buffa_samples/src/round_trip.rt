@@ -5,7 +5,8 @@ ghost use Rattle.buffa_wire.specs.Number.{IsNumber};
 ghost use Rattle.buffa_map.specs.Pairs.{SamePairs};
 ghost use Rattle.buffa_map.specs.Text.{AllHold};
 ghost use Rattle.buffa_samples.specs.Letters.{same_letters, spelled};
-ghost use Rattle.buffa_samples.specs.RoundTrip.{EachWalk, RefusesTrip, flag_writing, word_writing};
+ghost use Rattle.buffa_samples.specs.RoundTrip.{EachWalk, IfUnwritten, InWalkOrder, RefusesTrip};
+ghost use Rattle.buffa_samples.specs.RoundTrip.{flag_writing, word_writing};
 
 use crate::word::Word;
 use buffa_map::laws::{one_reading, plain_entries_need_units, written_is_read};
@@ -26,12 +27,13 @@ pub enum TripFault {
 }
 
 /// Writes a map as a field, and reads the field into an empty map: it then holds the same pairs, and the
-/// same stored keys.
+/// same stored keys. A storage that keeps an order has the pairs in the order of the walk.
 ///
 /// # Errors
 /// [`EncodeError::MessageTooLarge`] only where the entry of a pair has 2^64 bytes or more;
 /// [`DecodeError::ElementMemoryLimitExceeded`] only where the pairs cost more than 268,435,456 units; and
-/// out of memory, in either.
+/// out of memory, in either, to write only where there is a pair. Where the map couldn't be written the other stays
+/// as it was.
 ///
 /// ```ignore
 /// through_bytes::<ProtoStringMap<Word>, Bool, _>(alloc, 5, &words, &mut copy)?;
@@ -49,7 +51,9 @@ where
     requires empty { C.pairs copy.old ≡ [] }
     requires normal { EachWalk (C.walks map.now) (AllHold KC.normal VC.normal) }
     ensures ok { OnOk result (SamePairs C.equal (C.pairs map.now) (C.pairs copy.new)) }
+    ensures order { OnOk result (InWalkOrder C.keeps_order (C.walks map.now) (C.pairs copy.new)) }
     ensures err { IfErr result (RefusesTrip KC.writing VC.writing (KC.COST + VC.COST) (C.walks map.now)) }
+    ensures kept { IfErr result (λ fault. IfUnwritten fault (copy.new ≡ copy.old)) }
 {
     let mut text = Vec::new(alloc);
     match write_field::<KC, VC, C, _>(map, number, &mut text) {
@@ -85,6 +89,7 @@ pub fn words_through_bytes(
     requires { copy.old.entries ≡ [] }
     ensures ok { OnOk result (SamePairs same_letters (spelled words.now.entries) (spelled copy.new.entries)) }
     ensures err { IfErr result (RefusesTrip word_writing flag_writing 25 (IsPermutation (spelled words.now.entries))) }
+    ensures kept { IfErr result (λ fault. IfUnwritten fault (copy.new ≡ copy.old)) }
 {
     through_bytes::<ProtoStringMap<Word>, Bool, HashMap<Word, bool>>(alloc, 1, words, copy)
 }

@@ -6,7 +6,8 @@ ghost use Rattle.std.specs.BTreeMap.{values};
 ghost use Rattle.std.specs.List.{Contains};
 ghost use Rattle.buffa_map.specs.MessageField.{IsFieldWritten, field_slots};
 ghost use Rattle.std.specs.Prelude.{◌≡◌, ◌+◌};
-ghost use Rattle.buffa_wire.specs.Message.{IsFieldMerged, IsMerged};
+ghost use Rattle.buffa_wire.specs.Gives.{FullOnlyIf};
+ghost use Rattle.buffa_wire.specs.Message.{IsFieldMerged, IsMerged, ReachesTag};
 ghost use Rattle.buffa_samples.specs.TreeMeaning.{IsChildMerged, cost, merged};
 ghost use Rattle.buffa_samples.specs.TreeText.{key_writing, meant, slots, text};
 
@@ -277,7 +278,9 @@ pub fn merge_tree(
     depth: u32,
     budget: &mut Budget,
 ) -> Result<(), DecodeError>
-    ensures { IsMerged (merged depth tree.old bytes.now) (cost depth bytes.now) budget.old result tree.new budget.new }
+    ensures merged { IsMerged (merged depth tree.old bytes.now) (cost depth bytes.now) budget.old result tree.new
+        budget.new }
+    ensures full { FullOnlyIf result (ReachesTag depth bytes.now) }
 {
     let mut rest = bytes;
     while rest.remaining() > 0 {

@@ -1,12 +1,13 @@
 //! How a row's bytes are read, and what comes of it in words.
 
 use buffa_map::map_codec::{
-    ClosedEnum, Int32, Map, MapStorage, MapWalk, Msg, Str, merge_entry, merge_entry_with_unknowns,
-    read_map_field, rewrite_map_field,
+    ClosedEnum, Int32, Map, MapCodec, MapStorage, MapWalk, MapWrite, Msg, ProtoStringMap, Str,
+    merge_entry, merge_entry_with_unknowns, read_map_field, rewrite_map_field, write_field,
 };
 use buffa_samples::flat::FlatMsg;
 use buffa_samples::hues::{New, Old};
 use buffa_samples::two::TestMsg;
+use buffa_samples::word::Word;
 use buffa_wire::{Budget, Buf, DecodeContext, DecodeError, Enumeration, UnknownFields};
 use std::alloc::Global;
 use std::collections::BTreeMap;
@@ -37,6 +38,14 @@ pub enum Call {
     Two,
     // An entry of a map<Old, int32>, of which what is undeclared would be kept.
     Keyed,
+    // An entry of a map<int32, Old>, with no slot and no list.
+    Unlisted,
+    // A run of a map<Word, int32> of number 5, and what is written of the map.
+    Words,
+    // A run of a map<Word, New> of number 5.
+    WordsInformed,
+    // The rewrite of a run of a map<Word, Old> of number 5.
+    WordsRewritten,
 }
 
 // An answer in words.
@@ -138,20 +147,64 @@ fn read<E: Enumeration, B: Buf>(alloc: Global, buf: &mut B, number: u32) -> Resu
     with_enums(alloc, told(alloc, answer)?, &map)
 }
 
-// What is written by a reader of the old enum.
-fn rewritten<B: Buf>(alloc: Global, buf: &mut B) -> Result<String, Fail> {
-    let mut map: BTreeMap<i32, Old> = BTreeMap::new(alloc);
+// What is written by a reader of the old enum, and how many pairs the map has then.
+fn rewritten<KC: MapCodec, C: MapWrite + MapStorage<Key = KC::Value, Value = Old>, B: Buf>(
+    alloc: Global,
+    map: &mut C,
+    buf: &mut B,
+) -> Result<String, Fail> {
     let mut text = Vec::new(alloc);
     let mut budget = Budget::new(9);
     let ctx = DecodeContext::new(10, &mut budget);
-    let answer = rewrite_map_field::<Int32, ClosedEnum<Old>, _, _, _>(
-        alloc, &mut map, 5, buf, ctx, &mut text,
+    let answer = rewrite_map_field::<KC, ClosedEnum<Old>, _, _, _>(
+        alloc, map, 5, buf, ctx, &mut text,
     );
     let text = hex::encode(alloc, &text)?;
     match answer {
         Ok(()) => Ok(format!(in alloc; "ok {text}")?),
-        Err(_) => Ok(format!(in alloc; "refused {text}")?),
+        Err(error) => Ok(format!(in alloc; "{error} {text}{} in the map", map.storage_len())?),
     }
+}
+
+// An entry of the old enum, with no list.
+fn unlisted<B: Buf>(alloc: Global, buf: &mut B) -> Result<String, Fail> {
+    let mut map: BTreeMap<i32, Old> = BTreeMap::new(alloc);
+    let mut budget = Budget::new(0);
+    let ctx = DecodeContext::new(10, &mut budget);
+    let answer = merge_entry_with_unknowns::<Int32, ClosedEnum<Old>, _, _>(
+        alloc, &mut map, buf, ctx, 5, None,
+    );
+    with_enums(alloc, told(alloc, answer)?, &map)
+}
+
+// A run of words and numbers, and what is written of the map.
+fn words<B: Buf>(alloc: Global, buf: &mut B) -> Result<String, Fail> {
+    let mut map: Map<Word, i32> = Map::new(alloc);
+    let mut budget = Budget::new(0);
+    let ctx = DecodeContext::new(10, &mut budget);
+    let answer = read_map_field::<ProtoStringMap<Word>, Int32, _, _>(
+        alloc, &mut map, 5, buf, ctx, None,
+    );
+    let mut text = Vec::new(alloc);
+    write_field::<ProtoStringMap<Word>, Int32, _, _>(&map, 5, &mut text)?;
+    let answer = told(alloc, answer)?;
+    let text = hex::encode(alloc, &text)?;
+    Ok(format!(in alloc; "{answer}{text}")?)
+}
+
+// A run of words and values of the new enum.
+fn words_informed<B: Buf>(alloc: Global, buf: &mut B) -> Result<String, Fail> {
+    let mut map: Map<Word, New> = Map::new(alloc);
+    let mut budget = Budget::new(0);
+    let ctx = DecodeContext::new(10, &mut budget);
+    let answer = read_map_field::<ProtoStringMap<Word>, ClosedEnum<New>, _, _>(
+        alloc, &mut map, 5, buf, ctx, None,
+    );
+    let mut text = told(alloc, answer)?;
+    for (key, value) in map.storage_iter() {
+        text = format!(in alloc; "{text}{}={} ", key.text.as_str(), value.to_i32())?;
+    }
+    Ok(text)
 }
 
 // A run, or an entry so deep.
@@ -227,10 +280,16 @@ pub fn answer<B: Buf>(alloc: Global, buf: &mut B, call: Call) -> Result<String, 
         Call::Undeclared(slots) => kept(alloc, buf, slots),
         Call::Dropped(number) => read::<Old, B>(alloc, buf, number),
         Call::Informed => read::<New, B>(alloc, buf, 5),
-        Call::Rewritten => rewritten(alloc, buf),
+        Call::Rewritten => rewritten::<Int32, _, B>(alloc, &mut BTreeMap::new(alloc), buf),
         Call::Flats => flats(alloc, buf, None, 99),
         Call::Flat(depth, units) => flats(alloc, buf, Some(depth), units),
         Call::Two => two(alloc, buf),
         Call::Keyed => keyed(alloc, buf),
+        Call::Unlisted => unlisted(alloc, buf),
+        Call::Words => words(alloc, buf),
+        Call::WordsInformed => words_informed(alloc, buf),
+        Call::WordsRewritten => {
+            rewritten::<ProtoStringMap<Word>, _, B>(alloc, &mut Map::new(alloc), buf)
+        }
     }
 }

@@ -12,7 +12,7 @@ use std::test::Fail;
 type Row = (&'static str, Call, &'static str, &'static str);
 
 #[rattlefmt::skip]
-const ROWS: [Row; 69] = [
+const ROWS: [Row; 77] = [
     ("an entry of no fields", Call::Text(10, 56), "00", "ok =0 z=9 28 left"),
     ("an entry that costs all", Call::Text(10, 28), "00", "ok =0 z=9 0 left"),
     ("an entry that costs more", Call::Text(10, 27), "00", "ElementMemoryLimitExceeded z=9 27 left"),
@@ -62,6 +62,8 @@ const ROWS: [Row; 69] = [
     ("an undeclared value is dropped", Call::Dropped(2), "12040801102a", "ok "),
     ("a declared value stands", Call::Dropped(2), "120408011001", "ok 1=1 "),
     ("a rewrite puts pairs first", Call::Rewritten, "2a04080110002a04080210022a0408011001", "ok 2a04080110012a0408021002"),
+    ("a rewrite of a run that is cut off", Call::Rewritten, "2a04080110012a0408", "UnexpectedEof 1 in the map"),
+    ("a rewrite of a field of another number", Call::Rewritten, "32020801", "UnexpectedField 6 0 in the map"),
     ("a rewrite of no value field", Call::Rewritten, "2a020801", "ok 2a0408011000"),
     ("a rewrite of what is kept", Call::Rewritten, "2a0408071063", "ok 2a0408071063"),
     ("a run out of order", Call::Informed, "2a04080110022a0408011001", "ok 1=1 "),
@@ -70,6 +72,12 @@ const ROWS: [Row; 69] = [
     ("an ordered run", Call::Informed, "2a04080110022a04080110012a0408011002", "ok 1=2 "),
     ("the rewrite of an ordered run", Call::Rewritten, "2a04080110022a04080110012a0408011002", "ok 2a04080110012a04080110022a0408011002"),
     ("a rewrite in order", Call::Informed, "2a04080110012a04080110022a0408011002", "ok 1=2 "),
+    ("a run of words that are one key", Call::Words, "2a050a016110012a050a01411002", "ok 2a050a01611002"),
+    ("a run of words in order", Call::WordsInformed, "2a050a016110002a050a01411002", "ok a=2 "),
+    ("its rewrite is the run itself", Call::WordsRewritten, "2a050a016110002a050a01411002", "ok 2a050a016110002a050a01411002"),
+    ("a run of words of which the older reader knows none", Call::WordsRewritten, "2a050a01611002", "ok 2a050a01611002"),
+    ("an undeclared value without a list", Call::Unlisted, "0408071063", "ok "),
+    ("a declared value without a list", Call::Unlisted, "0408071001", "ok 7=1 "),
     ("an undeclared key is the default", Call::Keyed, "0408631005", "ok 0=5 "),
     ("two messages", Call::Flats, "220408011200220f0802120b08fdffffffffffffffff01", "ok 1=0 2=-3 "),
     ("a message at the last level", Call::Flat(1, 8), "0408011200", "ok 1=0 "),
@@ -180,6 +188,70 @@ fn rows_hold_in_single_bytes(rt: HostRuntime) -> Result<(), Fail> {
         assert!(rt; b.len() <= 24);
         let found = answer(rt.alloc(), &mut Pieces::new(&parts), row.1)?;
         assert_eq!(rt; found.as_str(), row.3, "{}", row.0);
+    }
+    Ok(())
+}
+
+// Whether a call reads the records of a field to their end, and no entry.
+fn reads_a_run(call: Call) -> bool {
+    match call {
+        Call::Text(..)
+        | Call::Numbers
+        | Call::Undeclared(_)
+        | Call::Flat(..)
+        | Call::Two
+        | Call::Keyed
+        | Call::Unlisted => false,
+        _ => true,
+    }
+}
+
+// The byte at a place as a number, or 0.
+fn number_at(bytes: &[u8], place: usize) -> usize
+    ensures { result < 256 }
+{
+    match bytes.get(place) {
+        Some(byte) => usize::from(*byte),
+        None => 0,
+    }
+}
+
+// Whether bytes end where a record does, of records with tags and lengths of one byte.
+fn are_records(bytes: &[u8]) -> bool {
+    let mut end = 0;
+    while end < bytes.len() {
+        end += 2 + number_at(bytes, end + 1);
+    }
+    end == bytes.len()
+}
+
+// Whether a whole entry, of which the length is spelled in one byte or in two, begins the bytes.
+fn has_entry(bytes: &[u8]) -> bool {
+    let first = number_at(bytes, 0);
+    let end = if first < 128 {
+        1 + first
+    } else {
+        2 + first % 128
+    };
+    !bytes.is_empty() && end <= bytes.len()
+}
+
+#[test]
+fn each_beginning_of_what_is_accepted_is_whole_or_cut_off(rt: HostRuntime) -> Result<(), Fail> {
+    for row in ROWS.iter() {
+        let bytes = hex::decode(rt.alloc(), row.2)?;
+        if row.3.starts_with("ok") {
+            for cut in 0..=bytes.len() {
+                let mut front = &bytes[..cut];
+                let is_whole = match reads_a_run(row.1) {
+                    true => are_records(front),
+                    false => has_entry(front),
+                };
+                let found = answer(rt.alloc(), &mut front, row.1)?;
+                let expected = if is_whole { "ok" } else { "UnexpectedEof" };
+                assert!(rt; found.starts_with(expected), "{}", row.0);
+            }
+        }
     }
     Ok(())
 }

@@ -43,7 +43,8 @@ impl SizeCache {
         }
     }
 
-    /// Makes room for so many slots more, so that reserving them asks for no memory.
+    /// Asks for room for so many slots more, in one request for memory in place of many. A hint, for speed: only
+    /// that the slots stay is promised.
     ///
     /// # Errors
     /// [`EncodeError::OutOfMemory`] alone. The slots stay in any case.
@@ -82,7 +83,7 @@ impl SizeCache {
         self.slots[slot] = size;
     }
 
-    /// Takes the next slot, in the order reserved. It takes no memory.
+    /// Takes the next slot, in the order reserved; one has to be left. It takes no memory.
     pub fn consume_next(&mut self) -> u32
         requires { self.old.next < length self.old.slots }
         ensures size { result ≡ slice_index self.old.slots self.old.next }

@@ -31,19 +31,25 @@ pub trait Form: Sealed {
     /// The payload of a number.
     ghost payload: { ℕ → List ℕ };
 
-    /// Reads the number at the front.
+    /// Reads the number at the front. It takes no memory.
+    ///
+    /// # Errors
+    /// [`DecodeError::UnexpectedEof`], and of varints [`DecodeError::VarintTooLong`].
     fn read<B: Buf>(buf: &mut B) -> Result<u64, DecodeError>
         ensures reads { Gives (λ n. (number n, B.unread buf.new)) result (content_at WIRE_TYPE (B.unread buf.old)) }
         ensures spelled { IfOk result spells }
         ensures kept { B.beyond buf.new ≡ B.beyond buf.old }
         ensures tail { IsTailOf (B.unread buf.new) (B.unread buf.old) };
 
-    /// The length of a number's payload.
+    /// The length of a number's payload in bytes, 1 to 10; the number has to be one that can be spelled.
     fn len(n: u64) -> u64
         requires { spells n }
         ensures { result ≡ length (payload n) };
 
-    /// Writes a number.
+    /// Writes a number, which has to be one that can be spelled.
+    ///
+    /// # Errors
+    /// [`EncodeError::OutOfMemory`] alone, after a beginning of the payload.
     fn write<S: EncodeSink>(n: u64, sink: &mut S) -> Result<(), EncodeError>
         requires { spells n }
         ensures writes { Writes result (S.written sink.old) (payload n) (S.written sink.new) }

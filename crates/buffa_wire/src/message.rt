@@ -25,7 +25,7 @@ use buffa_bytes::buf::{copy_bytes, front};
 use buffa_bytes::{Blank, Buf, DecodeError, EncodeError, EncodeSink, Tag, decode_varint};
 use std::alloc::Global;
 
-/// The bytes that a message's text may have.
+/// The most bytes that a message's text may have: 2^31 - 1.
 pub const MAX_MESSAGE_BYTES: u32 = 2_147_483_647;
 
 /// What the bytes of a type of messages mean.
@@ -76,6 +76,7 @@ pub trait MessageSpec: Blank {
     ghost merged_next: { (d : ℕ) (v : Self.Meaning) (f r : List ℕ) → SomeField d f → merged d v (f ++ r)
         ≡ option_and_then (λ w. merged d w r) (merged d v f) };
 
+    /// No bytes cost nothing.
     ghost cost_empty: { (d : ℕ) → cost d [] ≡ nothing };
 
     /// Costs add over fields.
@@ -92,7 +93,8 @@ pub trait Message: MessageSpec {
         ensures { IsSized (Self.text (Self.meaning self.now)) (Self.slots (Self.meaning self.now)) cache.old result
             cache.new };
 
-    /// The write pass, which consumes the value's slots. Where the text has at most 2^31 - 1 bytes it is
+    /// The write pass, which consumes the value's slots: the next ones of the cache have to be those that
+    /// [`Message::compute_size`] appended for this value. Where the text has at most 2^31 - 1 bytes it is
     /// appended to the sink.
     ///
     /// # Errors

@@ -9,7 +9,9 @@ use std::alloc::{AllocError, Global};
 /// A status and a text.
 #[derive(Drop)]
 pub struct Answer {
+    /// The exit status: 0, 1 or 3.
     pub status: u8,
+    /// What is written to the output.
     pub text: Vec<u8>,
 }
 

@@ -130,6 +130,14 @@ fn lists_grow_and_shrink(rt: HostRuntime) -> Result<(), Fail> {
 }
 
 #[test]
+fn a_copy_of_bytes_is_equal(rt: HostRuntime) -> Result<(), Fail> {
+    let bytes = Vec::from_slice(rt.alloc(), &[0xDE, 0xAD])?;
+    let whole = field(9, UnknownFieldData::LengthDelimited(bytes));
+    assert_eq!(rt; whole.copy()?, whole);
+    Ok(())
+}
+
+#[test]
 fn retain_looks_at_each_field_once(rt: HostRuntime) -> Result<(), Fail> {
     let mut fields = UnknownFields::new(rt.alloc());
     for number in [3, 7, 3] {

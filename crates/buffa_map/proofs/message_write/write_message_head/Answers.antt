@@ -17,4 +17,4 @@ returns-in_err-write_head g c =
     let old = g.S.EncodeSink.written c.args.sink.now in
     let new = g.S.EncodeSink.written c.write_head.new.sink in
     exits_first p.1 p.2 old (tag_text c.args.number LengthDelimited ++ varint_text (saturated (entry_size kw k c.args.inner))) (key_and_length kw k c.args.inner) new
-    (c.in_err-write_head.ensures.0, subst (λ n. WritesFront old (tag_text c.args.number LengthDelimited ++ varint_text n) new) c.message_entry_len.ensures c.in_err-write_head.ensures.1)
+    (c.in_err-write_head.ensures.writes.0, subst (λ n. WritesFront old (tag_text c.args.number LengthDelimited ++ varint_text n) new) c.message_entry_len.ensures c.in_err-write_head.ensures.writes.1)

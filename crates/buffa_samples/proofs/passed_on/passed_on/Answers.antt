@@ -7,7 +7,7 @@ use Rattle.buffa_map.specs.Pairs.{SamePairs}
 use Rattle.buffa_map.specs.Rewrite.{IsRewrite, Ordered}
 use Rattle.buffa_map.specs.Run.{fold_entries, undeclared, Run}
 use Rattle.buffa_map.proofs.RunLemmas.{added_records}
-use Rattle.buffa_samples.proofs.PassedLemmas.{left_is, not_rewritten, stop_is_shortage, stopped}
+use Rattle.buffa_samples.proofs.PassedLemmas.{left_is, not_rewritten, read_whole, stop_is_shortage, stopped}
 use Rattle.buffa_samples.proofs.passed_on.passed_on.Goals as goal
 
 pub returns-in-Ok-read_map_field-clause-passed : goal.returns-in-Ok-read_map_field-clause-passed
@@ -47,11 +47,30 @@ returns-in-Ok-read_map_field-clause-runs g c =
     let run = subst (λ (z : ℕ). Run key (closed_reading e) z n given w.entries) c.new-ctx.ensures.depth w.run in
     ((w.entries, run), c.newer_enums_take_it_too.ensures e f g.met.E.Enumeration.blank_declared c.requires.refines depth n given w.entries run)
 
+pub returns-in-Ok-read_map_field-clause-reads : goal.returns-in-Ok-read_map_field-clause-reads
+returns-in-Ok-read_map_field-clause-reads g c =
+    let key = g.KC.MapValueDecode.reading in
+    let e = numbers g.E.Enumeration.of_number g.E.Blank.blank_is in
+    let f = numbers g.F.Enumeration.of_number g.F.Blank.blank_is in
+    let depth = c.args.depth in
+    let n = c.args.number in
+    let w = c.in-Ok.ensures.ok in
+    let run = subst (λ (z : ℕ). Run key (closed_reading e) z n c.args.bytes.now w.entries) c.new-ctx.ensures.depth w.run in
+    let text : c.as_slice-written.result.now ≡ w.out = c.as_slice-written.ensures.value ∙ w.text ∙ ap (λ z. z ++ w.out) c.new-text.ensures.items in
+    record {
+      out = w.out;
+      over = _;
+      rewritten = record { entries = w.entries; run = run; folded = w.folded; order = w.order; rewrite = w.rewrite };
+      reads = read_whole key (closed_reading f) g.D.MapStorage.equal g.D.MapStorage.keeps_order n (g.KC.MapValueDecode.COST + 4) (g.D.MapStorage.pairs c.args.map.now) c.args.unknown.now.records _ _
+          c.new-ctx-2.result.depth depth c.new-ctx-2.result.budget.now _ c.as_slice-written.result.now w.out c.new-ctx-2.ensures.depth
+          (c.new-ctx-2.ensures.left ∙ left_is c.new-fresh.result _ _ c.new-fresh.ensures.unknown c.new-fresh.ensures.memory) text c.in-Ok-read_map_field.ensures.ok;
+    }
+
 pub returns-in-Err-clause-refused : goal.returns-in-Err-clause-refused
 returns-in-Err-clause-refused g c =
     let e = numbers g.E.Enumeration.of_number g.E.Blank.blank_is in (
       not_rewritten g.KC.MapValueDecode.reading (closed_reading e) g.KC.MapCodec.writing g.C.MapStorage.equal g.C.MapStorage.keeps_order c.args.number (g.KC.MapValueDecode.COST + 4) c.args.bytes.now
-          (g.C.MapStorage.pairs c.rewrite_map_field.new.map) c.new-ctx.result.depth c.args.depth c.new-ctx.result.budget.now _ c.new-text.result.items _ _ _ c.in-Err.error c.new-ctx.ensures.depth
+          (g.C.MapStorage.pairs c.rewrite_map_field.new.map) _ c.new-ctx.result.depth c.args.depth c.new-ctx.result.budget.now _ c.new-text.result.items _ _ _ c.in-Err.error c.new-ctx.ensures.depth
           (c.new-ctx.ensures.left ∙ left_is c.new-budget.result _ _ c.new-budget.ensures.unknown c.new-budget.ensures.memory) c.new-text.ensures.items c.in-Err.ensures.refused,
       refl,
       refl,
@@ -76,14 +95,12 @@ returns-clause-refused g c =
     c.new-ctx-2.result.depth depth c.new-ctx-2.result.budget.now _ c.as_slice-written.result.now w.out c.new-ctx-2.ensures.depth
     (c.new-ctx-2.ensures.left ∙ left_is c.new-fresh.result _ _ c.new-fresh.ensures.unknown c.new-fresh.ensures.memory) text c.in-Err-read_map_field.ensures.err in
     record {
-      entries = w.entries;
       out = w.out;
       over = _;
       unread = _;
-      run = run;
+      rewritten = record { entries = w.entries; run = run; folded = w.folded; order = w.order; rewrite = w.rewrite };
       newer_entries = newer.0;
       newer_run = newer.1;
-      rewrite = w.rewrite;
       stops = stops;
       short = stop_is_shortage key (closed_reading f) g.D.MapStorage.equal g.D.MapStorage.keeps_order n cost _ _ _ _ fault depth _ w.out again.0
           (λ x. c.plain_entries_need_units.ensures.entry (g.met.KC.MapCodec.plain, refl) depth cost x) c.one_reading-2.ensures again.1 stops;

@@ -21,10 +21,25 @@ returns-in-Ok-read_map_field-clause-ok g c q =
     let same : r.entries ≡ t.entries = c.one_reading.ensures.run depth c.args.number field r.entries t.entries run t.run in
     w.2.1 q ∙ ap (lookup_entry (eq q)) (sym t.folded ∙ ap (fold_entries eq []) (sym same) ∙ ap (λ m. fold_entries eq m r.entries) (sym c.requires.empty)) ∙ r.folded q
 
+pub returns-in-Ok-read_map_field-clause-order : goal.returns-in-Ok-read_map_field-clause-order
+returns-in-Ok-read_map_field-clause-order g c =
+    let key = g.KC.MapValueDecode.reading in
+    let val = g.VC.MapValueDecode.reading in
+    let eq = g.C.MapStorage.equal in
+    let depth = c.new-ctx.result.depth in
+    let w = c.in-Ok.ensures in
+    let r = c.in-Ok-read_map_field.ensures.ok in
+    let t = c.written_is_read.ensures depth c.args.number w.0 c.requires.number w.3.0 w.4 (c.requires.normal w.0 w.1) w.2.0 in
+    let field = field_text g.KC.MapCodec.writing g.VC.MapCodec.writing c.args.number w.0 in
+    let text : c.as_slice-rest.result.now ≡ field = c.as_slice-rest.ensures.value ∙ w.3.1 ∙ ap (λ z. z ++ field) c.new-text.ensures.items in
+    let run : Run key val depth c.args.number field r.entries = subst (λ (b : List ℕ). Run key val depth c.args.number b r.entries) text r.run in
+    let same : r.entries ≡ t.entries = c.one_reading.ensures.run depth c.args.number field r.entries t.entries run t.run in
+    (w.0, w.1, λ keeps. r.order keeps ∙ ap (λ m. fold_entries eq m r.entries) c.requires.empty ∙ ap (fold_entries eq []) same ∙ t.folded)
+
 pub returns-in-Err-clause-err : goal.returns-in-Err-clause-err
 returns-in-Err-clause-err g c =
     let w = c.in-Err.ensures in
-    (w.0, w.1, unwritten g.KC.MapCodec.writing g.VC.MapCodec.writing (g.KC.MapValueDecode.COST + g.VC.MapValueDecode.COST) c.args.number _ _ w.0 c.in-Err.error w.3)
+    (w.0, w.1, unwritten g.KC.MapCodec.writing g.VC.MapCodec.writing (g.KC.MapValueDecode.COST + g.VC.MapValueDecode.COST) c.args.number _ _ w.0 c.in-Err.error _ w.3 w.5)
 
 pub returns-clause-err : goal.returns-clause-err
 returns-clause-err g c =

@@ -1,20 +1,22 @@
-use Rattle.std.proofs.Common.{◌≡◌, ◌≢◌, ◌++◌, ◌<◌, ◌∙◌, ℕ, List, length, length-append, arith, ap, subst, sym}
+use Rattle.std.proofs.Common.{◌≡◌, ◌≢◌, [], refl, Err, ◌++◌, ◌<◌, ◌∙◌, ℕ, List, length, length-append, arith, ap, subst, sym}
 use Rattle.std.proofs.lemmas.Result.{err_from_is_err_and}
 use Rattle.buffa_bytes.specs.declared.error.DecodeError.TheVariants.{OutOfMemory}
 use Rattle.buffa_bytes.specs.Field.{TakesTag}
+use Rattle.buffa_bytes.specs.Join.Join.{none}
 use Rattle.buffa_bytes.specs.Reading.{tag_at}
 use Rattle.buffa_bytes.proofs.StepLemmas.{agree_ok}
 use Rattle.buffa_bytes.proofs.FieldLemmas.{tag_some, tag_sound}
+use Rattle.buffa_bytes.proofs.FullLemmas.{tag_full}
 use Rattle.buffa_wire.specs.BudgetLeft.{BudgetLeft, PaysAtMost}
 use Rattle.buffa_wire.specs.Message.{MergeFault}
-use Rattle.buffa_wire.proofs.MessageLemmas.{field_costs, field_means, loop_fault, untagged}
+use Rattle.buffa_wire.proofs.MessageLemmas.{field_costs, field_means, front_more, loop_fault, reaches_tag, untagged}
 use Rattle.buffa_samples.proofs.TreeFields.{all_merged, child_merged, label_merged, wire_merged}
 use Rattle.buffa_samples.specs.TreeLaws.{cost_next, merged_fields, merged_next}
 use Rattle.buffa_samples.specs.TreeMeaning.{cost, merged}
 use Rattle.buffa_samples.proofs.tree.+merge.Goals as goal
 
-pub merge_tree-returns-in_err-tag : goal.merge_tree-returns-in_err-tag
-merge_tree-returns-in_err-tag t c =
+pub merge_tree-returns-in_err-tag-clause-merged : goal.merge_tree-returns-in_err-tag-clause-merged
+merge_tree-returns-in_err-tag-clause-merged t c =
     let p = err_from_is_err_and c.from_residual.result c.from_residual.ensures.1 in
     let inv = c.loop-rest.invariant in
     let d = c.args.depth in
@@ -24,6 +26,27 @@ merge_tree-returns-in_err-tag t c =
     rw (p.1, p.2) (loop_fault (merged d c.args.tree.now c.args.bytes.now) (merged d v rest) c.args.budget.now c.loop-rest.budget c.loop-rest.budget
     (cost d c.args.bytes.now) (cost d rest) c.in_err-tag.field-0.0 inv.means inv.unknown inv.memory inv.no_slot inv.no_unit
     ((omega arith, omega arith, omega arith, omega arith), λ ne. untagged merged cost merged_fields merged_next cost_next d v rest c.loop-rest.budget c.in_err-tag.field-0.0 some c.in_err-tag.ensures.reads))
+
+pub merge_tree-returns-in_err-tag-clause-full : goal.merge_tree-returns-in_err-tag-clause-full
+merge_tree-returns-in_err-tag-clause-full t c =
+    let p = err_from_is_err_and c.from_residual.result c.from_residual.ensures.1 in
+    rw (p.1, p.2) (λ h. absurd (tag_full c.loop-rest.rest.now (c.in_err-tag.ensures.reads ∙ ap (λ e. Err e) h)))
+
+pub merge_tree-returns-in_err-merge_tree_field-clause-full : goal.merge_tree-returns-in_err-merge_tree_field-clause-full
+merge_tree-returns-in_err-merge_tree_field-clause-full t c =
+    let p = err_from_is_err_and c.from_residual-in_err-merge_tree_field.result c.from_residual-in_err-merge_tree_field.ensures.1 in
+    let f = c.loop-rest.invariant.front in
+    rw (p.1, p.2) (λ h. reaches_tag c.args.depth f.0 c.args.bytes.now c.loop-rest.rest.now (c.in_ok-tag.tag.number, c.in_ok-tag.tag.wire_type, c.decode.new.buf.now) f.1 f.2 c.in_ok-tag.ensures.reads)
+
+pub merge_tree-loop-rest-init : goal.merge_tree-loop-rest-init
+merge_tree-loop-rest-init t c = record {
+  means = refl;
+  unknown = refl;
+  memory = refl;
+  no_slot = omega arith;
+  no_unit = omega arith;
+  front = ([], none, refl);
+}
 
 pub merge_tree-loop-rest-smaller : goal.merge_tree-loop-rest-smaller
 merge_tree-loop-rest-smaller t c =
@@ -51,10 +74,11 @@ merge_tree-loop-rest-preserved t c =
       memory = omega (arith, inv.memory, one.1.1, ap (λ (z : BudgetLeft). z.memory) costs);
       no_slot = omega (arith, inv.no_slot, one.1.0);
       no_unit = omega (arith, inv.no_unit, one.1.1);
+      front = front_more d inv.front.0 c.args.bytes.now rest u.0 m.0 x n w inv.front.1 inv.front.2 u.1 m.1 split;
     }
 
-pub merge_tree-returns-in_err-merge_tree_field : goal.merge_tree-returns-in_err-merge_tree_field
-merge_tree-returns-in_err-merge_tree_field t c =
+pub merge_tree-returns-in_err-merge_tree_field-clause-merged : goal.merge_tree-returns-in_err-merge_tree_field-clause-merged
+merge_tree-returns-in_err-merge_tree_field-clause-merged t c =
     let p = err_from_is_err_and c.from_residual-in_err-merge_tree_field.result c.from_residual-in_err-merge_tree_field.ensures.1 in
     let inv = c.loop-rest.invariant in
     let d = c.args.depth in
@@ -70,11 +94,11 @@ merge_tree-returns-in_err-merge_tree_field t c =
     rw (p.1, p.2) (loop_fault (merged d c.args.tree.now c.args.bytes.now) (merged d v rest) c.args.budget.now c.loop-rest.budget over
     (cost d c.args.bytes.now) (cost d rest) e inv.means inv.unknown inv.memory inv.no_slot inv.no_unit why)
 
-pub merge_tree-returns : goal.merge_tree-returns
-merge_tree-returns t c =
+pub merge_tree-returns-clause-merged : goal.merge_tree-returns-clause-merged
+merge_tree-returns-clause-merged t c =
     let inv = c.loop-rest.invariant in
-    let none : length c.loop-rest.rest.now ≡ 0 = omega (arith, c.remaining.ensures, c.loop-rest-test.false) in
-    all_merged c.args.depth c.args.tree.now c.loop-rest.tree c.args.bytes.now c.loop-rest.rest.now c.args.budget.now c.loop-rest.budget none inv.means inv.unknown inv.memory
+    let empty : length c.loop-rest.rest.now ≡ 0 = omega (arith, c.remaining.ensures, c.loop-rest-test.false) in
+    all_merged c.args.depth c.args.tree.now c.loop-rest.tree c.args.bytes.now c.loop-rest.rest.now c.args.budget.now c.loop-rest.budget empty inv.means inv.unknown inv.memory
 
 pub merge_tree_field-returns-then-field_number-ne2 : goal.merge_tree_field-returns-then-field_number-ne2
 merge_tree_field-returns-then-field_number-ne2 t c =

@@ -1,4 +1,6 @@
-use Rattle.std.proofs.Common.{◌≡◌, ◌+◌, ◌*◌, ◌≤◌, length}
+use Rattle.std.proofs.Common.{◌≡◌, ◌+◌, ◌*◌, ◌≤◌, ◌++◌, ℕ, List, length}
+use Rattle.buffa_bytes.specs.Field.{SomeField}
+use Rattle.buffa_bytes.specs.Join.{Join}
 use Rattle.buffa_samples.specs.TreeMeaning.{cost, merged}
 use Rattle.buffa_samples.proofs.tree.+merge.Given as goal
 
@@ -23,6 +25,7 @@ invariant-merge_tree-loop-rest l =
       memory : l.budget.memory + all.memory ≡ l.fn.budget.memory + more.memory;
       no_slot : l.budget.unknown ≤ l.fn.budget.unknown;
       no_unit : l.budget.memory ≤ l.fn.budget.memory;
+      front : (f : List ℕ) × Join (SomeField l.fn.depth) f × (l.fn.bytes ≡ f ++ l.rest);
     }
 
 abbrev pub decreases-merge_tree-loop-rest : goal.decreases-merge_tree-loop-rest
