@@ -206,32 +206,33 @@ fn reads_a_run(call: Call) -> bool {
     }
 }
 
-// The byte at a place as a number, or 0.
-fn number_at(bytes: &[u8], place: usize) -> usize
-    ensures { result < 256 }
-{
+// The byte at a place, or 0.
+fn byte_at(bytes: &[u8], place: usize) -> u8 {
     match bytes.get(place) {
-        Some(byte) => usize::from(*byte),
+        Some(byte) => *byte,
         None => 0,
     }
 }
 
 // Whether bytes end where a record does, of records with tags and lengths of one byte.
 fn are_records(bytes: &[u8]) -> bool {
-    let mut end = 0;
-    while end < bytes.len() {
-        end += 2 + number_at(bytes, end + 1);
+    let mut end: usize = 0;
+    for _ in 0..bytes.len() {
+        if end < bytes.len() {
+            let len = usize::from(byte_at(bytes, end.saturating_add(1)));
+            end = end.saturating_add(2).saturating_add(len);
+        }
     }
     end == bytes.len()
 }
 
 // Whether a whole entry, of which the length is spelled in one byte or in two, begins the bytes.
 fn has_entry(bytes: &[u8]) -> bool {
-    let first = number_at(bytes, 0);
+    let first = usize::from(byte_at(bytes, 0));
     let end = if first < 128 {
-        1 + first
+        first.saturating_add(1)
     } else {
-        2 + first % 128
+        (first % 128).saturating_add(2)
     };
     !bytes.is_empty() && end <= bytes.len()
 }
