@@ -38,6 +38,7 @@ module _ {K M : Type 0} (key : Writing K) (text slots : M → List ℕ) (n : ℕ
     length (text p.1),
     field_slots text slots ps ++ rest,
     field_text key (delimited_writing text) n ps,
+    refl,
     ap (λ m. m ∷ (slots p.1 ++ field_slots text slots ps) ++ rest) (told p h.0) ∙ ap (λ z. length (text p.1) ∷ z) (append_assoc (slots p.1) (field_slots text slots ps) rest),
     ap (λ z. z ++ field_text key (delimited_writing text) n ps) (same_record p),
     slots_are_lengths ps rest h.1,

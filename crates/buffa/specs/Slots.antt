@@ -1,5 +1,5 @@
 -- A map field of messages, written by slots. Source: the protobuf encoding guide, "Maps" and "Submessages".
-use Rattle.std.specs.Prelude.{◌≡◌, ℕ, List, [], ◌∷◌, ◌++◌}
+use Rattle.std.specs.Prelude.{◌≡◌, ℕ, List, [], ◌∷◌, ◌++◌, length}
 use Rattle.buffa_bytes.specs.declared.wire_type.WireType.TheVariants.{LengthDelimited}
 use Rattle.buffa_wire.specs.Passes.{IsSmall}
 use Rattle.buffa_wire.specs.Values.{tag_text}
@@ -26,7 +26,7 @@ module _ {K M : Type 0} (key : Writing K) (text slots : M → List ℕ) where
   abbrev pub WrittenBySlots : ℕ → List (K × M) → List ℕ → List ℕ → List ℕ → Type 0
   WrittenBySlots n [] taken bytes rest = (bytes ≡ []) × (taken ≡ rest)
   WrittenBySlots n (p ∷ ps) taken bytes rest =
-      (inner : ℕ) × (more : List ℕ) × (out : List ℕ) × (taken ≡ inner ∷ slots p.1 ++ more)
+      (inner : ℕ) × (more : List ℕ) × (out : List ℕ) × (inner ≡ length (text p.1)) × (taken ≡ inner ∷ slots p.1 ++ more)
       × (bytes ≡ record_by n p inner ++ out) × WrittenBySlots n ps more out rest
 
   -- what is so written by the slots of the pairs is the field's text, and no slot of another is consumed

@@ -5,6 +5,9 @@ use Rattle.buffa_bytes.specs.Unread.{IsTailOf}
 pub tail_whole : (all : List ℕ) → IsTailOf all all
 tail_whole all = record { past = 0; follows = refl }
 
+pub tail_rest : (n : ℕ) (all : List ℕ) → IsTailOf (drop n all) all
+tail_rest n all = record { past = n; follows = refl }
+
 pub tail_dropped : (n : ℕ) (all tail : List ℕ) → tail ≡ drop n all → IsTailOf tail all
 tail_dropped n all tail e = record { past = n; follows = e }
 

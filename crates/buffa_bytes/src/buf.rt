@@ -1,6 +1,6 @@
 //! Bytes in: reading from the front of a buffer.
 
-ghost use Rattle.std.specs.Prelude.{◌≡◌, ℕ, ◌≤◌, List, [], length, drop, IsOk, MatchOption};
+ghost use Rattle.std.specs.Prelude.{◌≡◌, ℕ, ◌<◌, ◌≤◌, List, [], length, drop, IsOk, MatchOption};
 ghost use Rattle.buffa_bytes.specs.Gives.{FullOnlyIf, GivesUnlessFull};
 ghost use Rattle.buffa_bytes.specs.Reading.{taken};
 ghost use Rattle.buffa_bytes.specs.Unread.{IsChunkOf, IsFrontOf, IsTailOf, MayBeCut, MovesUnlessFull};
@@ -48,7 +48,10 @@ impl Buf for &[u8] {
         self.len()
     }
 
-    fn chunk(&self) -> &[u8] {
+    fn chunk(&self) -> &[u8]
+        ensures part { IsChunkOf result.now self.now.now }
+        ensures whole { result.now ≡ self.now.now }
+    {
         *self
     }
 
@@ -65,7 +68,10 @@ impl Buf for Bytes {
         Bytes::len(self)
     }
 
-    fn chunk(&self) -> &[u8] {
+    fn chunk(&self) -> &[u8]
+        ensures part { IsChunkOf result.now self.now }
+        ensures whole { result.now ≡ self.now }
+    {
         self.as_slice()
     }
 
@@ -75,12 +81,14 @@ impl Buf for Bytes {
 }
 
 // Moves the first `len` bytes, which are there, behind those of `bytes`.
-#[tactic(auto, using(crate::proofs::TailLemmas::tail_whole, crate::proofs::TailLemmas::tail_dropped))]
+#[tactic(auto, using(crate::proofs::TailLemmas::tail_whole, crate::proofs::TailLemmas::tail_dropped, crate::proofs::TailLemmas::tail_rest))]
 fn move_bytes<B: Buf>(buf: &mut B, len: usize, bytes: &mut Vec<u8>) -> Result<(), DecodeError>
     requires { len ≤ length (B.unread buf.old) }
     ensures moved { MovesUnlessFull result len (B.unread buf.old) (B.unread buf.new) bytes.old.items bytes.new.items }
     ensures kept { B.beyond buf.new ≡ B.beyond buf.old }
     ensures tail { IsTailOf (B.unread buf.new) (B.unread buf.old) }
+    ensures within { IsTailOf (drop len (B.unread buf.old)) (B.unread buf.new) }
+    ensures none { len ≡ 0 → IsOk result }
 {
     let mut left = len;
     while left > 0 {
@@ -123,10 +131,13 @@ pub fn front<B: Buf>(buf: &B, len: u64) -> Option<&[u8]>
 /// let mut rest: &[u8] = b"abc";
 /// let front = copy_bytes(alloc, &mut rest, 2)?; // "ab", and `rest` is "c"
 /// ```
-#[tactic(auto, using(crate::proofs::TailLemmas::tail_whole), unfolding(crate::specs::Reading::taken))]
+#[tactic(auto, using(crate::proofs::TailLemmas::tail_whole, crate::proofs::TailLemmas::tail_rest), unfolding(crate::specs::Reading::taken))]
 pub fn copy_bytes<B: Buf>(alloc: Global, buf: &mut B, len: u64) -> Result<Vec<u8>, DecodeError>
     ensures reads { GivesUnlessFull (λ bytes. (bytes.items, B.unread buf.new)) result (taken len (B.unread buf.old)) }
     ensures full { FullOnlyIf result (IsOk (taken len (B.unread buf.old))) }
+    ensures free { len ≡ 0 → IsOk result }
+    ensures short { length (B.unread buf.old) < len → B.unread buf.new ≡ B.unread buf.old }
+    ensures within { IsTailOf (drop len (B.unread buf.old)) (B.unread buf.new) }
     ensures kept { B.beyond buf.new ≡ B.beyond buf.old }
     ensures tail { IsTailOf (B.unread buf.new) (B.unread buf.old) }
 {

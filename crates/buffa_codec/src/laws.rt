@@ -9,7 +9,12 @@ ghost use Rattle.buffa_wire.specs.Found.{fixed32_in, fixed64_in, varint_in};
 ghost use Rattle.buffa_wire.specs.Records.{Datum, bytes as held_bytes};
 ghost use Rattle.buffa_codec.specs.Costs.{StaysWithin};
 ghost use Rattle.buffa_codec.specs.Packed.{numbers_in};
-ghost use Rattle.buffa_codec.specs.Reading.{HasByte};
+ghost use Rattle.buffa_codec.specs.Reading.{Has, HasByte, HasLast, TakesElement};
+ghost use Rattle.std.specs.Prelude.{◌++◌};
+ghost use Rattle.std.specs.Option.{option_or};
+ghost use Rattle.std.specs.Int.{cast_unsigned, from_bool, w32, w64};
+ghost use Rattle.buffa_bytes.specs.Scalars.{zigzag};
+ghost use Rattle.buffa_wire.specs.Records.{varint, fixed32, fixed64};
 ghost use Rattle.buffa_codec.specs.Reading.{LaterWins, ReadAlike, ReadingsJoin, bytes_held, full, last_read};
 ghost use Rattle.buffa_codec.specs.Reading.{CoversAll, Each, ReadsList, first_refusal, packed_record, string_held};
 ghost use Rattle.buffa_bytes.specs.declared.wire_type.WireType.{WireType};
@@ -32,6 +37,35 @@ use buffa_wire::{Enumeration, Form};
 /// Later records win, where one of them is read at all.
 pub fn later_records_win<C: LastWins>()
     ensures { LaterWins (C.one 100 full) }
+{}
+
+/// One value is read of the last record that is read at all; and reading takes memory only for that one.
+pub fn the_last_record_is_read<C: LastWins>()
+    ensures reads { (ds : List Datum) (o : Option C.Value.Meaning) → ⟦<C as ExtensionCodec>⟧.reads ds o
+        ↔ (o ≡ last_read (C.one 100 full) ds) }
+    ensures later { (s r : List Datum) (o p q : Option C.Value.Meaning) → ⟦<C as ExtensionCodec>⟧.reads (s ++ r) o →
+        ⟦<C as ExtensionCodec>⟧.reads s p → ⟦<C as ExtensionCodec>⟧.reads r q → o ≡ option_or q p }
+    ensures records { (v : C.Value.Meaning) → ⟦<C as ExtensionCodec>⟧.recs v ≡ C.text v ∷ [] }
+    ensures memory { (ds : List Datum) → ⟦<C as ExtensionCodec>⟧.takes ds ↔ HasLast C.takes (C.one 100 full) ds }
+    ensures in_room { (v : C.Value.Meaning) → ⟦<C as ExtensionCodec>⟧.in_room v ↔ C.made_free v }
+    ensures holds { (v : C.Value.Meaning) (o : Option C.Value.Meaning) → ⟦<C as ExtensionCodec>⟧.holds v o
+        ↔ (o ≡ Some (C.back v)) }
+{}
+
+/// The record of each scalar.
+pub fn scalars_are_written()
+    ensures int32 { (v : ℤ) → ⟦<Int32 as SingularCodec>⟧.text v ≡ varint (cast_unsigned w64 v) }
+    ensures int64 { (v : ℤ) → ⟦<Int64 as SingularCodec>⟧.text v ≡ varint (cast_unsigned w64 v) }
+    ensures uint32 { (v : ℕ) → ⟦<Uint32 as SingularCodec>⟧.text v ≡ varint v }
+    ensures uint64 { (v : ℕ) → ⟦<Uint64 as SingularCodec>⟧.text v ≡ varint v }
+    ensures sint32 { (v : ℤ) → ⟦<Sint32 as SingularCodec>⟧.text v ≡ varint (zigzag v) }
+    ensures sint64 { (v : ℤ) → ⟦<Sint64 as SingularCodec>⟧.text v ≡ varint (zigzag v) }
+    ensures bool { (v : Bool) → ⟦<BoolScalar as SingularCodec>⟧.text v ≡ varint (from_bool v) }
+    ensures fixed32 { (v : ℕ) → ⟦<Fixed32 as SingularCodec>⟧.text v ≡ fixed32 v }
+    ensures fixed64 { (v : ℕ) → ⟦<Fixed64 as SingularCodec>⟧.text v ≡ fixed64 v }
+    ensures sfixed32 { (v : ℤ) → ⟦<Sfixed32 as SingularCodec>⟧.text v ≡ fixed32 (cast_unsigned w32 v) }
+    ensures sfixed64 { (v : ℤ) → ⟦<Sfixed64 as SingularCodec>⟧.text v ≡ fixed64 (cast_unsigned w64 v) }
+    ensures back { ((v : ℤ) → ⟦<Int32 as SingularCodec>⟧.back v ≡ v) × ((v : ℕ) → ⟦<Uint32 as SingularCodec>⟧.back v ≡ v) }
 {}
 
 /// The values of joined records are the joined values.
@@ -123,6 +157,10 @@ pub fn texts_are_read()
         × (⟦<BytesCodec as SingularCodec>⟧.packed bs ≡ []) }
     ensures memory { (d : Datum) → (⟦<StringCodec as SingularCodec>⟧.takes d ↔ HasByte (string_held d))
         × (⟦<BytesCodec as SingularCodec>⟧.takes d ↔ HasByte (bytes_held d)) }
+    ensures holds { (v : List ℕ) (o : Option (List ℕ)) → (⟦<StringCodec as ExtensionCodec>⟧.holds v o ↔ (o ≡ Some v))
+        × (⟦<BytesCodec as ExtensionCodec>⟧.holds v o ↔ (o ≡ Some v)) }
+    ensures free { (v : List ℕ) → (⟦<StringCodec as SingularCodec>⟧.made_free v ↔ (v ≡ []))
+        × (⟦<BytesCodec as SingularCodec>⟧.made_free v ↔ (v ≡ [])) }
 {}
 
 /// Lists are read of all records of their number, from one pair of default budgets, the packed ones too. They
@@ -145,4 +183,9 @@ pub fn lists_are_read<C: SingularCodec, P: PackableCodec>()
         ↔ (os ≡ map C.back vs) }
     ensures packed_holds { (vs os : List P.Value.Meaning) → ⟦<PackedRepeated<P> as ExtensionCodec>⟧.holds vs os
         ↔ (os ≡ map P.back vs) }
+    ensures in_room { (vs : List C.Value.Meaning) → ⟦<Repeated<C> as ExtensionCodec>⟧.in_room vs ↔ Each C.made_free vs }
+    ensures memory { (ds : List Datum) → ⟦<Repeated<C> as ExtensionCodec>⟧.takes ds
+        ↔ Has (TakesElement C.takes (C.one 100) C.packed) ds }
+    ensures packed_memory { (ds : List Datum) → ⟦<PackedRepeated<P> as ExtensionCodec>⟧.takes ds
+        ↔ Has (TakesElement P.takes (P.one 100) P.packed) ds }
 {}

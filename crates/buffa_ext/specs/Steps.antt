@@ -15,6 +15,11 @@ abbrev pub after_one : List (ℕ × Datum) → Change → List (ℕ × Datum)
 after_one rs (set n ds) = without n rs ++ tagged n ds
 after_one rs (clear n) = without n rs
 
+-- the records that a change puts in
+abbrev pub put_in : Change → List Datum
+put_in (set n ds) = ds
+put_in (clear n) = []
+
 -- the records that changes leave, one after the other
 abbrev pub after : List (ℕ × Datum) → List Change → List (ℕ × Datum)
 after rs [] = rs

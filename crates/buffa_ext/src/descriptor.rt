@@ -67,7 +67,9 @@ impl<V, F: Fn(Global) -> Result<V, AllocError>> Declared<V> for Make<F> {
 }
 
 impl<F: Copy> Clone for Make<F> {
-    fn clone(&self) -> Result<Make<F>, AllocError> {
+    fn clone(&self) -> Result<Make<F>, AllocError>
+        ensures { result ≡ Ok self.now }
+    {
         let make = self.make;
         Ok(Make { make })
     }
@@ -90,7 +92,9 @@ pub struct Extension<C: ExtensionCodec, D = NoDefault> {
 }
 
 impl<C: ExtensionCodec, D: Copy> Clone for Extension<C, D> {
-    fn clone(&self) -> Result<Extension<C, D>, AllocError> {
+    fn clone(&self) -> Result<Extension<C, D>, AllocError>
+        ensures { result ≡ Ok self.now }
+    {
         let default = self.default;
         Ok(Extension {
             number: self.number,

@@ -9,11 +9,13 @@ ghost use Rattle.buffa_wire.specs.Records.{Datum, bytes as held_bytes, records_o
 ghost use Rattle.buffa_codec.specs.Reading.{Covers, bytes_held, full};
 ghost use Rattle.buffa_codec.specs.Sub.{sub};
 ghost use Rattle.buffa_ext.specs.Messages.{StaysWithin, group_held, group_of, group_refusal, message_of, texts_in};
+ghost use Rattle.buffa_ext.specs.Messages.{LeavesOf, cost_all};
+ghost use Rattle.buffa_wire.specs.BudgetLeft.{BudgetLeft};
 ghost use Rattle.buffa_ext.specs.Steps.{Change, ClearsAreOne, LeavesOthers, SecondCounts, StandsLast, after, history};
 
 use crate::message::{GroupCodec, MessageCodec};
 use crate::record::MessageRecord;
-use buffa_codec::ExtensionCodec;
+use buffa_codec::{ExtensionCodec, SingularCodec};
 use buffa_wire::{Message, MessageSpec};
 
 /// The records of a number after changes are what its last change says.
@@ -52,6 +54,21 @@ pub fn messages_are_read<M: Message>()
         Covers full (plus (M.cost 100 (M.text v)) nothing) → ⟦<MessageCodec<M> as ExtensionCodec>⟧.normal v }
     ensures holds { (v : M.Meaning) (o : Option M.Meaning) → ⟦<MessageCodec<M> as ExtensionCodec>⟧.holds v o
         ↔ (o ≡ Some v) }
+    ensures group_holds { (v : M.Meaning) (o : Option M.Meaning) → ⟦<GroupCodec<M> as ExtensionCodec>⟧.holds v o
+        ↔ (o ≡ Some v) }
+    ensures one { (n : ℕ) (b : BudgetLeft) (d : Datum) → ⟦<MessageCodec<M> as SingularCodec>⟧.one n b d
+        ≡ message_of (M.merged n) (M.cost n) M.blank_is b (texts_in bytes_held (d ∷ [])) }
+    ensures one_group { (n : ℕ) (b : BudgetLeft) (d : Datum) → ⟦<GroupCodec<M> as SingularCodec>⟧.one n b d
+        ≡ message_of (M.merged n) (M.cost n) M.blank_is b (texts_in group_held (d ∷ [])) }
+    ensures spends { (n : ℕ) (b left : BudgetLeft) (d : Datum) → ⟦<MessageCodec<M> as SingularCodec>⟧.leaves n b d left
+        ↔ LeavesOf (⟦<MessageCodec<M> as SingularCodec>⟧.one n b d) b (cost_all (M.cost n) (texts_in bytes_held (d ∷ []))) left }
+    ensures costs { (d : Datum) → (⟦<MessageCodec<M> as SingularCodec>⟧.cost d
+        ≡ cost_all (M.cost 100) (texts_in bytes_held (d ∷ []))) × (⟦<GroupCodec<M> as SingularCodec>⟧.cost d
+        ≡ cost_all (M.cost 100) (texts_in group_held (d ∷ []))) }
+    ensures text { (v : M.Meaning) → (⟦<MessageCodec<M> as SingularCodec>⟧.text v ≡ held_bytes (M.text v))
+        × (⟦<GroupCodec<M> as SingularCodec>⟧.text v ≡ group_of (M.text v)) }
+    ensures unpacked { (bs : List ℕ) → (⟦<MessageCodec<M> as SingularCodec>⟧.packed bs ≡ [])
+        × (⟦<GroupCodec<M> as SingularCodec>⟧.packed bs ≡ []) }
     ensures too_large { (v : M.Meaning) → 2 ^ 31 ≤ length (M.text v) →
         (⟦<MessageCodec<M> as ExtensionCodec>⟧.refusal v ≡ Some MessageTooLarge)
         × (⟦<GroupCodec<M> as ExtensionCodec>⟧.refusal v ≡ Some MessageTooLarge) }

@@ -1,6 +1,6 @@
 //! Messages that keep extensions.
 
-ghost use Rattle.std.specs.Prelude.{◌≡◌, ◌≢◌, ◌↔◌, ◌≤◌, ◌+◌, IsTrue, ℕ, List, [], length, Option};
+ghost use Rattle.std.specs.Prelude.{◌≡◌, ◌≢◌, ◌↔◌, ◌≤◌, ◌+◌, IsTrue, ℕ, List, [], length, Option, None};
 ghost use Rattle.std.specs.Prelude.{OnOk, OnErr, IfOk, IsOk};
 ghost use Rattle.std.specs.Borrow.{sem, Lends};
 ghost use Rattle.buffa_wire.specs.Records.{Held};
@@ -173,7 +173,8 @@ pub trait ExtensionSet {
         D: Declared<V>,
     >(&self, alloc: Global, ext: &Extension<C, D>) -> Result<V, AllocError>
         requires extendee { ext.now.extendee.now ≡ fqn }
-        requires callable { D.can_declare ext.now.default }
+        requires callable { C.reads (sub ext.now.number (fields_of self.now).records) (C.answer None) →
+            D.can_declare ext.now.default }
         ensures value { IfOk result (λ v. let records = sub ext.now.number (fields_of self.now).records in
             IsDefaulted (λ o. C.reads records (C.answer o)) (D.may_declare ext.now.default) (V.meaning v
             ≡ V.blank_is) v) }
@@ -194,4 +195,7 @@ pub trait ExtensionSet {
 
     /// Its own unknown fields change nothing.
     ghost with_fields_of: { (m : Self) → with_fields m (fields_of m) ≡ m };
+
+    /// Of two lists that are put in the second counts.
+    ghost with_fields_twice: { (m : Self) (w u : Held) → with_fields (with_fields m w) u ≡ with_fields m u };
 }

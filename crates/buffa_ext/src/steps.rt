@@ -3,7 +3,8 @@
 ghost use Rattle.std.specs.Prelude.{◌≡◌, ◌≢◌, ◌<◌, [], length, map, take, OnOk, OnErr, IfErr, IfOk};
 ghost use Rattle.buffa_wire.specs.View.{datum_of};
 ghost use Rattle.buffa_codec.specs.Sub.{tagged};
-ghost use Rattle.buffa_ext.specs.Steps.{RefusedAt, TakesMemory, after, after_one};
+ghost use Rattle.buffa_ext.specs.Steps.{RefusedAt, TakesMemory, after, after_one, put_in};
+ghost use Rattle.std.specs.Prelude.{◌≤◌, ◌+◌};
 ghost use Rattle.buffa_ext.specs.Changes.{change_of};
 
 use crate::stage::{remove, replace};
@@ -53,7 +54,8 @@ fn staged(
 // Takes one step, or leaves everything as it was.
 fn replay_one(alloc: Global, fields: &mut UnknownFields, step: Step) -> Result<(), AllocError>
     ensures ok { OnOk result (fields.new.records ≡ after_one fields.old.records (change_of step)) }
-    ensures err { OnErr result (fields.new.records ≡ fields.old.records) }
+    ensures err { OnErr result (fields.new ≡ fields.old) }
+    ensures room { fields.old.spare ≤ fields.new.spare + length (put_in (change_of step)) }
     ensures memory { OnErr result (TakesMemory (change_of step)) }
 {
     match step {

@@ -46,6 +46,8 @@ impl ExtensionSet for Carrier {
     ghost fields_of_with = { λ m w. refl };
 
     ghost with_fields_of = { λ m. refl };
+
+    ghost with_fields_twice = { λ m w u. refl };
 }
 
 // A carrier of the records that the bytes are.

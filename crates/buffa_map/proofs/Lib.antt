@@ -22,3 +22,4 @@ pub mod RewriteLemmas
 pub mod RewriteCallLemmas
 pub mod PlainLemmas
 pub mod WalkLemmas
+pub mod PinLemmas

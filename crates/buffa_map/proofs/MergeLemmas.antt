@@ -1,6 +1,6 @@
 -- An entry that was merged, or refused, at each place where reading it ends.
 use Rattle.std.specs.Prelude.{IsOk}
-use Rattle.std.proofs.Common.{arith, ◌≡◌, ◌≢◌, ◌+◌, ◌<◌, ◌≤◌, ◌++◌, ◌⊎◌, inl, inr, ℕ, true, false, List, [], Ok, Err, ap, append-nil, refl, sym, take}
+use Rattle.std.proofs.Common.{arith, ◌≡◌, ◌≢◌, ◌+◌, ◌<◌, ◌≤◌, ◌++◌, ◌⊎◌, inl, inr, ℕ, true, false, List, [], Ok, Err, ap, append-nil, refl, subst, sym, take}
 use Rattle.buffa_bytes.specs.declared.error.DecodeError.{DecodeError}
 use Rattle.buffa_bytes.specs.declared.error.DecodeError.TheVariants.{ElementMemoryLimitExceeded, OutOfMemory, UnexpectedEof, UnknownFieldLimitExceeded}
 use Rattle.buffa_wire.specs.BudgetLeft.{BudgetLeft, Lacks}
@@ -15,6 +15,8 @@ use Rattle.buffa_map.specs.Pairs.{InOrder, SamePairs, put}
 use Rattle.buffa_map.specs.declared.map_entry.MapEntry.{MapEntry}
 use Rattle.buffa_map.proofs.TailLemmas.{cut_front, cut_short, delimited_tail, one_rest}
 use Rattle.buffa_bytes.specs.Unread.{IsTailOf}
+use Rattle.buffa_bytes.proofs.TailLemmas.{tail_whole}
+use Rattle.buffa_wire.specs.Field.{TakesDelimited}
 use Rattle.buffa_map.proofs.NeedLemmas.{entry_charged, entry_found, entry_refused, entry_short, entry_slotless, no_length}
 
 module _ {K V : Type 0} (r : Rules K V) (pairs : List (K × V)) (records : List (ℕ × Datum)) (left : BudgetLeft) (bs : List ℕ) where
@@ -24,8 +26,9 @@ module _ {K V : Type 0} (r : Rules K V) (pairs : List (K × V)) (records : List 
   abbrev fields_need : List ℕ → BudgetLeft
   fields_need e = need_at r.key r.val r.depth (blanks r.key r.val r.depth) e
 
-  pub no_entry : (unread : List ℕ) (f : DecodeError) → IsTailOf unread bs → (f ≢ OutOfMemory → delimited_at bs ≡ Err f) → (f ≡ OutOfMemory → IsOk (delimited_at bs)) → RefusesEntry r (state pairs records left) bs (state pairs records left) unread f
-  no_entry unread f tail h full = record {
+  pub no_entry : (unread : List ℕ) (f : DecodeError) → IsTailOf unread bs → (f ≢ OutOfMemory → delimited_at bs ≡ Err f) → (f ≡ OutOfMemory → IsOk (delimited_at bs)) → ((e rest : List ℕ) → TakesDelimited bs e rest → IsTailOf rest unread) → RefusesEntry r (state pairs records left) bs (state pairs records left) unread f
+  no_entry unread f tail h full near = record {
+    within = near;
     fault = λ ne. entry_short r.key r.val r.depth r.cost r.slot left bs f (h ne);
     memory = full;
     tail = tail;
@@ -63,6 +66,7 @@ module _ {K V : Type 0} (r : Rules K V) (pairs : List (K × V)) (records : List 
           memory = λ out. rw is refl;
           tail = delimited_tail bs e rest is;
           past = λ ne x after t. one_rest bs e rest x after is t;
+          within = λ x after t. subst (λ z. IsTailOf z rest) (one_rest bs e rest x after is t) (tail_whole rest);
           pairs = refl;
           records = refl;
           units = parts_units over.memory h.units;
@@ -120,6 +124,7 @@ module _ {K V : Type 0} (r : Rules K V) (pairs : List (K × V)) (records : List 
             memory = λ out. rw is refl;
             tail = delimited_tail bs e rest is;
             past = λ ne x after t. one_rest bs e rest x after is t;
+            within = λ x after t. subst (λ z. IsTailOf z rest) (one_rest bs e rest x after is t) (tail_whole rest);
             pairs = refl;
             records = same;
             units = inr (omega (arith, h.pays, unit), omega (arith, h.pays, unit, units));
@@ -132,5 +137,5 @@ module _ {K V : Type 0} (r : Rules K V) (pairs : List (K × V)) (records : List 
 
   -- a cut entry is refused
   pub bad_cut : (n : ℕ) (mid unread : List ℕ) (over : BudgetLeft) (f : DecodeError) → varint_at bs ≡ Ok (n, mid) → IsTailOf mid bs → RefusesCut r.key r.val r.depth r.cost n mid left over unread f → RefusesEntry r (state pairs records left) bs (state pairs records over) unread f
-  bad_cut n mid unread over f len tail (inl (few, eof, same, kept)) = rw (same, kept, eof) (no_entry mid UnexpectedEof tail (λ ne. cut_short n bs mid len few) (λ out. cc))
+  bad_cut n mid unread over f len tail (inl (few, eof, same, kept)) = rw (same, kept, eof) (no_entry mid UnexpectedEof tail (λ ne. cut_short n bs mid len few) (λ out. cc) (λ e rest t. no_length r.key r.val r.depth bs UnexpectedEof (cut_short n bs mid len few) e rest t))
   bad_cut n mid unread over f len tail (inr (fits, follows, parts)) = bad_parts (take n mid) unread (cut_front n bs mid unread len fits follows) over f parts

@@ -28,7 +28,7 @@ module _ {K V : Type 0} (rk : Reading K) (rv : Reading V) (key : Writing K) (val
   is_kept : kept ≡ undeclared_records n read.entries
   is_kept = read.keeps ∙ ap (λ z. z ++ added (λ m e. (m, bytes e) ∷ []) n read.entries) empty ∙ added_records n read.entries
 
-  pub rewrites : (u : Unit {0}) → WritesWalk eq key val KeyFits ValFits n pairs kept old before {T = Unit {0}} (Ok u) new after →
+  pub rewrites : (u : Unit {0}) → WritesWalk eq keeps key val KeyFits ValFits n pairs kept old before {T = Unit {0}} (Ok u) new after →
       RewritesRun (keeping rk rv eq keeps d n cost) key val KeyFits ValFits left bs pairs over rest old new before after
   rewrites u w = record {
     entries = read.entries;
@@ -37,13 +37,14 @@ module _ {K V : Type 0} (rk : Reading K) (rv : Reading V) (key : Writing K) (val
     folded = read.folded;
     order = read.order;
     rewrite = (w.walk, (w.once.0, λ q. read.folded q ∙ w.once.1 q), w.text.0, w.fits, refl);
+    ordered = λ k. ap (λ (z : List (K × V)). field_text key val n z ++ records_text (undeclared_records n read.entries)) (w.order k ∙ read.order k);
     text = w.text.1 ∙ ap (λ z. old ++ (field_text key val n w.walk ++ records_text z)) is_kept;
     room = subst (λ z. before ≤ after + length (field_text key val n w.walk ++ records_text z)) is_kept w.room;
     paid = read.paid;
     whole = read.whole;
   }
 
-  pub refuses : (e : EncodeError) → WritesWalk eq key val KeyFits ValFits n pairs kept old before {T = Unit {0}} (Err e) new after →
+  pub refuses : (e : EncodeError) → WritesWalk eq keeps key val KeyFits ValFits n pairs kept old before {T = Unit {0}} (Err e) new after →
       RefusesOutput (keeping rk rv eq keeps d n cost) key val left bs pairs over rest old new before e
   refuses e w = record {
     entries = read.entries;
@@ -52,6 +53,7 @@ module _ {K V : Type 0} (rk : Reading K) (rv : Reading V) (key : Writing K) (val
     folded = read.folded;
     order = read.order;
     once = (w.once.0, λ q. read.folded q ∙ w.once.1 q);
+    walked = λ k. w.order k ∙ read.order k;
     text = subst (λ (z : List (ℕ × Datum)). RefusesRewrite key val n z old new w.walk e) is_kept w.text;
     room = subst (λ z. e ≡ OutOfMemory → before < length (field_text key val n w.walk ++ records_text z)) is_kept w.room;
     paid = read.paid;

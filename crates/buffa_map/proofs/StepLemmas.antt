@@ -86,6 +86,7 @@ module _ {K V : Type 0} (r : Rules K V) (old : State K V) (bs : List ℕ) where
       tail = tail;
       past_tag = past.0;
       past = λ ne mid e after is t. absurd (past.1 mid is);
+      within = λ mid e after is t. absurd (past.1 mid is);
     }
 
     pub stop_tag : (unread : List ℕ) (f : DecodeError) → IsTailOf unread rest → 0 < length rest → tag_at rest ≡ Err f → StopsRun r old bs now unread f
@@ -129,6 +130,7 @@ module _ {K V : Type 0} (r : Rules K V) (old : State K V) (bs : List ℕ) where
               tail = tail_more rest mid unread k.tail (tag_tail rest mid g w tag);
               past_tag = λ h v m is other. absurd (elim other [ inl n ↦ n (one_number rest m mid h r.number v w is (tag ∙ ap (λ z. Ok (z, w, mid)) same)) | inr n ↦ n (one_wire rest m mid h r.number v LengthDelimited is found) ]);
               past = λ ne m e after is t. k.past ne e after (subst (λ z. TakesDelimited z e after) (one_after rest m mid r.number r.number LengthDelimited LengthDelimited is found) t);
+              within = λ m e after is t. k.within e after (subst (λ z. TakesDelimited z e after) (one_after rest m mid r.number r.number LengthDelimited LengthDelimited is found) t);
             }
 
         pub one_more : IsEquivalence r.same → (new : State K V) (after : List ℕ) → MergesEntry r now mid new after → Reached new after

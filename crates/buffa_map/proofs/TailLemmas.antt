@@ -1,8 +1,8 @@
 -- Where readers leave what is unread.
-use Rattle.std.proofs.Common.{◌≡◌, ℕ, List, [], ◌++◌, Result, Ok, Err, length, take, drop, ap, append_assoc, refl, sym, ◌∙◌, ◌<◌, ◌≤◌}
+use Rattle.std.proofs.Common.{◌≡◌, ℕ, List, [], ◌++◌, Result, Ok, Err, length, take, drop, ap, append_assoc, refl, subst, sym, ◌∙◌, ◌<◌, ◌≤◌}
 use Rattle.std.proofs.lemmas.Bool.{lt-ltb}
 use Rattle.std.proofs.Math.Seq.{drop-append_seam}
-use Rattle.buffa_bytes.proofs.DelimitedLemmas.{delimited_sound, delimited_taken}
+use Rattle.buffa_bytes.proofs.DelimitedLemmas.{delimited_sound, delimited_taken, taken_sound}
 use Rattle.buffa_bytes.proofs.FieldLemmas.{tag_sound}
 use Rattle.buffa_bytes.proofs.StepLemmas.{agree_ok}
 use Rattle.buffa_bytes.proofs.TailLemmas.{tail_dropped}
@@ -51,6 +51,12 @@ rest_of (Err e) = []
 pub one_rest : (bs e rest x after : List ℕ) → delimited_at bs ≡ Ok (e, rest) → TakesDelimited bs x after → rest ≡ after
 unfolding rest_of
 one_rest bs e rest x after h t = ap rest_of (sym h ∙ delimited_taken bs x after t)
+
+-- what follows so many bytes of what is unread, where a length and so many bytes were there
+pub near_rest : (n : ℕ) (bs mid unread e rest : List ℕ) → delimited_at bs ≡ taken n mid → TakesDelimited bs e rest → IsTailOf (drop n mid) unread → IsTailOf rest unread
+near_rest n bs mid unread e rest same t near =
+    let k = agree_ok (taken n mid) (e, rest) (taken_sound n mid) (sym same ∙ delimited_taken bs e rest t) in
+    subst (λ z. IsTailOf z unread) (ap (λ z. drop z mid) (sym k.0) ∙ ap (drop (length e)) k.1 ∙ drop-append_seam e rest) near
 
 number_of : Result (ℕ × WireType × List ℕ) DecodeError → ℕ
 number_of (Ok t) = t.0

@@ -18,3 +18,4 @@ pub mod Enums
 pub mod Rewrite
 pub mod EnumLaws
 pub mod Laws
+pub mod Pinned

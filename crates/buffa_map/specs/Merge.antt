@@ -73,6 +73,7 @@ pub record RefusesEntry {K V : Type 0} (r : Rules K V) (old : State K V) (bytes 
   pub memory : f ≡ OutOfMemory → IsOk (delimited_at bytes)
   pub tail : IsTailOf unread bytes
   pub past : f ≢ OutOfMemory → (e rest : List ℕ) → TakesDelimited bytes e rest → unread ≡ rest
+  pub within : (e rest : List ℕ) → TakesDelimited bytes e rest → IsTailOf rest unread
   pub pairs : new.pairs ≡ old.pairs
   pub records : new.records ≡ old.records
   pub units : (new.left.memory ≡ old.left.memory)
@@ -130,4 +131,5 @@ pub record StopsRun {K V : Type 0} (r : Rules K V) (old : State K V) (bytes : Li
   pub tail : IsTailOf unread rest
   pub past_tag : (g : ℕ) (w : WireType) (mid : List ℕ) → tag_at rest ≡ Ok (g, w, mid) → (g ≢ r.number) ⊎ (w ≢ LengthDelimited) → unread ≡ mid
   pub past : f ≢ OutOfMemory → (mid e after : List ℕ) → tag_at rest ≡ Ok (r.number, LengthDelimited, mid) → TakesDelimited mid e after → unread ≡ after
+  pub within : (mid e after : List ℕ) → tag_at rest ≡ Ok (r.number, LengthDelimited, mid) → TakesDelimited mid e after → IsTailOf after unread
   pub no_slot : f ≢ OutOfMemory → over.unknown ≤ new.left.unknown + (record_need r.key r.val r.depth rest).unknown

@@ -84,12 +84,13 @@ module _ {K V : Type 0} (key : Writing K) (val : Writing V) (n : ℕ) (kept : Li
   WritesRewrite r l = MatchResult r (λ _. HasText key val l × (new ≡ old ++ (field_text key val n l ++ records_text kept))) (RefusesRewrite l)
 
 -- a map was walked once, and its text and the kept records' were written, or refused; what had room wasn't
-pub record WritesWalk {K V : Type 0} (eq : K → K → Bool) (key : Writing K) (val : Writing V) (KeyFits : K → Type 0) (ValFits : V → Type 0) (n : ℕ) (pairs : List (K × V)) (kept : List (ℕ × Datum)) (old : List ℕ) (before : ℕ) {T : Type 0} (r : Result T EncodeError) (new : List ℕ) (after : ℕ) : Type 0 where
+pub record WritesWalk {K V : Type 0} (eq : K → K → Bool) (keeps : Bool) (key : Writing K) (val : Writing V) (KeyFits : K → Type 0) (ValFits : V → Type 0) (n : ℕ) (pairs : List (K × V)) (kept : List (ℕ × Datum)) (old : List ℕ) (before : ℕ) {T : Type 0} (r : Result T EncodeError) (new : List ℕ) (after : ℕ) : Type 0 where
   pub walk : List (K × V)
   pub once : ListsOnce eq pairs walk
   pub text : WritesRewrite key val n kept old new r walk
   pub fits : OnOk r (AllHold KeyFits ValFits walk)
   pub room : UsesRoomOf r before (field_text key val n walk ++ records_text kept) after
+  pub order : InOrder keeps pairs walk
 
 -- ---- what a rewrite does
 
@@ -102,6 +103,7 @@ pub record RewritesRun {K V : Type 0} (r : Rules K V) (key : Writing K) (val : W
   pub order : InOrder r.keeps_order (fold_entries r.same [] entries) new
   pub rewrite : IsRewrite r.same key val KeyFits ValFits r.number entries out
   pub text : written ≡ old ++ out
+  pub ordered : r.keeps_order ≡ true → out ≡ field_text key val r.number (fold_entries r.same [] entries) ++ records_text (undeclared_records r.number entries)
   pub room : before ≤ after + length out
   pub paid : Paid r.key r.val r.depth r.cost r.slot left entries over
   pub whole : rest ≡ []
@@ -119,6 +121,7 @@ pub record RefusesOutput {K V : Type 0} (r : Rules K V) (key : Writing K) (val :
   pub folded : SamePairs r.same (fold_entries r.same [] entries) new
   pub order : InOrder r.keeps_order (fold_entries r.same [] entries) new
   pub once : ListsOnce r.same (fold_entries r.same [] entries) walk
+  pub walked : InOrder r.keeps_order (fold_entries r.same [] entries) walk
   pub text : RefusesRewrite key val r.number (undeclared_records r.number entries) old written walk e
   pub room : e ≡ OutOfMemory → before < length (field_text key val r.number walk ++ records_text (undeclared_records r.number entries))
   pub paid : Paid r.key r.val r.depth r.cost r.slot left entries over

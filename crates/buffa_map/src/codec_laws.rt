@@ -1,12 +1,18 @@
 //! Which codec each of them is.
 
-ghost use Rattle.std.specs.Prelude.{◌≡◌, [], None, Some};
+ghost use Rattle.std.specs.Prelude.{◌≡◌, [], None, Some, false, true};
 ghost use Rattle.buffa_wire.specs.Enums.{numbers};
 ghost use Rattle.buffa_map.specs.Codec.{Codes};
 ghost use Rattle.buffa_map.specs.Enums.{OpenNormal, closed_reading, closed_writing, open_reading, open_writing};
 ghost use Rattle.buffa_map.specs.Message.{message_reading};
 ghost use Rattle.buffa_map.specs.Scalars.{bytes_reading, delimited_writing, number_reading, number_writing};
-ghost use Rattle.buffa_map.specs.Scalars.{string_reading};
+ghost use Rattle.buffa_map.specs.Scalars.{eight_writing, four_writing, string_reading, varint_writing};
+ghost use Rattle.std.specs.Prelude.{pos};
+ghost use Rattle.std.specs.Int.{cast_unsigned, from_bool, w32, w64};
+ghost use Rattle.buffa_bytes.specs.Scalars.{bool_of, int64_of, sfixed32_of, sfixed64_of, sint32_of, sint64_of};
+ghost use Rattle.buffa_bytes.specs.Scalars.{uint32_of, zigzag};
+ghost use Rattle.buffa_bytes.specs.Values.{int32_of};
+ghost use Rattle.buffa_bytes.specs.declared.wire_type.WireType.TheVariants as wire;
 
 use crate::codec::{MapCodec, MapValueDecode};
 use crate::message::Msg;
@@ -14,6 +20,10 @@ use crate::scalars::{
     Bool, BytesBuf, ClosedEnum, Fixed32, Fixed64, Int32, Int64, OpenEnum, ProtoBytesMap,
     ProtoStringMap, Sfixed32, Sfixed64, Sint32, Sint64, Uint32, Uint64,
 };
+use crate::storage::MapStorage;
+use buffa_wire::{Blank, MapKey};
+use indexmap::IndexMap;
+use std::hash::{BuildHasher, Hash};
 use buffa_wire::{Enumeration, Message, ProtoBytes, ProtoString, Scalar};
 
 /// How each codec reads and writes, what a value costs, and the length of its payloads. All values are read
@@ -42,8 +52,46 @@ pub fn codecs_are_these<N: Scalar, T: ProtoString, P: ProtoBytes, E: Enumeration
         ⟦<OpenEnum<E> as MapValueDecode>⟧.COST ⟦<OpenEnum<E> as MapCodec>⟧.FIXED_LEN
         ⟦<OpenEnum<E> as MapCodec>⟧.normal
         (open_reading E.of_number) open_writing 8 None (OpenNormal E.of_number) }
+    ensures undeclared { (⟦<N as MapValueDecode>⟧.MAY_RETURN_UNKNOWN ≡ false)
+        × (⟦<ProtoStringMap<T> as MapValueDecode>⟧.MAY_RETURN_UNKNOWN ≡ false)
+        × (⟦<ProtoBytesMap<P> as MapValueDecode>⟧.MAY_RETURN_UNKNOWN ≡ false)
+        × (⟦<BytesBuf as MapValueDecode>⟧.MAY_RETURN_UNKNOWN ≡ false)
+        × (⟦<ClosedEnum<E> as MapValueDecode>⟧.MAY_RETURN_UNKNOWN ≡ true)
+        × (⟦<OpenEnum<E> as MapValueDecode>⟧.MAY_RETURN_UNKNOWN ≡ false)
+        × (⟦<Msg<M> as MapValueDecode>⟧.MAY_RETURN_UNKNOWN ≡ false) }
     ensures message { (⟦<Msg<M> as MapValueDecode>⟧.reading ≡ message_reading M.blank_is M.merged M.cost)
         × (⟦<Msg<M> as MapValueDecode>⟧.COST ≡ M.COST) }
+{}
+
+/// Which codec each scalar is.
+pub fn scalars_are_these()
+    ensures int32 { (⟦<Int32 as MapValueDecode>⟧.reading ≡ number_reading wire.Varint (pos 0) int32_of)
+        × (⟦<Int32 as MapCodec>⟧.writing ≡ varint_writing (cast_unsigned w64)) }
+    ensures int64 { (⟦<Int64 as MapValueDecode>⟧.reading ≡ number_reading wire.Varint (pos 0) int64_of)
+        × (⟦<Int64 as MapCodec>⟧.writing ≡ varint_writing (cast_unsigned w64)) }
+    ensures uint32 { (⟦<Uint32 as MapValueDecode>⟧.reading ≡ number_reading wire.Varint 0 uint32_of)
+        × (⟦<Uint32 as MapCodec>⟧.writing ≡ varint_writing (λ n. n)) }
+    ensures uint64 { (⟦<Uint64 as MapValueDecode>⟧.reading ≡ number_reading wire.Varint 0 (λ n. n))
+        × (⟦<Uint64 as MapCodec>⟧.writing ≡ varint_writing (λ n. n)) }
+    ensures sint32 { (⟦<Sint32 as MapValueDecode>⟧.reading ≡ number_reading wire.Varint (pos 0) sint32_of)
+        × (⟦<Sint32 as MapCodec>⟧.writing ≡ varint_writing zigzag) }
+    ensures sint64 { (⟦<Sint64 as MapValueDecode>⟧.reading ≡ number_reading wire.Varint (pos 0) sint64_of)
+        × (⟦<Sint64 as MapCodec>⟧.writing ≡ varint_writing zigzag) }
+    ensures bool { (⟦<Bool as MapValueDecode>⟧.reading ≡ number_reading wire.Varint false bool_of)
+        × (⟦<Bool as MapCodec>⟧.writing ≡ varint_writing from_bool) }
+    ensures fixed32 { (⟦<Fixed32 as MapValueDecode>⟧.reading ≡ number_reading wire.Fixed32 0 (λ n. n))
+        × (⟦<Fixed32 as MapCodec>⟧.writing ≡ four_writing (λ n. n)) }
+    ensures fixed64 { (⟦<Fixed64 as MapValueDecode>⟧.reading ≡ number_reading wire.Fixed64 0 (λ n. n))
+        × (⟦<Fixed64 as MapCodec>⟧.writing ≡ eight_writing (λ n. n)) }
+    ensures sfixed32 { (⟦<Sfixed32 as MapValueDecode>⟧.reading ≡ number_reading wire.Fixed32 (pos 0) sfixed32_of)
+        × (⟦<Sfixed32 as MapCodec>⟧.writing ≡ four_writing (cast_unsigned w32)) }
+    ensures sfixed64 { (⟦<Sfixed64 as MapValueDecode>⟧.reading ≡ number_reading wire.Fixed64 (pos 0) sfixed64_of)
+        × (⟦<Sfixed64 as MapCodec>⟧.writing ≡ eight_writing (cast_unsigned w64)) }
+{}
+
+/// An `IndexMap` keeps the order in which its keys came.
+pub fn index_maps_keep_order<K: MapKey + Hash, V: Blank, S: BuildHasher>()
+    ensures { ⟦<IndexMap<K, V, S> as MapStorage>⟧.keeps_order ≡ true }
 {}
 
 /// What a value of each scalar costs, and the length of its payloads, where they have one.

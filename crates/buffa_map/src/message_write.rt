@@ -1,6 +1,6 @@
 //! The text of a map field of messages.
 
-ghost use Rattle.std.specs.Prelude.{◌≡◌, ◌∷◌, length};
+ghost use Rattle.std.specs.Prelude.{◌≡◌, ◌≢◌, ◌∷◌, [], length, OnErr};
 ghost use Rattle.std.specs.List.{Contains};
 ghost use Rattle.std.specs.Map.{values_of};
 ghost use Rattle.buffa_wire.specs.Number.{IsNumber};
@@ -103,8 +103,9 @@ where
         Contains (values_of (C.walk map.now)) (M.meaning x.now) → F.post write x c s r d t →
         IsWritten (M.text (M.meaning x.now)) (M.slots (M.meaning x.now)) c.now (S.written s.now) r d.now
         (S.written t.now) }
-    ensures { IsFieldWritten KC.writing M.text M.slots field_number (C.walk map.now) cache.old (S.written sink.old)
-        result cache.new (S.written sink.new) }
+    ensures written { IsFieldWritten KC.writing M.text M.slots field_number (C.walk map.now) cache.old
+        (S.written sink.old) result cache.new (S.written sink.new) }
+    ensures some { OnErr result (C.walk map.now ≢ []) }
 {
     for (key, value) in map.storage_iter() {
         write_message_record_by::<KC, M, S, F>(field_number, key, value, cache, sink, &write)?;
@@ -135,8 +136,9 @@ where
     KC::Value: 'a,
     requires number { IsNumber field_number }
     requires next { IsNext (field_slots M.text M.slots (C.walk map.now)) cache.old }
-    ensures { IsFieldWritten KC.writing M.text M.slots field_number (C.walk map.now) cache.old (S.written sink.old)
-        result cache.new (S.written sink.new) }
+    ensures written { IsFieldWritten KC.writing M.text M.slots field_number (C.walk map.now) cache.old
+        (S.written sink.old) result cache.new (S.written sink.new) }
+    ensures some { OnErr result (C.walk map.now ≢ []) }
 {
     write_message_field_by::<KC, M, C, S, _>(
         map,

@@ -76,7 +76,7 @@ fn write_with<
     S: EncodeSink,
 >(map: &C, number: u32, kept: &UnknownFields, sink: &mut S) -> Result<(), EncodeError>
     requires { IsNumber number }
-    ensures { WritesWalk C.equal KC.writing VC.writing KC.fits VC.fits number (C.pairs map.now) kept.now.records
+    ensures { WritesWalk C.equal C.keeps_order KC.writing VC.writing KC.fits VC.fits number (C.pairs map.now) kept.now.records
         (S.written sink.old) (S.room sink.old) result (S.written sink.new) (S.room sink.new) }
 {
     map.storage_write::<KC, VC, S>(number, sink)?;

@@ -129,5 +129,6 @@ pub trait MapWrite: MapStorage {
         ensures { (l : List (Self.Key.Meaning × Self.Value.Meaning)) × ListsOnce Self.equal (Self.pairs self.now) l
             × WritesField KC.writing VC.writing number (S.written sink.old) (S.written sink.new) result l
             × OnOk result (AllHold KC.fits VC.fits l)
-            × UsesRoomOf result (S.room sink.old) (field_text KC.writing VC.writing number l) (S.room sink.new) };
+            × UsesRoomOf result (S.room sink.old) (field_text KC.writing VC.writing number l) (S.room sink.new)
+            × InOrder Self.keeps_order (Self.pairs self.now) l };
 }

@@ -46,6 +46,8 @@ impl ExtensionSet for FieldOptions {
     ghost fields_of_with = { λ m w. refl };
 
     ghost with_fields_of = { λ m. refl };
+
+    ghost with_fields_twice = { λ m w u. refl };
 }
 
 /// A custom option of type `int32`, by its number; none where no record says it.

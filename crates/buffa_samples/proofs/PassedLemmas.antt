@@ -37,6 +37,7 @@ module _ {K : Type 0} (rk : Reading K) (rv : Reading ℤ) (key : Writing K) (eq 
     folded = h.folded;
     order = h.order;
     once = h.once;
+    walked = h.walked;
     text = h.text;
     room = λ is. omega (arith, h.room is);
     paid = h.paid;

@@ -24,7 +24,7 @@ module _ {K V : Type 0} (key : Writing K) (val : Writing V) (cost : ℕ) where
   RefusesPairs l (Encode encode.OutOfMemory) = l ≢ []
   RefusesPairs l (Encode (encode.GroupRefused e)) = ⊥
   RefusesPairs l (Decode f) =
-      f ≢ decode.OutOfMemory → (f ≡ decode.ElementMemoryLimitExceeded) × (268435456 < length l * cost)
+      (l ≢ []) × (f ≢ decode.OutOfMemory → (f ≡ decode.ElementMemoryLimitExceeded) × (268435456 < length l * cost))
 
   -- the same of the pairs of some walk
   abbrev pub RefusesTrip : (List (K × V) → Type 0) → TripFault → Type 0

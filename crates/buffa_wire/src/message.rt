@@ -223,6 +223,9 @@ pub trait Message: MessageSpec {
         ensures spent { OnErr result (PaysAtMost ctx.entry.budget.now
             (cost_of_payload Self.cost ctx.entry.depth (delimited_at (B.unread buf.old))) (budget_left ctx.exit)) }
         ensures full { FullOnlyIf result ((0 < ctx.entry.depth) × IsOk (delimited_at (B.unread buf.old))) }
+        ensures outside { (IsOk (delimited_at (B.unread buf.old)) → ⊥) → Self.meaning self.new ≡ Self.meaning self.old }
+        ensures level { ctx.entry.depth ≡ 0 → (Self.meaning self.new ≡ Self.meaning self.old)
+            × (B.unread buf.new ≡ B.unread buf.old) }
         ensures kept { B.beyond buf.new ≡ B.beyond buf.old }
         ensures tail { IsTailOf (B.unread buf.new) (B.unread buf.old) }
     {

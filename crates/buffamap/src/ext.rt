@@ -42,6 +42,8 @@ impl ExtensionSet for Extendee {
     ghost fields_of_with = { λ m w. refl };
 
     ghost with_fields_of = { λ m. refl };
+
+    ghost with_fields_twice = { λ m w u. refl };
 }
 
 // Adds the line on whether a record of the number is there.

@@ -39,6 +39,8 @@ impl ExtensionSet for Parcel {
     ghost fields_of_with = { λ m w. refl };
 
     ghost with_fields_of = { λ m. refl };
+
+    ghost with_fields_twice = { λ m w u. refl };
 }
 
 // What number 1 of a parcel of these bytes is: whether it is there, an int32, a text, and int32s.

@@ -1,6 +1,6 @@
 //! Strings and bytes: a length and so many bytes.
 
-ghost use Rattle.std.specs.Prelude.{◌≡◌, length, string_bytes, IsOk};
+ghost use Rattle.std.specs.Prelude.{◌≡◌, ℕ, List, [], Ok, length, string_bytes, IsOk};
 ghost use Rattle.buffa_bytes.specs.Gives.{FullOnlyIf, GivesUnlessFull};
 ghost use Rattle.buffa_bytes.specs.Reading.{delimited_at};
 ghost use Rattle.buffa_bytes.specs.Texts.{bytes_as, string_as};
@@ -116,6 +116,7 @@ pub fn encode_bytes<S: EncodeSink>(value: &[u8], sink: &mut S) -> Result<(), Enc
 #[tactic(auto, using(crate::proofs::TailLemmas::tail_more))]
 pub fn decode_bytes<B: Buf>(alloc: Global, buf: &mut B) -> Result<Vec<u8>, DecodeError>
     ensures reads { GivesUnlessFull (λ v. (v.items, B.unread buf.new)) result (delimited_at (B.unread buf.old)) }
+    ensures free { (rest : List ℕ) → delimited_at (B.unread buf.old) ≡ Ok ([], rest) → IsOk result }
     ensures full { FullOnlyIf result (IsOk (delimited_at (B.unread buf.old))) }
     ensures kept { B.beyond buf.new ≡ B.beyond buf.old }
     ensures tail { IsTailOf (B.unread buf.new) (B.unread buf.old) }

@@ -85,6 +85,8 @@ pub fn decode_unknown_field<B: Buf>(
     ensures spent { SlotsSpent (1 + bytes_read (B.unread buf.old) (B.unread buf.new))
         ctx.entry.budget.now.unknown (budget_left ctx.exit).unknown }
     ensures end { tag.wire_type ≡ WireType.EndGroup → budget_left ctx.exit ≡ ctx.entry.budget.now }
+    ensures end_stays { tag.wire_type ≡ WireType.EndGroup → B.unread buf.new ≡ B.unread buf.old }
+    ensures no_slot_stays { ctx.entry.budget.now.unknown ≡ 0 → B.unread buf.new ≡ B.unread buf.old }
     ensures kept { B.beyond buf.new ≡ B.beyond buf.old }
     ensures tail { IsTailOf (B.unread buf.new) (B.unread buf.old) }
 {

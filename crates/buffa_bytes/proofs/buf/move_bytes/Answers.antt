@@ -13,6 +13,7 @@ loop-left-preserved g c =
     let within_left : n ≤ p.left = search rules in
     let held : c.extend_from_slice.new.self.items ≡ p.bytes.items ++ take n chunk = search rules in
     record {
+      below = omega (arith, p.invariant.below);
       within = rw c.advance.ensures.rest (omega (arith, length-drop n (u p.buf), p.invariant.within));
       moved = rw (c.advance.ensures.rest, held) (chunk_moved n p.left p.bytes.items chunk (u p.buf) c.chunk-chunk.ensures within_chunk within_left ∙ p.invariant.moved);
       rest = rw c.advance.ensures.rest (chunk_dropped n p.left (u p.buf) within_left ∙ p.invariant.rest);

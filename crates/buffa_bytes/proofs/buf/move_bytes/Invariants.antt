@@ -4,6 +4,7 @@ use Rattle.buffa_bytes.proofs.buf.move_bytes.Given as goal
 
 abbrev pub invariant-loop-left : goal.invariant-loop-left
 invariant-loop-left g l = record {
+  below : l.left ≤ l.len;
   within : l.left ≤ length (g.B.Buf.unread l.buf);
   moved : l.bytes.items ++ take l.left (g.B.Buf.unread l.buf) ≡ l.fn.bytes.items ++ take l.len (g.B.Buf.unread l.fn.buf);
   rest : drop l.left (g.B.Buf.unread l.buf) ≡ drop l.len (g.B.Buf.unread l.fn.buf);

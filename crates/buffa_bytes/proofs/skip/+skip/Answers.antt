@@ -35,6 +35,7 @@ skip_group-returns-in_err-skip_field_depth g t c =
     let p = err_from_is_err_and c.from_residual-in_err-skip_field_depth.result c.from_residual-in_err-skip_field_depth.ensures.1 in
     record {
       reads = rw (p.1, p.2) (group_skip_err _ _ _ _ _ _ c.if-depth-eq0.false c.loop-tag.invariant.read c.in_ok-tag.ensures.reads (λ e. c.in_default.not-EndGroup (c.wire_type.ensures ∙ e)) c.in_err-skip_field_depth.ensures.reads);
+      level = λ k. absurd (c.if-depth-eq0.false k);
       tail = tail_more _ _ _ c.in_err-skip_field_depth.ensures.tail (tail_more _ _ _ c.in_ok-tag.ensures.tail c.loop-tag.invariant.tail);
       kept = c.in_err-skip_field_depth.ensures.kept ∙ c.in_ok-tag.ensures.kept ∙ c.loop-tag.invariant.kept;
     }

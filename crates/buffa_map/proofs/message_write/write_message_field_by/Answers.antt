@@ -1,4 +1,4 @@
-use Rattle.std.proofs.Common.{◌≡◌, List, [], ◌∷◌, ◌++◌, length, sym, ap, ◌∙◌, Some, None, subst}
+use Rattle.std.proofs.Common.{◌≡◌, List, [], ◌∷◌, ◌++◌, length, sym, ap, ◌∙◌, Some, None, subst, arith, length-append}
 use Rattle.std.specs.List.{Contains}
 use Rattle.std.specs.Map.{values_of}
 use Rattle.std.proofs.lemmas.Result.{err_from_is_err_and}
@@ -87,8 +87,19 @@ loop-key-preserved g c =
           c.loop-key.cache c.write_message_record_by.new.cache d (written c.loop-key.sink) (written c.write_message_record_by.new.sink) b (λ z. z) r w h));
     }
 
-pub returns-in_err-write_message_record_by : goal.returns-in_err-write_message_record_by
-returns-in_err-write_message_record_by g c =
+pub returns-in_err-write_message_record_by-clause-some : goal.returns-in_err-write_message_record_by-clause-some
+returns-in_err-write_message_record_by-clause-some g c =
+    let q = err_from_is_err_and c.from_residual.result c.from_residual.ensures.1 in
+    let i = c.loop-key.invariant in
+    let p : g.row.KC-Value.Denot × g.row.M.Denot = (c.in-Some.key.now, c.in-Some.value.now) in
+    let m : g.row.KC-Value-Meaning.Denot × g.row.M-Meaning.Denot = mean g.KC.Value.Blank.meaning g.M.Blank.meaning p in
+    let rest : List (g.row.KC-Value-Meaning.Denot × g.row.M-Meaning.Denot) = means g.KC.Value.Blank.meaning g.M.Blank.meaning (g.C.MapWalk.left c.next.new.self) in
+    let step : g.C.MapWalk.left c.loop-key.key-iterator ≡ p ∷ g.C.MapWalk.left c.next.new.self = c.storage_iter-key-items.ensures.steps c.loop-key.key-iterator (Some (c.in-Some.key, c.in-Some.value)) c.next.new.self c.in-Some.ensures.steps in
+    let e = i.within.1 ∙ ap (λ (z : List (g.row.KC-Value.Denot × g.row.M.Denot)). i.within.0 ++ means g.KC.Value.Blank.meaning g.M.Blank.meaning z) step in
+    rw q.1 (λ none. absurd (omega (arith, ap length none, ap length e, length-append i.within.0 (m ∷ rest))))
+
+pub returns-in_err-write_message_record_by-clause-written : goal.returns-in_err-write_message_record_by-clause-written
+returns-in_err-write_message_record_by-clause-written g c =
     let q = err_from_is_err_and c.from_residual.result c.from_residual.ensures.1 in
     let key = g.KC.MapCodec.writing in
     let text = g.M.MessageSpec.text in
@@ -113,8 +124,8 @@ returns-in_err-write_message_record_by g c =
     (written_short (IsSmallPair key text m) (IsSmallField key text rest) (IsSmallField key text (m ∷ rest)) (record_text key (delimited_writing text) number m) (field_text key (delimited_writing text) number rest) slot (field_slots text slots rest)
     c.loop-key.cache c2 c2 (written c.loop-key.sink) b2 b2 (λ z. z.0) _ w)))
 
-pub returns : goal.returns
-returns g c =
+pub returns-clause-written : goal.returns-clause-written
+returns-clause-written g c =
     let key = g.KC.MapCodec.writing in
     let text = g.M.MessageSpec.text in
     let slots = g.M.MessageSpec.slots in

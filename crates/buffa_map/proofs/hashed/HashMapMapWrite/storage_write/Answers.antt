@@ -27,6 +27,7 @@ returns-in_err-write_record g c =
       rw q.1 tt,
       sent_no_room g.K.Blank.meaning g.V.Blank.meaning g.KC.MapCodec.writing g.VC.MapCodec.writing c.args.number g.KC.MapCodec.fits g.VC.MapCodec.fits _ _ _ q.1 q.2
           c.loop-key.key-iterator c.next.new.self c.in-Some.key.now c.in-Some.value.now c.in-Some.ensures.steps _ _ _ c.loop-key.invariant c.in_err-write_record.ensures.room,
+      λ never. cc,
     )
 
 pub returns : goal.returns
@@ -37,4 +38,5 @@ returns g c =
       s.0,
       s.1,
       s.2,
+      λ never. cc,
     )

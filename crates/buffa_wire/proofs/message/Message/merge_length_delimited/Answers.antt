@@ -1,3 +1,4 @@
+use Rattle.std.proofs.Common.{refl}
 use Rattle.std.proofs.lemmas.Result.{err_from_is_err_and}
 use Rattle.buffa_bytes.proofs.FullLemmas.{varint_no_full}
 use Rattle.buffa_wire.proofs.InsideLemmas.{delimited_front, inside_fault, inside_full, inside_ok, inside_spent}
@@ -22,6 +23,9 @@ pub returns-in-Some-clause-spent : goal.returns-in-Some-clause-spent
 returns-in-Some-clause-spent g c =
     inside_spent g.Self.MessageSpec.merged g.Self.MessageSpec.cost c.args.ctx.depth _ _ _ _ _ _ _ c.merge-merged.result c.if-depth-eq0.false
     (delimited_front _ _ _ _ c.in_ok-len.ensures.reads c.in-Some.ensures) c.merge-merged.ensures.merged
+
+pub returns-in-Some-clause-outside : goal.returns-in-Some-clause-outside
+returns-in-Some-clause-outside g c = λ no. absurd (no (rw (delimited_front _ _ _ _ c.in_ok-len.ensures.reads c.in-Some.ensures) refl))
 
 pub returns-in-Some-clause-full : goal.returns-in-Some-clause-full
 returns-in-Some-clause-full g c =

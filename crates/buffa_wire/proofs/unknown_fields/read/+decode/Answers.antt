@@ -96,6 +96,8 @@ decode_unknown_field-returns-in_err-take_slot g t c =
       full = rw (p.1, p.2) (λ k. let w = c.in_err-take_slot.ensures.which in cc);
       spent = none_spent _ _ _ (ap (λ (b : BudgetLeft). b.unknown) c.in_err-take_slot.ensures.err.1);
       end = λ k. c.in_err-take_slot.ensures.err.1;
+      end_stays = λ k. refl {a = g.B.Buf.unread c.args.buf.now};
+      no_slot_stays = λ k. refl {a = g.B.Buf.unread c.args.buf.now};
       tail = tail_whole _;
       kept = refl {a = g.B.Buf.beyond c.args.buf.now};
     }
@@ -110,6 +112,8 @@ decode_unknown_field-returns-in_err-fields g t c =
       full = rw (p.1, p.2) (λ k. (omega (arith, c.in_ok-take_slot.ensures.ok.0), takes_group _ _ _ c.in-StartGroup.is (c.in_err-fields.ensures.full k)));
       spent = field_spent _ _ _ _ c.in_ok-take_slot.ensures.ok.0 c.in_err-fields.ensures.spent;
       end = λ k. absurd (c.in_default.not-EndGroup k);
+      end_stays = λ k. absurd (c.in_default.not-EndGroup k);
+      no_slot_stays = λ k. absurd (omega (arith, c.in_ok-take_slot.ensures.ok.0, k));
       tail = c.in_err-fields.ensures.tail;
       kept = c.in_err-fields.ensures.kept;
     }
@@ -122,6 +126,8 @@ decode_unknown_field-returns-in-StartGroup g t c = record {
   full = tt;
   spent = field_spent _ _ _ _ c.in_ok-take_slot.ensures.ok.0 c.in_ok-fields.ensures.spent;
   end = λ k. absurd (c.in_default.not-EndGroup k);
+  end_stays = λ k. absurd (c.in_default.not-EndGroup k);
+  no_slot_stays = λ k. absurd (omega (arith, c.in_ok-take_slot.ensures.ok.0, k));
   tail = c.in_ok-fields.ensures.tail;
   kept = c.in_ok-fields.ensures.kept;
 }
@@ -136,6 +142,8 @@ decode_unknown_field-returns-in_err-payload g t c =
       full = rw (p.1, p.2) (λ k. (omega (arith, c.in_ok-take_slot.ensures.ok.0), takes_at _ _ _ _ c.in_default-wire_type.not-StartGroup (c.in_err-payload.ensures.full k)));
       spent = one_spent _ _ _ c.in_ok-take_slot.ensures.ok.0;
       end = λ k. absurd (c.in_default.not-EndGroup k);
+      end_stays = λ k. absurd (c.in_default.not-EndGroup k);
+      no_slot_stays = λ k. absurd (omega (arith, c.in_ok-take_slot.ensures.ok.0, k));
       tail = c.in_err-payload.ensures.tail;
       kept = c.in_err-payload.ensures.kept;
     }
@@ -148,6 +156,8 @@ decode_unknown_field-returns g t c = record {
   full = tt;
   spent = one_spent _ _ _ c.in_ok-take_slot.ensures.ok.0;
   end = λ k. absurd (c.in_default.not-EndGroup k);
+  end_stays = λ k. absurd (c.in_default.not-EndGroup k);
+  no_slot_stays = λ k. absurd (omega (arith, c.in_ok-take_slot.ensures.ok.0, k));
   tail = c.in_ok-payload.ensures.tail;
   kept = c.in_ok-payload.ensures.kept;
 }
