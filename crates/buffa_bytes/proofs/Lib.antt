@@ -13,4 +13,5 @@ pub mod PieceLemmas
 pub mod ScalarLemmas
 pub mod TextLemmas
 pub mod TailLemmas
+pub mod LeftLemmas
 pub mod FullLemmas

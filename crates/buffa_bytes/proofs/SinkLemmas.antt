@@ -10,11 +10,11 @@ use Rattle.buffa_bytes.specs.Written.{UsesRoom, Writes, WritesFront}
 
 -- a front of the first is a front of both
 pub front_first : (old a b new : List ℕ) → WritesFront old a new → WritesFront old (a ++ b) new
-front_first old a b new h = (h.0, h.1 ++ b, ap (λ t. t ++ b) h.2 ∙ append_assoc h.0 h.1 b, h.3)
+front_first old a b new h = (h.0, h.1 ++ b, ap (λ t. t ++ b) h.2 ∙ append_assoc h.0 h.1 b, h.3, omega (arith, h.4, length-append h.1 b))
 
 -- after the first, a front of the second
 pub front_second : (old a b mid new : List ℕ) → mid ≡ old ++ a → WritesFront mid b new → WritesFront old (a ++ b) new
-front_second old a b mid new e h = (a ++ h.0, h.1, ap (λ t. a ++ t) h.2 ∙ sym (append_assoc a h.0 h.1), h.3 ∙ ap (λ t. t ++ h.0) e ∙ append_assoc old a h.0)
+front_second old a b mid new e h = (a ++ h.0, h.1, ap (λ t. a ++ t) h.2 ∙ sym (append_assoc a h.0 h.1), h.3 ∙ ap (λ t. t ++ h.0) e ∙ append_assoc old a h.0, h.4)
 
 -- both
 pub writes_then : {T : Type 0} (r : Result T EncodeError) (old a b mid new : List ℕ) → mid ≡ old ++ a → Writes r mid b new → Writes r old (a ++ b) new

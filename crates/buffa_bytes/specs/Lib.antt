@@ -9,6 +9,7 @@ pub mod Join
 pub mod Number
 pub mod Field
 pub mod Reading
+pub mod Left
 pub mod Content
 pub mod Values
 pub mod Scalars

@@ -4,11 +4,11 @@ use Rattle.std.specs.Result.{MatchResult}
 use Rattle.buffa_bytes.specs.declared.error.EncodeError.{EncodeError}
 use Rattle.buffa_bytes.specs.declared.error.EncodeError.TheVariants.{OutOfMemory}
 
--- a beginning of the text was written
+-- a beginning of the text was written, and not all of it
 abbrev pub WritesFront : List ℕ → List ℕ → List ℕ → Type 0
-WritesFront old text new = (front : List ℕ) × (rest : List ℕ) × (text ≡ front ++ rest) × (new ≡ old ++ front)
+WritesFront old text new = (front : List ℕ) × (rest : List ℕ) × (text ≡ front ++ rest) × (new ≡ old ++ front) × (0 < length rest)
 
--- the text was written, or memory ran out after a beginning of it
+-- the text was written, or memory ran out before all of it was
 abbrev pub Writes : {T : Type 0} → Result T EncodeError → List ℕ → List ℕ → List ℕ → Type 0
 Writes r old text new = MatchResult r (λ _. new ≡ old ++ text) (λ e. (e ≡ OutOfMemory) × WritesFront old text new)
 

@@ -21,7 +21,7 @@ pub trait EncodeSink {
     /// Appends `b`.
     ///
     /// # Errors
-    /// [`EncodeError::OutOfMemory`] alone, where `b` doesn't fit for sure; a beginning of `b` stands then.
+    /// [`EncodeError::OutOfMemory`] alone, where `b` doesn't fit for sure; a beginning of `b`, and not all, stands then.
     fn put_slice(&mut self, b: &[u8]) -> Result<(), EncodeError>
         ensures writes { Writes result (written self.old) b.now (written self.new) }
         ensures room { UsesRoom result (room self.old) b.now (room self.new) };

@@ -1,7 +1,8 @@
 //! Passing over a field that is not looked at.
 
-ghost use Rattle.std.specs.Prelude.{◌≡◌, ◌<◌, length};
+ghost use Rattle.std.specs.Prelude.{◌≡◌, ◌≢◌, ◌<◌, length, OnErr};
 ghost use Rattle.buffa_bytes.specs.Gives.{Gives};
+ghost use Rattle.buffa_bytes.specs.Left.{past_no_payload};
 ghost use Rattle.buffa_bytes.specs.Reading.{past, skip_at, group_at};
 ghost use Rattle.buffa_bytes.specs.Unread.{IsTailOf};
 
@@ -45,6 +46,8 @@ fn skip_bytes<B: Buf>(buf: &mut B, n: u64) -> Result<(), DecodeError>
 pub fn skip_field_depth<B: Buf>(tag: Tag, buf: &mut B, depth: u32) -> Result<(), DecodeError>
     ensures reads { Gives (λ _. B.unread buf.new) result (skip_at depth tag.number tag.wire_type (B.unread buf.old)) }
     ensures end_stays { tag.wire_type ≡ WireType.EndGroup → B.unread buf.new ≡ B.unread buf.old }
+    ensures left { tag.wire_type ≢ WireType.StartGroup →
+        OnErr result (B.unread buf.new ≡ past_no_payload tag.wire_type (B.unread buf.old)) }
     ensures level { tag.wire_type ≡ WireType.StartGroup → depth ≡ 0 → B.unread buf.new ≡ B.unread buf.old }
     ensures kept { B.beyond buf.new ≡ B.beyond buf.old }
     ensures tail { IsTailOf (B.unread buf.new) (B.unread buf.old) }

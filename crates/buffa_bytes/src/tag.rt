@@ -29,8 +29,9 @@ pub struct Tag {
 }
 
 impl Tag {
-    ghost use Rattle.std.specs.Prelude.{◌≡◌};
+    ghost use Rattle.std.specs.Prelude.{◌≡◌, OnErr};
     ghost use Rattle.buffa_bytes.specs.Gives.{Gives};
+    ghost use Rattle.buffa_bytes.specs.Left.{past_no_tag};
     ghost use Rattle.buffa_bytes.specs.Number.{IsNumber};
     ghost use Rattle.buffa_bytes.specs.Reading.{tag_at};
     ghost use Rattle.buffa_bytes.specs.Values.{tag_text};
@@ -91,11 +92,12 @@ impl Tag {
     /// let mut rest: &[u8] = &[0x2A];
     /// let tag = Tag::decode(&mut rest)?;
     /// ```
-    #[tactic(auto, unfolding(crate::specs::Reading::tag_at, crate::specs::Reading::tag_of))]
+    #[tactic(auto, unfolding(crate::specs::Reading::tag_at, crate::specs::Reading::tag_of, crate::specs::Left::past_no_tag))]
     pub fn decode<B: Buf>(buf: &mut B) -> Result<Tag, DecodeError>
         ensures reads { Gives (λ tag. (tag.number, tag.wire_type, B.unread buf.new)) result
             (tag_at (B.unread buf.old)) }
         ensures kept { B.beyond buf.new ≡ B.beyond buf.old }
+        ensures left { OnErr result (B.unread buf.new ≡ past_no_tag (B.unread buf.old)) }
         ensures tail { IsTailOf (B.unread buf.new) (B.unread buf.old) }
     {
         let value = decode_varint(buf)?;

@@ -1,7 +1,8 @@
 //! Varints: seven bits a byte, the lowest first.
 
-ghost use Rattle.std.specs.Prelude.{◌≡◌, ◌<◌, ◌∷◌, [], length, MatchOption};
+ghost use Rattle.std.specs.Prelude.{◌≡◌, ◌<◌, ◌∷◌, [], length, MatchOption, OnErr};
 ghost use Rattle.buffa_bytes.specs.Gives.{Gives};
+ghost use Rattle.buffa_bytes.specs.Left.{past_no_varint};
 ghost use Rattle.buffa_bytes.specs.Reading.{varint_at};
 ghost use Rattle.buffa_bytes.specs.Varint.{varint_text};
 ghost use Rattle.buffa_bytes.specs.Written.{UsesRoom, Writes};
@@ -46,6 +47,7 @@ pub fn take_byte<B: Buf>(buf: &mut B) -> Option<u8>
 pub fn decode_varint<B: Buf>(buf: &mut B) -> Result<u64, DecodeError>
     ensures reads { Gives (λ n. (n, B.unread buf.new)) result (varint_at (B.unread buf.old)) }
     ensures kept { B.beyond buf.new ≡ B.beyond buf.old }
+    ensures left { OnErr result (B.unread buf.new ≡ past_no_varint (B.unread buf.old)) }
     ensures tail { IsTailOf (B.unread buf.new) (B.unread buf.old) }
 {
     match take_small(buf) {
@@ -76,6 +78,7 @@ fn take_small<B: Buf>(buf: &mut B) -> Option<u8>
 fn decode_digits<B: Buf>(buf: &mut B) -> Result<u64, DecodeError>
     ensures reads { Gives (λ n. (n, B.unread buf.new)) result (varint_at (B.unread buf.old)) }
     ensures kept { B.beyond buf.new ≡ B.beyond buf.old }
+    ensures left { OnErr result (B.unread buf.new ≡ past_no_varint (B.unread buf.old)) }
     ensures tail { IsTailOf (B.unread buf.new) (B.unread buf.old) }
 {
     let mut value: u64 = 0;

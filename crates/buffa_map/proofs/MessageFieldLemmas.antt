@@ -104,11 +104,15 @@ module _ {K M : Type 0} (key : Writing K) (text slots : M → List ℕ) (n : ℕ
       written_behind (IsSmallPair key text p) (IsSmallPair key text p) (record_text key (delimited_writing text) n p) [] (slots p.1) (cap (length (text p.1))) c0 c1 c2 b0 b2 on r same
 
   pub head_short : (e : EncodeError) → (e ≡ OutOfMemory) × WritesFront b0 (head_text key n p.0 inner) b1 → IsRecordWritten key text slots n p c0 b0 (refused e) c1 b1
-  head_short e (m, (front, rest, split, is_new)) = (
+  head_short e (m, (front, rest, split, is_new, more)) = (
     front,
     is_new,
     (
       m,
-      λ s. (rest ++ text p.1, sym (head_then key text p inner is n s.0 s.1) ∙ ap (λ z. z ++ text p.1) split ∙ append_assoc front rest (text p.1)),
+      λ s. (
+        rest ++ text p.1,
+        sym (head_then key text p inner is n s.0 s.1) ∙ ap (λ z. z ++ text p.1) split ∙ append_assoc front rest (text p.1),
+        omega (arith, more, length-append rest (text p.1)),
+      ),
     ),
   )

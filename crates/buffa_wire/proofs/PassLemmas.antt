@@ -69,6 +69,7 @@ module _ (P Q R : Type 0) (t u s z : List ℕ) (c0 c1 c2 : Cache) (b0 b1 b2 : Li
         ap (λ (a : List ℕ). t ++ a) (w.1 (f h).1).1
             ∙ ap (λ (a : List ℕ). a ++ (ys ++ (w.1 (f h).1).0)) (sym (q.1 (f h).0))
             ∙ sym (append_assoc xs ys (w.1 (f h).1).0),
+        (w.1 (f h).1).2,
       ),
     ),
   )
@@ -80,7 +81,11 @@ module _ (P Q R : Type 0) (t u s z : List ℕ) (c0 c1 c2 : Cache) (b0 b1 b2 : Li
     p,
     (
       q.0,
-      λ h. ((q.1 (f h)).0 ++ u, ap (λ (a : List ℕ). a ++ u) (q.1 (f h)).1 ∙ append_assoc xs (q.1 (f h)).0 u),
+      λ h. (
+        (q.1 (f h)).0 ++ u,
+        ap (λ (a : List ℕ). a ++ u) (q.1 (f h)).1 ∙ append_assoc xs (q.1 (f h)).0 u,
+        omega (arith, (q.1 (f h)).2, length-append (q.1 (f h)).0 u),
+      ),
     ),
   )
 
@@ -92,13 +97,13 @@ written_err P t s c0 c1 b0 b1 r e f p q h = subst (λ r. WritesIf P t s c0 b0 r 
 -- a text that needs no slot
 pub written_put : (P : Type 0) (t : List ℕ) (c : Cache) (b0 b1 : List ℕ) (r : Result (Unit {0}) EncodeError) → Writes r b0 t b1 → WritesIf P t [] c b0 r c b1
 written_put P t c b0 b1 (Ok _) h = (t, h, ((λ i. record { slots = c.slots; next = sym (add-zero c.next) i }), λ _. refl))
-written_put P t c b0 b1 (Err e) (is, (front, rest, split, h)) = (front, h, (is, λ _. (rest, split)))
+written_put P t c b0 b1 (Err e) (is, (front, rest, split, h, more)) = (front, h, (is, λ _. (rest, split, more)))
 
 -- a text that is another one where the premise holds, behind a slot that was consumed
 module _ (P Q : Type 0) (t u s : List ℕ) (slot : ℕ) (c0 c1 c2 : Cache) (b0 b1 : List ℕ) where
   pub written_same : (Q → P) → (Q → t ≡ u) → (r : Result (Unit {0}) EncodeError) → WritesIf P t s c0 b0 r c1 b1 → WritesIf Q u s c0 b0 r c1 b1
   written_same f g (Ok _) (xs, p, q) = (xs, p, (q.0, λ h. q.1 (f h) ∙ g h))
-  written_same f g (Err e) (xs, p, q) = (xs, p, (q.0, λ h. ((q.1 (f h)).0, sym (g h) ∙ (q.1 (f h)).1)))
+  written_same f g (Err e) (xs, p, q) = (xs, p, (q.0, λ h. ((q.1 (f h)).0, sym (g h) ∙ (q.1 (f h)).1, (q.1 (f h)).2)))
 
   on_one : c1 ≡ advanced 1 c0 → c2 ≡ advanced (length s) c1 → c2 ≡ advanced (length (slot ∷ s)) c0
   on_one on p =

@@ -25,12 +25,12 @@ IsSized text slots old r new =
 abbrev pub IsNext : List ℕ → Cache → Type 0
 IsNext slots c = (rest : List ℕ) × (left c ≡ slots ++ rest)
 
--- bs begins the text
+-- bs begins the text, and isn't all of it
 abbrev pub Begins : List ℕ → List ℕ → Type 0
-Begins bs text = (rest : List ℕ) × (text ≡ bs ++ rest)
+Begins bs text = (rest : List ℕ) × (text ≡ bs ++ rest) × (0 < length rest)
 
 -- the write pass over it: the sink's old bytes stay first, and these slots are consumed; where the premise holds the
--- text is written, or a beginning of it if memory runs out
+-- text is written, or a beginning of it, and not all, if memory runs out
 abbrev pub WritesIf : {T : Type 0} → Type 0 → List ℕ → List ℕ → Cache → List ℕ → Result T EncodeError → Cache → List ℕ → Type 0
 WritesIf small text slots old before r new after =
     (bs : List ℕ) × (after ≡ before ++ bs)

@@ -1,6 +1,6 @@
 //! Scalars of four and of eight bytes, the lowest first.
 
-ghost use Rattle.std.specs.Prelude.{◌≡◌, length};
+ghost use Rattle.std.specs.Prelude.{◌≡◌, length, OnErr};
 ghost use Rattle.buffa_bytes.specs.Gives.{Gives};
 ghost use Rattle.buffa_bytes.specs.Reading.{taken};
 ghost use Rattle.buffa_bytes.specs.Scalars.{fixed32_at, fixed32_text, fixed64_at, fixed64_text, sfixed32_at};
@@ -23,6 +23,7 @@ pub const FIXED64_ENCODED_LEN: usize = 8;
 fn take_into<B: Buf>(buf: &mut B, bytes: &mut [u8]) -> Result<(), DecodeError>
     ensures reads { Gives (λ _. (bytes.new, B.unread buf.new)) result (taken (length bytes.old) (B.unread buf.old)) }
     ensures kept { B.beyond buf.new ≡ B.beyond buf.old }
+    ensures left { OnErr result (B.unread buf.new ≡ B.unread buf.old) }
     ensures tail { IsTailOf (B.unread buf.new) (B.unread buf.old) }
 {
     if buf.remaining() < bytes.len() {
@@ -67,6 +68,7 @@ pub fn encode_fixed32<S: EncodeSink>(value: u32, sink: &mut S) -> Result<(), Enc
 pub fn decode_fixed32<B: Buf>(buf: &mut B) -> Result<u32, DecodeError>
     ensures reads { Gives (λ v. (v, B.unread buf.new)) result (fixed32_at (B.unread buf.old)) }
     ensures kept { B.beyond buf.new ≡ B.beyond buf.old }
+    ensures left { OnErr result (B.unread buf.new ≡ B.unread buf.old) }
     ensures tail { IsTailOf (B.unread buf.new) (B.unread buf.old) }
 {
     let mut bytes = [0; 4];
@@ -101,6 +103,7 @@ pub fn encode_fixed64<S: EncodeSink>(value: u64, sink: &mut S) -> Result<(), Enc
 pub fn decode_fixed64<B: Buf>(buf: &mut B) -> Result<u64, DecodeError>
     ensures reads { Gives (λ v. (v, B.unread buf.new)) result (fixed64_at (B.unread buf.old)) }
     ensures kept { B.beyond buf.new ≡ B.beyond buf.old }
+    ensures left { OnErr result (B.unread buf.new ≡ B.unread buf.old) }
     ensures tail { IsTailOf (B.unread buf.new) (B.unread buf.old) }
 {
     let mut bytes = [0; 8];
@@ -135,6 +138,7 @@ pub fn encode_sfixed32<S: EncodeSink>(value: i32, sink: &mut S) -> Result<(), En
 pub fn decode_sfixed32<B: Buf>(buf: &mut B) -> Result<i32, DecodeError>
     ensures reads { Gives (λ v. (v, B.unread buf.new)) result (sfixed32_at (B.unread buf.old)) }
     ensures kept { B.beyond buf.new ≡ B.beyond buf.old }
+    ensures left { OnErr result (B.unread buf.new ≡ B.unread buf.old) }
     ensures tail { IsTailOf (B.unread buf.new) (B.unread buf.old) }
 {
     let mut bytes = [0; 4];
@@ -169,6 +173,7 @@ pub fn encode_sfixed64<S: EncodeSink>(value: i64, sink: &mut S) -> Result<(), En
 pub fn decode_sfixed64<B: Buf>(buf: &mut B) -> Result<i64, DecodeError>
     ensures reads { Gives (λ v. (v, B.unread buf.new)) result (sfixed64_at (B.unread buf.old)) }
     ensures kept { B.beyond buf.new ≡ B.beyond buf.old }
+    ensures left { OnErr result (B.unread buf.new ≡ B.unread buf.old) }
     ensures tail { IsTailOf (B.unread buf.new) (B.unread buf.old) }
 {
     let mut bytes = [0; 8];

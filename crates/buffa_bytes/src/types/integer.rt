@@ -1,7 +1,8 @@
 //! Scalars that are varints.
 
-ghost use Rattle.std.specs.Prelude.{◌≡◌, length};
+ghost use Rattle.std.specs.Prelude.{◌≡◌, length, OnErr};
 ghost use Rattle.buffa_bytes.specs.Gives.{Gives};
+ghost use Rattle.buffa_bytes.specs.Left.{past_no_varint};
 ghost use Rattle.buffa_bytes.specs.Scalars.{bool_at, bool_text, int32_at, int32_text, int64_at, int64_text};
 ghost use Rattle.buffa_bytes.specs.Scalars.{sint32_at, sint32_text, sint64_at, sint64_text, uint32_at, uint32_text};
 ghost use Rattle.buffa_bytes.specs.Scalars.{uint64_at, uint64_text};
@@ -55,6 +56,7 @@ pub fn encode_int32<S: EncodeSink>(value: i32, sink: &mut S) -> Result<(), Encod
 pub fn decode_int32<B: Buf>(buf: &mut B) -> Result<i32, DecodeError>
     ensures reads { Gives (λ v. (v, B.unread buf.new)) result (int32_at (B.unread buf.old)) }
     ensures kept { B.beyond buf.new ≡ B.beyond buf.old }
+    ensures left { OnErr result (B.unread buf.new ≡ past_no_varint (B.unread buf.old)) }
     ensures tail { IsTailOf (B.unread buf.new) (B.unread buf.old) }
 {
     let number = decode_varint(buf)?;
@@ -100,6 +102,7 @@ pub fn encode_int64<S: EncodeSink>(value: i64, sink: &mut S) -> Result<(), Encod
 pub fn decode_int64<B: Buf>(buf: &mut B) -> Result<i64, DecodeError>
     ensures reads { Gives (λ v. (v, B.unread buf.new)) result (int64_at (B.unread buf.old)) }
     ensures kept { B.beyond buf.new ≡ B.beyond buf.old }
+    ensures left { OnErr result (B.unread buf.new ≡ past_no_varint (B.unread buf.old)) }
     ensures tail { IsTailOf (B.unread buf.new) (B.unread buf.old) }
 {
     let number = decode_varint(buf)?;
@@ -144,6 +147,7 @@ pub fn encode_uint32<S: EncodeSink>(value: u32, sink: &mut S) -> Result<(), Enco
 pub fn decode_uint32<B: Buf>(buf: &mut B) -> Result<u32, DecodeError>
     ensures reads { Gives (λ v. (v, B.unread buf.new)) result (uint32_at (B.unread buf.old)) }
     ensures kept { B.beyond buf.new ≡ B.beyond buf.old }
+    ensures left { OnErr result (B.unread buf.new ≡ past_no_varint (B.unread buf.old)) }
     ensures tail { IsTailOf (B.unread buf.new) (B.unread buf.old) }
 {
     let number = decode_varint(buf)?;
@@ -188,6 +192,7 @@ pub fn encode_uint64<S: EncodeSink>(value: u64, sink: &mut S) -> Result<(), Enco
 pub fn decode_uint64<B: Buf>(buf: &mut B) -> Result<u64, DecodeError>
     ensures reads { Gives (λ v. (v, B.unread buf.new)) result (uint64_at (B.unread buf.old)) }
     ensures kept { B.beyond buf.new ≡ B.beyond buf.old }
+    ensures left { OnErr result (B.unread buf.new ≡ past_no_varint (B.unread buf.old)) }
     ensures tail { IsTailOf (B.unread buf.new) (B.unread buf.old) }
 {
     decode_varint(buf)
@@ -231,6 +236,7 @@ pub fn encode_sint32<S: EncodeSink>(value: i32, sink: &mut S) -> Result<(), Enco
 pub fn decode_sint32<B: Buf>(buf: &mut B) -> Result<i32, DecodeError>
     ensures reads { Gives (λ v. (v, B.unread buf.new)) result (sint32_at (B.unread buf.old)) }
     ensures kept { B.beyond buf.new ≡ B.beyond buf.old }
+    ensures left { OnErr result (B.unread buf.new ≡ past_no_varint (B.unread buf.old)) }
     ensures tail { IsTailOf (B.unread buf.new) (B.unread buf.old) }
 {
     let number = decode_varint(buf)?;
@@ -275,6 +281,7 @@ pub fn encode_sint64<S: EncodeSink>(value: i64, sink: &mut S) -> Result<(), Enco
 pub fn decode_sint64<B: Buf>(buf: &mut B) -> Result<i64, DecodeError>
     ensures reads { Gives (λ v. (v, B.unread buf.new)) result (sint64_at (B.unread buf.old)) }
     ensures kept { B.beyond buf.new ≡ B.beyond buf.old }
+    ensures left { OnErr result (B.unread buf.new ≡ past_no_varint (B.unread buf.old)) }
     ensures tail { IsTailOf (B.unread buf.new) (B.unread buf.old) }
 {
     let number = decode_varint(buf)?;
@@ -311,6 +318,7 @@ pub fn encode_bool<S: EncodeSink>(value: bool, sink: &mut S) -> Result<(), Encod
 pub fn decode_bool<B: Buf>(buf: &mut B) -> Result<bool, DecodeError>
     ensures reads { Gives (λ v. (v, B.unread buf.new)) result (bool_at (B.unread buf.old)) }
     ensures kept { B.beyond buf.new ≡ B.beyond buf.old }
+    ensures left { OnErr result (B.unread buf.new ≡ past_no_varint (B.unread buf.old)) }
     ensures tail { IsTailOf (B.unread buf.new) (B.unread buf.old) }
 {
     let number = decode_varint(buf)?;

@@ -2,6 +2,7 @@
 
 ghost use Rattle.std.specs.Prelude.{◌≡◌, ℕ, List, [], Ok, length, string_bytes, IsOk};
 ghost use Rattle.buffa_bytes.specs.Gives.{FullOnlyIf, GivesUnlessFull};
+ghost use Rattle.buffa_bytes.specs.Left.{LeavesUnlessFull, past_no_text};
 ghost use Rattle.buffa_bytes.specs.Reading.{delimited_at};
 ghost use Rattle.buffa_bytes.specs.Texts.{bytes_as, string_as};
 ghost use Rattle.buffa_bytes.specs.Values.{delimited_text, string_at};
@@ -59,6 +60,7 @@ pub fn decode_string<B: Buf>(alloc: Global, buf: &mut B) -> Result<String, Decod
     ensures reads { GivesUnlessFull (λ s. (string_bytes s, B.unread buf.new)) result (string_at (B.unread buf.old)) }
     ensures full { FullOnlyIf result (IsOk (delimited_at (B.unread buf.old))) }
     ensures kept { B.beyond buf.new ≡ B.beyond buf.old }
+    ensures left { LeavesUnlessFull result (past_no_text (B.unread buf.old)) (B.unread buf.new) }
     ensures tail { IsTailOf (B.unread buf.new) (B.unread buf.old) }
 {
     let len = decode_varint(buf)?;
@@ -119,6 +121,7 @@ pub fn decode_bytes<B: Buf>(alloc: Global, buf: &mut B) -> Result<Vec<u8>, Decod
     ensures free { (rest : List ℕ) → delimited_at (B.unread buf.old) ≡ Ok ([], rest) → IsOk result }
     ensures full { FullOnlyIf result (IsOk (delimited_at (B.unread buf.old))) }
     ensures kept { B.beyond buf.new ≡ B.beyond buf.old }
+    ensures left { LeavesUnlessFull result (past_no_text (B.unread buf.old)) (B.unread buf.new) }
     ensures tail { IsTailOf (B.unread buf.new) (B.unread buf.old) }
 {
     let len = decode_varint(buf)?;
@@ -138,6 +141,7 @@ pub fn decode_bytes_to_bytes<B: Buf>(alloc: Global, buf: &mut B) -> Result<Bytes
     ensures reads { GivesUnlessFull (λ b. (b, B.unread buf.new)) result (delimited_at (B.unread buf.old)) }
     ensures full { FullOnlyIf result (IsOk (delimited_at (B.unread buf.old))) }
     ensures kept { B.beyond buf.new ≡ B.beyond buf.old }
+    ensures left { LeavesUnlessFull result (past_no_text (B.unread buf.old)) (B.unread buf.new) }
     ensures tail { IsTailOf (B.unread buf.new) (B.unread buf.old) }
 {
     let bytes = decode_bytes(alloc, buf)?;
@@ -167,6 +171,7 @@ pub fn decode_string_to<S: ProtoString, B: Buf>(
         (string_as S.of_text (B.unread buf.old)) }
     ensures full { FullOnlyIf result (IsOk (delimited_at (B.unread buf.old))) }
     ensures kept { B.beyond buf.new ≡ B.beyond buf.old }
+    ensures left { LeavesUnlessFull result (past_no_text (B.unread buf.old)) (B.unread buf.new) }
     ensures tail { IsTailOf (B.unread buf.new) (B.unread buf.old) }
 {
     let len = decode_varint(buf)?;
@@ -196,6 +201,7 @@ pub fn decode_bytes_to<P: ProtoBytes, B: Buf>(alloc: Global, buf: &mut B) -> Res
         (bytes_as P.of_bytes (B.unread buf.old)) }
     ensures full { FullOnlyIf result (IsOk (delimited_at (B.unread buf.old))) }
     ensures kept { B.beyond buf.new ≡ B.beyond buf.old }
+    ensures left { LeavesUnlessFull result (past_no_text (B.unread buf.old)) (B.unread buf.new) }
     ensures tail { IsTailOf (B.unread buf.new) (B.unread buf.old) }
 {
     let len = decode_varint(buf)?;

@@ -1,7 +1,10 @@
-use Rattle.std.proofs.Common.{arith, ◌∙◌, sym}
+use Rattle.std.proofs.Common.{ap, arith, ◌∙◌, sym}
 use Rattle.std.proofs.lemmas.Result.{err_from_is_err_and}
 use Rattle.buffa_bytes.proofs.FieldLemmas.{tag_falls, skip_falls, group_limit, group_tag_err, group_end, group_other, group_skip_err, group_next}
+use Rattle.buffa_bytes.proofs.LeftLemmas.{end_stays, fixed32_stays, fixed64_stays, left_behind_length, left_bytes, left_of_fixed, left_of_length, left_of_text, left_of_varint}
 use Rattle.buffa_bytes.proofs.TailLemmas.{tail_more}
+use Rattle.buffa_bytes.specs.Left.{past_no_payload}
+use Rattle.buffa_bytes.specs.declared.wire_type.WireType.TheVariants.{Fixed32, Fixed64}
 use Rattle.buffa_bytes.proofs.skip.+skip.Goals as goal
 
 pub skip_group-returns-then-depth-eq0-clause-reads : goal.skip_group-returns-then-depth-eq0-clause-reads
@@ -39,3 +42,33 @@ skip_group-returns-in_err-skip_field_depth g t c =
       tail = tail_more _ _ _ c.in_err-skip_field_depth.ensures.tail (tail_more _ _ _ c.in_ok-tag.ensures.tail c.loop-tag.invariant.tail);
       kept = c.in_err-skip_field_depth.ensures.kept ∙ c.in_ok-tag.ensures.kept ∙ c.loop-tag.invariant.kept;
     }
+
+pub skip_field_depth-returns-in_err-decode_varint-in-Varint-clause-left : goal.skip_field_depth-returns-in_err-decode_varint-in-Varint-clause-left
+skip_field_depth-returns-in_err-decode_varint-in-Varint-clause-left g t c = λ _.
+    let p = err_from_is_err_and c.from_residual.result c.from_residual.ensures.1 in
+    left_of_varint p.1 c.args.tag.wire_type (g.B.Buf.unread c.args.buf.now) _ (sym c.in-Varint.ensures) c.in_err-decode_varint-in-Varint.ensures.left
+
+pub skip_field_depth-returns-in_err-len-in-LengthDelimited-clause-left : goal.skip_field_depth-returns-in_err-len-in-LengthDelimited-clause-left
+skip_field_depth-returns-in_err-len-in-LengthDelimited-clause-left g t c = λ _.
+    let p = err_from_is_err_and c.from_residual-in_err-len-in-LengthDelimited.result c.from_residual-in_err-len-in-LengthDelimited.ensures.1 in
+    left_of_length p.1 c.args.tag.wire_type (g.B.Buf.unread c.args.buf.now) _ (sym c.in-LengthDelimited.ensures) c.in_err-len-in-LengthDelimited.ensures.reads c.in_err-len-in-LengthDelimited.ensures.left
+
+pub skip_field_depth-returns-in-Fixed64-clause-left : goal.skip_field_depth-returns-in-Fixed64-clause-left
+skip_field_depth-returns-in-Fixed64-clause-left g t c = λ _.
+    let r = c.skip_bytes.result in
+    left_of_fixed r c.args.tag.wire_type Fixed64 (g.B.Buf.unread c.args.buf.now) _ (sym c.in-Fixed64.ensures) (fixed64_stays _) (left_bytes r 8 _ _ c.skip_bytes.ensures.reads c.skip_bytes.ensures.short)
+
+pub skip_field_depth-returns-in_ok-len-in-LengthDelimited-clause-left : goal.skip_field_depth-returns-in_ok-len-in-LengthDelimited-clause-left
+skip_field_depth-returns-in_ok-len-in-LengthDelimited-clause-left g t c = λ _.
+    let r = c.skip_bytes-in-LengthDelimited.result in
+    left_of_text r c.args.tag.wire_type (g.B.Buf.unread c.args.buf.now) _ (sym c.in-LengthDelimited.ensures)
+    (left_behind_length r _ (g.B.Buf.unread c.args.buf.now) _ _ c.in_ok-len-in-LengthDelimited.ensures.reads c.skip_bytes-in-LengthDelimited.ensures.reads c.skip_bytes-in-LengthDelimited.ensures.short)
+
+pub skip_field_depth-returns-in-EndGroup-clause-left : goal.skip_field_depth-returns-in-EndGroup-clause-left
+skip_field_depth-returns-in-EndGroup-clause-left g t c = λ _.
+    sym (end_stays (g.B.Buf.unread c.args.buf.now)) ∙ ap (λ w. past_no_payload w (g.B.Buf.unread c.args.buf.now)) c.in-EndGroup.ensures
+
+pub skip_field_depth-returns-in-Fixed32-clause-left : goal.skip_field_depth-returns-in-Fixed32-clause-left
+skip_field_depth-returns-in-Fixed32-clause-left g t c = λ _.
+    let r = c.skip_bytes-in-Fixed32.result in
+    left_of_fixed r c.args.tag.wire_type Fixed32 (g.B.Buf.unread c.args.buf.now) _ (sym c.in-Fixed32.ensures) (fixed32_stays _) (left_bytes r 4 _ _ c.skip_bytes-in-Fixed32.ensures.reads c.skip_bytes-in-Fixed32.ensures.short)

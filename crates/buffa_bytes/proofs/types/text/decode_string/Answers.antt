@@ -1,10 +1,12 @@
-use Rattle.std.proofs.Common.{◌≡◌, ℕ, true, false, List, ap, refl, subst, Vec, Global}
+use Rattle.buffa_bytes.specs.declared.error.DecodeError.TheVariants.{InvalidUtf8}
+use Rattle.std.proofs.Common.{◌≡◌, Err, ℕ, true, false, List, ap, refl, subst, Vec, Global}
 use Rattle.std.specs.Prelude.{string_bytes}
 use Rattle.std.specs.Str.{is_utf8}
 use Rattle.std.proofs.lemmas.Bool.{false_from_ne_true}
 use Rattle.std.proofs.lemmas.Str.{IsUtf8-from_is_utf8, is_utf8-from_IsUtf8, IsUtf8-string_bytes}
 use Rattle.std.proofs.lemmas.Result.{err_from_is_err_and}
 use Rattle.buffa_bytes.proofs.TextLemmas.{string_in_place, whole_in_place, length_no_full}
+use Rattle.buffa_bytes.proofs.LeftLemmas.{left_no_length, left_passed, left_refused, left_taken}
 use Rattle.buffa_bytes.proofs.types.text.decode_string.Goals as goal
 
 pub returns-in_err-len-clause-full : goal.returns-in_err-len-clause-full
@@ -30,3 +32,21 @@ pub returns-clause-reads : goal.returns-clause-reads
 returns-clause-reads g c ne =
     let bad : is_utf8 c.in_ok-bytes.bytes.items ≡ false = false_from_ne_true (is_utf8 c.in_ok-bytes.bytes.items) (λ h. let k : false ≡ true = c.in-Err.ensures.succeeds (IsUtf8-from_is_utf8 c.in_ok-bytes.bytes.items h) in cc) in
     rw (c.in_ok-len.ensures.reads, c.in_ok-bytes.ensures.reads, bad) refl
+
+pub returns-in_err-len-clause-left : goal.returns-in_err-len-clause-left
+returns-in_err-len-clause-left g c =
+    let p = err_from_is_err_and c.from_residual.result c.from_residual.ensures.1 in
+    left_no_length p.1 p.2 (g.B.Buf.unread c.args.buf.now) _ c.in_err-len.ensures.reads c.in_err-len.ensures.left
+
+pub returns-in-Some-clause-left : goal.returns-in-Some-clause-left
+returns-in-Some-clause-left g c =
+    left_passed c.from_wire-read.result _ _ _ _ _ c.in_ok-len.ensures.reads c.in-Some.ensures c.advance.ensures.rest
+
+pub returns-in_err-bytes-clause-left : goal.returns-in_err-bytes-clause-left
+returns-in_err-bytes-clause-left g c =
+    let p = err_from_is_err_and c.from_residual-in_err-bytes.result c.from_residual-in_err-bytes.ensures.1 in
+    left_refused p.1 p.2 _ (g.B.Buf.unread c.args.buf.now) _ _ c.in_ok-len.ensures.reads c.in_err-bytes.ensures.reads c.in_err-bytes.ensures.short c.in_err-bytes.ensures.within
+
+pub returns-clause-left : goal.returns-clause-left
+returns-clause-left g c =
+    left_taken {X = ℕ} (Err InvalidUtf8) _ (g.B.Buf.unread c.args.buf.now) _ _ _ c.in_ok-len.ensures.reads c.in_ok-bytes.ensures.reads

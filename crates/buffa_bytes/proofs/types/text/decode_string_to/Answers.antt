@@ -1,5 +1,7 @@
 use Rattle.std.proofs.lemmas.Result.{err_from_is_err_and}
 use Rattle.buffa_bytes.proofs.TextLemmas.{string_in_place, whole_in_place, length_no_full}
+use Rattle.buffa_bytes.proofs.LeftLemmas.{left_no_length, left_passed, left_refused, left_taken}
+use Rattle.buffa_bytes.proofs.TailLemmas.{tail_more}
 use Rattle.buffa_bytes.proofs.types.text.decode_string_to.Goals as goal
 
 pub returns-in_err-len-clause-full : goal.returns-in_err-len-clause-full
@@ -14,3 +16,24 @@ returns-in-Some-clause-reads g c =
 pub returns-in-Some-clause-full : goal.returns-in-Some-clause-full
 returns-in-Some-clause-full g c =
     whole_in_place c.from_wire-read.result _ _ _ _ c.in_ok-len.ensures.reads c.in-Some.ensures
+
+pub returns-in_err-len-clause-left : goal.returns-in_err-len-clause-left
+returns-in_err-len-clause-left g c =
+    let p = err_from_is_err_and c.from_residual.result c.from_residual.ensures.1 in
+    left_no_length p.1 p.2 (g.B.Buf.unread c.args.buf.now) _ c.in_err-len.ensures.reads c.in_err-len.ensures.left
+
+pub returns-in-Some-clause-left : goal.returns-in-Some-clause-left
+returns-in-Some-clause-left g c =
+    left_passed c.from_wire-read.result _ _ _ _ _ c.in_ok-len.ensures.reads c.in-Some.ensures c.advance.ensures.rest
+
+pub returns-in_err-bytes-clause-left : goal.returns-in_err-bytes-clause-left
+returns-in_err-bytes-clause-left g c =
+    let p = err_from_is_err_and c.from_residual-in_err-bytes.result c.from_residual-in_err-bytes.ensures.1 in
+    left_refused p.1 p.2 _ (g.B.Buf.unread c.args.buf.now) _ _ c.in_ok-len.ensures.reads c.in_err-bytes.ensures.reads c.in_err-bytes.ensures.short c.in_err-bytes.ensures.within
+
+pub returns-clause-left : goal.returns-clause-left
+returns-clause-left g c =
+    left_taken c.from_wire.result _ (g.B.Buf.unread c.args.buf.now) _ _ _ c.in_ok-len.ensures.reads c.in_ok-bytes.ensures.reads
+
+pub returns-in_err-bytes-clause-tail : goal.returns-in_err-bytes-clause-tail
+returns-in_err-bytes-clause-tail g c = tail_more _ _ _ c.in_err-bytes.ensures.tail c.in_ok-len.ensures.tail
