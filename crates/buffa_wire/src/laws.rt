@@ -13,7 +13,6 @@ ghost use Rattle.buffa_wire.specs.Equal.{field_eq, held_eq};
 ghost use Rattle.buffa_wire.specs.Text.{records_text};
 ghost use Rattle.buffa_wire.specs.Parse.{FieldFault, Fits, InRange, Parse, RecordsFault, TakesField, slots};
 ghost use Rattle.buffa_wire.specs.RecordReading.{field_at, list_at};
-
 ghost use Rattle.buffa_wire.specs.BudgetLeft.{BudgetLeft};
 ghost use Rattle.buffa_wire.specs.Cache.{Cache};
 ghost use Rattle.buffa_wire.specs.Field.{IsTag};
