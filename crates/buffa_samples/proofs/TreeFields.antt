@@ -4,14 +4,14 @@ use Rattle.std.proofs.lemmas.Bool.{ne_eqb}
 use Rattle.std.specs.BTreeMap.{insert_entry}
 use Rattle.std.specs.Ordering.{int_cmp}
 use Rattle.std.specs.Prelude.{MatchResult}
-use Rattle.buffa_bytes.proofs.StepLemmas.{agree_err}
+use Rattle.buffa_bytes.proofs.StepLemmas.{agree_err, agree_ok}
 use Rattle.buffa_bytes.specs.declared.error.DecodeError.{DecodeError}
 use Rattle.buffa_bytes.specs.declared.error.DecodeError.TheVariants.{OutOfMemory}
 use Rattle.buffa_bytes.specs.declared.wire_type.WireType.{WireType}
-use Rattle.buffa_bytes.specs.declared.wire_type.WireType.TheVariants.{LengthDelimited, Varint}
+use Rattle.buffa_bytes.specs.declared.wire_type.WireType.TheVariants.{EndGroup, LengthDelimited, Varint}
 use Rattle.buffa_wire.proofs.MessageLemmas.{NoLimit}
 use Rattle.buffa_wire.specs.BudgetLeft.{BudgetLeft, Lacks, Pays, PaysAtMost, nothing}
-use Rattle.buffa_wire.specs.Gives.{◌>>=◌, Gives}
+use Rattle.buffa_wire.specs.Gives.{◌>>=◌, FullOnlyIf, Gives}
 use Rattle.buffa_wire.specs.Message.{IsFieldMerged, cost_in, merged_in}
 use Rattle.buffa_wire.specs.Reading.{check_wire, skip_at}
 use Rattle.buffa_wire.specs.Values.{int32_at}
@@ -164,3 +164,11 @@ pub all_merged : (d : ℕ) (old tree : Grown) (bytes rest : List ℕ) (before no
 all_merged d old tree bytes [] before now none means unknown memory =
     (means ∙ merged_empty d tree, (omega (arith, unknown, ap (λ z. z.unknown) (cost_empty d)), omega (arith, memory, ap (λ z. z.memory) (cost_empty d))))
 all_merged d old tree bytes (b ∷ bs) before now none means unknown memory = absurd (omega (arith, none))
+
+-- ---- what isn't told as out of memory
+pub mismatch_full : (n : ℕ) (w : WireType) (e : DecodeError) → check_wire n LengthDelimited w ≡ Err e → e ≢ OutOfMemory
+mismatch_full n w e h full = let k = sym (agree_err (check_wire n LengthDelimited w) e (check_sound n LengthDelimited w) h).1 ∙ full in cc
+
+pub child_full : {T : Type 0} (n : ℕ) (w : WireType) (r : Result T DecodeError) → check_wire n LengthDelimited w ≡ Ok tt → FullOnlyIf r (w ≢ EndGroup)
+child_full n w (Ok x) h = tt
+child_full n w (Err e) h = λ full is. let k = sym (agree_ok (check_wire n LengthDelimited w) tt (check_sound n LengthDelimited w) h) ∙ is in cc

@@ -8,11 +8,11 @@ use Rattle.buffa_bytes.specs.declared.error.DecodeError.TheVariants.{OutOfMemory
 use Rattle.buffa_wire.proofs.MessageLemmas.{NoLimit}
 use Rattle.buffa_wire.specs.Field.{IsTag, Payload, SomeField}
 use Rattle.buffa_wire.specs.BudgetLeft.{BudgetLeft, Lacks, Pays, PaysAtMost, nothing, plus}
-use Rattle.buffa_wire.specs.Message.{IsFieldMerged}
+use Rattle.buffa_wire.specs.Message.{IsFieldMerged, IsJudged}
 use Rattle.buffa_wire.specs.Reading.{skip_at, tag_at}
 use Rattle.buffa_map.specs.Codec.{need_by}
 use Rattle.buffa_samples.specs.Fields.{FieldNeed, FieldReader, cost_by, cost_within, merged_by}
-use Rattle.buffa_samples.specs.FieldsLaws.{IsSame, IsSound, refused, taken}
+use Rattle.buffa_samples.specs.FieldsLaws.{IsSame, IsSound, judged, taken}
 
 need_same : {A : Type 0} (r : Result A DecodeError) (f g : A → BudgetLeft) → ((x : A) → r ≡ Ok x → f x ≡ g x) → need_by r f ≡ need_by r g
 need_same (Ok x) f g h = h x refl
@@ -87,12 +87,26 @@ module _ (need : FieldNeed) (d : ℕ) where
           let q = taken d field sound same old new n w bs rest h in
           let all : need n w bs ≡ need n w q.0 = ap (need n w) q.2 ∙ stays n w q.0 rest q.1 in
           (q.0, q.1, q.2, λ t tag. (q.3 t tag, subst (λ z. Pays before z after) (all ∙ sym (field_alone t q.0 n w tag q.1)) k))
-      paid (Err e) old new n w bs rest before after (h, k) = λ t tag.
-          let more = need_by (skip_at d n w bs) (cost_by need d) in
-          let is = cost_tagged t bs n w tag in (
-            subst (λ z. PaysAtMost before z after) (sym is) (h.0, omega (arith, h.1), h.2, omega (arith, h.3)),
-            λ ne. elim (k ne) [
-              | inl few ↦ inl (subst (λ z. Lacks before z) (sym is) (lacks (need n w bs) more before few))
-              | inr bad ↦ inr (refused d field sound same old n w t tag bs bad.0 bad.1, bad.2)
-            ],
-          )
+      paid (Err e) old new n w bs rest before after (h, k) = λ t p tag j. (
+        costs t p tag j,
+        λ ne. elim (k ne) [
+          | inl few ↦ inl (lacking t p tag j few)
+          | inr bad ↦ inr (judged d field sound same old n w t tag bs p bad.0 j bad.1, bad.2)
+        ],
+      )
+        where
+          whole : (t : List ℕ) → IsTag t n w → cost_by need d (t ++ bs) ≡ plus (need n w bs) (need_by (skip_at d n w bs) (cost_by need d))
+          whole t tag = cost_tagged t bs n w tag
+
+          alone : (t p x : List ℕ) → IsTag t n w → Payload d n w p → bs ≡ p ++ x → cost_by need d (t ++ p) ≡ need n w bs
+          alone t p x tag payload is = field_alone t p n w tag payload ∙ sym (ap (need n w) is ∙ stays n w p x payload)
+
+          costs : (t p : List ℕ) → IsTag t n w → IsJudged d n w bs p → PaysAtMost before (cost_by need d (t ++ p)) after
+          costs t p tag (inl (x, payload, is)) = subst (λ z. PaysAtMost before z after) (sym (alone t p x tag payload is)) h
+          costs t p tag (inr (is, none)) =
+              subst (λ z. PaysAtMost before z after) (sym (ap (λ z. cost_by need d (t ++ z)) is ∙ whole t tag)) (h.0, omega (arith, h.1), h.2, omega (arith, h.3))
+
+          lacking : (t p : List ℕ) → IsTag t n w → IsJudged d n w bs p → Lacks before (need n w bs) → Lacks before (cost_by need d (t ++ p))
+          lacking t p tag (inl (x, payload, is)) few = subst (λ z. Lacks before z) (sym (alone t p x tag payload is)) few
+          lacking t p tag (inr (is, none)) few =
+              subst (λ z. Lacks before z) (sym (ap (λ z. cost_by need d (t ++ z)) is ∙ whole t tag)) (lacks (need n w bs) (need_by (skip_at d n w bs) (cost_by need d)) before few)

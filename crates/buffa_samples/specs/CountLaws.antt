@@ -1,5 +1,5 @@
 -- What a message owes that is a count of repeated fields.
-use Rattle.std.proofs.Common.{◌≡◌, ℕ, zero, suc, ◌+◌, ◌*◌, ◌^◌, ◌==◌, ◌<◌, List, ◌++◌, length, Some, Result, Ok, Err, refl, ap, sym, subst, ◌∙◌, arith, append_assoc, append-nil, length-append}
+use Rattle.std.proofs.Common.{◌≡◌, ◌≢◌, ℕ, zero, suc, ◌+◌, ◌*◌, ◌^◌, ◌==◌, ◌<◌, List, ◌++◌, length, Some, Result, Ok, Err, refl, ap, sym, subst, ◌∙◌, arith, append_assoc, append-nil, length-append}
 use Rattle.buffa_bytes.proofs.ShortestLemmas.{varint_text-last}
 use Rattle.buffa_bytes.proofs.SinkLemmas.{exits_first, writes_then}
 use Rattle.buffa_bytes.proofs.StepLemmas.{agree_if}
@@ -7,12 +7,13 @@ use Rattle.buffa_bytes.proofs.VarintLemmas.{IsVarint-varint_text, varint_complet
 use Rattle.buffa_bytes.specs.Written.{Writes, WritesFront}
 use Rattle.buffa_bytes.specs.declared.error.EncodeError.{EncodeError}
 use Rattle.buffa_bytes.specs.declared.error.EncodeError.TheVariants.{OutOfMemory}
-use Rattle.buffa_bytes.specs.declared.wire_type.WireType.TheVariants.{Varint}
+use Rattle.buffa_bytes.specs.declared.wire_type.WireType.TheVariants.{EndGroup, Varint}
+use Rattle.buffa_bytes.specs.declared.error.DecodeError.TheVariants as error
 use Rattle.buffa_wire.specs.Text.{records_text}
 use Rattle.buffa_wire.specs.Values.{tag_text}
 use Rattle.buffa_wire.specs.Varint.{varint_text}
 use Rattle.buffa_samples.specs.Fields.{merged_by, skipped_field, varint_field}
-use Rattle.buffa_samples.specs.FieldsLaws.{IsSame, IsSound, empty, number_tag, read, same_if, skipped_same, skipped_sound, tag_one, varint_same, varint_sound}
+use Rattle.buffa_samples.specs.FieldsLaws.{Ends, IsSame, IsSound, empty, ends_if, number_tag, read, same_if, skipped_ends, skipped_same, skipped_sound, tag_one, varint_same, varint_sound}
 use Rattle.buffa_samples.specs.Count.{count_field, count_merged, count_records, count_text, one_more, one_text}
 
 pub count_sound : (d : ℕ) → IsSound d (count_field d)
@@ -20,6 +21,12 @@ count_sound d v n w bs = agree_if (n == 9) (λ _. varint_sound d n 9 (λ _. one_
 
 pub count_same : (d : ℕ) → IsSame d (count_field d)
 count_same d v n w p h = same_if (varint_field 9 (λ _. one_more v) w) (skipped_field d v n w) p (n == 9) (varint_same d n 9 (λ _. one_more v) w p h) (skipped_same d v n w p h)
+
+varint_ends : (v : ℕ) (bs : List ℕ) → varint_field 9 (λ _. one_more v) EndGroup bs ≢ Err error.OutOfMemory
+varint_ends v bs h = cc
+
+pub count_ends : (d : ℕ) → Ends (count_field d)
+count_ends d v n bs = ends_if (n == 9) (varint_field 9 (λ _. one_more v) EndGroup bs) (skipped_field d v n EndGroup bs) (varint_ends v bs) (skipped_ends d v n bs)
 
 pub count_cost_some : 0 < 8
 count_cost_some = omega arith

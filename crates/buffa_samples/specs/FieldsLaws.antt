@@ -1,12 +1,12 @@
 -- What a message owes follows from what each of its fields does.
-use Rattle.std.proofs.Common.{◌≡◌, ◌⊎◌, inl, inr, ℤ, FitsSigned, pos, negsuc, ℕ, ◌+◌, ◌*◌, zero, suc, ◌<◌, ◌≤◌, Bool, true, false, List, [], ◌∷◌, ◌++◌, length, Some, None, Result, Ok, Err, refl, sym, ap, subst, ◌∙◌, arith, append_assoc, append-nil, length-append, if◌then◌else◌}
+use Rattle.std.proofs.Common.{◌≡◌, ◌≢◌, ◌⊎◌, inl, inr, ℤ, FitsSigned, pos, negsuc, ℕ, ◌+◌, ◌*◌, zero, suc, ◌<◌, ◌≤◌, Bool, true, false, List, [], ◌∷◌, ◌++◌, length, Some, None, Result, Ok, Err, refl, sym, ap, subst, ◌∙◌, arith, append_assoc, append-nil, length-append, if◌then◌else◌}
 use Rattle.std.specs.Option.{option_and_then}
-use Rattle.buffa_wire.specs.Gives.{◌>>=◌, Gives}
+use Rattle.buffa_wire.specs.Gives.{◌>>=◌, FullOnlyIf, Gives}
 use Rattle.buffa_wire.specs.Field.{IsTag, Payload, SomeField}
 use Rattle.buffa_wire.specs.Join.{Join}
 use Rattle.buffa_wire.specs.Join.Join.{none, more}
 use Rattle.buffa_wire.specs.BudgetLeft.{BudgetLeft, nothing}
-use Rattle.buffa_wire.specs.Message.{IsFieldMerged}
+use Rattle.buffa_wire.specs.Message.{IsFieldMerged, IsJudged}
 use Rattle.buffa_wire.specs.Number.{IsNumber}
 use Rattle.buffa_wire.specs.Records.{Datum}
 use Rattle.buffa_wire.specs.Text.{records_text, field_text}
@@ -15,7 +15,7 @@ use Rattle.buffa_bytes.specs.Varint.{TakesVarint, VarintFault}
 use Rattle.buffa_bytes.specs.declared.wire_type.WireType.{WireType}
 use Rattle.buffa_bytes.specs.declared.wire_type.WireType.TheVariants.{Varint, Fixed64, LengthDelimited, StartGroup, EndGroup, Fixed32}
 use Rattle.buffa_bytes.specs.declared.error.DecodeError.{DecodeError}
-use Rattle.buffa_bytes.specs.declared.error.DecodeError.TheVariants.{WireTypeMismatch}
+use Rattle.buffa_bytes.specs.declared.error.DecodeError.TheVariants.{OutOfMemory, WireTypeMismatch}
 use Rattle.buffa_bytes.proofs.StepLemmas.{Agrees, agree_bind, agree_err, agree_ok, agree_weaker, bind_same}
 use Rattle.buffa_bytes.proofs.FieldLemmas.{payload_complete, payload_sound, tag_complete, tag_some, tag_sound}
 use Rattle.buffa_bytes.proofs.IntLemmas.{int32_below}
@@ -156,12 +156,21 @@ module _ {X : Type 0} (d : ℕ) (field : FieldReader X) (sound : IsSound d field
       let q = agree_ok (field v n w bs) (u, rest) (sound v n w bs) h in
       (q.0, q.1, q.2, λ t tag. taken_by v n w t tag u bs rest q.0 h q.2 (same v n w q.0 q.1))
 
+  refused_alone : (v : X) (n : ℕ) (w : WireType) (t p x : List ℕ) (tag : IsTag t n w) (e : DecodeError) → field v n w (p ++ x) ≡ Err e → Same (field v n w) p → merged_by field v (t ++ p) ≡ None
+  refused_alone v n w t p x tag e h (inl (u, k)) = let bad = sym (k x) ∙ h in cc
+  refused_alone v n w t p x tag e h (inr (f, k)) = ap (λ z. merged_by field v (t ++ z)) (sym (append-nil p)) ∙ refused v n w t tag (p ++ []) f (k [])
+
+  -- a field is refused, and so is what is judged of it
+  pub judged : (v : X) (n : ℕ) (w : WireType) (t : List ℕ) (tag : IsTag t n w) (bs p : List ℕ) (e : DecodeError) → IsJudged d n w bs p → field v n w bs ≡ Err e → merged_by field v (t ++ p) ≡ None
+  judged v n w t tag bs p e (inl (x, payload, is)) h = refused_alone v n w t p x tag e (ap (field v n w) (sym is) ∙ h) (same v n w p payload)
+  judged v n w t tag bs p e (inr (is, whole)) h = ap (λ z. merged_by field v (t ++ z)) is ∙ refused v n w t tag bs e h
+
   -- where messages cost nothing
   pub free : (r : Result (Unit {0}) DecodeError) (old new : X) (n : ℕ) (w : WireType) (bs rest : List ℕ) (left : BudgetLeft) → Gives (λ _. (new, rest)) r (field old n w bs) →
       IsFieldMerged (λ _. merged_by field) (λ _ _. nothing) d old n w bs left r new left rest
   free (Ok x) old new n w bs rest left h = let q = taken old new n w bs rest h in (q.0, q.1, q.2, λ t tag. (q.3 t tag, (omega arith, omega arith)))
   free (Err e) old new n w bs rest left h =
-      λ t tag. ((omega arith, omega arith, omega arith, omega arith), λ ne. inr (refused old n w t tag bs e h, agree_err (field old n w bs) e (sound old n w bs) h))
+      λ t p tag j. ((omega arith, omega arith, omega arith, omega arith), λ ne. inr (judged old n w t tag bs p e j h, agree_err (field old n w bs) e (sound old n w bs) h))
 
 -- ---- fields that are passed over
 module _ {X : Type 0} (d : ℕ) (v : X) (n : ℕ) (w : WireType) where
@@ -215,6 +224,25 @@ module _ {X : Type 0} (d n m : ℕ) (put : ℤ → X) where
 pub same_if : {X : Type 0} (f g : List ℕ → Result (X × List ℕ) DecodeError) (p : List ℕ) (b : Bool) → Same f p → Same g p → Same (λ bs. if b then f bs else g bs) p
 same_if f g p true h k = h
 same_if f g p false h k = k
+
+-- ---- an end tag is no field, and isn't told as out of memory
+abbrev pub Ends : {X : Type 0} → FieldReader X → Type 0
+Ends {X} field = (v : X) (n : ℕ) (bs : List ℕ) → field v n EndGroup bs ≢ Err OutOfMemory
+
+pub ends_if : {A : Type 0} (b : Bool) (x y : Result A DecodeError) → x ≢ Err OutOfMemory → y ≢ Err OutOfMemory → (if b then x else y) ≢ Err OutOfMemory
+ends_if true x y h k = h
+ends_if false x y h k = k
+
+pub int32_ends : {X : Type 0} (m : ℕ) (put : ℤ → X) (bs : List ℕ) → int32_field m put EndGroup bs ≢ Err OutOfMemory
+int32_ends m put bs h = cc
+
+pub skipped_ends : {X : Type 0} (d : ℕ) (v : X) (n : ℕ) (bs : List ℕ) → skipped_field d v n EndGroup bs ≢ Err OutOfMemory
+skipped_ends d v n bs h = cc
+
+pub full_not_at_end : {X T : Type 0} (field : FieldReader X) → Ends field → (r : Result T DecodeError) (old new : X) (n : ℕ) (w : WireType) (bs rest : List ℕ) →
+    Gives (λ _. (new, rest)) r (field old n w bs) → FullOnlyIf r (w ≢ EndGroup)
+full_not_at_end field ends (Ok x) old new n w bs rest h = tt
+full_not_at_end field ends (Err e) old new n w bs rest h = λ full is. ends old n bs (ap (λ z. field old n z bs) (sym is) ∙ h ∙ ap (λ z. Err z) full)
 
 -- ---- the text of an int32 field
 pub zero_text : (n : ℕ) (v : ℤ) → v ≡ pos 0 → number_text n v ≡ []

@@ -3,10 +3,10 @@ use Rattle.std.proofs.Common.{◌≡◌, ℤ, FitsSigned, pos, ℕ, ◌==◌, �
 use Rattle.std.specs.Int.{w32}
 use Rattle.buffa_bytes.proofs.IntLemmas.{int32_back}
 use Rattle.buffa_bytes.proofs.StepLemmas.{agree_if}
-use Rattle.buffa_bytes.specs.declared.wire_type.WireType.TheVariants.{Varint}
+use Rattle.buffa_bytes.specs.declared.wire_type.WireType.TheVariants.{EndGroup, Varint}
 use Rattle.buffa_wire.specs.Values.{int32_text}
 use Rattle.buffa_samples.specs.Fields.{int32_field, merged_by, skipped_field}
-use Rattle.buffa_samples.specs.FieldsLaws.{IsSame, IsSound, empty, int32_same, int32_sound, number_read, same_if, skipped_same, skipped_sound}
+use Rattle.buffa_samples.specs.FieldsLaws.{Ends, IsSame, IsSound, empty, ends_if, int32_ends, int32_same, int32_sound, number_read, same_if, skipped_ends, skipped_same, skipped_sound}
 use Rattle.buffa_samples.specs.Flat.{flat_field, flat_merged, value_text}
 
 pub flat_sound : (d : ℕ) → IsSound d (flat_field d)
@@ -14,6 +14,9 @@ flat_sound d v n w bs = agree_if (n == 1) (λ _. int32_sound d n 1 (λ x. x) w b
 
 pub flat_same : (d : ℕ) → IsSame d (flat_field d)
 flat_same d v n w p h = same_if (int32_field 1 (λ x. x) w) (skipped_field d v n w) p (n == 1) (int32_same d n 1 (λ x. x) w p h) (skipped_same d v n w p h)
+
+pub flat_ends : (d : ℕ) → Ends (flat_field d)
+flat_ends d v n bs = ends_if (n == 1) (int32_field 1 (λ x. x) EndGroup bs) (skipped_field d v n EndGroup bs) (int32_ends 1 (λ x. x) bs) (skipped_ends d v n bs)
 
 pub flat_cost_some : 0 < 4
 flat_cost_some = omega arith

@@ -10,7 +10,7 @@ use Rattle.buffa_bytes.specs.declared.wire_type.WireType.TheVariants as wire
 use Rattle.buffa_bytes.specs.declared.error.DecodeError.{DecodeError}
 use Rattle.buffa_bytes.specs.declared.error.DecodeError.TheVariants as error
 use Rattle.buffa_wire.proofs.JoinLemmas.{join_records, records_join}
-use Rattle.buffa_wire.proofs.LoopLemmas.{field_is_read, field_taken}
+use Rattle.buffa_wire.proofs.LoopLemmas.{field_end, field_is_read, field_taken}
 use Rattle.buffa_wire.proofs.MessageLemmas.{NoLimit, length_no_limit, tag_no_limit, var_no_limit}
 use Rattle.buffa_wire.specs.Field.{Payload}
 use Rattle.buffa_wire.specs.BudgetLeft.{BudgetLeft, Lacks, slots as left_slots}
@@ -18,7 +18,7 @@ use Rattle.buffa_wire.specs.Message.{IsFieldMerged, IsLimit}
 use Rattle.buffa_wire.proofs.ParseLemmas.{text_parses}
 use Rattle.buffa_wire.specs.Falls.{height-records}
 use Rattle.buffa_wire.specs.Parse.{FieldFault, FieldFaultOf, GroupFault, InsideFault, Fits, IsPayload, Parse, slots, slots_inside}
-use Rattle.buffa_wire.specs.RecordReading.{field_at}
+use Rattle.buffa_wire.specs.RecordReading.{TakesMemory, field_at}
 use Rattle.buffa_wire.specs.Records.{Datum, Records, bytes, fixed32, fixed64, group, height, no_records, one, records_of, varint}
 use Rattle.buffa_wire.specs.Text.{records_text, wire_of}
 use Rattle.buffa_samples.specs.FieldsLaws.{IsSame, IsSound, empty, read}
@@ -201,3 +201,10 @@ module _ (d n : ℕ) (w : WireType) (bs rest : List ℕ) (v : List (ℕ × Datum
 
 pub keep_cost_some : 0 < 24
 keep_cost_some = omega arith
+
+-- an end tag takes no memory, and is read as no field
+pub not_at_end : (d s : ℕ) (w : WireType) (bs : List ℕ) → TakesMemory d s w bs → w ≢ wire.EndGroup
+not_at_end d s w bs h is = (subst (λ z. TakesMemory d s z bs) is h).1
+
+pub read_not_at_end : (d s n : ℕ) (w : WireType) (bs : List ℕ) (x : Datum × ℕ × List ℕ) → field_at d s n w bs ≡ Ok x → w ≢ wire.EndGroup
+read_not_at_end d s n w bs x h is = let k = sym (field_end d s n w bs is) ∙ h in cc

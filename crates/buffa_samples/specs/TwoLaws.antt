@@ -3,12 +3,12 @@ use Rattle.std.proofs.Common.{◌≡◌, ℤ, FitsSigned, pos, ℕ, ◌==◌, �
 use Rattle.std.specs.Int.{w32}
 use Rattle.buffa_bytes.proofs.IntLemmas.{int32_back}
 use Rattle.buffa_bytes.proofs.StepLemmas.{agree_if}
-use Rattle.buffa_bytes.specs.declared.wire_type.WireType.TheVariants.{Varint}
+use Rattle.buffa_bytes.specs.declared.wire_type.WireType.TheVariants.{EndGroup, Varint}
 use Rattle.buffa_bytes.specs.declared.error.DecodeError.{DecodeError}
 use Rattle.buffa_wire.specs.Text.{records_text}
 use Rattle.buffa_wire.specs.Values.{int32_text}
 use Rattle.buffa_samples.specs.Fields.{int32_field, merged_by, number_records, number_text, skipped_field}
-use Rattle.buffa_samples.specs.FieldsLaws.{IsSame, IsSound, both_records, empty, int32_same, int32_sound, number_read, number_text_records, same_if, skipped_same, skipped_sound}
+use Rattle.buffa_samples.specs.FieldsLaws.{Ends, IsSame, IsSound, both_records, empty, ends_if, int32_ends, int32_same, int32_sound, number_read, number_text_records, same_if, skipped_ends, skipped_same, skipped_sound}
 use Rattle.buffa_samples.specs.Two.{two_field, two_merged, two_records, two_text}
 
 pub two_sound : (d : ℕ) → IsSound d (two_field d)
@@ -20,6 +20,12 @@ two_same d v n w p h =
     let other : List ℕ → Result ((ℤ × ℤ) × List ℕ) DecodeError = λ bs. if n == 2 then int32_field 2 (λ x. (v.0, x)) w bs else skipped_field d v n w bs in
     same_if (int32_field 1 (λ x. (x, v.1)) w) other p (n == 1) (int32_same d n 1 (λ x. (x, v.1)) w p h)
     (same_if (int32_field 2 (λ x. (v.0, x)) w) (skipped_field d v n w) p (n == 2) (int32_same d n 2 (λ x. (v.0, x)) w p h) (skipped_same d v n w p h))
+
+pub two_ends : (d : ℕ) → Ends (two_field d)
+two_ends d v n bs =
+    let other : Result ((ℤ × ℤ) × List ℕ) DecodeError = if n == 2 then int32_field 2 (λ x. (v.0, x)) EndGroup bs else skipped_field d v n EndGroup bs in
+    ends_if (n == 1) (int32_field 1 (λ x. (x, v.1)) EndGroup bs) other (int32_ends 1 (λ x. (x, v.1)) bs)
+    (ends_if (n == 2) (int32_field 2 (λ x. (v.0, x)) EndGroup bs) (skipped_field d v n EndGroup bs) (int32_ends 2 (λ x. (v.0, x)) bs) (skipped_ends d v n bs))
 
 pub two_cost_some : 0 < 32
 two_cost_some = omega arith

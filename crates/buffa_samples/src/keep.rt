@@ -1,8 +1,8 @@
 //! A message that keeps every field.
 
 ghost use Rattle.std.specs.Prelude.{◌≡◌, [], refl, IfOk};
-ghost use Rattle.buffa_wire.specs.Gives.{GivesUnlessFull};
-ghost use Rattle.buffa_wire.specs.RecordReading.{field_at};
+ghost use Rattle.buffa_wire.specs.Gives.{FullOnlyIf, GivesUnlessFull};
+ghost use Rattle.buffa_wire.specs.RecordReading.{TakesMemory, field_at};
 ghost use Rattle.buffa_wire.specs.View.{datum_of};
 ghost use Rattle.buffa_wire.specs.Parse.{Fits};
 ghost use Rattle.buffa_wire.specs.Records.{Datum, height, records_of};
@@ -106,6 +106,7 @@ fn read_alone(
     ensures reads { GivesUnlessFull (λ x. (datum_of x.0.payload, x.1, buf.new.now)) result
         (field_at depth slots tag.number tag.wire_type buf.old.now) }
     ensures number { IfOk result (λ x. x.0.number ≡ tag.number) }
+    ensures full { FullOnlyIf result (TakesMemory depth slots tag.wire_type buf.old.now) }
 {
     let mut own = Budget::new(slots);
     let lent = DecodeContext {

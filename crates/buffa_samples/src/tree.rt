@@ -5,7 +5,7 @@ ghost use Rattle.buffa_wire.specs.Passes.{IsNext, IsSized, IsWritten};
 ghost use Rattle.std.specs.BTreeMap.{values};
 ghost use Rattle.std.specs.List.{Contains};
 ghost use Rattle.buffa_map.specs.MessageField.{IsFieldWritten, field_slots};
-ghost use Rattle.std.specs.Prelude.{◌≡◌, ◌+◌};
+ghost use Rattle.std.specs.Prelude.{◌≡◌, ◌≢◌, ◌+◌};
 ghost use Rattle.buffa_wire.specs.Gives.{FullOnlyIf};
 ghost use Rattle.buffa_wire.specs.Message.{IsFieldMerged, IsMerged, ReachesTag};
 ghost use Rattle.buffa_samples.specs.TreeMeaning.{IsChildMerged, cost, merged};
@@ -241,8 +241,9 @@ fn merge_tree_field(
     depth: u32,
     budget: &mut Budget,
 ) -> Result<(), DecodeError>
-    ensures { IsFieldMerged merged cost depth tree.old tag.number tag.wire_type buf.old.now budget.old result tree.new
-        budget.new buf.new.now }
+    ensures merged { IsFieldMerged merged cost depth tree.old tag.number tag.wire_type buf.old.now budget.old result
+        tree.new budget.new buf.new.now }
+    ensures full { FullOnlyIf result (tag.wire_type ≢ WireType.EndGroup) }
 {
     if tag.field_number() != 2 {
         return merge_value(&mut tree.label, tag, buf, depth);

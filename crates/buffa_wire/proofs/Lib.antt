@@ -10,3 +10,4 @@ pub mod PassLemmas
 pub mod SpentLemmas
 pub mod FaultLemmas
 pub mod SequenceLemmas
+pub mod PinLemmas

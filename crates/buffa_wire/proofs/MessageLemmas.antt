@@ -1,5 +1,5 @@
 -- Messages field by field, and what reading bytes never answers.
-use Rattle.std.proofs.Common.{◌≡◌, ◌≢◌, inl, inr, ℕ, zero, suc, ◌+◌, ◌<◌, ◌≤◌, List, [], ◌++◌, length, Option, Some, None, Result, Ok, Err, refl, sym, ap, subst, ◌∙◌, arith, append-nil, append_assoc, IsOk}
+use Rattle.std.proofs.Common.{◌≡◌, ◌≢◌, inl, inr, ℕ, zero, suc, ◌+◌, ◌<◌, ◌≤◌, List, [], ◌++◌, length, Option, Some, None, Result, Ok, Err, refl, sym, ap, subst, ◌∙◌, arith, append-nil, append_assoc}
 use Rattle.std.specs.Option.{option_and_then}
 use Rattle.buffa_bytes.specs.declared.wire_type.WireType.{WireType}
 use Rattle.buffa_bytes.specs.declared.wire_type.WireType.TheVariants.{Varint, Fixed64, LengthDelimited, StartGroup, EndGroup, Fixed32}
@@ -9,11 +9,11 @@ use Rattle.buffa_bytes.specs.Varint.{VarintFault}
 use Rattle.buffa_bytes.specs.Field.{BadTag, FieldFaultOver, GroupFault, IsTag, LengthFault, Payload, PayloadFault, PayloadFaultOver, SomeField, TagFault}
 use Rattle.buffa_bytes.specs.Join.{Join}
 use Rattle.buffa_bytes.specs.Join.Join.{none, more}
-use Rattle.buffa_bytes.specs.Reading.{tag_at}
-use Rattle.buffa_bytes.proofs.StepLemmas.{agree_err}
-use Rattle.buffa_bytes.proofs.FieldLemmas.{tag_complete, tag_sound}
+use Rattle.buffa_bytes.specs.Reading.{skip_at, tag_at}
+use Rattle.buffa_bytes.proofs.StepLemmas.{agree_err, agree_ok}
+use Rattle.buffa_bytes.proofs.FieldLemmas.{payload_complete, payload_sound, tag_complete, tag_sound}
 use Rattle.buffa_wire.specs.BudgetLeft.{BudgetLeft, Lacks, PaysAtMost, plus}
-use Rattle.buffa_wire.specs.Message.{IsLimit, MergeFault, ReachesTag}
+use Rattle.buffa_wire.specs.Message.{IsJudged, IsLimit, MergeFault, ReachesTag}
 
 -- ---- no fault of bytes is a limit's
 abbrev pub NoLimit : DecodeError → Type 0
@@ -92,6 +92,39 @@ module _ {X : Type 0} (merged : ℕ → X → List ℕ → Option X) (cost : ℕ
   pub field_costs : (d : ℕ) (bs t p x : List ℕ) (n : ℕ) (w : WireType) → IsTag t n w → Payload d n w p → bs ≡ t ++ (p ++ x) → cost d bs ≡ plus (cost d (t ++ p)) (cost d x)
   field_costs d bs t p x n w tag payload is = ap (cost d) (is ∙ sym (append_assoc t p x)) ∙ cost_next d (t ++ p) x (n, w, (t, p, tag, payload, refl))
 
+  -- why a field isn't merged is why the bytes that it begins aren't
+  module _ (d : ℕ) (v : X) (n : ℕ) (w : WireType) (bs : List ℕ) (left over : BudgetLeft) (e : DecodeError) where
+    abbrev Refuses : List ℕ → Type 0
+    Refuses b = PaysAtMost left (cost d b) over × (e ≢ error.OutOfMemory → MergeFault (merged d v b) (cost d b) left e)
+
+    abbrev Judges : Type 0
+    Judges = (t p : List ℕ) → IsTag t n w → IsJudged d n w bs p → Refuses (t ++ p)
+
+    with_rest : (t p x : List ℕ) → IsTag t n w → Payload d n w p → Refuses (t ++ p) → Refuses (t ++ (p ++ x))
+    with_rest t p x tag payload (spent, why) =
+        let all : cost d (t ++ (p ++ x)) ≡ plus (cost d (t ++ p)) (cost d x) = field_costs d (t ++ (p ++ x)) t p x n w tag payload refl in
+        let unknown = ap (λ (z : BudgetLeft). z.unknown) all in
+        let memory = ap (λ (z : BudgetLeft). z.memory) all in (
+          (spent.0, omega (arith, spent.1, unknown), spent.2, omega (arith, spent.3, memory)),
+          λ ne. elim (why ne) [
+            | inl few ↦ inl (elim few [ inl k ↦ inl (omega (arith, k, unknown)) | inr k ↦ inr (omega (arith, k, memory)) ])
+            | inr bad ↦ inr (
+              ap (merged d v) (sym (append_assoc t p x)) ∙ next d v (t ++ p) x (n, w, (t, p, tag, payload, refl)) ∙ ap (option_and_then (λ z. merged d z x)) bad.0,
+              bad.1,
+            )
+          ],
+        )
+
+    judged_by : (r : Result (List ℕ) DecodeError) → skip_at d n w bs ≡ r → Judges → (t : List ℕ) → IsTag t n w → Refuses (t ++ bs)
+    judged_by (Ok rest) is judges t tag =
+        let u = agree_ok (skip_at d n w bs) rest (payload_sound d n w bs) is in
+        subst (λ z. Refuses (t ++ z)) (sym u.2) (with_rest t u.0 rest tag u.1 (judges t u.0 tag (inl (rest, u.1, u.2))))
+    judged_by (Err f) is judges t tag =
+        judges t bs tag (inr (refl, λ rest u. let k = sym (ap (skip_at d n w) u.2 ∙ payload_complete d n w u.0 rest u.1) ∙ is in cc))
+
+    pub judged_all : Judges → (t : List ℕ) → IsTag t n w → Refuses (t ++ bs)
+    judged_all judges t tag = judged_by (skip_at d n w bs) refl judges t tag
+
 -- what is lacked of what is left is lacked of all
 lacks_all : (start now all rest : BudgetLeft) → now.unknown + all.unknown ≡ start.unknown + rest.unknown → now.memory + all.memory ≡ start.memory + rest.memory → Lacks now rest → Lacks start all
 lacks_all start now all rest u m (inl few) = inl (omega (arith, u, few))
@@ -121,9 +154,5 @@ front_more d f bs rest t p x n w j whole tag payload is = (
   whole ∙ ap (λ z. f ++ z) (is ∙ sym (append_assoc t p x)) ∙ sym (append_assoc f (t ++ p) x),
 )
 
-is_there : {A E : Type 0} (r : Result A E) (a : A) → r ≡ Ok a → IsOk r
-is_there (Ok b) a e = refl
-is_there (Err f) a e = cc
-
-pub reaches_tag : (d : ℕ) (f bs rest : List ℕ) (tag : ℕ × WireType × List ℕ) → Join (SomeField d) f → bs ≡ f ++ rest → tag_at rest ≡ Ok tag → ReachesTag d bs
-reaches_tag d f bs rest tag j whole e = (f, rest, j, whole, is_there (tag_at rest) tag e)
+pub reaches_tag : (d : ℕ) (f bs rest : List ℕ) (tag : ℕ × WireType × List ℕ) → Join (SomeField d) f → bs ≡ f ++ rest → tag_at rest ≡ Ok tag → tag.1 ≢ EndGroup → ReachesTag d bs
+reaches_tag d f bs rest tag j whole e o = (f, rest, j, whole, (tag.0, tag.1, tag.2, e, o))

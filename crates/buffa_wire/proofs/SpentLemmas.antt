@@ -1,11 +1,12 @@
 -- Slots that were spent, and when memory is asked for.
-use Rattle.std.proofs.Common.{◌≡◌, ◌≢◌, ◌⊎◌, inl, inr, ℕ, ◌+◌, ◌<◌, List, length, Result, Ok, refl, sym, ap, ◌∙◌, arith}
+use Rattle.std.proofs.Common.{◌≡◌, ◌≢◌, ◌⊎◌, inl, inr, ℕ, zero, suc, true, false, ◌+◌, ◌-◌, ◌<◌, List, [], length, Result, Ok, Err, refl, sym, ap, subst, ◌∙◌, arith}
 use Rattle.std.specs.Prelude.{IsOk}
 use Rattle.buffa_bytes.specs.declared.wire_type.WireType.{WireType}
 use Rattle.buffa_bytes.specs.declared.wire_type.WireType.TheVariants as wire
 use Rattle.buffa_bytes.specs.declared.error.DecodeError.{DecodeError}
-use Rattle.buffa_wire.specs.RecordReading.{TakesMemory}
-use Rattle.buffa_bytes.specs.Reading.{tag_at}
+use Rattle.buffa_wire.specs.RecordReading.{GroupTakesMemory, ListTakesMemory, PayloadTakesMemory, TakesMemory, field_at}
+use Rattle.buffa_wire.specs.Records.{Datum}
+use Rattle.buffa_bytes.specs.Reading.{delimited_at, tag_at}
 use Rattle.buffa_bytes.specs.Unread.{IsTailOf, bytes_read}
 use Rattle.buffa_bytes.proofs.TailLemmas.{tail_shorter}
 use Rattle.buffa_wire.specs.BudgetLeft.{SlotsSpent}
@@ -33,22 +34,52 @@ pub further_spent : (all old new : List ℕ) (s t : ℕ) → IsTailOf old all �
 further_spent all old new s t a b h = (h.0, omega (arith, h.1, tail_shorter all old a, tail_shorter old new b))
 
 -- ---- memory
--- the depth matters only to groups
-pub takes_at : (c d : ℕ) (w : WireType) (bs : List ℕ) → w ≢ wire.StartGroup → TakesMemory c w bs → TakesMemory d w bs
-takes_at c d wire.LengthDelimited bs o h = h
-takes_at c d wire.StartGroup bs o h = absurd (o refl)
-takes_at c d _ bs o h = absurd h
+pub is_there : {A E : Type 0} (r : Result A E) (a : A) → r ≡ Ok a → IsOk r
+is_there (Ok b) a e = refl
+is_there (Err f) a e = cc
 
-pub takes_group : (d : ℕ) (w : WireType) (bs : List ℕ) → w ≡ wire.StartGroup → (0 < d) × IsOk (tag_at bs) → TakesMemory d w bs
-takes_group d w bs e h = rw e h
+some_byte : (bs : List ℕ) (r : Result (List ℕ × List ℕ) DecodeError) → delimited_at bs ≡ r → ((rest : List ℕ) → delimited_at bs ≡ Ok ([], rest) → ⊥) → IsOk r →
+    (b : List ℕ) × (rest : List ℕ) × (delimited_at bs ≡ Ok (b, rest)) × (b ≢ [])
+some_byte bs (Ok x) is some h = (x.0, x.1, is, λ e. some x.1 (is ∙ ap (λ z. Ok (z, x.1)) e))
+some_byte bs (Err e) is some h = cc
 
--- nothing of all was read, or a tag begins all
-abbrev pub IsBegun : List ℕ → List ℕ → Type 0
-IsBegun all now = (now ≡ all) ⊎ IsOk (tag_at all)
+-- bytes that were refused though they are there are some
+pub takes_bytes : (bs : List ℕ) → ((rest : List ℕ) → delimited_at bs ≡ Ok ([], rest) → false ≡ true) → IsOk (delimited_at bs) →
+    (b : List ℕ) × (rest : List ℕ) × (delimited_at bs ≡ Ok (b, rest)) × (b ≢ [])
+takes_bytes bs free h = some_byte bs (delimited_at bs) refl (λ rest none. let k = free rest none in cc) h
 
-ok_is_ok : (r : Result (ℕ × WireType × List ℕ) DecodeError) (t : ℕ × WireType × List ℕ) → r ≡ Ok t → IsOk r
-ok_is_ok r t e = rw e refl
+-- what is said of groups matters only to groups
+plain_takes : (G : ℕ → List ℕ → Type 0) (s k : ℕ) (w : WireType) (bs : List ℕ) → w ≢ wire.StartGroup → PayloadTakesMemory (λ s bs. ⊥) k w bs → PayloadTakesMemory G s w bs
+plain_takes G s k wire.LengthDelimited bs o h = h
+plain_takes G s k wire.StartGroup bs o h = absurd (o refl)
+plain_takes G s k _ bs o h = absurd h
 
-pub tag_is_there : (all now : List ℕ) (t : ℕ × WireType × List ℕ) → IsBegun all now → tag_at now ≡ Ok t → IsOk (tag_at all)
-tag_is_there all now t (inl e) h = ok_is_ok (tag_at all) t (sym (ap tag_at e) ∙ h)
-tag_is_there all now t (inr h) k = h
+-- a field whose slot was spent
+pub takes_plain : (d s left : ℕ) (w : WireType) (bs : List ℕ) → left + 1 ≡ s → w ≢ wire.StartGroup → PayloadTakesMemory (λ s bs. ⊥) 0 w bs → TakesMemory d s w bs
+takes_plain d s left w bs e o h = (omega arith, plain_takes (GroupTakesMemory d) (s - 1) 0 w bs o h)
+
+pub takes_group : (d s left : ℕ) (w : WireType) (bs : List ℕ) → left + 1 ≡ s → w ≡ wire.StartGroup → GroupTakesMemory d left bs → TakesMemory d s w bs
+takes_group d s left w bs e o h =
+    let k : left ≡ s - 1 = omega arith in
+    (omega arith, rw o (subst (λ z. GroupTakesMemory d z bs) k h))
+
+-- nothing of all was read and no slot was spent, or all takes memory
+abbrev pub IsBegun : ℕ → ℕ → List ℕ → ℕ → List ℕ → Type 0
+IsBegun d s all left now = ((now ≡ all) × (left ≡ s)) ⊎ ListTakesMemory d s all
+
+module _ (d s left : ℕ) (all now : List ℕ) (begun : IsBegun d s all left now) (t : ℕ × WireType × List ℕ) (tag : tag_at now ≡ Ok t) where
+  begins : IsBegun d s all left now → IsOk (field_at d left t.0 t.1 t.2) ⊎ TakesMemory d left t.1 t.2 → ListTakesMemory d s all
+  begins (inl (e, f)) h = (t, sym (ap tag_at e) ∙ tag, subst (λ z. IsOk (field_at d z t.0 t.1 t.2) ⊎ TakesMemory d z t.1 t.2) f h)
+  begins (inr k) h = k
+
+  pub begins_taking : TakesMemory d left t.1 t.2 → ListTakesMemory d s all
+  begins_taking h = begins begun (inr h)
+
+  pub begins_reading : (x : Datum × ℕ × List ℕ) → field_at d left t.0 t.1 t.2 ≡ Ok x → ListTakesMemory d s all
+  begins_reading x h = begins begun (inl (is_there (field_at d left t.0 t.1 t.2) x h))
+
+-- the fields of a group
+pub takes_inside : (d s : ℕ) (bs : List ℕ) → d ≢ 0 → ListTakesMemory (d - 1) s bs → GroupTakesMemory d s bs
+unfolding GroupTakesMemory
+takes_inside zero s bs o h = absurd (o refl)
+takes_inside (suc d) s bs o h = let k : suc d - 1 ≡ d = omega arith in subst (λ z. ListTakesMemory z s bs) k h

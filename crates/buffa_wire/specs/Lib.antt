@@ -26,3 +26,4 @@ pub use Rattle.buffa_bytes.specs.WireType
 pub use Rattle.buffa_bytes.specs.Written
 pub mod Enums
 pub mod Sequence
+pub mod Pinned

@@ -1,9 +1,10 @@
 -- What merging a message promises: what bytes make of a value, and what they cost, is said by the message's type.
-use Rattle.std.specs.Prelude.{◌≡◌, ◌≢◌, ◌^◌, ℕ, zero, suc, ◌⊎◌, List, ◌++◌, Option, Some, None, IsOk, Result, Ok, Err, MatchResult}
+use Rattle.std.specs.Prelude.{◌≡◌, ◌≢◌, ◌^◌, ℕ, zero, suc, ◌⊎◌, List, ◌++◌, Option, Some, None, Result, Ok, Err, MatchResult}
 use Rattle.buffa_bytes.specs.declared.error.DecodeError.{DecodeError}
 use Rattle.buffa_bytes.specs.declared.error.DecodeError.TheVariants.{ElementMemoryLimitExceeded, OutOfMemory, RecursionLimitExceeded, UnknownFieldLimitExceeded}
 use Rattle.buffa_bytes.specs.declared.wire_type.WireType.{WireType}
-use Rattle.buffa_bytes.specs.Field.{IsTag, Payload, SomeField}
+use Rattle.buffa_bytes.specs.declared.wire_type.WireType.TheVariants.{EndGroup}
+use Rattle.buffa_bytes.specs.Field.{IsTag, Payload, SomeField, TakesPayload}
 use Rattle.buffa_bytes.specs.Join.{Join}
 use Rattle.buffa_bytes.specs.Reading.{delimited_at, tag_at}
 use Rattle.buffa_wire.specs.BudgetLeft.{BudgetLeft, Lacks, Pays, PaysAtMost, nothing}
@@ -26,9 +27,13 @@ IsMerged meant need before r new after =
     (λ _. (meant ≡ Some new) × Pays before need after)
     (λ e. PaysAtMost before need after × (e ≢ OutOfMemory → MergeFault meant need before e))
 
--- some fields of the bytes, and then a tag: where merging them may take memory
+-- a tag begins the bytes, and it is no end tag
+abbrev pub BeginsField : List ℕ → Type 0
+BeginsField bs = (n : ℕ) × (w : WireType) × (rest : List ℕ) × (tag_at bs ≡ Ok (n, w, rest)) × (w ≢ EndGroup)
+
+-- some fields of the bytes, and then a tag that is no end tag: where merging them may take memory
 abbrev pub ReachesTag : ℕ → List ℕ → Type 0
-ReachesTag d bs = (front : List ℕ) × (rest : List ℕ) × Join (SomeField d) front × (bs ≡ front ++ rest) × IsOk (tag_at rest)
+ReachesTag d bs = (front : List ℕ) × (rest : List ℕ) × Join (SomeField d) front × (bs ≡ front ++ rest) × BeginsField rest
 
 -- the budgets where nothing else is said
 abbrev pub defaults : BudgetLeft
@@ -41,15 +46,23 @@ IsMergedAlone meant need r new =
     (λ _. (meant ≡ Some new) × (Lacks defaults need → ⊥))
     (λ e. e ≢ OutOfMemory → MergeFault meant need defaults e)
 
+-- What a refusal speaks of, where bs follows the tag of a field: a whole payload of the field at the front; or, where
+-- none begins bs, all of them.
+abbrev pub IsJudged : ℕ → ℕ → WireType → List ℕ → List ℕ → Type 0
+IsJudged d n w bs p =
+    ((rest : List ℕ) × Payload d n w p × (bs ≡ p ++ rest))
+    ⊎ ((p ≡ bs) × ((rest : List ℕ) → TakesPayload d n w bs rest → ⊥))
+
 -- Merging the field whose tag, of number n and wire type w, was read, however it was spelled, where bs follows the tag:
 -- what the field means is left, exactly what it costs is spent, and rest follows it; on a refusal at most what the
--- tag and bs cost is spent, and it tells why they aren't merged.
+-- tag and the bytes that are judged cost is spent, and it tells why they aren't merged.
 abbrev pub IsFieldMerged : {X T : Type 0} → (ℕ → X → List ℕ → Option X) → (ℕ → List ℕ → BudgetLeft) → ℕ → X → ℕ → WireType → List ℕ → BudgetLeft → Result T DecodeError → X → BudgetLeft → List ℕ → Type 0
 IsFieldMerged merged cost d old n w bs before r new after rest =
     MatchResult r
     (λ _. (p : List ℕ) × Payload d n w p × (bs ≡ p ++ rest)
     × ((t : List ℕ) → IsTag t n w → (merged d old (t ++ p) ≡ Some new) × Pays before (cost d (t ++ p)) after))
-    (λ e. (t : List ℕ) → IsTag t n w → PaysAtMost before (cost d (t ++ bs)) after × (e ≢ OutOfMemory → MergeFault (merged d old (t ++ bs)) (cost d (t ++ bs)) before e))
+    (λ e. (t p : List ℕ) → IsTag t n w → IsJudged d n w bs p →
+    PaysAtMost before (cost d (t ++ p)) after × (e ≢ OutOfMemory → MergeFault (merged d old (t ++ p)) (cost d (t ++ p)) before e))
 
 -- a message inside a field is one level deeper: what its bytes mean, and what they cost
 abbrev pub merged_in : {X : Type 0} → (ℕ → X → List ℕ → Option X) → ℕ → X → List ℕ → Option X

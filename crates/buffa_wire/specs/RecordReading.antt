@@ -1,6 +1,6 @@
 -- What reading records gives: the records, the slots for unknown fields that are left, and the bytes that
 -- follow; or the first fault.
-use Rattle.std.specs.Prelude.{ℕ, zero, suc, ◌-◌, ◌<◌, ◌==◌, ◌&&◌, List, [], ◌∷◌, length, IsOk, Result, Ok, Err, if◌then◌else◌}
+use Rattle.std.specs.Prelude.{◌≡◌, ◌≢◌, ℕ, zero, suc, ◌-◌, ◌<◌, ◌⊎◌, ◌==◌, ◌&&◌, List, [], ◌∷◌, length, IsOk, Result, Ok, Err, if◌then◌else◌}
 use Rattle.buffa_bytes.specs.Gives.{◌>>=◌}
 use Rattle.buffa_bytes.specs.declared.wire_type.WireType.{WireType}
 use Rattle.buffa_bytes.specs.declared.wire_type.WireType.TheVariants as wire
@@ -22,12 +22,6 @@ plain_at wire.LengthDelimited bs = delimited_at bs >>= (λ v. Ok (bytes v.0, v.1
 plain_at wire.StartGroup bs = Err (InvalidWireType 3)
 plain_at wire.EndGroup bs = Err (InvalidWireType 4)
 plain_at wire.Fixed32 bs = fixed32_at bs >>= (λ v. Ok (fixed32 v.0, v.1))
-
--- a field of this wire type takes memory: for the bytes, which are there, or for a group's fields
-abbrev pub TakesMemory : ℕ → WireType → List ℕ → Type 0
-TakesMemory d wire.LengthDelimited bs = IsOk (delimited_at bs)
-TakesMemory d wire.StartGroup bs = (0 < d) × IsOk (tag_at bs)
-TakesMemory d w bs = ⊥
 
 -- the payload of a field whose slot is spent
 abbrev pub payload_by : GroupReader → ℕ → ℕ → WireType → List ℕ → Result (Datum × ℕ × List ℕ) DecodeError
@@ -71,3 +65,30 @@ records_at d s bs = records_within (group_at d) (length bs) s bs
 -- the records alone
 abbrev pub list_at : ℕ → ℕ → List ℕ → Result (List (ℕ × Datum)) DecodeError
 list_at d s bs = records_at d s bs >>= (λ v. Ok (list_of v.0))
+
+-- ---- where reading takes memory
+
+-- a payload takes memory: for its bytes, of which there is one at least; or for a group, where G says so of its fields
+abbrev pub PayloadTakesMemory : (ℕ → List ℕ → Type 0) → ℕ → WireType → List ℕ → Type 0
+PayloadTakesMemory G s wire.LengthDelimited bs = (b : List ℕ) × (rest : List ℕ) × (delimited_at bs ≡ Ok (b, rest)) × (b ≢ [])
+PayloadTakesMemory G s wire.StartGroup bs = G s bs
+PayloadTakesMemory G s w bs = ⊥
+
+-- fields take memory: the first one is read, and so kept, or its payload takes memory, where a slot is left
+abbrev pub FieldsTakeMemory : GroupReader → (ℕ → List ℕ → Type 0) → ℕ → List ℕ → Type 0
+FieldsTakeMemory inner G s bs =
+    (t : ℕ × WireType × List ℕ) × (tag_at bs ≡ Ok t)
+    × (IsOk (field_by inner s t.0 t.1 t.2) ⊎ ((0 < s) × PayloadTakesMemory G (s - 1) t.1 t.2))
+
+-- the same of fields in a group, nested at most d deep
+unfoldable pub GroupTakesMemory : ℕ → ℕ → List ℕ → Type 0
+GroupTakesMemory zero s bs = ⊥
+GroupTakesMemory (suc d) s bs = FieldsTakeMemory (group_at d) (GroupTakesMemory d) s bs
+
+-- a field after its tag takes memory
+abbrev pub TakesMemory : ℕ → ℕ → WireType → List ℕ → Type 0
+TakesMemory d s w bs = (0 < s) × PayloadTakesMemory (GroupTakesMemory d) (s - 1) w bs
+
+-- whole bytes take memory
+abbrev pub ListTakesMemory : ℕ → ℕ → List ℕ → Type 0
+ListTakesMemory d s bs = FieldsTakeMemory (group_at d) (GroupTakesMemory d) s bs

@@ -1,6 +1,6 @@
 //! The sizes that one pass reserves and the other consumes.
 
-ghost use Rattle.std.specs.Prelude.{◌≡◌, ◌+◌, ◌<◌, ◌∷◌, [], length, slice_index, slice_set, IfErr, IfOk, OnErr, OnOk};
+ghost use Rattle.std.specs.Prelude.{◌≡◌, ◌+◌, ◌<◌, ◌∷◌, [], length, slice_index, slice_set, IfErr, IfOk, IsOk, OnErr, OnOk};
 ghost use Rattle.buffa_bytes.specs.declared.error.EncodeError.TheVariants as error;
 ghost use Rattle.buffa_wire.specs.Cache.{advanced, appended};
 
@@ -47,10 +47,11 @@ impl SizeCache {
     /// that the slots stay is promised.
     ///
     /// # Errors
-    /// [`EncodeError::OutOfMemory`] alone. The slots stay in any case.
+    /// [`EncodeError::OutOfMemory`] alone, never for no slots. The slots stay in any case.
     pub fn make_room(&mut self, slots: usize) -> Result<(), EncodeError>
         ensures slots { self.new ≡ self.old }
         ensures which { IfErr result (λ e. e ≡ error.OutOfMemory) }
+        ensures none { slots ≡ 0 → IsOk result }
     {
         match self.slots.reserve(slots) {
             Ok(()) => Ok(()),

@@ -13,10 +13,15 @@ ghost use Rattle.buffa_wire.specs.Equal.{field_eq, held_eq};
 ghost use Rattle.buffa_wire.specs.Text.{records_text};
 ghost use Rattle.buffa_wire.specs.Parse.{FieldFault, Fits, InRange, Parse, RecordsFault, TakesField, slots};
 ghost use Rattle.buffa_wire.specs.RecordReading.{field_at, list_at};
+ghost use Rattle.buffa_wire.specs.BudgetLeft.{BudgetLeft};
+ghost use Rattle.buffa_wire.specs.Cache.{Cache};
+ghost use Rattle.buffa_wire.specs.Field.{IsTag};
+ghost use Rattle.buffa_wire.specs.Pinned.{BudgetIsPinned, FieldIsPinned, FieldMergeIsPinned, MergeIsPinned};
+ghost use Rattle.buffa_wire.specs.Pinned.{PassesArePinned, RecordsArePinned};
 
 use crate::budget::{DEFAULT_ELEMENT_MEMORY_LIMIT, DEFAULT_UNKNOWN_FIELD_LIMIT};
 use crate::context::RECURSION_LIMIT;
-use crate::message::MAX_MESSAGE_BYTES;
+use crate::message::{MAX_MESSAGE_BYTES, Message};
 use crate::unknown_fields::UnknownField;
 
 /// Whole bytes are read as records exactly where the grammar has them and a slot is left for each record,
@@ -80,4 +85,42 @@ pub fn texts_are_read_back()
 pub fn equality_is_of_records()
     ensures fields { (a b : Held) → (held_eq a b ≡ true) ↔ (a.records ≡ b.records) }
     ensures field { (a b : UnknownField) → (field_eq a b ≡ true) ↔ (record_of a ≡ record_of b) }
+{}
+
+/// Whole bytes are merged in one way, and what is merged isn't refused, memory aside.
+///
+/// Open: on a refusal which error tells it (any but a limit's where the bytes mean no value, any where their cost
+/// isn't left), what is left of the budget between nothing and all of the cost spent, and the value, which is any.
+pub fn merging_is_pinned<M: Message>()
+    ensures { (d : ℕ) (old : M.Meaning) (bs : List ℕ) (before : BudgetLeft) → MergeIsPinned (M.merged d old bs)
+        (M.cost d bs) before }
+{}
+
+/// The same of one field, and of what follows it.
+///
+/// Open: what is open of whole bytes, and what is left of the buffer after a refusal.
+pub fn merging_a_field_is_pinned<M: Message>()
+    ensures { (d n : ℕ) (w : WireType) (t : List ℕ) (tag : IsTag t n w) (old : M.Meaning) (bs : List ℕ)
+        (before : BudgetLeft) → FieldMergeIsPinned M.merged M.cost d n w t tag old bs before }
+{}
+
+/// A value is sized and, where its text is small, written in one way.
+///
+/// Open: when memory runs out, how many slots are reserved then, and what is written of a text that isn't small.
+pub fn passes_are_pinned()
+    ensures { (text slots : List ℕ) (old : Cache) → PassesArePinned text slots old }
+{}
+
+/// A field, and whole bytes, are read as one list of records, or refused by one fault.
+///
+/// Open: when memory runs out of those cases where reading takes any, and of a field that is refused how many of the
+/// slots are spent, at most one and one for each byte that was read, and where the buffer stands.
+pub fn records_are_pinned()
+    ensures field { (d s n : ℕ) (w : WireType) (bs : List ℕ) → FieldIsPinned d s n w bs }
+    ensures whole { (d s : ℕ) (bs : List ℕ) → RecordsArePinned d s bs }
+{}
+
+/// What is spent leaves one budget, and it is spent exactly where it is there. Nothing is open.
+pub fn budgets_are_pinned()
+    ensures { (left need : BudgetLeft) → BudgetIsPinned left need }
 {}

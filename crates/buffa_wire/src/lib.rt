@@ -12,6 +12,7 @@ pub mod form;
 pub mod laws;
 pub mod message;
 pub mod scalar;
+pub mod scalar_laws;
 pub mod scalars;
 #[cfg(test)]
 mod tests;

@@ -22,7 +22,7 @@ use crate::budget::{Budget, DEFAULT_UNKNOWN_FIELD_LIMIT};
 use crate::cache::SizeCache;
 use crate::context::{DecodeContext, RECURSION_LIMIT};
 use buffa_bytes::buf::{copy_bytes, front};
-use buffa_bytes::{Blank, Buf, DecodeError, EncodeError, EncodeSink, Tag, decode_varint};
+use buffa_bytes::{Blank, Buf, DecodeError, EncodeError, EncodeSink, Tag, WireType, decode_varint};
 use std::alloc::Global;
 
 /// The most bytes that a message's text may have: 2^31 - 1.
@@ -139,7 +139,8 @@ pub trait Message: MessageSpec {
     /// Merges the field whose tag was read, and leaves what follows it.
     ///
     /// # Errors
-    /// Those of [`Message::merge`].
+    /// Those of [`Message::merge`], of this field alone where its payload is whole; never
+    /// [`DecodeError::OutOfMemory`] for an end tag. The value is then some value of its type.
     fn merge_field(
         &mut self,
         alloc: Global,
@@ -147,9 +148,10 @@ pub trait Message: MessageSpec {
         buf: &mut &[u8],
         ctx: DecodeContext<'_>,
     ) -> Result<(), DecodeError>
-        ensures { IsFieldMerged Self.merged Self.cost ctx.entry.depth (Self.meaning self.old) tag.number
+        ensures merged { IsFieldMerged Self.merged Self.cost ctx.entry.depth (Self.meaning self.old) tag.number
             tag.wire_type buf.old.now ctx.entry.budget.now result (Self.meaning self.new) (budget_left ctx.exit)
-            buf.new.now };
+            buf.new.now }
+        ensures full { FullOnlyIf result (tag.wire_type ≢ WireType.EndGroup) };
 
     /// Merges the fields that the bytes are, all of them.
     ///
@@ -223,6 +225,8 @@ pub trait Message: MessageSpec {
         ensures spent { OnErr result (PaysAtMost ctx.entry.budget.now
             (cost_of_payload Self.cost ctx.entry.depth (delimited_at (B.unread buf.old))) (budget_left ctx.exit)) }
         ensures full { FullOnlyIf result ((0 < ctx.entry.depth) × IsOk (delimited_at (B.unread buf.old))) }
+        ensures free { (rest : List ℕ) → 0 < ctx.entry.depth → delimited_at (B.unread buf.old) ≡ Ok ([], rest) →
+            IsOk result }
         ensures outside { (IsOk (delimited_at (B.unread buf.old)) → ⊥) → Self.meaning self.new ≡ Self.meaning self.old }
         ensures level { ctx.entry.depth ≡ 0 → (Self.meaning self.new ≡ Self.meaning self.old)
             × (B.unread buf.new ≡ B.unread buf.old) }

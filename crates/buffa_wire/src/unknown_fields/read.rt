@@ -1,11 +1,11 @@
 //! Reading unknown fields.
 
-ghost use Rattle.std.specs.Prelude.{◌≡◌, ◌≢◌, ◌<◌, ◌+◌, IfOk, IsOk};
+ghost use Rattle.std.specs.Prelude.{◌≡◌, ◌≢◌, ◌+◌, IfOk};
 ghost use Rattle.buffa_wire.specs.Gives.{FullOnlyIf, GivesUnlessFull};
 ghost use Rattle.buffa_wire.specs.BudgetLeft.{SlotsSpent, budget_left};
-ghost use Rattle.buffa_wire.specs.Reading.{tag_at};
 ghost use Rattle.buffa_wire.specs.Records.{records_of};
-ghost use Rattle.buffa_wire.specs.RecordReading.{TakesMemory, field_at, group_at, list_at, plain_at};
+ghost use Rattle.buffa_wire.specs.RecordReading.{GroupTakesMemory, ListTakesMemory, PayloadTakesMemory, TakesMemory};
+ghost use Rattle.buffa_wire.specs.RecordReading.{field_at, group_at, list_at, plain_at};
 ghost use Rattle.buffa_wire.specs.Unread.{IsTailOf, bytes_read};
 ghost use Rattle.buffa_wire.specs.View.{datum_of};
 
@@ -26,7 +26,7 @@ fn decode_plain<B: Buf>(
     requires no_end { wire_type ≢ WireType.EndGroup }
     ensures reads { GivesUnlessFull (λ d. (datum_of d, B.unread buf.new)) result
         (plain_at wire_type (B.unread buf.old)) }
-    ensures full { FullOnlyIf result (TakesMemory 0 wire_type (B.unread buf.old)) }
+    ensures full { FullOnlyIf result (PayloadTakesMemory (λ s bs. ⊥) 0 wire_type (B.unread buf.old)) }
     ensures kept { B.beyond buf.new ≡ B.beyond buf.old }
     ensures tail { IsTailOf (B.unread buf.new) (B.unread buf.old) }
 {
@@ -55,7 +55,7 @@ fn decode_plain<B: Buf>(
 ///
 /// It spends one slot for the field, and one for each field in its groups, and no element memory. After an
 /// error no more slots are spent than one and the bytes that were read. Memory is asked for only where a slot
-/// was left, for bytes that are there and for the fields of a group.
+/// was left, for bytes, one at least, that are there, and for a group's fields once the first is read.
 ///
 /// # Errors
 /// The first fault, in this order: [`DecodeError::InvalidEndGroup`] for an end tag, which takes no slot;
@@ -78,14 +78,15 @@ pub fn decode_unknown_field<B: Buf>(
 ) -> Result<UnknownField, DecodeError>
     ensures reads { GivesUnlessFull (λ f. (datum_of f.payload, (budget_left ctx.exit).unknown, B.unread buf.new)) result
         (field_at ctx.entry.depth ctx.entry.budget.now.unknown tag.number tag.wire_type (B.unread buf.old)) }
-    ensures full { FullOnlyIf result ((0 < ctx.entry.budget.now.unknown)
-        × TakesMemory ctx.entry.depth tag.wire_type (B.unread buf.old)) }
+    ensures full { FullOnlyIf result (TakesMemory ctx.entry.depth ctx.entry.budget.now.unknown tag.wire_type
+        (B.unread buf.old)) }
     ensures number { IfOk result (λ f. f.number ≡ tag.number) }
     ensures memory { (budget_left ctx.exit).memory ≡ ctx.entry.budget.now.memory }
     ensures spent { SlotsSpent (1 + bytes_read (B.unread buf.old) (B.unread buf.new))
         ctx.entry.budget.now.unknown (budget_left ctx.exit).unknown }
     ensures end { tag.wire_type ≡ WireType.EndGroup → budget_left ctx.exit ≡ ctx.entry.budget.now }
     ensures end_stays { tag.wire_type ≡ WireType.EndGroup → B.unread buf.new ≡ B.unread buf.old }
+    ensures level { tag.wire_type ≡ WireType.StartGroup → ctx.entry.depth ≡ 0 → B.unread buf.new ≡ B.unread buf.old }
     ensures no_slot_stays { ctx.entry.budget.now.unknown ≡ 0 → B.unread buf.new ≡ B.unread buf.old }
     ensures kept { B.beyond buf.new ≡ B.beyond buf.old }
     ensures tail { IsTailOf (B.unread buf.new) (B.unread buf.old) }
@@ -122,7 +123,9 @@ fn decode_group<B: Buf>(
     ensures reads { GivesUnlessFull (λ f. (records_of f.records, (budget_left ctx.exit).unknown, B.unread buf.new))
         result
         (group_at ctx.entry.depth ctx.entry.budget.now.unknown number (B.unread buf.old)) }
-    ensures full { FullOnlyIf result ((0 < ctx.entry.depth) × IsOk (tag_at (B.unread buf.old))) }
+    ensures full { FullOnlyIf result (GroupTakesMemory ctx.entry.depth ctx.entry.budget.now.unknown
+        (B.unread buf.old)) }
+    ensures level { ctx.entry.depth ≡ 0 → B.unread buf.new ≡ B.unread buf.old }
     ensures memory { (budget_left ctx.exit).memory ≡ ctx.entry.budget.now.memory }
     ensures spent { SlotsSpent (bytes_read (B.unread buf.old) (B.unread buf.new))
         ctx.entry.budget.now.unknown (budget_left ctx.exit).unknown }
@@ -159,7 +162,8 @@ impl UnknownFields {
     ///
     /// # Errors
     /// The first fault: of a tag, as [`Tag::decode`] tells it, or of the field behind it, as
-    /// [`decode_unknown_field`] does. Or [`DecodeError::OutOfMemory`], only where a tag begins the bytes.
+    /// [`decode_unknown_field`] does. Or [`DecodeError::OutOfMemory`], only where the first field is read or
+    /// takes memory itself.
     ///
     /// ```ignore
     /// let fields = UnknownFields::decode_from_slice(alloc, &[0x38, 0x96, 0x01])?;
@@ -167,7 +171,7 @@ impl UnknownFields {
     pub fn decode_from_slice(alloc: Global, bytes: &[u8]) -> Result<UnknownFields, DecodeError>
         ensures reads { GivesUnlessFull (λ f. f.records) result
             (list_at RECURSION_LIMIT DEFAULT_UNKNOWN_FIELD_LIMIT bytes.now) }
-        ensures full { FullOnlyIf result (IsOk (tag_at bytes.now)) }
+        ensures full { FullOnlyIf result (ListTakesMemory RECURSION_LIMIT DEFAULT_UNKNOWN_FIELD_LIMIT bytes.now) }
     {
         let mut budget = Budget::new(DEFAULT_UNKNOWN_FIELD_LIMIT);
         let mut rest = bytes;

@@ -9,8 +9,11 @@ use Rattle.buffa_bytes.proofs.FieldLemmas.{tag_some, tag_sound}
 use Rattle.buffa_bytes.proofs.FullLemmas.{tag_full}
 use Rattle.buffa_wire.specs.BudgetLeft.{BudgetLeft, PaysAtMost}
 use Rattle.buffa_wire.specs.Message.{MergeFault}
-use Rattle.buffa_wire.proofs.MessageLemmas.{field_costs, field_means, front_more, loop_fault, reaches_tag, untagged}
-use Rattle.buffa_samples.proofs.TreeFields.{all_merged, child_merged, label_merged, wire_merged}
+use Rattle.buffa_wire.proofs.MessageLemmas.{field_costs, field_means, front_more, judged_all, loop_fault, reaches_tag, untagged}
+use Rattle.buffa_samples.proofs.TreeFields.{all_merged, child_full, child_merged, label_merged, mismatch_full, wire_merged}
+use Rattle.buffa_samples.specs.FieldsLaws.{full_not_at_end}
+use Rattle.buffa_samples.specs.Flat.{flat_field}
+use Rattle.buffa_samples.specs.FlatLaws.{flat_ends}
 use Rattle.buffa_samples.specs.TreeLaws.{cost_next, merged_fields, merged_next}
 use Rattle.buffa_samples.specs.TreeMeaning.{cost, merged}
 use Rattle.buffa_samples.proofs.tree.+merge.Goals as goal
@@ -36,7 +39,7 @@ pub merge_tree-returns-in_err-merge_tree_field-clause-full : goal.merge_tree-ret
 merge_tree-returns-in_err-merge_tree_field-clause-full t c =
     let p = err_from_is_err_and c.from_residual-in_err-merge_tree_field.result c.from_residual-in_err-merge_tree_field.ensures.1 in
     let f = c.loop-rest.invariant.front in
-    rw (p.1, p.2) (λ h. reaches_tag c.args.depth f.0 c.args.bytes.now c.loop-rest.rest.now (c.in_ok-tag.tag.number, c.in_ok-tag.tag.wire_type, c.decode.new.buf.now) f.1 f.2 c.in_ok-tag.ensures.reads)
+    rw (p.1, p.2) (λ h. reaches_tag c.args.depth f.0 c.args.bytes.now c.loop-rest.rest.now (c.in_ok-tag.tag.number, c.in_ok-tag.tag.wire_type, c.decode.new.buf.now) f.1 f.2 c.in_ok-tag.ensures.reads (c.in_err-merge_tree_field.ensures.full h))
 
 pub merge_tree-loop-rest-init : goal.merge_tree-loop-rest-init
 merge_tree-loop-rest-init t c = record {
@@ -52,7 +55,7 @@ pub merge_tree-loop-rest-smaller : goal.merge_tree-loop-rest-smaller
 merge_tree-loop-rest-smaller t c =
     let rest = c.loop-rest.rest.now in
     let u : TakesTag rest c.in_ok-tag.tag.number c.in_ok-tag.tag.wire_type c.decode.new.buf.now = agree_ok (tag_at rest) (c.in_ok-tag.tag.number, c.in_ok-tag.tag.wire_type, c.decode.new.buf.now) (tag_sound rest) c.in_ok-tag.ensures.reads in
-    let m = c.in_ok-merge_tree_field.ensures in
+    let m = c.in_ok-merge_tree_field.ensures.merged in
     omega (arith, tag_some u.0 c.in_ok-tag.tag.number c.in_ok-tag.tag.wire_type u.1, ap length u.2, length-append u.0 c.decode.new.buf.now, ap length m.2, length-append m.0 c.merge_tree_field.new.buf.now)
 
 pub merge_tree-loop-rest-preserved : goal.merge_tree-loop-rest-preserved
@@ -64,7 +67,7 @@ merge_tree-loop-rest-preserved t c =
     let rest = c.loop-rest.rest.now in
     let x = c.merge_tree_field.new.buf.now in
     let u : TakesTag rest n w c.decode.new.buf.now = agree_ok (tag_at rest) (n, w, c.decode.new.buf.now) (tag_sound rest) c.in_ok-tag.ensures.reads in
-    let m = c.in_ok-merge_tree_field.ensures in
+    let m = c.in_ok-merge_tree_field.ensures.merged in
     let split : rest ≡ u.0 ++ (m.0 ++ x) = u.2 ∙ ap (λ z. u.0 ++ z) m.2 in
     let one = m.3 u.0 u.1 in
     let costs = field_costs merged cost merged_fields merged_next cost_next d rest u.0 m.0 x n w u.1 m.1 split in
@@ -90,7 +93,7 @@ merge_tree-returns-in_err-merge_tree_field-clause-merged t c =
     let u : TakesTag rest n w c.decode.new.buf.now = agree_ok (tag_at rest) (n, w, c.decode.new.buf.now) (tag_sound rest) c.in_ok-tag.ensures.reads in
     let over = c.merge_tree_field.new.budget in
     let why : PaysAtMost c.loop-rest.budget (cost d rest) over × (e ≢ OutOfMemory → MergeFault (merged d v rest) (cost d rest) c.loop-rest.budget e) =
-    subst (λ (z : List ℕ). PaysAtMost c.loop-rest.budget (cost d z) over × (e ≢ OutOfMemory → MergeFault (merged d v z) (cost d z) c.loop-rest.budget e)) (sym u.2) (c.in_err-merge_tree_field.ensures u.0 u.1) in
+    subst (λ (z : List ℕ). PaysAtMost c.loop-rest.budget (cost d z) over × (e ≢ OutOfMemory → MergeFault (merged d v z) (cost d z) c.loop-rest.budget e)) (sym u.2) (judged_all merged cost merged_fields merged_next cost_next d v n w c.decode.new.buf.now c.loop-rest.budget over e c.in_err-merge_tree_field.ensures.merged u.0 u.1) in
     rw (p.1, p.2) (loop_fault (merged d c.args.tree.now c.args.bytes.now) (merged d v rest) c.args.budget.now c.loop-rest.budget over
     (cost d c.args.bytes.now) (cost d rest) e inv.means inv.unknown inv.memory inv.no_slot inv.no_unit why)
 
@@ -103,17 +106,26 @@ merge_tree-returns-clause-merged t c =
 pub merge_tree_field-returns-then-field_number-ne2 : goal.merge_tree_field-returns-then-field_number-ne2
 merge_tree_field-returns-then-field_number-ne2 t c =
     let other : c.args.tag.number ≢ 2 = λ z. absurd (omega (arith, c.field_number.ensures, c.if-field_number-ne2.true, z)) in
-    label_merged c.args.tag.number c.args.tag.wire_type c.args.buf.now.now c.merge_value.new.buf.now c.args.budget.now c.args.depth c.args.tree.now c.tree.inside.label c.tree.inside.children.entries c.tree.view_is
-    c.merge_value.result c.merge_value.new.value other c.merge_value.ensures
+    record {
+      merged = label_merged c.args.tag.number c.args.tag.wire_type c.args.buf.now.now c.merge_value.new.buf.now c.args.budget.now c.args.depth c.args.tree.now c.tree.inside.label c.tree.inside.children.entries c.tree.view_is
+      c.merge_value.result c.merge_value.new.value other c.merge_value.ensures;
+      full = full_not_at_end (flat_field c.args.depth) (flat_ends c.args.depth) c.merge_value.result c.tree.inside.label c.merge_value.new.value c.args.tag.number c.args.tag.wire_type c.args.buf.now.now c.merge_value.new.buf.now c.merge_value.ensures;
+    }
 
 pub merge_tree_field-returns-in_err-check_wire_type : goal.merge_tree_field-returns-in_err-check_wire_type
 merge_tree_field-returns-in_err-check_wire_type t c =
     let p = err_from_is_err_and c.from_residual.result c.from_residual.ensures.1 in
     let two : c.args.tag.number ≡ 2 = omega (arith, c.field_number.ensures, c.if-field_number-ne2.false) in
-    rw (p.1, p.2) (wire_merged c.args.tag.number c.args.tag.wire_type c.args.buf.now.now c.args.buf.now.now c.args.budget.now c.args.depth c.args.tree.now c.in_err-check_wire_type.field-0.0 two c.in_err-check_wire_type.ensures)
+    record {
+      merged = rw (p.1, p.2) (wire_merged c.args.tag.number c.args.tag.wire_type c.args.buf.now.now c.args.buf.now.now c.args.budget.now c.args.depth c.args.tree.now c.in_err-check_wire_type.field-0.0 two c.in_err-check_wire_type.ensures);
+      full = rw (p.1, p.2) (λ h. absurd (mismatch_full c.args.tag.number c.args.tag.wire_type _ c.in_err-check_wire_type.ensures h));
+    }
 
 pub merge_tree_field-returns : goal.merge_tree_field-returns
 merge_tree_field-returns t c =
     let two : c.args.tag.number ≡ 2 = omega (arith, c.field_number.ensures, c.if-field_number-ne2.false) in
-    child_merged c.args.tag.number c.args.tag.wire_type c.args.buf.now.now c.merge_child_by.new.buf.now c.args.budget.now c.merge_child_by.new.budget c.args.depth c.args.tree.now c.tree.inside.label c.tree.inside.children.entries c.tree.view_is
-    c.merge_child_by.result c.merge_child_by.new.children.entries two c.in_ok-check_wire_type.ensures c.merge_child_by.ensures
+    record {
+      merged = child_merged c.args.tag.number c.args.tag.wire_type c.args.buf.now.now c.merge_child_by.new.buf.now c.args.budget.now c.merge_child_by.new.budget c.args.depth c.args.tree.now c.tree.inside.label c.tree.inside.children.entries c.tree.view_is
+      c.merge_child_by.result c.merge_child_by.new.children.entries two c.in_ok-check_wire_type.ensures c.merge_child_by.ensures;
+      full = child_full c.args.tag.number c.args.tag.wire_type c.merge_child_by.result c.in_ok-check_wire_type.ensures;
+    }

@@ -1,9 +1,12 @@
-use Rattle.buffa_samples.specs.FieldsLaws.{free}
+use Rattle.buffa_samples.specs.FieldsLaws.{free, full_not_at_end}
 use Rattle.buffa_samples.specs.Count.{count_field}
-use Rattle.buffa_samples.specs.CountLaws.{count_same, count_sound}
+use Rattle.buffa_samples.specs.CountLaws.{count_ends, count_same, count_sound}
 use Rattle.buffa_samples.proofs.count.CountMsgMessage.merge_field.Goals as goal
 
 pub returns : goal.returns
 returns c =
     let d = c.args.ctx.depth in
-    free d (count_field d) (count_sound d) (count_same d) c.merge_count.result c.args.self.now.count c.merge_count.new.count c.args.tag.number c.args.tag.wire_type c.args.buf.now.now c.merge_count.new.buf.now c.args.ctx.budget.now c.merge_count.ensures
+    record {
+      merged = free d (count_field d) (count_sound d) (count_same d) c.merge_count.result c.args.self.now.count c.merge_count.new.count c.args.tag.number c.args.tag.wire_type c.args.buf.now.now c.merge_count.new.buf.now c.args.ctx.budget.now c.merge_count.ensures;
+      full = full_not_at_end (count_field d) (count_ends d) c.merge_count.result c.args.self.now.count c.merge_count.new.count c.args.tag.number c.args.tag.wire_type c.args.buf.now.now c.merge_count.new.buf.now c.merge_count.ensures;
+    }

@@ -1,9 +1,12 @@
-use Rattle.buffa_samples.specs.FieldsLaws.{free}
+use Rattle.buffa_samples.specs.FieldsLaws.{free, full_not_at_end}
 use Rattle.buffa_samples.specs.Two.{two_field}
-use Rattle.buffa_samples.specs.TwoLaws.{two_same, two_sound}
+use Rattle.buffa_samples.specs.TwoLaws.{two_ends, two_same, two_sound}
 use Rattle.buffa_samples.proofs.two.TestMsgMessage.merge_field.Goals as goal
 
 pub returns : goal.returns
 returns c =
     let d = c.args.ctx.depth in
-    free d (two_field d) (two_sound d) (two_same d) c.merge_values.result (c.args.self.now.a, c.args.self.now.b) (c.merge_values.new.a, c.merge_values.new.b) c.args.tag.number c.args.tag.wire_type c.args.buf.now.now c.merge_values.new.buf.now c.args.ctx.budget.now c.merge_values.ensures
+    record {
+      merged = free d (two_field d) (two_sound d) (two_same d) c.merge_values.result (c.args.self.now.a, c.args.self.now.b) (c.merge_values.new.a, c.merge_values.new.b) c.args.tag.number c.args.tag.wire_type c.args.buf.now.now c.merge_values.new.buf.now c.args.ctx.budget.now c.merge_values.ensures;
+      full = full_not_at_end (two_field d) (two_ends d) c.merge_values.result (c.args.self.now.a, c.args.self.now.b) (c.merge_values.new.a, c.merge_values.new.b) c.args.tag.number c.args.tag.wire_type c.args.buf.now.now c.merge_values.new.buf.now c.merge_values.ensures;
+    }

@@ -9,7 +9,7 @@ use Rattle.buffa_bytes.proofs.FieldLemmas.{tag_some, tag_sound}
 use Rattle.buffa_bytes.proofs.FullLemmas.{tag_full}
 use Rattle.buffa_wire.specs.BudgetLeft.{BudgetLeft, PaysAtMost}
 use Rattle.buffa_wire.specs.Message.{MergeFault}
-use Rattle.buffa_wire.proofs.MessageLemmas.{field_costs, field_means, front_more, loop_fault, reaches_tag, untagged}
+use Rattle.buffa_wire.proofs.MessageLemmas.{field_costs, field_means, front_more, judged_all, loop_fault, reaches_tag, untagged}
 use Rattle.buffa_wire.proofs.message.Message.merge.Goals as goal
 
 pub loop-rest-init : goal.loop-rest-init
@@ -38,7 +38,7 @@ pub loop-rest-smaller : goal.loop-rest-smaller
 loop-rest-smaller g c =
     let rest = c.loop-rest.rest.now in
     let u : TakesTag rest c.in_ok-tag.tag.number c.in_ok-tag.tag.wire_type c.decode.new.buf.now = agree_ok (tag_at rest) (c.in_ok-tag.tag.number, c.in_ok-tag.tag.wire_type, c.decode.new.buf.now) (tag_sound rest) c.in_ok-tag.ensures.reads in
-    let m = c.in_ok-merge_field.ensures in
+    let m = c.in_ok-merge_field.ensures.merged in
     omega (arith, tag_some u.0 c.in_ok-tag.tag.number c.in_ok-tag.tag.wire_type u.1, ap length u.2, length-append u.0 c.decode.new.buf.now, ap length m.2, length-append m.0 c.merge_field.new.buf.now)
 
 pub loop-rest-preserved : goal.loop-rest-preserved
@@ -50,7 +50,7 @@ loop-rest-preserved g c =
     let rest = c.loop-rest.rest.now in
     let x = c.merge_field.new.buf.now in
     let u : TakesTag rest n w c.decode.new.buf.now = agree_ok (tag_at rest) (n, w, c.decode.new.buf.now) (tag_sound rest) c.in_ok-tag.ensures.reads in
-    let m = c.in_ok-merge_field.ensures in
+    let m = c.in_ok-merge_field.ensures.merged in
     let split : rest ≡ u.0 ++ (m.0 ++ x) = u.2 ∙ ap (λ z. u.0 ++ z) m.2 in
     let one = m.3 u.0 u.1 in
     let costs = field_costs g.Self.MessageSpec.merged g.Self.MessageSpec.cost g.Self.MessageSpec.merged_fields g.Self.MessageSpec.merged_next g.Self.MessageSpec.cost_next d rest u.0 m.0 x n w u.1 m.1 split in
@@ -76,7 +76,7 @@ returns-in_err-merge_field-clause-merged g c =
     let u : TakesTag rest n w c.decode.new.buf.now = agree_ok (tag_at rest) (n, w, c.decode.new.buf.now) (tag_sound rest) c.in_ok-tag.ensures.reads in
     let over = c.merge_field.new.ctx.1.0 in
     let why : PaysAtMost c.loop-rest.budget (g.Self.MessageSpec.cost d rest) over × (e ≢ OutOfMemory → MergeFault (g.Self.MessageSpec.merged d v rest) (g.Self.MessageSpec.cost d rest) c.loop-rest.budget e) =
-    subst (λ (z : List ℕ). PaysAtMost c.loop-rest.budget (g.Self.MessageSpec.cost d z) over × (e ≢ OutOfMemory → MergeFault (g.Self.MessageSpec.merged d v z) (g.Self.MessageSpec.cost d z) c.loop-rest.budget e)) (sym u.2) (c.in_err-merge_field.ensures u.0 u.1) in
+    subst (λ (z : List ℕ). PaysAtMost c.loop-rest.budget (g.Self.MessageSpec.cost d z) over × (e ≢ OutOfMemory → MergeFault (g.Self.MessageSpec.merged d v z) (g.Self.MessageSpec.cost d z) c.loop-rest.budget e)) (sym u.2) (judged_all g.Self.MessageSpec.merged g.Self.MessageSpec.cost g.Self.MessageSpec.merged_fields g.Self.MessageSpec.merged_next g.Self.MessageSpec.cost_next d v n w c.decode.new.buf.now c.loop-rest.budget over e c.in_err-merge_field.ensures.merged u.0 u.1) in
     rw (p.1, p.2) (loop_fault (g.Self.MessageSpec.merged d (g.Self.Blank.meaning c.args.self.now) c.args.bytes.now) (g.Self.MessageSpec.merged d v rest) c.args.ctx.budget.now c.loop-rest.budget over
     (g.Self.MessageSpec.cost d c.args.bytes.now) (g.Self.MessageSpec.cost d rest) e inv.means inv.unknown inv.memory inv.no_slot inv.no_unit why)
 
@@ -91,4 +91,4 @@ returns-in_err-merge_field-clause-full g c =
     let p = err_from_is_err_and c.from_residual-in_err-merge_field.result c.from_residual-in_err-merge_field.ensures.1 in
     let rest = c.loop-rest.rest.now in
     let f = c.loop-rest.invariant.front in
-    rw (p.1, p.2) (λ h. reaches_tag c.args.ctx.depth f.0 c.args.bytes.now rest (c.in_ok-tag.tag.number, c.in_ok-tag.tag.wire_type, c.decode.new.buf.now) f.1 f.2 c.in_ok-tag.ensures.reads)
+    rw (p.1, p.2) (λ h. reaches_tag c.args.ctx.depth f.0 c.args.bytes.now rest (c.in_ok-tag.tag.number, c.in_ok-tag.tag.wire_type, c.decode.new.buf.now) f.1 f.2 c.in_ok-tag.ensures.reads (c.in_err-merge_field.ensures.full h))

@@ -9,7 +9,7 @@ use Rattle.buffa_wire.proofs.unknown_fields.UnknownFields.decode_from_slice.Give
 abbrev pub invariant-loop-rest : goal.invariant-loop-rest
 invariant-loop-rest l = record {
   read : behind (records_of l.fields.records) (records_at 100 l.budget.unknown l.rest) ≡ records_at 100 1000000 l.fn.bytes;
-  begun : IsBegun l.fn.bytes l.rest;
+  begun : IsBegun 100 1000000 l.fn.bytes l.budget.unknown l.rest;
 }
 
 abbrev pub decreases-loop-rest : goal.decreases-loop-rest

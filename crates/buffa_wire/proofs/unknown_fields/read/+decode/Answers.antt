@@ -1,11 +1,11 @@
-use Rattle.std.proofs.Common.{rules, ◌∙◌, arith, refl, sym, ap, Err, inr}
+use Rattle.std.proofs.Common.{rules, ◌≡◌, ◌∙◌, arith, refl, sym, ap, Err, inr}
 use Rattle.std.proofs.lemmas.Result.{err_from_is_err_and}
 use Rattle.buffa_bytes.proofs.FieldLemmas.{tag_falls}
 use Rattle.buffa_wire.specs.BudgetLeft.{BudgetLeft}
 use Rattle.buffa_wire.specs.RecordReading.{group_at}
 use Rattle.buffa_bytes.proofs.TailLemmas.{tail_more, tail_whole}
 use Rattle.buffa_bytes.proofs.FullLemmas.{tag_no_full}
-use Rattle.buffa_wire.proofs.SpentLemmas.{field_spent, further_spent, next_spent, none_spent, one_spent, tag_is_there, takes_at, takes_group}
+use Rattle.buffa_wire.proofs.SpentLemmas.{begins_reading, begins_taking, field_spent, further_spent, next_spent, none_spent, one_spent, takes_group, takes_inside, takes_plain}
 use Rattle.buffa_wire.proofs.LoopLemmas.{field_falls, field_end, field_no_slot, field_group_ok, field_group_err, field_plain_ok, field_plain_err, group_limit, group_tag_err, group_end, group_other, group_field_err, group_next}
 use Rattle.buffa_wire.proofs.unknown_fields.read.+decode.Goals as goal
 
@@ -57,7 +57,8 @@ decode_group-returns-in_err-field g t c =
     record {
       reads = rw (p.1, p.2) (λ other. group_field_err c.args.ctx.depth c.loop-fields.budget.unknown c.args.number (g.B.Buf.unread c.loop-fields.buf) c.loop-fields.fields.records (group_at c.args.ctx.depth c.args.ctx.budget.now.unknown c.args.number (g.B.Buf.unread c.args.buf.now)) c.if-depth-eq0.false c.loop-fields.invariant.read _ c.in_ok-tag.ensures.reads (λ e. c.in_default.not-EndGroup (c.wire_type.ensures ∙ e)) _ (c.in_err-field.ensures.reads other));
       memory = c.in_err-field.ensures.memory ∙ c.loop-fields.invariant.memory;
-      full = rw (p.1, p.2) (λ k. (omega (arith, c.if-depth-eq0.false), tag_is_there _ _ _ c.loop-fields.invariant.begun c.in_ok-tag.ensures.reads));
+      full = rw (p.1, p.2) (λ k. takes_inside _ _ _ c.if-depth-eq0.false (begins_taking _ _ _ _ _ c.loop-fields.invariant.begun _ c.in_ok-tag.ensures.reads (c.in_err-field.ensures.full k)));
+      level = λ z. absurd {A = g.B.Buf.unread c.decode_unknown_field.new.buf ≡ g.B.Buf.unread c.args.buf.now} (c.if-depth-eq0.false z);
       spent = next_spent _ _ _ _ _ _ _ c.loop-fields.invariant.tail c.in_ok-tag.ensures.tail c.in_err-field.ensures.tail (tag_falls _ _ c.in_ok-tag.ensures.reads) c.loop-fields.invariant.spent c.in_err-field.ensures.spent;
       tail = tail_more _ _ _ c.in_err-field.ensures.tail (tail_more _ _ _ c.in_ok-tag.ensures.tail c.loop-fields.invariant.tail);
       kept = c.in_err-field.ensures.kept ∙ c.in_ok-tag.ensures.kept ∙ c.loop-fields.invariant.kept;
@@ -66,7 +67,8 @@ decode_group-returns-in_err-field g t c =
 pub decode_group-returns-in_default-push : goal.decode_group-returns-in_default-push
 decode_group-returns-in_default-push g t c = record {
   reads = λ other. absurd (other refl);
-  full = λ k. (omega (arith, c.if-depth-eq0.false), tag_is_there _ _ _ c.loop-fields.invariant.begun c.in_ok-tag.ensures.reads);
+  full = λ k. takes_inside _ _ _ c.if-depth-eq0.false (begins_reading _ _ _ _ _ c.loop-fields.invariant.begun _ c.in_ok-tag.ensures.reads _ c.in_ok-field.ensures.reads);
+  level = λ z. absurd (c.if-depth-eq0.false z);
   memory = c.in_ok-field.ensures.memory ∙ c.loop-fields.invariant.memory;
   spent = next_spent _ _ _ _ _ _ _ c.loop-fields.invariant.tail c.in_ok-tag.ensures.tail c.in_ok-field.ensures.tail (tag_falls _ _ c.in_ok-tag.ensures.reads) c.loop-fields.invariant.spent c.in_ok-field.ensures.spent;
   kept = c.in_ok-field.ensures.kept ∙ c.in_ok-tag.ensures.kept ∙ c.loop-fields.invariant.kept;
@@ -79,7 +81,7 @@ decode_group-loop-fields-preserved g t c = record {
   memory = c.in_ok-field.ensures.memory ∙ c.loop-fields.invariant.memory;
   spent = next_spent _ _ _ _ _ _ _ c.loop-fields.invariant.tail c.in_ok-tag.ensures.tail c.in_ok-field.ensures.tail (tag_falls _ _ c.in_ok-tag.ensures.reads) c.loop-fields.invariant.spent c.in_ok-field.ensures.spent;
   tail = tail_more _ _ _ c.in_ok-field.ensures.tail (tail_more _ _ _ c.in_ok-tag.ensures.tail c.loop-fields.invariant.tail);
-  begun = inr (tag_is_there _ _ _ c.loop-fields.invariant.begun c.in_ok-tag.ensures.reads);
+  begun = inr (begins_reading _ _ _ _ _ c.loop-fields.invariant.begun _ c.in_ok-tag.ensures.reads _ c.in_ok-field.ensures.reads);
   kept = c.in_ok-field.ensures.kept ∙ c.in_ok-tag.ensures.kept ∙ c.loop-fields.invariant.kept;
 }
 
@@ -97,6 +99,7 @@ decode_unknown_field-returns-in_err-take_slot g t c =
       spent = none_spent _ _ _ (ap (λ (b : BudgetLeft). b.unknown) c.in_err-take_slot.ensures.err.1);
       end = λ k. c.in_err-take_slot.ensures.err.1;
       end_stays = λ k. refl {a = g.B.Buf.unread c.args.buf.now};
+      level = λ k z. refl {a = g.B.Buf.unread c.args.buf.now};
       no_slot_stays = λ k. refl {a = g.B.Buf.unread c.args.buf.now};
       tail = tail_whole _;
       kept = refl {a = g.B.Buf.beyond c.args.buf.now};
@@ -109,7 +112,8 @@ decode_unknown_field-returns-in_err-fields g t c =
       reads = rw (p.1, p.2) (λ other. field_group_err _ _ _ _ _ _ _ c.in-StartGroup.is c.in_ok-take_slot.ensures.ok.0 (c.in_err-fields.ensures.reads other));
       number = search rules;
       memory = c.in_err-fields.ensures.memory ∙ c.in_ok-take_slot.ensures.ok.1;
-      full = rw (p.1, p.2) (λ k. (omega (arith, c.in_ok-take_slot.ensures.ok.0), takes_group _ _ _ c.in-StartGroup.is (c.in_err-fields.ensures.full k)));
+      full = rw (p.1, p.2) (λ k. takes_group _ _ _ _ _ c.in_ok-take_slot.ensures.ok.0 c.in-StartGroup.is (c.in_err-fields.ensures.full k));
+      level = λ k. c.in_err-fields.ensures.level;
       spent = field_spent _ _ _ _ c.in_ok-take_slot.ensures.ok.0 c.in_err-fields.ensures.spent;
       end = λ k. absurd (c.in_default.not-EndGroup k);
       end_stays = λ k. absurd (c.in_default.not-EndGroup k);
@@ -124,6 +128,7 @@ decode_unknown_field-returns-in-StartGroup g t c = record {
   number = refl;
   memory = c.in_ok-fields.ensures.memory ∙ c.in_ok-take_slot.ensures.ok.1;
   full = tt;
+  level = λ k. c.in_ok-fields.ensures.level;
   spent = field_spent _ _ _ _ c.in_ok-take_slot.ensures.ok.0 c.in_ok-fields.ensures.spent;
   end = λ k. absurd (c.in_default.not-EndGroup k);
   end_stays = λ k. absurd (c.in_default.not-EndGroup k);
@@ -139,7 +144,8 @@ decode_unknown_field-returns-in_err-payload g t c =
       reads = rw (p.1, p.2) (λ other. field_plain_err _ _ _ _ _ _ _ c.in_default.not-EndGroup c.in_default-wire_type.not-StartGroup c.in_ok-take_slot.ensures.ok.0 (c.in_err-payload.ensures.reads other));
       number = search rules;
       memory = c.in_ok-take_slot.ensures.ok.1;
-      full = rw (p.1, p.2) (λ k. (omega (arith, c.in_ok-take_slot.ensures.ok.0), takes_at _ _ _ _ c.in_default-wire_type.not-StartGroup (c.in_err-payload.ensures.full k)));
+      full = rw (p.1, p.2) (λ k. takes_plain _ _ _ _ _ c.in_ok-take_slot.ensures.ok.0 c.in_default-wire_type.not-StartGroup (c.in_err-payload.ensures.full k));
+      level = λ k. absurd (c.in_default-wire_type.not-StartGroup k);
       spent = one_spent _ _ _ c.in_ok-take_slot.ensures.ok.0;
       end = λ k. absurd (c.in_default.not-EndGroup k);
       end_stays = λ k. absurd (c.in_default.not-EndGroup k);
@@ -154,6 +160,7 @@ decode_unknown_field-returns g t c = record {
   number = refl;
   memory = c.in_ok-take_slot.ensures.ok.1;
   full = tt;
+  level = λ k. absurd (c.in_default-wire_type.not-StartGroup k);
   spent = one_spent _ _ _ c.in_ok-take_slot.ensures.ok.0;
   end = λ k. absurd (c.in_default.not-EndGroup k);
   end_stays = λ k. absurd (c.in_default.not-EndGroup k);

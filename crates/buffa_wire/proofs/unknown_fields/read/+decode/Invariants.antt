@@ -1,4 +1,4 @@
-use Rattle.std.proofs.Common.{◌≡◌, ◌+◌, ◌*◌, length}
+use Rattle.std.proofs.Common.{◌≡◌, ◌+◌, ◌-◌, ◌*◌, length}
 use Rattle.buffa_bytes.specs.Unread.{IsTailOf, bytes_read}
 use Rattle.buffa_wire.specs.BudgetLeft.{SlotsSpent}
 use Rattle.buffa_wire.proofs.SpentLemmas.{IsBegun}
@@ -20,7 +20,7 @@ invariant-decode_group-loop-fields g l = record {
   memory : l.budget.memory ≡ l.fn.ctx.budget.now.memory;
   spent : SlotsSpent (bytes_read (g.B.Buf.unread l.fn.buf) (g.B.Buf.unread l.buf)) l.fn.ctx.budget.now.unknown l.budget.unknown;
   tail : IsTailOf (g.B.Buf.unread l.buf) (g.B.Buf.unread l.fn.buf);
-  begun : IsBegun (g.B.Buf.unread l.fn.buf) (g.B.Buf.unread l.buf);
+  begun : IsBegun (l.depth - 1) l.fn.ctx.budget.now.unknown (g.B.Buf.unread l.fn.buf) l.budget.unknown (g.B.Buf.unread l.buf);
   kept : g.B.Buf.beyond l.buf ≡ g.B.Buf.beyond l.fn.buf;
 }
 

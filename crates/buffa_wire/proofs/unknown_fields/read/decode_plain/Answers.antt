@@ -1,5 +1,6 @@
 use Rattle.std.proofs.lemmas.Result.{err_from_is_err_and}
 use Rattle.buffa_bytes.proofs.FullLemmas.{varint_no_full, fixed32_no_full, fixed64_no_full}
+use Rattle.buffa_wire.proofs.SpentLemmas.{takes_bytes}
 use Rattle.buffa_wire.proofs.unknown_fields.read.decode_plain.Goals as goal
 
 pub returns-in_err-v-in-Varint-clause-full : goal.returns-in_err-v-in-Varint-clause-full
@@ -16,3 +17,8 @@ pub returns-in_err-v-in-Fixed32-clause-full : goal.returns-in_err-v-in-Fixed32-c
 returns-in_err-v-in-Fixed32-clause-full g c =
     let p = err_from_is_err_and c.from_residual-in_err-v-in-Fixed32.result c.from_residual-in_err-v-in-Fixed32.ensures.1 in
     rw (p.1, p.2) (fixed32_no_full (g.B.Buf.unread c.args.buf.now) _ c.in_err-v-in-Fixed32.ensures.reads)
+
+pub returns-in_err-v-in-LengthDelimited-clause-full : goal.returns-in_err-v-in-LengthDelimited-clause-full
+returns-in_err-v-in-LengthDelimited-clause-full g c =
+    let p = err_from_is_err_and c.from_residual-in_err-v-in-LengthDelimited.result c.from_residual-in_err-v-in-LengthDelimited.ensures.1 in
+    rw (p.1, p.2, c.in-LengthDelimited.is) (λ k. takes_bytes (g.B.Buf.unread c.args.buf.now) c.in_err-v-in-LengthDelimited.ensures.free (c.in_err-v-in-LengthDelimited.ensures.full k))

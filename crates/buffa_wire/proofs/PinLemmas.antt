@@ -1,0 +1,114 @@
+-- Answers that contracts allow are one.
+use Rattle.std.proofs.Common.{◌≡◌, ◌≢◌, ◌⊎◌, inl, inr, ℕ, zero, suc, ◌+◌, ◌-◌, ◌<◌, ◌≤◌, List, ◌++◌, length, Option, Some, Result, Ok, Err, refl, sym, ap, subst, ◌∙◌, arith}
+use Rattle.buffa_bytes.proofs.FieldLemmas.{payload_complete}
+use Rattle.buffa_bytes.proofs.StepLemmas.{agree_err, agree_ok}
+use Rattle.buffa_bytes.specs.declared.wire_type.WireType.{WireType}
+use Rattle.buffa_bytes.specs.declared.error.DecodeError.{DecodeError}
+use Rattle.buffa_bytes.specs.Field.{IsTag, Payload}
+use Rattle.buffa_bytes.specs.Reading.{skip_at}
+use Rattle.buffa_wire.specs.BudgetLeft.{BudgetLeft, Lacks, Pays}
+use Rattle.buffa_wire.specs.Cache.{Cache}
+use Rattle.buffa_wire.specs.Parse.{FieldFault, RecordsFault, TakesField, slots}
+use Rattle.buffa_wire.specs.Message.{IsFieldMerged}
+use Rattle.buffa_bytes.specs.declared.error.DecodeError.TheVariants.{OutOfMemory}
+use Rattle.std.proofs.lemmas.List.{append_cancel_right}
+use Rattle.buffa_wire.proofs.ParseLemmas as parse
+use Rattle.buffa_wire.specs.Pinned.{done, told, BudgetIsPinned, FieldIsPinned, FieldMergeIsPinned, MergeIsPinned, PassesArePinned, RecordsArePinned}
+use Rattle.buffa_wire.specs.RecordReading.{field_at, list_at}
+use Rattle.buffa_wire.specs.Records.{Datum, list_of, records_of}
+use Rattle.buffa_wire.proofs.LoopLemmas.{field_refused, field_taken, list_refused, list_taken}
+use Rattle.buffa_wire.proofs.RecordLemmas.{list-records}
+use Rattle.buffa_wire.proofs.SequenceLemmas.{ok_same}
+
+-- ---- budgets
+one_left : (left need a b : BudgetLeft) → Pays left need a → Pays left need b → a ≡ b
+one_left left need a b (u, m) (v, n) =
+    let unknown : a.unknown ≡ b.unknown = omega (arith, u, v) in
+    let memory : a.memory ≡ b.memory = omega (arith, m, n) in
+    ap (λ (z : ℕ). record { unknown = z; memory = a.memory }) unknown ∙ ap (λ (z : ℕ). record { unknown = b.unknown; memory = z }) memory
+
+not_lacked : (left need a : BudgetLeft) → Pays left need a → Lacks left need → ⊥
+not_lacked left need a (u, m) (inl few) = omega (arith, u, few)
+not_lacked left need a (u, m) (inr few) = omega (arith, m, few)
+
+le_or_lt : (a b : ℕ) → (a ≤ b) ⊎ (b < a)
+le_or_lt zero b = inl (omega arith)
+le_or_lt (suc a) zero = inr (omega arith)
+le_or_lt (suc a) (suc b) = elim (le_or_lt a b) [ inl h ↦ inl (omega (arith, h)) | inr h ↦ inr (omega (arith, h)) ]
+
+paid_or_not : (left need : BudgetLeft) → ((a : BudgetLeft) × Pays left need a) ⊎ Lacks left need
+paid_or_not left need = elim (le_or_lt need.unknown left.unknown) [
+  | inr few ↦ inr (inl few)
+  | inl some ↦ elim (le_or_lt need.memory left.memory) [
+    | inr few ↦ inr (inr few)
+    | inl more ↦ inl (record { unknown = left.unknown - need.unknown; memory = left.memory - need.memory }, (omega (arith, some), omega (arith, more)))
+  ]
+]
+
+pub budget_is_pinned : (left need : BudgetLeft) → BudgetIsPinned left need
+budget_is_pinned left need = record { paid = one_left left need; lacked = not_lacked left need; either = paid_or_not left need }
+
+-- ---- merging
+some_same : {X : Type 0} (o : Option X) (a b : X) → o ≡ Some a → o ≡ Some b → a ≡ b
+some_same o a b h k = let e = sym h ∙ k in cc
+
+pub merge_is_pinned : {X : Type 0} (meant : Option X) (need before : BudgetLeft) → MergeIsPinned meant need before
+merge_is_pinned meant need before = record {
+  merged = λ a b x y h k. (some_same meant a b h.0 k.0, one_left before need x y h.1 k.1);
+  refused = λ a b x y f h k other. elim (k.1 other) [ inl few ↦ not_lacked before need x h.1 few | inr bad ↦ (let e = sym h.0 ∙ bad.0 in cc) ];
+  alone = λ a b h k. some_same meant a b h.0 k.0;
+  not_alone = λ a b f h k other. elim (k other) [ inl few ↦ h.1 few | inr bad ↦ (let e = sym h.0 ∙ bad.0 in cc) ];
+}
+
+same_rest : (d n : ℕ) (w : WireType) (bs p q r s : List ℕ) → Payload d n w p → bs ≡ p ++ r → Payload d n w q → bs ≡ q ++ s → r ≡ s
+same_rest d n w bs p q r s h is k also =
+    ok_same (sym (payload_complete d n w p r h) ∙ ap (skip_at d n w) (sym is ∙ also) ∙ payload_complete d n w q s k)
+
+same_front : (bs p q r s : List ℕ) → bs ≡ p ++ r → bs ≡ q ++ s → r ≡ s → p ≡ q
+same_front bs p q r s is also e = append_cancel_right p q s (ap (λ z. p ++ z) (sym e) ∙ sym is ∙ also)
+
+module _ {X : Type 0} (merged : ℕ → X → List ℕ → Option X) (cost : ℕ → List ℕ → BudgetLeft) (d n : ℕ) (w : WireType) (t : List ℕ) (tag : IsTag t n w) (old : X) (bs : List ℕ) (before : BudgetLeft) where
+  field_merges : (a b : X) (x y : BudgetLeft) (r s : List ℕ) →
+      IsFieldMerged merged cost d old n w bs before done a x r → IsFieldMerged merged cost d old n w bs before done b y s → (a ≡ b) × (x ≡ y) × (r ≡ s)
+  field_merges a b x y r s (p, payload, is, h) (q, other, also, k) =
+      let rest = same_rest d n w bs p q r s payload is other also in
+      let e : p ≡ q = same_front bs p q r s is also rest in
+      let one = h t tag in
+      let two = subst (λ z. (merged d old (t ++ z) ≡ Some b) × Pays before (cost d (t ++ z)) y) (sym e) (k t tag) in
+      (some_same (merged d old (t ++ p)) a b one.0 two.0, one_left before (cost d (t ++ p)) x y one.1 two.1, rest)
+
+  field_refuses : (a b : X) (x y : BudgetLeft) (r s : List ℕ) (f : DecodeError) →
+      IsFieldMerged merged cost d old n w bs before done a x r → IsFieldMerged merged cost d old n w bs before (told f) b y s → (f ≢ OutOfMemory) → ⊥
+  field_refuses a b x y r s f (p, payload, is, h) k other =
+      let one = h t tag in
+      elim ((k t p tag (inl (r, payload, is))).1 other) [ inl few ↦ not_lacked before (cost d (t ++ p)) x one.1 few | inr bad ↦ (let e = sym one.0 ∙ bad.0 in cc) ]
+
+  pub field_merge_is_pinned : FieldMergeIsPinned merged cost d n w t tag old bs before
+  field_merge_is_pinned = record { merges = field_merges; refuses = field_refuses }
+
+-- ---- passes
+pub passes_are_pinned : (text slots : List ℕ) (old : Cache) → PassesArePinned text slots old
+passes_are_pinned text slots old = record {
+  sized = λ m n a b h k. (h.0 ∙ sym k.0, h.1 ∙ sym k.1);
+  written = λ before x y a b small h k. (
+    h.1 ∙ ap (λ z. before ++ z) (h.2.1 small ∙ sym (k.2.1 small)) ∙ sym k.1,
+    h.2.0 ∙ sym k.2.0,
+  );
+}
+
+-- ---- records
+pub field_is_pinned : (d s n : ℕ) (w : WireType) (bs : List ℕ) → FieldIsPinned d s n w bs
+field_is_pinned d s n w bs = record {
+  taken = λ x y k m r q h g.
+      let e = ok_same (sym (field_taken d s n w bs x k r h) ∙ field_taken d s n w bs y m q g) in
+      (ap (λ z. z.0) e, ap (λ z. z.1) e, ap (λ z. z.2) e);
+  refused = λ x k r e h g. let q = sym (field_taken d s n w bs x k r h) ∙ field_refused d s n w bs e g in cc;
+  fault = λ e f h g. let q = sym (field_refused d s n w bs e h) ∙ field_refused d s n w bs f g in cc;
+}
+
+pub records_are_pinned : (d s : ℕ) (bs : List ℕ) → RecordsArePinned d s bs
+records_are_pinned d s bs = record {
+  taken = λ rs qs h k. sym (list-records rs) ∙ ap list_of (parse.one_reading bs d d (records_of rs) (records_of qs) h k) ∙ list-records qs;
+  refused = λ rs e h l g. let q = sym (list_taken d s bs rs h l) ∙ list_refused d s bs e g in cc;
+  fault = λ e f h g. let q = sym (list_refused d s bs e h) ∙ list_refused d s bs f g in cc;
+}

@@ -1,0 +1,62 @@
+-- What contracts leave open: nothing, but for what is said beside the laws.
+use Rattle.std.specs.Prelude.{◌≡◌, ◌≢◌, ◌≤◌, ℕ, ◌⊎◌, List, ◌++◌, Option, Result, Ok, Err}
+use Rattle.buffa_bytes.specs.declared.wire_type.WireType.{WireType}
+use Rattle.buffa_bytes.specs.declared.error.DecodeError.{DecodeError}
+use Rattle.buffa_bytes.specs.declared.error.DecodeError.TheVariants.{OutOfMemory}
+use Rattle.buffa_bytes.specs.declared.error.EncodeError.{EncodeError}
+use Rattle.buffa_bytes.specs.declared.error.EncodeError.TheVariants as error
+use Rattle.buffa_bytes.specs.Field.{IsTag}
+use Rattle.buffa_wire.specs.BudgetLeft.{BudgetLeft, Lacks, Pays}
+use Rattle.buffa_wire.specs.Cache.{Cache}
+use Rattle.buffa_wire.specs.Message.{IsFieldMerged, IsMerged, IsMergedAlone}
+use Rattle.buffa_wire.specs.Parse.{FieldFault, Parse, RecordsFault, TakesField, slots}
+use Rattle.buffa_wire.specs.Passes.{IsSized, IsSmall, IsWritten}
+use Rattle.buffa_wire.specs.Records.{Datum, records_of}
+
+abbrev pub done : {E : Type 0} → Result (Unit {0}) E
+done = Ok tt
+
+abbrev pub told : {E : Type 0} → E → Result (Unit {0}) E
+told e = Err e
+
+-- Whole bytes are merged in one way only, and what is merged can't have been refused, memory aside.
+pub record MergeIsPinned {X : Type 0} (meant : Option X) (need before : BudgetLeft) : Type 0 where
+  pub merged : (a b : X) (x y : BudgetLeft) → IsMerged meant need before done a x → IsMerged meant need before done b y → (a ≡ b) × (x ≡ y)
+  pub refused : (a b : X) (x y : BudgetLeft) (f : DecodeError) →
+      IsMerged meant need before done a x → IsMerged meant need before (told f) b y → (f ≢ OutOfMemory) → ⊥
+  -- from default budgets of their own
+  pub alone : (a b : X) → IsMergedAlone meant need done a → IsMergedAlone meant need done b → a ≡ b
+  pub not_alone : (a b : X) (f : DecodeError) → IsMergedAlone meant need done a → IsMergedAlone meant need (told f) b → (f ≢ OutOfMemory) → ⊥
+
+-- The same of the field whose tag t was read, and of what follows it.
+pub record FieldMergeIsPinned {X : Type 0} (merged : ℕ → X → List ℕ → Option X) (cost : ℕ → List ℕ → BudgetLeft) (d n : ℕ) (w : WireType) (t : List ℕ) (tag : IsTag t n w) (old : X) (bs : List ℕ) (before : BudgetLeft) : Type 0 where
+  pub merges : (a b : X) (x y : BudgetLeft) (r s : List ℕ) →
+      IsFieldMerged merged cost d old n w bs before done a x r → IsFieldMerged merged cost d old n w bs before done b y s → (a ≡ b) × (x ≡ y) × (r ≡ s)
+  pub refuses : (a b : X) (x y : BudgetLeft) (r s : List ℕ) (f : DecodeError) →
+      IsFieldMerged merged cost d old n w bs before done a x r → IsFieldMerged merged cost d old n w bs before (told f) b y s → (f ≢ OutOfMemory) → ⊥
+
+-- A value is sized in one way only; its text, where it is small, is written in one way only.
+pub record PassesArePinned (text slots : List ℕ) (old : Cache) : Type 0 where
+  pub sized : (m n : ℕ) (a b : Cache) →
+      (let r : Result ℕ EncodeError = Ok m in IsSized text slots old r a) → (let r : Result ℕ EncodeError = Ok n in IsSized text slots old r b) → (m ≡ n) × (a ≡ b)
+  pub written : (before x y : List ℕ) (a b : Cache) → IsSmall text →
+      (let r : Result (Unit {0}) EncodeError = done in IsWritten text slots old before r a x) →
+      (let r : Result (Unit {0}) EncodeError = done in IsWritten text slots old before r b y) → (x ≡ y) × (a ≡ b)
+
+-- A field is read as one record, and is spent one number of slots; what is read has no fault, and what has a fault one.
+pub record FieldIsPinned (d s n : ℕ) (w : WireType) (bs : List ℕ) : Type 0 where
+  pub taken : (x y : Datum) (k m : ℕ) (r q : List ℕ) → TakesField d s n w bs x k r → TakesField d s n w bs y m q → (x ≡ y) × (k ≡ m) × (r ≡ q)
+  pub refused : (x : Datum) (k : ℕ) (r : List ℕ) (e : DecodeError) → TakesField d s n w bs x k r → FieldFault d s n w bs e → ⊥
+  pub fault : (e f : DecodeError) → FieldFault d s n w bs e → FieldFault d s n w bs f → e ≡ f
+
+-- The same of whole bytes.
+pub record RecordsArePinned (d s : ℕ) (bs : List ℕ) : Type 0 where
+  pub taken : (rs qs : List (ℕ × Datum)) → Parse d bs (records_of rs) → Parse d bs (records_of qs) → rs ≡ qs
+  pub refused : (rs : List (ℕ × Datum)) (e : DecodeError) → Parse d bs (records_of rs) → slots (records_of rs) ≤ s → RecordsFault d s bs e → ⊥
+  pub fault : (e f : DecodeError) → RecordsFault d s bs e → RecordsFault d s bs f → e ≡ f
+
+-- What is spent of a budget leaves one budget, and only where it is there.
+pub record BudgetIsPinned (left need : BudgetLeft) : Type 0 where
+  pub paid : (a b : BudgetLeft) → Pays left need a → Pays left need b → a ≡ b
+  pub lacked : (a : BudgetLeft) → Pays left need a → Lacks left need → ⊥
+  pub either : ((a : BudgetLeft) × Pays left need a) ⊎ Lacks left need
