@@ -18,7 +18,7 @@ module _ {K V : Type 0} (key : Reading K) (val : Reading V) (d : ℕ) where
   pub entry_no_fault : (e : List ℕ) (s : MapEntry K V) (f : DecodeError) → IsEntry key val d e s → FaultOf key val d e f → ⊥
   entry_no_fault e s f h k = ok_no_err (sym (entry_complete key val d e s h) ∙ (entry_faulty key val d e f k).1)
 
-  same_taken : (bs e a f b : List ℕ) → TakesDelimited bs e a → TakesDelimited bs f b → ◌≡◌ {A = List ℕ × List ℕ} (e, a) (f, b)
+  pub same_taken : (bs e a f b : List ℕ) → TakesDelimited bs e a → TakesDelimited bs f b → ◌≡◌ {A = List ℕ × List ℕ} (e, a) (f, b)
   same_taken bs e a f b h k = ok_same (sym (delimited_taken bs e a h) ∙ delimited_taken bs f b k)
 
   pub same_front : (bs e a : List ℕ) (s : MapEntry K V) (f b : List ℕ) (t : MapEntry K V) → EntryOf key val d bs e s a → EntryOf key val d bs f t b → (e ≡ f) × (a ≡ b) × (s ≡ t)

@@ -1,15 +1,18 @@
 -- An entry that was merged, or refused, at each place where reading it ends.
 use Rattle.std.specs.Prelude.{IsOk}
-use Rattle.std.proofs.Common.{arith, ◌≡◌, ◌≢◌, ◌+◌, ◌<◌, ◌≤◌, ◌++◌, ◌⊎◌, inl, inr, ℕ, true, false, List, [], Ok, Err, ap, append-nil, refl, subst, sym, take}
+use Rattle.std.proofs.Common.{arith, ◌≡◌, ◌≢◌, ◌+◌, ◌<◌, ◌≤◌, ◌++◌, ◌⊎◌, inl, inr, ℕ, true, false, List, [], Result, Ok, Err, ap, append-nil, length, refl, subst, sym, take, ◌∙◌}
 use Rattle.buffa_bytes.specs.declared.error.DecodeError.{DecodeError}
 use Rattle.buffa_bytes.specs.declared.error.DecodeError.TheVariants.{ElementMemoryLimitExceeded, OutOfMemory, UnexpectedEof, UnknownFieldLimitExceeded}
 use Rattle.buffa_wire.specs.BudgetLeft.{BudgetLeft, Lacks}
 use Rattle.buffa_wire.specs.Reading.{delimited_at}
-use Rattle.buffa_bytes.specs.Reading.{varint_at}
+use Rattle.buffa_bytes.specs.Reading.{taken, varint_at}
+use Rattle.buffa_bytes.proofs.DelimitedLemmas.{taken_sound}
+use Rattle.buffa_bytes.proofs.StepLemmas.{agree_ok}
 use Rattle.buffa_wire.specs.Records.{Datum}
 use Rattle.buffa_map.specs.Codec.{need_by}
-use Rattle.buffa_map.specs.Entry.{EntryFault, FaultOf, blanks, inner_need, need_at, need_of}
-use Rattle.buffa_map.specs.Merge.{MergesEntry, RefusesEntry, Rules, State, state}
+use Rattle.buffa_map.specs.Entry.{EntryFault, FaultOf, IsEntry, blanks, inner_need, need_at, need_of}
+use Rattle.buffa_map.specs.Fields.{FieldsTakeMemory}
+use Rattle.buffa_map.specs.Merge.{EntryTakesMemory, MergesEntry, RefusesEntry, Rules, State, state}
 use Rattle.buffa_map.specs.Parts.{ReadsParts, RefusesCut, RefusesParts}
 use Rattle.buffa_map.specs.Pairs.{InOrder, SamePairs, put}
 use Rattle.buffa_map.specs.declared.map_entry.MapEntry.{MapEntry}
@@ -26,7 +29,7 @@ module _ {K V : Type 0} (r : Rules K V) (pairs : List (K × V)) (records : List 
   abbrev fields_need : List ℕ → BudgetLeft
   fields_need e = need_at r.key r.val r.depth (blanks r.key r.val r.depth) e
 
-  pub no_entry : (unread : List ℕ) (f : DecodeError) → IsTailOf unread bs → (f ≢ OutOfMemory → delimited_at bs ≡ Err f) → (f ≡ OutOfMemory → IsOk (delimited_at bs)) → ((e rest : List ℕ) → TakesDelimited bs e rest → IsTailOf rest unread) → RefusesEntry r (state pairs records left) bs (state pairs records left) unread f
+  pub no_entry : (unread : List ℕ) (f : DecodeError) → IsTailOf unread bs → (f ≢ OutOfMemory → delimited_at bs ≡ Err f) → (f ≡ OutOfMemory → EntryTakesMemory r left bs f) → ((e rest : List ℕ) → TakesDelimited bs e rest → IsTailOf rest unread) → RefusesEntry r (state pairs records left) bs (state pairs records left) unread f
   no_entry unread f tail h full near = record {
     within = near;
     fault = λ ne. entry_short r.key r.val r.depth r.cost r.slot left bs f (h ne);
@@ -43,9 +46,24 @@ module _ {K V : Type 0} (r : Rules K V) (pairs : List (K × V)) (records : List 
     no_slot = λ ne. omega arith;
   }
 
+  -- the bytes of an entry are copied, of which there are some
+  copy_takes : (n : ℕ) (mid : List ℕ) (f : DecodeError) (x : Result (List ℕ × List ℕ) DecodeError) → taken n mid ≡ x → r.slot ≢ 0 → delimited_at bs ≡ taken n mid → IsOk x → (n ≡ 0 → ⊥) → EntryTakesMemory r left bs f
+  copy_takes n mid f (Ok p) is keeps same ok some =
+      (p.0, p.1, same ∙ is, inl (keeps, λ none. some (sym (agree_ok (taken n mid) p (taken_sound n mid) is).0 ∙ ap length none)))
+  copy_takes n mid f (Err x) is keeps same ok some = cc
+
+  pub no_copy : (n : ℕ) (mid unread : List ℕ) (f : DecodeError) → r.slot ≢ 0 → delimited_at bs ≡ taken n mid → IsTailOf unread bs → (f ≢ OutOfMemory → taken n mid ≡ Err f) → (f ≡ OutOfMemory → IsOk (taken n mid)) → (n ≡ 0 → false ≡ true) →
+      ((e rest : List ℕ) → TakesDelimited bs e rest → IsTailOf rest unread) → RefusesEntry r (state pairs records left) bs (state pairs records left) unread f
+  no_copy n mid unread f keeps same tail reads full free near =
+      no_entry unread f tail (λ ne. same ∙ reads ne) (λ out. copy_takes n mid f (taken n mid) refl keeps same (full out) (λ z. let k = free z in cc)) near
+
   module _ (e rest : List ℕ) (is : delimited_at bs ≡ Ok (e, rest)) where
     inner : inner_need r.key r.val r.depth bs ≡ fields_need e
     inner = ap (λ z. need_by z (λ x. fields_need x.0)) is
+
+    parts_memory : (f : DecodeError) → (r.cost ≤ left.memory) × (FieldsTakeMemory r.key r.val r.depth e f ⊎ ((s : MapEntry K V) × IsEntry r.key r.val r.depth e s × (s.known ≡ true))) → EntryTakesMemory r left bs f
+    parts_memory f (room, inl field) = (e, rest, is, inr (room, inl field))
+    parts_memory f (room, inr (s, h, known)) = (e, rest, is, inr (room, inr (s, h, inl known)))
 
     parts_fault : (f : DecodeError) → ((left.memory < r.cost) × (f ≡ ElementMemoryLimitExceeded)) ⊎ ((r.cost ≤ left.memory) × (Lacks left (need_of r.key r.val r.depth r.cost e) ⊎ FaultOf r.key r.val r.depth e f)) →
         EntryFault r.key r.val r.depth r.cost r.slot left bs f
@@ -63,7 +81,7 @@ module _ {K V : Type 0} (r : Rules K V) (pairs : List (K × V)) (records : List 
         let taken = ap (λ (z : BudgetLeft). z.unknown) inner in
         record {
           fault = λ ne. parts_fault f (h.fault ne);
-          memory = λ out. rw is refl;
+          memory = λ out. parts_memory f (h.memory out);
           tail = delimited_tail bs e rest is;
           past = λ ne x after t. one_rest bs e rest x after is t;
           within = λ x after t. subst (λ z. IsTailOf z rest) (one_rest bs e rest x after is t) (tail_whole rest);
@@ -89,10 +107,11 @@ module _ {K V : Type 0} (r : Rules K V) (pairs : List (K × V)) (records : List 
         pays = (rw known (omega (arith, h.pays)), omega (arith, h.pays));
       }
 
-      pub not_put : (new : List (K × V)) (f : DecodeError) → f ≡ OutOfMemory → new ≡ pairs → RefusesEntry r (state pairs records left) bs (state new records over) rest f
-      not_put new f out same =
+      pub not_put : s.known ≡ true → (new : List (K × V)) (f : DecodeError) → f ≡ OutOfMemory → new ≡ pairs → RefusesEntry r (state pairs records left) bs (state new records over) rest f
+      not_put known new f out same =
           rw same (bad_parts over f (record {
             fault = λ ne. absurd (ne out);
+            memory = λ is. (omega (arith, h.pays), inr (s, h.entry, known));
             units = inr (omega (arith, h.pays), omega (arith, h.pays));
             charged = λ room. omega (arith, h.pays);
             most = omega (arith, h.pays);
@@ -115,13 +134,13 @@ module _ {K V : Type 0} (r : Rules K V) (pairs : List (K × V)) (records : List 
       is_dropped known no_slot none = is_kept known records over (rw (none r.number e) (sym (append-nil records))) (omega (arith, no_slot)) refl
 
       pub not_kept : s.known ≡ false → (kept : List (ℕ × Datum)) (last : BudgetLeft) (f : DecodeError) → kept ≡ records → last.unknown ≤ over.unknown → over.unknown ≤ last.unknown + r.slot → last.memory ≡ over.memory →
-          (f ≢ OutOfMemory → (over.unknown < r.slot) × (f ≡ UnknownFieldLimitExceeded) × (last.unknown ≡ over.unknown)) → RefusesEntry r (state pairs records left) bs (state pairs kept last) rest f
-      not_kept known kept last f same most least unit which =
+          (f ≢ OutOfMemory → (over.unknown < r.slot) × (f ≡ UnknownFieldLimitExceeded) × (last.unknown ≡ over.unknown)) → (f ≡ OutOfMemory → r.slot ≢ 0) → RefusesEntry r (state pairs records left) bs (state pairs kept last) rest f
+      not_kept known kept last f same most least unit which keeps =
           let units = ap (λ (z : BudgetLeft). z.memory) inner in
           let taken = ap (λ (z : BudgetLeft). z.unknown) inner in
           record {
             fault = λ ne. entry_slotless r.key r.val r.depth r.cost r.slot left bs e rest s f is (omega (arith, h.pays)) h.entry known (omega (arith, (which ne).0, h.pays)) (which ne).1;
-            memory = λ out. rw is refl;
+            memory = λ out. (e, rest, is, inr (omega (arith, h.pays), inr (s, h.entry, inr (keeps out))));
             tail = delimited_tail bs e rest is;
             past = λ ne x after t. one_rest bs e rest x after is t;
             within = λ x after t. subst (λ z. IsTailOf z rest) (one_rest bs e rest x after is t) (tail_whole rest);

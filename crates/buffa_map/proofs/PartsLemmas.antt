@@ -18,6 +18,7 @@ module _ {K V : Type 0} (key : Reading K) (val : Reading V) (d cost : ℕ) (e : 
       let slots = ap (λ (z : BudgetLeft). z.unknown) same in
       record {
         fault = λ ne. inl (few, which);
+        memory = λ out. cc;
         units = inl units;
         charged = λ room. absurd (omega (arith, room, few));
         most = omega (arith, slots);
@@ -32,6 +33,7 @@ module _ {K V : Type 0} (key : Reading K) (val : Reading V) (d cost : ℕ) (e : 
     pub bad_fields : (over : BudgetLeft) (f : DecodeError) → RefusesFields key val d e now over f → RefusesParts key val d cost e left over f
     bad_fields over f h = record {
       fault = λ ne. inr (omega (arith, charged), lacking f (h.fault ne));
+      memory = λ out. (omega (arith, charged), inl (h.full out));
       units = inr (omega (arith, charged, h.pays), omega (arith, charged, h.pays));
       charged = λ room. omega (arith, charged, h.pays);
       most = omega (arith, slots, h.pays);

@@ -1,5 +1,5 @@
 -- What holds of an answer, weakened.
-use Rattle.std.specs.Prelude.{Result, Ok, Err, OnOk, OnErr, IfErr, IfOk}
+use Rattle.std.specs.Prelude.{◌≡◌, Result, Ok, Err, OnOk, OnErr, IfErr, IfOk, IsOk}
 
 pub OnOk-map : {T E : Type 0} {P Q : Type 0} (r : Result T E) → (P → Q) → OnOk r P → OnOk r Q
 OnOk-map (Ok v) f h = f h
@@ -28,3 +28,11 @@ OnOk-always (Err e) h = tt
 pub IfErr-with : {T E : Type 0} {A : Type 0} {P Q : E → Type 0} (r : Result T E) → ((e : E) → A → P e → Q e) → OnErr r A → IfErr r P → IfErr r Q
 IfErr-with (Ok v) f a h = h
 IfErr-with (Err e) f a h = f e a h
+
+pub IfErr-both : {T E : Type 0} {A : Type 0} {P Q R : E → Type 0} (r : Result T E) → ((e : E) → A → P e → Q e → R e) → OnErr r A → IfErr r P → IfErr r Q → IfErr r R
+IfErr-both (Ok v) f a h k = h
+IfErr-both (Err e) f a h k = f e a h k
+
+pub not_ok : {T E : Type 0} (r : Result T E) (e : E) → r ≡ Err e → IsOk r → ⊥
+not_ok (Ok v) e is h = cc
+not_ok (Err d) e is h = cc

@@ -9,6 +9,7 @@ use Rattle.buffa_wire.specs.Records.{Datum, bytes}
 use Rattle.buffa_wire.specs.Text.{records_text}
 use Rattle.buffa_map.specs.Codec.{Reading, Writing}
 use Rattle.buffa_map.specs.Merge.{ReadsRun, Rules, State, StopsRun, keeping, state}
+use Rattle.buffa_map.specs.Pairs.{InOrder}
 use Rattle.buffa_map.specs.Rewrite.{RefusesOutput, RefusesRewrite, RewritesRun, WritesWalk}
 use Rattle.buffa_map.specs.Run.{added, undeclared_records}
 use Rattle.buffa_map.specs.Text.{field_text}
@@ -22,14 +23,14 @@ module _ {K V : Type 0} (r : Rules K V) (cleared : List (K × V)) (records : Lis
   pub anew_stopped : (unread : List ℕ) (f : DecodeError) → cleared ≡ [] → StopsRun r (state cleared records left) bs new unread f → StopsRun r (state [] records left) bs new unread f
   anew_stopped unread f is h = subst (λ z. StopsRun r (state z records left) bs new unread f) is h
 
-module _ {K V : Type 0} (rk : Reading K) (rv : Reading V) (key : Writing K) (val : Writing V) (eq : K → K → Bool) (keeps : Bool) (d n cost : ℕ) (KeyFits : K → Type 0) (ValFits : V → Type 0)
+module _ {K V : Type 0} (rk : Reading K) (rv : Reading V) (key : Writing K) (val : Writing V) (eq : K → K → Bool) (keeps : Bool) (d n cost : ℕ) (KeyFits : K → Type 0) (ValFits : V → Type 0) (Walks : List (K × V) → Type 0)
     (left over : BudgetLeft) (bs rest : List ℕ) (pairs : List (K × V)) (none kept : List (ℕ × Datum)) (old new : List ℕ) (before after : ℕ)
-    (empty : none ≡ []) (read : ReadsRun (keeping rk rv eq keeps d n cost) (state [] none left) bs (state pairs kept over) rest) where
+    (ordered : (l : List (K × V)) → Walks l → InOrder keeps pairs l) (empty : none ≡ []) (read : ReadsRun (keeping rk rv eq keeps d n cost) (state [] none left) bs (state pairs kept over) rest) where
   is_kept : kept ≡ undeclared_records n read.entries
   is_kept = read.keeps ∙ ap (λ z. z ++ added (λ m e. (m, bytes e) ∷ []) n read.entries) empty ∙ added_records n read.entries
 
-  pub rewrites : (u : Unit {0}) → WritesWalk eq keeps key val KeyFits ValFits n pairs kept old before {T = Unit {0}} (Ok u) new after →
-      RewritesRun (keeping rk rv eq keeps d n cost) key val KeyFits ValFits left bs pairs over rest old new before after
+  pub rewrites : (u : Unit {0}) → WritesWalk eq Walks key val KeyFits ValFits n pairs kept old before {T = Unit {0}} (Ok u) new after →
+      RewritesRun (keeping rk rv eq keeps d n cost) key val KeyFits ValFits Walks left bs pairs over rest old new before after
   rewrites u w = record {
     entries = read.entries;
     out = field_text key val n w.walk ++ records_text (undeclared_records n read.entries);
@@ -37,15 +38,16 @@ module _ {K V : Type 0} (rk : Reading K) (rv : Reading V) (key : Writing K) (val
     folded = read.folded;
     order = read.order;
     rewrite = (w.walk, (w.once.0, λ q. read.folded q ∙ w.once.1 q), w.text.0, w.fits, refl);
-    ordered = λ k. ap (λ (z : List (K × V)). field_text key val n z ++ records_text (undeclared_records n read.entries)) (w.order k ∙ read.order k);
+    walks = w.walks;
+    ordered = λ k. ap (λ (z : List (K × V)). field_text key val n z ++ records_text (undeclared_records n read.entries)) (ordered w.walk w.walks k ∙ read.order k);
     text = w.text.1 ∙ ap (λ z. old ++ (field_text key val n w.walk ++ records_text z)) is_kept;
     room = subst (λ z. before ≤ after + length (field_text key val n w.walk ++ records_text z)) is_kept w.room;
     paid = read.paid;
     whole = read.whole;
   }
 
-  pub refuses : (e : EncodeError) → WritesWalk eq keeps key val KeyFits ValFits n pairs kept old before {T = Unit {0}} (Err e) new after →
-      RefusesOutput (keeping rk rv eq keeps d n cost) key val left bs pairs over rest old new before e
+  pub refuses : (e : EncodeError) → WritesWalk eq Walks key val KeyFits ValFits n pairs kept old before {T = Unit {0}} (Err e) new after →
+      RefusesOutput (keeping rk rv eq keeps d n cost) key val Walks left bs pairs over rest old new before e
   refuses e w = record {
     entries = read.entries;
     walk = w.walk;
@@ -53,7 +55,8 @@ module _ {K V : Type 0} (rk : Reading K) (rv : Reading V) (key : Writing K) (val
     folded = read.folded;
     order = read.order;
     once = (w.once.0, λ q. read.folded q ∙ w.once.1 q);
-    walked = λ k. w.order k ∙ read.order k;
+    walked = λ k. ordered w.walk w.walks k ∙ read.order k;
+    walks = w.walks;
     text = subst (λ (z : List (ℕ × Datum)). RefusesRewrite key val n z old new w.walk e) is_kept w.text;
     room = subst (λ z. e ≡ OutOfMemory → before < length (field_text key val n w.walk ++ records_text z)) is_kept w.room;
     paid = read.paid;

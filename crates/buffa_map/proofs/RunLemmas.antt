@@ -72,7 +72,7 @@ either : (b : Bool) {P : Type 0} → (b ≡ true → P) → (b ≡ false → P) 
 either true h k = h refl
 either false h k = k refl
 
-slots_kept : (b : Bool) (e : List ℕ) (ks : List (List ℕ)) (slot : ℕ) → length (cond b ks (e ∷ ks)) * slot ≡ cond b 0 slot + length ks * slot
+pub slots_kept : (b : Bool) (e : List ℕ) (ks : List (List ℕ)) (slot : ℕ) → length (cond b ks (e ∷ ks)) * slot ≡ cond b 0 slot + length ks * slot
 slots_kept true e ks slot = omega arith
 slots_kept false e ks slot = omega arith
 
@@ -140,7 +140,7 @@ module _ {K V : Type 0} (key : Reading K) (val : Reading V) (d n : ℕ) where
     abbrev InEntry : List ℕ → MapEntry K V → Type 0
     InEntry e s = IsEntry key val d e s × ((need_of key val d cost e).memory ≤ left.memory) × ((need_of key val d cost e).unknown + cond s.known 0 slot ≤ left.unknown)
 
-    abbrev InFault : List ℕ → DecodeError → Type 0
+    abbrev pub InFault : List ℕ → DecodeError → Type 0
     InFault e f = ((left.memory < cost) × (f ≡ ElementMemoryLimitExceeded))
         ⊎ ((cost ≤ left.memory) × (Lacks left (need_of key val d cost e) ⊎ (FaultOf key val d e f
         ⊎ ((s : MapEntry K V) × IsEntry key val d e s × (s.known ≡ false) × (left.unknown < (need_of key val d cost e).unknown + slot) × (f ≡ UnknownFieldLimitExceeded)))))
@@ -189,7 +189,7 @@ module _ {K V : Type 0} (key : Reading K) (val : Reading V) (d n : ℕ) where
         let inside : entry_in key val d cost slot left x.bytes ≡ Ok x.parts = rw (room, entry_complete key val d x.bytes x.parts entry, slots_test x.parts.known left.unknown (need_of key val d cost x.bytes).unknown slot slots) refl in
         rw (split, tag_complete t n LengthDelimited (l ++ (x.bytes ++ rest)) tag, eq-eqb n n refl, delimited_complete l x.bytes rest v, inside) refl
 
-    tag_read : (bs rest : List ℕ) (g : ℕ) (w : WireType) → TakesTag bs g w rest → tag_at bs ≡ Ok (g, w, rest)
+    pub tag_read : (bs rest : List ℕ) (g : ℕ) (w : WireType) → TakesTag bs g w rest → tag_at bs ≡ Ok (g, w, rest)
     tag_read bs rest g w (t, is_tag, e) = ap tag_at e ∙ tag_complete t g w rest is_tag
 
     module _ (key_free : key.nested ≡ false → (d : ℕ) (c : Content) → key.cost d c ≡ nothing) (val_free : val.nested ≡ false → (d : ℕ) (c : Content) → val.cost d c ≡ nothing) where
@@ -201,7 +201,7 @@ module _ {K V : Type 0} (key : Reading K) (val : Reading V) (d n : ℕ) where
       in_none : (e : List ℕ) (f : DecodeError) → cost ≤ left.memory → Lacks left (need_of key val d cost e) → Answers (Plain key val d) (entry_in key val d cost slot left e) f
       in_none e f many h = (ElementMemoryLimitExceeded, rw (lacks_some left (need_of key val d cost e) h) refl, λ p. not_lacking e many h p)
 
-      in_faulty : (e : List ℕ) (f : DecodeError) → InFault e f → Answers (Plain key val d) (entry_in key val d cost slot left e) f
+      pub in_faulty : (e : List ℕ) (f : DecodeError) → InFault e f → Answers (Plain key val d) (entry_in key val d cost slot left e) f
       in_faulty e f (inl (few, is)) = let h : Lacks left (need_of key val d cost e) = inr (omega (arith, few)) in answer (rw (lacks_some left (need_of key val d cost e) h) (ap (λ z. Err z) (sym is)))
       in_faulty e f (inr (many, inl h)) = in_none e f many h
       in_faulty e f (inr (many, inr (inl h))) = either (lacks left (need_of key val d cost e))

@@ -74,9 +74,8 @@ module _ {K V : Type 0} (r : Rules K V) (old : State K V) (bs : List ℕ) where
       order = h.order;
       keeps = h.keeps;
       some = some more;
-      units = omega arith;
+      units = inl refl;
       most = omega arith;
-      one_cost = omega arith;
       one_slot = omega arith;
       fault = fault;
       memory = λ out. absurd (full out);
@@ -118,9 +117,8 @@ module _ {K V : Type 0} (r : Rules K V) (old : State K V) (bs : List ℕ) where
               order = rw k.pairs h.order;
               keeps = rw k.records h.keeps;
               some = some more;
-              units = elim k.units [ inl e ↦ omega (arith, e) | inr e ↦ omega (arith, e.0) ];
+              units = elim k.units [ inl e ↦ inl e | inr e ↦ inr (e.0, omega (arith, e.1, units)) ];
               most = k.most;
-              one_cost = elim k.units [ inl e ↦ omega (arith, e) | inr e ↦ omega (arith, e.1, units) ];
               one_slot = omega (arith, k.least, taken);
               fault = λ ne. record_entry r.key r.val r.depth r.number r.cost r.slot now.left rest mid g w f tag same wire (k.fault ne);
               memory = λ out. (mid, found, k.memory out);

@@ -16,6 +16,10 @@ module _ {K V : Type 0} (key : Reading K) (val : Reading V) (d : ℕ) where
       ((rest : List ℕ) × (tag_at bytes ≡ Ok (1, key.wire, rest)) × TakesMemory key d rest)
       ⊎ ((rest : List ℕ) × (tag_at bytes ≡ Ok (2, val.wire, rest)) × TakesMemory val d rest)
 
+  -- the fields that begin the bytes are followed by one that takes memory; f is what is told of it
+  abbrev pub FieldsTakeMemory : List ℕ → DecodeError → Type 0
+  FieldsTakeMemory bytes f = ParseStops (IsField key val d) (λ s rest e. FieldTakesMemory rest) (blanks key val d) bytes f
+
   -- the field at the front was merged, rest follows it, and what it costs is spent
   pub record MergesField (old : MapEntry K V) (left : BudgetLeft) (bytes : List ℕ) (new : MapEntry K V) (over : BudgetLeft) (rest : List ℕ) : Type 0 where
     pub field : field_at key val d old bytes ≡ Ok (new, rest)
@@ -35,5 +39,5 @@ module _ {K V : Type 0} (key : Reading K) (val : Reading V) (d : ℕ) where
   -- f is why not, and out of memory only at a field that takes memory; at most what its fields cost is spent
   pub record RefusesFields (bytes : List ℕ) (left over : BudgetLeft) (f : DecodeError) : Type 0 where
     pub fault : f ≢ OutOfMemory → Lacks left (need_at key val d (blanks key val d) bytes) ⊎ FaultOf key val d bytes f
-    pub full : f ≡ OutOfMemory → ParseStops (IsField key val d) (λ s rest e. FieldTakesMemory rest) (blanks key val d) bytes f
+    pub full : f ≡ OutOfMemory → FieldsTakeMemory bytes f
     pub pays : PaysAtMost left (need_at key val d (blanks key val d) bytes) over

@@ -1,5 +1,5 @@
 -- What reading entries does to a map, to the records that are kept beside it, and to a budget.
-use Rattle.std.specs.Prelude.{◌≡◌, ◌≢◌, ℕ, ◌+◌, ◌≤◌, Bool, List, [], ◌∷◌, ◌++◌, ◌⊎◌, cond, Option, None, Some, Ok, IsOk}
+use Rattle.std.specs.Prelude.{◌≡◌, ◌≢◌, ℕ, ◌+◌, ◌≤◌, Bool, List, [], ◌∷◌, ◌++◌, ◌⊎◌, cond, true, Option, None, Some, Ok, IsOk}
 use Rattle.buffa_bytes.specs.declared.error.DecodeError.{DecodeError}
 use Rattle.buffa_bytes.specs.declared.error.DecodeError.TheVariants.{OutOfMemory}
 use Rattle.buffa_bytes.specs.Unread.{IsTailOf}
@@ -10,7 +10,8 @@ use Rattle.buffa_wire.specs.Reading.{delimited_at, tag_at}
 use Rattle.buffa_wire.specs.Records.{Datum, bytes}
 use Rattle.buffa_bytes.specs.declared.wire_type.WireType.TheVariants.{LengthDelimited}
 use Rattle.buffa_map.specs.Codec.{Reading}
-use Rattle.buffa_map.specs.Entry.{EntryFault, EntryOf, inner_need, need_of}
+use Rattle.buffa_map.specs.Entry.{EntryFault, EntryOf, IsEntry, inner_need, need_of}
+use Rattle.buffa_map.specs.Fields.{FieldsTakeMemory}
 use Rattle.buffa_map.specs.Pairs.{InOrder, SamePairs}
 use Rattle.buffa_map.specs.Run.{fold_entries, Paid, RecordFault, Run, RunBegins, EntryRecord, added, record_need, step}
 use Rattle.buffa_map.specs.declared.map_entry.MapEntry.{MapEntry}
@@ -64,13 +65,22 @@ pub record MergesEntry {K V : Type 0} (r : Rules K V) (old : State K V) (bytes :
   pub keeps : new.records ≡ old.records ++ cond says.known [] (r.adds r.number entry)
   pub pays : Pays old.left (plus (need_of r.key r.val r.depth r.cost entry) (slots (cond says.known 0 r.slot))) new.left
 
--- f is why not, and out of memory only where a length and so many bytes were there; map and records stand. What is
+-- Where merging an entry takes memory, of which f is told: its length and so many bytes are there; these are copied,
+-- if an entry may be kept; or its units are left, and a field takes memory, or the whole entry is put or kept.
+abbrev pub EntryTakesMemory : {K V : Type 0} → Rules K V → BudgetLeft → List ℕ → DecodeError → Type 0
+EntryTakesMemory {K} {V} r left bs f =
+    (e : List ℕ) × (rest : List ℕ) × (delimited_at bs ≡ Ok (e, rest))
+    × (((r.slot ≢ 0) × (e ≢ []))
+    ⊎ ((r.cost ≤ left.memory) × (FieldsTakeMemory r.key r.val r.depth e f
+    ⊎ ((s : MapEntry K V) × IsEntry r.key r.val r.depth e s × ((s.known ≡ true) ⊎ (r.slot ≢ 0))))))
+
+-- f is why not, and out of memory only where merging the entry takes memory; map and records stand. What is
 -- unread is a tail of what was; it is what follows the entry, where that was there and had a fault. Of the budget at
 -- most the entry's cost, its slot and what the messages in it cost are gone; the cost is gone where the entry was there
 -- and had a fault; the slot is not, where f is a fault; nothing is, where no length and so many bytes were there.
 pub record RefusesEntry {K V : Type 0} (r : Rules K V) (old : State K V) (bytes : List ℕ) (new : State K V) (unread : List ℕ) (f : DecodeError) : Type 0 where
   pub fault : f ≢ OutOfMemory → EntryFault r.key r.val r.depth r.cost r.slot old.left bytes f
-  pub memory : f ≡ OutOfMemory → IsOk (delimited_at bytes)
+  pub memory : f ≡ OutOfMemory → EntryTakesMemory r old.left bytes f
   pub tail : IsTailOf unread bytes
   pub past : f ≢ OutOfMemory → (e rest : List ℕ) → TakesDelimited bytes e rest → unread ≡ rest
   pub within : (e rest : List ℕ) → TakesDelimited bytes e rest → IsTailOf rest unread
@@ -107,7 +117,7 @@ pub record ReadsRun {K V : Type 0} (r : Rules K V) (old : State K V) (bytes : Li
   pub whole : rest ≡ []
 
 -- The records of some entries begin the bytes, and were read; f is why what follows them wasn't, and out of memory only
--- where a record was there. What is unread is a tail of what follows them: what follows the tag, where it is another;
+-- where merging the entry of a record takes memory. What is unread is a tail of what follows them: what follows the tag, where it is another;
 -- what follows the entry, where that was there and had a fault. Of the budget that they leave at most one entry's cost,
 -- its slot and what the messages in it cost are gone; the cost is, where the entry was there and had a fault; nothing
 -- is, where no record of the number was there.
@@ -120,12 +130,13 @@ pub record StopsRun {K V : Type 0} (r : Rules K V) (old : State K V) (bytes : Li
   pub order : InOrder r.keeps_order (fold_entries r.same old.pairs entries) new.pairs
   pub keeps : new.records ≡ old.records ++ added r.adds r.number entries
   pub some : rest ≢ []
-  pub units : new.left.memory ≤ over.memory
+  pub units : (new.left.memory ≡ over.memory)
+      ⊎ ((new.left.memory + r.cost ≤ over.memory)
+      × (over.memory ≤ new.left.memory + (r.cost + (record_need r.key r.val r.depth rest).memory)))
   pub most : new.left.unknown ≤ over.unknown
-  pub one_cost : over.memory ≤ new.left.memory + (r.cost + (record_need r.key r.val r.depth rest).memory)
   pub one_slot : over.unknown ≤ new.left.unknown + (r.slot + (record_need r.key r.val r.depth rest).unknown)
   pub fault : f ≢ OutOfMemory → RecordFault r.key r.val r.depth r.number r.cost r.slot over rest f
-  pub memory : f ≡ OutOfMemory → HasRecord r.number rest
+  pub memory : f ≡ OutOfMemory → (mid : List ℕ) × (tag_at rest ≡ Ok (r.number, LengthDelimited, mid)) × EntryTakesMemory r over mid f
   pub unspent : (HasRecord r.number rest → ⊥) → new.left ≡ over
   pub charged : f ≢ OutOfMemory → (mid e after : List ℕ) → tag_at rest ≡ Ok (r.number, LengthDelimited, mid) → TakesDelimited mid e after → r.cost ≤ over.memory → new.left.memory + r.cost ≤ over.memory
   pub tail : IsTailOf unread rest

@@ -1,10 +1,11 @@
 -- What reading the fields of an entry does to a budget that pays its cost as well, and to the bytes.
-use Rattle.std.specs.Prelude.{◌≡◌, ◌≢◌, ℕ, ◌+◌, ◌<◌, ◌≤◌, List, ◌⊎◌, length, take, drop}
+use Rattle.std.specs.Prelude.{◌≡◌, ◌≢◌, ℕ, ◌+◌, ◌<◌, ◌≤◌, true, List, ◌⊎◌, length, take, drop}
 use Rattle.buffa_bytes.specs.declared.error.DecodeError.{DecodeError}
 use Rattle.buffa_bytes.specs.declared.error.DecodeError.TheVariants.{ElementMemoryLimitExceeded, OutOfMemory, UnexpectedEof}
 use Rattle.buffa_wire.specs.BudgetLeft.{BudgetLeft, Lacks, Pays}
 use Rattle.buffa_map.specs.Codec.{Reading}
 use Rattle.buffa_map.specs.Entry.{FaultOf, IsEntry, need_of}
+use Rattle.buffa_map.specs.Fields.{FieldsTakeMemory}
 use Rattle.buffa_map.specs.declared.map_entry.MapEntry.{MapEntry}
 
 module _ {K V : Type 0} (key : Reading K) (val : Reading V) (d cost : ℕ) where
@@ -13,10 +14,13 @@ module _ {K V : Type 0} (key : Reading K) (val : Reading V) (d cost : ℕ) where
     pub entry : IsEntry key val d e says
     pub pays : Pays left (need_of key val d cost e) over
 
-  -- f is why not: the units, or the fields; at most what the entry needs is spent, and at least its cost, where that was left
+  -- f is why not: the units, or the fields; out of memory only where the units were left, and a field takes memory, or
+  -- the pair of the whole entry; at most what the entry needs is spent, and at least its cost, where that was left
   pub record RefusesParts (e : List ℕ) (left over : BudgetLeft) (f : DecodeError) : Type 0 where
     pub fault : f ≢ OutOfMemory → ((left.memory < cost) × (f ≡ ElementMemoryLimitExceeded))
         ⊎ ((cost ≤ left.memory) × (Lacks left (need_of key val d cost e) ⊎ FaultOf key val d e f))
+    pub memory : f ≡ OutOfMemory → (cost ≤ left.memory)
+        × (FieldsTakeMemory key val d e f ⊎ ((s : MapEntry K V) × IsEntry key val d e s × (s.known ≡ true)))
     pub units : (over.memory ≡ left.memory)
         ⊎ ((over.memory + cost ≤ left.memory) × (left.memory ≤ over.memory + (need_of key val d cost e).memory))
     pub charged : cost ≤ left.memory → over.memory + cost ≤ left.memory

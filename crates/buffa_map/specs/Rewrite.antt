@@ -84,24 +84,25 @@ module _ {K V : Type 0} (key : Writing K) (val : Writing V) (n : ℕ) (kept : Li
   WritesRewrite r l = MatchResult r (λ _. HasText key val l × (new ≡ old ++ (field_text key val n l ++ records_text kept))) (RefusesRewrite l)
 
 -- a map was walked once, and its text and the kept records' were written, or refused; what had room wasn't
-pub record WritesWalk {K V : Type 0} (eq : K → K → Bool) (keeps : Bool) (key : Writing K) (val : Writing V) (KeyFits : K → Type 0) (ValFits : V → Type 0) (n : ℕ) (pairs : List (K × V)) (kept : List (ℕ × Datum)) (old : List ℕ) (before : ℕ) {T : Type 0} (r : Result T EncodeError) (new : List ℕ) (after : ℕ) : Type 0 where
+pub record WritesWalk {K V : Type 0} (eq : K → K → Bool) (Walks : List (K × V) → Type 0) (key : Writing K) (val : Writing V) (KeyFits : K → Type 0) (ValFits : V → Type 0) (n : ℕ) (pairs : List (K × V)) (kept : List (ℕ × Datum)) (old : List ℕ) (before : ℕ) {T : Type 0} (r : Result T EncodeError) (new : List ℕ) (after : ℕ) : Type 0 where
   pub walk : List (K × V)
   pub once : ListsOnce eq pairs walk
   pub text : WritesRewrite key val n kept old new r walk
   pub fits : OnOk r (AllHold KeyFits ValFits walk)
   pub room : UsesRoomOf r before (field_text key val n walk ++ records_text kept) after
-  pub order : InOrder keeps pairs walk
+  pub walks : Walks walk
 
 -- ---- what a rewrite does
 
--- the records of the bytes were read into an empty map; and the rewrite was written
-pub record RewritesRun {K V : Type 0} (r : Rules K V) (key : Writing K) (val : Writing V) (KeyFits : K → Type 0) (ValFits : V → Type 0) (left : BudgetLeft) (bytes : List ℕ) (new : List (K × V)) (over : BudgetLeft) (rest : List ℕ) (old written : List ℕ) (before after : ℕ) : Type 0 where
+-- the records of the bytes were read into an empty map; and the rewrite was written, by a walk that the map has
+pub record RewritesRun {K V : Type 0} (r : Rules K V) (key : Writing K) (val : Writing V) (KeyFits : K → Type 0) (ValFits : V → Type 0) (Walks : List (K × V) → Type 0) (left : BudgetLeft) (bytes : List ℕ) (new : List (K × V)) (over : BudgetLeft) (rest : List ℕ) (old written : List ℕ) (before after : ℕ) : Type 0 where
   pub entries : List (EntryRecord K V)
   pub out : List ℕ
   pub run : Run r.key r.val r.depth r.number bytes entries
   pub folded : SamePairs r.same (fold_entries r.same [] entries) new
   pub order : InOrder r.keeps_order (fold_entries r.same [] entries) new
   pub rewrite : IsRewrite r.same key val KeyFits ValFits r.number entries out
+  pub walks : Walks rewrite.0
   pub text : written ≡ old ++ out
   pub ordered : r.keeps_order ≡ true → out ≡ field_text key val r.number (fold_entries r.same [] entries) ++ records_text (undeclared_records r.number entries)
   pub room : before ≤ after + length out
@@ -114,7 +115,7 @@ RefusesBytes r left bytes new over unread old written f =
     (kept : List (ℕ × Datum)) × StopsRun r (state [] [] left) bytes (state new kept over) unread f × (written ≡ old)
 
 -- the records were read, and e is why the text wasn't written whole: out of memory only where it has no room
-pub record RefusesOutput {K V : Type 0} (r : Rules K V) (key : Writing K) (val : Writing V) (left : BudgetLeft) (bytes : List ℕ) (new : List (K × V)) (over : BudgetLeft) (rest : List ℕ) (old written : List ℕ) (before : ℕ) (e : EncodeError) : Type 0 where
+pub record RefusesOutput {K V : Type 0} (r : Rules K V) (key : Writing K) (val : Writing V) (Walks : List (K × V) → Type 0) (left : BudgetLeft) (bytes : List ℕ) (new : List (K × V)) (over : BudgetLeft) (rest : List ℕ) (old written : List ℕ) (before : ℕ) (e : EncodeError) : Type 0 where
   pub entries : List (EntryRecord K V)
   pub walk : List (K × V)
   pub run : Run r.key r.val r.depth r.number bytes entries
@@ -122,6 +123,7 @@ pub record RefusesOutput {K V : Type 0} (r : Rules K V) (key : Writing K) (val :
   pub order : InOrder r.keeps_order (fold_entries r.same [] entries) new
   pub once : ListsOnce r.same (fold_entries r.same [] entries) walk
   pub walked : InOrder r.keeps_order (fold_entries r.same [] entries) walk
+  pub walks : Walks walk
   pub text : RefusesRewrite key val r.number (undeclared_records r.number entries) old written walk e
   pub room : e ≡ OutOfMemory → before < length (field_text key val r.number walk ++ records_text (undeclared_records r.number entries))
   pub paid : Paid r.key r.val r.depth r.cost r.slot left entries over

@@ -21,10 +21,9 @@ use crate::scalars::{
     ProtoStringMap, Sfixed32, Sfixed64, Sint32, Sint64, Uint32, Uint64,
 };
 use crate::storage::MapStorage;
-use buffa_wire::{Blank, MapKey};
+use buffa_wire::{Blank, Enumeration, MapKey, Message, ProtoBytes, ProtoString, Scalar};
 use indexmap::IndexMap;
 use std::hash::{BuildHasher, Hash};
-use buffa_wire::{Enumeration, Message, ProtoBytes, ProtoString, Scalar};
 
 /// How each codec reads and writes, what a value costs, and the length of its payloads. All values are read
 /// back, but for an open enum those alone that hold a declared number as the declared value.

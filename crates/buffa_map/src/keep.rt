@@ -38,10 +38,14 @@ pub(crate) trait Keeper {
             × (budget.old.unknown ≤ budget.new.unknown + slot)) }
         ensures fault { IfErr result (λ f. f ≢ OutOfMemory → (budget.old.unknown < slot)
             × (f ≡ UnknownFieldLimitExceeded) × (budget.new.unknown ≡ budget.old.unknown)) }
+        ensures full { IfErr result (λ f. f ≡ OutOfMemory → slot ≢ 0) }
         ensures memory { budget.new.memory ≡ budget.old.memory };
 
     /// Where it keeps none, an entry takes no slot, and adds nothing.
     ghost drops: { KEEPS ≡ false → (slot ≡ 0) × ((n : ℕ) (entry : List ℕ) → adds n entry ≡ []) };
+
+    /// Where it keeps some, an entry takes a slot.
+    ghost keeps: { KEEPS ≡ true → slot ≢ 0 };
 }
 
 /// Entries are dropped, and take no slot.
@@ -71,6 +75,8 @@ impl Keeper for Dropped {
     }
 
     ghost drops = { λ none. (refl, λ n entry. refl) };
+
+    ghost keeps = { λ some. cc };
 }
 
 impl Keeper for UnknownFields {
@@ -106,4 +112,6 @@ impl Keeper for UnknownFields {
     }
 
     ghost drops = { λ none. cc };
+
+    ghost keeps = { λ some none. cc };
 }

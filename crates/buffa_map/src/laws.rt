@@ -12,6 +12,7 @@ ghost use Rattle.buffa_map.specs.Plain.{IsExact};
 
 use crate::codec::{MapCodec, MapValueDecode};
 pub use crate::codec_laws::{codecs_are_these, scalars_cost_so_much};
+pub use crate::pin_laws::{entries_are_pinned, runs_are_pinned, values_are_pinned};
 use crate::storage::MapStorage;
 use buffa_wire::MessageSpec;
 

@@ -27,6 +27,7 @@ mod message_merge;
 mod message_size;
 mod message_write;
 mod ordered;
+mod pin_laws;
 mod rewrite;
 mod run;
 mod scalar;

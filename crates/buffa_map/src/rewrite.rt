@@ -76,8 +76,8 @@ fn write_with<
     S: EncodeSink,
 >(map: &C, number: u32, kept: &UnknownFields, sink: &mut S) -> Result<(), EncodeError>
     requires { IsNumber number }
-    ensures { WritesWalk C.equal C.keeps_order KC.writing VC.writing KC.fits VC.fits number (C.pairs map.now) kept.now.records
-        (S.written sink.old) (S.room sink.old) result (S.written sink.new) (S.room sink.new) }
+    ensures { WritesWalk C.equal (C.walks map.now) KC.writing VC.writing KC.fits VC.fits number (C.pairs map.now)
+        kept.now.records (S.written sink.old) (S.room sink.old) result (S.written sink.new) (S.room sink.new) }
 {
     map.storage_write::<KC, VC, S>(number, sink)?;
     kept.write_to(sink)
@@ -118,7 +118,7 @@ pub fn rewrite_map_field<
     requires { IsNumber number }
     ensures ok { OnOk result (RewritesRun
         (keeping KC.reading VC.reading C.equal C.keeps_order ctx.entry.depth number (KC.COST + VC.COST))
-        KC.writing VC.writing KC.fits VC.fits ctx.entry.budget.now (B.unread buf.old)
+        KC.writing VC.writing KC.fits VC.fits (C.walks map.new) ctx.entry.budget.now (B.unread buf.old)
         (C.pairs map.new) (budget_left ctx.exit) (B.unread buf.new) (S.written sink.old) (S.written sink.new)
         (S.room sink.old) (S.room sink.new)) }
     ensures refused { IfErr result (λ r. MatchRefusal r
@@ -126,7 +126,7 @@ pub fn rewrite_map_field<
         ctx.entry.budget.now (B.unread buf.old)
         (C.pairs map.new) (budget_left ctx.exit) (B.unread buf.new) (S.written sink.old) (S.written sink.new))
         (RefusesOutput (keeping KC.reading VC.reading C.equal C.keeps_order ctx.entry.depth number (KC.COST + VC.COST))
-        KC.writing VC.writing ctx.entry.budget.now (B.unread buf.old)
+        KC.writing VC.writing (C.walks map.new) ctx.entry.budget.now (B.unread buf.old)
         (C.pairs map.new) (budget_left ctx.exit) (B.unread buf.new) (S.written sink.old) (S.written sink.new)
         (S.room sink.old))) }
     ensures kept { B.beyond buf.new ≡ B.beyond buf.old }

@@ -126,9 +126,9 @@ pub trait MapWrite: MapStorage {
         S: EncodeSink,
     >(&self, number: u32, sink: &mut S) -> Result<(), EncodeError>
         requires { IsNumber number }
-        ensures { (l : List (Self.Key.Meaning × Self.Value.Meaning)) × ListsOnce Self.equal (Self.pairs self.now) l
+        ensures { (l : List (Self.Key.Meaning × Self.Value.Meaning)) × Self.walks self.now l
+            × ListsOnce Self.equal (Self.pairs self.now) l
             × WritesField KC.writing VC.writing number (S.written sink.old) (S.written sink.new) result l
             × OnOk result (AllHold KC.fits VC.fits l)
-            × UsesRoomOf result (S.room sink.old) (field_text KC.writing VC.writing number l) (S.room sink.new)
-            × InOrder Self.keeps_order (Self.pairs self.now) l };
+            × UsesRoomOf result (S.room sink.old) (field_text KC.writing VC.writing number l) (S.room sink.new) };
 }

@@ -1,10 +1,9 @@
-use Rattle.std.proofs.Common.{subst, sym, ◌≡◌, ◌∙◌, Bool, true, false}
-use Rattle.std.specs.Prelude.{IsOk}
+use Rattle.std.proofs.Common.{sym, ◌≡◌, ◌∙◌, Bool, true, false}
 use Rattle.std.proofs.lemmas.Result.{err_from_is_err_and}
 use Rattle.buffa_bytes.proofs.FullLemmas.{varint_no_full}
 use Rattle.buffa_bytes.proofs.TailLemmas.{tail_more}
 use Rattle.buffa_wire.proofs.InsideLemmas.{delimited_front}
-use Rattle.buffa_map.proofs.MergeLemmas.{bad_cut, is_dropped, is_put, no_entry, not_put}
+use Rattle.buffa_map.proofs.MergeLemmas.{bad_cut, is_dropped, is_put, no_copy, no_entry, not_put}
 use Rattle.buffa_map.proofs.PartsLemmas.{entry_declared}
 use Rattle.buffa_map.proofs.ResultLemmas.{IfErr-map, IfErr-with, OnOk-both, OnOk-map}
 use Rattle.buffa_map.proofs.NeedLemmas.{no_length}
@@ -35,7 +34,7 @@ returns-in_err-entry-clause-err g c =
     let len = c.in_ok-len.ensures in
     let copy = c.in_err-entry.ensures in
     let same = delimited_after _ _ _ len.reads in
-    rw (p.1, p.2) (no_entry _ _ _ _ _ _ _ (tail_more _ _ _ copy.tail len.tail) (λ ne. same ∙ copy.reads ne) (λ out. subst (λ z. IsOk z) (sym same) (copy.full out)) (λ e rest t. near_rest _ _ _ _ e rest same t copy.within))
+    rw (p.1, p.2) (no_copy _ _ _ _ _ _ _ _ _ (g.met.L.Keeper.keeps (sym c.KEEPS.ensures ∙ c.if-KEEPS.true)) same (tail_more _ _ _ copy.tail len.tail) copy.reads copy.full copy.free (λ e rest t. near_rest _ _ _ _ e rest same t copy.within))
 
 pub returns-in_err-parts-clause-err : goal.returns-in_err-parts-clause-err
 returns-in_err-parts-clause-err g c =
@@ -63,4 +62,4 @@ returns-clause-ok g c =
 pub returns-clause-err : goal.returns-clause-err
 returns-clause-err g c =
     let cut = c.in_ok-parts.ensures.ok in
-    IfErr-with c.put_pair.result (λ f same out. not_put _ _ _ _ _ _ _ (cut_front _ _ _ _ c.in_ok-len.ensures.reads cut.fits cut.follows) _ _ cut.parts _ f out same) c.put_pair.ensures.err c.put_pair.ensures.full
+    IfErr-with c.put_pair.result (λ f same out. not_put _ _ _ _ _ _ _ (cut_front _ _ _ _ c.in_ok-len.ensures.reads cut.fits cut.follows) _ _ cut.parts c.if-not-parts.false _ f out same) c.put_pair.ensures.err c.put_pair.ensures.full

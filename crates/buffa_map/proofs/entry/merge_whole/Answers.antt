@@ -1,6 +1,6 @@
 use Rattle.std.proofs.lemmas.Result.{err_from_is_err_and}
 use Rattle.buffa_map.proofs.MergeLemmas.{bad_parts, is_kept, is_put, not_kept, not_put}
-use Rattle.buffa_map.proofs.ResultLemmas.{IfErr-with, OnOk-both, OnOk-map}
+use Rattle.buffa_map.proofs.ResultLemmas.{IfErr-both, IfErr-with, OnOk-both, OnOk-map}
 use Rattle.buffa_map.proofs.entry.merge_whole.Goals as goal
 
 pub returns-in_err-parts-clause-err : goal.returns-in_err-parts-clause-err
@@ -14,7 +14,7 @@ returns-clause-ok g c =
 
 pub returns-clause-err : goal.returns-clause-err
 returns-clause-err g c =
-    IfErr-with c.put_pair.result (λ f same out. λ bytes rest is. not_put _ _ _ _ _ _ _ is _ _ c.in_ok-parts.ensures.ok _ f out same) c.put_pair.ensures.err c.put_pair.ensures.full
+    IfErr-with c.put_pair.result (λ f same out. λ bytes rest is. not_put _ _ _ _ _ _ _ is _ _ c.in_ok-parts.ensures.ok c.if-not-parts.false _ f out same) c.put_pair.ensures.err c.put_pair.ensures.full
 
 pub returns-then-not-parts-clause-ok : goal.returns-then-not-parts-clause-ok
 returns-then-not-parts-clause-ok g c =
@@ -22,4 +22,4 @@ returns-then-not-parts-clause-ok g c =
 
 pub returns-then-not-parts-clause-err : goal.returns-then-not-parts-clause-err
 returns-then-not-parts-clause-err g c =
-    IfErr-with c.keep.result (λ f a h. λ bytes rest is. not_kept _ _ _ _ _ _ _ is _ _ c.in_ok-parts.ensures.ok c.if-not-parts.true _ _ f a.0 a.1 a.2 c.keep.ensures.memory h) c.keep.ensures.err c.keep.ensures.fault
+    IfErr-both c.keep.result (λ f a h k. λ bytes rest is. not_kept _ _ _ _ _ _ _ is _ _ c.in_ok-parts.ensures.ok c.if-not-parts.true _ _ f a.0 a.1 a.2 c.keep.ensures.memory h k) c.keep.ensures.err c.keep.ensures.fault c.keep.ensures.full

@@ -1,4 +1,5 @@
 use Rattle.std.proofs.Common.{refl, sym, ap, ◌∙◌}
+use Rattle.std.proofs.lemmas.List.Sorted.{IsPermutation-refl}
 use Rattle.std.proofs.lemmas.Result.{err_from_is_err_and}
 use Rattle.buffa_map.specs.Pairs.{means}
 use Rattle.buffa_map.proofs.MeaningLemmas.{IsDistinct-mean}
@@ -21,22 +22,22 @@ pub returns-in_err-write_record : goal.returns-in_err-write_record
 returns-in_err-write_record g c =
     let q = err_from_is_err_and c.from_residual.result c.from_residual.ensures.1 in (
       means g.K.Blank.meaning g.V.Blank.meaning c.args.self.now.entries,
+      IsPermutation-refl _,
       (IsDistinct-mean g.K.Blank.meaning g.V.Blank.meaning g.K.MapKey.equivalence g.met.K.MapKey.respects c.args.self.now.entries c.iter-key-items.ensures.unique, λ q. refl),
       sent_refused g.K.Blank.meaning g.V.Blank.meaning g.KC.MapCodec.writing g.VC.MapCodec.writing c.args.number g.KC.MapCodec.fits g.VC.MapCodec.fits _ _ _ q.1 q.2
           c.loop-key.key-iterator c.next.new.self c.in-Some.key.now c.in-Some.value.now c.in-Some.ensures.steps _ _ _ c.loop-key.invariant c.in_err-write_record.ensures.written,
       rw q.1 tt,
       sent_no_room g.K.Blank.meaning g.V.Blank.meaning g.KC.MapCodec.writing g.VC.MapCodec.writing c.args.number g.KC.MapCodec.fits g.VC.MapCodec.fits _ _ _ q.1 q.2
           c.loop-key.key-iterator c.next.new.self c.in-Some.key.now c.in-Some.value.now c.in-Some.ensures.steps _ _ _ c.loop-key.invariant c.in_err-write_record.ensures.room,
-      λ never. cc,
     )
 
 pub returns : goal.returns
 returns g c =
     let s = sent_all g.K.Blank.meaning g.V.Blank.meaning g.KC.MapCodec.writing g.VC.MapCodec.writing c.args.number g.KC.MapCodec.fits g.VC.MapCodec.fits _ _ _ c.loop-key.key-iterator c.in-None.ensures.steps.0 _ _ c.loop-key.invariant in (
       means g.K.Blank.meaning g.V.Blank.meaning c.args.self.now.entries,
+      IsPermutation-refl _,
       (IsDistinct-mean g.K.Blank.meaning g.V.Blank.meaning g.K.MapKey.equivalence g.met.K.MapKey.respects c.args.self.now.entries c.iter-key-items.ensures.unique, λ q. refl),
       s.0,
       s.1,
       s.2,
-      λ never. cc,
     )
