@@ -64,6 +64,27 @@ pub fn the_last_record_is_read<C: LastWins>()
     ensures holds { (v : C.Value.Meaning) (o : Option C.Value.Meaning) → ⟦<C as ExtensionCodec>⟧.holds v o
         ↔ (o ≡ Some (C.back v)) }
     ensures spends { (b left : BudgetLeft) (d : Datum) → C.leaves 100 b d left ↔ (left ≡ b) }
+    ensures refusal { (v : C.Value.Meaning) → ⟦<C as ExtensionCodec>⟧.refusal v ≡ C.refusal v }
+    ensures fits { (v : C.Value.Meaning) → ⟦<C as ExtensionCodec>⟧.fits v ↔ C.fits v }
+    ensures normal { (v : C.Value.Meaning) → ⟦<C as ExtensionCodec>⟧.normal v ↔ C.normal v }
+    ensures always { C.never_fails → ⟦<C as ExtensionCodec>⟧.never_fails }
+{}
+
+/// A value means what its type says, and a list what its values do, in order; so do the answers of a reading.
+pub fn values_mean_these<C: LastWins, R: SingularCodec, P: PackableCodec>(
+    value: &C::Value,
+    output: &Option<C::Value>,
+    list: &Vec<R::Value>,
+    packed: &Vec<P::Value>,
+)
+    ensures value { ⟦<C as ExtensionCodec>⟧.meaning value.now ≡ C.Value.meaning value.now }
+    ensures answer { ⟦<C as ExtensionCodec>⟧.answer output.now ≡ option_map C.Value.meaning output.now }
+    ensures list { ⟦<Repeated<R> as ExtensionCodec>⟧.meaning list.now ≡ map R.Value.meaning list.now.items }
+    ensures list_answer { ⟦<Repeated<R> as ExtensionCodec>⟧.answer list.now ≡ map R.Value.meaning list.now.items }
+    ensures packed { ⟦<PackedRepeated<P> as ExtensionCodec>⟧.meaning packed.now
+        ≡ map P.Value.meaning packed.now.items }
+    ensures packed_answer { ⟦<PackedRepeated<P> as ExtensionCodec>⟧.answer packed.now
+        ≡ map P.Value.meaning packed.now.items }
 {}
 
 /// The record of each scalar.
@@ -289,6 +310,9 @@ pub fn lists_are_read<C: SingularCodec, P: PackableCodec>()
     ensures in_room { (vs : List C.Value.Meaning) → ⟦<Repeated<C> as ExtensionCodec>⟧.in_room vs ↔ Each C.made_free vs }
     ensures memory { (ds : List Datum) → ⟦<Repeated<C> as ExtensionCodec>⟧.takes ds
         ↔ Has (TakesElement C.takes (C.one 100) C.packed) ds }
+    ensures fits { (vs : List C.Value.Meaning) → ⟦<Repeated<C> as ExtensionCodec>⟧.fits vs ↔ Each C.fits vs }
+    ensures packed_fits { (vs : List P.Value.Meaning) → ⟦<PackedRepeated<P> as ExtensionCodec>⟧.fits vs
+        ↔ Each P.fits vs }
     ensures packed_memory { (ds : List Datum) → ⟦<PackedRepeated<P> as ExtensionCodec>⟧.takes ds
         ↔ Has (TakesElement P.takes (P.one 100) P.packed) ds }
 {}
