@@ -21,11 +21,11 @@ pub left_is : (b : BudgetLeft) (u m : ℕ) → b.unknown ≡ u → b.memory ≡ 
 left_is b u m h k = subst (λ (z : ℕ). b ≡ record { unknown = u; memory = z }) k (subst (λ (z : ℕ). b ≡ record { unknown = z; memory = b.memory }) h refl)
 
 -- the bytes were refused, or the text of the rewrite
-module _ {K : Type 0} (rk : Reading K) (rv : Reading ℤ) (key : Writing K) (eq : K → K → Bool) (keeps : Bool) (n cost : ℕ) (bs : List ℕ) (pairs : List (K × ℤ)) where
+module _ {K : Type 0} (rk : Reading K) (rv : Reading ℤ) (key : Writing K) (eq : K → K → Bool) (keeps : Bool) (n cost : ℕ) (bs : List ℕ) (pairs : List (K × ℤ)) (walks : List (K × ℤ) → Type 0) where
   abbrev Refused : ℕ → ℕ → BudgetLeft → List ℕ → BudgetLeft → List ℕ → List ℕ → RewriteError → Type 0
   Refused room d left old over rest written x = MatchRefusal x
       (RefusesBytes (keeping rk rv eq keeps d n cost) left bs pairs over rest old written)
-      (RefusesOutput (keeping rk rv eq keeps d n cost) key closed_writing left bs pairs over rest old written room)
+      (RefusesOutput (keeping rk rv eq keeps d n cost) key closed_writing walks left bs pairs over rest old written room)
 
   -- what didn't fit in some room doesn't fit in none
   with_no_room : (room d : ℕ) (left : BudgetLeft) (old : List ℕ) (over : BudgetLeft) (rest written : List ℕ) (x : RewriteError) → Refused room d left old over rest written x → Refused 0 d left old over rest written x
@@ -38,6 +38,7 @@ module _ {K : Type 0} (rk : Reading K) (rv : Reading ℤ) (key : Writing K) (eq 
     order = h.order;
     once = h.once;
     walked = h.walked;
+    walks = h.walks;
     text = h.text;
     room = λ is. omega (arith, h.room is);
     paid = h.paid;
@@ -45,7 +46,7 @@ module _ {K : Type 0} (rk : Reading K) (rv : Reading ℤ) (key : Writing K) (eq 
   }
 
   pub not_rewritten : (room d e : ℕ) (left given : BudgetLeft) (old : List ℕ) (over : BudgetLeft) (rest written : List ℕ) (x : RewriteError) → d ≡ e → left ≡ given → old ≡ [] →
-      Refused room d left old over rest written x → NotRewritten (keeping rk rv eq keeps e n cost) key given bs pairs x
+      Refused room d left old over rest written x → NotRewritten (keeping rk rv eq keeps e n cost) key walks given bs pairs x
   not_rewritten room d e left given old over rest written x same is empty h = (
     over,
     rest,

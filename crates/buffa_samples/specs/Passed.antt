@@ -35,12 +35,12 @@ IsRunOf {K} key e d n bytes = (es : List (EntryRecord K ℤ)) × Run key (closed
 abbrev pub reader_of : {K : Type 0} → Reading K → ℕ → Numbers → (K → K → Bool) → Bool → ℕ → ℕ → Rules K ℤ
 reader_of key cost e same ordered d n = keeping key (closed_reading e) same ordered d n (cost + 4)
 
--- Why the bytes weren't rewritten, where the map was left with these pairs: the fault that reading them into an
+-- Why the bytes weren't rewritten, where the map was left with these pairs, and is walked so: the fault that reading them into an
 -- empty map stopped at; or they are a run, and the error of its text.
-abbrev pub NotRewritten : {K : Type 0} → Rules K ℤ → Writing K → BudgetLeft → List ℕ → List (K × ℤ) → RewriteError → Type 0
-NotRewritten r key left bytes pairs e =
+abbrev pub NotRewritten : {K : Type 0} → Rules K ℤ → Writing K → (List (K × ℤ) → Type 0) → BudgetLeft → List ℕ → List (K × ℤ) → RewriteError → Type 0
+NotRewritten r key walks left bytes pairs e =
     (over : BudgetLeft) × (rest : List ℕ) × (written : List ℕ)
-    × MatchRefusal e (RefusesBytes r left bytes pairs over rest [] written) (RefusesOutput r key closed_writing left bytes pairs over rest [] written 0)
+    × MatchRefusal e (RefusesBytes r left bytes pairs over rest [] written) (RefusesOutput r key closed_writing walks left bytes pairs over rest [] written 0)
 
 -- The bytes are a run to the reader, whose enum is e; filled are the pairs that the run makes of the empty map, and out
 -- is a rewrite of the run.

@@ -81,7 +81,7 @@ pub fn passed_on<
     ensures refused { IfErr result (λ fault. MatchPass fault
         (λ e. NotRewritten
         (reader_of KC.reading KC.COST (numbers E.of_number E.blank_is) C.equal C.keeps_order depth number) KC.writing
-        (record { unknown = DEFAULT_UNKNOWN_FIELD_LIMIT; memory = DEFAULT_ELEMENT_MEMORY_LIMIT })
+        (C.walks scratch.new) (record { unknown = DEFAULT_UNKNOWN_FIELD_LIMIT; memory = DEFAULT_ELEMENT_MEMORY_LIMIT })
         bytes.now (C.pairs scratch.new) e × (map.new ≡ map.old) × (unknown.new ≡ unknown.old))
         (StopsInRewrite
         (reader_of KC.reading KC.COST (numbers E.of_number E.blank_is) C.equal C.keeps_order depth number)

@@ -70,7 +70,7 @@ pub returns-in-Err-clause-refused : goal.returns-in-Err-clause-refused
 returns-in-Err-clause-refused g c =
     let e = numbers g.E.Enumeration.of_number g.E.Blank.blank_is in (
       not_rewritten g.KC.MapValueDecode.reading (closed_reading e) g.KC.MapCodec.writing g.C.MapStorage.equal g.C.MapStorage.keeps_order c.args.number (g.KC.MapValueDecode.COST + 4) c.args.bytes.now
-          (g.C.MapStorage.pairs c.rewrite_map_field.new.map) _ c.new-ctx.result.depth c.args.depth c.new-ctx.result.budget.now _ c.new-text.result.items _ _ _ c.in-Err.error c.new-ctx.ensures.depth
+          (g.C.MapStorage.pairs c.rewrite_map_field.new.map) (g.C.MapStorage.walks c.rewrite_map_field.new.map) _ c.new-ctx.result.depth c.args.depth c.new-ctx.result.budget.now _ c.new-text.result.items _ _ _ c.in-Err.error c.new-ctx.ensures.depth
           (c.new-ctx.ensures.left ∙ left_is c.new-budget.result _ _ c.new-budget.ensures.unknown c.new-budget.ensures.memory) c.new-text.ensures.items c.in-Err.ensures.refused,
       refl,
       refl,
