@@ -97,14 +97,18 @@ tag_of_none = refl
 no_bytes_no_tag : (r : Result (ℕ × WireType × List ℕ) DecodeError) (e : DecodeError) → r ≡ Err e → IsOk r → ⊥
 no_bytes_no_tag r e h k = cc
 
+-- what is read is read
+read_is_ok : {X : Type 0} (r : Result X DecodeError) (x : X) → r ≡ Ok x → IsOk r
+read_is_ok r x e = rw e refl
+
 -- bytes that reach a tag are some
 pub tag_has_byte : (d : ℕ) (bs : List ℕ) → ReachesTag d bs → bs ≢ []
-tag_has_byte d bs (([], rest, j, e, t)) none = no_bytes_no_tag (tag_at rest) UnexpectedEof (ap tag_at (sym e ∙ none) ∙ tag_of_none) t
+tag_has_byte d bs (([], rest, j, e, t)) none = no_bytes_no_tag (tag_at rest) UnexpectedEof (ap tag_at (sym e ∙ none) ∙ tag_of_none) (read_is_ok (tag_at rest) _ t.3)
 tag_has_byte d bs ((x ∷ front, rest, j, e, t)) none = some_left (sym e ∙ none)
   where
     some_left : x ∷ (front ++ rest) ≡ [] → ⊥
     some_left h = cc
 
 -- a tag has a byte
-pub tag_begins : (bs : List ℕ) → IsOk (tag_at bs) → bs ≢ []
-tag_begins bs t none = no_bytes_no_tag (tag_at bs) UnexpectedEof (ap tag_at none ∙ tag_of_none) t
+pub tag_begins : (bs : List ℕ) (x : ℕ × WireType × List ℕ) → tag_at bs ≡ Ok x → bs ≢ []
+tag_begins bs x t none = no_bytes_no_tag (tag_at bs) UnexpectedEof (ap tag_at none ∙ tag_of_none) (read_is_ok (tag_at bs) x t)
