@@ -15,3 +15,4 @@ pub mod Values
 pub mod Scalars
 pub mod Texts
 pub mod Plain
+pub mod Pinned

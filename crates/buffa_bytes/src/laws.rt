@@ -1,7 +1,9 @@
 //! What the definitions say together: each law is a function with nothing to do, whose contract is the law.
 
 ghost use Rattle.std.specs.Prelude.{◌≡◌, ◌≢◌, ◌<◌, ◌≤◌, ◌<ℤ◌, ◌^◌, ◌+◌, ◌↔◌, ℕ, ℤ, suc, pos, Bool, List, ◌++◌};
-ghost use Rattle.std.specs.Prelude.{length, Ok, Err, FitsSigned, true};
+ghost use Rattle.std.specs.Prelude.{length, Ok, Err, FitsSigned, true, false, [], ◌-◌, Some, None, string_bytes};
+ghost use Rattle.std.specs.Prelude.{vec_capacity, vec_len, Vec};
+ghost use Rattle.std.specs.Global.{Global};
 ghost use Rattle.std.specs.Int.{cast_unsigned, from_bool, w32, w64};
 ghost use Rattle.std.specs.List.{All};
 ghost use Rattle.std.specs.Str.{is_utf8};
@@ -22,12 +24,23 @@ ghost use Rattle.buffa_bytes.specs.Scalars.{int64_text, sfixed32_at, sfixed32_of
 ghost use Rattle.buffa_bytes.specs.Scalars.{sfixed64_of, sfixed64_text, sint32_at, sint32_of, sint32_text, sint64_at};
 ghost use Rattle.buffa_bytes.specs.Scalars.{sint64_of, sint64_text, uint32_at, uint32_of, uint32_text, uint64_at};
 ghost use Rattle.buffa_bytes.specs.Scalars.{uint64_text, unzigzag, varint_as, zigzag};
+ghost use Rattle.buffa_bytes.specs.Pinned.{AnswerIsPinned, AnswerIsPinnedUnlessFull, ChunkIsPinned, IsItsBytes};
+ghost use Rattle.buffa_bytes.specs.Pinned.{Means, SameIsOne, ShowsBytes, ShowsFront, WriteIsPinned};
+ghost use Rattle.buffa_bytes.specs.Reading.{check_wire};
+ghost use Rattle.buffa_bytes.specs.WireType.{wire_kind, wire_number};
 ghost use Rattle.buffa_bytes.specs.Texts.{bytes_as, string_as, text_as};
 ghost use Rattle.buffa_bytes.specs.Values.{delimited_text, int32_at, int32_text, string_at, tag_text};
 
+use crate::blank::Blank;
+use crate::buf::Buf;
+use crate::key::{MapKey, PlainKey};
+use crate::limited::Limited;
+use crate::pieces::Pieces;
 use crate::proto::{ProtoBytes, ProtoString};
+use crate::sink::EncodeSink;
 use crate::tag::MAX_FIELD_NUMBER;
 use crate::types::{BOOL_ENCODED_LEN, FIXED32_ENCODED_LEN, FIXED64_ENCODED_LEN};
+use bytes::Bytes;
 
 /// A varint is read exactly where a spelling begins the bytes, and a fault is told exactly where the
 /// grammar has it.
@@ -224,4 +237,99 @@ pub fn values_are_read_of_contents<V>()
         ≡ content_by LengthDelimited (λ c. Ok (of (bytes_in c))) bs }
     ensures string { (of : List ℕ → V) (bs : List ℕ) → string_as of bs
         ≡ content_by LengthDelimited (λ c. text_as of (bytes_in c)) bs }
+{}
+
+/// What reads and takes no memory has one answer. It leaves open what is unread after a refusal within a group.
+pub fn answers_are_pinned<X, Y>()
+    ensures { AnswerIsPinned X Y }
+{}
+
+/// The same of what takes memory. It leaves open whether memory is told where the whole is there, and how much of the
+/// whole is unread then.
+pub fn answers_are_pinned_unless_full<X, Y, Z>()
+    ensures { AnswerIsPinnedUnlessFull X Y Z }
+{}
+
+/// A text is written in one way. It leaves open whether a text is refused that doesn't fit for sure, before which of its
+/// bytes, and whether more room is left than is promised.
+pub fn writes_are_pinned<T>()
+    ensures { WriteIsPinned T }
+{}
+
+/// Chunks and fronts of the same bytes are beginnings of them. It leaves open where a chunk ends.
+pub fn chunks_are_pinned()
+    ensures { ChunkIsPinned }
+{}
+
+/// What the values of each type mean, and its default. It leaves open the capacity and the layout of a text.
+pub fn meanings_are_these()
+    ensures int32 { Means (λ n. n) (pos 0) ⟦<i32 as Blank>⟧.meaning ⟦<i32 as Blank>⟧.blank_is }
+    ensures int64 { Means (λ n. n) (pos 0) ⟦<i64 as Blank>⟧.meaning ⟦<i64 as Blank>⟧.blank_is }
+    ensures uint32 { Means (λ n. n) 0 ⟦<u32 as Blank>⟧.meaning ⟦<u32 as Blank>⟧.blank_is }
+    ensures uint64 { Means (λ n. n) 0 ⟦<u64 as Blank>⟧.meaning ⟦<u64 as Blank>⟧.blank_is }
+    ensures bool { Means (λ b. b) false ⟦<bool as Blank>⟧.meaning ⟦<bool as Blank>⟧.blank_is }
+    ensures string { Means string_bytes [] ⟦<String as Blank>⟧.meaning ⟦<String as Blank>⟧.blank_is }
+    ensures bytes { Means (λ v. v.items) [] ⟦<Vec<u8> as Blank>⟧.meaning ⟦<Vec<u8> as Blank>⟧.blank_is }
+    ensures shared { Means (λ b. b) [] ⟦<Bytes as Blank>⟧.meaning ⟦<Bytes as Blank>⟧.blank_is }
+{}
+
+/// Two values of each of these types are one key exactly where they mean the same. It leaves nothing open.
+pub fn keys_are_these()
+    ensures int32 { SameIsOne ⟦<i32 as MapKey>⟧.same }
+    ensures int64 { SameIsOne ⟦<i64 as MapKey>⟧.same }
+    ensures uint32 { SameIsOne ⟦<u32 as MapKey>⟧.same }
+    ensures uint64 { SameIsOne ⟦<u64 as MapKey>⟧.same }
+    ensures bool { SameIsOne ⟦<bool as MapKey>⟧.same }
+    ensures string { SameIsOne ⟦<String as MapKey>⟧.same }
+    ensures bytes { SameIsOne ⟦<Vec<u8> as MapKey>⟧.same }
+    ensures shared { SameIsOne ⟦<Bytes as MapKey>⟧.same }
+{}
+
+/// The text of a `String`, and the bytes of a vector, are its bytes. It leaves nothing open.
+pub fn texts_are_these()
+    ensures string { IsItsBytes ⟦<String as ProtoString>⟧.text ⟦<String as ProtoString>⟧.of_text }
+    ensures bytes { IsItsBytes ⟦<Vec<u8> as ProtoBytes>⟧.bytes ⟦<Vec<u8> as ProtoBytes>⟧.of_bytes }
+{}
+
+/// The bytes that each buffer shows, and what it keeps past them. It leaves open where chunks of pieces end.
+pub fn buffers_are_these<B: Buf>()
+    ensures slice { ShowsBytes (λ s. s.now) ⟦<&'static [u8] as Buf>⟧.unread ⟦<&'static [u8] as Buf>⟧.beyond }
+    ensures shared { ShowsBytes (λ b. b) ⟦<Bytes as Buf>⟧.unread ⟦<Bytes as Buf>⟧.beyond }
+    ensures pieces { ShowsBytes (λ s. s) ⟦<Pieces<'static> as Buf>⟧.unread ⟦<Pieces<'static> as Buf>⟧.beyond }
+    ensures limited { ShowsFront ⟦<Limited<'static, B> as Buf>⟧.unread (λ s. B.unread s.inner.now) (λ s. s.limit)
+        ⟦<Limited<'static, B> as Buf>⟧.beyond (λ s. B.beyond s.inner.now) (λ s. s.inner.ghost_name) }
+{}
+
+/// What was written to a vector, and its room. It leaves nothing open.
+pub fn sinks_are_these()
+    ensures written { (v : Vec ℕ Global) → ⟦<Vec<u8> as EncodeSink>⟧.written v ≡ v.items }
+    ensures room { (v : Vec ℕ Global) → ⟦<Vec<u8> as EncodeSink>⟧.room v ≡ vec_capacity v - vec_len v }
+{}
+
+/// Two types of one's own for strings read one text out of the same bytes. It leaves open how a value holds its text.
+pub fn own_strings_are_pinned<S: ProtoString, T: ProtoString>()
+    ensures one { (bs x y : List ℕ) (s : S.Meaning) (t : T.Meaning) → string_as S.of_text bs ≡ Ok (s, x) →
+        string_as T.of_text bs ≡ Ok (t, y) → (S.text s ≡ T.text t) × (x ≡ y) }
+    ensures meaning { (a b : S.Meaning) → S.text a ≡ S.text b → a ≡ b }
+{}
+
+/// The same of bytes.
+pub fn own_bytes_are_pinned<P: ProtoBytes, Q: ProtoBytes>()
+    ensures one { (bs x y : List ℕ) (p : P.Meaning) (q : Q.Meaning) → bytes_as P.of_bytes bs ≡ Ok (p, x) →
+        bytes_as Q.of_bytes bs ≡ Ok (q, y) → (P.bytes p ≡ Q.bytes q) × (x ≡ y) }
+    ensures meaning { (a b : P.Meaning) → P.bytes a ≡ P.bytes b → a ≡ b }
+{}
+
+/// `==` on plain keys says exactly whether they mean the same; on other keys it says what `same` does of their meanings.
+pub fn own_keys_are_pinned<K: MapKey, P: PlainKey>()
+    ensures key { (a b : K) → K.eq a b ≡ K.same (K.meaning a) (K.meaning b) }
+    ensures plain { (a b : P) → (P.eq a b ≡ true) ↔ (P.meaning a ≡ P.meaning b) }
+{}
+
+/// The number of a wire type is undone, and 6 and 7 are none. Two wire types are one exactly where they are equal.
+pub fn wire_types_are_pinned()
+    ensures number { (w : WireType) → wire_kind (wire_number w) ≡ Some w }
+    ensures kind { (n : ℕ) (w : WireType) → wire_kind n ≡ Some w → wire_number w ≡ n }
+    ensures none { (n : ℕ) → 6 ≤ n → wire_kind n ≡ None }
+    ensures same { (f : ℕ) (e a : WireType) → (check_wire f e a ≡ Ok tt) ↔ (e ≡ a) }
 {}

@@ -1,0 +1,65 @@
+-- What a contract leaves open: nothing, but for what is said here.
+use Rattle.std.specs.Prelude.{◌≡◌, ◌≢◌, ◌↔◌, ℕ, ◌+◌, ◌<◌, ◌≤◌, Bool, true, List, [], ◌∷◌, length, take, drop, Result, Ok, Err, IsOk}
+use Rattle.buffa_bytes.specs.Gives.{FullOnlyIf, Gives, GivesUnlessFull}
+use Rattle.buffa_bytes.specs.Left.{LeavesUnlessFull}
+use Rattle.buffa_bytes.specs.Unread.{IsChunkOf, IsFrontOf, MovesUnlessFull}
+use Rattle.buffa_bytes.specs.Written.{UsesRoom, Writes}
+use Rattle.buffa_bytes.specs.declared.error.DecodeError.{DecodeError}
+use Rattle.buffa_bytes.specs.declared.error.DecodeError.TheVariants.{OutOfMemory}
+use Rattle.buffa_bytes.specs.declared.error.EncodeError.{EncodeError}
+use Rattle.buffa_bytes.specs.declared.error.EncodeError.TheVariants as encode
+
+-- Two answers to one reading are one, bytes that are read are not refused, and refused bytes have one fault.
+pub record AnswerIsPinned (X Y : Type 0) : Type 0 where
+  pub one : (f g : X → Y) (x y : X) (read : Result Y DecodeError) → Gives f (Ok x) read → Gives g (Ok y) read → f x ≡ g y
+  pub taken : (f g : X → Y) (x : X) (e : DecodeError) (read : Result Y DecodeError) → Gives f (Ok x) read → Gives g (Err e) read → ⊥
+  pub fault : (f g : X → Y) (d e : DecodeError) (read : Result Y DecodeError) → Gives f (Err d) read → Gives g (Err e) read → d ≡ e
+
+-- The same, memory aside; and memory is not told where the whole that is asked for isn't there.
+pub record AnswerIsPinnedUnlessFull (X Y Z : Type 0) : Type 0 where
+  pub one : (f g : X → Y) (x y : X) (read : Result Y DecodeError) → GivesUnlessFull f (Ok x) read → GivesUnlessFull g (Ok y) read → f x ≡ g y
+  pub taken : (f g : X → Y) (x : X) (e : DecodeError) (read : Result Y DecodeError) → e ≢ OutOfMemory → GivesUnlessFull f (Ok x) read → GivesUnlessFull g (Err e) read → ⊥
+  pub fault : (f g : X → Y) (d e : DecodeError) (read : Result Y DecodeError) → d ≢ OutOfMemory → e ≢ OutOfMemory → GivesUnlessFull f (Err d) read → GivesUnlessFull g (Err e) read → d ≡ e
+  pub full : (f : X → Y) (d e : DecodeError) (read : Result Y DecodeError) (whole : Result Z DecodeError) → whole ≡ Err e → FullOnlyIf {X = X} (Err d) (IsOk whole) → GivesUnlessFull f (Err d) read → read ≡ Err d
+  pub left : (e : DecodeError) (rest a b : List ℕ) → e ≢ OutOfMemory → LeavesUnlessFull {X = X} (Err e) rest a → LeavesUnlessFull {X = X} (Err e) rest b → a ≡ b
+
+-- Of a text that is written one text stands in the sink; a text that fits is not refused; of a refused one not all stands,
+-- and of two refused writes the one begins the other.
+pub record WriteIsPinned (T : Type 0) : Type 0 where
+  pub one : (x y : T) (old text a b : List ℕ) → Writes (Ok x) old text a → Writes (Ok y) old text b → a ≡ b
+  pub fits : (e : EncodeError) (room left : ℕ) (text : List ℕ) → length text ≤ room → UsesRoom {T = T} (Err e) room text left → ⊥
+  pub error : (e : EncodeError) (old text new : List ℕ) → Writes {T = T} (Err e) old text new → e ≡ encode.OutOfMemory
+  pub short : (e : EncodeError) (old text new : List ℕ) → Writes {T = T} (Err e) old text new → length new < length old + length text
+  pub fronts : (d e : EncodeError) (old text a b : List ℕ) → length a ≤ length b → Writes {T = T} (Err d) old text a → Writes {T = T} (Err e) old text b → a ≡ take (length a) b
+
+-- Of two chunks of the same bytes the one begins the other, and none is empty while bytes are left; fronts of one length are one.
+pub record ChunkIsPinned : Type 0 where
+  pub one : (p q all : List ℕ) → length p ≤ length q → IsChunkOf p all → IsChunkOf q all → p ≡ take (length p) q
+  pub some : (all : List ℕ) → IsChunkOf [] all → all ≡ []
+  pub fronts : (n : ℕ) (p q all : List ℕ) → IsFrontOf p n all → IsFrontOf q n all → p ≡ q
+  pub moved : (n : ℕ) (old a b held x y : List ℕ) → MovesUnlessFull (Ok tt) n old a held x → MovesUnlessFull (Ok tt) n old b held y → (a ≡ b) × (x ≡ y)
+
+-- ---- types of our own
+
+-- a value means what of makes of it, and the default means zero
+pub record Means {A M : Type 0} (of : A → M) (zero : M) (meaning : A → M) (blank : M) : Type 0 where
+  pub value : (v : A) → meaning v ≡ of v
+  pub default : blank ≡ zero
+
+-- two values are one key only where they are one
+abbrev pub SameIsOne : {M : Type 0} → (M → M → Bool) → Type 0
+SameIsOne {M} same = (a b : M) → (same a b ≡ true) ↔ (a ≡ b)
+
+-- a text is its bytes, and any bytes are the text of themselves
+abbrev pub IsItsBytes : (List ℕ → List ℕ) → (List ℕ → List ℕ) → Type 0
+IsItsBytes bytes of = (b : List ℕ) → (bytes b ≡ b) × (of b ≡ b)
+
+-- a buffer shows these bytes, and none past them
+pub record ShowsBytes {A : Type 0} (bytes unread : A → List ℕ) (beyond : A → List (ℕ × List ℕ)) : Type 0 where
+  pub shown : (s : A) → unread s ≡ bytes s
+  pub past : (s : A) → beyond s ≡ []
+
+-- a lent buffer shows its first bytes, and past them what stays
+pub record ShowsFront {A : Type 0} (unread inner_unread : A → List ℕ) (limit : A → ℕ) (beyond inner_beyond : A → List (ℕ × List ℕ)) (name : A → ℕ) : Type 0 where
+  pub shown : (s : A) → unread s ≡ take (limit s) (inner_unread s)
+  pub past : (s : A) → beyond s ≡ (name s, drop (limit s) (inner_unread s)) ∷ inner_beyond s
