@@ -5,7 +5,7 @@ use Rattle.std.proofs.lemmas.List.{nil_from_length}
 use Rattle.buffa_wire.specs.BudgetLeft.{BudgetLeft}
 use Rattle.buffa_map.specs.Run.{fold_entries, Run}
 use Rattle.buffa_map.specs.Text.{field_text}
-use Rattle.buffa_samples.proofs.TripLemmas.{costs_more, unwritten}
+use Rattle.buffa_samples.proofs.TripLemmas.{as_units, costs_more, stopped, unwritten}
 use Rattle.buffa_samples.proofs.round_trip.through_bytes.Goals as goal
 
 pub returns-in-Ok-read_map_field-clause-ok : goal.returns-in-Ok-read_map_field-clause-ok
@@ -67,3 +67,12 @@ returns-clause-err g c =
           (k.entries, k.rest, k.over, k.begins, k.some, k.fault named) in
           (more.0, subst (λ x. x < length w.0 * cost) memory (subst (λ x. c.new-ctx.result.budget.now.memory < x * cost) t.many more.1))),
     )
+
+pub returns-clause-stops : goal.returns-clause-stops
+returns-clause-stops g c =
+    let w = c.in-Ok.ensures in
+    let field = field_text g.KC.MapCodec.writing g.VC.MapCodec.writing c.args.number w.0 in
+    let text : c.as_slice-rest.result.now ≡ field = c.as_slice-rest.ensures.value ∙ w.3.1 ∙ ap (λ z. z ++ field) c.new-text.ensures.items in
+    let left = c.new-ctx.ensures.left ∙ as_units c.new-budget.result 268435456 c.new-budget.ensures.unknown c.new-budget.ensures.memory in
+    (w.0, w.1, _, _, stopped g.KC.MapValueDecode.reading g.VC.MapValueDecode.reading g.C.MapStorage.equal g.C.MapStorage.keeps_order _ 0 c.args.number _ _ _ _ _ _ _ _ _
+    c.new-ctx.ensures.depth left c.requires.empty text c.in-Err-read_map_field.ensures.err)
