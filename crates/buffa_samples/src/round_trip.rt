@@ -15,9 +15,7 @@ use buffa_map::laws::{one_reading, plain_entries_need_units, written_is_read};
 use buffa_map::map_codec::{
     Bool, MapCodec, MapStorage, MapWalk, ProtoStringMap, read_map_field, write_field,
 };
-use buffa_wire::{
-    Budget, DEFAULT_ELEMENT_MEMORY_LIMIT, DecodeContext, DecodeError, EncodeError,
-};
+use buffa_wire::{Budget, DEFAULT_ELEMENT_MEMORY_LIMIT, DecodeContext, DecodeError, EncodeError};
 use std::alloc::Global;
 use std::collections::HashMap;
 
