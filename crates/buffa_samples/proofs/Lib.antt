@@ -5,3 +5,4 @@ pub mod TreeFields
 pub mod TreeMerge
 pub mod TreeSizes
 pub mod TripLemmas
+pub mod TreeNormal

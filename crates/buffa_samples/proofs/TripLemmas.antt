@@ -1,5 +1,5 @@
 -- Why a map may not come back: what is read is a run, so only the budget has a fault.
-use Rattle.std.proofs.Common.{◌≡◌, ◌+◌, ap, ◌-◌, ◌*◌, ◌<◌, ◌≤◌, ℕ, List, length, inl, inr, refl, arith}
+use Rattle.std.proofs.Common.{◌≡◌, ◌∙◌, ◌+◌, ap, subst, ◌-◌, ◌*◌, ◌<◌, ◌≤◌, ℕ, Bool, List, [], length, inl, inr, refl, arith}
 use Rattle.std.specs.Prelude.{◌⊎◌}
 use Rattle.std.proofs.Math.Nat.{lt_of_not-le}
 use Rattle.buffa_bytes.specs.declared.error.DecodeError.{DecodeError}
@@ -9,6 +9,7 @@ use Rattle.buffa_bytes.specs.declared.error.EncodeError.TheVariants.{MessageTooL
 use Rattle.buffa_wire.specs.BudgetLeft.{BudgetLeft, nothing, units}
 use Rattle.buffa_map.specs.Entry.{need_of}
 use Rattle.buffa_map.specs.Codec.{Reading, Writing}
+use Rattle.buffa_map.specs.Merge.{State, StopsRun, dropping, state}
 use Rattle.buffa_map.specs.Run.{Paid, RecordFault, Run, RunFault, EntryRecord, inner_needs}
 use Rattle.buffa_map.specs.Text.{RefusesField, field_text}
 use Rattle.buffa_samples.specs.RoundTrip.{RefusesPairs}
@@ -51,3 +52,15 @@ module _ {K V : Type 0} (key : Reading K) (val : Reading V) (d n : ℕ)
 
       unpaid : ¬ (length es * cost ≤ left.memory)
       unpaid enough = no_fault cost 0 left (record { unknown = left.unknown; memory = left.memory - length es * cost }) bs es f run (paid_at cost es left (record { unknown = left.unknown; memory = left.memory - length es * cost }) (omega (arith, enough)) (omega arith)) h
+
+-- what a reading stopped at, where its start is known by equations
+pub stopped : {K V : Type 0} (rk : Reading K) (rv : Reading V) (same : K → K → Bool) (keeps : Bool) (d e n cost : ℕ) (left given : BudgetLeft) (pairs : List (K × V)) (bs text : List ℕ) (new : State K V) (unread : List ℕ) (f : DecodeError) →
+    d ≡ e → left ≡ given → pairs ≡ [] → bs ≡ text → StopsRun (dropping rk rv same keeps d n cost) (state pairs [] left) bs new unread f → StopsRun (dropping rk rv same keeps e n cost) (state [] [] given) text new unread f
+stopped rk rv same keeps d e n cost left given pairs bs text new unread f depth is none whole h =
+    subst (λ (z : List ℕ). StopsRun (dropping rk rv same keeps e n cost) (state [] [] given) z new unread f) whole
+    (subst (λ z. StopsRun (dropping rk rv same keeps e n cost) (state z [] given) bs new unread f) none
+    (subst (λ (z : BudgetLeft). StopsRun (dropping rk rv same keeps e n cost) (state pairs [] z) bs new unread f) is
+    (subst (λ (z : ℕ). StopsRun (dropping rk rv same keeps z n cost) (state pairs [] left) bs new unread f) depth h)))
+
+pub as_units : (b : BudgetLeft) (n : ℕ) → b.unknown ≡ 0 → b.memory ≡ n → b ≡ units n
+as_units b n u m = ap (λ (z : ℕ). record { unknown = z; memory = b.memory }) u ∙ ap (λ (z : ℕ). record { unknown = 0; memory = z }) m

@@ -8,6 +8,7 @@ use Rattle.buffa_wire.specs.Join.Join.{none, more}
 use Rattle.buffa_wire.specs.BudgetLeft.{BudgetLeft, nothing}
 use Rattle.buffa_wire.specs.Message.{IsFieldMerged, IsJudged}
 use Rattle.buffa_wire.specs.Number.{IsNumber}
+use Rattle.buffa_wire.specs.Reading.{tag_at}
 use Rattle.buffa_wire.specs.Records.{Datum}
 use Rattle.buffa_wire.specs.Text.{records_text, field_text}
 use Rattle.buffa_wire.specs.Values.{int32_at, int32_of, int32_text, tag_text}
@@ -224,6 +225,30 @@ module _ {X : Type 0} (d n m : ℕ) (put : ℤ → X) where
 pub same_if : {X : Type 0} (f g : List ℕ → Result (X × List ℕ) DecodeError) (p : List ℕ) (b : Bool) → Same f p → Same g p → Same (λ bs. if b then f bs else g bs) p
 same_if f g p true h k = h
 same_if f g p false h k = k
+
+-- ---- what each field keeps, all keep
+abbrev pub Keeps : {X : Type 0} → FieldReader X → (X → Type 0) → Type 0
+Keeps {X} field P = (v : X) (n : ℕ) (w : WireType) (bs : List ℕ) (x : X × List ℕ) → P v → field v n w bs ≡ Ok x → P x.0
+
+module _ {X : Type 0} (field : FieldReader X) (P : X → Type 0) (keeps : Keeps field P) where
+  next_keeps : (r : Result (ℕ × WireType × List ℕ) DecodeError) (v : X) (x : X × List ℕ) → P v → (r >>= (λ t. field v t.0 t.1 t.2)) ≡ Ok x → P x.0
+  next_keeps (Ok t) v x p h = keeps v t.0 t.1 t.2 x p h
+  next_keeps (Err e) v x p h = cc
+
+  then_keeps : (k : ℕ) (v : X) (bs : List ℕ) (w : X) (r : Result (X × List ℕ) DecodeError) → next_at field v bs ≡ r → P v → (r >>= (λ x. parse_within (next_at field) k x.0 x.1)) ≡ Ok w →
+      ((u : X) (x : List ℕ) → P u → parse_within (next_at field) k u x ≡ Ok w → P w) → P w
+  then_keeps k v bs w (Ok x) is p h again = again x.0 x.1 (next_keeps (tag_at bs) v x p is) h
+  then_keeps k v bs w (Err e) is p h again = cc
+
+  within_keeps : (k : ℕ) (v : X) (bs : List ℕ) (w : X) → P v → parse_within (next_at field) k v bs ≡ Ok w → P w
+  unfolding parse_within
+  within_keeps k v [] w p h = let e = ok_same h in subst P e p
+  within_keeps zero v (b ∷ bs) w p h = cc
+  within_keeps (suc k) v (b ∷ bs) w p h = then_keeps k v (b ∷ bs) w (next_at field v (b ∷ bs)) refl p h (λ u x q g. within_keeps k u x w q g)
+
+  pub merged_keeps : (v : X) (bs : List ℕ) (w : X) → P v → merged_by field v bs ≡ Some w → P w
+  unfolding parse_all
+  merged_keeps v bs w p h = within_keeps (length bs) v bs w p (some_of (parse_all (next_at field) v bs) w h)
 
 -- ---- an end tag is no field, and isn't told as out of memory
 abbrev pub Ends : {X : Type 0} → FieldReader X → Type 0

@@ -6,7 +6,10 @@ use Rattle.buffa_bytes.specs.declared.error.EncodeError.TheVariants as encode
 use Rattle.buffa_map.specs.Codec.{Writing}
 use Rattle.buffa_map.specs.Scalars.{delimited_writing, varint_writing}
 use Rattle.buffa_map.specs.Pairs.{InOrder}
-use Rattle.buffa_map.specs.Text.{entry_text}
+use Rattle.buffa_map.specs.Merge.{Rules, StopsRun, state}
+use Rattle.buffa_map.specs.Text.{entry_text, field_text}
+use Rattle.buffa_bytes.specs.declared.error.DecodeError.{DecodeError}
+use Rattle.buffa_wire.specs.BudgetLeft.{BudgetLeft}
 use Rattle.buffa_samples.specs.declared.round_trip.TripFault.{TripFault}
 use Rattle.buffa_samples.specs.declared.round_trip.TripFault.TheVariants.{Decode, Encode}
 
@@ -34,6 +37,18 @@ module _ {K V : Type 0} (key : Writing K) (val : Writing V) (cost : ℕ) where
 abbrev pub IfUnwritten : TripFault → Type 0 → Type 0
 IfUnwritten (Encode e) P = P
 IfUnwritten (Decode f) P = Unit {0}
+
+-- Q of the fault, if they couldn't be read
+abbrev pub IfUnread : TripFault → (DecodeError → Type 0) → Type 0
+IfUnread (Encode e) Q = Unit {0}
+IfUnread (Decode f) Q = Q f
+
+-- reading the field of the pairs of some walk into an empty map stopped at f, and left these pairs: those that the
+-- entries before it say
+abbrev pub StopsInField : {K V : Type 0} → Rules K V → Writing K → Writing V → (List (K × V) → Type 0) → BudgetLeft → List (K × V) → DecodeError → Type 0
+StopsInField {K} {V} r key val Walk left pairs f =
+    (l : List (K × V)) × Walk l × (over : BudgetLeft) × (unread : List ℕ)
+    × StopsRun r (state [] [] left) (field_text key val r.number l) (state pairs [] over) unread f
 
 -- where the order is kept, these are the pairs of some walk, in its order
 abbrev pub InWalkOrder : {X : Type 0} → Bool → (List X → Type 0) → List X → Type 0

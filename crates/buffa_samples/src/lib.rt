@@ -12,6 +12,7 @@ mod guide;
 pub mod hues;
 mod int32_field;
 pub mod keep;
+pub mod laws;
 pub mod passed_on;
 pub mod round_trip;
 pub mod tree;

@@ -2,10 +2,12 @@
 
 ghost use Rattle.std.specs.Prelude.{◌≡◌, ◌+◌, [], IfErr, OnOk, IsPermutation};
 ghost use Rattle.buffa_wire.specs.Number.{IsNumber};
+ghost use Rattle.buffa_wire.specs.BudgetLeft.{units};
+ghost use Rattle.buffa_map.specs.Merge.{dropping};
 ghost use Rattle.buffa_map.specs.Pairs.{SamePairs};
 ghost use Rattle.buffa_map.specs.Text.{AllHold};
 ghost use Rattle.buffa_samples.specs.Letters.{same_letters, spelled};
-ghost use Rattle.buffa_samples.specs.RoundTrip.{EachWalk, IfUnwritten, InWalkOrder, RefusesTrip};
+ghost use Rattle.buffa_samples.specs.RoundTrip.{EachWalk, IfUnread, IfUnwritten, InWalkOrder, RefusesTrip, StopsInField};
 ghost use Rattle.buffa_samples.specs.RoundTrip.{flag_writing, word_writing};
 
 use crate::word::Word;
@@ -13,7 +15,7 @@ use buffa_map::laws::{one_reading, plain_entries_need_units, written_is_read};
 use buffa_map::map_codec::{
     Bool, MapCodec, MapStorage, MapWalk, ProtoStringMap, read_map_field, write_field,
 };
-use buffa_wire::{Budget, DecodeContext, DecodeError, EncodeError};
+use buffa_wire::{Budget, DEFAULT_ELEMENT_MEMORY_LIMIT, DecodeContext, DecodeError, EncodeError};
 use std::alloc::Global;
 use std::collections::HashMap;
 
@@ -33,7 +35,7 @@ pub enum TripFault {
 /// [`EncodeError::MessageTooLarge`] only where the entry of a pair has 2^64 bytes or more;
 /// [`DecodeError::ElementMemoryLimitExceeded`] only where the pairs cost more than 268,435,456 units; and
 /// out of memory, in either, to write only where there is a pair. Where the map couldn't be written the other stays
-/// as it was.
+/// as it was; where its bytes couldn't be read it has what the entries before that say.
 ///
 /// ```ignore
 /// through_bytes::<ProtoStringMap<Word>, Bool, _>(alloc, 5, &words, &mut copy)?;
@@ -54,6 +56,9 @@ where
     ensures order { OnOk result (InWalkOrder C.keeps_order (C.walks map.now) (C.pairs copy.new)) }
     ensures err { IfErr result (RefusesTrip KC.writing VC.writing (KC.COST + VC.COST) (C.walks map.now)) }
     ensures kept { IfErr result (λ fault. IfUnwritten fault (copy.new ≡ copy.old)) }
+    ensures stops { IfErr result (λ fault. IfUnread fault (StopsInField
+        (dropping KC.reading VC.reading C.equal C.keeps_order 0 number (KC.COST + VC.COST)) KC.writing VC.writing
+        (C.walks map.now) (units DEFAULT_ELEMENT_MEMORY_LIMIT) (C.pairs copy.new))) }
 {
     let mut text = Vec::new(alloc);
     match write_field::<KC, VC, C, _>(map, number, &mut text) {

@@ -20,7 +20,7 @@ next_ok x ss c (rest, e) = let h = next_at c.slots c.next x (ss ++ rest) e in (h
 pub next_rest : (x : ℕ) (ss : List ℕ) (c : Cache) → IsNext (x ∷ ss) c → IsNext ss (advanced 1 c)
 next_rest x ss c (rest, e) = (rest, rw add-one (next_at c.slots c.next x (ss ++ rest) e).2)
 
-drop_past : (ss xs ys : List ℕ) (n : ℕ) → drop n xs ≡ ss ++ ys → drop (n + length ss) xs ≡ ys
+pub drop_past : (ss xs ys : List ℕ) (n : ℕ) → drop n xs ≡ ss ++ ys → drop (n + length ss) xs ≡ ys
 drop_past [] xs ys n e = rw add-zero e
 drop_past (s ∷ ss) xs ys n e =
     let q : suc n + length ss ≡ n + suc (length ss) = omega arith in

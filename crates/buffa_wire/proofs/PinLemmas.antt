@@ -1,5 +1,5 @@
 -- Answers that contracts allow are one.
-use Rattle.std.proofs.Common.{◌≡◌, ◌≢◌, ◌⊎◌, inl, inr, ℕ, zero, suc, ◌+◌, ◌-◌, ◌<◌, ◌≤◌, List, ◌++◌, length, Option, Some, Result, Ok, Err, refl, sym, ap, subst, ◌∙◌, arith}
+use Rattle.std.proofs.Common.{◌≡◌, ◌≢◌, ◌⊎◌, inl, inr, ℕ, ℤ, true, zero, suc, ◌+◌, ◌-◌, ◌<◌, ◌≤◌, List, [], ◌∷◌, ◌++◌, drop, length, slice_index, Option, Some, Result, Ok, Err, refl, sym, ap, subst, ◌∙◌, arith, append-nil}
 use Rattle.buffa_bytes.proofs.FieldLemmas.{payload_complete}
 use Rattle.buffa_bytes.proofs.StepLemmas.{agree_err, agree_ok}
 use Rattle.buffa_bytes.specs.declared.wire_type.WireType.{WireType}
@@ -7,7 +7,10 @@ use Rattle.buffa_bytes.specs.declared.error.DecodeError.{DecodeError}
 use Rattle.buffa_bytes.specs.Field.{IsTag, Payload}
 use Rattle.buffa_bytes.specs.Reading.{skip_at}
 use Rattle.buffa_wire.specs.BudgetLeft.{BudgetLeft, Lacks, Pays}
-use Rattle.buffa_wire.specs.Cache.{Cache}
+use Rattle.buffa_wire.specs.Cache.{Cache, advanced, appended}
+use Rattle.buffa_wire.specs.Enums.{open_number}
+use Rattle.buffa_wire.specs.Passes.{IsNext}
+use Rattle.buffa_wire.proofs.PassLemmas.{drop_past, next_ok, next_rest}
 use Rattle.buffa_wire.specs.Parse.{FieldFault, RecordsFault, TakesField, slots}
 use Rattle.buffa_wire.specs.Message.{IsFieldMerged}
 use Rattle.buffa_bytes.specs.declared.error.DecodeError.TheVariants.{OutOfMemory}
@@ -112,3 +115,16 @@ records_are_pinned d s bs = record {
   refused = λ rs e h l g. let q = sym (list_taken d s bs rs h l) ∙ list_refused d s bs e g in cc;
   fault = λ e f h g. let q = sym (list_refused d s bs e h) ∙ list_refused d s bs f g in cc;
 }
+
+-- ---- slots
+pub slots_are_next : (slots : List ℕ) (c : Cache) → c.next ≡ length c.slots → IsNext slots (appended slots c)
+slots_are_next more c e =
+    let none : length c.slots ≡ 0 + length c.slots = omega arith in
+    ([], ap (λ z. drop z (c.slots ++ more)) (e ∙ none) ∙ drop_past c.slots (c.slots ++ more) more 0 refl ∙ sym (append-nil more))
+
+pub slots_are_consumed : (n : ℕ) (slots : List ℕ) (c : Cache) → IsNext (n ∷ slots) c → (slice_index c.slots c.next ≡ n) × IsNext slots (advanced 1 c)
+slots_are_consumed n slots c h = ((next_ok n slots c h).1, next_rest n slots c h)
+
+-- ---- enums
+pub declared_reads : {E : Type 0} (of : ℤ → Option E) (v : E) (n : ℤ) → of n ≡ Some v → open_number of n ≡ (true, n)
+declared_reads of v n e = rw e refl

@@ -1,7 +1,8 @@
 //! What the definitions of records say together: each law is a function with nothing to do, whose contract
 //! is the law.
 
-ghost use Rattle.std.specs.Prelude.{◌≡◌, ◌≢◌, ◌-◌, ◌^◌, ◌≤◌, ◌↔◌, ℕ, List, Ok, Err, true};
+ghost use Rattle.std.specs.Prelude.{◌≡◌, ◌≢◌, ◌-◌, ◌^◌, ◌≤◌, ◌↔◌, ◌∷◌, ℕ, ℤ, List, Ok, Err, true, false};
+ghost use Rattle.std.specs.Prelude.{length, pos, slice_index};
 ghost use Rattle.buffa_bytes.specs.declared.wire_type.WireType.{WireType};
 ghost use Rattle.buffa_bytes.specs.declared.error.DecodeError.{DecodeError};
 ghost use Rattle.buffa_bytes.specs.declared.error.DecodeError.TheVariants.{OutOfMemory};
@@ -14,15 +15,19 @@ ghost use Rattle.buffa_wire.specs.Text.{records_text};
 ghost use Rattle.buffa_wire.specs.Parse.{FieldFault, Fits, InRange, Parse, RecordsFault, TakesField, slots};
 ghost use Rattle.buffa_wire.specs.RecordReading.{field_at, list_at};
 ghost use Rattle.buffa_wire.specs.BudgetLeft.{BudgetLeft};
-ghost use Rattle.buffa_wire.specs.Cache.{Cache};
+ghost use Rattle.buffa_wire.specs.Cache.{Cache, advanced, appended};
+ghost use Rattle.buffa_wire.specs.Enums.{open_number};
+ghost use Rattle.buffa_wire.specs.Passes.{IsNext};
 ghost use Rattle.buffa_wire.specs.Field.{IsTag};
 ghost use Rattle.buffa_wire.specs.Pinned.{BudgetIsPinned, FieldIsPinned, FieldMergeIsPinned, MergeIsPinned};
 ghost use Rattle.buffa_wire.specs.Pinned.{PassesArePinned, RecordsArePinned};
 
 use crate::budget::{DEFAULT_ELEMENT_MEMORY_LIMIT, DEFAULT_UNKNOWN_FIELD_LIMIT};
 use crate::context::RECURSION_LIMIT;
+use crate::enumeration::{EnumValue, Enumeration};
 use crate::message::{MAX_MESSAGE_BYTES, Message};
 use crate::unknown_fields::UnknownField;
+use buffa_bytes::Blank;
 
 /// Whole bytes are read as records exactly where the grammar has them and a slot is left for each record,
 /// nested ones too; else the first fault is told.
@@ -123,4 +128,21 @@ pub fn records_are_pinned()
 /// What is spent leaves one budget, and it is spent exactly where it is there. Nothing is open.
 pub fn budgets_are_pinned()
     ensures { (left need : BudgetLeft) → BudgetIsPinned left need }
+{}
+
+/// What a value of an open enum means: of a declared value that it is declared, and its number; of a number that it is
+/// none, and the number. It is read as the declared value of the number, where one has it. Nothing is open.
+pub fn open_enums_are_these<E: Enumeration>()
+    ensures known { (v : E) → ⟦<EnumValue<E> as Blank>⟧.meaning (EnumValue.Known v) ≡ (true, E.meaning v) }
+    ensures number { (n : ℤ) → ⟦<EnumValue<E> as Blank>⟧.meaning (EnumValue.Unknown n) ≡ (false, n) }
+    ensures blank { ⟦<EnumValue<E> as Blank>⟧.blank_is ≡ open_number E.of_number (pos 0) }
+    ensures read { (v : E) → open_number E.of_number (E.meaning v) ≡ (true, E.meaning v) }
+{}
+
+/// Slots are consumed in the order in which they were reserved: those that are appended behind a cursor at the end are
+/// the next ones, and the first of the next ones is consumed. Nothing is open but the room, of which nothing is said.
+pub fn slots_are_consumed_in_order()
+    ensures reserved { (slots : List ℕ) (c : Cache) → c.next ≡ length c.slots → IsNext slots (appended slots c) }
+    ensures consumed { (n : ℕ) (slots : List ℕ) (c : Cache) → IsNext (n ∷ slots) c →
+        (slice_index c.slots c.next ≡ n) × IsNext slots (advanced 1 c) }
 {}

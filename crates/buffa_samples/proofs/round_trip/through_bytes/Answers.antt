@@ -5,7 +5,7 @@ use Rattle.std.proofs.lemmas.List.{nil_from_length}
 use Rattle.buffa_wire.specs.BudgetLeft.{BudgetLeft}
 use Rattle.buffa_map.specs.Run.{fold_entries, Run}
 use Rattle.buffa_map.specs.Text.{field_text}
-use Rattle.buffa_samples.proofs.TripLemmas.{costs_more, unwritten}
+use Rattle.buffa_samples.proofs.TripLemmas.{as_units, costs_more, stopped, unwritten}
 use Rattle.buffa_samples.proofs.round_trip.through_bytes.Goals as goal
 
 pub returns-in-Ok-read_map_field-clause-ok : goal.returns-in-Ok-read_map_field-clause-ok
@@ -57,13 +57,34 @@ returns-clause-err g c =
     let run : Run key val depth c.args.number c.as_slice-rest.result.now t.entries = subst (λ (b : List ℕ). Run key val depth c.args.number b t.entries) (sym text) t.run in
     let memory : c.new-ctx.result.budget.now.memory ≡ 268435456 = ap (λ (b : BudgetLeft). b.memory) c.new-ctx.ensures.left ∙ c.new-budget.ensures.memory in (
       w.0,
-      w.1, ((λ none. k.some (nil_from_length k.rest (omega (arith,
-          ap length (sym k.begins.1), length-append k.begins.0 k.rest,
-          ap length text, ap (λ z. length (field_text g.KC.MapCodec.writing g.VC.MapCodec.writing c.args.number z)) none)))),
-      λ named.
-          let more = costs_more key val depth c.args.number
-          (λ one e. c.plain_entries_need_units.ensures.entry (g.met.KC.MapCodec.plain, g.met.VC.MapCodec.plain) depth one e)
-          (λ es. c.plain_entries_need_units.ensures.run (g.met.KC.MapCodec.plain, g.met.VC.MapCodec.plain) depth es) (c.one_reading.ensures.run_or_fault depth c.args.number) cost c.new-ctx.result.budget.now c.as_slice-rest.result.now t.entries c.in-Err-read_map_field.error run
-          (k.entries, k.rest, k.over, k.begins, k.some, k.fault named) in
-          (more.0, subst (λ x. x < length w.0 * cost) memory (subst (λ x. c.new-ctx.result.budget.now.memory < x * cost) t.many more.1))),
+      w.1,
+      (
+        (λ none. k.some (nil_from_length k.rest (omega (
+          arith,
+          ap length (sym k.begins.1),
+          length-append k.begins.0 k.rest,
+          ap length text,
+          ap (λ z. length (field_text g.KC.MapCodec.writing g.VC.MapCodec.writing c.args.number z)) none,
+        )))),
+        λ named.
+            let more = costs_more key val depth c.args.number
+            (λ one e. c.plain_entries_need_units.ensures.entry (g.met.KC.MapCodec.plain, g.met.VC.MapCodec.plain) depth one e)
+            (λ es. c.plain_entries_need_units.ensures.run (g.met.KC.MapCodec.plain, g.met.VC.MapCodec.plain) depth es) (c.one_reading.ensures.run_or_fault depth c.args.number) cost c.new-ctx.result.budget.now c.as_slice-rest.result.now t.entries c.in-Err-read_map_field.error run
+            (k.entries, k.rest, k.over, k.begins, k.some, k.fault named) in
+            (more.0, subst (λ x. x < length w.0 * cost) memory (subst (λ x. c.new-ctx.result.budget.now.memory < x * cost) t.many more.1)),
+      ),
+    )
+
+pub returns-clause-stops : goal.returns-clause-stops
+returns-clause-stops g c =
+    let w = c.in-Ok.ensures in
+    let field = field_text g.KC.MapCodec.writing g.VC.MapCodec.writing c.args.number w.0 in
+    let text : c.as_slice-rest.result.now ≡ field = c.as_slice-rest.ensures.value ∙ w.3.1 ∙ ap (λ z. z ++ field) c.new-text.ensures.items in
+    let left = c.new-ctx.ensures.left ∙ as_units c.new-budget.result 268435456 c.new-budget.ensures.unknown c.new-budget.ensures.memory in (
+      w.0,
+      w.1,
+      _,
+      _,
+      stopped g.KC.MapValueDecode.reading g.VC.MapValueDecode.reading g.C.MapStorage.equal g.C.MapStorage.keeps_order _ 0 c.args.number _ _ _ _ _ _ _ _ _
+          c.new-ctx.ensures.depth left c.requires.empty text c.in-Err-read_map_field.ensures.err,
     )

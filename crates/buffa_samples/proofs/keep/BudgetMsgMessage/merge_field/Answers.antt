@@ -9,7 +9,7 @@ returns-in_err-field c =
     let p = err_from_is_err_and c.from_residual.result c.from_residual.ensures.1 in
     record {
       merged = keep_err c.args.ctx.depth c.args.tag.number c.args.tag.wire_type c.args.buf.now.now c.read_alone.new.buf.now c.args.self.now c.from_residual.result _ _ p.1 p.2 c.args.ctx.budget.now
-      c.unknown_left.result c.unknown_left.ensures c.in_err-field.ensures.reads;
+          c.unknown_left.result c.unknown_left.ensures c.in_err-field.ensures.reads;
       full = rw (p.1, p.2) (λ h. not_at_end _ _ _ _ (c.in_err-field.ensures.full h));
     }
 
@@ -19,8 +19,8 @@ returns c =
     ∙ ap (λ z. c.args.self.now ++ (z, datum_of c.in_ok-field.field.payload) ∷ []) c.in_ok-field.ensures.number in
     record {
       merged = keep_ok c.args.ctx.depth c.args.tag.number c.args.tag.wire_type c.args.buf.now.now c.read_alone.new.buf.now c.args.self.now (datum_of c.in_ok-field.field.payload) c.in_ok-field.left
-      c.push.new.self.records c.args.ctx.budget.now _ c.unknown_left.result c.unknown_left.ensures c.in_ok-field.ensures.reads is
-      (ap (λ z. z.unknown) c.with_element_memory.ensures ∙ c.new.ensures.unknown) (ap (λ z. z.memory) c.with_element_memory.ensures ∙ c.memory_left.ensures);
+          c.push.new.self.records c.args.ctx.budget.now _ c.unknown_left.result c.unknown_left.ensures c.in_ok-field.ensures.reads is
+          (ap (λ z. z.unknown) c.with_element_memory.ensures ∙ c.new.ensures.unknown) (ap (λ z. z.memory) c.with_element_memory.ensures ∙ c.memory_left.ensures);
       full = tt;
     }
 
