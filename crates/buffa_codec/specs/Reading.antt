@@ -97,10 +97,6 @@ ReadsAll {M = M} one leaves packed b (d ∷ ds) vs left =
 abbrev pub ReadsList : {M : Type 0} → (BudgetLeft → Datum → Option M) → (BudgetLeft → Datum → BudgetLeft → Type 0) → (List ℕ → List M) → List Datum → List M → Type 0
 ReadsList one leaves packed ds vs = (left : BudgetLeft) × ReadsAll one leaves packed full ds vs left
 
--- what stands later wins, where it is read at all
-abbrev pub LaterWins : {M : Type 0} → (Datum → Option M) → Type 0
-LaterWins one = (s r : List Datum) → last_read one (s ++ r) ≡ option_or (last_read one r) (last_read one s)
-
 -- of one value: records and then more records are read as the later ones are, or where those are read as nothing, as
 -- the earlier ones
 abbrev pub LaterReadingsWin : {M : Type 0} → (List Datum → Option M → Type 0) → Type 0

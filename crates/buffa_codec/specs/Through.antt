@@ -1,13 +1,8 @@
 -- Readings by way of others, each value turned into another one.
 use Rattle.std.specs.Prelude.{◌≡◌, ◌↔◌, List, map, Option, option_map}
 use Rattle.buffa_wire.specs.Records.{Datum}
-use Rattle.buffa_codec.specs.Reading.{last_read}
 
--- the last record is read by two as by one, and then turned by f
-abbrev pub LastThrough : {M N : Type 0} → (M → N) → (Datum → Option M) → (Datum → Option N) → Type 0
-LastThrough f one two = (ds : List Datum) → last_read two ds ≡ option_map f (last_read one ds)
-
--- the same of a codec's readings
+-- of one value: the records are read by also as by reads, and then turned by f
 abbrev pub ReadsThrough : {M N : Type 0} → (M → N) → (List Datum → Option M → Type 0) → (List Datum → Option N → Type 0) → Type 0
 ReadsThrough {M = M} {N = N} f reads also = (ds : List Datum) (out : Option N) → also ds out ↔ ((m : Option M) × reads ds m × (out ≡ option_map f m))
 

@@ -23,12 +23,12 @@ ghost use Rattle.buffa_codec.specs.Reading.{Has, HasByte, HasLast, TakesElement}
 ghost use Rattle.std.specs.Int.{cast_unsigned, from_bool, w32, w64};
 ghost use Rattle.buffa_bytes.specs.Scalars.{zigzag};
 ghost use Rattle.buffa_wire.specs.Records.{varint, fixed32, fixed64};
-ghost use Rattle.buffa_codec.specs.Reading.{LaterReadingsWin, LaterWins, ReadAlike, ReadingsJoin};
+ghost use Rattle.buffa_codec.specs.Reading.{LaterReadingsWin, ReadAlike, ReadingsJoin};
 ghost use Rattle.buffa_codec.specs.Reading.{bytes_held, full, last_read};
 ghost use Rattle.buffa_codec.specs.Reading.{CoversAll, Each, ReadsList, first_refusal, packed_record, string_held};
 ghost use Rattle.buffa_bytes.specs.declared.wire_type.WireType.{WireType};
 ghost use Rattle.buffa_codec.specs.PackedGrammar.{ArePacked};
-ghost use Rattle.buffa_codec.specs.Through.{LastThrough, ListsThrough, ReadsThrough, WritesThrough};
+ghost use Rattle.buffa_codec.specs.Through.{ListsThrough, ReadsThrough, WritesThrough};
 
 use crate::codec::{ExtensionCodec, PackableCodec, SingularCodec};
 use crate::enums::EnumCodec;
@@ -42,11 +42,6 @@ use buffa_wire::scalars::{
     Uint64,
 };
 use buffa_wire::{Enumeration, Form, Scalar};
-
-/// Later records win, where one of them is read at all.
-pub fn later_records_win<C: LastWins>()
-    ensures { LaterWins (C.one 100 full) }
-{}
 
 /// What records and then more records are read as is what the later ones are, or where those are read as
 /// nothing, what the earlier ones are.
@@ -174,8 +169,6 @@ pub fn packed_numbers_are_read()
 /// Enums are read and written as `int32` is, each number as what it means; in lists too, packed or not. A
 /// value comes back as its number means it.
 pub fn enums_are_read_as_numbers<E: Enumeration>()
-    ensures one { LastThrough (open_number E.of_number) (⟦<Int32 as SingularCodec>⟧.one 100 full)
-        (⟦<EnumCodec<E> as SingularCodec>⟧.one 100 full) }
     ensures reads { ReadsThrough (open_number E.of_number) ⟦<Int32 as ExtensionCodec>⟧.reads
         ⟦<EnumCodec<E> as ExtensionCodec>⟧.reads }
     ensures lists { ListsThrough (open_number E.of_number) ⟦<Repeated<Int32> as ExtensionCodec>⟧.reads

@@ -1,7 +1,11 @@
 //! What the definitions of sets and clears say together: each law is a function with nothing to do, whose
 //! contract is the law.
 
-ghost use Rattle.std.specs.Prelude.{◌≡◌, ◌↔◌, ◌<◌, ◌≤◌, ◌^◌, ℕ, List, [], ◌∷◌, Option, Some, None, length};
+ghost use Rattle.std.specs.Prelude.{◌≡◌, ◌↔◌, ◌<◌, ◌≤◌, ◌^◌, ℕ, List, [], ◌∷◌, Option, Some, None, Ok, Err, length, option_map};
+ghost use Rattle.std.specs.declared.alloc.Global.{Global as GlobalValue};
+ghost use Rattle.std.specs.declared.alloc.AllocError.{AllocError as AllocErrorValue};
+ghost use Rattle.buffa_ext.specs.declared.descriptor.Make.{Make};
+ghost use Rattle.buffa_ext.specs.declared.descriptor.NoDefault.{NoDefault};
 ghost use Rattle.buffa_bytes.specs.declared.error.EncodeError.TheVariants.{MessageTooLarge};
 ghost use Rattle.buffa_wire.specs.BudgetLeft.{BudgetLeft};
 ghost use Rattle.buffa_wire.specs.Parse.{Fits};
@@ -15,11 +19,12 @@ ghost use Rattle.buffa_ext.specs.Pinned.{ClearIsPinned, DefaultIsPinned, ListIsE
 ghost use Rattle.buffa_ext.specs.Steps.{Change, ClearsAreOne, IsExactlySet, KeepsTheRest, LeavesOthers};
 ghost use Rattle.buffa_ext.specs.Steps.{ReadsHistory, SecondCounts, StandsLast, TakesOut, TakesThePlace, after, history};
 
-use crate::descriptor::Declared;
-use crate::message::{GroupCodec, MessageCodec};
-use crate::record::MessageRecord;
+use crate::descriptor::{Declared, Make, NoDefault};
+use crate::message::{GroupCodec, MessageCodec, MessageIn};
+use crate::record::{Delimited, MessageRecord};
 use buffa_codec::{ExtensionCodec, LastWins, Repeated, SingularCodec};
 use buffa_wire::{Message, MessageSpec};
+use std::alloc::{AllocError, Global};
 
 /// The records of a number after changes are what its last change says.
 pub fn last_change_counts()
@@ -143,6 +148,24 @@ pub fn group_records_are_read<M: Message>()
     ensures back { (v : M.Meaning) → ⟦<GroupCodec<M> as SingularCodec>⟧.back v ≡ v }
     ensures takes { (d : Datum) → ⟦<GroupCodec<M> as SingularCodec>⟧.takes d ↔ ((n : ℕ) × HasByte (group_held d)) }
     ensures packed { (bs : List ℕ) → ⟦<GroupCodec<M> as SingularCodec>⟧.packed bs ≡ [] }
+{}
+
+/// A value means what its message type says, and so does the answer of a reading; a text of bytes is held
+/// without memory.
+pub fn messages_mean_these<K: MessageRecord, M: Message>(value: &M, output: &Option<M>)
+    ensures value { ⟦<MessageIn<K, M> as ExtensionCodec>⟧.meaning value.now ≡ M.meaning value.now }
+    ensures answer { ⟦<MessageIn<K, M> as ExtensionCodec>⟧.answer output.now ≡ option_map M.meaning output.now }
+    ensures held { ⟦<Delimited as MessageRecord>⟧.never_fails }
+{}
+
+/// A default that is declared is what its function makes, and no other; where none is declared there is none.
+pub fn defaults_are_these<V, F: Fn(Global) -> Result<V, AllocError>>()
+    ensures none { (s : NoDefault) (o : Option V) → ⟦<NoDefault as Declared<V>>⟧.may_declare s o ↔ (o ≡ None) }
+    ensures none_refused { (s : NoDefault) → ⟦<NoDefault as Declared<V>>⟧.may_refuse s → ⊥ }
+    ensures made { (s : Make F) (o : Option V) → ⟦<Make<F> as Declared<V>>⟧.may_declare s o
+        ↔ ((a : GlobalValue) × (v : V) × F.post s.make a (Ok v) × (o ≡ Some v)) }
+    ensures refused { (s : Make F) → ⟦<Make<F> as Declared<V>>⟧.may_refuse s
+        ↔ ((a : GlobalValue) × (e : AllocErrorValue) × F.post s.make a (Err e)) }
 {}
 
 /// A message is read as one value or none; and merging texts in order ends in one way, memory aside.

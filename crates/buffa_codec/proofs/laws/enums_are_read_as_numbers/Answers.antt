@@ -1,4 +1,4 @@
-use Rattle.std.proofs.Common.{◌≡◌, None, map, option_map}
+use Rattle.std.proofs.Common.{◌≡◌, map, option_map}
 use Rattle.std.specs.Int.{cast_unsigned, w64}
 use Rattle.buffa_bytes.specs.Scalars.{int32_of, int32_text}
 use Rattle.buffa_bytes.specs.declared.wire_type.WireType.TheVariants.{Varint}
@@ -6,14 +6,8 @@ use Rattle.buffa_wire.specs.Enums.{open_number}
 use Rattle.buffa_wire.specs.Found.{varint_in}
 use Rattle.buffa_wire.specs.Records.{varint}
 use Rattle.buffa_codec.specs.Packed.{numbers_in}
-use Rattle.buffa_codec.specs.Reading.{full}
-use Rattle.buffa_codec.proofs.Throughs.{last_through, lists_through, map_twice, option_twice, packed_through, reads_through}
+use Rattle.buffa_codec.proofs.Throughs.{lists_through, map_twice, option_twice, packed_through, reads_through}
 use Rattle.buffa_codec.proofs.laws.enums_are_read_as_numbers.Goals as goal
-
-pub returns-clause-one : goal.returns-clause-one
-returns-clause-one g c = λ ds.
-    let turn = open_number g.E.Enumeration.of_number in
-    last_through turn (λ b d. option_map int32_of (varint_in d)) (λ b d. option_map (λ n. turn (int32_of n)) (varint_in d)) (λ b d. option_twice int32_of turn (varint_in d)) full ds None
 
 pub returns-clause-reads : goal.returns-clause-reads
 returns-clause-reads g c =
