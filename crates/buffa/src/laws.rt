@@ -16,6 +16,7 @@ ghost use Rattle.buffa_map.specs.Scalars.{delimited_writing};
 ghost use Rattle.buffa.specs.Item.{IsTypeId, Item, ItemFault, NoOtherFront, OneItem, TakesItem, WrittenIsItem};
 ghost use Rattle.buffa.specs.Item.{body_text, item_at, item_text};
 ghost use Rattle.buffa.specs.Keys.{KeepsStoredKeys};
+ghost use Rattle.buffa.specs.Pinned.{ItemIsPinned, WrittenItemIsPinned};
 ghost use Rattle.buffa.specs.Slots.{SlotsAreLengths};
 
 use crate::message_set::{ITEM_END_TAG, ITEM_START_TAG, MESSAGE_TAG, TYPE_ID_TAG};
@@ -25,7 +26,21 @@ use buffa_codec::{
 use buffa_ext::{MessageIn, MessageRecord};
 use buffa_map::map_codec::{MapCodec, MapStorage, MapValueDecode};
 use buffa_wire::scalars::Int32;
-use buffa_wire::{Enumeration, Message, MessageSpec};
+use buffa_wire::{Blank, Enumeration, MapKey, Message, MessageSpec};
+use indexmap::IndexMap;
+use std::collections::{BTreeMap, HashMap};
+use std::hash::{BuildHasher, Hash};
+
+/// Laws of bytes: varints, tags, fields, scalars and texts.
+pub use buffa_bytes::laws as fields;
+/// Laws of codecs of extensions: scalars, texts, enums and lists.
+pub use buffa_codec::laws as extension_codecs;
+/// Laws of sets and clears of extensions, and of messages in them.
+pub use buffa_ext::laws as extensions;
+/// Laws of map fields: codecs, entries, runs, sizes, texts and rewrites.
+pub use buffa_map::laws as map_fields;
+/// Laws of records of unknown fields.
+pub use buffa_wire::laws as records;
 
 /// Two runs of a map field, one after the other, are a run of the entries of both.
 ///
@@ -112,9 +127,15 @@ pub fn law_9<KC: MapCodec, M: MessageSpec>()
     ensures { SlotsAreLengths KC.writing M.text M.slots }
 {}
 
-/// A put keeps the stored key of a pair that is there, and every other key.
-pub fn law_10<C: MapStorage>()
-    ensures { KeepsStoredKeys C.Value.Meaning C.equal }
+/// A put keeps the stored key of a pair that is there, and every other pair.
+///
+/// It holds of whatever pairs an insertion into a storage may leave. Two keys are one key of our maps where the
+/// key's type says so.
+pub fn law_10<K: MapKey + Ord + Hash, V: Blank, S: BuildHasher, C: MapStorage>()
+    ensures keys { KeepsStoredKeys C.Value.Meaning C.equal }
+    ensures ordered { ⟦<BTreeMap<K, V> as MapStorage>⟧.equal ≡ K.same }
+    ensures hashed { ⟦<HashMap<K, V, S> as MapStorage>⟧.equal ≡ K.same }
+    ensures indexed { ⟦<IndexMap<K, V, S> as MapStorage>⟧.equal ≡ K.same }
 {}
 
 /// A written Item is an Item with its number and its message, and nothing else that begins it is one.
@@ -167,6 +188,21 @@ pub fn items_are_read()
 /// No Item is a proper beginning of another, and bytes are an Item in one way.
 pub fn no_item_begins_another()
     ensures { OneItem }
+{}
+
+/// Bytes, a depth and a budget have one answer as an Item, and leave one budget.
+///
+/// What is left open: after a refusal, how much stays unread (an end of what was there, and all of it where no slot
+/// was left); and where memory runs out, which is told only where message bytes are there.
+pub fn items_are_pinned()
+    ensures { ItemIsPinned }
+{}
+
+/// A type id and a message are written in one way, and no others have that text.
+///
+/// What is left open: where memory runs out, how much of the text stands.
+pub fn written_items_are_pinned()
+    ensures { WrittenItemIsPinned }
 {}
 
 /// The four tags of an Item, each of which has one byte.
