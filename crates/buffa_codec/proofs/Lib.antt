@@ -9,3 +9,4 @@ pub mod Bounds
 pub mod Throughs
 pub mod Takes
 pub mod Grammars
+pub mod PinLemmas

@@ -1,10 +1,11 @@
 -- Readings by way of others.
-use Rattle.std.proofs.Common.{◌≡◌, ℕ, List, [], ◌∷◌, ◌++◌, map, Option, Some, None, option_map, refl, sym, ap, ◌∙◌}
+use Rattle.std.proofs.Common.{◌≡◌, ℕ, List, [], ◌∷◌, ◌++◌, map, Option, Some, None, option_map, refl, sym, ap, subst, ◌∙◌}
 use Rattle.std.specs.List.{filter_map, last_or, cons_option}
 use Rattle.std.proofs.lemmas.List.{map-append}
 use Rattle.buffa_wire.specs.BudgetLeft.{BudgetLeft}
 use Rattle.buffa_wire.specs.Records.{Datum, varint, fixed32, fixed64, bytes, group}
-use Rattle.buffa_codec.specs.Reading.{ReadsAll, elements}
+use Rattle.buffa_codec.specs.Reading.{ReadsAll, ReadsList, elements, full, joined, last_read, packed_record}
+use Rattle.buffa_codec.specs.Through.{ListsThrough, ReadsThrough}
 
 pub map_twice : {A B C : Type 0} (g : A → B) (f : B → C) (xs : List A) → map (λ x. f (g x)) xs ≡ map f (map g xs)
 map_twice g f [] = refl
@@ -56,3 +57,25 @@ module _ {M N : Type 0} (f : M → N) (one : BudgetLeft → Datum → Option M) 
       ap (map f) h.4 ∙ map-append f (elements packed d (one b d)) h.1 ∙ ap (λ l. l ++ map f h.1) (sym (elements_by d (one b d)))
           ∙ ap (λ x. elements also d x ++ map f h.1) (sym (same b d)),
     )
+
+    pub lists_through : ListsThrough f (ReadsList one leaves packed) (ReadsList two leaves also)
+    lists_through ds out = (
+      λ h. (let t = list_from full ds out h.0 h.1 in (t.0, (h.0, t.1), t.2)),
+      λ k. (k.1.0, subst (λ l. ReadsAll two leaves also full ds l k.1.0) (sym k.2) (list_to full ds k.0 k.1.0 k.1.1)),
+    )
+
+  pub reads_through : ReadsThrough f (λ ds o. o ≡ last_read (one full) ds) (λ ds o. o ≡ last_read (two full) ds)
+  reads_through ds out = (
+    λ h. (last_read (one full) ds, refl, h ∙ last_through full ds None),
+    λ k. k.2 ∙ ap (option_map f) k.1 ∙ sym (last_through full ds None),
+  )
+
+-- ---- what is written
+
+joined_through : {V W : Type 0} (f : V → W) (text : W → List ℕ) (vs : List V) → joined (λ v. text (f v)) vs ≡ joined text (map f vs)
+joined_through f text [] = refl
+joined_through f text (v ∷ vs) = ap (λ l. text (f v) ++ l) (joined_through f text vs)
+
+pub packed_through : {V W : Type 0} (f : V → W) (text : W → List ℕ) (vs : List V) → packed_record (λ v. text (f v)) vs ≡ packed_record text (map f vs)
+packed_through f text [] = refl
+packed_through f text (v ∷ vs) = ap (λ l. bytes l ∷ []) (joined_through f text (v ∷ vs))

@@ -6,3 +6,4 @@ pub mod PackedFacts
 pub mod Costs
 pub mod Through
 pub mod PackedGrammar
+pub mod Pinned

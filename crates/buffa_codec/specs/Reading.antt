@@ -101,6 +101,12 @@ ReadsList one leaves packed ds vs = (left : BudgetLeft) × ReadsAll one leaves p
 abbrev pub LaterWins : {M : Type 0} → (Datum → Option M) → Type 0
 LaterWins one = (s r : List Datum) → last_read one (s ++ r) ≡ option_or (last_read one r) (last_read one s)
 
+-- of one value: records and then more records are read as the later ones are, or where those are read as nothing, as
+-- the earlier ones
+abbrev pub LaterReadingsWin : {M : Type 0} → (List Datum → Option M → Type 0) → Type 0
+LaterReadingsWin {M = M} reads =
+    (s r : List Datum) (o : Option M) → reads (s ++ r) o ↔ ((p : Option M) × (q : Option M) × reads s p × reads r q × (o ≡ option_or q p))
+
 -- the values of joined records are the joined values
 abbrev pub ReadingsJoin : {M : Type 0} → (List Datum → List M → Type 0) → Type 0
 ReadingsJoin {M = M} reads =

@@ -12,7 +12,7 @@ pub minus_nothing : (b : BudgetLeft) → b ≡ minus b nothing
 minus_nothing b = simp sub-zero
 
 -- what is left is what was there less the need
-left_over : (b need left : BudgetLeft) → Pays b need left → left ≡ minus b need
+pub left_over : (b need left : BudgetLeft) → Pays b need left → left ≡ minus b need
 left_over b need left h =
     let slots : b.unknown - need.unknown ≡ left.unknown = omega (arith, h.0) in
     let units : b.memory - need.memory ≡ left.memory = omega (arith, h.1) in

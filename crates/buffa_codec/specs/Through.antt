@@ -7,6 +7,14 @@ use Rattle.buffa_codec.specs.Reading.{last_read}
 abbrev pub LastThrough : {M N : Type 0} → (M → N) → (Datum → Option M) → (Datum → Option N) → Type 0
 LastThrough f one two = (ds : List Datum) → last_read two ds ≡ option_map f (last_read one ds)
 
+-- the same of a codec's readings
+abbrev pub ReadsThrough : {M N : Type 0} → (M → N) → (List Datum → Option M → Type 0) → (List Datum → Option N → Type 0) → Type 0
+ReadsThrough {M = M} {N = N} f reads also = (ds : List Datum) (out : Option N) → also ds out ↔ ((m : Option M) × reads ds m × (out ≡ option_map f m))
+
+-- a value has the records of the one that f makes of it
+abbrev pub WritesThrough : {M N : Type 0} → (N → M) → (M → List Datum) → (N → List Datum) → Type 0
+WritesThrough {N = N} f recs also = (v : N) → also v ≡ recs (f v)
+
 -- the same of lists, element by element
 abbrev pub ListsThrough : {M N : Type 0} → (M → N) → (List Datum → List M → Type 0) → (List Datum → List N → Type 0) → Type 0
 ListsThrough {M = M} {N = N} f reads also = (ds : List Datum) (out : List N) → also ds out ↔ ((ms : List M) × reads ds ms × (out ≡ map f ms))

@@ -2,24 +2,33 @@
 //! is the law.
 
 ghost use Rattle.std.specs.Prelude.{◌≡◌, ◌≢◌, ◌↔◌, ℕ, ℤ, List, [], ◌∷◌, map, Bool, Option, Some, None, option_map};
-ghost use Rattle.buffa_bytes.specs.Scalars.{bool_of, int32_of, int64_of, sfixed32_of, sfixed64_of, sint32_of};
-ghost use Rattle.buffa_bytes.specs.Scalars.{sint64_of, uint32_of};
+ghost use Rattle.std.specs.Prelude.{FitsSigned, true};
+ghost use Rattle.std.specs.Str.{is_utf8};
+ghost use Rattle.buffa_bytes.specs.declared.error.EncodeError.{EncodeError};
+ghost use Rattle.buffa_bytes.specs.declared.wire_type.WireType.TheVariants.{Fixed32 as FourBytes, Fixed64 as EightBytes, Varint};
+ghost use Rattle.buffa_bytes.specs.Scalars.{bool_of, fixed32_of, fixed64_of, int32_of, int64_of, sfixed32_of};
+ghost use Rattle.buffa_bytes.specs.Scalars.{sfixed64_of, sint32_of, sint64_of, uint32_of, uint64_of};
+ghost use Rattle.buffa_bytes.specs.Scalars.{bool_text, fixed32_text, fixed64_text, int32_text, int64_text};
+ghost use Rattle.buffa_bytes.specs.Scalars.{sfixed32_text, sfixed64_text, sint32_text, sint64_text, uint32_text};
+ghost use Rattle.buffa_bytes.specs.Scalars.{uint64_text};
+ghost use Rattle.buffa_wire.specs.BudgetLeft.{BudgetLeft, nothing};
+ghost use Rattle.buffa_codec.specs.Pinned.{BeginsAlike, EncodingIsPinned, HasAnswer, LeavesOne, OneAnswer, OneList};
+ghost use Rattle.buffa_codec.specs.Pinned.{RefusalIsPinned, UnpackingIsPinned};
 ghost use Rattle.buffa_wire.specs.Enums.{open_number};
 ghost use Rattle.buffa_wire.specs.Found.{fixed32_in, fixed64_in, varint_in};
 ghost use Rattle.buffa_wire.specs.Records.{Datum, bytes as held_bytes};
 ghost use Rattle.buffa_codec.specs.Costs.{StaysWithin};
 ghost use Rattle.buffa_codec.specs.Packed.{numbers_in};
 ghost use Rattle.buffa_codec.specs.Reading.{Has, HasByte, HasLast, TakesElement};
-ghost use Rattle.std.specs.Prelude.{◌++◌};
-ghost use Rattle.std.specs.Option.{option_or};
 ghost use Rattle.std.specs.Int.{cast_unsigned, from_bool, w32, w64};
 ghost use Rattle.buffa_bytes.specs.Scalars.{zigzag};
 ghost use Rattle.buffa_wire.specs.Records.{varint, fixed32, fixed64};
-ghost use Rattle.buffa_codec.specs.Reading.{LaterWins, ReadAlike, ReadingsJoin, bytes_held, full, last_read};
+ghost use Rattle.buffa_codec.specs.Reading.{LaterReadingsWin, LaterWins, ReadAlike, ReadingsJoin};
+ghost use Rattle.buffa_codec.specs.Reading.{bytes_held, full, last_read};
 ghost use Rattle.buffa_codec.specs.Reading.{CoversAll, Each, ReadsList, first_refusal, packed_record, string_held};
 ghost use Rattle.buffa_bytes.specs.declared.wire_type.WireType.{WireType};
 ghost use Rattle.buffa_codec.specs.PackedGrammar.{ArePacked};
-ghost use Rattle.buffa_codec.specs.Through.{LastThrough, ListsThrough};
+ghost use Rattle.buffa_codec.specs.Through.{LastThrough, ListsThrough, ReadsThrough, WritesThrough};
 
 use crate::codec::{ExtensionCodec, PackableCodec, SingularCodec};
 use crate::enums::EnumCodec;
@@ -32,24 +41,50 @@ use buffa_wire::scalars::{
     Bool as BoolScalar, Fixed32, Fixed64, Int32, Int64, Sfixed32, Sfixed64, Sint32, Sint64, Uint32,
     Uint64,
 };
-use buffa_wire::{Enumeration, Form};
+use buffa_wire::{Enumeration, Form, Scalar};
 
 /// Later records win, where one of them is read at all.
 pub fn later_records_win<C: LastWins>()
     ensures { LaterWins (C.one 100 full) }
 {}
 
+/// What records and then more records are read as is what the later ones are, or where those are read as
+/// nothing, what the earlier ones are.
+pub fn later_readings_win<C: LastWins>()
+    ensures { LaterReadingsWin ⟦<C as ExtensionCodec>⟧.reads }
+{}
+
 /// One value is read of the last record that is read at all; and reading takes memory only for that one.
 pub fn the_last_record_is_read<C: LastWins>()
     ensures reads { (ds : List Datum) (o : Option C.Value.Meaning) → ⟦<C as ExtensionCodec>⟧.reads ds o
         ↔ (o ≡ last_read (C.one 100 full) ds) }
-    ensures later { (s r : List Datum) (o p q : Option C.Value.Meaning) → ⟦<C as ExtensionCodec>⟧.reads (s ++ r) o →
-        ⟦<C as ExtensionCodec>⟧.reads s p → ⟦<C as ExtensionCodec>⟧.reads r q → o ≡ option_or q p }
     ensures records { (v : C.Value.Meaning) → ⟦<C as ExtensionCodec>⟧.recs v ≡ C.text v ∷ [] }
     ensures memory { (ds : List Datum) → ⟦<C as ExtensionCodec>⟧.takes ds ↔ HasLast C.takes (C.one 100 full) ds }
     ensures in_room { (v : C.Value.Meaning) → ⟦<C as ExtensionCodec>⟧.in_room v ↔ C.made_free v }
     ensures holds { (v : C.Value.Meaning) (o : Option C.Value.Meaning) → ⟦<C as ExtensionCodec>⟧.holds v o
         ↔ (o ≡ Some (C.back v)) }
+    ensures spends { (b left : BudgetLeft) (d : Datum) → C.leaves 100 b d left ↔ (left ≡ b) }
+    ensures refusal { (v : C.Value.Meaning) → ⟦<C as ExtensionCodec>⟧.refusal v ≡ C.refusal v }
+    ensures fits { (v : C.Value.Meaning) → ⟦<C as ExtensionCodec>⟧.fits v ↔ C.fits v }
+    ensures normal { (v : C.Value.Meaning) → ⟦<C as ExtensionCodec>⟧.normal v ↔ C.normal v }
+    ensures always { C.never_fails → ⟦<C as ExtensionCodec>⟧.never_fails }
+{}
+
+/// A value means what its type says, and a list what its values do, in order; so do the answers of a reading.
+pub fn values_mean_these<C: LastWins, R: SingularCodec, P: PackableCodec>(
+    value: &C::Value,
+    output: &Option<C::Value>,
+    list: &Vec<R::Value>,
+    packed: &Vec<P::Value>,
+)
+    ensures value { ⟦<C as ExtensionCodec>⟧.meaning value.now ≡ C.Value.meaning value.now }
+    ensures answer { ⟦<C as ExtensionCodec>⟧.answer output.now ≡ option_map C.Value.meaning output.now }
+    ensures list { ⟦<Repeated<R> as ExtensionCodec>⟧.meaning list.now ≡ map R.Value.meaning list.now.items }
+    ensures list_answer { ⟦<Repeated<R> as ExtensionCodec>⟧.answer list.now ≡ map R.Value.meaning list.now.items }
+    ensures packed { ⟦<PackedRepeated<P> as ExtensionCodec>⟧.meaning packed.now
+        ≡ map P.Value.meaning packed.now.items }
+    ensures packed_answer { ⟦<PackedRepeated<P> as ExtensionCodec>⟧.answer packed.now
+        ≡ map P.Value.meaning packed.now.items }
 {}
 
 /// The record of each scalar.
@@ -65,7 +100,46 @@ pub fn scalars_are_written()
     ensures fixed64 { (v : ℕ) → ⟦<Fixed64 as SingularCodec>⟧.text v ≡ fixed64 v }
     ensures sfixed32 { (v : ℤ) → ⟦<Sfixed32 as SingularCodec>⟧.text v ≡ fixed32 (cast_unsigned w32 v) }
     ensures sfixed64 { (v : ℤ) → ⟦<Sfixed64 as SingularCodec>⟧.text v ≡ fixed64 (cast_unsigned w64 v) }
-    ensures back { ((v : ℤ) → ⟦<Int32 as SingularCodec>⟧.back v ≡ v) × ((v : ℕ) → ⟦<Uint32 as SingularCodec>⟧.back v ≡ v) }
+{}
+
+/// A scalar is read back as it was, and each value of its type is one.
+pub fn scalars_come_back<S: Scalar>()
+    ensures back { (v : S.Value.Meaning) → ⟦<S as SingularCodec>⟧.back v ≡ v }
+    ensures fits { (v : S.Value.Meaning) → ⟦<S as SingularCodec>⟧.fits v ↔ S.fits v }
+{}
+
+/// The bytes of each scalar in a packed record.
+pub fn packed_scalars_are_written()
+    ensures int32 { (v : ℤ) → ⟦<Int32 as PackableCodec>⟧.packed_text v ≡ int32_text v }
+    ensures int64 { (v : ℤ) → ⟦<Int64 as PackableCodec>⟧.packed_text v ≡ int64_text v }
+    ensures uint32 { (v : ℕ) → ⟦<Uint32 as PackableCodec>⟧.packed_text v ≡ uint32_text v }
+    ensures uint64 { (v : ℕ) → ⟦<Uint64 as PackableCodec>⟧.packed_text v ≡ uint64_text v }
+    ensures sint32 { (v : ℤ) → ⟦<Sint32 as PackableCodec>⟧.packed_text v ≡ sint32_text v }
+    ensures sint64 { (v : ℤ) → ⟦<Sint64 as PackableCodec>⟧.packed_text v ≡ sint64_text v }
+    ensures bool { (v : Bool) → ⟦<BoolScalar as PackableCodec>⟧.packed_text v ≡ bool_text v }
+    ensures fixed32 { (v : ℕ) → ⟦<Fixed32 as PackableCodec>⟧.packed_text v ≡ fixed32_text v }
+    ensures fixed64 { (v : ℕ) → ⟦<Fixed64 as PackableCodec>⟧.packed_text v ≡ fixed64_text v }
+    ensures sfixed32 { (v : ℤ) → ⟦<Sfixed32 as PackableCodec>⟧.packed_text v ≡ sfixed32_text v }
+    ensures sfixed64 { (v : ℤ) → ⟦<Sfixed64 as PackableCodec>⟧.packed_text v ≡ sfixed64_text v }
+{}
+
+/// The values of each scalar in a packed record.
+pub fn packed_scalars_are_read()
+    ensures int32 { (bs : List ℕ) → ⟦<Int32 as SingularCodec>⟧.packed bs ≡ map int32_of (numbers_in Varint bs) }
+    ensures int64 { (bs : List ℕ) → ⟦<Int64 as SingularCodec>⟧.packed bs ≡ map int64_of (numbers_in Varint bs) }
+    ensures uint32 { (bs : List ℕ) → ⟦<Uint32 as SingularCodec>⟧.packed bs ≡ map uint32_of (numbers_in Varint bs) }
+    ensures uint64 { (bs : List ℕ) → ⟦<Uint64 as SingularCodec>⟧.packed bs ≡ map uint64_of (numbers_in Varint bs) }
+    ensures sint32 { (bs : List ℕ) → ⟦<Sint32 as SingularCodec>⟧.packed bs ≡ map sint32_of (numbers_in Varint bs) }
+    ensures sint64 { (bs : List ℕ) → ⟦<Sint64 as SingularCodec>⟧.packed bs ≡ map sint64_of (numbers_in Varint bs) }
+    ensures bool { (bs : List ℕ) → ⟦<BoolScalar as SingularCodec>⟧.packed bs ≡ map bool_of (numbers_in Varint bs) }
+    ensures fixed32 { (bs : List ℕ) → ⟦<Fixed32 as SingularCodec>⟧.packed bs
+        ≡ map fixed32_of (numbers_in FourBytes bs) }
+    ensures fixed64 { (bs : List ℕ) → ⟦<Fixed64 as SingularCodec>⟧.packed bs
+        ≡ map fixed64_of (numbers_in EightBytes bs) }
+    ensures sfixed32 { (bs : List ℕ) → ⟦<Sfixed32 as SingularCodec>⟧.packed bs
+        ≡ map sfixed32_of (numbers_in FourBytes bs) }
+    ensures sfixed64 { (bs : List ℕ) → ⟦<Sfixed64 as SingularCodec>⟧.packed bs
+        ≡ map sfixed64_of (numbers_in EightBytes bs) }
 {}
 
 /// The values of joined records are the joined values.
@@ -97,14 +171,39 @@ pub fn packed_numbers_are_read()
     ensures { (w : WireType) (bs ns : List ℕ) → (numbers_in w bs ≡ ns) ↔ ArePacked w ns bs }
 {}
 
-/// Enums are read and written as `int32` is, each number as what it means.
+/// Enums are read and written as `int32` is, each number as what it means; in lists too, packed or not. A
+/// value comes back as its number means it.
 pub fn enums_are_read_as_numbers<E: Enumeration>()
     ensures one { LastThrough (open_number E.of_number) (⟦<Int32 as SingularCodec>⟧.one 100 full)
         (⟦<EnumCodec<E> as SingularCodec>⟧.one 100 full) }
+    ensures reads { ReadsThrough (open_number E.of_number) ⟦<Int32 as ExtensionCodec>⟧.reads
+        ⟦<EnumCodec<E> as ExtensionCodec>⟧.reads }
     ensures lists { ListsThrough (open_number E.of_number) ⟦<Repeated<Int32> as ExtensionCodec>⟧.reads
         ⟦<Repeated<EnumCodec<E>> as ExtensionCodec>⟧.reads }
-    ensures records { (v : Bool × ℤ) → ⟦<EnumCodec<E> as ExtensionCodec>⟧.recs v
-        ≡ ⟦<Int32 as ExtensionCodec>⟧.recs v.1 }
+    ensures packed { ListsThrough (open_number E.of_number) ⟦<PackedRepeated<Int32> as ExtensionCodec>⟧.reads
+        ⟦<PackedRepeated<EnumCodec<E>> as ExtensionCodec>⟧.reads }
+    ensures records { WritesThrough (λ v. v.1) ⟦<Int32 as ExtensionCodec>⟧.recs ⟦<EnumCodec<E> as ExtensionCodec>⟧.recs }
+    ensures list_records { WritesThrough (map (λ v. v.1)) ⟦<Repeated<Int32> as ExtensionCodec>⟧.recs
+        ⟦<Repeated<EnumCodec<E>> as ExtensionCodec>⟧.recs }
+    ensures packed_records { WritesThrough (map (λ v. v.1)) ⟦<PackedRepeated<Int32> as ExtensionCodec>⟧.recs
+        ⟦<PackedRepeated<EnumCodec<E>> as ExtensionCodec>⟧.recs }
+    ensures holds { (v : Bool × ℤ) (o : Option (Bool × ℤ)) → ⟦<EnumCodec<E> as ExtensionCodec>⟧.holds v o
+        ↔ (o ≡ Some (open_number E.of_number v.1)) }
+    ensures list_holds { (vs os : List (Bool × ℤ)) → ⟦<Repeated<EnumCodec<E>> as ExtensionCodec>⟧.holds vs os
+        ↔ (os ≡ map (λ v. open_number E.of_number v.1) vs) }
+{}
+
+/// An enum's number is read in a record, or in packed bytes, as that of an `int32`, at any depth; and so it is
+/// written.
+pub fn enum_records_are_read<E: Enumeration>()
+    ensures one { (n : ℕ) (b : BudgetLeft) (d : Datum) → ⟦<EnumCodec<E> as SingularCodec>⟧.one n b d
+        ≡ option_map (λ k. open_number E.of_number (int32_of k)) (varint_in d) }
+    ensures packed { (bs : List ℕ) → ⟦<EnumCodec<E> as SingularCodec>⟧.packed bs
+        ≡ map (λ k. open_number E.of_number (int32_of k)) (numbers_in Varint bs) }
+    ensures text { (v : Bool × ℤ) → ⟦<EnumCodec<E> as SingularCodec>⟧.text v ≡ varint (cast_unsigned w64 v.1) }
+    ensures packed_text { (v : Bool × ℤ) → ⟦<EnumCodec<E> as PackableCodec>⟧.packed_text v ≡ int32_text v.1 }
+    ensures back { (v : Bool × ℤ) → ⟦<EnumCodec<E> as SingularCodec>⟧.back v ≡ open_number E.of_number v.1 }
+    ensures fits { (v : Bool × ℤ) → ⟦<EnumCodec<E> as SingularCodec>⟧.fits v ↔ FitsSigned w32 v.1 }
 {}
 
 /// Values of numbers are read of the last record of their form, and packed ones of the payloads that begin
@@ -121,22 +220,36 @@ pub fn numbers_are_read<N: Numbered>()
         ↔ (o ≡ Some (N.back v)) }
     ensures memory { ⟦<N as ExtensionCodec>⟧.never_fails }
     ensures in_room { (v : N.Value.Meaning) → ⟦<N as ExtensionCodec>⟧.in_room v }
+    ensures spends { (n : ℕ) (b left : BudgetLeft) (d : Datum) → ⟦<N as SingularCodec>⟧.leaves n b d left ↔ (left ≡ b) }
+    ensures costs { (n : ℕ) (d : Datum) → (⟦<N as SingularCodec>⟧.cost d ≡ nothing)
+        × (⟦<N as SingularCodec>⟧.most n d ≡ nothing) }
+    ensures free { ⟦<N as SingularCodec>⟧.never_fails × ((v : N.Value.Meaning) → ⟦<N as SingularCodec>⟧.made_free v) }
+    ensures takes { (d : Datum) → ⟦<N as SingularCodec>⟧.takes d → ⊥ }
 {}
 
 /// Which values each scalar reads in a record, also of numbers that its values don't have.
 pub fn scalars_are_read()
-    ensures int32 { (d : Datum) → ⟦<Int32 as SingularCodec>⟧.one 100 full d ≡ option_map int32_of (varint_in d) }
-    ensures int64 { (d : Datum) → ⟦<Int64 as SingularCodec>⟧.one 100 full d ≡ option_map int64_of (varint_in d) }
-    ensures uint32 { (d : Datum) → ⟦<Uint32 as SingularCodec>⟧.one 100 full d ≡ option_map uint32_of (varint_in d) }
-    ensures uint64 { (d : Datum) → ⟦<Uint64 as SingularCodec>⟧.one 100 full d ≡ option_map (λ n. n) (varint_in d) }
-    ensures sint32 { (d : Datum) → ⟦<Sint32 as SingularCodec>⟧.one 100 full d ≡ option_map sint32_of (varint_in d) }
-    ensures sint64 { (d : Datum) → ⟦<Sint64 as SingularCodec>⟧.one 100 full d ≡ option_map sint64_of (varint_in d) }
-    ensures bool { (d : Datum) → ⟦<BoolScalar as SingularCodec>⟧.one 100 full d ≡ option_map bool_of (varint_in d) }
-    ensures fixed32 { (d : Datum) → ⟦<Fixed32 as SingularCodec>⟧.one 100 full d ≡ option_map (λ n. n) (fixed32_in d) }
-    ensures fixed64 { (d : Datum) → ⟦<Fixed64 as SingularCodec>⟧.one 100 full d ≡ option_map (λ n. n) (fixed64_in d) }
-    ensures sfixed32 { (d : Datum) → ⟦<Sfixed32 as SingularCodec>⟧.one 100 full d
+    ensures int32 { (n : ℕ) (b : BudgetLeft) (d : Datum) → ⟦<Int32 as SingularCodec>⟧.one n b d
+        ≡ option_map int32_of (varint_in d) }
+    ensures int64 { (n : ℕ) (b : BudgetLeft) (d : Datum) → ⟦<Int64 as SingularCodec>⟧.one n b d
+        ≡ option_map int64_of (varint_in d) }
+    ensures uint32 { (n : ℕ) (b : BudgetLeft) (d : Datum) → ⟦<Uint32 as SingularCodec>⟧.one n b d
+        ≡ option_map uint32_of (varint_in d) }
+    ensures uint64 { (n : ℕ) (b : BudgetLeft) (d : Datum) → ⟦<Uint64 as SingularCodec>⟧.one n b d
+        ≡ option_map uint64_of (varint_in d) }
+    ensures sint32 { (n : ℕ) (b : BudgetLeft) (d : Datum) → ⟦<Sint32 as SingularCodec>⟧.one n b d
+        ≡ option_map sint32_of (varint_in d) }
+    ensures sint64 { (n : ℕ) (b : BudgetLeft) (d : Datum) → ⟦<Sint64 as SingularCodec>⟧.one n b d
+        ≡ option_map sint64_of (varint_in d) }
+    ensures bool { (n : ℕ) (b : BudgetLeft) (d : Datum) → ⟦<BoolScalar as SingularCodec>⟧.one n b d
+        ≡ option_map bool_of (varint_in d) }
+    ensures fixed32 { (n : ℕ) (b : BudgetLeft) (d : Datum) → ⟦<Fixed32 as SingularCodec>⟧.one n b d
+        ≡ option_map fixed32_of (fixed32_in d) }
+    ensures fixed64 { (n : ℕ) (b : BudgetLeft) (d : Datum) → ⟦<Fixed64 as SingularCodec>⟧.one n b d
+        ≡ option_map fixed64_of (fixed64_in d) }
+    ensures sfixed32 { (n : ℕ) (b : BudgetLeft) (d : Datum) → ⟦<Sfixed32 as SingularCodec>⟧.one n b d
         ≡ option_map sfixed32_of (fixed32_in d) }
-    ensures sfixed64 { (d : Datum) → ⟦<Sfixed64 as SingularCodec>⟧.one 100 full d
+    ensures sfixed64 { (n : ℕ) (b : BudgetLeft) (d : Datum) → ⟦<Sfixed64 as SingularCodec>⟧.one n b d
         ≡ option_map sfixed64_of (fixed64_in d) }
 {}
 
@@ -161,6 +274,17 @@ pub fn texts_are_read()
         × (⟦<BytesCodec as ExtensionCodec>⟧.holds v o ↔ (o ≡ Some v)) }
     ensures free { (v : List ℕ) → (⟦<StringCodec as SingularCodec>⟧.made_free v ↔ (v ≡ []))
         × (⟦<BytesCodec as SingularCodec>⟧.made_free v ↔ (v ≡ [])) }
+    ensures one { (n : ℕ) (b : BudgetLeft) (d : Datum) → (⟦<StringCodec as SingularCodec>⟧.one n b d ≡ string_held d)
+        × (⟦<BytesCodec as SingularCodec>⟧.one n b d ≡ bytes_held d) }
+    ensures spends { (n : ℕ) (b left : BudgetLeft) (d : Datum) →
+        (⟦<StringCodec as SingularCodec>⟧.leaves n b d left ↔ (left ≡ b))
+        × (⟦<BytesCodec as SingularCodec>⟧.leaves n b d left ↔ (left ≡ b)) }
+    ensures most { (n : ℕ) (d : Datum) → (⟦<StringCodec as SingularCodec>⟧.most n d ≡ nothing)
+        × (⟦<BytesCodec as SingularCodec>⟧.most n d ≡ nothing) }
+    ensures costs { (d : Datum) → (⟦<StringCodec as SingularCodec>⟧.cost d ≡ nothing)
+        × (⟦<BytesCodec as SingularCodec>⟧.cost d ≡ nothing) }
+    ensures fits { (v : List ℕ) → (⟦<StringCodec as SingularCodec>⟧.fits v ↔ (is_utf8 v ≡ true))
+        × ⟦<BytesCodec as SingularCodec>⟧.fits v }
 {}
 
 /// Lists are read of all records of their number, from one pair of default budgets, the packed ones too. They
@@ -186,6 +310,47 @@ pub fn lists_are_read<C: SingularCodec, P: PackableCodec>()
     ensures in_room { (vs : List C.Value.Meaning) → ⟦<Repeated<C> as ExtensionCodec>⟧.in_room vs ↔ Each C.made_free vs }
     ensures memory { (ds : List Datum) → ⟦<Repeated<C> as ExtensionCodec>⟧.takes ds
         ↔ Has (TakesElement C.takes (C.one 100) C.packed) ds }
+    ensures fits { (vs : List C.Value.Meaning) → ⟦<Repeated<C> as ExtensionCodec>⟧.fits vs ↔ Each C.fits vs }
+    ensures packed_fits { (vs : List P.Value.Meaning) → ⟦<PackedRepeated<P> as ExtensionCodec>⟧.fits vs
+        ↔ Each P.fits vs }
     ensures packed_memory { (ds : List Datum) → ⟦<PackedRepeated<P> as ExtensionCodec>⟧.takes ds
         ↔ Has (TakesElement P.takes (P.one 100) P.packed) ds }
+{}
+
+/// Records are read as one value or none, and in lists as one list, by codecs whose reading spends nothing.
+///
+/// Left open: whether memory runs out, where there is a record whose reading takes some (`takes`).
+pub fn answers_are_pinned<C: LastWins, P: LastWins + PackableCodec>()
+    ensures one { OneAnswer ⟦<C as ExtensionCodec>⟧.reads }
+    ensures there { HasAnswer ⟦<C as ExtensionCodec>⟧.reads }
+    ensures lists { OneAnswer ⟦<Repeated<C> as ExtensionCodec>⟧.reads }
+    ensures lists_there { HasAnswer ⟦<Repeated<C> as ExtensionCodec>⟧.reads }
+    ensures packed { OneAnswer ⟦<PackedRepeated<P> as ExtensionCodec>⟧.reads }
+    ensures packed_there { HasAnswer ⟦<PackedRepeated<P> as ExtensionCodec>⟧.reads }
+{}
+
+/// A list of values that cost something is one up to the first record that is no value, and so where all
+/// records are values; and what a value leaves of a budget is one.
+///
+/// Left open: what a record that is no value leaves, of which at most its cost is spent, and so which of the
+/// records behind it are values.
+pub fn costly_lists_are_pinned<C: SingularCodec>()
+    ensures leaves { LeavesOne (C.one 100) (C.leaves 100) }
+    ensures begins { BeginsAlike ⟦<Repeated<C> as ExtensionCodec>⟧.reads (C.one 100) C.cost }
+    ensures whole { OneList ⟦<Repeated<C> as ExtensionCodec>⟧.reads (C.one 100) C.cost }
+{}
+
+/// Values are written as one list of records, and packed values are read as one list.
+///
+/// Left open: of a list that is refused, how many of its records stand, but never all.
+pub fn encodings_are_pinned<C: SingularCodec>()
+    ensures records { EncodingIsPinned }
+    ensures unpacked { UnpackingIsPinned C.Value.meaning }
+{}
+
+/// Memory aside, a value that is written isn't refused, and one that is refused is for one reason.
+///
+/// Left open: whether memory runs out.
+pub fn refusals_are_pinned<T>()
+    ensures { (refusal : Option EncodeError) → RefusalIsPinned T refusal }
 {}

@@ -1,3 +1,4 @@
 pub mod Histories
 pub mod Replays
 pub mod Merges
+pub mod PinLemmas

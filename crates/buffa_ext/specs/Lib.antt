@@ -3,3 +3,4 @@ pub mod Changes
 pub mod Defaults
 pub mod Messages
 pub mod MessageFacts
+pub mod Pinned

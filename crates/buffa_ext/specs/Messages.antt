@@ -1,6 +1,6 @@
 -- Extensions that hold messages: the bytes of their records are merged in order.
 -- Source: the protobuf encoding guide, "Last One Wins".
-use Rattle.std.specs.Prelude.{◌≡◌, ◌≢◌, ℕ, ◌^◌, Bool, true, false, List, [], ◌∷◌, ◌&&◌, nat_le, nat_lt, length, Option, Some, None, Result, Ok, Err, MatchResult, if◌then◌else◌}
+use Rattle.std.specs.Prelude.{◌≡◌, ◌≢◌, ◌≤◌, ℕ, ◌^◌, Bool, true, false, List, [], ◌∷◌, ◌&&◌, nat_le, nat_lt, length, Option, Some, None, Result, Ok, Err, IfSome, MatchResult, if◌then◌else◌}
 use Rattle.std.specs.Option.{option_and_then}
 use Rattle.std.specs.List.{filter_map}
 use Rattle.buffa_bytes.specs.declared.error.DecodeError.{DecodeError}
@@ -8,7 +8,8 @@ use Rattle.buffa_bytes.specs.declared.error.DecodeError.TheVariants.{OutOfMemory
 use Rattle.buffa_bytes.specs.declared.error.EncodeError.{EncodeError}
 use Rattle.buffa_bytes.specs.declared.error.EncodeError.TheVariants.{GroupRefused, MessageTooLarge}
 use Rattle.buffa_wire.specs.BudgetLeft.{BudgetLeft, Pays, PaysAtMost, nothing, plus}
-use Rattle.buffa_wire.specs.Message.{MergeFault}
+use Rattle.buffa_wire.specs.Message.{MergeFault, ReachesTag}
+use Rattle.buffa_wire.specs.Parse.{Fits}
 use Rattle.buffa_wire.specs.Records.{Datum, group, records_of}
 use Rattle.buffa_wire.specs.RecordReading.{list_at}
 use Rattle.buffa_wire.specs.Text.{fields_text}
@@ -71,6 +72,10 @@ IsAnswer (Ok true) v o = o ≡ Some v
 IsAnswer (Ok false) v o = o ≡ None
 IsAnswer (Err e) v o = (o ≡ None) × (e ≢ OutOfMemory)
 
+-- a text is there, and after some of its fields a tag
+abbrev pub ReachesTagIn : (Datum → Option (List ℕ)) → ℕ → Datum → Type 0
+ReachesTagIn held n d = IfSome (held d) (ReachesTag n)
+
 -- the records that bytes are, or none
 abbrev pub or_none : Result (List (ℕ × Datum)) DecodeError → List (ℕ × Datum)
 or_none (Ok rs) = rs
@@ -90,3 +95,8 @@ group_refusal text = why_refused (list_at 100 1000000 text)
 -- why a text isn't written: it is too long, or else it can't be held
 abbrev pub text_refusal : (List ℕ → Option EncodeError) → List ℕ → Option EncodeError
 text_refusal refusal text = if nat_lt (length text) (2 ^ 31) then refusal text else Some MessageTooLarge
+
+-- a message is read back: its type says so, it isn't too deep, its numbers can be written, and the texts in its record
+-- cost no more than a pair of default budgets
+abbrev pub IsReadBack : Type 0 → ℕ → List (ℕ × Datum) → (List ℕ → BudgetLeft) → List (List ℕ) → Type 0
+IsReadBack normal levels records cost texts = (normal × (levels ≤ 100) × Fits (records_of records)) × Covers full (cost_all cost texts)

@@ -1,5 +1,5 @@
 -- Sets and clears of numbers, and what they leave.
-use Rattle.std.specs.Prelude.{◌≡◌, ◌≢◌, ℕ, List, [], ◌∷◌, ◌++◌, Option, Some, None, drop, unwrap_or, ◌==◌, if◌then◌else◌}
+use Rattle.std.specs.Prelude.{◌≡◌, ◌≢◌, ◌↔◌, ◌≤◌, ◌+◌, ℕ, length, List, [], ◌∷◌, ◌++◌, Option, Some, None, drop, unwrap_or, ◌==◌, if◌then◌else◌}
 use Rattle.std.specs.List.{filter_map, last_or}
 use Rattle.buffa_bytes.specs.declared.error.EncodeError.{EncodeError}
 use Rattle.buffa_wire.specs.Records.{Datum, Held}
@@ -19,6 +19,15 @@ after_one rs (clear n) = without n rs
 abbrev pub put_in : Change → List Datum
 put_in (set n ds) = ds
 put_in (clear n) = []
+
+-- how many records changes put in
+abbrev pub put_count : List Change → ℕ
+put_count [] = 0
+put_count (c ∷ cs) = length (put_in c) + put_count cs
+
+-- changes take no more room than they put records in
+abbrev pub KeepsRoom : List Change → Held → Held → Type 0
+KeepsRoom cs old new = old.spare ≤ new.spare + put_count cs
 
 -- the records that changes leave, one after the other
 abbrev pub after : List (ℕ × Datum) → List Change → List (ℕ × Datum)
@@ -58,12 +67,34 @@ IsSetUnread n ds refusal takes old new = IsSet n ds old new × (refusal ≡ None
 abbrev pub HasRecord : ℕ → Held → Type 0
 HasRecord n held = sub n held.records ≢ []
 
--- a set leaves the records of other numbers, and its own stand last
+-- after a set the records of the number hold what was set, and those of other numbers stand as they were
+abbrev pub TakesThePlace : Type 0
+TakesThePlace = (n : ℕ) (rs : List (ℕ × Datum)) (ds : List Datum) → sub n (after_one rs (set n ds)) ≡ ds
+
+abbrev pub KeepsTheRest : Type 0
+KeepsTheRest = (n : ℕ) (rs : List (ℕ × Datum)) (ds : List Datum) → without n (after_one rs (set n ds)) ≡ without n rs
+
+-- each other number keeps its records
 abbrev pub LeavesOthers : Type 0
 LeavesOthers = (n k : ℕ) (rs : List (ℕ × Datum)) (ds : List Datum) → n ≢ k → sub k (after_one rs (set n ds)) ≡ sub k rs
 
+-- the records of the number stand behind all others
 abbrev pub StandsLast : Type 0
-StandsLast = (n : ℕ) (rs : List (ℕ × Datum)) (ds : List Datum) → after_one rs (set n ds) ≡ without n rs ++ tagged n ds
+StandsLast = (n : ℕ) (rs : List (ℕ × Datum)) (ds : List Datum) → (front : List (ℕ × Datum)) × (sub n front ≡ []) × (after_one rs (set n ds) ≡ front ++ tagged n ds)
+
+-- a set leaves the one list of which all this is true
+abbrev pub IsExactlySet : Type 0
+IsExactlySet =
+    (n : ℕ) (rs out : List (ℕ × Datum)) (ds : List Datum) → (out ≡ after_one rs (set n ds))
+    ↔ ((front : List (ℕ × Datum)) × (sub n front ≡ []) × (without n front ≡ without n rs) × (out ≡ front ++ tagged n ds))
+
+-- a clear leaves the one list without records of the number in which those of other numbers stand as they were
+abbrev pub TakesOut : Type 0
+TakesOut = (n : ℕ) (rs out : List (ℕ × Datum)) → (out ≡ after_one rs (clear n)) ↔ ((sub n out ≡ []) × (without n out ≡ without n rs))
+
+-- what a number is read as after changes is what its history is read as
+abbrev pub ReadsHistory : {A : Type 0} → (List Datum → A → Type 0) → Type 0
+ReadsHistory {A = A} reads = (n : ℕ) (rs : List (ℕ × Datum)) (cs : List Change) (a : A) → reads (sub n (after rs cs)) a ↔ reads (history n rs cs) a
 
 -- of two sets of a number the second counts, and two clears are one
 abbrev pub SecondCounts : Type 0

@@ -1,22 +1,30 @@
 //! What the definitions of sets and clears say together: each law is a function with nothing to do, whose
 //! contract is the law.
 
-ghost use Rattle.std.specs.Prelude.{◌≡◌, ◌↔◌, ◌<◌, ◌≤◌, ◌^◌, ℕ, List, [], ◌∷◌, Option, Some, None, length};
+ghost use Rattle.std.specs.Prelude.{◌≡◌, ◌↔◌, ◌<◌, ◌≤◌, ◌^◌, ℕ, List, [], ◌∷◌, Option, Some, None, Ok, Err, length, option_map};
+ghost use Rattle.std.specs.declared.alloc.Global.{Global as GlobalValue};
+ghost use Rattle.std.specs.declared.alloc.AllocError.{AllocError as AllocErrorValue};
+ghost use Rattle.buffa_ext.specs.declared.descriptor.Make.{Make};
+ghost use Rattle.buffa_ext.specs.declared.descriptor.NoDefault.{NoDefault};
 ghost use Rattle.buffa_bytes.specs.declared.error.EncodeError.TheVariants.{MessageTooLarge};
-ghost use Rattle.buffa_wire.specs.BudgetLeft.{nothing, plus};
+ghost use Rattle.buffa_wire.specs.BudgetLeft.{BudgetLeft};
 ghost use Rattle.buffa_wire.specs.Parse.{Fits};
 ghost use Rattle.buffa_wire.specs.Records.{Datum, bytes as held_bytes, records_of};
-ghost use Rattle.buffa_codec.specs.Reading.{Covers, bytes_held, full};
+ghost use Rattle.buffa_codec.specs.Pinned.{OneAnswer};
+ghost use Rattle.buffa_codec.specs.Reading.{Has, HasByte, bytes_held, full};
 ghost use Rattle.buffa_codec.specs.Sub.{sub};
-ghost use Rattle.buffa_ext.specs.Messages.{StaysWithin, group_held, group_of, group_refusal, message_of, texts_in};
-ghost use Rattle.buffa_ext.specs.Messages.{LeavesOf, cost_all};
-ghost use Rattle.buffa_wire.specs.BudgetLeft.{BudgetLeft};
-ghost use Rattle.buffa_ext.specs.Steps.{Change, ClearsAreOne, LeavesOthers, SecondCounts, StandsLast, after, history};
+ghost use Rattle.buffa_ext.specs.Messages.{IsReadBack, LeavesOf, ReachesTagIn, StaysWithin, cost_all, group_held};
+ghost use Rattle.buffa_ext.specs.Messages.{group_of, group_refusal, message_of, text_refusal, texts_in};
+ghost use Rattle.buffa_ext.specs.Pinned.{ClearIsPinned, DefaultIsPinned, ListIsExact, MergingIsPinned, SetIsPinned};
+ghost use Rattle.buffa_ext.specs.Steps.{Change, ClearsAreOne, IsExactlySet, KeepsTheRest, LeavesOthers};
+ghost use Rattle.buffa_ext.specs.Steps.{ReadsHistory, SecondCounts, StandsLast, TakesOut, TakesThePlace, after, history};
 
-use crate::message::{GroupCodec, MessageCodec};
-use crate::record::MessageRecord;
-use buffa_codec::{ExtensionCodec, SingularCodec};
+use crate::descriptor::{Declared, Make, NoDefault};
+use crate::message::{GroupCodec, MessageCodec, MessageIn};
+use crate::record::{Delimited, MessageRecord};
+use buffa_codec::{ExtensionCodec, LastWins, Repeated, SingularCodec};
 use buffa_wire::{Message, MessageSpec};
+use std::alloc::{AllocError, Global};
 
 /// The records of a number after changes are what its last change says.
 pub fn last_change_counts()
@@ -27,6 +35,30 @@ pub fn last_change_counts()
 pub fn sets_leave_others()
     ensures others { LeavesOthers }
     ensures last { StandsLast }
+{}
+
+/// After a set the number's records hold what was set, those of other numbers stand, and no other list is so.
+pub fn sets_take_the_place()
+    ensures place { TakesThePlace }
+    ensures others { KeepsTheRest }
+    ensures exactly { IsExactlySet }
+{}
+
+/// After a clear no record of the number is there, those of other numbers stand, and no other list is so.
+pub fn clears_take_out()
+    ensures { TakesOut }
+{}
+
+/// What a number is read as after changes is what its history is read as: the records of its last set, none
+/// after a clear, or else those that were there.
+pub fn reads_after_changes<C: ExtensionCodec>()
+    ensures { ReadsHistory C.reads }
+{}
+
+/// A value that was set is what is read, also after changes of other numbers.
+pub fn set_values_are_read<C: ExtensionCodec>()
+    ensures { (n : ℕ) (rs : List (ℕ × Datum)) (cs : List Change) (v : C.Meaning) (o : C.Answer) → C.fits v → C.normal v →
+        history n rs cs ≡ C.recs v → C.reads (sub n (after rs cs)) o → C.holds v o }
 {}
 
 /// Two sets are the second, and two clears are one.
@@ -50,29 +82,125 @@ pub fn messages_are_read<M: Message>()
         ↔ (o ≡ message_of (M.merged 100) (M.cost 100) M.blank_is full (texts_in group_held ds)) }
     ensures bytes { (v : M.Meaning) → ⟦<MessageCodec<M> as ExtensionCodec>⟧.recs v ≡ held_bytes (M.text v) ∷ [] }
     ensures group { (v : M.Meaning) → ⟦<GroupCodec<M> as ExtensionCodec>⟧.recs v ≡ group_of (M.text v) ∷ [] }
-    ensures normal { (v : M.Meaning) → M.normal v → M.levels v ≤ 100 → Fits (records_of (M.records v)) →
-        Covers full (plus (M.cost 100 (M.text v)) nothing) → ⟦<MessageCodec<M> as ExtensionCodec>⟧.normal v }
+    ensures normal { (v : M.Meaning) → ⟦<MessageCodec<M> as ExtensionCodec>⟧.normal v
+        ↔ IsReadBack (M.normal v) (M.levels v) (M.records v) (M.cost 100) (M.text v ∷ []) }
+    ensures group_normal { (v : M.Meaning) → ⟦<GroupCodec<M> as ExtensionCodec>⟧.normal v
+        ↔ IsReadBack (M.normal v) (M.levels v) (M.records v) (M.cost 100) (texts_in group_held (group_of (M.text v) ∷ [])) }
     ensures holds { (v : M.Meaning) (o : Option M.Meaning) → ⟦<MessageCodec<M> as ExtensionCodec>⟧.holds v o
         ↔ (o ≡ Some v) }
     ensures group_holds { (v : M.Meaning) (o : Option M.Meaning) → ⟦<GroupCodec<M> as ExtensionCodec>⟧.holds v o
         ↔ (o ≡ Some v) }
-    ensures one { (n : ℕ) (b : BudgetLeft) (d : Datum) → ⟦<MessageCodec<M> as SingularCodec>⟧.one n b d
-        ≡ message_of (M.merged n) (M.cost n) M.blank_is b (texts_in bytes_held (d ∷ [])) }
-    ensures one_group { (n : ℕ) (b : BudgetLeft) (d : Datum) → ⟦<GroupCodec<M> as SingularCodec>⟧.one n b d
-        ≡ message_of (M.merged n) (M.cost n) M.blank_is b (texts_in group_held (d ∷ [])) }
-    ensures spends { (n : ℕ) (b left : BudgetLeft) (d : Datum) → ⟦<MessageCodec<M> as SingularCodec>⟧.leaves n b d left
-        ↔ LeavesOf (⟦<MessageCodec<M> as SingularCodec>⟧.one n b d) b (cost_all (M.cost n) (texts_in bytes_held (d ∷ []))) left }
-    ensures costs { (d : Datum) → (⟦<MessageCodec<M> as SingularCodec>⟧.cost d
-        ≡ cost_all (M.cost 100) (texts_in bytes_held (d ∷ []))) × (⟦<GroupCodec<M> as SingularCodec>⟧.cost d
-        ≡ cost_all (M.cost 100) (texts_in group_held (d ∷ []))) }
-    ensures text { (v : M.Meaning) → (⟦<MessageCodec<M> as SingularCodec>⟧.text v ≡ held_bytes (M.text v))
-        × (⟦<GroupCodec<M> as SingularCodec>⟧.text v ≡ group_of (M.text v)) }
-    ensures unpacked { (bs : List ℕ) → (⟦<MessageCodec<M> as SingularCodec>⟧.packed bs ≡ [])
-        × (⟦<GroupCodec<M> as SingularCodec>⟧.packed bs ≡ []) }
+    ensures takes { (ds : List Datum) → ⟦<MessageCodec<M> as ExtensionCodec>⟧.takes ds
+        ↔ Has (ReachesTagIn bytes_held 100) ds }
+    ensures group_takes { (ds : List Datum) → ⟦<GroupCodec<M> as ExtensionCodec>⟧.takes ds
+        ↔ Has (λ d. HasByte (group_held d)) ds }
     ensures too_large { (v : M.Meaning) → 2 ^ 31 ≤ length (M.text v) →
         (⟦<MessageCodec<M> as ExtensionCodec>⟧.refusal v ≡ Some MessageTooLarge)
         × (⟦<GroupCodec<M> as ExtensionCodec>⟧.refusal v ≡ Some MessageTooLarge) }
     ensures written { (v : M.Meaning) → length (M.text v) < 2 ^ 31 →
         (⟦<MessageCodec<M> as ExtensionCodec>⟧.refusal v ≡ None)
         × (⟦<GroupCodec<M> as ExtensionCodec>⟧.refusal v ≡ group_refusal (M.text v)) }
+{}
+
+/// One record of bytes is read and written as a message, at any depth and of any budget, and so is an element
+/// of a list.
+pub fn message_records_are_read<M: Message>()
+    ensures one { (n : ℕ) (b : BudgetLeft) (d : Datum) → ⟦<MessageCodec<M> as SingularCodec>⟧.one n b d
+        ≡ message_of (M.merged n) (M.cost n) M.blank_is b (texts_in bytes_held (d ∷ [])) }
+    ensures leaves { (n : ℕ) (b left : BudgetLeft) (d : Datum) → ⟦<MessageCodec<M> as SingularCodec>⟧.leaves n b d left
+        ↔ LeavesOf (message_of (M.merged n) (M.cost n) M.blank_is b (texts_in bytes_held (d ∷ []))) b
+        (cost_all (M.cost n) (texts_in bytes_held (d ∷ []))) left }
+    ensures cost { (d : Datum) → ⟦<MessageCodec<M> as SingularCodec>⟧.cost d
+        ≡ cost_all (M.cost 100) (texts_in bytes_held (d ∷ [])) }
+    ensures most { (n : ℕ) (d : Datum) → ⟦<MessageCodec<M> as SingularCodec>⟧.most n d
+        ≡ cost_all (M.cost n) (texts_in bytes_held (d ∷ [])) }
+    ensures text { (v : M.Meaning) → ⟦<MessageCodec<M> as SingularCodec>⟧.text v ≡ held_bytes (M.text v) }
+    ensures refusal { (v : M.Meaning) → ⟦<MessageCodec<M> as SingularCodec>⟧.refusal v
+        ≡ text_refusal (λ t. None) (M.text v) }
+    ensures fits { (v : M.Meaning) → ⟦<MessageCodec<M> as SingularCodec>⟧.fits v
+        ↔ (text_refusal (λ t. None) (M.text v) ≡ None) }
+    ensures normal { (v : M.Meaning) → ⟦<MessageCodec<M> as SingularCodec>⟧.normal v
+        ↔ (M.normal v × (M.levels v ≤ 100) × Fits (records_of (M.records v))) }
+    ensures back { (v : M.Meaning) → ⟦<MessageCodec<M> as SingularCodec>⟧.back v ≡ v }
+    ensures takes { (d : Datum) → ⟦<MessageCodec<M> as SingularCodec>⟧.takes d
+        ↔ ((n : ℕ) × ReachesTagIn bytes_held n d) }
+    ensures packed { (bs : List ℕ) → ⟦<MessageCodec<M> as SingularCodec>⟧.packed bs ≡ [] }
+{}
+
+/// The same of a group.
+pub fn group_records_are_read<M: Message>()
+    ensures one { (n : ℕ) (b : BudgetLeft) (d : Datum) → ⟦<GroupCodec<M> as SingularCodec>⟧.one n b d
+        ≡ message_of (M.merged n) (M.cost n) M.blank_is b (texts_in group_held (d ∷ [])) }
+    ensures leaves { (n : ℕ) (b left : BudgetLeft) (d : Datum) → ⟦<GroupCodec<M> as SingularCodec>⟧.leaves n b d left
+        ↔ LeavesOf (message_of (M.merged n) (M.cost n) M.blank_is b (texts_in group_held (d ∷ []))) b
+        (cost_all (M.cost n) (texts_in group_held (d ∷ []))) left }
+    ensures cost { (d : Datum) → ⟦<GroupCodec<M> as SingularCodec>⟧.cost d
+        ≡ cost_all (M.cost 100) (texts_in group_held (d ∷ [])) }
+    ensures most { (n : ℕ) (d : Datum) → ⟦<GroupCodec<M> as SingularCodec>⟧.most n d
+        ≡ cost_all (M.cost n) (texts_in group_held (d ∷ [])) }
+    ensures text { (v : M.Meaning) → ⟦<GroupCodec<M> as SingularCodec>⟧.text v ≡ group_of (M.text v) }
+    ensures refusal { (v : M.Meaning) → ⟦<GroupCodec<M> as SingularCodec>⟧.refusal v
+        ≡ text_refusal group_refusal (M.text v) }
+    ensures fits { (v : M.Meaning) → ⟦<GroupCodec<M> as SingularCodec>⟧.fits v
+        ↔ (text_refusal group_refusal (M.text v) ≡ None) }
+    ensures normal { (v : M.Meaning) → ⟦<GroupCodec<M> as SingularCodec>⟧.normal v
+        ↔ (M.normal v × (M.levels v ≤ 100) × Fits (records_of (M.records v))) }
+    ensures back { (v : M.Meaning) → ⟦<GroupCodec<M> as SingularCodec>⟧.back v ≡ v }
+    ensures takes { (d : Datum) → ⟦<GroupCodec<M> as SingularCodec>⟧.takes d ↔ ((n : ℕ) × HasByte (group_held d)) }
+    ensures packed { (bs : List ℕ) → ⟦<GroupCodec<M> as SingularCodec>⟧.packed bs ≡ [] }
+{}
+
+/// A value means what its message type says, and so does the answer of a reading; a text of bytes is held
+/// without memory.
+pub fn messages_mean_these<K: MessageRecord, M: Message>(value: &M, output: &Option<M>)
+    ensures value { ⟦<MessageIn<K, M> as ExtensionCodec>⟧.meaning value.now ≡ M.meaning value.now }
+    ensures answer { ⟦<MessageIn<K, M> as ExtensionCodec>⟧.answer output.now ≡ option_map M.meaning output.now }
+    ensures held { ⟦<Delimited as MessageRecord>⟧.never_fails }
+{}
+
+/// A default that is declared is what its function makes, and no other; where none is declared there is none.
+pub fn defaults_are_these<V, F: Fn(Global) -> Result<V, AllocError>>()
+    ensures none { (s : NoDefault) (o : Option V) → ⟦<NoDefault as Declared<V>>⟧.may_declare s o ↔ (o ≡ None) }
+    ensures none_refused { (s : NoDefault) → ⟦<NoDefault as Declared<V>>⟧.may_refuse s → ⊥ }
+    ensures made { (s : Make F) (o : Option V) → ⟦<Make<F> as Declared<V>>⟧.may_declare s o
+        ↔ ((a : GlobalValue) × (v : V) × F.post s.make a (Ok v) × (o ≡ Some v)) }
+    ensures refused { (s : Make F) → ⟦<Make<F> as Declared<V>>⟧.may_refuse s
+        ↔ ((a : GlobalValue) × (e : AllocErrorValue) × F.post s.make a (Err e)) }
+{}
+
+/// A message is read as one value or none; and merging texts in order ends in one way, memory aside.
+///
+/// Left open: where memory runs out, of those records for which merging may take some (`takes`); which fault
+/// stops the merging of texts that mean no value or cost too much; and how much of their cost is spent then.
+pub fn messages_are_pinned<M: Message>()
+    ensures delimited { OneAnswer ⟦<MessageCodec<M> as ExtensionCodec>⟧.reads }
+    ensures groups { OneAnswer ⟦<GroupCodec<M> as ExtensionCodec>⟧.reads }
+    ensures merged { MergingIsPinned (M.merged 100) (M.cost 100) }
+{}
+
+/// A list of messages whose texts cost together no more than a pair of default budgets has one answer: the
+/// value of each text that means one.
+///
+/// Left open: past those budgets, which records behind the first refused one are values.
+pub fn lists_of_messages_are_pinned<M: Message>()
+    ensures delimited { ListIsExact ⟦<Repeated<MessageCodec<M>> as ExtensionCodec>⟧.reads (M.merged 100) (M.cost 100)
+        M.blank_is bytes_held }
+    ensures groups { ListIsExact ⟦<Repeated<GroupCodec<M>> as ExtensionCodec>⟧.reads (M.merged 100) (M.cost 100)
+        M.blank_is group_held }
+{}
+
+/// A number's value, or else its default, is one.
+///
+/// Left open: which of the values that a declared default may be it is, where more than one may be.
+pub fn defaults_are_pinned<C: LastWins, D: Declared<C::Value>>()
+    ensures { (s : D) → DefaultIsPinned ⟦<C as ExtensionCodec>⟧.reads C.Value.meaning C.Value.blank_is
+        (D.may_declare s) }
+{}
+
+/// Sets and clears leave one list of records.
+///
+/// Left open: how much room the list has, beyond what `room` says.
+pub fn changes_are_pinned()
+    ensures sets { SetIsPinned }
+    ensures clears { ClearIsPinned }
 {}

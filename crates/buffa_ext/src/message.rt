@@ -7,7 +7,7 @@ ghost use Rattle.buffa_bytes.specs.Gives.{FullOnlyIf};
 ghost use Rattle.buffa_wire.specs.BudgetLeft.{BudgetLeft};
 ghost use Rattle.buffa_wire.specs.Parse.{Fits};
 ghost use Rattle.buffa_wire.specs.Records.{records_of};
-ghost use Rattle.buffa_codec.specs.Reading.{Covers, Has, HasByte, full};
+ghost use Rattle.buffa_codec.specs.Reading.{Covers, Has, full};
 ghost use Rattle.buffa_codec.specs.Sub.{sub};
 ghost use Rattle.buffa_ext.specs.Messages.{IsAllMerged, IsAnswer, LeavesOf, cost_all, message_of, text_refusal};
 ghost use Rattle.buffa_ext.specs.Messages.{texts_in};
@@ -87,7 +87,7 @@ impl<K: MessageRecord, M: Message> SingularCodec for MessageIn<K, M> {
 
     ghost made_free = { λ v. ⊥ };
 
-    ghost takes = { λ d. HasByte (K.held d) };
+    ghost takes = { λ d. (n : ℕ) × K.takes n d };
 
     fn decode_one(alloc: Global, payload: &UnknownFieldData) -> Result<Option<M>, AllocError> {
         let mut budget = Budget::new(DEFAULT_UNKNOWN_FIELD_LIMIT);
@@ -132,8 +132,16 @@ impl<K: MessageRecord, M: Message> SingularCodec for MessageIn<K, M> {
     ghost spends = { λ b left d h. spent (M.merged 100) (M.cost 100) M.blank_is b left (texts_in K.held (d ∷ [])) h };
 }
 
-// Merges the texts in all records of the number, and tells whether there is one.
-fn merge_number<K: MessageRecord, M: Message>(
+/// Merges the texts in all records of the number, 100 levels deep, and tells whether there is one. It spends
+/// exactly what they cost together.
+///
+/// # Errors
+/// Those of [`Message::merge`]; at most what the texts cost together is spent, and part of them is merged.
+///
+/// ```ignore
+/// let found = merge_number::<Delimited, Point>(alloc, 7, &fields, &mut budget, &mut point)?;
+/// ```
+pub fn merge_number<K: MessageRecord, M: Message>(
     alloc: Global,
     number: u32,
     fields: &UnknownFields,
@@ -143,7 +151,7 @@ fn merge_number<K: MessageRecord, M: Message>(
     ensures merged { IsAllMerged (M.merged 100) (M.cost 100) (texts_in K.held (sub number fields.now.records))
         (M.meaning message.old) budget.old result (M.meaning message.new) budget.new }
     ensures text { OnErr result (texts_in K.held (sub number fields.now.records) ≢ []) }
-    ensures full { FullOnlyIf result (Has (λ d. HasByte (K.held d)) (sub number fields.now.records)) }
+    ensures full { FullOnlyIf result (Has (K.takes 100) (sub number fields.now.records)) }
 {
     let mut found = false;
     for field in fields.iter().as_slice() {
@@ -191,7 +199,7 @@ impl<K: MessageRecord, M: Message> ExtensionCodec for MessageIn<K, M> {
 
     ghost in_room = { λ v. ⊥ };
 
-    ghost takes = { Has (λ d. HasByte (K.held d)) };
+    ghost takes = { Has (K.takes 100) };
 
     fn decode(alloc: Global, number: u32, fields: &UnknownFields) -> Result<Option<M>, AllocError> {
         let mut budget = Budget::new(DEFAULT_UNKNOWN_FIELD_LIMIT);

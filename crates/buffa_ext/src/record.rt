@@ -10,7 +10,7 @@ ghost use Rattle.buffa_wire.specs.Records.{Datum, bytes, records_of};
 ghost use Rattle.buffa_wire.specs.Text.{records_text};
 ghost use Rattle.buffa_wire.specs.View.{datum_of};
 ghost use Rattle.buffa_codec.specs.Reading.{HasByte, Refuses, bytes_held};
-ghost use Rattle.buffa_ext.specs.Messages.{IsAllMerged, group_held, group_of, group_refusal, texts_in};
+ghost use Rattle.buffa_ext.specs.Messages.{IsAllMerged, ReachesTagIn, group_held, group_of, group_refusal, texts_in};
 ghost use Rattle.buffa_ext.specs.MessageFacts.{group_back};
 
 use buffa_wire::{
@@ -26,6 +26,9 @@ pub trait MessageRecord {
     /// The record of a text.
     ghost holder: { List ℕ → Datum };
 
+    /// The records whose text may take memory to be merged, at a depth.
+    ghost takes: { ℕ → Datum → Type 0 };
+
     /// Why no record holds a text, memory aside.
     ghost refusal: { List ℕ → Option EncodeError };
 
@@ -35,7 +38,7 @@ pub trait MessageRecord {
     /// Merges the text in a record of this kind, at the context's depth, and tells whether there is one.
     ///
     /// # Errors
-    /// Those of [`Message::merge`], where there is one; out of memory only where it has a byte.
+    /// Those of [`Message::merge`], where there is one; out of memory only where merging it may take some.
     fn merge_in<M: Message>(
         alloc: Global,
         payload: &UnknownFieldData,
@@ -46,7 +49,7 @@ pub trait MessageRecord {
             (texts_in held (datum_of payload.now ∷ []))
             (M.meaning message.old) ctx.entry.budget.now result (M.meaning message.new) (budget_left ctx.exit) }
         ensures text { OnErr result (texts_in held (datum_of payload.now ∷ []) ≢ []) }
-        ensures full { FullOnlyIf result (HasByte (held (datum_of payload.now))) };
+        ensures full { FullOnlyIf result (takes ctx.entry.depth (datum_of payload.now)) };
 
     /// The record of a text.
     ///
@@ -70,6 +73,8 @@ impl MessageRecord for Delimited {
     ghost held = { bytes_held };
 
     ghost holder = { bytes };
+
+    ghost takes = { ReachesTagIn bytes_held };
 
     ghost refusal = { λ t. None };
 
@@ -109,6 +114,8 @@ impl MessageRecord for Grouped {
     ghost held = { group_held };
 
     ghost holder = { group_of };
+
+    ghost takes = { λ n d. HasByte (group_held d) };
 
     ghost refusal = { group_refusal };
 

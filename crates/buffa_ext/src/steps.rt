@@ -3,7 +3,7 @@
 ghost use Rattle.std.specs.Prelude.{◌≡◌, ◌≢◌, ◌<◌, [], length, map, take, OnOk, OnErr, IfErr, IfOk};
 ghost use Rattle.buffa_wire.specs.View.{datum_of};
 ghost use Rattle.buffa_codec.specs.Sub.{tagged};
-ghost use Rattle.buffa_ext.specs.Steps.{RefusedAt, TakesMemory, after, after_one, put_in};
+ghost use Rattle.buffa_ext.specs.Steps.{KeepsRoom, RefusedAt, TakesMemory, after, after_one, put_in};
 ghost use Rattle.std.specs.Prelude.{◌≤◌, ◌+◌};
 ghost use Rattle.buffa_ext.specs.Changes.{change_of};
 
@@ -71,7 +71,8 @@ fn replay_one(alloc: Global, fields: &mut UnknownFields, step: Step) -> Result<(
 /// Takes the steps, or those before the first for which there is no memory.
 ///
 /// # Errors
-/// Where memory runs out: how many steps stand. It runs out at no clear, and at no set to no records.
+/// Where memory runs out: how many steps stand. It runs out at no clear, and at no set to no records. No more
+/// room is taken than the steps that stand put records in.
 pub fn replay(
     alloc: Global,
     fields: &mut UnknownFields,
@@ -82,6 +83,8 @@ pub fn replay(
     ensures err { IfErr result (λ e. fields.new.records
         ≡ after fields.old.records (take e.done (map change_of steps.items))) }
     ensures memory { IfErr result (λ e. RefusedAt e.done (map change_of steps.items)) }
+    ensures room { OnOk result (KeepsRoom (map change_of steps.items) fields.old fields.new) }
+    ensures err_room { IfErr result (λ e. KeepsRoom (take e.done (map change_of steps.items)) fields.old fields.new) }
 {
     let mut done = 0usize;
     for step in steps {

@@ -1,2 +1,3 @@
 mod OptionLemmas
 mod ListLemmas
+pub mod PinLemmas

@@ -3,6 +3,7 @@
 #![tactic(auto)]
 
 pub mod carrier;
+pub mod laws;
 pub mod options;
 pub mod price;
 pub mod rules;

@@ -1,6 +1,6 @@
+use Rattle.std.proofs.Common.{None}
 use Rattle.buffa_ext.specs.Messages.{group_refusal}
 use Rattle.buffa_ext.specs.MessageFacts.{large_refusal, small_refusal}
-use Rattle.std.proofs.Common.{None}
 use Rattle.buffa_ext.proofs.laws.messages_are_read.Goals as goal
 
 pub returns-clause-too_large : goal.returns-clause-too_large

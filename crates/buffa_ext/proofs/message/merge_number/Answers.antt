@@ -1,6 +1,5 @@
 use Rattle.std.proofs.Common.{◌∙◌, ap}
 use Rattle.buffa_wire.specs.View.{records_in}
-use Rattle.buffa_codec.specs.Reading.{HasByte}
 use Rattle.buffa_ext.proofs.Merges.{full_there, one_more, passed_over, fault_in_all, text_is_there}
 use Rattle.buffa_ext.proofs.message.merge_number.Goals.{then-field-number+in-Ok, else-field-number}
 use Rattle.buffa_ext.proofs.message.merge_number.Goals as goal
@@ -19,7 +18,7 @@ returns-in-Err-clause-text g c =
 
 pub returns-in-Err-clause-full : goal.returns-in-Err-clause-full
 returns-in-Err-clause-full g c =
-    full_there (λ d. HasByte (g.K.MessageRecord.held d)) c.in-Err.error c.args.number c.as_slice-field-items.result.now c.loop-field.field-index c.field-item.result c.args.fields.now.records c.loop-field-test.true c.field-item.is
+    full_there (g.K.MessageRecord.takes 100) c.in-Err.error c.args.number c.as_slice-field-items.result.now c.loop-field.field-index c.field-item.result c.args.fields.now.records c.loop-field-test.true c.field-item.is
     c.if-field-number.true (ap records_in c.as_slice-field-items.ensures.value ∙ c.iter.ensures) c.in-Err.ensures.full
 
 pub loop-field-preserved : goal.loop-field-preserved

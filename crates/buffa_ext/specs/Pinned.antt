@@ -1,0 +1,41 @@
+-- What the contracts of extensions leave open: nothing, but for what is said here.
+use Rattle.std.specs.Prelude.{◌≡◌, ◌≢◌, ℕ, Bool, List, [], ◌∷◌, Option, Some, None, Result, Ok, Err, option_map}
+use Rattle.std.specs.List.{filter_map}
+use Rattle.buffa_bytes.specs.declared.error.DecodeError.{DecodeError}
+use Rattle.buffa_bytes.specs.declared.error.DecodeError.TheVariants.{OutOfMemory}
+use Rattle.buffa_wire.specs.BudgetLeft.{BudgetLeft}
+use Rattle.buffa_wire.specs.Records.{Datum, Held}
+use Rattle.buffa_codec.specs.Reading.{Covers, full}
+use Rattle.buffa_ext.specs.Defaults.{IsDefaulted}
+use Rattle.buffa_ext.specs.Messages.{IsAllMerged, cost_all, texts_in}
+use Rattle.buffa_ext.specs.Steps.{IsCleared, IsSet}
+
+-- texts that are merged leave one value and one budget, and tell in one way whether there was one; and what is merged
+-- isn't refused, memory aside
+pub record MergingIsPinned {X : Type 0} (merged : X → List ℕ → Option X) (cost : List ℕ → BudgetLeft) : Type 0 where
+  pub alike : (bs : List (List ℕ)) (old new newer : X) (before left over : BudgetLeft) (f g : Bool)
+      → IsAllMerged merged cost bs old before (Ok f) new left → IsAllMerged merged cost bs old before (Ok g) newer over
+      → (f ≡ g) × (new ≡ newer) × (left ≡ over)
+  pub refused : (bs : List (List ℕ)) (old new newer : X) (before left over : BudgetLeft) (f : Bool) (e : DecodeError)
+      → IsAllMerged merged cost bs old before (Ok f) new left → IsAllMerged merged cost bs old before (Err e) newer over
+      → (e ≢ OutOfMemory) → ⊥
+
+-- where all texts are covered, a list has the value of each that means one
+abbrev pub ListIsExact : {X : Type 0} → (List Datum → List X → Type 0) → (X → List ℕ → Option X) → (List ℕ → BudgetLeft) → X → (Datum → Option (List ℕ)) → Type 0
+ListIsExact {X = X} reads merged cost blank held =
+    (ds : List Datum) (vs : List X) → Covers full (cost_all cost (texts_in held ds)) → reads ds vs → vs ≡ filter_map (merged blank) (texts_in held ds)
+
+-- a value that is read, else declared, else the blank is one, if all that may be declared is one
+abbrev pub DefaultIsPinned : {V M : Type 0} → (List Datum → Option M → Type 0) → (V → M) → M → (Option V → Type 0) → Type 0
+DefaultIsPinned {V = V} {M = M} reads meaning blank declared =
+    (ds : List Datum) (v w : V)
+    → ((o p : Option V) → declared o → declared p → option_map meaning o ≡ option_map meaning p)
+    → IsDefaulted (λ o. reads ds (option_map meaning o)) declared (meaning v ≡ blank) v
+    → IsDefaulted (λ o. reads ds (option_map meaning o)) declared (meaning w ≡ blank) w
+    → meaning v ≡ meaning w
+
+abbrev pub SetIsPinned : Type 0
+SetIsPinned = (n : ℕ) (ds : List Datum) (old a b : Held) → IsSet n ds old a → IsSet n ds old b → a.records ≡ b.records
+
+abbrev pub ClearIsPinned : Type 0
+ClearIsPinned = (n : ℕ) (old a b : Held) → IsCleared n old a → IsCleared n old b → a.records ≡ b.records

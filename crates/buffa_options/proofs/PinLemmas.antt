@@ -1,0 +1,79 @@
+-- A value is judged in one way.
+use Rattle.std.proofs.Common.{◌≡◌, ◌⊎◌, inl, inr, ℤ, Bool, true, false, Option, Some, None, IfSome, refl, sym, subst, ◌∙◌}
+use Rattle.std.specs.Int.Signed.{◌≤ℤ◌, ◌<ℤ◌, clash_ℤ}
+use Rattle.std.proofs.lemmas.Int.{by_lt_z}
+use Rattle.buffa_options.specs.Rules.{Accepts, Breaks}
+use Rattle.buffa_options.specs.Pinned.{IsJudged, NotBoth, OneViolation}
+use Rattle.buffa_options.specs.declared.rules.Rules.{Rules}
+use Rattle.buffa_options.specs.declared.rules.Violation.{Violation}
+use Rattle.buffa_options.specs.declared.rules.Violation.TheVariants.{Missing, TooSmall, TooGreat}
+
+same_some : (a b : ℤ) (o : Option ℤ) → o ≡ Some a → o ≡ Some b → a ≡ b
+same_some a b o h k = by (sym h ∙ k)
+  where
+    by : Some a ≡ Some b → a ≡ b
+    by e = cc
+
+no_value : {P : Type 0} (a : ℤ) → Some a ≡ None → P
+no_value a e = cc
+
+some_none : {P : Type 0} (a : ℤ) (o : Option ℤ) → o ≡ Some a → o ≡ None → P
+some_none a o h k = no_value a (sym h ∙ k)
+
+-- ---- a value is judged
+
+least_or : (m : Option ℤ) (v : ℤ) → IfSome m (λ least. least ≤ℤ v) ⊎ ((least : ℤ) × (m ≡ Some least) × (v <ℤ least))
+least_or None v = inl tt
+least_or (Some least) v = by_lt_z v least (λ lt. inr (least, refl, lt)) (λ le. inl le)
+
+most_or : (m : Option ℤ) (v : ℤ) → IfSome m (λ most. v ≤ℤ most) ⊎ ((most : ℤ) × (m ≡ Some most) × (most <ℤ v))
+most_or None v = inl tt
+most_or (Some most) v = by_lt_z most v (λ lt. inr (most, refl, lt)) (λ le. inl le)
+
+some_judged : (rules : Rules) (v : ℤ) → IfSome rules.min (λ least. least ≤ℤ v) ⊎ ((least : ℤ) × (rules.min ≡ Some least) × (v <ℤ least))
+    → IfSome rules.max (λ most. v ≤ℤ most) ⊎ ((most : ℤ) × (rules.max ≡ Some most) × (most <ℤ v))
+    → Accepts rules (Some v) ⊎ ((w : Violation) × Breaks rules (Some v) w)
+some_judged rules v (inr h) k = inr (TooSmall, (v, h.0, refl, h.1, h.2))
+some_judged rules v (inl h) (inr k) = inr (TooGreat, (v, k.0, refl, k.1, k.2, h))
+some_judged rules v (inl h) (inl k) = inl (h, k)
+
+none_judged : (rules : Rules) (asked : Bool) → rules.required ≡ asked → Accepts rules None ⊎ ((w : Violation) × Breaks rules None w)
+none_judged rules false e = inl e
+none_judged rules true e = inr (Missing, (refl, e))
+
+pub is_judged : IsJudged
+is_judged rules None = none_judged rules rules.required refl
+is_judged rules (Some v) = some_judged rules v (least_or rules.min v) (most_or rules.max v)
+
+-- ---- in one way
+
+not_both_of : (b : Bool) → b ≡ false → b ≡ true → ⊥
+not_both_of b h k = by (sym h ∙ k)
+  where
+    by : false ≡ true → ⊥
+    by e = cc
+
+too_small : (m : Option ℤ) (v w least : ℤ) → IfSome m (λ l. l ≤ℤ v) → m ≡ Some least → v ≡ w → w <ℤ least → ⊥
+too_small m v w least a e same lt = clash_ℤ lt (subst (λ x. least ≤ℤ x) same (subst (λ o. IfSome o (λ l. l ≤ℤ v)) e a))
+
+too_great : (m : Option ℤ) (v w most : ℤ) → IfSome m (λ l. v ≤ℤ l) → m ≡ Some most → v ≡ w → most <ℤ w → ⊥
+too_great m v w most a e same lt = clash_ℤ lt (subst (λ x. x ≤ℤ most) same (subst (λ o. IfSome o (λ l. v ≤ℤ l)) e a))
+
+pub not_both : NotBoth
+not_both rules None Missing a h = not_both_of rules.required a h.1
+not_both rules None TooSmall a h = some_none h.0 None h.2 refl
+not_both rules None TooGreat a h = some_none h.0 None h.2 refl
+not_both rules (Some v) Missing a h = some_none v (Some v) refl h.0
+not_both rules (Some v) TooSmall a h = too_small rules.min v h.0 h.1 a.0 h.3 (same_some v h.0 (Some v) refl h.2) h.4
+not_both rules (Some v) TooGreat a h = too_great rules.max v h.0 h.1 a.1 h.3 (same_some v h.0 (Some v) refl h.2) h.4
+
+pub one_violation : OneViolation
+one_violation rules o Missing Missing h k = refl
+one_violation rules o Missing TooSmall h k = some_none k.0 o k.2 h.0
+one_violation rules o Missing TooGreat h k = some_none k.0 o k.2 h.0
+one_violation rules o TooSmall Missing h k = some_none h.0 o h.2 k.0
+one_violation rules o TooSmall TooSmall h k = refl
+one_violation rules o TooSmall TooGreat h k = elim (too_small rules.min k.0 h.0 h.1 k.5 h.3 (same_some k.0 h.0 o k.2 h.2) h.4) [ ]
+one_violation rules o TooGreat Missing h k = some_none h.0 o h.2 k.0
+one_violation rules o TooGreat TooSmall h k = elim (too_small rules.min h.0 k.0 k.1 h.5 k.3 (same_some h.0 k.0 o h.2 k.2) k.4) [ ]
+one_violation rules o TooGreat TooGreat h k = refl

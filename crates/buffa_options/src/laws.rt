@@ -1,0 +1,60 @@
+//! What the definitions of options and rules say together: each law is a function with nothing to do, whose
+//! contract is the law.
+
+ghost use Rattle.std.specs.Prelude.{◌≡◌, ◌↔◌, ◌⊎◌, ℕ, ℤ, List, [], ◌∷◌, FitsSigned, Option, Some, codes, map, option_map};
+ghost use Rattle.std.specs.Prelude.{pos};
+ghost use Rattle.std.specs.Int.{w64};
+ghost use Rattle.buffa_bytes.specs.Scalars.{sint64_of, sint64_text, zigzag};
+ghost use Rattle.buffa_bytes.specs.declared.wire_type.WireType.TheVariants.{Varint};
+ghost use Rattle.buffa_wire.specs.BudgetLeft.{BudgetLeft};
+ghost use Rattle.buffa_wire.specs.Found.{varint_in};
+ghost use Rattle.buffa_wire.specs.Records.{Datum, Held, varint};
+ghost use Rattle.buffa_codec.specs.Packed.{numbers_in};
+ghost use Rattle.buffa_codec.specs.Reading.{last_read};
+ghost use Rattle.buffa_options.specs.Pinned.{IsJudged, OneViolation, NotBoth};
+ghost use Rattle.buffa_options.specs.declared.carrier.Carrier.{Carrier};
+ghost use Rattle.buffa_options.specs.declared.options.FieldOptions.{FieldOptions};
+ghost use Rattle.buffa_options.specs.declared.price.Price.{Price};
+
+use crate::carrier::Carrier;
+use crate::options::FieldOptions;
+use crate::price::{Price, PriceCodec};
+use buffa_codec::{ExtensionCodec, PackableCodec, SingularCodec};
+use buffa_ext::ExtensionSet;
+use buffa_wire::Blank;
+
+/// A value is accepted, or it breaks a rule, and not both; and the rule that is told is one.
+///
+/// Nothing is left open.
+pub fn judgements_are_pinned()
+    ensures judged { IsJudged }
+    ensures either { NotBoth }
+    ensures told { OneViolation }
+{}
+
+/// A price is read and written as a `sint64`, in lists too, packed or not.
+pub fn prices_are_sint64()
+    ensures meaning { (p : Price) → ⟦<Price as Blank>⟧.meaning p ≡ p.cents }
+    ensures blank { ⟦<Price as Blank>⟧.blank_is ≡ pos 0 }
+    ensures reads { (ds : List Datum) (o : Option ℤ) → ⟦<PriceCodec as ExtensionCodec>⟧.reads ds o
+        ↔ (o ≡ last_read (λ d. option_map sint64_of (varint_in d)) ds) }
+    ensures records { (v : ℤ) → ⟦<PriceCodec as ExtensionCodec>⟧.recs v ≡ varint (zigzag v) ∷ [] }
+    ensures holds { (v : ℤ) (o : Option ℤ) → ⟦<PriceCodec as ExtensionCodec>⟧.holds v o ↔ (o ≡ Some v) }
+    ensures one { (n : ℕ) (b : BudgetLeft) (d : Datum) → ⟦<PriceCodec as SingularCodec>⟧.one n b d
+        ≡ option_map sint64_of (varint_in d) }
+    ensures packed { (bs : List ℕ) → ⟦<PriceCodec as SingularCodec>⟧.packed bs ≡ map sint64_of (numbers_in Varint bs) }
+    ensures text { (v : ℤ) → ⟦<PriceCodec as SingularCodec>⟧.text v ≡ varint (zigzag v) }
+    ensures packed_text { (v : ℤ) → ⟦<PriceCodec as PackableCodec>⟧.packed_text v ≡ sint64_text v }
+    ensures back { (v : ℤ) → ⟦<PriceCodec as SingularCodec>⟧.back v ≡ v }
+    ensures fits { (v : ℤ) → ⟦<PriceCodec as SingularCodec>⟧.fits v ↔ FitsSigned w64 v }
+{}
+
+/// What lends its unknown fields to extensions: under which name, which list, and what stays when it changes.
+pub fn holders_are_these()
+    ensures options { ⟦<FieldOptions as ExtensionSet>⟧.fqn ≡ codes "google.protobuf.FieldOptions" }
+    ensures fields { (m : FieldOptions) → ⟦<FieldOptions as ExtensionSet>⟧.fields_of m ≡ m.fields }
+    ensures declared { (m : FieldOptions) (w : Held) →
+        (⟦<FieldOptions as ExtensionSet>⟧.with_fields m w).deprecated ≡ m.deprecated }
+    ensures carrier { ⟦<Carrier as ExtensionSet>⟧.fqn ≡ codes "test.Carrier" }
+    ensures records { (m : Carrier) → ⟦<Carrier as ExtensionSet>⟧.fields_of m ≡ m.fields }
+{}
