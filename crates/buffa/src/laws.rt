@@ -1,16 +1,17 @@
 //! What the definitions say together, one function a law: it has nothing to do, and its contract is the law.
 //! The numbers are names, which stay.
 
-ghost use Rattle.std.specs.Prelude.{◌≡◌, ◌≢◌, ◌↔◌, [], ◌∷◌, ℕ, List, ℤ, Bool, Ok, Err};
+ghost use Rattle.std.specs.Prelude.{◌≡◌, ◌≢◌, ◌↔◌, [], ◌∷◌, ℕ, List, ℤ, Bool, Ok, Err, Option, Some, map};
 ghost use Rattle.buffa_bytes.specs.declared.error.DecodeError.{DecodeError};
 ghost use Rattle.buffa_bytes.specs.declared.error.DecodeError.TheVariants.{OutOfMemory};
 ghost use Rattle.buffa_bytes.specs.declared.wire_type.WireType.TheVariants.{EndGroup, LengthDelimited};
 ghost use Rattle.buffa_bytes.specs.declared.wire_type.WireType.TheVariants.{StartGroup, Varint};
 ghost use Rattle.buffa_wire.specs.Values.{tag_text};
 ghost use Rattle.buffa_wire.specs.Enums.{open_number};
-ghost use Rattle.buffa_codec.specs.Reading.{LaterWins, ReadAlike, ReadingsJoin, full};
-ghost use Rattle.buffa_codec.specs.Through.{LastThrough, ListsThrough};
-ghost use Rattle.buffa_ext.specs.Steps.{ClearsAreOne, LeavesOthers, SecondCounts, StandsLast};
+ghost use Rattle.buffa_codec.specs.Reading.{LaterReadingsWin, ReadAlike, ReadingsJoin};
+ghost use Rattle.buffa_codec.specs.Through.{ListsThrough, ReadsThrough, WritesThrough};
+ghost use Rattle.buffa_ext.specs.Steps.{ClearsAreOne, IsExactlySet, KeepsTheRest, LeavesOthers, SecondCounts};
+ghost use Rattle.buffa_ext.specs.Steps.{StandsLast, TakesOut, TakesThePlace};
 ghost use Rattle.buffa_map.specs.Laws.{RewriteMeans, RunsJoin, SizeIsLength};
 ghost use Rattle.buffa_map.specs.Scalars.{delimited_writing};
 ghost use Rattle.buffa.specs.Item.{IsTypeId, Item, ItemFault, NoOtherFront, OneItem, TakesItem, WrittenIsItem};
@@ -61,9 +62,9 @@ pub fn law_1<
 /// What records and then more records are read as is what the later ones are, or where they are read as
 /// nothing, what the earlier ones are. It holds of the codecs of scalars, enums, strings and bytes.
 pub fn law_2<C: LastWins>()
-    ensures { LaterWins (C.one 100 full) }
+    ensures { LaterReadingsWin ⟦<C as ExtensionCodec>⟧.reads }
 {
-    buffa_codec::laws::later_records_win::<C>();
+    buffa_codec::laws::later_readings_win::<C>();
 }
 
 /// The values of joined records of a repeated extension are the joined values.
@@ -83,19 +84,29 @@ pub fn law_4<C: PackableCodec>()
 }
 
 /// A set of a number leaves the records of every other number, and the new records stand last.
+///
+/// Then the number's records hold what was set; all others stand as they were, in order. No other list is so.
 pub fn law_5()
     ensures others { LeavesOthers }
     ensures last { StandsLast }
+    ensures place { TakesThePlace }
+    ensures rest { KeepsTheRest }
+    ensures exactly { IsExactlySet }
 {
     buffa_ext::laws::sets_leave_others();
+    buffa_ext::laws::sets_take_the_place();
 }
 
 /// Two sets of a number are the second one, and two clears are one.
+///
+/// A clear leaves the one list without records of the number in which all others stand as they were.
 pub fn law_6()
     ensures sets { SecondCounts }
     ensures clears { ClearsAreOne }
+    ensures out { TakesOut }
 {
     buffa_ext::laws::last_set_counts();
+    buffa_ext::laws::clears_take_out();
 }
 
 /// A value of a codec of one value has a record, and an empty list has none.
@@ -162,15 +173,21 @@ pub fn law_12<KC: MapCodec>()
 ///
 /// So it is in lists too, packed or not; and a value that is set comes back as its `normal` one.
 pub fn law_13<E: Enumeration>()
-    ensures one { LastThrough (open_number E.of_number) (⟦<Int32 as SingularCodec>⟧.one 100 full)
-        (⟦<EnumCodec<E> as SingularCodec>⟧.one 100 full) }
+    ensures reads { ReadsThrough (open_number E.of_number) ⟦<Int32 as ExtensionCodec>⟧.reads
+        ⟦<EnumCodec<E> as ExtensionCodec>⟧.reads }
     ensures lists { ListsThrough (open_number E.of_number) ⟦<Repeated<Int32> as ExtensionCodec>⟧.reads
         ⟦<Repeated<EnumCodec<E>> as ExtensionCodec>⟧.reads }
     ensures packed { ListsThrough (open_number E.of_number) ⟦<PackedRepeated<Int32> as ExtensionCodec>⟧.reads
         ⟦<PackedRepeated<EnumCodec<E>> as ExtensionCodec>⟧.reads }
-    ensures records { (v : Bool × ℤ) → ⟦<EnumCodec<E> as ExtensionCodec>⟧.recs v
-        ≡ ⟦<Int32 as ExtensionCodec>⟧.recs v.1 }
-    ensures normal { (v : Bool × ℤ) → ⟦<EnumCodec<E> as SingularCodec>⟧.back v ≡ open_number E.of_number v.1 }
+    ensures records { WritesThrough (λ v. v.1) ⟦<Int32 as ExtensionCodec>⟧.recs ⟦<EnumCodec<E> as ExtensionCodec>⟧.recs }
+    ensures list_records { WritesThrough (map (λ v. v.1)) ⟦<Repeated<Int32> as ExtensionCodec>⟧.recs
+        ⟦<Repeated<EnumCodec<E>> as ExtensionCodec>⟧.recs }
+    ensures packed_records { WritesThrough (map (λ v. v.1)) ⟦<PackedRepeated<Int32> as ExtensionCodec>⟧.recs
+        ⟦<PackedRepeated<EnumCodec<E>> as ExtensionCodec>⟧.recs }
+    ensures holds { (v : Bool × ℤ) (o : Option (Bool × ℤ)) → ⟦<EnumCodec<E> as ExtensionCodec>⟧.holds v o
+        ↔ (o ≡ Some (open_number E.of_number v.1)) }
+    ensures list_holds { (vs os : List (Bool × ℤ)) → ⟦<Repeated<EnumCodec<E>> as ExtensionCodec>⟧.holds vs os
+        ↔ (os ≡ map (λ v. open_number E.of_number v.1) vs) }
 {
     buffa_codec::laws::enums_are_read_as_numbers::<E>();
 }
