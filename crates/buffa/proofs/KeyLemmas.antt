@@ -1,9 +1,9 @@
 -- A put into pairs, of which one has the key.
-use Rattle.std.proofs.Common.{◌≡◌, Bool, false, true, List, [], ◌∷◌, Some, refl, sym, ap, ◌∙◌, arith, cond}
+use Rattle.std.proofs.Common.{◌≡◌, Bool, false, true, List, [], ◌∷◌, Some, refl, sym, ◌∙◌, arith}
 use Rattle.std.specs.Cmp.{IsEquivalence}
 use Rattle.std.specs.Map.{keys_of, lookup_entry}
 use Rattle.buffa_map.specs.Pairs.{put}
-use Rattle.buffa_map.proofs.PutLemmas.{key_or, lookup_entry-put}
+use Rattle.buffa_map.proofs.PutLemmas.{lookup_entry-put}
 use Rattle.buffa.specs.Keys.{KeepsStoredKeys}
 
 module _ {K V : Type 0} (eq : K → K → Bool) (k : K) (v : V) (e : K × V) where
