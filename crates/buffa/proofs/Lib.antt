@@ -1,4 +1,5 @@
 pub mod ItemLemmas
 pub mod ItemTextLemmas
 pub mod KeyLemmas
+pub mod PinLemmas
 pub mod SlotLemmas

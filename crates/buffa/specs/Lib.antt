@@ -1,3 +1,4 @@
 pub mod Item
 pub mod Keys
+pub mod Pinned
 pub mod Slots

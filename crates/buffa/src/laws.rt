@@ -1,21 +1,23 @@
 //! What the definitions say together, one function a law: it has nothing to do, and its contract is the law.
 //! The numbers are names, which stay.
 
-ghost use Rattle.std.specs.Prelude.{◌≡◌, ◌≢◌, ◌↔◌, [], ◌∷◌, ℕ, List, ℤ, Bool, Ok, Err};
+ghost use Rattle.std.specs.Prelude.{◌≡◌, ◌≢◌, ◌↔◌, [], ◌∷◌, ℕ, List, ℤ, Bool, Ok, Err, Option, Some, map};
 ghost use Rattle.buffa_bytes.specs.declared.error.DecodeError.{DecodeError};
 ghost use Rattle.buffa_bytes.specs.declared.error.DecodeError.TheVariants.{OutOfMemory};
 ghost use Rattle.buffa_bytes.specs.declared.wire_type.WireType.TheVariants.{EndGroup, LengthDelimited};
 ghost use Rattle.buffa_bytes.specs.declared.wire_type.WireType.TheVariants.{StartGroup, Varint};
 ghost use Rattle.buffa_wire.specs.Values.{tag_text};
 ghost use Rattle.buffa_wire.specs.Enums.{open_number};
-ghost use Rattle.buffa_codec.specs.Reading.{LaterWins, ReadAlike, ReadingsJoin, full};
-ghost use Rattle.buffa_codec.specs.Through.{LastThrough, ListsThrough};
-ghost use Rattle.buffa_ext.specs.Steps.{ClearsAreOne, LeavesOthers, SecondCounts, StandsLast};
+ghost use Rattle.buffa_codec.specs.Reading.{LaterReadingsWin, ReadAlike, ReadingsJoin};
+ghost use Rattle.buffa_codec.specs.Through.{ListsThrough, ReadsThrough, WritesThrough};
+ghost use Rattle.buffa_ext.specs.Steps.{ClearsAreOne, IsExactlySet, KeepsTheRest, LeavesOthers, SecondCounts};
+ghost use Rattle.buffa_ext.specs.Steps.{StandsLast, TakesOut, TakesThePlace};
 ghost use Rattle.buffa_map.specs.Laws.{RewriteMeans, RunsJoin, SizeIsLength};
 ghost use Rattle.buffa_map.specs.Scalars.{delimited_writing};
 ghost use Rattle.buffa.specs.Item.{IsTypeId, Item, ItemFault, NoOtherFront, OneItem, TakesItem, WrittenIsItem};
 ghost use Rattle.buffa.specs.Item.{body_text, item_at, item_text};
 ghost use Rattle.buffa.specs.Keys.{KeepsStoredKeys};
+ghost use Rattle.buffa.specs.Pinned.{ItemIsPinned, WrittenItemIsPinned};
 ghost use Rattle.buffa.specs.Slots.{SlotsAreLengths};
 
 use crate::message_set::{ITEM_END_TAG, ITEM_START_TAG, MESSAGE_TAG, TYPE_ID_TAG};
@@ -25,7 +27,21 @@ use buffa_codec::{
 use buffa_ext::{MessageIn, MessageRecord};
 use buffa_map::map_codec::{MapCodec, MapStorage, MapValueDecode};
 use buffa_wire::scalars::Int32;
-use buffa_wire::{Enumeration, Message, MessageSpec};
+use buffa_wire::{Blank, Enumeration, MapKey, Message, MessageSpec};
+use indexmap::IndexMap;
+use std::collections::{BTreeMap, HashMap};
+use std::hash::{BuildHasher, Hash};
+
+/// Laws of bytes: varints, tags, fields, scalars and texts.
+pub use buffa_bytes::laws as fields;
+/// Laws of codecs of extensions: scalars, texts, enums and lists.
+pub use buffa_codec::laws as extension_codecs;
+/// Laws of sets and clears of extensions, and of messages in them.
+pub use buffa_ext::laws as extensions;
+/// Laws of map fields: codecs, entries, runs, sizes, texts and rewrites.
+pub use buffa_map::laws as map_fields;
+/// Laws of records of unknown fields.
+pub use buffa_wire::laws as records;
 
 /// Two runs of a map field, one after the other, are a run of the entries of both.
 ///
@@ -46,9 +62,9 @@ pub fn law_1<
 /// What records and then more records are read as is what the later ones are, or where they are read as
 /// nothing, what the earlier ones are. It holds of the codecs of scalars, enums, strings and bytes.
 pub fn law_2<C: LastWins>()
-    ensures { LaterWins (C.one 100 full) }
+    ensures { LaterReadingsWin ⟦<C as ExtensionCodec>⟧.reads }
 {
-    buffa_codec::laws::later_records_win::<C>();
+    buffa_codec::laws::later_readings_win::<C>();
 }
 
 /// The values of joined records of a repeated extension are the joined values.
@@ -68,19 +84,29 @@ pub fn law_4<C: PackableCodec>()
 }
 
 /// A set of a number leaves the records of every other number, and the new records stand last.
+///
+/// Then the number's records hold what was set; all others stand as they were, in order. No other list is so.
 pub fn law_5()
     ensures others { LeavesOthers }
     ensures last { StandsLast }
+    ensures place { TakesThePlace }
+    ensures rest { KeepsTheRest }
+    ensures exactly { IsExactlySet }
 {
     buffa_ext::laws::sets_leave_others();
+    buffa_ext::laws::sets_take_the_place();
 }
 
 /// Two sets of a number are the second one, and two clears are one.
+///
+/// A clear leaves the one list without records of the number in which all others stand as they were.
 pub fn law_6()
     ensures sets { SecondCounts }
     ensures clears { ClearsAreOne }
+    ensures out { TakesOut }
 {
     buffa_ext::laws::last_set_counts();
+    buffa_ext::laws::clears_take_out();
 }
 
 /// A value of a codec of one value has a record, and an empty list has none.
@@ -112,9 +138,15 @@ pub fn law_9<KC: MapCodec, M: MessageSpec>()
     ensures { SlotsAreLengths KC.writing M.text M.slots }
 {}
 
-/// A put keeps the stored key of a pair that is there, and every other key.
-pub fn law_10<C: MapStorage>()
-    ensures { KeepsStoredKeys C.Value.Meaning C.equal }
+/// A put keeps the stored key of a pair that is there, and every other pair.
+///
+/// It holds of whatever pairs an insertion into a storage may leave. Two keys are one key of our maps where the
+/// key's type says so.
+pub fn law_10<K: MapKey + Ord + Hash, V: Blank, S: BuildHasher, C: MapStorage>()
+    ensures keys { KeepsStoredKeys C.Value.Meaning C.equal }
+    ensures ordered { ⟦<BTreeMap<K, V> as MapStorage>⟧.equal ≡ K.same }
+    ensures hashed { ⟦<HashMap<K, V, S> as MapStorage>⟧.equal ≡ K.same }
+    ensures indexed { ⟦<IndexMap<K, V, S> as MapStorage>⟧.equal ≡ K.same }
 {}
 
 /// A written Item is an Item with its number and its message, and nothing else that begins it is one.
@@ -141,15 +173,21 @@ pub fn law_12<KC: MapCodec>()
 ///
 /// So it is in lists too, packed or not; and a value that is set comes back as its `normal` one.
 pub fn law_13<E: Enumeration>()
-    ensures one { LastThrough (open_number E.of_number) (⟦<Int32 as SingularCodec>⟧.one 100 full)
-        (⟦<EnumCodec<E> as SingularCodec>⟧.one 100 full) }
+    ensures reads { ReadsThrough (open_number E.of_number) ⟦<Int32 as ExtensionCodec>⟧.reads
+        ⟦<EnumCodec<E> as ExtensionCodec>⟧.reads }
     ensures lists { ListsThrough (open_number E.of_number) ⟦<Repeated<Int32> as ExtensionCodec>⟧.reads
         ⟦<Repeated<EnumCodec<E>> as ExtensionCodec>⟧.reads }
     ensures packed { ListsThrough (open_number E.of_number) ⟦<PackedRepeated<Int32> as ExtensionCodec>⟧.reads
         ⟦<PackedRepeated<EnumCodec<E>> as ExtensionCodec>⟧.reads }
-    ensures records { (v : Bool × ℤ) → ⟦<EnumCodec<E> as ExtensionCodec>⟧.recs v
-        ≡ ⟦<Int32 as ExtensionCodec>⟧.recs v.1 }
-    ensures normal { (v : Bool × ℤ) → ⟦<EnumCodec<E> as SingularCodec>⟧.back v ≡ open_number E.of_number v.1 }
+    ensures records { WritesThrough (λ v. v.1) ⟦<Int32 as ExtensionCodec>⟧.recs ⟦<EnumCodec<E> as ExtensionCodec>⟧.recs }
+    ensures list_records { WritesThrough (map (λ v. v.1)) ⟦<Repeated<Int32> as ExtensionCodec>⟧.recs
+        ⟦<Repeated<EnumCodec<E>> as ExtensionCodec>⟧.recs }
+    ensures packed_records { WritesThrough (map (λ v. v.1)) ⟦<PackedRepeated<Int32> as ExtensionCodec>⟧.recs
+        ⟦<PackedRepeated<EnumCodec<E>> as ExtensionCodec>⟧.recs }
+    ensures holds { (v : Bool × ℤ) (o : Option (Bool × ℤ)) → ⟦<EnumCodec<E> as ExtensionCodec>⟧.holds v o
+        ↔ (o ≡ Some (open_number E.of_number v.1)) }
+    ensures list_holds { (vs os : List (Bool × ℤ)) → ⟦<Repeated<EnumCodec<E>> as ExtensionCodec>⟧.holds vs os
+        ↔ (os ≡ map (λ v. open_number E.of_number v.1) vs) }
 {
     buffa_codec::laws::enums_are_read_as_numbers::<E>();
 }
@@ -167,6 +205,21 @@ pub fn items_are_read()
 /// No Item is a proper beginning of another, and bytes are an Item in one way.
 pub fn no_item_begins_another()
     ensures { OneItem }
+{}
+
+/// Bytes, a depth and a budget have one answer as an Item, and leave one budget.
+///
+/// What is left open: after a refusal, how much stays unread (an end of what was there, and all of it where no slot
+/// was left); and where memory runs out, which is told only where message bytes are there.
+pub fn items_are_pinned()
+    ensures { ItemIsPinned }
+{}
+
+/// A type id and a message are written in one way, and no others have that text.
+///
+/// What is left open: where memory runs out, how much of the text stands.
+pub fn written_items_are_pinned()
+    ensures { WrittenItemIsPinned }
 {}
 
 /// The four tags of an Item, each of which has one byte.

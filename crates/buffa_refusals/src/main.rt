@@ -1,7 +1,10 @@
-// Sets an extension beside a thousand groups, then merges entries into a map that has their key, and says when:
-// `tests/requests.py` counts what memory that asks for.
+// Sets an extension beside a thousand groups, then merges entries into a map that has their key, then reads lengths of
+// 2^30 with nothing behind them, and says when: `tests/requests.py` counts what memory that asks for.
 #![tactic(auto)]
 
+mod lengths;
+
+use crate::lengths::{are_refused, extended};
 use buffa_ext::{Extension, ExtensionSet};
 use buffa_map::map_codec::{Int32 as Int32Entry, merge_entry, merge_entry_with_unknowns};
 use buffa_options::Carrier;
@@ -101,6 +104,9 @@ fn main(rt: HostRuntime) -> ExitCode {
     let Ok(_) = map.insert(5, 0) else {
         return ExitCode::from(4);
     };
+    let Ok(carrier) = extended(alloc) else {
+        return ExitCode::from(4);
+    };
     if out.write_all(b"pair\n").is_err() {
         return ExitCode::from(3);
     }
@@ -109,7 +115,13 @@ fn main(rt: HostRuntime) -> ExitCode {
     {
         return ExitCode::from(5);
     }
-    match out.write_all(b"merged\n") {
+    if out.write_all(b"merged\n").is_err() {
+        return ExitCode::from(3);
+    }
+    if !are_refused(alloc, &carrier) {
+        return ExitCode::from(5);
+    }
+    match out.write_all(b"lengths\n") {
         Ok(()) => ExitCode::from(0),
         Err(_) => ExitCode::from(3),
     }

@@ -5,8 +5,9 @@ ghost use Rattle.std.specs.Prelude.{codes, refl};
 use crate::extension::codecs::{Int32, Repeated, StringCodec};
 use crate::extension::{Extension, ExtensionSet};
 use crate::map_codec::{self, field_len, merge_entry, write_field};
-use crate::{Budget, DecodeContext, Map, MapStorage, RECURSION_LIMIT, UnknownFields};
+use crate::{Budget, DecodeContext, Map, MapStorage, RECURSION_LIMIT, UnknownFields, laws};
 use std::alloc::Global;
+use std::hash::RandomState;
 use std::test::Fail;
 
 // A message of nothing but extensions.
@@ -82,6 +83,20 @@ fn extensions_are_read_by_their_number(rt: HostRuntime) -> Result<(), Fail> {
         assert!(rt; holds(rt.alloc(), row)?);
     }
     Ok(())
+}
+
+#[test]
+fn laws_of_the_crates_below_are_named(_rt: HostRuntime) {
+    laws::fields::constants();
+    laws::records::constants();
+    laws::extension_codecs::scalars_are_read();
+    laws::extensions::last_set_counts();
+    laws::map_fields::scalars_cost_so_much();
+    laws::law_2::<Int32>();
+    laws::law_5();
+    laws::law_10::<i32, i32, RandomState, Map<i32, i32>>();
+    laws::items_are_pinned();
+    laws::written_items_are_pinned();
 }
 
 #[test]
