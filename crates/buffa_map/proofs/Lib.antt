@@ -23,3 +23,5 @@ pub mod RewriteCallLemmas
 pub mod PlainLemmas
 pub mod WalkLemmas
 pub mod PinLemmas
+pub mod PinTextLemmas
+pub mod OrderedLemmas

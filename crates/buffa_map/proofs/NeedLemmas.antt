@@ -203,13 +203,14 @@ module _ {K V : Type 0} (key : Reading K) (val : Reading V) (d : ℕ) where
     field_fair s bs f (inr (inr (inr (n, w, rest, not_one, not_two, t, h)))) = payload_no_limit d n w rest f h
 
     pub entry_fair : (cost slot : ℕ) (left : BudgetLeft) (bs : List ℕ) (f : DecodeError) → EntryFault key val d cost slot left bs f → IsLimit f →
-        (e : List ℕ) × (rest : List ℕ) × TakesDelimited bs e rest × Lacks left (plus (need_of key val d cost e) (slots slot))
+        (e : List ℕ) × (rest : List ℕ) × TakesDelimited bs e rest × (Lacks left (need_of key val d cost e)
+        ⊎ ((s : MapEntry K V) × IsEntry key val d e s × (s.known ≡ false) × Lacks left (plus (need_of key val d cost e) (slots slot))))
     entry_fair cost slot left bs f (inl h) l = absurd (length_no_limit bs f h l)
-    entry_fair cost slot left bs f (inr (t, e, rest, v, is, inl h)) l = (e, rest, (t, v, is), inr (omega (arith, h.0)))
-    entry_fair cost slot left bs f (inr (t, e, rest, v, is, inr (many, inl (inl few)))) l = (e, rest, (t, v, is), inl (omega (arith, few)))
-    entry_fair cost slot left bs f (inr (t, e, rest, v, is, inr (many, inl (inr few)))) l = (e, rest, (t, v, is), inr (omega (arith, few)))
+    entry_fair cost slot left bs f (inr (t, e, rest, v, is, inl h)) l = (e, rest, (t, v, is), inl (inr (omega (arith, h.0))))
+    entry_fair cost slot left bs f (inr (t, e, rest, v, is, inr (many, inl (inl few)))) l = (e, rest, (t, v, is), inl (inl (omega (arith, few))))
+    entry_fair cost slot left bs f (inr (t, e, rest, v, is, inr (many, inl (inr few)))) l = (e, rest, (t, v, is), inl (inr (omega (arith, few))))
     entry_fair cost slot left bs f (inr (t, e, rest, v, is, inr (many, inr (inl h)))) l = absurd (field_fair h.0 h.1 f h.4 l)
-    entry_fair cost slot left bs f (inr (t, e, rest, v, is, inr (many, inr (inr h)))) l = (e, rest, (t, v, is), inl h.3)
+    entry_fair cost slot left bs f (inr (t, e, rest, v, is, inr (many, inr (inr h)))) l = (e, rest, (t, v, is), inr (h.0, h.1, h.2, inl h.3))
 
   -- ---- where no payload is nested, nothing is needed
   module _ (key_free : key.nested ≡ false → (d : ℕ) (c : Content) → key.cost d c ≡ nothing) (val_free : val.nested ≡ false → (d : ℕ) (c : Content) → val.cost d c ≡ nothing) where

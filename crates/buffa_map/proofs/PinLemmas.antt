@@ -83,14 +83,14 @@ module _ {K V : Type 0} (key : Reading K) (val : Reading V) (d n cost slot : ℕ
 
   -- ---- runs
 
-  run_one : (bs : List ℕ) (es fs : List (EntryRecord K V)) → Run key val d n bs es → Run key val d n bs fs → es ≡ fs
+  pub run_one : (bs : List ℕ) (es fs : List (EntryRecord K V)) → Run key val d n bs es → Run key val d n bs fs → es ≡ fs
   run_one bs es fs h k =
       let a = inner_needs key val d es in
       let b = inner_needs key val d fs in
       let both : BudgetLeft = plus a b in
       ap (λ z. z.0) (ok_same (sym (run_complete key val d n 0 0 key_free val_free both bs es b h (omega arith, omega arith)) ∙ run_complete key val d n 0 0 key_free val_free both bs fs a k (omega arith, omega arith)))
 
-  one_over : (left a b : BudgetLeft) (es fs : List (EntryRecord K V)) → es ≡ fs → Paid key val d cost slot left es a → Paid key val d cost slot left fs b → a ≡ b
+  pub one_over : (left a b : BudgetLeft) (es fs : List (EntryRecord K V)) → es ≡ fs → Paid key val d cost slot left es a → Paid key val d cost slot left fs b → a ≡ b
   one_over left a b es fs e h k =
       let paid = subst (λ z. Paid key val d cost slot left z b) (sym e) k in
       one_left a b (omega (arith, h.1, paid.1)) (omega (arith, h.0, paid.0))
@@ -210,7 +210,7 @@ module _ {K V : Type 0} (r : Rules K V)
     l ∙ ap (λ z. old.records ++ added r.adds r.number z) e ∙ sym m,
   )
 
-  fault_of : (old : State K V) (bs : List ℕ) (a : State K V) (x : List ℕ) (f : DecodeError) → StopsRun r old bs a x f → f ≢ OutOfMemory → RunFault r.key r.val r.depth r.number r.cost r.slot old.left bs f
+  pub fault_of : (old : State K V) (bs : List ℕ) (a : State K V) (x : List ℕ) (f : DecodeError) → StopsRun r old bs a x f → f ≢ OutOfMemory → RunFault r.key r.val r.depth r.number r.cost r.slot old.left bs f
   fault_of old bs a x f h ne = (h.entries, h.rest, h.over, h.begins, h.some, h.fault ne)
 
   module _ (old : State K V) (bs : List ℕ) (a b : State K V) (x y : List ℕ) (f g : DecodeError)

@@ -1,5 +1,5 @@
 -- Records written one after another.
-use Rattle.std.proofs.Common.{◌≡◌, ℕ, ◌+◌, ◌^◌, ◌<◌, ◌≤◌, List, [], ◌∷◌, ◌++◌, length, arith, Result, Err, refl, sym, ap, subst, ◌∙◌, append_assoc, append-nil, length-append}
+use Rattle.std.proofs.Common.{◌≡◌, ℕ, ◌+◌, ◌^◌, ◌<◌, ◌≤◌, List, [], ◌∷◌, ◌++◌, length, arith, Result, Err, inl, inr, refl, sym, ap, subst, ◌∙◌, append_assoc, append-nil, length-append}
 use Rattle.std.proofs.lemmas.Result.{MatchResult-weaker}
 use Rattle.buffa_wire.specs.Varint.{varint_text}
 use Rattle.buffa_wire.specs.Values.{tag_text}
@@ -31,10 +31,10 @@ module _ {K W : Type 0} (key : Writing K) (val : Writing W) (n : ℕ) where
   record_whole p len e = ap (λ k. (tag_text n LengthDelimited ++ varint_text k) ++ entry_text key val p) e ∙ append_assoc (tag_text n LengthDelimited) (varint_text (length (entry_text key val p))) (entry_text key val p)
 
   -- a refusal of the head, as `?` hands it on
-  pub head_refused : {T : Type 0} {r : Result T EncodeError} {e d : EncodeError} → r ≡ Err e → e ≡ d → (old new : List ℕ) (p : K × W) (len : ℕ) → len ≡ length (entry_text key val p) →
+  pub head_refused : {T : Type 0} {r : Result T EncodeError} {e d : EncodeError} → r ≡ Err e → e ≡ d → (old new : List ℕ) (p : K × W) (len : ℕ) → len ≡ length (entry_text key val p) → length (entry_text key val p) < 2 ^ 64 →
       (d ≡ OutOfMemory) × WritesFront old (tag_text n LengthDelimited ++ varint_text len) new → WritesRecord key val n old new r p
-  head_refused is same old new p len l w =
-      rw (is, same, w.0) (subst (λ z. WritesFront old z new) (record_whole p len l) (front_first old (tag_text n LengthDelimited ++ varint_text len) (entry_text key val p) new w.1))
+  head_refused is same old new p len l fits w =
+      rw (is, same, w.0) (fits, subst (λ z. WritesFront old z new) (record_whole p len l) (front_first old (tag_text n LengthDelimited ++ varint_text len) (entry_text key val p) new w.1))
 
   -- the room of a record, whose head was refused, or written
   pub head_no_room : {T : Type 0} {r : Result T EncodeError} {e : EncodeError} → r ≡ Err e → (room left : ℕ) (p : K × W) (len : ℕ) → len ≡ length (entry_text key val p) →
@@ -52,7 +52,7 @@ module _ {K W : Type 0} (key : Writing K) (val : Writing W) (n : ℕ) where
       mid ≡ old ++ (tag_text n LengthDelimited ++ varint_text len) → Writes r mid (entry_text key val p) new → WritesRecord key val n old new r p
   entry_written r old mid new p len l fits m h = MatchResult-weaker r h
       (λ x w. (fits, w ∙ ap (λ z. z ++ entry_text key val p) m ∙ append_assoc old (tag_text n LengthDelimited ++ varint_text len) (entry_text key val p) ∙ ap (λ z. old ++ z) (record_whole p len l)))
-      (λ e w. subst (RefusesRecord key val n old new p) (sym w.0) (subst (λ z. WritesFront old z new) (record_whole p len l) (front_second old (tag_text n LengthDelimited ++ varint_text len) (entry_text key val p) mid new m w.1)))
+      (λ e w. subst (RefusesRecord key val n old new p) (sym w.0) (fits, subst (λ z. WritesFront old z new) (record_whole p len l) (front_second old (tag_text n LengthDelimited ++ varint_text len) (entry_text key val p) mid new m w.1)))
 
   pub field_text-append : (ps rs : List (K × W)) → field_text key val n (ps ++ rs) ≡ field_text key val n ps ++ field_text key val n rs
   field_text-append [] rs = refl
@@ -83,10 +83,7 @@ module _ {K W : Type 0} (key : Writing K) (val : Writing W) (n : ℕ) where
 
   refused : (old mid new : List ℕ) (all done : List (K × W)) (p : K × W) (rest : List (K × W)) → all ≡ done ++ p ∷ rest → HasText key val done → mid ≡ old ++ field_text key val n done →
       (e : EncodeError) → RefusesRecord key val n mid new p e → RefusesField key val n old new all e
-  refused old mid new all done p rest is has m OutOfMemory w =
-      let first : WritesFront mid (record_text key val n p ++ field_text key val n rest) new = front_first mid (record_text key val n p) (field_text key val n rest) new w in
-      let whole : field_text key val n done ++ (record_text key val n p ++ field_text key val n rest) ≡ field_text key val n all = sym (ap (field_text key val n) is ∙ field_text-append done (p ∷ rest)) in
-      subst (λ z. WritesFront old z new) whole (front_second old (field_text key val n done) (record_text key val n p ++ field_text key val n rest) mid new m first)
+  refused old mid new all done p rest is has m OutOfMemory w = (done, p, rest, is, has, w.0, subst (λ z. WritesFront z (record_text key val n p) new) m w.1)
   refused old mid new all done p rest is has m MessageTooLarge w = (done, p, rest, is, has, w.0, w.1 ∙ m)
   refused old mid new all done p rest is has m (GroupRefused e) w = absurd w
 
@@ -138,7 +135,7 @@ module _ {K W A B : Type 0} (mk : A → K) (mv : B → W) (key : Writing K) (val
 -- ---- a map, and kept records behind it
 module _ {K W : Type 0} (key : Writing K) (val : Writing W) (n : ℕ) (kept : List (ℕ × Datum)) where
   rewrite_stops : (old new : List ℕ) (l : List (K × W)) (e : EncodeError) → RefusesField key val n old new l e → RefusesRewrite key val n kept old new l e
-  rewrite_stops old new l OutOfMemory w = front_first old (field_text key val n l) (records.records_text kept) new w
+  rewrite_stops old new l OutOfMemory w = inl w
   rewrite_stops old new l MessageTooLarge w = w
   rewrite_stops old new l (GroupRefused e) w = absurd w
 
@@ -150,4 +147,4 @@ module _ {K W : Type 0} (key : Writing K) (val : Writing W) (n : ℕ) (kept : Li
   pub rewrite_written : {T : Type 0} (r : Result T EncodeError) (old mid new : List ℕ) (l : List (K × W)) → HasText key val l → mid ≡ old ++ field_text key val n l → Writes r mid (records.records_text kept) new → WritesRewrite key val n kept old new r l
   rewrite_written r old mid new l has m h = MatchResult-weaker r h
       (λ x w. (has, w ∙ ap (λ z. z ++ records.records_text kept) m ∙ append_assoc old (field_text key val n l) (records.records_text kept)))
-      (λ e w. subst (RefusesRewrite key val n kept old new l) (sym w.0) (front_second old (field_text key val n l) (records.records_text kept) mid new m w.1))
+      (λ e w. subst (RefusesRewrite key val n kept old new l) (sym w.0) (inr (has, subst (λ z. WritesFront z (records.records_text kept) new) m w.1)))

@@ -1,5 +1,5 @@
 -- What a codec makes of payloads and of values.
-use Rattle.std.specs.Prelude.{◌≡◌, ℕ, zero, suc, ◌⊎◌, Bool, true, false, List, Option, Result, Ok, Err, IsOk, MatchResult}
+use Rattle.std.specs.Prelude.{◌≡◌, ◌↔◌, ℕ, zero, suc, ◌⊎◌, Bool, true, false, List, Option, Result, Ok, Err, IsOk, MatchResult}
 use Rattle.buffa_wire.specs.Gives.{◌>>=◌}
 use Rattle.buffa_wire.specs.Content.{Content, TakesContent, ContentFault, content_at}
 use Rattle.buffa_wire.specs.BudgetLeft.{BudgetLeft, Lacks, Pays, PaysAtMost, nothing}
@@ -87,7 +87,7 @@ is_known Known = true
 is_known Unknown = false
 
 -- A codec is this one: it reads and writes so, a value costs so much, payloads have this length, if they have one, and
--- the values that are read back are these at least.
+-- the values that are read back are these.
 abbrev pub Codes : {V : Type 0} → Reading V → Writing V → ℕ → Option ℕ → (V → Type 0) → Reading V → Writing V → ℕ → Option ℕ → (V → Type 0) → Type 0
 Codes {V} reading writing cost len Normal reads writes costs fixed Back =
-    (reading ≡ reads) × (writing ≡ writes) × (cost ≡ costs) × (len ≡ fixed) × ((v : V) → Back v → Normal v)
+    (reading ≡ reads) × (writing ≡ writes) × (cost ≡ costs) × (len ≡ fixed) × ((v : V) → Normal v ↔ Back v)

@@ -1,5 +1,5 @@
 -- What the definitions say together.
-use Rattle.std.specs.Prelude.{◌≡◌, ◌<◌, ◌≤◌, ◌+◌, ◌↔◌, ℕ, ℤ, Bool, false, List, [], ◌++◌, length, Ok, Err, cond}
+use Rattle.std.specs.Prelude.{◌≡◌, ◌<◌, ◌≤◌, ◌+◌, ◌↔◌, ◌⊎◌, ℕ, ℤ, Bool, false, List, [], ◌++◌, length, Ok, Err, cond}
 use Rattle.std.specs.Cmp.{IsEquivalence}
 use Rattle.std.specs.List.{IsDistinct}
 use Rattle.std.specs.List.Sorted.{IsPermutation}
@@ -61,11 +61,12 @@ module _ {K V : Type 0} (key : Reading K) (val : Reading V) where
     pub run : ArePlain → (d : ℕ) (es : List (EntryRecord K V)) → inner_needs key val d es ≡ nothing
 
   -- a limit's error is a fault of an entry only where what it needs isn't left: its units, what the messages in it
-  -- cost, and its slots
+  -- cost, and the slots of one that is undeclared
   abbrev pub LimitsAreTrue : Type 0
   LimitsAreTrue =
       (d cost slot : ℕ) (left : BudgetLeft) (bs : List ℕ) (f : DecodeError) → EntryFault key val d cost slot left bs f → IsLimit f →
-      (e : List ℕ) × (rest : List ℕ) × TakesDelimited bs e rest × Lacks left (plus (need_of key val d cost e) (slots slot))
+      (e : List ℕ) × (rest : List ℕ) × TakesDelimited bs e rest × (Lacks left (need_of key val d cost e)
+      ⊎ ((s : MapEntry K V) × IsEntry key val d e s × (s.known ≡ false) × Lacks left (plus (need_of key val d cost e) (slots slot))))
 
   -- bytes are an entry, or a run, in one way only, and not while they have a fault
   pub record OneReading : Type 0 where

@@ -19,3 +19,4 @@ pub mod Rewrite
 pub mod EnumLaws
 pub mod Laws
 pub mod Pinned
+pub mod PinnedTexts

@@ -1,6 +1,6 @@
 -- Rewrites: a reader of one enum reads a run, and writes the map and behind it the entries that it doesn't
 -- know. And when that means to a reader of another enum, who knows more, what the run means.
-use Rattle.std.specs.Prelude.{◌≡◌, ◌≢◌, ◌+◌, ◌<◌, ◌≤◌, length, ℕ, Bool, true, ◌&&◌, not, List, [], ◌∷◌, ◌++◌, Option, None, Some, IfSome, OnOk, Result, MatchResult}
+use Rattle.std.specs.Prelude.{◌≡◌, ◌≢◌, ◌+◌, ◌<◌, ◌≤◌, length, ℕ, Bool, true, ◌&&◌, not, List, [], ◌∷◌, ◌++◌, ◌⊎◌, Option, None, Some, IfSome, OnOk, Result, MatchResult}
 use Rattle.std.specs.List.{filter}
 use Rattle.buffa_wire.specs.BudgetLeft.{BudgetLeft}
 use Rattle.buffa_wire.specs.Text.{records_text}
@@ -72,10 +72,12 @@ KeepsMeaning {K} {V} eq es fs gs =
 -- ---- what is written
 
 module _ {K V : Type 0} (key : Writing K) (val : Writing V) (n : ℕ) (kept : List (ℕ × Datum)) (old new : List ℕ) where
-  -- Memory ran out after a beginning of the text of l and of the kept records; or an entry of l is too long,
+  -- Memory ran out in the text of l, or behind it, after a beginning of the kept records; or an entry of l is too long,
   -- and the records of the pairs before it were written.
   abbrev pub RefusesRewrite : List (K × V) → EncodeError → Type 0
-  RefusesRewrite l OutOfMemory = WritesFront old (field_text key val n l ++ records_text kept) new
+  RefusesRewrite l OutOfMemory =
+      RefusesField key val n old new l OutOfMemory
+      ⊎ (HasText key val l × WritesFront (old ++ field_text key val n l) (records_text kept) new)
   RefusesRewrite l MessageTooLarge = RefusesField key val n old new l MessageTooLarge
   RefusesRewrite l (GroupRefused e) = ⊥
 

@@ -44,17 +44,19 @@ UsesRoomOf r room text left = MatchResult r (λ _. room ≤ left + length text) 
 module _ {K W : Type 0} (key : Writing K) (val : Writing W) (n : ℕ) (old new : List ℕ) where
   -- the record of p was written; or memory ran out after a beginning of it; or its entry is too long, and nothing was written
   abbrev pub RefusesRecord : K × W → EncodeError → Type 0
-  RefusesRecord p OutOfMemory = WritesFront old (record_text key val n p) new
+  RefusesRecord p OutOfMemory = (length (entry_text key val p) < 2 ^ 64) × WritesFront old (record_text key val n p) new
   RefusesRecord p MessageTooLarge = (2 ^ 64 ≤ length (entry_text key val p)) × (new ≡ old)
   RefusesRecord p (GroupRefused e) = ⊥
 
   abbrev pub WritesRecord : {T : Type 0} → Result T EncodeError → K × W → Type 0
   WritesRecord r p = MatchResult r (λ _. (length (entry_text key val p) < 2 ^ 64) × (new ≡ old ++ record_text key val n p)) (RefusesRecord p)
 
-  -- the records of l were written; or memory ran out after a beginning of them; or the first entry that is
-  -- too long follows the pairs of done, whose records were written
+  -- the records of l were written; or memory ran out after those of the pairs of done and a beginning of the next, whose
+  -- entry isn't too long; or that is the first entry that is too long, and the records of done were written
   abbrev pub RefusesField : List (K × W) → EncodeError → Type 0
-  RefusesField l OutOfMemory = WritesFront old (field_text key val n l) new
+  RefusesField l OutOfMemory =
+      (done : List (K × W)) × (p : K × W) × (rest : List (K × W)) × (l ≡ done ++ p ∷ rest) × HasText key val done
+      × (length (entry_text key val p) < 2 ^ 64) × WritesFront (old ++ field_text key val n done) (record_text key val n p) new
   RefusesField l MessageTooLarge =
       (done : List (K × W)) × (p : K × W) × (rest : List (K × W)) × (l ≡ done ++ p ∷ rest) × HasText key val done
       × (2 ^ 64 ≤ length (entry_text key val p)) × (new ≡ old ++ field_text key val n done)

@@ -1,6 +1,7 @@
 //! Which codec each of them is.
 
-ghost use Rattle.std.specs.Prelude.{◌≡◌, [], None, Some, false, true};
+ghost use Rattle.std.specs.Prelude.{◌≡◌, ◌↔◌, ℕ, List, [], None, Some, false, true};
+ghost use Rattle.buffa_map.specs.Scalars.{IsLengthy, IsText};
 ghost use Rattle.buffa_wire.specs.Enums.{numbers};
 ghost use Rattle.buffa_map.specs.Codec.{Codes};
 ghost use Rattle.buffa_map.specs.Enums.{OpenNormal, closed_reading, closed_writing, open_reading, open_writing};
@@ -17,10 +18,9 @@ ghost use Rattle.buffa_bytes.specs.declared.wire_type.WireType.TheVariants as wi
 use crate::codec::{MapCodec, MapValueDecode};
 use crate::message::Msg;
 use crate::scalars::{
-    Bool, BytesBuf, ClosedEnum, Fixed32, Fixed64, Int32, Int64, OpenEnum, ProtoBytesMap,
-    ProtoStringMap, Sfixed32, Sfixed64, Sint32, Sint64, Uint32, Uint64,
+    Bool, BytesBuf, BytesVec, ClosedEnum, Fixed32, Fixed64, Int32, Int64, OpenEnum, ProtoBytesMap,
+    ProtoStringMap, Sfixed32, Sfixed64, Sint32, Sint64, Str, Uint32, Uint64,
 };
-use crate::storage::MapStorage;
 use buffa_wire::{Blank, Enumeration, MapKey, Message, ProtoBytes, ProtoString, Scalar};
 use indexmap::IndexMap;
 use std::hash::{BuildHasher, Hash};
@@ -88,9 +88,16 @@ pub fn scalars_are_these()
         × (⟦<Sfixed64 as MapCodec>⟧.writing ≡ eight_writing (cast_unsigned w64)) }
 {}
 
-/// An `IndexMap` keeps the order in which its keys came.
-pub fn index_maps_keep_order<K: MapKey + Hash, V: Blank, S: BuildHasher>()
-    ensures { ⟦<IndexMap<K, V, S> as MapStorage>⟧.keeps_order ≡ true }
+/// How strings and bytes are read and written, and what holds of those that a value may have.
+pub fn texts_are_these()
+    ensures string { (⟦<Str as MapValueDecode>⟧.reading ≡ string_reading [] (λ b. b))
+        × (⟦<Str as MapCodec>⟧.writing ≡ delimited_writing (λ b. b)) }
+    ensures bytes { (⟦<BytesVec as MapValueDecode>⟧.reading ≡ bytes_reading [] (λ b. b))
+        × (⟦<BytesVec as MapCodec>⟧.writing ≡ delimited_writing (λ b. b)) }
+    ensures shared { (⟦<BytesBuf as MapValueDecode>⟧.reading ≡ bytes_reading [] (λ b. b))
+        × (⟦<BytesBuf as MapCodec>⟧.writing ≡ delimited_writing (λ b. b)) }
+    ensures fits { (b : List ℕ) → (⟦<Str as MapCodec>⟧.fits b ↔ IsText b)
+        × (⟦<BytesVec as MapCodec>⟧.fits b ↔ IsLengthy b) × (⟦<BytesBuf as MapCodec>⟧.fits b ↔ IsLengthy b) }
 {}
 
 /// What a value of each scalar costs, and the length of its payloads, where they have one.
@@ -104,4 +111,7 @@ pub fn scalars_cost_so_much()
     ensures lengths { (⟦<Bool as MapCodec>⟧.FIXED_LEN ≡ Some 1) × (⟦<Fixed32 as MapCodec>⟧.FIXED_LEN ≡ Some 4)
         × (⟦<Sfixed32 as MapCodec>⟧.FIXED_LEN ≡ Some 4) × (⟦<Fixed64 as MapCodec>⟧.FIXED_LEN ≡ Some 8)
         × (⟦<Sfixed64 as MapCodec>⟧.FIXED_LEN ≡ Some 8) }
+    ensures none { (⟦<Int32 as MapCodec>⟧.FIXED_LEN ≡ None) × (⟦<Sint32 as MapCodec>⟧.FIXED_LEN ≡ None)
+        × (⟦<Uint32 as MapCodec>⟧.FIXED_LEN ≡ None) × (⟦<Int64 as MapCodec>⟧.FIXED_LEN ≡ None)
+        × (⟦<Sint64 as MapCodec>⟧.FIXED_LEN ≡ None) × (⟦<Uint64 as MapCodec>⟧.FIXED_LEN ≡ None) }
 {}

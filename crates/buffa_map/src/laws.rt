@@ -11,9 +11,17 @@ ghost use Rattle.buffa_map.specs.Message.{message_reading};
 ghost use Rattle.buffa_map.specs.Plain.{IsExact};
 
 use crate::codec::{MapCodec, MapValueDecode};
-pub use crate::codec_laws::{codecs_are_these, scalars_cost_so_much};
-pub use crate::pin_laws::{entries_are_pinned, runs_are_pinned, values_are_pinned};
+pub use crate::codec_laws::{
+    codecs_are_these, scalars_are_these, scalars_cost_so_much, texts_are_these,
+};
+pub use crate::pin_laws::{
+    entries_are_pinned, map_fields_are_pinned, message_fields_are_pinned, puts_are_pinned,
+    rewrites_are_pinned, runs_are_pinned, values_are_pinned,
+};
 use crate::storage::MapStorage;
+pub use crate::storage_laws::{
+    hashed_maps_are_these, index_maps_are_these, ordered_maps_are_these, ordered_maps_have_one_walk,
+};
 use buffa_wire::MessageSpec;
 
 /// A payload is read exactly where its wire type has one that the codec takes, and refused exactly where not.
@@ -48,7 +56,7 @@ pub fn plain_entries_are_exact<KC: MapCodec, VC: MapCodec>()
 }
 
 /// A budget's error is told of an entry only where what it needs isn't left: its units, what the messages in
-/// it cost, and the slot where it is kept.
+/// it cost, and the slot of one with an undeclared value, where it is kept.
 pub fn limits_are_told_where_needs_are_not_left<KC: MapValueDecode, VC: MapValueDecode>()
     ensures { LimitsAreTrue KC.reading VC.reading }
 {}

@@ -35,6 +35,7 @@ mod scalars;
 mod size;
 mod sized;
 mod storage;
+mod storage_laws;
 #[cfg(test)]
 mod tests;
 mod write;

@@ -3,10 +3,14 @@
 
 ghost use Rattle.std.specs.Prelude.{Bool, List, ℕ};
 ghost use Rattle.buffa_wire.specs.Records.{Datum};
-ghost use Rattle.buffa_map.specs.Merge.{rules};
+ghost use Rattle.buffa_wire.specs.BudgetLeft.{BudgetLeft};
+ghost use Rattle.buffa_map.specs.Merge.{keeping, rules};
 ghost use Rattle.buffa_map.specs.Pinned.{EntryIsPinned, RunIsPinned, ValueIsPinned};
+ghost use Rattle.buffa_map.specs.PinnedTexts.{FieldIsPinned, MessagesArePinned, PutIsPinned, RewriteIsPinned};
 
-use crate::codec::MapValueDecode;
+use crate::codec::{MapCodec, MapValueDecode};
+use crate::storage::MapStorage;
+use buffa_wire::MessageSpec;
 
 /// A payload is merged in one way only. Open is which fault a malformed message has, and where memory runs out.
 pub fn values_are_pinned<VC: MapValueDecode>()
@@ -27,4 +31,39 @@ pub fn runs_are_pinned<KC: MapValueDecode, VC: MapValueDecode>()
     ensures { (same : KC.Value.Meaning → KC.Value.Meaning → Bool) (ordered : Bool) (d n cost slot : ℕ) →
         (adds : ℕ → List ℕ → List (ℕ × Datum)) →
         RunIsPinned (rules KC.reading VC.reading same ordered d n cost slot adds) }
+{}
+
+/// A map field has one size and one text for one walk, and is refused at one entry. Open is which walk a storage gives
+/// that promises none, and where memory runs out.
+pub fn map_fields_are_pinned<
+    KC: MapCodec,
+    VC: MapCodec,
+    C: MapStorage<Key = KC::Value, Value = VC::Value>,
+>()
+    ensures { FieldIsPinned KC.writing VC.writing C.equal }
+{}
+
+/// A map field of small messages has one size, one text and one cache behind it. Open is what is announced and written
+/// where a message is too large, and where memory runs out.
+pub fn message_fields_are_pinned<KC: MapCodec, M: MessageSpec>()
+    ensures { MessagesArePinned KC.writing M.text M.slots }
+{}
+
+/// A run has one rewrite for one walk, and is refused for the bytes, or for the text, or not at all. Open is which walk
+/// a storage gives that promises none, and where memory runs out.
+pub fn rewrites_are_pinned<
+    KC: MapCodec,
+    VC: MapCodec,
+    C: MapStorage<Key = KC::Value, Value = VC::Value>,
+>()
+    ensures { (d n cost : ℕ) (one other : C) (left : BudgetLeft) (bytes : List ℕ)
+        (a b : List (KC.Value.Meaning × VC.Value.Meaning)) (over last : BudgetLeft) (x y old v w : List ℕ) (room : ℕ) →
+        RewriteIsPinned (keeping KC.reading VC.reading C.equal C.keeps_order d n cost) KC.writing VC.writing KC.fits
+        VC.fits (C.walks one) (C.walks other) left bytes a b over last x y old v w room }
+{}
+
+/// A put keeps a stored key, and changes no other pair; where the order is kept, it leaves one list. Open is, elsewhere,
+/// the order of the pairs.
+pub fn puts_are_pinned<C: MapStorage>()
+    ensures { PutIsPinned C.Value.Meaning C.equal C.keeps_order }
 {}

@@ -12,7 +12,7 @@ returns-in_err-write_head-clause-written g c =
     let val = g.VC.MapCodec.writing in
     let pair : g.row.KC-Value-Meaning.Denot × g.row.VC-Value-Meaning.Denot = (g.KC.Value.Blank.meaning c.args.key.now, g.VC.Value.Blank.meaning c.args.value.now) in
     let size = as_u64-some (length (entry_text key val pair)) c.in-Some.len c.in-Some.ensures.len in
-    head_refused key val c.args.number p.1 p.2 (g.S.EncodeSink.written c.args.sink.now) (g.S.EncodeSink.written c.write_head.new.sink) pair c.in-Some.len size.0 c.in_err-write_head.ensures.writes
+    head_refused key val c.args.number p.1 p.2 (g.S.EncodeSink.written c.args.sink.now) (g.S.EncodeSink.written c.write_head.new.sink) pair c.in-Some.len size.0 size.1 c.in_err-write_head.ensures.writes
 
 pub returns-clause-written : goal.returns-clause-written
 returns-clause-written g c =
