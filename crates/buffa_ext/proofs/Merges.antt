@@ -7,6 +7,7 @@ use Rattle.buffa_bytes.specs.declared.error.DecodeError.TheVariants.{OutOfMemory
 use Rattle.buffa_bytes.specs.declared.wire_type.WireType.{WireType}
 use Rattle.buffa_bytes.specs.Reading.{tag_at, varint_at, varint_within}
 use Rattle.buffa_wire.specs.Message.{ReachesTag}
+use Rattle.buffa_wire.specs.RecordReading.{ListTakesMemory}
 use Rattle.buffa_wire.specs.BudgetLeft.{BudgetLeft}
 use Rattle.buffa_wire.specs.Records.{Datum}
 use Rattle.buffa_wire.specs.View.{record_of, records_in, datum_of}
@@ -94,21 +95,14 @@ tag_of_none : tag_at [] ≡ Err UnexpectedEof
 unfolding tag_at varint_at varint_within
 tag_of_none = refl
 
-no_bytes_no_tag : (r : Result (ℕ × WireType × List ℕ) DecodeError) (e : DecodeError) → r ≡ Err e → IsOk r → ⊥
-no_bytes_no_tag r e h k = cc
-
--- what is read is read
-read_is_ok : {X : Type 0} (r : Result X DecodeError) (x : X) → r ≡ Ok x → IsOk r
-read_is_ok r x e = rw e refl
-
 -- bytes that reach a tag are some
 pub tag_has_byte : (d : ℕ) (bs : List ℕ) → ReachesTag d bs → bs ≢ []
-tag_has_byte d bs (([], rest, j, e, t)) none = no_bytes_no_tag (tag_at rest) UnexpectedEof (ap tag_at (sym e ∙ none) ∙ tag_of_none) (read_is_ok (tag_at rest) _ t.3)
+tag_has_byte d bs (([], rest, j, e, t)) none = let k = sym (ap tag_at (sym e ∙ none) ∙ tag_of_none) ∙ t.3 in cc
 tag_has_byte d bs ((x ∷ front, rest, j, e, t)) none = some_left (sym e ∙ none)
   where
     some_left : x ∷ (front ++ rest) ≡ [] → ⊥
     some_left h = cc
 
--- a tag has a byte
-pub tag_begins : (bs : List ℕ) (x : ℕ × WireType × List ℕ) → tag_at bs ≡ Ok x → bs ≢ []
-tag_begins bs x t none = no_bytes_no_tag (tag_at bs) UnexpectedEof (ap tag_at none ∙ tag_of_none) (read_is_ok (tag_at bs) x t)
+-- bytes that take memory where they are read as records are some
+pub list_has_byte : (d s : ℕ) (bs : List ℕ) → ListTakesMemory d s bs → bs ≢ []
+list_has_byte d s bs h none = let k = sym (ap tag_at none ∙ tag_of_none) ∙ h.1 in cc

@@ -1,16 +1,54 @@
 //! What the definitions of the samples say together: laws, as in [`laws`](buffa_wire).
 
-ghost use Rattle.std.specs.Prelude.{◌≡◌, ℕ, List, Some};
+ghost use Rattle.std.specs.Prelude.{◌≡◌, ℕ, List, None, Some, pos};
+ghost use Rattle.buffa_wire.specs.Text.{records_text};
+ghost use Rattle.buffa_samples.specs.Count.{count_cost, count_merged, count_text};
+ghost use Rattle.buffa_samples.specs.Flat.{flat_cost, flat_merged, value_text};
 ghost use Rattle.buffa_samples.specs.Grown.{Grown};
-ghost use Rattle.buffa_samples.specs.TreeMeaning.{merged};
-ghost use Rattle.buffa_samples.specs.TreeText.{IsNormal};
+ghost use Rattle.buffa_samples.specs.Keep.{keep_cost, keep_merged};
+ghost use Rattle.buffa_samples.specs.TreeMeaning.{cost, merged};
+ghost use Rattle.buffa_samples.specs.TreeText.{IsNormal, slots, text};
+ghost use Rattle.buffa_samples.specs.Two.{two_cost, two_merged, two_text};
 
+use crate::count::CountMsg;
+use crate::flat::FlatMsg;
+use crate::hues::{New, Old};
+use crate::keep::BudgetMsg;
 use crate::tree::Tree;
-use buffa_wire::Blank;
+use crate::two::TestMsg;
+use buffa_wire::{Blank, Enumeration, MessageSpec};
 
 /// What bytes make of a normal tree is normal, and so is the blank one: in every map the keys ascend, and labels and
 /// keys are int32.
 pub fn trees_stay_normal()
     ensures merged { (d : ℕ) (t u : Grown) (bs : List ℕ) → IsNormal t → merged d t bs ≡ Some u → IsNormal u }
     ensures blank { IsNormal ⟦<Tree as Blank>⟧.blank_is }
+{}
+
+/// Which message each sample is: what bytes make of it, what they cost, and its text. Nothing is open.
+pub fn messages_are_these()
+    ensures flat { (⟦<FlatMsg as MessageSpec>⟧.merged ≡ flat_merged) × (⟦<FlatMsg as MessageSpec>⟧.cost ≡ flat_cost) }
+    ensures flat_text { ⟦<FlatMsg as MessageSpec>⟧.text ≡ value_text }
+    ensures two { (⟦<TestMsg as MessageSpec>⟧.merged ≡ two_merged) × (⟦<TestMsg as MessageSpec>⟧.cost ≡ two_cost) }
+    ensures two_text { ⟦<TestMsg as MessageSpec>⟧.text ≡ two_text }
+    ensures count { (⟦<CountMsg as MessageSpec>⟧.merged ≡ count_merged) × (⟦<CountMsg as MessageSpec>⟧.cost ≡ count_cost) }
+    ensures count_text { ⟦<CountMsg as MessageSpec>⟧.text ≡ count_text }
+    ensures keep { (⟦<BudgetMsg as MessageSpec>⟧.merged ≡ keep_merged) × (⟦<BudgetMsg as MessageSpec>⟧.cost ≡ keep_cost) }
+    ensures keep_text { ⟦<BudgetMsg as MessageSpec>⟧.text ≡ records_text }
+    ensures tree { (⟦<Tree as MessageSpec>⟧.merged ≡ merged) × (⟦<Tree as MessageSpec>⟧.cost ≡ cost) }
+    ensures tree_text { ⟦<Tree as MessageSpec>⟧.text ≡ text }
+    ensures tree_slots { ⟦<Tree as MessageSpec>⟧.slots ≡ slots }
+    ensures elements { (⟦<FlatMsg as MessageSpec>⟧.COST ≡ 4) × (⟦<TestMsg as MessageSpec>⟧.COST ≡ 32)
+        × (⟦<CountMsg as MessageSpec>⟧.COST ≡ 8) × (⟦<BudgetMsg as MessageSpec>⟧.COST ≡ 24)
+        × (⟦<Tree as MessageSpec>⟧.COST ≡ 32) }
+{}
+
+/// Which numbers the two enums declare, among the first four, and by which values. Nothing is open of these.
+pub fn enums_are_these()
+    ensures old { (⟦<Old as Enumeration>⟧.of_number (pos 0) ≡ Some Old.A)
+        × (⟦<Old as Enumeration>⟧.of_number (pos 1) ≡ Some Old.B)
+        × (⟦<Old as Enumeration>⟧.of_number (pos 2) ≡ None) × (⟦<Old as Enumeration>⟧.of_number (pos 3) ≡ None) }
+    ensures new { (⟦<New as Enumeration>⟧.of_number (pos 0) ≡ Some New.A)
+        × (⟦<New as Enumeration>⟧.of_number (pos 1) ≡ Some New.B)
+        × (⟦<New as Enumeration>⟧.of_number (pos 2) ≡ Some New.C) × (⟦<New as Enumeration>⟧.of_number (pos 3) ≡ None) }
 {}
