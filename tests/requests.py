@@ -1,12 +1,13 @@
 #!/usr/bin/env python3
-"""Counts the requests for memory that a set of an extension and the merging of map entries make.
+"""Counts the requests for memory that a set of an extension, the merging of map entries and lengths that aren't there make.
 
 A set copies no record of another number, so that beside a thousand groups it makes at most four, however many groups
 there are. Entries of numbers whose key the map has are merged with none, in one piece and cut anywhere, also where a
-list for undeclared ones is lent. The program `buffa_refusals` says when it has the groups, when the set is done, when
-the map has the key, and when the entries are merged; `refuse.c` tells on the same stream when it refuses a request, so
-that the order says in which part of the program the request was made. Needs python3 and gcc. `rt ci` leaves the
-program; where there is none, `rt run` builds it.
+list for undeclared ones is lent. A length of 2^30 with nothing behind it is refused with none, by each reader that
+copies: such a request would be granted, and only a count of requests shows it. The program `buffa_refusals` says when
+it has the groups, when the set is done, when the map has the key, when the entries are merged, and when the lengths are
+refused; `refuse.c` tells on the same stream when it refuses a request, so that the order says in which part of the
+program the request was made. Needs python3 and gcc. `rt ci` leaves the program; where there is none, `rt run` builds it.
 """
 import os
 import shutil
@@ -18,7 +19,7 @@ TOP = os.path.dirname(os.path.dirname(os.path.abspath(__file__)))
 CRATE = f"{TOP}/crates/buffa_refusals"
 MOST = 4
 SECONDS = 20
-WHOLE = b"groups\nset\npair\nmerged\n"
+WHOLE = b"groups\nset\npair\nmerged\nlengths\n"
 
 
 def run(program, library, at=0, on=False):
@@ -48,7 +49,7 @@ def set_takes(program, library, before, found):
         text, status = run(program, library, before + made + 1)
         if text.startswith(b"groups\nset\n"):
             break
-        if (text, status) != (b"groups\nxrefused\npair\nmerged\n", 0):
+        if (text, status) != (b"groups\nxrefused\npair\nmerged\nlengths\n", 0):
             found.append(f"with request {made + 1} of the set refused it wrote {text!r}, status {status}")
         made += 1
     if not 1 <= made <= MOST:
@@ -57,7 +58,8 @@ def set_takes(program, library, before, found):
 
 
 def entries_take(program, library, before, found):
-    """How many requests the map makes for its key. After it every request is refused, and there must be none."""
+    """How many requests the map and a record make. After that every request is refused, and there must be none: no entry
+    takes one, and no length that isn't there."""
     made = 0
     while made < 100:
         text, status = run(program, library, before + made + 1)
@@ -105,7 +107,7 @@ def main():
         for program in programs():
             found, made = differences(program, library)
             verdict = "as it must be" if not found else "; ".join(found)
-            print(f"requests: {os.path.basename(program)}, a set beside a thousand groups: {made} requests, entries: {verdict}")
+            print(f"requests: {os.path.basename(program)}, a set beside a thousand groups: {made} requests, entries and lengths: {verdict}")
             failed |= bool(found)
     print("requests: FAILED" if failed else "requests: passed")
     return 1 if failed else 0

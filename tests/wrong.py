@@ -28,7 +28,7 @@ FUNCTION = re.compile(r"^( *)(?:pub(?:\(\w+\))? )?(?:final )?(?:const )?fn (\w+)
 CONTAINER = re.compile(r"^(?:pub(?:\(\w+\))? )?(impl|trait)\b")
 # what the checker says of a name in a proof file that isn't there
 VANISHED = re.compile(r"has no field|has no `|is not in scope|was not admitted|is no name")
-GOAL = re.compile(r"note: \.?/?src/\S+: it is not proved that")
+GOAL = re.compile(r"note: (?:\./)?(src/\S+?):(\d+):\d+: it is not proved that")
 PROOF_ERROR = re.compile(r"(?:\./)?proofs/(\S+)/\w+\.antt:\d+:\d+: error")
 SOURCE_ERROR = re.compile(r"(?:\./)?(src/\S+?):(\d+):\d+: error")
 
@@ -40,8 +40,7 @@ class Function:
         self.file, self.name, self.holder, self.cycle, self.start, self.end = file, name, holder, cycle, start, start
 
     def key(self):
-        """Functions of one cycle are proved together, so they count as one."""
-        return (self.file, self.cycle) if self.cycle else (self.file, self.holder, self.name)
+        return self.file, self.holder, self.name
 
 
 class Edit:
@@ -95,7 +94,7 @@ def functions(file, text):
             current = Function(file, begins[2], holder, cycle, number)
             cycle = None
             found.append(current)
-        elif re.match(r"[a-z]", line):
+        elif re.match(r"(?!where\b)[a-z]", line):
             is_holder = CONTAINER.match(line)
             holder = " ".join(" ".join(lines[number : number + 6]).partition("{")[0].split()) if is_holder else ""
             current = None
@@ -155,13 +154,15 @@ class Report:
 
     def __init__(self, text):
         self.text, self.said, self.goals, self.errors = text, {}, {}, []
-        goals = 0
+        goals = []
         for line in text.split("\n"):
-            named = re.match(r"fn (\S+): (.*)", line)
-            if GOAL.match(line):
-                goals += 1
+            named, goal = re.match(r"fn (\S+): (.*)", line), GOAL.match(line)
+            if goal:
+                goals.append((goal[1], int(goal[2])))
             elif named:
-                self.said[named[1]], self.goals[named[1]], goals = named[2], goals, 0
+                self.said[named[1]], self.goals[named[1]], goals = named[2], goals, []
+            elif re.match(r"(impl|trait|struct|enum) \S+: ", line):
+                goals = []
         for block in re.split(r"\n(?=\S)", text):
             at = PROOF_ERROR.match(block)
             if at:
@@ -175,7 +176,7 @@ class Report:
         found = [it for folder, it in self.errors if folder in folders]
         return all(found) if found else None
 
-    def verdict(self, edit, crate):
+    def verdict(self, edit, crate, texts, is_alone):
         """passed, failed or again, and what to say."""
         if not self.was_judged:
             return "again", "the crate isn't read: " + next((it for it in self.text.split("\n") if ": error" in it), self.text[-200:])[:200]
@@ -185,10 +186,16 @@ class Report:
         name = names[0]
         # a closure of the function is one of its own there
         inside = [it for it in self.said if "::fn::" in it and f"::{edit.name}::" in it and self.goals[it]]
-        if self.goals[name] or inside:
+        goals = self.goals[name]
+        if edit.target and edit.target.cycle and not is_alone:
+            # the functions of a cycle are proved together, and each has the goals of all
+            goals = [it for it in goals if edit.target.key() in at_line(texts, *it)]
+        if goals or inside:
             return "passed", "refused"
         if self.said[name] == "proved":
             return "failed", "LET THROUGH: it is still proved"
+        if edit.target and edit.target.cycle and not is_alone:
+            return "again", "another function of its cycle is not proved"
         vanished = self.of_proof(name, edit.target.cycle if edit.target else None)
         if vanished is None:
             return "again", f"{self.said[name][:200]}"
@@ -231,12 +238,16 @@ def apply(edits, crate, room):
     return held, texts
 
 
+def at_line(texts, file, line):
+    """The functions at a line of the edited files."""
+    return {it.key() for it in functions(file, texts.get(file, "")) if it.start < line <= it.end + 1}
+
+
 def guilty(report, edits, texts):
     """The edit of a batch whose text isn't read."""
     for file, line in SOURCE_ERROR.findall(report.text):
-        here = [it.key() for it in functions(file, texts.get(file, "")) if it.start < int(line) <= it.end + 1]
         for edit in edits:
-            if edit.keys & set(here):
+            if edit.keys & at_line(texts, file, int(line)):
                 return edit
     return None
 
@@ -317,7 +328,7 @@ def try_crate(crate, options):
                     it.write("\n".join(edit.title for edit in batch) + "\n" + report.text)
             unread = None if report.was_judged else guilty(report, batch, texts)
             for edit in batch:
-                verdict, text = report.verdict(edit, crate)
+                verdict, text = report.verdict(edit, crate, texts, len(batch) == 1)
                 if verdict == "again" and (edit is unread or len(batch) == 1):
                     say(edit, "failed", f"UNCLEAR: {text}")
                 elif verdict == "again":
