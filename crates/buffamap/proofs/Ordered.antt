@@ -14,6 +14,7 @@ use Rattle.buffa_map.specs.Pairs.{SamePairs}
 use Rattle.buffa_map.specs.Pairs as maps
 use Rattle.buffa_map.proofs.PutLemmas.{SamePairs-insert_entry, SamePairs-put}
 use Rattle.buffamap.specs.Lines.{InOrder, Pair, pairs_of, put, same_key}
+use Rattle.buffamap.proofs.Sorting.{same_sorted}
 
 abbrev text_cmp : List ℕ → List ℕ → Ordering
 text_cmp = slice_cmp nat_cmp
@@ -51,3 +52,9 @@ pub put_insert : {Z : Type 0} (m : List Pair) (es : List (String Z × ℤ)) (k :
 put_insert m es k v h =
     rw (pairs_of-insert es k v) (subst (λ eq. SamePairs eq m (pairs_of es) → SamePairs eq (maps.put eq m (string_bytes k) v) (insert_entry text_cmp (pairs_of es) (string_bytes k) v)) same_test
     (λ s q. SamePairs-put (eq_by_cmp_equiv nat_list_cmp_total) m (pairs_of es) (string_bytes k) v s q ∙ SamePairs-insert_entry nat_list_cmp_total (pairs_of es) (string_bytes k) v (sorted_texts es h) q))
+
+-- a map has one list of its pairs in order
+pub one_order : (m ps qs : List Pair) → InOrder m ps → InOrder m qs → ps ≡ qs
+one_order m ps qs h k =
+    let same : SamePairs same_key ps qs = λ q. sym (h.0.1 q) ∙ k.0.1 q in
+    same_sorted nat_list_cmp_total ps qs h.1 k.1 (subst (λ eq. SamePairs eq ps qs) (sym same_test) same)

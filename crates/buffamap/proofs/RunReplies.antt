@@ -35,10 +35,13 @@ module _ {K V : Type 0} (key : Reading K) (val : Reading V) (eq : K → K → Bo
     k.keeps,
   )) h
 
+  pub stops : (unread : List ℕ) (f : DecodeError) → StopsRun (rules key val eq false d n cost slot adds) (state old records left) bs (state new kept over) unread f →
+      f ≢ OutOfMemory → run_of key val 100 n cost slot default_left bs ≡ Err f
+  stops unread f k ne =
+      let q = run_faulty key val d n cost slot key_free val_free left bs f (k.entries, k.rest, k.over, k.begins, k.some, k.fault ne) in
+      let all : run_of key val d n cost slot left bs ≡ Err f = q.1 ∙ ap (λ z. Err z) (sym (q.2 (key_plain, val_plain))) in
+      subst (λ z. run_of key val z n cost slot default_left bs ≡ Err f) is_d (subst (λ z. run_of key val d n cost slot z bs ≡ Err f) is_left all)
+
   pub stopped : (unread : List ℕ) → IfErr r (StopsRun (rules key val eq false d n cost slot adds) (state old records left) bs (state new kept over) unread) →
       IfErr r (λ f. f ≢ OutOfMemory → run_of key val 100 n cost slot default_left bs ≡ Err f)
-  stopped unread h =
-      IfErr-map r (λ f k ne.
-      (let q = run_faulty key val d n cost slot key_free val_free left bs f (k.entries, k.rest, k.over, k.begins, k.some, k.fault ne) in
-      let all : run_of key val d n cost slot left bs ≡ Err f = q.1 ∙ ap (λ z. Err z) (sym (q.2 (key_plain, val_plain))) in
-      subst (λ z. run_of key val z n cost slot default_left bs ≡ Err f) is_d (subst (λ z. run_of key val d n cost slot z bs ≡ Err f) is_left all))) h
+  stopped unread h = IfErr-map r (stops unread) h

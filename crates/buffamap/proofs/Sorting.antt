@@ -16,7 +16,6 @@ use Rattle.std.proofs.lemmas.Map.Entries.{none_below_head, none_past_head}
 use Rattle.std.proofs.lemmas.Map.Keys.{IsDistinct-from_sorted, sorted_tail}
 use Rattle.buffa_map.specs.Pairs.{SamePairs}
 use Rattle.buffa_map.proofs.PutLemmas.{key_or, lookup_entry-insert_entry, lookup_entry-none}
-use Rattle.buffamap.specs.Rewrite.{Pair, in_order}
 
 some_is_some : {A : Type 0} (x : A) → None ≡ Some x → ⊥
 some_is_some x e = true≢false (sym (ap is_some e))
@@ -59,53 +58,3 @@ module _ {K V : Type 0} {cmp : K → K → Ordering} (o : IsTotalOrder cmp) wher
           let head : p ≡ q = ap (λ (x : Option (K × V)). elim x as (λ _. K × V) [ Some y ↦ y | None ↦ p ]) (sym (head_found p.0 p m (itself o p.0)) ∙ h p.0 ∙ head_found p.0 q l (ap is_eq e)) in
           rw (head, again (tails p q m l s t h e)) refl
       by Greater e again = absurd (below q p l m s (sym (h q.0)) (o.antisymm q.0 p.0 ∙ ap ordering_reverse e))
-
-  -- what is above x stays so, where what is inserted is
-  stays_above : (x k : K) (v : V) (es : List (K × V)) → AllByRecursion (λ z. cmp x z ≡ Less) (keys_of es) → cmp x k ≡ Less → AllByRecursion (λ z. cmp x z ≡ Less) (keys_of (insert_entry cmp es k v))
-  stays_above x k v [] a h = (h, tt)
-  stays_above x k v (e ∷ es) a h = by (cmp k e.0) (stays_above x k v es a.1 h)
-    where
-      by : (r : Ordering) → AllByRecursion (λ z. cmp x z ≡ Less) (keys_of (insert_entry cmp es k v)) → AllByRecursion (λ z. cmp x z ≡ Less) (keys_of (match_ordering r ((k, v) ∷ e ∷ es) ((e.0, v) ∷ es) (e ∷ insert_entry cmp es k v)))
-      by Less again = (h, (a.0, a.1))
-      by Equal again = a
-      by Greater again = (a.0, again)
-
-  -- an insert keeps the order
-  pub sorted_insert : (es : List (K × V)) (k : K) (v : V) → IsStrictlySortedBy cmp (keys_of es) → IsStrictlySortedBy cmp (keys_of (insert_entry cmp es k v))
-  unfolding IsStrictlySortedBy
-  sorted_insert [] k v s = (tt, tt)
-  sorted_insert (e ∷ es) k v s = by (cmp k e.0) refl (sorted_insert es k v s.1)
-    where
-      under : (x y : K) (ks : List K) → cmp x y ≡ Less → AllByRecursion (λ z. cmp y z ≡ Less) ks → AllByRecursion (λ z. cmp x z ≡ Less) ks
-      under x y [] h a = tt
-      under x y (z ∷ ks) h a = (o.trans x y z h a.0, under x y ks h a.1)
-
-      by : (r : Ordering) → cmp k e.0 ≡ r → IsStrictlySortedBy cmp (keys_of (insert_entry cmp es k v)) → IsStrictlySortedBy cmp (keys_of (match_ordering r ((k, v) ∷ e ∷ es) ((e.0, v) ∷ es) (e ∷ insert_entry cmp es k v)))
-      by Less h again = ((h, under k e.0 (keys_of es) h s.0), s)
-      by Equal h again = s
-      by Greater h again = (stays_above e.0 k v es s.0 (o.antisymm e.0 k ∙ ap ordering_reverse h), again)
-
--- a number that is found is the number that was sought
-found_itself : {V : Type 0} (q : ℤ) (es : List (ℤ × V)) → key_or q (lookup_entry (int_eq q) es) ≡ q
-found_itself q [] = refl
-found_itself {V} q (e ∷ es) = elim (cases_Bool (int_eq q e.0)) [
-  | inl y ↦ rw y (sym ((Decides-int_eq q e.0).0 y))
-  | inr n ↦ rw n (found_itself q es)
-]
-
--- the pairs in the order of their keys are in order, and the same pairs
-pub in_order-sorted : (ps : List Pair) → IsStrictlySortedBy int_cmp (keys_of (in_order ps))
-unfolding IsStrictlySortedBy
-in_order-sorted [] = tt
-in_order-sorted (p ∷ ps) = sorted_insert int_cmp_total (in_order ps) p.0 p.1 (in_order-sorted ps)
-
-pub in_order-same : (ps : List Pair) → SamePairs int_eq ps (in_order ps)
-in_order-same [] q = refl
-in_order-same (p ∷ ps) q =
-    sym (lookup_entry-insert_entry int_cmp_total (in_order ps) p.0 p.1 q (in_order-sorted ps)
-    ∙ ap (λ z. cond (int_eq q p.0) (Some (z, p.1)) (lookup_entry (int_eq q) (in_order ps))) (found_itself p.0 (in_order ps))
-    ∙ ap (cond (int_eq q p.0) (Some p)) (sym (in_order-same ps q)))
-
--- the pairs in the order of their keys are the entries of an ordered map that has them
-pub in_order-unique : (m ps : List Pair) → IsStrictlySortedBy int_cmp (keys_of ps) → SamePairs int_eq m ps → ps ≡ in_order m
-in_order-unique m ps s h = same_sorted int_cmp_total ps (in_order m) s (in_order-sorted m) (λ q. sym (h q) ∙ in_order-same m q)

@@ -67,17 +67,14 @@ ext_text ds =
     ((has_line ds ++ int32_line (int32_of_last ds))
     ++ string_line (string_of_last ds)) ++ ints_line (int32s_of_each ds)
 
-abbrev pub message_reply : ℕ → Result (List (ℕ × Datum)) DecodeError → Reply
-message_reply n (Ok records) = done (ext_text (sub n records))
-message_reply n (Err f) = fault (decode_error_text f)
+abbrev pub IsShown : ℕ → Result (List (ℕ × Datum)) DecodeError → Reply → Type 0
+IsShown n (Ok records) reply = reply ≡ done (ext_text (sub n records))
+IsShown n (Err f) reply = reply ≡ fault (decode_error_text f)
 
-abbrev pub bytes_reply : ℕ → Option (List ℕ) → Reply
-bytes_reply n None = bad_input
-bytes_reply n (Some bytes) = message_reply n (records_of bytes)
+abbrev pub IsShownOf : ℕ → Option (List ℕ) → Reply → Type 0
+IsShownOf n None reply = reply ≡ bad_input
+IsShownOf n (Some bytes) reply = IsShown n (records_of bytes) reply
 
 -- the input is the message in hexadecimal, which one newline may end
-abbrev pub ext_reply : ℕ → List ℕ → Reply
-ext_reply n input = bytes_reply n (hex_bytes (without_newline input))
-
 abbrev pub RepliesToExt : ℕ → List ℕ → Reply → Type 0
-RepliesToExt n input reply = reply ≡ ext_reply n input
+RepliesToExt n input = IsShownOf n (hex_bytes (without_newline input))

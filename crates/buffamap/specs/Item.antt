@@ -16,17 +16,14 @@ item_from bytes = item_in 99 1000000 bytes
 abbrev pub item_lines : ℕ → List ℕ → List ℕ → List ℕ
 item_lines number payload rest = line (decimal number) ++ (hex_line payload ++ hex_line rest)
 
-abbrev pub found_reply : Result (ℕ × List ℕ × List ℕ) DecodeError → Reply
-found_reply (Ok item) = done (item_lines item.0 item.1 item.2)
-found_reply (Err f) = fault (decode_error_text f)
+abbrev pub IsFound : Result (ℕ × List ℕ × List ℕ) DecodeError → Reply → Type 0
+IsFound (Ok item) reply = reply ≡ done (item_lines item.0 item.1 item.2)
+IsFound (Err f) reply = reply ≡ fault (decode_error_text f)
 
-abbrev pub bytes_reply : Option (List ℕ) → Reply
-bytes_reply None = bad_input
-bytes_reply (Some bytes) = found_reply (item_from bytes)
+abbrev pub IsFoundIn : Option (List ℕ) → Reply → Type 0
+IsFoundIn None reply = reply ≡ bad_input
+IsFoundIn (Some bytes) reply = IsFound (item_from bytes) reply
 
 -- the input is what follows the start tag, in hexadecimal, which one newline may end
-abbrev pub item_reply : List ℕ → Reply
-item_reply input = bytes_reply (hex_bytes (without_newline input))
-
 abbrev pub RepliesToItem : List ℕ → Reply → Type 0
-RepliesToItem input reply = reply ≡ item_reply input
+RepliesToItem input = IsFoundIn (hex_bytes (without_newline input))

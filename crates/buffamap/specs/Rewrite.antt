@@ -1,24 +1,29 @@
--- What `rewrite N` answers: the pairs of a run's map in the order of their keys, and behind them the entries with
--- a value that is undeclared.
-use Rattle.std.specs.Prelude.{◌≡◌, ℕ, ℤ, List, [], ◌∷◌, ◌++◌, codes, if◌then◌else◌, Option, Some, None, Result, Ok, Err}
-use Rattle.std.specs.BTreeMap.{insert_entry}
+-- What `rewrite N` answers: a rewrite of a run, its map's pairs in the order of their keys, and behind them the
+-- entries with a value that is undeclared.
+use Rattle.std.specs.Prelude.{◌≡◌, ◌≢◌, ℕ, ℤ, List, [], codes, FitsSigned, Option, Some, None, Result, Ok, Err, ◌⊎◌}
+use Rattle.std.specs.Int.{w32}
+use Rattle.std.specs.List.Sorted.{IsStrictlySortedBy}
+use Rattle.std.specs.Map.{keys_of}
 use Rattle.std.specs.Ordering.{int_cmp, int_eq}
 use Rattle.buffa_bytes.specs.declared.error.DecodeError.{DecodeError}
+use Rattle.buffa_bytes.specs.declared.error.DecodeError.TheVariants as of_bytes
+use Rattle.buffa_bytes.specs.declared.error.EncodeError.TheVariants as of_text
 use Rattle.buffa_wire.specs.BudgetLeft.{BudgetLeft}
+use Rattle.buffa_wire.specs.Enums.{Numbers, Refines}
 use Rattle.buffa_wire.specs.ErrorText.{decode_error_text}
-use Rattle.buffa_wire.specs.Records.{Datum}
-use Rattle.buffa_wire.specs.Text.{records_text}
 use Rattle.buffa_map.specs.Codec.{Reading}
-use Rattle.buffa_map.specs.Enums.{closed_reading, closed_writing}
-use Rattle.buffa_map.specs.Pairs.{SamePairs, means}
-use Rattle.buffa_map.specs.Run.{EntryRecord, fold_entries, run_of, undeclared_records}
-use Rattle.buffa_map.specs.Text.{field_text}
+use Rattle.buffa_map.specs.Enums.{ClosedFits, closed_reading, closed_writing}
+use Rattle.buffa_map.specs.Pairs.{ListsOnce, means}
+use Rattle.buffa_map.specs.Rewrite.{IsRewrite, KeepsMeaning}
+use Rattle.buffa_map.specs.Run.{EntryRecord, Run, fold_entries, run_of}
+use Rattle.buffa_map.specs.Text.{HasText}
+use Rattle.buffa_map.specs.declared.rewrite.RewriteError.{RewriteError}
+use Rattle.buffa_map.specs.declared.rewrite.RewriteError.TheVariants.{Decode, Encode}
 use Rattle.buffamap.specs.Choice.{number_of, two_numbers}
 use Rattle.buffamap.specs.Codecs.{int32_reading, int32_writing}
 use Rattle.buffamap.specs.Forms.{hex_bytes, without_newline}
 use Rattle.buffamap.specs.Read.{default_left}
 use Rattle.buffamap.specs.Reply.{Reply, bad_input, done, fault, hex_line}
-use Rattle.buffamap.specs.Write.{has_text}
 use Rattle.buffamap.specs.declared.choice.Choice.{Choice}
 
 -- a key and the number of a value
@@ -37,48 +42,56 @@ choice_reading = closed_reading two_numbers
 abbrev pub run_from : ℕ → List ℕ → Result (List Entry × BudgetLeft) DecodeError
 run_from n bytes = run_of int32_reading choice_reading 100 n 8 1 default_left bytes
 
--- the pairs in the order of their keys
-abbrev pub in_order : List Pair → List Pair
-in_order [] = []
-in_order (p ∷ ps) = insert_entry int_cmp (in_order ps) p.0 p.1
-
--- the field of pairs, and behind it the text of records
-abbrev pub text_with : ℕ → List Pair → List (ℕ × Datum) → List ℕ
-text_with n ps records = field_text int32_writing closed_writing n ps ++ records_text records
-
--- the same in hexadecimal, where no entry is too long for its length to be a varint
-abbrev pub text_reply : ℕ → List Pair → List (ℕ × Datum) → Reply
-text_reply n ps records =
-    if has_text int32_writing closed_writing ps then done (hex_line (text_with n ps records))
-    else fault (codes "MessageTooLarge")
-
--- the map that the entries make, in the order of its keys; and the undeclared ones, in the order of the run
-abbrev pub entries_reply : ℕ → List Entry → Reply
-entries_reply n es = text_reply n (in_order (fold_entries int_eq [] es)) (undeclared_records n es)
-
--- the rewrite of a run; or the fault
-abbrev pub run_reply : ℕ → Result (List Entry × BudgetLeft) DecodeError → Reply
-run_reply n (Ok r) = entries_reply n r.0
-run_reply n (Err f) = fault (decode_error_text f)
-
-abbrev pub bytes_reply : ℕ → Option (List ℕ) → Reply
-bytes_reply n None = bad_input
-bytes_reply n (Some bytes) = run_reply n (run_from n bytes)
-
--- the input is the run in hexadecimal, which one newline may end
-abbrev pub rewrite_reply : ℕ → List ℕ → Reply
-rewrite_reply n input = bytes_reply n (hex_bytes (without_newline input))
-
-abbrev pub RepliesToRewrite : ℕ → List ℕ → Reply → Type 0
-RepliesToRewrite n input reply = reply ≡ rewrite_reply n input
-
--- ---- what a run means to its reader
-
 -- what is seen of a map's entries
 abbrev pub pairs_of : List (ℤ × Choice) → List Pair
 pairs_of es = means (λ k. k) number_of es
 
--- these are the pairs of its map, and the records of its undeclared entries
-abbrev pub Means : ℕ → Result (List Entry × BudgetLeft) DecodeError → List Pair → List (ℕ × Datum) → Type 0
-Means n (Ok r) ps records = SamePairs int_eq (fold_entries int_eq [] r.0) ps × (records ≡ undeclared_records n r.0)
-Means n (Err f) ps records = ⊥
+-- out is a rewrite of the entries, the pairs of their map in the order of the keys
+abbrev pub RewritesTo : ℕ → List Entry → List ℕ → Type 0
+RewritesTo n es out =
+    (w : IsRewrite int_eq int32_writing closed_writing (FitsSigned w32) (ClosedFits two_numbers) n es out)
+    × IsStrictlySortedBy int_cmp (keys_of w.0)
+
+-- the entries' map has an entry that is too long for its length to be a varint
+abbrev pub HasNoRewrite : List Entry → Type 0
+HasNoRewrite es =
+    (l : List Pair) × ListsOnce int_eq (fold_entries int_eq [] es) l × IsStrictlySortedBy int_cmp (keys_of l)
+    × (HasText int32_writing closed_writing l → ⊥)
+
+-- out is a rewrite of a run; or the run has none
+abbrev pub RunRewritesTo : ℕ → Result (List Entry × BudgetLeft) DecodeError → List ℕ → Type 0
+RunRewritesTo n (Ok r) out = RewritesTo n r.0 out
+RunRewritesTo n (Err f) out = ⊥
+
+abbrev pub RunHasNoRewrite : Result (List Entry × BudgetLeft) DecodeError → Type 0
+RunHasNoRewrite (Ok r) = HasNoRewrite r.0
+RunHasNoRewrite (Err f) = ⊥
+
+-- why a run wasn't rewritten, memory aside
+abbrev pub RefusesRun : Result (List Entry × BudgetLeft) DecodeError → RewriteError → Type 0
+RefusesRun run (Decode f) = f ≢ of_bytes.OutOfMemory → run ≡ Err f
+RefusesRun run (Encode e) = e ≢ of_text.OutOfMemory → (e ≡ of_text.MessageTooLarge) × RunHasNoRewrite run
+
+-- the rewrite in hexadecimal; or the fault
+abbrev pub IsRewritten : ℕ → Result (List Entry × BudgetLeft) DecodeError → Reply → Type 0
+IsRewritten n (Ok r) reply =
+    ((out : List ℕ) × RewritesTo n r.0 out × (reply ≡ done (hex_line out)))
+    ⊎ (HasNoRewrite r.0 × (reply ≡ fault (codes "MessageTooLarge")))
+IsRewritten n (Err f) reply = reply ≡ fault (decode_error_text f)
+
+abbrev pub IsRewrittenOf : ℕ → Option (List ℕ) → Reply → Type 0
+IsRewrittenOf n None reply = reply ≡ bad_input
+IsRewrittenOf n (Some bytes) reply = IsRewritten n (run_from n bytes) reply
+
+-- the input is the run in hexadecimal, which one newline may end
+abbrev pub RepliesToRewrite : ℕ → List ℕ → Reply → Type 0
+RepliesToRewrite n input = IsRewrittenOf n (hex_bytes (without_newline input))
+
+-- What is answered to a run is a text in hexadecimal. A reader of an enum that declares more than 0 and 1, and has the
+-- default 0, reads it as a run that keeps the meaning of the one that was given.
+abbrev pub RewriteKeepsMeaning : ℕ → Type 0
+RewriteKeepsMeaning n =
+    (f : Numbers) → Refines two_numbers f → (input bytes text : List ℕ) → hex_bytes (without_newline input) ≡ Some bytes →
+    RepliesToRewrite n input (done text) → (es fs : List Entry) →
+    Run int32_reading choice_reading 100 n bytes es → Run int32_reading (closed_reading f) 100 n bytes fs →
+    (out : List ℕ) × (gs : List Entry) × (text ≡ hex_line out) × Run int32_reading (closed_reading f) 100 n out gs × KeepsMeaning int_eq es fs gs

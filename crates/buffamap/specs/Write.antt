@@ -17,10 +17,13 @@ field_reply n ps =
     if has_text string_writing int32_writing ps then done (hex_line (field_text string_writing int32_writing n ps))
     else fault (codes "MessageTooLarge")
 
+abbrev pub IsField : ℕ → List Pair → Reply → Type 0
+IsField n ps reply = reply ≡ field_reply n ps
+
 -- the field of the map's pairs, in the order of the keys' bytes
 abbrev pub RepliesToMap : ℕ → Option (List Pair) → Reply → Type 0
 RepliesToMap n None reply = reply ≡ bad_input
-RepliesToMap n (Some m) reply = (ps : List Pair) × InOrder m ps × (reply ≡ field_reply n ps)
+RepliesToMap n (Some m) reply = (ps : List Pair) × InOrder m ps × IsField n ps reply
 
 abbrev pub RepliesToWrite : ℕ → List ℕ → Reply → Type 0
 RepliesToWrite n input = RepliesToMap n (map_in input)

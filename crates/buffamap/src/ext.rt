@@ -1,15 +1,16 @@
 // `ext N`: what extensions of number N read in a message.
-ghost use Rattle.std.specs.Prelude.{◌≡◌, ◌++◌, IfOk, OnOk, codes, refl};
+ghost use Rattle.std.specs.Prelude.{◌≡◌, ◌++◌, IfErr, IfOk, OnOk, codes, refl};
 ghost use Rattle.buffa_wire.specs.Records.{Held};
 ghost use Rattle.buffa_codec.specs.Sub.{sub};
-ghost use Rattle.buffamap.specs.Ext.{RepliesToExt, ext_text, has_line, int32_line, int32_of_last, int32s_of_each};
-ghost use Rattle.buffamap.specs.Ext.{ints_line, message_reply, records_of, string_line, string_of_last, words_of};
-ghost use Rattle.buffamap.specs.Reply.{reply_of};
+ghost use Rattle.buffamap.specs.Ext.{IsShown, RepliesToExt, ext_text, has_line, int32_line, int32_of_last};
+ghost use Rattle.buffamap.specs.Ext.{int32s_of_each, ints_line, records_of, string_line, string_of_last, words_of};
+ghost use Rattle.buffamap.specs.Fault.{Tells};
+ghost use Rattle.buffamap.specs.Reply.{done};
 
+use crate::fault::Fault;
 use crate::forms::{hex_bytes, without_newline};
-use crate::reply::{Answer, bad_input, done, refused};
 use buffa::extension::codecs::{Int32, Repeated, StringCodec};
-use buffa::{DecodeError, Extension, ExtensionSet, UnknownFields};
+use buffa::{Extension, ExtensionSet, UnknownFields};
 use std::alloc::{AllocError, Global};
 
 // A message of which no field is declared.
@@ -50,7 +51,7 @@ impl ExtensionSet for Extendee {
 fn add_has(message: &Extendee, number: u32, text: &mut Vec<u8>) -> Result<(), AllocError>
     ensures { OnOk result (text.new.items ≡ text.old.items ++ has_line (sub number message.now.fields.records)) }
 {
-    let any = Extension::<Int32>::new(number, "buffamap.Extendee");
+    let any = Extension::<Int32>::new(number, Extendee::PROTO_FQN);
     if message.has_extension(&any) {
         text.extend_from_slice(b"has yes\n")
     } else {
@@ -68,7 +69,7 @@ fn add_int32(
     ensures { OnOk result (text.new.items
         ≡ text.old.items ++ int32_line (int32_of_last (sub number message.now.fields.records))) }
 {
-    let int32 = Extension::<Int32>::new(number, "buffamap.Extendee");
+    let int32 = Extension::<Int32>::new(number, Extendee::PROTO_FQN);
     let Some(value) = message.extension(alloc, &int32)? else {
         return text.extend_from_slice(b"int32 none\n");
     };
@@ -86,7 +87,7 @@ fn add_string(
     ensures { OnOk result (text.new.items
         ≡ text.old.items ++ string_line (string_of_last (sub number message.now.fields.records))) }
 {
-    let string = Extension::<StringCodec>::new(number, "buffamap.Extendee");
+    let string = Extension::<StringCodec>::new(number, Extendee::PROTO_FQN);
     let Some(value) = message.extension(alloc, &string)? else {
         return text.extend_from_slice(b"string none\n");
     };
@@ -116,7 +117,7 @@ fn add_ints(
     ensures { OnOk result (text.new.items
         ≡ text.old.items ++ ints_line (int32s_of_each (sub number message.now.fields.records))) }
 {
-    let ints = Extension::<Repeated<Int32>>::new(number, "buffamap.Extendee");
+    let ints = Extension::<Repeated<Int32>>::new(number, Extendee::PROTO_FQN);
     let values = message.extension(alloc, &ints)?;
     text.extend_from_slice(b"ints")?;
     add_words(alloc, values.as_slice(), text)?;
@@ -137,23 +138,20 @@ fn lines_of(alloc: Global, message: &Extendee, number: u32) -> Result<Vec<u8>, A
 }
 
 // The answer to a message.
-fn ext_message(alloc: Global, number: u32, bytes: &[u8]) -> Result<Answer, AllocError>
-    ensures { IfOk result (λ a. reply_of a ≡ message_reply number (records_of bytes.now)) }
+fn ext_message(alloc: Global, number: u32, bytes: &[u8]) -> Result<Vec<u8>, Fault>
+    ensures text { IfOk result (λ text. IsShown number (records_of bytes.now) (done text.items)) }
+    ensures fault { IfErr result (Tells (IsShown number (records_of bytes.now))) }
 {
-    match UnknownFields::decode_from_slice(alloc, bytes) {
-        Ok(fields) => Ok(done(lines_of(alloc, &Extendee { fields }, number)?)),
-        Err(DecodeError::OutOfMemory) => Err(AllocError),
-        Err(error) => refused(alloc, error),
-    }
+    let fields = UnknownFields::decode_from_slice(alloc, bytes)?;
+    Ok(lines_of(alloc, &Extendee { fields }, number)?)
 }
 
 /// Four lines on the records of number `number` in a message, which the input gives in hexadecimal: whether
 /// there are any; the value of an int32; of a string; and those of int32s, packed or not.
-pub fn ext_reply(alloc: Global, number: u32, input: &[u8]) -> Result<Answer, AllocError>
-    ensures { IfOk result (λ a. RepliesToExt number input.now (reply_of a)) }
+pub fn ext_reply(alloc: Global, number: u32, input: &[u8]) -> Result<Vec<u8>, Fault>
+    ensures text { IfOk result (λ text. RepliesToExt number input.now (done text.items)) }
+    ensures fault { IfErr result (Tells (RepliesToExt number input.now)) }
 {
-    match hex_bytes(alloc, without_newline(input))? {
-        Some(bytes) => ext_message(alloc, number, bytes.as_slice()),
-        None => bad_input(alloc),
-    }
+    let bytes = hex_bytes(alloc, without_newline(input))?;
+    ext_message(alloc, number, bytes.as_slice())
 }

@@ -1,11 +1,12 @@
 // The forms of words and inputs: decimal digits, hexadecimal digits, a final newline.
-ghost use Rattle.std.specs.Prelude.{◌≡◌, ◌≤◌, ◌==◌, IfOk, map};
+ghost use Rattle.std.specs.Prelude.{◌≡◌, ◌≤◌, ◌==◌, IfErr, IfOk, Some, map};
 ghost use Rattle.std.specs.Char.{is_ascii_digit};
 ghost use Rattle.std.specs.List.{list_all, slice_split};
-ghost use Rattle.std.specs.Option.{option_map};
+ghost use Rattle.buffamap.specs.Fault.{SaysNone};
 ghost use Rattle.buffamap.specs.Forms.{decimal, hex_bytes, without_newline};
+ghost use Rattle.buffamap.specs.Reply.{hex_line};
 
-use hex::FromHexError;
+use crate::fault::Fault;
 use std::alloc::{AllocError, Global};
 use std::str;
 
@@ -28,14 +29,20 @@ pub fn decimal(most: usize, digits: &[u8]) -> Option<u64>
 }
 
 /// The bytes that pairs of hexadecimal digits spell.
-pub fn hex_bytes(alloc: Global, digits: &[u8]) -> Result<Option<Vec<u8>>, AllocError>
-    ensures { IfOk result (λ bytes. option_map (λ b. b.items) bytes ≡ hex_bytes digits.now) }
+pub fn hex_bytes(alloc: Global, digits: &[u8]) -> Result<Vec<u8>, Fault>
+    ensures bytes { IfOk result (λ bytes. hex_bytes digits.now ≡ Some bytes.items) }
+    ensures fault { IfErr result (SaysNone (hex_bytes digits.now)) }
 {
-    match hex::decode(alloc, digits) {
-        Ok(bytes) => Ok(Some(bytes)),
-        Err(FromHexError::OutOfMemory) => Err(AllocError),
-        Err(_) => Ok(None),
-    }
+    Ok(hex::decode(alloc, digits)?)
+}
+
+/// Bytes in hexadecimal, on a line.
+pub fn hex_line(alloc: Global, bytes: &[u8]) -> Result<Vec<u8>, AllocError>
+    ensures { IfOk result (λ text. text.items ≡ hex_line bytes.now) }
+{
+    let mut text = hex::encode(alloc, bytes)?.into_bytes();
+    text.push(b'\n')?;
+    Ok(text)
 }
 
 /// A text without its final newline, if it has one.

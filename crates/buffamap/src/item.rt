@@ -1,12 +1,13 @@
 // `item`: the number, the message bytes and the rest of a MessageSet's Item.
-ghost use Rattle.std.specs.Prelude.{◌≡◌, IfOk};
-ghost use Rattle.buffamap.specs.Item.{RepliesToItem, found_reply, item_from, item_lines};
-ghost use Rattle.buffamap.specs.Reply.{reply_of};
+ghost use Rattle.std.specs.Prelude.{◌≡◌, IfErr, IfOk};
+ghost use Rattle.buffamap.specs.Fault.{Tells};
+ghost use Rattle.buffamap.specs.Item.{IsFound, RepliesToItem, item_from, item_lines};
+ghost use Rattle.buffamap.specs.Reply.{done};
 
+use crate::fault::Fault;
 use crate::forms::{hex_bytes, without_newline};
-use crate::reply::{Answer, bad_input, done, refused};
 use buffa::message_set::merge_item;
-use buffa::{Budget, DEFAULT_UNKNOWN_FIELD_LIMIT, DecodeContext, DecodeError, RECURSION_LIMIT};
+use buffa::{Budget, DEFAULT_UNKNOWN_FIELD_LIMIT, DecodeContext, RECURSION_LIMIT};
 use std::alloc::{AllocError, Global};
 
 // An Item is one level deep.
@@ -28,26 +29,23 @@ fn item_lines(
 }
 
 // The answer to an Item.
-fn item_bytes(alloc: Global, bytes: &[u8]) -> Result<Answer, AllocError>
-    ensures { IfOk result (λ a. reply_of a ≡ found_reply (item_from bytes.now)) }
+fn item_bytes(alloc: Global, bytes: &[u8]) -> Result<Vec<u8>, Fault>
+    ensures text { IfOk result (λ text. IsFound (item_from bytes.now) (done text.items)) }
+    ensures fault { IfErr result (Tells (IsFound (item_from bytes.now))) }
 {
     let mut budget = Budget::new(DEFAULT_UNKNOWN_FIELD_LIMIT);
     let ctx = DecodeContext::new(DEPTH, &mut budget);
     let mut rest = bytes;
-    match merge_item(alloc, &mut rest, ctx) {
-        Ok((number, payload)) => Ok(done(item_lines(alloc, number, payload.as_slice(), rest)?)),
-        Err(DecodeError::OutOfMemory) => Err(AllocError),
-        Err(error) => refused(alloc, error),
-    }
+    let (number, payload) = merge_item(alloc, &mut rest, ctx)?;
+    Ok(item_lines(alloc, number, payload.as_slice(), rest)?)
 }
 
 /// Three lines on an Item, of which the input gives in hexadecimal what follows the start tag: the number, the
 /// message bytes, and what follows the Item, both in hexadecimal.
-pub fn item_reply(alloc: Global, input: &[u8]) -> Result<Answer, AllocError>
-    ensures { IfOk result (λ a. RepliesToItem input.now (reply_of a)) }
+pub fn item_reply(alloc: Global, input: &[u8]) -> Result<Vec<u8>, Fault>
+    ensures text { IfOk result (λ text. RepliesToItem input.now (done text.items)) }
+    ensures fault { IfErr result (Tells (RepliesToItem input.now)) }
 {
-    match hex_bytes(alloc, without_newline(input))? {
-        Some(bytes) => item_bytes(alloc, bytes.as_slice()),
-        None => bad_input(alloc),
-    }
+    let bytes = hex_bytes(alloc, without_newline(input))?;
+    item_bytes(alloc, bytes.as_slice())
 }

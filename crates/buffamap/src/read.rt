@@ -7,14 +7,15 @@ ghost use Rattle.buffa_map.specs.Pairs.{SamePairs};
 ghost use Rattle.buffa_map.specs.Run.{fold_entries, EntryRecord};
 ghost use Rattle.buffamap.specs.Lines.{pairs_of, same_key};
 ghost use Rattle.buffamap.specs.Read.{MeansRun, RepliesToRead, RepliesToRun, run_from};
-ghost use Rattle.buffamap.specs.Reply.{reply_of};
+ghost use Rattle.buffamap.specs.Fault.{Tells};
+ghost use Rattle.buffamap.specs.Reply.{done};
 
+use crate::fault::Fault;
 use crate::forms::{hex_bytes, without_newline};
 use crate::lines::lines_of;
-use crate::reply::{Answer, bad_input, done, refused};
 use buffa::map_codec::{Int32, Str, read_map_field};
 use buffa::{Budget, DEFAULT_UNKNOWN_FIELD_LIMIT, DecodeContext, DecodeError, RECURSION_LIMIT};
-use std::alloc::{AllocError, Global};
+use std::alloc::Global;
 use std::collections::BTreeMap;
 
 // Reads a run into an empty map.
@@ -37,23 +38,20 @@ fn read_pairs(
 }
 
 // The answer to a run.
-fn read_run(alloc: Global, number: u32, bytes: &[u8]) -> Result<Answer, AllocError>
-    ensures { IfOk result (λ a. RepliesToRun (run_from number bytes.now) (reply_of a)) }
+fn read_run(alloc: Global, number: u32, bytes: &[u8]) -> Result<Vec<u8>, Fault>
+    ensures text { IfOk result (λ text. RepliesToRun (run_from number bytes.now) (done text.items)) }
+    ensures fault { IfErr result (Tells (RepliesToRun (run_from number bytes.now))) }
 {
     let mut pairs = BTreeMap::new(alloc);
-    match read_pairs(alloc, number, bytes, &mut pairs) {
-        Ok(()) => Ok(done(lines_of(alloc, &pairs)?)),
-        Err(DecodeError::OutOfMemory) => Err(AllocError),
-        Err(error) => refused(alloc, error),
-    }
+    read_pairs(alloc, number, bytes, &mut pairs)?;
+    Ok(lines_of(alloc, &pairs)?)
 }
 
 /// The lines of the pairs of a run of field `number`, which the input gives in hexadecimal.
-pub fn read_reply(alloc: Global, number: u32, input: &[u8]) -> Result<Answer, AllocError>
-    ensures { IfOk result (λ a. RepliesToRead number input.now (reply_of a)) }
+pub fn read_reply(alloc: Global, number: u32, input: &[u8]) -> Result<Vec<u8>, Fault>
+    ensures text { IfOk result (λ text. RepliesToRead number input.now (done text.items)) }
+    ensures fault { IfErr result (Tells (RepliesToRead number input.now)) }
 {
-    match hex_bytes(alloc, without_newline(input))? {
-        Some(bytes) => read_run(alloc, number, bytes.as_slice()),
-        None => bad_input(alloc),
-    }
+    let bytes = hex_bytes(alloc, without_newline(input))?;
+    read_run(alloc, number, bytes.as_slice())
 }

@@ -1,12 +1,10 @@
-use Rattle.std.specs.Prelude.{IfOk}
-use Rattle.std.proofs.Common.{◌≡◌, subst}
-use Rattle.buffamap.specs.Reply.{reply_of}
+use Rattle.std.proofs.Common.{◌∙◌, ap}
+use Rattle.buffamap.specs.Reply.{hex_line}
 use Rattle.buffamap.specs.Rewrite.{run_from}
 use Rattle.buffamap.proofs.RewriteReplies.{replied}
 use Rattle.buffamap.proofs.rewrite.rewrite_run.Goals as goal
 
-pub returns-in-Ok : goal.returns-in-Ok
-returns-in-Ok c =
-    subst (λ z. IfOk c.written.result (λ a. reply_of a ≡ z))
-    (replied c.args.number (run_from c.args.number c.args.bytes.now) c.read_choices.new.pairs.entries c.read_choices.new.kept.records c.written.ensures.ordered c.in-Ok.ensures.ok)
-    c.written.ensures.reply
+pub returns-clause-text : goal.returns-clause-text
+returns-clause-text c =
+    replied c.args.number (run_from c.args.number c.args.bytes.now) c.rewrite_into.new.text.items c.in_ok-hex_line.field-0.items c.in_ok-rewrite_into.ensures.text
+    (c.in_ok-hex_line.ensures ∙ ap hex_line c.as_slice.ensures.value)

@@ -1,0 +1,154 @@
+-- Each command has one reply to an input, and each call one answer.
+use Rattle.std.proofs.Common.{◌≡◌, ◌≢◌, ◌⊎◌, ℕ, ℤ, List, [], ◌++◌, Bool, true, false, Option, Some, None, Result, Ok, Err, refl, sym, ap, subst, ◌∙◌, inl, inr}
+use Rattle.std.specs.Io.KnownBytes.{Appends}
+use Rattle.std.specs.List.Sorted.{IsStrictlySortedBy}
+use Rattle.std.specs.Map.{keys_of}
+use Rattle.std.specs.Ordering.{int_cmp, int_eq}
+use Rattle.std.proofs.lemmas.Cmp.{int_cmp_total}
+use Rattle.buffa_bytes.specs.declared.error.DecodeError.{DecodeError}
+use Rattle.buffa_wire.specs.BudgetLeft.{BudgetLeft}
+use Rattle.buffa_wire.specs.Records.{Datum}
+use Rattle.buffa_wire.specs.Text.{records_text}
+use Rattle.buffa_map.specs.Enums.{closed_writing}
+use Rattle.buffa_map.specs.Pairs.{ListsOnce}
+use Rattle.buffa_map.specs.Run.{EntryRecord, fold_entries, undeclared_records}
+use Rattle.buffa_map.specs.Text.{HasText, field_text}
+use Rattle.buffamap.specs.Codecs.{int32_writing}
+use Rattle.buffamap.proofs.Sorting.{same_sorted}
+use Rattle.buffamap.specs.declared.command.Command.{Command}
+use Rattle.buffamap.specs.declared.command.Command.TheVariants.{Ext, Item, Read, Rewrite, Write}
+use Rattle.buffamap.specs.Command.{command_of, texts}
+use Rattle.buffamap.specs.Engine.{Answers, Gives, RepliesTo}
+use Rattle.buffamap.specs.Ext.{IsShown, IsShownOf, RepliesToExt, records_of}
+use Rattle.buffamap.specs.Forms.{hex_bytes, without_newline}
+use Rattle.buffamap.specs.Item.{IsFound, IsFoundIn, RepliesToItem, item_from}
+use Rattle.buffamap.specs.Lines.{Pair, lines_of, map_in, same_key}
+use Rattle.buffamap.specs.Pinned.{CallIsPinned, ReplyIsPinned, holding}
+use Rattle.buffamap.specs.Read.{RepliesToBytes, RepliesToRead, RepliesToRun, run_from}
+use Rattle.buffamap.specs.Reply.{Reply, done, hex_line}
+use Rattle.buffamap.specs.Rewrite.{Entry, IsRewritten, IsRewrittenOf, RepliesToRewrite}
+use Rattle.buffamap.specs.Rewrite.{Pair as Choices, run_from as rewrite_from}
+use Rattle.buffamap.specs.Streams.{Stream, Writes}
+use Rattle.buffamap.specs.Write.{RepliesToMap, RepliesToWrite, field_reply}
+use Rattle.buffamap.proofs.Ordered.{one_order}
+use denote.Ref.{Bor}
+
+-- where one input has one reply, what is accepted isn't refused
+pinned : (R : List ℕ → Reply → Type 0) → ((input : List ℕ) (a b : Reply) → R input a → R input b → a ≡ b) → ReplyIsPinned R
+pinned R one = record { one = one; refused = λ input text b h k. ap (λ (r : Reply). r.status) (sym (one input (done text) b h k)) }
+
+-- ---- the commands
+
+run_one : (r : Result (List (EntryRecord (List ℕ) ℤ) × BudgetLeft) DecodeError) (a b : Reply) → RepliesToRun r a → RepliesToRun r b → a ≡ b
+run_one (Ok r) a b h k = h.2 ∙ ap (λ z. done (lines_of z)) (one_order (fold_entries same_key [] r.0) h.0 k.0 h.1 k.1) ∙ sym k.2
+run_one (Err f) a b h k = h ∙ sym k
+
+bytes_one : (n : ℕ) (o : Option (List ℕ)) (a b : Reply) → RepliesToBytes n o a → RepliesToBytes n o b → a ≡ b
+bytes_one n None a b h k = h ∙ sym k
+bytes_one n (Some bytes) a b h k = run_one (run_from n bytes) a b h k
+
+pub read_pinned : (n : ℕ) → ReplyIsPinned (RepliesToRead n)
+read_pinned n = pinned (RepliesToRead n) (λ input a b h k. bytes_one n (hex_bytes (without_newline input)) a b h k)
+
+map_one : (n : ℕ) (o : Option (List Pair)) (a b : Reply) → RepliesToMap n o a → RepliesToMap n o b → a ≡ b
+map_one n None a b h k = h ∙ sym k
+map_one n (Some m) a b h k = h.2 ∙ ap (field_reply n) (one_order m h.0 k.0 h.1 k.1) ∙ sym k.2
+
+pub write_pinned : (n : ℕ) → ReplyIsPinned (RepliesToWrite n)
+write_pinned n = pinned (RepliesToWrite n) (λ input a b h k. map_one n (map_in input) a b h k)
+
+-- a map has one list of its pairs in the order of their keys
+one_list : (m l k : List Choices) → ListsOnce int_eq m l → ListsOnce int_eq m k → IsStrictlySortedBy int_cmp (keys_of l) → IsStrictlySortedBy int_cmp (keys_of k) → l ≡ k
+one_list m l k once again s t = same_sorted int_cmp_total l k s t (λ q. sym (once.1 q) ∙ again.1 q)
+
+rewrite_one : (n : ℕ) (r : Result (List Entry × BudgetLeft) DecodeError) (a b : Reply) → IsRewritten n r a → IsRewritten n r b → a ≡ b
+rewrite_one n (Ok r) a b (inl h) (inl k) =
+    let v = h.1.0 in
+    let w = k.1.0 in
+    let same = one_list (fold_entries int_eq [] r.0) v.0 w.0 v.1 w.1 h.1.1 k.1.1 in
+    h.2 ∙ ap (λ z. done (hex_line z)) (v.4 ∙ ap (λ z. field_text int32_writing closed_writing n z ++ records_text (undeclared_records n r.0)) same ∙ sym w.4) ∙ sym k.2
+rewrite_one n (Ok r) a b (inl h) (inr k) =
+    let v = h.1.0 in
+    let same = one_list (fold_entries int_eq [] r.0) v.0 k.0.0 v.1 k.0.1 h.1.1 k.0.2 in
+    absurd (k.0.3 (subst (HasText int32_writing closed_writing) same v.2))
+rewrite_one n (Ok r) a b (inr h) (inl k) =
+    let w = k.1.0 in
+    let same = one_list (fold_entries int_eq [] r.0) w.0 h.0.0 w.1 h.0.1 k.1.1 h.0.2 in
+    absurd (h.0.3 (subst (HasText int32_writing closed_writing) same w.2))
+rewrite_one n (Ok r) a b (inr h) (inr k) = h.1 ∙ sym k.1
+rewrite_one n (Err f) a b h k = h ∙ sym k
+
+rewritten_one : (n : ℕ) (o : Option (List ℕ)) (a b : Reply) → IsRewrittenOf n o a → IsRewrittenOf n o b → a ≡ b
+rewritten_one n None a b h k = h ∙ sym k
+rewritten_one n (Some bytes) a b h k = rewrite_one n (rewrite_from n bytes) a b h k
+
+pub rewrite_pinned : (n : ℕ) → ReplyIsPinned (RepliesToRewrite n)
+rewrite_pinned n = pinned (RepliesToRewrite n) (λ input a b h k. rewritten_one n (hex_bytes (without_newline input)) a b h k)
+
+shown_one : (n : ℕ) (r : Result (List (ℕ × Datum)) DecodeError) (a b : Reply) → IsShown n r a → IsShown n r b → a ≡ b
+shown_one n (Ok records) a b h k = h ∙ sym k
+shown_one n (Err f) a b h k = h ∙ sym k
+
+shown_of_one : (n : ℕ) (o : Option (List ℕ)) (a b : Reply) → IsShownOf n o a → IsShownOf n o b → a ≡ b
+shown_of_one n None a b h k = h ∙ sym k
+shown_of_one n (Some bytes) a b h k = shown_one n (records_of bytes) a b h k
+
+pub ext_pinned : (n : ℕ) → ReplyIsPinned (RepliesToExt n)
+ext_pinned n = pinned (RepliesToExt n) (λ input a b h k. shown_of_one n (hex_bytes (without_newline input)) a b h k)
+
+found_one : (r : Result (ℕ × List ℕ × List ℕ) DecodeError) (a b : Reply) → IsFound r a → IsFound r b → a ≡ b
+found_one (Ok item) a b h k = h ∙ sym k
+found_one (Err f) a b h k = h ∙ sym k
+
+found_in_one : (o : Option (List ℕ)) (a b : Reply) → IsFoundIn o a → IsFoundIn o b → a ≡ b
+found_in_one None a b h k = h ∙ sym k
+found_in_one (Some bytes) a b h k = found_one (item_from bytes) a b h k
+
+pub item_pinned : ReplyIsPinned RepliesToItem
+item_pinned = pinned RepliesToItem (λ input a b h k. found_in_one (hex_bytes (without_newline input)) a b h k)
+
+-- ---- a call
+
+command_one : (c : Command) (input : List ℕ) (a b : Reply) → RepliesTo c input a → RepliesTo c input b → a ≡ b
+command_one (Read n) = (read_pinned n).one
+command_one (Write n) = (write_pinned n).one
+command_one (Rewrite n) = (rewrite_pinned n).one
+command_one (Ext n) = (ext_pinned n).one
+command_one Item = item_pinned.one
+
+-- the reply of a command whose input is known and didn't fail, where memory didn't run out
+known_reply : (c : Command) (input : List ℕ) (a : Reply) → Answers (Some c) (Some input) false a → a.status ≢ 4 → RepliesTo c input a
+known_reply c input a (inl h) not_memory = rw (sym h.1) h.2
+known_reply c input a (inr (inl h)) not_memory = absurd (not_memory (ap (λ (r : Reply). r.status) h))
+known_reply c input a (inr (inr h)) not_memory = absurd (let never : false ≡ true = h.1 in cc)
+
+reply_one : (o : Option Command) (input : List ℕ) (a b : Reply) → Answers o (Some input) false a → Answers o (Some input) false b → a.status ≢ 4 → b.status ≢ 4 → a ≡ b
+reply_one None input a b h k x y = h ∙ sym k
+reply_one (Some c) input a b h k x y = command_one c input a b (known_reply c input a h x) (known_reply c input b k y)
+
+-- what is given of a reply where nothing failed
+given : (r : Reply) (out err : List ℕ) (a p : Stream) (s : ℕ) → Gives r (holding out) a (holding err) p s → a.failed ≡ false → p.failed ≡ false →
+    (s ≡ r.status) × (a ≡ holding (out ++ r.text)) × (p ≡ holding (err ++ r.complaint))
+given r out err a p s (inr h) x y = absurd (let never : false ≡ true = sym x ∙ h.1.1 in cc)
+given r out err a p s (inl h) x y = (h.0, grown out r.text a h.1.0 x, written h.2)
+  where
+    grown : (old text : List ℕ) (a : Stream) → Appends (Some old) a.bytes text → a.failed ≡ false → a ≡ holding (old ++ text)
+    grown old text a h x = stream a.bytes refl h
+      where
+        stream : (b : Option (List ℕ)) → b ≡ a.bytes → Appends (Some old) b text → a ≡ holding (old ++ text)
+        stream None e h = absurd h
+        stream (Some ys) e h = λ i. record { bytes = (sym e ∙ ap Some h) i; failed = x i }
+
+    written : Writes (holding err) p r.complaint → p ≡ holding (err ++ r.complaint)
+    written (inl w) = grown err r.complaint p w.0 y
+    written (inr w) = absurd (let never : false ≡ true = sym y ∙ w.1 in cc)
+
+pub call_pinned : (words : List (Bor (List ℕ))) → CallIsPinned words
+call_pinned words input out err a b p q s t h k (a', b', p', q') (x, y) =
+    let g = given h.0 out err a p s h.2 a' p' in
+    let f = given k.0 out err b q t k.2 b' q' in
+    let same : h.0 ≡ k.0 = reply_one (command_of (texts words)) input h.0 k.0 h.1 k.1 (λ e. x (g.0 ∙ e)) (λ e. y (f.0 ∙ e)) in (
+      g.0 ∙ ap (λ (r : Reply). r.status) same ∙ sym f.0,
+      g.1 ∙ ap (λ (r : Reply). holding (out ++ r.text)) same ∙ sym f.1,
+      g.2 ∙ ap (λ (r : Reply). holding (err ++ r.complaint)) same ∙ sym f.2,
+    )

@@ -1,0 +1,45 @@
+-- Why a call has no answer, and what is told of it.
+use Rattle.std.specs.Prelude.{◌≡◌, ◌≢◌, Option, None}
+use Rattle.hex.specs.declared.error.FromHexError.{FromHexError}
+use Rattle.hex.specs.declared.error.FromHexError.TheVariants as of_digits
+use Rattle.buffa_bytes.specs.declared.error.DecodeError.{DecodeError}
+use Rattle.buffa_bytes.specs.declared.error.DecodeError.TheVariants as of_bytes
+use Rattle.buffa_bytes.specs.declared.error.EncodeError.{EncodeError}
+use Rattle.buffa_bytes.specs.declared.error.EncodeError.TheVariants as of_text
+use Rattle.buffa_map.specs.declared.rewrite.RewriteError.{RewriteError}
+use Rattle.buffa_map.specs.declared.rewrite.RewriteError.TheVariants.{Decode, Encode}
+use Rattle.buffa_wire.specs.ErrorText.{decode_error_text, encode_error_text}
+use Rattle.buffamap.specs.declared.fault.Fault.{Fault}
+use Rattle.buffamap.specs.declared.fault.Fault.TheVariants.{Form, OutOfMemory, RefusedBytes, RefusedText, Stream, Words}
+use Rattle.buffamap.specs.Reply.{Reply, bad_input, broken, fault, no_memory, wrong_words}
+
+-- the fault that an error of a layer below is: out of memory is out of memory
+abbrev pub IsOfDigits : FromHexError → Fault → Type 0
+IsOfDigits e f = (e ≡ of_digits.OutOfMemory → f ≡ OutOfMemory) × (e ≢ of_digits.OutOfMemory → f ≡ Form)
+
+abbrev pub IsOfBytes : DecodeError → Fault → Type 0
+IsOfBytes e f = (e ≡ of_bytes.OutOfMemory → f ≡ OutOfMemory) × (e ≢ of_bytes.OutOfMemory → f ≡ RefusedBytes e)
+
+abbrev pub IsOfText : EncodeError → Fault → Type 0
+IsOfText e f = (e ≡ of_text.OutOfMemory → f ≡ OutOfMemory) × (e ≢ of_text.OutOfMemory → f ≡ RefusedText e)
+
+abbrev pub IsOfRewrite : RewriteError → Fault → Type 0
+IsOfRewrite (Decode e) f = IsOfBytes e f
+IsOfRewrite (Encode e) f = IsOfText e f
+
+-- what is told of a fault
+abbrev pub told : Fault → Reply
+told Words = wrong_words
+told Form = bad_input
+told Stream = broken
+told OutOfMemory = no_memory
+told (RefusedBytes e) = fault (decode_error_text e)
+told (RefusedText e) = fault (encode_error_text e)
+
+-- what is told of the fault is a P, memory aside
+abbrev pub Tells : (Reply → Type 0) → Fault → Type 0
+Tells P f = f ≢ OutOfMemory → P (told f)
+
+-- what was given isn't in the stated form, so that it says nothing, memory aside
+abbrev pub SaysNone : {A : Type 0} → Option A → Fault → Type 0
+SaysNone o f = f ≢ OutOfMemory → (f ≡ Form) × (o ≡ None)

@@ -1,0 +1,56 @@
+//! What the definitions of the program say together: each law is a function with nothing to do, whose contract is
+//! the law.
+
+ghost use Rattle.buffa_wire.specs.Number.{IsNumber};
+ghost use Rattle.buffamap.specs.Ext.{RepliesToExt};
+ghost use Rattle.buffamap.specs.Item.{RepliesToItem};
+ghost use Rattle.buffamap.specs.Pinned.{CallIsPinned, ReplyIsPinned};
+ghost use Rattle.buffamap.specs.Read.{RepliesToRead};
+ghost use Rattle.buffamap.specs.Rewrite.{RepliesToRewrite, RewriteKeepsMeaning};
+ghost use Rattle.buffamap.specs.Write.{RepliesToWrite};
+
+use crate::choice::Choice;
+use buffa::map_codec::{ClosedEnum, Int32};
+
+/// `read N` has one reply to an input. Memory is left open: the reply may be that it ran out.
+pub fn one_reply_to_read(number: u32)
+    ensures { ReplyIsPinned (RepliesToRead number) }
+{}
+
+/// `write N` has one reply to an input. Memory is left open: the reply may be that it ran out.
+pub fn one_reply_to_write(number: u32)
+    ensures { ReplyIsPinned (RepliesToWrite number) }
+{}
+
+/// `rewrite N` has one reply to an input. Memory is left open: the reply may be that it ran out.
+pub fn one_reply_to_rewrite(number: u32)
+    ensures { ReplyIsPinned (RepliesToRewrite number) }
+{}
+
+/// What `rewrite N` writes keeps the meaning of what it reads: `law_12` of [`buffa::laws`], of the program's reply. A
+/// reader of an enum that declares more reads from both the same map, if the run is ordered, and keeps the same entries.
+pub fn rewrites_keep_their_meaning(number: u32)
+    requires { IsNumber number }
+    ensures { RewriteKeepsMeaning number }
+{
+    buffa::laws::law_12::<Int32>();
+    buffa_map::laws::runs_are_read::<Int32, ClosedEnum<Choice>>();
+    buffa_map::laws::one_reading::<Int32, ClosedEnum<Choice>>();
+}
+
+/// `ext N` has one reply to an input. Memory is left open: the reply may be that it ran out.
+pub fn one_reply_to_ext(number: u32)
+    ensures { ReplyIsPinned (RepliesToExt number) }
+{}
+
+/// `item` has one reply to an input. Memory is left open: the reply may be that it ran out.
+pub fn one_reply_to_item()
+    ensures { ReplyIsPinned RepliesToItem }
+{}
+
+/// One call of the program has one status, and leaves its output and its errors in one way. Left open: that memory
+/// ran out; what of a line stands where its stream failed, which is a beginning of it; and a reader or a writer
+/// that doesn't tell its bytes.
+pub fn one_answer_to_a_call(words: &[&str])
+    ensures { CallIsPinned words.now }
+{}
