@@ -5,7 +5,8 @@ Each row of vectors/cases and vectors/google is run by the program `conformance`
 it has ended; between the two `refuse.c` refuses one request for memory, the first, then the second, and so on until none
 is refused, and each request where the row says that the call takes no memory. The program compares the answer and what
 stands after it, and prints the rows that don't hold. Needs gcc. `rt ci` leaves the program; where there is none, `rt run`
-builds it. The gate runs the same tables without refusals: `tests/conformance.py gather` writes its input of them.
+builds it. The gate runs the same tables without refusals: `tests/conformance.py gather` writes its input of them, and its
+output.
 """
 import glob
 import os
@@ -30,10 +31,17 @@ def tables():
     return text
 
 
+def gathered():
+    """The gate's input, the tables one after the other, and what the program has to say of it: that each row holds."""
+    text = tables()
+    rows = sum(1 for it in text.splitlines() if it and not it.startswith(b"#"))
+    return {"stdin": text, "stdout": b"%d held, 0 did not\n" % rows}
+
+
 def gather():
-    """Writes the gate's input, the tables one after the other."""
-    with open(f"{CRATE}/stdin", "wb") as it:
-        it.write(tables())
+    for name, text in gathered().items():
+        with open(f"{CRATE}/{name}", "wb") as it:
+            it.write(text)
 
 
 def run(program, library, text):
@@ -78,10 +86,11 @@ def main():
         return 1
     text = tables()
     failed = False
-    with open(f"{CRATE}/stdin", "rb") as it:
-        if it.read() != text:
-            print("conformance: crates/conformance/stdin isn't what the tables are: run tests/conformance.py gather")
-            failed = True
+    for name, wanted in gathered().items():
+        with open(f"{CRATE}/{name}", "rb") as it:
+            if it.read() != wanted:
+                print(f"conformance: crates/conformance/{name} isn't what the tables are: run tests/conformance.py gather")
+                failed = True
     with tempfile.TemporaryDirectory(prefix="conformance-") as room:
         library = f"{room}/refuse.so"
         subprocess.run(["gcc", "-O2", "-Wall", "-Werror", "-shared", "-fPIC", "-o", library, f"{TOP}/tests/refuse.c"], check=True)

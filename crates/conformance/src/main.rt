@@ -118,10 +118,12 @@ fn run_all(rt: &HostRuntime) -> io::Result<bool> {
         }
         all = all.and(tally);
     }
-    println!(rt;
-        "{} runs, {} requests for memory refused",
-        all.runs, all.refused
-    )?;
+    if refusing {
+        println!(rt;
+            "{} runs, {} requests for memory refused",
+            all.runs, all.refused
+        )?;
+    }
     println!(rt; "{held} held, {failed} did not")?;
     Ok(failed == 0)
 }
