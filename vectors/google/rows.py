@@ -7,6 +7,8 @@ Run it after a change of these, and then tests/conformance.py gather.
 from pathlib import Path
 
 HERE = Path(__file__).resolve().parent
+# Kinds whose values are read without memory.
+NUMBERS = {"int32", "int64", "uint32", "uint64", "sint32", "sint64", "bool", "fixed32", "fixed64", "sfixed32", "sfixed64", "enum"}
 COLUMNS = "# Columns as in vectors/cases: name, call, types, settings, before, input, answer, after.\n"
 
 
@@ -95,7 +97,8 @@ def extensions():
         told = words or ("none" if how == "one" else "-")
         settings = f"number={number}" + ("" if how == "one" else f" how={how}")
         after = f"{told}; records {records or '-'}"
-        out.append(row("get", kind, settings, records, "", "ok", after))
+        free = " memory=none" if how == "one" and kind in NUMBERS else ""
+        out.append(row("get", kind, settings + free, records, "", "ok", after))
         if mode == "both":
             out.append(row("set", kind, settings, "", words, "ok", after))
     return out
