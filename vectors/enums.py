@@ -5,13 +5,15 @@ generates are asked, since those that Python makes at run time read an undeclare
 """
 import random
 import subprocess
+import sys
 import tempfile
 from pathlib import Path
 
 HERE = Path(__file__).resolve().parent
 SOURCE = HERE / "enums.tsv"
 TARGET = HERE.parent / "crates" / "buffa_vectors" / "src" / "enums_table.rt"
-DRAW = random.Random(9)
+# a seed may be given as an argument
+DRAW = random.Random(int(sys.argv[1]) if len(sys.argv) > 1 else 9)
 
 
 def varint(number, spare=0):

@@ -3,6 +3,7 @@
 It needs python3-protobuf (3.21.12 was used): python3 vectors/messages.py, at the top.
 """
 import random
+import sys
 from pathlib import Path
 
 from google.protobuf import descriptor_pb2, descriptor_pool, message, message_factory
@@ -52,7 +53,8 @@ def types():
 
 
 FLAT, TWO, COUNT, TREE, FLATS, TWOS = types()
-DRAW = random.Random(8)
+# a seed may be given as an argument
+DRAW = random.Random(int(sys.argv[1]) if len(sys.argv) > 1 else 8)
 NUMBERS = [0, 0, 1, -1, 127, 128, 300, -7, 2**31 - 1, -(2**31)]
 
 

@@ -1,0 +1,302 @@
+// The ways to run a row that reads bytes: whole, cut, each beginning, and with memory refused.
+
+use crate::case::{Case, given};
+use crate::cuts::{pieces_of, single_bytes};
+use crate::fault::Fault;
+use crate::mark::Mark;
+use crate::outcome::{Outcome, and};
+use crate::read::{Group, called, group_of, keeps_a_map, read, reads_bytes, reads_to_the_end};
+use crate::store::{Kind, in_order};
+use crate::tally::Tally;
+use buffa::{Pieces, UnknownFields};
+use bytes::Bytes;
+use std::alloc::Global;
+use std::io::Stderr;
+
+/// A row, its bytes, and the storage that it is run in.
+#[derive(Clone, Copy)]
+pub struct Run<'a> {
+    /// The row.
+    pub case: &'a Case<'a>,
+    /// The storage.
+    pub kind: Kind,
+    /// Standard error.
+    pub errors: Stderr,
+}
+
+impl Run<'_> {
+    // The pairs as they are compared: in order, where the storage keeps none.
+    fn pairs(&self, alloc: Global, pairs: &str) -> Result<String, Fault> {
+        match self.kind {
+            Kind::Indexed => Ok(String::from_str(alloc, pairs)?),
+            Kind::Ordered | Kind::Hashed => in_order(alloc, pairs),
+        }
+    }
+
+    // What stands after, in words; the pairs come first.
+    fn state(&self, alloc: Global, pairs: &str, rest: &str) -> Result<String, Fault> {
+        let pairs = self.pairs(alloc, pairs)?;
+        Ok(format!(in alloc; "{pairs}; {rest}")?)
+    }
+
+    // The same as the row says it.
+    fn expected(&self, alloc: Global) -> Result<String, Fault> {
+        let (pairs, rest) = match self.case.after.split_once("; ") {
+            Some(parts) => parts,
+            None => (self.case.after, ""),
+        };
+        self.state(alloc, given(pairs), rest)
+    }
+
+    // Whether an outcome is the row's. `refused` is any fault but want of memory, and says nothing of the state.
+    fn is_right(&self, alloc: Global, outcome: &Outcome) -> Result<bool, Fault> {
+        if self.case.answer == "refused" {
+            return Ok(outcome.answer.as_str() != "ok" && outcome.answer.as_str() != "OutOfMemory");
+        }
+        let rest = and(alloc, outcome.rest.as_str(), outcome.left.as_str())?;
+        let found = self.state(alloc, outcome.pairs.as_str(), rest.as_str())?;
+        let expected = self.expected(alloc)?;
+        Ok(outcome.answer.as_str() == self.case.answer && found.as_str() == expected.as_str())
+    }
+
+    // What comes of a slice.
+    fn slice(
+        &self,
+        alloc: Global,
+        bytes: &[u8],
+        nth: Option<u64>,
+    ) -> Result<Option<Outcome>, Fault> {
+        let mut mark = Mark::new(self.errors, nth);
+        match group_of(self.case.call) {
+            Group::Fields | Group::Items => {
+                let mut buf = bytes;
+                read::<&[u8]>(alloc, self.case, self.kind, &mut mark, &mut buf)
+            }
+            _ => called(alloc, self.case, self.kind, &mut mark, bytes),
+        }
+    }
+
+    // What comes of shared bytes.
+    fn shared(
+        &self,
+        alloc: Global,
+        bytes: &[u8],
+        nth: Option<u64>,
+    ) -> Result<Option<Outcome>, Fault> {
+        let mut mark = Mark::new(self.errors, nth);
+        let mut buf = Bytes::copy_from_slice(alloc, bytes)?;
+        read::<Bytes>(alloc, self.case, self.kind, &mut mark, &mut buf)
+    }
+
+    // What comes of pieces.
+    fn pieces(
+        &self,
+        alloc: Global,
+        pieces: &[&[u8]],
+        nth: Option<u64>,
+    ) -> Result<Option<Outcome>, Fault> {
+        let mut mark = Mark::new(self.errors, nth);
+        match pieces_of(pieces) {
+            None => Err(Fault::Form),
+            Some(mut buf) => read::<Pieces<'_>>(alloc, self.case, self.kind, &mut mark, &mut buf),
+        }
+    }
+
+    // Whether there is no outcome, or the row's.
+    fn tell(
+        &self,
+        alloc: Global,
+        outcome: Option<Outcome>,
+        tally: &mut Tally,
+    ) -> Result<(), Fault> {
+        if let Some(outcome) = outcome {
+            let right = self.is_right(alloc, &outcome)?;
+            tally.add(right);
+        }
+        Ok(())
+    }
+
+    /// The row in one piece, and cut.
+    pub fn whole_and_cut(
+        &self,
+        alloc: Global,
+        bytes: &[u8],
+        tally: &mut Tally,
+    ) -> Result<(), Fault> {
+        let whole = self.slice(alloc, bytes, None)?;
+        self.tell(alloc, whole, tally)?;
+        let shared = self.shared(alloc, bytes, None)?;
+        self.tell(alloc, shared, tally)?;
+        for cut in 0..=bytes.len() {
+            let parts: [&[u8]; 4] = [&[], &bytes[..cut], &[], &bytes[cut..]];
+            let found = self.pieces(alloc, &parts, None)?;
+            self.tell(alloc, found, tally)?;
+        }
+        let parts = single_bytes(alloc, bytes)?;
+        let found = self.pieces(alloc, parts.as_slice(), None)?;
+        self.tell(alloc, found, tally)
+    }
+
+    // Whether a beginning is whole: records, or all that the row takes.
+    fn is_whole(&self, alloc: Global, front: &[u8], taken: usize) -> bool {
+        if reads_to_the_end(self.case.call) {
+            return UnknownFields::decode_from_slice(alloc, front).is_ok();
+        }
+        front.len() >= taken
+    }
+
+    // What stands before the call, as it is told after a refusal.
+    fn start(&self, alloc: Global) -> Result<String, Fault> {
+        match (self.case.call, self.case.setting("list")) {
+            ("rewrite", _) => self.state(alloc, self.case.before(), "text -"),
+            (_, Some(list)) => {
+                let rest = format!(in alloc; "list {list}")?;
+                self.state(alloc, self.case.before(), rest.as_str())
+            }
+            (_, None) => self.state(alloc, self.case.before(), ""),
+        }
+    }
+
+    // What stands of an outcome after a refusal, where a run goes on behind it. A rewrite has written nothing yet.
+    fn standing(&self, alloc: Global, outcome: &Outcome) -> Result<String, Fault> {
+        let rest = if self.case.call == "rewrite" {
+            "text -"
+        } else {
+            outcome.rest.as_str()
+        };
+        self.state(alloc, outcome.pairs.as_str(), rest)
+    }
+
+    /// Each beginning of a row that is accepted: whole, or cut off, and then what its whole records make stands.
+    pub fn beginnings(&self, alloc: Global, bytes: &[u8], tally: &mut Tally) -> Result<(), Fault> {
+        let Some(all) = self.slice(alloc, bytes, None)? else {
+            return Ok(());
+        };
+        if !reads_bytes(self.case.call) {
+            return Ok(());
+        }
+        let taken = bytes.len().saturating_sub(all.unread);
+        let mut standing = self.start(alloc)?;
+        for cut in 0..bytes.len() {
+            let front = &bytes[..cut];
+            let Some(outcome) = self.slice(alloc, front, None)? else {
+                return Ok(());
+            };
+            let found = self.standing(alloc, &outcome)?;
+            if self.is_whole(alloc, front, taken) {
+                tally.add(outcome.answer.as_str() == "ok");
+                standing = found;
+            } else {
+                let cut_off = outcome.answer.as_str() == "UnexpectedEof";
+                let stands = found.as_str() == standing.as_str();
+                tally.add(cut_off && (stands || !keeps_a_map(self.case.call)));
+            }
+        }
+        Ok(())
+    }
+
+    // What may stand where memory ran out: what stood before, and of a run what each beginning of records makes.
+    fn may_stand(&self, alloc: Global, bytes: &[u8]) -> Result<Vec<String>, Fault> {
+        let mut found = Vec::new(alloc);
+        found.push(self.start(alloc)?)?;
+        if !reads_to_the_end(self.case.call) || !keeps_a_map(self.case.call) {
+            return Ok(found);
+        }
+        for cut in 0..=bytes.len() {
+            if let Some(outcome) = self.slice(alloc, &bytes[..cut], None)? {
+                if outcome.answer.as_str() == "ok" {
+                    found.push(self.standing(alloc, &outcome)?)?;
+                }
+            }
+        }
+        Ok(found)
+    }
+
+    // Whether the records or the text of an outcome may stand where memory ran out: the records are those before, the
+    // text is a beginning of the row's.
+    fn rest_stands(&self, alloc: Global, rest: &str) -> Result<bool, Fault> {
+        if let Some(records) = rest.strip_prefix("records ") {
+            return Ok(records == self.case.before);
+        }
+        if rest.starts_with("text ") && rest != "text -" {
+            let expected = self.expected(alloc)?;
+            return Ok(expected.as_str().contains(rest));
+        }
+        Ok(true)
+    }
+
+    // Whether an outcome is want of memory, and what stands may stand then.
+    fn is_refused_well(
+        &self,
+        alloc: Global,
+        outcome: &Outcome,
+        may: &[String],
+    ) -> Result<bool, Fault> {
+        if outcome.answer.as_str() != "OutOfMemory" {
+            return Ok(false);
+        }
+        if !self.rest_stands(alloc, outcome.rest.as_str())? {
+            return Ok(false);
+        }
+        if !keeps_a_map(self.case.call) {
+            return Ok(true);
+        }
+        let found = self.standing(alloc, outcome)?;
+        Ok(may.iter().any(|state| state.as_str() == found.as_str()))
+    }
+
+    // The outcome of a way: whole, or in single bytes.
+    fn by(
+        &self,
+        alloc: Global,
+        bytes: &[u8],
+        cut: bool,
+        nth: u64,
+    ) -> Result<Option<Outcome>, Fault> {
+        if !cut {
+            return self.slice(alloc, bytes, Some(nth));
+        }
+        let parts = single_bytes(alloc, bytes)?;
+        self.pieces(alloc, parts.as_slice(), Some(nth))
+    }
+
+    // Each request refused in turn.
+    fn refused_by(
+        &self,
+        alloc: Global,
+        bytes: &[u8],
+        cut: bool,
+        may: &[String],
+        tally: &mut Tally,
+    ) -> Result<(), Fault> {
+        for nth in 1..1000u64 {
+            let Some(outcome) = self.by(alloc, bytes, cut, nth)? else {
+                return Ok(());
+            };
+            let right = self.is_right(alloc, &outcome)?;
+            if !outcome.refused {
+                tally.add(right);
+                return Ok(());
+            }
+            let well = self.is_refused_well(alloc, &outcome, may)?;
+            tally.add_refused(right || well);
+        }
+        tally.add(false);
+        Ok(())
+    }
+
+    /// Each request for memory refused in turn, whole and in single bytes; and all of them, where the row says that
+    /// it takes none.
+    pub fn refused(&self, alloc: Global, bytes: &[u8], tally: &mut Tally) -> Result<(), Fault> {
+        let may = self.may_stand(alloc, bytes)?;
+        self.refused_by(alloc, bytes, false, may.as_slice(), tally)?;
+        self.refused_by(alloc, bytes, true, may.as_slice(), tally)?;
+        if self.case.setting("memory") == Some("none") {
+            let whole = self.by(alloc, bytes, false, 0)?;
+            self.tell(alloc, whole, tally)?;
+            let cut = self.by(alloc, bytes, true, 0)?;
+            self.tell(alloc, cut, tally)?;
+        }
+        Ok(())
+    }
+}
