@@ -85,8 +85,8 @@ impl Tag {
     ///
     /// # Errors
     /// In this order: the faults of a varint; [`DecodeError::InvalidFieldNumber`] for a value of 2^32 or
-    /// more and for number 0; [`DecodeError::InvalidWireType`] for the wire types 6 and 7. It takes no
-    /// memory.
+    /// more and for number 0; [`DecodeError::InvalidWireType`] for the wire types 6 and 7. What follows the varint
+    /// stays unread then. It takes no memory.
     ///
     /// ```ignore
     /// let mut rest: &[u8] = &[0x2A];

@@ -34,7 +34,8 @@ pub fn take_byte<B: Buf>(buf: &mut B) -> Option<u8>
 ///
 /// # Errors
 /// [`DecodeError::UnexpectedEof`] where the bytes end before a byte below 128 and fewer than ten were
-/// there; [`DecodeError::VarintTooLong`] where the tenth byte is neither 0 nor 1. It takes no memory.
+/// there; [`DecodeError::VarintTooLong`] where the tenth byte is neither 0 nor 1. What follows the tenth byte stays
+/// unread then. It takes no memory.
 ///
 /// Source: the protobuf encoding guide, "Base 128 Varints".
 ///

@@ -50,7 +50,8 @@ pub fn encode_string<S: EncodeSink>(value: &str, sink: &mut S) -> Result<(), Enc
 ///
 /// # Errors
 /// In this order: those of a varint, [`DecodeError::UnexpectedEof`] where the length passes what is
-/// left, [`DecodeError::InvalidUtf8`]; or [`DecodeError::OutOfMemory`].
+/// left, [`DecodeError::InvalidUtf8`]; or [`DecodeError::OutOfMemory`]. What follows a length that passes the end
+/// stays unread then, and what follows the string.
 ///
 /// ```ignore
 /// let mut rest: &[u8] = &[3, b'b', b'e', b'e'];
@@ -109,7 +110,8 @@ pub fn encode_bytes<S: EncodeSink>(value: &[u8], sink: &mut S) -> Result<(), Enc
 ///
 /// # Errors
 /// In this order: those of a varint, [`DecodeError::UnexpectedEof`] where the length passes what is left;
-/// or [`DecodeError::OutOfMemory`].
+/// or [`DecodeError::OutOfMemory`]. What follows a length that passes the end stays unread then, and what follows
+/// the bytes.
 ///
 /// ```ignore
 /// let mut rest: &[u8] = &[2, 0xDE, 0xAD];
