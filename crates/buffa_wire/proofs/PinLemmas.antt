@@ -1,7 +1,6 @@
 -- Answers that contracts allow are one.
-use Rattle.std.proofs.Common.{◌≡◌, ◌≢◌, ◌⊎◌, inl, inr, ℕ, ℤ, true, zero, suc, ◌+◌, ◌-◌, ◌<◌, ◌≤◌, List, [], ◌∷◌, ◌++◌, drop, length, slice_index, Option, Some, Result, Ok, Err, refl, sym, ap, subst, ◌∙◌, arith, append-nil}
+use Rattle.std.proofs.Common.{◌≡◌, ◌≢◌, ◌⊎◌, inl, inr, ℕ, ℤ, true, zero, suc, ◌+◌, ◌-◌, ◌<◌, ◌≤◌, List, [], ◌∷◌, ◌++◌, drop, length, slice_index, Option, Some, refl, sym, ap, subst, ◌∙◌, arith, append-nil}
 use Rattle.buffa_bytes.proofs.FieldLemmas.{payload_complete}
-use Rattle.buffa_bytes.proofs.StepLemmas.{agree_err, agree_ok}
 use Rattle.buffa_bytes.specs.declared.wire_type.WireType.{WireType}
 use Rattle.buffa_bytes.specs.declared.error.DecodeError.{DecodeError}
 use Rattle.buffa_bytes.specs.Field.{IsTag, Payload}
@@ -11,14 +10,13 @@ use Rattle.buffa_wire.specs.Cache.{Cache, advanced, appended}
 use Rattle.buffa_wire.specs.Enums.{open_number}
 use Rattle.buffa_wire.specs.Passes.{IsNext}
 use Rattle.buffa_wire.proofs.PassLemmas.{drop_past, next_ok, next_rest}
-use Rattle.buffa_wire.specs.Parse.{FieldFault, RecordsFault, TakesField, slots}
+use Rattle.buffa_wire.specs.Parse.{slots}
 use Rattle.buffa_wire.specs.Message.{IsFieldMerged}
 use Rattle.buffa_bytes.specs.declared.error.DecodeError.TheVariants.{OutOfMemory}
 use Rattle.std.proofs.lemmas.List.{append_cancel_right}
 use Rattle.buffa_wire.proofs.ParseLemmas as parse
 use Rattle.buffa_wire.specs.Pinned.{done, told, BudgetIsPinned, FieldIsPinned, FieldMergeIsPinned, MergeIsPinned, PassesArePinned, RecordsArePinned}
-use Rattle.buffa_wire.specs.RecordReading.{field_at, list_at}
-use Rattle.buffa_wire.specs.Records.{Datum, list_of, records_of}
+use Rattle.buffa_wire.specs.Records.{list_of, records_of}
 use Rattle.buffa_wire.proofs.LoopLemmas.{field_refused, field_taken, list_refused, list_taken}
 use Rattle.buffa_wire.proofs.RecordLemmas.{list-records}
 use Rattle.buffa_wire.proofs.SequenceLemmas.{ok_same}

@@ -1,10 +1,9 @@
 -- What contracts leave open: nothing, but for what is said beside the laws.
-use Rattle.std.specs.Prelude.{◌≡◌, ◌≢◌, ◌≤◌, ℕ, ◌⊎◌, List, ◌++◌, Option, Result, Ok, Err}
+use Rattle.std.specs.Prelude.{◌≡◌, ◌≢◌, ◌≤◌, ℕ, ◌⊎◌, List, Option, Result, Ok, Err}
 use Rattle.buffa_bytes.specs.declared.wire_type.WireType.{WireType}
 use Rattle.buffa_bytes.specs.declared.error.DecodeError.{DecodeError}
 use Rattle.buffa_bytes.specs.declared.error.DecodeError.TheVariants.{OutOfMemory}
 use Rattle.buffa_bytes.specs.declared.error.EncodeError.{EncodeError}
-use Rattle.buffa_bytes.specs.declared.error.EncodeError.TheVariants as error
 use Rattle.buffa_bytes.specs.Field.{IsTag}
 use Rattle.buffa_wire.specs.BudgetLeft.{BudgetLeft, Lacks, Pays}
 use Rattle.buffa_wire.specs.Cache.{Cache}

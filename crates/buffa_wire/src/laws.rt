@@ -9,8 +9,7 @@ ghost use Rattle.buffa_bytes.specs.declared.error.DecodeError.TheVariants.{OutOf
 ghost use Rattle.buffa_wire.specs.Field.{SomeField};
 ghost use Rattle.buffa_wire.specs.Join.{Join};
 ghost use Rattle.buffa_wire.specs.Records.{Datum, Held, height, records_of};
-ghost use Rattle.buffa_wire.specs.View.{record_of};
-ghost use Rattle.buffa_wire.specs.Equal.{field_eq, held_eq};
+ghost use Rattle.buffa_wire.specs.View.{datum_of, record_of};
 ghost use Rattle.buffa_wire.specs.Text.{records_text};
 ghost use Rattle.buffa_wire.specs.Parse.{FieldFault, Fits, InRange, Parse, RecordsFault, TakesField, slots};
 ghost use Rattle.buffa_wire.specs.RecordReading.{field_at, list_at};
@@ -26,7 +25,7 @@ use crate::budget::{DEFAULT_ELEMENT_MEMORY_LIMIT, DEFAULT_UNKNOWN_FIELD_LIMIT};
 use crate::context::RECURSION_LIMIT;
 use crate::enumeration::{EnumValue, Enumeration};
 use crate::message::{MAX_MESSAGE_BYTES, Message};
-use crate::unknown_fields::UnknownField;
+use crate::unknown_fields::{UnknownField, UnknownFieldData, UnknownFields};
 use buffa_bytes::Blank;
 
 /// Whole bytes are read as records exactly where the grammar has them and a slot is left for each record,
@@ -88,8 +87,10 @@ pub fn texts_are_read_back()
 
 /// `==` holds of unknown fields exactly where their records are equal.
 pub fn equality_is_of_records()
-    ensures fields { (a b : Held) → (held_eq a b ≡ true) ↔ (a.records ≡ b.records) }
-    ensures field { (a b : UnknownField) → (field_eq a b ≡ true) ↔ (record_of a ≡ record_of b) }
+    ensures fields { (a b : Held) → (⟦<UnknownFields as PartialEq>⟧.eq a b ≡ true) ↔ (a.records ≡ b.records) }
+    ensures field { (a b : UnknownField) → (⟦<UnknownField as PartialEq>⟧.eq a b ≡ true) ↔ (record_of a ≡ record_of b) }
+    ensures payload { (a b : UnknownFieldData) → (⟦<UnknownFieldData as PartialEq>⟧.eq a b ≡ true)
+        ↔ (datum_of a ≡ datum_of b) }
 {}
 
 /// Whole bytes are merged in one way, and what is merged isn't refused, memory aside.
