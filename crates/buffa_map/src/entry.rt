@@ -1,10 +1,10 @@
 //! One entry of a map field.
 
-ghost use Rattle.std.specs.Prelude.{◌≡◌, ◌+◌, ◌<◌, [], IfErr, IfOk, OnErr, OnOk};
+ghost use Rattle.std.specs.Prelude.{◌≡◌, ◌+◌, ◌<◌, ◌≤◌, [], IfErr, IfOk, OnErr, OnOk};
 ghost use Rattle.buffa_bytes.specs.declared.error.DecodeError.TheVariants.{ElementMemoryLimitExceeded, OutOfMemory};
 ghost use Rattle.buffa_wire.specs.BudgetLeft.{budget_left};
 ghost use Rattle.buffa_map.specs.Entry.{meant_entry};
-ghost use Rattle.buffa_map.specs.Lent.{records_in, records_left};
+ghost use Rattle.buffa_map.specs.Lent.{records_in, records_left, room_in, room_left};
 ghost use Rattle.buffa_map.specs.Merge.{MergesEntry, MergesWhole, RefusesEntry, RefusesWhole};
 ghost use Rattle.buffa_map.specs.Merge.{dropping, lending, rules, state};
 ghost use Rattle.buffa_map.specs.Pairs.{InOrder, SamePairs, put};
@@ -124,6 +124,7 @@ fn merge_whole<
         (rules KC.reading W.reading C.equal C.keeps_order ctx.entry.depth number (KC.COST + W.COST) L.slot L.adds)
         (state (C.pairs map.old) (L.records keeper.old) ctx.entry.budget.now) entry.now
         (state (C.pairs map.new) (L.records keeper.new) (budget_left ctx.exit))) }
+    ensures room { L.room keeper.old ≤ L.room keeper.new }
 {
     let DecodeContext { depth, budget } = ctx;
     let lent = DecodeContext {
@@ -164,6 +165,7 @@ pub(crate) fn merge_entry_by<
         (rules KC.reading W.reading C.equal C.keeps_order ctx.entry.depth number (KC.COST + W.COST) L.slot L.adds)
         (state (C.pairs map.old) (L.records keeper.old) ctx.entry.budget.now) (B.unread buf.old)
         (state (C.pairs map.new) (L.records keeper.new) (budget_left ctx.exit)) (B.unread buf.new)) }
+    ensures room { L.room keeper.old ≤ L.room keeper.new }
     ensures kept { B.beyond buf.new ≡ B.beyond buf.old }
 {
     let len = decode_varint(buf)?;
@@ -256,6 +258,7 @@ pub fn merge_entry_with_unknowns<
         (lending KC.reading VC.reading C.equal C.keeps_order ctx.entry.depth number (KC.COST + VC.COST) unknown.entry)
         (state (C.pairs map.old) (records_in unknown.entry) ctx.entry.budget.now) (B.unread buf.old)
         (state (C.pairs map.new) (records_left unknown.exit) (budget_left ctx.exit)) (B.unread buf.new)) }
+    ensures room { room_in unknown.entry ≤ room_left unknown.exit }
     ensures kept { B.beyond buf.new ≡ B.beyond buf.old }
 {
     let how = ByCodec::<VC>::new();

@@ -4,6 +4,7 @@ ghost use Rattle.std.specs.Prelude.{◌≡◌, ◌≢◌, ◌+◌, ◌<◌, ◌�
 ghost use Rattle.std.specs.Prelude.{IfErr, OnErr, OnOk, refl};
 ghost use Rattle.buffa_bytes.specs.declared.error.DecodeError.TheVariants.{OutOfMemory, UnknownFieldLimitExceeded};
 ghost use Rattle.buffa_wire.specs.Records.{Datum, bytes};
+ghost use Rattle.buffa_map.specs.Lent.{room_of};
 
 use buffa_wire::{Budget, DecodeError, UnknownField, UnknownFieldData, UnknownFields};
 use std::alloc::Global;
@@ -17,6 +18,9 @@ pub(crate) trait Keeper {
 
     /// The records so far.
     ghost records: { Self → List (ℕ × Datum) };
+
+    /// The records so far, and those that there is room for.
+    ghost room: { Self → ℕ };
 
     /// The slots for unknown fields that one entry takes.
     ghost slot: { ℕ };
@@ -39,7 +43,8 @@ pub(crate) trait Keeper {
         ensures fault { IfErr result (λ f. f ≢ OutOfMemory → (budget.old.unknown < slot)
             × (f ≡ UnknownFieldLimitExceeded) × (budget.new.unknown ≡ budget.old.unknown)) }
         ensures full { IfErr result (λ f. f ≡ OutOfMemory → slot ≢ 0) }
-        ensures memory { budget.new.memory ≡ budget.old.memory };
+        ensures memory { budget.new.memory ≡ budget.old.memory }
+        ensures room { room self.old ≤ room self.new };
 
     /// Where it keeps none, an entry takes no slot, and adds nothing.
     ghost drops: { KEEPS ≡ false → (slot ≡ 0) × ((n : ℕ) (entry : List ℕ) → adds n entry ≡ []) };
@@ -58,6 +63,8 @@ impl Keeper for Dropped {
     ghost KEEPS = { false };
 
     ghost records = { λ _. [] };
+
+    ghost room = { λ _. 0 };
 
     ghost slot = { 0 };
 
@@ -85,6 +92,8 @@ impl Keeper for UnknownFields {
     ghost KEEPS = { true };
 
     ghost records = { λ list. list.records };
+
+    ghost room = { room_of };
 
     ghost slot = { 1 };
 

@@ -1,8 +1,8 @@
 //! A run of map records.
 
-ghost use Rattle.std.specs.Prelude.{◌≡◌, ◌+◌, IfErr, OnOk};
+ghost use Rattle.std.specs.Prelude.{◌≡◌, ◌+◌, ◌≤◌, IfErr, OnOk};
 ghost use Rattle.buffa_wire.specs.BudgetLeft.{budget_left};
-ghost use Rattle.buffa_map.specs.Lent.{records_in, records_left};
+ghost use Rattle.buffa_map.specs.Lent.{records_in, records_left, room_in, room_left};
 ghost use Rattle.buffa_map.specs.Merge.{ReadsRun, StopsRun, lending, rules, state};
 
 use crate::codec::{MapCodec, MapValueDecode};
@@ -36,6 +36,7 @@ pub(crate) fn read_run_by<
         (rules KC.reading VC.reading C.equal C.keeps_order ctx.entry.depth number (KC.COST + VC.COST) L.slot L.adds)
         (state (C.pairs map.old) (L.records keeper.old) ctx.entry.budget.now) (B.unread buf.old)
         (state (C.pairs map.new) (L.records keeper.new) (budget_left ctx.exit)) (B.unread buf.new)) }
+    ensures room { L.room keeper.old ≤ L.room keeper.new }
     ensures kept { B.beyond buf.new ≡ B.beyond buf.old }
 {
     let DecodeContext { depth, budget } = ctx;
@@ -92,6 +93,7 @@ pub fn read_map_field<
         (lending KC.reading VC.reading C.equal C.keeps_order ctx.entry.depth number (KC.COST + VC.COST) unknown.entry)
         (state (C.pairs map.old) (records_in unknown.entry) ctx.entry.budget.now) (B.unread buf.old)
         (state (C.pairs map.new) (records_left unknown.exit) (budget_left ctx.exit)) (B.unread buf.new)) }
+    ensures room { room_in unknown.entry ≤ room_left unknown.exit }
     ensures kept { B.beyond buf.new ≡ B.beyond buf.old }
 {
     match unknown {

@@ -1,3 +1,4 @@
+use Rattle.std.proofs.Common.{arith}
 use Rattle.buffa_map.proofs.entry.merge_entry_with_unknowns.Goals as goal
 
 pub returns-in-None-clause-ok : goal.returns-in-None-clause-ok
@@ -11,3 +12,9 @@ returns-in-Some-clause-ok g c = rw c.in-Some.is c.merge_entry_by-in-Some.ensures
 
 pub returns-in-Some-clause-err : goal.returns-in-Some-clause-err
 returns-in-Some-clause-err g c = rw c.in-Some.is c.merge_entry_by-in-Some.ensures.err
+
+pub returns-in-None-clause-room : goal.returns-in-None-clause-room
+returns-in-None-clause-room g c = rw c.in-None.is (omega arith)
+
+pub returns-in-Some-clause-room : goal.returns-in-Some-clause-room
+returns-in-Some-clause-room g c = rw c.in-Some.is c.merge_entry_by-in-Some.ensures.room

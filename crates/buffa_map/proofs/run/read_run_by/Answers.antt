@@ -4,7 +4,7 @@ use Rattle.buffa_map.proofs.StepLemmas.{all_reached, less, none_reached, one_mor
 use Rattle.buffa_map.proofs.run.read_run_by.Goals as goal
 
 pub records-init : goal.records-init
-records-init g c = (none_reached _ _ _, refl)
+records-init g c = (none_reached _ _ _, refl, omega arith)
 
 pub returns-in_err-tag-clause-err : goal.returns-in_err-tag-clause-err
 returns-in_err-tag-clause-err g c =
@@ -35,7 +35,7 @@ records-preserved g c =
     let more : 0 < length (g.B.Buf.unread c.records.buf) = omega (arith, c.remaining.ensures, c.records-test.true) in
     let same = sym c.field_number.ensures ∙ c.if-field_number-number.false in
     let reached = one_more _ _ _ _ _ c.records.invariant.0 _ _ _ more c.in_ok-tag.ensures.reads same c.in_ok-check_wire_type.ensures g.met.C.MapStorage.equivalence _ _ c.in_ok-merge_entry_by.ensures.ok in
-    (reached, c.merge_entry_by.ensures.kept ∙ c.decode.ensures.kept ∙ c.records.invariant.1)
+    (reached, c.merge_entry_by.ensures.kept ∙ c.decode.ensures.kept ∙ c.records.invariant.1, omega (arith, c.records.invariant.2, c.merge_entry_by.ensures.room))
 
 pub returns-in_err-merge_entry_by-clause-err : goal.returns-in_err-merge_entry_by-clause-err
 returns-in_err-merge_entry_by-clause-err g c =

@@ -1,4 +1,4 @@
-use Rattle.std.proofs.Common.{◌≡◌, ◌+◌, length}
+use Rattle.std.proofs.Common.{◌≡◌, ◌+◌, ◌≤◌, length}
 use Rattle.buffa_map.specs.Merge.{rules, state}
 use Rattle.buffa_map.proofs.StepLemmas.{Reached}
 use Rattle.buffa_map.proofs.run.read_run_by.Given as goal
@@ -10,7 +10,7 @@ invariant-records g l =
     (g.KC.MapValueDecode.COST + g.VC.MapValueDecode.COST) g.L.Keeper.slot g.L.Keeper.adds)
     (state (g.C.MapStorage.pairs l.fn.map) (g.L.Keeper.records l.fn.keeper) l.fn.ctx.budget.now) (g.B.Buf.unread l.fn.buf)
     (state (g.C.MapStorage.pairs l.map) (g.L.Keeper.records l.keeper) l.budget) (g.B.Buf.unread l.buf)
-    × (g.B.Buf.beyond l.buf ≡ g.B.Buf.beyond l.fn.buf)
+    × (g.B.Buf.beyond l.buf ≡ g.B.Buf.beyond l.fn.buf) × (g.L.Keeper.room l.fn.keeper ≤ g.L.Keeper.room l.keeper)
 
 abbrev pub decreases-records : goal.decreases-records
 decreases-records g l = length (g.B.Buf.unread l.buf)
