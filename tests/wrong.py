@@ -288,13 +288,17 @@ def check(folder, options):
 
 
 def try_crate(crate, options):
-    """How many edits of the crate passed, and how many failed."""
-    edits, passed, failed, lines = [], 0, 0, []
+    """How many edits of the crate passed, and what was said of those that failed."""
+    edits, passed, failed = [], 0, []
 
     def say(edit, verdict, text):
-        nonlocal passed, failed
-        passed, failed = passed + (verdict == "passed"), failed + (verdict != "passed")
-        print(f"wrong: {crate}/{edit.title}: {text}", flush=True)
+        nonlocal passed
+        line = f"wrong: {crate}/{edit.title}: {text}"
+        print(line, flush=True)
+        if verdict == "passed":
+            passed += 1
+        else:
+            failed.append(line)
 
     for path in sorted(glob.glob(f"{TOP}/tests/wrong/{crate}/*.edit")):
         edit = Edit(path)
@@ -309,7 +313,7 @@ def try_crate(crate, options):
     if "\nlogic=proved" not in text:
         print(text[-3000:])
         print(f"wrong: {crate} isn't proved as it stands", flush=True)
-        return passed, failed + len(edits)
+        return passed, [*failed, *[f"wrong: {crate}/{it.title}: not tried" for it in edits]]
     print(f"wrong: {crate} as it stands is proved, {time.time() - begun:.0f} s", flush=True)
     with tempfile.TemporaryDirectory(prefix="wrong-") as room:
         copy_to(room, crate)
@@ -354,9 +358,11 @@ def main():
     crates = options.crate or found
     with ThreadPoolExecutor(options.lanes) as pool:
         counts = list(pool.map(lambda it: try_crate(it, options), crates))
-    passed, failed = (sum(it[at] for it in counts) for at in (0, 1))
-    print(f"{passed} passed, {failed} failed")
-    return 1 if failed else 0
+    passed, failed = sum(it[0] for it in counts), [line for it in counts for line in it[1]]
+    for line in failed:
+        print(f"failed: {line}")
+    print(f"{passed} passed, {len(failed)} failed")
+    return 0 if passed and not failed else 1
 
 
 if __name__ == "__main__":

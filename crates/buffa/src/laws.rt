@@ -179,7 +179,8 @@ pub fn law_13<E: Enumeration>()
         ⟦<Repeated<EnumCodec<E>> as ExtensionCodec>⟧.reads }
     ensures packed { ListsThrough (open_number E.of_number) ⟦<PackedRepeated<Int32> as ExtensionCodec>⟧.reads
         ⟦<PackedRepeated<EnumCodec<E>> as ExtensionCodec>⟧.reads }
-    ensures records { WritesThrough (λ v. v.1) ⟦<Int32 as ExtensionCodec>⟧.recs ⟦<EnumCodec<E> as ExtensionCodec>⟧.recs }
+    ensures records { WritesThrough (λ v. v.1) ⟦<Int32 as ExtensionCodec>⟧.recs
+        ⟦<EnumCodec<E> as ExtensionCodec>⟧.recs }
     ensures list_records { WritesThrough (map (λ v. v.1)) ⟦<Repeated<Int32> as ExtensionCodec>⟧.recs
         ⟦<Repeated<EnumCodec<E>> as ExtensionCodec>⟧.recs }
     ensures packed_records { WritesThrough (map (λ v. v.1)) ⟦<PackedRepeated<Int32> as ExtensionCodec>⟧.recs
