@@ -30,6 +30,10 @@ use Rattle.buffa_samples.specs.Grown.{Grown, grown, Kids, no_kids, kid}
 use Rattle.buffa_samples.specs.TreeMeaning.{ChildCost, ChildMeaning, child_at, child_field, child_need, child_reading, cost, key_reading, merged, tree_field, tree_need, with_child, with_label}
 use Rattle.buffa_samples.specs.TreeText.{kid_record, kids_records, records, text, texts}
 
+lacks_itself : (a : BudgetLeft) → Lacks a a → ⊥
+lacks_itself a (inl h) = omega (arith, h)
+lacks_itself a (inr h) = omega (arith, h)
+
 lacks_not : (a : BudgetLeft) → Lacks a (plus a (slots 0)) → ⊥
 lacks_not a (inl h) = omega (arith, h)
 lacks_not a (inr h) = omega (arith, h)
@@ -43,7 +47,10 @@ module _ (d : ℕ) (m : ChildMeaning) where
       let u = entry_fair key_reading (child_reading m (λ _. nothing)) d (λ k old c x q. cc) (λ k old c x q. meant_no_limit (merged_in (λ _. m) k old (bytes_in c)) x q)
       0 0 need bs f (inr (t, e, rest, v, is, inr (omega arith, inr (inl h)))) l in
       let same : u.0 ≡ e = ap (λ z. z.0) (ok_same (sym (delimited_taken bs u.0 u.1 u.2) ∙ delimited_taken bs e rest (t, v, is))) in
-      lacks_not need (subst (λ z. Lacks need (plus (need_of key_reading (child_reading m (λ _. nothing)) d 0 z) (slots 0))) same u.3)
+      elim u.3 [
+        inl k ↦ lacks_itself need (subst (λ z. Lacks need (need_of key_reading (child_reading m (λ _. nothing)) d 0 z)) same k)
+        | inr k ↦ lacks_not need (subst (λ z. Lacks need (plus (need_of key_reading (child_reading m (λ _. nothing)) d 0 z) (slots 0))) same k.3)
+      ]
 
   mismatch : (w : WireType) (e : DecodeError) → e ≡ WireTypeMismatch 2 LengthDelimited w → NoLimit e
   mismatch w e h = subst (λ z. NoLimit z) (sym h) (λ l. l)
