@@ -1,7 +1,8 @@
-"""Writes vectors/enums.tsv by Google's protobuf, and crates/buffa_vectors/src/enums_table.rt of it.
+"""Writes vectors/enums.tsv by Google's protobuf; rows.py in vectors/google makes rows of it.
 
-It needs protoc, g++ and libprotobuf-dev (3.21.12 was used): python3 vectors/enums.py, at the top. C++ classes that protoc
-generates are asked, since those that Python makes at run time read an undeclared value of a map as the default.
+It needs protoc, g++ and libprotobuf-dev (3.21.12 was used): python3 vectors/enums.py, at the top. A seed may be given
+as an argument. C++ classes that protoc generates are asked, since those that Python makes at run time read an
+undeclared value of a map as the default.
 """
 import random
 import subprocess
@@ -11,8 +12,6 @@ from pathlib import Path
 
 HERE = Path(__file__).resolve().parent
 SOURCE = HERE / "enums.tsv"
-TARGET = HERE.parent / "crates" / "buffa_vectors" / "src" / "enums_table.rt"
-# a seed may be given as an argument
 DRAW = random.Random(int(sys.argv[1]) if len(sys.argv) > 1 else 9)
 
 
@@ -84,18 +83,6 @@ def main():
         + "".join(line + "\n" for line in lines),
         encoding="ascii",
     )
-    out = [
-        "//! Runs of closed enums that Google's protobuf read and wrote, made by `vectors/enums.py`.",
-        "//!",
-        "//! Each row: the run in hexadecimal, whether the older reader's text is the same as ours, the pairs to the older",
-        "//! and to the newer reader, the older one's text, and the pairs of that text to the newer one.",
-        "",
-        "/// The rows, each a line.",
-        'pub const ROWS: &str = "\\',
-    ]
-    out += [line.replace("\t", " ") + "\\n\\" for line in lines]
-    out += ['";', ""]
-    TARGET.write_text("\n".join(out), encoding="ascii")
 
 
 if __name__ == "__main__":

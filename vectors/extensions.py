@@ -1,4 +1,4 @@
-"""Writes vectors/extensions.tsv by Google's protobuf, and crates/buffa_ext_vectors/src/extensions_table.rt of it.
+"""Writes vectors/extensions.tsv by Google's protobuf; rows.py in vectors/google makes rows of it.
 
 It needs python3-protobuf (3.21.12 was used): python3 vectors/extensions.py, at the top.
 """
@@ -6,9 +6,7 @@ from pathlib import Path
 
 from google.protobuf import descriptor_pb2, descriptor_pool, message_factory
 
-TOP = Path(__file__).resolve().parent.parent
-SOURCE = TOP / "vectors" / "extensions.tsv"
-TARGET = TOP / "crates" / "buffa_ext_vectors" / "src" / "extensions_table.rt"
+SOURCE = Path(__file__).resolve().parent / "extensions.tsv"
 
 FIELD = descriptor_pb2.FieldDescriptorProto
 
@@ -197,18 +195,6 @@ def main():
         + "".join(line + "\n" for line in lines),
         encoding="ascii",
     )
-    out = [
-        "//! Extensions that Google's protobuf wrote and read, made by `vectors/extensions.py`.",
-        "//!",
-        "//! Each row: the kind, whether it is one value or a list or packed, the number, whether it was written or",
-        "//! read, the bytes in hexadecimal, and the values.",
-        "",
-        "/// The rows, each a line.",
-        'pub const ROWS: &str = "\\',
-    ]
-    out += [line.replace("\t", " ") + "\\n\\" for line in lines]
-    out += ['";', ""]
-    TARGET.write_text("\n".join(out), encoding="ascii")
 
 
 if __name__ == "__main__":

@@ -1,6 +1,6 @@
-"""Writes vectors/messages.tsv by Google's protobuf, and crates/buffa_message_vectors/src/messages_table.rt of it.
+"""Writes vectors/messages.tsv by Google's protobuf; rows.py in vectors/google makes rows of it.
 
-It needs python3-protobuf (3.21.12 was used): python3 vectors/messages.py, at the top.
+It needs python3-protobuf (3.21.12 was used): python3 vectors/messages.py, at the top. A seed may be given as an argument.
 """
 import random
 import sys
@@ -8,9 +8,7 @@ from pathlib import Path
 
 from google.protobuf import descriptor_pb2, descriptor_pool, message, message_factory
 
-TOP = Path(__file__).resolve().parent.parent
-SOURCE = TOP / "vectors" / "messages.tsv"
-TARGET = TOP / "crates" / "buffa_message_vectors" / "src" / "messages_table.rt"
+SOURCE = Path(__file__).resolve().parent / "messages.tsv"
 
 FIELD = descriptor_pb2.FieldDescriptorProto
 
@@ -53,7 +51,6 @@ def types():
 
 
 FLAT, TWO, COUNT, TREE, FLATS, TWOS = types()
-# a seed may be given as an argument
 DRAW = random.Random(int(sys.argv[1]) if len(sys.argv) > 1 else 8)
 NUMBERS = [0, 0, 1, -1, 127, 128, 300, -7, 2**31 - 1, -(2**31)]
 
@@ -140,18 +137,6 @@ def main():
         + "".join(line + "\n" for line in lines),
         encoding="ascii",
     )
-    out = [
-        "//! Messages that Google's protobuf wrote and read, made by `vectors/messages.py`.",
-        "//!",
-        "//! Each row: the message, whether it was written or read or refused, its bytes in hexadecimal, and what",
-        "//! it holds.",
-        "",
-        "/// The rows, each a line.",
-        'pub const ROWS: &str = "\\',
-    ]
-    out += [line.replace("\t", " ") + "\\n\\" for line in lines]
-    out += ['";', ""]
-    TARGET.write_text("\n".join(out), encoding="ascii")
 
 
 if __name__ == "__main__":

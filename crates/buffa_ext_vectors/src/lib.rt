@@ -1,17 +1,11 @@
-//! Tests of extensions over messages, and against records that others made.
+//! Tests of extensions over messages, of what is no case of a table: codecs called by themselves, and a million fields.
 //!
 //! The messages stand in the crate `buffa_samples`, the carrier of the records in `buffa_options`.
 #![tactic(auto)]
 
 #[cfg(test)]
-mod calls;
-#[cfg(test)]
 mod direct;
 #[cfg(test)]
-mod extensions_table;
-#[cfg(test)]
 mod large;
-#[cfg(test)]
-mod rows;
 #[cfg(test)]
 mod words;

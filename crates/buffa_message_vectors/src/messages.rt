@@ -1,56 +1,15 @@
-//! Entries whose values are messages.
+//! The slots of messages, and what stands of a message after a refusal.
 
-use buffa_map::map_codec::{
-    Int32, Map, MapStorage, MapWalk, Msg, StableWalk, merge_entry, message_field_len,
-    read_map_field, write_message_field,
-};
+use buffa_map::map_codec::{Int32, MapStorage, message_field_len, write_message_field};
 use buffa_samples::flat::FlatMsg;
 use buffa_samples::keep::BudgetMsg;
 use buffa_samples::tree::{Tree, size_tree, write_tree};
 use buffa_wire::{
-    Blank, Budget, DecodeContext, DecodeError, Message, RECURSION_LIMIT, SizeCache, WireType,
-    encode_varint,
+    Blank, Budget, DecodeContext, DecodeError, Message, RECURSION_LIMIT, SizeCache, encode_varint,
 };
 use std::alloc::Global;
 use std::collections::BTreeMap;
 use std::test::Fail;
-
-#[test]
-fn messages_are_merged_into_blanks(rt: HostRuntime) -> Result<(), Fail> {
-    let run: &[u8] = &[
-        0x22, 0x04, 0x08, 0x01, 0x12, 0x00, // 1: 0
-        0x22, 0x0F, 0x08, 0x02, 0x12, 0x0B, // 2: -3
-        0x08, 0xFD, 0xFF, 0xFF, 0xFF, 0xFF, 0xFF, 0xFF, 0xFF, 0xFF, 0x01,
-    ];
-    let mut map: BTreeMap<i32, FlatMsg> = BTreeMap::new(rt.alloc());
-    let mut budget = Budget::new(0).with_element_memory(16);
-    let mut rest = run;
-    let ctx = DecodeContext::new(RECURSION_LIMIT, &mut budget);
-    read_map_field::<Int32, Msg<FlatMsg>, _, _>(rt.alloc(), &mut map, 4, &mut rest, ctx, None)?;
-    assert_eq!(rt; map.storage_len(), 2);
-    match (map.get(&1), map.get(&2)) {
-        (Some(one), Some(two)) => {
-            assert_eq!(rt; one.value, 0);
-            assert_eq!(rt; two.value, -3);
-        }
-        _ => assert!(rt; false),
-    }
-    assert_eq!(rt; budget.memory_left(), 0);
-    Ok(())
-}
-
-#[test]
-fn a_message_is_merged_from_a_slice(rt: HostRuntime) -> Result<(), Fail> {
-    let mut message = FlatMsg { value: 9 };
-    message.merge_from_slice(rt.alloc(), &[])?;
-    assert_eq!(rt; message.value, 9);
-    // Two values, of which the last stays, and a field of another number.
-    message.merge_from_slice(rt.alloc(), &[0x08, 0x05, 0x10, 0x01, 0x08, 0x96, 0x01])?;
-    assert_eq!(rt; message.value, 150);
-    let answer = message.merge_from_slice(rt.alloc(), &[0x08]);
-    assert_eq!(rt; answer, Err(DecodeError::UnexpectedEof));
-    Ok(())
-}
 
 #[test]
 fn messages_are_sized_and_written(rt: HostRuntime) -> Result<(), Fail> {
@@ -74,53 +33,6 @@ fn messages_are_sized_and_written(rt: HostRuntime) -> Result<(), Fail> {
         0xFF, 0xFF, 0xFF, 0xFF, 0xFF, 0xFF, 0xFF, 0x01,
     ];
     assert_eq!(rt; text.as_slice(), expected);
-    Ok(())
-}
-
-// Whether the field of the messages has this length, and is written and read back to the same messages.
-fn comes_back<'a, C>(alloc: Global, map: &'a C, read: &mut C) -> Result<bool, Fail>
-where
-    C: StableWalk<'a> + MapStorage<Key = i32, Value = FlatMsg>,
-{
-    let mut cache = SizeCache::new(alloc);
-    let size = message_field_len::<Int32, FlatMsg, C>(map, 1, &mut cache)?;
-    let mut text = Vec::new(alloc);
-    write_message_field::<Int32, FlatMsg, C, _>(map, 4, &mut cache, &mut text)?;
-    let mut budget = Budget::new(0);
-    let mut rest = text.as_slice();
-    let ctx = DecodeContext::new(RECURSION_LIMIT, &mut budget);
-    read_map_field::<Int32, Msg<FlatMsg>, C, _>(alloc, read, 4, &mut rest, ctx, None)?;
-    Ok(size == text.len() as u64)
-}
-
-#[test]
-fn message_fields_come_back(rt: HostRuntime) -> Result<(), Fail> {
-    let mut tree: BTreeMap<i32, FlatMsg> = BTreeMap::new(rt.alloc());
-    let mut list: Map<i32, FlatMsg> = Map::new(rt.alloc());
-    for (key, value) in [(9, 7), (1, 0), (2, -3)] {
-        tree.storage_insert(key, FlatMsg { value })?;
-        list.storage_insert(key, FlatMsg { value })?;
-    }
-    let mut same_tree: BTreeMap<i32, FlatMsg> = BTreeMap::new(rt.alloc());
-    assert!(rt; comes_back(rt.alloc(), &tree, &mut same_tree)?);
-    let mut found = same_tree.storage_iter();
-    for expected in [(1, 0), (2, -3), (9, 7)] {
-        match found.next() {
-            Some((key, message)) => assert_eq!(rt; (*key, message.value), expected),
-            None => assert!(rt; false),
-        }
-    }
-    assert!(rt; found.next().is_none());
-    let mut same_list: Map<i32, FlatMsg> = Map::new(rt.alloc());
-    assert!(rt; comes_back(rt.alloc(), &list, &mut same_list)?);
-    let mut found = same_list.storage_iter();
-    for expected in [(9, 7), (1, 0), (2, -3)] {
-        match found.next() {
-            Some((key, message)) => assert_eq!(rt; (*key, message.value), expected),
-            None => assert!(rt; false),
-        }
-    }
-    assert!(rt; found.next().is_none());
     Ok(())
 }
 
@@ -225,60 +137,6 @@ fn trees_are_read_to_a_depth(rt: HostRuntime) -> Result<(), Fail> {
 }
 
 #[test]
-fn trees_are_refused(rt: HostRuntime) -> Result<(), Fail> {
-    let mismatch = |field_number: u32, expected: WireType, actual: WireType| {
-        DecodeError::WireTypeMismatch {
-            field_number,
-            expected,
-            actual,
-        }
-    };
-    let limit = DecodeError::ElementMemoryLimitExceeded;
-    let table: [(u32, usize, &[u8], Result<(), DecodeError>, usize); 8] = [
-        (1, 36, &[0x12, 0x00], Ok(()), 0),
-        (
-            0,
-            36,
-            &[0x12, 0x02, 0x12, 0x00],
-            Err(DecodeError::RecursionLimitExceeded),
-            0,
-        ),
-        (1, 35, &[0x12, 0x00], Err(limit), 35),
-        (2, 72, &[0x12, 0x04, 0x12, 0x02, 0x12, 0x00], Ok(()), 0),
-        (2, 71, &[0x12, 0x04, 0x12, 0x02, 0x12, 0x00], Err(limit), 35),
-        (
-            2,
-            72,
-            &[0x12, 0x03, 0x12, 0x01, 0x08],
-            Err(DecodeError::UnexpectedEof),
-            36,
-        ),
-        (
-            2,
-            72,
-            &[0x12, 0x04, 0x12, 0x02, 0x0A, 0x00],
-            Err(mismatch(1, WireType::Varint, WireType::LengthDelimited)),
-            36,
-        ),
-        (
-            2,
-            72,
-            &[0x10, 0x01],
-            Err(mismatch(2, WireType::LengthDelimited, WireType::Varint)),
-            72,
-        ),
-    ];
-    for (depth, memory, bytes, expected, left) in table {
-        let mut tree: Tree = Blank::blank(rt.alloc());
-        let mut budget = Budget::new(0).with_element_memory(memory);
-        let answer = tree.merge(rt.alloc(), bytes, DecodeContext::new(depth, &mut budget));
-        assert_eq!(rt; answer, expected);
-        assert_eq!(rt; budget.memory_left(), left);
-    }
-    Ok(())
-}
-
-#[test]
 fn kept_fields_take_slots(rt: HostRuntime) -> Result<(), Fail> {
     // A varint, and a group of one field.
     let bytes: &[u8] = &[0x08, 0x05, 0x0B, 0x10, 0x01, 0x0C];
@@ -299,43 +157,5 @@ fn kept_fields_take_slots(rt: HostRuntime) -> Result<(), Fail> {
     assert_eq!(rt; message.fields.len(), 1);
     let answer = message.merge(rt.alloc(), bytes, DecodeContext::new(0, &mut budget));
     assert_eq!(rt; answer, Err(DecodeError::UnknownFieldLimitExceeded));
-    Ok(())
-}
-
-#[test]
-fn messages_in_entries_spend_of_one_budget(rt: HostRuntime) -> Result<(), Fail> {
-    let table: [(usize, &[u8], Result<(), DecodeError>, usize, usize); 4] = [
-        (2, &[0x04, 0x12, 0x02, 0x08, 0x05], Ok(()), 1, 1),
-        (2, &[0x06, 0x12, 0x04, 0x08, 0x05, 0x10, 0x06], Ok(()), 0, 1),
-        (
-            1,
-            &[0x06, 0x12, 0x04, 0x08, 0x05, 0x10, 0x06],
-            Err(DecodeError::UnknownFieldLimitExceeded),
-            0,
-            0,
-        ),
-        (
-            9,
-            &[0x06, 0x12, 0x04, 0x08, 0x05, 0x10, 0x86],
-            Err(DecodeError::UnexpectedEof),
-            8,
-            0,
-        ),
-    ];
-    for (slots, bytes, expected, left, pairs) in table {
-        let mut map: BTreeMap<i32, BudgetMsg> = BTreeMap::new(rt.alloc());
-        let mut budget = Budget::new(slots);
-        let mut rest = bytes;
-        let ctx = DecodeContext::new(2, &mut budget);
-        let answer = merge_entry::<Int32, Msg<BudgetMsg>, _, _>(
-            rt.alloc(),
-            &mut map,
-            &mut rest,
-            ctx,
-        );
-        assert_eq!(rt; answer, expected);
-        assert_eq!(rt; budget.unknown_left(), left);
-        assert_eq!(rt; map.storage_len(), pairs);
-    }
     Ok(())
 }

@@ -1,25 +1,12 @@
-//! Tests of the crates below, against values that others made: fields of maps, enums and rewrites.
+//! Tests of map fields that cross crates, of what is no case of a table: costs and wire types, many pairs, and a run that
+//! an older reader passes on. The cases stand in `vectors`, and the crate `conformance` runs them.
 //!
-//! The message types, enums and keys that the tests use stand in the crate `buffa_samples`.
+//! The message types and enums that the tests use stand in the crate `buffa_samples`.
 #![tactic(auto)]
 
 #[cfg(test)]
-mod calls;
-#[cfg(test)]
 mod codecs;
 #[cfg(test)]
-mod enums;
-#[cfg(test)]
-mod enums_table;
-#[cfg(test)]
-mod fields;
-#[cfg(test)]
-mod maps;
-#[cfg(test)]
-mod maps_table;
-#[cfg(test)]
 mod rewrites;
-#[cfg(test)]
-mod rows;
 #[cfg(test)]
 mod storages;

@@ -1,9 +1,9 @@
-//! Enum values, and a run that a reader passes on who doesn't know all of them.
+//! A run that a reader passes on who doesn't know all of them.
 
-use buffa_map::map_codec::{Int32, MapStorage, OpenEnum, write_field};
+use buffa_map::map_codec::Int32;
 use buffa_samples::hues::{New, Old};
 use buffa_samples::passed_on::passed_on;
-use buffa_wire::{EnumValue, UnknownFields};
+use buffa_wire::UnknownFields;
 use std::collections::BTreeMap;
 use std::test::Fail;
 
@@ -29,18 +29,5 @@ fn a_run_is_passed_on_by_an_older_reader(rt: HostRuntime) -> Result<(), Fail> {
     assert!(rt; passed.is_ok());
     assert!(rt; map.get(&1).copied() == Some(New::C));
     assert_eq!(rt; unknown.len(), 0);
-    Ok(())
-}
-
-#[test]
-fn an_open_enum_takes_any_number(rt: HostRuntime) -> Result<(), Fail> {
-    let mut map: BTreeMap<i32, EnumValue<Old>> = BTreeMap::new(rt.alloc());
-    map.storage_insert(1, EnumValue::Unknown(42))?;
-    let mut text = Vec::new(rt.alloc());
-    write_field::<Int32, OpenEnum<Old>, _, _>(&map, 2, &mut text)?;
-    assert_eq!(rt;
-        text.as_slice(),
-        [0x12, 0x04, 0x08, 0x01, 0x10, 0x2A].as_slice()
-    );
     Ok(())
 }
