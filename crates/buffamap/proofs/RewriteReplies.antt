@@ -1,5 +1,5 @@
 -- What is answered of a run that is rewritten.
-use Rattle.std.proofs.Common.{◌≡◌, ◌≢◌, ◌⊎◌, inl, inr, ℕ, ◌^◌, ◌≤◌, ◌+◌, ◌<◌, ℤ, List, [], ◌∷◌, ◌++◌, Result, Ok, Err, Bool, false, refl, sym, ap, ◌∙◌, subst, length, arith}
+use Rattle.std.proofs.Common.{◌≡◌, ◌≢◌, inl, inr, ℕ, ◌^◌, ◌≤◌, ℤ, List, [], ◌∷◌, ◌++◌, Result, Ok, Err, false, refl, sym, ap, ◌∙◌, subst, length, arith}
 use Rattle.std.specs.Prelude.{FitsSigned, OnOk, IfErr, codes}
 use Rattle.std.specs.Int.{w32}
 use Rattle.std.specs.List.Sorted.{IsStrictlySortedBy}
@@ -7,7 +7,6 @@ use Rattle.std.specs.Map.{keys_of}
 use Rattle.std.specs.Ordering.{int_cmp, int_eq}
 use Rattle.std.proofs.lemmas.Result.{on_ok_weaker}
 use Rattle.buffa_bytes.specs.declared.error.DecodeError.{DecodeError}
-use Rattle.buffa_bytes.specs.declared.error.EncodeError.{EncodeError}
 use Rattle.buffa_bytes.specs.declared.error.EncodeError.TheVariants.{GroupRefused, MessageTooLarge, OutOfMemory}
 use Rattle.buffa_wire.specs.BudgetLeft.{BudgetLeft}
 use Rattle.buffa_wire.specs.Records.{bytes}
@@ -27,7 +26,7 @@ use Rattle.buffamap.specs.Choice.{two_numbers}
 use Rattle.buffamap.specs.Codecs.{int32_reading, int32_writing}
 use Rattle.buffamap.specs.Fault.{IsOfRewrite, Tells, told}
 use Rattle.buffamap.specs.Read.{default_left}
-use Rattle.buffamap.specs.Reply.{Reply, done, fault, hex_line}
+use Rattle.buffamap.specs.Reply.{done, fault, hex_line}
 use Rattle.buffamap.specs.Rewrite.{Entry, IsRewritten, Pair, RefusesRun, RunHasNoRewrite, RunRewritesTo, choice_reading, pairs_of, run_from}
 use Rattle.buffamap.proofs.FaultLemmas.{tells_bytes}
 use Rattle.buffamap.proofs.RunReplies.{stops}

@@ -1,21 +1,17 @@
 -- Lists of pairs in the order of their keys: one map has one such list.
-use Rattle.std.proofs.Common.{◌≡◌, ℤ, true, false, cond, List, [], ◌∷◌, Option, Some, None, refl, sym, ap, ◌∙◌, true≢false, inl, inr}
+use Rattle.std.proofs.Common.{◌≡◌, true, false, List, [], ◌∷◌, Option, Some, None, refl, sym, ap, ◌∙◌, true≢false, inl, inr}
 use Rattle.std.proofs.lemmas.Bool.{cases_Bool}
 use Rattle.std.specs.Prelude.{is_some}
-use Rattle.std.specs.BTreeMap.{insert_entry}
 use Rattle.std.specs.Cmp.{IsTotalOrder, eq_by_cmp_equiv}
-use Rattle.std.specs.List.{AllByRecursion}
 use Rattle.std.specs.List.Sorted.{IsStrictlySortedBy}
 use Rattle.std.specs.Map.{keys_of, lookup_entry}
-use Rattle.std.specs.Ordering.{eq_by_cmp, int_cmp, int_eq, is_eq, ordering_reverse, match_ordering}
+use Rattle.std.specs.Ordering.{eq_by_cmp, is_eq, ordering_reverse}
 use Rattle.std.specs.declared.cmp.Ordering.{Ordering}
 use Rattle.std.specs.declared.cmp.Ordering.TheVariants.{Less, Equal, Greater}
-use Rattle.std.proofs.lemmas.Cmp.{int_cmp_total}
-use Rattle.std.proofs.lemmas.Bool.Decides.{Decides-int_eq}
 use Rattle.std.proofs.lemmas.Map.Entries.{none_below_head, none_past_head}
 use Rattle.std.proofs.lemmas.Map.Keys.{IsDistinct-from_sorted, sorted_tail}
 use Rattle.buffa_map.specs.Pairs.{SamePairs}
-use Rattle.buffa_map.proofs.PutLemmas.{key_or, lookup_entry-insert_entry, lookup_entry-none}
+use Rattle.buffa_map.proofs.PutLemmas.{lookup_entry-none}
 
 some_is_some : {A : Type 0} (x : A) → None ≡ Some x → ⊥
 some_is_some x e = true≢false (sym (ap is_some e))

@@ -1,4 +1,3 @@
-use Rattle.std.proofs.Common.{rules}
 use Rattle.buffamap.specs.Command.{command_of, texts}
 use Rattle.buffamap.proofs.EngineLemmas.{told_answers}
 use Rattle.buffamap.proofs.engine.run.Goals as goal

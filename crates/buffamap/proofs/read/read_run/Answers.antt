@@ -1,4 +1,4 @@
-use Rattle.std.proofs.Common.{◌∙◌, ap}
+use Rattle.std.proofs.Common.{ap}
 use Rattle.buffamap.specs.Read.{run_from}
 use Rattle.buffamap.specs.Reply.{done}
 use Rattle.buffamap.proofs.ReadReplies.{replied}
