@@ -212,17 +212,6 @@ module _ {K V : Type 0} (key : Reading K) (val : Reading V) (d : ℕ) where
     entry_limited cost slot left bs f (inr (t, e, rest, v, is, inr (many, inr (inl h)))) l = absurd (field_fair h.0 h.1 f h.4 l)
     entry_limited cost slot left bs f (inr (t, e, rest, v, is, inr (many, inr (inr h)))) l = (e, rest, (t, v, is), inr (h.0, h.1, h.2, inl h.3))
 
-    -- the same, with the slots of any entry
-    more_lacks : (left need : BudgetLeft) (slot : ℕ) → Lacks left need → Lacks left (plus need (slots slot))
-    more_lacks left need slot (inl few) = inl (omega (arith, few))
-    more_lacks left need slot (inr few) = inr (omega (arith, few))
-
-    pub entry_fair : (cost slot : ℕ) (left : BudgetLeft) (bs : List ℕ) (f : DecodeError) → EntryFault key val d cost slot left bs f → IsLimit f →
-        (e : List ℕ) × (rest : List ℕ) × TakesDelimited bs e rest × Lacks left (plus (need_of key val d cost e) (slots slot))
-    entry_fair cost slot left bs f h l =
-        let q = entry_limited cost slot left bs f h l in
-        (q.0, q.1, q.2, elim q.3 [ inl few ↦ more_lacks left (need_of key val d cost q.0) slot few | inr k ↦ k.3 ])
-
   -- ---- where no payload is nested, nothing is needed
   module _ (key_free : key.nested ≡ false → (d : ℕ) (c : Content) → key.cost d c ≡ nothing) (val_free : val.nested ≡ false → (d : ℕ) (c : Content) → val.cost d c ≡ nothing) where
     field_free : (bs : List ℕ) → Plain key val d → field_need key val d bs ≡ nothing

@@ -18,7 +18,7 @@ use Rattle.buffa_wire.specs.Text.{records_text}
 use Rattle.buffa_wire.specs.Varint.{IsVarint}
 use Rattle.buffa_wire.proofs.SequenceLemmas.{ok_same}
 use Rattle.buffa_map.proofs.EntryLemmas.{check_sound, entry_sound}
-use Rattle.buffa_map.proofs.NeedLemmas.{entry_fair}
+use Rattle.buffa_map.proofs.NeedLemmas.{entry_limited}
 use Rattle.buffa_map.specs.Entry.{FaultOf, entry_of, need_of}
 use Rattle.buffa_map.specs.MessageLaws.{meant_no_limit}
 use Rattle.buffa_map.specs.declared.map_entry.MapEntry.{MapEntry}
@@ -44,7 +44,7 @@ module _ (d : ℕ) (m : ChildMeaning) where
   pub entry_no_limit : (bs e rest : List ℕ) → TakesDelimited bs e rest → (f : DecodeError) → FaultOf key_reading (child_reading m (λ _. nothing)) d e f → NoLimit f
   entry_no_limit bs e rest (t, v, is) f h l =
       let need = need_of key_reading (child_reading m (λ _. nothing)) d 0 e in
-      let u = entry_fair key_reading (child_reading m (λ _. nothing)) d (λ k old c x q. cc) (λ k old c x q. meant_no_limit (merged_in (λ _. m) k old (bytes_in c)) x q)
+      let u = entry_limited key_reading (child_reading m (λ _. nothing)) d (λ k old c x q. cc) (λ k old c x q. meant_no_limit (merged_in (λ _. m) k old (bytes_in c)) x q)
       0 0 need bs f (inr (t, e, rest, v, is, inr (omega arith, inr (inl h)))) l in
       let same : u.0 ≡ e = ap (λ z. z.0) (ok_same (sym (delimited_taken bs u.0 u.1 u.2) ∙ delimited_taken bs e rest (t, v, is))) in
       elim u.3 [
