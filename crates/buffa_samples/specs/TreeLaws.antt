@@ -48,7 +48,7 @@ module _ (d : ℕ) (m : ChildMeaning) where
       0 0 need bs f (inr (t, e, rest, v, is, inr (omega arith, inr (inl h)))) l in
       let same : u.0 ≡ e = ap (λ z. z.0) (ok_same (sym (delimited_taken bs u.0 u.1 u.2) ∙ delimited_taken bs e rest (t, v, is))) in
       elim u.3 [
-        inl k ↦ lacks_itself need (subst (λ z. Lacks need (need_of key_reading (child_reading m (λ _. nothing)) d 0 z)) same k)
+        | inl k ↦ lacks_itself need (subst (λ z. Lacks need (need_of key_reading (child_reading m (λ _. nothing)) d 0 z)) same k)
         | inr k ↦ lacks_not need (subst (λ z. Lacks need (plus (need_of key_reading (child_reading m (λ _. nothing)) d 0 z) (slots 0))) same k.3)
       ]
 
