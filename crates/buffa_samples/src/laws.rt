@@ -43,9 +43,18 @@ pub fn messages_are_these()
     ensures tree { (⟦<Tree as MessageSpec>⟧.merged ≡ merged) × (⟦<Tree as MessageSpec>⟧.cost ≡ cost) }
     ensures tree_text { ⟦<Tree as MessageSpec>⟧.text ≡ text }
     ensures tree_slots { ⟦<Tree as MessageSpec>⟧.slots ≡ slots }
+    ensures numbers_slots { (⟦<FlatMsg as MessageSpec>⟧.slots ≡ (λ _. [])) × (⟦<TestMsg as MessageSpec>⟧.slots ≡ (λ _. [])) }
+    ensures lists_slots { (⟦<CountMsg as MessageSpec>⟧.slots ≡ (λ _. [])) × (⟦<BudgetMsg as MessageSpec>⟧.slots ≡ (λ _. [])) }
     ensures elements { (⟦<FlatMsg as MessageSpec>⟧.COST ≡ 4) × (⟦<TestMsg as MessageSpec>⟧.COST ≡ 32)
         × (⟦<CountMsg as MessageSpec>⟧.COST ≡ 8) × (⟦<BudgetMsg as MessageSpec>⟧.COST ≡ 24)
         × (⟦<Tree as MessageSpec>⟧.COST ≡ 32) }
+{}
+
+/// What the values of the samples of numbers mean: their fields. Nothing is open.
+pub fn messages_mean_these()
+    ensures flat { (m : FlatMsg) → ⟦<FlatMsg as Blank>⟧.meaning m ≡ m.value }
+    ensures two { (m : TestMsg) → ⟦<TestMsg as Blank>⟧.meaning m ≡ (m.a, m.b) }
+    ensures count { (m : CountMsg) → ⟦<CountMsg as Blank>⟧.meaning m ≡ m.count }
 {}
 
 /// Which values of each sample are read back from their text, and how deep it nests. Nothing is open.
@@ -56,12 +65,15 @@ pub fn messages_are_read_back()
     ensures keep { (rs : List (ℕ × Datum)) → ⟦<BudgetMsg as MessageSpec>⟧.normal rs ↔ Fits (records_of rs) }
     ensures tree { (t : Grown) → ⟦<Tree as MessageSpec>⟧.normal t ↔ IsNormal t }
     ensures deep { (⟦<BudgetMsg as MessageSpec>⟧.levels ≡ height) × (⟦<Tree as MessageSpec>⟧.levels ≡ levels) }
+    ensures flat_levels { (⟦<FlatMsg as MessageSpec>⟧.levels ≡ (λ _. 0)) × (⟦<TestMsg as MessageSpec>⟧.levels ≡ (λ _. 0))
+        × (⟦<CountMsg as MessageSpec>⟧.levels ≡ (λ _. 0)) }
     ensures blank { (⟦<FlatMsg as Blank>⟧.blank_is ≡ pos 0) × (⟦<TestMsg as Blank>⟧.blank_is ≡ (pos 0, pos 0))
         × (⟦<CountMsg as Blank>⟧.blank_is ≡ 0) × (⟦<BudgetMsg as Blank>⟧.blank_is ≡ [])
         × (⟦<Tree as Blank>⟧.blank_is ≡ grown (pos 0) no_kids) }
 {}
 
-/// Which numbers the two enums declare, among the first four, and by which values. Nothing is open of these.
+/// Which numbers the two enums declare, among the first four, and by which values, and their default. Nothing is
+/// open of these.
 pub fn enums_are_these()
     ensures old { (⟦<Old as Enumeration>⟧.of_number (pos 0) ≡ Some Old.A)
         × (⟦<Old as Enumeration>⟧.of_number (pos 1) ≡ Some Old.B)
@@ -69,6 +81,7 @@ pub fn enums_are_these()
     ensures new { (⟦<New as Enumeration>⟧.of_number (pos 0) ≡ Some New.A)
         × (⟦<New as Enumeration>⟧.of_number (pos 1) ≡ Some New.B)
         × (⟦<New as Enumeration>⟧.of_number (pos 2) ≡ Some New.C) × (⟦<New as Enumeration>⟧.of_number (pos 3) ≡ None) }
+    ensures blank { (⟦<Old as Blank>⟧.blank_is ≡ pos 0) × (⟦<New as Blank>⟧.blank_is ≡ pos 0) }
 {}
 
 /// What a word means, which words are one key, and which texts it reads and writes. Nothing is open.
