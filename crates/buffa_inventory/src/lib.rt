@@ -1,0 +1,4 @@
+//! A message of one's own, field by field.
+#![tactic(auto)]
+
+pub mod inventory;
