@@ -3,7 +3,6 @@ pub mod FieldsLaws
 pub mod CostLaws
 pub mod Takes
 pub mod TakesLaws
-pub mod PassLaws
 pub mod PairLaws
 pub mod Values
 pub mod ValueLaws
@@ -12,3 +11,6 @@ pub mod MapFields
 pub mod MapLaws
 pub mod Keep
 pub mod KeepLaws
+pub mod Layout
+pub mod LayoutLaws
+pub mod Members

@@ -1,19 +1,17 @@
-//! Message types as lists of their fields.
+//! Messages from their fields: a message type is data, and its author writes no proof.
 #![tactic(auto)]
 
-pub mod field;
 pub mod fields;
-pub mod keep;
+pub mod kept;
 pub mod kind;
 pub mod kinds;
 mod map;
-pub mod map_field;
+pub mod map_member;
+pub mod member;
 pub mod message;
 pub mod optional;
-pub mod pair;
-pub mod place;
 pub mod plain;
-pub mod record;
-pub mod skip;
+pub mod sizer;
 mod value;
-pub mod walk;
+pub mod visitor;
+pub mod writer;

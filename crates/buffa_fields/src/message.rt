@@ -1,87 +1,106 @@
 //! A struct of one's own is a message.
 
-ghost use Rattle.std.specs.Prelude.{true, ◌≡◌, refl};
+ghost use Rattle.std.specs.Prelude.{◌≡◌, [], Ok, refl};
 ghost use Rattle.buffa_wire.specs.Text.{records_text};
+ghost use Rattle.buffa_fields.specs.Layout.{WritesSmall};
+ghost use Rattle.buffa_fields.specs.LayoutLaws.{reads_back};
 ghost use Rattle.buffa_fields.specs.Takes.{cost_of, merged_of};
-ghost use Rattle.buffa_fields.specs.TakesLaws.{back, cost_of_next, cost_of_none, merged_empty, merged_fields};
-ghost use Rattle.buffa_fields.specs.TakesLaws.{merged_next};
+ghost use Rattle.buffa_fields.specs.TakesLaws.{cost_of_next, cost_of_none, merged_empty, merged_fields, merged_next};
 
 use crate::fields::Fields;
-use crate::place::First;
-use crate::walk::{Shape, Walk};
+use crate::sizer::Sizer;
+use crate::writer::Writer;
 use buffa_wire::{
     Blank, DecodeContext, DecodeError, EncodeError, EncodeSink, Message, MessageSpec, SizeCache,
     Tag,
 };
 use std::alloc::Global;
 
+// Writes all members.
+fn write_members<M: Fields, S: EncodeSink>(message: &M, writer: &mut Writer<'_, S>)
+    requires { writer.old.result ≡ Ok tt }
+    ensures same_reference { writer.new.sink.ghost_name ≡ writer.old.sink.ghost_name }
+    ensures written { WritesSmall (records_text (M.layout.records (M.meaning message.now))) (S.written writer.old.sink.now)
+        writer.new.result (S.written writer.new.sink.now) }
+{
+    message.visit(writer);
+}
+
+// The same into a sink.
+fn write_message<M: Fields, S: EncodeSink>(message: &M, sink: &mut S) -> Result<(), EncodeError>
+    ensures { WritesSmall (records_text (M.layout.records (M.meaning message.now))) (S.written sink.old) result
+        (S.written sink.new) }
+{
+    let mut writer = Writer::new(sink);
+    write_members(message, &mut writer);
+    writer.finish()
+}
+
 /// A message of a struct of one's own.
 #[derive(Drop)]
-pub struct Own<M: Shape>(pub M);
+pub struct Own<M: Fields>(pub M);
 
-impl<M: Shape> Blank for Own<M> {
-    type Meaning = <M::All as Fields>::Meaning;
+impl<M: Fields> Blank for Own<M> {
+    type Meaning = M::Meaning;
 
-    ghost meaning = { λ m. M.All.meaning (M.parts m.0) };
+    ghost meaning = { λ m. M.meaning m.0 };
 
-    ghost blank_is = { M.All.blank_is };
+    ghost blank_is = { M.blank_is };
 
     fn blank(alloc: Global) -> Own<M> {
         Own(M::blank(alloc))
     }
 }
 
-impl<M: Shape> MessageSpec for Own<M> {
+impl<M: Fields> MessageSpec for Own<M> {
     const COST: usize = M::COST;
 
     ghost COST = { M.COST };
 
-    ghost merged = { merged_of M.All.takes };
+    ghost merged = { merged_of M.layout.takes };
 
-    ghost cost = { cost_of M.All.need };
+    ghost cost = { cost_of M.layout.need };
 
-    ghost text = { λ v. records_text (M.All.records v) };
+    ghost text = { λ v. records_text (M.layout.records v) };
 
-    ghost records = { M.All.records };
+    ghost records = { M.layout.records };
 
-    ghost slots = { M.All.slots };
+    ghost slots = { λ _. [] };
 
-    ghost levels = { M.All.levels };
+    ghost levels = { M.layout.levels };
 
-    ghost normal = { M.All.normal };
+    ghost normal = { M.layout.normal };
 
     ghost text_records = { λ v. refl };
 
-    ghost merged_text = { λ d v fits normal low. back M.All.takes d (λ n. true) M.All.blank_is
-        (records_text (M.All.records v)) v (M.All.Fields.reads_back M.Shape.sound (λ n. true) d v (M.All.Fields.within_all v) fits normal low) };
+    ghost merged_text = { reads_back M.layout M.Fields.back M.blank_is M.Fields.starts M.Fields.sound };
 
     ghost positive = { M.positive };
 
-    ghost merged_empty = { λ d v. merged_empty M.All.takes d v };
+    ghost merged_empty = { merged_empty M.layout.takes };
 
-    ghost merged_fields = { λ d v w b h. merged_fields M.All.takes d v w b h };
+    ghost merged_fields = { merged_fields M.layout.takes };
 
-    ghost merged_next = { λ d v f r h. merged_next M.All.takes d v f r h };
+    ghost merged_next = { merged_next M.layout.takes };
 
-    ghost cost_empty = { λ d. cost_of_none M.All.need d };
+    ghost cost_empty = { cost_of_none M.layout.need };
 
-    ghost cost_next = { λ d f r h. cost_of_next M.All.need M.All.stays d f r h };
+    ghost cost_next = { cost_of_next M.layout.need M.layout.stays };
 }
 
-impl<M: Shape> Message for Own<M>
-where
-    M::All: Walk<M, First>,
-{
-    fn compute_size(&self, cache: &mut SizeCache) -> Result<u32, EncodeError> {
-        <M::All as Walk<M, First>>::size_in(&self.0, cache)
+impl<M: Fields> Message for Own<M> {
+    fn compute_size(&self, _cache: &mut SizeCache) -> Result<u32, EncodeError> {
+        let mut sizer = Sizer { total: 0 };
+        self.0.visit(&mut sizer);
+        Ok(sizer.total)
     }
 
     fn write_to<S: EncodeSink>(
         &self,
-        cache: &mut SizeCache,
+        _cache: &mut SizeCache,
         sink: &mut S,
     ) -> Result<(), EncodeError> {
-        <M::All as Walk<M, First>>::write_in(&self.0, cache, sink)
+        write_message(&self.0, sink)
     }
 
     fn merge_field(
@@ -91,6 +110,6 @@ where
         buf: &mut &[u8],
         ctx: DecodeContext<'_>,
     ) -> Result<(), DecodeError> {
-        <M::All as Walk<M, First>>::merge_in(&mut self.0, alloc, tag, buf, ctx)
+        self.0.take(alloc, tag, buf, ctx)
     }
 }

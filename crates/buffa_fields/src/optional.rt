@@ -1,71 +1,57 @@
-//! Fields that may be absent.
+//! Members that may be absent.
 
-ghost use Rattle.std.specs.Prelude.{[], None, Option, refl, ◌==◌};
+ghost use Rattle.std.specs.Prelude.{None, refl, ◌==◌};
 ghost use Rattle.std.specs.Option.{option_map};
 ghost use Rattle.buffa_fields.specs.Values.{IfThere, free, some_records, some_taken};
 ghost use Rattle.buffa_fields.specs.ValueLaws.{some_back};
 
-use crate::field::Field;
 use crate::kind::Kind;
+use crate::member::Member;
 use crate::value::{take_value, value_len, write_value};
-use buffa_wire::{Blank, DecodeContext, DecodeError, EncodeError, EncodeSink, SizeCache, Tag};
+use buffa_wire::{Blank, DecodeContext, DecodeError, EncodeError, EncodeSink, Tag};
 use std::alloc::Global;
 use std::marker::PhantomData;
 
-/// A field with explicit presence: `optional` of a scalar, a string or bytes.
-pub struct Optional<const N: u32, C> {
+/// A member with explicit presence: `optional` of a scalar, a string or bytes.
+pub struct Optional<C> {
     of: PhantomData<C>,
 }
 
-impl<const N: u32, C: Kind> Field for Optional<N, C> {
+impl<C: Kind> Member for Optional<C> {
     type Part = Option<C::Value>;
 
     type Meaning = Option<<C::Value as Blank>::Meaning>;
 
-    const NUMBER: u32 = N;
+    ghost slot = { record {
+        meaning = λ p. option_map C.Value.meaning p;
+        blank = None;
+        takes = some_taken C.reading;
+        need = free;
+        records = λ n v. some_records C.datum n v;
+        levels = λ _. 0;
+        normal = λ v. IfThere (λ x. C.fits x × C.normal x) v;
+        stays = λ d n w p x h. refl
+    } };
 
-    ghost NUMBER = { N };
-
-    ghost meaning = { λ p. option_map C.Value.meaning p };
-
-    ghost blank_is = { None };
-
-    ghost takes = { some_taken C.reading };
-
-    ghost need = { free };
-
-    ghost records = { some_records C.datum N };
-
-    ghost slots = { λ _. [] };
-
-    ghost levels = { λ _. 0 };
-
-    ghost normal = { λ v. IfThere (λ x. C.fits x × C.normal x) v };
-
-    ghost stays = { λ d n w p x h. refl };
-
-    fn blank(_alloc: Global) -> Option<C::Value> {
-        None
-    }
-
-    fn compute_size(part: &Option<C::Value>, _cache: &mut SizeCache) -> Result<u32, EncodeError> {
+    fn len(number: u32, part: &Option<C::Value>) -> u32 {
         match part {
-            None => Ok(0),
-            Some(value) => Ok(value_len::<C>(N, value)),
+            None => 0,
+            Some(value) => value_len::<C>(number, value),
         }
     }
 
     fn write_to<S: EncodeSink>(
+        number: u32,
         part: &Option<C::Value>,
-        _cache: &mut SizeCache,
         sink: &mut S,
     ) -> Result<(), EncodeError> {
         match part {
             None => Ok(()),
-            Some(value) => write_value::<C, S>(N, value, sink),
+            Some(value) => write_value::<C, S>(number, value, sink),
         }
     }
 
+    #[tactic(auto, unfolding(crate::specs::Layout::Took))]
     fn merge(
         part: &mut Option<C::Value>,
         alloc: Global,
@@ -83,7 +69,7 @@ impl<const N: u32, C: Kind> Field for Optional<N, C> {
         }
     }
 
-    ghost reads_back = { λ number d v fits normal low. some_back C.reading C.writing C.datum N number d
-        C.MapCodec.plain C.WIRE_TYPE C.MapValueDecode.wire C.MapCodec.written_wire C.fits C.normal C.MapCodec.reads_back
-        C.Kind.datum_text v normal };
+    ghost back = { record { back = λ k number d v fits normal low. some_back C.reading C.writing C.datum k number d
+            C.MapCodec.plain C.WIRE_TYPE C.MapValueDecode.wire C.MapCodec.written_wire C.fits C.normal C.MapCodec.reads_back
+            C.Kind.datum_text v normal } };
 }
