@@ -135,28 +135,23 @@ counted_is rs name before total h = h
 
 module _ {M X : Type 0} (l : Layout M X) where
   -- the size pass
-  pub sizes : (m : M) (v : X) → l.meaning m ≡ v → (name : ℕ) (before : List ℕ) (total : ℕ) (c : Cache) → IsCounted total (l.seen m (start name before)) →
-      IsSized (records_text (l.records v)) [] c (let r : Result ℕ EncodeError = Ok total in r) c
-  sizes m v is name before total c h =
-      (counted_is (l.records (l.meaning m)) name before total (subst (λ z. IsCounted total z) (l.seen_is m (start name before)) h) ∙ ap (λ z. cap (length (records_text (l.records z)))) is, sym (appended_none c))
+  pub sizes : (m : M) (name : ℕ) (before : List ℕ) (total : ℕ) (c : Cache) → IsCounted total (l.seen m (start name before)) →
+      IsSized (records_text (l.records (l.meaning m))) [] c (let r : Result ℕ EncodeError = Ok total in r) c
+  sizes m name before total c h =
+      (counted_is (l.records (l.meaning m)) name before total (subst (λ z. IsCounted total z) (l.seen_is m (start name before)) h), sym (appended_none c))
 
   -- the write pass
-  pub puts : (m : M) (v : X) → l.meaning m ≡ v → (from name : ℕ) (before new : List ℕ) (r : Result (Unit {0}) EncodeError) → IsPut name new r (l.seen m (start from before)) →
-      (name ≡ from) × WritesSmall (records_text (l.records v)) before r new
-  puts m v is from name before new r h =
-      let k = was_put (l.records (l.meaning m)) from name before new r (subst (λ z. IsPut name new r z) (l.seen_is m (start from before)) h) in
-      (k.0, subst (λ z. WritesSmall (records_text (l.records z)) before r new) is k.1)
+  pub puts : (m : M) (from name : ℕ) (before new : List ℕ) (r : Result (Unit {0}) EncodeError) → IsPut name new r (l.seen m (start from before)) →
+      (name ≡ from) × WritesSmall (records_text (l.records (l.meaning m))) before r new
+  puts m from name before new r h = was_put (l.records (l.meaning m)) from name before new r (subst (λ z. IsPut name new r z) (l.seen_is m (start from before)) h)
 
   -- one field
-  pub merges : (d : ℕ) (old new : M) (v w : X) → l.meaning old ≡ v → l.meaning new ≡ w → (n : ℕ) (wire : WireType) (bs rest : List ℕ) (before after : BudgetLeft) (r : Result (Unit {0}) DecodeError) →
-      l.Taken d old n wire bs before r new after rest → IsFieldMerged (merged_of l.takes) (cost_of l.need) d v n wire bs before r w after rest
-  merges d old new v w is was n wire bs rest before after r h =
-      taken_merges l.takes d l.need l.stays r v w n wire bs rest before after
-      (subst (λ z. IsTaken l.takes l.need d v n wire bs before r z after rest) was
-      (subst (λ z. IsTaken l.takes l.need d z n wire bs before r (l.meaning new) after rest) is (l.taken_is d old n wire bs before r new after rest h)))
+  pub merges : (d : ℕ) (old new : M) (n : ℕ) (wire : WireType) (bs rest : List ℕ) (before after : BudgetLeft) (r : Result (Unit {0}) DecodeError) →
+      l.Taken d old n wire bs before r new after rest → IsFieldMerged (merged_of l.takes) (cost_of l.need) d (l.meaning old) n wire bs before r (l.meaning new) after rest
+  merges d old new n wire bs rest before after r h =
+      taken_merges l.takes d l.need l.stays r (l.meaning old) (l.meaning new) n wire bs rest before after (l.taken_is d old n wire bs before r new after rest h)
 
   -- the text reads back
-  pub reads_back : l.Owes → (blank : X) → blank ≡ l.blank → l.sound ≡ true → (d : ℕ) (v : X) → Fits (records_of (l.records v)) → l.normal v → l.levels v ≤ d → merged_of l.takes d blank (records_text (l.records v)) ≡ Some v
-  reads_back owes blank is sound d v fits normal low =
-      ap (λ z. merged_of l.takes d z (records_text (l.records v))) is
-      ∙ leads_back l.takes d (λ n. true) l.blank (records_text (l.records v)) v (l.back owes sound (λ n. true) d v (l.within_all v) fits normal low)
+  pub reads_back : l.Owes → l.sound ≡ true → (d : ℕ) (v : X) → Fits (records_of (l.records v)) → l.normal v → l.levels v ≤ d → merged_of l.takes d l.blank (records_text (l.records v)) ≡ Some v
+  reads_back owes sound d v fits normal low =
+      leads_back l.takes d (λ n. true) l.blank (records_text (l.records v)) v (l.back owes sound (λ n. true) d v (l.within_all v) fits normal low)

@@ -5,11 +5,14 @@ ghost use Rattle.buffa_wire.specs.BudgetLeft.{budget_left};
 ghost use Rattle.buffa_fields.specs.Layout.{Layout, Seen};
 
 use crate::visitor::Visitor;
-use buffa_wire::{Blank, DecodeContext, DecodeError, Tag};
+use buffa_wire::{DecodeContext, DecodeError, Tag};
 use std::alloc::Global;
 
 /// A struct that is a message, by its members.
-pub trait Fields: Blank {
+pub trait Fields: Drop {
+    /// What it means: what its members mean, in pairs.
+    type Meaning;
+
     /// The units of element memory that a message costs where it is an element.
     const COST: usize;
 
@@ -20,6 +23,10 @@ pub trait Fields: Blank {
 
     /// Its members, one after the other.
     ghost layout: { Layout Self Self.Meaning };
+
+    /// The default.
+    fn blank(alloc: Global) -> Self
+        ensures { layout.meaning result ≡ layout.blank };
 
     /// Visits each member.
     fn visit<V: Visitor>(&self, visitor: &mut V)
@@ -35,12 +42,6 @@ pub trait Fields: Blank {
     ) -> Result<(), DecodeError>
         ensures { layout.Taken ctx.entry.depth self.old tag.number tag.wire_type buf.old.now ctx.entry.budget.now
             result self.new (budget_left ctx.exit) buf.new.now };
-
-    /// It means what its members mean.
-    ghost means: { (m : Self) → layout.meaning m ≡ Self.meaning m };
-
-    /// It starts as they do.
-    ghost starts: { Self.blank_is ≡ layout.blank };
 
     /// The text of each member reads back.
     ghost back: { layout.Owes };

@@ -1,6 +1,9 @@
 //! A struct of one's own is a message.
 
 ghost use Rattle.std.specs.Prelude.{◌≡◌, [], Ok, refl};
+ghost use Rattle.buffa_wire.specs.BudgetLeft.{budget_left};
+ghost use Rattle.buffa_wire.specs.Message.{IsFieldMerged};
+ghost use Rattle.buffa_wire.specs.Passes.{IsSized, IsWritten};
 ghost use Rattle.buffa_wire.specs.Text.{records_text};
 ghost use Rattle.buffa_fields.specs.Layout.{WritesSmall};
 ghost use Rattle.buffa_fields.specs.LayoutLaws.{reads_back};
@@ -20,20 +23,65 @@ use std::alloc::Global;
 fn write_members<M: Fields, S: EncodeSink>(message: &M, writer: &mut Writer<'_, S>)
     requires { writer.old.result ≡ Ok tt }
     ensures same_reference { writer.new.sink.ghost_name ≡ writer.old.sink.ghost_name }
-    ensures written { WritesSmall (records_text (M.layout.records (M.meaning message.now))) (S.written writer.old.sink.now)
-        writer.new.result (S.written writer.new.sink.now) }
+    ensures written { WritesSmall (records_text (M.layout.records (M.layout.meaning message.now)))
+        (S.written writer.old.sink.now) writer.new.result (S.written writer.new.sink.now) }
 {
     message.visit(writer);
 }
 
 // The same into a sink.
-fn write_message<M: Fields, S: EncodeSink>(message: &M, sink: &mut S) -> Result<(), EncodeError>
-    ensures { WritesSmall (records_text (M.layout.records (M.meaning message.now))) (S.written sink.old) result
+fn write_text<M: Fields, S: EncodeSink>(message: &M, sink: &mut S) -> Result<(), EncodeError>
+    ensures { WritesSmall (records_text (M.layout.records (M.layout.meaning message.now))) (S.written sink.old) result
         (S.written sink.new) }
 {
     let mut writer = Writer::new(sink);
     write_members(message, &mut writer);
     writer.finish()
+}
+
+/// The size pass of a message by its members.
+///
+/// # Errors
+/// [`EncodeError::OutOfMemory`] alone.
+pub fn size<M: Fields>(message: &M, _cache: &mut SizeCache) -> Result<u32, EncodeError>
+    ensures { IsSized (records_text (M.layout.records (M.layout.meaning message.now))) [] _cache.old result _cache.new }
+{
+    let mut sizer = Sizer { total: 0 };
+    message.visit(&mut sizer);
+    Ok(sizer.total)
+}
+
+/// The write pass.
+///
+/// # Errors
+/// [`EncodeError::OutOfMemory`] alone.
+pub fn write<M: Fields, S: EncodeSink>(
+    message: &M,
+    _cache: &mut SizeCache,
+    sink: &mut S,
+) -> Result<(), EncodeError>
+    ensures { IsWritten (records_text (M.layout.records (M.layout.meaning message.now))) [] _cache.old
+        (S.written sink.old) result _cache.new (S.written sink.new) }
+{
+    write_text(message, sink)
+}
+
+/// Merges the field whose tag was read.
+///
+/// # Errors
+/// Those of `Message::merge`.
+pub fn merge<M: Fields>(
+    message: &mut M,
+    alloc: Global,
+    tag: Tag,
+    buf: &mut &[u8],
+    ctx: DecodeContext<'_>,
+) -> Result<(), DecodeError>
+    ensures { IsFieldMerged (merged_of M.layout.takes) (cost_of M.layout.need) ctx.entry.depth
+        (M.layout.meaning message.old) tag.number tag.wire_type buf.old.now ctx.entry.budget.now result
+        (M.layout.meaning message.new) (budget_left ctx.exit) buf.new.now }
+{
+    message.take(alloc, tag, buf, ctx)
 }
 
 /// A message of a struct of one's own.
@@ -43,9 +91,9 @@ pub struct Own<M: Fields>(pub M);
 impl<M: Fields> Blank for Own<M> {
     type Meaning = M::Meaning;
 
-    ghost meaning = { λ m. M.meaning m.0 };
+    ghost meaning = { λ m. M.layout.meaning m.0 };
 
-    ghost blank_is = { M.blank_is };
+    ghost blank_is = { M.layout.blank };
 
     fn blank(alloc: Global) -> Own<M> {
         Own(M::blank(alloc))
@@ -73,7 +121,7 @@ impl<M: Fields> MessageSpec for Own<M> {
 
     ghost text_records = { λ v. refl };
 
-    ghost merged_text = { reads_back M.layout M.Fields.back M.blank_is M.Fields.starts M.Fields.sound };
+    ghost merged_text = { reads_back M.layout M.Fields.back M.Fields.sound };
 
     ghost positive = { M.positive };
 
@@ -89,18 +137,16 @@ impl<M: Fields> MessageSpec for Own<M> {
 }
 
 impl<M: Fields> Message for Own<M> {
-    fn compute_size(&self, _cache: &mut SizeCache) -> Result<u32, EncodeError> {
-        let mut sizer = Sizer { total: 0 };
-        self.0.visit(&mut sizer);
-        Ok(sizer.total)
+    fn compute_size(&self, cache: &mut SizeCache) -> Result<u32, EncodeError> {
+        size(&self.0, cache)
     }
 
     fn write_to<S: EncodeSink>(
         &self,
-        _cache: &mut SizeCache,
+        cache: &mut SizeCache,
         sink: &mut S,
     ) -> Result<(), EncodeError> {
-        write_message(&self.0, sink)
+        write(&self.0, cache, sink)
     }
 
     fn merge_field(
@@ -110,6 +156,6 @@ impl<M: Fields> Message for Own<M> {
         buf: &mut &[u8],
         ctx: DecodeContext<'_>,
     ) -> Result<(), DecodeError> {
-        self.0.take(alloc, tag, buf, ctx)
+        merge(&mut self.0, alloc, tag, buf, ctx)
     }
 }

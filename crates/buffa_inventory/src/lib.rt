@@ -1,4 +1,6 @@
-//! A message of one's own, field by field.
+//! Messages from their fields: samples.
 #![tactic(auto)]
 
 pub mod inventory;
+pub mod maps;
+pub mod order;

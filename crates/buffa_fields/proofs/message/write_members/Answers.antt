@@ -10,6 +10,6 @@ returns g c =
     let before = g.S.EncodeSink.written w.sink.now in
     let z = start name before in
     let new = c.visit.new.visitor in
-    let k = puts g.M.Fields.layout c.args.message.now _ (g.met.M.Fields.means c.args.message.now) name new.sink.ghost_name before (g.S.EncodeSink.written new.sink.now) new.result
+    let k = puts g.M.Fields.layout c.args.message.now name new.sink.ghost_name before (g.S.EncodeSink.written new.sink.now) new.result
     (c.visit.ensures z (subst (λ r. IsPut name before r z) (sym c.requires) (puts_none name before))) in
     record { same_reference = k.0; written = k.1 }

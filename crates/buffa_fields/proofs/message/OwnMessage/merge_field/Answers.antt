@@ -1,7 +1,0 @@
-use Rattle.buffa_fields.specs.LayoutLaws.{merges}
-use Rattle.buffa_fields.proofs.message.OwnMessage.merge_field.Goals as goal
-
-pub returns : goal.returns
-returns g c =
-    merges g.M.Fields.layout c.args.ctx.depth c.args.self.now.0 c.take.new.self _ _ (g.met.M.Fields.means c.args.self.now.0) (g.met.M.Fields.means c.take.new.self)
-    c.args.tag.number c.args.tag.wire_type c.args.buf.now.now c.take.new.buf.now c.args.ctx.budget.now _ c.take.result c.take.ensures
