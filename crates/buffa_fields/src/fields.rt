@@ -43,9 +43,6 @@ pub trait Fields: Drop {
         ensures { layout.Taken ctx.entry.depth self.old tag.number tag.wire_type buf.old.now ctx.entry.budget.now
             result self.new (budget_left ctx.exit) buf.new.now };
 
-    /// The text of each member reads back.
-    ghost back: { layout.Owes };
-
     /// Each number may be a field's, and no two are one.
     ghost sound: { layout.sound ≡ true };
 }

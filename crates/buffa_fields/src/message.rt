@@ -117,11 +117,11 @@ impl<M: Fields> MessageSpec for Own<M> {
 
     ghost levels = { M.layout.levels };
 
-    ghost normal = { M.layout.normal };
+    ghost normal = { λ v. M.layout.Owes × M.layout.normal v };
 
     ghost text_records = { λ v. refl };
 
-    ghost merged_text = { reads_back M.layout M.Fields.back M.Fields.sound };
+    ghost merged_text = { λ d v fits normal low. reads_back M.layout normal.0 M.Fields.sound d v fits normal.1 low };
 
     ghost positive = { M.positive };
 

@@ -81,8 +81,5 @@ impl Fields for Inventory {
         }
     }
 
-    ghost back = { (⟦<Plain<Int32> as Member>⟧.back, (⟦<Plain<Str> as Member>⟧.back, (⟦<Optional<Bool> as Member>⟧.back,
-        (⟦<MapOf<Str, Int32> as Member>⟧.back, tt)))) };
-
     ghost sound = { refl };
 }

@@ -2,5 +2,6 @@
 #![tactic(auto)]
 
 pub mod inventory;
+pub mod inventory_message;
 pub mod maps;
 pub mod order;
