@@ -58,7 +58,7 @@ unfoldable pub more : List (ℕ × Datum) → Seen → Seen
 more rs z = record { name = z.name; before = z.before; records = z.records ++ rs }
 
 -- a member was visited
-unfoldable pub visited : {P X : Type 0} → Slot P X → ℕ → P → Seen → Seen
+abbrev pub visited : {P X : Type 0} → Slot P X → ℕ → P → Seen → Seen
 visited s k p z = more (s.records k (s.meaning p)) z
 
 -- ---- what visitors know

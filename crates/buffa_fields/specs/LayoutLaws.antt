@@ -54,7 +54,6 @@ unfolding more
 more_twice a b z = λ i. record { name = z.name; before = z.before; records = append_assoc z.records a b i }
 
 pub seen_field : {P X : Type 0} (s : Slot P X) (k : ℕ) (p : P) (b : List (ℕ × Datum)) (z y : Seen) → y ≡ more b (visited s k p z) → y ≡ more (s.records k (s.meaning p) ++ b) z
-unfolding visited
 seen_field s k p b z y h = h ∙ more_twice (s.records k (s.meaning p)) b z
 
 -- ---- what visitors know

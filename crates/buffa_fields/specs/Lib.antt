@@ -14,3 +14,4 @@ pub mod KeepLaws
 pub mod Layout
 pub mod LayoutLaws
 pub mod Members
+pub mod Slots

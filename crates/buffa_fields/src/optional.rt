@@ -2,8 +2,9 @@
 
 ghost use Rattle.std.specs.Prelude.{None, refl, ◌==◌};
 ghost use Rattle.std.specs.Option.{option_map};
-ghost use Rattle.buffa_fields.specs.Values.{IfThere, free, some_records, some_taken};
+ghost use Rattle.buffa_fields.specs.Values.{IfThere, free, some_taken};
 ghost use Rattle.buffa_fields.specs.ValueLaws.{some_back};
+ghost use Rattle.buffa_fields.specs.Slots.{optional_records};
 
 use crate::kind::Kind;
 use crate::member::Member;
@@ -27,12 +28,13 @@ impl<C: Kind> Member for Optional<C> {
         blank = None;
         takes = some_taken C.reading;
         need = free;
-        records = λ n v. some_records C.datum n v;
+        records = optional_records C.datum;
         levels = λ _. 0;
         normal = λ v. IfThere (λ x. C.fits x × C.normal x) v;
         stays = λ d n w p x h. refl
     } };
 
+    #[tactic(auto, unfolding(crate::specs::Slots::optional_records))]
     fn len(number: u32, part: &Option<C::Value>) -> u32 {
         match part {
             None => 0,
@@ -40,6 +42,7 @@ impl<C: Kind> Member for Optional<C> {
         }
     }
 
+    #[tactic(auto, unfolding(crate::specs::Slots::optional_records))]
     fn write_to<S: EncodeSink>(
         number: u32,
         part: &Option<C::Value>,
@@ -69,7 +72,7 @@ impl<C: Kind> Member for Optional<C> {
         }
     }
 
-    ghost back = { record { back = λ k number d v fits normal low. some_back C.reading C.writing C.datum k number d
+    ghost back = { record { back = λ k number d v fits normal low. unfold optional_records in (some_back C.reading C.writing C.datum k number d
             C.MapCodec.plain C.WIRE_TYPE C.MapValueDecode.wire C.MapCodec.written_wire C.fits C.normal C.MapCodec.reads_back
-            C.Kind.datum_text v normal } };
+            C.Kind.datum_text v normal) } };
 }

@@ -1,8 +1,9 @@
 //! Members that aren't written where they are the default.
 
 ghost use Rattle.std.specs.Prelude.{[], ◌∷◌, refl, ◌==◌};
-ghost use Rattle.buffa_fields.specs.Values.{free, records_unless, value_taken};
+ghost use Rattle.buffa_fields.specs.Values.{free, value_taken};
 ghost use Rattle.buffa_fields.specs.ValueLaws.{plain_back};
+ghost use Rattle.buffa_fields.specs.Slots.{plain_records};
 
 use crate::kind::Kind;
 use crate::member::Member;
@@ -26,12 +27,13 @@ impl<C: Kind> Member for Plain<C> {
         blank = C.Value.blank_is;
         takes = value_taken C.reading;
         need = free;
-        records = λ n v. records_unless (C.is_blank v) ((n, C.datum v) ∷ []);
+        records = plain_records C.is_blank C.datum;
         levels = λ _. 0;
         normal = λ v. C.fits v × C.normal v;
         stays = λ d n w p x h. refl
     } };
 
+    #[tactic(auto, unfolding(crate::specs::Slots::plain_records))]
     fn len(number: u32, part: &C::Value) -> u32 {
         if C::is_blank(part) {
             0
@@ -40,6 +42,7 @@ impl<C: Kind> Member for Plain<C> {
         }
     }
 
+    #[tactic(auto, unfolding(crate::specs::Slots::plain_records))]
     fn write_to<S: EncodeSink>(
         number: u32,
         part: &C::Value,
@@ -63,7 +66,7 @@ impl<C: Kind> Member for Plain<C> {
         take_value::<C>(alloc, part, tag, buf, ctx)
     }
 
-    ghost back = { record { back = λ k number d v fits normal low. plain_back C.reading C.writing C.datum k number d
+    ghost back = { record { back = λ k number d v fits normal low. unfold plain_records in (plain_back C.reading C.writing C.datum k number d
             C.MapCodec.plain C.WIRE_TYPE C.MapValueDecode.wire C.MapCodec.written_wire C.fits C.normal C.MapCodec.reads_back
-            C.Kind.datum_text C.Value.blank_is C.is_blank C.Kind.blank_only v normal.0 normal.1 } };
+            C.Kind.datum_text C.Value.blank_is C.is_blank C.Kind.blank_only v normal.0 normal.1) } };
 }

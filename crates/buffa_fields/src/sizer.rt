@@ -18,7 +18,7 @@ pub struct Sizer {
 impl Visitor for Sizer {
     ghost IsAt = { λ z s. IsCounted s.total z };
 
-    #[tactic(auto, using(crate::specs::LayoutLaws::counted), unfolding(crate::specs::Layout::visited))]
+    #[tactic(auto, using(crate::specs::LayoutLaws::counted))]
     fn visit<M: Member>(&mut self, number: u32, part: &M::Part) {
         self.total = self.total.saturating_add(M::len(number, part));
     }

@@ -45,7 +45,7 @@ impl<S: EncodeSink> Writer<'_, S> {
 impl<S: EncodeSink> Visitor for Writer<'_, S> {
     ghost IsAt = { λ z w. IsPut w.sink.ghost_name (S.written w.sink.now) w.result z };
 
-    #[tactic(auto, using(crate::specs::LayoutLaws::put, crate::specs::LayoutLaws::put_none), unfolding(crate::specs::Layout::visited))]
+    #[tactic(auto, using(crate::specs::LayoutLaws::put, crate::specs::LayoutLaws::put_none))]
     fn visit<M: Member>(&mut self, number: u32, part: &M::Part) {
         if self.result.is_ok() {
             self.result = M::write_to(number, part, self.sink);
