@@ -79,11 +79,11 @@ module _ (t u b0 b1 b2 : List ℕ) where
     (
       w.0,
       λ h.
-      let l = length-append t u in
-      let rest = w.1 (omega (arith, h, l)) in (
-        rest.0,
-        ap (λ (a : List ℕ). t ++ a) rest.1 ∙ ap (λ (a : List ℕ). a ++ (ys ++ rest.0)) (sym (q (omega (arith, h, l)))) ∙ sym (append_assoc xs ys rest.0),
-      ),
+          let l = length-append t u in
+          let rest = w.1 (omega (arith, h, l)) in (
+            rest.0,
+            ap (λ (a : List ℕ). t ++ a) rest.1 ∙ ap (λ (a : List ℕ). a ++ (ys ++ rest.0)) (sym (q (omega (arith, h, l)))) ∙ sym (append_assoc xs ys rest.0),
+          ),
     ),
   )
 

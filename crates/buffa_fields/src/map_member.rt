@@ -34,15 +34,15 @@ where
     type Meaning = [(<KC::Value as Blank>::Meaning, <VC::Value as Blank>::Meaning); 0];
 
     ghost slot = { record {
-        meaning = λ m. means KC.Value.meaning VC.Value.meaning m.entries;
-        blank = [];
-        takes = entry_taken KC.reading VC.reading KC.Value.same;
-        need = entry_cost KC.reading VC.reading (KC.COST + VC.COST);
-        records = entry_records KC.writing VC.writing;
-        levels = λ _. 0;
-        normal = λ l. AllHold (λ k. KC.fits k × KC.normal k) (λ v. VC.fits v × VC.normal v) l
-            × IsDistinct KC.Value.same (keys_of l);
-        stays = map_stays KC.reading VC.reading KC.Value.same (KC.COST + VC.COST)
+      meaning = λ m. means KC.Value.meaning VC.Value.meaning m.entries;
+      blank = [];
+      takes = entry_taken KC.reading VC.reading KC.Value.same;
+      need = entry_cost KC.reading VC.reading (KC.COST + VC.COST);
+      records = entry_records KC.writing VC.writing;
+      levels = λ _. 0;
+      normal = λ l. AllHold (λ k. KC.fits k × KC.normal k) (λ v. VC.fits v × VC.normal v) l
+          × IsDistinct KC.Value.same (keys_of l);
+      stays = map_stays KC.reading VC.reading KC.Value.same (KC.COST + VC.COST);
     } };
 
     #[tactic(auto, unfolding(crate::specs::Slots::entry_records))]
@@ -70,10 +70,12 @@ where
         take_entry::<KC, VC>(alloc, part, tag, buf, ctx)
     }
 
-    ghost back = { record { back = λ n number d l fits normal low. unfold entry_records in (map_back KC.reading VC.reading KC.writing VC.writing
-            (KC.MapCodec.written_wire ∙ sym KC.MapValueDecode.wire) (VC.MapCodec.written_wire ∙ sym VC.MapValueDecode.wire)
-            KC.Value.same KC.Value.MapKey.equivalence (λ k. KC.fits k × KC.normal k) (λ v. VC.fits v × VC.normal v) d
-            (λ v h. plain_back KC.reading KC.writing d v KC.MapCodec.plain (KC.MapCodec.reads_back d KC.reading.blank v h.0 h.1))
-            (λ v h. plain_back VC.reading VC.writing d v VC.MapCodec.plain (VC.MapCodec.reads_back d VC.reading.blank v h.0 h.1))
-            n number l fits normal.0 normal.1) } };
+    ghost back = { record {
+      back = λ n number d l fits normal low. unfold entry_records in (map_back KC.reading VC.reading KC.writing VC.writing
+          (KC.MapCodec.written_wire ∙ sym KC.MapValueDecode.wire) (VC.MapCodec.written_wire ∙ sym VC.MapValueDecode.wire)
+          KC.Value.same KC.Value.MapKey.equivalence (λ k. KC.fits k × KC.normal k) (λ v. VC.fits v × VC.normal v) d
+          (λ v h. plain_back KC.reading KC.writing d v KC.MapCodec.plain (KC.MapCodec.reads_back d KC.reading.blank v h.0 h.1))
+          (λ v h. plain_back VC.reading VC.writing d v VC.MapCodec.plain (VC.MapCodec.reads_back d VC.reading.blank v h.0 h.1))
+          n number l fits normal.0 normal.1);
+    } };
 }

@@ -24,14 +24,14 @@ impl<C: Kind> Member for Optional<C> {
     type Meaning = Option<<C::Value as Blank>::Meaning>;
 
     ghost slot = { record {
-        meaning = λ p. option_map C.Value.meaning p;
-        blank = None;
-        takes = some_taken C.reading;
-        need = free;
-        records = optional_records C.datum;
-        levels = λ _. 0;
-        normal = λ v. IfThere (λ x. C.fits x × C.normal x) v;
-        stays = λ d n w p x h. refl
+      meaning = λ p. option_map C.Value.meaning p;
+      blank = None;
+      takes = some_taken C.reading;
+      need = free;
+      records = optional_records C.datum;
+      levels = λ _. 0;
+      normal = λ v. IfThere (λ x. C.fits x × C.normal x) v;
+      stays = λ d n w p x h. refl;
     } };
 
     #[tactic(auto, unfolding(crate::specs::Slots::optional_records))]
@@ -72,7 +72,9 @@ impl<C: Kind> Member for Optional<C> {
         }
     }
 
-    ghost back = { record { back = λ k number d v fits normal low. unfold optional_records in (some_back C.reading C.writing C.datum k number d
-            C.MapCodec.plain C.WIRE_TYPE C.MapValueDecode.wire C.MapCodec.written_wire C.fits C.normal C.MapCodec.reads_back
-            C.Kind.datum_text v normal) } };
+    ghost back = { record {
+      back = λ k number d v fits normal low. unfold optional_records in (some_back C.reading C.writing C.datum k number d
+          C.MapCodec.plain C.WIRE_TYPE C.MapValueDecode.wire C.MapCodec.written_wire C.fits C.normal C.MapCodec.reads_back
+          C.Kind.datum_text v normal);
+    } };
 }

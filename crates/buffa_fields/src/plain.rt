@@ -23,14 +23,14 @@ impl<C: Kind> Member for Plain<C> {
     type Meaning = <C::Value as Blank>::Meaning;
 
     ghost slot = { record {
-        meaning = C.Value.meaning;
-        blank = C.Value.blank_is;
-        takes = value_taken C.reading;
-        need = free;
-        records = plain_records C.is_blank C.datum;
-        levels = λ _. 0;
-        normal = λ v. C.fits v × C.normal v;
-        stays = λ d n w p x h. refl
+      meaning = C.Value.meaning;
+      blank = C.Value.blank_is;
+      takes = value_taken C.reading;
+      need = free;
+      records = plain_records C.is_blank C.datum;
+      levels = λ _. 0;
+      normal = λ v. C.fits v × C.normal v;
+      stays = λ d n w p x h. refl;
     } };
 
     #[tactic(auto, unfolding(crate::specs::Slots::plain_records))]
@@ -66,7 +66,9 @@ impl<C: Kind> Member for Plain<C> {
         take_value::<C>(alloc, part, tag, buf, ctx)
     }
 
-    ghost back = { record { back = λ k number d v fits normal low. unfold plain_records in (plain_back C.reading C.writing C.datum k number d
-            C.MapCodec.plain C.WIRE_TYPE C.MapValueDecode.wire C.MapCodec.written_wire C.fits C.normal C.MapCodec.reads_back
-            C.Kind.datum_text C.Value.blank_is C.is_blank C.Kind.blank_only v normal.0 normal.1) } };
+    ghost back = { record {
+      back = λ k number d v fits normal low. unfold plain_records in (plain_back C.reading C.writing C.datum k number d
+          C.MapCodec.plain C.WIRE_TYPE C.MapValueDecode.wire C.MapCodec.written_wire C.fits C.normal C.MapCodec.reads_back
+          C.Kind.datum_text C.Value.blank_is C.is_blank C.Kind.blank_only v normal.0 normal.1);
+    } };
 }

@@ -23,7 +23,9 @@ pub fn read_own_inventories(
     buf: &mut &[u8],
     ctx: DecodeContext<'_>,
 ) -> Result<(), DecodeError> {
-    read_map_field::<Str, Msg<Own<Inventory>>, Map<String, Own<Inventory>>, &[u8]>(alloc, map, 1, buf, ctx, None)
+    read_map_field::<Str, Msg<Own<Inventory>>, Map<String, Own<Inventory>>, &[u8]>(
+        alloc, map, 1, buf, ctx, None,
+    )
 }
 
 /// The length of a map field.
@@ -41,7 +43,9 @@ pub fn read_inventories(
     buf: &mut &[u8],
     ctx: DecodeContext<'_>,
 ) -> Result<(), DecodeError> {
-    read_map_field::<Str, Msg<Inventory>, Map<String, Inventory>, &[u8]>(alloc, map, 1, buf, ctx, None)
+    read_map_field::<Str, Msg<Inventory>, Map<String, Inventory>, &[u8]>(
+        alloc, map, 1, buf, ctx, None,
+    )
 }
 
 /// The length of a map field.
@@ -59,5 +63,7 @@ pub fn read_own_orders(
     buf: &mut &[u8],
     ctx: DecodeContext<'_>,
 ) -> Result<(), DecodeError> {
-    read_map_field::<Str, Msg<Own<Order>>, Map<String, Own<Order>>, &[u8]>(alloc, map, 1, buf, ctx, None)
+    read_map_field::<Str, Msg<Own<Order>>, Map<String, Own<Order>>, &[u8]>(
+        alloc, map, 1, buf, ctx, None,
+    )
 }

@@ -33,7 +33,31 @@ pub struct Order {
 }
 
 impl Fields for Order {
-    type Meaning = (i64, ([u8; 0], (Option<bool>, (u32, ([([u8; 0], i32); 0], ([u8; 0], (i32, (Option<[u8; 0]>, (u64, ([(i32, [u8; 0]); 0], (bool, (Option<i32>, ()))))))))))));
+    type Meaning = (
+        i64,
+        (
+            [u8; 0],
+            (
+                Option<bool>,
+                (
+                    u32,
+                    (
+                        [([u8; 0], i32); 0],
+                        (
+                            [u8; 0],
+                            (
+                                i32,
+                                (
+                                    Option<[u8; 0]>,
+                                    (u64, ([(i32, [u8; 0]); 0], (bool, (Option<i32>, ())))),
+                                ),
+                            ),
+                        ),
+                    ),
+                ),
+            ),
+        ),
+    );
 
     const COST: usize = 256;
 
@@ -41,8 +65,7 @@ impl Fields for Order {
 
     ghost positive = { lit< tt };
 
-    ghost layout = {
-        field 1 (λ m. m.id) ⟦<Plain<Int64> as Member>⟧.slot (
+    ghost layout = { field 1 (λ m. m.id) ⟦<Plain<Int64> as Member>⟧.slot (
         field 2 (λ m. m.note) ⟦<Plain<Str> as Member>⟧.slot (
         field 3 (λ m. m.gift) ⟦<Optional<Bool> as Member>⟧.slot (
         field 4 (λ m. m.weight) ⟦<Plain<Uint32> as Member>⟧.slot (
@@ -54,8 +77,7 @@ impl Fields for Order {
         field 10 (λ m. m.names) ⟦<MapOf<Int32, Str> as Member>⟧.slot (
         field 11 (λ m. m.urgent) ⟦<Plain<Bool> as Member>⟧.slot (
         field 12 (λ m. m.floor) ⟦<Optional<Int32> as Member>⟧.slot (
-        skip))))))))))))
-    };
+        skip)))))))))))) };
 
     fn blank(alloc: Global) -> Order {
         Order {
