@@ -8,11 +8,11 @@ use Rattle.buffa_bytes.specs.declared.error.DecodeError.TheVariants.{OutOfMemory
 use Rattle.buffa_wire.proofs.MessageLemmas.{NoLimit}
 use Rattle.buffa_wire.specs.Field.{IsTag, Payload, SomeField}
 use Rattle.buffa_wire.specs.BudgetLeft.{BudgetLeft, Lacks, Pays, PaysAtMost, nothing, plus}
-use Rattle.buffa_wire.specs.Message.{IsFieldMerged}
+use Rattle.buffa_wire.specs.Message.{IsFieldMerged, IsJudged}
 use Rattle.buffa_wire.specs.Reading.{skip_at, tag_at}
 use Rattle.buffa_map.specs.Codec.{need_by}
 use Rattle.buffa_fields.specs.Fields.{FieldNeed, FieldReader, cost_by, cost_within, merged_by}
-use Rattle.buffa_fields.specs.FieldsLaws.{IsSame, IsSound, refused, taken}
+use Rattle.buffa_fields.specs.FieldsLaws.{IsSame, IsSound, refused_judged, taken}
 
 need_same : {A : Type 0} (r : Result A DecodeError) (f g : A → BudgetLeft) → ((x : A) → r ≡ Ok x → f x ≡ g x) → need_by r f ≡ need_by r g
 need_same (Ok x) f g h = h x refl
@@ -67,6 +67,13 @@ module _ (need : FieldNeed) (d : ℕ) where
         ap (cost_by need d) (ap (λ z. z ++ r) is ∙ append_assoc t p r) ∙ field_and t p r n w tag payload
         ∙ ap (λ z. plus z (cost_by need d r)) (sym (ap (cost_by need d) is ∙ field_alone t p n w tag payload))
 
+    -- what a refusal speaks of costs the field, and what may follow it
+    cost_judged : (t p bs : List ℕ) (n : ℕ) (w : WireType) → IsTag t n w → IsJudged d n w bs p → (after : BudgetLeft) × (cost_by need d (t ++ p) ≡ plus (need n w bs) after)
+    cost_judged t p bs n w tag (inl (rest, payload, is)) =
+        (nothing, field_alone t p n w tag payload ∙ sym (ap (need n w) is ∙ stays n w p rest payload) ∙ sym (plus_nothing (need n w bs)))
+    cost_judged t p bs n w tag (inr (is, off)) =
+        (need_by (skip_at d n w bs) (cost_by need d), ap (λ z. cost_by need d (t ++ z)) is ∙ cost_tagged t bs n w tag)
+
     -- one field, whose tag was read, where messages cost something
     module _ {X : Type 0} (field : FieldReader X) (sound : IsSound d field) (same : IsSame d field) where
       -- the field's part of a contract
@@ -87,12 +94,11 @@ module _ (need : FieldNeed) (d : ℕ) where
           let q = taken d field sound same old new n w bs rest h in
           let all : need n w bs ≡ need n w q.0 = ap (need n w) q.2 ∙ stays n w q.0 rest q.1 in
           (q.0, q.1, q.2, λ t tag. (q.3 t tag, subst (λ z. Pays before z after) (all ∙ sym (field_alone t q.0 n w tag q.1)) k))
-      paid (Err e) old new n w bs rest before after (h, k) = λ t tag.
-          let more = need_by (skip_at d n w bs) (cost_by need d) in
-          let is = cost_tagged t bs n w tag in (
-            subst (λ z. PaysAtMost before z after) (sym is) (h.0, omega (arith, h.1), h.2, omega (arith, h.3)),
+      paid (Err e) old new n w bs rest before after (h, k) = λ t p tag judged.
+          let cost = cost_judged t p bs n w tag judged in (
+            subst (λ z. PaysAtMost before z after) (sym cost.1) (h.0, omega (arith, h.1), h.2, omega (arith, h.3)),
             λ ne. elim (k ne) [
-              | inl few ↦ inl (subst (λ z. Lacks before z) (sym is) (lacks (need n w bs) more before few))
-              | inr bad ↦ inr (refused d field sound same old n w t tag bs bad.0 bad.1, bad.2)
+              | inl few ↦ inl (subst (λ z. Lacks before z) (sym cost.1) (lacks (need n w bs) cost.0 before few))
+              | inr bad ↦ inr (refused_judged d field sound same old n w t tag bs p bad.0 bad.1 judged, bad.2)
             ],
           )

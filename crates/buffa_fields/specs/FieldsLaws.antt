@@ -6,7 +6,7 @@ use Rattle.buffa_wire.specs.Field.{IsTag, Payload, SomeField}
 use Rattle.buffa_wire.specs.Join.{Join}
 use Rattle.buffa_wire.specs.Join.Join.{none, more}
 use Rattle.buffa_wire.specs.BudgetLeft.{BudgetLeft, nothing}
-use Rattle.buffa_wire.specs.Message.{IsFieldMerged}
+use Rattle.buffa_wire.specs.Message.{IsFieldMerged, IsJudged}
 use Rattle.buffa_bytes.specs.declared.wire_type.WireType.{WireType}
 use Rattle.buffa_bytes.specs.declared.error.DecodeError.{DecodeError}
 use Rattle.buffa_bytes.proofs.StepLemmas.{Agrees, agree_bind, agree_err, agree_ok, agree_weaker, bind_same}
@@ -114,6 +114,15 @@ module _ {X : Type 0} (d : ℕ) (field : FieldReader X) (sound : IsSound d field
     pub refused : (bs : List ℕ) (e : DecodeError) → field v n w bs ≡ Err e → merged_by field v (t ++ bs) ≡ None
     refused bs e h = ap value_of (along_err (next_at field) falls v (t ++ bs) e (some bs) (here bs ∙ h))
 
+    refused_by : (bs rest p : List ℕ) (e : DecodeError) → field v n w bs ≡ Err e → bs ≡ p ++ rest → Same (field v n w) p → merged_by field v (t ++ p) ≡ None
+    refused_by bs rest p e h is (inl (u, k)) = let bad = sym (k rest) ∙ ap (field v n w) (sym is) ∙ h in cc
+    refused_by bs rest p e h is (inr (f, k)) = ap (λ z. merged_by field v (t ++ z)) (sym (append-nil p)) ∙ refused (p ++ []) f (k [])
+
+    -- a field is refused, and so is what a refusal speaks of
+    pub refused_judged : (bs p : List ℕ) (e : DecodeError) → field v n w bs ≡ Err e → IsJudged d n w bs p → merged_by field v (t ++ p) ≡ None
+    refused_judged bs p e h (inl (rest, payload, is)) = refused_by bs rest p e h is (same v n w p payload)
+    refused_judged bs p e h (inr (is, off)) = ap (λ z. merged_by field v (t ++ z)) is ∙ refused bs e h
+
     -- a field alone
     pub read_last : (u : X) (p : List ℕ) → field v n w (p ++ []) ≡ Ok (u, []) → merged_by field v (t ++ p) ≡ Some u
     read_last u p h = ap (λ z. merged_by field v (t ++ z)) (sym (append-nil p)) ∙ read u (p ++ []) [] h ∙ empty u
@@ -149,4 +158,4 @@ module _ {X : Type 0} (d : ℕ) (field : FieldReader X) (sound : IsSound d field
       IsFieldMerged (λ _. merged_by field) (λ _ _. nothing) d old n w bs left r new left rest
   free (Ok x) old new n w bs rest left h = let q = taken old new n w bs rest h in (q.0, q.1, q.2, λ t tag. (q.3 t tag, (omega arith, omega arith)))
   free (Err e) old new n w bs rest left h =
-      λ t tag. ((omega arith, omega arith, omega arith, omega arith), λ ne. inr (refused old n w t tag bs e h, agree_err (field old n w bs) e (sound old n w bs) h))
+      λ t p tag judged. ((omega arith, omega arith, omega arith, omega arith), λ ne. inr (refused_judged old n w t tag bs p e h judged, agree_err (field old n w bs) e (sound old n w bs) h))

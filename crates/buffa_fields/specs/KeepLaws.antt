@@ -18,7 +18,7 @@ use Rattle.buffa_wire.specs.Message.{IsLimit}
 use Rattle.buffa_wire.proofs.ParseLemmas.{text_parses}
 use Rattle.buffa_wire.specs.Falls.{height-records}
 use Rattle.buffa_wire.specs.Parse.{FieldFault, FieldFaultOf, GroupFault, InsideFault, Fits, IsPayload, Parse, slots, slots_inside}
-use Rattle.buffa_wire.specs.RecordReading.{field_at}
+use Rattle.buffa_wire.specs.RecordReading.{TakesMemory, field_at}
 use Rattle.buffa_wire.specs.Records.{Datum, Records, bytes, fixed32, fixed64, group, height, no_records, one, records_of, varint}
 use Rattle.buffa_wire.specs.Text.{records_text, wire_of}
 use Rattle.std.specs.Prelude.{Bool, true, Option, None, ◌&&◌}
@@ -159,6 +159,10 @@ pub both_numbers : (P Q : ℕ → Bool) (v : List (ℕ × Datum)) → AllNumbers
 both_numbers P Q [] h k = tt
 both_numbers P Q (y ∷ ys) h k = (both_true (P y.0) (Q y.0) h.0 k.0, both_numbers P Q ys h.1 k.1)
 
+-- ---- an end tag takes no memory
+pub takes_no_end : (d s : ℕ) (w : WireType) (bs : List ℕ) → TakesMemory d s w bs → w ≢ wire.EndGroup
+takes_no_end d s w bs h end = (subst (λ z. TakesMemory d s z bs) end h).1
+
 -- ---- a call that reads the field with slots of its own
 module _ (d s n : ℕ) (w : WireType) (bs : List ℕ) (v : List (ℕ × Datum)) (before : BudgetLeft) (all : s ≡ before.unknown) where
   pub keep_ok : (x : Datum) (left : ℕ) (new : List (ℕ × Datum)) (after : BudgetLeft) (rest : List ℕ) → field_at d s n w bs ≡ Ok (x, left, rest) → new ≡ v ++ (n, x) ∷ [] → after.unknown ≡ left → after.memory ≡ before.memory →
@@ -190,12 +194,18 @@ module _ (d s n : ℕ) (w : WireType) (bs : List ℕ) (v : List (ℕ × Datum)) 
         | inr few ↦ inl (inl (omega (arith, few, all, ap (λ z. z.unknown) (ap (spent_of (suc (length bs))) is))))
       ]
 
-  pub keep_err : (e : DecodeError) (rest : List ℕ) → (e ≢ error.OutOfMemory → field_at d s n w bs ≡ Err e) → IsTaken keep_takes keep_need d v n w bs before (let r : Result (Unit {0}) DecodeError = Err e in r) v before rest
-  keep_err e rest h = ((omega arith, omega arith, omega arith, omega arith), λ ne. none_there (record_at d n w bs) refl e (h ne))
+  pub keep_err : (e : DecodeError) (rest : List ℕ) → (e ≢ error.OutOfMemory → field_at d s n w bs ≡ Err e) → (e ≡ error.OutOfMemory → w ≢ wire.EndGroup) → IsTaken keep_takes keep_need d v n w bs before (let r : Result (Unit {0}) DecodeError = Err e in r) v before rest
+  keep_err e rest h full = ((omega arith, omega arith, omega arith, omega arith), λ ne. none_there (record_at d n w bs) refl e (h ne), full)
+
+  -- memory ran out behind a field that was read
+  pub keep_full : (x : Datum) (left : ℕ) (after rest : List ℕ) → field_at d s n w bs ≡ Ok (x, left, after) → IsTaken keep_takes keep_need d v n w bs before (let r : Result (Unit {0}) DecodeError = Err error.OutOfMemory in r) v before rest
+  keep_full x left after rest h =
+      let k = agree_ok (field_at d s n w bs) (x, left, after) (field_is_read d s n w bs) h in
+      keep_err error.OutOfMemory rest (λ ne. absurd (ne refl)) (λ no end. subst (λ z. PayloadOver (Group d) n z k.0) (k.2 ∙ end) (payload_of_record x d n k.0 k.1))
 
   -- the same of an error that is passed on by `?`
-  pub keep_err_as : (r : Result (Unit {0}) DecodeError) (e f : DecodeError) → r ≡ Err f → f ≡ e → (rest : List ℕ) → (e ≢ error.OutOfMemory → field_at d s n w bs ≡ Err e) → IsTaken keep_takes keep_need d v n w bs before r v before rest
-  keep_err_as r e f is same rest h = subst (λ z. IsTaken keep_takes keep_need d v n w bs before z v before rest) (sym (is ∙ ap (λ x. Err x) same)) (keep_err e rest h)
+  pub keep_err_as : (r : Result (Unit {0}) DecodeError) (e f : DecodeError) → r ≡ Err f → f ≡ e → (rest : List ℕ) → (e ≢ error.OutOfMemory → field_at d s n w bs ≡ Err e) → (e ≡ error.OutOfMemory → w ≢ wire.EndGroup) → IsTaken keep_takes keep_need d v n w bs before r v before rest
+  keep_err_as r e f is same rest h full = subst (λ z. IsTaken keep_takes keep_need d v n w bs before z v before rest) (sym (is ∙ ap (λ x. Err x) same)) (keep_err e rest h full)
 
 pub keep_as : (d n : ℕ) (w : WireType) (bs : List ℕ) (before : BudgetLeft) (u v : List (ℕ × Datum)) → u ≡ v → (r : Result (Unit {0}) DecodeError) (new : List (ℕ × Datum)) (after : BudgetLeft) (rest : List ℕ) →
     IsTaken keep_takes keep_need d u n w bs before r new after rest → IsTaken keep_takes keep_need d v n w bs before r new after rest

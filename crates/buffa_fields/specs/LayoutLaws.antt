@@ -2,9 +2,11 @@
 use Rattle.std.proofs.Common.{◌≡◌, ◌≢◌, ℕ, ◌+◌, ◌==◌, ◌<◌, ◌≤◌, ◌&&◌, min, Bool, true, false, not, List, [], ◌∷◌, ◌++◌, length, Option, Some, None, Result, Ok, Err, refl, sym, ap, subst, ◌∙◌, arith, append_assoc, append-nil, length-append}
 use Rattle.std.proofs.lemmas.Bool.{eqb-true, eqb-false}
 use Rattle.buffa_bytes.specs.declared.wire_type.WireType.{WireType}
+use Rattle.buffa_bytes.specs.declared.wire_type.WireType.TheVariants.{EndGroup}
 use Rattle.buffa_bytes.specs.declared.error.DecodeError.{DecodeError}
 use Rattle.buffa_bytes.specs.declared.error.EncodeError.{EncodeError}
 use Rattle.buffa_wire.specs.BudgetLeft.{BudgetLeft}
+use Rattle.buffa_wire.specs.Gives.{FullOnlyIf}
 use Rattle.buffa_wire.specs.Message.{IsFieldMerged}
 use Rattle.buffa_wire.specs.Parse.{Fits}
 use Rattle.buffa_wire.specs.Passes.{Begins, IsSized, IsSmall, IsWritten, cap}
@@ -16,7 +18,7 @@ use Rattle.buffa_fields.specs.Layout.{Choice, IsCounted, IsPut, Kept, Layout, Pa
 use Rattle.buffa_fields.specs.Keep.{keep_need, keep_takes}
 use Rattle.buffa_fields.specs.PairLaws.{first_taken, other_taken, records_text-append}
 use Rattle.buffa_fields.specs.Takes.{IsTaken, Need, Taker, both_need, both_take, cost_of, merged_of}
-use Rattle.buffa_fields.specs.TakesLaws.{back as leads_back, taken_merges}
+use Rattle.buffa_fields.specs.TakesLaws.{back as leads_back, taken_full, taken_merges}
 
 -- ---- one member takes the field, or one of the others
 module _ {P X B : Type 0} (s : Slot P X) (k : ℕ) (g : Taker B) (gn : Need) (d : ℕ) (p q : P) (b c : B) (n : ℕ) (w : WireType) (bs : List ℕ) (before : BudgetLeft) (r : Result (Unit {0}) DecodeError) (after : BudgetLeft) (rest : List ℕ)
@@ -83,6 +85,7 @@ module _ (t u b0 b1 b2 : List ℕ) where
           let rest = w.1 (omega (arith, h, l)) in (
             rest.0,
             ap (λ (a : List ℕ). t ++ a) rest.1 ∙ ap (λ (a : List ℕ). a ++ (ys ++ rest.0)) (sym (q (omega (arith, h, l)))) ∙ sym (append_assoc xs ys rest.0),
+            rest.2,
           ),
     ),
   )
@@ -93,7 +96,7 @@ module _ (t u b0 b1 b2 : List ℕ) where
     p,
     (
       q.0,
-      λ h. let rest = q.1 (omega (arith, h, length-append t u)) in (rest.0 ++ u, ap (λ (a : List ℕ). a ++ u) rest.1 ∙ append_assoc xs rest.0 u),
+      λ h. let rest = q.1 (omega (arith, h, length-append t u)) in (rest.0 ++ u, ap (λ (a : List ℕ). a ++ u) rest.1 ∙ append_assoc xs rest.0 u, omega (arith, rest.2, length-append rest.0 u)),
     ),
   )
 
@@ -149,6 +152,11 @@ module _ {M X : Type 0} (l : Layout M X) where
       l.Taken d old n wire bs before r new after rest → IsFieldMerged (merged_of l.takes) (cost_of l.need) d (l.meaning old) n wire bs before r (l.meaning new) after rest
   merges d old new n wire bs rest before after r h =
       taken_merges l.takes d l.need l.stays r (l.meaning old) (l.meaning new) n wire bs rest before after (l.taken_is d old n wire bs before r new after rest h)
+
+  pub full_of : (d : ℕ) (old new : M) (n : ℕ) (wire : WireType) (bs rest : List ℕ) (before after : BudgetLeft) (r : Result (Unit {0}) DecodeError) →
+      l.Taken d old n wire bs before r new after rest → FullOnlyIf r (wire ≢ EndGroup)
+  full_of d old new n wire bs rest before after r h =
+      taken_full l.takes l.need d (l.meaning old) (l.meaning new) n wire bs rest before after r (l.taken_is d old n wire bs before r new after rest h)
 
   -- the text reads back
   pub reads_back : l.Owes → l.sound ≡ true → (d : ℕ) (v : X) → Fits (records_of (l.records v)) → l.normal v → l.levels v ≤ d → merged_of l.takes d l.blank (records_text (l.records v)) ≡ Some v

@@ -1,10 +1,11 @@
 -- Map fields in messages. Source: the protobuf encoding guide, "Maps".
-use Rattle.std.specs.Prelude.{◌≡◌, ℕ, ◌^◌, ◌<◌, Bool, true, false, List, [], ◌∷◌, ◌++◌, length, MatchResult, Option, Some, None, Result, Ok, Err, if◌then◌else◌}
+use Rattle.std.specs.Prelude.{◌≡◌, ℕ, Bool, true, false, List, [], ◌∷◌, ◌++◌, MatchResult, Option, Some, None, Result, Ok, Err, if◌then◌else◌}
 use Rattle.std.specs.Option.{option_map}
 use Rattle.buffa_bytes.specs.declared.error.DecodeError.{DecodeError}
 use Rattle.buffa_bytes.specs.declared.wire_type.WireType.TheVariants.{LengthDelimited}
 use Rattle.buffa_bytes.specs.declared.error.EncodeError.{EncodeError}
 use Rattle.buffa_bytes.specs.declared.error.EncodeError.TheVariants.{OutOfMemory}
+use Rattle.buffa_wire.specs.Passes.{Begins, IsSmall}
 use Rattle.buffa_wire.specs.Text.{records_text}
 use Rattle.buffa_wire.specs.BudgetLeft.{nothing}
 use Rattle.buffa_wire.specs.Reading.{delimited_at}
@@ -37,9 +38,9 @@ abbrev pub map_records : {K V : Type 0} → Writing K → Writing V → ℕ → 
 map_records key val n [] = []
 map_records key val n (p ∷ ps) = (n, bytes (entry_text key val p)) ∷ map_records key val n ps
 
--- a map field was written, or memory ran out after a beginning of it; or it is no text of a message
+-- a map field was written, or memory ran out before all of it was; or it is no text of a message
 abbrev pub WritesMap : {K V T : Type 0} → Writing K → Writing V → ℕ → List (K × V) → List ℕ → Result T EncodeError → List ℕ → Type 0
 WritesMap key val n l old r new =
     let text = records_text (map_records key val n l) in
     (bs : List ℕ) × (new ≡ old ++ bs)
-    × MatchResult r (λ _. length text < 2 ^ 31 → bs ≡ text) (λ e. (e ≡ OutOfMemory) × (length text < 2 ^ 31 → (rest : List ℕ) × (text ≡ bs ++ rest)))
+    × MatchResult r (λ _. IsSmall text → bs ≡ text) (λ e. (e ≡ OutOfMemory) × (IsSmall text → Begins bs text))

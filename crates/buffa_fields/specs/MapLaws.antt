@@ -29,7 +29,7 @@ use Rattle.buffa_wire.specs.WireType.{same_wire}
 use Rattle.buffa_wire.proofs.SequenceLemmas.{ok_same}
 use Rattle.buffa_map.proofs.EntryLemmas.{entry_complete, entry_faulty, same_false}
 use Rattle.buffa_map.specs.Codec.{Reading, Writing}
-use Rattle.buffa_map.specs.Entry.{EntryFault, FaultOf, need_of}
+use Rattle.buffa_map.specs.Entry.{EntryFault, FaultOf, IsEntry, need_of}
 use Rattle.buffa_map.specs.Laws.{LimitsAreTrue, SizeIsLength}
 use Rattle.buffa_map.specs.Merge.{MergesEntry, RefusesEntry, State, dropping, state}
 use Rattle.buffa_map.specs.Run.{step}
@@ -41,6 +41,7 @@ use Rattle.buffa_fields.specs.MapFields.{WritesMap, entry_cost, entry_in, entry_
 use Rattle.buffa_fields.specs.Takes.{IsTaken, Leads, Piece, ReadsBack, Stays, Untaken, joined}
 use Rattle.std.proofs.Common.{map}
 use Rattle.buffa_map.proofs.BackLemmas.{IsReadBack, as_record, entry_back, fold_back, is_tag}
+use Rattle.buffa_map.proofs.WriteLemmas.{field_text-append}
 use Rattle.buffa_map.specs.Run.{fold_entries, pair_entry}
 use Rattle.buffa_wire.specs.Values.{delimited_text, tag_text}
 use Rattle.buffa_wire.specs.Varint.{varint_text}
@@ -140,13 +141,18 @@ module _ {K V : Type 0} (key : Reading K) (val : Reading V) (same : K → K → 
       why f h = elim (is_limit f) [
         | inl limit ↦
             let q = limits d cost 0 before bs f h limit in
-            inl (rw (wire, delimited_taken bs q.0 q.1 q.2) (plain_lack (need_of key val d cost q.0) q.3))
+            inl (rw (wire, delimited_taken bs q.0 q.1 q.2) (lacked q.0 q.3))
         | inr unlimited ↦ at unlimited h
       ]
         where
           plain_lack : (need : BudgetLeft) → Lacks before (plus need (slots 0)) → Lacks before need
           plain_lack need (inl x) = inl (omega (arith, x))
           plain_lack need (inr x) = inr (omega (arith, x))
+
+          lacked : (e : List ℕ) → Lacks before (need_of key val d cost e)
+              ⊎ ((s : MapEntry K V) × IsEntry key val d e s × (s.known ≡ false) × Lacks before (plus (need_of key val d cost e) (slots 0))) → Lacks before (need_of key val d cost e)
+          lacked e (inl h) = h
+          lacked e (inr (s, entry, known, h)) = plain_lack (need_of key val d cost e) h
 
           at : NoLimit f → EntryFault key val d cost 0 before bs f → Lacks before (entry_cost key val cost d n w bs) ⊎ (Untaken (entry_taken key val same) d old n w bs × NoLimit f)
           at unlimited (inl len) = inr (no_payload f (delimited_faulty bs f len), unlimited)
@@ -158,7 +164,7 @@ module _ {K V : Type 0} (key : Reading K) (val : Reading V) (same : K → K → 
       pub map_err : (f : DecodeError) → RefusesEntry (dropping key val same true d 0 cost) (state old none before) bs (state new none after) rest f →
           IsTaken (entry_taken key val same) (entry_cost key val cost) d old n w bs before (let r : Result (Unit {0}) DecodeError = Err f in r) new after rest
       unfolding entry_taken entry_cost
-      map_err f k = (rw wire (spent (delimited_at bs) refl f k), λ ne. why f (k.fault ne))
+      map_err f k = (rw wire (spent (delimited_at bs) refl f k), λ ne. why f (k.fault ne), λ full end. let two = sym wire ∙ end in cc)
 
     pub map_wire_err : (f : DecodeError) → w ≢ LengthDelimited → f ≡ WireTypeMismatch n LengthDelimited w → after ≡ before →
         IsTaken (entry_taken key val same) (entry_cost key val cost) d old n w bs before (let r : Result (Unit {0}) DecodeError = Err f in r) new after rest
@@ -169,6 +175,7 @@ module _ {K V : Type 0} (key : Reading K) (val : Reading V) (same : K → K → 
         let b = ap (λ (z : BudgetLeft). z.memory) still in (
           rw off (omega (arith, a), omega (arith, a), omega (arith, b), omega (arith, b)),
           λ ne. inr ((λ p more payload split. rw off refl), subst (λ z. NoLimit z) (sym is) (λ l. l)),
+          λ full end. let two = sym full ∙ is in cc,
         )
 
 -- ---- the text reads back
@@ -236,7 +243,21 @@ module _ {K V : Type 0} (kw : Writing K) (vw : Writing V) (n : ℕ) (l m : List 
   long_in (q ∷ qs) p rest = omega (arith, long_in qs p rest, length-append (record_text kw vw n q) (field_text kw vw n (qs ++ p ∷ rest)))
 
   pub map_unwritten : (e : EncodeError) → RefusesField kw vw n old new l e → WritesMap kw vw n m old (let r : Result (Unit {0}) EncodeError = Err encode.OutOfMemory in r) new
-  map_unwritten encode.OutOfMemory (front, rest, split, h) = (front, h, (refl, λ small. (rest, sym text_is ∙ split)))
+  map_unwritten encode.OutOfMemory (done, p, rest, split, has, long, (front, more, cut, h, some)) = (
+    field_text kw vw n done ++ front,
+    h ∙ append_assoc old (field_text kw vw n done) front,
+    (
+      refl,
+      λ small. (
+        more ++ field_text kw vw n rest,
+        sym text_is ∙ ap (field_text kw vw n) split ∙ field_text-append kw vw n done (p ∷ rest)
+            ∙ ap (λ (z : List ℕ). field_text kw vw n done ++ (z ++ field_text kw vw n rest)) cut
+            ∙ ap (λ (z : List ℕ). field_text kw vw n done ++ z) (append_assoc front more (field_text kw vw n rest))
+            ∙ sym (append_assoc (field_text kw vw n done) front (more ++ field_text kw vw n rest)),
+        omega (arith, some, length-append more (field_text kw vw n rest)),
+      ),
+    ),
+  )
   map_unwritten encode.MessageTooLarge (done, p, rest, split, has, long, h) =
       (field_text kw vw n done, h, (refl, λ small. absurd (omega (arith, small, long, long_in done p rest, ap (λ (z : List (K × V)). length (field_text kw vw n z)) split, ap length text_is))))
   map_unwritten (encode.GroupRefused e) h = absurd h

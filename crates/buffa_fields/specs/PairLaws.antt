@@ -103,13 +103,14 @@ module _ {A B : Type 0} (k : ℕ) (f : Taker A) (g : Taker B) (fn gn : Need) (d 
   first_taken (Ok _) x after rest is (p, payload, split, h, pays) =
       let e = eq-eqb n k is in
       (p, payload, split, rw (e, h) refl, rw e pays)
-  first_taken (Err _) x after rest is (pays, why) =
+  first_taken (Err _) x after rest is (pays, why, full) =
       let e = eq-eqb n k is in (
         rw e pays,
         λ ne. elim (why ne) [
           | inl few ↦ inl (rw e few)
           | inr bad ↦ inr ((λ p rest payload split. rw (e, bad.0 p rest payload split) refl), bad.1)
         ],
+        full,
       )
 
   -- the same, where what stood is known by an equation
@@ -122,11 +123,12 @@ module _ {A B : Type 0} (k : ℕ) (f : Taker A) (g : Taker B) (fn gn : Need) (d 
   other_taken (Ok _) y after rest not_is (p, payload, split, h, pays) =
       let e = ne_eqb n k not_is in
       (p, payload, split, rw (e, h) refl, rw e pays)
-  other_taken (Err _) y after rest not_is (pays, why) =
+  other_taken (Err _) y after rest not_is (pays, why, full) =
       let e = ne_eqb n k not_is in (
         rw e pays,
         λ ne. elim (why ne) [
           | inl few ↦ inl (rw e few)
           | inr bad ↦ inr ((λ p rest payload split. rw (e, bad.0 p rest payload split) refl), bad.1)
         ],
+        full,
       )

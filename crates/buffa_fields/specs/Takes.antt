@@ -8,6 +8,7 @@ use Rattle.buffa_wire.specs.Gives.{◌>>=◌}
 use Rattle.buffa_wire.specs.Message.{IsLimit}
 use Rattle.buffa_wire.specs.Reading.{skip_at}
 use Rattle.buffa_bytes.specs.declared.wire_type.WireType.{WireType}
+use Rattle.buffa_bytes.specs.declared.wire_type.WireType.TheVariants.{EndGroup}
 use Rattle.buffa_bytes.specs.declared.error.DecodeError.{DecodeError}
 use Rattle.buffa_bytes.specs.declared.error.DecodeError.TheVariants.{OutOfMemory, UnexpectedEof}
 use Rattle.buffa_fields.specs.Fields.{FieldReader, cost_by, merged_by}
@@ -52,7 +53,8 @@ IsTaken takes need d old n w bs before r new after rest =
     MatchResult r
     (λ _. (p : List ℕ) × Payload d n w p × (bs ≡ p ++ rest) × (takes d old n w p ≡ Some new) × Pays before (need d n w bs) after)
     (λ e. PaysAtMost before (need d n w bs) after
-    × (e ≢ OutOfMemory → Lacks before (need d n w bs) ⊎ (Untaken takes d old n w bs × (IsLimit e → ⊥))))
+    × (e ≢ OutOfMemory → Lacks before (need d n w bs) ⊎ (Untaken takes d old n w bs × (IsLimit e → ⊥)))
+    × (e ≡ OutOfMemory → w ≢ EndGroup))
 
 -- what a field costs is known by its payload
 abbrev pub Stays : Need → Type 0

@@ -6,12 +6,13 @@ use Rattle.std.specs.Result.{MatchResult}
 use Rattle.buffa_bytes.proofs.FieldLemmas.{payload_complete, payload_sound}
 use Rattle.buffa_bytes.proofs.StepLemmas.{Agrees, agree_bind, agree_err, agree_ok}
 use Rattle.buffa_bytes.specs.declared.wire_type.WireType.{WireType}
+use Rattle.buffa_bytes.specs.declared.wire_type.WireType.TheVariants.{EndGroup}
 use Rattle.buffa_bytes.specs.declared.error.DecodeError.{DecodeError}
 use Rattle.buffa_bytes.specs.declared.error.DecodeError.TheVariants.{OutOfMemory, UnexpectedEof}
 use Rattle.buffa_wire.proofs.MessageLemmas.{NoLimit, payload_no_limit}
 use Rattle.buffa_wire.specs.BudgetLeft.{BudgetLeft, Lacks, Pays, PaysAtMost, nothing, plus}
 use Rattle.buffa_wire.specs.Field.{IsTag, Payload, SomeField}
-use Rattle.buffa_wire.specs.Gives.{◌>>=◌, Gives}
+use Rattle.buffa_wire.specs.Gives.{◌>>=◌, FullOnlyIf, Gives}
 use Rattle.buffa_wire.specs.Join.{Join}
 use Rattle.buffa_wire.specs.Message.{IsFieldMerged, IsLimit}
 use Rattle.buffa_wire.specs.Parse.{Fits}
@@ -80,7 +81,7 @@ module _ {X : Type 0} (takes : Taker X) (d : ℕ) where
     paid_of : (r : Result (Unit {0}) DecodeError) (old new : X) (n : ℕ) (w : WireType) (bs rest : List ℕ) (before after : BudgetLeft) →
         IsTaken takes need d old n w bs before r new after rest → IsPaid (need d) d (stays d) (framed takes d) framed_sound framed_same r old new n w bs rest before after
     paid_of (Ok x) old new n w bs rest before after (p, h, e, t, k) = (ap (framed takes d old n w) e ∙ framed_at old n w p rest h ∙ ap (answer rest) t, k)
-    paid_of (Err e) old new n w bs rest before after (k, h) = (
+    paid_of (Err e) old new n w bs rest before after (k, h, full) = (
       k,
       λ ne. elim (h ne) [
         | inl few ↦ inl few
@@ -120,7 +121,14 @@ skipped takes d v n w bs rest before (Err e) all h = (
     (λ p x payload is. let k = payload_complete d n w p x payload in let j = ap (skip_at d n w) (sym is) ∙ h in cc),
     payload_no_limit d n w bs e (agree_err (skip_at d n w bs) e (payload_sound d n w bs) h),
   ),
+  λ full end. let k = ap (λ (z : WireType). skip_at d n z bs) (sym end) ∙ h in cc,
 )
+
+-- an end tag takes no memory
+pub taken_full : {X : Type 0} (takes : Taker X) (need : Need) (d : ℕ) (old new : X) (n : ℕ) (w : WireType) (bs rest : List ℕ) (before after : BudgetLeft) (r : Result (Unit {0}) DecodeError) →
+    IsTaken takes need d old n w bs before r new after rest → FullOnlyIf r (w ≢ EndGroup)
+taken_full takes need d old new n w bs rest before after (Ok _) h = tt
+taken_full takes need d old new n w bs rest before after (Err e) h = h.2
 
 -- ---- a text of fields reads back
 module _ {X : Type 0} (takes : Taker X) (d : ℕ) (P : ℕ → Bool) where

@@ -1,5 +1,5 @@
 -- What is proved of fields of one value.
-use Rattle.std.proofs.Common.{◌≡◌, ◌≢◌, ◌⊎◌, inl, inr, ℕ, ◌+◌, ◌*◌, ◌^◌, ◌==◌, ◌<◌, ◌≤◌, Bool, true, false, List, [], ◌∷◌, ◌++◌, length, Option, Some, None, Result, Ok, Err, refl, sym, ap, subst, ◌∙◌, arith, append_assoc, append-nil, length-append, if◌then◌else◌}
+use Rattle.std.proofs.Common.{◌≡◌, ◌≢◌, ◌⊎◌, inl, inr, ℕ, ◌+◌, ◌*◌, ◌^◌, ◌==◌, ◌<◌, ◌≤◌, Bool, true, false, List, [], ◌∷◌, ◌++◌, length, Option, Some, None, Result, Ok, Err, IsOk, refl, sym, ap, subst, ◌∙◌, arith, append_assoc, append-nil, length-append, if◌then◌else◌}
 use Rattle.std.proofs.lemmas.Bool.{eq-eqb}
 use Rattle.std.specs.Option.{option_map}
 use Rattle.buffa_bytes.proofs.ContentLemmas.{content_complete, content_sound}
@@ -84,6 +84,7 @@ module _ {V : Type 0} (codec : Reading V) (plain : codec.nested ≡ false)
   wire_err e x rest after other is kept = (
     spent_none after kept,
     λ ne. inr ((λ p more payload split. rw (same_false codec.wire w other) refl), told e (WireTypeMismatch n codec.wire w) is (λ l. l)),
+    λ full end. let k = sym full ∙ is in cc,
   )
 
   none_of : (e : DecodeError) (p more : List ℕ) → bs ≡ p ++ more → value_at codec d v bs ≡ Err e → (r : Result ((V × Bool) × List ℕ) DecodeError) → value_at codec d v p ≡ r → all_of r ≡ None
@@ -103,14 +104,15 @@ module _ {V : Type 0} (codec : Reading V) (plain : codec.nested ≡ false)
       plainly false k t = t
       plainly true k t = cc
 
-  pub value_err : (e : DecodeError) (x : V) (rest : List ℕ) (after : BudgetLeft) → w ≡ codec.wire → after ≡ before → (e ≢ OutOfMemory → value_at codec d v bs ≡ Err e) →
+  pub value_err : (e : DecodeError) (x : V) (rest : List ℕ) (after : BudgetLeft) → w ≡ codec.wire → after ≡ before → (e ≢ OutOfMemory → value_at codec d v bs ≡ Err e) → (e ≡ OutOfMemory → IsOk (content_at codec.wire bs)) →
       IsTaken (value_taken codec) free d v n w bs before (let r : Result (Unit {0}) DecodeError = Err e in r) x after rest
-  value_err e x rest after wire kept h = (
+  value_err e x rest after wire kept h full = (
     spent_none after kept,
     λ ne. inr (
       (λ p more payload split. rw (ap (same_wire codec.wire) wire ∙ same_refl codec.wire) (none_of e p more split (h ne) (value_at codec d v p) refl)),
       fault_no_limit e (agree_err (value_at codec d v bs) e (value_sound codec d v bs) (h ne)),
     ),
+    λ no end. let there = subst (λ z. IsOk (content_at z bs)) (sym wire ∙ end) (full no) in cc,
   )
 
 pub kept_by : {T : Type 0} (b : Bool) (r : Result T DecodeError) (left need over : BudgetLeft) → b ≡ false → Spends b r left need over → over ≡ left

@@ -2,9 +2,9 @@
 
 ghost use Rattle.std.specs.Prelude.{◌≡◌, IfOk, length};
 ghost use Rattle.buffa_wire.specs.BudgetLeft.{budget_left};
-ghost use Rattle.buffa_wire.specs.Gives.{GivesUnlessFull};
+ghost use Rattle.buffa_wire.specs.Gives.{FullOnlyIf, GivesUnlessFull};
 ghost use Rattle.buffa_wire.specs.Passes.{cap};
-ghost use Rattle.buffa_wire.specs.RecordReading.{field_at};
+ghost use Rattle.buffa_wire.specs.RecordReading.{TakesMemory, field_at};
 ghost use Rattle.buffa_wire.specs.Text.{records_text};
 ghost use Rattle.buffa_wire.specs.View.{datum_of};
 ghost use Rattle.buffa_fields.specs.Layout.{Kept, Passed};
@@ -45,6 +45,7 @@ fn read_alone(
 ) -> Result<(UnknownField, usize), DecodeError>
     ensures reads { GivesUnlessFull (λ x. (datum_of x.0.payload, x.1, buf.new.now)) result
         (field_at depth slots tag.number tag.wire_type buf.old.now) }
+    ensures full { FullOnlyIf result (TakesMemory depth slots tag.wire_type buf.old.now) }
     ensures number { IfOk result (λ x. x.0.number ≡ tag.number) }
 {
     let mut own = Budget::new(slots);

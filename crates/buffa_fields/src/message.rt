@@ -1,7 +1,8 @@
 //! A struct of one's own is a message.
 
-ghost use Rattle.std.specs.Prelude.{◌≡◌, [], Ok, refl};
+ghost use Rattle.std.specs.Prelude.{◌≡◌, ◌≢◌, [], Ok, refl};
 ghost use Rattle.buffa_wire.specs.BudgetLeft.{budget_left};
+ghost use Rattle.buffa_wire.specs.Gives.{FullOnlyIf};
 ghost use Rattle.buffa_wire.specs.Message.{IsFieldMerged};
 ghost use Rattle.buffa_wire.specs.Passes.{IsSized, IsWritten};
 ghost use Rattle.buffa_wire.specs.Text.{records_text};
@@ -15,7 +16,7 @@ use crate::sizer::Sizer;
 use crate::writer::Writer;
 use buffa_wire::{
     Blank, DecodeContext, DecodeError, EncodeError, EncodeSink, Message, MessageSpec, SizeCache,
-    Tag,
+    Tag, WireType,
 };
 use std::alloc::Global;
 
@@ -69,7 +70,7 @@ pub fn write<M: Fields, S: EncodeSink>(
 /// Merges the field whose tag was read.
 ///
 /// # Errors
-/// Those of `Message::merge`.
+/// Those of `Message::merge_field`.
 pub fn merge<M: Fields>(
     message: &mut M,
     alloc: Global,
@@ -77,9 +78,10 @@ pub fn merge<M: Fields>(
     buf: &mut &[u8],
     ctx: DecodeContext<'_>,
 ) -> Result<(), DecodeError>
-    ensures { IsFieldMerged (merged_of M.layout.takes) (cost_of M.layout.need) ctx.entry.depth
+    ensures merged { IsFieldMerged (merged_of M.layout.takes) (cost_of M.layout.need) ctx.entry.depth
         (M.layout.meaning message.old) tag.number tag.wire_type buf.old.now ctx.entry.budget.now result
         (M.layout.meaning message.new) (budget_left ctx.exit) buf.new.now }
+    ensures full { FullOnlyIf result (tag.wire_type ≢ WireType.EndGroup) }
 {
     message.take(alloc, tag, buf, ctx)
 }

@@ -44,4 +44,4 @@ returns-in-Err-merge g c =
     let same = agree_ok (check_wire n wire w) tt (check_sound n wire w) c.in-Ok.ensures in
     value_err codec g.met.C.MapCodec.plain g.met.C.MapValueDecode.no_limit d old n w bs c.args.ctx.budget.now c.in-Err-merge.error (g.C.Value.Blank.meaning c.merge.new.value) c.merge.new.buf.now _
     (same ∙ sym wire_is) (kept_by codec.nested _ c.args.ctx.budget.now (value_need codec d bs) _ g.met.C.MapCodec.plain c.in-Err-merge.ensures.spends)
-    (λ ne. refused_plain codec.nested codec d old bs c.args.ctx.budget.now c.in-Err-merge.error g.met.C.MapCodec.plain (c.in-Err-merge.ensures.fault ne))
+    (λ ne. refused_plain codec.nested codec d old bs c.args.ctx.budget.now c.in-Err-merge.error g.met.C.MapCodec.plain (c.in-Err-merge.ensures.fault ne)) (λ full. (c.in-Err-merge.ensures.full full).2)
