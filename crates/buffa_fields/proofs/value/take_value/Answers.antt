@@ -1,0 +1,47 @@
+use Rattle.std.proofs.Common.{◌≡◌, ◌∙◌, ap, refl, sym}
+use Rattle.buffa_bytes.proofs.StepLemmas.{agree_err, agree_ok}
+use Rattle.buffa_bytes.specs.declared.error.DecodeError.TheVariants.{WireTypeMismatch}
+use Rattle.buffa_wire.specs.Reading.{check_wire}
+use Rattle.buffa_map.proofs.EntryLemmas.{check_sound}
+use Rattle.buffa_map.specs.Codec.{value_need}
+use Rattle.buffa_fields.specs.ValueLaws.{kept_by, refused_plain, value_err, value_ok, wire_err}
+use Rattle.buffa_fields.proofs.value.take_value.Goals as goal
+
+pub returns-in-Err : goal.returns-in-Err
+returns-in-Err g c =
+    let codec = g.C.MapValueDecode.reading in
+    let wire = c.WIRE_TYPE.result in
+    let wire_is : codec.wire ≡ wire = g.met.C.MapValueDecode.wire ∙ sym c.WIRE_TYPE.ensures in
+    let n = c.args.tag.number in
+    let w = c.args.tag.wire_type in
+    let bad = agree_err (check_wire n wire w) c.in-Err.error (check_sound n wire w) c.in-Err.ensures in
+    wire_err codec g.met.C.MapCodec.plain g.met.C.MapValueDecode.no_limit c.args.ctx.depth (g.C.Value.Blank.meaning c.args.value.now) n w c.args.buf.now.now c.args.ctx.budget.now c.in-Err.error (g.C.Value.Blank.meaning c.args.value.now) c.args.buf.now.now c.args.ctx.budget.now
+    (λ h. bad.0 (h ∙ wire_is)) (bad.1 ∙ ap (λ z. WireTypeMismatch n z w) (sym wire_is)) refl
+
+pub returns-in-Ok-merge : goal.returns-in-Ok-merge
+returns-in-Ok-merge g c =
+    let codec = g.C.MapValueDecode.reading in
+    let wire = c.WIRE_TYPE.result in
+    let wire_is : codec.wire ≡ wire = g.met.C.MapValueDecode.wire ∙ sym c.WIRE_TYPE.ensures in
+    let n = c.args.tag.number in
+    let w = c.args.tag.wire_type in
+    let d = c.args.ctx.depth in
+    let bs = c.args.buf.now.now in
+    let same = agree_ok (check_wire n wire w) tt (check_sound n wire w) c.in-Ok.ensures in
+    value_ok codec g.met.C.MapCodec.plain g.met.C.MapValueDecode.no_limit d (g.C.Value.Blank.meaning c.args.value.now) n w bs c.args.ctx.budget.now (g.C.Value.Blank.meaning c.merge.new.value) _ c.merge.new.buf.now _
+    (same ∙ sym wire_is) (kept_by codec.nested _ c.args.ctx.budget.now (value_need codec d bs) _ g.met.C.MapCodec.plain c.in-Ok-merge.ensures.spends) c.in-Ok-merge.ensures.ok
+
+pub returns-in-Err-merge : goal.returns-in-Err-merge
+returns-in-Err-merge g c =
+    let codec = g.C.MapValueDecode.reading in
+    let wire = c.WIRE_TYPE.result in
+    let wire_is : codec.wire ≡ wire = g.met.C.MapValueDecode.wire ∙ sym c.WIRE_TYPE.ensures in
+    let n = c.args.tag.number in
+    let w = c.args.tag.wire_type in
+    let d = c.args.ctx.depth in
+    let bs = c.args.buf.now.now in
+    let old = g.C.Value.Blank.meaning c.args.value.now in
+    let same = agree_ok (check_wire n wire w) tt (check_sound n wire w) c.in-Ok.ensures in
+    value_err codec g.met.C.MapCodec.plain g.met.C.MapValueDecode.no_limit d old n w bs c.args.ctx.budget.now c.in-Err-merge.error (g.C.Value.Blank.meaning c.merge.new.value) c.merge.new.buf.now _
+    (same ∙ sym wire_is) (kept_by codec.nested _ c.args.ctx.budget.now (value_need codec d bs) _ g.met.C.MapCodec.plain c.in-Err-merge.ensures.spends)
+    (λ ne. refused_plain codec.nested codec d old bs c.args.ctx.budget.now c.in-Err-merge.error g.met.C.MapCodec.plain (c.in-Err-merge.ensures.fault ne)) (λ full. (c.in-Err-merge.ensures.full full).2)

@@ -1,0 +1,113 @@
+-- A message as a list of its members, as a value. Source: the protobuf encoding guide, "Message Structure".
+use Rattle.std.specs.Prelude.{◌≡◌, ℕ, ◌==◌, ◌≤◌, ◌&&◌, ◌||◌, Bool, true, false, not, max, List, [], ◌++◌, length, Option, Some, None, Result, Ok, Err, MatchResult}
+use Rattle.buffa_bytes.specs.declared.wire_type.WireType.{WireType}
+use Rattle.buffa_bytes.specs.declared.error.DecodeError.{DecodeError}
+use Rattle.buffa_bytes.specs.declared.error.EncodeError.{EncodeError}
+use Rattle.buffa_bytes.specs.declared.error.EncodeError.TheVariants.{OutOfMemory}
+use Rattle.buffa_wire.specs.BudgetLeft.{BudgetLeft, nothing}
+use Rattle.buffa_wire.specs.Number.{IsNumber}
+use Rattle.buffa_wire.specs.Parse.{Fits}
+use Rattle.buffa_wire.specs.Passes.{Begins, IsSmall, cap}
+use Rattle.buffa_wire.specs.Records.{Datum, records_of}
+use Rattle.buffa_wire.specs.Text.{records_text}
+use Rattle.buffa_fields.specs.Keep.{keep_need, keep_takes}
+use Rattle.buffa_fields.specs.Takes.{IsTaken, Need, ReadsBack, Stays, Taker}
+
+-- What a member of a message is: what its value means, what a payload makes of it, and the records it is written as,
+-- under a number; with what it owes.
+pub record Slot (P X : Type 0) : Type 1 where
+  pub meaning : P → X
+  pub blank : X
+  pub takes : Taker X
+  pub need : Need
+  pub records : ℕ → X → List (ℕ × Datum)
+  pub levels : X → ℕ
+  pub normal : X → Type 0
+  pub stays : Stays need
+
+-- The records read back to the value.
+pub record ReadsBackTo {P X : Type 0} (s : Slot P X) : Type 0 where
+  pub back : (k : ℕ) → IsNumber k → (d : ℕ) (v : X) → Fits (records_of (s.records k v)) → s.normal v → s.levels v ≤ d → ReadsBack s.takes (λ n. n == k) d s.blank (records_text (s.records k v)) v
+
+-- ---- what the calls of a message's members owe
+
+-- a member takes the field whose tag was read
+unfoldable pub Took : {P X : Type 0} → Slot P X → ℕ → P → ℕ → WireType → List ℕ → BudgetLeft → Result (Unit {0}) DecodeError → P → BudgetLeft → List ℕ → Type 0
+Took s d old n w bs before r new after rest = IsTaken s.takes s.need d (s.meaning old) n w bs before r (s.meaning new) after rest
+
+-- a field that isn't declared is kept, or passed over
+unfoldable pub Kept : ℕ → List (ℕ × Datum) → ℕ → WireType → List ℕ → BudgetLeft → Result (Unit {0}) DecodeError → List (ℕ × Datum) → BudgetLeft → List ℕ → Type 0
+Kept d old n w bs before r new after rest = IsTaken keep_takes keep_need d old n w bs before r new after rest
+
+abbrev pub passes : Taker (Unit {0})
+passes d v n w p = Some v
+
+abbrev pub costs_nothing : Need
+costs_nothing d n w bs = nothing
+
+unfoldable pub Passed : ℕ → ℕ → WireType → List ℕ → BudgetLeft → Result (Unit {0}) DecodeError → BudgetLeft → List ℕ → Type 0
+Passed d n w bs before r after rest = IsTaken passes costs_nothing d tt n w bs before r tt after rest
+
+-- What a visitor has seen: records, since it stood before these bytes of a sink of a name.
+pub record Seen : Type 0 where
+  pub name : ℕ
+  pub before : List ℕ
+  pub records : List (ℕ × Datum)
+
+unfoldable pub more : List (ℕ × Datum) → Seen → Seen
+more rs z = record { name = z.name; before = z.before; records = z.records ++ rs }
+
+-- a member was visited
+abbrev pub visited : {P X : Type 0} → Slot P X → ℕ → P → Seen → Seen
+visited s k p z = more (s.records k (s.meaning p)) z
+
+-- ---- what visitors know
+
+-- the length of what was seen, or 2^32 - 1
+unfoldable pub IsCounted : ℕ → Seen → Type 0
+IsCounted total z = total ≡ cap (length (records_text z.records))
+
+-- a text was written behind these bytes, where it isn't too large, or a beginning of it, where memory ran out
+abbrev pub WritesSmall : List ℕ → List ℕ → Result (Unit {0}) EncodeError → List ℕ → Type 0
+WritesSmall text before r new =
+    (bs : List ℕ) × (new ≡ before ++ bs) × MatchResult r (λ _. IsSmall text → bs ≡ text) (λ e. (e ≡ OutOfMemory) × (IsSmall text → Begins bs text))
+
+-- the same of what was seen
+unfoldable pub IsPut : ℕ → List ℕ → Result (Unit {0}) EncodeError → Seen → Type 0
+IsPut name new r z = (z.name ≡ name) × WritesSmall (records_text z.records) z.before r new
+
+-- ---- lists of members
+
+abbrev pub Choice : Bool → Type 0 → Type 0 → Type 0
+Choice true a b = a
+Choice false a b = b
+
+-- What a message is, by its members: M is its type, X what it means.
+pub record Layout (M X : Type 0) : Type 1 where
+  pub meaning : M → X
+  pub blank : X
+  pub takes : Taker X
+  pub need : Need
+  pub records : X → List (ℕ × Datum)
+  pub levels : X → ℕ
+  pub normal : X → Type 0
+  -- the numbers that are declared; each may be a field's, and no two are one
+  pub declares : ℕ → Bool
+  pub sound : Bool
+  -- each record's number is one of these
+  pub within : (ℕ → Bool) → X → Type 0
+  -- two messages have the same members; the member of the number takes the field, and the others stay
+  pub Same : M → M → Type 0
+  pub Taken : ℕ → M → ℕ → WireType → List ℕ → BudgetLeft → Result (Unit {0}) DecodeError → M → BudgetLeft → List ℕ → Type 0
+  -- all members were visited, one after the other
+  pub seen : M → Seen → Seen
+  pub stays : Stays need
+  pub same_is : (a b : M) → Same a b → meaning a ≡ meaning b
+  pub taken_is : (d : ℕ) (old : M) (n : ℕ) (w : WireType) (bs : List ℕ) (before : BudgetLeft) (r : Result (Unit {0}) DecodeError) (new : M) (after : BudgetLeft) (rest : List ℕ) →
+      Taken d old n w bs before r new after rest → IsTaken takes need d (meaning old) n w bs before r (meaning new) after rest
+  pub seen_is : (m : M) (z : Seen) → seen m z ≡ more (records (meaning m)) z
+  pub within_all : (v : X) → within (λ n. true) v
+  pub within_both : (P Q : ℕ → Bool) (v : X) → within P v → within Q v → within (λ n. P n && Q n) v
+  -- where the records of each member read back, those of all do
+  pub Owes : Type 0
+  pub back : Owes → sound ≡ true → (P : ℕ → Bool) (d : ℕ) (v : X) → within P v → Fits (records_of (records v)) → normal v → levels v ≤ d → ReadsBack takes P d blank (records_text (records v)) v

@@ -1,0 +1,17 @@
+pub mod Fields
+pub mod FieldsLaws
+pub mod CostLaws
+pub mod Takes
+pub mod TakesLaws
+pub mod PairLaws
+pub mod Values
+pub mod ValueLaws
+pub mod KindLaws
+pub mod MapFields
+pub mod MapLaws
+pub mod Keep
+pub mod KeepLaws
+pub mod Layout
+pub mod LayoutLaws
+pub mod Members
+pub mod Slots

@@ -1,0 +1,100 @@
+-- What fields make of a value, payload by payload, and what follows of whole bytes.
+-- Source: the protobuf encoding guide, "Message Structure".
+use Rattle.std.specs.Prelude.{◌≡◌, ◌≢◌, ℕ, zero, ◌-◌, ◌==◌, ◌⊎◌, ◌&&◌, ◌||◌, Bool, true, false, not, nat_lt, List, [], ◌∷◌, ◌++◌, length, take, Option, Some, None, Result, Ok, Err, MatchResult, if◌then◌else◌}
+use Rattle.std.specs.Option.{option_map}
+use Rattle.buffa_wire.specs.BudgetLeft.{BudgetLeft, Lacks, Pays, PaysAtMost, nothing}
+use Rattle.buffa_wire.specs.Field.{IsTag, Payload}
+use Rattle.buffa_wire.specs.Gives.{◌>>=◌}
+use Rattle.buffa_wire.specs.Message.{IsLimit}
+use Rattle.buffa_wire.specs.Reading.{skip_at}
+use Rattle.buffa_bytes.specs.declared.wire_type.WireType.{WireType}
+use Rattle.buffa_bytes.specs.declared.wire_type.WireType.TheVariants.{EndGroup}
+use Rattle.buffa_bytes.specs.declared.error.DecodeError.{DecodeError}
+use Rattle.buffa_bytes.specs.declared.error.DecodeError.TheVariants.{OutOfMemory, UnexpectedEof}
+use Rattle.buffa_fields.specs.Fields.{FieldReader, cost_by, merged_by}
+
+-- At a depth, what a field of a number and a wire type makes of a value by its payload, or none where it is refused.
+abbrev pub Taker : Type 0 → Type 0
+Taker X = ℕ → X → ℕ → WireType → List ℕ → Option X
+
+-- At a depth, what a field costs, where these bytes follow its tag, a malformed one too.
+abbrev pub Need : Type 0
+Need = ℕ → ℕ → WireType → List ℕ → BudgetLeft
+
+-- ---- whole bytes
+
+-- the payload at the front of the bytes, where rest follows it
+abbrev pub front_of : List ℕ → List ℕ → List ℕ
+front_of bs rest = take (length bs - length rest) bs
+
+abbrev pub answer : {X : Type 0} → List ℕ → Option X → Result (X × List ℕ) DecodeError
+answer rest (Some x) = Ok (x, rest)
+answer rest None = Err UnexpectedEof
+
+-- the payload is cut, and then taken
+abbrev pub framed : {X : Type 0} → Taker X → ℕ → FieldReader X
+framed takes d v n w bs = skip_at d n w bs >>= (λ rest. answer rest (takes d v n w (front_of bs rest)))
+
+-- what bytes make of a value, and what they cost
+unfoldable pub merged_of : {X : Type 0} → Taker X → ℕ → X → List ℕ → Option X
+merged_of takes d v bs = merged_by (framed takes d) v bs
+
+unfoldable pub cost_of : Need → ℕ → List ℕ → BudgetLeft
+cost_of need d bs = cost_by (need d) d bs
+
+-- ---- what a call owes that merges the field whose tag was read
+
+-- no payload at the front is taken
+abbrev pub Untaken : {X : Type 0} → Taker X → ℕ → X → ℕ → WireType → List ℕ → Type 0
+Untaken takes d v n w bs = (p rest : List ℕ) → Payload d n w p → bs ≡ p ++ rest → takes d v n w p ≡ None
+
+abbrev pub IsTaken : {X T : Type 0} → Taker X → Need → ℕ → X → ℕ → WireType → List ℕ → BudgetLeft → Result T DecodeError → X → BudgetLeft → List ℕ → Type 0
+IsTaken takes need d old n w bs before r new after rest =
+    MatchResult r
+    (λ _. (p : List ℕ) × Payload d n w p × (bs ≡ p ++ rest) × (takes d old n w p ≡ Some new) × Pays before (need d n w bs) after)
+    (λ e. PaysAtMost before (need d n w bs) after
+    × (e ≢ OutOfMemory → Lacks before (need d n w bs) ⊎ (Untaken takes d old n w bs × (IsLimit e → ⊥)))
+    × (e ≡ OutOfMemory → w ≢ EndGroup))
+
+-- what a field costs is known by its payload
+abbrev pub Stays : Need → Type 0
+Stays need = (d n : ℕ) (w : WireType) (p x : List ℕ) → Payload d n w p → need d n w (p ++ x) ≡ need d n w p
+
+-- ---- a field, and the others
+
+abbrev pub both_take : {A B : Type 0} → ℕ → Taker A → Taker B → Taker (A × B)
+both_take k f g d v n w p =
+    if n == k then option_map (λ x. (x, v.1)) (f d v.0 n w p) else option_map (λ y. (v.0, y)) (g d v.1 n w p)
+
+abbrev pub both_need : ℕ → Need → Need → Need
+both_need k f g d n w bs = if n == k then f d n w bs else g d n w bs
+
+-- the numbers of all are numbers that a field may have, and no two are one
+abbrev pub is_number : ℕ → Bool
+is_number n = nat_lt 0 n && nat_lt n 536870912
+
+-- ---- texts that read back
+
+-- a field as it is spelled
+pub record Piece : Type 0 where
+  pub tag : List ℕ
+  pub number : ℕ
+  pub wire : WireType
+  pub payload : List ℕ
+
+abbrev pub joined : List Piece → List ℕ
+joined [] = []
+joined (f ∷ fs) = (f.tag ++ f.payload) ++ joined fs
+
+-- the fields, all of numbers of P, lead from s to t
+abbrev pub Leads : {X : Type 0} → Taker X → (ℕ → Bool) → ℕ → X → List Piece → X → Type 0
+Leads takes P d s [] t = s ≡ t
+Leads {X} takes P d s (f ∷ fs) t =
+    (P f.number ≡ true) × IsTag f.tag f.number f.wire × Payload d f.number f.wire f.payload
+    × (u : X) × (takes d s f.number f.wire f.payload ≡ Some u) × Leads takes P d u fs t
+
+-- the text is such fields
+pub record ReadsBack {X : Type 0} (takes : Taker X) (P : ℕ → Bool) (d : ℕ) (s : X) (text : List ℕ) (t : X) : Type 0 where
+  pub pieces : List Piece
+  pub spelled : text ≡ joined pieces
+  pub leads : Leads takes P d s pieces t

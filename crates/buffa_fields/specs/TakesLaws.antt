@@ -1,0 +1,145 @@
+-- What is proved of any fields, taken payload by payload.
+use Rattle.std.proofs.Common.{◌≡◌, ◌≢◌, ◌⊎◌, inl, inr, ℕ, zero, suc, ◌+◌, ◌-◌, ◌==◌, ◌<◌, ◌≤◌, max, Bool, true, false, not, ◌&&◌, ◌||◌, List, [], ◌∷◌, ◌++◌, length, take, Option, Some, None, Result, Ok, Err, refl, sym, ap, subst, ◌∙◌, arith, append_assoc, append-nil, length-append, if◌then◌else◌}
+use Rattle.std.proofs.lemmas.Bool.{eqb-true, eqb-false, ne_eqb}
+use Rattle.std.specs.Option.{option_and_then, option_map}
+use Rattle.std.specs.Result.{MatchResult}
+use Rattle.buffa_bytes.proofs.FieldLemmas.{payload_complete, payload_sound}
+use Rattle.buffa_bytes.proofs.StepLemmas.{Agrees, agree_bind, agree_err, agree_ok}
+use Rattle.buffa_bytes.specs.declared.wire_type.WireType.{WireType}
+use Rattle.buffa_bytes.specs.declared.wire_type.WireType.TheVariants.{EndGroup}
+use Rattle.buffa_bytes.specs.declared.error.DecodeError.{DecodeError}
+use Rattle.buffa_bytes.specs.declared.error.DecodeError.TheVariants.{OutOfMemory, UnexpectedEof}
+use Rattle.buffa_wire.proofs.MessageLemmas.{NoLimit, payload_no_limit}
+use Rattle.buffa_wire.specs.BudgetLeft.{BudgetLeft, Lacks, Pays, PaysAtMost, nothing, plus}
+use Rattle.buffa_wire.specs.Field.{IsTag, Payload, SomeField}
+use Rattle.buffa_wire.specs.Gives.{◌>>=◌, FullOnlyIf, Gives}
+use Rattle.buffa_wire.specs.Join.{Join}
+use Rattle.buffa_wire.specs.Message.{IsFieldMerged, IsLimit}
+use Rattle.buffa_wire.specs.Parse.{Fits}
+use Rattle.buffa_wire.specs.Reading.{skip_at}
+use Rattle.buffa_wire.specs.Records.{Datum, records_of}
+use Rattle.buffa_wire.specs.Text.{field_text, records_text}
+use Rattle.buffa_fields.specs.CostLaws.{IsPaid, cost_empty, cost_next as costs_next, paid}
+use Rattle.buffa_fields.specs.Fields.{FieldReader, merged_by}
+use Rattle.buffa_fields.specs.FieldsLaws.{IsSame, IsSound, Same, empty, fields, next, read}
+use Rattle.buffa_fields.specs.Takes.{IsTaken, Leads, Need, Piece, ReadsBack, Stays, Taker, Untaken, answer, both_need, both_take, cost_of, framed, front_of, joined, merged_of}
+
+-- ---- the payload is cut
+take_all : (p x : List ℕ) → take (length p) (p ++ x) ≡ p
+take_all [] x = refl
+take_all (b ∷ p) x = ap (λ (z : List ℕ). b ∷ z) (take_all p x)
+
+front_is : (p x : List ℕ) → front_of (p ++ x) x ≡ p
+front_is p x =
+    let e : length (p ++ x) - length x ≡ length p = omega (arith, length-append p x) in
+    ap (λ (k : ℕ). take k (p ++ x)) e ∙ take_all p x
+
+module _ {X : Type 0} (takes : Taker X) (d : ℕ) where
+  -- a whole payload at the front
+  pub framed_at : (v : X) (n : ℕ) (w : WireType) (p x : List ℕ) → Payload d n w p → framed takes d v n w (p ++ x) ≡ answer x (takes d v n w p)
+  framed_at v n w p x h = rw (payload_complete d n w p x h) (ap (λ (z : List ℕ). answer x (takes d v n w z)) (front_is p x))
+
+  answered : (v : X) (n : ℕ) (w : WireType) (bs p rest : List ℕ) → Payload d n w p → bs ≡ p ++ rest → (o : Option X) →
+      Agrees (answer rest o) (λ x. (p : List ℕ) × Payload d n w p × (bs ≡ p ++ x.1)) NoLimit
+  answered v n w bs p rest h e (Some x) = record { holds = (p, h, e) }
+  answered v n w bs p rest h e None = record { holds = λ l. l }
+
+  pub framed_sound : IsSound d (framed takes d)
+  framed_sound v n w bs = agree_bind (payload_sound d n w bs)
+      (λ rest u. answered v n w bs u.0 rest u.1 u.2 (takes d v n w (front_of bs rest)))
+      (λ e h. payload_no_limit d n w bs e h)
+
+  same_of : (v : X) (n : ℕ) (w : WireType) (p : List ℕ) (o : Option X) → takes d v n w p ≡ o → Payload d n w p → Same (framed takes d v n w) p
+  same_of v n w p (Some u) e h = inl (u, λ x. framed_at v n w p x h ∙ ap (answer x) e)
+  same_of v n w p None e h = inr (UnexpectedEof, λ x. framed_at v n w p x h ∙ ap (answer x) e)
+
+  pub framed_same : IsSame d (framed takes d)
+  framed_same v n w p h = same_of v n w p (takes d v n w p) refl h
+
+  -- ---- what the message owes
+  pub merged_empty : (v : X) → merged_of takes d v [] ≡ Some v
+  unfolding merged_of
+  merged_empty v = empty d (framed takes d) framed_sound framed_same v
+
+  pub merged_fields : (v w : X) (b : List ℕ) → merged_of takes d v b ≡ Some w → Join (SomeField d) b
+  unfolding merged_of
+  merged_fields v w b h = fields d (framed takes d) framed_sound framed_same v w b h
+
+  pub merged_next : (v : X) (f r : List ℕ) → SomeField d f → merged_of takes d v (f ++ r) ≡ option_and_then (λ w. merged_of takes d w r) (merged_of takes d v f)
+  unfolding merged_of
+  merged_next v f r h = next d (framed takes d) framed_sound framed_same v f r h
+
+  -- ---- what a call owes
+  framed_err : (v : X) (n : ℕ) (w : WireType) (bs : List ℕ) (e : DecodeError) → NoLimit e → Untaken takes d v n w bs →
+      (r : Result (List ℕ) DecodeError) → skip_at d n w bs ≡ r → (x : DecodeError) × (framed takes d v n w bs ≡ Err x) × NoLimit e
+  framed_err v n w bs e k h (Err x) is = (x, rw is refl, k)
+  framed_err v n w bs e k h (Ok rest) is =
+      let u = agree_ok (skip_at d n w bs) rest (payload_sound d n w bs) is in
+      (UnexpectedEof, ap (framed takes d v n w) u.2 ∙ framed_at v n w u.0 rest u.1 ∙ ap (answer rest) (h u.0 rest u.1 u.2), k)
+
+  module _ (need : Need) (stays : Stays need) where
+    paid_of : (r : Result (Unit {0}) DecodeError) (old new : X) (n : ℕ) (w : WireType) (bs rest : List ℕ) (before after : BudgetLeft) →
+        IsTaken takes need d old n w bs before r new after rest → IsPaid (need d) d (stays d) (framed takes d) framed_sound framed_same r old new n w bs rest before after
+    paid_of (Ok x) old new n w bs rest before after (p, h, e, t, k) = (ap (framed takes d old n w) e ∙ framed_at old n w p rest h ∙ ap (answer rest) t, k)
+    paid_of (Err e) old new n w bs rest before after (k, h, full) = (
+      k,
+      λ ne. elim (h ne) [
+        | inl few ↦ inl few
+        | inr bad ↦ inr (let u = framed_err old n w bs e bad.1 bad.0 (skip_at d n w bs) refl in u)
+      ],
+    )
+
+    pub taken_merges : (r : Result (Unit {0}) DecodeError) (old new : X) (n : ℕ) (w : WireType) (bs rest : List ℕ) (before after : BudgetLeft) →
+        IsTaken takes need d old n w bs before r new after rest → IsFieldMerged (merged_of takes) (cost_of need) d old n w bs before r new after rest
+    unfolding merged_of cost_of
+    taken_merges r old new n w bs rest before after h =
+        paid (need d) d (stays d) (framed takes d) framed_sound framed_same r old new n w bs rest before after (paid_of r old new n w bs rest before after h)
+
+    -- the same, where what is left is known by an equation
+    pub taken_merges_as : (r : Result (Unit {0}) DecodeError) (old new x : X) (n : ℕ) (w : WireType) (bs rest : List ℕ) (before after : BudgetLeft) → x ≡ new →
+        IsTaken takes need d old n w bs before r x after rest → IsFieldMerged (merged_of takes) (cost_of need) d old n w bs before r new after rest
+    taken_merges_as r old new x n w bs rest before after same h =
+        taken_merges r old new n w bs rest before after (subst (λ z. IsTaken takes need d old n w bs before r z after rest) same h)
+
+pub cost_of_none : (need : Need) (d : ℕ) → cost_of need d [] ≡ nothing
+unfolding cost_of
+cost_of_none need d = cost_empty (need d) d
+
+pub cost_of_next : (need : Need) → Stays need → (d : ℕ) (f r : List ℕ) → SomeField d f → cost_of need d (f ++ r) ≡ plus (cost_of need d f) (cost_of need d r)
+unfolding cost_of
+cost_of_next need stays d f r h = costs_next (need d) d (stays d) f r h
+
+-- ---- fields that are passed over
+pub skipped : {X : Type 0} (takes : Taker X) (d : ℕ) (v : X) (n : ℕ) (w : WireType) (bs rest : List ℕ) (before : BudgetLeft) (r : Result (Unit {0}) DecodeError) →
+    ((p : List ℕ) → takes d v n w p ≡ Some v) → Gives (λ _. rest) r (skip_at d n w bs) → IsTaken takes (λ d n w bs. nothing) d v n w bs before r v before rest
+skipped takes d v n w bs rest before (Ok x) all h =
+    let u = agree_ok (skip_at d n w bs) rest (payload_sound d n w bs) h in
+    (u.0, u.1, u.2, all u.0, (omega arith, omega arith))
+skipped takes d v n w bs rest before (Err e) all h = (
+  (omega arith, omega arith, omega arith, omega arith),
+  λ ne. inr (
+    (λ p x payload is. let k = payload_complete d n w p x payload in let j = ap (skip_at d n w) (sym is) ∙ h in cc),
+    payload_no_limit d n w bs e (agree_err (skip_at d n w bs) e (payload_sound d n w bs) h),
+  ),
+  λ full end. let k = ap (λ (z : WireType). skip_at d n z bs) (sym end) ∙ h in cc,
+)
+
+-- an end tag takes no memory
+pub taken_full : {X : Type 0} (takes : Taker X) (need : Need) (d : ℕ) (old new : X) (n : ℕ) (w : WireType) (bs rest : List ℕ) (before after : BudgetLeft) (r : Result (Unit {0}) DecodeError) →
+    IsTaken takes need d old n w bs before r new after rest → FullOnlyIf r (w ≢ EndGroup)
+taken_full takes need d old new n w bs rest before after (Ok _) h = tt
+taken_full takes need d old new n w bs rest before after (Err e) h = h.2
+
+-- ---- a text of fields reads back
+module _ {X : Type 0} (takes : Taker X) (d : ℕ) (P : ℕ → Bool) where
+  led : (s : X) (fs : List Piece) (t : X) → Leads takes P d s fs t → merged_of takes d s (joined fs) ≡ Some t
+  unfolding merged_of
+  led s [] t h = merged_empty takes d s ∙ ap (λ x. Some x) h
+  led s (f ∷ fs) t (is, tag, payload, u, h, l) =
+      ap (merged_of takes d s) (append_assoc f.tag f.payload (joined fs))
+      ∙ read d (framed takes d) (framed_sound takes d) (framed_same takes d) s f.number f.wire f.tag tag u (f.payload ++ joined fs) (joined fs)
+      (framed_at takes d s f.number f.wire f.payload (joined fs) payload ∙ ap (answer (joined fs)) h)
+      ∙ led u fs t l
+
+  pub back : (s : X) (text : List ℕ) (t : X) → ReadsBack takes P d s text t → merged_of takes d s text ≡ Some t
+  back s text t h = ap (merged_of takes d s) h.spelled ∙ led s h.pieces t h.leads

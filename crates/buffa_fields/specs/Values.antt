@@ -1,0 +1,57 @@
+-- Fields of one value, which a codec reads and writes.
+-- Source: the protobuf encoding guide, "Message Structure".
+use Rattle.std.specs.Prelude.{ℕ, List, [], ◌∷◌, ◌++◌, Bool, true, false, Option, Some, None, Result, Ok, Err, if◌then◌else◌}
+use Rattle.std.specs.Option.{option_map}
+use Rattle.buffa_bytes.specs.declared.error.DecodeError.{DecodeError}
+use Rattle.buffa_bytes.specs.declared.wire_type.WireType.{WireType}
+use Rattle.buffa_wire.specs.BudgetLeft.{nothing}
+use Rattle.buffa_wire.specs.Records.{Datum}
+use Rattle.buffa_wire.specs.Values.{tag_text}
+use Rattle.buffa_wire.specs.WireType.{same_wire}
+use Rattle.buffa_map.specs.Codec.{Reading, Writing, value_at}
+use Rattle.buffa_fields.specs.Takes.{Need, Taker}
+
+-- what is read of a whole payload
+abbrev pub all_of : {V : Type 0} → Result ((V × Bool) × List ℕ) DecodeError → Option V
+all_of (Ok (x, [])) = Some x.0
+all_of (Ok (x, b ∷ bs)) = None
+all_of (Err e) = None
+
+-- the value that a payload makes of what stood, where the field's wire type is the codec's
+abbrev pub value_taken : {V : Type 0} → Reading V → Taker V
+value_taken codec d v n w p = if same_wire codec.wire w then all_of (value_at codec d v p) else None
+
+-- the same of a value that may be absent: each payload is read by itself
+abbrev pub some_taken : {V : Type 0} → Reading V → Taker (Option V)
+some_taken codec d v n w p = option_map (λ x. Some x) (value_taken codec d codec.blank n w p)
+
+-- it costs nothing
+abbrev pub free : Need
+free d n w bs = nothing
+
+-- the field of a value
+abbrev pub value_text : {V : Type 0} → Writing V → ℕ → V → List ℕ
+value_text codec n v = tag_text n codec.wire ++ codec.text v
+
+-- that of a value which may be absent
+abbrev pub some_text : {V : Type 0} → Writing V → ℕ → Option V → List ℕ
+some_text codec n None = []
+some_text codec n (Some v) = value_text codec n v
+
+abbrev pub some_records : {V : Type 0} → (V → Datum) → ℕ → Option V → List (ℕ × Datum)
+some_records datum n None = []
+some_records datum n (Some v) = (n, datum v) ∷ []
+
+-- a value that isn't written where it is the default
+abbrev pub unless : Bool → List ℕ → List ℕ
+unless true text = []
+unless false text = text
+
+abbrev pub records_unless : Bool → List (ℕ × Datum) → List (ℕ × Datum)
+records_unless true rs = []
+records_unless false rs = rs
+
+-- P of the value that is there
+abbrev pub IfThere : {V : Type 0} → (V → Type 0) → Option V → Type 0
+IfThere P None = Unit {0}
+IfThere P (Some v) = P v

@@ -1,0 +1,48 @@
+//! Messages by their fields.
+
+ghost use Rattle.std.specs.Prelude.{◌≡◌, ◌<◌, ℕ, true};
+ghost use Rattle.buffa_wire.specs.BudgetLeft.{budget_left};
+ghost use Rattle.buffa_fields.specs.Layout.{Layout, Seen};
+
+use crate::visitor::Visitor;
+use buffa_wire::{DecodeContext, DecodeError, Tag};
+use std::alloc::Global;
+
+/// A struct that is a message, by its members.
+pub trait Fields: Drop {
+    /// What it means: what its members mean, in pairs.
+    type Meaning;
+
+    /// The units of element memory that a message costs where it is an element.
+    const COST: usize;
+
+    ghost COST: { ℕ };
+
+    /// An element has a cost.
+    ghost positive: { 0 < COST };
+
+    /// Its members, one after the other.
+    ghost layout: { Layout Self Self.Meaning };
+
+    /// The default.
+    fn blank(alloc: Global) -> Self
+        ensures { layout.meaning result ≡ layout.blank };
+
+    /// Visits each member.
+    fn visit<V: Visitor>(&self, visitor: &mut V)
+        ensures { (z : Seen) → V.IsAt z visitor.old → V.IsAt (layout.seen self.now z) visitor.new };
+
+    /// The member of the number takes the field whose tag was read.
+    fn take(
+        &mut self,
+        alloc: Global,
+        tag: Tag,
+        buf: &mut &[u8],
+        ctx: DecodeContext<'_>,
+    ) -> Result<(), DecodeError>
+        ensures { layout.Taken ctx.entry.depth self.old tag.number tag.wire_type buf.old.now ctx.entry.budget.now
+            result self.new (budget_left ctx.exit) buf.new.now };
+
+    /// Each number may be a field's, and no two are one.
+    ghost sound: { layout.sound ≡ true };
+}

@@ -1,0 +1,27 @@
+//! Proto types whose values can stand in a field by themselves.
+
+ghost use Rattle.std.specs.Prelude.{◌≡◌, ◌++◌, ℕ, Bool, true, IsTrue, ◌↔◌};
+ghost use Rattle.buffa_wire.specs.Records.{Datum};
+ghost use Rattle.buffa_wire.specs.Text.{field_text};
+ghost use Rattle.buffa_wire.specs.Values.{tag_text};
+
+use buffa_map::map_codec::MapCodec;
+
+/// A proto type whose values can stand in a field by themselves.
+pub trait Kind: MapCodec {
+    /// The record data of a value.
+    ghost datum: { Self.Value.Meaning → Datum };
+
+    /// Whether a value is the default.
+    ghost is_blank: { Self.Value.Meaning → Bool };
+
+    /// Whether a value is the default, which isn't written where nothing says that it is there.
+    fn is_blank(value: &Self::Value) -> bool
+        ensures { result ≡ is_blank (Self.Value.meaning value.now) };
+
+    /// The text of a field is that of its record.
+    ghost datum_text: { (n : ℕ) (v : Self.Value.Meaning) → tag_text n Self.writing.wire ++ Self.writing.text v ≡ field_text n (datum v) };
+
+    /// No other value is.
+    ghost blank_only: { (v : Self.Value.Meaning) → is_blank v ≡ true → v ≡ Self.Value.blank_is };
+}

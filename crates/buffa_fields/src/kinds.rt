@@ -1,0 +1,195 @@
+//! The proto types.
+
+ghost use Rattle.std.specs.Prelude.{refl};
+ghost use Rattle.buffa_wire.specs.Records.Datum.{varint, fixed32, fixed64, bytes};
+ghost use Rattle.buffa_fields.specs.KindLaws.{zero_only, is_nought, is_zero, none_only, nought_only, is_none, same_false_only};
+ghost use Rattle.std.specs.Prelude.{not};
+
+use crate::kind::Kind;
+use buffa_map::map_codec::{
+    Bool, BytesVec, Fixed32, Fixed64, Int32, Int64, Sfixed32, Sfixed64, Sint32, Sint64, Str,
+    Uint32, Uint64,
+};
+use buffa_wire::Scalar;
+
+impl Kind for Int32 {
+    ghost datum = { λ v. varint (⟦<Int32 as Scalar>⟧.number_of v) };
+
+    ghost is_blank = { is_zero };
+
+    ghost datum_text = { λ n v. refl };
+
+    ghost blank_only = { zero_only };
+
+    fn is_blank(value: &i32) -> bool {
+        *value == 0
+    }
+}
+
+impl Kind for Bool {
+    ghost datum = { λ v. varint (⟦<Bool as Scalar>⟧.number_of v) };
+
+    ghost is_blank = { not };
+
+    ghost datum_text = { λ n v. refl };
+
+    ghost blank_only = { same_false_only };
+
+    fn is_blank(value: &bool) -> bool {
+        !*value
+    }
+}
+
+impl Kind for Str {
+    ghost datum = { bytes };
+
+    ghost is_blank = { is_none };
+
+    ghost datum_text = { λ n v. refl };
+
+    ghost blank_only = { none_only };
+
+    fn is_blank(value: &String) -> bool {
+        value.is_empty()
+    }
+}
+
+impl Kind for Int64 {
+    ghost datum = { λ v. varint (⟦<Int64 as Scalar>⟧.number_of v) };
+
+    ghost is_blank = { is_zero };
+
+    fn is_blank(value: &i64) -> bool {
+        *value == 0
+    }
+
+    ghost datum_text = { λ n v. refl };
+
+    ghost blank_only = { zero_only };
+}
+
+impl Kind for Uint32 {
+    ghost datum = { λ v. varint (⟦<Uint32 as Scalar>⟧.number_of v) };
+
+    ghost is_blank = { is_nought };
+
+    fn is_blank(value: &u32) -> bool {
+        *value == 0
+    }
+
+    ghost datum_text = { λ n v. refl };
+
+    ghost blank_only = { nought_only };
+}
+
+impl Kind for Uint64 {
+    ghost datum = { λ v. varint (⟦<Uint64 as Scalar>⟧.number_of v) };
+
+    ghost is_blank = { is_nought };
+
+    fn is_blank(value: &u64) -> bool {
+        *value == 0
+    }
+
+    ghost datum_text = { λ n v. refl };
+
+    ghost blank_only = { nought_only };
+}
+
+impl Kind for Sint32 {
+    ghost datum = { λ v. varint (⟦<Sint32 as Scalar>⟧.number_of v) };
+
+    ghost is_blank = { is_zero };
+
+    fn is_blank(value: &i32) -> bool {
+        *value == 0
+    }
+
+    ghost datum_text = { λ n v. refl };
+
+    ghost blank_only = { zero_only };
+}
+
+impl Kind for Sint64 {
+    ghost datum = { λ v. varint (⟦<Sint64 as Scalar>⟧.number_of v) };
+
+    ghost is_blank = { is_zero };
+
+    fn is_blank(value: &i64) -> bool {
+        *value == 0
+    }
+
+    ghost datum_text = { λ n v. refl };
+
+    ghost blank_only = { zero_only };
+}
+
+impl Kind for Fixed32 {
+    ghost datum = { λ v. fixed32 (⟦<Fixed32 as Scalar>⟧.number_of v) };
+
+    ghost is_blank = { is_nought };
+
+    fn is_blank(value: &u32) -> bool {
+        *value == 0
+    }
+
+    ghost datum_text = { λ n v. refl };
+
+    ghost blank_only = { nought_only };
+}
+
+impl Kind for Fixed64 {
+    ghost datum = { λ v. fixed64 (⟦<Fixed64 as Scalar>⟧.number_of v) };
+
+    ghost is_blank = { is_nought };
+
+    fn is_blank(value: &u64) -> bool {
+        *value == 0
+    }
+
+    ghost datum_text = { λ n v. refl };
+
+    ghost blank_only = { nought_only };
+}
+
+impl Kind for Sfixed32 {
+    ghost datum = { λ v. fixed32 (⟦<Sfixed32 as Scalar>⟧.number_of v) };
+
+    ghost is_blank = { is_zero };
+
+    fn is_blank(value: &i32) -> bool {
+        *value == 0
+    }
+
+    ghost datum_text = { λ n v. refl };
+
+    ghost blank_only = { zero_only };
+}
+
+impl Kind for Sfixed64 {
+    ghost datum = { λ v. fixed64 (⟦<Sfixed64 as Scalar>⟧.number_of v) };
+
+    ghost is_blank = { is_zero };
+
+    fn is_blank(value: &i64) -> bool {
+        *value == 0
+    }
+
+    ghost datum_text = { λ n v. refl };
+
+    ghost blank_only = { zero_only };
+}
+
+impl Kind for BytesVec {
+    ghost datum = { bytes };
+
+    ghost is_blank = { is_none };
+
+    fn is_blank(value: &Vec<u8>) -> bool {
+        value.is_empty()
+    }
+
+    ghost datum_text = { λ n v. refl };
+
+    ghost blank_only = { none_only };
+}

@@ -1,0 +1,17 @@
+//! Messages from their fields: a message type is data, and its author writes no proof.
+#![tactic(auto)]
+
+pub mod fields;
+pub mod kept;
+pub mod kind;
+pub mod kinds;
+mod map;
+pub mod map_member;
+pub mod member;
+pub mod message;
+pub mod optional;
+pub mod plain;
+pub mod sizer;
+mod value;
+pub mod visitor;
+pub mod writer;

@@ -1,0 +1,86 @@
+//! Calls of map fields, as a message makes them.
+
+ghost use Rattle.std.specs.Prelude.{◌≡◌, ◌+◌, length};
+ghost use Rattle.buffa_wire.specs.BudgetLeft.{budget_left};
+ghost use Rattle.buffa_wire.specs.Number.{IsNumber};
+ghost use Rattle.buffa_wire.specs.Passes.{cap};
+ghost use Rattle.buffa_wire.specs.Text.{records_text};
+ghost use Rattle.buffa_map.specs.Pairs.{means};
+ghost use Rattle.buffa_fields.specs.MapFields.{WritesMap, entry_cost, entry_taken, map_records};
+ghost use Rattle.buffa_fields.specs.Takes.{IsTaken};
+
+use buffa_map::laws::{limits_are_told_where_needs_are_not_left, size_is_length};
+use buffa_map::map_codec::{Map, MapCodec, field_len, merge_entry, write_field};
+use buffa_wire::{
+    DecodeContext, DecodeError, EncodeError, EncodeSink, MapKey, Tag, WireType, check_wire_type,
+    varint_len,
+};
+use std::alloc::Global;
+use std::hash::Hash;
+
+// The length of a map field, or 2^32 - 1 where it is more.
+pub(crate) fn map_len<KC: MapCodec, VC: MapCodec>(
+    number: u32,
+    map: &Map<KC::Value, VC::Value>,
+) -> u32
+where
+    KC::Value: MapKey + Hash,
+    requires { IsNumber number }
+    ensures { result ≡ cap (length (records_text (map_records KC.writing VC.writing number
+        (means KC.Value.meaning VC.Value.meaning map.now.entries)))) }
+{
+    size_is_length::<KC, VC>();
+    let tag = varint_len(u64::from(number) * 8 + 2) as u64;
+    let total = field_len::<KC, VC, Map<KC::Value, VC::Value>>(map, tag);
+    if total < 4_294_967_295 {
+        total as u32
+    } else {
+        4_294_967_295
+    }
+}
+
+// Merges the entry of the field whose tag was read.
+#[tactic(auto, unfolding(crate::specs::MapFields::entry_taken, crate::specs::MapFields::entry_cost))]
+pub(crate) fn take_entry<KC: MapCodec, VC: MapCodec>(
+    alloc: Global,
+    map: &mut Map<KC::Value, VC::Value>,
+    tag: Tag,
+    buf: &mut &[u8],
+    ctx: DecodeContext<'_>,
+) -> Result<(), DecodeError>
+where
+    KC::Value: MapKey + Hash,
+    ensures { IsTaken (entry_taken KC.reading VC.reading KC.Value.same)
+        (entry_cost KC.reading VC.reading (KC.COST + VC.COST)) ctx.entry.depth
+        (means KC.Value.meaning VC.Value.meaning map.old.entries) tag.number tag.wire_type buf.old.now
+        ctx.entry.budget.now result (means KC.Value.meaning VC.Value.meaning map.new.entries) (budget_left ctx.exit)
+        buf.new.now }
+{
+    limits_are_told_where_needs_are_not_left::<KC, VC>();
+    match check_wire_type(tag, WireType::LengthDelimited) {
+        Ok(()) => {}
+        Err(error) => return Err(error),
+    }
+    match merge_entry::<KC, VC, Map<KC::Value, VC::Value>, &[u8]>(alloc, map, buf, ctx) {
+        Ok(()) => Ok(()),
+        Err(error) => Err(error),
+    }
+}
+
+// Writes a map field. An entry that is too long for any length is no text of a message.
+pub(crate) fn write_map<KC: MapCodec, VC: MapCodec, S: EncodeSink>(
+    number: u32,
+    map: &Map<KC::Value, VC::Value>,
+    sink: &mut S,
+) -> Result<(), EncodeError>
+where
+    KC::Value: MapKey + Hash,
+    requires { IsNumber number }
+    ensures { WritesMap KC.writing VC.writing number (means KC.Value.meaning VC.Value.meaning map.now.entries)
+        (S.written sink.old) result (S.written sink.new) }
+{
+    match write_field::<KC, VC, Map<KC::Value, VC::Value>, S>(map, number, sink) {
+        Ok(()) => Ok(()),
+        Err(_) => Err(EncodeError::OutOfMemory),
+    }
+}

@@ -1,0 +1,81 @@
+//! Map fields as members.
+
+ghost use Rattle.std.specs.Prelude.{◌+◌, ◌==◌, []};
+ghost use Rattle.std.proofs.Common.{sym, ◌∙◌};
+ghost use Rattle.std.specs.List.{IsDistinct};
+ghost use Rattle.std.specs.Map.{keys_of};
+ghost use Rattle.buffa_map.proofs.BackLemmas.{plain_back};
+ghost use Rattle.buffa_map.specs.Pairs.{means};
+ghost use Rattle.buffa_map.specs.Text.{AllHold};
+ghost use Rattle.buffa_fields.specs.MapFields.{entry_cost, entry_taken};
+ghost use Rattle.buffa_fields.specs.MapLaws.{map_back, map_stays};
+ghost use Rattle.buffa_fields.specs.Slots.{entry_records};
+
+use crate::map::{map_len, take_entry, write_map};
+use crate::member::Member;
+use buffa_map::map_codec::{Map, MapCodec, MapValueDecode};
+use buffa_wire::{Blank, DecodeContext, DecodeError, EncodeError, EncodeSink, MapKey, Tag};
+use std::alloc::Global;
+use std::hash::Hash;
+use std::marker::PhantomData;
+
+/// A map field of scalars, strings or bytes, held in a [`Map`].
+pub struct MapOf<KC, VC> {
+    key: PhantomData<KC>,
+    value: PhantomData<VC>,
+}
+
+impl<KC: MapCodec, VC: MapCodec> Member for MapOf<KC, VC>
+where
+    KC::Value: MapKey + Hash,
+{
+    type Part = Map<KC::Value, VC::Value>;
+
+    type Meaning = [(<KC::Value as Blank>::Meaning, <VC::Value as Blank>::Meaning); 0];
+
+    ghost slot = { record {
+      meaning = λ m. means KC.Value.meaning VC.Value.meaning m.entries;
+      blank = [];
+      takes = entry_taken KC.reading VC.reading KC.Value.same;
+      need = entry_cost KC.reading VC.reading (KC.COST + VC.COST);
+      records = entry_records KC.writing VC.writing;
+      levels = λ _. 0;
+      normal = λ l. AllHold (λ k. KC.fits k × KC.normal k) (λ v. VC.fits v × VC.normal v) l
+          × IsDistinct KC.Value.same (keys_of l);
+      stays = map_stays KC.reading VC.reading KC.Value.same (KC.COST + VC.COST);
+    } };
+
+    #[tactic(auto, unfolding(crate::specs::Slots::entry_records))]
+    fn len(number: u32, part: &Map<KC::Value, VC::Value>) -> u32 {
+        map_len::<KC, VC>(number, part)
+    }
+
+    #[tactic(auto, unfolding(crate::specs::Slots::entry_records))]
+    fn write_to<S: EncodeSink>(
+        number: u32,
+        part: &Map<KC::Value, VC::Value>,
+        sink: &mut S,
+    ) -> Result<(), EncodeError> {
+        write_map::<KC, VC, S>(number, part, sink)
+    }
+
+    #[tactic(auto, unfolding(crate::specs::Layout::Took))]
+    fn merge(
+        part: &mut Map<KC::Value, VC::Value>,
+        alloc: Global,
+        tag: Tag,
+        buf: &mut &[u8],
+        ctx: DecodeContext<'_>,
+    ) -> Result<(), DecodeError> {
+        take_entry::<KC, VC>(alloc, part, tag, buf, ctx)
+    }
+
+    ghost back = { record {
+      back = λ n number d l fits normal low. unfold entry_records in (map_back KC.reading VC.reading KC.writing VC.writing
+          (KC.MapCodec.written_wire ∙ sym KC.MapValueDecode.wire) (VC.MapCodec.written_wire ∙ sym VC.MapValueDecode.wire)
+          KC.Value.same KC.Value.MapKey.equivalence (λ k. KC.fits k × KC.normal k) (λ v. VC.fits v × VC.normal v) d
+          (λ v h. plain_back KC.reading KC.writing d v KC.MapCodec.plain (KC.MapCodec.reads_back d KC.reading.blank v h.0 h.1))
+          (λ v h. plain_back VC.reading VC.writing d v VC.MapCodec.plain (VC.MapCodec.reads_back d VC.reading.blank v h.0 h.1))
+          n number l fits normal.0 normal.1);
+    } };
+}

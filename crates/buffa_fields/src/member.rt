@@ -1,0 +1,52 @@
+//! Kinds of members.
+
+ghost use Rattle.std.specs.Prelude.{◌≡◌, length};
+ghost use Rattle.buffa_wire.specs.BudgetLeft.{budget_left};
+ghost use Rattle.buffa_wire.specs.Number.{IsNumber};
+ghost use Rattle.buffa_wire.specs.Passes.{cap};
+ghost use Rattle.buffa_wire.specs.Text.{records_text};
+ghost use Rattle.buffa_fields.specs.Layout.{ReadsBackTo, Slot, Took, WritesSmall};
+
+use buffa_wire::{DecodeContext, DecodeError, EncodeError, EncodeSink, Tag};
+use std::alloc::Global;
+
+/// A kind of members of messages: how a member's value is read and written.
+pub trait Member {
+    /// The member's type.
+    type Part: Drop;
+
+    /// What its value means.
+    type Meaning;
+
+    /// What it is, and what it owes.
+    ghost slot: { Slot Self.Part Self.Meaning };
+
+    /// The length of its text under a number, or 2^32 - 1 where it is more.
+    fn len(number: u32, part: &Self::Part) -> u32
+        requires { IsNumber number }
+        ensures { result ≡ cap (length (records_text (slot.records number (slot.meaning part.now)))) };
+
+    /// Writes its text.
+    fn write_to<S: EncodeSink>(
+        number: u32,
+        part: &Self::Part,
+        sink: &mut S,
+    ) -> Result<(), EncodeError>
+        requires { IsNumber number }
+        ensures { WritesSmall (records_text (slot.records number (slot.meaning part.now))) (S.written sink.old) result
+            (S.written sink.new) };
+
+    /// Merges the field whose tag was read.
+    fn merge(
+        part: &mut Self::Part,
+        alloc: Global,
+        tag: Tag,
+        buf: &mut &[u8],
+        ctx: DecodeContext<'_>,
+    ) -> Result<(), DecodeError>
+        ensures { Took slot ctx.entry.depth part.old tag.number tag.wire_type buf.old.now ctx.entry.budget.now result
+            part.new (budget_left ctx.exit) buf.new.now };
+
+    /// The text reads back.
+    ghost back: { ReadsBackTo slot };
+}

@@ -1,0 +1,163 @@
+//! A struct of one's own is a message.
+
+ghost use Rattle.std.specs.Prelude.{◌≡◌, ◌≢◌, [], Ok, refl};
+ghost use Rattle.buffa_wire.specs.BudgetLeft.{budget_left};
+ghost use Rattle.buffa_wire.specs.Gives.{FullOnlyIf};
+ghost use Rattle.buffa_wire.specs.Message.{IsFieldMerged};
+ghost use Rattle.buffa_wire.specs.Passes.{IsSized, IsWritten};
+ghost use Rattle.buffa_wire.specs.Text.{records_text};
+ghost use Rattle.buffa_fields.specs.Layout.{WritesSmall};
+ghost use Rattle.buffa_fields.specs.LayoutLaws.{reads_back};
+ghost use Rattle.buffa_fields.specs.Takes.{cost_of, merged_of};
+ghost use Rattle.buffa_fields.specs.TakesLaws.{cost_of_next, cost_of_none, merged_empty, merged_fields, merged_next};
+
+use crate::fields::Fields;
+use crate::sizer::Sizer;
+use crate::writer::Writer;
+use buffa_wire::{
+    Blank, DecodeContext, DecodeError, EncodeError, EncodeSink, Message, MessageSpec, SizeCache,
+    Tag, WireType,
+};
+use std::alloc::Global;
+
+// Writes all members.
+fn write_members<M: Fields, S: EncodeSink>(message: &M, writer: &mut Writer<'_, S>)
+    requires { writer.old.result ≡ Ok tt }
+    ensures same_reference { writer.new.sink.ghost_name ≡ writer.old.sink.ghost_name }
+    ensures written { WritesSmall (records_text (M.layout.records (M.layout.meaning message.now)))
+        (S.written writer.old.sink.now) writer.new.result (S.written writer.new.sink.now) }
+{
+    message.visit(writer);
+}
+
+// The same into a sink.
+fn write_text<M: Fields, S: EncodeSink>(message: &M, sink: &mut S) -> Result<(), EncodeError>
+    ensures { WritesSmall (records_text (M.layout.records (M.layout.meaning message.now))) (S.written sink.old) result
+        (S.written sink.new) }
+{
+    let mut writer = Writer::new(sink);
+    write_members(message, &mut writer);
+    writer.finish()
+}
+
+/// The size pass of a message by its members.
+///
+/// # Errors
+/// [`EncodeError::OutOfMemory`] alone.
+pub fn size<M: Fields>(message: &M, _cache: &mut SizeCache) -> Result<u32, EncodeError>
+    ensures { IsSized (records_text (M.layout.records (M.layout.meaning message.now))) [] _cache.old result _cache.new }
+{
+    let mut sizer = Sizer { total: 0 };
+    message.visit(&mut sizer);
+    Ok(sizer.total)
+}
+
+/// The write pass.
+///
+/// # Errors
+/// [`EncodeError::OutOfMemory`] alone.
+pub fn write<M: Fields, S: EncodeSink>(
+    message: &M,
+    _cache: &mut SizeCache,
+    sink: &mut S,
+) -> Result<(), EncodeError>
+    ensures { IsWritten (records_text (M.layout.records (M.layout.meaning message.now))) [] _cache.old
+        (S.written sink.old) result _cache.new (S.written sink.new) }
+{
+    write_text(message, sink)
+}
+
+/// Merges the field whose tag was read.
+///
+/// # Errors
+/// Those of `Message::merge_field`.
+pub fn merge<M: Fields>(
+    message: &mut M,
+    alloc: Global,
+    tag: Tag,
+    buf: &mut &[u8],
+    ctx: DecodeContext<'_>,
+) -> Result<(), DecodeError>
+    ensures merged { IsFieldMerged (merged_of M.layout.takes) (cost_of M.layout.need) ctx.entry.depth
+        (M.layout.meaning message.old) tag.number tag.wire_type buf.old.now ctx.entry.budget.now result
+        (M.layout.meaning message.new) (budget_left ctx.exit) buf.new.now }
+    ensures full { FullOnlyIf result (tag.wire_type ≢ WireType.EndGroup) }
+{
+    message.take(alloc, tag, buf, ctx)
+}
+
+/// A message of a struct of one's own.
+#[derive(Drop)]
+pub struct Own<M: Fields>(pub M);
+
+impl<M: Fields> Blank for Own<M> {
+    type Meaning = M::Meaning;
+
+    ghost meaning = { λ m. M.layout.meaning m.0 };
+
+    ghost blank_is = { M.layout.blank };
+
+    fn blank(alloc: Global) -> Own<M> {
+        Own(M::blank(alloc))
+    }
+}
+
+impl<M: Fields> MessageSpec for Own<M> {
+    const COST: usize = M::COST;
+
+    ghost COST = { M.COST };
+
+    ghost merged = { merged_of M.layout.takes };
+
+    ghost cost = { cost_of M.layout.need };
+
+    ghost text = { λ v. records_text (M.layout.records v) };
+
+    ghost records = { M.layout.records };
+
+    ghost slots = { λ _. [] };
+
+    ghost levels = { M.layout.levels };
+
+    ghost normal = { λ v. M.layout.Owes × M.layout.normal v };
+
+    ghost text_records = { λ v. refl };
+
+    ghost merged_text = { λ d v fits normal low. reads_back M.layout normal.0 M.Fields.sound d v fits normal.1 low };
+
+    ghost positive = { M.positive };
+
+    ghost merged_empty = { merged_empty M.layout.takes };
+
+    ghost merged_fields = { merged_fields M.layout.takes };
+
+    ghost merged_next = { merged_next M.layout.takes };
+
+    ghost cost_empty = { cost_of_none M.layout.need };
+
+    ghost cost_next = { cost_of_next M.layout.need M.layout.stays };
+}
+
+impl<M: Fields> Message for Own<M> {
+    fn compute_size(&self, cache: &mut SizeCache) -> Result<u32, EncodeError> {
+        size(&self.0, cache)
+    }
+
+    fn write_to<S: EncodeSink>(
+        &self,
+        cache: &mut SizeCache,
+        sink: &mut S,
+    ) -> Result<(), EncodeError> {
+        write(&self.0, cache, sink)
+    }
+
+    fn merge_field(
+        &mut self,
+        alloc: Global,
+        tag: Tag,
+        buf: &mut &[u8],
+        ctx: DecodeContext<'_>,
+    ) -> Result<(), DecodeError> {
+        merge(&mut self.0, alloc, tag, buf, ctx)
+    }
+}

@@ -1,0 +1,80 @@
+//! Members that may be absent.
+
+ghost use Rattle.std.specs.Prelude.{None, refl, ◌==◌};
+ghost use Rattle.std.specs.Option.{option_map};
+ghost use Rattle.buffa_fields.specs.Values.{IfThere, free, some_taken};
+ghost use Rattle.buffa_fields.specs.ValueLaws.{some_back};
+ghost use Rattle.buffa_fields.specs.Slots.{optional_records};
+
+use crate::kind::Kind;
+use crate::member::Member;
+use crate::value::{take_value, value_len, write_value};
+use buffa_wire::{Blank, DecodeContext, DecodeError, EncodeError, EncodeSink, Tag};
+use std::alloc::Global;
+use std::marker::PhantomData;
+
+/// A member with explicit presence: `optional` of a scalar, a string or bytes.
+pub struct Optional<C> {
+    of: PhantomData<C>,
+}
+
+impl<C: Kind> Member for Optional<C> {
+    type Part = Option<C::Value>;
+
+    type Meaning = Option<<C::Value as Blank>::Meaning>;
+
+    ghost slot = { record {
+      meaning = λ p. option_map C.Value.meaning p;
+      blank = None;
+      takes = some_taken C.reading;
+      need = free;
+      records = optional_records C.datum;
+      levels = λ _. 0;
+      normal = λ v. IfThere (λ x. C.fits x × C.normal x) v;
+      stays = λ d n w p x h. refl;
+    } };
+
+    #[tactic(auto, unfolding(crate::specs::Slots::optional_records))]
+    fn len(number: u32, part: &Option<C::Value>) -> u32 {
+        match part {
+            None => 0,
+            Some(value) => value_len::<C>(number, value),
+        }
+    }
+
+    #[tactic(auto, unfolding(crate::specs::Slots::optional_records))]
+    fn write_to<S: EncodeSink>(
+        number: u32,
+        part: &Option<C::Value>,
+        sink: &mut S,
+    ) -> Result<(), EncodeError> {
+        match part {
+            None => Ok(()),
+            Some(value) => write_value::<C, S>(number, value, sink),
+        }
+    }
+
+    #[tactic(auto, unfolding(crate::specs::Layout::Took))]
+    fn merge(
+        part: &mut Option<C::Value>,
+        alloc: Global,
+        tag: Tag,
+        buf: &mut &[u8],
+        ctx: DecodeContext<'_>,
+    ) -> Result<(), DecodeError> {
+        let mut value = <C::Value as Blank>::blank(alloc);
+        match take_value::<C>(alloc, &mut value, tag, buf, ctx) {
+            Ok(()) => {
+                *part = Some(value);
+                Ok(())
+            }
+            Err(error) => Err(error),
+        }
+    }
+
+    ghost back = { record {
+      back = λ k number d v fits normal low. unfold optional_records in (some_back C.reading C.writing C.datum k number d
+          C.MapCodec.plain C.WIRE_TYPE C.MapValueDecode.wire C.MapCodec.written_wire C.fits C.normal C.MapCodec.reads_back
+          C.Kind.datum_text v normal);
+    } };
+}

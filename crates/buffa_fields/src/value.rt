@@ -1,0 +1,81 @@
+//! The value of a field, by a codec.
+
+ghost use Rattle.std.specs.Prelude.{◌≡◌, ◌∷◌, ◌++◌, [], length};
+ghost use Rattle.buffa_wire.specs.BudgetLeft.{budget_left};
+ghost use Rattle.buffa_wire.specs.Number.{IsNumber};
+ghost use Rattle.buffa_wire.specs.Passes.{cap};
+ghost use Rattle.buffa_wire.specs.Text.{records_text};
+ghost use Rattle.buffa_wire.specs.Values.{tag_text};
+ghost use Rattle.buffa_wire.specs.Written.{Writes};
+ghost use Rattle.buffa_fields.specs.Takes.{IsTaken};
+ghost use Rattle.buffa_fields.specs.Values.{free, value_taken};
+
+use crate::kind::Kind;
+use buffa_map::map_codec::{MapCodec, MapValueDecode};
+use buffa_wire::{
+    DecodeContext, DecodeError, EncodeError, EncodeSink, Tag, check_wire_type, varint_len,
+};
+use std::alloc::Global;
+
+// Merges the value of the field whose tag was read.
+pub(crate) fn take_value<C: MapCodec>(
+    alloc: Global,
+    value: &mut C::Value,
+    tag: Tag,
+    buf: &mut &[u8],
+    ctx: DecodeContext<'_>,
+) -> Result<(), DecodeError>
+    ensures { IsTaken (value_taken C.reading) free ctx.entry.depth (C.Value.meaning value.old) tag.number tag.wire_type
+        buf.old.now ctx.entry.budget.now result (C.Value.meaning value.new) (budget_left ctx.exit) buf.new.now }
+{
+    match check_wire_type(tag, C::WIRE_TYPE) {
+        Ok(()) => {}
+        Err(error) => return Err(error),
+    }
+    match C::merge(alloc, value, buf, ctx) {
+        Ok(_) => Ok(()),
+        Err(error) => Err(error),
+    }
+}
+
+// The length of a field, or 2^32 - 1 where it is more.
+pub(crate) fn value_len<C: Kind>(number: u32, value: &C::Value) -> u32
+    requires { IsNumber number }
+    ensures { result ≡ cap (length (records_text ((number, C.datum (C.Value.meaning value.now)) ∷ []))) }
+{
+    let tag = varint_len(u64::from(number) * 8 + u64::from(C::WIRE_TYPE.number())) as u64;
+    let total = C::encoded_len(value).saturating_add(tag);
+    if total < 4_294_967_295 {
+        total as u32
+    } else {
+        4_294_967_295
+    }
+}
+
+// Writes a tag and a payload.
+#[tactic(auto, using(buffa_bytes::proofs::SinkLemmas::writes_then, buffa_bytes::proofs::SinkLemmas::front_first))]
+fn write_parts<C: Kind, S: EncodeSink>(
+    number: u32,
+    value: &C::Value,
+    sink: &mut S,
+) -> Result<(), EncodeError>
+    requires { IsNumber number }
+    ensures { Writes result (S.written sink.old)
+        (tag_text number C.WIRE_TYPE ++ C.writing.text (C.Value.meaning value.now)) (S.written sink.new) }
+{
+    Tag::new(number, C::WIRE_TYPE).encode(sink)?;
+    C::encode(value, sink)
+}
+
+// Writes a field.
+pub(crate) fn write_value<C: Kind, S: EncodeSink>(
+    number: u32,
+    value: &C::Value,
+    sink: &mut S,
+) -> Result<(), EncodeError>
+    requires { IsNumber number }
+    ensures { Writes result (S.written sink.old) (records_text ((number, C.datum (C.Value.meaning value.now)) ∷ []))
+        (S.written sink.new) }
+{
+    write_parts::<C, S>(number, value, sink)
+}

@@ -1,0 +1,114 @@
+//! An inventory.
+
+ghost use Rattle.std.proofs.Common.{lit<, refl};
+ghost use Rattle.buffa_fields.specs.Members.{field, keep};
+
+use buffa_fields::fields::Fields;
+use buffa_fields::kept::{self, KeptFields};
+use buffa_fields::map_member::MapOf;
+use buffa_fields::member::Member;
+use buffa_fields::optional::Optional;
+use buffa_fields::plain::Plain;
+use buffa_fields::visitor::Visitor;
+use buffa_map::map_codec::{Bool, Int32, Map, Str};
+use buffa_wire::{DecodeContext, DecodeError, Tag, UnknownFields};
+use std::alloc::Global;
+use std::string::String;
+
+/// message Inventory {
+///     int32 total = 1;
+///     string note = 2;
+///     optional bool listed = 3;
+///     map<string, int32> counts = 5;
+/// }
+#[derive(Drop)]
+pub struct Inventory {
+    pub total: i32,
+    pub note: String,
+    pub listed: Option<bool>,
+    pub counts: Map<String, i32>,
+    pub rest: UnknownFields,
+}
+
+impl Fields for Inventory {
+    type Meaning = (
+        i32,
+        ([u8; 0], (Option<bool>, ([([u8; 0], i32); 0], KeptFields))),
+    );
+
+    const COST: usize = 96;
+
+    ghost COST = { 96 };
+
+    ghost positive = { lit< tt };
+
+    ghost layout = { field 1 (λ m. m.total) ⟦<Plain<Int32> as Member>⟧.slot (
+        field 2 (λ m. m.note) ⟦<Plain<Str> as Member>⟧.slot (
+        field 3 (λ m. m.listed) ⟦<Optional<Bool> as Member>⟧.slot (
+        field 5 (λ m. m.counts) ⟦<MapOf<Str, Int32> as Member>⟧.slot (
+        keep (λ m. m.rest.records))))) };
+
+    fn blank(alloc: Global) -> Inventory {
+        Inventory {
+            total: 0,
+            note: String::new(alloc),
+            listed: None,
+            counts: Map::new(alloc),
+            rest: UnknownFields::new(alloc),
+        }
+    }
+
+    fn visit<V: Visitor>(&self, visitor: &mut V) {
+        visitor.visit::<Plain<Int32>>(1, &self.total);
+        visitor.visit::<Plain<Str>>(2, &self.note);
+        visitor.visit::<Optional<Bool>>(3, &self.listed);
+        visitor.visit::<MapOf<Str, Int32>>(5, &self.counts);
+        visitor.visit_kept(&self.rest);
+    }
+
+    fn take(
+        &mut self,
+        alloc: Global,
+        tag: Tag,
+        buf: &mut &[u8],
+        ctx: DecodeContext<'_>,
+    ) -> Result<(), DecodeError> {
+        match tag.field_number() {
+            1 => Plain::<Int32>::merge(&mut self.total, alloc, tag, buf, ctx),
+            2 => Plain::<Str>::merge(&mut self.note, alloc, tag, buf, ctx),
+            3 => Optional::<Bool>::merge(&mut self.listed, alloc, tag, buf, ctx),
+            5 => MapOf::<Str, Int32>::merge(&mut self.counts, alloc, tag, buf, ctx),
+            _ => kept::keep(alloc, &mut self.rest, tag, buf, ctx),
+        }
+    }
+
+    ghost sound = { refl };
+}
+
+#[cfg(test)]
+mod tests {
+    use super::Inventory;
+    use buffa_wire::{Blank, Message};
+    use std::test::Fail;
+
+    #[test]
+    fn an_inventory_comes_back(rt: HostRuntime) -> Result<(), Fail> {
+        let mut message: Inventory = Blank::blank(rt.alloc());
+        let bytes: &[u8] = &[
+            0x2A, 0x05, 0x0A, 0x01, 0x61, 0x10, 0x01, 0x08, 0x96, 0x01, 0x12, 0x02, 0x68, 0x69,
+            0x18, 0x00, 0x38, 0x07, 0x2A, 0x05, 0x0A, 0x01, 0x62, 0x10, 0x02,
+        ];
+        message.merge_from_slice(rt.alloc(), bytes)?;
+        assert_eq!(rt; message.total, 150);
+        assert!(rt; message.note.as_str() == "hi");
+        assert_eq!(rt; message.listed, Some(false));
+        assert_eq!(rt; message.counts.get("b"), Some(&2));
+        let text = message.try_encode_to_vec(rt.alloc())?;
+        let written: &[u8] = &[
+            0x08, 0x96, 0x01, 0x12, 0x02, 0x68, 0x69, 0x18, 0x00, 0x2A, 0x05, 0x0A, 0x01, 0x61,
+            0x10, 0x01, 0x2A, 0x05, 0x0A, 0x01, 0x62, 0x10, 0x02, 0x38, 0x07,
+        ];
+        assert_eq!(rt; text.as_slice(), written);
+        Ok(())
+    }
+}

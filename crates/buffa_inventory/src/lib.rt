@@ -1,0 +1,7 @@
+//! Messages from their fields: samples.
+#![tactic(auto)]
+
+pub mod inventory;
+pub mod inventory_message;
+pub mod maps;
+pub mod order;
