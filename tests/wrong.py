@@ -143,8 +143,11 @@ def is_named(function, crate, name):
     rest = rest.partition(" where ")[0]
     if " for " in rest:
         trait, _, of = rest.partition(" for ")
-        trait = re.match(r"[\w:]+", trait)[0].rpartition("::")[2]
-        return front[:-1] == module and front[-1].partition("+")[0] == type_name(of, own) + trait
+        path = re.match(r"[\w:]+", trait)[0]
+        plain = type_name(of, own) + path.rpartition("::")[2]
+        # what the trait is of may be in the name: From<DecodeError>
+        names = (plain, plain + type_name(trait[len(path) :], own))
+        return front[:-1] == module and front[-1].partition("+")[0] in names
     holder = re.match(r"\w+(::\w+)*", rest)[0].rpartition("::")[2]
     return front[-1].partition("+")[0] == holder
 

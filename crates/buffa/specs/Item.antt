@@ -14,6 +14,7 @@ use Rattle.buffa_bytes.specs.declared.error.DecodeError.{DecodeError}
 use Rattle.buffa_bytes.specs.declared.error.DecodeError.TheVariants.{InvalidMessageSet, UnexpectedEof, UnknownFieldLimitExceeded}
 use Rattle.buffa_bytes.specs.declared.error.MessageSetFault.TheVariants.{MissingTypeId, TypeIdOutOfRange}
 use Rattle.buffa_wire.specs.Sequence.{ParsesTo}
+use Rattle.buffa.specs.declared.message_set.ItemParts.{ItemParts}
 
 -- the numbers that a type id may be, and the others
 abbrev pub IsTypeId : ℕ → Type 0
@@ -36,6 +37,9 @@ said id msg = record { type_id = id; message = msg }
 
 abbrev pub says : ℕ → List ℕ → Said
 says id msg = said (Some id) msg
+
+abbrev pub said_by : ItemParts → Said
+said_by parts = said parts.type_id parts.message.items
 
 -- ---- the grammar
 

@@ -171,7 +171,8 @@ pub fn law_12<KC: MapCodec>()
 
 /// An extension of an enum is read and written as `int32` is, each number as the value that it means.
 ///
-/// So it is in lists too, packed or not; and a value that is set comes back as its `normal` one.
+/// So it is in lists too, packed or not; and a value that is set comes back as its `back`, the value that its
+/// number means.
 pub fn law_13<E: Enumeration>()
     ensures reads { ReadsThrough (open_number E.of_number) ⟦<Int32 as ExtensionCodec>⟧.reads
         ⟦<EnumCodec<E> as ExtensionCodec>⟧.reads }
@@ -188,6 +189,8 @@ pub fn law_13<E: Enumeration>()
     ensures holds { (v : Bool × ℤ) (o : Option (Bool × ℤ)) → ⟦<EnumCodec<E> as ExtensionCodec>⟧.holds v o
         ↔ (o ≡ Some (open_number E.of_number v.1)) }
     ensures list_holds { (vs os : List (Bool × ℤ)) → ⟦<Repeated<EnumCodec<E>> as ExtensionCodec>⟧.holds vs os
+        ↔ (os ≡ map (λ v. open_number E.of_number v.1) vs) }
+    ensures packed_holds { (vs os : List (Bool × ℤ)) → ⟦<PackedRepeated<EnumCodec<E>> as ExtensionCodec>⟧.holds vs os
         ↔ (os ≡ map (λ v. open_number E.of_number v.1) vs) }
 {
     buffa_codec::laws::enums_are_read_as_numbers::<E>();

@@ -8,8 +8,7 @@
 pub mod extension;
 pub mod laws;
 pub mod message_set;
-#[cfg(test)]
-mod tests;
+pub mod name_laws;
 
 pub use buffa_ext::{Extension, ExtensionSet};
 pub use buffa_map::map_codec;

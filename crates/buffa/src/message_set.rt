@@ -16,7 +16,7 @@ ghost use Rattle.buffa_wire.specs.Gives.{FullOnlyIf, Gives, GivesUnlessFull};
 ghost use Rattle.buffa_wire.specs.Unread.{IsTailOf};
 ghost use Rattle.buffa_wire.specs.Written.{UsesRoom, Writes};
 ghost use Rattle.buffa.specs.Item.{HasMessage, IsTypeId, SpendsSlot, field_at, item_at, item_in, item_size, item_text};
-ghost use Rattle.buffa.specs.Item.{BytesAt, IsMessageAt, appended_at, ends, said, type_id_at};
+ghost use Rattle.buffa.specs.Item.{BytesAt, IsMessageAt, appended_at, ends, said_by, type_id_at};
 
 use buffa_bytes::buf::{copy_bytes, front};
 use buffa_wire::{
@@ -174,8 +174,8 @@ fn merge_field<B: Buf>(
     depth: u32,
     parts: &mut ItemParts,
 ) -> Result<(), DecodeError>
-    ensures reads { GivesUnlessFull (λ _. (said parts.new.type_id parts.new.message.items, B.unread buf.new)) result
-        (field_at depth (said parts.old.type_id parts.old.message.items) tag.number tag.wire_type (B.unread buf.old)) }
+    ensures reads { GivesUnlessFull (λ _. (said_by parts.new, B.unread buf.new)) result
+        (field_at depth (said_by parts.old) tag.number tag.wire_type (B.unread buf.old)) }
     ensures full { FullOnlyIf result (IsMessageAt tag.number tag.wire_type (B.unread buf.old)) }
     ensures kept { B.beyond buf.new ≡ B.beyond buf.old }
     ensures tail { IsTailOf (B.unread buf.new) (B.unread buf.old) }

@@ -9,13 +9,14 @@ use Rattle.buffa_bytes.specs.declared.wire_type.WireType.TheVariants.{Varint, Fi
 use Rattle.buffa_bytes.specs.declared.error.DecodeError.{DecodeError}
 use Rattle.buffa_bytes.specs.declared.error.DecodeError.TheVariants.{OutOfMemory}
 use Rattle.buffa_bytes.specs.Gives.{Gives, GivesUnlessFull}
-use Rattle.buffa_bytes.specs.Left.{LeavesUnlessFull, past_no_varint, past_no_payload, past_no_text}
+use Rattle.buffa_bytes.specs.Left.{LeavesUnlessFull, past_no_varint, past_no_payload, past_no_tag, past_no_text}
 use Rattle.buffa_bytes.specs.Reading.{varint_at, past, taken, delimited_at}
 use Rattle.buffa_bytes.specs.Unread.{IsFrontOf, IsTailOf}
+use Rattle.buffa_bytes.specs.Varint.{TakesVarint, VarintFault}
 use Rattle.buffa_bytes.proofs.DelimitedLemmas.{delimited_sound, taken_complete, taken_sound}
 use Rattle.buffa_bytes.proofs.StepLemmas.{agree_ok}
 use Rattle.buffa_bytes.proofs.TailLemmas.{tail_whole}
-use Rattle.buffa_bytes.proofs.VarintLemmas.{varint_complete}
+use Rattle.buffa_bytes.proofs.VarintLemmas.{varint_complete, varint_faulty}
 
 -- ---- varints
 
@@ -167,3 +168,29 @@ fixed32_stays bs = refl
 pub end_stays : (bs : List ℕ) → past_no_payload EndGroup bs ≡ bs
 unfolding past_no_payload
 end_stays bs = refl
+
+-- ---- what these rests are, in the words of the grammar
+pub no_varint : (bs : List ℕ) → past_no_varint bs ≡ drop 10 bs
+unfolding past_no_varint
+no_varint bs = refl
+
+varint_taken : (bs : List ℕ) (n : ℕ) (rest : List ℕ) → TakesVarint bs n rest → varint_at bs ≡ Ok (n, rest)
+varint_taken bs n rest h = ap varint_at h.2 ∙ varint_complete h.0 n rest h.1
+
+pub no_number : (bs : List ℕ) (e : DecodeError) → VarintFault bs e → (past_no_tag bs ≡ drop 10 bs) × (past_no_text bs ≡ drop 10 bs)
+unfolding past_no_tag past_no_text past_no_varint
+no_number bs e h = (rw (past_no_tag, varint_faulty bs e h) refl, rw (past_no_text, varint_faulty bs e h) refl)
+
+pub no_tag : (bs : List ℕ) (n : ℕ) (rest : List ℕ) → TakesVarint bs n rest → past_no_tag bs ≡ rest
+unfolding past_no_tag
+no_tag bs n rest h = rw (past_no_tag, varint_taken bs n rest h) refl
+
+pub no_text_cut : (bs : List ℕ) (n : ℕ) (rest : List ℕ) → TakesVarint bs n rest → length rest < n → past_no_text bs ≡ rest
+no_text_cut bs n rest h few = text_cut n bs rest (varint_taken bs n rest h) few
+
+pub no_text_whole : (bs : List ℕ) (n : ℕ) (rest : List ℕ) → TakesVarint bs n rest → n ≤ length rest → past_no_text bs ≡ drop n rest
+no_text_whole bs n rest h some = text_whole n bs rest (varint_taken bs n rest h) some
+
+pub no_payload : (bs : List ℕ) → (past_no_payload Varint bs ≡ drop 10 bs) × (past_no_payload LengthDelimited bs ≡ past_no_text bs)
+unfolding past_no_payload past_no_varint
+no_payload bs = (refl, refl)

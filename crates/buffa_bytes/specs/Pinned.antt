@@ -1,5 +1,6 @@
 -- What a contract leaves open: nothing, but for what is said here.
-use Rattle.std.specs.Prelude.{◌≡◌, ◌≢◌, ◌↔◌, ℕ, ◌+◌, ◌<◌, ◌≤◌, Bool, true, List, [], ◌∷◌, length, take, drop, Result, Ok, Err, IsOk}
+use Rattle.std.specs.Prelude.{◌≡◌, ◌≢◌, ◌↔◌, ℕ, ◌+◌, ◌<◌, ◌≤◌, Bool, true, List, [], ◌∷◌, length, take, drop, Result, Ok, Err, IsOk, OnErr}
+use denote.Ref.{MutBor}
 use Rattle.buffa_bytes.specs.Gives.{FullOnlyIf, Gives, GivesUnlessFull}
 use Rattle.buffa_bytes.specs.Left.{LeavesUnlessFull}
 use Rattle.buffa_bytes.specs.Unread.{IsChunkOf, IsFrontOf, MovesUnlessFull}
@@ -9,11 +10,12 @@ use Rattle.buffa_bytes.specs.declared.error.DecodeError.TheVariants.{OutOfMemory
 use Rattle.buffa_bytes.specs.declared.error.EncodeError.{EncodeError}
 use Rattle.buffa_bytes.specs.declared.error.EncodeError.TheVariants as encode
 
--- Two answers to one reading are one, bytes that are read are not refused, and refused bytes have one fault.
+-- Two answers to one reading are one, bytes that are read are not refused, and refused bytes have one fault and leave one rest.
 pub record AnswerIsPinned (X Y : Type 0) : Type 0 where
   pub one : (f g : X → Y) (x y : X) (read : Result Y DecodeError) → Gives f (Ok x) read → Gives g (Ok y) read → f x ≡ g y
   pub taken : (f g : X → Y) (x : X) (e : DecodeError) (read : Result Y DecodeError) → Gives f (Ok x) read → Gives g (Err e) read → ⊥
   pub fault : (f g : X → Y) (d e : DecodeError) (read : Result Y DecodeError) → Gives f (Err d) read → Gives g (Err e) read → d ≡ e
+  pub left : (d e : DecodeError) (rest a b : List ℕ) → OnErr {T = X} (Err d) (a ≡ rest) → OnErr {T = Y} (Err e) (b ≡ rest) → a ≡ b
 
 -- The same, memory aside; and memory is not told where the whole that is asked for isn't there.
 pub record AnswerIsPinnedUnlessFull (X Y Z : Type 0) : Type 0 where
@@ -60,6 +62,6 @@ pub record ShowsBytes {A : Type 0} (bytes unread : A → List ℕ) (beyond : A �
   pub past : (s : A) → beyond s ≡ []
 
 -- a lent buffer shows its first bytes, and past them what stays
-pub record ShowsFront {A : Type 0} (unread inner_unread : A → List ℕ) (limit : A → ℕ) (beyond inner_beyond : A → List (ℕ × List ℕ)) (name : A → ℕ) : Type 0 where
-  pub shown : (s : A) → unread s ≡ take (limit s) (inner_unread s)
-  pub past : (s : A) → beyond s ≡ (name s, drop (limit s) (inner_unread s)) ∷ inner_beyond s
+pub record ShowsFront {A B : Type 0} (unread : A → List ℕ) (beyond : A → List (ℕ × List ℕ)) (inner : A → MutBor B) (limit : A → ℕ) (inner_unread : B → List ℕ) (inner_beyond : B → List (ℕ × List ℕ)) : Type 0 where
+  pub shown : (s : A) → unread s ≡ take (limit s) (inner_unread (inner s).now)
+  pub past : (s : A) → beyond s ≡ ((inner s).ghost_name, drop (limit s) (inner_unread (inner s).now)) ∷ inner_beyond (inner s).now

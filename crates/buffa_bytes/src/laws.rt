@@ -1,17 +1,22 @@
 //! What the definitions say together: each law is a function with nothing to do, whose contract is the law.
 
 ghost use Rattle.std.specs.Prelude.{◌≡◌, ◌≢◌, ◌<◌, ◌≤◌, ◌<ℤ◌, ◌^◌, ◌+◌, ◌↔◌, ℕ, ℤ, suc, pos, Bool, List, ◌++◌};
-ghost use Rattle.std.specs.Prelude.{length, Ok, Err, FitsSigned, true, false, [], ◌-◌, Some, None, string_bytes};
+ghost use Rattle.std.specs.Prelude.{length, drop, Ok, Err, FitsSigned, true, false, [], ◌-◌, Some, None, string_bytes};
 ghost use Rattle.std.specs.Prelude.{vec_capacity, vec_len, Vec};
 ghost use Rattle.std.specs.Global.{Global};
 ghost use Rattle.std.specs.Int.{cast_unsigned, from_bool, w32, w64};
 ghost use Rattle.std.specs.List.{All};
 ghost use Rattle.std.specs.Str.{is_utf8};
 ghost use Rattle.buffa_bytes.specs.declared.wire_type.WireType.{WireType};
-ghost use Rattle.buffa_bytes.specs.declared.wire_type.WireType.TheVariants.{Fixed32, Fixed64, LengthDelimited, Varint};
+ghost use Rattle.buffa_bytes.specs.declared.wire_type.WireType.TheVariants.{Fixed32, Fixed64, LengthDelimited};
+ghost use Rattle.buffa_bytes.specs.declared.wire_type.WireType.TheVariants.{Varint};
 ghost use Rattle.buffa_bytes.specs.declared.error.DecodeError.{DecodeError};
 ghost use Rattle.buffa_bytes.specs.declared.error.DecodeError.TheVariants.{OutOfMemory};
+ghost use Rattle.buffa_bytes.specs.declared.error.EncodeError.{EncodeError};
+ghost use Rattle.buffa_bytes.specs.declared.error.MessageSetFault.{MessageSetFault};
+ghost use Rattle.buffa_bytes.specs.ErrorText.{decode_error_text, encode_error_text, message_set_fault_text};
 ghost use Rattle.buffa_bytes.specs.Varint.{IsByte, varint_text, IsVarint, TakesVarint, VarintFault};
+ghost use Rattle.buffa_bytes.specs.Left.{past_no_payload, past_no_tag, past_no_text, past_no_varint};
 ghost use Rattle.buffa_bytes.specs.Number.{IsNumber};
 ghost use Rattle.buffa_bytes.specs.Content.{Content, ContentFault, TakesContent, bytes_in, content_at, content_by};
 ghost use Rattle.buffa_bytes.specs.Content.{number_in};
@@ -33,6 +38,7 @@ ghost use Rattle.buffa_bytes.specs.Values.{delimited_text, int32_at, int32_text,
 
 use crate::blank::Blank;
 use crate::buf::Buf;
+use crate::error::{DecodeError, EncodeError, MessageSetFault};
 use crate::key::{MapKey, PlainKey};
 use crate::limited::Limited;
 use crate::pieces::Pieces;
@@ -40,7 +46,9 @@ use crate::proto::{ProtoBytes, ProtoString};
 use crate::sink::EncodeSink;
 use crate::tag::MAX_FIELD_NUMBER;
 use crate::types::{BOOL_ENCODED_LEN, FIXED32_ENCODED_LEN, FIXED64_ENCODED_LEN};
+use crate::wire_type::WireType;
 use bytes::Bytes;
+use std::fmt;
 
 /// A varint is read exactly where a spelling begins the bytes, and a fault is told exactly where the
 /// grammar has it.
@@ -239,9 +247,25 @@ pub fn values_are_read_of_contents<V>()
         ≡ content_by LengthDelimited (λ c. text_as of (bytes_in c)) bs }
 {}
 
-/// What reads and takes no memory has one answer. It leaves open what is unread after a refusal within a group.
+/// What reads and takes no memory has one answer, and leaves one rest of refused bytes. It leaves open what is unread
+/// after a refusal within a group.
 pub fn answers_are_pinned<X, Y>()
     ensures { AnswerIsPinned X Y }
+{}
+
+/// What refused bytes leave, in the words of the grammar. It leaves groups open, of which a tail is left.
+pub fn rests_are_these()
+    ensures no_varint { (bs : List ℕ) → past_no_varint bs ≡ drop 10 bs }
+    ensures no_number { (bs : List ℕ) (e : DecodeError) → VarintFault bs e → (past_no_tag bs ≡ drop 10 bs)
+        × (past_no_text bs ≡ drop 10 bs) }
+    ensures tag { (bs : List ℕ) (n : ℕ) (rest : List ℕ) → TakesVarint bs n rest → past_no_tag bs ≡ rest }
+    ensures cut { (bs : List ℕ) (n : ℕ) (rest : List ℕ) → TakesVarint bs n rest → length rest < n → past_no_text bs
+        ≡ rest }
+    ensures whole { (bs : List ℕ) (n : ℕ) (rest : List ℕ) → TakesVarint bs n rest → n ≤ length rest → past_no_text bs
+        ≡ drop n rest }
+    ensures payload { (bs : List ℕ) → (past_no_payload Varint bs ≡ drop 10 bs)
+        × (past_no_payload LengthDelimited bs ≡ past_no_text bs) }
+    ensures fixed { (bs : List ℕ) → (past_no_payload Fixed32 bs ≡ bs) × (past_no_payload Fixed64 bs ≡ bs) }
 {}
 
 /// The same of what takes memory. It leaves open whether memory is told where the whole is there, and how much of the
@@ -296,8 +320,8 @@ pub fn buffers_are_these<B: Buf>()
     ensures slice { ShowsBytes (λ s. s.now) ⟦<&'static [u8] as Buf>⟧.unread ⟦<&'static [u8] as Buf>⟧.beyond }
     ensures shared { ShowsBytes (λ b. b) ⟦<Bytes as Buf>⟧.unread ⟦<Bytes as Buf>⟧.beyond }
     ensures pieces { ShowsBytes (λ s. s) ⟦<Pieces<'static> as Buf>⟧.unread ⟦<Pieces<'static> as Buf>⟧.beyond }
-    ensures limited { ShowsFront ⟦<Limited<'static, B> as Buf>⟧.unread (λ s. B.unread s.inner.now) (λ s. s.limit)
-        ⟦<Limited<'static, B> as Buf>⟧.beyond (λ s. B.beyond s.inner.now) (λ s. s.inner.ghost_name) }
+    ensures limited { ShowsFront ⟦<Limited<'static, B> as Buf>⟧.unread ⟦<Limited<'static, B> as Buf>⟧.beyond
+        (λ s. s.inner) (λ s. s.limit) B.unread B.beyond }
 {}
 
 /// What was written to a vector, and its room. It leaves nothing open.
@@ -324,6 +348,22 @@ pub fn own_bytes_are_pinned<P: ProtoBytes, Q: ProtoBytes>()
 pub fn own_keys_are_pinned<K: MapKey, P: PlainKey>()
     ensures key { (a b : K) → K.eq a b ≡ K.same (K.meaning a) (K.meaning b) }
     ensures plain { (a b : P) → (P.eq a b ≡ true) ↔ (P.meaning a ≡ P.meaning b) }
+{}
+
+/// `==` says exactly whether two of these are one. It leaves nothing open.
+pub fn equal_ones_are_one()
+    ensures wire_type { SameIsOne ⟦<WireType as PartialEq>⟧.eq }
+    ensures item { SameIsOne ⟦<MessageSetFault as PartialEq>⟧.eq }
+    ensures decode { SameIsOne ⟦<DecodeError as PartialEq>⟧.eq }
+    ensures encode { SameIsOne ⟦<EncodeError as PartialEq>⟧.eq }
+{}
+
+/// What is printed of each error, in std's words for text. It leaves nothing open.
+pub fn errors_print_these()
+    ensures decode { (e : DecodeError) → ⟦<DecodeError as fmt::Display>⟧.output e ≡ Some (decode_error_text e) }
+    ensures encode { (e : EncodeError) → ⟦<EncodeError as fmt::Display>⟧.output e ≡ Some (encode_error_text e) }
+    ensures item { (e : MessageSetFault) → ⟦<MessageSetFault as fmt::Display>⟧.output e
+        ≡ Some (message_set_fault_text e) }
 {}
 
 /// The number of a wire type is undone, and 6 and 7 are none. Two wire types are one exactly where they are equal.

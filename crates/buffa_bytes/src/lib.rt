@@ -16,8 +16,6 @@ pub mod proto;
 pub mod sink;
 pub mod skip;
 pub mod tag;
-#[cfg(test)]
-mod tests;
 pub mod types;
 pub mod varint;
 pub mod wire_type;

@@ -175,7 +175,8 @@ pub fn enums_are_read_as_numbers<E: Enumeration>()
         ⟦<Repeated<EnumCodec<E>> as ExtensionCodec>⟧.reads }
     ensures packed { ListsThrough (open_number E.of_number) ⟦<PackedRepeated<Int32> as ExtensionCodec>⟧.reads
         ⟦<PackedRepeated<EnumCodec<E>> as ExtensionCodec>⟧.reads }
-    ensures records { WritesThrough (λ v. v.1) ⟦<Int32 as ExtensionCodec>⟧.recs ⟦<EnumCodec<E> as ExtensionCodec>⟧.recs }
+    ensures records { WritesThrough (λ v. v.1) ⟦<Int32 as ExtensionCodec>⟧.recs
+        ⟦<EnumCodec<E> as ExtensionCodec>⟧.recs }
     ensures list_records { WritesThrough (map (λ v. v.1)) ⟦<Repeated<Int32> as ExtensionCodec>⟧.recs
         ⟦<Repeated<EnumCodec<E>> as ExtensionCodec>⟧.recs }
     ensures packed_records { WritesThrough (map (λ v. v.1)) ⟦<PackedRepeated<Int32> as ExtensionCodec>⟧.recs
@@ -183,6 +184,9 @@ pub fn enums_are_read_as_numbers<E: Enumeration>()
     ensures holds { (v : Bool × ℤ) (o : Option (Bool × ℤ)) → ⟦<EnumCodec<E> as ExtensionCodec>⟧.holds v o
         ↔ (o ≡ Some (open_number E.of_number v.1)) }
     ensures list_holds { (vs os : List (Bool × ℤ)) → ⟦<Repeated<EnumCodec<E>> as ExtensionCodec>⟧.holds vs os
+        ↔ (os ≡ map (λ v. open_number E.of_number v.1) vs) }
+    ensures packed_holds { (vs os : List (Bool × ℤ)) →
+        ⟦<PackedRepeated<EnumCodec<E>> as ExtensionCodec>⟧.holds vs os
         ↔ (os ≡ map (λ v. open_number E.of_number v.1) vs) }
 {}
 

@@ -1,17 +1,18 @@
 -- What is read, merged and changed in one way.
-use Rattle.std.proofs.Common.{◌≡◌, ◌⊎◌, inl, inr, ℕ, ◌+◌, ◌<◌, ◌≤◌, Bool, List, [], ◌∷◌, ◌++◌, Option, Some, None, Ok, Err, refl, sym, ap, subst, ◌∙◌, option_map, arith, if◌then◌else◌}
+use Rattle.std.proofs.Common.{◌≡◌, ◌≢◌, ◌⊎◌, inl, inr, ℕ, false, true, List, [], ◌∷◌, ◌++◌, Option, Some, None, Ok, Err, refl, sym, ap, subst, ◌∙◌, option_map, arith, if◌then◌else◌}
 use Rattle.std.specs.Option.{option_and_then}
 use Rattle.std.specs.List.{cons_option, filter_map}
 use Rattle.buffa_bytes.specs.declared.error.DecodeError.{DecodeError}
+use Rattle.buffa_bytes.specs.declared.error.DecodeError.TheVariants.{OutOfMemory}
 use Rattle.buffa_wire.specs.BudgetLeft.{BudgetLeft, Lacks, Pays, PaysAtMost, nothing, plus}
 use Rattle.buffa_wire.specs.Message.{MergeFault}
 use Rattle.buffa_wire.specs.Records.{Datum, varint, fixed32, fixed64, bytes, group}
-use Rattle.buffa_codec.specs.Reading.{Covers, ReadsAll, ReadsList, elements, full, last_read, unpacked}
-use Rattle.buffa_codec.specs.Texts.{left_over}
+use Rattle.buffa_codec.specs.Reading.{Covers, ReadsAll, ReadsList, elements, full, minus, unpacked}
+use Rattle.buffa_codec.specs.Texts.{left_over, minus_nothing}
 use Rattle.buffa_ext.specs.Defaults.{IsDefaulted}
-use Rattle.buffa_ext.specs.Messages.{LeavesOf, cost_all, merged_all, message_of, texts_in}
-use Rattle.buffa_ext.specs.MessageFacts.{left_yes}
-use Rattle.buffa_ext.specs.Pinned.{DefaultIsPinned, ListIsExact, MergingIsPinned}
+use Rattle.buffa_ext.specs.Messages.{AreMerged, IsTextRefused, LeavesOf, MergingStaysWithin, cost_all, merged_all, message_of, texts_in}
+use Rattle.buffa_ext.specs.MessageFacts.{all_merged, left_yes}
+use Rattle.buffa_ext.specs.Pinned.{ListIsExact, MergingIsPinned}
 
 same_some : {A : Type 0} (x y : A) → Some x ≡ Some y → x ≡ y
 same_some x y h = cc
@@ -22,26 +23,106 @@ some_none x h = cc
 not_both : {A P : Type 0} (x : A) (o : Option A) → o ≡ Some x → o ≡ None → P
 not_both x o h k = some_none x (sym h ∙ k)
 
--- ---- texts that are merged
+no_ok : {P : Type 0} → false ≡ true → P
+no_ok h = cc
 
-module _ {X : Type 0} (merged : X → List ℕ → Option X) (cost : List ℕ → BudgetLeft) where
+-- ---- records that are merged
+
+same_head : {A : Type 0} (x y : A) (xs ys : List A) → x ∷ xs ≡ y ∷ ys → x ≡ y
+same_head x y xs ys h = cc
+
+same_tail : {A : Type 0} (x y : A) (xs ys : List A) → x ∷ xs ≡ y ∷ ys → xs ≡ ys
+same_tail x y xs ys h = cc
+
+module _ {X : Type 0} (merged : X → List ℕ → Option X) (cost : List ℕ → BudgetLeft) (held : Datum → Option (List ℕ)) (takes : Datum → Type 0) where
   paid_not_lacked : (before need left : BudgetLeft) → Pays before need left → Lacks before need → ⊥
   paid_not_lacked before need left p (inl h) = omega (arith, p, h)
   paid_not_lacked before need left p (inr h) = omega (arith, p, h)
+
+  paid_all_not_lacked : (before need more left : BudgetLeft) → Pays before (plus need more) left → Lacks before need → ⊥
+  paid_all_not_lacked before need more left p (inl h) = omega (arith, p, h)
+  paid_all_not_lacked before need more left p (inr h) = omega (arith, p, h)
 
   no_fault : (o : Option X) (need before left : BudgetLeft) (new : X) (e : DecodeError) → o ≡ Some new → Pays before need left → MergeFault o need before e → ⊥
   no_fault o need before left new e h p (inl k) = paid_not_lacked before need left p k
   no_fault o need before left new e h p (inr k) = not_both new o h k.0
 
-  pub merging_is_pinned : MergingIsPinned merged cost
+  -- the text of a record means no value, or isn't covered
+  abbrev Stuck : Datum → X → BudgetLeft → Type 0
+  Stuck d old before = (t : List ℕ) × (e : DecodeError) × (held d ≡ Some t) × MergeFault (merged old t) (cost t) before e
+
+  abbrev Done : List Datum → X → BudgetLeft → X → BudgetLeft → Type 0
+  Done ds old before mid left = AreMerged merged cost (texts_in held ds) old before mid left
+
+  not_then : (o : Option X) (ts : List (List ℕ)) (mid : X) (need before left : BudgetLeft) (e : DecodeError) → option_and_then (λ w. merged_all merged w ts) o ≡ Some mid
+      → Pays before (plus need (cost_all cost ts)) left → MergeFault o need before e → ⊥
+  not_then o ts mid need before left e h p (inl k) = paid_all_not_lacked before need (cost_all cost ts) left p k
+  not_then o ts mid need before left e h p (inr k) = some_none mid (sym h ∙ ap (option_and_then (λ w. merged_all merged w ts)) k.0)
+
+  texts_on : (d : Datum) (ds : List Datum) (o : Option (List ℕ)) → held d ≡ o → texts_in held (d ∷ ds) ≡ cons_option o (texts_in held ds)
+  texts_on d ds o h = ap (λ z. cons_option z (texts_in held ds)) h
+
+  -- what is stuck isn't done
+  stuck_not_done : (d : Datum) (ds : List Datum) (old mid : X) (before left : BudgetLeft) → Stuck d old before → Done (d ∷ ds) old before mid left → ⊥
+  stuck_not_done d ds old mid before left (t, e, h, fault) done =
+      let k = subst (λ l. AreMerged merged cost l old before mid left) (texts_on d ds (Some t) h) done in
+      not_then (merged old t) (texts_in held ds) mid (cost t) before left e k.0 k.1 fault
+
+  stuck_from : (d : Datum) (old mid : X) (before left : BudgetLeft) → Done [] old before mid left → Stuck d mid left → Stuck d old before
+  stuck_from d old mid before left done stuck =
+      let same : left ≡ before = left_over before nothing left done.1 ∙ sym (minus_nothing before) in
+      subst (λ b. Stuck d old b) same (subst (λ x. Stuck d x left) (sym (same_some old mid done.0)) stuck)
+
+  -- what follows the first record goes on from what it leaves
+  module _ (f g : List Datum) (mid mid' : X) (left left' : BudgetLeft) (again : (w : X) (b : BudgetLeft) → Done f w b mid left → Done g w b mid' left' → f ≡ g) where
+    over_text : (o : Option X) (c before : BudgetLeft) → option_and_then (λ w. merged_all merged w (texts_in held f)) o ≡ Some mid → Pays before (plus c (cost_all cost (texts_in held f))) left
+        → option_and_then (λ w. merged_all merged w (texts_in held g)) o ≡ Some mid' → Pays before (plus c (cost_all cost (texts_in held g))) left' → f ≡ g
+    over_text None c before h p k q = some_none mid (sym h)
+    over_text (Some w) c before h p k q = again w (minus before c) (h, (omega (arith, p), omega (arith, p))) (k, (omega (arith, q), omega (arith, q)))
+
+    over_record : (d : Datum) (o : Option (List ℕ)) (old : X) (before : BudgetLeft) → held d ≡ o → Done (d ∷ f) old before mid left → Done (d ∷ g) old before mid' left' → f ≡ g
+    over_record d None old before e h k =
+        again old before (subst (λ l. AreMerged merged cost l old before mid left) (texts_on d f None e) h) (subst (λ l. AreMerged merged cost l old before mid' left') (texts_on d g None e) k)
+    over_record d (Some t) old before e h k =
+        let p = subst (λ l. AreMerged merged cost l old before mid left) (texts_on d f (Some t) e) h in
+        let q = subst (λ l. AreMerged merged cost l old before mid' left') (texts_on d g (Some t) e) k in
+        over_text (merged old t) (cost t) before p.0 p.1 q.0 q.1
+
+  -- merging stops at one record
+  one_stop : (f g : List Datum) (d c : Datum) (fb gb : List Datum) (old mid mid' : X) (before left left' : BudgetLeft) → f ++ d ∷ fb ≡ g ++ c ∷ gb
+      → Done f old before mid left → Stuck d mid left → Done g old before mid' left' → Stuck c mid' left' → f ≡ g
+  one_stop [] [] d c fb gb old mid mid' before left left' cut h s k r = refl
+  one_stop [] (y ∷ g) d c fb gb old mid mid' before left left' cut h s k r =
+      absurd (stuck_not_done y g old mid' before left' (subst (λ z. Stuck z old before) (same_head d y fb (g ++ c ∷ gb) cut) (stuck_from d old mid before left h s)) k)
+  one_stop (x ∷ f) [] d c fb gb old mid mid' before left left' cut h s k r =
+      absurd (stuck_not_done x f old mid before left (subst (λ z. Stuck z old before) (sym (same_head x c (f ++ d ∷ fb) gb cut)) (stuck_from c old mid' before left' k r)) h)
+  one_stop (x ∷ f) (y ∷ g) d c fb gb old mid mid' before left left' cut h s k r =
+      let head = same_head x y (f ++ d ∷ fb) (g ++ c ∷ gb) cut in
+      let rest = over_record f g mid mid' left left'
+      (λ w b p q. one_stop f g d c fb gb w mid mid' b left left' (same_tail x y (f ++ d ∷ fb) (g ++ c ∷ gb) cut) p s q r)
+      x (held x) old before refl h (subst (λ z. Done (z ∷ g) old before mid' left') (sym head) k) in
+      ap (λ z. z ∷ f) head ∙ ap (λ l. y ∷ l) rest
+
+  stuck_by : (d : Datum) (mid : X) (left after : BudgetLeft) (e : DecodeError) → e ≢ OutOfMemory → IsTextRefused merged cost held takes d mid left e after → Stuck d mid left
+  stuck_by d mid left after e ne r = (r.0, e, r.1, r.4 ne)
+
+  pub merging_is_pinned : MergingIsPinned merged cost held takes
   merging_is_pinned = record {
-    alike = λ bs old new newer before left over f g h k. (
+    alike = λ ds old new newer before left over f g h k. (
       h.0 ∙ sym k.0,
-      same_some new newer (sym h.1 ∙ k.1),
-      left_over before (cost_all cost bs) left h.2 ∙ sym (left_over before (cost_all cost bs) over k.2),
+      same_some new newer (sym h.1.0 ∙ k.1.0),
+      left_over before (cost_all cost (texts_in held ds)) left h.1.1 ∙ sym (left_over before (cost_all cost (texts_in held ds)) over k.1.1),
     );
-    refused = λ bs old new newer before left over f e h k kept. no_fault (merged_all merged old bs) (cost_all cost bs) before left new e h.1 h.2 (k.1 kept);
+    refused = λ ds old new newer before left over f e h k kept.
+        no_fault (merged_all merged old (texts_in held ds)) (cost_all cost (texts_in held ds)) before left new e h.1.0 h.1.1 ((all_merged merged cost held takes ds old newer before over (Err e) k).1 kept);
+    stopped = λ ds old before left over e f h k kept also.
+        one_stop h.0 k.0 h.1 k.1 h.2 k.2 old h.3 k.3 before h.4 k.4 (sym h.5 ∙ k.5) h.6 (stuck_by h.1 h.3 h.4 left e kept h.7) k.6 (stuck_by k.1 k.3 k.4 over f also k.7);
   }
+
+  -- and spends no more than there is to spend
+  pub merging_stays_within : MergingStaysWithin merged cost held takes
+  merging_stays_within ds old new before after (Ok f) h = ((omega (arith, h.1.1), omega (arith, h.1.1), omega (arith, h.1.1), omega (arith, h.1.1)), λ t. (omega (arith, h.1.1), omega (arith, h.1.1)))
+  merging_stays_within ds old new before after (Err e) h = ((all_merged merged cost held takes ds old new before after (Err e) h).0, λ f. no_ok f)
 
 -- ---- lists of messages
 

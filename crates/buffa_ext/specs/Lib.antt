@@ -4,3 +4,4 @@ pub mod Defaults
 pub mod Messages
 pub mod MessageFacts
 pub mod Pinned
+pub mod Names

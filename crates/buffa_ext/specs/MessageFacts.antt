@@ -1,9 +1,11 @@
 -- What merging the texts of records comes to.
-use Rattle.std.proofs.Common.{◌≡◌, ℕ, ◌+◌, ◌<◌, ◌≤◌, ◌^◌, Bool, true, false, List, [], ◌∷◌, ◌++◌, ◌&&◌, ◌||◌, nat_le, nat_lt, length, Option, Some, None, Result, Ok, Err, inl, inr, refl, sym, ap, subst, ◌∙◌, arith, if◌then◌else◌}
+use Rattle.std.proofs.Common.{◌≡◌, ◌≢◌, ℕ, ◌+◌, ◌<◌, ◌≤◌, ◌^◌, Bool, true, false, List, [], ◌∷◌, ◌++◌, ◌&&◌, ◌||◌, nat_le, nat_lt, length, Option, Some, None, Result, Ok, Err, IfOk, inl, inr, refl, sym, ap, subst, ◌∙◌, arith, if◌then◌else◌}
 use Rattle.std.proofs.lemmas.Grind.{common_steps}
 use Rattle.std.specs.Option.{option_and_then}
 use Rattle.std.specs.List.{cons_option}
+use Rattle.std.proofs.lemmas.List.Elements.{filter_map-append}
 use Rattle.buffa_bytes.specs.declared.error.DecodeError.{DecodeError}
+use Rattle.buffa_bytes.specs.declared.error.DecodeError.TheVariants.{OutOfMemory}
 use Rattle.buffa_bytes.specs.declared.error.EncodeError.{EncodeError}
 use Rattle.buffa_bytes.specs.declared.error.EncodeError.TheVariants.{GroupRefused, MessageTooLarge}
 use Rattle.buffa_bytes.proofs.StepLemmas.{agree_ok}
@@ -15,8 +17,8 @@ use Rattle.buffa_wire.specs.Records.{Datum, group, records_of, records_height}
 use Rattle.buffa_wire.specs.Text.{records_text, fields_text}
 use Rattle.buffa_wire.proofs.LoopLemmas.{list_is_read}
 use Rattle.buffa_wire.proofs.ParseLemmas.{one_reading, text_parses}
-use Rattle.buffa_codec.specs.Reading.{Covers}
-use Rattle.buffa_ext.specs.Messages.{LeavesOf, IsAllMerged, IsAnswer, cost_all, group_held, group_of, group_refusal, is_left, merged_all, message_of, or_none, some_there, text_refusal, texts_in, why_refused}
+use Rattle.buffa_codec.specs.Reading.{Covers, full}
+use Rattle.buffa_ext.specs.Messages.{LeavesOf, IsAllMerged, IsAnswer, IsTextRefused, MergesRecords, cost_all, group_held, group_of, group_refusal, is_left, merged_all, message_of, or_none, some_there, text_refusal, texts_in, why_refused}
 
 le_yes : (m n : ℕ) → m ≤ n → nat_le m n ≡ true
 le_yes m n h = grind (arith, common_steps)
@@ -52,6 +54,10 @@ left_true : (b need : BudgetLeft) → is_left b need ≡ true → Covers b need
 left_true b need h =
     let t = both_true (nat_le need.unknown b.unknown) (nat_le need.memory b.memory) h in
     (true_le need.unknown b.unknown t.0, true_le need.memory b.memory t.1)
+
+-- the default budgets
+pub is_full : (b : BudgetLeft) → b.unknown ≡ 1000000 → b.memory ≡ 268435456 → b ≡ full
+is_full b h k = rw (h, k) refl
 
 some_if : {X : Type 0} (b : Bool) (o : Option X) (v : X) → (if b then o else None) ≡ Some v → b ≡ true
 some_if true o v h = refl
@@ -173,6 +179,58 @@ module _ {X : Type 0} (merged : X → List ℕ → Option X) (cost : List ℕ �
             (subst (λ l. MergeFault (merged_all merged old l) (plus (cost_all cost xs) (plus (cost_all cost ys) (cost_all cost zs))) b e) (sym cut)
             (still xs ys zs old mid b m e p.1 p.2 (q.1 ne))),
       )
+
+  -- ---- records that are merged, or refused
+
+  alone : (o : Option X) → option_and_then (λ w. merged_all merged w []) o ≡ None → o ≡ None
+  alone None h = refl
+  alone (Some w) h = cc
+
+  alone_too : (o : Option X) → o ≡ None → option_and_then (λ w. merged_all merged w []) o ≡ None
+  alone_too o h = ap (option_and_then (λ w. merged_all merged w [])) h
+
+  fault_alone : (t : List ℕ) (mid : X) (m : BudgetLeft) (err : DecodeError) → MergeFault (merged_all merged mid (t ∷ [])) (plus (cost t) nothing) m err → MergeFault (merged mid t) (cost t) m err
+  fault_alone t mid m err (inl (inl h)) = inl (inl (omega (arith, h)))
+  fault_alone t mid m err (inl (inr h)) = inl (inr (omega (arith, h)))
+  fault_alone t mid m err (inr h) = inr (alone (merged mid t) h.0, h.1)
+
+  fault_of_one : (t : List ℕ) (mid : X) (m : BudgetLeft) (err : DecodeError) → MergeFault (merged mid t) (cost t) m err → MergeFault (merged_all merged mid (t ∷ [])) (plus (cost t) nothing) m err
+  fault_of_one t mid m err (inl (inl h)) = inl (inl (omega (arith, h)))
+  fault_of_one t mid m err (inl (inr h)) = inl (inr (omega (arith, h)))
+  fault_of_one t mid m err (inr h) = inr (alone_too (merged mid t) h.0, h.1)
+
+  -- the text of one record is refused
+  pub text_refused : (held : Datum → Option (List ℕ)) (takes : Datum → Type 0) (d : Datum) (o : Option (List ℕ)) (mid new : X) (m a : BudgetLeft) (err : DecodeError) → held d ≡ o → texts_in held (d ∷ []) ≢ []
+      → (err ≡ OutOfMemory → takes d) → IsAllMerged merged cost (texts_in held (d ∷ [])) mid m (Err err) new a → IsTextRefused merged cost held takes d mid m err a
+  text_refused held takes d None mid new m a err e some full k = absurd (some (ap (λ z. cons_option z []) e))
+  text_refused held takes d (Some t) mid new m a err e some full k =
+      let same : texts_in held (d ∷ []) ≡ t ∷ [] = ap (λ z. cons_option z []) e in
+      let q = subst (λ l. IsAllMerged merged cost l mid m (Err err) new a) same k in
+      (t, e, (omega (arith, q.0), omega (arith, q.0), omega (arith, q.0), omega (arith, q.0)), full, λ ne. fault_alone t mid m err (q.1 ne))
+
+  one_of_all : (held : Datum → Option (List ℕ)) (takes : Datum → Type 0) (d : Datum) (mid new : X) (m a : BudgetLeft) (err : DecodeError) → IsTextRefused merged cost held takes d mid m err a
+      → IsAllMerged merged cost (texts_in held (d ∷ [])) mid m (Err err) new a
+  one_of_all held takes d mid new m a err h =
+      subst (λ l. IsAllMerged merged cost l mid m (Err err) new a) (sym (ap (λ z. cons_option z []) h.1))
+      ((omega (arith, h.2), omega (arith, h.2), omega (arith, h.2), omega (arith, h.2)), λ ne. fault_of_one h.0 mid m err (h.4 ne))
+
+  -- so the texts of all records are merged, or refused
+  pub all_merged : (held : Datum → Option (List ℕ)) (takes : Datum → Type 0) (ds : List Datum) (old new : X) (before after : BudgetLeft) (r : Result Bool DecodeError)
+      → MergesRecords merged cost held takes ds old before r new after → IsAllMerged merged cost (texts_in held ds) old before r new after
+  all_merged held takes ds old new before after (Ok f) h = (h.0, h.1.0, h.1.1)
+  all_merged held takes ds old new before after (Err e) (front, d, back, mid, left, cut, done, refused) =
+      merged_fault (texts_in held front) (texts_in held (d ∷ [])) (texts_in held back) (texts_in held ds) old mid new (some_there (texts_in held front)) e before left after
+      (ap (texts_in held) cut ∙ filter_map-append held front (d ∷ back) ∙ ap (λ l. texts_in held front ++ l) (filter_map-append held (d ∷ []) back))
+      (refl, done.0, done.1) (one_of_all held takes d mid new left after e refused)
+
+  -- the answer after merging records into a blank is the message of their texts
+  pub records_answer : {V E : Type 0} (held : Datum → Option (List ℕ)) (takes : Datum → Type 0) (ds : List Datum) (old blank new : X) (before left after : BudgetLeft) (r : Result Bool DecodeError) (x : Result V E) (f : V → Option X)
+      → old ≡ blank → before ≡ left → MergesRecords merged cost held takes ds old before r new after → IfOk x (λ o. IsAnswer r new (f o)) → IfOk x (λ o. f o ≡ message_of merged cost blank left (texts_in held ds))
+  records_answer held takes ds old blank new before left after r (Ok o) f s b m a =
+      let whole = all_merged held takes ds old new before after r m in
+      answers blank new left after (texts_in held ds) r (f o)
+      (subst (λ y. IsAllMerged merged cost (texts_in held ds) blank y r new after) b (subst (λ y. IsAllMerged merged cost (texts_in held ds) y before r new after) s whole)) a
+  records_answer held takes ds old blank new before left after r (Err e) f s b m a = tt
 
   -- one record, read back
   pub one_back : (held : Datum → Option (List ℕ)) (blank v : X) (b : BudgetLeft) (d : Datum) (t : List ℕ) → held d ≡ Some t → merged blank t ≡ Some v

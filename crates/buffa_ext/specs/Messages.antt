@@ -1,6 +1,6 @@
 -- Extensions that hold messages: the bytes of their records are merged in order.
 -- Source: the protobuf encoding guide, "Last One Wins".
-use Rattle.std.specs.Prelude.{◌≡◌, ◌≢◌, ◌≤◌, ℕ, ◌^◌, Bool, true, false, List, [], ◌∷◌, ◌&&◌, nat_le, nat_lt, length, Option, Some, None, Result, Ok, Err, IfSome, MatchResult, if◌then◌else◌}
+use Rattle.std.specs.Prelude.{◌≡◌, ◌≢◌, ◌↔◌, ◌≤◌, ℕ, ◌^◌, Bool, true, false, List, [], ◌∷◌, ◌++◌, ◌&&◌, nat_le, nat_lt, length, Option, Some, None, Result, Ok, Err, IfSome, IsOk, MatchResult, if◌then◌else◌}
 use Rattle.std.specs.Option.{option_and_then}
 use Rattle.std.specs.List.{filter_map}
 use Rattle.buffa_bytes.specs.declared.error.DecodeError.{DecodeError}
@@ -8,7 +8,8 @@ use Rattle.buffa_bytes.specs.declared.error.DecodeError.TheVariants.{OutOfMemory
 use Rattle.buffa_bytes.specs.declared.error.EncodeError.{EncodeError}
 use Rattle.buffa_bytes.specs.declared.error.EncodeError.TheVariants.{GroupRefused, MessageTooLarge}
 use Rattle.buffa_wire.specs.BudgetLeft.{BudgetLeft, Pays, PaysAtMost, nothing, plus}
-use Rattle.buffa_wire.specs.Message.{MergeFault, ReachesTag}
+use Rattle.buffa_wire.specs.Message.{BeginsField, MergeFault}
+use Rattle.buffa_wire.specs.declared.context.DecodeContext.{DecodeContext}
 use Rattle.buffa_wire.specs.Parse.{Fits}
 use Rattle.buffa_wire.specs.Records.{Datum, group, records_of}
 use Rattle.buffa_wire.specs.RecordReading.{list_at}
@@ -43,7 +44,11 @@ abbrev pub message_of : {X : Type 0} → (X → List ℕ → Option X) → (List
 message_of merged cost blank left [] = None
 message_of merged cost blank left (b ∷ bs) = if is_left left (cost_all cost (b ∷ bs)) then merged_all merged blank (b ∷ bs) else None
 
--- the texts of a message cost together no more than a pair of default budgets
+-- records are read as the message of the texts in them
+abbrev pub ReadsMessages : {X : Type 0} → (List Datum → Option X → Type 0) → (X → List ℕ → Option X) → (List ℕ → BudgetLeft) → X → (Datum → Option (List ℕ)) → Type 0
+ReadsMessages {X = X} reads merged cost blank held = (ds : List Datum) (o : Option X) → reads ds o ↔ (o ≡ message_of merged cost blank full (texts_in held ds))
+
+-- the texts of a message that is read cost together no more than a pair of default budgets
 abbrev pub StaysWithin : {X : Type 0} → (X → List ℕ → Option X) → (List ℕ → BudgetLeft) → X → (Datum → Option (List ℕ)) → Type 0
 StaysWithin {X = X} merged cost blank held =
     (ds : List Datum) (v : X) → message_of merged cost blank full (texts_in held ds) ≡ Some v → Covers full (cost_all cost (texts_in held ds))
@@ -52,6 +57,12 @@ StaysWithin {X = X} merged cost blank held =
 abbrev pub LeavesOf : {X : Type 0} → Option X → BudgetLeft → BudgetLeft → BudgetLeft → Type 0
 LeavesOf (Some v) before need after = Pays before need after
 LeavesOf None before need after = PaysAtMost before need after
+
+-- what reading the message in one record may leave
+abbrev pub LeavesOfRecord : {X : Type 0} → (X → List ℕ → Option X) → (List ℕ → BudgetLeft) → X → (Datum → Option (List ℕ)) → BudgetLeft → Datum → BudgetLeft → Type 0
+LeavesOfRecord merged cost blank held b d left =
+    let texts = texts_in held (d ∷ []) in
+    LeavesOf (message_of merged cost blank b texts) b (cost_all cost texts) left
 
 -- there is a text
 abbrev pub some_there : List (List ℕ) → Bool
@@ -66,15 +77,57 @@ IsAllMerged merged cost bs old before r new after =
     (λ some. (some ≡ some_there bs) × (merged_all merged old bs ≡ Some new) × Pays before (cost_all cost bs) after)
     (λ e. PaysAtMost before (cost_all cost bs) after × (e ≢ OutOfMemory → MergeFault (merged_all merged old bs) (cost_all cost bs) before e))
 
+-- merging the text in one record in a context
+abbrev pub MergesOne : {X : Type 0} → (ℕ → X → List ℕ → Option X) → (ℕ → List ℕ → BudgetLeft) → (Datum → Option (List ℕ)) → DecodeContext → Datum → X → Result Bool DecodeError → X → BudgetLeft → Type 0
+MergesOne merged cost held ctx d old r new after = IsAllMerged (merged ctx.depth) (cost ctx.depth) (texts_in held (d ∷ [])) old ctx.budget.now r new after
+
+-- texts are merged in order, and exactly what they cost is spent
+abbrev pub AreMerged : {X : Type 0} → (X → List ℕ → Option X) → (List ℕ → BudgetLeft) → List (List ℕ) → X → BudgetLeft → X → BudgetLeft → Type 0
+AreMerged merged cost bs old before new after = (merged_all merged old bs ≡ Some new) × Pays before (cost_all cost bs) after
+
+-- the text of a record is refused: at most its own cost is spent, memory is told only of a record that takes some, and
+-- anything else tells why the text isn't merged
+abbrev pub IsTextRefused : {X : Type 0} → (X → List ℕ → Option X) → (List ℕ → BudgetLeft) → (Datum → Option (List ℕ)) → (Datum → Type 0) → Datum → X → BudgetLeft → DecodeError → BudgetLeft → Type 0
+IsTextRefused merged cost held takes d old before e after =
+    (t : List ℕ) × (held d ≡ Some t) × PaysAtMost before (cost t) after × (e ≡ OutOfMemory → takes d)
+    × (e ≢ OutOfMemory → MergeFault (merged old t) (cost t) before e)
+
+-- merging records stops at one: all before it are merged and paid for, its own text is refused with what they leave, and
+-- nothing is said of those behind it
+abbrev pub StopsAt : {X : Type 0} → (X → List ℕ → Option X) → (List ℕ → BudgetLeft) → (Datum → Option (List ℕ)) → (Datum → Type 0) → List Datum → X → BudgetLeft → DecodeError → BudgetLeft → Type 0
+StopsAt {X = X} merged cost held takes ds old before e after =
+    (front : List Datum) × (d : Datum) × (back : List Datum) × (mid : X) × (left : BudgetLeft) × (ds ≡ front ++ d ∷ back)
+    × AreMerged merged cost (texts_in held front) old before mid left × IsTextRefused merged cost held takes d mid left e after
+
+-- merging the texts in records tells whether there was one; or it stops at a record
+abbrev pub MergesRecords : {X : Type 0} → (X → List ℕ → Option X) → (List ℕ → BudgetLeft) → (Datum → Option (List ℕ)) → (Datum → Type 0) → List Datum → X → BudgetLeft → Result Bool DecodeError → X → BudgetLeft → Type 0
+MergesRecords merged cost held takes ds old before r new after =
+    MatchResult r
+    (λ some. (some ≡ some_there (texts_in held ds)) × AreMerged merged cost (texts_in held ds) old before new after)
+    (λ e. StopsAt merged cost held takes ds old before e after)
+
+-- whatever merging records answers, at most what their texts cost together is spent; and where they are merged that was
+-- there to be spent
+abbrev pub MergingStaysWithin : {X : Type 0} → (X → List ℕ → Option X) → (List ℕ → BudgetLeft) → (Datum → Option (List ℕ)) → (Datum → Type 0) → Type 0
+MergingStaysWithin {X = X} merged cost held takes =
+    (ds : List Datum) (old new : X) (before after : BudgetLeft) (r : Result Bool DecodeError) → MergesRecords merged cost held takes ds old before r new after
+    → PaysAtMost before (cost_all cost (texts_in held ds)) after × (IsOk r → Covers before (cost_all cost (texts_in held ds)))
+
+-- a record is such, and those before it are merged into a blank under a pair of default budgets
+abbrev pub ReachesRecord : {X : Type 0} → (X → List ℕ → Option X) → (List ℕ → BudgetLeft) → X → (Datum → Option (List ℕ)) → (Datum → Type 0) → List Datum → Type 0
+ReachesRecord {X = X} merged cost blank held takes ds =
+    (front : List Datum) × (d : Datum) × (back : List Datum) × (mid : X) × (left : BudgetLeft) × (ds ≡ front ++ d ∷ back)
+    × AreMerged merged cost (texts_in held front) blank full mid left × takes d
+
 -- what is answered after merging: the message where a text was there, and none after a fault
 abbrev pub IsAnswer : {X : Type 0} → Result Bool DecodeError → X → Option X → Type 0
 IsAnswer (Ok true) v o = o ≡ Some v
 IsAnswer (Ok false) v o = o ≡ None
 IsAnswer (Err e) v o = (o ≡ None) × (e ≢ OutOfMemory)
 
--- a text is there, and after some of its fields a tag
-abbrev pub ReachesTagIn : (Datum → Option (List ℕ)) → ℕ → Datum → Type 0
-ReachesTagIn held n d = IfSome (held d) (ReachesTag n)
+-- a text is there, and a field begins it
+abbrev pub BeginsFieldIn : (Datum → Option (List ℕ)) → Datum → Type 0
+BeginsFieldIn held d = IfSome (held d) BeginsField
 
 -- the records that bytes are, or none
 abbrev pub or_none : Result (List (ℕ × Datum)) DecodeError → List (ℕ × Datum)
@@ -84,6 +137,10 @@ or_none (Err e) = []
 -- the group of a message's text, and why there is none
 abbrev pub group_of : List ℕ → Datum
 group_of text = group (records_of (or_none (list_at 100 1000000 text)))
+
+-- the texts in the group of a message's text: that one
+abbrev pub group_texts : List ℕ → List (List ℕ)
+group_texts text = texts_in group_held (group_of text ∷ [])
 
 abbrev pub why_refused : Result (List (ℕ × Datum)) DecodeError → Option EncodeError
 why_refused (Ok rs) = None

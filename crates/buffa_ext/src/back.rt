@@ -32,8 +32,9 @@ pub fn set_then_read<M: ExtensionSet, C: ExtensionCodec, D>(
     ensures value { IfOk result (λ o. C.holds (C.meaning value) (C.answer o)) }
     ensures ok { OnOk result (IsSet ext.now.number (C.recs (C.meaning value)) (M.fields_of message.old)
         (M.fields_of message.new)) }
-    ensures err { OnErr result ((message.new ≡ message.old) ⊎ IsSetUnread ext.now.number (C.recs (C.meaning value))
-        (C.refusal (C.meaning value)) C.takes (M.fields_of message.old) (M.fields_of message.new)) }
+    ensures err { OnErr result (let v = C.meaning value in (message.new ≡ message.old)
+        ⊎ IsSetUnread ext.now.number (C.recs v) (C.refusal v) C.takes (M.fields_of message.old)
+        (M.fields_of message.new)) }
     ensures full { OnErr result ((C.recs (C.meaning value) ≢ []) ⊎ C.takes (C.recs (C.meaning value))) }
     ensures room { (M.fields_of message.old).spare ≤ (M.fields_of message.new).spare
         + length (C.recs (C.meaning value)) }

@@ -11,17 +11,18 @@ ghost use Rattle.buffa_wire.specs.BudgetLeft.{BudgetLeft};
 ghost use Rattle.buffa_wire.specs.Parse.{Fits};
 ghost use Rattle.buffa_wire.specs.Records.{Datum, bytes as held_bytes, records_of};
 ghost use Rattle.buffa_codec.specs.Pinned.{OneAnswer};
-ghost use Rattle.buffa_codec.specs.Reading.{Has, HasByte, bytes_held, full};
+ghost use Rattle.buffa_codec.specs.Reading.{HasByte, bytes_held};
 ghost use Rattle.buffa_codec.specs.Sub.{sub};
-ghost use Rattle.buffa_ext.specs.Messages.{IsReadBack, LeavesOf, ReachesTagIn, StaysWithin, cost_all, group_held};
-ghost use Rattle.buffa_ext.specs.Messages.{group_of, group_refusal, message_of, text_refusal, texts_in};
+ghost use Rattle.buffa_ext.specs.Messages.{BeginsFieldIn, IsReadBack, LeavesOfRecord, MergingStaysWithin};
+ghost use Rattle.buffa_ext.specs.Messages.{ReachesRecord, ReadsMessages, StaysWithin, cost_all, group_held, group_of};
+ghost use Rattle.buffa_ext.specs.Messages.{group_refusal, group_texts, message_of, text_refusal, texts_in};
 ghost use Rattle.buffa_ext.specs.Pinned.{ClearIsPinned, DefaultIsPinned, ListIsExact, MergingIsPinned, SetIsPinned};
 ghost use Rattle.buffa_ext.specs.Steps.{Change, ClearsAreOne, IsExactlySet, KeepsTheRest, LeavesOthers};
 ghost use Rattle.buffa_ext.specs.Steps.{ReadsHistory, SecondCounts, StandsLast, TakesOut, TakesThePlace, after, history};
 
 use crate::descriptor::{Declared, Make, NoDefault};
 use crate::message::{GroupCodec, MessageCodec, MessageIn};
-use crate::record::{Delimited, MessageRecord};
+use crate::record::{Delimited, Grouped, MessageRecord};
 use buffa_codec::{ExtensionCodec, LastWins, Repeated, SingularCodec};
 use buffa_wire::{Message, MessageSpec};
 use std::alloc::{AllocError, Global};
@@ -57,8 +58,8 @@ pub fn reads_after_changes<C: ExtensionCodec>()
 
 /// A value that was set is what is read, also after changes of other numbers.
 pub fn set_values_are_read<C: ExtensionCodec>()
-    ensures { (n : ℕ) (rs : List (ℕ × Datum)) (cs : List Change) (v : C.Meaning) (o : C.Answer) → C.fits v → C.normal v →
-        history n rs cs ≡ C.recs v → C.reads (sub n (after rs cs)) o → C.holds v o }
+    ensures { (n : ℕ) (rs : List (ℕ × Datum)) (cs : List Change) (v : C.Meaning) (o : C.Answer) → C.fits v →
+        C.normal v → history n rs cs ≡ C.recs v → C.reads (sub n (after rs cs)) o → C.holds v o }
 {}
 
 /// Two sets are the second, and two clears are one.
@@ -67,36 +68,43 @@ pub fn last_set_counts()
     ensures clears { ClearsAreOne }
 {}
 
-/// The records that are merged into one message cost together no more than a pair of default budgets.
+/// The records that are read as one message cost together no more than a pair of default budgets; and merging
+/// records under any budget never spends more than their texts cost together, nor more than was there.
 pub fn messages_stay_within_a_budget<K: MessageRecord, M: Message>()
-    ensures { StaysWithin (M.merged 100) (M.cost 100) M.blank_is K.held }
+    ensures read { StaysWithin (M.merged 100) (M.cost 100) M.blank_is K.held }
+    ensures merged { MergingStaysWithin (M.merged 100) (M.cost 100) K.held (K.takes 100) }
 {}
 
 /// A message is read of the bytes of all records of bytes of its number, or of the records in all its
 /// groups, merged in order. A value is read back whose type says so, and whose text isn't too deep, nor
 /// costs more than the default budgets.
 pub fn messages_are_read<M: Message>()
-    ensures delimited { (ds : List Datum) (o : Option M.Meaning) → ⟦<MessageCodec<M> as ExtensionCodec>⟧.reads ds o
-        ↔ (o ≡ message_of (M.merged 100) (M.cost 100) M.blank_is full (texts_in bytes_held ds)) }
-    ensures groups { (ds : List Datum) (o : Option M.Meaning) → ⟦<GroupCodec<M> as ExtensionCodec>⟧.reads ds o
-        ↔ (o ≡ message_of (M.merged 100) (M.cost 100) M.blank_is full (texts_in group_held ds)) }
+    ensures delimited { ReadsMessages ⟦<MessageCodec<M> as ExtensionCodec>⟧.reads (M.merged 100) (M.cost 100)
+        M.blank_is bytes_held }
+    ensures groups { ReadsMessages ⟦<GroupCodec<M> as ExtensionCodec>⟧.reads (M.merged 100) (M.cost 100)
+        M.blank_is group_held }
     ensures bytes { (v : M.Meaning) → ⟦<MessageCodec<M> as ExtensionCodec>⟧.recs v ≡ held_bytes (M.text v) ∷ [] }
     ensures group { (v : M.Meaning) → ⟦<GroupCodec<M> as ExtensionCodec>⟧.recs v ≡ group_of (M.text v) ∷ [] }
     ensures normal { (v : M.Meaning) → ⟦<MessageCodec<M> as ExtensionCodec>⟧.normal v
         ↔ IsReadBack (M.normal v) (M.levels v) (M.records v) (M.cost 100) (M.text v ∷ []) }
     ensures group_normal { (v : M.Meaning) → ⟦<GroupCodec<M> as ExtensionCodec>⟧.normal v
-        ↔ IsReadBack (M.normal v) (M.levels v) (M.records v) (M.cost 100) (texts_in group_held (group_of (M.text v) ∷ [])) }
+        ↔ IsReadBack (M.normal v) (M.levels v) (M.records v) (M.cost 100) (group_texts (M.text v)) }
     ensures holds { (v : M.Meaning) (o : Option M.Meaning) → ⟦<MessageCodec<M> as ExtensionCodec>⟧.holds v o
         ↔ (o ≡ Some v) }
     ensures group_holds { (v : M.Meaning) (o : Option M.Meaning) → ⟦<GroupCodec<M> as ExtensionCodec>⟧.holds v o
         ↔ (o ≡ Some v) }
     ensures takes { (ds : List Datum) → ⟦<MessageCodec<M> as ExtensionCodec>⟧.takes ds
-        ↔ Has (ReachesTagIn bytes_held 100) ds }
+        ↔ ReachesRecord (M.merged 100) (M.cost 100) M.blank_is bytes_held (BeginsFieldIn bytes_held) ds }
     ensures group_takes { (ds : List Datum) → ⟦<GroupCodec<M> as ExtensionCodec>⟧.takes ds
-        ↔ Has (λ d. HasByte (group_held d)) ds }
-    ensures too_large { (v : M.Meaning) → 2 ^ 31 ≤ length (M.text v) →
-        (⟦<MessageCodec<M> as ExtensionCodec>⟧.refusal v ≡ Some MessageTooLarge)
-        × (⟦<GroupCodec<M> as ExtensionCodec>⟧.refusal v ≡ Some MessageTooLarge) }
+        ↔ ReachesRecord (M.merged 100) (M.cost 100) M.blank_is group_held (λ d. HasByte (group_held d)) ds }
+    ensures too_large { (v : M.Meaning) → 2 ^ 31 ≤ length (M.text v) → ⟦<MessageCodec<M> as ExtensionCodec>⟧.refusal v
+        ≡ Some MessageTooLarge }
+    ensures group_too_large { (v : M.Meaning) → 2 ^ 31 ≤ length (M.text v) →
+        ⟦<GroupCodec<M> as ExtensionCodec>⟧.refusal v ≡ Some MessageTooLarge }
+    ensures fits { (v : M.Meaning) → ⟦<MessageCodec<M> as ExtensionCodec>⟧.fits v
+        ↔ (text_refusal (λ t. None) (M.text v) ≡ None) }
+    ensures group_fits { (v : M.Meaning) → ⟦<GroupCodec<M> as ExtensionCodec>⟧.fits v
+        ↔ (text_refusal group_refusal (M.text v) ≡ None) }
     ensures written { (v : M.Meaning) → length (M.text v) < 2 ^ 31 →
         (⟦<MessageCodec<M> as ExtensionCodec>⟧.refusal v ≡ None)
         × (⟦<GroupCodec<M> as ExtensionCodec>⟧.refusal v ≡ group_refusal (M.text v)) }
@@ -108,8 +116,7 @@ pub fn message_records_are_read<M: Message>()
     ensures one { (n : ℕ) (b : BudgetLeft) (d : Datum) → ⟦<MessageCodec<M> as SingularCodec>⟧.one n b d
         ≡ message_of (M.merged n) (M.cost n) M.blank_is b (texts_in bytes_held (d ∷ [])) }
     ensures leaves { (n : ℕ) (b left : BudgetLeft) (d : Datum) → ⟦<MessageCodec<M> as SingularCodec>⟧.leaves n b d left
-        ↔ LeavesOf (message_of (M.merged n) (M.cost n) M.blank_is b (texts_in bytes_held (d ∷ []))) b
-        (cost_all (M.cost n) (texts_in bytes_held (d ∷ []))) left }
+        ↔ LeavesOfRecord (M.merged n) (M.cost n) M.blank_is bytes_held b d left }
     ensures cost { (d : Datum) → ⟦<MessageCodec<M> as SingularCodec>⟧.cost d
         ≡ cost_all (M.cost 100) (texts_in bytes_held (d ∷ [])) }
     ensures most { (n : ℕ) (d : Datum) → ⟦<MessageCodec<M> as SingularCodec>⟧.most n d
@@ -122,8 +129,7 @@ pub fn message_records_are_read<M: Message>()
     ensures normal { (v : M.Meaning) → ⟦<MessageCodec<M> as SingularCodec>⟧.normal v
         ↔ (M.normal v × (M.levels v ≤ 100) × Fits (records_of (M.records v))) }
     ensures back { (v : M.Meaning) → ⟦<MessageCodec<M> as SingularCodec>⟧.back v ≡ v }
-    ensures takes { (d : Datum) → ⟦<MessageCodec<M> as SingularCodec>⟧.takes d
-        ↔ ((n : ℕ) × ReachesTagIn bytes_held n d) }
+    ensures takes { (d : Datum) → ⟦<MessageCodec<M> as SingularCodec>⟧.takes d ↔ BeginsFieldIn bytes_held d }
     ensures packed { (bs : List ℕ) → ⟦<MessageCodec<M> as SingularCodec>⟧.packed bs ≡ [] }
 {}
 
@@ -132,8 +138,7 @@ pub fn group_records_are_read<M: Message>()
     ensures one { (n : ℕ) (b : BudgetLeft) (d : Datum) → ⟦<GroupCodec<M> as SingularCodec>⟧.one n b d
         ≡ message_of (M.merged n) (M.cost n) M.blank_is b (texts_in group_held (d ∷ [])) }
     ensures leaves { (n : ℕ) (b left : BudgetLeft) (d : Datum) → ⟦<GroupCodec<M> as SingularCodec>⟧.leaves n b d left
-        ↔ LeavesOf (message_of (M.merged n) (M.cost n) M.blank_is b (texts_in group_held (d ∷ []))) b
-        (cost_all (M.cost n) (texts_in group_held (d ∷ []))) left }
+        ↔ LeavesOfRecord (M.merged n) (M.cost n) M.blank_is group_held b d left }
     ensures cost { (d : Datum) → ⟦<GroupCodec<M> as SingularCodec>⟧.cost d
         ≡ cost_all (M.cost 100) (texts_in group_held (d ∷ [])) }
     ensures most { (n : ℕ) (d : Datum) → ⟦<GroupCodec<M> as SingularCodec>⟧.most n d
@@ -158,24 +163,40 @@ pub fn messages_mean_these<K: MessageRecord, M: Message>(value: &M, output: &Opt
     ensures held { ⟦<Delimited as MessageRecord>⟧.never_fails }
 {}
 
+/// A record of bytes holds its bytes, and a group the text of its records; which of them take memory to be
+/// merged, at any depth; and which texts have no group.
+pub fn held_texts_are_these()
+    ensures held { (d : Datum) → (⟦<Delimited as MessageRecord>⟧.held d ≡ bytes_held d)
+        × (⟦<Grouped as MessageRecord>⟧.held d ≡ group_held d) }
+    ensures holder { (t : List ℕ) → (⟦<Delimited as MessageRecord>⟧.holder t ≡ held_bytes t)
+        × (⟦<Grouped as MessageRecord>⟧.holder t ≡ group_of t) }
+    ensures takes { (n : ℕ) (d : Datum) → (⟦<Delimited as MessageRecord>⟧.takes n d ↔ BeginsFieldIn bytes_held d)
+        × (⟦<Grouped as MessageRecord>⟧.takes n d ↔ HasByte (group_held d)) }
+    ensures refusal { (t : List ℕ) → (⟦<Delimited as MessageRecord>⟧.refusal t ≡ None)
+        × (⟦<Grouped as MessageRecord>⟧.refusal t ≡ group_refusal t) }
+{}
+
 /// A default that is declared is what its function makes, and no other; where none is declared there is none.
+/// It may be asked for wherever its function may always be called.
 pub fn defaults_are_these<V, F: Fn(Global) -> Result<V, AllocError>>()
+    ensures none_callable { (s : NoDefault) → ⟦<NoDefault as Declared<V>>⟧.can_declare s }
     ensures none { (s : NoDefault) (o : Option V) → ⟦<NoDefault as Declared<V>>⟧.may_declare s o ↔ (o ≡ None) }
     ensures none_refused { (s : NoDefault) → ⟦<NoDefault as Declared<V>>⟧.may_refuse s → ⊥ }
+    ensures callable { (s : Make F) → ⟦<Make<F> as Declared<V>>⟧.can_declare s ↔ F.IsAlwaysCallable s.make }
     ensures made { (s : Make F) (o : Option V) → ⟦<Make<F> as Declared<V>>⟧.may_declare s o
         ↔ ((a : GlobalValue) × (v : V) × F.post s.make a (Ok v) × (o ≡ Some v)) }
     ensures refused { (s : Make F) → ⟦<Make<F> as Declared<V>>⟧.may_refuse s
         ↔ ((a : GlobalValue) × (e : AllocErrorValue) × F.post s.make a (Err e)) }
 {}
 
-/// A message is read as one value or none; and merging texts in order ends in one way, memory aside.
+/// A message is read as one value or none; and merging records in order ends in one way, memory aside: it stops
+/// at the first text that is refused, or at none.
 ///
-/// Left open: where memory runs out, of those records for which merging may take some (`takes`); which fault
-/// stops the merging of texts that mean no value or cost too much; and how much of their cost is spent then.
-pub fn messages_are_pinned<M: Message>()
-    ensures delimited { OneAnswer ⟦<MessageCodec<M> as ExtensionCodec>⟧.reads }
-    ensures groups { OneAnswer ⟦<GroupCodec<M> as ExtensionCodec>⟧.reads }
-    ensures merged { MergingIsPinned (M.merged 100) (M.cost 100) }
+/// Left open: where memory runs out, of those records up to the first refused text for which merging may take
+/// some (`takes`); which fault is told of that text, and how much of its own cost is spent.
+pub fn messages_are_pinned<K: MessageRecord, M: Message>()
+    ensures read { OneAnswer ⟦<MessageIn<K, M> as ExtensionCodec>⟧.reads }
+    ensures merged { MergingIsPinned (M.merged 100) (M.cost 100) K.held (K.takes 100) }
 {}
 
 /// A list of messages whose texts cost together no more than a pair of default budgets has one answer: the
@@ -192,9 +213,17 @@ pub fn lists_of_messages_are_pinned<M: Message>()
 /// A number's value, or else its default, is one.
 ///
 /// Left open: which of the values that a declared default may be it is, where more than one may be.
-pub fn defaults_are_pinned<C: LastWins, D: Declared<C::Value>>()
-    ensures { (s : D) → DefaultIsPinned ⟦<C as ExtensionCodec>⟧.reads C.Value.meaning C.Value.blank_is
+pub fn defaults_are_pinned<
+    C: LastWins,
+    D: Declared<C::Value>,
+    K: MessageRecord,
+    M: Message,
+    E: Declared<M>,
+>()
+    ensures values { (s : D) → DefaultIsPinned ⟦<C as ExtensionCodec>⟧.reads C.Value.meaning C.Value.blank_is
         (D.may_declare s) }
+    ensures messages { (s : E) → DefaultIsPinned ⟦<MessageIn<K, M> as ExtensionCodec>⟧.reads M.meaning M.blank_is
+        (E.may_declare s) }
 {}
 
 /// Sets and clears leave one list of records.

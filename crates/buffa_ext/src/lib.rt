@@ -2,6 +2,7 @@
 #![tactic(auto)]
 
 pub mod back;
+pub mod codec_laws;
 pub mod codecs;
 pub mod descriptor;
 pub mod laws;
@@ -10,8 +11,6 @@ pub mod record;
 pub mod set;
 pub mod stage;
 pub mod steps;
-#[cfg(test)]
-mod tests;
 
 pub use back::set_then_read;
 pub use buffa_codec::{

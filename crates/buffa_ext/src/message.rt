@@ -1,16 +1,15 @@
 //! Codecs of messages: all records of the right kind, merged in order.
 
-ghost use Rattle.std.specs.Prelude.{◌≡◌, ◌≢◌, ◌≤◌, ℕ, List, [], ◌∷◌, Option, Some, None, Err, option_map, IfOk, OnErr};
+ghost use Rattle.std.specs.Prelude.{◌≡◌, ◌≤◌, ℕ, List, [], ◌∷◌, Option, Some, None, Err, option_map, IfOk, OnErr};
 ghost use Rattle.std.proofs.Common.{◌∙◌};
 ghost use Rattle.buffa_bytes.specs.declared.error.DecodeError.TheVariants.{OutOfMemory};
-ghost use Rattle.buffa_bytes.specs.Gives.{FullOnlyIf};
 ghost use Rattle.buffa_wire.specs.BudgetLeft.{BudgetLeft};
 ghost use Rattle.buffa_wire.specs.Parse.{Fits};
 ghost use Rattle.buffa_wire.specs.Records.{records_of};
-ghost use Rattle.buffa_codec.specs.Reading.{Covers, Has, full};
+ghost use Rattle.buffa_codec.specs.Reading.{Covers, full};
 ghost use Rattle.buffa_codec.specs.Sub.{sub};
-ghost use Rattle.buffa_ext.specs.Messages.{IsAllMerged, IsAnswer, LeavesOf, cost_all, message_of, text_refusal};
-ghost use Rattle.buffa_ext.specs.Messages.{texts_in};
+ghost use Rattle.buffa_ext.specs.Messages.{IsAnswer, LeavesOfRecord, MergesRecords, ReachesRecord, cost_all, message_of};
+ghost use Rattle.buffa_ext.specs.Messages.{text_refusal, texts_in};
 ghost use Rattle.buffa_ext.specs.MessageFacts.{message_back, spent, spent_cost};
 
 use crate::record::{Delimited, Grouped, MessageRecord};
@@ -63,9 +62,7 @@ impl<K: MessageRecord, M: Message> SingularCodec for MessageIn<K, M> {
 
     ghost one = { λ depth b d. message_of (M.merged depth) (M.cost depth) M.blank_is b (texts_in K.held (d ∷ [])) };
 
-    ghost leaves = { λ depth b d.
-        let texts = texts_in K.held (d ∷ []) in
-        LeavesOf (message_of (M.merged depth) (M.cost depth) M.blank_is b texts) b (cost_all (M.cost depth) texts) };
+    ghost leaves = { λ depth. LeavesOfRecord (M.merged depth) (M.cost depth) M.blank_is K.held };
 
     ghost packed = { λ bs. [] };
 
@@ -136,7 +133,8 @@ impl<K: MessageRecord, M: Message> SingularCodec for MessageIn<K, M> {
 /// exactly what they cost together.
 ///
 /// # Errors
-/// Those of [`Message::merge`]; at most what the texts cost together is spent, and part of them is merged.
+/// Those of [`Message::merge`], of the first text that is refused: those before it are paid for, of its own
+/// cost at most all, and of those behind it nothing. The value is then some value of its type.
 ///
 /// ```ignore
 /// let found = merge_number::<Delimited, Point>(alloc, 7, &fields, &mut budget, &mut point)?;
@@ -148,10 +146,8 @@ pub fn merge_number<K: MessageRecord, M: Message>(
     budget: &mut Budget,
     message: &mut M,
 ) -> Result<bool, DecodeError>
-    ensures merged { IsAllMerged (M.merged 100) (M.cost 100) (texts_in K.held (sub number fields.now.records))
+    ensures { MergesRecords (M.merged 100) (M.cost 100) K.held (K.takes 100) (sub number fields.now.records)
         (M.meaning message.old) budget.old result (M.meaning message.new) budget.new }
-    ensures text { OnErr result (texts_in K.held (sub number fields.now.records) ≢ []) }
-    ensures full { FullOnlyIf result (Has (K.takes 100) (sub number fields.now.records)) }
 {
     let mut found = false;
     for field in fields.iter().as_slice() {
@@ -199,7 +195,7 @@ impl<K: MessageRecord, M: Message> ExtensionCodec for MessageIn<K, M> {
 
     ghost in_room = { λ v. ⊥ };
 
-    ghost takes = { Has (K.takes 100) };
+    ghost takes = { ReachesRecord (M.merged 100) (M.cost 100) M.blank_is K.held (K.takes 100) };
 
     fn decode(alloc: Global, number: u32, fields: &UnknownFields) -> Result<Option<M>, AllocError> {
         let mut budget = Budget::new(DEFAULT_UNKNOWN_FIELD_LIMIT);

@@ -10,7 +10,7 @@ ghost use Rattle.buffa_wire.specs.Records.{Datum, bytes, records_of};
 ghost use Rattle.buffa_wire.specs.Text.{records_text};
 ghost use Rattle.buffa_wire.specs.View.{datum_of};
 ghost use Rattle.buffa_codec.specs.Reading.{HasByte, Refuses, bytes_held};
-ghost use Rattle.buffa_ext.specs.Messages.{IsAllMerged, ReachesTagIn, group_held, group_of, group_refusal, texts_in};
+ghost use Rattle.buffa_ext.specs.Messages.{BeginsFieldIn, MergesOne, group_held, group_of, group_refusal, texts_in};
 ghost use Rattle.buffa_ext.specs.MessageFacts.{group_back};
 
 use buffa_wire::{
@@ -45,9 +45,8 @@ pub trait MessageRecord {
         message: &mut M,
         ctx: DecodeContext<'_>,
     ) -> Result<bool, DecodeError>
-        ensures merged { IsAllMerged (M.merged ctx.entry.depth) (M.cost ctx.entry.depth)
-            (texts_in held (datum_of payload.now ∷ []))
-            (M.meaning message.old) ctx.entry.budget.now result (M.meaning message.new) (budget_left ctx.exit) }
+        ensures merged { MergesOne M.merged M.cost held ctx.entry (datum_of payload.now) (M.meaning message.old) result
+            (M.meaning message.new) (budget_left ctx.exit) }
         ensures text { OnErr result (texts_in held (datum_of payload.now ∷ []) ≢ []) }
         ensures full { FullOnlyIf result (takes ctx.entry.depth (datum_of payload.now)) };
 
@@ -74,7 +73,7 @@ impl MessageRecord for Delimited {
 
     ghost holder = { bytes };
 
-    ghost takes = { ReachesTagIn bytes_held };
+    ghost takes = { λ n. BeginsFieldIn bytes_held };
 
     ghost refusal = { λ t. None };
 

@@ -7,7 +7,7 @@ ghost use Rattle.buffa_wire.specs.Records.{Held};
 ghost use Rattle.buffa_wire.specs.contracts.unknown_fields.UnknownFields.{the_row as fields_row};
 ghost use Rattle.buffa_codec.specs.Sub.{sub};
 ghost use Rattle.buffa_codec.specs.Reading.{Refuses};
-ghost use Rattle.buffa_ext.specs.Defaults.{IsDefaulted, IsRefused};
+ghost use Rattle.buffa_ext.specs.Defaults.{IsDefaulted, IsRefused, ReadsNumber};
 ghost use Rattle.buffa_ext.specs.Steps.{HasRecord, IsCleared, IsSet};
 
 use crate::descriptor::{Declared, Extension};
@@ -175,11 +175,10 @@ pub trait ExtensionSet {
         requires extendee { ext.now.extendee.now ≡ fqn }
         requires callable { C.reads (sub ext.now.number (fields_of self.now).records) (C.answer None) →
             D.can_declare ext.now.default }
-        ensures value { IfOk result (λ v. let records = sub ext.now.number (fields_of self.now).records in
-            IsDefaulted (λ o. C.reads records (C.answer o)) (D.may_declare ext.now.default) (V.meaning v
-            ≡ V.blank_is) v) }
-        ensures full { OnErr result (let records = sub ext.now.number (fields_of self.now).records in
-            IsRefused (C.takes records) (λ o. C.reads records (C.answer o)) (D.may_refuse ext.now.default)) }
+        ensures value { IfOk result (λ v. IsDefaulted (ReadsNumber C.reads C.answer ext.now.number (fields_of self.now))
+            (D.may_declare ext.now.default) (V.meaning v ≡ V.blank_is) v) }
+        ensures full { OnErr result (IsRefused (C.takes (sub ext.now.number (fields_of self.now).records))
+            (ReadsNumber C.reads C.answer ext.now.number (fields_of self.now)) (D.may_refuse ext.now.default)) }
     {
         if let Some(value) = self.extension(alloc, ext)? {
             return Ok(value);

@@ -11,7 +11,7 @@ use Rattle.buffa_wire.specs.Message.{IsFieldMerged}
 use Rattle.buffa_wire.specs.Parse.{Fits}
 use Rattle.buffa_wire.specs.Passes.{Begins, IsSized, IsSmall, IsWritten, cap}
 use Rattle.buffa_wire.specs.Cache.{Cache, advanced, appended}
-use Rattle.buffa_wire.proofs.PassLemmas.{appended_none, written_none}
+use Rattle.buffa_wire.proofs.PassLemmas.{appended_none, consumes_none, written_none}
 use Rattle.buffa_wire.specs.Records.{Datum, records_of}
 use Rattle.buffa_wire.specs.Text.{records_text}
 use Rattle.buffa_fields.specs.Layout.{Choice, IsCounted, IsPut, Kept, Layout, Passed, Seen, Slot, Took, WritesSmall, costs_nothing, more, passes, visited}
@@ -129,7 +129,7 @@ was_put rs from name before new r h = (sym h.0, h.1)
 -- no slot is consumed
 pub written : (text before new : List ℕ) (r : Result (Unit {0}) EncodeError) (c : Cache) → WritesSmall text before r new → IsWritten text [] c before r c new
 written text before new (Ok _) c (bs, p, q) = (bs, p, ((written_none (Unit {0}) c before).2.0, q))
-written text before new (Err e) c (bs, p, q) = (bs, p, q)
+written text before new (Err e) c (bs, p, q) = (bs, p, (q.0, q.1, consumes_none [] c))
 
 counted_is : (rs : List (ℕ × Datum)) (name : ℕ) (before : List ℕ) (total : ℕ) → IsCounted total (more rs (start name before)) → total ≡ cap (length (records_text rs))
 unfolding IsCounted start more

@@ -3,6 +3,8 @@ use Rattle.std.specs.Prelude.{IsOk}
 use Rattle.std.proofs.Common.{arith, ◌≡◌, ◌≢◌, ◌+◌, ◌<◌, ◌≤◌, ◌++◌, ◌⊎◌, inl, inr, ℕ, true, false, List, [], Result, Ok, Err, ap, append-nil, length, refl, subst, sym, take, ◌∙◌}
 use Rattle.buffa_bytes.specs.declared.error.DecodeError.{DecodeError}
 use Rattle.buffa_bytes.specs.declared.error.DecodeError.TheVariants.{ElementMemoryLimitExceeded, OutOfMemory, UnexpectedEof, UnknownFieldLimitExceeded}
+use Rattle.buffa_bytes.specs.Left.{past_no_text}
+use Rattle.buffa_wire.proofs.SequenceLemmas.{ok_no_err}
 use Rattle.buffa_wire.specs.BudgetLeft.{BudgetLeft, Lacks}
 use Rattle.buffa_wire.specs.Reading.{delimited_at}
 use Rattle.buffa_bytes.specs.Reading.{taken, varint_at}
@@ -16,7 +18,7 @@ use Rattle.buffa_map.specs.Merge.{EntryTakesMemory, MergesEntry, RefusesEntry, R
 use Rattle.buffa_map.specs.Parts.{ReadsParts, RefusesCut, RefusesParts}
 use Rattle.buffa_map.specs.Pairs.{InOrder, SamePairs, put}
 use Rattle.buffa_map.specs.declared.map_entry.MapEntry.{MapEntry}
-use Rattle.buffa_map.proofs.TailLemmas.{cut_front, cut_short, delimited_tail, one_rest}
+use Rattle.buffa_map.proofs.TailLemmas.{cut_front, cut_short, past_cut, delimited_tail, one_rest}
 use Rattle.buffa_bytes.specs.Unread.{IsTailOf}
 use Rattle.buffa_bytes.proofs.TailLemmas.{tail_whole}
 use Rattle.buffa_wire.specs.Field.{TakesDelimited}
@@ -29,9 +31,11 @@ module _ {K V : Type 0} (r : Rules K V) (pairs : List (K × V)) (records : List 
   abbrev fields_need : List ℕ → BudgetLeft
   fields_need e = need_at r.key r.val r.depth (blanks r.key r.val r.depth) e
 
-  pub no_entry : (unread : List ℕ) (f : DecodeError) → IsTailOf unread bs → (f ≢ OutOfMemory → delimited_at bs ≡ Err f) → (f ≡ OutOfMemory → EntryTakesMemory r left bs f) → ((e rest : List ℕ) → TakesDelimited bs e rest → IsTailOf rest unread) → RefusesEntry r (state pairs records left) bs (state pairs records left) unread f
-  no_entry unread f tail h full near = record {
+  pub no_entry : (unread : List ℕ) (f : DecodeError) → IsTailOf unread bs → (f ≢ OutOfMemory → delimited_at bs ≡ Err f) → (f ≡ OutOfMemory → EntryTakesMemory r left bs f) → ((e rest : List ℕ) → TakesDelimited bs e rest → IsTailOf rest unread) → ((x : DecodeError) → delimited_at bs ≡ Err x → unread ≡ past_no_text bs) →
+      RefusesEntry r (state pairs records left) bs (state pairs records left) unread f
+  no_entry unread f tail h full near short = record {
     within = near;
+    past_no_text = short;
     fault = λ ne. entry_short r.key r.val r.depth r.cost r.slot left bs f (h ne);
     memory = full;
     tail = tail;
@@ -47,15 +51,16 @@ module _ {K V : Type 0} (r : Rules K V) (pairs : List (K × V)) (records : List 
   }
 
   -- the bytes of an entry are copied, of which there are some
-  copy_takes : (n : ℕ) (mid : List ℕ) (f : DecodeError) (x : Result (List ℕ × List ℕ) DecodeError) → taken n mid ≡ x → r.slot ≢ 0 → delimited_at bs ≡ taken n mid → IsOk x → (n ≡ 0 → ⊥) → EntryTakesMemory r left bs f
+  copy_takes : (n : ℕ) (mid : List ℕ) (f : DecodeError) (x : Result (List ℕ × List ℕ) DecodeError) → taken n mid ≡ x → (r.slot ≢ 0) × (r.val.undeclared ≡ true) → delimited_at bs ≡ taken n mid → IsOk x → (n ≡ 0 → ⊥) → EntryTakesMemory r left bs f
   copy_takes n mid f (Ok p) is keeps same ok some =
-      (p.0, p.1, same ∙ is, inl (keeps, λ none. some (sym (agree_ok (taken n mid) p (taken_sound n mid) is).0 ∙ ap length none)))
+      (p.0, p.1, same ∙ is, inl (keeps.0, keeps.1, λ none. some (sym (agree_ok (taken n mid) p (taken_sound n mid) is).0 ∙ ap length none)))
   copy_takes n mid f (Err x) is keeps same ok some = cc
 
-  pub no_copy : (n : ℕ) (mid unread : List ℕ) (f : DecodeError) → r.slot ≢ 0 → delimited_at bs ≡ taken n mid → IsTailOf unread bs → (f ≢ OutOfMemory → taken n mid ≡ Err f) → (f ≡ OutOfMemory → IsOk (taken n mid)) → (n ≡ 0 → false ≡ true) →
-      ((e rest : List ℕ) → TakesDelimited bs e rest → IsTailOf rest unread) → RefusesEntry r (state pairs records left) bs (state pairs records left) unread f
-  no_copy n mid unread f keeps same tail reads full free near =
-      no_entry unread f tail (λ ne. same ∙ reads ne) (λ out. copy_takes n mid f (taken n mid) refl keeps same (full out) (λ z. let k = free z in cc)) near
+  pub no_copy : (n : ℕ) (mid unread : List ℕ) (f : DecodeError) → (r.slot ≢ 0) × (r.val.undeclared ≡ true) → delimited_at bs ≡ taken n mid → IsTailOf unread bs → (f ≢ OutOfMemory → taken n mid ≡ Err f) → (f ≡ OutOfMemory → IsOk (taken n mid)) → (n ≡ 0 → false ≡ true) →
+      ((e rest : List ℕ) → TakesDelimited bs e rest → IsTailOf rest unread) → ((x : DecodeError) → delimited_at bs ≡ Err x → unread ≡ past_no_text bs) →
+      RefusesEntry r (state pairs records left) bs (state pairs records left) unread f
+  no_copy n mid unread f keeps same tail reads full free near short =
+      no_entry unread f tail (λ ne. same ∙ reads ne) (λ out. copy_takes n mid f (taken n mid) refl keeps same (full out) (λ z. let k = free z in cc)) near short
 
   module _ (e rest : List ℕ) (is : delimited_at bs ≡ Ok (e, rest)) where
     inner : inner_need r.key r.val r.depth bs ≡ fields_need e
@@ -85,6 +90,7 @@ module _ {K V : Type 0} (r : Rules K V) (pairs : List (K × V)) (records : List 
           tail = delimited_tail bs e rest is;
           past = λ ne x after t. one_rest bs e rest x after is t;
           within = λ x after t. subst (λ z. IsTailOf z rest) (one_rest bs e rest x after is t) (tail_whole rest);
+          past_no_text = λ x no. absurd (ok_no_err (sym is ∙ no));
           pairs = refl;
           records = refl;
           units = parts_units over.memory h.units;
@@ -134,16 +140,17 @@ module _ {K V : Type 0} (r : Rules K V) (pairs : List (K × V)) (records : List 
       is_dropped known no_slot none = is_kept known records over (rw (none r.number e) (sym (append-nil records))) (omega (arith, no_slot)) refl
 
       pub not_kept : s.known ≡ false → (kept : List (ℕ × Datum)) (last : BudgetLeft) (f : DecodeError) → kept ≡ records → last.unknown ≤ over.unknown → over.unknown ≤ last.unknown + r.slot → last.memory ≡ over.memory →
-          (f ≢ OutOfMemory → (over.unknown < r.slot) × (f ≡ UnknownFieldLimitExceeded) × (last.unknown ≡ over.unknown)) → (f ≡ OutOfMemory → r.slot ≢ 0) → RefusesEntry r (state pairs records left) bs (state pairs kept last) rest f
+          (f ≢ OutOfMemory → (over.unknown < r.slot) × (f ≡ UnknownFieldLimitExceeded) × (last.unknown ≡ over.unknown)) → (f ≡ OutOfMemory → (r.slot ≢ 0) × (r.slot ≤ over.unknown)) → RefusesEntry r (state pairs records left) bs (state pairs kept last) rest f
       not_kept known kept last f same most least unit which keeps =
           let units = ap (λ (z : BudgetLeft). z.memory) inner in
           let taken = ap (λ (z : BudgetLeft). z.unknown) inner in
           record {
             fault = λ ne. entry_slotless r.key r.val r.depth r.cost r.slot left bs e rest s f is (omega (arith, h.pays)) h.entry known (omega (arith, (which ne).0, h.pays)) (which ne).1;
-            memory = λ out. (e, rest, is, inr (omega (arith, h.pays), inr (s, h.entry, inr (keeps out))));
+            memory = λ out. (e, rest, is, inr (omega (arith, h.pays), inr (s, h.entry, inr ((keeps out).0, omega (arith, (keeps out).1, h.pays)))));
             tail = delimited_tail bs e rest is;
             past = λ ne x after t. one_rest bs e rest x after is t;
             within = λ x after t. subst (λ z. IsTailOf z rest) (one_rest bs e rest x after is t) (tail_whole rest);
+            past_no_text = λ x no. absurd (ok_no_err (sym is ∙ no));
             pairs = refl;
             records = same;
             units = inr (omega (arith, h.pays, unit), omega (arith, h.pays, unit, units));
@@ -156,5 +163,5 @@ module _ {K V : Type 0} (r : Rules K V) (pairs : List (K × V)) (records : List 
 
   -- a cut entry is refused
   pub bad_cut : (n : ℕ) (mid unread : List ℕ) (over : BudgetLeft) (f : DecodeError) → varint_at bs ≡ Ok (n, mid) → IsTailOf mid bs → RefusesCut r.key r.val r.depth r.cost n mid left over unread f → RefusesEntry r (state pairs records left) bs (state pairs records over) unread f
-  bad_cut n mid unread over f len tail (inl (few, eof, same, kept)) = rw (same, kept, eof) (no_entry mid UnexpectedEof tail (λ ne. cut_short n bs mid len few) (λ out. cc) (λ e rest t. no_length r.key r.val r.depth bs UnexpectedEof (cut_short n bs mid len few) e rest t))
+  bad_cut n mid unread over f len tail (inl (few, eof, same, kept)) = rw (same, kept, eof) (no_entry mid UnexpectedEof tail (λ ne. cut_short n bs mid len few) (λ out. cc) (λ e rest t. no_length r.key r.val r.depth bs UnexpectedEof (cut_short n bs mid len few) e rest t) (λ x no. past_cut n bs mid len few))
   bad_cut n mid unread over f len tail (inr (fits, follows, parts)) = bad_parts (take n mid) unread (cut_front n bs mid unread len fits follows) over f parts

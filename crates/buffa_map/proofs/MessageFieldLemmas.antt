@@ -1,11 +1,12 @@
 -- A map field of messages, pair by pair.
-use Rattle.std.proofs.Common.{◌≡◌, ℕ, ◌+◌, ◌^◌, ◌<◌, ◌≤◌, List, [], ◌∷◌, ◌++◌, length, inl, inr, refl, sym, ap, subst, ◌∙◌, arith, append_assoc, length-append, Result}
+use Rattle.std.proofs.Common.{◌≡◌, ℕ, ◌+◌, ◌^◌, ◌<◌, ◌≤◌, List, [], ◌∷◌, ◌++◌, length, inl, inr, refl, sym, ap, subst, ◌∙◌, arith, append_assoc, length-append, Result, Err}
 use Rattle.std.proofs.lemmas.Bool.{cases_lt}
 use Rattle.std.proofs.lemmas.List.Elements.{Contains-append_right}
 use Rattle.std.specs.List.{Contains}
 use Rattle.std.specs.Map.{values_of}
 use Rattle.buffa_bytes.specs.declared.wire_type.WireType.TheVariants.{LengthDelimited}
-use Rattle.buffa_bytes.specs.Written.{WritesFront}
+use Rattle.buffa_bytes.proofs.SinkLemmas.{room_first, room_then}
+use Rattle.buffa_bytes.specs.Written.{UsesRoom, WritesFront}
 use Rattle.buffa_bytes.specs.declared.error.EncodeError.{EncodeError}
 use Rattle.buffa_bytes.specs.declared.error.EncodeError.TheVariants.{OutOfMemory}
 use Rattle.buffa_wire.specs.Cache.{Cache, advanced}
@@ -14,7 +15,7 @@ use Rattle.buffa_wire.proofs.PassLemmas.{done, refused, written_behind, written_
 use Rattle.buffa_wire.specs.Values.{tag_text}
 use Rattle.buffa_wire.specs.Varint.{varint_text}
 use Rattle.buffa_map.specs.Codec.{Writing}
-use Rattle.buffa_map.specs.MessageField.{IsRecordWritten, IsSmallField, IsSmallPair, entry_size, head_text}
+use Rattle.buffa_map.specs.MessageField.{IsRecordWritten, IsSmallField, IsSmallPair, UsesRecordRoom, entry_size, head_text}
 use Rattle.buffa_map.specs.Scalars.{delimited_writing}
 use Rattle.buffa_map.specs.Text.{entry_text, field_size, record_text, saturated}
 use Rattle.buffa_map.proofs.SizeLemmas.{length-entry_text}
@@ -82,6 +83,15 @@ module _ {K X : Type 0} (p : K × X) (rest : List (K × X)) where
   pub onward : (es done : List (K × X)) → es ≡ done ++ p ∷ rest → (more : List (K × X)) × (es ≡ more ++ rest)
   onward es done e = (done ++ p ∷ [], e ∙ sym (append_assoc done (p ∷ []) rest))
 
+-- a pair of small ones is small
+module _ {K M : Type 0} (key : Writing K) (text : M → List ℕ) where
+  small_in : (done : List (K × M)) (p : K × M) (rest : List (K × M)) → IsSmallField key text (done ++ p ∷ rest) → IsSmallPair key text p
+  small_in [] p rest s = s.0
+  small_in (q ∷ done) p rest s = small_in done p rest s.1
+
+  pub small_at : (all done : List (K × M)) (p : K × M) (rest : List (K × M)) → all ≡ done ++ p ∷ rest → IsSmallField key text all → IsSmallPair key text p
+  small_at all done p rest e h = small_in done p rest (subst (IsSmallField key text) e h)
+
 -- where a field isn't longer than a message may be, it is a small one
 pub small_field : {K M : Type 0} (key : Writing K) (text : M → List ℕ) (t : ℕ) (l : List (K × M)) → field_size key (delimited_writing text) t l < 2 ^ 31 → IsSmallField key text l
 small_field key text t [] h = tt
@@ -94,6 +104,15 @@ module _ {K M : Type 0} (key : Writing K) (text slots : M → List ℕ) (n : ℕ
     (is : inner ≡ cap (length (text p.1))) (on : c1 ≡ advanced 1 c0) where
   small_head : IsSmallPair key text p → IsSmallPair key text p × IsSmall (text p.1)
   small_head h = (h, h.0)
+
+  -- the room of a record, whose head was refused, or written
+  pub head_no_room : {r : Result (Unit {0}) EncodeError} {e : EncodeError} → r ≡ Err e → (room left : ℕ) → room < length (head_text key n p.0 inner) → UsesRecordRoom key text n p r room left
+  head_no_room {r = r} e room left w s =
+      subst (λ z. UsesRoom r room z left) (head_then key text p inner is n s.0 s.1) (room_first e room left (head_text key n p.0 inner) (text p.1) w)
+
+  pub record_room : (r : Result (Unit {0}) EncodeError) (room mid left : ℕ) → room ≤ mid + length (head_text key n p.0 inner) → UsesRoom r mid (text p.1) left → UsesRecordRoom key text n p r room left
+  record_room r room mid left h w s =
+      subst (λ z. UsesRoom r room z left) (head_then key text p inner is n s.0 s.1) (room_then r room mid left (head_text key n p.0 inner) (text p.1) h w)
 
   pub record_written : (r : Result (Unit {0}) EncodeError) → b1 ≡ b0 ++ head_text key n p.0 inner → IsWritten (text p.1) (slots p.1) c1 b1 r c2 b2 → IsRecordWritten key text slots n p c0 b0 r c2 b2
   record_written r h w =
@@ -114,5 +133,6 @@ module _ {K M : Type 0} (key : Writing K) (text slots : M → List ℕ) (n : ℕ
         sym (head_then key text p inner is n s.0 s.1) ∙ ap (λ z. z ++ text p.1) split ∙ append_assoc front rest (text p.1),
         omega (arith, more, length-append rest (text p.1)),
       ),
+      (1, omega arith, on),
     ),
   )

@@ -1,5 +1,4 @@
 -- An entry is merged, and a run is read, in one way.
-use Rattle.std.specs.Prelude.{IsOk}
 use Rattle.std.proofs.Common.{◌≡◌, ◌≢◌, ℕ, ◌+◌, ◌*◌, ◌≤◌, ◌⊎◌, inl, inr, Bool, false, true, List, [], ◌∷◌, ◌++◌, Result, Ok, Err, length, ap, append_assoc, refl, subst, sym, ◌∙◌, arith, cond}
 use Rattle.std.specs.Map.{lookup_entry}
 use Rattle.buffa_bytes.proofs.DelimitedLemmas.{delimited_faulty, delimited_sound, delimited_taken}
@@ -8,18 +7,20 @@ use Rattle.buffa_bytes.proofs.StepLemmas.{agree_ok}
 use Rattle.buffa_bytes.specs.declared.error.DecodeError.{DecodeError}
 use Rattle.buffa_bytes.specs.declared.error.DecodeError.TheVariants.{OutOfMemory}
 use Rattle.buffa_bytes.specs.declared.wire_type.WireType.TheVariants.{LengthDelimited}
+use Rattle.buffa_wire.proofs.PinLemmas.{budget_is_pinned}
 use Rattle.buffa_wire.proofs.SequenceLemmas.{ok_no_err, ok_same}
+use Rattle.buffa_bytes.specs.Left.{past_no_tag}
 use Rattle.buffa_wire.specs.BudgetLeft.{BudgetLeft, Pays, nothing, plus, slots}
 use Rattle.buffa_wire.specs.Content.{Content}
 use Rattle.buffa_wire.specs.Field.{TakesDelimited}
 use Rattle.buffa_wire.specs.Reading.{delimited_at, tag_at}
-use Rattle.buffa_map.specs.Codec.{Reading, Refuses, value_at}
+use Rattle.buffa_map.specs.Codec.{Reading, Refuses, Spends, value_at, value_need}
 use Rattle.buffa_map.specs.Entry.{EntryFault, inner_need, need_at, need_of, blanks}
-use Rattle.buffa_map.specs.Merge.{HasRecord, MergesEntry, ReadsRun, RefusesEntry, Rules, State, StopsRun}
+use Rattle.buffa_map.specs.Merge.{HasRecord, RefusesEntry, Rules, State, StopsRun}
 use Rattle.buffa_map.specs.Pairs.{SamePairs}
 use Rattle.buffa_map.specs.Pinned.{SameState, EntryIsPinned, RunIsPinned, ValueIsPinned}
 use Rattle.buffa_map.specs.Run.{EntryRecord, Paid, RecordFault, Run, RunFault, added, fold_entries, inner_needs, record_at, record_need, step, undeclared}
-use Rattle.buffa_map.proofs.EntryLemmas.{Plain, need_by-nothing}
+use Rattle.buffa_map.proofs.EntryLemmas.{Plain, need_by-nothing, value_faulty}
 use Rattle.buffa_map.proofs.FrontLemmas.{paid_no_fault, same_front, same_taken}
 use Rattle.buffa_map.proofs.NeedLemmas.{need_free}
 use Rattle.buffa_map.proofs.ResultLemmas.{not_ok}
@@ -54,10 +55,6 @@ spent_one old over cost n m a b is z w h k p q =
     one_memory old cost n a b z h (subst (λ u. Spent old cost u b) (w ∙ sym z) (subst (λ u. Spent u cost m b) (sym is) k)) p (subst (λ u. cost ≤ u → b + cost ≤ u) (sym is) q)
 
 -- ---- entries
-
-taken_by : (bs : List ℕ) (x : Result (List ℕ × List ℕ) DecodeError) → delimited_at bs ≡ x → IsOk x → (e : List ℕ) × (rest : List ℕ) × TakesDelimited bs e rest
-taken_by bs (Ok p) is ok = (p.0, p.1, agree_ok (delimited_at bs) p (delimited_sound bs) is)
-taken_by bs (Err z) is ok = absurd (not_ok {T = List ℕ × List ℕ} {E = DecodeError} (Err z) z refl ok)
 
 module _ {K V : Type 0} (key : Reading K) (val : Reading V) (d n cost slot : ℕ)
     (key_free : key.nested ≡ false → (d : ℕ) (c : Content) → key.cost d c ≡ nothing) (val_free : val.nested ≡ false → (d : ℕ) (c : Content) → val.cost d c ≡ nothing) where
@@ -166,7 +163,7 @@ module _ {K V : Type 0} (r : Rules K V)
         (one_memory old.left.memory r.cost (inner_need r.key r.val r.depth bs).memory a.left.memory b.left.memory unit h.units k.units (h.charged ne p.0 p.1 t) (k.charged nf p.0 p.1 t))
     refused_left (Err z) is = h.unspent (not_ok (delimited_at bs) z is) ∙ sym (k.unspent (not_ok (delimited_at bs) z is))
 
-    refused_one : (f ≡ g) × SameState r a b × (IsOk (delimited_at bs) → x ≡ y)
+    refused_one : (f ≡ g) × SameState r a b
     refused_one =
         let pairs : a.pairs ≡ b.pairs = h.pairs ∙ sym k.pairs in (
           entry_one r.key r.val r.depth r.number r.cost r.slot key_free val_free plain old.left bs f g (h.fault ne) (k.fault nf),
@@ -176,8 +173,12 @@ module _ {K V : Type 0} (r : Rules K V)
             left = refused_left (delimited_at bs) refl;
             order = λ o. pairs;
           },
-          λ ok. let t = taken_by bs (delimited_at bs) refl ok in h.past ne t.0 t.1 t.2 ∙ sym (k.past nf t.0 t.1 t.2),
         )
+
+  one_rest : (old : State K V) (bs : List ℕ) (a b : State K V) (x y : List ℕ) (f g : DecodeError) → RefusesEntry r old bs a x f → RefusesEntry r old bs b y g → f ≢ OutOfMemory → g ≢ OutOfMemory →
+      (z : Result (List ℕ × List ℕ) DecodeError) → delimited_at bs ≡ z → x ≡ y
+  one_rest old bs a b x y f g h k ne nf (Ok p) is = let t = agree_ok (delimited_at bs) p (delimited_sound bs) is in h.past ne p.0 p.1 t ∙ sym (k.past nf p.0 p.1 t)
+  one_rest old bs a b x y f g h k ne nf (Err z) is = h.past_no_text z is ∙ sym (k.past_no_text z is)
 
   pub entry_is_pinned : EntryIsPinned r
   entry_is_pinned = record {
@@ -199,6 +200,7 @@ module _ {K V : Type 0} (r : Rules K V)
         let paid = h.pays in
         paid_no_fault r.key r.val r.depth r.cost r.slot old.left bs h.entry x h.says f h.read
         (omega (arith, paid.1)) (omega (arith, paid.0)) (k.fault ne);
+    leaves = λ old bs a b x y f g h k ne nf. one_rest old bs a b x y f g h k ne nf (delimited_at bs) refl;
     faults = λ plain old bs a b x y f g h k ne nf. refused_one plain old bs a b x y f g h k ne nf;
   }
 
@@ -221,6 +223,25 @@ module _ {K V : Type 0} (r : Rules K V)
 
     stopped_after : SamePairs r.same a.pairs b.pairs × (a.records ≡ b.records)
     stopped_after = after_same old a b h.entries k.entries stopped_same.0 h.folded k.folded h.keeps k.keeps
+
+    one_unread : RecordFault r.key r.val r.depth r.number r.cost r.slot h.over h.rest f → x ≡ y
+    one_unread (inl bad) =
+        let is = tag_faulty h.rest f bad in
+        let same = stopped_same.1 in
+        h.past_no_tag f is ∙ ap past_no_tag same ∙ sym (k.past_no_tag f (ap tag_at (sym same) ∙ is))
+    one_unread (inr (inl (n, w, m, t, other, which))) =
+        let is = tag_read r.key r.val r.depth r.number r.cost r.slot h.over h.rest m n w t in
+        h.past_tag n w m is (inl other) ∙ sym (k.past_tag n w m (ap tag_at (sym stopped_same.1) ∙ is) (inl other))
+    one_unread (inr (inr (inl (w, m, t, other, which)))) =
+        let is = tag_read r.key r.val r.depth r.number r.cost r.slot h.over h.rest m r.number w t in
+        h.past_tag r.number w m is (inr other) ∙ sym (k.past_tag r.number w m (ap tag_at (sym stopped_same.1) ∙ is) (inr other))
+    one_unread (inr (inr (inr (m, t, inl bad)))) =
+        let is = tag_read r.key r.val r.depth r.number r.cost r.slot h.over h.rest m r.number LengthDelimited t in
+        let short = delimited_faulty m f bad in
+        h.past_no_text m f is short ∙ sym (k.past_no_text m f (ap tag_at (sym stopped_same.1) ∙ is) short)
+    one_unread (inr (inr (inr (m, t, inr (u, e, after, v, split, bad))))) =
+        let is = tag_read r.key r.val r.depth r.number r.cost r.slot h.over h.rest m r.number LengthDelimited t in
+        h.past ne m e after is (u, v, split) ∙ sym (k.past nf m e after (ap tag_at (sym stopped_same.1) ∙ is) (u, v, split))
 
     module _ (plain : Plain r.key r.val r.depth) where
       stopped_over : h.over ≡ k.over
@@ -274,7 +295,7 @@ module _ {K V : Type 0} (r : Rules K V)
     stops = λ old bs a b x y f g h k ne nf.
         let same = stopped_same old bs a b x y f g h k ne nf in
         let after = stopped_after old bs a b x y f g h k ne nf in
-        (same.0, same.1, after.0, after.1);
+        (same.0, same.1, after.0, after.1, one_unread old bs a b x y f g h k ne nf (h.fault ne));
     faults = λ plain old bs a b x y f g h k ne nf. stopped_one old bs a b x y f g h k ne nf plain;
   }
 
@@ -283,11 +304,22 @@ module _ {K V : Type 0} (r : Rules K V)
 plainly : {V : Type 0} (codec : Reading V) → codec.nested ≡ false → (d : ℕ) (old : V) (bs : List ℕ) (left : BudgetLeft) (f : DecodeError) → Refuses codec.nested codec d old bs left f → value_at codec d old bs ≡ Err f
 plainly codec plain d old bs left f h = subst (λ z. Refuses z codec d old bs left f) plain h
 
+paid_once : (b : Bool) (left need x y : BudgetLeft) → Spends {T = Unit {0}} b (Ok tt) left need x → Spends {T = Unit {0}} b (Ok tt) left need y → x ≡ y
+paid_once false left need x y h k = h ∙ sym k
+paid_once true left need x y h k = same_left left need need x y refl h k
+
+not_refused : {V : Type 0} (codec : Reading V) (d : ℕ) (old : V) (bs : List ℕ) (left over : BudgetLeft) (x : (V × Bool) × List ℕ) (f : DecodeError) (b : Bool) →
+    value_at codec d old bs ≡ Ok x → Spends {T = Unit {0}} b (Ok tt) left (value_need codec d bs) over → Refuses b codec d old bs left f → ⊥
+not_refused codec d old bs left over x f false h paid k = ok_no_err (sym h ∙ k)
+not_refused codec d old bs left over x f true h paid (inl few) = (budget_is_pinned left (value_need codec d bs)).lacked over paid few
+not_refused codec d old bs left over x f true h paid (inr bad) = ok_no_err (sym h ∙ (value_faulty codec d old bs f bad).1)
+
 pub value_is_pinned : {V : Type 0} (codec : Reading V) → ValueIsPinned codec
 value_is_pinned codec = record {
   merged = λ d old bs v w a b x y h k.
       let same = ok_same (sym h ∙ k) in
       (ap (λ z. z.0.0) same, ap (λ z. z.0.1) same, ap (λ z. z.1) same);
-  refused = λ plain d old bs left v a x f h k. ok_no_err (sym h ∙ plainly codec plain d old bs left f k);
+  spent = λ d bs left a b h k. paid_once codec.nested left (value_need codec d bs) a b h k;
+  refused = λ d old bs left over v a x f h paid k. not_refused codec d old bs left over ((v, a), x) f codec.nested h paid k;
   faults = λ plain d old bs left f g h k. err_one (plainly codec plain d old bs left f h) (plainly codec plain d old bs left g k);
 }

@@ -1,5 +1,5 @@
 -- Sizes, texts, rewrites and puts have one answer.
-use Rattle.std.proofs.Common.{◌≡◌, ◌≢◌, ℕ, ◌+◌, ◌^◌, ◌<◌, ◌≤◌, inl, inr, Bool, true, false, cond, List, [], ◌∷◌, ◌++◌, Some, None, Result, Ok, Err, length, ap, refl, subst, sym, ◌∙◌, arith, length-append}
+use Rattle.std.proofs.Common.{◌≡◌, ◌≢◌, ℕ, ◌^◌, ◌<◌, ◌≤◌, Bool, false, cond, List, [], ◌∷◌, ◌++◌, Some, Result, Ok, Err, length, ap, refl, subst, sym, ◌∙◌, arith, length-append}
 use Rattle.std.specs.Cmp.{IsEquivalence}
 use Rattle.std.specs.List.{All}
 use Rattle.std.specs.Map.{lookup_entry}
@@ -14,6 +14,7 @@ use Rattle.buffa_wire.proofs.SequenceLemmas.{ok_no_err}
 use Rattle.buffa_wire.specs.BudgetLeft.{BudgetLeft, nothing}
 use Rattle.buffa_wire.specs.Cache.{Cache}
 use Rattle.buffa_wire.specs.Content.{Content}
+use Rattle.buffa_wire.specs.Records.{Datum}
 use Rattle.buffa_wire.specs.Text.{records_text}
 use Rattle.buffa_wire.specs.Values.{tag_text}
 use Rattle.buffa_map.specs.Codec.{Writing}
@@ -24,7 +25,6 @@ use Rattle.buffa_map.specs.PinnedTexts.{FieldIsPinned, MessagesArePinned, NoneIs
 use Rattle.buffa_map.specs.Rewrite.{RefusesBytes, RefusesOutput, RefusesRewrite, RewritesRun}
 use Rattle.buffa_map.specs.Run.{EntryRecord, Paid, Run, fold_entries, undeclared_records}
 use Rattle.buffa_map.specs.Text.{HasText, RefusesField, WritesField, entry_text, field_text, saturated}
-use Rattle.buffa_map.proofs.EntryLemmas.{Plain}
 use Rattle.buffa_map.proofs.PinLemmas.{fault_of, one_over, run_is_pinned, run_one}
 use Rattle.buffa_map.proofs.PutLemmas.{key_or, lookup_entry-put}
 use Rattle.buffa_map.proofs.RunLemmas.{run_complete, run_faulty}
@@ -161,6 +161,26 @@ module _ {K V : Type 0} (r : Rules K V) (laws : IsEquivalence r.same)
       let turned = permuted laws (fold_entries r.same [] h.entries) h.rewrite.0 k.walk h.rewrite.1 (once_more h.entries k.entries e k.walk k.once) in
       no_long key val h.rewrite.0 k.walk done p rest h.rewrite.2 (all_short key val h.rewrite.0 h.rewrite.2) is (All-permutation (IsShort key val) h.rewrite.0 k.walk turned) long
 
+  -- two refused texts
+  one_error : (d e : EncodeError) (kept more : List (ℕ × Datum)) (l m : List (K × V)) → RefusesRewrite key val r.number kept old v l d → RefusesRewrite key val r.number more old w m e →
+      d ≢ OutOfMemory → e ≢ OutOfMemory → (d ≡ e) × (l ≡ m → v ≡ w)
+  one_error OutOfMemory e kept more l m h k ne nf = absurd (ne refl)
+  one_error d OutOfMemory kept more l m h k ne nf = absurd (nf refl)
+  one_error (GroupRefused x) e kept more l m h k ne nf = absurd h
+  one_error d (GroupRefused x) kept more l m h k ne nf = absurd k
+  one_error MessageTooLarge MessageTooLarge kept more l m h k ne nf =
+      (refl, λ same. one_refusal key val r.number old v w m (subst (λ z. RefusesField key val r.number old v z MessageTooLarge) same h) k)
+
+  two_texts : (d e : EncodeError) (h : RefusesOutput r key val A left bytes a over x old v room d) (k : RefusesOutput r key val B left bytes b last y old w room e) →
+      SamePairs r.same a b × (over ≡ last) × (x ≡ y) × (d ≢ OutOfMemory → e ≢ OutOfMemory → (d ≡ e) × (h.walk ≡ k.walk → v ≡ w))
+  two_texts d e h k =
+      let same = same_runs h.entries k.entries h.run k.run in (
+        λ q. sym (h.folded q) ∙ ap (λ z. lookup_entry (r.same q) (fold_entries r.same [] z)) same ∙ k.folded q,
+        one_over r.key r.val r.depth r.number r.cost r.slot key_free val_free left over last h.entries k.entries same h.paid k.paid,
+        h.whole ∙ sym k.whole,
+        one_error d e (undeclared_records r.number h.entries) (undeclared_records r.number k.entries) h.walk k.walk h.text k.text,
+      )
+
   pub rewrite_is_pinned : RewriteIsPinned r key val KeyFits ValFits A B left bytes a b over last x y old v w room
   rewrite_is_pinned = record {
     rewritten = one_rewrite;
@@ -171,7 +191,9 @@ module _ {K V : Type 0} (r : Rules K V) (laws : IsEquivalence r.same)
         ∙ (run_faulty r.key r.val r.depth r.number r.cost r.slot key_free val_free left bytes f (fault_of r key_free val_free (state [] [] left) bytes (state a h.0 over) x f h.1 ne)).1);
     faults = λ plain f g h k ne nf.
         let same = (run_is_pinned r key_free val_free).faults plain (state [] [] left) bytes (state a h.0 over) (state b k.0 last) x y f g h.1 k.1 ne nf in
-        (same.0, same.1.pairs, same.1.left, h.2 ∙ sym k.2);
+        let stops = (run_is_pinned r key_free val_free).stops (state [] [] left) bytes (state a h.0 over) (state b k.0 last) x y f g h.1 k.1 ne nf in
+        (same.0, same.1.pairs, same.1.left, stops.4, h.2 ∙ sym k.2);
+    texts = two_texts;
   }
 
 -- ---- puts

@@ -8,8 +8,10 @@ use Rattle.buffa_bytes.specs.declared.error.DecodeError.{DecodeError}
 use Rattle.buffa_bytes.specs.declared.error.DecodeError.TheVariants.{OutOfMemory, UnexpectedField}
 use Rattle.buffa_bytes.specs.declared.wire_type.WireType.{WireType}
 use Rattle.buffa_bytes.specs.declared.wire_type.WireType.TheVariants.{LengthDelimited}
+use Rattle.buffa_bytes.specs.Left.{past_no_tag, past_no_text}
+use Rattle.buffa_wire.proofs.SequenceLemmas.{ok_no_err}
 use Rattle.buffa_wire.specs.BudgetLeft.{BudgetLeft}
-use Rattle.buffa_wire.specs.Reading.{check_wire, tag_at}
+use Rattle.buffa_wire.specs.Reading.{check_wire, delimited_at, tag_at}
 use Rattle.buffa_map.specs.Merge.{MergesEntry, ReadsRun, RefusesEntry, Rules, State, StopsRun}
 use Rattle.buffa_map.specs.Pairs.{InOrder, SamePairs}
 use Rattle.buffa_map.specs.Run.{fold_entries, Paid, RecordFault, Run, EntryRecord, added}
@@ -64,8 +66,8 @@ module _ {K V : Type 0} (r : Rules K V) (old : State K V) (bs : List ℕ) where
         × ((mid : List ℕ) → tag_at rest ≡ Ok (r.number, LengthDelimited, mid) → ⊥)
 
     -- the next record is refused before its entry
-    stop_here : (unread : List ℕ) (f : DecodeError) → IsTailOf unread rest → Unread unread → 0 < length rest → (f ≡ OutOfMemory → ⊥) → (f ≢ OutOfMemory → RecordFault r.key r.val r.depth r.number r.cost r.slot now.left rest f) → StopsRun r old bs now unread f
-    stop_here unread f tail past more full fault = record {
+    stop_here : (unread : List ℕ) (f : DecodeError) → IsTailOf unread rest → Unread unread → ((x : DecodeError) → tag_at rest ≡ Err x → unread ≡ past_no_tag rest) → 0 < length rest → (f ≡ OutOfMemory → ⊥) → (f ≢ OutOfMemory → RecordFault r.key r.val r.depth r.number r.cost r.slot now.left rest f) → StopsRun r old bs now unread f
+    stop_here unread f tail past short more full fault = record {
       entries = h.entries;
       rest = rest;
       over = now.left;
@@ -86,19 +88,21 @@ module _ {K V : Type 0} (r : Rules K V) (old : State K V) (bs : List ℕ) where
       past_tag = past.0;
       past = λ ne mid e after is t. absurd (past.1 mid is);
       within = λ mid e after is t. absurd (past.1 mid is);
+      past_no_text = λ mid x is no. absurd (past.1 mid is);
+      past_no_tag = short;
     }
 
-    pub stop_tag : (unread : List ℕ) (f : DecodeError) → IsTailOf unread rest → 0 < length rest → tag_at rest ≡ Err f → StopsRun r old bs now unread f
-    stop_tag unread f tail more is = stop_here unread f tail (λ g w mid k. no_tag rest f is g w mid k, λ mid k. no_tag rest f is r.number LengthDelimited mid k) more (tag_no_full rest f is) (λ ne. record_tag r.key r.val r.depth r.number r.cost r.slot now.left rest f is)
+    pub stop_tag : (unread : List ℕ) (f : DecodeError) → IsTailOf unread rest → unread ≡ past_no_tag rest → 0 < length rest → tag_at rest ≡ Err f → StopsRun r old bs now unread f
+    stop_tag unread f tail left more is = stop_here unread f tail (λ g w mid k. no_tag rest f is g w mid k, λ mid k. no_tag rest f is r.number LengthDelimited mid k) (λ x no. left) more (tag_no_full rest f is) (λ ne. record_tag r.key r.val r.depth r.number r.cost r.slot now.left rest f is)
 
     module _ (mid : List ℕ) (g : ℕ) (w : WireType) (more : 0 < length rest) (tag : tag_at rest ≡ Ok (g, w, mid)) where
       pub stop_other : g ≢ r.number → StopsRun r old bs now mid (UnexpectedField g)
-      stop_other other = stop_here mid (UnexpectedField g) (tag_tail rest mid g w tag) (λ h v m k _. one_after rest mid m g h w v tag k, λ m k. other (one_number rest mid m g r.number w LengthDelimited tag k)) more (λ out. cc) (λ ne. record_other r.key r.val r.depth r.number r.cost r.slot now.left rest mid g w tag other)
+      stop_other other = stop_here mid (UnexpectedField g) (tag_tail rest mid g w tag) (λ h v m k _. one_after rest mid m g h w v tag k, λ m k. other (one_number rest mid m g r.number w LengthDelimited tag k)) (λ x no. absurd (ok_no_err (sym tag ∙ no))) more (λ out. cc) (λ ne. record_other r.key r.val r.depth r.number r.cost r.slot now.left rest mid g w tag other)
 
       pub stop_mismatch : (f : DecodeError) → g ≡ r.number → check_wire g LengthDelimited w ≡ Err f → StopsRun r old bs now mid f
       stop_mismatch f same is =
           let differs = (agree_err (check_wire g LengthDelimited w) f (check_sound g LengthDelimited w) is).0 in
-          stop_here mid f (tag_tail rest mid g w tag) (λ h v m k _. one_after rest mid m g h w v tag k, λ m k. differs (one_wire rest mid m g r.number w LengthDelimited tag k)) more (mismatch_no_full g LengthDelimited w f is) (λ ne. record_mismatch r.key r.val r.depth r.number r.cost r.slot now.left rest mid g w f tag same is)
+          stop_here mid f (tag_tail rest mid g w tag) (λ h v m k _. one_after rest mid m g h w v tag k, λ m k. differs (one_wire rest mid m g r.number w LengthDelimited tag k)) (λ x no. absurd (ok_no_err (sym tag ∙ no))) more (mismatch_no_full g LengthDelimited w f is) (λ ne. record_mismatch r.key r.val r.depth r.number r.cost r.slot now.left rest mid g w f tag same is)
 
       module _ (same : g ≡ r.number) (wire : check_wire g LengthDelimited w ≡ Ok tt) where
         pub stop_entry : (new : State K V) (unread : List ℕ) (f : DecodeError) → RefusesEntry r now mid new unread f → StopsRun r old bs new unread f
@@ -128,6 +132,8 @@ module _ {K V : Type 0} (r : Rules K V) (old : State K V) (bs : List ℕ) where
               tail = tail_more rest mid unread k.tail (tag_tail rest mid g w tag);
               past_tag = λ h v m is other. absurd (elim other [ inl n ↦ n (one_number rest m mid h r.number v w is (tag ∙ ap (λ z. Ok (z, w, mid)) same)) | inr n ↦ n (one_wire rest m mid h r.number v LengthDelimited is found) ]);
               past = λ ne m e after is t. k.past ne e after (subst (λ z. TakesDelimited z e after) (one_after rest m mid r.number r.number LengthDelimited LengthDelimited is found) t);
+              past_no_text = λ m x is no. let one = one_after rest m mid r.number r.number LengthDelimited LengthDelimited is found in k.past_no_text x (ap delimited_at (sym one) ∙ no) ∙ ap past_no_text (sym one);
+              past_no_tag = λ x no. absurd (ok_no_err (sym tag ∙ no));
               within = λ m e after is t. k.within e after (subst (λ z. TakesDelimited z e after) (one_after rest m mid r.number r.number LengthDelimited LengthDelimited is found) t);
             }
 

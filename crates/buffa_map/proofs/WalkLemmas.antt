@@ -1,5 +1,5 @@
 -- Two walks of one map.
-use Rattle.std.proofs.Common.{◌≡◌, ◌⊎◌, inl, inr, ℕ, ◌+◌, ◌*◌, ◌^◌, ◌<◌, Bool, true, false, cond, List, [], ◌∷◌, ◌++◌, Some, None, length, map, refl, sym, ap, subst, ◌∙◌, arith, length-append}
+use Rattle.std.proofs.Common.{◌≡◌, ◌≢◌, ◌⊎◌, inl, inr, ℕ, ◌+◌, ◌*◌, ◌^◌, ◌<◌, Bool, true, false, cond, List, [], ◌∷◌, ◌++◌, Some, None, length, map, refl, sym, ap, subst, ◌∙◌, arith, length-append}
 use Rattle.std.specs.Cmp.{IsEquivalence}
 use Rattle.std.specs.List.{AllByRecursion, IsDistinct, sum_by}
 use Rattle.std.specs.List.Sorted.{IsPermutation}
@@ -79,6 +79,10 @@ module _ {K V : Type 0} {eq : K → K → Bool} (laws : IsEquivalence eq) where
   -- a walk has as many pairs as the map
   pub one_count : (m l : List (K × V)) → IsDistinct eq (keys_of m) → ListsOnce eq m l → length l ≡ length m
   one_count m l d h = length_permutation m l (permuted m m l (d, λ q. refl) h)
+
+  -- a map of which a walk gives a pair has pairs
+  pub has_pairs : (m l done rest : List (K × V)) (p : K × V) → IsDistinct eq (keys_of m) → ListsOnce eq m l → l ≡ done ++ p ∷ rest → m ≢ []
+  has_pairs m l done rest p d h e none = absurd (omega (arith, one_count m l d h, ap length none, ap length e, length-append done (p ∷ rest)))
 
 module _ {K V : Type 0} (key : Writing K) (val : Writing V) where
   abbrev pair_size : ℕ → K × V → ℕ

@@ -62,7 +62,7 @@ module _ {K W : Type 0} (key : Writing K) (val : Writing W) (n : ℕ) where
   field_text-last ps p = field_text-append ps (p ∷ []) ∙ ap (λ z. field_text key val n ps ++ z) (append-nil (record_text key val n p))
 
   -- the records of some pairs, and of one more, are no longer than those of all
-  field_text-parts : (all done : List (K × W)) (p : K × W) (rest : List (K × W)) → all ≡ done ++ p ∷ rest →
+  pub field_text-parts : (all done : List (K × W)) (p : K × W) (rest : List (K × W)) → all ≡ done ++ p ∷ rest →
       length (field_text key val n done) + length (record_text key val n p) ≤ length (field_text key val n all)
   field_text-parts all done p rest is =
       omega (
@@ -72,6 +72,10 @@ module _ {K W : Type 0} (key : Writing K) (val : Writing W) (n : ℕ) where
         length-append (field_text key val n done) (record_text key val n p ++ field_text key val n rest),
         length-append (record_text key val n p) (field_text key val n rest),
       )
+
+  -- the room that some records took, and one more
+  pub room_more : (room mid left : ℕ) (done : List (K × W)) (p : K × W) → room ≤ mid + length (field_text key val n done) → mid ≤ left + length (record_text key val n p) → room ≤ left + length (field_text key val n (done ++ p ∷ []))
+  room_more room mid left done p h k = omega (arith, h, k, ap length (field_text-last done p), length-append (field_text key val n done) (record_text key val n p))
 
   pub HasText-last : (ps : List (K × W)) (p : K × W) → HasText key val ps → length (entry_text key val p) < 2 ^ 64 → HasText key val (ps ++ p ∷ [])
   HasText-last [] p h k = (k, tt)

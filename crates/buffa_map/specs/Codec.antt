@@ -1,7 +1,8 @@
 -- What a codec makes of payloads and of values.
-use Rattle.std.specs.Prelude.{◌≡◌, ◌↔◌, ℕ, zero, suc, ◌⊎◌, Bool, true, false, List, Option, Result, Ok, Err, IsOk, MatchResult}
+use Rattle.std.specs.Prelude.{◌≡◌, ◌↔◌, ℕ, zero, suc, ◌⊎◌, Bool, true, false, List, [], Option, Result, Ok, Err, IsOk, MatchResult}
 use Rattle.buffa_wire.specs.Gives.{◌>>=◌}
 use Rattle.buffa_wire.specs.Content.{Content, TakesContent, ContentFault, content_at}
+use Rattle.buffa_wire.specs.Content.Content.{bytes}
 use Rattle.buffa_wire.specs.BudgetLeft.{BudgetLeft, Lacks, Pays, PaysAtMost, nothing}
 use Rattle.buffa_wire.specs.Message.{IsLimit}
 use Rattle.buffa_bytes.specs.declared.wire_type.WireType.{WireType}
@@ -13,12 +14,14 @@ use Rattle.buffa_map.specs.declared.codec.MapValueDecodeStatus.TheVariants.{Know
 -- How a codec reads: what a value starts with, the wire type of its payloads, and at a depth what a content
 -- makes of the value that stood: the new value, and whether the content is a declared one; or the fault.
 -- Payloads are plain, or they are nested: messages, of which each opens a level, costs something, and leaves open
--- which fault it has inside. Where they are plain they cost nothing. Reading some takes memory, which may run out.
+-- which fault it has inside. Where they are plain they cost nothing. Some may hold a value that is undeclared. Reading
+-- some takes memory, which may run out.
 pub record Reading (V : Type 0) : Type 0 where
   pub blank : V
   pub wire : WireType
   pub reads : ℕ → V → Content → Result (V × Bool) DecodeError
   pub nested : Bool
+  pub undeclared : Bool
   pub takes_memory : Bool
   pub cost : ℕ → Content → BudgetLeft
 
@@ -48,6 +51,14 @@ value_at codec d old bs = do
 -- where reading the payload at the front takes memory: the codec takes it, a level is left, and a whole payload is there
 abbrev pub TakesMemory : {V : Type 0} → Reading V → ℕ → List ℕ → Type 0
 TakesMemory codec d bs = (codec.takes_memory ≡ true) × (level codec.nested d ≡ Ok tt) × IsOk (content_at codec.wire bs)
+
+-- a level is left, and a whole payload is at the front
+abbrev pub IsWhole : {V : Type 0} → Reading V → ℕ → List ℕ → Type 0
+IsWhole codec d bs = (level codec.nested d ≡ Ok tt) × IsOk (content_at codec.wire bs)
+
+-- a level is left, and a message of no bytes is at the front
+abbrev pub HoldsNothing : {V : Type 0} → Reading V → ℕ → List ℕ → Type 0
+HoldsNothing codec d bs = (codec.nested ≡ true) × (level codec.nested d ≡ Ok tt) × (rest : List ℕ) × (content_at codec.wire bs ≡ Ok (bytes [], rest))
 
 -- what is needed by what was read, if it was read
 abbrev pub need_by : {A : Type 0} → Result A DecodeError → (A → BudgetLeft) → BudgetLeft

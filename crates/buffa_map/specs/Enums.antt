@@ -13,7 +13,7 @@ use Rattle.buffa_map.specs.Scalars.{number_reading, varint_writing}
 
 -- a number that is declared is the value; for any other the value stands as it stood, and the payload isn't a declared one
 abbrev pub closed_reading : Numbers → Reading ℤ
-closed_reading e = record { blank = e.blank; wire = Varint; reads = λ d old c. let n : ℤ = int32_of (number_in c) in Ok (cond (e.declares n) (n, true) (old, false)); nested = false; takes_memory = false; cost = λ d c. nothing }
+closed_reading e = record { blank = e.blank; wire = Varint; reads = λ d old c. let n : ℤ = int32_of (number_in c) in Ok (cond (e.declares n) (n, true) (old, false)); nested = false; undeclared = true; takes_memory = false; cost = λ d c. nothing }
 
 abbrev pub closed_writing : Writing ℤ
 closed_writing = varint_writing (cast_unsigned w64)

@@ -13,7 +13,6 @@ pub mod Message
 pub mod MessageLaws
 pub mod MessageField
 pub mod Plain
-pub mod Colour
 pub mod Enums
 pub mod Rewrite
 pub mod EnumLaws

@@ -1,7 +1,8 @@
 -- What reading entries does to a map, to the records that are kept beside it, and to a budget.
-use Rattle.std.specs.Prelude.{◌≡◌, ◌≢◌, ℕ, ◌+◌, ◌≤◌, Bool, List, [], ◌∷◌, ◌++◌, ◌⊎◌, cond, true, Option, None, Some, Ok, IsOk}
+use Rattle.std.specs.Prelude.{◌≡◌, ◌≢◌, ℕ, ◌+◌, ◌≤◌, Bool, List, [], ◌∷◌, ◌++◌, ◌⊎◌, cond, true, Option, None, Some, Ok, Err, IsOk}
 use Rattle.buffa_bytes.specs.declared.error.DecodeError.{DecodeError}
 use Rattle.buffa_bytes.specs.declared.error.DecodeError.TheVariants.{OutOfMemory}
+use Rattle.buffa_bytes.specs.Left.{past_no_tag, past_no_text}
 use Rattle.buffa_bytes.specs.Unread.{IsTailOf}
 use Rattle.buffa_bytes.specs.declared.wire_type.WireType.{WireType}
 use Rattle.buffa_wire.specs.Field.{TakesDelimited}
@@ -65,17 +66,23 @@ pub record MergesEntry {K V : Type 0} (r : Rules K V) (old : State K V) (bytes :
   pub keeps : new.records ≡ old.records ++ cond says.known [] (r.adds r.number entry)
   pub pays : Pays old.left (plus (need_of r.key r.val r.depth r.cost entry) (slots (cond says.known 0 r.slot))) new.left
 
+-- what keeping an entry takes is left: a slot, behind what its fields cost
+abbrev pub HasSlot : {K V : Type 0} → Rules K V → BudgetLeft → List ℕ → Type 0
+HasSlot r left e = (r.slot ≢ 0) × ((need_of r.key r.val r.depth r.cost e).unknown + r.slot ≤ left.unknown)
+
 -- Where merging an entry takes memory, of which f is told: its length and so many bytes are there; these are copied,
--- if an entry may be kept; or its units are left, and a field takes memory, or the whole entry is put or kept.
+-- if an entry may be undeclared and is kept then; or its units are left, and a field takes memory, or the whole entry is
+-- put, or kept where its slot is left.
 abbrev pub EntryTakesMemory : {K V : Type 0} → Rules K V → BudgetLeft → List ℕ → DecodeError → Type 0
 EntryTakesMemory {K} {V} r left bs f =
     (e : List ℕ) × (rest : List ℕ) × (delimited_at bs ≡ Ok (e, rest))
-    × (((r.slot ≢ 0) × (e ≢ []))
+    × (((r.slot ≢ 0) × (r.val.undeclared ≡ true) × (e ≢ []))
     ⊎ ((r.cost ≤ left.memory) × (FieldsTakeMemory r.key r.val r.depth e f
-    ⊎ ((s : MapEntry K V) × IsEntry r.key r.val r.depth e s × ((s.known ≡ true) ⊎ (r.slot ≢ 0))))))
+    ⊎ ((s : MapEntry K V) × IsEntry r.key r.val r.depth e s × ((s.known ≡ true) ⊎ HasSlot r left e)))))
 
 -- f is why not, and out of memory only where merging the entry takes memory; map and records stand. What is
--- unread is a tail of what was; it is what follows the entry, where that was there and had a fault. Of the budget at
+-- unread is a tail of what was; it is what follows the entry, where that was there and had a fault, and what follows its
+-- length, or no length, where it wasn't there. Of the budget at
 -- most the entry's cost, its slot and what the messages in it cost are gone; the cost is gone where the entry was there
 -- and had a fault; the slot is not, where f is a fault; nothing is, where no length and so many bytes were there.
 pub record RefusesEntry {K V : Type 0} (r : Rules K V) (old : State K V) (bytes : List ℕ) (new : State K V) (unread : List ℕ) (f : DecodeError) : Type 0 where
@@ -84,6 +91,7 @@ pub record RefusesEntry {K V : Type 0} (r : Rules K V) (old : State K V) (bytes 
   pub tail : IsTailOf unread bytes
   pub past : f ≢ OutOfMemory → (e rest : List ℕ) → TakesDelimited bytes e rest → unread ≡ rest
   pub within : (e rest : List ℕ) → TakesDelimited bytes e rest → IsTailOf rest unread
+  pub past_no_text : (x : DecodeError) → delimited_at bytes ≡ Err x → unread ≡ past_no_text bytes
   pub pairs : new.pairs ≡ old.pairs
   pub records : new.records ≡ old.records
   pub units : (new.left.memory ≡ old.left.memory)
@@ -118,7 +126,8 @@ pub record ReadsRun {K V : Type 0} (r : Rules K V) (old : State K V) (bytes : Li
 
 -- The records of some entries begin the bytes, and were read; f is why what follows them wasn't, and out of memory only
 -- where merging the entry of a record takes memory. What is unread is a tail of what follows them: what follows the tag, where it is another;
--- what follows the entry, where that was there and had a fault. Of the budget that they leave at most one entry's cost,
+-- what follows the entry, where that was there and had a fault; what follows its length, or no length, where it wasn't;
+-- what follows no tag, where none was there. Of the budget that they leave at most one entry's cost,
 -- its slot and what the messages in it cost are gone; the cost is, where the entry was there and had a fault; nothing
 -- is, where no record of the number was there.
 pub record StopsRun {K V : Type 0} (r : Rules K V) (old : State K V) (bytes : List ℕ) (new : State K V) (unread : List ℕ) (f : DecodeError) : Type 0 where
@@ -143,4 +152,6 @@ pub record StopsRun {K V : Type 0} (r : Rules K V) (old : State K V) (bytes : Li
   pub past_tag : (g : ℕ) (w : WireType) (mid : List ℕ) → tag_at rest ≡ Ok (g, w, mid) → (g ≢ r.number) ⊎ (w ≢ LengthDelimited) → unread ≡ mid
   pub past : f ≢ OutOfMemory → (mid e after : List ℕ) → tag_at rest ≡ Ok (r.number, LengthDelimited, mid) → TakesDelimited mid e after → unread ≡ after
   pub within : (mid e after : List ℕ) → tag_at rest ≡ Ok (r.number, LengthDelimited, mid) → TakesDelimited mid e after → IsTailOf after unread
+  pub past_no_text : (mid : List ℕ) (x : DecodeError) → tag_at rest ≡ Ok (r.number, LengthDelimited, mid) → delimited_at mid ≡ Err x → unread ≡ past_no_text mid
+  pub past_no_tag : (x : DecodeError) → tag_at rest ≡ Err x → unread ≡ past_no_tag rest
   pub no_slot : f ≢ OutOfMemory → over.unknown ≤ new.left.unknown + (record_need r.key r.val r.depth rest).unknown

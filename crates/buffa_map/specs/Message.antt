@@ -1,6 +1,6 @@
 -- The codec of messages: a length and so many bytes, which are merged into the value one level down.
 -- Source: the protobuf encoding guide, "Submessages".
-use Rattle.std.specs.Prelude.{ℕ, Bool, true, List, Option, Some, None, Result, Ok, Err}
+use Rattle.std.specs.Prelude.{ℕ, Bool, false, true, List, Option, Some, None, Result, Ok, Err}
 use Rattle.buffa_wire.specs.Content.{bytes_in}
 use Rattle.buffa_wire.specs.BudgetLeft.{BudgetLeft}
 use Rattle.buffa_wire.specs.Message.{cost_in, merged_in}
@@ -20,6 +20,7 @@ message_reading blank merged cost = record {
   wire = LengthDelimited;
   reads = λ d old c. meant (merged_in merged d old (bytes_in c));
   nested = true;
+  undeclared = false;
   takes_memory = true;
   cost = λ d c. cost_in cost d (bytes_in c);
 }

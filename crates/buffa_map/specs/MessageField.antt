@@ -6,11 +6,13 @@ use Rattle.buffa_bytes.specs.declared.error.EncodeError.{EncodeError}
 use Rattle.buffa_bytes.specs.declared.error.EncodeError.TheVariants.{OutOfMemory}
 use Rattle.buffa_wire.specs.Cache.{Cache, appended}
 use Rattle.buffa_wire.specs.Passes.{IsLonger, IsSmall, WritesIf, cap}
+use Rattle.buffa_wire.specs.Written.{UsesRoom}
 use Rattle.buffa_wire.specs.Values.{tag_text}
 use Rattle.buffa_wire.specs.Varint.{varint_text}
 use Rattle.buffa_map.specs.Codec.{Writing}
 use Rattle.buffa_map.specs.Scalars.{delimited_writing}
 use Rattle.buffa_map.specs.Text.{entry_text, field_size, field_text, record_text, saturated}
+use denote.Ref.{Bor, MutBor}
 
 -- a message whose length is known: the entry's length, and what stands before the message's text in its record of number n
 module _ {K : Type 0} (key : Writing K) where
@@ -52,6 +54,18 @@ module _ {K M : Type 0} (key : Writing K) (text : M → List ℕ) where
   abbrev pub IsFieldWritten : (M → List ℕ) → ℕ → List (K × M) → Cache → List ℕ → Result (Unit {0}) EncodeError → Cache → List ℕ → Type 0
   IsFieldWritten slots n l old before r new after = WritesIf (IsSmallField l) (field_text key (delimited_writing text) n l) (field_slots text slots l) old before r new after
 
+  -- where messages are small, a field that fits is written, and takes no more room than it has bytes
+  abbrev pub UsesFieldRoom : ℕ → List (K × M) → Result (Unit {0}) EncodeError → ℕ → ℕ → Type 0
+  UsesFieldRoom n l r room left = IsSmallField l → UsesRoom r room (field_text key (delimited_writing text) n l) left
+
+  -- the same of the record of one pair
+  abbrev pub UsesRecordRoom : ℕ → K × M → Result (Unit {0}) EncodeError → ℕ → ℕ → Type 0
+  UsesRecordRoom n p r room left = IsSmallPair p → UsesRoom r room (record_text key (delimited_writing text) n p) left
+
   -- the record of one pair
   abbrev pub IsRecordWritten : (M → List ℕ) → ℕ → K × M → Cache → List ℕ → Result (Unit {0}) EncodeError → Cache → List ℕ → Type 0
   IsRecordWritten slots n p old before r new after = WritesIf (IsSmallPair p) (record_text key (delimited_writing text) n p) (cap (length (text p.1)) ∷ slots p.1) old before r new after
+
+-- a function that writes messages writes those that fit, and takes no more room than they have bytes
+abbrev pub KeepsRoom : {A C S : Type 0} → (Bor A → MutBor C → MutBor S → Result (Unit {0}) EncodeError → MutBor C → MutBor S → Type 0) → (A → List ℕ) → (S → ℕ) → Type 0
+KeepsRoom {A} {C} {S} Gives text room = (x : Bor A) (c : MutBor C) (s : MutBor S) (r : Result (Unit {0}) EncodeError) (d : MutBor C) (t : MutBor S) → Gives x c s r d t → UsesRoom r (room s.now) (text x.now) (room t.now)

@@ -34,7 +34,8 @@ pub record MessagesArePinned {K M : Type 0} (key : Writing K) (text slots : M �
       IsFieldWritten key text slots n l old before r a x → IsFieldWritten key text slots n l old before s b y → NoneIsFull r s → (r ≡ s) × (a ≡ b) × (x ≡ y)
 
 -- A run is rewritten in one way only, where one walk is written, and what is rewritten can't have been refused, memory
--- aside; nor can the bytes, where the text was. Two faults of the bytes are one, and find the same pairs.
+-- aside; nor can the bytes, where the text was. Two faults of the bytes are one, and find the same pairs. So do two
+-- refused texts; memory aside they have one error, and of one walk the same of the text was written.
 module _ {K V : Type 0} (r : Rules K V) (key : Writing K) (val : Writing V) (KeyFits : K → Type 0) (ValFits : V → Type 0) (A B : List (K × V) → Type 0)
     (left : BudgetLeft) (bytes : List ℕ) (a b : List (K × V)) (over last : BudgetLeft) (x y old v w : List ℕ) (room : ℕ) where
   pub record RewriteIsPinned : Type 0 where
@@ -44,7 +45,9 @@ module _ {K V : Type 0} (r : Rules K V) (key : Writing K) (val : Writing V) (Key
     pub written : (m : ℕ) (e : EncodeError) → RewritesRun r key val KeyFits ValFits A left bytes a over x old v room m → RefusesOutput r key val B left bytes b last y old w room e → e ≢ OutOfMemory → ⊥
     pub either : (f : DecodeError) (e : EncodeError) → RefusesBytes r left bytes a over x old v f → RefusesOutput r key val B left bytes b last y old w room e → f ≢ decoding.OutOfMemory → ⊥
     pub faults : ArePlain r.key r.val → (f g : DecodeError) → RefusesBytes r left bytes a over x old v f → RefusesBytes r left bytes b last y old w g → f ≢ decoding.OutOfMemory → g ≢ decoding.OutOfMemory →
-        (f ≡ g) × SamePairs r.same a b × (over ≡ last) × (v ≡ w)
+        (f ≡ g) × SamePairs r.same a b × (over ≡ last) × (x ≡ y) × (v ≡ w)
+    pub texts : (d e : EncodeError) (h : RefusesOutput r key val A left bytes a over x old v room d) (k : RefusesOutput r key val B left bytes b last y old w room e) →
+        SamePairs r.same a b × (over ≡ last) × (x ≡ y) × (d ≢ OutOfMemory → e ≢ OutOfMemory → (d ≡ e) × (h.walk ≡ k.walk → v ≡ w))
 
 -- A storage puts in one way only: a key that is there stays as it is stored, and finds the value; a new key is stored as
 -- it is; other keys find what they found. Where the order is kept, two maps after one put are one list.

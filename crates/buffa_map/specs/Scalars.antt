@@ -18,14 +18,14 @@ use Rattle.buffa_map.specs.Codec.{Reading, Writing}
 
 -- the number in a payload of wire type w
 abbrev pub number_reading : {V : Type 0} → WireType → V → (ℕ → V) → Reading V
-number_reading w blank of = record { blank = blank; wire = w; reads = λ d old c. Ok (of (number_in c), true); nested = false; takes_memory = false; cost = λ d c. nothing }
+number_reading w blank of = record { blank = blank; wire = w; reads = λ d old c. Ok (of (number_in c), true); nested = false; undeclared = false; takes_memory = false; cost = λ d c. nothing }
 
 abbrev pub bytes_reading : {V : Type 0} → V → (List ℕ → V) → Reading V
-bytes_reading blank of = record { blank = blank; wire = LengthDelimited; reads = λ d old c. Ok (of (bytes_in c), true); nested = false; takes_memory = true; cost = λ d c. nothing }
+bytes_reading blank of = record { blank = blank; wire = LengthDelimited; reads = λ d old c. Ok (of (bytes_in c), true); nested = false; undeclared = false; takes_memory = true; cost = λ d c. nothing }
 
 -- bytes that are UTF-8
 abbrev pub string_reading : {V : Type 0} → V → (List ℕ → V) → Reading V
-string_reading blank of = record { blank = blank; wire = LengthDelimited; reads = λ d old c. text_as of (bytes_in c) >>= (λ v. Ok (v, true)); nested = false; takes_memory = true; cost = λ d c. nothing }
+string_reading blank of = record { blank = blank; wire = LengthDelimited; reads = λ d old c. text_as of (bytes_in c) >>= (λ v. Ok (v, true)); nested = false; undeclared = false; takes_memory = true; cost = λ d c. nothing }
 
 -- ---- writing: the number, or the bytes, of a value
 

@@ -1,18 +1,19 @@
 //! Codecs: how the keys and values of a map field are read and written.
 
 ghost use Rattle.std.specs.Prelude.{◌≡◌, ◌≢◌, ℕ, Bool, List, Option, Some, false, true, length, Ok, Err, IfErr, IfOk};
-ghost use Rattle.std.specs.Prelude.{OnErr};
+ghost use Rattle.std.specs.Prelude.{IsOk, OnErr};
 ghost use Rattle.buffa_bytes.specs.declared.error.DecodeError.TheVariants.{OutOfMemory};
 ghost use Rattle.buffa_bytes.specs.declared.wire_type.WireType.{WireType};
 ghost use Rattle.buffa_bytes.specs.Gives.{FullOnlyIf};
+ghost use Rattle.buffa_bytes.specs.Left.{LeavesUnlessFull, past_no_text};
 ghost use Rattle.buffa_bytes.specs.Unread.{IsTailOf};
 ghost use Rattle.buffa_wire.specs.Content.{Content, HasContent};
 ghost use Rattle.buffa_wire.specs.BudgetLeft.{budget_left, nothing};
 ghost use Rattle.buffa_wire.specs.Message.{IsLimit};
 ghost use Rattle.buffa_wire.specs.Written.{UsesRoom, Writes};
 ghost use Rattle.buffa_bytes.specs.declared.error.DecodeError.{DecodeError};
-ghost use Rattle.buffa_map.specs.Codec.{AlwaysDeclared, Reading, Refuses, Spends, TakesMemory, Writing, is_known};
-ghost use Rattle.buffa_map.specs.Codec.{value_at, value_need};
+ghost use Rattle.buffa_map.specs.Codec.{AlwaysDeclared, HoldsNothing, IsWhole, Reading, Refuses, Spends};
+ghost use Rattle.buffa_map.specs.Codec.{TakesMemory, Writing, is_known, level, value_at, value_need};
 
 use buffa_wire::{Blank, Buf, DecodeContext, DecodeError, EncodeError, EncodeSink, WireType};
 use std::alloc::Global;
@@ -81,6 +82,13 @@ pub trait MapValueDecode: sealed::Sealed {
         ensures full { FullOnlyIf result (TakesMemory reading ctx.entry.depth (B.unread buf.old)) }
         ensures err { OnErr result (reading.nested ≡ false → Self.Value.meaning value.new
             ≡ Self.Value.meaning value.old) }
+        ensures outside { OnErr result ((IsWhole reading ctx.entry.depth (B.unread buf.old) → ⊥) →
+            Self.Value.meaning value.new ≡ Self.Value.meaning value.old) }
+        ensures level { OnErr result (level reading.nested ctx.entry.depth ≢ Ok tt → B.unread buf.new
+            ≡ B.unread buf.old) }
+        ensures empty { HoldsNothing reading ctx.entry.depth (B.unread buf.old) → IsOk result }
+        ensures left { reading.nested ≡ false → reading.takes_memory ≡ true →
+            LeavesUnlessFull result (past_no_text (B.unread buf.old)) (B.unread buf.new) }
         ensures kept { B.beyond buf.new ≡ B.beyond buf.old }
         ensures tail { IsTailOf (B.unread buf.new) (B.unread buf.old) }
         ensures spends { Spends reading.nested result ctx.entry.budget.now
@@ -101,6 +109,9 @@ pub trait MapValueDecode: sealed::Sealed {
 
     /// Undeclared values come only where that is said.
     ghost declared: { MAY_RETURN_UNKNOWN ≡ false → AlwaysDeclared reading };
+
+    /// The reading says so too.
+    ghost undeclared: { reading.undeclared ≡ MAY_RETURN_UNKNOWN };
 }
 
 /// How the payloads of one proto type are read and written.

@@ -15,15 +15,13 @@ ghost use Rattle.buffa_bytes.specs.Scalars.{uint32_of, zigzag};
 ghost use Rattle.buffa_bytes.specs.Values.{int32_of};
 ghost use Rattle.buffa_bytes.specs.declared.wire_type.WireType.TheVariants as wire;
 
-use crate::codec::{MapCodec, MapValueDecode};
-use crate::message::Msg;
-use crate::scalars::{
-    Bool, BytesBuf, BytesVec, ClosedEnum, Fixed32, Fixed64, Int32, Int64, OpenEnum, ProtoBytesMap,
-    ProtoStringMap, Sfixed32, Sfixed64, Sint32, Sint64, Str, Uint32, Uint64,
+// By the public names, so that the laws say what a user's names stand for.
+use crate::map_codec::{
+    Bool, BytesBuf, BytesVec, ClosedEnum, Fixed32, Fixed64, Int32, Int64, MapCodec, MapValueDecode,
+    Msg, OpenEnum, ProtoBytesMap, ProtoStringMap, Sfixed32, Sfixed64, Sint32, Sint64, Str, Uint32,
+    Uint64,
 };
 use buffa_wire::{Blank, Enumeration, MapKey, Message, ProtoBytes, ProtoString, Scalar};
-use indexmap::IndexMap;
-use std::hash::{BuildHasher, Hash};
 
 /// How each codec reads and writes, what a value costs, and the length of its payloads. All values are read
 /// back, but for an open enum those alone that hold a declared number as the declared value.

@@ -42,7 +42,7 @@ pub(crate) trait Keeper {
             × (budget.old.unknown ≤ budget.new.unknown + slot)) }
         ensures fault { IfErr result (λ f. f ≢ OutOfMemory → (budget.old.unknown < slot)
             × (f ≡ UnknownFieldLimitExceeded) × (budget.new.unknown ≡ budget.old.unknown)) }
-        ensures full { IfErr result (λ f. f ≡ OutOfMemory → slot ≢ 0) }
+        ensures full { IfErr result (λ f. f ≡ OutOfMemory → (slot ≢ 0) × (slot ≤ budget.old.unknown)) }
         ensures memory { budget.new.memory ≡ budget.old.memory }
         ensures room { room self.old ≤ room self.new };
 

@@ -1,6 +1,6 @@
 //! What the definitions say together: each law is a function with nothing to do, whose contract is the law.
 
-ghost use Rattle.std.specs.Prelude.{Bool, List, ℕ};
+ghost use Rattle.std.specs.Prelude.{◌≡◌, Bool, List, Some, ℕ};
 ghost use Rattle.buffa_wire.specs.Parse.{Fits};
 ghost use Rattle.buffa_wire.specs.Records.{Datum, records_of};
 ghost use Rattle.buffa_map.specs.Laws.{EntriesAreRead, LimitsAreTrue, NeedsUnits, OneReading, RewriteMeans};
@@ -9,6 +9,8 @@ ghost use Rattle.buffa_map.specs.Laws.{MessagesAreRead, NewerTakes};
 ghost use Rattle.buffa_map.specs.Merge.{rules};
 ghost use Rattle.buffa_map.specs.Message.{message_reading};
 ghost use Rattle.buffa_map.specs.Plain.{IsExact};
+ghost use Rattle.buffa_map.specs.Rewrite.{rewrite_error_text};
+ghost use Rattle.buffa_map.specs.declared.rewrite.RewriteError.{RewriteError};
 
 use crate::codec::{MapCodec, MapValueDecode};
 pub use crate::codec_laws::{
@@ -18,11 +20,14 @@ pub use crate::pin_laws::{
     entries_are_pinned, map_fields_are_pinned, message_fields_are_pinned, puts_are_pinned,
     rewrites_are_pinned, runs_are_pinned, values_are_pinned,
 };
+use crate::rewrite::RewriteError;
 use crate::storage::MapStorage;
 pub use crate::storage_laws::{
-    hashed_maps_are_these, index_maps_are_these, ordered_maps_are_these, ordered_maps_have_one_walk,
+    hashed_maps_are_these, index_maps_are_these, ordered_maps_are_these,
+    ordered_maps_have_one_walk, the_map_is_this,
 };
 use buffa_wire::MessageSpec;
+use std::fmt::Display;
 
 /// A payload is read exactly where its wire type has one that the codec takes, and refused exactly where not.
 pub fn values_are_read<VC: MapValueDecode>()
@@ -107,6 +112,11 @@ pub fn written_messages_are_read<
 >()
     ensures { MessagesAreRead KC.reading (message_reading M.blank_is M.merged M.cost) KC.writing M.text C.equal KC.fits
         KC.normal (λ v. Fits (records_of (M.records v))) M.normal M.levels }
+{}
+
+/// A refused rewrite prints the text of the error that it holds.
+pub fn rewrite_errors_print()
+    ensures { (e : RewriteError) → ⟦<RewriteError as Display>⟧.output e ≡ Some (rewrite_error_text e) }
 {}
 
 /// A run that a reader of an enum takes, a reader of a newer one takes, which declares more.

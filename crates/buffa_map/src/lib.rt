@@ -9,15 +9,11 @@
 
 mod codec;
 mod codec_laws;
-#[cfg(test)]
-mod colour;
 mod entry;
 mod fields;
 mod hashed;
 mod indexed;
 mod keep;
-#[cfg(test)]
-mod kept_tests;
 pub mod laws;
 pub mod map_codec;
 pub mod map_entry;
@@ -36,6 +32,4 @@ mod size;
 mod sized;
 mod storage;
 mod storage_laws;
-#[cfg(test)]
-mod tests;
 mod write;

@@ -76,6 +76,9 @@ pub(crate) trait MergeValue {
 
     /// Undeclared values come only where that is said.
     ghost declared: { MAY_RETURN_UNKNOWN ≡ false → AlwaysDeclared reading };
+
+    /// The reading says so too.
+    ghost undeclared: { reading.undeclared ≡ MAY_RETURN_UNKNOWN };
 }
 
 /// By its codec.
@@ -126,6 +129,8 @@ impl<VC: MapValueDecode> MergeValue for ByCodec<VC> {
     ghost blank = { VC.MapValueDecode.blank };
 
     ghost declared = { VC.MapValueDecode.declared };
+
+    ghost undeclared = { VC.MapValueDecode.undeclared };
 }
 
 /// By a function that merges the bytes of a message one level down.
@@ -187,4 +192,6 @@ impl<M: MessageSpec, F: Fn(&mut M, &[u8], u32, &mut Budget) -> Result<(), Decode
     ghost blank = { refl };
 
     ghost declared = { λ _ d old c new known h. meant_known (merged_in M.merged d old (bytes_in c)) new known h };
+
+    ghost undeclared = { refl };
 }

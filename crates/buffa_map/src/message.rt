@@ -60,4 +60,6 @@ impl<M: Message> MapValueDecode for Msg<M> {
     ghost blank = { refl };
 
     ghost declared = { λ _ d old c new known h. meant_known (merged_in M.merged d old (bytes_in c)) new known h };
+
+    ghost undeclared = { refl };
 }

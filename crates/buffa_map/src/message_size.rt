@@ -1,6 +1,6 @@
 //! The size of a map field of messages.
 
-ghost use Rattle.std.specs.Prelude.{◌≡◌, ◌+◌, length};
+ghost use Rattle.std.specs.Prelude.{◌≡◌, ◌≢◌, ◌+◌, [], length, OnErr};
 ghost use Rattle.std.specs.List.{Contains};
 ghost use Rattle.std.specs.Map.{values_of};
 ghost use Rattle.buffa_wire.specs.Passes.{IsSized};
@@ -41,7 +41,7 @@ fn message_record_len<KC: MapCodec>(outer_tag_len: u64, key: &KC::Value, inner: 
 /// type that holds itself is sized by a function that recurs through this one.
 ///
 /// # Errors
-/// [`EncodeError::OutOfMemory`] alone; the cache's old slots come first then.
+/// [`EncodeError::OutOfMemory`] alone, never for a map of no pairs; the cache's old slots come first then.
 pub fn message_field_len_by<
     'a,
     KC: MapCodec,
@@ -54,7 +54,8 @@ where
     requires may { (x : _) (c : _) → Contains (values_of (C.walk map.now)) (M.meaning x.now) → F.pre size x c }
     requires keeps { (x : _) (c : _) (r : _) (d : _) → Contains (values_of (C.walk map.now)) (M.meaning x.now) →
         F.post size x c r d → IsSized (M.text (M.meaning x.now)) (M.slots (M.meaning x.now)) c.now r d.now }
-    ensures { IsFieldSized KC.writing M.text M.slots outer_tag_len (C.walk map.now) cache.old result cache.new }
+    ensures sized { IsFieldSized KC.writing M.text M.slots outer_tag_len (C.walk map.now) cache.old result cache.new }
+    ensures some { OnErr result (C.pairs map.now ≢ []) }
 {
     cache.make_room(map.storage_len())?;
     let mut total: u64 = 0;
@@ -73,7 +74,7 @@ where
 /// message is longer than 2^31 - 1 bytes.
 ///
 /// # Errors
-/// [`EncodeError::OutOfMemory`] alone; the cache's old slots come first then.
+/// [`EncodeError::OutOfMemory`] alone, never for a map of no pairs; the cache's old slots come first then.
 ///
 /// ```ignore
 /// let size = message_field_len::<Int32, FlatMsg, _>(&map, 1, &mut cache)?;
@@ -86,7 +87,8 @@ pub fn message_field_len<
 >(map: &'a C, outer_tag_len: u64, cache: &mut SizeCache) -> Result<u64, EncodeError>
 where
     KC::Value: 'a,
-    ensures { IsFieldSized KC.writing M.text M.slots outer_tag_len (C.walk map.now) cache.old result cache.new }
+    ensures sized { IsFieldSized KC.writing M.text M.slots outer_tag_len (C.walk map.now) cache.old result cache.new }
+    ensures some { OnErr result (C.pairs map.now ≢ []) }
 {
     message_field_len_by::<KC, M, C, _>(
         map,

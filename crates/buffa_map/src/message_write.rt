@@ -5,8 +5,9 @@ ghost use Rattle.std.specs.List.{Contains};
 ghost use Rattle.std.specs.Map.{values_of};
 ghost use Rattle.buffa_wire.specs.Number.{IsNumber};
 ghost use Rattle.buffa_wire.specs.Passes.{IsNext, IsWritten, cap};
-ghost use Rattle.buffa_wire.specs.Written.{Writes};
-ghost use Rattle.buffa_map.specs.MessageField.{IsFieldWritten, IsRecordWritten, field_slots, head_text, key_and_length};
+ghost use Rattle.buffa_wire.specs.Written.{UsesRoom, Writes};
+ghost use Rattle.buffa_map.specs.MessageField.{IsFieldWritten, IsRecordWritten, KeepsRoom, UsesFieldRoom};
+ghost use Rattle.buffa_map.specs.MessageField.{UsesRecordRoom, field_slots, head_text, key_and_length};
 
 use crate::codec::MapCodec;
 use crate::message_size::message_entry_len;
@@ -15,21 +16,23 @@ use crate::write::{write_head, write_part};
 use buffa_wire::{EncodeError, EncodeSink, Message, MessageSpec, SizeCache};
 
 // Writes the key field, and the tag and the length of the value.
-#[tactic(auto, using(buffa_bytes::proofs::SinkLemmas::writes_then, buffa_bytes::proofs::SinkLemmas::front_first))]
+#[tactic(auto, using(buffa_bytes::proofs::SinkLemmas::writes_then, buffa_bytes::proofs::SinkLemmas::front_first, buffa_bytes::proofs::SinkLemmas::room_then))]
 fn write_key_and_length<KC: MapCodec, S: EncodeSink>(
     key: &KC::Value,
     inner: u32,
     sink: &mut S,
 ) -> Result<(), EncodeError>
-    ensures { Writes result (S.written sink.old) (key_and_length KC.writing (KC.Value.meaning key.now) inner)
+    ensures writes { Writes result (S.written sink.old) (key_and_length KC.writing (KC.Value.meaning key.now) inner)
         (S.written sink.new) }
+    ensures room { UsesRoom result (S.room sink.old) (key_and_length KC.writing (KC.Value.meaning key.now) inner)
+        (S.room sink.new) }
 {
     write_part::<KC, S>(1, key, sink)?;
     write_head(2, u64::from(inner), sink)
 }
 
 // Writes all of a record but the message's text.
-#[tactic(auto, using(buffa_bytes::proofs::SinkLemmas::writes_then, buffa_bytes::proofs::SinkLemmas::front_first))]
+#[tactic(auto, using(buffa_bytes::proofs::SinkLemmas::writes_then, buffa_bytes::proofs::SinkLemmas::front_first, buffa_bytes::proofs::SinkLemmas::room_then))]
 fn write_message_head<KC: MapCodec, S: EncodeSink>(
     number: u32,
     key: &KC::Value,
@@ -37,8 +40,10 @@ fn write_message_head<KC: MapCodec, S: EncodeSink>(
     sink: &mut S,
 ) -> Result<(), EncodeError>
     requires { IsNumber number }
-    ensures { Writes result (S.written sink.old) (head_text KC.writing number (KC.Value.meaning key.now) inner)
+    ensures writes { Writes result (S.written sink.old) (head_text KC.writing number (KC.Value.meaning key.now) inner)
         (S.written sink.new) }
+    ensures room { UsesRoom result (S.room sink.old) (head_text KC.writing number (KC.Value.meaning key.now) inner)
+        (S.room sink.new) }
 {
     write_head(number, message_entry_len::<KC>(key, inner), sink)?;
     write_key_and_length::<KC, S>(key, inner, sink)
@@ -63,8 +68,10 @@ where
         F.post write.now x c s r d t →
         IsWritten (M.text (M.meaning x.now)) (M.slots (M.meaning x.now)) c.now (S.written s.now) r d.now
         (S.written t.now) }
-    ensures { IsRecordWritten KC.writing M.text M.slots number (KC.Value.meaning key.now, M.meaning value.now)
+    ensures written { IsRecordWritten KC.writing M.text M.slots number (KC.Value.meaning key.now, M.meaning value.now)
         cache.old (S.written sink.old) result cache.new (S.written sink.new) }
+    ensures room { KeepsRoom (F.post write.now) (λ v. M.text (M.meaning v)) S.room → UsesRecordRoom KC.writing M.text
+        number (KC.Value.meaning key.now, M.meaning value.now) result (S.room sink.old) (S.room sink.new) }
 {
     let inner = cache.consume_next();
     write_message_head::<KC, S>(number, key, inner, sink)?;
@@ -78,7 +85,8 @@ where
 /// of others; so a type that holds itself is written by a function that recurs through this one.
 ///
 /// # Errors
-/// [`EncodeError::OutOfMemory`] alone; the sink's old bytes come first then.
+/// [`EncodeError::OutOfMemory`] alone; the sink's old bytes come first then. A field that fits for sure isn't refused,
+/// where the function refuses no message that fits.
 pub fn write_message_field_by<
     'a,
     KC: MapCodec,
@@ -106,6 +114,8 @@ where
     ensures written { IsFieldWritten KC.writing M.text M.slots field_number (C.walk map.now) cache.old
         (S.written sink.old) result cache.new (S.written sink.new) }
     ensures some { OnErr result (C.walk map.now ≢ []) }
+    ensures room { KeepsRoom (F.post write) (λ v. M.text (M.meaning v)) S.room → UsesFieldRoom KC.writing M.text
+        field_number (C.walk map.now) result (S.room sink.old) (S.room sink.new) }
 {
     for (key, value) in map.storage_iter() {
         write_message_record_by::<KC, M, S, F>(field_number, key, value, cache, sink, &write)?;

@@ -51,6 +51,8 @@ impl<N: Scalar> MapValueDecode for N {
     ghost blank = { refl };
 
     ghost declared = { λ _ d old c new known h. always_known new known h };
+
+    ghost undeclared = { refl };
 }
 
 impl<N: Scalar> MapCodec for N {

@@ -5,7 +5,7 @@ ghost use Rattle.std.specs.BTreeMap.{IsOrdered};
 ghost use Rattle.std.specs.List.Sorted.{IsPermutation};
 ghost use Rattle.buffa_map.specs.Pairs.{SamePairs, means};
 
-use crate::storage::{MapStorage, StableOrder};
+use crate::map_codec::{Map, MapStorage, StableOrder};
 use buffa_wire::{Blank, MapKey};
 use indexmap::IndexMap;
 use std::collections::{BTreeMap, HashMap};
@@ -46,4 +46,14 @@ pub fn index_maps_are_these<K: MapKey + Hash, V: Blank, S: BuildHasher>()
     ensures walks { (m : _) (l : List (K.Meaning × V.Meaning)) →
         ⟦<IndexMap<K, V, S> as MapStorage>⟧.walks m l ↔ (l ≡ means K.meaning V.meaning m.entries) }
     ensures walk { (m : _) → ⟦<IndexMap<K, V, S> as StableOrder>⟧.walk m ≡ means K.meaning V.meaning m.entries }
+{}
+
+/// The same of a [`Map`], the storage to take where nothing speaks for another one.
+pub fn the_map_is_this<K: MapKey + Hash, V: Blank>()
+    ensures pairs { (m : _) → ⟦<Map<K, V> as MapStorage>⟧.pairs m ≡ means K.meaning V.meaning m.entries }
+    ensures keys { (a b : K) → ⟦<Map<K, V> as MapStorage>⟧.equal (K.meaning a) (K.meaning b) ≡ K.eq a b }
+    ensures order { ⟦<Map<K, V> as MapStorage>⟧.keeps_order ≡ true }
+    ensures walks { (m : _) (l : List (K.Meaning × V.Meaning)) →
+        ⟦<Map<K, V> as MapStorage>⟧.walks m l ↔ (l ≡ means K.meaning V.meaning m.entries) }
+    ensures walk { (m : _) → ⟦<Map<K, V> as StableOrder>⟧.walk m ≡ means K.meaning V.meaning m.entries }
 {}

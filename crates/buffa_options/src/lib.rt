@@ -7,8 +7,6 @@ pub mod laws;
 pub mod options;
 pub mod price;
 pub mod rules;
-#[cfg(test)]
-mod tests;
 
 pub use carrier::Carrier;
 pub use options::FieldOptions;

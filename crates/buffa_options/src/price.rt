@@ -1,6 +1,6 @@
 //! A codec of one's own: amounts of money, which have a Rust type of their own and are written as `sint64`.
 
-ghost use Rattle.std.specs.Prelude.{◌≡◌, [], ◌∷◌, IfErr, IfOk, OnErr, OnOk, Some, option_map, pos};
+ghost use Rattle.std.specs.Prelude.{◌≡◌, ◌≤◌, ◌+◌, [], ◌∷◌, IfErr, IfOk, OnErr, OnOk, Some, option_map, pos};
 ghost use Rattle.buffa_bytes.specs.Scalars.{zigzag};
 ghost use Rattle.buffa_bytes.specs.declared.error.EncodeError.TheVariants.{OutOfMemory};
 ghost use Rattle.buffa_bytes.proofs.ScalarLemmas.{sint64_means, zigzag_fits64};
@@ -89,6 +89,7 @@ pub fn store_price(
     ensures value { IfOk result (λ o. option_map (λ p. p.cents) o ≡ Some price.cents) }
     ensures set { OnOk result (IsSet 50021 (varint (zigzag price.cents) ∷ []) options.old.fields options.new.fields) }
     ensures err { OnErr result (options.new ≡ options.old) }
+    ensures room { options.old.fields.spare ≤ options.new.fields.spare + 1 }
     ensures refused { IfErr result (λ e. e ≡ OutOfMemory) }
     ensures rest { options.new.deprecated ≡ options.old.deprecated }
 {

@@ -6,3 +6,5 @@ pub mod TreeMerge
 pub mod TreeSizes
 pub mod TripLemmas
 pub mod TreeNormal
+mod PinLemmas
+mod PassPinLemmas

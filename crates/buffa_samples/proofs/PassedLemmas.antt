@@ -10,11 +10,11 @@ use Rattle.buffa_map.specs.Entry.{EntryFault, need_of}
 use Rattle.buffa_map.specs.Enums.{closed_writing}
 use Rattle.buffa_map.specs.Laws.{OneReading}
 use Rattle.buffa_map.specs.Merge.{ReadsRun, State, StopsRun, keeping, state}
-use Rattle.buffa_map.specs.Rewrite.{MatchRefusal, RefusesBytes, RefusesOutput}
-use Rattle.buffa_map.specs.Run.{EntryRecord, RecordFault, Run, RunBegins, inner_needs}
+use Rattle.buffa_map.specs.Rewrite.{MatchRefusal, RefusesBytes, RefusesOutput, RewritesRun}
+use Rattle.buffa_map.specs.Run.{EntryRecord, Paid, RecordFault, Run, RunBegins, inner_needs}
 use Rattle.buffa_map.specs.declared.rewrite.RewriteError.{RewriteError}
 use Rattle.buffa_map.specs.declared.rewrite.RewriteError.TheVariants.{Decode, Encode}
-use Rattle.buffa_samples.specs.Passed.{IsShortage, NotRewritten}
+use Rattle.buffa_samples.specs.Passed.{IsShortage}
 
 -- a budget is what is left of its slots and its units
 pub left_is : (b : BudgetLeft) (u m : ℕ) → b.unknown ≡ u → b.memory ≡ m → b ≡ record { unknown = u; memory = m }
@@ -46,7 +46,7 @@ module _ {K : Type 0} (rk : Reading K) (rv : Reading ℤ) (key : Writing K) (eq 
   }
 
   pub not_rewritten : (room d e : ℕ) (left given : BudgetLeft) (old : List ℕ) (over : BudgetLeft) (rest written : List ℕ) (x : RewriteError) → d ≡ e → left ≡ given → old ≡ [] →
-      Refused room d left old over rest written x → NotRewritten (keeping rk rv eq keeps e n cost) key walks given bs pairs x
+      Refused room d left old over rest written x → (last : BudgetLeft) × (unread : List ℕ) × (out : List ℕ) × Refused 0 e given [] last unread out x
   not_rewritten room d e left given old over rest written x same is empty h = (
     over,
     rest,
@@ -54,6 +54,26 @@ module _ {K : Type 0} (rk : Reading K) (rv : Reading ℤ) (key : Writing K) (eq 
     with_no_room room e given [] over rest written x
         (subst (λ (z : List ℕ). Refused room e given z over rest written x) empty (subst (λ (z : BudgetLeft). Refused room e z old over rest written x) is (subst (λ (z : ℕ). Refused room z left old over rest written x) same h))),
   )
+
+-- the same rewrite, by the names of the clause, into an empty text
+pub rewritten : {K : Type 0} (rk : Reading K) (rv : Reading ℤ) (key : Writing K) (KeyFits : K → Type 0) (ValFits : ℤ → Type 0) (eq : K → K → Bool) (keeps : Bool) (n cost : ℕ) (bs : List ℕ) (pairs : List (K × ℤ)) (walks : List (K × ℤ) → Type 0)
+    (d e : ℕ) (left given over : BudgetLeft) (rest old written : List ℕ) (before after : ℕ) → d ≡ e → left ≡ given →
+    (h : RewritesRun (keeping rk rv eq keeps d n cost) key closed_writing KeyFits ValFits walks left bs pairs over rest old written before after) →
+    RewritesRun (keeping rk rv eq keeps e n cost) key closed_writing KeyFits ValFits (λ _. Unit {0}) given bs pairs over [] [] h.out 0 0
+rewritten rk rv key KeyFits ValFits eq keeps n cost bs pairs walks d e left given over rest old written before after same is h = record {
+  entries = h.entries;
+  out = h.out;
+  run = subst (λ (z : ℕ). Run rk rv z n bs h.entries) same h.run;
+  folded = h.folded;
+  order = h.order;
+  rewrite = h.rewrite;
+  walks = tt;
+  text = refl;
+  ordered = h.ordered;
+  room = omega arith;
+  paid = subst (λ (z : BudgetLeft). Paid rk rv e cost 1 z h.entries over) is (subst (λ (z : ℕ). Paid rk rv z cost 1 left h.entries over) same h.paid);
+  whole = refl;
+}
 
 -- ---- bytes that are a run stop a reader only where memory or the budget ran out
 

@@ -1,5 +1,5 @@
 -- What bytes make of a normal tree is one.
-use Rattle.std.proofs.Common.{◌≡◌, inl, inr, ℕ, zero, suc, ℤ, pos, ◌==◌, FitsSigned, Bool, true, false, List, [], ◌∷◌, ◌++◌, Option, None, Some, Result, Ok, Err, refl, sym, ap, subst, ◌∙◌, if◌then◌else◌}
+use Rattle.std.proofs.Common.{◌≡◌, inl, inr, ℕ, zero, suc, ℤ, pos, ◌==◌, FitsSigned, Bool, List, [], ◌∷◌, Option, None, Some, Ok, refl, sym, ap, subst}
 use Rattle.std.proofs.lemmas.Int.{SFits-int_wrap}
 use Rattle.std.specs.BTreeMap.{insert_entry}
 use Rattle.std.specs.Cmp.{int_cmp_total}
@@ -10,7 +10,7 @@ use Rattle.std.specs.Ordering.{int_cmp, match_ordering}
 use Rattle.std.specs.declared.cmp.Ordering.{Ordering}
 use Rattle.std.specs.declared.cmp.Ordering.TheVariants.{Less, Equal, Greater}
 use Rattle.buffa_bytes.proofs.DelimitedLemmas.{delimited_sound}
-use Rattle.buffa_bytes.proofs.StepLemmas.{Agrees, agree_bind, agree_if, agree_ok, agree_weaker}
+use Rattle.buffa_bytes.proofs.StepLemmas.{Agrees, agree_bind, agree_if, agree_ok}
 use Rattle.buffa_bytes.proofs.FieldLemmas.{payload_sound}
 use Rattle.buffa_bytes.proofs.VarintLemmas.{varint_sound}
 use Rattle.buffa_wire.proofs.SequenceLemmas.{ok_same}
@@ -21,7 +21,6 @@ use Rattle.buffa_bytes.specs.declared.wire_type.WireType.TheVariants.{LengthDeli
 use Rattle.buffa_wire.specs.Content.{bytes_in, number_in}
 use Rattle.buffa_wire.specs.Message.{merged_in}
 use Rattle.buffa_wire.specs.BudgetLeft.{nothing}
-use Rattle.buffa_wire.specs.Reading.{check_wire, skip_at}
 use Rattle.buffa_wire.specs.Sequence.{ParsesEach}
 use Rattle.buffa_wire.specs.Values.{int32_at, int32_of}
 use Rattle.buffa_map.proofs.EntryLemmas.{check_sound, entry_sound}

@@ -64,3 +64,8 @@ stopped rk rv same keeps d e n cost left given pairs bs text new unread f depth 
 
 pub as_units : (b : BudgetLeft) (n : ℕ) → b.unknown ≡ 0 → b.memory ≡ n → b ≡ units n
 as_units b n u m = ap (λ (z : ℕ). record { unknown = z; memory = b.memory }) u ∙ ap (λ (z : ℕ). record { unknown = 0; memory = z }) m
+
+-- what is paid costs no more than was left
+pub paid_for : {K V : Type 0} (rk : Reading K) (rv : Reading V) (d cost slot : ℕ) (left over : BudgetLeft) (es : List (EntryRecord K V)) (all many : ℕ) →
+    left.memory ≡ all → length es ≡ many → Paid rk rv d cost slot left es over → many * cost ≤ all
+paid_for rk rv d cost slot left over es all many is count paid = subst (λ z. z * cost ≤ all) count (omega (arith, is, paid.0))

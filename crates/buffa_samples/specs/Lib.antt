@@ -18,3 +18,5 @@ pub mod TreeMeaning
 pub mod RoundTrip
 pub mod TreeLaws
 pub mod TreeBack
+pub mod Pinned
+pub mod Hues

@@ -1,15 +1,18 @@
 -- Why the pairs of a map may not come back from their bytes.
-use Rattle.std.specs.Prelude.{◌≡◌, ◌≢◌, ◌≤◌, ◌<◌, ◌*◌, ◌^◌, ℕ, Bool, List, [], ◌∷◌, ◌++◌, length}
+use Rattle.std.specs.Prelude.{◌≡◌, ◌≢◌, ◌≤◌, ◌<◌, ◌*◌, ◌^◌, ℕ, Bool, false, List, [], ◌∷◌, ◌++◌, length}
 use Rattle.std.specs.Int.{from_bool}
+use Rattle.buffa_bytes.specs.Scalars.{bool_of}
+use Rattle.buffa_bytes.specs.declared.wire_type.WireType.TheVariants.{Varint}
 use Rattle.buffa_bytes.specs.declared.error.DecodeError.TheVariants as decode
 use Rattle.buffa_bytes.specs.declared.error.EncodeError.TheVariants as encode
 use Rattle.buffa_map.specs.Codec.{Writing}
-use Rattle.buffa_map.specs.Scalars.{delimited_writing, varint_writing}
-use Rattle.buffa_map.specs.Pairs.{InOrder}
-use Rattle.buffa_map.specs.Merge.{Rules, StopsRun, state}
-use Rattle.buffa_map.specs.Text.{entry_text, field_text}
+use Rattle.buffa_map.specs.Scalars.{delimited_writing, number_reading, string_reading, varint_writing}
+use Rattle.buffa_map.specs.Pairs.{InOrder, ListsOnce}
+use Rattle.buffa_map.specs.Merge.{Rules, StopsRun, dropping, state}
+use Rattle.buffa_map.specs.Text.{HasText, entry_text, field_text}
 use Rattle.buffa_bytes.specs.declared.error.DecodeError.{DecodeError}
-use Rattle.buffa_wire.specs.BudgetLeft.{BudgetLeft}
+use Rattle.buffa_wire.specs.BudgetLeft.{BudgetLeft, units}
+use Rattle.buffa_samples.specs.Letters.{same_letters}
 use Rattle.buffa_samples.specs.declared.round_trip.TripFault.{TripFault}
 use Rattle.buffa_samples.specs.declared.round_trip.TripFault.TheVariants.{Decode, Encode}
 
@@ -18,8 +21,8 @@ abbrev pub EachWalk : {X : Type 0} → (List X → Type 0) → (List X → Type 
 EachWalk {X} Walk P = (l : List X) → Walk l → P l
 
 module _ {K V : Type 0} (key : Writing K) (val : Writing V) (cost : ℕ) where
-  -- The entry of a pair is too long for its length to be a varint; or the pairs, each of which costs so many units,
-  -- cost more than a budget starts with; or memory ran out, to write them only where there is one.
+  -- The entry of a pair is too long for its length to be a varint; or none is, and the pairs, each of which costs so many
+  -- units, cost more than a budget starts with; or memory ran out, to write them only where there is one.
   abbrev pub RefusesPairs : List (K × V) → TripFault → Type 0
   RefusesPairs l (Encode encode.MessageTooLarge) =
       (done : List (K × V)) × (p : K × V) × (rest : List (K × V)) × (l ≡ done ++ p ∷ rest)
@@ -27,11 +30,17 @@ module _ {K V : Type 0} (key : Writing K) (val : Writing V) (cost : ℕ) where
   RefusesPairs l (Encode encode.OutOfMemory) = l ≢ []
   RefusesPairs l (Encode (encode.GroupRefused e)) = ⊥
   RefusesPairs l (Decode f) =
-      (l ≢ []) × (f ≢ decode.OutOfMemory → (f ≡ decode.ElementMemoryLimitExceeded) × (268435456 < length l * cost))
+      (l ≢ []) × HasText key val l
+      × (f ≢ decode.OutOfMemory → (f ≡ decode.ElementMemoryLimitExceeded) × (268435456 < length l * cost))
 
-  -- the same of the pairs of some walk
-  abbrev pub RefusesTrip : (List (K × V) → Type 0) → TripFault → Type 0
-  RefusesTrip Walk f = (l : List (K × V)) × Walk l × RefusesPairs l f
+  module _ (eq : K → K → Bool) (m : List (K × V)) (Walk : List (K × V) → Type 0) where
+    -- the same of the pairs of some walk of the map m
+    abbrev pub RefusesTrip : TripFault → Type 0
+    RefusesTrip f = (l : List (K × V)) × Walk l × ListsOnce eq m l × RefusesPairs l f
+
+    -- in some walk of it no entry is too long, and the pairs cost no more than a budget starts with
+    abbrev pub FitsTrip : Type 0
+    FitsTrip = (l : List (K × V)) × Walk l × ListsOnce eq m l × HasText key val l × (length l * cost ≤ 268435456)
 
 -- P, if the pairs couldn't be written
 abbrev pub IfUnwritten : TripFault → Type 0 → Type 0
@@ -50,11 +59,18 @@ StopsInField {K} {V} r key val Walk left pairs f =
     (l : List (K × V)) × Walk l × (over : BudgetLeft) × (unread : List ℕ)
     × StopsRun r (state [] [] left) (field_text key val r.number l) (state pairs [] over) unread f
 
+-- the same, where the map was written, from the units that a budget starts with
+abbrev pub StopsTrip : {K V : Type 0} → Rules K V → Writing K → Writing V → (List (K × V) → Type 0) → List (K × V) → TripFault → Type 0
+StopsTrip r key val Walk pairs f = IfUnread f (StopsInField r key val Walk (units 268435456) pairs)
+
 -- where the order is kept, these are the pairs of some walk, in its order
 abbrev pub InWalkOrder : {X : Type 0} → Bool → (List X → Type 0) → List X → Type 0
 InWalkOrder {X} keeps Walk pairs = (l : List X) × Walk l × InOrder keeps l pairs
 
--- words as keys, and what is said of each
+-- words as keys of flags, in a map whose order is open: how both are read in field 1, and how each is written
+abbrev pub word_rules : Rules (List ℕ) Bool
+word_rules = dropping (string_reading [] (λ text. text)) (number_reading Varint false bool_of) same_letters false 0 1 25
+
 abbrev pub word_writing : Writing (List ℕ)
 word_writing = delimited_writing (λ text. text)
 

@@ -1,11 +1,13 @@
 -- The text, the records and the slots of a tree.
-use Rattle.std.specs.Prelude.{◌≡◌, ℕ, ℤ, FitsSigned, suc, max, List, [], ◌∷◌, ◌++◌, length, refl}
+use Rattle.std.specs.Prelude.{◌≡◌, ℕ, ℤ, FitsSigned, suc, max, List, [], ◌∷◌, ◌++◌, length, refl, Result}
 use Rattle.std.proofs.Common.{ap}
 use Rattle.std.specs.Int.{cast_unsigned, w32, w64}
 use Rattle.std.specs.List.Sorted.{IsStrictlySortedBy}
 use Rattle.std.specs.Map.{keys_of}
 use Rattle.std.specs.Ordering.{int_cmp}
-use Rattle.buffa_wire.specs.Passes.{cap}
+use Rattle.buffa_bytes.specs.declared.error.EncodeError.{EncodeError}
+use Rattle.buffa_wire.specs.Cache.{Cache}
+use Rattle.buffa_wire.specs.Passes.{IsWritten, cap}
 use Rattle.buffa_wire.specs.Records.{Datum, bytes}
 use Rattle.buffa_map.specs.Codec.{Writing}
 use Rattle.buffa_map.specs.MessageField.{field_slots}
@@ -43,6 +45,10 @@ abbrev mutual
   pub slots_below : Kids → List ℕ
   slots_below no_kids = []
   slots_below (kid k t ks) = cap (length (text t)) ∷ slots t ++ slots_below ks
+
+-- a tree was written, or refused, by a pass that takes its slots out of a cache
+abbrev pub IsTreeWritten : {T : Type 0} → Grown → Cache → List ℕ → Result T EncodeError → Cache → List ℕ → Type 0
+IsTreeWritten t old before r new after = IsWritten (text t) (slots t) old before r new after
 
 -- the records
 abbrev pub kids_records : Kids → List (ℕ × Datum)

@@ -1,7 +1,10 @@
 //! A message that keeps every field.
 
-ghost use Rattle.std.specs.Prelude.{◌≡◌, [], refl, IfOk};
+ghost use Rattle.std.specs.Prelude.{◌≡◌, ◌≢◌, [], refl, IfOk, OnErr};
+ghost use Rattle.buffa_wire.specs.BudgetLeft.{budget_left};
+ghost use Rattle.buffa_bytes.specs.declared.wire_type.WireType.TheVariants.{EndGroup};
 ghost use Rattle.buffa_wire.specs.Gives.{FullOnlyIf, GivesUnlessFull};
+ghost use Rattle.buffa_wire.specs.Message.{IsFieldMerged};
 ghost use Rattle.buffa_wire.specs.RecordReading.{TakesMemory, field_at};
 ghost use Rattle.buffa_wire.specs.View.{datum_of};
 ghost use Rattle.buffa_wire.specs.Parse.{Fits};
@@ -21,7 +24,7 @@ use std::marker::Model;
 
 /// No field is declared: each is kept as an unknown field, behind those that it has.
 ///
-/// A field costs a slot of the budget, and so does each field in its groups.
+/// A field costs a slot of the budget, and so does each field in its groups; what is refused spends nothing.
 ///
 /// ```ignore
 /// message.merge(alloc, &[0x38, 0x96, 0x01], ctx)?; // keeps field 7, the varint 150
@@ -135,14 +138,18 @@ impl Message for BudgetMsg {
         self.fields.write_to(sink)
     }
 
-    // What is refused spends nothing.
     fn merge_field(
         &mut self,
         alloc: Global,
         tag: Tag,
         buf: &mut &[u8],
         ctx: DecodeContext<'_>,
-    ) -> Result<(), DecodeError> {
+    ) -> Result<(), DecodeError>
+        ensures merged { IsFieldMerged keep_merged keep_cost ctx.entry.depth self.old tag.number tag.wire_type
+            buf.old.now ctx.entry.budget.now result self.new (budget_left ctx.exit) buf.new.now }
+        ensures full { FullOnlyIf result (tag.wire_type ≢ EndGroup) }
+        ensures unspent { OnErr result (budget_left ctx.exit ≡ ctx.entry.budget.now) }
+    {
         let DecodeContext { depth, budget } = ctx;
         let (field, left) = read_alone(alloc, tag, buf, depth, budget.unknown_left())?;
         let Ok(()) = self.fields.push(field) else {

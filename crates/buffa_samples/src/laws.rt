@@ -1,6 +1,6 @@
 //! What the definitions of the samples say together: laws, as in [`laws`](buffa_wire).
 
-ghost use Rattle.std.specs.Prelude.{◌≡◌, ◌↔◌, ◌<◌, ◌^◌, ℕ, ℤ, FitsSigned, List, [], None, Some, pos, string_bytes};
+ghost use Rattle.std.specs.Prelude.{◌≡◌, ◌↔◌, ◌<◌, ◌+◌, ◌^◌, ℕ, ℤ, FitsSigned, List, [], ◌∷◌, None, Some, map, pos, string_bytes};
 ghost use Rattle.std.specs.Int.{w32};
 ghost use Rattle.buffa_wire.specs.Parse.{Fits};
 ghost use Rattle.buffa_wire.specs.Records.{Datum, height, records_of};
@@ -8,8 +8,10 @@ ghost use Rattle.buffa_wire.specs.Text.{records_text};
 ghost use Rattle.buffa_samples.specs.Count.{count_cost, count_merged, count_text};
 ghost use Rattle.buffa_samples.specs.Flat.{flat_cost, flat_merged, value_text};
 ghost use Rattle.buffa_samples.specs.Grown.{Grown, grown, no_kids};
+ghost use Rattle.buffa_samples.specs.Hues.{first_numbers};
 ghost use Rattle.buffa_samples.specs.Keep.{keep_cost, keep_merged};
 ghost use Rattle.buffa_samples.specs.Letters.{same_letters};
+ghost use Rattle.buffa_samples.specs.Pinned.{PassIsPinned, TripIsPinned};
 ghost use Rattle.buffa_samples.specs.TreeMeaning.{cost, merged};
 ghost use Rattle.buffa_samples.specs.TreeText.{IsNormal, levels, slots, text};
 ghost use Rattle.buffa_samples.specs.Two.{two_cost, two_merged, two_text};
@@ -18,9 +20,11 @@ use crate::count::CountMsg;
 use crate::flat::FlatMsg;
 use crate::hues::{New, Old};
 use crate::keep::BudgetMsg;
+use crate::passed_on::{Pass, Way};
 use crate::tree::Tree;
 use crate::two::TestMsg;
 use crate::word::Word;
+use buffa_map::map_codec::{MapCodec, MapStorage};
 use buffa_wire::{Blank, Enumeration, MapKey, MessageSpec, ProtoString};
 
 /// What bytes make of a normal tree is normal, and so is the blank one: in every map the keys ascend, and labels and
@@ -45,9 +49,9 @@ pub fn messages_are_these()
     ensures tree_slots { ⟦<Tree as MessageSpec>⟧.slots ≡ slots }
     ensures numbers_slots { (⟦<FlatMsg as MessageSpec>⟧.slots ≡ (λ _. [])) × (⟦<TestMsg as MessageSpec>⟧.slots ≡ (λ _. [])) }
     ensures lists_slots { (⟦<CountMsg as MessageSpec>⟧.slots ≡ (λ _. [])) × (⟦<BudgetMsg as MessageSpec>⟧.slots ≡ (λ _. [])) }
-    ensures elements { (⟦<FlatMsg as MessageSpec>⟧.COST ≡ 4) × (⟦<TestMsg as MessageSpec>⟧.COST ≡ 32)
-        × (⟦<CountMsg as MessageSpec>⟧.COST ≡ 8) × (⟦<BudgetMsg as MessageSpec>⟧.COST ≡ 24)
-        × (⟦<Tree as MessageSpec>⟧.COST ≡ 32) }
+    ensures numbers_cost { (⟦<FlatMsg as MessageSpec>⟧.COST ≡ 4) × (⟦<TestMsg as MessageSpec>⟧.COST ≡ 32) }
+    ensures lists_cost { (⟦<CountMsg as MessageSpec>⟧.COST ≡ 8) × (⟦<BudgetMsg as MessageSpec>⟧.COST ≡ 24) }
+    ensures tree_costs { ⟦<Tree as MessageSpec>⟧.COST ≡ 32 }
 {}
 
 /// What the values of the samples of numbers mean: their fields. Nothing is open.
@@ -67,20 +71,17 @@ pub fn messages_are_read_back()
     ensures deep { (⟦<BudgetMsg as MessageSpec>⟧.levels ≡ height) × (⟦<Tree as MessageSpec>⟧.levels ≡ levels) }
     ensures flat_levels { (⟦<FlatMsg as MessageSpec>⟧.levels ≡ (λ _. 0)) × (⟦<TestMsg as MessageSpec>⟧.levels ≡ (λ _. 0))
         × (⟦<CountMsg as MessageSpec>⟧.levels ≡ (λ _. 0)) }
-    ensures blank { (⟦<FlatMsg as Blank>⟧.blank_is ≡ pos 0) × (⟦<TestMsg as Blank>⟧.blank_is ≡ (pos 0, pos 0))
-        × (⟦<CountMsg as Blank>⟧.blank_is ≡ 0) × (⟦<BudgetMsg as Blank>⟧.blank_is ≡ [])
-        × (⟦<Tree as Blank>⟧.blank_is ≡ grown (pos 0) no_kids) }
+    ensures blank { (⟦<FlatMsg as Blank>⟧.blank_is ≡ pos 0) × (⟦<TestMsg as Blank>⟧.blank_is ≡ (pos 0, pos 0)) }
+    ensures blank_lists { (⟦<CountMsg as Blank>⟧.blank_is ≡ 0) × (⟦<BudgetMsg as Blank>⟧.blank_is ≡ []) }
+    ensures blank_tree { ⟦<Tree as Blank>⟧.blank_is ≡ grown (pos 0) no_kids }
 {}
 
 /// Which numbers the two enums declare, among the first four, and by which values, and their default. Nothing is
 /// open of these.
 pub fn enums_are_these()
-    ensures old { (⟦<Old as Enumeration>⟧.of_number (pos 0) ≡ Some Old.A)
-        × (⟦<Old as Enumeration>⟧.of_number (pos 1) ≡ Some Old.B)
-        × (⟦<Old as Enumeration>⟧.of_number (pos 2) ≡ None) × (⟦<Old as Enumeration>⟧.of_number (pos 3) ≡ None) }
-    ensures new { (⟦<New as Enumeration>⟧.of_number (pos 0) ≡ Some New.A)
-        × (⟦<New as Enumeration>⟧.of_number (pos 1) ≡ Some New.B)
-        × (⟦<New as Enumeration>⟧.of_number (pos 2) ≡ Some New.C) × (⟦<New as Enumeration>⟧.of_number (pos 3) ≡ None) }
+    ensures old { map ⟦<Old as Enumeration>⟧.of_number first_numbers ≡ Some Old.A ∷ Some Old.B ∷ None ∷ None ∷ [] }
+    ensures new { map ⟦<New as Enumeration>⟧.of_number first_numbers
+        ≡ Some New.A ∷ Some New.B ∷ Some New.C ∷ None ∷ [] }
     ensures blank { (⟦<Old as Blank>⟧.blank_is ≡ pos 0) × (⟦<New as Blank>⟧.blank_is ≡ pos 0) }
 {}
 
@@ -90,4 +91,30 @@ pub fn words_are_these()
     ensures blank { ⟦<Word as Blank>⟧.blank_is ≡ [] }
     ensures same { ⟦<Word as MapKey>⟧.same ≡ same_letters }
     ensures text { (t : List ℕ) → (⟦<Word as ProtoString>⟧.text t ≡ t) × (⟦<Word as ProtoString>⟧.of_text t ≡ t) }
+{}
+
+/// A map comes through its bytes in one way only: two copies hold the same pairs, and where an order is kept they are one
+/// list; what came back can't have been refused, memory aside, and there is one fault. Open is where memory runs out; after
+/// a refused read, which walk was written; and which equal pairs stand first where no order is kept.
+pub fn trips_are_pinned<
+    KC: MapCodec,
+    VC: MapCodec,
+    C: MapStorage<Key = KC::Value, Value = VC::Value>,
+>()
+    ensures { (m : C) → TripIsPinned KC.writing VC.writing (KC.COST + VC.COST) C.equal C.keeps_order (C.pairs m)
+        (C.walks m) }
+{}
+
+/// A map field is passed on in one way only: the same entries are kept; where the run is ordered, or one walk was written,
+/// the map has the same pairs; and what was passed on can't have been refused, memory aside. Open is where memory runs
+/// out; and what a reading makes of another walk's text, and whether the budget lasts for it.
+pub fn passes_are_pinned<
+    KC: MapCodec,
+    E: Enumeration,
+    F: Enumeration,
+    C: MapStorage<Key = KC::Value, Value = E>,
+    D: MapStorage<Key = KC::Value, Value = F>,
+>()
+    ensures { (scratch : C) (d n : ℕ) (bytes : List ℕ) →
+        PassIsPinned ⟦<Pass<KC, E, F, C, D> as Way>⟧.way KC.fits (C.walks scratch) d n bytes }
 {}

@@ -7,8 +7,7 @@
 
 pub mod count;
 pub mod flat;
-#[cfg(test)]
-mod guide;
+pub mod guide;
 pub mod hues;
 mod int32_field;
 pub mod keep;

@@ -1,15 +1,10 @@
 //! A map field passed on by a reader that doesn't know all its values.
 
-ghost use Rattle.std.specs.Prelude.{◌≡◌, ◌++◌, ℤ, IfErr, List, OnOk};
+ghost use Rattle.std.specs.Prelude.{◌≡◌, IfErr, OnOk};
 ghost use Rattle.buffa_wire.specs.Enums.{Refines, numbers};
 ghost use Rattle.buffa_wire.specs.Number.{IsNumber};
-ghost use Rattle.buffa_map.specs.Enums.{closed_reading};
-ghost use Rattle.buffa_map.specs.Merge.{state};
-ghost use Rattle.buffa_map.specs.Pairs.{SamePairs};
-ghost use Rattle.buffa_map.specs.Rewrite.{Ordered};
-ghost use Rattle.buffa_map.specs.Run.{fold_entries, Run, EntryRecord, undeclared_records};
-ghost use Rattle.buffa_samples.specs.Passed.{IsRunOf, MatchPass, NotRewritten, ReadsRewrite, StopsInRewrite};
-ghost use Rattle.buffa_samples.specs.Passed.{reader_of};
+ghost use Rattle.buffa_samples.specs.Passed.{IfRefused, IfUnread, IsRun, KeepsRun, MeansRun, NotRewritten, Proxy};
+ghost use Rattle.buffa_samples.specs.Passed.{ReadsRewrite, Stopped, proxy};
 
 use buffa_map::laws::{
     newer_enums_take_it_too, one_reading, plain_entries_need_units, rewrite_means,
@@ -18,10 +13,11 @@ use buffa_map::map_codec::{
     ClosedEnum, MapCodec, MapStorage, MapWrite, RewriteError, read_map_field, rewrite_map_field,
 };
 use buffa_wire::{
-    Budget, DEFAULT_ELEMENT_MEMORY_LIMIT, DEFAULT_UNKNOWN_FIELD_LIMIT, DecodeContext, DecodeError,
-    Enumeration, UnknownFields,
+    Blank, Budget, DEFAULT_ELEMENT_MEMORY_LIMIT, DEFAULT_UNKNOWN_FIELD_LIMIT, DecodeContext,
+    DecodeError, Enumeration, UnknownFields,
 };
 use std::alloc::Global;
+use std::marker::PhantomData;
 
 /// Why a map field wasn't passed on.
 #[derive(Debug, Drop)]
@@ -30,6 +26,34 @@ pub enum PassFault {
     Rewrite(RewriteError),
     /// The rewrite couldn't be read, since memory ran out or of budget.
     Decode(DecodeError),
+}
+
+/// Names the two readers of a proxy, for the contract of [`passed_on`] alone: the codec of keys, the enums of the older one
+/// and of the newer one, and the maps of both.
+pub struct Pass<KC, E, F, C, D> {
+    of: PhantomData<(KC, E, F, C, D)>,
+}
+
+/// What a proxy is: a word of contracts, with nothing to call.
+pub trait Way {
+    /// The type of the keys.
+    type Key: Blank;
+
+    /// How both readers read, and how keys are written.
+    ghost way: { Proxy Self.Key.Meaning };
+}
+
+impl<
+    KC: MapCodec,
+    E: Enumeration,
+    F: Enumeration,
+    C: MapStorage<Key = KC::Value, Value = E>,
+    D: MapStorage<Key = KC::Value, Value = F>,
+> Way for Pass<KC, E, F, C, D> {
+    type Key = KC::Value;
+
+    ghost way = { proxy KC.reading KC.COST KC.writing (numbers E.of_number E.blank_is)
+        (numbers F.of_number F.blank_is) C.equal C.keeps_order D.equal D.keeps_order };
 }
 
 /// Rewrites a map field through a map of the enum `E`, as a proxy does, and reads what was written into a
@@ -64,32 +88,18 @@ pub fn passed_on<
     requires number { IsNumber number }
     requires refines { Refines (numbers E.of_number E.blank_is) (numbers F.of_number F.blank_is) }
     requires keys { C.equal ≡ D.equal }
-    ensures passed { OnOk result ((es fs : List (EntryRecord KC.Value.Meaning ℤ)) →
-        Run KC.reading (closed_reading (numbers E.of_number E.blank_is)) depth number bytes.now es →
-        Run KC.reading (closed_reading (numbers F.of_number F.blank_is)) depth number bytes.now fs →
-        (unknown.new.records ≡ unknown.old.records ++ undeclared_records number fs)
-        × (Ordered D.equal es fs → SamePairs D.equal (fold_entries D.equal (D.pairs map.old) fs) (D.pairs map.new))) }
-    ensures runs { OnOk result (IsRunOf KC.reading (numbers E.of_number E.blank_is) depth number bytes.now
-        × IsRunOf KC.reading (numbers F.of_number F.blank_is) depth number bytes.now) }
-    ensures reads { OnOk result (ReadsRewrite
-        (reader_of KC.reading KC.COST (numbers E.of_number E.blank_is) C.equal C.keeps_order depth number)
-        (reader_of KC.reading KC.COST (numbers F.of_number F.blank_is) D.equal D.keeps_order depth number)
-        KC.writing KC.fits (numbers E.of_number E.blank_is) bytes.now (C.pairs scratch.new)
-        (state (D.pairs map.old) unknown.old.records
-        (record { unknown = DEFAULT_UNKNOWN_FIELD_LIMIT; memory = DEFAULT_ELEMENT_MEMORY_LIMIT }))
-        (D.pairs map.new) unknown.new.records) }
-    ensures refused { IfErr result (λ fault. MatchPass fault
-        (λ e. NotRewritten
-        (reader_of KC.reading KC.COST (numbers E.of_number E.blank_is) C.equal C.keeps_order depth number) KC.writing
-        (C.walks scratch.new) (record { unknown = DEFAULT_UNKNOWN_FIELD_LIMIT; memory = DEFAULT_ELEMENT_MEMORY_LIMIT })
-        bytes.now (C.pairs scratch.new) e × (map.new ≡ map.old) × (unknown.new ≡ unknown.old))
-        (StopsInRewrite
-        (reader_of KC.reading KC.COST (numbers E.of_number E.blank_is) C.equal C.keeps_order depth number)
-        (reader_of KC.reading KC.COST (numbers F.of_number F.blank_is) D.equal D.keeps_order depth number)
-        KC.writing KC.fits (numbers E.of_number E.blank_is) bytes.now (C.pairs scratch.new)
-        (state (D.pairs map.old) unknown.old.records
-        (record { unknown = DEFAULT_UNKNOWN_FIELD_LIMIT; memory = DEFAULT_ELEMENT_MEMORY_LIMIT }))
-        (D.pairs map.new) unknown.new.records)) }
+    ensures runs { OnOk result (IsRun ⟦<Pass<KC, E, F, C, D> as Way>⟧.way KC.fits depth number bytes.now) }
+    ensures keeps { OnOk result (KeepsRun ⟦<Pass<KC, E, F, C, D> as Way>⟧.way KC.fits depth number bytes.now
+        unknown.old unknown.new) }
+    ensures means { OnOk result (MeansRun ⟦<Pass<KC, E, F, C, D> as Way>⟧.way KC.fits depth number bytes.now
+        (D.pairs map.old) (D.pairs map.new)) }
+    ensures reads { OnOk result (ReadsRewrite ⟦<Pass<KC, E, F, C, D> as Way>⟧.way KC.fits depth number bytes.now
+        (C.pairs scratch.new) (D.pairs map.old) unknown.old (D.pairs map.new) unknown.new) }
+    ensures refused { IfErr result (IfRefused (NotRewritten ⟦<Pass<KC, E, F, C, D> as Way>⟧.way KC.fits depth
+        number bytes.now (C.walks scratch.new) (C.pairs scratch.new))) }
+    ensures kept { IfErr result (IfRefused (λ _. (map.new ≡ map.old) × (unknown.new ≡ unknown.old))) }
+    ensures stops { IfErr result (IfUnread (Stopped ⟦<Pass<KC, E, F, C, D> as Way>⟧.way KC.fits depth
+        number bytes.now (C.pairs scratch.new) (D.pairs map.old) unknown.old (D.pairs map.new) unknown.new)) }
 {
     let mut text = Vec::new(alloc);
     let mut budget = Budget::new(DEFAULT_UNKNOWN_FIELD_LIMIT);

@@ -2,13 +2,12 @@
 
 ghost use Rattle.std.specs.Prelude.{◌≡◌, ◌+◌, [], IfErr, OnOk, IsPermutation};
 ghost use Rattle.buffa_wire.specs.Number.{IsNumber};
-ghost use Rattle.buffa_wire.specs.BudgetLeft.{units};
 ghost use Rattle.buffa_map.specs.Merge.{dropping};
 ghost use Rattle.buffa_map.specs.Pairs.{SamePairs};
 ghost use Rattle.buffa_map.specs.Text.{AllHold};
 ghost use Rattle.buffa_samples.specs.Letters.{same_letters, spelled};
-ghost use Rattle.buffa_samples.specs.RoundTrip.{EachWalk, IfUnread, IfUnwritten, InWalkOrder, RefusesTrip, StopsInField};
-ghost use Rattle.buffa_samples.specs.RoundTrip.{flag_writing, word_writing};
+ghost use Rattle.buffa_samples.specs.RoundTrip.{EachWalk, FitsTrip, IfUnwritten, InWalkOrder, RefusesTrip, StopsTrip};
+ghost use Rattle.buffa_samples.specs.RoundTrip.{flag_writing, word_rules, word_writing};
 
 use crate::word::Word;
 use buffa_map::laws::{one_reading, plain_entries_need_units, written_is_read};
@@ -54,11 +53,14 @@ where
     requires normal { EachWalk (C.walks map.now) (AllHold KC.normal VC.normal) }
     ensures ok { OnOk result (SamePairs C.equal (C.pairs map.now) (C.pairs copy.new)) }
     ensures order { OnOk result (InWalkOrder C.keeps_order (C.walks map.now) (C.pairs copy.new)) }
-    ensures err { IfErr result (RefusesTrip KC.writing VC.writing (KC.COST + VC.COST) (C.walks map.now)) }
+    ensures fits { OnOk result (FitsTrip KC.writing VC.writing (KC.COST + VC.COST) C.equal (C.pairs map.now)
+        (C.walks map.now)) }
+    ensures err { IfErr result (RefusesTrip KC.writing VC.writing (KC.COST + VC.COST) C.equal (C.pairs map.now)
+        (C.walks map.now)) }
     ensures kept { IfErr result (λ fault. IfUnwritten fault (copy.new ≡ copy.old)) }
-    ensures stops { IfErr result (λ fault. IfUnread fault (StopsInField
+    ensures stops { IfErr result (StopsTrip
         (dropping KC.reading VC.reading C.equal C.keeps_order 0 number (KC.COST + VC.COST)) KC.writing VC.writing
-        (C.walks map.now) (units DEFAULT_ELEMENT_MEMORY_LIMIT) (C.pairs copy.new))) }
+        (C.walks map.now) (C.pairs copy.new)) }
 {
     let mut text = Vec::new(alloc);
     match write_field::<KC, VC, C, _>(map, number, &mut text) {
@@ -93,34 +95,13 @@ pub fn words_through_bytes(
 ) -> Result<(), TripFault>
     requires { copy.old.entries ≡ [] }
     ensures ok { OnOk result (SamePairs same_letters (spelled words.now.entries) (spelled copy.new.entries)) }
-    ensures err { IfErr result (RefusesTrip word_writing flag_writing 25 (IsPermutation (spelled words.now.entries))) }
+    ensures fits { OnOk result (FitsTrip word_writing flag_writing 25 same_letters (spelled words.now.entries)
+        (IsPermutation (spelled words.now.entries))) }
+    ensures err { IfErr result (RefusesTrip word_writing flag_writing 25 same_letters (spelled words.now.entries)
+        (IsPermutation (spelled words.now.entries))) }
     ensures kept { IfErr result (λ fault. IfUnwritten fault (copy.new ≡ copy.old)) }
+    ensures stops { IfErr result (StopsTrip word_rules word_writing flag_writing
+        (IsPermutation (spelled words.now.entries)) (spelled copy.new.entries)) }
 {
     through_bytes::<ProtoStringMap<Word>, Bool, HashMap<Word, bool>>(alloc, 1, words, copy)
-}
-
-#[cfg(test)]
-mod tests {
-    use super::words_through_bytes;
-    use crate::word::Word;
-    use buffa_map::map_codec::MapStorage;
-    use std::collections::HashMap;
-    use std::test::Fail;
-
-    #[test]
-    fn words_come_back(rt: HostRuntime) -> Result<(), Fail> {
-        let mut words: HashMap<Word, bool> = HashMap::new(rt.alloc());
-        for (text, value) in [("Bee", false), ("a", true), ("BEE", true)] {
-            let text = String::from_str(rt.alloc(), text)?;
-            words.storage_insert(Word { text }, value)?;
-        }
-        let mut copy: HashMap<Word, bool> = HashMap::new(rt.alloc());
-        assert!(rt; words_through_bytes(rt.alloc(), &words, &mut copy).is_ok());
-        assert_eq!(rt; copy.storage_len(), 2);
-        for (word, value) in &copy {
-            assert!(rt; *value);
-            assert!(rt; word.text.as_str() == "Bee" || word.text.as_str() == "a");
-        }
-        Ok(())
-    }
 }

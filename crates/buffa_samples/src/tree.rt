@@ -1,15 +1,15 @@
 //! A message that holds itself.
 
 ghost use Rattle.std.specs.Prelude.{pos};
-ghost use Rattle.buffa_wire.specs.Passes.{IsNext, IsSized, IsWritten};
+ghost use Rattle.buffa_wire.specs.Passes.{IsNext, IsSized};
 ghost use Rattle.std.specs.BTreeMap.{values};
 ghost use Rattle.std.specs.List.{Contains};
 ghost use Rattle.buffa_map.specs.MessageField.{IsFieldWritten, field_slots};
 ghost use Rattle.std.specs.Prelude.{◌≡◌, ◌≢◌, ◌+◌};
 ghost use Rattle.buffa_wire.specs.Gives.{FullOnlyIf};
-ghost use Rattle.buffa_wire.specs.Message.{IsFieldMerged, IsMerged, ReachesTag};
+ghost use Rattle.buffa_wire.specs.Message.{BeginsField, IsFieldMerged, IsMerged};
 ghost use Rattle.buffa_samples.specs.TreeMeaning.{IsChildMerged, cost, merged};
-ghost use Rattle.buffa_samples.specs.TreeText.{key_writing, meant, slots, text};
+ghost use Rattle.buffa_samples.specs.TreeText.{IsTreeWritten, key_writing, meant, slots, text};
 
 use crate::flat::merge_value;
 use crate::int32_field::{number_len, write_number};
@@ -165,11 +165,10 @@ fn write_children_by<S: EncodeSink, F>(
 where
     F: Fn(&Tree, &mut SizeCache, &mut S) -> Result<(), EncodeError>,
     requires next { IsNext (field_slots text slots (meant children.now.entries)) cache.old }
-    requires may { (x : _) (c : _) (s : _) → Contains (values children.now) x.now → IsNext (slots x.now) c.now →
+    requires may { (x c s : _) → Contains (values children.now) x.now → IsNext (slots x.now) c.now →
         F.pre write x c s }
-    requires keeps { (x : _) (c : _) (s : _) (r : _) (d : _) (t : _) → Contains (values children.now) x.now →
-        F.post write x c s r d t → IsWritten (text x.now) (slots x.now) c.now (S.written s.now) r d.now
-        (S.written t.now) }
+    requires keeps { (x c s r d t : _) → Contains (values children.now) x.now →
+        F.post write x c s r d t → IsTreeWritten x.now c.now (S.written s.now) r d.now (S.written t.now) }
     ensures { IsFieldWritten key_writing text slots 2 (meant children.now.entries) cache.old (S.written sink.old)
         result cache.new (S.written sink.new) }
 {
@@ -185,8 +184,7 @@ pub fn write_tree<S: EncodeSink>(
     sink: &mut S,
 ) -> Result<(), EncodeError>
     requires { IsNext (slots tree.now) cache.old }
-    ensures { IsWritten (text tree.now) (slots tree.now) cache.old (S.written sink.old) result cache.new
-        (S.written sink.new) }
+    ensures { IsTreeWritten tree.now cache.old (S.written sink.old) result cache.new (S.written sink.new) }
 {
     write_number(1, &tree.label, sink)?;
     write_children_by(
@@ -195,8 +193,7 @@ pub fn write_tree<S: EncodeSink>(
         sink,
         |child: &Tree, cache: &mut SizeCache, sink: &mut S| -> Result<(), EncodeError>
             requires { IsNext (slots child.now) cache.old }
-            ensures { IsWritten (text child.now) (slots child.now) cache.old (S.written sink.old) result cache.new
-                (S.written sink.new) }
+            ensures { IsTreeWritten child.now cache.old (S.written sink.old) result cache.new (S.written sink.new) }
         { write_tree(child, cache, sink) },
     )
 }
@@ -281,7 +278,7 @@ pub fn merge_tree(
 ) -> Result<(), DecodeError>
     ensures merged { IsMerged (merged depth tree.old bytes.now) (cost depth bytes.now) budget.old result tree.new
         budget.new }
-    ensures full { FullOnlyIf result (ReachesTag depth bytes.now) }
+    ensures full { FullOnlyIf result (BeginsField bytes.now) }
 {
     let mut rest = bytes;
     while rest.remaining() > 0 {

@@ -1,5 +1,5 @@
 -- A message inside a field, whose bytes are read where they lie.
-use Rattle.std.proofs.Common.{◌≡◌, ◌≢◌, inl, inr, ℕ, zero, suc, ◌-◌, ◌<◌, List, [], length, drop, Option, Some, Result, Ok, Err, refl, sym, ap, subst, ◌∙◌, arith, length-append, IsOk}
+use Rattle.std.proofs.Common.{◌≡◌, ◌≢◌, inl, inr, ℕ, zero, suc, ◌-◌, ◌<◌, List, [], length, drop, Option, Some, Result, Ok, Err, refl, sym, ap, subst, ◌∙◌, arith, IsOk}
 use Rattle.std.specs.Prelude.{IfErr, OnErr, OnOk}
 use Rattle.std.proofs.lemmas.Bool.{le-ltb}
 use Rattle.buffa_bytes.specs.declared.error.DecodeError.{DecodeError}
@@ -12,7 +12,7 @@ use Rattle.buffa_bytes.proofs.FieldLemmas.{tag_falls}
 use Rattle.buffa_bytes.proofs.StepLemmas.{agree_ok}
 use Rattle.buffa_wire.proofs.SequenceLemmas.{ok_same}
 use Rattle.buffa_wire.specs.BudgetLeft.{BudgetLeft, Pays, PaysAtMost, nothing}
-use Rattle.buffa_wire.specs.Message.{IsMerged, MergeFault, PayloadFault, ReachesTag, cost_in, cost_of_payload, merged_in}
+use Rattle.buffa_wire.specs.Message.{BeginsField, IsMerged, MergeFault, PayloadFault, cost_in, cost_of_payload, merged_in}
 
 -- a length, and so many bytes at the front of what follows it
 pub delimited_front : (n : ℕ) (bs mid part : List ℕ) → varint_at bs ≡ Ok (n, mid) → IsFrontOf part n mid → delimited_at bs ≡ Ok (part, drop n mid)
@@ -48,12 +48,12 @@ inside_full d bs b rest (Ok x) deep e = tt
 inside_full d bs b rest (Err x) deep e = λ full. (omega arith, rw e refl)
 
 -- ---- a message of no bytes
-no_tag : (d : ℕ) → ReachesTag d [] → ⊥
-no_tag d (front, rest, j, is, (n, w, x, tag, o)) = omega (arith, ap length is, length-append front rest, tag_falls rest (n, w, x) tag)
+no_tag : BeginsField [] → ⊥
+no_tag (n, w, x, tag, o) = omega (arith, tag_falls [] (n, w, x) tag)
 
 none_told : {X : Type 0} (d : ℕ) (v : X) (o : Option X) (need before : BudgetLeft) (e : DecodeError) → o ≡ Some v → need ≡ nothing →
-    (e ≢ error.OutOfMemory → MergeFault o need before e) → (e ≡ error.OutOfMemory → ReachesTag d []) → ⊥
-none_told d v o need before error.OutOfMemory is free why full = no_tag d (full refl)
+    (e ≢ error.OutOfMemory → MergeFault o need before e) → (e ≡ error.OutOfMemory → BeginsField []) → ⊥
+none_told d v o need before error.OutOfMemory is free why full = no_tag (full refl)
 none_told d v o need before _ is free why full = elim (why (λ q. cc)) [
   | inl few ↦ elim few [ inl k ↦ omega (arith, k, ap (λ z. z.unknown) free) | inr k ↦ omega (arith, k, ap (λ z. z.memory) free) ]
   | inr bad ↦ let k = sym is ∙ bad.0 in cc
@@ -61,10 +61,10 @@ none_told d v o need before _ is free why full = elim (why (λ q. cc)) [
 
 module _ {X T : Type 0} (merged : ℕ → X → List ℕ → Option X) (cost : ℕ → List ℕ → BudgetLeft)
     (empty : (d : ℕ) (v : X) → merged d v [] ≡ Some v) (free : (d : ℕ) → cost d [] ≡ nothing) where
-  pub none_merges : (d : ℕ) (old new : X) (b : List ℕ) (before after : BudgetLeft) (r : Result T DecodeError) → b ≡ [] → IsMerged (merged d old b) (cost d b) before r new after → FullOnlyIf r (ReachesTag d b) → IsOk r
+  pub none_merges : (d : ℕ) (old new : X) (b : List ℕ) (before after : BudgetLeft) (r : Result T DecodeError) → b ≡ [] → IsMerged (merged d old b) (cost d b) before r new after → FullOnlyIf r (BeginsField b) → IsOk r
   none_merges d old new b before after (Ok x) is h full = refl
   none_merges d old new b before after (Err e) is h full =
-      absurd (none_told d old (merged d old b) (cost d b) before e (ap (merged d old) is ∙ empty d old) (ap (cost d) is ∙ free d) h.1 (λ q. subst (λ z. ReachesTag d z) is (full q)))
+      absurd (none_told d old (merged d old b) (cost d b) before e (ap (merged d old) is ∙ empty d old) (ap (cost d) is ∙ free d) h.1 (λ q. subst BeginsField is (full q)))
 
 pub same_front : (bs p x rest : List ℕ) → delimited_at bs ≡ Ok (p, x) → delimited_at bs ≡ Ok ([], rest) → p ≡ []
 same_front bs p x rest h k = ap (λ z. z.0) (ok_same (sym h ∙ k))

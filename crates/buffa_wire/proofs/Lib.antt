@@ -7,6 +7,7 @@ pub mod JoinLemmas
 pub mod MessageLemmas
 pub mod InsideLemmas
 pub mod PassLemmas
+mod LeaveLemmas
 pub mod SpentLemmas
 pub mod FaultLemmas
 pub mod SequenceLemmas

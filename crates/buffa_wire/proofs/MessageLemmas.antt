@@ -13,7 +13,7 @@ use Rattle.buffa_bytes.specs.Reading.{skip_at, tag_at}
 use Rattle.buffa_bytes.proofs.StepLemmas.{agree_err, agree_ok}
 use Rattle.buffa_bytes.proofs.FieldLemmas.{payload_complete, payload_sound, tag_complete, tag_sound}
 use Rattle.buffa_wire.specs.BudgetLeft.{BudgetLeft, Lacks, PaysAtMost, plus}
-use Rattle.buffa_wire.specs.Message.{IsJudged, IsLimit, MergeFault, ReachesTag}
+use Rattle.buffa_wire.specs.Message.{BeginsField, IsJudged, IsLimit, MergeFault}
 
 -- ---- no fault of bytes is a limit's
 abbrev pub NoLimit : DecodeError → Type 0
@@ -154,5 +154,13 @@ front_more d f bs rest t p x n w j whole tag payload is = (
   whole ∙ ap (λ z. f ++ z) (is ∙ sym (append_assoc t p x)) ∙ sym (append_assoc f (t ++ p) x),
 )
 
-pub reaches_tag : (d : ℕ) (f bs rest : List ℕ) (tag : ℕ × WireType × List ℕ) → Join (SomeField d) f → bs ≡ f ++ rest → tag_at rest ≡ Ok tag → tag.1 ≢ EndGroup → ReachesTag d bs
-reaches_tag d f bs rest tag j whole e o = (f, rest, j, whole, (tag.0, tag.1, tag.2, e, o))
+-- bytes that fields begin, and then a tag, a field begins
+pub reaches_tag : (d : ℕ) (f bs rest : List ℕ) (tag : ℕ × WireType × List ℕ) → Join (SomeField d) f → bs ≡ f ++ rest → tag_at rest ≡ Ok tag → tag.1 ≢ EndGroup → BeginsField bs
+reaches_tag d _ bs rest tag none whole e o = (tag.0, tag.1, tag.2, ap tag_at whole ∙ e, o)
+reaches_tag d _ bs rest tag (more f r (n, w, (t, p, is_tag, payload, is)) j) whole e o = (
+  n,
+  w,
+  p ++ (r ++ rest),
+  ap tag_at (whole ∙ append_assoc f r rest ∙ ap (λ z. z ++ (r ++ rest)) is ∙ append_assoc t p (r ++ rest)) ∙ tag_complete t n w (p ++ (r ++ rest)) is_tag,
+  λ end. subst (λ v. Payload d n v p) end payload,
+)

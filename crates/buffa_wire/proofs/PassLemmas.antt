@@ -2,7 +2,7 @@
 use Rattle.std.proofs.Common.{◌≡◌, ℕ, zero, suc, ◌+◌, ◌<◌, List, [], ◌∷◌, ◌++◌, length, refl, sym, ap, subst, ◌∙◌, arith, append_assoc, append-nil, drop, slice_index, slice_set, length-append, Result, Ok, Err, add-one, add-zero}
 use Rattle.buffa_bytes.specs.Written.{Writes}
 use Rattle.buffa_bytes.specs.declared.error.EncodeError.{EncodeError}
-use Rattle.buffa_wire.specs.Passes.{IsLonger, IsNext, WritesIf}
+use Rattle.buffa_wire.specs.Passes.{Consumes, IsLonger, IsNext, WritesIf}
 use Rattle.buffa_wire.specs.Cache.{Cache, advanced, appended}
 
 -- ---- the cursor
@@ -40,8 +40,25 @@ done = Ok tt
 abbrev pub refused : EncodeError → Result (Unit {0}) EncodeError
 refused e = Err e
 
+stays : (c : Cache) → c ≡ advanced 0 c
+stays c = λ i. record { slots = c.slots; next = sym (add-zero c.next) i }
+
+-- no slot is consumed
+pub consumes_none : (slots : List ℕ) (c : Cache) → Consumes slots c c
+consumes_none slots c = (0, omega arith, stays c)
+
+-- of more slots no fewer
+consumes_front : (s z : List ℕ) (c d : Cache) → Consumes s c d → Consumes (s ++ z) c d
+consumes_front s z c d (n, few, is) = (n, omega (arith, few, length-append s z), is)
+
+-- behind n slots that were
+consumes_behind : (n : ℕ) (all z : List ℕ) (a b c : Cache) → length all ≡ n + length z → b ≡ advanced n a → Consumes z b c → Consumes all a c
+consumes_behind n all z a b c whole on (m, few, is) =
+    let e : (a.next + n) + m ≡ a.next + (n + m) = omega arith in
+    (n + m, omega (arith, few, whole), is ∙ ap (advanced m) on ∙ (λ i. record { slots = a.slots; next = e i }))
+
 pub written_none : (P : Type 0) (c : Cache) (b : List ℕ) → WritesIf P [] [] c b done c b
-written_none P c b = ([], sym (append-nil b), ((λ i. record { slots = c.slots; next = sym (add-zero c.next) i }), λ _. refl))
+written_none P c b = ([], sym (append-nil b), (stays c, λ _. refl))
 
 module _ (P Q R : Type 0) (t u s z : List ℕ) (c0 c1 c2 : Cache) (b0 b1 b2 : List ℕ) where
   further : c2 ≡ advanced (length z) c1 → c1 ≡ advanced (length s) c0 → c2 ≡ advanced (length (s ++ z)) c0
@@ -71,6 +88,7 @@ module _ (P Q R : Type 0) (t u s z : List ℕ) (c0 c1 c2 : Cache) (b0 b1 b2 : Li
             ∙ sym (append_assoc xs ys (w.1 (f h).1).0),
         (w.1 (f h).1).2,
       ),
+      consumes_behind (length s) (s ++ z) z c0 c1 c2 (length-append s z) q.0 w.2,
     ),
   )
 
@@ -86,6 +104,7 @@ module _ (P Q R : Type 0) (t u s z : List ℕ) (c0 c1 c2 : Cache) (b0 b1 b2 : Li
         ap (λ (a : List ℕ). a ++ u) (q.1 (f h)).1 ∙ append_assoc xs (q.1 (f h)).0 u,
         omega (arith, (q.1 (f h)).2, length-append (q.1 (f h)).0 u),
       ),
+      consumes_front s z c0 c1 q.2,
     ),
   )
 
@@ -96,14 +115,14 @@ written_err P t s c0 c1 b0 b1 r e f p q h = subst (λ r. WritesIf P t s c0 b0 r 
 
 -- a text that needs no slot
 pub written_put : (P : Type 0) (t : List ℕ) (c : Cache) (b0 b1 : List ℕ) (r : Result (Unit {0}) EncodeError) → Writes r b0 t b1 → WritesIf P t [] c b0 r c b1
-written_put P t c b0 b1 (Ok _) h = (t, h, ((λ i. record { slots = c.slots; next = sym (add-zero c.next) i }), λ _. refl))
-written_put P t c b0 b1 (Err e) (is, (front, rest, split, h, more)) = (front, h, (is, λ _. (rest, split, more)))
+written_put P t c b0 b1 (Ok _) h = (t, h, (stays c, λ _. refl))
+written_put P t c b0 b1 (Err e) (is, (front, rest, split, h, more)) = (front, h, (is, λ _. (rest, split, more), consumes_none [] c))
 
 -- a text that is another one where the premise holds, behind a slot that was consumed
 module _ (P Q : Type 0) (t u s : List ℕ) (slot : ℕ) (c0 c1 c2 : Cache) (b0 b1 : List ℕ) where
   pub written_same : (Q → P) → (Q → t ≡ u) → (r : Result (Unit {0}) EncodeError) → WritesIf P t s c0 b0 r c1 b1 → WritesIf Q u s c0 b0 r c1 b1
   written_same f g (Ok _) (xs, p, q) = (xs, p, (q.0, λ h. q.1 (f h) ∙ g h))
-  written_same f g (Err e) (xs, p, q) = (xs, p, (q.0, λ h. ((q.1 (f h)).0, sym (g h) ∙ (q.1 (f h)).1, (q.1 (f h)).2)))
+  written_same f g (Err e) (xs, p, q) = (xs, p, (q.0, λ h. ((q.1 (f h)).0, sym (g h) ∙ (q.1 (f h)).1, (q.1 (f h)).2), q.2))
 
   on_one : c1 ≡ advanced 1 c0 → c2 ≡ advanced (length s) c1 → c2 ≡ advanced (length (slot ∷ s)) c0
   on_one on p =
@@ -112,7 +131,7 @@ module _ (P Q : Type 0) (t u s : List ℕ) (slot : ℕ) (c0 c1 c2 : Cache) (b0 b
 
   pub written_behind : c1 ≡ advanced 1 c0 → (r : Result (Unit {0}) EncodeError) → WritesIf P t s c1 b0 r c2 b1 → WritesIf P t (slot ∷ s) c0 b0 r c2 b1
   written_behind on (Ok _) (xs, p, q) = (xs, p, (on_one on q.0, q.1))
-  written_behind on (Err e) (xs, p, q) = (xs, p, (q.0, q.1))
+  written_behind on (Err e) (xs, p, q) = (xs, p, (q.0, q.1, consumes_behind 1 (slot ∷ s) s c0 c1 c2 (omega arith) on q.2))
 
 -- ---- the size pass
 

@@ -11,11 +11,11 @@ use Rattle.buffa_wire.specs.Enums.{open_number}
 use Rattle.buffa_wire.specs.Passes.{IsNext}
 use Rattle.buffa_wire.proofs.PassLemmas.{drop_past, next_ok, next_rest}
 use Rattle.buffa_wire.specs.Parse.{slots}
-use Rattle.buffa_wire.specs.Message.{IsFieldMerged}
+use Rattle.buffa_wire.specs.Message.{IsFieldMerged, MergeFault, IsInside, PayloadFault, cost_in, merged_in}
 use Rattle.buffa_bytes.specs.declared.error.DecodeError.TheVariants.{OutOfMemory}
 use Rattle.std.proofs.lemmas.List.{append_cancel_right}
 use Rattle.buffa_wire.proofs.ParseLemmas as parse
-use Rattle.buffa_wire.specs.Pinned.{done, told, BudgetIsPinned, FieldIsPinned, FieldMergeIsPinned, MergeIsPinned, PassesArePinned, RecordsArePinned}
+use Rattle.buffa_wire.specs.Pinned.{done, told, BudgetIsPinned, FieldIsPinned, FieldMergeIsPinned, InsideIsPinned, MergeIsPinned, PassesArePinned, RecordsArePinned}
 use Rattle.buffa_wire.specs.Records.{list_of, records_of}
 use Rattle.buffa_wire.proofs.LoopLemmas.{field_refused, field_taken, list_refused, list_taken}
 use Rattle.buffa_wire.proofs.RecordLemmas.{list-records}
@@ -87,6 +87,33 @@ module _ {X : Type 0} (merged : ℕ → X → List ℕ → Option X) (cost : ℕ
   pub field_merge_is_pinned : FieldMergeIsPinned merged cost d n w t tag old bs before
   field_merge_is_pinned = record { merges = field_merges; refuses = field_refuses }
 
+module _ {X : Type 0} (merged : ℕ → X → List ℕ → Option X) (cost : ℕ → List ℕ → BudgetLeft) where
+  inside_merges : (d : ℕ) (old a b : X) (bs : List ℕ) (before x y : BudgetLeft) (r s : List ℕ) →
+      IsInside merged cost d old bs before a x r → IsInside merged cost d old bs before b y s → (a ≡ b) × (x ≡ y) × (r ≡ s)
+  inside_merges d old a b bs before x y r s (p, is, means, pays) (q, also, meant, paid) =
+      let e = ok_same (sym also ∙ is) in
+      let same : q ≡ p = ap (λ z. z.0) e in
+      let two : (merged_in merged d old p ≡ Some b) × Pays before (cost_in cost d p) y = subst (λ z. (merged_in merged d old z ≡ Some b) × Pays before (cost_in cost d z) y) same (meant, paid) in
+      (some_same (merged_in merged d old p) a b means two.0, one_left before (cost_in cost d p) x y pays two.1, sym (ap (λ z. z.1) e))
+
+  inside_refuses : (d : ℕ) (old a : X) (bs : List ℕ) (before x : BudgetLeft) (r : List ℕ) (e : DecodeError) →
+      IsInside merged cost d old bs before a x r → PayloadFault merged cost d old bs before e → ⊥
+  inside_refuses zero old a bs before x r e (p, is, means, pays) h = cc
+  inside_refuses (suc d) old a bs before x r e (p, is, means, pays) (inl h) = let k = sym is ∙ h in cc
+  inside_refuses (suc d) old a bs before x r e (p, is, means, pays) (inr (b, rest, also, why)) =
+      let same : b ≡ p = ap (λ z. z.0) (ok_same (sym also ∙ is)) in
+      elim (subst (λ z. MergeFault (merged d old z) (cost d z) before e) same why) [
+        | inl few ↦ not_lacked before (cost d p) x pays few
+        | inr bad ↦ (let k = sym means ∙ bad.0 in cc)
+      ]
+
+  pub inside_is_pinned : (d : ℕ) (old : X) (bs : List ℕ) (before : BudgetLeft) → InsideIsPinned merged cost d old bs before
+  inside_is_pinned d old bs before = record {
+    merges = λ a b x y r s. inside_merges d old a b bs before x y r s;
+    refuses = λ a x r e. inside_refuses d old a bs before x r e;
+    left = λ e r s other h k. h.0 other ∙ sym (k.0 other);
+  }
+
 -- ---- passes
 pub passes_are_pinned : (text slots : List ℕ) (old : Cache) → PassesArePinned text slots old
 passes_are_pinned text slots old = record {
@@ -94,6 +121,11 @@ passes_are_pinned text slots old = record {
   written = λ before x y a b small h k. (
     h.1 ∙ ap (λ z. before ++ z) (h.2.1 small ∙ sym (k.2.1 small)) ∙ sym k.1,
     h.2.0 ∙ sym k.2.0,
+  );
+  consumed = λ a (n, few, is). (
+    ap (λ (z : Cache). z.slots) is,
+    omega (arith, ap (λ (z : Cache). z.next) is),
+    omega (arith, few, ap (λ (z : Cache). z.next) is),
   );
 }
 
@@ -105,6 +137,8 @@ field_is_pinned d s n w bs = record {
       (ap (λ z. z.0) e, ap (λ z. z.1) e, ap (λ z. z.2) e);
   refused = λ x k r e h g. let q = sym (field_taken d s n w bs x k r h) ∙ field_refused d s n w bs e g in cc;
   fault = λ e f h g. let q = sym (field_refused d s n w bs e h) ∙ field_refused d s n w bs f g in cc;
+  left = λ e r q other h g. h.0 other ∙ sym (g.0 other);
+  slot = λ k m h g. h ∙ sym g;
 }
 
 pub records_are_pinned : (d s : ℕ) (bs : List ℕ) → RecordsArePinned d s bs

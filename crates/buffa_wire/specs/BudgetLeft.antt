@@ -1,5 +1,5 @@
 -- What is left of a budget.
-use Rattle.std.specs.Prelude.{◌≡◌, ℕ, ◌+◌, ◌<◌, ◌≤◌, ◌⊎◌}
+use Rattle.std.specs.Prelude.{◌≡◌, ℕ, ◌+◌, ◌-◌, ◌<◌, ◌≤◌, ◌⊎◌}
 use denote.Ref.{MutBor}
 
 -- slots for unknown fields, and units of element memory
@@ -40,6 +40,10 @@ PaysAtMost left need over =
 -- of before slots, at most n were spent, and after are left
 abbrev pub SlotsSpent : ℕ → ℕ → ℕ → Type 0
 SlotsSpent n before after = (after ≤ before) × (before ≤ after + n)
+
+-- one slot was taken, where one was there
+abbrev pub SlotTaken : ℕ → ℕ → Type 0
+SlotTaken before after = after ≡ before - 1
 
 -- what a call that took a context left in the budget that was lent with it
 abbrev pub budget_left : {D X : Type 0} → D × (MutBor X × Unit {0}) → X

@@ -4,9 +4,9 @@ use Rattle.buffa_bytes.specs.declared.error.DecodeError.{DecodeError}
 use Rattle.buffa_bytes.specs.declared.error.DecodeError.TheVariants.{ElementMemoryLimitExceeded, OutOfMemory, RecursionLimitExceeded, UnknownFieldLimitExceeded}
 use Rattle.buffa_bytes.specs.declared.wire_type.WireType.{WireType}
 use Rattle.buffa_bytes.specs.declared.wire_type.WireType.TheVariants.{EndGroup}
-use Rattle.buffa_bytes.specs.Field.{IsTag, Payload, SomeField, TakesPayload}
-use Rattle.buffa_bytes.specs.Join.{Join}
+use Rattle.buffa_bytes.specs.Field.{IsTag, Payload, TakesPayload}
 use Rattle.buffa_bytes.specs.Reading.{delimited_at, tag_at}
+use Rattle.buffa_wire.specs.declared.context.DecodeContext.{DecodeContext}
 use Rattle.buffa_wire.specs.BudgetLeft.{BudgetLeft, Lacks, Pays, PaysAtMost, nothing}
 
 -- an error that a budget makes
@@ -27,13 +27,13 @@ IsMerged meant need before r new after =
     (λ _. (meant ≡ Some new) × Pays before need after)
     (λ e. PaysAtMost before need after × (e ≢ OutOfMemory → MergeFault meant need before e))
 
--- a tag begins the bytes, and it is no end tag
+-- a tag begins the bytes, and it is no end tag: where merging them may take memory
 abbrev pub BeginsField : List ℕ → Type 0
 BeginsField bs = (n : ℕ) × (w : WireType) × (rest : List ℕ) × (tag_at bs ≡ Ok (n, w, rest)) × (w ≢ EndGroup)
 
--- some fields of the bytes, and then a tag that is no end tag: where merging them may take memory
-abbrev pub ReachesTag : ℕ → List ℕ → Type 0
-ReachesTag d bs = (front : List ℕ) × (rest : List ℕ) × Join (SomeField d) front × (bs ≡ front ++ rest) × BeginsField rest
+-- the same of a message, at a depth: what bytes mean to it, and what they cost
+abbrev pub MergesBytes : {X T : Type 0} → (ℕ → X → List ℕ → Option X) → (ℕ → List ℕ → BudgetLeft) → ℕ → X → List ℕ → BudgetLeft → Result T DecodeError → X → BudgetLeft → Type 0
+MergesBytes merged cost d old bs before r new after = IsMerged (merged d old bs) (cost d bs) before r new after
 
 -- the budgets where nothing else is said
 abbrev pub defaults : BudgetLeft
@@ -64,6 +64,10 @@ IsFieldMerged merged cost d old n w bs before r new after rest =
     (λ e. (t p : List ℕ) → IsTag t n w → IsJudged d n w bs p →
     PaysAtMost before (cost d (t ++ p)) after × (e ≢ OutOfMemory → MergeFault (merged d old (t ++ p)) (cost d (t ++ p)) before e))
 
+-- the same in a context
+abbrev pub MergesField : {X T : Type 0} → (ℕ → X → List ℕ → Option X) → (ℕ → List ℕ → BudgetLeft) → DecodeContext → X → ℕ → WireType → List ℕ → Result T DecodeError → X → BudgetLeft → List ℕ → Type 0
+MergesField merged cost ctx old n w bs r new after rest = IsFieldMerged merged cost ctx.depth old n w bs ctx.budget.now r new after rest
+
 -- a message inside a field is one level deeper: what its bytes mean, and what they cost
 abbrev pub merged_in : {X : Type 0} → (ℕ → X → List ℕ → Option X) → ℕ → X → List ℕ → Option X
 merged_in merged zero old b = None
@@ -72,6 +76,15 @@ merged_in merged (suc d) old b = merged d old b
 abbrev pub cost_in : (ℕ → List ℕ → BudgetLeft) → ℕ → List ℕ → BudgetLeft
 cost_in cost zero b = nothing
 cost_in cost (suc d) b = cost d b
+
+-- a length and a message are at the front: what the message means is left, what it costs is spent, and rest follows it
+abbrev pub IsInside : {X : Type 0} → (ℕ → X → List ℕ → Option X) → (ℕ → List ℕ → BudgetLeft) → ℕ → X → List ℕ → BudgetLeft → X → BudgetLeft → List ℕ → Type 0
+IsInside merged cost d old bs before new after rest =
+    (b : List ℕ) × (delimited_at bs ≡ Ok (b, rest)) × (merged_in merged d old b ≡ Some new) × Pays before (cost_in cost d b) after
+
+-- the same in a context
+abbrev pub MergesInside : {X : Type 0} → (ℕ → X → List ℕ → Option X) → (ℕ → List ℕ → BudgetLeft) → DecodeContext → X → List ℕ → X → BudgetLeft → List ℕ → Type 0
+MergesInside merged cost ctx old bs new after rest = IsInside merged cost ctx.depth old bs ctx.budget.now new after rest
 
 -- what the length and the message at the front cost, if a length and so many bytes are there
 abbrev pub cost_of_payload : (ℕ → List ℕ → BudgetLeft) → ℕ → Result (List ℕ × List ℕ) DecodeError → BudgetLeft

@@ -1,5 +1,5 @@
 -- What the two passes promise that write a message: the one sizes it, the other writes it.
-use Rattle.std.specs.Prelude.{◌≡◌, ℕ, ◌-◌, ◌<◌, ◌^◌, List, ◌++◌, length, min, Result, MatchResult}
+use Rattle.std.specs.Prelude.{◌≡◌, ℕ, ◌-◌, ◌<◌, ◌≤◌, ◌^◌, List, ◌++◌, length, min, Result, MatchResult}
 use Rattle.buffa_bytes.specs.declared.error.EncodeError.{EncodeError}
 use Rattle.buffa_bytes.specs.declared.error.EncodeError.TheVariants.{OutOfMemory}
 use Rattle.buffa_wire.specs.Cache.{Cache, left, appended, advanced}
@@ -29,14 +29,18 @@ IsNext slots c = (rest : List ℕ) × (left c ≡ slots ++ rest)
 abbrev pub Begins : List ℕ → List ℕ → Type 0
 Begins bs text = (rest : List ℕ) × (text ≡ bs ++ rest) × (0 < length rest)
 
+-- some of these slots were consumed, in order, and nothing else changed
+abbrev pub Consumes : List ℕ → Cache → Cache → Type 0
+Consumes slots old new = (n : ℕ) × (n ≤ length slots) × (new ≡ advanced n old)
+
 -- the write pass over it: the sink's old bytes stay first, and these slots are consumed; where the premise holds the
--- text is written, or a beginning of it, and not all, if memory runs out
+-- text is written, or a beginning of it, and not all, if memory runs out, and of the slots some are consumed then
 abbrev pub WritesIf : {T : Type 0} → Type 0 → List ℕ → List ℕ → Cache → List ℕ → Result T EncodeError → Cache → List ℕ → Type 0
 WritesIf small text slots old before r new after =
     (bs : List ℕ) × (after ≡ before ++ bs)
     × MatchResult r
     (λ _. (new ≡ advanced (length slots) old) × (small → bs ≡ text))
-    (λ e. (e ≡ OutOfMemory) × (small → Begins bs text))
+    (λ e. (e ≡ OutOfMemory) × (small → Begins bs text) × Consumes slots old new)
 
 -- the same of a message, whose text is written where it isn't too large
 abbrev pub IsWritten : {T : Type 0} → List ℕ → List ℕ → Cache → List ℕ → Result T EncodeError → Cache → List ℕ → Type 0

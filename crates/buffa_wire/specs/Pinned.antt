@@ -1,15 +1,16 @@
 -- What contracts leave open: nothing, but for what is said beside the laws.
-use Rattle.std.specs.Prelude.{◌≡◌, ◌≢◌, ◌≤◌, ℕ, ◌⊎◌, List, Option, Result, Ok, Err}
+use Rattle.std.specs.Prelude.{◌≡◌, ◌≢◌, ◌+◌, ◌≤◌, ℕ, ◌⊎◌, List, length, Option, Result, Ok, Err}
 use Rattle.buffa_bytes.specs.declared.wire_type.WireType.{WireType}
 use Rattle.buffa_bytes.specs.declared.error.DecodeError.{DecodeError}
 use Rattle.buffa_bytes.specs.declared.error.DecodeError.TheVariants.{OutOfMemory}
 use Rattle.buffa_bytes.specs.declared.error.EncodeError.{EncodeError}
 use Rattle.buffa_bytes.specs.Field.{IsTag}
-use Rattle.buffa_wire.specs.BudgetLeft.{BudgetLeft, Lacks, Pays}
+use Rattle.buffa_bytes.specs.Left.{LeavesUnlessFull, past_no_payload, past_no_text}
+use Rattle.buffa_wire.specs.BudgetLeft.{BudgetLeft, Lacks, Pays, SlotTaken}
 use Rattle.buffa_wire.specs.Cache.{Cache}
-use Rattle.buffa_wire.specs.Message.{IsFieldMerged, IsMerged, IsMergedAlone}
+use Rattle.buffa_wire.specs.Message.{IsFieldMerged, IsMerged, IsMergedAlone, IsInside, PayloadFault}
 use Rattle.buffa_wire.specs.Parse.{FieldFault, Parse, RecordsFault, TakesField, slots}
-use Rattle.buffa_wire.specs.Passes.{IsSized, IsSmall, IsWritten}
+use Rattle.buffa_wire.specs.Passes.{Consumes, IsSized, IsSmall, IsWritten}
 use Rattle.buffa_wire.specs.Records.{Datum, records_of}
 
 abbrev pub done : {E : Type 0} → Result (Unit {0}) E
@@ -17,6 +18,13 @@ done = Ok tt
 
 abbrev pub told : {E : Type 0} → E → Result (Unit {0}) E
 told e = Err e
+
+-- what is left of refused bytes: of a length and so many bytes, and of a payload
+abbrev pub LeavesText : Result (Unit {0}) DecodeError → List ℕ → List ℕ → Type 0
+LeavesText r bs left = LeavesUnlessFull r (past_no_text bs) left
+
+abbrev pub LeavesPayload : Result (Unit {0}) DecodeError → WireType → List ℕ → List ℕ → Type 0
+LeavesPayload r w bs left = LeavesUnlessFull r (past_no_payload w bs) left
 
 -- Whole bytes are merged in one way only, and what is merged can't have been refused, memory aside.
 pub record MergeIsPinned {X : Type 0} (meant : Option X) (need before : BudgetLeft) : Type 0 where
@@ -34,6 +42,14 @@ pub record FieldMergeIsPinned {X : Type 0} (merged : ℕ → X → List ℕ → 
   pub refuses : (a b : X) (x y : BudgetLeft) (r s : List ℕ) (f : DecodeError) →
       IsFieldMerged merged cost d old n w bs before done a x r → IsFieldMerged merged cost d old n w bs before (told f) b y s → (f ≢ OutOfMemory) → ⊥
 
+-- The same of a message inside a field; and refused bytes leave one rest, memory aside.
+pub record InsideIsPinned {X : Type 0} (merged : ℕ → X → List ℕ → Option X) (cost : ℕ → List ℕ → BudgetLeft) (d : ℕ) (old : X) (bs : List ℕ) (before : BudgetLeft) : Type 0 where
+  pub merges : (a b : X) (x y : BudgetLeft) (r s : List ℕ) →
+      IsInside merged cost d old bs before a x r → IsInside merged cost d old bs before b y s → (a ≡ b) × (x ≡ y) × (r ≡ s)
+  pub refuses : (a : X) (x : BudgetLeft) (r : List ℕ) (e : DecodeError) →
+      IsInside merged cost d old bs before a x r → PayloadFault merged cost d old bs before e → ⊥
+  pub left : (e : DecodeError) (r s : List ℕ) → e ≢ OutOfMemory → LeavesText (told e) bs r → LeavesText (told e) bs s → r ≡ s
+
 -- A value is sized in one way only; its text, where it is small, is written in one way only.
 pub record PassesArePinned (text slots : List ℕ) (old : Cache) : Type 0 where
   pub sized : (m n : ℕ) (a b : Cache) →
@@ -41,12 +57,17 @@ pub record PassesArePinned (text slots : List ℕ) (old : Cache) : Type 0 where
   pub written : (before x y : List ℕ) (a b : Cache) → IsSmall text →
       (let r : Result (Unit {0}) EncodeError = done in IsWritten text slots old before r a x) →
       (let r : Result (Unit {0}) EncodeError = done in IsWritten text slots old before r b y) → (x ≡ y) × (a ≡ b)
+  -- where memory ran out, no slot but the text's own was consumed, and none was changed
+  pub consumed : (a : Cache) → Consumes slots old a → (a.slots ≡ old.slots) × (old.next ≤ a.next) × (a.next ≤ old.next + length slots)
 
 -- A field is read as one record, and is spent one number of slots; what is read has no fault, and what has a fault one.
 pub record FieldIsPinned (d s n : ℕ) (w : WireType) (bs : List ℕ) : Type 0 where
   pub taken : (x y : Datum) (k m : ℕ) (r q : List ℕ) → TakesField d s n w bs x k r → TakesField d s n w bs y m q → (x ≡ y) × (k ≡ m) × (r ≡ q)
   pub refused : (x : Datum) (k : ℕ) (r : List ℕ) (e : DecodeError) → TakesField d s n w bs x k r → FieldFault d s n w bs e → ⊥
   pub fault : (e f : DecodeError) → FieldFault d s n w bs e → FieldFault d s n w bs f → e ≡ f
+  -- of a field that is no group, what is left of the bytes after a refusal, and of the slots
+  pub left : (e : DecodeError) (r q : List ℕ) → e ≢ OutOfMemory → LeavesPayload (told e) w bs r → LeavesPayload (told e) w bs q → r ≡ q
+  pub slot : (k m : ℕ) → SlotTaken s k → SlotTaken s m → k ≡ m
 
 -- The same of whole bytes.
 pub record RecordsArePinned (d s : ℕ) (bs : List ℕ) : Type 0 where

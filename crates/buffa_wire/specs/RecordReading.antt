@@ -8,6 +8,7 @@ use Rattle.buffa_bytes.specs.declared.error.DecodeError.{DecodeError}
 use Rattle.buffa_bytes.specs.declared.error.DecodeError.TheVariants.{UnexpectedEof, InvalidWireType, RecursionLimitExceeded, UnknownFieldLimitExceeded, InvalidEndGroup}
 use Rattle.buffa_bytes.specs.Reading.{varint_at, delimited_at, tag_at, is_end}
 use Rattle.buffa_bytes.specs.Scalars.{fixed32_at, fixed64_at}
+use Rattle.buffa_wire.specs.declared.context.DecodeContext.{DecodeContext}
 use Rattle.buffa_wire.specs.Records.{Datum, varint, fixed32, fixed64, bytes, group, Records, no_records, one, list_of}
 
 -- what reads the rest of a group: of the slots that are left, the group's number, and the bytes
@@ -52,6 +53,13 @@ group_at (suc d) s n bs = group_within (group_at d) (length bs) s n bs
 -- the field after a tag of number n and wire type w
 abbrev pub field_at : ℕ → ℕ → ℕ → WireType → List ℕ → Result (Datum × ℕ × List ℕ) DecodeError
 field_at d = field_by (group_at d)
+
+-- both in a context, of its depth and its slots
+abbrev pub field_in : DecodeContext → ℕ → WireType → List ℕ → Result (Datum × ℕ × List ℕ) DecodeError
+field_in ctx = field_at ctx.depth ctx.budget.now.unknown
+
+abbrev pub group_in : DecodeContext → ℕ → List ℕ → Result (Records × ℕ × List ℕ) DecodeError
+group_in ctx = group_at ctx.depth ctx.budget.now.unknown
 
 -- fields, to the end of the bytes
 unfoldable pub records_within : GroupReader → ℕ → ℕ → List ℕ → Result (Records × ℕ × List ℕ) DecodeError

@@ -1,6 +1,7 @@
 //! How one number is spelled in a payload: as a varint, or in four or eight bytes.
 
-ghost use Rattle.std.specs.Prelude.{◌≡◌, ◌<◌, ◌^◌, ℕ, List, IfOk, IfSome, None, Option, Some, length, refl};
+ghost use Rattle.std.specs.Prelude.{◌≡◌, ◌<◌, ◌^◌, ℕ, List, IfOk, IfSome, None, OnErr, Option, Some, length};
+ghost use Rattle.std.specs.Prelude.{refl};
 ghost use Rattle.buffa_wire.specs.Records.{Datum, bytes, fixed32, fixed64, varint};
 ghost use Rattle.buffa_wire.specs.View.{datum_of};
 ghost use Rattle.buffa_wire.specs.Found.{fixed32_in, fixed32_only, fixed64_in, fixed64_only, varint_in, varint_only};
@@ -8,6 +9,7 @@ ghost use Rattle.buffa_bytes.specs.declared.wire_type.WireType.{WireType};
 ghost use Rattle.buffa_bytes.specs.Content.{HasContent, content_at};
 ghost use Rattle.buffa_bytes.specs.Content.Content.{number};
 ghost use Rattle.buffa_bytes.specs.Gives.{Gives};
+ghost use Rattle.buffa_bytes.specs.Left.{past_no_payload};
 ghost use Rattle.buffa_bytes.specs.Unread.{IsTailOf};
 ghost use Rattle.buffa_bytes.specs.Written.{UsesRoom, Writes};
 
@@ -34,11 +36,13 @@ pub trait Form: Sealed {
     /// Reads the number at the front. It takes no memory.
     ///
     /// # Errors
-    /// [`DecodeError::UnexpectedEof`], and of varints [`DecodeError::VarintTooLong`].
+    /// [`DecodeError::UnexpectedEof`], and of varints [`DecodeError::VarintTooLong`]. What follows the tenth byte of a
+    /// varint stays unread then, and all of other bytes.
     fn read<B: Buf>(buf: &mut B) -> Result<u64, DecodeError>
         ensures reads { Gives (λ n. (number n, B.unread buf.new)) result (content_at WIRE_TYPE (B.unread buf.old)) }
         ensures spelled { IfOk result spells }
         ensures kept { B.beyond buf.new ≡ B.beyond buf.old }
+        ensures left { OnErr result (B.unread buf.new ≡ past_no_payload WIRE_TYPE (B.unread buf.old)) }
         ensures tail { IsTailOf (B.unread buf.new) (B.unread buf.old) };
 
     /// The length of a number's payload in bytes, 1 to 10; the number has to be one that can be spelled.
@@ -105,6 +109,7 @@ impl Form for Varint {
 
     ghost found = { varint_in };
 
+    #[tactic(auto, unfolding(buffa_bytes::specs::Left::past_no_payload))]
     fn read<B: Buf>(buf: &mut B) -> Result<u64, DecodeError> {
         decode_varint(buf)
     }
@@ -159,6 +164,7 @@ impl Form for FourBytes {
 
     ghost found = { fixed32_in };
 
+    #[tactic(auto, unfolding(buffa_bytes::specs::Left::past_no_payload))]
     fn read<B: Buf>(buf: &mut B) -> Result<u64, DecodeError> {
         Ok(u64::from(decode_fixed32(buf)?))
     }
@@ -213,6 +219,7 @@ impl Form for EightBytes {
 
     ghost found = { fixed64_in };
 
+    #[tactic(auto, unfolding(buffa_bytes::specs::Left::past_no_payload))]
     fn read<B: Buf>(buf: &mut B) -> Result<u64, DecodeError> {
         decode_fixed64(buf)
     }

@@ -18,8 +18,8 @@ ghost use Rattle.buffa_wire.specs.Cache.{Cache, advanced, appended};
 ghost use Rattle.buffa_wire.specs.Enums.{open_number};
 ghost use Rattle.buffa_wire.specs.Passes.{IsNext};
 ghost use Rattle.buffa_wire.specs.Field.{IsTag};
-ghost use Rattle.buffa_wire.specs.Pinned.{BudgetIsPinned, FieldIsPinned, FieldMergeIsPinned, MergeIsPinned};
-ghost use Rattle.buffa_wire.specs.Pinned.{PassesArePinned, RecordsArePinned};
+ghost use Rattle.buffa_wire.specs.Pinned.{BudgetIsPinned, FieldIsPinned, FieldMergeIsPinned, InsideIsPinned};
+ghost use Rattle.buffa_wire.specs.Pinned.{MergeIsPinned, PassesArePinned, RecordsArePinned};
 
 use crate::budget::{DEFAULT_ELEMENT_MEMORY_LIMIT, DEFAULT_UNKNOWN_FIELD_LIMIT};
 use crate::context::RECURSION_LIMIT;
@@ -110,6 +110,15 @@ pub fn merging_a_field_is_pinned<M: Message>()
         (before : BudgetLeft) → FieldMergeIsPinned M.merged M.cost d n w t tag old bs before }
 {}
 
+/// The same of a length and a message, which leave one rest of bytes that are refused.
+///
+/// Open: what is open of whole bytes; and where memory runs out, how many of the bytes are unread, but no fewer than
+/// follow the message.
+pub fn merging_inside_is_pinned<M: Message>()
+    ensures { (d : ℕ) (old : M.Meaning) (bs : List ℕ) (before : BudgetLeft) → InsideIsPinned M.merged M.cost d old bs
+        before }
+{}
+
 /// A value is sized and, where its text is small, written in one way.
 ///
 /// Open: when memory runs out, how many slots are reserved then, and what is written of a text that isn't small.
@@ -119,8 +128,8 @@ pub fn passes_are_pinned()
 
 /// A field, and whole bytes, are read as one list of records, or refused by one fault.
 ///
-/// Open: when memory runs out of those cases where reading takes any, and of a field that is refused how many of the
-/// slots are spent, at most one and one for each byte that was read, and where the buffer stands.
+/// Open: when memory runs out of those cases where reading takes any, and what is unread then; of a group that is
+/// refused how many of the slots are spent, at most one and one for each byte that was read, and where the buffer stands.
 pub fn records_are_pinned()
     ensures field { (d s n : ℕ) (w : WireType) (bs : List ℕ) → FieldIsPinned d s n w bs }
     ensures whole { (d s : ℕ) (bs : List ℕ) → RecordsArePinned d s bs }

@@ -14,8 +14,6 @@ pub mod message;
 pub mod scalar;
 pub mod scalar_laws;
 pub mod scalars;
-#[cfg(test)]
-mod tests;
 pub mod unknown_fields;
 
 pub(crate) mod sealed {

@@ -7,16 +7,17 @@ ghost use Rattle.buffa_bytes.specs.declared.error.DecodeError.TheVariants.{OutOf
 ghost use Rattle.buffa_bytes.specs.Field.{SomeField};
 ghost use Rattle.buffa_bytes.specs.Gives.{FullOnlyIf};
 ghost use Rattle.buffa_bytes.specs.Join.{Join};
+ghost use Rattle.buffa_bytes.specs.Left.{LeavesUnlessFull, past_no_text};
 ghost use Rattle.buffa_bytes.specs.Reading.{delimited_at};
 ghost use Rattle.buffa_bytes.specs.Unread.{IsTailOf};
-ghost use Rattle.buffa_wire.specs.BudgetLeft.{BudgetLeft, Pays, PaysAtMost, budget_left, nothing, plus};
+ghost use Rattle.buffa_wire.specs.BudgetLeft.{BudgetLeft, PaysAtMost, budget_left, nothing, plus};
 ghost use Rattle.buffa_bytes.specs.declared.error.EncodeError.TheVariants as error;
 ghost use Rattle.buffa_wire.specs.Parse.{Fits};
 ghost use Rattle.buffa_wire.specs.Passes.{IsNext, IsSized, IsWritten};
 ghost use Rattle.buffa_wire.specs.Records.{Datum, records_of};
 ghost use Rattle.buffa_wire.specs.Text.{records_text};
-ghost use Rattle.buffa_wire.specs.Message.{IsFieldMerged, IsMerged, IsMergedAlone, PayloadFault, ReachesTag, cost_in};
-ghost use Rattle.buffa_wire.specs.Message.{cost_of_payload, merged_in};
+ghost use Rattle.buffa_wire.specs.Message.{BeginsField, IsMergedAlone, MergesBytes, MergesField, MergesInside};
+ghost use Rattle.buffa_wire.specs.Message.{PayloadFault, cost_of_payload};
 
 use crate::budget::{Budget, DEFAULT_UNKNOWN_FIELD_LIMIT};
 use crate::cache::SizeCache;
@@ -98,7 +99,7 @@ pub trait Message: MessageSpec {
     /// appended to the sink.
     ///
     /// # Errors
-    /// [`EncodeError::OutOfMemory`] alone, after a beginning of the text.
+    /// [`EncodeError::OutOfMemory`] alone, after a beginning of the text; some of the value's slots are consumed then.
     fn write_to<S: EncodeSink>(
         &self,
         cache: &mut SizeCache,
@@ -148,9 +149,8 @@ pub trait Message: MessageSpec {
         buf: &mut &[u8],
         ctx: DecodeContext<'_>,
     ) -> Result<(), DecodeError>
-        ensures merged { IsFieldMerged Self.merged Self.cost ctx.entry.depth (Self.meaning self.old) tag.number
-            tag.wire_type buf.old.now ctx.entry.budget.now result (Self.meaning self.new) (budget_left ctx.exit)
-            buf.new.now }
+        ensures merged { MergesField Self.merged Self.cost ctx.entry (Self.meaning self.old) tag.number tag.wire_type
+            buf.old.now result (Self.meaning self.new) (budget_left ctx.exit) buf.new.now }
         ensures full { FullOnlyIf result (tag.wire_type ≢ WireType.EndGroup) };
 
     /// Merges the fields that the bytes are, all of them.
@@ -164,10 +164,9 @@ pub trait Message: MessageSpec {
         bytes: &[u8],
         ctx: DecodeContext<'_>,
     ) -> Result<(), DecodeError>
-        ensures merged { IsMerged (Self.merged ctx.entry.depth (Self.meaning self.old) bytes.now)
-            (Self.cost ctx.entry.depth bytes.now) ctx.entry.budget.now result (Self.meaning self.new)
-            (budget_left ctx.exit) }
-        ensures full { FullOnlyIf result (ReachesTag ctx.entry.depth bytes.now) }
+        ensures merged { MergesBytes Self.merged Self.cost ctx.entry.depth (Self.meaning self.old) bytes.now
+            ctx.entry.budget.now result (Self.meaning self.new) (budget_left ctx.exit) }
+        ensures full { FullOnlyIf result (BeginsField bytes.now) }
     {
         let DecodeContext { depth, budget } = ctx;
         let mut rest = bytes;
@@ -193,7 +192,7 @@ pub trait Message: MessageSpec {
     fn merge_from_slice(&mut self, alloc: Global, bytes: &[u8]) -> Result<(), DecodeError>
         ensures merged { IsMergedAlone (Self.merged RECURSION_LIMIT (Self.meaning self.old) bytes.now)
             (Self.cost RECURSION_LIMIT bytes.now) result (Self.meaning self.new) }
-        ensures full { FullOnlyIf result (ReachesTag RECURSION_LIMIT bytes.now) }
+        ensures full { FullOnlyIf result (BeginsField bytes.now) }
     {
         let mut budget = Budget::new(DEFAULT_UNKNOWN_FIELD_LIMIT);
         self.merge(
@@ -209,16 +208,16 @@ pub trait Message: MessageSpec {
     ///
     /// # Errors
     /// In this order: [`DecodeError::RecursionLimitExceeded`] where no level is left; the length's faults;
-    /// those of [`Message::merge`].
+    /// those of [`Message::merge`]. What follows a length that passes the end stays unread then, and what follows the
+    /// message.
     fn merge_length_delimited<B: Buf>(
         &mut self,
         alloc: Global,
         buf: &mut B,
         ctx: DecodeContext<'_>,
     ) -> Result<(), DecodeError>
-        ensures ok { OnOk result ((b : List ℕ) × (delimited_at (B.unread buf.old) ≡ Ok (b, B.unread buf.new))
-            × (merged_in Self.merged ctx.entry.depth (Self.meaning self.old) b ≡ Some (Self.meaning self.new))
-            × Pays ctx.entry.budget.now (cost_in Self.cost ctx.entry.depth b) (budget_left ctx.exit)) }
+        ensures ok { OnOk result (MergesInside Self.merged Self.cost ctx.entry (Self.meaning self.old)
+            (B.unread buf.old) (Self.meaning self.new) (budget_left ctx.exit) (B.unread buf.new)) }
         ensures fault { IfErr result (λ e. e ≢ OutOfMemory →
             PayloadFault Self.merged Self.cost ctx.entry.depth (Self.meaning self.old) (B.unread buf.old)
             ctx.entry.budget.now e) }
@@ -230,6 +229,8 @@ pub trait Message: MessageSpec {
         ensures outside { (IsOk (delimited_at (B.unread buf.old)) → ⊥) → Self.meaning self.new ≡ Self.meaning self.old }
         ensures level { ctx.entry.depth ≡ 0 → (Self.meaning self.new ≡ Self.meaning self.old)
             × (B.unread buf.new ≡ B.unread buf.old) }
+        ensures left { 0 < ctx.entry.depth → LeavesUnlessFull result (past_no_text (B.unread buf.old))
+            (B.unread buf.new) }
         ensures kept { B.beyond buf.new ≡ B.beyond buf.old }
         ensures tail { IsTailOf (B.unread buf.new) (B.unread buf.old) }
     {

@@ -1,24 +1,24 @@
 -- What is told of a call.
-use Rattle.std.proofs.Common.{◌≡◌, ◌⊎◌, inl, inr, ℕ, List, Bool, Option, None, Some, Result, Ok, Err, refl, ap, subst, arith}
-use Rattle.std.specs.Prelude.{IfOk, OnErr}
+use Rattle.std.proofs.Common.{◌≡◌, ◌⊎◌, inl, inr, ℕ, List, None, Some, Option, Result, Ok, Err, refl, ap, subst, arith, String, string_bytes}
+use Rattle.std.specs.Prelude.{IfOk}
 use Rattle.buffamap.specs.declared.command.Command.{Command}
 use Rattle.buffamap.specs.declared.fault.Fault.{Fault}
-use Rattle.buffamap.specs.Engine.{Answers, Gives, TellsFault}
+use Rattle.buffamap.specs.Engine.{Answers, Gives, GivesLine, TellsFault}
 use Rattle.buffamap.specs.Fault.{told}
-use Rattle.buffamap.specs.Reply.{Reply, no_memory}
-use Rattle.buffamap.specs.Streams.{Known, Stream}
+use Rattle.buffamap.specs.Reply.{Reply, no_memory, reply}
+use Rattle.buffamap.specs.Streams.{Change, Source}
 
 -- where there was memory for the line it was given, else that there was none
-pub named_or_not : {T E : Type 0} (r : Result T E) (bytes : T → List ℕ) (line : List ℕ) (Given : List ℕ → Type 0) (Not : Type 0) →
-    IfOk r (λ t. bytes t ≡ line) → IfOk r (λ t. Given (bytes t)) → OnErr r Not → Given line ⊎ (◌≡◌ {A = ℕ} 1 1 × Not)
-named_or_not (Ok t) bytes line Given Not is named memory = inl (subst Given is named)
-named_or_not (Err e) bytes line Given Not is named memory = inr (refl, memory)
+pub named_or_not : {Z E : Type 0} (r : Result (String Z) E) (line : List ℕ) (out err : Change) (status : ℕ) →
+    IfOk r (λ t. string_bytes t ≡ line) → GivesLine r out err status → Gives (reply 1 line) out err status ⊎ (◌≡◌ {A = ℕ} 1 1 × Gives no_memory out err status)
+named_or_not (Ok t) line out err status is given = inl (subst (λ z. Gives (reply 1 z) out err status) is given)
+named_or_not (Err e) line out err status is given = inr (refl, given)
 
--- what is told of a fault answers the call
-pub told_answers : (o : Option Command) (known : Known) (failed : Bool) (f : Fault) (out out' err err' : Stream) (status : ℕ) →
-    Answers o known failed (told f) → TellsFault f out out' err err' status → (r : Reply) × Answers o known failed r × Gives r out out' err err' status
-told_answers o known failed f out out' err err' status h (inl g) = (told f, h, g)
-told_answers None known failed f out out' err err' status h (inr k) =
+-- what is told of the fault answers the call
+pub told_answers : (o : Option Command) (from : Source) (f : Fault) (out err : Change) (status : ℕ) →
+    Answers o from (told f) → TellsFault f out err status → (r : Reply) × Answers o from r × Gives r out err status
+told_answers o from f out err status h (inl g) = (told f, h, g)
+told_answers None from f out err status h (inr k) =
     let two : (told f).status ≡ 2 = ap (λ (r : Reply). r.status) h in
     absurd (omega (arith, two, k.0))
-told_answers (Some c) known failed f out out' err err' status h (inr k) = (no_memory, inr (inl refl), k.1)
+told_answers (Some c) from f out err status h (inr k) = (no_memory, inr (inl refl), k.1)

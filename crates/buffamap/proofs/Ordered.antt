@@ -20,7 +20,7 @@ abbrev text_cmp : List ℕ → List ℕ → Ordering
 text_cmp = slice_cmp nat_cmp
 
 -- keys are one key where they are one in the order
-same_test : eq_by_cmp text_cmp ≡ same_key
+pub same_test : eq_by_cmp text_cmp ≡ same_key
 same_test = λ i a b. sym (texts_ties a b) i
 
 sorted_texts : {Z : Type 0} (es : List (String Z × ℤ)) → IsStrictlySortedBy string_cmp (keys_of es) → IsStrictlySortedBy text_cmp (keys_of (pairs_of es))

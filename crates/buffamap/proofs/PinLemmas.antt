@@ -1,5 +1,5 @@
 -- Each command has one reply to an input, and each call one answer.
-use Rattle.std.proofs.Common.{◌≡◌, ◌≢◌, ℕ, ℤ, List, [], ◌++◌, true, false, Option, Some, None, Result, Ok, Err, refl, sym, ap, subst, ◌∙◌, inl, inr}
+use Rattle.std.proofs.Common.{◌≡◌, ◌≢◌, ℕ, ℤ, List, [], ◌++◌, Bool, true, false, Option, Some, None, Result, Ok, Err, sym, ap, subst, ◌∙◌, inl, inr}
 use Rattle.std.specs.Io.KnownBytes.{Appends}
 use Rattle.std.specs.List.Sorted.{IsStrictlySortedBy}
 use Rattle.std.specs.Map.{keys_of}
@@ -23,12 +23,12 @@ use Rattle.buffamap.specs.Ext.{IsShown, IsShownOf, RepliesToExt, records_of}
 use Rattle.buffamap.specs.Forms.{hex_bytes, without_newline}
 use Rattle.buffamap.specs.Item.{IsFound, IsFoundIn, RepliesToItem, item_from}
 use Rattle.buffamap.specs.Lines.{Pair, lines_of, map_in, same_key}
-use Rattle.buffamap.specs.Pinned.{CallIsPinned, ReplyIsPinned, holding}
+use Rattle.buffamap.specs.Pinned.{AnyCallIsPinned, CallIsPinned, ReplyIsPinned, SureCallIsPinned, having, holding}
 use Rattle.buffamap.specs.Read.{RepliesToBytes, RepliesToRead, RepliesToRun, run_from}
-use Rattle.buffamap.specs.Reply.{Reply, done, hex_line}
+use Rattle.buffamap.specs.Reply.{Reply, broken, done, hex_line}
 use Rattle.buffamap.specs.Rewrite.{Entry, IsRewritten, IsRewrittenOf, RepliesToRewrite}
 use Rattle.buffamap.specs.Rewrite.{Pair as Choices, run_from as rewrite_from}
-use Rattle.buffamap.specs.Streams.{Stream, Writes}
+use Rattle.buffamap.specs.Streams.{Change, Known, Writes, WritesAll}
 use Rattle.buffamap.specs.Write.{RepliesToMap, RepliesToWrite, field_reply}
 use Rattle.buffamap.proofs.Ordered.{one_order}
 use denote.Ref.{Bor}
@@ -116,39 +116,52 @@ command_one (Rewrite n) = (rewrite_pinned n).one
 command_one (Ext n) = (ext_pinned n).one
 command_one Item = item_pinned.one
 
--- the reply of a command whose input is known and didn't fail, where memory didn't run out
-known_reply : (c : Command) (input : List ℕ) (a : Reply) → Answers (Some c) (Some input) false a → a.status ≢ 4 → RepliesTo c input a
-known_reply c input a (inl h) not_memory = rw (sym h.1) h.2
-known_reply c input a (inr (inl h)) not_memory = absurd (not_memory (ap (λ (r : Reply). r.status) h))
-known_reply c input a (inr (inr h)) not_memory = absurd (let never : false ≡ true = h.1 in cc)
+-- the reply of a command to its input, where neither memory nor the reader is told
+known_reply : (c : Command) (f : Bool) (input : List ℕ) (a : Reply) → Answers (Some c) (having f input) a → a.status ≢ 4 → (a ≡ broken → f ≡ true → ⊥) → RepliesTo c input a
+known_reply c f input a (inl h) memory whole = rw (sym h.1) h.2
+known_reply c f input a (inr (inl h)) memory whole = absurd (memory (ap (λ (r : Reply). r.status) h))
+known_reply c f input a (inr (inr h)) memory whole = absurd (whole h.0 h.1)
 
-reply_one : (o : Option Command) (input : List ℕ) (a b : Reply) → Answers o (Some input) false a → Answers o (Some input) false b → a.status ≢ 4 → b.status ≢ 4 → a ≡ b
-reply_one None input a b h k x y = h ∙ sym k
-reply_one (Some c) input a b h k x y = command_one c input a b (known_reply c input a h x) (known_reply c input b k y)
+reply_one : (o : Option Command) (f : Bool) (input : List ℕ) (a b : Reply) → Answers o (having f input) a → Answers o (having f input) b → (a.status ≢ 4) × (b.status ≢ 4) →
+    (a ≡ broken → f ≡ true → ⊥) × (b ≡ broken → f ≡ true → ⊥) → a ≡ b
+reply_one None f input a b h k memory whole = h ∙ sym k
+reply_one (Some c) f input a b h k memory whole = command_one c input a b (known_reply c f input a h memory.0 whole.0) (known_reply c f input b k memory.1 whole.1)
 
--- what is given of a reply where nothing failed
-given : (r : Reply) (out err : List ℕ) (a p : Stream) (s : ℕ) → Gives r (holding out) a (holding err) p s → a.failed ≡ false → p.failed ≡ false →
-    (s ≡ r.status) × (a ≡ holding (out ++ r.text)) × (p ≡ holding (err ++ r.complaint))
-given r out err a p s (inr h) x y = absurd (let never : false ≡ true = sym x ∙ h.1.1 in cc)
-given r out err a p s (inl h) x y = (h.0, grown out r.text a h.1.0 x, written h.2)
-  where
-    grown : (old text : List ℕ) (a : Stream) → Appends (Some old) a.bytes text → a.failed ≡ false → a ≡ holding (old ++ text)
-    grown old text a h x = stream a.bytes refl h
-      where
-        stream : (b : Option (List ℕ)) → b ≡ a.bytes → Appends (Some old) b text → a ≡ holding (old ++ text)
-        stream None e h = absurd h
-        stream (Some ys) e h = λ i. record { bytes = (sym e ∙ ap Some h) i; failed = x i }
+never : {A : Type 0} → false ≡ true → A
+never e = absurd (let no : false ≡ true = e in cc)
 
-    written : Writes (holding err) p r.complaint → p ≡ holding (err ++ r.complaint)
-    written (inl w) = grown err r.complaint p w.0 y
-    written (inr w) = absurd (let never : false ≡ true = sym y ∙ w.1 in cc)
+grown : (old text : List ℕ) (a : Known) → Appends (Some old) a text → a ≡ Some (old ++ text)
+grown old text None h = absurd h
+grown old text (Some ys) h = ap Some h
+
+-- what is given of a reply where no output has failed, and what where nothing fails
+given : (r : Reply) (out err : Change) (s : ℕ) → Gives r out err s → (s ≡ 3 → out.may_fail ≡ true → ⊥) → (s ≡ r.status) × WritesAll out r.text × Writes err r.complaint
+given r out err s (inl h) whole = h
+given r out err s (inr h) whole = absurd (whole h.0 h.1.1)
+
+told_whole : (old text : List ℕ) (p : Known) → Writes (holding false old p) text → p ≡ Some (old ++ text)
+told_whole old text p (inl w) = grown old text p w
+told_whole old text p (inr w) = never w.1
+
+sure_pinned : (words : List (Bor (List ℕ))) (input out err : List ℕ) → SureCallIsPinned words input out err
+sure_pinned words input out err a b p q s t h k (x, y) =
+    let g = given h.0 (holding false out a) (holding false err p) s h.2 (λ _ e. never e) in
+    let f = given k.0 (holding false out b) (holding false err q) t k.2 (λ _ e. never e) in
+    let same : h.0 ≡ k.0 = reply_one (command_of (texts words)) false input h.0 k.0 h.1 k.1 (λ e. x (g.0 ∙ e), λ e. y (f.0 ∙ e)) (λ _ e. never e, λ _ e. never e) in (
+      g.0 ∙ ap (λ (r : Reply). r.status) same ∙ sym f.0,
+      grown out h.0.text a g.1 ∙ ap (λ (r : Reply). Some (out ++ r.text)) same ∙ sym (grown out k.0.text b f.1),
+      told_whole err h.0.complaint p g.2 ∙ ap (λ (r : Reply). Some (err ++ r.complaint)) same ∙ sym (told_whole err k.0.complaint q f.2),
+    )
+
+any_pinned : (words : List (Bor (List ℕ))) (input out err : List ℕ) → AnyCallIsPinned words input out err
+any_pinned words input out err m n l a b p q s t h k x y =
+    let g = given h.0 (holding n out a) (holding l err p) s h.2 (λ e _. x.0 e) in
+    let f = given k.0 (holding n out b) (holding l err q) t k.2 (λ e _. y.0 e) in
+    let same : h.0 ≡ k.0 = reply_one (command_of (texts words)) m input h.0 k.0 h.1 k.1 (λ e. x.1 (g.0 ∙ e), λ e. y.1 (f.0 ∙ e))
+    (λ e _. x.0 (g.0 ∙ ap (λ (r : Reply). r.status) e), λ e _. y.0 (f.0 ∙ ap (λ (r : Reply). r.status) e)) in (
+      g.0 ∙ ap (λ (r : Reply). r.status) same ∙ sym f.0,
+      grown out h.0.text a g.1 ∙ ap (λ (r : Reply). Some (out ++ r.text)) same ∙ sym (grown out k.0.text b f.1),
+    )
 
 pub call_pinned : (words : List (Bor (List ℕ))) → CallIsPinned words
-call_pinned words input out err a b p q s t h k (a', b', p', q') (x, y) =
-    let g = given h.0 out err a p s h.2 a' p' in
-    let f = given k.0 out err b q t k.2 b' q' in
-    let same : h.0 ≡ k.0 = reply_one (command_of (texts words)) input h.0 k.0 h.1 k.1 (λ e. x (g.0 ∙ e)) (λ e. y (f.0 ∙ e)) in (
-      g.0 ∙ ap (λ (r : Reply). r.status) same ∙ sym f.0,
-      g.1 ∙ ap (λ (r : Reply). holding (out ++ r.text)) same ∙ sym f.1,
-      g.2 ∙ ap (λ (r : Reply). holding (err ++ r.complaint)) same ∙ sym f.2,
-    )
+call_pinned words input out err = (sure_pinned words input out err, any_pinned words input out err)

@@ -1,5 +1,5 @@
 -- Why a call has no answer, and what is told of it.
-use Rattle.std.specs.Prelude.{◌≡◌, ◌≢◌, Option, None}
+use Rattle.std.specs.Prelude.{◌≡◌, ◌≢◌, Bool, true, ◌⊎◌, Option, None}
 use Rattle.hex.specs.declared.error.FromHexError.{FromHexError}
 use Rattle.hex.specs.declared.error.FromHexError.TheVariants as of_digits
 use Rattle.buffa_bytes.specs.declared.error.DecodeError.{DecodeError}
@@ -35,6 +35,10 @@ told Stream = broken
 told OutOfMemory = no_memory
 told (RefusedBytes e) = fault (decode_error_text e)
 told (RefusedText e) = fault (encode_error_text e)
+
+-- why a reader wasn't read to its end: memory, or a call that failed
+abbrev pub StopsReading : Bool → Fault → Type 0
+StopsReading may_fail f = (f ≡ OutOfMemory) ⊎ ((f ≡ Stream) × (may_fail ≡ true))
 
 -- what is told of the fault is a P, memory aside
 abbrev pub Tells : (Reply → Type 0) → Fault → Type 0

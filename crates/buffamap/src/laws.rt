@@ -4,7 +4,7 @@
 ghost use Rattle.buffa_wire.specs.Number.{IsNumber};
 ghost use Rattle.buffamap.specs.Ext.{RepliesToExt};
 ghost use Rattle.buffamap.specs.Item.{RepliesToItem};
-ghost use Rattle.buffamap.specs.Pinned.{CallIsPinned, ReplyIsPinned};
+ghost use Rattle.buffamap.specs.Pinned.{CallIsPinned, HasReply, ReplyIsPinned};
 ghost use Rattle.buffamap.specs.Read.{RepliesToRead};
 ghost use Rattle.buffamap.specs.Rewrite.{RepliesToRewrite, RewriteKeepsMeaning};
 ghost use Rattle.buffamap.specs.Write.{RepliesToWrite};
@@ -12,20 +12,25 @@ ghost use Rattle.buffamap.specs.Write.{RepliesToWrite};
 use crate::choice::Choice;
 use buffa::map_codec::{ClosedEnum, Int32};
 
-/// `read N` has one reply to an input. Memory is left open: the reply may be that it ran out.
+/// `read N` has one reply to each input. Memory is left open: the reply may be that it ran out.
 pub fn one_reply_to_read(number: u32)
-    ensures { ReplyIsPinned (RepliesToRead number) }
+    ensures one { ReplyIsPinned (RepliesToRead number) }
+    ensures there { HasReply (RepliesToRead number) }
 {}
 
-/// `write N` has one reply to an input. Memory is left open: the reply may be that it ran out.
+/// `write N` has one reply to each input. Memory is left open: the reply may be that it ran out.
 pub fn one_reply_to_write(number: u32)
-    ensures { ReplyIsPinned (RepliesToWrite number) }
+    ensures one { ReplyIsPinned (RepliesToWrite number) }
+    ensures there { HasReply (RepliesToWrite number) }
 {}
 
-/// `rewrite N` has one reply to an input. Memory is left open: the reply may be that it ran out.
+/// `rewrite N` has one reply to each input. Memory is left open: the reply may be that it ran out.
 pub fn one_reply_to_rewrite(number: u32)
-    ensures { ReplyIsPinned (RepliesToRewrite number) }
-{}
+    ensures one { ReplyIsPinned (RepliesToRewrite number) }
+    ensures there { HasReply (RepliesToRewrite number) }
+{
+    buffa_map::laws::runs_are_read::<Int32, ClosedEnum<Choice>>();
+}
 
 /// What `rewrite N` writes keeps the meaning of what it reads: `law_12` of [`buffa::laws`], of the program's reply. A
 /// reader of an enum that declares more reads from both the same map, if the run is ordered, and keeps the same entries.
@@ -38,19 +43,22 @@ pub fn rewrites_keep_their_meaning(number: u32)
     buffa_map::laws::one_reading::<Int32, ClosedEnum<Choice>>();
 }
 
-/// `ext N` has one reply to an input. Memory is left open: the reply may be that it ran out.
+/// `ext N` has one reply to each input. Memory is left open: the reply may be that it ran out.
 pub fn one_reply_to_ext(number: u32)
-    ensures { ReplyIsPinned (RepliesToExt number) }
+    ensures one { ReplyIsPinned (RepliesToExt number) }
+    ensures there { HasReply (RepliesToExt number) }
 {}
 
-/// `item` has one reply to an input. Memory is left open: the reply may be that it ran out.
+/// `item` has one reply to each input. Memory is left open: the reply may be that it ran out.
 pub fn one_reply_to_item()
-    ensures { ReplyIsPinned RepliesToItem }
+    ensures one { ReplyIsPinned RepliesToItem }
+    ensures there { HasReply RepliesToItem }
 {}
 
-/// One call of the program has one status, and leaves its output and its errors in one way. Left open: that memory
-/// ran out; what of a line stands where its stream failed, which is a beginning of it; and a reader or a writer
-/// that doesn't tell its bytes.
+/// One call of the program has one status, and leaves its output and its errors in one way, where no call of its streams
+/// may fail; where one may, it has one output still, if its status is neither 3 nor 4. Left open: that memory ran out;
+/// whether a stream that may fail did, and what of a line stands then, which is a beginning of it; and a reader or a
+/// writer that doesn't tell its bytes.
 pub fn one_answer_to_a_call(words: &[&str])
     ensures { CallIsPinned words.now }
 {}

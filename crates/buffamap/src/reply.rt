@@ -1,12 +1,13 @@
 // What is told of a call: a line and an exit status.
-ghost use Rattle.std.specs.Prelude.{◌≡◌, ◌++◌, IfOk, OnErr, codes, string_bytes};
+ghost use Rattle.std.specs.Prelude.{◌≡◌, ◌++◌, IfOk, codes, string_bytes};
 ghost use Rattle.buffa_wire.specs.ErrorText.{decode_error_text, encode_error_text};
-ghost use Rattle.buffamap.specs.Engine.{Gives, TellsFault};
-ghost use Rattle.buffamap.specs.Reply.{line, no_memory, reply};
-ghost use Rattle.buffamap.specs.Streams.{Writes, seen};
+ghost use Rattle.buffamap.specs.Engine.{Gives, GivesLine, TellsFault};
+ghost use Rattle.buffamap.specs.Reply.{line, reply};
+ghost use Rattle.buffamap.specs.Streams.{Writes, change};
 
+use crate::calls::WriteCalls;
 use crate::fault::Fault;
-use crate::stream::{Watched, write_whole};
+use crate::stream::write_whole;
 use buffa::{DecodeError, EncodeError};
 use std::alloc::{AllocError, Global};
 use std::io::Write;
@@ -21,27 +22,27 @@ const BAD_INPUT: &[u8] = b"fault input\n";
 const OUT_OF_MEMORY: &[u8] = b"fault OutOfMemory\n";
 
 // Writes the line to the errors, and answers the status, also where they fail.
-fn complain<X: Write>(status: u8, line: &[u8], errors: &mut Watched<X>) -> u8
+fn complain<C: WriteCalls<X>, X: Write>(status: u8, line: &[u8], errors: &mut X) -> u8
     ensures status { result ≡ status }
-    ensures line { Writes (seen X.contents errors.old) (seen X.contents errors.new) line.now }
+    ensures line { Writes (change C.may_fail X.contents errors.old errors.new) line.now }
 {
-    let _ = write_whole(errors, line);
+    let _ = write_whole::<C, X>(errors, line);
     status
 }
 
 /// Writes the text to the output and answers the status; where the output fails, that is told.
-pub fn finish<W: Write, X: Write>(
+pub fn finish<B: WriteCalls<W>, C: WriteCalls<X>, W: Write, X: Write>(
     status: u8,
     text: &[u8],
-    output: &mut Watched<W>,
-    errors: &mut Watched<X>,
+    output: &mut W,
+    errors: &mut X,
 ) -> u8
-    ensures { Gives (reply status text.now) (seen W.contents output.old) (seen W.contents output.new)
-        (seen X.contents errors.old) (seen X.contents errors.new) result }
+    ensures { Gives (reply status text.now) (change B.may_fail W.contents output.old output.new)
+        (change C.may_fail X.contents errors.old errors.new) result }
 {
-    match write_whole(output, text) {
+    match write_whole::<B, W>(output, text) {
         Ok(()) => status,
-        Err(_) => complain(3, FAILED, errors),
+        Err(_) => complain::<C, X>(3, FAILED, errors),
     }
 }
 
@@ -60,39 +61,45 @@ fn line_of_text(alloc: Global, error: EncodeError) -> Result<String, AllocError>
 }
 
 // The line that names a fault was made, or there was no memory for it.
-fn finish_named<W: Write, X: Write>(
+fn finish_named<B: WriteCalls<W>, C: WriteCalls<X>, W: Write, X: Write>(
     line: Result<String, AllocError>,
-    output: &mut Watched<W>,
-    errors: &mut Watched<X>,
+    output: &mut W,
+    errors: &mut X,
 ) -> u8
-    ensures named { IfOk line (λ text. Gives (reply 1 (string_bytes text)) (seen W.contents output.old)
-        (seen W.contents output.new) (seen X.contents errors.old) (seen X.contents errors.new) result) }
-    ensures memory { OnErr line (Gives no_memory (seen W.contents output.old) (seen W.contents output.new)
-        (seen X.contents errors.old) (seen X.contents errors.new) result) }
+    ensures { GivesLine line (change B.may_fail W.contents output.old output.new)
+        (change C.may_fail X.contents errors.old errors.new) result }
 {
     match line {
-        Ok(line) => finish(1, line.as_bytes(), output, errors),
-        Err(AllocError) => finish(4, OUT_OF_MEMORY, output, errors),
+        Ok(line) => finish::<B, C, W, X>(1, line.as_bytes(), output, errors),
+        Err(AllocError) => finish::<B, C, W, X>(4, OUT_OF_MEMORY, output, errors),
     }
 }
 
 /// Tells a fault: makes of it a status and a line, and writes the line. A line that names a fault takes memory.
-pub fn tell<W: Write, X: Write>(
+pub fn tell<B: WriteCalls<W>, C: WriteCalls<X>, W: Write, X: Write>(
     alloc: Global,
     fault: Fault,
-    output: &mut Watched<W>,
-    errors: &mut Watched<X>,
+    output: &mut W,
+    errors: &mut X,
 ) -> u8
-    ensures told { TellsFault fault (seen W.contents output.old) (seen W.contents output.new)
-        (seen X.contents errors.old) (seen X.contents errors.new) result }
+    ensures told { TellsFault fault (change B.may_fail W.contents output.old output.new)
+        (change C.may_fail X.contents errors.old errors.new) result }
     ensures usage { fault ≡ Fault.Words → output.new ≡ output.old }
 {
     match fault {
-        Fault::Words => complain(2, USAGE, errors),
-        Fault::Stream => complain(3, FAILED, errors),
-        Fault::Form => finish(3, BAD_INPUT, output, errors),
-        Fault::OutOfMemory => finish(4, OUT_OF_MEMORY, output, errors),
-        Fault::RefusedBytes(error) => finish_named(line_of_bytes(alloc, error), output, errors),
-        Fault::RefusedText(error) => finish_named(line_of_text(alloc, error), output, errors),
+        Fault::Words => complain::<C, X>(2, USAGE, errors),
+        Fault::Stream => complain::<C, X>(3, FAILED, errors),
+        Fault::Form => finish::<B, C, W, X>(3, BAD_INPUT, output, errors),
+        Fault::OutOfMemory => finish::<B, C, W, X>(4, OUT_OF_MEMORY, output, errors),
+        Fault::RefusedBytes(error) => finish_named::<B, C, W, X>(
+            line_of_bytes(alloc, error),
+            output,
+            errors,
+        ),
+        Fault::RefusedText(error) => finish_named::<B, C, W, X>(
+            line_of_text(alloc, error),
+            output,
+            errors,
+        ),
     }
 }

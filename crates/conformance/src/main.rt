@@ -4,32 +4,18 @@
 // `refused` each row is run with its requests for memory refused, one after the other, by `tests/refuse.c`.
 #![tactic(auto)]
 
-mod case;
-mod cuts;
-mod extensions;
-mod fault;
-mod fields;
-mod items;
-mod kinds;
-mod mark;
-mod messages;
-mod outcome;
+mod item;
 mod read;
-mod store;
-mod tally;
 mod ways;
-mod words;
-mod writes;
 
-use case::{Case, case_of};
-use fault::Fault;
-use read::{is_run_in, takes_words};
+use conformance_rows::calls::{Kind, is_run_in, takes_words};
+use conformance_rows::case::{Case, case_of};
+use conformance_rows::fault::Fault;
+use conformance_rows::tally::Tally;
 use std::alloc::Global;
 use std::env;
 use std::io::{self, BufRead, BufReader, Stderr};
 use std::process::ExitCode;
-use store::Kind;
-use tally::Tally;
 use ways::Run;
 
 // The bytes that a row reads; none where it is given a value.

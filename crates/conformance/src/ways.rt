@@ -1,15 +1,16 @@
 // The ways to run a row that reads bytes: whole, cut, each beginning, and with memory refused.
 
-use crate::case::{Case, given};
-use crate::cuts::{pieces_of, single_bytes};
-use crate::fault::Fault;
-use crate::mark::Mark;
-use crate::outcome::{Outcome, and};
-use crate::read::{Group, called, group_of, keeps_a_map, read, reads_bytes, reads_to_the_end};
-use crate::store::{Kind, in_order};
-use crate::tally::Tally;
+use crate::read::{called, read};
 use buffa::{Pieces, UnknownFields};
 use bytes::Bytes;
+use conformance_rows::calls::{Group, Kind, group_of, keeps_a_map, reads_bytes, reads_to_the_end};
+use conformance_rows::case::{Case, given};
+use conformance_rows::cuts::{pieces_of, single_bytes};
+use conformance_rows::fault::Fault;
+use conformance_rows::mark::Mark;
+use conformance_rows::outcome::{Outcome, and};
+use conformance_rows::tally::Tally;
+use conformance_rows::words::in_order;
 use std::alloc::Global;
 use std::io::Stderr;
 

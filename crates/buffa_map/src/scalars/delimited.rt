@@ -65,6 +65,8 @@ impl<T: ProtoString> MapValueDecode for ProtoStringMap<T> {
     ghost blank = { refl };
 
     ghost declared = { λ _ d old c new known h. string_known T.of_text c new known h };
+
+    ghost undeclared = { refl };
 }
 
 impl<T: ProtoString> MapCodec for ProtoStringMap<T> {
@@ -151,6 +153,8 @@ impl MapValueDecode for BytesBuf {
     ghost blank = { refl };
 
     ghost declared = { λ _ d old c new known h. always_known new known h };
+
+    ghost undeclared = { refl };
 }
 
 impl MapCodec for BytesBuf {
@@ -233,6 +237,8 @@ impl<T: ProtoBytes> MapValueDecode for ProtoBytesMap<T> {
     ghost blank = { refl };
 
     ghost declared = { λ _ d old c new known h. always_known new known h };
+
+    ghost undeclared = { refl };
 }
 
 impl<T: ProtoBytes> MapCodec for ProtoBytesMap<T> {

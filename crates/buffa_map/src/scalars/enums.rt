@@ -71,6 +71,8 @@ impl<E: Enumeration> MapValueDecode for ClosedEnum<E> {
     ghost blank = { refl };
 
     ghost declared = { λ no d old c new known h. cc };
+
+    ghost undeclared = { refl };
 }
 
 impl<E: Enumeration> MapCodec for ClosedEnum<E> {
@@ -152,6 +154,8 @@ impl<E: Enumeration> MapValueDecode for OpenEnum<E> {
     ghost blank = { refl };
 
     ghost declared = { λ _ d old c new known h. always_known new known h };
+
+    ghost undeclared = { refl };
 }
 
 impl<E: Enumeration> MapCodec for OpenEnum<E> {

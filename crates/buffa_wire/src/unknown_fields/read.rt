@@ -1,11 +1,12 @@
 //! Reading unknown fields.
 
-ghost use Rattle.std.specs.Prelude.{◌≡◌, ◌≢◌, ◌+◌, IfOk};
+ghost use Rattle.std.specs.Prelude.{◌≡◌, ◌≢◌, ◌+◌, ◌<◌, IfOk};
+ghost use Rattle.buffa_bytes.specs.Left.{LeavesUnlessFull, past_no_payload};
 ghost use Rattle.buffa_wire.specs.Gives.{FullOnlyIf, GivesUnlessFull};
-ghost use Rattle.buffa_wire.specs.BudgetLeft.{SlotsSpent, budget_left};
+ghost use Rattle.buffa_wire.specs.BudgetLeft.{SlotTaken, SlotsSpent, budget_left};
 ghost use Rattle.buffa_wire.specs.Records.{records_of};
 ghost use Rattle.buffa_wire.specs.RecordReading.{GroupTakesMemory, ListTakesMemory, PayloadTakesMemory, TakesMemory};
-ghost use Rattle.buffa_wire.specs.RecordReading.{field_at, group_at, list_at, plain_at};
+ghost use Rattle.buffa_wire.specs.RecordReading.{field_in, group_in, list_at, plain_at};
 ghost use Rattle.buffa_wire.specs.Unread.{IsTailOf, bytes_read};
 ghost use Rattle.buffa_wire.specs.View.{datum_of};
 
@@ -27,6 +28,7 @@ fn decode_plain<B: Buf>(
     ensures reads { GivesUnlessFull (λ d. (datum_of d, B.unread buf.new)) result
         (plain_at wire_type (B.unread buf.old)) }
     ensures full { FullOnlyIf result (PayloadTakesMemory (λ s bs. ⊥) 0 wire_type (B.unread buf.old)) }
+    ensures left { LeavesUnlessFull result (past_no_payload wire_type (B.unread buf.old)) (B.unread buf.new) }
     ensures kept { B.beyond buf.new ≡ B.beyond buf.old }
     ensures tail { IsTailOf (B.unread buf.new) (B.unread buf.old) }
 {
@@ -54,7 +56,7 @@ fn decode_plain<B: Buf>(
 /// Reads the field whose tag was read, and keeps it.
 ///
 /// It spends one slot for the field, and one for each field in its groups, and no element memory. After an
-/// error no more slots are spent than one and the bytes that were read. Memory is asked for only where a slot
+/// error no more slots are spent than one and the bytes that were read, and one of a field that is no group. Memory is asked for only where a slot
 /// was left, for bytes, one at least, that are there, and for a group's fields once the first is read.
 ///
 /// # Errors
@@ -77,7 +79,7 @@ pub fn decode_unknown_field<B: Buf>(
     ctx: DecodeContext<'_>,
 ) -> Result<UnknownField, DecodeError>
     ensures reads { GivesUnlessFull (λ f. (datum_of f.payload, (budget_left ctx.exit).unknown, B.unread buf.new)) result
-        (field_at ctx.entry.depth ctx.entry.budget.now.unknown tag.number tag.wire_type (B.unread buf.old)) }
+        (field_in ctx.entry tag.number tag.wire_type (B.unread buf.old)) }
     ensures full { FullOnlyIf result (TakesMemory ctx.entry.depth ctx.entry.budget.now.unknown tag.wire_type
         (B.unread buf.old)) }
     ensures number { IfOk result (λ f. f.number ≡ tag.number) }
@@ -88,6 +90,10 @@ pub fn decode_unknown_field<B: Buf>(
     ensures end_stays { tag.wire_type ≡ WireType.EndGroup → B.unread buf.new ≡ B.unread buf.old }
     ensures level { tag.wire_type ≡ WireType.StartGroup → ctx.entry.depth ≡ 0 → B.unread buf.new ≡ B.unread buf.old }
     ensures no_slot_stays { ctx.entry.budget.now.unknown ≡ 0 → B.unread buf.new ≡ B.unread buf.old }
+    ensures left { tag.wire_type ≢ WireType.StartGroup → 0 < ctx.entry.budget.now.unknown →
+        LeavesUnlessFull result (past_no_payload tag.wire_type (B.unread buf.old)) (B.unread buf.new) }
+    ensures slot { tag.wire_type ≢ WireType.StartGroup → tag.wire_type ≢ WireType.EndGroup → SlotTaken
+        ctx.entry.budget.now.unknown (budget_left ctx.exit).unknown }
     ensures kept { B.beyond buf.new ≡ B.beyond buf.old }
     ensures tail { IsTailOf (B.unread buf.new) (B.unread buf.old) }
 {
@@ -121,8 +127,7 @@ fn decode_group<B: Buf>(
     ctx: DecodeContext<'_>,
 ) -> Result<UnknownFields, DecodeError>
     ensures reads { GivesUnlessFull (λ f. (records_of f.records, (budget_left ctx.exit).unknown, B.unread buf.new))
-        result
-        (group_at ctx.entry.depth ctx.entry.budget.now.unknown number (B.unread buf.old)) }
+        result (group_in ctx.entry number (B.unread buf.old)) }
     ensures full { FullOnlyIf result (GroupTakesMemory ctx.entry.depth ctx.entry.budget.now.unknown
         (B.unread buf.old)) }
     ensures level { ctx.entry.depth ≡ 0 → B.unread buf.new ≡ B.unread buf.old }

@@ -2,7 +2,6 @@
 use super::Case;
 use crate::engine::run;
 use crate::reply::USAGE;
-use crate::stream::Watched;
 use std::alloc::Global;
 use std::io;
 use std::io::{ErrorKind, Read, Write};
@@ -109,12 +108,12 @@ fn front(text: &str, room: usize) -> &[u8] {
 fn a_failed_read_is_told(rt: HostRuntime) {
     for (words, given, text, answer) in EXAMPLES {
         for calls in 0..given.len() + 2 {
-            let mut input = Watched::new(FailingReader {
+            let mut input = FailingReader {
                 bytes: given.as_bytes(),
                 calls_left: calls,
-            });
-            let mut output = Watched::new(FailingWriter::new(64, End::Error));
-            let mut errors = Watched::new(FailingWriter::new(64, End::Error));
+            };
+            let mut output = FailingWriter::new(64, End::Error);
+            let mut errors = FailingWriter::new(64, End::Error);
             let status = run(rt.alloc(), words, &mut input, &mut output, &mut errors);
             let (status_owed, text_owed, line_owed) = if calls <= given.len() {
                 (3, "", FAILED_LINE)
@@ -123,12 +122,12 @@ fn a_failed_read_is_told(rt: HostRuntime) {
             };
             assert_eq!(rt; status, status_owed, "{words:?} at {calls}");
             assert_eq!(rt;
-                output.stream().taken(),
+                output.taken(),
                 text_owed.as_bytes(),
                 "{words:?} at {calls}"
             );
             assert_eq!(rt;
-                errors.stream().taken(),
+                errors.taken(),
                 line_owed.as_bytes(),
                 "{words:?} at {calls}"
             );
@@ -138,9 +137,9 @@ fn a_failed_read_is_told(rt: HostRuntime) {
 
 fn fail_to_write(rt: &impl Abort, alloc: Global, case: Case, room: usize, end: End) {
     let (words, given, text, answer) = case;
-    let mut input = Watched::new(given.as_bytes());
-    let mut output = Watched::new(FailingWriter::new(room, end));
-    let mut errors = Watched::new(FailingWriter::new(64, end));
+    let mut input = given.as_bytes();
+    let mut output = FailingWriter::new(room, end);
+    let mut errors = FailingWriter::new(64, end);
     let status = run(alloc, words, &mut input, &mut output, &mut errors);
     let (status_owed, line_owed) = if room < text.len() {
         (3, FAILED_LINE)
@@ -148,16 +147,8 @@ fn fail_to_write(rt: &impl Abort, alloc: Global, case: Case, room: usize, end: E
         (answer, "")
     };
     assert_eq!(rt; status, status_owed, "{words:?} at {room}");
-    assert_eq!(rt;
-        output.stream().taken(),
-        front(text, room),
-        "{words:?} at {room}"
-    );
-    assert_eq!(rt;
-        errors.stream().taken(),
-        line_owed.as_bytes(),
-        "{words:?} at {room}"
-    );
+    assert_eq!(rt; output.taken(), front(text, room), "{words:?} at {room}");
+    assert_eq!(rt; errors.taken(), line_owed.as_bytes(), "{words:?} at {room}");
 }
 
 #[test]
@@ -174,9 +165,9 @@ fn a_failed_write_is_told(rt: HostRuntime) {
 #[test]
 fn a_failed_line_changes_no_status(rt: HostRuntime) {
     for room in 0..FAILED_LINE.len() {
-        let mut input = Watched::new("2a00".as_bytes());
-        let mut output = Watched::new(FailingWriter::new(1, End::NoByte));
-        let mut errors = Watched::new(FailingWriter::new(room, End::Error));
+        let mut input = "2a00".as_bytes();
+        let mut output = FailingWriter::new(1, End::NoByte);
+        let mut errors = FailingWriter::new(room, End::Error);
         let status = run(
             rt.alloc(),
             &["read", "5"],
@@ -185,22 +176,18 @@ fn a_failed_line_changes_no_status(rt: HostRuntime) {
             &mut errors,
         );
         assert_eq!(rt; status, 3, "at {room}");
-        assert_eq!(rt; output.stream().taken(), " ".as_bytes(), "at {room}");
-        assert_eq!(rt;
-            errors.stream().taken(),
-            front(FAILED_LINE, room),
-            "at {room}"
-        );
+        assert_eq!(rt; output.taken(), " ".as_bytes(), "at {room}");
+        assert_eq!(rt; errors.taken(), front(FAILED_LINE, room), "at {room}");
     }
     for room in 0..USAGE.len() {
-        let mut input = Watched::new("2a00".as_bytes());
-        let mut output = Watched::new(FailingWriter::new(64, End::Error));
-        let mut errors = Watched::new(FailingWriter::new(room, End::NoByte));
+        let mut input = "2a00".as_bytes();
+        let mut output = FailingWriter::new(64, End::Error);
+        let mut errors = FailingWriter::new(room, End::NoByte);
         let status = run(rt.alloc(), &["items"], &mut input, &mut output, &mut errors);
         assert_eq!(rt; status, 2, "at {room}");
-        assert!(rt; output.stream().taken().is_empty());
+        assert!(rt; output.taken().is_empty());
         assert_eq!(rt;
-            errors.stream().taken(),
+            errors.taken(),
             USAGE.get(..room).unwrap_or(USAGE),
             "at {room}"
         );
@@ -211,14 +198,14 @@ fn a_failed_line_changes_no_status(rt: HostRuntime) {
 #[test]
 fn wrong_words_read_nothing(rt: HostRuntime) {
     for words in WRONG_WORDS {
-        let mut input = Watched::new(FailingReader {
+        let mut input = FailingReader {
             bytes: &[],
             calls_left: 0,
-        });
-        let mut output = Watched::new(FailingWriter::new(0, End::Error));
-        let mut errors = Watched::new(FailingWriter::new(64, End::Error));
+        };
+        let mut output = FailingWriter::new(0, End::Error);
+        let mut errors = FailingWriter::new(64, End::Error);
         let status = run(rt.alloc(), words, &mut input, &mut output, &mut errors);
         assert_eq!(rt; status, 2, "{words:?}");
-        assert_eq!(rt; errors.stream().taken(), USAGE, "{words:?}");
+        assert_eq!(rt; errors.taken(), USAGE, "{words:?}");
     }
 }

@@ -2,11 +2,8 @@ use Rattle.std.proofs.Common.{sym, ◌∙◌}
 use Rattle.buffa_ext.proofs.PinLemmas.{merging_is_pinned}
 use Rattle.buffa_ext.proofs.laws.messages_are_pinned.Goals as goal
 
-pub returns-clause-delimited : goal.returns-clause-delimited
-returns-clause-delimited g c = λ ds a b h k. h ∙ sym k
-
-pub returns-clause-groups : goal.returns-clause-groups
-returns-clause-groups g c = λ ds a b h k. h ∙ sym k
+pub returns-clause-read : goal.returns-clause-read
+returns-clause-read g c = λ ds a b h k. h ∙ sym k
 
 pub returns-clause-merged : goal.returns-clause-merged
-returns-clause-merged g c = merging_is_pinned (g.M.MessageSpec.merged 100) (g.M.MessageSpec.cost 100)
+returns-clause-merged g c = merging_is_pinned (g.M.MessageSpec.merged 100) (g.M.MessageSpec.cost 100) g.K.MessageRecord.held (g.K.MessageRecord.takes 100)

@@ -1,25 +1,15 @@
 use Rattle.std.proofs.Common.{◌∙◌, ap}
 use Rattle.buffa_wire.specs.View.{records_in}
-use Rattle.buffa_ext.proofs.Merges.{full_there, one_more, passed_over, fault_in_all, text_is_there}
+use Rattle.buffa_ext.proofs.Merges.{one_more, passed_over, stops_here}
 use Rattle.buffa_ext.proofs.message.merge_number.Goals.{then-field-number+in-Ok, else-field-number}
 use Rattle.buffa_ext.proofs.message.merge_number.Goals as goal
 
-pub returns-in-Err-clause-merged : goal.returns-in-Err-clause-merged
-returns-in-Err-clause-merged g c =
-    fault_in_all g.K.MessageRecord.held c.args.number c.as_slice-field-items.result.now c.loop-field.field-index c.field-item.result c.loop-field-test.true c.field-item.is
+pub returns-in-Err : goal.returns-in-Err
+returns-in-Err g c =
+    stops_here g.K.MessageRecord.held c.args.number c.as_slice-field-items.result.now c.loop-field.field-index c.field-item.result c.loop-field-test.true c.field-item.is
     (g.M.MessageSpec.merged 100) (g.M.MessageSpec.cost 100) (g.M.Blank.meaning c.args.message.now) (g.M.Blank.meaning c.loop-field.message) c.args.budget.now c.loop-field.budget c.loop-field.found c.loop-field.invariant
-    (g.M.Blank.meaning c.merge_in.new.message) c.merge_in.new.ctx.1.0 c.in-Err.error c.args.fields.now.records c.if-field-number.true
-    (ap records_in c.as_slice-field-items.ensures.value ∙ c.iter.ensures) c.in-Err.ensures.merged
-
-pub returns-in-Err-clause-text : goal.returns-in-Err-clause-text
-returns-in-Err-clause-text g c =
-    text_is_there g.K.MessageRecord.held c.args.number c.as_slice-field-items.result.now c.loop-field.field-index c.field-item.result c.loop-field-test.true c.field-item.is c.args.fields.now.records
-    c.if-field-number.true (ap records_in c.as_slice-field-items.ensures.value ∙ c.iter.ensures) c.in-Err.ensures.text
-
-pub returns-in-Err-clause-full : goal.returns-in-Err-clause-full
-returns-in-Err-clause-full g c =
-    full_there (g.K.MessageRecord.takes 100) c.in-Err.error c.args.number c.as_slice-field-items.result.now c.loop-field.field-index c.field-item.result c.args.fields.now.records c.loop-field-test.true c.field-item.is
-    c.if-field-number.true (ap records_in c.as_slice-field-items.ensures.value ∙ c.iter.ensures) c.in-Err.ensures.full
+    (g.K.MessageRecord.takes 100) (g.M.Blank.meaning c.merge_in.new.message) c.merge_in.new.ctx.1.0 c.in-Err.error c.args.fields.now.records c.if-field-number.true
+    (ap records_in c.as_slice-field-items.ensures.value ∙ c.iter.ensures) c.in-Err.ensures.merged c.in-Err.ensures.text c.in-Err.ensures.full
 
 pub loop-field-preserved : goal.loop-field-preserved
 loop-field-preserved g c =

@@ -7,7 +7,7 @@ use Rattle.buffa_map.proofs.MergeLemmas.{bad_cut, is_dropped, is_put, no_copy, n
 use Rattle.buffa_map.proofs.PartsLemmas.{entry_declared}
 use Rattle.buffa_map.proofs.ResultLemmas.{IfErr-map, IfErr-with, OnOk-both, OnOk-map}
 use Rattle.buffa_map.proofs.NeedLemmas.{no_length}
-use Rattle.buffa_map.proofs.TailLemmas.{near_rest, cut_front, delimited_after, delimited_short}
+use Rattle.buffa_map.proofs.TailLemmas.{near_rest, cut_front, past_copy, past_short, delimited_after, delimited_short}
 use Rattle.buffa_map.proofs.entry.merge_entry_by.Goals.{else-KEEPS-via-then-KEEPS+else-MAY_RETURN_UNKNOWN, else-KEEPS-via-else-KEEPS}
 use Rattle.buffa_map.proofs.entry.merge_entry_by.Goals as goal
 
@@ -18,7 +18,7 @@ pub returns-in_err-len-clause-err : goal.returns-in_err-len-clause-err
 returns-in_err-len-clause-err g c =
     let p = err_from_is_err_and c.from_residual.result c.from_residual.ensures.1 in
     let len = c.in_err-len.ensures in
-    rw (p.1, p.2) (no_entry _ _ _ _ _ _ _ len.tail (λ ne. delimited_short _ _ len.reads) (λ out. varint_no_full _ _ len.reads out) (λ e rest t. no_length g.KC.MapValueDecode.reading g.W.MergeValue.reading c.args.ctx.depth _ _ (delimited_short _ _ len.reads) e rest t))
+    rw (p.1, p.2) (no_entry _ _ _ _ _ _ _ len.tail (λ ne. delimited_short _ _ len.reads) (λ out. varint_no_full _ _ len.reads out) (λ e rest t. no_length g.KC.MapValueDecode.reading g.W.MergeValue.reading c.args.ctx.depth _ _ (delimited_short _ _ len.reads) e rest t) (λ x no. past_short _ _ _ len.reads len.left))
 
 pub returns-in-Some-clause-ok : goal.returns-in-Some-clause-ok
 returns-in-Some-clause-ok g c =
@@ -34,7 +34,7 @@ returns-in_err-entry-clause-err g c =
     let len = c.in_ok-len.ensures in
     let copy = c.in_err-entry.ensures in
     let same = delimited_after _ _ _ len.reads in
-    rw (p.1, p.2) (no_copy _ _ _ _ _ _ _ _ _ (g.met.L.Keeper.keeps (sym c.KEEPS.ensures ∙ c.if-KEEPS.true)) same (tail_more _ _ _ copy.tail len.tail) copy.reads copy.full copy.free (λ e rest t. near_rest _ _ _ _ e rest same t copy.within))
+    rw (p.1, p.2) (no_copy _ _ _ _ _ _ _ _ _ (g.met.L.Keeper.keeps (sym c.KEEPS.ensures ∙ c.if-KEEPS.true), g.met.W.MergeValue.undeclared ∙ sym c.MAY_RETURN_UNKNOWN.ensures ∙ c.if-MAY_RETURN_UNKNOWN.true) same (tail_more _ _ _ copy.tail len.tail) copy.reads copy.full copy.free (λ e rest t. near_rest _ _ _ _ e rest same t copy.within) (λ x no. past_copy _ _ _ _ x len.reads same copy.short no))
 
 pub returns-in_err-parts-clause-err : goal.returns-in_err-parts-clause-err
 returns-in_err-parts-clause-err g c =

@@ -10,6 +10,7 @@ use Rattle.buffa_map.specs.Pairs.{mean, means}
 use Rattle.buffa_map.specs.Scalars.{delimited_writing}
 use Rattle.buffa_map.specs.Text.{field_size, saturated}
 use Rattle.buffa_map.proofs.MessageFieldLemmas.{here, onward, size_capped, size_exact}
+use Rattle.buffa_map.proofs.WalkLemmas.{has_pairs}
 use Rattle.buffa_map.proofs.message_size.message_field_len_by.Goals as goal
 
 pub loop-key-init : goal.loop-key-init
@@ -52,8 +53,8 @@ set-requires g c =
     let t = rw c.in_ok-inner.was at s in
     set_ok _ _ _ _ _ c.in_ok-slot.ensures.place c.in_ok-slot.ensures.ok t.1
 
-pub returns-in_err-inner : goal.returns-in_err-inner
-returns-in_err-inner g c =
+pub returns-in_err-inner-clause-sized : goal.returns-in_err-inner-clause-sized
+returns-in_err-inner-clause-sized g c =
     let q = err_from_is_err_and c.from_residual-in_err-inner.result c.from_residual-in_err-inner.ensures.1 in
     let i = c.loop-key.invariant in
     let p : g.row.KC-Value.Denot × g.row.M.Denot = (c.in-Some.key.now, c.in-Some.value.now) in
@@ -103,8 +104,8 @@ loop-key-preserved g c =
       longer = longer_twice _ _ _ _ i.longer added;
     }
 
-pub returns : goal.returns
-returns g c =
+pub returns-clause-sized : goal.returns-clause-sized
+returns-clause-sized g c =
     let key = g.KC.MapCodec.writing in
     let text = g.M.MessageSpec.text in
     let slots = g.M.MessageSpec.slots in
@@ -116,3 +117,23 @@ returns g c =
       λ small. omega (arith, i.bound) ∙ ap (λ l. saturated (c.loop-key.total + field_size key (delimited_writing text) c.args.outer_tag_len l)) (sym n) ∙ (i.exact small).1,
       sym (appended_none c.loop-key.cache) ∙ ap (λ l. appended (field_slots text slots l) c.loop-key.cache) (sym n) ∙ i.cache,
     )
+
+pub returns-in_err-slot-clause-some : goal.returns-in_err-slot-clause-some
+returns-in_err-slot-clause-some g c =
+    let q = err_from_is_err_and c.from_residual-in_err-slot.result c.from_residual-in_err-slot.ensures.1 in
+    let i = c.loop-key.invariant in
+    let walked = means g.KC.Value.Blank.meaning g.M.Blank.meaning (g.C.MapWalk.left c.storage_iter-key-items.result) in
+    let p : g.row.KC-Value.Denot × g.row.M.Denot = (c.in-Some.key.now, c.in-Some.value.now) in
+    let step : g.C.MapWalk.left c.loop-key.key-iterator ≡ p ∷ g.C.MapWalk.left c.next.new.self = c.storage_iter-key-items.ensures.steps c.loop-key.key-iterator (Some (c.in-Some.key, c.in-Some.value)) c.next.new.self c.in-Some.ensures.steps in
+    let e = i.within.1 ∙ ap (λ (z : List (g.row.KC-Value.Denot × g.row.M.Denot)). i.within.0 ++ means g.KC.Value.Blank.meaning g.M.Blank.meaning z) step in
+    rw q.1 (has_pairs g.met.C.MapStorage.equivalence _ walked i.within.0 _ _ c.storage_len.ensures.distinct c.storage_iter-key-items.ensures.pairs (g.met.C.StableOrder.stable c.args.map.now walked c.storage_iter-key-items.ensures.walk ∙ e))
+
+pub returns-in_err-inner-clause-some : goal.returns-in_err-inner-clause-some
+returns-in_err-inner-clause-some g c =
+    let q = err_from_is_err_and c.from_residual-in_err-inner.result c.from_residual-in_err-inner.ensures.1 in
+    let i = c.loop-key.invariant in
+    let walked = means g.KC.Value.Blank.meaning g.M.Blank.meaning (g.C.MapWalk.left c.storage_iter-key-items.result) in
+    let p : g.row.KC-Value.Denot × g.row.M.Denot = (c.in-Some.key.now, c.in-Some.value.now) in
+    let step : g.C.MapWalk.left c.loop-key.key-iterator ≡ p ∷ g.C.MapWalk.left c.next.new.self = c.storage_iter-key-items.ensures.steps c.loop-key.key-iterator (Some (c.in-Some.key, c.in-Some.value)) c.next.new.self c.in-Some.ensures.steps in
+    let e = i.within.1 ∙ ap (λ (z : List (g.row.KC-Value.Denot × g.row.M.Denot)). i.within.0 ++ means g.KC.Value.Blank.meaning g.M.Blank.meaning z) step in
+    rw q.1 (has_pairs g.met.C.MapStorage.equivalence _ walked i.within.0 _ _ c.storage_len.ensures.distinct c.storage_iter-key-items.ensures.pairs (g.met.C.StableOrder.stable c.args.map.now walked c.storage_iter-key-items.ensures.walk ∙ e))

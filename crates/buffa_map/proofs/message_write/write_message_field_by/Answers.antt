@@ -1,4 +1,4 @@
-use Rattle.std.proofs.Common.{◌≡◌, List, [], ◌∷◌, ◌++◌, length, sym, ap, ◌∙◌, Some, None, subst, arith, length-append}
+use Rattle.std.proofs.Common.{◌≡◌, List, [], ◌∷◌, ◌++◌, length, sym, ap, ◌∙◌, Some, None, subst, arith, append-nil, append_assoc, length-append}
 use Rattle.std.specs.List.{Contains}
 use Rattle.std.specs.Map.{values_of}
 use Rattle.std.proofs.lemmas.Result.{err_from_is_err_and}
@@ -8,7 +8,8 @@ use Rattle.buffa_map.specs.MessageField.{IsFieldWritten, IsSmallField, IsSmallPa
 use Rattle.buffa_map.specs.Pairs.{mean, means}
 use Rattle.buffa_map.specs.Scalars.{delimited_writing}
 use Rattle.buffa_map.specs.Text.{field_text, record_text}
-use Rattle.buffa_map.proofs.MessageFieldLemmas.{here, onward}
+use Rattle.buffa_map.proofs.MessageFieldLemmas.{here, small_at}
+use Rattle.buffa_map.proofs.WriteLemmas.{field_text-parts, room_more}
 use Rattle.buffa_map.proofs.message_write.write_message_field_by.Goals as goal
 
 pub loop-key-init : goal.loop-key-init
@@ -24,6 +25,7 @@ loop-key-init g c =
       within = ([], sym same);
       next = subst (λ l. IsNext (field_slots text slots l) c.args.cache.now) (sym same) c.requires.next;
       whole = λ r d b h. subst (λ l. IsFieldWritten key text slots c.args.field_number l c.args.cache.now (written c.args.sink.now) r d b) same h;
+      spare = λ keeps small. omega arith;
     }
 
 pub write_message_record_by-requires-clause-next : goal.write_message_record_by-requires-clause-next
@@ -75,16 +77,19 @@ loop-key-preserved g c =
     let step : g.C.MapWalk.left c.loop-key.key-iterator ≡ p ∷ g.C.MapWalk.left c.next.new.self = c.storage_iter-key-items.ensures.steps c.loop-key.key-iterator (Some (c.in-Some.key, c.in-Some.value)) c.next.new.self c.in-Some.ensures.steps in
     let n : now ≡ m ∷ rest = ap (λ (z : List (g.row.KC-Value.Denot × g.row.M.Denot)). means g.KC.Value.Blank.meaning g.M.Blank.meaning z) step in
     let e = i.within.1 ∙ ap (λ (z : List (g.row.KC-Value-Meaning.Denot × g.row.M-Meaning.Denot)). i.within.0 ++ z) n in
-    let w = rw c.in_ok-write_message_record_by.was at c.write_message_record_by.ensures in
+    let w = rw c.in_ok-write_message_record_by.was at c.write_message_record_by.ensures.written in
     let slot = cap (length (text m.1)) ∷ slots m.1 in
     let number = c.args.field_number in
     record {
-      within = onward m rest (g.C.StableOrder.walk c.args.map.now) i.within.0 e;
+      within = (i.within.0 ++ m ∷ [], e ∙ sym (append_assoc i.within.0 (m ∷ []) rest));
       next = subst (λ d. IsNext (field_slots text slots rest) d) (sym w.2.0) (next_past slot (field_slots text slots rest) c.loop-key.cache (subst (λ l. IsNext (field_slots text slots l) c.loop-key.cache) n i.next));
       whole = λ r d b h. i.whole r d b
           (subst (λ l. IsFieldWritten key text slots number l c.loop-key.cache (written c.loop-key.sink) r d b) (sym n)
           (written_then (IsSmallPair key text m) (IsSmallField key text rest) (IsSmallField key text (m ∷ rest)) (record_text key (delimited_writing text) number m) (field_text key (delimited_writing text) number rest) slot (field_slots text slots rest)
           c.loop-key.cache c.write_message_record_by.new.cache d (written c.loop-key.sink) (written c.write_message_record_by.new.sink) b (λ z. z) r w h));
+      spare = λ keeps small.
+          let one = c.in_ok-write_message_record_by.ensures.room keeps (small_at key text (g.C.StableOrder.walk c.args.map.now) i.within.0 m rest e small) in
+          room_more key (delimited_writing text) number _ _ _ i.within.0 m (i.spare keeps small) one;
     }
 
 pub returns-in_err-write_message_record_by-clause-some : goal.returns-in_err-write_message_record_by-clause-some
@@ -112,7 +117,7 @@ returns-in_err-write_message_record_by-clause-written g c =
     let now : List (g.row.KC-Value-Meaning.Denot × g.row.M-Meaning.Denot) = means g.KC.Value.Blank.meaning g.M.Blank.meaning (g.C.MapWalk.left c.loop-key.key-iterator) in
     let step : g.C.MapWalk.left c.loop-key.key-iterator ≡ p ∷ g.C.MapWalk.left c.next.new.self = c.storage_iter-key-items.ensures.steps c.loop-key.key-iterator (Some (c.in-Some.key, c.in-Some.value)) c.next.new.self c.in-Some.ensures.steps in
     let n : now ≡ m ∷ rest = ap (λ (z : List (g.row.KC-Value.Denot × g.row.M.Denot)). means g.KC.Value.Blank.meaning g.M.Blank.meaning z) step in
-    let w = rw c.in_err-write_message_record_by.was at c.write_message_record_by.ensures in
+    let w = rw c.in_err-write_message_record_by.was at c.write_message_record_by.ensures.written in
     let slot = cap (length (text m.1)) ∷ slots m.1 in
     let number = c.args.field_number in
     let r = c.from_residual.result in
@@ -136,3 +141,27 @@ returns-clause-written g c =
     c.loop-key.invariant.whole done c.loop-key.cache (written c.loop-key.sink)
     (subst (λ l. IsFieldWritten key text slots c.args.field_number l c.loop-key.cache (written c.loop-key.sink) done c.loop-key.cache (written c.loop-key.sink)) (sym n)
     (written_none (IsSmallField key text []) c.loop-key.cache (written c.loop-key.sink)))
+
+pub returns-in_err-write_message_record_by-clause-room : goal.returns-in_err-write_message_record_by-clause-room
+returns-in_err-write_message_record_by-clause-room g c keeps small =
+    let q = err_from_is_err_and c.from_residual.result c.from_residual.ensures.1 in
+    let key = g.KC.MapCodec.writing in
+    let text = g.M.MessageSpec.text in
+    let i = c.loop-key.invariant in
+    let p : g.row.KC-Value.Denot × g.row.M.Denot = (c.in-Some.key.now, c.in-Some.value.now) in
+    let m : g.row.KC-Value-Meaning.Denot × g.row.M-Meaning.Denot = mean g.KC.Value.Blank.meaning g.M.Blank.meaning p in
+    let rest : List (g.row.KC-Value-Meaning.Denot × g.row.M-Meaning.Denot) = means g.KC.Value.Blank.meaning g.M.Blank.meaning (g.C.MapWalk.left c.next.new.self) in
+    let step : g.C.MapWalk.left c.loop-key.key-iterator ≡ p ∷ g.C.MapWalk.left c.next.new.self = c.storage_iter-key-items.ensures.steps c.loop-key.key-iterator (Some (c.in-Some.key, c.in-Some.value)) c.next.new.self c.in-Some.ensures.steps in
+    let e = i.within.1 ∙ ap (λ (z : List (g.row.KC-Value.Denot × g.row.M.Denot)). i.within.0 ++ means g.KC.Value.Blank.meaning g.M.Blank.meaning z) step in
+    let all = g.C.StableOrder.walk c.args.map.now in
+    let one = c.in_err-write_message_record_by.ensures.room keeps (small_at key text all i.within.0 m rest e small) in
+    rw q.1 (omega (arith, i.spare keeps small, one, field_text-parts key (delimited_writing text) c.args.field_number all i.within.0 m rest e))
+
+pub returns-clause-room : goal.returns-clause-room
+returns-clause-room g c keeps small =
+    let key = g.KC.MapCodec.writing in
+    let text = g.M.MessageSpec.text in
+    let i = c.loop-key.invariant in
+    let step = c.storage_iter-key-items.ensures.steps c.loop-key.key-iterator None c.next.new.self c.in-None.ensures.steps in
+    let whole = i.within.1 ∙ ap (λ (z : List (g.row.KC-Value.Denot × g.row.M.Denot)). i.within.0 ++ means g.KC.Value.Blank.meaning g.M.Blank.meaning z) step.0 ∙ append-nil i.within.0 in
+    omega (arith, i.spare keeps small, ap (λ z. length (field_text key (delimited_writing text) c.args.field_number z)) whole)

@@ -9,8 +9,8 @@ use Rattle.buffa_map.specs.MessageField.{entry_size, key_and_length}
 use Rattle.buffa_map.specs.Text.{saturated}
 use Rattle.buffa_map.proofs.message_write.write_message_head.Goals as goal
 
-pub returns-in_err-write_head : goal.returns-in_err-write_head
-returns-in_err-write_head g c =
+pub returns-in_err-write_head-clause-writes : goal.returns-in_err-write_head-clause-writes
+returns-in_err-write_head-clause-writes g c =
     let p = err_from_is_err_and c.from_residual.result c.from_residual.ensures.1 in
     let kw = g.KC.MapCodec.writing in
     let k = g.KC.Value.Blank.meaning c.args.key.now in

@@ -7,11 +7,29 @@ use Rattle.buffa_map.specs.Pairs.{SamePairs}
 use Rattle.buffa_map.specs.Rewrite.{IsRewrite, Ordered}
 use Rattle.buffa_map.specs.Run.{fold_entries, undeclared, Run}
 use Rattle.buffa_map.proofs.RunLemmas.{added_records}
-use Rattle.buffa_samples.proofs.PassedLemmas.{left_is, not_rewritten, read_whole, stop_is_shortage, stopped}
+use Rattle.buffa_samples.proofs.PassedLemmas.{left_is, not_rewritten, read_whole, rewritten, stop_is_shortage, stopped}
 use Rattle.buffa_samples.proofs.passed_on.passed_on.Goals as goal
 
-pub returns-in-Ok-read_map_field-clause-passed : goal.returns-in-Ok-read_map_field-clause-passed
-returns-in-Ok-read_map_field-clause-passed g c es fs h k =
+pub returns-in-Ok-read_map_field-clause-keeps : goal.returns-in-Ok-read_map_field-clause-keeps
+returns-in-Ok-read_map_field-clause-keeps g c fs k =
+    let key = g.KC.MapValueDecode.reading in
+    let e = numbers g.E.Enumeration.of_number g.E.Blank.blank_is in
+    let f = numbers g.F.Enumeration.of_number g.F.Blank.blank_is in
+    let depth = c.args.depth in
+    let n = c.args.number in
+    let given = c.args.bytes.now in
+    let w = c.in-Ok.ensures.ok in
+    let r = c.in-Ok-read_map_field.ensures.ok in
+    let run = subst (λ (z : ℕ). Run key (closed_reading e) z n given w.entries) c.new-ctx.ensures.depth w.run in
+    let t = c.rewrite_means.ensures g.C.MapStorage.equal g.met.C.MapStorage.equivalence e f g.met.E.Enumeration.blank_declared c.requires.refines depth n given w.out w.entries fs c.requires.number run k w.rewrite in
+    let text : c.as_slice-written.result.now ≡ w.out = c.as_slice-written.ensures.value ∙ w.text ∙ ap (λ z. z ++ w.out) c.new-text.ensures.items in
+    let again = subst (λ (b : List ℕ). Run key (closed_reading f) depth n b r.entries) text (subst (λ (z : ℕ). Run key (closed_reading f) z n c.as_slice-written.result.now r.entries) c.new-ctx-2.ensures.depth r.run) in
+    let read : t.0 ≡ r.entries = c.one_reading-2.ensures.run depth n w.out t.0 r.entries t.1 again in
+    let kept : undeclared r.entries ≡ undeclared fs = ap undeclared (sym read) ∙ t.2.0 in
+    r.keeps ∙ ap (λ z. c.args.unknown.now.records ++ z) (added_records n r.entries) ∙ ap (λ z. c.args.unknown.now.records ++ map (λ (x : List ℕ). (n, bytes x)) z) kept
+
+pub returns-in-Ok-read_map_field-clause-means : goal.returns-in-Ok-read_map_field-clause-means
+returns-in-Ok-read_map_field-clause-means g c es fs h k o q =
     let key = g.KC.MapValueDecode.reading in
     let e = numbers g.E.Enumeration.of_number g.E.Blank.blank_is in
     let f = numbers g.F.Enumeration.of_number g.F.Blank.blank_is in
@@ -27,13 +45,10 @@ returns-in-Ok-read_map_field-clause-passed g c es fs h k =
     let text : c.as_slice-written.result.now ≡ w.out = c.as_slice-written.ensures.value ∙ w.text ∙ ap (λ z. z ++ w.out) c.new-text.ensures.items in
     let again = subst (λ (b : List ℕ). Run key (closed_reading f) depth n b r.entries) text (subst (λ (z : ℕ). Run key (closed_reading f) z n c.as_slice-written.result.now r.entries) c.new-ctx-2.ensures.depth r.run) in
     let read : t.0 ≡ r.entries = c.one_reading-2.ensures.run depth n w.out t.0 r.entries t.1 again in
-    let kept : undeclared r.entries ≡ undeclared fs = ap undeclared (sym read) ∙ t.2.0 in
     let folds = subst (λ eq. Ordered eq es fs → (m : List (g.row.KC-Value-Meaning.Denot × ℤ)) → SamePairs eq (fold_entries eq m t.0) (fold_entries eq m fs)) c.requires.keys t.2.1 in
     let old = g.D.MapStorage.pairs c.args.map.now in
-    let eq = g.D.MapStorage.equal in (
-      r.keeps ∙ ap (λ z. c.args.unknown.now.records ++ z) (added_records n r.entries) ∙ ap (λ z. c.args.unknown.now.records ++ map (λ (x : List ℕ). (n, bytes x)) z) kept,
-      λ o q. sym (folds o old q) ∙ ap (λ z. lookup_entry (eq q) (fold_entries eq old z)) read ∙ r.folded q,
-    )
+    let eq = g.D.MapStorage.equal in
+    sym (folds o old q) ∙ ap (λ z. lookup_entry (eq q) (fold_entries eq old z)) read ∙ r.folded q
 
 pub returns-in-Ok-read_map_field-clause-runs : goal.returns-in-Ok-read_map_field-clause-runs
 returns-in-Ok-read_map_field-clause-runs g c =
@@ -45,7 +60,8 @@ returns-in-Ok-read_map_field-clause-runs g c =
     let given = c.args.bytes.now in
     let w = c.in-Ok.ensures.ok in
     let run = subst (λ (z : ℕ). Run key (closed_reading e) z n given w.entries) c.new-ctx.ensures.depth w.run in
-    ((w.entries, run), c.newer_enums_take_it_too.ensures e f g.met.E.Enumeration.blank_declared c.requires.refines depth n given w.entries run)
+    let newer = c.newer_enums_take_it_too.ensures e f g.met.E.Enumeration.blank_declared c.requires.refines depth n given w.entries run in
+    record { older_entries = w.entries; older_run = run; newer_entries = newer.0; newer_run = newer.1 }
 
 pub returns-in-Ok-read_map_field-clause-reads : goal.returns-in-Ok-read_map_field-clause-reads
 returns-in-Ok-read_map_field-clause-reads g c =
@@ -60,7 +76,12 @@ returns-in-Ok-read_map_field-clause-reads g c =
     record {
       out = w.out;
       over = _;
-      rewritten = record { entries = w.entries; run = run; folded = w.folded; order = w.order; rewrite = w.rewrite };
+      rewritten = record {
+        left = _;
+        rewrites = rewritten key (closed_reading e) g.KC.MapCodec.writing g.KC.MapCodec.fits (ClosedFits e) g.C.MapStorage.equal g.C.MapStorage.keeps_order n (g.KC.MapValueDecode.COST + 4) c.args.bytes.now _ _
+            c.new-ctx.result.depth depth c.new-ctx.result.budget.now _ _ _ _ _ _ _ c.new-ctx.ensures.depth
+            (c.new-ctx.ensures.left ∙ left_is c.new-budget.result _ _ c.new-budget.ensures.unknown c.new-budget.ensures.memory) w;
+      };
       reads = read_whole key (closed_reading f) g.D.MapStorage.equal g.D.MapStorage.keeps_order n (g.KC.MapValueDecode.COST + 4) (g.D.MapStorage.pairs c.args.map.now) c.args.unknown.now.records _ _
           c.new-ctx-2.result.depth depth c.new-ctx-2.result.budget.now _ c.as_slice-written.result.now w.out c.new-ctx-2.ensures.depth
           (c.new-ctx-2.ensures.left ∙ left_is c.new-fresh.result _ _ c.new-fresh.ensures.unknown c.new-fresh.ensures.memory) text c.in-Ok-read_map_field.ensures.ok;
@@ -68,16 +89,13 @@ returns-in-Ok-read_map_field-clause-reads g c =
 
 pub returns-in-Err-clause-refused : goal.returns-in-Err-clause-refused
 returns-in-Err-clause-refused g c =
-    let e = numbers g.E.Enumeration.of_number g.E.Blank.blank_is in (
-      not_rewritten g.KC.MapValueDecode.reading (closed_reading e) g.KC.MapCodec.writing g.C.MapStorage.equal g.C.MapStorage.keeps_order c.args.number (g.KC.MapValueDecode.COST + 4) c.args.bytes.now
-          (g.C.MapStorage.pairs c.rewrite_map_field.new.map) (g.C.MapStorage.walks c.rewrite_map_field.new.map) _ c.new-ctx.result.depth c.args.depth c.new-ctx.result.budget.now _ c.new-text.result.items _ _ _ c.in-Err.error c.new-ctx.ensures.depth
-          (c.new-ctx.ensures.left ∙ left_is c.new-budget.result _ _ c.new-budget.ensures.unknown c.new-budget.ensures.memory) c.new-text.ensures.items c.in-Err.ensures.refused,
-      refl,
-      refl,
-    )
+    let e = numbers g.E.Enumeration.of_number g.E.Blank.blank_is in
+    not_rewritten g.KC.MapValueDecode.reading (closed_reading e) g.KC.MapCodec.writing g.C.MapStorage.equal g.C.MapStorage.keeps_order c.args.number (g.KC.MapValueDecode.COST + 4) c.args.bytes.now
+    (g.C.MapStorage.pairs c.rewrite_map_field.new.map) (g.C.MapStorage.walks c.rewrite_map_field.new.map) _ c.new-ctx.result.depth c.args.depth c.new-ctx.result.budget.now _ c.new-text.result.items _ _ _ c.in-Err.error c.new-ctx.ensures.depth
+    (c.new-ctx.ensures.left ∙ left_is c.new-budget.result _ _ c.new-budget.ensures.unknown c.new-budget.ensures.memory) c.new-text.ensures.items c.in-Err.ensures.refused
 
-pub returns-clause-refused : goal.returns-clause-refused
-returns-clause-refused g c =
+pub returns-clause-stops : goal.returns-clause-stops
+returns-clause-stops g c =
     let key = g.KC.MapValueDecode.reading in
     let e = numbers g.E.Enumeration.of_number g.E.Blank.blank_is in
     let f = numbers g.F.Enumeration.of_number g.F.Blank.blank_is in
@@ -98,9 +116,13 @@ returns-clause-refused g c =
       out = w.out;
       over = _;
       unread = _;
-      rewritten = record { entries = w.entries; run = run; folded = w.folded; order = w.order; rewrite = w.rewrite };
-      newer_entries = newer.0;
-      newer_run = newer.1;
+      rewritten = record {
+        left = _;
+        rewrites = rewritten key (closed_reading e) g.KC.MapCodec.writing g.KC.MapCodec.fits (ClosedFits e) g.C.MapStorage.equal g.C.MapStorage.keeps_order n (g.KC.MapValueDecode.COST + 4) c.args.bytes.now _ _
+            c.new-ctx.result.depth depth c.new-ctx.result.budget.now _ _ _ _ _ _ _ c.new-ctx.ensures.depth
+            (c.new-ctx.ensures.left ∙ left_is c.new-budget.result _ _ c.new-budget.ensures.unknown c.new-budget.ensures.memory) w;
+      };
+      run = record { older_entries = w.entries; older_run = run; newer_entries = newer.0; newer_run = newer.1 };
       stops = stops;
       short = stop_is_shortage key (closed_reading f) g.D.MapStorage.equal g.D.MapStorage.keeps_order n cost _ _ _ _ fault depth _ w.out again.0
           (λ x. c.plain_entries_need_units.ensures.entry (g.met.KC.MapCodec.plain, refl) depth cost x) c.one_reading-2.ensures again.1 stops;

@@ -5,7 +5,7 @@ use Rattle.std.proofs.lemmas.List.{nil_from_length}
 use Rattle.buffa_wire.specs.BudgetLeft.{BudgetLeft}
 use Rattle.buffa_map.specs.Run.{fold_entries, Run}
 use Rattle.buffa_map.specs.Text.{field_text}
-use Rattle.buffa_samples.proofs.TripLemmas.{as_units, costs_more, stopped, unwritten}
+use Rattle.buffa_samples.proofs.TripLemmas.{as_units, costs_more, paid_for, stopped, unwritten}
 use Rattle.buffa_samples.proofs.round_trip.through_bytes.Goals as goal
 
 pub returns-in-Ok-read_map_field-clause-ok : goal.returns-in-Ok-read_map_field-clause-ok
@@ -38,10 +38,25 @@ returns-in-Ok-read_map_field-clause-order g c =
     let same : r.entries ≡ t.entries = c.one_reading.ensures.run depth c.args.number field r.entries t.entries run t.run in
     (w.0, w.1, λ keeps. r.order keeps ∙ ap (λ m. fold_entries eq m r.entries) c.requires.empty ∙ ap (fold_entries eq []) same ∙ t.folded)
 
+pub returns-in-Ok-read_map_field-clause-fits : goal.returns-in-Ok-read_map_field-clause-fits
+returns-in-Ok-read_map_field-clause-fits g c =
+    let key = g.KC.MapValueDecode.reading in
+    let val = g.VC.MapValueDecode.reading in
+    let depth = c.new-ctx.result.depth in
+    let w = c.in-Ok.ensures in
+    let r = c.in-Ok-read_map_field.ensures.ok in
+    let t = c.written_is_read.ensures depth c.args.number w.0 c.requires.number w.3.0 w.4 (c.requires.normal w.0 w.1) w.2.0 in
+    let field = field_text g.KC.MapCodec.writing g.VC.MapCodec.writing c.args.number w.0 in
+    let text : c.as_slice-rest.result.now ≡ field = c.as_slice-rest.ensures.value ∙ w.3.1 ∙ ap (λ z. z ++ field) c.new-text.ensures.items in
+    let run : Run key val depth c.args.number field r.entries = subst (λ (b : List ℕ). Run key val depth c.args.number b r.entries) text r.run in
+    let same : r.entries ≡ t.entries = c.one_reading.ensures.run depth c.args.number field r.entries t.entries run t.run in
+    let memory : c.new-ctx.result.budget.now.memory ≡ 268435456 = ap (λ (b : BudgetLeft). b.memory) c.new-ctx.ensures.left ∙ c.new-budget.ensures.memory in
+    (w.0, w.1, w.2, w.3.0, paid_for key val depth (g.KC.MapValueDecode.COST + g.VC.MapValueDecode.COST) _ _ _ _ _ _ memory (ap length same ∙ t.many) r.paid)
+
 pub returns-in-Err-clause-err : goal.returns-in-Err-clause-err
 returns-in-Err-clause-err g c =
     let w = c.in-Err.ensures in
-    (w.0, w.1, unwritten g.KC.MapCodec.writing g.VC.MapCodec.writing (g.KC.MapValueDecode.COST + g.VC.MapValueDecode.COST) c.args.number _ _ w.0 c.in-Err.error _ w.3 w.5)
+    (w.0, w.1, w.2, unwritten g.KC.MapCodec.writing g.VC.MapCodec.writing (g.KC.MapValueDecode.COST + g.VC.MapValueDecode.COST) c.args.number _ _ w.0 c.in-Err.error _ w.3 w.5)
 
 pub returns-clause-err : goal.returns-clause-err
 returns-clause-err g c =
@@ -58,6 +73,7 @@ returns-clause-err g c =
     let memory : c.new-ctx.result.budget.now.memory ≡ 268435456 = ap (λ (b : BudgetLeft). b.memory) c.new-ctx.ensures.left ∙ c.new-budget.ensures.memory in (
       w.0,
       w.1,
+      w.2,
       (
         (λ none. k.some (nil_from_length k.rest (omega (
           arith,
@@ -66,6 +82,7 @@ returns-clause-err g c =
           ap length text,
           ap (λ z. length (field_text g.KC.MapCodec.writing g.VC.MapCodec.writing c.args.number z)) none,
         )))),
+        w.3.0,
         λ named.
             let more = costs_more key val depth c.args.number
             (λ one e. c.plain_entries_need_units.ensures.entry (g.met.KC.MapCodec.plain, g.met.VC.MapCodec.plain) depth one e)

@@ -8,12 +8,12 @@ message_field_len_by-requires t c κs = ((refl, tt), ((λ x d h. (omega (arith, 
 
 pub returns-then-total-lt4294967295 : goal.returns-then-total-lt4294967295
 returns-then-total-lt4294967295 t c = (
-  small_total _ _ _ c.tree.view_is _ _ _ c.in_ok-children.ensures.0 (c.from.ensures ∙ c.number_len.ensures.len) c.saturating_add-total.ensures c.if-total-lt4294967295.true,
-  c.in_ok-children.ensures.2 ∙ ap (λ xs. appended xs c.args.cache.now) (slots_is _ _ _ c.tree.view_is),
+  small_total _ _ _ c.tree.view_is _ _ _ c.in_ok-children.ensures.sized.0 (c.from.ensures ∙ c.number_len.ensures.len) c.saturating_add-total.ensures c.if-total-lt4294967295.true,
+  c.in_ok-children.ensures.sized.2 ∙ ap (λ xs. appended xs c.args.cache.now) (slots_is _ _ _ c.tree.view_is),
 )
 
 pub returns-else-total-lt4294967295 : goal.returns-else-total-lt4294967295
 returns-else-total-lt4294967295 t c = (
-  large_total _ _ _ c.tree.view_is _ _ _ c.in_ok-children.ensures.0 (c.from.ensures ∙ c.number_len.ensures.len) c.saturating_add-total.ensures c.if-total-lt4294967295.false,
-  c.in_ok-children.ensures.2 ∙ ap (λ xs. appended xs c.args.cache.now) (slots_is _ _ _ c.tree.view_is),
+  large_total _ _ _ c.tree.view_is _ _ _ c.in_ok-children.ensures.sized.0 (c.from.ensures ∙ c.number_len.ensures.len) c.saturating_add-total.ensures c.if-total-lt4294967295.false,
+  c.in_ok-children.ensures.sized.2 ∙ ap (λ xs. appended xs c.args.cache.now) (slots_is _ _ _ c.tree.view_is),
 )

@@ -1,6 +1,6 @@
 use Rattle.std.proofs.Common.{sym, ap, subst, IfSome}
 use Rattle.buffa_wire.specs.View.{datum_of}
-use Rattle.buffa_wire.specs.Message.{ReachesTag}
+use Rattle.buffa_wire.specs.Message.{BeginsField}
 use Rattle.buffa_codec.specs.Reading.{bytes_held}
 use Rattle.buffa_ext.proofs.record.DelimitedMessageRecord.merge_in.Goals.{in-Ok, in-Err}
 use Rattle.buffa_ext.proofs.record.DelimitedMessageRecord.merge_in.Goals as goal
@@ -10,6 +10,6 @@ returns-clause-full g c =
     elim c.match-merge.branch [
       | in-Ok w ↦ rw w.result-is tt
       | in-Err w ↦
-          rw w.result-is (λ full. subst (λ o. IfSome o (ReachesTag c.args.ctx.depth)) (sym (ap (λ d. bytes_held (datum_of d)) c.in-LengthDelimited.is))
-          (subst (ReachesTag c.args.ctx.depth) c.as_slice.ensures.value (w.in-Err.ensures.full full)))
+          rw w.result-is (λ full. subst (λ o. IfSome o BeginsField) (sym (ap (λ d. bytes_held (datum_of d)) c.in-LengthDelimited.is))
+          (subst BeginsField c.as_slice.ensures.value (w.in-Err.ensures.full full)))
     ]

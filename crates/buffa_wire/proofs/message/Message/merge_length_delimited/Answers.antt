@@ -1,6 +1,7 @@
 use Rattle.std.proofs.Common.{refl, ◌∙◌}
 use Rattle.std.proofs.lemmas.Result.{err_from_is_err_and}
 use Rattle.buffa_bytes.proofs.FullLemmas.{varint_no_full}
+use Rattle.buffa_bytes.proofs.LeftLemmas.{left_no_length, left_passed, left_refused, left_taken}
 use Rattle.buffa_wire.proofs.InsideLemmas.{delimited_by, delimited_front, none_long, none_merges, same_front, inside_fault, inside_full, inside_ok, inside_spent}
 use Rattle.buffa_wire.proofs.message.Message.merge_length_delimited.Goals as goal
 
@@ -44,3 +45,21 @@ pub returns-clause-free : goal.returns-clause-free
 returns-clause-free g c = λ rest deep is.
     let none = same_front _ _ _ _ (delimited_by _ _ _ _ c.in_ok-len.ensures.reads c.in_ok-payload.ensures.reads) is in
     none_merges g.Self.MessageSpec.merged g.Self.MessageSpec.cost g.Self.MessageSpec.merged_empty g.Self.MessageSpec.cost_empty _ _ _ _ _ _ c.merge.result (c.deref.ensures.value ∙ none) c.merge.ensures.merged c.merge.ensures.full
+
+pub returns-in_err-len-clause-left : goal.returns-in_err-len-clause-left
+returns-in_err-len-clause-left g c = λ deep.
+    let p = err_from_is_err_and c.from_residual.result c.from_residual.ensures.1 in
+    left_no_length p.1 p.2 (g.B.Buf.unread c.args.buf.now) _ c.in_err-len.ensures.reads c.in_err-len.ensures.left
+
+pub returns-in-Some-clause-left : goal.returns-in-Some-clause-left
+returns-in-Some-clause-left g c = λ deep.
+    left_passed c.merge-merged.result _ _ _ _ _ c.in_ok-len.ensures.reads c.in-Some.ensures c.advance.ensures.rest
+
+pub returns-in_err-payload-clause-left : goal.returns-in_err-payload-clause-left
+returns-in_err-payload-clause-left g c = λ deep.
+    let p = err_from_is_err_and c.from_residual-in_err-payload.result c.from_residual-in_err-payload.ensures.1 in
+    left_refused p.1 p.2 _ (g.B.Buf.unread c.args.buf.now) _ _ c.in_ok-len.ensures.reads c.in_err-payload.ensures.reads c.in_err-payload.ensures.short c.in_err-payload.ensures.within
+
+pub returns-clause-left : goal.returns-clause-left
+returns-clause-left g c = λ deep.
+    left_taken c.merge.result _ (g.B.Buf.unread c.args.buf.now) _ _ _ c.in_ok-len.ensures.reads c.in_ok-payload.ensures.reads

@@ -1,6 +1,10 @@
-use Rattle.std.proofs.Common.{rules, ◌≡◌, ◌∙◌, arith, refl, sym, ap, Err, inr}
+use Rattle.std.proofs.Common.{rules, ℕ, ◌≡◌, ◌∙◌, arith, refl, sym, ap, Err, inr}
 use Rattle.std.proofs.lemmas.Result.{err_from_is_err_and}
+use Rattle.buffa_bytes.specs.declared.wire_type.WireType.TheVariants.{EndGroup}
+use Rattle.buffa_bytes.specs.declared.error.DecodeError.TheVariants.{InvalidEndGroup}
 use Rattle.buffa_bytes.proofs.FieldLemmas.{tag_falls}
+use Rattle.buffa_bytes.proofs.LeftLemmas.{end_stays}
+use Rattle.buffa_wire.proofs.LeaveLemmas.{leaves_all}
 use Rattle.buffa_wire.specs.BudgetLeft.{BudgetLeft}
 use Rattle.buffa_wire.specs.RecordReading.{group_at}
 use Rattle.buffa_bytes.proofs.TailLemmas.{tail_more, tail_whole}
@@ -88,6 +92,10 @@ decode_group-loop-fields-preserved g t c = record {
 pub decode_unknown_field-returns-in-EndGroup-clause-reads : goal.decode_unknown_field-returns-in-EndGroup-clause-reads
 decode_unknown_field-returns-in-EndGroup-clause-reads g t c = λ other. field_end _ _ _ _ _ c.in-EndGroup.is
 
+pub decode_unknown_field-returns-in-EndGroup-clause-left : goal.decode_unknown_field-returns-in-EndGroup-clause-left
+decode_unknown_field-returns-in-EndGroup-clause-left g t c = λ k some.
+    leaves_all {X = ℕ} (Err (InvalidEndGroup c.args.tag.number)) _ EndGroup (g.B.Buf.unread c.args.buf.now) _ c.in-EndGroup.is (end_stays _) refl
+
 pub decode_unknown_field-returns-in_err-take_slot : goal.decode_unknown_field-returns-in_err-take_slot
 decode_unknown_field-returns-in_err-take_slot g t c =
     let p = err_from_is_err_and c.from_residual.result c.from_residual.ensures.1 in
@@ -101,6 +109,8 @@ decode_unknown_field-returns-in_err-take_slot g t c =
       end_stays = λ k. refl {a = g.B.Buf.unread c.args.buf.now};
       level = λ k z. refl {a = g.B.Buf.unread c.args.buf.now};
       no_slot_stays = λ k. refl {a = g.B.Buf.unread c.args.buf.now};
+      left = λ k some. let no : ⊥ = omega (arith, c.in_err-take_slot.ensures.err.0, some) in absurd no;
+      slot = λ k o. omega (arith, c.in_err-take_slot.ensures.err.0, ap (λ (b : BudgetLeft). b.unknown) c.in_err-take_slot.ensures.err.1);
       tail = tail_whole _;
       kept = refl {a = g.B.Buf.beyond c.args.buf.now};
     }
@@ -118,6 +128,8 @@ decode_unknown_field-returns-in_err-fields g t c =
       end = λ k. absurd (c.in_default.not-EndGroup k);
       end_stays = λ k. absurd (c.in_default.not-EndGroup k);
       no_slot_stays = λ k. absurd (omega (arith, c.in_ok-take_slot.ensures.ok.0, k));
+      left = λ k some. absurd (k c.in-StartGroup.is);
+      slot = λ k o. absurd (k c.in-StartGroup.is);
       tail = c.in_err-fields.ensures.tail;
       kept = c.in_err-fields.ensures.kept;
     }
@@ -133,6 +145,8 @@ decode_unknown_field-returns-in-StartGroup g t c = record {
   end = λ k. absurd (c.in_default.not-EndGroup k);
   end_stays = λ k. absurd (c.in_default.not-EndGroup k);
   no_slot_stays = λ k. absurd (omega (arith, c.in_ok-take_slot.ensures.ok.0, k));
+  left = λ k some. absurd (k c.in-StartGroup.is);
+  slot = λ k o. absurd (k c.in-StartGroup.is);
   tail = c.in_ok-fields.ensures.tail;
   kept = c.in_ok-fields.ensures.kept;
 }
@@ -150,6 +164,8 @@ decode_unknown_field-returns-in_err-payload g t c =
       end = λ k. absurd (c.in_default.not-EndGroup k);
       end_stays = λ k. absurd (c.in_default.not-EndGroup k);
       no_slot_stays = λ k. absurd (omega (arith, c.in_ok-take_slot.ensures.ok.0, k));
+      left = λ k some. rw (p.1, p.2) c.in_err-payload.ensures.left;
+      slot = λ k o. omega (arith, c.in_ok-take_slot.ensures.ok.0);
       tail = c.in_err-payload.ensures.tail;
       kept = c.in_err-payload.ensures.kept;
     }
@@ -165,6 +181,8 @@ decode_unknown_field-returns g t c = record {
   end = λ k. absurd (c.in_default.not-EndGroup k);
   end_stays = λ k. absurd (c.in_default.not-EndGroup k);
   no_slot_stays = λ k. absurd (omega (arith, c.in_ok-take_slot.ensures.ok.0, k));
+  left = λ k some. tt;
+  slot = λ k o. omega (arith, c.in_ok-take_slot.ensures.ok.0);
   tail = c.in_ok-payload.ensures.tail;
   kept = c.in_ok-payload.ensures.kept;
 }

@@ -1,0 +1,84 @@
+//! What the names of this crate stand for: no two of them can be exchanged while these laws hold.
+
+ghost use Rattle.std.specs.Prelude.{◌≡◌, ◌↔◌, ◌∷◌, ◌-◌, ◌^◌, [], ℕ, List, Option, false, option_map, pos, true};
+ghost use Rattle.buffa_bytes.specs.Scalars.{bool_of, fixed32_of, fixed64_of, int64_of, sfixed32_of, sfixed64_of};
+ghost use Rattle.buffa_bytes.specs.Scalars.{sint32_of, sint64_of, uint32_of, uint64_of};
+ghost use Rattle.buffa_bytes.specs.Values.{int32_of};
+ghost use Rattle.buffa_bytes.specs.declared.wire_type.WireType.TheVariants as wire;
+ghost use Rattle.buffa_wire.specs.BudgetLeft.{BudgetLeft};
+ghost use Rattle.buffa_wire.specs.Enums.{numbers};
+ghost use Rattle.buffa_wire.specs.Found.{fixed32_in, fixed64_in, varint_in};
+ghost use Rattle.buffa_wire.specs.Records.{Datum, bytes as held_bytes};
+ghost use Rattle.buffa_codec.specs.Reading.{bytes_held, last_read, string_held};
+ghost use Rattle.buffa_ext.specs.Messages.{group_of};
+ghost use Rattle.buffa_map.specs.Enums.{closed_reading, open_reading};
+ghost use Rattle.buffa_map.specs.Message.{message_reading};
+ghost use Rattle.buffa_map.specs.Scalars.{bytes_reading, number_reading, string_reading};
+
+use crate::extension::{ExtensionCodec, SingularCodec, codecs};
+use crate::map_codec::{MapStorage, MapValueDecode};
+use crate::{
+    Blank, DEFAULT_ELEMENT_MEMORY_LIMIT, DEFAULT_UNKNOWN_FIELD_LIMIT, Enumeration,
+    MAX_FIELD_NUMBER, MAX_MESSAGE_BYTES, Map, MapKey, Message, RECURSION_LIMIT, map_codec,
+};
+use std::hash::Hash;
+
+/// The limits: how deep and with which budget is read where nothing else is said, and what is too large.
+pub fn limits_are_these()
+    ensures depth { RECURSION_LIMIT ≡ 100 }
+    ensures unknown_fields { DEFAULT_UNKNOWN_FIELD_LIMIT ≡ 1000000 }
+    ensures element_memory { DEFAULT_ELEMENT_MEMORY_LIMIT ≡ 2 ^ 28 }
+    ensures field_number { MAX_FIELD_NUMBER ≡ 2 ^ 29 - 1 }
+    ensures message_bytes { MAX_MESSAGE_BYTES ≡ 2 ^ 31 - 1 }
+{}
+
+/// How each codec of extensions of one value reads a record.
+pub fn extension_codecs_are_these<M: Message>()
+    ensures int32 { (n : ℕ) (b : BudgetLeft) (d : Datum) → ⟦<codecs::Int32 as SingularCodec>⟧.one n b d
+        ≡ option_map int32_of (varint_in d) }
+    ensures int64 { (n : ℕ) (b : BudgetLeft) (d : Datum) → ⟦<codecs::Int64 as SingularCodec>⟧.one n b d
+        ≡ option_map int64_of (varint_in d) }
+    ensures uint32 { (n : ℕ) (b : BudgetLeft) (d : Datum) → ⟦<codecs::Uint32 as SingularCodec>⟧.one n b d
+        ≡ option_map uint32_of (varint_in d) }
+    ensures uint64 { (n : ℕ) (b : BudgetLeft) (d : Datum) → ⟦<codecs::Uint64 as SingularCodec>⟧.one n b d
+        ≡ option_map uint64_of (varint_in d) }
+    ensures sint32 { (n : ℕ) (b : BudgetLeft) (d : Datum) → ⟦<codecs::Sint32 as SingularCodec>⟧.one n b d
+        ≡ option_map sint32_of (varint_in d) }
+    ensures sint64 { (n : ℕ) (b : BudgetLeft) (d : Datum) → ⟦<codecs::Sint64 as SingularCodec>⟧.one n b d
+        ≡ option_map sint64_of (varint_in d) }
+    ensures bool { (n : ℕ) (b : BudgetLeft) (d : Datum) → ⟦<codecs::Bool as SingularCodec>⟧.one n b d
+        ≡ option_map bool_of (varint_in d) }
+    ensures fixed32 { (n : ℕ) (b : BudgetLeft) (d : Datum) → ⟦<codecs::Fixed32 as SingularCodec>⟧.one n b d
+        ≡ option_map fixed32_of (fixed32_in d) }
+    ensures fixed64 { (n : ℕ) (b : BudgetLeft) (d : Datum) → ⟦<codecs::Fixed64 as SingularCodec>⟧.one n b d
+        ≡ option_map fixed64_of (fixed64_in d) }
+    ensures sfixed32 { (n : ℕ) (b : BudgetLeft) (d : Datum) → ⟦<codecs::Sfixed32 as SingularCodec>⟧.one n b d
+        ≡ option_map sfixed32_of (fixed32_in d) }
+    ensures sfixed64 { (n : ℕ) (b : BudgetLeft) (d : Datum) → ⟦<codecs::Sfixed64 as SingularCodec>⟧.one n b d
+        ≡ option_map sfixed64_of (fixed64_in d) }
+    ensures enums { (n : ℕ) (b : BudgetLeft) (d : Datum) → ⟦<codecs::EnumI32 as SingularCodec>⟧.one n b d
+        ≡ option_map int32_of (varint_in d) }
+    ensures message { (v : M.Meaning) → ⟦<codecs::MessageCodec<M> as ExtensionCodec>⟧.recs v ≡ held_bytes (M.text v) ∷ [] }
+    ensures group { (v : M.Meaning) → ⟦<codecs::GroupCodec<M> as ExtensionCodec>⟧.recs v ≡ group_of (M.text v) ∷ [] }
+{}
+
+/// How each codec of map fields reads a payload, and how the map to take where nothing speaks for another one is walked.
+pub fn map_codecs_are_these<E: Enumeration, M: Message, K: MapKey + Hash, V: Blank>()
+    ensures int32 { ⟦<map_codec::Int32 as MapValueDecode>⟧.reading ≡ number_reading wire.Varint (pos 0) int32_of }
+    ensures int64 { ⟦<map_codec::Int64 as MapValueDecode>⟧.reading ≡ number_reading wire.Varint (pos 0) int64_of }
+    ensures uint32 { ⟦<map_codec::Uint32 as MapValueDecode>⟧.reading ≡ number_reading wire.Varint 0 uint32_of }
+    ensures uint64 { ⟦<map_codec::Uint64 as MapValueDecode>⟧.reading ≡ number_reading wire.Varint 0 (λ n. n) }
+    ensures sint32 { ⟦<map_codec::Sint32 as MapValueDecode>⟧.reading ≡ number_reading wire.Varint (pos 0) sint32_of }
+    ensures sint64 { ⟦<map_codec::Sint64 as MapValueDecode>⟧.reading ≡ number_reading wire.Varint (pos 0) sint64_of }
+    ensures bool { ⟦<map_codec::Bool as MapValueDecode>⟧.reading ≡ number_reading wire.Varint false bool_of }
+    ensures fixed32 { ⟦<map_codec::Fixed32 as MapValueDecode>⟧.reading ≡ number_reading wire.Fixed32 0 (λ n. n) }
+    ensures fixed64 { ⟦<map_codec::Fixed64 as MapValueDecode>⟧.reading ≡ number_reading wire.Fixed64 0 (λ n. n) }
+    ensures sfixed32 { ⟦<map_codec::Sfixed32 as MapValueDecode>⟧.reading ≡ number_reading wire.Fixed32 (pos 0) sfixed32_of }
+    ensures sfixed64 { ⟦<map_codec::Sfixed64 as MapValueDecode>⟧.reading ≡ number_reading wire.Fixed64 (pos 0) sfixed64_of }
+    ensures string { ⟦<map_codec::Str as MapValueDecode>⟧.reading ≡ string_reading [] (λ b. b) }
+    ensures bytes { ⟦<map_codec::BytesVec as MapValueDecode>⟧.reading ≡ bytes_reading [] (λ b. b) }
+    ensures closed { ⟦<map_codec::ClosedEnum<E> as MapValueDecode>⟧.reading ≡ closed_reading (numbers E.of_number E.blank_is) }
+    ensures open { ⟦<map_codec::OpenEnum<E> as MapValueDecode>⟧.reading ≡ open_reading E.of_number }
+    ensures message { ⟦<map_codec::Msg<M> as MapValueDecode>⟧.reading ≡ message_reading M.blank_is M.merged M.cost }
+    ensures map { ⟦<Map<K, V> as MapStorage>⟧.keeps_order ≡ true }
+{}

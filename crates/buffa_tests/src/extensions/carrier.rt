@@ -1,0 +1,78 @@
+//! A message of one's own with extensions: its other fields stay.
+
+ghost use Rattle.std.specs.Prelude.{◌≡◌, codes, refl};
+ghost use Rattle.buffa_wire.specs.Records.{Held};
+
+use buffa::extension::codecs::Int32;
+use buffa::{EncodeError, Extension, ExtensionSet, UnknownFields};
+use std::alloc::Global;
+use std::test::Fail;
+
+/// A label, and whatever else there is.
+#[derive(Drop)]
+pub struct Carrier {
+    /// What isn't an extension.
+    pub label: u32,
+    /// The records.
+    pub fields: UnknownFields,
+}
+
+impl ExtensionSet for Carrier {
+    const PROTO_FQN: &'static str = "test.Carrier";
+
+    ghost fqn = { codes "test.Carrier" };
+
+    ghost fields_of = { λ m. m.fields };
+
+    ghost with_fields = { λ m w. record m { fields = w } };
+
+    fn extendee_name() -> &'static str {
+        Self::PROTO_FQN
+    }
+
+    fn unknown_fields(&self) -> &UnknownFields {
+        &self.fields
+    }
+
+    fn unknown_fields_mut(&mut self) -> &mut UnknownFields {
+        &mut self.fields
+    }
+
+    ghost fields_of_with = { λ m w. refl };
+
+    ghost with_fields_of = { λ m. refl };
+
+    ghost with_fields_twice = { λ m w u. refl };
+}
+
+/// A carrier of the records that the bytes are.
+pub fn carrier_of(alloc: Global, bytes: &[u8]) -> Result<Carrier, Fail> {
+    let fields = UnknownFields::decode_from_slice(alloc, bytes)?;
+    Ok(Carrier { label: 3, fields })
+}
+
+/// Sets a number, and reads it back; the label stays.
+pub fn set_then_read_number(
+    alloc: Global,
+    carrier: &mut Carrier,
+    value: i32,
+) -> Result<Option<i32>, EncodeError>
+    ensures { carrier.new.label ≡ carrier.old.label }
+{
+    let ext = Extension::<Int32>::new(7, "test.Carrier");
+    carrier.set_extension(alloc, &ext, value)?;
+    let Ok(answer) = carrier.extension(alloc, &ext) else {
+        return Err(EncodeError::OutOfMemory);
+    };
+    Ok(answer)
+}
+
+#[test]
+fn the_label_stays(rt: HostRuntime) -> Result<(), Fail> {
+    let mut carrier = carrier_of(rt.alloc(), &[0x38, 0x09])?;
+    let found = set_then_read_number(rt.alloc(), &mut carrier, -3)?;
+    assert_eq!(rt; found, Some(-3));
+    assert_eq!(rt; carrier.label, 3);
+    assert_eq!(rt; carrier.fields.len(), 1);
+    Ok(())
+}

@@ -1,0 +1,99 @@
+//! Options by their bytes.
+
+use buffa::UnknownFields;
+use buffa::extension::codecs::PackedRepeated;
+use buffa::extension::{Extension, ExtensionSet};
+use buffa_options::options::{
+    FieldOptions, max_length_or_default, read_choices, read_int32, read_label,
+};
+use buffa_options::price::{Price, PriceCodec, store_price};
+use buffa_options::rules::{Violation, validate};
+use std::alloc::Global;
+use std::test::Fail;
+
+// The options that the bytes are.
+fn options_of(alloc: Global, bytes: &[u8]) -> Result<FieldOptions, Fail> {
+    let fields = UnknownFields::decode_from_slice(alloc, bytes)?;
+    Ok(FieldOptions {
+        deprecated: false,
+        fields,
+    })
+}
+
+#[test]
+fn numbers_are_read_of_their_records(rt: HostRuntime) -> Result<(), Fail> {
+    let alloc = rt.alloc();
+    let rows: [(&[u8], Option<i32>, i32); 4] = [
+        (&[], None, 255),
+        (&[0x88, 0xB5, 0x18, 0x00], Some(0), 0),
+        (
+            &[0x88, 0xB5, 0x18, 0x05, 0x88, 0xB5, 0x18, 0x50],
+            Some(80),
+            80,
+        ),
+        (&[0x8A, 0xB5, 0x18, 0x01, 0x50], None, 255),
+    ];
+    for (bytes, read, filled) in rows {
+        let options = options_of(alloc, bytes)?;
+        assert_eq!(rt; read_int32(alloc, &options, 50001)?, read);
+        assert_eq!(rt; max_length_or_default(alloc, &options)?, filled);
+    }
+    Ok(())
+}
+
+#[test]
+fn texts_and_lists_are_read_of_their_records(rt: HostRuntime) -> Result<(), Fail> {
+    let alloc = rt.alloc();
+    let options = options_of(alloc, b"\x92\xB5\x18\x04name\x92\xB5\x18\x01\xFF")?;
+    match read_label(alloc, &options)? {
+        Some(label) => assert_eq!(rt; label.as_str(), "name"),
+        None => assert!(rt; false),
+    }
+    let listed = [0x98, 0xB5, 0x18, 0x01, 0x9A, 0xB5, 0x18, 0x03, 2, 0xAC, 2];
+    let choices = read_choices(alloc, &options_of(alloc, &listed)?)?;
+    assert_eq!(rt; choices.as_slice(), [1, 2, 300].as_slice());
+    Ok(())
+}
+
+// min 1, max 9, required.
+const RULES: [u8; 12] = [
+    0xD8, 0xB5, 0x18, 0x01, 0xE0, 0xB5, 0x18, 0x09, 0xE8, 0xB5, 0x18, 0x01,
+];
+
+#[test]
+fn values_are_judged_by_options(rt: HostRuntime) -> Result<(), Fail> {
+    let alloc = rt.alloc();
+    let options = options_of(alloc, &RULES)?;
+    let rows = [
+        (None, Err(Violation::Missing)),
+        (Some(0), Err(Violation::TooSmall)),
+        (Some(1), Ok(())),
+        (Some(9), Ok(())),
+        (Some(10), Err(Violation::TooGreat)),
+    ];
+    for (value, expected) in rows {
+        assert_eq!(rt; validate(alloc, &options, value)?, expected);
+    }
+    let free = options_of(alloc, &[])?;
+    assert_eq!(rt; validate(alloc, &free, None)?, Ok(()));
+    assert_eq!(rt; validate(alloc, &free, Some(-1))?, Ok(()));
+    Ok(())
+}
+
+#[test]
+fn prices_are_stored_and_packed(rt: HostRuntime) -> Result<(), Fail> {
+    let alloc = rt.alloc();
+    let mut options = options_of(alloc, &[])?;
+    let owed = Price { cents: -3 };
+    assert_eq!(rt; store_price(alloc, &mut options, owed)?, Some(owed));
+    let mut text = Vec::new(alloc);
+    options.fields.write_to(&mut text)?;
+    assert_eq!(rt; text.as_slice(), [0xA8, 0xB6, 0x18, 0x05].as_slice());
+    let prices = Extension::<PackedRepeated<PriceCodec>>::new(
+        50021,
+        "google.protobuf.FieldOptions",
+    );
+    let all = options.extension(alloc, &prices)?;
+    assert_eq!(rt; all.as_slice(), [owed].as_slice());
+    Ok(())
+}

@@ -1,0 +1,25 @@
+//! Tests that cross crates, by subject, of what is no case of a table: the cases stand in `vectors`, and the crate
+//! `conformance` runs them. Nothing stands on this crate.
+//!
+//! Expected values come from outside: from the protobuf encoding guide, worked out by hand, or from a table. The
+//! messages, enums and keys stand in `buffa_samples`, an extendee in `buffa_options`.
+#![tactic(auto)]
+
+#[cfg(test)]
+mod budgets;
+#[cfg(test)]
+mod errors;
+#[cfg(test)]
+mod extensions;
+#[cfg(test)]
+mod facade;
+#[cfg(test)]
+mod guide;
+#[cfg(test)]
+mod map_fields;
+#[cfg(test)]
+mod messages;
+#[cfg(test)]
+mod records;
+#[cfg(test)]
+mod wire;

@@ -1,0 +1,88 @@
+//! Unknown fields as values: lists that grow and shrink, copies, equality.
+
+use buffa_wire::{UnknownField, UnknownFieldData, UnknownFields};
+use std::alloc::Global;
+use std::test::Fail;
+
+// The field of a number and data.
+fn field(number: u32, payload: UnknownFieldData) -> UnknownField {
+    UnknownField { number, payload }
+}
+
+// A group of number 7 that holds one field.
+fn group(alloc: Global) -> Result<UnknownField, Fail> {
+    let mut inside = UnknownFields::new(alloc);
+    inside.push(field(3, UnknownFieldData::Varint(1)))?;
+    Ok(field(7, UnknownFieldData::Group(inside)))
+}
+
+#[test]
+fn fields_of_any_number_are_written(rt: HostRuntime) -> Result<(), Fail> {
+    let mut fields = UnknownFields::new(rt.alloc());
+    assert_eq!(rt; fields.spare(), 0);
+    fields.push(field(0, UnknownFieldData::Fixed64(2)))?;
+    fields.push(field(u32::MAX, UnknownFieldData::Varint(300)))?;
+    let mut text = Vec::new(rt.alloc());
+    fields.write_to(&mut text)?;
+    let expected: [u8; 16] = [
+        1, 2, 0, 0, 0, 0, 0, 0, 0, 0xF8, 0xFF, 0xFF, 0xFF, 0x7F, 0xAC, 2,
+    ];
+    assert_eq!(rt; text.as_slice(), expected.as_slice());
+    assert_eq!(rt; fields.encoded_len(), 16);
+    Ok(())
+}
+
+#[test]
+fn lists_grow_and_shrink(rt: HostRuntime) -> Result<(), Fail> {
+    let mut fields = UnknownFields::new(rt.alloc());
+    fields.push(field(1, UnknownFieldData::Varint(5)))?;
+    let mut more = UnknownFields::new(rt.alloc());
+    more.push(group(rt.alloc())?)?;
+    fields.reserve(more.len())?;
+    assert!(rt; fields.spare() >= 1);
+    fields.append(more);
+    assert_eq!(rt; fields.len(), 2);
+    fields.retain(|kept| kept.number == 7);
+    assert_eq!(rt; fields.len(), 1);
+    Ok(())
+}
+
+#[test]
+fn a_copy_is_equal(rt: HostRuntime) -> Result<(), Fail> {
+    let whole = group(rt.alloc())?;
+    assert_eq!(rt; whole.copy()?, whole);
+    let bytes = Vec::from_slice(rt.alloc(), &[0xDE, 0xAD])?;
+    let whole = field(9, UnknownFieldData::LengthDelimited(bytes));
+    assert_eq!(rt; whole.copy()?, whole);
+    Ok(())
+}
+
+#[test]
+fn what_is_read_is_equal_to_its_records(rt: HostRuntime) -> Result<(), Fail> {
+    let mut expected = UnknownFields::new(rt.alloc());
+    expected.push(field(1, UnknownFieldData::Varint(5)))?;
+    expected.push(group(rt.alloc())?)?;
+    let bytes = [0x08, 5, 0x3B, 0x18, 1, 0x3C];
+    let fields = UnknownFields::decode_from_slice(rt.alloc(), &bytes)?;
+    assert_eq!(rt; fields, expected);
+    Ok(())
+}
+
+#[test]
+fn retain_looks_at_each_field_once(rt: HostRuntime) -> Result<(), Fail> {
+    let mut fields = UnknownFields::new(rt.alloc());
+    for number in [3, 7, 3] {
+        fields.push(field(number, UnknownFieldData::Varint(1)))?;
+    }
+    let mut calls = 0u32;
+    fields.retain(|_| {
+        calls = calls.saturating_add(1);
+        calls != 2
+    });
+    assert_eq!(rt; calls, 3);
+    assert_eq!(rt; fields.len(), 2);
+    let gone = 7;
+    fields.retain(|kept| kept.number != gone);
+    assert_eq!(rt; fields.len(), 2);
+    Ok(())
+}

@@ -1,0 +1,118 @@
+-- Each command has a reply to every input.
+use Rattle.std.proofs.Common.{◌≡◌, ◌⊎◌, inl, inr, ℕ, ◌^◌, ◌<◌, ◌≤◌, ℤ, List, [], ◌∷◌, ◌++◌, length, Option, Some, None, Result, Ok, Err, refl, subst, codes, FitsSigned, arith}
+use Rattle.std.proofs.lemmas.Bool.{cases_lt}
+use Rattle.std.proofs.lemmas.Cmp.{int_cmp_total}
+use Rattle.std.specs.Cmp.Lexicographic.{nat_list_cmp_total, slice_cmp}
+use Rattle.std.specs.Int.{w32}
+use Rattle.std.specs.Ordering.{int_cmp, int_eq, nat_cmp}
+use Rattle.buffa_bytes.specs.declared.error.DecodeError.{DecodeError}
+use Rattle.buffa_wire.specs.BudgetLeft.{BudgetLeft}
+use Rattle.buffa_wire.specs.ErrorText.{decode_error_text}
+use Rattle.buffa_wire.specs.Records.{Datum}
+use Rattle.buffa_wire.specs.Text.{records_text}
+use Rattle.buffa_map.specs.Enums.{ClosedFits, closed_writing}
+use Rattle.buffa_map.specs.Laws.{RunsAreRead}
+use Rattle.buffa_map.specs.Pairs.{ListsOnce}
+use Rattle.buffa_map.specs.Run.{EntryRecord, fold_entries, undeclared_records}
+use Rattle.buffa_map.specs.Text.{AllHold, HasText, entry_text, field_text}
+use Rattle.buffamap.specs.Choice.{two_numbers}
+use Rattle.buffamap.specs.Codecs.{int32_reading, int32_writing}
+use Rattle.buffamap.specs.Ext.{IsShown, IsShownOf, RepliesToExt, ext_text, records_of}
+use Rattle.buffamap.specs.Forms.{hex_bytes, without_newline}
+use Rattle.buffamap.specs.Item.{IsFound, IsFoundIn, RepliesToItem, item_from, item_lines}
+use Rattle.buffamap.specs.Lines.{InOrder, Pair, lines_of, map_in, same_key}
+use Rattle.buffamap.specs.Pinned.{HasReply}
+use Rattle.buffamap.specs.Read.{default_left, RepliesToBytes, RepliesToRead, RepliesToRun, run_from}
+use Rattle.buffamap.specs.Reply.{Reply, bad_input, done, fault, hex_line}
+use Rattle.buffamap.specs.Rewrite.{Entry, IsRewritten, IsRewrittenOf, RepliesToRewrite, choice_reading}
+use Rattle.buffamap.specs.Rewrite.{Pair as Choices, run_from as rewrite_from}
+use Rattle.buffamap.specs.Write.{RepliesToMap, RepliesToWrite, field_reply}
+use Rattle.buffa_codec.specs.Sub.{sub}
+use Rattle.buffamap.proofs.FitLemmas.{pairs_fit, run_fits}
+use Rattle.buffamap.proofs.Ordered.{same_test}
+use Rattle.buffamap.proofs.OrderLemmas.{ordered, ordered_holds, ordered_once, ordered_sorted}
+
+-- a map has a list of its pairs in order
+listed : (m : List Pair) → (ps : List Pair) × InOrder m ps
+listed m = (ordered (slice_cmp nat_cmp) m, (subst (λ eq. ListsOnce eq m (ordered (slice_cmp nat_cmp) m)) same_test (ordered_once nat_list_cmp_total m), ordered_sorted nat_list_cmp_total m))
+
+run_there : (r : Result (List (EntryRecord (List ℕ) ℤ) × BudgetLeft) DecodeError) → (reply : Reply) × RepliesToRun r reply
+run_there (Ok r) = let l = listed (fold_entries same_key [] r.0) in (done (lines_of l.0), (l.0, l.1, refl))
+run_there (Err f) = (fault (decode_error_text f), refl)
+
+bytes_there : (n : ℕ) (o : Option (List ℕ)) → (reply : Reply) × RepliesToBytes n o reply
+bytes_there n None = (bad_input, refl)
+bytes_there n (Some bytes) = run_there (run_from n bytes)
+
+pub read_there : (n : ℕ) → HasReply (RepliesToRead n)
+read_there n input = bytes_there n (hex_bytes (without_newline input))
+
+map_there : (n : ℕ) (o : Option (List Pair)) → (reply : Reply) × RepliesToMap n o reply
+map_there n None = (bad_input, refl)
+map_there n (Some m) = let l = listed m in (field_reply n l.0, (l.0, l.1, refl))
+
+pub write_there : (n : ℕ) → HasReply (RepliesToWrite n)
+write_there n input = map_there n (map_in input)
+
+shown_there : (n : ℕ) (r : Result (List (ℕ × Datum)) DecodeError) → (reply : Reply) × IsShown n r reply
+shown_there n (Ok records) = (done (ext_text (sub n records)), refl)
+shown_there n (Err f) = (fault (decode_error_text f), refl)
+
+shown_of_there : (n : ℕ) (o : Option (List ℕ)) → (reply : Reply) × IsShownOf n o reply
+shown_of_there n None = (bad_input, refl)
+shown_of_there n (Some bytes) = shown_there n (records_of bytes)
+
+pub ext_there : (n : ℕ) → HasReply (RepliesToExt n)
+ext_there n input = shown_of_there n (hex_bytes (without_newline input))
+
+found_there : (r : Result (ℕ × List ℕ × List ℕ) DecodeError) → (reply : Reply) × IsFound r reply
+found_there (Ok item) = (done (item_lines item.0 item.1 item.2), refl)
+found_there (Err f) = (fault (decode_error_text f), refl)
+
+found_in_there : (o : Option (List ℕ)) → (reply : Reply) × IsFoundIn o reply
+found_in_there None = (bad_input, refl)
+found_in_there (Some bytes) = found_there (item_from bytes)
+
+pub item_there : HasReply RepliesToItem
+item_there input = found_in_there (hex_bytes (without_newline input))
+
+-- ---- a rewrite
+
+has_or_not : (l : List Choices) → HasText int32_writing closed_writing l ⊎ (HasText int32_writing closed_writing l → ⊥)
+has_or_not [] = inl tt
+has_or_not (p ∷ l) = both (cases_lt (length (entry_text int32_writing closed_writing p)) (2 ^ 64)) (has_or_not l)
+  where
+    both : (length (entry_text int32_writing closed_writing p) < 2 ^ 64) ⊎ (2 ^ 64 ≤ length (entry_text int32_writing closed_writing p)) →
+        HasText int32_writing closed_writing l ⊎ (HasText int32_writing closed_writing l → ⊥) →
+        HasText int32_writing closed_writing (p ∷ l) ⊎ (HasText int32_writing closed_writing (p ∷ l) → ⊥)
+    both (inl a) (inl b) = inl (a, b)
+    both (inl a) (inr b) = inr (λ h. b h.1)
+    both (inr a) b = inr (λ h. omega (arith, a, h.0))
+
+module _ (n : ℕ) (read : RunsAreRead int32_reading choice_reading) where
+  rewritten_there : (bytes : List ℕ) (r : Result (List Entry × BudgetLeft) DecodeError) → rewrite_from n bytes ≡ r → (reply : Reply) × IsRewritten n r reply
+  rewritten_there bytes (Err f) is = (fault (decode_error_text f), refl)
+  rewritten_there bytes (Ok r) is = told (has_or_not l)
+    where
+      m : List Choices
+      m = fold_entries int_eq [] r.0
+
+      l : List Choices
+      l = ordered int_cmp m
+
+      fits : AllHold (FitsSigned w32) (ClosedFits two_numbers) l
+      fits = ordered_holds int_cmp (FitsSigned w32) (ClosedFits two_numbers) m (pairs_fit r.0 [] (run_fits 100 n bytes r.0 ((read.ok 100 n 8 1 default_left bytes r.0 r.1).0 is).0) tt)
+
+      out : List ℕ
+      out = field_text int32_writing closed_writing n l ++ records_text (undeclared_records n r.0)
+
+      told : HasText int32_writing closed_writing l ⊎ (HasText int32_writing closed_writing l → ⊥) → (reply : Reply) × IsRewritten n (Ok r) reply
+      told (inl h) = (done (hex_line out), inl (out, ((l, ordered_once int_cmp_total m, h, fits, refl), ordered_sorted int_cmp_total m), refl))
+      told (inr h) = (fault (codes "MessageTooLarge"), inr ((l, ordered_once int_cmp_total m, ordered_sorted int_cmp_total m, h), refl))
+
+  rewritten_of_there : (o : Option (List ℕ)) → (reply : Reply) × IsRewrittenOf n o reply
+  rewritten_of_there None = (bad_input, refl)
+  rewritten_of_there (Some bytes) = rewritten_there bytes (rewrite_from n bytes) refl
+
+  pub rewrite_there : HasReply (RepliesToRewrite n)
+  rewrite_there input = rewritten_of_there (hex_bytes (without_newline input))

@@ -1,0 +1,106 @@
+// What the calls of rows are given, and what they leave.
+
+use crate::case::Case;
+
+/// A storage.
+#[derive(Clone, Copy, PartialEq, Eq)]
+pub enum Kind {
+    /// `BTreeMap`, in the order of keys.
+    Ordered,
+    /// `HashMap`, in any order.
+    Hashed,
+    /// `Map`, in the order in which keys came.
+    Indexed,
+}
+
+/// What a call is given, and what it leaves.
+#[derive(Clone, Copy, PartialEq, Eq)]
+pub enum Group {
+    /// It reads entries or records from a buffer into a map, which stands in any storage.
+    Fields,
+    /// It reads a field, an Item or a number from a buffer.
+    Items,
+    /// It reads records of a map of any kinds.
+    Kinds,
+    /// It writes a map, which stands in any storage.
+    Writes,
+    /// It is done with records.
+    Records,
+    /// It writes an Item.
+    WrittenItem,
+    /// It is done with a message, or a map of messages.
+    Messages,
+    /// It is done with an extension.
+    Extensions,
+}
+
+// Whether a call is one of some, which stand with a space between them.
+fn is_among(call: &str, calls: &str) -> bool {
+    calls.split(' ').any(|one| one == call)
+}
+
+/// The group of a call.
+pub fn group_of(call: &str) -> Group {
+    if is_among(call, "entry unlisted run rewrite") {
+        Group::Fields
+    } else if is_among(call, "item unknown skip varint") {
+        Group::Items
+    } else if is_among(call, "field") {
+        Group::Kinds
+    } else if is_among(call, "write size size-and-write") {
+        Group::Writes
+    } else if is_among(call, "records twice retain") {
+        Group::Records
+    } else if is_among(call, "write-item") {
+        Group::WrittenItem
+    } else if is_among(
+        call,
+        "merge encode message-size message-clear write-messages",
+    ) {
+        Group::Messages
+    } else {
+        Group::Extensions
+    }
+}
+
+/// Whether a call reads records to the end of the bytes.
+pub fn reads_to_the_end(call: &str) -> bool {
+    is_among(call, "run rewrite field merge records")
+}
+
+/// Whether each beginning of what a call accepts is whole, or cut off.
+pub fn reads_bytes(call: &str) -> bool {
+    match group_of(call) {
+        Group::Fields | Group::Items | Group::Kinds => true,
+        _ => reads_to_the_end(call),
+    }
+}
+
+/// Whether a call reads into a map, whose pairs stand after a refusal.
+pub fn keeps_a_map(call: &str) -> bool {
+    match group_of(call) {
+        Group::Fields | Group::Kinds => true,
+        _ => false,
+    }
+}
+
+/// Whether a call is given the words of a value, and no bytes.
+pub fn takes_words(call: &str) -> bool {
+    group_of(call) == Group::Extensions
+}
+
+/// Whether a row is run in a storage: those of the setting `in`, or any for maps, and one for all else.
+pub fn is_run_in(case: &Case<'_>, kind: Kind) -> bool {
+    let name = match kind {
+        Kind::Ordered => "ordered",
+        Kind::Hashed => "hashed",
+        Kind::Indexed => "indexed",
+    };
+    if let Some(names) = case.setting("in") {
+        return names.contains(name);
+    }
+    match group_of(case.call) {
+        Group::Fields | Group::Writes => true,
+        _ => kind == Kind::Indexed,
+    }
+}

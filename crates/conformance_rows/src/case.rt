@@ -1,0 +1,130 @@
+// Rows of a table, and what their settings say.
+
+ghost use Rattle.std.specs.Prelude.{IfOk};
+ghost use Rattle.buffa_wire.specs.Number.{IsNumber};
+
+use crate::fault::Fault;
+use buffa_wire::{DEFAULT_ELEMENT_MEMORY_LIMIT, DEFAULT_UNKNOWN_FIELD_LIMIT, MAX_FIELD_NUMBER};
+
+/// A row: what is called, on what, and what comes of it.
+#[derive(Clone, Copy)]
+pub struct Case<'a> {
+    /// What it shows.
+    pub name: &'a str,
+    /// The call.
+    pub call: &'a str,
+    /// The codecs, or the message.
+    pub types: &'a str,
+    /// What else the call is given, as `depth=1 number=5`; `-` for nothing.
+    pub settings: &'a str,
+    /// What stands before: the pairs of a map, records, a value; `-` for nothing.
+    pub before: &'a str,
+    /// What is read, in hexadecimal, or the value that is written; `-` for nothing.
+    pub input: &'a str,
+    /// `ok`, or the fault.
+    pub answer: &'a str,
+    /// What stands after.
+    pub after: &'a str,
+}
+
+/// The row of a line, or none.
+pub fn case_of(line: &str) -> Option<Case<'_>> {
+    let mut words = line.split('\t');
+    let name = words.next()?;
+    let call = words.next()?;
+    let types = words.next()?;
+    let settings = words.next()?;
+    let before = words.next()?;
+    let input = words.next()?;
+    let answer = words.next()?;
+    let after = words.next()?;
+    Some(Case {
+        name,
+        call,
+        types,
+        settings,
+        before,
+        input,
+        answer,
+        after,
+    })
+}
+
+/// A text, or none where it is `-`.
+pub fn given(text: &str) -> &str {
+    if text == "-" { "" } else { text }
+}
+
+/// A text, or `-` for none.
+pub fn or_dash(text: &str) -> &str {
+    if text.is_empty() { "-" } else { text }
+}
+
+impl<'a> Case<'a> {
+    /// What is read or written.
+    pub fn input(&self) -> &'a str {
+        given(self.input)
+    }
+
+    /// What stands before.
+    pub fn before(&self) -> &'a str {
+        given(self.before)
+    }
+
+    /// What a setting says, if it is there.
+    pub fn setting(&self, name: &str) -> Option<&'a str> {
+        for word in self.settings.split(' ') {
+            if let Some((front, said)) = word.split_once('=') {
+                if front == name {
+                    return Some(said);
+                }
+            }
+        }
+        None
+    }
+
+    // The number that a setting says, or another one.
+    fn number_or(&self, name: &str, other: u64) -> Result<u64, Fault> {
+        match self.setting(name) {
+            None => Ok(other),
+            Some(said) => Ok(said.parse::<u64>()?),
+        }
+    }
+
+    /// The depth; 10 where nothing is said.
+    pub fn depth(&self) -> Result<u32, Fault> {
+        match self.setting("depth") {
+            None => Ok(10),
+            Some(said) => Ok(said.parse::<u32>()?),
+        }
+    }
+
+    /// The field number; 5 where nothing is said.
+    pub fn number(&self) -> Result<u32, Fault> {
+        match self.setting("number") {
+            None => Ok(5),
+            Some(said) => Ok(said.parse::<u32>()?),
+        }
+    }
+
+    /// The field number, which has to be one that a field may have.
+    pub fn field_number(&self) -> Result<u32, Fault>
+        ensures { IfOk result IsNumber }
+    {
+        let number = self.number()?;
+        if number == 0 || number > MAX_FIELD_NUMBER {
+            return Err(Fault::Form);
+        }
+        Ok(number)
+    }
+
+    /// The slots of the budget.
+    pub fn slots(&self) -> Result<usize, Fault> {
+        Ok(self.number_or("slots", DEFAULT_UNKNOWN_FIELD_LIMIT as u64)? as usize)
+    }
+
+    /// The units of the budget.
+    pub fn units(&self) -> Result<usize, Fault> {
+        Ok(self.number_or("units", DEFAULT_ELEMENT_MEMORY_LIMIT as u64)? as usize)
+    }
+}

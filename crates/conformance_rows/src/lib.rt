@@ -1,0 +1,14 @@
+//! Rows of tables, and what comes of a call, in words.
+//!
+//! A row is a [`case::Case`], and what its call does an [`outcome::Outcome`]; [`words`] has values as words, [`calls`]
+//! what a call is given, and [`mark`] the lines before and after a call, between which memory may be refused.
+#![tactic(auto)]
+
+pub mod calls;
+pub mod case;
+pub mod cuts;
+pub mod fault;
+pub mod mark;
+pub mod outcome;
+pub mod tally;
+pub mod words;

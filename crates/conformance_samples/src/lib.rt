@@ -1,0 +1,149 @@
+//! Rows whose values are samples: their words, and which call is of which of them.
+#![tactic(auto)]
+
+mod words;
+
+use buffa_ext::codecs::{EnumCodec, GroupCodec, MessageCodec};
+use buffa_map::map_codec::{ClosedEnum, Int32, MapValueDecode, Msg, OpenEnum, ProtoStringMap, Str};
+use buffa_samples::count::CountMsg;
+use buffa_samples::flat::FlatMsg;
+use buffa_samples::hues::{New, Old};
+use buffa_samples::keep::BudgetMsg;
+use buffa_samples::tree::Tree;
+use buffa_samples::two::TestMsg;
+use buffa_samples::word::Word;
+use buffa_wire::{Buf, EnumValue};
+use conformance_extensions::{packable, plain};
+use conformance_maps::{Entries, Runs, hashed, ordered, stored};
+use conformance_rows::calls::Kind;
+use conformance_rows::case::Case;
+use conformance_rows::fault::Fault;
+use conformance_rows::mark::Mark;
+use conformance_rows::outcome::Outcome;
+use conformance_rows::words::Worded;
+use conformance_writes::Written;
+use std::alloc::Global;
+
+/// The words of samples.
+pub struct Samples;
+
+/// What comes of a row on an extension.
+pub fn extension(alloc: Global, case: &Case<'_>, mark: &mut Mark) -> Result<Outcome, Fault> {
+    match case.types {
+        "enum" => packable::<Samples, EnumValue<Old>, EnumCodec<Old>>(alloc, case, mark),
+        "flat" => plain::<Samples, FlatMsg, MessageCodec<FlatMsg>>(alloc, case, mark),
+        "two" => plain::<Samples, TestMsg, MessageCodec<TestMsg>>(alloc, case, mark),
+        "count" => plain::<Samples, CountMsg, MessageCodec<CountMsg>>(alloc, case, mark),
+        "keep" => plain::<Samples, BudgetMsg, MessageCodec<BudgetMsg>>(alloc, case, mark),
+        "two-group" => plain::<Samples, TestMsg, GroupCodec<TestMsg>>(alloc, case, mark),
+        "count-group" => plain::<Samples, CountMsg, GroupCodec<CountMsg>>(alloc, case, mark),
+        "keep-group" => plain::<Samples, BudgetMsg, GroupCodec<BudgetMsg>>(alloc, case, mark),
+        _ => conformance_extensions::extension::<Samples>(alloc, case, mark),
+    }
+}
+
+/// What comes of a row that sizes or writes a map in this storage; none where its types don't go there.
+pub fn writes(
+    alloc: Global,
+    case: &Case<'_>,
+    kind: Kind,
+    mark: &mut Mark,
+) -> Result<Option<Outcome>, Fault> {
+    match case.types {
+        "int32,open" => {
+            stored::<Samples, Int32, OpenEnum<Old>, _>(alloc, case, kind, mark, Written)
+        }
+        "word,int32" => {
+            hashed::<Samples, ProtoStringMap<Word>, Int32, _>(alloc, case, kind, mark, Written)
+        }
+        _ => conformance_writes::writes::<Samples>(alloc, case, kind, mark),
+    }
+}
+
+/// What comes of a row of a key kind and a value kind, with a comma between them.
+pub fn kinds(
+    alloc: Global,
+    case: &Case<'_>,
+    mark: &mut Mark,
+    bytes: &[u8],
+) -> Result<Outcome, Fault> {
+    conformance_writes::kinds::<Samples>(alloc, case, mark, bytes)
+}
+
+/// What comes of a row on a message, or on a map of them.
+pub fn message(
+    alloc: Global,
+    case: &Case<'_>,
+    kind: Kind,
+    mark: &mut Mark,
+    bytes: &[u8],
+) -> Result<Outcome, Fault> {
+    match case.types {
+        "flat" => conformance_writes::message::<Samples, FlatMsg>(alloc, case, kind, mark, bytes),
+        "two" => conformance_writes::message::<Samples, TestMsg>(alloc, case, kind, mark, bytes),
+        "count" => conformance_writes::message::<Samples, CountMsg>(alloc, case, kind, mark, bytes),
+        "keep" => conformance_writes::message::<Samples, BudgetMsg>(alloc, case, kind, mark, bytes),
+        "tree" => conformance_writes::message::<Samples, Tree>(alloc, case, kind, mark, bytes),
+        _ => Err(Fault::Form),
+    }
+}
+
+// Entries and runs of messages, which no rewrite writes.
+fn of_messages<V: Worded<Samples>, VC: MapValueDecode<Value = V>, B: Buf>(
+    alloc: Global,
+    case: &Case<'_>,
+    kind: Kind,
+    mark: &mut Mark,
+    buf: &mut B,
+) -> Result<Option<Outcome>, Fault> {
+    stored::<Samples, Int32, VC, _>(alloc, case, kind, mark, Runs { buf })
+}
+
+// Pairs of words and enums.
+fn of_words<B: Buf>(
+    alloc: Global,
+    case: &Case<'_>,
+    kind: Kind,
+    mark: &mut Mark,
+    buf: &mut B,
+) -> Result<Option<Outcome>, Fault> {
+    let call = Entries { buf };
+    match case.types {
+        "int32,old" => stored::<Samples, Int32, ClosedEnum<Old>, _>(alloc, case, kind, mark, call),
+        "int32,new" => stored::<Samples, Int32, ClosedEnum<New>, _>(alloc, case, kind, mark, call),
+        "int32,open" => stored::<Samples, Int32, OpenEnum<Old>, _>(alloc, case, kind, mark, call),
+        "string,old" => stored::<Samples, Str, ClosedEnum<Old>, _>(alloc, case, kind, mark, call),
+        "word,int32" => {
+            hashed::<Samples, ProtoStringMap<Word>, Int32, _>(alloc, case, kind, mark, call)
+        }
+        "word,old" => {
+            hashed::<Samples, ProtoStringMap<Word>, ClosedEnum<Old>, _>(
+                alloc, case, kind, mark, call,
+            )
+        }
+        "word,new" => {
+            hashed::<Samples, ProtoStringMap<Word>, ClosedEnum<New>, _>(
+                alloc, case, kind, mark, call,
+            )
+        }
+        "old,int32" => ordered::<Samples, ClosedEnum<Old>, Int32, _>(alloc, case, kind, mark, call),
+        _ => conformance_maps::fields::<Samples, B>(alloc, case, kind, mark, call.buf),
+    }
+}
+
+/// What comes of a row that reads entries or a run into this storage; none where its types don't go there.
+pub fn fields<B: Buf>(
+    alloc: Global,
+    case: &Case<'_>,
+    kind: Kind,
+    mark: &mut Mark,
+    buf: &mut B,
+) -> Result<Option<Outcome>, Fault> {
+    match case.types {
+        "int32,flat" => of_messages::<FlatMsg, Msg<FlatMsg>, B>(alloc, case, kind, mark, buf),
+        "int32,two" => of_messages::<TestMsg, Msg<TestMsg>, B>(alloc, case, kind, mark, buf),
+        "int32,keep" => of_messages::<BudgetMsg, Msg<BudgetMsg>, B>(alloc, case, kind, mark, buf),
+        "int32,tree" => of_messages::<Tree, Msg<Tree>, B>(alloc, case, kind, mark, buf),
+        _ => of_words::<B>(alloc, case, kind, mark, buf),
+    }
+}

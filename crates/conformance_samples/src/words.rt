@@ -1,0 +1,152 @@
+// Values of samples as words.
+
+use crate::Samples;
+use buffa_map::map_codec::MapWalk;
+use buffa_samples::count::CountMsg;
+use buffa_samples::flat::FlatMsg;
+use buffa_samples::hues::{New, Old};
+use buffa_samples::keep::BudgetMsg;
+use buffa_samples::tree::Tree;
+use buffa_samples::two::TestMsg;
+use buffa_samples::word::Word;
+use buffa_wire::{EnumValue, Enumeration};
+use conformance_rows::fault::Fault;
+use conformance_rows::words::{Worded, records_of, records_word, text_word, word_text};
+use std::alloc::Global;
+
+impl Worded<Samples> for Word {
+    fn word(&self, alloc: Global) -> Result<String, Fault> {
+        text_word(alloc, self.text.as_str())
+    }
+
+    fn of_word(alloc: Global, word: &str) -> Result<Word, Fault> {
+        let text = word_text(alloc, word)?;
+        Ok(Word { text })
+    }
+}
+
+impl Worded<Samples> for Old {
+    fn word(&self, alloc: Global) -> Result<String, Fault> {
+        Ok(format!(in alloc; "{}", self.to_i32())?)
+    }
+
+    fn of_word(_alloc: Global, word: &str) -> Result<Old, Fault> {
+        match Old::from_i32(word.parse::<i32>()?) {
+            Some(value) => Ok(value),
+            None => Err(Fault::Form),
+        }
+    }
+}
+
+impl Worded<Samples> for New {
+    fn word(&self, alloc: Global) -> Result<String, Fault> {
+        Ok(format!(in alloc; "{}", self.to_i32())?)
+    }
+
+    fn of_word(_alloc: Global, word: &str) -> Result<New, Fault> {
+        match New::from_i32(word.parse::<i32>()?) {
+            Some(value) => Ok(value),
+            None => Err(Fault::Form),
+        }
+    }
+}
+
+// A declared value is known; any other stands behind a question mark.
+impl Worded<Samples> for EnumValue<Old> {
+    fn word(&self, alloc: Global) -> Result<String, Fault> {
+        match self {
+            EnumValue::Known(_) => Ok(format!(in alloc; "{}", self.to_i32())?),
+            EnumValue::Unknown(n) => Ok(format!(in alloc; "?{n}")?),
+        }
+    }
+
+    fn of_word(_alloc: Global, word: &str) -> Result<EnumValue<Old>, Fault> {
+        match word.strip_prefix('?') {
+            Some(number) => Ok(EnumValue::Unknown(number.parse::<i32>()?)),
+            None => Ok(EnumValue::from_i32(word.parse::<i32>()?)),
+        }
+    }
+}
+
+impl Worded<Samples> for FlatMsg {
+    fn word(&self, alloc: Global) -> Result<String, Fault> {
+        Ok(format!(in alloc; "{}", self.value)?)
+    }
+
+    fn of_word(alloc: Global, word: &str) -> Result<FlatMsg, Fault> {
+        let value = word.parse::<i32>()?;
+        Ok(FlatMsg { value })
+    }
+}
+
+// Both numbers, with a comma between them.
+impl Worded<Samples> for TestMsg {
+    fn word(&self, alloc: Global) -> Result<String, Fault> {
+        Ok(format!(in alloc; "{},{}", self.a, self.b)?)
+    }
+
+    fn of_word(alloc: Global, word: &str) -> Result<TestMsg, Fault> {
+        let Some((a, b)) = word.split_once(',') else {
+            return Err(Fault::Form);
+        };
+        let a = a.parse::<i32>()?;
+        let b = b.parse::<i32>()?;
+        Ok(TestMsg { a, b })
+    }
+}
+
+impl Worded<Samples> for CountMsg {
+    fn word(&self, alloc: Global) -> Result<String, Fault> {
+        Ok(format!(in alloc; "{}", self.count)?)
+    }
+
+    fn of_word(alloc: Global, word: &str) -> Result<CountMsg, Fault> {
+        let count = word.parse::<u64>()?;
+        Ok(CountMsg { count })
+    }
+}
+
+// The text of the fields.
+impl Worded<Samples> for BudgetMsg {
+    fn word(&self, alloc: Global) -> Result<String, Fault> {
+        let digits = records_word(alloc, &self.fields)?;
+        Ok(format!(in alloc; "x{digits}")?)
+    }
+
+    fn of_word(alloc: Global, word: &str) -> Result<BudgetMsg, Fault> {
+        let Some(digits) = word.strip_prefix('x') else {
+            return Err(Fault::Form);
+        };
+        let fields = records_of(alloc, digits)?;
+        Ok(BudgetMsg { fields })
+    }
+}
+
+// The text of a tree so far, and one child more.
+fn with_child(alloc: Global, text: &str, key: i32, child: &str) -> Result<String, Fault> {
+    Ok(format!(in alloc; "{text}{key}:{child};")?)
+}
+
+// The words of a tree that has at most so many levels below its own.
+fn tree_word(alloc: Global, tree: &Tree, levels: u32) -> Result<String, Fault> {
+    if levels == 0 {
+        return Ok(String::from_str(alloc, "..")?);
+    }
+    let mut text = String::new(alloc);
+    for (key, child) in tree.children.storage_iter() {
+        let words = tree_word(alloc, child, levels - 1)?;
+        text = with_child(alloc, text.as_str(), *key, words.as_str())?;
+    }
+    Ok(format!(in alloc; "{}({text})", tree.label)?)
+}
+
+// The label, and the children by their keys: `0(1:5();)`; no value is read of a word.
+impl Worded<Samples> for Tree {
+    fn word(&self, alloc: Global) -> Result<String, Fault> {
+        tree_word(alloc, self, 9)
+    }
+
+    fn of_word(_alloc: Global, _word: &str) -> Result<Tree, Fault> {
+        Err(Fault::Form)
+    }
+}

@@ -1,0 +1,148 @@
+// Fields of every kind of key and value.
+
+use crate::sizes::tag_len_of;
+use buffa_map::map_codec::{
+    Bool, BytesVec, Fixed32, Fixed64, Int32, Int64, Map, MapCodec, MapStorage, MapWrite, Sfixed32,
+    Sfixed64, Sint32, Sint64, Str, Uint32, Uint64, read_map_field,
+};
+use buffa_wire::{Budget, DecodeContext, DecodeError, MapKey};
+use conformance_maps::Store;
+use conformance_rows::case::Case;
+use conformance_rows::fault::Fault;
+use conformance_rows::mark::Mark;
+use conformance_rows::outcome::{Outcome, told};
+use conformance_rows::words::Worded;
+use std::alloc::Global;
+use std::hash::Hash;
+
+// Whether a map is written as these bytes, and has their length.
+fn is_written<
+    By,
+    KC: MapCodec,
+    VC: MapCodec,
+    C: Store<By> + MapStorage<Key = KC::Value, Value = VC::Value>,
+>(alloc: Global, map: &C, case: &Case<'_>, bytes: &[u8]) -> Result<bool, Fault> {
+    let number = case.field_number()?;
+    let mut text = Vec::new(alloc);
+    let answer = map.storage_write::<KC, VC, Vec<u8>>(number, &mut text);
+    let len = map.len_of::<KC, VC>(tag_len_of(number));
+    Ok(answer.is_ok() && text.as_slice() == bytes && len == bytes.len() as u64)
+}
+
+// Reads a map field at depth 0, with a budget of no slots.
+fn read<KC: MapCodec, VC: MapCodec, C: MapStorage<Key = KC::Value, Value = VC::Value>>(
+    alloc: Global,
+    map: &mut C,
+    number: u32,
+    bytes: &[u8],
+) -> Result<(), DecodeError> {
+    let mut budget = Budget::new(0);
+    let ctx = DecodeContext::new(0, &mut budget);
+    let mut rest = bytes;
+    read_map_field::<KC, VC, C, &[u8]>(alloc, map, number, &mut rest, ctx, None)
+}
+
+// The word of an answer; another one where what was read isn't written back.
+fn answer_told(
+    alloc: Global,
+    answer: Result<(), DecodeError>,
+    is_written: bool,
+) -> Result<String, Fault> {
+    if !is_written {
+        return Ok(String::from_str(alloc, "not written back")?);
+    }
+    told(alloc, answer)
+}
+
+// What comes of a row of these kinds: the pairs that are read.
+fn field<
+    By,
+    KC: MapCodec,
+    VC: MapCodec,
+    C: Store<By> + MapStorage<Key = KC::Value, Value = VC::Value>,
+>(alloc: Global, case: &Case<'_>, mark: &mut Mark, bytes: &[u8]) -> Result<Outcome, Fault> {
+    let number = case.number()?;
+    let mut map = C::filled(alloc, "")?;
+    mark.begin(alloc);
+    let answer = read::<KC, VC, C>(alloc, &mut map, number, bytes);
+    let refused = mark.end();
+    let written = answer.is_err() || is_written::<By, KC, VC, C>(alloc, &map, case, bytes)?;
+    let answer = answer_told(alloc, answer, written);
+    Outcome::of_words(
+        alloc,
+        answer,
+        map.words(alloc),
+        Ok(String::new(alloc)),
+        refused,
+    )
+}
+
+// The same in a `Map`.
+fn in_a_map<By, KC: MapCodec, VC: MapCodec>(
+    alloc: Global,
+    case: &Case<'_>,
+    mark: &mut Mark,
+    bytes: &[u8],
+) -> Result<Outcome, Fault>
+where
+    KC::Value: MapKey + Hash + Worded<By>,
+    VC::Value: Worded<By>,
+{
+    field::<By, KC, VC, Map<KC::Value, VC::Value>>(alloc, case, mark, bytes)
+}
+
+// The same of a row with this kind of key.
+fn of_value<By, KC: MapCodec>(
+    alloc: Global,
+    case: &Case<'_>,
+    value: &str,
+    mark: &mut Mark,
+    bytes: &[u8],
+) -> Result<Outcome, Fault>
+where
+    KC::Value: MapKey + Hash + Worded<By>,
+{
+    match value {
+        "int32" => in_a_map::<By, KC, Int32>(alloc, case, mark, bytes),
+        "int64" => in_a_map::<By, KC, Int64>(alloc, case, mark, bytes),
+        "uint32" => in_a_map::<By, KC, Uint32>(alloc, case, mark, bytes),
+        "uint64" => in_a_map::<By, KC, Uint64>(alloc, case, mark, bytes),
+        "sint32" => in_a_map::<By, KC, Sint32>(alloc, case, mark, bytes),
+        "sint64" => in_a_map::<By, KC, Sint64>(alloc, case, mark, bytes),
+        "bool" => in_a_map::<By, KC, Bool>(alloc, case, mark, bytes),
+        "fixed32" => in_a_map::<By, KC, Fixed32>(alloc, case, mark, bytes),
+        "fixed64" => in_a_map::<By, KC, Fixed64>(alloc, case, mark, bytes),
+        "sfixed32" => in_a_map::<By, KC, Sfixed32>(alloc, case, mark, bytes),
+        "sfixed64" => in_a_map::<By, KC, Sfixed64>(alloc, case, mark, bytes),
+        "string" => in_a_map::<By, KC, Str>(alloc, case, mark, bytes),
+        "bytes" => in_a_map::<By, KC, BytesVec>(alloc, case, mark, bytes),
+        _ => Err(Fault::Form),
+    }
+}
+
+/// What comes of a row of a key kind and a value kind, with a comma between them.
+pub fn kinds<By>(
+    alloc: Global,
+    case: &Case<'_>,
+    mark: &mut Mark,
+    bytes: &[u8],
+) -> Result<Outcome, Fault> {
+    let Some((key, value)) = case.types.split_once(',') else {
+        return Err(Fault::Form);
+    };
+    match key {
+        "int32" => of_value::<By, Int32>(alloc, case, value, mark, bytes),
+        "int64" => of_value::<By, Int64>(alloc, case, value, mark, bytes),
+        "uint32" => of_value::<By, Uint32>(alloc, case, value, mark, bytes),
+        "uint64" => of_value::<By, Uint64>(alloc, case, value, mark, bytes),
+        "sint32" => of_value::<By, Sint32>(alloc, case, value, mark, bytes),
+        "sint64" => of_value::<By, Sint64>(alloc, case, value, mark, bytes),
+        "bool" => of_value::<By, Bool>(alloc, case, value, mark, bytes),
+        "fixed32" => of_value::<By, Fixed32>(alloc, case, value, mark, bytes),
+        "fixed64" => of_value::<By, Fixed64>(alloc, case, value, mark, bytes),
+        "sfixed32" => of_value::<By, Sfixed32>(alloc, case, value, mark, bytes),
+        "sfixed64" => of_value::<By, Sfixed64>(alloc, case, value, mark, bytes),
+        "string" => of_value::<By, Str>(alloc, case, value, mark, bytes),
+        _ => Err(Fault::Form),
+    }
+}

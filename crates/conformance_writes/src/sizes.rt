@@ -1,0 +1,143 @@
+// Calls that size and write map fields.
+
+ghost use Rattle.buffa_wire.specs.Number.{IsNumber};
+
+use buffa_map::map_codec::{
+    Bool, BytesBuf, BytesVec, Fixed32, Fixed64, Int32, MapCodec, MapStorage, ProtoBytesMap,
+    ProtoStringMap, Sint32, Str,
+};
+use buffa_wire::EncodeError;
+use conformance_maps::{OnMap, Store, stored};
+use conformance_rows::calls::Kind;
+use conformance_rows::case::Case;
+use conformance_rows::fault::Fault;
+use conformance_rows::mark::Mark;
+use conformance_rows::outcome::{Outcome, got, text_told, written};
+use std::alloc::Global;
+
+/// The bytes of the tag of a map field.
+pub fn tag_len_of(number: u32) -> u64 {
+    if number < 16 {
+        1
+    } else if number < 2048 {
+        2
+    } else {
+        5
+    }
+}
+
+// Writes a map, with its length before it where the row asks for both.
+fn write<
+    By,
+    KC: MapCodec,
+    VC: MapCodec,
+    C: Store<By> + MapStorage<Key = KC::Value, Value = VC::Value>,
+>(map: &C, sized: bool, number: u32, text: &mut Vec<u8>) -> Result<u64, EncodeError>
+    requires { IsNumber number }
+{
+    if sized {
+        return map.sized::<KC, VC>(number, text);
+    }
+    map.storage_write::<KC, VC, Vec<u8>>(number, text)?;
+    Ok(map.len_of::<KC, VC>(tag_len_of(number)))
+}
+
+// A length and a number of pairs; nothing where the map wasn't written.
+fn pairs_told(alloc: Global, len: Result<u64, EncodeError>, pairs: usize) -> Result<String, Fault> {
+    match len {
+        Ok(len) => Ok(format!(in alloc; "{len} {pairs}")?),
+        Err(_) => Ok(String::new(alloc)),
+    }
+}
+
+// What comes of a write: the length and the text; and how many pairs there are.
+fn writing<
+    By,
+    KC: MapCodec,
+    VC: MapCodec,
+    C: Store<By> + MapStorage<Key = KC::Value, Value = VC::Value>,
+>(alloc: Global, case: &Case<'_>, mark: &mut Mark) -> Result<Outcome, Fault> {
+    let number = case.field_number()?;
+    let map = C::filled(alloc, case.before())?;
+    let mut text = Vec::new(alloc);
+    mark.begin(alloc);
+    let len = write::<By, KC, VC, C>(&map, case.call == "size-and-write", number, &mut text);
+    let refused = mark.end();
+    let words = pairs_told(alloc, len, map.storage_len());
+    let text = text_told(alloc, text.as_slice());
+    Outcome::of_words(alloc, written(alloc, len), words, text, refused)
+}
+
+// A length, and how many pairs there are before and after.
+fn sizes_told(alloc: Global, len: u64, pairs: usize, after: usize) -> Result<String, Fault> {
+    Ok(format!(in alloc; "{len} {pairs} {after}")?)
+}
+
+// How long a map field is; nothing is written.
+fn sizing<
+    By,
+    KC: MapCodec,
+    VC: MapCodec,
+    C: Store<By> + MapStorage<Key = KC::Value, Value = VC::Value>,
+>(alloc: Global, case: &Case<'_>, mark: &mut Mark) -> Result<Outcome, Fault> {
+    let tag_len = u64::from(case.number()?);
+    let mut map = C::filled(alloc, case.before())?;
+    mark.begin(alloc);
+    let len = map.len_of::<KC, VC>(tag_len);
+    let pairs = map.storage_len();
+    map.storage_clear();
+    let refused = mark.end();
+    let words = sizes_told(alloc, len, pairs, map.storage_len());
+    Outcome::of_words(
+        alloc,
+        got(alloc, true),
+        words,
+        Ok(String::new(alloc)),
+        refused,
+    )
+}
+
+/// A map that is sized or written.
+#[derive(Drop)]
+pub struct Written;
+
+impl<By, KC: MapCodec, VC: MapCodec> OnMap<By, KC, VC> for Written {
+    fn on_map<C: Store<By> + MapStorage<Key = KC::Value, Value = VC::Value>>(
+        self,
+        alloc: Global,
+        case: &Case<'_>,
+        mark: &mut Mark,
+    ) -> Result<Outcome, Fault> {
+        match case.call {
+            "size" => sizing::<By, KC, VC, C>(alloc, case, mark),
+            _ => writing::<By, KC, VC, C>(alloc, case, mark),
+        }
+    }
+}
+
+/// What comes of a row that sizes or writes a map of numbers, texts or bytes in this storage.
+pub fn writes<By>(
+    alloc: Global,
+    case: &Case<'_>,
+    kind: Kind,
+    mark: &mut Mark,
+) -> Result<Option<Outcome>, Fault> {
+    match case.types {
+        "string,int32" => stored::<By, Str, Int32, _>(alloc, case, kind, mark, Written),
+        "own-string,int32" => {
+            stored::<By, ProtoStringMap<String>, Int32, _>(alloc, case, kind, mark, Written)
+        }
+        "int32,string" => stored::<By, Int32, Str, _>(alloc, case, kind, mark, Written),
+        "int32,own-string" => {
+            stored::<By, Int32, ProtoStringMap<String>, _>(alloc, case, kind, mark, Written)
+        }
+        "int32,bytes" => stored::<By, Int32, BytesVec, _>(alloc, case, kind, mark, Written),
+        "int32,shared-bytes" => stored::<By, Int32, BytesBuf, _>(alloc, case, kind, mark, Written),
+        "int32,own-bytes" => {
+            stored::<By, Int32, ProtoBytesMap<Vec<u8>>, _>(alloc, case, kind, mark, Written)
+        }
+        "sint32,bool" => stored::<By, Sint32, Bool, _>(alloc, case, kind, mark, Written),
+        "fixed32,fixed64" => stored::<By, Fixed32, Fixed64, _>(alloc, case, kind, mark, Written),
+        _ => Err(Fault::Form),
+    }
+}

@@ -1,0 +1,244 @@
+#!/usr/bin/env python3
+"""Runs the program `conformance` on random rows, with ample memory and with memory refused: tests/random_rows.py [SEED [ROWS]].
+
+Fields, entries, runs, Items, messages and records are made at random, well formed or with a byte changed, cut or put in;
+`rules.py` says what must come of each. The program runs each in all storages, cut at every place, and beginning by
+beginning. Needs gcc, and the program as `rt ci` or `rt run` left it.
+"""
+import os
+import random
+import subprocess
+import sys
+import tempfile
+
+sys.dont_write_bytecode = True
+from rules import (
+    BYTES, DELIMITED, EIGHT, END, FOUR, KINDS, MESSAGES, START, STRINGS, VARINT, Fault, delimited, of_word, plain, put,
+    records, tag_text, varint_text,
+)
+from second_reading import TOP, Row
+
+PAIRS = (
+    "string,int32 int32,int32 int32,bool int32,uint32 int32,string int32,bytes int32,shared-bytes own-string,own-bytes "
+    "word,int32 int32,old int32,new int32,open string,old word,old word,new int32,flat int32,two int32,keep int32,tree "
+    "old,int32"
+).split()
+NUMBERS = "int32 int64 uint32 uint64 sint32 sint64 bool fixed32 fixed64 sfixed32 sfixed64 number enum".split()
+OTHERS = "string bytes flat two count keep two-group count-group keep-group".split()
+CALLS = "entry entry entry entry unlisted run run rewrite item skip unknown records varint merge merge get get one".split()
+VALUES = {
+    "bool": "true", "string": '"q"', "bytes": "x01", "own-bytes": "x01", "shared-bytes": "x01", "open": "?7", "flat": "4",
+    "two": "4,5", "keep": "x0805", "old": "1", "new": "2", "int32": "6", "uint32": "6",
+}
+STANDING = {"flat": "0809", "two": "08051007", "count": "4800", "keep": "0805", "tree": "0807"}
+TEXTS = [b"", b"a", b"A", b"b", b"Bee", b"BEE", b"x y", b"\xc3\xa9", b"\xff", b"\xc0\x80", b"\xed\xa0\x80", b"\0", b"z" * 130]
+AT_LIMITS = [0, 1, 2, 3, 5, 99, 127, 128, 2**31 - 1, 2**31, 2**32 - 1, 2**32, 2**32 + 1, 2**63, 2**64 - 2**31, 2**64 - 1]
+
+
+class Maker:
+    """Bytes at random."""
+
+    def __init__(self, seed):
+        self.any = random.Random(seed)
+
+    def pick(self, *choices):
+        return self.any.choice(choices)
+
+    def is_one_in(self, count):
+        return self.any.random() * count < 1
+
+    def varint(self, number):
+        text = bytearray(varint_text(number))
+        while self.is_one_in(10) and len(text) < 11:
+            text[-1] |= 128
+            text.append(0)
+        return bytes(text)
+
+    def number(self):
+        return self.pick(self.any.choice(AT_LIMITS), self.any.getrandbits(self.any.randint(1, 64)))
+
+    def bytes(self, most):
+        return self.any.randbytes(self.any.randint(0, most))
+
+    def field(self, number, wire, levels):
+        tag = self.varint(number * 8 + wire)
+        if wire == VARINT:
+            return tag + self.varint(self.number())
+        if wire in (EIGHT, FOUR):
+            return tag + self.any.randbytes(8 if wire == EIGHT else 4)
+        if wire == DELIMITED:
+            text = self.pick(self.any.choice(TEXTS), self.bytes(4), self.fields(levels - 1))
+            return tag + self.varint(len(text)) + text
+        if wire == START:
+            return tag + self.fields(levels - 1) + self.varint((number + self.is_one_in(15)) * 8 + END)
+        return tag
+
+    def fields(self, levels, most=3):
+        """Some fields; none where no level is left."""
+        count = self.any.randint(0, most) if levels > 0 else 0
+        numbers, wires = [1, 1, 2, 2, 3, 9, 536870911], [VARINT, VARINT, DELIMITED, DELIMITED, START, EIGHT, FOUR]
+        return b"".join(
+            self.field(self.any.choice(numbers), END if self.is_one_in(50) else self.any.choice(wires), levels)
+            for _ in range(count)
+        )
+
+    def of_kind(self, kind, number):
+        """A field that holds a value of a kind."""
+        wire = KINDS[kind][0]
+        tag = self.varint(number * 8 + wire)
+        if wire == VARINT:
+            return tag + self.varint(self.pick(0, 1, 2, 99, self.number()))
+        if wire in (EIGHT, FOUR):
+            return tag + self.any.randbytes(8 if wire == EIGHT else 4)
+        text = self.message(kind, 3) if kind in MESSAGES else self.any.choice(TEXTS)
+        return tag + self.varint(len(text)) + text
+
+    def message(self, kind, levels):
+        text = b""
+        for _ in range(self.any.randint(0, 3)):
+            if kind == "tree" and levels > 0 and self.is_one_in(2):
+                child = b"" if self.is_one_in(3) else b"\x12" + delimited(self.message("tree", levels - 1))
+                text += b"\x12" + delimited(self.of_kind("int32", 1) + child)
+            elif self.is_one_in(2):
+                number = {"count": 9, "two": self.pick(1, 2)}.get(kind, 1)
+                text += tag_text(number, VARINT) + self.varint(self.number())
+            else:
+                text += self.field(self.pick(3, 4, 5), self.pick(VARINT, EIGHT, DELIMITED, START, FOUR), levels)
+        return text
+
+    def mutated(self, text):
+        """The bytes, or with one of them changed, put in or taken out, or cut off."""
+        if not text or self.is_one_in(2):
+            return text
+        at = self.any.randrange(len(text))
+        before, byte, after = text[:at], text[at : at + 1], text[at + 1 :]
+        bit = bytes([byte[0] ^ 1 << self.any.randrange(8)])
+        return self.pick(before, before + self.any.randbytes(1) + after, before + bit + after, before + bit + byte + after, before + after)
+
+    def entry(self, kinds):
+        text = b""
+        for _ in range(self.pick(1, 2, 2, 2, 3, 4)):
+            other = self.field(self.pick(3, 4, 16), self.pick(VARINT, EIGHT, DELIMITED, START, FOUR), 3)
+            text += self.pick(self.of_kind(kinds[0], 1), self.of_kind(kinds[1], 2), self.of_kind(kinds[1], 2), other)
+        text = self.mutated(text) if self.is_one_in(3) else text
+        length = len(text) if not self.is_one_in(20) else abs(len(text) + self.pick(-1, 1))
+        return self.varint(length) + text
+
+    def item(self):
+        text = b""
+        for _ in range(self.any.randint(0, 4)):
+            text += self.pick(
+                self.varint(16) + self.varint(self.pick(1, 5, 127, 128, 2**31 - 1, 2**31, 0)),
+                b"\x10" + self.varint(5),
+                self.field(3, DELIMITED, 2),
+                self.field(self.pick(1, 2, 3, 4), self.pick(VARINT, EIGHT, DELIMITED, START, FOUR), 2),
+            )
+        return text + self.pick(b"\x0c", b"\x0c", b"\x0c\xff", b"\x14", b"")
+
+    def record(self, codec):
+        """A record of number 1: of the codec, packed, or any other."""
+        kind = plain(codec)
+        if self.is_one_in(4):
+            return self.field(self.pick(1, 1, 2), self.pick(VARINT, EIGHT, DELIMITED, START, FOUR), 2)
+        if codec.endswith("-group"):
+            return b"\x0b" + self.pick(b"", self.message(kind, 1)) + b"\x0c"
+        if kind in MESSAGES:
+            return b"\x0a" + delimited(self.mutated(self.message(kind, 3)))
+        if kind in STRINGS | BYTES or not self.is_one_in(3):
+            return self.of_kind(kind, 1)
+        return b"\x0a" + delimited(self.mutated(b"".join(self.of_kind(kind, 1)[1:] for _ in range(self.any.randint(0, 3)))))
+
+    def settings(self):
+        said = [f"depth={self.pick(0, 1, 2, 3, 4, 10, 10, 10)}"]
+        said += [f"slots={self.pick(0, 1, 2, 3, 9)}"] if self.is_one_in(3) else []
+        said += [f"units={self.pick(0, 7, 8, 27, 28, 35, 36, 56, 57, 72, 100, 1000)}"] if self.is_one_in(3) else []
+        return said
+
+    def standing(self, kinds):
+        """The pairs of a map, none twice."""
+        if kinds[1] not in VALUES or self.is_one_in(2):
+            return "-"
+        pairs = {}
+        for _ in range(self.pick(1, 2)):
+            key = self.pick('"a"', '"Bee"', '"z"', "xc3a9") if kinds[0] in STRINGS else self.pick("0", "1")
+            put(kinds[0], pairs, of_word(kinds[0], key), f"{key}={VALUES[kinds[1]]}")
+        return " ".join(pairs.values())
+
+    def map_row(self, call):
+        types = self.any.choice([it for it in PAIRS if call != "rewrite" or it.split(",")[1] not in MESSAGES])
+        kinds, number, settings = types.split(","), self.pick(5, 5, 1, 16, 536870911), self.settings()
+        settings += [f"number={number}"]
+        settings += [self.pick("list=-", "list=3a0107")] if call in ("entry", "run") and self.is_one_in(2) else []
+        settings += ["in=indexed"] if call == "rewrite" and kinds[0] != "old" else []
+        if call in ("entry", "unlisted"):
+            text = self.entry(kinds) + self.pick(b"", b"", b"\xff")
+        else:
+            text = b"".join(
+                self.field(self.pick(number, 6), self.any.randrange(6), 2)
+                if self.is_one_in(15)
+                else self.varint(number * 8 + DELIMITED) + self.entry(kinds)
+                for _ in range(self.any.randint(0, 4))
+            )
+        return types, settings, self.standing(kinds), self.mutated(text)
+
+    def extension_row(self, call):
+        codec = self.any.choice(NUMBERS + OTHERS)
+        text = b"".join(self.record(codec) for _ in range(self.any.randint(1, 4)))
+        before = "".join(it[2].hex() for it in records(text)) or "-"
+        if call == "one":
+            return "decode-one-ctx", codec, [f"depth={self.pick(0, 1, 2)}", f"slots={self.pick(0, 1, 2, 9)}"], before
+        how = self.pick("", "how=all", "how=packed" if codec in NUMBERS else "how=all")
+        return call, codec, ["number=1", how], before
+
+    def row(self):
+        """A row without its answer."""
+        call, types, settings, before, text = self.any.choice(CALLS), "-", [], "-", b""
+        if call in ("entry", "unlisted", "run", "rewrite"):
+            types, settings, before, text = self.map_row(call)
+        elif call in ("get", "one"):
+            call, types, settings, before = self.extension_row(call)
+        elif call == "merge":
+            types, settings = self.any.choice(sorted(MESSAGES)), self.settings()
+            before, text = self.pick("-", STANDING[types]), self.mutated(self.message(types, 3))
+        elif call == "item":
+            settings, text = self.settings(), self.mutated(self.item())
+        elif call == "varint":
+            text = self.mutated(self.varint(self.number()))
+        else:
+            settings = self.settings() if call == "unknown" else [f"depth={self.pick(0, 1, 2, 3)}"]
+            text = self.mutated(self.fields(3) + self.pick(b"", b"\x07"))
+        return "\t".join(["random", call, types, " ".join(it for it in settings if it) or "-", before, text.hex() or "-"])
+
+
+def made(seed, count):
+    """So many different rows, with their answers."""
+    maker, found = Maker(seed), set()
+    while len(found) < count:
+        try:
+            line = maker.row()
+        except Fault:
+            continue
+        row = Row(f"{line}\t-\t-")
+        in_order = row.kinds[0] == "old"
+        answer, after = row.outcome(in_order)
+        if len(line) < 4000:
+            found.add(f"{line}\t{answer}\t{after}")
+    return "".join(f"{line}\n" for line in sorted(found))
+
+
+def main():
+    seed, count = (int(it) for it in (sys.argv[1:] + ["1", "20000"][len(sys.argv) - 1 :])[:2])
+    text = made(seed, count).encode()
+    program, failed = f"{TOP}/crates/conformance/out/conformance", False
+    with tempfile.TemporaryDirectory(prefix="random-rows-") as room:
+        library = f"{room}/refuse.so"
+        subprocess.run(["gcc", "-O2", "-shared", "-fPIC", "-o", library, f"{TOP}/tests/refuse.c"], check=True)
+        for words, env in (([], None), (["refused"], {"LD_PRELOAD": library, "REFUSE_CALLS": "1"})):
+            done = subprocess.run([program, *words], input=text, env=env, capture_output=True, timeout=600, check=False)
+            print(f"random rows, seed {seed}{', memory refused' if words else ''}: {done.stdout.decode()[-3000:].strip()}")
+            failed |= done.returncode != 0 or not done.stdout.endswith(b"%d held, 0 did not\n" % count)
+    return 1 if failed else 0
+
+
+if __name__ == "__main__":
+    sys.exit(main())

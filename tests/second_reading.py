@@ -1,0 +1,416 @@
+#!/usr/bin/env python3
+"""Judges the rows of vectors/ by a second reading of the rules: tests/second_reading.py [TABLE..].
+
+`rules.py` has the rules, in Python, and shares no line with the crates. Each row's answer and state have to be what it
+finds; so an answer that was taken from the program's own output would be seen, unless both are wrong alike.
+`random_rows.py` makes rows by it.
+"""
+import glob
+import os
+import re
+import sys
+
+sys.dont_write_bytecode = True
+from rules import (
+    DELIMITED, EIGHT, END, FOUR, KINDS, MESSAGES, MOST_LEVELS, MOST_SLOTS, MOST_UNITS, START, Budget, Bytes, Fault, blank,
+    delimited, field_text, keep, merge, merge_entry, merge_field, message_text, mismatch, of_word, packed, payload, plain, put,
+    read_item, read_list, read_one, read_record, read_run, record_text, records, skip, tag_text, value, varint_text,
+    word,
+)
+
+TOP = os.path.dirname(os.path.dirname(os.path.abspath(__file__)))
+
+
+def slots_of(kind, message):
+    """The slots of a message: of each child the length of its text, then its own slots."""
+    children = sorted(message[1].items()) if kind == "tree" else []
+    return [it for _, child in children for it in [len(message_text(kind, child)), *slots_of(kind, child)]]
+
+
+def expanded(line):
+    """The line with each `(HEX*N)` as the digits N times."""
+    return re.sub(r"\(([0-9a-f]+)\*(\d+)\)", lambda found: found[1] * int(found[2]), line)
+
+
+class Row:
+    """A row, and what comes of it: an answer, and what stands after."""
+
+    def __init__(self, line):
+        fields = expanded(line).split("\t")
+        self.name, self.call, self.types, said, before, given, self.answer, self.after = fields
+        self.settings = dict(it.split("=", 1) for it in said.split(" ") if "=" in it)
+        self.before, self.given = before.strip() if before != "-" else "", given if given != "-" else ""
+        self.kinds = tuple(self.types.split(","))
+        self.number, self.depth = self.setting("number", 5), self.setting("depth", 10)
+        self.budget = Budget(self.setting("slots", MOST_SLOTS), self.setting("units", MOST_UNITS))
+
+    def setting(self, name, other):
+        return int(self.settings.get(name, other))
+
+    def told(self, *parts, unread=0):
+        """The state in words, with what is left of slots, units and bytes, where the settings or bytes ask for it."""
+        left = [f"{self.budget.slots} slots"] if "slots" in self.settings else []
+        left += [f"{self.budget.units} units"] if "units" in self.settings else []
+        left += [f"{unread} unread"] if unread else []
+        return "; ".join([*parts, *left])
+
+    def pairs(self):
+        found = {}
+        for pair in self.before.split():
+            key, held = (of_word(kind, it) for kind, it in zip(self.kinds, pair.split("=", 1)))
+            put(self.kinds[0], found, key, held)
+        return found
+
+    def of_map(self, in_order):
+        """Reads entries or a run into a map; its pairs are told in the order of their keys, or as they came."""
+        pairs, buf = {} if self.call == "rewrite" else self.pairs(), Bytes(bytes.fromhex(self.given))
+        old = self.settings.get("list")
+        kept = [] if old is not None or self.call == "rewrite" else None
+        answer = "ok"
+        if self.call == "field":
+            self.depth, self.budget = self.setting("depth", 0), Budget(self.setting("slots", 0), self.budget.units)
+        try:
+            reads = merge_entry if self.call in ("entry", "unlisted") else read_run
+            reads(self.kinds, pairs, buf, self.depth, self.budget, self.number, kept)
+        except Fault as fault:
+            answer = str(fault)
+        order = sorted(pairs.items()) if in_order else list(pairs.items())
+        words = " ".join(f"{word(self.kinds[0], key)}={word(self.kinds[1], held)}" for key, held in order) or "-"
+        unread = buf.unread() if answer == "ok" else 0
+        if self.call == "field":
+            written = answer != "ok" or field_text(self.kinds, self.number, order) == buf.text
+            return answer if written else "not written back", self.told(words)
+        if self.call == "rewrite":
+            text = (field_text(self.kinds, self.number, order) + b"".join(kept)).hex() if answer == "ok" else ""
+            return answer, self.told(words, f"text {text or '-'}")
+        lists = [f"list {(old.strip('-') + b''.join(kept).hex()) or '-'}"] if old is not None else []
+        return answer, self.told(words, *lists, unread=unread)
+
+    def of_written_map(self, in_order):
+        pairs = self.pairs()
+        order = sorted(pairs.items()) if in_order else list(pairs.items())
+        text = field_text(self.kinds, self.number if self.call != "size" else 1, order)
+        if self.call == "size":
+            return "ok", f"{len(text) + len(pairs) * (self.number - 1)} {len(pairs)} 0"
+        return "ok", f"{len(text)} {len(pairs)}; text {text.hex() or '-'}"
+
+    def of_bytes(self, _in_order):
+        """Reads a varint, a field or an Item."""
+        buf = Bytes(bytes.fromhex(self.given))
+
+        def told(words):
+            return self.told(words, unread=buf.unread())
+
+        try:
+            if self.call == "varint":
+                return "ok", told(str(buf.varint()))
+            if self.call == "item":
+                type_id, message = read_item(buf, self.depth, self.budget)
+                return "ok", told(f"{type_id} x{message.hex()}")
+            tag = buf.tag()
+            if self.call == "skip":
+                skip(buf, *tag, self.depth)
+                return "ok", told("-")
+            return "ok", told(keep(buf, *tag, self.depth, self.budget).hex())
+        except Fault as fault:
+            return str(fault), self.told("-")
+
+    def of_records(self, _in_order):
+        text = bytes.fromhex(self.given or self.before)
+        if self.call == "write-item":
+            text = b"\x0b\x10" + varint_text(self.number) + b"\x1a" + delimited(bytes.fromhex(self.given)) + b"\x0c"
+            return "ok", f"{len(text)}; text {text.hex()}"
+        try:
+            found = records(text)
+        except Fault as fault:
+            return str(fault), "0; records -"
+        if self.call == "retain":
+            found = [it for it in found if it[0] != self.number]
+        text = b"".join(it[2] for it in found) * (2 if self.call == "twice" else 1)
+        return "ok", f"{len(text)}; records {text.hex() or '-'}"
+
+    def of_message(self, in_order):
+        kind, before = self.types, bytes.fromhex(self.before)
+        if self.call == "write-messages":
+            pairs = {}
+            read_run(("int32", kind), pairs, Bytes(before), MOST_LEVELS, Budget(), self.number, None)
+            order = sorted(pairs.items()) if in_order else list(pairs.items())
+            text = field_text(("int32", kind), self.number, order)
+            slots = [it for _, held in order for it in [len(message_text(kind, held)), *slots_of(kind, held)]]
+            return "ok", "; ".join([str(len(text)), *self.cache(slots), f"text {text.hex() or '-'}"])
+        message = merge(kind, blank(kind), before, MOST_LEVELS, Budget(MOST_SLOTS * 10))
+        if self.call == "message-clear":
+            return "ok", word(kind, blank(kind))
+        text = message_text(kind, message)
+        if self.call == "message-size":
+            return "ok", "; ".join([str(len(text)), *self.cache(slots_of(kind, message))])
+        if self.call == "encode":
+            return "ok", f"-; text {text.hex() or '-'}"
+        return self.merged(message, Bytes(bytes.fromhex(self.given)))
+
+    def cache(self, slots):
+        """The slots of a size cache in words, where the row tells them."""
+        slots = [7] * self.setting("reserved", 0) + slots
+        return [f"cache {' '.join(map(str, slots)) or '-'}"] if self.settings.get("cache") == "told" else []
+
+    def merged(self, message, buf):
+        """A message, and what the bytes make of it: all, those of a length, or one field."""
+        kind, depth, inner = self.types, self.depth, buf
+        try:
+            if self.call == "merge-delimited":
+                if depth == 0:
+                    raise Fault("RecursionLimitExceeded")
+                inner, depth = Bytes(buf.take(buf.varint())), depth - 1
+            is_first = True
+            while inner.unread() or self.call == "merge-field" and is_first:
+                message = merge_field(kind, message, inner, *inner.tag(), depth, self.budget)
+                is_first = False
+                if self.call == "merge-field":
+                    break
+        except Fault as fault:
+            return str(fault), self.told(word(kind, message) if self.settings.get("state") == "told" else "-")
+        return "ok", self.told(word(kind, message), unread=buf.unread())
+
+    def read_as(self, found):
+        """What the records of the number are read as, in words."""
+        mine, kind = [it for it in found if it[0] == self.number], plain(self.types)
+        if "how" in self.settings:
+            return " ".join(word(kind, it) for it in read_list(self.types, mine)) or "-"
+        one = read_one(self.types, mine)
+        return "none" if one is None else word(kind, one)
+
+    def of_set(self, found, kind):
+        how = self.settings.get("how")
+        values = [of_word(kind, it) for it in (self.given.split() if how else [self.given])]
+        try:
+            if how == "packed":
+                text = b"".join(payload(kind, it) for it in values)
+                new = [tag_text(self.number, DELIMITED) + delimited(text)] if values else []
+            else:
+                new = [record_text(self.types, self.number, it) for it in values]
+        except Fault as fault:
+            return str(fault), found
+        wire = DELIMITED if how == "packed" else START if self.types.endswith("-group") else KINDS[kind][0]
+        return "ok", [it for it in found if it[0] != self.number] + [(self.number, wire, it) for it in new]
+
+    def of_extension(self, _in_order):
+        found, kind, answer = records(bytes.fromhex(self.before)), plain(self.types), "ok"
+        if self.call == "clear":
+            words = f"{str(any(it[0] == self.number for it in found)).lower()} false"
+            found = [it for it in found if it[0] != self.number]
+        elif self.call == "has":
+            is_there = self.settings.get("extendee", "test.Carrier") == "test.Carrier"
+            words = str(is_there and any(it[0] == self.number for it in found)).lower()
+        elif self.call in ("set", "set-then-read"):
+            answer, found = self.of_set(found, kind)
+            words = self.read_as(found)
+        elif self.call == "encode-into":
+            others = [(-1, *it[1:]) for it in found]
+            answer, found = self.of_set(others, kind)
+            words = "-"
+        elif self.call in ("get", "default", "decode-of"):
+            words = self.read_as(found)
+            if (self.call, words) == ("default", "none"):
+                words = self.settings.get("declared", word(kind, blank(kind)))
+        elif self.call == "encode-one":
+            words = "-"
+            try:
+                found = [(1, None, record_text(self.types, 1, of_word(kind, self.given)))]
+            except Fault as fault:
+                answer, found = str(fault), []
+        elif self.call == "pack":
+            words, found = "-", [(1, None, b"\x0a" + delimited(payload(kind, of_word(kind, self.given))))]
+        elif self.call == "unpack":
+            words = " ".join(word(kind, it) for it in packed(self.types, bytes.fromhex(self.given))) or "-"
+        else:
+            depth = self.depth if self.call == "decode-one-ctx" else MOST_LEVELS
+            one = read_record(self.types, found[0], depth, self.budget)
+            words = "none" if one is None else word(kind, one)
+        text = b"".join(it[2] for it in found).hex() or "-"
+        return answer, f"{words}; records {text}"
+
+    def of_scalar(self, _in_order):
+        """A value that is read, or spelled."""
+        kind, buf = self.types, Bytes(bytes.fromhex(self.given) if self.call in ("decode", "tag", "payload") else b"")
+        if self.call == "spell":
+            text = varint_text(int(self.given)) if kind == "varint" else payload(kind, of_word(kind, self.given))
+            return "ok", f"{len(text)}; text {text.hex()}"
+        if self.call == "spell-payload":
+            text, (wire, cost) = payload(kind, of_word(kind, self.given)), KINDS[kind]
+            fixed = len(text) if kind == "bool" or wire in (EIGHT, FOUR) else "-"
+            return "ok", f"{len(text)} {cost} {wire} {fixed}; text {text.hex()}"
+        if self.call == "zigzag":
+            return "ok", f"{Bytes(payload(kind, int(self.given))).varint()} {self.given}"
+        try:
+            if self.call == "tag":
+                number, wire = buf.tag()
+                expected = self.setting("expect", wire)
+                if wire != expected:
+                    raise mismatch(number, expected, wire)
+                return "ok", self.told(f"{number} {wire}", f"text {tag_text(number, wire).hex()}", unread=buf.unread())
+            if self.call == "payload":
+                return self.of_payload(kind, buf)
+            if self.settings.get("how") == "copy":
+                return "ok", self.told(word(kind, buf.take(self.setting("length", 0))), unread=buf.unread())
+            if self.settings.get("how") == "from-wire":
+                buf = Bytes(delimited(buf.text))
+            return "ok", self.told(word(kind, value(kind, buf, None)[0]), unread=buf.unread())
+        except Fault as fault:
+            is_kept = self.call == "payload" and kind not in MESSAGES
+            return str(fault), self.told(self.before if is_kept else "-")
+
+    def of_payload(self, kind, buf):
+        old, is_declared = of_word(kind, self.before), True
+        if kind in MESSAGES:
+            if self.depth == 0:
+                raise Fault("RecursionLimitExceeded")
+            new = merge(kind, old, buf.take(buf.varint()), self.depth - 1, self.budget)
+        else:
+            new, is_declared = value(kind, buf, old)
+        return "ok", self.told(f"{word(kind, new)} {'known' if is_declared else 'unknown'}", unread=buf.unread())
+
+    def of_list(self, _in_order):
+        """Records that are put into a list, and steps."""
+        found = records(bytes.fromhex(self.before))
+        if self.call == "steps":
+            for step in self.given.split():
+                number, _, said = step.partition("=")
+                found = [it for it in found if it[0] != int(number)]
+                new = records(bytes.fromhex(said)) if "=" in step else []
+                found += [(int(number), wire, renumbered(int(number), text)) for _, wire, text in new]
+            words = str(len(self.given.split()))
+        elif self.call == "push":
+            found += records(bytes.fromhex(self.given))
+            words = str(len(found))
+        else:
+            words = "true"
+        return "ok", f"{words}; records {b''.join(it[2] for it in found).hex() or '-'}"
+
+    def of_words(self, in_order):
+        """Calls that are given words, and what each of them answers."""
+        said, answers = self.given.split(), []
+        if self.call == "put":
+            pairs = self.pairs()
+            put(self.kinds[0], pairs, *(of_word(kind, it) for kind, it in zip(self.kinds, self.given.split("=", 1))))
+            order = sorted(pairs.items()) if in_order else list(pairs.items())
+            words = " ".join(f"{word(self.kinds[0], key)}={word(self.kinds[1], held)}" for key, held in order)
+            return "ok", f"{words}; {len(pairs)}"
+        if self.call == "descriptor":
+            return "ok", " ".join([f"{self.number} test.Carrier"] * 3)
+        if self.call == "normal":
+            return "ok", word("open", of_word("open", self.given))
+        if self.call == "number":
+            return "ok", f"{word('open', int(self.given))} {self.given}"
+        if self.call == "item-len":
+            return "ok", str(4 + len(varint_text(self.number)) + len(varint_text(int(self.given))) + int(self.given))
+        if self.call == "cache":
+            return self.of_cache(said)
+        for step in said:
+            answers.append(self.of_context(step))
+        return "ok", self.told(" ".join(answers), f"depth {self.depth}")
+
+    def of_cache(self, said):
+        slots, place, answers = [], 0, []
+        for step in said:
+            front, _, back = step.partition(":")
+            if step == "reserve":
+                answers.append(len(slots))
+                slots.append(0)
+            elif step == "next":
+                answers.append(slots[place])
+                place += 1
+            elif front != "room":
+                slots[int(front)] = int(back)
+        return "ok", " ".join(map(str, answers)) or "-"
+
+    def of_context(self, step):
+        try:
+            if step == "slot":
+                self.budget.take_slot()
+            elif step.startswith("units:"):
+                self.budget.take_units(int(step[6:]))
+            elif self.depth == 0:
+                raise Fault("RecursionLimitExceeded")
+            else:
+                self.depth -= 1
+        except Fault as fault:
+            return str(fault)
+        return "ok"
+
+    def outcome(self, in_order):
+        """What comes of the row, by the calls' names in `crates/conformance`."""
+        for calls, done in (
+            ("entry unlisted run rewrite field", self.of_map),
+            ("write size size-and-write", self.of_written_map),
+            ("varint item skip unknown", self.of_bytes),
+            ("records twice retain write-item", self.of_records),
+            ("merge merge-delimited merge-field encode message-size message-clear write-messages", self.of_message),
+            ("get set default clear encode-one decode-one decode-one-ctx pack unpack", self.of_extension),
+            ("has set-then-read encode-into decode-of", self.of_extension),
+            ("decode spell zigzag tag payload spell-payload", self.of_scalar),
+            ("steps push reserve", self.of_list),
+            ("put descriptor normal number item-len cache context", self.of_words),
+        ):
+            if self.call in calls.split():
+                return done(in_order)
+        return None
+
+    def orders(self):
+        """The orders in which storages have the pairs: that of the keys, that of arrival; words have no order."""
+        names = self.settings.get("in", "ordered indexed")
+        ordered = "ordered" in names and self.kinds[0] != "word" and self.call != "field"
+        arrival = "indexed" in names and self.kinds[0] != "old"
+        return [True] * ordered + [False] * (arrival or not ordered)
+
+
+def renumbered(number, text):
+    """The text of a record under another number."""
+    buf = Bytes(text)
+    wire = buf.varint() % 8
+    rest = text[buf.at :]
+    if wire == START:
+        rest = rest[: len(rest) - len(tag_text(Bytes(text).varint() // 8, END))] + tag_text(number, END)
+    return tag_text(number, wire) + rest
+
+
+def with_pairs_in_order(state):
+    pairs, *rest = state.split("; ")
+    return "; ".join([" ".join(sorted(pairs.split())), *rest])
+
+
+def wrong(line):
+    """What the second reading finds in place of what a row says, or nothing; none where it doesn't know the call."""
+    for in_order in Row(line).orders():
+        row = Row(line)
+        found = row.outcome(in_order)
+        if found is None:
+            return None
+        if row.answer == "refused" and found[0] != "ok":
+            continue
+        said, (answer, after) = row.after, found
+        if in_order and row.call in ("entry", "unlisted", "run", "rewrite", "put"):
+            # the pairs may stand in a row as they came
+            said, after = with_pairs_in_order(said), with_pairs_in_order(after)
+        if (row.answer, said) != (answer, after):
+            return f"{answer}\t{found[1]}"
+    return ""
+
+
+def main():
+    tables = sys.argv[1:] or sorted(glob.glob(f"{TOP}/vectors/cases/*.tsv") + glob.glob(f"{TOP}/vectors/google/*.tsv"))
+    counts = {"held": 0, "didn't": 0, "of calls that it doesn't know": 0}
+    for path in tables:
+        with open(path, encoding="utf-8") as table:
+            for line in table.read().splitlines():
+                if not line or line.startswith("#"):
+                    continue
+                found = wrong(line)
+                counts["of calls that it doesn't know" if found is None else "didn't" if found else "held"] += 1
+                if found:
+                    print(f"{os.path.relpath(path, TOP)}: {line}\n  it finds {found}")
+    print("second reading: " + ", ".join(f"{count} {what}" for what, count in counts.items()))
+    return 1 if counts["didn't"] or not counts["held"] else 0
+
+
+if __name__ == "__main__":
+    sys.exit(main())
