@@ -52,6 +52,11 @@ pub record Means {A M : Type 0} (of : A → M) (zero : M) (meaning : A → M) (b
 abbrev pub SameIsOne : {M : Type 0} → (M → M → Bool) → Type 0
 SameIsOne {M} same = (a b : M) → (same a b ≡ true) ↔ (a ≡ b)
 
+-- a copy of a value is the value, and making it doesn't fail
+pub record IsCopied {A : Type 0} (is_clone : A → A → Type 0) (is_infallible : A → Type 0) : Type 0 where
+  pub same : (a b : A) → is_clone a b → a ≡ b
+  pub made : (a : A) → is_infallible a
+
 -- a text is its bytes, and any bytes are the text of themselves
 abbrev pub IsItsBytes : (List ℕ → List ℕ) → (List ℕ → List ℕ) → Type 0
 IsItsBytes bytes of = (b : List ℕ) → (bytes b ≡ b) × (of b ≡ b)

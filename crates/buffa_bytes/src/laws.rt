@@ -7,6 +7,7 @@ ghost use Rattle.std.specs.Global.{Global};
 ghost use Rattle.std.specs.Int.{cast_unsigned, from_bool, w32, w64};
 ghost use Rattle.std.specs.List.{All};
 ghost use Rattle.std.specs.Str.{is_utf8};
+ghost use Rattle.buffa_bytes.specs.declared.tag.Tag.{Tag};
 ghost use Rattle.buffa_bytes.specs.declared.wire_type.WireType.{WireType};
 ghost use Rattle.buffa_bytes.specs.declared.wire_type.WireType.TheVariants.{Fixed32, Fixed64, LengthDelimited};
 ghost use Rattle.buffa_bytes.specs.declared.wire_type.WireType.TheVariants.{Varint};
@@ -30,7 +31,7 @@ ghost use Rattle.buffa_bytes.specs.Scalars.{sfixed64_of, sfixed64_text, sint32_a
 ghost use Rattle.buffa_bytes.specs.Scalars.{sint64_of, sint64_text, uint32_at, uint32_of, uint32_text, uint64_at};
 ghost use Rattle.buffa_bytes.specs.Scalars.{uint64_text, unzigzag, varint_as, zigzag};
 ghost use Rattle.buffa_bytes.specs.Pinned.{AnswerIsPinned, AnswerIsPinnedUnlessFull, ChunkIsPinned, IsItsBytes};
-ghost use Rattle.buffa_bytes.specs.Pinned.{Means, SameIsOne, ShowsBytes, ShowsFront, WriteIsPinned};
+ghost use Rattle.buffa_bytes.specs.Pinned.{IsCopied, Means, SameIsOne, ShowsBytes, ShowsFront, WriteIsPinned};
 ghost use Rattle.buffa_bytes.specs.Reading.{check_wire};
 ghost use Rattle.buffa_bytes.specs.WireType.{wire_kind, wire_number};
 ghost use Rattle.buffa_bytes.specs.Texts.{bytes_as, string_as, text_as};
@@ -44,7 +45,7 @@ use crate::limited::Limited;
 use crate::pieces::Pieces;
 use crate::proto::{ProtoBytes, ProtoString};
 use crate::sink::EncodeSink;
-use crate::tag::MAX_FIELD_NUMBER;
+use crate::tag::{MAX_FIELD_NUMBER, Tag};
 use crate::types::{BOOL_ENCODED_LEN, FIXED32_ENCODED_LEN, FIXED64_ENCODED_LEN};
 use crate::wire_type::WireType;
 use bytes::Bytes;
@@ -350,12 +351,23 @@ pub fn own_keys_are_pinned<K: MapKey, P: PlainKey>()
     ensures plain { (a b : P) → (P.eq a b ≡ true) ↔ (P.meaning a ≡ P.meaning b) }
 {}
 
-/// `==` says exactly whether two of these are one. It leaves nothing open.
+/// `==` says exactly whether two of these are one: two tags by what they hold. It leaves nothing open.
 pub fn equal_ones_are_one()
     ensures wire_type { SameIsOne ⟦<WireType as PartialEq>⟧.eq }
     ensures item { SameIsOne ⟦<MessageSetFault as PartialEq>⟧.eq }
     ensures decode { SameIsOne ⟦<DecodeError as PartialEq>⟧.eq }
     ensures encode { SameIsOne ⟦<EncodeError as PartialEq>⟧.eq }
+    ensures tag { (a b : Tag) → (⟦<Tag as PartialEq>⟧.eq a b ≡ true) ↔ ((a.number ≡ b.number)
+        × (a.wire_type ≡ b.wire_type)) }
+{}
+
+/// What `clone` makes of each of these is the same again, and it doesn't fail. It leaves nothing open.
+pub fn clones_are_these()
+    ensures wire_type { IsCopied ⟦<WireType as Clone>⟧.is_clone ⟦<WireType as Clone>⟧.is_infallible }
+    ensures item { IsCopied ⟦<MessageSetFault as Clone>⟧.is_clone ⟦<MessageSetFault as Clone>⟧.is_infallible }
+    ensures decode { IsCopied ⟦<DecodeError as Clone>⟧.is_clone ⟦<DecodeError as Clone>⟧.is_infallible }
+    ensures encode { IsCopied ⟦<EncodeError as Clone>⟧.is_clone ⟦<EncodeError as Clone>⟧.is_infallible }
+    ensures tag { IsCopied ⟦<Tag as Clone>⟧.is_clone ⟦<Tag as Clone>⟧.is_infallible }
 {}
 
 /// What is printed of each error, in std's words for text. It leaves nothing open.
