@@ -11,6 +11,9 @@ pub list-records : (rs : List (ℕ × Datum)) → list_of (records_of rs) ≡ rs
 list-records [] = refl
 list-records (r ∷ rs) = ap (λ q. r ∷ q) (list-records rs)
 
+pub empty_records : (rs : List (ℕ × Datum)) → records_of rs ≡ no_records → rs ≡ []
+empty_records rs e = sym (list-records rs) ∙ ap list_of e
+
 pub records-list : (rs : Records) → records_of (list_of rs) ≡ rs
 records-list no_records = refl
 records-list (one n d rs) = ap (λ q. one n d q) (records-list rs)

@@ -1,6 +1,6 @@
 -- Records: what a field says, whatever its spelling. A number, and a varint's value, four or eight bytes as
 -- a number, bytes, or the records of a group. Source: the protobuf encoding guide, "Message Structure".
-use Rattle.std.specs.Prelude.{ℕ, suc, max, List, [], ◌∷◌}
+use Rattle.std.specs.Prelude.{◌≡◌, ℕ, suc, max, List, [], ◌∷◌}
 
 mutual
   pub data Datum : Type 0 where
@@ -20,6 +20,12 @@ IsNumeric (varint v) = Unit {0}
 IsNumeric (fixed32 v) = Unit {0}
 IsNumeric (fixed64 v) = Unit {0}
 IsNumeric _ = ⊥
+
+-- data that are neither a number nor a byte or a record
+abbrev pub IsEmpty : Datum → Type 0
+IsEmpty (bytes b) = b ≡ []
+IsEmpty (group rs) = rs ≡ no_records
+IsEmpty _ = ⊥
 
 -- records as a list, and back
 abbrev pub records_of : List (ℕ × Datum) → Records

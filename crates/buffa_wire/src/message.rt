@@ -157,7 +157,8 @@ pub trait Message: MessageSpec {
     ///
     /// # Errors
     /// Any but a limit's where the bytes mean no value; any where their cost isn't left; or
-    /// [`DecodeError::OutOfMemory`], though never for a fault of a tag. The value is then some value of its type.
+    /// [`DecodeError::OutOfMemory`], only where a tag that is no end tag begins the bytes. The value is then some value of
+    /// its type.
     fn merge(
         &mut self,
         alloc: Global,

@@ -56,8 +56,9 @@ fn decode_plain<B: Buf>(
 /// Reads the field whose tag was read, and keeps it.
 ///
 /// It spends one slot for the field, and one for each field in its groups, and no element memory. After an
-/// error no more slots are spent than one and the bytes that were read, and one of a field that is no group. Memory is asked for only where a slot
-/// was left, for bytes, one at least, that are there, and for a group's fields once the first is read.
+/// error no more slots are spent than one and the bytes that were read, and one, where one was left, of a field that is no
+/// group and of a group at depth 0. Memory is asked for only where a slot was left, for bytes, one at least, that are
+/// there, and for a group's fields once the first is read.
 ///
 /// # Errors
 /// The first fault, in this order: [`DecodeError::InvalidEndGroup`] for an end tag, which takes no slot;
@@ -93,6 +94,8 @@ pub fn decode_unknown_field<B: Buf>(
     ensures left { tag.wire_type ≢ WireType.StartGroup → 0 < ctx.entry.budget.now.unknown →
         LeavesUnlessFull result (past_no_payload tag.wire_type (B.unread buf.old)) (B.unread buf.new) }
     ensures slot { tag.wire_type ≢ WireType.StartGroup → tag.wire_type ≢ WireType.EndGroup → SlotTaken
+        ctx.entry.budget.now.unknown (budget_left ctx.exit).unknown }
+    ensures deep_slot { tag.wire_type ≡ WireType.StartGroup → ctx.entry.depth ≡ 0 → SlotTaken
         ctx.entry.budget.now.unknown (budget_left ctx.exit).unknown }
     ensures kept { B.beyond buf.new ≡ B.beyond buf.old }
     ensures tail { IsTailOf (B.unread buf.new) (B.unread buf.old) }
@@ -131,6 +134,7 @@ fn decode_group<B: Buf>(
     ensures full { FullOnlyIf result (GroupTakesMemory ctx.entry.depth ctx.entry.budget.now.unknown
         (B.unread buf.old)) }
     ensures level { ctx.entry.depth ≡ 0 → B.unread buf.new ≡ B.unread buf.old }
+    ensures deep { ctx.entry.depth ≡ 0 → budget_left ctx.exit ≡ ctx.entry.budget.now }
     ensures memory { (budget_left ctx.exit).memory ≡ ctx.entry.budget.now.memory }
     ensures spent { SlotsSpent (bytes_read (B.unread buf.old) (B.unread buf.new))
         ctx.entry.budget.now.unknown (budget_left ctx.exit).unknown }

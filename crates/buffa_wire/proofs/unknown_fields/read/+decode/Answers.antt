@@ -63,6 +63,7 @@ decode_group-returns-in_err-field g t c =
       memory = c.in_err-field.ensures.memory ∙ c.loop-fields.invariant.memory;
       full = rw (p.1, p.2) (λ k. takes_inside _ _ _ c.if-depth-eq0.false (begins_taking _ _ _ _ _ c.loop-fields.invariant.begun _ c.in_ok-tag.ensures.reads (c.in_err-field.ensures.full k)));
       level = λ z. absurd {A = g.B.Buf.unread c.decode_unknown_field.new.buf ≡ g.B.Buf.unread c.args.buf.now} (c.if-depth-eq0.false z);
+      deep = λ z. absurd (c.if-depth-eq0.false z);
       spent = next_spent _ _ _ _ _ _ _ c.loop-fields.invariant.tail c.in_ok-tag.ensures.tail c.in_err-field.ensures.tail (tag_falls _ _ c.in_ok-tag.ensures.reads) c.loop-fields.invariant.spent c.in_err-field.ensures.spent;
       tail = tail_more _ _ _ c.in_err-field.ensures.tail (tail_more _ _ _ c.in_ok-tag.ensures.tail c.loop-fields.invariant.tail);
       kept = c.in_err-field.ensures.kept ∙ c.in_ok-tag.ensures.kept ∙ c.loop-fields.invariant.kept;
@@ -73,6 +74,7 @@ decode_group-returns-in_default-push g t c = record {
   reads = λ other. absurd (other refl);
   full = λ k. takes_inside _ _ _ c.if-depth-eq0.false (begins_reading _ _ _ _ _ c.loop-fields.invariant.begun _ c.in_ok-tag.ensures.reads _ c.in_ok-field.ensures.reads);
   level = λ z. absurd (c.if-depth-eq0.false z);
+  deep = λ z. absurd (c.if-depth-eq0.false z);
   memory = c.in_ok-field.ensures.memory ∙ c.loop-fields.invariant.memory;
   spent = next_spent _ _ _ _ _ _ _ c.loop-fields.invariant.tail c.in_ok-tag.ensures.tail c.in_ok-field.ensures.tail (tag_falls _ _ c.in_ok-tag.ensures.reads) c.loop-fields.invariant.spent c.in_ok-field.ensures.spent;
   kept = c.in_ok-field.ensures.kept ∙ c.in_ok-tag.ensures.kept ∙ c.loop-fields.invariant.kept;
@@ -111,6 +113,7 @@ decode_unknown_field-returns-in_err-take_slot g t c =
       no_slot_stays = λ k. refl {a = g.B.Buf.unread c.args.buf.now};
       left = λ k some. let no : ⊥ = omega (arith, c.in_err-take_slot.ensures.err.0, some) in absurd no;
       slot = λ k o. omega (arith, c.in_err-take_slot.ensures.err.0, ap (λ (b : BudgetLeft). b.unknown) c.in_err-take_slot.ensures.err.1);
+      deep_slot = λ k z. omega (arith, c.in_err-take_slot.ensures.err.0, ap (λ (b : BudgetLeft). b.unknown) c.in_err-take_slot.ensures.err.1);
       tail = tail_whole _;
       kept = refl {a = g.B.Buf.beyond c.args.buf.now};
     }
@@ -130,6 +133,7 @@ decode_unknown_field-returns-in_err-fields g t c =
       no_slot_stays = λ k. absurd (omega (arith, c.in_ok-take_slot.ensures.ok.0, k));
       left = λ k some. absurd (k c.in-StartGroup.is);
       slot = λ k o. absurd (k c.in-StartGroup.is);
+      deep_slot = λ k z. omega (arith, c.in_ok-take_slot.ensures.ok.0, ap (λ (b : BudgetLeft). b.unknown) (c.in_err-fields.ensures.deep z));
       tail = c.in_err-fields.ensures.tail;
       kept = c.in_err-fields.ensures.kept;
     }
@@ -147,6 +151,7 @@ decode_unknown_field-returns-in-StartGroup g t c = record {
   no_slot_stays = λ k. absurd (omega (arith, c.in_ok-take_slot.ensures.ok.0, k));
   left = λ k some. absurd (k c.in-StartGroup.is);
   slot = λ k o. absurd (k c.in-StartGroup.is);
+  deep_slot = λ k z. omega (arith, c.in_ok-take_slot.ensures.ok.0, ap (λ (b : BudgetLeft). b.unknown) (c.in_ok-fields.ensures.deep z));
   tail = c.in_ok-fields.ensures.tail;
   kept = c.in_ok-fields.ensures.kept;
 }
@@ -166,6 +171,7 @@ decode_unknown_field-returns-in_err-payload g t c =
       no_slot_stays = λ k. absurd (omega (arith, c.in_ok-take_slot.ensures.ok.0, k));
       left = λ k some. rw (p.1, p.2) c.in_err-payload.ensures.left;
       slot = λ k o. omega (arith, c.in_ok-take_slot.ensures.ok.0);
+      deep_slot = λ k z. omega (arith, c.in_ok-take_slot.ensures.ok.0);
       tail = c.in_err-payload.ensures.tail;
       kept = c.in_err-payload.ensures.kept;
     }
@@ -183,6 +189,7 @@ decode_unknown_field-returns g t c = record {
   no_slot_stays = λ k. absurd (omega (arith, c.in_ok-take_slot.ensures.ok.0, k));
   left = λ k some. tt;
   slot = λ k o. omega (arith, c.in_ok-take_slot.ensures.ok.0);
+  deep_slot = λ k z. omega (arith, c.in_ok-take_slot.ensures.ok.0);
   tail = c.in_ok-payload.ensures.tail;
   kept = c.in_ok-payload.ensures.kept;
 }
