@@ -97,8 +97,22 @@ abbrev pub is_known : MapValueDecodeStatus → Bool
 is_known Known = true
 is_known Unknown = false
 
--- A codec is this one: it reads and writes so, a value costs so much, payloads have this length, if they have one, and
--- the values that are read back are these.
-abbrev pub Codes : {V : Type 0} → Reading V → Writing V → ℕ → Option ℕ → (V → Type 0) → Reading V → Writing V → ℕ → Option ℕ → (V → Type 0) → Type 0
-Codes {V} reading writing cost len Normal reads writes costs fixed Back =
-    (reading ≡ reads) × (writing ≡ writes) × (cost ≡ costs) × (len ≡ fixed) × ((v : V) → Normal v ↔ Back v)
+-- What a codec is: how it reads and writes, what a value costs, whether one may be undeclared, the length of its payloads,
+-- if they have one, and which values are read back.
+pub record Coded (V : Type 0) : Type 1 where
+  pub reading : Reading V
+  pub writing : Writing V
+  pub cost : ℕ
+  pub undeclared : Bool
+  pub len : Option ℕ
+  pub Normal : V → Type 0
+
+-- each value is read back
+abbrev pub Every : {V : Type 0} → V → Type 0
+Every v = Unit {0}
+
+-- a codec is this one
+abbrev pub Codes : {V : Type 0} → Coded V → Reading V → Writing V → ℕ → Bool → Option ℕ → (V → Type 0) → Type 0
+Codes {V} c reads writes costs undeclared fixed Back =
+    (c.reading ≡ reads) × (c.writing ≡ writes) × (c.cost ≡ costs) × (c.undeclared ≡ undeclared) × (c.len ≡ fixed)
+    × ((v : V) → c.Normal v ↔ Back v)

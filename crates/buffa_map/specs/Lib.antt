@@ -15,6 +15,7 @@ pub mod MessageField
 pub mod Plain
 pub mod Enums
 pub mod Rewrite
+pub mod Calls
 pub mod EnumLaws
 pub mod Laws
 pub mod Pinned

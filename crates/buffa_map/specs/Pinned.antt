@@ -5,7 +5,8 @@ use Rattle.buffa_bytes.specs.declared.error.DecodeError.TheVariants.{OutOfMemory
 use Rattle.buffa_wire.specs.BudgetLeft.{BudgetLeft}
 use Rattle.buffa_map.specs.Codec.{Reading, Refuses, Spends, value_at, value_need}
 use Rattle.buffa_map.specs.Laws.{ArePlain}
-use Rattle.buffa_map.specs.Merge.{MergesEntry, ReadsRun, RefusesEntry, Rules, State, StopsRun}
+use Rattle.buffa_wire.specs.Records.{Datum}
+use Rattle.buffa_map.specs.Merge.{MergesEntry, ReadsRun, RefusesEntry, Rules, State, StopsRun, rules}
 use Rattle.buffa_map.specs.Pairs.{SamePairs}
 
 -- two states are one: the maps find the same pairs
@@ -46,6 +47,16 @@ module _ {K V : Type 0} (r : Rules K V) where
         (h.entries ≡ k.entries) × (h.rest ≡ k.rest) × SamePairs r.same a.pairs b.pairs × (a.records ≡ b.records) × (x ≡ y)
     pub faults : ArePlainRules → (old : State K V) (bs : List ℕ) (a b : State K V) (x y : List ℕ) (f g : DecodeError) →
         StopsRun r old bs a x f → StopsRun r old bs b y g → (f ≢ OutOfMemory) → (g ≢ OutOfMemory) → (f ≡ g) × SameState r a b
+
+-- by these codecs, whatever the rules beside them
+module _ {K V : Type 0} (key : Reading K) (val : Reading V) where
+  abbrev pub EntriesArePinned : Type 0
+  EntriesArePinned =
+      (same : K → K → Bool) (ordered : Bool) (d n cost slot : ℕ) (adds : ℕ → List ℕ → List (ℕ × Datum)) → EntryIsPinned (rules key val same ordered d n cost slot adds)
+
+  abbrev pub RunsArePinned : Type 0
+  RunsArePinned =
+      (same : K → K → Bool) (ordered : Bool) (d n cost slot : ℕ) (adds : ℕ → List ℕ → List (ℕ × Datum)) → RunIsPinned (rules key val same ordered d n cost slot adds)
 
 -- the payload at the front was merged, and what it costs was spent
 abbrev pub IsPaid : {V : Type 0} → Reading V → ℕ → List ℕ → BudgetLeft → BudgetLeft → Type 0

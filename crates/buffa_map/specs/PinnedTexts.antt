@@ -7,10 +7,10 @@ use Rattle.buffa_bytes.specs.declared.error.EncodeError.{EncodeError}
 use Rattle.buffa_bytes.specs.declared.error.EncodeError.TheVariants.{OutOfMemory}
 use Rattle.buffa_wire.specs.BudgetLeft.{BudgetLeft}
 use Rattle.buffa_wire.specs.Cache.{Cache}
-use Rattle.buffa_map.specs.Codec.{Writing}
+use Rattle.buffa_map.specs.Codec.{Reading, Writing}
 use Rattle.buffa_map.specs.Laws.{ArePlain}
 use Rattle.buffa_map.specs.MessageField.{IsFieldSized, IsFieldWritten, IsSmallField}
-use Rattle.buffa_map.specs.Merge.{Rules}
+use Rattle.buffa_map.specs.Merge.{Rules, keeping}
 use Rattle.buffa_map.specs.Pairs.{InOrder, ListsOnce, SamePairs, put}
 use Rattle.buffa_map.specs.Rewrite.{RefusesBytes, RefusesOutput, RewritesRun}
 use Rattle.buffa_map.specs.Text.{WritesField, field_size, saturated}
@@ -49,6 +49,14 @@ module _ {K V : Type 0} (r : Rules K V) (key : Writing K) (val : Writing V) (Key
     pub texts : (d e : EncodeError) (h : RefusesOutput r key val A left bytes a over x old v room d) (k : RefusesOutput r key val B left bytes b last y old w room e) →
         SamePairs r.same a b × (over ≡ last) × (x ≡ y) × (d ≢ OutOfMemory → e ≢ OutOfMemory → (d ≡ e) × (h.walk ≡ k.walk → v ≡ w))
 
+-- the same by these codecs and a storage that is walked so, whatever the rules beside them
+module _ {K V M : Type 0} (key : Reading K) (val : Reading V) (eq : K → K → Bool) (keeps : Bool) (Walks : M → List (K × V) → Type 0)
+    (kw : Writing K) (vw : Writing V) (KeyFits : K → Type 0) (ValFits : V → Type 0) where
+  abbrev pub RewritesArePinned : Type 0
+  RewritesArePinned =
+      (d n cost : ℕ) (one other : M) (left : BudgetLeft) (bytes : List ℕ) (a b : List (K × V)) (over last : BudgetLeft) (x y old v w : List ℕ) (room : ℕ) →
+      RewriteIsPinned (keeping key val eq keeps d n cost) kw vw KeyFits ValFits (Walks one) (Walks other) left bytes a b over last x y old v w room
+
 -- A storage puts in one way only: a key that is there stays as it is stored, and finds the value; a new key is stored as
 -- it is; other keys find what they found. Where the order is kept, two maps after one put are one list.
 module _ {K : Type 0} (V : Type 0) (eq : K → K → Bool) (keeps : Bool) where
@@ -58,3 +66,8 @@ module _ {K : Type 0} (V : Type 0) (eq : K → K → Bool) (keeps : Bool) where
     pub there : (m a : List (K × V)) (k : K) (v : V) (e : K × V) → SamePairs eq (put eq m k v) a → lookup_entry (eq k) m ≡ Some e → lookup_entry (eq k) a ≡ Some (e.0, v)
     pub new : (m a : List (K × V)) (k : K) (v : V) → SamePairs eq (put eq m k v) a → lookup_entry (eq k) m ≡ None → lookup_entry (eq k) a ≡ Some (k, v)
     pub others : (m a : List (K × V)) (k q : K) (v : V) → SamePairs eq (put eq m k v) a → eq q k ≡ false → lookup_entry (eq q) a ≡ lookup_entry (eq q) m
+
+-- maps whose keys ascend are walked in one way, where they find the same pairs
+abbrev pub HaveOneWalk : {K V M : Type 0} → (M → List (K × V) → Type 0) → (M → Type 0) → (K → K → Bool) → (M → List (K × V)) → Type 0
+HaveOneWalk {K} {V} {M} Walks Ascends same pairs =
+    (m n : M) (l k : List (K × V)) → Walks m l → Walks n k → Ascends m → Ascends n → SamePairs same (pairs m) (pairs n) → l ≡ k

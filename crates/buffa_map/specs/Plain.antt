@@ -1,5 +1,5 @@
 -- What the promises of entries come to where no payload is a message.
-use Rattle.std.specs.Prelude.{◌≡◌, ◌≢◌, ℕ, ◌+◌, ◌<◌, ◌≤◌, false, List, ◌++◌, length, cond, ◌⊎◌}
+use Rattle.std.specs.Prelude.{◌≡◌, ◌≢◌, ℕ, ◌+◌, ◌<◌, ◌≤◌, Bool, false, List, ◌++◌, length, cond, ◌⊎◌}
 use Rattle.buffa_wire.specs.Field.{LengthFault, TakesDelimited}
 use Rattle.buffa_wire.specs.BudgetLeft.{BudgetLeft}
 use Rattle.buffa_wire.specs.Varint.{IsVarint}
@@ -7,7 +7,8 @@ use Rattle.buffa_bytes.specs.declared.error.DecodeError.{DecodeError}
 use Rattle.buffa_bytes.specs.declared.error.DecodeError.TheVariants.{ElementMemoryLimitExceeded, OutOfMemory, UnknownFieldLimitExceeded}
 use Rattle.buffa_map.specs.Codec.{Reading}
 use Rattle.buffa_map.specs.Entry.{FaultOf, IsEntry}
-use Rattle.buffa_map.specs.Merge.{MergesEntry, RefusesEntry, Rules, State}
+use Rattle.buffa_wire.specs.Records.{Datum}
+use Rattle.buffa_map.specs.Merge.{MergesEntry, RefusesEntry, Rules, State, rules}
 use Rattle.buffa_map.specs.declared.map_entry.MapEntry.{MapEntry}
 
 -- f is the first fault: of the length; of the units; of the fields; of the slots
@@ -41,3 +42,8 @@ abbrev pub IsExact : {K V : Type 0} → Rules K V → Type 0
 IsExact {K} {V} r =
     (old : State K V) (bytes : List ℕ) (new : State K V) →
     ((rest : List ℕ) → MergesExactly r old bytes new rest) × ((rest : List ℕ) (f : DecodeError) → RefusesEntry r old bytes new rest f → SpendsExactly r old bytes new f)
+
+-- so are entries by these codecs, whatever the rules beside them
+abbrev pub EntriesAreExact : {K V : Type 0} → Reading K → Reading V → Type 0
+EntriesAreExact {K} {V} key val =
+    (same : K → K → Bool) (ordered : Bool) (d n cost slot : ℕ) (adds : ℕ → List ℕ → List (ℕ × Datum)) → IsExact (rules key val same ordered d n cost slot adds)

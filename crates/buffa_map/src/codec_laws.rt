@@ -3,7 +3,7 @@
 ghost use Rattle.std.specs.Prelude.{◌≡◌, ◌↔◌, ℕ, List, [], None, Some, false, true};
 ghost use Rattle.buffa_map.specs.Scalars.{IsLengthy, IsText};
 ghost use Rattle.buffa_wire.specs.Enums.{numbers};
-ghost use Rattle.buffa_map.specs.Codec.{Codes};
+ghost use Rattle.buffa_map.specs.Codec.{Coded, Codes, Every};
 ghost use Rattle.buffa_map.specs.Enums.{OpenNormal, closed_reading, closed_writing, open_reading, open_writing};
 ghost use Rattle.buffa_map.specs.Message.{message_reading};
 ghost use Rattle.buffa_map.specs.Scalars.{bytes_reading, delimited_writing, number_reading, number_writing};
@@ -23,39 +23,39 @@ use crate::map_codec::{
 };
 use buffa_wire::{Blank, Enumeration, MapKey, Message, ProtoBytes, ProtoString, Scalar};
 
-/// How each codec reads and writes, what a value costs, and the length of its payloads. All values are read
-/// back, but for an open enum those alone that hold a declared number as the declared value.
+/// What a codec is, as laws name it: nothing to call.
+pub(crate) trait IsCodec: MapCodec {
+    /// How it reads and writes, and what is said of its values.
+    ghost coded: { Coded Self.Value.Meaning };
+}
+
+impl<VC: MapCodec> IsCodec for VC {
+    ghost coded = { record {
+      reading = VC.reading;
+      writing = VC.writing;
+      cost = VC.COST;
+      undeclared = VC.MAY_RETURN_UNKNOWN;
+      len = VC.FIXED_LEN;
+      Normal = VC.normal;
+    } };
+}
+
+/// How each codec reads and writes, what a value costs, whether one may be undeclared, and the length of its payloads.
+/// All values are read back, but for an open enum those alone that hold a declared number as the declared value.
 pub fn codecs_are_these<N: Scalar, T: ProtoString, P: ProtoBytes, E: Enumeration, M: Message>()
-    ensures scalar { Codes ⟦<N as MapValueDecode>⟧.reading ⟦<N as MapCodec>⟧.writing ⟦<N as MapValueDecode>⟧.COST
-        ⟦<N as MapCodec>⟧.FIXED_LEN ⟦<N as MapCodec>⟧.normal
-        (number_reading N.Form.WIRE_TYPE N.Value.blank_is N.value_of)
-        (number_writing N.Form.WIRE_TYPE N.Form.payload N.number_of) N.UNITS N.LEN (λ _. Unit {0}) }
-    ensures string { Codes ⟦<ProtoStringMap<T> as MapValueDecode>⟧.reading ⟦<ProtoStringMap<T> as MapCodec>⟧.writing
-        ⟦<ProtoStringMap<T> as MapValueDecode>⟧.COST ⟦<ProtoStringMap<T> as MapCodec>⟧.FIXED_LEN
-        ⟦<ProtoStringMap<T> as MapCodec>⟧.normal
-        (string_reading T.blank_is T.of_text) (delimited_writing T.text) 24 None (λ _. Unit {0}) }
-    ensures bytes { Codes ⟦<ProtoBytesMap<P> as MapValueDecode>⟧.reading ⟦<ProtoBytesMap<P> as MapCodec>⟧.writing
-        ⟦<ProtoBytesMap<P> as MapValueDecode>⟧.COST ⟦<ProtoBytesMap<P> as MapCodec>⟧.FIXED_LEN
-        ⟦<ProtoBytesMap<P> as MapCodec>⟧.normal
-        (bytes_reading P.blank_is P.of_bytes) (delimited_writing P.bytes) 24 None (λ _. Unit {0}) }
-    ensures shared { Codes ⟦<BytesBuf as MapValueDecode>⟧.reading ⟦<BytesBuf as MapCodec>⟧.writing
-        ⟦<BytesBuf as MapValueDecode>⟧.COST ⟦<BytesBuf as MapCodec>⟧.FIXED_LEN ⟦<BytesBuf as MapCodec>⟧.normal
-        (bytes_reading [] (λ b. b)) (delimited_writing (λ b. b)) 32 None (λ _. Unit {0}) }
-    ensures closed { Codes ⟦<ClosedEnum<E> as MapValueDecode>⟧.reading ⟦<ClosedEnum<E> as MapCodec>⟧.writing
-        ⟦<ClosedEnum<E> as MapValueDecode>⟧.COST ⟦<ClosedEnum<E> as MapCodec>⟧.FIXED_LEN
-        ⟦<ClosedEnum<E> as MapCodec>⟧.normal
-        (closed_reading (numbers E.of_number E.blank_is)) closed_writing 4 None (λ _. Unit {0}) }
-    ensures open { Codes ⟦<OpenEnum<E> as MapValueDecode>⟧.reading ⟦<OpenEnum<E> as MapCodec>⟧.writing
-        ⟦<OpenEnum<E> as MapValueDecode>⟧.COST ⟦<OpenEnum<E> as MapCodec>⟧.FIXED_LEN
-        ⟦<OpenEnum<E> as MapCodec>⟧.normal
-        (open_reading E.of_number) open_writing 8 None (OpenNormal E.of_number) }
-    ensures undeclared { (⟦<N as MapValueDecode>⟧.MAY_RETURN_UNKNOWN ≡ false)
-        × (⟦<ProtoStringMap<T> as MapValueDecode>⟧.MAY_RETURN_UNKNOWN ≡ false)
-        × (⟦<ProtoBytesMap<P> as MapValueDecode>⟧.MAY_RETURN_UNKNOWN ≡ false)
-        × (⟦<BytesBuf as MapValueDecode>⟧.MAY_RETURN_UNKNOWN ≡ false)
-        × (⟦<ClosedEnum<E> as MapValueDecode>⟧.MAY_RETURN_UNKNOWN ≡ true)
-        × (⟦<OpenEnum<E> as MapValueDecode>⟧.MAY_RETURN_UNKNOWN ≡ false)
-        × (⟦<Msg<M> as MapValueDecode>⟧.MAY_RETURN_UNKNOWN ≡ false) }
+    ensures scalar { Codes ⟦<N as IsCodec>⟧.coded (number_reading N.Form.WIRE_TYPE N.Value.blank_is N.value_of)
+        (number_writing N.Form.WIRE_TYPE N.Form.payload N.number_of) N.UNITS false N.LEN Every }
+    ensures string { Codes ⟦<ProtoStringMap<T> as IsCodec>⟧.coded (string_reading T.blank_is T.of_text)
+        (delimited_writing T.text) 24 false None Every }
+    ensures bytes { Codes ⟦<ProtoBytesMap<P> as IsCodec>⟧.coded (bytes_reading P.blank_is P.of_bytes)
+        (delimited_writing P.bytes) 24 false None Every }
+    ensures shared { Codes ⟦<BytesBuf as IsCodec>⟧.coded (bytes_reading [] (λ b. b)) (delimited_writing (λ b. b))
+        32 false None Every }
+    ensures closed { Codes ⟦<ClosedEnum<E> as IsCodec>⟧.coded (closed_reading (numbers E.of_number E.blank_is))
+        closed_writing 4 true None Every }
+    ensures open { Codes ⟦<OpenEnum<E> as IsCodec>⟧.coded (open_reading E.of_number) open_writing 8 false None
+        (OpenNormal E.of_number) }
+    ensures undeclared { ⟦<Msg<M> as MapValueDecode>⟧.MAY_RETURN_UNKNOWN ≡ false }
     ensures message { (⟦<Msg<M> as MapValueDecode>⟧.reading ≡ message_reading M.blank_is M.merged M.cost)
         × (⟦<Msg<M> as MapValueDecode>⟧.COST ≡ M.COST) }
 {}
@@ -101,15 +101,17 @@ pub fn texts_are_these()
 /// What a value of each scalar costs, and the length of its payloads, where they have one.
 pub fn scalars_cost_so_much()
     ensures varints { (⟦<Int32 as MapValueDecode>⟧.COST ≡ 4) × (⟦<Sint32 as MapValueDecode>⟧.COST ≡ 4)
-        × (⟦<Uint32 as MapValueDecode>⟧.COST ≡ 4) × (⟦<Int64 as MapValueDecode>⟧.COST ≡ 8)
-        × (⟦<Sint64 as MapValueDecode>⟧.COST ≡ 8) × (⟦<Uint64 as MapValueDecode>⟧.COST ≡ 8)
-        × (⟦<Bool as MapValueDecode>⟧.COST ≡ 1) }
+        × (⟦<Uint32 as MapValueDecode>⟧.COST ≡ 4) × (⟦<Bool as MapValueDecode>⟧.COST ≡ 1) }
+    ensures long_varints { (⟦<Int64 as MapValueDecode>⟧.COST ≡ 8) × (⟦<Sint64 as MapValueDecode>⟧.COST ≡ 8)
+        × (⟦<Uint64 as MapValueDecode>⟧.COST ≡ 8) }
     ensures fixed { (⟦<Fixed32 as MapValueDecode>⟧.COST ≡ 4) × (⟦<Sfixed32 as MapValueDecode>⟧.COST ≡ 4)
         × (⟦<Fixed64 as MapValueDecode>⟧.COST ≡ 8) × (⟦<Sfixed64 as MapValueDecode>⟧.COST ≡ 8) }
     ensures lengths { (⟦<Bool as MapCodec>⟧.FIXED_LEN ≡ Some 1) × (⟦<Fixed32 as MapCodec>⟧.FIXED_LEN ≡ Some 4)
-        × (⟦<Sfixed32 as MapCodec>⟧.FIXED_LEN ≡ Some 4) × (⟦<Fixed64 as MapCodec>⟧.FIXED_LEN ≡ Some 8)
+        × (⟦<Sfixed32 as MapCodec>⟧.FIXED_LEN ≡ Some 4) }
+    ensures long_lengths { (⟦<Fixed64 as MapCodec>⟧.FIXED_LEN ≡ Some 8)
         × (⟦<Sfixed64 as MapCodec>⟧.FIXED_LEN ≡ Some 8) }
     ensures none { (⟦<Int32 as MapCodec>⟧.FIXED_LEN ≡ None) × (⟦<Sint32 as MapCodec>⟧.FIXED_LEN ≡ None)
-        × (⟦<Uint32 as MapCodec>⟧.FIXED_LEN ≡ None) × (⟦<Int64 as MapCodec>⟧.FIXED_LEN ≡ None)
-        × (⟦<Sint64 as MapCodec>⟧.FIXED_LEN ≡ None) × (⟦<Uint64 as MapCodec>⟧.FIXED_LEN ≡ None) }
+        × (⟦<Uint32 as MapCodec>⟧.FIXED_LEN ≡ None) }
+    ensures long_none { (⟦<Int64 as MapCodec>⟧.FIXED_LEN ≡ None) × (⟦<Sint64 as MapCodec>⟧.FIXED_LEN ≡ None)
+        × (⟦<Uint64 as MapCodec>⟧.FIXED_LEN ≡ None) }
 {}

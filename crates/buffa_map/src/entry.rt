@@ -3,14 +3,15 @@
 ghost use Rattle.std.specs.Prelude.{◌≡◌, ◌+◌, ◌<◌, ◌≤◌, [], IfErr, IfOk, OnErr, OnOk};
 ghost use Rattle.buffa_bytes.specs.declared.error.DecodeError.TheVariants.{ElementMemoryLimitExceeded, OutOfMemory};
 ghost use Rattle.buffa_wire.specs.BudgetLeft.{budget_left};
+ghost use Rattle.buffa_map.specs.Calls.{MergesEntryIn, MergesEntryLent, MergesWholeIn, ReadsCutIn, ReadsPartsIn};
+ghost use Rattle.buffa_map.specs.Calls.{RefusesEntryIn, RefusesEntryLent, RefusesWholeIn};
 ghost use Rattle.buffa_map.specs.Entry.{meant_entry};
-ghost use Rattle.buffa_map.specs.Lent.{records_in, records_left, room_in, room_left};
-ghost use Rattle.buffa_map.specs.Merge.{MergesEntry, MergesWhole, RefusesEntry, RefusesWhole};
-ghost use Rattle.buffa_map.specs.Merge.{dropping, lending, rules, state};
+ghost use Rattle.buffa_map.specs.Lent.{room_in, room_left};
 ghost use Rattle.buffa_map.specs.Pairs.{InOrder, SamePairs, put};
-ghost use Rattle.buffa_map.specs.Parts.{ReadsCut, ReadsParts, RefusesCut, RefusesParts};
+ghost use Rattle.buffa_map.specs.Parts.{RefusesCut, RefusesParts};
 
 use crate::codec::{MapCodec, MapValueDecode};
+use crate::field::{By, Field, Lends, Reads};
 use crate::fields::merge_fields;
 use crate::keep::{Dropped, Keeper};
 use crate::map_entry::MapEntry;
@@ -43,9 +44,8 @@ fn read_parts<KC: MapCodec, W: MergeValue, B: Buf>(
     how: &W,
 ) -> Result<MapEntry<KC::Value, W::Value>, DecodeError>
     requires { W.may how.now ctx.depth }
-    ensures ok { IfOk result (λ parts. ReadsParts KC.reading W.reading ctx.entry.depth (KC.COST + W.COST)
-        (B.unread buf.old) ctx.entry.budget.now (meant_entry KC.Value.meaning W.Value.meaning parts)
-        (budget_left ctx.exit)) }
+    ensures ok { IfOk result (ReadsPartsIn KC.reading W.reading ctx.entry ctx.exit
+        (meant_entry KC.Value.meaning W.Value.meaning) B.unread (KC.COST + W.COST) buf.old) }
     ensures err { IfErr result (RefusesParts KC.reading W.reading ctx.entry.depth (KC.COST + W.COST)
         (B.unread buf.old) ctx.entry.budget.now (budget_left ctx.exit)) }
     ensures kept { B.beyond buf.new ≡ B.beyond buf.old }
@@ -65,9 +65,8 @@ fn read_cut<KC: MapCodec, W: MergeValue, B: Buf>(
     how: &W,
 ) -> Result<MapEntry<KC::Value, W::Value>, DecodeError>
     requires { W.may how.now ctx.depth }
-    ensures ok { IfOk result (λ parts. ReadsCut KC.reading W.reading ctx.entry.depth (KC.COST + W.COST)
-        len (B.unread buf.old) ctx.entry.budget.now (meant_entry KC.Value.meaning W.Value.meaning parts)
-        (budget_left ctx.exit) (B.unread buf.new)) }
+    ensures ok { IfOk result (ReadsCutIn KC.reading W.reading ctx.entry ctx.exit
+        (meant_entry KC.Value.meaning W.Value.meaning) B.unread (KC.COST + W.COST) len buf.old buf.new) }
     ensures err { IfErr result (RefusesCut KC.reading W.reading ctx.entry.depth (KC.COST + W.COST)
         len (B.unread buf.old) ctx.entry.budget.now (budget_left ctx.exit) (B.unread buf.new)) }
     ensures kept { B.beyond buf.new ≡ B.beyond buf.old }
@@ -116,14 +115,10 @@ fn merge_whole<
     keeper: &mut L,
 ) -> Result<(), DecodeError>
     requires { W.may how.now ctx.depth }
-    ensures ok { OnOk result (MergesWhole
-        (rules KC.reading W.reading C.equal C.keeps_order ctx.entry.depth number (KC.COST + W.COST) L.slot L.adds)
-        (state (C.pairs map.old) (L.records keeper.old) ctx.entry.budget.now) entry.now
-        (state (C.pairs map.new) (L.records keeper.new) (budget_left ctx.exit))) }
-    ensures err { IfErr result (RefusesWhole
-        (rules KC.reading W.reading C.equal C.keeps_order ctx.entry.depth number (KC.COST + W.COST) L.slot L.adds)
-        (state (C.pairs map.old) (L.records keeper.old) ctx.entry.budget.now) entry.now
-        (state (C.pairs map.new) (L.records keeper.new) (budget_left ctx.exit))) }
+    ensures ok { OnOk result (MergesWholeIn ⟦<By<KC, W, C, L> as Reads>⟧.reader number map.old map.new entry.now
+        ctx.entry ctx.exit (L.records keeper.old) (L.records keeper.new)) }
+    ensures err { IfErr result (RefusesWholeIn ⟦<By<KC, W, C, L> as Reads>⟧.reader number map.old map.new entry.now
+        ctx.entry ctx.exit (L.records keeper.old) (L.records keeper.new)) }
     ensures room { L.room keeper.old ≤ L.room keeper.new }
 {
     let DecodeContext { depth, budget } = ctx;
@@ -157,14 +152,10 @@ pub(crate) fn merge_entry_by<
     keeper: &mut L,
 ) -> Result<(), DecodeError>
     requires { W.may how.now ctx.depth }
-    ensures ok { OnOk result (MergesEntry
-        (rules KC.reading W.reading C.equal C.keeps_order ctx.entry.depth number (KC.COST + W.COST) L.slot L.adds)
-        (state (C.pairs map.old) (L.records keeper.old) ctx.entry.budget.now) (B.unread buf.old)
-        (state (C.pairs map.new) (L.records keeper.new) (budget_left ctx.exit)) (B.unread buf.new)) }
-    ensures err { IfErr result (RefusesEntry
-        (rules KC.reading W.reading C.equal C.keeps_order ctx.entry.depth number (KC.COST + W.COST) L.slot L.adds)
-        (state (C.pairs map.old) (L.records keeper.old) ctx.entry.budget.now) (B.unread buf.old)
-        (state (C.pairs map.new) (L.records keeper.new) (budget_left ctx.exit)) (B.unread buf.new)) }
+    ensures ok { OnOk result (MergesEntryIn ⟦<By<KC, W, C, L> as Reads>⟧.reader number map.old map.new
+        B.unread buf.old buf.new ctx.entry ctx.exit (L.records keeper.old) (L.records keeper.new)) }
+    ensures err { IfErr result (RefusesEntryIn ⟦<By<KC, W, C, L> as Reads>⟧.reader number map.old map.new
+        B.unread buf.old buf.new ctx.entry ctx.exit (L.records keeper.old) (L.records keeper.new)) }
     ensures room { L.room keeper.old ≤ L.room keeper.new }
     ensures kept { B.beyond buf.new ≡ B.beyond buf.old }
 {
@@ -208,14 +199,10 @@ pub fn merge_entry<
     C: MapStorage<Key = KC::Value, Value = VC::Value>,
     B: Buf,
 >(alloc: Global, map: &mut C, buf: &mut B, ctx: DecodeContext<'_>) -> Result<(), DecodeError>
-    ensures ok { OnOk result (MergesEntry
-        (dropping KC.reading VC.reading C.equal C.keeps_order ctx.entry.depth 0 (KC.COST + VC.COST))
-        (state (C.pairs map.old) [] ctx.entry.budget.now) (B.unread buf.old)
-        (state (C.pairs map.new) [] (budget_left ctx.exit)) (B.unread buf.new)) }
-    ensures err { IfErr result (RefusesEntry
-        (dropping KC.reading VC.reading C.equal C.keeps_order ctx.entry.depth 0 (KC.COST + VC.COST))
-        (state (C.pairs map.old) [] ctx.entry.budget.now) (B.unread buf.old)
-        (state (C.pairs map.new) [] (budget_left ctx.exit)) (B.unread buf.new)) }
+    ensures ok { OnOk result (MergesEntryIn ⟦<Field<KC, VC, C> as Reads>⟧.reader 0 map.old map.new
+        B.unread buf.old buf.new ctx.entry ctx.exit [] []) }
+    ensures err { IfErr result (RefusesEntryIn ⟦<Field<KC, VC, C> as Reads>⟧.reader 0 map.old map.new
+        B.unread buf.old buf.new ctx.entry ctx.exit [] []) }
     ensures kept { B.beyond buf.new ≡ B.beyond buf.old }
 {
     let how = ByCodec::<VC>::new();
@@ -250,14 +237,10 @@ pub fn merge_entry_with_unknowns<
     number: u32,
     unknown: Option<&mut UnknownFields>,
 ) -> Result<(), DecodeError>
-    ensures ok { OnOk result (MergesEntry
-        (lending KC.reading VC.reading C.equal C.keeps_order ctx.entry.depth number (KC.COST + VC.COST) unknown.entry)
-        (state (C.pairs map.old) (records_in unknown.entry) ctx.entry.budget.now) (B.unread buf.old)
-        (state (C.pairs map.new) (records_left unknown.exit) (budget_left ctx.exit)) (B.unread buf.new)) }
-    ensures err { IfErr result (RefusesEntry
-        (lending KC.reading VC.reading C.equal C.keeps_order ctx.entry.depth number (KC.COST + VC.COST) unknown.entry)
-        (state (C.pairs map.old) (records_in unknown.entry) ctx.entry.budget.now) (B.unread buf.old)
-        (state (C.pairs map.new) (records_left unknown.exit) (budget_left ctx.exit)) (B.unread buf.new)) }
+    ensures ok { OnOk result (MergesEntryLent ⟦<Field<KC, VC, C> as Lends>⟧.lender number map.old map.new
+        B.unread buf.old buf.new ctx.entry ctx.exit unknown.entry unknown.exit) }
+    ensures err { IfErr result (RefusesEntryLent ⟦<Field<KC, VC, C> as Lends>⟧.lender number map.old map.new
+        B.unread buf.old buf.new ctx.entry ctx.exit unknown.entry unknown.exit) }
     ensures room { room_in unknown.entry ≤ room_left unknown.exit }
     ensures kept { B.beyond buf.new ≡ B.beyond buf.old }
 {

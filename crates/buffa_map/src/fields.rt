@@ -2,8 +2,9 @@
 
 ghost use Rattle.std.specs.Prelude.{◌≡◌, IfErr, IfOk, OnOk};
 ghost use Rattle.buffa_wire.specs.BudgetLeft.{budget_left};
+ghost use Rattle.buffa_map.specs.Calls.{MergesFieldIn, MergesFieldsIn};
 ghost use Rattle.buffa_map.specs.Entry.{meant_entry};
-ghost use Rattle.buffa_map.specs.Fields.{MergesField, MergesFields, RefusesField, RefusesFields};
+ghost use Rattle.buffa_map.specs.Fields.{RefusesField, RefusesFields};
 
 use crate::codec::{MapValueDecode, MapValueDecodeStatus};
 use crate::map_entry::MapEntry;
@@ -20,9 +21,8 @@ fn merge_field<KC: MapValueDecode, W: MergeValue, B: Buf>(
     how: &W,
 ) -> Result<(), DecodeError>
     requires { W.may how.now ctx.depth }
-    ensures ok { OnOk result (MergesField KC.reading W.reading ctx.entry.depth
-        (meant_entry KC.Value.meaning W.Value.meaning parts.old) ctx.entry.budget.now (B.unread buf.old)
-        (meant_entry KC.Value.meaning W.Value.meaning parts.new) (budget_left ctx.exit) (B.unread buf.new)) }
+    ensures ok { OnOk result (MergesFieldIn KC.reading W.reading ctx.entry ctx.exit
+        (meant_entry KC.Value.meaning W.Value.meaning) B.unread parts.old parts.new buf.old buf.new) }
     ensures err { IfErr result (RefusesField KC.reading W.reading ctx.entry.depth
         (meant_entry KC.Value.meaning W.Value.meaning parts.old) ctx.entry.budget.now (B.unread buf.old)
         (budget_left ctx.exit)) }
@@ -53,8 +53,8 @@ pub(crate) fn merge_fields<KC: MapValueDecode, W: MergeValue, B: Buf>(
     how: &W,
 ) -> Result<MapEntry<KC::Value, W::Value>, DecodeError>
     requires { W.may how.now ctx.depth }
-    ensures ok { IfOk result (λ parts. MergesFields KC.reading W.reading ctx.entry.depth (B.unread buf.old)
-        ctx.entry.budget.now (meant_entry KC.Value.meaning W.Value.meaning parts) (budget_left ctx.exit)) }
+    ensures ok { IfOk result (MergesFieldsIn KC.reading W.reading ctx.entry ctx.exit
+        (meant_entry KC.Value.meaning W.Value.meaning) B.unread buf.old) }
     ensures err { IfErr result (RefusesFields KC.reading W.reading ctx.entry.depth (B.unread buf.old)
         ctx.entry.budget.now (budget_left ctx.exit)) }
     ensures kept { B.beyond buf.new ≡ B.beyond buf.old }

@@ -1,14 +1,13 @@
 //! What the definitions say together: each law is a function with nothing to do, whose contract is the law.
 
-ghost use Rattle.std.specs.Prelude.{◌≡◌, Bool, List, Some, ℕ};
+ghost use Rattle.std.specs.Prelude.{◌≡◌, Some};
 ghost use Rattle.buffa_wire.specs.Parse.{Fits};
-ghost use Rattle.buffa_wire.specs.Records.{Datum, records_of};
+ghost use Rattle.buffa_wire.specs.Records.{records_of};
 ghost use Rattle.buffa_map.specs.Laws.{EntriesAreRead, LimitsAreTrue, NeedsUnits, OneReading, RewriteMeans};
 ghost use Rattle.buffa_map.specs.Laws.{RunsAreRead, RunsJoin, SizeIsLength, ValuesAreRead, WalksAgree, WrittenIsRead};
 ghost use Rattle.buffa_map.specs.Laws.{MessagesAreRead, NewerTakes};
-ghost use Rattle.buffa_map.specs.Merge.{rules};
 ghost use Rattle.buffa_map.specs.Message.{message_reading};
-ghost use Rattle.buffa_map.specs.Plain.{IsExact};
+ghost use Rattle.buffa_map.specs.Plain.{EntriesAreExact};
 ghost use Rattle.buffa_map.specs.Rewrite.{rewrite_error_text};
 ghost use Rattle.buffa_map.specs.declared.rewrite.RewriteError.{RewriteError};
 
@@ -54,8 +53,7 @@ pub fn plain_entries_need_units<KC: MapValueDecode, VC: MapValueDecode>()
 
 /// Where no payload is a message, an entry's fault is the first, and it spends its cost or nothing.
 pub fn plain_entries_are_exact<KC: MapCodec, VC: MapCodec>()
-    ensures { (same : KC.Value.Meaning → KC.Value.Meaning → Bool) (ordered : Bool) (d n cost slot : ℕ) →
-        (adds : ℕ → List ℕ → List (ℕ × Datum)) → IsExact (rules KC.reading VC.reading same ordered d n cost slot adds) }
+    ensures { EntriesAreExact KC.reading VC.reading }
 {
     plain_entries_need_units::<KC, VC>();
 }

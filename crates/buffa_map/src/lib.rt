@@ -10,6 +10,7 @@
 mod codec;
 mod codec_laws;
 mod entry;
+mod field;
 mod fields;
 mod hashed;
 mod indexed;

@@ -7,7 +7,8 @@ ghost use Rattle.buffa_bytes.specs.declared.wire_type.WireType.TheVariants.{Leng
 ghost use Rattle.buffa_bytes.specs.Gives.{FullOnlyIf};
 ghost use Rattle.buffa_wire.specs.Content.{Content, bytes_in};
 ghost use Rattle.buffa_wire.specs.BudgetLeft.{budget_left, nothing};
-ghost use Rattle.buffa_wire.specs.Message.{IsMerged, merged_in};
+ghost use Rattle.buffa_wire.specs.Message.{merged_in};
+ghost use Rattle.buffa_map.specs.Calls.{MergesMessages};
 ghost use Rattle.buffa_map.specs.Codec.{AlwaysDeclared, Reading, Refuses, Spends, TakesMemory, is_known};
 ghost use Rattle.buffa_map.specs.Codec.{value_at, value_need};
 ghost use Rattle.buffa_map.specs.Message.{message_reading};
@@ -171,8 +172,7 @@ impl<M: MessageSpec, F: Fn(&mut M, &[u8], u32, &mut Budget) -> Result<(), Decode
 
     ghost may = { λ by d.
         ((x : _) (b : _) (e : _) (w : _) → e + 1 ≡ d → F.pre by.merge x b e w)
-        × ((x : _) (b : _) (e : _) (w : _) (r : _) (y : _) (v : _) → e + 1 ≡ d → F.post by.merge x b e w r y v →
-        IsMerged (M.merged e (M.meaning x.now) b.now) (M.cost e b.now) w.now r (M.meaning y.now) v.now) };
+        × MergesMessages (F.post by.merge) M.meaning M.merged M.cost d };
 
     fn merge<B: Buf>(
         &self,

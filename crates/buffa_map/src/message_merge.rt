@@ -1,17 +1,18 @@
 //! Entries of messages, merged by a function.
 
-ghost use Rattle.std.specs.Prelude.{◌≡◌, ◌≢◌, ◌+◌, ◌<◌, List, [], ℕ, IfErr, IsOk, Ok, OnErr, OnOk, Some, true};
+ghost use Rattle.std.specs.Prelude.{◌≡◌, ◌≢◌, ◌+◌, ◌<◌, [], IfErr, IsOk, Ok, OnErr, OnOk, true};
 ghost use Rattle.buffa_bytes.specs.Gives.{FullOnlyIf};
 ghost use Rattle.buffa_bytes.specs.Reading.{delimited_at};
 ghost use Rattle.buffa_bytes.specs.declared.error.DecodeError.TheVariants.{OutOfMemory};
-ghost use Rattle.buffa_wire.specs.BudgetLeft.{Pays, PaysAtMost, budget_left};
-ghost use Rattle.buffa_wire.specs.Message.{IsMerged, PayloadFault, cost_in, cost_of_payload, merged_in};
+ghost use Rattle.buffa_wire.specs.BudgetLeft.{PaysAtMost, budget_left};
+ghost use Rattle.buffa_wire.specs.Message.{MergesInside, PayloadFault, cost_of_payload};
+ghost use Rattle.buffa_map.specs.Calls.{MergesEntryIn, MergesMessages, RefusesEntryIn};
 ghost use Rattle.buffa_map.specs.Codec.{Refuses, Spends, TakesMemory, value_at, value_need};
-ghost use Rattle.buffa_map.specs.Merge.{MergesEntry, RefusesEntry, dropping, state};
 ghost use Rattle.buffa_map.specs.Message.{message_reading};
 
 use crate::codec::MapCodec;
 use crate::entry::merge_entry_by;
+use crate::field::{Messages, Reads};
 use crate::keep::Dropped;
 use crate::merge_value::ByFunction;
 use crate::storage::MapStorage;
@@ -30,12 +31,9 @@ fn merge_payload_by<M: MessageSpec, B: Buf, F>(
 where
     F: Fn(&mut M, &[u8], u32, &mut Budget) -> Result<(), DecodeError>,
     requires may { (x : _) (b : _) (d : _) (w : _) → d + 1 ≡ ctx.depth → F.pre merge.now x b d w }
-    requires keeps { (x : _) (b : _) (d : _) (w : _) (r : _) (y : _) (v : _) → d + 1 ≡ ctx.depth →
-        F.post merge.now x b d w r y v →
-        IsMerged (M.merged d (M.meaning x.now) b.now) (M.cost d b.now) w.now r (M.meaning y.now) v.now }
-    ensures ok { OnOk result ((b : List ℕ) × (delimited_at (B.unread buf.old) ≡ Ok (b, B.unread buf.new))
-        × (merged_in M.merged ctx.entry.depth (M.meaning value.old) b ≡ Some (M.meaning value.new))
-        × Pays ctx.entry.budget.now (cost_in M.cost ctx.entry.depth b) (budget_left ctx.exit)) }
+    requires keeps { MergesMessages (F.post merge.now) M.meaning M.merged M.cost ctx.depth }
+    ensures ok { OnOk result (MergesInside M.merged M.cost ctx.entry (M.meaning value.old) (B.unread buf.old)
+        (M.meaning value.new) (budget_left ctx.exit) (B.unread buf.new)) }
     ensures fault { IfErr result (λ e. e ≢ OutOfMemory →
         PayloadFault M.merged M.cost ctx.entry.depth (M.meaning value.old) (B.unread buf.old) ctx.entry.budget.now
         e) }
@@ -63,9 +61,7 @@ pub(crate) fn merge_value_by<M: MessageSpec, B: Buf, F>(
 where
     F: Fn(&mut M, &[u8], u32, &mut Budget) -> Result<(), DecodeError>,
     requires may { (x : _) (b : _) (d : _) (w : _) → d + 1 ≡ ctx.depth → F.pre merge.now x b d w }
-    requires keeps { (x : _) (b : _) (d : _) (w : _) (r : _) (y : _) (v : _) → d + 1 ≡ ctx.depth →
-        F.post merge.now x b d w r y v →
-        IsMerged (M.merged d (M.meaning x.now) b.now) (M.cost d b.now) w.now r (M.meaning y.now) v.now }
+    requires keeps { MergesMessages (F.post merge.now) M.meaning M.merged M.cost ctx.depth }
     ensures ok { OnOk result (value_at (message_reading M.blank_is M.merged M.cost) ctx.entry.depth
         (M.meaning value.old) (B.unread buf.old) ≡ Ok ((M.meaning value.new, true), B.unread buf.new)) }
     ensures fault { IfErr result (λ e. e ≢ OutOfMemory →
@@ -104,19 +100,11 @@ pub fn merge_message_entry_by<
     merge: F,
 ) -> Result<(), DecodeError>
     requires may { (x : _) (b : _) (d : _) (w : _) → d + 1 ≡ ctx.depth → F.pre merge x b d w }
-    requires keeps { (x : _) (b : _) (d : _) (w : _) (r : _) (y : _) (v : _) → d + 1 ≡ ctx.depth →
-        F.post merge x b d w r y v → IsMerged (M.merged d (M.meaning x.now) b.now) (M.cost d b.now) w.now r
-        (M.meaning y.now) v.now }
-    ensures ok { OnOk result (MergesEntry
-        (dropping KC.reading (message_reading M.blank_is M.merged M.cost) C.equal C.keeps_order ctx.entry.depth 0
-        (KC.COST + M.COST))
-        (state (C.pairs map.old) [] ctx.entry.budget.now) (B.unread buf.old)
-        (state (C.pairs map.new) [] (budget_left ctx.exit)) (B.unread buf.new)) }
-    ensures err { IfErr result (RefusesEntry
-        (dropping KC.reading (message_reading M.blank_is M.merged M.cost) C.equal C.keeps_order ctx.entry.depth 0
-        (KC.COST + M.COST))
-        (state (C.pairs map.old) [] ctx.entry.budget.now) (B.unread buf.old)
-        (state (C.pairs map.new) [] (budget_left ctx.exit)) (B.unread buf.new)) }
+    requires keeps { MergesMessages (F.post merge) M.meaning M.merged M.cost ctx.depth }
+    ensures ok { OnOk result (MergesEntryIn ⟦<Messages<KC, M, C> as Reads>⟧.reader 0 map.old map.new
+        B.unread buf.old buf.new ctx.entry ctx.exit [] []) }
+    ensures err { IfErr result (RefusesEntryIn ⟦<Messages<KC, M, C> as Reads>⟧.reader 0 map.old map.new
+        B.unread buf.old buf.new ctx.entry ctx.exit [] []) }
     ensures kept { B.beyond buf.new ≡ B.beyond buf.old }
 {
     let how = ByFunction::new(merge);

@@ -3,8 +3,8 @@
 ghost use Rattle.std.specs.Prelude.{◌≡◌, ◌≢◌, ◌+◌, [], length, OnErr};
 ghost use Rattle.std.specs.List.{Contains};
 ghost use Rattle.std.specs.Map.{values_of};
-ghost use Rattle.buffa_wire.specs.Passes.{IsSized};
 ghost use Rattle.buffa_wire.specs.Varint.{varint_text};
+ghost use Rattle.buffa_map.specs.Calls.{SizesMessages};
 ghost use Rattle.buffa_map.specs.MessageField.{IsFieldSized, entry_size};
 ghost use Rattle.buffa_map.specs.Text.{saturated};
 
@@ -52,8 +52,7 @@ pub fn message_field_len_by<
 where
     KC::Value: 'a,
     requires may { (x : _) (c : _) → Contains (values_of (C.walk map.now)) (M.meaning x.now) → F.pre size x c }
-    requires keeps { (x : _) (c : _) (r : _) (d : _) → Contains (values_of (C.walk map.now)) (M.meaning x.now) →
-        F.post size x c r d → IsSized (M.text (M.meaning x.now)) (M.slots (M.meaning x.now)) c.now r d.now }
+    requires keeps { SizesMessages (F.post size) (Contains (values_of (C.walk map.now))) M.meaning M.text M.slots }
     ensures sized { IsFieldSized KC.writing M.text M.slots outer_tag_len (C.walk map.now) cache.old result cache.new }
     ensures some { OnErr result (C.pairs map.now ≢ []) }
 {

@@ -4,10 +4,11 @@ ghost use Rattle.std.specs.Prelude.{◌≡◌, ◌≢◌, ◌∷◌, [], length,
 ghost use Rattle.std.specs.List.{Contains};
 ghost use Rattle.std.specs.Map.{values_of};
 ghost use Rattle.buffa_wire.specs.Number.{IsNumber};
-ghost use Rattle.buffa_wire.specs.Passes.{IsNext, IsWritten, cap};
+ghost use Rattle.buffa_wire.specs.Passes.{IsNext, cap};
 ghost use Rattle.buffa_wire.specs.Written.{UsesRoom, Writes};
+ghost use Rattle.buffa_map.specs.Calls.{KeepsRecordRoom, WritesMessages};
 ghost use Rattle.buffa_map.specs.MessageField.{IsFieldWritten, IsRecordWritten, KeepsRoom, UsesFieldRoom};
-ghost use Rattle.buffa_map.specs.MessageField.{UsesRecordRoom, field_slots, head_text, key_and_length};
+ghost use Rattle.buffa_map.specs.MessageField.{field_slots, head_text, key_and_length};
 
 use crate::codec::MapCodec;
 use crate::message_size::message_entry_len;
@@ -64,14 +65,11 @@ where
     requires next { IsNext (cap (length (M.text (M.meaning value.now))) ∷ M.slots (M.meaning value.now)) cache.old }
     requires may { (x : _) (c : _) (s : _) → x.now ≡ value.now → IsNext (M.slots (M.meaning x.now)) c.now →
         F.pre write.now x c s }
-    requires keeps { (x : _) (c : _) (s : _) (r : _) (d : _) (t : _) → x.now ≡ value.now →
-        F.post write.now x c s r d t →
-        IsWritten (M.text (M.meaning x.now)) (M.slots (M.meaning x.now)) c.now (S.written s.now) r d.now
-        (S.written t.now) }
+    requires keeps { WritesMessages (F.post write.now) (λ x. x ≡ value.now) M.meaning M.text M.slots S.written }
     ensures written { IsRecordWritten KC.writing M.text M.slots number (KC.Value.meaning key.now, M.meaning value.now)
         cache.old (S.written sink.old) result cache.new (S.written sink.new) }
-    ensures room { KeepsRoom (F.post write.now) (λ v. M.text (M.meaning v)) S.room → UsesRecordRoom KC.writing M.text
-        number (KC.Value.meaning key.now, M.meaning value.now) result (S.room sink.old) (S.room sink.new) }
+    ensures room { KeepsRecordRoom (F.post write.now) M.meaning S.room KC.writing M.text number
+        (KC.Value.meaning key.now, M.meaning value.now) result sink.old sink.new }
 {
     let inner = cache.consume_next();
     write_message_head::<KC, S>(number, key, inner, sink)?;
@@ -107,10 +105,8 @@ where
     requires next { IsNext (field_slots M.text M.slots (C.walk map.now)) cache.old }
     requires may { (x : _) (c : _) (s : _) → Contains (values_of (C.walk map.now)) (M.meaning x.now) →
         IsNext (M.slots (M.meaning x.now)) c.now → F.pre write x c s }
-    requires keeps { (x : _) (c : _) (s : _) (r : _) (d : _) (t : _) →
-        Contains (values_of (C.walk map.now)) (M.meaning x.now) → F.post write x c s r d t →
-        IsWritten (M.text (M.meaning x.now)) (M.slots (M.meaning x.now)) c.now (S.written s.now) r d.now
-        (S.written t.now) }
+    requires keeps { WritesMessages (F.post write) (λ x. Contains (values_of (C.walk map.now)) (M.meaning x))
+        M.meaning M.text M.slots S.written }
     ensures written { IsFieldWritten KC.writing M.text M.slots field_number (C.walk map.now) cache.old
         (S.written sink.old) result cache.new (S.written sink.new) }
     ensures some { OnErr result (C.walk map.now ≢ []) }

@@ -1,12 +1,8 @@
 //! What the contracts leave open: any two answers that one of them allows for one input are one, but for what is
 //! said beside each law.
 
-ghost use Rattle.std.specs.Prelude.{Bool, List, ℕ};
-ghost use Rattle.buffa_wire.specs.Records.{Datum};
-ghost use Rattle.buffa_wire.specs.BudgetLeft.{BudgetLeft};
-ghost use Rattle.buffa_map.specs.Merge.{keeping, rules};
-ghost use Rattle.buffa_map.specs.Pinned.{EntryIsPinned, RunIsPinned, ValueIsPinned};
-ghost use Rattle.buffa_map.specs.PinnedTexts.{FieldIsPinned, MessagesArePinned, PutIsPinned, RewriteIsPinned};
+ghost use Rattle.buffa_map.specs.Pinned.{EntriesArePinned, RunsArePinned, ValueIsPinned};
+ghost use Rattle.buffa_map.specs.PinnedTexts.{FieldIsPinned, MessagesArePinned, PutIsPinned, RewritesArePinned};
 
 use crate::codec::{MapCodec, MapValueDecode};
 use crate::storage::MapStorage;
@@ -21,16 +17,12 @@ pub fn values_are_pinned<VC: MapValueDecode>()
 /// follows a length that isn't there; and where a payload is a message, which of its faults is told, and what is spent
 /// for it.
 pub fn entries_are_pinned<KC: MapValueDecode, VC: MapValueDecode>()
-    ensures { (same : KC.Value.Meaning → KC.Value.Meaning → Bool) (ordered : Bool) (d n cost slot : ℕ) →
-        (adds : ℕ → List ℕ → List (ℕ × Datum)) →
-        EntryIsPinned (rules KC.reading VC.reading same ordered d n cost slot adds) }
+    ensures { EntriesArePinned KC.reading VC.reading }
 {}
 
 /// A run is read in one way only, and a fault comes after the same entries, and is one. Open is what is open of an entry.
 pub fn runs_are_pinned<KC: MapValueDecode, VC: MapValueDecode>()
-    ensures { (same : KC.Value.Meaning → KC.Value.Meaning → Bool) (ordered : Bool) (d n cost slot : ℕ) →
-        (adds : ℕ → List ℕ → List (ℕ × Datum)) →
-        RunIsPinned (rules KC.reading VC.reading same ordered d n cost slot adds) }
+    ensures { RunsArePinned KC.reading VC.reading }
 {}
 
 /// A map field has one size and one text for one walk, and is refused at one entry. Open is which walk a storage gives
@@ -56,10 +48,7 @@ pub fn rewrites_are_pinned<
     VC: MapCodec,
     C: MapStorage<Key = KC::Value, Value = VC::Value>,
 >()
-    ensures { (d n cost : ℕ) (one other : C) (left : BudgetLeft) (bytes : List ℕ)
-        (a b : List (KC.Value.Meaning × VC.Value.Meaning)) (over last : BudgetLeft) (x y old v w : List ℕ) (room : ℕ) →
-        RewriteIsPinned (keeping KC.reading VC.reading C.equal C.keeps_order d n cost) KC.writing VC.writing KC.fits
-        VC.fits (C.walks one) (C.walks other) left bytes a b over last x y old v w room }
+    ensures { RewritesArePinned KC.reading VC.reading C.equal C.keeps_order C.walks KC.writing VC.writing KC.fits VC.fits }
 {}
 
 /// A put keeps a stored key, and changes no other pair; where the order is kept, it leaves one list. Open is, elsewhere,

@@ -1,13 +1,12 @@
 //! The rewrite of a map field by a reader that doesn't know all its values.
 
-ghost use Rattle.std.specs.Prelude.{◌≡◌, ◌+◌, [], IfErr, OnOk};
-ghost use Rattle.buffa_wire.specs.BudgetLeft.{budget_left};
+ghost use Rattle.std.specs.Prelude.{◌≡◌, IfErr, OnOk};
 ghost use Rattle.buffa_wire.specs.Number.{IsNumber};
-ghost use Rattle.buffa_map.specs.Merge.{ReadsRun, StopsRun, keeping, state};
-ghost use Rattle.buffa_map.specs.Rewrite.{MatchRefusal, RefusesBytes, RefusesOutput, RewritesRun, WritesWalk};
+ghost use Rattle.buffa_map.specs.Calls.{ReadsAnew, RefusesRewriteIn, RewritesIn, StopsAnew, WritesWithKept};
 ghost use Rattle.buffa_map.specs.Rewrite.{rewrite_error_text};
 
 use crate::codec::MapCodec;
+use crate::field::{Field, Rewrites};
 use crate::run::read_run_by;
 use crate::storage::{MapStorage, MapWrite};
 use buffa_wire::{Buf, DecodeContext, DecodeError, EncodeError, EncodeSink, UnknownFields};
@@ -54,14 +53,10 @@ fn read_anew<KC: MapCodec, VC: MapCodec, C: MapStorage<Key = KC::Value, Value = 
     ctx: DecodeContext<'_>,
     kept: &mut UnknownFields,
 ) -> Result<(), DecodeError>
-    ensures ok { OnOk result (ReadsRun
-        (keeping KC.reading VC.reading C.equal C.keeps_order ctx.entry.depth number (KC.COST + VC.COST))
-        (state [] kept.old.records ctx.entry.budget.now) (B.unread buf.old)
-        (state (C.pairs map.new) kept.new.records (budget_left ctx.exit)) (B.unread buf.new)) }
-    ensures err { IfErr result (StopsRun
-        (keeping KC.reading VC.reading C.equal C.keeps_order ctx.entry.depth number (KC.COST + VC.COST))
-        (state [] kept.old.records ctx.entry.budget.now) (B.unread buf.old)
-        (state (C.pairs map.new) kept.new.records (budget_left ctx.exit)) (B.unread buf.new)) }
+    ensures ok { OnOk result (ReadsAnew ⟦<Field<KC, VC, C> as Rewrites>⟧.rewriter number map.new
+        B.unread buf.old buf.new ctx.entry ctx.exit kept.old kept.new) }
+    ensures err { IfErr result (StopsAnew ⟦<Field<KC, VC, C> as Rewrites>⟧.rewriter number map.new
+        B.unread buf.old buf.new ctx.entry ctx.exit kept.old kept.new) }
     ensures buffer { B.beyond buf.new ≡ B.beyond buf.old }
 {
     map.storage_clear();
@@ -76,8 +71,8 @@ fn write_with<
     S: EncodeSink,
 >(map: &C, number: u32, kept: &UnknownFields, sink: &mut S) -> Result<(), EncodeError>
     requires { IsNumber number }
-    ensures { WritesWalk C.equal (C.walks map.now) KC.writing VC.writing KC.fits VC.fits number (C.pairs map.now)
-        kept.now.records (S.written sink.old) (S.room sink.old) result (S.written sink.new) (S.room sink.new) }
+    ensures { WritesWithKept C.equal C.walks C.pairs map.now KC.writing VC.writing KC.fits VC.fits number
+        kept.now.records S.written S.room sink.old sink.new result }
 {
     map.storage_write::<KC, VC, S>(number, sink)?;
     kept.write_to(sink)
@@ -116,19 +111,10 @@ pub fn rewrite_map_field<
     sink: &mut S,
 ) -> Result<(), RewriteError>
     requires { IsNumber number }
-    ensures ok { OnOk result (RewritesRun
-        (keeping KC.reading VC.reading C.equal C.keeps_order ctx.entry.depth number (KC.COST + VC.COST))
-        KC.writing VC.writing KC.fits VC.fits (C.walks map.new) ctx.entry.budget.now (B.unread buf.old)
-        (C.pairs map.new) (budget_left ctx.exit) (B.unread buf.new) (S.written sink.old) (S.written sink.new)
-        (S.room sink.old) (S.room sink.new)) }
-    ensures refused { IfErr result (λ r. MatchRefusal r
-        (RefusesBytes (keeping KC.reading VC.reading C.equal C.keeps_order ctx.entry.depth number (KC.COST + VC.COST))
-        ctx.entry.budget.now (B.unread buf.old)
-        (C.pairs map.new) (budget_left ctx.exit) (B.unread buf.new) (S.written sink.old) (S.written sink.new))
-        (RefusesOutput (keeping KC.reading VC.reading C.equal C.keeps_order ctx.entry.depth number (KC.COST + VC.COST))
-        KC.writing VC.writing (C.walks map.new) ctx.entry.budget.now (B.unread buf.old)
-        (C.pairs map.new) (budget_left ctx.exit) (B.unread buf.new) (S.written sink.old) (S.written sink.new)
-        (S.room sink.old))) }
+    ensures ok { OnOk result (RewritesIn ⟦<Field<KC, VC, C> as Rewrites>⟧.rewriter number map.new
+        B.unread buf.old buf.new ctx.entry ctx.exit S.written S.room sink.old sink.new) }
+    ensures refused { IfErr result (RefusesRewriteIn ⟦<Field<KC, VC, C> as Rewrites>⟧.rewriter number map.new
+        B.unread buf.old buf.new ctx.entry ctx.exit S.written S.room sink.old sink.new) }
     ensures kept { B.beyond buf.new ≡ B.beyond buf.old }
 {
     let mut unread = UnknownFields::new(alloc);

@@ -1,12 +1,12 @@
 //! A run of map records.
 
-ghost use Rattle.std.specs.Prelude.{◌≡◌, ◌+◌, ◌≤◌, IfErr, OnOk};
-ghost use Rattle.buffa_wire.specs.BudgetLeft.{budget_left};
-ghost use Rattle.buffa_map.specs.Lent.{records_in, records_left, room_in, room_left};
-ghost use Rattle.buffa_map.specs.Merge.{ReadsRun, StopsRun, lending, rules, state};
+ghost use Rattle.std.specs.Prelude.{◌≡◌, ◌≤◌, IfErr, OnOk};
+ghost use Rattle.buffa_map.specs.Calls.{ReadsRunIn, ReadsRunLent, StopsRunIn, StopsRunLent};
+ghost use Rattle.buffa_map.specs.Lent.{room_in, room_left};
 
 use crate::codec::{MapCodec, MapValueDecode};
 use crate::entry::merge_entry_by;
+use crate::field::{By, Field, Lends, Reads};
 use crate::keep::{Dropped, Keeper};
 use crate::merge_value::ByCodec;
 use crate::storage::MapStorage;
@@ -28,14 +28,10 @@ pub(crate) fn read_run_by<
     ctx: DecodeContext<'_>,
     keeper: &mut L,
 ) -> Result<(), DecodeError>
-    ensures ok { OnOk result (ReadsRun
-        (rules KC.reading VC.reading C.equal C.keeps_order ctx.entry.depth number (KC.COST + VC.COST) L.slot L.adds)
-        (state (C.pairs map.old) (L.records keeper.old) ctx.entry.budget.now) (B.unread buf.old)
-        (state (C.pairs map.new) (L.records keeper.new) (budget_left ctx.exit)) (B.unread buf.new)) }
-    ensures err { IfErr result (StopsRun
-        (rules KC.reading VC.reading C.equal C.keeps_order ctx.entry.depth number (KC.COST + VC.COST) L.slot L.adds)
-        (state (C.pairs map.old) (L.records keeper.old) ctx.entry.budget.now) (B.unread buf.old)
-        (state (C.pairs map.new) (L.records keeper.new) (budget_left ctx.exit)) (B.unread buf.new)) }
+    ensures ok { OnOk result (ReadsRunIn ⟦<By<KC, ByCodec<VC>, C, L> as Reads>⟧.reader number map.old map.new
+        B.unread buf.old buf.new ctx.entry ctx.exit (L.records keeper.old) (L.records keeper.new)) }
+    ensures err { IfErr result (StopsRunIn ⟦<By<KC, ByCodec<VC>, C, L> as Reads>⟧.reader number map.old map.new
+        B.unread buf.old buf.new ctx.entry ctx.exit (L.records keeper.old) (L.records keeper.new)) }
     ensures room { L.room keeper.old ≤ L.room keeper.new }
     ensures kept { B.beyond buf.new ≡ B.beyond buf.old }
 {
@@ -85,14 +81,10 @@ pub fn read_map_field<
     ctx: DecodeContext<'_>,
     unknown: Option<&mut UnknownFields>,
 ) -> Result<(), DecodeError>
-    ensures ok { OnOk result (ReadsRun
-        (lending KC.reading VC.reading C.equal C.keeps_order ctx.entry.depth number (KC.COST + VC.COST) unknown.entry)
-        (state (C.pairs map.old) (records_in unknown.entry) ctx.entry.budget.now) (B.unread buf.old)
-        (state (C.pairs map.new) (records_left unknown.exit) (budget_left ctx.exit)) (B.unread buf.new)) }
-    ensures err { IfErr result (StopsRun
-        (lending KC.reading VC.reading C.equal C.keeps_order ctx.entry.depth number (KC.COST + VC.COST) unknown.entry)
-        (state (C.pairs map.old) (records_in unknown.entry) ctx.entry.budget.now) (B.unread buf.old)
-        (state (C.pairs map.new) (records_left unknown.exit) (budget_left ctx.exit)) (B.unread buf.new)) }
+    ensures ok { OnOk result (ReadsRunLent ⟦<Field<KC, VC, C> as Lends>⟧.lender number map.old map.new
+        B.unread buf.old buf.new ctx.entry ctx.exit unknown.entry unknown.exit) }
+    ensures err { IfErr result (StopsRunLent ⟦<Field<KC, VC, C> as Lends>⟧.lender number map.old map.new
+        B.unread buf.old buf.new ctx.entry ctx.exit unknown.entry unknown.exit) }
     ensures room { room_in unknown.entry ≤ room_left unknown.exit }
     ensures kept { B.beyond buf.new ≡ B.beyond buf.old }
 {

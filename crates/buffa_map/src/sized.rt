@@ -1,9 +1,8 @@
 //! A map field, sized and written.
 
-ghost use Rattle.std.specs.Prelude.{◌≡◌, ◌+◌, ◌-◌, List, IfOk, OnOk, length, vec_capacity, vec_len};
+ghost use Rattle.std.specs.Prelude.{◌≡◌, ◌+◌, ◌-◌, IfOk, length, vec_capacity, vec_len};
 ghost use Rattle.buffa_wire.specs.Number.{IsNumber};
-ghost use Rattle.buffa_map.specs.Pairs.{ListsOnce};
-ghost use Rattle.buffa_map.specs.Text.{AllHold, UsesRoomOf, WritesField, field_text};
+ghost use Rattle.buffa_map.specs.Calls.{WritesMapField};
 
 use crate::codec::MapCodec;
 use crate::size::field_len;
@@ -33,12 +32,8 @@ where
     VC::Value: 'a,
     requires { IsNumber field_number }
     ensures size { IfOk result (λ size. length text.new.items ≡ length text.old.items + size) }
-    ensures text { (l : List (KC.Value.Meaning × VC.Value.Meaning)) × C.walks map.now l
-        × ListsOnce C.equal (C.pairs map.now) l
-        × WritesField KC.writing VC.writing field_number text.old.items text.new.items result l
-        × OnOk result (AllHold KC.fits VC.fits l)
-        × UsesRoomOf result (vec_capacity text.old - vec_len text.old)
-        (field_text KC.writing VC.writing field_number l) (vec_capacity text.new - vec_len text.new) }
+    ensures text { WritesMapField C.equal C.walks C.pairs map.now KC.writing VC.writing KC.fits VC.fits field_number
+        (λ t. t.items) (λ t. vec_capacity t - vec_len t) text.old text.new result }
 {
     let tag_len = varint_len(u64::from(field_number) * 8 + 2) as u64;
     let size = field_len::<KC, VC, C>(map, tag_len);

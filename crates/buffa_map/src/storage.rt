@@ -7,7 +7,7 @@ ghost use Rattle.std.specs.List.{IsDistinct};
 ghost use Rattle.std.specs.Map.{keys_of};
 ghost use Rattle.std.specs.Map.Iter.{TakesFirst, deref_pair};
 ghost use Rattle.buffa_wire.specs.Number.{IsNumber};
-ghost use Rattle.buffa_map.specs.Text.{AllHold, UsesRoomOf, WritesField, field_text};
+ghost use Rattle.buffa_map.specs.Calls.{WritesMapField};
 ghost use Rattle.buffa_map.specs.Pairs.{InOrder, ListsOnce, SamePairs, means, put};
 ghost use denote.Ref.{Bor};
 
@@ -126,9 +126,6 @@ pub trait MapWrite: MapStorage {
         S: EncodeSink,
     >(&self, number: u32, sink: &mut S) -> Result<(), EncodeError>
         requires { IsNumber number }
-        ensures { (l : List (Self.Key.Meaning × Self.Value.Meaning)) × Self.walks self.now l
-            × ListsOnce Self.equal (Self.pairs self.now) l
-            × WritesField KC.writing VC.writing number (S.written sink.old) (S.written sink.new) result l
-            × OnOk result (AllHold KC.fits VC.fits l)
-            × UsesRoomOf result (S.room sink.old) (field_text KC.writing VC.writing number l) (S.room sink.new) };
+        ensures { WritesMapField Self.equal Self.walks Self.pairs self.now KC.writing VC.writing KC.fits VC.fits number
+            S.written S.room sink.old sink.new result };
 }

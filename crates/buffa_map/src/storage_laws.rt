@@ -3,7 +3,8 @@
 ghost use Rattle.std.specs.Prelude.{◌≡◌, ◌↔◌, List, false, true};
 ghost use Rattle.std.specs.BTreeMap.{IsOrdered};
 ghost use Rattle.std.specs.List.Sorted.{IsPermutation};
-ghost use Rattle.buffa_map.specs.Pairs.{SamePairs, means};
+ghost use Rattle.buffa_map.specs.Pairs.{means};
+ghost use Rattle.buffa_map.specs.PinnedTexts.{HaveOneWalk};
 
 use crate::map_codec::{Map, MapStorage, StableOrder};
 use buffa_wire::{Blank, MapKey};
@@ -23,9 +24,8 @@ pub fn ordered_maps_are_these<K: MapKey + Ord, V: Blank>()
 
 /// Two `BTreeMap`s that find the same pairs have one walk. Their keys ascend, as those of each `BTreeMap` do.
 pub fn ordered_maps_have_one_walk<K: MapKey + Ord, V: Blank>()
-    ensures { (m n : _) (l k : List (K.Meaning × V.Meaning)) → ⟦<BTreeMap<K, V> as MapStorage>⟧.walks m l →
-        ⟦<BTreeMap<K, V> as MapStorage>⟧.walks n k → IsOrdered K.cmp m → IsOrdered K.cmp n →
-        SamePairs K.same (means K.meaning V.meaning m.entries) (means K.meaning V.meaning n.entries) → l ≡ k }
+    ensures { HaveOneWalk ⟦<BTreeMap<K, V> as MapStorage>⟧.walks (IsOrdered K.cmp) K.same
+        (λ m. means K.meaning V.meaning m.entries) }
 {}
 
 /// A `HashMap` is its entries, in which two keys are one that `==` says are equal; it is walked in any order.

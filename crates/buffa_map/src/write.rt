@@ -3,14 +3,13 @@
 //! The steps of a record stand inside the loop over the pairs (`inline`): a call would hand each result over in
 //! memory, which cost a third of the time.
 
-ghost use Rattle.std.specs.Prelude.{◌≡◌, ◌++◌, List, OnOk};
+ghost use Rattle.std.specs.Prelude.{◌≡◌, ◌++◌};
 ghost use Rattle.buffa_wire.specs.Number.{IsNumber};
 ghost use Rattle.buffa_wire.specs.Values.{delimited_text, tag_text};
 ghost use Rattle.buffa_wire.specs.Varint.{varint_text};
 ghost use Rattle.buffa_wire.specs.Written.{UsesRoom, Writes};
-ghost use Rattle.buffa_map.specs.Pairs.{ListsOnce};
-ghost use Rattle.buffa_map.specs.Text.{AllHold, UsesRoomOf, WritesField, WritesRecord, entry_text};
-ghost use Rattle.buffa_map.specs.Text.{field_text, record_text};
+ghost use Rattle.buffa_map.specs.Calls.{WritesMapField};
+ghost use Rattle.buffa_map.specs.Text.{UsesRoomOf, WritesRecord, entry_text, record_text};
 
 use crate::codec::MapCodec;
 use crate::size::entry_len;
@@ -119,12 +118,8 @@ where
     KC::Value: 'a,
     VC::Value: 'a,
     requires { IsNumber field_number }
-    // Of the line before the last: what was written is what the types of key and value hold.
-    ensures { (l : List (KC.Value.Meaning × VC.Value.Meaning)) × C.walks map.now l
-        × ListsOnce C.equal (C.pairs map.now) l
-        × WritesField KC.writing VC.writing field_number (S.written sink.old) (S.written sink.new) result l
-        × OnOk result (AllHold KC.fits VC.fits l)
-        × UsesRoomOf result (S.room sink.old) (field_text KC.writing VC.writing field_number l) (S.room sink.new) }
+    ensures { WritesMapField C.equal C.walks C.pairs map.now KC.writing VC.writing KC.fits VC.fits field_number
+        S.written S.room sink.old sink.new result }
 {
     for (key, value) in map.storage_iter() {
         write_record::<KC, VC, S>(field_number, key, value, sink)?;
