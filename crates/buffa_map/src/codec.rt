@@ -5,7 +5,7 @@ ghost use Rattle.std.specs.Prelude.{IsOk, OnErr};
 ghost use Rattle.buffa_bytes.specs.declared.error.DecodeError.TheVariants.{OutOfMemory};
 ghost use Rattle.buffa_bytes.specs.declared.wire_type.WireType.{WireType};
 ghost use Rattle.buffa_bytes.specs.Gives.{FullOnlyIf};
-ghost use Rattle.buffa_bytes.specs.Left.{LeavesUnlessFull, past_no_text};
+ghost use Rattle.buffa_bytes.specs.Left.{LeavesUnlessFull, past_no_payload, past_no_text};
 ghost use Rattle.buffa_bytes.specs.Unread.{IsTailOf};
 ghost use Rattle.buffa_wire.specs.Content.{Content, HasContent};
 ghost use Rattle.buffa_wire.specs.BudgetLeft.{budget_left, nothing};
@@ -65,7 +65,8 @@ pub trait MapValueDecode: sealed::Sealed {
     ///
     /// # Errors
     /// The first fault of the payload, or out of memory, where the codec takes memory and the payload is whole; the
-    /// value is as it was then, and nothing is spent.
+    /// value is as it was then, and nothing is spent. What follows the tenth byte of a varint stays unread, and all of
+    /// four or eight bytes; of a length and bytes, what follows them, or a length that passes the end.
     /// Inside a message any error may be told, but a limit's only where the message's cost isn't left; at most
     /// that cost is spent then, and the value is some value of its type.
     fn merge<B: Buf>(
@@ -89,6 +90,8 @@ pub trait MapValueDecode: sealed::Sealed {
         ensures empty { HoldsNothing reading ctx.entry.depth (B.unread buf.old) → IsOk result }
         ensures left { reading.nested ≡ false → reading.takes_memory ≡ true →
             LeavesUnlessFull result (past_no_text (B.unread buf.old)) (B.unread buf.new) }
+        ensures past { reading.nested ≡ false → reading.takes_memory ≡ false →
+            OnErr result (B.unread buf.new ≡ past_no_payload reading.wire (B.unread buf.old)) }
         ensures kept { B.beyond buf.new ≡ B.beyond buf.old }
         ensures tail { IsTailOf (B.unread buf.new) (B.unread buf.old) }
         ensures spends { Spends reading.nested result ctx.entry.budget.now

@@ -46,6 +46,7 @@ impl<E: Enumeration> MapValueDecode for ClosedEnum<E> {
 
     ghost reading = { closed_reading (numbers E.of_number E.blank_is) };
 
+    #[tactic(auto, unfolding(buffa_bytes::specs::Left::past_no_payload))]
     fn merge<B: Buf>(
         _alloc: Global,
         value: &mut E,
@@ -135,6 +136,7 @@ impl<E: Enumeration> MapValueDecode for OpenEnum<E> {
 
     ghost reading = { open_reading E.of_number };
 
+    #[tactic(auto, unfolding(buffa_bytes::specs::Left::past_no_payload))]
     fn merge<B: Buf>(
         _alloc: Global,
         value: &mut EnumValue<E>,
