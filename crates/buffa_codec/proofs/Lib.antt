@@ -10,3 +10,4 @@ pub mod Throughs
 pub mod Takes
 pub mod Grammars
 pub mod PinLemmas
+pub mod Places

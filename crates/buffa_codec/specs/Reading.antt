@@ -3,7 +3,7 @@ use Rattle.std.specs.Prelude.{ℕ, ◌≡◌, ◌≢◌, ◌↔◌, ◌<◌, ◌
 use Rattle.std.specs.Option.{option_or}
 use Rattle.std.specs.Str.{is_utf8}
 use Rattle.std.specs.List.{filter_map, last_or}
-use Rattle.buffa_wire.specs.Records.{Datum, bytes}
+use Rattle.buffa_wire.specs.Records.{Datum, Held, bytes}
 use Rattle.buffa_wire.specs.BudgetLeft.{BudgetLeft, PaysAtMost}
 use Rattle.buffa_wire.specs.declared.context.DecodeContext.{DecodeContext}
 use Rattle.buffa_bytes.specs.declared.error.EncodeError.{EncodeError}
@@ -78,6 +78,10 @@ AddsValues meaning old more new = map meaning new ≡ map meaning old ++ more
 
 abbrev pub AddsSomeValues : {V M : Type 0} → (V → M) → List V → List M → List V → Type 0
 AddsSomeValues meaning old more new = (k : ℕ) × (k < length more) × (map meaning new ≡ map meaning old ++ take k more)
+
+-- no place for a record is lost: each that was there is free, or holds one
+abbrev pub KeepsPlaces : Held → Held → Type 0
+KeepsPlaces old new = length old.records + old.spare ≤ length new.records + new.spare
 
 -- what fits in the places is never refused, and each takes one of them
 abbrev pub UsesPlaces : {T E A : Type 0} → Result T E → ℕ → List A → ℕ → Type 0

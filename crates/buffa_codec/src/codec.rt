@@ -9,7 +9,7 @@ ghost use Rattle.buffa_wire.specs.BudgetLeft.{BudgetLeft, Pays, budget_left};
 ghost use Rattle.buffa_wire.specs.Records.{Datum, bytes};
 ghost use Rattle.buffa_wire.specs.View.{datum_of};
 ghost use Rattle.buffa_codec.specs.Sub.{sub, tagged};
-ghost use Rattle.buffa_codec.specs.Reading.{Adds, AddsSome, AddsSomeValues, AddsValues, Covers, LeavesIn, Refuses};
+ghost use Rattle.buffa_codec.specs.Reading.{Adds, AddsSome, AddsSomeValues, AddsValues, Covers, KeepsPlaces, LeavesIn, Refuses};
 ghost use Rattle.buffa_codec.specs.Reading.{SpendsIn, UsesPlaces, full, one_in};
 
 use buffa_wire::{Blank, DecodeContext, EncodeError, UnknownFieldData, UnknownFields};
@@ -83,7 +83,8 @@ pub trait ExtensionCodec {
     /// Puts the records of the value behind the others.
     ///
     /// # Errors
-    /// What is wrong with the value, or out of memory; a beginning of its records stands then, and not all.
+    /// What is wrong with the value, or out of memory; a beginning of its records stands then, and not all. No
+    /// room is lost.
     fn try_encode(
         alloc: Global,
         number: u32,
@@ -94,7 +95,7 @@ pub trait ExtensionCodec {
         ensures err { OnErr result (AddsSome fields.old.records (tagged number (recs (meaning value)))
             fields.new.records) }
         ensures refused { Refuses result (refusal (meaning value)) }
-        ensures room { fields.old.spare ≤ fields.new.spare + length (recs (meaning value)) }
+        ensures room { KeepsPlaces fields.old fields.new }
         ensures reserved { in_room (meaning value) → length (recs (meaning value)) ≤ fields.old.spare → IsOk result }
         ensures fits { OnOk result (fits (meaning value)) };
 
@@ -112,7 +113,7 @@ pub trait ExtensionCodec {
         ensures err { OnErr result (AddsSome fields.old.records (tagged number (recs (meaning value)))
             fields.new.records) }
         ensures refused { Refuses result (refusal (meaning value)) }
-        ensures room { fields.old.spare ≤ fields.new.spare + length (recs (meaning value)) }
+        ensures room { KeepsPlaces fields.old fields.new }
         ensures reserved { in_room (meaning value) → length (recs (meaning value)) ≤ fields.old.spare → IsOk result }
         ensures fits { OnOk result (fits (meaning value)) }
     {
@@ -205,13 +206,14 @@ pub trait SingularCodec {
     /// Puts the packed values behind the others.
     ///
     /// # Errors
-    /// Where memory runs out, if they don't fit in the vector's room; a beginning of the values stands then,
-    /// and not all.
+    /// Where memory runs out, if they don't fit in the vector's room, which gets no smaller; a beginning of the
+    /// values stands then, and not all.
     fn decode_packed(bytes: &[u8], out: &mut Vec<Self::Value>) -> Result<(), AllocError>
         ensures ok { OnOk result (AddsValues Self.Value.meaning out.old.items (packed bytes.now) out.new.items) }
         ensures err { OnErr result (AddsSomeValues Self.Value.meaning out.old.items (packed bytes.now) out.new.items) }
         ensures room { UsesPlaces result (vec_capacity out.old - vec_len out.old) (packed bytes.now)
             (vec_capacity out.new - vec_len out.new) }
+        ensures kept { vec_capacity out.old ≤ vec_capacity out.new }
         ensures full { OnErr result (packed bytes.now ≢ []) };
 
     /// The record of a value.

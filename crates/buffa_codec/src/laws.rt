@@ -30,13 +30,10 @@ ghost use Rattle.buffa_bytes.specs.declared.wire_type.WireType.{WireType};
 ghost use Rattle.buffa_codec.specs.PackedGrammar.{ArePacked};
 ghost use Rattle.buffa_codec.specs.Through.{ListsThrough, ReadsThrough, WritesThrough};
 
-use crate::codec::{ExtensionCodec, PackableCodec, SingularCodec};
-use crate::enums::EnumCodec;
-use crate::last::LastWins;
-use crate::number::Numbered;
-use crate::packed::PackedRepeated;
-use crate::repeated::Repeated;
-use crate::text::{BytesCodec, StringCodec};
+use crate::{
+    BytesCodec, EnumCodec, ExtensionCodec, LastWins, Numbered, PackableCodec, PackedRepeated,
+    Repeated, SingularCodec, StringCodec,
+};
 use buffa_wire::scalars::{
     Bool as BoolScalar, Fixed32, Fixed64, Int32, Int64, Sfixed32, Sfixed64, Sint32, Sint64, Uint32,
     Uint64,

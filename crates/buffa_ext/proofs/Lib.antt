@@ -2,3 +2,4 @@ pub mod Histories
 pub mod Replays
 pub mod Merges
 pub mod PinLemmas
+pub mod EqualSteps

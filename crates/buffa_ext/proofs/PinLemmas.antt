@@ -12,7 +12,7 @@ use Rattle.buffa_codec.specs.Texts.{left_over, minus_nothing}
 use Rattle.buffa_ext.specs.Defaults.{IsDefaulted}
 use Rattle.buffa_ext.specs.Messages.{AreMerged, IsTextRefused, LeavesOf, MergingStaysWithin, cost_all, merged_all, message_of, texts_in}
 use Rattle.buffa_ext.specs.MessageFacts.{all_merged, left_yes}
-use Rattle.buffa_ext.specs.Pinned.{ListIsExact, MergingIsPinned}
+use Rattle.buffa_ext.specs.Pinned.{ListIsExact, MergingIsPinned, RecordMergeIsPinned}
 
 same_some : {A : Type 0} (x y : A) → Some x ≡ Some y → x ≡ y
 same_some x y h = cc
@@ -105,6 +105,15 @@ module _ {X : Type 0} (merged : X → List ℕ → Option X) (cost : List ℕ �
 
   stuck_by : (d : Datum) (mid : X) (left after : BudgetLeft) (e : DecodeError) → e ≢ OutOfMemory → IsTextRefused merged cost held takes d mid left e after → Stuck d mid left
   stuck_by d mid left after e ne r = (r.0, e, r.1, r.4 ne)
+
+  pub record_merge_is_pinned : RecordMergeIsPinned merged cost held
+  record_merge_is_pinned = record {
+    alike = λ d old new newer before left over f g h k.
+        let need = cost_all cost (texts_in held (d ∷ [])) in
+        (h.0 ∙ sym k.0, same_some new newer (sym h.1 ∙ k.1), left_over before need left h.2 ∙ sym (left_over before need over k.2));
+    refused = λ d old new newer before left over f e h k ne.
+        no_fault (merged_all merged old (texts_in held (d ∷ []))) (cost_all cost (texts_in held (d ∷ []))) before left new e h.1 h.2 (k.1 ne);
+  }
 
   pub merging_is_pinned : MergingIsPinned merged cost held takes
   merging_is_pinned = record {

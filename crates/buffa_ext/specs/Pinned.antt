@@ -1,5 +1,5 @@
 -- What the contracts of extensions leave open: nothing, but for what is said here.
-use Rattle.std.specs.Prelude.{◌≡◌, ◌≢◌, ℕ, Bool, List, Option, Ok, Err, option_map}
+use Rattle.std.specs.Prelude.{◌≡◌, ◌≢◌, ℕ, Bool, List, [], ◌∷◌, Option, Ok, Err, option_map}
 use Rattle.std.specs.List.{filter_map}
 use Rattle.buffa_bytes.specs.declared.error.DecodeError.{DecodeError}
 use Rattle.buffa_bytes.specs.declared.error.DecodeError.TheVariants.{OutOfMemory}
@@ -7,7 +7,7 @@ use Rattle.buffa_wire.specs.BudgetLeft.{BudgetLeft}
 use Rattle.buffa_wire.specs.Records.{Datum, Held}
 use Rattle.buffa_codec.specs.Reading.{Covers, full}
 use Rattle.buffa_ext.specs.Defaults.{IsDefaulted}
-use Rattle.buffa_ext.specs.Messages.{MergesRecords, StopsAt, cost_all, texts_in}
+use Rattle.buffa_ext.specs.Messages.{IsAllMerged, MergesRecords, StopsAt, cost_all, texts_in}
 use Rattle.buffa_ext.specs.Steps.{IsCleared, IsSet}
 
 -- records that are merged leave one value and one budget, and tell in one way whether there was a text; what is merged
@@ -22,6 +22,16 @@ pub record MergingIsPinned {X : Type 0} (merged : X → List ℕ → Option X) (
   pub stopped : (ds : List Datum) (old : X) (before left over : BudgetLeft) (e f : DecodeError)
       → (h : StopsAt merged cost held takes ds old before e left) (k : StopsAt merged cost held takes ds old before f over)
       → e ≢ OutOfMemory → f ≢ OutOfMemory → h.0 ≡ k.0
+
+-- merging the text in one record leaves one value and one budget, and tells in one way whether there was a text; what is
+-- merged isn't refused, memory aside
+pub record RecordMergeIsPinned {X : Type 0} (merged : X → List ℕ → Option X) (cost : List ℕ → BudgetLeft) (held : Datum → Option (List ℕ)) : Type 0 where
+  pub alike : (d : Datum) (old new newer : X) (before left over : BudgetLeft) (f g : Bool)
+      → IsAllMerged merged cost (texts_in held (d ∷ [])) old before (Ok f) new left → IsAllMerged merged cost (texts_in held (d ∷ [])) old before (Ok g) newer over
+      → (f ≡ g) × (new ≡ newer) × (left ≡ over)
+  pub refused : (d : Datum) (old new newer : X) (before left over : BudgetLeft) (f : Bool) (e : DecodeError)
+      → IsAllMerged merged cost (texts_in held (d ∷ [])) old before (Ok f) new left → IsAllMerged merged cost (texts_in held (d ∷ [])) old before (Err e) newer over
+      → (e ≢ OutOfMemory) → ⊥
 
 -- where all texts are covered, a list has the value of each that means one
 abbrev pub ListIsExact : {X : Type 0} → (List Datum → List X → Type 0) → (X → List ℕ → Option X) → (List ℕ → BudgetLeft) → X → (Datum → Option (List ℕ)) → Type 0

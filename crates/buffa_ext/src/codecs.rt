@@ -1,8 +1,8 @@
 //! The codecs of extensions, under upstream's names.
 
-pub use crate::message::{GroupCodec, MessageCodec};
-pub use buffa_codec::{
-    BytesCodec, EnumCodec, PackableCodec, PackedRepeated, Repeated, SingularCodec, StringCodec,
+pub use crate::{
+    BytesCodec, EnumCodec, GroupCodec, MessageCodec, PackableCodec, PackedRepeated, Repeated,
+    SingularCodec, StringCodec,
 };
 pub use buffa_wire::scalars::{
     Bool, Fixed32, Fixed64, Int32, Int32 as EnumI32, Int64, Sfixed32, Sfixed64, Sint32, Sint64,

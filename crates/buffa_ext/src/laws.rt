@@ -6,6 +6,7 @@ ghost use Rattle.std.specs.declared.alloc.Global.{Global as GlobalValue};
 ghost use Rattle.std.specs.declared.alloc.AllocError.{AllocError as AllocErrorValue};
 ghost use Rattle.buffa_ext.specs.declared.descriptor.Make.{Make};
 ghost use Rattle.buffa_ext.specs.declared.descriptor.NoDefault.{NoDefault};
+ghost use Rattle.buffa_bytes.specs.Pinned.{SameIsOne};
 ghost use Rattle.buffa_bytes.specs.declared.error.EncodeError.TheVariants.{MessageTooLarge};
 ghost use Rattle.buffa_wire.specs.BudgetLeft.{BudgetLeft};
 ghost use Rattle.buffa_wire.specs.Parse.{Fits};
@@ -13,19 +14,28 @@ ghost use Rattle.buffa_wire.specs.Records.{Datum, bytes as held_bytes, records_o
 ghost use Rattle.buffa_codec.specs.Pinned.{OneAnswer};
 ghost use Rattle.buffa_codec.specs.Reading.{HasByte, bytes_held};
 ghost use Rattle.buffa_codec.specs.Sub.{sub};
+ghost use Rattle.buffa_ext.specs.Changes.{SameIsOneChange};
 ghost use Rattle.buffa_ext.specs.Messages.{BeginsFieldIn, IsReadBack, LeavesOfRecord, MergingStaysWithin};
 ghost use Rattle.buffa_ext.specs.Messages.{ReachesRecord, ReadsMessages, StaysWithin, cost_all, group_held, group_of};
 ghost use Rattle.buffa_ext.specs.Messages.{group_refusal, group_texts, message_of, text_refusal, texts_in};
-ghost use Rattle.buffa_ext.specs.Pinned.{ClearIsPinned, DefaultIsPinned, ListIsExact, MergingIsPinned, SetIsPinned};
+ghost use Rattle.buffa_ext.specs.Pinned.{ClearIsPinned, DefaultIsPinned, ListIsExact, MergingIsPinned};
+ghost use Rattle.buffa_ext.specs.Pinned.{RecordMergeIsPinned, SetIsPinned};
 ghost use Rattle.buffa_ext.specs.Steps.{Change, ClearsAreOne, IsExactlySet, KeepsTheRest, LeavesOthers};
 ghost use Rattle.buffa_ext.specs.Steps.{ReadsHistory, SecondCounts, StandsLast, TakesOut, TakesThePlace, after, history};
 
 use crate::descriptor::{Declared, Make, NoDefault};
 use crate::message::{GroupCodec, MessageCodec, MessageIn};
 use crate::record::{Delimited, Grouped, MessageRecord};
+use crate::steps::{ReplayFault, Step};
 use buffa_codec::{ExtensionCodec, LastWins, Repeated, SingularCodec};
 use buffa_wire::{Message, MessageSpec};
 use std::alloc::{AllocError, Global};
+
+/// `==` of steps says whether they change the same, and of faults whether they are one. It leaves nothing open.
+pub fn equal_steps_change_the_same()
+    ensures step { SameIsOneChange ⟦<Step as PartialEq>⟧.eq }
+    ensures fault { SameIsOne ⟦<ReplayFault as PartialEq>⟧.eq }
+{}
 
 /// The records of a number after changes are what its last change says.
 pub fn last_change_counts()
@@ -189,14 +199,15 @@ pub fn defaults_are_these<V, F: Fn(Global) -> Result<V, AllocError>>()
         ↔ ((a : GlobalValue) × (e : AllocErrorValue) × F.post s.make a (Err e)) }
 {}
 
-/// A message is read as one value or none; and merging records in order ends in one way, memory aside: it stops
-/// at the first text that is refused, or at none.
+/// A message is read as one value or none; and merging records in order, or one at any depth, ends in one way,
+/// memory aside: it stops at the first text that is refused, or at none.
 ///
 /// Left open: where memory runs out, of those records up to the first refused text for which merging may take
 /// some (`takes`); which fault is told of that text, and how much of its own cost is spent.
 pub fn messages_are_pinned<K: MessageRecord, M: Message>()
     ensures read { OneAnswer ⟦<MessageIn<K, M> as ExtensionCodec>⟧.reads }
     ensures merged { MergingIsPinned (M.merged 100) (M.cost 100) K.held (K.takes 100) }
+    ensures record { (n : ℕ) → RecordMergeIsPinned (M.merged n) (M.cost n) K.held }
 {}
 
 /// A list of messages whose texts cost together no more than a pair of default budgets has one answer: the

@@ -1,7 +1,8 @@
 use Rattle.std.proofs.Common.{sym, ap, ◌∙◌, map, take, drop, ◌∷◌, [], ◌+◌, refl, subst, length, arith}
 use Rattle.std.proofs.lemmas.Result.{err_from_is_err_and}
 use Rattle.buffa_wire.specs.View.{datum_of}
-use Rattle.buffa_codec.specs.Reading.{Each, first_refusal}
+use Rattle.buffa_codec.specs.Reading.{Each, KeepsPlaces, first_refusal}
+use Rattle.buffa_codec.proofs.Places.{places_more}
 use Rattle.buffa_codec.proofs.Turns.{values_length, writes_one_more, writes_front, writes_part}
 use Rattle.buffa_codec.proofs.Lists.{Each-at, no_truth, means_more, means_cut, Each-append, first_refusal-append, first_refusal-pass, refused_whole}
 use Rattle.buffa_codec.proofs.repeated.RepeatedExtensionCodec.try_encode.Goals as goal
@@ -23,30 +24,18 @@ pub returns-in_default-clause-err : goal.returns-in_default-clause-err
 returns-in_default-clause-err g c =
     writes_part g.C.SingularCodec.text g.C.Value.Blank.meaning c.args.number c.args.value.items c.as_slice-v-items.result.now c.loop-v.v-index c.args.fields.now.records c.push.new.self.records c.as_slice-v-items.ensures.value c.loop-v-test.true (ap (λ f. f.records) c.in_default.ensures.err ∙ c.loop-v.invariant.written)
 
-pub returns-in_err-payload-clause-room : goal.returns-in_err-payload-clause-room
-returns-in_err-payload-clause-room g c =
-    let m = g.C.Value.Blank.meaning in
-    omega (arith, c.loop-v.invariant.room, c.loop-v-test.true, ap length c.as_slice-v-items.ensures.value, values_length g.C.SingularCodec.text m c.args.value.items)
-
 pub returns-in_err-payload-clause-reserved : goal.returns-in_err-payload-clause-reserved
 returns-in_err-payload-clause-reserved g c =
     λ free enough. absurd (no_truth (c.in_err-payload.ensures.free (Each-at g.C.SingularCodec.made_free g.C.Value.Blank.meaning c.as_slice-v-items.result.now c.loop-v.v-index c.v-item.result c.loop-v-test.true c.v-item.is
     (subst (λ l. Each g.C.SingularCodec.made_free (map g.C.Value.Blank.meaning l)) (sym c.as_slice-v-items.ensures.value) free))))
 
 pub returns-in_default-clause-room : goal.returns-in_default-clause-room
-returns-in_default-clause-room g c =
-    let m = g.C.Value.Blank.meaning in
-    omega (arith, c.loop-v.invariant.room, c.loop-v-test.true, ap length c.as_slice-v-items.ensures.value, ap (λ f. f.spare) c.in_default.ensures.err, values_length g.C.SingularCodec.text m c.args.value.items)
+returns-in_default-clause-room g c = subst (KeepsPlaces c.args.fields.now) (sym c.in_default.ensures.err) c.loop-v.invariant.places
 
 pub returns-in_default-clause-reserved : goal.returns-in_default-clause-reserved
 returns-in_default-clause-reserved g c free enough =
     let m = g.C.Value.Blank.meaning in
     c.in_default.ensures.succeeds (omega (arith, enough, c.loop-v.invariant.room, c.loop-v-test.true, ap length c.as_slice-v-items.ensures.value, values_length g.C.SingularCodec.text m c.args.value.items))
-
-pub returns-clause-room : goal.returns-clause-room
-returns-clause-room g c =
-    let m = g.C.Value.Blank.meaning in
-    omega (arith, c.loop-v.invariant.room, c.loop-v-test.false, ap length c.as_slice-v-items.ensures.value, values_length g.C.SingularCodec.text m c.args.value.items)
 
 pub loop-v-preserved : goal.loop-v-preserved
 loop-v-preserved g c =
@@ -58,5 +47,6 @@ loop-v-preserved g c =
           c.loop-v-test.true c.v-item.is c.in_ok-payload.ensures.record refl c.loop-v.invariant.written c.in-Ok.ensures.ok;
       allowed = ap (first_refusal g.C.SingularCodec.refusal) more ∙ first_refusal-append g.C.SingularCodec.refusal (map m (take c.loop-v.v-index xs)) (m c.v-item.result ∷ []) c.loop-v.invariant.allowed ∙ first_refusal-pass g.C.SingularCodec.refusal (m c.v-item.result) [] c.in_ok-payload.ensures.refused;
       room = omega (arith, c.loop-v.invariant.room, c.in-Ok.ensures.room);
+      places = places_more c.args.fields.now c.loop-v.fields c.push.new.self (c.args.number, datum_of c.in_ok-payload.payload) c.loop-v.invariant.places c.in-Ok.ensures.ok c.in-Ok.ensures.room;
       fit = subst (Each g.C.SingularCodec.fits) (sym more) (Each-append g.C.SingularCodec.fits (map m (take c.loop-v.v-index xs)) (m c.v-item.result) c.loop-v.invariant.fit c.in_ok-payload.ensures.fits);
     }

@@ -1,6 +1,6 @@
 use Rattle.std.proofs.Common.{◌≡◌, ◌≤◌, ◌+◌, ◌++◌, map, take, None}
 use Rattle.buffa_codec.specs.Sub.{tagged}
-use Rattle.buffa_codec.specs.Reading.{Each, first_refusal}
+use Rattle.buffa_codec.specs.Reading.{Each, KeepsPlaces, first_refusal}
 use Rattle.buffa_codec.proofs.repeated.RepeatedExtensionCodec.try_encode.Given as goal
 
 abbrev pub invariant-loop-v : goal.invariant-loop-v
@@ -8,5 +8,6 @@ invariant-loop-v g l = record {
   written : l.fields.records ≡ l.fn.fields.records ++ tagged l.number (map g.C.SingularCodec.text (map g.C.Value.Blank.meaning (take l.v-index l.v-items)));
   allowed : first_refusal g.C.SingularCodec.refusal (map g.C.Value.Blank.meaning (take l.v-index l.v-items)) ≡ None;
   room : l.fn.fields.spare ≤ l.fields.spare + l.v-index;
+  places : KeepsPlaces l.fn.fields l.fields;
   fit : Each g.C.SingularCodec.fits (map g.C.Value.Blank.meaning (take l.v-index l.v-items));
 }
