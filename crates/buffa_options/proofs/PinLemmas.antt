@@ -1,5 +1,8 @@
 -- A value is judged in one way.
-use Rattle.std.proofs.Common.{◌≡◌, ◌⊎◌, inl, inr, ℤ, Bool, true, false, Option, Some, None, IfSome, refl, sym, subst, ◌∙◌}
+use Rattle.std.proofs.Common.{◌≡◌, ◌⊎◌, inl, inr, ℤ, Bool, true, false, Option, Some, None, IfSome, refl, sym, subst, ap, ◌∙◌, ◌&&◌, int_eq, true≢false}
+use Rattle.std.specs.Bool.{Decides, beq}
+use Rattle.std.specs.Option.{option_eq}
+use Rattle.std.proofs.lemmas.Bool.Decides.{Decides-and, Decides-int_eq, Decides-like}
 use Rattle.std.specs.Int.Signed.{◌≤ℤ◌, ◌<ℤ◌, clash_ℤ}
 use Rattle.std.proofs.lemmas.Int.{by_lt_z}
 use Rattle.buffa_options.specs.Rules.{Accepts, Breaks}
@@ -77,3 +80,26 @@ one_violation rules o TooSmall TooGreat h k = elim (too_small rules.min k.0 h.0 
 one_violation rules o TooGreat Missing h k = some_none h.0 o h.2 k.0
 one_violation rules o TooGreat TooSmall h k = elim (too_small rules.min h.0 k.0 k.1 h.5 k.3 (same_some h.0 k.0 o h.2 k.2) k.4) [ ]
 one_violation rules o TooGreat TooGreat h k = refl
+
+-- ---- rules that `==` says are equal are one
+
+bits : (a b : Bool) → Decides (beq a b) (a ≡ b)
+bits true true = (λ _. refl, λ _. refl)
+bits false false = (λ _. refl, λ _. refl)
+bits true false = (λ h. absurd (true≢false (sym h)), λ h. absurd (true≢false h))
+bits false true = (λ h. absurd (true≢false (sym h)), λ h. absurd (true≢false (sym h)))
+
+some_is : (a b : ℤ) → Some a ≡ Some b → a ≡ b
+some_is a b e = same_some a b (Some a) refl e
+
+bounds : (a b : Option ℤ) → Decides (option_eq int_eq a b) (a ≡ b)
+bounds None None = (λ _. refl, λ _. refl)
+bounds None (Some b) = (λ h. absurd (true≢false (sym h)), λ h. no_value b (sym h))
+bounds (Some a) None = (λ h. absurd (true≢false (sym h)), λ h. no_value a h)
+bounds (Some a) (Some b) = Decides-like (int_eq a b) (λ e. ap Some e) (some_is a b) (Decides-int_eq a b)
+
+pub rules_decide : (a b : Rules) → Decides (option_eq int_eq a.min b.min && (option_eq int_eq a.max b.max && beq a.required b.required)) (a ≡ b)
+rules_decide a b =
+    Decides-like _ (λ h i. record { min = h.0 i; max = h.1.0 i; required = h.1.1 i })
+    (λ e. (ap (λ (r : Rules). r.min) e, (ap (λ (r : Rules). r.max) e, ap (λ (r : Rules). r.required) e)))
+    (Decides-and _ _ (bounds a.min b.min) (Decides-and _ _ (bounds a.max b.max) (bits a.required b.required)))

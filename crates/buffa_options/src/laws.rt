@@ -1,12 +1,13 @@
 //! What the definitions of options and rules say together: each law is a function with nothing to do, whose
 //! contract is the law.
 
-ghost use Rattle.std.specs.Prelude.{◌≡◌, ◌↔◌, ◌⊎◌, ℕ, ℤ, List, [], ◌∷◌, FitsSigned, Option, Some, codes, map, option_map};
+ghost use Rattle.std.specs.Prelude.{◌≡◌, ◌↔◌, ◌⊎◌, ℕ, ℤ, List, [], ◌∷◌, FitsSigned, None, Option, Some, codes, map, option_map};
 ghost use Rattle.std.specs.Prelude.{pos};
 ghost use Rattle.std.specs.Int.{w64};
 ghost use Rattle.buffa_bytes.specs.Scalars.{sint64_of, sint64_text, zigzag};
 ghost use Rattle.buffa_bytes.specs.declared.wire_type.WireType.TheVariants.{Varint};
-ghost use Rattle.buffa_wire.specs.BudgetLeft.{BudgetLeft};
+ghost use Rattle.buffa_bytes.specs.Pinned.{SameIsOne};
+ghost use Rattle.buffa_wire.specs.BudgetLeft.{BudgetLeft, nothing};
 ghost use Rattle.buffa_wire.specs.Found.{varint_in};
 ghost use Rattle.buffa_wire.specs.Records.{Datum, Held, varint};
 ghost use Rattle.buffa_codec.specs.Packed.{numbers_in};
@@ -19,6 +20,7 @@ ghost use Rattle.buffa_options.specs.declared.price.Price.{Price};
 use crate::carrier::Carrier;
 use crate::options::FieldOptions;
 use crate::price::{Price, PriceCodec};
+use crate::rules::{Rules, Violation};
 use buffa_codec::{ExtensionCodec, PackableCodec, SingularCodec};
 use buffa_ext::ExtensionSet;
 use buffa_wire::Blank;
@@ -47,6 +49,20 @@ pub fn prices_are_sint64()
     ensures packed_text { (v : ℤ) → ⟦<PriceCodec as PackableCodec>⟧.packed_text v ≡ sint64_text v }
     ensures back { (v : ℤ) → ⟦<PriceCodec as SingularCodec>⟧.back v ≡ v }
     ensures fits { (v : ℤ) → ⟦<PriceCodec as SingularCodec>⟧.fits v ↔ FitsSigned w64 v }
+    ensures normal { (v : ℤ) → ⟦<PriceCodec as SingularCodec>⟧.normal v }
+    ensures accepted { (v : ℤ) → ⟦<PriceCodec as SingularCodec>⟧.refusal v ≡ None }
+    ensures free { ⟦<PriceCodec as SingularCodec>⟧.never_fails }
+    ensures takes { (d : Datum) → ⟦<PriceCodec as SingularCodec>⟧.takes d → ⊥ }
+    ensures cost { (d : Datum) → ⟦<PriceCodec as SingularCodec>⟧.cost d ≡ nothing }
+    ensures unspent { (n : ℕ) (b left : BudgetLeft) (d : Datum) → ⟦<PriceCodec as SingularCodec>⟧.leaves n b d left
+        → left ≡ b }
+{}
+
+/// `==` says exactly whether two of these are one. It leaves nothing open.
+pub fn equal_ones_are_one()
+    ensures price { SameIsOne ⟦<Price as PartialEq>⟧.eq }
+    ensures rules { SameIsOne ⟦<Rules as PartialEq>⟧.eq }
+    ensures violation { SameIsOne ⟦<Violation as PartialEq>⟧.eq }
 {}
 
 /// What lends its unknown fields to extensions: under which name, which list, and what stays when it changes.
