@@ -1,5 +1,5 @@
 -- The size of a tree, by the size of its label and of its children.
-use Rattle.std.proofs.Common.{◌≡◌, ◌<◌, ◌≤◌, ℕ, zero, suc, ℤ, ◌+◌, List, [], ◌∷◌, ◌++◌, length, min, sym, ap, ◌∙◌, arith, length-append, subst}
+use Rattle.std.proofs.Common.{◌≡◌, ◌≢◌, ◌<◌, ◌≤◌, ℕ, zero, suc, ℤ, ◌+◌, List, [], ◌∷◌, ◌++◌, length, min, sym, ap, ◌∙◌, arith, length-append, refl, subst}
 use Rattle.std.specs.List.{Contains}
 use Rattle.std.specs.Map.{values_of}
 use Rattle.buffa_bytes.proofs.ShortestLemmas.{varint_text-last}
@@ -18,6 +18,13 @@ use Rattle.buffa_samples.specs.TreeText.{key_writing, meant, meant-is, slots, sl
 tag_one : length (tag_text 2 LengthDelimited) ≡ 1
 tag_one = ap length (varint_text-last 18 (omega arith))
 
+no_list : {P : Type 0} (x : ℕ) (xs : List ℕ) → x ∷ xs ≡ [] → P
+no_list x xs e = cc
+
+no_slots : (es : List (ℤ × Grown)) → field_slots text slots es ≡ [] → es ≡ []
+no_slots [] e = refl
+no_slots (p ∷ es) e = no_list _ _ e
+
 module _ (t : Grown) (l : ℤ) (es : List (ℤ × Grown)) (is : grown l (kids es) ≡ t) where
   pub text_is : text t ≡ value_text l ++ field_text key_writing (delimited_writing text) 2 (meant es)
   text_is = ap text (sym is) ∙ ap (λ (r : List ℕ). value_text l ++ r) (texts-field es)
@@ -29,6 +36,10 @@ module _ (t : Grown) (l : ℤ) (es : List (ℤ × Grown)) (is : grown l (kids es
 
   pub slots_is : field_slots text slots (meant es) ≡ slots t
   slots_is = sym (slots-field es) ∙ ap slots is
+
+  -- a tree with a child has slots
+  pub slots_there : meant es ≢ [] → slots t ≢ []
+  slots_there h none = h (no_slots (meant es) (slots_is ∙ none))
 
   -- a tree that is small has a small field
   pub small_kids : IsSmall (text t) → IsSmallField key_writing text (meant es)

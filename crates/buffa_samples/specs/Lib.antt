@@ -20,3 +20,4 @@ pub mod TreeLaws
 pub mod TreeBack
 pub mod Pinned
 pub mod Hues
+pub mod Inventory

@@ -1,7 +1,11 @@
 //! A message that is a count of repeated fields.
 
-ghost use Rattle.std.specs.Prelude.{◌≡◌, ◌<◌, ◌^◌, [], refl};
-ghost use Rattle.buffa_wire.specs.Gives.{Gives};
+ghost use Rattle.std.specs.Prelude.{◌≡◌, ◌≢◌, ◌<◌, ◌^◌, [], refl, IsOk, OnErr};
+ghost use Rattle.buffa_bytes.specs.declared.wire_type.WireType.TheVariants.{EndGroup};
+ghost use Rattle.buffa_wire.specs.BudgetLeft.{budget_left};
+ghost use Rattle.buffa_wire.specs.Gives.{FullOnlyIf, Gives};
+ghost use Rattle.buffa_wire.specs.Message.{IsFieldMerged};
+ghost use Rattle.buffa_wire.specs.Passes.{IsSized};
 ghost use Rattle.buffa_wire.specs.Written.{Writes};
 ghost use Rattle.buffa_samples.specs.FieldsLaws.{empty, fields, next};
 ghost use Rattle.buffa_samples.specs.Count.{count_cost, count_field, count_merged, count_records, count_text, one_text};
@@ -75,8 +79,9 @@ impl MessageSpec for CountMsg {
 
 // Merges the field whose tag was read.
 fn merge_count(count: &mut u64, tag: Tag, buf: &mut &[u8], depth: u32) -> Result<(), DecodeError>
-    ensures { Gives (λ _. (count.new, buf.new.now)) result
+    ensures gives { Gives (λ _. (count.new, buf.new.now)) result
         (count_field depth count.old tag.number tag.wire_type buf.old.now) }
+    ensures stays { OnErr result (count.new ≡ count.old) }
 {
     if tag.field_number() == 9 {
         check_wire_type(tag, WireType::Varint)?;
@@ -110,7 +115,10 @@ fn write_count<S: EncodeSink>(count: u64, sink: &mut S) -> Result<(), EncodeErro
 }
 
 impl Message for CountMsg {
-    fn compute_size(&self, _cache: &mut SizeCache) -> Result<u32, EncodeError> {
+    fn compute_size(&self, _cache: &mut SizeCache) -> Result<u32, EncodeError>
+        ensures sized { IsSized (count_text self.now.count) [] _cache.old result _cache.new }
+        ensures always { IsOk result }
+    {
         let total = self.count.saturating_mul(2);
         if total < 4_294_967_295 {
             Ok(total as u32)
@@ -133,7 +141,15 @@ impl Message for CountMsg {
         tag: Tag,
         buf: &mut &[u8],
         ctx: DecodeContext<'_>,
-    ) -> Result<(), DecodeError> {
+    ) -> Result<(), DecodeError>
+        ensures merged { IsFieldMerged count_merged count_cost ctx.entry.depth self.old.count tag.number tag.wire_type
+            buf.old.now ctx.entry.budget.now result self.new.count (budget_left ctx.exit) buf.new.now }
+        ensures full { FullOnlyIf result (tag.wire_type ≢ EndGroup) }
+        ensures gives { Gives (λ _. (self.new.count, buf.new.now)) result
+            (count_field ctx.entry.depth self.old.count tag.number tag.wire_type buf.old.now) }
+        ensures stays { OnErr result (self.new ≡ self.old) }
+        ensures unspent { budget_left ctx.exit ≡ ctx.entry.budget.now }
+    {
         merge_count(&mut self.count, tag, buf, ctx.depth)
     }
 }

@@ -1,8 +1,12 @@
 //! A message of one int32.
 
-ghost use Rattle.std.specs.Prelude.{◌≡◌, [], pos, refl, FitsSigned};
+ghost use Rattle.std.specs.Prelude.{◌≡◌, ◌≢◌, [], pos, refl, FitsSigned, IsOk, OnErr};
 ghost use Rattle.std.specs.Int.{w32};
-ghost use Rattle.buffa_wire.specs.Gives.{Gives};
+ghost use Rattle.buffa_bytes.specs.declared.wire_type.WireType.TheVariants.{EndGroup};
+ghost use Rattle.buffa_wire.specs.BudgetLeft.{budget_left};
+ghost use Rattle.buffa_wire.specs.Gives.{FullOnlyIf, Gives};
+ghost use Rattle.buffa_wire.specs.Message.{IsFieldMerged};
+ghost use Rattle.buffa_wire.specs.Passes.{IsSized};
 ghost use Rattle.buffa_samples.specs.FieldsLaws.{empty, fields, next, number_text_records};
 ghost use Rattle.buffa_samples.specs.Flat.{flat_cost, flat_field, flat_merged, value_records, value_text};
 ghost use Rattle.buffa_samples.specs.FlatLaws.{flat_back, flat_cost_some, flat_same, flat_sound};
@@ -81,8 +85,9 @@ pub(crate) fn merge_value(
     buf: &mut &[u8],
     depth: u32,
 ) -> Result<(), DecodeError>
-    ensures { Gives (λ _. (value.new, buf.new.now)) result
+    ensures gives { Gives (λ _. (value.new, buf.new.now)) result
         (flat_field depth value.old tag.number tag.wire_type buf.old.now) }
+    ensures stays { OnErr result (value.new ≡ value.old) }
 {
     if tag.field_number() == 1 {
         check_wire_type(tag, WireType::Varint)?;
@@ -94,7 +99,10 @@ pub(crate) fn merge_value(
 }
 
 impl Message for FlatMsg {
-    fn compute_size(&self, _cache: &mut SizeCache) -> Result<u32, EncodeError> {
+    fn compute_size(&self, _cache: &mut SizeCache) -> Result<u32, EncodeError>
+        ensures sized { IsSized (value_text self.now.value) [] _cache.old result _cache.new }
+        ensures always { IsOk result }
+    {
         Ok(number_len(1, &self.value))
     }
 
@@ -112,7 +120,15 @@ impl Message for FlatMsg {
         tag: Tag,
         buf: &mut &[u8],
         ctx: DecodeContext<'_>,
-    ) -> Result<(), DecodeError> {
+    ) -> Result<(), DecodeError>
+        ensures merged { IsFieldMerged flat_merged flat_cost ctx.entry.depth self.old.value tag.number tag.wire_type
+            buf.old.now ctx.entry.budget.now result self.new.value (budget_left ctx.exit) buf.new.now }
+        ensures full { FullOnlyIf result (tag.wire_type ≢ EndGroup) }
+        ensures gives { Gives (λ _. (self.new.value, buf.new.now)) result
+            (flat_field ctx.entry.depth self.old.value tag.number tag.wire_type buf.old.now) }
+        ensures stays { OnErr result (self.new ≡ self.old) }
+        ensures unspent { budget_left ctx.exit ≡ ctx.entry.budget.now }
+    {
         merge_value(&mut self.value, tag, buf, ctx.depth)
     }
 }

@@ -1,5 +1,9 @@
 //! The worked example of docs/GUIDE.md: a message type with a map field.
 
+ghost use Rattle.std.specs.Prelude.{◌≡◌, []};
+ghost use Rattle.buffa_map.specs.Text.{UsesRoomOf, WritesField, field_size, field_text, saturated};
+ghost use Rattle.buffa_samples.specs.Inventory.{counted, name_writing, number_writing};
+
 use buffa_map::map_codec::{Int32, Map, Str, field_len, merge_entry, write_field};
 use buffa_wire::{
     Buf, DecodeContext, DecodeError, EncodeError, EncodeSink, Tag, WireType, check_wire_type,
@@ -16,19 +20,28 @@ pub struct Inventory {
 
 impl Inventory {
     /// No counts.
-    pub fn new(alloc: Global) -> Inventory {
+    pub fn new(alloc: Global) -> Inventory
+        ensures { result.counts.entries ≡ [] }
+    {
         Inventory {
             counts: Map::new(alloc),
         }
     }
 
     /// The length of the text: the tag of number 5 has one byte.
-    pub fn encoded_len(&self) -> u64 {
+    pub fn encoded_len(&self) -> u64
+        ensures { result ≡ saturated (field_size name_writing number_writing 1 (counted self.now.counts.entries)) }
+    {
         field_len::<Str, Int32, _>(&self.counts, 1)
     }
 
     /// Writes a record for each count.
-    pub fn write<S: EncodeSink>(&self, sink: &mut S) -> Result<(), EncodeError> {
+    pub fn write<S: EncodeSink>(&self, sink: &mut S) -> Result<(), EncodeError>
+        ensures writes { WritesField name_writing number_writing 5 (S.written sink.old) (S.written sink.new) result
+            (counted self.now.counts.entries) }
+        ensures room { UsesRoomOf result (S.room sink.old)
+            (field_text name_writing number_writing 5 (counted self.now.counts.entries)) (S.room sink.new) }
+    {
         write_field::<Str, Int32, _, _>(&self.counts, 5, sink)
     }
 

@@ -1,10 +1,11 @@
 //! A message that keeps every field.
 
-ghost use Rattle.std.specs.Prelude.{◌≡◌, ◌≢◌, [], refl, IfOk, OnErr};
+ghost use Rattle.std.specs.Prelude.{◌≡◌, ◌≢◌, [], refl, IfOk, IsOk, OnErr};
 ghost use Rattle.buffa_wire.specs.BudgetLeft.{budget_left};
 ghost use Rattle.buffa_bytes.specs.declared.wire_type.WireType.TheVariants.{EndGroup};
 ghost use Rattle.buffa_wire.specs.Gives.{FullOnlyIf, GivesUnlessFull};
 ghost use Rattle.buffa_wire.specs.Message.{IsFieldMerged};
+ghost use Rattle.buffa_wire.specs.Passes.{IsSized};
 ghost use Rattle.buffa_wire.specs.RecordReading.{TakesMemory, field_at};
 ghost use Rattle.buffa_wire.specs.View.{datum_of};
 ghost use Rattle.buffa_wire.specs.Parse.{Fits};
@@ -121,7 +122,10 @@ fn read_alone(
 }
 
 impl Message for BudgetMsg {
-    fn compute_size(&self, _cache: &mut SizeCache) -> Result<u32, EncodeError> {
+    fn compute_size(&self, _cache: &mut SizeCache) -> Result<u32, EncodeError>
+        ensures sized { IsSized (records_text self.now) [] _cache.old result _cache.new }
+        ensures always { IsOk result }
+    {
         let total = self.fields.encoded_len();
         if total < 4_294_967_295 {
             Ok(total as u32)
@@ -149,6 +153,7 @@ impl Message for BudgetMsg {
             buf.old.now ctx.entry.budget.now result self.new (budget_left ctx.exit) buf.new.now }
         ensures full { FullOnlyIf result (tag.wire_type ≢ EndGroup) }
         ensures unspent { OnErr result (budget_left ctx.exit ≡ ctx.entry.budget.now) }
+        ensures stays { OnErr result (self.new ≡ self.old) }
     {
         let DecodeContext { depth, budget } = ctx;
         let (field, left) = read_alone(alloc, tag, buf, depth, budget.unknown_left())?;

@@ -1,20 +1,23 @@
 //! What the definitions of the samples say together: laws, as in [`laws`](buffa_wire).
 
 ghost use Rattle.std.specs.Prelude.{◌≡◌, ◌↔◌, ◌<◌, ◌+◌, ◌^◌, ℕ, ℤ, FitsSigned, List, [], ◌∷◌, None, Some, map, pos, string_bytes};
+ghost use Rattle.std.specs.Hash as fed;
 ghost use Rattle.std.specs.Int.{w32};
+ghost use Rattle.std.specs.Ordering.{int_cmp};
+ghost use Rattle.buffa_bytes.specs.Pinned.{SameIsOne};
 ghost use Rattle.buffa_wire.specs.Parse.{Fits};
 ghost use Rattle.buffa_wire.specs.Records.{Datum, height, records_of};
 ghost use Rattle.buffa_wire.specs.Text.{records_text};
-ghost use Rattle.buffa_samples.specs.Count.{count_cost, count_merged, count_text};
-ghost use Rattle.buffa_samples.specs.Flat.{flat_cost, flat_merged, value_text};
+ghost use Rattle.buffa_samples.specs.Count.{count_cost, count_merged, count_records, count_text};
+ghost use Rattle.buffa_samples.specs.Flat.{flat_cost, flat_merged, value_records, value_text};
 ghost use Rattle.buffa_samples.specs.Grown.{Grown, grown, no_kids};
 ghost use Rattle.buffa_samples.specs.Hues.{first_numbers};
 ghost use Rattle.buffa_samples.specs.Keep.{keep_cost, keep_merged};
-ghost use Rattle.buffa_samples.specs.Letters.{same_letters};
+ghost use Rattle.buffa_samples.specs.Letters.{lower, same_letters};
 ghost use Rattle.buffa_samples.specs.Pinned.{PassIsPinned, TripIsPinned};
 ghost use Rattle.buffa_samples.specs.TreeMeaning.{cost, merged};
-ghost use Rattle.buffa_samples.specs.TreeText.{IsNormal, levels, slots, text};
-ghost use Rattle.buffa_samples.specs.Two.{two_cost, two_merged, two_text};
+ghost use Rattle.buffa_samples.specs.TreeText.{IsNormal, levels, records, slots, text};
+ghost use Rattle.buffa_samples.specs.Two.{two_cost, two_merged, two_records, two_text};
 
 use crate::count::CountMsg;
 use crate::flat::FlatMsg;
@@ -26,6 +29,7 @@ use crate::two::TestMsg;
 use crate::word::Word;
 use buffa_map::map_codec::{MapCodec, MapStorage};
 use buffa_wire::{Blank, Enumeration, MapKey, MessageSpec, ProtoString};
+use std::hash::Hash;
 
 /// What bytes make of a normal tree is normal, and so is the blank one: in every map the keys ascend, and labels and
 /// keys are int32.
@@ -52,6 +56,11 @@ pub fn messages_are_these()
     ensures numbers_cost { (⟦<FlatMsg as MessageSpec>⟧.COST ≡ 4) × (⟦<TestMsg as MessageSpec>⟧.COST ≡ 32) }
     ensures lists_cost { (⟦<CountMsg as MessageSpec>⟧.COST ≡ 8) × (⟦<BudgetMsg as MessageSpec>⟧.COST ≡ 24) }
     ensures tree_costs { ⟦<Tree as MessageSpec>⟧.COST ≡ 32 }
+    ensures numbers_records { (⟦<FlatMsg as MessageSpec>⟧.records ≡ value_records)
+        × (⟦<TestMsg as MessageSpec>⟧.records ≡ two_records) }
+    ensures lists_records { (⟦<CountMsg as MessageSpec>⟧.records ≡ count_records)
+        × (⟦<BudgetMsg as MessageSpec>⟧.records ≡ (λ rs. rs)) }
+    ensures tree_records { ⟦<Tree as MessageSpec>⟧.records ≡ records }
 {}
 
 /// What the values of the samples of numbers mean: their fields. Nothing is open.
@@ -59,6 +68,8 @@ pub fn messages_mean_these()
     ensures flat { (m : FlatMsg) → ⟦<FlatMsg as Blank>⟧.meaning m ≡ m.value }
     ensures two { (m : TestMsg) → ⟦<TestMsg as Blank>⟧.meaning m ≡ (m.a, m.b) }
     ensures count { (m : CountMsg) → ⟦<CountMsg as Blank>⟧.meaning m ≡ m.count }
+    ensures keep { (m : BudgetMsg) → ⟦<BudgetMsg as Blank>⟧.meaning m ≡ m }
+    ensures tree { (m : Tree) → ⟦<Tree as Blank>⟧.meaning m ≡ m }
 {}
 
 /// Which values of each sample are read back from their text, and how deep it nests. Nothing is open.
@@ -83,6 +94,9 @@ pub fn enums_are_these()
     ensures new { map ⟦<New as Enumeration>⟧.of_number first_numbers
         ≡ Some New.A ∷ Some New.B ∷ Some New.C ∷ None ∷ [] }
     ensures blank { (⟦<Old as Blank>⟧.blank_is ≡ pos 0) × (⟦<New as Blank>⟧.blank_is ≡ pos 0) }
+    ensures equal { SameIsOne ⟦<Old as PartialEq>⟧.eq × SameIsOne ⟦<New as PartialEq>⟧.eq }
+    ensures order { (a b : Old) → ⟦<Old as Ord>⟧.cmp a b
+        ≡ int_cmp (⟦<Old as Blank>⟧.meaning a) (⟦<Old as Blank>⟧.meaning b) }
 {}
 
 /// What a word means, which words are one key, and which texts it reads and writes. Nothing is open.
@@ -90,6 +104,7 @@ pub fn words_are_these()
     ensures meaning { (w : Word) → ⟦<Word as Blank>⟧.meaning w ≡ string_bytes w.text }
     ensures blank { ⟦<Word as Blank>⟧.blank_is ≡ [] }
     ensures same { ⟦<Word as MapKey>⟧.same ≡ same_letters }
+    ensures hashed { (w : Word) → ⟦<Word as Hash>⟧.hash_input w ≡ fed.slice fed.u8 (lower (string_bytes w.text)) }
     ensures text { (t : List ℕ) → (⟦<Word as ProtoString>⟧.text t ≡ t) × (⟦<Word as ProtoString>⟧.of_text t ≡ t) }
 {}
 

@@ -1,8 +1,9 @@
 //! A map field passed on by a reader that doesn't know all its values.
 
-ghost use Rattle.std.specs.Prelude.{◌≡◌, IfErr, OnOk};
+ghost use Rattle.std.specs.Prelude.{◌≡◌, ◌≤◌, IfErr, OnOk};
 ghost use Rattle.buffa_wire.specs.Enums.{Refines, numbers};
 ghost use Rattle.buffa_wire.specs.Number.{IsNumber};
+ghost use Rattle.buffa_map.specs.Lent.{room_of};
 ghost use Rattle.buffa_samples.specs.Passed.{IfRefused, IfUnread, IsRun, KeepsRun, MeansRun, NotRewritten, Proxy};
 ghost use Rattle.buffa_samples.specs.Passed.{ReadsRewrite, Stopped, proxy};
 
@@ -100,6 +101,7 @@ pub fn passed_on<
     ensures kept { IfErr result (IfRefused (λ _. (map.new ≡ map.old) × (unknown.new ≡ unknown.old))) }
     ensures stops { IfErr result (IfUnread (Stopped ⟦<Pass<KC, E, F, C, D> as Way>⟧.way KC.fits depth
         number bytes.now (C.pairs scratch.new) (D.pairs map.old) unknown.old (D.pairs map.new) unknown.new)) }
+    ensures room { room_of unknown.old ≤ room_of unknown.new }
 {
     let mut text = Vec::new(alloc);
     let mut budget = Budget::new(DEFAULT_UNKNOWN_FIELD_LIMIT);

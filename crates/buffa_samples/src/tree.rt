@@ -1,6 +1,6 @@
 //! A message that holds itself.
 
-ghost use Rattle.std.specs.Prelude.{pos};
+ghost use Rattle.std.specs.Prelude.{OnErr, [], pos};
 ghost use Rattle.buffa_wire.specs.Passes.{IsNext, IsSized};
 ghost use Rattle.std.specs.BTreeMap.{values};
 ghost use Rattle.std.specs.List.{Contains};
@@ -110,7 +110,10 @@ impl MessageSpec for Tree {
 }
 
 impl Message for Tree {
-    fn compute_size(&self, cache: &mut SizeCache) -> Result<u32, EncodeError> {
+    fn compute_size(&self, cache: &mut SizeCache) -> Result<u32, EncodeError>
+        ensures sized { IsSized (text self.now) (slots self.now) cache.old result cache.new }
+        ensures some { OnErr result (slots self.now ≢ []) }
+    {
         size_tree(self, cache)
     }
 
@@ -135,8 +138,12 @@ impl Message for Tree {
 }
 
 /// The size pass: the length of the text, and the slots of the children appended.
+///
+/// # Errors
+/// Those of [`Message::compute_size`]; never for a tree with no children.
 pub fn size_tree(tree: &Tree, cache: &mut SizeCache) -> Result<u32, EncodeError>
-    ensures { IsSized (text tree.now) (slots tree.now) cache.old result cache.new }
+    ensures sized { IsSized (text tree.now) (slots tree.now) cache.old result cache.new }
+    ensures some { OnErr result (slots tree.now ≢ []) }
 {
     let children = message_field_len_by::<Int32, Tree, BTreeMap<i32, Tree>, _>(
         &tree.children,

@@ -1,8 +1,12 @@
 //! A message of two int32.
 
-ghost use Rattle.std.specs.Prelude.{◌≡◌, [], pos, refl, FitsSigned};
+ghost use Rattle.std.specs.Prelude.{◌≡◌, ◌≢◌, [], pos, refl, FitsSigned, IsOk, OnErr};
 ghost use Rattle.std.specs.Int.{w32};
-ghost use Rattle.buffa_wire.specs.Gives.{Gives};
+ghost use Rattle.buffa_bytes.specs.declared.wire_type.WireType.TheVariants.{EndGroup};
+ghost use Rattle.buffa_wire.specs.BudgetLeft.{budget_left};
+ghost use Rattle.buffa_wire.specs.Gives.{FullOnlyIf, Gives};
+ghost use Rattle.buffa_wire.specs.Message.{IsFieldMerged};
+ghost use Rattle.buffa_wire.specs.Passes.{IsSized};
 ghost use Rattle.buffa_samples.specs.FieldsLaws.{empty, fields, next};
 ghost use Rattle.buffa_samples.specs.Two.{two_cost, two_field, two_merged, two_records, two_text};
 ghost use Rattle.buffa_samples.specs.TwoLaws.{two_back, two_cost_some, two_same, two_sound, two_text_records};
@@ -84,8 +88,9 @@ fn merge_values(
     buf: &mut &[u8],
     depth: u32,
 ) -> Result<(), DecodeError>
-    ensures { Gives (λ _. ((a.new, b.new), buf.new.now)) result
+    ensures gives { Gives (λ _. ((a.new, b.new), buf.new.now)) result
         (two_field depth (a.old, b.old) tag.number tag.wire_type buf.old.now) }
+    ensures stays { OnErr result ((a.new ≡ a.old) × (b.new ≡ b.old)) }
 {
     match tag.field_number() {
         1 => {
@@ -102,7 +107,10 @@ fn merge_values(
 }
 
 impl Message for TestMsg {
-    fn compute_size(&self, _cache: &mut SizeCache) -> Result<u32, EncodeError> {
+    fn compute_size(&self, _cache: &mut SizeCache) -> Result<u32, EncodeError>
+        ensures sized { IsSized (two_text (self.now.a, self.now.b)) [] _cache.old result _cache.new }
+        ensures always { IsOk result }
+    {
         Ok(number_len(1, &self.a) + number_len(2, &self.b))
     }
 
@@ -122,7 +130,15 @@ impl Message for TestMsg {
         tag: Tag,
         buf: &mut &[u8],
         ctx: DecodeContext<'_>,
-    ) -> Result<(), DecodeError> {
+    ) -> Result<(), DecodeError>
+        ensures merged { IsFieldMerged two_merged two_cost ctx.entry.depth (self.old.a, self.old.b) tag.number tag.wire_type
+            buf.old.now ctx.entry.budget.now result (self.new.a, self.new.b) (budget_left ctx.exit) buf.new.now }
+        ensures full { FullOnlyIf result (tag.wire_type ≢ EndGroup) }
+        ensures gives { Gives (λ _. ((self.new.a, self.new.b), buf.new.now)) result
+            (two_field ctx.entry.depth (self.old.a, self.old.b) tag.number tag.wire_type buf.old.now) }
+        ensures stays { OnErr result (self.new ≡ self.old) }
+        ensures unspent { budget_left ctx.exit ≡ ctx.entry.budget.now }
+    {
         merge_values(&mut self.a, &mut self.b, tag, buf, ctx.depth)
     }
 }

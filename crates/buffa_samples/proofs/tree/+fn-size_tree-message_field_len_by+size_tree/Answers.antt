@@ -1,19 +1,25 @@
 use Rattle.std.proofs.Common.{arith, refl, ap, ◌∙◌}
+use Rattle.std.proofs.lemmas.Result.{err_from_is_err_and}
 use Rattle.buffa_wire.specs.Cache.{appended}
-use Rattle.buffa_samples.proofs.TreeSizes.{low_child, large_total, slots_is, small_total}
+use Rattle.buffa_samples.proofs.TreeSizes.{low_child, large_total, slots_is, slots_there, small_total}
 use Rattle.buffa_samples.proofs.tree.+fn-size_tree-message_field_len_by+size_tree.Goals as goal
 
 pub message_field_len_by-requires : goal.message_field_len_by-requires
 message_field_len_by-requires t c κs = ((refl, tt), ((λ x d h. (omega (arith, low_child c.args.tree.now c.tree.inside.label c.tree.inside.children.entries c.tree.view_is x.now h, c.decreases), tt)), (λ x d r e h s. s)))
 
-pub returns-then-total-lt4294967295 : goal.returns-then-total-lt4294967295
-returns-then-total-lt4294967295 t c = (
+pub returns-then-total-lt4294967295-clause-sized : goal.returns-then-total-lt4294967295-clause-sized
+returns-then-total-lt4294967295-clause-sized t c = (
   small_total _ _ _ c.tree.view_is _ _ _ c.in_ok-children.ensures.sized.0 (c.from.ensures ∙ c.number_len.ensures.len) c.saturating_add-total.ensures c.if-total-lt4294967295.true,
   c.in_ok-children.ensures.sized.2 ∙ ap (λ xs. appended xs c.args.cache.now) (slots_is _ _ _ c.tree.view_is),
 )
 
-pub returns-else-total-lt4294967295 : goal.returns-else-total-lt4294967295
-returns-else-total-lt4294967295 t c = (
+pub returns-else-total-lt4294967295-clause-sized : goal.returns-else-total-lt4294967295-clause-sized
+returns-else-total-lt4294967295-clause-sized t c = (
   large_total _ _ _ c.tree.view_is _ _ _ c.in_ok-children.ensures.sized.0 (c.from.ensures ∙ c.number_len.ensures.len) c.saturating_add-total.ensures c.if-total-lt4294967295.false,
   c.in_ok-children.ensures.sized.2 ∙ ap (λ xs. appended xs c.args.cache.now) (slots_is _ _ _ c.tree.view_is),
 )
+
+pub returns-in_err-children-clause-some : goal.returns-in_err-children-clause-some
+returns-in_err-children-clause-some t c =
+    let p = err_from_is_err_and c.from_residual.result c.from_residual.ensures.1 in
+    rw p.1 (slots_there _ _ _ c.tree.view_is c.in_err-children.ensures.some)

@@ -108,8 +108,8 @@ merge_tree_field-returns-then-field_number-ne2 t c =
     let other : c.args.tag.number ≢ 2 = λ z. absurd (omega (arith, c.field_number.ensures, c.if-field_number-ne2.true, z)) in
     record {
       merged = label_merged c.args.tag.number c.args.tag.wire_type c.args.buf.now.now c.merge_value.new.buf.now c.args.budget.now c.args.depth c.args.tree.now c.tree.inside.label c.tree.inside.children.entries c.tree.view_is
-          c.merge_value.result c.merge_value.new.value other c.merge_value.ensures;
-      full = full_not_at_end (flat_field c.args.depth) (flat_ends c.args.depth) c.merge_value.result c.tree.inside.label c.merge_value.new.value c.args.tag.number c.args.tag.wire_type c.args.buf.now.now c.merge_value.new.buf.now c.merge_value.ensures;
+          c.merge_value.result c.merge_value.new.value other c.merge_value.ensures.gives;
+      full = full_not_at_end (flat_field c.args.depth) (flat_ends c.args.depth) c.merge_value.result c.tree.inside.label c.merge_value.new.value c.args.tag.number c.args.tag.wire_type c.args.buf.now.now c.merge_value.new.buf.now c.merge_value.ensures.gives;
     }
 
 pub merge_tree_field-returns-in_err-check_wire_type : goal.merge_tree_field-returns-in_err-check_wire_type

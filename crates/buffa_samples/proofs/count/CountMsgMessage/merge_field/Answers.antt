@@ -3,10 +3,12 @@ use Rattle.buffa_samples.specs.Count.{count_field}
 use Rattle.buffa_samples.specs.CountLaws.{count_ends, count_same, count_sound}
 use Rattle.buffa_samples.proofs.count.CountMsgMessage.merge_field.Goals as goal
 
-pub returns : goal.returns
-returns c =
+pub returns-clause-merged : goal.returns-clause-merged
+returns-clause-merged c =
     let d = c.args.ctx.depth in
-    record {
-      merged = free d (count_field d) (count_sound d) (count_same d) c.merge_count.result c.args.self.now.count c.merge_count.new.count c.args.tag.number c.args.tag.wire_type c.args.buf.now.now c.merge_count.new.buf.now c.args.ctx.budget.now c.merge_count.ensures;
-      full = full_not_at_end (count_field d) (count_ends d) c.merge_count.result c.args.self.now.count c.merge_count.new.count c.args.tag.number c.args.tag.wire_type c.args.buf.now.now c.merge_count.new.buf.now c.merge_count.ensures;
-    }
+    free d (count_field d) (count_sound d) (count_same d) c.merge_count.result c.args.self.now.count c.merge_count.new.count c.args.tag.number c.args.tag.wire_type c.args.buf.now.now c.merge_count.new.buf.now c.args.ctx.budget.now c.merge_count.ensures.gives
+
+pub returns-clause-full : goal.returns-clause-full
+returns-clause-full c =
+    let d = c.args.ctx.depth in
+    full_not_at_end (count_field d) (count_ends d) c.merge_count.result c.args.self.now.count c.merge_count.new.count c.args.tag.number c.args.tag.wire_type c.args.buf.now.now c.merge_count.new.buf.now c.merge_count.ensures.gives
