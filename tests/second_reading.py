@@ -11,11 +11,11 @@ import re
 import sys
 
 sys.dont_write_bytecode = True
+import extension_reading
 from rules import (
-    DELIMITED, EIGHT, END, FOUR, KINDS, MESSAGES, MOST_LEVELS, MOST_SLOTS, MOST_UNITS, START, Budget, Bytes, Fault, blank,
-    delimited, field_text, keep, merge, merge_entry, merge_field, message_text, mismatch, of_word, packed, payload, plain, put,
-    read_item, read_list, read_one, read_record, read_run, record_text, records, skip, tag_text, value, varint_text,
-    word,
+    EIGHT, FOUR, KINDS, MESSAGES, MOST_LEVELS, MOST_SLOTS, MOST_UNITS, Budget, Bytes, Fault, blank, delimited,
+    field_text, keep, merge, merge_entry, merge_field, message_text, mismatch, of_word, payload, put, read_item,
+    read_run, records, skip, tag_text, value, varint_text, word,
 )
 
 TOP = os.path.dirname(os.path.dirname(os.path.abspath(__file__)))
@@ -171,63 +171,8 @@ class Row:
             return str(fault), self.told(word(kind, message) if self.settings.get("state") == "told" else "-")
         return "ok", self.told(word(kind, message), unread=buf.unread())
 
-    def read_as(self, found):
-        """What the records of the number are read as, in words."""
-        mine, kind = [it for it in found if it[0] == self.number], plain(self.types)
-        if "how" in self.settings:
-            return " ".join(word(kind, it) for it in read_list(self.types, mine)) or "-"
-        one = read_one(self.types, mine)
-        return "none" if one is None else word(kind, one)
-
-    def of_set(self, found, kind):
-        how = self.settings.get("how")
-        values = [of_word(kind, it) for it in (self.given.split() if how else [self.given])]
-        try:
-            if how == "packed":
-                text = b"".join(payload(kind, it) for it in values)
-                new = [tag_text(self.number, DELIMITED) + delimited(text)] if values else []
-            else:
-                new = [record_text(self.types, self.number, it) for it in values]
-        except Fault as fault:
-            return str(fault), found
-        wire = DELIMITED if how == "packed" else START if self.types.endswith("-group") else KINDS[kind][0]
-        return "ok", [it for it in found if it[0] != self.number] + [(self.number, wire, it) for it in new]
-
     def of_extension(self, _in_order):
-        found, kind, answer = records(bytes.fromhex(self.before)), plain(self.types), "ok"
-        if self.call == "clear":
-            words = f"{str(any(it[0] == self.number for it in found)).lower()} false"
-            found = [it for it in found if it[0] != self.number]
-        elif self.call == "has":
-            is_there = self.settings.get("extendee", "test.Carrier") == "test.Carrier"
-            words = str(is_there and any(it[0] == self.number for it in found)).lower()
-        elif self.call in ("set", "set-then-read"):
-            answer, found = self.of_set(found, kind)
-            words = self.read_as(found)
-        elif self.call == "encode-into":
-            others = [(-1, *it[1:]) for it in found]
-            answer, found = self.of_set(others, kind)
-            words = "-"
-        elif self.call in ("get", "default", "decode-of"):
-            words = self.read_as(found)
-            if (self.call, words) == ("default", "none"):
-                words = self.settings.get("declared", word(kind, blank(kind)))
-        elif self.call == "encode-one":
-            words = "-"
-            try:
-                found = [(1, None, record_text(self.types, 1, of_word(kind, self.given)))]
-            except Fault as fault:
-                answer, found = str(fault), []
-        elif self.call == "pack":
-            words, found = "-", [(1, None, b"\x0a" + delimited(payload(kind, of_word(kind, self.given))))]
-        elif self.call == "unpack":
-            words = " ".join(word(kind, it) for it in packed(self.types, bytes.fromhex(self.given))) or "-"
-        else:
-            depth = self.depth if self.call == "decode-one-ctx" else MOST_LEVELS
-            one = read_record(self.types, found[0], depth, self.budget)
-            words = "none" if one is None else word(kind, one)
-        text = b"".join(it[2] for it in found).hex() or "-"
-        return answer, f"{words}; records {text}"
+        return extension_reading.outcome(self)
 
     def of_scalar(self, _in_order):
         """A value that is read, or spelled."""
@@ -270,16 +215,9 @@ class Row:
         return "ok", self.told(f"{word(kind, new)} {'known' if is_declared else 'unknown'}", unread=buf.unread())
 
     def of_list(self, _in_order):
-        """Records that are put into a list, and steps."""
+        """Records that are put into a list."""
         found = records(bytes.fromhex(self.before))
-        if self.call == "steps":
-            for step in self.given.split():
-                number, _, said = step.partition("=")
-                found = [it for it in found if it[0] != int(number)]
-                new = records(bytes.fromhex(said)) if "=" in step else []
-                found += [(int(number), wire, renumbered(int(number), text)) for _, wire, text in new]
-            words = str(len(self.given.split()))
-        elif self.call == "push":
+        if self.call == "push":
             found += records(bytes.fromhex(self.given))
             words = str(len(found))
         else:
@@ -295,8 +233,6 @@ class Row:
             order = sorted(pairs.items()) if in_order else list(pairs.items())
             words = " ".join(f"{word(self.kinds[0], key)}={word(self.kinds[1], held)}" for key, held in order)
             return "ok", f"{words}; {len(pairs)}"
-        if self.call == "descriptor":
-            return "ok", " ".join([f"{self.number} test.Carrier"] * 3)
         if self.call == "normal":
             return "ok", word("open", of_word("open", self.given))
         if self.call == "number":
@@ -345,11 +281,10 @@ class Row:
             ("varint item skip unknown", self.of_bytes),
             ("records twice retain write-item", self.of_records),
             ("merge merge-delimited merge-field encode message-size message-clear write-messages", self.of_message),
-            ("get set default clear encode-one decode-one decode-one-ctx pack unpack", self.of_extension),
-            ("has set-then-read encode-into decode-of", self.of_extension),
+            (extension_reading.CALLS, self.of_extension),
             ("decode spell zigzag tag payload spell-payload", self.of_scalar),
-            ("steps push reserve", self.of_list),
-            ("put descriptor normal number item-len cache context", self.of_words),
+            ("push reserve", self.of_list),
+            ("put normal number item-len cache context", self.of_words),
         ):
             if self.call in calls.split():
                 return done(in_order)
@@ -361,16 +296,6 @@ class Row:
         ordered = "ordered" in names and self.kinds[0] != "word" and self.call != "field"
         arrival = "indexed" in names and self.kinds[0] != "old"
         return [True] * ordered + [False] * (arrival or not ordered)
-
-
-def renumbered(number, text):
-    """The text of a record under another number."""
-    buf = Bytes(text)
-    wire = buf.varint() % 8
-    rest = text[buf.at :]
-    if wire == START:
-        rest = rest[: len(rest) - len(tag_text(Bytes(text).varint() // 8, END))] + tag_text(number, END)
-    return tag_text(number, wire) + rest
 
 
 def with_pairs_in_order(state):

@@ -1,14 +1,14 @@
 // Calls on codecs: a record of a value and back, and packed bytes and back.
 
-use crate::sets::{Told, words_of};
+use crate::told::{Told, asks_to_try, values_of, words_of};
 use buffa_ext::{PackableCodec, SingularCodec};
 use buffa_wire::{
     Budget, DecodeContext, EncodeError, UnknownField, UnknownFieldData, UnknownFields,
 };
-use conformance_rows::case::Case;
+use conformance_rows::case::{Case, or_dash};
 use conformance_rows::fault::Fault;
 use conformance_rows::mark::Mark;
-use conformance_rows::outcome::{Outcome, got, records_told, written};
+use conformance_rows::outcome::{Outcome, got, left, records_told, written};
 use conformance_rows::words::{Worded, records_of};
 use std::alloc::Global;
 
@@ -24,8 +24,8 @@ fn no_records(alloc: Global) -> Result<String, Fault> {
     Ok(String::from_str(alloc, "records -")?)
 }
 
-// What comes of a payload that was made, or not.
-fn made_told(
+/// What comes of a payload that was made, or not.
+pub fn made_told(
     alloc: Global,
     made: Result<UnknownFieldData, EncodeError>,
     refused: bool,
@@ -50,8 +50,13 @@ pub fn encode_one<By, V: Worded<By>, C: SingularCodec<Value = V>>(
     mark: &mut Mark,
 ) -> Result<Outcome, Fault> {
     let value = V::of_word(alloc, case.input())?;
+    let tries = asks_to_try(case);
     mark.begin(alloc);
-    let made = C::try_encode_one(alloc, &value);
+    let made = if tries {
+        C::try_encode_one(alloc, &value)
+    } else {
+        C::encode_one(alloc, &value)
+    };
     let refused = mark.end();
     made_told(alloc, made, refused)
 }
@@ -74,13 +79,26 @@ pub fn decode_one<By, V: Worded<By>, C: SingularCodec<Value = V>>(
     Outcome::of_words(alloc, answer, words, records_told(alloc, &fields), refused)
 }
 
+// With what is left of the budget, where the setting `left` asks for it.
+fn with_budget(
+    alloc: Global,
+    case: &Case<'_>,
+    budget: &Budget,
+    outcome: Outcome,
+) -> Result<Outcome, Fault> {
+    if case.setting("left") != Some("told") {
+        return Ok(outcome);
+    }
+    outcome.with_left(left(alloc, case, budget, 0), 0)
+}
+
 /// The same in a context.
 pub fn decode_one_ctx<By, V: Worded<By>, C: SingularCodec<Value = V>>(
     alloc: Global,
     case: &Case<'_>,
     mark: &mut Mark,
 ) -> Result<Outcome, Fault> {
-    let mut budget = Budget::new(case.slots()?);
+    let mut budget = Budget::new(case.slots()?).with_element_memory(case.units()?);
     let depth = case.depth()?;
     let fields = records_of(alloc, case.before())?;
     let Some(field) = fields.iter().next() else {
@@ -92,44 +110,90 @@ pub fn decode_one_ctx<By, V: Worded<By>, C: SingularCodec<Value = V>>(
     let refused = mark.end();
     let words = words_of::<By, Option<V>>(alloc, &found);
     let answer = got(alloc, found.is_ok());
-    Outcome::of_words(alloc, answer, words, records_told(alloc, &fields), refused)
+    let records = records_told(alloc, &fields);
+    let outcome = Outcome::of_words(alloc, answer, words, records, refused)?;
+    with_budget(alloc, case, &budget, outcome)
 }
 
-/// The values that a codec reads of packed bytes.
+// What stands of the words before where memory ran out: they, and a beginning of the new ones, but not all.
+fn front_told(
+    alloc: Global,
+    case: &Case<'_>,
+    stand: &str,
+    all: &str,
+) -> Result<String, Fault> {
+    let is_front = match all.strip_prefix(stand) {
+        Some(rest) => rest.starts_with(' ') || stand.is_empty() && !rest.is_empty(),
+        None => false,
+    };
+    if is_front && stand.starts_with(case.before()) {
+        return Ok(format!(in alloc; "records {}", case.before)?);
+    }
+    Ok(format!(in alloc; "records {stand} may not stand")?)
+}
+
+// The words of what bytes hold behind old values.
+fn unpacked_words<By, V: Worded<By>, C: PackableCodec<Value = V>>(
+    alloc: Global,
+    case: &Case<'_>,
+    bytes: &[u8],
+) -> Result<String, Fault> {
+    let mut values = values_of::<By, V>(alloc, case.before())?;
+    match C::decode_packed(bytes, &mut values) {
+        Ok(()) => Told::<By>::words(&values, alloc),
+        Err(_) => Err(Fault::Memory),
+    }
+}
+
+/// The values that a codec reads of packed bytes, behind those that stand before.
 pub fn unpack<By, V: Worded<By>, C: PackableCodec<Value = V>>(
     alloc: Global,
     case: &Case<'_>,
     mark: &mut Mark,
 ) -> Result<Outcome, Fault> {
     let bytes = hex::decode(alloc, case.input())?;
-    let mut values: Vec<V> = Vec::new(alloc);
+    let mut values = values_of::<By, V>(alloc, case.before())?;
     mark.begin(alloc);
     let done = C::decode_packed(bytes.as_slice(), &mut values);
     let refused = mark.end();
-    let words = Told::<By>::words(&values, alloc);
-    Outcome::of_words(
-        alloc,
-        got(alloc, done.is_ok()),
-        words,
-        no_records(alloc),
-        refused,
-    )
+    let words = Told::<By>::words(&values, alloc)?;
+    let records = if done.is_ok() {
+        no_records(alloc)
+    } else {
+        let all = unpacked_words::<By, V, C>(alloc, case, bytes.as_slice())?;
+        front_told(alloc, case, words.as_str(), all.as_str())
+    };
+    Outcome::of_words(alloc, got(alloc, done.is_ok()), Ok(words), records, refused)
 }
 
-/// The packed bytes of a value, as a record.
+// What comes of bytes behind which a value was packed, or not; then they are as they were.
+fn packed_told(
+    alloc: Global,
+    case: &Case<'_>,
+    answer: Result<(), EncodeError>,
+    bytes: Vec<u8>,
+    refused: bool,
+) -> Result<Outcome, Fault> {
+    let Err(fault) = answer else {
+        let payload = UnknownFieldData::LengthDelimited(bytes);
+        return made_told(alloc, Ok(payload), refused);
+    };
+    let digits = hex::encode(alloc, bytes.as_slice())?;
+    let records = Ok(format!(in alloc; "records {}", or_dash(digits.as_str()))?);
+    let none = Ok(String::new(alloc));
+    Outcome::of_words(alloc, written::<()>(alloc, Err(fault)), none, records, refused)
+}
+
+/// The packed bytes of a value, behind those that stand before, as a record.
 pub fn pack<By, V: Worded<By>, C: PackableCodec<Value = V>>(
     alloc: Global,
     case: &Case<'_>,
     mark: &mut Mark,
 ) -> Result<Outcome, Fault> {
     let value = V::of_word(alloc, case.input())?;
-    let mut bytes = Vec::new(alloc);
+    let mut bytes = hex::decode(alloc, case.before())?;
     mark.begin(alloc);
     let answer = C::encode_packed(&value, &mut bytes);
     let refused = mark.end();
-    made_told(
-        alloc,
-        answer.map(|_| UnknownFieldData::LengthDelimited(bytes)),
-        refused,
-    )
+    packed_told(alloc, case, answer, bytes, refused)
 }

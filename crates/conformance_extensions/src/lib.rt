@@ -1,20 +1,57 @@
 //! Rows on extensions of a carrier, and on the codecs themselves.
 #![tactic(auto)]
 
+mod alone;
+pub mod back;
 mod codecs;
+mod descriptors;
+mod messages;
 mod sets;
+mod steps;
+mod told;
 
 use buffa_ext::codecs::{
     Bool, BytesCodec, EnumI32, Fixed32, Fixed64, Int32, Int64, PackedRepeated, Repeated, Sfixed32,
     Sfixed64, Sint32, Sint64, StringCodec, Uint32, Uint64,
 };
-use buffa_ext::{ExtensionCodec, LastWins, PackableCodec, SingularCodec};
+use buffa_ext::{ExtensionCodec, MessageIn, MessageRecord, Numbered, SingularCodec};
+use buffa_wire::Message;
 use conformance_rows::case::Case;
 use conformance_rows::fault::Fault;
 use conformance_rows::mark::Mark;
 use conformance_rows::outcome::Outcome;
 use conformance_rows::words::Worded;
 use std::alloc::Global;
+
+// A call on a list.
+fn list<By, V: Worded<By>, L: ExtensionCodec<Value = Vec<V>, Output = Vec<V>>>(
+    alloc: Global,
+    case: &Case<'_>,
+    mark: &mut Mark,
+) -> Result<Outcome, Fault> {
+    match case.call {
+        "decode-of" | "encode-into" => alone::list::<By, V, L>(alloc, case, mark),
+        "descriptor" => descriptors::descriptor::<L>(alloc, case, mark),
+        _ => sets::list::<By, V, L>(alloc, case, mark),
+    }
+}
+
+// A call on a single value.
+fn one<By, V: Worded<By>, C: ExtensionCodec<Value = V, Output = Option<V>>>(
+    alloc: Global,
+    case: &Case<'_>,
+    mark: &mut Mark,
+) -> Result<Outcome, Fault> {
+    match (case.call, case.setting("declared")) {
+        ("decode-of" | "encode-into", _) => alone::one::<By, V, C>(alloc, case, mark),
+        ("descriptor", _) => descriptors::descriptor::<C>(alloc, case, mark),
+        ("declared", _) => descriptors::declared::<By, V, C>(alloc, case, mark),
+        ("default", Some(word)) => {
+            descriptors::get_or_declared::<By, V, C>(alloc, case, mark, word)
+        }
+        _ => sets::one::<By, V, C>(alloc, case, mark),
+    }
+}
 
 /// A codec whose values aren't packed.
 pub fn plain<
@@ -26,15 +63,26 @@ pub fn plain<
         "encode-one" => codecs::encode_one::<By, V, C>(alloc, case, mark),
         "decode-one" => codecs::decode_one::<By, V, C>(alloc, case, mark),
         "decode-one-ctx" => codecs::decode_one_ctx::<By, V, C>(alloc, case, mark),
-        _ if case.setting("how") == Some("all") => {
-            sets::list::<By, V, Repeated<C>>(alloc, case, mark)
-        }
-        _ => sets::one::<By, V, C>(alloc, case, mark),
+        _ if case.setting("how") == Some("all") => list::<By, V, Repeated<C>>(alloc, case, mark),
+        _ => one::<By, V, C>(alloc, case, mark),
+    }
+}
+
+// A number, or a list of them, that is set and read.
+fn set_number<By, V: Worded<By>, C: Numbered<Value = V>>(
+    alloc: Global,
+    case: &Case<'_>,
+    mark: &mut Mark,
+) -> Result<Outcome, Fault> {
+    match case.setting("how") {
+        Some("all") => back::list::<By, V, Repeated<C>>(alloc, case, mark),
+        Some("packed") => back::list::<By, V, PackedRepeated<C>>(alloc, case, mark),
+        _ => back::one::<By, V, C>(alloc, case, mark),
     }
 }
 
 /// A codec whose values may be packed.
-pub fn packable<By, V: Worded<By>, C: PackableCodec<Value = V> + LastWins>(
+pub fn packable<By, V: Worded<By>, C: Numbered<Value = V>>(
     alloc: Global,
     case: &Case<'_>,
     mark: &mut Mark,
@@ -42,10 +90,47 @@ pub fn packable<By, V: Worded<By>, C: PackableCodec<Value = V> + LastWins>(
     match case.call {
         "pack" => codecs::pack::<By, V, C>(alloc, case, mark),
         "unpack" => codecs::unpack::<By, V, C>(alloc, case, mark),
+        "set-then-read" => set_number::<By, V, C>(alloc, case, mark),
         _ if case.setting("how") == Some("packed") => {
-            sets::list::<By, V, PackedRepeated<C>>(alloc, case, mark)
+            list::<By, V, PackedRepeated<C>>(alloc, case, mark)
         }
         _ => plain::<By, V, C>(alloc, case, mark),
+    }
+}
+
+/// A message, in records of one kind.
+pub fn message<By, M: Worded<By> + Message, K: MessageRecord>(
+    alloc: Global,
+    case: &Case<'_>,
+    mark: &mut Mark,
+) -> Result<Outcome, Fault> {
+    match case.call {
+        "hold" => messages::hold::<K>(alloc, case, mark),
+        "merge-all" => messages::merge_all::<By, M, K>(alloc, case, mark),
+        "merge-in" => messages::merge_in::<By, M, K>(alloc, case, mark),
+        _ => plain::<By, M, MessageIn<K, M>>(alloc, case, mark),
+    }
+}
+
+// A text.
+fn string<By>(alloc: Global, case: &Case<'_>, mark: &mut Mark) -> Result<Outcome, Fault> {
+    match (case.call, case.setting("how")) {
+        ("set-then-read", Some(_)) => {
+            back::list::<By, String, Repeated<StringCodec>>(alloc, case, mark)
+        }
+        ("set-then-read", None) => back::one::<By, String, StringCodec>(alloc, case, mark),
+        _ => plain::<By, String, StringCodec>(alloc, case, mark),
+    }
+}
+
+// Bytes.
+fn bytes<By>(alloc: Global, case: &Case<'_>, mark: &mut Mark) -> Result<Outcome, Fault> {
+    match (case.call, case.setting("how")) {
+        ("set-then-read", Some(_)) => {
+            back::list::<By, Vec<u8>, Repeated<BytesCodec>>(alloc, case, mark)
+        }
+        ("set-then-read", None) => back::one::<By, Vec<u8>, BytesCodec>(alloc, case, mark),
+        _ => plain::<By, Vec<u8>, BytesCodec>(alloc, case, mark),
     }
 }
 
@@ -58,13 +143,13 @@ fn of_longs<By>(alloc: Global, case: &Case<'_>, mark: &mut Mark) -> Result<Outco
         "fixed64" => packable::<By, u64, Fixed64>(alloc, case, mark),
         "sfixed64" => packable::<By, i64, Sfixed64>(alloc, case, mark),
         "bool" => packable::<By, bool, Bool>(alloc, case, mark),
-        "string" => plain::<By, String, StringCodec>(alloc, case, mark),
-        "bytes" => plain::<By, Vec<u8>, BytesCodec>(alloc, case, mark),
+        "string" => string::<By>(alloc, case, mark),
+        "bytes" => bytes::<By>(alloc, case, mark),
         _ => Err(Fault::Form),
     }
 }
 
-/// What comes of a row on an extension whose values are numbers, texts or bytes.
+/// What comes of a row on an extension whose values are numbers, texts or bytes, or on records of any number.
 pub fn extension<By>(alloc: Global, case: &Case<'_>, mark: &mut Mark) -> Result<Outcome, Fault> {
     match case.types {
         "int32" => packable::<By, i32, Int32>(alloc, case, mark),
@@ -73,6 +158,8 @@ pub fn extension<By>(alloc: Global, case: &Case<'_>, mark: &mut Mark) -> Result<
         "fixed32" => packable::<By, u32, Fixed32>(alloc, case, mark),
         "sfixed32" => packable::<By, i32, Sfixed32>(alloc, case, mark),
         "number" => packable::<By, i32, EnumI32>(alloc, case, mark),
+        "-" if case.call == "steps" => steps::steps(alloc, case, mark),
+        "-" if case.call == "replace" => steps::replaced(alloc, case, mark),
         _ => of_longs::<By>(alloc, case, mark),
     }
 }

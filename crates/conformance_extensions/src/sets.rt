@@ -1,68 +1,13 @@
 // Calls on extensions of a carrier: a value or a list of them, read, set and cleared.
 
+use crate::told::{Told, asks_to_try, carrier_of, values_of, word_of, words_of};
 use buffa_ext::{Extension, ExtensionCodec, ExtensionSet};
-use buffa_options::Carrier;
 use conformance_rows::case::Case;
 use conformance_rows::fault::Fault;
 use conformance_rows::mark::Mark;
 use conformance_rows::outcome::{Outcome, got, records_told, written};
-use conformance_rows::words::{Worded, records_of};
-use std::alloc::{AllocError, Global};
-
-/// What a codec reads, in words.
-pub trait Told<By> {
-    /// The words.
-    fn words(&self, alloc: Global) -> Result<String, Fault>;
-}
-
-// The word of a value, or `none`.
-impl<By, V: Worded<By>> Told<By> for Option<V> {
-    fn words(&self, alloc: Global) -> Result<String, Fault> {
-        match self {
-            Some(value) => value.word(alloc),
-            None => Ok(String::from_str(alloc, "none")?),
-        }
-    }
-}
-
-// The words of values, with a space between them.
-impl<By, V: Worded<By>> Told<By> for Vec<V> {
-    fn words(&self, alloc: Global) -> Result<String, Fault> {
-        let mut text = String::new(alloc);
-        for value in self.iter() {
-            let word = value.word(alloc)?;
-            let space = if text.is_empty() { "" } else { " " };
-            text = format!(in alloc; "{text}{space}{word}")?;
-        }
-        Ok(text)
-    }
-}
-
-/// The words of what was read; nothing where memory ran out.
-pub fn words_of<By, T: Told<By>>(
-    alloc: Global,
-    found: &Result<T, AllocError>,
-) -> Result<String, Fault> {
-    match found {
-        Ok(found) => found.words(alloc),
-        Err(_) => Ok(String::new(alloc)),
-    }
-}
-
-// The carrier of the records that stand before.
-fn carrier_of(alloc: Global, case: &Case<'_>) -> Result<Carrier, Fault> {
-    let fields = records_of(alloc, case.before())?;
-    Ok(Carrier { fields })
-}
-
-// The values of words.
-fn values_of<By, V: Worded<By>>(alloc: Global, words: &str) -> Result<Vec<V>, Fault> {
-    let mut values = Vec::new(alloc);
-    for word in words.split_ascii_whitespace() {
-        values.push(V::of_word(alloc, word)?)?;
-    }
-    Ok(values)
-}
+use conformance_rows::words::Worded;
+use std::alloc::Global;
 
 // What is read.
 fn get<By, T: Told<By> + Drop, C: ExtensionCodec<Output = T>>(
@@ -95,8 +40,13 @@ fn set<By, T: Told<By> + Drop, V: Drop, C: ExtensionCodec<Value = V, Output = T>
 ) -> Result<Outcome, Fault> {
     let ext = Extension::<C>::new(case.number()?, "test.Carrier");
     let mut carrier = carrier_of(alloc, case)?;
+    let tries = asks_to_try(case);
     mark.begin(alloc);
-    let answer = carrier.set_extension(alloc, &ext, value);
+    let answer = if tries {
+        carrier.try_set_extension(alloc, &ext, value)
+    } else {
+        carrier.set_extension(alloc, &ext, value)
+    };
     let refused = mark.end();
     let words = words_of::<By, T>(alloc, &carrier.extension(alloc, &ext));
     let records = records_told(alloc, &carrier.fields);
@@ -121,17 +71,6 @@ fn set_list<By, V: Worded<By>, C: ExtensionCodec<Value = Vec<V>, Output = Vec<V>
 ) -> Result<Outcome, Fault> {
     let values = values_of::<By, V>(alloc, case.input())?;
     set::<By, Vec<V>, Vec<V>, C>(alloc, case, mark, values)
-}
-
-// The word of a value, or nothing where memory ran out.
-fn word_of<By, V: Worded<By>>(
-    alloc: Global,
-    found: &Result<V, AllocError>,
-) -> Result<String, Fault> {
-    match found {
-        Ok(value) => value.word(alloc),
-        Err(_) => Ok(String::new(alloc)),
-    }
 }
 
 // A single value that is read, or the type's default.
@@ -179,6 +118,30 @@ fn clear<C: ExtensionCodec>(
     Outcome::of_words(alloc, got(alloc, true), words, records, refused)
 }
 
+// The extendee that the setting `extendee` names, the carrier or another message.
+fn extendee_of(case: &Case<'_>) -> &'static str {
+    match case.setting("extendee") {
+        None => "test.Carrier",
+        Some(_) => "other.Message",
+    }
+}
+
+// Whether there is an extension of an extendee.
+fn has<C: ExtensionCodec>(
+    alloc: Global,
+    case: &Case<'_>,
+    mark: &mut Mark,
+) -> Result<Outcome, Fault> {
+    let ext = Extension::<C>::new(case.number()?, extendee_of(case));
+    let carrier = carrier_of(alloc, case)?;
+    mark.begin(alloc);
+    let has = carrier.has_extension(&ext);
+    let refused = mark.end();
+    let words = Ok(format!(in alloc; "{has}")?);
+    let records = records_told(alloc, &carrier.fields);
+    Outcome::of_words(alloc, got(alloc, true), words, records, refused)
+}
+
 /// A call on a single value.
 pub fn one<By, V: Worded<By>, C: ExtensionCodec<Value = V, Output = Option<V>>>(
     alloc: Global,
@@ -190,6 +153,7 @@ pub fn one<By, V: Worded<By>, C: ExtensionCodec<Value = V, Output = Option<V>>>(
         "set" => set_one::<By, V, C>(alloc, case, mark),
         "default" => get_or_default::<By, V, C>(alloc, case, mark),
         "clear" => clear::<C>(alloc, case, mark),
+        "has" => has::<C>(alloc, case, mark),
         _ => Err(Fault::Form),
     }
 }
@@ -203,6 +167,8 @@ pub fn list<By, V: Worded<By>, C: ExtensionCodec<Value = Vec<V>, Output = Vec<V>
     match case.call {
         "get" => get::<By, Vec<V>, C>(alloc, case, mark),
         "set" => set_list::<By, V, C>(alloc, case, mark),
+        "clear" => clear::<C>(alloc, case, mark),
+        "has" => has::<C>(alloc, case, mark),
         _ => Err(Fault::Form),
     }
 }

@@ -3,7 +3,8 @@
 
 mod words;
 
-use buffa_ext::codecs::{EnumCodec, GroupCodec, MessageCodec};
+use buffa_ext::codecs::EnumCodec;
+use buffa_ext::record::{Delimited, Grouped};
 use buffa_map::map_codec::{ClosedEnum, Int32, MapValueDecode, Msg, OpenEnum, ProtoStringMap, Str};
 use buffa_samples::count::CountMsg;
 use buffa_samples::flat::FlatMsg;
@@ -13,7 +14,7 @@ use buffa_samples::tree::Tree;
 use buffa_samples::two::TestMsg;
 use buffa_samples::word::Word;
 use buffa_wire::{Buf, EnumValue};
-use conformance_extensions::{packable, plain};
+use conformance_extensions::{message as of_message, packable};
 use conformance_maps::{Entries, Runs, hashed, ordered, stored};
 use conformance_rows::calls::Kind;
 use conformance_rows::case::Case;
@@ -31,13 +32,13 @@ pub struct Samples;
 pub fn extension(alloc: Global, case: &Case<'_>, mark: &mut Mark) -> Result<Outcome, Fault> {
     match case.types {
         "enum" => packable::<Samples, EnumValue<Old>, EnumCodec<Old>>(alloc, case, mark),
-        "flat" => plain::<Samples, FlatMsg, MessageCodec<FlatMsg>>(alloc, case, mark),
-        "two" => plain::<Samples, TestMsg, MessageCodec<TestMsg>>(alloc, case, mark),
-        "count" => plain::<Samples, CountMsg, MessageCodec<CountMsg>>(alloc, case, mark),
-        "keep" => plain::<Samples, BudgetMsg, MessageCodec<BudgetMsg>>(alloc, case, mark),
-        "two-group" => plain::<Samples, TestMsg, GroupCodec<TestMsg>>(alloc, case, mark),
-        "count-group" => plain::<Samples, CountMsg, GroupCodec<CountMsg>>(alloc, case, mark),
-        "keep-group" => plain::<Samples, BudgetMsg, GroupCodec<BudgetMsg>>(alloc, case, mark),
+        "flat" => of_message::<Samples, FlatMsg, Delimited>(alloc, case, mark),
+        "two" => of_message::<Samples, TestMsg, Delimited>(alloc, case, mark),
+        "count" => of_message::<Samples, CountMsg, Delimited>(alloc, case, mark),
+        "keep" => of_message::<Samples, BudgetMsg, Delimited>(alloc, case, mark),
+        "two-group" => of_message::<Samples, TestMsg, Grouped>(alloc, case, mark),
+        "count-group" => of_message::<Samples, CountMsg, Grouped>(alloc, case, mark),
+        "keep-group" => of_message::<Samples, BudgetMsg, Grouped>(alloc, case, mark),
         _ => conformance_extensions::extension::<Samples>(alloc, case, mark),
     }
 }
