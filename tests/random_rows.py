@@ -14,7 +14,7 @@ import tempfile
 sys.dont_write_bytecode = True
 from rules import (
     BYTES, DELIMITED, EIGHT, END, FOUR, KINDS, MESSAGES, START, STRINGS, VARINT, Fault, delimited, of_word, plain, put,
-    records, tag_text, varint_text,
+    read_list, records, tag_text, varint_text, word,
 )
 from second_reading import TOP, Row
 
@@ -25,7 +25,7 @@ PAIRS = (
 ).split()
 NUMBERS = "int32 int64 uint32 uint64 sint32 sint64 bool fixed32 fixed64 sfixed32 sfixed64 number enum".split()
 OTHERS = "string bytes flat two count keep two-group count-group keep-group".split()
-CALLS = "entry entry entry entry unlisted run run rewrite item skip unknown records varint merge merge get get one".split()
+CALLS = "entry entry entry entry unlisted run run rewrite item skip unknown records varint merge merge get get one set steps".split()
 VALUES = {
     "bool": "true", "string": '"q"', "bytes": "x01", "own-bytes": "x01", "shared-bytes": "x01", "open": "?7", "flat": "4",
     "two": "4,5", "keep": "x0805", "old": "1", "new": "2", "int32": "6", "uint32": "6",
@@ -188,15 +188,40 @@ class Maker:
         if call == "one":
             return "decode-one-ctx", codec, [f"depth={self.pick(0, 1, 2)}", f"slots={self.pick(0, 1, 2, 9)}"], before
         how = self.pick("", "how=all", "how=packed" if codec in NUMBERS else "how=all")
-        return call, codec, ["number=1", how], before
+        return self.pick(call, "decode-of"), codec, ["number=1", how], before
+
+    def values_row(self):
+        """A set of a value or a list of them, or their records behind others."""
+        codec = self.any.choice(NUMBERS + OTHERS)
+        texts = [b"".join(self.record(codec) for _ in range(self.any.randint(1, 4))) for _ in range(2)]
+        before, given = (records(text) for text in texts)
+        values = [word(plain(codec), it) for it in read_list(codec, given)]
+        how = self.pick("", "how=all", "how=packed" if codec in NUMBERS else "how=all")
+        if not values and not how:
+            raise Fault("no value")
+        call = self.pick("set", "encode-into", "set" if plain(codec) in MESSAGES else "set-then-read")
+        settings = [self.pick("number=1", "number=2"), how, self.pick("", "by=try")]
+        return call, codec, settings, "".join(it[2].hex() for it in before) or "-", " ".join(values if how else values[:1])
+
+    def steps(self):
+        """Sets and clears of some numbers."""
+        said = [f"{self.any.randint(1, 3)}{self.pick('', '=' + self.mutated(self.fields(2)).hex())}" for _ in range(self.any.randint(0, 4))]
+        for step in said:
+            records(bytes.fromhex(step.partition("=")[2]))
+        return " ".join(said)
 
     def row(self):
         """A row without its answer."""
-        call, types, settings, before, text = self.any.choice(CALLS), "-", [], "-", b""
+        call, types, settings, before, text, given = self.any.choice(CALLS), "-", [], "-", b"", ""
         if call in ("entry", "unlisted", "run", "rewrite"):
             types, settings, before, text = self.map_row(call)
         elif call in ("get", "one"):
             call, types, settings, before = self.extension_row(call)
+        elif call == "set":
+            call, types, settings, before, given = self.values_row()
+        elif call == "steps":
+            before = "".join(it[2].hex() for it in records(self.fields(2))) or "-"
+            given = self.steps()
         elif call == "merge":
             types, settings = self.any.choice(sorted(MESSAGES)), self.settings()
             before, text = self.pick("-", STANDING[types]), self.mutated(self.message(types, 3))
@@ -207,7 +232,7 @@ class Maker:
         else:
             settings = self.settings() if call == "unknown" else [f"depth={self.pick(0, 1, 2, 3)}"]
             text = self.mutated(self.fields(3) + self.pick(b"", b"\x07"))
-        return "\t".join(["random", call, types, " ".join(it for it in settings if it) or "-", before, text.hex() or "-"])
+        return "\t".join(["random", call, types, " ".join(it for it in settings if it) or "-", before, given or text.hex() or "-"])
 
 
 def made(seed, count):

@@ -116,12 +116,7 @@ pub fn decode_one_ctx<By, V: Worded<By>, C: SingularCodec<Value = V>>(
 }
 
 // What stands of the words before where memory ran out: they, and a beginning of the new ones, but not all.
-fn front_told(
-    alloc: Global,
-    case: &Case<'_>,
-    stand: &str,
-    all: &str,
-) -> Result<String, Fault> {
+fn front_told(alloc: Global, case: &Case<'_>, stand: &str, all: &str) -> Result<String, Fault> {
     let is_front = match all.strip_prefix(stand) {
         Some(rest) => rest.starts_with(' ') || stand.is_empty() && !rest.is_empty(),
         None => false,
@@ -133,7 +128,7 @@ fn front_told(
 }
 
 // The words of what bytes hold behind old values.
-fn unpacked_words<By, V: Worded<By>, C: PackableCodec<Value = V>>(
+fn unpacked_words<By, V: Worded<By>, C: SingularCodec<Value = V>>(
     alloc: Global,
     case: &Case<'_>,
     bytes: &[u8],
@@ -146,7 +141,7 @@ fn unpacked_words<By, V: Worded<By>, C: PackableCodec<Value = V>>(
 }
 
 /// The values that a codec reads of packed bytes, behind those that stand before.
-pub fn unpack<By, V: Worded<By>, C: PackableCodec<Value = V>>(
+pub fn unpack<By, V: Worded<By>, C: SingularCodec<Value = V>>(
     alloc: Global,
     case: &Case<'_>,
     mark: &mut Mark,
@@ -181,7 +176,13 @@ fn packed_told(
     let digits = hex::encode(alloc, bytes.as_slice())?;
     let records = Ok(format!(in alloc; "records {}", or_dash(digits.as_str()))?);
     let none = Ok(String::new(alloc));
-    Outcome::of_words(alloc, written::<()>(alloc, Err(fault)), none, records, refused)
+    Outcome::of_words(
+        alloc,
+        written::<()>(alloc, Err(fault)),
+        none,
+        records,
+        refused,
+    )
 }
 
 /// The packed bytes of a value, behind those that stand before, as a record.

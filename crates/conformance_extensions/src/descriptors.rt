@@ -47,9 +47,23 @@ pub fn descriptor<C: ExtensionCodec>(
     Outcome::of_words(alloc, got(alloc, true), words, none, refused)
 }
 
+// A word of at most 64 bytes with spaces behind it, which a default may hold.
+fn short_of(word: &str) -> Result<[u8; 64], Fault> {
+    let mut short = [b' '; 64];
+    let text = word.as_bytes();
+    if text.len() > 64 {
+        return Err(Fault::Form);
+    }
+    short[..text.len()].copy_from_slice(text);
+    Ok(short)
+}
+
 // The value of a word, made anew, as a default is.
-fn made<By, V: Worded<By>>(alloc: Global, word: &str) -> Result<V, AllocError> {
-    match V::of_word(alloc, word) {
+fn made<By, V: Worded<By>>(alloc: Global, word: &[u8; 64]) -> Result<V, AllocError> {
+    let Ok(text) = str::from_utf8(word) else {
+        return Err(AllocError);
+    };
+    match V::of_word(alloc, text.trim()) {
         Ok(value) => Ok(value),
         Err(_) => Err(AllocError),
     }
@@ -69,8 +83,9 @@ pub fn declared<By, V: Worded<By>, C: ExtensionCodec<Value = V>>(
             ext.declared(alloc)
         }
         Some(word) => {
-            let ext = Extension::<C>::with_default(number, "test.Carrier", |a: Global| {
-                made::<By, V>(a, word)
+            let short = short_of(word)?;
+            let ext = Extension::<C>::with_default(number, "test.Carrier", move |a: Global| {
+                made::<By, V>(a, &short)
             });
             mark.begin(alloc);
             ext.declared(alloc)
@@ -91,8 +106,9 @@ pub fn get_or_declared<By, V: Worded<By>, C: ExtensionCodec<Value = V, Output = 
 ) -> Result<Outcome, Fault> {
     let number = case.number()?;
     let carrier = carrier_of(alloc, case)?;
-    let ext = Extension::<C>::with_default(number, "test.Carrier", |a: Global| {
-        made::<By, V>(a, word)
+    let short = short_of(word)?;
+    let ext = Extension::<C>::with_default(number, "test.Carrier", move |a: Global| {
+        made::<By, V>(a, &short)
     });
     mark.begin(alloc);
     let found = carrier.extension_or_default(alloc, &ext);

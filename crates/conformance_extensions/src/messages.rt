@@ -54,8 +54,10 @@ pub fn merge_all<By, M: Worded<By> + Message, K: MessageRecord>(
     let refused = mark.end();
     let words = merged_told::<By, M>(alloc, &merged, &message);
     let records = records_told(alloc, &fields);
-    Outcome::of_words(alloc, told(alloc, merged), words, records, refused)?
-        .with_left(left(alloc, case, &budget, 0), 0)
+    Outcome::of_words(alloc, told(alloc, merged), words, records, refused)?.with_left(
+        left(alloc, case, &budget, 0),
+        0,
+    )
 }
 
 /// What the text of the first record makes of a message, at the context's depth.
@@ -77,6 +79,8 @@ pub fn merge_in<By, M: Worded<By> + Message, K: MessageRecord>(
     let refused = mark.end();
     let words = merged_told::<By, M>(alloc, &merged, &message);
     let records = records_told(alloc, &fields);
-    Outcome::of_words(alloc, told(alloc, merged), words, records, refused)?
-        .with_left(left(alloc, case, &budget, 0), 0)
+    Outcome::of_words(alloc, told(alloc, merged), words, records, refused)?.with_left(
+        left(alloc, case, &budget, 0),
+        0,
+    )
 }

@@ -97,7 +97,11 @@ pub fn stand_told(alloc: Global, fields: &UnknownFields, may: bool) -> Result<St
 }
 
 /// Whether two lists are of the same records.
-pub fn are_same(alloc: Global, some: &UnknownFields, others: &UnknownFields) -> Result<bool, Fault> {
+pub fn are_same(
+    alloc: Global,
+    some: &UnknownFields,
+    others: &UnknownFields,
+) -> Result<bool, Fault> {
     let digits = records_word(alloc, some)?;
     let wanted = records_word(alloc, others)?;
     Ok(digits.as_str() == wanted.as_str())
