@@ -25,7 +25,10 @@ PAIRS = (
 ).split()
 NUMBERS = "int32 int64 uint32 uint64 sint32 sint64 bool fixed32 fixed64 sfixed32 sfixed64 number enum".split()
 OTHERS = "string bytes flat two count keep two-group count-group keep-group".split()
-CALLS = "entry entry entry entry unlisted run run rewrite item skip unknown records varint merge merge get get one set steps".split()
+CALLS = (
+    "entry entry entry entry unlisted run run rewrite item skip unknown records varint merge merge get get one set steps "
+    "merge-delimited payload"
+).split()
 VALUES = {
     "bool": "true", "string": '"q"', "bytes": "x01", "own-bytes": "x01", "shared-bytes": "x01", "open": "?7", "flat": "4",
     "two": "4,5", "keep": "x0805", "old": "1", "new": "2", "int32": "6", "uint32": "6",
@@ -84,14 +87,16 @@ class Maker:
 
     def of_kind(self, kind, number):
         """A field that holds a value of a kind."""
+        return self.varint(number * 8 + KINDS[kind][0]) + self.payload(kind)
+
+    def payload(self, kind):
         wire = KINDS[kind][0]
-        tag = self.varint(number * 8 + wire)
         if wire == VARINT:
-            return tag + self.varint(self.pick(0, 1, 2, 99, self.number()))
+            return self.varint(self.pick(0, 1, 2, 99, self.number()))
         if wire in (EIGHT, FOUR):
-            return tag + self.any.randbytes(8 if wire == EIGHT else 4)
+            return self.any.randbytes(8 if wire == EIGHT else 4)
         text = self.message(kind, 3) if kind in MESSAGES else self.any.choice(TEXTS)
-        return tag + self.varint(len(text)) + text
+        return self.varint(len(text)) + text
 
     def message(self, kind, levels):
         text = b""
@@ -222,9 +227,14 @@ class Maker:
         elif call == "steps":
             before = "".join(it[2].hex() for it in records(self.fields(2))) or "-"
             given = self.steps()
-        elif call == "merge":
+        elif call in ("merge", "merge-delimited"):
             types, settings = self.any.choice(sorted(MESSAGES)), self.settings()
-            before, text = self.pick("-", STANDING[types]), self.mutated(self.message(types, 3))
+            before, text = self.pick("-", STANDING[types]), self.message(types, 3)
+            text = self.mutated(self.varint(len(text)) + text if call == "merge-delimited" else text)
+        elif call == "payload":
+            types, settings = self.any.choice(sorted(KINDS)), self.settings()
+            before = "-" if types in MESSAGES else '"q"' if types in STRINGS else VALUES.get(types, "6")
+            text = self.mutated(self.payload(types) + self.pick(b"", b"", b"\xff"))
         elif call == "item":
             settings, text = self.settings(), self.mutated(self.item())
         elif call == "varint":

@@ -131,13 +131,14 @@ class Row:
 
     def of_message(self, in_order):
         kind, before = self.types, bytes.fromhex(self.before)
-        if self.call == "write-messages":
+        if self.call in ("size-messages", "write-messages"):
             pairs = {}
             read_run(("int32", kind), pairs, Bytes(before), MOST_LEVELS, Budget(), self.number, None)
             order = sorted(pairs.items()) if in_order else list(pairs.items())
             text = field_text(("int32", kind), self.number, order)
             slots = [it for _, held in order for it in [len(message_text(kind, held)), *slots_of(kind, held)]]
-            return "ok", "; ".join([str(len(text)), *self.cache(slots), f"text {text.hex() or '-'}"])
+            written = [f"text {text.hex() or '-'}"] if self.call == "write-messages" else []
+            return "ok", "; ".join([str(len(text)), *self.cache(slots), *written])
         message = merge(kind, blank(kind), before, MOST_LEVELS, Budget(MOST_SLOTS * 10))
         if self.call == "message-clear":
             return "ok", word(kind, blank(kind))
@@ -155,6 +156,8 @@ class Row:
 
     def merged(self, message, buf):
         """A message, and what the bytes make of it: all, those of a length, or one field."""
+        if self.settings.get("how") == "alone":
+            self.depth, self.budget = MOST_LEVELS, Budget()
         kind, depth, inner = self.types, self.depth, buf
         try:
             if self.call == "merge-delimited":
@@ -205,7 +208,7 @@ class Row:
             return str(fault), self.told(self.before if is_kept else "-")
 
     def of_payload(self, kind, buf):
-        old, is_declared = of_word(kind, self.before), True
+        old, is_declared = of_word(kind, self.before) if self.before else blank(kind), True
         if kind in MESSAGES:
             if self.depth == 0:
                 raise Fault("RecursionLimitExceeded")
@@ -278,6 +281,7 @@ class Row:
         for calls, done in (
             ("entry unlisted run rewrite field", self.of_map),
             ("write size size-and-write", self.of_written_map),
+            ("size-messages", self.of_message),
             ("varint item skip unknown", self.of_bytes),
             ("records twice retain write-item", self.of_records),
             ("merge merge-delimited merge-field encode message-size message-clear write-messages", self.of_message),

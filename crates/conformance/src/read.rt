@@ -8,7 +8,7 @@ use conformance_rows::case::Case;
 use conformance_rows::fault::Fault;
 use conformance_rows::mark::Mark;
 use conformance_rows::outcome::Outcome;
-use conformance_samples::{extension, fields, kinds, message, writes};
+use conformance_samples::{extension, fields, kinds, message, spells, values, writes};
 use std::alloc::Global;
 
 // What comes of a row that reads an Item, a field or a number.
@@ -40,6 +40,7 @@ pub fn read<B: Buf>(
     match group_of(case.call) {
         Group::Fields => fields::<B>(alloc, case, kind, mark, buf),
         Group::Items => some(items::<B>(alloc, case, mark, buf)),
+        Group::Values => some(values::<B>(alloc, case, mark, buf)),
         _ => Ok(None),
     }
 }
@@ -55,10 +56,11 @@ pub fn called(
     match group_of(case.call) {
         Group::Kinds => some(kinds(alloc, case, mark, bytes)),
         Group::Writes => writes(alloc, case, kind, mark),
+        Group::Spelled => some(spells(alloc, case, mark)),
         Group::Records => some(on_records(alloc, case, mark, bytes)),
         Group::WrittenItem => some(write_an_item(alloc, case, mark, bytes)),
         Group::Messages => some(message(alloc, case, kind, mark, bytes)),
         Group::Extensions => some(extension(alloc, case, mark)),
-        Group::Fields | Group::Items => Ok(None),
+        Group::Fields | Group::Items | Group::Values => Ok(None),
     }
 }

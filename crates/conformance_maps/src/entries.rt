@@ -35,8 +35,8 @@ fn kept(alloc: Global, list: &Option<UnknownFields>) -> Result<String, Fault> {
     }
 }
 
-// How many bytes are unread where an answer is ok.
-fn unread<B: Buf>(answer: Result<(), DecodeError>, buf: &B) -> usize {
+/// How many bytes are unread where an answer is ok.
+pub(crate) fn unread<B: Buf>(answer: Result<(), DecodeError>, buf: &B) -> usize {
     match answer {
         Ok(()) => buf.remaining(),
         Err(_) => 0,
@@ -199,6 +199,21 @@ pub fn fields<By, B: Buf>(
         "int32,string" => stored::<By, Int32, Str, _>(alloc, case, kind, mark, call),
         "int32,bytes" => stored::<By, Int32, BytesVec, _>(alloc, case, kind, mark, call),
         "int32,shared-bytes" => stored::<By, Int32, BytesBuf, _>(alloc, case, kind, mark, call),
+        "int32,own-string" => {
+            stored::<By, Int32, ProtoStringMap<String>, _>(alloc, case, kind, mark, call)
+        }
+        "own-string,int32" => {
+            stored::<By, ProtoStringMap<String>, Int32, _>(alloc, case, kind, mark, call)
+        }
+        "bytes,shared-bytes" => {
+            stored::<By, BytesVec, BytesBuf, _>(alloc, case, kind, mark, call)
+        }
+        "shared-bytes,own-string" => {
+            stored::<By, BytesBuf, ProtoStringMap<String>, _>(alloc, case, kind, mark, call)
+        }
+        "own-bytes,bool" => {
+            stored::<By, ProtoBytesMap<Vec<u8>>, Bool, _>(alloc, case, kind, mark, call)
+        }
         "own-string,own-bytes" => {
             stored::<By, ProtoStringMap<String>, ProtoBytesMap<Vec<u8>>, _>(
                 alloc, case, kind, mark, call,

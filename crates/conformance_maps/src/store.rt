@@ -17,6 +17,9 @@ pub trait Store<By>: MapWrite + Drop {
     /// The map of pairs that stand as words.
     fn filled(alloc: Global, pairs: &str) -> Result<Self, Fault>;
 
+    /// The pair of a word.
+    fn pair(alloc: Global, word: &str) -> Result<(Self::Key, Self::Value), Fault>;
+
     /// The pairs as they are walked, each as `key=value`, with a space between them.
     fn words(&self, alloc: Global) -> Result<String, Fault>;
 
@@ -35,17 +38,23 @@ pub trait Store<By>: MapWrite + Drop {
         requires { IsNumber number };
 }
 
+// The pair of a word: a key, and behind an equals sign its value.
+fn pair_of<By, K: Worded<By>, V: Worded<By>>(alloc: Global, word: &str) -> Result<(K, V), Fault> {
+    let Some((key, value)) = word.split_once('=') else {
+        return Err(Fault::Form);
+    };
+    let key = K::of_word(alloc, key)?;
+    let value = V::of_word(alloc, value)?;
+    Ok((key, value))
+}
+
 // Puts the pair of a word into a map.
 fn put<By, K: Worded<By>, V: Worded<By>, C: MapStorage<Key = K, Value = V>>(
     alloc: Global,
     map: &mut C,
     pair: &str,
 ) -> Result<(), Fault> {
-    let Some((key, value)) = pair.split_once('=') else {
-        return Err(Fault::Form);
-    };
-    let key = K::of_word(alloc, key)?;
-    let value = V::of_word(alloc, value)?;
+    let (key, value) = pair_of::<By, K, V>(alloc, pair)?;
     map.storage_insert(key, value)?;
     Ok(())
 }
@@ -97,6 +106,10 @@ impl<By, K: MapKey + Ord + Worded<By>, V: Worded<By>> Store<By> for BTreeMap<K, 
         Ok(map)
     }
 
+    fn pair(alloc: Global, word: &str) -> Result<(K, V), Fault> {
+        pair_of::<By, K, V>(alloc, word)
+    }
+
     fn words(&self, alloc: Global) -> Result<String, Fault> {
         told::<By, K, V, Self>(alloc, self)
     }
@@ -121,6 +134,10 @@ impl<By, K: MapKey + Hash + Worded<By>, V: Worded<By>> Store<By> for HashMap<K, 
         Ok(map)
     }
 
+    fn pair(alloc: Global, word: &str) -> Result<(K, V), Fault> {
+        pair_of::<By, K, V>(alloc, word)
+    }
+
     fn words(&self, alloc: Global) -> Result<String, Fault> {
         told::<By, K, V, Self>(alloc, self)
     }
@@ -143,6 +160,10 @@ impl<By, K: MapKey + Hash + Worded<By>, V: Worded<By>> Store<By> for Map<K, V> {
         let mut map = Map::new(alloc);
         fill::<By, K, V, Self>(alloc, &mut map, pairs)?;
         Ok(map)
+    }
+
+    fn pair(alloc: Global, word: &str) -> Result<(K, V), Fault> {
+        pair_of::<By, K, V>(alloc, word)
     }
 
     fn words(&self, alloc: Global) -> Result<String, Fault> {

@@ -20,10 +20,14 @@ pub enum Group {
     Fields,
     /// It reads a field, an Item or a number from a buffer.
     Items,
+    /// It reads a payload from a buffer, into a value or a message.
+    Values,
     /// It reads records of a map of any kinds.
     Kinds,
-    /// It writes a map, which stands in any storage.
+    /// It writes a map, or puts a pair into it; the map stands in any storage.
     Writes,
+    /// It writes the payload of a value.
+    Spelled,
     /// It is done with records.
     Records,
     /// It writes an Item.
@@ -45,17 +49,21 @@ pub fn group_of(call: &str) -> Group {
         Group::Fields
     } else if is_among(call, "item unknown skip varint") {
         Group::Items
+    } else if is_among(call, "payload merge-delimited") {
+        Group::Values
     } else if is_among(call, "field") {
         Group::Kinds
-    } else if is_among(call, "write size size-and-write") {
+    } else if is_among(call, "write size size-and-write put") {
         Group::Writes
+    } else if is_among(call, "spell-payload") {
+        Group::Spelled
     } else if is_among(call, "records twice retain") {
         Group::Records
     } else if is_among(call, "write-item") {
         Group::WrittenItem
     } else if is_among(
         call,
-        "merge encode message-size message-clear write-messages",
+        "merge merge-field encode message-size message-clear size-messages write-messages",
     ) {
         Group::Messages
     } else {
@@ -71,22 +79,25 @@ pub fn reads_to_the_end(call: &str) -> bool {
 /// Whether each beginning of what a call accepts is whole, or cut off.
 pub fn reads_bytes(call: &str) -> bool {
     match group_of(call) {
-        Group::Fields | Group::Items | Group::Kinds => true,
-        _ => reads_to_the_end(call),
+        Group::Fields | Group::Items | Group::Kinds | Group::Values => true,
+        _ => reads_to_the_end(call) || is_among(call, "merge-field"),
     }
 }
 
-/// Whether a call reads into a map, whose pairs stand after a refusal.
+/// Whether a call reads into a map, whose pairs stand after a refusal, or into a value, which then stands.
 pub fn keeps_a_map(call: &str) -> bool {
     match group_of(call) {
         Group::Fields | Group::Kinds => true,
-        _ => false,
+        _ => is_among(call, "put payload"),
     }
 }
 
 /// Whether a call is given the words of a value, and no bytes.
 pub fn takes_words(call: &str) -> bool {
-    group_of(call) == Group::Extensions
+    match group_of(call) {
+        Group::Extensions | Group::Spelled => true,
+        _ => is_among(call, "put"),
+    }
 }
 
 /// Whether a row is run in a storage: those of the setting `in`, or any for maps, and one for all else.

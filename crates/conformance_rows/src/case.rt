@@ -118,6 +118,16 @@ impl<'a> Case<'a> {
         Ok(number)
     }
 
+    /// How many slots a cache has before; none where nothing is said.
+    pub fn reserved(&self) -> Result<u64, Fault> {
+        self.number_or("reserved", 0)
+    }
+
+    /// Whether a setting says this.
+    pub fn says(&self, name: &str, said: &str) -> bool {
+        self.setting(name) == Some(said)
+    }
+
     /// The slots of the budget.
     pub fn slots(&self) -> Result<usize, Fault> {
         Ok(self.number_or("slots", DEFAULT_UNKNOWN_FIELD_LIMIT as u64)? as usize)

@@ -1,8 +1,11 @@
 //! Rows whose values are samples: their words, and which call is of which of them.
 #![tactic(auto)]
 
+mod alone;
 mod words;
 
+use alone::entries_by_function;
+pub use alone::{spells, values};
 use buffa_ext::codecs::EnumCodec;
 use buffa_ext::record::{Delimited, Grouped};
 use buffa_map::map_codec::{ClosedEnum, Int32, MapValueDecode, Msg, OpenEnum, ProtoStringMap, Str};
@@ -57,6 +60,12 @@ pub fn writes(
         "word,int32" => {
             hashed::<Samples, ProtoStringMap<Word>, Int32, _>(alloc, case, kind, mark, Written)
         }
+        "old,int32" => {
+            ordered::<Samples, ClosedEnum<Old>, Int32, _>(alloc, case, kind, mark, Written)
+        }
+        "int32,old" => {
+            stored::<Samples, Int32, ClosedEnum<Old>, _>(alloc, case, kind, mark, Written)
+        }
         _ => conformance_writes::writes::<Samples>(alloc, case, kind, mark),
     }
 }
@@ -97,6 +106,9 @@ fn of_messages<V: Worded<Samples>, VC: MapValueDecode<Value = V>, B: Buf>(
     mark: &mut Mark,
     buf: &mut B,
 ) -> Result<Option<Outcome>, Fault> {
+    if case.types.starts_with("string") {
+        return stored::<Samples, Str, VC, _>(alloc, case, kind, mark, Runs { buf });
+    }
     stored::<Samples, Int32, VC, _>(alloc, case, kind, mark, Runs { buf })
 }
 
@@ -114,6 +126,9 @@ fn of_words<B: Buf>(
         "int32,new" => stored::<Samples, Int32, ClosedEnum<New>, _>(alloc, case, kind, mark, call),
         "int32,open" => stored::<Samples, Int32, OpenEnum<Old>, _>(alloc, case, kind, mark, call),
         "string,old" => stored::<Samples, Str, ClosedEnum<Old>, _>(alloc, case, kind, mark, call),
+        "int32,word" => {
+            stored::<Samples, Int32, ProtoStringMap<Word>, _>(alloc, case, kind, mark, call)
+        }
         "word,int32" => {
             hashed::<Samples, ProtoStringMap<Word>, Int32, _>(alloc, case, kind, mark, call)
         }
@@ -140,10 +155,16 @@ pub fn fields<B: Buf>(
     mark: &mut Mark,
     buf: &mut B,
 ) -> Result<Option<Outcome>, Fault> {
+    if case.says("by", "functions") {
+        return entries_by_function::<B>(alloc, case, kind, mark, buf);
+    }
     match case.types {
         "int32,flat" => of_messages::<FlatMsg, Msg<FlatMsg>, B>(alloc, case, kind, mark, buf),
         "int32,two" => of_messages::<TestMsg, Msg<TestMsg>, B>(alloc, case, kind, mark, buf),
-        "int32,keep" => of_messages::<BudgetMsg, Msg<BudgetMsg>, B>(alloc, case, kind, mark, buf),
+        "int32,count" => of_messages::<CountMsg, Msg<CountMsg>, B>(alloc, case, kind, mark, buf),
+        "int32,keep" | "string,keep" => {
+            of_messages::<BudgetMsg, Msg<BudgetMsg>, B>(alloc, case, kind, mark, buf)
+        }
         "int32,tree" => of_messages::<Tree, Msg<Tree>, B>(alloc, case, kind, mark, buf),
         _ => of_words::<B>(alloc, case, kind, mark, buf),
     }

@@ -1,4 +1,4 @@
-// Calls that size and write map fields.
+// Calls that size and write map fields, or put a pair into a map.
 
 ghost use Rattle.buffa_wire.specs.Number.{IsNumber};
 
@@ -97,7 +97,30 @@ fn sizing<
     )
 }
 
-/// A map that is sized or written.
+// A pair that is put into a map: the pairs then, and how many there are.
+fn putting<
+    By,
+    KC: MapCodec,
+    VC: MapCodec,
+    C: Store<By> + MapStorage<Key = KC::Value, Value = VC::Value>,
+>(alloc: Global, case: &Case<'_>, mark: &mut Mark) -> Result<Outcome, Fault> {
+    let mut map = C::filled(alloc, case.before())?;
+    let (key, value) = C::pair(alloc, case.input())?;
+    mark.begin(alloc);
+    let answer = map.storage_insert(key, value);
+    let refused = mark.end();
+    let count = format!(in alloc; "{}", map.storage_len())?;
+    Outcome::of_words(
+        alloc,
+        got(alloc, answer.is_ok()),
+        map.words(alloc),
+        Ok(String::new(alloc)),
+        refused,
+    )?
+    .with_left(Ok(count), 0)
+}
+
+/// A map that is sized or written, or takes a pair.
 #[derive(Drop)]
 pub struct Written;
 
@@ -109,6 +132,7 @@ impl<By, KC: MapCodec, VC: MapCodec> OnMap<By, KC, VC> for Written {
         mark: &mut Mark,
     ) -> Result<Outcome, Fault> {
         match case.call {
+            "put" => putting::<By, KC, VC, C>(alloc, case, mark),
             "size" => sizing::<By, KC, VC, C>(alloc, case, mark),
             _ => writing::<By, KC, VC, C>(alloc, case, mark),
         }
@@ -135,6 +159,20 @@ pub fn writes<By>(
         "int32,shared-bytes" => stored::<By, Int32, BytesBuf, _>(alloc, case, kind, mark, Written),
         "int32,own-bytes" => {
             stored::<By, Int32, ProtoBytesMap<Vec<u8>>, _>(alloc, case, kind, mark, Written)
+        }
+        "own-string,own-bytes" => {
+            stored::<By, ProtoStringMap<String>, ProtoBytesMap<Vec<u8>>, _>(
+                alloc, case, kind, mark, Written,
+            )
+        }
+        "bytes,shared-bytes" => stored::<By, BytesVec, BytesBuf, _>(
+            alloc, case, kind, mark, Written,
+        ),
+        "shared-bytes,own-string" => {
+            stored::<By, BytesBuf, ProtoStringMap<String>, _>(alloc, case, kind, mark, Written)
+        }
+        "own-bytes,bool" => {
+            stored::<By, ProtoBytesMap<Vec<u8>>, Bool, _>(alloc, case, kind, mark, Written)
         }
         "sint32,bool" => stored::<By, Sint32, Bool, _>(alloc, case, kind, mark, Written),
         "fixed32,fixed64" => stored::<By, Fixed32, Fixed64, _>(alloc, case, kind, mark, Written),

@@ -1,0 +1,164 @@
+// Payloads of values by themselves: read into a value, and written.
+
+use buffa_map::map_codec::{
+    Bool, BytesBuf, BytesVec, Fixed32, Fixed64, Int32, Int64, MapCodec, MapValueDecode,
+    MapValueDecodeStatus, ProtoBytesMap, ProtoStringMap, Sfixed32, Sfixed64, Sint32, Sint64, Str,
+    Uint32, Uint64,
+};
+use buffa_wire::{Budget, Buf, DecodeContext, DecodeError, EncodeError};
+use conformance_rows::case::Case;
+use conformance_rows::fault::Fault;
+use conformance_rows::mark::Mark;
+use conformance_rows::outcome::{Outcome, left, text_told, told, written};
+use conformance_rows::words::Worded;
+use std::alloc::Global;
+
+// The value that stands before: that of the word, or the default.
+fn standing<By, V: Worded<By>>(alloc: Global, case: &Case<'_>) -> Result<V, Fault> {
+    if case.before().is_empty() {
+        return Ok(V::blank(alloc));
+    }
+    V::of_word(alloc, case.before())
+}
+
+// The word of a value, and whether the payload held a declared one; after a refusal of a value's payload the word
+// alone, and of a message's nothing, since it is some value of its type.
+fn value_told<By, V: Worded<By>>(
+    alloc: Global,
+    answer: Result<MapValueDecodeStatus, DecodeError>,
+    value: &V,
+    is_message: bool,
+) -> Result<String, Fault> {
+    let word = match answer {
+        Err(_) if is_message => return Ok(String::new(alloc)),
+        _ => value.word(alloc)?,
+    };
+    match answer {
+        Ok(MapValueDecodeStatus::Known) => Ok(format!(in alloc; "{word} known")?),
+        Ok(_) => Ok(format!(in alloc; "{word} unknown")?),
+        Err(_) => Ok(word),
+    }
+}
+
+/// What comes of a row that reads a payload into the value that stands before, which is a message or none.
+pub fn payload<By, VC: MapValueDecode, B: Buf>(
+    alloc: Global,
+    case: &Case<'_>,
+    mark: &mut Mark,
+    buf: &mut B,
+    is_message: bool,
+) -> Result<Outcome, Fault>
+where
+    VC::Value: Worded<By>,
+{
+    let mut budget = Budget::new(case.slots()?).with_element_memory(case.units()?);
+    let ctx = DecodeContext::new(case.depth()?, &mut budget);
+    let mut value = standing::<By, VC::Value>(alloc, case)?;
+    mark.begin(alloc);
+    let answer = VC::merge::<B>(alloc, &mut value, buf, ctx);
+    let refused = mark.end();
+    let unread = if answer.is_ok() { buf.remaining() } else { 0 };
+    let words = value_told::<By, VC::Value>(alloc, answer, &value, is_message);
+    Outcome::of_words(
+        alloc,
+        told(alloc, answer),
+        words,
+        Ok(String::new(alloc)),
+        refused,
+    )?
+    .with_left(left(alloc, case, &budget, unread), unread)
+}
+
+// A fixed length, or a dash.
+fn fixed_told(alloc: Global, fixed: Option<u64>) -> Result<String, Fault> {
+    match fixed {
+        Some(len) => Ok(format!(in alloc; "{len}")?),
+        None => Ok(String::from_str(alloc, "-")?),
+    }
+}
+
+// What a codec says: the length of the payload, what a value costs, the wire type, and the fixed length.
+fn facts_told<VC: MapCodec>(
+    alloc: Global,
+    answer: Result<(), EncodeError>,
+    len: u64,
+) -> Result<String, Fault> {
+    if answer.is_err() {
+        return Ok(String::new(alloc));
+    }
+    let cost = VC::COST;
+    let wire_type = VC::WIRE_TYPE.number();
+    let fixed = fixed_told(alloc, VC::FIXED_LEN)?;
+    Ok(format!(in alloc; "{len} {cost} {wire_type} {fixed}")?)
+}
+
+/// What comes of a row that writes the payload of a value.
+pub fn spelled<By, VC: MapCodec>(
+    alloc: Global,
+    case: &Case<'_>,
+    mark: &mut Mark,
+) -> Result<Outcome, Fault>
+where
+    VC::Value: Worded<By>,
+{
+    let value = <VC::Value as Worded<By>>::of_word(alloc, case.input())?;
+    let mut text = Vec::new(alloc);
+    mark.begin(alloc);
+    let len = VC::encoded_len(&value);
+    let answer = VC::encode::<Vec<u8>>(&value, &mut text);
+    let refused = mark.end();
+    let words = facts_told::<VC>(alloc, answer, len);
+    let text = text_told(alloc, text.as_slice());
+    Outcome::of_words(alloc, written(alloc, answer), words, text, refused)
+}
+
+/// The same of a number, a text or bytes that is read.
+pub fn payloads<By, B: Buf>(
+    alloc: Global,
+    case: &Case<'_>,
+    mark: &mut Mark,
+    buf: &mut B,
+) -> Result<Outcome, Fault> {
+    match case.types {
+        "int32" => payload::<By, Int32, B>(alloc, case, mark, buf, false),
+        "int64" => payload::<By, Int64, B>(alloc, case, mark, buf, false),
+        "uint32" => payload::<By, Uint32, B>(alloc, case, mark, buf, false),
+        "uint64" => payload::<By, Uint64, B>(alloc, case, mark, buf, false),
+        "sint32" => payload::<By, Sint32, B>(alloc, case, mark, buf, false),
+        "sint64" => payload::<By, Sint64, B>(alloc, case, mark, buf, false),
+        "bool" => payload::<By, Bool, B>(alloc, case, mark, buf, false),
+        "fixed32" => payload::<By, Fixed32, B>(alloc, case, mark, buf, false),
+        "fixed64" => payload::<By, Fixed64, B>(alloc, case, mark, buf, false),
+        "sfixed32" => payload::<By, Sfixed32, B>(alloc, case, mark, buf, false),
+        "sfixed64" => payload::<By, Sfixed64, B>(alloc, case, mark, buf, false),
+        "string" => payload::<By, Str, B>(alloc, case, mark, buf, false),
+        "bytes" => payload::<By, BytesVec, B>(alloc, case, mark, buf, false),
+        "shared-bytes" => payload::<By, BytesBuf, B>(alloc, case, mark, buf, false),
+        "own-string" => { payload::<By, ProtoStringMap<String>, B>(alloc, case, mark, buf, false) }
+        "own-bytes" => payload::<By, ProtoBytesMap<Vec<u8>>, B>(alloc, case, mark, buf, false),
+        _ => Err(Fault::Form),
+    }
+}
+
+/// The same of a number, a text or bytes that is written.
+pub fn spellings<By>(alloc: Global, case: &Case<'_>, mark: &mut Mark) -> Result<Outcome, Fault> {
+    match case.types {
+        "int32" => spelled::<By, Int32>(alloc, case, mark),
+        "int64" => spelled::<By, Int64>(alloc, case, mark),
+        "uint32" => spelled::<By, Uint32>(alloc, case, mark),
+        "uint64" => spelled::<By, Uint64>(alloc, case, mark),
+        "sint32" => spelled::<By, Sint32>(alloc, case, mark),
+        "sint64" => spelled::<By, Sint64>(alloc, case, mark),
+        "bool" => spelled::<By, Bool>(alloc, case, mark),
+        "fixed32" => spelled::<By, Fixed32>(alloc, case, mark),
+        "fixed64" => spelled::<By, Fixed64>(alloc, case, mark),
+        "sfixed32" => spelled::<By, Sfixed32>(alloc, case, mark),
+        "sfixed64" => spelled::<By, Sfixed64>(alloc, case, mark),
+        "string" => spelled::<By, Str>(alloc, case, mark),
+        "bytes" => spelled::<By, BytesVec>(alloc, case, mark),
+        "shared-bytes" => spelled::<By, BytesBuf>(alloc, case, mark),
+        "own-string" => spelled::<By, ProtoStringMap<String>>(alloc, case, mark),
+        "own-bytes" => spelled::<By, ProtoBytesMap<Vec<u8>>>(alloc, case, mark),
+        _ => Err(Fault::Form),
+    }
+}

@@ -1,0 +1,60 @@
+// Entries of messages that are merged by a function.
+
+use crate::entries::unread;
+use crate::storages::OnMap;
+use crate::store::Store;
+use buffa_map::map_codec::{MapCodec, MapStorage, MapValueDecode, Msg, merge_message_entry_by};
+use buffa_wire::{Budget, Buf, DecodeContext, DecodeError, Message};
+use conformance_rows::case::Case;
+use conformance_rows::fault::Fault;
+use conformance_rows::mark::Mark;
+use conformance_rows::outcome::{Outcome, left, told};
+use std::alloc::Global;
+
+// Merges an entry by the message's own way to merge bytes.
+fn merged<KC: MapCodec, M: Message, C: MapStorage<Key = KC::Value, Value = M>, B: Buf>(
+    alloc: Global,
+    map: &mut C,
+    buf: &mut B,
+    ctx: DecodeContext<'_>,
+) -> Result<(), DecodeError> {
+    merge_message_entry_by::<KC, M, C, B, _>(
+        alloc,
+        map,
+        buf,
+        ctx,
+        |message: &mut M, bytes: &[u8], depth: u32, budget: &mut Budget| {
+            message.merge(alloc, bytes, DecodeContext { depth, budget })
+        },
+    )
+}
+
+/// An entry that is read from a buffer, and its message merged by a function.
+#[derive(Drop)]
+pub struct ByFunction<'a, B> {
+    /// The buffer.
+    pub buf: &'a mut B,
+}
+
+impl<By, KC: MapCodec, M: Message, B: Buf> OnMap<By, KC, Msg<M>> for ByFunction<'_, B> {
+    fn on_map<
+        C: Store<By> + MapStorage<Key = KC::Value, Value = <Msg<M> as MapValueDecode>::Value>,
+    >(self, alloc: Global, case: &Case<'_>, mark: &mut Mark) -> Result<Outcome, Fault> {
+        let mut budget = Budget::new(case.slots()?).with_element_memory(case.units()?);
+        let ctx = DecodeContext::new(case.depth()?, &mut budget);
+        let mut map = C::filled(alloc, case.before())?;
+        mark.begin(alloc);
+        let answer = merged::<KC, M, C, B>(alloc, &mut map, self.buf, ctx);
+        let refused = mark.end();
+        let unread = unread(answer, self.buf);
+        let answer = told(alloc, answer);
+        Outcome::of_words(
+            alloc,
+            answer,
+            map.words(alloc),
+            Ok(String::new(alloc)),
+            refused,
+        )?
+        .with_left(left(alloc, case, &budget, unread), unread)
+    }
+}

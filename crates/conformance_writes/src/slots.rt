@@ -1,0 +1,115 @@
+// Caches with slots before a call, and slots in words.
+
+ghost use Rattle.std.specs.Prelude.{◌≡◌, ◌+◌, length, IfOk, OnOk};
+
+use buffa_wire::{EncodeError, Message, SizeCache};
+use conformance_rows::case::{Case, or_dash};
+use conformance_rows::fault::Fault;
+use conformance_rows::outcome::written;
+use std::alloc::Global;
+
+// What a slot holds that was there before a call.
+const BEFORE: u32 = 7;
+
+// Reserves a slot, which holds so much.
+fn put_slot(cache: &mut SizeCache, size: u32) -> Result<(), Fault>
+    ensures next { cache.new.next ≡ cache.old.next }
+    ensures one { OnOk result (length cache.new.slots ≡ length cache.old.slots + 1) }
+{
+    match cache.reserve() {
+        Err(_) => Err(Fault::Memory),
+        Ok(slot) => {
+            cache.set(slot, size);
+            Ok(())
+        }
+    }
+}
+
+/// A cache of as many slots as the row says, of which none was consumed.
+pub(crate) fn with_slots(alloc: Global, case: &Case<'_>) -> Result<SizeCache, Fault>
+    ensures { IfOk result (λ cache. cache.next ≡ 0) }
+{
+    let mut cache = SizeCache::new(alloc);
+    for _ in 0..case.reserved()? {
+        put_slot(&mut cache, BEFORE)?;
+    }
+    Ok(cache)
+}
+
+/// The same where each of them was consumed.
+pub(crate) fn with_slots_behind(alloc: Global, case: &Case<'_>) -> Result<SizeCache, Fault>
+    ensures { IfOk result (λ cache. cache.next ≡ length cache.slots) }
+{
+    let mut cache = SizeCache::new(alloc);
+    for _ in 0..case.reserved()? {
+        put_slot(&mut cache, BEFORE)?;
+        let _size = cache.consume_next();
+    }
+    Ok(cache)
+}
+
+/// The size of a message.
+pub(crate) fn sized<M: Message>(message: &M, cache: &mut SizeCache) -> Result<u64, EncodeError>
+    ensures { cache.new.next ≡ cache.old.next }
+{
+    match message.compute_size(cache) {
+        Ok(size) => Ok(u64::from(size)),
+        Err(fault) => Err(fault),
+    }
+}
+
+// The slots of a cache in order, with a space between them.
+fn slots_word(alloc: Global, cache: &mut SizeCache) -> Result<String, Fault>
+    requires { cache.old.next ≡ 0 }
+{
+    let count = match cache.reserve() {
+        Ok(count) => count,
+        Err(_) => return Err(Fault::Memory),
+    };
+    let mut words = String::new(alloc);
+    for place in 0..count {
+        let size = cache.consume_next();
+        let space = if place == 0 { "" } else { " " };
+        words = format!(in alloc; "{words}{space}{size}")?;
+    }
+    Ok(words)
+}
+
+/// The slots of a cache of which none was consumed, where the row tells them.
+pub(crate) fn slots_told(
+    alloc: Global,
+    case: &Case<'_>,
+    cache: &mut SizeCache,
+) -> Result<String, Fault>
+    requires { cache.old.next ≡ 0 }
+{
+    if !case.says("cache", "told") {
+        return Ok(String::new(alloc));
+    }
+    let words = slots_word(alloc, cache)?;
+    Ok(format!(in alloc; "cache {}", or_dash(words.as_str()))?)
+}
+
+// Whether the first slots of those that are told are the ones that were there before.
+fn first_stand(case: &Case<'_>, slots: &str) -> Result<bool, Fault> {
+    let mut words = slots.split(' ').skip(1);
+    for _ in 0..case.reserved()? {
+        if words.next() != Some("7") {
+            return Ok(false);
+        }
+    }
+    Ok(true)
+}
+
+/// The word of a size's answer; another one where the slots that were there before don't come first.
+pub(crate) fn sized_told(
+    alloc: Global,
+    case: &Case<'_>,
+    made: Result<u64, EncodeError>,
+    slots: &str,
+) -> Result<String, Fault> {
+    if case.says("cache", "told") && !first_stand(case, slots)? {
+        return Ok(String::from_str(alloc, "slots are gone")?);
+    }
+    written(alloc, made)
+}
