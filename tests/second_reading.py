@@ -13,12 +13,18 @@ import sys
 sys.dont_write_bytecode = True
 import extension_reading
 from rules import (
-    EIGHT, FOUR, KINDS, MESSAGES, MOST_LEVELS, MOST_SLOTS, MOST_UNITS, Budget, Bytes, Fault, blank, delimited,
+    EIGHT, FOUR, KINDS, MESSAGES, MOST_BYTES, MOST_LEVELS, MOST_SLOTS, MOST_UNITS, Budget, Bytes, Fault, blank, delimited,
     field_text, keep, merge, merge_entry, merge_field, message_text, mismatch, of_word, payload, put, read_item,
     read_run, records, skip, tag_text, value, varint_text, word,
 )
 
 TOP = os.path.dirname(os.path.dirname(os.path.abspath(__file__)))
+# Limits: what one more is refused with, and the limit.
+LIMITS = {
+    "depth": ("RecursionLimitExceeded", str(MOST_LEVELS)), "slots": ("UnknownFieldLimitExceeded", str(MOST_SLOTS)),
+    "units": ("ElementMemoryLimitExceeded", str(MOST_UNITS)), "number": ("ok", str(2**29 - 1)),
+    "bytes": ("ok", str(MOST_BYTES)),
+}
 
 
 def slots_of(kind, message):
@@ -179,9 +185,12 @@ class Row:
 
     def of_scalar(self, _in_order):
         """A value that is read, or spelled."""
-        kind, buf = self.types, Bytes(bytes.fromhex(self.given) if self.call in ("decode", "tag", "payload") else b"")
+        kind, is_read = self.types, self.call in ("decode", "copy", "tag", "from-wire", "payload")
+        buf = Bytes(bytes.fromhex(self.given) if is_read else b"")
+        if self.call == "blank":
+            return "ok", word(kind, blank(kind))
         if self.call == "spell":
-            text = varint_text(int(self.given)) if kind == "varint" else payload(kind, of_word(kind, self.given))
+            text = spelled(kind, self.given)
             return "ok", f"{len(text)}; text {text.hex()}"
         if self.call == "spell-payload":
             text, (wire, cost) = payload(kind, of_word(kind, self.given)), KINDS[kind]
@@ -198,9 +207,9 @@ class Row:
                 return "ok", self.told(f"{number} {wire}", f"text {tag_text(number, wire).hex()}", unread=buf.unread())
             if self.call == "payload":
                 return self.of_payload(kind, buf)
-            if self.settings.get("how") == "copy":
+            if self.call == "copy":
                 return "ok", self.told(word(kind, buf.take(self.setting("length", 0))), unread=buf.unread())
-            if self.settings.get("how") == "from-wire":
+            if self.call == "from-wire":
                 buf = Bytes(delimited(buf.text))
             return "ok", self.told(word(kind, value(kind, buf, None)[0]), unread=buf.unread())
         except Fault as fault:
@@ -220,12 +229,19 @@ class Row:
     def of_list(self, _in_order):
         """Records that are put into a list."""
         found = records(bytes.fromhex(self.before))
-        if self.call == "push":
+        if self.call in ("push", "append"):
             found += records(bytes.fromhex(self.given))
             words = str(len(found))
-        else:
-            words = "true"
-        return "ok", f"{words}; records {b''.join(it[2] for it in found).hex() or '-'}"
+        elif self.call == "equal":
+            return "ok", str(found == records(bytes.fromhex(self.given))).lower()
+        text = b"".join(it[2] for it in found)
+        if self.call == "write-records":
+            return "ok", f"{len(text)}; text {text.hex() or '-'}"
+        answer = "ok"
+        if self.call == "reserve":
+            # no address space has room for so many
+            answer, words = ("ok", "true") if int(self.given) < 2**57 else ("OutOfMemory", "false")
+        return answer, f"{words}; records {text.hex() or '-'}"
 
     def of_words(self, in_order):
         """Calls that are given words, and what each of them answers."""
@@ -241,17 +257,27 @@ class Row:
         if self.call == "number":
             return "ok", f"{word('open', int(self.given))} {self.given}"
         if self.call == "item-len":
-            return "ok", str(4 + len(varint_text(self.number)) + len(varint_text(int(self.given))) + int(self.given))
+            length = self.setting("length", 0)
+            return "ok", str(4 + len(varint_text(self.number)) + len(varint_text(length)) + length)
+        if self.call == "limits":
+            return LIMITS[self.types]
         if self.call == "cache":
             return self.of_cache(said)
         for step in said:
             answers.append(self.of_context(step))
-        return "ok", self.told(" ".join(answers), f"depth {self.depth}")
+            if answers[-1] == "RecursionLimitExceeded":
+                break
+        return "ok", self.told(" ".join(answers) or "-", f"depth {self.depth}")
 
     def of_cache(self, said):
         slots, place, answers = [], 0, []
-        for step in said:
+        for step in [*self.before.split(), "told", *said]:
             front, _, back = step.partition(":")
+            if step == "told":
+                answers = []
+                continue
+            if front == "room" and int(back) >= 2**61:
+                return "OutOfMemory", " ".join(map(str, answers)) or "-"
             if step == "reserve":
                 answers.append(len(slots))
                 slots.append(0)
@@ -286,9 +312,9 @@ class Row:
             ("records twice retain write-item", self.of_records),
             ("merge merge-delimited merge-field encode message-size message-clear write-messages", self.of_message),
             (extension_reading.CALLS, self.of_extension),
-            ("decode spell zigzag tag payload spell-payload", self.of_scalar),
-            ("push reserve", self.of_list),
-            ("put normal number item-len cache context", self.of_words),
+            ("decode spell zigzag tag payload spell-payload copy from-wire blank", self.of_scalar),
+            ("push append reserve write-records equal", self.of_list),
+            ("put normal number item-len cache context limits", self.of_words),
         ):
             if self.call in calls.split():
                 return done(in_order)
@@ -300,6 +326,13 @@ class Row:
         ordered = "ordered" in names and self.kinds[0] != "word" and self.call != "field"
         arrival = "indexed" in names and self.kinds[0] != "old"
         return [True] * ordered + [False] * (arrival or not ordered)
+
+
+def spelled(kind, said):
+    """The text of a value, or of a tag: `number:wire type`."""
+    if kind == "tag":
+        return tag_text(*map(int, said.split(":")))
+    return varint_text(int(said)) if kind in ("varint", "length") else payload(kind, of_word(kind, said))
 
 
 def with_pairs_in_order(state):

@@ -8,7 +8,7 @@ use conformance_records::unread;
 use conformance_rows::case::Case;
 use conformance_rows::fault::Fault;
 use conformance_rows::mark::Mark;
-use conformance_rows::outcome::{Outcome, count_told, left, text_told, told, written};
+use conformance_rows::outcome::{Outcome, count_told, got, left, text_told, told, written};
 use conformance_rows::words::bytes_word;
 use std::alloc::Global;
 
@@ -54,13 +54,31 @@ fn announced(number: u32, payload_len: usize) -> usize
     item_encoded_len(number, payload_len)
 }
 
-/// What comes of a row that writes an Item: its length, and the text.
+// The announced length of an Item with a message of so many bytes.
+fn length_of(alloc: Global, case: &Case<'_>, mark: &mut Mark) -> Result<Outcome, Fault> {
+    let number = case.number()?;
+    let payload_len = case.length()? as usize;
+    if payload_len >= 1_000_000 {
+        return Err(Fault::Form);
+    }
+    mark.begin(alloc);
+    let len = announced(number, payload_len);
+    let refused = mark.end();
+    let words = count_told(alloc, Ok(len as u64));
+    let none = Ok(String::new(alloc));
+    Outcome::of_words(alloc, got(alloc, true), words, none, refused)
+}
+
+/// What comes of a row that writes an Item: its length, and the text; or its length alone.
 pub fn write_an_item(
     alloc: Global,
     case: &Case<'_>,
     mark: &mut Mark,
     message: &[u8],
 ) -> Result<Outcome, Fault> {
+    if case.call == "item-len" {
+        return length_of(alloc, case, mark);
+    }
     let number = case.number()?;
     if number == 0 || number > 2_147_483_647 || message.len() >= 1_000_000 {
         return Err(Fault::Form);

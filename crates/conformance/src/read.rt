@@ -2,13 +2,16 @@
 
 use crate::item::{item, write_an_item};
 use buffa::Buf;
+use conformance_lists::on_lists;
 use conformance_records::{fields_and_numbers, on_records};
 use conformance_rows::calls::{Group, Kind, group_of};
 use conformance_rows::case::Case;
 use conformance_rows::fault::Fault;
 use conformance_rows::mark::Mark;
 use conformance_rows::outcome::Outcome;
-use conformance_samples::{extension, fields, kinds, message, spells, values, writes};
+use conformance_samples::{
+    extension, fields, kinds, message, on_enums, scalar, scalar_of_words, spells, values, writes,
+};
 use std::alloc::Global;
 
 // What comes of a row that reads an Item, a field or a number.
@@ -18,10 +21,11 @@ fn items<B: Buf>(
     mark: &mut Mark,
     buf: &mut B,
 ) -> Result<Outcome, Fault> {
-    if case.call == "item" {
-        return item::<B>(alloc, case, mark, buf);
+    match case.call {
+        "item" => item::<B>(alloc, case, mark, buf),
+        "decode" | "copy" | "tag" => scalar::<B>(alloc, case, mark, buf),
+        _ => fields_and_numbers::<B>(alloc, case, mark, buf),
     }
-    fields_and_numbers::<B>(alloc, case, mark, buf)
 }
 
 // A row that is run in each storage that is asked for.
@@ -60,6 +64,9 @@ pub fn called(
         Group::Records => some(on_records(alloc, case, mark, bytes)),
         Group::WrittenItem => some(write_an_item(alloc, case, mark, bytes)),
         Group::Messages => some(message(alloc, case, kind, mark, bytes)),
+        Group::Scalars => some(scalar_of_words(alloc, case, mark)),
+        Group::Enums => some(on_enums(alloc, case, mark)),
+        Group::Lists => some(on_lists(alloc, case, mark)),
         Group::Extensions => some(extension(alloc, case, mark)),
         Group::Fields | Group::Items | Group::Values => Ok(None),
     }

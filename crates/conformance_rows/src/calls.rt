@@ -34,6 +34,12 @@ pub enum Group {
     WrittenItem,
     /// It is done with a message, or a map of messages.
     Messages,
+    /// It spells a value, or makes one of bytes or of nothing.
+    Scalars,
+    /// It is done with a value of an enum.
+    Enums,
+    /// It is done with a list of records, a cache of sizes, a context or a limit.
+    Lists,
     /// It is done with an extension.
     Extensions,
 }
@@ -47,7 +53,7 @@ fn is_among(call: &str, calls: &str) -> bool {
 pub fn group_of(call: &str) -> Group {
     if is_among(call, "entry unlisted run rewrite") {
         Group::Fields
-    } else if is_among(call, "item unknown skip varint") {
+    } else if is_among(call, "item unknown skip varint decode copy tag") {
         Group::Items
     } else if is_among(call, "payload merge-delimited") {
         Group::Values
@@ -59,8 +65,17 @@ pub fn group_of(call: &str) -> Group {
         Group::Spelled
     } else if is_among(call, "records twice retain") {
         Group::Records
-    } else if is_among(call, "write-item") {
+    } else if is_among(call, "write-item item-len") {
         Group::WrittenItem
+    } else if is_among(call, "spell zigzag from-wire blank") {
+        Group::Scalars
+    } else if is_among(call, "normal number") {
+        Group::Enums
+    } else if is_among(
+        call,
+        "push append reserve write-records equal cache context limits",
+    ) {
+        Group::Lists
     } else if is_among(
         call,
         "merge merge-field encode message-size message-clear size-messages write-messages",
@@ -95,6 +110,7 @@ pub fn keeps_a_map(call: &str) -> bool {
 /// Whether a call is given the words of a value, and no bytes.
 pub fn takes_words(call: &str) -> bool {
     match group_of(call) {
+        Group::Scalars | Group::Enums | Group::Lists => true,
         Group::Extensions | Group::Spelled => true,
         _ => is_among(call, "put"),
     }

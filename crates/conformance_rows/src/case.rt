@@ -137,4 +137,13 @@ impl<'a> Case<'a> {
     pub fn units(&self) -> Result<usize, Fault> {
         Ok(self.number_or("units", DEFAULT_ELEMENT_MEMORY_LIMIT as u64)? as usize)
     }
+    /// The number of bytes; none where nothing is said.
+    pub fn length(&self) -> Result<u64, Fault> {
+        self.number_or("length", 0)
+    }
+
+    /// How many more records a list has room for; none where nothing is said.
+    pub fn room(&self) -> Result<usize, Fault> {
+        Ok(self.number_or("room", 0)? as usize)
+    }
 }
