@@ -25,6 +25,14 @@ pub struct Run<'a> {
     pub errors: Stderr,
 }
 
+// Whether two outcomes are one, but for the pairs.
+fn is_alike(outcome: &Outcome, other: &Outcome) -> bool {
+    outcome.answer.as_str() == other.answer.as_str()
+        && outcome.rest.as_str() == other.rest.as_str()
+        && outcome.left.as_str() == other.left.as_str()
+        && outcome.unread == other.unread
+}
+
 impl Run<'_> {
     // The pairs as they are compared: in order, where the storage keeps none.
     fn pairs(&self, alloc: Global, pairs: &str) -> Result<String, Fault> {
@@ -69,7 +77,7 @@ impl Run<'_> {
     ) -> Result<Option<Outcome>, Fault> {
         let mut mark = Mark::new(self.errors, nth);
         match group_of(self.case.call) {
-            Group::Fields | Group::Items | Group::Values => {
+            Group::Fields | Group::Items => {
                 let mut buf = bytes;
                 read::<&[u8]>(alloc, self.case, self.kind, &mut mark, &mut buf)
             }
@@ -158,7 +166,7 @@ impl Run<'_> {
         }
     }
 
-    // What stands of an outcome after a refusal, where a run goes on behind it. A rewrite has written nothing yet.
+    // What stands of an outcome, of a rewrite without its text.
     fn standing(&self, alloc: Global, outcome: &Outcome) -> Result<String, Fault> {
         let rest = if self.case.call == "rewrite" {
             "text -"
@@ -168,7 +176,30 @@ impl Run<'_> {
         self.state(alloc, outcome.pairs.as_str(), rest)
     }
 
-    /// Each beginning of a row that is accepted: whole, or cut off, and then what its whole records make stands.
+    // Whether a beginning that is refused is cut off, and what its whole records make stands: of a rewrite no text.
+    fn is_cut_off(&self, outcome: &Outcome, found: &str, standing: &str) -> bool {
+        if outcome.answer.as_str() != "UnexpectedEof" {
+            return false;
+        }
+        if self.case.call == "rewrite" && outcome.rest.as_str() != "text -" {
+            return false;
+        }
+        found == standing || !keeps_a_map(self.case.call)
+    }
+
+    // Whether single bytes have the outcome of a slice, and what is left is the same, where a buffer is read.
+    fn is_alike(&self, alloc: Global, bytes: &[u8], outcome: &Outcome) -> Result<bool, Fault> {
+        let parts = single_bytes(alloc, bytes)?;
+        let Some(other) = self.pieces(alloc, parts.as_slice(), None)? else {
+            return Ok(true);
+        };
+        let pairs = self.pairs(alloc, outcome.pairs.as_str())?;
+        let others = self.pairs(alloc, other.pairs.as_str())?;
+        Ok(pairs.as_str() == others.as_str() && is_alike(outcome, &other))
+    }
+
+    /// Each beginning of a row that is accepted: whole, or cut off, and then what its whole records make stands. In
+    /// single bytes it has the same outcome.
     pub fn beginnings(&self, alloc: Global, bytes: &[u8], tally: &mut Tally) -> Result<(), Fault> {
         let Some(all) = self.slice(alloc, bytes, None)? else {
             return Ok(());
@@ -184,13 +215,12 @@ impl Run<'_> {
                 return Ok(());
             };
             let found = self.standing(alloc, &outcome)?;
+            tally.add(self.is_alike(alloc, front, &outcome)?);
             if self.is_whole(alloc, front, taken) {
                 tally.add(outcome.answer.as_str() == "ok");
                 standing = found;
             } else {
-                let cut_off = outcome.answer.as_str() == "UnexpectedEof";
-                let stands = found.as_str() == standing.as_str();
-                tally.add(cut_off && (stands || !keeps_a_map(self.case.call)));
+                tally.add(self.is_cut_off(&outcome, found.as_str(), standing.as_str()));
             }
         }
         Ok(())
@@ -261,6 +291,14 @@ impl Run<'_> {
         self.pieces(alloc, parts.as_slice(), Some(nth))
     }
 
+    // How many requests the call may make.
+    fn most(&self) -> Result<u64, Fault> {
+        match self.case.setting("requests") {
+            None => Ok(1000),
+            Some(said) => Ok(said.parse::<u64>()?),
+        }
+    }
+
     // Each request refused in turn.
     fn refused_by(
         &self,
@@ -270,7 +308,8 @@ impl Run<'_> {
         may: &[String],
         tally: &mut Tally,
     ) -> Result<(), Fault> {
-        for nth in 1..1000u64 {
+        let spared = self.case.setting("memory") == Some("spared");
+        for nth in 1..=self.most()?.saturating_add(1) {
             let Some(outcome) = self.by(alloc, bytes, cut, nth)? else {
                 return Ok(());
             };
@@ -280,24 +319,45 @@ impl Run<'_> {
                 return Ok(());
             }
             let well = self.is_refused_well(alloc, &outcome, may)?;
-            tally.add_refused(right || well);
+            tally.add_refused(well || (spared && right));
         }
         tally.add(false);
         Ok(())
     }
 
+    // All requests refused of a row that takes none: whole, and where cuts take none either in two and in single bytes.
+    fn with_none(
+        &self,
+        alloc: Global,
+        bytes: &[u8],
+        cuts: bool,
+        tally: &mut Tally,
+    ) -> Result<(), Fault> {
+        let whole = self.by(alloc, bytes, false, 0)?;
+        self.tell(alloc, whole, tally)?;
+        if !cuts {
+            return Ok(());
+        }
+        let single = self.by(alloc, bytes, true, 0)?;
+        self.tell(alloc, single, tally)?;
+        for cut in 0..=bytes.len() {
+            let parts: [&[u8]; 2] = [&bytes[..cut], &bytes[cut..]];
+            let found = self.pieces(alloc, &parts, Some(0))?;
+            self.tell(alloc, found, tally)?;
+        }
+        Ok(())
+    }
+
     /// Each request for memory refused in turn, whole and in single bytes; and all of them, where the row says that
-    /// it takes none.
+    /// it takes none (`none`), or none of bytes in one piece (`whole`).
     pub fn refused(&self, alloc: Global, bytes: &[u8], tally: &mut Tally) -> Result<(), Fault> {
         let may = self.may_stand(alloc, bytes)?;
         self.refused_by(alloc, bytes, false, may.as_slice(), tally)?;
         self.refused_by(alloc, bytes, true, may.as_slice(), tally)?;
-        if self.case.setting("memory") == Some("none") {
-            let whole = self.by(alloc, bytes, false, 0)?;
-            self.tell(alloc, whole, tally)?;
-            let cut = self.by(alloc, bytes, true, 0)?;
-            self.tell(alloc, cut, tally)?;
+        match self.case.setting("memory") {
+            Some("none") => self.with_none(alloc, bytes, true, tally),
+            Some("whole") => self.with_none(alloc, bytes, false, tally),
+            _ => Ok(()),
         }
-        Ok(())
     }
 }
