@@ -1,6 +1,7 @@
 //! What the definitions of the program say together: each law is a function with nothing to do, whose contract is
 //! the law.
 
+ghost use Rattle.std.specs.Prelude.{◌≡◌, false};
 ghost use Rattle.buffa_wire.specs.Number.{IsNumber};
 ghost use Rattle.buffamap.specs.Ext.{RepliesToExt};
 ghost use Rattle.buffamap.specs.Item.{RepliesToItem};
@@ -9,8 +10,10 @@ ghost use Rattle.buffamap.specs.Read.{RepliesToRead};
 ghost use Rattle.buffamap.specs.Rewrite.{RepliesToRewrite, RewriteKeepsMeaning};
 ghost use Rattle.buffamap.specs.Write.{RepliesToWrite};
 
+use crate::calls::{ReadCalls, SureCalls, WriteCalls};
 use crate::choice::Choice;
 use buffa::map_codec::{ClosedEnum, Int32};
+use std::io::Sink;
 
 /// `read N` has one reply to each input. Memory is left open: the reply may be that it ran out.
 pub fn one_reply_to_read(number: u32)
@@ -53,6 +56,12 @@ pub fn one_reply_to_ext(number: u32)
 pub fn one_reply_to_item()
     ensures one { ReplyIsPinned RepliesToItem }
     ensures there { HasReply RepliesToItem }
+{}
+
+/// A call of bytes in memory, as a reader, or of a sink that keeps nothing, as a writer, never fails. Nothing is open.
+pub fn sure_calls_never_fail()
+    ensures reader { ⟦<SureCalls as ReadCalls<&'static [u8]>>⟧.may_fail ≡ false }
+    ensures writer { ⟦<SureCalls as WriteCalls<Sink>>⟧.may_fail ≡ false }
 {}
 
 /// One call of the program has one status, and leaves its output and its errors in one way, where no call of its streams
