@@ -37,7 +37,9 @@ class Function:
     """A function in a file: its name, the impl or trait round it, the cycle of calls it is in, and where it stands."""
 
     def __init__(self, file, name, holder, cycle, start):
-        self.file, self.name, self.holder, self.cycle, self.start, self.end = file, name, holder, cycle, start, start
+        self.file, self.name, self.holder, self.cycle = file, name, holder, cycle
+        # the checker may tell a goal at the attributes of the function, which stand before it
+        self.head = self.start = self.end = start
 
     def key(self):
         return self.file, self.holder, self.name
@@ -91,7 +93,11 @@ def functions(file, text):
         begins = FUNCTION.match(line)
         if begins and (not begins[1] or holder and begins[1] == "    "):
             holder = holder if begins[1] else ""
-            current = Function(file, begins[2], holder, cycle, number)
+            previous, current = current, Function(file, begins[2], holder, cycle, number)
+            while current.head and re.match(r"\s*(#\[|//)", lines[current.head - 1]):
+                current.head -= 1
+            if previous:
+                previous.end = min(previous.end, current.head - 1)
             cycle = None
             found.append(current)
         elif re.match(r"(?!where\b)[a-z]", line):
@@ -242,8 +248,8 @@ def apply(edits, crate, room):
 
 
 def at_line(texts, file, line):
-    """The functions at a line of the edited files."""
-    return {it.key() for it in functions(file, texts.get(file, "")) if it.start < line <= it.end + 1}
+    """The functions at a line of the edited files, each with its attributes."""
+    return {it.key() for it in functions(file, texts.get(file, "")) if it.head < line <= it.end + 1}
 
 
 def guilty(report, edits, texts):

@@ -149,6 +149,20 @@ pub fn open_enums_are_these<E: Enumeration>()
     ensures read { (v : E) → open_number E.of_number (E.meaning v) ≡ (true, E.meaning v) }
 {}
 
+/// `==` of values of an open enum: declared ones are compared by their type, numbers as numbers, and the two are never
+/// equal; and `clone` makes a clone of a declared one, and the same number. Nothing else is open.
+pub fn open_enums_are_compared<E: Enumeration + Clone + PartialEq>()
+    ensures known { (a b : E) → ⟦<EnumValue<E> as PartialEq>⟧.eq (EnumValue.Known a) (EnumValue.Known b) ≡ E.eq a b }
+    ensures number { (m n : ℤ) → (⟦<EnumValue<E> as PartialEq>⟧.eq (EnumValue.Unknown m) (EnumValue.Unknown n) ≡ true)
+        ↔ (m ≡ n) }
+    ensures apart { (a : E) (n : ℤ) → (⟦<EnumValue<E> as PartialEq>⟧.eq (EnumValue.Known a) (EnumValue.Unknown n) ≡ false)
+        × (⟦<EnumValue<E> as PartialEq>⟧.eq (EnumValue.Unknown n) (EnumValue.Known a) ≡ false) }
+    ensures known_clone { (a : E) (c : EnumValue E) → ⟦<EnumValue<E> as Clone>⟧.is_clone (EnumValue.Known a) c →
+        (b : E) × (c ≡ EnumValue.Known b) × E.is_clone a b }
+    ensures number_clone { (n : ℤ) (c : EnumValue E) → ⟦<EnumValue<E> as Clone>⟧.is_clone (EnumValue.Unknown n) c → c
+        ≡ EnumValue.Unknown n }
+{}
+
 /// Slots are consumed in the order in which they were reserved: those that are appended behind a cursor at the end are
 /// the next ones, and the first of the next ones is consumed. Nothing is open but the room, of which nothing is said.
 pub fn slots_are_consumed_in_order()
