@@ -2,11 +2,13 @@
 #![tactic(auto)]
 
 mod alone;
+mod back;
 mod enums;
 mod words;
 
 use alone::entries_by_function;
 pub use alone::{spells, values};
+use back::{set_flat, set_group, set_two};
 use buffa_ext::codecs::EnumCodec;
 use buffa_ext::record::{Delimited, Grouped};
 use buffa_map::map_codec::{ClosedEnum, Int32, MapValueDecode, Msg, OpenEnum, ProtoStringMap, Str};
@@ -39,6 +41,9 @@ pub struct Samples;
 pub fn extension(alloc: Global, case: &Case<'_>, mark: &mut Mark) -> Result<Outcome, Fault> {
     match case.types {
         "enum" => packable::<Samples, EnumValue<Old>, EnumCodec<Old>>(alloc, case, mark),
+        "flat" if case.call == "set-then-read" => set_flat(alloc, case, mark),
+        "two" if case.call == "set-then-read" => set_two(alloc, case, mark),
+        "two-group" if case.call == "set-then-read" => set_group(alloc, case, mark),
         "flat" => of_message::<Samples, FlatMsg, Delimited>(alloc, case, mark),
         "two" => of_message::<Samples, TestMsg, Delimited>(alloc, case, mark),
         "count" => of_message::<Samples, CountMsg, Delimited>(alloc, case, mark),
