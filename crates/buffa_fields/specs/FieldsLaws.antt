@@ -34,17 +34,17 @@ module _ {S : Type 0} (f : S → List ℕ → Result (S × List ℕ) DecodeError
   unfolding parse_all
   whole s bs = refl
 
-  along_ok : (s t : S) (bs x : List ℕ) → 0 < length bs → f s bs ≡ Ok (t, x) → parse_all f s bs ≡ parse_all f t x
+  pub along_ok : (s t : S) (bs x : List ℕ) → 0 < length bs → f s bs ≡ Ok (t, x) → parse_all f s bs ≡ parse_all f t x
   along_ok s t [] x some h = absurd (omega arith)
   along_ok s t (b ∷ bs) x some h =
       let short = falls s (b ∷ bs) (t, x) h in
       turn s b bs ∙ rw h (enough (length bs) (length x) t x (omega (arith, short)) (omega arith)) ∙ sym (whole t x)
 
-  along_err : (s : S) (bs : List ℕ) (e : DecodeError) → 0 < length bs → f s bs ≡ Err e → parse_all f s bs ≡ Err e
+  pub along_err : (s : S) (bs : List ℕ) (e : DecodeError) → 0 < length bs → f s bs ≡ Err e → parse_all f s bs ≡ Err e
   along_err s [] e some h = absurd (omega arith)
   along_err s (b ∷ bs) e some h = turn s b bs ∙ rw h refl
 
-  along_none : (s : S) → parse_all f s [] ≡ Ok s
+  pub along_none : (s : S) → parse_all f s [] ≡ Ok s
   unfolding parse_within parse_all
   along_none s = refl
 

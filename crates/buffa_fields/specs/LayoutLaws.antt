@@ -59,7 +59,7 @@ pub seen_field : {P X : Type 0} (s : Slot P X) (k : ℕ) (p : P) (b : List (ℕ 
 seen_field s k p b z y h = h ∙ more_twice (s.records k (s.meaning p)) b z
 
 -- ---- what visitors know
-cap_more : (a b total len new : ℕ) → total ≡ cap a → len ≡ cap b → new ≡ min (total + len) 4294967295 → new ≡ cap (a + b)
+pub cap_more : (a b total len new : ℕ) → total ≡ cap a → len ≡ cap b → new ≡ min (total + len) 4294967295 → new ≡ cap (a + b)
 cap_more a b total len new h k e = omega (arith, h, k, e)
 
 pub counted : (rs : List (ℕ × Datum)) (z : Seen) (total len new : ℕ) → IsCounted total z → len ≡ cap (length (records_text rs)) → new ≡ min (total + len) 4294967295 → IsCounted new (more rs z)

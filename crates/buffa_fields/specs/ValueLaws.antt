@@ -87,7 +87,7 @@ module _ {V : Type 0} (codec : Reading V) (plain : codec.nested ≡ false)
     λ full end. let k = sym full ∙ is in cc,
   )
 
-  none_of : (e : DecodeError) (p more : List ℕ) → bs ≡ p ++ more → value_at codec d v bs ≡ Err e → (r : Result ((V × Bool) × List ℕ) DecodeError) → value_at codec d v p ≡ r → all_of r ≡ None
+  pub none_of : (e : DecodeError) (p more : List ℕ) → bs ≡ p ++ more → value_at codec d v bs ≡ Err e → (r : Result ((V × Bool) × List ℕ) DecodeError) → value_at codec d v p ≡ r → all_of r ≡ None
   none_of e p more split h (Ok (x, [])) is =
       let u = agree_ok (value_at codec d v p) (x, []) (value_sound codec d v p) is in
       let again : value_at codec d v (p ++ more) ≡ Ok (x, more) = ap (λ (z : List ℕ). value_at codec d v (z ++ more)) (u.5 ∙ append-nil u.1) ∙ value_complete codec d v u.1 more u.2 x open_level u.3 u.4 in
@@ -95,7 +95,7 @@ module _ {V : Type 0} (codec : Reading V) (plain : codec.nested ≡ false)
   none_of e p more split h (Ok (x, b ∷ r)) is = refl
   none_of e p more split h (Err f) is = refl
 
-  fault_no_limit : (e : DecodeError) → ValueFault codec d v bs e → NoLimit e
+  pub fault_no_limit : (e : DecodeError) → ValueFault codec d v bs e → NoLimit e
   fault_no_limit e (inl h) = let k = open_level in cc
   fault_no_limit e (inr (inl (o, h))) = content_no_limit codec.wire bs e h
   fault_no_limit e (inr (inr (o, c, rest, x, t, h, tells))) = told e x (plainly codec.nested plain tells) (no_limit d v c x h)
@@ -163,12 +163,12 @@ module _ {V : Type 0} (reading : Reading V) (writing : Writing V) (datum : V →
       }
 
   -- a value that isn't written where it is the default
-  pub plain_back : (blank : V) (test : V → Bool) → ((v : V) → test v ≡ true → v ≡ blank) → (v : V) → Fit v → Normal v →
+  pub plain_back : (blank : V) (test : V → Bool) → ((v : V) → Normal v → test v ≡ true → v ≡ blank) → (v : V) → Fit v → Normal v →
       ReadsBack (value_taken reading) (λ m. m == n) d blank (records_text (records_unless (test v) ((n, datum v) ∷ []))) v
   plain_back blank test only v fit normal = at (test v) refl
     where
       at : (b : Bool) → test v ≡ b → ReadsBack (value_taken reading) (λ m. m == n) d blank (records_text (records_unless b ((n, datum v) ∷ []))) v
-      at true is = record { pieces = []; spelled = refl; leads = sym (only v is) }
+      at true is = record { pieces = []; spelled = refl; leads = sym (only v normal is) }
       at false is =
           let one = one_piece blank v fit normal in
           record {

@@ -24,9 +24,8 @@ pub trait Fields: Drop {
     /// Its members, one after the other.
     ghost layout: { Layout Self Self.Meaning };
 
-    /// The default.
-    fn blank(alloc: Global) -> Self
-        ensures { layout.meaning result ≡ layout.blank };
+    /// Each number may be a field's, and no two are one.
+    ghost sound: { layout.sound ≡ true };
 
     /// Visits each member.
     fn visit<V: Visitor>(&self, visitor: &mut V)
@@ -42,7 +41,4 @@ pub trait Fields: Drop {
     ) -> Result<(), DecodeError>
         ensures { layout.Taken ctx.entry.depth self.old tag.number tag.wire_type buf.old.now ctx.entry.budget.now
             result self.new (budget_left ctx.exit) buf.new.now };
-
-    /// Each number may be a field's, and no two are one.
-    ghost sound: { layout.sound ≡ true };
 }

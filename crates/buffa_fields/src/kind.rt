@@ -22,6 +22,6 @@ pub trait Kind: MapCodec {
     /// The text of a field is that of its record.
     ghost datum_text: { (n : ℕ) (v : Self.Value.Meaning) → tag_text n Self.writing.wire ++ Self.writing.text v ≡ field_text n (datum v) };
 
-    /// No other value is.
-    ghost blank_only: { (v : Self.Value.Meaning) → is_blank v ≡ true → v ≡ Self.Value.blank_is };
+    /// No other value is, of those that are read.
+    ghost blank_only: { (v : Self.Value.Meaning) → Self.normal v → is_blank v ≡ true → v ≡ Self.Value.blank_is };
 }

@@ -1,16 +1,19 @@
 //! The proto types.
 
 ghost use Rattle.std.specs.Prelude.{refl};
+ghost use Rattle.std.specs.Int.{cast_unsigned, w64};
+ghost use Rattle.std.proofs.Common.{ap, ◌∙◌};
+ghost use Rattle.buffa_wire.specs.Enums.{open_number};
 ghost use Rattle.buffa_wire.specs.Records.Datum.{varint, fixed32, fixed64, bytes};
 ghost use Rattle.buffa_fields.specs.KindLaws.{zero_only, is_nought, is_zero, none_only, nought_only, is_none, same_false_only};
 ghost use Rattle.std.specs.Prelude.{not};
 
 use crate::kind::Kind;
 use buffa_map::map_codec::{
-    Bool, BytesVec, Fixed32, Fixed64, Int32, Int64, Sfixed32, Sfixed64, Sint32, Sint64, Str,
-    Uint32, Uint64,
+    Bool, BytesVec, Fixed32, Fixed64, Int32, Int64, OpenEnum, Sfixed32, Sfixed64, Sint32, Sint64,
+    Str, Uint32, Uint64,
 };
-use buffa_wire::Scalar;
+use buffa_wire::{EnumValue, Enumeration, Scalar};
 
 impl Kind for Int32 {
     ghost datum = { λ v. varint (⟦<Int32 as Scalar>⟧.number_of v) };
@@ -19,7 +22,7 @@ impl Kind for Int32 {
 
     ghost datum_text = { λ n v. refl };
 
-    ghost blank_only = { zero_only };
+    ghost blank_only = { λ v _ h. zero_only v h };
 
     fn is_blank(value: &i32) -> bool {
         *value == 0
@@ -33,7 +36,7 @@ impl Kind for Bool {
 
     ghost datum_text = { λ n v. refl };
 
-    ghost blank_only = { same_false_only };
+    ghost blank_only = { λ v _ h. same_false_only v h };
 
     fn is_blank(value: &bool) -> bool {
         !*value
@@ -47,7 +50,7 @@ impl Kind for Str {
 
     ghost datum_text = { λ n v. refl };
 
-    ghost blank_only = { none_only };
+    ghost blank_only = { λ v _ h. none_only v h };
 
     fn is_blank(value: &String) -> bool {
         value.is_empty()
@@ -65,7 +68,7 @@ impl Kind for Int64 {
 
     ghost datum_text = { λ n v. refl };
 
-    ghost blank_only = { zero_only };
+    ghost blank_only = { λ v _ h. zero_only v h };
 }
 
 impl Kind for Uint32 {
@@ -79,7 +82,7 @@ impl Kind for Uint32 {
 
     ghost datum_text = { λ n v. refl };
 
-    ghost blank_only = { nought_only };
+    ghost blank_only = { λ v _ h. nought_only v h };
 }
 
 impl Kind for Uint64 {
@@ -93,7 +96,7 @@ impl Kind for Uint64 {
 
     ghost datum_text = { λ n v. refl };
 
-    ghost blank_only = { nought_only };
+    ghost blank_only = { λ v _ h. nought_only v h };
 }
 
 impl Kind for Sint32 {
@@ -107,7 +110,7 @@ impl Kind for Sint32 {
 
     ghost datum_text = { λ n v. refl };
 
-    ghost blank_only = { zero_only };
+    ghost blank_only = { λ v _ h. zero_only v h };
 }
 
 impl Kind for Sint64 {
@@ -121,7 +124,7 @@ impl Kind for Sint64 {
 
     ghost datum_text = { λ n v. refl };
 
-    ghost blank_only = { zero_only };
+    ghost blank_only = { λ v _ h. zero_only v h };
 }
 
 impl Kind for Fixed32 {
@@ -135,7 +138,7 @@ impl Kind for Fixed32 {
 
     ghost datum_text = { λ n v. refl };
 
-    ghost blank_only = { nought_only };
+    ghost blank_only = { λ v _ h. nought_only v h };
 }
 
 impl Kind for Fixed64 {
@@ -149,7 +152,7 @@ impl Kind for Fixed64 {
 
     ghost datum_text = { λ n v. refl };
 
-    ghost blank_only = { nought_only };
+    ghost blank_only = { λ v _ h. nought_only v h };
 }
 
 impl Kind for Sfixed32 {
@@ -163,7 +166,7 @@ impl Kind for Sfixed32 {
 
     ghost datum_text = { λ n v. refl };
 
-    ghost blank_only = { zero_only };
+    ghost blank_only = { λ v _ h. zero_only v h };
 }
 
 impl Kind for Sfixed64 {
@@ -177,7 +180,7 @@ impl Kind for Sfixed64 {
 
     ghost datum_text = { λ n v. refl };
 
-    ghost blank_only = { zero_only };
+    ghost blank_only = { λ v _ h. zero_only v h };
 }
 
 impl Kind for BytesVec {
@@ -191,5 +194,19 @@ impl Kind for BytesVec {
 
     ghost datum_text = { λ n v. refl };
 
-    ghost blank_only = { none_only };
+    ghost blank_only = { λ v _ h. none_only v h };
+}
+
+impl<E: Enumeration> Kind for OpenEnum<E> {
+    ghost datum = { λ v. varint (cast_unsigned w64 v.1) };
+
+    ghost is_blank = { λ v. is_zero v.1 };
+
+    fn is_blank(value: &EnumValue<E>) -> bool {
+        value.to_i32() == 0
+    }
+
+    ghost datum_text = { λ n v. refl };
+
+    ghost blank_only = { λ v normal h. normal ∙ ap (open_number E.of_number) (zero_only v.1 h) };
 }

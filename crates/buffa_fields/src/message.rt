@@ -1,6 +1,7 @@
 //! A struct of one's own is a message.
 
 ghost use Rattle.std.specs.Prelude.{◌≡◌, ◌≢◌, [], Ok, refl};
+ghost use Rattle.std.proofs.Common.{ap, ◌∙◌};
 ghost use Rattle.buffa_wire.specs.BudgetLeft.{budget_left};
 ghost use Rattle.buffa_wire.specs.Gives.{FullOnlyIf};
 ghost use Rattle.buffa_wire.specs.Message.{IsFieldMerged};
@@ -15,8 +16,8 @@ use crate::fields::Fields;
 use crate::sizer::Sizer;
 use crate::writer::Writer;
 use buffa_wire::{
-    Blank, DecodeContext, DecodeError, EncodeError, EncodeSink, Message, MessageSpec, SizeCache,
-    Tag, WireType,
+    Blank, DecodeContext, DecodeError, EncodeError, EncodeSink, MessageForm, SizeCache, Tag,
+    WireType,
 };
 use std::alloc::Global;
 
@@ -40,11 +41,8 @@ fn write_text<M: Fields, S: EncodeSink>(message: &M, sink: &mut S) -> Result<(),
     writer.finish()
 }
 
-/// The size pass of a message by its members.
-///
-/// # Errors
-/// [`EncodeError::OutOfMemory`] alone.
-pub fn size<M: Fields>(message: &M, _cache: &mut SizeCache) -> Result<u32, EncodeError>
+// The size pass of a message by its members.
+fn size<M: Fields>(message: &M, _cache: &mut SizeCache) -> Result<u32, EncodeError>
     ensures { IsSized (records_text (M.layout.records (M.layout.meaning message.now))) [] _cache.old result _cache.new }
 {
     let mut sizer = Sizer { total: 0 };
@@ -52,11 +50,8 @@ pub fn size<M: Fields>(message: &M, _cache: &mut SizeCache) -> Result<u32, Encod
     Ok(sizer.total)
 }
 
-/// The write pass.
-///
-/// # Errors
-/// [`EncodeError::OutOfMemory`] alone.
-pub fn write<M: Fields, S: EncodeSink>(
+// The write pass.
+fn write<M: Fields, S: EncodeSink>(
     message: &M,
     _cache: &mut SizeCache,
     sink: &mut S,
@@ -67,11 +62,8 @@ pub fn write<M: Fields, S: EncodeSink>(
     write_text(message, sink)
 }
 
-/// Merges the field whose tag was read.
-///
-/// # Errors
-/// Those of `Message::merge_field`.
-pub fn merge<M: Fields>(
+// Merges the field whose tag was read.
+fn merge<M: Fields>(
     message: &mut M,
     alloc: Global,
     tag: Tag,
@@ -86,32 +78,38 @@ pub fn merge<M: Fields>(
     message.take(alloc, tag, buf, ctx)
 }
 
-/// A message of a struct of one's own.
-#[derive(Drop)]
-pub struct Own<M: Fields>(pub M);
+/// A struct whose members say what it means, and its default.
+pub trait Listing: Fields + Blank<Meaning = <Self as Fields>::Meaning> {
+    /// It means what its members mean.
+    ghost means: { (m : Self) → Self.meaning m ≡ Self.layout.meaning m };
 
-impl<M: Fields> Blank for Own<M> {
-    type Meaning = M::Meaning;
-
-    ghost meaning = { λ m. M.layout.meaning m.0 };
-
-    ghost blank_is = { M.layout.blank };
-
-    fn blank(alloc: Global) -> Own<M> {
-        Own(M::blank(alloc))
-    }
+    /// So does the default.
+    ghost starts: { Self.blank_is ≡ Self.layout.blank };
 }
 
-impl<M: Fields> MessageSpec for Own<M> {
-    const COST: usize = M::COST;
+/// The form of messages by their members. With it a struct of one's own is a message:
+///
+/// ```ignore
+/// impl Listing for Inventory {
+///     ghost means = { λ m. refl };
+///
+///     ghost starts = { refl };
+/// }
+///
+/// impl Formed for Inventory {
+///     type Form = Listed;
+/// }
+/// ```
+pub struct Listed;
+
+impl<M: Listing> MessageForm<M> for Listed {
+    const COST: usize = <M as Fields>::COST;
 
     ghost COST = { M.COST };
 
     ghost merged = { merged_of M.layout.takes };
 
     ghost cost = { cost_of M.layout.need };
-
-    ghost text = { λ v. records_text (M.layout.records v) };
 
     ghost records = { M.layout.records };
 
@@ -120,10 +118,6 @@ impl<M: Fields> MessageSpec for Own<M> {
     ghost levels = { M.layout.levels };
 
     ghost normal = { λ v. M.layout.Owes × M.layout.normal v };
-
-    ghost text_records = { λ v. refl };
-
-    ghost merged_text = { λ d v fits normal low. reads_back M.layout normal.0 M.Fields.sound d v fits normal.1 low };
 
     ghost positive = { M.positive };
 
@@ -136,28 +130,30 @@ impl<M: Fields> MessageSpec for Own<M> {
     ghost cost_empty = { cost_of_none M.layout.need };
 
     ghost cost_next = { cost_of_next M.layout.need M.layout.stays };
-}
 
-impl<M: Fields> Message for Own<M> {
-    fn compute_size(&self, cache: &mut SizeCache) -> Result<u32, EncodeError> {
-        size(&self.0, cache)
+    fn compute_size(message: &M, cache: &mut SizeCache) -> Result<u32, EncodeError> {
+        size(message, cache)
     }
 
     fn write_to<S: EncodeSink>(
-        &self,
+        message: &M,
         cache: &mut SizeCache,
         sink: &mut S,
     ) -> Result<(), EncodeError> {
-        write(&self.0, cache, sink)
+        write(message, cache, sink)
     }
 
     fn merge_field(
-        &mut self,
+        message: &mut M,
         alloc: Global,
         tag: Tag,
         buf: &mut &[u8],
         ctx: DecodeContext<'_>,
     ) -> Result<(), DecodeError> {
-        merge(&mut self.0, alloc, tag, buf, ctx)
+        merge(message, alloc, tag, buf, ctx)
     }
+
+    ghost merged_text = { λ d v fits normal low.
+        ap (λ b. merged_of M.layout.takes d b (records_text (M.layout.records v))) M.Listing.starts
+        ∙ reads_back M.layout normal.0 M.sound d v fits normal.1 low };
 }

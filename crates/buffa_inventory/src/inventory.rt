@@ -7,11 +7,12 @@ use buffa_fields::fields::Fields;
 use buffa_fields::kept::{self, KeptFields};
 use buffa_fields::map_member::MapOf;
 use buffa_fields::member::Member;
+use buffa_fields::message::{Listed, Listing};
 use buffa_fields::optional::Optional;
 use buffa_fields::plain::Plain;
 use buffa_fields::visitor::Visitor;
 use buffa_map::map_codec::{Bool, Int32, Map, Str};
-use buffa_wire::{DecodeContext, DecodeError, Tag, UnknownFields};
+use buffa_wire::{Blank, DecodeContext, DecodeError, Formed, Tag, UnknownFields};
 use std::alloc::Global;
 use std::string::String;
 
@@ -48,15 +49,7 @@ impl Fields for Inventory {
         field 5 (λ m. m.counts) ⟦<MapOf<Str, Int32> as Member>⟧.slot (
         keep (λ m. m.rest.records))))) };
 
-    fn blank(alloc: Global) -> Inventory {
-        Inventory {
-            total: 0,
-            note: String::new(alloc),
-            listed: None,
-            counts: Map::new(alloc),
-            rest: UnknownFields::new(alloc),
-        }
-    }
+    ghost sound = { refl };
 
     fn visit<V: Visitor>(&self, visitor: &mut V) {
         visitor.visit::<Plain<Int32>>(1, &self.total);
@@ -81,6 +74,32 @@ impl Fields for Inventory {
             _ => kept::keep(alloc, &mut self.rest, tag, buf, ctx),
         }
     }
+}
 
-    ghost sound = { refl };
+impl Blank for Inventory {
+    type Meaning = <Inventory as Fields>::Meaning;
+
+    ghost meaning = { ⟦<Inventory as Fields>⟧.layout.meaning };
+
+    ghost blank_is = { ⟦<Inventory as Fields>⟧.layout.blank };
+
+    fn blank(alloc: Global) -> Inventory {
+        Inventory {
+            total: 0,
+            note: String::new(alloc),
+            listed: None,
+            counts: Map::new(alloc),
+            rest: UnknownFields::new(alloc),
+        }
+    }
+}
+
+impl Listing for Inventory {
+    ghost means = { λ m. refl };
+
+    ghost starts = { refl };
+}
+
+impl Formed for Inventory {
+    type Form = Listed;
 }

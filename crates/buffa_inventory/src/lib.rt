@@ -2,6 +2,5 @@
 #![tactic(auto)]
 
 pub mod inventory;
-pub mod inventory_message;
 pub mod maps;
 pub mod order;

@@ -2,31 +2,10 @@
 
 use crate::inventory::Inventory;
 use crate::order::Order;
-use buffa_fields::message::Own;
 use buffa_map::map_codec::{Map, Msg, Str, message_field_len, read_map_field};
 use buffa_wire::{DecodeContext, DecodeError, EncodeError, SizeCache};
 use std::alloc::Global;
 use std::string::String;
-
-/// The length of a map field.
-pub fn own_inventories_len(
-    map: &Map<String, Own<Inventory>>,
-    cache: &mut SizeCache,
-) -> Result<u64, EncodeError> {
-    message_field_len::<Str, Own<Inventory>, Map<String, Own<Inventory>>>(map, 1, cache)
-}
-
-/// Reads a map field.
-pub fn read_own_inventories(
-    alloc: Global,
-    map: &mut Map<String, Own<Inventory>>,
-    buf: &mut &[u8],
-    ctx: DecodeContext<'_>,
-) -> Result<(), DecodeError> {
-    read_map_field::<Str, Msg<Own<Inventory>>, Map<String, Own<Inventory>>, &[u8]>(
-        alloc, map, 1, buf, ctx, None,
-    )
-}
 
 /// The length of a map field.
 pub fn inventories_len(
@@ -49,21 +28,16 @@ pub fn read_inventories(
 }
 
 /// The length of a map field.
-pub fn own_orders_len(
-    map: &Map<String, Own<Order>>,
-    cache: &mut SizeCache,
-) -> Result<u64, EncodeError> {
-    message_field_len::<Str, Own<Order>, Map<String, Own<Order>>>(map, 1, cache)
+pub fn orders_len(map: &Map<String, Order>, cache: &mut SizeCache) -> Result<u64, EncodeError> {
+    message_field_len::<Str, Order, Map<String, Order>>(map, 1, cache)
 }
 
 /// Reads a map field.
-pub fn read_own_orders(
+pub fn read_orders(
     alloc: Global,
-    map: &mut Map<String, Own<Order>>,
+    map: &mut Map<String, Order>,
     buf: &mut &[u8],
     ctx: DecodeContext<'_>,
 ) -> Result<(), DecodeError> {
-    read_map_field::<Str, Msg<Own<Order>>, Map<String, Own<Order>>, &[u8]>(
-        alloc, map, 1, buf, ctx, None,
-    )
+    read_map_field::<Str, Msg<Order>, Map<String, Order>, &[u8]>(alloc, map, 1, buf, ctx, None)
 }

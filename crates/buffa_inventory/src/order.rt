@@ -7,11 +7,12 @@ use buffa_fields::fields::Fields;
 use buffa_fields::kept;
 use buffa_fields::map_member::MapOf;
 use buffa_fields::member::Member;
+use buffa_fields::message::{Listed, Listing};
 use buffa_fields::optional::Optional;
 use buffa_fields::plain::Plain;
 use buffa_fields::visitor::Visitor;
 use buffa_map::map_codec::{Bool, BytesVec, Fixed64, Int32, Int64, Map, Sint32, Str, Uint32};
-use buffa_wire::{DecodeContext, DecodeError, Tag};
+use buffa_wire::{Blank, DecodeContext, DecodeError, Formed, Tag};
 use std::alloc::Global;
 use std::string::String;
 
@@ -79,22 +80,7 @@ impl Fields for Order {
         field 12 (λ m. m.floor) ⟦<Optional<Int32> as Member>⟧.slot (
         skip)))))))))))) };
 
-    fn blank(alloc: Global) -> Order {
-        Order {
-            id: 0,
-            note: String::new(alloc),
-            gift: None,
-            weight: 0,
-            counts: Map::new(alloc),
-            blob: Vec::new(alloc),
-            delta: 0,
-            code: None,
-            stamp: 0,
-            names: Map::new(alloc),
-            urgent: false,
-            floor: None,
-        }
-    }
+    ghost sound = { refl };
 
     fn visit<V: Visitor>(&self, visitor: &mut V) {
         visitor.visit::<Plain<Int64>>(1, &self.id);
@@ -134,6 +120,39 @@ impl Fields for Order {
             _ => kept::pass(tag, buf, ctx),
         }
     }
+}
 
-    ghost sound = { refl };
+impl Blank for Order {
+    type Meaning = <Order as Fields>::Meaning;
+
+    ghost meaning = { ⟦<Order as Fields>⟧.layout.meaning };
+
+    ghost blank_is = { ⟦<Order as Fields>⟧.layout.blank };
+
+    fn blank(alloc: Global) -> Order {
+        Order {
+            id: 0,
+            note: String::new(alloc),
+            gift: None,
+            weight: 0,
+            counts: Map::new(alloc),
+            blob: Vec::new(alloc),
+            delta: 0,
+            code: None,
+            stamp: 0,
+            names: Map::new(alloc),
+            urgent: false,
+            floor: None,
+        }
+    }
+}
+
+impl Listing for Order {
+    ghost means = { λ m. refl };
+
+    ghost starts = { refl };
+}
+
+impl Formed for Order {
+    type Form = Listed;
 }

@@ -1,0 +1,176 @@
+//! Types whose reading and writing as messages another type says, once for all of them.
+
+ghost use Rattle.std.specs.Prelude.{◌≡◌, ◌≢◌, ◌++◌, ◌<◌, ◌≤◌, ℕ, List, [], Option, Some, refl};
+ghost use Rattle.std.specs.Option.{option_and_then};
+ghost use Rattle.buffa_bytes.specs.Field.{SomeField};
+ghost use Rattle.buffa_bytes.specs.Gives.{FullOnlyIf};
+ghost use Rattle.buffa_bytes.specs.Join.{Join};
+ghost use Rattle.buffa_wire.specs.BudgetLeft.{BudgetLeft, budget_left, nothing, plus};
+ghost use Rattle.buffa_wire.specs.Message.{MergesField};
+ghost use Rattle.buffa_wire.specs.Parse.{Fits};
+ghost use Rattle.buffa_wire.specs.Passes.{IsNext, IsSized, IsWritten};
+ghost use Rattle.buffa_wire.specs.Records.{Datum, records_of};
+ghost use Rattle.buffa_wire.specs.Text.{records_text};
+
+use crate::cache::SizeCache;
+use crate::context::DecodeContext;
+use crate::message::{Message, MessageSpec};
+use buffa_bytes::{Blank, DecodeError, EncodeError, EncodeSink, Tag, WireType};
+use std::alloc::Global;
+
+/// How the messages of a type are read and written: all that [`MessageSpec`] and [`Message`] ask.
+pub trait MessageForm<M: Blank> {
+    /// The units of element memory that a message costs where it is an element.
+    const COST: usize;
+
+    ghost COST: { ℕ };
+
+    /// At a depth, what merging bytes makes of a value, or none.
+    ghost merged: { ℕ → M.Meaning → List ℕ → Option M.Meaning };
+
+    /// At a depth, the slots and units that merging bytes costs, malformed ones too.
+    ghost cost: { ℕ → List ℕ → BudgetLeft };
+
+    /// The records that a value is written as.
+    ghost records: { M.Meaning → List (ℕ × Datum) };
+
+    /// The sizes of the messages in it, in the order in which its passes reserve and consume them.
+    ghost slots: { M.Meaning → List ℕ };
+
+    /// How deep groups and messages nest in the text.
+    ghost levels: { M.Meaning → ℕ };
+
+    /// The values that their text reads back to.
+    ghost normal: { M.Meaning → Type 0 };
+
+    /// An element has a cost.
+    ghost positive: { 0 < COST };
+
+    /// No bytes change nothing.
+    ghost merged_empty: { (d : ℕ) (v : M.Meaning) → merged d v [] ≡ Some v };
+
+    /// What is merged is a join of fields.
+    ghost merged_fields: { (d : ℕ) (v w : M.Meaning) (b : List ℕ) → merged d v b ≡ Some w → Join (SomeField d) b };
+
+    /// A field, and then what follows it.
+    ghost merged_next: { (d : ℕ) (v : M.Meaning) (f r : List ℕ) → SomeField d f → merged d v (f ++ r)
+        ≡ option_and_then (λ w. merged d w r) (merged d v f) };
+
+    /// No bytes cost nothing.
+    ghost cost_empty: { (d : ℕ) → cost d [] ≡ nothing };
+
+    /// Costs add over fields.
+    ghost cost_next: { (d : ℕ) (f r : List ℕ) → SomeField d f → cost d (f ++ r) ≡ plus (cost d f) (cost d r) };
+
+    /// The size pass.
+    ///
+    /// # Errors
+    /// Those of [`Message::compute_size`].
+    fn compute_size(message: &M, cache: &mut SizeCache) -> Result<u32, EncodeError>
+        ensures { IsSized (records_text (records (M.meaning message.now))) (slots (M.meaning message.now)) cache.old result
+            cache.new };
+
+    /// The write pass.
+    ///
+    /// # Errors
+    /// Those of [`Message::write_to`].
+    fn write_to<S: EncodeSink>(
+        message: &M,
+        cache: &mut SizeCache,
+        sink: &mut S,
+    ) -> Result<(), EncodeError>
+        requires { IsNext (slots (M.meaning message.now)) cache.old }
+        ensures { IsWritten (records_text (records (M.meaning message.now))) (slots (M.meaning message.now)) cache.old
+            (S.written sink.old) result cache.new (S.written sink.new) };
+
+    /// Merges the field whose tag was read.
+    ///
+    /// # Errors
+    /// Those of [`Message::merge_field`].
+    fn merge_field(
+        message: &mut M,
+        alloc: Global,
+        tag: Tag,
+        buf: &mut &[u8],
+        ctx: DecodeContext<'_>,
+    ) -> Result<(), DecodeError>
+        ensures merged { MergesField merged cost ctx.entry (M.meaning message.old) tag.number tag.wire_type buf.old.now
+            result (M.meaning message.new) (budget_left ctx.exit) buf.new.now }
+        ensures full { FullOnlyIf result (tag.wire_type ≢ WireType.EndGroup) };
+
+    /// The text reads back, where no length is too large to be read.
+    ghost merged_text: { (d : ℕ) (v : M.Meaning) → Fits (records_of (records v)) → normal v → levels v ≤ d →
+        merged d M.blank_is (records_text (records v)) ≡ Some v };
+}
+
+/// A type whose messages are read and written as another type says. It is a [`Message`] by that alone.
+pub trait Formed: Blank {
+    /// How: a [`MessageForm`] of it.
+    type Form;
+}
+
+impl<M: Formed> MessageSpec for M
+where
+    M::Form: MessageForm<M>,
+{
+    const COST: usize = <M::Form as MessageForm<M>>::COST;
+
+    ghost COST = { M.Form.COST };
+
+    ghost merged = { M.Form.merged };
+
+    ghost cost = { M.Form.cost };
+
+    ghost text = { λ v. records_text (M.Form.records v) };
+
+    ghost records = { M.Form.records };
+
+    ghost slots = { M.Form.slots };
+
+    ghost levels = { M.Form.levels };
+
+    ghost normal = { M.Form.normal };
+
+    ghost text_records = { λ v. refl };
+
+    ghost merged_text = { M.Form.MessageForm.merged_text };
+
+    ghost positive = { M.Form.positive };
+
+    ghost merged_empty = { M.Form.merged_empty };
+
+    ghost merged_fields = { M.Form.merged_fields };
+
+    ghost merged_next = { M.Form.merged_next };
+
+    ghost cost_empty = { M.Form.cost_empty };
+
+    ghost cost_next = { M.Form.cost_next };
+}
+
+impl<M: Formed> Message for M
+where
+    M::Form: MessageForm<M>,
+{
+    fn compute_size(&self, cache: &mut SizeCache) -> Result<u32, EncodeError> {
+        <M::Form as MessageForm<M>>::compute_size(self, cache)
+    }
+
+    fn write_to<S: EncodeSink>(
+        &self,
+        cache: &mut SizeCache,
+        sink: &mut S,
+    ) -> Result<(), EncodeError> {
+        <M::Form as MessageForm<M>>::write_to(self, cache, sink)
+    }
+
+    fn merge_field(
+        &mut self,
+        alloc: Global,
+        tag: Tag,
+        buf: &mut &[u8],
+        ctx: DecodeContext<'_>,
+    ) -> Result<(), DecodeError> {
+        <M::Form as MessageForm<M>>::merge_field(self, alloc, tag, buf, ctx)
+    }
+}
