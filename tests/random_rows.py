@@ -27,8 +27,9 @@ NUMBERS = "int32 int64 uint32 uint64 sint32 sint64 bool fixed32 fixed64 sfixed32
 OTHERS = "string bytes flat two count keep two-group count-group keep-group".split()
 CALLS = (
     "entry entry entry entry unlisted run run rewrite item skip unknown records varint merge merge get get one set steps "
-    "merge-delimited payload"
+    "merge-delimited payload decode decode tag equal"
 ).split()
+SCALARS = NUMBERS[:-2] + "string own-string word bytes own-bytes shared-bytes".split()
 VALUES = {
     "bool": "true", "string": '"q"', "bytes": "x01", "own-bytes": "x01", "shared-bytes": "x01", "open": "?7", "flat": "4",
     "two": "4,5", "keep": "x0805", "old": "1", "new": "2", "int32": "6", "uint32": "6",
@@ -215,6 +216,20 @@ class Maker:
             records(bytes.fromhex(step.partition("=")[2]))
         return " ".join(said)
 
+    def scalar_row(self, call):
+        """A payload or a tag by itself, or two lists of records."""
+        wire, behind = self.any.randrange(6), self.pick(b"", b"\x07")
+        if call == "decode":
+            kind = self.any.choice(SCALARS)
+            return kind, [], "-", self.mutated(self.payload(kind)) + behind
+        if call == "tag":
+            settings = self.pick([], [f"expect={self.pick(wire, self.any.randrange(6))}"])
+            number = self.pick(1, 5, 15, 16, 536870911, self.number())
+            return "-", settings, "-", self.mutated(self.varint((number * 8 + wire) % 2**64)) + behind
+        text = self.fields(3)
+        one, other = (b"".join(it[2] for it in records(it)) for it in (text, self.pick(text, self.mutated(text))))
+        return "-", [], one.hex() or "-", other
+
     def row(self):
         """A row without its answer."""
         call, types, settings, before, text, given = self.any.choice(CALLS), "-", [], "-", b"", ""
@@ -235,6 +250,8 @@ class Maker:
             types, settings = self.any.choice(sorted(KINDS)), self.settings()
             before = "-" if types in MESSAGES else '"q"' if types in STRINGS else VALUES.get(types, "6")
             text = self.mutated(self.payload(types) + self.pick(b"", b"", b"\xff"))
+        elif call in ("decode", "tag", "equal"):
+            types, settings, before, text = self.scalar_row(call)
         elif call == "item":
             settings, text = self.settings(), self.mutated(self.item())
         elif call == "varint":
