@@ -15,3 +15,5 @@ pub mod Layout
 pub mod LayoutLaws
 pub mod Members
 pub mod Slots
+pub mod Lists
+pub mod ListLaws

@@ -1,0 +1,22 @@
+use Rattle.std.proofs.Common.{◌≡◌, ◌∙◌, map, sym}
+use Rattle.buffa_fields.specs.ListLaws.{content_there, element_from_err, element_pushed}
+use Rattle.buffa_fields.specs.ValueLaws.{refused_plain}
+use Rattle.buffa_fields.proofs.list.take_element.Goals as goal
+
+pub returns-in-Err-clause-reads : goal.returns-in-Err-clause-reads
+returns-in-Err-clause-reads g c =
+    let codec = g.C.MapValueDecode.reading in
+    λ ne. element_from_err codec c.args.depth (map g.C.Value.Blank.meaning c.args.values.now.items) c.args.buf.now.now (g.C.Value.Blank.meaning c.blank-value.result)
+    (g.met.C.MapValueDecode.blank ∙ sym c.blank-value.ensures) c.in-Err.error
+    (refused_plain codec.nested codec c.args.depth (g.C.Value.Blank.meaning c.blank-value.result) c.args.buf.now.now _ c.in-Err.error g.met.C.MapCodec.plain (c.in-Err.ensures.fault ne))
+
+pub returns-in-Err-clause-full : goal.returns-in-Err-clause-full
+returns-in-Err-clause-full g c = λ full. (c.in-Err.ensures.full full).2
+
+pub returns-in_default-clause-full : goal.returns-in_default-clause-full
+returns-in_default-clause-full g c = λ full. content_there g.C.MapValueDecode.reading c.args.depth (g.C.Value.Blank.meaning c.blank-value.result) c.args.buf.now.now _ c.in-Ok.ensures.ok
+
+pub returns-clause-reads : goal.returns-clause-reads
+returns-clause-reads g c =
+    element_pushed g.C.Value.Blank.meaning g.C.MapValueDecode.reading c.args.depth c.args.values.now.items c.push.new.self.items c.merge.new.value c.args.buf.now.now (g.C.Value.Blank.meaning c.blank-value.result)
+    (g.met.C.MapValueDecode.blank ∙ sym c.blank-value.ensures) _ c.merge.new.buf.now c.in-Ok.ensures.ok c.in-Ok-push.ensures.items

@@ -1,0 +1,383 @@
+-- What is proved of repeated fields.
+use Rattle.std.proofs.Common.{◌≡◌, ◌≢◌, ◌⊎◌, inl, inr, ℕ, zero, suc, ◌+◌, ◌*◌, ◌^◌, ◌==◌, ◌<◌, ◌≤◌, min, Bool, true, false, List, [], ◌∷◌, ◌++◌, length, map, take, drop, get_or, Option, Some, None, Result, Ok, Err, IsOk, refl, sym, ap, subst, ◌∙◌, arith, append_assoc, append-nil, length-append, if◌then◌else◌}
+use Rattle.std.proofs.lemmas.Bool.{eq-eqb}
+use Rattle.std.proofs.lemmas.List.{map-append, take_more, drop_more, take-append-drop}
+use Rattle.buffa_bytes.proofs.ContentLemmas.{content_complete, content_sound}
+use Rattle.buffa_bytes.proofs.DelimitedLemmas.{delimited_back, delimited_complete, delimited_sound}
+use Rattle.buffa_bytes.proofs.FieldLemmas.{wire_small}
+use Rattle.buffa_bytes.proofs.SinkLemmas.{front_first, front_second}
+use Rattle.buffa_bytes.proofs.StepLemmas.{Agrees, agree_bind, agree_err, agree_ok}
+use Rattle.buffa_bytes.proofs.VarintLemmas.{IsVarint-varint_text, varint_falls}
+use Rattle.buffa_bytes.specs.Content.{Content, HasContent, content_at}
+use Rattle.buffa_bytes.specs.Content.Content.{number, bytes as held}
+use Rattle.buffa_bytes.specs.Field.{TakesDelimited}
+use Rattle.buffa_bytes.specs.Varint.{varint_text}
+use Rattle.buffa_bytes.specs.WireType.{wire_number}
+use Rattle.buffa_bytes.specs.declared.error.DecodeError.{DecodeError}
+use Rattle.buffa_bytes.specs.declared.error.DecodeError.TheVariants.{OutOfMemory, UnexpectedEof, WireTypeMismatch}
+use Rattle.buffa_bytes.specs.declared.wire_type.WireType.{WireType}
+use Rattle.buffa_bytes.specs.declared.wire_type.WireType.TheVariants.{Varint, Fixed64, LengthDelimited, StartGroup, EndGroup, Fixed32}
+use Rattle.buffa_wire.proofs.MessageLemmas.{NoLimit, length_no_limit}
+use Rattle.buffa_wire.proofs.SequenceLemmas.{err_same, ok_same}
+use Rattle.buffa_wire.specs.BudgetLeft.{BudgetLeft, nothing}
+use Rattle.buffa_wire.specs.Field.{IsTag, Payload}
+use Rattle.buffa_wire.specs.Gives.{◌>>=◌, FullOnlyIf, GivesUnlessFull}
+use Rattle.buffa_wire.specs.Message.{IsLimit}
+use Rattle.buffa_wire.specs.Number.{IsNumber}
+use Rattle.buffa_wire.specs.Parse.{Fits}
+use Rattle.buffa_wire.specs.Passes.{cap}
+use Rattle.buffa_wire.specs.Reading.{delimited_at}
+use Rattle.buffa_wire.specs.Records.{Datum, records_of}
+use Rattle.buffa_wire.specs.Sequence.{parse_all, parse_within}
+use Rattle.buffa_wire.specs.Text.{field_text, records_text}
+use Rattle.buffa_wire.specs.Values.{delimited_text, tag_text}
+use Rattle.buffa_wire.specs.WireType.{same_wire}
+use Rattle.buffa_wire.specs.Written.{WritesFront}
+use Rattle.buffa_map.proofs.EntryLemmas.{same_false, same_refl, value_complete, value_sound}
+use Rattle.buffa_map.specs.Codec.{Reading, ValueFault, Writing, level, value_at}
+use Rattle.buffa_fields.specs.FieldsLaws.{along_err, along_none, along_ok}
+use Rattle.buffa_fields.specs.LayoutLaws.{cap_more}
+use Rattle.buffa_fields.specs.Lists.{Each, TakesPacked, element_at, element_records, elements_in, elements_taken, packed_in, packed_records, packed_text}
+use Rattle.buffa_fields.specs.PairLaws.{records_text-append}
+use Rattle.buffa_fields.specs.Takes.{IsTaken, Leads, Piece, ReadsBack, Untaken, joined}
+use Rattle.buffa_fields.specs.ValueLaws.{content_payload, fault_no_limit, none_of}
+use Rattle.buffa_fields.specs.Values.{all_of, free}
+
+-- a payload has a byte
+has_byte : (w : WireType) (p : List ℕ) (c : Content) → HasContent w p c → 0 < length p
+has_byte Varint p (number n) h = varint_falls p n h
+has_byte Fixed64 p (number n) h = omega (arith, h.0)
+has_byte LengthDelimited p (held b) h = omega (arith, varint_falls h.0 (length b) h.1, ap length h.2, length-append h.0 b)
+has_byte Fixed32 p (number n) h = omega (arith, h.0)
+has_byte _ p c h = absurd h
+
+same_body : (a b x y : List ℕ) → (let r : Result (List ℕ × List ℕ) DecodeError = Ok (a, x) in r ≡ Ok (b, y)) → a ≡ b
+same_body a b x y h = ap (λ z. z.0) (ok_same h)
+
+-- a delimited payload, wherever it stands
+body_at : (d n : ℕ) (w : WireType) (bs p more : List ℕ) → w ≡ LengthDelimited → Payload d n w p → bs ≡ p ++ more →
+    (b : List ℕ) × (delimited_at bs ≡ Ok (b, more)) × (delimited_at p ≡ Ok (b, []))
+body_at d n w bs p more wire h split =
+    let u : Payload d n LengthDelimited p = subst (λ z. Payload d n z p) wire h in
+    let whole : delimited_at bs ≡ Ok (u.1, more) = ap delimited_at (split ∙ ap (λ (z : List ℕ). z ++ more) u.3 ∙ append_assoc u.0 u.1 more) ∙ delimited_complete u.0 u.1 more u.2 in
+    let alone : delimited_at p ≡ Ok (u.1, []) = ap delimited_at (u.3 ∙ ap (λ (z : List ℕ). u.0 ++ z) (sym (append-nil u.1))) ∙ delimited_complete u.0 u.1 [] u.2 in
+    (u.1, whole, alone)
+
+told : (e f : DecodeError) → e ≡ f → NoLimit f → NoLimit e
+told e f h k = subst (λ z. NoLimit z) (sym h) k
+
+module _ {V : Type 0} (codec : Reading V) (plain : codec.nested ≡ false)
+    (no_limit : (d : ℕ) (old : V) (c : Content) (x : DecodeError) → codec.reads d old c ≡ Err x → IsLimit x → ⊥) (d : ℕ) where
+  open_level : level codec.nested d ≡ Ok tt
+  open_level = rw plain refl
+
+  -- ---- one element
+  -- this payload at the front is read as an element
+  abbrev pub Reads : List V → List ℕ → List V → List ℕ → Type 0
+  Reads vs bs new rest =
+      (v : V × Bool) × (p : List ℕ) × (c : Content) × HasContent codec.wire p c × (codec.reads d codec.blank c ≡ Ok v) × (new ≡ vs ++ v.0 ∷ []) × (bs ≡ p ++ rest)
+
+  element_sound : (vs : List V) (bs : List ℕ) → Agrees (element_at codec d vs bs) (λ x. Reads vs bs x.0 x.1) (ValueFault codec d codec.blank bs)
+  element_sound vs bs = agree_bind (value_sound codec d codec.blank bs)
+      (λ x u. record { holds = (x.0, u.1, u.2, u.3, u.4, refl, u.5) })
+      (λ e h. h)
+
+  element_is : (vs : List V) (bs : List ℕ) (new : List V) (rest : List ℕ) → element_at codec d vs bs ≡ Ok (new, rest) → Reads vs bs new rest
+  element_is vs bs new rest h = agree_ok (element_at codec d vs bs) (new, rest) (element_sound vs bs) h
+
+  falls : (vs : List V) (bs : List ℕ) (x : List V × List ℕ) → element_at codec d vs bs ≡ Ok x → length x.1 < length bs
+  falls vs bs x h =
+      let u = element_is vs bs x.0 x.1 h in
+      omega (arith, has_byte codec.wire u.1 u.2 u.3, ap length u.6, length-append u.1 x.1)
+
+  pub element_falls : (vs : List V) (bs : List ℕ) (new : List V) (rest : List ℕ) → element_at codec d vs bs ≡ Ok (new, rest) → length rest < length bs
+  element_falls vs bs new rest h = falls vs bs (new, rest) h
+
+  value_err_of : (vs : List V) (bs : List ℕ) (e : DecodeError) (r : Result ((V × Bool) × List ℕ) DecodeError) → value_at codec d codec.blank bs ≡ r →
+      (r >>= (λ x. let y : List V × List ℕ = (vs ++ x.0.0 ∷ [], x.1) in Ok y)) ≡ Err e → value_at codec d codec.blank bs ≡ Err e
+  value_err_of vs bs e (Ok x) is h = cc
+  value_err_of vs bs e (Err f) is h = is ∙ ap (λ z. Err z) (err_same h)
+
+  element_no_limit : (vs : List V) (bs : List ℕ) (e : DecodeError) → element_at codec d vs bs ≡ Err e → NoLimit e
+  element_no_limit vs bs e h =
+      fault_no_limit codec plain no_limit d codec.blank 0 codec.wire bs nothing e (agree_err (element_at codec d vs bs) e (element_sound vs bs) h)
+
+  -- ---- elements one after the other
+  pub elements_end : (vs : List V) → elements_in codec d vs [] ≡ Ok vs
+  unfolding elements_in
+  elements_end vs = along_none (element_at codec d) falls vs
+
+  pub elements_done : (vs : List V) (bs : List ℕ) → length bs ≤ 0 → elements_in codec d vs bs ≡ Ok vs
+  elements_done vs [] h = elements_end vs
+  elements_done vs (b ∷ bs) h = absurd (omega (arith, h))
+
+  pub elements_next : (vs us : List V) (bs x : List ℕ) → 0 < length bs → element_at codec d vs bs ≡ Ok (us, x) → elements_in codec d vs bs ≡ elements_in codec d us x
+  unfolding elements_in
+  elements_next vs us bs x some h = along_ok (element_at codec d) falls vs us bs x some h
+
+  pub elements_err : (vs : List V) (bs : List ℕ) (e : DecodeError) → 0 < length bs → element_at codec d vs bs ≡ Err e → elements_in codec d vs bs ≡ Err e
+  unfolding elements_in
+  elements_err vs bs e some h = along_err (element_at codec d) falls vs bs e some h
+
+  then_no_limit : (k : ℕ) (vs : List V) (bs : List ℕ) (e : DecodeError) (r : Result (List V × List ℕ) DecodeError) → element_at codec d vs bs ≡ r →
+      (r >>= (λ x. parse_within (element_at codec d) k x.0 x.1)) ≡ Err e → ((us : List V) (x : List ℕ) → parse_within (element_at codec d) k us x ≡ Err e → NoLimit e) → NoLimit e
+  then_no_limit k vs bs e (Ok x) is h again = again x.0 x.1 h
+  then_no_limit k vs bs e (Err f) is h again = told e f (sym (err_same h)) (element_no_limit vs bs f is)
+
+  within_no_limit : (k : ℕ) (vs : List V) (bs : List ℕ) (e : DecodeError) → parse_within (element_at codec d) k vs bs ≡ Err e → NoLimit e
+  unfolding parse_within
+  within_no_limit k vs [] e h = cc
+  within_no_limit zero vs (b ∷ bs) e h = told e UnexpectedEof (sym (err_same h)) (λ l. l)
+  within_no_limit (suc k) vs (b ∷ bs) e h = then_no_limit k vs (b ∷ bs) e (element_at codec d vs (b ∷ bs)) refl h (λ us x q. within_no_limit k us x e q)
+
+  elements_no_limit : (vs : List V) (bs : List ℕ) (e : DecodeError) → elements_in codec d vs bs ≡ Err e → NoLimit e
+  unfolding elements_in parse_all
+  elements_no_limit vs bs e h = within_no_limit (length bs) vs bs e h
+
+  -- ---- a field is taken
+  module _ (vs : List V) (n : ℕ) (w : WireType) (bs : List ℕ) (before : BudgetLeft) where
+    unspent : (before.unknown ≤ before.unknown) × (before.unknown ≤ before.unknown + 0) × (before.memory ≤ before.memory) × (before.memory ≤ before.memory + 0)
+    unspent = (omega arith, omega arith, omega arith, omega arith)
+
+    pub element_ok : (new : List V) (rest : List ℕ) → w ≡ codec.wire → element_at codec d vs bs ≡ Ok (new, rest) →
+        IsTaken (elements_taken codec) free d vs n w bs before (let r : Result (Unit {0}) DecodeError = Ok tt in r) new before rest
+    unfolding elements_taken
+    element_ok new rest wire h =
+        let u = element_is vs bs new rest h in
+        let same : same_wire codec.wire w ≡ true = ap (same_wire codec.wire) wire ∙ same_refl codec.wire in
+        let is : value_at codec d codec.blank u.1 ≡ Ok (u.0, []) =
+        ap (value_at codec d codec.blank) (sym (append-nil u.1)) ∙ value_complete codec d codec.blank u.1 [] u.2 u.0 open_level u.3 u.4 in
+        (u.1, subst (λ z. Payload d n z u.1) (sym wire) (content_payload d n codec.wire u.1 u.2 u.3), u.6, rw (same, is) (ap (λ z. Some z) (sym u.5)), (omega arith, omega arith))
+
+    pub element_err : (e : DecodeError) (new : List V) (rest : List ℕ) → w ≡ codec.wire → (e ≢ OutOfMemory → element_at codec d vs bs ≡ Err e) → (e ≡ OutOfMemory → IsOk (content_at codec.wire bs)) →
+        IsTaken (elements_taken codec) free d vs n w bs before (let r : Result (Unit {0}) DecodeError = Err e in r) new before rest
+    unfolding elements_taken
+    element_err e new rest wire h full = (
+      unspent,
+      λ ne. inr (
+        (λ p more payload split.
+            rw (ap (same_wire codec.wire) wire ∙ same_refl codec.wire, none_of codec plain no_limit d codec.blank n w bs before e p more split (value_err_of vs bs e (value_at codec d codec.blank bs) refl (h ne)) (value_at codec d codec.blank p) refl) refl),
+        element_no_limit vs bs e (h ne),
+      ),
+      λ no end. let there = subst (λ z. IsOk (content_at z bs)) (sym wire ∙ end) (full no) in cc,
+    )
+
+    pub neither_err : (e : DecodeError) (new : List V) (rest : List ℕ) → w ≢ codec.wire → w ≢ LengthDelimited → e ≡ WireTypeMismatch n codec.wire w →
+        IsTaken (elements_taken codec) free d vs n w bs before (let r : Result (Unit {0}) DecodeError = Err e in r) new before rest
+    unfolding elements_taken
+    neither_err e new rest other others is = (
+      unspent,
+      λ ne. inr ((λ p more payload split. rw (same_false codec.wire w other, same_false LengthDelimited w others) refl), told e (WireTypeMismatch n codec.wire w) is (λ l. l)),
+      λ full end. let k = sym full ∙ is in cc,
+    )
+
+    -- ---- packed elements
+    module _ (other : w ≢ codec.wire) (wire : w ≡ LengthDelimited) where
+      off : same_wire codec.wire w ≡ false
+      off = same_false codec.wire w other
+
+      pub packed_ok : (new : List V) (b rest : List ℕ) → delimited_at bs ≡ Ok (b, rest) → elements_in codec d vs b ≡ Ok new →
+          IsTaken (elements_taken codec) free d vs n w bs before (let r : Result (Unit {0}) DecodeError = Ok tt in r) new before rest
+      unfolding elements_taken
+      packed_ok new b rest h all =
+          let t = agree_ok (delimited_at bs) (b, rest) (delimited_sound bs) h in
+          let alone : delimited_at (t.0 ++ b) ≡ Ok (b, []) = ap delimited_at (ap (λ (z : List ℕ). t.0 ++ z) (sym (append-nil b))) ∙ delimited_complete t.0 b [] t.1 in (
+            t.0 ++ b,
+            subst (λ z. Payload d n z (t.0 ++ b)) (sym wire) (t.0, b, t.1, refl),
+            t.2 ∙ sym (append_assoc t.0 b rest),
+            rw (off, wire, alone, all) refl,
+            (omega arith, omega arith),
+          )
+
+      pub body_err : (e : DecodeError) (new : List V) (rest : List ℕ) → delimited_at bs ≡ Err e →
+          IsTaken (elements_taken codec) free d vs n w bs before (let r : Result (Unit {0}) DecodeError = Err e in r) new before rest
+      unfolding elements_taken
+      body_err e new rest h = (
+        unspent,
+        λ ne. inr ((λ p more payload split. let u = body_at d n w bs p more wire payload split in let k = sym u.1 ∙ h in cc), length_no_limit bs e (agree_err (delimited_at bs) e (delimited_sound bs) h)),
+        λ full end. let k = sym wire ∙ end in cc,
+      )
+
+      pub packed_err : (e : DecodeError) (new : List V) (b after rest : List ℕ) → delimited_at bs ≡ Ok (b, after) → (e ≢ OutOfMemory → elements_in codec d vs b ≡ Err e) →
+          IsTaken (elements_taken codec) free d vs n w bs before (let r : Result (Unit {0}) DecodeError = Err e in r) new before rest
+      unfolding elements_taken
+      packed_err e new b after rest h bad = (
+        unspent,
+        λ ne. inr (
+          (λ p more payload split.
+              let u = body_at d n w bs p more wire payload split in
+              let one : u.0 ≡ b = same_body u.0 b more after (sym u.1 ∙ h) in
+              rw (off, wire, u.2, one, bad ne) refl),
+          elements_no_limit vs b e (bad ne),
+        ),
+        λ full end. let k = sym wire ∙ end in cc,
+      )
+
+    -- ---- what calls give
+    pub element_taken : (r : Result (Unit {0}) DecodeError) (new : List V) (rest : List ℕ) → w ≡ codec.wire → GivesUnlessFull (λ _. let y : List V × List ℕ = (new, rest) in y) r (element_at codec d vs bs) → FullOnlyIf r (IsOk (content_at codec.wire bs)) →
+        IsTaken (elements_taken codec) free d vs n w bs before r new before rest
+    element_taken (Ok _) new rest wire h full = element_ok new rest wire h
+    element_taken (Err e) new rest wire h full = element_err e new rest wire h full
+
+    pub packed_taken : (r : Result (Unit {0}) DecodeError) (new : List V) (rest : List ℕ) → w ≢ codec.wire → w ≡ LengthDelimited → TakesPacked codec d vs bs r new rest →
+        IsTaken (elements_taken codec) free d vs n w bs before r new before rest
+    packed_taken (Ok _) new rest other wire (b, h, all) = packed_ok other wire new b rest h all
+    packed_taken (Err e) new rest other wire (inl h) = body_err other wire e new rest h
+    packed_taken (Err e) new rest other wire (inr (b, after, h, bad)) = packed_err other wire e new b after rest h bad
+
+-- ---- the text reads back
+module _ {V : Type 0} (reading : Reading V) (writing : Writing V) (datum : V → Datum) (n : ℕ) (is_number : IsNumber n) (d : ℕ) (plain : reading.nested ≡ false)
+    (no_limit : (d : ℕ) (old : V) (c : Content) (x : DecodeError) → reading.reads d old c ≡ Err x → IsLimit x → ⊥)
+    (WIRE : WireType) (wire : reading.wire ≡ WIRE) (written : writing.wire ≡ WIRE) (Fit Normal : V → Type 0)
+    (reads_back : (d : ℕ) (old v : V) → Fit v → Normal v → (c : Content) × HasContent writing.wire (writing.text v) c × (reading.reads d old c ≡ Ok (v, true)))
+    (datum_text : (n : ℕ) (v : V) → tag_text n writing.wire ++ writing.text v ≡ field_text n (datum v)) where
+  same : reading.wire ≡ writing.wire
+  same = wire ∙ sym written
+
+  small_tag : (w : WireType) → 8 * n + wire_number w < 2 ^ 64
+  small_tag w = omega (arith, is_number.0, is_number.1, wire_small w)
+
+  tag_is : (w : WireType) → IsTag (tag_text n w) n w
+  tag_is w = (is_number, IsVarint-varint_text (8 * n + wire_number w) (small_tag w))
+
+  at_front : (v : V) (rest : List ℕ) → Fit v → Normal v → value_at reading d reading.blank (writing.text v ++ rest) ≡ Ok ((v, true), rest)
+  at_front v rest fit normal =
+      let r = reads_back d reading.blank v fit normal in
+      value_complete reading d reading.blank (writing.text v) rest r.0 (v, true) (rw plain refl) (subst (λ z. HasContent z (writing.text v) r.0) (sym same) r.1) r.2
+
+  alone : (v : V) → Fit v → Normal v → value_at reading d reading.blank (writing.text v) ≡ Ok ((v, true), [])
+  alone v fit normal = ap (value_at reading d reading.blank) (sym (append-nil (writing.text v))) ∙ at_front v [] fit normal
+
+  abbrev piece : V → Piece
+  piece v = record { tag = tag_text n writing.wire; number = n; wire = writing.wire; payload = writing.text v }
+
+  spelled_all : (vs : List V) → records_text (element_records datum n vs) ≡ joined (map piece vs)
+  unfolding element_records
+  spelled_all [] = refl
+  spelled_all (v ∷ vs) = λ i. sym (datum_text n v) i ++ spelled_all vs i
+
+  takes_one : (acc : List V) (v : V) → Fit v → Normal v → elements_taken reading d acc n writing.wire (writing.text v) ≡ Some (acc ++ v ∷ [])
+  unfolding elements_taken
+  takes_one acc v fit normal = rw (ap (same_wire reading.wire) (sym same) ∙ same_refl reading.wire, alone v fit normal) refl
+
+  leads_all : (acc vs : List V) → Each (λ v. Fit v × Normal v) vs → Leads (elements_taken reading) (λ m. m == n) d acc (map piece vs) (acc ++ vs)
+  leads_all acc [] h = sym (append-nil acc)
+  leads_all acc (v ∷ vs) h =
+      let r = reads_back d reading.blank v h.0.0 h.0.1 in (
+        eq-eqb n n refl,
+        tag_is writing.wire,
+        content_payload d n writing.wire (writing.text v) r.0 r.1,
+        acc ++ v ∷ [],
+        takes_one acc v h.0.0 h.0.1,
+        subst (λ z. Leads (elements_taken reading) (λ m. m == n) d (acc ++ v ∷ []) (map piece vs) z) (append_assoc acc (v ∷ []) vs) (leads_all (acc ++ v ∷ []) vs h.1),
+      )
+
+  pub elements_back : (vs : List V) → Each (λ v. Fit v × Normal v) vs → ReadsBack (elements_taken reading) (λ m. m == n) d [] (records_text (element_records datum n vs)) vs
+  elements_back vs h = record { pieces = map piece vs; spelled = spelled_all vs; leads = leads_all [] vs h }
+
+  -- ---- packed
+  unpacks : (acc vs : List V) → Each (λ v. Fit v × Normal v) vs → elements_in reading d acc (packed_text writing.text vs) ≡ Ok (acc ++ vs)
+  unpacks acc [] h = elements_end reading plain no_limit d acc ∙ ap (λ z. Ok z) (sym (append-nil acc))
+  unpacks acc (v ∷ vs) h =
+      let r = reads_back d reading.blank v h.0.0 h.0.1 in
+      let rest = packed_text writing.text vs in
+      let some : 0 < length (writing.text v ++ rest) = omega (arith, has_byte writing.wire (writing.text v) r.0 r.1, length-append (writing.text v) rest) in
+      elements_next reading plain no_limit d acc (acc ++ v ∷ []) (writing.text v ++ rest) rest some (rw (at_front v rest h.0.0 h.0.1) refl)
+      ∙ unpacks (acc ++ v ∷ []) vs h.1 ∙ ap (λ z. Ok z) (append_assoc acc (v ∷ []) vs)
+
+  takes_packed : same_wire reading.wire LengthDelimited ≡ false → (vs : List V) → Each (λ v. Fit v × Normal v) vs → length (packed_text writing.text vs) < 2 ^ 64 →
+      elements_taken reading d [] n LengthDelimited (delimited_text (packed_text writing.text vs)) ≡ Some vs
+  unfolding elements_taken
+  takes_packed off vs h fits =
+      let b = packed_text writing.text vs in
+      let is : delimited_at (delimited_text b) ≡ Ok (b, []) = ap delimited_at (sym (append-nil (delimited_text b))) ∙ delimited_back b [] fits in
+      rw (off, is, unpacks [] vs h) refl
+
+  pub packed_back : same_wire reading.wire LengthDelimited ≡ false → (vs : List V) → Fits (records_of (packed_records writing.text n vs)) → Each (λ v. Fit v × Normal v) vs →
+      ReadsBack (elements_taken reading) (λ m. m == n) d [] (records_text (packed_records writing.text n vs)) vs
+  unfolding packed_records
+  packed_back apart [] fits h = record { pieces = []; spelled = refl; leads = refl }
+  packed_back apart (v ∷ vs) fits h =
+      let b = packed_text writing.text (v ∷ vs) in
+      let one : Piece = record { tag = tag_text n LengthDelimited; number = n; wire = LengthDelimited; payload = delimited_text b } in
+      record {
+        pieces = one ∷ [];
+        spelled = refl;
+        leads = (eq-eqb n n refl, tag_is LengthDelimited, (varint_text (length b), b, IsVarint-varint_text (length b) fits.1, refl), v ∷ vs, takes_packed apart (v ∷ vs) h fits.1, refl);
+      }
+
+-- ---- what calls give
+pub element_from : {V : Type 0} (codec : Reading V) (d : ℕ) (vs : List V) (bs : List ℕ) (blank : V) → codec.blank ≡ blank → (x : V) (known : Bool) (rest : List ℕ) →
+    value_at codec d blank bs ≡ Ok ((x, known), rest) → element_at codec d vs bs ≡ Ok (vs ++ x ∷ [], rest)
+element_from {V} codec d vs bs blank e x known rest h =
+    ap (λ z. value_at codec d z bs >>= (λ x. let y : List V × List ℕ = (vs ++ x.0.0 ∷ [], x.1) in Ok y)) e ∙ rw h refl
+
+pub element_from_err : {V : Type 0} (codec : Reading V) (d : ℕ) (vs : List V) (bs : List ℕ) (blank : V) → codec.blank ≡ blank → (e : DecodeError) →
+    value_at codec d blank bs ≡ Err e → element_at codec d vs bs ≡ Err e
+element_from_err {V} codec d vs bs blank same e h =
+    ap (λ z. value_at codec d z bs >>= (λ x. let y : List V × List ℕ = (vs ++ x.0.0 ∷ [], x.1) in Ok y)) same ∙ rw h refl
+
+-- a value that was read and pushed
+pub element_pushed : {P V : Type 0} (meaning : P → V) (codec : Reading V) (d : ℕ) (xs ys : List P) (x : P) (bs : List ℕ) (blank : V) → codec.blank ≡ blank → (known : Bool) (rest : List ℕ) →
+    value_at codec d blank bs ≡ Ok ((meaning x, known), rest) → ys ≡ xs ++ x ∷ [] → element_at codec d (map meaning xs) bs ≡ Ok (map meaning ys, rest)
+element_pushed {V = V} meaning codec d xs ys x bs blank same known rest h e =
+    element_from codec d (map meaning xs) bs blank same (meaning x) known rest h
+    ∙ ap (λ (z : List V). let y : List V × List ℕ = (z, rest) in Ok y) (sym (ap (map meaning) e ∙ map-append meaning xs (x ∷ [])))
+
+pub content_there : {V : Type 0} (codec : Reading V) (d : ℕ) (v : V) (bs : List ℕ) (x : (V × Bool) × List ℕ) → value_at codec d v bs ≡ Ok x → IsOk (content_at codec.wire bs)
+content_there codec d v bs x h =
+    let u = agree_ok (value_at codec d v bs) x (value_sound codec d v bs) h in
+    subst (λ r. IsOk r) (sym (ap (content_at codec.wire) u.5 ∙ content_complete codec.wire u.1 u.2 x.1 u.3)) refl
+
+-- ---- sizes and texts, element by element
+pub means_more : {V M : Type 0} (meaning : V → M) (xs : List V) (i : ℕ) (x : V) → i < length xs → x ≡ get_or xs i x → map meaning (take (i + 1) xs) ≡ map meaning (take i xs) ++ meaning x ∷ []
+means_more meaning xs i x lt e = ap (map meaning) (take_more xs i x lt) ∙ map-append meaning (take i xs) (get_or xs i x ∷ []) ∙ ap (λ y. map meaning (take i xs) ++ meaning y ∷ []) (sym e)
+
+pub means_cut : {V M : Type 0} (meaning : V → M) (xs : List V) (i : ℕ) (x : V) → i < length xs → x ≡ get_or xs i x → map meaning xs ≡ map meaning (take i xs) ++ meaning x ∷ map meaning (drop (i + 1) xs)
+means_cut meaning xs i x lt e =
+    ap (map meaning) (sym (take-append-drop i xs)) ∙ map-append meaning (take i xs) (drop i xs)
+    ∙ ap (λ l. map meaning (take i xs) ++ map meaning l) (drop_more xs i x lt) ∙ ap (λ y. map meaning (take i xs) ++ meaning y ∷ map meaning (drop (i + 1) xs)) (sym e)
+
+module _ {V : Type 0} (datum : V → Datum) (n : ℕ) where
+  text_two : (vs us : List V) → records_text (element_records datum n (vs ++ us)) ≡ records_text (element_records datum n vs) ++ records_text (element_records datum n us)
+  unfolding element_records
+  text_two vs us = ap records_text (map-append (λ v. (n, datum v)) vs us) ∙ records_text-append (map (λ v. (n, datum v)) vs) (map (λ v. (n, datum v)) us)
+
+  text_one : (v : V) → records_text (element_records datum n (v ∷ [])) ≡ records_text ((n, datum v) ∷ [])
+  unfolding element_records
+  text_one v = refl
+
+  text_more : (vs : List V) (v : V) → records_text (element_records datum n (vs ++ v ∷ [])) ≡ records_text (element_records datum n vs) ++ records_text ((n, datum v) ∷ [])
+  text_more vs v = text_two vs (v ∷ []) ∙ ap (λ (z : List ℕ). records_text (element_records datum n vs) ++ z) (text_one v)
+
+  pub text_none : (old : List ℕ) → old ≡ old ++ records_text (element_records datum n [])
+  unfolding element_records
+  text_none old = sym (append-nil old)
+
+  pub count_none : 0 ≡ cap (length (records_text (element_records datum n [])))
+  unfolding element_records
+  count_none = refl
+
+  module _ {P : Type 0} (meaning : P → V) (xs : List P) (i : ℕ) (x : P) (lt : i < length xs) (is : x ≡ get_or xs i x) where
+    abbrev text_to : ℕ → List ℕ
+    text_to k = records_text (element_records datum n (map meaning (take k xs)))
+
+    abbrev here : List ℕ
+    here = records_text ((n, datum (meaning x)) ∷ [])
+
+    to_next : text_to (i + 1) ≡ text_to i ++ here
+    to_next = ap (λ (z : List V). records_text (element_records datum n z)) (means_more meaning xs i x lt is) ∙ text_more (map meaning (take i xs)) (meaning x)
+
+    pub len_more : (total len new : ℕ) → total ≡ cap (length (text_to i)) → len ≡ cap (length here) → new ≡ min (total + len) 4294967295 → new ≡ cap (length (text_to (i + 1)))
+    len_more total len new h k e = cap_more (length (text_to i)) (length here) total len new h k e ∙ ap cap (sym (length-append (text_to i) here) ∙ ap length (sym to_next))
+
+    pub write_more : (old mid new : List ℕ) → mid ≡ old ++ text_to i → new ≡ mid ++ here → new ≡ old ++ text_to (i + 1)
+    write_more old mid new h k = k ∙ ap (λ (z : List ℕ). z ++ here) h ∙ append_assoc old (text_to i) here ∙ ap (λ (z : List ℕ). old ++ z) (sym to_next)
+
+    pub write_stops : (old mid new : List ℕ) → mid ≡ old ++ text_to i → WritesFront mid here new → WritesFront old (records_text (element_records datum n (map meaning xs))) new
+    write_stops old mid new h front =
+        let rest = map meaning (drop (i + 1) xs) in
+        let all : records_text (element_records datum n (map meaning xs)) ≡ (text_to i ++ here) ++ records_text (element_records datum n rest) =
+        ap (λ (z : List V). records_text (element_records datum n z)) (means_cut meaning xs i x lt is ∙ sym (append_assoc (map meaning (take i xs)) (meaning x ∷ []) rest))
+        ∙ text_two (map meaning (take i xs) ++ meaning x ∷ []) rest ∙ ap (λ (z : List ℕ). z ++ records_text (element_records datum n rest)) (text_more (map meaning (take i xs)) (meaning x)) in
+        subst (λ (z : List ℕ). WritesFront old z new) (sym all) (front_first old (text_to i ++ here) (records_text (element_records datum n rest)) new (front_second old (text_to i) here mid new h front))

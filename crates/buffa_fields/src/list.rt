@@ -1,0 +1,157 @@
+//! Lists of values: each in a field of its own, or packed into one.
+
+ghost use Rattle.std.specs.Prelude.{◌≡◌, IsOk, length, map};
+ghost use Rattle.buffa_bytes.specs.Content.{content_at};
+ghost use Rattle.buffa_bytes.specs.Gives.{FullOnlyIf, Gives, GivesUnlessFull};
+ghost use Rattle.buffa_bytes.specs.Reading.{delimited_at};
+ghost use Rattle.buffa_wire.specs.BudgetLeft.{BudgetLeft};
+ghost use Rattle.buffa_wire.specs.Number.{IsNumber};
+ghost use Rattle.buffa_wire.specs.Passes.{cap};
+ghost use Rattle.buffa_wire.specs.Text.{records_text};
+ghost use Rattle.buffa_wire.specs.Written.{Writes};
+ghost use Rattle.buffa_fields.specs.Lists.{TakesPacked, element_at, element_records, elements_in, elements_taken};
+ghost use Rattle.buffa_fields.specs.Takes.{IsTaken};
+ghost use Rattle.buffa_fields.specs.Values.{free};
+
+use crate::kind::Kind;
+use crate::value::{value_len, write_value};
+use buffa_map::map_codec::{MapCodec, MapValueDecode};
+use buffa_wire::{
+    Blank, Budget, Buf, DecodeContext, DecodeError, EncodeError, EncodeSink, Tag, WireType,
+    check_wire_type, decode_varint,
+};
+use std::alloc::Global;
+
+// Reads the element at the front, and puts it behind the others. Nothing is spent.
+#[tactic(auto, using(crate::specs::ListLaws::element_pushed, crate::specs::ListLaws::content_there))]
+fn take_element<C: MapCodec>(
+    alloc: Global,
+    values: &mut Vec<C::Value>,
+    buf: &mut &[u8],
+    depth: u32,
+) -> Result<(), DecodeError>
+    ensures reads { GivesUnlessFull (λ _. (map C.Value.meaning values.new.items, buf.new.now)) result
+        (element_at C.reading depth (map C.Value.meaning values.old.items) buf.old.now) }
+    ensures full { FullOnlyIf result (IsOk (content_at C.reading.wire buf.old.now)) }
+{
+    let mut none = Budget::new(0);
+    let lent = DecodeContext {
+        depth,
+        budget: &mut none,
+    };
+    let mut value = <C::Value as Blank>::blank(alloc);
+    match C::merge(alloc, &mut value, buf, lent) {
+        Ok(_) => {}
+        Err(error) => return Err(error),
+    }
+    let Ok(()) = values.push(value) else {
+        return Err(DecodeError::OutOfMemory);
+    };
+    Ok(())
+}
+
+// Reads elements to the end of the bytes.
+fn take_all<C: MapCodec>(
+    alloc: Global,
+    values: &mut Vec<C::Value>,
+    body: &[u8],
+    depth: u32,
+) -> Result<(), DecodeError>
+    ensures { GivesUnlessFull (λ _. map C.Value.meaning values.new.items) result
+        (elements_in C.reading depth (map C.Value.meaning values.old.items) body.now) }
+{
+    let mut rest = body;
+    while rest.remaining() > 0 {
+        match take_element::<C>(alloc, values, &mut rest, depth) {
+            Ok(()) => {}
+            Err(error) => return Err(error),
+        }
+    }
+    Ok(())
+}
+
+// The length and so many bytes at the front.
+#[tactic(auto, unfolding(buffa_bytes::specs::Reading::taken))]
+fn take_body<'a>(buf: &mut &'a [u8]) -> Result<&'a [u8], DecodeError>
+    ensures { Gives (λ b. (b.now, buf.new.now)) result (delimited_at buf.old.now) }
+{
+    let len = match decode_varint(buf) {
+        Ok(len) => len,
+        Err(error) => return Err(error),
+    };
+    let bytes = *buf;
+    if len > bytes.len() as u64 {
+        return Err(DecodeError::UnexpectedEof);
+    }
+    *buf = &bytes[len as usize..];
+    Ok(&bytes[..len as usize])
+}
+
+// Reads a length and so many bytes of elements.
+fn take_packed<C: MapCodec>(
+    alloc: Global,
+    values: &mut Vec<C::Value>,
+    buf: &mut &[u8],
+    depth: u32,
+) -> Result<(), DecodeError>
+    ensures { TakesPacked C.reading depth (map C.Value.meaning values.old.items) buf.old.now result
+        (map C.Value.meaning values.new.items) buf.new.now }
+{
+    match take_body(buf) {
+        Ok(body) => take_all::<C>(alloc, values, body, depth),
+        Err(error) => Err(error),
+    }
+}
+
+// Merges the elements of the field whose tag was read.
+pub(crate) fn take_elements<C: MapCodec>(
+    alloc: Global,
+    values: &mut Vec<C::Value>,
+    tag: Tag,
+    buf: &mut &[u8],
+    depth: u32,
+) -> Result<(), DecodeError>
+    ensures { (left : BudgetLeft) → IsTaken (elements_taken C.reading) free depth
+        (map C.Value.meaning values.old.items) tag.number tag.wire_type buf.old.now left result
+        (map C.Value.meaning values.new.items) left buf.new.now }
+{
+    match check_wire_type(tag, C::WIRE_TYPE) {
+        Ok(()) => take_element::<C>(alloc, values, buf, depth),
+        Err(error) => match check_wire_type(tag, WireType::LengthDelimited) {
+            Ok(()) => take_packed::<C>(alloc, values, buf, depth),
+            Err(_) => Err(error),
+        },
+    }
+}
+
+// The length of the fields of elements, or 2^32 - 1 where it is more.
+pub(crate) fn elements_len<C: Kind>(number: u32, values: &[C::Value]) -> u32
+    requires { IsNumber number }
+    ensures { result ≡ cap (length (records_text
+        (element_records C.datum number (map C.Value.meaning values.now)))) }
+{
+    let mut total: u32 = 0;
+    for value in values {
+        total = total.saturating_add(value_len::<C>(number, value));
+    }
+    total
+}
+
+// Writes a field for each element.
+pub(crate) fn write_elements<C: Kind, S: EncodeSink>(
+    number: u32,
+    values: &[C::Value],
+    sink: &mut S,
+) -> Result<(), EncodeError>
+    requires { IsNumber number }
+    ensures { Writes result (S.written sink.old) (records_text
+        (element_records C.datum number (map C.Value.meaning values.now))) (S.written sink.new) }
+{
+    for value in values {
+        match write_value::<C, S>(number, value, sink) {
+            Ok(()) => {}
+            Err(error) => return Err(error),
+        }
+    }
+    Ok(())
+}

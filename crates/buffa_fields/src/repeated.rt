@@ -1,0 +1,65 @@
+//! Members that are lists.
+
+ghost use Rattle.std.specs.Prelude.{[], map, refl, ◌==◌};
+ghost use Rattle.buffa_fields.specs.Lists.{Each, element_records, elements_taken};
+ghost use Rattle.buffa_fields.specs.ListLaws.{elements_back};
+ghost use Rattle.buffa_fields.specs.Values.{free};
+
+use crate::kind::Kind;
+use crate::list::{elements_len, take_elements, write_elements};
+use crate::member::Member;
+use buffa_map::map_codec::{MapCodec, MapValueDecode};
+use buffa_wire::{Blank, DecodeContext, DecodeError, EncodeError, EncodeSink, Tag};
+use std::alloc::Global;
+use std::marker::PhantomData;
+
+/// A list of scalars, strings or bytes: each element is written in a field of its own. Packed ones are read too.
+pub struct Repeated<C> {
+    of: PhantomData<C>,
+}
+
+impl<C: Kind> Member for Repeated<C> {
+    type Part = Vec<C::Value>;
+
+    type Meaning = [<C::Value as Blank>::Meaning; 0];
+
+    ghost slot = { record {
+      meaning = λ vs. map C.Value.meaning vs.items;
+      blank = [];
+      takes = elements_taken C.reading;
+      need = free;
+      records = element_records C.datum;
+      levels = λ _. 0;
+      normal = λ vs. Each (λ v. C.fits v × C.normal v) vs;
+      stays = λ d n w p x h. refl;
+    } };
+
+    fn len(number: u32, part: &Vec<C::Value>) -> u32 {
+        elements_len::<C>(number, part.as_slice())
+    }
+
+    fn write_to<S: EncodeSink>(
+        number: u32,
+        part: &Vec<C::Value>,
+        sink: &mut S,
+    ) -> Result<(), EncodeError> {
+        write_elements::<C, S>(number, part.as_slice(), sink)
+    }
+
+    #[tactic(auto, unfolding(crate::specs::Layout::Took))]
+    fn merge(
+        part: &mut Vec<C::Value>,
+        alloc: Global,
+        tag: Tag,
+        buf: &mut &[u8],
+        ctx: DecodeContext<'_>,
+    ) -> Result<(), DecodeError> {
+        take_elements::<C>(alloc, part, tag, buf, ctx.depth)
+    }
+
+    ghost back = { record {
+      back = λ k number d v fits normal low. elements_back C.reading C.writing C.datum k number d C.MapCodec.plain
+          C.MapValueDecode.no_limit C.WIRE_TYPE C.MapValueDecode.wire C.MapCodec.written_wire C.fits C.normal
+          C.MapCodec.reads_back C.Kind.datum_text v normal;
+    } };
+}
