@@ -77,7 +77,7 @@ impl Run<'_> {
     ) -> Result<Option<Outcome>, Fault> {
         let mut mark = Mark::new(self.errors, nth);
         match group_of(self.case.call) {
-            Group::Fields | Group::Items => {
+            Group::Fields | Group::Items | Group::Values => {
                 let mut buf = bytes;
                 read::<&[u8]>(alloc, self.case, self.kind, &mut mark, &mut buf)
             }
