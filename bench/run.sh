@@ -1,14 +1,15 @@
 #!/usr/bin/env bash
-# bench/run.sh [ENTRIES..]: map fields beside the peers, at 1,000, 10,000 and 100,000 entries if none are given
-# (1000000 is an option). Prints tables of parse, size and write, and of requests for memory at parse.
+# bench/run.sh [ENTRIES..]: map fields, trees, unknown fields, extensions and Items beside the peers, at 1,000, 10,000,
+# 100,000 and 1,000,000 entries if none are given. Prints tables of what is timed, and of requests for memory.
 #
 # Ours is a static library over the crates of this repository; the peers are C++ protobuf and prost, by Debian's
-# packages (libprotobuf-dev, protobuf-compiler, librust-prost-dev, librust-indexmap-dev), and plain Rust. All run
-# in turn on one core, timed by the processor time of their one thread. Not part of the gate.
+# packages (libprotobuf-dev, protobuf-compiler, librust-prost-dev, librust-indexmap-dev), and plain Rust. At each
+# field all run in turn on one core, timed by the processor time of their one thread. Not part of the gate.
 #
 #   BENCH_BUILD   where it builds, outside the repository (buffa-bench in the user's cache); what it proves there, it keeps
 #   BENCH_CORE    the core (the last one)
 #   BENCH_PASSES  how often all of them run (3)
+#   BENCH_FIELDS  which tables (all of them, by the names in table.py)
 set -euo pipefail
 bench=$(cd "$(dirname "$0")" && pwd)
 top=$(dirname "$bench")
@@ -16,9 +17,16 @@ build=${BENCH_BUILD:-${XDG_CACHE_HOME:-$HOME/.cache}/buffa-bench}
 core=${BENCH_CORE:-$(($(nproc) - 1))}
 passes=${BENCH_PASSES:-3}
 sizes=("$@")
-[ $# -gt 0 ] || sizes=(1000 10000 100000)
+[ $# -gt 0 ] || sizes=(1000 10000 100000 1000000)
+read -r -a fields <<< "${BENCH_FIELDS:-strings messages tree1 tree5 tree20 records packed repeated message_list one items}"
+programs=(./ours ./peer_rust ./peer_cpp)
 kit=$(dirname "$(dirname "$(readlink -f "$(command -v rattle || echo /opt/rattle/bin/rattle)")")")
-crates=(buffa_bytes buffa_wire buffa_map buffa_samples)
+# What ours stands on, lowest first.
+crates=()
+wanted=" $(grep -E '^(buffa|buffa_samples):' "$top/crates.txt" | tr -d ':' | tr '\n' ' ') "
+while IFS=: read -r crate _; do
+    case $wanted in *" $crate "*) crates+=("$crate") ;; esac
+done < <(grep -v '^#' "$top/crates.txt")
 
 # Ours: the crates copied, with what their last check kept, and a static library over them. The gate reads every
 # Rattle file of this repository, so the library stands outside it, in a repository of its own.
@@ -37,30 +45,23 @@ build_ours() {
     done
     for crate in "${crates[@]}"; do grep "^$crate:" "$top/crates.txt"; done > "$house/crates.txt"
     echo "speed staticlib: ${crates[*]} indexmap" >> "$house/crates.txt"
-    cp "$bench/ours/lib.rt.in" "$house/crates/speed/src/lib.rt"
+    rm -f "$house/crates/speed/src/"*.rt
+    for part in "$bench"/ours/*.rt.in; do cp "$part" "$house/crates/speed/src/$(basename "$part" .in)"; done
     (cd "$house/crates/speed" && RT_ALLOW_C=speed rt lib >&2)
     gcc -O2 -Wall -o "$build/ours" "$bench/ours/driver.c" "$house/crates/speed/out/libspeed.a" "$kit/c/liblibc_c.a" -lm
 }
 
 build_peers() {
     mkdir -p "$build/cpp" "$build/rust/.cargo"
-    protoc --proto_path="$bench/peers" --cpp_out="$build/cpp" bench.proto
+    protoc --proto_path="$bench/peers" --cpp_out="$build/cpp" bench.proto extended.proto
     g++ -O2 -Wall -std=c++17 -I"$build/cpp" -o "$build/peer_cpp" "$bench/peers/cpp.cc" "$build/cpp/bench.pb.cc" \
-        -lprotobuf -lpthread
+        "$build/cpp/extended.pb.cc" -lprotobuf -lpthread
     cp -r "$bench/peers/rust/." "$build/rust/"
     printf '[source.crates-io]\nreplace-with = "debian"\n\n[source.debian]\ndirectory = "/usr/share/cargo/registry"\n' \
         > "$build/rust/.cargo/config.toml"
     (cd "$build/rust" && cargo build --release --offline --quiet)
     cp "$build/rust/target/release/bench_rust" "$build/peer_rust"
     gcc -O2 -shared -fPIC -o "$build/count.so" "$bench/count.c"
-}
-
-# Requests for memory of one parse: those of three parses less those of one, halved.
-count() {
-    local once thrice
-    once=$({ LD_PRELOAD=$build/count.so "$@" 1 > /dev/null; } 2>&1 | tail -n 1)
-    thrice=$({ LD_PRELOAD=$build/count.so "$@" 3 > /dev/null; } 2>&1 | tail -n 1)
-    echo $(((thrice - once) / 2))
 }
 
 mkdir -p "$build/data"
@@ -71,20 +72,14 @@ python3 "$bench/data.py" "${sizes[@]}"
 : > lines.tsv
 for _ in $(seq "$passes"); do
     for n in "${sizes[@]}"; do
-        for program in ./ours ./peer_rust ./peer_cpp; do
-            taskset -c "$core" "$program" "$n" >> lines.tsv
+        for field in "${fields[@]}"; do
+            for program in "${programs[@]}"; do taskset -c "$core" "$program" "$n" "$field" >> lines.tsv; done
         done
     done
 done
-cut -f 1,2 lines.tsv | sort -u | while IFS=$'\t' read -r field who; do
-    for n in "${sizes[@]}"; do
-        case $who in
-            ours*) program=./ours ;;
-            C++*) program=./peer_cpp ;;
-            *) program=./peer_rust ;;
-        esac
-        calls=$(count "$program" "$n" "$field" "$who")
-        printf '%s\t%s\tallocations\t%s\t%s\n' "$field" "$who" "$n" "$(python3 -c "print($calls / $n)")" >> lines.tsv
+for n in "${sizes[@]}"; do
+    for field in "${fields[@]}"; do
+        for program in "${programs[@]}"; do LD_PRELOAD=./count.so "$program" "$n" "$field" >> lines.tsv; done
     done
 done
 prost=$(awk '/^name = "prost"$/ {getline; gsub(/[^0-9.]/, ""); print}' rust/Cargo.lock)

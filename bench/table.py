@@ -3,33 +3,50 @@
 import statistics
 import sys
 
-# (field, phase, who) to entries to the least and the medians of the passes
-rows, entries = {}, set()
+# (field, phase) to who to entries to the least and the medians of the passes
+tables, entries = {}, set()
 for line in open(sys.argv[1]):
     field, who, phase, n, *numbers = line.rstrip("\n").split("\t")
-    cell = rows.setdefault((field, phase, who), {}).setdefault(int(n), [[], []])
+    cell = tables.setdefault((field, phase), {}).setdefault(who, {}).setdefault(int(n), [[], []])
     entries.add(int(n))
     for held, number in zip(cell, numbers):
         held.append(float(number))
 
-FIELDS = {"strings": "map<string, int32>", "messages": "map<int32, Msg>"}
-UNITS = {"allocations": "requests for memory at parse, an entry"}
-for field, name in FIELDS.items():
-    for phase in ("parse", "size", "write", "allocations"):
-        found = {who: cells for (f, p, who), cells in rows.items() if (f, p) == (field, phase)}
-        if not found:
+# What a table is of, and what is counted.
+FIELDS = {
+    "strings": ("map<string, int32>", "an entry"),
+    "messages": ("map<int32, Msg>", "an entry"),
+    "tree1": ("trees one level deep", "a node"),
+    "tree5": ("trees five levels deep", "a node"),
+    "tree20": ("trees twenty levels deep", "a node"),
+    "records": ("unknown fields", "a record"),
+    "packed": ("packed int32 as an extension", "a value"),
+    "repeated": ("repeated int32 as an extension", "a value"),
+    "message_list": ("repeated messages as an extension", "a message"),
+    "one": ("one extension among so many unknown fields", "a call"),
+    "items": ("Items of a MessageSet", "an Item"),
+}
+
+
+def cell_text(cell):
+    least, medians = cell
+    if not least:
+        return ""
+    return f"{min(least):.1f} ({statistics.median(medians):.1f})" if medians else f"{min(least):.2f}"
+
+
+for field, (name, unit) in FIELDS.items():
+    for table, found in tables.items():
+        if table[0] != field:
             continue
-        print(f"\n{name}, {UNITS.get(phase, phase + ', least (median), ns an entry')}\n")
+        phase = table[1].removeprefix("allocations ")
+        if phase == table[1]:
+            print(f"\n{name}, {phase}, least (median), ns {unit}\n")
+        elif any(min(cell[0]) > 0 for cells in found.values() for cell in cells.values()):
+            print(f"\n{name}, requests for memory at {phase}, {unit}\n")
+        else:
+            continue
         print("| | " + " | ".join(f"{n:,}" for n in sorted(entries)) + " |")
         print("|---" * (len(entries) + 1) + "|")
         for who, cells in found.items():
-            texts = []
-            for n in sorted(entries):
-                least, medians = cells.get(n, ([], []))
-                if not least:
-                    texts.append("")
-                elif medians:
-                    texts.append(f"{min(least):.1f} ({statistics.median(medians):.1f})")
-                else:
-                    texts.append(f"{min(least):.2f}")
-            print(f"| {who} | " + " | ".join(texts) + " |")
+            print(f"| {who} | " + " | ".join(cell_text(cells.get(n, ([], []))) for n in sorted(entries)) + " |")

@@ -3,14 +3,18 @@
 
 A wrong body is an edit, tests/wrong/CRATE/FUNCTION-what_is_wrong.edit: a line 'file: src/x.rt', then pairs of lines
 'old: TEXT' and 'new: TEXT', each old text standing once in that file of the crate. FUNCTION is the plain name of the
-function that must not be proved then. Edits of a crate that lie in different functions are applied together, to a copy
-of the repository, and checked in one go; an edit outside of functions is tried alone. A function may be reported for
-another one's sake (it calls one that is not proved, or the crate isn't read at all): then it is tried once more, alone.
+function that must not be proved then, or TYPE.FUNCTION. Edits of a crate that lie in different functions are applied
+together, to a copy of the repository, and checked in one go. An edit outside of functions is tried alone, and only its
+function, a law, is checked then. A function may be reported for another one's sake (it calls one that is not proved, or
+the crate isn't read at all): then it is tried once more, alone.
 
-An edit passes where a goal of the function is not proved, or where an answer of its proof file is refused. It is unclear,
-and fails, where the edited text is not read, or where only names that its proof file cites went away: change a value and
-keep the names. The crate as it stands is checked first, in its own folder, which leaves its work in out/; that costs
-little where out/ holds the work of an earlier check. Needs python3 and `rt`. The last line is 'N passed, M failed'.
+An edit passes where a goal of the function is not proved. It is unclear, and fails, where the edited text is not read, or
+where only names that its proof file cites went away: change a value and keep the names. It is unclear too where only an
+answer of its proof file is refused, since a right body may trip that as well: add a path that is wrong, which has no
+answer, or say in a line 'why: ..' of the edit why its goal is false.
+
+The crate as it stands is checked first, in its own folder, which leaves its work in out/; that costs little where out/
+holds the work of an earlier check. Needs python3 and `rt`. The last line is 'N passed, M failed'.
 """
 import argparse
 import glob
@@ -48,7 +52,7 @@ class Function:
 class Edit:
     def __init__(self, path):
         self.path, self.title, self.pairs, self.keys, self.target, self.is_wide = path, os.path.basename(path)[:-5], [], set(), None, False
-        file = old = None
+        file = old = self.why = None
         with open(path, encoding="utf-8") as it:
             for line in it.read().split("\n"):
                 if line.startswith("file: "):
@@ -57,7 +61,9 @@ class Edit:
                     old = line[5:]
                 elif line.startswith("new:"):
                     self.pairs.append((file, old, line[5:]))
-        self.name = self.title.partition("-")[0]
+                elif line.startswith("why: "):
+                    self.why = line[5:]
+        self.of, _, self.name = self.title.partition("-")[0].rpartition(".")
 
     def locate(self, folder):
         """Finds the functions that the edit changes; says why it can't be applied, if so."""
@@ -71,7 +77,7 @@ class Edit:
             touched = [it for it in functions(file, texts[file]) if it.start <= line <= it.end]
             self.is_wide |= not touched
             self.keys |= {it.key() for it in touched}
-            self.target = next((it for it in touched if it.name == self.name), self.target)
+            self.target = next((it for it in touched if it.name == self.name and self.of in it.holder), self.target)
             texts[file] = texts[file].replace(old, new)
         if not self.pairs:
             return "it has no pair of an old and a new text"
@@ -176,7 +182,7 @@ class Report:
             at = PROOF_ERROR.match(block)
             if at:
                 self.errors.append((at[1], bool(VANISHED.search(block))))
-        self.was_judged = "\nlogic=" in text
+        self.was_judged = bool(re.search(r"^(logic|only)=", text, re.M))
 
     def of_proof(self, name, cycle):
         """Whether each error in the function's proof file is of a name that went away; None where there is no error."""
@@ -185,11 +191,15 @@ class Report:
         found = [it for folder, it in self.errors if folder in folders]
         return all(found) if found else None
 
+    def names(self, edit, crate):
+        """What the checker calls the function that must not be proved."""
+        return [it for it in self.said if (is_named(edit.target, crate, it) if edit.target else it.split("::")[-1] == edit.name)]
+
     def verdict(self, edit, crate, texts, is_alone):
         """passed, failed or again, and what to say."""
         if not self.was_judged:
             return "again", "the crate isn't read: " + next((it for it in self.text.split("\n") if ": error" in it), self.text[-200:])[:200]
-        names = [it for it in self.said if (is_named(edit.target, crate, it) if edit.target else it.split("::")[-1] == edit.name)]
+        names = self.names(edit, crate)
         if len(names) != 1:
             return "failed", f"UNCLEAR: the checker names {len(names)} such functions"
         name = names[0]
@@ -210,7 +220,9 @@ class Report:
             return "again", f"{self.said[name][:200]}"
         if vanished:
             return "failed", "UNCLEAR: only names that its proof file cites went away"
-        return "passed", "refused, by an answer that no longer fits"
+        if edit.why:
+            return "passed", f"refused, by an answer that no longer fits: {edit.why}"
+        return "failed", "UNCLEAR: an answer of its proof file no longer fits, which may refuse a right body too"
 
 
 def batch_of(edits):
@@ -291,8 +303,10 @@ def copy_to(room, crate):
                 shutil.copytree(f"{TOP}/crates/{it}/{part}", f"{room}/crates/{it}/{part}")
 
 
-def check(folder, options):
+def check(folder, options, paths=()):
     words = [options.rt, "check", *(["--jobs", str(options.jobs)] if options.jobs else [])]
+    for path in paths:
+        words += ["--only", path]
     return subprocess.run(words, cwd=folder, stdin=subprocess.DEVNULL, stdout=subprocess.PIPE, stderr=subprocess.STDOUT, text=True, errors="replace", check=False).stdout
 
 
@@ -310,6 +324,8 @@ def try_crate(crate, options):
             failed.append(line)
 
     for path in sorted(glob.glob(f"{TOP}/tests/wrong/{crate}/*.edit")):
+        if not any(it in os.path.basename(path) for it in options.edit or [""]):
+            continue
         edit = Edit(path)
         edit.alone = False
         why = edit.locate(f"{TOP}/crates/{crate}")
@@ -324,6 +340,7 @@ def try_crate(crate, options):
         print(f"wrong: {crate} isn't proved as it stands", flush=True)
         return passed, [*failed, *[f"wrong: {crate}/{it.title}: not tried" for it in edits]]
     print(f"wrong: {crate} as it stands is proved, {time.time() - begun:.0f} s", flush=True)
+    whole = Report(text)
     with tempfile.TemporaryDirectory(prefix="wrong-") as room:
         copy_to(room, crate)
         while edits:
@@ -334,7 +351,8 @@ def try_crate(crate, options):
                     it.alone = True
                     edits.append(it)
             begun = time.time()
-            report = Report(check(f"{room}/crates/{crate}", options))
+            laws = [name.partition("::")[2] for it in batch if it.is_wide for name in whole.names(it, crate)]
+            report = Report(check(f"{room}/crates/{crate}", options, laws))
             print(f"wrong: {crate}: {len(batch)} edits in one check, {time.time() - begun:.0f} s", flush=True)
             if options.keep:
                 with open(f"{options.keep}/{crate}-{int(begun)}.log", "w", encoding="utf-8") as it:
@@ -361,6 +379,7 @@ def main():
     words.add_argument("--jobs", type=int, help="jobs of one check, in place of what rt chooses")
     words.add_argument("--lanes", type=int, default=len(os.sched_getaffinity(0)), help="crates side by side")
     words.add_argument("--rt", default="rt", help="the command in place of rt")
+    words.add_argument("--edit", action="append", metavar="WORD", help="only the edits whose name has this word (may be repeated)")
     words.add_argument("--keep", help="a folder in which what the checks say is kept")
     options = words.parse_args()
     found = sorted(os.path.basename(os.path.dirname(it)) for it in glob.glob(f"{TOP}/tests/wrong/*/"))

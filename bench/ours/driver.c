@@ -1,33 +1,49 @@
-/* driver N: times ours. driver N FIELD WHO K: parses K times and says nothing, for counting allocations. */
+/* driver N FIELD: times ours at one field. */
 #include "../bench.h"
 #include <stdint.h>
 #include <string.h>
 
 typedef uint64_t parse_call(const uint8_t *, size_t);
-typedef uint64_t write_call(const uint8_t *, size_t, uint32_t);
+typedef uint64_t call(const uint8_t *, size_t, uint32_t);
 parse_call bench_strings_tree_parse, bench_strings_hash_parse, bench_strings_index_parse;
-write_call bench_strings_tree_write, bench_strings_hash_write, bench_strings_index_write;
+call bench_strings_tree_write, bench_strings_hash_write, bench_strings_index_write;
 parse_call bench_messages_tree_parse, bench_messages_hash_parse, bench_messages_index_parse;
-write_call bench_messages_tree_write, bench_messages_index_write;
+call bench_messages_tree_write, bench_messages_index_write;
+call bench_records, bench_packed, bench_repeated, bench_one, bench_message_list, bench_items, bench_tree;
 
+#define PHASES 4
+
+/* A run of `parse` has phase 0; one of `rest` the others, or all of them. */
 static const struct {
     const char *field, *who;
     parse_call *parse;
-    write_call *write;
+    call *rest;
+    const char *phases[PHASES];
+    double per;
 } all[] = {
-    {"strings", "ours BTreeMap", bench_strings_tree_parse, bench_strings_tree_write},
-    {"strings", "ours HashMap", bench_strings_hash_parse, bench_strings_hash_write},
-    {"strings", "ours IndexMap", bench_strings_index_parse, bench_strings_index_write},
-    {"messages", "ours BTreeMap", bench_messages_tree_parse, bench_messages_tree_write},
-    {"messages", "ours HashMap", bench_messages_hash_parse, NULL},
-    {"messages", "ours IndexMap", bench_messages_index_parse, bench_messages_index_write},
+    {"strings", "ours BTreeMap", bench_strings_tree_parse, bench_strings_tree_write, {"parse", "size", "write"}, 0},
+    {"strings", "ours HashMap", bench_strings_hash_parse, bench_strings_hash_write, {"parse", "size", "write"}, 0},
+    {"strings", "ours IndexMap", bench_strings_index_parse, bench_strings_index_write, {"parse", "size", "write"}, 0},
+    {"messages", "ours BTreeMap", bench_messages_tree_parse, bench_messages_tree_write, {"parse", "size", "write"}, 0},
+    {"messages", "ours HashMap", bench_messages_hash_parse, NULL, {"parse"}, 0},
+    {"messages", "ours IndexMap", bench_messages_index_parse, bench_messages_index_write, {"parse", "size", "write"}, 0},
+    {"tree1", "ours", NULL, bench_tree, {"parse", "size", "write"}, 0},
+    {"tree5", "ours", NULL, bench_tree, {"parse", "size", "write"}, 0},
+    {"tree20", "ours", NULL, bench_tree, {"parse", "size", "write"}, 0},
+    {"records", "ours", NULL, bench_records, {"parse", "size", "write"}, 0},
+    {"packed", "ours", NULL, bench_packed, {"read", "make"}, 0},
+    {"repeated", "ours", NULL, bench_repeated, {"read", "make"}, 0},
+    {"message_list", "ours", NULL, bench_message_list, {"read", "make"}, 0},
+    {"one", "ours", NULL, bench_one, {"read a number", "set a number", "read a message", "set a message"}, 16},
+    {"items", "ours", NULL, bench_items, {"read", "write"}, 0},
 };
 
-static double times[3][BENCH_MOST], began;
-static unsigned count[3];
+static double times[PHASES][BENCH_MOST], began;
+static unsigned count[PHASES];
 
-/* Stamp 2k begins phase k, and stamp 2k + 1 ends it. */
+/* Stamp 2k begins phase k, and stamp 2k + 1 ends it; others are none. */
 void bench_stamp(unsigned at) {
+    if (at >= 2 * PHASES) return;
     double now = bench_now();
     if (!(at & 1)) began = bench_now();
     else if (count[at / 2] < BENCH_MOST) times[at / 2][count[at / 2]++] = now - began;
@@ -35,9 +51,10 @@ void bench_stamp(unsigned at) {
 
 static uint8_t data[64 << 20];
 
+/* One value among many is one among the records. */
 static size_t load(const char *field, const char *entries) {
     char name[100];
-    snprintf(name, sizeof name, "data/%s-%s.bin", field, entries);
+    snprintf(name, sizeof name, "data/%s-%s.bin", strcmp(field, "one") ? field : "records", entries);
     FILE *in = fopen(name, "rb");
     if (!in) exit(1);
     size_t len = fread(data, 1, sizeof data, in);
@@ -46,20 +63,21 @@ static size_t load(const char *field, const char *entries) {
 }
 
 int main(int argc, char **argv) {
+    if (argc < 3) return 1;
     double n = atof(argv[1]);
+    size_t len = load(argv[2], argv[1]);
     for (size_t i = 0; i < sizeof all / sizeof *all; i++) {
-        if (argc > 4 && (strcmp(argv[2], all[i].field) || strcmp(argv[3], all[i].who))) continue;
-        size_t len = load(all[i].field, argv[1]);
-        unsigned rounds = argc > 4 ? (unsigned)atoi(argv[4]) : bench_rounds(n);
+        if (strcmp(argv[2], all[i].field)) continue;
+        unsigned rounds = bench_rounds(all[i].per ? n * all[i].per : n);
         memset(count, 0, sizeof count);
-        for (unsigned k = 0; k < rounds; k++)
-            if (all[i].parse(data, len) != n) return 1;
-        if (argc > 4) continue;
-        bench_say(all[i].field, all[i].who, "parse", times[0], count[0], n);
-        if (!all[i].write) continue;
-        if (all[i].write(data, len, rounds) != (uint64_t)rounds * len) return 1;
-        bench_say(all[i].field, all[i].who, "size", times[1], count[1], n);
-        bench_say(all[i].field, all[i].who, "write", times[2], count[2], n);
+        if (all[i].parse)
+            for (unsigned k = 0; k < rounds; k++)
+                if (all[i].parse(data, len) != n) return 1;
+        unsigned parses = count[0];
+        if (all[i].rest && !all[i].rest(data, len, rounds)) return 1;
+        if (all[i].parse) count[0] = parses;
+        for (unsigned p = 0; p < PHASES && all[i].phases[p]; p++)
+            bench_say(all[i].field, all[i].who, all[i].phases[p], times[p], count[p], n, all[i].per);
     }
     return 0;
 }

@@ -1,5 +1,2 @@
-pub mod ItemLemmas
-pub mod ItemTextLemmas
 pub mod KeyLemmas
-pub mod PinLemmas
 pub mod SlotLemmas

@@ -1,4 +1,2 @@
-pub mod Item
 pub mod Keys
-pub mod Pinned
 pub mod Slots

@@ -1,12 +1,7 @@
 //! What the definitions say together, one function a law: it has nothing to do, and its contract is the law.
 //! The numbers are names, which stay.
 
-ghost use Rattle.std.specs.Prelude.{◌≡◌, ◌≢◌, ◌↔◌, [], ◌∷◌, ℕ, List, ℤ, Bool, Ok, Err, Option, Some, map};
-ghost use Rattle.buffa_bytes.specs.declared.error.DecodeError.{DecodeError};
-ghost use Rattle.buffa_bytes.specs.declared.error.DecodeError.TheVariants.{OutOfMemory};
-ghost use Rattle.buffa_bytes.specs.declared.wire_type.WireType.TheVariants.{EndGroup, LengthDelimited};
-ghost use Rattle.buffa_bytes.specs.declared.wire_type.WireType.TheVariants.{StartGroup, Varint};
-ghost use Rattle.buffa_wire.specs.Values.{tag_text};
+ghost use Rattle.std.specs.Prelude.{◌≡◌, ◌≢◌, ◌↔◌, [], ◌∷◌, ℕ, List, ℤ, Bool, Option, Some, map};
 ghost use Rattle.buffa_wire.specs.Enums.{open_number};
 ghost use Rattle.buffa_codec.specs.Reading.{LaterReadingsWin, ReadAlike, ReadingsJoin};
 ghost use Rattle.buffa_codec.specs.Through.{ListsThrough, ReadsThrough, WritesThrough};
@@ -14,24 +9,24 @@ ghost use Rattle.buffa_ext.specs.Steps.{ClearsAreOne, IsExactlySet, KeepsTheRest
 ghost use Rattle.buffa_ext.specs.Steps.{StandsLast, TakesOut, TakesThePlace};
 ghost use Rattle.buffa_map.specs.Laws.{RewriteMeans, RunsJoin, SizeIsLength};
 ghost use Rattle.buffa_map.specs.Scalars.{delimited_writing};
-ghost use Rattle.buffa.specs.Item.{IsTypeId, Item, ItemFault, NoOtherFront, OneItem, TakesItem, WrittenIsItem};
-ghost use Rattle.buffa.specs.Item.{body_text, item_at, item_text};
+ghost use Rattle.buffa_message_set.specs.Item.{NoOtherFront, WrittenIsItem, body_text, item_text};
 ghost use Rattle.buffa.specs.Keys.{KeepsStoredKeys};
-ghost use Rattle.buffa.specs.Pinned.{ItemIsPinned, WrittenItemIsPinned};
 ghost use Rattle.buffa.specs.Slots.{SlotsAreLengths};
 
-use crate::message_set::{ITEM_END_TAG, ITEM_START_TAG, MESSAGE_TAG, TYPE_ID_TAG};
 use buffa_codec::{
     EnumCodec, ExtensionCodec, LastWins, PackableCodec, PackedRepeated, Repeated, SingularCodec,
 };
 use buffa_ext::{MessageIn, MessageRecord};
 use buffa_map::map_codec::{MapCodec, MapStorage, MapValueDecode};
+use buffa_message_set::message_set::ITEM_START_TAG;
 use buffa_wire::scalars::Int32;
 use buffa_wire::{Blank, Enumeration, MapKey, Message, MessageSpec};
 use indexmap::IndexMap;
 use std::collections::{BTreeMap, HashMap};
 use std::hash::{BuildHasher, Hash};
 
+/// Laws of the names of this crate: limits, codecs, and the usual map.
+pub use crate::name_laws as names;
 /// Laws of bytes: varints, tags, fields, scalars and texts.
 pub use buffa_bytes::laws as fields;
 /// Laws of codecs of extensions: scalars, texts, enums and lists.
@@ -40,6 +35,10 @@ pub use buffa_codec::laws as extension_codecs;
 pub use buffa_ext::laws as extensions;
 /// Laws of map fields: codecs, entries, runs, sizes, texts and rewrites.
 pub use buffa_map::laws as map_fields;
+/// Laws of Items of a MessageSet.
+pub use buffa_message_set::laws::{
+    item_tags, items_are_pinned, items_are_read, no_item_begins_another, written_items_are_pinned,
+};
 /// Laws of records of unknown fields.
 pub use buffa_wire::laws as records;
 
@@ -157,7 +156,9 @@ pub fn law_11()
     ensures start { (id : ℕ) (msg : List ℕ) → item_text id msg ≡ ITEM_START_TAG ∷ body_text id msg }
     ensures item { WrittenIsItem }
     ensures only { NoOtherFront }
-{}
+{
+    buffa_message_set::laws::written_items_are_items();
+}
 
 /// A rewrite of a run by an older reader means to a newer one what the run means, if the run is ordered.
 ///
@@ -195,41 +196,3 @@ pub fn law_13<E: Enumeration>()
 {
     buffa_codec::laws::enums_are_read_as_numbers::<E>();
 }
-
-/// An Item is read exactly where the grammar has one, and a fault is told exactly where the grammar has it.
-///
-/// Out of memory is no fault of the bytes, and the type id of an Item is 1 to 2,147,483,647.
-pub fn items_are_read()
-    ensures ok { (d id : ℕ) (bs msg rest : List ℕ) → (item_at d bs ≡ Ok (id, msg, rest)) ↔ TakesItem d bs id msg rest }
-    ensures err { (d : ℕ) (bs : List ℕ) (e : DecodeError) → (item_at d bs ≡ Err e) ↔ ItemFault d bs e }
-    ensures memory { (d : ℕ) (bs : List ℕ) → item_at d bs ≢ Err OutOfMemory }
-    ensures range { (d id : ℕ) (bs msg : List ℕ) → Item d bs id msg → IsTypeId id }
-{}
-
-/// No Item is a proper beginning of another, and bytes are an Item in one way.
-pub fn no_item_begins_another()
-    ensures { OneItem }
-{}
-
-/// Bytes, a depth and a budget have one answer as an Item, and leave one budget.
-///
-/// What is left open: after a refusal, how much stays unread (an end of what was there, and all of it where no slot
-/// was left); and where memory runs out, which is told only where message bytes are there.
-pub fn items_are_pinned()
-    ensures { ItemIsPinned }
-{}
-
-/// A type id and a message are written in one way, and no others have that text.
-///
-/// What is left open: where memory runs out, how much of the text stands.
-pub fn written_items_are_pinned()
-    ensures { WrittenItemIsPinned }
-{}
-
-/// The four tags of an Item, each of which has one byte.
-pub fn item_tags()
-    ensures start { tag_text 1 StartGroup ≡ ITEM_START_TAG ∷ [] }
-    ensures end { tag_text 1 EndGroup ≡ ITEM_END_TAG ∷ [] }
-    ensures type_id { tag_text 2 Varint ≡ TYPE_ID_TAG ∷ [] }
-    ensures message { tag_text 3 LengthDelimited ≡ MESSAGE_TAG ∷ [] }
-{}

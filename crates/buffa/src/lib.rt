@@ -7,12 +7,12 @@
 
 pub mod extension;
 pub mod laws;
-pub mod message_set;
 pub mod name_laws;
 
 pub use buffa_ext::{Extension, ExtensionSet};
 pub use buffa_map::map_codec;
 pub use buffa_map::map_codec::{Map, MapStorage};
+pub use buffa_message_set::message_set;
 pub use buffa_wire::message::MAX_MESSAGE_BYTES;
 pub use buffa_wire::{
     Blank, Budget, Buf, DEFAULT_ELEMENT_MEMORY_LIMIT, DEFAULT_UNKNOWN_FIELD_LIMIT, DecodeContext,

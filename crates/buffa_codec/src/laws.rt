@@ -302,6 +302,7 @@ pub fn lists_are_read<C: SingularCodec, P: PackableCodec>()
     ensures packed_holds { (vs os : List P.Value.Meaning) → ⟦<PackedRepeated<P> as ExtensionCodec>⟧.holds vs os
         ↔ (os ≡ map P.back vs) }
     ensures in_room { (vs : List C.Value.Meaning) → ⟦<Repeated<C> as ExtensionCodec>⟧.in_room vs ↔ Each C.made_free vs }
+    ensures packed_in_room { (vs : List P.Value.Meaning) → ⟦<PackedRepeated<P> as ExtensionCodec>⟧.in_room vs → ⊥ }
     ensures memory { (ds : List Datum) → ⟦<Repeated<C> as ExtensionCodec>⟧.takes ds
         ↔ Has (TakesElement C.takes (C.one 100) C.packed) ds }
     ensures fits { (vs : List C.Value.Meaning) → ⟦<Repeated<C> as ExtensionCodec>⟧.fits vs ↔ Each C.fits vs }

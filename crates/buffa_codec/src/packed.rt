@@ -65,6 +65,8 @@ impl<C: PackableCodec> ExtensionCodec for PackedRepeated<C> {
         fields: &mut UnknownFields,
     ) -> Result<(), EncodeError> {
         let mut bytes = Vec::new(alloc);
+        // Each value has a byte at least. Where so much is refused at once, the values are written one by one all the same.
+        let _room = bytes.reserve(value.len());
         for v in value.as_slice() {
             C::encode_packed(v, &mut bytes)?;
         }

@@ -48,11 +48,6 @@ message_of merged cost blank left (b ∷ bs) = if is_left left (cost_all cost (b
 abbrev pub ReadsMessages : {X : Type 0} → (List Datum → Option X → Type 0) → (X → List ℕ → Option X) → (List ℕ → BudgetLeft) → X → (Datum → Option (List ℕ)) → Type 0
 ReadsMessages {X = X} reads merged cost blank held = (ds : List Datum) (o : Option X) → reads ds o ↔ (o ≡ message_of merged cost blank full (texts_in held ds))
 
--- the texts of a message that is read cost together no more than a pair of default budgets
-abbrev pub StaysWithin : {X : Type 0} → (X → List ℕ → Option X) → (List ℕ → BudgetLeft) → X → (Datum → Option (List ℕ)) → Type 0
-StaysWithin {X = X} merged cost blank held =
-    (ds : List Datum) (v : X) → message_of merged cost blank full (texts_in held ds) ≡ Some v → Covers full (cost_all cost (texts_in held ds))
-
 -- reading a message spends its cost, and otherwise no more than that
 abbrev pub LeavesOf : {X : Type 0} → Option X → BudgetLeft → BudgetLeft → BudgetLeft → Type 0
 LeavesOf (Some v) before need after = Pays before need after

@@ -6,23 +6,24 @@ ghost use Rattle.std.specs.declared.alloc.Global.{Global as GlobalValue};
 ghost use Rattle.std.specs.declared.alloc.AllocError.{AllocError as AllocErrorValue};
 ghost use Rattle.buffa_ext.specs.declared.descriptor.Make.{Make};
 ghost use Rattle.buffa_ext.specs.declared.descriptor.NoDefault.{NoDefault};
-ghost use Rattle.buffa_bytes.specs.Pinned.{SameIsOne};
+ghost use Rattle.buffa_bytes.specs.Pinned.{IsCopied, SameIsOne};
 ghost use Rattle.buffa_bytes.specs.declared.error.EncodeError.TheVariants.{MessageTooLarge};
 ghost use Rattle.buffa_wire.specs.BudgetLeft.{BudgetLeft};
 ghost use Rattle.buffa_wire.specs.Parse.{Fits};
 ghost use Rattle.buffa_wire.specs.Records.{Datum, bytes as held_bytes, records_of};
 ghost use Rattle.buffa_codec.specs.Pinned.{OneAnswer};
-ghost use Rattle.buffa_codec.specs.Reading.{HasByte, bytes_held};
+ghost use Rattle.buffa_codec.specs.Reading.{Covers, HasByte, bytes_held, full};
 ghost use Rattle.buffa_codec.specs.Sub.{sub};
 ghost use Rattle.buffa_ext.specs.Changes.{SameIsOneChange};
 ghost use Rattle.buffa_ext.specs.Messages.{BeginsFieldIn, IsReadBack, LeavesOfRecord, MergingStaysWithin};
-ghost use Rattle.buffa_ext.specs.Messages.{ReachesRecord, ReadsMessages, StaysWithin, cost_all, group_held, group_of};
+ghost use Rattle.buffa_ext.specs.Messages.{ReachesRecord, ReadsMessages, cost_all, group_held, group_of};
 ghost use Rattle.buffa_ext.specs.Messages.{group_refusal, group_texts, message_of, text_refusal, texts_in};
 ghost use Rattle.buffa_ext.specs.Pinned.{ClearIsPinned, DefaultIsPinned, ListIsExact, MergingIsPinned};
 ghost use Rattle.buffa_ext.specs.Pinned.{RecordMergeIsPinned, SetIsPinned};
 ghost use Rattle.buffa_ext.specs.Steps.{Change, ClearsAreOne, IsExactlySet, KeepsTheRest, LeavesOthers};
 ghost use Rattle.buffa_ext.specs.Steps.{ReadsHistory, SecondCounts, StandsLast, TakesOut, TakesThePlace, after, history};
 
+pub use crate::codec_laws::{number_names_are_these, other_names_are_these};
 use crate::descriptor::{Declared, Make, NoDefault};
 use crate::message::{GroupCodec, MessageCodec, MessageIn};
 use crate::record::{Delimited, Grouped, MessageRecord};
@@ -35,6 +36,11 @@ use std::alloc::{AllocError, Global};
 pub fn equal_steps_change_the_same()
     ensures step { SameIsOneChange ⟦<Step as PartialEq>⟧.eq }
     ensures fault { SameIsOne ⟦<ReplayFault as PartialEq>⟧.eq }
+{}
+
+/// What `clone` makes of a fault is the same again, and it doesn't fail. It leaves nothing open.
+pub fn clones_are_these()
+    ensures { IsCopied ⟦<ReplayFault as Clone>⟧.is_clone ⟦<ReplayFault as Clone>⟧.is_infallible }
 {}
 
 /// The records of a number after changes are what its last change says.
@@ -81,7 +87,8 @@ pub fn last_set_counts()
 /// The records that are read as one message cost together no more than a pair of default budgets; and merging
 /// records under any budget never spends more than their texts cost together, nor more than was there.
 pub fn messages_stay_within_a_budget<K: MessageRecord, M: Message>()
-    ensures read { StaysWithin (M.merged 100) (M.cost 100) M.blank_is K.held }
+    ensures read { (ds : List Datum) (v : M.Meaning) → ⟦<MessageIn<K, M> as ExtensionCodec>⟧.reads ds (Some v)
+        → Covers full (cost_all (M.cost 100) (texts_in K.held ds)) }
     ensures merged { MergingStaysWithin (M.merged 100) (M.cost 100) K.held (K.takes 100) }
 {}
 

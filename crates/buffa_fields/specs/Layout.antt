@@ -3,11 +3,11 @@ use Rattle.std.specs.Prelude.{◌≡◌, ℕ, ◌==◌, ◌≤◌, ◌&&◌, ◌
 use Rattle.buffa_bytes.specs.declared.wire_type.WireType.{WireType}
 use Rattle.buffa_bytes.specs.declared.error.DecodeError.{DecodeError}
 use Rattle.buffa_bytes.specs.declared.error.EncodeError.{EncodeError}
-use Rattle.buffa_bytes.specs.declared.error.EncodeError.TheVariants.{OutOfMemory}
 use Rattle.buffa_wire.specs.BudgetLeft.{BudgetLeft, nothing}
 use Rattle.buffa_wire.specs.Number.{IsNumber}
 use Rattle.buffa_wire.specs.Parse.{Fits}
-use Rattle.buffa_wire.specs.Passes.{Begins, IsSmall, cap}
+use Rattle.buffa_wire.specs.Cache.{Cache}
+use Rattle.buffa_wire.specs.Passes.{IsNext, IsSized, IsWritten}
 use Rattle.buffa_wire.specs.Records.{Datum, records_of}
 use Rattle.buffa_wire.specs.Text.{records_text}
 use Rattle.buffa_fields.specs.Keep.{keep_need, keep_takes}
@@ -21,6 +21,8 @@ pub record Slot (P X : Type 0) : Type 1 where
   pub takes : Taker X
   pub need : Need
   pub records : ℕ → X → List (ℕ × Datum)
+  -- the sizes of the messages in it, in the order in which its passes reserve and consume them
+  pub slots : X → List ℕ
   pub levels : X → ℕ
   pub normal : X → Type 0
   pub stays : Stays need
@@ -35,9 +37,9 @@ pub record ReadsBackTo {P X : Type 0} (s : Slot P X) : Type 0 where
 unfoldable pub Took : {P X : Type 0} → Slot P X → ℕ → P → ℕ → WireType → List ℕ → BudgetLeft → Result (Unit {0}) DecodeError → P → BudgetLeft → List ℕ → Type 0
 Took s d old n w bs before r new after rest = IsTaken s.takes s.need d (s.meaning old) n w bs before r (s.meaning new) after rest
 
--- a field that isn't declared is kept, or passed over
+-- a field that isn't declared is kept, or passed over; nothing is kept of one that is refused
 unfoldable pub Kept : ℕ → List (ℕ × Datum) → ℕ → WireType → List ℕ → BudgetLeft → Result (Unit {0}) DecodeError → List (ℕ × Datum) → BudgetLeft → List ℕ → Type 0
-Kept d old n w bs before r new after rest = IsTaken keep_takes keep_need d old n w bs before r new after rest
+Kept d old n w bs before r new after rest = IsTaken keep_takes keep_need d old n w bs before r new after rest × MatchResult r (λ _. Unit {0}) (λ _. old ≡ new)
 
 abbrev pub passes : Taker (Unit {0})
 passes d v n w p = Some v
@@ -48,33 +50,36 @@ costs_nothing d n w bs = nothing
 unfoldable pub Passed : ℕ → ℕ → WireType → List ℕ → BudgetLeft → Result (Unit {0}) DecodeError → BudgetLeft → List ℕ → Type 0
 Passed d n w bs before r after rest = IsTaken passes costs_nothing d tt n w bs before r tt after rest
 
--- What a visitor has seen: records, since it stood before these bytes of a sink of a name.
+-- What a visitor has seen: records, and sizes of messages in them, since it stood behind these bytes of a sink and
+-- before this cache; both are lent, and known by names.
 pub record Seen : Type 0 where
-  pub name : ℕ
+  pub sink : ℕ
   pub before : List ℕ
+  pub cache : ℕ
+  pub first : Cache
   pub records : List (ℕ × Datum)
+  pub slots : List ℕ
 
-unfoldable pub more : List (ℕ × Datum) → Seen → Seen
-more rs z = record { name = z.name; before = z.before; records = z.records ++ rs }
+unfoldable pub more : List (ℕ × Datum) → List ℕ → Seen → Seen
+more rs ss z = record { sink = z.sink; before = z.before; cache = z.cache; first = z.first; records = z.records ++ rs; slots = z.slots ++ ss }
 
 -- a member was visited
 abbrev pub visited : {P X : Type 0} → Slot P X → ℕ → P → Seen → Seen
-visited s k p z = more (s.records k (s.meaning p)) z
+visited s k p z = more (s.records k (s.meaning p)) (s.slots (s.meaning p)) z
 
 -- ---- what visitors know
 
--- the length of what was seen, or 2^32 - 1
-unfoldable pub IsCounted : ℕ → Seen → Type 0
-IsCounted total z = total ≡ cap (length (records_text z.records))
+-- what was seen was sized, into the cache
+unfoldable pub IsCounted : ℕ → Result ℕ EncodeError → Cache → Seen → Type 0
+IsCounted cache r now z = (z.cache ≡ cache) × IsSized (records_text z.records) z.slots z.first r now
 
--- a text was written behind these bytes, where it isn't too large, or a beginning of it, where memory ran out
-abbrev pub WritesSmall : List ℕ → List ℕ → Result (Unit {0}) EncodeError → List ℕ → Type 0
-WritesSmall text before r new =
-    (bs : List ℕ) × (new ≡ before ++ bs) × MatchResult r (λ _. IsSmall text → bs ≡ text) (λ e. (e ≡ OutOfMemory) × (IsSmall text → Begins bs text))
+-- it was written, behind what stood in the sink, out of the cache
+unfoldable pub IsPut : ℕ → ℕ → List ℕ → Cache → Result (Unit {0}) EncodeError → Seen → Type 0
+IsPut sink cache written now r z = (z.sink ≡ sink) × (z.cache ≡ cache) × IsWritten (records_text z.records) z.slots z.first z.before r now written
 
--- the same of what was seen
-unfoldable pub IsPut : ℕ → List ℕ → Result (Unit {0}) EncodeError → Seen → Type 0
-IsPut name new r z = (z.name ≡ name) × WritesSmall (records_text z.records) z.before r new
+-- these sizes are next, unless memory ran out
+unfoldable pub Follow : List ℕ → Result (Unit {0}) EncodeError → Cache → Type 0
+Follow ss r now = MatchResult r (λ _. IsNext ss now) (λ _. Unit {0})
 
 -- ---- lists of members
 
@@ -89,6 +94,7 @@ pub record Layout (M X : Type 0) : Type 1 where
   pub takes : Taker X
   pub need : Need
   pub records : X → List (ℕ × Datum)
+  pub slots : X → List ℕ
   pub levels : X → ℕ
   pub normal : X → Type 0
   -- the numbers that are declared; each may be a field's, and no two are one
@@ -99,13 +105,17 @@ pub record Layout (M X : Type 0) : Type 1 where
   -- two messages have the same members; the member of the number takes the field, and the others stay
   pub Same : M → M → Type 0
   pub Taken : ℕ → M → ℕ → WireType → List ℕ → BudgetLeft → Result (Unit {0}) DecodeError → M → BudgetLeft → List ℕ → Type 0
+  -- two values are the same, but for what the member of the number means
+  pub Apart : ℕ → X → X → Type 0
   -- all members were visited, one after the other
   pub seen : M → Seen → Seen
   pub stays : Stays need
   pub same_is : (a b : M) → Same a b → meaning a ≡ meaning b
   pub taken_is : (d : ℕ) (old : M) (n : ℕ) (w : WireType) (bs : List ℕ) (before : BudgetLeft) (r : Result (Unit {0}) DecodeError) (new : M) (after : BudgetLeft) (rest : List ℕ) →
       Taken d old n w bs before r new after rest → IsTaken takes need d (meaning old) n w bs before r (meaning new) after rest
-  pub seen_is : (m : M) (z : Seen) → seen m z ≡ more (records (meaning m)) z
+  pub apart : (d : ℕ) (old : M) (n : ℕ) (w : WireType) (bs : List ℕ) (before : BudgetLeft) (e : DecodeError) (new : M) (after : BudgetLeft) (rest : List ℕ) →
+      Taken d old n w bs before (let r : Result (Unit {0}) DecodeError = Err e in r) new after rest → Apart n (meaning old) (meaning new)
+  pub seen_is : (m : M) (z : Seen) → seen m z ≡ more (records (meaning m)) (slots (meaning m)) z
   pub within_all : (v : X) → within (λ n. true) v
   pub within_both : (P Q : ℕ → Bool) (v : X) → within P v → within Q v → within (λ n. P n && Q n) v
   -- where the records of each member read back, those of all do

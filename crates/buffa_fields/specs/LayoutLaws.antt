@@ -1,5 +1,5 @@
 -- What is proved of lists of members, whatever the members.
-use Rattle.std.proofs.Common.{◌≡◌, ◌≢◌, ℕ, ◌+◌, ◌==◌, ◌<◌, ◌≤◌, ◌&&◌, min, Bool, true, false, not, List, [], ◌∷◌, ◌++◌, length, Option, Some, None, Result, Ok, Err, refl, sym, ap, subst, ◌∙◌, arith, append_assoc, append-nil, length-append}
+use Rattle.std.proofs.Common.{◌≡◌, ◌≢◌, ℕ, ◌+◌, ◌==◌, ◌<◌, ◌≤◌, ◌&&◌, min, Bool, true, false, not, List, [], ◌∷◌, ◌++◌, length, Option, Some, None, Result, Ok, Err, IsOk, refl, sym, ap, subst, ◌∙◌, arith, append_assoc, append-nil, length-append}
 use Rattle.std.proofs.lemmas.Bool.{eqb-true, eqb-false}
 use Rattle.buffa_bytes.specs.declared.wire_type.WireType.{WireType}
 use Rattle.buffa_bytes.specs.declared.wire_type.WireType.TheVariants.{EndGroup}
@@ -9,12 +9,12 @@ use Rattle.buffa_wire.specs.BudgetLeft.{BudgetLeft}
 use Rattle.buffa_wire.specs.Gives.{FullOnlyIf}
 use Rattle.buffa_wire.specs.Message.{IsFieldMerged}
 use Rattle.buffa_wire.specs.Parse.{Fits}
-use Rattle.buffa_wire.specs.Passes.{Begins, IsSized, IsSmall, IsWritten, cap}
-use Rattle.buffa_wire.specs.Cache.{Cache, advanced, appended}
-use Rattle.buffa_wire.proofs.PassLemmas.{appended_none, consumes_none, written_none}
+use Rattle.buffa_wire.specs.Passes.{IsNext, IsSized, IsSmall, IsWritten, cap}
+use Rattle.buffa_wire.specs.Cache.{Cache}
+use Rattle.buffa_wire.proofs.PassLemmas.{appended_none, appended_twice, done, next_front, next_past, refused, written_none, written_short, written_then}
 use Rattle.buffa_wire.specs.Records.{Datum, records_of}
 use Rattle.buffa_wire.specs.Text.{records_text}
-use Rattle.buffa_fields.specs.Layout.{Choice, IsCounted, IsPut, Kept, Layout, Passed, Seen, Slot, Took, WritesSmall, costs_nothing, more, passes, visited}
+use Rattle.buffa_fields.specs.Layout.{Choice, Follow, IsCounted, IsPut, Kept, Layout, Passed, Seen, Slot, Took, costs_nothing, more, passes, visited}
 use Rattle.buffa_fields.specs.Keep.{keep_need, keep_takes}
 use Rattle.buffa_fields.specs.PairLaws.{first_taken, other_taken, records_text-append}
 use Rattle.buffa_fields.specs.Takes.{IsTaken, Need, Taker, both_need, both_take, cost_of, merged_of}
@@ -35,11 +35,25 @@ module _ {P X B : Type 0} (s : Slot P X) (k : ℕ) (g : Taker B) (gn : Need) (d 
   pub field_taken : Choice (n == k) (Took s d p n w bs before r q after rest × S) ((q ≡ p) × T) → IsTaken (both_take k s.takes g) (both_need k s.need gn) d (s.meaning p, b) n w bs before r (s.meaning q, c) after rest
   field_taken h = by_test (n == k) refl h
 
+-- a refused field changes its member alone
+pub field_apart : {P X B : Type 0} (s : Slot P X) (k : ℕ) (Apart : ℕ → B → B → Type 0) (p q : P) (b c : B) (n : ℕ) (T S R : Type 0) → (S → b ≡ c) → (R → Apart n b c) →
+    Choice (n == k) (T × S) ((q ≡ p) × R) → Choice (n == k) (b ≡ c) ((s.meaning p ≡ s.meaning q) × Apart n b c)
+field_apart s k Apart p q b c n T S R same apart h = at (n == k) h
+  where
+    at : (t : Bool) → Choice t (T × S) ((q ≡ p) × R) → Choice t (b ≡ c) ((s.meaning p ≡ s.meaning q) × Apart n b c)
+    at true (took, stay) = same stay
+    at false (stay, h) = (ap s.meaning (sym stay), apart h)
+
 -- ---- fields that aren't declared
 pub is_kept : (d : ℕ) (old : List (ℕ × Datum)) (n : ℕ) (w : WireType) (bs : List ℕ) (before : BudgetLeft) (r : Result (Unit {0}) DecodeError) (new : List (ℕ × Datum)) (after : BudgetLeft) (rest : List ℕ) →
     Kept d old n w bs before r new after rest → IsTaken keep_takes keep_need d old n w bs before r new after rest
 unfolding Kept
-is_kept d old n w bs before r new after rest h = h
+is_kept d old n w bs before r new after rest h = h.0
+
+pub kept_stays : (d : ℕ) (old : List (ℕ × Datum)) (n : ℕ) (w : WireType) (bs : List ℕ) (before : BudgetLeft) (e : DecodeError) (new : List (ℕ × Datum)) (after : BudgetLeft) (rest : List ℕ) →
+    Kept d old n w bs before (let r : Result (Unit {0}) DecodeError = Err e in r) new after rest → old ≡ new
+unfolding Kept
+kept_stays d old n w bs before e new after rest h = h.1
 
 pub is_passed : (d n : ℕ) (w : WireType) (bs : List ℕ) (before : BudgetLeft) (r : Result (Unit {0}) DecodeError) (after : BudgetLeft) (rest : List ℕ) →
     Passed d n w bs before r after rest → IsTaken passes costs_nothing d tt n w bs before r tt after rest
@@ -47,105 +61,142 @@ unfolding Passed
 is_passed d n w bs before r after rest h = h
 
 -- ---- what was seen
-pub more_none : (z : Seen) → z ≡ more [] z
+pub more_none : (z : Seen) → z ≡ more [] [] z
 unfolding more
-more_none z = λ i. record { name = z.name; before = z.before; records = sym (append-nil z.records) i }
+more_none z = λ i. record { sink = z.sink; before = z.before; cache = z.cache; first = z.first; records = sym (append-nil z.records) i; slots = sym (append-nil z.slots) i }
 
-more_twice : (a b : List (ℕ × Datum)) (z : Seen) → more b (more a z) ≡ more (a ++ b) z
+more_twice : (a b : List (ℕ × Datum)) (x y : List ℕ) (z : Seen) → more b y (more a x z) ≡ more (a ++ b) (x ++ y) z
 unfolding more
-more_twice a b z = λ i. record { name = z.name; before = z.before; records = append_assoc z.records a b i }
+more_twice a b x y z = λ i. record { sink = z.sink; before = z.before; cache = z.cache; first = z.first; records = append_assoc z.records a b i; slots = append_assoc z.slots x y i }
 
-pub seen_field : {P X : Type 0} (s : Slot P X) (k : ℕ) (p : P) (b : List (ℕ × Datum)) (z y : Seen) → y ≡ more b (visited s k p z) → y ≡ more (s.records k (s.meaning p) ++ b) z
-seen_field s k p b z y h = h ∙ more_twice (s.records k (s.meaning p)) b z
+pub seen_field : {P X : Type 0} (s : Slot P X) (k : ℕ) (p : P) (b : List (ℕ × Datum)) (x : List ℕ) (z y : Seen) → y ≡ more b x (visited s k p z) →
+    y ≡ more (s.records k (s.meaning p) ++ b) (s.slots (s.meaning p) ++ x) z
+seen_field s k p b x z y h = h ∙ more_twice (s.records k (s.meaning p)) b (s.slots (s.meaning p)) x z
 
--- ---- what visitors know
+-- ---- sizes
+abbrev pub sum : ℕ → Result ℕ EncodeError
+sum total = Ok total
+
+abbrev pub failed : EncodeError → Result ℕ EncodeError
+failed e = Err e
+
+-- a text that needs no slot
+pub sized_free : (text : List ℕ) (n : ℕ) (c : Cache) → n ≡ cap (length text) → IsSized text [] c (sum n) c
+sized_free text n c h = (h, sym (appended_none c))
+
 pub cap_more : (a b total len new : ℕ) → total ≡ cap a → len ≡ cap b → new ≡ min (total + len) 4294967295 → new ≡ cap (a + b)
 cap_more a b total len new h k e = omega (arith, h, k, e)
 
-pub counted : (rs : List (ℕ × Datum)) (z : Seen) (total len new : ℕ) → IsCounted total z → len ≡ cap (length (records_text rs)) → new ≡ min (total + len) 4294967295 → IsCounted new (more rs z)
+-- texts one behind the other
+pub sized_more : (t u s x : List ℕ) (c0 c1 c2 : Cache) (total len new : ℕ) → IsSized t s c0 (sum total) c1 → IsSized u x c1 (sum len) c2 → new ≡ min (total + len) 4294967295 → IsSized (t ++ u) (s ++ x) c0 (sum new) c2
+sized_more t u s x c0 c1 c2 total len new h k e =
+    (cap_more (length t) (length u) total len new h.0 k.0 e ∙ ap cap (sym (length-append t u)), k.1 ∙ appended_twice s x c0 c1 h.1)
+
+pub counted : (rs : List (ℕ × Datum)) (ss : List ℕ) (z : Seen) (cache : ℕ) (c1 c2 : Cache) (total len new : ℕ) → IsCounted cache (sum total) c1 z →
+    IsSized (records_text rs) ss c1 (sum len) c2 → new ≡ min (total + len) 4294967295 → IsCounted cache (sum new) c2 (more rs ss z)
 unfolding IsCounted more
-counted rs z total len new h k e =
-    cap_more (length (records_text z.records)) (length (records_text rs)) total len new h k e
-    ∙ ap cap (sym (length-append (records_text z.records) (records_text rs)) ∙ ap length (sym (records_text-append z.records rs)))
+counted rs ss z cache c1 c2 total len new (is, h) k e =
+    (is, subst (λ (l : List ℕ). IsSized l (z.slots ++ ss) z.first (sum new) c2) (sym (records_text-append z.records rs)) (sized_more (records_text z.records) (records_text rs) z.slots ss z.first c1 c2 total len new h k e))
 
-module _ (t u b0 b1 b2 : List ℕ) where
-  then : (r : Result (Unit {0}) EncodeError) → WritesSmall t b0 (let r : Result (Unit {0}) EncodeError = Ok tt in r) b1 → WritesSmall u b1 r b2 → WritesSmall (t ++ u) b0 r b2
-  then (Ok _) (xs, p, q) (ys, v, w) = (
-    xs ++ ys,
-    v ∙ ap (λ (bs : List ℕ). bs ++ ys) p ∙ append_assoc b0 xs ys,
-    λ h. let l = length-append t u in ap (λ (a : List ℕ). a ++ ys) (q (omega (arith, h, l))) ∙ ap (λ (a : List ℕ). t ++ a) (w (omega (arith, h, l))),
-  )
-  then (Err e) (xs, p, q) (ys, v, w) = (
-    xs ++ ys,
-    v ∙ ap (λ (bs : List ℕ). bs ++ ys) p ∙ append_assoc b0 xs ys,
-    (
-      w.0,
-      λ h.
-          let l = length-append t u in
-          let rest = w.1 (omega (arith, h, l)) in (
-            rest.0,
-            ap (λ (a : List ℕ). t ++ a) rest.1 ∙ ap (λ (a : List ℕ). a ++ (ys ++ rest.0)) (sym (q (omega (arith, h, l)))) ∙ sym (append_assoc xs ys rest.0),
-            rest.2,
-          ),
-    ),
-  )
+pub counted_err : (rs : List (ℕ × Datum)) (ss : List ℕ) (z : Seen) (cache : ℕ) (c1 c2 : Cache) (total : ℕ) (e : EncodeError) → IsCounted cache (sum total) c1 z →
+    IsSized (records_text rs) ss c1 (failed e) c2 → IsCounted cache (failed e) c2 (more rs ss z)
+unfolding IsCounted more
+counted_err rs ss z cache c1 c2 total e (is, h) (which, longer) = (is, (which, (z.slots ++ longer.0, longer.1 ∙ appended_twice z.slots longer.0 z.first c1 h.1)))
 
-  short : (e : EncodeError) → WritesSmall t b0 (let r : Result (Unit {0}) EncodeError = Err e in r) b1 → WritesSmall (t ++ u) b0 (let r : Result (Unit {0}) EncodeError = Err e in r) b1
-  short e (xs, p, q) = (
-    xs,
-    p,
-    (
-      q.0,
-      λ h. let rest = q.1 (omega (arith, h, length-append t u)) in (rest.0 ++ u, ap (λ (a : List ℕ). a ++ u) rest.1 ∙ append_assoc xs rest.0 u, omega (arith, rest.2, length-append rest.0 u)),
-    ),
-  )
+-- nothing is counted, once memory ran out
+pub counted_none : (rs : List (ℕ × Datum)) (ss : List ℕ) (z : Seen) (cache : ℕ) (c : Cache) (e : EncodeError) → IsCounted cache (failed e) c z → IsCounted cache (failed e) c (more rs ss z)
+unfolding IsCounted more
+counted_none rs ss z cache c e h = h
+
+-- ---- texts
+small_both : (t u : List ℕ) → IsSmall (t ++ u) → IsSmall t × IsSmall u
+small_both t u h = (omega (arith, h, length-append t u), omega (arith, h, length-append t u))
 
 -- the next records are written behind the others
-pub put : (rs : List (ℕ × Datum)) (z : Seen) (name : ℕ) (old new : List ℕ) (r : Result (Unit {0}) EncodeError) → IsPut name old (let r : Result (Unit {0}) EncodeError = Ok tt in r) z → WritesSmall (records_text rs) old r new → IsPut name new r (more rs z)
+pub put : (rs : List (ℕ × Datum)) (ss : List ℕ) (z : Seen) (sink cache : ℕ) (old new : List ℕ) (c1 c2 : Cache) (r : Result (Unit {0}) EncodeError) → IsPut sink cache old c1 done z →
+    IsWritten (records_text rs) ss c1 old r c2 new → IsPut sink cache new c2 r (more rs ss z)
 unfolding IsPut more
-put rs z name old new r (is, h) k = (is, subst (λ (l : List ℕ). WritesSmall l z.before r new) (sym (records_text-append z.records rs)) (then (records_text z.records) (records_text rs) z.before old new r h k))
+put rs ss z sink cache old new c1 c2 r (is, same, h) k = (
+  is,
+  same,
+  subst (λ (l : List ℕ). IsWritten l (z.slots ++ ss) z.first z.before r c2 new) (sym (records_text-append z.records rs))
+      (written_then (IsSmall (records_text z.records)) (IsSmall (records_text rs)) (IsSmall (records_text z.records ++ records_text rs)) (records_text z.records) (records_text rs) z.slots ss z.first c1 c2 z.before old new
+      (small_both (records_text z.records) (records_text rs)) r h k),
+)
 
 -- nothing is, once memory ran out
-pub put_none : (rs : List (ℕ × Datum)) (z : Seen) (name : ℕ) (new : List ℕ) (e : EncodeError) → IsPut name new (let r : Result (Unit {0}) EncodeError = Err e in r) z → IsPut name new (let r : Result (Unit {0}) EncodeError = Err e in r) (more rs z)
+pub put_none : (rs : List (ℕ × Datum)) (ss : List ℕ) (z : Seen) (sink cache : ℕ) (new : List ℕ) (c : Cache) (e : EncodeError) → IsPut sink cache new c (refused e) z → IsPut sink cache new c (refused e) (more rs ss z)
 unfolding IsPut more
-put_none rs z name new e (is, h) = (is, subst (λ (l : List ℕ). WritesSmall l z.before (let r : Result (Unit {0}) EncodeError = Err e in r) new) (sym (records_text-append z.records rs)) (short (records_text z.records) (records_text rs) z.before new new e h))
+put_none rs ss z sink cache new c e (is, same, h) = (
+  is,
+  same,
+  subst (λ (l : List ℕ). IsWritten l (z.slots ++ ss) z.first z.before (refused e) c new) (sym (records_text-append z.records rs))
+      (written_short (IsSmall (records_text z.records)) (IsSmall (records_text rs)) (IsSmall (records_text z.records ++ records_text rs)) (records_text z.records) (records_text rs) z.slots ss z.first c c z.before new new
+      (λ h. (small_both (records_text z.records) (records_text rs) h).0) e h),
+)
+
+-- no records, no text
+pub unwritten : (rs : List (ℕ × Datum)) (c : Cache) (b : List ℕ) → rs ≡ [] → IsWritten (records_text rs) [] c b done c b
+unwritten rs c b is = subst (λ z. IsWritten (records_text z) [] c b done c b) (sym is) (written_none (IsSmall []) c b)
+
+-- ---- the sizes that are next
+pub follow_first : (ss rest : List ℕ) (c : Cache) → Follow (ss ++ rest) done c → IsNext ss c
+unfolding Follow
+follow_first ss rest c h = next_front ss rest c h
+
+pub follow_rest : (text ss rest : List ℕ) (old new : List ℕ) (c1 c2 : Cache) (r : Result (Unit {0}) EncodeError) → IsWritten text ss c1 old r c2 new → Follow (ss ++ rest) done c1 → Follow rest r c2
+unfolding Follow
+follow_rest text ss rest old new c1 c2 (Ok _) (bs, p, q) h = subst (λ z. IsNext rest z) (sym q.0) (next_past ss rest c1 h)
+follow_rest text ss rest old new c1 c2 (Err e) k h = tt
+
+-- the same, where it is known that memory hasn't run out
+pub follow_on : (text ss rest : List ℕ) (old new : List ℕ) (c1 c2 : Cache) (q r : Result (Unit {0}) EncodeError) → IsOk q → IsWritten text ss c1 old r c2 new → Follow (ss ++ rest) q c1 → Follow rest r c2
+unfolding Follow
+follow_on text ss rest old new c1 c2 (Ok _) r ok h k = follow_rest text ss rest old new c1 c2 r h k
+follow_on text ss rest old new c1 c2 (Err e) r ok h k = cc
+
+pub follow_none : (ss rest : List ℕ) (c : Cache) (e : EncodeError) → Follow rest (refused e) c
+unfolding Follow
+follow_none ss rest c e = tt
+
+pub follows : (ss : List ℕ) (c : Cache) → IsNext ss c → Follow ss done c
+unfolding Follow
+follows ss c h = h
 
 -- ---- what a message owes
-unfoldable pub start : ℕ → List ℕ → Seen
-start name before = record { name = name; before = before; records = [] }
+unfoldable pub start : ℕ → List ℕ → ℕ → Cache → Seen
+start sink before cache first = record { sink = sink; before = before; cache = cache; first = first; records = []; slots = [] }
 
-pub counts_none : (name : ℕ) (before : List ℕ) → IsCounted 0 (start name before)
+pub counts_none : (sink : ℕ) (before : List ℕ) (cache : ℕ) (c : Cache) → IsCounted cache (sum 0) c (start sink before cache c)
 unfolding IsCounted start
-counts_none name before = refl
+counts_none sink before cache c = (refl, sized_free [] 0 c refl)
 
-pub puts_none : (name : ℕ) (before : List ℕ) → IsPut name before (let r : Result (Unit {0}) EncodeError = Ok tt in r) (start name before)
+pub puts_none : (sink : ℕ) (before : List ℕ) (cache : ℕ) (c : Cache) → IsPut sink cache before c done (start sink before cache c)
 unfolding IsPut start
-puts_none name before = (refl, ([], sym (append-nil before), λ _. refl))
+puts_none sink before cache c = (refl, refl, written_none (IsSmall []) c before)
 
-was_put : (rs : List (ℕ × Datum)) (from name : ℕ) (before new : List ℕ) (r : Result (Unit {0}) EncodeError) → IsPut name new r (more rs (start from before)) → (name ≡ from) × WritesSmall (records_text rs) before r new
+was_put : (rs : List (ℕ × Datum)) (ss : List ℕ) (sink from : ℕ) (before : List ℕ) (cache of : ℕ) (first now : Cache) (new : List ℕ) (r : Result (Unit {0}) EncodeError) →
+    IsPut sink cache new now r (more rs ss (start from before of first)) → (sink ≡ from) × (cache ≡ of) × IsWritten (records_text rs) ss first before r now new
 unfolding IsPut start more
-was_put rs from name before new r h = (sym h.0, h.1)
+was_put rs ss sink from before cache of first now new r h = (sym h.0, sym h.1, h.2)
 
--- no slot is consumed
-pub written : (text before new : List ℕ) (r : Result (Unit {0}) EncodeError) (c : Cache) → WritesSmall text before r new → IsWritten text [] c before r c new
-written text before new (Ok _) c (bs, p, q) = (bs, p, ((written_none (Unit {0}) c before).2.0, q))
-written text before new (Err e) c (bs, p, q) = (bs, p, (q.0, q.1, consumes_none [] c))
-
-counted_is : (rs : List (ℕ × Datum)) (name : ℕ) (before : List ℕ) (total : ℕ) → IsCounted total (more rs (start name before)) → total ≡ cap (length (records_text rs))
+was_counted : (rs : List (ℕ × Datum)) (ss : List ℕ) (sink : ℕ) (before : List ℕ) (cache of : ℕ) (first now : Cache) (r : Result ℕ EncodeError) →
+    IsCounted cache r now (more rs ss (start sink before of first)) → (cache ≡ of) × IsSized (records_text rs) ss first r now
 unfolding IsCounted start more
-counted_is rs name before total h = h
+was_counted rs ss sink before cache of first now r h = (sym h.0, h.1)
 
 module _ {M X : Type 0} (l : Layout M X) where
   -- the size pass
-  pub sizes : (m : M) (name : ℕ) (before : List ℕ) (total : ℕ) (c : Cache) → IsCounted total (l.seen m (start name before)) →
-      IsSized (records_text (l.records (l.meaning m))) [] c (let r : Result ℕ EncodeError = Ok total in r) c
-  sizes m name before total c h =
-      (counted_is (l.records (l.meaning m)) name before total (subst (λ z. IsCounted total z) (l.seen_is m (start name before)) h), sym (appended_none c))
+  pub sizes : (m : M) (sink : ℕ) (before : List ℕ) (cache of : ℕ) (first now : Cache) (r : Result ℕ EncodeError) → IsCounted cache r now (l.seen m (start sink before of first)) →
+      (cache ≡ of) × IsSized (records_text (l.records (l.meaning m))) (l.slots (l.meaning m)) first r now
+  sizes m sink before cache of first now r h =
+      was_counted (l.records (l.meaning m)) (l.slots (l.meaning m)) sink before cache of first now r (subst (λ z. IsCounted cache r now z) (l.seen_is m (start sink before of first)) h)
 
   -- the write pass
-  pub puts : (m : M) (from name : ℕ) (before new : List ℕ) (r : Result (Unit {0}) EncodeError) → IsPut name new r (l.seen m (start from before)) →
-      (name ≡ from) × WritesSmall (records_text (l.records (l.meaning m))) before r new
-  puts m from name before new r h = was_put (l.records (l.meaning m)) from name before new r (subst (λ z. IsPut name new r z) (l.seen_is m (start from before)) h)
+  pub puts : (m : M) (from sink : ℕ) (before : List ℕ) (of cache : ℕ) (first now : Cache) (new : List ℕ) (r : Result (Unit {0}) EncodeError) → IsPut sink cache new now r (l.seen m (start from before of first)) →
+      (sink ≡ from) × (cache ≡ of) × IsWritten (records_text (l.records (l.meaning m))) (l.slots (l.meaning m)) first before r now new
+  puts m from sink before of cache first now new r h =
+      was_put (l.records (l.meaning m)) (l.slots (l.meaning m)) sink from before cache of first now new r (subst (λ z. IsPut sink cache new now r z) (l.seen_is m (start from before of first)) h)
 
   -- one field
   pub merges : (d : ℕ) (old new : M) (n : ℕ) (wire : WireType) (bs rest : List ℕ) (before after : BudgetLeft) (r : Result (Unit {0}) DecodeError) →

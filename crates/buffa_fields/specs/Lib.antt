@@ -15,5 +15,10 @@ pub mod Layout
 pub mod LayoutLaws
 pub mod Members
 pub mod Slots
+pub mod Nested
+pub mod NestedLaws
 pub mod Lists
 pub mod ListLaws
+pub mod PackedLaws
+pub mod Stands
+pub mod StandsLaws

@@ -21,7 +21,9 @@ use Rattle.buffa_wire.specs.Field.{Payload}
 use Rattle.buffa_wire.specs.Message.{IsLimit}
 use Rattle.buffa_wire.specs.Number.{IsNumber}
 use Rattle.buffa_wire.specs.Parse.{Fits}
-use Rattle.buffa_wire.specs.Passes.{cap}
+use Rattle.buffa_wire.specs.Cache.{Cache}
+use Rattle.buffa_wire.specs.Passes.{IsWritten, cap}
+use Rattle.buffa_wire.proofs.PassLemmas.{consumes_none, written_none}
 use Rattle.buffa_wire.specs.Reading.{delimited_at}
 use Rattle.buffa_wire.specs.Records.{Datum, bytes, records_of}
 use Rattle.buffa_wire.specs.Text.{records_text}
@@ -261,3 +263,9 @@ module _ {K V : Type 0} (kw : Writing K) (vw : Writing V) (n : ℕ) (l m : List 
   map_unwritten encode.MessageTooLarge (done, p, rest, split, has, long, h) =
       (field_text kw vw n done, h, (refl, λ small. absurd (omega (arith, small, long, long_in done p rest, ap (λ (z : List (K × V)). length (field_text kw vw n z)) split, ap length text_is))))
   map_unwritten (encode.GroupRefused e) h = absurd h
+
+-- a map field takes no slots
+pub map_alone : {K V : Type 0} (key : Writing K) (val : Writing V) (n : ℕ) (l : List (K × V)) (old new : List ℕ) (c : Cache) (r : Result (Unit {0}) EncodeError) → WritesMap key val n l old r new →
+    IsWritten (records_text (map_records key val n l)) [] c old r c new
+map_alone key val n l old new c (Ok _) (bs, p, q) = (bs, p, ((written_none (Unit {0}) c old).2.0, q))
+map_alone key val n l old new c (Err e) (bs, p, q) = (bs, p, (q.0, q.1, consumes_none [] c))

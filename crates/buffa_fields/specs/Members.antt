@@ -1,11 +1,12 @@
 -- Lists of members. A message names its members by these, one after the other.
-use Rattle.std.specs.Prelude.{◌≡◌, ℕ, ◌==◌, ◌&&◌, ◌||◌, Bool, true, false, not, max, List, [], ◌++◌, refl}
+use Rattle.std.specs.Prelude.{◌≡◌, ℕ, ◌==◌, ◌&&◌, ◌||◌, Bool, true, false, not, max, List, [], ◌++◌, Result, Err, refl}
 use Rattle.std.proofs.Common.{sym, ap}
+use Rattle.buffa_bytes.specs.declared.error.DecodeError.{DecodeError}
 use Rattle.buffa_wire.specs.Records.{Datum, height}
 use Rattle.buffa_fields.specs.Keep.{AllNumbers, keep_need, keep_takes}
 use Rattle.buffa_fields.specs.KeepLaws.{all_numbers, both_numbers, keep_back, keep_stays}
 use Rattle.buffa_fields.specs.Layout.{Choice, Kept, Layout, Passed, ReadsBackTo, Slot, Took, costs_nothing, more, passes, visited}
-use Rattle.buffa_fields.specs.LayoutLaws.{field_taken, is_kept, is_passed, more_none, seen_field}
+use Rattle.buffa_fields.specs.LayoutLaws.{field_apart, field_taken, is_kept, kept_stays, is_passed, more_none, seen_field}
 use Rattle.buffa_fields.specs.PairLaws.{both_back, both_stay, both_true, no_pieces}
 use Rattle.buffa_fields.specs.Takes.{both_need, both_take, is_number}
 
@@ -17,6 +18,7 @@ field k get s l = record {
   takes = both_take k s.takes l.takes;
   need = both_need k s.need l.need;
   records = λ v. s.records k v.0 ++ l.records v.1;
+  slots = λ v. s.slots v.0 ++ l.slots v.1;
   levels = λ v. max (s.levels v.0) (l.levels v.1);
   normal = λ v. s.normal v.0 × l.normal v.1 × l.within (λ n. not (n == k)) v.1;
   declares = λ n. n == k || l.declares n;
@@ -24,12 +26,15 @@ field k get s l = record {
   within = λ P v. (P k ≡ true) × l.within P v.1;
   Same = λ a b. (get b ≡ get a) × l.Same a b;
   Taken = λ d old n w bs before r new after rest. Choice (n == k) (Took s d (get old) n w bs before r (get new) after rest × l.Same old new) ((get new ≡ get old) × l.Taken d old n w bs before r new after rest);
+  Apart = λ n v u. Choice (n == k) (v.1 ≡ u.1) ((v.0 ≡ u.0) × l.Apart n v.1 u.1);
+  apart = λ d old n w bs before e new after rest h.
+      field_apart s k l.Apart (get old) (get new) (l.meaning old) (l.meaning new) n (Took s d (get old) n w bs before (let r : Result (Unit {0}) DecodeError = Err e in r) (get new) after rest) (l.Same old new) (l.Taken d old n w bs before (let r : Result (Unit {0}) DecodeError = Err e in r) new after rest) (l.same_is old new) (l.apart d old n w bs before e new after rest) h;
   seen = λ m z. l.seen m (visited s k (get m) z);
   stays = both_stay k s.need l.need s.stays l.stays;
   same_is = λ a b h. λ i. (s.meaning (sym h.0 i), l.same_is a b h.1 i);
   taken_is = λ d old n w bs before r new after rest h.
       field_taken s k l.takes l.need d (get old) (get new) (l.meaning old) (l.meaning new) n w bs before r after rest (l.Same old new) (l.Taken d old n w bs before r new after rest) (l.same_is old new) (l.taken_is d old n w bs before r new after rest) h;
-  seen_is = λ m z. seen_field s k (get m) (l.records (l.meaning m)) z (l.seen m (visited s k (get m) z)) (l.seen_is m (visited s k (get m) z));
+  seen_is = λ m z. seen_field s k (get m) (l.records (l.meaning m)) (l.slots (l.meaning m)) z (l.seen m (visited s k (get m) z)) (l.seen_is m (visited s k (get m) z));
   within_all = λ v. (refl, l.within_all v.1);
   within_both = λ P Q v h j. (both_true (P k) (Q k) h.0 j.0, l.within_both P Q v.1 h.1 j.1);
   Owes = ReadsBackTo s × l.Owes;
@@ -44,6 +49,7 @@ keep get = record {
   takes = keep_takes;
   need = keep_need;
   records = λ v. v;
+  slots = λ v. [];
   levels = height;
   normal = λ v. Unit {0};
   declares = λ n. false;
@@ -51,7 +57,9 @@ keep get = record {
   within = AllNumbers;
   Same = λ a b. get b ≡ get a;
   Taken = λ d old n w bs before r new after rest. Kept d (get old) n w bs before r (get new) after rest;
-  seen = λ m z. more (get m) z;
+  Apart = λ n v u. v ≡ u;
+  apart = λ d old n w bs before e new after rest h. kept_stays d (get old) n w bs before e (get new) after rest h;
+  seen = λ m z. more (get m) [] z;
   stays = keep_stays;
   same_is = λ a b h. sym h;
   taken_is = λ d old n w bs before r new after rest h. is_kept d (get old) n w bs before r (get new) after rest h;
@@ -70,6 +78,7 @@ skip = record {
   takes = passes;
   need = costs_nothing;
   records = λ v. [];
+  slots = λ v. [];
   levels = λ v. 0;
   normal = λ v. Unit {0};
   declares = λ n. false;
@@ -77,6 +86,8 @@ skip = record {
   within = λ P v. Unit {0};
   Same = λ a b. Unit {0};
   Taken = λ d old n w bs before r new after rest. Passed d n w bs before r after rest;
+  Apart = λ n v u. Unit {0};
+  apart = λ d old n w bs before e new after rest h. tt;
   seen = λ m z. z;
   stays = λ d n w p x h. refl;
   same_is = λ a b h. refl;

@@ -29,7 +29,9 @@ pub trait Fields: Drop {
 
     /// Visits each member.
     fn visit<V: Visitor>(&self, visitor: &mut V)
-        ensures { (z : Seen) → V.IsAt z visitor.old → V.IsAt (layout.seen self.now z) visitor.new };
+        requires { V.Waits (layout.slots (layout.meaning self.now)) visitor.old }
+        ensures seen { (z : Seen) → V.IsAt z visitor.old → V.IsAt (layout.seen self.now z) visitor.new }
+        ensures back { layout.Owes };
 
     /// The member of the number takes the field whose tag was read.
     fn take(

@@ -72,9 +72,10 @@ pub fn keep(
 {
     let DecodeContext { depth, budget } = ctx;
     let (field, left) = read_alone(alloc, tag, buf, depth, budget.unknown_left())?;
-    let Ok(()) = fields.push(field) else {
-        return Err(DecodeError::OutOfMemory);
-    };
+    match fields.push(field) {
+        Ok(()) => {}
+        Err(_) => return Err(DecodeError::OutOfMemory),
+    }
     *budget = Budget::new(left).with_element_memory(budget.memory_left());
     Ok(())
 }

@@ -2,7 +2,7 @@
 
 ghost use Rattle.std.specs.Prelude.{refl};
 ghost use Rattle.std.specs.Int.{cast_unsigned, w64};
-ghost use Rattle.std.proofs.Common.{ap, ◌∙◌};
+ghost use Rattle.std.proofs.Common.{ap, sym, ◌∙◌};
 ghost use Rattle.buffa_wire.specs.Enums.{open_number};
 ghost use Rattle.buffa_wire.specs.Records.Datum.{varint, fixed32, fixed64, bytes};
 ghost use Rattle.buffa_fields.specs.KindLaws.{zero_only, is_nought, is_zero, none_only, nought_only, is_none, same_false_only};
@@ -10,10 +10,11 @@ ghost use Rattle.std.specs.Prelude.{not};
 
 use crate::kind::Kind;
 use buffa_map::map_codec::{
-    Bool, BytesVec, Fixed32, Fixed64, Int32, Int64, OpenEnum, Sfixed32, Sfixed64, Sint32, Sint64,
-    Str, Uint32, Uint64,
+    Bool, BytesBuf, Fixed32, Fixed64, Int32, Int64, OpenEnum, ProtoBytesMap, ProtoStringMap,
+    Sfixed32, Sfixed64, Sint32, Sint64, Uint32, Uint64,
 };
-use buffa_wire::{EnumValue, Enumeration, Scalar};
+use buffa_wire::{EnumValue, Enumeration, ProtoBytes, ProtoString, Scalar};
+use bytes::Bytes;
 
 impl Kind for Int32 {
     ghost datum = { λ v. varint (⟦<Int32 as Scalar>⟧.number_of v) };
@@ -43,17 +44,19 @@ impl Kind for Bool {
     }
 }
 
-impl Kind for Str {
-    ghost datum = { bytes };
+impl<T: ProtoString> Kind for ProtoStringMap<T> {
+    ghost datum = { λ v. bytes (T.text v) };
 
-    ghost is_blank = { is_none };
+    ghost is_blank = { λ v. is_none (T.text v) };
 
     ghost datum_text = { λ n v. refl };
 
-    ghost blank_only = { λ v _ h. none_only v h };
+    ghost blank_only = { λ v _ h. sym (T.ProtoString.meaning_stays v)
+        ∙ ap T.of_text (none_only (T.text v) h ∙ sym T.ProtoString.blank_text)
+        ∙ T.ProtoString.meaning_stays T.blank_is };
 
-    fn is_blank(value: &String) -> bool {
-        value.is_empty()
+    fn is_blank(value: &T) -> bool {
+        value.as_str().is_empty()
     }
 }
 
@@ -183,13 +186,29 @@ impl Kind for Sfixed64 {
     ghost blank_only = { λ v _ h. zero_only v h };
 }
 
-impl Kind for BytesVec {
+impl<T: ProtoBytes> Kind for ProtoBytesMap<T> {
+    ghost datum = { λ v. bytes (T.bytes v) };
+
+    ghost is_blank = { λ v. is_none (T.bytes v) };
+
+    fn is_blank(value: &T) -> bool {
+        value.as_bytes().is_empty()
+    }
+
+    ghost datum_text = { λ n v. refl };
+
+    ghost blank_only = { λ v _ h. sym (T.ProtoBytes.meaning_stays v)
+        ∙ ap T.of_bytes (none_only (T.bytes v) h ∙ sym T.ProtoBytes.blank_bytes)
+        ∙ T.ProtoBytes.meaning_stays T.blank_is };
+}
+
+impl Kind for BytesBuf {
     ghost datum = { bytes };
 
     ghost is_blank = { is_none };
 
-    fn is_blank(value: &Vec<u8>) -> bool {
-        value.is_empty()
+    fn is_blank(value: &Bytes) -> bool {
+        Bytes::as_slice(value).is_empty()
     }
 
     ghost datum_text = { λ n v. refl };

@@ -14,7 +14,9 @@ ghost use Rattle.buffa_fields.specs.Slots.{entry_records};
 use crate::map::{map_len, take_entry, write_map};
 use crate::member::Member;
 use buffa_map::map_codec::{Map, MapCodec, MapValueDecode};
-use buffa_wire::{Blank, DecodeContext, DecodeError, EncodeError, EncodeSink, MapKey, Tag};
+use buffa_wire::{
+    Blank, DecodeContext, DecodeError, EncodeError, EncodeSink, MapKey, SizeCache, Tag,
+};
 use std::alloc::Global;
 use std::hash::Hash;
 use std::marker::PhantomData;
@@ -39,21 +41,27 @@ where
       takes = entry_taken KC.reading VC.reading KC.Value.same;
       need = entry_cost KC.reading VC.reading (KC.COST + VC.COST);
       records = entry_records KC.writing VC.writing;
+      slots = λ _. [];
       levels = λ _. 0;
       normal = λ l. AllHold (λ k. KC.fits k × KC.normal k) (λ v. VC.fits v × VC.normal v) l
           × IsDistinct KC.Value.same (keys_of l);
       stays = map_stays KC.reading VC.reading KC.Value.same (KC.COST + VC.COST);
     } };
 
-    #[tactic(auto, unfolding(crate::specs::Slots::entry_records))]
-    fn len(number: u32, part: &Map<KC::Value, VC::Value>) -> u32 {
-        map_len::<KC, VC>(number, part)
+    #[tactic(auto, using(crate::specs::LayoutLaws::sized_free), unfolding(crate::specs::Slots::entry_records))]
+    fn len(
+        number: u32,
+        part: &Map<KC::Value, VC::Value>,
+        _cache: &mut SizeCache,
+    ) -> Result<u32, EncodeError> {
+        Ok(map_len::<KC, VC>(number, part))
     }
 
-    #[tactic(auto, unfolding(crate::specs::Slots::entry_records))]
+    #[tactic(auto, using(crate::specs::MapLaws::map_alone), unfolding(crate::specs::Slots::entry_records))]
     fn write_to<S: EncodeSink>(
         number: u32,
         part: &Map<KC::Value, VC::Value>,
+        _cache: &mut SizeCache,
         sink: &mut S,
     ) -> Result<(), EncodeError> {
         write_map::<KC, VC, S>(number, part, sink)

@@ -1,13 +1,12 @@
 //! Kinds of members.
 
-ghost use Rattle.std.specs.Prelude.{◌≡◌, length};
 ghost use Rattle.buffa_wire.specs.BudgetLeft.{budget_left};
 ghost use Rattle.buffa_wire.specs.Number.{IsNumber};
-ghost use Rattle.buffa_wire.specs.Passes.{cap};
+ghost use Rattle.buffa_wire.specs.Passes.{IsNext, IsSized, IsWritten};
 ghost use Rattle.buffa_wire.specs.Text.{records_text};
-ghost use Rattle.buffa_fields.specs.Layout.{ReadsBackTo, Slot, Took, WritesSmall};
+ghost use Rattle.buffa_fields.specs.Layout.{ReadsBackTo, Slot, Took};
 
-use buffa_wire::{DecodeContext, DecodeError, EncodeError, EncodeSink, Tag};
+use buffa_wire::{DecodeContext, DecodeError, EncodeError, EncodeSink, SizeCache, Tag};
 use std::alloc::Global;
 
 /// A kind of members of messages: how a member's value is read and written.
@@ -21,19 +20,29 @@ pub trait Member {
     /// What it is, and what it owes.
     ghost slot: { Slot Self.Part Self.Meaning };
 
-    /// The length of its text under a number, or 2^32 - 1 where it is more.
-    fn len(number: u32, part: &Self::Part) -> u32
+    /// The length of its text under a number, or 2^32 - 1 where it is more. The value's slots are appended.
+    ///
+    /// # Errors
+    /// [`EncodeError::OutOfMemory`] alone.
+    fn len(number: u32, part: &Self::Part, cache: &mut SizeCache) -> Result<u32, EncodeError>
         requires { IsNumber number }
-        ensures { result ≡ cap (length (records_text (slot.records number (slot.meaning part.now)))) };
+        ensures { IsSized (records_text (slot.records number (slot.meaning part.now)))
+            (slot.slots (slot.meaning part.now)) cache.old result cache.new };
 
-    /// Writes its text.
+    /// Writes its text, and consumes the value's slots, which have to be next.
+    ///
+    /// # Errors
+    /// [`EncodeError::OutOfMemory`] alone.
     fn write_to<S: EncodeSink>(
         number: u32,
         part: &Self::Part,
+        cache: &mut SizeCache,
         sink: &mut S,
     ) -> Result<(), EncodeError>
-        requires { IsNumber number }
-        ensures { WritesSmall (records_text (slot.records number (slot.meaning part.now))) (S.written sink.old) result
+        requires number { IsNumber number }
+        requires next { IsNext (slot.slots (slot.meaning part.now)) cache.old }
+        ensures { IsWritten (records_text (slot.records number (slot.meaning part.now)))
+            (slot.slots (slot.meaning part.now)) cache.old (S.written sink.old) result cache.new
             (S.written sink.new) };
 
     /// Merges the field whose tag was read.

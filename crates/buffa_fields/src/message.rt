@@ -1,65 +1,76 @@
 //! A struct of one's own is a message.
 
-ghost use Rattle.std.specs.Prelude.{◌≡◌, ◌≢◌, [], Ok, refl};
+ghost use Rattle.std.specs.Prelude.{◌≡◌, ◌≢◌, ◌≤◌, Ok, Some, refl, ℕ};
 ghost use Rattle.std.proofs.Common.{ap, ◌∙◌};
 ghost use Rattle.buffa_wire.specs.BudgetLeft.{budget_left};
 ghost use Rattle.buffa_wire.specs.Gives.{FullOnlyIf};
 ghost use Rattle.buffa_wire.specs.Message.{IsFieldMerged};
-ghost use Rattle.buffa_wire.specs.Passes.{IsSized, IsWritten};
+ghost use Rattle.buffa_wire.specs.Parse.{Fits};
+ghost use Rattle.buffa_wire.specs.Passes.{IsNext, IsSized, IsWritten};
+ghost use Rattle.buffa_wire.specs.Records.{records_of};
 ghost use Rattle.buffa_wire.specs.Text.{records_text};
-ghost use Rattle.buffa_fields.specs.Layout.{WritesSmall};
 ghost use Rattle.buffa_fields.specs.LayoutLaws.{reads_back};
 ghost use Rattle.buffa_fields.specs.Takes.{cost_of, merged_of};
 ghost use Rattle.buffa_fields.specs.TakesLaws.{cost_of_next, cost_of_none, merged_empty, merged_fields, merged_next};
 
 use crate::fields::Fields;
+use crate::member::Member;
 use crate::sizer::Sizer;
+use crate::visitor::Visitor;
 use crate::writer::Writer;
 use buffa_wire::{
     Blank, DecodeContext, DecodeError, EncodeError, EncodeSink, MessageForm, SizeCache, Tag,
-    WireType,
+    UnknownFields, WireType,
 };
 use std::alloc::Global;
 
-// Writes all members.
-fn write_members<M: Fields, S: EncodeSink>(message: &M, writer: &mut Writer<'_, S>)
-    requires { writer.old.result ≡ Ok tt }
-    ensures same_reference { writer.new.sink.ghost_name ≡ writer.old.sink.ghost_name }
-    ensures written { WritesSmall (records_text (M.layout.records (M.layout.meaning message.now)))
-        (S.written writer.old.sink.now) writer.new.result (S.written writer.new.sink.now) }
+// Sizes all members.
+fn size_members<M: Fields>(message: &M, sizer: &mut Sizer<'_>)
+    requires { sizer.old.total ≡ Ok 0 }
+    ensures same_reference { sizer.new.cache.ghost_name ≡ sizer.old.cache.ghost_name }
+    ensures sized { IsSized (records_text (M.layout.records (M.layout.meaning message.now)))
+        (M.layout.slots (M.layout.meaning message.now)) sizer.old.cache.now sizer.new.total sizer.new.cache.now }
 {
-    message.visit(writer);
-}
-
-// The same into a sink.
-fn write_text<M: Fields, S: EncodeSink>(message: &M, sink: &mut S) -> Result<(), EncodeError>
-    ensures { WritesSmall (records_text (M.layout.records (M.layout.meaning message.now))) (S.written sink.old) result
-        (S.written sink.new) }
-{
-    let mut writer = Writer::new(sink);
-    write_members(message, &mut writer);
-    writer.finish()
+    message.visit(sizer);
 }
 
 // The size pass of a message by its members.
-fn size<M: Fields>(message: &M, _cache: &mut SizeCache) -> Result<u32, EncodeError>
-    ensures { IsSized (records_text (M.layout.records (M.layout.meaning message.now))) [] _cache.old result _cache.new }
+fn size<M: Fields>(message: &M, cache: &mut SizeCache) -> Result<u32, EncodeError>
+    ensures { IsSized (records_text (M.layout.records (M.layout.meaning message.now)))
+        (M.layout.slots (M.layout.meaning message.now)) cache.old result cache.new }
 {
-    let mut sizer = Sizer { total: 0 };
-    message.visit(&mut sizer);
-    Ok(sizer.total)
+    let mut sizer = Sizer::new(cache);
+    size_members(message, &mut sizer);
+    sizer.finish()
+}
+
+// Writes all members.
+fn write_members<M: Fields, S: EncodeSink>(message: &M, writer: &mut Writer<'_, S>)
+    requires fresh { writer.old.result ≡ Ok tt }
+    requires next { IsNext (M.layout.slots (M.layout.meaning message.now)) writer.old.cache.now }
+    ensures same_sink { writer.new.sink.ghost_name ≡ writer.old.sink.ghost_name }
+    ensures same_cache { writer.new.cache.ghost_name ≡ writer.old.cache.ghost_name }
+    ensures written { IsWritten (records_text (M.layout.records (M.layout.meaning message.now)))
+        (M.layout.slots (M.layout.meaning message.now)) writer.old.cache.now (S.written writer.old.sink.now)
+        writer.new.result writer.new.cache.now (S.written writer.new.sink.now) }
+{
+    message.visit(writer);
 }
 
 // The write pass.
 fn write<M: Fields, S: EncodeSink>(
     message: &M,
-    _cache: &mut SizeCache,
+    cache: &mut SizeCache,
     sink: &mut S,
 ) -> Result<(), EncodeError>
-    ensures { IsWritten (records_text (M.layout.records (M.layout.meaning message.now))) [] _cache.old
-        (S.written sink.old) result _cache.new (S.written sink.new) }
+    requires { IsNext (M.layout.slots (M.layout.meaning message.now)) cache.old }
+    ensures { IsWritten (records_text (M.layout.records (M.layout.meaning message.now)))
+        (M.layout.slots (M.layout.meaning message.now)) cache.old (S.written sink.old) result cache.new
+        (S.written sink.new) }
 {
-    write_text(message, sink)
+    let mut writer = Writer::new(sink, cache);
+    write_members(message, &mut writer);
+    writer.finish()
 }
 
 // Merges the field whose tag was read.
@@ -113,7 +124,7 @@ impl<M: Listing> MessageForm<M> for Listed {
 
     ghost records = { M.layout.records };
 
-    ghost slots = { λ _. [] };
+    ghost slots = { M.layout.slots };
 
     ghost levels = { M.layout.levels };
 
@@ -156,4 +167,34 @@ impl<M: Listing> MessageForm<M> for Listed {
     ghost merged_text = { λ d v fits normal low.
         ap (λ b. merged_of M.layout.takes d b (records_text (M.layout.records v))) M.Listing.starts
         ∙ reads_back M.layout normal.0 M.sound d v fits normal.1 low };
+}
+
+// Visits members, and does nothing.
+#[derive(Drop)]
+struct Nothing;
+
+impl Visitor for Nothing {
+    ghost IsAt = { λ z v. Unit {0} };
+
+    ghost Waits = { λ ss v. Unit {0} };
+
+    fn visit<M: Member>(&mut self, _number: u32, _part: &M::Part) {}
+
+    fn visit_kept(&mut self, _fields: &UnknownFields) {}
+}
+
+// Each member's text reads back.
+fn members_read_back<M: Fields>(message: &M)
+    ensures { M.layout.Owes }
+{
+    let mut nothing = Nothing;
+    message.visit(&mut nothing);
+}
+
+/// The text of a message reads back to it: its lengths can be read, each member is normal, and it isn't too deep.
+pub fn messages_read_back<M: Listing>(message: &M)
+    ensures { let v = M.meaning message.now in (d : ℕ) → Fits (records_of (M.layout.records v)) → M.layout.normal v →
+        M.layout.levels v ≤ d → merged_of M.layout.takes d M.blank_is (records_text (M.layout.records v)) ≡ Some v }
+{
+    members_read_back(message);
 }

@@ -1,6 +1,6 @@
 //! Members that may be absent.
 
-ghost use Rattle.std.specs.Prelude.{None, refl, ◌==◌};
+ghost use Rattle.std.specs.Prelude.{[], None, refl, ◌==◌};
 ghost use Rattle.std.specs.Option.{option_map};
 ghost use Rattle.buffa_fields.specs.Values.{IfThere, free, some_taken};
 ghost use Rattle.buffa_fields.specs.ValueLaws.{some_back};
@@ -9,7 +9,7 @@ ghost use Rattle.buffa_fields.specs.Slots.{optional_records};
 use crate::kind::Kind;
 use crate::member::Member;
 use crate::value::{take_value, value_len, write_value};
-use buffa_wire::{Blank, DecodeContext, DecodeError, EncodeError, EncodeSink, Tag};
+use buffa_wire::{Blank, DecodeContext, DecodeError, EncodeError, EncodeSink, SizeCache, Tag};
 use std::alloc::Global;
 use std::marker::PhantomData;
 
@@ -29,23 +29,29 @@ impl<C: Kind> Member for Optional<C> {
       takes = some_taken C.reading;
       need = free;
       records = optional_records C.datum;
+      slots = λ _. [];
       levels = λ _. 0;
       normal = λ v. IfThere (λ x. C.fits x × C.normal x) v;
       stays = λ d n w p x h. refl;
     } };
 
-    #[tactic(auto, unfolding(crate::specs::Slots::optional_records))]
-    fn len(number: u32, part: &Option<C::Value>) -> u32 {
+    #[tactic(auto, using(crate::specs::LayoutLaws::sized_free), unfolding(crate::specs::Slots::optional_records))]
+    fn len(
+        number: u32,
+        part: &Option<C::Value>,
+        _cache: &mut SizeCache,
+    ) -> Result<u32, EncodeError> {
         match part {
-            None => 0,
-            Some(value) => value_len::<C>(number, value),
+            None => Ok(0),
+            Some(value) => Ok(value_len::<C>(number, value)),
         }
     }
 
-    #[tactic(auto, unfolding(crate::specs::Slots::optional_records))]
+    #[tactic(auto, using(buffa_wire::proofs::PassLemmas::written_none, buffa_wire::proofs::PassLemmas::written_put), unfolding(crate::specs::Slots::optional_records))]
     fn write_to<S: EncodeSink>(
         number: u32,
         part: &Option<C::Value>,
+        _cache: &mut SizeCache,
         sink: &mut S,
     ) -> Result<(), EncodeError> {
         match part {

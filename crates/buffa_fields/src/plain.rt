@@ -8,7 +8,7 @@ ghost use Rattle.buffa_fields.specs.Slots.{plain_records};
 use crate::kind::Kind;
 use crate::member::Member;
 use crate::value::{take_value, value_len, write_value};
-use buffa_wire::{Blank, DecodeContext, DecodeError, EncodeError, EncodeSink, Tag};
+use buffa_wire::{Blank, DecodeContext, DecodeError, EncodeError, EncodeSink, SizeCache, Tag};
 use std::alloc::Global;
 use std::marker::PhantomData;
 
@@ -28,24 +28,26 @@ impl<C: Kind> Member for Plain<C> {
       takes = value_taken C.reading;
       need = free;
       records = plain_records C.is_blank C.datum;
+      slots = λ _. [];
       levels = λ _. 0;
       normal = λ v. C.fits v × C.normal v;
       stays = λ d n w p x h. refl;
     } };
 
-    #[tactic(auto, unfolding(crate::specs::Slots::plain_records))]
-    fn len(number: u32, part: &C::Value) -> u32 {
+    #[tactic(auto, using(crate::specs::LayoutLaws::sized_free), unfolding(crate::specs::Slots::plain_records))]
+    fn len(number: u32, part: &C::Value, _cache: &mut SizeCache) -> Result<u32, EncodeError> {
         if C::is_blank(part) {
-            0
+            Ok(0)
         } else {
-            value_len::<C>(number, part)
+            Ok(value_len::<C>(number, part))
         }
     }
 
-    #[tactic(auto, unfolding(crate::specs::Slots::plain_records))]
+    #[tactic(auto, using(buffa_wire::proofs::PassLemmas::written_none, buffa_wire::proofs::PassLemmas::written_put), unfolding(crate::specs::Slots::plain_records))]
     fn write_to<S: EncodeSink>(
         number: u32,
         part: &C::Value,
+        _cache: &mut SizeCache,
         sink: &mut S,
     ) -> Result<(), EncodeError> {
         if C::is_blank(part) {

@@ -9,7 +9,7 @@ use crate::kind::Kind;
 use crate::list::{elements_len, take_elements, write_elements};
 use crate::member::Member;
 use buffa_map::map_codec::{MapCodec, MapValueDecode};
-use buffa_wire::{Blank, DecodeContext, DecodeError, EncodeError, EncodeSink, Tag};
+use buffa_wire::{Blank, DecodeContext, DecodeError, EncodeError, EncodeSink, SizeCache, Tag};
 use std::alloc::Global;
 use std::marker::PhantomData;
 
@@ -29,18 +29,22 @@ impl<C: Kind> Member for Repeated<C> {
       takes = elements_taken C.reading;
       need = free;
       records = element_records C.datum;
+      slots = λ _. [];
       levels = λ _. 0;
       normal = λ vs. Each (λ v. C.fits v × C.normal v) vs;
       stays = λ d n w p x h. refl;
     } };
 
-    fn len(number: u32, part: &Vec<C::Value>) -> u32 {
-        elements_len::<C>(number, part.as_slice())
+    #[tactic(auto, using(crate::specs::LayoutLaws::sized_free))]
+    fn len(number: u32, part: &Vec<C::Value>, _cache: &mut SizeCache) -> Result<u32, EncodeError> {
+        Ok(elements_len::<C>(number, part.as_slice()))
     }
 
+    #[tactic(auto, using(buffa_wire::proofs::PassLemmas::written_none, buffa_wire::proofs::PassLemmas::written_put))]
     fn write_to<S: EncodeSink>(
         number: u32,
         part: &Vec<C::Value>,
+        _cache: &mut SizeCache,
         sink: &mut S,
     ) -> Result<(), EncodeError> {
         write_elements::<C, S>(number, part.as_slice(), sink)

@@ -1,30 +1,67 @@
 //! The size pass.
 
-ghost use Rattle.std.specs.Prelude.{◌≡◌};
+ghost use Rattle.std.specs.Prelude.{◌≡◌, Ok};
 ghost use Rattle.buffa_fields.specs.Layout.{IsCounted};
 
 use crate::kept::kept_len;
 use crate::member::Member;
 use crate::visitor::Visitor;
-use buffa_wire::UnknownFields;
+use buffa_wire::{EncodeError, SizeCache, UnknownFields};
 
-/// Adds lengths, up to 2^32 - 1.
+/// Adds lengths, up to 2^32 - 1, and puts those of messages into a cache that is lent, until memory runs out.
 #[derive(Drop)]
-pub struct Sizer {
-    /// The sum.
-    pub total: u32,
+pub struct Sizer<'a> {
+    cache: &'a mut SizeCache,
+    total: Result<u32, EncodeError>,
 }
 
-impl Visitor for Sizer {
-    ghost IsAt = { λ z s. IsCounted s.total z };
+impl<'a> Sizer<'a> {
+    /// Lends a cache.
+    pub fn new(cache: &'a mut SizeCache) -> Sizer<'a>
+        ensures same_reference { result.cache.ghost_name ≡ cache.entry.ghost_name }
+        ensures cache { result.cache.now ≡ cache.old }
+        ensures total { result.total ≡ Ok 0 }
+    {
+        Sizer {
+            cache,
+            total: Ok(0),
+        }
+    }
+}
 
-    #[tactic(auto, using(crate::specs::LayoutLaws::counted))]
+impl Sizer<'_> {
+    /// Ends the loan: the sum.
+    ///
+    /// # Errors
+    /// [`EncodeError::OutOfMemory`] alone.
+    pub fn finish(self) -> Result<u32, EncodeError>
+        ensures result { result ≡ self.entry.total }
+        ensures cache { self.exit.0.now ≡ self.entry.cache.now }
+    {
+        let Sizer { cache: _, total } = self;
+        total
+    }
+}
+
+impl Visitor for Sizer<'_> {
+    ghost IsAt = { λ z s. IsCounted s.cache.ghost_name s.total s.cache.now z };
+
+    ghost Waits = { λ ss s. Unit {0} };
+
+    #[tactic(auto, using(crate::specs::LayoutLaws::counted, crate::specs::LayoutLaws::counted_err, crate::specs::LayoutLaws::counted_none))]
     fn visit<M: Member>(&mut self, number: u32, part: &M::Part) {
-        self.total = self.total.saturating_add(M::len(number, part));
+        if let Ok(total) = self.total {
+            self.total = match M::len(number, part, self.cache) {
+                Ok(len) => Ok(total.saturating_add(len)),
+                Err(error) => Err(error),
+            };
+        }
     }
 
-    #[tactic(auto, using(crate::specs::LayoutLaws::counted))]
+    #[tactic(auto, using(crate::specs::LayoutLaws::counted, crate::specs::LayoutLaws::sized_free, crate::specs::LayoutLaws::counted_none))]
     fn visit_kept(&mut self, fields: &UnknownFields) {
-        self.total = self.total.saturating_add(kept_len(fields));
+        if let Ok(total) = self.total {
+            self.total = Ok(total.saturating_add(kept_len(fields)));
+        }
     }
 }

@@ -1,22 +1,31 @@
 //! What is done with each member of a message, one after the other.
 
+ghost use Rattle.std.specs.Prelude.{◌++◌, [], ℕ, List};
 ghost use Rattle.buffa_wire.specs.Number.{IsNumber};
-ghost use Rattle.buffa_fields.specs.Layout.{Seen, more, visited};
+ghost use Rattle.buffa_fields.specs.Layout.{ReadsBackTo, Seen, more, visited};
 
 use crate::member::Member;
 use buffa_wire::UnknownFields;
 
 /// What is done with each member: its length is added, or its text is written.
 pub trait Visitor {
-    /// It has seen these records.
+    /// It has seen these records, and these sizes.
     ghost IsAt: { Seen → Self → Type 0 };
+
+    /// It may go on to members of these sizes.
+    ghost Waits: { List ℕ → Self → Type 0 };
 
     /// The next member.
     fn visit<M: Member>(&mut self, number: u32, part: &M::Part)
-        requires { IsNumber number }
-        ensures { (z : Seen) → IsAt z self.old → IsAt (visited M.slot number part.now z) self.new };
+        requires number { IsNumber number }
+        requires waits { (rest : List ℕ) × Waits (M.slot.slots (M.slot.meaning part.now) ++ rest) self.old }
+        ensures seen { (z : Seen) → IsAt z self.old → IsAt (visited M.slot number part.now z) self.new }
+        ensures waits { (rest : List ℕ) → Waits (M.slot.slots (M.slot.meaning part.now) ++ rest) self.old →
+            Waits rest self.new }
+        ensures back { ReadsBackTo M.slot };
 
     /// The fields that were kept.
     fn visit_kept(&mut self, fields: &UnknownFields)
-        ensures { (z : Seen) → IsAt z self.old → IsAt (more fields.now.records z) self.new };
+        ensures seen { (z : Seen) → IsAt z self.old → IsAt (more fields.now.records [] z) self.new }
+        ensures waits { (rest : List ℕ) → Waits rest self.old → Waits rest self.new };
 }

@@ -1,58 +1,69 @@
 //! The write pass.
 
 ghost use Rattle.std.specs.Prelude.{◌≡◌, Ok};
-ghost use Rattle.buffa_fields.specs.Layout.{IsPut};
+ghost use Rattle.buffa_fields.specs.Layout.{Follow, IsPut};
 
 use crate::member::Member;
 use crate::visitor::Visitor;
-use buffa_wire::{EncodeError, EncodeSink, UnknownFields};
+use buffa_wire::{EncodeError, EncodeSink, SizeCache, UnknownFields};
 
-/// Writes into a sink that is lent, until memory runs out.
+/// Writes into a sink that is lent, by the sizes in a cache that is lent, until memory runs out.
 #[derive(Drop)]
 pub struct Writer<'a, S> {
     sink: &'a mut S,
+    cache: &'a mut SizeCache,
     result: Result<(), EncodeError>,
 }
 
 impl<'a, S: EncodeSink> Writer<'a, S> {
-    /// Lends a sink.
-    pub fn new(sink: &'a mut S) -> Writer<'a, S>
-        ensures same_reference { result.sink.ghost_name ≡ sink.entry.ghost_name }
+    /// Lends a sink and a cache.
+    pub fn new(sink: &'a mut S, cache: &'a mut SizeCache) -> Writer<'a, S>
+        ensures same_sink { result.sink.ghost_name ≡ sink.entry.ghost_name }
         ensures sink { result.sink.now ≡ sink.old }
+        ensures same_cache { result.cache.ghost_name ≡ cache.entry.ghost_name }
+        ensures cache { result.cache.now ≡ cache.old }
         ensures result { result.result ≡ Ok tt }
     {
         Writer {
             sink,
+            cache,
             result: Ok(()),
         }
     }
 }
 
 impl<S: EncodeSink> Writer<'_, S> {
-    /// Ends the loan: whether all was written.
+    /// Ends the loans: whether all was written.
     ///
     /// # Errors
     /// [`EncodeError::OutOfMemory`] alone.
     pub fn finish(self) -> Result<(), EncodeError>
         ensures result { result ≡ self.entry.result }
         ensures sink { self.exit.0.now ≡ self.entry.sink.now }
+        ensures cache { self.exit.1.0.now ≡ self.entry.cache.now }
     {
-        let Writer { sink: _, result } = self;
+        let Writer {
+            sink: _,
+            cache: _,
+            result,
+        } = self;
         result
     }
 }
 
 impl<S: EncodeSink> Visitor for Writer<'_, S> {
-    ghost IsAt = { λ z w. IsPut w.sink.ghost_name (S.written w.sink.now) w.result z };
+    ghost IsAt = { λ z w. IsPut w.sink.ghost_name w.cache.ghost_name (S.written w.sink.now) w.cache.now w.result z };
 
-    #[tactic(auto, using(crate::specs::LayoutLaws::put, crate::specs::LayoutLaws::put_none))]
+    ghost Waits = { λ ss w. Follow ss w.result w.cache.now };
+
+    #[tactic(auto, using(crate::specs::LayoutLaws::put, crate::specs::LayoutLaws::put_none, crate::specs::LayoutLaws::follow_first, crate::specs::LayoutLaws::follow_rest, crate::specs::LayoutLaws::follow_none))]
     fn visit<M: Member>(&mut self, number: u32, part: &M::Part) {
         if self.result.is_ok() {
-            self.result = M::write_to(number, part, self.sink);
+            self.result = M::write_to(number, part, self.cache, self.sink);
         }
     }
 
-    #[tactic(auto, using(crate::specs::LayoutLaws::put, crate::specs::LayoutLaws::put_none))]
+    #[tactic(auto, using(crate::specs::LayoutLaws::put, crate::specs::LayoutLaws::put_none, buffa_wire::proofs::PassLemmas::written_put, crate::specs::LayoutLaws::follow_rest, crate::specs::LayoutLaws::follow_none))]
     fn visit_kept(&mut self, fields: &UnknownFields) {
         if self.result.is_ok() {
             self.result = fields.write_to(self.sink);

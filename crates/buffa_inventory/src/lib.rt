@@ -4,3 +4,5 @@
 pub mod inventory;
 pub mod maps;
 pub mod order;
+pub mod parcel;
+pub mod state;

@@ -1,10 +1,11 @@
 //! Which codec each of them is.
 
-ghost use Rattle.std.specs.Prelude.{◌≡◌, ◌↔◌, ℕ, List, [], None, Some, false, true};
+ghost use Rattle.std.specs.Prelude.{◌≡◌, ◌↔◌, ℕ, ℤ, List, [], None, Some, false, true};
 ghost use Rattle.buffa_map.specs.Scalars.{IsLengthy, IsText};
 ghost use Rattle.buffa_wire.specs.Enums.{numbers};
 ghost use Rattle.buffa_map.specs.Codec.{Coded, Codes, Every};
-ghost use Rattle.buffa_map.specs.Enums.{OpenNormal, closed_reading, closed_writing, open_reading, open_writing};
+ghost use Rattle.buffa_map.specs.Enums.{ClosedFits, OpenFits, OpenNormal, closed_reading, closed_writing};
+ghost use Rattle.buffa_map.specs.Enums.{open_reading, open_writing};
 ghost use Rattle.buffa_map.specs.Message.{message_reading};
 ghost use Rattle.buffa_map.specs.Scalars.{bytes_reading, delimited_writing, number_reading, number_writing};
 ghost use Rattle.buffa_map.specs.Scalars.{eight_writing, four_writing, string_reading, varint_writing};
@@ -40,6 +41,16 @@ impl<VC: MapCodec> IsCodec for VC {
     } };
 }
 
+/// What these laws call a codec: how it reads and writes, and what is said of its values. Nothing is open.
+pub fn coded_is_this<VC: MapCodec>()
+    ensures reading { ⟦<VC as IsCodec>⟧.coded.reading ≡ VC.reading }
+    ensures writing { ⟦<VC as IsCodec>⟧.coded.writing ≡ VC.writing }
+    ensures cost { ⟦<VC as IsCodec>⟧.coded.cost ≡ VC.COST }
+    ensures undeclared { ⟦<VC as IsCodec>⟧.coded.undeclared ≡ VC.MAY_RETURN_UNKNOWN }
+    ensures len { ⟦<VC as IsCodec>⟧.coded.len ≡ VC.FIXED_LEN }
+    ensures normal { (v : VC.Value.Meaning) → ⟦<VC as IsCodec>⟧.coded.Normal v ↔ VC.normal v }
+{}
+
 /// How each codec reads and writes, what a value costs, whether one may be undeclared, and the length of its payloads.
 /// All values are read back, but for an open enum those alone that hold a declared number as the declared value.
 pub fn codecs_are_these<N: Scalar, T: ProtoString, P: ProtoBytes, E: Enumeration, M: Message>()
@@ -55,6 +66,12 @@ pub fn codecs_are_these<N: Scalar, T: ProtoString, P: ProtoBytes, E: Enumeration
         closed_writing 4 true None Every }
     ensures open { Codes ⟦<OpenEnum<E> as IsCodec>⟧.coded (open_reading E.of_number) open_writing 8 false None
         (OpenNormal E.of_number) }
+    ensures scalar_fits { (v : _) → ⟦<N as MapCodec>⟧.fits v ↔ N.fits v }
+    ensures string_fits { (v : _) → ⟦<ProtoStringMap<T> as MapCodec>⟧.fits v ↔ IsText (T.text v) }
+    ensures bytes_fits { (v : _) → ⟦<ProtoBytesMap<P> as MapCodec>⟧.fits v ↔ IsLengthy (P.bytes v) }
+    ensures closed_fits { (v : ℤ) → ⟦<ClosedEnum<E> as MapCodec>⟧.fits v
+        ↔ ClosedFits (numbers E.of_number E.blank_is) v }
+    ensures open_fits { (v : _) → ⟦<OpenEnum<E> as MapCodec>⟧.fits v ↔ OpenFits v }
     ensures undeclared { ⟦<Msg<M> as MapValueDecode>⟧.MAY_RETURN_UNKNOWN ≡ false }
     ensures message { (⟦<Msg<M> as MapValueDecode>⟧.reading ≡ message_reading M.blank_is M.merged M.cost)
         × (⟦<Msg<M> as MapValueDecode>⟧.COST ≡ M.COST) }

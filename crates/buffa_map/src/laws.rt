@@ -1,20 +1,24 @@
 //! What the definitions say together: each law is a function with nothing to do, whose contract is the law.
 
-ghost use Rattle.std.specs.Prelude.{◌≡◌, Some};
+ghost use Rattle.std.specs.Prelude.{◌≡◌, ◌↔◌, ◌+◌, ℕ, List, Option, Some};
+ghost use Rattle.buffa_bytes.specs.Pinned.{IsCopied, SameIsOne};
 ghost use Rattle.buffa_wire.specs.Parse.{Fits};
-ghost use Rattle.buffa_wire.specs.Records.{records_of};
+ghost use Rattle.buffa_wire.specs.Records.{Held, records_of};
 ghost use Rattle.buffa_map.specs.Laws.{EntriesAreRead, LimitsAreTrue, NeedsUnits, OneReading, RewriteMeans};
 ghost use Rattle.buffa_map.specs.Laws.{RunsAreRead, RunsJoin, SizeIsLength, ValuesAreRead, WalksAgree, WrittenIsRead};
 ghost use Rattle.buffa_map.specs.Laws.{MessagesAreRead, NewerTakes};
+ghost use Rattle.buffa_map.specs.Merge.{dropping, keeping, lending};
 ghost use Rattle.buffa_map.specs.Message.{message_reading};
 ghost use Rattle.buffa_map.specs.Plain.{EntriesAreExact};
 ghost use Rattle.buffa_map.specs.Rewrite.{rewrite_error_text};
 ghost use Rattle.buffa_map.specs.declared.rewrite.RewriteError.{RewriteError};
+ghost use denote.Ref.{MutBor};
 
-use crate::codec::{MapCodec, MapValueDecode};
+use crate::codec::{MapCodec, MapValueDecode, MapValueDecodeStatus};
 pub use crate::codec_laws::{
-    codecs_are_these, scalars_are_these, scalars_cost_so_much, texts_are_these,
+    codecs_are_these, coded_is_this, scalars_are_these, scalars_cost_so_much, texts_are_these,
 };
+use crate::field::{Field, Lends, Messages, Reads, Rewrites};
 pub use crate::pin_laws::{
     entries_are_pinned, map_fields_are_pinned, message_fields_are_pinned, puts_are_pinned,
     rewrites_are_pinned, runs_are_pinned, values_are_pinned,
@@ -115,6 +119,49 @@ pub fn written_messages_are_read<
 /// A refused rewrite prints the text of the error that it holds.
 pub fn rewrite_errors_print()
     ensures { (e : RewriteError) → ⟦<RewriteError as Display>⟧.output e ≡ Some (rewrite_error_text e) }
+{}
+
+/// `==` says exactly whether two of these are one. It leaves nothing open.
+pub fn equal_ones_are_one()
+    ensures refusal { SameIsOne ⟦<RewriteError as PartialEq>⟧.eq }
+    ensures status { SameIsOne ⟦<MapValueDecodeStatus as PartialEq>⟧.eq }
+{}
+
+/// What `clone` makes of each of these is the same again, and it doesn't fail. It leaves nothing open.
+pub fn clones_are_these()
+    ensures refusal { IsCopied ⟦<RewriteError as Clone>⟧.is_clone ⟦<RewriteError as Clone>⟧.is_infallible }
+    ensures status { IsCopied ⟦<MapValueDecodeStatus as Clone>⟧.is_clone
+        ⟦<MapValueDecodeStatus as Clone>⟧.is_infallible }
+{}
+
+/// What contracts call a field: by which rules its codecs and its storage read it at a depth and of a number, where no
+/// list is lent, where one may be, and where it is rewritten; and how it is written. Nothing is open.
+pub fn fields_are_these<
+    KC: MapCodec,
+    VC: MapCodec,
+    C: MapStorage<Key = KC::Value, Value = VC::Value>,
+    M: MessageSpec,
+    D: MapStorage<Key = KC::Value, Value = M>,
+>()
+    ensures reads { (d n : ℕ) → ⟦<Field<KC, VC, C> as Reads>⟧.reader.rules d n
+        ≡ dropping KC.reading VC.reading C.equal C.keeps_order d n (KC.COST + VC.COST) }
+    ensures pairs { ⟦<Field<KC, VC, C> as Reads>⟧.reader.pairs ≡ C.pairs }
+    ensures lends { (o : Option (MutBor Held)) (d n : ℕ) → (⟦<Field<KC, VC, C> as Lends>⟧.lender o).rules d n
+        ≡ lending KC.reading VC.reading C.equal C.keeps_order d n (KC.COST + VC.COST) o }
+    ensures lent_pairs { (o : Option (MutBor Held)) → (⟦<Field<KC, VC, C> as Lends>⟧.lender o).pairs ≡ C.pairs }
+    ensures rewrites { (d n : ℕ) → ⟦<Field<KC, VC, C> as Rewrites>⟧.rewriter.reader.rules d n
+        ≡ keeping KC.reading VC.reading C.equal C.keeps_order d n (KC.COST + VC.COST) }
+    ensures rewritten { ⟦<Field<KC, VC, C> as Rewrites>⟧.rewriter.reader.pairs ≡ C.pairs }
+    ensures walks { (m : C) (l : List (KC.Value.Meaning × VC.Value.Meaning)) →
+        ⟦<Field<KC, VC, C> as Rewrites>⟧.rewriter.Walks m l ↔ C.walks m l }
+    ensures writes { (⟦<Field<KC, VC, C> as Rewrites>⟧.rewriter.key ≡ KC.writing)
+        × (⟦<Field<KC, VC, C> as Rewrites>⟧.rewriter.val ≡ VC.writing) }
+    ensures key_fits { (v : KC.Value.Meaning) → ⟦<Field<KC, VC, C> as Rewrites>⟧.rewriter.KeyFits v ↔ KC.fits v }
+    ensures value_fits { (v : VC.Value.Meaning) → ⟦<Field<KC, VC, C> as Rewrites>⟧.rewriter.ValFits v ↔ VC.fits v }
+    ensures messages { (d n : ℕ) → ⟦<Messages<KC, M, D> as Reads>⟧.reader.rules d n
+        ≡ dropping KC.reading (message_reading M.blank_is M.merged M.cost) D.equal D.keeps_order d n
+        (KC.COST + M.COST) }
+    ensures message_pairs { ⟦<Messages<KC, M, D> as Reads>⟧.reader.pairs ≡ D.pairs }
 {}
 
 /// A run that a reader of an enum takes, a reader of a newer one takes, which declares more.

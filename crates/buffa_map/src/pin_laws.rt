@@ -13,9 +13,8 @@ pub fn values_are_pinned<VC: MapValueDecode>()
     ensures { ValueIsPinned VC.reading }
 {}
 
-/// An entry is merged in one way only, and a fault is one, and leaves one budget. Open is where memory runs out; what
-/// follows a length that isn't there; and where a payload is a message, which of its faults is told, and what is spent
-/// for it.
+/// An entry is merged in one way only, and a fault is one, and leaves one budget. Open is where memory runs out; and
+/// where a payload is a message, which of its faults is told, and what is spent for it.
 pub fn entries_are_pinned<KC: MapValueDecode, VC: MapValueDecode>()
     ensures { EntriesArePinned KC.reading VC.reading }
 {}

@@ -6,7 +6,7 @@ ghost use Rattle.std.specs.Prelude.{pos};
 ghost use Rattle.std.specs.Int.{w64};
 ghost use Rattle.buffa_bytes.specs.Scalars.{sint64_of, sint64_text, zigzag};
 ghost use Rattle.buffa_bytes.specs.declared.wire_type.WireType.TheVariants.{Varint};
-ghost use Rattle.buffa_bytes.specs.Pinned.{SameIsOne};
+ghost use Rattle.buffa_bytes.specs.Pinned.{IsCopied, SameIsOne};
 ghost use Rattle.buffa_wire.specs.BudgetLeft.{BudgetLeft, nothing};
 ghost use Rattle.buffa_wire.specs.Found.{varint_in};
 ghost use Rattle.buffa_wire.specs.Records.{Datum, Held, varint};
@@ -63,6 +63,13 @@ pub fn equal_ones_are_one()
     ensures price { SameIsOne ⟦<Price as PartialEq>⟧.eq }
     ensures rules { SameIsOne ⟦<Rules as PartialEq>⟧.eq }
     ensures violation { SameIsOne ⟦<Violation as PartialEq>⟧.eq }
+{}
+
+/// What `clone` makes of each of these is the same again, and it doesn't fail. It leaves nothing open.
+pub fn clones_are_these()
+    ensures price { IsCopied ⟦<Price as Clone>⟧.is_clone ⟦<Price as Clone>⟧.is_infallible }
+    ensures rules { IsCopied ⟦<Rules as Clone>⟧.is_clone ⟦<Rules as Clone>⟧.is_infallible }
+    ensures violation { IsCopied ⟦<Violation as Clone>⟧.is_clone ⟦<Violation as Clone>⟧.is_infallible }
 {}
 
 /// What lends its unknown fields to extensions: under which name, which list, and what stays when it changes.

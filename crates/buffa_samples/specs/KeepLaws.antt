@@ -44,7 +44,7 @@ record_of_payload d n wire.StartGroup p h = group_record d n p h
 record_of_payload d n wire.EndGroup p h = absurd h
 record_of_payload d n wire.Fixed32 p h = (fixed32 (from_le_bytes w32 p), (h, refl), refl)
 
-payload_of_record : (x : Datum) (d n : ℕ) (p : List ℕ) → IsPayload d n x p → PayloadOver (Group d) n (wire_of x) p
+pub payload_of_record : (x : Datum) (d n : ℕ) (p : List ℕ) → IsPayload d n x p → PayloadOver (Group d) n (wire_of x) p
 unfolding Group
 payload_of_record (varint v) d n p h = (v, h)
 payload_of_record (fixed32 v) d n p h = h.0
@@ -108,7 +108,7 @@ field_short d s n w bs e h l = in_field (GroupFault d) (group_short d) s n w bs 
 enough_slots : (d s n : ℕ) (w : WireType) (bs p rest : List ℕ) (x : Datum) → IsPayload d n x p → wire_of x ≡ w → bs ≡ p ++ rest → 1 + slots_inside x ≤ s → field_at d s n w bs ≡ Ok (x, s - (1 + slots_inside x), rest)
 enough_slots d s n w bs p rest x payload same is h = field_taken d s n w bs x (s - (1 + slots_inside x)) rest (p, payload, same, omega (arith, h), is)
 
-all_slots : (d n : ℕ) (w : WireType) (bs p rest : List ℕ) (x : Datum) → IsPayload d n x p → wire_of x ≡ w → bs ≡ p ++ rest → record_at d n w bs ≡ Ok (x, suc (length bs) - (1 + slots_inside x), rest)
+pub all_slots : (d n : ℕ) (w : WireType) (bs p rest : List ℕ) (x : Datum) → IsPayload d n x p → wire_of x ≡ w → bs ≡ p ++ rest → record_at d n w bs ≡ Ok (x, suc (length bs) - (1 + slots_inside x), rest)
 all_slots d n w bs p rest x payload same is =
     enough_slots d (suc (length bs)) n w bs p rest x payload same is (omega (arith, inside_short x d n p payload, ap length is, length-append p rest))
 

@@ -99,8 +99,11 @@ impl MessageSpec for BudgetMsg {
     ghost cost_next = { λ d f r h. cost_next (keep_need d) d (keep_stays d) f r h };
 }
 
-// Reads the field whose tag was read, with so many slots, and says how many are left.
-fn read_alone(
+/// Reads the field whose tag was read, with so many slots, and says how many are left.
+///
+/// # Errors
+/// Those of [`decode_unknown_field`].
+pub fn read_alone(
     alloc: Global,
     tag: Tag,
     buf: &mut &[u8],

@@ -5,6 +5,7 @@ ghost use Rattle.std.specs.Hash as fed;
 ghost use Rattle.std.specs.Int.{w32};
 ghost use Rattle.std.specs.Ordering.{int_cmp};
 ghost use Rattle.buffa_bytes.specs.Pinned.{SameIsOne};
+ghost use Rattle.buffa_wire.specs.Enums.{numbers};
 ghost use Rattle.buffa_wire.specs.Parse.{Fits};
 ghost use Rattle.buffa_wire.specs.Records.{Datum, height, records_of};
 ghost use Rattle.buffa_wire.specs.Text.{records_text};
@@ -14,6 +15,7 @@ ghost use Rattle.buffa_samples.specs.Grown.{Grown, grown, no_kids};
 ghost use Rattle.buffa_samples.specs.Hues.{first_numbers};
 ghost use Rattle.buffa_samples.specs.Keep.{keep_cost, keep_merged};
 ghost use Rattle.buffa_samples.specs.Letters.{lower, same_letters};
+ghost use Rattle.buffa_samples.specs.Passed.{proxy};
 ghost use Rattle.buffa_samples.specs.Pinned.{PassIsPinned, TripIsPinned};
 ghost use Rattle.buffa_samples.specs.TreeMeaning.{cost, merged};
 ghost use Rattle.buffa_samples.specs.TreeText.{IsNormal, levels, records, slots, text};
@@ -118,6 +120,19 @@ pub fn trips_are_pinned<
 >()
     ensures { (m : C) → TripIsPinned KC.writing VC.writing (KC.COST + VC.COST) C.equal C.keeps_order (C.pairs m)
         (C.walks m) }
+{}
+
+/// What a proxy is: by which codecs, enums and storages its two readers read and write. Nothing is open.
+pub fn ways_are_these<
+    KC: MapCodec,
+    E: Enumeration,
+    F: Enumeration,
+    C: MapStorage<Key = KC::Value, Value = E>,
+    D: MapStorage<Key = KC::Value, Value = F>,
+>()
+    ensures { ⟦<Pass<KC, E, F, C, D> as Way>⟧.way
+        ≡ proxy KC.reading KC.COST KC.writing (numbers E.of_number E.blank_is) (numbers F.of_number F.blank_is)
+        C.equal C.keeps_order D.equal D.keeps_order }
 {}
 
 /// A map field is passed on in one way only: the same entries are kept; where the run is ordered, or one walk was written,

@@ -12,3 +12,4 @@ pub mod SpentLemmas
 pub mod FaultLemmas
 pub mod SequenceLemmas
 pub mod PinLemmas
+mod ShortLemmas

@@ -14,11 +14,10 @@ ghost use Rattle.buffa_bytes.specs.Unread.{IsTailOf};
 ghost use Rattle.buffa_bytes.specs.Written.{UsesRoom, Writes};
 
 use crate::sealed::Sealed;
+use crate::short::{read_varint, write_varint};
 use crate::unknown_fields::UnknownFieldData;
 use buffa_bytes::types::{decode_fixed32, decode_fixed64, encode_fixed32, encode_fixed64};
-use buffa_bytes::{
-    Buf, DecodeError, EncodeError, EncodeSink, WireType, decode_varint, encode_varint, varint_len,
-};
+use buffa_bytes::{Buf, DecodeError, EncodeError, EncodeSink, WireType, varint_len};
 
 /// A spelling of numbers.
 pub trait Form: Sealed {
@@ -111,7 +110,7 @@ impl Form for Varint {
 
     #[tactic(auto, unfolding(buffa_bytes::specs::Left::past_no_payload))]
     fn read<B: Buf>(buf: &mut B) -> Result<u64, DecodeError> {
-        decode_varint(buf)
+        read_varint(buf)
     }
 
     fn len(n: u64) -> u64 {
@@ -119,7 +118,7 @@ impl Form for Varint {
     }
 
     fn write<S: EncodeSink>(n: u64, sink: &mut S) -> Result<(), EncodeError> {
-        encode_varint(n, sink)
+        write_varint(n, sink)
     }
 
     fn in_record(held: &UnknownFieldData) -> Option<u64> {

@@ -25,6 +25,10 @@ use crate::budget::{DEFAULT_ELEMENT_MEMORY_LIMIT, DEFAULT_UNKNOWN_FIELD_LIMIT};
 use crate::context::RECURSION_LIMIT;
 use crate::enumeration::{EnumValue, Enumeration};
 use crate::message::{MAX_MESSAGE_BYTES, Message};
+pub use crate::scalar_laws::{
+    forms_are_these, scalars_are_read, scalars_are_written, scalars_cost_so_much,
+    scalars_have_lengths, scalars_have_wire_types,
+};
 use crate::unknown_fields::{UnknownField, UnknownFieldData, UnknownFields};
 use buffa_bytes::Blank;
 

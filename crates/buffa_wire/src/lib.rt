@@ -15,6 +15,7 @@ pub mod message;
 pub mod scalar;
 pub mod scalar_laws;
 pub mod scalars;
+mod short;
 pub mod unknown_fields;
 
 pub(crate) mod sealed {

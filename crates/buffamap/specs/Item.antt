@@ -1,7 +1,7 @@
 -- What `item` answers: the number, the message bytes and the rest of an Item whose start tag was read.
 use Rattle.std.specs.Prelude.{◌≡◌, ℕ, List, ◌++◌, Option, Some, None, Result, Ok, Err}
 use Rattle.std.specs.Fmt.{decimal}
-use Rattle.buffa.specs.Item.{item_in}
+use Rattle.buffa_message_set.specs.Item.{item_in}
 use Rattle.buffa_bytes.specs.declared.error.DecodeError.{DecodeError}
 use Rattle.buffa_wire.specs.ErrorText.{decode_error_text}
 use Rattle.buffamap.specs.Forms.{hex_bytes, without_newline}

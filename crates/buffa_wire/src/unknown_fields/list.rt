@@ -59,6 +59,7 @@ impl UnknownFields {
     /// ```ignore
     /// fields.push(UnknownField { number: 7, payload: UnknownFieldData::Varint(150) })?;
     /// ```
+    #[inline(always)]
     pub fn push(&mut self, field: UnknownField) -> Result<(), AllocError>
         ensures ok { OnOk result (self.new.records ≡ self.old.records ++ record_of field ∷ []) }
         ensures room { OnOk result (self.old.spare ≤ self.new.spare + 1) }

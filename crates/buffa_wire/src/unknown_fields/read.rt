@@ -12,12 +12,14 @@ ghost use Rattle.buffa_wire.specs.View.{datum_of};
 
 use crate::budget::{Budget, DEFAULT_UNKNOWN_FIELD_LIMIT};
 use crate::context::{DecodeContext, RECURSION_LIMIT};
+use crate::short::read_varint;
 use crate::unknown_fields::{UnknownField, UnknownFieldData, UnknownFields};
-use buffa_bytes::{Buf, DecodeError, Tag, WireType, decode_varint, types};
+use buffa_bytes::{Buf, DecodeError, Tag, WireType, types};
 use std::alloc::Global;
 
 // Reads a payload that is no group.
 #[tactic(auto, unfolding(crate::specs::RecordReading::plain_at))]
+#[inline(always)]
 fn decode_plain<B: Buf>(
     alloc: Global,
     wire_type: WireType,
@@ -34,7 +36,7 @@ fn decode_plain<B: Buf>(
 {
     match wire_type {
         WireType::Varint => {
-            let v = decode_varint(buf)?;
+            let v = read_varint(buf)?;
             return Ok(UnknownFieldData::Varint(v));
         }
         WireType::Fixed64 => {
@@ -73,6 +75,7 @@ fn decode_plain<B: Buf>(
 /// let field = decode_unknown_field(alloc, tag, &mut rest, ctx)?;
 /// ```
 #[cycle(decode)]
+#[inline(always)]
 pub fn decode_unknown_field<B: Buf>(
     alloc: Global,
     tag: Tag,
@@ -123,6 +126,7 @@ pub fn decode_unknown_field<B: Buf>(
 
 // Reads the fields of a group, and its end tag.
 #[cycle(decode)]
+#[inline(never)]
 fn decode_group<B: Buf>(
     alloc: Global,
     number: u32,

@@ -3,11 +3,12 @@
 ghost use Rattle.std.specs.Prelude.{◌≡◌, ◌≤◌, length, min};
 ghost use Rattle.buffa_wire.specs.Text.{records_text, field_text, payload_text};
 ghost use Rattle.buffa_wire.specs.View.{datum_of};
+ghost use Rattle.buffa_wire.specs.Values.{tag_text};
 ghost use Rattle.buffa_wire.specs.Varint.{varint_text};
 
 use crate::unknown_fields::tag::tag_value;
 use crate::unknown_fields::{UnknownFieldData, UnknownFields};
-use buffa_bytes::{WireType, varint_len};
+use buffa_bytes::{WireType, prefix_len, varint_len};
 
 impl UnknownFields {
     /// The length of the text that [`UnknownFields::write_to`] writes, in bytes, or 2^64 - 1 where it is
@@ -17,6 +18,7 @@ impl UnknownFields {
     /// let three = fields.encoded_len(); // of 38 96 01
     /// ```
     #[cycle(size)]
+    #[inline(never)]
     pub fn encoded_len(&self) -> u64
         ensures { result ≡ min (length (records_text self.now.records)) 18446744073709551615 }
     {
@@ -30,6 +32,7 @@ impl UnknownFields {
 }
 
 // The length of a varint.
+#[inline(always)]
 #[tactic(auto, using(crate::proofs::TextLemmas::ten_at_most))]
 fn number_len(n: u64) -> u64
     ensures len { result ≡ length (varint_text n) }
@@ -38,17 +41,34 @@ fn number_len(n: u64) -> u64
     varint_len(n) as u64
 }
 
+// The length of a tag. Most numbers are below 16, and their tags have one byte.
+#[inline(always)]
+#[tactic(auto, using(crate::proofs::TextLemmas::ten_at_most))]
+fn tag_len(number: u32, wire_type: WireType) -> u64
+    ensures len { result ≡ length (tag_text number wire_type) }
+    ensures short { result ≤ 10 }
+{
+    prefix_len(tag_value(number, wire_type)) as u64
+}
+
 // The length of a field's text, or 2^64 - 1 where it is longer.
 #[cycle(size)]
+#[inline(always)]
 fn field_len(number: u32, payload: &UnknownFieldData) -> u64
     ensures { result ≡ min (length (field_text number (datum_of payload.now))) 18446744073709551615 }
 {
-    let tag = number_len(tag_value(number, payload.wire_type()));
-    tag.saturating_add(payload_len(number, payload))
+    let tag = tag_len(number, payload.wire_type());
+    match payload {
+        UnknownFieldData::Varint(v) => tag + number_len(*v),
+        UnknownFieldData::Fixed32(_) => tag + 4,
+        UnknownFieldData::Fixed64(_) => tag + 8,
+        _ => tag.saturating_add(payload_len(number, payload)),
+    }
 }
 
 // The length of what follows the tag, or 2^64 - 1 where it is longer.
 #[cycle(size)]
+#[inline(always)]
 fn payload_len(number: u32, payload: &UnknownFieldData) -> u64
     ensures { result ≡ min (length (payload_text number (datum_of payload.now))) 18446744073709551615 }
 {
@@ -58,7 +78,7 @@ fn payload_len(number: u32, payload: &UnknownFieldData) -> u64
         UnknownFieldData::Fixed64(_) => return 8,
         UnknownFieldData::LengthDelimited(b) => {
             let len = b.len() as u64;
-            return len.saturating_add(number_len(len));
+            return len.saturating_add(prefix_len(len) as u64);
         }
         UnknownFieldData::Group(g) => {
             let end = number_len(tag_value(number, WireType::EndGroup));

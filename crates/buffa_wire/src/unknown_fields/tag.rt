@@ -28,6 +28,7 @@ impl UnknownFieldData {
 }
 
 // The value of the varint that is a tag, of any number.
+#[inline(always)]
 pub(crate) fn tag_value(number: u32, wire_type: WireType) -> u64
     ensures { result ≡ 8 * number + wire_number wire_type }
 {

@@ -4,6 +4,7 @@ ghost use Rattle.buffa_wire.specs.Text.{records_text, field_text, payload_text};
 ghost use Rattle.buffa_wire.specs.View.{datum_of};
 ghost use Rattle.buffa_wire.specs.Written.{UsesRoom, Writes};
 
+use crate::short::write_two;
 use crate::unknown_fields::tag::tag_value;
 use crate::unknown_fields::{UnknownFieldData, UnknownFields};
 use buffa_bytes::{EncodeError, EncodeSink, WireType, encode_varint, types};
@@ -23,6 +24,7 @@ impl UnknownFields {
     /// fields.write_to(&mut text)?; // 38 96 01
     /// ```
     #[cycle(write)]
+    #[inline(never)]
     pub fn write_to<S: EncodeSink>(&self, sink: &mut S) -> Result<(), EncodeError>
         ensures writes { Writes result (S.written sink.old) (records_text self.now.records) (S.written sink.new) }
         ensures room { UsesRoom result (S.room sink.old) (records_text self.now.records) (S.room sink.new) }
@@ -36,6 +38,7 @@ impl UnknownFields {
 
 // Writes a field.
 #[cycle(write)]
+#[inline(always)]
 #[tactic(auto, using(buffa_bytes::proofs::SinkLemmas::writes_then, buffa_bytes::proofs::SinkLemmas::front_first, buffa_bytes::proofs::SinkLemmas::room_then))]
 fn write_field<S: EncodeSink>(
     number: u32,
@@ -46,12 +49,16 @@ fn write_field<S: EncodeSink>(
         (S.written sink.new) }
     ensures room { UsesRoom result (S.room sink.old) (field_text number (datum_of payload.now)) (S.room sink.new) }
 {
+    if let UnknownFieldData::Varint(v) = payload {
+        return write_two(tag_value(number, WireType::Varint), *v, sink);
+    }
     encode_varint(tag_value(number, payload.wire_type()), sink)?;
     write_payload(number, payload, sink)
 }
 
 // Writes what follows the tag.
 #[cycle(write)]
+#[inline(always)]
 #[tactic(auto, using(buffa_bytes::proofs::SinkLemmas::writes_then, buffa_bytes::proofs::SinkLemmas::front_first, buffa_bytes::proofs::SinkLemmas::room_then))]
 fn write_payload<S: EncodeSink>(
     number: u32,

@@ -31,14 +31,14 @@ UnknownFields::write_to-returns-in_err-write_field g t c =
 pub write::write_field-returns-in_err-encode_varint-clause-writes : goal.write::write_field-returns-in_err-encode_varint-clause-writes
 write::write_field-returns-in_err-encode_varint-clause-writes g t c =
     let p = err_from_is_err_and c.from_residual.result c.from_residual.ensures.1 in
-    tag_refused p.1 p.2 c.tag_value.result c.args.number c.wire_type.result (wire_of (datum_of c.args.payload.now)) (payload_text c.args.number (datum_of c.args.payload.now))
-    (g.S.EncodeSink.written c.args.sink.now) (g.S.EncodeSink.written c.encode_varint.new.sink) c.tag_value.ensures c.wire_type.ensures c.in_err-encode_varint.ensures.writes
+    tag_refused p.1 p.2 c.tag_value-2.result c.args.number c.wire_type.result (wire_of (datum_of c.args.payload.now)) (payload_text c.args.number (datum_of c.args.payload.now))
+    (g.S.EncodeSink.written c.args.sink.now) (g.S.EncodeSink.written c.encode_varint.new.sink) c.tag_value-2.ensures c.wire_type.ensures c.in_err-encode_varint.ensures.writes
 
 pub write::write_field-returns-in_err-encode_varint-clause-room : goal.write::write_field-returns-in_err-encode_varint-clause-room
 write::write_field-returns-in_err-encode_varint-clause-room g t c =
     let p = err_from_is_err_and c.from_residual.result c.from_residual.ensures.1 in
-    tag_no_room p.1 c.tag_value.result c.args.number c.wire_type.result (wire_of (datum_of c.args.payload.now)) (payload_text c.args.number (datum_of c.args.payload.now))
-    (g.S.EncodeSink.room c.args.sink.now) (g.S.EncodeSink.room c.encode_varint.new.sink) c.tag_value.ensures c.wire_type.ensures c.in_err-encode_varint.ensures.room
+    tag_no_room p.1 c.tag_value-2.result c.args.number c.wire_type.result (wire_of (datum_of c.args.payload.now)) (payload_text c.args.number (datum_of c.args.payload.now))
+    (g.S.EncodeSink.room c.args.sink.now) (g.S.EncodeSink.room c.encode_varint.new.sink) c.tag_value-2.ensures c.wire_type.ensures c.in_err-encode_varint.ensures.room
 
 pub write::write_payload-returns-in_err-write_to-in-Group-clause-writes : goal.write::write_payload-returns-in_err-write_to-in-Group-clause-writes
 write::write_payload-returns-in_err-write_to-in-Group-clause-writes g t c =

@@ -1,0 +1,11 @@
+use Rattle.std.proofs.Common.{length}
+use Rattle.buffa_fields.specs.Stands.{Merged}
+use Rattle.buffa_fields.proofs.merge.merge_fields.Given as goal
+
+-- the bytes before the rest were merged
+abbrev pub invariant-loop-rest : goal.invariant-loop-rest
+invariant-loop-rest g l =
+    Merged g.M.Fields.layout.takes l.depth (g.M.Fields.layout.meaning l.fn.message) l.bytes l.rest (g.M.Fields.layout.meaning l.message)
+
+abbrev pub decreases-loop-rest : goal.decreases-loop-rest
+decreases-loop-rest g l = length l.rest

@@ -1,0 +1,51 @@
+-- Messages as members. Source: the protobuf encoding guide, "Submessages".
+use Rattle.std.specs.Prelude.{ℕ, suc, List, [], ◌∷◌, ◌++◌, length, Option, Some, None, Result, Ok, Err, if◌then◌else◌}
+use Rattle.std.specs.Option.{option_map}
+use Rattle.buffa_bytes.specs.declared.error.DecodeError.{DecodeError}
+use Rattle.buffa_bytes.specs.declared.wire_type.WireType.TheVariants.{LengthDelimited}
+use Rattle.buffa_wire.specs.BudgetLeft.{BudgetLeft, nothing}
+use Rattle.buffa_wire.specs.Message.{cost_of_payload, merged_in}
+use Rattle.buffa_wire.specs.Passes.{cap}
+use Rattle.buffa_wire.specs.Reading.{delimited_at}
+use Rattle.buffa_wire.specs.Records.{Datum, bytes}
+use Rattle.buffa_wire.specs.WireType.{same_wire}
+use Rattle.buffa_fields.specs.Takes.{Need, Taker}
+
+module _ {X : Type 0} (merged : ℕ → X → List ℕ → Option X) where
+  -- what a length and so many bytes, which are all, make of the message that stands, one level down
+  abbrev pub inside : ℕ → X → Result (List ℕ × List ℕ) DecodeError → Option X
+  inside d v (Ok (b, [])) = merged_in merged d v b
+  inside d v (Ok (b, x ∷ xs)) = None
+  inside d v (Err e) = None
+
+  unfoldable pub message_in : Taker X
+  message_in d v n w p = if same_wire LengthDelimited w then inside d v (delimited_at p) else None
+
+-- at a depth, what it costs
+unfoldable pub message_cost : (ℕ → List ℕ → BudgetLeft) → Need
+message_cost cost d n w bs = if same_wire LengthDelimited w then cost_of_payload cost d (delimited_at bs) else nothing
+
+module _ {X : Type 0} (blank : X) where
+  -- the message that stands, or a default one
+  abbrev pub or_blank : Option X → X
+  or_blank None = blank
+  or_blank (Some v) = v
+
+  -- each payload is merged into the message that stands
+  abbrev pub message_taken : (ℕ → X → List ℕ → Option X) → Taker (Option X)
+  message_taken merged d v n w p = option_map (λ x. Some x) (message_in merged d (or_blank v) n w p)
+
+module _ {X : Type 0} (text : X → List ℕ) where
+  unfoldable pub message_records : ℕ → Option X → List (ℕ × Datum)
+  message_records n None = []
+  message_records n (Some v) = (n, bytes (text v)) ∷ []
+
+  -- its length, and then the sizes of those in it
+  unfoldable pub message_slots : (X → List ℕ) → Option X → List ℕ
+  message_slots slots None = []
+  message_slots slots (Some v) = cap (length (text v)) ∷ slots v
+
+-- how deep messages and groups nest in it
+abbrev pub message_levels : {X : Type 0} → (X → ℕ) → Option X → ℕ
+message_levels level None = 0
+message_levels level (Some v) = suc (level v)

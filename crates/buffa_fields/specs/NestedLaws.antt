@@ -1,0 +1,213 @@
+-- What is proved of messages as members.
+use Rattle.std.proofs.Common.{◌≡◌, ◌≢◌, ◌⊎◌, inl, inr, ℕ, zero, suc, ◌+◌, ◌*◌, ◌^◌, ◌==◌, ◌<◌, ◌≤◌, min, Bool, true, List, [], ◌∷◌, ◌++◌, length, Option, Some, None, Result, Ok, Err, IfErr, OnErr, OnOk, refl, sym, ap, subst, ◌∙◌, arith, append_assoc, append-nil, length-append}
+use Rattle.std.proofs.lemmas.Bool.{cases_lt, eq-eqb}
+use Rattle.std.specs.Option.{option_map}
+use Rattle.buffa_bytes.proofs.DelimitedLemmas.{delimited_back, delimited_complete, delimited_sound}
+use Rattle.buffa_bytes.proofs.StepLemmas.{agree_err, agree_ok}
+use Rattle.buffa_bytes.proofs.VarintLemmas.{IsVarint-varint_text}
+use Rattle.buffa_bytes.specs.declared.error.DecodeError.{DecodeError}
+use Rattle.buffa_bytes.specs.declared.error.DecodeError.TheVariants.{OutOfMemory, RecursionLimitExceeded, WireTypeMismatch}
+use Rattle.buffa_bytes.specs.declared.error.EncodeError.{EncodeError}
+use Rattle.buffa_bytes.specs.declared.error.EncodeError.TheVariants as encode
+use Rattle.buffa_bytes.specs.declared.wire_type.WireType.{WireType}
+use Rattle.buffa_bytes.specs.declared.wire_type.WireType.TheVariants.{Varint, Fixed64, LengthDelimited, StartGroup, EndGroup, Fixed32}
+use Rattle.buffa_bytes.specs.Written.{Writes, WritesFront}
+use Rattle.buffa_wire.proofs.MessageLemmas.{NoLimit, length_no_limit}
+use Rattle.buffa_wire.proofs.PassLemmas.{consumes_none, done, refused, written_behind, written_none, written_put, written_same, written_then}
+use Rattle.buffa_wire.proofs.SequenceLemmas.{ok_same}
+use Rattle.buffa_wire.specs.BudgetLeft.{BudgetLeft, Lacks, PaysAtMost}
+use Rattle.buffa_wire.specs.Cache.{Cache, advanced}
+use Rattle.buffa_wire.specs.Field.{Payload}
+use Rattle.buffa_wire.specs.Message.{IsInside, PayloadFault, cost_of_payload}
+use Rattle.buffa_wire.specs.Number.{IsNumber}
+use Rattle.buffa_wire.specs.Parse.{Fits}
+use Rattle.buffa_wire.specs.Passes.{IsSmall, IsWritten, cap}
+use Rattle.buffa_wire.specs.Reading.{delimited_at}
+use Rattle.buffa_wire.specs.Records.{Datum, bytes, records_of}
+use Rattle.buffa_wire.specs.Text.{records_text}
+use Rattle.buffa_wire.specs.Values.{delimited_text, tag_text}
+use Rattle.buffa_wire.specs.Varint.{varint_text}
+use Rattle.buffa_map.proofs.BackLemmas.{is_tag}
+use Rattle.buffa_map.proofs.EntryLemmas.{same_false}
+use Rattle.buffa_fields.specs.Nested.{inside, message_cost, message_in, message_levels, message_records, message_slots, message_taken, or_blank}
+use Rattle.buffa_fields.specs.Takes.{IsTaken, Need, ReadsBack, Stays, Taker, Untaken}
+use Rattle.buffa_fields.specs.Values.{IfThere}
+
+-- ---- a payload that is a length and so many bytes
+pub delimited_alone : (d n : ℕ) (w : WireType) (p more bs : List ℕ) → w ≡ LengthDelimited → Payload d n w p → bs ≡ p ++ more → (b : List ℕ) × (delimited_at bs ≡ Ok (b, more)) × (delimited_at p ≡ Ok (b, []))
+delimited_alone d n w p more bs wire h split =
+    let u : Payload d n LengthDelimited p = subst (λ z. Payload d n z p) wire h in
+    let whole : delimited_at bs ≡ Ok (u.1, more) = ap delimited_at (split ∙ ap (λ (z : List ℕ). z ++ more) u.3 ∙ append_assoc u.0 u.1 more) ∙ delimited_complete u.0 u.1 more u.2 in
+    let alone : delimited_at p ≡ Ok (u.1, []) = ap delimited_at (u.3 ∙ ap (λ (z : List ℕ). u.0 ++ z) (sym (append-nil u.1))) ∙ delimited_complete u.0 u.1 [] u.2 in
+    (u.1, whole, alone)
+
+first_same : (a b x y : List ℕ) → (let r : Result (List ℕ × List ℕ) DecodeError = Ok (a, x) in r ≡ Ok (b, y)) → a ≡ b
+first_same a b x y h = ap (λ z. z.0) (ok_same h)
+
+-- ---- the message of a whole payload
+module _ {X : Type 0} (merged : ℕ → X → List ℕ → Option X) (cost : ℕ → List ℕ → BudgetLeft) where
+  pub message_stays : Stays (message_cost cost)
+  unfolding message_cost
+  message_stays d n Varint p x h = refl
+  message_stays d n Fixed64 p x h = refl
+  message_stays d n StartGroup p x h = refl
+  message_stays d n EndGroup p x h = refl
+  message_stays d n Fixed32 p x h = refl
+  message_stays d n LengthDelimited p x h = let u = delimited_alone d n LengthDelimited p x (p ++ x) refl h refl in rw (u.1, u.2) refl
+
+  module _ (n : ℕ) (w : WireType) (wire : w ≡ LengthDelimited) (old new : X) (bs rest : List ℕ) (before after : BudgetLeft) where
+    inside_ok : (d : ℕ) → IsInside merged cost d old bs before new after rest → IsTaken (message_in merged) (message_cost cost) d old n w bs before (let r : Result (Unit {0}) DecodeError = Ok tt in r) new after rest
+    unfolding message_in message_cost
+    inside_ok d (b, is, m, pays) =
+        let t = agree_ok (delimited_at bs) (b, rest) (delimited_sound bs) is in
+        let alone : delimited_at (t.0 ++ b) ≡ Ok (b, []) = ap delimited_at (ap (λ (z : List ℕ). t.0 ++ z) (sym (append-nil b))) ∙ delimited_complete t.0 b [] t.1 in (
+          t.0 ++ b,
+          subst (λ z. Payload d n z (t.0 ++ b)) (sym wire) (t.0, b, t.1, refl),
+          t.2 ∙ sym (append_assoc t.0 b rest),
+          rw (wire, alone) m,
+          rw (wire, is) pays,
+        )
+
+    untaken : (d : ℕ) → ((b more : List ℕ) → delimited_at bs ≡ Ok (b, more) → inside merged d old (let r : Result (List ℕ × List ℕ) DecodeError = Ok (b, []) in r) ≡ None) → Untaken (message_in merged) d old n w bs
+    unfolding message_in
+    untaken d none p more payload split = let u = delimited_alone d n w p more bs wire payload split in rw (wire, u.2) (none u.0 more u.1)
+
+    why : (d : ℕ) (e : DecodeError) → PayloadFault merged cost d old bs before e → Lacks before (message_cost cost d n w bs) ⊎ (Untaken (message_in merged) d old n w bs × NoLimit e)
+    unfolding message_cost
+    why zero e is = inr (untaken zero (λ b more k. refl), subst (λ z. NoLimit z) (sym is) (λ l. l))
+    why (suc d) e (inl is) = inr (untaken (suc d) (λ b more k. let two = sym k ∙ is in cc), length_no_limit bs e (agree_err (delimited_at bs) e (delimited_sound bs) is))
+    why (suc d) e (inr (b, after_b, is, inl lack)) = inl (rw (wire, is) lack)
+    why (suc d) e (inr (b, after_b, is, inr (none, unlimited))) =
+        inr (untaken (suc d) (λ a more k. ap (merged d old) (first_same a b more after_b (sym k ∙ is)) ∙ none), unlimited)
+
+    pub inside_taken : (d : ℕ) (r : Result (Unit {0}) DecodeError) → OnOk r (IsInside merged cost d old bs before new after rest) → IfErr r (λ e. e ≢ OutOfMemory → PayloadFault merged cost d old bs before e) →
+        OnErr r (PaysAtMost before (cost_of_payload cost d (delimited_at bs)) after) → IsTaken (message_in merged) (message_cost cost) d old n w bs before r new after rest
+    unfolding message_cost
+    inside_taken d (Ok x) ok fault spent = inside_ok d ok
+    inside_taken d (Err e) ok fault spent = (rw wire spent, λ ne. why d e (fault ne), λ full end. let two = sym wire ∙ end in cc)
+
+  pub message_wire_err : (d n : ℕ) (w : WireType) (old new : X) (bs rest : List ℕ) (before after : BudgetLeft) (e : DecodeError) → w ≢ LengthDelimited → e ≡ WireTypeMismatch n LengthDelimited w → after ≡ before →
+      IsTaken (message_in merged) (message_cost cost) d old n w bs before (let r : Result (Unit {0}) DecodeError = Err e in r) new after rest
+  unfolding message_in message_cost
+  message_wire_err d n w old new bs rest before after e other is still =
+      let off = same_false LengthDelimited w other in
+      let a = ap (λ (z : BudgetLeft). z.unknown) still in
+      let b = ap (λ (z : BudgetLeft). z.memory) still in (
+        rw off (omega (arith, a), omega (arith, a), omega (arith, b), omega (arith, b)),
+        λ ne. inr ((λ p more payload split. rw off refl), subst (λ z. NoLimit z) (sym is) (λ l. l)),
+        λ full end. let two = sym full ∙ is in cc,
+      )
+
+-- ---- it goes into the message that stands
+pub there : {X : Type 0} (blank : X) (merged : ℕ → X → List ℕ → Option X) (need : Need) (d n : ℕ) (w : WireType) (old : Option X) (a new : X) (bs rest : List ℕ) (before after : BudgetLeft) (r : Result (Unit {0}) DecodeError) → a ≡ or_blank blank old →
+    IsTaken (message_in merged) need d a n w bs before r new after rest → IsTaken (message_taken blank merged) need d old n w bs before r (Some new) after rest
+there blank merged need d n w old a new bs rest before after (Ok x) is (p, payload, split, h, pays) = (p, payload, split, ap (option_map (λ x. Some x)) (ap (λ z. message_in merged d z n w p) (sym is) ∙ h), pays)
+there blank merged need d n w old a new bs rest before after (Err e) is (pays, why, full) = (
+  pays,
+  λ ne. elim (why ne) [
+    | inl few ↦ inl few
+    | inr bad ↦ inr ((λ p more payload split. ap (option_map (λ x. Some x)) (ap (λ z. message_in merged d z n w p) (sym is) ∙ bad.0 p more payload split)), bad.1)
+  ],
+  full,
+)
+
+-- ---- the text
+-- what stands before a message's text
+abbrev pub head : ℕ → ℕ → List ℕ
+head n inner = tag_text n LengthDelimited ++ varint_text inner
+
+-- a length is told, unless it is too large for a message
+abbrev pub Tells : ℕ → List ℕ → Type 0
+Tells inner text = (length text < 4294967295 → inner ≡ length text) × (4294967295 ≤ length text → 4294967295 ≤ inner)
+
+pub cap_tells : (inner : ℕ) (text : List ℕ) → inner ≡ cap (length text) → Tells inner text
+cap_tells inner text is = ((λ h. omega (arith, is, h)), (λ h. omega (arith, is, h)))
+
+module _ (n inner : ℕ) (text : List ℕ) (is : Tells inner text) where
+  head_then : length text < 4294967295 → head n inner ++ text ≡ records_text ((n, bytes text) ∷ [])
+  head_then h =
+      let tag = tag_text n LengthDelimited in
+      append_assoc tag (varint_text inner) text ∙ ap (λ (k : ℕ). tag ++ (varint_text k ++ text)) (is.0 h) ∙ sym (append-nil (tag ++ delimited_text text))
+
+  whole_length : length (records_text ((n, bytes text) ∷ [])) ≡ length (tag_text n LengthDelimited) + (length (varint_text (length text)) + length text)
+  whole_length =
+      let tag = tag_text n LengthDelimited in
+      ap length (append-nil (tag ++ delimited_text text)) ∙ length-append tag (delimited_text text) ∙ ap (λ (z : ℕ). length tag + z) (length-append (varint_text (length text)) text)
+
+  pub record_size : (tag len total : ℕ) → tag ≡ length (tag_text n LengthDelimited) → len ≡ length (varint_text inner) → cap total ≡ cap (tag + (len + inner)) → cap total ≡ cap (length (records_text ((n, bytes text) ∷ [])))
+  record_size tag len total h k e = elim (cases_lt (length text) 4294967295) [
+    | inl small ↦
+        let same = is.0 (omega (arith, small)) in
+        let l = ap (λ (z : ℕ). length (varint_text z)) same in
+        e ∙ ap cap (omega (arith, h, k, whole_length, same, l))
+    | inr large ↦ let much = is.1 (omega (arith, large)) in omega (arith, e, whole_length, much, large)
+  ]
+
+  abbrev pub spelled_one : List ℕ
+  spelled_one = records_text ((n, bytes text) ∷ [])
+
+  small_text : IsSmall spelled_one → IsSmall text
+  small_text h = omega (arith, h, whole_length)
+
+  -- the head, and then the text
+  module _ (slots : List ℕ) (c1 c2 : Cache) (b0 b1 b2 : List ℕ) where
+    pub record_after : (r : Result (Unit {0}) EncodeError) → b1 ≡ b0 ++ head n inner → IsWritten text slots c1 b1 r c2 b2 → IsWritten spelled_one slots c1 b0 r c2 b2
+    record_after r h w =
+        let put = written_put (IsSmall spelled_one) (head n inner) c1 b0 b1 done h in
+        let both = written_then (IsSmall spelled_one) (IsSmall text) (IsSmall spelled_one) (head n inner) text [] slots c1 c1 c2 b0 b1 b2 (λ s. (s, small_text s)) r put w in
+        written_same (IsSmall spelled_one) (IsSmall spelled_one) (head n inner ++ text) spelled_one slots 0 c1 c2 c2 b0 b2 (λ s. s) (λ s. head_then (omega (arith, small_text s))) r both
+
+    pub head_cut : (e : EncodeError) → (e ≡ encode.OutOfMemory) × WritesFront b0 (head n inner) b1 → IsWritten spelled_one slots c1 b0 (refused e) c1 b1
+    head_cut e (m, (front, rest, split, is_new, more)) = (
+      front,
+      is_new,
+      (
+        m,
+        λ s. (
+          rest ++ text,
+          sym (head_then (omega (arith, small_text s))) ∙ ap (λ z. z ++ text) split ∙ append_assoc front rest text,
+          omega (arith, more, length-append rest text),
+        ),
+        consumes_none slots c1,
+      ),
+    )
+
+  -- the same behind a slot
+  module _ (slots : List ℕ) (c0 c1 c2 : Cache) (b0 b1 b2 : List ℕ) (on : c1 ≡ advanced 1 c0) where
+    pub record_written : (r : Result (Unit {0}) EncodeError) → b1 ≡ b0 ++ head n inner → IsWritten text slots c1 b1 r c2 b2 → IsWritten spelled_one (inner ∷ slots) c0 b0 r c2 b2
+    record_written r h w = written_behind (IsSmall spelled_one) (IsSmall spelled_one) spelled_one [] slots inner c0 c1 c2 b0 b2 on r (record_after slots c1 c2 b0 b1 b2 r h w)
+
+    pub head_short : (e : EncodeError) → (e ≡ encode.OutOfMemory) × WritesFront b0 (head n inner) b1 → IsWritten spelled_one (inner ∷ slots) c0 b0 (refused e) c1 b1
+    head_short e h = written_behind (IsSmall spelled_one) (IsSmall spelled_one) spelled_one [] slots inner c0 c1 c1 b0 b1 on (refused e) (head_cut slots c1 c1 b0 b1 b1 e h)
+
+-- no message, no text
+pub unwritten_message : {X : Type 0} (text slots : X → List ℕ) (n : ℕ) (v : Option X) (c : Cache) (b : List ℕ) → v ≡ None → IsWritten (records_text (message_records text n v)) (message_slots text slots v) c b done c b
+unfolding message_records message_slots
+unwritten_message text slots n v c b is = subst (λ z. IsWritten (records_text (message_records text n z)) (message_slots text slots z) c b done c b) (sym is) (written_none (IsSmall []) c b)
+
+-- ---- it reads back
+module _ {X : Type 0} (merged : ℕ → X → List ℕ → Option X) (blank : X) (text : X → List ℕ) (level : X → ℕ) (Normal : X → Type 0)
+    (back : (d : ℕ) (v : X) → Normal v → level v ≤ d → merged d blank (text v) ≡ Some v) (n : ℕ) (number : IsNumber n) where
+  taken_back : (d : ℕ) (v : X) → length (text v) < 2 ^ 64 → Normal v → suc (level v) ≤ d → message_in merged d blank n LengthDelimited (delimited_text (text v)) ≡ Some v
+  unfolding message_in
+  taken_back zero v fits normal low = absurd (omega arith)
+  taken_back (suc d) v fits normal low =
+      let alone : delimited_at (delimited_text (text v)) ≡ Ok (text v, []) = ap delimited_at (sym (append-nil (delimited_text (text v)))) ∙ delimited_back (text v) [] fits in
+      rw alone (back d v normal (omega (arith, low)))
+
+  pub message_back : (d : ℕ) (v : Option X) → Fits (records_of (message_records text n v)) → IfThere Normal v → message_levels level v ≤ d →
+      ReadsBack (message_taken blank merged) (λ m. m == n) d None (records_text (message_records text n v)) v
+  unfolding message_records
+  message_back d None fits normal low = record { pieces = []; spelled = refl; leads = refl }
+  message_back d (Some v) fits normal low = record {
+    pieces = record { tag = tag_text n LengthDelimited; number = n; wire = LengthDelimited; payload = delimited_text (text v) } ∷ [];
+    spelled = refl;
+    leads = (
+      eq-eqb n n refl,
+      is_tag n LengthDelimited number,
+      (varint_text (length (text v)), text v, IsVarint-varint_text (length (text v)) fits.1, refl),
+      Some v,
+      ap (option_map (λ x. Some x)) (taken_back d v fits.1 normal low),
+      refl,
+    );
+  }

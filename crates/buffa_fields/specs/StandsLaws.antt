@@ -1,0 +1,80 @@
+-- What is proved of messages that were refused.
+use Rattle.std.proofs.Common.{◌≡◌, ◌⊎◌, inl, inr, ℕ, ◌≤◌, ◌<◌, true, List, [], ◌∷◌, ◌++◌, length, Option, Some, None, Ok, Err, Result, refl, sym, ap, subst, ◌∙◌, arith, append_assoc, append-nil, length-append}
+use Rattle.std.specs.Option.{option_and_then}
+use Rattle.buffa_bytes.proofs.FieldLemmas.{tag_falls, tag_sound}
+use Rattle.buffa_bytes.proofs.StepLemmas.{agree_ok}
+use Rattle.buffa_bytes.specs.declared.error.DecodeError.{DecodeError}
+use Rattle.buffa_bytes.specs.declared.wire_type.WireType.{WireType}
+use Rattle.buffa_wire.specs.BudgetLeft.{BudgetLeft}
+use Rattle.buffa_wire.specs.Field.{SomeField}
+use Rattle.buffa_wire.specs.Join.{Join}
+use Rattle.buffa_wire.specs.Join.Join.{none, more}
+use Rattle.buffa_wire.specs.Reading.{tag_at}
+use Rattle.buffa_fields.specs.Layout.{Layout}
+use Rattle.buffa_fields.specs.Stands.{Merged, Stands}
+use Rattle.buffa_fields.specs.Takes.{Piece, ReadsBack, Taker, merged_of}
+use Rattle.buffa_fields.specs.TakesLaws.{back, merged_empty, merged_fields, merged_next}
+
+module _ {X : Type 0} (takes : Taker X) (d : ℕ) where
+  -- what follows fields goes on where they ended
+  along : (f : List ℕ) → Join (SomeField d) f → (v : X) (r : List ℕ) → merged_of takes d v (f ++ r) ≡ option_and_then (λ w. merged_of takes d w r) (merged_of takes d v f)
+  along f none v r = ap (option_and_then (λ w. merged_of takes d w r)) (sym (merged_empty takes d v))
+  along f (more a x one h) v r =
+      ap (merged_of takes d v) (append_assoc a x r) ∙ merged_next takes d v a (x ++ r) one ∙ then (λ w. along x h w r) (merged_of takes d v a)
+      ∙ ap (option_and_then (λ w. merged_of takes d w r)) (sym (merged_next takes d v a x one))
+    where
+      then : ((w : X) → merged_of takes d w (x ++ r) ≡ option_and_then (λ w. merged_of takes d w r) (merged_of takes d w x)) → (o : Option X) → option_and_then (λ w. merged_of takes d w (x ++ r)) o ≡ option_and_then (λ w. merged_of takes d w r) (option_and_then (λ w. merged_of takes d w x) o)
+      then on (Some w) = on w
+      then on None = refl
+
+  pub starts : (v : X) (bytes : List ℕ) → Merged takes d v bytes bytes v
+  starts v bytes = record { front = []; split = refl; merged = merged_empty takes d v }
+
+module _ {M X : Type 0} (l : Layout M X) (d : ℕ) (old : X) (bytes : List ℕ) where
+  -- a field more
+  pub steps : (m new : M) (n : ℕ) (w : WireType) (rest bs after_bs : List ℕ) (before after : BudgetLeft) → Merged l.takes d old bytes rest (l.meaning m) → tag_at rest ≡ Ok (n, w, bs) →
+      l.Taken d m n w bs before (let r : Result (Unit {0}) DecodeError = Ok tt in r) new after after_bs → Merged l.takes d old bytes after_bs (l.meaning new)
+  steps m new n w rest bs after_bs before after h tag taken =
+      let t = agree_ok (tag_at rest) (n, w, bs) (tag_sound rest) tag in
+      let p = l.taken_is d m n w bs before (let r : Result (Unit {0}) DecodeError = Ok tt in r) new after after_bs taken in
+      let one : ReadsBack l.takes (λ n. true) d (l.meaning m) (t.0 ++ p.0) (l.meaning new) = record {
+        pieces = record { tag = t.0; number = n; wire = w; payload = p.0 } ∷ [];
+        spelled = sym (append-nil (t.0 ++ p.0));
+        leads = (refl, t.1, p.1, l.meaning new, p.3, refl);
+      } in
+      let all : merged_of l.takes d old (h.front ++ (t.0 ++ p.0)) ≡ Some (l.meaning new) =
+      along l.takes d h.front (merged_fields l.takes d old (l.meaning m) h.front h.merged) old (t.0 ++ p.0)
+      ∙ ap (option_and_then (λ w. merged_of l.takes d w (t.0 ++ p.0))) h.merged
+      ∙ back l.takes d (λ n. true) (l.meaning m) (t.0 ++ p.0) (l.meaning new) one in
+      record {
+        front = h.front ++ (t.0 ++ p.0);
+        split = h.split ∙ ap (λ (z : List ℕ). h.front ++ z) (t.2 ∙ ap (λ (z : List ℕ). t.0 ++ z) p.2 ∙ sym (append_assoc t.0 p.0 after_bs)) ∙ sym (append_assoc h.front (t.0 ++ p.0) after_bs);
+        merged = all;
+      }
+
+  -- the end
+  pub ends : (m : M) (rest : List ℕ) → Merged l.takes d old bytes rest (l.meaning m) → length rest ≤ 0 → merged_of l.takes d old bytes ≡ Some (l.meaning m)
+  ends m [] h z = ap (merged_of l.takes d old) (h.split ∙ append-nil h.front) ∙ h.merged
+  ends m (b ∷ bs) h z = absurd (omega arith)
+
+  -- a tag that is refused changes nothing
+  pub stands : (m : M) (rest : List ℕ) → Merged l.takes d old bytes rest (l.meaning m) → Stands l.takes l.Apart d old bytes (l.meaning m)
+  stands m rest h = record { front = h.front; rest = rest; split = h.split; mid = l.meaning m; merged = h.merged; apart = inl refl }
+
+  -- a field that is refused changes its member alone
+  pub stands_apart : (m new : M) (n : ℕ) (w : WireType) (rest bs after_bs : List ℕ) (before after : BudgetLeft) (e : DecodeError) → Merged l.takes d old bytes rest (l.meaning m) → tag_at rest ≡ Ok (n, w, bs) →
+      l.Taken d m n w bs before (let r : Result (Unit {0}) DecodeError = Err e in r) new after after_bs → Stands l.takes l.Apart d old bytes (l.meaning new)
+  stands_apart m new n w rest bs after_bs before after e h tag taken = record {
+    front = h.front;
+    rest = rest;
+    split = h.split;
+    mid = l.meaning m;
+    merged = h.merged;
+    apart = inr (n, w, bs, tag, l.apart d m n w bs before e new after after_bs taken);
+  }
+
+  pub falls : (m new : M) (n : ℕ) (w : WireType) (rest bs after_bs : List ℕ) (before after : BudgetLeft) → tag_at rest ≡ Ok (n, w, bs) →
+      l.Taken d m n w bs before (let r : Result (Unit {0}) DecodeError = Ok tt in r) new after after_bs → length after_bs < length rest
+  falls m new n w rest bs after_bs before after tag taken =
+      let p = l.taken_is d m n w bs before (let r : Result (Unit {0}) DecodeError = Ok tt in r) new after after_bs taken in
+      omega (arith, tag_falls rest (n, w, bs) tag, ap length p.2, length-append p.0 after_bs)

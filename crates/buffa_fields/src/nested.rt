@@ -1,0 +1,180 @@
+//! Members that are messages.
+
+ghost use Rattle.std.specs.Prelude.{None, ◌≡◌, ◌==◌, ◌++◌, ◌∷◌, [], List, ℕ, length};
+ghost use Rattle.std.specs.Option.{option_map};
+ghost use Rattle.buffa_wire.specs.BudgetLeft.{budget_left};
+ghost use Rattle.buffa_wire.specs.Number.{IsNumber};
+ghost use Rattle.buffa_wire.specs.Parse.{Fits};
+ghost use Rattle.buffa_wire.specs.Passes.{IsNext, IsSized, IsWritten, cap};
+ghost use Rattle.buffa_wire.specs.Records.{bytes, records_of};
+ghost use Rattle.buffa_wire.specs.Text.{records_text};
+ghost use Rattle.buffa_wire.specs.Written.{Writes};
+ghost use Rattle.buffa_fields.specs.Nested.{message_cost, message_in, message_levels, message_records, message_slots, message_taken};
+ghost use Rattle.buffa_fields.specs.NestedLaws.{Tells, head, message_back, message_stays};
+ghost use Rattle.buffa_fields.specs.Takes.{IsTaken};
+ghost use Rattle.buffa_fields.specs.Values.{IfThere};
+
+use crate::member::Member;
+use buffa_wire::{
+    Blank, DecodeContext, DecodeError, EncodeError, EncodeSink, Message, MessageSpec, SizeCache,
+    Tag, WireType, check_wire_type, encode_varint, prefix_len, varint_len,
+};
+use std::alloc::Global;
+use std::marker::PhantomData;
+
+// The length of a record whose message has so many bytes, or 2^32 - 1 where it is more.
+#[tactic(auto, using(crate::specs::NestedLaws::record_size))]
+pub(crate) fn record_len(number: u32, inner: u64) -> u32
+    requires { IsNumber number }
+    ensures { (text : List ℕ) → Tells inner text → result ≡ cap (length (records_text ((number, bytes text) ∷ []))) }
+{
+    let tag = varint_len(u64::from(number) * 8 + 2) as u64;
+    let len = prefix_len(inner) as u64;
+    let total = tag.saturating_add(len).saturating_add(inner);
+    if total < 4_294_967_295 {
+        total as u32
+    } else {
+        4_294_967_295
+    }
+}
+
+// The length of a message's record. Its own length, and then its slots, are appended.
+pub(crate) fn message_len<N: Message>(
+    number: u32,
+    message: &N,
+    cache: &mut SizeCache,
+) -> Result<u32, EncodeError>
+    requires { IsNumber number }
+    ensures { let v = N.meaning message.now in IsSized (records_text ((number, bytes (N.text v)) ∷ []))
+        (cap (length (N.text v)) ∷ N.slots v) cache.old result cache.new }
+{
+    let slot = match cache.reserve() {
+        Ok(slot) => slot,
+        Err(error) => return Err(error),
+    };
+    match message.compute_size(cache) {
+        Ok(inner) => {
+            cache.set(slot, inner);
+            Ok(record_len(number, u64::from(inner)))
+        }
+        Err(error) => Err(error),
+    }
+}
+
+// Writes a tag and a length.
+#[tactic(auto, using(buffa_bytes::proofs::SinkLemmas::writes_then, buffa_bytes::proofs::SinkLemmas::front_first))]
+pub(crate) fn write_head<S: EncodeSink>(
+    number: u32,
+    inner: u64,
+    sink: &mut S,
+) -> Result<(), EncodeError>
+    requires { IsNumber number }
+    ensures { Writes result (S.written sink.old) (head number inner) (S.written sink.new) }
+{
+    Tag::new(number, WireType::LengthDelimited).encode(sink)?;
+    encode_varint(inner, sink)
+}
+
+// Writes a message's record, whose length is the next slot.
+pub(crate) fn write_message<N: Message, S: EncodeSink>(
+    number: u32,
+    message: &N,
+    cache: &mut SizeCache,
+    sink: &mut S,
+) -> Result<(), EncodeError>
+    requires number { IsNumber number }
+    requires next { let v = N.meaning message.now in IsNext (cap (length (N.text v)) ∷ N.slots v) cache.old }
+    ensures { let v = N.meaning message.now in IsWritten (records_text ((number, bytes (N.text v)) ∷ []))
+        (cap (length (N.text v)) ∷ N.slots v) cache.old (S.written sink.old) result cache.new (S.written sink.new) }
+{
+    let inner = cache.consume_next();
+    match write_head(number, u64::from(inner), sink) {
+        Ok(()) => message.write_to(cache, sink),
+        Err(error) => Err(error),
+    }
+}
+
+// Merges the length and the message of the field whose tag was read.
+pub(crate) fn take_inside<N: Message>(
+    alloc: Global,
+    message: &mut N,
+    tag: Tag,
+    buf: &mut &[u8],
+    ctx: DecodeContext<'_>,
+) -> Result<(), DecodeError>
+    ensures { IsTaken (message_in N.merged) (message_cost N.cost) ctx.entry.depth (N.meaning message.old) tag.number
+        tag.wire_type buf.old.now ctx.entry.budget.now result (N.meaning message.new) (budget_left ctx.exit)
+        buf.new.now }
+{
+    match check_wire_type(tag, WireType::LengthDelimited) {
+        Ok(()) => message.merge_length_delimited(alloc, buf, ctx),
+        Err(error) => Err(error),
+    }
+}
+
+/// A message that may be absent. What is read is merged into the message that stands.
+pub struct Nested<N> {
+    of: PhantomData<N>,
+}
+
+impl<N: Message> Member for Nested<N> {
+    type Part = Option<N>;
+
+    type Meaning = Option<<N as Blank>::Meaning>;
+
+    ghost slot = { record {
+      meaning = λ p. option_map N.meaning p;
+      blank = None;
+      takes = message_taken N.blank_is N.merged;
+      need = message_cost N.cost;
+      records = message_records N.text;
+      slots = message_slots N.text N.slots;
+      levels = message_levels N.levels;
+      normal = λ v. IfThere (λ x. N.normal x × Fits (records_of (N.records x))) v;
+      stays = message_stays N.merged N.cost;
+    } };
+
+    #[tactic(auto, using(crate::specs::LayoutLaws::sized_free), unfolding(crate::specs::Nested::message_records, crate::specs::Nested::message_slots))]
+    fn len(number: u32, part: &Option<N>, cache: &mut SizeCache) -> Result<u32, EncodeError> {
+        match part {
+            None => Ok(0),
+            Some(message) => message_len(number, message, cache),
+        }
+    }
+
+    #[tactic(auto, using(buffa_wire::proofs::PassLemmas::written_none), unfolding(crate::specs::Nested::message_records, crate::specs::Nested::message_slots))]
+    fn write_to<S: EncodeSink>(
+        number: u32,
+        part: &Option<N>,
+        cache: &mut SizeCache,
+        sink: &mut S,
+    ) -> Result<(), EncodeError> {
+        match part {
+            None => Ok(()),
+            Some(message) => write_message(number, message, cache, sink),
+        }
+    }
+
+    #[tactic(auto, using(crate::specs::NestedLaws::there), unfolding(crate::specs::Layout::Took))]
+    fn merge(
+        part: &mut Option<N>,
+        alloc: Global,
+        tag: Tag,
+        buf: &mut &[u8],
+        ctx: DecodeContext<'_>,
+    ) -> Result<(), DecodeError> {
+        let mut message = match part.take() {
+            Some(message) => message,
+            None => N::blank(alloc),
+        };
+        let result = take_inside(alloc, &mut message, tag, buf, ctx);
+        *part = Some(message);
+        result
+    }
+
+    ghost back = { record {
+      back = λ n number d v fits normal low. message_back N.merged N.blank_is N.text N.levels
+          (λ x. N.normal x × Fits (records_of (N.records x)))
+          (λ d v ok low. N.MessageSpec.merged_text d v ok.1 ok.0 low) n number d v fits normal low;
+    } };
+}

@@ -1,0 +1,195 @@
+//! Lists that are written packed.
+
+ghost use Rattle.std.specs.Prelude.{[], false, length, map, refl, ◌==◌, ◌≡◌};
+ghost use Rattle.buffa_bytes.specs.declared.wire_type.WireType.TheVariants.{LengthDelimited};
+ghost use Rattle.buffa_wire.specs.Number.{IsNumber};
+ghost use Rattle.buffa_wire.specs.Passes.{IsWritten, cap};
+ghost use Rattle.buffa_wire.specs.Text.{records_text};
+ghost use Rattle.buffa_wire.specs.WireType.{same_wire};
+ghost use Rattle.buffa_wire.specs.Written.{Writes};
+ghost use Rattle.buffa_map.specs.Text.{saturated};
+ghost use Rattle.buffa_fields.specs.Lists.{Each, elements_taken, packed_records, packed_text};
+ghost use Rattle.buffa_fields.specs.ListLaws.{packed_back};
+ghost use Rattle.buffa_fields.specs.Values.{free};
+
+use crate::kind::Kind;
+use crate::list::take_elements;
+use crate::member::Member;
+use crate::nested::{record_len, write_head};
+use buffa_map::map_codec::{
+    Bool, Fixed32, Fixed64, Int32, Int64, MapCodec, MapValueDecode, OpenEnum, Sfixed32, Sfixed64,
+    Sint32, Sint64, Uint32, Uint64,
+};
+use buffa_wire::{
+    Blank, DecodeContext, DecodeError, EncodeError, EncodeSink, Enumeration, SizeCache, Tag,
+};
+use std::alloc::Global;
+use std::marker::PhantomData;
+
+/// Kinds that can be packed: a payload is no length and so many bytes.
+pub trait Packable: Kind {
+    /// So a length and so many bytes are packed ones.
+    ghost apart: { same_wire Self.reading.wire LengthDelimited ≡ false };
+}
+
+impl Packable for Int32 {
+    ghost apart = { refl };
+}
+
+impl Packable for Int64 {
+    ghost apart = { refl };
+}
+
+impl Packable for Uint32 {
+    ghost apart = { refl };
+}
+
+impl Packable for Uint64 {
+    ghost apart = { refl };
+}
+
+impl Packable for Sint32 {
+    ghost apart = { refl };
+}
+
+impl Packable for Sint64 {
+    ghost apart = { refl };
+}
+
+impl Packable for Fixed32 {
+    ghost apart = { refl };
+}
+
+impl Packable for Fixed64 {
+    ghost apart = { refl };
+}
+
+impl Packable for Sfixed32 {
+    ghost apart = { refl };
+}
+
+impl Packable for Sfixed64 {
+    ghost apart = { refl };
+}
+
+impl Packable for Bool {
+    ghost apart = { refl };
+}
+
+impl<E: Enumeration> Packable for OpenEnum<E> {
+    ghost apart = { refl };
+}
+
+// The length of all payloads, or 2^64 - 1 where it is more.
+fn payloads_len<C: Kind>(values: &[C::Value]) -> u64
+    ensures { result ≡ saturated (length (packed_text C.writing.text (map C.Value.meaning values.now))) }
+{
+    let mut total: u64 = 0;
+    for value in values {
+        total = total.saturating_add(C::encoded_len(value));
+    }
+    total
+}
+
+// Writes all payloads.
+fn write_payloads<C: Kind, S: EncodeSink>(
+    values: &[C::Value],
+    sink: &mut S,
+) -> Result<(), EncodeError>
+    ensures { Writes result (S.written sink.old) (packed_text C.writing.text (map C.Value.meaning values.now))
+        (S.written sink.new) }
+{
+    for value in values {
+        match C::encode(value, sink) {
+            Ok(()) => {}
+            Err(error) => return Err(error),
+        }
+    }
+    Ok(())
+}
+
+// The length of the one record of a list, or 2^32 - 1 where it is more; 0 where the list is empty.
+fn packed_len<C: Kind>(number: u32, values: &[C::Value]) -> u32
+    requires { IsNumber number }
+    ensures { result ≡ cap (length (records_text
+        (packed_records C.writing.text number (map C.Value.meaning values.now)))) }
+{
+    if values.len() == 0 {
+        return 0;
+    }
+    record_len(number, payloads_len::<C>(values))
+}
+
+// Writes the one record of a list, or nothing where it is empty.
+fn write_packed<C: Kind, S: EncodeSink>(
+    number: u32,
+    values: &[C::Value],
+    _cache: &mut SizeCache,
+    sink: &mut S,
+) -> Result<(), EncodeError>
+    requires { IsNumber number }
+    ensures { IsWritten (records_text (packed_records C.writing.text number (map C.Value.meaning values.now))) []
+        _cache.old (S.written sink.old) result _cache.new (S.written sink.new) }
+{
+    if values.len() == 0 {
+        return Ok(());
+    }
+    match write_head(number, payloads_len::<C>(values), sink) {
+        Ok(()) => write_payloads::<C, S>(values, sink),
+        Err(error) => Err(error),
+    }
+}
+
+/// A list of scalars or open enums, which is written packed. Elements in fields of their own are read too.
+pub struct Packed<C> {
+    of: PhantomData<C>,
+}
+
+impl<C: Packable> Member for Packed<C> {
+    type Part = Vec<C::Value>;
+
+    type Meaning = [<C::Value as Blank>::Meaning; 0];
+
+    ghost slot = { record {
+      meaning = λ vs. map C.Value.meaning vs.items;
+      blank = [];
+      takes = elements_taken C.reading;
+      need = free;
+      records = packed_records C.writing.text;
+      slots = λ _. [];
+      levels = λ _. 0;
+      normal = λ vs. Each (λ v. C.fits v × C.normal v) vs;
+      stays = λ d n w p x h. refl;
+    } };
+
+    #[tactic(auto, using(crate::specs::LayoutLaws::sized_free))]
+    fn len(number: u32, part: &Vec<C::Value>, _cache: &mut SizeCache) -> Result<u32, EncodeError> {
+        Ok(packed_len::<C>(number, part.as_slice()))
+    }
+
+    fn write_to<S: EncodeSink>(
+        number: u32,
+        part: &Vec<C::Value>,
+        cache: &mut SizeCache,
+        sink: &mut S,
+    ) -> Result<(), EncodeError> {
+        write_packed::<C, S>(number, part.as_slice(), cache, sink)
+    }
+
+    #[tactic(auto, unfolding(crate::specs::Layout::Took))]
+    fn merge(
+        part: &mut Vec<C::Value>,
+        alloc: Global,
+        tag: Tag,
+        buf: &mut &[u8],
+        ctx: DecodeContext<'_>,
+    ) -> Result<(), DecodeError> {
+        take_elements::<C>(alloc, part, tag, buf, ctx.depth)
+    }
+
+    ghost back = { record {
+      back = λ k number d v fits normal low. packed_back C.reading C.writing C.datum k number d C.MapCodec.plain
+          C.MapValueDecode.no_limit C.WIRE_TYPE C.MapValueDecode.wire C.MapCodec.written_wire C.fits C.normal
+          C.MapCodec.reads_back C.Kind.datum_text C.Packable.apart v fits normal;
+    } };
+}

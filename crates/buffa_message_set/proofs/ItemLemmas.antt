@@ -1,0 +1,416 @@
+-- Items: what is read of them, and the grammar.
+use Rattle.std.proofs.Common.{◌≡◌, ◌≢◌, ◌⊎◌, inl, inr, ℕ, zero, suc, ◌==◌, ◌&&◌, nat_lt, ◌<◌, ◌^◌, Bool, true, false, List, [], ◌∷◌, ◌++◌, length, drop, Option, None, Some, Result, Ok, Err, IsOk, refl, true≢false, sym, ap, subst, ◌∙◌, arith, append_assoc, append-nil, length-append}
+use Rattle.std.proofs.lemmas.Bool.{eqb-true, eq-eqb, lt-ltb, le-ltb, ltb-true, ltb-false}
+use Rattle.std.proofs.lemmas.List.{append_cancel_right}
+use Rattle.buffa_wire.specs.Field.{IsTag, LengthFault, Payload, TakesDelimited, TakesTag}
+use Rattle.buffa_wire.specs.Values.{tag_text}
+use Rattle.buffa_wire.specs.Varint.{IsVarint, varint_text}
+use Rattle.buffa_wire.specs.Reading.{delimited_at, skip_at, tag_at, taken, varint_at}
+use Rattle.buffa_wire.specs.WireType.{same_wire}
+use Rattle.buffa_bytes.specs.declared.wire_type.WireType.{WireType}
+use Rattle.buffa_bytes.specs.declared.wire_type.WireType.TheVariants.{Varint, Fixed64, LengthDelimited, StartGroup, EndGroup, Fixed32}
+use Rattle.buffa_bytes.specs.declared.error.DecodeError.{DecodeError}
+use Rattle.buffa_bytes.specs.declared.error.DecodeError.TheVariants.{InvalidMessageSet, OutOfMemory}
+use Rattle.buffa_bytes.specs.declared.error.MessageSetFault.TheVariants.{MissingTypeId}
+use Rattle.buffa_bytes.proofs.StepLemmas.{Agrees, agree_bind, agree_err, agree_if, agree_ok, agree_weaker}
+use Rattle.buffa_bytes.proofs.DelimitedLemmas.{delimited_complete, delimited_faulty, delimited_sound, taken_sound}
+use Rattle.buffa_bytes.proofs.FieldLemmas.{payload_complete, payload_faulty, payload_sound, tag_complete, tag_faulty, tag_some, tag_sound}
+use Rattle.buffa_bytes.proofs.FullLemmas.{delimited_full, payload_fault_full, payload_full, tag_fault_full}
+use Rattle.buffa_bytes.proofs.VarintLemmas.{IsVarint-varint_text, varint_complete, varint_faulty, varint_sound}
+use Rattle.buffa_wire.specs.Unread.{IsFrontOf}
+use Rattle.buffa_wire.specs.Sequence.{ParsesEach, ParsesTo, join}
+use Rattle.buffa_wire.proofs.InsideLemmas.{delimited_front}
+use Rattle.buffa_wire.proofs.SequenceLemmas.{ParsesTo-first, ParsesTo-more, ok_same}
+use Rattle.buffa_message_set.specs.Item.{BytesAt, EndFault, FieldFault, HasMessage, IsField, IsMessageAt, IsOther, IsOutOfRange, IsTypeId, Item, ItemFault, Reaches, Said, TakesItem, TypeIdFault, appended_at, body_text, ended, ends, field_at, item_at, item_within, said, says, type_id_at, unsaid}
+
+-- ---- numbers and wire types that are looked for
+same_true : (v w : WireType) → same_wire v w ≡ true → v ≡ w
+same_true Varint Varint h = refl
+same_true Fixed64 Fixed64 h = refl
+same_true LengthDelimited LengthDelimited h = refl
+same_true StartGroup StartGroup h = refl
+same_true EndGroup EndGroup h = refl
+same_true Fixed32 Fixed32 h = refl
+same_true _ _ h = cc
+
+same_refl : (w : WireType) → same_wire w w ≡ true
+same_refl Varint = refl
+same_refl Fixed64 = refl
+same_refl LengthDelimited = refl
+same_refl StartGroup = refl
+same_refl EndGroup = refl
+same_refl Fixed32 = refl
+
+pub and_true : (a b : Bool) → (a && b) ≡ true → (a ≡ true) × (b ≡ true)
+and_true true b e = (refl, e)
+and_true false b e = cc
+
+and_false : (a b : Bool) → (a && b) ≡ false → (a ≡ false) ⊎ (b ≡ false)
+and_false true b e = inr e
+and_false false b e = inl refl
+
+false_and : (a b : Bool) → (a ≡ true → b ≡ true → ⊥) → (a && b) ≡ false
+false_and true true h = absurd (h refl refl)
+false_and true false h = refl
+false_and false b h = refl
+
+pub both_true : (n m : ℕ) (v w : WireType) → ((n == m) && same_wire v w) ≡ true → (n ≡ m) × (v ≡ w)
+both_true n m v w e = let h = and_true (n == m) (same_wire v w) e in (eqb-true n m h.0, same_true v w h.1)
+
+pub is_both : (n m : ℕ) (v w : WireType) → n ≡ m → w ≡ v → ((n == m) && same_wire v w) ≡ true
+is_both n m v w a b = rw (eq-eqb n m a, b, same_refl v) refl
+
+pub both_false : (n m : ℕ) (v w : WireType) → ((n == m) && same_wire v w) ≡ false → n ≡ m → w ≢ v
+both_false n m v w e is same = true≢false (sym (is_both n m v w is same) ∙ e)
+
+pub not_both : (n m : ℕ) (v w : WireType) → (n ≡ m → w ≢ v) → ((n == m) && same_wire v w) ≡ false
+not_both n m v w h = false_and (n == m) (same_wire v w) (λ a b. h (eqb-true n m a) (sym (same_true v w b)))
+
+-- ---- type ids
+pub out_of : (n : ℕ) → (nat_lt 0 n && nat_lt n (2 ^ 31)) ≡ false → IsOutOfRange n
+out_of n e = elim (and_false (nat_lt 0 n) (nat_lt n (2 ^ 31)) e) [
+  | inl h ↦ inl (omega (arith, ltb-false 0 n h))
+  | inr h ↦ inr (ltb-false n (2 ^ 31) h)
+]
+
+pub in_range : (n : ℕ) → IsTypeId n → (nat_lt 0 n && nat_lt n (2 ^ 31)) ≡ true
+in_range n h = rw (lt-ltb 0 n h.0, lt-ltb n (2 ^ 31) h.1) refl
+
+not_in_range : (n : ℕ) → IsOutOfRange n → (nat_lt 0 n && nat_lt n (2 ^ 31)) ≡ false
+not_in_range n (inl h) = rw h refl
+not_in_range n (inr h) = rw (le-ltb n (2 ^ 31) h) (false_and (nat_lt 0 n) false (λ a b. true≢false (sym b)))
+
+type_id_sound : (bs : List ℕ) → Agrees (type_id_at bs) (λ x. (p : List ℕ) × IsVarint p x.0 × IsTypeId x.0 × (bs ≡ p ++ x.1)) (TypeIdFault bs)
+type_id_sound bs = agree_bind (varint_sound bs)
+    (λ n v. agree_if (nat_lt 0 n.0 && nat_lt n.0 (2 ^ 31))
+    (λ e. let h = and_true (nat_lt 0 n.0) (nat_lt n.0 (2 ^ 31)) e in record { holds = (v.0, v.1, (ltb-true 0 n.0 h.0, ltb-true n.0 (2 ^ 31) h.1), v.2) })
+    (λ e. record { holds = inr (n.0, n.1, v, out_of n.0 e, refl) }))
+    (λ e h. inl h)
+
+type_id_complete : (p rest : List ℕ) (id : ℕ) → IsVarint p id → IsTypeId id → type_id_at (p ++ rest) ≡ Ok (id, rest)
+type_id_complete p rest id v h = rw (varint_complete p id rest v, in_range id h) refl
+
+type_id_faulty : (bs : List ℕ) (e : DecodeError) → TypeIdFault bs e → type_id_at bs ≡ Err e
+type_id_faulty bs e (inl h) = rw (varint_faulty bs e h) refl
+type_id_faulty bs e (inr (n, rest, (t, v, is), out, k)) = rw (is, varint_complete t n rest v, not_in_range n out) (ap (λ x. Err x) (sym k))
+
+-- ---- fields
+tag_read : (bs rest : List ℕ) (n : ℕ) (w : WireType) → TakesTag bs n w rest → tag_at bs ≡ Ok (n, w, rest)
+tag_read bs rest n w (t, is_tag, e) = ap tag_at e ∙ tag_complete t n w rest is_tag
+
+whole : (all t p : List ℕ) (after rest : List ℕ) → all ≡ t ++ after → after ≡ p ++ rest → all ≡ (t ++ p) ++ rest
+whole all t p after rest a b = a ∙ ap (λ z. t ++ z) b ∙ sym (append_assoc t p rest)
+
+module _ (d : ℕ) where
+  -- a field at the front of the bytes, which leads from s to what is said then
+  abbrev pub FieldAt : Said → List ℕ → Said × List ℕ → Type 0
+  FieldAt s all x = (f : List ℕ) × IsField d s f x.0 × (all ≡ f ++ x.1)
+
+  pub tag_of : (tag : List ℕ) (n m : ℕ) (v w : WireType) → IsTag tag n w → n ≡ m → v ≡ w → IsTag tag m v
+  tag_of tag n m v w h a b = subst (λ x. IsTag tag x v) a (subst (λ x. IsTag tag n x) (sym b) h)
+
+  pub field_sound : (s : Said) (all tag bs : List ℕ) (n : ℕ) (w : WireType) → IsTag tag n w → all ≡ tag ++ bs → (n ≡ 1 → w ≢ EndGroup) →
+      Agrees (field_at d s n w bs) (FieldAt s all) (FieldFault d all)
+  field_sound s all tag bs n w is_tag e open_tag = agree_if ((n == 2) && same_wire Varint w)
+      (λ two. let is = both_true n 2 Varint w two in let t = tag_of tag n 2 Varint w is_tag is.0 is.1 in
+      agree_bind (type_id_sound bs)
+      (λ x m. record { holds = (tag ++ m.0, inl (tag, m.0, x.0, t, m.1, m.2, refl, refl), whole all tag m.0 bs x.1 e m.3) })
+      (λ f h. inr (inl (bs, (tag, t, e), h))))
+      (λ not_two. agree_if ((n == 3) && same_wire LengthDelimited w)
+      (λ three. let is = both_true n 3 LengthDelimited w three in let t = tag_of tag n 3 LengthDelimited w is_tag is.0 is.1 in
+      agree_bind (agree_bind {Q = λ x. (b : List ℕ) × TakesDelimited bs b x.1 × (x.0 ≡ s.message ++ b)} {E = LengthFault bs} (delimited_sound bs) (λ x m. record { holds = (x.0, m, refl) }) (λ f h. h))
+      (λ x m. record {
+        holds = (
+          tag ++ (m.1.0 ++ m.0),
+          inr (inl (tag, m.1.0, m.0, t, m.1.1, refl, ap (said s.type_id) m.2)),
+          whole all tag (m.1.0 ++ m.0) bs x.1 e (m.1.2 ∙ sym (append_assoc m.1.0 m.0 x.1)),
+        );
+      })
+      (λ f h. inr (inr (inl (bs, (tag, t, e), h)))))
+      (λ not_three. let other : IsOther n w = (both_false n 2 Varint w not_two, both_false n 3 LengthDelimited w not_three, open_tag) in
+      agree_bind (payload_sound d n w bs)
+      (λ rest p. record { holds = (tag ++ p.0, inr (inr (n, w, other, (tag, p.0, is_tag, p.1, refl), refl)), whole all tag p.0 bs rest e p.2) })
+      (λ f h. inr (inr (inr (n, w, bs, other, (tag, is_tag, e), h))))))
+
+  -- the field f was read of f ++ rest by its tag
+  pub record FieldRead (s : Said) (f : List ℕ) (t : Said) (rest : List ℕ) : Type 0 where
+    pub tag : List ℕ
+    pub number : ℕ
+    pub wire : WireType
+    pub after : List ℕ
+    pub is_tag : IsTag tag number wire
+    pub split : f ++ rest ≡ tag ++ after
+    pub goes_on : ends number wire ≡ false
+    pub reads : field_at d s number wire after ≡ Ok (t, rest)
+
+  pub field_no_end : (n : ℕ) (w : WireType) (p : List ℕ) → Payload d n w p → w ≢ EndGroup
+  field_no_end n w p h e = subst (λ v. Payload d n v p) e h
+
+  pub field_complete : (s t : Said) (f rest : List ℕ) → IsField d s f t → FieldRead s f t rest
+  field_complete s t f rest (inl (tag, p, id, is_tag, v, range, e, st)) = record {
+    tag = tag;
+    number = 2;
+    wire = Varint;
+    after = p ++ rest;
+    is_tag = is_tag;
+    split = ap (λ z. z ++ rest) e ∙ append_assoc tag p rest;
+    goes_on = refl;
+    reads = rw (type_id_complete p rest id v range) (ap (λ z. Ok (z, rest)) (sym st));
+  }
+  field_complete s t f rest (inr (inl (tag, l, b, is_tag, v, e, st))) = record {
+    tag = tag;
+    number = 3;
+    wire = LengthDelimited;
+    after = l ++ (b ++ rest);
+    is_tag = is_tag;
+    split = ap (λ z. z ++ rest) e ∙ append_assoc tag (l ++ b) rest ∙ ap (λ z. tag ++ z) (append_assoc l b rest);
+    goes_on = refl;
+    reads = rw (delimited_complete l b rest v) (ap (λ z. Ok (z, rest)) (sym st));
+  }
+  field_complete s t f rest (inr (inr (n, w, other, (tag, p, is_tag, h, e), st))) = record {
+    tag = tag;
+    number = n;
+    wire = w;
+    after = p ++ rest;
+    is_tag = is_tag;
+    split = ap (λ z. z ++ rest) e ∙ append_assoc tag p rest;
+    goes_on = not_both n 1 EndGroup w other.2;
+    reads = rw (not_both n 2 Varint w other.0, not_both n 3 LengthDelimited w other.1, payload_complete d n w p rest h) (ap (λ z. Ok (z, rest)) (sym st));
+  }
+
+  field_some : (s t : Said) (f : List ℕ) → IsField d s f t → 0 < length f
+  field_some s t f (inl (tag, p, id, is_tag, v, range, e, st)) = omega (arith, tag_some tag 2 Varint is_tag, ap length e, length-append tag p)
+  field_some s t f (inr (inl (tag, l, b, is_tag, v, e, st))) = omega (arith, tag_some tag 3 LengthDelimited is_tag, ap length e, length-append tag (l ++ b))
+  field_some s t f (inr (inr (n, w, other, (tag, p, is_tag, h, e), st))) = omega (arith, tag_some tag n w is_tag, ap length e, length-append tag p)
+
+  -- ---- whole Items, from where s was said
+  abbrev pub TakesFrom : Said → List ℕ → ℕ × List ℕ × List ℕ → Type 0
+  TakesFrom s bs x = (end : List ℕ) × IsTag end 1 EndGroup × ParsesTo (IsField d) s bs (says x.0 x.1) (end ++ x.2)
+
+  abbrev pub StopsFrom : Said → List ℕ → DecodeError → Type 0
+  StopsFrom s bs e = (t : Said) × (rest : List ℕ) × ParsesTo (IsField d) s bs t rest × (FieldFault d rest e ⊎ EndFault t rest e)
+
+  here : (s : Said) (bs : List ℕ) → ParsesTo (IsField d) s bs s bs
+  here s bs = ([], refl, refl)
+
+  ended_sound : (s : Said) (o : Option ℕ) (bs tag rest : List ℕ) → s.type_id ≡ o → IsTag tag 1 EndGroup → bs ≡ tag ++ rest → Agrees (ended o s.message rest) (TakesFrom s bs) (StopsFrom s bs)
+  ended_sound s None bs tag rest so is e = record { holds = (s, bs, here s bs, inr (rest, (tag, is, e), so, refl)) }
+  ended_sound s (Some id) bs tag rest so is e = record { holds = (tag, is, ([], e, ap (λ o. said o s.message) so)) }
+
+  pub item_sound : (k : ℕ) (s : Said) (bs : List ℕ) → length bs < k → Agrees (item_within d k s bs) (TakesFrom s bs) (StopsFrom s bs)
+  unfolding item_within
+  item_sound zero s bs h = absurd (omega arith)
+  item_sound (suc k) s bs h = agree_bind (tag_sound bs)
+      (λ t u. agree_if (ends t.0 t.1)
+      (λ e. let is = both_true t.0 1 EndGroup t.1 e in ended_sound s s.type_id bs u.0 t.2 refl (tag_of u.0 t.0 1 EndGroup t.1 u.1 is.0 is.1) u.2)
+      (λ e. agree_bind (field_sound s bs u.0 t.2 t.0 t.1 u.1 u.2 (both_false t.0 1 EndGroup t.1 e))
+      (λ x f. agree_weaker (item_sound k x.0 x.1 (omega (arith, field_some s x.0 f.0 f.1, ap length f.2, length-append f.0 x.1)))
+      (λ y w. (w.0, w.1, ParsesTo-first (IsField d) bs s x.0 (says y.0 y.1) f.0 x.1 (w.0 ++ y.2) f.1 f.2 w.2))
+      (λ y w. (w.0, w.1, ParsesTo-first (IsField d) bs s x.0 w.0 f.0 x.1 w.1 f.1 f.2 w.2, w.3)))
+      (λ y w. (s, bs, here s bs, inl w))))
+      (λ e w. (s, bs, here s bs, inl (inl w)))
+
+  step : (k : ℕ) (s u : Said) (all tag bs after : List ℕ) (n : ℕ) (w : WireType) → IsTag tag n w → all ≡ tag ++ bs → ends n w ≡ false → field_at d s n w bs ≡ Ok (u, after) → item_within d (suc k) s all ≡ item_within d k u after
+  unfolding item_within
+  step k s u all tag bs after n w is_tag e goes_on reads = rw (e, tag_complete tag n w bs is_tag, goes_on, reads) refl
+
+  -- whole fields are passed
+  pass : (k : ℕ) (ps : List (List ℕ)) (s t : Said) (rest : List ℕ) → ParsesEach (IsField d) s ps t → length (join ps ++ rest) < k →
+      (m : ℕ) × (length rest < m) × (item_within d k s (join ps ++ rest) ≡ item_within d m t rest)
+  pass k [] s t rest h l = (k, l, ap (λ z. item_within d k z rest) h)
+  pass zero (p ∷ ps) s t rest (u, h, w) l = absurd (omega arith)
+  pass (suc k) (p ∷ ps) s t rest (u, h, w) l =
+      let c = field_complete s u p (join ps ++ rest) h in
+      let i = pass k ps u t rest w (omega (arith, field_some s u p h, length-append p (join ps), length-append (p ++ join ps) rest, length-append (join ps) rest)) in
+      (i.0, i.1, step k s u ((p ++ join ps) ++ rest) c.tag c.after (join ps ++ rest) c.number c.wire c.is_tag (append_assoc p (join ps) rest ∙ c.split) c.goes_on c.reads ∙ i.2)
+
+  at_end : (m : ℕ) (id : ℕ) (msg end rest : List ℕ) → IsTag end 1 EndGroup → length (end ++ rest) < m → item_within d m (says id msg) (end ++ rest) ≡ Ok (id, msg, rest)
+  unfolding item_within
+  at_end zero id msg end rest is l = absurd (omega arith)
+  at_end (suc m) id msg end rest is l = rw (tag_complete end 1 EndGroup rest is) refl
+
+  at_fault : (m : ℕ) (s : Said) (bs : List ℕ) (e : DecodeError) → length bs < m → FieldFault d bs e ⊎ EndFault s bs e → item_within d m s bs ≡ Err e
+  unfolding item_within
+  at_fault zero s bs e l h = absurd (omega arith)
+  at_fault (suc m) s bs e l (inl (inl h)) = rw (tag_faulty bs e h) refl
+  at_fault (suc m) s bs e l (inl (inr (inl (rest, t, h)))) = rw (tag_read bs rest 2 Varint t, type_id_faulty rest e h) refl
+  at_fault (suc m) s bs e l (inl (inr (inr (inl (rest, t, h))))) = rw (tag_read bs rest 3 LengthDelimited t, delimited_faulty rest e h) refl
+  at_fault (suc m) s bs e l (inl (inr (inr (inr (n, w, rest, other, t, h))))) =
+      rw (tag_read bs rest n w t, not_both n 1 EndGroup w other.2, not_both n 2 Varint w other.0, not_both n 3 LengthDelimited w other.1, payload_faulty d n w rest e h) refl
+  at_fault (suc m) s bs e l (inr (rest, t, no_id, k)) = rw (tag_read bs rest 1 EndGroup t, no_id) (ap (λ x. Err x) (sym k))
+
+  pub from_complete : (k : ℕ) (s : Said) (bs : List ℕ) (x : ℕ × List ℕ × List ℕ) → length bs < k → TakesFrom s bs x → item_within d k s bs ≡ Ok x
+  from_complete k s bs x l (end, is, (ps, e, w)) =
+      let i = pass k ps s (says x.0 x.1) (end ++ x.2) w (subst (λ z. length z < k) e l) in
+      ap (item_within d k s) e ∙ i.2 ∙ at_end i.0 x.0 x.1 end x.2 is i.1
+
+  pub from_faulty : (k : ℕ) (s : Said) (bs : List ℕ) (e : DecodeError) → length bs < k → StopsFrom s bs e → item_within d k s bs ≡ Err e
+  from_faulty k s bs e l (t, rest, (ps, is, w), h) =
+      let i = pass k ps s t rest w (subst (λ z. length z < k) is l) in
+      ap (item_within d k s) is ∙ i.2 ∙ at_fault i.0 t rest e i.1 h
+
+  -- ---- the reading of an Item
+  pub takes_from : (bs msg rest : List ℕ) (id : ℕ) → TakesItem d bs id msg rest → TakesFrom unsaid bs (id, msg, rest)
+  takes_from bs msg rest id (b, (end, is, (ps, e, w)), whole_is) = (end, is, (ps, whole_is ∙ ap (λ z. z ++ rest) e ∙ append_assoc (join ps) end rest, w))
+
+  pub takes_item : (bs msg rest : List ℕ) (id : ℕ) → TakesFrom unsaid bs (id, msg, rest) → TakesItem d bs id msg rest
+  takes_item bs msg rest id (end, is, (ps, e, w)) = (join ps ++ end, (end, is, (ps, refl, w)), e ∙ sym (append_assoc (join ps) end rest))
+
+  pub read_sound : (bs : List ℕ) → Agrees (item_at d bs) (λ x. TakesItem d bs x.0 x.1 x.2) (ItemFault d bs)
+  unfolding item_at
+  read_sound bs = agree_weaker (item_sound (suc (length bs)) unsaid bs (omega arith)) (λ x h. takes_item bs x.1 x.2 x.0 h) (λ e h. h)
+
+  pub read_complete : (bs msg rest : List ℕ) (id : ℕ) → TakesItem d bs id msg rest → item_at d bs ≡ Ok (id, msg, rest)
+  unfolding item_at
+  read_complete bs msg rest id h = from_complete (suc (length bs)) unsaid bs (id, msg, rest) (omega arith) (takes_from bs msg rest id h)
+
+  pub read_faulty : (bs : List ℕ) (e : DecodeError) → ItemFault d bs e → item_at d bs ≡ Err e
+  unfolding item_at
+  read_faulty bs e h = from_faulty (suc (length bs)) unsaid bs e (omega arith) h
+
+-- ---- memory is no fault
+type_id_fault_full : (bs : List ℕ) → TypeIdFault bs OutOfMemory → ⊥
+type_id_fault_full bs (inl h) = h
+type_id_fault_full bs (inr (n, rest, t, out, e)) = cc
+
+pub type_id_no_full : {P : Type 0} (bs : List ℕ) (e : DecodeError) → type_id_at bs ≡ Err e → e ≡ OutOfMemory → P
+type_id_no_full bs e h k = absurd (type_id_fault_full bs (subst (λ x. TypeIdFault bs x) k (agree_err (type_id_at bs) e (type_id_sound bs) h)))
+
+pub payload_no_full : {P : Type 0} (d n : ℕ) (w : WireType) (bs : List ℕ) (e : DecodeError) → skip_at d n w bs ≡ Err e → e ≡ OutOfMemory → P
+payload_no_full d n w bs e h k = absurd (payload_full d n w bs (h ∙ ap (λ x. Err x) k))
+
+module _ (d : ℕ) where
+  field_fault_full : (bs : List ℕ) → FieldFault d bs OutOfMemory → ⊥
+  field_fault_full bs (inl h) = tag_fault_full bs h
+  field_fault_full bs (inr (inl (rest, t, h))) = type_id_fault_full rest h
+  field_fault_full bs (inr (inr (inl (rest, t, h)))) = delimited_full rest (delimited_faulty rest OutOfMemory h)
+  field_fault_full bs (inr (inr (inr (n, w, rest, other, t, h)))) = payload_fault_full d n w rest h
+
+  pub item_fault_full : (bs : List ℕ) → ItemFault d bs OutOfMemory → ⊥
+  item_fault_full bs (s, rest, reached, inl h) = field_fault_full rest h
+  item_fault_full bs (s, rest, reached, inr (after, t, no_id, e)) = cc
+
+-- ---- message bytes
+ok_of : {A : Type 0} (r : Result A DecodeError) → IsOk r → (x : A) × (r ≡ Ok x)
+ok_of (Ok x) h = (x, refl)
+ok_of (Err e) h = cc
+
+-- no bytes change nothing
+pub no_bytes : (n : ℕ) (msg bs mid : List ℕ) → varint_at bs ≡ Ok (n, mid) → n ≡ 0 → appended_at msg bs ≡ Ok (msg, mid)
+unfolding taken
+no_bytes n msg bs mid v none = rw (v, none, le-ltb (length mid) 0 (omega arith), append-nil msg) refl
+
+-- bytes that lie at the front, after their length
+pub part_appended : (n : ℕ) (msg bs mid part rest : List ℕ) → varint_at bs ≡ Ok (n, mid) → IsFrontOf part n mid → rest ≡ drop n mid → appended_at msg bs ≡ Ok (msg ++ part, rest)
+part_appended n msg bs mid part rest v f e = rw (delimited_front n bs mid part v f, e) refl
+
+-- after a length that isn't 0 there are bytes, where so many are left
+pub some_bytes : (n : ℕ) (bs mid : List ℕ) → varint_at bs ≡ Ok (n, mid) → n ≢ 0 → IsOk (taken n mid) → BytesAt bs
+some_bytes n bs mid v some there =
+    let x = ok_of (taken n mid) there in
+    let t = agree_ok (taken n mid) x.0 (taken_sound n mid) x.1 in
+    (x.0.0, x.0.1, rw v x.1, λ e. some (sym t.0 ∙ ap length e))
+
+pub some_part : (n : ℕ) (bs mid part : List ℕ) → varint_at bs ≡ Ok (n, mid) → n ≢ 0 → IsFrontOf part n mid → BytesAt bs
+unfolding taken
+some_part n bs mid part v some f = some_bytes n bs mid v some (rw (le-ltb (length mid) n f.fits) refl)
+
+-- ---- the loop over the fields
+module _ (d : ℕ) (all : List ℕ) (s : Said) (bs : List ℕ) (reached : Reaches d all s bs) where
+  pub no_tag : (e : DecodeError) → tag_at bs ≡ Err e → item_at d all ≡ Err e
+  no_tag e h = read_faulty d all e (s, bs, reached, inl (inl (agree_err (tag_at bs) e (tag_sound bs) h)))
+
+  module _ (n : ℕ) (w : WireType) (rest : List ℕ) (tag : tag_at bs ≡ Ok (n, w, rest)) where
+    took : TakesTag bs n w rest
+    took = agree_ok (tag_at bs) (n, w, rest) (tag_sound bs) tag
+
+    took_end : ends n w ≡ true → TakesTag bs 1 EndGroup rest
+    took_end h = let is = both_true n 1 EndGroup w h in (took.0, tag_of d took.0 n 1 EndGroup w took.1 is.0 is.1, took.2)
+
+    pub whole_item : ends n w ≡ true → (id : ℕ) → s.type_id ≡ Some id → item_at d all ≡ Ok (id, s.message, rest)
+    whole_item h id is =
+        let end = took_end h in
+        let same : s ≡ says id s.message = ap (λ o. said o s.message) is in
+        read_complete d all s.message rest id (takes_item d all s.message rest id (
+          end.0,
+          end.1,
+          (reached.0, reached.1 ∙ ap (λ z. join reached.0 ++ z) end.2, subst (λ z. ParsesEach (IsField d) unsaid reached.0 z) same reached.2),
+        ))
+
+    pub no_type_id : ends n w ≡ true → s.type_id ≡ None → item_at d all ≡ Err (InvalidMessageSet MissingTypeId)
+    no_type_id h is = read_faulty d all (InvalidMessageSet MissingTypeId) (s, bs, reached, inr (rest, took_end h, is, refl))
+
+    module _ (goes_on : ends n w ≡ false) where
+      sound : Agrees (field_at d s n w rest) (FieldAt d s bs) (FieldFault d bs)
+      sound = field_sound d s bs took.0 rest n w took.1 took.2 (both_false n 1 EndGroup w goes_on)
+
+      pub bad_field : (e : DecodeError) → field_at d s n w rest ≡ Err e → item_at d all ≡ Err e
+      bad_field e h = read_faulty d all e (s, bs, reached, inl (agree_err (field_at d s n w rest) e sound h))
+
+      pub next_field : (t : Said) (after : List ℕ) → field_at d s n w rest ≡ Ok (t, after) → Reaches d all t after
+      next_field t after h =
+          let u = agree_ok (field_at d s n w rest) (t, after) sound h in
+          ParsesTo-more (IsField d) all unsaid s t u.0 bs after reached u.1 u.2
+
+      pub fewer : (t : Said) (after : List ℕ) → field_at d s n w rest ≡ Ok (t, after) → length after < length bs
+      fewer t after h =
+          let u = agree_ok (field_at d s n w rest) (t, after) sound h in
+          omega (arith, field_some d s t u.0 u.1, ap length u.2, length-append u.0 after)
+
+    pub found_message : IsMessageAt n w rest → HasMessage d all
+    found_message (three, delimited, (b, after, e, some)) =
+        let t = agree_ok (delimited_at rest) (b, after) (delimited_sound rest) e in
+        (s, bs, rest, b, after, reached, (took.0, tag_of d took.0 n 3 LengthDelimited w took.1 three (sym delimited), took.2), t, some)
+
+-- ---- laws
+module _ (d : ℕ) where
+  -- an Item begins bytes in one way
+  pub one_item : (a b x y m o : List ℕ) (n k : ℕ) → Item d a n m → Item d b k o → a ++ x ≡ b ++ y → (a ≡ b) × (n ≡ k) × (m ≡ o)
+  one_item a b x y m o n k h j e =
+      let same = ok_same (sym (read_complete d (a ++ x) m x n (a, h, refl)) ∙ read_complete d (a ++ x) o y k (b, j, e)) in
+      let rest : x ≡ y = ap (λ z. z.2) same in
+      (append_cancel_right a b y (ap (λ z. a ++ z) (sym rest) ∙ e), ap (λ z. z.0) same, ap (λ z. z.1) same)
+
+  -- what is said of a type id is in range
+  abbrev InRange : Option ℕ → Type 0
+  InRange None = Unit {0}
+  InRange (Some id) = IsTypeId id
+
+  field_in_range : (s t : Said) (f : List ℕ) → IsField d s f t → InRange s.type_id → InRange t.type_id
+  field_in_range s t f (inl (tag, p, id, is_tag, v, range, e, st)) h = subst (λ z. InRange z.type_id) (sym st) range
+  field_in_range s t f (inr (inl (tag, l, b, is_tag, v, e, st))) h = subst (λ z. InRange z.type_id) (sym st) h
+  field_in_range s t f (inr (inr (n, w, other, field, st))) h = subst (λ z. InRange z.type_id) (sym st) h
+
+  each_in_range : (ps : List (List ℕ)) (s t : Said) → ParsesEach (IsField d) s ps t → InRange s.type_id → InRange t.type_id
+  each_in_range [] s t e h = subst (λ z. InRange z.type_id) e h
+  each_in_range (p ∷ ps) s t (u, f, more) h = each_in_range ps u t more (field_in_range s u p f h)
+
+  pub item_in_range : (b msg : List ℕ) (id : ℕ) → Item d b id msg → IsTypeId id
+  item_in_range b msg id (end, is, (ps, e, w)) = each_in_range ps unsaid (says id msg) w tt
+
+  pub read_in_range : (bs : List ℕ) (id : ℕ) (msg rest : List ℕ) → item_at d bs ≡ Ok (id, msg, rest) → IsTypeId id
+  read_in_range bs id msg rest h =
+      let t = agree_ok (item_at d bs) (id, msg, rest) (read_sound d bs) h in item_in_range t.0 msg id t.1
+
+  pub written_item : (id : ℕ) (msg : List ℕ) → IsTypeId id → length msg < 2 ^ 64 → Item d (body_text id msg) id msg
+  written_item id msg range short =
+      let two = tag_text 2 Varint in
+      let three = tag_text 3 LengthDelimited in
+      let len = varint_text (length msg) in
+      let end = tag_text 1 EndGroup in
+      let first = two ++ varint_text id in
+      let second = three ++ (len ++ msg) in
+      let is_two : IsTag two 2 Varint = ((omega arith, omega arith), IsVarint-varint_text 16 (omega arith)) in
+      let is_three : IsTag three 3 LengthDelimited = ((omega arith, omega arith), IsVarint-varint_text 26 (omega arith)) in
+      let is_end : IsTag end 1 EndGroup = ((omega arith, omega arith), IsVarint-varint_text 12 (omega arith)) in
+      let is_id : IsVarint (varint_text id) id = IsVarint-varint_text id (omega (arith, range.1)) in
+      let is_len : IsVarint len (length msg) = IsVarint-varint_text (length msg) short in
+      let split : body_text id msg ≡ join (first ∷ second ∷ []) ++ end = simp (append_assoc, append-nil) in (
+        end,
+        is_end,
+        (
+          first ∷ second ∷ [],
+          split,
+          (says id [], inl (two, varint_text id, id, is_two, is_id, range, refl, refl), (says id msg, inr (inl (three, len, msg, is_three, is_len, refl, refl)), refl)),
+        ),
+      )

@@ -1,0 +1,4 @@
+pub mod ItemLemmas
+pub mod ItemTextLemmas
+pub mod GroupLemmas
+mod PinLemmas

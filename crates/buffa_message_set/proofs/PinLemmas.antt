@@ -1,0 +1,66 @@
+-- An Item is read and written in one way.
+use Rattle.std.proofs.Common.{◌≡◌, ℕ, ◌==◌, ◌^◌, ◌<◌, Bool, false, true, List, [], ◌++◌, length, Ok, Err, refl, sym, ap, ◌∙◌, arith, inl, inr}
+use Rattle.std.proofs.lemmas.Bool.{eqb-false, eqb-true}
+use Rattle.std.proofs.lemmas.List.{append_cancel_left}
+use Rattle.buffa_bytes.specs.declared.error.DecodeError.{DecodeError}
+use Rattle.buffa_bytes.specs.declared.error.DecodeError.TheVariants.{UnknownFieldLimitExceeded}
+use Rattle.buffa_bytes.specs.declared.wire_type.WireType.TheVariants.{StartGroup}
+use Rattle.buffa_bytes.proofs.StepLemmas.{agree_err, agree_ok}
+use Rattle.buffa_wire.specs.BudgetLeft.{BudgetLeft}
+use Rattle.buffa_wire.specs.Values.{tag_text}
+use Rattle.buffa_wire.proofs.SequenceLemmas.{ok_same}
+use Rattle.buffa_message_set.specs.Item.{IsTypeId, ItemFault, SpendsSlot, TakesItem, body_text, item_at, item_in, item_text}
+use Rattle.buffa_message_set.specs.Pinned.{GivesItem, ItemIsPinned, WrittenItemIsPinned}
+use Rattle.buffa_message_set.proofs.ItemLemmas.{one_item, read_sound, written_item}
+
+-- a slot is left
+read_there : (d slots : ℕ) (bs : List ℕ) → (slots == 0) ≡ false → item_in d slots bs ≡ item_at d bs
+read_there d slots bs e = rw e refl
+
+none_there : (d slots : ℕ) (bs : List ℕ) → (slots == 0) ≡ true → item_in d slots bs ≡ Err UnknownFieldLimitExceeded
+none_there d slots bs e = rw e refl
+
+there : (d slots : ℕ) (bs x : List ℕ) (a : ℕ × List ℕ) (b : Bool) → (slots == 0) ≡ b → GivesItem d slots bs (Ok a) x → (0 < slots) × TakesItem d bs a.0 a.1 x
+there d slots bs x a true e h = let no = none_there d slots bs e in cc
+there d slots bs x a false e h =
+    (omega (arith, eqb-false slots 0 e), agree_ok (item_at d bs) (a.0, a.1, x) (read_sound d bs) (sym (read_there d slots bs e) ∙ h))
+
+told : (d slots : ℕ) (bs : List ℕ) (f : DecodeError) (b : Bool) → (slots == 0) ≡ b → item_in d slots bs ≡ Err f → 0 < slots → ItemFault d bs f
+told d slots bs f true e h some = absurd (omega (arith, eqb-true slots 0 e, some))
+told d slots bs f false e h some = agree_err (item_at d bs) f (read_sound d bs) (sym (read_there d slots bs e) ∙ h)
+
+same_left : (a b : BudgetLeft) → a.unknown ≡ b.unknown → a.memory ≡ b.memory → a ≡ b
+same_left a b u m i = record { unknown = u i; memory = m i }
+
+spent : (old a b : BudgetLeft) → SpendsSlot old a → SpendsSlot old b → a ≡ b
+spent old a b (inl h) (inl k) = h.1 ∙ sym k.1
+spent old a b (inl h) (inr k) = absurd (omega (arith, h.0, k.0))
+spent old a b (inr h) (inl k) = absurd (omega (arith, h.0, k.0))
+spent old a b (inr h) (inr k) = same_left a b (omega (arith, h.0, k.0)) (h.1 ∙ sym k.1)
+
+pub item_is_pinned : ItemIsPinned
+item_is_pinned = record {
+  accepted = λ d slots bs x y a b h k.
+      let same = ok_same (sym h ∙ k) in
+      (ap (λ z. (z.0, z.1)) same, ap (λ z. z.2) same);
+  is_there = λ d slots bs x a h. there d slots bs x a (slots == 0) refl h;
+  refused = λ d slots bs x y a f h k no. let e = k no in cc;
+  fault = λ d slots bs x y f g h k no nor. let e = h no in let j = k nor in cc;
+  is_a_fault = λ d slots bs x f h no some. told d slots bs f (slots == 0) refl (h no) some;
+  spent = spent;
+}
+
+no_other : (id other : ℕ) (msg bytes : List ℕ) → IsTypeId id → IsTypeId other → length msg < 2 ^ 64 → length bytes < 2 ^ 64 →
+    item_text id msg ≡ item_text other bytes → (id ≡ other) × (msg ≡ bytes)
+no_other id other msg bytes h k short brief e =
+    let same : body_text id msg ≡ body_text other bytes = append_cancel_left (tag_text 1 StartGroup) (body_text id msg) (body_text other bytes) e in
+    let one = one_item 0 (body_text id msg) (body_text other bytes) [] [] msg bytes id other (written_item 0 id msg h short) (written_item 0 other bytes k brief) (ap (λ z. z ++ []) same) in
+    (one.1, one.2)
+
+pub written_item_is_pinned : WrittenItemIsPinned
+written_item_is_pinned = record {
+  written = λ id msg old a b h k. h ∙ sym k;
+  refused = λ id msg old a f h. h.0;
+  fits = λ id room left msg f h enough. omega (arith, h, enough);
+  no_other = no_other;
+}

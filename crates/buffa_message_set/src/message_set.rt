@@ -1,0 +1,237 @@
+//! Items of a MessageSet, the encoding of extensions that came before extensions were ordinary fields.
+//!
+//! Each extension is an Item: a group of number 1 that holds the extension's number, its type id, as field 2
+//! and the bytes of its message as field 3.
+//!
+//! ```ignore
+//! use buffa::message_set::{ITEM_START_TAG, merge_item, write_item};
+//!
+//! write_item(1000, b"hello", &mut text)?; // 0B 10 E8 07 1A 05 68 65 6C 6C 6F 0C
+//! let (number, payload) = merge_item(alloc, &mut rest, ctx.descend()?)?;
+//! ```
+
+ghost use Rattle.std.specs.Prelude.{◌≡◌, ◌^◌, ◌<◌, ℕ, List, length, IfOk};
+ghost use Rattle.buffa_wire.specs.BudgetLeft.{budget_left};
+ghost use Rattle.buffa_wire.specs.Gives.{FullOnlyIf, Gives, GivesUnlessFull};
+ghost use Rattle.buffa_wire.specs.Unread.{IsTailOf};
+ghost use Rattle.buffa_wire.specs.Written.{UsesRoom, Writes};
+ghost use Rattle.buffa_message_set.specs.Item.{HasMessage, IsTypeId, SpendsSlot, field_at, item_at, item_in, item_size, item_text};
+ghost use Rattle.buffa_message_set.specs.Item.{BytesAt, IsMessageAt, appended_at, ends, said_by, type_id_at};
+
+use buffa_bytes::buf::{copy_bytes, front};
+use buffa_wire::{
+    Buf, DecodeContext, DecodeError, EncodeError, EncodeSink, MessageSetFault, Tag, WireType,
+    decode_varint, encode_varint, skip_field_depth, types, varint_len,
+};
+use std::alloc::Global;
+
+/// The tag that begins an Item: number 1, start of group.
+pub const ITEM_START_TAG: u64 = 0x0B;
+
+/// The tag that ends an Item: number 1, end of group.
+pub const ITEM_END_TAG: u64 = 0x0C;
+
+/// The tag of the type id: number 2, a varint.
+pub const TYPE_ID_TAG: u64 = 0x10;
+
+/// The tag of the message: number 3, length-delimited.
+pub const MESSAGE_TAG: u64 = 0x1A;
+
+// The greatest type id. Source: a type id is an int32, and positive.
+const MAX_TYPE_ID: u64 = 2_147_483_647;
+
+/// The length of an Item's text in bytes, start tag and end tag too, where the message has `payload_len` bytes.
+/// The sum has to be below 2^64.
+///
+/// ```ignore
+/// let twelve = item_encoded_len(1000, 5);
+/// ```
+pub fn item_encoded_len(number: u32, payload_len: usize) -> usize
+    requires { item_size number payload_len < 2 ^ 64 }
+    ensures size { result ≡ item_size number payload_len }
+    ensures text { (msg : List ℕ) → length msg ≡ payload_len → length (item_text number msg) ≡ result }
+{
+    4 + varint_len(u64::from(number)) + varint_len(payload_len as u64) + payload_len
+}
+
+/// Writes an Item: the start tag, the type id, the message and the end tag.
+///
+/// `number` is 1 to 2,147,483,647.
+///
+/// # Errors
+/// [`EncodeError::OutOfMemory`] alone, after a beginning of the text.
+///
+/// ```ignore
+/// write_item(1000, b"hello", &mut text)?; // 0B 10 E8 07 1A 05 68 65 6C 6C 6F 0C
+/// ```
+#[tactic(auto, using(buffa_bytes::proofs::SinkLemmas::writes_then, buffa_bytes::proofs::SinkLemmas::front_first, buffa_bytes::proofs::SinkLemmas::room_then))]
+pub fn write_item<S: EncodeSink>(
+    number: u32,
+    payload: &[u8],
+    sink: &mut S,
+) -> Result<(), EncodeError>
+    requires { IsTypeId number }
+    ensures writes { Writes result (S.written sink.old) (item_text number payload.now) (S.written sink.new) }
+    ensures room { UsesRoom result (S.room sink.old) (item_text number payload.now) (S.room sink.new) }
+{
+    encode_varint(ITEM_START_TAG, sink)?;
+    encode_varint(TYPE_ID_TAG, sink)?;
+    types::encode_uint32(number, sink)?;
+    encode_varint(MESSAGE_TAG, sink)?;
+    types::encode_bytes(payload, sink)?;
+    encode_varint(ITEM_END_TAG, sink)
+}
+
+/// Reads an Item whose start tag was read, up to its end tag, and answers the type id and the message bytes.
+///
+/// It takes one slot for unknown fields first. The type id and the message come in either order; the last
+/// type id counts, and the bytes of several messages are joined. Other fields are passed over at the context's
+/// depth, so the context is to be one that was descended: `ctx.descend()?`. What follows the Item is left
+/// unread. Memory is asked for only for message bytes that are there, and never for a message of none.
+///
+/// # Errors
+/// The first fault, and nothing else is handed out: [`DecodeError::UnknownFieldLimitExceeded`] where no slot
+/// is left, and then none is spent and nothing is read; of a tag, as [`Tag::decode`] tells it; of a varint or
+/// a length; [`DecodeError::InvalidMessageSet`] for a type id out of range, at once, and for none at the end;
+/// [`DecodeError::InvalidEndGroup`] for an end tag of another number; of a field that is passed over, as
+/// [`skip_field_depth`] tells it. Or [`DecodeError::OutOfMemory`].
+///
+/// Source: the documentation of buffa, "MessageSet wire format helpers".
+///
+/// ```ignore
+/// let mut rest: &[u8] = &[0x10, 0x05, 0x1A, 0x01, 0x78, 0x0C];
+/// let (five, x) = merge_item(alloc, &mut rest, ctx)?;
+/// ```
+pub fn merge_item<B: Buf>(
+    alloc: Global,
+    buf: &mut B,
+    ctx: DecodeContext<'_>,
+) -> Result<(u32, Vec<u8>), DecodeError>
+    ensures reads { GivesUnlessFull (λ item. (item.0, item.1.items, B.unread buf.new)) result
+        (item_in ctx.entry.depth ctx.entry.budget.now.unknown (B.unread buf.old)) }
+    ensures range { IfOk result (λ item. IsTypeId item.0) }
+    ensures full { FullOnlyIf result ((0 < ctx.entry.budget.now.unknown)
+        × HasMessage ctx.entry.depth (B.unread buf.old)) }
+    ensures spent { SpendsSlot ctx.entry.budget.now (budget_left ctx.exit) }
+    ensures untouched { ctx.entry.budget.now.unknown ≡ 0 → B.unread buf.new ≡ B.unread buf.old }
+    ensures kept { B.beyond buf.new ≡ B.beyond buf.old }
+    ensures tail { IsTailOf (B.unread buf.new) (B.unread buf.old) }
+{
+    let DecodeContext { depth, budget } = ctx;
+    budget.take_slot()?;
+    read_item(alloc, buf, depth)
+}
+
+// What the fields of an Item have said so far.
+#[derive(Drop)]
+struct ItemParts {
+    // The last type id.
+    type_id: Option<u32>,
+    // The bytes of the messages.
+    message: Vec<u8>,
+}
+
+// Reads an Item whose start tag was read and whose slot is taken.
+fn read_item<B: Buf>(alloc: Global, buf: &mut B, depth: u32) -> Result<(u32, Vec<u8>), DecodeError>
+    ensures reads { GivesUnlessFull (λ item. (item.0, item.1.items, B.unread buf.new)) result
+        (item_at depth (B.unread buf.old)) }
+    ensures range { IfOk result (λ item. IsTypeId item.0) }
+    ensures full { FullOnlyIf result (HasMessage depth (B.unread buf.old)) }
+    ensures kept { B.beyond buf.new ≡ B.beyond buf.old }
+    ensures tail { IsTailOf (B.unread buf.new) (B.unread buf.old) }
+{
+    let mut parts = ItemParts {
+        type_id: None,
+        message: Vec::new(alloc),
+    };
+    loop {
+        let tag = Tag::decode(buf)?;
+        if is_end(tag) {
+            let Some(number) = parts.type_id else {
+                return Err(DecodeError::InvalidMessageSet(MessageSetFault::MissingTypeId));
+            };
+            return Ok((number, parts.message));
+        }
+        merge_field(alloc, tag, buf, depth, &mut parts)?;
+    }
+}
+
+// Whether the tag ends an Item.
+fn is_end(tag: Tag) -> bool
+    ensures { result ≡ ends tag.number tag.wire_type }
+{
+    match tag.wire_type() {
+        WireType::EndGroup => tag.field_number() == 1,
+        _ => false,
+    }
+}
+
+// Merges the field whose tag was read.
+fn merge_field<B: Buf>(
+    alloc: Global,
+    tag: Tag,
+    buf: &mut B,
+    depth: u32,
+    parts: &mut ItemParts,
+) -> Result<(), DecodeError>
+    ensures reads { GivesUnlessFull (λ _. (said_by parts.new, B.unread buf.new)) result
+        (field_at depth (said_by parts.old) tag.number tag.wire_type (B.unread buf.old)) }
+    ensures full { FullOnlyIf result (IsMessageAt tag.number tag.wire_type (B.unread buf.old)) }
+    ensures kept { B.beyond buf.new ≡ B.beyond buf.old }
+    ensures tail { IsTailOf (B.unread buf.new) (B.unread buf.old) }
+{
+    match (tag.field_number(), tag.wire_type()) {
+        (2, WireType::Varint) => parts.type_id = Some(decode_type_id(buf)?),
+        (3, WireType::LengthDelimited) => append_message(alloc, buf, &mut parts.message)?,
+        _ => skip_field_depth(tag, buf, depth)?,
+    }
+    Ok(())
+}
+
+// Reads a type id.
+fn decode_type_id<B: Buf>(buf: &mut B) -> Result<u32, DecodeError>
+    ensures reads { Gives (λ id. (id, B.unread buf.new)) result (type_id_at (B.unread buf.old)) }
+    ensures kept { B.beyond buf.new ≡ B.beyond buf.old }
+    ensures tail { IsTailOf (B.unread buf.new) (B.unread buf.old) }
+{
+    let number = decode_varint(buf)?;
+    if number == 0 || number > MAX_TYPE_ID {
+        return Err(DecodeError::InvalidMessageSet(MessageSetFault::TypeIdOutOfRange));
+    }
+    Ok(number as u32)
+}
+
+// Reads a length and so many bytes, and puts them behind the others. For no bytes nothing is asked of memory.
+#[tactic(auto, using(buffa_bytes::proofs::TailLemmas::tail_more, buffa_bytes::proofs::TailLemmas::tail_dropped))]
+fn append_message<B: Buf>(
+    alloc: Global,
+    buf: &mut B,
+    message: &mut Vec<u8>,
+) -> Result<(), DecodeError>
+    ensures reads { GivesUnlessFull (λ _. (message.new.items, B.unread buf.new)) result
+        (appended_at message.old.items (B.unread buf.old)) }
+    ensures full { FullOnlyIf result (BytesAt (B.unread buf.old)) }
+    ensures kept { B.beyond buf.new ≡ B.beyond buf.old }
+    ensures tail { IsTailOf (B.unread buf.new) (B.unread buf.old) }
+{
+    let len = decode_varint(buf)?;
+    if len == 0 {
+        return Ok(());
+    }
+    if let Some(part) = front(buf, len) {
+        let Ok(()) = message.extend_from_slice(part) else {
+            return Err(DecodeError::OutOfMemory);
+        };
+        buf.advance(len as usize);
+        return Ok(());
+    }
+    let bytes = copy_bytes(alloc, buf, len)?;
+    if message.is_empty() {
+        *message = bytes;
+        return Ok(());
+    }
+    let Ok(()) = message.extend_from_slice(&bytes) else {
+        return Err(DecodeError::OutOfMemory);
+    };
+    Ok(())
+}

@@ -1,0 +1,167 @@
+use Rattle.std.proofs.Common.{◌≡◌, ◌≢◌, refl, Err, ◌++◌, ◌<◌, ◌∙◌, ℕ, List, length, length-append, arith, ap, subst, sym}
+use Rattle.std.specs.Prelude.{string_bytes}
+use Rattle.std.proofs.lemmas.Result.{err_from_is_err_and}
+use Rattle.buffa_bytes.specs.declared.error.DecodeError.TheVariants.{OutOfMemory}
+use Rattle.buffa_bytes.specs.Field.{TakesTag}
+use Rattle.buffa_bytes.specs.Reading.{tag_at}
+use Rattle.buffa_bytes.proofs.StepLemmas.{agree_ok}
+use Rattle.buffa_bytes.proofs.FieldLemmas.{tag_some, tag_sound}
+use Rattle.buffa_bytes.proofs.FullLemmas.{tag_full}
+use Rattle.buffa_wire.specs.BudgetLeft.{BudgetLeft, PaysAtMost}
+use Rattle.buffa_wire.specs.Message.{MergeFault, cost_in, merged_in}
+use Rattle.buffa_wire.proofs.MessageLemmas.{field_costs, field_means, judged_all, loop_fault, reaches_tag, untagged}
+use Rattle.buffa_map.specs.Pairs.{means}
+use Rattle.buffa_fields.specs.Keep.{keep_need, keep_takes}
+use Rattle.buffa_fields.specs.TakesLaws.{taken_full}
+use Rattle.buffa_node.proofs.FieldMerge.{both_stay, child_merged, kept_merged, on_err, score_merged, shade_merged}
+use Rattle.buffa_node.proofs.LoopLemmas.{all_merged, front_next, front_none, stops_at, stops_untagged}
+use Rattle.buffa_node.specs.Branch.{branch, kids, shade_number}
+use Rattle.buffa_node.specs.NodeLaws.{cost_next, merged_fields, merged_next}
+use Rattle.buffa_node.specs.NodeMeaning.{children_cost, children_take, cost, merged, scores_cost, scores_take, shades_cost, shades_take}
+use Rattle.buffa_node.proofs.node.+merge.Goals as goal
+
+pub merge_node-returns-in_err-tag-clause-merged : goal.merge_node-returns-in_err-tag-clause-merged
+merge_node-returns-in_err-tag-clause-merged t c =
+    let p = err_from_is_err_and c.from_residual.result c.from_residual.ensures.1 in
+    let inv = c.loop-rest.invariant in
+    let d = c.args.depth in
+    let v = c.loop-rest.node in
+    let rest = c.loop-rest.rest.now in
+    let some : 0 < length rest = omega (arith, c.remaining.ensures, c.loop-rest-test.true) in
+    rw (p.1, p.2) (loop_fault (merged d c.args.node.now c.args.bytes.now) (merged d v rest) c.args.budget.now c.loop-rest.budget c.loop-rest.budget
+    (cost d c.args.bytes.now) (cost d rest) c.in_err-tag.field-0.0 inv.means inv.unknown inv.memory inv.no_slot inv.no_unit
+    ((omega arith, omega arith, omega arith, omega arith), λ ne. untagged merged cost merged_fields merged_next cost_next d v rest c.loop-rest.budget c.in_err-tag.field-0.0 some c.in_err-tag.ensures.reads))
+
+pub merge_node-returns-in_err-tag-clause-full : goal.merge_node-returns-in_err-tag-clause-full
+merge_node-returns-in_err-tag-clause-full t c =
+    let p = err_from_is_err_and c.from_residual.result c.from_residual.ensures.1 in
+    rw (p.1, p.2) (λ h. absurd (tag_full c.loop-rest.rest.now (c.in_err-tag.ensures.reads ∙ ap (λ e. Err e) h)))
+
+pub merge_node-returns-in_err-tag-clause-stops : goal.merge_node-returns-in_err-tag-clause-stops
+merge_node-returns-in_err-tag-clause-stops t c =
+    let p = err_from_is_err_and c.from_residual.result c.from_residual.ensures.1 in
+    rw (p.1, p.2) (stops_untagged c.args.depth c.args.node.now c.loop-rest.node c.args.bytes.now c.loop-rest.rest.now c.args.budget.now c.loop-rest.budget c.in_err-tag.field-0.0 c.loop-rest.invariant.front c.in_err-tag.ensures.reads)
+
+pub merge_node-returns-in_err-merge_node_field-clause-full : goal.merge_node-returns-in_err-merge_node_field-clause-full
+merge_node-returns-in_err-merge_node_field-clause-full t c =
+    let p = err_from_is_err_and c.from_residual-in_err-merge_node_field.result c.from_residual-in_err-merge_node_field.ensures.1 in
+    let f = c.loop-rest.invariant.front in
+    rw (p.1, p.2) (λ h. reaches_tag c.args.depth f.0 c.args.bytes.now c.loop-rest.rest.now (c.in_ok-tag.tag.number, c.in_ok-tag.tag.wire_type, c.decode.new.buf.now) f.1 f.2 c.in_ok-tag.ensures.reads (c.in_err-merge_node_field.ensures.full h))
+
+pub merge_node-returns-in_err-merge_node_field-clause-stops : goal.merge_node-returns-in_err-merge_node_field-clause-stops
+merge_node-returns-in_err-merge_node_field-clause-stops t c =
+    let p = err_from_is_err_and c.from_residual-in_err-merge_node_field.result c.from_residual-in_err-merge_node_field.ensures.1 in
+    rw (p.1, p.2) (stops_at c.args.depth c.args.node.now c.loop-rest.node c.merge_node_field.new.node c.args.bytes.now c.loop-rest.rest.now c.decode.new.buf.now c.merge_node_field.new.buf.now c.in_ok-tag.tag.number c.in_ok-tag.tag.wire_type
+    c.args.budget.now c.loop-rest.budget c.merge_node_field.new.budget c.in_err-merge_node_field.field-0.0 c.loop-rest.invariant.front c.in_err-merge_node_field.ensures.stays c.in_ok-tag.ensures.reads c.in_err-merge_node_field.ensures.merged)
+
+pub merge_node-loop-rest-init : goal.merge_node-loop-rest-init
+merge_node-loop-rest-init t c = record {
+  means = refl;
+  unknown = refl;
+  memory = refl;
+  no_slot = omega arith;
+  no_unit = omega arith;
+  front = front_none c.args.depth c.args.node.now c.args.bytes.now c.args.budget.now;
+}
+
+pub merge_node-loop-rest-smaller : goal.merge_node-loop-rest-smaller
+merge_node-loop-rest-smaller t c =
+    let rest = c.loop-rest.rest.now in
+    let u : TakesTag rest c.in_ok-tag.tag.number c.in_ok-tag.tag.wire_type c.decode.new.buf.now = agree_ok (tag_at rest) (c.in_ok-tag.tag.number, c.in_ok-tag.tag.wire_type, c.decode.new.buf.now) (tag_sound rest) c.in_ok-tag.ensures.reads in
+    let m = c.in_ok-merge_node_field.ensures.merged in
+    omega (arith, tag_some u.0 c.in_ok-tag.tag.number c.in_ok-tag.tag.wire_type u.1, ap length u.2, length-append u.0 c.decode.new.buf.now, ap length m.2, length-append m.0 c.merge_node_field.new.buf.now)
+
+pub merge_node-loop-rest-preserved : goal.merge_node-loop-rest-preserved
+merge_node-loop-rest-preserved t c =
+    let inv = c.loop-rest.invariant in
+    let d = c.args.depth in
+    let n = c.in_ok-tag.tag.number in
+    let w = c.in_ok-tag.tag.wire_type in
+    let rest = c.loop-rest.rest.now in
+    let x = c.merge_node_field.new.buf.now in
+    let u : TakesTag rest n w c.decode.new.buf.now = agree_ok (tag_at rest) (n, w, c.decode.new.buf.now) (tag_sound rest) c.in_ok-tag.ensures.reads in
+    let m = c.in_ok-merge_node_field.ensures.merged in
+    let split : rest ≡ u.0 ++ (m.0 ++ x) = u.2 ∙ ap (λ z. u.0 ++ z) m.2 in
+    let one = m.3 u.0 u.1 in
+    let costs = field_costs merged cost merged_fields merged_next cost_next d rest u.0 m.0 x n w u.1 m.1 split in
+    record {
+      means = inv.means ∙ field_means merged cost merged_fields merged_next cost_next d c.loop-rest.node c.merge_node_field.new.node rest u.0 m.0 x n w u.1 m.1 split one.0;
+      unknown = omega (arith, inv.unknown, one.1.0, ap (λ (z : BudgetLeft). z.unknown) costs);
+      memory = omega (arith, inv.memory, one.1.1, ap (λ (z : BudgetLeft). z.memory) costs);
+      no_slot = omega (arith, inv.no_slot, one.1.0);
+      no_unit = omega (arith, inv.no_unit, one.1.1);
+      front = front_next d c.args.node.now c.loop-rest.node c.merge_node_field.new.node c.args.bytes.now rest u.0 m.0 x n w c.args.budget.now c.loop-rest.budget c.merge_node_field.new.budget inv.front u.1 m.1 split one.0 one.1;
+    }
+
+pub merge_node-returns-in_err-merge_node_field-clause-merged : goal.merge_node-returns-in_err-merge_node_field-clause-merged
+merge_node-returns-in_err-merge_node_field-clause-merged t c =
+    let p = err_from_is_err_and c.from_residual-in_err-merge_node_field.result c.from_residual-in_err-merge_node_field.ensures.1 in
+    let inv = c.loop-rest.invariant in
+    let d = c.args.depth in
+    let n = c.in_ok-tag.tag.number in
+    let w = c.in_ok-tag.tag.wire_type in
+    let v = c.loop-rest.node in
+    let rest = c.loop-rest.rest.now in
+    let e = c.in_err-merge_node_field.field-0.0 in
+    let u : TakesTag rest n w c.decode.new.buf.now = agree_ok (tag_at rest) (n, w, c.decode.new.buf.now) (tag_sound rest) c.in_ok-tag.ensures.reads in
+    let over = c.merge_node_field.new.budget in
+    let why : PaysAtMost c.loop-rest.budget (cost d rest) over × (e ≢ OutOfMemory → MergeFault (merged d v rest) (cost d rest) c.loop-rest.budget e) =
+    subst (λ (z : List ℕ). PaysAtMost c.loop-rest.budget (cost d z) over × (e ≢ OutOfMemory → MergeFault (merged d v z) (cost d z) c.loop-rest.budget e)) (sym u.2) (judged_all merged cost merged_fields merged_next cost_next d v n w c.decode.new.buf.now c.loop-rest.budget over e c.in_err-merge_node_field.ensures.merged u.0 u.1) in
+    rw (p.1, p.2) (loop_fault (merged d c.args.node.now c.args.bytes.now) (merged d v rest) c.args.budget.now c.loop-rest.budget over
+    (cost d c.args.bytes.now) (cost d rest) e inv.means inv.unknown inv.memory inv.no_slot inv.no_unit why)
+
+pub merge_node-returns-clause-merged : goal.merge_node-returns-clause-merged
+merge_node-returns-clause-merged t c =
+    let empty : length c.loop-rest.rest.now ≡ 0 = omega (arith, c.remaining.ensures, c.loop-rest-test.false) in
+    all_merged c.args.depth c.args.node.now c.loop-rest.node c.args.bytes.now c.loop-rest.rest.now c.args.budget.now c.loop-rest.budget empty c.loop-rest.invariant.front
+
+pub merge_node_field-returns-then-number-eq1 : goal.merge_node_field-returns-then-number-eq1
+merge_node_field-returns-then-number-eq1 t c =
+    let n = c.node.inside in
+    let one : c.args.tag.number ≡ 1 = omega (arith, c.field_number-number.ensures, c.if-number-eq1.true) in
+    let call = c.merge_score in
+    record {
+      merged = score_merged c.args.depth c.args.tag.number c.args.tag.wire_type c.args.buf.now.now call.new.buf.now c.args.budget.now call.new.budget call.result (means string_bytes (λ v. v) n.scores.entries) n.children.entries (means (λ k. k) shade_number n.shades.entries) n.rest.records c.args.node.now c.node.view_is
+          (means string_bytes (λ v. v) call.new.scores.entries) one call.ensures.taken;
+      full = taken_full scores_take scores_cost c.args.depth (means string_bytes (λ v. v) n.scores.entries) (means string_bytes (λ v. v) call.new.scores.entries) c.args.tag.number c.args.tag.wire_type c.args.buf.now.now call.new.buf.now c.args.budget.now call.new.budget call.result call.ensures.taken;
+      stays = on_err call.result (λ h. ap (λ z. branch z (kids n.children.entries) (means (λ k. k) shade_number n.shades.entries) n.rest.records) h ∙ c.node.view_is) call.ensures.stays;
+    }
+
+pub merge_node_field-returns-then-number-eq2 : goal.merge_node_field-returns-then-number-eq2
+merge_node_field-returns-then-number-eq2 t c =
+    let n = c.node.inside in
+    let two : c.args.tag.number ≡ 2 = omega (arith, c.field_number-number.ensures, c.if-number-eq2.true) in
+    let call = c.merge_child_by in
+    let m = merged_in merged c.args.depth in
+    record {
+      merged = child_merged c.args.depth c.args.tag.number c.args.tag.wire_type c.args.buf.now.now call.new.buf.now c.args.budget.now call.new.budget call.result (means string_bytes (λ v. v) n.scores.entries) n.children.entries (means (λ k. k) shade_number n.shades.entries) n.rest.records c.args.node.now c.node.view_is
+          call.new.children.entries two call.ensures.taken;
+      full = taken_full (children_take m) (children_cost m (cost_in cost c.args.depth)) c.args.depth n.children.entries call.new.children.entries c.args.tag.number c.args.tag.wire_type c.args.buf.now.now call.new.buf.now c.args.budget.now call.new.budget call.result call.ensures.taken;
+      stays = on_err call.result (λ h. ap (λ z. branch (means string_bytes (λ v. v) n.scores.entries) (kids z) (means (λ k. k) shade_number n.shades.entries) n.rest.records) h ∙ c.node.view_is) call.ensures.stays;
+    }
+
+pub merge_node_field-returns-then-number-eq3 : goal.merge_node_field-returns-then-number-eq3
+merge_node_field-returns-then-number-eq3 t c =
+    let n = c.node.inside in
+    let three : c.args.tag.number ≡ 3 = omega (arith, c.field_number-number.ensures, c.if-number-eq3.true) in
+    let call = c.merge_shade in
+    record {
+      merged = shade_merged c.args.depth c.args.tag.number c.args.tag.wire_type c.args.buf.now.now call.new.buf.now c.args.budget.now call.new.budget call.result (means string_bytes (λ v. v) n.scores.entries) n.children.entries (means (λ k. k) shade_number n.shades.entries) n.rest.records c.args.node.now c.node.view_is
+          (means (λ k. k) shade_number call.new.shades.entries) call.new.rest.records three call.ensures.taken;
+      full = taken_full shades_take shades_cost c.args.depth (means (λ k. k) shade_number n.shades.entries, n.rest.records) (means (λ k. k) shade_number call.new.shades.entries, call.new.rest.records) c.args.tag.number c.args.tag.wire_type c.args.buf.now.now call.new.buf.now c.args.budget.now call.new.budget call.result call.ensures.taken;
+      stays = both_stay call.result (branch (means string_bytes (λ v. v) n.scores.entries) (kids n.children.entries)) c.args.node.now (means (λ k. k) shade_number n.shades.entries) (means (λ k. k) shade_number call.new.shades.entries) n.rest.records call.new.rest.records c.node.view_is call.ensures.stays call.ensures.kept;
+    }
+
+pub merge_node_field-returns : goal.merge_node_field-returns
+merge_node_field-returns t c =
+    let n = c.node.inside in
+    let one : c.args.tag.number ≢ 1 = λ z. absurd (omega (arith, c.field_number-number.ensures, c.if-number-eq1.false, z)) in
+    let two : c.args.tag.number ≢ 2 = λ z. absurd (omega (arith, c.field_number-number.ensures, c.if-number-eq2.false, z)) in
+    let three : c.args.tag.number ≢ 3 = λ z. absurd (omega (arith, c.field_number-number.ensures, c.if-number-eq3.false, z)) in
+    let call = c.keep_field in
+    record {
+      merged = kept_merged c.args.depth c.args.tag.number c.args.tag.wire_type c.args.buf.now.now call.new.buf.now c.args.budget.now call.new.budget call.result (means string_bytes (λ v. v) n.scores.entries) n.children.entries (means (λ k. k) shade_number n.shades.entries) n.rest.records c.args.node.now c.node.view_is
+          call.new.fields.records one two three call.ensures.taken;
+      full = taken_full keep_takes keep_need c.args.depth n.rest.records call.new.fields.records c.args.tag.number c.args.tag.wire_type c.args.buf.now.now call.new.buf.now c.args.budget.now call.new.budget call.result call.ensures.taken;
+      stays = on_err call.result (λ h. ap (λ z. branch (means string_bytes (λ v. v) n.scores.entries) (kids n.children.entries) (means (λ k. k) shade_number n.shades.entries) z) h ∙ c.node.view_is) call.ensures.stays;
+    }

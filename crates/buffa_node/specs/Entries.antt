@@ -1,0 +1,41 @@
+-- Entries of map fields in a message: what one does to a value, and what it costs.
+-- Source: the protobuf encoding guide, "Maps".
+use Rattle.std.specs.Prelude.{ℕ, List, [], ◌∷◌, cond, Option, None, Result, Ok, Err, if◌then◌else◌}
+use Rattle.std.specs.BTreeMap.{insert_entry}
+use Rattle.std.specs.Option.{option_map}
+use Rattle.std.specs.declared.cmp.Ordering.{Ordering}
+use Rattle.buffa_bytes.specs.declared.error.DecodeError.{DecodeError}
+use Rattle.buffa_bytes.specs.declared.wire_type.WireType.TheVariants.{LengthDelimited}
+use Rattle.buffa_wire.specs.BudgetLeft.{BudgetLeft, nothing, plus, slots}
+use Rattle.buffa_wire.specs.Reading.{delimited_at}
+use Rattle.buffa_wire.specs.WireType.{same_wire}
+use Rattle.buffa_map.specs.Codec.{Reading, need_by}
+use Rattle.buffa_map.specs.Entry.{entry_of, need_of}
+use Rattle.buffa_map.specs.declared.map_entry.MapEntry.{MapEntry}
+use Rattle.buffa_fields.specs.Fields.{value_of}
+use Rattle.buffa_fields.specs.Takes.{Need, Taker}
+
+-- a declared pair is put into pairs that stand in the order of their keys
+abbrev pub put_in : {K V : Type 0} → (K → K → Ordering) → List (K × V) → MapEntry K V → List (K × V)
+put_in cmp m s = cond s.known (insert_entry cmp m s.key s.value) m
+
+-- what one that is undeclared takes, where each takes so many slots
+abbrev pub slot_of : {K V : Type 0} → ℕ → Result (MapEntry K V) DecodeError → BudgetLeft
+slot_of slot (Ok s) = slots (cond s.known 0 slot)
+slot_of slot (Err e) = nothing
+
+module _ {K V : Type 0} (key : Reading K) (val : Reading V) where
+  -- the entry that a whole payload holds: its bytes, and what they say
+  abbrev pub entry_in : ℕ → Result (List ℕ × List ℕ) DecodeError → Option (List ℕ × MapEntry K V)
+  entry_in d (Ok (e, [])) = option_map (λ s. (e, s)) (value_of (entry_of key val d e))
+  entry_in d (Ok (e, b ∷ bs)) = None
+  entry_in d (Err f) = None
+
+  -- each payload is an entry, which does so to the value
+  unfoldable pub entry_taken : {X : Type 0} → (X → List ℕ → MapEntry K V → X) → Taker X
+  entry_taken does d v n w p = if same_wire LengthDelimited w then option_map (λ x. does v x.0 x.1) (entry_in d (delimited_at p)) else None
+
+  -- an entry costs so many units, what the messages in it cost, by paid, and its slots
+  unfoldable pub entry_cost : Reading V → ℕ → ℕ → Need
+  entry_cost paid cost slot d n w bs =
+      if same_wire LengthDelimited w then need_by (delimited_at bs) (λ e. plus (need_of key paid d cost e.0) (slot_of slot (entry_of key val d e.0))) else nothing

@@ -1,0 +1,83 @@
+-- Texts of records that lead a message from one value to another, field by field.
+use Rattle.std.proofs.Common.{◌≡◌, ℕ, ◌^◌, ◌<◌, Bool, true, List, [], ◌∷◌, ◌++◌, length, Some, Ok, refl, sym, ap, subst, ◌∙◌, append_assoc, append-nil, map}
+use Rattle.std.specs.BTreeMap.{insert_entry}
+use Rattle.std.specs.Cmp.{IsTotalOrder}
+use Rattle.std.specs.List.{AllByRecursion}
+use Rattle.std.specs.List.Sorted.{IsStrictlySortedBy}
+use Rattle.std.specs.Map.{keys_of}
+use Rattle.std.specs.Ordering.{match_ordering, ordering_reverse}
+use Rattle.std.specs.declared.cmp.Ordering.{Ordering}
+use Rattle.std.specs.declared.cmp.Ordering.TheVariants.{Less, Greater}
+use Rattle.buffa_bytes.proofs.DelimitedLemmas.{delimited_back}
+use Rattle.buffa_bytes.proofs.VarintLemmas.{IsVarint-varint_text}
+use Rattle.buffa_bytes.specs.declared.wire_type.WireType.TheVariants.{LengthDelimited}
+use Rattle.buffa_wire.specs.Number.{IsNumber}
+use Rattle.buffa_wire.specs.Reading.{delimited_at}
+use Rattle.buffa_wire.specs.Values.{delimited_text, tag_text}
+use Rattle.buffa_wire.specs.Varint.{varint_text}
+use Rattle.buffa_map.proofs.BackLemmas.{is_tag}
+use Rattle.buffa_map.proofs.EntryLemmas.{entry_complete}
+use Rattle.buffa_map.specs.Codec.{Reading}
+use Rattle.buffa_map.specs.Entry.{IsEntry}
+use Rattle.buffa_map.specs.declared.map_entry.MapEntry.{MapEntry}
+use Rattle.buffa_fields.specs.Takes.{Leads, Piece, Taker, joined}
+use Rattle.buffa_node.specs.Entries.{entry_taken}
+
+-- any number may be a field's
+abbrev pub any : ℕ → Bool
+any n = true
+
+pub joined_both : (xs ys : List Piece) → joined (xs ++ ys) ≡ joined xs ++ joined ys
+joined_both [] ys = refl
+joined_both (x ∷ xs) ys = ap (λ (z : List ℕ). (x.tag ++ x.payload) ++ z) (joined_both xs ys) ∙ sym (append_assoc (x.tag ++ x.payload) (joined xs) (joined ys))
+
+pub leads_both : {X : Type 0} (T : Taker X) (d : ℕ) (s t u : X) (fs gs : List Piece) → Leads T any d s fs t → Leads T any d t gs u → Leads T any d s (fs ++ gs) u
+leads_both T d s t u [] gs h l = subst (λ z. Leads T any d z gs u) (sym h) l
+leads_both T d s t u (x ∷ fs) gs (is, tag, payload, v, h, j) l = (is, tag, payload, v, h, leads_both T d v t u fs gs j l)
+
+-- ---- the last key goes to the end
+all_before : {K V : Type 0} (P : K → Type 0) (es : List (K × V)) (k : K) (v : V) (more : List (K × V)) → AllByRecursion P (keys_of (es ++ (k, v) ∷ more)) → P k
+all_before P [] k v more a = a.0
+all_before P (e ∷ es) k v more a = all_before P es k v more a.1
+
+put_last : {K V : Type 0} {cmp : K → K → Ordering} → IsTotalOrder cmp → (es : List (K × V)) (k : K) (v : V) (more : List (K × V)) → IsStrictlySortedBy cmp (keys_of (es ++ (k, v) ∷ more)) → insert_entry cmp es k v ≡ es ++ (k, v) ∷ []
+unfolding IsStrictlySortedBy
+put_last o [] k v more s = refl
+put_last {cmp = cmp} o (e ∷ es) k v more s =
+    let greater : cmp k e.0 ≡ Greater = o.antisymm k e.0 ∙ ap ordering_reverse (all_before (λ y. cmp e.0 y ≡ Less) es k v more s.0) in
+    ap (λ r. match_ordering r ((k, v) ∷ e ∷ es) ((e.0, v) ∷ es) (e ∷ insert_entry cmp es k v)) greater ∙ ap (λ xs. e ∷ xs) (put_last o es k v more s.1)
+
+-- an entry that is read does what it does
+pub read_entry : {K V X : Type 0} (key : Reading K) (val : Reading V) (does : X → List ℕ → MapEntry K V → X) (d n : ℕ) (v : X) (e : List ℕ) (s : MapEntry K V) → length e < 2 ^ 64 → IsEntry key val d e s →
+    entry_taken key val does d v n LengthDelimited (delimited_text e) ≡ Some (does v e s)
+unfolding entry_taken
+read_entry key val does d n v e s short h =
+    let alone : delimited_at (delimited_text e) ≡ Ok (e, []) = ap delimited_at (sym (append-nil (delimited_text e))) ∙ delimited_back e [] short in
+    rw (alone, entry_complete key val d e s h) refl
+
+-- each pair is P
+abbrev pub Each : {A : Type 0} → (A → Type 0) → List A → Type 0
+Each P [] = Unit {0}
+Each P (x ∷ xs) = P x × Each P xs
+
+-- the record of a pair
+abbrev pub piece : {A : Type 0} → ℕ → (A → List ℕ) → A → Piece
+piece n entry p = record { tag = tag_text n LengthDelimited; number = n; wire = LengthDelimited; payload = delimited_text (entry p) }
+
+-- ---- the records of pairs in the order of their keys, behind those that were
+module _ {K V X : Type 0} {cmp : K → K → Ordering} (o : IsTotalOrder cmp) (T : Taker X) (d n : ℕ) (number : IsNumber n) (set : List (K × V) → X) (entry : K × V → List ℕ) where
+  -- an entry that isn't too long is put behind those before it
+  abbrev pub IsPut : K × V → Type 0
+  IsPut p = (length (entry p) < 2 ^ 64) × ((done : List (K × V)) → T d (set done) n LengthDelimited (delimited_text (entry p)) ≡ Some (set (insert_entry cmp done p.0 p.1)))
+
+  pub entries_lead : (done l : List (K × V)) → Each IsPut l → IsStrictlySortedBy cmp (keys_of (done ++ l)) → Leads T any d (set done) (map (piece n entry) l) (set (done ++ l))
+  entries_lead done [] h s = ap set (sym (append-nil done))
+  entries_lead done (p ∷ ps) h s =
+      let all : (done ++ p ∷ []) ++ ps ≡ done ++ p ∷ ps = append_assoc done (p ∷ []) ps in (
+        refl,
+        is_tag n LengthDelimited number,
+        (varint_text (length (entry p)), entry p, IsVarint-varint_text (length (entry p)) h.0.0, refl),
+        set (done ++ p ∷ []),
+        h.0.1 done ∙ ap (λ z. Some (set z)) (put_last o done p.0 p.1 ps s),
+        subst (λ z. Leads T any d (set (done ++ p ∷ [])) (map (piece n entry) ps) (set z)) all (entries_lead (done ++ p ∷ []) ps h.1 (subst (λ z. IsStrictlySortedBy cmp (keys_of z)) (sym all) s)),
+      )

@@ -1,0 +1,12 @@
+pub mod Branch
+pub mod BranchFalls
+pub mod Entries
+pub mod EntriesLaws
+pub mod NodeMeaning
+pub mod NodeText
+pub mod NodeLaws
+pub mod Nesting
+pub mod Leading
+pub mod NodeBack
+pub mod Stops
+pub mod Writes

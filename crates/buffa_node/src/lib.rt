@@ -1,0 +1,10 @@
+//! A message type by hand: it holds a map of itself, a map of a closed enum, and every field that it doesn't declare.
+#![tactic(auto)]
+
+pub mod laws;
+mod maps;
+pub mod node;
+mod rest;
+pub mod shade;
+#[cfg(test)]
+mod tests;

@@ -1,0 +1,349 @@
+//! A message that holds itself, keeps entries with undeclared values, and every field that it doesn't declare.
+
+ghost use Rattle.std.specs.Prelude.{OnErr, [], pos, IfErr};
+ghost use Rattle.buffa_wire.specs.Passes.{IsNext, IsSized};
+ghost use Rattle.std.specs.BTreeMap.{values};
+ghost use Rattle.std.specs.List.{Contains};
+ghost use Rattle.buffa_map.specs.MessageField.{IsFieldWritten, field_slots};
+ghost use Rattle.std.specs.Prelude.{◌≡◌, ◌≢◌, ◌+◌};
+ghost use Rattle.buffa_wire.specs.BudgetLeft.{budget_left};
+ghost use Rattle.buffa_wire.specs.Gives.{FullOnlyIf};
+ghost use Rattle.buffa_wire.specs.Message.{BeginsField, IsFieldMerged, IsMerged, cost_in, merged_in};
+ghost use Rattle.buffa_fields.specs.Takes.{IsTaken};
+ghost use Rattle.buffa_node.specs.NodeMeaning.{children_cost, children_take, cost, merged};
+ghost use Rattle.buffa_node.specs.NodeText.{IsNodeWritten, meant, number_writing, slots, text};
+ghost use Rattle.buffa_node.specs.Stops.{Stops};
+
+use crate::maps::{merge_score, merge_shade, write_map};
+use crate::rest::keep_field;
+use crate::shade::Shade;
+use buffa_map::map_codec::{
+    ClosedEnum, Int32, Str, field_len, merge_message_entry_by, message_field_len_by,
+    write_message_field_by,
+};
+use buffa_wire::{
+    Blank, Budget, Buf, DecodeContext, DecodeError, EncodeError, EncodeSink, Message, MessageSpec,
+    SizeCache, Tag, UnknownFields, WireType, check_wire_type,
+};
+use std::alloc::Global;
+use std::collections::BTreeMap;
+use std::marker::Model;
+
+/// Field 1 is a map of scores, field 2 one of nodes, field 3 one of shades. An entry of field 3 with an undeclared shade is
+/// kept as a record under 3, and so is every other field under its number.
+#[derive(Drop)]
+pub struct Node {
+    /// `map<string, int32>`.
+    pub scores: BTreeMap<String, i32>,
+    /// `map<int32, Node>`.
+    pub children: BTreeMap<i32, Node>,
+    /// `map<int32, Shade>`.
+    pub shades: BTreeMap<i32, Shade>,
+    /// What isn't declared, in the order in which it came.
+    pub rest: UnknownFields,
+}
+
+impl Model for Node {
+    ghost use Rattle.std.specs.Prelude.{string_bytes};
+    ghost use Rattle.buffa_map.specs.Pairs.{means};
+    ghost use Rattle.buffa_node.specs.Branch.{Branch, branch, branch_code, height, kids, shade_number};
+
+    ghost Value = { Branch };
+
+    ghost coded = { branch_code };
+
+    ghost view = { λ t. branch (means string_bytes (λ v. v) t.scores.entries) (kids t.children.entries)
+        (means (λ k. k) shade_number t.shades.entries) t.rest.records };
+
+    ghost size = { height };
+
+    ghost use Rattle.buffa_node.specs.BranchFalls.{most-heights};
+    ghost use Rattle.std.proofs.Common.{arith};
+
+    ghost size_decreases = { λ t h. omega (arith, most-heights t.children.entries) };
+}
+
+impl Blank for Node {
+    ghost use Rattle.buffa_node.specs.Branch.{bare};
+
+    type Meaning = Node;
+
+    ghost meaning = { λ t. t };
+
+    ghost blank_is = { bare };
+
+    fn blank(alloc: Global) -> Node {
+        Node {
+            scores: BTreeMap::new(alloc),
+            children: BTreeMap::new(alloc),
+            shades: BTreeMap::new(alloc),
+            rest: UnknownFields::new(alloc),
+        }
+    }
+}
+
+impl MessageSpec for Node {
+    ghost use Rattle.std.proofs.Common.{arith};
+    ghost use Rattle.buffa_node.specs.NodeText.{IsNormal, levels, records};
+    ghost use Rattle.buffa_node.specs.NodeBack.{back};
+    ghost use Rattle.buffa_node.specs.NodeLaws.{cost_empty, cost_next, text_records};
+    ghost use Rattle.buffa_node.specs.NodeLaws.{merged_empty, merged_fields, merged_next};
+
+    const COST: usize = 96;
+
+    ghost COST = { 96 };
+
+    ghost merged = { merged };
+
+    ghost cost = { cost };
+
+    ghost text = { text };
+
+    ghost records = { records };
+
+    ghost slots = { slots };
+
+    ghost levels = { levels };
+
+    ghost normal = { IsNormal };
+
+    ghost text_records = { text_records };
+
+    ghost merged_text = { back };
+
+    ghost positive = { omega arith };
+
+    ghost merged_empty = { merged_empty };
+
+    ghost merged_fields = { merged_fields };
+
+    ghost merged_next = { merged_next };
+
+    ghost cost_empty = { cost_empty };
+
+    ghost cost_next = { cost_next };
+}
+
+impl Message for Node {
+    fn compute_size(&self, cache: &mut SizeCache) -> Result<u32, EncodeError>
+        ensures sized { IsSized (text self.now) (slots self.now) cache.old result cache.new }
+        ensures some { OnErr result (slots self.now ≢ []) }
+    {
+        size_node(self, cache)
+    }
+
+    fn write_to<S: EncodeSink>(
+        &self,
+        cache: &mut SizeCache,
+        sink: &mut S,
+    ) -> Result<(), EncodeError> {
+        write_node(self, cache, sink)
+    }
+
+    fn merge_field(
+        &mut self,
+        alloc: Global,
+        tag: Tag,
+        buf: &mut &[u8],
+        ctx: DecodeContext<'_>,
+    ) -> Result<(), DecodeError>
+        ensures merged { IsFieldMerged merged cost ctx.entry.depth self.old tag.number tag.wire_type buf.old.now
+            ctx.entry.budget.now result self.new (budget_left ctx.exit) buf.new.now }
+        ensures full { FullOnlyIf result (tag.wire_type ≢ WireType.EndGroup) }
+        ensures stays { OnErr result (self.new ≡ self.old) }
+    {
+        let DecodeContext { depth, budget } = ctx;
+        merge_node_field(alloc, self, tag, buf, depth, budget)
+    }
+}
+
+/// The size pass: the length of the text, and the slots of the children appended.
+///
+/// # Errors
+/// Those of [`Message::compute_size`]; never for a node with no children.
+pub fn size_node(node: &Node, cache: &mut SizeCache) -> Result<u32, EncodeError>
+    ensures sized { IsSized (text node.now) (slots node.now) cache.old result cache.new }
+    ensures some { OnErr result (slots node.now ≢ []) }
+{
+    let children = message_field_len_by::<Int32, Node, BTreeMap<i32, Node>, _>(
+        &node.children,
+        1,
+        cache,
+        |child: &Node, cache: &mut SizeCache| -> Result<u32, EncodeError>
+            ensures { IsSized (text child.now) (slots child.now) cache.old result cache.new }
+        { size_node(child, cache) },
+    )?;
+    let scores = field_len::<Str, Int32, BTreeMap<String, i32>>(&node.scores, 1);
+    let shades = field_len::<Int32, ClosedEnum<Shade>, BTreeMap<i32, Shade>>(&node.shades, 1);
+    let maps = scores.saturating_add(children).saturating_add(shades);
+    let total = maps.saturating_add(node.rest.encoded_len());
+    if total < 4_294_967_295 {
+        Ok(total as u32)
+    } else {
+        Ok(4_294_967_295)
+    }
+}
+
+// The write pass of the children, by a function that writes a child. Its contract names no trait, so that the goals of
+// the recursion stay small.
+fn write_children_by<S: EncodeSink, F>(
+    children: &BTreeMap<i32, Node>,
+    cache: &mut SizeCache,
+    sink: &mut S,
+    write: F,
+) -> Result<(), EncodeError>
+where
+    F: Fn(&Node, &mut SizeCache, &mut S) -> Result<(), EncodeError>,
+    requires next { IsNext (field_slots text slots (meant children.now.entries)) cache.old }
+    requires may { (x c s : _) → Contains (values children.now) x.now → IsNext (slots x.now) c.now →
+        F.pre write x c s }
+    requires keeps { (x c s r d t : _) → Contains (values children.now) x.now →
+        F.post write x c s r d t → IsNodeWritten x.now c.now (S.written s.now) r d.now (S.written t.now) }
+    ensures { IsFieldWritten number_writing text slots 2 (meant children.now.entries) cache.old (S.written sink.old)
+        result cache.new (S.written sink.new) }
+{
+    write_message_field_by::<Int32, Node, BTreeMap<i32, Node>, S, F>(
+        children, 2, cache, sink, write,
+    )
+}
+
+/// The write pass: the text, and the slots of the children consumed.
+///
+/// # Errors
+/// Those of [`Message::write_to`].
+pub fn write_node<S: EncodeSink>(
+    node: &Node,
+    cache: &mut SizeCache,
+    sink: &mut S,
+) -> Result<(), EncodeError>
+    requires { IsNext (slots node.now) cache.old }
+    ensures { IsNodeWritten node.now cache.old (S.written sink.old) result cache.new (S.written sink.new) }
+{
+    write_map::<Str, Int32, S>(1, &node.scores, sink)?;
+    write_children_by(
+        &node.children,
+        cache,
+        sink,
+        |child: &Node, cache: &mut SizeCache, sink: &mut S| -> Result<(), EncodeError>
+            requires { IsNext (slots child.now) cache.old }
+            ensures { IsNodeWritten child.now cache.old (S.written sink.old) result cache.new (S.written sink.new) }
+        { write_node(child, cache, sink) },
+    )?;
+    write_map::<Int32, ClosedEnum<Shade>, S>(3, &node.shades, sink)?;
+    node.rest.write_to(sink)
+}
+
+// Merges the entry of a child, by a function that merges the child's bytes. Its contract names no trait, so that the
+// goals of the recursion stay small; the two lengths are there since they tell that the keys ascend.
+fn merge_child_by<F>(
+    alloc: Global,
+    children: &mut BTreeMap<i32, Node>,
+    tag: Tag,
+    buf: &mut &[u8],
+    depth: u32,
+    budget: &mut Budget,
+    merge: F,
+) -> Result<(), DecodeError>
+where
+    F: Fn(&mut Node, &[u8], u32, &mut Budget) -> Result<(), DecodeError>,
+    requires may { (x : _) (b : _) (d : _) (w : _) → d + 1 ≡ depth → F.pre merge x b d w }
+    requires keeps { (x : _) (b : _) (d : _) (w : _) (r : _) (y : _) (v : _) → d + 1 ≡ depth →
+        F.post merge x b d w r y v → IsMerged (merged d x.now b.now) (cost d b.now) w.now r y.now v.now }
+    ensures taken { IsTaken (children_take (merged_in merged depth)) (children_cost (merged_in merged depth) (cost_in
+        cost depth)) depth children.old.entries tag.number tag.wire_type buf.old.now budget.old result
+        children.new.entries budget.new buf.new.now }
+    ensures stays { OnErr result (children.new.entries ≡ children.old.entries) }
+{
+    check_wire_type(tag, WireType::LengthDelimited)?;
+    let _old = children.len();
+    let lent = DecodeContext {
+        depth,
+        budget: &mut *budget,
+    };
+    let answer = merge_message_entry_by::<Int32, Node, BTreeMap<i32, Node>, &[u8], F>(
+        alloc, children, buf, lent, merge,
+    );
+    let _new = children.len();
+    answer
+}
+
+// Merges the field whose tag was read. A refused one leaves the node as it was.
+#[cycle(merge)]
+fn merge_node_field(
+    alloc: Global,
+    node: &mut Node,
+    tag: Tag,
+    buf: &mut &[u8],
+    depth: u32,
+    budget: &mut Budget,
+) -> Result<(), DecodeError>
+    ensures merged { IsFieldMerged merged cost depth node.old tag.number tag.wire_type buf.old.now budget.old result
+        node.new budget.new buf.new.now }
+    ensures full { FullOnlyIf result (tag.wire_type ≢ WireType.EndGroup) }
+    ensures stays { OnErr result (node.new ≡ node.old) }
+{
+    let number = tag.field_number();
+    if number == 1 {
+        return merge_score(alloc, &mut node.scores, tag, buf, depth, budget);
+    }
+    if number == 2 {
+        return merge_child_by(
+            alloc,
+            &mut node.children,
+            tag,
+            buf,
+            depth,
+            budget,
+            |child: &mut Node, bytes: &[u8], depth: u32, budget: &mut Budget| -> Result<
+                (),
+                DecodeError,
+            >
+                ensures { IsMerged (merged depth child.old bytes.now) (cost depth bytes.now) budget.old result child.new
+                    budget.new }
+            { merge_node(alloc, child, bytes, depth, budget) },
+        );
+    }
+    if number == 3 {
+        return merge_shade(
+            alloc,
+            &mut node.shades,
+            &mut node.rest,
+            tag,
+            buf,
+            depth,
+            budget,
+        );
+    }
+    keep_field(alloc, &mut node.rest, tag, buf, depth, budget)
+}
+
+/// Merges the fields that the bytes are, all of them, where so many levels may still open: a child is one level
+/// deeper. A score costs 28 units of element memory, a child 100 and what is in it, a shade 8; what is kept costs a slot
+/// for each record, those in groups too.
+///
+/// # Errors
+/// Those of [`Message::merge`]. The node is then what the fields before the refused one make of it.
+///
+/// ```ignore
+/// merge_node(alloc, &mut node, &[0x12, 0x02, 0x08, 0x01], RECURSION_LIMIT, &mut budget)?;
+/// ```
+#[cycle(merge)]
+pub fn merge_node(
+    alloc: Global,
+    node: &mut Node,
+    bytes: &[u8],
+    depth: u32,
+    budget: &mut Budget,
+) -> Result<(), DecodeError>
+    ensures merged { IsMerged (merged depth node.old bytes.now) (cost depth bytes.now) budget.old result node.new
+        budget.new }
+    ensures full { FullOnlyIf result (BeginsField bytes.now) }
+    ensures stops { IfErr result (Stops merged cost depth node.old bytes.now budget.old node.new budget.new) }
+{
+    let mut rest = bytes;
+    while rest.remaining() > 0 {
+        let tag = Tag::decode(&mut rest)?;
+        merge_node_field(alloc, node, tag, &mut rest, depth, budget)?;
+    }
+    Ok(())
+}

@@ -1,0 +1,4 @@
+pub mod FieldLemmas
+pub mod MergeLemmas
+pub mod TextLemmas
+mod PinLemmas

@@ -1,0 +1,32 @@
+use Rattle.std.proofs.Common.{◌∙◌, ap, arith, length}
+use Rattle.std.proofs.lemmas.Result.{err_from_is_err_and}
+use Rattle.buffa_wire.specs.View.{records_in}
+use Rattle.buffa_set_msg.specs.Set.{set_text}
+use Rattle.buffa_set_msg.proofs.TextLemmas.{length-set_more, length-set_parts, set_refused, set_step}
+use Rattle.buffa_set_msg.proofs.set_msg.write_set.Goals as goal
+
+pub loop-field-preserved : goal.loop-field-preserved
+loop-field-preserved g c =
+    let xs = c.as_slice-field-items.result.now in
+    let i = c.loop-field.field-index in
+    record {
+      written = set_step (g.S.EncodeSink.written c.args.sink.now) (g.S.EncodeSink.written c.loop-field.sink) (g.S.EncodeSink.written c.write_record.new.sink) xs i c.field-item.result _
+          c.in_ok-write_record.ensures.writes c.loop-field.invariant.written c.loop-field-test.true c.field-item.is;
+      room = omega (arith, c.in_ok-write_record.ensures.room, c.loop-field.invariant.room, length-set_more xs i c.field-item.result _ c.loop-field-test.true c.field-item.is);
+    }
+
+pub returns-in_err-write_record : goal.returns-in_err-write_record
+returns-in_err-write_record g c =
+    let p = err_from_is_err_and c.from_residual.result c.from_residual.ensures.1 in
+    let w = c.in_err-write_record.ensures.writes in
+    let xs = c.as_slice-field-items.result.now in
+    let i = c.loop-field.field-index in
+    let all = ap records_in c.as_slice-field-items.ensures.value ∙ c.iter.ensures in
+    record {
+      writes = rw (p.1, p.2) (
+        w.0,
+        set_refused (g.S.EncodeSink.written c.args.sink.now) (g.S.EncodeSink.written c.loop-field.sink) (g.S.EncodeSink.written c.write_record.new.sink) c.args.fields.now.records xs i c.field-item.result _
+            all c.loop-field.invariant.written c.loop-field-test.true c.field-item.is w.1,
+      );
+      room = rw p.1 (omega (arith, c.in_err-write_record.ensures.room, c.loop-field.invariant.room, length-set_parts xs i c.field-item.result _ c.loop-field-test.true c.field-item.is, ap (λ z. length (set_text z)) all));
+    }
