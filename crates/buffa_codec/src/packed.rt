@@ -65,8 +65,10 @@ impl<C: PackableCodec> ExtensionCodec for PackedRepeated<C> {
         fields: &mut UnknownFields,
     ) -> Result<(), EncodeError> {
         let mut bytes = Vec::new(alloc);
-        // Each value has a byte at least. Where so much is refused at once, the values are written one by one all the same.
-        let _room = bytes.reserve(value.len());
+        // Each value has a byte at least.
+        let Ok(()) = bytes.reserve(value.len()) else {
+            return Err(EncodeError::OutOfMemory);
+        };
         for v in value.as_slice() {
             C::encode_packed(v, &mut bytes)?;
         }
