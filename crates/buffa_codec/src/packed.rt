@@ -64,16 +64,16 @@ impl<C: PackableCodec> ExtensionCodec for PackedRepeated<C> {
         value: Vec<C::Value>,
         fields: &mut UnknownFields,
     ) -> Result<(), EncodeError> {
-        let mut bytes = Vec::new(alloc);
-        // Each value has a byte at least.
-        let Ok(()) = bytes.reserve(value.len()) else {
-            return Err(EncodeError::OutOfMemory);
-        };
-        for v in value.as_slice() {
-            C::encode_packed(v, &mut bytes)?;
-        }
         if value.is_empty() {
             return Ok(());
+        }
+        let mut bytes = Vec::new(alloc);
+        // Each value has a byte at least.
+        if bytes.reserve(value.len()).is_err() {
+            return Err(EncodeError::OutOfMemory);
+        }
+        for v in value.as_slice() {
+            C::encode_packed(v, &mut bytes)?;
         }
         let payload = UnknownFieldData::LengthDelimited(bytes);
         let Ok(()) = fields.push(UnknownField { number, payload }) else {
