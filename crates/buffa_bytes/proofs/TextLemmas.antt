@@ -1,5 +1,5 @@
 -- Strings and bytes in a type of one's own: they are read where they lie, and read back.
-use Rattle.std.proofs.Common.{◌≡◌, ℕ, ◌^◌, ◌<◌, List, ◌++◌, length, drop, true, Result, Ok, Err, refl, sym, ap}
+use Rattle.std.proofs.Common.{◌≡◌, ◌∙◌, ℕ, ◌^◌, ◌<◌, List, [], ◌++◌, length, drop, true, Result, Ok, Err, refl, sym, ap}
 use Rattle.std.specs.Prelude.{IsOk, MatchResult}
 use Rattle.std.proofs.lemmas.Bool.{le-ltb}
 use Rattle.std.specs.Str.{is_utf8}
@@ -10,8 +10,9 @@ use Rattle.buffa_bytes.specs.Reading.{varint_at, taken, delimited_at}
 use Rattle.buffa_bytes.specs.Unread.{IsFrontOf}
 use Rattle.buffa_bytes.specs.Values.{delimited_text}
 use Rattle.buffa_bytes.specs.Texts.{text_as, string_as, bytes_as}
-use Rattle.buffa_bytes.proofs.DelimitedLemmas.{delimited_back}
+use Rattle.buffa_bytes.proofs.DelimitedLemmas.{delimited_back, taken_sound}
 use Rattle.buffa_bytes.proofs.FullLemmas.{varint_no_full}
+use Rattle.buffa_bytes.proofs.StepLemmas.{agree_ok}
 
 -- a text that means v by of
 pub own_string_back : {A : Type 0} (of : List ℕ → A) (text : List ℕ) (v : A) (rest : List ℕ) → length text < 2 ^ 64 → is_utf8 text ≡ true → of text ≡ v → string_as of (delimited_text text ++ rest) ≡ Ok (v, rest)
@@ -46,3 +47,19 @@ whole_in_place (Err d) n bs mid part v f = λ full. rw (v, front_taken n part mi
 -- a fault of the length, as `?` hands it on, is no lack of memory
 pub length_no_full : {S : Type 0} {r : Result S DecodeError} {e d : DecodeError} → r ≡ Err e → e ≡ d → (bs : List ℕ) → varint_at bs ≡ Err d → FullOnlyIf r (IsOk (delimited_at bs))
 length_no_full is same bs h = rw (is, same) (varint_no_full bs _ h)
+
+-- ---- no bytes
+abbrev bytes_of : Result (List ℕ × List ℕ) DecodeError → List ℕ
+bytes_of (Ok p) = p.0
+bytes_of (Err e) = []
+
+after_length : (n : ℕ) (bs mid : List ℕ) → varint_at bs ≡ Ok (n, mid) → delimited_at bs ≡ taken n mid
+after_length n bs mid v = rw v refl
+
+-- the bytes at the front, behind their length, are none
+pub none_in_place : (n : ℕ) (bs mid part rest : List ℕ) → varint_at bs ≡ Ok (n, mid) → IsFrontOf part n mid → delimited_at bs ≡ Ok ([], rest) → part ≡ []
+none_in_place n bs mid part rest v f e = ap bytes_of (sym (front_taken n part mid f) ∙ (sym (after_length n bs mid v) ∙ e))
+
+-- their length is 0
+pub none_taken : (n : ℕ) (bs mid rest : List ℕ) → varint_at bs ≡ Ok (n, mid) → delimited_at bs ≡ Ok ([], rest) → n ≡ 0
+none_taken n bs mid rest v e = sym (agree_ok (taken n mid) ([], rest) (taken_sound n mid) (sym (after_length n bs mid v) ∙ e)).0

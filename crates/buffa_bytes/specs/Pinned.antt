@@ -17,12 +17,14 @@ pub record AnswerIsPinned (X Y : Type 0) : Type 0 where
   pub fault : (f g : X → Y) (d e : DecodeError) (read : Result Y DecodeError) → Gives f (Err d) read → Gives g (Err e) read → d ≡ e
   pub left : (d e : DecodeError) (rest a b : List ℕ) → OnErr {T = X} (Err d) (a ≡ rest) → OnErr {T = Y} (Err e) (b ≡ rest) → a ≡ b
 
--- The same, memory aside; and memory is not told where the whole that is asked for isn't there.
+-- The same, memory aside; memory is not told where the whole that is asked for isn't there, and what is never refused, as
+-- no bytes are not, is what is read.
 pub record AnswerIsPinnedUnlessFull (X Y Z : Type 0) : Type 0 where
   pub one : (f g : X → Y) (x y : X) (read : Result Y DecodeError) → GivesUnlessFull f (Ok x) read → GivesUnlessFull g (Ok y) read → f x ≡ g y
   pub taken : (f g : X → Y) (x : X) (e : DecodeError) (read : Result Y DecodeError) → e ≢ OutOfMemory → GivesUnlessFull f (Ok x) read → GivesUnlessFull g (Err e) read → ⊥
   pub fault : (f g : X → Y) (d e : DecodeError) (read : Result Y DecodeError) → d ≢ OutOfMemory → e ≢ OutOfMemory → GivesUnlessFull f (Err d) read → GivesUnlessFull g (Err e) read → d ≡ e
   pub full : (f : X → Y) (d e : DecodeError) (read : Result Y DecodeError) (whole : Result Z DecodeError) → whole ≡ Err e → FullOnlyIf {X = X} (Err d) (IsOk whole) → GivesUnlessFull f (Err d) read → read ≡ Err d
+  pub sure : (f : X → Y) (r : Result X DecodeError) (read : Result Y DecodeError) → IsOk r → GivesUnlessFull f r read → Gives f r read
   pub left : (e : DecodeError) (rest a b : List ℕ) → e ≢ OutOfMemory → LeavesUnlessFull {X = X} (Err e) rest a → LeavesUnlessFull {X = X} (Err e) rest b → a ≡ b
 
 -- Of a text that is written one text stands in the sink; a text that fits is not refused; of a refused one not all stands,

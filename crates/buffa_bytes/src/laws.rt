@@ -269,8 +269,8 @@ pub fn rests_are_these()
     ensures fixed { (bs : List ℕ) → (past_no_payload Fixed32 bs ≡ bs) × (past_no_payload Fixed64 bs ≡ bs) }
 {}
 
-/// The same of what takes memory. It leaves open whether memory is told where the whole is there, and how much of the
-/// whole is unread then.
+/// The same of what takes memory. It leaves open whether memory is told where the whole is there and isn't empty, and how
+/// much of the whole is unread then.
 pub fn answers_are_pinned_unless_full<X, Y, Z>()
     ensures { AnswerIsPinnedUnlessFull X Y Z }
 {}

@@ -1,6 +1,6 @@
 //! Types of one's own for strings and bytes.
 
-ghost use Rattle.std.specs.Prelude.{◌≡◌, ℕ, List, [], MatchResult, refl, string_bytes, true};
+ghost use Rattle.std.specs.Prelude.{◌≡◌, ℕ, IsOk, List, [], MatchResult, refl, string_bytes, true};
 ghost use Rattle.std.specs.Str.{is_utf8};
 ghost use Rattle.buffa_bytes.specs.Gives.{FullOnlyIf, GivesUnlessFull};
 ghost use Rattle.buffa_bytes.specs.Texts.{string_is_text, text_as};
@@ -26,12 +26,13 @@ pub trait ProtoString: Blank {
     /// What a text means.
     ghost of_text: { List ℕ → Self.Meaning };
 
-    /// Makes a value of these bytes, if they are UTF-8.
+    /// Makes a value of these bytes, if they are UTF-8. The empty text takes no memory.
     ///
     /// # Errors
     /// [`DecodeError::InvalidUtf8`] exactly where they are not, and [`DecodeError::OutOfMemory`].
     fn from_wire(alloc: Global, bytes: &[u8]) -> Result<Self, DecodeError>
         ensures reads { GivesUnlessFull Self.meaning result (text_as of_text bytes.now) }
+        ensures free { bytes.now ≡ [] → IsOk result }
         ensures full { FullOnlyIf result (is_utf8 bytes.now ≡ true) };
 
     /// The text of the value.
@@ -64,12 +65,14 @@ pub trait ProtoBytes: Blank {
     /// What bytes mean.
     ghost of_bytes: { List ℕ → Self.Meaning };
 
-    /// Makes a value of these bytes.
+    /// Makes a value of these bytes. No bytes take no memory.
     ///
     /// # Errors
     /// [`DecodeError::OutOfMemory`] alone.
     fn from_wire(alloc: Global, source: &[u8]) -> Result<Self, DecodeError>
-        ensures { MatchResult result (λ value. Self.meaning value ≡ of_bytes source.now) (λ e. e ≡ OutOfMemory) };
+        ensures reads { MatchResult result (λ value. Self.meaning value ≡ of_bytes source.now)
+            (λ e. e ≡ OutOfMemory) }
+        ensures free { source.now ≡ [] → IsOk result };
 
     /// The bytes of the value.
     fn as_bytes(&self) -> &[u8]
@@ -94,9 +97,12 @@ impl ProtoString for String {
         let Ok(text) = str::from_utf8(bytes) else {
             return Err(DecodeError::InvalidUtf8);
         };
-        let Ok(owned) = String::from_str(alloc, text) else {
+        let Ok(mut owned) = String::with_capacity(alloc, text.len()) else {
             return Err(DecodeError::OutOfMemory);
         };
+        if owned.push_str(text).is_err() {
+            return Err(DecodeError::OutOfMemory);
+        }
         Ok(owned)
     }
 
@@ -119,9 +125,12 @@ impl ProtoBytes for Vec<u8> {
     ghost of_bytes = { λ bytes. bytes };
 
     fn from_wire(alloc: Global, source: &[u8]) -> Result<Vec<u8>, DecodeError> {
-        let Ok(owned) = Vec::from_slice(alloc, source) else {
+        let Ok(mut owned) = Vec::with_capacity(alloc, source.len()) else {
             return Err(DecodeError::OutOfMemory);
         };
+        if owned.extend_from_slice(source).is_err() {
+            return Err(DecodeError::OutOfMemory);
+        }
         Ok(owned)
     }
 

@@ -59,6 +59,7 @@ pub fn encode_string<S: EncodeSink>(value: &str, sink: &mut S) -> Result<(), Enc
 /// ```
 pub fn decode_string<B: Buf>(alloc: Global, buf: &mut B) -> Result<String, DecodeError>
     ensures reads { GivesUnlessFull (λ s. (string_bytes s, B.unread buf.new)) result (string_at (B.unread buf.old)) }
+    ensures free { (rest : List ℕ) → delimited_at (B.unread buf.old) ≡ Ok ([], rest) → IsOk result }
     ensures full { FullOnlyIf result (IsOk (delimited_at (B.unread buf.old))) }
     ensures kept { B.beyond buf.new ≡ B.beyond buf.old }
     ensures left { LeavesUnlessFull result (past_no_text (B.unread buf.old)) (B.unread buf.new) }
@@ -172,6 +173,7 @@ pub fn decode_string_to<S: ProtoString, B: Buf>(
 ) -> Result<S, DecodeError>
     ensures reads { GivesUnlessFull (λ s. (S.meaning s, B.unread buf.new)) result
         (string_as S.of_text (B.unread buf.old)) }
+    ensures free { (rest : List ℕ) → delimited_at (B.unread buf.old) ≡ Ok ([], rest) → IsOk result }
     ensures full { FullOnlyIf result (IsOk (delimited_at (B.unread buf.old))) }
     ensures kept { B.beyond buf.new ≡ B.beyond buf.old }
     ensures left { LeavesUnlessFull result (past_no_text (B.unread buf.old)) (B.unread buf.new) }
@@ -202,6 +204,7 @@ pub fn decode_string_to<S: ProtoString, B: Buf>(
 pub fn decode_bytes_to<P: ProtoBytes, B: Buf>(alloc: Global, buf: &mut B) -> Result<P, DecodeError>
     ensures reads { GivesUnlessFull (λ p. (P.meaning p, B.unread buf.new)) result
         (bytes_as P.of_bytes (B.unread buf.old)) }
+    ensures free { (rest : List ℕ) → delimited_at (B.unread buf.old) ≡ Ok ([], rest) → IsOk result }
     ensures full { FullOnlyIf result (IsOk (delimited_at (B.unread buf.old))) }
     ensures kept { B.beyond buf.new ≡ B.beyond buf.old }
     ensures left { LeavesUnlessFull result (past_no_text (B.unread buf.old)) (B.unread buf.new) }

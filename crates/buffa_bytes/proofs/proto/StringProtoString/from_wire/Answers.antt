@@ -1,4 +1,4 @@
-use Rattle.std.proofs.Common.{◌≡◌, false, refl}
+use Rattle.std.proofs.Common.{rules, ◌≡◌, false, refl, string_bytes}
 use Rattle.std.specs.Str.{is_utf8}
 use Rattle.std.proofs.lemmas.Bool.{false_from_ne_true}
 use Rattle.std.proofs.lemmas.Str.{IsUtf8-from_is_utf8, is_utf8-from_IsUtf8}
@@ -9,9 +9,10 @@ returns-in_default-clause-reads c ne =
     let bad : is_utf8 c.args.bytes.now ≡ false = false_from_ne_true (is_utf8 c.args.bytes.now) (λ h. c.in_default.ensures.cases.0 (IsUtf8-from_is_utf8 c.args.bytes.now h)) in
     rw bad refl
 
-pub returns-in_default-from_str-clause-full : goal.returns-in_default-from_str-clause-full
-returns-in_default-from_str-clause-full c = λ e. is_utf8-from_IsUtf8 c.args.bytes.now c.in-Ok.ensures.cases.1
+pub returns-in_default-with_capacity-clause-full : goal.returns-in_default-with_capacity-clause-full
+returns-in_default-with_capacity-clause-full c = λ e. is_utf8-from_IsUtf8 c.args.bytes.now c.in-Ok.ensures.cases.1
 
 pub returns-clause-reads : goal.returns-clause-reads
 returns-clause-reads c =
-    rw (is_utf8-from_IsUtf8 c.args.bytes.now c.in-Ok.ensures.cases.1, c.in-Ok-from_str.ensures.ok, c.in-Ok.ensures.cases.0) refl
+    let same : string_bytes c.push_str.new.self ≡ c.args.bytes.now = search rules in
+    rw (is_utf8-from_IsUtf8 c.args.bytes.now c.in-Ok.ensures.cases.1, same) refl

@@ -1,10 +1,7 @@
-use Rattle.std.proofs.Common.{◌≡◌, ◌∙◌, sym, refl, ℕ, List, [], Ok}
-use Rattle.buffa_bytes.specs.Reading.{delimited_at, taken, varint_at}
-use Rattle.buffa_bytes.proofs.DelimitedLemmas.{taken_sound}
-use Rattle.buffa_bytes.proofs.StepLemmas.{agree_ok}
 use Rattle.std.proofs.lemmas.Result.{err_from_is_err_and}
 use Rattle.buffa_bytes.proofs.FullLemmas.{varint_no_full}
 use Rattle.buffa_bytes.proofs.LeftLemmas.{left_copied, left_no_length}
+use Rattle.buffa_bytes.proofs.TextLemmas.{none_taken}
 use Rattle.buffa_bytes.proofs.types.text.decode_bytes.Goals as goal
 
 pub returns-in_err-len-clause-full : goal.returns-in_err-len-clause-full
@@ -12,11 +9,8 @@ returns-in_err-len-clause-full g c =
     let p = err_from_is_err_and c.from_residual.result c.from_residual.ensures.1 in
     rw (p.1, p.2) (varint_no_full (g.B.Buf.unread c.args.buf.now) _ c.in_err-len.ensures.reads)
 
-after : (n : ℕ) (bs mid : List ℕ) → varint_at bs ≡ Ok (n, mid) → delimited_at bs ≡ taken n mid
-after n bs mid v = rw v refl
-
 pub returns-clause-free : goal.returns-clause-free
-returns-clause-free g c = λ rest is. c.copy_bytes.ensures.free (sym (agree_ok (taken _ _) ([], rest) (taken_sound _ _) (sym (after _ _ _ c.in_ok-len.ensures.reads) ∙ is)).0)
+returns-clause-free g c = λ rest is. c.copy_bytes.ensures.free (none_taken _ _ _ rest c.in_ok-len.ensures.reads is)
 
 pub returns-in_err-len-clause-left : goal.returns-in_err-len-clause-left
 returns-in_err-len-clause-left g c =

@@ -1,5 +1,5 @@
 use Rattle.std.proofs.lemmas.Result.{err_from_is_err_and}
-use Rattle.buffa_bytes.proofs.TextLemmas.{bytes_in_place, whole_in_place, length_no_full}
+use Rattle.buffa_bytes.proofs.TextLemmas.{bytes_in_place, whole_in_place, length_no_full, none_in_place, none_taken}
 use Rattle.buffa_bytes.proofs.LeftLemmas.{left_no_length, left_passed, left_refused, left_taken}
 use Rattle.buffa_bytes.proofs.types.text.decode_bytes_to.Goals as goal
 
@@ -10,7 +10,7 @@ returns-in_err-len-clause-full g c =
 
 pub returns-in-Some-clause-reads : goal.returns-in-Some-clause-reads
 returns-in-Some-clause-reads g c =
-    bytes_in_place _ _ c.from_wire-read.result _ _ _ _ _ c.in_ok-len.ensures.reads c.in-Some.ensures c.advance.ensures.rest c.from_wire-read.ensures
+    bytes_in_place _ _ c.from_wire-read.result _ _ _ _ _ c.in_ok-len.ensures.reads c.in-Some.ensures c.advance.ensures.rest c.from_wire-read.ensures.reads
 
 pub returns-in-Some-clause-full : goal.returns-in-Some-clause-full
 returns-in-Some-clause-full g c =
@@ -33,3 +33,9 @@ returns-in_err-bytes-clause-left g c =
 pub returns-clause-left : goal.returns-clause-left
 returns-clause-left g c =
     left_taken c.from_wire.result _ (g.B.Buf.unread c.args.buf.now) _ _ _ c.in_ok-len.ensures.reads c.in_ok-bytes.ensures.reads
+
+pub returns-in-Some-clause-free : goal.returns-in-Some-clause-free
+returns-in-Some-clause-free g c = λ rest is. c.from_wire-read.ensures.free (none_in_place _ _ _ _ rest c.in_ok-len.ensures.reads c.in-Some.ensures is)
+
+pub returns-in_err-bytes-clause-free : goal.returns-in_err-bytes-clause-free
+returns-in_err-bytes-clause-free g c = λ rest is. absurd (let e = c.in_err-bytes.ensures.free (none_taken _ _ _ rest c.in_ok-len.ensures.reads is) in cc)

@@ -5,7 +5,7 @@ use Rattle.std.specs.Str.{is_utf8}
 use Rattle.std.proofs.lemmas.Bool.{false_from_ne_true}
 use Rattle.std.proofs.lemmas.Str.{IsUtf8-from_is_utf8, is_utf8-from_IsUtf8, IsUtf8-string_bytes}
 use Rattle.std.proofs.lemmas.Result.{err_from_is_err_and}
-use Rattle.buffa_bytes.proofs.TextLemmas.{string_in_place, whole_in_place, length_no_full}
+use Rattle.buffa_bytes.proofs.TextLemmas.{string_in_place, whole_in_place, length_no_full, none_in_place, none_taken}
 use Rattle.buffa_bytes.proofs.LeftLemmas.{left_no_length, left_passed, left_refused, left_taken}
 use Rattle.buffa_bytes.proofs.types.text.decode_string.Goals as goal
 
@@ -50,3 +50,9 @@ returns-in_err-bytes-clause-left g c =
 pub returns-clause-left : goal.returns-clause-left
 returns-clause-left g c =
     left_taken {X = ℕ} (Err InvalidUtf8) _ (g.B.Buf.unread c.args.buf.now) _ _ _ c.in_ok-len.ensures.reads c.in_ok-bytes.ensures.reads
+
+pub returns-in-Some-clause-free : goal.returns-in-Some-clause-free
+returns-in-Some-clause-free g c = λ rest is. c.from_wire-read.ensures.free (none_in_place _ _ _ _ rest c.in_ok-len.ensures.reads c.in-Some.ensures is)
+
+pub returns-in_err-bytes-clause-free : goal.returns-in_err-bytes-clause-free
+returns-in_err-bytes-clause-free g c = λ rest is. absurd (let e = c.in_err-bytes.ensures.free (none_taken _ _ _ rest c.in_ok-len.ensures.reads is) in cc)

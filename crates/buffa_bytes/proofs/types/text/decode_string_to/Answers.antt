@@ -1,5 +1,5 @@
 use Rattle.std.proofs.lemmas.Result.{err_from_is_err_and}
-use Rattle.buffa_bytes.proofs.TextLemmas.{string_in_place, whole_in_place, length_no_full}
+use Rattle.buffa_bytes.proofs.TextLemmas.{string_in_place, whole_in_place, length_no_full, none_in_place, none_taken}
 use Rattle.buffa_bytes.proofs.LeftLemmas.{left_no_length, left_passed, left_refused, left_taken}
 use Rattle.buffa_bytes.proofs.TailLemmas.{tail_more}
 use Rattle.buffa_bytes.proofs.types.text.decode_string_to.Goals as goal
@@ -37,3 +37,9 @@ returns-clause-left g c =
 
 pub returns-in_err-bytes-clause-tail : goal.returns-in_err-bytes-clause-tail
 returns-in_err-bytes-clause-tail g c = tail_more _ _ _ c.in_err-bytes.ensures.tail c.in_ok-len.ensures.tail
+
+pub returns-in-Some-clause-free : goal.returns-in-Some-clause-free
+returns-in-Some-clause-free g c = λ rest is. c.from_wire-read.ensures.free (none_in_place _ _ _ _ rest c.in_ok-len.ensures.reads c.in-Some.ensures is)
+
+pub returns-in_err-bytes-clause-free : goal.returns-in_err-bytes-clause-free
+returns-in_err-bytes-clause-free g c = λ rest is. absurd (let e = c.in_err-bytes.ensures.free (none_taken _ _ _ rest c.in_ok-len.ensures.reads is) in cc)
