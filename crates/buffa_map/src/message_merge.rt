@@ -16,11 +16,12 @@ use crate::field::{Messages, Reads};
 use crate::keep::Dropped;
 use crate::merge_value::ByFunction;
 use crate::storage::MapStorage;
-use buffa_wire::types::decode_bytes;
-use buffa_wire::{Budget, Buf, DecodeContext, DecodeError, MessageSpec};
+use buffa_bytes::buf::{copy_bytes, front};
+use buffa_wire::{Budget, Buf, DecodeContext, DecodeError, MessageSpec, decode_varint};
 use std::alloc::Global;
 
-// Merges the length and so many bytes at the front, one level down, by a function.
+// Merges the length and so many bytes at the front, one level down, by a function. Bytes that lie together are
+// merged where they lie; others are put together first.
 fn merge_payload_by<M: MessageSpec, B: Buf, F>(
     alloc: Global,
     value: &mut M,
@@ -46,7 +47,13 @@ where
     if depth == 0 {
         return Err(DecodeError::RecursionLimitExceeded);
     }
-    let payload = decode_bytes(alloc, buf)?;
+    let len = decode_varint(buf)?;
+    if let Some(part) = front(buf, len) {
+        let merged = merge(value, part, depth - 1, &mut *budget);
+        buf.advance(len as usize);
+        return merged;
+    }
+    let payload = copy_bytes(alloc, buf, len)?;
     merge(value, &payload, depth - 1, &mut *budget)
 }
 
