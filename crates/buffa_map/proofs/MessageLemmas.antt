@@ -21,7 +21,7 @@ need_in cost d (Ok p) = refl
 need_in cost d (Err e) = refl
 
 -- the length and the bytes of which a content is
-content_of : (rest : List ℕ) (r : Result (List ℕ × List ℕ) DecodeError) → (r >>= (λ p. let x : Content × List ℕ = (bytes p.0, p.1) in Ok x)) ≡ Ok (bytes [], rest) → r ≡ Ok ([], rest)
+pub content_of : (rest : List ℕ) (r : Result (List ℕ × List ℕ) DecodeError) → (r >>= (λ p. let x : Content × List ℕ = (bytes p.0, p.1) in Ok x)) ≡ Ok (bytes [], rest) → r ≡ Ok ([], rest)
 content_of rest (Ok p) h = ap (λ (z : Content × List ℕ). Ok (bytes_in z.0, z.1)) (ok_same h)
 content_of rest (Err e) h = cc
 

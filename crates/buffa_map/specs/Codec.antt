@@ -56,9 +56,9 @@ TakesMemory codec d bs = (codec.takes_memory ≡ true) × (level codec.nested d 
 abbrev pub IsWhole : {V : Type 0} → Reading V → ℕ → List ℕ → Type 0
 IsWhole codec d bs = (level codec.nested d ≡ Ok tt) × IsOk (content_at codec.wire bs)
 
--- a level is left, and a message of no bytes is at the front
+-- the codec takes memory, a level is left, and a payload of no bytes is at the front
 abbrev pub HoldsNothing : {V : Type 0} → Reading V → ℕ → List ℕ → Type 0
-HoldsNothing codec d bs = (codec.nested ≡ true) × (level codec.nested d ≡ Ok tt) × (rest : List ℕ) × (content_at codec.wire bs ≡ Ok (bytes [], rest))
+HoldsNothing codec d bs = (codec.takes_memory ≡ true) × (level codec.nested d ≡ Ok tt) × (rest : List ℕ) × (content_at codec.wire bs ≡ Ok (bytes [], rest))
 
 -- what is needed by what was read, if it was read
 abbrev pub need_by : {A : Type 0} → Result A DecodeError → (A → BudgetLeft) → BudgetLeft

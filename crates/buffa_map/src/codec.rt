@@ -64,8 +64,8 @@ pub trait MapValueDecode: sealed::Sealed {
     /// Reads the payload at the front into the value.
     ///
     /// # Errors
-    /// The first fault of the payload, or out of memory, where the codec takes memory and the payload is whole; the
-    /// value is as it was then, and nothing is spent. What follows the tenth byte of a varint stays unread, and all of
+    /// The first fault of the payload, or out of memory, where the codec takes memory and the payload is whole and not
+    /// empty; the value is as it was then, and nothing is spent. What follows the tenth byte of a varint stays unread, and all of
     /// four or eight bytes; of a length and bytes, what follows them, or a length that passes the end.
     /// Inside a message any error may be told, but a limit's only where the message's cost isn't left; at most
     /// that cost is spent then, and the value is some value of its type.
