@@ -10,6 +10,7 @@ pub mod SinkLemmas
 pub mod IntLemmas
 pub mod LimitLemmas
 pub mod PieceLemmas
+pub mod AdaptedLemmas
 pub mod ScalarLemmas
 pub mod TextLemmas
 pub mod TailLemmas

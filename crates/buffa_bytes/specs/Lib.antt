@@ -3,6 +3,7 @@ pub mod WireType
 pub mod ErrorText
 pub mod Unread
 pub mod Pieces
+pub mod Adapted
 pub mod Written
 pub mod Varint
 pub mod Join

@@ -30,6 +30,8 @@ ghost use Rattle.buffa_bytes.specs.Scalars.{int64_text, sfixed32_at, sfixed32_of
 ghost use Rattle.buffa_bytes.specs.Scalars.{sfixed64_of, sfixed64_text, sint32_at, sint32_of, sint32_text, sint64_at};
 ghost use Rattle.buffa_bytes.specs.Scalars.{sint64_of, sint64_text, uint32_at, uint32_of, uint32_text, uint64_at};
 ghost use Rattle.buffa_bytes.specs.Scalars.{uint64_text, unzigzag, varint_as, zigzag};
+ghost use Rattle.bytes.specs.Filled.{Filled};
+ghost use Rattle.buffa_bytes.specs.Adapted.{ShowsInner, kept_beyond};
 ghost use Rattle.buffa_bytes.specs.Pinned.{AnswerIsPinned, AnswerIsPinnedUnlessFull, ChunkIsPinned, IsItsBytes};
 ghost use Rattle.buffa_bytes.specs.Pinned.{IsCopied, Means, SameIsOne, ShowsBytes, ShowsFront, WriteIsPinned};
 ghost use Rattle.buffa_bytes.specs.Reading.{check_wire};
@@ -37,6 +39,7 @@ ghost use Rattle.buffa_bytes.specs.WireType.{wire_kind, wire_number};
 ghost use Rattle.buffa_bytes.specs.Texts.{bytes_as, string_as, text_as};
 ghost use Rattle.buffa_bytes.specs.Values.{delimited_text, int32_at, int32_text, string_at, tag_text};
 
+use crate::adapted::Adapted;
 use crate::blank::Blank;
 use crate::buf::Buf;
 use crate::error::{DecodeError, EncodeError, MessageSetFault};
@@ -48,7 +51,7 @@ use crate::sink::EncodeSink;
 use crate::tag::{MAX_FIELD_NUMBER, Tag};
 use crate::types::{BOOL_ENCODED_LEN, FIXED32_ENCODED_LEN, FIXED64_ENCODED_LEN};
 use crate::wire_type::WireType;
-use bytes::Bytes;
+use bytes::{Bytes, BytesMut};
 use std::fmt;
 
 /// A varint is read exactly where a spelling begins the bytes, and a fault is told exactly where the
@@ -325,10 +328,19 @@ pub fn buffers_are_these<B: Buf>()
         (λ s. s.inner) (λ s. s.limit) B.unread B.beyond }
 {}
 
-/// What was written to a vector, and its room. It leaves nothing open.
+/// An adapted buffer shows what the one within does, and keeps what that one keeps. It leaves open where chunks end.
+#[tactic(auto, using(crate::proofs::AdaptedLemmas::kept_is_one))]
+pub fn adapted_buffers_are_these<B: bytes::Buf>()
+    ensures inner { ShowsInner ⟦<Adapted<B> as Buf>⟧.unread ⟦<Adapted<B> as Buf>⟧.beyond (λ s. s.0) B.unread B.kept }
+    ensures kept { (x y : List (List ℕ × ℕ)) → kept_beyond x ≡ kept_beyond y → x ≡ y }
+{}
+
+/// What was written to a vector or to a `BytesMut`, and its room. It leaves nothing open.
 pub fn sinks_are_these()
     ensures written { (v : Vec ℕ Global) → ⟦<Vec<u8> as EncodeSink>⟧.written v ≡ v.items }
     ensures room { (v : Vec ℕ Global) → ⟦<Vec<u8> as EncodeSink>⟧.room v ≡ vec_capacity v - vec_len v }
+    ensures grown { (b : Filled) → ⟦<BytesMut as EncodeSink>⟧.written b ≡ b.items }
+    ensures spare { (b : Filled) → ⟦<BytesMut as EncodeSink>⟧.room b ≡ b.spare }
 {}
 
 /// Two types of one's own for strings read one text out of the same bytes. It leaves open how a value holds its text.

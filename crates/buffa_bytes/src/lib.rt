@@ -4,6 +4,7 @@
 //! sink. What each call answers is a definition of `specs/`, in the words of the protobuf encoding guide.
 #![tactic(auto)]
 
+pub mod adapted;
 pub mod blank;
 pub mod buf;
 pub mod check;
@@ -20,6 +21,7 @@ pub mod types;
 pub mod varint;
 pub mod wire_type;
 
+pub use adapted::Adapted;
 pub use blank::Blank;
 pub use buf::Buf;
 pub use check::check_wire_type;
