@@ -6,7 +6,7 @@ it has ended; between the two `refuse.c` refuses one request for memory, the fir
 is refused, and each request where the row says that the call takes no memory. The program compares the answer and what
 stands after it, and prints the rows that don't hold. Needs gcc. `rt ci` leaves the program; where there is none, `rt run`
 builds it. The gate runs the same tables without refusals: `tests/conformance.py gather` writes its input of them, and its
-output.
+output. The rows of `many.tsv` are run here alone, once each, and no request is refused.
 """
 import glob
 import os
@@ -19,23 +19,30 @@ import time
 
 TOP = os.path.dirname(os.path.dirname(os.path.abspath(__file__)))
 CRATE = f"{TOP}/crates/conformance"
+MANY = f"{TOP}/vectors/cases/many.tsv"
 SECONDS = 600
 
 
 def tables():
-    """The rows of all tables."""
+    """The rows of all tables, but for those on a great many of one thing."""
     text = b""
     for path in sorted(glob.glob(f"{TOP}/vectors/cases/*.tsv")) + sorted(glob.glob(f"{TOP}/vectors/google/*.tsv")):
-        with open(path, "rb") as it:
-            text += it.read()
+        if path != MANY:
+            with open(path, "rb") as it:
+                text += it.read()
     return text
 
 
-def gathered():
-    """The gate's input, the tables one after the other, and what the program has to say of it: that each row holds."""
-    text = tables()
+def all_hold(text):
+    """What the program has to say of rows: that each of them holds."""
     rows = sum(1 for it in text.splitlines() if it and not it.startswith(b"#"))
-    return {"stdin": text, "stdout": b"%d held, 0 did not\n" % rows}
+    return b"%d held, 0 did not\n" % rows
+
+
+def gathered():
+    """The gate's input, the tables one after the other, and the output."""
+    text = tables()
+    return {"stdin": text, "stdout": all_hold(text)}
 
 
 def gather():
@@ -58,6 +65,16 @@ def programs():
             subprocess.run(["rt", "run"], cwd=CRATE, stdin=given, stdout=subprocess.DEVNULL, check=True)
         made = [f"{CRATE}/out/conformance"]
     return made
+
+
+def run_many(program):
+    """What is wrong with a run of the rows on a great many of one thing, each once."""
+    with open(MANY, "rb") as it:
+        text = it.read()
+    done = subprocess.run([program], input=text, capture_output=True, timeout=SECONDS, check=False)
+    if (done.stdout, done.stderr, done.returncode) == (all_hold(text), b"", 0):
+        return ""
+    return f"status {done.returncode}, {done.stdout.decode()}"
 
 
 def judge(output, errors, status):
@@ -100,6 +117,11 @@ def main():
             seconds = time.time() - start
             verdict = "as it must be" if not wrong else f"\n  {wrong}"
             print(f"conformance: {os.path.basename(program)}: {runs} runs, {refused} requests refused, {seconds:.1f} seconds: {verdict}")
+            failed |= bool(wrong)
+            start, wrong = time.time(), run_many(program)
+            seconds = time.time() - start
+            verdict = "as it must be" if not wrong else f"\n  {wrong}"
+            print(f"conformance: {os.path.basename(program)}, a great many: {seconds:.1f} seconds: {verdict}")
             failed |= bool(wrong)
     print("conformance: FAILED" if failed else "conformance: passed")
     return 1 if failed else 0

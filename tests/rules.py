@@ -31,6 +31,8 @@ def mismatch(number, expected, actual):
 
 
 def varint_text(number):
+    if number < 128:
+        return bytes((number,))
     out = bytearray()
     while number > 127:
         out.append(number & 127 | 128)
@@ -62,6 +64,9 @@ class Bytes:
         return self.text[self.at - count : self.at]
 
     def varint(self):
+        if self.at < len(self.text) and self.text[self.at] < 128:
+            self.at += 1
+            return self.text[self.at - 1]
         number = 0
         for place in range(10):
             byte = self.take(1)[0]
@@ -128,9 +133,10 @@ def keep(buf, number, wire, depth, budget):
         return tag + buf.take(8 if wire == EIGHT else 4)
     if depth == 0:
         raise Fault("RecursionLimitExceeded")
+    found = [tag]
     while (inner := buf.tag()) != (number, END):
-        tag += keep(buf, *inner, depth - 1, budget)
-    return tag + tag_text(number, END)
+        found.append(keep(buf, *inner, depth - 1, budget))
+    return b"".join(found) + tag_text(number, END)
 
 
 def records(text, depth=MOST_LEVELS):
@@ -307,7 +313,7 @@ def read_run(kinds, pairs, buf, depth, budget, number, kept):
 
 def read_item(buf, depth, budget):
     budget.take_slot()
-    type_id, message = None, b""
+    type_id, message = None, bytearray()
     while (tag := buf.tag()) != (1, END):
         if tag == (2, VARINT):
             type_id = buf.varint()
@@ -319,7 +325,7 @@ def read_item(buf, depth, budget):
             skip(buf, *tag, depth)
     if type_id is None:
         raise Fault("InvalidMessageSet missing type_id")
-    return type_id, message
+    return type_id, bytes(message)
 
 
 def word(kind, held):

@@ -6,6 +6,7 @@ finds; so an answer that was taken from the program's own output would be seen, 
 `random_rows.py` makes rows by it.
 """
 import glob
+import multiprocessing
 import os
 import re
 import sys
@@ -34,8 +35,8 @@ def slots_of(kind, message):
 
 
 def expanded(line):
-    """The line with each `(HEX*N)` as the digits N times."""
-    return re.sub(r"\(([0-9a-f]+)\*(\d+)\)", lambda found: found[1] * int(found[2]), line)
+    """The line with each `(TEXT*N)` as the text N times: digits, and spaces between numbers."""
+    return re.sub(r"\(([0-9a-f ]+)\*(\d+)\)", lambda found: found[1] * int(found[2]), line)
 
 
 class Row:
@@ -360,16 +361,15 @@ def wrong(line):
 
 def main():
     tables = sys.argv[1:] or sorted(glob.glob(f"{TOP}/vectors/cases/*.tsv") + glob.glob(f"{TOP}/vectors/google/*.tsv"))
-    counts = {"held": 0, "didn't": 0, "of calls that it doesn't know": 0}
+    counts, rows = {"held": 0, "didn't": 0, "of calls that it doesn't know": 0}, []
     for path in tables:
         with open(path, encoding="utf-8") as table:
-            for line in table.read().splitlines():
-                if not line or line.startswith("#"):
-                    continue
-                found = wrong(line)
-                counts["of calls that it doesn't know" if found is None else "didn't" if found else "held"] += 1
-                if found:
-                    print(f"{os.path.relpath(path, TOP)}: {line}\n  it finds {found}")
+            rows += [(path, it) for it in table.read().splitlines() if it and not it.startswith("#")]
+    with multiprocessing.Pool() as pool:
+        for (path, line), found in zip(rows, pool.imap(wrong, [line for _, line in rows], chunksize=2)):
+            counts["of calls that it doesn't know" if found is None else "didn't" if found else "held"] += 1
+            if found:
+                print(f"{os.path.relpath(path, TOP)}: {line[:500]}\n  it finds {found[:500]}")
     print("second reading: " + ", ".join(f"{count} {what}" for what, count in counts.items()))
     return 1 if counts["didn't"] or not counts["held"] else 0
 

@@ -1,7 +1,8 @@
 // Runs the rows of tables on standard input, and tells which of them don't hold.
 //
 // Without a word each row is run whole, cut in every way, and where it is accepted each beginning of it. With the word
-// `refused` each row is run with its requests for memory refused, one after the other, by `tests/refuse.c`.
+// `refused` each row is run with its requests for memory refused, one after the other, by `tests/refuse.c`. A row that
+// says `ways=once` is run whole alone.
 #![tactic(auto)]
 
 mod item;
@@ -11,6 +12,7 @@ mod ways;
 use conformance_rows::calls::{Kind, is_run_in, takes_words};
 use conformance_rows::case::{Case, case_of};
 use conformance_rows::fault::Fault;
+use conformance_rows::repeated::expanded;
 use conformance_rows::tally::Tally;
 use std::alloc::Global;
 use std::env;
@@ -37,6 +39,9 @@ fn run_in(
 ) -> Result<(), Fault> {
     let bytes = bytes_of(alloc, case)?;
     let run = Run { case, kind, errors };
+    if case.says("ways", "once") {
+        return run.whole(alloc, bytes.as_slice(), tally);
+    }
     if refusing {
         return run.refused(alloc, bytes.as_slice(), tally);
     }
@@ -62,7 +67,10 @@ fn run_row(alloc: Global, case: &Case<'_>, errors: Stderr, refusing: bool) -> Re
 fn run_line(alloc: Global, line: &str, errors: Stderr, refusing: bool) -> Tally {
     let mut wrong = Tally::new();
     wrong.add(false);
-    match case_of(line) {
+    let Ok(line) = expanded(alloc, line) else {
+        return wrong;
+    };
+    match case_of(line.as_str()) {
         None => wrong,
         Some(case) => match run_row(alloc, &case, errors, refusing) {
             Ok(tally) => tally,

@@ -125,6 +125,14 @@ impl Run<'_> {
         Ok(())
     }
 
+    /// The row in one piece: a slice, and shared bytes.
+    pub fn whole(&self, alloc: Global, bytes: &[u8], tally: &mut Tally) -> Result<(), Fault> {
+        let whole = self.slice(alloc, bytes, None)?;
+        self.tell(alloc, whole, tally)?;
+        let shared = self.shared(alloc, bytes, None)?;
+        self.tell(alloc, shared, tally)
+    }
+
     /// The row in one piece, and cut.
     pub fn whole_and_cut(
         &self,
@@ -132,10 +140,7 @@ impl Run<'_> {
         bytes: &[u8],
         tally: &mut Tally,
     ) -> Result<(), Fault> {
-        let whole = self.slice(alloc, bytes, None)?;
-        self.tell(alloc, whole, tally)?;
-        let shared = self.shared(alloc, bytes, None)?;
-        self.tell(alloc, shared, tally)?;
+        self.whole(alloc, bytes, tally)?;
         for cut in 0..=bytes.len() {
             let parts: [&[u8]; 4] = [&[], &bytes[..cut], &[], &bytes[cut..]];
             let found = self.pieces(alloc, &parts, None)?;

@@ -29,8 +29,10 @@ impl<By, V: Worded<By>> Told<By> for Vec<V> {
         let mut text = String::new(alloc);
         for value in self.iter() {
             let word = value.word(alloc)?;
-            let space = if text.is_empty() { "" } else { " " };
-            text = format!(in alloc; "{text}{space}{word}")?;
+            if !text.is_empty() {
+                text.push_str(" ")?;
+            }
+            text.push_str(word.as_str())?;
         }
         Ok(text)
     }
