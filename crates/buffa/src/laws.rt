@@ -39,6 +39,10 @@ pub use buffa_map::laws as map_fields;
 pub use buffa_message_set::laws::{
     item_tags, items_are_pinned, items_are_read, no_item_begins_another, written_items_are_pinned,
 };
+/// Laws of the sample that holds itself, and of its enum.
+pub use buffa_node::laws as nodes;
+/// Laws of the sample that is a MessageSet.
+pub use buffa_set_msg::laws as sets;
 /// Laws of records of unknown fields.
 pub use buffa_wire::laws as records;
 

@@ -1,13 +1,14 @@
 //! Map fields, typed extensions and MessageSet Items of protobuf messages, proved.
 //!
 //! This crate is the one that a user names. [`map_codec`] has map fields, [`extension`] typed extensions,
-//! [`message_set`] Items, and [`laws`] what is proved of them together, one function a law. The items of the
-//! wire stand at the top.
+//! [`message_set`] Items, and [`laws`] what is proved of them together, one function a law. [`samples`] has two messages
+//! that stand on it. The items of the wire stand at the top.
 #![tactic(auto)]
 
 pub mod extension;
 pub mod laws;
 pub mod name_laws;
+pub mod samples;
 
 pub use buffa_ext::{Extension, ExtensionSet};
 pub use buffa_map::map_codec;
