@@ -1,7 +1,5 @@
-//! Extensions: descriptors and defaults, codecs called by themselves, a million fields, options.
+//! Extensions: a carrier of one's own, groups of many records, options.
 
 mod carrier;
-mod direct;
 mod large;
 mod options;
-mod sets;

@@ -6,8 +6,6 @@
 #![tactic(auto)]
 
 #[cfg(test)]
-mod budgets;
-#[cfg(test)]
 mod errors;
 #[cfg(test)]
 mod extensions;

@@ -1,4 +1,3 @@
-//! Map fields: codecs called by themselves, many pairs, and maps that come back.
+//! Map fields: many pairs, and maps that come back.
 
-mod codecs;
 mod storages;

@@ -1,4 +1,4 @@
-//! Unknown fields as values: lists that grow and shrink, copies, equality.
+//! Unknown fields as values: numbers that no bytes have, what is read beside what is made by hand, a predicate's calls.
 
 use buffa_wire::{UnknownField, UnknownFieldData, UnknownFields};
 use std::alloc::Global;
@@ -29,31 +29,6 @@ fn fields_of_any_number_are_written(rt: HostRuntime) -> Result<(), Fail> {
     ];
     assert_eq!(rt; text.as_slice(), expected.as_slice());
     assert_eq!(rt; fields.encoded_len(), 16);
-    Ok(())
-}
-
-#[test]
-fn lists_grow_and_shrink(rt: HostRuntime) -> Result<(), Fail> {
-    let mut fields = UnknownFields::new(rt.alloc());
-    fields.push(field(1, UnknownFieldData::Varint(5)))?;
-    let mut more = UnknownFields::new(rt.alloc());
-    more.push(group(rt.alloc())?)?;
-    fields.reserve(more.len())?;
-    assert!(rt; fields.spare() >= 1);
-    fields.append(more);
-    assert_eq!(rt; fields.len(), 2);
-    fields.retain(|kept| kept.number == 7);
-    assert_eq!(rt; fields.len(), 1);
-    Ok(())
-}
-
-#[test]
-fn a_copy_is_equal(rt: HostRuntime) -> Result<(), Fail> {
-    let whole = group(rt.alloc())?;
-    assert_eq!(rt; whole.copy()?, whole);
-    let bytes = Vec::from_slice(rt.alloc(), &[0xDE, 0xAD])?;
-    let whole = field(9, UnknownFieldData::LengthDelimited(bytes));
-    assert_eq!(rt; whole.copy()?, whole);
     Ok(())
 }
 

@@ -1,6 +1,5 @@
-//! Bytes: numbers, scalars, texts, and the buffers that they are read from.
+//! Bytes: how one is taken, a text that fits, and the buffers that they are read from.
 
 mod buffers;
 mod numbers;
-mod scalars;
 mod texts;

@@ -1,10 +1,9 @@
-//! Readers over bytes that are cut, shared and limited.
+//! Readers over bytes that are limited, and the front of bytes that are cut.
 
 ghost use Rattle.std.specs.Prelude.{◌≡◌, ◌≤◌, length, drop, OnOk};
 
 use buffa_bytes::buf::front;
 use buffa_bytes::{Buf, DecodeError, Limited, Pieces, decode_varint, types};
-use bytes::Bytes;
 use std::alloc::Global;
 use std::test::Fail;
 
@@ -59,43 +58,6 @@ fn read_within_twice<B: Buf>(
 }
 
 #[test]
-fn a_cut_anywhere_changes_nothing(rt: HostRuntime) -> Result<(), Fail> {
-    let text: &[u8] = &TEXT;
-    for cut in 0..=text.len() {
-        let parts: [&[u8]; 4] = [&[], &text[..cut], &[], &text[cut..]];
-        let mut pieces = Pieces::new(&parts);
-        let (number, word, one) = read_three(rt.alloc(), &mut pieces)?;
-        assert!(rt; are_three(number, &word, one));
-        assert_eq!(rt; pieces.remaining(), 1);
-        assert_eq!(rt; pieces.chunk(), [7].as_slice());
-    }
-    Ok(())
-}
-
-#[test]
-fn single_bytes_with_empty_pieces_between(rt: HostRuntime) -> Result<(), Fail> {
-    let parts: [&[u8]; 12] = [
-        &[0x96],
-        &[0x01],
-        &[2],
-        b"o",
-        &[],
-        b"k",
-        &[1],
-        &[0],
-        &[],
-        &[0],
-        &[0],
-        &[7],
-    ];
-    let mut pieces = Pieces::new(&parts);
-    let (number, word, one) = read_three(rt.alloc(), &mut pieces)?;
-    assert!(rt; are_three(number, &word, one));
-    assert_eq!(rt; pieces.remaining(), 1);
-    Ok(())
-}
-
-#[test]
 fn the_front_is_shown_where_it_lies_together(rt: HostRuntime) {
     let text: &[u8] = &TEXT;
     assert_eq!(rt; front(&text, 2), Some([0x96, 0x01].as_slice()));
@@ -105,15 +67,6 @@ fn the_front_is_shown_where_it_lies_together(rt: HostRuntime) {
     let pieces = Pieces::new(&parts);
     assert_eq!(rt; front(&pieces, 1), Some([0x96].as_slice()));
     assert_eq!(rt; front(&pieces, 2), None);
-}
-
-#[test]
-fn shared_bytes_are_read_alike(rt: HostRuntime) -> Result<(), Fail> {
-    let mut shared = Bytes::copy_from_slice(rt.alloc(), &TEXT)?;
-    let (number, word, one) = read_three(rt.alloc(), &mut shared)?;
-    assert!(rt; are_three(number, &word, one));
-    assert_eq!(rt; shared.as_slice(), [7].as_slice());
-    Ok(())
 }
 
 #[test]
