@@ -1,9 +1,9 @@
 // Which part does the call of a row.
 
 use crate::item::{item, write_an_item};
-use buffa::Buf;
 use conformance_lists::on_lists;
 use conformance_records::{fields_and_numbers, on_records};
+use conformance_rows::any_buf::AnyBuf;
 use conformance_rows::calls::{Group, Kind, group_of};
 use conformance_rows::case::Case;
 use conformance_rows::fault::Fault;
@@ -15,16 +15,16 @@ use conformance_samples::{
 use std::alloc::Global;
 
 // What comes of a row that reads an Item, a field or a number.
-fn items<B: Buf>(
+fn items(
     alloc: Global,
     case: &Case<'_>,
     mark: &mut Mark,
-    buf: &mut B,
+    buf: &mut AnyBuf<'_>,
 ) -> Result<Outcome, Fault> {
     match case.call {
-        "item" => item::<B>(alloc, case, mark, buf),
-        "decode" | "copy" | "tag" => scalar::<B>(alloc, case, mark, buf),
-        _ => fields_and_numbers::<B>(alloc, case, mark, buf),
+        "item" => item(alloc, case, mark, buf),
+        "decode" | "copy" | "tag" => scalar(alloc, case, mark, buf),
+        _ => fields_and_numbers(alloc, case, mark, buf),
     }
 }
 
@@ -34,17 +34,17 @@ fn some(found: Result<Outcome, Fault>) -> Result<Option<Outcome>, Fault> {
 }
 
 /// What comes of a row that reads from a buffer; none where its types don't go into this storage.
-pub fn read<B: Buf>(
+pub fn read(
     alloc: Global,
     case: &Case<'_>,
     kind: Kind,
     mark: &mut Mark,
-    buf: &mut B,
+    buf: &mut AnyBuf<'_>,
 ) -> Result<Option<Outcome>, Fault> {
     match group_of(case.call) {
-        Group::Fields => fields::<B>(alloc, case, kind, mark, buf),
-        Group::Items => some(items::<B>(alloc, case, mark, buf)),
-        Group::Values => some(values::<B>(alloc, case, mark, buf)),
+        Group::Fields => fields(alloc, case, kind, mark, buf),
+        Group::Items => some(items(alloc, case, mark, buf)),
+        Group::Values => some(values(alloc, case, mark, buf)),
         _ => Ok(None),
     }
 }

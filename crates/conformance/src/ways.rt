@@ -1,8 +1,9 @@
 // The ways to run a row that reads bytes: whole, cut, each beginning, and with memory refused.
 
 use crate::read::{called, read};
-use buffa::{Pieces, UnknownFields};
+use buffa::UnknownFields;
 use bytes::Bytes;
+use conformance_rows::any_buf::AnyBuf;
 use conformance_rows::calls::{Group, Kind, group_of, keeps_a_map, reads_bytes, reads_to_the_end};
 use conformance_rows::case::{Case, given};
 use conformance_rows::cuts::{pieces_of, single_bytes};
@@ -78,8 +79,8 @@ impl Run<'_> {
         let mut mark = Mark::new(self.errors, nth);
         match group_of(self.case.call) {
             Group::Fields | Group::Items | Group::Values => {
-                let mut buf = bytes;
-                read::<&[u8]>(alloc, self.case, self.kind, &mut mark, &mut buf)
+                let mut buf = AnyBuf::Slice(bytes);
+                read(alloc, self.case, self.kind, &mut mark, &mut buf)
             }
             _ => called(alloc, self.case, self.kind, &mut mark, bytes),
         }
@@ -93,8 +94,8 @@ impl Run<'_> {
         nth: Option<u64>,
     ) -> Result<Option<Outcome>, Fault> {
         let mut mark = Mark::new(self.errors, nth);
-        let mut buf = Bytes::copy_from_slice(alloc, bytes)?;
-        read::<Bytes>(alloc, self.case, self.kind, &mut mark, &mut buf)
+        let mut buf = AnyBuf::Shared(Bytes::copy_from_slice(alloc, bytes)?);
+        read(alloc, self.case, self.kind, &mut mark, &mut buf)
     }
 
     // What comes of pieces.
@@ -107,7 +108,10 @@ impl Run<'_> {
         let mut mark = Mark::new(self.errors, nth);
         match pieces_of(pieces) {
             None => Err(Fault::Form),
-            Some(mut buf) => read::<Pieces<'_>>(alloc, self.case, self.kind, &mut mark, &mut buf),
+            Some(buf) => {
+                let mut buf = AnyBuf::Cut(buf);
+                read(alloc, self.case, self.kind, &mut mark, &mut buf)
+            }
         }
     }
 
