@@ -109,7 +109,7 @@ unfolding IsCounted more
 counted_none rs ss z cache c e h = h
 
 -- ---- texts
-small_both : (t u : List ℕ) → IsSmall (t ++ u) → IsSmall t × IsSmall u
+pub small_both : (t u : List ℕ) → IsSmall (t ++ u) → IsSmall t × IsSmall u
 small_both t u h = (omega (arith, h, length-append t u), omega (arith, h, length-append t u))
 
 -- the next records are written behind the others

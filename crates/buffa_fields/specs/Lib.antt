@@ -20,5 +20,7 @@ pub mod NestedLaws
 pub mod Lists
 pub mod ListLaws
 pub mod PackedLaws
+pub mod RepeatedNested
+pub mod RepeatedNestedLaws
 pub mod Stands
 pub mod StandsLaws

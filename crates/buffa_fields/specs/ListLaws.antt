@@ -365,19 +365,22 @@ module _ {V : Type 0} (datum : V → Datum) (n : ℕ) where
     abbrev here : List ℕ
     here = records_text ((n, datum (meaning x)) ∷ [])
 
-    to_next : text_to (i + 1) ≡ text_to i ++ here
-    to_next = ap (λ (z : List V). records_text (element_records datum n z)) (means_more meaning xs i x lt is) ∙ text_more (map meaning (take i xs)) (meaning x)
+    pub text_next : text_to (i + 1) ≡ text_to i ++ here
+    text_next = ap (λ (z : List V). records_text (element_records datum n z)) (means_more meaning xs i x lt is) ∙ text_more (map meaning (take i xs)) (meaning x)
+
+    pub text_cut : records_text (element_records datum n (map meaning xs)) ≡ (text_to i ++ here) ++ records_text (element_records datum n (map meaning (drop (i + 1) xs)))
+    text_cut =
+        let rest = map meaning (drop (i + 1) xs) in
+        ap (λ (z : List V). records_text (element_records datum n z)) (means_cut meaning xs i x lt is ∙ sym (append_assoc (map meaning (take i xs)) (meaning x ∷ []) rest))
+        ∙ text_two (map meaning (take i xs) ++ meaning x ∷ []) rest ∙ ap (λ (z : List ℕ). z ++ records_text (element_records datum n rest)) (text_more (map meaning (take i xs)) (meaning x))
 
     pub len_more : (total len new : ℕ) → total ≡ cap (length (text_to i)) → len ≡ cap (length here) → new ≡ min (total + len) 4294967295 → new ≡ cap (length (text_to (i + 1)))
-    len_more total len new h k e = cap_more (length (text_to i)) (length here) total len new h k e ∙ ap cap (sym (length-append (text_to i) here) ∙ ap length (sym to_next))
+    len_more total len new h k e = cap_more (length (text_to i)) (length here) total len new h k e ∙ ap cap (sym (length-append (text_to i) here) ∙ ap length (sym text_next))
 
     pub write_more : (old mid new : List ℕ) → mid ≡ old ++ text_to i → new ≡ mid ++ here → new ≡ old ++ text_to (i + 1)
-    write_more old mid new h k = k ∙ ap (λ (z : List ℕ). z ++ here) h ∙ append_assoc old (text_to i) here ∙ ap (λ (z : List ℕ). old ++ z) (sym to_next)
+    write_more old mid new h k = k ∙ ap (λ (z : List ℕ). z ++ here) h ∙ append_assoc old (text_to i) here ∙ ap (λ (z : List ℕ). old ++ z) (sym text_next)
 
     pub write_stops : (old mid new : List ℕ) → mid ≡ old ++ text_to i → WritesFront mid here new → WritesFront old (records_text (element_records datum n (map meaning xs))) new
     write_stops old mid new h front =
         let rest = map meaning (drop (i + 1) xs) in
-        let all : records_text (element_records datum n (map meaning xs)) ≡ (text_to i ++ here) ++ records_text (element_records datum n rest) =
-        ap (λ (z : List V). records_text (element_records datum n z)) (means_cut meaning xs i x lt is ∙ sym (append_assoc (map meaning (take i xs)) (meaning x ∷ []) rest))
-        ∙ text_two (map meaning (take i xs) ++ meaning x ∷ []) rest ∙ ap (λ (z : List ℕ). z ++ records_text (element_records datum n rest)) (text_more (map meaning (take i xs)) (meaning x)) in
-        subst (λ (z : List ℕ). WritesFront old z new) (sym all) (front_first old (text_to i ++ here) (records_text (element_records datum n rest)) new (front_second old (text_to i) here mid new h front))
+        subst (λ (z : List ℕ). WritesFront old z new) (sym text_cut) (front_first old (text_to i ++ here) (records_text (element_records datum n rest)) new (front_second old (text_to i) here mid new h front))

@@ -188,7 +188,7 @@ unwritten_message text slots n v c b is = subst (λ z. IsWritten (records_text (
 -- ---- it reads back
 module _ {X : Type 0} (merged : ℕ → X → List ℕ → Option X) (blank : X) (text : X → List ℕ) (level : X → ℕ) (Normal : X → Type 0)
     (back : (d : ℕ) (v : X) → Normal v → level v ≤ d → merged d blank (text v) ≡ Some v) (n : ℕ) (number : IsNumber n) where
-  taken_back : (d : ℕ) (v : X) → length (text v) < 2 ^ 64 → Normal v → suc (level v) ≤ d → message_in merged d blank n LengthDelimited (delimited_text (text v)) ≡ Some v
+  pub taken_back : (d : ℕ) (v : X) → length (text v) < 2 ^ 64 → Normal v → suc (level v) ≤ d → message_in merged d blank n LengthDelimited (delimited_text (text v)) ≡ Some v
   unfolding message_in
   taken_back zero v fits normal low = absurd (omega arith)
   taken_back (suc d) v fits normal low =

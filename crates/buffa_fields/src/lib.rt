@@ -16,6 +16,7 @@ pub mod optional;
 pub mod packed;
 pub mod plain;
 pub mod repeated;
+pub mod repeated_nested;
 pub mod sizer;
 mod value;
 pub mod visitor;

@@ -1,6 +1,7 @@
 //! Messages from their fields: samples.
 #![tactic(auto)]
 
+pub mod depot;
 pub mod inventory;
 pub mod maps;
 pub mod order;

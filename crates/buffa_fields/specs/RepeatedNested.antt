@@ -1,0 +1,36 @@
+-- Lists of messages. Source: the protobuf encoding guide, "Repeated Elements" and "Submessages".
+use Rattle.std.specs.Prelude.{ℕ, suc, max, List, [], ◌∷◌, ◌++◌, length, Option, if◌then◌else◌}
+use Rattle.std.specs.Option.{option_map}
+use Rattle.buffa_bytes.specs.declared.wire_type.WireType.TheVariants.{LengthDelimited}
+use Rattle.buffa_wire.specs.BudgetLeft.{BudgetLeft, nothing, plus, units}
+use Rattle.buffa_wire.specs.Message.{cost_of_payload}
+use Rattle.buffa_wire.specs.Passes.{cap}
+use Rattle.buffa_wire.specs.Reading.{delimited_at}
+use Rattle.buffa_wire.specs.Records.{Datum, bytes}
+use Rattle.buffa_wire.specs.WireType.{same_wire}
+use Rattle.buffa_fields.specs.Lists.{element_records}
+use Rattle.buffa_fields.specs.Nested.{message_in}
+use Rattle.buffa_fields.specs.Takes.{Need, Taker}
+
+-- each payload is merged into a default message, which goes behind the others
+abbrev pub messages_taken : {X : Type 0} → X → (ℕ → X → List ℕ → Option X) → Taker (List X)
+messages_taken blank merged d vs n w p = option_map (λ x. vs ++ x ∷ []) (message_in merged d blank n w p)
+
+-- at a depth, what it costs: so many units for a message, and what is in it
+unfoldable pub messages_cost : ℕ → (ℕ → List ℕ → BudgetLeft) → Need
+messages_cost each cost d n w bs = if same_wire LengthDelimited w then plus (units each) (cost_of_payload cost d (delimited_at bs)) else nothing
+
+module _ {X : Type 0} (text : X → List ℕ) where
+  -- a record for each message
+  abbrev pub messages_records : ℕ → List X → List (ℕ × Datum)
+  messages_records n vs = element_records (λ v. bytes (text v)) n vs
+
+  -- for each message in order its length, and then the sizes of those in it
+  unfoldable pub messages_slots : (X → List ℕ) → List X → List ℕ
+  messages_slots slots [] = []
+  messages_slots slots (v ∷ vs) = (cap (length (text v)) ∷ slots v) ++ messages_slots slots vs
+
+-- how deep messages and groups nest in the deepest of them
+abbrev pub messages_levels : {X : Type 0} → (X → ℕ) → List X → ℕ
+messages_levels level [] = 0
+messages_levels level (v ∷ vs) = max (suc (level v)) (messages_levels level vs)

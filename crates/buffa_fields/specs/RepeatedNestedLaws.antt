@@ -1,0 +1,209 @@
+-- What is proved of lists of messages.
+use Rattle.std.proofs.Common.{◌≡◌, ◌≢◌, ◌⊎◌, inl, inr, ℕ, suc, ◌+◌, ◌==◌, ◌<◌, ◌≤◌, max, min, List, [], ◌∷◌, ◌++◌, length, map, take, drop, get_or, Option, Some, Result, Ok, Err, refl, sym, ap, subst, ◌∙◌, arith, append_assoc, append-nil, length-append}
+use Rattle.std.proofs.lemmas.Bool.{eq-eqb}
+use Rattle.std.proofs.lemmas.List.{map-append}
+use Rattle.std.specs.Option.{option_map}
+use Rattle.buffa_bytes.proofs.VarintLemmas.{IsVarint-varint_text}
+use Rattle.buffa_bytes.specs.declared.error.DecodeError.{DecodeError}
+use Rattle.buffa_bytes.specs.declared.error.DecodeError.TheVariants.{ElementMemoryLimitExceeded, OutOfMemory, WireTypeMismatch}
+use Rattle.buffa_bytes.specs.declared.error.EncodeError.{EncodeError}
+use Rattle.buffa_bytes.specs.declared.wire_type.WireType.{WireType}
+use Rattle.buffa_bytes.specs.declared.wire_type.WireType.TheVariants.{Varint, Fixed64, LengthDelimited, StartGroup, EndGroup, Fixed32}
+use Rattle.buffa_wire.proofs.PassLemmas.{appended_twice, done, next_front, next_past, refused, written_none, written_short, written_then}
+use Rattle.buffa_wire.specs.BudgetLeft.{BudgetLeft, Lacks, Pays, PaysAtMost, plus, units}
+use Rattle.buffa_wire.specs.Cache.{Cache}
+use Rattle.buffa_wire.specs.Field.{Payload}
+use Rattle.buffa_wire.specs.Number.{IsNumber}
+use Rattle.buffa_wire.specs.Parse.{Fits}
+use Rattle.buffa_wire.specs.Passes.{IsNext, IsSized, IsSmall, IsWritten, cap}
+use Rattle.buffa_wire.specs.Records.{bytes, records_of}
+use Rattle.buffa_wire.specs.Text.{records_text}
+use Rattle.buffa_wire.specs.Values.{delimited_text, tag_text}
+use Rattle.buffa_wire.specs.Varint.{varint_text}
+use Rattle.buffa_map.proofs.BackLemmas.{is_tag}
+use Rattle.buffa_map.proofs.EntryLemmas.{same_false}
+use Rattle.buffa_fields.specs.LayoutLaws.{failed, sized_more, small_both, sum}
+use Rattle.buffa_fields.specs.ListLaws.{means_cut, means_more, text_cut, text_next}
+use Rattle.buffa_fields.specs.Lists.{Each, element_records}
+use Rattle.buffa_fields.specs.Nested.{message_cost, message_in}
+use Rattle.buffa_fields.specs.NestedLaws.{delimited_alone, message_wire_err, taken_back}
+use Rattle.buffa_fields.specs.RepeatedNested.{messages_cost, messages_levels, messages_records, messages_slots, messages_taken}
+use Rattle.buffa_fields.specs.Takes.{IsTaken, Leads, Need, Piece, ReadsBack, Stays, joined}
+
+-- ---- costs
+pub messages_stay : (each : ℕ) (cost : ℕ → List ℕ → BudgetLeft) → Stays (messages_cost each cost)
+unfolding messages_cost
+messages_stay each cost d n Varint p x h = refl
+messages_stay each cost d n Fixed64 p x h = refl
+messages_stay each cost d n StartGroup p x h = refl
+messages_stay each cost d n EndGroup p x h = refl
+messages_stay each cost d n Fixed32 p x h = refl
+messages_stay each cost d n LengthDelimited p x h = let u = delimited_alone d n LengthDelimited p x (p ++ x) refl h refl in rw (u.1, u.2) refl
+
+module _ {X : Type 0} (merged : ℕ → X → List ℕ → Option X) (each : ℕ) (cost : ℕ → List ℕ → BudgetLeft) (d n : ℕ) (w : WireType) (old new : X) (bs rest : List ℕ) (before after : BudgetLeft) where
+  -- what a message costs that is merged, with its own units
+  costs : w ≡ LengthDelimited → messages_cost each cost d n w bs ≡ plus (units each) (message_cost cost d n w bs)
+  unfolding messages_cost message_cost
+  costs wire = rw wire refl
+
+  -- a field of another wire type costs nothing
+  costs_none : w ≢ LengthDelimited → messages_cost each cost d n w bs ≡ message_cost cost d n w bs
+  unfolding messages_cost message_cost
+  costs_none other = rw (same_false LengthDelimited w other) refl
+
+  abbrev taken_for : BudgetLeft → Result (Unit {0}) DecodeError → Type 0
+  taken_for need r = IsTaken (message_in merged) (λ d n w bs. need) d old n w bs before r new after rest
+
+  pub charged : w ≡ LengthDelimited → (mid : BudgetLeft) → mid.memory + each ≡ before.memory → mid.unknown ≡ before.unknown → (r : Result (Unit {0}) DecodeError) →
+      IsTaken (message_in merged) (message_cost cost) d old n w bs mid r new after rest → IsTaken (message_in merged) (messages_cost each cost) d old n w bs before r new after rest
+  charged wire mid paid same (Ok _) (p, payload, split, m, pays) =
+      subst (λ z. taken_for z (Ok tt)) (sym (costs wire)) (p, payload, split, m, (omega (arith, pays.0, same), omega (arith, pays.1, paid)))
+  charged wire mid paid same (Err e) (pays, why, full) =
+      subst (λ z. taken_for z (Err e)) (sym (costs wire)) (
+        (omega (arith, pays.0, same), omega (arith, pays.1, same), omega (arith, pays.2, paid), omega (arith, pays.3, paid)),
+        λ ne. elim (why ne) [
+          | inl (inl few) ↦ inl (inl (omega (arith, few, same)))
+          | inl (inr few) ↦ inl (inr (omega (arith, few, paid)))
+          | inr bad ↦ inr bad
+        ],
+        full,
+      )
+
+  -- the units aren't left
+  pub uncharged : w ≡ LengthDelimited → before.memory < each → after ≡ before → (e : DecodeError) → e ≡ ElementMemoryLimitExceeded → IsTaken (message_in merged) (messages_cost each cost) d old n w bs before (let r : Result (Unit {0}) DecodeError = Err e in r) new after rest
+  uncharged wire few still e is =
+      let a = ap (λ (z : BudgetLeft). z.unknown) still in
+      let b = ap (λ (z : BudgetLeft). z.memory) still in
+      subst (λ z. taken_for z (Err e)) (sym (costs wire)) (
+        (omega (arith, a), omega (arith, a), omega (arith, b), omega (arith, b)),
+        λ ne. inl (inr (omega (arith, few))),
+        λ full end. let two = sym full ∙ is in cc,
+      )
+
+  pub uncharged_wire : w ≢ LengthDelimited → (e : DecodeError) → e ≡ WireTypeMismatch n LengthDelimited w → after ≡ before → IsTaken (message_in merged) (messages_cost each cost) d old n w bs before (let r : Result (Unit {0}) DecodeError = Err e in r) new after rest
+  uncharged_wire other e is still =
+      subst (λ z. taken_for z (Err e)) (sym (costs_none other)) (message_wire_err merged cost d n w old new bs rest before after e other is still)
+
+-- ---- sizes and texts, message by message
+module _ {X : Type 0} (text slots : X → List ℕ) where
+  abbrev own : X → List ℕ
+  own v = cap (length (text v)) ∷ slots v
+
+  slots_two : (vs us : List X) → messages_slots text slots (vs ++ us) ≡ messages_slots text slots vs ++ messages_slots text slots us
+  unfolding messages_slots
+  slots_two [] us = refl
+  slots_two (v ∷ vs) us = ap (λ (z : List ℕ). own v ++ z) (slots_two vs us) ∙ sym (append_assoc (own v) (messages_slots text slots vs) (messages_slots text slots us))
+
+  slots_one : (v : X) → messages_slots text slots (v ∷ []) ≡ own v
+  unfolding messages_slots
+  slots_one v = append-nil (own v)
+
+  module _ (n : ℕ) where
+    -- no messages
+    pub sized_none : (c : Cache) → IsSized (records_text (messages_records text n [])) (messages_slots text slots []) c (sum 0) c
+    unfolding element_records messages_slots
+    sized_none c = (refl, λ i. record { slots = sym (append-nil c.slots) i; next = c.next })
+
+    pub written_no : (c : Cache) (b : List ℕ) → IsWritten (records_text (messages_records text n [])) (messages_slots text slots []) c b done c b
+    unfolding element_records messages_slots
+    written_no c b = written_none (IsSmall []) c b
+
+    module _ {P : Type 0} (meaning : P → X) (xs : List P) (i : ℕ) (x : P) (lt : i < length xs) (is : x ≡ get_or xs i x) where
+      abbrev text_to : ℕ → List ℕ
+      text_to k = records_text (messages_records text n (map meaning (take k xs)))
+
+      abbrev slots_to : ℕ → List ℕ
+      slots_to k = messages_slots text slots (map meaning (take k xs))
+
+      abbrev here : List ℕ
+      here = records_text ((n, bytes (text (meaning x))) ∷ [])
+
+      abbrev all : List ℕ
+      all = records_text (messages_records text n (map meaning xs))
+
+      abbrev all_slots : List ℕ
+      all_slots = messages_slots text slots (map meaning xs)
+
+      abbrev later : List X
+      later = map meaning (drop (i + 1) xs)
+
+      text_on : text_to (i + 1) ≡ text_to i ++ here
+      text_on = text_next (λ v. bytes (text v)) n meaning xs i x lt is
+
+      slots_on : slots_to (i + 1) ≡ slots_to i ++ own (meaning x)
+      slots_on =
+          ap (messages_slots text slots) (means_more meaning xs i x lt is) ∙ slots_two (map meaning (take i xs)) (meaning x ∷ []) ∙ ap (λ (z : List ℕ). slots_to i ++ z) (slots_one (meaning x))
+
+      slots_cut : all_slots ≡ slots_to i ++ (own (meaning x) ++ messages_slots text slots later)
+      slots_cut =
+          ap (messages_slots text slots) (means_cut meaning xs i x lt is) ∙ slots_two (map meaning (take i xs)) (meaning x ∷ later)
+          ∙ ap (λ (z : List ℕ). slots_to i ++ z) (slots_two (meaning x ∷ []) later ∙ ap (λ (z : List ℕ). z ++ messages_slots text slots later) (slots_one (meaning x)))
+
+      -- the size pass goes on, or stops
+      pub size_on : (c0 c1 c2 : Cache) (total len new : ℕ) → IsSized (text_to i) (slots_to i) c0 (sum total) c1 → IsSized here (own (meaning x)) c1 (sum len) c2 → new ≡ min (total + len) 4294967295 →
+          IsSized (text_to (i + 1)) (slots_to (i + 1)) c0 (sum new) c2
+      size_on c0 c1 c2 total len new h k e =
+          subst (λ (z : List ℕ). IsSized z (slots_to (i + 1)) c0 (sum new) c2) (sym text_on)
+          (subst (λ (z : List ℕ). IsSized (text_to i ++ here) z c0 (sum new) c2) (sym slots_on) (sized_more (text_to i) here (slots_to i) (own (meaning x)) c0 c1 c2 total len new h k e))
+
+      pub size_stops : (c0 c1 c2 : Cache) (total : ℕ) (e : EncodeError) → IsSized (text_to i) (slots_to i) c0 (sum total) c1 → IsSized here (own (meaning x)) c1 (failed e) c2 → IsSized all all_slots c0 (failed e) c2
+      size_stops c0 c1 c2 total e h (which, longer) = (which, (slots_to i ++ longer.0, longer.1 ∙ appended_twice (slots_to i) longer.0 c0 c1 h.1))
+
+      -- the sizes that are next
+      pub next_of : (c0 c1 : Cache) (b0 b1 : List ℕ) → IsNext all_slots c0 → IsWritten (text_to i) (slots_to i) c0 b0 done c1 b1 → IsNext (own (meaning x)) c1
+      next_of c0 c1 b0 b1 h k =
+          next_front (own (meaning x)) (messages_slots text slots later) c1
+          (subst (λ z. IsNext (own (meaning x) ++ messages_slots text slots later) z) (sym k.2.0)
+          (next_past (slots_to i) (own (meaning x) ++ messages_slots text slots later) c0 (subst (λ (z : List ℕ). IsNext z c0) slots_cut h)))
+
+      -- the write pass goes on, or stops
+      with_this : (r : Result (Unit {0}) EncodeError) (c0 c1 c2 : Cache) (b0 b1 b2 : List ℕ) → IsWritten (text_to i) (slots_to i) c0 b0 done c1 b1 → IsWritten here (own (meaning x)) c1 b1 r c2 b2 →
+          IsWritten (text_to i ++ here) (slots_to i ++ own (meaning x)) c0 b0 r c2 b2
+      with_this r c0 c1 c2 b0 b1 b2 h k =
+          written_then (IsSmall (text_to i)) (IsSmall here) (IsSmall (text_to i ++ here)) (text_to i) here (slots_to i) (own (meaning x)) c0 c1 c2 b0 b1 b2 (small_both (text_to i) here) r h k
+
+      pub write_on : (c0 c1 c2 : Cache) (b0 b1 b2 : List ℕ) → IsWritten (text_to i) (slots_to i) c0 b0 done c1 b1 → IsWritten here (own (meaning x)) c1 b1 done c2 b2 →
+          IsWritten (text_to (i + 1)) (slots_to (i + 1)) c0 b0 done c2 b2
+      write_on c0 c1 c2 b0 b1 b2 h k =
+          subst (λ (z : List ℕ). IsWritten z (slots_to (i + 1)) c0 b0 done c2 b2) (sym text_on)
+          (subst (λ (z : List ℕ). IsWritten (text_to i ++ here) z c0 b0 done c2 b2) (sym slots_on) (with_this done c0 c1 c2 b0 b1 b2 h k))
+
+      pub write_stops : (c0 c1 c2 : Cache) (b0 b1 b2 : List ℕ) (e : EncodeError) → IsWritten (text_to i) (slots_to i) c0 b0 done c1 b1 → IsWritten here (own (meaning x)) c1 b1 (refused e) c2 b2 →
+          IsWritten all all_slots c0 b0 (refused e) c2 b2
+      write_stops c0 c1 c2 b0 b1 b2 e h k =
+          let rest = records_text (messages_records text n later) in
+          let more = messages_slots text slots later in
+          let both = text_to i ++ here in
+          let slots = slots_to i ++ own (meaning x) in
+          subst (λ (z : List ℕ). IsWritten z all_slots c0 b0 (refused e) c2 b2) (sym (text_cut (λ v. bytes (text v)) n meaning xs i x lt is))
+          (subst (λ (z : List ℕ). IsWritten (both ++ rest) z c0 b0 (refused e) c2 b2) (append_assoc (slots_to i) (own (meaning x)) more ∙ sym slots_cut)
+          (written_short (IsSmall both) (IsSmall rest) (IsSmall (both ++ rest)) both rest slots more c0 c2 c2 b0 b2 b2
+          (λ s. (small_both both rest s).0) e (with_this (refused e) c0 c1 c2 b0 b1 b2 h k)))
+
+-- ---- the text reads back
+module _ {X : Type 0} (merged : ℕ → X → List ℕ → Option X) (blank : X) (text : X → List ℕ) (level : X → ℕ) (Normal : X → Type 0)
+    (back : (d : ℕ) (v : X) → Normal v → level v ≤ d → merged d blank (text v) ≡ Some v) (n : ℕ) (number : IsNumber n) where
+  abbrev piece : X → Piece
+  piece v = record { tag = tag_text n LengthDelimited; number = n; wire = LengthDelimited; payload = delimited_text (text v) }
+
+  spelled_all : (vs : List X) → records_text (messages_records text n vs) ≡ joined (map piece vs)
+  unfolding element_records
+  spelled_all [] = refl
+  spelled_all (v ∷ vs) = ap (λ (z : List ℕ). (tag_text n LengthDelimited ++ delimited_text (text v)) ++ z) (spelled_all vs)
+
+  leads_all : (d : ℕ) (acc vs : List X) → Fits (records_of (messages_records text n vs)) → Each Normal vs → messages_levels level vs ≤ d →
+      Leads (messages_taken blank merged) (λ m. m == n) d acc (map piece vs) (acc ++ vs)
+  unfolding element_records
+  leads_all d acc [] fits normal low = sym (append-nil acc)
+  leads_all d acc (v ∷ vs) fits normal low = (
+    eq-eqb n n refl,
+    is_tag n LengthDelimited number,
+    (varint_text (length (text v)), text v, IsVarint-varint_text (length (text v)) fits.1, refl),
+    acc ++ v ∷ [],
+    ap (option_map (λ x. acc ++ x ∷ [])) (taken_back merged blank text level Normal back n number d v fits.1 normal.0 (omega (arith, low))),
+    subst (λ z. Leads (messages_taken blank merged) (λ m. m == n) d (acc ++ v ∷ []) (map piece vs) z) (append_assoc acc (v ∷ []) vs) (leads_all d (acc ++ v ∷ []) vs fits.2 normal.1 (omega (arith, low))),
+  )
+
+  pub messages_back : (d : ℕ) (vs : List X) → Fits (records_of (messages_records text n vs)) → Each Normal vs → messages_levels level vs ≤ d →
+      ReadsBack (messages_taken blank merged) (λ m. m == n) d [] (records_text (messages_records text n vs)) vs
+  messages_back d vs fits normal low = record { pieces = map piece vs; spelled = spelled_all vs; leads = leads_all d [] vs fits normal low }

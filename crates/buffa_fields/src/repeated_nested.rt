@@ -1,0 +1,172 @@
+//! Members that are lists of messages.
+
+ghost use Rattle.std.specs.Prelude.{[], ◌≡◌, ◌==◌, map};
+ghost use Rattle.buffa_wire.specs.BudgetLeft.{budget_left};
+ghost use Rattle.buffa_wire.specs.Number.{IsNumber};
+ghost use Rattle.buffa_wire.specs.Parse.{Fits};
+ghost use Rattle.buffa_wire.specs.Passes.{IsNext, IsSized, IsWritten};
+ghost use Rattle.buffa_wire.specs.Records.{records_of};
+ghost use Rattle.buffa_wire.specs.Text.{records_text};
+ghost use Rattle.buffa_fields.specs.Lists.{Each};
+ghost use Rattle.buffa_fields.specs.Nested.{message_in};
+ghost use Rattle.buffa_fields.specs.RepeatedNested.{messages_cost, messages_levels, messages_records, messages_slots, messages_taken};
+ghost use Rattle.buffa_fields.specs.RepeatedNestedLaws.{messages_back, messages_stay};
+ghost use Rattle.buffa_fields.specs.Takes.{IsTaken};
+
+use crate::member::Member;
+use crate::nested::{message_len, write_message};
+use buffa_wire::{
+    Blank, DecodeContext, DecodeError, EncodeError, EncodeSink, Message, MessageSpec, SizeCache,
+    Tag, WireType, check_wire_type,
+};
+use std::alloc::Global;
+use std::marker::PhantomData;
+
+// Merges the length and the message of the field whose tag was read, which costs what an element does.
+fn take_charged<N: Message>(
+    alloc: Global,
+    message: &mut N,
+    tag: Tag,
+    buf: &mut &[u8],
+    ctx: DecodeContext<'_>,
+) -> Result<(), DecodeError>
+    ensures { IsTaken (message_in N.merged) (messages_cost N.COST N.cost) ctx.entry.depth (N.meaning message.old)
+        tag.number tag.wire_type buf.old.now ctx.entry.budget.now result (N.meaning message.new) (budget_left ctx.exit)
+        buf.new.now }
+{
+    match check_wire_type(tag, WireType::LengthDelimited) {
+        Ok(()) => {}
+        Err(error) => return Err(error),
+    }
+    let DecodeContext { depth, budget } = ctx;
+    match budget.take_memory(N::COST) {
+        Ok(()) => {}
+        Err(error) => return Err(error),
+    }
+    let lent = DecodeContext {
+        depth,
+        budget: &mut *budget,
+    };
+    message.merge_length_delimited(alloc, buf, lent)
+}
+
+// Merges the message of the field whose tag was read into a default one, and puts it behind the others.
+fn take_message<N: Message>(
+    alloc: Global,
+    messages: &mut Vec<N>,
+    tag: Tag,
+    buf: &mut &[u8],
+    ctx: DecodeContext<'_>,
+) -> Result<(), DecodeError>
+    ensures { IsTaken (messages_taken N.blank_is N.merged) (messages_cost N.COST N.cost) ctx.entry.depth
+        (map N.meaning messages.old.items) tag.number tag.wire_type buf.old.now ctx.entry.budget.now result
+        (map N.meaning messages.new.items) (budget_left ctx.exit) buf.new.now }
+{
+    let mut message = N::blank(alloc);
+    match take_charged(alloc, &mut message, tag, buf, ctx) {
+        Ok(()) => {}
+        Err(error) => return Err(error),
+    }
+    let Ok(()) = messages.push(message) else {
+        return Err(DecodeError::OutOfMemory);
+    };
+    Ok(())
+}
+
+// The length of the records of messages, or 2^32 - 1 where it is more. The slots of each are appended.
+fn messages_len<N: Message>(
+    number: u32,
+    messages: &[N],
+    cache: &mut SizeCache,
+) -> Result<u32, EncodeError>
+    requires { IsNumber number }
+    ensures { let vs = map N.meaning messages.now in IsSized (records_text (messages_records N.text number vs))
+        (messages_slots N.text N.slots vs) cache.old result cache.new }
+{
+    let mut total: u32 = 0;
+    for message in messages {
+        match message_len(number, message, cache) {
+            Ok(len) => total = total.saturating_add(len),
+            Err(error) => return Err(error),
+        }
+    }
+    Ok(total)
+}
+
+// Writes a record for each message, whose slots are next.
+fn write_messages<N: Message, S: EncodeSink>(
+    number: u32,
+    messages: &[N],
+    cache: &mut SizeCache,
+    sink: &mut S,
+) -> Result<(), EncodeError>
+    requires number { IsNumber number }
+    requires next { IsNext (messages_slots N.text N.slots (map N.meaning messages.now)) cache.old }
+    ensures { let vs = map N.meaning messages.now in IsWritten (records_text (messages_records N.text number vs))
+        (messages_slots N.text N.slots vs) cache.old (S.written sink.old) result cache.new (S.written sink.new) }
+{
+    for message in messages {
+        match write_message(number, message, cache, sink) {
+            Ok(()) => {}
+            Err(error) => return Err(error),
+        }
+    }
+    Ok(())
+}
+
+/// A list of messages: each record is a new element, which costs its type's units of element memory, and what is in it.
+///
+/// ```ignore
+/// visitor.visit::<RepeatedNested<Inventory>>(2, &self.stocks); // repeated Inventory stocks = 2;
+/// ```
+pub struct RepeatedNested<N> {
+    of: PhantomData<N>,
+}
+
+impl<N: Message> Member for RepeatedNested<N> {
+    type Part = Vec<N>;
+
+    type Meaning = [<N as Blank>::Meaning; 0];
+
+    ghost slot = { record {
+      meaning = λ p. map N.meaning p.items;
+      blank = [];
+      takes = messages_taken N.blank_is N.merged;
+      need = messages_cost N.COST N.cost;
+      records = messages_records N.text;
+      slots = messages_slots N.text N.slots;
+      levels = messages_levels N.levels;
+      normal = λ vs. Each (λ x. N.normal x × Fits (records_of (N.records x))) vs;
+      stays = messages_stay N.COST N.cost;
+    } };
+
+    fn len(number: u32, part: &Vec<N>, cache: &mut SizeCache) -> Result<u32, EncodeError> {
+        messages_len(number, part.as_slice(), cache)
+    }
+
+    fn write_to<S: EncodeSink>(
+        number: u32,
+        part: &Vec<N>,
+        cache: &mut SizeCache,
+        sink: &mut S,
+    ) -> Result<(), EncodeError> {
+        write_messages(number, part.as_slice(), cache, sink)
+    }
+
+    #[tactic(auto, unfolding(crate::specs::Layout::Took))]
+    fn merge(
+        part: &mut Vec<N>,
+        alloc: Global,
+        tag: Tag,
+        buf: &mut &[u8],
+        ctx: DecodeContext<'_>,
+    ) -> Result<(), DecodeError> {
+        take_message(alloc, part, tag, buf, ctx)
+    }
+
+    ghost back = { record {
+      back = λ n number d v fits normal low. messages_back N.merged N.blank_is N.text N.levels
+          (λ x. N.normal x × Fits (records_of (N.records x)))
+          (λ d v ok low. N.MessageSpec.merged_text d v ok.1 ok.0 low) n number d v fits normal low;
+    } };
+}
