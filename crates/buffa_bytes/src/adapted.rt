@@ -18,7 +18,7 @@ use std::alloc::Allocator;
 ///
 /// ```ignore
 /// let mut both = Adapted(front.chain(back)); // two `Bytes`, an entry cut anywhere
-/// merge_entry::<Str, Int32, _, _>(alloc, &mut counts, &mut both, ctx)?;
+/// merge_entry::<Str, Int32, _, _>(alloc, counts, &mut both, ctx)?;
 /// let (front, back) = both.0.into_inner();
 /// ```
 #[derive(Drop)]
