@@ -1,11 +1,12 @@
 //! Typed extensions, under upstream's names.
 //!
 //! ```ignore
-//! use buffa::extension::{Extension, ExtensionSet, codecs};
+//! use buffa::extension::codecs::Int32;
+//! use buffa::extension::{Extension, ExtensionSet};
 //!
-//! let weight: Extension<codecs::Int32> = Extension::new(50001, "example.Parcel");
-//! parcel.set_extension(alloc, &weight, 7)?;
-//! let seven = parcel.extension(alloc, &weight)?;
+//! let ext = Extension::<Int32>::new(7, "test.Carrier");
+//! carrier.set_extension(alloc, &ext, value)?;
+//! let read = carrier.extension(alloc, &ext)?; // Some(value)
 //! ```
 
 pub use buffa_ext::{

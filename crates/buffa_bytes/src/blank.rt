@@ -11,7 +11,7 @@ use std::alloc::Global;
 /// the same may differ in capacity or layout, and no contract speaks of that.
 ///
 /// ```ignore
-/// let empty: String = Blank::blank(alloc);
+/// let empty: Bytes = Blank::blank(alloc);
 /// ```
 pub trait Blank: Drop {
     /// What two values have in common that mean the same. No value of it is made; `[u8; 0]` stands for a

@@ -16,8 +16,7 @@ use std::alloc::Global;
 /// the lender nor the bytes past its limit, whatever is read and however that ends.
 ///
 /// ```ignore
-/// let mut rest: &[u8] = &[0x96, 0x01, 7];
-/// let number = decode_varint(&mut rest)?; // 150, and `rest` is [7]
+/// let number = decode_varint(&mut rest)?; // of 96 01 07: 150, and `rest` is 07 then
 /// ```
 pub trait Buf {
     /// The bytes that are left.
@@ -109,8 +108,7 @@ fn move_bytes<B: Buf>(buf: &mut B, len: usize, bytes: &mut Vec<u8>) -> Result<()
 /// byte that is left.
 ///
 /// ```ignore
-/// let rest: &[u8] = b"abc";
-/// let ab = front(&rest, 2); // "ab", and `rest` is "abc" still
+/// let ab = front(&rest, 2); // of "abc": Some("ab"), and `rest` is "abc" still
 /// ```
 pub fn front<B: Buf>(buf: &B, len: u64) -> Option<&[u8]>
     ensures { MatchOption result (MayBeCut len (B.unread buf.now)) (λ part. IsFrontOf part.now len (B.unread buf.now)) }

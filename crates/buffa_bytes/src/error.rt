@@ -41,7 +41,7 @@ impl Error for MessageSetFault {}
 /// wire types as their numbers: `WireTypeMismatch 1 2 0`.
 ///
 /// ```ignore
-/// let refused = decode_varint(&mut rest) == Err(DecodeError::UnexpectedEof);
+/// let refused = decode_bytes(alloc, &mut rest).err(); // of 02 DE: Some(DecodeError::UnexpectedEof)
 /// ```
 #[derive(Clone, Copy, Debug, PartialEq, Eq)]
 pub enum DecodeError {
@@ -121,7 +121,7 @@ impl Error for DecodeError {}
 /// `Display` prints the variant's name, and after `GroupRefused` a space and the text of what it holds.
 ///
 /// ```ignore
-/// let refused = sink.put_slice(b"text") == Err(EncodeError::OutOfMemory);
+/// let refused = EncodeError::GroupRefused(DecodeError::InvalidUtf8); // prints GroupRefused InvalidUtf8
 /// ```
 #[derive(Clone, Copy, Debug, PartialEq, Eq)]
 pub enum EncodeError {

@@ -11,9 +11,9 @@ use crate::buf::Buf;
 /// kept, whatever is read and however that ends. A limit may be set within a limit.
 ///
 /// ```ignore
-/// let mut front = Limited::new(&mut rest, 3);
-/// let number = decode_varint(&mut front)?;
-/// front.finish(); // `rest` is past the three bytes
+/// let mut within = Limited::new(buf, limit);
+/// let number = decode_varint(&mut within)?;
+/// within.finish(); // `buf` is past all of these bytes
 /// ```
 #[derive(Drop)]
 pub struct Limited<'a, B> {
@@ -25,7 +25,7 @@ impl<'a, B: Buf> Limited<'a, B> {
     /// Lends the first `limit` bytes, which have to be there.
     ///
     /// ```ignore
-    /// let mut front = Limited::new(&mut rest, 3);
+    /// let mut within = Limited::new(buf, limit);
     /// ```
     pub fn new(inner: &'a mut B, limit: usize) -> Limited<'a, B>
         requires { limit ≤ length (B.unread inner.old) }
@@ -41,7 +41,7 @@ impl<B: Buf> Limited<'_, B> {
     /// Passes over what is left within the limit, and ends the loan.
     ///
     /// ```ignore
-    /// Limited::new(&mut rest, 3).finish(); // `rest` is past three bytes
+    /// within.finish(); // the buffer is past all bytes within the limit
     /// ```
     #[tactic(auto, using(crate::proofs::LimitLemmas::drop_min))]
     pub fn finish(self)

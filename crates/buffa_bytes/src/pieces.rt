@@ -10,8 +10,9 @@ use std::marker::Model;
 /// Slices that are read one after another, as if they lay together; empty ones may be among them.
 ///
 /// ```ignore
-/// let mut pieces = Pieces::new(&[&[0x96], &[], &[0x01]]);
-/// let number = decode_varint(&mut pieces)?; // 150
+/// let parts: [&[u8]; 3] = [&text[..cut], &[], &text[cut..]];
+/// let mut pieces = Pieces::new(&parts);
+/// let number = decode_varint(&mut pieces)?; // of 96, nothing, and 01: 150
 /// ```
 #[derive(Drop)]
 pub struct Pieces<'a> {
@@ -34,7 +35,7 @@ impl<'a> Pieces<'a> {
     /// Reads the slices in order. They have fewer than 2^64 bytes together.
     ///
     /// ```ignore
-    /// let mut pieces = Pieces::new(&[b"ab", b"", b"c"]);
+    /// let mut pieces = Pieces::new(&parts);
     /// ```
     pub fn new(pieces: &'a [&'a [u8]]) -> Pieces<'a>
         requires { length (joined pieces.now) < 2 ^ 64 }

@@ -16,8 +16,8 @@ use std::alloc::Global;
 /// pattern.
 ///
 /// ```ignore
-/// let word = <String as ProtoString>::from_wire(alloc, b"bee")?;
-/// let text = ProtoString::as_str(&word); // "bee"
+/// let word = <String as ProtoString>::from_wire(alloc, bytes)?;
+/// let text = ProtoString::as_str(&word); // "bee", of 62 65 65
 /// ```
 pub trait ProtoString: Blank {
     /// The text of a meaning, as bytes.
@@ -55,8 +55,8 @@ pub trait ProtoString: Blank {
 /// A type that holds a bytes field: each value has bytes, and any bytes are those of a value.
 ///
 /// ```ignore
-/// let dead = <Vec<u8> as ProtoBytes>::from_wire(alloc, &[0xDE, 0xAD])?;
-/// let bytes = ProtoBytes::as_bytes(&dead);
+/// let dead = P::from_wire(alloc, part)?;
+/// let bytes = ProtoBytes::as_bytes(&dead); // those of `part`
 /// ```
 pub trait ProtoBytes: Blank {
     /// The bytes of a meaning.

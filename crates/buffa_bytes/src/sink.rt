@@ -9,7 +9,8 @@ use crate::error::EncodeError;
 ///
 /// ```ignore
 /// let mut text = Vec::new(alloc);
-/// encode_varint(150, &mut text)?; // 96 01
+/// text.put_slice(b"ab")?;
+/// text.put_byte(b'c')?; // 61 62 63
 /// ```
 pub trait EncodeSink {
     /// The bytes so far.

@@ -17,7 +17,7 @@ pub const MAX_FIELD_NUMBER: u32 = 536_870_911;
 /// "Message Structure".
 ///
 /// ```ignore
-/// let tag = Tag::new(1, WireType::Varint); // 08
+/// let tag = Tag::new(9, WireType::Varint); // 48
 /// ```
 #[derive(Clone, Copy, Debug, PartialEq, Eq)]
 pub struct Tag {
@@ -41,7 +41,7 @@ impl Tag {
     /// A tag of a number from 1 to [`MAX_FIELD_NUMBER`].
     ///
     /// ```ignore
-    /// let tag = Tag::new(5, WireType::LengthDelimited);
+    /// let tag = Tag::new(number, WireType::LengthDelimited);
     /// ```
     pub fn new(number: u32, wire_type: WireType) -> Tag
         requires { IsNumber number }
@@ -71,7 +71,7 @@ impl Tag {
     /// [`EncodeError::OutOfMemory`] alone, after a beginning of the spelling.
     ///
     /// ```ignore
-    /// Tag::new(5, WireType::LengthDelimited).encode(&mut text)?; // 2A
+    /// Tag::new(number, WireType::LengthDelimited).encode(sink)?; // 2A for 5
     /// ```
     pub fn encode<S: EncodeSink>(self, sink: &mut S) -> Result<(), EncodeError>
         ensures writes { Writes result (S.written sink.old) (tag_text self.number self.wire_type) (S.written sink.new) }
@@ -89,8 +89,7 @@ impl Tag {
     /// stays unread then. It takes no memory.
     ///
     /// ```ignore
-    /// let mut rest: &[u8] = &[0x2A];
-    /// let tag = Tag::decode(&mut rest)?;
+    /// let tag = Tag::decode(&mut rest)?; // of 2A: number 5, WireType::LengthDelimited
     /// ```
     #[tactic(auto, unfolding(crate::specs::Reading::tag_at, crate::specs::Reading::tag_of, crate::specs::Left::past_no_tag))]
     pub fn decode<B: Buf>(buf: &mut B) -> Result<Tag, DecodeError>

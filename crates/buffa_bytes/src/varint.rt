@@ -15,8 +15,7 @@ use crate::sink::EncodeSink;
 /// Takes the next byte, where one is left.
 ///
 /// ```ignore
-/// let mut rest: &[u8] = &[7];
-/// let seven = take_byte(&mut rest);
+/// let seven = take_byte(&mut rest); // of 07: Some(7)
 /// ```
 #[tactic(auto, using(crate::proofs::TailLemmas::tail_whole, crate::proofs::TailLemmas::tail_dropped))]
 pub fn take_byte<B: Buf>(buf: &mut B) -> Option<u8>
@@ -40,8 +39,7 @@ pub fn take_byte<B: Buf>(buf: &mut B) -> Option<u8>
 /// Source: the protobuf encoding guide, "Base 128 Varints".
 ///
 /// ```ignore
-/// let mut rest: &[u8] = &[0x96, 0x01];
-/// let number = decode_varint(&mut rest)?; // 150
+/// let number = decode_varint(&mut rest)?; // of 96 01: 150
 /// ```
 #[tactic(auto, unfolding(crate::specs::Reading::varint_at, crate::specs::Reading::varint_within))]
 #[inline]
@@ -106,7 +104,7 @@ fn decode_digits<B: Buf>(buf: &mut B) -> Result<u64, DecodeError>
 /// [`EncodeError::OutOfMemory`] alone, after a beginning of the spelling.
 ///
 /// ```ignore
-/// encode_varint(150, &mut text)?; // 96 01
+/// encode_varint(number, &mut text)?; // 96 01 for 150
 /// ```
 #[tactic(auto, using(crate::proofs::ShortestLemmas::v_laws))]
 pub fn encode_varint<S: EncodeSink>(n: u64, sink: &mut S) -> Result<(), EncodeError>
@@ -124,7 +122,7 @@ pub fn encode_varint<S: EncodeSink>(n: u64, sink: &mut S) -> Result<(), EncodeEr
 /// The length of the shortest spelling of a number, 1 to 10 bytes.
 ///
 /// ```ignore
-/// let two = varint_len(150);
+/// let len = varint_len(number); // 2 for 150
 /// ```
 pub fn varint_len(n: u64) -> usize
     ensures { result ≡ length (varint_text n) }
@@ -136,7 +134,7 @@ pub fn varint_len(n: u64) -> usize
 /// The length of a length prefix, 1 to 10 bytes: that of its varint. Most lengths are below 128, and have one byte.
 ///
 /// ```ignore
-/// let one = prefix_len(3);
+/// let prefix = prefix_len(len); // 1 for 3
 /// ```
 #[tactic(auto, using(crate::proofs::ShortestLemmas::v_laws))]
 #[inline(always)]

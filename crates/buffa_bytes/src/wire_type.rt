@@ -8,8 +8,7 @@ ghost use Rattle.buffa_bytes.specs.WireType.{wire_kind, wire_number};
 /// The numbers 6 and 7 name no wire type. Source: the protobuf encoding guide, "Message Structure".
 ///
 /// ```ignore
-/// let wire_type = WireType::LengthDelimited;
-/// prove!(wire_type.number() == 2);
+/// check_wire_type(tag, WireType::LengthDelimited)?; // whose number is 2
 /// ```
 #[derive(Clone, Copy, Debug, PartialEq, Eq)]
 pub enum WireType {
@@ -31,7 +30,7 @@ impl WireType {
     /// The number in a tag, 0 to 5.
     ///
     /// ```ignore
-    /// let five = WireType::Fixed32.number();
+    /// let number = expected.number(); // 5 for WireType::Fixed32
     /// ```
     pub fn number(self) -> u32
         ensures { result ≡ wire_number self }
@@ -49,7 +48,7 @@ impl WireType {
     /// The wire type of a number, or `None` from 6 on.
     ///
     /// ```ignore
-    /// let varint = WireType::from_number(0);
+    /// let wire_type = WireType::from_number(value % 8); // Some(WireType::Varint) for 8
     /// ```
     pub fn from_number(number: u64) -> Option<WireType>
         ensures { result ≡ wire_kind number }

@@ -19,7 +19,7 @@ use std::alloc::{AllocError, Global};
 ///
 /// ```ignore
 /// let value = Int32::decode(alloc, 7, &fields)?;
-/// Repeated::<Int32>::encode(alloc, 7, numbers, &mut fields)?;
+/// Repeated::<Int32>::encode(alloc, 7, vec![in alloc; 3, 300]?, &mut fields)?;
 /// ```
 pub trait ExtensionCodec {
     /// The Rust type of the values that are written.
@@ -127,8 +127,8 @@ pub trait ExtensionCodec {
 /// How one record is read as a value, and a value is written as one record.
 ///
 /// ```ignore
-/// let value = Uint32::decode_one(alloc, &field.payload)?;
-/// let payload = Uint32::encode_one(alloc, &42)?;
+/// let one = Int32::encode_one(alloc, &-7)?;
+/// let value = Int32::decode_one(alloc, &one)?; // Some(-7)
 /// ```
 pub trait SingularCodec {
     /// The Rust type of the values.
@@ -256,7 +256,7 @@ pub trait SingularCodec {
 /// How values are packed into the bytes of one record.
 ///
 /// ```ignore
-/// Int32::encode_packed(&300, &mut bytes)?; // AC 02
+/// C::encode_packed(&value, &mut bytes)?; // AC 02 for 300, where C is Int32
 /// ```
 pub trait PackableCodec: SingularCodec {
     /// The bytes of a value.

@@ -12,7 +12,7 @@ use std::marker::PhantomData;
 /// An enum: read as `int32` is, each number as the declared value that has it, if one has.
 ///
 /// ```ignore
-/// let hue = EnumCodec::<Hue>::decode(alloc, 7, &fields)?;
+/// let hue = EnumCodec::<Old>::decode(alloc, 7, &fields)?; // of 38 01: Some(EnumValue::Known(Old::B))
 /// ```
 pub struct EnumCodec<E> {
     of: PhantomData<E>,

@@ -16,7 +16,7 @@ use std::alloc::{AllocError, Global};
 /// A type of values that are written as one number each. Every [`Scalar`] is one.
 ///
 /// ```ignore
-/// let payload = <Int32 as Numbered>::number_of(&-1); // 18446744073709551615
+/// let number = N::number_of(value); // 18446744073709551615 for -1, where N is Int32
 /// ```
 pub trait Numbered {
     /// The Rust type of the values.

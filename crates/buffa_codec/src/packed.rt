@@ -13,7 +13,7 @@ use std::marker::PhantomData;
 /// A list: one packed record is written, none for no elements. It is read as [`Repeated`] is.
 ///
 /// ```ignore
-/// PackedRepeated::<Int32>::encode(alloc, 7, numbers, &mut fields)?;
+/// PackedRepeated::<Int32>::encode(alloc, 7, vec![in alloc; 4, 5]?, &mut fields)?; // 3A 02 04 05
 /// ```
 pub struct PackedRepeated<C> {
     of: PhantomData<C>,

@@ -18,7 +18,7 @@ use std::marker::PhantomData;
 /// A list: one record an element is written, and packed records are read too.
 ///
 /// ```ignore
-/// let numbers = Repeated::<Int32>::decode(alloc, 7, &fields)?;
+/// Repeated::<Int32>::encode(alloc, 7, vec![in alloc; 3, 300]?, &mut fields)?; // 38 03 38 AC 02
 /// ```
 pub struct Repeated<C> {
     of: PhantomData<C>,

@@ -82,7 +82,7 @@ impl<F: Copy> Copy for Make<F> {}
 /// Every number is taken; records of number 0, and past 536,870,911, never come from bytes.
 ///
 /// ```ignore
-/// let retries = Extension::<Int32>::new(50001, "google.protobuf.MethodOptions");
+/// let ext = Extension::<Int32>::new(50001, "test.Carrier");
 /// ```
 pub struct Extension<C: ExtensionCodec, D = NoDefault> {
     pub(crate) number: u32,
@@ -111,7 +111,7 @@ impl<C: ExtensionCodec> Extension<C> {
     /// An extension of messages of the full name `extendee`, without a default. It takes no memory.
     ///
     /// ```ignore
-    /// let retries = Extension::<Int32>::new(50001, "google.protobuf.MethodOptions");
+    /// let ext = Extension::<Int32>::new(50001, "test.Carrier");
     /// ```
     pub fn new(number: u32, extendee: &'static str) -> Extension<C>
         ensures number { result.number ≡ number }

@@ -24,14 +24,14 @@ use std::marker::PhantomData;
 /// A message, whose text is the bytes of a record.
 ///
 /// ```ignore
-/// let point = MessageCodec::<Point>::decode(alloc, 7, &fields)?;
+/// let one = Extension::<MessageCodec<BudgetMsg>>::new(1, "test.Carrier");
 /// ```
 pub type MessageCodec<M> = MessageIn<Delimited, M>;
 
 /// A message, whose text is that of a group's records.
 ///
 /// ```ignore
-/// let point = GroupCodec::<Point>::decode(alloc, 7, &fields)?;
+/// let one = Extension::<GroupCodec<BudgetMsg>>::new(1, "test.Carrier");
 /// ```
 pub type GroupCodec<M> = MessageIn<Grouped, M>;
 
@@ -137,7 +137,7 @@ impl<K: MessageRecord, M: Message> SingularCodec for MessageIn<K, M> {
 /// cost at most all, and of those behind it nothing. The value is then some value of its type.
 ///
 /// ```ignore
-/// let found = merge_number::<Delimited, Point>(alloc, 7, &fields, &mut budget, &mut point)?;
+/// let found = merge_number::<K, M>(alloc, number, &fields, &mut budget, &mut message)?;
 /// ```
 pub fn merge_number<K: MessageRecord, M: Message>(
     alloc: Global,

@@ -21,9 +21,10 @@ use std::alloc::{AllocError, Global};
 /// An impl gives the list and its name; the calls come with it.
 ///
 /// ```ignore
-/// let retries = Extension::<Int32>::new(50001, "google.protobuf.MethodOptions");
-/// if options.has_extension(&retries) {
-///     let count = options.extension(alloc, &retries)?;
+/// let ext = Extension::<Int32>::new(7, "test.Carrier");
+/// carrier.set_extension(alloc, &ext, value)?;
+/// if carrier.has_extension(&ext) {
+///     let read = carrier.extension(alloc, &ext)?; // Some(value)
 /// }
 /// ```
 pub trait ExtensionSet {
@@ -60,7 +61,7 @@ pub trait ExtensionSet {
     /// are of no use to the codec.
     ///
     /// ```ignore
-    /// let count = options.extension(alloc, &retries)?;
+    /// let read = carrier.extension(alloc, &ext)?;
     /// ```
     final fn extension<C: ExtensionCodec, D>(
         &self,
@@ -133,7 +134,7 @@ pub trait ExtensionSet {
     /// this message.
     ///
     /// ```ignore
-    /// options.clear_extension(&retries);
+    /// carrier.clear_extension(&ext);
     /// ```
     final fn clear_extension<C: ExtensionCodec, D>(&mut self, ext: &Extension<C, D>)
         requires { ext.now.extendee.now ≡ fqn }
@@ -149,7 +150,7 @@ pub trait ExtensionSet {
     /// no memory.
     ///
     /// ```ignore
-    /// let set = options.has_extension(&retries);
+    /// let is_there = carrier.has_extension(&ext);
     /// ```
     final fn has_extension<C: ExtensionCodec, D>(&self, ext: &Extension<C, D>) -> bool
         ensures { IsTrue result ↔ ((ext.now.extendee.now ≡ fqn) × HasRecord ext.now.number (fields_of self.now)) }
@@ -165,7 +166,7 @@ pub trait ExtensionSet {
     /// value is read.
     ///
     /// ```ignore
-    /// let count = options.extension_or_default(alloc, &retries)?;
+    /// let value = carrier.extension_or_default(alloc, &ext)?;
     /// ```
     final fn extension_or_default<
         V: Blank,

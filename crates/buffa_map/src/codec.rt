@@ -36,8 +36,8 @@ pub enum MapValueDecodeStatus {
 /// How the payloads of one proto type are read.
 ///
 /// ```ignore
-/// let mut value = 0;
-/// let status = <Int32 as MapValueDecode>::merge(alloc, &mut value, &mut rest, ctx)?;
+/// let mut value = C::Value::blank(alloc);
+/// let status = C::merge(alloc, &mut value, &mut rest, ctx)?;
 /// ```
 pub trait MapValueDecode: sealed::Sealed {
     /// The Rust type of the values.
@@ -120,8 +120,8 @@ pub trait MapValueDecode: sealed::Sealed {
 /// How the payloads of one proto type are read and written.
 ///
 /// ```ignore
-/// let len = <Int32 as MapCodec>::encoded_len(&7);
-/// <Int32 as MapCodec>::encode(&7, &mut text)?; // 07
+/// let len = C::encoded_len(value);
+/// C::encode(value, &mut text)?; // 07 for 7, where C is Int32
 /// ```
 pub trait MapCodec: MapValueDecode {
     /// The length of every payload in bytes, where they have one length.

@@ -222,7 +222,7 @@ pub fn merge_entry<
 /// Source: the protobuf encoding guide, "Maps", and the language guide on unknown values of an enum.
 ///
 /// ```ignore
-/// merge_entry_with_unknowns::<Str, ClosedEnum<Hue>, _, _>(alloc, &mut map, &mut rest, ctx, 5, Some(&mut unknown))?;
+/// merge_entry_with_unknowns::<Int32, ClosedEnum<Shade>, _, _>(alloc, shades, buf, lent, 3, Some(rest))?;
 /// ```
 pub fn merge_entry_with_unknowns<
     KC: MapCodec,

@@ -16,7 +16,7 @@ use std::marker::PhantomData;
 /// A message: a length and so many bytes, which are merged into the value that stands, one level down.
 ///
 /// ```ignore
-/// merge_entry::<Int32, Msg<Point>, _, _>(alloc, &mut points, &mut rest, ctx)?;
+/// read_map_field::<Int32, Msg<TestMsg>, _, _>(alloc, &mut map, 5, &mut rest, ctx, None)?;
 /// ```
 pub struct Msg<M> {
     of: PhantomData<M>,

@@ -19,7 +19,7 @@ use std::fmt;
 /// `Display` prints the text of the error that it holds.
 ///
 /// ```ignore
-/// let refused = RewriteError::Decode(DecodeError::UnexpectedEof); // UnexpectedEof
+/// let refused = RewriteError::Decode(fault); // prints UnexpectedEof for DecodeError::UnexpectedEof
 /// ```
 #[derive(Clone, Copy, Debug, PartialEq, Eq)]
 pub enum RewriteError {
@@ -94,7 +94,7 @@ fn write_with<
 /// Source: the protobuf language guide on unknown values of an enum in a map.
 ///
 /// ```ignore
-/// rewrite_map_field::<Int32, ClosedEnum<Hue>, _, _, _>(alloc, &mut map, 5, &mut rest, ctx, &mut text)?;
+/// rewrite_map_field::<Int32, ClosedEnum<Choice>, _, _, _>(alloc, &mut pairs, number, &mut rest, ctx, text)?;
 /// ```
 pub fn rewrite_map_field<
     KC: MapCodec,

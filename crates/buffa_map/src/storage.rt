@@ -18,8 +18,8 @@ use std::alloc::AllocError;
 /// A map, seen as the set of its pairs. Keys that are equal under the map's own equality are one key.
 ///
 /// ```ignore
-/// let mut map: BTreeMap<String, i32> = BTreeMap::new(alloc);
-/// map.storage_insert(key, 7)?;
+/// let mut map: BTreeMap<i32, i32> = BTreeMap::new(alloc);
+/// map.storage_insert(key, value)?;
 /// ```
 pub trait MapStorage {
     /// The type of the keys.

@@ -44,7 +44,7 @@ const MAX_TYPE_ID: u64 = 2_147_483_647;
 /// The sum has to be below 2^64.
 ///
 /// ```ignore
-/// let twelve = item_encoded_len(1000, 5);
+/// let len = item_encoded_len(number, payload_len); // 12 for 1000 and 5
 /// ```
 pub fn item_encoded_len(number: u32, payload_len: usize) -> usize
     requires { item_size number payload_len < 2 ^ 64 }
@@ -99,8 +99,7 @@ pub fn write_item<S: EncodeSink>(
 /// Source: the documentation of buffa, "MessageSet wire format helpers".
 ///
 /// ```ignore
-/// let mut rest: &[u8] = &[0x10, 0x05, 0x1A, 0x01, 0x78, 0x0C];
-/// let (five, x) = merge_item(alloc, &mut rest, ctx)?;
+/// let (number, payload) = merge_item(alloc, &mut rest, ctx)?; // of 10 05 1A 01 78 0C: 5 and "x"
 /// ```
 pub fn merge_item<B: Buf>(
     alloc: Global,

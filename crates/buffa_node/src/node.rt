@@ -325,7 +325,7 @@ fn merge_node_field(
 /// Those of [`Message::merge`]. The node is then what the fields before the refused one make of it.
 ///
 /// ```ignore
-/// merge_node(alloc, &mut node, &[0x12, 0x02, 0x08, 0x01], RECURSION_LIMIT, &mut budget)?;
+/// merge_node(alloc, child, bytes, depth, budget)?;
 /// ```
 #[cycle(merge)]
 pub fn merge_node(

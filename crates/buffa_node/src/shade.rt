@@ -8,7 +8,7 @@ use std::alloc::Global;
 /// Two values; `A` is the default.
 ///
 /// ```ignore
-/// let b = Shade::from_i32(1); // Some(Shade::B)
+/// let is_b = node.shades.get(&2) == Some(&Shade::B);
 /// ```
 #[derive(Clone, Copy, Debug, PartialEq, Eq)]
 pub enum Shade {

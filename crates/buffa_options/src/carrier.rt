@@ -9,8 +9,9 @@ use buffa_wire::UnknownFields;
 /// A list of records, which lends itself to extensions of `test.Carrier`.
 ///
 /// ```ignore
-/// let carrier = Carrier { fields: UnknownFields::decode_from_slice(alloc, &[0x08, 0x05])? };
-/// let five = carrier.extension(alloc, &Extension::<Int32>::new(1, "test.Carrier"))?; // Some(5)
+/// let mut carrier = Carrier { fields: UnknownFields::decode_from_slice(alloc, &[0x08, 0x05, 0x38, 0x09])? };
+/// let ext = Extension::<Int32>::new(7, "test.Carrier");
+/// let nine = carrier.extension(alloc, &ext)?; // Some(9)
 /// ```
 #[derive(Drop)]
 pub struct Carrier {

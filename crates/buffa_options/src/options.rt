@@ -56,7 +56,7 @@ impl ExtensionSet for FieldOptions {
 /// None: reading a number takes no memory.
 ///
 /// ```ignore
-/// let limit = read_int32(alloc, &options, MAX_LENGTH)?; // Some(80)
+/// let limit = read_int32(alloc, &options, 50001)?; // Some(80)
 /// ```
 pub fn read_int32(
     alloc: Global,
@@ -76,7 +76,7 @@ pub fn read_int32(
 /// None: reading a number takes no memory.
 ///
 /// ```ignore
-/// let required = read_bool(alloc, &options, REQUIRED)?; // Some(true)
+/// let required = read_bool(alloc, options, 50013)?; // Some(true)
 /// ```
 pub fn read_bool(
     alloc: Global,
@@ -135,7 +135,7 @@ pub fn read_label(alloc: Global, options: &FieldOptions) -> Result<Option<String
 /// Where memory runs out; never where the records have no number.
 ///
 /// ```ignore
-/// let choices = read_choices(alloc, &options)?; // [1, 2, 300]
+/// let choices = read_choices(alloc, &options_of(alloc, &listed)?)?; // [1, 2, 300]
 /// ```
 pub fn read_choices(alloc: Global, options: &FieldOptions) -> Result<Vec<i32>, AllocError>
     ensures value { IfOk result (λ v. v.items ≡ int32_list 50003 options.now.fields.records) }

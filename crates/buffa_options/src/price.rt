@@ -17,7 +17,7 @@ use std::alloc::Global;
 /// An amount of money in cents.
 ///
 /// ```ignore
-/// let price = Price { cents: 1999 };
+/// let owed = Price { cents: -3 };
 /// ```
 #[derive(Clone, Copy, Debug, PartialEq, Eq)]
 pub struct Price {
@@ -40,7 +40,7 @@ impl Blank for Price {
 /// The codec of prices; `Repeated<PriceCodec>` and `PackedRepeated<PriceCodec>` are those of lists of them.
 ///
 /// ```ignore
-/// let price = Extension::<PriceCodec>::new(50021, "google.protobuf.FieldOptions");
+/// let ext = Extension::<PriceCodec>::new(50021, FieldOptions::PROTO_FQN);
 /// ```
 pub struct PriceCodec;
 
@@ -79,7 +79,7 @@ impl Numbered for PriceCodec {
 /// since reading a price takes no memory.
 ///
 /// ```ignore
-/// let stored = store_price(alloc, &mut options, Price { cents: 1999 })?; // Some(Price { cents: 1999 })
+/// let stored = store_price(alloc, &mut options, owed)?; // Some(owed)
 /// ```
 pub fn store_price(
     alloc: Global,

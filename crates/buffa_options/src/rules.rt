@@ -34,7 +34,7 @@ pub enum Violation {
 /// None: reading numbers takes no memory.
 ///
 /// ```ignore
-/// let rules = read_rules(alloc, &options)?; // min 1, max 9, required
+/// let rules = read_rules(alloc, options)?; // min 1, max 9, required
 /// ```
 pub fn read_rules(alloc: Global, options: &FieldOptions) -> Result<Rules, AllocError>
     ensures value { IfOk result (λ r. r ≡ rules_in options.now.fields.records) }
@@ -53,7 +53,7 @@ pub fn read_rules(alloc: Global, options: &FieldOptions) -> Result<Rules, AllocE
 /// The first rule that it breaks: the minimum comes before the maximum.
 ///
 /// ```ignore
-/// let judged = judge(&rules, Some(12)); // Err(Violation::TooGreat)
+/// let judged = judge(&rules, value); // Err(Violation::TooGreat) for Some(12), where 9 is the maximum
 /// ```
 pub fn judge(rules: &Rules, value: Option<i32>) -> Result<(), Violation>
     ensures accepts { IsOk result ↔ Accepts rules.now value }
@@ -85,7 +85,7 @@ pub fn judge(rules: &Rules, value: Option<i32>) -> Result<(), Violation>
 /// None: reading the rules takes no memory.
 ///
 /// ```ignore
-/// let judged = validate(alloc, &options, Some(5))?; // Ok(())
+/// let judged = validate(alloc, &options, value)?; // Ok(()) for Some(5), where 1 to 9 are allowed
 /// ```
 pub fn validate(
     alloc: Global,

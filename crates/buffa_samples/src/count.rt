@@ -21,7 +21,7 @@ use std::alloc::Global;
 /// Each field 9, a varint, counts one; other fields are passed over. It is written as so many zeros.
 ///
 /// ```ignore
-/// message.merge(alloc, &[0x48, 0x00, 0x48, 0x00], ctx)?; // counts two
+/// let most = CountMsg { count: 1_000_000 };
 /// ```
 #[derive(Drop)]
 pub struct CountMsg {

@@ -22,7 +22,7 @@ use std::alloc::Global;
 /// Field 1 is the value, an int32; other fields are passed over.
 ///
 /// ```ignore
-/// merge_entry::<Int32, Msg<FlatMsg>, _, _>(alloc, &mut map, &mut rest, ctx)?;
+/// map.storage_insert(2, FlatMsg { value: -3 })?;
 /// ```
 #[derive(Drop)]
 pub struct FlatMsg {

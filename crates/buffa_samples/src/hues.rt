@@ -9,7 +9,7 @@ use std::alloc::Global;
 /// Two values; `A` is the default.
 ///
 /// ```ignore
-/// let b = Old::from_i32(1); // Some(Old::B)
+/// let b = EnumValue::<Old>::Unknown(1).normal(); // EnumValue::Known(Old::B)
 /// ```
 #[derive(Clone, Copy, Debug, PartialEq, Eq, PartialOrd, Ord)]
 pub enum Old {
@@ -78,7 +78,7 @@ impl PlainKey for Old {
 /// The values of [`Old`], and a third.
 ///
 /// ```ignore
-/// let b = New::from_i32(1); // Some(New::B)
+/// let is_c = map.get(&1).copied() == Some(New::C);
 /// ```
 #[derive(Clone, Copy, Debug, PartialEq, Eq)]
 pub enum New {

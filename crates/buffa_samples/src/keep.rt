@@ -28,7 +28,7 @@ use std::marker::Model;
 /// A field costs a slot of the budget, and so does each field in its groups; what is refused spends nothing.
 ///
 /// ```ignore
-/// message.merge(alloc, &[0x38, 0x96, 0x01], ctx)?; // keeps field 7, the varint 150
+/// message.merge(alloc, bytes, DecodeContext::new(1, &mut budget))?; // of 38 96 01: keeps field 7, the varint 150
 /// ```
 #[derive(Drop)]
 pub struct BudgetMsg {

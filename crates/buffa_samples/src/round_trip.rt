@@ -37,7 +37,7 @@ pub enum TripFault {
 /// as it was; where its bytes couldn't be read it has what the entries before that say.
 ///
 /// ```ignore
-/// through_bytes::<ProtoStringMap<Word>, Bool, _>(alloc, 5, &words, &mut copy)?;
+/// through_bytes::<ProtoStringMap<Word>, Bool, _>(alloc, 1, words, copy)?;
 /// ```
 pub fn through_bytes<
     'a,

@@ -273,7 +273,7 @@ fn merge_tree_field(
 /// Those of [`Message::merge`].
 ///
 /// ```ignore
-/// merge_tree(alloc, &mut tree, &[0x08, 0x05], RECURSION_LIMIT, &mut budget)?;
+/// merge_tree(alloc, child, bytes, depth, budget)?;
 /// ```
 #[cycle(merge)]
 pub fn merge_tree(

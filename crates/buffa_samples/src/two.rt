@@ -22,7 +22,7 @@ use std::alloc::Global;
 /// Fields 1 and 2 are its values, both int32; other fields are passed over.
 ///
 /// ```ignore
-/// merge_entry::<Int32, Msg<TestMsg>, _, _>(alloc, &mut map, &mut rest, ctx)?;
+/// read_map_field::<Int32, Msg<TestMsg>, _, _>(alloc, &mut map, 5, &mut rest, ctx, None)?;
 /// ```
 #[derive(Drop)]
 pub struct TestMsg {

@@ -17,8 +17,8 @@ use std::hash::{Hash, Hasher};
 /// A text; `Bee` and `BEE` are one key, which a map stores as it first came.
 ///
 /// ```ignore
-/// let mut map: Map<Word, i32> = Map::new(alloc);
-/// read_map_field::<ProtoStringMap<Word>, Int32, _, _>(alloc, &mut map, 5, &mut rest, ctx, None)?;
+/// let mut words: Map<Word, bool> = Map::new(alloc);
+/// read_map_field::<ProtoStringMap<Word>, Bool, _, _>(alloc, &mut words, 1, &mut rest, ctx, None)?;
 /// ```
 #[derive(Drop)]
 pub struct Word {

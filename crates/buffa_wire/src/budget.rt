@@ -40,7 +40,7 @@ impl Budget {
     /// A budget of `unknown` slots and [`DEFAULT_ELEMENT_MEMORY_LIMIT`] units of element memory.
     ///
     /// ```ignore
-    /// let budget = Budget::new(10);
+    /// let budget = Budget::new(3);
     /// ```
     pub fn new(unknown: usize) -> Budget
         ensures unknown { result.unknown ≡ unknown }
@@ -55,7 +55,7 @@ impl Budget {
     /// The same slots, and `memory` units of element memory.
     ///
     /// ```ignore
-    /// let budget = Budget::new(10).with_element_memory(56);
+    /// let budget = Budget::new(1).with_element_memory(56);
     /// ```
     pub fn with_element_memory(self, memory: usize) -> Budget
         ensures { result ≡ record { unknown = self.unknown; memory = memory } }

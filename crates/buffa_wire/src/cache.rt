@@ -12,8 +12,8 @@ use std::marker::Model;
 ///
 /// ```ignore
 /// let mut cache = SizeCache::new(alloc);
-/// let size = message.compute_size(&mut cache)?;
-/// message.write_to(&mut cache, &mut text)?;
+/// let size = message_field_len::<Int32, FlatMsg, _>(&map, 1, &mut cache)?;
+/// write_message_field::<Int32, FlatMsg, _, _>(&map, 4, &mut cache, &mut text)?;
 /// ```
 #[derive(Drop)]
 pub struct SizeCache {

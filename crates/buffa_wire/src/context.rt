@@ -16,7 +16,7 @@ pub const RECURSION_LIMIT: u32 = 100;
 ///
 /// ```ignore
 /// let lent = DecodeContext { depth: ctx.depth, budget: &mut *ctx.budget };
-/// merge_entry::<Str, Int32, _, _>(alloc, &mut map, buf, lent)?;
+/// merge_entry::<Str, Int32, _, _>(alloc, &mut self.counts, buf, lent)?;
 /// ```
 #[derive(Drop)]
 pub struct DecodeContext<'a> {

@@ -9,8 +9,8 @@ use std::alloc::Global;
 /// An enum: each value has a number, and no two have one. A value means its number.
 ///
 /// ```ignore
-/// let hue = Hue::from_i32(1); // Some(Hue::Green)
-/// let number = Hue::Green.to_i32(); // 1
+/// let b = E::from_i32(number); // Some(Old::B) for 1, where E is Old
+/// let number = value.to_i32(); // 1 for Old::B
 /// ```
 pub trait Enumeration: Blank<Meaning = i32> {
     /// The value that has the number, if one has it.
@@ -35,7 +35,7 @@ pub trait Enumeration: Blank<Meaning = i32> {
 /// A value of an open enum: a declared value, or a number.
 ///
 /// ```ignore
-/// let hue = EnumValue::<Hue>::from_i32(7); // EnumValue::Unknown(7)
+/// let value = EnumValue::<Old>::from_i32(number); // EnumValue::Unknown(7) for 7
 /// ```
 #[derive(Clone, Copy, Debug, PartialEq, Eq, Drop)]
 pub enum EnumValue<E> {
@@ -69,7 +69,7 @@ impl<E: Enumeration> EnumValue<E> {
     /// The value as it is read: the declared value of its number, where one has it. It takes no memory.
     ///
     /// ```ignore
-    /// let hue = EnumValue::<Hue>::Unknown(1).normal(); // EnumValue::Known(Hue::Green)
+    /// let b = EnumValue::<Old>::Unknown(1).normal(); // EnumValue::Known(Old::B)
     /// ```
     pub fn normal(self) -> EnumValue<E>
         ensures { ⟦<EnumValue<E> as Blank>⟧.meaning result

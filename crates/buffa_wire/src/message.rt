@@ -188,7 +188,7 @@ pub trait Message: MessageSpec {
     /// Those of [`Message::merge`]. The value is then some value of its type.
     ///
     /// ```ignore
-    /// message.merge_from_slice(alloc, &[0x08, 0x96, 0x01])?;
+    /// message.merge_from_slice(alloc, bytes)?;
     /// ```
     fn merge_from_slice(&mut self, alloc: Global, bytes: &[u8]) -> Result<(), DecodeError>
         ensures merged { IsMergedAlone (Self.merged RECURSION_LIMIT (Self.meaning self.old) bytes.now)

@@ -18,7 +18,8 @@ use std::marker::Model;
 /// Source: the protobuf encoding guide, "Message Structure".
 ///
 /// ```ignore
-/// let field = UnknownField { number: 7, payload: UnknownFieldData::Varint(150) }; // 38 96 01
+/// let payload = UnknownFieldData::Varint(0);
+/// let field = UnknownField { number: 9, payload }; // 48 00
 /// ```
 #[cycle(fields)]
 #[derive(Debug, Drop)]
@@ -32,7 +33,7 @@ pub struct UnknownField {
 /// What the payload of an unknown field holds, by the wire type of its tag.
 ///
 /// ```ignore
-/// let data = UnknownFieldData::Fixed32(1); // 01 00 00 00
+/// let payload = UnknownFieldData::Varint(0); // 00
 /// ```
 #[cycle(fields)]
 #[derive(Debug, Drop)]
@@ -52,8 +53,7 @@ pub enum UnknownFieldData {
 /// Unknown fields, in the order in which they came.
 ///
 /// ```ignore
-/// let fields = UnknownFields::decode_from_slice(alloc, &[0x38, 0x96, 0x01])?;
-/// prove!(fields.len() == 1);
+/// let fields = UnknownFields::decode_from_slice(alloc, &[0x08, 0x05, 0x38, 0x09])?; // the fields 1 and 7
 /// ```
 #[cycle(fields)]
 #[derive(Debug, Drop)]

@@ -20,7 +20,7 @@ use crate::varint::{decode_varint, encode_varint, varint_len};
 /// The length of an int32's text: 1 to 5 bytes, or 10 for a negative one.
 ///
 /// ```ignore
-/// let ten = int32_encoded_len(-1);
+/// let ten = int32_encoded_len(-2);
 /// ```
 pub fn int32_encoded_len(value: i32) -> usize
     ensures { result ≡ length (int32_text value) }
@@ -35,7 +35,7 @@ pub fn int32_encoded_len(value: i32) -> usize
 /// [`EncodeError::OutOfMemory`] alone, after a beginning of the text.
 ///
 /// ```ignore
-/// encode_int32(-7, &mut text)?; // F9 FF FF FF FF FF FF FF FF 01
+/// encode_int32(-2, &mut text)?; // FE FF FF FF FF FF FF FF FF 01
 /// ```
 pub fn encode_int32<S: EncodeSink>(value: i32, sink: &mut S) -> Result<(), EncodeError>
     ensures writes { Writes result (S.written sink.old) (int32_text value) (S.written sink.new) }
@@ -50,8 +50,7 @@ pub fn encode_int32<S: EncodeSink>(value: i32, sink: &mut S) -> Result<(), Encod
 /// Those of a varint. It takes no memory.
 ///
 /// ```ignore
-/// let mut rest: &[u8] = &[0x2A];
-/// let answer = decode_int32(&mut rest)?; // 42
+/// let answer = decode_int32(&mut rest)?; // of 2A: 42
 /// ```
 pub fn decode_int32<B: Buf>(buf: &mut B) -> Result<i32, DecodeError>
     ensures reads { Gives (λ v. (v, B.unread buf.new)) result (int32_at (B.unread buf.old)) }
@@ -81,7 +80,7 @@ pub fn int64_encoded_len(value: i64) -> usize
 /// [`EncodeError::OutOfMemory`] alone, after a beginning of the text.
 ///
 /// ```ignore
-/// encode_int64(-7, &mut text)?; // F9 FF FF FF FF FF FF FF FF 01
+/// encode_int64(-1, &mut text)?; // FF FF FF FF FF FF FF FF FF 01
 /// ```
 pub fn encode_int64<S: EncodeSink>(value: i64, sink: &mut S) -> Result<(), EncodeError>
     ensures writes { Writes result (S.written sink.old) (int64_text value) (S.written sink.new) }
@@ -96,8 +95,7 @@ pub fn encode_int64<S: EncodeSink>(value: i64, sink: &mut S) -> Result<(), Encod
 /// Those of a varint. It takes no memory.
 ///
 /// ```ignore
-/// let mut rest: &[u8] = &[0x2A];
-/// let answer = decode_int64(&mut rest)?; // 42
+/// let answer = decode_int64(&mut rest)?; // of 2A: 42
 /// ```
 pub fn decode_int64<B: Buf>(buf: &mut B) -> Result<i64, DecodeError>
     ensures reads { Gives (λ v. (v, B.unread buf.new)) result (int64_at (B.unread buf.old)) }
@@ -112,7 +110,7 @@ pub fn decode_int64<B: Buf>(buf: &mut B) -> Result<i64, DecodeError>
 /// The length of a uint32's text: 1 to 5 bytes.
 ///
 /// ```ignore
-/// let two = uint32_encoded_len(150);
+/// let five = uint32_encoded_len(u32::MAX);
 /// ```
 pub fn uint32_encoded_len(value: u32) -> usize
     ensures { result ≡ length (uint32_text value) }
@@ -141,8 +139,7 @@ pub fn encode_uint32<S: EncodeSink>(value: u32, sink: &mut S) -> Result<(), Enco
 /// Those of a varint. It takes no memory.
 ///
 /// ```ignore
-/// let mut rest: &[u8] = &[0x96, 0x01];
-/// let number = decode_uint32(&mut rest)?; // 150
+/// let number = decode_uint32(&mut rest)?; // of 96 01: 150
 /// ```
 pub fn decode_uint32<B: Buf>(buf: &mut B) -> Result<u32, DecodeError>
     ensures reads { Gives (λ v. (v, B.unread buf.new)) result (uint32_at (B.unread buf.old)) }
@@ -157,7 +154,7 @@ pub fn decode_uint32<B: Buf>(buf: &mut B) -> Result<u32, DecodeError>
 /// The length of a uint64's text: 1 to 10 bytes.
 ///
 /// ```ignore
-/// let two = uint64_encoded_len(150);
+/// let ten = uint64_encoded_len(u64::MAX);
 /// ```
 pub fn uint64_encoded_len(value: u64) -> usize
     ensures { result ≡ length (uint64_text value) }
@@ -186,8 +183,7 @@ pub fn encode_uint64<S: EncodeSink>(value: u64, sink: &mut S) -> Result<(), Enco
 /// Those of a varint. It takes no memory.
 ///
 /// ```ignore
-/// let mut rest: &[u8] = &[0x96, 0x01];
-/// let number = decode_uint64(&mut rest)?; // 150
+/// let number = decode_uint64(&mut rest)?; // of 96 01: 150
 /// ```
 pub fn decode_uint64<B: Buf>(buf: &mut B) -> Result<u64, DecodeError>
     ensures reads { Gives (λ v. (v, B.unread buf.new)) result (uint64_at (B.unread buf.old)) }
@@ -201,7 +197,7 @@ pub fn decode_uint64<B: Buf>(buf: &mut B) -> Result<u64, DecodeError>
 /// The length of a sint32's text: 1 to 5 bytes.
 ///
 /// ```ignore
-/// let one = sint32_encoded_len(-1);
+/// let one = sint32_encoded_len(-2);
 /// ```
 pub fn sint32_encoded_len(value: i32) -> usize
     ensures { result ≡ length (sint32_text value) }
@@ -230,8 +226,7 @@ pub fn encode_sint32<S: EncodeSink>(value: i32, sink: &mut S) -> Result<(), Enco
 /// Those of a varint. It takes no memory.
 ///
 /// ```ignore
-/// let mut rest: &[u8] = &[3];
-/// let minus_two = decode_sint32(&mut rest)?;
+/// let minus_two = decode_sint32(&mut rest)?; // of 03
 /// ```
 pub fn decode_sint32<B: Buf>(buf: &mut B) -> Result<i32, DecodeError>
     ensures reads { Gives (λ v. (v, B.unread buf.new)) result (sint32_at (B.unread buf.old)) }
@@ -246,7 +241,7 @@ pub fn decode_sint32<B: Buf>(buf: &mut B) -> Result<i32, DecodeError>
 /// The length of a sint64's text: 1 to 10 bytes.
 ///
 /// ```ignore
-/// let one = sint64_encoded_len(-1);
+/// let ten = sint64_encoded_len(i64::MIN);
 /// ```
 pub fn sint64_encoded_len(value: i64) -> usize
     ensures { result ≡ length (sint64_text value) }
@@ -275,8 +270,7 @@ pub fn encode_sint64<S: EncodeSink>(value: i64, sink: &mut S) -> Result<(), Enco
 /// Those of a varint. It takes no memory.
 ///
 /// ```ignore
-/// let mut rest: &[u8] = &[3];
-/// let minus_two = decode_sint64(&mut rest)?;
+/// let minus_two = decode_sint64(&mut rest)?; // of 03
 /// ```
 pub fn decode_sint64<B: Buf>(buf: &mut B) -> Result<i64, DecodeError>
     ensures reads { Gives (λ v. (v, B.unread buf.new)) result (sint64_at (B.unread buf.old)) }
@@ -312,8 +306,7 @@ pub fn encode_bool<S: EncodeSink>(value: bool, sink: &mut S) -> Result<(), Encod
 /// Those of a varint. It takes no memory.
 ///
 /// ```ignore
-/// let mut rest: &[u8] = &[1];
-/// let yes = decode_bool(&mut rest)?;
+/// let yes = decode_bool(&mut rest)?; // of 01: true
 /// ```
 pub fn decode_bool<B: Buf>(buf: &mut B) -> Result<bool, DecodeError>
     ensures reads { Gives (λ v. (v, B.unread buf.new)) result (bool_at (B.unread buf.old)) }

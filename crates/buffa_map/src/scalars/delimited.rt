@@ -21,7 +21,7 @@ use std::marker::PhantomData;
 /// `string`, held as a type of one's own.
 ///
 /// ```ignore
-/// write_field::<ProtoStringMap<String>, Int32, _, _>(&map, 5, &mut text)?;
+/// read_map_field::<ProtoStringMap<Word>, Bool, _, _>(alloc, &mut words, 1, &mut rest, ctx, None)?;
 /// ```
 pub struct ProtoStringMap<T> {
     of: PhantomData<T>,
@@ -111,7 +111,7 @@ pub type BytesVec = ProtoBytesMap<Vec<u8>>;
 /// `bytes`: a `bytes::Bytes`, which can be shared with no copy.
 ///
 /// ```ignore
-/// BytesBuf::encode(&dead, &mut text)?; // 02 DE AD
+/// read_map_field::<Int32, BytesBuf, _, _>(alloc, &mut shared, 5, &mut rest, ctx, None)?;
 /// ```
 pub struct BytesBuf;
 

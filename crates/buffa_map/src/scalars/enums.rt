@@ -21,7 +21,7 @@ use std::marker::PhantomData;
 /// stood, and the payload isn't a declared one.
 ///
 /// ```ignore
-/// read_map_field::<Int32, ClosedEnum<Hue>, _, _>(alloc, &mut map, 5, &mut rest, ctx, Some(&mut kept))?;
+/// read_map_field::<Int32, ClosedEnum<Old>, _, _>(alloc, &mut map, 5, &mut rest, ctx, Some(&mut unknown))?;
 /// ```
 pub struct ClosedEnum<E> {
     of: PhantomData<E>,
@@ -111,7 +111,7 @@ impl<E: Enumeration> MapCodec for ClosedEnum<E> {
 /// An open enum: any number, as the declared value where one has it.
 ///
 /// ```ignore
-/// write_field::<Int32, OpenEnum<Hue>, _, _>(&map, 2, &mut text)?;
+/// write_field::<Int32, OpenEnum<Old>, _, _>(&map, 5, &mut text)?;
 /// ```
 pub struct OpenEnum<E> {
     of: PhantomData<E>,

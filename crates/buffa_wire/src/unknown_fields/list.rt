@@ -42,7 +42,8 @@ impl UnknownFields {
     ///
     /// ```ignore
     /// for field in fields.iter() {
-    ///     total += u64::from(field.number);
+    ///     let UnknownField { number: _, payload } = field.copy()?;
+    ///     payloads.push(payload)?;
     /// }
     /// ```
     pub fn iter(&self) -> std::slice::Iter<'_, UnknownField>
@@ -57,7 +58,7 @@ impl UnknownFields {
     /// Where no room is left and memory runs out; nothing is changed then.
     ///
     /// ```ignore
-    /// fields.push(UnknownField { number: 7, payload: UnknownFieldData::Varint(150) })?;
+    /// fields.push(UnknownField { number: 9, payload })?;
     /// ```
     #[inline(always)]
     pub fn push(&mut self, field: UnknownField) -> Result<(), AllocError>
@@ -77,7 +78,7 @@ impl UnknownFields {
     /// Where that room is missing and memory runs out; nothing is changed then.
     ///
     /// ```ignore
-    /// fields.reserve(2)?;
+    /// fields.reserve(more.len())?;
     /// ```
     pub fn reserve(&mut self, n: usize) -> Result<(), AllocError>
         ensures records { self.new.records ≡ self.old.records }
@@ -109,7 +110,7 @@ impl UnknownFields {
     /// once, in order. It takes no memory, and leaves no less room.
     ///
     /// ```ignore
-    /// fields.retain(|field| field.number != 7);
+    /// fields.retain(|kept| kept.number == 7);
     /// ```
     pub fn retain<F: FnMut(&UnknownField) -> bool>(&mut self, f: F)
     where

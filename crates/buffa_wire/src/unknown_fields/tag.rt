@@ -12,7 +12,7 @@ impl UnknownFieldData {
     /// The wire type of the field's tag.
     ///
     /// ```ignore
-    /// let varint = UnknownFieldData::Varint(150).wire_type();
+    /// let wire_type = payload.wire_type(); // WireType::Varint for UnknownFieldData::Varint(0)
     /// ```
     pub fn wire_type(&self) -> WireType
         ensures { result ≡ wire_of (datum_of self.now) }
