@@ -8,6 +8,8 @@
 #[cfg(test)]
 mod errors;
 #[cfg(test)]
+mod examples;
+#[cfg(test)]
 mod extensions;
 #[cfg(test)]
 mod facade;
