@@ -25,7 +25,7 @@ pub(crate) mod sealed {
 
 pub use budget::{Budget, DEFAULT_ELEMENT_MEMORY_LIMIT, DEFAULT_UNKNOWN_FIELD_LIMIT};
 pub use buffa_bytes::{
-    Blank, Buf, DecodeError, EncodeError, EncodeSink, Limited, MAX_FIELD_NUMBER, MapKey,
+    Adapted, Blank, Buf, DecodeError, EncodeError, EncodeSink, Limited, MAX_FIELD_NUMBER, MapKey,
     MessageSetFault, Pieces, PlainKey, ProtoBytes, ProtoString, Tag, WireType, check_wire_type,
     decode_varint, encode_varint, prefix_len, skip_field_depth, types, varint_len,
 };
