@@ -1,5 +1,5 @@
 -- Each command has one reply to an input, and each call one answer.
-use Rattle.std.proofs.Common.{◌≡◌, ◌≢◌, ℕ, ℤ, List, [], ◌++◌, Bool, true, false, Option, Some, None, Result, Ok, Err, sym, ap, subst, ◌∙◌, inl, inr}
+use Rattle.std.proofs.Common.{◌≡◌, ◌≢◌, ◌⊎◌, ℕ, ℤ, List, [], ◌++◌, Bool, true, false, Option, Some, None, Result, Ok, Err, sym, ap, subst, ◌∙◌, inl, inr}
 use Rattle.std.specs.Io.KnownBytes.{Appends}
 use Rattle.std.specs.List.Sorted.{IsStrictlySortedBy}
 use Rattle.std.specs.Map.{keys_of}
@@ -7,23 +7,29 @@ use Rattle.std.specs.Ordering.{int_cmp, int_eq}
 use Rattle.std.proofs.lemmas.Cmp.{int_cmp_total}
 use Rattle.buffa_bytes.specs.declared.error.DecodeError.{DecodeError}
 use Rattle.buffa_wire.specs.BudgetLeft.{BudgetLeft}
+use Rattle.buffa_wire.specs.Message.{MergeFault, defaults}
 use Rattle.buffa_wire.specs.Records.{Datum}
 use Rattle.buffa_wire.specs.Text.{records_text}
 use Rattle.buffa_map.specs.Enums.{closed_writing}
 use Rattle.buffa_map.specs.Pairs.{ListsOnce}
 use Rattle.buffa_map.specs.Run.{EntryRecord, fold_entries, undeclared_records}
 use Rattle.buffa_map.specs.Text.{HasText, field_text}
+use Rattle.buffa.specs.Branch.{bare}
+use Rattle.buffa.specs.NodeMeaning as node
+use Rattle.buffa.specs.NodeText as node_text
+use Rattle.buffa.specs.Set.{set_cost, set_merged, set_text}
+use Rattle.buffamap.specs.Again.{IsEncoded, IsReadAgainIn, IsRefused, RepliesToAgain, encoding_reply}
 use Rattle.buffamap.specs.Codecs.{int32_writing}
 use Rattle.buffamap.proofs.Sorting.{same_sorted}
 use Rattle.buffamap.specs.declared.command.Command.{Command}
-use Rattle.buffamap.specs.declared.command.Command.TheVariants.{Ext, Item, Read, Rewrite, Write}
+use Rattle.buffamap.specs.declared.command.Command.TheVariants.{AgainNode, AgainSet, Ext, Item, Read, Rewrite, Write}
 use Rattle.buffamap.specs.Command.{command_of, texts}
 use Rattle.buffamap.specs.Engine.{Answers, Gives, RepliesTo}
 use Rattle.buffamap.specs.Ext.{IsShown, IsShownOf, RepliesToExt, records_of}
 use Rattle.buffamap.specs.Forms.{hex_bytes, without_newline}
 use Rattle.buffamap.specs.Item.{IsFound, IsFoundIn, RepliesToItem, item_from}
 use Rattle.buffamap.specs.Lines.{Pair, lines_of, map_in, same_key}
-use Rattle.buffamap.specs.Pinned.{AnyCallIsPinned, CallIsPinned, ReplyIsPinned, SureCallIsPinned, having, holding}
+use Rattle.buffamap.specs.Pinned.{AnyCallIsPinned, CallIsPinned, LeavesFaultOpen, MayDiffer, NamesFault, ReplyIsPinned, ReplyIsPinnedButForFaults, SureCallIsPinned, having, holding}
 use Rattle.buffamap.specs.Read.{RepliesToBytes, RepliesToRead, RepliesToRun, run_from}
 use Rattle.buffamap.specs.Reply.{Reply, broken, done, hex_line}
 use Rattle.buffamap.specs.Rewrite.{Entry, IsRewritten, IsRewrittenOf, RepliesToRewrite}
@@ -107,14 +113,84 @@ found_in_one (Some bytes) a b h k = found_one (item_from bytes) a b h k
 pub item_pinned : ReplyIsPinned RepliesToItem
 item_pinned = pinned RepliesToItem (λ input a b h k. found_in_one (hex_bytes (without_newline input)) a b h k)
 
+-- ---- a message again
+
+module _ {X : Type 0} (text : X → List ℕ) (meant : Option X) (cost : BudgetLeft) where
+  -- one value has one encoding
+  encoded_one : (a b : Reply) → IsEncoded meant cost text a → IsEncoded meant cost text b → a ≡ b
+  encoded_one a b h k =
+      let same : h.0 ≡ k.0 = ap (λ (x : Option X). elim x as (λ _. X) [ Some v ↦ v | None ↦ h.0 ]) (sym h.1 ∙ k.1) in
+      h.3 ∙ ap (λ v. encoding_reply (text v)) same ∙ sym k.3
+
+  -- bytes that are encoded aren't refused
+  not_both : (a b : Reply) → IsEncoded meant cost text a → IsRefused meant cost b → ⊥
+  not_both a b h k = by k.2
+    where
+      by : MergeFault meant cost defaults k.0 → ⊥
+      by (inl lacks) = h.2 lacks
+      by (inr none) = let no : None ≡ Some h.0 = sym none.0 ∙ h.1 in cc
+
+  names_fault : (a : Reply) → IsRefused meant cost a → NamesFault a
+  names_fault a h = (h.0, h.3)
+
+  again_one : (a b : Reply) → IsEncoded meant cost text a ⊎ IsRefused meant cost a → IsEncoded meant cost text b ⊎ IsRefused meant cost b → (a ≡ b) ⊎ (NamesFault a × NamesFault b)
+  again_one a b (inl h) (inl k) = inl (encoded_one a b h k)
+  again_one a b (inl h) (inr k) = absurd (not_both a b h k)
+  again_one a b (inr h) (inl k) = absurd (not_both b a k h)
+  again_one a b (inr h) (inr k) = inr (names_fault a h, names_fault b k)
+
+-- a reply that names a fault has status 1
+fault_status : (a : Reply) → NamesFault a → a.status ≡ 1
+fault_status a h = ap (λ (r : Reply). r.status) h.1
+
+not_done : {A : Type 0} (text : List ℕ) → NamesFault (done text) → A
+not_done text h = absurd (let no : 0 ≡ 1 = fault_status (done text) h in cc)
+
+accepted : (text : List ℕ) (b : Reply) → (done text ≡ b) ⊎ (NamesFault (done text) × NamesFault b) → b ≡ done text
+accepted text b (inl e) = sym e
+accepted text b (inr h) = not_done text h.0
+
+module _ {X : Type 0} (merged : ℕ → X → List ℕ → Option X) (cost : ℕ → List ℕ → BudgetLeft) (text : X → List ℕ) (blank : X) where
+  abbrev Again : List ℕ → Reply → Type 0
+  Again = RepliesToAgain merged cost text blank
+
+  again_in_one : (o : Option (List ℕ)) (a b : Reply) → IsReadAgainIn merged cost text blank o a → IsReadAgainIn merged cost text blank o b → (a ≡ b) ⊎ (NamesFault a × NamesFault b)
+  again_in_one None a b h k = inl (h ∙ sym k)
+  again_in_one (Some bytes) a b h k = again_one text (merged 100 blank bytes) (cost 100 bytes) a b h k
+
+  again_of_one : (input : List ℕ) (a b : Reply) → Again input a → Again input b → (a ≡ b) ⊎ (NamesFault a × NamesFault b)
+  again_of_one input a b h k = again_in_one (hex_bytes (without_newline input)) a b h k
+
+  pub again_pinned : ReplyIsPinnedButForFaults Again
+  again_pinned = record { one = again_of_one; accepted = λ input out b h k. accepted out b (again_of_one input (done out) b h k) }
+
 -- ---- a call
 
-command_one : (c : Command) (input : List ℕ) (a b : Reply) → RepliesTo c input a → RepliesTo c input b → a ≡ b
-command_one (Read n) = (read_pinned n).one
-command_one (Write n) = (write_pinned n).one
-command_one (Rewrite n) = (rewrite_pinned n).one
-command_one (Ext n) = (ext_pinned n).one
-command_one Item = item_pinned.one
+-- two replies are one, or two names of a fault that is open
+abbrev AreOne : Option Command → Reply → Reply → Type 0
+AreOne o a b = (a ≡ b) ⊎ (LeavesFaultOpen o × NamesFault a × NamesFault b)
+
+or_open : (o : Option Command) (a b : Reply) → LeavesFaultOpen o → (a ≡ b) ⊎ (NamesFault a × NamesFault b) → AreOne o a b
+or_open o a b left (inl e) = inl e
+or_open o a b left (inr h) = inr (left, h.0, h.1)
+
+command_one : (c : Command) (input : List ℕ) (a b : Reply) → RepliesTo c input a → RepliesTo c input b → AreOne (Some c) a b
+command_one (Read n) input a b h k = inl ((read_pinned n).one input a b h k)
+command_one (Write n) input a b h k = inl ((write_pinned n).one input a b h k)
+command_one (Rewrite n) input a b h k = inl ((rewrite_pinned n).one input a b h k)
+command_one (Ext n) input a b h k = inl ((ext_pinned n).one input a b h k)
+command_one Item input a b h k = inl (item_pinned.one input a b h k)
+command_one AgainNode input a b h k = or_open (Some AgainNode) a b tt (again_of_one node.merged node.cost node_text.text bare input a b h k)
+command_one AgainSet input a b h k = or_open (Some AgainSet) a b tt (again_of_one set_merged set_cost set_text [] input a b h k)
+
+module _ (o : Option Command) (a b : Reply) where
+  one_status : AreOne o a b → a.status ≡ b.status
+  one_status (inl e) = ap (λ (r : Reply). r.status) e
+  one_status (inr h) = fault_status a h.1 ∙ sym (fault_status b h.2)
+
+  one_complaint : AreOne o a b → a.complaint ≡ b.complaint
+  one_complaint (inl e) = ap (λ (r : Reply). r.complaint) e
+  one_complaint (inr h) = ap (λ (r : Reply). r.complaint) h.1.1 ∙ sym (ap (λ (r : Reply). r.complaint) h.2.1)
 
 -- the reply of a command to its input, where neither memory nor the reader is told
 known_reply : (c : Command) (f : Bool) (input : List ℕ) (a : Reply) → Answers (Some c) (having f input) a → a.status ≢ 4 → (a ≡ broken → f ≡ true → ⊥) → RepliesTo c input a
@@ -123,8 +199,8 @@ known_reply c f input a (inr (inl h)) memory whole = absurd (memory (ap (λ (r :
 known_reply c f input a (inr (inr h)) memory whole = absurd (whole h.0 h.1)
 
 reply_one : (o : Option Command) (f : Bool) (input : List ℕ) (a b : Reply) → Answers o (having f input) a → Answers o (having f input) b → (a.status ≢ 4) × (b.status ≢ 4) →
-    (a ≡ broken → f ≡ true → ⊥) × (b ≡ broken → f ≡ true → ⊥) → a ≡ b
-reply_one None f input a b h k memory whole = h ∙ sym k
+    (a ≡ broken → f ≡ true → ⊥) × (b ≡ broken → f ≡ true → ⊥) → AreOne o a b
+reply_one None f input a b h k memory whole = inl (h ∙ sym k)
 reply_one (Some c) f input a b h k memory whole = command_one c input a b (known_reply c f input a h memory.0 whole.0) (known_reply c f input b k memory.1 whole.1)
 
 never : {A : Type 0} → false ≡ true → A
@@ -143,24 +219,32 @@ told_whole : (old text : List ℕ) (p : Known) → Writes (holding false old p) 
 told_whole old text p (inl w) = grown old text p w
 told_whole old text p (inr w) = never w.1
 
+-- what stands on the output of two replies
+one_output : (words : List (Bor (List ℕ))) (out : List ℕ) (x y : Reply) (a b : Known) (s : ℕ) → AreOne (command_of (texts words)) x y → s ≡ x.status → a ≡ Some (out ++ x.text) → b ≡ Some (out ++ y.text) →
+    (a ≡ b) ⊎ MayDiffer words s
+one_output words out x y a b s (inl e) status h k = inl (h ∙ ap (λ (r : Reply). Some (out ++ r.text)) e ∙ sym k)
+one_output words out x y a b s (inr o) status h k = inr (o.0, status ∙ fault_status x o.1)
+
 sure_pinned : (words : List (Bor (List ℕ))) (input out err : List ℕ) → SureCallIsPinned words input out err
 sure_pinned words input out err a b p q s t h k (x, y) =
     let g = given h.0 (holding false out a) (holding false err p) s h.2 (λ _ e. never e) in
     let f = given k.0 (holding false out b) (holding false err q) t k.2 (λ _ e. never e) in
-    let same : h.0 ≡ k.0 = reply_one (command_of (texts words)) false input h.0 k.0 h.1 k.1 (λ e. x (g.0 ∙ e), λ e. y (f.0 ∙ e)) (λ _ e. never e, λ _ e. never e) in (
-      g.0 ∙ ap (λ (r : Reply). r.status) same ∙ sym f.0,
-      grown out h.0.text a g.1 ∙ ap (λ (r : Reply). Some (out ++ r.text)) same ∙ sym (grown out k.0.text b f.1),
-      told_whole err h.0.complaint p g.2 ∙ ap (λ (r : Reply). Some (err ++ r.complaint)) same ∙ sym (told_whole err k.0.complaint q f.2),
+    let o : Option Command = command_of (texts words) in
+    let same : AreOne o h.0 k.0 = reply_one o false input h.0 k.0 h.1 k.1 (λ e. x (g.0 ∙ e), λ e. y (f.0 ∙ e)) (λ _ e. never e, λ _ e. never e) in (
+      g.0 ∙ one_status o h.0 k.0 same ∙ sym f.0,
+      one_output words out h.0 k.0 a b s same g.0 (grown out h.0.text a g.1) (grown out k.0.text b f.1),
+      told_whole err h.0.complaint p g.2 ∙ ap (λ z. Some (err ++ z)) (one_complaint o h.0 k.0 same) ∙ sym (told_whole err k.0.complaint q f.2),
     )
 
 any_pinned : (words : List (Bor (List ℕ))) (input out err : List ℕ) → AnyCallIsPinned words input out err
 any_pinned words input out err m n l a b p q s t h k x y =
     let g = given h.0 (holding n out a) (holding l err p) s h.2 (λ e _. x.0 e) in
     let f = given k.0 (holding n out b) (holding l err q) t k.2 (λ e _. y.0 e) in
-    let same : h.0 ≡ k.0 = reply_one (command_of (texts words)) m input h.0 k.0 h.1 k.1 (λ e. x.1 (g.0 ∙ e), λ e. y.1 (f.0 ∙ e))
+    let o : Option Command = command_of (texts words) in
+    let same : AreOne o h.0 k.0 = reply_one o m input h.0 k.0 h.1 k.1 (λ e. x.1 (g.0 ∙ e), λ e. y.1 (f.0 ∙ e))
     (λ e _. x.0 (g.0 ∙ ap (λ (r : Reply). r.status) e), λ e _. y.0 (f.0 ∙ ap (λ (r : Reply). r.status) e)) in (
-      g.0 ∙ ap (λ (r : Reply). r.status) same ∙ sym f.0,
-      grown out h.0.text a g.1 ∙ ap (λ (r : Reply). Some (out ++ r.text)) same ∙ sym (grown out k.0.text b f.1),
+      g.0 ∙ one_status o h.0 k.0 same ∙ sym f.0,
+      one_output words out h.0 k.0 a b s same g.0 (grown out h.0.text a g.1) (grown out k.0.text b f.1),
     )
 
 pub call_pinned : (words : List (Bor (List ℕ))) → CallIsPinned words

@@ -6,8 +6,10 @@ use Rattle.std.specs.Cmp.Lexicographic.{nat_list_cmp_total, slice_cmp}
 use Rattle.std.specs.Int.{w32}
 use Rattle.std.specs.Ordering.{int_cmp, int_eq, nat_cmp}
 use Rattle.buffa_bytes.specs.declared.error.DecodeError.{DecodeError}
-use Rattle.buffa_wire.specs.BudgetLeft.{BudgetLeft}
+use Rattle.buffa_bytes.specs.declared.error.DecodeError.TheVariants.{UnexpectedEof}
+use Rattle.buffa_wire.specs.BudgetLeft.{BudgetLeft, Lacks}
 use Rattle.buffa_wire.specs.ErrorText.{decode_error_text}
+use Rattle.buffa_wire.specs.Message.{defaults}
 use Rattle.buffa_wire.specs.Records.{Datum}
 use Rattle.buffa_wire.specs.Text.{records_text}
 use Rattle.buffa_map.specs.Enums.{ClosedFits, closed_writing}
@@ -15,6 +17,7 @@ use Rattle.buffa_map.specs.Laws.{RunsAreRead}
 use Rattle.buffa_map.specs.Pairs.{ListsOnce}
 use Rattle.buffa_map.specs.Run.{EntryRecord, fold_entries, undeclared_records}
 use Rattle.buffa_map.specs.Text.{AllHold, HasText, entry_text, field_text}
+use Rattle.buffamap.specs.Again.{IsEncoded, IsReadAgainIn, IsRefused, RepliesToAgain, encoding_reply}
 use Rattle.buffamap.specs.Choice.{two_numbers}
 use Rattle.buffamap.specs.Codecs.{int32_reading, int32_writing}
 use Rattle.buffamap.specs.Ext.{IsShown, IsShownOf, RepliesToExt, ext_text, records_of}
@@ -75,6 +78,38 @@ found_in_there (Some bytes) = found_there (item_from bytes)
 
 pub item_there : HasReply RepliesToItem
 item_there input = found_in_there (hex_bytes (without_newline input))
+
+-- ---- a message again
+
+-- a budget has what bytes cost, or it hasn't
+affords : (cost : BudgetLeft) → Lacks defaults cost ⊎ (Lacks defaults cost → ⊥)
+affords cost = both (cases_lt defaults.unknown cost.unknown) (cases_lt defaults.memory cost.memory)
+  where
+    both : (defaults.unknown < cost.unknown) ⊎ (cost.unknown ≤ defaults.unknown) → (defaults.memory < cost.memory) ⊎ (cost.memory ≤ defaults.memory) → Lacks defaults cost ⊎ (Lacks defaults cost → ⊥)
+    both (inl a) b = inl (inl a)
+    both (inr a) (inl b) = inl (inr b)
+    both (inr a) (inr b) = inr (none a b)
+      where
+        none : (cost.unknown ≤ defaults.unknown) → (cost.memory ≤ defaults.memory) → Lacks defaults cost → ⊥
+        none a b (inl h) = omega (arith, a, h)
+        none a b (inr h) = omega (arith, b, h)
+
+module _ {X : Type 0} (text : X → List ℕ) (cost : BudgetLeft) where
+  abbrev Told : Option X → Type 0
+  Told meant = (reply : Reply) × (IsEncoded meant cost text reply ⊎ IsRefused meant cost reply)
+
+  again_there_of : (meant : Option X) → Lacks defaults cost ⊎ (Lacks defaults cost → ⊥) → Told meant
+  again_there_of None b = (fault (decode_error_text UnexpectedEof), inr (UnexpectedEof, λ e. cc, inr (refl, λ h. h), refl))
+  again_there_of (Some v) (inl lacks) = (fault (decode_error_text UnexpectedEof), inr (UnexpectedEof, λ e. cc, inl lacks, refl))
+  again_there_of (Some v) (inr paid) = (encoding_reply (text v), inl (v, refl, paid, refl))
+
+module _ {X : Type 0} (merged : ℕ → X → List ℕ → Option X) (cost : ℕ → List ℕ → BudgetLeft) (text : X → List ℕ) (blank : X) where
+  again_in_there : (o : Option (List ℕ)) → (reply : Reply) × IsReadAgainIn merged cost text blank o reply
+  again_in_there None = (bad_input, refl)
+  again_in_there (Some bytes) = again_there_of text (cost 100 bytes) (merged 100 blank bytes) (affords (cost 100 bytes))
+
+  pub again_there : HasReply (RepliesToAgain merged cost text blank)
+  again_there input = again_in_there (hex_bytes (without_newline input))
 
 -- ---- a rewrite
 

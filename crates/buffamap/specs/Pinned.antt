@@ -1,7 +1,12 @@
 -- What the reply relations leave open: nothing, but for what is said here.
-use Rattle.std.specs.Prelude.{◌≡◌, ◌≢◌, ℕ, List, Bool, false, Some}
+use Rattle.std.specs.Prelude.{◌≡◌, ◌≢◌, ◌⊎◌, ℕ, List, Bool, false, Option, Some}
+use Rattle.buffa_bytes.specs.declared.error.DecodeError.{DecodeError}
+use Rattle.buffa_wire.specs.ErrorText.{decode_error_text}
+use Rattle.buffamap.specs.declared.command.Command.{Command}
+use Rattle.buffamap.specs.declared.command.Command.TheVariants.{AgainNode, AgainSet}
+use Rattle.buffamap.specs.Command.{command_of, texts}
 use Rattle.buffamap.specs.Engine.{AnswersCall}
-use Rattle.buffamap.specs.Reply.{Reply, done}
+use Rattle.buffamap.specs.Reply.{Reply, done, fault}
 use Rattle.buffamap.specs.Streams.{Change, Known, Source}
 use denote.Ref.{Bor}
 
@@ -9,6 +14,15 @@ use denote.Ref.{Bor}
 pub record ReplyIsPinned (R : List ℕ → Reply → Type 0) : Type 0 where
   pub one : (input : List ℕ) (a b : Reply) → R input a → R input b → a ≡ b
   pub refused : (input text : List ℕ) (b : Reply) → R input (done text) → R input b → b.status ≡ 0
+
+-- bytes are refused, and why is told
+abbrev pub NamesFault : Reply → Type 0
+NamesFault reply = (e : DecodeError) × (reply ≡ fault (decode_error_text e))
+
+-- one input has one reply, but that why its bytes are refused may be told in two ways; what is accepted has one
+pub record ReplyIsPinnedButForFaults (R : List ℕ → Reply → Type 0) : Type 0 where
+  pub one : (input : List ℕ) (a b : Reply) → R input a → R input b → (a ≡ b) ⊎ (NamesFault a × NamesFault b)
+  pub accepted : (input text : List ℕ) (b : Reply) → R input (done text) → R input b → b ≡ done text
 
 -- every input has a reply
 abbrev pub HasReply : (List ℕ → Reply → Type 0) → Type 0
@@ -21,15 +35,26 @@ having may_fail input = record { bytes = Some input; may_fail = may_fail }
 abbrev pub holding : Bool → List ℕ → Known → Change
 holding may_fail old new = record { old = Some old; new = new; may_fail = may_fail }
 
+-- which fault is told of bytes that are refused is open, of these commands alone
+abbrev pub LeavesFaultOpen : Option Command → Type 0
+LeavesFaultOpen (Some AgainNode) = Unit {0}
+LeavesFaultOpen (Some AgainSet) = Unit {0}
+LeavesFaultOpen _ = ⊥
+
+-- so that two outputs may differ, of words that name such a command, where the status is 1
+abbrev pub MayDiffer : List (Bor (List ℕ)) → ℕ → Type 0
+MayDiffer words status = LeavesFaultOpen (command_of (texts words)) × (status ≡ 1)
+
 -- what is said of two answers to one call
 module _ (words : List (Bor (List ℕ))) (input out err : List ℕ) where
-  -- streams that never fail: where memory doesn't run out, one status, and the writers are left in one way
+  -- streams that never fail: where memory doesn't run out, one status, and the writers are left in one way, but for the
+  -- name of such a fault
   abbrev pub SureCallIsPinned : Type 0
   SureCallIsPinned =
       (a b p q : Known) (s t : ℕ) →
       AnswersCall words (having false input) (holding false out a) (holding false err p) s →
       AnswersCall words (having false input) (holding false out b) (holding false err q) t →
-      (s ≢ 4) × (t ≢ 4) → (s ≡ t) × (a ≡ b) × (p ≡ q)
+      (s ≢ 4) × (t ≢ 4) → (s ≡ t) × ((a ≡ b) ⊎ MayDiffer words s) × (p ≡ q)
 
   -- any streams: where memory doesn't run out, and no stream may have failed, one status, and one output
   abbrev pub AnyCallIsPinned : Type 0
@@ -37,7 +62,7 @@ module _ (words : List (Bor (List ℕ))) (input out err : List ℕ) where
       (f g h : Bool) (a b p q : Known) (s t : ℕ) →
       AnswersCall words (having f input) (holding g out a) (holding h err p) s →
       AnswersCall words (having f input) (holding g out b) (holding h err q) t →
-      (s ≢ 3) × (s ≢ 4) → (t ≢ 3) × (t ≢ 4) → (s ≡ t) × (a ≡ b)
+      (s ≢ 3) × (s ≢ 4) → (t ≢ 3) × (t ≢ 4) → (s ≡ t) × ((a ≡ b) ⊎ MayDiffer words s)
 
 -- one call has one answer
 abbrev pub CallIsPinned : List (Bor (List ℕ)) → Type 0

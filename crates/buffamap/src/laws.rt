@@ -3,15 +3,17 @@
 
 ghost use Rattle.std.specs.Prelude.{◌≡◌, false};
 ghost use Rattle.buffa_wire.specs.Number.{IsNumber};
+ghost use Rattle.buffamap.specs.Again.{RepliesToAgain};
 ghost use Rattle.buffamap.specs.Ext.{RepliesToExt};
 ghost use Rattle.buffamap.specs.Item.{RepliesToItem};
-ghost use Rattle.buffamap.specs.Pinned.{CallIsPinned, HasReply, ReplyIsPinned};
+ghost use Rattle.buffamap.specs.Pinned.{CallIsPinned, HasReply, ReplyIsPinned, ReplyIsPinnedButForFaults};
 ghost use Rattle.buffamap.specs.Read.{RepliesToRead};
 ghost use Rattle.buffamap.specs.Rewrite.{RepliesToRewrite, RewriteKeepsMeaning};
 ghost use Rattle.buffamap.specs.Write.{RepliesToWrite};
 
 use crate::calls::{ReadCalls, SureCalls, WriteCalls};
 use crate::choice::Choice;
+use buffa::MessageSpec;
 use buffa::map_codec::{ClosedEnum, Int32};
 use std::io::Sink;
 
@@ -58,6 +60,13 @@ pub fn one_reply_to_item()
     ensures there { HasReply RepliesToItem }
 {}
 
+/// `again` has one reply to each input that it accepts, and refuses every other; of any message. Which fault is told of
+/// bytes that are refused is left open, and memory: the reply may be that it ran out.
+pub fn one_reply_to_again<M: MessageSpec>()
+    ensures one { ReplyIsPinnedButForFaults (RepliesToAgain M.merged M.cost M.text M.blank_is) }
+    ensures there { HasReply (RepliesToAgain M.merged M.cost M.text M.blank_is) }
+{}
+
 /// A call of bytes in memory, as a reader, or of a sink that keeps nothing, as a writer, never fails. Nothing is open.
 pub fn sure_calls_never_fail()
     ensures reader { ⟦<SureCalls as ReadCalls<&'static [u8]>>⟧.may_fail ≡ false }
@@ -65,8 +74,8 @@ pub fn sure_calls_never_fail()
 {}
 
 /// One call of the program has one status, and leaves its output and its errors in one way, where no call of its streams
-/// may fail; where one may, it has one output still, if its status is neither 3 nor 4. Left open: that memory ran out;
-/// whether a stream that may fail did, and what of a line stands then, which is a beginning of it; and a reader or a
+/// may fail; where one may, it has one output still, if its status is neither 3 nor 4. Left open: that memory ran out; which
+/// fault `again` tells of bytes that it refuses; whether a stream that may fail did, and what of a line stands then, which is a beginning of it; and a reader or a
 /// writer that doesn't tell its bytes.
 pub fn one_answer_to_a_call(words: &[&str])
     ensures { CallIsPinned words.now }

@@ -13,7 +13,8 @@ use std::alloc::{AllocError, Global};
 use std::io::Write;
 
 /// The line of words that are no command.
-pub const USAGE: &[u8] = b"usage: buffamap read N | write N | rewrite N | item | ext N\n";
+pub const USAGE: &[u8] =
+    b"usage: buffamap read N | write N | rewrite N | item | ext N | again node | again set\n";
 
 const FAILED: &[u8] = b"buffamap: input or output failed\n";
 
