@@ -2,67 +2,45 @@
 """Runs the built program from outside, and compares standard output, standard error and exit status, byte for byte.
 
 What no contract can say stands here: that `main` hands on the real streams, that status 3 comes from a read or a
-write that failed and status 4 from memory that was refused. Prints a line for each group; exits with 1 on any
-difference. Needs python3 and gcc. `rt ci` leaves the program; where there is none, `rt run` builds it.
+write that failed and status 4 from memory that was refused. The rows are vectors/program.tsv, and vectors/first-path.tsv,
+runs that agree with Google's protobuf. Prints a line for each group; exits with 1 on any difference. Needs python3 and
+gcc. `rt ci` leaves the program; where there is none, `rt run` builds it.
 """
+import functools
 import os
+import resource
 import shutil
+import signal
+import socket
 import subprocess
 import sys
 import tempfile
 
 TOP = os.path.dirname(os.path.dirname(os.path.abspath(__file__)))
 CRATE = f"{TOP}/crates/buffamap"
-USAGE = b"usage: buffamap read N | write N | rewrite N | item | ext N\n"
+USAGE = b"usage: buffamap read N | write N | rewrite N | item | ext N | again node | again set\n"
 FAILED = b"buffamap: input or output failed\n"
 NO_MEMORY = (b"fault OutOfMemory\n", b"", 4)
 CLOSED = "closed"
+# where a file ends that takes so many bytes and no more
+LIMIT = 1 << 16
 SECONDS = 20
 
-# The words, the input, the output, the errors and the status.
-ROWS = [
-    ("read 5", b"", b"", b"", 0),
-    ("read 5", b"2a050a01611001", b"61 1\n", b"", 0),
-    ("read 000000005", b"2A050A01611001\n", b"61 1\n", b"", 0),
-    ("write 5", b"", b"\n", b"", 0),
-    ("write 5", b"626565 -7\n61 1\n61 2", b"2a050a016110022a100a0362656510f9ffffffffffffffff01\n", b"", 0),
-    ("write 536870911", b"61 1\n", b"faffffff0f050a01611001\n", b"", 0),
-    ("read 5", b"3200", b"fault UnexpectedField 6\n", b"", 1),
-    ("read 5", b"2a05", b"fault UnexpectedEof\n", b"", 1),
-    ("read 5", b"2a010c", b"fault WireTypeMismatch 1 2 4\n", b"", 1),
-    ("read 5", b"2a030a01ff", b"fault InvalidUtf8\n", b"", 1),
-    ("read 5", b"2a0", b"fault input\n", b"", 3),
-    ("read 5", b"2a00\n\n", b"fault input\n", b"", 3),
-    ("write 5", b"61 2147483648\n", b"fault input\n", b"", 3),
-    ("write 5", b"ff 1\n", b"fault input\n", b"", 3),
-    ("rewrite 5", b"", b"\n", b"", 0),
-    ("rewrite 5", b"2a04080110002a04080210022a0408011001", b"2a04080110012a0408021002\n", b"", 0),
-    ("rewrite 5", b"2a020801", b"2a0408011000\n", b"", 0),
-    ("rewrite 5", b"2A0408071063\n", b"2a0408071063\n", b"", 0),
-    ("rewrite 5", b"2a04080110022a04080110012a0408011002", b"2a04080110012a04080110022a0408011002\n", b"", 0),
-    ("rewrite 5", b"3200", b"fault UnexpectedField 6\n", b"", 1),
-    ("rewrite 5", b"2a05", b"fault UnexpectedEof\n", b"", 1),
-    ("rewrite 5", b"2a010c", b"fault WireTypeMismatch 1 0 4\n", b"", 1),
-    ("rewrite 5", b"2a0", b"fault input\n", b"", 3),
-    ("ext 1", b"", b"has no\nint32 none\nstring none\nints\n", b"", 0),
-    ("ext 1", b"08050807\n", b"has yes\nint32 7\nstring none\nints 5 7\n", b"", 0),
-    ("ext 1", b"0A020102", b"has yes\nint32 none\nstring 0102\nints 1 2\n", b"", 0),
-    ("ext 1", b"0a00", b"has yes\nint32 none\nstring \nints\n", b"", 0),
-    ("ext 1", b"0d01000000", b"has yes\nint32 none\nstring none\nints\n", b"", 0),
-    ("ext 2", b"0805", b"has no\nint32 none\nstring none\nints\n", b"", 0),
-    ("ext 1", b"0c", b"fault InvalidEndGroup 1\n", b"", 1),
-    ("ext 1", b"0f", b"fault InvalidWireType 7\n", b"", 1),
-    ("ext 1", b"080", b"fault input\n", b"", 3),
-    ("item", b"10030c", b"3\n\n\n", b"", 0),
-    ("item", b"1a05776f726c64102a0c0BFF\n", b"42\n776f726c64\n0bff\n", b"", 0),
-    ("item", b"10091a0261621a0263640c", b"9\n61626364\n\n", b"", 0),
-    ("item", b"1a01780c", b"fault InvalidMessageSet missing type_id\n", b"", 1),
-    ("item", b"1000", b"fault InvalidMessageSet type_id out of range\n", b"", 1),
-    ("item", b"100314", b"fault InvalidEndGroup 2\n", b"", 1),
-    ("item", b"100", b"fault input\n", b"", 3),
+# Rows of the table whose streams fail behind each of their bytes.
+EXAMPLES = [
+    ("read 5", b"2a050a01611001"),
+    ("read 5", b"3200"),
+    ("write 5", b"61 1\n"),
+    ("rewrite 5", b"2a0408071063"),
+    ("ext 1", b"0805"),
+    ("item", b"10031a01780c00"),
+    ("again node", b"12020801"),
+    ("again node", b"0800"),
+    ("again set", b"0b1a017810050c"),
 ]
+COMMANDS = ["read 5", "write 5", "rewrite 5", "ext 1", "item", "again node", "again set"]
 
-WRONG_WORDS = ["", "read", "write", "read 0", "read 536870912", "read 0000000005", "write +5", "rewrite", "rewrite 0", "rewrite 5 5", "ext", "ext 0", "ext 1 1", "item 5", "Item", "read 5 5", "Read 5", "help", "--help"]
+WRONG_WORDS = ["", "read", "write", "read 0", "read 536870912", "read 0000000005", "write +5", "rewrite", "rewrite 0", "rewrite 5 5", "ext", "ext 0", "ext 1 1", "item 5", "Item", "again", "again tree", "again node x", "again 5", "node", "read 5 5", "Read 5", "help", "--help"]
 
 
 class Stream:
@@ -87,7 +65,36 @@ def show(answer):
     return " ".join(repr(it if not isinstance(it, bytes) or len(it) <= 200 else it[:200] + b"..") for it in answer)
 
 
-def call(program, words, given=b"", reader=None, output=None, errors=None, env=None, fds=()):
+@functools.cache
+def rows_of(name):
+    """The rows of a table: words, input, output, errors and status. A table of four columns has no errors."""
+    rows = []
+    with open(f"{TOP}/vectors/{name}", encoding="utf-8") as it:
+        for line in it.read().split("\n"):
+            if line and not line.startswith("#"):
+                words, given, text, *errors, status = line.split("\t")
+                given, text = (column.replace("\\n", "\n").replace("\\r", "\r").encode() for column in (given, text))
+                rows.append((words, given, text, {"": b"", "usage": USAGE}[errors[0] if errors else ""], int(status)))
+    return rows
+
+
+def examples():
+    found = [row for row in rows_of("program.tsv") if row[:2] in EXAMPLES]
+    if len(found) != len(EXAMPLES):
+        sys.exit("outside: an example isn't in vectors/program.tsv")
+    return found
+
+
+def begin(shut, limited):
+    """In the new process: closes streams, and lets files take no byte behind LIMIT."""
+    for it in shut:
+        os.close(it)
+    if limited:
+        signal.signal(signal.SIGXFSZ, signal.SIG_IGN)
+        resource.setrlimit(resource.RLIMIT_FSIZE, (LIMIT, LIMIT))
+
+
+def call(program, words, given=b"", reader=None, output=None, errors=None, env=None, fds=(), limited=False):
     """Runs the program once, and returns its output, its errors and its status. A stream that is no pipe gives b""."""
     opened, streams, shut = [], [], []
     for number, it in enumerate((reader, output, errors)):
@@ -101,8 +108,8 @@ def call(program, words, given=b"", reader=None, output=None, errors=None, env=N
         else:
             opened.append(os.open(it.path, it.flags))
             streams.append(opened[-1])
-    close = (lambda: [os.close(it) for it in shut]) if shut else None
-    words = words.split() if isinstance(words, str) else words
+    close = functools.partial(begin, shut, limited) if shut or limited else None
+    words = (words.split(" ") if words else []) if isinstance(words, str) else words
     try:
         started = subprocess.Popen([program, *words], stdin=streams[0], stdout=streams[1], stderr=streams[2], env=env or {}, pass_fds=fds, preexec_fn=close)
         try:
@@ -122,13 +129,8 @@ def name_of(stream):
 
 
 def answers(program, room, seen):
-    """Each status that needs no failure, and the runs that agree with Google's protobuf."""
-    rows = list(ROWS)
-    with open(f"{TOP}/vectors/first-path.tsv", encoding="utf-8") as it:
-        for line in it.read().splitlines():
-            if line and not line.startswith("#"):
-                words, given, text, status = line.split("\t")
-                rows.append((words, given.replace("\\n", "\n").encode(), text.replace("\\n", "\n").encode(), b"", int(status)))
+    """The rows: each status that needs no failure."""
+    rows = rows_of("program.tsv") + rows_of("first-path.tsv")
     for words, given, text, errors, status in rows:
         seen.compare(f"{words} on {given[:60]}", call(program, words, given), (text, errors, status))
     return len(rows)
@@ -160,18 +162,33 @@ def wrong_words(program, room, seen):
 def failed_reads(program, room, seen):
     """A read that fails: status 3, a line on the errors, and nothing on the output."""
     runs = 0
-    for words in ("read 5", "write 5", "rewrite 5", "ext 1", "item"):
+    for words in COMMANDS:
         for reader in (CLOSED, Stream("a directory", room, os.O_RDONLY), Stream("no reader", "/dev/null", os.O_WRONLY)):
             seen.compare(f"{words} with the input {name_of(reader)}", call(program, words, reader=reader), (b"", FAILED, 3))
             seen.compare(f"{words} with the input {name_of(reader)}, errors closed", call(program, words, reader=reader, errors=CLOSED), (b"", b"", 3))
             runs += 2
+    for words, given, *_ in examples():
+        for at in range(len(given) + 1):
+            reader = reset_behind(given[:at])
+            seen.compare(f"{words} with an input that fails behind {given[:at]}", call(program, words, reader=reader.fileno()), (b"", FAILED, 3))
+            reader.close()
+            runs += 1
     return runs
+
+
+def reset_behind(given):
+    """A stream with these bytes, of which the next read fails: its peer is gone, and left a byte unread."""
+    peer, stream = socket.socketpair()
+    stream.sendall(b"x")
+    peer.sendall(given)
+    peer.close()
+    return stream
 
 
 def failed_writes(program, room, seen):
     """A write that fails: status 3 and a line on the errors, whatever the answer was. Where nothing is written, none fails."""
     runs = 0
-    for words, given, text, errors, status in ROWS:
+    for words, given, text, errors, status in rows_of("program.tsv"):
         wanted = (b"", FAILED, 3) if text else (b"", errors, status)
         for output in (CLOSED, Stream("full", "/dev/full", os.O_WRONLY), Stream("no writer", "/dev/null", os.O_RDONLY)):
             seen.compare(f"{words} on {given} with the output {name_of(output)}", call(program, words, given, output=output), wanted)
@@ -183,6 +200,66 @@ def failed_writes(program, room, seen):
         os.close(writes)
         runs += 1
     return runs
+
+
+def taken(program, room, words, given, output, errors, env):
+    """Runs the program with an output and errors that take so many bytes; returns what they took, and the status."""
+    files = []
+    for name, takes in (("output", output), ("errors", errors)):
+        file = os.open(f"{room}/{name}", os.O_RDWR | os.O_CREAT | os.O_TRUNC)
+        os.lseek(file, LIMIT - takes, os.SEEK_SET)
+        files.append((file, LIMIT - takes))
+    status = call(program, words, given, output=files[0][0], errors=files[1][0], env=env, limited=True)[2]
+    texts = [os.pread(file, LIMIT, at) for file, at in files]
+    for file, _ in files:
+        os.close(file)
+    return *texts, status
+
+
+def short_writes(program, room, seen):
+    """Writes that take a part of a line, a byte at a time or as much as fits, and then fail, or take no byte: what was taken
+    stands, and the failure is told as far as the errors take it. Errors that fail change no status."""
+    runs = 0
+    shim = {"LD_PRELOAD": f"{room}/refuse.so"}
+    for how, env in (("fail", {}), ("fail, a byte at a time", {**shim, "WRITE_ONE": "1"}), ("take no byte", {**shim, "WRITE_NONE": "1", "WRITE_ONE": "1"})):
+        for words, given, text, errors, status in examples():
+            for takes in range(len(text) + 1):
+                wanted = (text[:takes], FAILED, 3) if takes < len(text) else (text, errors, status)
+                seen.compare(f"{words} on {given} with writes that {how} behind {takes}", taken(program, room, words, given, takes, len(FAILED), env), wanted)
+                runs += 1
+        for takes in range(len(FAILED)):
+            seen.compare(f"a failed output with errors that {how} behind {takes}", taken(program, room, "read 5", b"2a00", 1, takes, env), (b" ", FAILED[:takes], 3))
+            runs += 1
+        for takes in range(len(USAGE)):
+            seen.compare(f"wrong words with errors that {how} behind {takes}", taken(program, room, "items", b"2a00", 0, takes, env), (b"", USAGE[:takes], 2))
+            runs += 1
+    return runs
+
+
+def packets(stream):
+    """What came in packets, and how long the longest is."""
+    found = []
+    while packet := stream.recv(LIMIT):
+        found.append(packet)
+    return b"".join(found), max(map(len, found), default=0)
+
+
+def slow_streams(program, room, seen):
+    """Inputs that come a byte at a time, and outputs and errors that take a byte at a time."""
+    for words, given, text, errors, status in rows_of("program.tsv"):
+        pairs = [socket.socketpair(socket.AF_UNIX, socket.SOCK_SEQPACKET) for _ in range(3)]
+        for byte in given:
+            pairs[0][0].send(bytes([byte]))
+        pairs[0][0].close()
+        streams = [theirs.fileno() for _, theirs in pairs]
+        got = call(program, words, None, *streams, env={"LD_PRELOAD": f"{room}/refuse.so", "WRITE_ONE": "1"})[2]
+        for _, theirs in pairs:
+            theirs.close()
+        wanted = ((text, min(len(text), 1)), (errors, min(len(errors), 1)), status)
+        seen.compare(f"{words} on {given}, a byte at a time", (packets(pairs[1][0]), packets(pairs[2][0]), got), wanted)
+        for ours, _ in pairs:
+            ours.close()
+    return len(rows_of("program.tsv"))
 
 
 def pieces(program, room, seen):
@@ -212,7 +289,10 @@ def refusals(program, room, seen):
     choices = b"".join(b"2a0408%02x10%02x" % (i, i % 3) for i in range(120))
     message = b"0805" * 40 + b"0a0201020b0801130c" * 20
     item = b"10031a026f6b" * 30 + b"0c0bff"
-    cases = [(words, given) for words, given, *_ in ROWS] + [("read 5", run), ("write 5", pairs), ("rewrite 5", choices), ("ext 1", message), ("item", item), ("read 0", b""), ("", b"")]
+    nodes = b"".join(b"120b08%02x12070a050a016110011a0408%02x10%02x" % (i, i, i % 3) for i in range(9)) + b"0a070a036162631001" + b"2005" * 20
+    sets = b"0b10051a01780c" * 9 + b"c23e0568656c6c6f" * 9 + b"0805" * 20
+    long = [("read 5", run), ("write 5", pairs), ("rewrite 5", choices), ("ext 1", message), ("item", item), ("again node", nodes), ("again set", sets)]
+    cases = [(words, given) for words, given, *_ in rows_of("program.tsv")] + long
     runs = told = 0
     for words, given in cases:
         right = call(program, words, given)
@@ -248,13 +328,14 @@ def programs():
 
 def main():
     groups = [answers, wrong_words, failed_reads, failed_writes, pieces]
+    shimmed = [slow_streams, short_writes, refusals]
     seen = Differences()
     with tempfile.TemporaryDirectory(prefix="outside-") as room:
         if shutil.which("gcc"):
             subprocess.run(["gcc", "-O2", "-Wall", "-Werror", "-shared", "-fPIC", "-o", f"{room}/refuse.so", f"{TOP}/tests/refuse.c"], check=True)
-            groups.append(refusals)
+            groups += shimmed
         else:
-            print("outside: gcc is missing, so no request for memory could be refused")
+            print("outside: gcc is missing, so no request for memory could be refused, and no write cut")
             seen.found += 1
         for program in programs():
             for group in groups:

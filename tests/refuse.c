@@ -3,6 +3,7 @@
 // Where REFUSE_CALLS is set the program says on standard error which of its own calls is meant: between the lines
 // `call, refuse N` and `done`, which are not written, request N is refused, or each of them where N is 0; of the line
 // `done` one byte is taken where a request was refused, else the whole line.
+// Where WRITE_ONE is set a write takes one byte; where WRITE_NONE is, one that would fail takes none in its place.
 #define _GNU_SOURCE
 #include <errno.h>
 #include <stddef.h>
@@ -18,7 +19,7 @@ void *__libc_memalign(size_t align, size_t size);
 
 static const char CALL[] = "call, refuse ", DONE[] = "done\n";
 static long calls, first;
-static int on, tell, marked, counting, refused;
+static int on, tell, marked, counting, refused, one, none;
 
 __attribute__((constructor)) static void begin(void) {
     const char *at = getenv("REFUSE_AT"), *fd = getenv("REFUSE_TELL");
@@ -26,6 +27,8 @@ __attribute__((constructor)) static void begin(void) {
     on = getenv("REFUSE_ON") != NULL;
     first = at ? atol(at) : 0;
     marked = getenv("REFUSE_CALLS") != NULL;
+    one = getenv("WRITE_ONE") != NULL;
+    none = getenv("WRITE_NONE") != NULL;
 }
 
 static int refuses(void) {
@@ -38,8 +41,13 @@ static int refuses(void) {
     return 1;
 }
 
+static ssize_t plain_write(int fd, const void *text, size_t size) {
+    ssize_t taken = syscall(SYS_write, fd, text, one && size > 1 ? 1 : size);
+    return none && taken < 0 ? 0 : taken;
+}
+
 ssize_t write(int fd, const void *text, size_t size) {
-    if (!marked || fd != STDERR_FILENO) return syscall(SYS_write, fd, text, size);
+    if (!marked || fd != STDERR_FILENO) return plain_write(fd, text, size);
     if (size > sizeof CALL - 1 && memcmp(text, CALL, sizeof CALL - 1) == 0) {
         const char *digit = (const char *)text + sizeof CALL - 1, *end = (const char *)text + size;
         for (first = 0; digit < end && *digit >= '0' && *digit <= '9'; digit++) first = 10 * first + (*digit - '0');
