@@ -3,8 +3,8 @@
 Each function is given a row, as `second_reading.py` reads it, and finds its answer and what stands after.
 """
 from rules import (
-    DELIMITED, END, KINDS, MESSAGES, MOST_LEVELS, START, Bytes, Fault, blank, delimited, inside, merge, of_word, packed, payload,
-    plain, read_list, read_one, read_record, record_text, records, tag_text, word,
+    DELIMITED, END, KINDS, MESSAGES, MOST_LEVELS, START, Budget, Bytes, Fault, blank, delimited, inside, merge, message_text,
+    of_word, packed, payload, plain, read_list, read_one, read_record, record_text, records, tag_text, word,
 )
 
 CALLS = (
@@ -59,8 +59,19 @@ def of_encode(row, found):
     return str(fault), next((it for it in fronts if f"-; {text_of(it)}" == row.after), fronts[-1])
 
 
+def on_set(row):
+    """An extension of a MessageSet, of the codec behind `set,`: the records are read of its bytes, its text is told."""
+    row.types = row.types.removeprefix("set,")
+    found = list(merge("set", blank("set"), bytes.fromhex(row.before), MOST_LEVELS, Budget()))
+    return on_records(row, found, lambda it: f"text {message_text('set', it).hex() or '-'}")
+
+
 def on_carrier(row):
-    found, answer = records(bytes.fromhex(row.before)), "ok"
+    return on_records(row, records(bytes.fromhex(row.before)), text_of)
+
+
+def on_records(row, found, text_of):
+    answer = "ok"
     is_there = any(it[0] == row.number for it in found)
     if row.call == "clear":
         words, found = f"{str(is_there).lower()} false", [it for it in found if it[0] != row.number]
@@ -155,6 +166,8 @@ def outcome(row):
         return "ok", " ".join([f"{row.number} test.Carrier"] * 3)
     if row.call == "declared":
         return "ok", row.settings.get("declared", "none")
+    if row.types.startswith("set,"):
+        return on_set(row)
     for calls, done in (
         ("encode-one decode-one decode-one-ctx", on_record),
         ("pack unpack", on_packed),

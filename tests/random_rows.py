@@ -13,8 +13,8 @@ import tempfile
 
 sys.dont_write_bytecode = True
 from rules import (
-    BYTES, DELIMITED, EIGHT, END, FOUR, KINDS, MESSAGES, START, STRINGS, VARINT, Fault, delimited, of_word, plain, put,
-    read_list, records, tag_text, varint_text, word,
+    BYTES, DELIMITED, EIGHT, END, FOUR, KINDS, MESSAGES, NODE_MAPS, START, STRINGS, VARINT, Fault, delimited, of_word, plain,
+    put, read_list, records, tag_text, varint_text, word,
 )
 from second_reading import TOP, Row
 
@@ -34,7 +34,10 @@ VALUES = {
     "bool": "true", "string": '"q"', "bytes": "x01", "own-bytes": "x01", "shared-bytes": "x01", "open": "?7", "flat": "4",
     "two": "4,5", "keep": "x0805", "old": "1", "new": "2", "int32": "6", "uint32": "6",
 }
-STANDING = {"flat": "0809", "two": "08051007", "count": "4800", "keep": "0805", "tree": "0807"}
+STANDING = {
+    "flat": "0809", "two": "08051007", "count": "4800", "keep": "0805", "tree": "0807", "set": "0b10051a01780c",
+    "node": "0a0012001a002001",
+}
 TEXTS = [b"", b"a", b"A", b"b", b"Bee", b"BEE", b"x y", b"\xc3\xa9", b"\xff", b"\xc0\x80", b"\xed\xa0\x80", b"\0", b"z" * 130]
 AT_LIMITS = [0, 1, 2, 3, 5, 99, 127, 128, 2**31 - 1, 2**31, 2**32 - 1, 2**32, 2**32 + 1, 2**63, 2**64 - 2**31, 2**64 - 1]
 
@@ -99,13 +102,26 @@ class Maker:
         text = self.message(kind, 3) if kind in MESSAGES else self.any.choice(TEXTS)
         return self.varint(len(text)) + text
 
+    def node_field(self, levels):
+        number = self.pick(1, 2, 3, 3, 4)
+        if number == 4 or levels == 0:
+            return self.field(self.pick(3, 4, 5), self.pick(VARINT, EIGHT, DELIMITED, START, FOUR), levels)
+        if number != 2:
+            return self.varint(number * 8 + DELIMITED) + self.entry(NODE_MAPS[number])
+        child = b"" if self.is_one_in(3) else b"\x12" + delimited(self.message("node", levels - 1))
+        return b"\x12" + delimited(self.of_kind("int32", 1) + child)
+
     def message(self, kind, levels):
         text = b""
         for _ in range(self.any.randint(0, 3)):
-            if kind == "tree" and levels > 0 and self.is_one_in(2):
+            if kind == "node":
+                text += self.node_field(levels)
+            elif kind == "set" and self.is_one_in(2):
+                text += b"\x0b" + self.item()
+            elif kind == "tree" and levels > 0 and self.is_one_in(2):
                 child = b"" if self.is_one_in(3) else b"\x12" + delimited(self.message("tree", levels - 1))
                 text += b"\x12" + delimited(self.of_kind("int32", 1) + child)
-            elif self.is_one_in(2):
+            elif kind != "set" and self.is_one_in(2):
                 number = {"count": 9, "two": self.pick(1, 2)}.get(kind, 1)
                 text += tag_text(number, VARINT) + self.varint(self.number())
             else:

@@ -12,13 +12,18 @@ KINDS = {
     "fixed32": (FOUR, 4), "sfixed32": (FOUR, 4), "fixed64": (EIGHT, 8), "sfixed64": (EIGHT, 8),
     "string": (DELIMITED, 24), "own-string": (DELIMITED, 24), "word": (DELIMITED, 24), "bytes": (DELIMITED, 24),
     "own-bytes": (DELIMITED, 24), "shared-bytes": (DELIMITED, 32), "flat": (DELIMITED, 4), "two": (DELIMITED, 32),
-    "keep": (DELIMITED, 24), "tree": (DELIMITED, 32), "count": (DELIMITED, 8),
+    "keep": (DELIMITED, 24), "tree": (DELIMITED, 32), "count": (DELIMITED, 8), "node": (DELIMITED, 96),
+    "set": (DELIMITED, 24),
 }
 STRINGS = {"string", "own-string", "word"}
 BYTES = {"bytes", "own-bytes", "shared-bytes"}
-BLANKS = {"flat": 0, "two": (0, 0), "keep": b"", "tree": (0, {}), "count": 0, "bool": False}
-MESSAGES = {"flat", "two", "keep", "tree", "count"}
+BLANKS = {
+    "flat": 0, "two": (0, 0), "keep": b"", "tree": (0, {}), "count": 0, "bool": False, "node": ({}, {}, {}, b""), "set": (),
+}
+MESSAGES = {"flat", "two", "keep", "tree", "count", "node", "set"}
 DECLARED = {"old": (0, 1), "open": (0, 1), "new": (0, 1, 2)}
+# The map fields of a node; shades are declared as the values of the kind `old` are.
+NODE_MAPS = {1: ("string", "int32"), 2: ("int32", "node"), 3: ("int32", "old")}
 MOST_SLOTS, MOST_UNITS, MOST_BYTES, MOST_LEVELS = 1_000_000, 268_435_456, 2**31 - 1, 100
 
 
@@ -211,10 +216,40 @@ def kept_field(buf, number, wire, depth, budget):
     return text
 
 
+def node_field(node, buf, number, wire, depth, budget):
+    """What one field makes of a node: its maps by their numbers, then what is kept."""
+    *maps, kept = node
+    if number not in NODE_MAPS:
+        return *maps, kept + kept_field(buf, number, wire, depth, budget)
+    if wire != DELIMITED:
+        raise mismatch(number, DELIMITED, wire)
+    pairs, undeclared = dict(maps[number - 1]), []
+    merge_entry(NODE_MAPS[number], pairs, buf, depth, budget, number, undeclared)
+    maps[number - 1] = pairs
+    return *maps, kept + b"".join(undeclared)
+
+
+def set_field(found, buf, number, wire, depth, budget):
+    """What one field makes of the records of a MessageSet: an Item, a level deeper, is one of its type id. What is
+    refused spends no slot."""
+    own = Budget(budget.slots)
+    if (number, wire) == (1, START):
+        if depth == 0:
+            raise Fault("RecursionLimitExceeded")
+        number, message = read_item(buf, depth - 1, own)
+        wire, text = DELIMITED, tag_text(number, DELIMITED) + delimited(message)
+    else:
+        text = keep(buf, number, wire, depth, own)
+    budget.slots = own.slots
+    return *found, (number, wire, text)
+
+
 def merge_field(kind, message, buf, number, wire, depth, budget):
     """What one field makes of a message."""
     if kind == "keep":
         return message + kept_field(buf, number, wire, depth, budget)
+    if kind in ("node", "set"):
+        return (node_field if kind == "node" else set_field)(message, buf, number, wire, depth, budget)
     if kind == "flat" and number == 1:
         return int32_member(buf, number, wire)
     if kind == "two" and number in (1, 2):
@@ -245,9 +280,22 @@ def merge(kind, message, text, depth, budget):
     return message + b"".join(kept) if kind == "keep" else message
 
 
+def item_text(record):
+    """The text of a record of a MessageSet: of a delimited one whose number is a type id an Item, of any other the record."""
+    number, wire, text = record
+    if wire != DELIMITED or not 0 < number < 2**31:
+        return text
+    return b"\x0b\x10" + varint_text(number) + b"\x1a" + delimited(inside(record)) + b"\x0c"
+
+
 def message_text(kind, message):
     if kind == "keep":
         return message
+    if kind == "set":
+        return b"".join(map(item_text, message))
+    if kind == "node":
+        fields = [field_text(NODE_MAPS[at], at, sorted(message[at - 1].items())) for at in NODE_MAPS]
+        return b"".join(fields) + message[3]
     if kind == "count":
         return message * (tag_text(9, VARINT) + b"\0")
     numbers = {"flat": lambda it: [it], "two": list, "tree": lambda it: [it[0]]}[kind](message)
@@ -336,6 +384,10 @@ def word(kind, held):
         return f"x{held.hex()}"
     if kind == "tree":
         return tree_word(held, 9)
+    if kind == "node":
+        return node_word(held)
+    if kind == "set":
+        return f"x{b''.join(it[2] for it in held).hex()}"
     if kind == "bool":
         return str(held).lower()
     if kind == "open":
@@ -348,6 +400,14 @@ def tree_word(tree, levels):
         return ".."
     children = "".join(f"{key}:{tree_word(child, levels - 1)};" for key, child in sorted(tree[1].items()))
     return f"{tree[0]}({children})"
+
+
+def node_word(node):
+    maps = [
+        ",".join(f"{word(key, one)}={word(other, held)}" for one, held in sorted(node[at - 1].items()))
+        for at, (key, other) in NODE_MAPS.items()
+    ]
+    return f"({'|'.join(maps)}|{node[3].hex()})"
 
 
 def of_word(kind, said):

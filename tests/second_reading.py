@@ -30,7 +30,7 @@ LIMITS = {
 
 def slots_of(kind, message):
     """The slots of a message: of each child the length of its text, then its own slots."""
-    children = sorted(message[1].items()) if kind == "tree" else []
+    children = sorted(message[1].items()) if kind in ("tree", "node") else []
     return [it for _, child in children for it in [len(message_text(kind, child)), *slots_of(kind, child)]]
 
 
@@ -178,7 +178,8 @@ class Row:
                 if self.call == "merge-field":
                     break
         except Fault as fault:
-            return str(fault), self.told(word(kind, message) if self.settings.get("state") == "told" else "-")
+            is_told = self.settings.get("state") == "told" or kind in ("node", "set") and self.call != "merge-delimited"
+            return str(fault), self.told(word(kind, message) if is_told else "-")
         return "ok", self.told(word(kind, message), unread=buf.unread())
 
     def of_extension(self, _in_order):
