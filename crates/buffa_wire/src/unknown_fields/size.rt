@@ -25,7 +25,10 @@ impl UnknownFields {
         let mut total: u64 = 0;
         for field in &self.fields {
             let len = field_len(field.number, &field.payload);
-            total = total.saturating_add(len);
+            let Some(more) = total.checked_add(len) else {
+                return u64::MAX;
+            };
+            total = more;
         }
         total
     }
