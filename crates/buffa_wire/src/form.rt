@@ -117,6 +117,7 @@ impl Form for Varint {
         varint_len(n) as u64
     }
 
+    #[inline(always)]
     fn write<S: EncodeSink>(n: u64, sink: &mut S) -> Result<(), EncodeError> {
         write_varint(n, sink)
     }
