@@ -22,5 +22,7 @@ pub mod ListLaws
 pub mod PackedLaws
 pub mod RepeatedNested
 pub mod RepeatedNestedLaws
+pub mod NestedMaps
+pub mod NestedMapLaws
 pub mod Stands
 pub mod StandsLaws

@@ -1,18 +1,16 @@
 -- What is proved of lists of messages.
-use Rattle.std.proofs.Common.{◌≡◌, ◌≢◌, ◌⊎◌, inl, inr, ℕ, suc, ◌+◌, ◌==◌, ◌<◌, ◌≤◌, max, min, List, [], ◌∷◌, ◌++◌, length, map, take, drop, get_or, Option, Some, Result, Ok, Err, refl, sym, ap, subst, ◌∙◌, arith, append_assoc, append-nil, length-append}
+use Rattle.std.proofs.Common.{◌≡◌, ◌≢◌, inl, inr, ℕ, ◌+◌, ◌==◌, ◌<◌, ◌≤◌, min, List, [], ◌∷◌, ◌++◌, length, map, take, drop, get_or, Option, Some, Result, Ok, Err, refl, sym, ap, subst, ◌∙◌, arith, append_assoc, append-nil}
 use Rattle.std.proofs.lemmas.Bool.{eq-eqb}
-use Rattle.std.proofs.lemmas.List.{map-append}
 use Rattle.std.specs.Option.{option_map}
 use Rattle.buffa_bytes.proofs.VarintLemmas.{IsVarint-varint_text}
 use Rattle.buffa_bytes.specs.declared.error.DecodeError.{DecodeError}
-use Rattle.buffa_bytes.specs.declared.error.DecodeError.TheVariants.{ElementMemoryLimitExceeded, OutOfMemory, WireTypeMismatch}
+use Rattle.buffa_bytes.specs.declared.error.DecodeError.TheVariants.{ElementMemoryLimitExceeded, WireTypeMismatch}
 use Rattle.buffa_bytes.specs.declared.error.EncodeError.{EncodeError}
 use Rattle.buffa_bytes.specs.declared.wire_type.WireType.{WireType}
 use Rattle.buffa_bytes.specs.declared.wire_type.WireType.TheVariants.{Varint, Fixed64, LengthDelimited, StartGroup, EndGroup, Fixed32}
 use Rattle.buffa_wire.proofs.PassLemmas.{appended_twice, done, next_front, next_past, refused, written_none, written_short, written_then}
-use Rattle.buffa_wire.specs.BudgetLeft.{BudgetLeft, Lacks, Pays, PaysAtMost, plus, units}
+use Rattle.buffa_wire.specs.BudgetLeft.{BudgetLeft, plus, units}
 use Rattle.buffa_wire.specs.Cache.{Cache}
-use Rattle.buffa_wire.specs.Field.{Payload}
 use Rattle.buffa_wire.specs.Number.{IsNumber}
 use Rattle.buffa_wire.specs.Parse.{Fits}
 use Rattle.buffa_wire.specs.Passes.{IsNext, IsSized, IsSmall, IsWritten, cap}
@@ -28,7 +26,7 @@ use Rattle.buffa_fields.specs.Lists.{Each, element_records}
 use Rattle.buffa_fields.specs.Nested.{message_cost, message_in}
 use Rattle.buffa_fields.specs.NestedLaws.{delimited_alone, message_wire_err, taken_back}
 use Rattle.buffa_fields.specs.RepeatedNested.{messages_cost, messages_levels, messages_records, messages_slots, messages_taken}
-use Rattle.buffa_fields.specs.Takes.{IsTaken, Leads, Need, Piece, ReadsBack, Stays, joined}
+use Rattle.buffa_fields.specs.Takes.{IsTaken, Leads, Piece, ReadsBack, Stays, joined}
 
 -- ---- costs
 pub messages_stay : (each : ℕ) (cost : ℕ → List ℕ → BudgetLeft) → Stays (messages_cost each cost)

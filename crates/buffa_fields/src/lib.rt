@@ -8,6 +8,7 @@ pub mod kinds;
 mod list;
 mod map;
 pub mod map_member;
+pub mod map_nested;
 pub mod member;
 pub mod merge;
 pub mod message;

@@ -10,7 +10,7 @@ ghost use Rattle.buffa_fields.specs.MapFields.{WritesMap, entry_cost, entry_take
 ghost use Rattle.buffa_fields.specs.Takes.{IsTaken};
 
 use buffa_map::laws::{limits_are_told_where_needs_are_not_left, size_is_length};
-use buffa_map::map_codec::{Map, MapCodec, field_len, merge_entry, write_field};
+use buffa_map::map_codec::{Map, MapCodec, MapValueDecode, field_len, merge_entry, write_field};
 use buffa_wire::{
     DecodeContext, DecodeError, EncodeError, EncodeSink, MapKey, Tag, WireType, check_wire_type,
     varint_len,
@@ -41,7 +41,7 @@ where
 
 // Merges the entry of the field whose tag was read.
 #[tactic(auto, unfolding(crate::specs::MapFields::entry_taken, crate::specs::MapFields::entry_cost))]
-pub(crate) fn take_entry<KC: MapCodec, VC: MapCodec>(
+pub(crate) fn take_entry<KC: MapCodec, VC: MapValueDecode>(
     alloc: Global,
     map: &mut Map<KC::Value, VC::Value>,
     tag: Tag,

@@ -1,0 +1,141 @@
+//! Map fields of messages as members.
+
+ghost use Rattle.std.specs.Prelude.{◌≡◌, ◌+◌, ◌==◌, []};
+ghost use Rattle.std.proofs.Common.{sym, ◌∙◌};
+ghost use Rattle.std.specs.List.{IsDistinct};
+ghost use Rattle.std.specs.Map.{keys_of};
+ghost use Rattle.buffa_wire.specs.Number.{IsNumber};
+ghost use Rattle.buffa_wire.specs.Parse.{Fits};
+ghost use Rattle.buffa_wire.specs.Passes.{IsNext, IsSized, IsWritten};
+ghost use Rattle.buffa_wire.specs.Records.{records_of};
+ghost use Rattle.buffa_wire.specs.Text.{records_text};
+ghost use Rattle.buffa_map.proofs.BackLemmas.{plain_back};
+ghost use Rattle.buffa_map.specs.Message.{message_reading};
+ghost use Rattle.buffa_map.specs.Pairs.{means};
+ghost use Rattle.buffa_map.specs.Text.{AllHold};
+ghost use Rattle.buffa_fields.specs.MapFields.{entry_cost, entry_taken};
+ghost use Rattle.buffa_fields.specs.MapLaws.{map_stays};
+ghost use Rattle.buffa_fields.specs.NestedMapLaws.{pairs_back};
+ghost use Rattle.buffa_fields.specs.NestedMaps.{pair_levels, pair_records, pair_slots};
+
+use crate::map::take_entry;
+use crate::member::Member;
+use buffa_map::map_codec::{
+    Map, MapCodec, MapValueDecode, Msg, message_field_len, write_message_field,
+};
+use buffa_wire::{
+    Blank, DecodeContext, DecodeError, EncodeError, EncodeSink, MapKey, Message, MessageSpec,
+    SizeCache, Tag, varint_len,
+};
+use std::alloc::Global;
+use std::hash::Hash;
+use std::marker::PhantomData;
+
+// The length of a map field of messages, or 2^32 - 1 where it is more. The slots of each are appended.
+fn pairs_len<KC: MapCodec, N: Message>(
+    number: u32,
+    map: &Map<KC::Value, N>,
+    cache: &mut SizeCache,
+) -> Result<u32, EncodeError>
+where
+    KC::Value: MapKey + Hash,
+    requires { IsNumber number }
+    ensures { let l = means KC.Value.meaning N.meaning map.now.entries in
+        IsSized (records_text (pair_records KC.writing N.text number l)) (pair_slots N.text N.slots l) cache.old result
+        cache.new }
+{
+    let tag = varint_len(u64::from(number) * 8 + 2) as u64;
+    match message_field_len::<KC, N, Map<KC::Value, N>>(map, tag, cache) {
+        Ok(total) => Ok(total.min(4_294_967_295) as u32),
+        Err(error) => Err(error),
+    }
+}
+
+// Writes a map field of messages, whose slots are next.
+fn write_pairs<KC: MapCodec, N: Message, S: EncodeSink>(
+    number: u32,
+    map: &Map<KC::Value, N>,
+    cache: &mut SizeCache,
+    sink: &mut S,
+) -> Result<(), EncodeError>
+where
+    KC::Value: MapKey + Hash,
+    requires number { IsNumber number }
+    requires next { IsNext (pair_slots N.text N.slots (means KC.Value.meaning N.meaning map.now.entries)) cache.old }
+    ensures { let l = means KC.Value.meaning N.meaning map.now.entries in
+        IsWritten (records_text (pair_records KC.writing N.text number l)) (pair_slots N.text N.slots l) cache.old
+        (S.written sink.old) result cache.new (S.written sink.new) }
+{
+    write_message_field::<KC, N, Map<KC::Value, N>, S>(map, number, cache, sink)
+}
+
+/// A map field of messages, held in a [`Map`]: the message of an entry is read into a default one, which takes the
+/// place of the key's.
+///
+/// ```ignore
+/// visitor.visit::<MapOfNested<Str, Inventory>>(3, &self.stocks); // map<string, Inventory> stocks = 3;
+/// ```
+pub struct MapOfNested<KC, N> {
+    key: PhantomData<KC>,
+    of: PhantomData<N>,
+}
+
+impl<KC: MapCodec, N: Message> Member for MapOfNested<KC, N>
+where
+    KC::Value: MapKey + Hash,
+{
+    type Part = Map<KC::Value, N>;
+
+    type Meaning = [(<KC::Value as Blank>::Meaning, <N as Blank>::Meaning); 0];
+
+    ghost slot = { record {
+      meaning = λ m. means KC.Value.meaning N.meaning m.entries;
+      blank = [];
+      takes = entry_taken KC.reading (message_reading N.blank_is N.merged N.cost) KC.Value.same;
+      need = entry_cost KC.reading (message_reading N.blank_is N.merged N.cost) (KC.COST + N.COST);
+      records = pair_records KC.writing N.text;
+      slots = pair_slots N.text N.slots;
+      levels = pair_levels N.levels;
+      normal = λ l. AllHold (λ k. KC.fits k × KC.normal k) (λ v. N.normal v × Fits (records_of (N.records v))) l
+          × IsDistinct KC.Value.same (keys_of l);
+      stays = map_stays KC.reading (message_reading N.blank_is N.merged N.cost) KC.Value.same (KC.COST + N.COST);
+    } };
+
+    fn len(
+        number: u32,
+        part: &Map<KC::Value, N>,
+        cache: &mut SizeCache,
+    ) -> Result<u32, EncodeError> {
+        pairs_len::<KC, N>(number, part, cache)
+    }
+
+    fn write_to<S: EncodeSink>(
+        number: u32,
+        part: &Map<KC::Value, N>,
+        cache: &mut SizeCache,
+        sink: &mut S,
+    ) -> Result<(), EncodeError> {
+        write_pairs::<KC, N, S>(number, part, cache, sink)
+    }
+
+    #[tactic(auto, unfolding(crate::specs::Layout::Took))]
+    fn merge(
+        part: &mut Map<KC::Value, N>,
+        alloc: Global,
+        tag: Tag,
+        buf: &mut &[u8],
+        ctx: DecodeContext<'_>,
+    ) -> Result<(), DecodeError> {
+        take_entry::<KC, Msg<N>>(alloc, part, tag, buf, ctx)
+    }
+
+    ghost back = { record {
+      back = λ n number d l fits normal low. pairs_back N.merged N.blank_is N.cost N.text N.levels
+          (λ x. N.normal x × Fits (records_of (N.records x)))
+          (λ d v ok low. N.MessageSpec.merged_text d v ok.1 ok.0 low) KC.reading KC.writing
+          (KC.MapCodec.written_wire ∙ sym KC.MapValueDecode.wire) KC.Value.same KC.Value.MapKey.equivalence
+          (λ k. KC.fits k × KC.normal k)
+          (λ d v h. plain_back KC.reading KC.writing d v KC.MapCodec.plain (KC.MapCodec.reads_back d KC.reading.blank v h.0 h.1))
+          n number d l fits normal.0 normal.1 low;
+    } };
+}
