@@ -7,3 +7,4 @@ pub mod maps;
 pub mod order;
 pub mod parcel;
 pub mod state;
+pub mod store;
