@@ -11,7 +11,7 @@ use std::alloc::Global;
 /// the same may differ in capacity or layout, and no contract speaks of that.
 ///
 /// ```ignore
-/// let empty: Bytes = Blank::blank(alloc);
+/// let mut message: Inventory = Blank::blank(alloc);
 /// ```
 pub trait Blank: Drop {
     /// What two values have in common that mean the same. No value of it is made; `[u8; 0]` stands for a
@@ -25,6 +25,10 @@ pub trait Blank: Drop {
     ghost blank_is: { Self.Meaning };
 
     /// The default. It takes no memory.
+    ///
+    /// ```ignore
+    /// let value = M::blank(alloc);
+    /// ```
     fn blank(alloc: Global) -> Self
         ensures { meaning result ≡ blank_is };
 }

@@ -26,14 +26,26 @@ pub trait Buf {
     ghost beyond: { Self → List (ℕ × List ℕ) } = { λ _. [] };
 
     /// How many bytes are left.
+    ///
+    /// ```ignore
+    /// let left = rest.remaining(); // 3 for 96 01 07
+    /// ```
     fn remaining(&self) -> usize
         ensures { result ≡ length (unread self.now) };
 
     /// The bytes at the front that lie together; some, while any are left.
+    ///
+    /// ```ignore
+    /// let part = buf.chunk();
+    /// ```
     fn chunk(&self) -> &[u8]
         ensures { IsChunkOf result.now (unread self.now) };
 
     /// Drops the first `n` bytes, which have to be there.
+    ///
+    /// ```ignore
+    /// buf.advance(1); // of 96 01 07: leaves 01 07
+    /// ```
     fn advance(&mut self, n: usize)
         requires { n ≤ length (unread self.old) }
         ensures rest { unread self.new ≡ drop n (unread self.old) }
@@ -126,8 +138,7 @@ pub fn front<B: Buf>(buf: &B, len: u64) -> Option<&[u8]>
 /// [`DecodeError::UnexpectedEof`] where fewer are left, and nothing is asked of memory then.
 ///
 /// ```ignore
-/// let mut rest: &[u8] = b"abc";
-/// let front = copy_bytes(alloc, &mut rest, 2)?; // "ab", and `rest` is "c"
+/// let front = copy_bytes(alloc, buf, len)?; // of "abc" and 2: "ab", and `buf` is "c" then
 /// ```
 #[tactic(auto, using(crate::proofs::TailLemmas::tail_whole, crate::proofs::TailLemmas::tail_rest), unfolding(crate::specs::Reading::taken))]
 pub fn copy_bytes<B: Buf>(alloc: Global, buf: &mut B, len: u64) -> Result<Vec<u8>, DecodeError>

@@ -41,7 +41,7 @@ impl Error for MessageSetFault {}
 /// wire types as their numbers: `WireTypeMismatch 1 2 0`.
 ///
 /// ```ignore
-/// let refused = decode_bytes(alloc, &mut rest).err(); // of 02 DE: Some(DecodeError::UnexpectedEof)
+/// return Err(DecodeError::UnexpectedEof);
 /// ```
 #[derive(Clone, Copy, Debug, PartialEq, Eq)]
 pub enum DecodeError {

@@ -15,6 +15,10 @@ use bytes::Bytes;
 /// The equality of keys may be coarser than identity, as in a text that overlooks the case of letters. A
 /// type of one's own says which meanings are one key, that this is an equivalence, and that `==` follows
 /// it; the impl of `String` below is the pattern.
+///
+/// ```ignore
+/// impl MapKey for Word { .. }
+/// ```
 pub trait MapKey: Blank + Eq {
     /// Whether two meanings are one key.
     ghost same: { Self.Meaning → Self.Meaning → Bool };
@@ -27,6 +31,10 @@ pub trait MapKey: Blank + Eq {
 }
 
 /// A key of which no two meanings are one key: equal keys are identical.
+///
+/// ```ignore
+/// impl PlainKey for i32 { .. }
+/// ```
 pub trait PlainKey: MapKey {
     /// Equal meanings are identical.
     ghost plain: { (a b : Self.Meaning) → Self.same a b ≡ true → a ≡ b };

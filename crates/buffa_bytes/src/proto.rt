@@ -16,8 +16,8 @@ use std::alloc::Global;
 /// pattern.
 ///
 /// ```ignore
-/// let word = <String as ProtoString>::from_wire(alloc, bytes)?;
-/// let text = ProtoString::as_str(&word); // "bee", of 62 65 65
+/// let value = <String as ProtoString>::from_wire(alloc, bytes)?;
+/// let text = T::as_str(value);
 /// ```
 pub trait ProtoString: Blank {
     /// The text of a meaning, as bytes.
@@ -30,12 +30,20 @@ pub trait ProtoString: Blank {
     ///
     /// # Errors
     /// [`DecodeError::InvalidUtf8`] exactly where they are not, and [`DecodeError::OutOfMemory`].
+    ///
+    /// ```ignore
+    /// let word = <String as ProtoString>::from_wire(alloc, bytes)?;
+    /// ```
     fn from_wire(alloc: Global, bytes: &[u8]) -> Result<Self, DecodeError>
         ensures reads { GivesUnlessFull Self.meaning result (text_as of_text bytes.now) }
         ensures free { bytes.now ≡ [] → IsOk result }
         ensures full { FullOnlyIf result (is_utf8 bytes.now ≡ true) };
 
     /// The text of the value.
+    ///
+    /// ```ignore
+    /// let text = T::as_str(value);
+    /// ```
     fn as_str(&self) -> &str
         ensures { result.now ≡ text (Self.meaning self.now) };
 
@@ -55,8 +63,8 @@ pub trait ProtoString: Blank {
 /// A type that holds a bytes field: each value has bytes, and any bytes are those of a value.
 ///
 /// ```ignore
-/// let dead = P::from_wire(alloc, part)?;
-/// let bytes = ProtoBytes::as_bytes(&dead); // those of `part`
+/// let value = P::from_wire(alloc, part)?;
+/// let bytes = T::as_bytes(value);
 /// ```
 pub trait ProtoBytes: Blank {
     /// The bytes of a meaning.
@@ -69,12 +77,20 @@ pub trait ProtoBytes: Blank {
     ///
     /// # Errors
     /// [`DecodeError::OutOfMemory`] alone.
+    ///
+    /// ```ignore
+    /// let dead = P::from_wire(alloc, part)?;
+    /// ```
     fn from_wire(alloc: Global, source: &[u8]) -> Result<Self, DecodeError>
         ensures reads { MatchResult result (λ value. Self.meaning value ≡ of_bytes source.now)
             (λ e. e ≡ OutOfMemory) }
         ensures free { source.now ≡ [] → IsOk result };
 
     /// The bytes of the value.
+    ///
+    /// ```ignore
+    /// let bytes = T::as_bytes(value);
+    /// ```
     fn as_bytes(&self) -> &[u8]
         ensures { result.now ≡ bytes (Self.meaning self.now) };
 

@@ -9,8 +9,7 @@ use crate::error::EncodeError;
 ///
 /// ```ignore
 /// let mut text = Vec::new(alloc);
-/// text.put_slice(b"ab")?;
-/// text.put_byte(b'c')?; // 61 62 63
+/// encode_string("testing", &mut text)?; // 07 74 65 73 74 69 6E 67
 /// ```
 pub trait EncodeSink {
     /// The bytes so far.
@@ -23,6 +22,10 @@ pub trait EncodeSink {
     ///
     /// # Errors
     /// [`EncodeError::OutOfMemory`] alone, where `b` doesn't fit for sure; a beginning of `b`, and not all, stands then.
+    ///
+    /// ```ignore
+    /// sink.put_slice(value)?;
+    /// ```
     fn put_slice(&mut self, b: &[u8]) -> Result<(), EncodeError>
         ensures writes { Writes result (written self.old) b.now (written self.new) }
         ensures room { UsesRoom result (room self.old) b.now (room self.new) };
@@ -31,6 +34,10 @@ pub trait EncodeSink {
     ///
     /// # Errors
     /// [`EncodeError::OutOfMemory`] alone, where no byte fits for sure.
+    ///
+    /// ```ignore
+    /// sink.put_byte(n as u8)?;
+    /// ```
     fn put_byte(&mut self, byte: u8) -> Result<(), EncodeError>
         ensures writes { Writes result (written self.old) (byte ∷ []) (written self.new) }
         ensures room { UsesRoom result (room self.old) (byte ∷ []) (room self.new) }

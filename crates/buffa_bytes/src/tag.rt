@@ -9,6 +9,10 @@ use crate::varint::{decode_varint, encode_varint};
 use crate::wire_type::WireType;
 
 /// The largest number that a field may have. Source: the protobuf language guide, "Assigning Field Numbers".
+///
+/// ```ignore
+/// if number == 0 || number > MAX_FIELD_NUMBER as u64 { .. }
+/// ```
 pub const MAX_FIELD_NUMBER: u32 = 536_870_911;
 
 /// The number, 1 to [`MAX_FIELD_NUMBER`], and the wire type of a field.
@@ -52,6 +56,10 @@ impl Tag {
     }
 
     /// The number of the field.
+    ///
+    /// ```ignore
+    /// let number = tag.field_number(); // 5 for 2A
+    /// ```
     pub fn field_number(self) -> u32
         ensures { result ≡ self.number }
     {
@@ -59,6 +67,10 @@ impl Tag {
     }
 
     /// How the field's payload is laid out.
+    ///
+    /// ```ignore
+    /// let wire_type = tag.wire_type(); // WireType::LengthDelimited for 2A
+    /// ```
     pub fn wire_type(self) -> WireType
         ensures { result ≡ self.wire_type }
     {

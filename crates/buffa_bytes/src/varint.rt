@@ -104,7 +104,7 @@ fn decode_digits<B: Buf>(buf: &mut B) -> Result<u64, DecodeError>
 /// [`EncodeError::OutOfMemory`] alone, after a beginning of the spelling.
 ///
 /// ```ignore
-/// encode_varint(number, &mut text)?; // 96 01 for 150
+/// encode_varint(number, sink)?; // 96 01 for 150
 /// ```
 #[tactic(auto, using(crate::proofs::ShortestLemmas::v_laws))]
 pub fn encode_varint<S: EncodeSink>(n: u64, sink: &mut S) -> Result<(), EncodeError>

@@ -71,6 +71,10 @@ pub trait ExtensionCodec {
     ///
     /// # Errors
     /// Where memory runs out; never where the records are of no use to the codec.
+    ///
+    /// ```ignore
+    /// let value = Int32::decode(alloc, 7, &fields)?;
+    /// ```
     fn decode(
         alloc: Global,
         number: u32,
@@ -85,6 +89,10 @@ pub trait ExtensionCodec {
     /// # Errors
     /// What is wrong with the value, or out of memory; a beginning of its records stands then, and not all. No
     /// room is lost.
+    ///
+    /// ```ignore
+    /// C::try_encode(alloc, number, value, &mut staged)?;
+    /// ```
     fn try_encode(
         alloc: Global,
         number: u32,
@@ -103,6 +111,10 @@ pub trait ExtensionCodec {
     ///
     /// # Errors
     /// Those of [`ExtensionCodec::try_encode`].
+    ///
+    /// ```ignore
+    /// <Int32 as ExtensionCodec>::encode(alloc, 7, -7, &mut fields)?; // 38 F9 FF FF FF FF FF FF FF FF 01
+    /// ```
     fn encode(
         alloc: Global,
         number: u32,
@@ -127,8 +139,8 @@ pub trait ExtensionCodec {
 /// How one record is read as a value, and a value is written as one record.
 ///
 /// ```ignore
-/// let one = Int32::encode_one(alloc, &-7)?;
-/// let value = Int32::decode_one(alloc, &one)?; // Some(-7)
+/// let payload = C::encode_one(alloc, &value)?;
+/// let value = C::decode_one(alloc, &field.payload)?;
 /// ```
 pub trait SingularCodec {
     /// The Rust type of the values.
@@ -177,6 +189,10 @@ pub trait SingularCodec {
     ///
     /// # Errors
     /// Where memory runs out; never at a record that is of no use to the codec.
+    ///
+    /// ```ignore
+    /// let value = C::decode_one(alloc, &field.payload)?;
+    /// ```
     fn decode_one(
         alloc: Global,
         payload: &UnknownFieldData,
@@ -190,6 +206,10 @@ pub trait SingularCodec {
     /// # Errors
     /// Where memory runs out; never at a record that is of no use to the codec. What was spent stays spent,
     /// and is no more than the record may cost.
+    ///
+    /// ```ignore
+    /// let value = C::decode_one_ctx(alloc, payload, ctx)?;
+    /// ```
     fn decode_one_ctx(
         alloc: Global,
         payload: &UnknownFieldData,
@@ -208,6 +228,10 @@ pub trait SingularCodec {
     /// # Errors
     /// Where memory runs out, if they don't fit in the vector's room, which gets no smaller; a beginning of the
     /// values stands then, and not all.
+    ///
+    /// ```ignore
+    /// C::decode_packed(bytes.as_slice(), out)?;
+    /// ```
     fn decode_packed(bytes: &[u8], out: &mut Vec<Self::Value>) -> Result<(), AllocError>
         ensures ok { OnOk result (AddsValues Self.Value.meaning out.old.items (packed bytes.now) out.new.items) }
         ensures err { OnErr result (AddsSomeValues Self.Value.meaning out.old.items (packed bytes.now) out.new.items) }
@@ -220,6 +244,10 @@ pub trait SingularCodec {
     ///
     /// # Errors
     /// What is wrong with the value, or out of memory.
+    ///
+    /// ```ignore
+    /// let payload = C::try_encode_one(alloc, &value)?;
+    /// ```
     fn try_encode_one(alloc: Global, value: &Self::Value) -> Result<UnknownFieldData, EncodeError>
         ensures record { IfOk result (λ d. datum_of d ≡ text (Self.Value.meaning value.now)) }
         ensures refused { Refuses result (refusal (Self.Value.meaning value.now)) }
@@ -231,6 +259,10 @@ pub trait SingularCodec {
     ///
     /// # Errors
     /// Those of [`SingularCodec::try_encode_one`].
+    ///
+    /// ```ignore
+    /// let payload = C::encode_one(alloc, &value)?;
+    /// ```
     fn encode_one(alloc: Global, value: &Self::Value) -> Result<UnknownFieldData, EncodeError>
         ensures record { IfOk result (λ d. datum_of d ≡ text (Self.Value.meaning value.now)) }
         ensures refused { Refuses result (refusal (Self.Value.meaning value.now)) }
@@ -266,6 +298,10 @@ pub trait PackableCodec: SingularCodec {
     ///
     /// # Errors
     /// [`EncodeError::OutOfMemory`] alone, where they don't fit in the vector's room; nothing is changed then.
+    ///
+    /// ```ignore
+    /// C::encode_packed(&value, &mut bytes)?;
+    /// ```
     fn encode_packed(value: &Self::Value, buf: &mut Vec<u8>) -> Result<(), EncodeError>
         ensures ok { OnOk result (buf.new.items ≡ buf.old.items ++ packed_text (Self.Value.meaning value.now)) }
         ensures err { OnErr result (buf.new.items ≡ buf.old.items) }

@@ -11,6 +11,10 @@ use buffa_wire::{EncodeError, UnknownField, UnknownFields};
 use std::alloc::{AllocError, Global};
 
 /// A codec of which the last record that is read is the value, and whose reading spends nothing.
+///
+/// ```ignore
+/// impl LastWins for StringCodec { .. }
+/// ```
 pub trait LastWins: SingularCodec {
     /// No budget changes what a record is read as.
     ghost same: { (b c : BudgetLeft) (d : Datum) → Self.one 100 b d ≡ Self.one 100 c d };

@@ -38,11 +38,19 @@ pub trait Numbered {
     ghost back: { Self.Value.Meaning → Self.Value.Meaning };
 
     /// The value that a number means. It takes no memory.
+    ///
+    /// ```ignore
+    /// let value = N::value_of(n); // -1 for 18446744073709551615, where N is Int32
+    /// ```
     fn value_of(n: u64) -> Self::Value
         requires { Self.Form.spells n }
         ensures { Self.Value.meaning result ≡ value_of n };
 
     /// The number of a value. It takes no memory.
+    ///
+    /// ```ignore
+    /// let number = N::number_of(value);
+    /// ```
     fn number_of(value: &Self::Value) -> u64
         ensures number { result ≡ number_of (Self.Value.meaning value.now) }
         ensures fits { fits (Self.Value.meaning value.now) }

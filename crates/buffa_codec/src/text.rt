@@ -23,6 +23,10 @@ fn copied(alloc: Global, bytes: &[u8]) -> Result<Vec<u8>, AllocError>
 }
 
 /// `string`: the bytes of a record, where they are UTF-8.
+///
+/// ```ignore
+/// let label = Extension::<StringCodec>::new(50002, FieldOptions::PROTO_FQN);
+/// ```
 pub struct StringCodec;
 
 impl SingularCodec for StringCodec {
@@ -103,6 +107,10 @@ impl LastWins for StringCodec {
 }
 
 /// `bytes`: the bytes of a record.
+///
+/// ```ignore
+/// let dead = Extension::<BytesCodec>::new(7, "test.Carrier");
+/// ```
 pub struct BytesCodec;
 
 impl SingularCodec for BytesCodec {

@@ -19,7 +19,7 @@ use std::alloc::Global;
 /// value is set then. Where reading takes no memory, nothing is changed on any error.
 ///
 /// ```ignore
-/// let stored = set_then_read(alloc, &mut carrier, &ext, 4)?; // Some(4)
+/// let stored = set_then_read(alloc, &mut carrier, &ext, value)?; // Some(value)
 /// ```
 pub fn set_then_read<M: ExtensionSet, C: ExtensionCodec, D>(
     alloc: Global,

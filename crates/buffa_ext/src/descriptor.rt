@@ -26,6 +26,10 @@ pub trait Declared<V> {
     ///
     /// # Errors
     /// Where memory runs out; never where none is declared.
+    ///
+    /// ```ignore
+    /// let default = ext.declared(alloc)?;
+    /// ```
     fn declared(&self, alloc: Global) -> Result<Option<V>, AllocError>
         requires { can_declare self.now }
         ensures value { IfOk result (may_declare self.now) }
@@ -33,6 +37,10 @@ pub trait Declared<V> {
 }
 
 /// No default is declared.
+///
+/// ```ignore
+/// let ext = Extension::<C, NoDefault>::new(number, "test.Carrier");
+/// ```
 #[derive(Clone, Copy)]
 pub struct NoDefault;
 
@@ -49,6 +57,10 @@ impl<V> Declared<V> for NoDefault {
 }
 
 /// A default that a function makes anew each time. [`Extension::with_default`] declares it.
+///
+/// ```ignore
+/// let declares = Extension::<C>::with_default(number, "test.Carrier", |_alloc: Global| { .. });
+/// ```
 pub struct Make<F> {
     make: F,
 }
@@ -82,7 +94,7 @@ impl<F: Copy> Copy for Make<F> {}
 /// Every number is taken; records of number 0, and past 536,870,911, never come from bytes.
 ///
 /// ```ignore
-/// let ext = Extension::<Int32>::new(50001, "test.Carrier");
+/// let ext = Extension::<Int32>::new(7, "test.Carrier");
 /// ```
 pub struct Extension<C: ExtensionCodec, D = NoDefault> {
     pub(crate) number: u32,
@@ -111,7 +123,7 @@ impl<C: ExtensionCodec> Extension<C> {
     /// An extension of messages of the full name `extendee`, without a default. It takes no memory.
     ///
     /// ```ignore
-    /// let ext = Extension::<Int32>::new(50001, "test.Carrier");
+    /// let ext = Extension::<Int32>::new(7, "test.Carrier");
     /// ```
     pub fn new(number: u32, extendee: &'static str) -> Extension<C>
         ensures number { result.number ≡ number }
@@ -130,7 +142,7 @@ impl<C: ExtensionCodec> Extension<C> {
     /// An extension with a default, which `default` makes each time. It takes no memory here.
     ///
     /// ```ignore
-    /// let limit = Extension::<Int32>::with_default(1, "test.Carrier", |_alloc| Ok(7));
+    /// let declares = Extension::<C>::with_default(number, "test.Carrier", |_alloc: Global| { .. });
     /// ```
     pub fn with_default<F: Fn(Global) -> Result<C::Value, AllocError> + Copy>(
         number: u32,
@@ -153,6 +165,10 @@ impl<C: ExtensionCodec> Extension<C> {
 
 impl<C: ExtensionCodec, D> Extension<C, D> {
     /// The number of its records. It takes no memory.
+    ///
+    /// ```ignore
+    /// let number = ext.number(); // 7
+    /// ```
     pub fn number(&self) -> u32
         ensures { result ≡ self.now.number }
     {
@@ -160,6 +176,10 @@ impl<C: ExtensionCodec, D> Extension<C, D> {
     }
 
     /// The full name of the messages that it extends. It takes no memory.
+    ///
+    /// ```ignore
+    /// let name = ext.extendee(); // "test.Carrier"
+    /// ```
     pub fn extendee(&self) -> &'static str
         ensures { result.now ≡ self.now.extendee.now }
     {
@@ -172,6 +192,10 @@ impl<C: ExtensionCodec, D: Declared<C::Value>> Extension<C, D> {
     ///
     /// # Errors
     /// Where memory runs out; never where none is declared.
+    ///
+    /// ```ignore
+    /// let default = ext.declared(alloc)?;
+    /// ```
     pub fn declared(&self, alloc: Global) -> Result<Option<C::Value>, AllocError>
         requires { D.can_declare self.now.default }
         ensures value { IfOk result (D.may_declare self.now.default) }

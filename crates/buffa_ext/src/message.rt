@@ -24,7 +24,7 @@ use std::marker::PhantomData;
 /// A message, whose text is the bytes of a record.
 ///
 /// ```ignore
-/// let one = Extension::<MessageCodec<BudgetMsg>>::new(1, "test.Carrier");
+/// let one = Extension::<MessageCodec<FlatMsg>>::new(7, "test.Carrier");
 /// ```
 pub type MessageCodec<M> = MessageIn<Delimited, M>;
 
@@ -36,6 +36,10 @@ pub type MessageCodec<M> = MessageIn<Delimited, M>;
 pub type GroupCodec<M> = MessageIn<Grouped, M>;
 
 /// A message in records of one kind. All of a number are merged in order, under one pair of default budgets.
+///
+/// ```ignore
+/// pub type MessageCodec<M> = MessageIn<Delimited, M>;
+/// ```
 pub struct MessageIn<K, M> {
     kind: PhantomData<K>,
     of: PhantomData<M>,

@@ -19,6 +19,10 @@ use buffa_wire::{
 use std::alloc::Global;
 
 /// How records of one kind hold the texts of messages.
+///
+/// ```ignore
+/// let found = merge_number::<K, M>(alloc, number, &fields, &mut budget, &mut message)?;
+/// ```
 pub trait MessageRecord {
     /// The text in a record of this kind.
     ghost held: { Datum → Option (List ℕ) };
@@ -39,6 +43,10 @@ pub trait MessageRecord {
     ///
     /// # Errors
     /// Those of [`Message::merge`], where there is one; out of memory only where merging it may take some.
+    ///
+    /// ```ignore
+    /// let merged = K::merge_in(alloc, payload, &mut message, lent);
+    /// ```
     fn merge_in<M: Message>(
         alloc: Global,
         payload: &UnknownFieldData,
@@ -54,6 +62,10 @@ pub trait MessageRecord {
     ///
     /// # Errors
     /// Why no record holds it, or out of memory; never for a text of no bytes, nor where holding takes none.
+    ///
+    /// ```ignore
+    /// let payload = K::hold(alloc, text);
+    /// ```
     fn hold(alloc: Global, text: Vec<u8>) -> Result<UnknownFieldData, EncodeError>
         ensures record { IfOk result (λ d. datum_of d ≡ holder text.items) }
         ensures refused { Refuses result (refusal text.items) }
@@ -66,6 +78,10 @@ pub trait MessageRecord {
 }
 
 /// A length-delimited record, whose bytes are the text.
+///
+/// ```ignore
+/// pub type MessageCodec<M> = MessageIn<Delimited, M>;
+/// ```
 pub struct Delimited;
 
 impl MessageRecord for Delimited {
@@ -107,6 +123,10 @@ impl MessageRecord for Delimited {
 }
 
 /// A group, whose records' text is the text.
+///
+/// ```ignore
+/// pub type GroupCodec<M> = MessageIn<Grouped, M>;
+/// ```
 pub struct Grouped;
 
 impl MessageRecord for Grouped {

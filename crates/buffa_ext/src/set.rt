@@ -41,14 +41,26 @@ pub trait ExtensionSet {
     ghost with_fields: { Self → Held → Self };
 
     /// [`ExtensionSet::PROTO_FQN`].
+    ///
+    /// ```ignore
+    /// let name = Self::extendee_name(); // "test.Carrier"
+    /// ```
     fn extendee_name() -> &'static str
         ensures { result.now ≡ fqn };
 
     /// The unknown fields.
+    ///
+    /// ```ignore
+    /// let fields = self.unknown_fields();
+    /// ```
     fn unknown_fields(&self) -> &UnknownFields
         ensures { result.now ≡ fields_of self.now };
 
     /// The unknown fields, to be changed; the rest of the message stays.
+    ///
+    /// ```ignore
+    /// let fields = self.unknown_fields_mut();
+    /// ```
     fn unknown_fields_mut(&mut self) -> &mut UnknownFields
         ensures* lends { sem 𝓛 (Lends Self.row fields_row self.entry result (λ w. with_fields self.old w)) }
         ensures value { result.now ≡ fields_of self.old };
@@ -82,6 +94,10 @@ pub trait ExtensionSet {
     /// # Errors
     /// What is wrong with the value, or out of memory; never for a value that has no records, as an empty
     /// list. Nothing is changed then.
+    ///
+    /// ```ignore
+    /// carrier.try_set_extension(alloc, &ext, value)?;
+    /// ```
     final fn try_set_extension<C: ExtensionCodec, D>(
         &mut self,
         alloc: Global,
@@ -111,6 +127,10 @@ pub trait ExtensionSet {
     ///
     /// # Errors
     /// Those of [`ExtensionSet::try_set_extension`].
+    ///
+    /// ```ignore
+    /// carrier.set_extension(alloc, &ext, value)?;
+    /// ```
     final fn set_extension<C: ExtensionCodec, D>(
         &mut self,
         alloc: Global,

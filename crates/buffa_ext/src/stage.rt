@@ -8,6 +8,10 @@ use buffa_wire::{UnknownField, UnknownFields};
 use std::alloc::AllocError;
 
 /// Whether a record of the number is there.
+///
+/// ```ignore
+/// let is_there = has_number(self.unknown_fields(), ext.number());
+/// ```
 pub fn has_number(fields: &UnknownFields, number: u32) -> bool
     ensures { IsTrue result ↔ (sub number fields.now.records ≢ []) }
 {
@@ -20,6 +24,10 @@ pub fn has_number(fields: &UnknownFields, number: u32) -> bool
 }
 
 /// Takes the records of the number out. It takes no memory.
+///
+/// ```ignore
+/// remove(self.unknown_fields_mut(), number);
+/// ```
 pub fn remove(fields: &mut UnknownFields, number: u32)
     ensures records { fields.new.records ≡ without number fields.old.records }
     ensures room { fields.old.spare ≤ fields.new.spare }
@@ -36,6 +44,10 @@ pub fn remove(fields: &mut UnknownFields, number: u32)
 ///
 /// # Errors
 /// Where memory runs out; nothing is changed then.
+///
+/// ```ignore
+/// replace(fields, number, list)?;
+/// ```
 pub fn replace(
     fields: &mut UnknownFields,
     number: u32,

@@ -12,6 +12,10 @@ use buffa_wire::{UnknownField, UnknownFieldData, UnknownFields};
 use std::alloc::{AllocError, Global};
 
 /// A change of the records of one number.
+///
+/// ```ignore
+/// let step = Step::Clear { number };
+/// ```
 #[derive(Debug, PartialEq, Eq, Drop)]
 pub enum Step {
     /// Records that hold these take the place of the number's.
@@ -29,6 +33,10 @@ pub enum Step {
 }
 
 /// Why a replay ended early: memory ran out.
+///
+/// ```ignore
+/// let fault = ReplayFault { done };
+/// ```
 #[derive(Clone, Copy, Debug, PartialEq, Eq)]
 pub struct ReplayFault {
     /// How many steps stand; the next one changed nothing.
@@ -73,6 +81,10 @@ fn replay_one(alloc: Global, fields: &mut UnknownFields, step: Step) -> Result<(
 /// # Errors
 /// Where memory runs out: how many steps stand. It runs out at no clear, and at no set to no records. No more
 /// room is taken than the steps that stand put records in.
+///
+/// ```ignore
+/// let answer = replay(alloc, &mut fields, steps);
+/// ```
 pub fn replay(
     alloc: Global,
     fields: &mut UnknownFields,

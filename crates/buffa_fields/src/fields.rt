@@ -9,6 +9,10 @@ use buffa_wire::{DecodeContext, DecodeError, Tag};
 use std::alloc::Global;
 
 /// A struct that is a message, by its members.
+///
+/// ```ignore
+/// impl Fields for Inventory { .. }
+/// ```
 pub trait Fields: Drop {
     /// What it means: what its members mean, in pairs.
     type Meaning;
@@ -28,12 +32,20 @@ pub trait Fields: Drop {
     ghost sound: { layout.sound ≡ true };
 
     /// Visits each member.
+    ///
+    /// ```ignore
+    /// message.visit(sizer);
+    /// ```
     fn visit<V: Visitor>(&self, visitor: &mut V)
         requires { V.Waits (layout.slots (layout.meaning self.now)) visitor.old }
         ensures seen { (z : Seen) → V.IsAt z visitor.old → V.IsAt (layout.seen self.now z) visitor.new }
         ensures back { layout.Owes };
 
     /// The member of the number takes the field whose tag was read.
+    ///
+    /// ```ignore
+    /// let answer = message.take(alloc, tag, &mut rest, lent);
+    /// ```
     fn take(
         &mut self,
         alloc: Global,

@@ -59,6 +59,10 @@ fn read_alone(
 
 /// Keeps the field whose tag was read, behind the others; what is refused spends nothing. A field costs a slot of the
 /// budget, and so does each field in its groups.
+///
+/// ```ignore
+/// let answer = kept::keep(alloc, &mut self.rest, tag, buf, ctx);
+/// ```
 #[tactic(auto, unfolding(crate::specs::Layout::Kept))]
 pub fn keep(
     alloc: Global,
@@ -93,6 +97,10 @@ pub(crate) fn kept_len(fields: &UnknownFields) -> u32
 }
 
 /// Passes over the field whose tag was read.
+///
+/// ```ignore
+/// let answer = kept::pass(tag, buf, ctx);
+/// ```
 pub fn pass(tag: Tag, buf: &mut &[u8], ctx: DecodeContext<'_>) -> Result<(), DecodeError>
     ensures { Passed ctx.entry.depth tag.number tag.wire_type buf.old.now ctx.entry.budget.now result
         (budget_left ctx.exit) buf.new.now }

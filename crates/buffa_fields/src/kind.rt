@@ -8,6 +8,10 @@ ghost use Rattle.buffa_wire.specs.Values.{tag_text};
 use buffa_map::map_codec::MapCodec;
 
 /// A proto type whose values can stand in a field by themselves.
+///
+/// ```ignore
+/// impl Kind for Int32 { .. }
+/// ```
 pub trait Kind: MapCodec {
     /// The record data of a value.
     ghost datum: { Self.Value.Meaning → Datum };
@@ -16,6 +20,10 @@ pub trait Kind: MapCodec {
     ghost is_blank: { Self.Value.Meaning → Bool };
 
     /// Whether a value is the default, which isn't written where nothing says that it is there.
+    ///
+    /// ```ignore
+    /// let is_left_out = C::is_blank(part);
+    /// ```
     fn is_blank(value: &Self::Value) -> bool
         ensures { result ≡ is_blank (Self.Value.meaning value.now) };
 

@@ -22,6 +22,10 @@ use std::hash::Hash;
 use std::marker::PhantomData;
 
 /// A map field of scalars, strings or bytes, held in a [`Map`].
+///
+/// ```ignore
+/// visitor.visit::<MapOf<Str, Int32>>(5, &self.counts);
+/// ```
 pub struct MapOf<KC, VC> {
     key: PhantomData<KC>,
     value: PhantomData<VC>,

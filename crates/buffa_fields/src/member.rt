@@ -10,6 +10,10 @@ use buffa_wire::{DecodeContext, DecodeError, EncodeError, EncodeSink, SizeCache,
 use std::alloc::Global;
 
 /// A kind of members of messages: how a member's value is read and written.
+///
+/// ```ignore
+/// visitor.visit::<Plain<Int32>>(1, &self.total);
+/// ```
 pub trait Member {
     /// The member's type.
     type Part: Drop;
@@ -24,6 +28,10 @@ pub trait Member {
     ///
     /// # Errors
     /// [`EncodeError::OutOfMemory`] alone.
+    ///
+    /// ```ignore
+    /// let len = M::len(number, part, self.cache);
+    /// ```
     fn len(number: u32, part: &Self::Part, cache: &mut SizeCache) -> Result<u32, EncodeError>
         requires { IsNumber number }
         ensures { IsSized (records_text (slot.records number (slot.meaning part.now)))
@@ -33,6 +41,10 @@ pub trait Member {
     ///
     /// # Errors
     /// [`EncodeError::OutOfMemory`] alone.
+    ///
+    /// ```ignore
+    /// let answer = M::write_to(number, part, self.cache, self.sink);
+    /// ```
     fn write_to<S: EncodeSink>(
         number: u32,
         part: &Self::Part,
@@ -46,6 +58,10 @@ pub trait Member {
             (S.written sink.new) };
 
     /// Merges the field whose tag was read.
+    ///
+    /// ```ignore
+    /// let answer = Plain::<Int32>::merge(&mut self.total, alloc, tag, buf, ctx);
+    /// ```
     fn merge(
         part: &mut Self::Part,
         alloc: Global,

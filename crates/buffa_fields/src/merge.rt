@@ -13,6 +13,10 @@ use std::alloc::Global;
 /// # Errors
 /// The same. The fields before the refused one stay merged, and of the others no member is changed but that of the
 /// refused field's number.
+///
+/// ```ignore
+/// merge_fields(&mut message, alloc, bytes, ctx)?;
+/// ```
 pub fn merge_fields<M: Fields>(
     message: &mut M,
     alloc: Global,

@@ -90,6 +90,10 @@ fn merge<M: Fields>(
 }
 
 /// A struct whose members say what it means, and its default.
+///
+/// ```ignore
+/// impl Listing for Inventory { .. }
+/// ```
 pub trait Listing: Fields + Blank<Meaning = <Self as Fields>::Meaning> {
     /// It means what its members mean.
     ghost means: { (m : Self) → Self.meaning m ≡ Self.layout.meaning m };
@@ -192,6 +196,10 @@ fn members_read_back<M: Fields>(message: &M)
 }
 
 /// The text of a message reads back to it: its lengths can be read, each member is normal, and it isn't too deep.
+///
+/// ```ignore
+/// messages_read_back(&message);
+/// ```
 pub fn messages_read_back<M: Listing>(message: &M)
     ensures { let v = M.meaning message.now in (d : ℕ) → Fits (records_of (M.layout.records v)) → M.layout.normal v →
         M.layout.levels v ≤ d → merged_of M.layout.takes d M.blank_is (records_text (M.layout.records v)) ≡ Some v }

@@ -113,6 +113,10 @@ pub(crate) fn take_inside<N: Message>(
 }
 
 /// A message that may be absent. What is read is merged into the message that stands.
+///
+/// ```ignore
+/// visitor.visit::<Nested<Inventory>>(2, &self.stock);
+/// ```
 pub struct Nested<N> {
     of: PhantomData<N>,
 }

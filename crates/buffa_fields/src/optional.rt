@@ -14,6 +14,10 @@ use std::alloc::Global;
 use std::marker::PhantomData;
 
 /// A member with explicit presence: `optional` of a scalar, a string or bytes.
+///
+/// ```ignore
+/// visitor.visit::<Optional<Bool>>(3, &self.listed);
+/// ```
 pub struct Optional<C> {
     of: PhantomData<C>,
 }

@@ -27,6 +27,10 @@ use std::alloc::Global;
 use std::marker::PhantomData;
 
 /// Kinds that can be packed: a payload is no length and so many bytes.
+///
+/// ```ignore
+/// impl Packable for Int32 { .. }
+/// ```
 pub trait Packable: Kind {
     /// So a length and so many bytes are packed ones.
     ghost apart: { same_wire Self.reading.wire LengthDelimited ≡ false };
@@ -141,6 +145,10 @@ fn write_packed<C: Kind, S: EncodeSink>(
 }
 
 /// A list of scalars or open enums, which is written packed. Elements in fields of their own are read too.
+///
+/// ```ignore
+/// visitor.visit::<Packed<Sint32>>(7, &self.steps);
+/// ```
 pub struct Packed<C> {
     of: PhantomData<C>,
 }

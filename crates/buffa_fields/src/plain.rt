@@ -13,6 +13,10 @@ use std::alloc::Global;
 use std::marker::PhantomData;
 
 /// A member with implicit presence: a scalar, a string or bytes, not written where it is the default.
+///
+/// ```ignore
+/// visitor.visit::<Plain<Int32>>(1, &self.total);
+/// ```
 pub struct Plain<C> {
     of: PhantomData<C>,
 }

@@ -14,6 +14,10 @@ use std::alloc::Global;
 use std::marker::PhantomData;
 
 /// A list of scalars, strings or bytes: each element is written in a field of its own. Packed ones are read too.
+///
+/// ```ignore
+/// visitor.visit::<Repeated<Str>>(11, &self.tags);
+/// ```
 pub struct Repeated<C> {
     of: PhantomData<C>,
 }

@@ -117,7 +117,7 @@ fn write_messages<N: Message, S: EncodeSink>(
 /// A list of messages: each record is a new element, which costs its type's units of element memory, and what is in it.
 ///
 /// ```ignore
-/// visitor.visit::<RepeatedNested<Inventory>>(2, &self.stocks); // repeated Inventory stocks = 2;
+/// visitor.visit::<RepeatedNested<Parcel>>(2, &self.parcels); // repeated Parcel parcels = 2;
 /// ```
 pub struct RepeatedNested<N> {
     of: PhantomData<N>,

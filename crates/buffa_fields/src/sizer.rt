@@ -9,6 +9,11 @@ use crate::visitor::Visitor;
 use buffa_wire::{EncodeError, SizeCache, UnknownFields};
 
 /// Adds lengths, up to 2^32 - 1, and puts those of messages into a cache that is lent, until memory runs out.
+///
+/// ```ignore
+/// let mut sizer = Sizer::new(cache);
+/// let size = sizer.finish();
+/// ```
 #[derive(Drop)]
 pub struct Sizer<'a> {
     cache: &'a mut SizeCache,
@@ -17,6 +22,10 @@ pub struct Sizer<'a> {
 
 impl<'a> Sizer<'a> {
     /// Lends a cache.
+    ///
+    /// ```ignore
+    /// let mut sizer = Sizer::new(cache);
+    /// ```
     pub fn new(cache: &'a mut SizeCache) -> Sizer<'a>
         ensures same_reference { result.cache.ghost_name ≡ cache.entry.ghost_name }
         ensures cache { result.cache.now ≡ cache.old }
@@ -34,6 +43,10 @@ impl Sizer<'_> {
     ///
     /// # Errors
     /// [`EncodeError::OutOfMemory`] alone.
+    ///
+    /// ```ignore
+    /// let size = sizer.finish();
+    /// ```
     pub fn finish(self) -> Result<u32, EncodeError>
         ensures result { result ≡ self.entry.total }
         ensures cache { self.exit.0.now ≡ self.entry.cache.now }

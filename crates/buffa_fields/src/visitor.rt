@@ -8,6 +8,10 @@ use crate::member::Member;
 use buffa_wire::UnknownFields;
 
 /// What is done with each member: its length is added, or its text is written.
+///
+/// ```ignore
+/// impl Visitor for Nothing { .. }
+/// ```
 pub trait Visitor {
     /// It has seen these records, and these sizes.
     ghost IsAt: { Seen → Self → Type 0 };
@@ -16,6 +20,10 @@ pub trait Visitor {
     ghost Waits: { List ℕ → Self → Type 0 };
 
     /// The next member.
+    ///
+    /// ```ignore
+    /// visitor.visit::<Plain<Int32>>(1, &self.total);
+    /// ```
     fn visit<M: Member>(&mut self, number: u32, part: &M::Part)
         requires number { IsNumber number }
         requires waits { (rest : List ℕ) × Waits (M.slot.slots (M.slot.meaning part.now) ++ rest) self.old }
@@ -25,6 +33,10 @@ pub trait Visitor {
         ensures back { ReadsBackTo M.slot };
 
     /// The fields that were kept.
+    ///
+    /// ```ignore
+    /// visitor.visit_kept(&self.rest);
+    /// ```
     fn visit_kept(&mut self, fields: &UnknownFields)
         ensures seen { (z : Seen) → IsAt z self.old → IsAt (more fields.now.records [] z) self.new }
         ensures waits { (rest : List ℕ) → Waits rest self.old → Waits rest self.new };

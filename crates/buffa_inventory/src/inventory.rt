@@ -22,6 +22,10 @@ use std::string::String;
 ///     optional bool listed = 3;
 ///     map<string, int32> counts = 5;
 /// }
+///
+/// ```ignore
+/// let mut message: Inventory = Blank::blank(alloc);
+/// ```
 #[derive(Drop)]
 pub struct Inventory {
     pub total: i32,

@@ -33,6 +33,10 @@ use std::string::String;
 ///     repeated string tags = 11;
 ///     optional int32 floor = 12;
 /// }
+///
+/// ```ignore
+/// impl Formed for Order { .. }
+/// ```
 #[derive(Drop)]
 pub struct Order {
     pub id: i64,

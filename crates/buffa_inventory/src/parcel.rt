@@ -19,6 +19,10 @@ use std::alloc::Global;
 ///     int64 id = 1;
 ///     Inventory stock = 2;
 /// }
+///
+/// ```ignore
+/// impl Formed for Parcel { .. }
+/// ```
 #[derive(Drop)]
 pub struct Parcel {
     pub id: i64,

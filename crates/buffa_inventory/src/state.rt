@@ -7,6 +7,10 @@ use buffa_wire::{Blank, Enumeration};
 use std::alloc::Global;
 
 /// enum State { OPEN = 0; SENT = 1; }
+///
+/// ```ignore
+/// let open = EnumValue::<State>::blank(alloc);
+/// ```
 #[derive(Clone, Copy, Debug, PartialEq, Eq)]
 pub enum State {
     Open,

@@ -24,6 +24,10 @@ pub(crate) mod sealed {
 }
 
 /// Whether a payload held a declared value.
+///
+/// ```ignore
+/// let status = Ok(MapValueDecodeStatus::Known);
+/// ```
 #[derive(Clone, Copy, Debug, PartialEq, Eq)]
 #[non_exhaustive]
 pub enum MapValueDecodeStatus {
@@ -36,8 +40,8 @@ pub enum MapValueDecodeStatus {
 /// How the payloads of one proto type are read.
 ///
 /// ```ignore
-/// let mut value = C::Value::blank(alloc);
-/// let status = C::merge(alloc, &mut value, &mut rest, ctx)?;
+/// let mut value = V::blank(alloc);
+/// let status = C::merge(alloc, &mut value, buf, lent)?;
 /// ```
 pub trait MapValueDecode: sealed::Sealed {
     /// The Rust type of the values.
@@ -69,6 +73,10 @@ pub trait MapValueDecode: sealed::Sealed {
     /// four or eight bytes; of a length and bytes, what follows them, or a length that passes the end.
     /// Inside a message any error may be told, but a limit's only where the message's cost isn't left; at most
     /// that cost is spent then, and the value is some value of its type.
+    ///
+    /// ```ignore
+    /// let status = C::merge(alloc, &mut value, buf, lent)?;
+    /// ```
     fn merge<B: Buf>(
         alloc: Global,
         value: &mut Self::Value,
@@ -121,7 +129,7 @@ pub trait MapValueDecode: sealed::Sealed {
 ///
 /// ```ignore
 /// let len = C::encoded_len(value);
-/// C::encode(value, &mut text)?; // 07 for 7, where C is Int32
+/// C::encode(value, sink)?; // 07 for 7, where C is Int32
 /// ```
 pub trait MapCodec: MapValueDecode {
     /// The length of every payload in bytes, where they have one length.
@@ -140,6 +148,10 @@ pub trait MapCodec: MapValueDecode {
 
     /// The length of the payload in bytes, a length varint of its own included and the tag not. It takes no
     /// memory.
+    ///
+    /// ```ignore
+    /// let len = C::encoded_len(value);
+    /// ```
     fn encoded_len(value: &Self::Value) -> u64
         ensures len { result ≡ length (writing.text (Self.Value.meaning value.now)) }
         ensures fits { fits (Self.Value.meaning value.now) };
@@ -148,6 +160,10 @@ pub trait MapCodec: MapValueDecode {
     ///
     /// # Errors
     /// [`EncodeError::OutOfMemory`] alone, where the payload doesn't fit for sure; after a beginning of it.
+    ///
+    /// ```ignore
+    /// C::encode(value, sink)?;
+    /// ```
     fn encode<S: EncodeSink>(value: &Self::Value, sink: &mut S) -> Result<(), EncodeError>
         ensures writes { Writes result (S.written sink.old) (writing.text (Self.Value.meaning value.now))
             (S.written sink.new) }

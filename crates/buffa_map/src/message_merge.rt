@@ -93,6 +93,10 @@ where
 ///
 /// # Errors
 /// Those of [`merge_entry`](crate::map_codec::merge_entry).
+///
+/// ```ignore
+/// let answer = merge_message_entry_by::<Int32, Tree, _, _, _>(alloc, children, buf, lent, merge);
+/// ```
 pub fn merge_message_entry_by<
     KC: MapCodec,
     M: MessageSpec,

@@ -42,6 +42,10 @@ fn message_record_len<KC: MapCodec>(outer_tag_len: u64, key: &KC::Value, inner: 
 ///
 /// # Errors
 /// [`EncodeError::OutOfMemory`] alone, never for a map of no pairs; the cache's old slots come first then.
+///
+/// ```ignore
+/// let size = message_field_len_by::<Int32, Tree, _, _>(&tree.children, 1, cache, .. )?;
+/// ```
 pub fn message_field_len_by<
     'a,
     KC: MapCodec,
@@ -76,7 +80,7 @@ where
 /// [`EncodeError::OutOfMemory`] alone, never for a map of no pairs; the cache's old slots come first then.
 ///
 /// ```ignore
-/// let size = message_field_len::<Int32, FlatMsg, _>(&map, 1, &mut cache)?;
+/// let size = message_field_len::<Int32, TestMsg, _>(&map, 1, &mut cache)?;
 /// ```
 pub fn message_field_len<
     'a,

@@ -85,6 +85,10 @@ where
 /// # Errors
 /// [`EncodeError::OutOfMemory`] alone; the sink's old bytes come first then. A field that fits for sure isn't refused,
 /// where the function refuses no message that fits.
+///
+/// ```ignore
+/// write_message_field_by::<Int32, Tree, _, _, _>(children, 2, cache, sink, write)?;
+/// ```
 pub fn write_message_field_by<
     'a,
     KC: MapCodec,
@@ -129,7 +133,7 @@ where
 /// [`EncodeError::OutOfMemory`] alone; the sink's old bytes come first then.
 ///
 /// ```ignore
-/// write_message_field::<Int32, FlatMsg, _, _>(&map, 4, &mut cache, &mut text)?;
+/// write_message_field::<Int32, TestMsg, _, _>(&map, 5, &mut cache, &mut text)?;
 /// ```
 pub fn write_message_field<
     'a,

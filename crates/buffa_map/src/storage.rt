@@ -41,6 +41,10 @@ pub trait MapStorage {
     ghost keeps_order: { Bool };
 
     /// The number of pairs.
+    ///
+    /// ```ignore
+    /// let pairs = map.storage_len();
+    /// ```
     fn storage_len(&self) -> usize
         ensures len { result ≡ length (pairs self.now) }
         ensures distinct { IsDistinct equal (keys_of (pairs self.now)) };
@@ -50,6 +54,10 @@ pub trait MapStorage {
     ///
     /// # Errors
     /// `AllocError` alone; the map is as it was then.
+    ///
+    /// ```ignore
+    /// map.storage_insert(key, value)?;
+    /// ```
     fn storage_insert(&mut self, key: Self::Key, value: Self::Value) -> Result<(), AllocError>
         ensures ok { OnOk result (SamePairs equal
             (put equal (pairs self.old) (Self.Key.meaning key) (Self.Value.meaning value)) (pairs self.new)) }
@@ -58,6 +66,10 @@ pub trait MapStorage {
         ensures err { OnErr result (pairs self.new ≡ pairs self.old) };
 
     /// Takes all pairs out.
+    ///
+    /// ```ignore
+    /// map.storage_clear();
+    /// ```
     fn storage_clear(&mut self)
         ensures { pairs self.new ≡ [] };
 
@@ -86,6 +98,10 @@ where
     ghost left: { Self.Iter → List (Self.Key × Self.Value) };
 
     /// A walk, which gives each pair once.
+    ///
+    /// ```ignore
+    /// for (key, value) in map.storage_iter() { .. }
+    /// ```
     fn storage_iter(&'a self) -> Self::Iter
         ensures walk { Self.walks self.now (means Self.Key.meaning Self.Value.meaning (left result)) }
         ensures pairs { ListsOnce Self.equal (Self.pairs self.now)
@@ -98,6 +114,10 @@ where
 }
 
 /// A map whose order is a function of its value: two walks of one value are one list.
+///
+/// ```ignore
+/// impl<K: MapKey + Ord, V: Blank> StableOrder for BTreeMap<K, V> { .. }
+/// ```
 pub trait StableOrder: MapStorage {
     /// What each walk of a map gives.
     ghost walk: { Self → List (Self.Key.Meaning × Self.Value.Meaning) };
@@ -107,6 +127,10 @@ pub trait StableOrder: MapStorage {
 }
 
 /// A [`StableOrder`] that can be walked while it is lent for `'a`.
+///
+/// ```ignore
+/// impl<'a, K: MapKey + Ord + 'a, V: Blank + 'a> StableWalk<'a> for BTreeMap<K, V> {}
+/// ```
 pub trait StableWalk<'a>: MapWalk<'a> + StableOrder
 where
     Self::Key: 'a,
@@ -115,11 +139,19 @@ where
 
 /// A map that can be written while it is lent for as long as a call, as [`crate::map_codec::write_field`] does.
 /// A function that both fills and writes a map asks for it, since it can't ask for a walk of every lifetime.
+///
+/// ```ignore
+/// map.storage_write::<KC, VC, S>(number, sink)?;
+/// ```
 pub trait MapWrite: MapStorage {
     /// Writes the map as a map field, like [`crate::map_codec::write_field`].
     ///
     /// # Errors
     /// Those of [`crate::map_codec::write_field`].
+    ///
+    /// ```ignore
+    /// map.storage_write::<KC, VC, S>(number, sink)?;
+    /// ```
     fn storage_write<
         KC: MapCodec<Value = Self::Key>,
         VC: MapCodec<Value = Self::Value>,

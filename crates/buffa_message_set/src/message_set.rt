@@ -26,15 +26,31 @@ use buffa_wire::{
 use std::alloc::Global;
 
 /// The tag that begins an Item: number 1, start of group.
+///
+/// ```ignore
+/// encode_varint(ITEM_START_TAG, text)?;
+/// ```
 pub const ITEM_START_TAG: u64 = 0x0B;
 
 /// The tag that ends an Item: number 1, end of group.
+///
+/// ```ignore
+/// encode_varint(ITEM_END_TAG, text)?;
+/// ```
 pub const ITEM_END_TAG: u64 = 0x0C;
 
 /// The tag of the type id: number 2, a varint.
+///
+/// ```ignore
+/// encode_varint(TYPE_ID_TAG, text)?;
+/// ```
 pub const TYPE_ID_TAG: u64 = 0x10;
 
 /// The tag of the message: number 3, length-delimited.
+///
+/// ```ignore
+/// encode_varint(MESSAGE_TAG, text)?;
+/// ```
 pub const MESSAGE_TAG: u64 = 0x1A;
 
 // The greatest type id. Source: a type id is an int32, and positive.

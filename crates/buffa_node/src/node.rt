@@ -31,6 +31,10 @@ use std::marker::Model;
 
 /// Field 1 is a map of scores, field 2 one of nodes, field 3 one of shades. An entry of field 3 with an undeclared shade is
 /// kept as a record under 3, and so is every other field under its number.
+///
+/// ```ignore
+/// let mut node: Node = Blank::blank(alloc);
+/// ```
 #[derive(Drop)]
 pub struct Node {
     /// `map<string, int32>`.
@@ -161,6 +165,10 @@ impl Message for Node {
 ///
 /// # Errors
 /// Those of [`Message::compute_size`]; never for a node with no children.
+///
+/// ```ignore
+/// let size = size_node(child, cache);
+/// ```
 pub fn size_node(node: &Node, cache: &mut SizeCache) -> Result<u32, EncodeError>
     ensures sized { IsSized (text node.now) (slots node.now) cache.old result cache.new }
     ensures some { OnErr result (slots node.now ≢ []) }
@@ -211,6 +219,10 @@ where
 ///
 /// # Errors
 /// Those of [`Message::write_to`].
+///
+/// ```ignore
+/// let answer = write_node(child, cache, sink);
+/// ```
 pub fn write_node<S: EncodeSink>(
     node: &Node,
     cache: &mut SizeCache,

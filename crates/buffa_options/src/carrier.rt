@@ -9,7 +9,7 @@ use buffa_wire::UnknownFields;
 /// A list of records, which lends itself to extensions of `test.Carrier`.
 ///
 /// ```ignore
-/// let mut carrier = Carrier { fields: UnknownFields::decode_from_slice(alloc, &[0x08, 0x05, 0x38, 0x09])? };
+/// let carrier = Carrier { fields }; // of 08 05 38 09
 /// let ext = Extension::<Int32>::new(7, "test.Carrier");
 /// let nine = carrier.extension(alloc, &ext)?; // Some(9)
 /// ```

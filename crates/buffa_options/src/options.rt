@@ -14,6 +14,10 @@ use std::alloc::{AllocError, Global};
 
 /// The options of a field, as `google.protobuf.FieldOptions` has them: one that is declared, and the records
 /// of all others, custom options among them.
+///
+/// ```ignore
+/// impl ExtensionSet for FieldOptions { .. }
+/// ```
 #[derive(Drop)]
 pub struct FieldOptions {
     /// Whether the field is deprecated.

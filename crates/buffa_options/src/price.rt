@@ -40,7 +40,7 @@ impl Blank for Price {
 /// The codec of prices; `Repeated<PriceCodec>` and `PackedRepeated<PriceCodec>` are those of lists of them.
 ///
 /// ```ignore
-/// let ext = Extension::<PriceCodec>::new(50021, FieldOptions::PROTO_FQN);
+/// let price = Extension::<PriceCodec>::new(50021, FieldOptions::PROTO_FQN);
 /// ```
 pub struct PriceCodec;
 

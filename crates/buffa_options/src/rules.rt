@@ -7,6 +7,10 @@ use crate::options::{FieldOptions, read_bool, read_int32};
 use std::alloc::{AllocError, Global};
 
 /// What a field of type `int32` may hold.
+///
+/// ```ignore
+/// let found = read_rules(alloc, options)?;
+/// ```
 #[derive(Clone, Copy, Debug, PartialEq, Eq)]
 pub struct Rules {
     /// The least value, where one is set.
@@ -18,6 +22,10 @@ pub struct Rules {
 }
 
 /// Why a value isn't accepted.
+///
+/// ```ignore
+/// let judged = Err(Violation::TooSmall);
+/// ```
 #[derive(Clone, Copy, Debug, PartialEq, Eq)]
 pub enum Violation {
     /// A value has to be there, and none is.
@@ -34,7 +42,7 @@ pub enum Violation {
 /// None: reading numbers takes no memory.
 ///
 /// ```ignore
-/// let rules = read_rules(alloc, options)?; // min 1, max 9, required
+/// let found = read_rules(alloc, options)?; // min 1, max 9, required
 /// ```
 pub fn read_rules(alloc: Global, options: &FieldOptions) -> Result<Rules, AllocError>
     ensures value { IfOk result (λ r. r ≡ rules_in options.now.fields.records) }

@@ -21,7 +21,7 @@ use std::alloc::Global;
 /// Each field 9, a varint, counts one; other fields are passed over. It is written as so many zeros.
 ///
 /// ```ignore
-/// let most = CountMsg { count: 1_000_000 };
+/// let message = CountMsg { count };
 /// ```
 #[derive(Drop)]
 pub struct CountMsg {

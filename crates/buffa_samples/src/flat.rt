@@ -22,7 +22,7 @@ use std::alloc::Global;
 /// Field 1 is the value, an int32; other fields are passed over.
 ///
 /// ```ignore
-/// map.storage_insert(2, FlatMsg { value: -3 })?;
+/// let message = FlatMsg { value };
 /// ```
 #[derive(Drop)]
 pub struct FlatMsg {

@@ -12,6 +12,10 @@ use buffa_wire::{
 use std::alloc::Global;
 
 /// `message Inventory { map<string, int32> counts = 5; }`
+///
+/// ```ignore
+/// let mut inventory = Inventory::new(alloc);
+/// ```
 #[derive(Drop)]
 pub struct Inventory {
     /// The field of number 5.
@@ -20,6 +24,10 @@ pub struct Inventory {
 
 impl Inventory {
     /// No counts.
+    ///
+    /// ```ignore
+    /// let mut inventory = Inventory::new(alloc);
+    /// ```
     pub fn new(alloc: Global) -> Inventory
         ensures { result.counts.entries ≡ [] }
     {
@@ -29,6 +37,10 @@ impl Inventory {
     }
 
     /// The length of the text: the tag of number 5 has one byte.
+    ///
+    /// ```ignore
+    /// assert_eq!(rt; inventory.encoded_len(), 14);
+    /// ```
     pub fn encoded_len(&self) -> u64
         ensures { result ≡ saturated (field_size name_writing number_writing 1 (counted self.now.counts.entries)) }
     {
@@ -36,6 +48,10 @@ impl Inventory {
     }
 
     /// Writes a record for each count.
+    ///
+    /// ```ignore
+    /// inventory.write(&mut text)?;
+    /// ```
     pub fn write<S: EncodeSink>(&self, sink: &mut S) -> Result<(), EncodeError>
         ensures writes { WritesField name_writing number_writing 5 (S.written sink.old) (S.written sink.new) result
             (counted self.now.counts.entries) }
@@ -46,6 +62,10 @@ impl Inventory {
     }
 
     /// Reads the fields to the end of the buffer; those of other numbers are skipped.
+    ///
+    /// ```ignore
+    /// inventory.merge(alloc, &mut rest, ctx)?;
+    /// ```
     pub fn merge<B: Buf>(
         &mut self,
         alloc: Global,

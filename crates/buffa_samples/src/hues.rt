@@ -9,7 +9,7 @@ use std::alloc::Global;
 /// Two values; `A` is the default.
 ///
 /// ```ignore
-/// let b = EnumValue::<Old>::Unknown(1).normal(); // EnumValue::Known(Old::B)
+/// let b = EnumValue::<Old>::from_i32(number); // EnumValue::Known(Old::B) for 1
 /// ```
 #[derive(Clone, Copy, Debug, PartialEq, Eq, PartialOrd, Ord)]
 pub enum Old {

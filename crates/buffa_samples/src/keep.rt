@@ -103,6 +103,10 @@ impl MessageSpec for BudgetMsg {
 ///
 /// # Errors
 /// Those of [`decode_unknown_field`].
+///
+/// ```ignore
+/// let (kept, left) = read_alone(alloc, tag, buf, depth, budget.unknown_left())?;
+/// ```
 pub fn read_alone(
     alloc: Global,
     tag: Tag,

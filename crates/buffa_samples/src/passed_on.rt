@@ -21,6 +21,10 @@ use std::alloc::Global;
 use std::marker::PhantomData;
 
 /// Why a map field wasn't passed on.
+///
+/// ```ignore
+/// return Err(PassFault::Rewrite(error));
+/// ```
 #[derive(Debug, Drop)]
 pub enum PassFault {
     /// It couldn't be rewritten.

@@ -19,6 +19,10 @@ use std::alloc::Global;
 use std::collections::HashMap;
 
 /// Why a map didn't come back.
+///
+/// ```ignore
+/// return Err(TripFault::Encode(error));
+/// ```
 #[derive(Debug, Drop)]
 pub enum TripFault {
     /// It couldn't be written.

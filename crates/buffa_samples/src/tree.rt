@@ -25,6 +25,10 @@ use std::collections::BTreeMap;
 use std::marker::Model;
 
 /// Field 1 is the label, an int32; field 2 the children, by int32 keys; other fields are passed over.
+///
+/// ```ignore
+/// impl Message for Tree { .. }
+/// ```
 #[derive(Drop)]
 pub struct Tree {
     /// The label of the last field 1, or 0.
@@ -141,6 +145,10 @@ impl Message for Tree {
 ///
 /// # Errors
 /// Those of [`Message::compute_size`]; never for a tree with no children.
+///
+/// ```ignore
+/// let size = size_tree(child, cache);
+/// ```
 pub fn size_tree(tree: &Tree, cache: &mut SizeCache) -> Result<u32, EncodeError>
     ensures sized { IsSized (text tree.now) (slots tree.now) cache.old result cache.new }
     ensures some { OnErr result (slots tree.now ≢ []) }
@@ -185,6 +193,10 @@ where
 }
 
 /// The write pass: the text, and the slots of the children consumed.
+///
+/// ```ignore
+/// let answer = write_tree(child, cache, sink);
+/// ```
 pub fn write_tree<S: EncodeSink>(
     tree: &Tree,
     cache: &mut SizeCache,

@@ -7,9 +7,17 @@ use buffa_bytes::DecodeError;
 use std::marker::Model;
 
 /// The slots for unknown fields that a message is read with where nothing else is said.
+///
+/// ```ignore
+/// let fresh = Budget::new(DEFAULT_UNKNOWN_FIELD_LIMIT);
+/// ```
 pub const DEFAULT_UNKNOWN_FIELD_LIMIT: usize = 1_000_000;
 
 /// The units of element memory that a message is read with where nothing else is said.
+///
+/// ```ignore
+/// budget.take_memory(DEFAULT_ELEMENT_MEMORY_LIMIT)?;
+/// ```
 pub const DEFAULT_ELEMENT_MEMORY_LIMIT: usize = 268_435_456;
 
 /// What reading may still spend.
@@ -40,7 +48,7 @@ impl Budget {
     /// A budget of `unknown` slots and [`DEFAULT_ELEMENT_MEMORY_LIMIT`] units of element memory.
     ///
     /// ```ignore
-    /// let budget = Budget::new(3);
+    /// let mut budget = Budget::new(2);
     /// ```
     pub fn new(unknown: usize) -> Budget
         ensures unknown { result.unknown ≡ unknown }
@@ -55,7 +63,7 @@ impl Budget {
     /// The same slots, and `memory` units of element memory.
     ///
     /// ```ignore
-    /// let budget = Budget::new(1).with_element_memory(56);
+    /// let budget = Budget::new(left).with_element_memory(budget.memory_left());
     /// ```
     pub fn with_element_memory(self, memory: usize) -> Budget
         ensures { result ≡ record { unknown = self.unknown; memory = memory } }
@@ -94,7 +102,7 @@ impl Budget {
     /// no memory.
     ///
     /// ```ignore
-    /// budget.take_memory(28)?;
+    /// budget.take_memory(cost)?;
     /// ```
     pub fn take_memory(&mut self, n: usize) -> Result<(), DecodeError>
         ensures ok { OnOk result ((self.new.memory + n ≡ self.old.memory) × (self.new.unknown ≡ self.old.unknown)) }
@@ -109,6 +117,10 @@ impl Budget {
     }
 
     /// The slots that are left.
+    ///
+    /// ```ignore
+    /// let slots = budget.unknown_left();
+    /// ```
     pub fn unknown_left(&self) -> usize
         ensures { result ≡ self.now.unknown }
     {
@@ -116,6 +128,10 @@ impl Budget {
     }
 
     /// The units of element memory that are left.
+    ///
+    /// ```ignore
+    /// let units = budget.memory_left();
+    /// ```
     pub fn memory_left(&self) -> usize
         ensures { result ≡ self.now.memory }
     {

@@ -12,8 +12,8 @@ use std::marker::Model;
 ///
 /// ```ignore
 /// let mut cache = SizeCache::new(alloc);
-/// let size = message_field_len::<Int32, FlatMsg, _>(&map, 1, &mut cache)?;
-/// write_message_field::<Int32, FlatMsg, _, _>(&map, 4, &mut cache, &mut text)?;
+/// let size = message_field_len::<Int32, TestMsg, _>(&map, 1, &mut cache)?;
+/// write_message_field::<Int32, TestMsg, _, _>(&map, 5, &mut cache, &mut text)?;
 /// ```
 #[derive(Drop)]
 pub struct SizeCache {
@@ -34,6 +34,10 @@ impl Model for SizeCache {
 
 impl SizeCache {
     /// No slots. It takes no memory.
+    ///
+    /// ```ignore
+    /// let mut cache = SizeCache::new(alloc);
+    /// ```
     pub fn new(alloc: Global) -> SizeCache
         ensures { result ≡ record { slots = []; next = 0 } }
     {
@@ -48,6 +52,10 @@ impl SizeCache {
     ///
     /// # Errors
     /// [`EncodeError::OutOfMemory`] alone, never for no slots. The slots stay in any case.
+    ///
+    /// ```ignore
+    /// cache.make_room(map.storage_len())?;
+    /// ```
     pub fn make_room(&mut self, slots: usize) -> Result<(), EncodeError>
         ensures slots { self.new ≡ self.old }
         ensures which { IfErr result (λ e. e ≡ error.OutOfMemory) }
@@ -63,6 +71,10 @@ impl SizeCache {
     ///
     /// # Errors
     /// [`EncodeError::OutOfMemory`] alone; nothing is reserved then.
+    ///
+    /// ```ignore
+    /// let slot = cache.reserve()?;
+    /// ```
     pub fn reserve(&mut self) -> Result<usize, EncodeError>
         ensures place { IfOk result (λ slot. slot ≡ length self.old.slots) }
         ensures ok { OnOk result (self.new ≡ appended (0 ∷ []) self.old) }
@@ -77,6 +89,10 @@ impl SizeCache {
     }
 
     /// Puts a size into a reserved slot. It takes no memory.
+    ///
+    /// ```ignore
+    /// cache.set(slot, inner);
+    /// ```
     pub fn set(&mut self, slot: usize, size: u32)
         requires { slot < length self.old.slots }
         ensures { self.new ≡ record { slots = slice_set self.old.slots slot size; next = self.old.next } }
@@ -85,6 +101,10 @@ impl SizeCache {
     }
 
     /// Takes the next slot, in the order reserved; one has to be left. It takes no memory.
+    ///
+    /// ```ignore
+    /// let inner = cache.consume_next();
+    /// ```
     pub fn consume_next(&mut self) -> u32
         requires { self.old.next < length self.old.slots }
         ensures size { result ≡ slice_index self.old.slots self.old.next }

@@ -7,6 +7,10 @@ use crate::budget::Budget;
 use buffa_bytes::DecodeError;
 
 /// How deep a message is read where nothing else is said: groups and messages nested 100 deep.
+///
+/// ```ignore
+/// let ctx = DecodeContext::new(RECURSION_LIMIT, &mut budget);
+/// ```
 pub const RECURSION_LIMIT: u32 = 100;
 
 /// How deep reading may still go, and the one budget that all of it spends.
@@ -41,6 +45,10 @@ impl<'a> DecodeContext<'a> {
     }
 
     /// How many levels of groups and messages may still open.
+    ///
+    /// ```ignore
+    /// let depth = inner.depth();
+    /// ```
     pub fn depth(&self) -> u32
         ensures { result ≡ self.now.depth }
     {
@@ -99,7 +107,7 @@ impl<'a> DecodeContext<'a> {
     /// no memory.
     ///
     /// ```ignore
-    /// ctx.register_element_memory(28)?;
+    /// ctx.register_element_memory(count)?;
     /// ```
     pub fn register_element_memory(&mut self, n: usize) -> Result<(), DecodeError>
         ensures depth { self.new.depth ≡ self.old.depth }

@@ -17,11 +17,19 @@ pub trait Enumeration: Blank<Meaning = i32> {
     ghost of_number: { ℤ → Option Self };
 
     /// The value of the number, if one has it.
+    ///
+    /// ```ignore
+    /// let b = E::from_i32(number); // Some(Old::B) for 1, where E is Old
+    /// ```
     fn from_i32(number: i32) -> Option<Self>
         ensures value { result ≡ of_number number }
         ensures number { IfSome result (λ value. Self.meaning value ≡ number) };
 
     /// The number.
+    ///
+    /// ```ignore
+    /// let number = value.to_i32();
+    /// ```
     fn to_i32(&self) -> i32
         ensures { result ≡ Self.meaning self.now };
 
@@ -47,6 +55,10 @@ pub enum EnumValue<E> {
 
 impl<E: Enumeration> EnumValue<E> {
     /// The declared value of the number, or the number where none has it.
+    ///
+    /// ```ignore
+    /// let value = EnumValue::<Old>::from_i32(number);
+    /// ```
     pub fn from_i32(number: i32) -> EnumValue<E>
         ensures { ⟦<EnumValue<E> as Blank>⟧.meaning result ≡ open_number E.of_number number }
     {
@@ -57,6 +69,10 @@ impl<E: Enumeration> EnumValue<E> {
     }
 
     /// The number.
+    ///
+    /// ```ignore
+    /// let number = value.to_i32();
+    /// ```
     pub fn to_i32(&self) -> i32
         ensures { result ≡ (⟦<EnumValue<E> as Blank>⟧.meaning self.now).1 }
     {
@@ -69,7 +85,7 @@ impl<E: Enumeration> EnumValue<E> {
     /// The value as it is read: the declared value of its number, where one has it. It takes no memory.
     ///
     /// ```ignore
-    /// let b = EnumValue::<Old>::Unknown(1).normal(); // EnumValue::Known(Old::B)
+    /// let value = value.normal(); // EnumValue::Known(Old::B) for EnumValue::Unknown(1)
     /// ```
     pub fn normal(self) -> EnumValue<E>
         ensures { ⟦<EnumValue<E> as Blank>⟧.meaning result

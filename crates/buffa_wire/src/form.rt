@@ -20,6 +20,10 @@ use buffa_bytes::types::{decode_fixed32, decode_fixed64, encode_fixed32, encode_
 use buffa_bytes::{Buf, DecodeError, EncodeError, EncodeSink, WireType, varint_len};
 
 /// A spelling of numbers.
+///
+/// ```ignore
+/// type Form = FourBytes;
+/// ```
 pub trait Form: Sealed {
     /// The wire type of the payloads.
     const WIRE_TYPE: WireType;
@@ -37,6 +41,10 @@ pub trait Form: Sealed {
     /// # Errors
     /// [`DecodeError::UnexpectedEof`], and of varints [`DecodeError::VarintTooLong`]. What follows the tenth byte of a
     /// varint stays unread then, and all of other bytes.
+    ///
+    /// ```ignore
+    /// let n = <N::Form as Form>::read(buf)?;
+    /// ```
     fn read<B: Buf>(buf: &mut B) -> Result<u64, DecodeError>
         ensures reads { Gives (λ n. (number n, B.unread buf.new)) result (content_at WIRE_TYPE (B.unread buf.old)) }
         ensures spelled { IfOk result spells }
@@ -45,6 +53,10 @@ pub trait Form: Sealed {
         ensures tail { IsTailOf (B.unread buf.new) (B.unread buf.old) };
 
     /// The length of a number's payload in bytes, 1 to 10; the number has to be one that can be spelled.
+    ///
+    /// ```ignore
+    /// let len = <N::Form as Form>::len(N::number_of(value));
+    /// ```
     fn len(n: u64) -> u64
         requires { spells n }
         ensures { result ≡ length (payload n) };
@@ -53,6 +65,10 @@ pub trait Form: Sealed {
     ///
     /// # Errors
     /// [`EncodeError::OutOfMemory`] alone, after a beginning of the payload.
+    ///
+    /// ```ignore
+    /// let answer = <N::Form as Form>::write(N::number_of(value), sink);
+    /// ```
     fn write<S: EncodeSink>(n: u64, sink: &mut S) -> Result<(), EncodeError>
         requires { spells n }
         ensures writes { Writes result (S.written sink.old) (payload n) (S.written sink.new) }
@@ -65,11 +81,19 @@ pub trait Form: Sealed {
     ghost found: { Datum → Option ℕ };
 
     /// The number in a record of this form.
+    ///
+    /// ```ignore
+    /// let n = <N::Form as Form>::in_record(payload);
+    /// ```
     fn in_record(held: &UnknownFieldData) -> Option<u64>
         ensures found { result ≡ found (datum_of held.now) }
         ensures spelled { IfSome result spells };
 
     /// The record data of a number.
+    ///
+    /// ```ignore
+    /// let payload = <N::Form as Form>::record_of(N::number_of(value));
+    /// ```
     fn record_of(n: u64) -> UnknownFieldData
         requires { spells n }
         ensures { datum_of result ≡ datum n };
@@ -88,6 +112,10 @@ pub trait Form: Sealed {
 }
 
 /// A varint.
+///
+/// ```ignore
+/// type Form = Varint;
+/// ```
 pub struct Varint;
 
 impl Sealed for Varint {}
@@ -143,6 +171,10 @@ impl Form for Varint {
 }
 
 /// Four bytes, the lowest first.
+///
+/// ```ignore
+/// type Form = FourBytes;
+/// ```
 pub struct FourBytes;
 
 impl Sealed for FourBytes {}
@@ -198,6 +230,10 @@ impl Form for FourBytes {
 }
 
 /// Eight bytes, the lowest first.
+///
+/// ```ignore
+/// type Form = EightBytes;
+/// ```
 pub struct EightBytes;
 
 impl Sealed for EightBytes {}

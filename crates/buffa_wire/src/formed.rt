@@ -19,6 +19,10 @@ use buffa_bytes::{Blank, DecodeError, EncodeError, EncodeSink, Tag, WireType};
 use std::alloc::Global;
 
 /// How the messages of a type are read and written: all that [`MessageSpec`] and [`Message`] ask.
+///
+/// ```ignore
+/// impl<M: Listing> MessageForm<M> for Listed { .. }
+/// ```
 pub trait MessageForm<M: Blank> {
     /// The units of element memory that a message costs where it is an element.
     const COST: usize;
@@ -66,6 +70,10 @@ pub trait MessageForm<M: Blank> {
     ///
     /// # Errors
     /// Those of [`Message::compute_size`].
+    ///
+    /// ```ignore
+    /// let size = <M::Form as MessageForm<M>>::compute_size(self, cache)?;
+    /// ```
     fn compute_size(message: &M, cache: &mut SizeCache) -> Result<u32, EncodeError>
         ensures { IsSized (records_text (records (M.meaning message.now))) (slots (M.meaning message.now)) cache.old result
             cache.new };
@@ -74,6 +82,10 @@ pub trait MessageForm<M: Blank> {
     ///
     /// # Errors
     /// Those of [`Message::write_to`].
+    ///
+    /// ```ignore
+    /// <M::Form as MessageForm<M>>::write_to(self, cache, sink)?;
+    /// ```
     fn write_to<S: EncodeSink>(
         message: &M,
         cache: &mut SizeCache,
@@ -87,6 +99,10 @@ pub trait MessageForm<M: Blank> {
     ///
     /// # Errors
     /// Those of [`Message::merge_field`].
+    ///
+    /// ```ignore
+    /// <M::Form as MessageForm<M>>::merge_field(self, alloc, tag, buf, ctx)?;
+    /// ```
     fn merge_field(
         message: &mut M,
         alloc: Global,
@@ -104,6 +120,12 @@ pub trait MessageForm<M: Blank> {
 }
 
 /// A type whose messages are read and written as another type says. It is a [`Message`] by that alone.
+///
+/// ```ignore
+/// impl Formed for Inventory {
+///     type Form = Listed;
+/// }
+/// ```
 pub trait Formed: Blank {
     /// How: a [`MessageForm`] of it.
     type Form;

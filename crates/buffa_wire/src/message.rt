@@ -27,9 +27,17 @@ use buffa_bytes::{Blank, Buf, DecodeError, EncodeError, EncodeSink, Tag, WireTyp
 use std::alloc::Global;
 
 /// The most bytes that a message's text may have: 2^31 - 1.
+///
+/// ```ignore
+/// if len > MAX_MESSAGE_BYTES { .. }
+/// ```
 pub const MAX_MESSAGE_BYTES: u32 = 2_147_483_647;
 
 /// What the bytes of a type of messages mean.
+///
+/// ```ignore
+/// impl MessageSpec for Tree { .. }
+/// ```
 pub trait MessageSpec: Blank {
     /// The units of element memory that a message costs where it is an element.
     const COST: usize;
@@ -85,11 +93,19 @@ pub trait MessageSpec: Blank {
 }
 
 /// A message, which bytes can be merged into, and which is written in two passes.
+///
+/// ```ignore
+/// impl Message for Tree { .. }
+/// ```
 pub trait Message: MessageSpec {
     /// The size pass: the length of the text, or 2^32 - 1 where it is more. The value's slots are appended.
     ///
     /// # Errors
     /// [`EncodeError::OutOfMemory`] alone; the old slots come first then.
+    ///
+    /// ```ignore
+    /// let size = message.compute_size(&mut cache)?;
+    /// ```
     fn compute_size(&self, cache: &mut SizeCache) -> Result<u32, EncodeError>
         ensures { IsSized (Self.text (Self.meaning self.now)) (Self.slots (Self.meaning self.now)) cache.old result
             cache.new };
@@ -100,6 +116,10 @@ pub trait Message: MessageSpec {
     ///
     /// # Errors
     /// [`EncodeError::OutOfMemory`] alone, after a beginning of the text; some of the value's slots are consumed then.
+    ///
+    /// ```ignore
+    /// message.write_to(cache, sink)?;
+    /// ```
     fn write_to<S: EncodeSink>(
         &self,
         cache: &mut SizeCache,
@@ -110,6 +130,10 @@ pub trait Message: MessageSpec {
             (S.written sink.old) result cache.new (S.written sink.new) };
 
     /// Leaves the default.
+    ///
+    /// ```ignore
+    /// message.clear(alloc);
+    /// ```
     fn clear(&mut self, alloc: Global)
         ensures { Self.meaning self.new ≡ Self.blank_is }
     {
@@ -121,6 +145,10 @@ pub trait Message: MessageSpec {
     /// # Errors
     /// [`EncodeError::MessageTooLarge`] where the text is longer than 2^31 - 1 bytes; or
     /// [`EncodeError::OutOfMemory`].
+    ///
+    /// ```ignore
+    /// let text = message.try_encode_to_vec(alloc)?;
+    /// ```
     fn try_encode_to_vec(&self, alloc: Global) -> Result<Vec<u8>, EncodeError>
         ensures text { IfOk result (λ v. (v.items ≡ Self.text (Self.meaning self.now))
             × (length (Self.text (Self.meaning self.now)) < 2 ^ 31)) }
@@ -142,6 +170,10 @@ pub trait Message: MessageSpec {
     /// # Errors
     /// Those of [`Message::merge`], of this field alone where its payload is whole; never
     /// [`DecodeError::OutOfMemory`] for an end tag. The value is then some value of its type.
+    ///
+    /// ```ignore
+    /// message.merge_field(alloc, tag, buf, ctx)?;
+    /// ```
     fn merge_field(
         &mut self,
         alloc: Global,
@@ -159,6 +191,10 @@ pub trait Message: MessageSpec {
     /// Any but a limit's where the bytes mean no value; any where their cost isn't left; or
     /// [`DecodeError::OutOfMemory`], only where a tag that is no end tag begins the bytes. The value is then some value of
     /// its type.
+    ///
+    /// ```ignore
+    /// let answer = message.merge(alloc, bytes, DecodeContext::new(1, &mut budget));
+    /// ```
     fn merge(
         &mut self,
         alloc: Global,
@@ -211,6 +247,10 @@ pub trait Message: MessageSpec {
     /// In this order: [`DecodeError::RecursionLimitExceeded`] where no level is left; the length's faults;
     /// those of [`Message::merge`]. What follows a length that passes the end stays unread then, and what follows the
     /// message.
+    ///
+    /// ```ignore
+    /// message.merge_length_delimited(alloc, buf, ctx)?;
+    /// ```
     fn merge_length_delimited<B: Buf>(
         &mut self,
         alloc: Global,

@@ -7,6 +7,10 @@ use crate::sealed::Sealed;
 use buffa_bytes::Blank;
 
 /// A proto type whose values are one number each.
+///
+/// ```ignore
+/// impl Scalar for Int32 { .. }
+/// ```
 pub trait Scalar: Sealed {
     /// The Rust type of the values.
     type Value: Blank;
@@ -34,11 +38,19 @@ pub trait Scalar: Sealed {
     ghost fits: { Self.Value.Meaning → Type 0 };
 
     /// The value that a number means.
+    ///
+    /// ```ignore
+    /// let value = <Int32 as Scalar>::value_of(n);
+    /// ```
     fn value_of(n: u64) -> Self::Value
         requires { Self.Form.spells n }
         ensures { Self.Value.meaning result ≡ value_of n };
 
     /// The number of a value.
+    ///
+    /// ```ignore
+    /// let number = <Int32 as Scalar>::number_of(&value.to_i32());
+    /// ```
     fn number_of(value: &Self::Value) -> u64
         ensures number { result ≡ number_of (Self.Value.meaning value.now) }
         ensures fits { fits (Self.Value.meaning value.now) }

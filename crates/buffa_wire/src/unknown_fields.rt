@@ -53,7 +53,7 @@ pub enum UnknownFieldData {
 /// Unknown fields, in the order in which they came.
 ///
 /// ```ignore
-/// let fields = UnknownFields::decode_from_slice(alloc, &[0x08, 0x05, 0x38, 0x09])?; // the fields 1 and 7
+/// let fields = UnknownFields::decode_from_slice(alloc, &[0x38, 0x01])?; // the field 7, a varint
 /// ```
 #[cycle(fields)]
 #[derive(Debug, Drop)]

@@ -47,7 +47,7 @@ fn take_into<B: Buf>(buf: &mut B, bytes: &mut [u8]) -> Result<(), DecodeError>
 /// [`EncodeError::OutOfMemory`] alone, after a beginning of the text.
 ///
 /// ```ignore
-/// encode_fixed32(0x0102_0304, &mut text)?; // 04 03 02 01
+/// encode_fixed32(*value, text)?; // 04 03 02 01 for 0x0102_0304
 /// ```
 pub fn encode_fixed32<S: EncodeSink>(value: u32, sink: &mut S) -> Result<(), EncodeError>
     ensures writes { Writes result (S.written sink.old) (fixed32_text value) (S.written sink.new) }
@@ -62,7 +62,7 @@ pub fn encode_fixed32<S: EncodeSink>(value: u32, sink: &mut S) -> Result<(), Enc
 /// [`DecodeError::UnexpectedEof`] where fewer bytes are left. It takes no memory.
 ///
 /// ```ignore
-/// let one = decode_fixed32(&mut rest)?; // of 01 00 00 00
+/// let one = decode_fixed32(buf)?; // of 01 00 00 00
 /// ```
 pub fn decode_fixed32<B: Buf>(buf: &mut B) -> Result<u32, DecodeError>
     ensures reads { Gives (λ v. (v, B.unread buf.new)) result (fixed32_at (B.unread buf.old)) }
@@ -81,7 +81,7 @@ pub fn decode_fixed32<B: Buf>(buf: &mut B) -> Result<u32, DecodeError>
 /// [`EncodeError::OutOfMemory`] alone, after a beginning of the text.
 ///
 /// ```ignore
-/// encode_fixed64(0x0102_0304_0506_0708, &mut text)?; // 08 07 06 05 04 03 02 01
+/// encode_fixed64(*value, text)?; // 08 07 06 05 04 03 02 01 for 0x0102_0304_0506_0708
 /// ```
 pub fn encode_fixed64<S: EncodeSink>(value: u64, sink: &mut S) -> Result<(), EncodeError>
     ensures writes { Writes result (S.written sink.old) (fixed64_text value) (S.written sink.new) }
@@ -96,7 +96,7 @@ pub fn encode_fixed64<S: EncodeSink>(value: u64, sink: &mut S) -> Result<(), Enc
 /// [`DecodeError::UnexpectedEof`] where fewer bytes are left. It takes no memory.
 ///
 /// ```ignore
-/// let one = decode_fixed64(&mut rest)?; // of 01 00 00 00 00 00 00 00
+/// let one = decode_fixed64(buf)?; // of 01 00 00 00 00 00 00 00
 /// ```
 pub fn decode_fixed64<B: Buf>(buf: &mut B) -> Result<u64, DecodeError>
     ensures reads { Gives (λ v. (v, B.unread buf.new)) result (fixed64_at (B.unread buf.old)) }
@@ -115,7 +115,7 @@ pub fn decode_fixed64<B: Buf>(buf: &mut B) -> Result<u64, DecodeError>
 /// [`EncodeError::OutOfMemory`] alone, after a beginning of the text.
 ///
 /// ```ignore
-/// encode_sfixed32(-2, &mut text)?; // FE FF FF FF
+/// encode_sfixed32(*value, text)?; // FE FF FF FF for -2
 /// ```
 pub fn encode_sfixed32<S: EncodeSink>(value: i32, sink: &mut S) -> Result<(), EncodeError>
     ensures writes { Writes result (S.written sink.old) (sfixed32_text value) (S.written sink.new) }
@@ -130,7 +130,7 @@ pub fn encode_sfixed32<S: EncodeSink>(value: i32, sink: &mut S) -> Result<(), En
 /// [`DecodeError::UnexpectedEof`] where fewer bytes are left. It takes no memory.
 ///
 /// ```ignore
-/// let minus_one = decode_sfixed32(&mut rest)?; // of FF FF FF FF
+/// let minus_one = decode_sfixed32(buf)?; // of FF FF FF FF
 /// ```
 pub fn decode_sfixed32<B: Buf>(buf: &mut B) -> Result<i32, DecodeError>
     ensures reads { Gives (λ v. (v, B.unread buf.new)) result (sfixed32_at (B.unread buf.old)) }
@@ -149,7 +149,7 @@ pub fn decode_sfixed32<B: Buf>(buf: &mut B) -> Result<i32, DecodeError>
 /// [`EncodeError::OutOfMemory`] alone, after a beginning of the text.
 ///
 /// ```ignore
-/// encode_sfixed64(-2, &mut text)?; // FE FF FF FF FF FF FF FF
+/// encode_sfixed64(*value, text)?; // FE FF FF FF FF FF FF FF for -2
 /// ```
 pub fn encode_sfixed64<S: EncodeSink>(value: i64, sink: &mut S) -> Result<(), EncodeError>
     ensures writes { Writes result (S.written sink.old) (sfixed64_text value) (S.written sink.new) }
@@ -164,7 +164,7 @@ pub fn encode_sfixed64<S: EncodeSink>(value: i64, sink: &mut S) -> Result<(), En
 /// [`DecodeError::UnexpectedEof`] where fewer bytes are left. It takes no memory.
 ///
 /// ```ignore
-/// let minus_one = decode_sfixed64(&mut rest)?; // of FF FF FF FF FF FF FF FF
+/// let minus_one = decode_sfixed64(buf)?; // of FF FF FF FF FF FF FF FF
 /// ```
 pub fn decode_sfixed64<B: Buf>(buf: &mut B) -> Result<i64, DecodeError>
     ensures reads { Gives (λ v. (v, B.unread buf.new)) result (sfixed64_at (B.unread buf.old)) }

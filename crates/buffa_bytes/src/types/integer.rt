@@ -20,7 +20,7 @@ use crate::varint::{decode_varint, encode_varint, varint_len};
 /// The length of an int32's text: 1 to 5 bytes, or 10 for a negative one.
 ///
 /// ```ignore
-/// let ten = int32_encoded_len(-2);
+/// let len = int32_encoded_len(*value); // 10 for -2
 /// ```
 pub fn int32_encoded_len(value: i32) -> usize
     ensures { result ≡ length (int32_text value) }
@@ -35,7 +35,7 @@ pub fn int32_encoded_len(value: i32) -> usize
 /// [`EncodeError::OutOfMemory`] alone, after a beginning of the text.
 ///
 /// ```ignore
-/// encode_int32(-2, &mut text)?; // FE FF FF FF FF FF FF FF FF 01
+/// encode_int32(*value, text)?; // FE FF FF FF FF FF FF FF FF 01 for -2
 /// ```
 pub fn encode_int32<S: EncodeSink>(value: i32, sink: &mut S) -> Result<(), EncodeError>
     ensures writes { Writes result (S.written sink.old) (int32_text value) (S.written sink.new) }
@@ -50,7 +50,7 @@ pub fn encode_int32<S: EncodeSink>(value: i32, sink: &mut S) -> Result<(), Encod
 /// Those of a varint. It takes no memory.
 ///
 /// ```ignore
-/// let answer = decode_int32(&mut rest)?; // of 2A: 42
+/// let answer = decode_int32(buf)?; // of 2A: 42
 /// ```
 pub fn decode_int32<B: Buf>(buf: &mut B) -> Result<i32, DecodeError>
     ensures reads { Gives (λ v. (v, B.unread buf.new)) result (int32_at (B.unread buf.old)) }
@@ -65,7 +65,7 @@ pub fn decode_int32<B: Buf>(buf: &mut B) -> Result<i32, DecodeError>
 /// The length of an int64's text: 1 to 9 bytes, or 10 for a negative one.
 ///
 /// ```ignore
-/// let ten = int64_encoded_len(-1);
+/// let len = int64_encoded_len(*value); // 10 for -1
 /// ```
 pub fn int64_encoded_len(value: i64) -> usize
     ensures { result ≡ length (int64_text value) }
@@ -80,7 +80,7 @@ pub fn int64_encoded_len(value: i64) -> usize
 /// [`EncodeError::OutOfMemory`] alone, after a beginning of the text.
 ///
 /// ```ignore
-/// encode_int64(-1, &mut text)?; // FF FF FF FF FF FF FF FF FF 01
+/// encode_int64(*value, text)?; // FF FF FF FF FF FF FF FF FF 01 for -1
 /// ```
 pub fn encode_int64<S: EncodeSink>(value: i64, sink: &mut S) -> Result<(), EncodeError>
     ensures writes { Writes result (S.written sink.old) (int64_text value) (S.written sink.new) }
@@ -95,7 +95,7 @@ pub fn encode_int64<S: EncodeSink>(value: i64, sink: &mut S) -> Result<(), Encod
 /// Those of a varint. It takes no memory.
 ///
 /// ```ignore
-/// let answer = decode_int64(&mut rest)?; // of 2A: 42
+/// let answer = decode_int64(buf)?; // of 2A: 42
 /// ```
 pub fn decode_int64<B: Buf>(buf: &mut B) -> Result<i64, DecodeError>
     ensures reads { Gives (λ v. (v, B.unread buf.new)) result (int64_at (B.unread buf.old)) }
@@ -110,7 +110,7 @@ pub fn decode_int64<B: Buf>(buf: &mut B) -> Result<i64, DecodeError>
 /// The length of a uint32's text: 1 to 5 bytes.
 ///
 /// ```ignore
-/// let five = uint32_encoded_len(u32::MAX);
+/// let len = uint32_encoded_len(*value); // 2 for 150
 /// ```
 pub fn uint32_encoded_len(value: u32) -> usize
     ensures { result ≡ length (uint32_text value) }
@@ -124,7 +124,7 @@ pub fn uint32_encoded_len(value: u32) -> usize
 /// [`EncodeError::OutOfMemory`] alone, after a beginning of the text.
 ///
 /// ```ignore
-/// encode_uint32(150, &mut text)?; // 96 01
+/// encode_uint32(*value, text)?; // 96 01 for 150
 /// ```
 pub fn encode_uint32<S: EncodeSink>(value: u32, sink: &mut S) -> Result<(), EncodeError>
     ensures writes { Writes result (S.written sink.old) (uint32_text value) (S.written sink.new) }
@@ -139,7 +139,7 @@ pub fn encode_uint32<S: EncodeSink>(value: u32, sink: &mut S) -> Result<(), Enco
 /// Those of a varint. It takes no memory.
 ///
 /// ```ignore
-/// let number = decode_uint32(&mut rest)?; // of 96 01: 150
+/// let number = decode_uint32(buf)?; // of 96 01: 150
 /// ```
 pub fn decode_uint32<B: Buf>(buf: &mut B) -> Result<u32, DecodeError>
     ensures reads { Gives (λ v. (v, B.unread buf.new)) result (uint32_at (B.unread buf.old)) }
@@ -154,7 +154,7 @@ pub fn decode_uint32<B: Buf>(buf: &mut B) -> Result<u32, DecodeError>
 /// The length of a uint64's text: 1 to 10 bytes.
 ///
 /// ```ignore
-/// let ten = uint64_encoded_len(u64::MAX);
+/// let len = uint64_encoded_len(*value); // 2 for 150
 /// ```
 pub fn uint64_encoded_len(value: u64) -> usize
     ensures { result ≡ length (uint64_text value) }
@@ -168,7 +168,7 @@ pub fn uint64_encoded_len(value: u64) -> usize
 /// [`EncodeError::OutOfMemory`] alone, after a beginning of the text.
 ///
 /// ```ignore
-/// encode_uint64(150, &mut text)?; // 96 01
+/// encode_uint64(*value, text)?; // 96 01 for 150
 /// ```
 pub fn encode_uint64<S: EncodeSink>(value: u64, sink: &mut S) -> Result<(), EncodeError>
     ensures writes { Writes result (S.written sink.old) (uint64_text value) (S.written sink.new) }
@@ -183,7 +183,7 @@ pub fn encode_uint64<S: EncodeSink>(value: u64, sink: &mut S) -> Result<(), Enco
 /// Those of a varint. It takes no memory.
 ///
 /// ```ignore
-/// let number = decode_uint64(&mut rest)?; // of 96 01: 150
+/// let number = decode_uint64(buf)?; // of 96 01: 150
 /// ```
 pub fn decode_uint64<B: Buf>(buf: &mut B) -> Result<u64, DecodeError>
     ensures reads { Gives (λ v. (v, B.unread buf.new)) result (uint64_at (B.unread buf.old)) }
@@ -197,7 +197,7 @@ pub fn decode_uint64<B: Buf>(buf: &mut B) -> Result<u64, DecodeError>
 /// The length of a sint32's text: 1 to 5 bytes.
 ///
 /// ```ignore
-/// let one = sint32_encoded_len(-2);
+/// let len = sint32_encoded_len(*value); // 1 for -2
 /// ```
 pub fn sint32_encoded_len(value: i32) -> usize
     ensures { result ≡ length (sint32_text value) }
@@ -211,7 +211,7 @@ pub fn sint32_encoded_len(value: i32) -> usize
 /// [`EncodeError::OutOfMemory`] alone, after a beginning of the text.
 ///
 /// ```ignore
-/// encode_sint32(-2, &mut text)?; // 03
+/// encode_sint32(*value, text)?; // 03 for -2
 /// ```
 pub fn encode_sint32<S: EncodeSink>(value: i32, sink: &mut S) -> Result<(), EncodeError>
     ensures writes { Writes result (S.written sink.old) (sint32_text value) (S.written sink.new) }
@@ -226,7 +226,7 @@ pub fn encode_sint32<S: EncodeSink>(value: i32, sink: &mut S) -> Result<(), Enco
 /// Those of a varint. It takes no memory.
 ///
 /// ```ignore
-/// let minus_two = decode_sint32(&mut rest)?; // of 03
+/// let minus_two = decode_sint32(buf)?; // of 03
 /// ```
 pub fn decode_sint32<B: Buf>(buf: &mut B) -> Result<i32, DecodeError>
     ensures reads { Gives (λ v. (v, B.unread buf.new)) result (sint32_at (B.unread buf.old)) }
@@ -241,7 +241,7 @@ pub fn decode_sint32<B: Buf>(buf: &mut B) -> Result<i32, DecodeError>
 /// The length of a sint64's text: 1 to 10 bytes.
 ///
 /// ```ignore
-/// let ten = sint64_encoded_len(i64::MIN);
+/// let len = sint64_encoded_len(*value); // 1 for -2
 /// ```
 pub fn sint64_encoded_len(value: i64) -> usize
     ensures { result ≡ length (sint64_text value) }
@@ -255,7 +255,7 @@ pub fn sint64_encoded_len(value: i64) -> usize
 /// [`EncodeError::OutOfMemory`] alone, after a beginning of the text.
 ///
 /// ```ignore
-/// encode_sint64(-2, &mut text)?; // 03
+/// encode_sint64(*value, text)?; // 03 for -2
 /// ```
 pub fn encode_sint64<S: EncodeSink>(value: i64, sink: &mut S) -> Result<(), EncodeError>
     ensures writes { Writes result (S.written sink.old) (sint64_text value) (S.written sink.new) }
@@ -270,7 +270,7 @@ pub fn encode_sint64<S: EncodeSink>(value: i64, sink: &mut S) -> Result<(), Enco
 /// Those of a varint. It takes no memory.
 ///
 /// ```ignore
-/// let minus_two = decode_sint64(&mut rest)?; // of 03
+/// let minus_two = decode_sint64(buf)?; // of 03
 /// ```
 pub fn decode_sint64<B: Buf>(buf: &mut B) -> Result<i64, DecodeError>
     ensures reads { Gives (λ v. (v, B.unread buf.new)) result (sint64_at (B.unread buf.old)) }
@@ -291,7 +291,7 @@ pub const BOOL_ENCODED_LEN: usize = 1;
 /// [`EncodeError::OutOfMemory`] alone, after a beginning of the text.
 ///
 /// ```ignore
-/// encode_bool(true, &mut text)?; // 01
+/// encode_bool(*value, text)?; // 01 for true
 /// ```
 pub fn encode_bool<S: EncodeSink>(value: bool, sink: &mut S) -> Result<(), EncodeError>
     ensures writes { Writes result (S.written sink.old) (bool_text value) (S.written sink.new) }
@@ -306,7 +306,7 @@ pub fn encode_bool<S: EncodeSink>(value: bool, sink: &mut S) -> Result<(), Encod
 /// Those of a varint. It takes no memory.
 ///
 /// ```ignore
-/// let yes = decode_bool(&mut rest)?; // of 01: true
+/// let yes = decode_bool(buf)?; // of 01: true
 /// ```
 pub fn decode_bool<B: Buf>(buf: &mut B) -> Result<bool, DecodeError>
     ensures reads { Gives (λ v. (v, B.unread buf.new)) result (bool_at (B.unread buf.old)) }

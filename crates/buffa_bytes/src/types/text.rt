@@ -20,7 +20,7 @@ use std::alloc::Global;
 /// The length of a string's text: the length varint and the bytes.
 ///
 /// ```ignore
-/// let eight = string_encoded_len("testing");
+/// let len = string_encoded_len(value.as_str()); // 8 for "testing"
 /// ```
 pub fn string_encoded_len(value: &str) -> usize
     ensures { result ≡ length (delimited_text value.now) }
@@ -54,7 +54,7 @@ pub fn encode_string<S: EncodeSink>(value: &str, sink: &mut S) -> Result<(), Enc
 /// stays unread then, and what follows the string.
 ///
 /// ```ignore
-/// let bee = decode_string(alloc, &mut rest)?; // of 03 62 65 65: "bee"
+/// let bee = decode_string(alloc, buf)?; // of 03 62 65 65: "bee"
 /// ```
 pub fn decode_string<B: Buf>(alloc: Global, buf: &mut B) -> Result<String, DecodeError>
     ensures reads { GivesUnlessFull (λ s. (string_bytes s, B.unread buf.new)) result (string_at (B.unread buf.old)) }
@@ -80,7 +80,7 @@ pub fn decode_string<B: Buf>(alloc: Global, buf: &mut B) -> Result<String, Decod
 /// The length of a bytes value's text: the length varint and the bytes.
 ///
 /// ```ignore
-/// let eight = bytes_encoded_len(b"testing");
+/// let len = bytes_encoded_len(value.as_slice()); // 3 for DE AD
 /// ```
 pub fn bytes_encoded_len(value: &[u8]) -> usize
     ensures { result ≡ length (delimited_text value.now) }
@@ -94,7 +94,7 @@ pub fn bytes_encoded_len(value: &[u8]) -> usize
 /// [`EncodeError::OutOfMemory`] alone, after a beginning of the text.
 ///
 /// ```ignore
-/// encode_bytes(b"testing", &mut text)?; // 07 74 65 73 74 69 6E 67
+/// encode_bytes(value.as_slice(), text)?; // 02 DE AD for DE AD
 /// ```
 #[inline(always)]
 #[tactic(auto, using(crate::proofs::SinkLemmas::writes_then, crate::proofs::SinkLemmas::front_first, crate::proofs::SinkLemmas::room_then))]
@@ -114,7 +114,7 @@ pub fn encode_bytes<S: EncodeSink>(value: &[u8], sink: &mut S) -> Result<(), Enc
 /// the bytes.
 ///
 /// ```ignore
-/// let dead = decode_bytes(alloc, &mut rest)?; // of 02 DE AD: DE AD
+/// let dead = decode_bytes(alloc, buf)?; // of 02 DE AD: DE AD
 /// ```
 #[tactic(auto, using(crate::proofs::TailLemmas::tail_more))]
 pub fn decode_bytes<B: Buf>(alloc: Global, buf: &mut B) -> Result<Vec<u8>, DecodeError>
@@ -135,7 +135,7 @@ pub fn decode_bytes<B: Buf>(alloc: Global, buf: &mut B) -> Result<Vec<u8>, Decod
 /// As [`decode_bytes`].
 ///
 /// ```ignore
-/// let dead = decode_bytes_to_bytes(alloc, &mut rest)?; // of 02 DE AD: DE AD
+/// let dead = decode_bytes_to_bytes(alloc, buf)?; // of 02 DE AD: DE AD
 /// ```
 pub fn decode_bytes_to_bytes<B: Buf>(alloc: Global, buf: &mut B) -> Result<Bytes, DecodeError>
     ensures reads { GivesUnlessFull (λ b. (b, B.unread buf.new)) result (delimited_at (B.unread buf.old)) }
@@ -161,7 +161,7 @@ pub fn decode_bytes_to_bytes<B: Buf>(alloc: Global, buf: &mut B) -> Result<Bytes
 /// As [`decode_string`].
 ///
 /// ```ignore
-/// let bee = decode_string_to::<String, _>(alloc, &mut rest)?; // of 03 62 65 65: "bee"
+/// let bee = decode_string_to::<S, B>(alloc, buf)?; // of 03 62 65 65: "bee"
 /// ```
 pub fn decode_string_to<S: ProtoString, B: Buf>(
     alloc: Global,
@@ -194,7 +194,7 @@ pub fn decode_string_to<S: ProtoString, B: Buf>(
 /// As [`decode_bytes`].
 ///
 /// ```ignore
-/// let dead = decode_bytes_to::<Vec<u8>, _>(alloc, &mut rest)?; // of 02 DE AD: DE AD
+/// let dead = decode_bytes_to::<P, B>(alloc, buf)?; // of 02 DE AD: DE AD
 /// ```
 pub fn decode_bytes_to<P: ProtoBytes, B: Buf>(alloc: Global, buf: &mut B) -> Result<P, DecodeError>
     ensures reads { GivesUnlessFull (λ p. (P.meaning p, B.unread buf.new)) result

@@ -103,9 +103,17 @@ impl<T: ProtoString> MapCodec for ProtoStringMap<T> {
 }
 
 /// `string`: a `String`.
+///
+/// ```ignore
+/// let size = field_len::<Str, Int32, _>(&map, 1);
+/// ```
 pub type Str = ProtoStringMap<String>;
 
 /// `bytes`: a `Vec<u8>`.
+///
+/// ```ignore
+/// visitor.visit::<Plain<BytesVec>>(6, &self.blob);
+/// ```
 pub type BytesVec = ProtoBytesMap<Vec<u8>>;
 
 /// `bytes`: a `bytes::Bytes`, which can be shared with no copy.

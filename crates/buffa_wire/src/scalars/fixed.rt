@@ -11,6 +11,10 @@ use crate::scalar::Scalar;
 use crate::sealed::Sealed;
 
 /// `fixed32`: a `u32` as four bytes.
+///
+/// ```ignore
+/// let ext = Extension::<Fixed32>::new(7, "test.Carrier");
+/// ```
 pub struct Fixed32;
 
 impl Sealed for Fixed32 {}
@@ -50,6 +54,10 @@ impl Scalar for Fixed32 {
 }
 
 /// `fixed64`: a `u64` as eight bytes.
+///
+/// ```ignore
+/// let ext = Extension::<Fixed64>::new(7, "test.Carrier");
+/// ```
 pub struct Fixed64;
 
 impl Sealed for Fixed64 {}
@@ -89,6 +97,10 @@ impl Scalar for Fixed64 {
 }
 
 /// `sfixed32`: an `i32` as four bytes in two's complement.
+///
+/// ```ignore
+/// let ext = Extension::<Sfixed32>::new(7, "test.Carrier");
+/// ```
 pub struct Sfixed32;
 
 impl Sealed for Sfixed32 {}
@@ -128,6 +140,10 @@ impl Scalar for Sfixed32 {
 }
 
 /// `sfixed64`: an `i64` as eight bytes in two's complement.
+///
+/// ```ignore
+/// let ext = Extension::<Sfixed64>::new(7, "test.Carrier");
+/// ```
 pub struct Sfixed64;
 
 impl Sealed for Sfixed64 {}

@@ -16,6 +16,10 @@ use buffa_bytes::types::{
 };
 
 /// `int32`: an `i32` as a varint of its 64-bit two's complement; the low 32 bits are read.
+///
+/// ```ignore
+/// let ext = Extension::<Int32>::new(7, "test.Carrier");
+/// ```
 pub struct Int32;
 
 impl Sealed for Int32 {}
@@ -55,6 +59,10 @@ impl Scalar for Int32 {
 }
 
 /// `int64`: an `i64` as a varint of its two's complement.
+///
+/// ```ignore
+/// let ext = Extension::<Int64>::new(7, "test.Carrier");
+/// ```
 pub struct Int64;
 
 impl Sealed for Int64 {}
@@ -94,6 +102,10 @@ impl Scalar for Int64 {
 }
 
 /// `uint32`: a `u32` as a varint; the low 32 bits are read.
+///
+/// ```ignore
+/// let ext = Extension::<Uint32>::new(7, "test.Carrier");
+/// ```
 pub struct Uint32;
 
 impl Sealed for Uint32 {}
@@ -133,6 +145,10 @@ impl Scalar for Uint32 {
 }
 
 /// `uint64`: a `u64` as a varint.
+///
+/// ```ignore
+/// let ext = Extension::<Uint64>::new(7, "test.Carrier");
+/// ```
 pub struct Uint64;
 
 impl Sealed for Uint64 {}
@@ -172,6 +188,10 @@ impl Scalar for Uint64 {
 }
 
 /// `sint32`: an `i32` as a varint of its zigzag; the low 32 bits are read.
+///
+/// ```ignore
+/// visitor.visit::<Packed<Sint32>>(7, &self.steps);
+/// ```
 pub struct Sint32;
 
 impl Sealed for Sint32 {}
@@ -211,6 +231,10 @@ impl Scalar for Sint32 {
 }
 
 /// `sint64`: an `i64` as a varint of its zigzag.
+///
+/// ```ignore
+/// let ext = Extension::<Sint64>::new(7, "test.Carrier");
+/// ```
 pub struct Sint64;
 
 impl Sealed for Sint64 {}
@@ -250,6 +274,10 @@ impl Scalar for Sint64 {
 }
 
 /// `bool`: a varint, 0 or 1; anything but 0 is read as true.
+///
+/// ```ignore
+/// let ext = Extension::<Bool>::new(7, "test.Carrier");
+/// ```
 pub struct Bool;
 
 impl Sealed for Bool {}

@@ -25,6 +25,10 @@ impl UnknownFields {
     }
 
     /// How many fields there are; those in groups are not counted.
+    ///
+    /// ```ignore
+    /// let count = fields.len();
+    /// ```
     pub fn len(&self) -> usize
         ensures { result ≡ length self.now.records }
     {
@@ -32,6 +36,10 @@ impl UnknownFields {
     }
 
     /// How many more fields fit without new memory.
+    ///
+    /// ```ignore
+    /// let room = fields.spare();
+    /// ```
     pub fn spare(&self) -> usize
         ensures { result ≡ self.now.spare }
     {
@@ -110,7 +118,7 @@ impl UnknownFields {
     /// once, in order. It takes no memory, and leaves no less room.
     ///
     /// ```ignore
-    /// fields.retain(|kept| kept.number == 7);
+    /// fields.retain(|kept| kept.number != gone);
     /// ```
     pub fn retain<F: FnMut(&UnknownField) -> bool>(&mut self, f: F)
     where

@@ -179,7 +179,7 @@ impl UnknownFields {
     /// takes memory itself.
     ///
     /// ```ignore
-    /// let fields = UnknownFields::decode_from_slice(alloc, &[0x08, 0x05, 0x38, 0x09])?; // the fields 1 and 7
+    /// let fields = UnknownFields::decode_from_slice(alloc, &[0x38, 0x01])?; // the field 7, a varint
     /// ```
     pub fn decode_from_slice(alloc: Global, bytes: &[u8]) -> Result<UnknownFields, DecodeError>
         ensures reads { GivesUnlessFull (λ f. f.records) result
