@@ -1,13 +1,21 @@
 //! Examples of README, of docs/GUIDE.md and of comments, run: calls that no other proved function makes in this way.
 
-use buffa::extension::ExtensionCodec;
-use buffa::extension::codecs::EnumCodec;
+use buffa::extension::codecs::{BytesCodec, EnumCodec, MessageCodec, PackedRepeated, Repeated};
+use buffa::extension::{Extension, ExtensionCodec};
 use buffa::map_codec::{
-    Bool, BytesBuf, ClosedEnum, Int32, Map, MapStorage, OpenEnum, ProtoBytesMap, ProtoStringMap,
-    Str, field_len, merge_entry, read_map_field, size_and_write_field, write_field,
+    Bool, BytesBuf, ClosedEnum, Fixed32, Fixed64, Int32, Int64, Map, MapStorage, OpenEnum,
+    ProtoBytesMap, ProtoStringMap, Sfixed32, Sfixed64, Sint64, Str, Uint32, Uint64, field_len,
+    merge_entry, read_map_field, size_and_write_field, write_field,
 };
 use buffa::message_set::{ITEM_START_TAG, merge_item, write_item};
-use buffa::{Budget, DecodeContext, EnumValue, RECURSION_LIMIT, UnknownFields, decode_varint};
+use buffa::samples::Node;
+use buffa::{
+    Blank, Budget, DecodeContext, EnumValue, Message, RECURSION_LIMIT, UnknownFields, decode_varint,
+};
+use buffa_fields::merge::merge_fields;
+use buffa_fields::message::messages_read_back;
+use buffa_inventory::inventory::Inventory;
+use buffa_samples::flat::FlatMsg;
 use buffa_samples::hues::Old;
 use buffa_samples::word::Word;
 use bytes::Bytes;
@@ -136,4 +144,61 @@ fn an_item_is_written_and_read(rt: HostRuntime) -> Result<(), Fail> {
     assert_eq!(rt; number, 1000);
     assert_eq!(rt; payload.as_slice(), b"hello".as_slice());
     Ok(())
+}
+
+#[test]
+fn a_message_is_merged_by_its_members(rt: HostRuntime) -> Result<(), Fail> {
+    let alloc = rt.alloc();
+    let mut message: Inventory = Blank::blank(alloc);
+    let mut budget = Budget::new(0);
+    let ctx = DecodeContext::new(RECURSION_LIMIT, &mut budget);
+    let bytes: &[u8] = &[0x08, 0x96, 0x01];
+    merge_fields(&mut message, alloc, bytes, ctx)?;
+    assert_eq!(rt; message.total, 150);
+    messages_read_back(&message);
+    Ok(())
+}
+
+#[test]
+fn a_sample_comes_back(rt: HostRuntime) -> Result<(), Fail> {
+    let alloc = rt.alloc();
+    let mut node = Node::blank(alloc);
+    node.merge_from_slice(alloc, &[0x12, 0x02, 0x08, 0x01])?;
+    let text = node.try_encode_to_vec(alloc)?;
+    let written: &[u8] = &[0x12, 0x04, 0x08, 0x01, 0x12, 0x00];
+    assert_eq!(rt; text.as_slice(), written);
+    Ok(())
+}
+
+#[test]
+fn values_are_encoded_into_records(rt: HostRuntime) -> Result<(), Fail> {
+    let alloc = rt.alloc();
+    let mut fields = UnknownFields::new(alloc);
+    <Int32 as ExtensionCodec>::encode(alloc, 7, -7, &mut fields)?;
+    assert_eq!(rt; Int32::decode(alloc, 7, &fields)?, Some(-7));
+    Repeated::<Int32>::encode(alloc, 7, vec![in alloc; 3, 300]?, &mut fields)?;
+    assert_eq!(rt; fields.len(), 3);
+    PackedRepeated::<Int32>::encode(alloc, 7, vec![in alloc; 4, 5]?, &mut fields)?;
+    assert_eq!(rt; fields.len(), 4);
+    Ok(())
+}
+
+#[test]
+fn extensions_name_their_codec(rt: HostRuntime) {
+    let numbers = [
+        Extension::<Int64>::new(7, "test.Carrier").number(),
+        Extension::<Uint32>::new(7, "test.Carrier").number(),
+        Extension::<Uint64>::new(7, "test.Carrier").number(),
+        Extension::<Sint64>::new(7, "test.Carrier").number(),
+        Extension::<Bool>::new(7, "test.Carrier").number(),
+        Extension::<Fixed32>::new(7, "test.Carrier").number(),
+        Extension::<Fixed64>::new(7, "test.Carrier").number(),
+        Extension::<Sfixed32>::new(7, "test.Carrier").number(),
+        Extension::<Sfixed64>::new(7, "test.Carrier").number(),
+        Extension::<BytesCodec>::new(7, "test.Carrier").number(),
+        Extension::<MessageCodec<FlatMsg>>::new(7, "test.Carrier").number(),
+    ];
+    for number in numbers {
+        assert_eq!(rt; number, 7);
+    }
 }
