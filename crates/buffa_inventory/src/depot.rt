@@ -20,6 +20,10 @@ use std::string::String;
 ///     string city = 1;
 ///     repeated Parcel parcels = 2;
 /// }
+///
+/// ```ignore
+/// impl Formed for Depot { .. }
+/// ```
 #[derive(Drop)]
 pub struct Depot {
     pub city: String,
