@@ -23,13 +23,16 @@ brackets alone, is passed over. REFUSED has lines that are nearly right: the scr
 
 The last line is 'N lines, M that no proved function says'; the status is 1 where M isn't 0.
 """
+import bisect
 import glob
+import itertools
 import os
 import re
 import sys
 
 TOP = os.path.dirname(os.path.dirname(os.path.abspath(__file__)))
 TOKEN = re.compile(r"b?\"(?:\\.|[^\"\\])*\"|b?'(?:\\.|[^'\\])'|'?\w+|::|=>|->|==|!=|<=|>=|&&|\|\||\.\.|\S")
+COMMENT = re.compile(r"(?m)(?:^|(?<=\s))(?://|-- ).*$")
 USE = re.compile(r"use ((?:\w+ :: )+)(?:\{ (.*?) \}|(\w+)) ;")
 CALLS = re.compile(r" fn (\w+) (?=([^{;]*))")
 ASSERTED = re.compile(r"assert_eq ! \( rt ; ")
@@ -62,14 +65,10 @@ REFUSED = (
 )
 
 
-def tokens(line):
-    """The tokens of a line of code, without its comment."""
-    found = []
-    for token in TOKEN.findall(re.sub(r"(^|\s)(//|-- ).*$", "", line)):
-        if token in CLOSING and found and found[-1] == ",":
-            found.pop()
-        found.append(token)
-    return found
+def tokens(code):
+    """The tokens of code, without its comments."""
+    found = TOKEN.findall(COMMENT.sub("", code))
+    return [token for token, after in zip(found, found[1:] + [""]) if token != "," or after not in CLOSING]
 
 
 def words(line):
@@ -79,13 +78,8 @@ def words(line):
 
 def text_of(path):
     """The code of a file, as one line of tokens."""
-    found = []
-    for line in open(path, encoding="utf-8"):
-        for token in tokens(line):
-            if token in CLOSING and found and found[-1] == ",":
-                found.pop()
-            found.append(token)
-    return " " + " ".join(found) + " "
+    with open(path, encoding="utf-8") as it:
+        return f" {' '.join(tokens(it.read()))} "
 
 
 def plain(text):
@@ -232,46 +226,63 @@ def forms_of(line, answering):
     return [form for form in forms if form]
 
 
-def said_in(line, sources, answering):
+def said_in(line, sources):
     """The file that says a line, each part between two dots for itself, or nothing."""
     code = tokens(line)
     if code[0] == "use":
-        imported = set().union(*(imports for _, _, imports in sources))
-        return "imports" if set(imports_of(" ".join(code))) <= imported else None
+        return "imports" if set(imports_of(" ".join(code))) <= sources.imports else None
     parts = [part for part in f" {' '.join(code)} ".split(" .. ") if re.search(r"\w", part)]
-    exact = next((path for path, text, _ in sources if all(f" {part.strip(' ,')} " in text for part in parts)), None)
-    if exact:
-        return exact
-    wanted = [[(form, pattern_of(form)) for form in forms_of(part, answering)] for part in parts]
-    for path, text, _ in sources:
-        if all(any(stands_in(form, pattern, text) for form, pattern in forms) for forms in wanted):
+    wanted = []
+    for part in parts:
+        forms = [(form, pattern_of(form)) for form in forms_of(part, sources.answering)]
+        wanted.append((f" {part.strip(' ,')} ", forms))
+    exact, forms = wanted[0]
+    for path, text in sources.with_any([exact] + [run for _, (run, _) in forms]):
+        if all(exact in text or any(stands_in(*form, text) for form in forms) for exact, forms in wanted):
             return path
     return None
 
 
-def sources_of():
-    """The files of code: the path, the text and the imports of each; and the names that answer a `Result`."""
-    sources, answering, silent = [], set(), set()
-    for path in sorted(glob.glob(f"{TOP}/crates/*/src/**/*.rt", recursive=True) + glob.glob(f"{TOP}/crates/*/specs/*.antt")):
-        text = with_equations(plain(text_of(path)))
-        sources.append((os.path.relpath(path, TOP), text, set(imports_of(text))))
-        for name, head in CALLS.findall(text):
-            (answering if "-> Result " in head else silent).add(name)
-    return sources, answering - silent
+class Sources:
+    """The code of the crates: each file's text, what they import, and the names of functions that answer a `Result`."""
+
+    def __init__(self):
+        self.texts, self.imports, self.answering, silent = [], set(), set(), set()
+        for path in sorted(glob.glob(f"{TOP}/crates/*/src/**/*.rt", recursive=True) + glob.glob(f"{TOP}/crates/*/specs/*.antt")):
+            text = text_of(path)
+            self.imports |= set(imports_of(text))
+            text = with_equations(plain(text))
+            self.texts.append((os.path.relpath(path, TOP), text))
+            for name, head in CALLS.findall(text):
+                (self.answering if "-> Result " in head else silent).add(name)
+        self.answering -= silent
+        coded = [text.encode() for _, text in self.texts]
+        self.whole, self.starts = b"".join(coded), list(itertools.accumulate([0] + [len(text) for text in coded]))
+
+    def with_any(self, runs):
+        """The files that have one of these texts, each with its own text."""
+        found = set()
+        for run in {run.encode() for run in runs}:
+            at = self.whole.find(run)
+            while at >= 0:
+                file = bisect.bisect(self.starts, at) - 1
+                found.add(file)
+                at = self.whole.find(run, self.starts[file + 1])
+        return [self.texts[file] for file in sorted(found)]
 
 
 def main():
-    sources, answering = sources_of()
+    sources = Sources()
     lines = [each for each in examples() if words(each[2]) > 1]
+    known = {text: ALLOWED.get(text) or said_in(text, sources) for _, _, text in lines}
     missing = 0
     for path, number, text in lines:
-        said = ALLOWED.get(text) or said_in(text, sources, answering)
-        missing += said is None
-        if said is None and "-q" not in sys.argv[1:]:
+        missing += known[text] is None
+        if known[text] is None and "-q" not in sys.argv[1:]:
             print(f"{path}:{number}: {text}")
         elif "-v" in sys.argv[1:]:
-            print(f"{path}:{number}: {text}\n    {said}")
-    passed = [line for line in REFUSED if said_in(line, sources, answering)]
+            print(f"{path}:{number}: {text}\n    {known[text]}")
+    passed = [line for line in REFUSED if said_in(line, sources)]
     for line in passed:
         print(f"not refused: {line}")
     print(f"{len(lines)} lines, {missing} that no proved function says")
