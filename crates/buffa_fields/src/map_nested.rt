@@ -73,7 +73,7 @@ where
 /// place of the key's.
 ///
 /// ```ignore
-/// visitor.visit::<MapOfNested<Str, Inventory>>(3, &self.stocks); // map<string, Inventory> stocks = 3;
+/// visitor.visit::<MapOfNested<Str, Inventory>>(2, &self.shelves); // map<string, Inventory> shelves = 2;
 /// ```
 pub struct MapOfNested<KC, N> {
     key: PhantomData<KC>,
