@@ -6,5 +6,3 @@ mod maps;
 pub mod node;
 mod rest;
 pub mod shade;
-#[cfg(test)]
-mod tests;

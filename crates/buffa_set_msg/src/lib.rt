@@ -4,7 +4,5 @@
 pub mod laws;
 pub mod record;
 pub mod set_msg;
-#[cfg(test)]
-mod tests;
 
 pub use set_msg::SetMsg;
