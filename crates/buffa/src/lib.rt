@@ -16,10 +16,10 @@ pub use buffa_map::map_codec::{Map, MapStorage};
 pub use buffa_message_set::message_set;
 pub use buffa_wire::message::MAX_MESSAGE_BYTES;
 pub use buffa_wire::{
-    Blank, Budget, Buf, DEFAULT_ELEMENT_MEMORY_LIMIT, DEFAULT_UNKNOWN_FIELD_LIMIT, DecodeContext,
-    DecodeError, EncodeError, EncodeSink, EnumValue, Enumeration, Form, Limited, MAX_FIELD_NUMBER,
-    MapKey, Message, MessageSetFault, MessageSpec, Pieces, PlainKey, ProtoBytes, ProtoString,
-    RECURSION_LIMIT, Scalar, SizeCache, Tag, UnknownField, UnknownFieldData, UnknownFields,
-    WireType, check_wire_type, decode_unknown_field, decode_varint, encode_varint,
+    Adapted, Blank, Budget, Buf, DEFAULT_ELEMENT_MEMORY_LIMIT, DEFAULT_UNKNOWN_FIELD_LIMIT,
+    DecodeContext, DecodeError, EncodeError, EncodeSink, EnumValue, Enumeration, Form, Limited,
+    MAX_FIELD_NUMBER, MapKey, Message, MessageSetFault, MessageSpec, Pieces, PlainKey, ProtoBytes,
+    ProtoString, RECURSION_LIMIT, Scalar, SizeCache, Tag, UnknownField, UnknownFieldData,
+    UnknownFields, WireType, check_wire_type, decode_unknown_field, decode_varint, encode_varint,
     skip_field_depth, types, varint_len,
 };

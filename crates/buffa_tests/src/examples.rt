@@ -1,16 +1,19 @@
 //! Examples of README, of docs/GUIDE.md and of comments, run: calls that no other proved function makes in this way.
 
-use buffa::extension::codecs::{BytesCodec, EnumCodec, MessageCodec, PackedRepeated, Repeated};
-use buffa::extension::{Extension, ExtensionCodec};
+use buffa::extension::codecs::{
+    BytesCodec, EnumCodec, MessageCodec, PackedRepeated, Repeated, StringCodec,
+};
+use buffa::extension::{Extension, ExtensionCodec, ExtensionSet};
 use buffa::map_codec::{
     Bool, BytesBuf, ClosedEnum, Fixed32, Fixed64, Int32, Int64, Map, MapStorage, OpenEnum,
     ProtoBytesMap, ProtoStringMap, Sfixed32, Sfixed64, Sint64, Str, Uint32, Uint64, field_len,
     merge_entry, read_map_field, size_and_write_field, write_field,
 };
 use buffa::message_set::{ITEM_START_TAG, merge_item, write_item};
-use buffa::samples::Node;
+use buffa::samples::{Node, SetMsg, Shade};
 use buffa::{
-    Blank, Budget, DecodeContext, EnumValue, Message, RECURSION_LIMIT, UnknownFields, decode_varint,
+    Blank, Budget, DecodeContext, EnumValue, Message, RECURSION_LIMIT, SizeCache, UnknownFields,
+    decode_varint,
 };
 use buffa_fields::merge::merge_fields;
 use buffa_fields::message::messages_read_back;
@@ -167,6 +170,29 @@ fn a_sample_comes_back(rt: HostRuntime) -> Result<(), Fail> {
     let text = node.try_encode_to_vec(alloc)?;
     let written: &[u8] = &[0x12, 0x04, 0x08, 0x01, 0x12, 0x00];
     assert_eq!(rt; text.as_slice(), written);
+    Ok(())
+}
+
+#[test]
+fn samples_are_asked(rt: HostRuntime) -> Result<(), Fail> {
+    let alloc = rt.alloc();
+    let mut set = SetMsg::blank(alloc);
+    set.merge_from_slice(alloc, &[0x0B, 0x10, 0x05, 0x1A, 0x01, 0x78, 0x0C])?;
+    let text = set.extension(
+        alloc,
+        &Extension::<StringCodec>::new(5, "buffa.sample.SetMsg"),
+    )?;
+    assert!(rt; text.is_some());
+    let mut node: Node = Blank::blank(alloc);
+    let mut budget = Budget::new(2);
+    let bytes: &[u8] = &[0x1A, 0x04, 0x08, 0x02, 0x10, 0x01];
+    let answer = node.merge(alloc, bytes, DecodeContext::new(1, &mut budget));
+    assert!(rt; answer.is_ok());
+    let is_b = node.shades.get(&2) == Some(&Shade::B);
+    assert!(rt; is_b);
+    let mut cache = SizeCache::new(alloc);
+    let size = node.compute_size(&mut cache)?;
+    assert_eq!(rt; size, 6);
     Ok(())
 }
 
