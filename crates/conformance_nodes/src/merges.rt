@@ -1,7 +1,7 @@
 // Bytes that are merged into a message, and what stands where they are refused.
 
 use crate::Nodes;
-use buffa_wire::{Budget, Buf, DecodeContext, DecodeError, Message, Tag};
+use buffa_wire::{Budget, Buf, DecodeContext, DecodeError, Message, RECURSION_LIMIT, Tag};
 use conformance_rows::case::Case;
 use conformance_rows::fault::Fault;
 use conformance_rows::mark::Mark;
@@ -33,17 +33,15 @@ fn fields<M: Message>(
     message.merge(alloc, bytes, ctx)
 }
 
-// Merges one field, and says how many bytes are unread.
+// Merges one field, tag and all.
 fn field<M: Message>(
     alloc: Global,
     message: &mut M,
-    bytes: &[u8],
+    buf: &mut &[u8],
     ctx: DecodeContext<'_>,
-) -> Result<usize, DecodeError> {
-    let mut buf = bytes;
-    let tag = Tag::decode(&mut buf)?;
-    message.merge_field(alloc, tag, &mut buf, ctx)?;
-    Ok(buf.remaining())
+) -> Result<(), DecodeError> {
+    let tag = Tag::decode(buf)?;
+    message.merge_field(alloc, tag, buf, ctx)
 }
 
 // Merges what the row says, and says how many bytes are unread.
@@ -55,29 +53,24 @@ fn merged<M: Message>(
     ctx: DecodeContext<'_>,
 ) -> Result<usize, DecodeError> {
     if case.call == "merge-field" {
-        return field::<M>(alloc, message, bytes, ctx);
+        let mut buf = bytes;
+        field::<M>(alloc, message, &mut buf, ctx)?;
+        return Ok(buf.remaining());
     }
     fields::<M>(alloc, case, message, bytes, ctx)?;
     Ok(0)
 }
 
-// What the fields of a beginning make of the message before, in words; none where they are refused.
-fn made<M: Message + Worded<Nodes>>(
-    alloc: Global,
-    case: &Case<'_>,
-    front: &[u8],
-) -> Result<Option<String>, Fault> {
-    let mut message = standing::<M>(alloc, case)?;
-    let mut budget = Budget::new(case.slots()?).with_element_memory(case.units()?);
-    let ctx = DecodeContext::new(case.depth()?, &mut budget);
-    if fields::<M>(alloc, case, &mut message, front, ctx).is_err() {
-        return Ok(None);
+// How many levels a row gives.
+fn levels(case: &Case<'_>) -> Result<u32, Fault> {
+    if case.says("how", "alone") {
+        return Ok(RECURSION_LIMIT);
     }
-    Ok(Some(message.word(alloc)?))
+    case.depth()
 }
 
-// Whether what stands after a refusal is what the fields before the refused one make of the message before: of the
-// longest beginning that is merged, or of any where memory ran out.
+// Whether what stands after a refusal is what the fields before the refused one make of the message before, merged one
+// by one; where memory ran out any of the fields may be the refused one.
 fn stands<M: Message + Worded<Nodes>>(
     alloc: Global,
     case: &Case<'_>,
@@ -85,18 +78,21 @@ fn stands<M: Message + Worded<Nodes>>(
     word: &str,
     full: bool,
 ) -> Result<bool, Fault> {
-    let most = if case.call == "merge-field" {
-        0
-    } else {
-        bytes.len().saturating_sub(1)
-    };
+    let mut message = standing::<M>(alloc, case)?;
+    let mut budget = Budget::new(case.slots()?).with_element_memory(case.units()?);
+    let mut rest = bytes;
     let mut found = false;
-    for cut in 0..=most {
-        if let Some(other) = made::<M>(alloc, case, &bytes[..cut])? {
-            found = other.as_str() == word || (full && found);
+    for _ in 0..=bytes.len() {
+        found = message.word(alloc)?.as_str() == word || (full && found);
+        let ctx = DecodeContext::new(levels(case)?, &mut budget);
+        if field::<M>(alloc, &mut message, &mut rest, ctx).is_err() {
+            return Ok(found);
+        }
+        if rest.remaining() == 0 || case.call == "merge-field" {
+            return Ok(full && found);
         }
     }
-    Ok(found)
+    Ok(false)
 }
 
 // The answer of a merge; another one where other fields stand than those before a refused one.
