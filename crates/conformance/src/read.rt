@@ -2,6 +2,7 @@
 
 use crate::item::{item, write_an_item};
 use conformance_lists::on_lists;
+use conformance_nodes::{has_node_or_set, node_payloads, on_nodes};
 use conformance_records::{fields_and_numbers, on_records};
 use conformance_rows::any_buf::AnyBuf;
 use conformance_rows::calls::{Group, Kind, group_of};
@@ -44,6 +45,7 @@ pub fn read(
     match group_of(case.call) {
         Group::Fields => fields(alloc, case, kind, mark, buf),
         Group::Items => some(items(alloc, case, mark, buf)),
+        Group::Values if has_node_or_set(case) => some(node_payloads(alloc, case, mark, buf)),
         Group::Values => some(values(alloc, case, mark, buf)),
         _ => Ok(None),
     }
@@ -58,6 +60,7 @@ pub fn called(
     bytes: &[u8],
 ) -> Result<Option<Outcome>, Fault> {
     match group_of(case.call) {
+        _ if has_node_or_set(case) => some(on_nodes(alloc, case, kind, mark, bytes)),
         Group::Kinds => some(kinds(alloc, case, mark, bytes)),
         Group::Writes => writes(alloc, case, kind, mark),
         Group::Spelled => some(spells(alloc, case, mark)),
