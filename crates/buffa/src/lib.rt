@@ -1,8 +1,8 @@
 //! Map fields, typed extensions and MessageSet Items of protobuf messages, proved.
 //!
 //! This crate is the one that a user names. [`map_codec`] has map fields, [`extension`] typed extensions,
-//! [`message_set`] Items, and [`laws`] what is proved of them together, one function a law. [`samples`] has two messages
-//! that stand on it. The items of the wire stand at the top.
+//! [`message_set`] Items, and [`laws`] what is proved of them together, one function a law. [`samples`] has two
+//! messages that stand on it. The items of the wire stand at the top.
 #![tactic(auto)]
 
 pub mod extension;

@@ -74,9 +74,9 @@ pub fn sure_calls_never_fail()
 {}
 
 /// One call of the program has one status, and leaves its output and its errors in one way, where no call of its streams
-/// may fail; where one may, it has one output still, if its status is neither 3 nor 4. Left open: that memory ran out; which
-/// fault `again` tells of bytes that it refuses; whether a stream that may fail did, and what of a line stands then, which is a beginning of it; and a reader or a
-/// writer that doesn't tell its bytes.
+/// may fail; where one may, it has one output still, if its status is neither 3 nor 4. Left open: that memory ran out;
+/// which fault `again` tells of bytes that it refuses; whether a stream that may fail did, and what of a line stands
+/// then, which is a beginning of it; and a reader or a writer that doesn't tell its bytes.
 pub fn one_answer_to_a_call(words: &[&str])
     ensures { CallIsPinned words.now }
 {}
