@@ -1,7 +1,8 @@
 #!/usr/bin/env python3
 """Writes the rows of this folder of what Google's protobuf answered: python3 vectors/google/rows.py.
 
-What it answered stands in vectors/maps.tsv, enums.tsv, messages.tsv and extensions.tsv, made by the programs beside them.
+What it answered stands in vectors/maps.tsv, enums.tsv, messages.tsv, extensions.tsv, nodes.tsv and sets.tsv, made by the
+programs beside them.
 Run it after a change of these, and then tests/conformance.py gather.
 """
 from pathlib import Path
@@ -104,8 +105,43 @@ def extensions():
     return out
 
 
+def read_and_written(kind, table):
+    """What is read, and what is written of it where Google writes all of it; rows of our own have no answer of Google's."""
+    for given, mark, *told in answered(table):
+        given = given.strip("-")
+        if mark == "refused":
+            yield row("merge", kind, "depth=100", "", given, "refused", "")
+        if mark in ("same", "held"):
+            yield row("merge", kind, "depth=100", "", given, "ok", told[0])
+        if mark == "same":
+            yield row("encode", kind, "", given, "", "ok", f"-; text {told[1]}")
+        if len(told) > 2:
+            yield row("get", f"{kind},bytes", "number=5", given, "", "ok", f"{told[2]}; text {told[1]}")
+
+
+def nodes():
+    return [
+        "# Nodes as C++ classes of protobuf 3.21.12 read and write them, in deterministic order; `refused` is any fault but want of\n",
+        "# memory. Left out are bytes of which they make something else (vectors/nodes.tsv has them, with why): an undeclared\n",
+        "# entry that isn't spelled as they write it, since they encode it again; a field or a part of an entry with another wire\n",
+        "# type, which they pass over or keep; a key that isn't in UTF-8; levels, of which an entry is one of its own to them.\n",
+        *read_and_written("node", "nodes"),
+    ]
+
+
+def sets():
+    return [
+        "# MessageSets as C++ classes of protobuf 3.21.12 read and write them, in deterministic order; `refused` is any fault but\n",
+        "# want of memory. They write Items alone, so what has other records is only read here. Left out are bytes of which they\n",
+        "# make something else (vectors/sets.tsv has them, with why): Items of two type ids or messages, of which they take the\n",
+        "# first; without one, which they pass over; with other fields, which they keep; of a type id above 2147483647, which they\n",
+        "# cut; with tags in long spellings.\n",
+        *read_and_written("set", "sets"),
+    ]
+
+
 def main():
-    for make in (maps, enums, messages, extensions):
+    for make in (maps, enums, messages, extensions, nodes, sets):
         text = make()
         at = next(i for i, line in enumerate(text) if not line.startswith("#"))
         text.insert(at, COLUMNS)
