@@ -1,25 +1,17 @@
-//! Tests that cross crates, by subject, of what is no case of a table: the cases stand in `vectors`, and the crate
-//! `conformance` runs them. Nothing stands on this crate.
+//! Tests of what crosses crates, by the names of the facade, and of what is no case of a table: the cases stand in
+//! `vectors`, and the crate `conformance` runs them. Nothing stands on this crate.
 //!
 //! Expected values come from outside: from the protobuf encoding guide, worked out by hand, or from a table. The
 //! messages, enums and keys stand in `buffa_samples`, an extendee in `buffa_options`.
 #![tactic(auto)]
 
 #[cfg(test)]
-mod errors;
-#[cfg(test)]
-mod examples;
-#[cfg(test)]
-mod extensions;
+mod carrier;
 #[cfg(test)]
 mod facade;
 #[cfg(test)]
+mod fields;
+#[cfg(test)]
 mod guide;
 #[cfg(test)]
-mod map_fields;
-#[cfg(test)]
-mod messages;
-#[cfg(test)]
-mod records;
-#[cfg(test)]
-mod wire;
+mod large;

@@ -1,11 +1,10 @@
 //! Buffers and sinks of the crate `bytes`.
 
-use buffa::map_codec::{Int32, Map, MapStorage, Str, merge_entry, write_field};
-use buffa::{Budget, DecodeContext, DecodeError, EncodeError, RECURSION_LIMIT};
-use buffa_bytes::{Adapted, decode_varint};
+use buffa_bytes::Adapted;
+use buffa_map::map_codec::{Int32, Map, MapStorage, Str, merge_entry, write_field};
+use buffa_wire::{Budget, DecodeContext, DecodeError, EncodeError, RECURSION_LIMIT};
 use bytes::{Buf, Bytes, BytesMut};
 use std::alloc::Global;
-use std::io::Cursor;
 use std::test::Fail;
 
 // An entry of a map<string, int32> behind its tag, as the protobuf encoding guide spells it: its length, the key
@@ -38,27 +37,6 @@ fn an_entry_in_two_shared_pieces(rt: HostRuntime) -> Result<(), Fail> {
         assert_eq!(rt; left, (0, 1));
         assert_eq!(rt; counts.get("ab"), Some(&150));
     }
-    Ok(())
-}
-
-#[test]
-fn a_lent_buffer_up_to_a_limit(rt: HostRuntime) -> Result<(), Fail> {
-    let mut rest = BytesMut::copy_from_slice(rt.alloc(), &[0x96, 0x01, 0x96, 7])?;
-    let mut within = Adapted(Buf::take(&mut rest, 3));
-    assert_eq!(rt; decode_varint(&mut within)?, 150);
-    assert_eq!(rt; decode_varint(&mut within), Err(DecodeError::UnexpectedEof));
-    assert_eq!(rt; rest.as_slice(), [7].as_slice());
-    Ok(())
-}
-
-#[test]
-fn a_cursor_is_read_from_its_position(rt: HostRuntime) -> Result<(), Fail> {
-    let all: &[u8] = &[7, 0x96, 0x01];
-    let mut cursor = Cursor::new(all);
-    cursor.set_position(1);
-    let mut buf = Adapted(cursor);
-    assert_eq!(rt; decode_varint(&mut buf)?, 150);
-    assert_eq!(rt; buf.0.position(), 3);
     Ok(())
 }
 

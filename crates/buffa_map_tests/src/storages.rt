@@ -1,11 +1,11 @@
 //! Many pairs in each storage, and maps that are passed on or come back.
 
-use buffa::UnknownFields;
-use buffa::map_codec::{Int32, Map, MapStorage, MapWalk};
+use buffa_map::map_codec::{Int32, Map, MapStorage, MapWalk};
 use buffa_samples::hues::{New, Old};
 use buffa_samples::passed_on::passed_on;
 use buffa_samples::round_trip::words_through_bytes;
 use buffa_samples::word::Word;
+use buffa_wire::UnknownFields;
 use std::collections::{BTreeMap, HashMap};
 use std::test::Fail;
 

@@ -1,13 +1,13 @@
 //! Options by their bytes.
 
-use buffa::UnknownFields;
-use buffa::extension::codecs::PackedRepeated;
-use buffa::extension::{Extension, ExtensionSet};
+use buffa_ext::codecs::PackedRepeated;
+use buffa_ext::{Extension, ExtensionSet};
 use buffa_options::options::{
     FieldOptions, max_length_or_default, read_choices, read_int32, read_label,
 };
 use buffa_options::price::{Price, PriceCodec, store_price};
 use buffa_options::rules::{Violation, validate};
+use buffa_wire::UnknownFields;
 use std::alloc::Global;
 use std::test::Fail;
 

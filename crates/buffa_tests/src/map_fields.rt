@@ -1,3 +1,0 @@
-//! Map fields: many pairs, and maps that come back.
-
-mod storages;

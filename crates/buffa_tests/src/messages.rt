@@ -1,3 +1,0 @@
-//! Messages: one that is made of its fields.
-
-mod fields;
