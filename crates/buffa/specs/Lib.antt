@@ -1,5 +1,9 @@
+pub mod Extensions
+pub mod Items
 pub mod Keys
+pub mod MapFields
 pub mod Slots
+pub mod Wire
 pub use Rattle.buffa_node.specs.Branch
 pub use Rattle.buffa_node.specs.NodeMeaning
 pub use Rattle.buffa_node.specs.NodeText
