@@ -2,12 +2,12 @@
 //! of the words, and of the laws. Nothing stands on this crate.
 #![tactic(auto)]
 
-ghost use Rattle.std.specs.Prelude.{◌≡◌, IfOk, length, string_bytes, vec_items};
-ghost use Rattle.buffa.specs.MapFields.{field_text, means, saturated};
+ghost use Rattle.std.specs.Prelude.{◌≡◌, IfOk, string_bytes, vec_items};
+ghost use Rattle.buffa.specs.MapFields.{field_size, field_text, means, saturated};
 ghost use Rattle.buffa.specs.Wire.{Gives, varint_at};
 
 use buffa::map_codec::{Int32, MapCodec, MapStorage, Str, field_len, write_field};
-use buffa::{DecodeError, EncodeError, decode_varint, laws};
+use buffa::{DecodeError, EncodeError, decode_varint};
 use std::alloc::Global;
 use std::collections::BTreeMap;
 use std::test::Fail;
@@ -29,16 +29,15 @@ pub fn encoding_of(alloc: Global, counts: &BTreeMap<String, i32>) -> Result<Vec<
     Ok(bytes)
 }
 
-/// How many bytes [`encoding_of`] makes, or 2^64 - 1 where they are more.
+/// How many bytes [`encoding_of`] makes (`buffa::laws::law_8`), or 2^64 - 1 where they are more.
 ///
 /// ```ignore
 /// let size = announced(&counts);
 /// ```
 pub fn announced(counts: &BTreeMap<String, i32>) -> u64
-    ensures { result ≡ saturated (length (field_text ⟦<Str as MapCodec>⟧.writing ⟦<Int32 as MapCodec>⟧.writing 5
-        (means string_bytes (λ v. v) counts.now.entries))) }
+    ensures { result ≡ saturated (field_size ⟦<Str as MapCodec>⟧.writing ⟦<Int32 as MapCodec>⟧.writing 1
+        (means string_bytes (λ v. v) counts.now.entries)) }
 {
-    laws::map_fields::size_is_length::<Str, Int32>();
     field_len::<Str, Int32, _>(counts, 1)
 }
 
