@@ -5,6 +5,7 @@ pub mod fields;
 pub mod kept;
 pub mod kind;
 pub mod kinds;
+pub mod laws;
 mod list;
 mod map;
 pub mod map_member;

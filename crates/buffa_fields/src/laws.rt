@@ -1,0 +1,211 @@
+//! Which member each kind is, and which message a list of members: one answer each, in the words of `specs/`.
+//!
+//! The words of `MapCodec`, `MessageSpec` and `Scalar` that these cite are pinned by the laws of the crates below.
+
+ghost use Rattle.std.specs.Prelude.{◌≡◌, ◌↔◌, ◌+◌, ℕ, ℤ, List, [], None, map, not};
+ghost use Rattle.std.specs.Int.{cast_unsigned, w64};
+ghost use Rattle.std.specs.List.{IsDistinct};
+ghost use Rattle.std.specs.Map.{keys_of};
+ghost use Rattle.std.specs.Option.{option_map};
+ghost use Rattle.buffa_wire.specs.Parse.{Fits};
+ghost use Rattle.buffa_wire.specs.Records.{records_of};
+ghost use Rattle.buffa_wire.specs.Records.Datum.{varint, fixed32, fixed64, bytes};
+ghost use Rattle.buffa_map.specs.Message.{message_reading};
+ghost use Rattle.buffa_map.specs.Pairs.{means};
+ghost use Rattle.buffa_map.specs.Text.{AllHold};
+ghost use Rattle.buffa_fields.specs.KindLaws.{is_none, is_nought, is_zero};
+ghost use Rattle.buffa_fields.specs.Lists.{Each, element_records, elements_taken, packed_records};
+ghost use Rattle.buffa_fields.specs.MapFields.{entry_cost, entry_taken};
+ghost use Rattle.buffa_fields.specs.Nested.{message_cost, message_levels};
+ghost use Rattle.buffa_fields.specs.Nested.{message_records, message_slots, message_taken};
+ghost use Rattle.buffa_fields.specs.NestedMaps.{pair_levels, pair_records, pair_slots};
+ghost use Rattle.buffa_fields.specs.RepeatedNested.{messages_cost, messages_levels};
+ghost use Rattle.buffa_fields.specs.RepeatedNested.{messages_records, messages_slots, messages_taken};
+ghost use Rattle.buffa_fields.specs.Slots.{entry_records, optional_records, plain_records};
+ghost use Rattle.buffa_fields.specs.Takes.{cost_of, merged_of};
+ghost use Rattle.buffa_fields.specs.Values.{IfThere, free, some_taken, value_taken};
+
+use crate::kind::Kind;
+use crate::map_member::MapOf;
+use crate::map_nested::MapOfNested;
+use crate::member::Member;
+use crate::message::{Listed, Listing};
+use crate::nested::Nested;
+use crate::optional::Optional;
+use crate::packed::{Packable, Packed};
+use crate::plain::Plain;
+use crate::repeated::Repeated;
+use crate::repeated_nested::RepeatedNested;
+use buffa_map::map_codec::{
+    Bool, BytesBuf, Fixed32, Fixed64, Int32, Int64, MapCodec, OpenEnum, ProtoBytesMap,
+    ProtoStringMap, Sfixed32, Sfixed64, Sint32, Sint64, Uint32, Uint64,
+};
+use buffa_wire::{Enumeration, MapKey, Message, MessageForm, ProtoBytes, ProtoString, Scalar};
+use std::hash::Hash;
+
+/// A member with implicit presence: a payload of its wire type is its value; the default has no record.
+pub fn plain_members_are_these<C: Kind>()
+    ensures meaning { (p : _) → ⟦<Plain<C> as Member>⟧.slot.meaning p ≡ C.Value.meaning p }
+    ensures blank { ⟦<Plain<C> as Member>⟧.slot.blank ≡ C.Value.blank_is }
+    ensures takes { ⟦<Plain<C> as Member>⟧.slot.takes ≡ value_taken C.reading }
+    ensures need { ⟦<Plain<C> as Member>⟧.slot.need ≡ free }
+    ensures records { (n : ℕ) (v : _) → ⟦<Plain<C> as Member>⟧.slot.records n v
+        ≡ plain_records C.is_blank C.datum n v }
+    ensures slots { (v : _) → ⟦<Plain<C> as Member>⟧.slot.slots v ≡ [] }
+    ensures levels { (v : _) → ⟦<Plain<C> as Member>⟧.slot.levels v ≡ 0 }
+    ensures normal { (v : _) → ⟦<Plain<C> as Member>⟧.slot.normal v ↔ (C.fits v × C.normal v) }
+{}
+
+/// A member that may be absent: a record where it is there, the default too.
+pub fn optional_members_are_these<C: Kind>()
+    ensures meaning { (p : _) → ⟦<Optional<C> as Member>⟧.slot.meaning p ≡ option_map C.Value.meaning p }
+    ensures blank { ⟦<Optional<C> as Member>⟧.slot.blank ≡ None }
+    ensures takes { ⟦<Optional<C> as Member>⟧.slot.takes ≡ some_taken C.reading }
+    ensures need { ⟦<Optional<C> as Member>⟧.slot.need ≡ free }
+    ensures records { (n : ℕ) (v : _) → ⟦<Optional<C> as Member>⟧.slot.records n v ≡ optional_records C.datum n v }
+    ensures slots { (v : _) → ⟦<Optional<C> as Member>⟧.slot.slots v ≡ [] }
+    ensures levels { (v : _) → ⟦<Optional<C> as Member>⟧.slot.levels v ≡ 0 }
+    ensures normal { (v : _) → ⟦<Optional<C> as Member>⟧.slot.normal v ↔ (IfThere (λ x. C.fits x × C.normal x) v) }
+{}
+
+/// A list: each record of its wire type has an element, one with a length packed ones; a record is written for each.
+pub fn lists_are_these<C: Kind>()
+    ensures meaning { (p : _) → ⟦<Repeated<C> as Member>⟧.slot.meaning p ≡ map C.Value.meaning p.items }
+    ensures blank { ⟦<Repeated<C> as Member>⟧.slot.blank ≡ [] }
+    ensures takes { ⟦<Repeated<C> as Member>⟧.slot.takes ≡ elements_taken C.reading }
+    ensures need { ⟦<Repeated<C> as Member>⟧.slot.need ≡ free }
+    ensures records { (n : ℕ) (v : _) → ⟦<Repeated<C> as Member>⟧.slot.records n v ≡ element_records C.datum n v }
+    ensures slots { (v : _) → ⟦<Repeated<C> as Member>⟧.slot.slots v ≡ [] }
+    ensures levels { (v : _) → ⟦<Repeated<C> as Member>⟧.slot.levels v ≡ 0 }
+    ensures normal { (v : _) → ⟦<Repeated<C> as Member>⟧.slot.normal v ↔ (Each (λ x. C.fits x × C.normal x) v) }
+{}
+
+/// The same, written packed: one record of all elements, none where there is none.
+pub fn packed_lists_are_these<C: Packable>()
+    ensures meaning { (p : _) → ⟦<Packed<C> as Member>⟧.slot.meaning p ≡ map C.Value.meaning p.items }
+    ensures blank { ⟦<Packed<C> as Member>⟧.slot.blank ≡ [] }
+    ensures takes { ⟦<Packed<C> as Member>⟧.slot.takes ≡ elements_taken C.reading }
+    ensures need { ⟦<Packed<C> as Member>⟧.slot.need ≡ free }
+    ensures records { (n : ℕ) (v : _) → ⟦<Packed<C> as Member>⟧.slot.records n v ≡ packed_records C.writing.text n v }
+    ensures slots { (v : _) → ⟦<Packed<C> as Member>⟧.slot.slots v ≡ [] }
+    ensures levels { (v : _) → ⟦<Packed<C> as Member>⟧.slot.levels v ≡ 0 }
+    ensures normal { (v : _) → ⟦<Packed<C> as Member>⟧.slot.normal v ↔ (Each (λ x. C.fits x × C.normal x) v) }
+{}
+
+/// A message that may be absent: each record is merged into the one that stands.
+pub fn nested_members_are_these<N: Message>()
+    ensures meaning { (p : _) → ⟦<Nested<N> as Member>⟧.slot.meaning p ≡ option_map N.meaning p }
+    ensures blank { ⟦<Nested<N> as Member>⟧.slot.blank ≡ None }
+    ensures takes { ⟦<Nested<N> as Member>⟧.slot.takes ≡ message_taken N.blank_is N.merged }
+    ensures need { ⟦<Nested<N> as Member>⟧.slot.need ≡ message_cost N.cost }
+    ensures records { (n : ℕ) (v : _) → ⟦<Nested<N> as Member>⟧.slot.records n v ≡ message_records N.text n v }
+    ensures slots { (v : _) → ⟦<Nested<N> as Member>⟧.slot.slots v ≡ message_slots N.text N.slots v }
+    ensures levels { (v : _) → ⟦<Nested<N> as Member>⟧.slot.levels v ≡ message_levels N.levels v }
+    ensures normal { (v : _) → ⟦<Nested<N> as Member>⟧.slot.normal v
+        ↔ (IfThere (λ x. N.normal x × Fits (records_of (N.records x))) v) }
+{}
+
+/// A list of messages: each record is a new element, which costs the units of its type too.
+pub fn lists_of_messages_are_these<N: Message>()
+    ensures meaning { (p : _) → ⟦<RepeatedNested<N> as Member>⟧.slot.meaning p ≡ map N.meaning p.items }
+    ensures blank { ⟦<RepeatedNested<N> as Member>⟧.slot.blank ≡ [] }
+    ensures takes { ⟦<RepeatedNested<N> as Member>⟧.slot.takes ≡ messages_taken N.blank_is N.merged }
+    ensures need { ⟦<RepeatedNested<N> as Member>⟧.slot.need ≡ messages_cost N.COST N.cost }
+    ensures records { (n : ℕ) (v : _) → ⟦<RepeatedNested<N> as Member>⟧.slot.records n v
+        ≡ messages_records N.text n v }
+    ensures slots { (v : _) → ⟦<RepeatedNested<N> as Member>⟧.slot.slots v ≡ messages_slots N.text N.slots v }
+    ensures levels { (v : _) → ⟦<RepeatedNested<N> as Member>⟧.slot.levels v ≡ messages_levels N.levels v }
+    ensures normal { (v : _) → ⟦<RepeatedNested<N> as Member>⟧.slot.normal v
+        ↔ (Each (λ x. N.normal x × Fits (records_of (N.records x))) v) }
+{}
+
+/// A map: each record is an entry, which is put.
+pub fn maps_are_these<KC: MapCodec, VC: MapCodec>()
+where
+    KC::Value: MapKey + Hash,
+    ensures meaning { (p : _) → ⟦<MapOf<KC, VC> as Member>⟧.slot.meaning p
+        ≡ means KC.Value.meaning VC.Value.meaning p.entries }
+    ensures blank { ⟦<MapOf<KC, VC> as Member>⟧.slot.blank ≡ [] }
+    ensures takes { ⟦<MapOf<KC, VC> as Member>⟧.slot.takes ≡ entry_taken KC.reading VC.reading KC.Value.same }
+    ensures need { ⟦<MapOf<KC, VC> as Member>⟧.slot.need ≡ entry_cost KC.reading VC.reading (KC.COST + VC.COST) }
+    ensures records { (n : ℕ) (v : _) → ⟦<MapOf<KC, VC> as Member>⟧.slot.records n v
+        ≡ entry_records KC.writing VC.writing n v }
+    ensures slots { (v : _) → ⟦<MapOf<KC, VC> as Member>⟧.slot.slots v ≡ [] }
+    ensures levels { (v : _) → ⟦<MapOf<KC, VC> as Member>⟧.slot.levels v ≡ 0 }
+    ensures normal { (v : _) → ⟦<MapOf<KC, VC> as Member>⟧.slot.normal v
+        ↔ (AllHold (λ k. KC.fits k × KC.normal k) (λ x. VC.fits x × VC.normal x) v
+        × IsDistinct KC.Value.same (keys_of v)) }
+{}
+
+/// A map of messages.
+pub fn maps_of_messages_are_these<KC: MapCodec, N: Message>()
+where
+    KC::Value: MapKey + Hash,
+    ensures meaning { (p : _) → ⟦<MapOfNested<KC, N> as Member>⟧.slot.meaning p
+        ≡ means KC.Value.meaning N.meaning p.entries }
+    ensures blank { ⟦<MapOfNested<KC, N> as Member>⟧.slot.blank ≡ [] }
+    ensures takes { ⟦<MapOfNested<KC, N> as Member>⟧.slot.takes
+        ≡ entry_taken KC.reading (message_reading N.blank_is N.merged N.cost) KC.Value.same }
+    ensures need { ⟦<MapOfNested<KC, N> as Member>⟧.slot.need
+        ≡ entry_cost KC.reading (message_reading N.blank_is N.merged N.cost) (KC.COST + N.COST) }
+    ensures records { (n : ℕ) (v : _) → ⟦<MapOfNested<KC, N> as Member>⟧.slot.records n v
+        ≡ pair_records KC.writing N.text n v }
+    ensures slots { (v : _) → ⟦<MapOfNested<KC, N> as Member>⟧.slot.slots v ≡ pair_slots N.text N.slots v }
+    ensures levels { (v : _) → ⟦<MapOfNested<KC, N> as Member>⟧.slot.levels v ≡ pair_levels N.levels v }
+    ensures parts { (v : _) → ⟦<MapOfNested<KC, N> as Member>⟧.slot.normal v →
+        AllHold (λ k. KC.fits k × KC.normal k) (λ x. N.normal x × Fits (records_of (N.records x))) v }
+    ensures keys { (v : _) → ⟦<MapOfNested<KC, N> as Member>⟧.slot.normal v → IsDistinct KC.Value.same (keys_of v) }
+    ensures normal { (v : _) → IsDistinct KC.Value.same (keys_of v) →
+        AllHold (λ k. KC.fits k × KC.normal k) (λ x. N.normal x × Fits (records_of (N.records x))) v →
+        ⟦<MapOfNested<KC, N> as Member>⟧.slot.normal v }
+{}
+
+/// The record of a number, and which number is the default: 0, or false.
+pub fn numbers_are_these()
+    ensures int32 { (v : ℤ) → (⟦<Int32 as Kind>⟧.datum v ≡ varint (⟦<Int32 as Scalar>⟧.number_of v))
+        × (⟦<Int32 as Kind>⟧.is_blank v ≡ is_zero v) }
+    ensures int64 { (v : ℤ) → (⟦<Int64 as Kind>⟧.datum v ≡ varint (⟦<Int64 as Scalar>⟧.number_of v))
+        × (⟦<Int64 as Kind>⟧.is_blank v ≡ is_zero v) }
+    ensures uint32 { (v : ℕ) → (⟦<Uint32 as Kind>⟧.datum v ≡ varint (⟦<Uint32 as Scalar>⟧.number_of v))
+        × (⟦<Uint32 as Kind>⟧.is_blank v ≡ is_nought v) }
+    ensures uint64 { (v : ℕ) → (⟦<Uint64 as Kind>⟧.datum v ≡ varint (⟦<Uint64 as Scalar>⟧.number_of v))
+        × (⟦<Uint64 as Kind>⟧.is_blank v ≡ is_nought v) }
+    ensures sint32 { (v : ℤ) → (⟦<Sint32 as Kind>⟧.datum v ≡ varint (⟦<Sint32 as Scalar>⟧.number_of v))
+        × (⟦<Sint32 as Kind>⟧.is_blank v ≡ is_zero v) }
+    ensures sint64 { (v : ℤ) → (⟦<Sint64 as Kind>⟧.datum v ≡ varint (⟦<Sint64 as Scalar>⟧.number_of v))
+        × (⟦<Sint64 as Kind>⟧.is_blank v ≡ is_zero v) }
+    ensures fixed32 { (v : ℕ) → (⟦<Fixed32 as Kind>⟧.datum v ≡ fixed32 (⟦<Fixed32 as Scalar>⟧.number_of v))
+        × (⟦<Fixed32 as Kind>⟧.is_blank v ≡ is_nought v) }
+    ensures fixed64 { (v : ℕ) → (⟦<Fixed64 as Kind>⟧.datum v ≡ fixed64 (⟦<Fixed64 as Scalar>⟧.number_of v))
+        × (⟦<Fixed64 as Kind>⟧.is_blank v ≡ is_nought v) }
+    ensures sfixed32 { (v : ℤ) → (⟦<Sfixed32 as Kind>⟧.datum v ≡ fixed32 (⟦<Sfixed32 as Scalar>⟧.number_of v))
+        × (⟦<Sfixed32 as Kind>⟧.is_blank v ≡ is_zero v) }
+    ensures sfixed64 { (v : ℤ) → (⟦<Sfixed64 as Kind>⟧.datum v ≡ fixed64 (⟦<Sfixed64 as Scalar>⟧.number_of v))
+        × (⟦<Sfixed64 as Kind>⟧.is_blank v ≡ is_zero v) }
+    ensures bool { (v : _) → (⟦<Bool as Kind>⟧.datum v ≡ varint (⟦<Bool as Scalar>⟧.number_of v))
+        × (⟦<Bool as Kind>⟧.is_blank v ≡ not v) }
+{}
+
+/// The record of a string, of bytes and of an open enum, and which is the default: the empty one, and the number 0.
+pub fn texts_and_enums_are_these<T: ProtoString, B: ProtoBytes, E: Enumeration>()
+    ensures string { (v : _) → (⟦<ProtoStringMap<T> as Kind>⟧.datum v ≡ bytes (T.text v))
+        × (⟦<ProtoStringMap<T> as Kind>⟧.is_blank v ≡ is_none (T.text v)) }
+    ensures bytes { (v : _) → (⟦<ProtoBytesMap<B> as Kind>⟧.datum v ≡ bytes (B.bytes v))
+        × (⟦<ProtoBytesMap<B> as Kind>⟧.is_blank v ≡ is_none (B.bytes v)) }
+    ensures shared { (v : List ℕ) → (⟦<BytesBuf as Kind>⟧.datum v ≡ bytes v)
+        × (⟦<BytesBuf as Kind>⟧.is_blank v ≡ is_none v) }
+    ensures open { (v : _) → (⟦<OpenEnum<E> as Kind>⟧.datum v ≡ varint (cast_unsigned w64 v.1))
+        × (⟦<OpenEnum<E> as Kind>⟧.is_blank v ≡ is_zero v.1) }
+{}
+
+/// A message of its members: the member of its number takes a field, and merging costs what the fields cost.
+pub fn messages_are_these<M: Listing>()
+    ensures meaning { (m : M) → M.meaning m ≡ M.layout.meaning m }
+    ensures blank { M.blank_is ≡ M.layout.blank }
+    ensures merged { ⟦<Listed as MessageForm<M>>⟧.merged ≡ merged_of M.layout.takes }
+    ensures cost { ⟦<Listed as MessageForm<M>>⟧.cost ≡ cost_of M.layout.need }
+    ensures records { ⟦<Listed as MessageForm<M>>⟧.records ≡ M.layout.records }
+    ensures slots { ⟦<Listed as MessageForm<M>>⟧.slots ≡ M.layout.slots }
+    ensures levels { ⟦<Listed as MessageForm<M>>⟧.levels ≡ M.layout.levels }
+    ensures units { ⟦<Listed as MessageForm<M>>⟧.COST ≡ M.COST }
+{}
