@@ -115,9 +115,9 @@ module _ (d s n : ℕ) (w : WireType) (bs : List ℕ) where
   pub record_no_end : (x : (ℕ × Datum) × ℕ × List ℕ) → record_of_field d s n w bs ≡ Ok x → w ≢ EndGroup
   record_no_end x h = not_at_end_by (starts n w) refl (field_at d s n w bs) refl x h
 
-refusal : (d n : ℕ) (w : WireType) (bs : List ℕ) (v : List (ℕ × Datum)) (left : BudgetLeft) (e : DecodeError) → Refuses d n w bs v left e → IsRefused d v n w bs left e
-refusal d n w bs v left e (inl few) = inl few
-refusal d n w bs v left e (inr (x, bad, limit)) = inr (ap value_of bad, limit)
+refusal : (d n : ℕ) (w : WireType) (bs : List ℕ) (v : List (ℕ × Datum)) (left : BudgetLeft) (e : DecodeError) → Refuses d n w bs v left e → record_of_field d left.unknown n w bs ≡ Err e → IsRefused d v n w bs left e
+refusal d n w bs v left e (inl few) read = (inl few, read)
+refusal d n w bs v left e (inr (x, bad, limit)) read = (inr (ap value_of bad, limit), read)
 
 abbrev well : Result (Unit {0}) DecodeError
 well = Ok tt
@@ -133,7 +133,7 @@ module _ (d n : ℕ) (w : WireType) (bs rest : List ℕ) (v : List (ℕ × Datum
       let why : e ≢ OutOfMemory → Refuses d n w bs v left e = λ ne. refuses_by d s n w bs (starts n w) refl v left e (sym all) (h ne) in
       let merged : IsFieldMerged set_merged set_cost d v n w bs left bad v left rest =
       paid (set_need d) d (set_stays d) (set_field d) (set_sound d) (set_same d) bad v v n w bs rest left left ((omega arith, omega arith, omega arith, omega arith), why) in
-      subst (λ z. IsMergedField z v left left) (sym (is ∙ ap (λ x. Err x) same)) (merged, (refl, refl, λ ne. refusal d n w bs v left e (why ne)))
+      subst (λ z. IsMergedField z v left left) (sym (is ∙ ap (λ x. Err x) same)) (merged, (refl, refl, λ ne. refusal d n w bs v left e (why ne) (subst (λ k. record_of_field d k n w bs ≡ Err e) all (h ne))))
 
   pub set_ok : (r : ℕ × Datum) (slots_left : ℕ) (new : List (ℕ × Datum)) (before after : BudgetLeft) (s : ℕ) → s ≡ before.unknown → record_of_field d s n w bs ≡ Ok (r, slots_left, rest) → new ≡ v ++ r ∷ [] →
       after.unknown ≡ slots_left → after.memory ≡ before.memory → IsMergedField well new before after

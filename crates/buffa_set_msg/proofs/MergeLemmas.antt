@@ -125,8 +125,8 @@ module _ (d : ℕ) where
       few c is (inr h) = inr (omega (arith, h, came.pays.1, ap (λ z. z.memory) costs, ap (λ z. z.memory) is))
 
       refused_field : (e : DecodeError) → IsRefused d v n w rest now e → MergeFault (set_merged d old all) (set_cost d all) before e
-      refused_field e (inl h) = inl (few (need_by (skip_at d n w rest) (set_cost d)) cost_tag h)
-      refused_field e (inr (means_none, limit)) = inr (on ∙ none_after (set_field d v n w rest) refl means_none, limit)
+      refused_field e (inl h, read) = inl (few (need_by (skip_at d n w rest) (set_cost d)) cost_tag h)
+      refused_field e (inr (means_none, limit), read) = inr (on ∙ none_after (set_field d v n w rest) refl means_none, limit)
 
     few_all : Lacks now (set_cost d bs) → Lacks before (set_cost d all)
     few_all (inl h) = inl (omega (arith, h, came.pays.0, ap (λ z. z.unknown) costs))

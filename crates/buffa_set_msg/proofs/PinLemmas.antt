@@ -8,13 +8,13 @@ use Rattle.buffa_bytes.specs.Join.Join.{none, more}
 use Rattle.buffa_bytes.specs.Reading.{tag_at}
 use Rattle.buffa_bytes.specs.declared.wire_type.WireType.{WireType}
 use Rattle.buffa_bytes.specs.declared.error.DecodeError.{DecodeError}
-use Rattle.buffa_wire.proofs.SequenceLemmas.{ok_same}
+use Rattle.buffa_wire.proofs.SequenceLemmas.{err_same, ok_same}
 use Rattle.buffa_wire.specs.BudgetLeft.{BudgetLeft, Lacks, Pays, plus}
 use Rattle.buffa_wire.specs.Records.{Datum}
 use Rattle.buffa_samples.specs.CostLaws.{field_alone}
 use Rattle.buffa_samples.specs.Fields.{value_of}
 use Rattle.buffa_samples.specs.FieldsLaws.{Same, refused}
-use Rattle.buffa_set_msg.specs.Set.{IsRefused, NextIsRefused, StopIsPinned, set_cost, set_field, set_merged, set_need}
+use Rattle.buffa_set_msg.specs.Set.{IsRefused, NextIsRefused, StopIsPinned, record_of_field, set_cost, set_field, set_merged, set_need}
 use Rattle.buffa_set_msg.specs.SetFacts.{set_cost_empty, set_cost_next, set_empty, set_next, set_same, set_sound, set_stays}
 use Rattle.buffa_set_msg.proofs.MergeLemmas.{then_merged}
 
@@ -51,8 +51,8 @@ module _ (d : ℕ) where
         let both = sym bad ∙ means in cc
 
     taken_is : IsRefused d v n w rest left e → ⊥
-    taken_is (inl few) = enough few
-    taken_is (inr (nothing_is, limit)) = means_some (set_same d v n w p payload) nothing_is
+    taken_is (inl few, read) = enough few
+    taken_is (inr (nothing_is, limit), read) = means_some (set_same d v n w p payload) nothing_is
 
     not_refused : (bs : List ℕ) → bs ≡ ((t ++ p) ++ q) ++ s → NextIsRefused d v bs left e → ⊥
     not_refused bs is next =
@@ -113,9 +113,20 @@ module _ (d : ℕ) where
       let whole : q ≡ g = one_front q g j k r s u.0 a b (plus x (set_cost d q)) x y e h rest u.2 inner (pays_behind before x y p q g one px) (pays_both before x y p q g one px py2) na nb in
       (λ i. sym same i ++ whole i)
 
+-- one fault is told of the field at the front
+one_fault : (d : ℕ) (v : Values) (bs : List ℕ) (left : BudgetLeft) (e f : DecodeError) → NextIsRefused d v bs left e → NextIsRefused d v bs left f → e ≡ f
+one_fault d v bs left e f (inl a) (inl b) = err_same (sym a ∙ b)
+one_fault d v bs left e f (inl a) (inr (n, w, after, tag, why)) = let bad = sym a ∙ tag in cc
+one_fault d v bs left e f (inr (n, w, after, tag, why)) (inl b) = let bad = sym b ∙ tag in cc
+one_fault d v bs left e f (inr (n, w, after, tag, why)) (inr (m, u, behind_tag, also, because)) =
+    err_same (sym why.1 ∙ ap (λ z. record_of_field d left.unknown z.0 z.1 z.2) (ok_same (sym tag ∙ also)) ∙ because.1)
+
 pub stop_is_pinned : StopIsPinned
 stop_is_pinned d old a b bs before x y e h (f, r, j, is, some, ma, px, na) (g, s, k, is2, some2, mb, py, nb) ne nh =
     let same = one_front d f g j k r s old a b before x y e h (sym is ∙ is2) ma mb px py (na ne) (nb nh) in
     let value : a ≡ b = some_same (sym ma ∙ ap (set_merged d old) same ∙ mb) in
     let cost = ap (set_cost d) same in
-    (value, same_left x y (omega (arith, px.0, py.0, ap (λ z. z.unknown) cost)) (omega (arith, px.1, py.1, ap (λ z. z.memory) cost)))
+    let budget : x ≡ y = same_left x y (omega (arith, px.0, py.0, ap (λ z. z.unknown) cost)) (omega (arith, px.1, py.1, ap (λ z. z.memory) cost)) in
+    let behind_it : r ≡ s = append_cancel_left f r s (sym is ∙ is2 ∙ ap (λ z. z ++ s) (sym same)) in
+    let next : NextIsRefused d b s y e = subst (λ z. NextIsRefused d b s z e) budget (subst (λ z. NextIsRefused d b z x e) behind_it (subst (λ z. NextIsRefused d z r x e) value (na ne))) in
+    (value, budget, one_fault d b s y e h next (nb nh))

@@ -97,9 +97,11 @@ item_of (suc d) s bs = item_in d s bs >>= (λ x. Ok ((x.0, bytes x.1), s - 1, x.
 abbrev pub record_of_field : ℕ → ℕ → ℕ → WireType → List ℕ → Result ((ℕ × Datum) × ℕ × List ℕ) DecodeError
 record_of_field d s n w bs = if starts n w then item_of d s bs else (field_at d s n w bs >>= (λ x. Ok ((n, x.0), x.1, x.2)))
 
--- why the field whose tag was read isn't merged into v: its cost isn't left; or it means nothing, and no limit is told
+-- why the field whose tag was read isn't merged into v: its cost isn't left; or it means nothing, and no limit is told;
+-- and what is told is the fault of reading its record with the slots that are left
 abbrev pub IsRefused : ℕ → List (ℕ × Datum) → ℕ → WireType → List ℕ → BudgetLeft → DecodeError → Type 0
-IsRefused d v n w bs left e = MergeFault (value_of (set_field d v n w bs)) (set_need d n w bs) left e
+IsRefused d v n w bs left e =
+    MergeFault (value_of (set_field d v n w bs)) (set_need d n w bs) left e × (record_of_field d left.unknown n w bs ≡ Err e)
 
 -- that field is merged, and exactly its cost is spent; or it is refused, and nothing is changed or spent
 abbrev pub TakesSetField : {T : Type 0} → ℕ → List (ℕ × Datum) → ℕ → WireType → List ℕ → BudgetLeft → Result T DecodeError → List (ℕ × Datum) → BudgetLeft → List ℕ → Type 0
@@ -121,8 +123,8 @@ StopsBehind d old bs before e new after =
     × (set_merged d old front ≡ Some new) × Pays before (set_cost d front) after
     × (e ≢ OutOfMemory → NextIsRefused d new rest after e)
 
--- so one value stands after a refusal, and one budget is left, unless memory ran out
+-- so one value stands after a refusal, one budget is left, and one fault is told, unless memory ran out
 abbrev pub StopIsPinned : Type 0
 StopIsPinned =
     (d : ℕ) (old a b : List (ℕ × Datum)) (bs : List ℕ) (before x y : BudgetLeft) (e f : DecodeError) →
-    StopsBehind d old bs before e a x → StopsBehind d old bs before f b y → e ≢ OutOfMemory → f ≢ OutOfMemory → (a ≡ b) × (x ≡ y)
+    StopsBehind d old bs before e a x → StopsBehind d old bs before f b y → e ≢ OutOfMemory → f ≢ OutOfMemory → (a ≡ b) × (x ≡ y) × (e ≡ f)
