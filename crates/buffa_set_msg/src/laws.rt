@@ -34,8 +34,8 @@ pub fn sets_are_read_back()
     ensures deep { NestOneDeep }
 {}
 
-/// A refused merge leaves one value and one budget, and tells one fault: the fields before the refused one are merged, and
-/// paid for. Open is where memory runs out.
+/// A refused merge leaves one value and one budget, and tells one fault: the fields before the refused one are merged,
+/// and paid for. Open is where memory runs out.
 pub fn refused_sets_are_pinned()
     ensures { StopIsPinned }
 {}
