@@ -26,4 +26,3 @@ pub mod NestedMaps
 pub mod NestedMapLaws
 pub mod Stands
 pub mod StandsLaws
-pub mod Calls

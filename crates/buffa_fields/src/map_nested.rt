@@ -13,7 +13,6 @@ ghost use Rattle.buffa_map.proofs.BackLemmas.{plain_back};
 ghost use Rattle.buffa_map.specs.Message.{message_reading};
 ghost use Rattle.buffa_map.specs.Pairs.{means};
 ghost use Rattle.buffa_map.specs.Text.{AllHold};
-ghost use Rattle.buffa_fields.specs.Calls.{WritesPairs};
 ghost use Rattle.buffa_fields.specs.MapFields.{entry_cost, entry_taken};
 ghost use Rattle.buffa_fields.specs.MapLaws.{map_stays};
 ghost use Rattle.buffa_fields.specs.NestedMapLaws.{pairs_back};
@@ -63,8 +62,9 @@ where
     KC::Value: MapKey + Hash,
     requires number { IsNumber number }
     requires next { IsNext (pair_slots N.text N.slots (means KC.Value.meaning N.meaning map.now.entries)) cache.old }
-    ensures { WritesPairs cache.old (S.written sink.old) result cache.new (S.written sink.new) N.text N.slots number
-        KC.writing (means KC.Value.meaning N.meaning map.now.entries) }
+    ensures { let l = means KC.Value.meaning N.meaning map.now.entries in
+        IsWritten (records_text (pair_records KC.writing N.text number l)) (pair_slots N.text N.slots l) cache.old
+        (S.written sink.old) result cache.new (S.written sink.new) }
 {
     write_message_field::<KC, N, Map<KC::Value, N>, S>(map, number, cache, sink)
 }

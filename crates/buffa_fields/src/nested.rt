@@ -9,7 +9,6 @@ ghost use Rattle.buffa_wire.specs.Passes.{IsNext, IsSized, IsWritten, cap};
 ghost use Rattle.buffa_wire.specs.Records.{bytes, records_of};
 ghost use Rattle.buffa_wire.specs.Text.{records_text};
 ghost use Rattle.buffa_wire.specs.Written.{Writes};
-ghost use Rattle.buffa_fields.specs.Calls.{TakesIn, WritesMessage};
 ghost use Rattle.buffa_fields.specs.Nested.{message_cost, message_in, message_levels, message_records, message_slots, message_taken};
 ghost use Rattle.buffa_fields.specs.NestedLaws.{Tells, head, message_back, message_stays};
 ghost use Rattle.buffa_fields.specs.Takes.{IsTaken};
@@ -85,8 +84,8 @@ pub(crate) fn write_message<N: Message, S: EncodeSink>(
 ) -> Result<(), EncodeError>
     requires number { IsNumber number }
     requires next { let v = N.meaning message.now in IsNext (cap (length (N.text v)) ∷ N.slots v) cache.old }
-    ensures { WritesMessage cache.old (S.written sink.old) result cache.new (S.written sink.new) N.text N.slots number
-        (N.meaning message.now) }
+    ensures { let v = N.meaning message.now in IsWritten (records_text ((number, bytes (N.text v)) ∷ []))
+        (cap (length (N.text v)) ∷ N.slots v) cache.old (S.written sink.old) result cache.new (S.written sink.new) }
 {
     let inner = cache.consume_next();
     match write_head(number, u64::from(inner), sink) {
@@ -103,8 +102,9 @@ pub(crate) fn take_inside<N: Message>(
     buf: &mut &[u8],
     ctx: DecodeContext<'_>,
 ) -> Result<(), DecodeError>
-    ensures { TakesIn tag ctx.entry ctx.exit message.old message.new buf.old buf.new result (message_in N.merged)
-        (message_cost N.cost) N.meaning }
+    ensures { IsTaken (message_in N.merged) (message_cost N.cost) ctx.entry.depth (N.meaning message.old) tag.number
+        tag.wire_type buf.old.now ctx.entry.budget.now result (N.meaning message.new) (budget_left ctx.exit)
+        buf.new.now }
 {
     match check_wire_type(tag, WireType::LengthDelimited) {
         Ok(()) => message.merge_length_delimited(alloc, buf, ctx),
