@@ -5,10 +5,11 @@ ghost use Rattle.buffa_wire.specs.Number.{IsNumber};
 ghost use Rattle.buffa_map.specs.Calls.{ReadsAnew, RefusesRewriteIn, RewritesIn, StopsAnew, WritesWithKept};
 ghost use Rattle.buffa_map.specs.Rewrite.{rewrite_error_text};
 
-use crate::codec::MapCodec;
-use crate::field::{Field, Rewrites};
-use crate::run::read_run_by;
-use crate::storage::{MapStorage, MapWrite};
+use buffa_map_base::codec::MapCodec;
+use buffa_map_base::field::{Field, Rewrites};
+use buffa_map_base::storage::MapStorage;
+use buffa_map_read::run::read_run_by;
+use buffa_map_write::map_write::MapWrite;
 use buffa_wire::{Buf, DecodeContext, DecodeError, EncodeError, EncodeSink, UnknownFields};
 use std::alloc::Global;
 use std::error::Error;

@@ -1,4 +1,4 @@
-use Rattle.buffa_map.proofs.ResultLemmas.{IfErr-map, OnOk-map}
+use Rattle.buffa_map_base.proofs.ResultLemmas.{IfErr-map, OnOk-map}
 use Rattle.buffa_map.proofs.RewriteCallLemmas.{anew, anew_stopped}
 use Rattle.buffa_map.proofs.rewrite.read_anew.Goals as goal
 

@@ -1,0 +1,233 @@
+-- What fields and entries need of a budget, and how the loop over the fields pays it.
+use Rattle.std.proofs.Common.{◌≡◌, ◌≢◌, ◌⊎◌, inl, inr, ℕ, zero, suc, ◌+◌, ◌==◌, ◌<◌, ◌≤◌, Bool, true, false, List, [], ◌∷◌, length, Result, Ok, Err, refl, sym, ap, subst, ◌∙◌, arith, if◌then◌else◌}
+use Rattle.std.proofs.lemmas.Bool.{eq-eqb, ne_eqb}
+use Rattle.buffa_wire.specs.Field.{TakesDelimited, TakesTag}
+use Rattle.buffa_wire.specs.Reading.{tag_at, check_wire, delimited_at, skip_at}
+use Rattle.buffa_wire.specs.WireType.{same_wire}
+use Rattle.buffa_wire.specs.BudgetLeft.{BudgetLeft, Lacks, Pays, PaysAtMost, nothing, plus, slots}
+use Rattle.buffa_wire.specs.Message.{IsLimit}
+use Rattle.buffa_wire.proofs.MessageLemmas.{NoLimit, length_no_limit, payload_no_limit, tag_no_limit, var_no_limit}
+use Rattle.buffa_bytes.specs.declared.wire_type.WireType.{WireType}
+use Rattle.buffa_bytes.specs.declared.wire_type.WireType.TheVariants.{Varint, Fixed64, LengthDelimited, StartGroup, EndGroup, Fixed32}
+use Rattle.buffa_bytes.specs.declared.error.DecodeError.{DecodeError}
+use Rattle.buffa_bytes.specs.declared.error.DecodeError.TheVariants.{ElementMemoryLimitExceeded, RecursionLimitExceeded, UnknownFieldLimitExceeded}
+use Rattle.buffa_bytes.proofs.DelimitedLemmas.{delimited_sound, delimited_taken}
+use Rattle.buffa_bytes.proofs.StepLemmas.{agree_ok, agree_err}
+use Rattle.buffa_bytes.proofs.FieldLemmas.{tag_sound}
+use Rattle.buffa_wire.specs.Content.{Content, ContentFault}
+use Rattle.buffa_wire.specs.Sequence.{ParsesTo}
+use Rattle.buffa_map_base.specs.Codec.{Reading, Tells, ValueFault, level, need_by, value_at, value_need}
+use Rattle.buffa_map_base.specs.Entry.{CodecFault, EntryFault, EntryOf, FaultOf, FieldFault, IsEntry, IsField, blanks, codec_need, field_at, field_need, inner_need, need_at, need_of, need_within}
+use Rattle.buffa_map_base.specs.declared.map_entry.MapEntry.{MapEntry}
+use Rattle.buffa_map_base.proofs.EntryLemmas.{Plain, check_sound, check_same, field_shorter, field_sound, need_by-nothing, same_refl, value_free}
+
+pub checked : (f : ℕ) (v w : WireType) → check_wire f v w ≡ Ok tt → w ≡ v
+checked f v w h = agree_ok (check_wire f v w) tt (check_sound f v w) h
+
+codec_needs : {V : Type 0} (codec : Reading V) (d : ℕ) (w : WireType) (bs : List ℕ) → w ≡ codec.wire → codec_need codec d w bs ≡ value_need codec d bs
+codec_needs codec d w bs same = rw (same, same_refl codec.wire) refl
+
+need_by-same : {A : Type 0} (r : Result A DecodeError) (f g : A → BudgetLeft) → ((x : A) → r ≡ Ok x → f x ≡ g x) → need_by r f ≡ need_by r g
+need_by-same (Ok x) f g h = h x refl
+need_by-same (Err e) f g h = refl
+
+if_nothing : (b : Bool) (x : BudgetLeft) → x ≡ nothing → (if b then x else nothing) ≡ nothing
+if_nothing true x h = h
+if_nothing false x h = refl
+
+if_both : (b : Bool) (x y : BudgetLeft) → x ≡ nothing → y ≡ nothing → (if b then x else y) ≡ nothing
+if_both true x y h k = h
+if_both false x y h k = k
+
+content_fair : (w : WireType) (bs : List ℕ) (e : DecodeError) → ContentFault w bs e → NoLimit e
+content_fair Varint bs e h = var_no_limit bs e h
+content_fair Fixed64 bs e h = subst (λ z. NoLimit z) (sym h.1) (λ l. l)
+content_fair LengthDelimited bs e h = length_no_limit bs e h
+content_fair StartGroup bs e h = subst (λ z. NoLimit z) (sym h) (λ l. l)
+content_fair EndGroup bs e h = subst (λ z. NoLimit z) (sym h) (λ l. l)
+content_fair Fixed32 bs e h = subst (λ z. NoLimit z) (sym h.1) (λ l. l)
+
+level_fair : (b : Bool) (d : ℕ) (e : DecodeError) → level b d ≡ Err e → NoLimit e
+level_fair false d e h = cc
+level_fair true zero RecursionLimitExceeded h = λ l. l
+level_fair true zero _ h = cc
+level_fair true (suc d) e h = cc
+
+told_fair : (b : Bool) (x e : DecodeError) → NoLimit x → Tells b x e → NoLimit e
+told_fair false x e n h = subst (λ z. NoLimit z) (sym h) n
+told_fair true x e n (inl h) = subst (λ z. NoLimit z) (sym h) n
+told_fair true x e n (inr h) = h
+
+codec_fair : {V : Type 0} (codec : Reading V) (d n : ℕ) (old : V) → ((c : Content) (x : DecodeError) → codec.reads d old c ≡ Err x → NoLimit x) → (w : WireType) (bs : List ℕ) (e : DecodeError) → CodecFault codec d n old w bs e → NoLimit e
+codec_fair codec d n old fair w bs e (inl h) = subst (λ z. NoLimit z) (sym h.1) (λ l. l)
+codec_fair codec d n old fair w bs e (inr (same, inl h)) = level_fair codec.nested d e h
+codec_fair codec d n old fair w bs e (inr (same, inr (inl h))) = content_fair codec.wire bs e h.1
+codec_fair codec d n old fair w bs e (inr (same, inr (inr (o, c, rest, x, t, h, k)))) = told_fair codec.nested x e (fair c x h) k
+
+module _ {K V : Type 0} (key : Reading K) (val : Reading V) (d : ℕ) where
+  -- ---- what the field at the front costs, once its tag is read
+  pub need-key : (bs rest : List ℕ) (n : ℕ) (w : WireType) → tag_at bs ≡ Ok (n, w, rest) → n ≡ 1 → w ≡ key.wire → field_need key val d bs ≡ value_need key d rest
+  need-key bs rest n w h one same = rw (h, eq-eqb n 1 one) (codec_needs key d w rest same)
+
+  pub need-value : (bs rest : List ℕ) (n : ℕ) (w : WireType) → tag_at bs ≡ Ok (n, w, rest) → n ≢ 1 → n ≡ 2 → w ≡ val.wire → field_need key val d bs ≡ value_need val d rest
+  need-value bs rest n w h not two same = rw (h, ne_eqb n 1 not, eq-eqb n 2 two) (codec_needs val d w rest same)
+
+  -- ---- why a field isn't merged
+  pub field_broken : (s : MapEntry K V) (bs : List ℕ) (e : DecodeError) → field_at key val d s bs ≡ Err e → FieldFault key val d s bs e
+  field_broken s bs e h = agree_err (field_at key val d s bs) e (field_sound key val d s bs) h
+
+  pub key_mismatch : (s : MapEntry K V) (bs rest : List ℕ) (n : ℕ) (v w : WireType) (e : DecodeError) → tag_at bs ≡ Ok (n, w, rest) → n ≡ 1 → v ≡ key.wire → check_wire n v w ≡ Err e → FieldFault key val d s bs e
+  key_mismatch s bs rest n v w e h one is bad =
+      let k : check_wire 1 key.wire w ≡ Err e = subst (λ z. check_wire 1 z w ≡ Err e) is (subst (λ z. check_wire z v w ≡ Err e) one bad) in
+      field_broken s bs e (rw (h, eq-eqb n 1 one, k) refl)
+
+  pub value_mismatch : (s : MapEntry K V) (bs rest : List ℕ) (n : ℕ) (v w : WireType) (e : DecodeError) → tag_at bs ≡ Ok (n, w, rest) → n ≢ 1 → n ≡ 2 → v ≡ val.wire → check_wire n v w ≡ Err e → FieldFault key val d s bs e
+  value_mismatch s bs rest n v w e h not two is bad =
+      let k : check_wire 2 val.wire w ≡ Err e = subst (λ z. check_wire 2 z w ≡ Err e) is (subst (λ z. check_wire z v w ≡ Err e) two bad) in
+      field_broken s bs e (rw (h, ne_eqb n 1 not, eq-eqb n 2 two, k) refl)
+
+  pub other_broken : (s : MapEntry K V) (bs rest : List ℕ) (n : ℕ) (w : WireType) (e : DecodeError) → tag_at bs ≡ Ok (n, w, rest) → n ≢ 1 → n ≢ 2 → skip_at d n w rest ≡ Err e → FieldFault key val d s bs e
+  other_broken s bs rest n w e h not_one not_two bad = field_broken s bs e (rw (h, ne_eqb n 1 not_one, ne_eqb n 2 not_two, bad) refl)
+
+  -- a value field is merged, and paid
+  pub value_merged : (s : MapEntry K V) (bs rest x : List ℕ) (n : ℕ) (w : WireType) (v : V) (known now : Bool) (left over : BudgetLeft) → tag_at bs ≡ Ok (n, w, rest) → n ≢ 1 → n ≡ 2 → w ≡ val.wire →
+      value_at val d s.value rest ≡ Ok ((v, known), x) → known ≡ now → Pays left (value_need val d rest) over →
+      (field_at key val d s bs ≡ Ok (record s { value = v; known = now }, x)) × Pays left (field_need key val d bs) over
+  value_merged s bs rest x n w v known now left over h not two same is k paid = (
+    rw (h, ne_eqb n 1 not, eq-eqb n 2 two, check_same 2 val.wire w same, is, k) refl,
+    subst (λ z. Pays left z over) (sym (need-value bs rest n w h not two same)) paid,
+  )
+
+  pub key_refused : (s : MapEntry K V) (bs rest : List ℕ) (n : ℕ) (w : WireType) (left : BudgetLeft) (e : DecodeError) → tag_at bs ≡ Ok (n, w, rest) → n ≡ 1 → w ≡ key.wire →
+      Lacks left (value_need key d rest) ⊎ ValueFault key d s.key rest e → Lacks left (field_need key val d bs) ⊎ FieldFault key val d s bs e
+  key_refused s bs rest n w left e h one same (inl few) = inl (subst (λ z. Lacks left z) (sym (need-key bs rest n w h one same)) few)
+  key_refused s bs rest n w left e h one same (inr bad) =
+      let u : TakesTag bs n w rest = agree_ok (tag_at bs) (n, w, rest) (tag_sound bs) h in
+      inr (inr (inl (w, rest, subst (λ z. TakesTag bs z w rest) one u, inr (same, bad))))
+
+  pub value_refused : (s : MapEntry K V) (bs rest : List ℕ) (n : ℕ) (w : WireType) (left : BudgetLeft) (e : DecodeError) → tag_at bs ≡ Ok (n, w, rest) → n ≢ 1 → n ≡ 2 → w ≡ val.wire →
+      Lacks left (value_need val d rest) ⊎ ValueFault val d s.value rest e → Lacks left (field_need key val d bs) ⊎ FieldFault key val d s bs e
+  value_refused s bs rest n w left e h not two same (inl few) = inl (subst (λ z. Lacks left z) (sym (need-value bs rest n w h not two same)) few)
+  value_refused s bs rest n w left e h not two same (inr bad) =
+      let u : TakesTag bs n w rest = agree_ok (tag_at bs) (n, w, rest) (tag_sound bs) h in
+      inr (inr (inr (inl (w, rest, subst (λ z. TakesTag bs z w rest) two u, inr (same, bad)))))
+
+  -- ---- what the fields of an entry cost
+  enough : (k m : ℕ) (s : MapEntry K V) (bs : List ℕ) → length bs ≤ k → length bs ≤ m → need_within key val d k s bs ≡ need_within key val d m s bs
+  unfolding need_within
+  enough k m s [] h l = refl
+  enough zero m s (b ∷ bs) h l = absurd (omega arith)
+  enough (suc k) zero s (b ∷ bs) h l = absurd (omega arith)
+  enough (suc k) (suc m) s (b ∷ bs) h l =
+      ap (λ z. plus (field_need key val d (b ∷ bs)) z) (need_by-same (field_at key val d s (b ∷ bs)) (λ x. need_within key val d k x.0 x.1) (λ x. need_within key val d m x.0 x.1)
+      (λ x e. let short = field_shorter key val d s x.0 (b ∷ bs) x.1 e in enough k m x.0 x.1 (omega (arith, short)) (omega (arith, short))))
+
+  after : (s : MapEntry K V) (b : ℕ) (bs : List ℕ) → need_at key val d s (b ∷ bs) ≡ plus (field_need key val d (b ∷ bs)) (need_by (field_at key val d s (b ∷ bs)) (λ x. need_within key val d (length bs) x.0 x.1))
+  unfolding need_within need_at
+  after s b bs = refl
+
+  whole_need : (s : MapEntry K V) (bs : List ℕ) → need_at key val d s bs ≡ need_within key val d (length bs) s bs
+  unfolding need_at
+  whole_need s bs = refl
+
+  -- the front field, and those behind it
+  pub need_step : (s t : MapEntry K V) (bs x : List ℕ) → 0 < length bs → field_at key val d s bs ≡ Ok (t, x) → need_at key val d s bs ≡ plus (field_need key val d bs) (need_at key val d t x)
+  need_step s t [] x some h = absurd (omega arith)
+  need_step s t (b ∷ bs) x some h =
+      let short = field_shorter key val d s t (b ∷ bs) x h in
+      after s b bs ∙ ap (λ r. plus (field_need key val d (b ∷ bs)) (need_by r (λ y. need_within key val d (length bs) y.0 y.1))) h
+      ∙ ap (λ z. plus (field_need key val d (b ∷ bs)) z) (enough (length bs) (length x) t x (omega (arith, short)) (omega arith) ∙ sym (whole_need t x))
+
+  pub need_front : (s : MapEntry K V) (bs : List ℕ) → 0 < length bs → ((field_need key val d bs).unknown ≤ (need_at key val d s bs).unknown) × ((field_need key val d bs).memory ≤ (need_at key val d s bs).memory)
+  need_front s [] some = absurd (omega arith)
+  need_front s (b ∷ bs) some = let e = after s b bs in (omega (arith, ap (λ z. z.unknown) e), omega (arith, ap (λ z. z.memory) e))
+
+  pub need_end : (s : MapEntry K V) (bs : List ℕ) → length bs ≡ 0 → need_at key val d s bs ≡ nothing
+  unfolding need_within need_at
+  need_end s [] h = refl
+  need_end s (b ∷ bs) h = absurd (omega (arith, h))
+
+  -- ---- the loop over the fields of e: s was said, r is left, and of start now is left
+  module _ (e : List ℕ) (s : MapEntry K V) (r : List ℕ) (start now : BudgetLeft) (some : 0 < length r)
+      (unknown : now.unknown + (need_at key val d (blanks key val d) e).unknown ≡ start.unknown + (need_at key val d s r).unknown)
+      (memory : now.memory + (need_at key val d (blanks key val d) e).memory ≡ start.memory + (need_at key val d s r).memory) where
+    pub fields_fault : (f : DecodeError) → ParsesTo (IsField key val d) (blanks key val d) e s r → Lacks now (field_need key val d r) ⊎ FieldFault key val d s r f →
+        Lacks start (need_at key val d (blanks key val d) e) ⊎ FaultOf key val d e f
+    fields_fault f h (inl (inl few)) = let front = need_front s r some in inl (inl (omega (arith, few, front.0, unknown)))
+    fields_fault f h (inl (inr few)) = let front = need_front s r some in inl (inr (omega (arith, few, front.1, memory)))
+    fields_fault f h (inr bad) = inr (s, r, h, (λ z. absurd (omega (arith, some, ap length z))), bad)
+
+    pub fields_spent : (over : BudgetLeft) → now.unknown ≤ start.unknown → now.memory ≤ start.memory → PaysAtMost now (field_need key val d r) over → PaysAtMost start (need_at key val d (blanks key val d) e) over
+    fields_spent over u m h =
+        let front = need_front s r some in
+        (omega (arith, u, h.0), omega (arith, unknown, front.0, h.1), omega (arith, m, h.2), omega (arith, memory, front.1, h.3))
+
+  -- ---- a length and an entry
+  pub inner_is : (bs e rest : List ℕ) → delimited_at bs ≡ Ok (e, rest) → inner_need key val d bs ≡ need_at key val d (blanks key val d) e
+  inner_is bs e rest h = rw h refl
+
+  pub entry_short : (cost slot : ℕ) (left : BudgetLeft) (bs : List ℕ) (f : DecodeError) → delimited_at bs ≡ Err f → EntryFault key val d cost slot left bs f
+  entry_short cost slot left bs f h = inl (agree_err (delimited_at bs) f (delimited_sound bs) h)
+
+  pub entry_charged : (cost slot : ℕ) (left : BudgetLeft) (bs e rest : List ℕ) (f : DecodeError) → delimited_at bs ≡ Ok (e, rest) → left.memory < cost → f ≡ ElementMemoryLimitExceeded → EntryFault key val d cost slot left bs f
+  entry_charged cost slot left bs e rest f h l k = let t = agree_ok (delimited_at bs) (e, rest) (delimited_sound bs) h in inr (t.0, e, rest, t.1, t.2, inl (l, k))
+
+  pub lacks_after : (cost : ℕ) (left now : BudgetLeft) (e : List ℕ) → now.memory + cost ≡ left.memory → now.unknown ≡ left.unknown → Lacks now (need_at key val d (blanks key val d) e) → Lacks left (need_of key val d cost e)
+  lacks_after cost left now e m u (inl few) = inl (omega (arith, u, few))
+  lacks_after cost left now e m u (inr few) = inr (omega (arith, m, few))
+
+  pub entry_refused : (cost slot : ℕ) (left : BudgetLeft) (bs e rest : List ℕ) (f : DecodeError) → delimited_at bs ≡ Ok (e, rest) → cost ≤ left.memory →
+      Lacks left (need_of key val d cost e) ⊎ FaultOf key val d e f → EntryFault key val d cost slot left bs f
+  entry_refused cost slot left bs e rest f h m (inl few) =
+      let t = agree_ok (delimited_at bs) (e, rest) (delimited_sound bs) h in inr (t.0, e, rest, t.1, t.2, inr (m, inl few))
+  entry_refused cost slot left bs e rest f h m (inr bad) =
+      let t = agree_ok (delimited_at bs) (e, rest) (delimited_sound bs) h in inr (t.0, e, rest, t.1, t.2, inr (m, inr (inl bad)))
+
+  pub entry_slotless : (cost slot : ℕ) (left : BudgetLeft) (bs e rest : List ℕ) (s : MapEntry K V) (f : DecodeError) → delimited_at bs ≡ Ok (e, rest) → cost ≤ left.memory → IsEntry key val d e s → s.known ≡ false → left.unknown < (need_of key val d cost e).unknown + slot →
+      f ≡ UnknownFieldLimitExceeded → EntryFault key val d cost slot left bs f
+  entry_slotless cost slot left bs e rest s f h l k no_value few is = let t = agree_ok (delimited_at bs) (e, rest) (delimited_sound bs) h in inr (t.0, e, rest, t.1, t.2, inr (l, inr (inr (s, k, no_value, few, is))))
+
+  pub entry_found : (bs e rest : List ℕ) (s : MapEntry K V) → delimited_at bs ≡ Ok (e, rest) → IsEntry key val d e s → EntryOf key val d bs e s rest
+  entry_found bs e rest s h k = let t = agree_ok (delimited_at bs) (e, rest) (delimited_sound bs) h in (t.0, t.1, t.2, k)
+
+  -- where no length and so many bytes begin them, none do
+  pub no_length : {P : Type 0} (bs : List ℕ) (f : DecodeError) → delimited_at bs ≡ Err f → (e rest : List ℕ) → TakesDelimited bs e rest → P
+  no_length bs f h e rest t = let k = sym h ∙ delimited_taken bs e rest t in cc
+
+  -- ---- a limit is told only where the need isn't left
+  module _ (key_fair : (d : ℕ) (old : K) (c : Content) (x : DecodeError) → key.reads d old c ≡ Err x → NoLimit x) (val_fair : (d : ℕ) (old : V) (c : Content) (x : DecodeError) → val.reads d old c ≡ Err x → NoLimit x) where
+    field_fair : (s : MapEntry K V) (bs : List ℕ) (f : DecodeError) → FieldFault key val d s bs f → NoLimit f
+    field_fair s bs f (inl h) = tag_no_limit bs f h
+    field_fair s bs f (inr (inl (w, rest, t, h))) = codec_fair key d 1 s.key (key_fair d s.key) w rest f h
+    field_fair s bs f (inr (inr (inl (w, rest, t, h)))) = codec_fair val d 2 s.value (val_fair d s.value) w rest f h
+    field_fair s bs f (inr (inr (inr (n, w, rest, not_one, not_two, t, h)))) = payload_no_limit d n w rest f h
+
+    pub entry_limited : (cost slot : ℕ) (left : BudgetLeft) (bs : List ℕ) (f : DecodeError) → EntryFault key val d cost slot left bs f → IsLimit f →
+        (e : List ℕ) × (rest : List ℕ) × TakesDelimited bs e rest × (Lacks left (need_of key val d cost e)
+        ⊎ ((s : MapEntry K V) × IsEntry key val d e s × (s.known ≡ false) × Lacks left (plus (need_of key val d cost e) (slots slot))))
+    entry_limited cost slot left bs f (inl h) l = absurd (length_no_limit bs f h l)
+    entry_limited cost slot left bs f (inr (t, e, rest, v, is, inl h)) l = (e, rest, (t, v, is), inl (inr (omega (arith, h.0))))
+    entry_limited cost slot left bs f (inr (t, e, rest, v, is, inr (many, inl (inl few)))) l = (e, rest, (t, v, is), inl (inl (omega (arith, few))))
+    entry_limited cost slot left bs f (inr (t, e, rest, v, is, inr (many, inl (inr few)))) l = (e, rest, (t, v, is), inl (inr (omega (arith, few))))
+    entry_limited cost slot left bs f (inr (t, e, rest, v, is, inr (many, inr (inl h)))) l = absurd (field_fair h.0 h.1 f h.4 l)
+    entry_limited cost slot left bs f (inr (t, e, rest, v, is, inr (many, inr (inr h)))) l = (e, rest, (t, v, is), inr (h.0, h.1, h.2, inl h.3))
+
+  -- ---- where no payload is nested, nothing is needed
+  module _ (key_free : key.nested ≡ false → (d : ℕ) (c : Content) → key.cost d c ≡ nothing) (val_free : val.nested ≡ false → (d : ℕ) (c : Content) → val.cost d c ≡ nothing) where
+    field_free : (bs : List ℕ) → Plain key val d → field_need key val d bs ≡ nothing
+    field_free bs p = need_by-nothing (tag_at bs) (λ t. if t.0 == 1 then codec_need key d t.1 t.2 else (if t.0 == 2 then codec_need val d t.1 t.2 else nothing))
+        (λ t. if_both (t.0 == 1) (codec_need key d t.1 t.2) (if t.0 == 2 then codec_need val d t.1 t.2 else nothing)
+        (if_nothing (same_wire key.wire t.1) (value_need key d t.2) (value_free key d key.blank t.2 (key_free p.0 d)))
+        (if_nothing (t.0 == 2) (codec_need val d t.1 t.2) (if_nothing (same_wire val.wire t.1) (value_need val d t.2) (value_free val d val.blank t.2 (val_free p.1 d)))))
+
+    free_within : (k : ℕ) (s : MapEntry K V) (bs : List ℕ) → Plain key val d → need_within key val d k s bs ≡ nothing
+    unfolding need_within
+    free_within k s [] p = refl
+    free_within zero s (b ∷ bs) p = refl
+    free_within (suc k) s (b ∷ bs) p =
+        let one = field_free (b ∷ bs) p in
+        let more = need_by-nothing (field_at key val d s (b ∷ bs)) (λ x. need_within key val d k x.0 x.1) (λ x. free_within k x.0 x.1 p) in
+        rw (one, more) refl
+
+    pub need_free : (s : MapEntry K V) (bs : List ℕ) → Plain key val d → need_at key val d s bs ≡ nothing
+    need_free s bs p = whole_need s bs ∙ free_within (length bs) s bs p

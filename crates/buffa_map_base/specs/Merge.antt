@@ -1,0 +1,157 @@
+-- What reading entries does to a map, to the records that are kept beside it, and to a budget.
+use Rattle.std.specs.Prelude.{◌≡◌, ◌≢◌, ℕ, ◌+◌, ◌≤◌, Bool, List, [], ◌∷◌, ◌++◌, ◌⊎◌, cond, true, Option, None, Some, Ok, Err, IsOk}
+use Rattle.buffa_bytes.specs.declared.error.DecodeError.{DecodeError}
+use Rattle.buffa_bytes.specs.declared.error.DecodeError.TheVariants.{OutOfMemory}
+use Rattle.buffa_bytes.specs.Left.{past_no_tag, past_no_text}
+use Rattle.buffa_bytes.specs.Unread.{IsTailOf}
+use Rattle.buffa_bytes.specs.declared.wire_type.WireType.{WireType}
+use Rattle.buffa_wire.specs.Field.{TakesDelimited}
+use Rattle.buffa_wire.specs.BudgetLeft.{BudgetLeft, Pays, plus, slots}
+use Rattle.buffa_wire.specs.Reading.{delimited_at, tag_at}
+use Rattle.buffa_wire.specs.Records.{Datum, bytes}
+use Rattle.buffa_bytes.specs.declared.wire_type.WireType.TheVariants.{LengthDelimited}
+use Rattle.buffa_map_base.specs.Codec.{Reading}
+use Rattle.buffa_map_base.specs.Entry.{EntryFault, EntryOf, IsEntry, inner_need, need_of}
+use Rattle.buffa_map_base.specs.Fields.{FieldsTakeMemory}
+use Rattle.buffa_map_base.specs.Pairs.{InOrder, SamePairs}
+use Rattle.buffa_map_base.specs.Run.{fold_entries, Paid, RecordFault, Run, RunBegins, EntryRecord, added, record_need, step}
+use Rattle.buffa_map_base.specs.declared.map_entry.MapEntry.{MapEntry}
+
+-- the pairs of the map, the records that are kept, and what is left of the budget
+pub record State (K V : Type 0) : Type 0 where
+  pub pairs : List (K × V)
+  pub records : List (ℕ × Datum)
+  pub left : BudgetLeft
+
+abbrev pub state : {K V : Type 0} → List (K × V) → List (ℕ × Datum) → BudgetLeft → State K V
+state pairs records left = record { pairs = pairs; records = records; left = left }
+
+-- how entries are read: by which codecs, under which equality of keys, in which order, how deep, under which number, at which
+-- cost; and what one with an undeclared value adds to the records, and takes of the slots
+pub record Rules (K V : Type 0) : Type 0 where
+  pub key : Reading K
+  pub val : Reading V
+  pub same : K → K → Bool
+  pub keeps_order : Bool
+  pub depth : ℕ
+  pub number : ℕ
+  pub cost : ℕ
+  pub slot : ℕ
+  pub adds : ℕ → List ℕ → List (ℕ × Datum)
+
+abbrev pub rules : {K V : Type 0} → Reading K → Reading V → (K → K → Bool) → Bool → ℕ → ℕ → ℕ → ℕ → (ℕ → List ℕ → List (ℕ × Datum)) → Rules K V
+rules key val same ordered depth number cost slot adds =
+    record { key = key; val = val; same = same; keeps_order = ordered; depth = depth; number = number; cost = cost; slot = slot; adds = adds }
+
+-- entries with an undeclared value are dropped
+abbrev pub dropping : {K V : Type 0} → Reading K → Reading V → (K → K → Bool) → Bool → ℕ → ℕ → ℕ → Rules K V
+dropping key val same ordered depth number cost = rules key val same ordered depth number cost 0 (λ n e. [])
+
+-- they are kept, each as a record, and each takes a slot
+abbrev pub keeping : {K V : Type 0} → Reading K → Reading V → (K → K → Bool) → Bool → ℕ → ℕ → ℕ → Rules K V
+keeping key val same ordered depth number cost = rules key val same ordered depth number cost 1 (λ n e. (n, bytes e) ∷ [])
+
+-- they are kept where a list was lent
+abbrev pub lending : {K V X : Type 0} → Reading K → Reading V → (K → K → Bool) → Bool → ℕ → ℕ → ℕ → Option X → Rules K V
+lending key val same ordered depth number cost None = dropping key val same ordered depth number cost
+lending key val same ordered depth number cost (Some list) = keeping key val same ordered depth number cost
+
+-- the entry at the front of the bytes was read, and rest follows it: it is one step of the fold, or it is kept
+pub record MergesEntry {K V : Type 0} (r : Rules K V) (old : State K V) (bytes : List ℕ) (new : State K V) (rest : List ℕ) : Type 0 where
+  pub says : MapEntry K V
+  pub entry : List ℕ
+  pub read : EntryOf r.key r.val r.depth bytes entry says rest
+  pub put : SamePairs r.same (step r.same old.pairs says) new.pairs
+  pub order : InOrder r.keeps_order (step r.same old.pairs says) new.pairs
+  pub keeps : new.records ≡ old.records ++ cond says.known [] (r.adds r.number entry)
+  pub pays : Pays old.left (plus (need_of r.key r.val r.depth r.cost entry) (slots (cond says.known 0 r.slot))) new.left
+
+-- what keeping an entry takes is left: a slot, behind what its fields cost
+abbrev pub HasSlot : {K V : Type 0} → Rules K V → BudgetLeft → List ℕ → Type 0
+HasSlot r left e = (r.slot ≢ 0) × ((need_of r.key r.val r.depth r.cost e).unknown + r.slot ≤ left.unknown)
+
+-- Where merging an entry takes memory, of which f is told: its length and so many bytes are there; these are copied,
+-- if an entry may be undeclared and is kept then; or its units are left, and a field takes memory, or the whole entry is
+-- put, or kept where its slot is left.
+abbrev pub EntryTakesMemory : {K V : Type 0} → Rules K V → BudgetLeft → List ℕ → DecodeError → Type 0
+EntryTakesMemory {K} {V} r left bs f =
+    (e : List ℕ) × (rest : List ℕ) × (delimited_at bs ≡ Ok (e, rest))
+    × (((r.slot ≢ 0) × (r.val.undeclared ≡ true) × (e ≢ []))
+    ⊎ ((r.cost ≤ left.memory) × (FieldsTakeMemory r.key r.val r.depth e f
+    ⊎ ((s : MapEntry K V) × IsEntry r.key r.val r.depth e s × ((s.known ≡ true) ⊎ HasSlot r left e)))))
+
+-- f is why not, and out of memory only where merging the entry takes memory; map and records stand. What is
+-- unread is a tail of what was; it is what follows the entry, where that was there and had a fault, and what follows its
+-- length, or no length, where it wasn't there. Of the budget at
+-- most the entry's cost, its slot and what the messages in it cost are gone; the cost is gone where the entry was there
+-- and had a fault; the slot is not, where f is a fault; nothing is, where no length and so many bytes were there.
+pub record RefusesEntry {K V : Type 0} (r : Rules K V) (old : State K V) (bytes : List ℕ) (new : State K V) (unread : List ℕ) (f : DecodeError) : Type 0 where
+  pub fault : f ≢ OutOfMemory → EntryFault r.key r.val r.depth r.cost r.slot old.left bytes f
+  pub memory : f ≡ OutOfMemory → EntryTakesMemory r old.left bytes f
+  pub tail : IsTailOf unread bytes
+  pub past : f ≢ OutOfMemory → (e rest : List ℕ) → TakesDelimited bytes e rest → unread ≡ rest
+  pub within : (e rest : List ℕ) → TakesDelimited bytes e rest → IsTailOf rest unread
+  pub past_no_text : (x : DecodeError) → delimited_at bytes ≡ Err x → unread ≡ past_no_text bytes
+  pub pairs : new.pairs ≡ old.pairs
+  pub records : new.records ≡ old.records
+  pub units : (new.left.memory ≡ old.left.memory)
+      ⊎ ((new.left.memory + r.cost ≤ old.left.memory)
+      × (old.left.memory ≤ new.left.memory + (r.cost + (inner_need r.key r.val r.depth bytes).memory)))
+  pub charged : f ≢ OutOfMemory → (e rest : List ℕ) → TakesDelimited bytes e rest → r.cost ≤ old.left.memory → new.left.memory + r.cost ≤ old.left.memory
+  pub unspent : (IsOk (delimited_at bytes) → ⊥) → new.left ≡ old.left
+  pub most : new.left.unknown ≤ old.left.unknown
+  pub least : old.left.unknown ≤ new.left.unknown + (r.slot + (inner_need r.key r.val r.depth bytes).unknown)
+  pub no_slot : f ≢ OutOfMemory → old.left.unknown ≤ new.left.unknown + (inner_need r.key r.val r.depth bytes).unknown
+
+-- the entry was merged, or refused, whatever bytes it begins behind its length
+abbrev pub MergesWhole : {K V : Type 0} → Rules K V → State K V → List ℕ → State K V → Type 0
+MergesWhole r old e new = (bytes rest : List ℕ) → delimited_at bytes ≡ Ok (e, rest) → MergesEntry r old bytes new rest
+
+abbrev pub RefusesWhole : {K V : Type 0} → Rules K V → State K V → List ℕ → State K V → DecodeError → Type 0
+RefusesWhole r old e new f = (bytes rest : List ℕ) → delimited_at bytes ≡ Ok (e, rest) → RefusesEntry r old bytes new rest f
+
+-- a tag of this number, a length and so many bytes begin the bytes
+abbrev pub HasRecord : ℕ → List ℕ → Type 0
+HasRecord n bs = (mid : List ℕ) × (tag_at bs ≡ Ok (n, LengthDelimited, mid)) × IsOk (delimited_at mid)
+
+-- the records of some entries are all of the bytes, and were read
+pub record ReadsRun {K V : Type 0} (r : Rules K V) (old : State K V) (bytes : List ℕ) (new : State K V) (rest : List ℕ) : Type 0 where
+  pub entries : List (EntryRecord K V)
+  pub run : Run r.key r.val r.depth r.number bytes entries
+  pub folded : SamePairs r.same (fold_entries r.same old.pairs entries) new.pairs
+  pub order : InOrder r.keeps_order (fold_entries r.same old.pairs entries) new.pairs
+  pub keeps : new.records ≡ old.records ++ added r.adds r.number entries
+  pub paid : Paid r.key r.val r.depth r.cost r.slot old.left entries new.left
+  pub whole : rest ≡ []
+
+-- The records of some entries begin the bytes, and were read; f is why what follows them wasn't, and out of memory only
+-- where merging the entry of a record takes memory. What is unread is a tail of what follows them: what follows the tag, where it is another;
+-- what follows the entry, where that was there and had a fault; what follows its length, or no length, where it wasn't;
+-- what follows no tag, where none was there. Of the budget that they leave at most one entry's cost,
+-- its slot and what the messages in it cost are gone; the cost is, where the entry was there and had a fault; nothing
+-- is, where no record of the number was there.
+pub record StopsRun {K V : Type 0} (r : Rules K V) (old : State K V) (bytes : List ℕ) (new : State K V) (unread : List ℕ) (f : DecodeError) : Type 0 where
+  pub entries : List (EntryRecord K V)
+  pub rest : List ℕ
+  pub over : BudgetLeft
+  pub begins : RunBegins r.key r.val r.depth r.number r.cost r.slot old.left bytes entries rest over
+  pub folded : SamePairs r.same (fold_entries r.same old.pairs entries) new.pairs
+  pub order : InOrder r.keeps_order (fold_entries r.same old.pairs entries) new.pairs
+  pub keeps : new.records ≡ old.records ++ added r.adds r.number entries
+  pub some : rest ≢ []
+  pub units : (new.left.memory ≡ over.memory)
+      ⊎ ((new.left.memory + r.cost ≤ over.memory)
+      × (over.memory ≤ new.left.memory + (r.cost + (record_need r.key r.val r.depth rest).memory)))
+  pub most : new.left.unknown ≤ over.unknown
+  pub one_slot : over.unknown ≤ new.left.unknown + (r.slot + (record_need r.key r.val r.depth rest).unknown)
+  pub fault : f ≢ OutOfMemory → RecordFault r.key r.val r.depth r.number r.cost r.slot over rest f
+  pub memory : f ≡ OutOfMemory → (mid : List ℕ) × (tag_at rest ≡ Ok (r.number, LengthDelimited, mid)) × EntryTakesMemory r over mid f
+  pub unspent : (HasRecord r.number rest → ⊥) → new.left ≡ over
+  pub charged : f ≢ OutOfMemory → (mid e after : List ℕ) → tag_at rest ≡ Ok (r.number, LengthDelimited, mid) → TakesDelimited mid e after → r.cost ≤ over.memory → new.left.memory + r.cost ≤ over.memory
+  pub tail : IsTailOf unread rest
+  pub past_tag : (g : ℕ) (w : WireType) (mid : List ℕ) → tag_at rest ≡ Ok (g, w, mid) → (g ≢ r.number) ⊎ (w ≢ LengthDelimited) → unread ≡ mid
+  pub past : f ≢ OutOfMemory → (mid e after : List ℕ) → tag_at rest ≡ Ok (r.number, LengthDelimited, mid) → TakesDelimited mid e after → unread ≡ after
+  pub within : (mid e after : List ℕ) → tag_at rest ≡ Ok (r.number, LengthDelimited, mid) → TakesDelimited mid e after → IsTailOf after unread
+  pub past_no_text : (mid : List ℕ) (x : DecodeError) → tag_at rest ≡ Ok (r.number, LengthDelimited, mid) → delimited_at mid ≡ Err x → unread ≡ past_no_text mid
+  pub past_no_tag : (x : DecodeError) → tag_at rest ≡ Err x → unread ≡ past_no_tag rest
+  pub no_slot : f ≢ OutOfMemory → over.unknown ≤ new.left.unknown + (record_need r.key r.val r.depth rest).unknown

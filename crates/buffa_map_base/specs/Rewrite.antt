@@ -1,0 +1,129 @@
+-- Rewrites: a reader of one enum reads a run, and writes the map and behind it the entries that it doesn't
+-- know. And when that means to a reader of another enum, who knows more, what the run means.
+use Rattle.std.specs.Prelude.{◌≡◌, ◌≢◌, ◌+◌, ◌<◌, ◌≤◌, length, ℕ, Bool, true, ◌&&◌, not, List, [], ◌∷◌, ◌++◌, ◌⊎◌, Option, None, Some, IfSome, OnOk, Result, MatchResult}
+use Rattle.std.specs.List.{filter}
+use Rattle.buffa_wire.specs.BudgetLeft.{BudgetLeft}
+use Rattle.buffa_wire.specs.Text.{records_text}
+use Rattle.buffa_wire.specs.Records.{Datum}
+use Rattle.buffa_wire.specs.Written.{WritesFront}
+use Rattle.buffa_bytes.specs.declared.error.DecodeError.{DecodeError}
+use Rattle.buffa_bytes.specs.declared.error.EncodeError.{EncodeError}
+use Rattle.buffa_bytes.specs.declared.error.EncodeError.TheVariants.{GroupRefused, MessageTooLarge, OutOfMemory}
+use Rattle.buffa_map_base.specs.Codec.{Writing}
+use Rattle.buffa_map_base.specs.Pairs.{InOrder, ListsOnce, SamePairs}
+use Rattle.buffa_map_base.specs.Merge.{Rules, StopsRun, state}
+use Rattle.buffa_map_base.specs.Run.{EntryRecord, fold_entries, undeclared, Paid, Run, undeclared_records}
+use Rattle.buffa_map_base.specs.Text.{AllHold, HasText, RefusesField, UsesRoomOf, field_text}
+
+-- out is a text of the map that the entries es make of the empty one, its pairs in any order, and behind it a
+-- record for each entry of es that is undeclared, in order
+abbrev pub IsRewrite : {K V : Type 0} → (K → K → Bool) → Writing K → Writing V → (K → Type 0) → (V → Type 0) → ℕ → List (EntryRecord K V) → List ℕ → Type 0
+IsRewrite {K} {V} eq key val KeyFits ValFits n es out =
+    (l : List (K × V)) × ListsOnce eq (fold_entries eq [] es) l × HasText key val l × AllHold KeyFits ValFits l × (out ≡ field_text key val n l ++ records_text (undeclared_records n es))
+
+-- an entry to two readers of one run: its key, and whether its value is one that the first, and that the second reader's enum declares
+pub record Seen (K : Type 0) : Type 0 where
+  pub key : K
+  pub ignorant : Bool
+  pub informed : Bool
+
+-- the entries of one run, read by two readers
+abbrev pub seen : {K V : Type 0} → List (EntryRecord K V) → List (EntryRecord K V) → List (Seen K)
+seen [] fs = []
+seen (x ∷ es) [] = []
+seen (x ∷ es) (y ∷ fs) = record { key = y.parts.key; ignorant = x.parts.known; informed = y.parts.known } ∷ seen es fs
+
+-- only the informed reader's enum declares it
+abbrev pub is_new : {K : Type 0} → Seen K → Bool
+is_new x = x.informed && not x.ignorant
+
+abbrev pub first : {A : Type 0} → List A → Option A
+first [] = None
+first (x ∷ xs) = Some x
+
+abbrev pub last : {A : Type 0} → List A → Option A
+last [] = None
+last {A} (x ∷ xs) = elim (last xs) as (λ _. Option A) [ None ↦ Some x | Some y ↦ Some y ]
+
+-- Of the entries with one key: if one is new, then the last that the informed reader knows is new, and the
+-- first that it knows has the very key of the first that the ignorant one knows, if that knows any.
+abbrev pub IsOrderedClass : {K : Type 0} → List (Seen K) → Type 0
+IsOrderedClass xs =
+    filter is_new xs ≢ [] →
+    IfSome (last (filter (λ x. x.informed) xs)) (λ x. is_new x ≡ true)
+    × IfSome (first (filter (λ x. x.ignorant) xs)) (λ x. IfSome (first (filter (λ y. y.informed) xs)) (λ y. y.key ≡ x.key))
+
+-- the order condition, for each class of entries with equal keys
+abbrev pub Ordered : {K V : Type 0} → (K → K → Bool) → List (EntryRecord K V) → List (EntryRecord K V) → Type 0
+Ordered {K} eq es fs = (q : K) → IsOrderedClass (filter (λ x. eq q x.key) (seen es fs))
+
+-- What the entries gs of a rewrite have to do with the entries fs of the run, both as the informed reader has
+-- them, where es are the run's to the ignorant one. What the informed reader keeps is kept, in order; if the
+-- run is ordered, both make one map of any old map; and only then do both make one map of the empty one.
+abbrev pub KeepsMeaning : {K V : Type 0} → (K → K → Bool) → List (EntryRecord K V) → List (EntryRecord K V) → List (EntryRecord K V) → Type 0
+KeepsMeaning {K} {V} eq es fs gs =
+    (undeclared gs ≡ undeclared fs)
+    × (Ordered eq es fs → (m : List (K × V)) → SamePairs eq (fold_entries eq m gs) (fold_entries eq m fs))
+    × (SamePairs eq (fold_entries eq [] gs) (fold_entries eq [] fs) → Ordered eq es fs)
+
+-- ---- what is written
+
+module _ {K V : Type 0} (key : Writing K) (val : Writing V) (n : ℕ) (kept : List (ℕ × Datum)) (old new : List ℕ) where
+  -- Memory ran out in the text of l, or behind it, after a beginning of the kept records; or an entry of l is too long,
+  -- and the records of the pairs before it were written.
+  abbrev pub RefusesRewrite : List (K × V) → EncodeError → Type 0
+  RefusesRewrite l OutOfMemory =
+      RefusesField key val n old new l OutOfMemory
+      ⊎ (HasText key val l × WritesFront (old ++ field_text key val n l) (records_text kept) new)
+  RefusesRewrite l MessageTooLarge = RefusesField key val n old new l MessageTooLarge
+  RefusesRewrite l (GroupRefused e) = ⊥
+
+  -- the text of l and of the kept records was written, or refused
+  abbrev pub WritesRewrite : {T : Type 0} → Result T EncodeError → List (K × V) → Type 0
+  WritesRewrite r l = MatchResult r (λ _. HasText key val l × (new ≡ old ++ (field_text key val n l ++ records_text kept))) (RefusesRewrite l)
+
+-- a map was walked once, and its text and the kept records' were written, or refused; what had room wasn't
+pub record WritesWalk {K V : Type 0} (eq : K → K → Bool) (Walks : List (K × V) → Type 0) (key : Writing K) (val : Writing V) (KeyFits : K → Type 0) (ValFits : V → Type 0) (n : ℕ) (pairs : List (K × V)) (kept : List (ℕ × Datum)) (old : List ℕ) (before : ℕ) {T : Type 0} (r : Result T EncodeError) (new : List ℕ) (after : ℕ) : Type 0 where
+  pub walk : List (K × V)
+  pub once : ListsOnce eq pairs walk
+  pub text : WritesRewrite key val n kept old new r walk
+  pub fits : OnOk r (AllHold KeyFits ValFits walk)
+  pub room : UsesRoomOf r before (field_text key val n walk ++ records_text kept) after
+  pub walks : Walks walk
+
+-- ---- what a rewrite does
+
+-- the records of the bytes were read into an empty map; and the rewrite was written, by a walk that the map has
+pub record RewritesRun {K V : Type 0} (r : Rules K V) (key : Writing K) (val : Writing V) (KeyFits : K → Type 0) (ValFits : V → Type 0) (Walks : List (K × V) → Type 0) (left : BudgetLeft) (bytes : List ℕ) (new : List (K × V)) (over : BudgetLeft) (rest : List ℕ) (old written : List ℕ) (before after : ℕ) : Type 0 where
+  pub entries : List (EntryRecord K V)
+  pub out : List ℕ
+  pub run : Run r.key r.val r.depth r.number bytes entries
+  pub folded : SamePairs r.same (fold_entries r.same [] entries) new
+  pub order : InOrder r.keeps_order (fold_entries r.same [] entries) new
+  pub rewrite : IsRewrite r.same key val KeyFits ValFits r.number entries out
+  pub walks : Walks rewrite.0
+  pub text : written ≡ old ++ out
+  pub ordered : r.keeps_order ≡ true → out ≡ field_text key val r.number (fold_entries r.same [] entries) ++ records_text (undeclared_records r.number entries)
+  pub room : before ≤ after + length out
+  pub paid : Paid r.key r.val r.depth r.cost r.slot left entries over
+  pub whole : rest ≡ []
+
+-- f is why the bytes were refused; the entries before it stand in the map, and nothing was written
+abbrev pub RefusesBytes : {K V : Type 0} → Rules K V → BudgetLeft → List ℕ → List (K × V) → BudgetLeft → List ℕ → List ℕ → List ℕ → DecodeError → Type 0
+RefusesBytes r left bytes new over unread old written f =
+    (kept : List (ℕ × Datum)) × StopsRun r (state [] [] left) bytes (state new kept over) unread f × (written ≡ old)
+
+-- the records were read, and e is why the text wasn't written whole: out of memory only where it has no room
+pub record RefusesOutput {K V : Type 0} (r : Rules K V) (key : Writing K) (val : Writing V) (Walks : List (K × V) → Type 0) (left : BudgetLeft) (bytes : List ℕ) (new : List (K × V)) (over : BudgetLeft) (rest : List ℕ) (old written : List ℕ) (before : ℕ) (e : EncodeError) : Type 0 where
+  pub entries : List (EntryRecord K V)
+  pub walk : List (K × V)
+  pub run : Run r.key r.val r.depth r.number bytes entries
+  pub folded : SamePairs r.same (fold_entries r.same [] entries) new
+  pub order : InOrder r.keeps_order (fold_entries r.same [] entries) new
+  pub once : ListsOnce r.same (fold_entries r.same [] entries) walk
+  pub walked : InOrder r.keeps_order (fold_entries r.same [] entries) walk
+  pub walks : Walks walk
+  pub text : RefusesRewrite key val r.number (undeclared_records r.number entries) old written walk e
+  pub room : e ≡ OutOfMemory → before < length (field_text key val r.number walk ++ records_text (undeclared_records r.number entries))
+  pub paid : Paid r.key r.val r.depth r.cost r.slot left entries over
+  pub whole : rest ≡ []

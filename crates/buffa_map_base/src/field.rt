@@ -1,0 +1,103 @@
+//! A map field, as contracts name it: what reads it and what rewrites it, by its codecs and its storage. There is
+//! nothing to call here.
+
+ghost use Rattle.std.specs.Prelude.{◌+◌, Option};
+ghost use Rattle.buffa_wire.specs.Records.{Held};
+ghost use Rattle.buffa_map_base.specs.Calls.{Reader, Rewriter};
+ghost use Rattle.buffa_map_base.specs.Merge.{dropping, keeping, lending};
+ghost use Rattle.buffa_map_base.specs.Message.{message_reading};
+ghost use denote.Ref.{MutBor};
+
+use crate::codec::{MapCodec, MapValueDecode};
+use crate::storage::MapStorage;
+use buffa_wire::{Blank, MessageSpec};
+use std::marker::PhantomData;
+
+/// What reads a map field.
+pub trait Reads {
+    /// The type of the keys.
+    type Key: Blank;
+
+    /// The type of the values.
+    type Value: Blank;
+
+    /// The storage.
+    type Map;
+
+    /// The rules at a depth and of a number, and what the storage holds.
+    ghost reader: { Reader Self.Key.Meaning Self.Value.Meaning Self.Map };
+}
+
+/// What reads a map field where a list may be lent.
+pub trait Lends: Reads {
+    /// By whether one was.
+    ghost lender: { Option (MutBor Held) → Reader Self.Key.Meaning Self.Value.Meaning Self.Map };
+}
+
+/// What rewrites a map field.
+pub trait Rewrites: Reads {
+    /// What reads it, and how its text is written.
+    ghost rewriter: { Rewriter Self.Key.Meaning Self.Value.Meaning Self.Map };
+}
+
+/// A field of these codecs in this storage; entries with an undeclared value are dropped, where nothing else is said.
+pub struct Field<KC, VC, C> {
+    of: PhantomData<(KC, VC, C)>,
+}
+
+/// A field of messages, which a function merges.
+pub struct Messages<KC, M, C> {
+    of: PhantomData<(KC, M, C)>,
+}
+
+impl<KC: MapCodec, VC: MapValueDecode, C: MapStorage<Key = KC::Value, Value = VC::Value>> Reads
+    for Field<KC, VC, C> {
+    type Key = KC::Value;
+
+    type Value = VC::Value;
+
+    type Map = C;
+
+    ghost reader = { record {
+      rules = λ d n. dropping KC.reading VC.reading C.equal C.keeps_order d n (KC.COST + VC.COST);
+      pairs = C.pairs;
+    } };
+}
+
+impl<KC: MapCodec, VC: MapValueDecode, C: MapStorage<Key = KC::Value, Value = VC::Value>> Lends
+    for Field<KC, VC, C> {
+    ghost lender = { λ list. record {
+      rules = λ d n. lending KC.reading VC.reading C.equal C.keeps_order d n (KC.COST + VC.COST) list;
+      pairs = C.pairs;
+    } };
+}
+
+impl<KC: MapCodec, VC: MapCodec, C: MapStorage<Key = KC::Value, Value = VC::Value>> Rewrites
+    for Field<KC, VC, C> {
+    ghost rewriter = { record {
+      reader = record {
+        rules = λ d n. keeping KC.reading VC.reading C.equal C.keeps_order d n (KC.COST + VC.COST);
+        pairs = C.pairs;
+      };
+      Walks = C.walks;
+      key = KC.writing;
+      val = VC.writing;
+      KeyFits = KC.fits;
+      ValFits = VC.fits;
+    } };
+}
+
+impl<KC: MapCodec, M: MessageSpec, C: MapStorage<Key = KC::Value, Value = M>> Reads
+    for Messages<KC, M, C> {
+    type Key = KC::Value;
+
+    type Value = M;
+
+    type Map = C;
+
+    ghost reader = { record {
+      rules = λ d n. dropping KC.reading (message_reading M.blank_is M.merged M.cost) C.equal C.keeps_order d n
+          (KC.COST + M.COST);
+      pairs = C.pairs;
+    } };
+}

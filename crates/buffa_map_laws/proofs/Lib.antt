@@ -1,0 +1,7 @@
+pub mod FrontLemmas
+pub mod BackLemmas
+pub mod ClassLemmas
+pub mod RewriteLemmas
+pub mod PlainLemmas
+pub mod PinLemmas
+pub mod PinTextLemmas

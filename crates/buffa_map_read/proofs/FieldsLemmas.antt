@@ -1,0 +1,137 @@
+-- A field of an entry that was merged, or refused, at each place where reading it ends; and the fields of an entry.
+use Rattle.std.proofs.Common.{arith, ◌≡◌, ◌≢◌, ◌+◌, ◌<◌, ◌≤◌, inl, inr, ℕ, Bool, false, List, [], ◌∷◌, Ok, Err, length, ap, refl, subst, sym, ◌∙◌}
+use Rattle.buffa_bytes.proofs.FullLemmas.{tag_no_full}
+use Rattle.buffa_bytes.specs.declared.error.DecodeError.{DecodeError}
+use Rattle.buffa_bytes.specs.declared.error.DecodeError.TheVariants.{OutOfMemory}
+use Rattle.buffa_bytes.specs.declared.wire_type.WireType.{WireType}
+use Rattle.buffa_wire.specs.Content.{Content}
+use Rattle.buffa_wire.specs.BudgetLeft.{BudgetLeft, Pays, PaysAtMost, nothing}
+use Rattle.buffa_wire.specs.Reading.{check_wire, skip_at, tag_at}
+use Rattle.buffa_wire.specs.Sequence.{ParsesTo}
+use Rattle.buffa_map_base.specs.Codec.{Reading, Refuses, Spends, TakesMemory, is_known, value_at, value_need}
+use Rattle.buffa_map_base.specs.Entry.{FieldFault, IsField, blanks, need_at}
+use Rattle.buffa_map_base.specs.Fields.{FieldTakesMemory, MergesField, MergesFields, RefusesField, RefusesFields}
+use Rattle.buffa_map_base.specs.declared.codec.MapValueDecodeStatus.{MapValueDecodeStatus}
+use Rattle.buffa_map_base.specs.declared.codec.MapValueDecodeStatus.TheVariants.{Known, Unknown}
+use Rattle.buffa_map_base.specs.declared.map_entry.MapEntry.{MapEntry}
+use Rattle.buffa_map_base.proofs.EntryLemmas.{field_shorter, field_step, refused_in, spent_in, value_free}
+use Rattle.buffa_map_base.proofs.MemoryLemmas.{mismatch_no_full, skip_no_full}
+use Rattle.buffa_map_base.proofs.NeedLemmas.{checked, field_broken, fields_fault, fields_spent, key_mismatch, key_refused, need-key, need-value, need_end, need_step, other_broken, value_merged, value_mismatch, value_refused}
+
+module _ {K V : Type 0} (key : Reading K) (val : Reading V) (d : ℕ) (s : MapEntry K V) (left : BudgetLeft) (bs : List ℕ) where
+  -- nothing was spent
+  refused : (f : DecodeError) → (f ≡ OutOfMemory → FieldTakesMemory key val d bs) → (f ≢ OutOfMemory → FieldFault key val d s bs f) → RefusesField key val d s left bs left f
+  refused f full h = record { fault = λ ne. inr (h ne); full = full; pays = (omega arith, omega arith, omega arith, omega arith) }
+
+  pub no_tag : (f : DecodeError) → tag_at bs ≡ Err f → RefusesField key val d s left bs left f
+  no_tag f h = refused f (tag_no_full bs f h) (λ ne. field_broken key val d s bs f (rw h refl))
+
+  module _ (n : ℕ) (w : WireType) (rest : List ℕ) (tag : tag_at bs ≡ Ok (n, w, rest)) where
+    tag_as : (m : ℕ) (v : WireType) → n ≡ m → w ≡ v → tag_at bs ≡ Ok (m, v, rest)
+    tag_as m v same wire = subst (λ (z : WireType). tag_at bs ≡ Ok (m, z, rest)) wire (subst (λ (z : ℕ). tag_at bs ≡ Ok (z, w, rest)) same tag)
+
+    module _ (one : n ≡ 1) (v : WireType) (is : v ≡ key.wire) where
+      pub wrong_key : (f : DecodeError) → check_wire n v w ≡ Err f → RefusesField key val d s left bs left f
+      wrong_key f h = refused f (mismatch_no_full n v w f h) (λ ne. key_mismatch key val d s bs rest n v w f tag one is h)
+
+      pub bad_key : (T : Type 0) (over : BudgetLeft) (f : DecodeError) → check_wire n v w ≡ Ok tt → (key.nested ≡ false → (c : Content) → key.cost d c ≡ nothing) →
+          (f ≢ OutOfMemory → Refuses key.nested key d s.key rest left f) → (f ≡ OutOfMemory → TakesMemory key d rest) → Spends {T = T} key.nested (Err f) left (value_need key d rest) over → RefusesField key val d s left bs over f
+      bad_key T over f wire free fault full spent =
+          let same : w ≡ key.wire = checked n v w wire ∙ is in
+          let paid : PaysAtMost left (value_need key d rest) over = spent_in {T = T} key.nested (Err f) left (value_need key d rest) over (λ plain. value_free key d s.key rest (free plain)) spent in
+          record {
+            fault = λ ne. key_refused key val d s bs rest n w left f tag one same (refused_in key d s.key key.nested rest left f (fault ne));
+            full = λ out. inl (rest, tag_as 1 key.wire one same, full out);
+            pays = subst (λ z. PaysAtMost left z over) (sym (need-key key val d bs rest n w tag one same)) paid;
+          }
+
+    module _ (not_one : n ≢ 1) (two : n ≡ 2) (v : WireType) (is : v ≡ val.wire) where
+      pub wrong_value : (f : DecodeError) → check_wire n v w ≡ Err f → RefusesField key val d s left bs left f
+      wrong_value f h = refused f (mismatch_no_full n v w f h) (λ ne. value_mismatch key val d s bs rest n v w f tag not_one two is h)
+
+      module _ (wire : check_wire n v w ≡ Ok tt) (free : val.nested ≡ false → (c : Content) → val.cost d c ≡ nothing) where
+        pub bad_value : (T : Type 0) (over : BudgetLeft) (f : DecodeError) →
+            (f ≢ OutOfMemory → Refuses val.nested val d s.value rest left f) → (f ≡ OutOfMemory → TakesMemory val d rest) → Spends {T = T} val.nested (Err f) left (value_need val d rest) over → RefusesField key val d s left bs over f
+        bad_value T over f fault full spent =
+            let same : w ≡ val.wire = checked n v w wire ∙ is in
+            let paid : PaysAtMost left (value_need val d rest) over = spent_in {T = T} val.nested (Err f) left (value_need val d rest) over (λ plain. value_free val d s.value rest (free plain)) spent in
+            record {
+              fault = λ ne. value_refused key val d s bs rest n w left f tag not_one two same (refused_in val d s.value val.nested rest left f (fault ne));
+              full = λ out. inr (rest, tag_as 2 val.wire two same, full out);
+              pays = subst (λ z. PaysAtMost left z over) (sym (need-value key val d bs rest n w tag not_one two same)) paid;
+            }
+
+        pub good_value : {T : Type 0} (x : T) (over : BudgetLeft) (after : List ℕ) (new : V) (known now : Bool) → value_at val d s.value rest ≡ Ok ((new, known), after) → known ≡ now →
+            Spends {T = T} val.nested (Ok x) left (value_need val d rest) over → MergesField key val d s left bs (record s { value = new; known = now }) over after
+        good_value {T = T} x over after new known now reads same_known spent =
+            let same : w ≡ val.wire = checked n v w wire ∙ is in
+            let paid : Pays left (value_need val d rest) over = spent_in {T = T} val.nested (Ok x) left (value_need val d rest) over (λ plain. value_free val d s.value rest (free plain)) spent in
+            let both = value_merged key val d s bs rest after n w new known now left over tag not_one two same reads same_known paid in
+            record { field = both.0; pays = both.1 }
+
+    pub bad_other : (f : DecodeError) → n ≢ 1 → n ≢ 2 → skip_at d n w rest ≡ Err f → RefusesField key val d s left bs left f
+    bad_other f not_one not_two h = refused f (skip_no_full d n w rest f h) (λ ne. other_broken key val d s bs rest n w f tag not_one not_two h)
+
+-- ---- all fields
+some_left : {bs : List ℕ} → 0 < length bs → bs ≢ []
+some_left h e = absurd (omega (arith, ap length e))
+
+none : {bs : List ℕ} → length bs ≡ 0 → bs ≡ []
+none {bs = []} h = refl
+none {bs = b ∷ bs} h = absurd (omega (arith, h))
+
+module _ {K V : Type 0} (key : Reading K) (val : Reading V) (d : ℕ) (bytes : List ℕ) (left : BudgetLeft) where
+  abbrev start : MapEntry K V
+  start = blanks key val d
+
+  -- the fields so far were merged: s was said, now is left, and rest follows them
+  pub record Merged (s : MapEntry K V) (now : BudgetLeft) (rest : List ℕ) : Type 0 where
+    pub reached : ParsesTo (IsField key val d) start bytes s rest
+    pub unknown : now.unknown + (need_at key val d start bytes).unknown ≡ left.unknown + (need_at key val d s rest).unknown
+    pub memory : now.memory + (need_at key val d start bytes).memory ≡ left.memory + (need_at key val d s rest).memory
+    pub no_slot : now.unknown ≤ left.unknown
+    pub no_unit : now.memory ≤ left.memory
+
+  pub no_field : (s : MapEntry K V) → s ≡ start → Merged s left bytes
+  no_field s is = record {
+    reached = ([], refl, sym is);
+    unknown = rw is refl;
+    memory = rw is refl;
+    no_slot = omega arith;
+    no_unit = omega arith;
+  }
+
+  module _ (s : MapEntry K V) (now : BudgetLeft) (rest : List ℕ) (h : Merged s now rest) where
+    pub all_fields : length rest ≡ 0 → MergesFields key val d bytes left s now
+    all_fields empty =
+        let e = need_end key val d s rest empty in
+        record {
+          entry = subst (λ z. ParsesTo (IsField key val d) start bytes s z) (none empty) h.reached;
+          pays = (omega (arith, h.unknown, ap (λ (z : BudgetLeft). z.unknown) e), omega (arith, h.memory, ap (λ (z : BudgetLeft). z.memory) e));
+        }
+
+    pub one_field : (t : MapEntry K V) (over : BudgetLeft) (after : List ℕ) → 0 < length rest → MergesField key val d s now rest t over after → Merged t over after
+    one_field t over after some m =
+        let e = need_step key val d s t rest after some m.field in
+        record {
+          reached = field_step key val d bytes s t rest after h.reached m.field;
+          unknown = omega (arith, h.unknown, m.pays.0, ap (λ (z : BudgetLeft). z.unknown) e);
+          memory = omega (arith, h.memory, m.pays.1, ap (λ (z : BudgetLeft). z.memory) e);
+          no_slot = omega (arith, h.no_slot, m.pays.0);
+          no_unit = omega (arith, h.no_unit, m.pays.1);
+        }
+
+    pub fewer : (t : MapEntry K V) (over : BudgetLeft) (after : List ℕ) → MergesField key val d s now rest t over after → length after < length rest
+    fewer t over after m = field_shorter key val d s t rest after m.field
+
+    pub bad_field : (over : BudgetLeft) (f : DecodeError) → 0 < length rest → RefusesField key val d s now rest over f → RefusesFields key val d bytes left over f
+    bad_field over f some k = record {
+      full = λ out. (s, rest, h.reached, some_left some, k.full out);
+      fault = λ ne. fields_fault key val d bytes s rest left now some h.unknown h.memory f h.reached (k.fault ne);
+      pays = fields_spent key val d bytes s rest left now some h.unknown h.memory over h.no_slot h.no_unit k.pays;
+    }
+
+-- a status that isn't `Known` is that of an undeclared value
+pub not_known : (s : MapValueDecodeStatus) → s ≢ Known → is_known s ≡ false
+not_known Known h = absurd (h refl)
+not_known Unknown h = refl

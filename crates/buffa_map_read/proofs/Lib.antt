@@ -1,0 +1,4 @@
+pub mod FieldsLemmas
+pub mod PartsLemmas
+pub mod MergeLemmas
+pub mod StepLemmas

@@ -1,0 +1,126 @@
+//! What becomes of an entry whose value is undeclared.
+
+ghost use Rattle.std.specs.Prelude.{◌≡◌, ◌≢◌, ◌+◌, ◌<◌, ◌≤◌, ◌++◌, ◌∷◌, ℕ, Bool, List, [], true, false};
+ghost use Rattle.std.specs.Prelude.{IfErr, OnErr, OnOk, refl};
+ghost use Rattle.buffa_bytes.specs.declared.error.DecodeError.TheVariants.{OutOfMemory, UnknownFieldLimitExceeded};
+ghost use Rattle.buffa_wire.specs.Records.{Datum, bytes};
+ghost use Rattle.buffa_map_base.specs.Lent.{room_of};
+
+use buffa_wire::{Budget, DecodeError, UnknownField, UnknownFieldData, UnknownFields};
+use std::alloc::Global;
+
+/// What becomes of an entry whose value is undeclared: it is kept whole, or dropped.
+pub trait Keeper {
+    /// Whether it keeps any.
+    const KEEPS: bool;
+
+    ghost KEEPS: { Bool };
+
+    /// The records so far.
+    ghost records: { Self → List (ℕ × Datum) };
+
+    /// The records so far, and those that there is room for.
+    ghost room: { Self → ℕ };
+
+    /// The slots for unknown fields that one entry takes.
+    ghost slot: { ℕ };
+
+    /// What the bytes of an entry of a field of this number add.
+    ghost adds: { ℕ → List ℕ → List (ℕ × Datum) };
+
+    /// Takes a copy of the bytes of an entry, if it keeps them.
+    fn keep(
+        &mut self,
+        alloc: Global,
+        number: u32,
+        entry: &[u8],
+        budget: &mut Budget,
+    ) -> Result<(), DecodeError>
+        ensures ok { OnOk result ((records self.new ≡ records self.old ++ adds number entry.now)
+            × (budget.new.unknown + slot ≡ budget.old.unknown)) }
+        ensures err { OnErr result ((records self.new ≡ records self.old) × (budget.new.unknown ≤ budget.old.unknown)
+            × (budget.old.unknown ≤ budget.new.unknown + slot)) }
+        ensures fault { IfErr result (λ f. f ≢ OutOfMemory → (budget.old.unknown < slot)
+            × (f ≡ UnknownFieldLimitExceeded) × (budget.new.unknown ≡ budget.old.unknown)) }
+        ensures full { IfErr result (λ f. f ≡ OutOfMemory → (slot ≢ 0) × (slot ≤ budget.old.unknown)) }
+        ensures memory { budget.new.memory ≡ budget.old.memory }
+        ensures room { room self.old ≤ room self.new };
+
+    /// Where it keeps none, an entry takes no slot, and adds nothing.
+    ghost drops: { KEEPS ≡ false → (slot ≡ 0) × ((n : ℕ) (entry : List ℕ) → adds n entry ≡ []) };
+
+    /// Where it keeps some, an entry takes a slot.
+    ghost keeps: { KEEPS ≡ true → slot ≢ 0 };
+}
+
+/// Entries are dropped, and take no slot.
+#[derive(Drop)]
+pub struct Dropped;
+
+impl Keeper for Dropped {
+    const KEEPS: bool = false;
+
+    ghost KEEPS = { false };
+
+    ghost records = { λ _. [] };
+
+    ghost room = { λ _. 0 };
+
+    ghost slot = { 0 };
+
+    ghost adds = { λ _ _. [] };
+
+    fn keep(
+        &mut self,
+        _alloc: Global,
+        _number: u32,
+        _entry: &[u8],
+        _budget: &mut Budget,
+    ) -> Result<(), DecodeError> {
+        // Nothing is kept, and nothing is spent.
+        Ok(())
+    }
+
+    ghost drops = { λ none. (refl, λ n entry. refl) };
+
+    ghost keeps = { λ some. cc };
+}
+
+impl Keeper for UnknownFields {
+    const KEEPS: bool = true;
+
+    ghost KEEPS = { true };
+
+    ghost records = { λ list. list.records };
+
+    ghost room = { room_of };
+
+    ghost slot = { 1 };
+
+    ghost adds = { λ number entry. (number, bytes entry) ∷ [] };
+
+    fn keep(
+        &mut self,
+        alloc: Global,
+        number: u32,
+        entry: &[u8],
+        budget: &mut Budget,
+    ) -> Result<(), DecodeError> {
+        budget.take_slot()?;
+        let Ok(kept) = Vec::from_slice(alloc, entry) else {
+            return Err(DecodeError::OutOfMemory);
+        };
+        let field = UnknownField {
+            number,
+            payload: UnknownFieldData::LengthDelimited(kept),
+        };
+        match self.push(field) {
+            Ok(()) => Ok(()),
+            Err(_) => Err(DecodeError::OutOfMemory),
+        }
+    }
+
+    ghost drops = { λ none. cc };
+
+    ghost keeps = { λ some none. cc };
+}

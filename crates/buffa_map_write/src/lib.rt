@@ -1,0 +1,9 @@
+//! Map fields, written: from a walk of a storage by way of a size ([`size`]) into a text ([`write`](mod@write)).
+#![tactic(auto)]
+
+pub mod map_write;
+pub mod message_size;
+pub mod message_write;
+pub mod size;
+pub mod sized;
+pub mod write;

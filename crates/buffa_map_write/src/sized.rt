@@ -1,0 +1,44 @@
+//! A map field, sized and written.
+
+ghost use Rattle.std.specs.Prelude.{◌≡◌, ◌+◌, ◌-◌, IfOk, length, vec_capacity, vec_len};
+ghost use Rattle.buffa_wire.specs.Number.{IsNumber};
+ghost use Rattle.buffa_map_base.specs.Calls.{WritesMapField};
+
+use crate::size::field_len;
+use crate::write::write_field;
+use buffa_map_base::codec::MapCodec;
+use buffa_map_base::storage::{MapStorage, MapWalk};
+use buffa_wire::{EncodeError, varint_len};
+
+/// Sizes a map field, and writes it behind what the vector has: the size is the number of bytes written, for
+/// any storage, also one whose walks differ.
+///
+/// `field_number` is 1 to [`MAX_FIELD_NUMBER`](buffa_wire::MAX_FIELD_NUMBER).
+///
+/// # Errors
+/// Those of [`write_field`].
+///
+/// ```ignore
+/// let size = size_and_write_field::<Str, Int32, _>(&map, 5, &mut text)?;
+/// ```
+pub fn size_and_write_field<
+    'a,
+    KC: MapCodec,
+    VC: MapCodec,
+    C: MapWalk<'a> + MapStorage<Key = KC::Value, Value = VC::Value>,
+>(map: &'a C, field_number: u32, text: &mut Vec<u8>) -> Result<u64, EncodeError>
+where
+    KC::Value: 'a,
+    VC::Value: 'a,
+    requires { IsNumber field_number }
+    ensures size { IfOk result (λ size. length text.new.items ≡ length text.old.items + size) }
+    ensures text { WritesMapField C.equal C.walks C.pairs map.now KC.writing VC.writing KC.fits VC.fits field_number
+        (λ t. t.items) (λ t. vec_capacity t - vec_len t) text.old text.new result }
+{
+    let tag_len = varint_len(u64::from(field_number) * 8 + 2) as u64;
+    let size = field_len::<KC, VC, C>(map, tag_len);
+    write_field::<KC, VC, C, Vec<u8>>(map, field_number, text)?;
+    // A vector has fewer than 2^64 bytes, so that the size isn't capped.
+    let _held = text.len();
+    Ok(size)
+}
