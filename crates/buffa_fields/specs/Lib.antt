@@ -26,3 +26,4 @@ pub mod NestedMaps
 pub mod NestedMapLaws
 pub mod Stands
 pub mod StandsLaws
+pub mod Calls

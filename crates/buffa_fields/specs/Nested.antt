@@ -5,9 +5,10 @@ use Rattle.buffa_bytes.specs.declared.error.DecodeError.{DecodeError}
 use Rattle.buffa_bytes.specs.declared.wire_type.WireType.TheVariants.{LengthDelimited}
 use Rattle.buffa_wire.specs.BudgetLeft.{BudgetLeft, nothing}
 use Rattle.buffa_wire.specs.Message.{cost_of_payload, merged_in}
+use Rattle.buffa_wire.specs.Parse.{Fits}
 use Rattle.buffa_wire.specs.Passes.{cap}
 use Rattle.buffa_wire.specs.Reading.{delimited_at}
-use Rattle.buffa_wire.specs.Records.{Datum, bytes}
+use Rattle.buffa_wire.specs.Records.{Datum, bytes, records_of}
 use Rattle.buffa_wire.specs.WireType.{same_wire}
 use Rattle.buffa_fields.specs.Takes.{Need, Taker}
 
@@ -49,3 +50,7 @@ module _ {X : Type 0} (text : X → List ℕ) where
 abbrev pub message_levels : {X : Type 0} → (X → ℕ) → Option X → ℕ
 message_levels level None = 0
 message_levels level (Some v) = suc (level v)
+
+-- a message that reads back from inside another: it is normal, and the lengths in it can be read
+abbrev pub FitsInside : {X : Type 0} → (X → Type 0) → (X → List (ℕ × Datum)) → X → Type 0
+FitsInside normal records v = normal v × Fits (records_of (records v))

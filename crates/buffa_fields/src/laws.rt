@@ -7,8 +7,6 @@ ghost use Rattle.std.specs.Int.{cast_unsigned, w64};
 ghost use Rattle.std.specs.List.{IsDistinct};
 ghost use Rattle.std.specs.Map.{keys_of};
 ghost use Rattle.std.specs.Option.{option_map};
-ghost use Rattle.buffa_wire.specs.Parse.{Fits};
-ghost use Rattle.buffa_wire.specs.Records.{records_of};
 ghost use Rattle.buffa_wire.specs.Records.Datum.{varint, fixed32, fixed64, bytes};
 ghost use Rattle.buffa_map.specs.Message.{message_reading};
 ghost use Rattle.buffa_map.specs.Pairs.{means};
@@ -16,7 +14,7 @@ ghost use Rattle.buffa_map.specs.Text.{AllHold};
 ghost use Rattle.buffa_fields.specs.KindLaws.{is_none, is_nought, is_zero};
 ghost use Rattle.buffa_fields.specs.Lists.{Each, element_records, elements_taken, packed_records};
 ghost use Rattle.buffa_fields.specs.MapFields.{entry_cost, entry_taken};
-ghost use Rattle.buffa_fields.specs.Nested.{message_cost, message_levels};
+ghost use Rattle.buffa_fields.specs.Nested.{FitsInside, message_cost, message_levels};
 ghost use Rattle.buffa_fields.specs.Nested.{message_records, message_slots, message_taken};
 ghost use Rattle.buffa_fields.specs.NestedMaps.{pair_levels, pair_records, pair_slots};
 ghost use Rattle.buffa_fields.specs.RepeatedNested.{messages_cost, messages_levels};
@@ -102,7 +100,7 @@ pub fn nested_members_are_these<N: Message>()
     ensures slots { (v : _) → ⟦<Nested<N> as Member>⟧.slot.slots v ≡ message_slots N.text N.slots v }
     ensures levels { (v : _) → ⟦<Nested<N> as Member>⟧.slot.levels v ≡ message_levels N.levels v }
     ensures normal { (v : _) → ⟦<Nested<N> as Member>⟧.slot.normal v
-        ↔ (IfThere (λ x. N.normal x × Fits (records_of (N.records x))) v) }
+        ↔ (IfThere (FitsInside N.normal N.records) v) }
 {}
 
 /// A list of messages: each record is a new element, which costs the units of its type too.
@@ -116,7 +114,7 @@ pub fn lists_of_messages_are_these<N: Message>()
     ensures slots { (v : _) → ⟦<RepeatedNested<N> as Member>⟧.slot.slots v ≡ messages_slots N.text N.slots v }
     ensures levels { (v : _) → ⟦<RepeatedNested<N> as Member>⟧.slot.levels v ≡ messages_levels N.levels v }
     ensures normal { (v : _) → ⟦<RepeatedNested<N> as Member>⟧.slot.normal v
-        ↔ (Each (λ x. N.normal x × Fits (records_of (N.records x))) v) }
+        ↔ (Each (FitsInside N.normal N.records) v) }
 {}
 
 /// A map: each record is an entry, which is put.
@@ -153,10 +151,10 @@ where
     ensures slots { (v : _) → ⟦<MapOfNested<KC, N> as Member>⟧.slot.slots v ≡ pair_slots N.text N.slots v }
     ensures levels { (v : _) → ⟦<MapOfNested<KC, N> as Member>⟧.slot.levels v ≡ pair_levels N.levels v }
     ensures parts { (v : _) → ⟦<MapOfNested<KC, N> as Member>⟧.slot.normal v →
-        AllHold (λ k. KC.fits k × KC.normal k) (λ x. N.normal x × Fits (records_of (N.records x))) v }
+        AllHold (λ k. KC.fits k × KC.normal k) (FitsInside N.normal N.records) v }
     ensures keys { (v : _) → ⟦<MapOfNested<KC, N> as Member>⟧.slot.normal v → IsDistinct KC.Value.same (keys_of v) }
     ensures normal { (v : _) → IsDistinct KC.Value.same (keys_of v) →
-        AllHold (λ k. KC.fits k × KC.normal k) (λ x. N.normal x × Fits (records_of (N.records x))) v →
+        AllHold (λ k. KC.fits k × KC.normal k) (FitsInside N.normal N.records) v →
         ⟦<MapOfNested<KC, N> as Member>⟧.slot.normal v }
 {}
 

@@ -9,6 +9,7 @@ ghost use Rattle.buffa_wire.specs.Number.{IsNumber};
 ghost use Rattle.buffa_wire.specs.Passes.{cap};
 ghost use Rattle.buffa_wire.specs.Text.{records_text};
 ghost use Rattle.buffa_wire.specs.Written.{Writes};
+ghost use Rattle.buffa_fields.specs.Calls.{TakesElements};
 ghost use Rattle.buffa_fields.specs.Lists.{TakesPacked, element_at, element_records, elements_in, elements_taken};
 ghost use Rattle.buffa_fields.specs.Takes.{IsTaken};
 ghost use Rattle.buffa_fields.specs.Values.{free};
@@ -111,9 +112,8 @@ pub(crate) fn take_elements<C: MapCodec>(
     buf: &mut &[u8],
     depth: u32,
 ) -> Result<(), DecodeError>
-    ensures { (left : BudgetLeft) → IsTaken (elements_taken C.reading) free depth
-        (map C.Value.meaning values.old.items) tag.number tag.wire_type buf.old.now left result
-        (map C.Value.meaning values.new.items) left buf.new.now }
+    ensures { TakesElements tag depth values.old values.new buf.old buf.new result C.reading
+        (λ vs. map C.Value.meaning vs.items) }
 {
     match check_wire_type(tag, C::WIRE_TYPE) {
         Ok(()) => take_element::<C>(alloc, values, buf, depth),

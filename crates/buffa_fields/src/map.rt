@@ -6,6 +6,7 @@ ghost use Rattle.buffa_wire.specs.Number.{IsNumber};
 ghost use Rattle.buffa_wire.specs.Passes.{cap};
 ghost use Rattle.buffa_wire.specs.Text.{records_text};
 ghost use Rattle.buffa_map.specs.Pairs.{means};
+ghost use Rattle.buffa_fields.specs.Calls.{TakesEntry};
 ghost use Rattle.buffa_fields.specs.MapFields.{WritesMap, entry_cost, entry_taken, map_records};
 ghost use Rattle.buffa_fields.specs.Takes.{IsTaken};
 
@@ -50,11 +51,8 @@ pub(crate) fn take_entry<KC: MapCodec, VC: MapValueDecode>(
 ) -> Result<(), DecodeError>
 where
     KC::Value: MapKey + Hash,
-    ensures { IsTaken (entry_taken KC.reading VC.reading KC.Value.same)
-        (entry_cost KC.reading VC.reading (KC.COST + VC.COST)) ctx.entry.depth
-        (means KC.Value.meaning VC.Value.meaning map.old.entries) tag.number tag.wire_type buf.old.now
-        ctx.entry.budget.now result (means KC.Value.meaning VC.Value.meaning map.new.entries) (budget_left ctx.exit)
-        buf.new.now }
+    ensures { TakesEntry tag ctx.entry ctx.exit map.old map.new buf.old buf.new result KC.reading VC.reading
+        KC.Value.same (KC.COST + VC.COST) (λ m. means KC.Value.meaning VC.Value.meaning m.entries) }
 {
     limits_are_told_where_needs_are_not_left::<KC, VC>();
     match check_wire_type(tag, WireType::LengthDelimited) {

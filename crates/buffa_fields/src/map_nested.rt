@@ -5,16 +5,16 @@ ghost use Rattle.std.proofs.Common.{sym, ◌∙◌};
 ghost use Rattle.std.specs.List.{IsDistinct};
 ghost use Rattle.std.specs.Map.{keys_of};
 ghost use Rattle.buffa_wire.specs.Number.{IsNumber};
-ghost use Rattle.buffa_wire.specs.Parse.{Fits};
 ghost use Rattle.buffa_wire.specs.Passes.{IsNext, IsSized, IsWritten};
-ghost use Rattle.buffa_wire.specs.Records.{records_of};
 ghost use Rattle.buffa_wire.specs.Text.{records_text};
 ghost use Rattle.buffa_map.proofs.BackLemmas.{plain_back};
 ghost use Rattle.buffa_map.specs.Message.{message_reading};
 ghost use Rattle.buffa_map.specs.Pairs.{means};
 ghost use Rattle.buffa_map.specs.Text.{AllHold};
+ghost use Rattle.buffa_fields.specs.Calls.{WritesPairs};
 ghost use Rattle.buffa_fields.specs.MapFields.{entry_cost, entry_taken};
 ghost use Rattle.buffa_fields.specs.MapLaws.{map_stays};
+ghost use Rattle.buffa_fields.specs.Nested.{FitsInside};
 ghost use Rattle.buffa_fields.specs.NestedMapLaws.{pairs_back};
 ghost use Rattle.buffa_fields.specs.NestedMaps.{pair_levels, pair_records, pair_slots};
 
@@ -62,9 +62,8 @@ where
     KC::Value: MapKey + Hash,
     requires number { IsNumber number }
     requires next { IsNext (pair_slots N.text N.slots (means KC.Value.meaning N.meaning map.now.entries)) cache.old }
-    ensures { let l = means KC.Value.meaning N.meaning map.now.entries in
-        IsWritten (records_text (pair_records KC.writing N.text number l)) (pair_slots N.text N.slots l) cache.old
-        (S.written sink.old) result cache.new (S.written sink.new) }
+    ensures { WritesPairs cache.old (S.written sink.old) result cache.new (S.written sink.new) N.text N.slots number
+        KC.writing (means KC.Value.meaning N.meaning map.now.entries) }
 {
     write_message_field::<KC, N, Map<KC::Value, N>, S>(map, number, cache, sink)
 }
@@ -96,7 +95,7 @@ where
       records = pair_records KC.writing N.text;
       slots = pair_slots N.text N.slots;
       levels = pair_levels N.levels;
-      normal = λ l. AllHold (λ k. KC.fits k × KC.normal k) (λ v. N.normal v × Fits (records_of (N.records v))) l
+      normal = λ l. AllHold (λ k. KC.fits k × KC.normal k) (FitsInside N.normal N.records) l
           × IsDistinct KC.Value.same (keys_of l);
       stays = map_stays KC.reading (message_reading N.blank_is N.merged N.cost) KC.Value.same (KC.COST + N.COST);
     } };
@@ -131,7 +130,7 @@ where
 
     ghost back = { record {
       back = λ n number d l fits normal low. pairs_back N.merged N.blank_is N.cost N.text N.levels
-          (λ x. N.normal x × Fits (records_of (N.records x)))
+          (FitsInside N.normal N.records)
           (λ d v ok low. N.MessageSpec.merged_text d v ok.1 ok.0 low) KC.reading KC.writing
           (KC.MapCodec.written_wire ∙ sym KC.MapValueDecode.wire) KC.Value.same KC.Value.MapKey.equivalence
           (λ k. KC.fits k × KC.normal k)

@@ -9,6 +9,7 @@ ghost use Rattle.buffa_wire.specs.Parse.{Fits};
 ghost use Rattle.buffa_wire.specs.Passes.{IsNext, IsSized, IsWritten};
 ghost use Rattle.buffa_wire.specs.Records.{records_of};
 ghost use Rattle.buffa_wire.specs.Text.{records_text};
+ghost use Rattle.buffa_fields.specs.Calls.{MembersReadBack, MergesIn, WritesMembers};
 ghost use Rattle.buffa_fields.specs.LayoutLaws.{reads_back};
 ghost use Rattle.buffa_fields.specs.Takes.{cost_of, merged_of};
 ghost use Rattle.buffa_fields.specs.TakesLaws.{cost_of_next, cost_of_none, merged_empty, merged_fields, merged_next};
@@ -50,9 +51,8 @@ fn write_members<M: Fields, S: EncodeSink>(message: &M, writer: &mut Writer<'_, 
     requires next { IsNext (M.layout.slots (M.layout.meaning message.now)) writer.old.cache.now }
     ensures same_sink { writer.new.sink.ghost_name ≡ writer.old.sink.ghost_name }
     ensures same_cache { writer.new.cache.ghost_name ≡ writer.old.cache.ghost_name }
-    ensures written { IsWritten (records_text (M.layout.records (M.layout.meaning message.now)))
-        (M.layout.slots (M.layout.meaning message.now)) writer.old.cache.now (S.written writer.old.sink.now)
-        writer.new.result writer.new.cache.now (S.written writer.new.sink.now) }
+    ensures written { WritesMembers writer.old.cache.now (S.written writer.old.sink.now) writer.new.result
+        writer.new.cache.now (S.written writer.new.sink.now) M.layout message.now }
 {
     message.visit(writer);
 }
@@ -64,9 +64,7 @@ fn write<M: Fields, S: EncodeSink>(
     sink: &mut S,
 ) -> Result<(), EncodeError>
     requires { IsNext (M.layout.slots (M.layout.meaning message.now)) cache.old }
-    ensures { IsWritten (records_text (M.layout.records (M.layout.meaning message.now)))
-        (M.layout.slots (M.layout.meaning message.now)) cache.old (S.written sink.old) result cache.new
-        (S.written sink.new) }
+    ensures { WritesMembers cache.old (S.written sink.old) result cache.new (S.written sink.new) M.layout message.now }
 {
     let mut writer = Writer::new(sink, cache);
     write_members(message, &mut writer);
@@ -81,9 +79,7 @@ fn merge<M: Fields>(
     buf: &mut &[u8],
     ctx: DecodeContext<'_>,
 ) -> Result<(), DecodeError>
-    ensures merged { IsFieldMerged (merged_of M.layout.takes) (cost_of M.layout.need) ctx.entry.depth
-        (M.layout.meaning message.old) tag.number tag.wire_type buf.old.now ctx.entry.budget.now result
-        (M.layout.meaning message.new) (budget_left ctx.exit) buf.new.now }
+    ensures merged { MergesIn tag ctx.entry ctx.exit message.old message.new buf.old buf.new result M.layout }
     ensures full { FullOnlyIf result (tag.wire_type ≢ WireType.EndGroup) }
 {
     message.take(alloc, tag, buf, ctx)
@@ -201,8 +197,7 @@ fn members_read_back<M: Fields>(message: &M)
 /// messages_read_back(&message);
 /// ```
 pub fn messages_read_back<M: Listing>(message: &M)
-    ensures { let v = M.meaning message.now in (d : ℕ) → Fits (records_of (M.layout.records v)) → M.layout.normal v →
-        M.layout.levels v ≤ d → merged_of M.layout.takes d M.blank_is (records_text (M.layout.records v)) ≡ Some v }
+    ensures { MembersReadBack M.layout M.blank_is (M.meaning message.now) }
 {
     members_read_back(message);
 }

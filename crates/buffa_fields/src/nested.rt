@@ -4,12 +4,12 @@ ghost use Rattle.std.specs.Prelude.{None, ◌≡◌, ◌==◌, ◌++◌, ◌∷�
 ghost use Rattle.std.specs.Option.{option_map};
 ghost use Rattle.buffa_wire.specs.BudgetLeft.{budget_left};
 ghost use Rattle.buffa_wire.specs.Number.{IsNumber};
-ghost use Rattle.buffa_wire.specs.Parse.{Fits};
 ghost use Rattle.buffa_wire.specs.Passes.{IsNext, IsSized, IsWritten, cap};
-ghost use Rattle.buffa_wire.specs.Records.{bytes, records_of};
+ghost use Rattle.buffa_wire.specs.Records.{bytes};
 ghost use Rattle.buffa_wire.specs.Text.{records_text};
 ghost use Rattle.buffa_wire.specs.Written.{Writes};
-ghost use Rattle.buffa_fields.specs.Nested.{message_cost, message_in, message_levels, message_records, message_slots, message_taken};
+ghost use Rattle.buffa_fields.specs.Calls.{TakesIn, WritesMessage};
+ghost use Rattle.buffa_fields.specs.Nested.{FitsInside, message_cost, message_in, message_levels, message_records, message_slots, message_taken};
 ghost use Rattle.buffa_fields.specs.NestedLaws.{Tells, head, message_back, message_stays};
 ghost use Rattle.buffa_fields.specs.Takes.{IsTaken};
 ghost use Rattle.buffa_fields.specs.Values.{IfThere};
@@ -84,8 +84,8 @@ pub(crate) fn write_message<N: Message, S: EncodeSink>(
 ) -> Result<(), EncodeError>
     requires number { IsNumber number }
     requires next { let v = N.meaning message.now in IsNext (cap (length (N.text v)) ∷ N.slots v) cache.old }
-    ensures { let v = N.meaning message.now in IsWritten (records_text ((number, bytes (N.text v)) ∷ []))
-        (cap (length (N.text v)) ∷ N.slots v) cache.old (S.written sink.old) result cache.new (S.written sink.new) }
+    ensures { WritesMessage cache.old (S.written sink.old) result cache.new (S.written sink.new) N.text N.slots number
+        (N.meaning message.now) }
 {
     let inner = cache.consume_next();
     match write_head(number, u64::from(inner), sink) {
@@ -102,9 +102,8 @@ pub(crate) fn take_inside<N: Message>(
     buf: &mut &[u8],
     ctx: DecodeContext<'_>,
 ) -> Result<(), DecodeError>
-    ensures { IsTaken (message_in N.merged) (message_cost N.cost) ctx.entry.depth (N.meaning message.old) tag.number
-        tag.wire_type buf.old.now ctx.entry.budget.now result (N.meaning message.new) (budget_left ctx.exit)
-        buf.new.now }
+    ensures { TakesIn tag ctx.entry ctx.exit message.old message.new buf.old buf.new result (message_in N.merged)
+        (message_cost N.cost) N.meaning }
 {
     match check_wire_type(tag, WireType::LengthDelimited) {
         Ok(()) => message.merge_length_delimited(alloc, buf, ctx),
@@ -134,7 +133,7 @@ impl<N: Message> Member for Nested<N> {
       records = message_records N.text;
       slots = message_slots N.text N.slots;
       levels = message_levels N.levels;
-      normal = λ v. IfThere (λ x. N.normal x × Fits (records_of (N.records x))) v;
+      normal = λ v. IfThere (FitsInside N.normal N.records) v;
       stays = message_stays N.merged N.cost;
     } };
 
@@ -178,7 +177,7 @@ impl<N: Message> Member for Nested<N> {
 
     ghost back = { record {
       back = λ n number d v fits normal low. message_back N.merged N.blank_is N.text N.levels
-          (λ x. N.normal x × Fits (records_of (N.records x)))
+          (FitsInside N.normal N.records)
           (λ d v ok low. N.MessageSpec.merged_text d v ok.1 ok.0 low) n number d v fits normal low;
     } };
 }

@@ -3,12 +3,11 @@
 ghost use Rattle.std.specs.Prelude.{[], ◌≡◌, ◌==◌, map};
 ghost use Rattle.buffa_wire.specs.BudgetLeft.{budget_left};
 ghost use Rattle.buffa_wire.specs.Number.{IsNumber};
-ghost use Rattle.buffa_wire.specs.Parse.{Fits};
 ghost use Rattle.buffa_wire.specs.Passes.{IsNext, IsSized, IsWritten};
-ghost use Rattle.buffa_wire.specs.Records.{records_of};
 ghost use Rattle.buffa_wire.specs.Text.{records_text};
+ghost use Rattle.buffa_fields.specs.Calls.{TakesIn, WritesMessages};
 ghost use Rattle.buffa_fields.specs.Lists.{Each};
-ghost use Rattle.buffa_fields.specs.Nested.{message_in};
+ghost use Rattle.buffa_fields.specs.Nested.{FitsInside, message_in};
 ghost use Rattle.buffa_fields.specs.RepeatedNested.{messages_cost, messages_levels, messages_records, messages_slots, messages_taken};
 ghost use Rattle.buffa_fields.specs.RepeatedNestedLaws.{messages_back, messages_stay};
 ghost use Rattle.buffa_fields.specs.Takes.{IsTaken};
@@ -30,9 +29,8 @@ fn take_charged<N: Message>(
     buf: &mut &[u8],
     ctx: DecodeContext<'_>,
 ) -> Result<(), DecodeError>
-    ensures { IsTaken (message_in N.merged) (messages_cost N.COST N.cost) ctx.entry.depth (N.meaning message.old)
-        tag.number tag.wire_type buf.old.now ctx.entry.budget.now result (N.meaning message.new) (budget_left ctx.exit)
-        buf.new.now }
+    ensures { TakesIn tag ctx.entry ctx.exit message.old message.new buf.old buf.new result (message_in N.merged)
+        (messages_cost N.COST N.cost) N.meaning }
 {
     match check_wire_type(tag, WireType::LengthDelimited) {
         Ok(()) => {}
@@ -58,9 +56,8 @@ fn take_message<N: Message>(
     buf: &mut &[u8],
     ctx: DecodeContext<'_>,
 ) -> Result<(), DecodeError>
-    ensures { IsTaken (messages_taken N.blank_is N.merged) (messages_cost N.COST N.cost) ctx.entry.depth
-        (map N.meaning messages.old.items) tag.number tag.wire_type buf.old.now ctx.entry.budget.now result
-        (map N.meaning messages.new.items) (budget_left ctx.exit) buf.new.now }
+    ensures { TakesIn tag ctx.entry ctx.exit messages.old messages.new buf.old buf.new result
+        (messages_taken N.blank_is N.merged) (messages_cost N.COST N.cost) (λ vs. map N.meaning vs.items) }
 {
     let mut message = N::blank(alloc);
     match take_charged(alloc, &mut message, tag, buf, ctx) {
@@ -102,8 +99,8 @@ fn write_messages<N: Message, S: EncodeSink>(
 ) -> Result<(), EncodeError>
     requires number { IsNumber number }
     requires next { IsNext (messages_slots N.text N.slots (map N.meaning messages.now)) cache.old }
-    ensures { let vs = map N.meaning messages.now in IsWritten (records_text (messages_records N.text number vs))
-        (messages_slots N.text N.slots vs) cache.old (S.written sink.old) result cache.new (S.written sink.new) }
+    ensures { WritesMessages cache.old (S.written sink.old) result cache.new (S.written sink.new) N.text N.slots number
+        (map N.meaning messages.now) }
 {
     for message in messages {
         match write_message(number, message, cache, sink) {
@@ -136,7 +133,7 @@ impl<N: Message> Member for RepeatedNested<N> {
       records = messages_records N.text;
       slots = messages_slots N.text N.slots;
       levels = messages_levels N.levels;
-      normal = λ vs. Each (λ x. N.normal x × Fits (records_of (N.records x))) vs;
+      normal = λ vs. Each (FitsInside N.normal N.records) vs;
       stays = messages_stay N.COST N.cost;
     } };
 
@@ -166,7 +163,7 @@ impl<N: Message> Member for RepeatedNested<N> {
 
     ghost back = { record {
       back = λ n number d v fits normal low. messages_back N.merged N.blank_is N.text N.levels
-          (λ x. N.normal x × Fits (records_of (N.records x)))
+          (FitsInside N.normal N.records)
           (λ d v ok low. N.MessageSpec.merged_text d v ok.1 ok.0 low) n number d v fits normal low;
     } };
 }

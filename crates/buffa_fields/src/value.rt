@@ -7,6 +7,7 @@ ghost use Rattle.buffa_wire.specs.Passes.{cap};
 ghost use Rattle.buffa_wire.specs.Text.{records_text};
 ghost use Rattle.buffa_wire.specs.Values.{tag_text};
 ghost use Rattle.buffa_wire.specs.Written.{Writes};
+ghost use Rattle.buffa_fields.specs.Calls.{TakesValue};
 ghost use Rattle.buffa_fields.specs.Takes.{IsTaken};
 ghost use Rattle.buffa_fields.specs.Values.{free, value_taken};
 
@@ -25,8 +26,7 @@ pub(crate) fn take_value<C: MapCodec>(
     buf: &mut &[u8],
     ctx: DecodeContext<'_>,
 ) -> Result<(), DecodeError>
-    ensures { IsTaken (value_taken C.reading) free ctx.entry.depth (C.Value.meaning value.old) tag.number tag.wire_type
-        buf.old.now ctx.entry.budget.now result (C.Value.meaning value.new) (budget_left ctx.exit) buf.new.now }
+    ensures { TakesValue tag ctx.entry ctx.exit value.old value.new buf.old buf.new result C.reading C.Value.meaning }
 {
     match check_wire_type(tag, C::WIRE_TYPE) {
         Ok(()) => {}

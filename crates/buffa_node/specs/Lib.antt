@@ -10,3 +10,4 @@ pub mod Leading
 pub mod NodeBack
 pub mod Stops
 pub mod Writes
+pub mod Calls

@@ -2,12 +2,11 @@
 
 ghost use Rattle.std.specs.Prelude.{◌≡◌, OnErr, string_bytes};
 ghost use Rattle.buffa_wire.specs.Number.{IsNumber};
-ghost use Rattle.buffa_fields.specs.Takes.{IsTaken};
 ghost use Rattle.buffa_map.specs.Pairs.{means};
 ghost use Rattle.buffa_map.specs.Text.{field_text};
 ghost use Rattle.buffa_node.specs.Branch.{shade_number};
+ghost use Rattle.buffa_node.specs.Calls.{TakesScore, TakesShade, shades_and};
 ghost use Rattle.buffa_node.specs.Writes.{WritesSmall, only_memory};
-ghost use Rattle.buffa_node.specs.NodeMeaning.{scores_cost, scores_take, shades_cost, shades_take};
 
 use crate::shade::Shade;
 use buffa_map::map_codec::{
@@ -29,9 +28,8 @@ pub(crate) fn merge_score(
     depth: u32,
     budget: &mut Budget,
 ) -> Result<(), DecodeError>
-    ensures taken { IsTaken scores_take scores_cost depth (means string_bytes (λ v. v) scores.old.entries) tag.number
-        tag.wire_type buf.old.now budget.old result (means string_bytes (λ v. v) scores.new.entries) budget.new
-        buf.new.now }
+    ensures taken { TakesScore tag depth scores.old budget.old buf.old scores.new budget.new buf.new result
+        (λ m. means string_bytes (λ v. v) m.entries) }
     ensures stays { OnErr result (means string_bytes (λ v. v) scores.new.entries
         ≡ means string_bytes (λ v. v) scores.old.entries) }
 {
@@ -56,10 +54,8 @@ pub(crate) fn merge_shade(
     depth: u32,
     budget: &mut Budget,
 ) -> Result<(), DecodeError>
-    ensures taken { IsTaken shades_take shades_cost depth
-        (means (λ k. k) shade_number shades.old.entries, rest.old.records) tag.number tag.wire_type
-        buf.old.now budget.old result
-        (means (λ k. k) shade_number shades.new.entries, rest.new.records) budget.new buf.new.now }
+    ensures taken { TakesShade tag depth (shades_and shades.old.entries rest.old.records) budget.old buf.old
+        (shades_and shades.new.entries rest.new.records) budget.new buf.new result }
     ensures stays { OnErr result (means (λ k. k) shade_number shades.new.entries
         ≡ means (λ k. k) shade_number shades.old.entries) }
     ensures kept { OnErr result (rest.new.records ≡ rest.old.records) }

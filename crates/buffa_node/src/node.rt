@@ -8,9 +8,9 @@ ghost use Rattle.buffa_map.specs.MessageField.{IsFieldWritten, field_slots};
 ghost use Rattle.std.specs.Prelude.{◌≡◌, ◌≢◌, ◌+◌};
 ghost use Rattle.buffa_wire.specs.BudgetLeft.{budget_left};
 ghost use Rattle.buffa_wire.specs.Gives.{FullOnlyIf};
-ghost use Rattle.buffa_wire.specs.Message.{BeginsField, IsFieldMerged, IsMerged, cost_in, merged_in};
-ghost use Rattle.buffa_fields.specs.Takes.{IsTaken};
-ghost use Rattle.buffa_node.specs.NodeMeaning.{children_cost, children_take, cost, merged};
+ghost use Rattle.buffa_wire.specs.Message.{BeginsField, IsFieldMerged, IsMerged};
+ghost use Rattle.buffa_node.specs.Calls.{TakesChild};
+ghost use Rattle.buffa_node.specs.NodeMeaning.{cost, merged};
 ghost use Rattle.buffa_node.specs.NodeText.{IsNodeWritten, meant, number_writing, slots, text};
 ghost use Rattle.buffa_node.specs.Stops.{Stops};
 
@@ -261,9 +261,8 @@ where
     requires may { (x : _) (b : _) (d : _) (w : _) → d + 1 ≡ depth → F.pre merge x b d w }
     requires keeps { (x : _) (b : _) (d : _) (w : _) (r : _) (y : _) (v : _) → d + 1 ≡ depth →
         F.post merge x b d w r y v → IsMerged (merged d x.now b.now) (cost d b.now) w.now r y.now v.now }
-    ensures taken { IsTaken (children_take (merged_in merged depth)) (children_cost (merged_in merged depth) (cost_in
-        cost depth)) depth children.old.entries tag.number tag.wire_type buf.old.now budget.old result
-        children.new.entries budget.new buf.new.now }
+    ensures taken { TakesChild tag depth children.old budget.old buf.old children.new budget.new buf.new result
+        (λ m. m.entries) }
     ensures stays { OnErr result (children.new.entries ≡ children.old.entries) }
 {
     check_wire_type(tag, WireType::LengthDelimited)?;

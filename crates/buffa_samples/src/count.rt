@@ -4,7 +4,7 @@ ghost use Rattle.std.specs.Prelude.{◌≡◌, ◌≢◌, ◌<◌, ◌^◌, [], 
 ghost use Rattle.buffa_bytes.specs.declared.wire_type.WireType.TheVariants.{EndGroup};
 ghost use Rattle.buffa_wire.specs.BudgetLeft.{budget_left};
 ghost use Rattle.buffa_wire.specs.Gives.{FullOnlyIf, Gives};
-ghost use Rattle.buffa_wire.specs.Message.{IsFieldMerged};
+ghost use Rattle.buffa_wire.specs.Message.{MergesField};
 ghost use Rattle.buffa_wire.specs.Passes.{IsSized};
 ghost use Rattle.buffa_wire.specs.Written.{Writes};
 ghost use Rattle.buffa_samples.specs.FieldsLaws.{empty, fields, next};
@@ -142,8 +142,8 @@ impl Message for CountMsg {
         buf: &mut &[u8],
         ctx: DecodeContext<'_>,
     ) -> Result<(), DecodeError>
-        ensures merged { IsFieldMerged count_merged count_cost ctx.entry.depth self.old.count tag.number tag.wire_type
-            buf.old.now ctx.entry.budget.now result self.new.count (budget_left ctx.exit) buf.new.now }
+        ensures merged { MergesField count_merged count_cost ctx.entry self.old.count tag.number tag.wire_type
+            buf.old.now result self.new.count (budget_left ctx.exit) buf.new.now }
         ensures full { FullOnlyIf result (tag.wire_type ≢ EndGroup) }
         ensures gives { Gives (λ _. (self.new.count, buf.new.now)) result
             (count_field ctx.entry.depth self.old.count tag.number tag.wire_type buf.old.now) }

@@ -5,7 +5,7 @@ ghost use Rattle.std.specs.Int.{w32};
 ghost use Rattle.buffa_bytes.specs.declared.wire_type.WireType.TheVariants.{EndGroup};
 ghost use Rattle.buffa_wire.specs.BudgetLeft.{budget_left};
 ghost use Rattle.buffa_wire.specs.Gives.{FullOnlyIf, Gives};
-ghost use Rattle.buffa_wire.specs.Message.{IsFieldMerged};
+ghost use Rattle.buffa_wire.specs.Message.{MergesField};
 ghost use Rattle.buffa_wire.specs.Passes.{IsSized};
 ghost use Rattle.buffa_samples.specs.FieldsLaws.{empty, fields, next, number_text_records};
 ghost use Rattle.buffa_samples.specs.Flat.{flat_cost, flat_field, flat_merged, value_records, value_text};
@@ -121,8 +121,8 @@ impl Message for FlatMsg {
         buf: &mut &[u8],
         ctx: DecodeContext<'_>,
     ) -> Result<(), DecodeError>
-        ensures merged { IsFieldMerged flat_merged flat_cost ctx.entry.depth self.old.value tag.number tag.wire_type
-            buf.old.now ctx.entry.budget.now result self.new.value (budget_left ctx.exit) buf.new.now }
+        ensures merged { MergesField flat_merged flat_cost ctx.entry self.old.value tag.number tag.wire_type
+            buf.old.now result self.new.value (budget_left ctx.exit) buf.new.now }
         ensures full { FullOnlyIf result (tag.wire_type ≢ EndGroup) }
         ensures gives { Gives (λ _. (self.new.value, buf.new.now)) result
             (flat_field ctx.entry.depth self.old.value tag.number tag.wire_type buf.old.now) }

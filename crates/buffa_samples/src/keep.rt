@@ -4,7 +4,7 @@ ghost use Rattle.std.specs.Prelude.{◌≡◌, ◌≢◌, [], refl, IfOk, IsOk, 
 ghost use Rattle.buffa_wire.specs.BudgetLeft.{budget_left};
 ghost use Rattle.buffa_bytes.specs.declared.wire_type.WireType.TheVariants.{EndGroup};
 ghost use Rattle.buffa_wire.specs.Gives.{FullOnlyIf, GivesUnlessFull};
-ghost use Rattle.buffa_wire.specs.Message.{IsFieldMerged};
+ghost use Rattle.buffa_wire.specs.Message.{MergesField};
 ghost use Rattle.buffa_wire.specs.Passes.{IsSized};
 ghost use Rattle.buffa_wire.specs.RecordReading.{TakesMemory, field_at};
 ghost use Rattle.buffa_wire.specs.View.{datum_of};
@@ -156,8 +156,8 @@ impl Message for BudgetMsg {
         buf: &mut &[u8],
         ctx: DecodeContext<'_>,
     ) -> Result<(), DecodeError>
-        ensures merged { IsFieldMerged keep_merged keep_cost ctx.entry.depth self.old tag.number tag.wire_type
-            buf.old.now ctx.entry.budget.now result self.new (budget_left ctx.exit) buf.new.now }
+        ensures merged { MergesField keep_merged keep_cost ctx.entry self.old tag.number tag.wire_type
+            buf.old.now result self.new (budget_left ctx.exit) buf.new.now }
         ensures full { FullOnlyIf result (tag.wire_type ≢ EndGroup) }
         ensures unspent { OnErr result (budget_left ctx.exit ≡ ctx.entry.budget.now) }
         ensures stays { OnErr result (self.new ≡ self.old) }

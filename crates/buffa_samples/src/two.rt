@@ -5,7 +5,7 @@ ghost use Rattle.std.specs.Int.{w32};
 ghost use Rattle.buffa_bytes.specs.declared.wire_type.WireType.TheVariants.{EndGroup};
 ghost use Rattle.buffa_wire.specs.BudgetLeft.{budget_left};
 ghost use Rattle.buffa_wire.specs.Gives.{FullOnlyIf, Gives};
-ghost use Rattle.buffa_wire.specs.Message.{IsFieldMerged};
+ghost use Rattle.buffa_wire.specs.Message.{MergesField};
 ghost use Rattle.buffa_wire.specs.Passes.{IsSized};
 ghost use Rattle.buffa_samples.specs.FieldsLaws.{empty, fields, next};
 ghost use Rattle.buffa_samples.specs.Two.{two_cost, two_field, two_merged, two_records, two_text};
@@ -131,8 +131,8 @@ impl Message for TestMsg {
         buf: &mut &[u8],
         ctx: DecodeContext<'_>,
     ) -> Result<(), DecodeError>
-        ensures merged { IsFieldMerged two_merged two_cost ctx.entry.depth (self.old.a, self.old.b) tag.number tag.wire_type
-            buf.old.now ctx.entry.budget.now result (self.new.a, self.new.b) (budget_left ctx.exit) buf.new.now }
+        ensures merged { MergesField two_merged two_cost ctx.entry (self.old.a, self.old.b) tag.number tag.wire_type
+            buf.old.now result (self.new.a, self.new.b) (budget_left ctx.exit) buf.new.now }
         ensures full { FullOnlyIf result (tag.wire_type ≢ EndGroup) }
         ensures gives { Gives (λ _. ((self.new.a, self.new.b), buf.new.now)) result
             (two_field ctx.entry.depth (self.old.a, self.old.b) tag.number tag.wire_type buf.old.now) }

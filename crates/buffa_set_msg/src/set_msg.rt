@@ -4,7 +4,7 @@ ghost use Rattle.std.specs.Prelude.{◌≡◌, ◌≢◌, [], codes, length, min
 ghost use Rattle.buffa_bytes.specs.declared.wire_type.WireType.TheVariants.{EndGroup};
 ghost use Rattle.buffa_wire.specs.BudgetLeft.{budget_left};
 ghost use Rattle.buffa_wire.specs.Gives.{FullOnlyIf};
-ghost use Rattle.buffa_wire.specs.Message.{BeginsField, IsFieldMerged, MergesBytes};
+ghost use Rattle.buffa_wire.specs.Message.{BeginsField, MergesBytes, MergesField};
 ghost use Rattle.buffa_wire.specs.Passes.{IsSized, IsWritten};
 ghost use Rattle.buffa_wire.specs.Records.{Held};
 ghost use Rattle.buffa_wire.specs.Written.{UsesRoom, Writes};
@@ -170,9 +170,8 @@ impl Message for SetMsg {
         buf: &mut &[u8],
         ctx: DecodeContext<'_>,
     ) -> Result<(), DecodeError>
-        ensures merged { IsFieldMerged set_merged set_cost ctx.entry.depth self.old.fields.records tag.number
-            tag.wire_type buf.old.now ctx.entry.budget.now result self.new.fields.records (budget_left ctx.exit)
-            buf.new.now }
+        ensures merged { MergesField set_merged set_cost ctx.entry self.old.fields.records tag.number tag.wire_type
+            buf.old.now result self.new.fields.records (budget_left ctx.exit) buf.new.now }
         ensures full { FullOnlyIf result (tag.wire_type ≢ EndGroup) }
         ensures takes { TakesSetField ctx.entry.depth self.old.fields.records tag.number tag.wire_type buf.old.now
             ctx.entry.budget.now result self.new.fields.records (budget_left ctx.exit) buf.new.now }

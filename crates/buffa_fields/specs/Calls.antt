@@ -1,0 +1,75 @@
+-- What a call that takes a field, or writes a member, did: from what it was passed to what it left.
+use Rattle.std.specs.Prelude.{◌≡◌, ◌≤◌, ℕ, Bool, List, [], ◌∷◌, length, Some, Result}
+use Rattle.buffa_bytes.specs.declared.error.DecodeError.{DecodeError}
+use Rattle.buffa_bytes.specs.declared.error.EncodeError.{EncodeError}
+use Rattle.buffa_bytes.specs.declared.tag.Tag.{Tag}
+use Rattle.buffa_wire.specs.BudgetLeft.{BudgetLeft, budget_left}
+use Rattle.buffa_wire.specs.Cache.{Cache}
+use Rattle.buffa_wire.specs.Message.{IsFieldMerged}
+use Rattle.buffa_wire.specs.Parse.{Fits}
+use Rattle.buffa_wire.specs.Passes.{IsWritten, cap}
+use Rattle.buffa_wire.specs.Records.{bytes, records_of}
+use Rattle.buffa_wire.specs.Text.{records_text}
+use Rattle.buffa_wire.specs.declared.context.DecodeContext.{DecodeContext}
+use Rattle.buffa_map.specs.Calls.{Exit}
+use Rattle.buffa_map.specs.Codec.{Reading, Writing}
+use Rattle.buffa_fields.specs.Layout.{Layout}
+use Rattle.buffa_fields.specs.Lists.{elements_taken}
+use Rattle.buffa_fields.specs.MapFields.{entry_cost, entry_taken}
+use Rattle.buffa_fields.specs.Nested.{message_cost, message_in}
+use Rattle.buffa_fields.specs.NestedMaps.{pair_records, pair_slots}
+use Rattle.buffa_fields.specs.RepeatedNested.{messages_cost, messages_records, messages_slots, messages_taken}
+use Rattle.buffa_fields.specs.Takes.{IsTaken, Need, Taker, cost_of, merged_of}
+use Rattle.buffa_fields.specs.Values.{free, value_taken}
+use denote.Ref.{Bor}
+
+-- ---- a field whose tag was read: says is what a member means
+
+module _ {P D T : Type 0} (tag : Tag) (ctx : DecodeContext) (left : Exit D) (old new : P) (before after : Bor (List ℕ)) (r : Result T DecodeError) where
+  -- a member took the field, and paid for it
+  abbrev pub TakesIn : {X : Type 0} → Taker X → Need → (P → X) → Type 0
+  TakesIn takes need says =
+      IsTaken takes need ctx.depth (says old) tag.number tag.wire_type before.now ctx.budget.now r (says new) (budget_left left) after.now
+
+  -- the same of one value by its codec
+  abbrev pub TakesValue : {X : Type 0} → Reading X → (P → X) → Type 0
+  TakesValue codec says = TakesIn (value_taken codec) free says
+
+  -- the same of an entry of a map, where a pair costs so many units
+  abbrev pub TakesEntry : {K V : Type 0} → Reading K → Reading V → (K → K → Bool) → ℕ → (P → List (K × V)) → Type 0
+  TakesEntry key val same cost says = TakesIn (entry_taken key val same) (entry_cost key val cost) says
+
+  -- a message by its members merged the field, and paid for it
+  abbrev pub MergesIn : {X : Type 0} → Layout P X → Type 0
+  MergesIn l =
+      IsFieldMerged (merged_of l.takes) (cost_of l.need) ctx.depth (l.meaning old) tag.number tag.wire_type before.now ctx.budget.now r (l.meaning new) (budget_left left) after.now
+
+-- elements were taken behind the others, at any budget
+abbrev pub TakesElements : {P V T : Type 0} → Tag → ℕ → P → P → Bor (List ℕ) → Bor (List ℕ) → Result T DecodeError → Reading V → (P → List V) → Type 0
+TakesElements tag d old new before after r codec says =
+    (left : BudgetLeft) → IsTaken (elements_taken codec) free d (says old) tag.number tag.wire_type before.now left r (says new) left after.now
+
+-- ---- texts: what stands in a sink before and after
+
+module _ {T : Type 0} (before : Cache) (put : List ℕ) (r : Result T EncodeError) (after : Cache) (puts : List ℕ) where
+  -- the members of a message
+  abbrev pub WritesMembers : {M X : Type 0} → Layout M X → M → Type 0
+  WritesMembers l m = IsWritten (records_text (l.records (l.meaning m))) (l.slots (l.meaning m)) before put r after puts
+
+  module _ {X : Type 0} (text slots : X → List ℕ) (n : ℕ) where
+    -- one message
+    abbrev pub WritesMessage : X → Type 0
+    WritesMessage v = IsWritten (records_text ((n, bytes (text v)) ∷ [])) (cap (length (text v)) ∷ slots v) before put r after puts
+
+    -- a list of them
+    abbrev pub WritesMessages : List X → Type 0
+    WritesMessages vs = IsWritten (records_text (messages_records text n vs)) (messages_slots text slots vs) before put r after puts
+
+    -- a map of them
+    abbrev pub WritesPairs : {K : Type 0} → Writing K → List (K × X) → Type 0
+    WritesPairs key l = IsWritten (records_text (pair_records key text n l)) (pair_slots text slots l) before put r after puts
+
+-- the text of a normal value reads back to it, where its lengths can be read and it isn't too deep
+abbrev pub MembersReadBack : {M X : Type 0} → Layout M X → X → X → Type 0
+MembersReadBack l blank v =
+    (d : ℕ) → Fits (records_of (l.records v)) → l.normal v → l.levels v ≤ d → merged_of l.takes d blank (records_text (l.records v)) ≡ Some v
