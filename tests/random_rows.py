@@ -16,7 +16,7 @@ from rules import (
     BYTES, DELIMITED, EIGHT, END, FOUR, KINDS, MESSAGES, NODE_MAPS, START, STRINGS, VARINT, Fault, delimited, of_word, plain,
     put, read_list, records, tag_text, varint_text, word,
 )
-from second_reading import TOP, Row
+from second_reading import BY_MEMBERS, TOP, Row
 
 PAIRS = (
     "string,int32 int32,int32 int32,bool int32,uint32 int32,string int32,bytes int32,shared-bytes own-string,own-bytes "
@@ -111,10 +111,23 @@ class Maker:
         child = b"" if self.is_one_in(3) else b"\x12" + delimited(self.message("node", levels - 1))
         return b"\x12" + delimited(self.of_kind("int32", 1) + child)
 
+    def member_field(self, kind, levels):
+        """A field of one of the members, packed too where it is a list; or one of any wire type, or of no member."""
+        number, how, inner = self.any.choice(BY_MEMBERS[kind].members)
+        if self.is_one_in(4):
+            return self.field(self.pick(number, 13, 14), self.pick(VARINT, EIGHT, DELIMITED, START, FOUR), levels)
+        if how == "map":
+            return tag_text(number, DELIMITED) + self.entry(inner)
+        if how in ("repeated", "packed") and KINDS[inner][0] != DELIMITED and self.is_one_in(2):
+            return tag_text(number, DELIMITED) + delimited(b"".join(self.payload(inner) for _ in range(self.any.randint(0, 3))))
+        return tag_text(number, KINDS[inner][0]) + self.payload(inner)
+
     def message(self, kind, levels):
         text = b""
         for _ in range(self.any.randint(0, 3)):
-            if kind == "node":
+            if kind in BY_MEMBERS:
+                text += self.member_field(kind, levels)
+            elif kind == "node":
                 text += self.node_field(levels)
             elif kind == "set" and self.is_one_in(2):
                 text += b"\x0b" + self.item()
@@ -259,11 +272,11 @@ class Maker:
             before = "".join(it[2].hex() for it in records(self.fields(2))) or "-"
             given = self.steps()
         elif call in ("merge", "merge-delimited"):
-            types, settings = self.any.choice(sorted(MESSAGES)), self.settings()
-            before, text = self.pick("-", STANDING[types]), self.message(types, 3)
+            types, settings = self.any.choice(sorted(MESSAGES if call == "merge" else STANDING)), self.settings()
+            before, text = self.pick("-", STANDING.get(types, "-")), self.message(types, 3)
             text = self.mutated(self.varint(len(text)) + text if call == "merge-delimited" else text)
         elif call == "payload":
-            types, settings = self.any.choice(sorted(KINDS)), self.settings()
+            types, settings = self.any.choice(sorted(set(KINDS) - set(BY_MEMBERS))), self.settings()
             before = "-" if types in MESSAGES else '"q"' if types in STRINGS else VALUES.get(types, "6")
             text = self.mutated(self.payload(types) + self.pick(b"", b"", b"\xff"))
         elif call in ("decode", "tag", "equal"):

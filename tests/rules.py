@@ -21,6 +21,8 @@ BLANKS = {
     "flat": 0, "two": (0, 0), "keep": b"", "tree": (0, {}), "count": 0, "bool": False, "node": ({}, {}, {}, b""), "set": (),
 }
 MESSAGES = {"flat", "two", "keep", "tree", "count", "node", "set"}
+# Types of messages that are made of a list of their members, by `member_reading.py`.
+BY_MEMBERS = {}
 DECLARED = {"old": (0, 1), "open": (0, 1), "new": (0, 1, 2)}
 # The map fields of a node; shades are declared as the values of the kind `old` are.
 NODE_MAPS = {1: ("string", "int32"), 2: ("int32", "node"), 3: ("int32", "old")}
@@ -246,6 +248,8 @@ def set_field(found, buf, number, wire, depth, budget):
 
 def merge_field(kind, message, buf, number, wire, depth, budget):
     """What one field makes of a message."""
+    if kind in BY_MEMBERS:
+        return BY_MEMBERS[kind].merged(message, buf, number, wire, depth, budget)
     if kind == "keep":
         return message + kept_field(buf, number, wire, depth, budget)
     if kind in ("node", "set"):
@@ -289,6 +293,8 @@ def item_text(record):
 
 
 def message_text(kind, message):
+    if kind in BY_MEMBERS:
+        return BY_MEMBERS[kind].text(message)
     if kind == "keep":
         return message
     if kind == "set":
@@ -378,6 +384,8 @@ def read_item(buf, depth, budget):
 
 def word(kind, held):
     """A value as a table has it."""
+    if kind in BY_MEMBERS:
+        return BY_MEMBERS[kind].word(held)
     if kind in STRINGS and (not held or held.isalnum() and held.isascii()):
         return f'"{held.decode()}"'
     if kind in STRINGS | BYTES | {"keep"}:

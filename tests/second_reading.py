@@ -13,6 +13,7 @@ import sys
 
 sys.dont_write_bytecode = True
 import extension_reading
+from member_reading import BY_MEMBERS
 from rules import (
     EIGHT, FOUR, KINDS, MESSAGES, MOST_BYTES, MOST_LEVELS, MOST_SLOTS, MOST_UNITS, Budget, Bytes, Fault, blank, delimited,
     field_text, keep, merge, merge_entry, merge_field, message_text, mismatch, of_word, payload, put, read_item,
@@ -30,6 +31,8 @@ LIMITS = {
 
 def slots_of(kind, message):
     """The slots of a message: of each child the length of its text, then its own slots."""
+    if kind in BY_MEMBERS:
+        return BY_MEMBERS[kind].slots(message)
     children = sorted(message[1].items()) if kind in ("tree", "node") else []
     return [it for _, child in children for it in [len(message_text(kind, child)), *slots_of(kind, child)]]
 

@@ -1,8 +1,8 @@
 #!/usr/bin/env python3
 """Writes the rows of this folder of what Google's protobuf answered: python3 vectors/google/rows.py.
 
-What it answered stands in vectors/maps.tsv, enums.tsv, messages.tsv, extensions.tsv, nodes.tsv and sets.tsv, made by the
-programs beside them.
+What it answered stands in vectors/maps.tsv, enums.tsv, messages.tsv, extensions.tsv, nodes.tsv, sets.tsv and members.tsv,
+made by the programs beside them.
 Run it after a change of these, and then tests/conformance.py gather.
 """
 from pathlib import Path
@@ -140,8 +140,26 @@ def sets():
     ]
 
 
+def members():
+    out = [
+        "# Messages from their fields as C++ classes of protobuf 3.21.12 read and write them, in deterministic order; `refused` is\n",
+        "# any fault but want of memory. What a map of more than one pair is written as is asked of what they wrote, in the order\n",
+        "# of keys. Left out are bytes of which they make something else (vectors/members.tsv has them, with why): a field or a\n",
+        "# part of an entry with another wire type, which they pass over or keep; a bool of 2^32 or more in an entry.\n",
+    ]
+    for kind, given, mark, *told in answered("members"):
+        given = given.strip("-")
+        if mark == "refused":
+            out.append(row("merge", kind, "depth=100", "", given, "refused", ""))
+        if mark in ("same", "many"):
+            out.append(row("merge", kind, "depth=100", "", given, "ok", told[0]))
+            out.append(row("message-size", kind, "", given, "", "ok", str(len(told[1].strip("-")) // 2)))
+            out.append(row("encode", kind, "", given if mark == "same" else told[1], "", "ok", f"-; text {told[1]}"))
+    return out
+
+
 def main():
-    for make in (maps, enums, messages, extensions, nodes, sets):
+    for make in (maps, enums, messages, extensions, nodes, sets, members):
         text = make()
         at = next(i for i, line in enumerate(text) if not line.startswith("#"))
         text.insert(at, COLUMNS)

@@ -1,0 +1,159 @@
+// The members of a message as words.
+
+use crate::Members;
+use buffa_map::map_codec::{Map, MapWalk};
+use buffa_wire::{MapKey, UnknownFields};
+use conformance_rows::fault::Fault;
+use conformance_rows::words::{Worded, records_word};
+use std::alloc::Global;
+use std::hash::Hash;
+
+// A member's number, and its word; what is kept has the number 0.
+type Part = (u32, String);
+
+/// The members of a message as words, in order.
+#[derive(Drop)]
+pub(crate) struct Parts {
+    alloc: Global,
+    all: Vec<Part>,
+}
+
+/// A message whose members are told as words.
+pub(crate) trait Parted {
+    /// Puts the word of each member behind the others.
+    fn parts(&self, parts: &mut Parts) -> Result<(), Fault>;
+}
+
+/// The words of a message's members.
+pub(crate) fn parts_of<M: Parted>(alloc: Global, message: &M) -> Result<Parts, Fault> {
+    let mut parts = Parts {
+        alloc,
+        all: Vec::new(alloc),
+    };
+    message.parts(&mut parts)?;
+    Ok(parts)
+}
+
+// Words, and one more behind a mark that stands between them.
+fn with_word(alloc: Global, words: &str, mark: &str, word: &str) -> Result<String, Fault> {
+    let mark = if words.is_empty() { "" } else { mark };
+    Ok(format!(in alloc; "{words}{mark}{word}")?)
+}
+
+// The word of a pair.
+fn pair_word<K: Worded<Members>, V: Worded<Members>>(
+    alloc: Global,
+    key: &K,
+    value: &V,
+) -> Result<String, Fault> {
+    let key = key.word(alloc)?;
+    let value = value.word(alloc)?;
+    Ok(format!(in alloc; "{key}={value}")?)
+}
+
+// The words of the pairs of a map, in the order of these.
+fn pair_words<K: MapKey + Hash + Worded<Members>, V: Worded<Members>>(
+    alloc: Global,
+    map: &Map<K, V>,
+) -> Result<Vec<String>, Fault> {
+    let mut pairs = Vec::new(alloc);
+    for (key, value) in map.storage_iter() {
+        pairs.push(pair_word::<K, V>(alloc, key, value)?)?;
+    }
+    pairs.sort()?;
+    Ok(pairs)
+}
+
+impl Parts {
+    // One more.
+    fn push(&mut self, number: u32, word: String) -> Result<(), Fault> {
+        self.all.push((number, word))?;
+        Ok(())
+    }
+
+    /// A value.
+    pub(crate) fn value<V: Worded<Members>>(
+        &mut self,
+        number: u32,
+        value: &V,
+    ) -> Result<(), Fault> {
+        let word = value.word(self.alloc)?;
+        self.push(number, word)
+    }
+
+    /// A value, or `none`.
+    pub(crate) fn maybe<V: Worded<Members>>(
+        &mut self,
+        number: u32,
+        value: &Option<V>,
+    ) -> Result<(), Fault> {
+        match value {
+            Some(value) => self.value::<V>(number, value),
+            None => {
+                let word = String::from_str(self.alloc, "none")?;
+                self.push(number, word)
+            }
+        }
+    }
+
+    /// Values between square brackets.
+    pub(crate) fn list<V: Worded<Members>>(
+        &mut self,
+        number: u32,
+        values: &[V],
+    ) -> Result<(), Fault> {
+        let alloc = self.alloc;
+        let mut words = String::new(alloc);
+        for value in values {
+            let word = value.word(alloc)?;
+            words = with_word(alloc, words.as_str(), ",", word.as_str())?;
+        }
+        self.push(number, format!(in alloc; "[{words}]")?)
+    }
+
+    /// The pairs of a map between braces, in the order of their words.
+    pub(crate) fn map<K: MapKey + Hash + Worded<Members>, V: Worded<Members>>(
+        &mut self,
+        number: u32,
+        map: &Map<K, V>,
+    ) -> Result<(), Fault> {
+        let alloc = self.alloc;
+        let pairs = pair_words::<K, V>(alloc, map)?;
+        let mut words = String::new(alloc);
+        for pair in pairs.iter() {
+            words = with_word(alloc, words.as_str(), ",", pair.as_str())?;
+        }
+        self.push(number, format!(in alloc; "{{{words}}}")?)
+    }
+
+    /// What is kept, in hexadecimal.
+    pub(crate) fn kept(&mut self, fields: &UnknownFields) -> Result<(), Fault> {
+        let word = records_word(self.alloc, fields)?;
+        self.push(0, word)
+    }
+
+    /// The word of the message: those of its members between parentheses.
+    pub(crate) fn word(&self) -> Result<String, Fault> {
+        let alloc = self.alloc;
+        let mut words = String::new(alloc);
+        for (at, part) in self.all.iter().enumerate() {
+            let mark = if at == 0 { "" } else { "|" };
+            words = format!(in alloc; "{words}{mark}{}", part.1.as_str())?;
+        }
+        Ok(format!(in alloc; "({words})")?)
+    }
+
+    /// Whether the members are the same, but for that of a number.
+    pub(crate) fn is_same_but(&self, other: &Parts, number: u32) -> bool {
+        let mut others = other.all.iter();
+        for part in self.all.iter() {
+            let Some(another) = others.next() else {
+                return false;
+            };
+            if part.0 != number && part.1.as_str() != another.1.as_str() {
+                return false;
+            }
+        }
+        true
+    }
+}

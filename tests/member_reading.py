@@ -1,0 +1,131 @@
+"""What messages that are made of a list of their members read, hold and write, beside the rules of `rules.py`.
+
+Written from the encoding guide and from GUIDE's table of kinds of members: a plain member is written unless it is the
+default, an optional one where it is there; elements of a list come one in a field, or packed; a message that stands is
+merged into, an element of a list and a value of a map is new. `second_reading.py` judges rows on them by it.
+"""
+from rules import (
+    BLANKS, BY_MEMBERS, DELIMITED, KINDS, MESSAGES, Bytes, Fault, blank, delimited, field_text, kept_field, merge, merge_entry,
+    message_text, mismatch, payload, skip, tag_text, value, word,
+)
+
+NUMBERS = (
+    "int32", "int64", "uint32", "uint64", "sint32", "sint64", "bool", "fixed32", "fixed64", "sfixed32", "sfixed64",
+)
+
+
+class ByMembers:
+    """A type of messages: its members by their numbers, each with how it stands and of which kind it is."""
+
+    def __init__(self, members, keeps=False):
+        self.members, self.keeps = members, keeps
+
+    def blank(self):
+        """The members' defaults, then what is kept."""
+        starts = {"optional": lambda _: None, "repeated": lambda _: (), "packed": lambda _: (), "map": lambda _: {}}
+        return (*(starts.get(how, blank)(kind) for _, how, kind in self.members), b"")
+
+    def merged(self, message, buf, number, wire, depth, budget):
+        """What one field makes of a message."""
+        *parts, kept = message
+        for at, (own, how, kind) in enumerate(self.members):
+            if own == number:
+                parts[at] = self.part(how, kind, parts[at], buf, number, wire, depth, budget)
+                return *parts, kept
+        if self.keeps:
+            return *parts, kept + kept_field(buf, number, wire, depth, budget)
+        skip(buf, number, wire, depth)
+        return message
+
+    def part(self, how, kind, old, buf, number, wire, depth, budget):
+        own = DELIMITED if how == "map" else KINDS[kind][0]
+        if how in ("repeated", "packed") and wire == DELIMITED != own:
+            found, inner = list(old), Bytes(buf.take(buf.varint()))
+            while inner.unread():
+                found.append(value(kind, inner, None)[0])
+            return tuple(found)
+        if wire != own:
+            raise mismatch(number, own, wire)
+        if how == "map":
+            pairs = dict(old)
+            merge_entry(kind, pairs, buf, depth, budget, number, None)
+            return pairs
+        if kind not in MESSAGES:
+            found = value(kind, buf, None)[0]
+            return (*old, found) if how in ("repeated", "packed") else found
+        if how == "repeated":
+            budget.take_units(KINDS[kind][1])
+        if depth == 0:
+            raise Fault("RecursionLimitExceeded")
+        start = old if how == "optional" and old is not None else blank(kind)
+        found = merge(kind, start, buf.take(buf.varint()), depth - 1, budget)
+        return (*old, found) if how == "repeated" else found
+
+    def texts(self, message):
+        """The text of each member's fields."""
+        for (number, how, kind), part in zip(self.members, message):
+            if how == "map":
+                yield field_text(kind, number, part.items())
+                continue
+            if how == "packed":
+                yield tag_text(number, DELIMITED) + delimited(b"".join(payload(kind, it) for it in part)) if part else b""
+                continue
+            there = {"optional": [part] * (part is not None), "repeated": part}.get(how, [part] * (part != blank(kind)))
+            for one in there:
+                inner = delimited(message_text(kind, one)) if kind in MESSAGES else payload(kind, one)
+                yield tag_text(number, KINDS[kind][0]) + inner
+
+    def text(self, message):
+        return b"".join(self.texts(message)) + message[-1]
+
+    def slots(self, message):
+        """The slots of the messages in a message: of each the length of its text, then its own slots."""
+        found = []
+        for (_, how, kind), part in zip(self.members, message):
+            inner = kind[1] if how == "map" else kind
+            if inner in MESSAGES:
+                held = {"map": lambda it: it.values(), "repeated": list, "optional": lambda it: [it] * (it is not None)}[how](part)
+                found += [it for one in held for it in [len(message_text(inner, one)), *BY_MEMBERS[inner].slots(one)]]
+        return found
+
+    def word(self, message):
+        words = []
+        for (_, how, kind), part in zip(self.members, message):
+            if how == "map":
+                words.append("{" + ",".join(sorted(f"{word(kind[0], key)}={word(kind[1], it)}" for key, it in part.items())) + "}")
+            elif how in ("repeated", "packed"):
+                words.append("[" + ",".join(word(kind, it) for it in part) + "]")
+            else:
+                words.append("none" if part is None else word(kind, part))
+        return "(" + "|".join(words + [message[-1].hex()] * self.keeps) + ")"
+
+
+def declare(kind, cost, members, keeps=False):
+    """Declares a type, and what one of its messages costs in units where it is an element."""
+    BY_MEMBERS[kind] = ByMembers(members, keeps)
+    KINDS[kind] = (DELIMITED, cost)
+    MESSAGES.add(kind)
+    BLANKS[kind] = BY_MEMBERS[kind].blank()
+
+
+def numbers(how, places):
+    return [(number, how, kind) for number, kind in zip(places, NUMBERS)]
+
+
+declare("inventory", 96, [(1, "plain", "int32"), (2, "plain", "string"), (3, "optional", "bool"), (5, "map", ("string", "int32"))], True)
+declare("parcel", 112, [(1, "plain", "int64"), (2, "optional", "inventory")])
+declare("depot", 56, [(1, "plain", "string"), (2, "repeated", "parcel")])
+declare("store", 72, [(1, "plain", "string"), (2, "map", ("string", "inventory"))])
+declare("order", 256, [
+    (1, "plain", "int64"), (2, "plain", "string"), (3, "optional", "bool"), (4, "plain", "open"),
+    (5, "map", ("string", "int32")), (6, "plain", "bytes"), (7, "packed", "sint32"), (8, "optional", "string"),
+    (9, "optional", "fixed64"), (10, "map", ("int32", "string")), (11, "repeated", "string"), (12, "optional", "int32"),
+])
+declare("implicit", 80, numbers("plain", range(1, 12)))
+declare("explicit", 160, numbers("optional", [1, 2, 3, 4, 5, 6, 7, 8, 15, 16, 2**29 - 1]), True)
+declare("separate", 264, numbers("repeated", range(1, 12)))
+declare("joined", 288, numbers("packed", [1, 2, 3, 4, 5, 6, 7, 15, 16, 2047, 2048]), True)
+declare("assorted", 216, [
+    (1, "optional", "bytes"), (2, "optional", "open"), (3, "repeated", "bytes"), (4, "repeated", "open"),
+    (5, "packed", "open"), (6, "map", ("bool", "bytes")), (7, "map", ("int64", "open")), (8, "plain", "bytes"),
+], True)

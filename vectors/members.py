@@ -1,0 +1,192 @@
+"""Writes vectors/members.tsv by Google's protobuf; rows.py in vectors/google makes rows of it.
+
+It needs protoc, g++ and libprotobuf-dev (3.21.12 was used): python3 vectors/members.py, at the top. A seed may be given
+as an argument. Asked are messages of each type of members.proto, which are drawn by its kinds of fields: values of each
+kind, then fields at random, beginnings of them, and bytes that no reader takes; and the bytes of the rows of
+vectors/cases/members.tsv, but for those on limits. A row of these on which Google's answer is another is named below.
+"""
+import re
+import subprocess
+import tempfile
+from fnmatch import fnmatchcase
+from pathlib import Path
+
+from enums import varint
+from nodes import DRAW, at_random
+
+HERE = Path(__file__).resolve().parent
+TEXT = (HERE / "members.proto").read_text(encoding="ascii")
+MEMBER = re.compile(r"(?:(optional|repeated) )?(?:map<(\w+), (\w+)>|(\w+)) \w+ = (\d+)(?: \[packed = false\])?;")
+# The types, of each its members: how often one stands, the kind of a key, the kind of a value, the number.
+TYPES = {
+    name: [(often, key, value or kind, int(number)) for often, key, value, kind, number in MEMBER.findall(body)]
+    for name, body in re.findall(r"message (\w+) {(.*?)}", TEXT, re.DOTALL)
+}
+VARINT, EIGHT, DELIMITED, FOUR = 0, 1, 2, 5
+WIRES = {"fixed64": EIGHT, "sfixed64": EIGHT, "fixed32": FOUR, "sfixed32": FOUR, "string": DELIMITED, "bytes": DELIMITED}
+# The numbers that are spelled for a value; of varints some that have more bits than a number of 32.
+NUMBERS = {
+    VARINT: [0, 1, 2**64 - 1, 2**31 - 1, 2**31, 2**32 - 1, 2**32 + 5, 2**63 - 1, 2**63],
+    FOUR: [0, 1, 2**31 - 1, 2**31, 2**32 - 1],
+    EIGHT: [0, 1, 2**63 - 1, 2**63, 2**64 - 1],
+}
+TEXTS = ["", "a", "b", "ab", "Z", "\u00e9", "a b", "x" * 130]
+
+# Why an answer of theirs is another one, and the rows of vectors/cases/members.tsv on which it is.
+OWN = {
+    "wire": """a field of another wire type*
+        a key of another wire type""",
+    "bool": "a bool of 2^63 in an entry",
+}
+WHY = {name.strip(): why for why, names in OWN.items() for name in names.split("\n")}
+
+
+def wire(kind):
+    return DELIMITED if kind in TYPES else WIRES.get(kind, VARINT)
+
+
+def delimited(text):
+    return varint(len(text)) + text
+
+
+def payload(kind, at, levels):
+    """The payload of a value: one of the numbers or texts, or a message of fewer levels."""
+    if kind in TYPES:
+        return delimited(message(kind, levels - 1))
+    if wire(kind) == VARINT:
+        number = NUMBERS[VARINT][at % 9]
+        return varint(number, 1 if DRAW.randrange(9) == 0 and number < 2**32 else 0)
+    if wire(kind) == DELIMITED:
+        text = TEXTS[at % 8].encode()
+        return delimited(text if kind == "string" else text[::-1])
+    return NUMBERS[wire(kind)][at % 5].to_bytes(4 if wire(kind) == FOUR else 8, "little")
+
+
+def field(number, wire_type, text):
+    return varint(number * 8 + wire_type) + text
+
+
+def entry(key, value, at, levels):
+    """An entry: key and value, the value first, one of them or none, twice, or with another field."""
+    # a bool of 2^32 and more is another one to them
+    first = field(1, wire(key), payload(key, at % 2 if key == "bool" else at, levels))
+    second = field(2, wire(value), payload(value, at + 1, levels))
+    shapes = [second + first, first, second, b"", first + second + first, first + b"\x1d1234" + second]
+    return delimited((shapes + [first + second] * 6)[at % 12])
+
+
+def member(often, key, kind, number, at, levels):
+    """A field of a member; of a list one element, or packed ones where the kind can be packed."""
+    if key:
+        return field(number, DELIMITED, entry(key, kind, at, levels))
+    if often == "repeated" and wire(kind) != DELIMITED and at % 2:
+        return field(number, DELIMITED, delimited(b"".join(payload(kind, at + it, levels) for it in range(at % 4))))
+    return field(number, wire(kind), payload(kind, at, levels))
+
+
+def other(members):
+    """A field of no member."""
+    number = DRAW.choice([it for it in (13, 14, 17, 999, 2**29 - 2) if it not in members])
+    shapes = [
+        field(number, VARINT, varint(DRAW.choice([0, 7, 2**64 - 1]))), field(number, FOUR, b"1234"),
+        field(number, EIGHT, b"12345678"), field(number, DELIMITED, DRAW.choice([b"\0", b"\3xyz"])),
+    ]
+    group = varint(number * 8 + 3) + DRAW.choice(shapes) + DRAW.choice([b"", b"\x13\x08\x05\x14"]) + varint(number * 8 + 4)
+    return DRAW.choice([*shapes, group])
+
+
+def one_field(kind, levels):
+    members = TYPES[kind]
+    if DRAW.randrange(6) == 0:
+        return other({it[3] for it in members})
+    often, key, inner, number = DRAW.choice([it for it in members if levels or it[2] not in TYPES])
+    return member(often, key, inner, number, DRAW.randrange(72), levels)
+
+
+def message(kind, levels):
+    return b"".join(one_field(kind, levels) for _ in range(DRAW.randrange(4)))
+
+
+def all_members(kind):
+    """Messages with a field of each member: of each number and text in turn, then three times, in any order."""
+    for at in range(9):
+        yield b"".join(member(*it, at, 1) for it in TYPES[kind])
+    for most in (6, 9):
+        fields = [member(*it, at, 1) for it in TYPES[kind] for at in range(most - 3, most)]
+        DRAW.shuffle(fields)
+        yield b"".join(fields)
+
+
+def inputs(kind):
+    members = [b"", *all_members(kind), *at_random(9, lambda: one_field(kind, 2))]
+    return [(kind.lower(), it.hex()) for it in members]
+
+
+def by_hand():
+    """What the rows of vectors/cases/members.tsv read, with their answers, and why Google's is another."""
+    found = {}
+    for line in (HERE / "cases" / "members.tsv").read_text(encoding="ascii").splitlines():
+        fields = line.split("\t")
+        if line.startswith("#") or fields[1] not in ("merge", "encode") or "Limit" in fields[6]:
+            continue
+        name, call, kind, _, before, given, answer, after = fields
+        why = next((why for form, why in WHY.items() if fnmatchcase(name, form)), "")
+        after = "refused" if answer != "ok" else after.split("; ")[call == "encode"].removeprefix("text ")
+        found.setdefault((kind, (before + given).replace("-", "")), []).append((name, call, why, after))
+    return found
+
+
+def ask(asked):
+    """What the C++ classes make of messages, as their words."""
+    lines = "".join(f"{kind.capitalize()} {given}\n" for kind, given in asked)
+    told = subprocess.run([f"{AT}/members"], input=lines, capture_output=True, text=True, check=True)
+    return dict(zip(asked, (it.split("\t") for it in told.stdout.splitlines())))
+
+
+def mark_of(told, rows):
+    """`same`, or `many` where a map has more than one pair; or why the rows by hand have another answer."""
+    for name, call, why, after in rows:
+        theirs = told[1] if call == "encode" and told != ["refused"] else told[0]
+        assert why or theirs == after or call == "encode" and told[2] == "many", f"{name}: {theirs}"
+        assert not why or theirs != after, f"{name}: Google agrees"
+        if why:
+            return f"own {why}"
+    return "refused" if told == ["refused"] else "same" if told[2] == "one" else "many"
+
+
+HEAD = """\
+# Messages of members.proto as C++ classes of protobuf 3.21.12 read and write them, in deterministic order; those that keep
+# no other field are written without these.
+# type, bytes in hex (- for none), a mark, what the message then holds, what it is written as. Marks: same; many, a map in it
+# has more than one pair, and they are in the order of their keys; refused; own and why:
+# wire    a field, or a part of an entry, with another wire type is passed over, or kept
+# bool    a bool in an entry is read of its low 32 bits
+"""
+
+
+def build():
+    """Builds the program."""
+    subprocess.run(["protoc", f"-I{HERE}", f"--cpp_out={AT}", str(HERE / "members.proto")], check=True)
+    sources = [str(HERE / "members.cc"), f"{AT}/members.pb.cc"]
+    subprocess.run(["g++", f"-I{AT}", "-o", f"{AT}/members", *sources, "-lprotobuf", "-lpthread"], check=True)
+
+
+def main():
+    build()
+    rows = by_hand()
+    asked = [*rows, *(it for kind in TYPES for it in inputs(kind))]
+    told = ask(list(dict.fromkeys(asked)))
+    # what they wrote is read to the same, and written alike
+    wrote = {it: (it[0], words[1].strip("-")) for it, words in told.items() if words != ["refused"]}
+    back = ask(list(dict.fromkeys(wrote.values())))
+    lines = []
+    for (kind, given), words in told.items():
+        mark = mark_of(words, rows.get((kind, given), []))
+        assert words == ["refused"] or back[wrote[(kind, given)]][:2] == words[:2], given
+        lines.append("\t".join([kind, given or "-", mark, *([] if mark == "refused" else words[:2])]) + "\n")
+    (HERE / "members.tsv").write_text(HEAD + "".join(lines), encoding="ascii")
+
+
+if __name__ == "__main__":
+    with tempfile.TemporaryDirectory() as AT:
+        main()
