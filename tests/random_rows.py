@@ -1,9 +1,9 @@
 #!/usr/bin/env python3
-"""Runs the program `conformance` on random rows, with ample memory and with memory refused: tests/random_rows.py [SEED [ROWS]].
+"""Runs the programs of `conformance.py` on random rows, with ample memory and with memory refused: tests/random_rows.py [SEED [ROWS]].
 
 Fields, entries, runs, Items, messages and records are made at random, well formed or with a byte changed, cut or put in;
-`rules.py` says what must come of each. The program runs each in all storages, cut at every place, and beginning by
-beginning. Needs gcc, and the program as `rt ci` or `rt run` left it.
+`rules.py` says what must come of each. The program that knows a row runs it in all storages, cut at every place, and
+beginning by beginning. Needs gcc, and the programs as `rt ci` or `rt run` left them.
 """
 import os
 import random
@@ -12,6 +12,7 @@ import sys
 import tempfile
 
 sys.dont_write_bytecode = True
+from conformance import PROGRAMS, all_hold, program_of
 from rules import (
     BYTES, DELIMITED, EIGHT, END, FOUR, KINDS, MESSAGES, NODE_MAPS, START, STRINGS, VARINT, Fault, delimited, of_word, plain,
     put, read_list, records, tag_text, varint_text, word,
@@ -309,15 +310,19 @@ def made(seed, count):
 
 def main():
     seed, count = (int(it) for it in (sys.argv[1:] + ["1", "20000"][len(sys.argv) - 1 :])[:2])
-    text = made(seed, count).encode()
-    program, failed = f"{TOP}/crates/conformance/out/conformance", False
+    rows, failed = {name: b"" for name in PROGRAMS}, False
+    for row in made(seed, count).encode().splitlines():
+        rows[program_of(row)] += row + b"\n"
     with tempfile.TemporaryDirectory(prefix="random-rows-") as room:
         library = f"{room}/refuse.so"
         subprocess.run(["gcc", "-O2", "-shared", "-fPIC", "-o", library, f"{TOP}/tests/refuse.c"], check=True)
         for words, env in (([], None), (["refused"], {"LD_PRELOAD": library, "REFUSE_CALLS": "1"})):
-            done = subprocess.run([program, *words], input=text, env=env, capture_output=True, timeout=600, check=False)
-            print(f"random rows, seed {seed}{', memory refused' if words else ''}: {done.stdout.decode()[-3000:].strip()}")
-            failed |= done.returncode != 0 or not done.stdout.endswith(b"%d held, 0 did not\n" % count)
+            for name, text in rows.items():
+                command = [f"{TOP}/crates/{name}/out/{name}", *words]
+                done = subprocess.run(command, input=text, env=env, capture_output=True, timeout=600, check=False)
+                what = f"{name}, random rows, seed {seed}{', memory refused' if words else ''}"
+                print(f"{what}: {done.stdout.decode()[-3000:].strip()}")
+                failed |= done.returncode != 0 or not done.stdout.endswith(all_hold(text))
     return 1 if failed else 0
 
 

@@ -1,14 +1,13 @@
 // Entries of messages that are merged by a function.
 
 use crate::entries::unread;
-use crate::storages::OnMap;
-use crate::store::Store;
 use buffa_map::map_codec::{MapCodec, MapStorage, MapValueDecode, Msg, merge_message_entry_by};
 use buffa_wire::{Budget, Buf, DecodeContext, DecodeError, Message};
 use conformance_rows::case::Case;
 use conformance_rows::fault::Fault;
 use conformance_rows::mark::Mark;
 use conformance_rows::outcome::{Outcome, left, told};
+use conformance_stores::{OnMap, Store};
 use std::alloc::Global;
 
 // Merges an entry by the message's own way to merge bytes.

@@ -1,7 +1,5 @@
 // Calls that read entries and runs of map fields.
 
-use crate::storages::{OnMap, stored};
-use crate::store::Store;
 use buffa_map::map_codec::{
     Bool, BytesBuf, BytesVec, Int32, MapCodec, MapStorage, MapValueDecode, ProtoBytesMap,
     ProtoStringMap, RewriteError, Str, Uint32, merge_entry, merge_entry_with_unknowns,
@@ -14,6 +12,7 @@ use conformance_rows::fault::Fault;
 use conformance_rows::mark::Mark;
 use conformance_rows::outcome::{Outcome, left, text_told, told};
 use conformance_rows::words::{records_of, records_word};
+use conformance_stores::{OnMap, Store, stored};
 use std::alloc::Global;
 
 // The list that is lent, if one is.

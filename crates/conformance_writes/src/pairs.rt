@@ -6,12 +6,12 @@ use buffa_map::map_codec::{
     Sfixed64, Sint32, Sint64, Str, Uint32, Uint64, read_map_field,
 };
 use buffa_wire::{Budget, DecodeContext, DecodeError, MapKey};
-use conformance_maps::Store;
 use conformance_rows::case::Case;
 use conformance_rows::fault::Fault;
 use conformance_rows::mark::Mark;
 use conformance_rows::outcome::{Outcome, told};
 use conformance_rows::words::Worded;
+use conformance_stores::Store;
 use std::alloc::Global;
 use std::hash::Hash;
 

@@ -6,24 +6,18 @@ use buffa_map::map_codec::{
     Bool, BytesBuf, BytesVec, Fixed32, Fixed64, Int32, MapCodec, MapStorage, ProtoBytesMap,
     ProtoStringMap, Sint32, Str,
 };
-use buffa_wire::EncodeError;
-use conformance_maps::{OnMap, Store, stored};
+use buffa_wire::{EncodeError, varint_len};
 use conformance_rows::calls::Kind;
 use conformance_rows::case::Case;
 use conformance_rows::fault::Fault;
 use conformance_rows::mark::Mark;
 use conformance_rows::outcome::{Outcome, got, text_told, written};
+use conformance_stores::{OnMap, Store, stored};
 use std::alloc::Global;
 
 /// The bytes of the tag of a map field.
-pub fn tag_len_of(number: u32) -> u64 {
-    if number < 16 {
-        1
-    } else if number < 2048 {
-        2
-    } else {
-        5
-    }
+pub(crate) fn tag_len_of(number: u32) -> u64 {
+    varint_len(u64::from(number) * 8 + 2) as u64
 }
 
 // Writes a map, with its length before it where the row asks for both.

@@ -1,0 +1,36 @@
+// Calls on extensions: those whose values are samples too.
+
+use crate::back::{set_flat, set_group, set_two};
+use buffa_ext::codecs::EnumCodec;
+use buffa_ext::record::{Delimited, Grouped};
+use buffa_samples::count::CountMsg;
+use buffa_samples::flat::FlatMsg;
+use buffa_samples::hues::Old;
+use buffa_samples::keep::BudgetMsg;
+use buffa_samples::two::TestMsg;
+use buffa_wire::EnumValue;
+use conformance_extensions::{message as of_message, packable};
+use conformance_rows::case::Case;
+use conformance_rows::fault::Fault;
+use conformance_rows::mark::Mark;
+use conformance_rows::outcome::Outcome;
+use conformance_words::Samples;
+use std::alloc::Global;
+
+/// What comes of a row on an extension.
+pub fn extension(alloc: Global, case: &Case<'_>, mark: &mut Mark) -> Result<Outcome, Fault> {
+    match case.types {
+        "enum" => packable::<Samples, EnumValue<Old>, EnumCodec<Old>>(alloc, case, mark),
+        "flat" if case.call == "set-then-read" => set_flat(alloc, case, mark),
+        "two" if case.call == "set-then-read" => set_two(alloc, case, mark),
+        "two-group" if case.call == "set-then-read" => set_group(alloc, case, mark),
+        "flat" => of_message::<Samples, FlatMsg, Delimited>(alloc, case, mark),
+        "two" => of_message::<Samples, TestMsg, Delimited>(alloc, case, mark),
+        "count" => of_message::<Samples, CountMsg, Delimited>(alloc, case, mark),
+        "keep" => of_message::<Samples, BudgetMsg, Delimited>(alloc, case, mark),
+        "two-group" => of_message::<Samples, TestMsg, Grouped>(alloc, case, mark),
+        "count-group" => of_message::<Samples, CountMsg, Grouped>(alloc, case, mark),
+        "keep-group" => of_message::<Samples, BudgetMsg, Grouped>(alloc, case, mark),
+        _ => conformance_extensions::extension::<Samples>(alloc, case, mark),
+    }
+}

@@ -1,0 +1,53 @@
+// Entries of messages that are merged by a function.
+
+use buffa_map::map_codec::{Int32, MapCodec, Msg, Str};
+use buffa_samples::count::CountMsg;
+use buffa_samples::flat::FlatMsg;
+use buffa_samples::keep::BudgetMsg;
+use buffa_samples::tree::Tree;
+use buffa_samples::two::TestMsg;
+use buffa_wire::{Buf, MapKey, Message};
+use conformance_maps::ByFunction;
+use conformance_rows::calls::Kind;
+use conformance_rows::case::Case;
+use conformance_rows::fault::Fault;
+use conformance_rows::mark::Mark;
+use conformance_rows::outcome::Outcome;
+use conformance_rows::words::Worded;
+use conformance_stores::stored;
+use conformance_words::Samples;
+use std::alloc::Global;
+use std::hash::Hash;
+
+// An entry of messages with this kind of key, merged by a function.
+fn by_function<M: Message + Worded<Samples>, KC: MapCodec, B: Buf>(
+    alloc: Global,
+    case: &Case<'_>,
+    kind: Kind,
+    mark: &mut Mark,
+    buf: &mut B,
+) -> Result<Option<Outcome>, Fault>
+where
+    KC::Value: MapKey + Ord + Hash + Worded<Samples>,
+{
+    stored::<Samples, KC, Msg<M>, _>(alloc, case, kind, mark, ByFunction { buf })
+}
+
+/// What comes of a row that merges an entry of messages by a function.
+pub fn entries_by_function<B: Buf>(
+    alloc: Global,
+    case: &Case<'_>,
+    kind: Kind,
+    mark: &mut Mark,
+    buf: &mut B,
+) -> Result<Option<Outcome>, Fault> {
+    match case.types {
+        "int32,flat" => by_function::<FlatMsg, Int32, B>(alloc, case, kind, mark, buf),
+        "int32,two" => by_function::<TestMsg, Int32, B>(alloc, case, kind, mark, buf),
+        "int32,count" => by_function::<CountMsg, Int32, B>(alloc, case, kind, mark, buf),
+        "int32,keep" => by_function::<BudgetMsg, Int32, B>(alloc, case, kind, mark, buf),
+        "int32,tree" => by_function::<Tree, Int32, B>(alloc, case, kind, mark, buf),
+        "string,keep" => by_function::<BudgetMsg, Str, B>(alloc, case, kind, mark, buf),
+        _ => Err(Fault::Form),
+    }
+}

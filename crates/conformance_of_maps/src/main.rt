@@ -1,0 +1,65 @@
+// Runs the rows of tables on map fields, and on payloads of values that are no messages.
+#![tactic(auto)]
+
+mod by_function;
+mod entries;
+mod payloads;
+mod written;
+
+use conformance_rows::any_buf::AnyBuf;
+use conformance_rows::calls::{Group, Kind, group_of};
+use conformance_rows::case::Case;
+use conformance_rows::fault::Fault;
+use conformance_rows::mark::Mark;
+use conformance_rows::outcome::Outcome;
+use conformance_runs::{Calls, run_rows};
+use conformance_words::Samples;
+use conformance_writes::kinds;
+use entries::fields;
+use payloads::{spells, values};
+use std::alloc::Global;
+use std::process::ExitCode;
+use written::writes;
+
+// The calls on map fields and payloads.
+struct MapFields;
+
+// A row that is run in one storage alone.
+fn some(found: Result<Outcome, Fault>) -> Result<Option<Outcome>, Fault> {
+    Ok(Some(found?))
+}
+
+impl Calls for MapFields {
+    fn read(
+        alloc: Global,
+        case: &Case<'_>,
+        kind: Kind,
+        mark: &mut Mark,
+        buf: &mut AnyBuf<'_>,
+    ) -> Result<Option<Outcome>, Fault> {
+        match group_of(case.call) {
+            Group::Fields => fields(alloc, case, kind, mark, buf),
+            Group::Values => some(values(alloc, case, mark, buf)),
+            _ => Ok(None),
+        }
+    }
+
+    fn called(
+        alloc: Global,
+        case: &Case<'_>,
+        kind: Kind,
+        mark: &mut Mark,
+        bytes: &[u8],
+    ) -> Result<Option<Outcome>, Fault> {
+        match group_of(case.call) {
+            Group::Kinds => some(kinds::<Samples>(alloc, case, mark, bytes)),
+            Group::Writes => writes(alloc, case, kind, mark),
+            Group::Spelled => some(spells(alloc, case, mark)),
+            _ => Ok(None),
+        }
+    }
+}
+
+fn main(rt: HostRuntime) -> ExitCode {
+    run_rows::<MapFields>(&rt)
+}

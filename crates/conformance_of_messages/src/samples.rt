@@ -1,0 +1,71 @@
+// Calls on samples that are messages.
+
+use buffa_map::map_codec::Msg;
+use buffa_samples::count::CountMsg;
+use buffa_samples::flat::FlatMsg;
+use buffa_samples::keep::BudgetMsg;
+use buffa_samples::tree::Tree;
+use buffa_samples::two::TestMsg;
+use buffa_wire::{Buf, Message};
+use conformance_messages::delimited;
+use conformance_payloads::payload;
+use conformance_rows::calls::Kind;
+use conformance_rows::case::Case;
+use conformance_rows::fault::Fault;
+use conformance_rows::mark::Mark;
+use conformance_rows::outcome::Outcome;
+use conformance_rows::words::Worded;
+use conformance_words::Samples;
+use std::alloc::Global;
+
+// A length and so many bytes: merged into a message, or read as the payload of a value that is one.
+fn inside<M: Message + Worded<Samples>, B: Buf>(
+    alloc: Global,
+    case: &Case<'_>,
+    mark: &mut Mark,
+    buf: &mut B,
+) -> Result<Outcome, Fault> {
+    if case.call == "merge-delimited" {
+        return delimited::<Samples, M, B>(alloc, case, mark, buf);
+    }
+    payload::<Samples, Msg<M>, B>(alloc, case, mark, buf, true)
+}
+
+/// What comes of a row that reads a payload from a buffer.
+pub fn values<B: Buf>(
+    alloc: Global,
+    case: &Case<'_>,
+    mark: &mut Mark,
+    buf: &mut B,
+) -> Result<Outcome, Fault> {
+    match case.types {
+        "flat" => inside::<FlatMsg, B>(alloc, case, mark, buf),
+        "two" => inside::<TestMsg, B>(alloc, case, mark, buf),
+        "count" => inside::<CountMsg, B>(alloc, case, mark, buf),
+        "keep" => inside::<BudgetMsg, B>(alloc, case, mark, buf),
+        "tree" => inside::<Tree, B>(alloc, case, mark, buf),
+        _ => Err(Fault::Form),
+    }
+}
+
+/// What comes of a row on a message, or on a map of them.
+pub fn message(
+    alloc: Global,
+    case: &Case<'_>,
+    kind: Kind,
+    mark: &mut Mark,
+    bytes: &[u8],
+) -> Result<Outcome, Fault> {
+    match case.types {
+        "flat" => conformance_messages::message::<Samples, FlatMsg>(alloc, case, kind, mark, bytes),
+        "two" => conformance_messages::message::<Samples, TestMsg>(alloc, case, kind, mark, bytes),
+        "count" => conformance_messages::message::<Samples, CountMsg>(
+            alloc, case, kind, mark, bytes,
+        ),
+        "keep" => conformance_messages::message::<Samples, BudgetMsg>(
+            alloc, case, kind, mark, bytes,
+        ),
+        "tree" => conformance_messages::message::<Samples, Tree>(alloc, case, kind, mark, bytes),
+        _ => Err(Fault::Form),
+    }
+}

@@ -1,0 +1,137 @@
+//! Runs the rows of tables on standard input, and tells which of them don't hold.
+//!
+//! Without a word each row is run whole, cut in every way, and where it is accepted each beginning of it. With the word
+//! `refused` each row is run with its requests for memory refused, one after the other, by `tests/refuse.c`. A row that
+//! says `ways=once` is run whole alone. What does the call of a row is a program's own: a type that is [`Calls`].
+#![tactic(auto)]
+
+mod calls;
+mod ways;
+
+pub use calls::Calls;
+use conformance_rows::calls::{Kind, is_run_in, takes_words};
+use conformance_rows::case::{Case, case_of};
+use conformance_rows::fault::Fault;
+use conformance_rows::repeated::expanded;
+use conformance_rows::tally::Tally;
+use std::alloc::Global;
+use std::env;
+use std::io::{self, BufRead, BufReader, Stderr};
+use std::process::ExitCode;
+use ways::Run;
+
+// The bytes that a row reads; none where it is given a value.
+fn bytes_of(alloc: Global, case: &Case<'_>) -> Result<Vec<u8>, Fault> {
+    if takes_words(case.call) {
+        return Ok(Vec::new(alloc));
+    }
+    Ok(hex::decode(alloc, case.input())?)
+}
+
+// Runs a row in one storage.
+fn run_in<C: Calls>(
+    alloc: Global,
+    case: &Case<'_>,
+    kind: Kind,
+    errors: Stderr,
+    refusing: bool,
+    tally: &mut Tally,
+) -> Result<(), Fault> {
+    let bytes = bytes_of(alloc, case)?;
+    let run = Run { case, kind, errors };
+    if case.says("ways", "once") {
+        return run.whole::<C>(alloc, bytes.as_slice(), tally);
+    }
+    if refusing {
+        return run.refused::<C>(alloc, bytes.as_slice(), tally);
+    }
+    run.whole_and_cut::<C>(alloc, bytes.as_slice(), tally)?;
+    if case.answer == "ok" {
+        run.beginnings::<C>(alloc, bytes.as_slice(), tally)?;
+    }
+    Ok(())
+}
+
+// Runs a row in each storage.
+fn run_row<C: Calls>(
+    alloc: Global,
+    case: &Case<'_>,
+    errors: Stderr,
+    refusing: bool,
+) -> Result<Tally, Fault> {
+    let mut tally = Tally::new();
+    for kind in [Kind::Ordered, Kind::Hashed, Kind::Indexed] {
+        if is_run_in(case, kind) {
+            run_in::<C>(alloc, case, kind, errors, refusing, &mut tally)?;
+        }
+    }
+    Ok(tally)
+}
+
+// Runs the row of a line; a line that is no row doesn't hold.
+fn run_line<C: Calls>(alloc: Global, line: &str, errors: Stderr, refusing: bool) -> Tally {
+    let mut wrong = Tally::new();
+    wrong.add(false);
+    let Ok(line) = expanded(alloc, line) else {
+        return wrong;
+    };
+    match case_of(line.as_str()) {
+        None => wrong,
+        Some(case) => match run_row::<C>(alloc, &case, errors, refusing) {
+            Ok(tally) => tally,
+            Err(_) => wrong,
+        },
+    }
+}
+
+// Whether the words of the call ask for refusals.
+fn is_refusing(rt: &HostRuntime) -> bool {
+    match env::args(rt) {
+        Err(_) => false,
+        Ok(mut words) => match words.nth(1) {
+            None => false,
+            Some(word) => word.as_str() == "refused",
+        },
+    }
+}
+
+// Runs the rows of standard input.
+fn run_all<C: Calls>(rt: &HostRuntime) -> io::Result<bool> {
+    let alloc = rt.alloc();
+    let refusing = is_refusing(rt);
+    let mut all = Tally::new();
+    let mut held = 0u64;
+    let mut failed = 0u64;
+    for line in BufReader::new(alloc, rt.reader())?.lines(alloc) {
+        let line = line?;
+        let row = line.as_str();
+        if row.is_empty() || row.starts_with('#') {
+            continue;
+        }
+        let tally = run_line::<C>(alloc, row, rt.stderr(), refusing);
+        if tally.wrong == 0 && tally.runs > 0 {
+            held = held.saturating_add(1);
+        } else {
+            failed = failed.saturating_add(1);
+            println!(rt; "{} of {} runs are wrong: {row}", tally.wrong, tally.runs)?;
+        }
+        all = all.and(tally);
+    }
+    if refusing {
+        println!(rt;
+            "{} runs, {} requests for memory refused",
+            all.runs, all.refused
+        )?;
+    }
+    println!(rt; "{held} held, {failed} did not")?;
+    Ok(failed == 0)
+}
+
+/// Runs the rows of standard input, and tells which of them don't hold.
+pub fn run_rows<C: Calls>(rt: &HostRuntime) -> ExitCode {
+    match run_all::<C>(rt) {
+        Ok(true) => ExitCode::from(0),
+        Ok(false) => ExitCode::from(1),
+        Err(_) => ExitCode::from(3),
+    }
+}
