@@ -25,15 +25,18 @@ import extension_reading
 TOP = os.path.dirname(os.path.dirname(os.path.abspath(__file__)))
 MANY = f"{TOP}/vectors/cases/many.tsv"
 SECONDS = 600
-# the calls that each program knows; those on nodes and MessageSets, and payloads of messages, are the last one's
+# the calls that each program knows; those on nodes and MessageSets, and payloads of messages, are one's of messages, those on
+# messages from their fields the last one's
 PROGRAMS = {
     "conformance": "item unknown skip varint decode copy tag records twice retain write-item item-len spell zigzag from-wire "
     "blank normal number push append reserve write-records equal cache context limits " + extension_reading.CALLS,
     "conformance_of_maps": "entry unlisted run rewrite field write size size-and-write put spell-payload payload",
     "conformance_of_messages": "merge merge-field merge-delimited encode message-size message-clear size-messages "
     "write-messages",
+    "conformance_of_members": "",
 }
 MESSAGES = "flat two count keep tree".split()
+MEMBERS = "assorted depot explicit implicit inventory joined order parcel separate store".split()
 
 
 def program_of(row):
@@ -41,6 +44,8 @@ def program_of(row):
     _, call, types = row.decode().split("\t")[:3]
     if types in ("node", "set") or types.startswith("set,") or (call == "payload" and types in MESSAGES):
         return "conformance_of_messages"
+    if types in MEMBERS:
+        return "conformance_of_members"
     for name, calls in PROGRAMS.items():
         if call in calls.split():
             return name

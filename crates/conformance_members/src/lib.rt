@@ -16,36 +16,19 @@ use buffa_inventory::parcel::Parcel;
 use buffa_inventory::separate::Separate;
 use buffa_inventory::store::Store;
 use buffa_wire::Message;
+use conformance_messages::message;
 use conformance_rows::calls::Kind;
 use conformance_rows::case::Case;
 use conformance_rows::fault::Fault;
 use conformance_rows::mark::Mark;
 use conformance_rows::outcome::Outcome;
 use conformance_rows::words::Worded;
-use conformance_writes::message;
 use merges::merge;
 use parts::Parted;
 use std::alloc::Global;
 
 /// The words of messages from their fields.
 pub struct Members;
-
-/// Whether a row is on a message from its fields.
-pub fn has_members(case: &Case<'_>) -> bool {
-    match case.types {
-        "assorted"
-        | "depot"
-        | "explicit"
-        | "implicit"
-        | "inventory"
-        | "joined"
-        | "order"
-        | "parcel"
-        | "separate"
-        | "store" => true,
-        _ => false,
-    }
-}
 
 // What comes of a row on a message.
 fn of_message<M: Message + Parted + Worded<Members>>(

@@ -1,0 +1,45 @@
+// Runs the rows of tables on messages from their fields.
+#![tactic(auto)]
+
+use conformance_members::on_members;
+use conformance_rows::any_buf::AnyBuf;
+use conformance_rows::calls::{Group, Kind, group_of};
+use conformance_rows::case::Case;
+use conformance_rows::fault::Fault;
+use conformance_rows::mark::Mark;
+use conformance_rows::outcome::Outcome;
+use conformance_runs::{Calls, run_rows};
+use std::alloc::Global;
+use std::process::ExitCode;
+
+// The calls on messages from their fields.
+struct Members;
+
+impl Calls for Members {
+    fn read(
+        _alloc: Global,
+        _case: &Case<'_>,
+        _kind: Kind,
+        _mark: &mut Mark,
+        _buf: &mut AnyBuf<'_>,
+    ) -> Result<Option<Outcome>, Fault> {
+        Ok(None)
+    }
+
+    fn called(
+        alloc: Global,
+        case: &Case<'_>,
+        kind: Kind,
+        mark: &mut Mark,
+        bytes: &[u8],
+    ) -> Result<Option<Outcome>, Fault> {
+        match group_of(case.call) {
+            Group::Messages => Ok(Some(on_members(alloc, case, kind, mark, bytes)?)),
+            _ => Ok(None),
+        }
+    }
+}
+
+fn main(rt: HostRuntime) -> ExitCode {
+    run_rows::<Members>(&rt)
+}
