@@ -29,7 +29,7 @@ use Rattle.buffamap.specs.Ext.{IsShown, IsShownOf, RepliesToExt, records_of}
 use Rattle.buffamap.specs.Forms.{hex_bytes, without_newline}
 use Rattle.buffamap.specs.Item.{IsFound, IsFoundIn, RepliesToItem, item_from}
 use Rattle.buffamap.specs.Lines.{Pair, lines_of, map_in, same_key}
-use Rattle.buffamap.specs.Pinned.{AnyCallIsPinned, CallIsPinned, LeavesFaultOpen, MayDiffer, NamesFault, ReplyIsPinned, ReplyIsPinnedButForFaults, SureCallIsPinned, having, holding}
+use Rattle.buffamap.specs.Pinned.{AnyCallIsPinned, CallIsPinned, HasFaultLine, LeavesFaultOpen, MayDiffer, NamesFault, ReplyIsPinned, ReplyIsPinnedButForFaults, SureCallIsPinned, having, holding}
 use Rattle.buffamap.specs.Read.{RepliesToBytes, RepliesToRead, RepliesToRun, run_from}
 use Rattle.buffamap.specs.Reply.{Reply, broken, done, hex_line}
 use Rattle.buffamap.specs.Rewrite.{Entry, IsRewritten, IsRewrittenOf, RepliesToRewrite}
@@ -219,11 +219,15 @@ told_whole : (old text : List ℕ) (p : Known) → Writes (holding false old p) 
 told_whole old text p (inl w) = grown old text p w
 told_whole old text p (inr w) = never w.1
 
+has_line : (out : List ℕ) (x : Reply) (a : Known) → NamesFault x → a ≡ Some (out ++ x.text) → HasFaultLine out a
+has_line out x a names h = (names.0, h ∙ ap (λ (r : Reply). Some (out ++ r.text)) names.1)
+
 -- what stands on the output of two replies
 one_output : (words : List (Bor (List ℕ))) (out : List ℕ) (x y : Reply) (a b : Known) (s : ℕ) → AreOne (command_of (texts words)) x y → s ≡ x.status → a ≡ Some (out ++ x.text) → b ≡ Some (out ++ y.text) →
-    (a ≡ b) ⊎ MayDiffer words s
+    (a ≡ b) ⊎ MayDiffer words out a b s
 one_output words out x y a b s (inl e) status h k = inl (h ∙ ap (λ (r : Reply). Some (out ++ r.text)) e ∙ sym k)
-one_output words out x y a b s (inr o) status h k = inr (o.0, status ∙ fault_status x o.1)
+one_output words out x y a b s (inr o) status h k =
+    inr (o.0, status ∙ fault_status x o.1, has_line out x a o.1 h, has_line out y b o.2 k)
 
 sure_pinned : (words : List (Bor (List ℕ))) (input out err : List ℕ) → SureCallIsPinned words input out err
 sure_pinned words input out err a b p q s t h k (x, y) =

@@ -1,5 +1,5 @@
 -- What the reply relations leave open: nothing, but for what is said here.
-use Rattle.std.specs.Prelude.{◌≡◌, ◌≢◌, ◌⊎◌, ℕ, List, Bool, false, Option, Some}
+use Rattle.std.specs.Prelude.{◌≡◌, ◌≢◌, ◌⊎◌, ◌++◌, ℕ, List, Bool, false, Option, Some}
 use Rattle.buffa_bytes.specs.declared.error.DecodeError.{DecodeError}
 use Rattle.buffa_wire.specs.ErrorText.{decode_error_text}
 use Rattle.buffamap.specs.declared.command.Command.{Command}
@@ -41,9 +41,14 @@ LeavesFaultOpen (Some AgainNode) = Unit {0}
 LeavesFaultOpen (Some AgainSet) = Unit {0}
 LeavesFaultOpen _ = ⊥
 
--- so that two outputs may differ, of words that name such a command, where the status is 1
-abbrev pub MayDiffer : List (Bor (List ℕ)) → ℕ → Type 0
-MayDiffer words status = LeavesFaultOpen (command_of (texts words)) × (status ≡ 1)
+-- an output that held these bytes has the line that names a fault behind them, and no more
+abbrev pub HasFaultLine : List ℕ → Known → Type 0
+HasFaultLine out a = (e : DecodeError) × (a ≡ Some (out ++ (fault (decode_error_text e)).text))
+
+-- so that two outputs may differ, of words that name such a command, where the status is 1, and each has a fault's line
+abbrev pub MayDiffer : List (Bor (List ℕ)) → List ℕ → Known → Known → ℕ → Type 0
+MayDiffer words out a b status =
+    LeavesFaultOpen (command_of (texts words)) × (status ≡ 1) × HasFaultLine out a × HasFaultLine out b
 
 -- what is said of two answers to one call
 module _ (words : List (Bor (List ℕ))) (input out err : List ℕ) where
@@ -54,7 +59,7 @@ module _ (words : List (Bor (List ℕ))) (input out err : List ℕ) where
       (a b p q : Known) (s t : ℕ) →
       AnswersCall words (having false input) (holding false out a) (holding false err p) s →
       AnswersCall words (having false input) (holding false out b) (holding false err q) t →
-      (s ≢ 4) × (t ≢ 4) → (s ≡ t) × ((a ≡ b) ⊎ MayDiffer words s) × (p ≡ q)
+      (s ≢ 4) × (t ≢ 4) → (s ≡ t) × ((a ≡ b) ⊎ MayDiffer words out a b s) × (p ≡ q)
 
   -- any streams: where memory doesn't run out, and no stream may have failed, one status, and one output
   abbrev pub AnyCallIsPinned : Type 0
@@ -62,7 +67,7 @@ module _ (words : List (Bor (List ℕ))) (input out err : List ℕ) where
       (f g h : Bool) (a b p q : Known) (s t : ℕ) →
       AnswersCall words (having f input) (holding g out a) (holding h err p) s →
       AnswersCall words (having f input) (holding g out b) (holding h err q) t →
-      (s ≢ 3) × (s ≢ 4) → (t ≢ 3) × (t ≢ 4) → (s ≡ t) × ((a ≡ b) ⊎ MayDiffer words s)
+      (s ≢ 3) × (s ≢ 4) → (t ≢ 3) × (t ≢ 4) → (s ≡ t) × ((a ≡ b) ⊎ MayDiffer words out a b s)
 
 -- one call has one answer
 abbrev pub CallIsPinned : List (Bor (List ℕ)) → Type 0
