@@ -86,7 +86,7 @@ fn with_budget(
     budget: &Budget,
     outcome: Outcome,
 ) -> Result<Outcome, Fault> {
-    if case.setting("left") != Some("told") {
+    if !case.says("left", "told") {
         return Ok(outcome);
     }
     outcome.with_left(left(alloc, case, budget, 0), 0)

@@ -64,7 +64,7 @@ pub fn plain<
         "decode-one" => codecs::decode_one::<By, V, C>(alloc, case, mark),
         "decode-one-ctx" => codecs::decode_one_ctx::<By, V, C>(alloc, case, mark),
         "unpack" => codecs::unpack::<By, V, C>(alloc, case, mark),
-        _ if case.setting("how") == Some("all") => list::<By, V, Repeated<C>>(alloc, case, mark),
+        _ if case.says("how", "all") => list::<By, V, Repeated<C>>(alloc, case, mark),
         _ => one::<By, V, C>(alloc, case, mark),
     }
 }
@@ -91,7 +91,7 @@ pub fn packable<By, V: Worded<By>, C: Numbered<Value = V>>(
     match case.call {
         "pack" => codecs::pack::<By, V, C>(alloc, case, mark),
         "set-then-read" => set_number::<By, V, C>(alloc, case, mark),
-        _ if case.setting("how") == Some("packed") => {
+        _ if case.says("how", "packed") => {
             list::<By, V, PackedRepeated<C>>(alloc, case, mark)
         }
         _ => plain::<By, V, C>(alloc, case, mark),

@@ -77,7 +77,7 @@ pub fn carrier_of(alloc: Global, case: &Case<'_>) -> Result<Carrier, Fault> {
 
 /// Whether a row asks for the call whose name begins with `try`, of two calls that are alike.
 pub fn asks_to_try(case: &Case<'_>) -> bool {
-    case.setting("by") == Some("try")
+    case.says("by", "try")
 }
 
 /// Whether memory ran out.

@@ -125,7 +125,10 @@ impl<'a> Case<'a> {
 
     /// Whether a setting says this.
     pub fn says(&self, name: &str, said: &str) -> bool {
-        self.setting(name) == Some(said)
+        match self.setting(name) {
+            Some(found) => found == said,
+            None => false,
+        }
     }
 
     /// The slots of the budget.

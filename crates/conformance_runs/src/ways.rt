@@ -332,7 +332,7 @@ impl Run<'_> {
         may: &[String],
         tally: &mut Tally,
     ) -> Result<(), Fault> {
-        let spared = self.case.setting("memory") == Some("spared");
+        let spared = self.case.says("memory", "spared");
         for nth in 1..=self.most()?.saturating_add(1) {
             let Some(outcome) = self.by::<C>(alloc, bytes, cut, nth)? else {
                 return Ok(());
