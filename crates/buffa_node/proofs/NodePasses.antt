@@ -159,5 +159,5 @@ low_in (e ∷ es) x (suc i, b, q) = omega (arith, low_in es x (i, omega (arith, 
 pub low_child : (t : Branch) (a : Scores) (es : List (ℤ × Branch)) (h : Shades) (r : Kept) → branch a (kids es) h r ≡ t → (x : Branch) → Contains (values_of (meant es)) x → height x < height t
 low_child t a es h r is x c = omega (arith, low_in es x c, ap height is)
 
-pub meant-values : (es : List (ℤ × Branch)) (x : Branch) → Contains (values_of (meant es)) x → Contains (values_of es) x
-meant-values es x h = subst (λ (l : List (ℤ × Branch)). Contains (values_of l) x) (meant-is es) h
+pub meant_values : (es : List (ℤ × Branch)) (x : Branch) → Contains (values_of (meant es)) x → Contains (values_of es) x
+meant_values es x h = subst (λ (l : List (ℤ × Branch)). Contains (values_of l) x) (meant-is es) h

@@ -194,6 +194,7 @@ pub fn size_node(node: &Node, cache: &mut SizeCache) -> Result<u32, EncodeError>
 
 // The write pass of the children, by a function that writes a child. Its contract names no trait, so that the goals of
 // the recursion stay small.
+#[tactic(auto, using(crate::proofs::NodePasses::meant_values))]
 fn write_children_by<S: EncodeSink, F>(
     children: &BTreeMap<i32, Node>,
     cache: &mut SizeCache,

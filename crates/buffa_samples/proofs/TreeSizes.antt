@@ -61,5 +61,5 @@ low_in (e ∷ es) x (suc i, b, q) = omega (arith, low_in es x (i, omega (arith, 
 pub low_child : (t : Grown) (l : ℤ) (es : List (ℤ × Grown)) → grown l (kids es) ≡ t → (x : Grown) → Contains (values_of (meant es)) x → height x < height t
 low_child t l es is x h = omega (arith, low_in es x h, ap height is)
 
-pub meant-values : (es : List (ℤ × Grown)) (x : Grown) → Contains (values_of (meant es)) x → Contains (values_of es) x
-meant-values es x h = subst (λ (l : List (ℤ × Grown)). Contains (values_of l) x) (meant-is es) h
+pub meant_values : (es : List (ℤ × Grown)) (x : Grown) → Contains (values_of (meant es)) x → Contains (values_of es) x
+meant_values es x h = subst (λ (l : List (ℤ × Grown)). Contains (values_of l) x) (meant-is es) h

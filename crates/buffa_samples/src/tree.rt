@@ -171,6 +171,7 @@ pub fn size_tree(tree: &Tree, cache: &mut SizeCache) -> Result<u32, EncodeError>
 
 // The write pass of the children, by a function that writes a child. Its contract names no trait, so that the goals of
 // the recursion stay small.
+#[tactic(auto, using(crate::proofs::TreeSizes::meant_values))]
 fn write_children_by<S: EncodeSink, F>(
     children: &BTreeMap<i32, Tree>,
     cache: &mut SizeCache,
