@@ -1,4 +1,3 @@
-use Rattle.std.proofs.Common.{refl}
 use Rattle.buffa_map.specs.Pairs.{means}
 use Rattle.buffa_fields.specs.NestedMapLaws.{pairs_written}
 use Rattle.buffa_fields.proofs.map_nested.write_pairs.Goals as goal
