@@ -12,7 +12,7 @@ use Rattle.buffa_wire.specs.Cache.{Cache}
 use Rattle.buffa_wire.specs.Content.Content.{bytes as held}
 use Rattle.buffa_wire.specs.Number.{IsNumber}
 use Rattle.buffa_wire.specs.Parse.{Fits}
-use Rattle.buffa_wire.specs.Passes.{IsNext, IsSized, IsSmall, IsWritten, cap}
+use Rattle.buffa_wire.specs.Passes.{IsSized, IsSmall, IsWritten, cap}
 use Rattle.buffa_wire.specs.Records.{records_of}
 use Rattle.buffa_wire.specs.Text.{records_text}
 use Rattle.buffa_wire.specs.Values.{tag_text}
@@ -54,10 +54,6 @@ module _ {K X : Type 0} (key : Writing K) (text slots : X → List ℕ) (n : ℕ
 
     pub pairs_unsized : (e : EncodeError) → IsFieldSized key text slots t l c0 (failed e) c1 → IsSized whole (pair_slots text slots l) c0 (failed e) c1
     pairs_unsized e h = h
-
-  pub pairs_next : (c : Cache) → IsNext (pair_slots text slots l) c → IsNext (field_slots text slots l) c
-  unfolding pair_slots
-  pairs_next c h = h
 
   pub pairs_written : (c0 c1 : Cache) (b0 b1 : List ℕ) (r : Result (Unit {0}) EncodeError) → IsFieldWritten key text slots n l c0 b0 r c1 b1 → IsWritten whole (pair_slots text slots l) c0 b0 r c1 b1
   unfolding pair_slots

@@ -52,6 +52,7 @@ where
 }
 
 // Writes a map field of messages, whose slots are next.
+#[tactic(auto, unfolding(crate::specs::NestedMaps::pair_slots))]
 fn write_pairs<KC: MapCodec, N: Message, S: EncodeSink>(
     number: u32,
     map: &Map<KC::Value, N>,

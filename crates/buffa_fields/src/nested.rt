@@ -158,7 +158,6 @@ impl<N: Message> Member for Nested<N> {
         }
     }
 
-    #[tactic(auto, using(crate::specs::NestedLaws::there), unfolding(crate::specs::Layout::Took))]
     fn merge(
         part: &mut Option<N>,
         alloc: Global,

@@ -64,7 +64,6 @@ impl<C: Kind> Member for Optional<C> {
         }
     }
 
-    #[tactic(auto, unfolding(crate::specs::Layout::Took))]
     fn merge(
         part: &mut Option<C::Value>,
         alloc: Global,

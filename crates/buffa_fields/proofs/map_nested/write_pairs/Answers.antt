@@ -1,16 +1,6 @@
-use Rattle.std.proofs.Common.{refl}
 use Rattle.buffa_map.specs.Pairs.{means}
-use Rattle.buffa_fields.specs.NestedMapLaws.{pairs_next, pairs_written}
+use Rattle.buffa_fields.specs.NestedMapLaws.{pairs_written}
 use Rattle.buffa_fields.proofs.map_nested.write_pairs.Goals as goal
-
-pub write_message_field-requires : goal.write_message_field-requires
-write_message_field-requires g c = λ k. (
-  (refl, tt),
-  (
-    c.requires.number,
-    pairs_next g.KC.MapCodec.writing g.N.MessageSpec.text g.N.MessageSpec.slots c.args.number (means g.KC.Value.Blank.meaning g.N.Blank.meaning c.args.map.now.entries) c.args.cache.now c.requires.next,
-  ),
-)
 
 pub returns : goal.returns
 returns g c =

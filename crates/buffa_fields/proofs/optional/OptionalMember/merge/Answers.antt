@@ -1,0 +1,34 @@
+use Rattle.std.proofs.Common.{inl, inr, Some, sym, ap, ◌∙◌}
+use Rattle.std.specs.Option.{option_map}
+use Rattle.buffa_fields.specs.Layout.{Took}
+use Rattle.buffa_fields.specs.Values.{value_taken}
+use Rattle.buffa_fields.proofs.optional.OptionalMember.merge.Goals as goal
+
+pub returns-in-Ok : goal.returns-in-Ok
+unfolding Took
+returns-in-Ok g c =
+    let d = c.args.ctx.depth in
+    let n = c.args.tag.number in
+    let w = c.args.tag.wire_type in
+    let t = c.in-Ok.ensures in (
+      t.0,
+      t.1,
+      t.2,
+      ap (option_map (λ x. Some x)) (ap (λ z. value_taken g.C.MapValueDecode.reading d z n w t.0) (g.met.C.MapValueDecode.blank ∙ sym c.blank-value.ensures) ∙ t.3),
+      t.4,
+    )
+
+pub returns-in-Err : goal.returns-in-Err
+unfolding Took
+returns-in-Err g c =
+    let d = c.args.ctx.depth in
+    let n = c.args.tag.number in
+    let w = c.args.tag.wire_type in
+    let e = c.in-Err.ensures in (
+      e.0,
+      λ ne. elim (e.1 ne) [
+        | inl few ↦ inl few
+        | inr bad ↦ inr ((λ p more payload split. ap (option_map (λ x. Some x)) (ap (λ z. value_taken g.C.MapValueDecode.reading d z n w p) (g.met.C.MapValueDecode.blank ∙ sym c.blank-value.ensures) ∙ bad.0 p more payload split)), bad.1)
+      ],
+      e.2,
+    )
