@@ -2,7 +2,7 @@
 
 ghost use Rattle.std.specs.Prelude.{◌≡◌, ◌≢◌, ℕ, List, [], ◌∷◌, ◌++◌, Option, Some, None, option_map};
 ghost use Rattle.std.specs.Prelude.{OnOk, OnErr, IfOk};
-ghost use Rattle.std.specs.Prelude.{IsOk, ◌+◌, ◌-◌, ◌≤◌, length, vec_capacity, vec_len};
+ghost use Rattle.std.specs.Prelude.{IsOk, ◌+◌, ◌-◌, ◌<◌, ◌≤◌, length, vec_capacity, vec_len};
 ghost use Rattle.buffa_bytes.specs.declared.error.EncodeError.{EncodeError};
 ghost use Rattle.buffa_bytes.specs.Written.{UsesRoom};
 ghost use Rattle.buffa_wire.specs.BudgetLeft.{BudgetLeft, Pays, budget_left};
@@ -12,7 +12,9 @@ ghost use Rattle.buffa_codec.specs.Sub.{sub, tagged};
 ghost use Rattle.buffa_codec.specs.Reading.{Adds, AddsSome, AddsSomeValues, AddsValues, Covers, KeepsPlaces, LeavesIn, Refuses};
 ghost use Rattle.buffa_codec.specs.Reading.{SpendsIn, UsesPlaces, full, one_in};
 
-use buffa_wire::{Blank, DecodeContext, EncodeError, UnknownFieldData, UnknownFields};
+use buffa_wire::{
+    Blank, DecodeContext, EncodeError, UnknownField, UnknownFieldData, UnknownFields,
+};
 use std::alloc::{AllocError, Global};
 
 /// How the value of an extension is read of the records of its number, and written as such records.
@@ -322,4 +324,23 @@ pub trait PackableCodec: SingularCodec {
 
     /// A record of bytes costs nothing.
     ghost bytes_cost: { (b left : BudgetLeft) (bs : List ℕ) → Self.leaves 100 b (bytes bs) left → left ≡ b };
+}
+
+// Puts a record behind the others.
+#[inline]
+pub(crate) fn push_record(
+    number: u32,
+    payload: UnknownFieldData,
+    fields: &mut UnknownFields,
+) -> Result<(), EncodeError>
+    ensures ok { OnOk result (Adds fields.old.records ((number, datum_of payload) ∷ []) fields.new.records) }
+    ensures err { OnErr result (fields.new ≡ fields.old) }
+    ensures refused { Refuses result None }
+    ensures room { KeepsPlaces fields.old fields.new }
+    ensures reserved { 0 < fields.old.spare → IsOk result }
+{
+    match fields.push(UnknownField { number, payload }) {
+        Ok(()) => Ok(()),
+        Err(_) => Err(EncodeError::OutOfMemory),
+    }
 }

@@ -6,8 +6,8 @@ ghost use Rattle.buffa_wire.specs.Records.{Datum};
 ghost use Rattle.buffa_codec.specs.Reading.{Covers, HasLast, full, last_read};
 ghost use Rattle.buffa_codec.specs.Texts.{last_of_one};
 
-use crate::codec::{ExtensionCodec, SingularCodec};
-use buffa_wire::{EncodeError, UnknownField, UnknownFields};
+use crate::codec::{ExtensionCodec, SingularCodec, push_record};
+use buffa_wire::{EncodeError, UnknownFields};
 use std::alloc::{AllocError, Global};
 
 /// A codec of which the last record that is read is the value, and whose reading spends nothing.
@@ -87,10 +87,7 @@ impl<C: LastWins> ExtensionCodec for C {
         fields: &mut UnknownFields,
     ) -> Result<(), EncodeError> {
         let payload = C::encode_one(alloc, &value)?;
-        let Ok(()) = fields.push(UnknownField { number, payload }) else {
-            return Err(EncodeError::OutOfMemory);
-        };
-        Ok(())
+        push_record(number, payload, fields)
     }
 
     ghost reads_back = { λ v o f n h.

@@ -1,12 +1,12 @@
 //! Codecs of lists, all elements in one record.
 
-ghost use Rattle.std.specs.Prelude.{◌≡◌, List, map, None};
-ghost use Rattle.buffa_codec.specs.Reading.{Each, Has, ReadsList, TakesElement, packed_record};
+ghost use Rattle.std.specs.Prelude.{◌≡◌, IfOk, List, None, OnOk, map};
+ghost use Rattle.buffa_codec.specs.Reading.{Each, Has, ReadsList, Refuses, TakesElement, joined, packed_record};
 ghost use Rattle.buffa_codec.specs.Texts.{packed_back};
 
-use crate::codec::{ExtensionCodec, PackableCodec};
+use crate::codec::{ExtensionCodec, PackableCodec, push_record};
 use crate::repeated::Repeated;
-use buffa_wire::{EncodeError, UnknownField, UnknownFieldData, UnknownFields};
+use buffa_wire::{EncodeError, UnknownFieldData, UnknownFields};
 use std::alloc::{AllocError, Global};
 use std::marker::PhantomData;
 
@@ -67,22 +67,32 @@ impl<C: PackableCodec> ExtensionCodec for PackedRepeated<C> {
         if value.is_empty() {
             return Ok(());
         }
-        let mut bytes = Vec::new(alloc);
-        // Each value has a byte at least.
-        if bytes.reserve(value.len()).is_err() {
-            return Err(EncodeError::OutOfMemory);
-        }
-        for v in value.as_slice() {
-            C::encode_packed(v, &mut bytes)?;
-        }
-        let payload = UnknownFieldData::LengthDelimited(bytes);
-        let Ok(()) = fields.push(UnknownField { number, payload }) else {
-            return Err(EncodeError::OutOfMemory);
-        };
-        Ok(())
+        let bytes = packed_bytes::<C>(alloc, value.as_slice())?;
+        push_record(number, UnknownFieldData::LengthDelimited(bytes), fields)
     }
 
     ghost reads_back = { λ v o f n h.
         packed_back C.fits (C.one 100) (C.leaves 100) C.packed C.packed_text C.back C.PackableCodec.unpacks
         C.PackableCodec.unpacks_none C.PackableCodec.bytes_unread v o h.0 f h.1 };
+}
+
+// The bytes of the values, one after the other.
+#[inline]
+fn packed_bytes<C: PackableCodec>(
+    alloc: Global,
+    values: &[C::Value],
+) -> Result<Vec<u8>, EncodeError>
+    ensures bytes { IfOk result (λ b. b.items ≡ joined C.packed_text (map C.Value.meaning values.now)) }
+    ensures refused { Refuses result None }
+    ensures fits { OnOk result (Each C.fits (map C.Value.meaning values.now)) }
+{
+    let mut bytes = Vec::new(alloc);
+    // Each value has a byte at least.
+    if bytes.reserve(values.len()).is_err() {
+        return Err(EncodeError::OutOfMemory);
+    }
+    for v in values {
+        C::encode_packed(v, &mut bytes)?;
+    }
+    Ok(bytes)
 }

@@ -1,7 +1,7 @@
 -- An Item is a group of number 1, one level deeper; and whether such a group is an Item doesn't depend on what follows it.
-use Rattle.std.proofs.Common.{◌≡◌, ◌≢◌, ◌⊎◌, inl, inr, ℕ, suc, ◌==◌, ◌&&◌, nat_lt, ◌^◌, Bool, true, false, List, [], ◌∷◌, ◌++◌, Option, None, Some, Result, Ok, Err, refl, sym, ap, subst, ◌∙◌, append_assoc}
+use Rattle.std.proofs.Common.{◌≡◌, ◌⊎◌, inl, inr, ℕ, suc, ◌==◌, ◌&&◌, nat_lt, ◌^◌, Bool, true, false, List, [], ◌∷◌, ◌++◌, Option, None, Some, refl, sym, ap, subst, ◌∙◌, append_assoc}
 use Rattle.std.proofs.lemmas.Bool.{ltb-true}
-use Rattle.buffa_bytes.specs.Field.{Group, IsTag, Payload, SomeField, SomeFieldOver}
+use Rattle.buffa_bytes.specs.Field.{Group, IsTag, Payload, SomeField}
 use Rattle.buffa_bytes.specs.Join.{Join}
 use Rattle.buffa_bytes.specs.Join.Join.{none, more}
 use Rattle.buffa_bytes.specs.Varint.{IsVarint}
@@ -14,7 +14,7 @@ use Rattle.buffa_wire.proofs.MessageLemmas.{NoLimit, length_no_limit, payload_no
 use Rattle.buffa_wire.proofs.SequenceLemmas.{ParsesTo-first}
 use Rattle.buffa_wire.specs.Sequence.{ParsesEach, join}
 use Rattle.buffa_wire.specs.WireType.{same_wire}
-use Rattle.buffa_message_set.specs.Item.{FieldFault, IsField, IsReadAlike, IsTypeId, Item, ItemFault, Said, item_at, said, says, unsaid}
+use Rattle.buffa_message_set.specs.Item.{FieldFault, IsField, IsReadAlike, IsTypeId, Item, ItemFault, Said, said, says, unsaid}
 use Rattle.buffa_message_set.proofs.ItemLemmas.{StopsFrom, TakesFrom, and_true, both_false, both_true, field_no_end, out_of, read_complete, read_faulty, tag_of, takes_item}
 
 -- ---- an Item is a group

@@ -1,5 +1,5 @@
 -- Items: what is read of them, and the grammar.
-use Rattle.std.proofs.Common.{◌≡◌, ◌≢◌, ◌⊎◌, inl, inr, ℕ, zero, suc, ◌==◌, ◌&&◌, nat_lt, ◌<◌, ◌^◌, Bool, true, false, List, [], ◌∷◌, ◌++◌, length, drop, Option, None, Some, Result, Ok, Err, IsOk, refl, true≢false, sym, ap, subst, ◌∙◌, arith, append_assoc, append-nil, length-append}
+use Rattle.std.proofs.Common.{◌≡◌, ◌≢◌, ◌⊎◌, inl, inr, ℕ, zero, suc, ◌==◌, ◌&&◌, nat_lt, ◌<◌, ◌^◌, Bool, true, false, List, [], ◌∷◌, ◌++◌, length, drop, Option, None, Some, Result, Ok, Err, IfOk, IsOk, refl, true≢false, sym, ap, subst, ◌∙◌, arith, append_assoc, append-nil, length-append}
 use Rattle.std.proofs.lemmas.Bool.{eqb-true, eq-eqb, lt-ltb, le-ltb, ltb-true, ltb-false}
 use Rattle.std.proofs.lemmas.List.{append_cancel_right}
 use Rattle.buffa_wire.specs.Field.{IsTag, LengthFault, Payload, TakesDelimited, TakesTag}
@@ -17,6 +17,7 @@ use Rattle.buffa_bytes.proofs.DelimitedLemmas.{delimited_complete, delimited_fau
 use Rattle.buffa_bytes.proofs.FieldLemmas.{payload_complete, payload_faulty, payload_sound, tag_complete, tag_faulty, tag_some, tag_sound}
 use Rattle.buffa_bytes.proofs.FullLemmas.{delimited_full, payload_fault_full, payload_full, tag_fault_full}
 use Rattle.buffa_bytes.proofs.VarintLemmas.{IsVarint-varint_text, varint_complete, varint_faulty, varint_sound}
+use Rattle.buffa_wire.specs.Gives.{FullOnlyIf, Gives}
 use Rattle.buffa_wire.specs.Unread.{IsFrontOf}
 use Rattle.buffa_wire.specs.Sequence.{ParsesEach, ParsesTo, join}
 use Rattle.buffa_wire.proofs.InsideLemmas.{delimited_front}
@@ -279,6 +280,10 @@ type_id_no_full bs e h k = absurd (type_id_fault_full bs (subst (λ x. TypeIdFau
 pub payload_no_full : {P : Type 0} (d n : ℕ) (w : WireType) (bs : List ℕ) (e : DecodeError) → skip_at d n w bs ≡ Err e → e ≡ OutOfMemory → P
 payload_no_full d n w bs e h k = absurd (payload_full d n w bs (h ∙ ap (λ x. Err x) k))
 
+pub skip_no_full : {X : Type 0} (P : Type 0) (r : Result X DecodeError) (d n : ℕ) (w : WireType) (bs rest : List ℕ) → Gives (λ _. rest) r (skip_at d n w bs) → FullOnlyIf r P
+skip_no_full P (Ok x) d n w bs rest h = tt
+skip_no_full P (Err e) d n w bs rest h = payload_no_full d n w bs e h
+
 module _ (d : ℕ) where
   field_fault_full : (bs : List ℕ) → FieldFault d bs OutOfMemory → ⊥
   field_fault_full bs (inl h) = tag_fault_full bs h
@@ -305,15 +310,19 @@ pub part_appended : (n : ℕ) (msg bs mid part rest : List ℕ) → varint_at bs
 part_appended n msg bs mid part rest v f e = rw (delimited_front n bs mid part v f, e) refl
 
 -- after a length that isn't 0 there are bytes, where so many are left
-pub some_bytes : (n : ℕ) (bs mid : List ℕ) → varint_at bs ≡ Ok (n, mid) → n ≢ 0 → IsOk (taken n mid) → BytesAt bs
+some_bytes : (n : ℕ) (bs mid : List ℕ) → varint_at bs ≡ Ok (n, mid) → n ≢ 0 → IsOk (taken n mid) → BytesAt bs
 some_bytes n bs mid v some there =
     let x = ok_of (taken n mid) there in
     let t = agree_ok (taken n mid) x.0 (taken_sound n mid) x.1 in
     (x.0.0, x.0.1, rw v x.1, λ e. some (sym t.0 ∙ ap length e))
 
-pub some_part : (n : ℕ) (bs mid part : List ℕ) → varint_at bs ≡ Ok (n, mid) → n ≢ 0 → IsFrontOf part n mid → BytesAt bs
+pub full_bytes : {X : Type 0} (r : Result X DecodeError) (n : ℕ) (bs mid : List ℕ) → varint_at bs ≡ Ok (n, mid) → n ≢ 0 → FullOnlyIf r (IsOk (taken n mid)) → FullOnlyIf r (BytesAt bs)
+full_bytes (Ok x) n bs mid v some h = tt
+full_bytes (Err e) n bs mid v some h = λ k. some_bytes n bs mid v some (h k)
+
+pub part_there : (n : ℕ) (mid part : List ℕ) → IsFrontOf part n mid → IsOk (taken n mid)
 unfolding taken
-some_part n bs mid part v some f = some_bytes n bs mid v some (rw (le-ltb (length mid) n f.fits) refl)
+part_there n mid part f = rw (le-ltb (length mid) n f.fits) refl
 
 -- ---- the loop over the fields
 module _ (d : ℕ) (all : List ℕ) (s : Said) (bs : List ℕ) (reached : Reaches d all s bs) where
@@ -339,6 +348,13 @@ module _ (d : ℕ) (all : List ℕ) (s : Said) (bs : List ℕ) (reached : Reache
 
     pub no_type_id : ends n w ≡ true → s.type_id ≡ None → item_at d all ≡ Err (InvalidMessageSet MissingTypeId)
     no_type_id h is = read_faulty d all (InvalidMessageSet MissingTypeId) (s, bs, reached, inr (rest, took_end h, is, refl))
+
+    ended_by : ends n w ≡ true → (o : Option ℕ) → s.type_id ≡ o → item_at d all ≡ ended o s.message rest
+    ended_by h None is = no_type_id h is
+    ended_by h (Some id) is = whole_item h id is
+
+    pub ended_item : ends n w ≡ true → item_at d all ≡ ended s.type_id s.message rest
+    ended_item h = ended_by h s.type_id refl
 
     module _ (goes_on : ends n w ≡ false) where
       sound : Agrees (field_at d s n w rest) (FieldAt d s bs) (FieldFault d bs)
@@ -391,6 +407,11 @@ module _ (d : ℕ) where
   pub read_in_range : (bs : List ℕ) (id : ℕ) (msg rest : List ℕ) → item_at d bs ≡ Ok (id, msg, rest) → IsTypeId id
   read_in_range bs id msg rest h =
       let t = agree_ok (item_at d bs) (id, msg, rest) (read_sound d bs) h in item_in_range t.0 msg id t.1
+
+  pub given_in_range : {X : Type 0} (r : Result X DecodeError) (id : X → ℕ) (msg : X → List ℕ) (o : Option ℕ) (m bs rest : List ℕ) →
+      item_at d bs ≡ ended o m rest → Gives (λ x. (id x, msg x, rest)) r (ended o m rest) → IfOk r (λ x. IsTypeId (id x))
+  given_in_range (Ok x) id msg o m bs rest e h = read_in_range bs (id x) (msg x) rest (e ∙ h)
+  given_in_range (Err f) id msg o m bs rest e h = tt
 
   pub written_item : (id : ℕ) (msg : List ℕ) → IsTypeId id → length msg < 2 ^ 64 → Item d (body_text id msg) id msg
   written_item id msg range short =

@@ -10,13 +10,17 @@
 //! let (number, payload) = merge_item(alloc, &mut rest, ctx.descend()?)?;
 //! ```
 
-ghost use Rattle.std.specs.Prelude.{◌≡◌, ◌^◌, ◌<◌, ℕ, List, length, IfOk};
+ghost use Rattle.std.specs.Prelude.{◌≡◌, ◌≢◌, ◌^◌, ◌<◌, ◌++◌, ◌==◌, ◌&&◌, ℕ, List, length, Ok, Err, IfErr, IfOk, IsOk, MatchResult};
+ghost use Rattle.buffa_bytes.specs.declared.error.DecodeError.TheVariants.{OutOfMemory};
 ghost use Rattle.buffa_wire.specs.BudgetLeft.{budget_left};
 ghost use Rattle.buffa_wire.specs.Gives.{FullOnlyIf, Gives, GivesUnlessFull};
+ghost use Rattle.buffa_wire.specs.Reading.{taken, varint_at};
 ghost use Rattle.buffa_wire.specs.Unread.{IsTailOf};
+ghost use Rattle.buffa_wire.specs.Values.{delimited_text, tag_text};
+ghost use Rattle.buffa_wire.specs.WireType.{same_wire};
 ghost use Rattle.buffa_wire.specs.Written.{UsesRoom, Writes};
 ghost use Rattle.buffa_message_set.specs.Item.{HasMessage, IsTypeId, SpendsSlot, field_at, item_at, item_in, item_size, item_text};
-ghost use Rattle.buffa_message_set.specs.Item.{BytesAt, IsMessageAt, appended_at, ends, said_by, type_id_at};
+ghost use Rattle.buffa_message_set.specs.Item.{BytesAt, IsMessageAt, appended_at, body_text, ended, id_then, said_by, type_id_at, unsaid};
 
 use buffa_bytes::buf::{copy_bytes, front};
 use buffa_wire::{
@@ -91,8 +95,33 @@ pub fn write_item<S: EncodeSink>(
     ensures room { UsesRoom result (S.room sink.old) (item_text number payload.now) (S.room sink.new) }
 {
     encode_varint(ITEM_START_TAG, sink)?;
+    write_body(number, payload, sink)
+}
+
+// Writes what follows the start tag.
+#[inline]
+#[tactic(auto, using(buffa_bytes::proofs::SinkLemmas::writes_then, buffa_bytes::proofs::SinkLemmas::front_first, buffa_bytes::proofs::SinkLemmas::room_then))]
+fn write_body<S: EncodeSink>(number: u32, payload: &[u8], sink: &mut S) -> Result<(), EncodeError>
+    requires { IsTypeId number }
+    ensures writes { Writes result (S.written sink.old) (body_text number payload.now) (S.written sink.new) }
+    ensures room { UsesRoom result (S.room sink.old) (body_text number payload.now) (S.room sink.new) }
+{
     encode_varint(TYPE_ID_TAG, sink)?;
     types::encode_uint32(number, sink)?;
+    write_message(payload, sink)
+}
+
+// Writes the message and the end tag.
+#[inline]
+#[tactic(auto, using(buffa_bytes::proofs::SinkLemmas::writes_then, buffa_bytes::proofs::SinkLemmas::front_first, buffa_bytes::proofs::SinkLemmas::room_then))]
+fn write_message<S: EncodeSink>(payload: &[u8], sink: &mut S) -> Result<(), EncodeError>
+    ensures writes { Writes result (S.written sink.old)
+        (tag_text 3 WireType.LengthDelimited ++ (delimited_text payload.now ++ tag_text 1 WireType.EndGroup))
+        (S.written sink.new) }
+    ensures room { UsesRoom result (S.room sink.old)
+        (tag_text 3 WireType.LengthDelimited ++ (delimited_text payload.now ++ tag_text 1 WireType.EndGroup))
+        (S.room sink.new) }
+{
     encode_varint(MESSAGE_TAG, sink)?;
     types::encode_bytes(payload, sink)?;
     encode_varint(ITEM_END_TAG, sink)
@@ -159,25 +188,44 @@ fn read_item<B: Buf>(alloc: Global, buf: &mut B, depth: u32) -> Result<(u32, Vec
         type_id: None,
         message: Vec::new(alloc),
     };
+    read_fields(alloc, buf, depth, &mut parts)?;
+    item_of(parts)
+}
+
+// Reads the fields of an Item and its end tag, where nothing was said.
+fn read_fields<B: Buf>(
+    alloc: Global,
+    buf: &mut B,
+    depth: u32,
+    parts: &mut ItemParts,
+) -> Result<(), DecodeError>
+    requires { said_by parts.old ≡ unsaid }
+    ensures reads { MatchResult result
+        (λ _. item_at depth (B.unread buf.old) ≡ ended parts.new.type_id parts.new.message.items (B.unread buf.new))
+        (λ e. e ≢ OutOfMemory → item_at depth (B.unread buf.old) ≡ Err e) }
+    ensures full { FullOnlyIf result (HasMessage depth (B.unread buf.old)) }
+    ensures kept { B.beyond buf.new ≡ B.beyond buf.old }
+    ensures tail { IsTailOf (B.unread buf.new) (B.unread buf.old) }
+{
     loop {
         let tag = Tag::decode(buf)?;
-        if is_end(tag) {
-            let Some(number) = parts.type_id else {
-                return Err(DecodeError::InvalidMessageSet(MessageSetFault::MissingTypeId));
-            };
-            return Ok((number, parts.message));
+        if is_of(tag, 1, WireType::EndGroup) {
+            return Ok(());
         }
-        merge_field(alloc, tag, buf, depth, &mut parts)?;
+        merge_field(alloc, tag, buf, depth, parts)?;
     }
 }
 
-// Whether the tag ends an Item.
-fn is_end(tag: Tag) -> bool
-    ensures { result ≡ ends tag.number tag.wire_type }
+// The Item that has ended.
+#[inline]
+fn item_of(parts: ItemParts) -> Result<(u32, Vec<u8>), DecodeError>
+    ensures reads { (rest : List ℕ) → Gives (λ item. (item.0, item.1.items, rest)) result
+        (ended parts.type_id parts.message.items rest) }
+    ensures full { IfErr result (λ e. e ≢ OutOfMemory) }
 {
-    match tag.wire_type() {
-        WireType::EndGroup => tag.field_number() == 1,
-        _ => false,
+    match parts.type_id {
+        Some(number) => Ok((number, parts.message)),
+        None => Err(DecodeError::InvalidMessageSet(MessageSetFault::MissingTypeId)),
     }
 }
 
@@ -195,11 +243,33 @@ fn merge_field<B: Buf>(
     ensures kept { B.beyond buf.new ≡ B.beyond buf.old }
     ensures tail { IsTailOf (B.unread buf.new) (B.unread buf.old) }
 {
-    match (tag.field_number(), tag.wire_type()) {
-        (2, WireType::Varint) => parts.type_id = Some(decode_type_id(buf)?),
-        (3, WireType::LengthDelimited) => append_message(alloc, buf, &mut parts.message)?,
-        _ => skip_field_depth(tag, buf, depth)?,
+    if is_of(tag, 2, WireType::Varint) {
+        return merge_type_id(buf, parts);
     }
+    if is_of(tag, 3, WireType::LengthDelimited) {
+        return append_message(alloc, buf, &mut parts.message);
+    }
+    skip_field_depth(tag, buf, depth)
+}
+
+// Whether the tag has this number and this wire type.
+#[inline]
+fn is_of(tag: Tag, number: u32, wire_type: WireType) -> bool
+    ensures { result ≡ ((tag.number == number) && same_wire wire_type tag.wire_type) }
+{
+    tag.field_number() == number && tag.wire_type() == wire_type
+}
+
+// Reads a type id, which takes the place of the one before.
+#[inline]
+fn merge_type_id<B: Buf>(buf: &mut B, parts: &mut ItemParts) -> Result<(), DecodeError>
+    ensures reads { Gives (λ _. (said_by parts.new, B.unread buf.new)) result
+        (id_then (said_by parts.old) (B.unread buf.old)) }
+    ensures full { IfErr result (λ e. e ≢ OutOfMemory) }
+    ensures kept { B.beyond buf.new ≡ B.beyond buf.old }
+    ensures tail { IsTailOf (B.unread buf.new) (B.unread buf.old) }
+{
+    parts.type_id = Some(decode_type_id(buf)?);
     Ok(())
 }
 
@@ -217,7 +287,7 @@ fn decode_type_id<B: Buf>(buf: &mut B) -> Result<u32, DecodeError>
 }
 
 // Reads a length and so many bytes, and puts them behind the others. For no bytes nothing is asked of memory.
-#[tactic(auto, using(buffa_bytes::proofs::TailLemmas::tail_more, buffa_bytes::proofs::TailLemmas::tail_dropped))]
+#[tactic(auto, using(buffa_bytes::proofs::TailLemmas::tail_more))]
 fn append_message<B: Buf>(
     alloc: Global,
     buf: &mut B,
@@ -233,20 +303,51 @@ fn append_message<B: Buf>(
     if len == 0 {
         return Ok(());
     }
+    append_bytes(alloc, buf, len, message)
+}
+
+// Reads so many bytes and puts them behind the others.
+#[inline]
+#[tactic(auto, using(buffa_bytes::proofs::TailLemmas::tail_more, buffa_bytes::proofs::TailLemmas::tail_dropped))]
+fn append_bytes<B: Buf>(
+    alloc: Global,
+    buf: &mut B,
+    len: u64,
+    message: &mut Vec<u8>,
+) -> Result<(), DecodeError>
+    ensures reads { (bs : List ℕ) → varint_at bs ≡ Ok (len, B.unread buf.old) →
+        GivesUnlessFull (λ _. (message.new.items, B.unread buf.new)) result (appended_at message.old.items bs) }
+    ensures full { FullOnlyIf result (IsOk (taken len (B.unread buf.old))) }
+    ensures kept { B.beyond buf.new ≡ B.beyond buf.old }
+    ensures tail { IsTailOf (B.unread buf.new) (B.unread buf.old) }
+{
     if let Some(part) = front(buf, len) {
-        let Ok(()) = message.extend_from_slice(part) else {
-            return Err(DecodeError::OutOfMemory);
-        };
+        extend(message, part)?;
         buf.advance(len as usize);
         return Ok(());
     }
-    let bytes = copy_bytes(alloc, buf, len)?;
+    join(message, copy_bytes(alloc, buf, len)?)
+}
+
+// Puts a copy of bytes behind the others.
+#[inline]
+fn extend(message: &mut Vec<u8>, part: &[u8]) -> Result<(), DecodeError>
+    ensures { MatchResult result (λ _. message.new.items ≡ message.old.items ++ part.now) (λ e. e ≡ OutOfMemory) }
+{
+    match message.extend_from_slice(part) {
+        Ok(()) => Ok(()),
+        Err(_) => Err(DecodeError::OutOfMemory),
+    }
+}
+
+// Puts bytes behind the others, and takes them as they are where there are no others.
+#[inline]
+fn join(message: &mut Vec<u8>, bytes: Vec<u8>) -> Result<(), DecodeError>
+    ensures { MatchResult result (λ _. message.new.items ≡ message.old.items ++ bytes.items) (λ e. e ≡ OutOfMemory) }
+{
     if message.is_empty() {
         *message = bytes;
         return Ok(());
     }
-    let Ok(()) = message.extend_from_slice(&bytes) else {
-        return Err(DecodeError::OutOfMemory);
-    };
-    Ok(())
+    extend(message, &bytes)
 }

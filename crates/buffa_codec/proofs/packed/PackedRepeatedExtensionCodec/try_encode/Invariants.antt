@@ -1,9 +1,0 @@
-use Rattle.std.proofs.Common.{◌≡◌, map, take}
-use Rattle.buffa_codec.specs.Reading.{Each, joined}
-use Rattle.buffa_codec.proofs.packed.PackedRepeatedExtensionCodec.try_encode.Given as goal
-
-abbrev pub invariant-loop-v : goal.invariant-loop-v
-invariant-loop-v g l = record {
-  written : l.bytes.items ≡ joined g.C.PackableCodec.packed_text (map g.C.Value.Blank.meaning (take l.v-index l.v-items));
-  fit : Each g.C.SingularCodec.fits (map g.C.Value.Blank.meaning (take l.v-index l.v-items));
-}
