@@ -1,12 +1,12 @@
 // Codecs of records, without a carrier: what is read of a number's records, and what is put behind others.
 
-use crate::told::{Told, asks_to_try, is_full, stand_told, values_of, words_of};
+use crate::told::{Told, asks_to_try, found_told, is_full, stand_told, values_of};
 use buffa_ext::ExtensionCodec;
 use buffa_wire::{EncodeError, UnknownFields};
 use conformance_rows::case::Case;
 use conformance_rows::fault::Fault;
 use conformance_rows::mark::Mark;
-use conformance_rows::outcome::{Outcome, got, records_told, written};
+use conformance_rows::outcome::{Outcome, records_told, written};
 use conformance_rows::words::{Worded, records_of, records_word};
 use std::alloc::Global;
 
@@ -21,9 +21,7 @@ fn decode_of<By, T: Told<By> + Drop, C: ExtensionCodec<Output = T>>(
     mark.begin(alloc);
     let found = C::decode(alloc, number, &fields);
     let refused = mark.end();
-    let words = words_of::<By, T>(alloc, &found);
-    let answer = got(alloc, found.is_ok());
-    Outcome::of_words(alloc, answer, words, records_told(alloc, &fields), refused)
+    found_told::<By, T>(alloc, &found, &fields, refused)
 }
 
 // Puts a value's records behind others, by one of two calls that are alike.

@@ -1,6 +1,6 @@
 // Calls on codecs: a record of a value and back, and packed bytes and back.
 
-use crate::told::{Told, asks_to_try, values_of, words_of};
+use crate::told::{Told, asks_to_try, found_told, values_of};
 use buffa_ext::{PackableCodec, SingularCodec};
 use buffa_wire::{
     Budget, DecodeContext, EncodeError, UnknownField, UnknownFieldData, UnknownFields,
@@ -12,11 +12,25 @@ use conformance_rows::outcome::{Outcome, got, left, records_told, written};
 use conformance_rows::words::{Worded, records_of};
 use std::alloc::Global;
 
-// The record of a payload, behind number 1.
-fn record_told(alloc: Global, payload: UnknownFieldData) -> Result<String, Fault> {
+// The one record of a payload, behind number 1.
+fn one_record(alloc: Global, payload: UnknownFieldData) -> Result<UnknownFields, Fault> {
     let mut fields = UnknownFields::new(alloc);
     fields.push(UnknownField { number: 1, payload })?;
+    Ok(fields)
+}
+
+// The record of a payload, told.
+fn record_told(alloc: Global, payload: UnknownFieldData) -> Result<String, Fault> {
+    let fields = one_record(alloc, payload)?;
     records_told(alloc, &fields)
+}
+
+// The first record's payload.
+fn first_of(fields: &UnknownFields) -> Result<&UnknownFieldData, Fault> {
+    match fields.iter().next() {
+        Some(field) => Ok(&field.payload),
+        None => Err(Fault::Form),
+    }
 }
 
 // No records.
@@ -68,28 +82,35 @@ pub fn decode_one<By, V: Worded<By>, C: SingularCodec<Value = V>>(
     mark: &mut Mark,
 ) -> Result<Outcome, Fault> {
     let fields = records_of(alloc, case.before())?;
-    let Some(field) = fields.iter().next() else {
-        return Err(Fault::Form);
-    };
+    let payload = first_of(&fields)?;
     mark.begin(alloc);
-    let found = C::decode_one(alloc, &field.payload);
+    let found = C::decode_one(alloc, payload);
     let refused = mark.end();
-    let words = words_of::<By, Option<V>>(alloc, &found);
-    let answer = got(alloc, found.is_ok());
-    Outcome::of_words(alloc, answer, words, records_told(alloc, &fields), refused)
+    found_told::<By, Option<V>>(alloc, &found, &fields, refused)
 }
 
-// With what is left of the budget, where the setting `left` asks for it.
+// With what is left of the budget.
+fn with_left(
+    alloc: Global,
+    case: &Case<'_>,
+    budget: &Budget,
+    outcome: Outcome,
+) -> Result<Outcome, Fault> {
+    outcome.with_left(left(alloc, case, budget, 0), 0)
+}
+
+// The same, where the setting `left` asks for it.
 fn with_budget(
     alloc: Global,
     case: &Case<'_>,
     budget: &Budget,
     outcome: Outcome,
 ) -> Result<Outcome, Fault> {
-    if !case.says("left", "told") {
-        return Ok(outcome);
+    if case.says("left", "told") {
+        with_left(alloc, case, budget, outcome)
+    } else {
+        Ok(outcome)
     }
-    outcome.with_left(left(alloc, case, budget, 0), 0)
 }
 
 /// The same in a context.
@@ -101,17 +122,12 @@ pub fn decode_one_ctx<By, V: Worded<By>, C: SingularCodec<Value = V>>(
     let mut budget = Budget::new(case.slots()?).with_element_memory(case.units()?);
     let depth = case.depth()?;
     let fields = records_of(alloc, case.before())?;
-    let Some(field) = fields.iter().next() else {
-        return Err(Fault::Form);
-    };
+    let payload = first_of(&fields)?;
     let ctx = DecodeContext::new(depth, &mut budget);
     mark.begin(alloc);
-    let found = C::decode_one_ctx(alloc, &field.payload, ctx);
+    let found = C::decode_one_ctx(alloc, payload, ctx);
     let refused = mark.end();
-    let words = words_of::<By, Option<V>>(alloc, &found);
-    let answer = got(alloc, found.is_ok());
-    let records = records_told(alloc, &fields);
-    let outcome = Outcome::of_words(alloc, answer, words, records, refused)?;
+    let outcome = found_told::<By, Option<V>>(alloc, &found, &fields, refused)?;
     with_budget(alloc, case, &budget, outcome)
 }
 

@@ -9,6 +9,16 @@ use conformance_rows::outcome::{Outcome, got, records_told};
 use conformance_rows::words::Worded;
 use std::alloc::{AllocError, Global};
 
+// Words, and behind them the number and the extendee of a descriptor.
+fn part_told<C: ExtensionCodec, D>(
+    alloc: Global,
+    words: &str,
+    ext: &Extension<C, D>,
+) -> Result<String, Fault> {
+    let space = if words.is_empty() { "" } else { " " };
+    Ok(format!(in alloc; "{words}{space}{} {}", ext.number(), ext.extendee())?)
+}
+
 // The number and the extendee of a descriptor, of its copy, and of one with a default.
 fn parts_told<C: ExtensionCodec, D>(
     alloc: Global,
@@ -16,15 +26,9 @@ fn parts_told<C: ExtensionCodec, D>(
     copy: &Extension<C>,
     declares: &Extension<C, D>,
 ) -> Result<String, Fault> {
-    Ok(format!(in alloc;
-        "{} {} {} {} {} {}",
-        first.number(),
-        first.extendee(),
-        copy.number(),
-        copy.extendee(),
-        declares.number(),
-        declares.extendee()
-    )?)
+    let first = part_told::<C, _>(alloc, "", first)?;
+    let both = part_told::<C, _>(alloc, first.as_str(), copy)?;
+    part_told::<C, _>(alloc, both.as_str(), declares)
 }
 
 /// What a descriptor gives back of what it was given.

@@ -75,10 +75,12 @@ fn set_number<By, V: Worded<By>, C: Numbered<Value = V>>(
     case: &Case<'_>,
     mark: &mut Mark,
 ) -> Result<Outcome, Fault> {
-    match case.setting("how") {
-        Some("all") => back::list::<By, V, Repeated<C>>(alloc, case, mark),
-        Some("packed") => back::list::<By, V, PackedRepeated<C>>(alloc, case, mark),
-        _ => back::one::<By, V, C>(alloc, case, mark),
+    if case.says("how", "all") {
+        back::list::<By, V, Repeated<C>>(alloc, case, mark)
+    } else if case.says("how", "packed") {
+        back::list::<By, V, PackedRepeated<C>>(alloc, case, mark)
+    } else {
+        back::one::<By, V, C>(alloc, case, mark)
     }
 }
 
@@ -91,9 +93,7 @@ pub fn packable<By, V: Worded<By>, C: Numbered<Value = V>>(
     match case.call {
         "pack" => codecs::pack::<By, V, C>(alloc, case, mark),
         "set-then-read" => set_number::<By, V, C>(alloc, case, mark),
-        _ if case.says("how", "packed") => {
-            list::<By, V, PackedRepeated<C>>(alloc, case, mark)
-        }
+        _ if case.says("how", "packed") => { list::<By, V, PackedRepeated<C>>(alloc, case, mark) }
         _ => plain::<By, V, C>(alloc, case, mark),
     }
 }

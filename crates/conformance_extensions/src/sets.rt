@@ -1,6 +1,6 @@
 // Calls on extensions of a carrier: a value or a list of them, read, set and cleared.
 
-use crate::told::{Told, asks_to_try, carrier_of, values_of, word_of, words_of};
+use crate::told::{Told, asks_to_try, carrier_of, found_told, values_of, word_of, words_of};
 use buffa_ext::{Extension, ExtensionCodec, ExtensionSet};
 use conformance_rows::case::Case;
 use conformance_rows::fault::Fault;
@@ -20,15 +20,7 @@ fn get<By, T: Told<By> + Drop, C: ExtensionCodec<Output = T>>(
     mark.begin(alloc);
     let found = carrier.extension(alloc, &ext);
     let refused = mark.end();
-    let words = words_of::<By, T>(alloc, &found);
-    let answer = got(alloc, found.is_ok());
-    Outcome::of_words(
-        alloc,
-        answer,
-        words,
-        records_told(alloc, &carrier.fields),
-        refused,
-    )
+    found_told::<By, T>(alloc, &found, &carrier.fields, refused)
 }
 
 // What is read of what was set.

@@ -11,13 +11,19 @@ use conformance_rows::outcome::{Outcome, got, records_told};
 use conformance_rows::words::records_of;
 use std::alloc::Global;
 
+// Puts what a record holds behind others.
+fn push_payload(payloads: &mut Vec<UnknownFieldData>, field: &UnknownField) -> Result<(), Fault> {
+    let UnknownField { number: _, payload } = field.copy()?;
+    payloads.push(payload)?;
+    Ok(())
+}
+
 // What records of any number hold.
 fn payloads_of(alloc: Global, digits: &str) -> Result<Vec<UnknownFieldData>, Fault> {
     let fields = records_of(alloc, digits)?;
     let mut payloads = Vec::new(alloc);
     for field in fields.iter() {
-        let UnknownField { number: _, payload } = field.copy()?;
-        payloads.push(payload)?;
+        push_payload(&mut payloads, field)?;
     }
     Ok(payloads)
 }

@@ -4,6 +4,7 @@ use buffa_options::Carrier;
 use buffa_wire::{EncodeError, UnknownFields};
 use conformance_rows::case::Case;
 use conformance_rows::fault::Fault;
+use conformance_rows::outcome::{Outcome, got, records_told};
 use conformance_rows::words::{Worded, records_of, records_word};
 use std::alloc::{AllocError, Global};
 
@@ -60,11 +61,33 @@ pub fn word_of<By, V: Worded<By>>(
     }
 }
 
+/// What comes of a value that was read of records, or not where memory ran out.
+pub fn found_told<By, T: Told<By>>(
+    alloc: Global,
+    found: &Result<T, AllocError>,
+    fields: &UnknownFields,
+    refused: bool,
+) -> Result<Outcome, Fault> {
+    let words = words_of::<By, T>(alloc, found);
+    let answer = got(alloc, found.is_ok());
+    Outcome::of_words(alloc, answer, words, records_told(alloc, fields), refused)
+}
+
+// Puts the value of a word behind others.
+fn push_value<By, V: Worded<By>>(
+    alloc: Global,
+    values: &mut Vec<V>,
+    word: &str,
+) -> Result<(), Fault> {
+    values.push(V::of_word(alloc, word)?)?;
+    Ok(())
+}
+
 /// The values of words.
 pub fn values_of<By, V: Worded<By>>(alloc: Global, words: &str) -> Result<Vec<V>, Fault> {
     let mut values = Vec::new(alloc);
     for word in words.split_ascii_whitespace() {
-        values.push(V::of_word(alloc, word)?)?;
+        push_value::<By, V>(alloc, &mut values, word)?;
     }
     Ok(values)
 }

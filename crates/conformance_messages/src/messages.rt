@@ -35,7 +35,22 @@ pub(crate) fn merged_told<By, M: Worded<By>>(
     Ok(String::new(alloc))
 }
 
-// Merges bytes: all of them, or one field; or all under budgets of their own, where the row says `how=alone`.
+// Merges all bytes; under budgets of their own, where the row says `how=alone`.
+fn all_merged<M: Message>(
+    alloc: Global,
+    case: &Case<'_>,
+    message: &mut M,
+    buf: &mut &[u8],
+    ctx: DecodeContext<'_>,
+) -> Result<(), DecodeError> {
+    if case.says("how", "alone") {
+        message.merge_from_slice(alloc, buf)
+    } else {
+        message.merge(alloc, buf, ctx)
+    }
+}
+
+// Merges bytes: all of them, or one field.
 fn merged<M: Message>(
     alloc: Global,
     case: &Case<'_>,
@@ -44,12 +59,10 @@ fn merged<M: Message>(
     ctx: DecodeContext<'_>,
 ) -> Result<(), DecodeError> {
     if case.call == "merge-field" {
-        return one_field::<M>(alloc, message, buf, ctx);
+        one_field::<M>(alloc, message, buf, ctx)
+    } else {
+        all_merged::<M>(alloc, case, message, buf, ctx)
     }
-    if case.says("how", "alone") {
-        return message.merge_from_slice(alloc, buf);
-    }
-    message.merge(alloc, buf, ctx)
 }
 
 // Bytes that are merged into a message, and what it is then.
@@ -81,10 +94,11 @@ fn merge<By, M: Message + Worded<By>>(
 
 // A text that was made, or none.
 fn made_told(alloc: Global, made: &Result<Vec<u8>, EncodeError>) -> Result<String, Fault> {
-    match made {
-        Ok(text) => text_told(alloc, text.as_slice()),
-        Err(_) => text_told(alloc, &[]),
-    }
+    let text = match made {
+        Ok(text) => text.as_slice(),
+        Err(_) => &[],
+    };
+    text_told(alloc, text)
 }
 
 // The text of a message, by both passes.

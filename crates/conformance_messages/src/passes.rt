@@ -118,6 +118,23 @@ where
     }
 }
 
+// Fills a map field into a map.
+fn fill_of<KC: MapCodec, M: Message, C: MapStorage<Key = KC::Value, Value = M>>(
+    alloc: Global,
+    number: u32,
+    slots: usize,
+    bytes: &[u8],
+    map: &mut C,
+) -> Result<(), Fault> {
+    let mut budget = Budget::new(slots);
+    let ctx = DecodeContext::new(RECURSION_LIMIT, &mut budget);
+    let mut rest = bytes;
+    match read_map_field::<KC, Msg<M>, C, _>(alloc, map, number, &mut rest, ctx, None) {
+        Ok(()) => Ok(()),
+        Err(_) => Err(Fault::Form),
+    }
+}
+
 // The map field that stands before, filled into a map.
 fn fill<KC: MapCodec, M: Message, C: MapStorage<Key = KC::Value, Value = M>>(
     alloc: Global,
@@ -125,14 +142,9 @@ fn fill<KC: MapCodec, M: Message, C: MapStorage<Key = KC::Value, Value = M>>(
     map: &mut C,
 ) -> Result<(), Fault> {
     let number = case.number()?;
-    let mut budget = Budget::new(case.slots()?);
-    let ctx = DecodeContext::new(RECURSION_LIMIT, &mut budget);
+    let slots = case.slots()?;
     let bytes = hex::decode(alloc, case.before())?;
-    let mut rest = bytes.as_slice();
-    match read_map_field::<KC, Msg<M>, C, _>(alloc, map, number, &mut rest, ctx, None) {
-        Ok(()) => Ok(()),
-        Err(_) => Err(Fault::Form),
-    }
+    fill_of::<KC, M, C>(alloc, number, slots, bytes.as_slice(), map)
 }
 
 // The length of a map of messages, and the slots of the cache, where the row tells them.
@@ -181,6 +193,28 @@ where
     Outcome::of_words(alloc, written(alloc, size), words, text, refused)
 }
 
+// What comes of a row on a map of messages in a `BTreeMap`.
+fn of_ordered<M: Message>(
+    alloc: Global,
+    case: &Case<'_>,
+    mark: &mut Mark,
+) -> Result<Outcome, Fault> {
+    let mut map: BTreeMap<i32, M> = BTreeMap::new(alloc);
+    fill::<Int32, M, _>(alloc, case, &mut map)?;
+    field::<Int32, M, _>(alloc, case, mark, &map)
+}
+
+// What comes of a row on a map of messages in a `Map`.
+fn of_indexed<M: Message>(
+    alloc: Global,
+    case: &Case<'_>,
+    mark: &mut Mark,
+) -> Result<Outcome, Fault> {
+    let mut map: Map<i32, M> = Map::new(alloc);
+    fill::<Int32, M, _>(alloc, case, &mut map)?;
+    field::<Int32, M, _>(alloc, case, mark, &map)
+}
+
 /// What comes of a row on a map of messages: in a `BTreeMap`, or in a `Map`.
 pub(crate) fn of_map<M: Message>(
     alloc: Global,
@@ -189,11 +223,8 @@ pub(crate) fn of_map<M: Message>(
     mark: &mut Mark,
 ) -> Result<Outcome, Fault> {
     if kind == Kind::Ordered {
-        let mut map: BTreeMap<i32, M> = BTreeMap::new(alloc);
-        fill::<Int32, M, _>(alloc, case, &mut map)?;
-        return field::<Int32, M, _>(alloc, case, mark, &map);
+        of_ordered::<M>(alloc, case, mark)
+    } else {
+        of_indexed::<M>(alloc, case, mark)
     }
-    let mut map: Map<i32, M> = Map::new(alloc);
-    fill::<Int32, M, _>(alloc, case, &mut map)?;
-    field::<Int32, M, _>(alloc, case, mark, &map)
 }

@@ -58,6 +58,14 @@ pub(crate) fn sized<M: Message>(message: &M, cache: &mut SizeCache) -> Result<u6
     }
 }
 
+// Words and the next slot's, with a space between them, but before the first.
+fn with_word(alloc: Global, words: &str, is_first: bool, size: u32) -> Result<String, Fault> {
+    if is_first {
+        return Ok(format!(in alloc; "{size}")?);
+    }
+    Ok(format!(in alloc; "{words} {size}")?)
+}
+
 // The slots of a cache in order, with a space between them.
 fn slots_word(alloc: Global, cache: &mut SizeCache) -> Result<String, Fault>
     requires { cache.old.next ≡ 0 }
@@ -69,8 +77,7 @@ fn slots_word(alloc: Global, cache: &mut SizeCache) -> Result<String, Fault>
     let mut words = String::new(alloc);
     for place in 0..count {
         let size = cache.consume_next();
-        let space = if place == 0 { "" } else { " " };
-        words = format!(in alloc; "{words}{space}{size}")?;
+        words = with_word(alloc, words.as_str(), place == 0, size)?;
     }
     Ok(words)
 }

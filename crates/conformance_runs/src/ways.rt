@@ -26,11 +26,16 @@ pub struct Run<'a> {
     pub errors: Stderr,
 }
 
+// Whether two texts are one.
+fn is_one(text: &str, other: &str) -> bool {
+    text == other
+}
+
 // Whether two outcomes are one, but for the pairs.
 fn is_alike(outcome: &Outcome, other: &Outcome) -> bool {
-    outcome.answer.as_str() == other.answer.as_str()
-        && outcome.rest.as_str() == other.rest.as_str()
-        && outcome.left.as_str() == other.left.as_str()
+    is_one(outcome.answer.as_str(), other.answer.as_str())
+        && is_one(outcome.rest.as_str(), other.rest.as_str())
+        && is_one(outcome.left.as_str(), other.left.as_str())
         && outcome.unread == other.unread
 }
 
@@ -69,6 +74,17 @@ impl Run<'_> {
         Ok(outcome.answer.as_str() == self.case.answer && found.as_str() == expected.as_str())
     }
 
+    // What comes of a slice that is read as a buffer.
+    fn read<C: Calls>(
+        &self,
+        alloc: Global,
+        bytes: &[u8],
+        mark: &mut Mark,
+    ) -> Result<Option<Outcome>, Fault> {
+        let mut buf = AnyBuf::Slice(bytes);
+        C::read(alloc, self.case, self.kind, mark, &mut buf)
+    }
+
     // What comes of a slice.
     fn slice<C: Calls>(
         &self,
@@ -79,8 +95,7 @@ impl Run<'_> {
         let mut mark = Mark::new(self.errors, nth);
         match group_of(self.case.call) {
             Group::Fields | Group::Items | Group::Values => {
-                let mut buf = AnyBuf::Slice(bytes);
-                C::read(alloc, self.case, self.kind, &mut mark, &mut buf)
+                self.read::<C>(alloc, bytes, &mut mark)
             }
             _ => C::called(alloc, self.case, self.kind, &mut mark, bytes),
         }
@@ -115,6 +130,17 @@ impl Run<'_> {
         }
     }
 
+    // What comes of single bytes.
+    fn singles<C: Calls>(
+        &self,
+        alloc: Global,
+        bytes: &[u8],
+        nth: Option<u64>,
+    ) -> Result<Option<Outcome>, Fault> {
+        let parts = single_bytes(alloc, bytes)?;
+        self.pieces::<C>(alloc, parts.as_slice(), nth)
+    }
+
     // Whether there is no outcome, or the row's.
     fn tell(
         &self,
@@ -142,6 +168,19 @@ impl Run<'_> {
         self.tell(alloc, shared, tally)
     }
 
+    // The row in two, with an empty slice before each.
+    fn in_two<C: Calls>(
+        &self,
+        alloc: Global,
+        front: &[u8],
+        back: &[u8],
+        tally: &mut Tally,
+    ) -> Result<(), Fault> {
+        let parts: [&[u8]; 4] = [&[], front, &[], back];
+        let found = self.pieces::<C>(alloc, &parts, None)?;
+        self.tell(alloc, found, tally)
+    }
+
     /// The row in one piece, and cut.
     pub fn whole_and_cut<C: Calls>(
         &self,
@@ -151,12 +190,9 @@ impl Run<'_> {
     ) -> Result<(), Fault> {
         self.whole::<C>(alloc, bytes, tally)?;
         for cut in 0..=bytes.len() {
-            let parts: [&[u8]; 4] = [&[], &bytes[..cut], &[], &bytes[cut..]];
-            let found = self.pieces::<C>(alloc, &parts, None)?;
-            self.tell(alloc, found, tally)?;
+            self.in_two::<C>(alloc, &bytes[..cut], &bytes[cut..], tally)?;
         }
-        let parts = single_bytes(alloc, bytes)?;
-        let found = self.pieces::<C>(alloc, parts.as_slice(), None)?;
+        let found = self.singles::<C>(alloc, bytes, None)?;
         self.tell(alloc, found, tally)
     }
 
@@ -168,15 +204,20 @@ impl Run<'_> {
         front.len() >= taken
     }
 
+    // What stands before the call beside a list.
+    fn start_of(&self, alloc: Global, list: &str) -> Result<String, Fault> {
+        let rest = format!(in alloc; "list {list}")?;
+        self.state(alloc, self.case.before(), rest.as_str())
+    }
+
     // What stands before the call, as it is told after a refusal.
     fn start(&self, alloc: Global) -> Result<String, Fault> {
-        match (self.case.call, self.case.setting("list")) {
-            ("rewrite", _) => self.state(alloc, self.case.before(), "text -"),
-            (_, Some(list)) => {
-                let rest = format!(in alloc; "list {list}")?;
-                self.state(alloc, self.case.before(), rest.as_str())
-            }
-            (_, None) => self.state(alloc, self.case.before(), ""),
+        if self.case.call == "rewrite" {
+            return self.state(alloc, self.case.before(), "text -");
+        }
+        match self.case.setting("list") {
+            Some(list) => self.start_of(alloc, list),
+            None => self.state(alloc, self.case.before(), ""),
         }
     }
 
@@ -208,8 +249,7 @@ impl Run<'_> {
         bytes: &[u8],
         outcome: &Outcome,
     ) -> Result<bool, Fault> {
-        let parts = single_bytes(alloc, bytes)?;
-        let Some(other) = self.pieces::<C>(alloc, parts.as_slice(), None)? else {
+        let Some(other) = self.singles::<C>(alloc, bytes, None)? else {
             return Ok(true);
         };
         let pairs = self.pairs(alloc, outcome.pairs.as_str())?;
@@ -311,8 +351,7 @@ impl Run<'_> {
         if !cut {
             return self.slice::<C>(alloc, bytes, Some(nth));
         }
-        let parts = single_bytes(alloc, bytes)?;
-        self.pieces::<C>(alloc, parts.as_slice(), Some(nth))
+        self.singles::<C>(alloc, bytes, Some(nth))
     }
 
     // How many requests the call may make.
@@ -349,6 +388,19 @@ impl Run<'_> {
         Ok(())
     }
 
+    // All requests refused of a row in two.
+    fn in_two_with_none<C: Calls>(
+        &self,
+        alloc: Global,
+        front: &[u8],
+        back: &[u8],
+        tally: &mut Tally,
+    ) -> Result<(), Fault> {
+        let parts: [&[u8]; 2] = [front, back];
+        let found = self.pieces::<C>(alloc, &parts, Some(0))?;
+        self.tell(alloc, found, tally)
+    }
+
     // All requests refused of a row that takes none: whole, and where cuts take none either in two and in single bytes.
     fn with_none<C: Calls>(
         &self,
@@ -365,9 +417,7 @@ impl Run<'_> {
         let single = self.by::<C>(alloc, bytes, true, 0)?;
         self.tell(alloc, single, tally)?;
         for cut in 0..=bytes.len() {
-            let parts: [&[u8]; 2] = [&bytes[..cut], &bytes[cut..]];
-            let found = self.pieces::<C>(alloc, &parts, Some(0))?;
-            self.tell(alloc, found, tally)?;
+            self.in_two_with_none::<C>(alloc, &bytes[..cut], &bytes[cut..], tally)?;
         }
         Ok(())
     }
