@@ -19,7 +19,7 @@ PUBLIC = ["buffa_bytes", "buffa_wire", *MAPS, "buffa_codec", "buffa_ext", "buffa
 INNER = {("buffa_map_read", "keep"), ("buffa_map_read", "read_run_by")}
 WORD = re.compile(r"[A-Za-z_][A-Za-z_0-9]*")
 HEAD = re.compile(r"(?:pub(?:\([a-z]+\))? )?(?:unsafe )?(trait|impl)\b([^{]*)\{?")
-CALL = re.compile(r"(pub )?(?:final |const )*fn ([a-z_0-9]+)")
+CALL = re.compile(r"(pub )?(?:pub\([a-z]+\) )?(?:final |const )*fn ([a-z_0-9]+)")
 CLAUSE = re.compile(r"(?:where )?(?:,\s*)?(requires|ensures)\*?(?: ([a-z_]+))? \{")
 
 
