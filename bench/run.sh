@@ -84,5 +84,5 @@ for n in "${sizes[@]}"; do
 done
 prost=$(awk '/^name = "prost"$/ {getline; gsub(/[^0-9.]/, ""); print}' rust/Cargo.lock)
 echo "$(date -u +%F), $(rt version | head -n 1); protobuf $(protoc --version | cut -d ' ' -f 2), prost $prost, $(rustc --version);"
-echo "least of $passes passes, and the median of their medians."
+echo "least of $passes passes, nanoseconds; requests for memory at the fewest entries."
 python3 "$bench/table.py" lines.tsv

@@ -1,52 +1,59 @@
 #!/usr/bin/env python3
-"""table.py FILE: the lines of all passes as tables: least, and median of the passes' medians, nanoseconds an entry."""
-import statistics
+"""table.py FILE: the lines of all passes as the tables of README.md: the least of them, nanoseconds an entry, and the requests
+for memory at the fewest entries."""
 import sys
 
-# (field, phase) to who to entries to the least and the medians of the passes
-tables, entries = {}, set()
+# field to (who to (phase, entries) to the numbers of the passes), and the phases in order; the same of the requests
+times, requests, phases, entries = {}, {}, {}, set()
 for line in open(sys.argv[1]):
     field, who, phase, n, *numbers = line.rstrip("\n").split("\t")
-    cell = tables.setdefault((field, phase), {}).setdefault(who, {}).setdefault(int(n), [[], []])
+    is_count = phase.startswith("allocations ")
+    phase = phase.removeprefix("allocations ")
     entries.add(int(n))
-    for held, number in zip(cell, numbers):
-        held.append(float(number))
+    cells = (requests if is_count else times).setdefault(field, {}).setdefault(who, {})
+    cells.setdefault((phase, int(n)), []).append(float(numbers[0]))
+    if phase not in phases.setdefault(field, []):
+        phases[field].append(phase)
 
-# What a table is of, and what is counted.
+# What a table is of.
 FIELDS = {
-    "strings": ("map<string, int32>", "an entry"),
-    "messages": ("map<int32, Msg>", "an entry"),
-    "tree1": ("trees one level deep", "a node"),
-    "tree5": ("trees five levels deep", "a node"),
-    "tree20": ("trees twenty levels deep", "a node"),
-    "records": ("unknown fields", "a record"),
-    "packed": ("packed int32 as an extension", "a value"),
-    "repeated": ("repeated int32 as an extension", "a value"),
-    "message_list": ("repeated messages as an extension", "a message"),
-    "one": ("one extension among so many unknown fields", "a call"),
-    "items": ("Items of a MessageSet", "an Item"),
+    "strings": "`map<string, int32>`",
+    "messages": "`map<int32, Msg>`",
+    "tree1": "trees 1 deep",
+    "tree5": "5 deep",
+    "tree20": "20 deep",
+    "records": "unknown fields",
+    "packed": "packed int32",
+    "repeated": "repeated int32",
+    "message_list": "repeated messages",
+    "one": "one among records",
+    "items": "Items",
 }
 
 
-def cell_text(cell):
-    least, medians = cell
-    if not least:
+def told(numbers, is_count=False):
+    """The least of numbers, with as many digits as tell."""
+    if not numbers:
         return ""
-    return f"{min(least):.1f} ({statistics.median(medians):.1f})" if medians else f"{min(least):.2f}"
+    least = min(numbers)
+    digits = 2 if is_count else 0 if least >= 20 else 1
+    return f"{least:,.{digits}f}"
 
 
-for field, (name, unit) in FIELDS.items():
-    for table, found in tables.items():
-        if table[0] != field:
-            continue
-        phase = table[1].removeprefix("allocations ")
-        if phase == table[1]:
-            print(f"\n{name}, {phase}, least (median), ns {unit}\n")
-        elif any(min(cell[0]) > 0 for cells in found.values() for cell in cells.values()):
-            print(f"\n{name}, requests for memory at {phase}, {unit}\n")
-        else:
-            continue
-        print("| | " + " | ".join(f"{n:,}" for n in sorted(entries)) + " |")
-        print("|---" * (len(entries) + 1) + "|")
-        for who, cells in found.items():
-            print(f"| {who} | " + " | ".join(cell_text(cells.get(n, ([], []))) for n in sorted(entries)) + " |")
+few = min(entries)
+for field, name in FIELDS.items():
+    if field not in times:
+        continue
+    counted = [
+        phase
+        for phase in phases[field]
+        if any(min(cells.get((phase, few), [0])) > 0 for cells in requests.get(field, {}).values())
+    ]
+    columns = [(phase, n) for phase in phases[field] for n in sorted(entries)]
+    heads = [f"{phase} {n:,}" if n == few else f"{n:,}" for phase, n in columns]
+    print(f"\n| {name} | " + " | ".join(heads + [f"requests at {phase}" for phase in counted]) + " |")
+    print("|---" * (len(heads) + len(counted) + 1) + "|")
+    for who, cells in times[field].items():
+        row = [told(cells.get(column, [])) for column in columns]
+        row += [told(requests.get(field, {}).get(who, {}).get((phase, few), []), True) for phase in counted]
+        print(f"| {who} | " + " | ".join(row) + " |")
