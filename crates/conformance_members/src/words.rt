@@ -1,19 +1,15 @@
 // Messages from their fields as words; no message is read of a word.
 
 use crate::Members;
-use crate::parts::{Parted, Parts, parts_of};
 use buffa_inventory::assorted::Assorted;
 use buffa_inventory::depot::Depot;
-use buffa_inventory::explicit::Explicit;
-use buffa_inventory::implicit::Implicit;
 use buffa_inventory::inventory::Inventory;
-use buffa_inventory::joined::Joined;
 use buffa_inventory::order::Order;
 use buffa_inventory::parcel::Parcel;
-use buffa_inventory::separate::Separate;
 use buffa_inventory::state::State;
 use buffa_inventory::store::Store;
 use buffa_wire::EnumValue;
+use conformance_messages::{Parted, Parts, parts_of};
 use conformance_rows::fault::Fault;
 use conformance_rows::words::Worded;
 use std::alloc::Global;
@@ -32,8 +28,8 @@ impl Worded<Members> for EnumValue<State> {
     }
 }
 
-impl Parted for Assorted {
-    fn parts(&self, parts: &mut Parts) -> Result<(), Fault> {
+impl Parted<Members> for Assorted {
+    fn parts(&self, parts: &mut Parts<Members>) -> Result<(), Fault> {
         parts.maybe(1, &self.data)?;
         parts.maybe(2, &self.state)?;
         parts.list(3, self.parts.as_slice())?;
@@ -48,7 +44,7 @@ impl Parted for Assorted {
 
 impl Worded<Members> for Assorted {
     fn word(&self, alloc: Global) -> Result<String, Fault> {
-        parts_of(alloc, self)?.word()
+        parts_of::<Members, _>(alloc, self)?.word()
     }
 
     fn of_word(_alloc: Global, _word: &str) -> Result<Assorted, Fault> {
@@ -56,8 +52,8 @@ impl Worded<Members> for Assorted {
     }
 }
 
-impl Parted for Depot {
-    fn parts(&self, parts: &mut Parts) -> Result<(), Fault> {
+impl Parted<Members> for Depot {
+    fn parts(&self, parts: &mut Parts<Members>) -> Result<(), Fault> {
         parts.value(1, &self.city)?;
         parts.list(2, self.parcels.as_slice())
     }
@@ -65,7 +61,7 @@ impl Parted for Depot {
 
 impl Worded<Members> for Depot {
     fn word(&self, alloc: Global) -> Result<String, Fault> {
-        parts_of(alloc, self)?.word()
+        parts_of::<Members, _>(alloc, self)?.word()
     }
 
     fn of_word(_alloc: Global, _word: &str) -> Result<Depot, Fault> {
@@ -73,61 +69,8 @@ impl Worded<Members> for Depot {
     }
 }
 
-impl Parted for Explicit {
-    fn parts(&self, parts: &mut Parts) -> Result<(), Fault> {
-        parts.maybe(1, &self.int32)?;
-        parts.maybe(2, &self.int64)?;
-        parts.maybe(3, &self.uint32)?;
-        parts.maybe(4, &self.uint64)?;
-        parts.maybe(5, &self.sint32)?;
-        parts.maybe(6, &self.sint64)?;
-        parts.maybe(7, &self.truth)?;
-        parts.maybe(8, &self.fixed32)?;
-        parts.maybe(15, &self.fixed64)?;
-        parts.maybe(16, &self.sfixed32)?;
-        parts.maybe(536870911, &self.sfixed64)?;
-        parts.kept(&self.rest)
-    }
-}
-
-impl Worded<Members> for Explicit {
-    fn word(&self, alloc: Global) -> Result<String, Fault> {
-        parts_of(alloc, self)?.word()
-    }
-
-    fn of_word(_alloc: Global, _word: &str) -> Result<Explicit, Fault> {
-        Err(Fault::Form)
-    }
-}
-
-impl Parted for Implicit {
-    fn parts(&self, parts: &mut Parts) -> Result<(), Fault> {
-        parts.value(1, &self.int32)?;
-        parts.value(2, &self.int64)?;
-        parts.value(3, &self.uint32)?;
-        parts.value(4, &self.uint64)?;
-        parts.value(5, &self.sint32)?;
-        parts.value(6, &self.sint64)?;
-        parts.value(7, &self.truth)?;
-        parts.value(8, &self.fixed32)?;
-        parts.value(9, &self.fixed64)?;
-        parts.value(10, &self.sfixed32)?;
-        parts.value(11, &self.sfixed64)
-    }
-}
-
-impl Worded<Members> for Implicit {
-    fn word(&self, alloc: Global) -> Result<String, Fault> {
-        parts_of(alloc, self)?.word()
-    }
-
-    fn of_word(_alloc: Global, _word: &str) -> Result<Implicit, Fault> {
-        Err(Fault::Form)
-    }
-}
-
-impl Parted for Inventory {
-    fn parts(&self, parts: &mut Parts) -> Result<(), Fault> {
+impl Parted<Members> for Inventory {
+    fn parts(&self, parts: &mut Parts<Members>) -> Result<(), Fault> {
         parts.value(1, &self.total)?;
         parts.value(2, &self.note)?;
         parts.maybe(3, &self.listed)?;
@@ -138,7 +81,7 @@ impl Parted for Inventory {
 
 impl Worded<Members> for Inventory {
     fn word(&self, alloc: Global) -> Result<String, Fault> {
-        parts_of(alloc, self)?.word()
+        parts_of::<Members, _>(alloc, self)?.word()
     }
 
     fn of_word(_alloc: Global, _word: &str) -> Result<Inventory, Fault> {
@@ -146,35 +89,8 @@ impl Worded<Members> for Inventory {
     }
 }
 
-impl Parted for Joined {
-    fn parts(&self, parts: &mut Parts) -> Result<(), Fault> {
-        parts.list(1, self.int32.as_slice())?;
-        parts.list(2, self.int64.as_slice())?;
-        parts.list(3, self.uint32.as_slice())?;
-        parts.list(4, self.uint64.as_slice())?;
-        parts.list(5, self.sint32.as_slice())?;
-        parts.list(6, self.sint64.as_slice())?;
-        parts.list(7, self.truth.as_slice())?;
-        parts.list(15, self.fixed32.as_slice())?;
-        parts.list(16, self.fixed64.as_slice())?;
-        parts.list(2047, self.sfixed32.as_slice())?;
-        parts.list(2048, self.sfixed64.as_slice())?;
-        parts.kept(&self.rest)
-    }
-}
-
-impl Worded<Members> for Joined {
-    fn word(&self, alloc: Global) -> Result<String, Fault> {
-        parts_of(alloc, self)?.word()
-    }
-
-    fn of_word(_alloc: Global, _word: &str) -> Result<Joined, Fault> {
-        Err(Fault::Form)
-    }
-}
-
-impl Parted for Order {
-    fn parts(&self, parts: &mut Parts) -> Result<(), Fault> {
+impl Parted<Members> for Order {
+    fn parts(&self, parts: &mut Parts<Members>) -> Result<(), Fault> {
         parts.value(1, &self.id)?;
         parts.value(2, &self.note)?;
         parts.maybe(3, &self.gift)?;
@@ -192,7 +108,7 @@ impl Parted for Order {
 
 impl Worded<Members> for Order {
     fn word(&self, alloc: Global) -> Result<String, Fault> {
-        parts_of(alloc, self)?.word()
+        parts_of::<Members, _>(alloc, self)?.word()
     }
 
     fn of_word(_alloc: Global, _word: &str) -> Result<Order, Fault> {
@@ -200,8 +116,8 @@ impl Worded<Members> for Order {
     }
 }
 
-impl Parted for Parcel {
-    fn parts(&self, parts: &mut Parts) -> Result<(), Fault> {
+impl Parted<Members> for Parcel {
+    fn parts(&self, parts: &mut Parts<Members>) -> Result<(), Fault> {
         parts.value(1, &self.id)?;
         parts.maybe(2, &self.stock)
     }
@@ -209,7 +125,7 @@ impl Parted for Parcel {
 
 impl Worded<Members> for Parcel {
     fn word(&self, alloc: Global) -> Result<String, Fault> {
-        parts_of(alloc, self)?.word()
+        parts_of::<Members, _>(alloc, self)?.word()
     }
 
     fn of_word(_alloc: Global, _word: &str) -> Result<Parcel, Fault> {
@@ -217,34 +133,8 @@ impl Worded<Members> for Parcel {
     }
 }
 
-impl Parted for Separate {
-    fn parts(&self, parts: &mut Parts) -> Result<(), Fault> {
-        parts.list(1, self.int32.as_slice())?;
-        parts.list(2, self.int64.as_slice())?;
-        parts.list(3, self.uint32.as_slice())?;
-        parts.list(4, self.uint64.as_slice())?;
-        parts.list(5, self.sint32.as_slice())?;
-        parts.list(6, self.sint64.as_slice())?;
-        parts.list(7, self.truth.as_slice())?;
-        parts.list(8, self.fixed32.as_slice())?;
-        parts.list(9, self.fixed64.as_slice())?;
-        parts.list(10, self.sfixed32.as_slice())?;
-        parts.list(11, self.sfixed64.as_slice())
-    }
-}
-
-impl Worded<Members> for Separate {
-    fn word(&self, alloc: Global) -> Result<String, Fault> {
-        parts_of(alloc, self)?.word()
-    }
-
-    fn of_word(_alloc: Global, _word: &str) -> Result<Separate, Fault> {
-        Err(Fault::Form)
-    }
-}
-
-impl Parted for Store {
-    fn parts(&self, parts: &mut Parts) -> Result<(), Fault> {
+impl Parted<Members> for Store {
+    fn parts(&self, parts: &mut Parts<Members>) -> Result<(), Fault> {
         parts.value(1, &self.name)?;
         parts.map(2, &self.shelves)
     }
@@ -252,7 +142,7 @@ impl Parted for Store {
 
 impl Worded<Members> for Store {
     fn word(&self, alloc: Global) -> Result<String, Fault> {
-        parts_of(alloc, self)?.word()
+        parts_of::<Members, _>(alloc, self)?.word()
     }
 
     fn of_word(_alloc: Global, _word: &str) -> Result<Store, Fault> {

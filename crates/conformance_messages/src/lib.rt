@@ -2,9 +2,13 @@
 #![tactic(auto)]
 
 mod inside;
+mod merges;
 mod messages;
+mod parts;
 mod passes;
 mod slots;
 
 pub use inside::delimited;
+pub use merges::parted;
 pub use messages::message;
+pub use parts::{Parted, Parts, parts_of};

@@ -1,6 +1,7 @@
 // Runs the rows of tables on messages from their fields.
 #![tactic(auto)]
 
+use conformance_kinds::{is_kind, on_kinds};
 use conformance_members::on_members;
 use conformance_rows::any_buf::AnyBuf;
 use conformance_rows::calls::{Group, Kind, group_of};
@@ -34,6 +35,9 @@ impl Calls for Members {
         bytes: &[u8],
     ) -> Result<Option<Outcome>, Fault> {
         match group_of(case.call) {
+            Group::Messages if is_kind(case.types) => {
+                Ok(Some(on_kinds(alloc, case, kind, mark, bytes)?))
+            }
             Group::Messages => Ok(Some(on_members(alloc, case, kind, mark, bytes)?)),
             _ => Ok(None),
         }

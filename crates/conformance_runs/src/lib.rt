@@ -95,6 +95,39 @@ fn is_refusing(rt: &HostRuntime) -> bool {
     }
 }
 
+// Runs a row, adds its runs to those of all, and tells whether it holds.
+fn holds<C: Calls>(
+    rt: &HostRuntime,
+    row: &str,
+    refusing: bool,
+    all: &mut Tally,
+) -> io::Result<bool> {
+    let tally = run_line::<C>(rt.alloc(), row, rt.stderr(), refusing);
+    *all = all.and(tally);
+    if tally.wrong == 0 && tally.runs > 0 {
+        return Ok(true);
+    }
+    println!(rt; "{} of {} runs are wrong: {row}", tally.wrong, tally.runs)?;
+    Ok(false)
+}
+
+// Tells how many rows held, and where memory is refused how often it was.
+fn tell_all(
+    rt: &HostRuntime,
+    refusing: bool,
+    all: Tally,
+    held: u64,
+    failed: u64,
+) -> io::Result<()> {
+    if refusing {
+        println!(rt;
+            "{} runs, {} requests for memory refused",
+            all.runs, all.refused
+        )?;
+    }
+    println!(rt; "{held} held, {failed} did not")
+}
+
 // Runs the rows of standard input.
 fn run_all<C: Calls>(rt: &HostRuntime) -> io::Result<bool> {
     let alloc = rt.alloc();
@@ -108,22 +141,13 @@ fn run_all<C: Calls>(rt: &HostRuntime) -> io::Result<bool> {
         if row.is_empty() || row.starts_with('#') {
             continue;
         }
-        let tally = run_line::<C>(alloc, row, rt.stderr(), refusing);
-        if tally.wrong == 0 && tally.runs > 0 {
+        if holds::<C>(rt, row, refusing, &mut all)? {
             held = held.saturating_add(1);
         } else {
             failed = failed.saturating_add(1);
-            println!(rt; "{} of {} runs are wrong: {row}", tally.wrong, tally.runs)?;
         }
-        all = all.and(tally);
     }
-    if refusing {
-        println!(rt;
-            "{} runs, {} requests for memory refused",
-            all.runs, all.refused
-        )?;
-    }
-    println!(rt; "{held} held, {failed} did not")?;
+    tell_all(rt, refusing, all, held, failed)?;
     Ok(failed == 0)
 }
 

@@ -257,35 +257,48 @@ impl Run<'_> {
         Ok(pairs.as_str() == others.as_str() && is_alike(outcome, &other))
     }
 
-    /// Each beginning of a row that is accepted: whole, or cut off, and then what its whole records make stands. In
-    /// single bytes it has the same outcome.
+    // One beginning, and what stands after it: of its whole records, where it is cut off of those before it. In single
+    // bytes it has the same outcome.
+    fn beginning<C: Calls>(
+        &self,
+        alloc: Global,
+        front: &[u8],
+        is_whole: bool,
+        standing: String,
+        tally: &mut Tally,
+    ) -> Result<String, Fault> {
+        let Some(outcome) = self.slice::<C>(alloc, front, None)? else {
+            return Ok(standing);
+        };
+        let found = self.standing(alloc, &outcome)?;
+        tally.add(self.is_alike::<C>(alloc, front, &outcome)?);
+        if is_whole {
+            tally.add(outcome.answer.as_str() == "ok");
+            return Ok(found);
+        }
+        tally.add(self.is_cut_off(&outcome, found.as_str(), standing.as_str()));
+        Ok(standing)
+    }
+
+    /// Each beginning of a row that is accepted: whole, or cut off, and then what its whole records make stands.
     pub fn beginnings<C: Calls>(
         &self,
         alloc: Global,
         bytes: &[u8],
         tally: &mut Tally,
     ) -> Result<(), Fault> {
-        let Some(all) = self.slice::<C>(alloc, bytes, None)? else {
-            return Ok(());
-        };
         if !reads_bytes(self.case.call) {
             return Ok(());
         }
+        let Some(all) = self.slice::<C>(alloc, bytes, None)? else {
+            return Ok(());
+        };
         let taken = bytes.len().saturating_sub(all.unread);
         let mut standing = self.start(alloc)?;
         for cut in 0..bytes.len() {
             let front = &bytes[..cut];
-            let Some(outcome) = self.slice::<C>(alloc, front, None)? else {
-                return Ok(());
-            };
-            let found = self.standing(alloc, &outcome)?;
-            tally.add(self.is_alike::<C>(alloc, front, &outcome)?);
-            if self.is_whole(alloc, front, taken) {
-                tally.add(outcome.answer.as_str() == "ok");
-                standing = found;
-            } else {
-                tally.add(self.is_cut_off(&outcome, found.as_str(), standing.as_str()));
-            }
+            let is_whole = self.is_whole(alloc, front, taken);
+            standing = self.beginning::<C>(alloc, front, is_whole, standing, tally)?;
         }
         Ok(())
     }

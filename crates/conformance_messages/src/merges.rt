@@ -1,24 +1,15 @@
 // Bytes that are merged into a message, and what stands where they are refused.
 
-use crate::Members;
+use crate::messages::{message, standing};
 use crate::parts::{Parted, Parts, parts_of};
 use buffa_wire::{Budget, Buf, DecodeContext, DecodeError, Message, RECURSION_LIMIT, Tag};
+use conformance_rows::calls::Kind;
 use conformance_rows::case::Case;
 use conformance_rows::fault::Fault;
 use conformance_rows::mark::Mark;
 use conformance_rows::outcome::{Outcome, left, told};
 use conformance_rows::words::Worded;
 use std::alloc::Global;
-
-// The message that the bytes before are read as.
-fn standing<M: Message>(alloc: Global, case: &Case<'_>) -> Result<M, Fault> {
-    let bytes = hex::decode(alloc, case.before())?;
-    let mut message = M::blank(alloc);
-    match message.merge_from_slice(alloc, bytes.as_slice()) {
-        Ok(()) => Ok(message),
-        Err(_) => Err(Fault::Form),
-    }
-}
 
 // Merges one field, tag and all.
 fn field<M: Message>(
@@ -72,11 +63,11 @@ fn next_number(bytes: &[u8]) -> u32 {
 
 // Whether what stands after a refusal is what the fields before the refused one make of the message before, but for the
 // member of the refused one; where memory ran out any of the fields may be the refused one.
-fn stands<M: Message + Parted>(
+fn stands<By, M: Message + Parted<By>>(
     alloc: Global,
     case: &Case<'_>,
     bytes: &[u8],
-    found: &Parts,
+    found: &Parts<By>,
     full: bool,
 ) -> Result<bool, Fault> {
     let mut message = standing::<M>(alloc, case)?;
@@ -84,7 +75,7 @@ fn stands<M: Message + Parted>(
     let mut rest = bytes;
     let mut seen = false;
     for _ in 0..=bytes.len() {
-        let parts = parts_of::<M>(alloc, &message)?;
+        let parts = parts_of::<By, M>(alloc, &message)?;
         seen = found.is_same_but(&parts, next_number(rest)) || (full && seen);
         let ctx = DecodeContext::new(levels(case)?, &mut budget);
         if field::<M>(alloc, &mut message, &mut rest, ctx).is_err() {
@@ -99,7 +90,7 @@ fn stands<M: Message + Parted>(
 
 // What stands in words; after a refusal, when the refused field's member is some value of its type, only where the row
 // says `state=told`. It is no outcome where other fields stand than may.
-fn state<M: Message + Parted + Worded<Members>>(
+fn state<By, M: Message + Parted<By> + Worded<By>>(
     alloc: Global,
     case: &Case<'_>,
     bytes: &[u8],
@@ -109,8 +100,8 @@ fn state<M: Message + Parted + Worded<Members>>(
     let Err(fault) = answer else {
         return message.word(alloc);
     };
-    let found = parts_of::<M>(alloc, message)?;
-    if !stands::<M>(
+    let found = parts_of::<By, M>(alloc, message)?;
+    if !stands::<By, M>(
         alloc,
         case,
         bytes,
@@ -125,8 +116,8 @@ fn state<M: Message + Parted + Worded<Members>>(
     Ok(String::new(alloc))
 }
 
-/// What comes of bytes that are merged, all of them or one field.
-pub(crate) fn merge<M: Message + Parted + Worded<Members>>(
+// What comes of bytes that are merged, all of them or one field.
+fn merge<By, M: Message + Parted<By> + Worded<By>>(
     alloc: Global,
     case: &Case<'_>,
     mark: &mut Mark,
@@ -139,10 +130,24 @@ pub(crate) fn merge<M: Message + Parted + Worded<Members>>(
     let answer = merged::<M>(alloc, case, &mut message, bytes, ctx);
     let refused = mark.end();
     let unread = answer.unwrap_or(0);
-    let word = state::<M>(alloc, case, bytes, answer, &message);
+    let word = state::<By, M>(alloc, case, bytes, answer, &message);
     let none = Ok(String::new(alloc));
     Outcome::of_words(alloc, told(alloc, answer), word, none, refused)?.with_left(
         left(alloc, case, &budget, unread),
         unread,
     )
+}
+
+/// What comes of a row on a message whose members are told as words.
+pub fn parted<By, M: Message + Parted<By> + Worded<By>>(
+    alloc: Global,
+    case: &Case<'_>,
+    kind: Kind,
+    mark: &mut Mark,
+    bytes: &[u8],
+) -> Result<Outcome, Fault> {
+    match case.call {
+        "merge" | "merge-field" => merge::<By, M>(alloc, case, mark, bytes),
+        _ => message::<By, M>(alloc, case, kind, mark, bytes),
+    }
 }

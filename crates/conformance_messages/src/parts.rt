@@ -1,34 +1,36 @@
 // The members of a message as words.
 
-use crate::Members;
 use buffa_map::map_codec::{Map, MapWalk};
 use buffa_wire::{MapKey, UnknownFields};
 use conformance_rows::fault::Fault;
 use conformance_rows::words::{Worded, records_word};
 use std::alloc::Global;
 use std::hash::Hash;
+use std::marker::PhantomData;
 
 // A member's number, and its word; what is kept has the number 0.
 type Part = (u32, String);
 
 /// The members of a message as words, in order.
 #[derive(Drop)]
-pub(crate) struct Parts {
+pub struct Parts<By> {
     alloc: Global,
     all: Vec<Part>,
+    by: PhantomData<By>,
 }
 
 /// A message whose members are told as words.
-pub(crate) trait Parted {
+pub trait Parted<By> {
     /// Puts the word of each member behind the others.
-    fn parts(&self, parts: &mut Parts) -> Result<(), Fault>;
+    fn parts(&self, parts: &mut Parts<By>) -> Result<(), Fault>;
 }
 
 /// The words of a message's members.
-pub(crate) fn parts_of<M: Parted>(alloc: Global, message: &M) -> Result<Parts, Fault> {
+pub fn parts_of<By, M: Parted<By>>(alloc: Global, message: &M) -> Result<Parts<By>, Fault> {
     let mut parts = Parts {
         alloc,
         all: Vec::new(alloc),
+        by: PhantomData,
     };
     message.parts(&mut parts)?;
     Ok(parts)
@@ -41,7 +43,7 @@ fn with_word(alloc: Global, words: &str, mark: &str, word: &str) -> Result<Strin
 }
 
 // The word of a pair.
-fn pair_word<K: Worded<Members>, V: Worded<Members>>(
+fn pair_word<By, K: Worded<By>, V: Worded<By>>(
     alloc: Global,
     key: &K,
     value: &V,
@@ -52,19 +54,19 @@ fn pair_word<K: Worded<Members>, V: Worded<Members>>(
 }
 
 // The words of the pairs of a map, in the order of these.
-fn pair_words<K: MapKey + Hash + Worded<Members>, V: Worded<Members>>(
+fn pair_words<By, K: MapKey + Hash + Worded<By>, V: Worded<By>>(
     alloc: Global,
     map: &Map<K, V>,
 ) -> Result<Vec<String>, Fault> {
     let mut pairs = Vec::new(alloc);
     for (key, value) in map.storage_iter() {
-        pairs.push(pair_word::<K, V>(alloc, key, value)?)?;
+        pairs.push(pair_word::<By, K, V>(alloc, key, value)?)?;
     }
     pairs.sort()?;
     Ok(pairs)
 }
 
-impl Parts {
+impl<By> Parts<By> {
     // One more.
     fn push(&mut self, number: u32, word: String) -> Result<(), Fault> {
         self.all.push((number, word))?;
@@ -72,21 +74,13 @@ impl Parts {
     }
 
     /// A value.
-    pub(crate) fn value<V: Worded<Members>>(
-        &mut self,
-        number: u32,
-        value: &V,
-    ) -> Result<(), Fault> {
+    pub fn value<V: Worded<By>>(&mut self, number: u32, value: &V) -> Result<(), Fault> {
         let word = value.word(self.alloc)?;
         self.push(number, word)
     }
 
     /// A value, or `none`.
-    pub(crate) fn maybe<V: Worded<Members>>(
-        &mut self,
-        number: u32,
-        value: &Option<V>,
-    ) -> Result<(), Fault> {
+    pub fn maybe<V: Worded<By>>(&mut self, number: u32, value: &Option<V>) -> Result<(), Fault> {
         match value {
             Some(value) => self.value::<V>(number, value),
             None => {
@@ -97,11 +91,7 @@ impl Parts {
     }
 
     /// Values between square brackets.
-    pub(crate) fn list<V: Worded<Members>>(
-        &mut self,
-        number: u32,
-        values: &[V],
-    ) -> Result<(), Fault> {
+    pub fn list<V: Worded<By>>(&mut self, number: u32, values: &[V]) -> Result<(), Fault> {
         let alloc = self.alloc;
         let mut words = String::new(alloc);
         for value in values {
@@ -112,13 +102,13 @@ impl Parts {
     }
 
     /// The pairs of a map between braces, in the order of their words.
-    pub(crate) fn map<K: MapKey + Hash + Worded<Members>, V: Worded<Members>>(
+    pub fn map<K: MapKey + Hash + Worded<By>, V: Worded<By>>(
         &mut self,
         number: u32,
         map: &Map<K, V>,
     ) -> Result<(), Fault> {
         let alloc = self.alloc;
-        let pairs = pair_words::<K, V>(alloc, map)?;
+        let pairs = pair_words::<By, K, V>(alloc, map)?;
         let mut words = String::new(alloc);
         for pair in pairs.iter() {
             words = with_word(alloc, words.as_str(), ",", pair.as_str())?;
@@ -127,13 +117,13 @@ impl Parts {
     }
 
     /// What is kept, in hexadecimal.
-    pub(crate) fn kept(&mut self, fields: &UnknownFields) -> Result<(), Fault> {
+    pub fn kept(&mut self, fields: &UnknownFields) -> Result<(), Fault> {
         let word = records_word(self.alloc, fields)?;
         self.push(0, word)
     }
 
     /// The word of the message: those of its members between parentheses.
-    pub(crate) fn word(&self) -> Result<String, Fault> {
+    pub fn word(&self) -> Result<String, Fault> {
         let alloc = self.alloc;
         let mut words = String::new(alloc);
         for (at, part) in self.all.iter().enumerate() {
@@ -144,7 +134,7 @@ impl Parts {
     }
 
     /// Whether the members are the same, but for that of a number.
-    pub(crate) fn is_same_but(&self, other: &Parts, number: u32) -> bool {
+    pub fn is_same_but(&self, other: &Parts<By>, number: u32) -> bool {
         let mut others = other.all.iter();
         for part in self.all.iter() {
             let Some(another) = others.next() else {

@@ -1,0 +1,44 @@
+//! Rows on messages of all scalars, of which it is judged what stands after a refusal too.
+#![tactic(auto)]
+
+mod words;
+
+use buffa_kinds::explicit::Explicit;
+use buffa_kinds::implicit::Implicit;
+use buffa_kinds::joined::Joined;
+use buffa_kinds::separate::Separate;
+use conformance_messages::parted;
+use conformance_rows::calls::Kind;
+use conformance_rows::case::Case;
+use conformance_rows::fault::Fault;
+use conformance_rows::mark::Mark;
+use conformance_rows::outcome::Outcome;
+use std::alloc::Global;
+
+/// The words of messages of all scalars.
+pub struct Kinds;
+
+/// Whether a type is a message of all scalars.
+pub fn is_kind(types: &str) -> bool {
+    match types {
+        "explicit" | "implicit" | "joined" | "separate" => true,
+        _ => false,
+    }
+}
+
+/// What comes of a row on a message of all scalars, or on a map of them.
+pub fn on_kinds(
+    alloc: Global,
+    case: &Case<'_>,
+    kind: Kind,
+    mark: &mut Mark,
+    bytes: &[u8],
+) -> Result<Outcome, Fault> {
+    match case.types {
+        "explicit" => parted::<Kinds, Explicit>(alloc, case, kind, mark, bytes),
+        "implicit" => parted::<Kinds, Implicit>(alloc, case, kind, mark, bytes),
+        "joined" => parted::<Kinds, Joined>(alloc, case, kind, mark, bytes),
+        "separate" => parted::<Kinds, Separate>(alloc, case, kind, mark, bytes),
+        _ => Err(Fault::Form),
+    }
+}
