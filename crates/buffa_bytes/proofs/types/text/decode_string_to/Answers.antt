@@ -3,7 +3,6 @@ use Rattle.buffa_bytes.proofs.TextLemmas.{string_in_place, whole_in_place, lengt
 use Rattle.buffa_bytes.proofs.LeftLemmas.{left_no_length, left_passed, left_refused, left_taken}
 use Rattle.buffa_bytes.proofs.TailLemmas.{tail_more}
 use Rattle.std.proofs.Common.{◌∙◌}
-use Rattle.buffa_bytes.proofs.TailLemmas.{tail_more}
 use Rattle.buffa_bytes.proofs.types.text.decode_string_to.Goals as goal
 
 pub returns-in_err-len-clause-full : goal.returns-in_err-len-clause-full
@@ -36,9 +35,6 @@ returns-in_err-bytes-clause-left g c =
 pub returns-clause-left : goal.returns-clause-left
 returns-clause-left g c =
     left_taken c.from_wire.result _ (g.B.Buf.unread c.args.buf.now) _ _ _ c.in_ok-len.ensures.reads c.in_ok-bytes.ensures.reads
-
-pub returns-in_err-bytes-clause-tail : goal.returns-in_err-bytes-clause-tail
-returns-in_err-bytes-clause-tail g c = tail_more _ _ _ c.in_err-bytes.ensures.tail c.in_ok-len.ensures.tail
 
 pub returns-in-Some-clause-free : goal.returns-in-Some-clause-free
 returns-in-Some-clause-free g c = λ rest is. c.from_wire-read.ensures.free (none_in_place _ _ _ _ rest c.in_ok-len.ensures.reads c.in-Some.ensures is)
