@@ -1,8 +1,8 @@
-use Rattle.std.proofs.Common.{ap, arith, ◌∙◌, sym}
+use Rattle.std.proofs.Common.{ap, arith, ◌∙◌, refl, sym}
 use Rattle.std.proofs.lemmas.Result.{err_from_is_err_and}
 use Rattle.buffa_bytes.proofs.FieldLemmas.{tag_falls, skip_falls, group_limit, group_tag_err, group_end, group_other, group_skip_err, group_next}
 use Rattle.buffa_bytes.proofs.LeftLemmas.{end_stays, fixed32_stays, fixed64_stays, left_behind_length, left_bytes, left_of_fixed, left_of_length, left_of_text, left_of_varint}
-use Rattle.buffa_bytes.proofs.TailLemmas.{tail_more}
+use Rattle.buffa_bytes.proofs.TailLemmas.{tail_more, tail_whole}
 use Rattle.buffa_bytes.specs.Left.{past_no_payload}
 use Rattle.buffa_bytes.specs.declared.wire_type.WireType.TheVariants.{Fixed32, Fixed64}
 use Rattle.buffa_bytes.proofs.skip.+skip.Goals as goal
@@ -72,3 +72,87 @@ pub skip_field_depth-returns-in-Fixed32-clause-left : goal.skip_field_depth-retu
 skip_field_depth-returns-in-Fixed32-clause-left g t c = λ _.
     let r = c.skip_bytes-in-Fixed32.result in
     left_of_fixed r c.args.tag.wire_type Fixed32 (g.B.Buf.unread c.args.buf.now) _ (sym c.in-Fixed32.ensures) (fixed32_stays _) (left_bytes r 4 _ _ c.skip_bytes-in-Fixed32.ensures.reads c.skip_bytes-in-Fixed32.ensures.short)
+
+pub skip_field_depth-returns-in_err-decode_varint-in-Varint-clause-kept : goal.skip_field_depth-returns-in_err-decode_varint-in-Varint-clause-kept
+skip_field_depth-returns-in_err-decode_varint-in-Varint-clause-kept g t c = c.in_err-decode_varint-in-Varint.ensures.kept
+
+pub skip_field_depth-returns-in_err-decode_varint-in-Varint-clause-tail : goal.skip_field_depth-returns-in_err-decode_varint-in-Varint-clause-tail
+skip_field_depth-returns-in_err-decode_varint-in-Varint-clause-tail g t c = c.in_err-decode_varint-in-Varint.ensures.tail
+
+pub skip_field_depth-returns-in_ok-decode_varint-in-Varint-clause-kept : goal.skip_field_depth-returns-in_ok-decode_varint-in-Varint-clause-kept
+skip_field_depth-returns-in_ok-decode_varint-in-Varint-clause-kept g t c = c.in_ok-decode_varint-in-Varint.ensures.kept
+
+pub skip_field_depth-returns-in_ok-decode_varint-in-Varint-clause-tail : goal.skip_field_depth-returns-in_ok-decode_varint-in-Varint-clause-tail
+skip_field_depth-returns-in_ok-decode_varint-in-Varint-clause-tail g t c = c.in_ok-decode_varint-in-Varint.ensures.tail
+
+pub skip_field_depth-returns-in-Fixed64-clause-kept : goal.skip_field_depth-returns-in-Fixed64-clause-kept
+skip_field_depth-returns-in-Fixed64-clause-kept g t c = c.skip_bytes.ensures.kept
+
+pub skip_field_depth-returns-in-Fixed64-clause-tail : goal.skip_field_depth-returns-in-Fixed64-clause-tail
+skip_field_depth-returns-in-Fixed64-clause-tail g t c = c.skip_bytes.ensures.tail
+
+pub skip_field_depth-returns-in_err-len-in-LengthDelimited-clause-kept : goal.skip_field_depth-returns-in_err-len-in-LengthDelimited-clause-kept
+skip_field_depth-returns-in_err-len-in-LengthDelimited-clause-kept g t c = c.in_err-len-in-LengthDelimited.ensures.kept
+
+pub skip_field_depth-returns-in_err-len-in-LengthDelimited-clause-tail : goal.skip_field_depth-returns-in_err-len-in-LengthDelimited-clause-tail
+skip_field_depth-returns-in_err-len-in-LengthDelimited-clause-tail g t c = c.in_err-len-in-LengthDelimited.ensures.tail
+
+pub skip_field_depth-returns-in_ok-len-in-LengthDelimited-clause-kept : goal.skip_field_depth-returns-in_ok-len-in-LengthDelimited-clause-kept
+skip_field_depth-returns-in_ok-len-in-LengthDelimited-clause-kept g t c = c.skip_bytes-in-LengthDelimited.ensures.kept ∙ c.in_ok-len-in-LengthDelimited.ensures.kept
+
+pub skip_field_depth-returns-in_ok-len-in-LengthDelimited-clause-tail : goal.skip_field_depth-returns-in_ok-len-in-LengthDelimited-clause-tail
+skip_field_depth-returns-in_ok-len-in-LengthDelimited-clause-tail g t c = tail_more _ _ _ c.skip_bytes-in-LengthDelimited.ensures.tail c.in_ok-len-in-LengthDelimited.ensures.tail
+
+pub skip_field_depth-returns-in-StartGroup-clause-kept : goal.skip_field_depth-returns-in-StartGroup-clause-kept
+skip_field_depth-returns-in-StartGroup-clause-kept g t c = c.skip_group.ensures.kept
+
+pub skip_field_depth-returns-in-StartGroup-clause-tail : goal.skip_field_depth-returns-in-StartGroup-clause-tail
+skip_field_depth-returns-in-StartGroup-clause-tail g t c = c.skip_group.ensures.tail
+
+pub skip_field_depth-returns-in-Fixed32-clause-kept : goal.skip_field_depth-returns-in-Fixed32-clause-kept
+skip_field_depth-returns-in-Fixed32-clause-kept g t c = c.skip_bytes-in-Fixed32.ensures.kept
+
+pub skip_field_depth-returns-in-Fixed32-clause-tail : goal.skip_field_depth-returns-in-Fixed32-clause-tail
+skip_field_depth-returns-in-Fixed32-clause-tail g t c = c.skip_bytes-in-Fixed32.ensures.tail
+
+pub skip_field_depth-returns-in-EndGroup-clause-kept : goal.skip_field_depth-returns-in-EndGroup-clause-kept
+skip_field_depth-returns-in-EndGroup-clause-kept g t c = refl
+
+pub skip_field_depth-returns-in-EndGroup-clause-tail : goal.skip_field_depth-returns-in-EndGroup-clause-tail
+skip_field_depth-returns-in-EndGroup-clause-tail g t c = tail_whole _
+
+pub skip_group-returns-then-depth-eq0-clause-kept : goal.skip_group-returns-then-depth-eq0-clause-kept
+skip_group-returns-then-depth-eq0-clause-kept g t c = refl
+
+pub skip_group-returns-then-depth-eq0-clause-tail : goal.skip_group-returns-then-depth-eq0-clause-tail
+skip_group-returns-then-depth-eq0-clause-tail g t c = tail_whole _
+
+pub skip_group-returns-then-depth-eq0-clause-level : goal.skip_group-returns-then-depth-eq0-clause-level
+skip_group-returns-then-depth-eq0-clause-level g t c = λ _. refl
+
+pub skip_group-returns-in_err-tag-clause-kept : goal.skip_group-returns-in_err-tag-clause-kept
+skip_group-returns-in_err-tag-clause-kept g t c = c.in_err-tag.ensures.kept ∙ c.loop-tag.invariant.kept
+
+pub skip_group-returns-in_err-tag-clause-tail : goal.skip_group-returns-in_err-tag-clause-tail
+skip_group-returns-in_err-tag-clause-tail g t c = tail_more _ _ _ c.in_err-tag.ensures.tail c.loop-tag.invariant.tail
+
+pub skip_group-returns-in_err-tag-clause-level : goal.skip_group-returns-in_err-tag-clause-level
+skip_group-returns-in_err-tag-clause-level g t c = λ k. absurd (c.if-depth-eq0.false k)
+
+pub skip_group-returns-then-field_number-number-clause-kept : goal.skip_group-returns-then-field_number-number-clause-kept
+skip_group-returns-then-field_number-number-clause-kept g t c = c.in_ok-tag.ensures.kept ∙ c.loop-tag.invariant.kept
+
+pub skip_group-returns-then-field_number-number-clause-tail : goal.skip_group-returns-then-field_number-number-clause-tail
+skip_group-returns-then-field_number-number-clause-tail g t c = tail_more _ _ _ c.in_ok-tag.ensures.tail c.loop-tag.invariant.tail
+
+pub skip_group-returns-then-field_number-number-clause-level : goal.skip_group-returns-then-field_number-number-clause-level
+skip_group-returns-then-field_number-number-clause-level g t c = λ k. absurd (c.if-depth-eq0.false k)
+
+pub skip_group-returns-in-EndGroup-clause-kept : goal.skip_group-returns-in-EndGroup-clause-kept
+skip_group-returns-in-EndGroup-clause-kept g t c = c.in_ok-tag.ensures.kept ∙ c.loop-tag.invariant.kept
+
+pub skip_group-returns-in-EndGroup-clause-tail : goal.skip_group-returns-in-EndGroup-clause-tail
+skip_group-returns-in-EndGroup-clause-tail g t c = tail_more _ _ _ c.in_ok-tag.ensures.tail c.loop-tag.invariant.tail
+
+pub skip_group-returns-in-EndGroup-clause-level : goal.skip_group-returns-in-EndGroup-clause-level
+skip_group-returns-in-EndGroup-clause-level g t c = λ k. absurd (c.if-depth-eq0.false k)

@@ -2,6 +2,7 @@ use Rattle.std.proofs.Common.{refl, ◌∙◌}
 use Rattle.std.proofs.lemmas.Result.{err_from_is_err_and}
 use Rattle.buffa_bytes.proofs.FullLemmas.{varint_no_full}
 use Rattle.buffa_bytes.proofs.LeftLemmas.{left_no_length, left_passed, left_refused, left_taken}
+use Rattle.buffa_bytes.proofs.TailLemmas.{tail_more, tail_whole}
 use Rattle.buffa_wire.proofs.InsideLemmas.{delimited_by, delimited_front, none_long, none_merges, same_front, inside_fault, inside_full, inside_ok, inside_spent}
 use Rattle.buffa_wire.proofs.message.Message.merge_length_delimited.Goals as goal
 
@@ -63,3 +64,54 @@ returns-in_err-payload-clause-left g c = λ deep.
 pub returns-clause-left : goal.returns-clause-left
 returns-clause-left g c = λ deep.
     left_taken c.merge.result _ (g.B.Buf.unread c.args.buf.now) _ _ _ c.in_ok-len.ensures.reads c.in_ok-payload.ensures.reads
+
+pub returns-then-depth-eq0-clause-kept : goal.returns-then-depth-eq0-clause-kept
+returns-then-depth-eq0-clause-kept g c = refl
+
+pub returns-then-depth-eq0-clause-tail : goal.returns-then-depth-eq0-clause-tail
+returns-then-depth-eq0-clause-tail g c = tail_whole _
+
+pub returns-then-depth-eq0-clause-level : goal.returns-then-depth-eq0-clause-level
+returns-then-depth-eq0-clause-level g c = λ _. (refl, refl)
+
+pub returns-then-depth-eq0-clause-outside : goal.returns-then-depth-eq0-clause-outside
+returns-then-depth-eq0-clause-outside g c = λ _. refl
+
+pub returns-in_err-len-clause-kept : goal.returns-in_err-len-clause-kept
+returns-in_err-len-clause-kept g c = c.in_err-len.ensures.kept
+
+pub returns-in_err-len-clause-tail : goal.returns-in_err-len-clause-tail
+returns-in_err-len-clause-tail g c = c.in_err-len.ensures.tail
+
+pub returns-in_err-len-clause-level : goal.returns-in_err-len-clause-level
+returns-in_err-len-clause-level g c = λ k. absurd (c.if-depth-eq0.false k)
+
+pub returns-in_err-len-clause-outside : goal.returns-in_err-len-clause-outside
+returns-in_err-len-clause-outside g c = λ _. refl
+
+pub returns-in-Some-clause-kept : goal.returns-in-Some-clause-kept
+returns-in-Some-clause-kept g c = c.advance.ensures.kept ∙ c.in_ok-len.ensures.kept
+
+pub returns-in-Some-clause-level : goal.returns-in-Some-clause-level
+returns-in-Some-clause-level g c = λ k. absurd (c.if-depth-eq0.false k)
+
+pub returns-in_err-payload-clause-kept : goal.returns-in_err-payload-clause-kept
+returns-in_err-payload-clause-kept g c = c.in_err-payload.ensures.kept ∙ c.in_ok-len.ensures.kept
+
+pub returns-in_err-payload-clause-tail : goal.returns-in_err-payload-clause-tail
+returns-in_err-payload-clause-tail g c = tail_more _ _ _ c.in_err-payload.ensures.tail c.in_ok-len.ensures.tail
+
+pub returns-in_err-payload-clause-level : goal.returns-in_err-payload-clause-level
+returns-in_err-payload-clause-level g c = λ k. absurd (c.if-depth-eq0.false k)
+
+pub returns-in_err-payload-clause-outside : goal.returns-in_err-payload-clause-outside
+returns-in_err-payload-clause-outside g c = λ _. refl
+
+pub returns-clause-kept : goal.returns-clause-kept
+returns-clause-kept g c = c.in_ok-payload.ensures.kept ∙ c.in_ok-len.ensures.kept
+
+pub returns-clause-tail : goal.returns-clause-tail
+returns-clause-tail g c = tail_more _ _ _ c.in_ok-payload.ensures.tail c.in_ok-len.ensures.tail
+
+pub returns-clause-level : goal.returns-clause-level
+returns-clause-level g c = λ k. absurd (c.if-depth-eq0.false k)
