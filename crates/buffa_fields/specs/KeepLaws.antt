@@ -23,10 +23,11 @@ use Rattle.buffa_wire.specs.Records.{Datum, Records, bytes, fixed32, fixed64, gr
 use Rattle.buffa_wire.specs.Text.{records_text, wire_of}
 use Rattle.std.specs.Prelude.{Bool, true, Option, None, ◌&&◌}
 use Rattle.std.specs.Option.{option_map}
-use Rattle.buffa_fields.specs.Keep.{AllNumbers, keep_need, keep_takes, record_at, record_in, spent_of}
+use Rattle.buffa_fields.specs.Keep.{AllNumbers, KeepTakesMemory, keep_need, keep_takes, record_at, record_in, spent_of}
 use Rattle.buffa_fields.specs.PairLaws.{both_true}
 use Rattle.buffa_fields.specs.Takes.{IsTaken, Leads, Piece, ReadsBack, Untaken, joined}
-use Rattle.buffa_wire.specs.Gives.{GivesUnlessFull}
+use Rattle.buffa_wire.proofs.SpentLemmas.{is_there}
+use Rattle.buffa_wire.specs.Gives.{FullOnlyIf, GivesUnlessFull}
 
 -- ---- payloads are those of records
 one_deeper : (d : ℕ) → suc d - 1 ≡ d
@@ -202,6 +203,14 @@ module _ (d s n : ℕ) (w : WireType) (bs : List ℕ) (v : List (ℕ × Datum)) 
   keep_full x left after rest h =
       let k = agree_ok (field_at d s n w bs) (x, left, after) (field_is_read d s n w bs) h in
       keep_err error.OutOfMemory rest (λ ne. absurd (ne refl)) (λ no end. subst (λ z. PayloadOver (Group d) n z k.0) (k.2 ∙ end) (payload_of_record x d n k.0 k.1))
+
+  -- where it takes memory
+  pub keep_asks : (r : Result (Unit {0}) DecodeError) (e f : DecodeError) → r ≡ Err f → f ≡ e → (e ≡ error.OutOfMemory → TakesMemory d s w bs) → FullOnlyIf r (KeepTakesMemory before.unknown d n w bs)
+  keep_asks r e f is same full =
+      subst (λ z. FullOnlyIf z (KeepTakesMemory before.unknown d n w bs)) (sym (is ∙ ap (λ x. Err x) same)) (λ told. subst (λ k. KeepTakesMemory k d n w bs) all (inl (full told)))
+
+  pub keep_asks_put : (x : Datum × ℕ × List ℕ) → field_at d s n w bs ≡ Ok x → KeepTakesMemory before.unknown d n w bs
+  keep_asks_put x is = subst (λ k. KeepTakesMemory k d n w bs) all (inr (is_there (field_at d s n w bs) x is))
 
   -- the same of an error that is passed on by `?`
   pub keep_err_as : (r : Result (Unit {0}) DecodeError) (e f : DecodeError) → r ≡ Err f → f ≡ e → (rest : List ℕ) → (e ≢ error.OutOfMemory → field_at d s n w bs ≡ Err e) → (e ≡ error.OutOfMemory → w ≢ wire.EndGroup) → IsTaken keep_takes keep_need d v n w bs before r v before rest

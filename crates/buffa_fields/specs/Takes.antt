@@ -21,6 +21,10 @@ Taker X = ℕ → X → ℕ → WireType → List ℕ → Option X
 abbrev pub Need : Type 0
 Need = ℕ → ℕ → WireType → List ℕ → BudgetLeft
 
+-- At a depth, where a field of a number and a wire type may ask for memory, if these bytes follow its tag.
+abbrev pub Asks : Type 1
+Asks = ℕ → ℕ → WireType → List ℕ → Type 0
+
 -- ---- whole bytes
 
 -- the payload at the front of the bytes, where rest follows it

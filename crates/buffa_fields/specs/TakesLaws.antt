@@ -4,6 +4,7 @@ use Rattle.std.proofs.lemmas.Bool.{eqb-true, eqb-false, ne_eqb}
 use Rattle.std.specs.Option.{option_and_then, option_map}
 use Rattle.std.specs.Result.{MatchResult}
 use Rattle.buffa_bytes.proofs.FieldLemmas.{payload_complete, payload_sound}
+use Rattle.buffa_bytes.proofs.FullLemmas.{payload_full}
 use Rattle.buffa_bytes.proofs.StepLemmas.{Agrees, agree_bind, agree_err, agree_ok}
 use Rattle.buffa_bytes.specs.declared.wire_type.WireType.{WireType}
 use Rattle.buffa_bytes.specs.declared.wire_type.WireType.TheVariants.{EndGroup}
@@ -129,6 +130,16 @@ pub taken_full : {X : Type 0} (takes : Taker X) (need : Need) (d : ℕ) (old new
     IsTaken takes need d old n w bs before r new after rest → FullOnlyIf r (w ≢ EndGroup)
 taken_full takes need d old new n w bs rest before after (Ok _) h = tt
 taken_full takes need d old new n w bs rest before after (Err e) h = h.2
+
+-- memory that runs out only where P holds runs out only where Q does, if P says so
+pub full_weaker : {T : Type 0} (P Q : Type 0) (r : Result T DecodeError) → FullOnlyIf r P → (P → Q) → FullOnlyIf r Q
+full_weaker P Q (Ok x) h k = tt
+full_weaker P Q (Err e) h k = λ full. k (h full)
+
+-- a payload that is passed over takes no memory
+pub skipped_full : (d n : ℕ) (w : WireType) (bs rest : List ℕ) (r : Result (Unit {0}) DecodeError) → Gives (λ _. rest) r (skip_at d n w bs) → FullOnlyIf r ⊥
+skipped_full d n w bs rest (Ok x) h = tt
+skipped_full d n w bs rest (Err e) h = λ full. payload_full d n w bs (h ∙ ap (λ z. Err z) full)
 
 -- ---- a text of fields reads back
 module _ {X : Type 0} (takes : Taker X) (d : ℕ) (P : ℕ → Bool) where
