@@ -2,7 +2,7 @@
 use Rattle.std.proofs.Common.{◌≡◌, ◌≢◌, ◌⊎◌, inl, inr, ℕ, zero, suc, ◌+◌, ◌-◌, ◌<◌, ◌≤◌, List, [], ◌∷◌, ◌++◌, length, Some, Result, Ok, Err, refl, ap, sym, subst, ◌∙◌, arith, append_assoc, append-nil, length-append}
 use Rattle.std.specs.Int.{from_le_bytes, w32, w64}
 use Rattle.buffa_bytes.proofs.FieldLemmas.{tag_some}
-use Rattle.buffa_bytes.proofs.StepLemmas.{agree_bind, agree_err, agree_ok}
+use Rattle.buffa_bytes.proofs.StepLemmas.{agree_err, agree_ok}
 use Rattle.buffa_bytes.specs.Content.{ContentFault}
 use Rattle.buffa_bytes.specs.Field.{Group, PayloadOver}
 use Rattle.buffa_bytes.specs.declared.wire_type.WireType.{WireType}
@@ -13,7 +13,7 @@ use Rattle.buffa_wire.proofs.JoinLemmas.{join_records, records_join}
 use Rattle.buffa_wire.proofs.LoopLemmas.{field_is_read, field_taken}
 use Rattle.buffa_wire.proofs.MessageLemmas.{NoLimit, length_no_limit, tag_no_limit, var_no_limit}
 use Rattle.buffa_wire.specs.Field.{Payload}
-use Rattle.buffa_wire.specs.BudgetLeft.{BudgetLeft, Lacks, Pays, PaysAtMost, slots as left_slots}
+use Rattle.buffa_wire.specs.BudgetLeft.{BudgetLeft, Lacks, slots as left_slots}
 use Rattle.buffa_wire.specs.Message.{IsLimit}
 use Rattle.buffa_wire.proofs.ParseLemmas.{text_parses}
 use Rattle.buffa_wire.specs.Falls.{height-records}
@@ -21,13 +21,12 @@ use Rattle.buffa_wire.specs.Parse.{FieldFault, FieldFaultOf, GroupFault, InsideF
 use Rattle.buffa_wire.specs.RecordReading.{TakesMemory, field_at}
 use Rattle.buffa_wire.specs.Records.{Datum, Records, bytes, fixed32, fixed64, group, height, no_records, one, records_of, varint}
 use Rattle.buffa_wire.specs.Text.{records_text, wire_of}
-use Rattle.std.specs.Prelude.{Bool, true, Option, None, ◌&&◌}
-use Rattle.std.specs.Option.{option_map}
-use Rattle.buffa_fields.specs.Keep.{AllNumbers, KeepTakesMemory, keep_need, keep_takes, record_at, record_in, spent_of}
+use Rattle.std.specs.Prelude.{Bool, true, ◌&&◌}
+use Rattle.buffa_fields.specs.Keep.{AllNumbers, KeepTakesMemory, keep_need, keep_takes, record_at, spent_of}
 use Rattle.buffa_fields.specs.PairLaws.{both_true}
 use Rattle.buffa_fields.specs.Takes.{IsTaken, Leads, Piece, ReadsBack, Untaken, joined}
 use Rattle.buffa_wire.proofs.SpentLemmas.{is_there}
-use Rattle.buffa_wire.specs.Gives.{FullOnlyIf, GivesUnlessFull}
+use Rattle.buffa_wire.specs.Gives.{FullOnlyIf}
 
 -- ---- payloads are those of records
 one_deeper : (d : ℕ) → suc d - 1 ≡ d

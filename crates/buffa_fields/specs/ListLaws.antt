@@ -1,8 +1,8 @@
 -- What is proved of repeated fields.
-use Rattle.std.proofs.Common.{◌≡◌, ◌≢◌, ◌⊎◌, inl, inr, ℕ, zero, suc, ◌+◌, ◌*◌, ◌^◌, ◌==◌, ◌<◌, ◌≤◌, min, Bool, true, false, List, [], ◌∷◌, ◌++◌, length, map, take, drop, get_or, Option, Some, None, Result, Ok, Err, IsOk, refl, sym, ap, subst, ◌∙◌, arith, append_assoc, append-nil, length-append, if◌then◌else◌}
+use Rattle.std.proofs.Common.{◌≡◌, ◌≢◌, inl, inr, ℕ, zero, suc, ◌+◌, ◌*◌, ◌^◌, ◌==◌, ◌<◌, ◌≤◌, min, Bool, true, false, List, [], ◌∷◌, ◌++◌, length, map, take, drop, get_or, Some, Result, Ok, Err, IsOk, refl, sym, ap, subst, ◌∙◌, arith, append_assoc, append-nil, length-append, if◌then◌else◌}
 use Rattle.std.proofs.lemmas.Bool.{eq-eqb}
 use Rattle.std.proofs.lemmas.List.{map-append, take_more, drop_more, take-append-drop}
-use Rattle.buffa_bytes.proofs.ContentLemmas.{content_complete, content_sound}
+use Rattle.buffa_bytes.proofs.ContentLemmas.{content_complete}
 use Rattle.buffa_bytes.proofs.DelimitedLemmas.{delimited_back, delimited_complete, delimited_sound}
 use Rattle.buffa_bytes.proofs.FieldLemmas.{wire_small}
 use Rattle.buffa_bytes.proofs.SinkLemmas.{front_first, front_second}
@@ -10,13 +10,12 @@ use Rattle.buffa_bytes.proofs.StepLemmas.{Agrees, agree_bind, agree_err, agree_o
 use Rattle.buffa_bytes.proofs.VarintLemmas.{IsVarint-varint_text, varint_falls}
 use Rattle.buffa_bytes.specs.Content.{Content, HasContent, content_at}
 use Rattle.buffa_bytes.specs.Content.Content.{number, bytes as held}
-use Rattle.buffa_bytes.specs.Field.{TakesDelimited}
 use Rattle.buffa_bytes.specs.Varint.{varint_text}
 use Rattle.buffa_bytes.specs.WireType.{wire_number}
 use Rattle.buffa_bytes.specs.declared.error.DecodeError.{DecodeError}
 use Rattle.buffa_bytes.specs.declared.error.DecodeError.TheVariants.{OutOfMemory, UnexpectedEof, WireTypeMismatch}
 use Rattle.buffa_bytes.specs.declared.wire_type.WireType.{WireType}
-use Rattle.buffa_bytes.specs.declared.wire_type.WireType.TheVariants.{Varint, Fixed64, LengthDelimited, StartGroup, EndGroup, Fixed32}
+use Rattle.buffa_bytes.specs.declared.wire_type.WireType.TheVariants.{Varint, Fixed64, LengthDelimited, Fixed32}
 use Rattle.buffa_wire.proofs.MessageLemmas.{NoLimit, length_no_limit}
 use Rattle.buffa_wire.proofs.SequenceLemmas.{err_same, ok_same}
 use Rattle.buffa_wire.specs.BudgetLeft.{BudgetLeft, nothing}
@@ -37,11 +36,11 @@ use Rattle.buffa_map.proofs.EntryLemmas.{same_false, same_refl, value_complete, 
 use Rattle.buffa_map.specs.Codec.{Reading, ValueFault, Writing, level, value_at}
 use Rattle.buffa_fields.specs.FieldsLaws.{along_err, along_none, along_ok}
 use Rattle.buffa_fields.specs.LayoutLaws.{cap_more}
-use Rattle.buffa_fields.specs.Lists.{Each, TakesPacked, check_list_wire, element_at, element_records, elements_in, elements_taken, packed_in, packed_records, packed_text}
+use Rattle.buffa_fields.specs.Lists.{Each, TakesPacked, check_list_wire, element_at, element_records, elements_in, elements_taken, packed_records, packed_text}
 use Rattle.buffa_fields.specs.PairLaws.{records_text-append}
-use Rattle.buffa_fields.specs.Takes.{IsTaken, Leads, Piece, ReadsBack, Untaken, joined}
+use Rattle.buffa_fields.specs.Takes.{IsTaken, Leads, Piece, ReadsBack, joined}
 use Rattle.buffa_fields.specs.ValueLaws.{content_payload, fault_no_limit, none_of}
-use Rattle.buffa_fields.specs.Values.{all_of, free}
+use Rattle.buffa_fields.specs.Values.{free}
 
 -- a payload has a byte
 has_byte : (w : WireType) (p : List ℕ) (c : Content) → HasContent w p c → 0 < length p

@@ -1,5 +1,5 @@
 -- What is proved of messages that were refused.
-use Rattle.std.proofs.Common.{◌≡◌, ◌⊎◌, inl, inr, ℕ, ◌≤◌, ◌<◌, true, List, [], ◌∷◌, ◌++◌, length, Option, Some, None, Ok, Err, Result, refl, sym, ap, subst, ◌∙◌, arith, append_assoc, append-nil, length-append}
+use Rattle.std.proofs.Common.{◌≡◌, inl, inr, ℕ, ◌≤◌, ◌<◌, true, List, [], ◌∷◌, ◌++◌, length, Option, Some, None, Ok, Err, Result, refl, sym, ap, ◌∙◌, arith, append_assoc, append-nil, length-append}
 use Rattle.std.specs.Option.{option_and_then}
 use Rattle.buffa_bytes.proofs.FieldLemmas.{tag_falls, tag_sound}
 use Rattle.buffa_bytes.proofs.StepLemmas.{agree_ok}
@@ -13,7 +13,7 @@ use Rattle.buffa_wire.specs.Join.Join.{none, more}
 use Rattle.buffa_wire.specs.Reading.{tag_at}
 use Rattle.buffa_fields.specs.Layout.{Layout}
 use Rattle.buffa_fields.specs.Stands.{MergingTakesMemory, Merged, Stands}
-use Rattle.buffa_fields.specs.Takes.{Piece, ReadsBack, Taker, merged_of}
+use Rattle.buffa_fields.specs.Takes.{ReadsBack, Taker, merged_of}
 use Rattle.buffa_fields.specs.TakesLaws.{back, merged_empty, merged_fields, merged_next}
 
 module _ {X : Type 0} (takes : Taker X) (d : ℕ) where

@@ -59,7 +59,11 @@ pub trait Member {
             (slot.slots (slot.meaning part.now)) cache.old (S.written sink.old) result cache.new
             (S.written sink.new) };
 
-    /// Merges the field whose tag was read. Memory runs out only where the member may ask for it.
+    /// Merges the field whose tag was read.
+    ///
+    /// # Errors
+    /// [`DecodeError::WireTypeMismatch`] where the field is of no wire type that the member takes; and
+    /// [`DecodeError::OutOfMemory`] only where the member may ask for memory.
     ///
     /// ```ignore
     /// let answer = Plain::<Int32>::merge(&mut self.total, alloc, tag, buf, ctx);

@@ -15,5 +15,5 @@ returns-in-Err-clause-sized g c =
 
 pub returns-in-Err-clause-always : goal.returns-in-Err-clause-always
 returns-in-Err-clause-always g c = λ none. absurd (
-  c.in-Err.ensures.some (no_pairs g.N.MessageSpec.text g.N.MessageSpec.slots (means g.KC.Value.Blank.meaning g.N.Blank.meaning c.args.map.now.entries) none)
-)
+    c.in-Err.ensures.some (no_pairs g.N.MessageSpec.text g.N.MessageSpec.slots (means g.KC.Value.Blank.meaning g.N.Blank.meaning c.args.map.now.entries) none)
+    )

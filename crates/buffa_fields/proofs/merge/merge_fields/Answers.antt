@@ -1,4 +1,4 @@
-use Rattle.std.proofs.Common.{refl, arith}
+use Rattle.std.proofs.Common.{arith}
 use Rattle.buffa_bytes.proofs.FullLemmas.{tag_no_full}
 use Rattle.buffa_fields.specs.StandsLaws.{asked, ends, falls, spends, stands, stands_apart, starts, steps}
 use Rattle.buffa_fields.proofs.merge.merge_fields.Goals as goal

@@ -16,5 +16,5 @@ returns-in-Err-clause-sized g c =
 
 pub returns-in-Err-clause-always : goal.returns-in-Err-clause-always
 returns-in-Err-clause-always g c = λ none. absurd (
-  messages_have_slots g.N.MessageSpec.text g.N.MessageSpec.slots c.args.number g.N.Blank.meaning c.args.messages.now c.loop-message.message-index c.message-item.result c.loop-message-test.true c.message-item.is none
-)
+    messages_have_slots g.N.MessageSpec.text g.N.MessageSpec.slots c.args.number g.N.Blank.meaning c.args.messages.now c.loop-message.message-index c.message-item.result c.loop-message-test.true c.message-item.is none
+    )
