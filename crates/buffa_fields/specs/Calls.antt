@@ -1,29 +1,38 @@
 -- What a call that takes a field, or writes a member, did: from what it was passed to what it left.
-use Rattle.std.specs.Prelude.{◌≡◌, ◌≤◌, ℕ, Bool, List, [], ◌∷◌, length, Some, Result}
+use Rattle.std.specs.Prelude.{◌≡◌, ◌≤◌, ℕ, Bool, List, [], ◌∷◌, length, Some, Result, Err}
 use Rattle.buffa_bytes.specs.declared.error.DecodeError.{DecodeError}
 use Rattle.buffa_bytes.specs.declared.error.EncodeError.{EncodeError}
 use Rattle.buffa_bytes.specs.declared.tag.Tag.{Tag}
+use Rattle.buffa_bytes.specs.declared.wire_type.WireType.{WireType}
 use Rattle.buffa_wire.specs.BudgetLeft.{BudgetLeft, budget_left}
 use Rattle.buffa_wire.specs.Cache.{Cache}
 use Rattle.buffa_wire.specs.Message.{IsFieldMerged}
 use Rattle.buffa_wire.specs.Parse.{Fits}
 use Rattle.buffa_wire.specs.Passes.{IsWritten, cap}
+use Rattle.buffa_wire.specs.Reading.{check_wire}
 use Rattle.buffa_wire.specs.Records.{bytes, records_of}
 use Rattle.buffa_wire.specs.Text.{records_text}
 use Rattle.buffa_wire.specs.declared.context.DecodeContext.{DecodeContext}
 use Rattle.buffa_map.specs.Calls.{Exit}
 use Rattle.buffa_map.specs.Codec.{Reading, Writing}
 use Rattle.buffa_fields.specs.Layout.{Layout}
-use Rattle.buffa_fields.specs.Lists.{elements_taken}
+use Rattle.buffa_fields.specs.Lists.{check_list_wire, elements_taken}
 use Rattle.buffa_fields.specs.MapFields.{entry_cost, entry_taken}
-use Rattle.buffa_fields.specs.Nested.{message_cost, message_in}
 use Rattle.buffa_fields.specs.NestedMaps.{pair_records, pair_slots}
-use Rattle.buffa_fields.specs.RepeatedNested.{messages_cost, messages_records, messages_slots, messages_taken}
+use Rattle.buffa_fields.specs.RepeatedNested.{messages_records, messages_slots}
 use Rattle.buffa_fields.specs.Takes.{IsTaken, Need, Taker, cost_of, merged_of}
 use Rattle.buffa_fields.specs.Values.{free, value_taken}
 use denote.Ref.{Bor}
 
 -- ---- a field whose tag was read: says is what a member means
+
+-- another wire type than the expected one is refused, and both are told
+abbrev pub ChecksWire : {T : Type 0} → Tag → WireType → Result T DecodeError → Type 0
+ChecksWire tag expected r = (e : DecodeError) → check_wire tag.number expected tag.wire_type ≡ Err e → r ≡ Err e
+
+-- the same of a list, which takes packed elements too
+abbrev pub ChecksListWire : {T : Type 0} → Tag → WireType → Result T DecodeError → Type 0
+ChecksListWire tag expected r = (e : DecodeError) → check_list_wire tag.number expected tag.wire_type ≡ Err e → r ≡ Err e
 
 module _ {P D T : Type 0} (tag : Tag) (ctx : DecodeContext) (left : Exit D) (old new : P) (before after : Bor (List ℕ)) (r : Result T DecodeError) where
   -- a member took the field, and paid for it

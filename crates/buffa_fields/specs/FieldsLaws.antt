@@ -1,5 +1,5 @@
 -- What a message owes follows from what each of its fields does.
-use Rattle.std.proofs.Common.{◌≡◌, ◌⊎◌, inl, inr, ℤ, FitsSigned, pos, negsuc, ℕ, ◌+◌, ◌*◌, zero, suc, ◌<◌, ◌≤◌, Bool, true, false, List, [], ◌∷◌, ◌++◌, length, Some, None, Result, Ok, Err, refl, sym, ap, subst, ◌∙◌, arith, append_assoc, append-nil, length-append, if◌then◌else◌}
+use Rattle.std.proofs.Common.{◌≡◌, ◌⊎◌, inl, inr, ℕ, zero, suc, ◌<◌, ◌≤◌, List, [], ◌∷◌, ◌++◌, length, Some, None, Result, Ok, Err, refl, sym, ap, subst, ◌∙◌, arith, append_assoc, append-nil, length-append}
 use Rattle.std.specs.Option.{option_and_then}
 use Rattle.buffa_wire.specs.Gives.{◌>>=◌, Gives}
 use Rattle.buffa_wire.specs.Field.{IsTag, Payload, SomeField}
@@ -10,8 +10,8 @@ use Rattle.buffa_wire.specs.Message.{IsFieldMerged, IsJudged}
 use Rattle.buffa_bytes.specs.declared.wire_type.WireType.{WireType}
 use Rattle.buffa_bytes.specs.declared.error.DecodeError.{DecodeError}
 use Rattle.buffa_bytes.proofs.StepLemmas.{Agrees, agree_bind, agree_err, agree_ok, agree_weaker, bind_same}
-use Rattle.buffa_bytes.proofs.FieldLemmas.{payload_complete, payload_sound, tag_complete, tag_some, tag_sound}
-use Rattle.buffa_wire.proofs.MessageLemmas.{NoLimit, payload_no_limit, tag_no_limit, var_no_limit}
+use Rattle.buffa_bytes.proofs.FieldLemmas.{tag_complete, tag_some, tag_sound}
+use Rattle.buffa_wire.proofs.MessageLemmas.{NoLimit, tag_no_limit}
 use Rattle.buffa_wire.specs.Sequence.{parse_all, parse_within}
 use Rattle.buffa_wire.proofs.SequenceLemmas.{ok_same}
 use Rattle.buffa_fields.specs.Fields.{FieldReader, merged_by, next_at, value_of}

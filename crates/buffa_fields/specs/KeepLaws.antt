@@ -2,7 +2,7 @@
 use Rattle.std.proofs.Common.{◌≡◌, ◌≢◌, ◌⊎◌, inl, inr, ℕ, zero, suc, ◌+◌, ◌-◌, ◌<◌, ◌≤◌, List, [], ◌∷◌, ◌++◌, length, Some, Result, Ok, Err, refl, ap, sym, subst, ◌∙◌, arith, append_assoc, append-nil, length-append}
 use Rattle.std.specs.Int.{from_le_bytes, w32, w64}
 use Rattle.buffa_bytes.proofs.FieldLemmas.{tag_some}
-use Rattle.buffa_bytes.proofs.StepLemmas.{agree_bind, agree_err, agree_ok}
+use Rattle.buffa_bytes.proofs.StepLemmas.{agree_err, agree_ok}
 use Rattle.buffa_bytes.specs.Content.{ContentFault}
 use Rattle.buffa_bytes.specs.Field.{Group, PayloadOver}
 use Rattle.buffa_bytes.specs.declared.wire_type.WireType.{WireType}
@@ -13,7 +13,7 @@ use Rattle.buffa_wire.proofs.JoinLemmas.{join_records, records_join}
 use Rattle.buffa_wire.proofs.LoopLemmas.{field_is_read, field_taken}
 use Rattle.buffa_wire.proofs.MessageLemmas.{NoLimit, length_no_limit, tag_no_limit, var_no_limit}
 use Rattle.buffa_wire.specs.Field.{Payload}
-use Rattle.buffa_wire.specs.BudgetLeft.{BudgetLeft, Lacks, Pays, PaysAtMost, slots as left_slots}
+use Rattle.buffa_wire.specs.BudgetLeft.{BudgetLeft, Lacks, slots as left_slots}
 use Rattle.buffa_wire.specs.Message.{IsLimit}
 use Rattle.buffa_wire.proofs.ParseLemmas.{text_parses}
 use Rattle.buffa_wire.specs.Falls.{height-records}
@@ -21,12 +21,12 @@ use Rattle.buffa_wire.specs.Parse.{FieldFault, FieldFaultOf, GroupFault, InsideF
 use Rattle.buffa_wire.specs.RecordReading.{TakesMemory, field_at}
 use Rattle.buffa_wire.specs.Records.{Datum, Records, bytes, fixed32, fixed64, group, height, no_records, one, records_of, varint}
 use Rattle.buffa_wire.specs.Text.{records_text, wire_of}
-use Rattle.std.specs.Prelude.{Bool, true, Option, None, ◌&&◌}
-use Rattle.std.specs.Option.{option_map}
-use Rattle.buffa_fields.specs.Keep.{AllNumbers, keep_need, keep_takes, record_at, record_in, spent_of}
+use Rattle.std.specs.Prelude.{Bool, true, ◌&&◌}
+use Rattle.buffa_fields.specs.Keep.{AllNumbers, KeepTakesMemory, keep_need, keep_takes, record_at, spent_of}
 use Rattle.buffa_fields.specs.PairLaws.{both_true}
 use Rattle.buffa_fields.specs.Takes.{IsTaken, Leads, Piece, ReadsBack, Untaken, joined}
-use Rattle.buffa_wire.specs.Gives.{GivesUnlessFull}
+use Rattle.buffa_wire.proofs.SpentLemmas.{is_there}
+use Rattle.buffa_wire.specs.Gives.{FullOnlyIf}
 
 -- ---- payloads are those of records
 one_deeper : (d : ℕ) → suc d - 1 ≡ d
@@ -202,6 +202,14 @@ module _ (d s n : ℕ) (w : WireType) (bs : List ℕ) (v : List (ℕ × Datum)) 
   keep_full x left after rest h =
       let k = agree_ok (field_at d s n w bs) (x, left, after) (field_is_read d s n w bs) h in
       keep_err error.OutOfMemory rest (λ ne. absurd (ne refl)) (λ no end. subst (λ z. PayloadOver (Group d) n z k.0) (k.2 ∙ end) (payload_of_record x d n k.0 k.1))
+
+  -- where it takes memory
+  pub keep_asks : (r : Result (Unit {0}) DecodeError) (e f : DecodeError) → r ≡ Err f → f ≡ e → (e ≡ error.OutOfMemory → TakesMemory d s w bs) → FullOnlyIf r (KeepTakesMemory before.unknown d n w bs)
+  keep_asks r e f is same full =
+      subst (λ z. FullOnlyIf z (KeepTakesMemory before.unknown d n w bs)) (sym (is ∙ ap (λ x. Err x) same)) (λ told. subst (λ k. KeepTakesMemory k d n w bs) all (inl (full told)))
+
+  pub keep_asks_put : (x : Datum × ℕ × List ℕ) → field_at d s n w bs ≡ Ok x → KeepTakesMemory before.unknown d n w bs
+  keep_asks_put x is = subst (λ k. KeepTakesMemory k d n w bs) all (inr (is_there (field_at d s n w bs) x is))
 
   -- the same of an error that is passed on by `?`
   pub keep_err_as : (r : Result (Unit {0}) DecodeError) (e f : DecodeError) → r ≡ Err f → f ≡ e → (rest : List ℕ) → (e ≢ error.OutOfMemory → field_at d s n w bs ≡ Err e) → (e ≡ error.OutOfMemory → w ≢ wire.EndGroup) → IsTaken keep_takes keep_need d v n w bs before r v before rest

@@ -1,24 +1,28 @@
 -- A message as a list of its members, as a value. Source: the protobuf encoding guide, "Message Structure".
-use Rattle.std.specs.Prelude.{◌≡◌, ℕ, ◌==◌, ◌≤◌, ◌&&◌, ◌||◌, Bool, true, false, not, max, List, [], ◌++◌, length, Option, Some, None, Result, Ok, Err, MatchResult}
+use Rattle.std.specs.Prelude.{◌≡◌, ℕ, ◌==◌, ◌≤◌, ◌&&◌, Bool, true, false, List, ◌++◌, Some, Result, Err, MatchResult}
 use Rattle.buffa_bytes.specs.declared.wire_type.WireType.{WireType}
 use Rattle.buffa_bytes.specs.declared.error.DecodeError.{DecodeError}
 use Rattle.buffa_bytes.specs.declared.error.EncodeError.{EncodeError}
 use Rattle.buffa_wire.specs.BudgetLeft.{BudgetLeft, nothing}
+use Rattle.buffa_wire.specs.Gives.{FullOnlyIf}
 use Rattle.buffa_wire.specs.Number.{IsNumber}
 use Rattle.buffa_wire.specs.Parse.{Fits}
 use Rattle.buffa_wire.specs.Cache.{Cache}
 use Rattle.buffa_wire.specs.Passes.{IsNext, IsSized, IsWritten}
 use Rattle.buffa_wire.specs.Records.{Datum, records_of}
 use Rattle.buffa_wire.specs.Text.{records_text}
-use Rattle.buffa_fields.specs.Keep.{keep_need, keep_takes}
-use Rattle.buffa_fields.specs.Takes.{IsTaken, Need, ReadsBack, Stays, Taker}
+use Rattle.buffa_fields.specs.Keep.{KeepTakesMemory, keep_need, keep_takes}
+use Rattle.buffa_fields.specs.Takes.{Asks, IsTaken, Need, ReadsBack, Stays, Taker}
 
--- What a member of a message is: what its value means, what a payload makes of it, and the records it is written as,
--- under a number; with what it owes.
+-- What a member of a message is: what its value means, what a payload makes of it, where that may ask for memory, and
+-- the records it is written as, under a number; with what it owes.
 pub record Slot (P X : Type 0) : Type 1 where
   pub meaning : P → X
   pub blank : X
   pub takes : Taker X
+  -- what is told of the number and the wire type of a field: that the member takes it, or the fault
+  pub checks : ℕ → WireType → Result (Unit {0}) DecodeError
+  pub asks : Asks
   pub need : Need
   pub records : ℕ → X → List (ℕ × Datum)
   -- the sizes of the messages in it, in the order in which its passes reserve and consume them
@@ -33,13 +37,18 @@ pub record ReadsBackTo {P X : Type 0} (s : Slot P X) : Type 0 where
 
 -- ---- what the calls of a message's members owe
 
--- a member takes the field whose tag was read
+-- a member takes the field whose tag was read, or tells the fault of its wire type; memory runs out only where it may be
+-- asked for
 unfoldable pub Took : {P X : Type 0} → Slot P X → ℕ → P → ℕ → WireType → List ℕ → BudgetLeft → Result (Unit {0}) DecodeError → P → BudgetLeft → List ℕ → Type 0
-Took s d old n w bs before r new after rest = IsTaken s.takes s.need d (s.meaning old) n w bs before r (s.meaning new) after rest
+Took s d old n w bs before r new after rest =
+    IsTaken s.takes s.need d (s.meaning old) n w bs before r (s.meaning new) after rest
+    × FullOnlyIf r (s.asks d n w bs) × ((e : DecodeError) → s.checks n w ≡ Err e → r ≡ Err e)
 
--- a field that isn't declared is kept, or passed over; nothing is kept of one that is refused
+-- a field that isn't declared is kept, or passed over, which takes no memory; nothing is kept of one that is refused
 unfoldable pub Kept : ℕ → List (ℕ × Datum) → ℕ → WireType → List ℕ → BudgetLeft → Result (Unit {0}) DecodeError → List (ℕ × Datum) → BudgetLeft → List ℕ → Type 0
-Kept d old n w bs before r new after rest = IsTaken keep_takes keep_need d old n w bs before r new after rest × MatchResult r (λ _. Unit {0}) (λ _. old ≡ new)
+Kept d old n w bs before r new after rest =
+    IsTaken keep_takes keep_need d old n w bs before r new after rest × MatchResult r (λ _. Unit {0}) (λ _. old ≡ new)
+    × FullOnlyIf r (KeepTakesMemory before.unknown d n w bs)
 
 abbrev pub passes : Taker (Unit {0})
 passes d v n w p = Some v
@@ -48,7 +57,7 @@ abbrev pub costs_nothing : Need
 costs_nothing d n w bs = nothing
 
 unfoldable pub Passed : ℕ → ℕ → WireType → List ℕ → BudgetLeft → Result (Unit {0}) DecodeError → BudgetLeft → List ℕ → Type 0
-Passed d n w bs before r after rest = IsTaken passes costs_nothing d tt n w bs before r tt after rest
+Passed d n w bs before r after rest = IsTaken passes costs_nothing d tt n w bs before r tt after rest × FullOnlyIf r ⊥
 
 -- What a visitor has seen: records, and sizes of messages in them, since it stood behind these bytes of a sink and
 -- before this cache; both are lent, and known by names.
@@ -92,6 +101,8 @@ pub record Layout (M X : Type 0) : Type 1 where
   pub meaning : M → X
   pub blank : X
   pub takes : Taker X
+  -- with so many slots left for what isn't declared, where a field may ask for memory
+  pub asks : ℕ → Asks
   pub need : Need
   pub records : X → List (ℕ × Datum)
   pub slots : X → List ℕ
@@ -113,6 +124,8 @@ pub record Layout (M X : Type 0) : Type 1 where
   pub same_is : (a b : M) → Same a b → meaning a ≡ meaning b
   pub taken_is : (d : ℕ) (old : M) (n : ℕ) (w : WireType) (bs : List ℕ) (before : BudgetLeft) (r : Result (Unit {0}) DecodeError) (new : M) (after : BudgetLeft) (rest : List ℕ) →
       Taken d old n w bs before r new after rest → IsTaken takes need d (meaning old) n w bs before r (meaning new) after rest
+  pub asks_is : (d : ℕ) (old : M) (n : ℕ) (w : WireType) (bs : List ℕ) (before : BudgetLeft) (r : Result (Unit {0}) DecodeError) (new : M) (after : BudgetLeft) (rest : List ℕ) →
+      Taken d old n w bs before r new after rest → FullOnlyIf r (asks before.unknown d n w bs)
   pub apart : (d : ℕ) (old : M) (n : ℕ) (w : WireType) (bs : List ℕ) (before : BudgetLeft) (e : DecodeError) (new : M) (after : BudgetLeft) (rest : List ℕ) →
       Taken d old n w bs before (let r : Result (Unit {0}) DecodeError = Err e in r) new after rest → Apart n (meaning old) (meaning new)
   pub seen_is : (m : M) (z : Seen) → seen m z ≡ more (records (meaning m)) (slots (meaning m)) z

@@ -1,5 +1,5 @@
 -- What is proved of lists of members, whatever the members.
-use Rattle.std.proofs.Common.{◌≡◌, ◌≢◌, ℕ, ◌+◌, ◌==◌, ◌<◌, ◌≤◌, ◌&&◌, min, Bool, true, false, not, List, [], ◌∷◌, ◌++◌, length, Option, Some, None, Result, Ok, Err, IsOk, refl, sym, ap, subst, ◌∙◌, arith, append_assoc, append-nil, length-append}
+use Rattle.std.proofs.Common.{◌≡◌, ◌≢◌, ℕ, ◌+◌, ◌==◌, ◌≤◌, min, Bool, true, false, List, [], ◌++◌, length, Some, Result, Ok, Err, IsOk, refl, sym, ap, subst, ◌∙◌, arith, append_assoc, append-nil, length-append}
 use Rattle.std.proofs.lemmas.Bool.{eqb-true, eqb-false}
 use Rattle.buffa_bytes.specs.declared.wire_type.WireType.{WireType}
 use Rattle.buffa_bytes.specs.declared.wire_type.WireType.TheVariants.{EndGroup}
@@ -15,7 +15,7 @@ use Rattle.buffa_wire.proofs.PassLemmas.{appended_none, appended_twice, done, ne
 use Rattle.buffa_wire.specs.Records.{Datum, records_of}
 use Rattle.buffa_wire.specs.Text.{records_text}
 use Rattle.buffa_fields.specs.Layout.{Choice, Follow, IsCounted, IsPut, Kept, Layout, Passed, Seen, Slot, Took, costs_nothing, more, passes, visited}
-use Rattle.buffa_fields.specs.Keep.{keep_need, keep_takes}
+use Rattle.buffa_fields.specs.Keep.{KeepTakesMemory, keep_need, keep_takes}
 use Rattle.buffa_fields.specs.PairLaws.{first_taken, other_taken, records_text-append}
 use Rattle.buffa_fields.specs.Takes.{IsTaken, Need, Taker, both_need, both_take, cost_of, merged_of}
 use Rattle.buffa_fields.specs.TakesLaws.{back as leads_back, taken_full, taken_merges}
@@ -27,13 +27,23 @@ module _ {P X B : Type 0} (s : Slot P X) (k : ℕ) (g : Taker B) (gn : Need) (d 
   unfolding Took
   by_test true is (took, stay) =
       subst (λ z. IsTaken (both_take k s.takes g) (both_need k s.need gn) d (s.meaning p, b) n w bs before r (s.meaning q, z) after rest) (same stay)
-      (first_taken k s.takes g s.need gn d (s.meaning p) b n w bs before r (s.meaning q) after rest (eqb-true n k is) took)
+      (first_taken k s.takes g s.need gn d (s.meaning p) b n w bs before r (s.meaning q) after rest (eqb-true n k is) took.0)
   by_test false is (stay, h) =
       subst (λ z. IsTaken (both_take k s.takes g) (both_need k s.need gn) d (s.meaning p, b) n w bs before r (s.meaning z, c) after rest) (sym stay)
       (other_taken k s.takes g s.need gn d (s.meaning p) b n w bs before r c after rest (eqb-false n k is) (taken h))
 
   pub field_taken : Choice (n == k) (Took s d p n w bs before r q after rest × S) ((q ≡ p) × T) → IsTaken (both_take k s.takes g) (both_need k s.need gn) d (s.meaning p, b) n w bs before r (s.meaning q, c) after rest
   field_taken h = by_test (n == k) refl h
+
+-- memory runs out only where the member of the field asks for it
+pub field_asks : {P X : Type 0} (s : Slot P X) (k d : ℕ) (p q : P) (n : ℕ) (w : WireType) (bs : List ℕ) (before : BudgetLeft) (r : Result (Unit {0}) DecodeError) (after : BudgetLeft) (rest : List ℕ) (A S T : Type 0) →
+    (T → FullOnlyIf r A) → Choice (n == k) (Took s d p n w bs before r q after rest × S) ((q ≡ p) × T) → FullOnlyIf r (Choice (n == k) (s.asks d n w bs) A)
+unfolding Took
+field_asks s k d p q n w bs before r after rest A S T asks h = at (n == k) h
+  where
+    at : (t : Bool) → Choice t (Took s d p n w bs before r q after rest × S) ((q ≡ p) × T) → FullOnlyIf r (Choice t (s.asks d n w bs) A)
+    at true (took, stay) = took.1
+    at false (stay, h) = asks h
 
 -- a refused field changes its member alone
 pub field_apart : {P X B : Type 0} (s : Slot P X) (k : ℕ) (Apart : ℕ → B → B → Type 0) (p q : P) (b c : B) (n : ℕ) (T S R : Type 0) → (S → b ≡ c) → (R → Apart n b c) →
@@ -55,10 +65,19 @@ pub kept_stays : (d : ℕ) (old : List (ℕ × Datum)) (n : ℕ) (w : WireType) 
 unfolding Kept
 kept_stays d old n w bs before e new after rest h = h.1
 
+pub kept_asks : (d : ℕ) (old : List (ℕ × Datum)) (n : ℕ) (w : WireType) (bs : List ℕ) (before : BudgetLeft) (r : Result (Unit {0}) DecodeError) (new : List (ℕ × Datum)) (after : BudgetLeft) (rest : List ℕ) →
+    Kept d old n w bs before r new after rest → FullOnlyIf r (KeepTakesMemory before.unknown d n w bs)
+unfolding Kept
+kept_asks d old n w bs before r new after rest h = h.2
+
 pub is_passed : (d n : ℕ) (w : WireType) (bs : List ℕ) (before : BudgetLeft) (r : Result (Unit {0}) DecodeError) (after : BudgetLeft) (rest : List ℕ) →
     Passed d n w bs before r after rest → IsTaken passes costs_nothing d tt n w bs before r tt after rest
 unfolding Passed
-is_passed d n w bs before r after rest h = h
+is_passed d n w bs before r after rest h = h.0
+
+pub passed_asks : (d n : ℕ) (w : WireType) (bs : List ℕ) (before : BudgetLeft) (r : Result (Unit {0}) DecodeError) (after : BudgetLeft) (rest : List ℕ) → Passed d n w bs before r after rest → FullOnlyIf r ⊥
+unfolding Passed
+passed_asks d n w bs before r after rest h = h.1
 
 -- ---- what was seen
 pub more_none : (z : Seen) → z ≡ more [] [] z

@@ -1,8 +1,8 @@
 -- What is proved of repeated fields.
-use Rattle.std.proofs.Common.{◌≡◌, ◌≢◌, ◌⊎◌, inl, inr, ℕ, zero, suc, ◌+◌, ◌*◌, ◌^◌, ◌==◌, ◌<◌, ◌≤◌, min, Bool, true, false, List, [], ◌∷◌, ◌++◌, length, map, take, drop, get_or, Option, Some, None, Result, Ok, Err, IsOk, refl, sym, ap, subst, ◌∙◌, arith, append_assoc, append-nil, length-append, if◌then◌else◌}
+use Rattle.std.proofs.Common.{◌≡◌, ◌≢◌, inl, inr, ℕ, zero, suc, ◌+◌, ◌*◌, ◌^◌, ◌==◌, ◌<◌, ◌≤◌, min, Bool, true, false, List, [], ◌∷◌, ◌++◌, length, map, take, drop, get_or, Some, Result, Ok, Err, IsOk, refl, sym, ap, subst, ◌∙◌, arith, append_assoc, append-nil, length-append, if◌then◌else◌}
 use Rattle.std.proofs.lemmas.Bool.{eq-eqb}
 use Rattle.std.proofs.lemmas.List.{map-append, take_more, drop_more, take-append-drop}
-use Rattle.buffa_bytes.proofs.ContentLemmas.{content_complete, content_sound}
+use Rattle.buffa_bytes.proofs.ContentLemmas.{content_complete}
 use Rattle.buffa_bytes.proofs.DelimitedLemmas.{delimited_back, delimited_complete, delimited_sound}
 use Rattle.buffa_bytes.proofs.FieldLemmas.{wire_small}
 use Rattle.buffa_bytes.proofs.SinkLemmas.{front_first, front_second}
@@ -10,13 +10,12 @@ use Rattle.buffa_bytes.proofs.StepLemmas.{Agrees, agree_bind, agree_err, agree_o
 use Rattle.buffa_bytes.proofs.VarintLemmas.{IsVarint-varint_text, varint_falls}
 use Rattle.buffa_bytes.specs.Content.{Content, HasContent, content_at}
 use Rattle.buffa_bytes.specs.Content.Content.{number, bytes as held}
-use Rattle.buffa_bytes.specs.Field.{TakesDelimited}
 use Rattle.buffa_bytes.specs.Varint.{varint_text}
 use Rattle.buffa_bytes.specs.WireType.{wire_number}
 use Rattle.buffa_bytes.specs.declared.error.DecodeError.{DecodeError}
 use Rattle.buffa_bytes.specs.declared.error.DecodeError.TheVariants.{OutOfMemory, UnexpectedEof, WireTypeMismatch}
 use Rattle.buffa_bytes.specs.declared.wire_type.WireType.{WireType}
-use Rattle.buffa_bytes.specs.declared.wire_type.WireType.TheVariants.{Varint, Fixed64, LengthDelimited, StartGroup, EndGroup, Fixed32}
+use Rattle.buffa_bytes.specs.declared.wire_type.WireType.TheVariants.{Varint, Fixed64, LengthDelimited, Fixed32}
 use Rattle.buffa_wire.proofs.MessageLemmas.{NoLimit, length_no_limit}
 use Rattle.buffa_wire.proofs.SequenceLemmas.{err_same, ok_same}
 use Rattle.buffa_wire.specs.BudgetLeft.{BudgetLeft, nothing}
@@ -26,7 +25,7 @@ use Rattle.buffa_wire.specs.Message.{IsLimit}
 use Rattle.buffa_wire.specs.Number.{IsNumber}
 use Rattle.buffa_wire.specs.Parse.{Fits}
 use Rattle.buffa_wire.specs.Passes.{cap}
-use Rattle.buffa_wire.specs.Reading.{delimited_at}
+use Rattle.buffa_wire.specs.Reading.{check_wire, delimited_at}
 use Rattle.buffa_wire.specs.Records.{Datum, records_of}
 use Rattle.buffa_wire.specs.Sequence.{parse_all, parse_within}
 use Rattle.buffa_wire.specs.Text.{field_text, records_text}
@@ -37,11 +36,11 @@ use Rattle.buffa_map.proofs.EntryLemmas.{same_false, same_refl, value_complete, 
 use Rattle.buffa_map.specs.Codec.{Reading, ValueFault, Writing, level, value_at}
 use Rattle.buffa_fields.specs.FieldsLaws.{along_err, along_none, along_ok}
 use Rattle.buffa_fields.specs.LayoutLaws.{cap_more}
-use Rattle.buffa_fields.specs.Lists.{Each, TakesPacked, element_at, element_records, elements_in, elements_taken, packed_in, packed_records, packed_text}
+use Rattle.buffa_fields.specs.Lists.{Each, TakesPacked, check_list_wire, element_at, element_records, elements_in, elements_taken, packed_records, packed_text}
 use Rattle.buffa_fields.specs.PairLaws.{records_text-append}
-use Rattle.buffa_fields.specs.Takes.{IsTaken, Leads, Piece, ReadsBack, Untaken, joined}
+use Rattle.buffa_fields.specs.Takes.{IsTaken, Leads, Piece, ReadsBack, joined}
 use Rattle.buffa_fields.specs.ValueLaws.{content_payload, fault_no_limit, none_of}
-use Rattle.buffa_fields.specs.Values.{all_of, free}
+use Rattle.buffa_fields.specs.Values.{free}
 
 -- a payload has a byte
 has_byte : (w : WireType) (p : List ℕ) (c : Content) → HasContent w p c → 0 < length p
@@ -92,6 +91,11 @@ module _ {V : Type 0} (codec : Reading V) (plain : codec.nested ≡ false)
 
   pub element_falls : (vs : List V) (bs : List ℕ) (new : List V) (rest : List ℕ) → element_at codec d vs bs ≡ Ok (new, rest) → length rest < length bs
   element_falls vs bs new rest h = falls vs bs (new, rest) h
+
+  -- an element that was read has a whole payload
+  pub element_there : (vs : List V) (bs : List ℕ) (new : List V) (rest : List ℕ) → element_at codec d vs bs ≡ Ok (new, rest) → IsOk (content_at codec.wire bs)
+  element_there vs bs new rest h =
+      let u = element_is vs bs new rest h in subst (λ r. IsOk r) (sym (ap (content_at codec.wire) u.6 ∙ content_complete codec.wire u.1 u.2 rest u.3)) refl
 
   value_err_of : (vs : List V) (bs : List ℕ) (e : DecodeError) (r : Result ((V × Bool) × List ℕ) DecodeError) → value_at codec d codec.blank bs ≡ r →
       (r >>= (λ x. let y : List V × List ℕ = (vs ++ x.0.0 ∷ [], x.1) in Ok y)) ≡ Err e → value_at codec d codec.blank bs ≡ Err e
@@ -305,6 +309,24 @@ module _ {V : Type 0} (reading : Reading V) (writing : Writing V) (datum : V →
         spelled = refl;
         leads = (eq-eqb n n refl, tag_is LengthDelimited, (varint_text (length b), b, IsVarint-varint_text (length b) fits.1, refl), v ∷ vs, takes_packed apart (v ∷ vs) h fits.1, refl);
       }
+
+-- ---- the wire type of a field
+module _ (n : ℕ) (wire w : WireType) (e : DecodeError) (told : check_list_wire n wire w ≡ Err e) where
+  -- the elements' own is told of by nothing
+  pub own_wire : check_wire n wire w ≡ Ok tt → ⊥
+  own_wire is = at (same_wire LengthDelimited w) told
+    where
+      at : (b : Bool) → (if b then (let r : Result (Unit {0}) DecodeError = Ok tt in r) else check_wire n wire w) ≡ Err e → ⊥
+      at true h = cc
+      at false h = let two = sym is ∙ h in cc
+
+  -- so are packed ones
+  pub packed_wire : w ≡ LengthDelimited → ⊥
+  packed_wire is = let two = rw is at told in cc
+
+  -- another is, as of one element
+  pub other_wire : w ≢ LengthDelimited → check_wire n wire w ≡ Err e
+  other_wire other = rw (same_false LengthDelimited w other) at told
 
 -- ---- what calls give
 pub element_from : {V : Type 0} (codec : Reading V) (d : ℕ) (vs : List V) (bs : List ℕ) (blank : V) → codec.blank ≡ blank → (x : V) (known : Bool) (rest : List ℕ) →

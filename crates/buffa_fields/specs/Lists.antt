@@ -1,17 +1,19 @@
 -- Repeated fields. Source: the protobuf encoding guide, "Repeated Elements" and "Packed Repeated Fields".
-use Rattle.std.specs.Prelude.{◌≡◌, ◌≢◌, ◌⊎◌, MatchResult, ℕ, List, [], ◌∷◌, ◌++◌, Bool, true, false, map, Option, Some, None, Result, Ok, Err, if◌then◌else◌}
+use Rattle.std.specs.Prelude.{◌≡◌, ◌≢◌, ◌⊎◌, MatchResult, ℕ, List, [], ◌∷◌, ◌++◌, map, Option, None, Result, Ok, Err, IsOk, if◌then◌else◌}
 use Rattle.std.specs.Option.{option_map}
 use Rattle.buffa_bytes.specs.declared.error.DecodeError.{DecodeError}
 use Rattle.buffa_bytes.specs.declared.error.DecodeError.TheVariants.{OutOfMemory}
+use Rattle.buffa_bytes.specs.declared.wire_type.WireType.{WireType}
 use Rattle.buffa_bytes.specs.declared.wire_type.WireType.TheVariants.{LengthDelimited}
+use Rattle.buffa_wire.specs.Content.{content_at}
 use Rattle.buffa_wire.specs.Gives.{◌>>=◌}
-use Rattle.buffa_wire.specs.Reading.{delimited_at}
+use Rattle.buffa_wire.specs.Reading.{check_wire, delimited_at}
 use Rattle.buffa_wire.specs.Records.{Datum, bytes}
 use Rattle.buffa_wire.specs.Sequence.{parse_all}
 use Rattle.buffa_wire.specs.WireType.{same_wire}
 use Rattle.buffa_map.specs.Codec.{Reading, value_at}
 use Rattle.buffa_fields.specs.Fields.{value_of}
-use Rattle.buffa_fields.specs.Takes.{Taker}
+use Rattle.buffa_fields.specs.Takes.{Asks, Taker}
 use Rattle.buffa_fields.specs.Values.{all_of}
 
 module _ {V : Type 0} (codec : Reading V) (d : ℕ) where
@@ -42,6 +44,19 @@ unfoldable pub elements_taken : {V : Type 0} → Reading V → Taker (List V)
 elements_taken codec d vs n w p =
     if same_wire codec.wire w then option_map (λ x. vs ++ x ∷ []) (all_of (value_at codec d codec.blank p))
     else (if same_wire LengthDelimited w then packed_in codec d vs (delimited_at p) else None)
+
+-- a list takes fields of the elements' wire type, and length-delimited ones, which are packed
+abbrev pub check_list_wire : ℕ → WireType → WireType → Result (Unit {0}) DecodeError
+check_list_wire n expected w = if same_wire LengthDelimited w then Ok tt else check_wire n expected w
+
+-- packed elements take memory where a length and so many bytes are there, and a whole payload begins these
+abbrev pub PackedTakeMemory : {V : Type 0} → Reading V → List ℕ → Type 0
+PackedTakeMemory codec bs = (b : List ℕ) × (rest : List ℕ) × (delimited_at bs ≡ Ok (b, rest)) × IsOk (content_at codec.wire b)
+
+-- elements take memory where one has a whole payload, by itself or the first of packed ones
+abbrev pub ElementsTakeMemory : {V : Type 0} → Reading V → Asks
+ElementsTakeMemory codec d n w bs =
+    ((w ≡ codec.wire) × IsOk (content_at codec.wire bs)) ⊎ ((w ≡ LengthDelimited) × PackedTakeMemory codec bs)
 
 -- a record for each element
 unfoldable pub element_records : {V : Type 0} → (V → Datum) → ℕ → List V → List (ℕ × Datum)

@@ -1,10 +1,11 @@
 -- Map fields in messages. Source: the protobuf encoding guide, "Maps".
-use Rattle.std.specs.Prelude.{◌≡◌, ℕ, Bool, true, false, List, [], ◌∷◌, ◌++◌, MatchResult, Option, Some, None, Result, Ok, Err, if◌then◌else◌}
+use Rattle.std.specs.Prelude.{◌≡◌, ◌⊎◌, ℕ, Bool, true, List, [], ◌∷◌, ◌++◌, MatchResult, Option, None, Result, Ok, Err, if◌then◌else◌}
 use Rattle.std.specs.Option.{option_map}
 use Rattle.buffa_bytes.specs.declared.error.DecodeError.{DecodeError}
+use Rattle.buffa_bytes.specs.declared.error.DecodeError.TheVariants.{OutOfMemory}
 use Rattle.buffa_bytes.specs.declared.wire_type.WireType.TheVariants.{LengthDelimited}
 use Rattle.buffa_bytes.specs.declared.error.EncodeError.{EncodeError}
-use Rattle.buffa_bytes.specs.declared.error.EncodeError.TheVariants.{OutOfMemory}
+use Rattle.buffa_bytes.specs.declared.error.EncodeError.TheVariants as encode
 use Rattle.buffa_wire.specs.Passes.{Begins, IsSmall}
 use Rattle.buffa_wire.specs.Text.{records_text}
 use Rattle.buffa_wire.specs.BudgetLeft.{nothing}
@@ -12,12 +13,13 @@ use Rattle.buffa_wire.specs.Reading.{delimited_at}
 use Rattle.buffa_wire.specs.Records.{Datum, bytes}
 use Rattle.buffa_wire.specs.WireType.{same_wire}
 use Rattle.buffa_map.specs.Codec.{Reading, Writing, need_by}
-use Rattle.buffa_map.specs.Entry.{entry_of, need_of}
+use Rattle.buffa_map.specs.Entry.{IsEntry, entry_of, need_of}
+use Rattle.buffa_map.specs.Fields.{FieldsTakeMemory}
 use Rattle.buffa_map.specs.Run.{step}
 use Rattle.buffa_map.specs.Text.{entry_text}
 use Rattle.buffa_map.specs.declared.map_entry.MapEntry.{MapEntry}
 use Rattle.buffa_fields.specs.Fields.{value_of}
-use Rattle.buffa_fields.specs.Takes.{Need, Taker}
+use Rattle.buffa_fields.specs.Takes.{Asks, Need, Taker}
 
 module _ {K V : Type 0} (key : Reading K) (val : Reading V) where
   -- the entry that a whole payload holds
@@ -29,6 +31,12 @@ module _ {K V : Type 0} (key : Reading K) (val : Reading V) where
   -- each payload is an entry, whose pair is put
   unfoldable pub entry_taken : (K → K → Bool) → Taker (List (K × V))
   entry_taken same d m n w p = if same_wire LengthDelimited w then option_map (step same m) (entry_in d (delimited_at p)) else None
+
+  -- one takes memory where a length and so many bytes are there, and a field in these does, or they are an entry, which is put
+  abbrev pub PairTakesMemory : Asks
+  PairTakesMemory d n w bs =
+      (w ≡ LengthDelimited) × (e : List ℕ) × (rest : List ℕ) × (delimited_at bs ≡ Ok (e, rest))
+      × (FieldsTakeMemory key val d e OutOfMemory ⊎ ((s : MapEntry K V) × IsEntry key val d e s × (s.known ≡ true)))
 
   unfoldable pub entry_cost : ℕ → Need
   entry_cost cost d n w bs = if same_wire LengthDelimited w then need_by (delimited_at bs) (λ e. need_of key val d cost e.0) else nothing
@@ -43,4 +51,4 @@ abbrev pub WritesMap : {K V T : Type 0} → Writing K → Writing V → ℕ → 
 WritesMap key val n l old r new =
     let text = records_text (map_records key val n l) in
     (bs : List ℕ) × (new ≡ old ++ bs)
-    × MatchResult r (λ _. IsSmall text → bs ≡ text) (λ e. (e ≡ OutOfMemory) × (IsSmall text → Begins bs text))
+    × MatchResult r (λ _. IsSmall text → bs ≡ text) (λ e. (e ≡ encode.OutOfMemory) × (IsSmall text → Begins bs text))

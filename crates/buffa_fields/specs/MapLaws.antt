@@ -1,22 +1,18 @@
 -- What is proved of map fields in messages.
-use Rattle.std.proofs.Common.{◌≡◌, ◌≢◌, ◌⊎◌, inl, inr, ℕ, ◌+◌, ◌*◌, ◌^◌, ◌==◌, ◌<◌, ◌≤◌, min, Bool, true, false, cond, List, [], ◌∷◌, ◌++◌, length, Option, Some, None, Result, Ok, Err, IsOk, refl, sym, ap, subst, ◌∙◌, arith, append_assoc, append-nil, length-append, if◌then◌else◌}
+use Rattle.std.proofs.Common.{◌≡◌, ◌≢◌, ◌⊎◌, inl, inr, ℕ, ◌+◌, ◌*◌, ◌^◌, ◌==◌, ◌<◌, ◌≤◌, Bool, true, false, cond, List, [], ◌∷◌, ◌++◌, length, Some, Result, Ok, Err, refl, sym, ap, subst, ◌∙◌, arith, append_assoc, append-nil, length-append}
 use Rattle.std.proofs.lemmas.Bool.{eq-eqb}
 use Rattle.std.specs.Cmp.{IsEquivalence}
 use Rattle.std.specs.List.{IsDistinct}
 use Rattle.std.specs.Map.{keys_of}
-use Rattle.std.specs.Option.{option_map}
-use Rattle.buffa_bytes.proofs.DelimitedLemmas.{delimited_back, delimited_complete, delimited_faulty, delimited_sound, delimited_taken}
-use Rattle.buffa_bytes.proofs.FieldLemmas.{wire_small}
-use Rattle.buffa_bytes.proofs.StepLemmas.{agree_err, agree_ok}
+use Rattle.buffa_bytes.proofs.DelimitedLemmas.{delimited_back, delimited_complete, delimited_faulty, delimited_taken}
 use Rattle.buffa_bytes.proofs.VarintLemmas.{IsVarint-varint_text}
 use Rattle.buffa_bytes.specs.declared.error.DecodeError.{DecodeError}
 use Rattle.buffa_bytes.specs.declared.error.DecodeError.TheVariants as error
 use Rattle.buffa_bytes.specs.declared.error.DecodeError.TheVariants.{OutOfMemory, WireTypeMismatch}
 use Rattle.buffa_bytes.specs.declared.wire_type.WireType.{WireType}
 use Rattle.buffa_bytes.specs.declared.wire_type.WireType.TheVariants.{Varint, Fixed64, LengthDelimited, StartGroup, EndGroup, Fixed32}
-use Rattle.buffa_bytes.specs.Varint.{IsVarint}
-use Rattle.buffa_wire.proofs.MessageLemmas.{NoLimit, length_no_limit}
-use Rattle.buffa_wire.specs.BudgetLeft.{BudgetLeft, Lacks, Pays, PaysAtMost, nothing, plus, slots}
+use Rattle.buffa_wire.proofs.MessageLemmas.{NoLimit}
+use Rattle.buffa_wire.specs.BudgetLeft.{BudgetLeft, Lacks, PaysAtMost, plus, slots}
 use Rattle.buffa_wire.specs.Field.{Payload}
 use Rattle.buffa_wire.specs.Message.{IsLimit}
 use Rattle.buffa_wire.specs.Number.{IsNumber}
@@ -25,21 +21,21 @@ use Rattle.buffa_wire.specs.Cache.{Cache}
 use Rattle.buffa_wire.specs.Passes.{IsWritten, cap}
 use Rattle.buffa_wire.proofs.PassLemmas.{consumes_none, written_none}
 use Rattle.buffa_wire.specs.Reading.{delimited_at}
-use Rattle.buffa_wire.specs.Records.{Datum, bytes, records_of}
+use Rattle.buffa_wire.specs.Records.{Datum, records_of}
 use Rattle.buffa_wire.specs.Text.{records_text}
-use Rattle.buffa_wire.specs.WireType.{same_wire}
 use Rattle.buffa_wire.proofs.SequenceLemmas.{ok_same}
 use Rattle.buffa_map.proofs.EntryLemmas.{entry_complete, entry_faulty, same_false}
 use Rattle.buffa_map.specs.Codec.{Reading, Writing}
 use Rattle.buffa_map.specs.Entry.{EntryFault, FaultOf, IsEntry, need_of}
+use Rattle.buffa_map.specs.Fields.{FieldsTakeMemory}
 use Rattle.buffa_map.specs.Laws.{LimitsAreTrue, SizeIsLength}
-use Rattle.buffa_map.specs.Merge.{MergesEntry, RefusesEntry, State, dropping, state}
+use Rattle.buffa_map.specs.Merge.{EntryTakesMemory, MergesEntry, RefusesEntry, dropping, state}
 use Rattle.buffa_map.specs.Run.{step}
 use Rattle.buffa_map.specs.Text.{AllHold, HasText, RefusesField, entry_text, field_size, field_text, record_text, saturated}
 use Rattle.buffa_map.specs.declared.map_entry.MapEntry.{MapEntry}
 use Rattle.buffa_bytes.specs.declared.error.EncodeError.{EncodeError}
 use Rattle.buffa_bytes.specs.declared.error.EncodeError.TheVariants as encode
-use Rattle.buffa_fields.specs.MapFields.{WritesMap, entry_cost, entry_in, entry_taken, map_records}
+use Rattle.buffa_fields.specs.MapFields.{PairTakesMemory, WritesMap, entry_cost, entry_taken, map_records}
 use Rattle.buffa_fields.specs.Takes.{IsTaken, Leads, Piece, ReadsBack, Stays, Untaken, joined}
 use Rattle.std.proofs.Common.{map}
 use Rattle.buffa_map.proofs.BackLemmas.{IsReadBack, as_record, entry_back, fold_back, is_tag}
@@ -82,6 +78,13 @@ module _ {K V : Type 0} (key : Reading K) (val : Reading V) (same : K → K → 
       let whole : delimited_at (p ++ x) ≡ Ok (body, x) = ap delimited_at (ap (λ (z : List ℕ). z ++ x) is ∙ append_assoc t body x) ∙ delimited_complete t body x varint in
       let alone : delimited_at p ≡ Ok (body, []) = ap delimited_at (is ∙ ap (λ (z : List ℕ). t ++ z) (sym (append-nil body))) ∙ delimited_complete t body [] varint in
       rw (whole, alone) refl
+
+  -- ---- where it takes memory
+  pub map_full : (d n : ℕ) (w : WireType) (bs : List ℕ) (left : BudgetLeft) → w ≡ LengthDelimited → (f : DecodeError) → f ≡ OutOfMemory → EntryTakesMemory (dropping key val same true d 0 cost) left bs f → PairTakesMemory key val d n w bs
+  map_full d n w bs left wire f full (e, rest, is, inl copied) = absurd (copied.0 refl)
+  map_full d n w bs left wire f full (e, rest, is, inr (enough, inl field)) = (wire, e, rest, is, inl (subst (λ z. FieldsTakeMemory key val d e z) full field))
+  map_full d n w bs left wire f full (e, rest, is, inr (enough, inr (s, entry, inl known))) = (wire, e, rest, is, inr (s, entry, known))
+  map_full d n w bs left wire f full (e, rest, is, inr (enough, inr (s, entry, inr kept))) = absurd (kept.0 refl)
 
   module _ (d n : ℕ) (w : WireType) (old new : List (K × V)) (bs rest : List ℕ) (before after : BudgetLeft) (none : List (ℕ × Datum)) where
     payload_at : (p more : List ℕ) → w ≡ LengthDelimited → Payload d n w p → bs ≡ p ++ more → (body : List ℕ) × (delimited_at bs ≡ Ok (body, more)) × (delimited_at p ≡ Ok (body, []))

@@ -1,12 +1,12 @@
 -- Lists of members. A message names its members by these, one after the other.
-use Rattle.std.specs.Prelude.{◌≡◌, ℕ, ◌==◌, ◌&&◌, ◌||◌, Bool, true, false, not, max, List, [], ◌++◌, Result, Err, refl}
-use Rattle.std.proofs.Common.{sym, ap}
+use Rattle.std.specs.Prelude.{◌≡◌, ℕ, ◌==◌, ◌&&◌, ◌||◌, true, false, not, max, List, [], ◌++◌, Result, Err, refl}
+use Rattle.std.proofs.Common.{sym}
 use Rattle.buffa_bytes.specs.declared.error.DecodeError.{DecodeError}
 use Rattle.buffa_wire.specs.Records.{Datum, height}
-use Rattle.buffa_fields.specs.Keep.{AllNumbers, keep_need, keep_takes}
+use Rattle.buffa_fields.specs.Keep.{AllNumbers, KeepTakesMemory, keep_need, keep_takes}
 use Rattle.buffa_fields.specs.KeepLaws.{all_numbers, both_numbers, keep_back, keep_stays}
 use Rattle.buffa_fields.specs.Layout.{Choice, Kept, Layout, Passed, ReadsBackTo, Slot, Took, costs_nothing, more, passes, visited}
-use Rattle.buffa_fields.specs.LayoutLaws.{field_apart, field_taken, is_kept, kept_stays, is_passed, more_none, seen_field}
+use Rattle.buffa_fields.specs.LayoutLaws.{field_apart, field_asks, field_taken, is_kept, kept_asks, kept_stays, is_passed, passed_asks, more_none, seen_field}
 use Rattle.buffa_fields.specs.PairLaws.{both_back, both_stay, both_true, no_pieces}
 use Rattle.buffa_fields.specs.Takes.{both_need, both_take, is_number}
 
@@ -16,6 +16,7 @@ field k get s l = record {
   meaning = λ m. (s.meaning (get m), l.meaning m);
   blank = (s.blank, l.blank);
   takes = both_take k s.takes l.takes;
+  asks = λ left d n w bs. Choice (n == k) (s.asks d n w bs) (l.asks left d n w bs);
   need = both_need k s.need l.need;
   records = λ v. s.records k v.0 ++ l.records v.1;
   slots = λ v. s.slots v.0 ++ l.slots v.1;
@@ -34,6 +35,8 @@ field k get s l = record {
   same_is = λ a b h. λ i. (s.meaning (sym h.0 i), l.same_is a b h.1 i);
   taken_is = λ d old n w bs before r new after rest h.
       field_taken s k l.takes l.need d (get old) (get new) (l.meaning old) (l.meaning new) n w bs before r after rest (l.Same old new) (l.Taken d old n w bs before r new after rest) (l.same_is old new) (l.taken_is d old n w bs before r new after rest) h;
+  asks_is = λ d old n w bs before r new after rest h.
+      field_asks s k d (get old) (get new) n w bs before r after rest (l.asks before.unknown d n w bs) (l.Same old new) (l.Taken d old n w bs before r new after rest) (l.asks_is d old n w bs before r new after rest) h;
   seen_is = λ m z. seen_field s k (get m) (l.records (l.meaning m)) (l.slots (l.meaning m)) z (l.seen m (visited s k (get m) z)) (l.seen_is m (visited s k (get m) z));
   within_all = λ v. (refl, l.within_all v.1);
   within_both = λ P Q v h j. (both_true (P k) (Q k) h.0 j.0, l.within_both P Q v.1 h.1 j.1);
@@ -47,6 +50,7 @@ keep get = record {
   meaning = get;
   blank = [];
   takes = keep_takes;
+  asks = KeepTakesMemory;
   need = keep_need;
   records = λ v. v;
   slots = λ v. [];
@@ -63,6 +67,7 @@ keep get = record {
   stays = keep_stays;
   same_is = λ a b h. sym h;
   taken_is = λ d old n w bs before r new after rest h. is_kept d (get old) n w bs before r (get new) after rest h;
+  asks_is = λ d old n w bs before r new after rest h. kept_asks d (get old) n w bs before r (get new) after rest h;
   seen_is = λ m z. refl;
   within_all = all_numbers;
   within_both = both_numbers;
@@ -76,6 +81,7 @@ skip = record {
   meaning = λ m. tt;
   blank = tt;
   takes = passes;
+  asks = λ left d n w bs. ⊥;
   need = costs_nothing;
   records = λ v. [];
   slots = λ v. [];
@@ -92,6 +98,7 @@ skip = record {
   stays = λ d n w p x h. refl;
   same_is = λ a b h. refl;
   taken_is = λ d old n w bs before r new after rest h. is_passed d n w bs before r after rest h;
+  asks_is = λ d old n w bs before r new after rest h. passed_asks d n w bs before r after rest h;
   seen_is = λ m z. more_none z;
   within_all = λ v. tt;
   within_both = λ P Q v h k. tt;

@@ -1,5 +1,5 @@
 -- Messages as members. Source: the protobuf encoding guide, "Submessages".
-use Rattle.std.specs.Prelude.{ℕ, suc, List, [], ◌∷◌, ◌++◌, length, Option, Some, None, Result, Ok, Err, if◌then◌else◌}
+use Rattle.std.specs.Prelude.{◌≡◌, ◌≢◌, ◌<◌, ℕ, suc, List, [], ◌∷◌, length, Option, Some, None, Result, Ok, Err, if◌then◌else◌}
 use Rattle.std.specs.Option.{option_map}
 use Rattle.buffa_bytes.specs.declared.error.DecodeError.{DecodeError}
 use Rattle.buffa_bytes.specs.declared.wire_type.WireType.TheVariants.{LengthDelimited}
@@ -10,7 +10,7 @@ use Rattle.buffa_wire.specs.Passes.{cap}
 use Rattle.buffa_wire.specs.Reading.{delimited_at}
 use Rattle.buffa_wire.specs.Records.{Datum, bytes, records_of}
 use Rattle.buffa_wire.specs.WireType.{same_wire}
-use Rattle.buffa_fields.specs.Takes.{Need, Taker}
+use Rattle.buffa_fields.specs.Takes.{Asks, Need, Taker}
 
 module _ {X : Type 0} (merged : ℕ → X → List ℕ → Option X) where
   -- what a length and so many bytes, which are all, make of the message that stands, one level down
@@ -25,6 +25,11 @@ module _ {X : Type 0} (merged : ℕ → X → List ℕ → Option X) where
 -- at a depth, what it costs
 unfoldable pub message_cost : (ℕ → List ℕ → BudgetLeft) → Need
 message_cost cost d n w bs = if same_wire LengthDelimited w then cost_of_payload cost d (delimited_at bs) else nothing
+
+-- it takes memory where a level is left, and a length and so many bytes are there, one at least
+abbrev pub MessageTakesMemory : Asks
+MessageTakesMemory d n w bs =
+    (w ≡ LengthDelimited) × (0 < d) × (b : List ℕ) × (rest : List ℕ) × (delimited_at bs ≡ Ok (b, rest)) × (b ≢ [])
 
 module _ {X : Type 0} (blank : X) where
   -- the message that stands, or a default one

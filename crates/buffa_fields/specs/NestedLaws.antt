@@ -1,36 +1,38 @@
 -- What is proved of messages as members.
-use Rattle.std.proofs.Common.{◌≡◌, ◌≢◌, ◌⊎◌, inl, inr, ℕ, zero, suc, ◌+◌, ◌*◌, ◌^◌, ◌==◌, ◌<◌, ◌≤◌, min, Bool, true, List, [], ◌∷◌, ◌++◌, length, Option, Some, None, Result, Ok, Err, IfErr, OnErr, OnOk, refl, sym, ap, subst, ◌∙◌, arith, append_assoc, append-nil, length-append}
+use Rattle.std.proofs.Common.{◌≡◌, ◌≢◌, ◌⊎◌, inl, inr, ℕ, zero, suc, ◌+◌, ◌^◌, ◌==◌, ◌<◌, ◌≤◌, List, [], ◌∷◌, ◌++◌, length, Option, Some, None, Result, Ok, Err, IfErr, IsOk, OnErr, OnOk, refl, sym, ap, subst, ◌∙◌, arith, append_assoc, append-nil, length-append}
 use Rattle.std.proofs.lemmas.Bool.{cases_lt, eq-eqb}
 use Rattle.std.specs.Option.{option_map}
 use Rattle.buffa_bytes.proofs.DelimitedLemmas.{delimited_back, delimited_complete, delimited_sound}
 use Rattle.buffa_bytes.proofs.StepLemmas.{agree_err, agree_ok}
 use Rattle.buffa_bytes.proofs.VarintLemmas.{IsVarint-varint_text}
 use Rattle.buffa_bytes.specs.declared.error.DecodeError.{DecodeError}
-use Rattle.buffa_bytes.specs.declared.error.DecodeError.TheVariants.{OutOfMemory, RecursionLimitExceeded, WireTypeMismatch}
+use Rattle.buffa_bytes.specs.declared.error.DecodeError.TheVariants.{OutOfMemory, WireTypeMismatch}
 use Rattle.buffa_bytes.specs.declared.error.EncodeError.{EncodeError}
 use Rattle.buffa_bytes.specs.declared.error.EncodeError.TheVariants as encode
 use Rattle.buffa_bytes.specs.declared.wire_type.WireType.{WireType}
 use Rattle.buffa_bytes.specs.declared.wire_type.WireType.TheVariants.{Varint, Fixed64, LengthDelimited, StartGroup, EndGroup, Fixed32}
-use Rattle.buffa_bytes.specs.Written.{Writes, WritesFront}
+use Rattle.buffa_bytes.specs.Written.{WritesFront}
 use Rattle.buffa_wire.proofs.MessageLemmas.{NoLimit, length_no_limit}
 use Rattle.buffa_wire.proofs.PassLemmas.{consumes_none, done, refused, written_behind, written_none, written_put, written_same, written_then}
 use Rattle.buffa_wire.proofs.SequenceLemmas.{ok_same}
+use Rattle.buffa_wire.proofs.SpentLemmas.{takes_bytes}
 use Rattle.buffa_wire.specs.BudgetLeft.{BudgetLeft, Lacks, PaysAtMost}
 use Rattle.buffa_wire.specs.Cache.{Cache, advanced}
 use Rattle.buffa_wire.specs.Field.{Payload}
+use Rattle.buffa_wire.specs.Gives.{FullOnlyIf}
 use Rattle.buffa_wire.specs.Message.{IsInside, PayloadFault, cost_of_payload}
 use Rattle.buffa_wire.specs.Number.{IsNumber}
 use Rattle.buffa_wire.specs.Parse.{Fits}
 use Rattle.buffa_wire.specs.Passes.{IsSmall, IsWritten, cap}
 use Rattle.buffa_wire.specs.Reading.{delimited_at}
-use Rattle.buffa_wire.specs.Records.{Datum, bytes, records_of}
+use Rattle.buffa_wire.specs.Records.{bytes, records_of}
 use Rattle.buffa_wire.specs.Text.{records_text}
 use Rattle.buffa_wire.specs.Values.{delimited_text, tag_text}
 use Rattle.buffa_wire.specs.Varint.{varint_text}
 use Rattle.buffa_map.proofs.BackLemmas.{is_tag}
 use Rattle.buffa_map.proofs.EntryLemmas.{same_false}
-use Rattle.buffa_fields.specs.Nested.{inside, message_cost, message_in, message_levels, message_records, message_slots, message_taken, or_blank}
-use Rattle.buffa_fields.specs.Takes.{IsTaken, Need, ReadsBack, Stays, Taker, Untaken}
+use Rattle.buffa_fields.specs.Nested.{MessageTakesMemory, inside, message_cost, message_in, message_levels, message_records, message_slots, message_taken, or_blank}
+use Rattle.buffa_fields.specs.Takes.{IsTaken, Need, ReadsBack, Stays, Untaken}
 use Rattle.buffa_fields.specs.Values.{IfThere}
 
 -- ---- a payload that is a length and so many bytes
@@ -97,6 +99,15 @@ module _ {X : Type 0} (merged : ℕ → X → List ℕ → Option X) (cost : ℕ
         λ ne. inr ((λ p more payload split. rw off refl), subst (λ z. NoLimit z) (sym is) (λ l. l)),
         λ full end. let two = sym full ∙ is in cc,
       )
+
+-- ---- where it takes memory
+pub inside_full : (d n : ℕ) (w : WireType) (bs : List ℕ) → w ≡ LengthDelimited → (r : Result (Unit {0}) DecodeError) → FullOnlyIf r ((0 < d) × IsOk (delimited_at bs)) →
+    ((rest : List ℕ) → 0 < d → delimited_at bs ≡ Ok ([], rest) → IsOk r) → FullOnlyIf r (MessageTakesMemory d n w bs)
+inside_full d n w bs wire (Ok x) full free = tt
+inside_full d n w bs wire (Err e) full free = λ is.
+    let may = full is in
+    let some = takes_bytes bs (λ rest none. free rest may.0 none) may.1 in
+    (wire, may.0, some.0, some.1, some.2, some.3)
 
 -- ---- it goes into the message that stands
 pub there : {X : Type 0} (blank : X) (merged : ℕ → X → List ℕ → Option X) (need : Need) (d n : ℕ) (w : WireType) (old : Option X) (a new : X) (bs rest : List ℕ) (before after : BudgetLeft) (r : Result (Unit {0}) DecodeError) → a ≡ or_blank blank old →
@@ -179,6 +190,11 @@ module _ (n inner : ℕ) (text : List ℕ) (is : Tells inner text) where
 
     pub head_short : (e : EncodeError) → (e ≡ encode.OutOfMemory) × WritesFront b0 (head n inner) b1 → IsWritten spelled_one (inner ∷ slots) c0 b0 (refused e) c1 b1
     head_short e h = written_behind (IsSmall spelled_one) (IsSmall spelled_one) spelled_one [] slots inner c0 c1 c1 b0 b1 on (refused e) (head_cut slots c1 c1 b0 b1 b1 e h)
+
+-- a message has a slot
+pub message_has_slot : {X : Type 0} (text slots : X → List ℕ) (v : X) (o : Option X) → o ≡ Some v → message_slots text slots o ≡ [] → ⊥
+unfolding message_slots
+message_has_slot text slots v o is none = let two = sym (ap (message_slots text slots) is) ∙ none in cc
 
 -- no message, no text
 pub unwritten_message : {X : Type 0} (text slots : X → List ℕ) (n : ℕ) (v : Option X) (c : Cache) (b : List ℕ) → v ≡ None → IsWritten (records_text (message_records text n v)) (message_slots text slots v) c b done c b

@@ -31,6 +31,12 @@ use Rattle.buffa_fields.specs.MapLaws.{map_back, map_text}
 use Rattle.buffa_fields.specs.NestedMaps.{pair_levels, pair_records, pair_slots}
 use Rattle.buffa_fields.specs.Takes.{ReadsBack}
 
+-- no slots, no pairs
+pub no_pairs : {K X : Type 0} (text slots : X → List ℕ) (l : List (K × X)) → pair_slots text slots l ≡ [] → l ≡ []
+unfolding pair_slots
+no_pairs text slots [] none = refl
+no_pairs text slots (p ∷ ps) none = cc
+
 -- ---- the passes
 module _ {K X : Type 0} (key : Writing K) (text slots : X → List ℕ) (n : ℕ) (l : List (K × X)) where
   abbrev whole : List ℕ

@@ -7,7 +7,7 @@ use Rattle.buffa_bytes.specs.declared.error.EncodeError.TheVariants as encode
 use Rattle.buffa_wire.proofs.PassLemmas.{refused, written_none, written_put}
 use Rattle.buffa_wire.specs.Cache.{Cache}
 use Rattle.buffa_wire.specs.Passes.{IsSmall, IsWritten, cap}
-use Rattle.buffa_wire.specs.Records.{Datum, bytes}
+use Rattle.buffa_wire.specs.Records.{bytes}
 use Rattle.buffa_wire.specs.Text.{records_text}
 use Rattle.buffa_map.specs.Text.{saturated}
 use Rattle.buffa_fields.specs.ListLaws.{means_cut, means_more}

@@ -1,5 +1,5 @@
 -- Lists of messages. Source: the protobuf encoding guide, "Repeated Elements" and "Submessages".
-use Rattle.std.specs.Prelude.{ℕ, suc, max, List, [], ◌∷◌, ◌++◌, length, Option, if◌then◌else◌}
+use Rattle.std.specs.Prelude.{◌≡◌, ◌<◌, ℕ, suc, max, List, [], ◌∷◌, ◌++◌, length, Option, IsOk, if◌then◌else◌}
 use Rattle.std.specs.Option.{option_map}
 use Rattle.buffa_bytes.specs.declared.wire_type.WireType.TheVariants.{LengthDelimited}
 use Rattle.buffa_wire.specs.BudgetLeft.{BudgetLeft, nothing, plus, units}
@@ -10,7 +10,7 @@ use Rattle.buffa_wire.specs.Records.{Datum, bytes}
 use Rattle.buffa_wire.specs.WireType.{same_wire}
 use Rattle.buffa_fields.specs.Lists.{element_records}
 use Rattle.buffa_fields.specs.Nested.{message_in}
-use Rattle.buffa_fields.specs.Takes.{Need, Taker}
+use Rattle.buffa_fields.specs.Takes.{Asks, Need, Taker}
 
 -- each payload is merged into a default message, which goes behind the others
 abbrev pub messages_taken : {X : Type 0} → X → (ℕ → X → List ℕ → Option X) → Taker (List X)
@@ -19,6 +19,10 @@ messages_taken blank merged d vs n w p = option_map (λ x. vs ++ x ∷ []) (mess
 -- at a depth, what it costs: so many units for a message, and what is in it
 unfoldable pub messages_cost : ℕ → (ℕ → List ℕ → BudgetLeft) → Need
 messages_cost each cost d n w bs = if same_wire LengthDelimited w then plus (units each) (cost_of_payload cost d (delimited_at bs)) else nothing
+
+-- it takes memory where a level is left, and a length and so many bytes are there
+abbrev pub MessagesTakeMemory : Asks
+MessagesTakeMemory d n w bs = (w ≡ LengthDelimited) × (0 < d) × IsOk (delimited_at bs)
 
 module _ {X : Type 0} (text : X → List ℕ) where
   -- a record for each message

@@ -1,5 +1,5 @@
 -- What is proved of lists of messages.
-use Rattle.std.proofs.Common.{◌≡◌, ◌≢◌, inl, inr, ℕ, ◌+◌, ◌==◌, ◌<◌, ◌≤◌, min, List, [], ◌∷◌, ◌++◌, length, map, take, drop, get_or, Option, Some, Result, Ok, Err, refl, sym, ap, subst, ◌∙◌, arith, append_assoc, append-nil}
+use Rattle.std.proofs.Common.{◌≡◌, ◌≢◌, inl, inr, ℕ, zero, suc, ◌+◌, ◌==◌, ◌<◌, ◌≤◌, min, List, [], ◌∷◌, ◌++◌, length, map, take, drop, get_or, Option, Some, Result, Ok, Err, refl, sym, ap, subst, ◌∙◌, arith, append_assoc, append-nil, length-append}
 use Rattle.std.proofs.lemmas.Bool.{eq-eqb}
 use Rattle.std.specs.Option.{option_map}
 use Rattle.buffa_bytes.proofs.VarintLemmas.{IsVarint-varint_text}
@@ -9,11 +9,14 @@ use Rattle.buffa_bytes.specs.declared.error.EncodeError.{EncodeError}
 use Rattle.buffa_bytes.specs.declared.wire_type.WireType.{WireType}
 use Rattle.buffa_bytes.specs.declared.wire_type.WireType.TheVariants.{Varint, Fixed64, LengthDelimited, StartGroup, EndGroup, Fixed32}
 use Rattle.buffa_wire.proofs.PassLemmas.{appended_twice, done, next_front, next_past, refused, written_none, written_short, written_then}
+use Rattle.buffa_wire.proofs.SpentLemmas.{is_there}
 use Rattle.buffa_wire.specs.BudgetLeft.{BudgetLeft, plus, units}
 use Rattle.buffa_wire.specs.Cache.{Cache}
+use Rattle.buffa_wire.specs.Field.{Payload}
 use Rattle.buffa_wire.specs.Number.{IsNumber}
 use Rattle.buffa_wire.specs.Parse.{Fits}
 use Rattle.buffa_wire.specs.Passes.{IsNext, IsSized, IsSmall, IsWritten, cap}
+use Rattle.buffa_wire.specs.Reading.{delimited_at}
 use Rattle.buffa_wire.specs.Records.{bytes, records_of}
 use Rattle.buffa_wire.specs.Text.{records_text}
 use Rattle.buffa_wire.specs.Values.{delimited_text, tag_text}
@@ -25,7 +28,7 @@ use Rattle.buffa_fields.specs.ListLaws.{means_cut, means_more, text_cut, text_ne
 use Rattle.buffa_fields.specs.Lists.{Each, element_records}
 use Rattle.buffa_fields.specs.Nested.{message_cost, message_in}
 use Rattle.buffa_fields.specs.NestedLaws.{delimited_alone, message_wire_err, taken_back}
-use Rattle.buffa_fields.specs.RepeatedNested.{messages_cost, messages_levels, messages_records, messages_slots, messages_taken}
+use Rattle.buffa_fields.specs.RepeatedNested.{MessagesTakeMemory, messages_cost, messages_levels, messages_records, messages_slots, messages_taken}
 use Rattle.buffa_fields.specs.Takes.{IsTaken, Leads, Piece, ReadsBack, Stays, joined}
 
 -- ---- costs
@@ -82,6 +85,18 @@ module _ {X : Type 0} (merged : ℕ → X → List ℕ → Option X) (each : ℕ
   uncharged_wire other e is still =
       subst (λ z. taken_for z (Err e)) (sym (costs_none other)) (message_wire_err merged cost d n w old new bs rest before after e other is still)
 
+-- a message that was read had a level, and a length and so many bytes
+pub message_there : {X : Type 0} (merged : ℕ → X → List ℕ → Option X) (d : ℕ) (old new : X) (n : ℕ) (w : WireType) (bs p rest : List ℕ) → Payload d n w p → bs ≡ p ++ rest → message_in merged d old n w p ≡ Some new → MessagesTakeMemory d n w bs
+unfolding message_in
+message_there merged d old new n Varint bs p rest h split is = cc
+message_there merged d old new n Fixed64 bs p rest h split is = cc
+message_there merged d old new n StartGroup bs p rest h split is = cc
+message_there merged d old new n EndGroup bs p rest h split is = cc
+message_there merged d old new n Fixed32 bs p rest h split is = cc
+message_there merged zero old new n LengthDelimited bs p rest h split is = let u = delimited_alone zero n LengthDelimited p rest bs refl h split in let two = rw u.2 at is in cc
+message_there merged (suc d) old new n LengthDelimited bs p rest h split is =
+    let u = delimited_alone (suc d) n LengthDelimited p rest bs refl h split in (refl, omega arith, is_there (delimited_at bs) (u.0, rest) u.1)
+
 -- ---- sizes and texts, message by message
 module _ {X : Type 0} (text slots : X → List ℕ) where
   abbrev own : X → List ℕ
@@ -136,6 +151,13 @@ module _ {X : Type 0} (text slots : X → List ℕ) where
       slots_cut =
           ap (messages_slots text slots) (means_cut meaning xs i x lt is) ∙ slots_two (map meaning (take i xs)) (meaning x ∷ later)
           ∙ ap (λ (z : List ℕ). slots_to i ++ z) (slots_two (meaning x ∷ []) later ∙ ap (λ (z : List ℕ). z ++ messages_slots text slots later) (slots_one (meaning x)))
+
+      -- a message has a slot
+      pub messages_have_slots : all_slots ≡ [] → ⊥
+      messages_have_slots none =
+          let rest = own (meaning x) ++ messages_slots text slots later in
+          let l : length (slots_to i ++ rest) ≡ 0 = ap length (sym slots_cut ∙ none) in
+          absurd (omega (arith, l, length-append (slots_to i) rest, length-append (own (meaning x)) (messages_slots text slots later)))
 
       -- the size pass goes on, or stops
       pub size_on : (c0 c1 c2 : Cache) (total len new : ℕ) → IsSized (text_to i) (slots_to i) c0 (sum total) c1 → IsSized here (own (meaning x)) c1 (sum len) c2 → new ≡ min (total + len) 4294967295 →

@@ -1,9 +1,10 @@
 -- What is proved of messages that were refused.
-use Rattle.std.proofs.Common.{◌≡◌, ◌⊎◌, inl, inr, ℕ, ◌≤◌, ◌<◌, true, List, [], ◌∷◌, ◌++◌, length, Option, Some, None, Ok, Err, Result, refl, sym, ap, subst, ◌∙◌, arith, append_assoc, append-nil, length-append}
+use Rattle.std.proofs.Common.{◌≡◌, inl, inr, ℕ, ◌≤◌, ◌<◌, true, List, [], ◌∷◌, ◌++◌, length, Option, Some, None, Ok, Err, Result, refl, sym, ap, ◌∙◌, arith, append_assoc, append-nil, length-append}
 use Rattle.std.specs.Option.{option_and_then}
 use Rattle.buffa_bytes.proofs.FieldLemmas.{tag_falls, tag_sound}
 use Rattle.buffa_bytes.proofs.StepLemmas.{agree_ok}
 use Rattle.buffa_bytes.specs.declared.error.DecodeError.{DecodeError}
+use Rattle.buffa_bytes.specs.declared.error.DecodeError.TheVariants.{OutOfMemory}
 use Rattle.buffa_bytes.specs.declared.wire_type.WireType.{WireType}
 use Rattle.buffa_wire.specs.BudgetLeft.{BudgetLeft}
 use Rattle.buffa_wire.specs.Field.{SomeField}
@@ -11,8 +12,8 @@ use Rattle.buffa_wire.specs.Join.{Join}
 use Rattle.buffa_wire.specs.Join.Join.{none, more}
 use Rattle.buffa_wire.specs.Reading.{tag_at}
 use Rattle.buffa_fields.specs.Layout.{Layout}
-use Rattle.buffa_fields.specs.Stands.{Merged, Stands}
-use Rattle.buffa_fields.specs.Takes.{Piece, ReadsBack, Taker, merged_of}
+use Rattle.buffa_fields.specs.Stands.{MergingTakesMemory, Merged, Stands}
+use Rattle.buffa_fields.specs.Takes.{ReadsBack, Taker, merged_of}
 use Rattle.buffa_fields.specs.TakesLaws.{back, merged_empty, merged_fields, merged_next}
 
 module _ {X : Type 0} (takes : Taker X) (d : ℕ) where
@@ -78,3 +79,24 @@ module _ {M X : Type 0} (l : Layout M X) (d : ℕ) (old : X) (bytes : List ℕ) 
   falls m new n w rest bs after_bs before after tag taken =
       let p = l.taken_is d m n w bs before (let r : Result (Unit {0}) DecodeError = Ok tt in r) new after after_bs taken in
       omega (arith, tag_falls rest (n, w, bs) tag, ap length p.2, length-append p.0 after_bs)
+
+  -- no slot comes back
+  pub spends : (m new : M) (n : ℕ) (w : WireType) (bs after_bs : List ℕ) (before after : BudgetLeft) (slots : ℕ) → before.unknown ≤ slots →
+      l.Taken d m n w bs before (let r : Result (Unit {0}) DecodeError = Ok tt in r) new after after_bs → after.unknown ≤ slots
+  spends m new n w bs after_bs before after slots low taken =
+      let p = l.taken_is d m n w bs before (let r : Result (Unit {0}) DecodeError = Ok tt in r) new after after_bs taken in
+      omega (arith, low, p.4.0)
+
+  -- memory runs out only at a field that may ask for it
+  pub asked : (m new : M) (n : ℕ) (w : WireType) (rest bs after_bs : List ℕ) (before after : BudgetLeft) (e : DecodeError) (slots : ℕ) → before.unknown ≤ slots → Merged l.takes d old bytes rest (l.meaning m) →
+      tag_at rest ≡ Ok (n, w, bs) → l.Taken d m n w bs before (let r : Result (Unit {0}) DecodeError = Err e in r) new after after_bs → e ≡ OutOfMemory → MergingTakesMemory l.takes l.asks d old bytes slots
+  asked m new n w rest bs after_bs before after e slots low h tag taken full = record {
+    front = h.front;
+    rest = rest;
+    split = h.split;
+    mid = l.meaning m;
+    merged = h.merged;
+    left = before.unknown;
+    within = low;
+    next = (n, w, bs, tag, l.asks_is d m n w bs before (let r : Result (Unit {0}) DecodeError = Err e in r) new after after_bs taken full);
+  }

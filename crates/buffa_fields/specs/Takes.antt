@@ -1,8 +1,8 @@
 -- What fields make of a value, payload by payload, and what follows of whole bytes.
 -- Source: the protobuf encoding guide, "Message Structure".
-use Rattle.std.specs.Prelude.{◌≡◌, ◌≢◌, ℕ, zero, ◌-◌, ◌==◌, ◌⊎◌, ◌&&◌, ◌||◌, Bool, true, false, not, nat_lt, List, [], ◌∷◌, ◌++◌, length, take, Option, Some, None, Result, Ok, Err, MatchResult, if◌then◌else◌}
+use Rattle.std.specs.Prelude.{◌≡◌, ◌≢◌, ℕ, ◌-◌, ◌==◌, ◌⊎◌, ◌&&◌, Bool, true, nat_lt, List, [], ◌∷◌, ◌++◌, length, take, Option, Some, None, Result, Ok, Err, MatchResult, if◌then◌else◌}
 use Rattle.std.specs.Option.{option_map}
-use Rattle.buffa_wire.specs.BudgetLeft.{BudgetLeft, Lacks, Pays, PaysAtMost, nothing}
+use Rattle.buffa_wire.specs.BudgetLeft.{BudgetLeft, Lacks, Pays, PaysAtMost}
 use Rattle.buffa_wire.specs.Field.{IsTag, Payload}
 use Rattle.buffa_wire.specs.Gives.{◌>>=◌}
 use Rattle.buffa_wire.specs.Message.{IsLimit}
@@ -20,6 +20,10 @@ Taker X = ℕ → X → ℕ → WireType → List ℕ → Option X
 -- At a depth, what a field costs, where these bytes follow its tag, a malformed one too.
 abbrev pub Need : Type 0
 Need = ℕ → ℕ → WireType → List ℕ → BudgetLeft
+
+-- At a depth, where a field of a number and a wire type may ask for memory, if these bytes follow its tag.
+abbrev pub Asks : Type 1
+Asks = ℕ → ℕ → WireType → List ℕ → Type 0
 
 -- ---- whole bytes
 

@@ -1,28 +1,23 @@
 -- What is proved of any fields, taken payload by payload.
-use Rattle.std.proofs.Common.{◌≡◌, ◌≢◌, ◌⊎◌, inl, inr, ℕ, zero, suc, ◌+◌, ◌-◌, ◌==◌, ◌<◌, ◌≤◌, max, Bool, true, false, not, ◌&&◌, ◌||◌, List, [], ◌∷◌, ◌++◌, length, take, Option, Some, None, Result, Ok, Err, refl, sym, ap, subst, ◌∙◌, arith, append_assoc, append-nil, length-append, if◌then◌else◌}
-use Rattle.std.proofs.lemmas.Bool.{eqb-true, eqb-false, ne_eqb}
-use Rattle.std.specs.Option.{option_and_then, option_map}
-use Rattle.std.specs.Result.{MatchResult}
+use Rattle.std.proofs.Common.{◌≡◌, ◌≢◌, inl, inr, ℕ, ◌-◌, Bool, List, [], ◌∷◌, ◌++◌, length, take, Option, Some, None, Result, Ok, Err, refl, sym, ap, subst, ◌∙◌, arith, append_assoc, length-append}
+use Rattle.std.specs.Option.{option_and_then}
 use Rattle.buffa_bytes.proofs.FieldLemmas.{payload_complete, payload_sound}
+use Rattle.buffa_bytes.proofs.FullLemmas.{payload_full}
 use Rattle.buffa_bytes.proofs.StepLemmas.{Agrees, agree_bind, agree_err, agree_ok}
 use Rattle.buffa_bytes.specs.declared.wire_type.WireType.{WireType}
 use Rattle.buffa_bytes.specs.declared.wire_type.WireType.TheVariants.{EndGroup}
 use Rattle.buffa_bytes.specs.declared.error.DecodeError.{DecodeError}
-use Rattle.buffa_bytes.specs.declared.error.DecodeError.TheVariants.{OutOfMemory, UnexpectedEof}
+use Rattle.buffa_bytes.specs.declared.error.DecodeError.TheVariants.{UnexpectedEof}
 use Rattle.buffa_wire.proofs.MessageLemmas.{NoLimit, payload_no_limit}
-use Rattle.buffa_wire.specs.BudgetLeft.{BudgetLeft, Lacks, Pays, PaysAtMost, nothing, plus}
-use Rattle.buffa_wire.specs.Field.{IsTag, Payload, SomeField}
-use Rattle.buffa_wire.specs.Gives.{◌>>=◌, FullOnlyIf, Gives}
+use Rattle.buffa_wire.specs.BudgetLeft.{BudgetLeft, nothing, plus}
+use Rattle.buffa_wire.specs.Field.{Payload, SomeField}
+use Rattle.buffa_wire.specs.Gives.{FullOnlyIf, Gives}
 use Rattle.buffa_wire.specs.Join.{Join}
-use Rattle.buffa_wire.specs.Message.{IsFieldMerged, IsLimit}
-use Rattle.buffa_wire.specs.Parse.{Fits}
+use Rattle.buffa_wire.specs.Message.{IsFieldMerged}
 use Rattle.buffa_wire.specs.Reading.{skip_at}
-use Rattle.buffa_wire.specs.Records.{Datum, records_of}
-use Rattle.buffa_wire.specs.Text.{field_text, records_text}
 use Rattle.buffa_fields.specs.CostLaws.{IsPaid, cost_empty, cost_next as costs_next, paid}
-use Rattle.buffa_fields.specs.Fields.{FieldReader, merged_by}
 use Rattle.buffa_fields.specs.FieldsLaws.{IsSame, IsSound, Same, empty, fields, next, read}
-use Rattle.buffa_fields.specs.Takes.{IsTaken, Leads, Need, Piece, ReadsBack, Stays, Taker, Untaken, answer, both_need, both_take, cost_of, framed, front_of, joined, merged_of}
+use Rattle.buffa_fields.specs.Takes.{IsTaken, Leads, Need, Piece, ReadsBack, Stays, Taker, Untaken, answer, cost_of, framed, front_of, joined, merged_of}
 
 -- ---- the payload is cut
 take_all : (p x : List ℕ) → take (length p) (p ++ x) ≡ p
@@ -129,6 +124,16 @@ pub taken_full : {X : Type 0} (takes : Taker X) (need : Need) (d : ℕ) (old new
     IsTaken takes need d old n w bs before r new after rest → FullOnlyIf r (w ≢ EndGroup)
 taken_full takes need d old new n w bs rest before after (Ok _) h = tt
 taken_full takes need d old new n w bs rest before after (Err e) h = h.2
+
+-- memory that runs out only where P holds runs out only where Q does, if P says so
+pub full_weaker : {T : Type 0} (P Q : Type 0) (r : Result T DecodeError) → FullOnlyIf r P → (P → Q) → FullOnlyIf r Q
+full_weaker P Q (Ok x) h k = tt
+full_weaker P Q (Err e) h k = λ full. k (h full)
+
+-- a payload that is passed over takes no memory
+pub skipped_full : (d n : ℕ) (w : WireType) (bs rest : List ℕ) (r : Result (Unit {0}) DecodeError) → Gives (λ _. rest) r (skip_at d n w bs) → FullOnlyIf r ⊥
+skipped_full d n w bs rest (Ok x) h = tt
+skipped_full d n w bs rest (Err e) h = λ full. payload_full d n w bs (h ∙ ap (λ z. Err z) full)
 
 -- ---- a text of fields reads back
 module _ {X : Type 0} (takes : Taker X) (d : ℕ) (P : ℕ → Bool) where

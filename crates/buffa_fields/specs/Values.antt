@@ -1,15 +1,14 @@
 -- Fields of one value, which a codec reads and writes.
 -- Source: the protobuf encoding guide, "Message Structure".
-use Rattle.std.specs.Prelude.{ℕ, List, [], ◌∷◌, ◌++◌, Bool, true, false, Option, Some, None, Result, Ok, Err, if◌then◌else◌}
+use Rattle.std.specs.Prelude.{◌≡◌, ℕ, List, [], ◌∷◌, ◌++◌, Bool, true, false, Option, Some, None, Result, Ok, Err, if◌then◌else◌}
 use Rattle.std.specs.Option.{option_map}
 use Rattle.buffa_bytes.specs.declared.error.DecodeError.{DecodeError}
-use Rattle.buffa_bytes.specs.declared.wire_type.WireType.{WireType}
 use Rattle.buffa_wire.specs.BudgetLeft.{nothing}
 use Rattle.buffa_wire.specs.Records.{Datum}
 use Rattle.buffa_wire.specs.Values.{tag_text}
 use Rattle.buffa_wire.specs.WireType.{same_wire}
-use Rattle.buffa_map.specs.Codec.{Reading, Writing, value_at}
-use Rattle.buffa_fields.specs.Takes.{Need, Taker}
+use Rattle.buffa_map.specs.Codec.{HoldsNothing, Reading, TakesMemory, Writing, value_at}
+use Rattle.buffa_fields.specs.Takes.{Asks, Need, Taker}
 
 -- what is read of a whole payload
 abbrev pub all_of : {V : Type 0} → Result ((V × Bool) × List ℕ) DecodeError → Option V
@@ -28,6 +27,10 @@ some_taken codec d v n w p = option_map (λ x. Some x) (value_taken codec d code
 -- it costs nothing
 abbrev pub free : Need
 free d n w bs = nothing
+
+-- it takes memory where the field's wire type is the codec's, which takes some, and a whole payload of a byte or more is there
+abbrev pub ValueTakesMemory : {V : Type 0} → Reading V → Asks
+ValueTakesMemory codec d n w bs = (w ≡ codec.wire) × TakesMemory codec d bs × (HoldsNothing codec d bs → ⊥)
 
 -- the field of a value
 abbrev pub value_text : {V : Type 0} → Writing V → ℕ → V → List ℕ

@@ -8,20 +8,22 @@ ghost use Rattle.std.specs.List.{IsDistinct};
 ghost use Rattle.std.specs.Map.{keys_of};
 ghost use Rattle.std.specs.Option.{option_map};
 ghost use Rattle.buffa_wire.specs.Records.Datum.{varint, fixed32, fixed64, bytes};
+ghost use Rattle.buffa_wire.specs.Reading.{check_wire};
 ghost use Rattle.buffa_map.specs.Message.{message_reading};
 ghost use Rattle.buffa_map.specs.Pairs.{means};
 ghost use Rattle.buffa_map.specs.Text.{AllHold};
 ghost use Rattle.buffa_fields.specs.KindLaws.{is_none, is_nought, is_zero};
-ghost use Rattle.buffa_fields.specs.Lists.{Each, element_records, elements_taken, packed_records};
-ghost use Rattle.buffa_fields.specs.MapFields.{entry_cost, entry_taken};
-ghost use Rattle.buffa_fields.specs.Nested.{FitsInside, message_cost, message_levels};
+ghost use Rattle.buffa_fields.specs.Lists.{Each, ElementsTakeMemory, check_list_wire};
+ghost use Rattle.buffa_fields.specs.Lists.{element_records, elements_taken, packed_records};
+ghost use Rattle.buffa_fields.specs.MapFields.{PairTakesMemory, entry_cost, entry_taken};
+ghost use Rattle.buffa_fields.specs.Nested.{FitsInside, MessageTakesMemory, message_cost, message_levels};
 ghost use Rattle.buffa_fields.specs.Nested.{message_records, message_slots, message_taken};
 ghost use Rattle.buffa_fields.specs.NestedMaps.{pair_levels, pair_records, pair_slots};
-ghost use Rattle.buffa_fields.specs.RepeatedNested.{messages_cost, messages_levels};
+ghost use Rattle.buffa_fields.specs.RepeatedNested.{MessagesTakeMemory, messages_cost, messages_levels};
 ghost use Rattle.buffa_fields.specs.RepeatedNested.{messages_records, messages_slots, messages_taken};
 ghost use Rattle.buffa_fields.specs.Slots.{entry_records, optional_records, plain_records};
 ghost use Rattle.buffa_fields.specs.Takes.{cost_of, merged_of};
-ghost use Rattle.buffa_fields.specs.Values.{IfThere, free, some_taken, value_taken};
+ghost use Rattle.buffa_fields.specs.Values.{IfThere, ValueTakesMemory, free, some_taken, value_taken};
 
 use crate::kind::Kind;
 use crate::map_member::MapOf;
@@ -38,7 +40,9 @@ use buffa_map::map_codec::{
     Bool, BytesBuf, Fixed32, Fixed64, Int32, Int64, MapCodec, OpenEnum, ProtoBytesMap,
     ProtoStringMap, Sfixed32, Sfixed64, Sint32, Sint64, Uint32, Uint64,
 };
-use buffa_wire::{Enumeration, MapKey, Message, MessageForm, ProtoBytes, ProtoString, Scalar};
+use buffa_wire::{
+    Enumeration, MapKey, Message, MessageForm, ProtoBytes, ProtoString, Scalar, WireType,
+};
 use std::hash::Hash;
 
 /// A member with implicit presence: a payload of its wire type is its value; the default has no record.
@@ -46,6 +50,9 @@ pub fn plain_members_are_these<C: Kind>()
     ensures meaning { (p : _) → ⟦<Plain<C> as Member>⟧.slot.meaning p ≡ C.Value.meaning p }
     ensures blank { ⟦<Plain<C> as Member>⟧.slot.blank ≡ C.Value.blank_is }
     ensures takes { ⟦<Plain<C> as Member>⟧.slot.takes ≡ value_taken C.reading }
+    ensures checks { (n : ℕ) (w : _) → ⟦<Plain<C> as Member>⟧.slot.checks n w ≡ check_wire n C.WIRE_TYPE w }
+    ensures asks { (d n : ℕ) (w : _) (bs : List ℕ) → ⟦<Plain<C> as Member>⟧.slot.asks d n w bs
+        ↔ (ValueTakesMemory C.reading d n w bs) }
     ensures need { ⟦<Plain<C> as Member>⟧.slot.need ≡ free }
     ensures records { (n : ℕ) (v : _) → ⟦<Plain<C> as Member>⟧.slot.records n v
         ≡ plain_records C.is_blank C.datum n v }
@@ -59,6 +66,9 @@ pub fn optional_members_are_these<C: Kind>()
     ensures meaning { (p : _) → ⟦<Optional<C> as Member>⟧.slot.meaning p ≡ option_map C.Value.meaning p }
     ensures blank { ⟦<Optional<C> as Member>⟧.slot.blank ≡ None }
     ensures takes { ⟦<Optional<C> as Member>⟧.slot.takes ≡ some_taken C.reading }
+    ensures checks { (n : ℕ) (w : _) → ⟦<Optional<C> as Member>⟧.slot.checks n w ≡ check_wire n C.WIRE_TYPE w }
+    ensures asks { (d n : ℕ) (w : _) (bs : List ℕ) → ⟦<Optional<C> as Member>⟧.slot.asks d n w bs
+        ↔ (ValueTakesMemory C.reading d n w bs) }
     ensures need { ⟦<Optional<C> as Member>⟧.slot.need ≡ free }
     ensures records { (n : ℕ) (v : _) → ⟦<Optional<C> as Member>⟧.slot.records n v ≡ optional_records C.datum n v }
     ensures slots { (v : _) → ⟦<Optional<C> as Member>⟧.slot.slots v ≡ [] }
@@ -71,6 +81,9 @@ pub fn lists_are_these<C: Kind>()
     ensures meaning { (p : _) → ⟦<Repeated<C> as Member>⟧.slot.meaning p ≡ map C.Value.meaning p.items }
     ensures blank { ⟦<Repeated<C> as Member>⟧.slot.blank ≡ [] }
     ensures takes { ⟦<Repeated<C> as Member>⟧.slot.takes ≡ elements_taken C.reading }
+    ensures checks { (n : ℕ) (w : _) → ⟦<Repeated<C> as Member>⟧.slot.checks n w ≡ check_list_wire n C.WIRE_TYPE w }
+    ensures asks { (d n : ℕ) (w : _) (bs : List ℕ) → ⟦<Repeated<C> as Member>⟧.slot.asks d n w bs
+        ↔ (ElementsTakeMemory C.reading d n w bs) }
     ensures need { ⟦<Repeated<C> as Member>⟧.slot.need ≡ free }
     ensures records { (n : ℕ) (v : _) → ⟦<Repeated<C> as Member>⟧.slot.records n v ≡ element_records C.datum n v }
     ensures slots { (v : _) → ⟦<Repeated<C> as Member>⟧.slot.slots v ≡ [] }
@@ -83,6 +96,9 @@ pub fn packed_lists_are_these<C: Packable>()
     ensures meaning { (p : _) → ⟦<Packed<C> as Member>⟧.slot.meaning p ≡ map C.Value.meaning p.items }
     ensures blank { ⟦<Packed<C> as Member>⟧.slot.blank ≡ [] }
     ensures takes { ⟦<Packed<C> as Member>⟧.slot.takes ≡ elements_taken C.reading }
+    ensures checks { (n : ℕ) (w : _) → ⟦<Packed<C> as Member>⟧.slot.checks n w ≡ check_list_wire n C.WIRE_TYPE w }
+    ensures asks { (d n : ℕ) (w : _) (bs : List ℕ) → ⟦<Packed<C> as Member>⟧.slot.asks d n w bs
+        ↔ (ElementsTakeMemory C.reading d n w bs) }
     ensures need { ⟦<Packed<C> as Member>⟧.slot.need ≡ free }
     ensures records { (n : ℕ) (v : _) → ⟦<Packed<C> as Member>⟧.slot.records n v ≡ packed_records C.writing.text n v }
     ensures slots { (v : _) → ⟦<Packed<C> as Member>⟧.slot.slots v ≡ [] }
@@ -95,6 +111,10 @@ pub fn nested_members_are_these<N: Message>()
     ensures meaning { (p : _) → ⟦<Nested<N> as Member>⟧.slot.meaning p ≡ option_map N.meaning p }
     ensures blank { ⟦<Nested<N> as Member>⟧.slot.blank ≡ None }
     ensures takes { ⟦<Nested<N> as Member>⟧.slot.takes ≡ message_taken N.blank_is N.merged }
+    ensures checks { (n : ℕ) (w : _) → ⟦<Nested<N> as Member>⟧.slot.checks n w
+        ≡ check_wire n WireType.LengthDelimited w }
+    ensures asks { (d n : ℕ) (w : _) (bs : List ℕ) → ⟦<Nested<N> as Member>⟧.slot.asks d n w bs
+        ↔ (MessageTakesMemory d n w bs) }
     ensures need { ⟦<Nested<N> as Member>⟧.slot.need ≡ message_cost N.cost }
     ensures records { (n : ℕ) (v : _) → ⟦<Nested<N> as Member>⟧.slot.records n v ≡ message_records N.text n v }
     ensures slots { (v : _) → ⟦<Nested<N> as Member>⟧.slot.slots v ≡ message_slots N.text N.slots v }
@@ -108,6 +128,10 @@ pub fn lists_of_messages_are_these<N: Message>()
     ensures meaning { (p : _) → ⟦<RepeatedNested<N> as Member>⟧.slot.meaning p ≡ map N.meaning p.items }
     ensures blank { ⟦<RepeatedNested<N> as Member>⟧.slot.blank ≡ [] }
     ensures takes { ⟦<RepeatedNested<N> as Member>⟧.slot.takes ≡ messages_taken N.blank_is N.merged }
+    ensures checks { (n : ℕ) (w : _) → ⟦<RepeatedNested<N> as Member>⟧.slot.checks n w
+        ≡ check_wire n WireType.LengthDelimited w }
+    ensures asks { (d n : ℕ) (w : _) (bs : List ℕ) → ⟦<RepeatedNested<N> as Member>⟧.slot.asks d n w bs
+        ↔ (MessagesTakeMemory d n w bs) }
     ensures need { ⟦<RepeatedNested<N> as Member>⟧.slot.need ≡ messages_cost N.COST N.cost }
     ensures records { (n : ℕ) (v : _) → ⟦<RepeatedNested<N> as Member>⟧.slot.records n v
         ≡ messages_records N.text n v }
@@ -125,6 +149,10 @@ where
         ≡ means KC.Value.meaning VC.Value.meaning p.entries }
     ensures blank { ⟦<MapOf<KC, VC> as Member>⟧.slot.blank ≡ [] }
     ensures takes { ⟦<MapOf<KC, VC> as Member>⟧.slot.takes ≡ entry_taken KC.reading VC.reading KC.Value.same }
+    ensures checks { (n : ℕ) (w : _) → ⟦<MapOf<KC, VC> as Member>⟧.slot.checks n w
+        ≡ check_wire n WireType.LengthDelimited w }
+    ensures asks { (d n : ℕ) (w : _) (bs : List ℕ) → ⟦<MapOf<KC, VC> as Member>⟧.slot.asks d n w bs
+        ↔ (PairTakesMemory KC.reading VC.reading d n w bs) }
     ensures need { ⟦<MapOf<KC, VC> as Member>⟧.slot.need ≡ entry_cost KC.reading VC.reading (KC.COST + VC.COST) }
     ensures records { (n : ℕ) (v : _) → ⟦<MapOf<KC, VC> as Member>⟧.slot.records n v
         ≡ entry_records KC.writing VC.writing n v }
@@ -144,6 +172,10 @@ where
     ensures blank { ⟦<MapOfNested<KC, N> as Member>⟧.slot.blank ≡ [] }
     ensures takes { ⟦<MapOfNested<KC, N> as Member>⟧.slot.takes
         ≡ entry_taken KC.reading (message_reading N.blank_is N.merged N.cost) KC.Value.same }
+    ensures checks { (n : ℕ) (w : _) → ⟦<MapOfNested<KC, N> as Member>⟧.slot.checks n w
+        ≡ check_wire n WireType.LengthDelimited w }
+    ensures asks { (d n : ℕ) (w : _) (bs : List ℕ) → ⟦<MapOfNested<KC, N> as Member>⟧.slot.asks d n w bs
+        ↔ (PairTakesMemory KC.reading (message_reading N.blank_is N.merged N.cost) d n w bs) }
     ensures need { ⟦<MapOfNested<KC, N> as Member>⟧.slot.need
         ≡ entry_cost KC.reading (message_reading N.blank_is N.merged N.cost) (KC.COST + N.COST) }
     ensures records { (n : ℕ) (v : _) → ⟦<MapOfNested<KC, N> as Member>⟧.slot.records n v

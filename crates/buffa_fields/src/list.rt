@@ -9,8 +9,9 @@ ghost use Rattle.buffa_wire.specs.Number.{IsNumber};
 ghost use Rattle.buffa_wire.specs.Passes.{cap};
 ghost use Rattle.buffa_wire.specs.Text.{records_text};
 ghost use Rattle.buffa_wire.specs.Written.{Writes};
-ghost use Rattle.buffa_fields.specs.Calls.{TakesElements};
-ghost use Rattle.buffa_fields.specs.Lists.{TakesPacked, element_at, element_records, elements_in, elements_taken};
+ghost use Rattle.buffa_fields.specs.Calls.{ChecksListWire, TakesElements};
+ghost use Rattle.buffa_fields.specs.Lists.{ElementsTakeMemory, PackedTakeMemory, TakesPacked};
+ghost use Rattle.buffa_fields.specs.Lists.{element_at, element_records, elements_in, elements_taken};
 ghost use Rattle.buffa_fields.specs.Takes.{IsTaken};
 ghost use Rattle.buffa_fields.specs.Values.{free};
 
@@ -58,8 +59,9 @@ fn take_all<C: MapCodec>(
     body: &[u8],
     depth: u32,
 ) -> Result<(), DecodeError>
-    ensures { GivesUnlessFull (λ _. map C.Value.meaning values.new.items) result
+    ensures reads { GivesUnlessFull (λ _. map C.Value.meaning values.new.items) result
         (elements_in C.reading depth (map C.Value.meaning values.old.items) body.now) }
+    ensures full { FullOnlyIf result (IsOk (content_at C.reading.wire body.now)) }
 {
     let mut rest = body;
     while rest.remaining() > 0 {
@@ -95,8 +97,9 @@ fn take_packed<C: MapCodec>(
     buf: &mut &[u8],
     depth: u32,
 ) -> Result<(), DecodeError>
-    ensures { TakesPacked C.reading depth (map C.Value.meaning values.old.items) buf.old.now result
+    ensures taken { TakesPacked C.reading depth (map C.Value.meaning values.old.items) buf.old.now result
         (map C.Value.meaning values.new.items) buf.new.now }
+    ensures full { FullOnlyIf result (PackedTakeMemory C.reading buf.old.now) }
 {
     match take_body(buf) {
         Ok(body) => take_all::<C>(alloc, values, body, depth),
@@ -112,8 +115,10 @@ pub(crate) fn take_elements<C: MapCodec>(
     buf: &mut &[u8],
     depth: u32,
 ) -> Result<(), DecodeError>
-    ensures { TakesElements tag depth values.old values.new buf.old buf.new result C.reading
+    ensures taken { TakesElements tag depth values.old values.new buf.old buf.new result C.reading
         (λ vs. map C.Value.meaning vs.items) }
+    ensures full { FullOnlyIf result (ElementsTakeMemory C.reading depth tag.number tag.wire_type buf.old.now) }
+    ensures wire { ChecksListWire tag C.WIRE_TYPE result }
 {
     match check_wire_type(tag, C::WIRE_TYPE) {
         Ok(()) => take_element::<C>(alloc, values, buf, depth),

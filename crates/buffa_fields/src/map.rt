@@ -2,12 +2,13 @@
 
 ghost use Rattle.std.specs.Prelude.{◌≡◌, ◌+◌, length};
 ghost use Rattle.buffa_wire.specs.BudgetLeft.{budget_left};
+ghost use Rattle.buffa_wire.specs.Gives.{FullOnlyIf};
 ghost use Rattle.buffa_wire.specs.Number.{IsNumber};
 ghost use Rattle.buffa_wire.specs.Passes.{cap};
 ghost use Rattle.buffa_wire.specs.Text.{records_text};
 ghost use Rattle.buffa_map.specs.Pairs.{means};
-ghost use Rattle.buffa_fields.specs.Calls.{TakesEntry};
-ghost use Rattle.buffa_fields.specs.MapFields.{WritesMap, entry_cost, entry_taken, map_records};
+ghost use Rattle.buffa_fields.specs.Calls.{ChecksWire, TakesEntry};
+ghost use Rattle.buffa_fields.specs.MapFields.{PairTakesMemory, WritesMap, entry_cost, entry_taken, map_records};
 ghost use Rattle.buffa_fields.specs.Takes.{IsTaken};
 
 use buffa_map::laws::{limits_are_told_where_needs_are_not_left, size_is_length};
@@ -51,8 +52,11 @@ pub(crate) fn take_entry<KC: MapCodec, VC: MapValueDecode>(
 ) -> Result<(), DecodeError>
 where
     KC::Value: MapKey + Hash,
-    ensures { TakesEntry tag ctx.entry ctx.exit map.old map.new buf.old buf.new result KC.reading VC.reading
+    ensures taken { TakesEntry tag ctx.entry ctx.exit map.old map.new buf.old buf.new result KC.reading VC.reading
         KC.Value.same (KC.COST + VC.COST) (λ m. means KC.Value.meaning VC.Value.meaning m.entries) }
+    ensures full { FullOnlyIf result (PairTakesMemory KC.reading VC.reading ctx.entry.depth tag.number tag.wire_type
+        buf.old.now) }
+    ensures wire { ChecksWire tag WireType.LengthDelimited result }
 {
     limits_are_told_where_needs_are_not_left::<KC, VC>();
     match check_wire_type(tag, WireType::LengthDelimited) {

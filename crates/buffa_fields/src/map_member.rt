@@ -4,10 +4,12 @@ ghost use Rattle.std.specs.Prelude.{◌+◌, ◌==◌, []};
 ghost use Rattle.std.proofs.Common.{sym, ◌∙◌};
 ghost use Rattle.std.specs.List.{IsDistinct};
 ghost use Rattle.std.specs.Map.{keys_of};
+ghost use Rattle.buffa_bytes.specs.declared.wire_type.WireType.TheVariants.{LengthDelimited};
+ghost use Rattle.buffa_wire.specs.Reading.{check_wire};
 ghost use Rattle.buffa_map.proofs.BackLemmas.{plain_back};
 ghost use Rattle.buffa_map.specs.Pairs.{means};
 ghost use Rattle.buffa_map.specs.Text.{AllHold};
-ghost use Rattle.buffa_fields.specs.MapFields.{entry_cost, entry_taken};
+ghost use Rattle.buffa_fields.specs.MapFields.{PairTakesMemory, entry_cost, entry_taken};
 ghost use Rattle.buffa_fields.specs.MapLaws.{map_back, map_stays};
 ghost use Rattle.buffa_fields.specs.Slots.{entry_records};
 
@@ -43,6 +45,8 @@ where
       meaning = λ m. means KC.Value.meaning VC.Value.meaning m.entries;
       blank = [];
       takes = entry_taken KC.reading VC.reading KC.Value.same;
+      checks = λ n w. check_wire n LengthDelimited w;
+      asks = PairTakesMemory KC.reading VC.reading;
       need = entry_cost KC.reading VC.reading (KC.COST + VC.COST);
       records = entry_records KC.writing VC.writing;
       slots = λ _. [];

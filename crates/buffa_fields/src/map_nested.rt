@@ -1,18 +1,20 @@
 //! Map fields of messages as members.
 
-ghost use Rattle.std.specs.Prelude.{◌≡◌, ◌+◌, ◌==◌, []};
+ghost use Rattle.std.specs.Prelude.{◌≡◌, ◌+◌, ◌==◌, [], IsOk};
 ghost use Rattle.std.proofs.Common.{sym, ◌∙◌};
 ghost use Rattle.std.specs.List.{IsDistinct};
 ghost use Rattle.std.specs.Map.{keys_of};
+ghost use Rattle.buffa_bytes.specs.declared.wire_type.WireType.TheVariants.{LengthDelimited};
 ghost use Rattle.buffa_wire.specs.Number.{IsNumber};
 ghost use Rattle.buffa_wire.specs.Passes.{IsNext, IsSized, IsWritten};
+ghost use Rattle.buffa_wire.specs.Reading.{check_wire};
 ghost use Rattle.buffa_wire.specs.Text.{records_text};
 ghost use Rattle.buffa_map.proofs.BackLemmas.{plain_back};
 ghost use Rattle.buffa_map.specs.Message.{message_reading};
 ghost use Rattle.buffa_map.specs.Pairs.{means};
 ghost use Rattle.buffa_map.specs.Text.{AllHold};
 ghost use Rattle.buffa_fields.specs.Calls.{WritesPairs};
-ghost use Rattle.buffa_fields.specs.MapFields.{entry_cost, entry_taken};
+ghost use Rattle.buffa_fields.specs.MapFields.{PairTakesMemory, entry_cost, entry_taken};
 ghost use Rattle.buffa_fields.specs.MapLaws.{map_stays};
 ghost use Rattle.buffa_fields.specs.Nested.{FitsInside};
 ghost use Rattle.buffa_fields.specs.NestedMapLaws.{pairs_back};
@@ -40,9 +42,10 @@ fn pairs_len<KC: MapCodec, N: Message>(
 where
     KC::Value: MapKey + Hash,
     requires { IsNumber number }
-    ensures { let l = means KC.Value.meaning N.meaning map.now.entries in
+    ensures sized { let l = means KC.Value.meaning N.meaning map.now.entries in
         IsSized (records_text (pair_records KC.writing N.text number l)) (pair_slots N.text N.slots l) cache.old result
         cache.new }
+    ensures always { pair_slots N.text N.slots (means KC.Value.meaning N.meaning map.now.entries) ≡ [] → IsOk result }
 {
     let tag = varint_len(u64::from(number) * 8 + 2) as u64;
     match message_field_len::<KC, N, Map<KC::Value, N>>(map, tag, cache) {
@@ -92,6 +95,8 @@ where
       meaning = λ m. means KC.Value.meaning N.meaning m.entries;
       blank = [];
       takes = entry_taken KC.reading (message_reading N.blank_is N.merged N.cost) KC.Value.same;
+      checks = λ n w. check_wire n LengthDelimited w;
+      asks = PairTakesMemory KC.reading (message_reading N.blank_is N.merged N.cost);
       need = entry_cost KC.reading (message_reading N.blank_is N.merged N.cost) (KC.COST + N.COST);
       records = pair_records KC.writing N.text;
       slots = pair_slots N.text N.slots;

@@ -1,5 +1,6 @@
 //! Kinds of members.
 
+ghost use Rattle.std.specs.Prelude.{◌≡◌, [], IsOk};
 ghost use Rattle.buffa_wire.specs.BudgetLeft.{budget_left};
 ghost use Rattle.buffa_wire.specs.Number.{IsNumber};
 ghost use Rattle.buffa_wire.specs.Passes.{IsNext, IsSized, IsWritten};
@@ -27,15 +28,16 @@ pub trait Member {
     /// The length of its text under a number, or 2^32 - 1 where it is more. The value's slots are appended.
     ///
     /// # Errors
-    /// [`EncodeError::OutOfMemory`] alone.
+    /// [`EncodeError::OutOfMemory`] alone, never for a value with no slots.
     ///
     /// ```ignore
     /// let len = M::len(number, part, self.cache);
     /// ```
     fn len(number: u32, part: &Self::Part, cache: &mut SizeCache) -> Result<u32, EncodeError>
         requires { IsNumber number }
-        ensures { IsSized (records_text (slot.records number (slot.meaning part.now)))
-            (slot.slots (slot.meaning part.now)) cache.old result cache.new };
+        ensures sized { IsSized (records_text (slot.records number (slot.meaning part.now)))
+            (slot.slots (slot.meaning part.now)) cache.old result cache.new }
+        ensures always { slot.slots (slot.meaning part.now) ≡ [] → IsOk result };
 
     /// Writes its text, and consumes the value's slots, which have to be next.
     ///
@@ -58,6 +60,10 @@ pub trait Member {
             (S.written sink.new) };
 
     /// Merges the field whose tag was read.
+    ///
+    /// # Errors
+    /// [`DecodeError::WireTypeMismatch`] where the field is of no wire type that the member takes; and
+    /// [`DecodeError::OutOfMemory`] only where the member may ask for memory.
     ///
     /// ```ignore
     /// let answer = Plain::<Int32>::merge(&mut self.total, alloc, tag, buf, ctx);

@@ -1,7 +1,8 @@
 //! Merging all fields, and what stands after a refusal.
 
 ghost use Rattle.std.specs.Prelude.{◌≡◌, OnErr, OnOk, Some};
-ghost use Rattle.buffa_fields.specs.Stands.{Stands};
+ghost use Rattle.buffa_wire.specs.Gives.{FullOnlyIf};
+ghost use Rattle.buffa_fields.specs.Stands.{MergingTakesMemory, Stands};
 ghost use Rattle.buffa_fields.specs.Takes.{merged_of};
 
 use crate::fields::Fields;
@@ -12,7 +13,7 @@ use std::alloc::Global;
 ///
 /// # Errors
 /// The same. The fields before the refused one stay merged, and of the others no member is changed but that of the
-/// refused field's number.
+/// refused field's number. Memory runs out only at a field that may ask for it.
 ///
 /// ```ignore
 /// merge_fields(&mut message, alloc, bytes, ctx)?;
@@ -27,6 +28,8 @@ pub fn merge_fields<M: Fields>(
         ≡ Some (M.layout.meaning message.new)) }
     ensures stands { OnErr result (Stands M.layout.takes M.layout.Apart ctx.entry.depth
         (M.layout.meaning message.old) bytes.now (M.layout.meaning message.new)) }
+    ensures full { FullOnlyIf result (MergingTakesMemory M.layout.takes M.layout.asks ctx.entry.depth
+        (M.layout.meaning message.old) bytes.now ctx.entry.budget.now.unknown) }
 {
     let DecodeContext { depth, budget } = ctx;
     let mut rest = bytes;

@@ -2,14 +2,18 @@
 
 ghost use Rattle.std.specs.Prelude.{None, ◌≡◌, ◌==◌, ◌++◌, ◌∷◌, [], List, ℕ, length};
 ghost use Rattle.std.specs.Option.{option_map};
+ghost use Rattle.buffa_bytes.specs.declared.wire_type.WireType.TheVariants.{LengthDelimited};
 ghost use Rattle.buffa_wire.specs.BudgetLeft.{budget_left};
+ghost use Rattle.buffa_wire.specs.Gives.{FullOnlyIf};
 ghost use Rattle.buffa_wire.specs.Number.{IsNumber};
 ghost use Rattle.buffa_wire.specs.Passes.{IsNext, IsSized, IsWritten, cap};
+ghost use Rattle.buffa_wire.specs.Reading.{check_wire};
 ghost use Rattle.buffa_wire.specs.Records.{bytes};
 ghost use Rattle.buffa_wire.specs.Text.{records_text};
 ghost use Rattle.buffa_wire.specs.Written.{Writes};
-ghost use Rattle.buffa_fields.specs.Calls.{TakesIn, WritesMessage};
-ghost use Rattle.buffa_fields.specs.Nested.{FitsInside, message_cost, message_in, message_levels, message_records, message_slots, message_taken};
+ghost use Rattle.buffa_fields.specs.Calls.{ChecksWire, TakesIn, WritesMessage};
+ghost use Rattle.buffa_fields.specs.Nested.{FitsInside, MessageTakesMemory, message_cost, message_in};
+ghost use Rattle.buffa_fields.specs.Nested.{message_levels, message_records, message_slots, message_taken};
 ghost use Rattle.buffa_fields.specs.NestedLaws.{Tells, head, message_back, message_stays};
 ghost use Rattle.buffa_fields.specs.Takes.{IsTaken};
 ghost use Rattle.buffa_fields.specs.Values.{IfThere};
@@ -102,8 +106,10 @@ pub(crate) fn take_inside<N: Message>(
     buf: &mut &[u8],
     ctx: DecodeContext<'_>,
 ) -> Result<(), DecodeError>
-    ensures { TakesIn tag ctx.entry ctx.exit message.old message.new buf.old buf.new result (message_in N.merged)
+    ensures taken { TakesIn tag ctx.entry ctx.exit message.old message.new buf.old buf.new result (message_in N.merged)
         (message_cost N.cost) N.meaning }
+    ensures full { FullOnlyIf result (MessageTakesMemory ctx.entry.depth tag.number tag.wire_type buf.old.now) }
+    ensures wire { ChecksWire tag WireType.LengthDelimited result }
 {
     match check_wire_type(tag, WireType::LengthDelimited) {
         Ok(()) => message.merge_length_delimited(alloc, buf, ctx),
@@ -129,6 +135,8 @@ impl<N: Message> Member for Nested<N> {
       meaning = λ p. option_map N.meaning p;
       blank = None;
       takes = message_taken N.blank_is N.merged;
+      checks = λ n w. check_wire n LengthDelimited w;
+      asks = MessageTakesMemory;
       need = message_cost N.cost;
       records = message_records N.text;
       slots = message_slots N.text N.slots;

@@ -2,7 +2,8 @@
 
 ghost use Rattle.std.specs.Prelude.{[], None, refl, ◌==◌};
 ghost use Rattle.std.specs.Option.{option_map};
-ghost use Rattle.buffa_fields.specs.Values.{IfThere, free, some_taken};
+ghost use Rattle.buffa_wire.specs.Reading.{check_wire};
+ghost use Rattle.buffa_fields.specs.Values.{IfThere, ValueTakesMemory, free, some_taken};
 ghost use Rattle.buffa_fields.specs.ValueLaws.{some_back};
 ghost use Rattle.buffa_fields.specs.Slots.{optional_records};
 
@@ -31,6 +32,8 @@ impl<C: Kind> Member for Optional<C> {
       meaning = λ p. option_map C.Value.meaning p;
       blank = None;
       takes = some_taken C.reading;
+      checks = λ n w. check_wire n C.WIRE_TYPE w;
+      asks = ValueTakesMemory C.reading;
       need = free;
       records = optional_records C.datum;
       slots = λ _. [];

@@ -8,7 +8,8 @@ ghost use Rattle.buffa_wire.specs.Text.{records_text};
 ghost use Rattle.buffa_wire.specs.WireType.{same_wire};
 ghost use Rattle.buffa_wire.specs.Written.{Writes};
 ghost use Rattle.buffa_map.specs.Text.{saturated};
-ghost use Rattle.buffa_fields.specs.Lists.{Each, elements_taken, packed_records, packed_text};
+ghost use Rattle.buffa_fields.specs.Lists.{Each, ElementsTakeMemory, check_list_wire};
+ghost use Rattle.buffa_fields.specs.Lists.{elements_taken, packed_records, packed_text};
 ghost use Rattle.buffa_fields.specs.ListLaws.{packed_back};
 ghost use Rattle.buffa_fields.specs.Values.{free};
 
@@ -162,6 +163,8 @@ impl<C: Packable> Member for Packed<C> {
       meaning = λ vs. map C.Value.meaning vs.items;
       blank = [];
       takes = elements_taken C.reading;
+      checks = λ n w. check_list_wire n C.WIRE_TYPE w;
+      asks = ElementsTakeMemory C.reading;
       need = free;
       records = packed_records C.writing.text;
       slots = λ _. [];

@@ -1,7 +1,8 @@
 //! Members that aren't written where they are the default.
 
 ghost use Rattle.std.specs.Prelude.{[], ◌∷◌, refl, ◌==◌};
-ghost use Rattle.buffa_fields.specs.Values.{free, value_taken};
+ghost use Rattle.buffa_wire.specs.Reading.{check_wire};
+ghost use Rattle.buffa_fields.specs.Values.{ValueTakesMemory, free, value_taken};
 ghost use Rattle.buffa_fields.specs.ValueLaws.{plain_back};
 ghost use Rattle.buffa_fields.specs.Slots.{plain_records};
 
@@ -30,6 +31,8 @@ impl<C: Kind> Member for Plain<C> {
       meaning = C.Value.meaning;
       blank = C.Value.blank_is;
       takes = value_taken C.reading;
+      checks = λ n w. check_wire n C.WIRE_TYPE w;
+      asks = ValueTakesMemory C.reading;
       need = free;
       records = plain_records C.is_blank C.datum;
       slots = λ _. [];

@@ -1,7 +1,7 @@
 //! Members that are lists.
 
 ghost use Rattle.std.specs.Prelude.{[], map, refl, ◌==◌};
-ghost use Rattle.buffa_fields.specs.Lists.{Each, element_records, elements_taken};
+ghost use Rattle.buffa_fields.specs.Lists.{Each, ElementsTakeMemory, check_list_wire, element_records, elements_taken};
 ghost use Rattle.buffa_fields.specs.ListLaws.{elements_back};
 ghost use Rattle.buffa_fields.specs.Values.{free};
 
@@ -31,6 +31,8 @@ impl<C: Kind> Member for Repeated<C> {
       meaning = λ vs. map C.Value.meaning vs.items;
       blank = [];
       takes = elements_taken C.reading;
+      checks = λ n w. check_list_wire n C.WIRE_TYPE w;
+      asks = ElementsTakeMemory C.reading;
       need = free;
       records = element_records C.datum;
       slots = λ _. [];

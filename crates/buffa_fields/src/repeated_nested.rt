@@ -1,14 +1,18 @@
 //! Members that are lists of messages.
 
-ghost use Rattle.std.specs.Prelude.{[], ◌≡◌, ◌==◌, map};
+ghost use Rattle.std.specs.Prelude.{[], ◌≡◌, ◌==◌, IsOk, map};
+ghost use Rattle.buffa_bytes.specs.declared.wire_type.WireType.TheVariants.{LengthDelimited};
 ghost use Rattle.buffa_wire.specs.BudgetLeft.{budget_left};
+ghost use Rattle.buffa_wire.specs.Gives.{FullOnlyIf};
 ghost use Rattle.buffa_wire.specs.Number.{IsNumber};
 ghost use Rattle.buffa_wire.specs.Passes.{IsNext, IsSized, IsWritten};
+ghost use Rattle.buffa_wire.specs.Reading.{check_wire};
 ghost use Rattle.buffa_wire.specs.Text.{records_text};
-ghost use Rattle.buffa_fields.specs.Calls.{TakesIn, WritesMessages};
+ghost use Rattle.buffa_fields.specs.Calls.{ChecksWire, TakesIn, WritesMessages};
 ghost use Rattle.buffa_fields.specs.Lists.{Each};
-ghost use Rattle.buffa_fields.specs.Nested.{FitsInside, message_in};
-ghost use Rattle.buffa_fields.specs.RepeatedNested.{messages_cost, messages_levels, messages_records, messages_slots, messages_taken};
+ghost use Rattle.buffa_fields.specs.Nested.{FitsInside, MessageTakesMemory, message_in};
+ghost use Rattle.buffa_fields.specs.RepeatedNested.{MessagesTakeMemory, messages_cost, messages_levels};
+ghost use Rattle.buffa_fields.specs.RepeatedNested.{messages_records, messages_slots, messages_taken};
 ghost use Rattle.buffa_fields.specs.RepeatedNestedLaws.{messages_back, messages_stay};
 ghost use Rattle.buffa_fields.specs.Takes.{IsTaken};
 
@@ -29,8 +33,10 @@ fn take_charged<N: Message>(
     buf: &mut &[u8],
     ctx: DecodeContext<'_>,
 ) -> Result<(), DecodeError>
-    ensures { TakesIn tag ctx.entry ctx.exit message.old message.new buf.old buf.new result (message_in N.merged)
+    ensures taken { TakesIn tag ctx.entry ctx.exit message.old message.new buf.old buf.new result (message_in N.merged)
         (messages_cost N.COST N.cost) N.meaning }
+    ensures full { FullOnlyIf result (MessageTakesMemory ctx.entry.depth tag.number tag.wire_type buf.old.now) }
+    ensures wire { ChecksWire tag WireType.LengthDelimited result }
 {
     match check_wire_type(tag, WireType::LengthDelimited) {
         Ok(()) => {}
@@ -56,8 +62,10 @@ fn take_message<N: Message>(
     buf: &mut &[u8],
     ctx: DecodeContext<'_>,
 ) -> Result<(), DecodeError>
-    ensures { TakesIn tag ctx.entry ctx.exit messages.old messages.new buf.old buf.new result
+    ensures taken { TakesIn tag ctx.entry ctx.exit messages.old messages.new buf.old buf.new result
         (messages_taken N.blank_is N.merged) (messages_cost N.COST N.cost) (λ vs. map N.meaning vs.items) }
+    ensures full { FullOnlyIf result (MessagesTakeMemory ctx.entry.depth tag.number tag.wire_type buf.old.now) }
+    ensures wire { ChecksWire tag WireType.LengthDelimited result }
 {
     let mut message = N::blank(alloc);
     match take_charged(alloc, &mut message, tag, buf, ctx) {
@@ -77,8 +85,9 @@ fn messages_len<N: Message>(
     cache: &mut SizeCache,
 ) -> Result<u32, EncodeError>
     requires { IsNumber number }
-    ensures { let vs = map N.meaning messages.now in IsSized (records_text (messages_records N.text number vs))
+    ensures sized { let vs = map N.meaning messages.now in IsSized (records_text (messages_records N.text number vs))
         (messages_slots N.text N.slots vs) cache.old result cache.new }
+    ensures always { messages_slots N.text N.slots (map N.meaning messages.now) ≡ [] → IsOk result }
 {
     let mut total: u32 = 0;
     for message in messages {
@@ -129,6 +138,8 @@ impl<N: Message> Member for RepeatedNested<N> {
       meaning = λ p. map N.meaning p.items;
       blank = [];
       takes = messages_taken N.blank_is N.merged;
+      checks = λ n w. check_wire n LengthDelimited w;
+      asks = MessagesTakeMemory;
       need = messages_cost N.COST N.cost;
       records = messages_records N.text;
       slots = messages_slots N.text N.slots;

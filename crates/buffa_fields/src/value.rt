@@ -2,14 +2,16 @@
 
 ghost use Rattle.std.specs.Prelude.{◌≡◌, ◌∷◌, ◌++◌, [], length};
 ghost use Rattle.buffa_wire.specs.BudgetLeft.{budget_left};
+ghost use Rattle.buffa_wire.specs.Gives.{FullOnlyIf};
 ghost use Rattle.buffa_wire.specs.Number.{IsNumber};
 ghost use Rattle.buffa_wire.specs.Passes.{cap};
 ghost use Rattle.buffa_wire.specs.Text.{records_text};
 ghost use Rattle.buffa_wire.specs.Values.{tag_text};
 ghost use Rattle.buffa_wire.specs.Written.{Writes};
-ghost use Rattle.buffa_fields.specs.Calls.{TakesValue};
+ghost use Rattle.buffa_wire.specs.Reading.{check_wire};
+ghost use Rattle.buffa_fields.specs.Calls.{ChecksWire, TakesValue};
 ghost use Rattle.buffa_fields.specs.Takes.{IsTaken};
-ghost use Rattle.buffa_fields.specs.Values.{free, value_taken};
+ghost use Rattle.buffa_fields.specs.Values.{ValueTakesMemory, free, value_taken};
 
 use crate::kind::Kind;
 use buffa_map::map_codec::{MapCodec, MapValueDecode};
@@ -26,7 +28,11 @@ pub(crate) fn take_value<C: MapCodec>(
     buf: &mut &[u8],
     ctx: DecodeContext<'_>,
 ) -> Result<(), DecodeError>
-    ensures { TakesValue tag ctx.entry ctx.exit value.old value.new buf.old buf.new result C.reading C.Value.meaning }
+    ensures taken { TakesValue tag ctx.entry ctx.exit value.old value.new buf.old buf.new result C.reading
+        C.Value.meaning }
+    ensures full { FullOnlyIf result (ValueTakesMemory C.reading ctx.entry.depth tag.number tag.wire_type
+        buf.old.now) }
+    ensures wire { ChecksWire tag C.WIRE_TYPE result }
 {
     match check_wire_type(tag, C::WIRE_TYPE) {
         Ok(()) => {}

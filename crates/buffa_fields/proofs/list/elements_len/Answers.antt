@@ -1,4 +1,3 @@
-use Rattle.std.proofs.Common.{◌≡◌}
 use Rattle.buffa_fields.specs.ListLaws.{count_none, len_more}
 use Rattle.buffa_fields.proofs.list.elements_len.Goals as goal
 

@@ -1,4 +1,4 @@
-use Rattle.std.proofs.Common.{◌≡◌, ◌∙◌, map, sym}
+use Rattle.std.proofs.Common.{◌∙◌, map, sym}
 use Rattle.buffa_fields.specs.ListLaws.{content_there, element_from_err, element_pushed}
 use Rattle.buffa_fields.specs.ValueLaws.{refused_plain}
 use Rattle.buffa_fields.proofs.list.take_element.Goals as goal

@@ -1,14 +1,17 @@
-use Rattle.std.proofs.Common.{◌≡◌, ◌≢◌, ◌∙◌, ap, map, sym}
+use Rattle.std.proofs.Common.{◌≡◌, ◌∙◌, inl, inr, IsOk, ap, map, sym}
 use Rattle.buffa_bytes.proofs.StepLemmas.{agree_err, agree_ok}
+use Rattle.buffa_bytes.specs.Content.{content_at}
 use Rattle.buffa_bytes.specs.declared.error.DecodeError.TheVariants.{WireTypeMismatch}
 use Rattle.buffa_bytes.specs.declared.wire_type.WireType.TheVariants.{LengthDelimited}
 use Rattle.buffa_wire.specs.Reading.{check_wire}
 use Rattle.buffa_map.proofs.EntryLemmas.{check_sound}
-use Rattle.buffa_fields.specs.ListLaws.{element_taken, neither_err, packed_taken}
+use Rattle.buffa_fields.specs.ListLaws.{element_taken, neither_err, other_wire, own_wire, packed_taken, packed_wire}
+use Rattle.buffa_fields.specs.Lists.{ElementsTakeMemory, PackedTakeMemory}
+use Rattle.buffa_fields.specs.TakesLaws.{full_weaker}
 use Rattle.buffa_fields.proofs.list.take_elements.Goals as goal
 
-pub returns-in-Ok : goal.returns-in-Ok
-returns-in-Ok g c = λ left.
+pub returns-in-Ok-clause-taken : goal.returns-in-Ok-clause-taken
+returns-in-Ok-clause-taken g c = λ left.
     let codec = g.C.MapValueDecode.reading in
     let wire_is : codec.wire ≡ c.WIRE_TYPE.result = g.met.C.MapValueDecode.wire ∙ sym c.WIRE_TYPE.ensures in
     let n = c.args.tag.number in
@@ -16,18 +19,18 @@ returns-in-Ok g c = λ left.
     let same = agree_ok (check_wire n c.WIRE_TYPE.result w) tt (check_sound n c.WIRE_TYPE.result w) c.in-Ok.ensures in
     element_taken codec g.met.C.MapCodec.plain g.met.C.MapValueDecode.no_limit c.args.depth (map g.C.Value.Blank.meaning c.args.values.now.items) n w c.args.buf.now.now left c.take_element.result (map g.C.Value.Blank.meaning c.take_element.new.values.items) c.take_element.new.buf.now (same ∙ sym wire_is) c.take_element.ensures.reads c.take_element.ensures.full
 
-pub returns-in-Ok-check_wire_type : goal.returns-in-Ok-check_wire_type
-returns-in-Ok-check_wire_type g c = λ left.
+pub returns-in-Ok-check_wire_type-clause-taken : goal.returns-in-Ok-check_wire_type-clause-taken
+returns-in-Ok-check_wire_type-clause-taken g c = λ left.
     let codec = g.C.MapValueDecode.reading in
     let wire_is : codec.wire ≡ c.WIRE_TYPE.result = g.met.C.MapValueDecode.wire ∙ sym c.WIRE_TYPE.ensures in
     let n = c.args.tag.number in
     let w = c.args.tag.wire_type in
     let bad = agree_err (check_wire n c.WIRE_TYPE.result w) c.in-Err.error (check_sound n c.WIRE_TYPE.result w) c.in-Err.ensures in
     let held = agree_ok (check_wire n LengthDelimited w) tt (check_sound n LengthDelimited w) c.in-Ok-check_wire_type.ensures in
-    packed_taken codec g.met.C.MapCodec.plain g.met.C.MapValueDecode.no_limit c.args.depth (map g.C.Value.Blank.meaning c.args.values.now.items) n w c.args.buf.now.now left c.take_packed.result (map g.C.Value.Blank.meaning c.take_packed.new.values.items) c.take_packed.new.buf.now (λ h. bad.0 (h ∙ wire_is)) held c.take_packed.ensures
+    packed_taken codec g.met.C.MapCodec.plain g.met.C.MapValueDecode.no_limit c.args.depth (map g.C.Value.Blank.meaning c.args.values.now.items) n w c.args.buf.now.now left c.take_packed.result (map g.C.Value.Blank.meaning c.take_packed.new.values.items) c.take_packed.new.buf.now (λ h. bad.0 (h ∙ wire_is)) held c.take_packed.ensures.taken
 
-pub returns-in-Err-check_wire_type : goal.returns-in-Err-check_wire_type
-returns-in-Err-check_wire_type g c = λ left.
+pub returns-in-Err-check_wire_type-clause-taken : goal.returns-in-Err-check_wire_type-clause-taken
+returns-in-Err-check_wire_type-clause-taken g c = λ left.
     let codec = g.C.MapValueDecode.reading in
     let wire_is : codec.wire ≡ c.WIRE_TYPE.result = g.met.C.MapValueDecode.wire ∙ sym c.WIRE_TYPE.ensures in
     let n = c.args.tag.number in
@@ -35,3 +38,48 @@ returns-in-Err-check_wire_type g c = λ left.
     let bad = agree_err (check_wire n c.WIRE_TYPE.result w) c.in-Err.error (check_sound n c.WIRE_TYPE.result w) c.in-Err.ensures in
     let other = agree_err (check_wire n LengthDelimited w) c.in-Err-check_wire_type.field-0 (check_sound n LengthDelimited w) c.in-Err-check_wire_type.ensures in
     neither_err codec g.met.C.MapCodec.plain g.met.C.MapValueDecode.no_limit c.args.depth (map g.C.Value.Blank.meaning c.args.values.now.items) n w c.args.buf.now.now left c.in-Err.error (map g.C.Value.Blank.meaning c.args.values.now.items) c.args.buf.now.now (λ h. bad.0 (h ∙ wire_is)) other.0 (bad.1 ∙ ap (λ z. WireTypeMismatch n z w) (sym wire_is))
+
+pub returns-in-Ok-clause-full : goal.returns-in-Ok-clause-full
+returns-in-Ok-clause-full g c =
+    let codec = g.C.MapValueDecode.reading in
+    let n = c.args.tag.number in
+    let w = c.args.tag.wire_type in
+    let bs = c.args.buf.now.now in
+    let same = agree_ok (check_wire n c.WIRE_TYPE.result w) tt (check_sound n c.WIRE_TYPE.result w) c.in-Ok.ensures in
+    full_weaker (IsOk (content_at codec.wire bs)) (ElementsTakeMemory codec c.args.depth n w bs) c.take_element.result c.take_element.ensures.full
+    (λ whole. inl (same ∙ (c.WIRE_TYPE.ensures ∙ sym g.met.C.MapValueDecode.wire), whole))
+
+pub returns-in-Ok-check_wire_type-clause-full : goal.returns-in-Ok-check_wire_type-clause-full
+returns-in-Ok-check_wire_type-clause-full g c =
+    let codec = g.C.MapValueDecode.reading in
+    let n = c.args.tag.number in
+    let w = c.args.tag.wire_type in
+    let bs = c.args.buf.now.now in
+    let held = agree_ok (check_wire n LengthDelimited w) tt (check_sound n LengthDelimited w) c.in-Ok-check_wire_type.ensures in
+    full_weaker (PackedTakeMemory codec bs) (ElementsTakeMemory codec c.args.depth n w bs) c.take_packed.result c.take_packed.ensures.full (λ packed. inr (held, packed))
+
+pub returns-in-Err-check_wire_type-clause-full : goal.returns-in-Err-check_wire_type-clause-full
+returns-in-Err-check_wire_type-clause-full g c = λ full.
+    let n = c.args.tag.number in
+    let w = c.args.tag.wire_type in
+    let bad = agree_err (check_wire n c.WIRE_TYPE.result w) c.in-Err.error (check_sound n c.WIRE_TYPE.result w) c.in-Err.ensures in
+    let two = sym full ∙ bad.1 in cc
+
+pub returns-in-Ok-clause-wire : goal.returns-in-Ok-clause-wire
+returns-in-Ok-clause-wire g c = λ e told.
+    let n = c.args.tag.number in
+    let w = c.args.tag.wire_type in
+    absurd (own_wire n g.C.MapValueDecode.WIRE_TYPE w e told (ap (λ z. check_wire n z w) (sym c.WIRE_TYPE.ensures) ∙ c.in-Ok.ensures))
+
+pub returns-in-Ok-check_wire_type-clause-wire : goal.returns-in-Ok-check_wire_type-clause-wire
+returns-in-Ok-check_wire_type-clause-wire g c = λ e told.
+    let n = c.args.tag.number in
+    let w = c.args.tag.wire_type in
+    absurd (packed_wire n g.C.MapValueDecode.WIRE_TYPE w e told (agree_ok (check_wire n LengthDelimited w) tt (check_sound n LengthDelimited w) c.in-Ok-check_wire_type.ensures))
+
+pub returns-in-Err-check_wire_type-clause-wire : goal.returns-in-Err-check_wire_type-clause-wire
+returns-in-Err-check_wire_type-clause-wire g c = λ e told.
+    let n = c.args.tag.number in
+    let w = c.args.tag.wire_type in
+    let other = agree_err (check_wire n LengthDelimited w) c.in-Err-check_wire_type.field-0 (check_sound n LengthDelimited w) c.in-Err-check_wire_type.ensures in
+    sym c.in-Err.ensures ∙ (ap (λ z. check_wire n z w) c.WIRE_TYPE.ensures ∙ other_wire n g.C.MapValueDecode.WIRE_TYPE w e told other.0)

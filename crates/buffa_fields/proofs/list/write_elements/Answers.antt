@@ -1,4 +1,3 @@
-use Rattle.std.proofs.Common.{◌≡◌}
 use Rattle.buffa_fields.specs.ListLaws.{text_none, write_more, write_stops}
 use Rattle.buffa_fields.proofs.list.write_elements.Goals as goal
 

@@ -1,11 +1,13 @@
-use Rattle.std.proofs.Common.{length}
+use Rattle.std.proofs.Common.{◌≤◌, length}
 use Rattle.buffa_fields.specs.Stands.{Merged}
 use Rattle.buffa_fields.proofs.merge.merge_fields.Given as goal
 
--- the bytes before the rest were merged
+-- the bytes before the rest were merged, and no slot came back
 abbrev pub invariant-loop-rest : goal.invariant-loop-rest
-invariant-loop-rest g l =
-    Merged g.M.Fields.layout.takes l.depth (g.M.Fields.layout.meaning l.fn.message) l.bytes l.rest (g.M.Fields.layout.meaning l.message)
+invariant-loop-rest g l = record {
+  merged : Merged g.M.Fields.layout.takes l.depth (g.M.Fields.layout.meaning l.fn.message) l.bytes l.rest (g.M.Fields.layout.meaning l.message);
+  within : l.budget.unknown ≤ l.initial.budget.unknown;
+}
 
 abbrev pub decreases-loop-rest : goal.decreases-loop-rest
 decreases-loop-rest g l = length l.rest

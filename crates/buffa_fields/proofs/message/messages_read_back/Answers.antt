@@ -1,4 +1,4 @@
-use Rattle.std.proofs.Common.{◌∙◌, ap, sym}
+use Rattle.std.proofs.Common.{◌∙◌, ap}
 use Rattle.buffa_wire.specs.Text.{records_text}
 use Rattle.buffa_fields.specs.LayoutLaws.{reads_back}
 use Rattle.buffa_fields.specs.Takes.{merged_of}

@@ -1,4 +1,4 @@
-use Rattle.std.proofs.Common.{◌≡◌, [], subst, sym}
+use Rattle.std.proofs.Common.{[], subst, sym}
 use Rattle.buffa_fields.specs.Layout.{IsCounted}
 use Rattle.buffa_fields.specs.LayoutLaws.{counts_none, sizes, start}
 use Rattle.buffa_fields.proofs.message.size_members.Goals as goal

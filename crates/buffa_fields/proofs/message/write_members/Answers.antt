@@ -1,4 +1,4 @@
-use Rattle.std.proofs.Common.{◌≡◌, subst, sym}
+use Rattle.std.proofs.Common.{subst, sym}
 use Rattle.buffa_fields.specs.Layout.{Follow, IsPut}
 use Rattle.buffa_fields.specs.LayoutLaws.{follows, puts, puts_none, start}
 use Rattle.buffa_fields.proofs.message.write_members.Goals as goal

@@ -1,4 +1,3 @@
-use Rattle.std.proofs.Common.{◌≡◌}
 use Rattle.buffa_fields.specs.PackedLaws.{payloads_more}
 use Rattle.buffa_fields.proofs.packed.payloads_len.Goals as goal
 

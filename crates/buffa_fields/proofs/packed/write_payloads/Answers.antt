@@ -1,4 +1,4 @@
-use Rattle.std.proofs.Common.{◌≡◌, append-nil, sym}
+use Rattle.std.proofs.Common.{append-nil, sym}
 use Rattle.buffa_fields.specs.PackedLaws.{payload_more, payload_stops}
 use Rattle.buffa_fields.proofs.packed.write_payloads.Goals as goal
 

@@ -1,4 +1,4 @@
-use Rattle.buffa_fields.specs.RepeatedNestedLaws.{size_on, size_stops, sized_none}
+use Rattle.buffa_fields.specs.RepeatedNestedLaws.{messages_have_slots, size_on, size_stops, sized_none}
 use Rattle.buffa_fields.proofs.repeated_nested.messages_len.Goals as goal
 
 pub loop-message-init : goal.loop-message-init
@@ -9,7 +9,12 @@ loop-message-preserved g c =
     size_on g.N.MessageSpec.text g.N.MessageSpec.slots c.args.number g.N.Blank.meaning c.args.messages.now c.loop-message.message-index c.message-item.result c.loop-message-test.true c.message-item.is
     c.args.cache.now c.loop-message.cache c.message_len.new.cache c.loop-message.total c.in-Ok.len _ c.loop-message.invariant c.in-Ok.ensures c.saturating_add-total.ensures
 
-pub returns-in-Err : goal.returns-in-Err
-returns-in-Err g c =
+pub returns-in-Err-clause-sized : goal.returns-in-Err-clause-sized
+returns-in-Err-clause-sized g c =
     size_stops g.N.MessageSpec.text g.N.MessageSpec.slots c.args.number g.N.Blank.meaning c.args.messages.now c.loop-message.message-index c.message-item.result c.loop-message-test.true c.message-item.is
     c.args.cache.now c.loop-message.cache c.message_len.new.cache c.loop-message.total c.in-Err.error c.loop-message.invariant c.in-Err.ensures
+
+pub returns-in-Err-clause-always : goal.returns-in-Err-clause-always
+returns-in-Err-clause-always g c = λ none. absurd (
+    messages_have_slots g.N.MessageSpec.text g.N.MessageSpec.slots c.args.number g.N.Blank.meaning c.args.messages.now c.loop-message.message-index c.message-item.result c.loop-message-test.true c.message-item.is none
+    )

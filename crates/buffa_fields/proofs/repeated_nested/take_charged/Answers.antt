@@ -1,14 +1,14 @@
-use Rattle.std.proofs.Common.{◌≡◌, ◌+◌, refl, arith}
+use Rattle.std.proofs.Common.{◌≡◌, ◌+◌, ◌∙◌, refl, sym, arith}
 use Rattle.buffa_bytes.proofs.StepLemmas.{agree_err, agree_ok}
 use Rattle.buffa_bytes.specs.declared.wire_type.WireType.TheVariants.{LengthDelimited}
 use Rattle.buffa_wire.specs.Reading.{check_wire}
 use Rattle.buffa_map.proofs.EntryLemmas.{check_sound}
-use Rattle.buffa_fields.specs.NestedLaws.{inside_taken}
+use Rattle.buffa_fields.specs.NestedLaws.{inside_full, inside_taken}
 use Rattle.buffa_fields.specs.RepeatedNestedLaws.{charged, uncharged, uncharged_wire}
 use Rattle.buffa_fields.proofs.repeated_nested.take_charged.Goals as goal
 
-pub returns-in-Err : goal.returns-in-Err
-returns-in-Err g c =
+pub returns-in-Err-clause-taken : goal.returns-in-Err-clause-taken
+returns-in-Err-clause-taken g c =
     let n = c.args.tag.number in
     let w = c.args.tag.wire_type in
     let old = g.N.Blank.meaning c.args.message.now in
@@ -17,8 +17,8 @@ returns-in-Err g c =
     let bad = agree_err (check_wire n LengthDelimited w) c.in-Err.error (check_sound n LengthDelimited w) c.in-Err.ensures in
     uncharged_wire g.N.MessageSpec.merged g.N.MessageSpec.COST g.N.MessageSpec.cost c.args.ctx.depth n w old old bs bs before before bad.0 c.in-Err.error bad.1 refl
 
-pub returns-in-Err-take_memory : goal.returns-in-Err-take_memory
-returns-in-Err-take_memory g c =
+pub returns-in-Err-take_memory-clause-taken : goal.returns-in-Err-take_memory-clause-taken
+returns-in-Err-take_memory-clause-taken g c =
     let n = c.args.tag.number in
     let w = c.args.tag.wire_type in
     let old = g.N.Blank.meaning c.args.message.now in
@@ -27,8 +27,8 @@ returns-in-Err-take_memory g c =
     let e = c.in-Err-take_memory.ensures in
     uncharged g.N.MessageSpec.merged g.N.MessageSpec.COST g.N.MessageSpec.cost c.args.ctx.depth n w old old bs bs c.args.ctx.budget.now c.take_memory.new.self wire (omega (arith, e.err.0, c.COST.ensures)) e.err.1 c.in-Err-take_memory.error e.which
 
-pub returns : goal.returns
-returns g c =
+pub returns-clause-taken : goal.returns-clause-taken
+returns-clause-taken g c =
     let n = c.args.tag.number in
     let w = c.args.tag.wire_type in
     let d = c.args.ctx.depth in
@@ -43,3 +43,21 @@ returns g c =
     let paid : mid.memory + g.N.MessageSpec.COST ≡ c.args.ctx.budget.now.memory = omega (arith, c.in-Ok-take_memory.ensures.ok.0, c.COST.ensures) in
     charged merged g.N.MessageSpec.COST cost d n w old new bs m.new.buf.now c.args.ctx.budget.now _ wire mid paid c.in-Ok-take_memory.ensures.ok.1 m.result
     (inside_taken merged cost n w wire old new bs m.new.buf.now mid _ d m.result m.ensures.ok m.ensures.fault m.ensures.spent)
+
+pub returns-in-Err-clause-full : goal.returns-in-Err-clause-full
+returns-in-Err-clause-full g c = λ full.
+    let n = c.args.tag.number in
+    let w = c.args.tag.wire_type in
+    let bad = agree_err (check_wire n LengthDelimited w) c.in-Err.error (check_sound n LengthDelimited w) c.in-Err.ensures in
+    let two = sym full ∙ bad.1 in cc
+
+pub returns-in-Err-take_memory-clause-full : goal.returns-in-Err-take_memory-clause-full
+returns-in-Err-take_memory-clause-full g c = λ full. let two = sym full ∙ c.in-Err-take_memory.ensures.which in cc
+
+pub returns-clause-full : goal.returns-clause-full
+returns-clause-full g c =
+    let n = c.args.tag.number in
+    let w = c.args.tag.wire_type in
+    let wire = agree_ok (check_wire n LengthDelimited w) tt (check_sound n LengthDelimited w) c.in-Ok.ensures in
+    let m = c.merge_length_delimited in
+    inside_full c.args.ctx.depth n w c.args.buf.now.now wire m.result m.ensures.full m.ensures.free

@@ -1,16 +1,19 @@
 use Rattle.std.proofs.Common.{inl, inr, [], ◌∷◌, ◌++◌, map, sym, ap, Some, ◌∙◌}
 use Rattle.std.proofs.lemmas.List.{map-append}
 use Rattle.std.specs.Option.{option_map}
+use Rattle.buffa_wire.proofs.SpentLemmas.{is_there}
+use Rattle.buffa_wire.specs.Reading.{delimited_at}
 use Rattle.buffa_fields.specs.Nested.{message_in}
+use Rattle.buffa_fields.specs.RepeatedNestedLaws.{message_there}
 use Rattle.buffa_fields.proofs.repeated_nested.take_message.Goals as goal
 
-pub returns-in-Err : goal.returns-in-Err
-returns-in-Err g c =
+pub returns-in-Err-clause-taken : goal.returns-in-Err-clause-taken
+returns-in-Err-clause-taken g c =
     let d = c.args.ctx.depth in
     let n = c.args.tag.number in
     let w = c.args.tag.wire_type in
     let olds = map g.N.Blank.meaning c.args.messages.now.items in
-    let e = c.in-Err.ensures in (
+    let e = c.in-Err.ensures.taken in (
       e.0,
       λ ne. elim (e.1 ne) [
         | inl few ↦ inl few
@@ -19,14 +22,14 @@ returns-in-Err g c =
       e.2,
     )
 
-pub returns : goal.returns
-returns g c =
+pub returns-clause-taken : goal.returns-clause-taken
+returns-clause-taken g c =
     let says = g.N.Blank.meaning in
     let d = c.args.ctx.depth in
     let n = c.args.tag.number in
     let w = c.args.tag.wire_type in
     let xs = c.args.messages.now.items in
-    let t = c.in-Ok.ensures in (
+    let t = c.in-Ok.ensures.taken in (
       t.0,
       t.1,
       t.2,
@@ -34,3 +37,13 @@ returns g c =
           ∙ ap (λ l. Some l) (sym (ap (map says) c.in-Ok-push.ensures.items ∙ map-append says xs (c.take_charged.new.message ∷ []))),
       t.4,
     )
+
+pub returns-in-Err-clause-full : goal.returns-in-Err-clause-full
+returns-in-Err-clause-full g c = λ full.
+    let may = c.in-Err.ensures.full full in
+    (may.0, may.1, is_there (delimited_at c.args.buf.now.now) (may.2, may.3) may.4)
+
+pub returns-in_default-clause-full : goal.returns-in_default-clause-full
+returns-in_default-clause-full g c = λ full.
+    let t = c.in-Ok.ensures.taken in
+    message_there g.N.MessageSpec.merged c.args.ctx.depth (g.N.Blank.meaning c.blank-message.result) (g.N.Blank.meaning c.take_charged.new.message) c.args.tag.number c.args.tag.wire_type c.args.buf.now.now t.0 c.take_charged.new.buf.now t.1 t.2 t.3

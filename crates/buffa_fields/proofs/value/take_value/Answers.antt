@@ -7,8 +7,8 @@ use Rattle.buffa_map.specs.Codec.{value_need}
 use Rattle.buffa_fields.specs.ValueLaws.{kept_by, refused_plain, value_err, value_ok, wire_err}
 use Rattle.buffa_fields.proofs.value.take_value.Goals as goal
 
-pub returns-in-Err : goal.returns-in-Err
-returns-in-Err g c =
+pub returns-in-Err-clause-taken : goal.returns-in-Err-clause-taken
+returns-in-Err-clause-taken g c =
     let codec = g.C.MapValueDecode.reading in
     let wire = c.WIRE_TYPE.result in
     let wire_is : codec.wire ≡ wire = g.met.C.MapValueDecode.wire ∙ sym c.WIRE_TYPE.ensures in
@@ -18,8 +18,8 @@ returns-in-Err g c =
     wire_err codec g.met.C.MapCodec.plain g.met.C.MapValueDecode.no_limit c.args.ctx.depth (g.C.Value.Blank.meaning c.args.value.now) n w c.args.buf.now.now c.args.ctx.budget.now c.in-Err.error (g.C.Value.Blank.meaning c.args.value.now) c.args.buf.now.now c.args.ctx.budget.now
     (λ h. bad.0 (h ∙ wire_is)) (bad.1 ∙ ap (λ z. WireTypeMismatch n z w) (sym wire_is)) refl
 
-pub returns-in-Ok-merge : goal.returns-in-Ok-merge
-returns-in-Ok-merge g c =
+pub returns-in-Ok-merge-clause-taken : goal.returns-in-Ok-merge-clause-taken
+returns-in-Ok-merge-clause-taken g c =
     let codec = g.C.MapValueDecode.reading in
     let wire = c.WIRE_TYPE.result in
     let wire_is : codec.wire ≡ wire = g.met.C.MapValueDecode.wire ∙ sym c.WIRE_TYPE.ensures in
@@ -31,8 +31,8 @@ returns-in-Ok-merge g c =
     value_ok codec g.met.C.MapCodec.plain g.met.C.MapValueDecode.no_limit d (g.C.Value.Blank.meaning c.args.value.now) n w bs c.args.ctx.budget.now (g.C.Value.Blank.meaning c.merge.new.value) _ c.merge.new.buf.now _
     (same ∙ sym wire_is) (kept_by codec.nested _ c.args.ctx.budget.now (value_need codec d bs) _ g.met.C.MapCodec.plain c.in-Ok-merge.ensures.spends) c.in-Ok-merge.ensures.ok
 
-pub returns-in-Err-merge : goal.returns-in-Err-merge
-returns-in-Err-merge g c =
+pub returns-in-Err-merge-clause-taken : goal.returns-in-Err-merge-clause-taken
+returns-in-Err-merge-clause-taken g c =
     let codec = g.C.MapValueDecode.reading in
     let wire = c.WIRE_TYPE.result in
     let wire_is : codec.wire ≡ wire = g.met.C.MapValueDecode.wire ∙ sym c.WIRE_TYPE.ensures in
@@ -45,3 +45,20 @@ returns-in-Err-merge g c =
     value_err codec g.met.C.MapCodec.plain g.met.C.MapValueDecode.no_limit d old n w bs c.args.ctx.budget.now c.in-Err-merge.error (g.C.Value.Blank.meaning c.merge.new.value) c.merge.new.buf.now _
     (same ∙ sym wire_is) (kept_by codec.nested _ c.args.ctx.budget.now (value_need codec d bs) _ g.met.C.MapCodec.plain c.in-Err-merge.ensures.spends)
     (λ ne. refused_plain codec.nested codec d old bs c.args.ctx.budget.now c.in-Err-merge.error g.met.C.MapCodec.plain (c.in-Err-merge.ensures.fault ne)) (λ full. (c.in-Err-merge.ensures.full full).2)
+
+pub returns-in-Err-clause-full : goal.returns-in-Err-clause-full
+returns-in-Err-clause-full g c = λ full.
+    let n = c.args.tag.number in
+    let w = c.args.tag.wire_type in
+    let bad = agree_err (check_wire n c.WIRE_TYPE.result w) c.in-Err.error (check_sound n c.WIRE_TYPE.result w) c.in-Err.ensures in
+    let two = sym full ∙ bad.1 in cc
+
+pub returns-in-Err-merge-clause-full : goal.returns-in-Err-merge-clause-full
+returns-in-Err-merge-clause-full g c = λ full.
+    let n = c.args.tag.number in
+    let w = c.args.tag.wire_type in
+    let same = agree_ok (check_wire n c.WIRE_TYPE.result w) tt (check_sound n c.WIRE_TYPE.result w) c.in-Ok.ensures in (
+      same ∙ (c.WIRE_TYPE.ensures ∙ sym g.met.C.MapValueDecode.wire),
+      c.in-Err-merge.ensures.full full,
+      λ nothing. let k = c.in-Err-merge.ensures.empty nothing in cc,
+    )

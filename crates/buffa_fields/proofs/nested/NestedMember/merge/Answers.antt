@@ -16,5 +16,8 @@ returns g c =
     let is : says m ≡ or_blank blank (option_map says c.args.part.now) = elim c.match-take.branch [
       | in-Some w ↦ let e : c.args.part.now ≡ Some m = cc in sym (ap (λ p. or_blank blank (option_map says p)) e)
       | in-None w ↦ let e : c.args.part.now ≡ None = cc in let b : says m ≡ blank = cc in b ∙ sym (ap (λ p. or_blank blank (option_map says p)) e)
-    ] in
-    there blank g.N.MessageSpec.merged (message_cost g.N.MessageSpec.cost) c.args.ctx.depth c.args.tag.number c.args.tag.wire_type (option_map says c.args.part.now) (says m) (says t.new.message) c.args.buf.now.now t.new.buf.now c.args.ctx.budget.now _ t.result is t.ensures
+    ] in (
+      there blank g.N.MessageSpec.merged (message_cost g.N.MessageSpec.cost) c.args.ctx.depth c.args.tag.number c.args.tag.wire_type (option_map says c.args.part.now) (says m) (says t.new.message) c.args.buf.now.now t.new.buf.now c.args.ctx.budget.now _ t.result is t.ensures.taken,
+      t.ensures.full,
+      t.ensures.wire,
+    )

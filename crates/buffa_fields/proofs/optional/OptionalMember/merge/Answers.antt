@@ -10,12 +10,16 @@ returns-in-Ok g c =
     let d = c.args.ctx.depth in
     let n = c.args.tag.number in
     let w = c.args.tag.wire_type in
-    let t = c.in-Ok.ensures in (
-      t.0,
-      t.1,
-      t.2,
-      ap (option_map (λ x. Some x)) (ap (λ z. value_taken g.C.MapValueDecode.reading d z n w t.0) (g.met.C.MapValueDecode.blank ∙ sym c.blank-value.ensures) ∙ t.3),
-      t.4,
+    let t = c.in-Ok.ensures.taken in (
+      (
+        t.0,
+        t.1,
+        t.2,
+        ap (option_map (λ x. Some x)) (ap (λ z. value_taken g.C.MapValueDecode.reading d z n w t.0) (g.met.C.MapValueDecode.blank ∙ sym c.blank-value.ensures) ∙ t.3),
+        t.4,
+      ),
+      tt,
+      λ e other. c.in-Ok.ensures.wire e other,
     )
 
 pub returns-in-Err : goal.returns-in-Err
@@ -24,11 +28,15 @@ returns-in-Err g c =
     let d = c.args.ctx.depth in
     let n = c.args.tag.number in
     let w = c.args.tag.wire_type in
-    let e = c.in-Err.ensures in (
-      e.0,
-      λ ne. elim (e.1 ne) [
-        | inl few ↦ inl few
-        | inr bad ↦ inr ((λ p more payload split. ap (option_map (λ x. Some x)) (ap (λ z. value_taken g.C.MapValueDecode.reading d z n w p) (g.met.C.MapValueDecode.blank ∙ sym c.blank-value.ensures) ∙ bad.0 p more payload split)), bad.1)
-      ],
-      e.2,
+    let e = c.in-Err.ensures.taken in (
+      (
+        e.0,
+        λ ne. elim (e.1 ne) [
+          | inl few ↦ inl few
+          | inr bad ↦ inr ((λ p more payload split. ap (option_map (λ x. Some x)) (ap (λ z. value_taken g.C.MapValueDecode.reading d z n w p) (g.met.C.MapValueDecode.blank ∙ sym c.blank-value.ensures) ∙ bad.0 p more payload split)), bad.1)
+        ],
+        e.2,
+      ),
+      c.in-Err.ensures.full,
+      λ e other. c.in-Err.ensures.wire e other,
     )
