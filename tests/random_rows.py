@@ -235,7 +235,7 @@ class Maker:
         how = self.pick("", "how=all", "how=packed" if codec in NUMBERS else "how=all")
         if not values and not how:
             raise Fault("no value")
-        call = self.pick("set", "encode-into", "set" if plain(codec) in MESSAGES else "set-then-read")
+        call = self.pick("set", "encode-into", "set-then-read")
         settings = [self.pick("number=1", "number=2"), how, self.pick("", "by=try")]
         return call, codec, settings, "".join(it[2].hex() for it in before) or "-", " ".join(values if how else values[:1])
 

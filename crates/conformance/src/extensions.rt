@@ -1,6 +1,6 @@
 // Calls on extensions: those whose values are samples too.
 
-use crate::back::{set_flat, set_group, set_two};
+use crate::back::Back;
 use buffa_ext::codecs::EnumCodec;
 use buffa_ext::record::{Delimited, Grouped};
 use buffa_samples::count::CountMsg;
@@ -21,16 +21,13 @@ use std::alloc::Global;
 pub fn extension(alloc: Global, case: &Case<'_>, mark: &mut Mark) -> Result<Outcome, Fault> {
     match case.types {
         "enum" => packable::<Samples, EnumValue<Old>, EnumCodec<Old>>(alloc, case, mark),
-        "flat" if case.call == "set-then-read" => set_flat(alloc, case, mark),
-        "two" if case.call == "set-then-read" => set_two(alloc, case, mark),
-        "two-group" if case.call == "set-then-read" => set_group(alloc, case, mark),
-        "flat" => of_message::<Samples, FlatMsg, Delimited>(alloc, case, mark),
-        "two" => of_message::<Samples, TestMsg, Delimited>(alloc, case, mark),
-        "count" => of_message::<Samples, CountMsg, Delimited>(alloc, case, mark),
-        "keep" => of_message::<Samples, BudgetMsg, Delimited>(alloc, case, mark),
-        "two-group" => of_message::<Samples, TestMsg, Grouped>(alloc, case, mark),
-        "count-group" => of_message::<Samples, CountMsg, Grouped>(alloc, case, mark),
-        "keep-group" => of_message::<Samples, BudgetMsg, Grouped>(alloc, case, mark),
+        "flat" => of_message::<Samples, Back, FlatMsg, Delimited>(alloc, case, mark),
+        "two" => of_message::<Samples, Back, TestMsg, Delimited>(alloc, case, mark),
+        "count" => of_message::<Samples, Back, CountMsg, Delimited>(alloc, case, mark),
+        "keep" => of_message::<Samples, Back, BudgetMsg, Delimited>(alloc, case, mark),
+        "two-group" => of_message::<Samples, Back, TestMsg, Grouped>(alloc, case, mark),
+        "count-group" => of_message::<Samples, Back, CountMsg, Grouped>(alloc, case, mark),
+        "keep-group" => of_message::<Samples, Back, BudgetMsg, Grouped>(alloc, case, mark),
         _ => conformance_extensions::extension::<Samples>(alloc, case, mark),
     }
 }

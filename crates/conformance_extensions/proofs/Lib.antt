@@ -1,1 +1,2 @@
 pub mod NormalLemmas
+pub mod Fronts

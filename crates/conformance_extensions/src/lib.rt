@@ -6,21 +6,23 @@ pub mod back;
 mod codecs;
 mod descriptors;
 mod messages;
+pub mod normal;
 mod sets;
 mod steps;
 mod told;
+pub mod written;
 
 use buffa_ext::codecs::{
     Bool, BytesCodec, EnumI32, Fixed32, Fixed64, Int32, Int64, PackedRepeated, Repeated, Sfixed32,
     Sfixed64, Sint32, Sint64, StringCodec, Uint32, Uint64,
 };
 use buffa_ext::{ExtensionCodec, MessageIn, MessageRecord, Numbered, SingularCodec};
-use buffa_wire::Message;
 use conformance_rows::case::Case;
 use conformance_rows::fault::Fault;
 use conformance_rows::mark::Mark;
 use conformance_rows::outcome::Outcome;
 use conformance_rows::words::Worded;
+use normal::Normal;
 use std::alloc::Global;
 
 // A call on a list.
@@ -98,13 +100,14 @@ pub fn packable<By, V: Worded<By>, C: Numbered<Value = V>>(
     }
 }
 
-/// A message, in records of one kind.
-pub fn message<By, M: Worded<By> + Message, K: MessageRecord>(
+/// A message, in records of one kind; `Back` is the type that says which messages are read back.
+pub fn message<By, Back, M: Worded<By> + Normal<Back>, K: MessageRecord>(
     alloc: Global,
     case: &Case<'_>,
     mark: &mut Mark,
 ) -> Result<Outcome, Fault> {
     match case.call {
+        "set-then-read" => normal::set_messages::<By, Back, M, K>(alloc, case, mark),
         "hold" => messages::hold::<K>(alloc, case, mark),
         "merge-all" => messages::merge_all::<By, M, K>(alloc, case, mark),
         "merge-in" => messages::merge_in::<By, M, K>(alloc, case, mark),
