@@ -69,6 +69,17 @@ fn levels(case: &Case<'_>) -> Result<u32, Fault> {
     case.depth()
 }
 
+// The budget of a row.
+fn budget_of(case: &Case<'_>) -> Result<Budget, Fault> {
+    let slots = case.slots()?;
+    Ok(Budget::new(slots).with_element_memory(case.units()?))
+}
+
+// Whether a message's word is this one.
+fn has_word<M: Worded<Nodes>>(alloc: Global, message: &M, word: &str) -> Result<bool, Fault> {
+    Ok(message.word(alloc)?.as_str() == word)
+}
+
 // Whether what stands after a refusal is what the fields before the refused one make of the message before, merged one
 // by one; where memory ran out any of the fields may be the refused one.
 fn stands<M: Message + Worded<Nodes>>(
@@ -79,12 +90,13 @@ fn stands<M: Message + Worded<Nodes>>(
     full: bool,
 ) -> Result<bool, Fault> {
     let mut message = standing::<M>(alloc, case)?;
-    let mut budget = Budget::new(case.slots()?).with_element_memory(case.units()?);
+    let mut budget = budget_of(case)?;
+    let levels = levels(case)?;
     let mut rest = bytes;
     let mut found = false;
     for _ in 0..=bytes.len() {
-        found = message.word(alloc)?.as_str() == word || (full && found);
-        let ctx = DecodeContext::new(levels(case)?, &mut budget);
+        found = has_word::<M>(alloc, &message, word)? || (full && found);
+        let ctx = DecodeContext::new(levels, &mut budget);
         if field::<M>(alloc, &mut message, &mut rest, ctx).is_err() {
             return Ok(found);
         }
@@ -113,6 +125,19 @@ fn answer_told<M: Message + Worded<Nodes>>(
     Ok(format!(in alloc; "{fault}, and other fields stand")?)
 }
 
+// What is told of a merge.
+fn merge_told(
+    alloc: Global,
+    told: Result<String, Fault>,
+    word: String,
+    refused: bool,
+    left: Result<String, Fault>,
+    unread: usize,
+) -> Result<Outcome, Fault> {
+    let none = Ok(String::new(alloc));
+    Outcome::of_words(alloc, told, Ok(word), none, refused)?.with_left(left, unread)
+}
+
 /// What comes of bytes that are merged, all of them or one field: the message, also where a field is refused.
 pub(crate) fn merge<M: Message + Worded<Nodes>>(
     alloc: Global,
@@ -120,18 +145,15 @@ pub(crate) fn merge<M: Message + Worded<Nodes>>(
     mark: &mut Mark,
     bytes: &[u8],
 ) -> Result<Outcome, Fault> {
-    let mut budget = Budget::new(case.slots()?).with_element_memory(case.units()?);
+    let mut budget = budget_of(case)?;
     let ctx = DecodeContext::new(case.depth()?, &mut budget);
     let mut message = standing::<M>(alloc, case)?;
     mark.begin(alloc);
     let answer = merged::<M>(alloc, case, &mut message, bytes, ctx);
     let refused = mark.end();
-    let unread = answer.unwrap_or(0);
     let word = message.word(alloc)?;
     let told = answer_told::<M>(alloc, case, bytes, answer, word.as_str());
-    let none = Ok(String::new(alloc));
-    Outcome::of_words(alloc, told, Ok(word), none, refused)?.with_left(
-        left(alloc, case, &budget, unread),
-        unread,
-    )
+    let unread = answer.unwrap_or(0);
+    let left = left(alloc, case, &budget, unread);
+    merge_told(alloc, told, word, refused, left, unread)
 }
