@@ -212,8 +212,8 @@ impl<By, KC: MapCodec, VC: MapCodec, B: Buf> OnMap<By, KC, VC> for Entries<'_, B
     }
 }
 
-// What comes of a row on a pair of codecs.
-fn pair<By, KC: MapCodec, VC: MapCodec, B: Buf>(
+/// What comes of a row on a pair of codecs; none where its types don't go into the storage.
+pub fn pair<By, KC: MapCodec, VC: MapCodec, B: Buf>(
     alloc: Global,
     case: &Case<'_>,
     kind: Kind,

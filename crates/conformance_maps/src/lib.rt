@@ -6,4 +6,4 @@ mod entries;
 mod reads;
 
 pub use by_function::ByFunction;
-pub use entries::{Entries, Runs, fields};
+pub use entries::{Entries, Runs, fields, pair};
