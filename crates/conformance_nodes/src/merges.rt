@@ -125,19 +125,6 @@ fn answer_told<M: Message + Worded<Nodes>>(
     Ok(format!(in alloc; "{fault}, and other fields stand")?)
 }
 
-// What is told of a merge.
-fn merge_told(
-    alloc: Global,
-    told: Result<String, Fault>,
-    word: String,
-    refused: bool,
-    left: Result<String, Fault>,
-    unread: usize,
-) -> Result<Outcome, Fault> {
-    let none = Ok(String::new(alloc));
-    Outcome::of_words(alloc, told, Ok(word), none, refused)?.with_left(left, unread)
-}
-
 /// What comes of bytes that are merged, all of them or one field: the message, also where a field is refused.
 pub(crate) fn merge<M: Message + Worded<Nodes>>(
     alloc: Global,
@@ -154,6 +141,7 @@ pub(crate) fn merge<M: Message + Worded<Nodes>>(
     let word = message.word(alloc)?;
     let told = answer_told::<M>(alloc, case, bytes, answer, word.as_str());
     let unread = answer.unwrap_or(0);
+    let none = Ok(String::new(alloc));
     let left = left(alloc, case, &budget, unread);
-    merge_told(alloc, told, word, refused, left, unread)
+    Outcome::of_words(alloc, told, Ok(word), none, refused)?.with_left(left, unread)
 }

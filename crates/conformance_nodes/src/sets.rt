@@ -198,22 +198,16 @@ fn one<V: Worded<Nodes>, C: ExtensionCodec<Value = V, Output = Option<V>>>(
     }
 }
 
-// The texts of words.
-fn texts_of(alloc: Global, words: &str) -> Result<Vec<String>, Fault> {
-    let mut values = Vec::new(alloc);
-    for word in words.split_ascii_whitespace() {
-        let value: String = Worded::<Nodes>::of_word(alloc, word)?;
-        values.push(value)?;
-    }
-    Ok(values)
-}
-
 // A call on a list of texts, an Item each.
 fn texts(alloc: Global, case: &Case<'_>, mark: &mut Mark) -> Result<Outcome, Fault> {
     if case.call == "get" {
         return get::<Vec<String>, Repeated<StringCodec>>(alloc, case, mark);
     }
-    let values = texts_of(alloc, case.input())?;
+    let mut values = Vec::new(alloc);
+    for word in case.input().split_ascii_whitespace() {
+        let value: String = Worded::<Nodes>::of_word(alloc, word)?;
+        values.push(value)?;
+    }
     set::<Vec<String>, Vec<String>, Repeated<StringCodec>>(alloc, case, mark, values)
 }
 
