@@ -1,12 +1,12 @@
 // Entries of messages that are merged by a function.
 
-use crate::entries::unread;
+use crate::reads::{Limits, Read};
 use buffa_map::map_codec::{MapCodec, MapStorage, MapValueDecode, Msg, merge_message_entry_by};
 use buffa_wire::{Budget, Buf, DecodeContext, DecodeError, Message};
 use conformance_rows::case::Case;
 use conformance_rows::fault::Fault;
 use conformance_rows::mark::Mark;
-use conformance_rows::outcome::{Outcome, left, told};
+use conformance_rows::outcome::Outcome;
 use conformance_stores::{OnMap, Store};
 use std::alloc::Global;
 
@@ -39,21 +39,12 @@ impl<By, KC: MapCodec, M: Message, B: Buf> OnMap<By, KC, Msg<M>> for ByFunction<
     fn on_map<
         C: Store<By> + MapStorage<Key = KC::Value, Value = <Msg<M> as MapValueDecode>::Value>,
     >(self, alloc: Global, case: &Case<'_>, mark: &mut Mark) -> Result<Outcome, Fault> {
-        let mut budget = Budget::new(case.slots()?).with_element_memory(case.units()?);
-        let ctx = DecodeContext::new(case.depth()?, &mut budget);
+        let mut limits = Limits::of(case)?;
         let mut map = C::filled(alloc, case.before())?;
         mark.begin(alloc);
-        let answer = merged::<KC, M, C, B>(alloc, &mut map, self.buf, ctx);
-        let refused = mark.end();
-        let unread = unread(answer, self.buf);
-        let answer = told(alloc, answer);
-        Outcome::of_words(
-            alloc,
-            answer,
-            map.words(alloc),
-            Ok(String::new(alloc)),
-            refused,
-        )?
-        .with_left(left(alloc, case, &budget, unread), unread)
+        let answer = merged::<KC, M, C, B>(alloc, &mut map, self.buf, limits.context());
+        let read = Read::of(answer, mark.end(), self.buf);
+        let none = Ok(String::new(alloc));
+        read.outcome(alloc, case, &limits.budget, map.words(alloc), none)
     }
 }

@@ -1,19 +1,21 @@
 // Calls that read entries and runs of map fields.
 
+use crate::reads::{Limits, Read};
 use buffa_map::map_codec::{
     Bool, BytesBuf, BytesVec, Int32, MapCodec, MapStorage, MapValueDecode, ProtoBytesMap,
     ProtoStringMap, RewriteError, Str, Uint32, merge_entry, merge_entry_with_unknowns,
     read_map_field, rewrite_map_field,
 };
-use buffa_wire::{Budget, Buf, DecodeContext, DecodeError, UnknownFields};
+use buffa_wire::{Budget, Buf, DecodeContext, DecodeError, MapKey, UnknownFields};
 use conformance_rows::calls::Kind;
 use conformance_rows::case::{Case, given, or_dash};
 use conformance_rows::fault::Fault;
 use conformance_rows::mark::Mark;
-use conformance_rows::outcome::{Outcome, left, text_told, told};
-use conformance_rows::words::{records_of, records_word};
+use conformance_rows::outcome::{Outcome, left, text_told};
+use conformance_rows::words::{Worded, records_of, records_word};
 use conformance_stores::{OnMap, Store, stored};
 use std::alloc::Global;
+use std::hash::Hash;
 
 // The list that is lent, if one is.
 fn lent(alloc: Global, case: &Case<'_>) -> Result<Option<UnknownFields>, Fault> {
@@ -31,14 +33,6 @@ fn kept(alloc: Global, list: &Option<UnknownFields>) -> Result<String, Fault> {
             let records = records_word(alloc, list)?;
             Ok(format!(in alloc; "list {}", or_dash(records.as_str()))?)
         }
-    }
-}
-
-/// How many bytes are unread where an answer is ok.
-pub(crate) fn unread<B: Buf>(answer: Result<(), DecodeError>, buf: &B) -> usize {
-    match answer {
-        Ok(()) => buf.remaining(),
-        Err(_) => 0,
     }
 }
 
@@ -86,6 +80,28 @@ fn read<
     }
 }
 
+// What an entry or a run is read with: limits, a number, and a list if one is lent.
+#[derive(Drop)]
+struct Given {
+    limits: Limits,
+    number: u32,
+    list: Option<UnknownFields>,
+}
+
+impl Given {
+    // What a row gives.
+    fn of(alloc: Global, case: &Case<'_>) -> Result<Given, Fault> {
+        let limits = Limits::of(case)?;
+        let number = case.number()?;
+        let list = lent(alloc, case)?;
+        Ok(Given {
+            limits,
+            number,
+            list,
+        })
+    }
+}
+
 /// An entry or a run that is read from a buffer.
 #[derive(Drop)]
 pub struct Runs<'a, B> {
@@ -100,10 +116,7 @@ impl<By, KC: MapCodec, VC: MapValueDecode, B: Buf> OnMap<By, KC, VC> for Runs<'_
         case: &Case<'_>,
         mark: &mut Mark,
     ) -> Result<Outcome, Fault> {
-        let mut budget = Budget::new(case.slots()?).with_element_memory(case.units()?);
-        let ctx = DecodeContext::new(case.depth()?, &mut budget);
-        let number = case.number()?;
-        let mut list = lent(alloc, case)?;
+        let mut given = Given::of(alloc, case)?;
         let mut map = C::filled(alloc, case.before())?;
         mark.begin(alloc);
         let answer = read::<KC, VC, C, B>(
@@ -111,17 +124,13 @@ impl<By, KC: MapCodec, VC: MapValueDecode, B: Buf> OnMap<By, KC, VC> for Runs<'_
             case.call,
             &mut map,
             self.buf,
-            ctx,
-            number,
-            list.as_mut(),
+            given.limits.context(),
+            given.number,
+            given.list.as_mut(),
         );
-        let refused = mark.end();
-        let unread = unread(answer, self.buf);
-        let answer = told(alloc, answer);
-        Outcome::of_words(alloc, answer, map.words(alloc), kept(alloc, &list), refused)?.with_left(
-            left(alloc, case, &budget, unread),
-            unread,
-        )
+        let read = Read::of(answer, mark.end(), self.buf);
+        let kept = kept(alloc, &given.list);
+        read.outcome(alloc, case, &given.limits.budget, map.words(alloc), kept)
     }
 }
 
@@ -133,6 +142,20 @@ fn rewrite_told(alloc: Global, answer: Result<(), RewriteError>) -> Result<Strin
     }
 }
 
+// What is told of a rewrite.
+fn rewritten(
+    alloc: Global,
+    case: &Case<'_>,
+    budget: &Budget,
+    answer: Result<(), RewriteError>,
+    pairs: Result<String, Fault>,
+    text: Result<String, Fault>,
+    refused: bool,
+) -> Result<Outcome, Fault> {
+    let left = left(alloc, case, budget, 0);
+    Outcome::of_words(alloc, rewrite_told(alloc, answer), pairs, text, refused)?.with_left(left, 0)
+}
+
 // What comes of a rewrite.
 fn rewriting<
     By,
@@ -141,21 +164,29 @@ fn rewriting<
     C: Store<By> + MapStorage<Key = KC::Value, Value = VC::Value>,
     B: Buf,
 >(alloc: Global, case: &Case<'_>, mark: &mut Mark, buf: &mut B) -> Result<Outcome, Fault> {
-    let mut budget = Budget::new(case.slots()?).with_element_memory(case.units()?);
-    let ctx = DecodeContext::new(case.depth()?, &mut budget);
+    let mut limits = Limits::of(case)?;
     let number = case.field_number()?;
     let mut map = C::filled(alloc, case.before())?;
     let mut text = Vec::new(alloc);
     mark.begin(alloc);
     let answer = rewrite_map_field::<KC, VC, C, B, Vec<u8>>(
-        alloc, &mut map, number, buf, ctx, &mut text,
+        alloc,
+        &mut map,
+        number,
+        buf,
+        limits.context(),
+        &mut text,
     );
     let refused = mark.end();
-    let answer = rewrite_told(alloc, answer);
     let text = text_told(alloc, text.as_slice());
-    Outcome::of_words(alloc, answer, map.words(alloc), text, refused)?.with_left(
-        left(alloc, case, &budget, 0),
-        0,
+    rewritten(
+        alloc,
+        case,
+        &limits.budget,
+        answer,
+        map.words(alloc),
+        text,
+        refused,
     )
 }
 
@@ -181,6 +212,21 @@ impl<By, KC: MapCodec, VC: MapCodec, B: Buf> OnMap<By, KC, VC> for Entries<'_, B
     }
 }
 
+/// What comes of a row on a pair of codecs; none where its types don't go into the storage.
+pub fn pair<By, KC: MapCodec, VC: MapCodec, B: Buf>(
+    alloc: Global,
+    case: &Case<'_>,
+    kind: Kind,
+    mark: &mut Mark,
+    buf: &mut B,
+) -> Result<Option<Outcome>, Fault>
+where
+    KC::Value: MapKey + Ord + Hash + Worded<By>,
+    VC::Value: Worded<By>,
+{
+    stored::<By, KC, VC, _>(alloc, case, kind, mark, Entries { buf })
+}
+
 /// What comes of a row on pairs of numbers, texts and bytes; none where its types don't go into the storage.
 pub fn fields<By, B: Buf>(
     alloc: Global,
@@ -189,33 +235,30 @@ pub fn fields<By, B: Buf>(
     mark: &mut Mark,
     buf: &mut B,
 ) -> Result<Option<Outcome>, Fault> {
-    let call = Entries { buf };
     match case.types {
-        "string,int32" => stored::<By, Str, Int32, _>(alloc, case, kind, mark, call),
-        "int32,int32" => stored::<By, Int32, Int32, _>(alloc, case, kind, mark, call),
-        "int32,bool" => stored::<By, Int32, Bool, _>(alloc, case, kind, mark, call),
-        "int32,uint32" => stored::<By, Int32, Uint32, _>(alloc, case, kind, mark, call),
-        "int32,string" => stored::<By, Int32, Str, _>(alloc, case, kind, mark, call),
-        "int32,bytes" => stored::<By, Int32, BytesVec, _>(alloc, case, kind, mark, call),
-        "int32,shared-bytes" => stored::<By, Int32, BytesBuf, _>(alloc, case, kind, mark, call),
+        "string,int32" => pair::<By, Str, Int32, B>(alloc, case, kind, mark, buf),
+        "int32,int32" => pair::<By, Int32, Int32, B>(alloc, case, kind, mark, buf),
+        "int32,bool" => pair::<By, Int32, Bool, B>(alloc, case, kind, mark, buf),
+        "int32,uint32" => pair::<By, Int32, Uint32, B>(alloc, case, kind, mark, buf),
+        "int32,string" => pair::<By, Int32, Str, B>(alloc, case, kind, mark, buf),
+        "int32,bytes" => pair::<By, Int32, BytesVec, B>(alloc, case, kind, mark, buf),
+        "int32,shared-bytes" => pair::<By, Int32, BytesBuf, B>(alloc, case, kind, mark, buf),
         "int32,own-string" => {
-            stored::<By, Int32, ProtoStringMap<String>, _>(alloc, case, kind, mark, call)
+            pair::<By, Int32, ProtoStringMap<String>, B>(alloc, case, kind, mark, buf)
         }
         "own-string,int32" => {
-            stored::<By, ProtoStringMap<String>, Int32, _>(alloc, case, kind, mark, call)
+            pair::<By, ProtoStringMap<String>, Int32, B>(alloc, case, kind, mark, buf)
         }
-        "bytes,shared-bytes" => {
-            stored::<By, BytesVec, BytesBuf, _>(alloc, case, kind, mark, call)
-        }
+        "bytes,shared-bytes" => pair::<By, BytesVec, BytesBuf, B>(alloc, case, kind, mark, buf),
         "shared-bytes,own-string" => {
-            stored::<By, BytesBuf, ProtoStringMap<String>, _>(alloc, case, kind, mark, call)
+            pair::<By, BytesBuf, ProtoStringMap<String>, B>(alloc, case, kind, mark, buf)
         }
         "own-bytes,bool" => {
-            stored::<By, ProtoBytesMap<Vec<u8>>, Bool, _>(alloc, case, kind, mark, call)
+            pair::<By, ProtoBytesMap<Vec<u8>>, Bool, B>(alloc, case, kind, mark, buf)
         }
         "own-string,own-bytes" => {
-            stored::<By, ProtoStringMap<String>, ProtoBytesMap<Vec<u8>>, _>(
-                alloc, case, kind, mark, call,
+            pair::<By, ProtoStringMap<String>, ProtoBytesMap<Vec<u8>>, B>(
+                alloc, case, kind, mark, buf,
             )
         }
         _ => Err(Fault::Form),

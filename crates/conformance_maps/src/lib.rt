@@ -3,6 +3,7 @@
 
 mod by_function;
 mod entries;
+mod reads;
 
 pub use by_function::ByFunction;
-pub use entries::{Entries, Runs, fields};
+pub use entries::{Entries, Runs, fields, pair};

@@ -69,6 +69,17 @@ fn levels(case: &Case<'_>) -> Result<u32, Fault> {
     case.depth()
 }
 
+// The budget of a row.
+fn budget_of(case: &Case<'_>) -> Result<Budget, Fault> {
+    let slots = case.slots()?;
+    Ok(Budget::new(slots).with_element_memory(case.units()?))
+}
+
+// Whether a message's word is this one.
+fn has_word<M: Worded<Nodes>>(alloc: Global, message: &M, word: &str) -> Result<bool, Fault> {
+    Ok(message.word(alloc)?.as_str() == word)
+}
+
 // Whether what stands after a refusal is what the fields before the refused one make of the message before, merged one
 // by one; where memory ran out any of the fields may be the refused one.
 fn stands<M: Message + Worded<Nodes>>(
@@ -79,12 +90,13 @@ fn stands<M: Message + Worded<Nodes>>(
     full: bool,
 ) -> Result<bool, Fault> {
     let mut message = standing::<M>(alloc, case)?;
-    let mut budget = Budget::new(case.slots()?).with_element_memory(case.units()?);
+    let mut budget = budget_of(case)?;
+    let levels = levels(case)?;
     let mut rest = bytes;
     let mut found = false;
     for _ in 0..=bytes.len() {
-        found = message.word(alloc)?.as_str() == word || (full && found);
-        let ctx = DecodeContext::new(levels(case)?, &mut budget);
+        found = has_word::<M>(alloc, &message, word)? || (full && found);
+        let ctx = DecodeContext::new(levels, &mut budget);
         if field::<M>(alloc, &mut message, &mut rest, ctx).is_err() {
             return Ok(found);
         }
@@ -120,18 +132,16 @@ pub(crate) fn merge<M: Message + Worded<Nodes>>(
     mark: &mut Mark,
     bytes: &[u8],
 ) -> Result<Outcome, Fault> {
-    let mut budget = Budget::new(case.slots()?).with_element_memory(case.units()?);
+    let mut budget = budget_of(case)?;
     let ctx = DecodeContext::new(case.depth()?, &mut budget);
     let mut message = standing::<M>(alloc, case)?;
     mark.begin(alloc);
     let answer = merged::<M>(alloc, case, &mut message, bytes, ctx);
     let refused = mark.end();
-    let unread = answer.unwrap_or(0);
     let word = message.word(alloc)?;
     let told = answer_told::<M>(alloc, case, bytes, answer, word.as_str());
+    let unread = answer.unwrap_or(0);
     let none = Ok(String::new(alloc));
-    Outcome::of_words(alloc, told, Ok(word), none, refused)?.with_left(
-        left(alloc, case, &budget, unread),
-        unread,
-    )
+    let left = left(alloc, case, &budget, unread);
+    Outcome::of_words(alloc, told, Ok(word), none, refused)?.with_left(left, unread)
 }

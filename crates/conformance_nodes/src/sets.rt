@@ -5,13 +5,13 @@ use crate::merges::standing;
 use buffa_ext::codecs::{BytesCodec, Int32, Repeated, StringCodec};
 use buffa_ext::{Extension, ExtensionCodec, ExtensionSet};
 use buffa_set_msg::SetMsg;
-use buffa_wire::Message;
+use buffa_wire::{EncodeError, Message};
 use conformance_rows::case::Case;
 use conformance_rows::fault::Fault;
 use conformance_rows::mark::Mark;
 use conformance_rows::outcome::{Outcome, got, text_told, written};
 use conformance_rows::words::Worded;
-use std::alloc::Global;
+use std::alloc::{AllocError, Global};
 
 // What a codec reads, in words.
 trait Told {
@@ -28,14 +28,19 @@ impl<V: Worded<Nodes>> Told for Option<V> {
     }
 }
 
+// Words, and one word more.
+fn with_word(alloc: Global, text: &str, word: &str) -> Result<String, Fault> {
+    let space = if text.is_empty() { "" } else { " " };
+    Ok(format!(in alloc; "{text}{space}{word}")?)
+}
+
 // The words of values, with a space between them.
 impl<V: Worded<Nodes>> Told for Vec<V> {
     fn told(&self, alloc: Global) -> Result<String, Fault> {
         let mut text = String::new(alloc);
         for value in self.iter() {
             let word = value.word(alloc)?;
-            let space = if text.is_empty() { "" } else { " " };
-            text = format!(in alloc; "{text}{space}{word}")?;
+            text = with_word(alloc, text.as_str(), word.as_str())?;
         }
         Ok(text)
     }
@@ -49,23 +54,82 @@ fn text_of(alloc: Global, set: &SetMsg) -> Result<String, Fault> {
     }
 }
 
+// What a MessageSet's extension of this number is read as.
+fn found<T, C: ExtensionCodec<Output = T>>(
+    alloc: Global,
+    set: &SetMsg,
+    number: u32,
+) -> Result<T, AllocError> {
+    let ext = Extension::<C>::new(number, "buffa.sample.SetMsg");
+    set.extension(alloc, &ext)
+}
+
+// What is read, in words.
+fn found_told<T: Told>(alloc: Global, found: &Result<T, AllocError>) -> Result<String, Fault> {
+    match found {
+        Ok(found) => found.told(alloc),
+        Err(_) => Ok(String::new(alloc)),
+    }
+}
+
 // What is read, and the text that stands.
 fn get<T: Told + Drop, C: ExtensionCodec<Output = T>>(
     alloc: Global,
     case: &Case<'_>,
     mark: &mut Mark,
 ) -> Result<Outcome, Fault> {
-    let ext = Extension::<C>::new(case.number()?, "buffa.sample.SetMsg");
+    let number = case.number()?;
     let set = standing::<SetMsg>(alloc, case)?;
     mark.begin(alloc);
-    let found = set.extension(alloc, &ext);
+    let found = found::<T, C>(alloc, &set, number);
     let refused = mark.end();
-    let words = match &found {
-        Ok(found) => found.told(alloc),
-        Err(_) => Ok(String::new(alloc)),
-    };
+    let words = found_told::<T>(alloc, &found);
     let answer = got(alloc, found.is_ok());
     Outcome::of_words(alloc, answer, words, text_of(alloc, &set), refused)
+}
+
+// Sets an extension.
+fn put<V, C: ExtensionCodec<Value = V>>(
+    alloc: Global,
+    set: &mut SetMsg,
+    number: u32,
+    value: V,
+) -> Result<(), EncodeError> {
+    let ext = Extension::<C>::new(number, "buffa.sample.SetMsg");
+    set.set_extension(alloc, &ext, value)
+}
+
+// What is told of a set that was refused.
+fn refused_told(
+    alloc: Global,
+    answer: Result<(), EncodeError>,
+    stands: bool,
+    refused: bool,
+) -> Result<Outcome, Fault> {
+    let told = if stands {
+        written(alloc, answer)
+    } else {
+        Ok(String::from_str(alloc, "other records stand")?)
+    };
+    let none = Ok(String::new(alloc));
+    Outcome::of_words(alloc, told, Ok(String::new(alloc)), none, refused)
+}
+
+// What is told of a set that was not refused: what is read of it, and the text then.
+fn set_told<T: Told + Drop, C: ExtensionCodec<Output = T>>(
+    alloc: Global,
+    set: &SetMsg,
+    number: u32,
+    text: String,
+    refused: bool,
+) -> Result<Outcome, Fault> {
+    let found = found::<T, C>(alloc, set, number);
+    let words = if found.is_ok() {
+        found_told::<T>(alloc, &found)
+    } else {
+        Err(Fault::Memory)
+    };
+    Outcome::of_words(alloc, got(alloc, true), words, Ok(text), refused)
 }
 
 // What is read of what was set, and the text then; another answer where a set that is refused changes the text.
@@ -75,28 +139,30 @@ fn set<T: Told + Drop, V: Drop, C: ExtensionCodec<Value = V, Output = T>>(
     mark: &mut Mark,
     value: V,
 ) -> Result<Outcome, Fault> {
-    let ext = Extension::<C>::new(case.number()?, "buffa.sample.SetMsg");
+    let number = case.number()?;
     let mut set = standing::<SetMsg>(alloc, case)?;
     let before = text_of(alloc, &set)?;
     mark.begin(alloc);
-    let answer = set.set_extension(alloc, &ext, value);
+    let answer = put::<V, C>(alloc, &mut set, number, value);
     let refused = mark.end();
     let text = text_of(alloc, &set)?;
-    let none = Ok(String::new(alloc));
     if answer.is_err() {
-        let stands = text.as_str() == before.as_str();
-        let told = if stands {
-            written(alloc, answer)
-        } else {
-            Ok(String::from_str(alloc, "other records stand")?)
-        };
-        return Outcome::of_words(alloc, told, Ok(String::new(alloc)), none, refused);
+        return refused_told(alloc, answer, text.as_str() == before.as_str(), refused);
     }
-    let words = match set.extension(alloc, &ext) {
-        Ok(found) => found.told(alloc),
-        Err(_) => Err(Fault::Memory),
-    };
-    Outcome::of_words(alloc, written(alloc, answer), words, Ok(text), refused)
+    set_told::<T, C>(alloc, &set, number, text, refused)
+}
+
+// Clears an extension; whether there was one before, and whether there is one then.
+fn cleared<C: ExtensionCodec>(set: &mut SetMsg, number: u32) -> (bool, bool) {
+    let ext = Extension::<C>::new(number, "buffa.sample.SetMsg");
+    let had = set.has_extension(&ext);
+    set.clear_extension(&ext);
+    (had, set.has_extension(&ext))
+}
+
+// Whether there is an extension, and whether there is after it was cleared, in words.
+fn cleared_told(alloc: Global, had: bool, has: bool) -> Result<String, Fault> {
+    Ok(format!(in alloc; "{had} {has}")?)
 }
 
 // Whether there is an extension, and whether there is after it was cleared; and the text then.
@@ -105,21 +171,14 @@ fn clear<C: ExtensionCodec>(
     case: &Case<'_>,
     mark: &mut Mark,
 ) -> Result<Outcome, Fault> {
-    let ext = Extension::<C>::new(case.number()?, "buffa.sample.SetMsg");
+    let number = case.number()?;
     let mut set = standing::<SetMsg>(alloc, case)?;
     mark.begin(alloc);
-    let had = set.has_extension(&ext);
-    set.clear_extension(&ext);
-    let has = set.has_extension(&ext);
+    let (had, has) = cleared::<C>(&mut set, number);
     let refused = mark.end();
-    let words = Ok(format!(in alloc; "{had} {has}")?);
-    Outcome::of_words(
-        alloc,
-        got(alloc, true),
-        words,
-        text_of(alloc, &set),
-        refused,
-    )
+    let words = cleared_told(alloc, had, has);
+    let answer = got(alloc, true);
+    Outcome::of_words(alloc, answer, words, text_of(alloc, &set), refused)
 }
 
 // A call on a single value.

@@ -1,12 +1,12 @@
 // Entries of messages that are merged by a function.
 
-use buffa_map::map_codec::{Int32, MapCodec, Msg, Str};
+use buffa_map::map_codec::{Int32, Msg, Str};
 use buffa_samples::count::CountMsg;
 use buffa_samples::flat::FlatMsg;
 use buffa_samples::keep::BudgetMsg;
 use buffa_samples::tree::Tree;
 use buffa_samples::two::TestMsg;
-use buffa_wire::{Buf, MapKey, Message};
+use buffa_wire::{Buf, Message};
 use conformance_maps::ByFunction;
 use conformance_rows::calls::Kind;
 use conformance_rows::case::Case;
@@ -17,20 +17,16 @@ use conformance_rows::words::Worded;
 use conformance_stores::stored;
 use conformance_words::Samples;
 use std::alloc::Global;
-use std::hash::Hash;
 
-// An entry of messages with this kind of key, merged by a function.
-fn by_function<M: Message + Worded<Samples>, KC: MapCodec, B: Buf>(
+// An entry of messages by numbers, merged by a function.
+fn by_function<M: Message + Worded<Samples>, B: Buf>(
     alloc: Global,
     case: &Case<'_>,
     kind: Kind,
     mark: &mut Mark,
     buf: &mut B,
-) -> Result<Option<Outcome>, Fault>
-where
-    KC::Value: MapKey + Ord + Hash + Worded<Samples>,
-{
-    stored::<Samples, KC, Msg<M>, _>(alloc, case, kind, mark, ByFunction { buf })
+) -> Result<Option<Outcome>, Fault> {
+    stored::<Samples, Int32, Msg<M>, _>(alloc, case, kind, mark, ByFunction { buf })
 }
 
 /// What comes of a row that merges an entry of messages by a function.
@@ -42,12 +38,15 @@ pub fn entries_by_function<B: Buf>(
     buf: &mut B,
 ) -> Result<Option<Outcome>, Fault> {
     match case.types {
-        "int32,flat" => by_function::<FlatMsg, Int32, B>(alloc, case, kind, mark, buf),
-        "int32,two" => by_function::<TestMsg, Int32, B>(alloc, case, kind, mark, buf),
-        "int32,count" => by_function::<CountMsg, Int32, B>(alloc, case, kind, mark, buf),
-        "int32,keep" => by_function::<BudgetMsg, Int32, B>(alloc, case, kind, mark, buf),
-        "int32,tree" => by_function::<Tree, Int32, B>(alloc, case, kind, mark, buf),
-        "string,keep" => by_function::<BudgetMsg, Str, B>(alloc, case, kind, mark, buf),
+        "int32,flat" => by_function::<FlatMsg, B>(alloc, case, kind, mark, buf),
+        "int32,two" => by_function::<TestMsg, B>(alloc, case, kind, mark, buf),
+        "int32,count" => by_function::<CountMsg, B>(alloc, case, kind, mark, buf),
+        "int32,keep" => by_function::<BudgetMsg, B>(alloc, case, kind, mark, buf),
+        "int32,tree" => by_function::<Tree, B>(alloc, case, kind, mark, buf),
+        "string,keep" => {
+            let call = ByFunction { buf };
+            stored::<Samples, Str, Msg<BudgetMsg>, _>(alloc, case, kind, mark, call)
+        }
         _ => Err(Fault::Form),
     }
 }

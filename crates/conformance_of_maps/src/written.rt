@@ -8,9 +8,9 @@ use conformance_rows::case::Case;
 use conformance_rows::fault::Fault;
 use conformance_rows::mark::Mark;
 use conformance_rows::outcome::Outcome;
-use conformance_stores::{hashed, ordered, stored};
+use conformance_stores::{hashed, ordered};
 use conformance_words::Samples;
-use conformance_writes::Written;
+use conformance_writes::{Written, pair};
 use std::alloc::Global;
 
 /// What comes of a row that sizes or writes a map in this storage; none where its types don't go there.
@@ -21,18 +21,14 @@ pub fn writes(
     mark: &mut Mark,
 ) -> Result<Option<Outcome>, Fault> {
     match case.types {
-        "int32,open" => {
-            stored::<Samples, Int32, OpenEnum<Old>, _>(alloc, case, kind, mark, Written)
-        }
+        "int32,open" => pair::<Samples, Int32, OpenEnum<Old>>(alloc, case, kind, mark),
         "word,int32" => {
             hashed::<Samples, ProtoStringMap<Word>, Int32, _>(alloc, case, kind, mark, Written)
         }
         "old,int32" => {
             ordered::<Samples, ClosedEnum<Old>, Int32, _>(alloc, case, kind, mark, Written)
         }
-        "int32,old" => {
-            stored::<Samples, Int32, ClosedEnum<Old>, _>(alloc, case, kind, mark, Written)
-        }
+        "int32,old" => pair::<Samples, Int32, ClosedEnum<Old>>(alloc, case, kind, mark),
         _ => conformance_writes::writes::<Samples>(alloc, case, kind, mark),
     }
 }

@@ -5,4 +5,4 @@ mod pairs;
 mod sizes;
 
 pub use pairs::kinds;
-pub use sizes::{Written, writes};
+pub use sizes::{Written, pair, writes};

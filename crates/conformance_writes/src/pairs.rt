@@ -54,6 +54,24 @@ fn answer_told(
     told(alloc, answer)
 }
 
+// What is told of a read, of the pairs then, and of a write.
+fn field_told(
+    alloc: Global,
+    answer: Result<(), DecodeError>,
+    is_written: bool,
+    pairs: Result<String, Fault>,
+    refused: bool,
+) -> Result<Outcome, Fault> {
+    let none = Ok(String::new(alloc));
+    Outcome::of_words(
+        alloc,
+        answer_told(alloc, answer, is_written),
+        pairs,
+        none,
+        refused,
+    )
+}
+
 // What comes of a row of these kinds: the pairs that are read.
 fn field<
     By,
@@ -66,15 +84,8 @@ fn field<
     mark.begin(alloc);
     let answer = read::<KC, VC, C>(alloc, &mut map, number, bytes);
     let refused = mark.end();
-    let written = answer.is_err() || is_written::<By, KC, VC, C>(alloc, &map, case, bytes)?;
-    let answer = answer_told(alloc, answer, written);
-    Outcome::of_words(
-        alloc,
-        answer,
-        map.words(alloc),
-        Ok(String::new(alloc)),
-        refused,
-    )
+    let is_written = answer.is_err() || is_written::<By, KC, VC, C>(alloc, &map, case, bytes)?;
+    field_told(alloc, answer, is_written, map.words(alloc), refused)
 }
 
 // The same in a `Map`.

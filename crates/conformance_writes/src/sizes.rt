@@ -6,14 +6,16 @@ use buffa_map::map_codec::{
     Bool, BytesBuf, BytesVec, Fixed32, Fixed64, Int32, MapCodec, MapStorage, ProtoBytesMap,
     ProtoStringMap, Sint32, Str,
 };
-use buffa_wire::{EncodeError, varint_len};
+use buffa_wire::{EncodeError, MapKey, varint_len};
 use conformance_rows::calls::Kind;
 use conformance_rows::case::Case;
 use conformance_rows::fault::Fault;
 use conformance_rows::mark::Mark;
-use conformance_rows::outcome::{Outcome, got, text_told, written};
+use conformance_rows::outcome::{Outcome, count_told, got, text_told, written};
+use conformance_rows::words::Worded;
 use conformance_stores::{OnMap, Store, stored};
 use std::alloc::Global;
+use std::hash::Hash;
 
 /// The bytes of the tag of a map field.
 pub(crate) fn tag_len_of(number: u32) -> u64 {
@@ -44,6 +46,24 @@ fn pairs_told(alloc: Global, len: Result<u64, EncodeError>, pairs: usize) -> Res
     }
 }
 
+// What is told of a write.
+fn written_told(
+    alloc: Global,
+    len: Result<u64, EncodeError>,
+    pairs: usize,
+    text: &[u8],
+    refused: bool,
+) -> Result<Outcome, Fault> {
+    let words = pairs_told(alloc, len, pairs);
+    Outcome::of_words(
+        alloc,
+        written(alloc, len),
+        words,
+        text_told(alloc, text),
+        refused,
+    )
+}
+
 // What comes of a write: the length and the text; and how many pairs there are.
 fn writing<
     By,
@@ -57,14 +77,22 @@ fn writing<
     mark.begin(alloc);
     let len = write::<By, KC, VC, C>(&map, case.call == "size-and-write", number, &mut text);
     let refused = mark.end();
-    let words = pairs_told(alloc, len, map.storage_len());
-    let text = text_told(alloc, text.as_slice());
-    Outcome::of_words(alloc, written(alloc, len), words, text, refused)
+    written_told(alloc, len, map.storage_len(), text.as_slice(), refused)
 }
 
 // A length, and how many pairs there are before and after.
 fn sizes_told(alloc: Global, len: u64, pairs: usize, after: usize) -> Result<String, Fault> {
     Ok(format!(in alloc; "{len} {pairs} {after}")?)
+}
+
+// What is told of sizes.
+fn sized_told(
+    alloc: Global,
+    words: Result<String, Fault>,
+    refused: bool,
+) -> Result<Outcome, Fault> {
+    let none = Ok(String::new(alloc));
+    Outcome::of_words(alloc, got(alloc, true), words, none, refused)
 }
 
 // How long a map field is; nothing is written.
@@ -81,14 +109,24 @@ fn sizing<
     let pairs = map.storage_len();
     map.storage_clear();
     let refused = mark.end();
-    let words = sizes_told(alloc, len, pairs, map.storage_len());
-    Outcome::of_words(
+    sized_told(
         alloc,
-        got(alloc, true),
-        words,
-        Ok(String::new(alloc)),
+        sizes_told(alloc, len, pairs, map.storage_len()),
         refused,
     )
+}
+
+// What is told of a pair that is put.
+fn put_told(
+    alloc: Global,
+    is_put: bool,
+    pairs: Result<String, Fault>,
+    count: usize,
+    refused: bool,
+) -> Result<Outcome, Fault> {
+    let none = Ok(String::new(alloc));
+    let count = count_told(alloc, Ok(count as u64));
+    Outcome::of_words(alloc, got(alloc, is_put), pairs, none, refused)?.with_left(count, 0)
 }
 
 // A pair that is put into a map: the pairs then, and how many there are.
@@ -103,15 +141,13 @@ fn putting<
     mark.begin(alloc);
     let answer = map.storage_insert(key, value);
     let refused = mark.end();
-    let count = format!(in alloc; "{}", map.storage_len())?;
-    Outcome::of_words(
+    put_told(
         alloc,
-        got(alloc, answer.is_ok()),
+        answer.is_ok(),
         map.words(alloc),
-        Ok(String::new(alloc)),
+        map.storage_len(),
         refused,
-    )?
-    .with_left(Ok(count), 0)
+    )
 }
 
 /// A map that is sized or written, or takes a pair.
@@ -133,6 +169,20 @@ impl<By, KC: MapCodec, VC: MapCodec> OnMap<By, KC, VC> for Written {
     }
 }
 
+/// What comes of a row on a pair of codecs; none where its types don't go into the storage.
+pub fn pair<By, KC: MapCodec, VC: MapCodec>(
+    alloc: Global,
+    case: &Case<'_>,
+    kind: Kind,
+    mark: &mut Mark,
+) -> Result<Option<Outcome>, Fault>
+where
+    KC::Value: MapKey + Ord + Hash + Worded<By>,
+    VC::Value: Worded<By>,
+{
+    stored::<By, KC, VC, _>(alloc, case, kind, mark, Written)
+}
+
 /// What comes of a row that sizes or writes a map of numbers, texts or bytes in this storage.
 pub fn writes<By>(
     alloc: Global,
@@ -141,35 +191,23 @@ pub fn writes<By>(
     mark: &mut Mark,
 ) -> Result<Option<Outcome>, Fault> {
     match case.types {
-        "string,int32" => stored::<By, Str, Int32, _>(alloc, case, kind, mark, Written),
-        "own-string,int32" => {
-            stored::<By, ProtoStringMap<String>, Int32, _>(alloc, case, kind, mark, Written)
-        }
-        "int32,string" => stored::<By, Int32, Str, _>(alloc, case, kind, mark, Written),
-        "int32,own-string" => {
-            stored::<By, Int32, ProtoStringMap<String>, _>(alloc, case, kind, mark, Written)
-        }
-        "int32,bytes" => stored::<By, Int32, BytesVec, _>(alloc, case, kind, mark, Written),
-        "int32,shared-bytes" => stored::<By, Int32, BytesBuf, _>(alloc, case, kind, mark, Written),
-        "int32,own-bytes" => {
-            stored::<By, Int32, ProtoBytesMap<Vec<u8>>, _>(alloc, case, kind, mark, Written)
-        }
+        "string,int32" => pair::<By, Str, Int32>(alloc, case, kind, mark),
+        "own-string,int32" => pair::<By, ProtoStringMap<String>, Int32>(alloc, case, kind, mark),
+        "int32,string" => pair::<By, Int32, Str>(alloc, case, kind, mark),
+        "int32,own-string" => pair::<By, Int32, ProtoStringMap<String>>(alloc, case, kind, mark),
+        "int32,bytes" => pair::<By, Int32, BytesVec>(alloc, case, kind, mark),
+        "int32,shared-bytes" => pair::<By, Int32, BytesBuf>(alloc, case, kind, mark),
+        "int32,own-bytes" => pair::<By, Int32, ProtoBytesMap<Vec<u8>>>(alloc, case, kind, mark),
         "own-string,own-bytes" => {
-            stored::<By, ProtoStringMap<String>, ProtoBytesMap<Vec<u8>>, _>(
-                alloc, case, kind, mark, Written,
-            )
+            pair::<By, ProtoStringMap<String>, ProtoBytesMap<Vec<u8>>>(alloc, case, kind, mark)
         }
-        "bytes,shared-bytes" => stored::<By, BytesVec, BytesBuf, _>(
-            alloc, case, kind, mark, Written,
-        ),
+        "bytes,shared-bytes" => pair::<By, BytesVec, BytesBuf>(alloc, case, kind, mark),
         "shared-bytes,own-string" => {
-            stored::<By, BytesBuf, ProtoStringMap<String>, _>(alloc, case, kind, mark, Written)
+            pair::<By, BytesBuf, ProtoStringMap<String>>(alloc, case, kind, mark)
         }
-        "own-bytes,bool" => {
-            stored::<By, ProtoBytesMap<Vec<u8>>, Bool, _>(alloc, case, kind, mark, Written)
-        }
-        "sint32,bool" => stored::<By, Sint32, Bool, _>(alloc, case, kind, mark, Written),
-        "fixed32,fixed64" => stored::<By, Fixed32, Fixed64, _>(alloc, case, kind, mark, Written),
+        "own-bytes,bool" => pair::<By, ProtoBytesMap<Vec<u8>>, Bool>(alloc, case, kind, mark),
+        "sint32,bool" => pair::<By, Sint32, Bool>(alloc, case, kind, mark),
+        "fixed32,fixed64" => pair::<By, Fixed32, Fixed64>(alloc, case, kind, mark),
         _ => Err(Fault::Form),
     }
 }
