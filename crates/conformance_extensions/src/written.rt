@@ -1,6 +1,6 @@
 // Records that can be written, so that they are read again.
 
-ghost use Rattle.std.specs.Prelude.{◌<◌, ◌≤◌, ◌^◌, IsTrue};
+ghost use Rattle.std.specs.Prelude.{◌≤◌, IsTrue};
 ghost use Rattle.buffa_wire.specs.Number.{IsNumber};
 ghost use Rattle.buffa_wire.specs.Parse.{FitsDatum};
 ghost use Rattle.buffa_wire.specs.Records.{datum_height};
