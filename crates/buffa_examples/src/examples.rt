@@ -1,5 +1,5 @@
-//! Examples of README, of docs/GUIDE.md and of comments, run, but for those on map fields: calls that no other proved function
-//! makes in this way.
+//! Examples of README, of docs/GUIDE.md and of comments, but for those on map fields: calls that no other proved function makes
+//! in this way.
 
 use buffa::extension::codecs::{BytesCodec, MessageCodec, PackedRepeated, Repeated, StringCodec};
 use buffa::extension::{Extension, ExtensionCodec, ExtensionSet};
@@ -133,22 +133,13 @@ fn lists_are_encoded_behind_a_record(rt: HostRuntime) -> Result<(), Fail> {
 }
 
 #[test]
-fn extensions_of_varints_name_their_codec(rt: HostRuntime) {
+fn extensions_name_their_codec(rt: HostRuntime) {
     let numbers = [
         Extension::<Int64>::new(7, "test.Carrier").number(),
         Extension::<Uint32>::new(7, "test.Carrier").number(),
         Extension::<Uint64>::new(7, "test.Carrier").number(),
         Extension::<Sint64>::new(7, "test.Carrier").number(),
         Extension::<Bool>::new(7, "test.Carrier").number(),
-    ];
-    for number in numbers {
-        assert_eq!(rt; number, 7);
-    }
-}
-
-#[test]
-fn other_extensions_name_their_codec(rt: HostRuntime) {
-    let numbers = [
         Extension::<Fixed32>::new(7, "test.Carrier").number(),
         Extension::<Fixed64>::new(7, "test.Carrier").number(),
         Extension::<Sfixed32>::new(7, "test.Carrier").number(),
