@@ -1,5 +1,5 @@
-//! Examples of README, of docs/GUIDE.md and of comments, run, but for those on map fields: calls that no other proved function
-//! makes in this way.
+//! Examples of README, of docs/GUIDE.md and of comments, but for those on map fields: calls that no other proved function makes
+//! in this way.
 
 use buffa::extension::codecs::{BytesCodec, MessageCodec, PackedRepeated, Repeated, StringCodec};
 use buffa::extension::{Extension, ExtensionCodec, ExtensionSet};
@@ -15,6 +15,7 @@ use buffa_fields::merge::merge_fields;
 use buffa_fields::message::messages_read_back;
 use buffa_inventory::inventory::Inventory;
 use buffa_samples::flat::FlatMsg;
+use std::alloc::Global;
 use std::test::Fail;
 
 // The type id 1000, and the bytes of "hello".
@@ -23,16 +24,27 @@ const ITEM: [u8; 12] = [
 ];
 
 #[test]
-fn an_item_is_written_and_read(rt: HostRuntime) -> Result<(), Fail> {
-    let alloc = rt.alloc();
-    let mut text = Vec::new(alloc);
+fn an_item_is_written(rt: HostRuntime) -> Result<(), Fail> {
+    let mut text = Vec::new(rt.alloc());
     write_item(1000, b"hello", &mut text)?;
     assert_eq!(rt; text.as_slice(), ITEM.as_slice());
+    Ok(())
+}
+
+// The type id and the payload of an item, behind its start tag.
+fn item_of(alloc: Global, bytes: &[u8]) -> Result<(u32, Vec<u8>), Fail> {
     let mut budget = Budget::new(1);
     let ctx = DecodeContext::new(RECURSION_LIMIT, &mut budget);
+    let mut rest = bytes;
+    let (number, payload) = merge_item(alloc, &mut rest, ctx.descend()?)?;
+    Ok((number, payload))
+}
+
+#[test]
+fn an_item_is_read(rt: HostRuntime) -> Result<(), Fail> {
     let mut rest: &[u8] = &ITEM;
     assert_eq!(rt; decode_varint(&mut rest)?, ITEM_START_TAG);
-    let (number, payload) = merge_item(alloc, &mut rest, ctx.descend()?)?;
+    let (number, payload) = item_of(rt.alloc(), rest)?;
     assert_eq!(rt; number, 1000);
     assert_eq!(rt; payload.as_slice(), b"hello".as_slice());
     Ok(())
@@ -63,7 +75,7 @@ fn a_sample_comes_back(rt: HostRuntime) -> Result<(), Fail> {
 }
 
 #[test]
-fn samples_are_asked(rt: HostRuntime) -> Result<(), Fail> {
+fn a_set_has_an_extension(rt: HostRuntime) -> Result<(), Fail> {
     let alloc = rt.alloc();
     let mut set = SetMsg::blank(alloc);
     set.merge_from_slice(alloc, &[0x0B, 0x10, 0x05, 0x1A, 0x01, 0x78, 0x0C])?;
@@ -72,25 +84,47 @@ fn samples_are_asked(rt: HostRuntime) -> Result<(), Fail> {
         &Extension::<StringCodec>::new(5, "buffa.sample.SetMsg"),
     )?;
     assert!(rt; text.is_some());
+    Ok(())
+}
+
+// The node that the bytes are, at the last level but one.
+fn node_of(alloc: Global, bytes: &[u8]) -> Result<Node, Fail> {
     let mut node: Node = Blank::blank(alloc);
     let mut budget = Budget::new(2);
-    let bytes: &[u8] = &[0x1A, 0x04, 0x08, 0x02, 0x10, 0x01];
-    let answer = node.merge(alloc, bytes, DecodeContext::new(1, &mut budget));
-    assert!(rt; answer.is_ok());
-    let is_b = node.shades.get(&2) == Some(&Shade::B);
-    assert!(rt; is_b);
+    node.merge(alloc, bytes, DecodeContext::new(1, &mut budget))?;
+    Ok(node)
+}
+
+// The size that is announced of a node.
+fn size_of(alloc: Global, node: &Node) -> Result<u32, Fail> {
     let mut cache = SizeCache::new(alloc);
     let size = node.compute_size(&mut cache)?;
+    Ok(size)
+}
+
+#[test]
+fn a_node_has_a_shade(rt: HostRuntime) -> Result<(), Fail> {
+    let node = node_of(rt.alloc(), &[0x1A, 0x04, 0x08, 0x02, 0x10, 0x01])?;
+    let is_b = node.shades.get(&2) == Some(&Shade::B);
+    assert!(rt; is_b);
+    let size = size_of(rt.alloc(), &node)?;
     assert_eq!(rt; size, 6);
     Ok(())
 }
 
 #[test]
-fn values_are_encoded_into_records(rt: HostRuntime) -> Result<(), Fail> {
+fn a_value_is_encoded_into_a_record(rt: HostRuntime) -> Result<(), Fail> {
     let alloc = rt.alloc();
     let mut fields = UnknownFields::new(alloc);
     <Int32 as ExtensionCodec>::encode(alloc, 7, -7, &mut fields)?;
     assert_eq!(rt; Int32::decode(alloc, 7, &fields)?, Some(-7));
+    Ok(())
+}
+
+#[test]
+fn lists_are_encoded_behind_a_record(rt: HostRuntime) -> Result<(), Fail> {
+    let alloc = rt.alloc();
+    let mut fields = UnknownFields::decode_from_slice(alloc, &[0x38, 0x01])?;
     Repeated::<Int32>::encode(alloc, 7, vec![in alloc; 3, 300]?, &mut fields)?;
     assert_eq!(rt; fields.len(), 3);
     PackedRepeated::<Int32>::encode(alloc, 7, vec![in alloc; 4, 5]?, &mut fields)?;

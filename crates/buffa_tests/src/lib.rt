@@ -2,7 +2,7 @@
 //! `vectors`, and the crate `conformance` runs them. Nothing stands on this crate.
 //!
 //! Expected values come from outside: from the protobuf encoding guide, worked out by hand, or from a table. The
-//! messages, enums and keys stand in `buffa_samples`, an extendee in `buffa_options`.
+//! messages, enums and keys stand in `buffa_samples`, an extendee and the options in `buffa_options`.
 #![tactic(auto)]
 
 #[cfg(test)]
@@ -15,3 +15,5 @@ mod fields;
 mod guide;
 #[cfg(test)]
 mod large;
+#[cfg(test)]
+mod options;

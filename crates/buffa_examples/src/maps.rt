@@ -6,29 +6,55 @@ use buffa::map_codec::{
     Bool, BytesBuf, ClosedEnum, Int32, Map, MapStorage, OpenEnum, ProtoBytesMap, ProtoStringMap,
     Str, field_len, merge_entry, read_map_field, size_and_write_field, write_field,
 };
-use buffa::{Budget, DecodeContext, EnumValue, RECURSION_LIMIT, UnknownFields};
+use buffa::{Budget, DecodeContext, EncodeError, EnumValue, RECURSION_LIMIT, UnknownFields};
 use buffa_samples::hues::Old;
 use buffa_samples::word::Word;
 use bytes::Bytes;
+use std::alloc::Global;
 use std::test::Fail;
 
 // The entry of "a" and 1, in a record of number 5.
 const ENTRY: [u8; 7] = [0x2A, 0x05, 0x0A, 0x01, 0x61, 0x10, 0x01];
 
+// The map that a record of number 5 is.
+fn map_of(alloc: Global, record: &[u8]) -> Result<Map<String, i32>, Fail> {
+    let mut budget = Budget::new(0);
+    let ctx = DecodeContext::new(RECURSION_LIMIT, &mut budget);
+    let mut bytes = record;
+    let mut counts: Map<String, i32> = Map::new(alloc);
+    read_map_field::<Str, Int32, _, _>(alloc, &mut counts, 5, &mut bytes, ctx, None)?;
+    Ok(counts)
+}
+
+// The records that a map is written as.
+fn text_of(alloc: Global, counts: Map<String, i32>) -> Result<Vec<u8>, EncodeError> {
+    let mut text = Vec::new(alloc);
+    write_field::<Str, Int32, _, _>(&counts, 5, &mut text)?;
+    Ok(text)
+}
+
 #[test]
 fn a_map_field_is_read_sized_and_written(rt: HostRuntime) -> Result<(), Fail> {
     let alloc = rt.alloc();
-    let mut budget = Budget::new(0);
-    let ctx = DecodeContext::new(RECURSION_LIMIT, &mut budget);
-    let mut bytes: &[u8] = &ENTRY;
-    let mut counts: Map<String, i32> = Map::new(alloc);
-    read_map_field::<Str, Int32, _, _>(alloc, &mut counts, 5, &mut bytes, ctx, None)?;
+    let counts = map_of(alloc, &ENTRY)?;
     let size = field_len::<Str, Int32, _>(&counts, 1);
     assert_eq!(rt; size, 7);
-    let mut text = Vec::new(alloc);
-    write_field::<Str, Int32, _, _>(&counts, 5, &mut text)?;
+    let text = text_of(alloc, counts)?;
     assert_eq!(rt; text.as_slice(), ENTRY.as_slice());
+    Ok(())
+}
+
+// The size that is announced of a map, and its records behind what is there.
+fn at_once(counts: Map<String, i32>, mut text: Vec<u8>) -> Result<(u64, Vec<u8>), EncodeError> {
     let size = size_and_write_field::<Str, Int32, _>(&counts, 5, &mut text)?;
+    Ok((size, text))
+}
+
+#[test]
+fn a_map_field_is_sized_and_written_at_once(rt: HostRuntime) -> Result<(), Fail> {
+    let alloc = rt.alloc();
+    let counts = map_of(alloc, &ENTRY)?;
+    let (size, text) = at_once(counts, Vec::from_slice(alloc, &ENTRY)?)?;
     assert_eq!(rt; size, 7);
     assert_eq!(rt; text.len(), 14);
     Ok(())
@@ -46,16 +72,16 @@ fn an_entry_is_merged(rt: HostRuntime) -> Result<(), Fail> {
     Ok(())
 }
 
-#[test]
-fn undeclared_values_are_kept_or_numbers(rt: HostRuntime) -> Result<(), Fail> {
-    let alloc = rt.alloc();
-    // 1 = B, 2 = 7.
-    let bytes = [
-        0x2A, 0x04, 0x08, 0x01, 0x10, 0x01, 0x2A, 0x04, 0x08, 0x02, 0x10, 0x07,
-    ];
+// 1 = B, 2 = 7, in records of number 5.
+const HUES: [u8; 12] = [
+    0x2A, 0x04, 0x08, 0x01, 0x10, 0x01, 0x2A, 0x04, 0x08, 0x02, 0x10, 0x07,
+];
+
+// The map of an enum that the records are, and those whose value it doesn't declare.
+fn hues_of(alloc: Global, records: &[u8]) -> Result<(Map<i32, Old>, UnknownFields), Fail> {
     let mut budget = Budget::new(1);
     let ctx = DecodeContext::new(RECURSION_LIMIT, &mut budget);
-    let mut rest: &[u8] = &bytes;
+    let mut rest = records;
     let mut map: Map<i32, Old> = Map::new(alloc);
     let mut unknown = UnknownFields::new(alloc);
     read_map_field::<Int32, ClosedEnum<Old>, _, _>(
@@ -66,14 +92,42 @@ fn undeclared_values_are_kept_or_numbers(rt: HostRuntime) -> Result<(), Fail> {
         ctx,
         Some(&mut unknown),
     )?;
-    assert_eq!(rt; map.get(&1), Some(&Old::B));
+    Ok((map, unknown))
+}
+
+// Whether a map has B under 1.
+fn has_b(map: &Map<i32, Old>) -> bool {
+    map.get(&1) == Some(&Old::B)
+}
+
+#[test]
+fn undeclared_values_of_a_closed_enum_are_kept(rt: HostRuntime) -> Result<(), Fail> {
+    let (map, unknown) = hues_of(rt.alloc(), &HUES)?;
+    assert!(rt; has_b(&map));
     assert_eq!(rt; unknown.len(), 1);
+    Ok(())
+}
+
+// A map with that undeclared value, as a number.
+fn open_hues(alloc: Global) -> Result<Map<i32, EnumValue<Old>>, Fail> {
     let mut open: Map<i32, EnumValue<Old>> = Map::new(alloc);
     open.storage_insert(1, EnumValue::Known(Old::B))?;
     open.storage_insert(2, EnumValue::Unknown(7))?;
-    let mut text = Vec::new(alloc);
+    Ok(open)
+}
+
+#[test]
+fn undeclared_values_of_an_open_enum_are_numbers(rt: HostRuntime) -> Result<(), Fail> {
+    let open = open_hues(rt.alloc())?;
+    let mut text = Vec::new(rt.alloc());
     write_field::<Int32, OpenEnum<Old>, _, _>(&open, 5, &mut text)?;
-    assert_eq!(rt; text.as_slice(), bytes.as_slice());
+    assert_eq!(rt; text.as_slice(), HUES.as_slice());
+    Ok(())
+}
+
+#[test]
+fn a_declared_value_is_read_of_records(rt: HostRuntime) -> Result<(), Fail> {
+    let alloc = rt.alloc();
     let fields = UnknownFields::decode_from_slice(alloc, &[0x38, 0x01])?;
     let hue = EnumCodec::<Old>::decode(alloc, 7, &fields)?;
     assert!(rt; hue == Some(EnumValue::Known(Old::B)));
@@ -95,20 +149,38 @@ fn words_are_read_into_a_map(rt: HostRuntime) -> Result<(), Fail> {
     Ok(())
 }
 
-#[test]
-fn bytes_are_values_of_a_map(rt: HostRuntime) -> Result<(), Fail> {
-    let alloc = rt.alloc();
+// 1 = DE AD, in a record of number 5.
+const BYTES: [u8; 8] = [0x2A, 0x06, 0x08, 0x01, 0x12, 0x02, 0xDE, 0xAD];
+
+// The map of that record.
+fn map_of_bytes(alloc: Global) -> Result<Map<i32, Vec<u8>>, Fail> {
     let mut map: Map<i32, Vec<u8>> = Map::new(alloc);
     map.storage_insert(1, Vec::from_slice(alloc, &[0xDE, 0xAD])?)?;
-    let mut text = Vec::new(alloc);
+    Ok(map)
+}
+
+#[test]
+fn values_that_are_bytes_are_written(rt: HostRuntime) -> Result<(), Fail> {
+    let map = map_of_bytes(rt.alloc())?;
+    let mut text = Vec::new(rt.alloc());
     write_field::<Int32, ProtoBytesMap<Vec<u8>>, _, _>(&map, 5, &mut text)?;
-    let written: &[u8] = &[0x2A, 0x06, 0x08, 0x01, 0x12, 0x02, 0xDE, 0xAD];
-    assert_eq!(rt; text.as_slice(), written);
+    assert_eq!(rt; text.as_slice(), BYTES.as_slice());
+    Ok(())
+}
+
+// The map of shared bytes that the record is.
+fn shared_bytes(alloc: Global, record: &[u8]) -> Result<Map<i32, Bytes>, Fail> {
     let mut budget = Budget::new(0);
     let ctx = DecodeContext::new(RECURSION_LIMIT, &mut budget);
-    let mut rest = written;
+    let mut rest = record;
     let mut shared: Map<i32, Bytes> = Map::new(alloc);
     read_map_field::<Int32, BytesBuf, _, _>(alloc, &mut shared, 5, &mut rest, ctx, None)?;
+    Ok(shared)
+}
+
+#[test]
+fn values_that_are_bytes_are_read(rt: HostRuntime) -> Result<(), Fail> {
+    let shared = shared_bytes(rt.alloc(), &BYTES)?;
     match shared.get(&1) {
         Some(bytes) => assert_eq!(rt; bytes.as_slice(), [0xDE, 0xAD].as_slice()),
         None => assert!(rt; false),

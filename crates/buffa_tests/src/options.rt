@@ -42,13 +42,19 @@ fn numbers_are_read_of_their_records(rt: HostRuntime) -> Result<(), Fail> {
 }
 
 #[test]
-fn texts_and_lists_are_read_of_their_records(rt: HostRuntime) -> Result<(), Fail> {
+fn texts_are_read_of_their_records(rt: HostRuntime) -> Result<(), Fail> {
     let alloc = rt.alloc();
     let options = options_of(alloc, b"\x92\xB5\x18\x04name\x92\xB5\x18\x01\xFF")?;
     match read_label(alloc, &options)? {
         Some(label) => assert_eq!(rt; label.as_str(), "name"),
         None => assert!(rt; false),
     }
+    Ok(())
+}
+
+#[test]
+fn lists_are_read_of_their_records(rt: HostRuntime) -> Result<(), Fail> {
+    let alloc = rt.alloc();
     let listed = [0x98, 0xB5, 0x18, 0x01, 0x9A, 0xB5, 0x18, 0x03, 2, 0xAC, 2];
     let choices = read_choices(alloc, &options_of(alloc, &listed)?)?;
     assert_eq!(rt; choices.as_slice(), [1, 2, 300].as_slice());
@@ -74,26 +80,48 @@ fn values_are_judged_by_options(rt: HostRuntime) -> Result<(), Fail> {
     for (value, expected) in rows {
         assert_eq!(rt; validate(alloc, &options, value)?, expected);
     }
+    Ok(())
+}
+
+#[test]
+fn values_are_free_without_options(rt: HostRuntime) -> Result<(), Fail> {
+    let alloc = rt.alloc();
     let free = options_of(alloc, &[])?;
     assert_eq!(rt; validate(alloc, &free, None)?, Ok(()));
     assert_eq!(rt; validate(alloc, &free, Some(-1))?, Ok(()));
     Ok(())
 }
 
-#[test]
-fn prices_are_stored_and_packed(rt: HostRuntime) -> Result<(), Fail> {
-    let alloc = rt.alloc();
+// The price -3, in a record.
+const PRICE: [u8; 4] = [0xA8, 0xB6, 0x18, 0x05];
+
+// Options with a price, and what was read back as it was stored.
+fn options_with(alloc: Global, owed: Price) -> Result<(FieldOptions, Option<Price>), Fail> {
     let mut options = options_of(alloc, &[])?;
+    let stored = store_price(alloc, &mut options, owed)?;
+    Ok((options, stored))
+}
+
+#[test]
+fn prices_are_stored(rt: HostRuntime) -> Result<(), Fail> {
     let owed = Price { cents: -3 };
-    assert_eq!(rt; store_price(alloc, &mut options, owed)?, Some(owed));
-    let mut text = Vec::new(alloc);
+    let (options, stored) = options_with(rt.alloc(), owed)?;
+    assert_eq!(rt; stored, Some(owed));
+    let mut text = Vec::new(rt.alloc());
     options.fields.write_to(&mut text)?;
-    assert_eq!(rt; text.as_slice(), [0xA8, 0xB6, 0x18, 0x05].as_slice());
+    assert_eq!(rt; text.as_slice(), PRICE.as_slice());
+    Ok(())
+}
+
+#[test]
+fn prices_are_read_as_a_packed_list(rt: HostRuntime) -> Result<(), Fail> {
+    let alloc = rt.alloc();
+    let options = options_of(alloc, &PRICE)?;
     let prices = Extension::<PackedRepeated<PriceCodec>>::new(
         50021,
         "google.protobuf.FieldOptions",
     );
     let all = options.extension(alloc, &prices)?;
-    assert_eq!(rt; all.as_slice(), [owed].as_slice());
+    assert_eq!(rt; all.as_slice(), [Price { cents: -3 }].as_slice());
     Ok(())
 }
