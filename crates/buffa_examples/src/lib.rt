@@ -4,5 +4,3 @@
 
 #[cfg(test)]
 mod examples;
-#[cfg(test)]
-mod maps;
