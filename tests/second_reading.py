@@ -308,7 +308,7 @@ class Row:
         return "ok"
 
     def outcome(self, in_order):
-        """What comes of the row, by the calls' names in `crates/conformance_rows`."""
+        """What comes of the row, by the calls' names in `crates/conformance_tables`."""
         for calls, done in (
             ("entry unlisted run rewrite field", self.of_map),
             ("write size size-and-write", self.of_written_map),

@@ -4,8 +4,8 @@
 A wrong body is an edit, tests/wrong/CRATE/FUNCTION-what_is_wrong.edit: a line 'file: src/x.rt', then pairs of lines
 'old: TEXT' and 'new: TEXT', each old text standing once in that file of the crate. FUNCTION is the plain name of the
 function that must not be proved then, or TYPE.FUNCTION. Edits of a crate that lie in different functions are applied
-together, to a copy of the repository, and checked in one go. An edit outside of functions is tried alone, and only its
-function, a law, is checked then. A function may be reported for another one's sake (it calls one that is not proved, or
+together, to a copy of the repository, and checked in one go. An edit outside of functions, or of a crate below (a line
+'file: ../CRATE/src/x.rt'), is tried alone, and only its function, a law, is checked then. A function may be reported for another one's sake (it calls one that is not proved, or
 the crate isn't read at all): then it is tried once more, alone.
 
 An edit passes where a goal of the function is not proved. It is unclear, and fails, where the edited text is not read, or
@@ -74,7 +74,8 @@ class Edit:
                 return f"an old text is in {file} {texts[file].count(old)} times"
             at = texts[file].index(old)
             line = texts[file].count("\n", 0, at)
-            touched = [it for it in functions(file, texts[file]) if it.start <= line <= it.end]
+            # what another crate's text is changed to is judged by a law of this one
+            touched = [] if file.startswith("../") else [it for it in functions(file, texts[file]) if it.start <= line <= it.end]
             self.is_wide |= not touched
             self.keys |= {it.key() for it in touched}
             self.target = next((it for it in touched if it.name == self.name and self.of in it.holder), self.target)
@@ -290,15 +291,15 @@ def below(crate):
     return found
 
 
-def copy_to(room, crate):
-    """Copies the crate, what its checks kept, and the crates below it, built."""
-    needed = below(crate)
+def copy_to(room, crate, edits):
+    """Copies the crate and those that the edits change, what their checks kept, and the crates below, built."""
+    needed, kept = below(crate), {crate, *[file.split("/")[1] for it in edits for file, _, _ in it.pairs if file.startswith("../")]}
     if os.path.isfile(f"{TOP}/HANDLES"):
         shutil.copy(f"{TOP}/HANDLES", room)
     with open(f"{room}/crates.txt", "w", encoding="utf-8") as it:
         it.write("".join(f"{line}\n" for name, line in listed().items() if name in needed))
     for it in needed:
-        for part in ["src", "specs", "proofs", "out/rlib", *(["out/incremental"] if it == crate else [])]:
+        for part in ["src", "specs", "proofs", "out/rlib", *(["out/incremental"] if it in kept else [])]:
             if os.path.isdir(f"{TOP}/crates/{it}/{part}"):
                 shutil.copytree(f"{TOP}/crates/{it}/{part}", f"{room}/crates/{it}/{part}")
 
@@ -342,7 +343,7 @@ def try_crate(crate, options):
     print(f"wrong: {crate} as it stands is proved, {time.time() - begun:.0f} s", flush=True)
     whole = Report(text)
     with tempfile.TemporaryDirectory(prefix="wrong-") as room:
-        copy_to(room, crate)
+        copy_to(room, crate, edits)
         while edits:
             batch, edits = batch_of(edits)
             chosen, (batch, texts) = batch, apply(batch, crate, room)

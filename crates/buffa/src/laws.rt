@@ -28,7 +28,7 @@ use std::hash::{BuildHasher, Hash};
 /// Laws of the names of this crate: limits, codecs, and the usual map.
 pub use crate::name_laws as names;
 /// Laws of bytes: varints, tags, fields, scalars and texts.
-pub use buffa_bytes::laws as fields;
+pub use buffa_wire_laws::fields;
 /// Laws of codecs of extensions: scalars, texts, enums and lists.
 pub use buffa_codec::laws as extension_codecs;
 /// Laws of sets and clears of extensions, and of messages in them.
@@ -46,7 +46,7 @@ pub use buffa_node::laws as nodes;
 /// Laws of the sample that is a MessageSet.
 pub use buffa_set_msg::laws as sets;
 /// Laws of records of unknown fields.
-pub use buffa_wire::laws as records;
+pub use buffa_wire_laws::records;
 
 /// Two runs of a map field, one after the other, are a run of the entries of both.
 ///

@@ -10,7 +10,6 @@ pub mod buf;
 pub mod check;
 pub mod error;
 pub mod key;
-pub mod laws;
 pub mod limited;
 pub mod pieces;
 pub mod proto;

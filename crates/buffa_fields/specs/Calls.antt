@@ -26,13 +26,15 @@ use denote.Ref.{Bor}
 
 -- ---- a field whose tag was read: says is what a member means
 
--- another wire type than the expected one is refused, and both are told
-abbrev pub ChecksWire : {T : Type 0} → Tag → WireType → Result T DecodeError → Type 0
-ChecksWire tag expected r = (e : DecodeError) → check_wire tag.number expected tag.wire_type ≡ Err e → r ≡ Err e
+-- another wire type than the expected one is refused, and both are told; the value is as it was, and the field unread
+abbrev pub ChecksWire : {T X : Type 0} → Tag → WireType → Result T DecodeError → X → X → Bor (List ℕ) → Bor (List ℕ) → Type 0
+ChecksWire tag expected r old new before after =
+    (e : DecodeError) → check_wire tag.number expected tag.wire_type ≡ Err e → (r ≡ Err e) × (old ≡ new) × (before.now ≡ after.now)
 
 -- the same of a list, which takes packed elements too
-abbrev pub ChecksListWire : {T : Type 0} → Tag → WireType → Result T DecodeError → Type 0
-ChecksListWire tag expected r = (e : DecodeError) → check_list_wire tag.number expected tag.wire_type ≡ Err e → r ≡ Err e
+abbrev pub ChecksListWire : {T X : Type 0} → Tag → WireType → Result T DecodeError → X → X → Bor (List ℕ) → Bor (List ℕ) → Type 0
+ChecksListWire tag expected r old new before after =
+    (e : DecodeError) → check_list_wire tag.number expected tag.wire_type ≡ Err e → (r ≡ Err e) × (old ≡ new) × (before.now ≡ after.now)
 
 module _ {P D T : Type 0} (tag : Tag) (ctx : DecodeContext) (left : Exit D) (old new : P) (before after : Bor (List ℕ)) (r : Result T DecodeError) where
   -- a member took the field, and paid for it

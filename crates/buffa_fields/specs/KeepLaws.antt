@@ -1,134 +1,28 @@
 -- What is proved of fields that are kept.
-use Rattle.std.proofs.Common.{◌≡◌, ◌≢◌, ◌⊎◌, inl, inr, ℕ, zero, suc, ◌+◌, ◌-◌, ◌<◌, ◌≤◌, List, [], ◌∷◌, ◌++◌, length, Some, Result, Ok, Err, refl, ap, sym, subst, ◌∙◌, arith, append_assoc, append-nil, length-append}
-use Rattle.std.specs.Int.{from_le_bytes, w32, w64}
-use Rattle.buffa_bytes.proofs.FieldLemmas.{tag_some}
+use Rattle.std.proofs.Common.{◌≡◌, ◌≢◌, ◌⊎◌, inl, inr, ℕ, suc, ◌+◌, ◌-◌, ◌≤◌, List, [], ◌∷◌, ◌++◌, length, Some, Result, Ok, Err, IsOk, refl, ap, sym, subst, ◌∙◌, arith, append_assoc, append-nil}
 use Rattle.buffa_bytes.proofs.StepLemmas.{agree_err, agree_ok}
-use Rattle.buffa_bytes.specs.Content.{ContentFault}
 use Rattle.buffa_bytes.specs.Field.{Group, PayloadOver}
 use Rattle.buffa_bytes.specs.declared.wire_type.WireType.{WireType}
 use Rattle.buffa_bytes.specs.declared.wire_type.WireType.TheVariants as wire
 use Rattle.buffa_bytes.specs.declared.error.DecodeError.{DecodeError}
 use Rattle.buffa_bytes.specs.declared.error.DecodeError.TheVariants as error
-use Rattle.buffa_wire.proofs.JoinLemmas.{join_records, records_join}
 use Rattle.buffa_wire.proofs.LoopLemmas.{field_is_read, field_taken}
-use Rattle.buffa_wire.proofs.MessageLemmas.{NoLimit, length_no_limit, tag_no_limit, var_no_limit}
-use Rattle.buffa_wire.specs.Field.{Payload}
+use Rattle.buffa_wire.proofs.MessageLemmas.{NoLimit}
 use Rattle.buffa_wire.specs.BudgetLeft.{BudgetLeft, Lacks, slots as left_slots}
-use Rattle.buffa_wire.specs.Message.{IsLimit}
 use Rattle.buffa_wire.proofs.ParseLemmas.{text_parses}
 use Rattle.buffa_wire.specs.Falls.{height-records}
-use Rattle.buffa_wire.specs.Parse.{FieldFault, FieldFaultOf, GroupFault, InsideFault, Fits, IsPayload, Parse, slots, slots_inside}
+use Rattle.buffa_wire.specs.Parse.{Fits, IsPayload, Parse, TakesField, slots, slots_inside}
 use Rattle.buffa_wire.specs.RecordReading.{TakesMemory, field_at}
-use Rattle.buffa_wire.specs.Records.{Datum, Records, bytes, fixed32, fixed64, group, height, no_records, one, records_of, varint}
+use Rattle.buffa_wire.specs.Records.{Datum, height, one, records_of}
 use Rattle.buffa_wire.specs.Text.{records_text, wire_of}
 use Rattle.std.specs.Prelude.{Bool, true, ◌&&◌}
-use Rattle.buffa_fields.specs.Keep.{AllNumbers, KeepTakesMemory, keep_need, keep_takes, record_at, spent_of}
+use Rattle.buffa_wire.proofs.KeepLemmas.{all_slots, enough_slots, field_short, le_or_lt, needed, payload_of_record, record_of_payload}
+use Rattle.buffa_wire.specs.Kept.{keep_need, record_at, spent_of}
+use Rattle.buffa_fields.specs.Keep.{AllNumbers, KeepTakesMemory, keep_takes}
 use Rattle.buffa_fields.specs.PairLaws.{both_true}
 use Rattle.buffa_fields.specs.Takes.{IsTaken, Leads, Piece, ReadsBack, Untaken, joined}
 use Rattle.buffa_wire.proofs.SpentLemmas.{is_there}
 use Rattle.buffa_wire.specs.Gives.{FullOnlyIf}
-
--- ---- payloads are those of records
-one_deeper : (d : ℕ) → suc d - 1 ≡ d
-one_deeper d = omega arith
-
-group_record : (d n : ℕ) (p : List ℕ) → Group d n p → (x : Datum) × IsPayload d n x p × (wire_of x ≡ wire.StartGroup)
-unfolding Group
-group_record zero n p h = absurd h
-group_record (suc d) n p (b, t, j, tag, is) =
-    let r = join_records d b j in
-    (group r.0, (omega arith, b, t, subst (λ k. Parse k b r.0) (sym (one_deeper d)) r.1, tag, is), refl)
-
-record_of_payload : (d n : ℕ) (w : WireType) (p : List ℕ) → Payload d n w p → (x : Datum) × IsPayload d n x p × (wire_of x ≡ w)
-record_of_payload d n wire.Varint p h = (varint h.0, h.1, refl)
-record_of_payload d n wire.Fixed64 p h = (fixed64 (from_le_bytes w64 p), (h, refl), refl)
-record_of_payload d n wire.LengthDelimited p (t, v, u, is) = (bytes v, (t, u, is), refl)
-record_of_payload d n wire.StartGroup p h = group_record d n p h
-record_of_payload d n wire.EndGroup p h = absurd h
-record_of_payload d n wire.Fixed32 p h = (fixed32 (from_le_bytes w32 p), (h, refl), refl)
-
-payload_of_record : (x : Datum) (d n : ℕ) (p : List ℕ) → IsPayload d n x p → PayloadOver (Group d) n (wire_of x) p
-unfolding Group
-payload_of_record (varint v) d n p h = (v, h)
-payload_of_record (fixed32 v) d n p h = h.0
-payload_of_record (fixed64 v) d n p h = h.0
-payload_of_record (bytes v) d n p (t, u, is) = (t, v, u, is)
-payload_of_record (group rs) zero n p (o, b, t, h, tag, is) = absurd (omega arith)
-payload_of_record (group rs) (suc d) n p (o, b, t, h, tag, is) = (b, t, records_join rs d b (subst (λ k. Parse k b rs) (one_deeper d) h), tag, is)
-
--- ---- each record has a byte at least
-mutual
-  records_short : (rs : Records) (d : ℕ) (b : List ℕ) → Parse d b rs → slots rs ≤ length b
-  records_short no_records d b h = omega arith
-  records_short (one n x rs) d b (f, r, (t, p, tag, payload, is), next, all) =
-      omega (arith, inside_short x d n p payload, records_short rs d r next, tag_some t n (wire_of x) tag, ap length is, length-append t p, ap length all, length-append f r)
-
-  inside_short : (x : Datum) (d n : ℕ) (p : List ℕ) → IsPayload d n x p → slots_inside x ≤ length p
-  inside_short (varint v) d n p h = omega arith
-  inside_short (fixed32 v) d n p h = omega arith
-  inside_short (fixed64 v) d n p h = omega arith
-  inside_short (bytes v) d n p h = omega arith
-  inside_short (group rs) d n p (o, b, t, h, tag, is) = omega (arith, records_short rs (d - 1) b h, ap length is, length-append b t)
-
--- ---- a limit is told only where the slots are fewer than the bytes
-as_no_limit : (e f : DecodeError) → e ≡ f → NoLimit f → NoLimit e
-as_no_limit e f h k = subst (λ z. NoLimit z) (sym h) k
-
-content_no_limit : (w : WireType) (bs : List ℕ) (e : DecodeError) → ContentFault w bs e → NoLimit e
-content_no_limit wire.Varint bs e h = var_no_limit bs e h
-content_no_limit wire.Fixed64 bs e h = as_no_limit e error.UnexpectedEof h.1 (λ l. l)
-content_no_limit wire.LengthDelimited bs e h = length_no_limit bs e h
-content_no_limit wire.StartGroup bs e h = as_no_limit e (error.InvalidWireType 3) h (λ l. l)
-content_no_limit wire.EndGroup bs e h = as_no_limit e (error.InvalidWireType 4) h (λ l. l)
-content_no_limit wire.Fixed32 bs e h = as_no_limit e error.UnexpectedEof h.1 (λ l. l)
-
-module _ (G : ℕ → ℕ → List ℕ → DecodeError → Type 0) (g : (s n : ℕ) (bs : List ℕ) (e : DecodeError) → G s n bs e → IsLimit e → s < length bs) where
-  in_group : (s n : ℕ) (w : WireType) (bs : List ℕ) (e : DecodeError) → InsideFault G s n w bs e → IsLimit e → s < length bs
-  in_group s n wire.StartGroup bs e h l = g s n bs e h l
-  in_group s n wire.Varint bs e h l = absurd (content_no_limit wire.Varint bs e h l)
-  in_group s n wire.Fixed64 bs e h l = absurd (content_no_limit wire.Fixed64 bs e h l)
-  in_group s n wire.LengthDelimited bs e h l = absurd (content_no_limit wire.LengthDelimited bs e h l)
-  in_group s n wire.EndGroup bs e h l = absurd (content_no_limit wire.EndGroup bs e h l)
-  in_group s n wire.Fixed32 bs e h l = absurd (content_no_limit wire.Fixed32 bs e h l)
-
-  in_field : (s n : ℕ) (w : WireType) (bs : List ℕ) (e : DecodeError) → FieldFaultOf G s n w bs e → IsLimit e → s ≤ length bs
-  in_field s n w bs e (inl (_, h)) l = absurd (as_no_limit e (error.InvalidEndGroup n) h (λ k. k) l)
-  in_field s n w bs e (inr (inl (_, none, _))) l = omega (arith, none)
-  in_field s n w bs e (inr (inr (_, some, h))) l = omega (arith, some, in_group (s - 1) n w bs e h l)
-
-group_short : (d s n : ℕ) (bs : List ℕ) (e : DecodeError) → GroupFault d s n bs e → IsLimit e → s < length bs
-unfolding GroupFault
-group_short zero s n bs e h l = absurd (as_no_limit e error.RecursionLimitExceeded h (λ k. k) l)
-group_short (suc d) s n bs e (rs, left, rest, (b, parse, sum, split), inl bad) l = absurd (tag_no_limit rest e bad l)
-group_short (suc d) s n bs e (rs, left, rest, (b, parse, sum, split), inr (m, w, after, (t, tag, cut), _, bad)) l =
-    omega (arith, in_field (GroupFault d) (group_short d) left m w after e bad l, records_short rs d b parse, sum, ap length split, length-append b rest, ap length cut, length-append t after, tag_some t m w tag)
-
-pub field_short : (d s n : ℕ) (w : WireType) (bs : List ℕ) (e : DecodeError) → FieldFault d s n w bs e → IsLimit e → s ≤ length bs
-field_short d s n w bs e h l = in_field (GroupFault d) (group_short d) s n w bs e h l
-
--- ---- one field
--- a field whose record is x is read with any slots that suffice
-enough_slots : (d s n : ℕ) (w : WireType) (bs p rest : List ℕ) (x : Datum) → IsPayload d n x p → wire_of x ≡ w → bs ≡ p ++ rest → 1 + slots_inside x ≤ s → field_at d s n w bs ≡ Ok (x, s - (1 + slots_inside x), rest)
-enough_slots d s n w bs p rest x payload same is h = field_taken d s n w bs x (s - (1 + slots_inside x)) rest (p, payload, same, omega (arith, h), is)
-
-all_slots : (d n : ℕ) (w : WireType) (bs p rest : List ℕ) (x : Datum) → IsPayload d n x p → wire_of x ≡ w → bs ≡ p ++ rest → record_at d n w bs ≡ Ok (x, suc (length bs) - (1 + slots_inside x), rest)
-all_slots d n w bs p rest x payload same is =
-    enough_slots d (suc (length bs)) n w bs p rest x payload same is (omega (arith, inside_short x d n p payload, ap length is, length-append p rest))
-
-needed : (d n : ℕ) (w : WireType) (bs p rest : List ℕ) (x : Datum) → IsPayload d n x p → wire_of x ≡ w → bs ≡ p ++ rest → keep_need d n w bs ≡ left_slots (1 + slots_inside x)
-needed d n w bs p rest x payload same is =
-    let k : suc (length bs) - (suc (length bs) - (1 + slots_inside x)) ≡ 1 + slots_inside x = omega (arith, inside_short x d n p payload, ap length is, length-append p rest) in
-    ap (spent_of (suc (length bs))) (all_slots d n w bs p rest x payload same is) ∙ ap left_slots k
-
-pub keep_stays : (d n : ℕ) (w : WireType) (p x : List ℕ) → Payload d n w p → keep_need d n w (p ++ x) ≡ keep_need d n w p
-keep_stays d n w p r h =
-    let x = record_of_payload d n w p h in
-    needed d n w (p ++ r) p r x.0 x.1 x.2 refl ∙ sym (needed d n w p p [] x.0 x.1 x.2 (sym (append-nil p)))
-
-le_or_lt : (a b : ℕ) → (a ≤ b) ⊎ (b < a)
-le_or_lt zero b = inl (omega arith)
-le_or_lt (suc a) zero = inr (omega arith)
-le_or_lt (suc a) (suc b) = elim (le_or_lt a b) [ inl h ↦ inl (omega (arith, h)) | inr h ↦ inr (omega (arith, h)) ]
 
 -- ---- a payload makes a record
 takes_record : (d n : ℕ) (w : WireType) (p : List ℕ) (x : Datum) → IsPayload d n x p → wire_of x ≡ w → (v : List (ℕ × Datum)) → keep_takes d v n w p ≡ Some (v ++ (n, x) ∷ [])
@@ -218,3 +112,22 @@ module _ (d s n : ℕ) (w : WireType) (bs : List ℕ) (v : List (ℕ × Datum)) 
 pub keep_as : (d n : ℕ) (w : WireType) (bs : List ℕ) (before : BudgetLeft) (u v : List (ℕ × Datum)) → u ≡ v → (r : Result (Unit {0}) DecodeError) (new : List (ℕ × Datum)) (after : BudgetLeft) (rest : List ℕ) →
     IsTaken keep_takes keep_need d u n w bs before r new after rest → IsTaken keep_takes keep_need d v n w bs before r new after rest
 keep_as d n w bs before u v same r new after rest h = subst (λ z. IsTaken keep_takes keep_need d z n w bs before r new after rest) same h
+
+-- ---- in the words of the grammar
+pub kept_record : (d n : ℕ) (x : Datum) (p : List ℕ) (v : List (ℕ × Datum)) → IsPayload d n x p → keep_takes d v n (wire_of x) p ≡ Some (v ++ (n, x) ∷ [])
+kept_record d n x p v h = takes_record d n (wire_of x) p x h refl v
+
+pub kept_costs : (d n : ℕ) (x : Datum) (p more : List ℕ) → IsPayload d n x p → keep_need d n (wire_of x) (p ++ more) ≡ left_slots (1 + slots_inside x)
+kept_costs d n x p more h = needed d n (wire_of x) (p ++ more) p more x h refl refl
+
+value_there : {A E : Type 0} (r : Result A E) → IsOk r → (x : A) × (r ≡ Ok x)
+value_there (Ok x) h = (x, refl)
+value_there (Err e) h = cc
+
+pub asks_kept : (s d n : ℕ) (w : WireType) (bs : List ℕ) → KeepTakesMemory s d n w bs → TakesMemory d s w bs ⊎ ((x : Datum) × (left : ℕ) × (rest : List ℕ) × TakesField d s n w bs x left rest)
+asks_kept s d n w bs (inl h) = inl h
+asks_kept s d n w bs (inr h) = let x = value_there (field_at d s n w bs) h in inr (x.0.0, x.0.1, x.0.2, agree_ok (field_at d s n w bs) x.0 (field_is_read d s n w bs) x.1)
+
+pub kept_asks_for : (s d n : ℕ) (w : WireType) (bs : List ℕ) → TakesMemory d s w bs ⊎ ((x : Datum) × (left : ℕ) × (rest : List ℕ) × TakesField d s n w bs x left rest) → KeepTakesMemory s d n w bs
+kept_asks_for s d n w bs (inl h) = inl h
+kept_asks_for s d n w bs (inr (x, left, rest, h)) = inr (is_there (field_at d s n w bs) (x, left, rest) (field_taken d s n w bs x left rest h))

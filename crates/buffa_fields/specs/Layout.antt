@@ -1,5 +1,5 @@
 -- A message as a list of its members, as a value. Source: the protobuf encoding guide, "Message Structure".
-use Rattle.std.specs.Prelude.{◌≡◌, ℕ, ◌==◌, ◌≤◌, ◌&&◌, Bool, true, false, List, ◌++◌, Some, Result, Err, MatchResult}
+use Rattle.std.specs.Prelude.{◌≡◌, ℕ, ◌==◌, ◌≤◌, ◌&&◌, Bool, true, false, List, [], ◌++◌, Some, Result, Err, IsOk, MatchResult}
 use Rattle.buffa_bytes.specs.declared.wire_type.WireType.{WireType}
 use Rattle.buffa_bytes.specs.declared.error.DecodeError.{DecodeError}
 use Rattle.buffa_bytes.specs.declared.error.EncodeError.{EncodeError}
@@ -11,7 +11,8 @@ use Rattle.buffa_wire.specs.Cache.{Cache}
 use Rattle.buffa_wire.specs.Passes.{IsNext, IsSized, IsWritten}
 use Rattle.buffa_wire.specs.Records.{Datum, records_of}
 use Rattle.buffa_wire.specs.Text.{records_text}
-use Rattle.buffa_fields.specs.Keep.{KeepTakesMemory, keep_need, keep_takes}
+use Rattle.buffa_wire.specs.Kept.{keep_need}
+use Rattle.buffa_fields.specs.Keep.{KeepTakesMemory, keep_takes}
 use Rattle.buffa_fields.specs.Takes.{Asks, IsTaken, Need, ReadsBack, Stays, Taker}
 
 -- What a member of a message is: what its value means, what a payload makes of it, where that may ask for memory, and
@@ -37,18 +38,18 @@ pub record ReadsBackTo {P X : Type 0} (s : Slot P X) : Type 0 where
 
 -- ---- what the calls of a message's members owe
 
--- a member takes the field whose tag was read, or tells the fault of its wire type; memory runs out only where it may be
--- asked for
+-- a member takes the field whose tag was read, or tells the fault of its wire type, and then it is as it was, and the
+-- field is unread; memory runs out only where it may be asked for
 unfoldable pub Took : {P X : Type 0} → Slot P X → ℕ → P → ℕ → WireType → List ℕ → BudgetLeft → Result (Unit {0}) DecodeError → P → BudgetLeft → List ℕ → Type 0
 Took s d old n w bs before r new after rest =
     IsTaken s.takes s.need d (s.meaning old) n w bs before r (s.meaning new) after rest
-    × FullOnlyIf r (s.asks d n w bs) × ((e : DecodeError) → s.checks n w ≡ Err e → r ≡ Err e)
+    × FullOnlyIf r (s.asks d n w bs) × ((e : DecodeError) → s.checks n w ≡ Err e → (r ≡ Err e) × (s.meaning old ≡ s.meaning new) × (bs ≡ rest))
 
--- a field that isn't declared is kept, or passed over, which takes no memory; nothing is kept of one that is refused
+-- a field that isn't declared is kept, or passed over, which takes no memory; one that is refused changes and spends nothing
 unfoldable pub Kept : ℕ → List (ℕ × Datum) → ℕ → WireType → List ℕ → BudgetLeft → Result (Unit {0}) DecodeError → List (ℕ × Datum) → BudgetLeft → List ℕ → Type 0
 Kept d old n w bs before r new after rest =
     IsTaken keep_takes keep_need d old n w bs before r new after rest × MatchResult r (λ _. Unit {0}) (λ _. old ≡ new)
-    × FullOnlyIf r (KeepTakesMemory before.unknown d n w bs)
+    × FullOnlyIf r (KeepTakesMemory before.unknown d n w bs) × MatchResult r (λ _. Unit {0}) (λ _. before ≡ after)
 
 abbrev pub passes : Taker (Unit {0})
 passes d v n w p = Some v
@@ -78,9 +79,9 @@ visited s k p z = more (s.records k (s.meaning p)) (s.slots (s.meaning p)) z
 
 -- ---- what visitors know
 
--- what was seen was sized, into the cache
+-- what was seen was sized, into the cache; memory runs out only where a message has a slot in it
 unfoldable pub IsCounted : ℕ → Result ℕ EncodeError → Cache → Seen → Type 0
-IsCounted cache r now z = (z.cache ≡ cache) × IsSized (records_text z.records) z.slots z.first r now
+IsCounted cache r now z = (z.cache ≡ cache) × IsSized (records_text z.records) z.slots z.first r now × (z.slots ≡ [] → IsOk r)
 
 -- it was written, behind what stood in the sink, out of the cache
 unfoldable pub IsPut : ℕ → ℕ → List ℕ → Cache → Result (Unit {0}) EncodeError → Seen → Type 0

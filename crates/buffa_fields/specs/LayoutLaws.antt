@@ -1,5 +1,5 @@
 -- What is proved of lists of members, whatever the members.
-use Rattle.std.proofs.Common.{◌≡◌, ◌≢◌, ℕ, ◌+◌, ◌==◌, ◌≤◌, min, Bool, true, false, List, [], ◌++◌, length, Some, Result, Ok, Err, IsOk, refl, sym, ap, subst, ◌∙◌, arith, append_assoc, append-nil, length-append}
+use Rattle.std.proofs.Common.{◌≡◌, ◌≢◌, ℕ, ◌+◌, ◌==◌, ◌≤◌, min, Bool, true, false, List, [], ◌∷◌, ◌++◌, length, Some, Result, Ok, Err, IsOk, refl, sym, ap, subst, ◌∙◌, arith, append_assoc, append-nil, length-append}
 use Rattle.std.proofs.lemmas.Bool.{eqb-true, eqb-false}
 use Rattle.buffa_bytes.specs.declared.wire_type.WireType.{WireType}
 use Rattle.buffa_bytes.specs.declared.wire_type.WireType.TheVariants.{EndGroup}
@@ -15,7 +15,8 @@ use Rattle.buffa_wire.proofs.PassLemmas.{appended_none, appended_twice, done, ne
 use Rattle.buffa_wire.specs.Records.{Datum, records_of}
 use Rattle.buffa_wire.specs.Text.{records_text}
 use Rattle.buffa_fields.specs.Layout.{Choice, Follow, IsCounted, IsPut, Kept, Layout, Passed, Seen, Slot, Took, costs_nothing, more, passes, visited}
-use Rattle.buffa_fields.specs.Keep.{KeepTakesMemory, keep_need, keep_takes}
+use Rattle.buffa_wire.specs.Kept.{keep_need}
+use Rattle.buffa_fields.specs.Keep.{KeepTakesMemory, keep_takes}
 use Rattle.buffa_fields.specs.PairLaws.{first_taken, other_taken, records_text-append}
 use Rattle.buffa_fields.specs.Takes.{IsTaken, Need, Taker, both_need, both_take, cost_of, merged_of}
 use Rattle.buffa_fields.specs.TakesLaws.{back as leads_back, taken_full, taken_merges}
@@ -114,18 +115,31 @@ sized_more t u s x c0 c1 c2 total len new h k e =
 pub counted : (rs : List (ℕ × Datum)) (ss : List ℕ) (z : Seen) (cache : ℕ) (c1 c2 : Cache) (total len new : ℕ) → IsCounted cache (sum total) c1 z →
     IsSized (records_text rs) ss c1 (sum len) c2 → new ≡ min (total + len) 4294967295 → IsCounted cache (sum new) c2 (more rs ss z)
 unfolding IsCounted more
-counted rs ss z cache c1 c2 total len new (is, h) k e =
-    (is, subst (λ (l : List ℕ). IsSized l (z.slots ++ ss) z.first (sum new) c2) (sym (records_text-append z.records rs)) (sized_more (records_text z.records) (records_text rs) z.slots ss z.first c1 c2 total len new h k e))
+counted rs ss z cache c1 c2 total len new (is, h, _) k e = (
+  is,
+  subst (λ (l : List ℕ). IsSized l (z.slots ++ ss) z.first (sum new) c2) (sym (records_text-append z.records rs)) (sized_more (records_text z.records) (records_text rs) z.slots ss z.first c1 c2 total len new h k e),
+  λ none. refl,
+)
+
+-- where both have no slots, each has none
+first_none : (a b : List ℕ) → a ++ b ≡ [] → a ≡ []
+first_none [] b h = refl
+first_none (x ∷ a) b h = cc
+
+second_none : (a b : List ℕ) → a ++ b ≡ [] → b ≡ []
+second_none [] b h = h
+second_none (x ∷ a) b h = cc
 
 pub counted_err : (rs : List (ℕ × Datum)) (ss : List ℕ) (z : Seen) (cache : ℕ) (c1 c2 : Cache) (total : ℕ) (e : EncodeError) → IsCounted cache (sum total) c1 z →
-    IsSized (records_text rs) ss c1 (failed e) c2 → IsCounted cache (failed e) c2 (more rs ss z)
+    IsSized (records_text rs) ss c1 (failed e) c2 → (ss ≡ [] → IsOk (failed e)) → IsCounted cache (failed e) c2 (more rs ss z)
 unfolding IsCounted more
-counted_err rs ss z cache c1 c2 total e (is, h) (which, longer) = (is, (which, (z.slots ++ longer.0, longer.1 ∙ appended_twice z.slots longer.0 z.first c1 h.1)))
+counted_err rs ss z cache c1 c2 total e (is, h, _) (which, longer) always =
+    (is, (which, (z.slots ++ longer.0, longer.1 ∙ appended_twice z.slots longer.0 z.first c1 h.1)), λ none. always (second_none z.slots ss none))
 
 -- nothing is counted, once memory ran out
 pub counted_none : (rs : List (ℕ × Datum)) (ss : List ℕ) (z : Seen) (cache : ℕ) (c : Cache) (e : EncodeError) → IsCounted cache (failed e) c z → IsCounted cache (failed e) c (more rs ss z)
 unfolding IsCounted more
-counted_none rs ss z cache c e h = h
+counted_none rs ss z cache c e (is, h, always) = (is, h, λ none. always (first_none z.slots ss none))
 
 -- ---- texts
 pub small_both : (t u : List ℕ) → IsSmall (t ++ u) → IsSmall t × IsSmall u
@@ -188,7 +202,7 @@ start sink before cache first = record { sink = sink; before = before; cache = c
 
 pub counts_none : (sink : ℕ) (before : List ℕ) (cache : ℕ) (c : Cache) → IsCounted cache (sum 0) c (start sink before cache c)
 unfolding IsCounted start
-counts_none sink before cache c = (refl, sized_free [] 0 c refl)
+counts_none sink before cache c = (refl, sized_free [] 0 c refl, λ none. refl)
 
 pub puts_none : (sink : ℕ) (before : List ℕ) (cache : ℕ) (c : Cache) → IsPut sink cache before c done (start sink before cache c)
 unfolding IsPut start
@@ -200,14 +214,14 @@ unfolding IsPut start more
 was_put rs ss sink from before cache of first now new r h = (sym h.0, sym h.1, h.2)
 
 was_counted : (rs : List (ℕ × Datum)) (ss : List ℕ) (sink : ℕ) (before : List ℕ) (cache of : ℕ) (first now : Cache) (r : Result ℕ EncodeError) →
-    IsCounted cache r now (more rs ss (start sink before of first)) → (cache ≡ of) × IsSized (records_text rs) ss first r now
+    IsCounted cache r now (more rs ss (start sink before of first)) → (cache ≡ of) × IsSized (records_text rs) ss first r now × (ss ≡ [] → IsOk r)
 unfolding IsCounted start more
-was_counted rs ss sink before cache of first now r h = (sym h.0, h.1)
+was_counted rs ss sink before cache of first now r h = (sym h.0, h.1, h.2)
 
 module _ {M X : Type 0} (l : Layout M X) where
   -- the size pass
   pub sizes : (m : M) (sink : ℕ) (before : List ℕ) (cache of : ℕ) (first now : Cache) (r : Result ℕ EncodeError) → IsCounted cache r now (l.seen m (start sink before of first)) →
-      (cache ≡ of) × IsSized (records_text (l.records (l.meaning m))) (l.slots (l.meaning m)) first r now
+      (cache ≡ of) × IsSized (records_text (l.records (l.meaning m))) (l.slots (l.meaning m)) first r now × (l.slots (l.meaning m) ≡ [] → IsOk r)
   sizes m sink before cache of first now r h =
       was_counted (l.records (l.meaning m)) (l.slots (l.meaning m)) sink before cache of first now r (subst (λ z. IsCounted cache r now z) (l.seen_is m (start sink before of first)) h)
 

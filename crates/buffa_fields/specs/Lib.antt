@@ -1,6 +1,3 @@
-pub mod Fields
-pub mod FieldsLaws
-pub mod CostLaws
 pub mod Takes
 pub mod TakesLaws
 pub mod PairLaws

@@ -34,7 +34,7 @@ use Rattle.buffa_wire.specs.WireType.{same_wire}
 use Rattle.buffa_wire.specs.Written.{WritesFront}
 use Rattle.buffa_map.proofs.EntryLemmas.{same_false, same_refl, value_complete, value_sound}
 use Rattle.buffa_map.specs.Codec.{Reading, ValueFault, Writing, level, value_at}
-use Rattle.buffa_fields.specs.FieldsLaws.{along_err, along_none, along_ok}
+use Rattle.buffa_wire.proofs.ByFieldLemmas.{along_err, along_none, along_ok}
 use Rattle.buffa_fields.specs.LayoutLaws.{cap_more}
 use Rattle.buffa_fields.specs.Lists.{Each, TakesPacked, check_list_wire, element_at, element_records, elements_in, elements_taken, packed_records, packed_text}
 use Rattle.buffa_fields.specs.PairLaws.{records_text-append}

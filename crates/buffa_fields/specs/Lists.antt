@@ -12,7 +12,7 @@ use Rattle.buffa_wire.specs.Records.{Datum, bytes}
 use Rattle.buffa_wire.specs.Sequence.{parse_all}
 use Rattle.buffa_wire.specs.WireType.{same_wire}
 use Rattle.buffa_map.specs.Codec.{Reading, value_at}
-use Rattle.buffa_fields.specs.Fields.{value_of}
+use Rattle.buffa_wire.specs.ByField.{value_of}
 use Rattle.buffa_fields.specs.Takes.{Asks, Taker}
 use Rattle.buffa_fields.specs.Values.{all_of}
 

@@ -8,17 +8,17 @@ use Rattle.buffa_bytes.specs.declared.error.EncodeError.{EncodeError}
 use Rattle.buffa_bytes.specs.declared.error.EncodeError.TheVariants as encode
 use Rattle.buffa_wire.specs.Passes.{Begins, IsSmall}
 use Rattle.buffa_wire.specs.Text.{records_text}
-use Rattle.buffa_wire.specs.BudgetLeft.{nothing}
+use Rattle.buffa_wire.specs.BudgetLeft.{need_by, nothing}
 use Rattle.buffa_wire.specs.Reading.{delimited_at}
 use Rattle.buffa_wire.specs.Records.{Datum, bytes}
 use Rattle.buffa_wire.specs.WireType.{same_wire}
-use Rattle.buffa_map.specs.Codec.{Reading, Writing, need_by}
+use Rattle.buffa_map.specs.Codec.{Reading, Writing}
 use Rattle.buffa_map.specs.Entry.{IsEntry, entry_of, need_of}
 use Rattle.buffa_map.specs.Fields.{FieldsTakeMemory}
 use Rattle.buffa_map.specs.Run.{step}
 use Rattle.buffa_map.specs.Text.{entry_text}
 use Rattle.buffa_map.specs.declared.map_entry.MapEntry.{MapEntry}
-use Rattle.buffa_fields.specs.Fields.{value_of}
+use Rattle.buffa_wire.specs.ByField.{value_of}
 use Rattle.buffa_fields.specs.Takes.{Asks, Need, Taker}
 
 module _ {K V : Type 0} (key : Reading K) (val : Reading V) where

@@ -3,8 +3,10 @@ use Rattle.std.specs.Prelude.{◌≡◌, ℕ, ◌==◌, ◌&&◌, ◌||◌, true
 use Rattle.std.proofs.Common.{sym}
 use Rattle.buffa_bytes.specs.declared.error.DecodeError.{DecodeError}
 use Rattle.buffa_wire.specs.Records.{Datum, height}
-use Rattle.buffa_fields.specs.Keep.{AllNumbers, KeepTakesMemory, keep_need, keep_takes}
-use Rattle.buffa_fields.specs.KeepLaws.{all_numbers, both_numbers, keep_back, keep_stays}
+use Rattle.buffa_wire.specs.Kept.{keep_need}
+use Rattle.buffa_fields.specs.Keep.{AllNumbers, KeepTakesMemory, keep_takes}
+use Rattle.buffa_wire.proofs.KeepLemmas.{keep_stays}
+use Rattle.buffa_fields.specs.KeepLaws.{all_numbers, both_numbers, keep_back}
 use Rattle.buffa_fields.specs.Layout.{Choice, Kept, Layout, Passed, ReadsBackTo, Slot, Took, costs_nothing, more, passes, visited}
 use Rattle.buffa_fields.specs.LayoutLaws.{field_apart, field_asks, field_taken, is_kept, kept_asks, kept_stays, is_passed, passed_asks, more_none, seen_field}
 use Rattle.buffa_fields.specs.PairLaws.{both_back, both_stay, both_true, no_pieces}

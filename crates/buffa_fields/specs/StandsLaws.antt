@@ -1,20 +1,23 @@
 -- What is proved of messages that were refused.
-use Rattle.std.proofs.Common.{◌≡◌, inl, inr, ℕ, ◌≤◌, ◌<◌, true, List, [], ◌∷◌, ◌++◌, length, Option, Some, None, Ok, Err, Result, refl, sym, ap, ◌∙◌, arith, append_assoc, append-nil, length-append}
+use Rattle.std.proofs.Common.{◌≡◌, ◌≢◌, inl, inr, ℕ, ◌≤◌, ◌<◌, true, List, [], ◌∷◌, ◌++◌, length, Option, Some, None, Ok, Err, Result, refl, sym, ap, subst, ◌∙◌, arith, append_assoc, append-nil, length-append}
 use Rattle.std.specs.Option.{option_and_then}
 use Rattle.buffa_bytes.proofs.FieldLemmas.{tag_falls, tag_sound}
 use Rattle.buffa_bytes.proofs.StepLemmas.{agree_ok}
 use Rattle.buffa_bytes.specs.declared.error.DecodeError.{DecodeError}
 use Rattle.buffa_bytes.specs.declared.error.DecodeError.TheVariants.{OutOfMemory}
 use Rattle.buffa_bytes.specs.declared.wire_type.WireType.{WireType}
-use Rattle.buffa_wire.specs.BudgetLeft.{BudgetLeft}
+use Rattle.buffa_wire.proofs.MessageLemmas.{field_costs, field_means, judged_all, loop_fault, untagged}
+use Rattle.buffa_wire.specs.BudgetLeft.{BudgetLeft, Pays, PaysAtMost}
 use Rattle.buffa_wire.specs.Field.{SomeField}
 use Rattle.buffa_wire.specs.Join.{Join}
 use Rattle.buffa_wire.specs.Join.Join.{none, more}
+use Rattle.buffa_wire.specs.Message.{MergeFault}
 use Rattle.buffa_wire.specs.Reading.{tag_at}
 use Rattle.buffa_fields.specs.Layout.{Layout}
-use Rattle.buffa_fields.specs.Stands.{MergingTakesMemory, Merged, Stands}
-use Rattle.buffa_fields.specs.Takes.{ReadsBack, Taker, merged_of}
-use Rattle.buffa_fields.specs.TakesLaws.{back, merged_empty, merged_fields, merged_next}
+use Rattle.buffa_fields.specs.LayoutLaws.{merges}
+use Rattle.buffa_fields.specs.Stands.{MergingTakesMemory, Merged, Paid, Stands}
+use Rattle.buffa_fields.specs.Takes.{ReadsBack, Taker, cost_of, merged_of}
+use Rattle.buffa_fields.specs.TakesLaws.{back, cost_of_next, cost_of_none, merged_empty, merged_fields, merged_next}
 
 module _ {X : Type 0} (takes : Taker X) (d : ℕ) where
   -- what follows fields goes on where they ended
@@ -52,11 +55,6 @@ module _ {M X : Type 0} (l : Layout M X) (d : ℕ) (old : X) (bytes : List ℕ) 
         split = h.split ∙ ap (λ (z : List ℕ). h.front ++ z) (t.2 ∙ ap (λ (z : List ℕ). t.0 ++ z) p.2 ∙ sym (append_assoc t.0 p.0 after_bs)) ∙ sym (append_assoc h.front (t.0 ++ p.0) after_bs);
         merged = all;
       }
-
-  -- the end
-  pub ends : (m : M) (rest : List ℕ) → Merged l.takes d old bytes rest (l.meaning m) → length rest ≤ 0 → merged_of l.takes d old bytes ≡ Some (l.meaning m)
-  ends m [] h z = ap (merged_of l.takes d old) (h.split ∙ append-nil h.front) ∙ h.merged
-  ends m (b ∷ bs) h z = absurd (omega arith)
 
   -- a tag that is refused changes nothing
   pub stands : (m : M) (rest : List ℕ) → Merged l.takes d old bytes rest (l.meaning m) → Stands l.takes l.Apart d old bytes (l.meaning m)
@@ -100,3 +98,62 @@ module _ {M X : Type 0} (l : Layout M X) (d : ℕ) (old : X) (bytes : List ℕ) 
     within = low;
     next = (n, w, bs, tag, l.asks_is d m n w bs before (let r : Result (Unit {0}) DecodeError = Err e in r) new after after_bs taken full);
   }
+
+-- ---- what was spent
+module _ {M X : Type 0} (l : Layout M X) (d : ℕ) (old : X) (bytes : List ℕ) (first : BudgetLeft) where
+  abbrev merged : ℕ → X → List ℕ → Option X
+  merged = merged_of l.takes
+
+  abbrev cost : ℕ → List ℕ → BudgetLeft
+  cost = cost_of l.need
+
+  -- why the bytes aren't merged, and what was spent
+  abbrev Refuses : DecodeError → BudgetLeft → Type 0
+  Refuses e over = PaysAtMost first (cost d bytes) over × (e ≢ OutOfMemory → MergeFault (merged d old bytes) (cost d bytes) first e)
+
+  pub nothing_paid : Paid l.takes l.need d old bytes first old bytes first
+  nothing_paid = record { means = refl; unknown = refl; memory = refl; no_slot = omega arith; no_unit = omega arith }
+
+  -- a field more
+  pub field_paid : (m new : M) (n : ℕ) (w : WireType) (rest bs after_bs : List ℕ) (before after : BudgetLeft) → Paid l.takes l.need d old bytes first (l.meaning m) rest before → tag_at rest ≡ Ok (n, w, bs) →
+      l.Taken d m n w bs before (let r : Result (Unit {0}) DecodeError = Ok tt in r) new after after_bs → Paid l.takes l.need d old bytes first (l.meaning new) after_bs after
+  field_paid m new n w rest bs after_bs before after h tag taken =
+      let u = agree_ok (tag_at rest) (n, w, bs) (tag_sound rest) tag in
+      let p = merges l d m new n w bs after_bs before after (let r : Result (Unit {0}) DecodeError = Ok tt in r) taken in
+      let split : rest ≡ u.0 ++ (p.0 ++ after_bs) = u.2 ∙ ap (λ (z : List ℕ). u.0 ++ z) p.2 in
+      let one = p.3 u.0 u.1 in
+      let costs = field_costs merged cost (merged_fields l.takes) (merged_next l.takes) (cost_of_next l.need l.stays) d rest u.0 p.0 after_bs n w u.1 p.1 split in
+      let means = field_means merged cost (merged_fields l.takes) (merged_next l.takes) (cost_of_next l.need l.stays) d (l.meaning m) (l.meaning new) rest u.0 p.0 after_bs n w u.1 p.1 split one.0 in
+      record {
+        means = h.means ∙ means;
+        unknown = omega (arith, h.unknown, one.1.0, ap (λ (z : BudgetLeft). z.unknown) costs);
+        memory = omega (arith, h.memory, one.1.1, ap (λ (z : BudgetLeft). z.memory) costs);
+        no_slot = omega (arith, h.no_slot, one.1.0);
+        no_unit = omega (arith, h.no_unit, one.1.1);
+      }
+
+  -- the end
+  pub all_paid : (m : M) (rest : List ℕ) (left : BudgetLeft) → Paid l.takes l.need d old bytes first (l.meaning m) rest left → length rest ≤ 0 → (merged d old bytes ≡ Some (l.meaning m)) × Pays first (cost d bytes) left
+  all_paid m [] left h z =
+      let none = cost_of_none l.need d in (
+        h.means ∙ merged_empty l.takes d (l.meaning m),
+        (omega (arith, h.unknown, ap (λ (z : BudgetLeft). z.unknown) none), omega (arith, h.memory, ap (λ (z : BudgetLeft). z.memory) none)),
+      )
+  all_paid m (b ∷ bs) left h z = absurd (omega arith)
+
+  -- no tag is next
+  pub tag_refused : (m : M) (rest : List ℕ) (before : BudgetLeft) (e : DecodeError) → Paid l.takes l.need d old bytes first (l.meaning m) rest before → 0 < length rest → tag_at rest ≡ Err e → Refuses e before
+  tag_refused m rest before e h some no_tag =
+      loop_fault (merged d old bytes) (merged d (l.meaning m) rest) first before before (cost d bytes) (cost d rest) e h.means h.unknown h.memory h.no_slot h.no_unit
+      ((omega arith, omega arith, omega arith, omega arith), λ ne. untagged merged cost (merged_fields l.takes) (merged_next l.takes) (cost_of_next l.need l.stays) d (l.meaning m) rest before e some no_tag)
+
+  -- the next field is refused
+  pub field_refused : (m new : M) (n : ℕ) (w : WireType) (rest bs after_bs : List ℕ) (before after : BudgetLeft) (e : DecodeError) → Paid l.takes l.need d old bytes first (l.meaning m) rest before → tag_at rest ≡ Ok (n, w, bs) →
+      l.Taken d m n w bs before (let r : Result (Unit {0}) DecodeError = Err e in r) new after after_bs → Refuses e after
+  field_refused m new n w rest bs after_bs before after e h tag taken =
+      let u = agree_ok (tag_at rest) (n, w, bs) (tag_sound rest) tag in
+      let p = merges l d m new n w bs after_bs before after (let r : Result (Unit {0}) DecodeError = Err e in r) taken in
+      let why : PaysAtMost before (cost d rest) after × (e ≢ OutOfMemory → MergeFault (merged d (l.meaning m) rest) (cost d rest) before e) =
+      subst (λ (z : List ℕ). PaysAtMost before (cost d z) after × (e ≢ OutOfMemory → MergeFault (merged d (l.meaning m) z) (cost d z) before e)) (sym u.2)
+      (judged_all merged cost (merged_fields l.takes) (merged_next l.takes) (cost_of_next l.need l.stays) d (l.meaning m) n w bs before after e p u.0 u.1) in
+      loop_fault (merged d old bytes) (merged d (l.meaning m) rest) first before after (cost d bytes) (cost d rest) e h.means h.unknown h.memory h.no_slot h.no_unit why

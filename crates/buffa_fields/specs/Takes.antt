@@ -11,7 +11,7 @@ use Rattle.buffa_bytes.specs.declared.wire_type.WireType.{WireType}
 use Rattle.buffa_bytes.specs.declared.wire_type.WireType.TheVariants.{EndGroup}
 use Rattle.buffa_bytes.specs.declared.error.DecodeError.{DecodeError}
 use Rattle.buffa_bytes.specs.declared.error.DecodeError.TheVariants.{OutOfMemory, UnexpectedEof}
-use Rattle.buffa_fields.specs.Fields.{FieldReader, cost_by, merged_by}
+use Rattle.buffa_wire.specs.ByField.{FieldReader, cost_by, merged_by}
 
 -- At a depth, what a field of a number and a wire type makes of a value by its payload, or none where it is refused.
 abbrev pub Taker : Type 0 → Type 0

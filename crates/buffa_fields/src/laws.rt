@@ -2,13 +2,18 @@
 //!
 //! The words of `MapCodec`, `MessageSpec` and `Scalar` that these cite are pinned by the laws of the crates below.
 
-ghost use Rattle.std.specs.Prelude.{◌≡◌, ◌↔◌, ◌+◌, ℕ, ℤ, List, [], None, map, not};
+ghost use Rattle.std.specs.Prelude.{◌≡◌, ◌↔◌, ◌⊎◌, ◌+◌, ℕ, ℤ, List, [], ◌∷◌, ◌++◌, None, Some, map, not};
 ghost use Rattle.std.specs.Int.{cast_unsigned, w64};
 ghost use Rattle.std.specs.List.{IsDistinct};
 ghost use Rattle.std.specs.Map.{keys_of};
 ghost use Rattle.std.specs.Option.{option_map};
+ghost use Rattle.buffa_wire.specs.BudgetLeft.{slots};
+ghost use Rattle.buffa_wire.specs.Parse.{IsPayload, TakesField, slots_inside};
+ghost use Rattle.buffa_wire.specs.RecordReading.{TakesMemory};
+ghost use Rattle.buffa_wire.specs.Records.{Datum, height};
 ghost use Rattle.buffa_wire.specs.Records.Datum.{varint, fixed32, fixed64, bytes};
 ghost use Rattle.buffa_wire.specs.Reading.{check_wire};
+ghost use Rattle.buffa_wire.specs.Text.{wire_of};
 ghost use Rattle.buffa_map.specs.Message.{message_reading};
 ghost use Rattle.buffa_map.specs.Pairs.{means};
 ghost use Rattle.buffa_map.specs.Text.{AllHold};
@@ -16,6 +21,7 @@ ghost use Rattle.buffa_fields.specs.KindLaws.{is_none, is_nought, is_zero};
 ghost use Rattle.buffa_fields.specs.Lists.{Each, ElementsTakeMemory, check_list_wire};
 ghost use Rattle.buffa_fields.specs.Lists.{element_records, elements_taken, packed_records};
 ghost use Rattle.buffa_fields.specs.MapFields.{PairTakesMemory, entry_cost, entry_taken};
+ghost use Rattle.buffa_fields.specs.Members.{keep};
 ghost use Rattle.buffa_fields.specs.Nested.{FitsInside, MessageTakesMemory, message_cost, message_levels};
 ghost use Rattle.buffa_fields.specs.Nested.{message_records, message_slots, message_taken};
 ghost use Rattle.buffa_fields.specs.NestedMaps.{pair_levels, pair_records, pair_slots};
@@ -228,7 +234,25 @@ pub fn texts_and_enums_are_these<T: ProtoString, B: ProtoBytes, E: Enumeration>(
         × (⟦<OpenEnum<E> as Kind>⟧.is_blank v ≡ is_zero v.1) }
 {}
 
-/// A message of its members: the member of its number takes a field, and merging costs what the fields cost.
+/// Fields that aren't declared, where they are kept: each is a record behind the others, and costs a slot for itself
+/// and for each inside. Memory is asked for where reading one takes some, or where one is there and has its slots.
+pub fn kept_fields_are_these<M>()
+    ensures meaning { (get : M → List (ℕ × Datum)) (m : M) → (keep get).meaning m ≡ get m }
+    ensures blank { (get : M → List (ℕ × Datum)) → (keep get).blank ≡ [] }
+    ensures takes { (get : M → List (ℕ × Datum)) (d n : ℕ) (x : Datum) (p : List ℕ) (v : List (ℕ × Datum)) →
+        IsPayload d n x p → (keep get).takes d v n (wire_of x) p ≡ Some (v ++ (n, x) ∷ []) }
+    ensures asks { (get : M → List (ℕ × Datum)) (s d n : ℕ) (w : _) (bs : List ℕ) → (keep get).asks s d n w bs
+        ↔ (TakesMemory d s w bs ⊎ ((x : Datum) × (left : ℕ) × (rest : List ℕ) × TakesField d s n w bs x left rest)) }
+    ensures need { (get : M → List (ℕ × Datum)) (d n : ℕ) (x : Datum) (p more : List ℕ) → IsPayload d n x p →
+        (keep get).need d n (wire_of x) (p ++ more) ≡ slots (1 + slots_inside x) }
+    ensures records { (get : M → List (ℕ × Datum)) (v : List (ℕ × Datum)) → (keep get).records v ≡ v }
+    ensures slots { (get : M → List (ℕ × Datum)) (v : List (ℕ × Datum)) → (keep get).slots v ≡ [] }
+    ensures levels { (get : M → List (ℕ × Datum)) (v : List (ℕ × Datum)) → (keep get).levels v ≡ height v }
+    ensures normal { (get : M → List (ℕ × Datum)) (v : List (ℕ × Datum)) → (keep get).normal v }
+{}
+
+/// A message of its members: the member of its number takes a field, and merging costs what the fields cost. It is
+/// normal where its members are.
 pub fn messages_are_these<M: Listing>()
     ensures meaning { (m : M) → M.meaning m ≡ M.layout.meaning m }
     ensures blank { M.blank_is ≡ M.layout.blank }
@@ -238,4 +262,5 @@ pub fn messages_are_these<M: Listing>()
     ensures slots { ⟦<Listed as MessageForm<M>>⟧.slots ≡ M.layout.slots }
     ensures levels { ⟦<Listed as MessageForm<M>>⟧.levels ≡ M.layout.levels }
     ensures units { ⟦<Listed as MessageForm<M>>⟧.COST ≡ M.COST }
+    ensures normal { (v : _) → ⟦<Listed as MessageForm<M>>⟧.normal v ↔ (M.layout.Owes × M.layout.normal v) }
 {}

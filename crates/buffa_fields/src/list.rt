@@ -118,7 +118,8 @@ pub(crate) fn take_elements<C: MapCodec>(
     ensures taken { TakesElements tag depth values.old values.new buf.old buf.new result C.reading
         (λ vs. map C.Value.meaning vs.items) }
     ensures full { FullOnlyIf result (ElementsTakeMemory C.reading depth tag.number tag.wire_type buf.old.now) }
-    ensures wire { ChecksListWire tag C.WIRE_TYPE result }
+    ensures wire { ChecksListWire tag C.WIRE_TYPE result (map C.Value.meaning values.old.items)
+        (map C.Value.meaning values.new.items) buf.old buf.new }
 {
     match check_wire_type(tag, C::WIRE_TYPE) {
         Ok(()) => take_element::<C>(alloc, values, buf, depth),

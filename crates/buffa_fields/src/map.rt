@@ -56,7 +56,9 @@ where
         KC.Value.same (KC.COST + VC.COST) (λ m. means KC.Value.meaning VC.Value.meaning m.entries) }
     ensures full { FullOnlyIf result (PairTakesMemory KC.reading VC.reading ctx.entry.depth tag.number tag.wire_type
         buf.old.now) }
-    ensures wire { ChecksWire tag WireType.LengthDelimited result }
+    ensures wire { ChecksWire tag WireType.LengthDelimited result
+        (means KC.Value.meaning VC.Value.meaning map.old.entries)
+        (means KC.Value.meaning VC.Value.meaning map.new.entries) buf.old buf.new }
 {
     limits_are_told_where_needs_are_not_left::<KC, VC>();
     match check_wire_type(tag, WireType::LengthDelimited) {

@@ -62,8 +62,8 @@ pub trait Member {
     /// Merges the field whose tag was read.
     ///
     /// # Errors
-    /// [`DecodeError::WireTypeMismatch`] where the field is of no wire type that the member takes; and
-    /// [`DecodeError::OutOfMemory`] only where the member may ask for memory.
+    /// [`DecodeError::WireTypeMismatch`] where the field is of no wire type that the member takes, which is then as it
+    /// was, and the field unread; and [`DecodeError::OutOfMemory`] only where the member may ask for memory.
     ///
     /// ```ignore
     /// let answer = Plain::<Int32>::merge(&mut self.total, alloc, tag, buf, ctx);

@@ -1,10 +1,10 @@
 //! A struct of one's own is a message.
 
-ghost use Rattle.std.specs.Prelude.{◌≡◌, ◌≢◌, ◌≤◌, Ok, Some, refl, ℕ};
+ghost use Rattle.std.specs.Prelude.{◌≡◌, ◌≢◌, ◌≤◌, [], IsOk, Ok, Some, refl, ℕ};
 ghost use Rattle.std.proofs.Common.{ap, ◌∙◌};
 ghost use Rattle.buffa_wire.specs.BudgetLeft.{budget_left};
 ghost use Rattle.buffa_wire.specs.Gives.{FullOnlyIf};
-ghost use Rattle.buffa_wire.specs.Message.{IsFieldMerged};
+ghost use Rattle.buffa_wire.specs.Message.{IsFieldMerged, MergesField};
 ghost use Rattle.buffa_wire.specs.Parse.{Fits};
 ghost use Rattle.buffa_wire.specs.Passes.{IsNext, IsSized, IsWritten};
 ghost use Rattle.buffa_wire.specs.Records.{records_of};
@@ -31,14 +31,16 @@ fn size_members<M: Fields>(message: &M, sizer: &mut Sizer<'_>)
     ensures same_reference { sizer.new.cache.ghost_name ≡ sizer.old.cache.ghost_name }
     ensures sized { IsSized (records_text (M.layout.records (M.layout.meaning message.now)))
         (M.layout.slots (M.layout.meaning message.now)) sizer.old.cache.now sizer.new.total sizer.new.cache.now }
+    ensures always { M.layout.slots (M.layout.meaning message.now) ≡ [] → IsOk sizer.new.total }
 {
     message.visit(sizer);
 }
 
 // The size pass of a message by its members.
 fn size<M: Fields>(message: &M, cache: &mut SizeCache) -> Result<u32, EncodeError>
-    ensures { IsSized (records_text (M.layout.records (M.layout.meaning message.now)))
+    ensures sized { IsSized (records_text (M.layout.records (M.layout.meaning message.now)))
         (M.layout.slots (M.layout.meaning message.now)) cache.old result cache.new }
+    ensures always { M.layout.slots (M.layout.meaning message.now) ≡ [] → IsOk result }
 {
     let mut sizer = Sizer::new(cache);
     size_members(message, &mut sizer);
@@ -81,6 +83,8 @@ fn merge<M: Fields>(
 ) -> Result<(), DecodeError>
     ensures merged { MergesIn tag ctx.entry ctx.exit message.old message.new buf.old buf.new result M.layout }
     ensures full { FullOnlyIf result (tag.wire_type ≢ WireType.EndGroup) }
+    ensures taken { M.layout.Taken ctx.entry.depth message.old tag.number tag.wire_type buf.old.now ctx.entry.budget.now
+        result message.new (budget_left ctx.exit) buf.new.now }
 {
     message.take(alloc, tag, buf, ctx)
 }
@@ -142,7 +146,12 @@ impl<M: Listing> MessageForm<M> for Listed {
 
     ghost cost_next = { cost_of_next M.layout.need M.layout.stays };
 
-    fn compute_size(message: &M, cache: &mut SizeCache) -> Result<u32, EncodeError> {
+    /// The size pass, which runs out of memory only where there is a message inside.
+    fn compute_size(message: &M, cache: &mut SizeCache) -> Result<u32, EncodeError>
+        ensures sized { IsSized (records_text (M.layout.records (M.meaning message.now)))
+            (M.layout.slots (M.meaning message.now)) cache.old result cache.new }
+        ensures always { M.layout.slots (M.meaning message.now) ≡ [] → IsOk result }
+    {
         size(message, cache)
     }
 
@@ -154,13 +163,21 @@ impl<M: Listing> MessageForm<M> for Listed {
         write(message, cache, sink)
     }
 
+    /// The member of the number takes the field, and what is refused leaves the others as they were.
     fn merge_field(
         message: &mut M,
         alloc: Global,
         tag: Tag,
         buf: &mut &[u8],
         ctx: DecodeContext<'_>,
-    ) -> Result<(), DecodeError> {
+    ) -> Result<(), DecodeError>
+        ensures merged { MergesField (merged_of M.layout.takes) (cost_of M.layout.need) ctx.entry
+            (M.meaning message.old) tag.number tag.wire_type buf.old.now result (M.meaning message.new)
+            (budget_left ctx.exit) buf.new.now }
+        ensures full { FullOnlyIf result (tag.wire_type ≢ WireType.EndGroup) }
+        ensures taken { M.layout.Taken ctx.entry.depth message.old tag.number tag.wire_type buf.old.now
+            ctx.entry.budget.now result message.new (budget_left ctx.exit) buf.new.now }
+    {
         merge(message, alloc, tag, buf, ctx)
     }
 

@@ -109,7 +109,8 @@ pub(crate) fn take_inside<N: Message>(
     ensures taken { TakesIn tag ctx.entry ctx.exit message.old message.new buf.old buf.new result (message_in N.merged)
         (message_cost N.cost) N.meaning }
     ensures full { FullOnlyIf result (MessageTakesMemory ctx.entry.depth tag.number tag.wire_type buf.old.now) }
-    ensures wire { ChecksWire tag WireType.LengthDelimited result }
+    ensures wire { ChecksWire tag WireType.LengthDelimited result (N.meaning message.old) (N.meaning message.new)
+        buf.old buf.new }
 {
     match check_wire_type(tag, WireType::LengthDelimited) {
         Ok(()) => message.merge_length_delimited(alloc, buf, ctx),
@@ -173,6 +174,10 @@ impl<N: Message> Member for Nested<N> {
         buf: &mut &[u8],
         ctx: DecodeContext<'_>,
     ) -> Result<(), DecodeError> {
+        match check_wire_type(tag, WireType::LengthDelimited) {
+            Ok(()) => {}
+            Err(error) => return Err(error),
+        }
         let mut message = match part.take() {
             Some(message) => message,
             None => N::blank(alloc),

@@ -36,7 +36,8 @@ fn take_charged<N: Message>(
     ensures taken { TakesIn tag ctx.entry ctx.exit message.old message.new buf.old buf.new result (message_in N.merged)
         (messages_cost N.COST N.cost) N.meaning }
     ensures full { FullOnlyIf result (MessageTakesMemory ctx.entry.depth tag.number tag.wire_type buf.old.now) }
-    ensures wire { ChecksWire tag WireType.LengthDelimited result }
+    ensures wire { ChecksWire tag WireType.LengthDelimited result (N.meaning message.old) (N.meaning message.new)
+        buf.old buf.new }
 {
     match check_wire_type(tag, WireType::LengthDelimited) {
         Ok(()) => {}
@@ -65,7 +66,8 @@ fn take_message<N: Message>(
     ensures taken { TakesIn tag ctx.entry ctx.exit messages.old messages.new buf.old buf.new result
         (messages_taken N.blank_is N.merged) (messages_cost N.COST N.cost) (λ vs. map N.meaning vs.items) }
     ensures full { FullOnlyIf result (MessagesTakeMemory ctx.entry.depth tag.number tag.wire_type buf.old.now) }
-    ensures wire { ChecksWire tag WireType.LengthDelimited result }
+    ensures wire { ChecksWire tag WireType.LengthDelimited result (map N.meaning messages.old.items)
+        (map N.meaning messages.new.items) buf.old buf.new }
 {
     let mut message = N::blank(alloc);
     match take_charged(alloc, &mut message, tag, buf, ctx) {

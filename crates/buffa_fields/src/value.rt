@@ -32,7 +32,8 @@ pub(crate) fn take_value<C: MapCodec>(
         C.Value.meaning }
     ensures full { FullOnlyIf result (ValueTakesMemory C.reading ctx.entry.depth tag.number tag.wire_type
         buf.old.now) }
-    ensures wire { ChecksWire tag C.WIRE_TYPE result }
+    ensures wire { ChecksWire tag C.WIRE_TYPE result (C.Value.meaning value.old) (C.Value.meaning value.new) buf.old
+        buf.new }
 {
     match check_wire_type(tag, C::WIRE_TYPE) {
         Ok(()) => {}

@@ -13,9 +13,9 @@ use Rattle.buffa_bytes.specs.declared.error.DecodeError.TheVariants.{WireTypeMis
 use Rattle.buffa_bytes.proofs.StepLemmas.{Agrees, agree_bind, agree_if, agree_ok, agree_err, agree_weaker}
 use Rattle.buffa_bytes.proofs.FieldLemmas.{tag_sound, tag_complete, tag_faulty, tag_some, payload_sound, payload_complete, payload_faulty}
 use Rattle.buffa_bytes.proofs.ContentLemmas.{content_sound, content_complete, content_taken, content_faulty}
-use Rattle.buffa_wire.specs.BudgetLeft.{BudgetLeft, Lacks, Pays, PaysAtMost, nothing}
+use Rattle.buffa_wire.specs.BudgetLeft.{BudgetLeft, Lacks, Pays, PaysAtMost, need_by, nothing}
 use Rattle.buffa_wire.specs.Sequence.{ParsesTo}
-use Rattle.buffa_map_base.specs.Codec.{Reading, Refuses, Spends, Tells, ValueFault, level, need_by, value_at, value_need}
+use Rattle.buffa_map_base.specs.Codec.{Reading, Refuses, Spends, Tells, ValueFault, level, value_at, value_need}
 use Rattle.buffa_map_base.specs.Entry.{CodecFault, codec_at, blanks, IsField, FieldFault, IsEntry, FaultOf, field_at, entry_of}
 use Rattle.buffa_map_base.specs.declared.map_entry.MapEntry.{MapEntry}
 use Rattle.buffa_wire.proofs.SequenceLemmas.{Answers, answer, answers_as, along_sound, along_complete, along_faulty, ParsesTo-more}

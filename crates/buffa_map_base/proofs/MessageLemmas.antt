@@ -6,13 +6,13 @@ use Rattle.buffa_wire.specs.Content.Content.{bytes}
 use Rattle.buffa_wire.proofs.SequenceLemmas.{ok_same}
 use Rattle.buffa_wire.specs.Field.{TakesDelimited}
 use Rattle.buffa_wire.specs.Reading.{delimited_at}
-use Rattle.buffa_wire.specs.BudgetLeft.{BudgetLeft, Lacks}
+use Rattle.buffa_wire.specs.BudgetLeft.{BudgetLeft, Lacks, need_by}
 use Rattle.buffa_wire.specs.Message.{PayloadFault, cost_in, cost_of_payload}
 use Rattle.buffa_bytes.specs.declared.error.DecodeError.{DecodeError}
 use Rattle.buffa_bytes.specs.declared.error.DecodeError.TheVariants.{UnexpectedEof}
 use Rattle.buffa_bytes.proofs.StepLemmas.{agree_ok, agree_err}
 use Rattle.buffa_bytes.proofs.DelimitedLemmas.{delimited_sound}
-use Rattle.buffa_map_base.specs.Codec.{HoldsNothing, ValueFault, need_by, value_need}
+use Rattle.buffa_map_base.specs.Codec.{HoldsNothing, ValueFault, value_need}
 use Rattle.buffa_map_base.specs.Message.{meant, message_reading}
 
 need_in : (cost : ℕ → List ℕ → BudgetLeft) (d : ℕ) (r : Result (List ℕ × List ℕ) DecodeError) →

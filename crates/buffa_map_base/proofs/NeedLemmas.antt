@@ -4,7 +4,7 @@ use Rattle.std.proofs.lemmas.Bool.{eq-eqb, ne_eqb}
 use Rattle.buffa_wire.specs.Field.{TakesDelimited, TakesTag}
 use Rattle.buffa_wire.specs.Reading.{tag_at, check_wire, delimited_at, skip_at}
 use Rattle.buffa_wire.specs.WireType.{same_wire}
-use Rattle.buffa_wire.specs.BudgetLeft.{BudgetLeft, Lacks, Pays, PaysAtMost, nothing, plus, slots}
+use Rattle.buffa_wire.specs.BudgetLeft.{BudgetLeft, Lacks, Pays, PaysAtMost, need_by, nothing, plus, slots}
 use Rattle.buffa_wire.specs.Message.{IsLimit}
 use Rattle.buffa_wire.proofs.MessageLemmas.{NoLimit, length_no_limit, payload_no_limit, tag_no_limit, var_no_limit}
 use Rattle.buffa_bytes.specs.declared.wire_type.WireType.{WireType}
@@ -16,7 +16,7 @@ use Rattle.buffa_bytes.proofs.StepLemmas.{agree_ok, agree_err}
 use Rattle.buffa_bytes.proofs.FieldLemmas.{tag_sound}
 use Rattle.buffa_wire.specs.Content.{Content, ContentFault}
 use Rattle.buffa_wire.specs.Sequence.{ParsesTo}
-use Rattle.buffa_map_base.specs.Codec.{Reading, Tells, ValueFault, level, need_by, value_at, value_need}
+use Rattle.buffa_map_base.specs.Codec.{Reading, Tells, ValueFault, level, value_at, value_need}
 use Rattle.buffa_map_base.specs.Entry.{CodecFault, EntryFault, EntryOf, FaultOf, FieldFault, IsEntry, IsField, blanks, codec_need, field_at, field_need, inner_need, need_at, need_of, need_within}
 use Rattle.buffa_map_base.specs.declared.map_entry.MapEntry.{MapEntry}
 use Rattle.buffa_map_base.proofs.EntryLemmas.{Plain, check_sound, check_same, field_shorter, field_sound, need_by-nothing, same_refl, value_free}

@@ -3,7 +3,7 @@ use Rattle.std.specs.Prelude.{◌≡◌, ◌↔◌, ℕ, zero, suc, ◌⊎◌, B
 use Rattle.buffa_wire.specs.Gives.{◌>>=◌}
 use Rattle.buffa_wire.specs.Content.{Content, TakesContent, ContentFault, content_at}
 use Rattle.buffa_wire.specs.Content.Content.{bytes}
-use Rattle.buffa_wire.specs.BudgetLeft.{BudgetLeft, Lacks, Pays, PaysAtMost, nothing}
+use Rattle.buffa_wire.specs.BudgetLeft.{BudgetLeft, Lacks, Pays, PaysAtMost, need_by, nothing}
 use Rattle.buffa_wire.specs.Message.{IsLimit}
 use Rattle.buffa_bytes.specs.declared.wire_type.WireType.{WireType}
 use Rattle.buffa_bytes.specs.declared.error.DecodeError.{DecodeError}
@@ -59,11 +59,6 @@ IsWhole codec d bs = (level codec.nested d ≡ Ok tt) × IsOk (content_at codec.
 -- the codec takes memory, a level is left, and a payload of no bytes is at the front
 abbrev pub HoldsNothing : {V : Type 0} → Reading V → ℕ → List ℕ → Type 0
 HoldsNothing codec d bs = (codec.takes_memory ≡ true) × (level codec.nested d ≡ Ok tt) × (rest : List ℕ) × (content_at codec.wire bs ≡ Ok (bytes [], rest))
-
--- what is needed by what was read, if it was read
-abbrev pub need_by : {A : Type 0} → Result A DecodeError → (A → BudgetLeft) → BudgetLeft
-need_by (Ok x) f = f x
-need_by (Err e) f = nothing
 
 -- what the payload at the front costs, if there is one
 abbrev pub value_need : {V : Type 0} → Reading V → ℕ → List ℕ → BudgetLeft

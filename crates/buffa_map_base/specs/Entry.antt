@@ -10,9 +10,9 @@ use Rattle.buffa_wire.specs.WireType.{same_wire}
 use Rattle.buffa_bytes.specs.declared.wire_type.WireType.{WireType}
 use Rattle.buffa_bytes.specs.declared.error.DecodeError.{DecodeError}
 use Rattle.buffa_bytes.specs.declared.error.DecodeError.TheVariants.{ElementMemoryLimitExceeded, UnknownFieldLimitExceeded, WireTypeMismatch}
-use Rattle.buffa_wire.specs.BudgetLeft.{BudgetLeft, Lacks, nothing, plus, units}
+use Rattle.buffa_wire.specs.BudgetLeft.{BudgetLeft, Lacks, need_by, nothing, plus, units}
 use Rattle.buffa_wire.specs.Sequence.{ParsesTo, ParseStops, parse_all}
-use Rattle.buffa_map_base.specs.Codec.{Reading, ValueFault, level, need_by, value_at, value_need}
+use Rattle.buffa_map_base.specs.Codec.{Reading, ValueFault, level, value_at, value_need}
 use Rattle.buffa_map_base.specs.declared.map_entry.MapEntry.{MapEntry}
 
 -- what the parts of an entry mean

@@ -8,10 +8,10 @@ use Rattle.buffa_bytes.specs.declared.wire_type.WireType.{WireType}
 use Rattle.buffa_bytes.specs.declared.wire_type.WireType.TheVariants.{LengthDelimited}
 use Rattle.buffa_bytes.specs.declared.error.DecodeError.{DecodeError}
 use Rattle.buffa_bytes.specs.declared.error.DecodeError.TheVariants.{ElementMemoryLimitExceeded, UnexpectedField, UnknownFieldLimitExceeded, WireTypeMismatch}
-use Rattle.buffa_wire.specs.BudgetLeft.{BudgetLeft, nothing, plus}
+use Rattle.buffa_wire.specs.BudgetLeft.{BudgetLeft, need_by, nothing, plus}
 use Rattle.buffa_wire.specs.Records.{Datum, bytes}
 use Rattle.buffa_wire.specs.Sequence.{parse_all}
-use Rattle.buffa_map_base.specs.Codec.{Reading, need_by}
+use Rattle.buffa_map_base.specs.Codec.{Reading}
 use Rattle.buffa_map_base.specs.Entry.{IsEntry, EntryFault, blanks, entry_of, inner_need, need_at, need_of}
 use Rattle.buffa_map_base.specs.Pairs.{put}
 use Rattle.buffa_map_base.specs.declared.map_entry.MapEntry.{MapEntry}

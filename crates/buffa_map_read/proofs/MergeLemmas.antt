@@ -5,13 +5,12 @@ use Rattle.buffa_bytes.specs.declared.error.DecodeError.{DecodeError}
 use Rattle.buffa_bytes.specs.declared.error.DecodeError.TheVariants.{ElementMemoryLimitExceeded, OutOfMemory, UnexpectedEof, UnknownFieldLimitExceeded}
 use Rattle.buffa_bytes.specs.Left.{past_no_text}
 use Rattle.buffa_wire.proofs.SequenceLemmas.{ok_no_err}
-use Rattle.buffa_wire.specs.BudgetLeft.{BudgetLeft, Lacks}
+use Rattle.buffa_wire.specs.BudgetLeft.{BudgetLeft, Lacks, need_by}
 use Rattle.buffa_wire.specs.Reading.{delimited_at}
 use Rattle.buffa_bytes.specs.Reading.{taken, varint_at}
 use Rattle.buffa_bytes.proofs.DelimitedLemmas.{taken_sound}
 use Rattle.buffa_bytes.proofs.StepLemmas.{agree_ok}
 use Rattle.buffa_wire.specs.Records.{Datum}
-use Rattle.buffa_map_base.specs.Codec.{need_by}
 use Rattle.buffa_map_base.specs.Entry.{EntryFault, FaultOf, IsEntry, blanks, inner_need, need_at, need_of}
 use Rattle.buffa_map_base.specs.Fields.{FieldsTakeMemory}
 use Rattle.buffa_map_base.specs.Merge.{EntryTakesMemory, MergesEntry, RefusesEntry, Rules, State, state}

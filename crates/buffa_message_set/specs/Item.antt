@@ -148,6 +148,10 @@ abbrev pub ended : Option ℕ → List ℕ → List ℕ → Result (ℕ × List 
 ended None msg rest = Err (InvalidMessageSet MissingTypeId)
 ended (Some id) msg rest = Ok (id, msg, rest)
 
+-- the same of the parts that were read
+abbrev pub ended_by : ItemParts → List ℕ → Result (ℕ × List ℕ × List ℕ) DecodeError
+ended_by parts rest = ended parts.type_id parts.message.items rest
+
 -- whether a tag is the Item's end tag
 abbrev pub ends : ℕ → WireType → Bool
 ends n w = (n == 1) && same_wire EndGroup w

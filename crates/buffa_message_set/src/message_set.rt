@@ -20,7 +20,7 @@ ghost use Rattle.buffa_wire.specs.Values.{delimited_text, tag_text};
 ghost use Rattle.buffa_wire.specs.WireType.{same_wire};
 ghost use Rattle.buffa_wire.specs.Written.{UsesRoom, Writes};
 ghost use Rattle.buffa_message_set.specs.Item.{HasMessage, IsTypeId, SpendsSlot, field_at, item_at, item_in, item_size, item_text};
-ghost use Rattle.buffa_message_set.specs.Item.{BytesAt, IsMessageAt, appended_at, body_text, ended, id_then, said_by, type_id_at, unsaid};
+ghost use Rattle.buffa_message_set.specs.Item.{BytesAt, IsMessageAt, appended_at, body_text, ended_by, id_then, said_by, type_id_at, unsaid};
 
 use buffa_bytes::buf::{copy_bytes, front};
 use buffa_wire::{
@@ -201,7 +201,7 @@ fn read_fields<B: Buf>(
 ) -> Result<(), DecodeError>
     requires { said_by parts.old ≡ unsaid }
     ensures reads { MatchResult result
-        (λ _. item_at depth (B.unread buf.old) ≡ ended parts.new.type_id parts.new.message.items (B.unread buf.new))
+        (λ _. item_at depth (B.unread buf.old) ≡ ended_by parts.new (B.unread buf.new))
         (λ e. e ≢ OutOfMemory → item_at depth (B.unread buf.old) ≡ Err e) }
     ensures full { FullOnlyIf result (HasMessage depth (B.unread buf.old)) }
     ensures kept { B.beyond buf.new ≡ B.beyond buf.old }
@@ -220,7 +220,7 @@ fn read_fields<B: Buf>(
 #[inline]
 fn item_of(parts: ItemParts) -> Result<(u32, Vec<u8>), DecodeError>
     ensures reads { (rest : List ℕ) → Gives (λ item. (item.0, item.1.items, rest)) result
-        (ended parts.type_id parts.message.items rest) }
+        (ended_by parts rest) }
     ensures full { IfErr result (λ e. e ≢ OutOfMemory) }
 {
     match parts.type_id {

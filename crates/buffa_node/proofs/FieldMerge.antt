@@ -27,7 +27,8 @@ use Rattle.buffa_map.specs.Pairs.{SamePairs, means}
 use Rattle.buffa_map.specs.Run.{step, undeclared_record}
 use Rattle.buffa_map.specs.ScalarLaws.{never_faulty, string_no_limit}
 use Rattle.buffa_map.specs.declared.map_entry.MapEntry.{MapEntry}
-use Rattle.buffa_fields.specs.Keep.{keep_need, keep_takes}
+use Rattle.buffa_wire.specs.Kept.{keep_need}
+use Rattle.buffa_fields.specs.Keep.{keep_takes}
 use Rattle.buffa_fields.specs.Takes.{IsTaken}
 use Rattle.buffa_fields.specs.TakesLaws.{taken_merges}
 use Rattle.buffa_node.proofs.EntryMerge.{is_put, part_taken, sorted_means, taken_err, taken_ok, wire_err}

@@ -14,7 +14,7 @@ use Rattle.buffa_wire.specs.Sequence.{ParsesEach, join}
 use Rattle.buffa_map.proofs.EntryLemmas.{entry_complete, entry_sound}
 use Rattle.buffa_map.specs.Entry.{IsEntry, IsField, blanks, entry_of}
 use Rattle.buffa_map.specs.declared.map_entry.MapEntry.{MapEntry}
-use Rattle.buffa_fields.specs.Fields.{value_of}
+use Rattle.buffa_wire.specs.ByField.{value_of}
 use Rattle.buffa_node.specs.NodeMeaning.{numbers, shades}
 use Rattle.buffa_node.specs.NodeText.{IsUndeclared, entry_levels, first_depth}
 

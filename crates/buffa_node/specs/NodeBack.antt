@@ -37,7 +37,7 @@ use Rattle.buffa_fields.specs.PairLaws.{fits_both}
 use Rattle.buffa_fields.specs.Keep.{keep_takes, record_in}
 use Rattle.buffa_fields.specs.Takes.{Leads, Piece, Taker, joined, merged_of}
 use Rattle.buffa_fields.specs.TakesLaws.{back as leads_back}
-use Rattle.buffa_samples.specs.KeepLaws.{all_slots, payload_of_record}
+use Rattle.buffa_wire.proofs.KeepLemmas.{all_slots, payload_of_record}
 use Rattle.buffa_node.specs.Branch.{Branch, Kept, Kids, Scores, Shades, bare, branch, kid, kids, kids-listed, kept_of, kids_of, listed, listed-kids, no_kids, scores_of, shade_numbers, shades_of}
 use Rattle.buffa_node.specs.Entries.{entry_taken, put_in}
 use Rattle.buffa_node.specs.Leading.{Each, IsPut, any, entries_lead, joined_both, leads_both, piece, read_entry}

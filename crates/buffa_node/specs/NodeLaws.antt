@@ -5,7 +5,7 @@ use Rattle.buffa_wire.specs.BudgetLeft.{nothing, plus}
 use Rattle.buffa_wire.specs.Field.{SomeField}
 use Rattle.buffa_wire.specs.Join.{Join}
 use Rattle.buffa_wire.specs.Text.{records_text}
-use Rattle.buffa_fields.specs.KeepLaws.{keep_stays}
+use Rattle.buffa_wire.proofs.KeepLemmas.{keep_stays}
 use Rattle.buffa_fields.specs.MapFields.{map_records}
 use Rattle.buffa_fields.specs.MapLaws.{map_text}
 use Rattle.buffa_fields.specs.PairLaws.{records_text-append}

@@ -19,7 +19,7 @@ use Rattle.buffa_map.specs.Pairs.{means}
 use Rattle.buffa_map.specs.Scalars.{IsText, delimited_writing, varint_writing}
 use Rattle.buffa_map.specs.Text.{AllHold, entry_text, field_text, record_text}
 use Rattle.buffa_map.specs.declared.map_entry.MapEntry.{MapEntry}
-use Rattle.buffa_fields.specs.Fields.{value_of}
+use Rattle.buffa_wire.specs.ByField.{value_of}
 use Rattle.buffa_fields.specs.MapFields.{map_records}
 use Rattle.buffa_node.specs.Branch.{Branch, Kept, Kids, Scores, Shades, branch, no_kids, kid, kids, listed, shade_numbers}
 use Rattle.buffa_node.specs.NodeMeaning.{numbers, shades, text_cmp}

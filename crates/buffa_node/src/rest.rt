@@ -1,7 +1,8 @@
 //! Fields that a message doesn't declare.
 
 ghost use Rattle.std.specs.Prelude.{◌≡◌, OnErr};
-ghost use Rattle.buffa_fields.specs.Keep.{keep_need, keep_takes};
+ghost use Rattle.buffa_wire.specs.Kept.{keep_need};
+ghost use Rattle.buffa_fields.specs.Keep.{keep_takes};
 ghost use Rattle.buffa_fields.specs.Takes.{IsTaken};
 
 use buffa_fields::kept;

@@ -18,7 +18,7 @@ use Rattle.buffa_wire.specs.Values.{int32_at}
 use Rattle.buffa_map.proofs.EntryLemmas.{check_sound}
 use Rattle.buffa_map.proofs.NeedLemmas.{checked}
 use Rattle.buffa_map.specs.declared.map_entry.MapEntry.{MapEntry}
-use Rattle.buffa_samples.specs.CostLaws.{paid}
+use Rattle.buffa_wire.proofs.CostLemmas.{paid}
 use Rattle.buffa_samples.specs.Fields.{int32_field, skipped_field}
 use Rattle.buffa_samples.specs.Flat.{flat_field}
 use Rattle.buffa_samples.specs.FlatLaws.{flat_sound}

@@ -6,7 +6,8 @@ use Rattle.buffa_wire.specs.BudgetLeft.{BudgetLeft, nothing}
 use Rattle.buffa_wire.specs.Records.{Datum, varint}
 use Rattle.buffa_wire.specs.Values.{tag_text}
 use Rattle.buffa_wire.specs.Varint.{varint_text}
-use Rattle.buffa_samples.specs.Fields.{FieldReader, merged_by, skipped_field, varint_field}
+use Rattle.buffa_wire.specs.ByField.{FieldReader, merged_by}
+use Rattle.buffa_samples.specs.Fields.{skipped_field, varint_field}
 
 -- one more, but no more than a u64 holds
 abbrev pub one_more : ℕ → ℕ

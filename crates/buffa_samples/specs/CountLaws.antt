@@ -12,8 +12,10 @@ use Rattle.buffa_bytes.specs.declared.error.DecodeError.TheVariants as error
 use Rattle.buffa_wire.specs.Text.{records_text}
 use Rattle.buffa_wire.specs.Values.{tag_text}
 use Rattle.buffa_wire.specs.Varint.{varint_text}
-use Rattle.buffa_samples.specs.Fields.{merged_by, skipped_field, varint_field}
-use Rattle.buffa_samples.specs.FieldsLaws.{Ends, IsSame, IsSound, empty, ends_if, number_tag, read, same_if, skipped_ends, skipped_same, skipped_sound, tag_one, varint_same, varint_sound}
+use Rattle.buffa_wire.specs.ByField.{merged_by}
+use Rattle.buffa_samples.specs.Fields.{skipped_field, varint_field}
+use Rattle.buffa_wire.proofs.ByFieldLemmas.{IsSame, IsSound, empty, read}
+use Rattle.buffa_samples.specs.FieldsLaws.{Ends, ends_if, number_tag, same_if, skipped_ends, skipped_same, skipped_sound, tag_one, varint_same, varint_sound}
 use Rattle.buffa_samples.specs.Count.{count_field, count_merged, count_records, count_text, one_more, one_text}
 
 pub count_sound : (d : ℕ) → IsSound d (count_field d)

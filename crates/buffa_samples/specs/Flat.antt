@@ -3,7 +3,8 @@
 use Rattle.std.specs.Prelude.{ℤ, ℕ, ◌==◌, List, Option, if◌then◌else◌}
 use Rattle.buffa_wire.specs.BudgetLeft.{BudgetLeft, nothing}
 use Rattle.buffa_wire.specs.Records.{Datum}
-use Rattle.buffa_samples.specs.Fields.{FieldReader, int32_field, merged_by, number_records, number_text, skipped_field}
+use Rattle.buffa_wire.specs.ByField.{FieldReader, merged_by}
+use Rattle.buffa_samples.specs.Fields.{int32_field, number_records, number_text, skipped_field}
 
 abbrev pub flat_field : ℕ → FieldReader ℤ
 flat_field d v n w bs = if n == 1 then int32_field 1 (λ x. x) w bs else skipped_field d v n w bs

@@ -5,8 +5,10 @@ use Rattle.buffa_bytes.proofs.IntLemmas.{int32_back}
 use Rattle.buffa_bytes.proofs.StepLemmas.{agree_if}
 use Rattle.buffa_bytes.specs.declared.wire_type.WireType.TheVariants.{EndGroup, Varint}
 use Rattle.buffa_wire.specs.Values.{int32_text}
-use Rattle.buffa_samples.specs.Fields.{int32_field, merged_by, skipped_field}
-use Rattle.buffa_samples.specs.FieldsLaws.{Ends, IsSame, IsSound, empty, ends_if, int32_ends, int32_same, int32_sound, number_read, same_if, skipped_ends, skipped_same, skipped_sound}
+use Rattle.buffa_wire.specs.ByField.{merged_by}
+use Rattle.buffa_samples.specs.Fields.{int32_field, skipped_field}
+use Rattle.buffa_wire.proofs.ByFieldLemmas.{IsSame, IsSound, empty}
+use Rattle.buffa_samples.specs.FieldsLaws.{Ends, ends_if, int32_ends, int32_same, int32_sound, number_read, same_if, skipped_ends, skipped_same, skipped_sound}
 use Rattle.buffa_samples.specs.Flat.{flat_field, flat_merged, value_text}
 
 pub flat_sound : (d : ℕ) → IsSound d (flat_field d)

@@ -7,7 +7,6 @@ pub mod Two
 pub mod TwoLaws
 pub mod Count
 pub mod CountLaws
-pub mod CostLaws
 pub mod Keep
 pub mod Passed
 pub mod KeepLaws

@@ -24,8 +24,9 @@ use Rattle.buffa_map.proofs.EntryLemmas.{entry_complete}
 use Rattle.buffa_map.specs.Codec.{level}
 use Rattle.buffa_map.specs.Entry.{IsEntry, IsField, blanks}
 use Rattle.buffa_map.specs.declared.map_entry.MapEntry.{MapEntry}
-use Rattle.buffa_samples.specs.Fields.{merged_by}
-use Rattle.buffa_samples.specs.FieldsLaws.{empty, number_read, read}
+use Rattle.buffa_wire.specs.ByField.{merged_by}
+use Rattle.buffa_wire.proofs.ByFieldLemmas.{empty, read}
+use Rattle.buffa_samples.specs.FieldsLaws.{number_read}
 use Rattle.buffa_samples.specs.Flat.{value_text}
 use Rattle.buffa_samples.specs.Grown.{Grown, grown, Kids, no_kids, kid, kids, kids_of, kids-listed, listed, listed-kids}
 use Rattle.buffa_samples.specs.TreeLaws.{tree_same, tree_sound}

@@ -18,7 +18,8 @@ use Rattle.buffa_map.specs.Entry.{entry_of, inner_need}
 use Rattle.buffa_map.specs.declared.map_entry.MapEntry.{MapEntry}
 use Rattle.buffa_map.specs.Message.{message_reading}
 use Rattle.buffa_map.specs.Scalars.{number_reading}
-use Rattle.buffa_samples.specs.Fields.{FieldNeed, FieldReader, cost_by, int32_field, merged_by, skipped_field}
+use Rattle.buffa_wire.specs.ByField.{FieldNeed, FieldReader, cost_by, merged_by}
+use Rattle.buffa_samples.specs.Fields.{int32_field, skipped_field}
 use Rattle.buffa_samples.specs.Grown.{Grown, grown, kids, listed, no_kids}
 
 -- what a level below makes of a child, and what it costs there

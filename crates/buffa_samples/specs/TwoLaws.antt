@@ -7,8 +7,10 @@ use Rattle.buffa_bytes.specs.declared.wire_type.WireType.TheVariants.{EndGroup, 
 use Rattle.buffa_bytes.specs.declared.error.DecodeError.{DecodeError}
 use Rattle.buffa_wire.specs.Text.{records_text}
 use Rattle.buffa_wire.specs.Values.{int32_text}
-use Rattle.buffa_samples.specs.Fields.{int32_field, merged_by, number_records, number_text, skipped_field}
-use Rattle.buffa_samples.specs.FieldsLaws.{Ends, IsSame, IsSound, both_records, empty, ends_if, int32_ends, int32_same, int32_sound, number_read, number_text_records, same_if, skipped_ends, skipped_same, skipped_sound}
+use Rattle.buffa_wire.specs.ByField.{merged_by}
+use Rattle.buffa_samples.specs.Fields.{int32_field, number_records, number_text, skipped_field}
+use Rattle.buffa_wire.proofs.ByFieldLemmas.{IsSame, IsSound, empty}
+use Rattle.buffa_samples.specs.FieldsLaws.{Ends, both_records, ends_if, int32_ends, int32_same, int32_sound, number_read, number_text_records, same_if, skipped_ends, skipped_same, skipped_sound}
 use Rattle.buffa_samples.specs.Two.{two_field, two_merged, two_records, two_text}
 
 pub two_sound : (d : ℕ) → IsSound d (two_field d)

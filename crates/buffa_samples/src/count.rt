@@ -7,7 +7,7 @@ ghost use Rattle.buffa_wire.specs.Gives.{FullOnlyIf, Gives};
 ghost use Rattle.buffa_wire.specs.Message.{MergesField};
 ghost use Rattle.buffa_wire.specs.Passes.{IsSized};
 ghost use Rattle.buffa_wire.specs.Written.{Writes};
-ghost use Rattle.buffa_samples.specs.FieldsLaws.{empty, fields, next};
+ghost use Rattle.buffa_wire.proofs.ByFieldLemmas.{empty, fields, next};
 ghost use Rattle.buffa_samples.specs.Count.{count_cost, count_field, count_merged, count_records, count_text, one_text};
 ghost use Rattle.buffa_samples.specs.CountLaws.{count_back, count_cost_some, count_same, count_sound};
 ghost use Rattle.buffa_samples.specs.CountLaws.{count_text_records};

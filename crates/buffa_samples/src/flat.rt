@@ -7,7 +7,8 @@ ghost use Rattle.buffa_wire.specs.BudgetLeft.{budget_left};
 ghost use Rattle.buffa_wire.specs.Gives.{FullOnlyIf, Gives};
 ghost use Rattle.buffa_wire.specs.Message.{MergesField};
 ghost use Rattle.buffa_wire.specs.Passes.{IsSized};
-ghost use Rattle.buffa_samples.specs.FieldsLaws.{empty, fields, next, number_text_records};
+ghost use Rattle.buffa_wire.proofs.ByFieldLemmas.{empty, fields, next};
+ghost use Rattle.buffa_samples.specs.FieldsLaws.{number_text_records};
 ghost use Rattle.buffa_samples.specs.Flat.{flat_cost, flat_field, flat_merged, value_records, value_text};
 ghost use Rattle.buffa_samples.specs.FlatLaws.{flat_back, flat_cost_some, flat_same, flat_sound};
 

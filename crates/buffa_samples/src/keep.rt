@@ -11,10 +11,12 @@ ghost use Rattle.buffa_wire.specs.View.{datum_of};
 ghost use Rattle.buffa_wire.specs.Parse.{Fits};
 ghost use Rattle.buffa_wire.specs.Records.{Datum, height, records_of};
 ghost use Rattle.buffa_wire.specs.Text.{records_text};
-ghost use Rattle.buffa_samples.specs.CostLaws.{cost_empty, cost_next};
-ghost use Rattle.buffa_samples.specs.FieldsLaws.{empty, fields, next};
-ghost use Rattle.buffa_samples.specs.Keep.{keep_cost, keep_field, keep_merged, keep_need};
-ghost use Rattle.buffa_samples.specs.KeepLaws.{keep_back, keep_cost_some, keep_same, keep_sound, keep_stays};
+ghost use Rattle.buffa_wire.proofs.CostLemmas.{cost_empty, cost_next};
+ghost use Rattle.buffa_wire.proofs.ByFieldLemmas.{empty, fields, next};
+ghost use Rattle.buffa_wire.specs.Kept.{keep_need};
+ghost use Rattle.buffa_samples.specs.Keep.{keep_cost, keep_field, keep_merged};
+ghost use Rattle.buffa_wire.proofs.KeepLemmas.{keep_stays};
+ghost use Rattle.buffa_samples.specs.KeepLaws.{keep_back, keep_cost_some, keep_same, keep_sound};
 
 use buffa_wire::{
     Blank, Budget, DecodeContext, DecodeError, EncodeError, EncodeSink, Message, MessageSpec,

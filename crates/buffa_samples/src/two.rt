@@ -7,7 +7,7 @@ ghost use Rattle.buffa_wire.specs.BudgetLeft.{budget_left};
 ghost use Rattle.buffa_wire.specs.Gives.{FullOnlyIf, Gives};
 ghost use Rattle.buffa_wire.specs.Message.{MergesField};
 ghost use Rattle.buffa_wire.specs.Passes.{IsSized};
-ghost use Rattle.buffa_samples.specs.FieldsLaws.{empty, fields, next};
+ghost use Rattle.buffa_wire.proofs.ByFieldLemmas.{empty, fields, next};
 ghost use Rattle.buffa_samples.specs.Two.{two_cost, two_field, two_merged, two_records, two_text};
 ghost use Rattle.buffa_samples.specs.TwoLaws.{two_back, two_cost_some, two_same, two_sound, two_text_records};
 

@@ -16,8 +16,8 @@ use Rattle.buffa_wire.specs.Records.{Datum, bytes}
 use Rattle.buffa_message_set.specs.Item.{item_at}
 use Rattle.buffa_message_set.proofs.ItemLemmas.{both_true, read_sound}
 use Rattle.buffa_message_set.proofs.GroupLemmas.{item_no_limit}
-use Rattle.buffa_samples.specs.CostLaws.{paid}
-use Rattle.buffa_samples.specs.Fields.{value_of}
+use Rattle.buffa_wire.proofs.CostLemmas.{paid}
+use Rattle.buffa_wire.specs.ByField.{value_of}
 use Rattle.buffa_samples.specs.KeepLaws.{keeps, keeps_no, read_not_at_end}
 use Rattle.buffa_set_msg.specs.Set.{IsRefused, TakesSetField, item_field, item_of, record_of_field, set_cost, set_field, set_merged, set_need, starts}
 use Rattle.buffa_set_msg.specs.SetFacts.{set_same, set_sound, set_stays}

@@ -10,14 +10,13 @@ use Rattle.buffa_bytes.specs.Reading.{skip_at, tag_at}
 use Rattle.buffa_bytes.specs.declared.wire_type.WireType.{WireType}
 use Rattle.buffa_bytes.specs.declared.error.DecodeError.{DecodeError}
 use Rattle.buffa_bytes.specs.declared.error.DecodeError.TheVariants.{OutOfMemory}
-use Rattle.buffa_map.specs.Codec.{need_by}
 use Rattle.buffa_wire.proofs.MessageLemmas.{untagged}
-use Rattle.buffa_wire.specs.BudgetLeft.{BudgetLeft, Lacks, Pays, PaysAtMost, nothing, plus}
+use Rattle.buffa_wire.specs.BudgetLeft.{BudgetLeft, Lacks, Pays, PaysAtMost, need_by, nothing, plus}
 use Rattle.buffa_wire.specs.Message.{MergeFault}
 use Rattle.buffa_wire.specs.Records.{Datum}
-use Rattle.buffa_samples.specs.CostLaws.{cost_tagged, field_alone}
-use Rattle.buffa_samples.specs.Fields.{value_of}
-use Rattle.buffa_samples.specs.FieldsLaws.{refused, taken}
+use Rattle.buffa_wire.proofs.CostLemmas.{cost_tagged, field_alone}
+use Rattle.buffa_wire.specs.ByField.{value_of}
+use Rattle.buffa_wire.proofs.ByFieldLemmas.{refused, taken}
 use Rattle.buffa_set_msg.specs.Set.{IsRefused, NextIsRefused, StopsBehind, set_cost, set_field, set_merged, set_need}
 use Rattle.buffa_set_msg.specs.SetFacts.{set_cost_empty, set_cost_next, set_empty, set_fields, set_next, set_same, set_sound, set_stays}
 

@@ -11,9 +11,9 @@ use Rattle.buffa_bytes.specs.declared.error.DecodeError.{DecodeError}
 use Rattle.buffa_wire.proofs.SequenceLemmas.{err_same, ok_same}
 use Rattle.buffa_wire.specs.BudgetLeft.{BudgetLeft, Lacks, Pays, plus}
 use Rattle.buffa_wire.specs.Records.{Datum}
-use Rattle.buffa_samples.specs.CostLaws.{field_alone}
-use Rattle.buffa_samples.specs.Fields.{value_of}
-use Rattle.buffa_samples.specs.FieldsLaws.{Same, refused}
+use Rattle.buffa_wire.proofs.CostLemmas.{field_alone}
+use Rattle.buffa_wire.specs.ByField.{value_of}
+use Rattle.buffa_wire.proofs.ByFieldLemmas.{Same, refused}
 use Rattle.buffa_set_msg.specs.Set.{IsRefused, NextIsRefused, StopIsPinned, record_of_field, set_cost, set_field, set_merged, set_need}
 use Rattle.buffa_set_msg.specs.SetFacts.{set_cost_empty, set_cost_next, set_empty, set_next, set_same, set_sound, set_stays}
 use Rattle.buffa_set_msg.proofs.MergeLemmas.{then_merged}

@@ -16,8 +16,9 @@ use Rattle.buffa_wire.specs.Records.{Datum, bytes, group, height, no_records, on
 use Rattle.buffa_wire.specs.Text.{field_text}
 use Rattle.buffa_wire.specs.WireType.{same_wire}
 use Rattle.buffa_message_set.specs.Item.{IsTypeId, item_at, item_in, item_text}
-use Rattle.buffa_samples.specs.Fields.{FieldNeed, FieldReader, cost_by, merged_by, value_of}
-use Rattle.buffa_samples.specs.Keep.{keep_field, keep_need}
+use Rattle.buffa_wire.specs.ByField.{FieldNeed, FieldReader, cost_by, merged_by, value_of}
+use Rattle.buffa_wire.specs.Kept.{keep_need}
+use Rattle.buffa_samples.specs.Keep.{keep_field}
 
 -- ---- merging
 

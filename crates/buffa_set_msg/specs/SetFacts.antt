@@ -17,10 +17,11 @@ use Rattle.buffa_wire.specs.Values.{tag_text}
 use Rattle.buffa_message_set.specs.Item.{IsReadAlike, IsTypeId, body_text, item_at, item_text}
 use Rattle.buffa_message_set.proofs.ItemLemmas.{both_true, in_range, read_complete, read_sound, written_item}
 use Rattle.buffa_message_set.proofs.GroupLemmas.{group_alike, item_group, item_no_limit}
-use Rattle.buffa_samples.specs.CostLaws.{cost_empty, cost_next}
-use Rattle.buffa_samples.specs.FieldsLaws.{IsSame, IsSound, Same, empty, fields, next, read}
+use Rattle.buffa_wire.proofs.CostLemmas.{cost_empty, cost_next}
+use Rattle.buffa_wire.proofs.ByFieldLemmas.{IsSame, IsSound, Same, empty, fields, next, read}
 use Rattle.buffa_samples.specs.Keep.{keep_field}
-use Rattle.buffa_samples.specs.KeepLaws.{keep_same, keep_sound, keep_stays}
+use Rattle.buffa_wire.proofs.KeepLemmas.{keep_stays}
+use Rattle.buffa_samples.specs.KeepLaws.{keep_same, keep_sound}
 use Rattle.buffa_set_msg.specs.Set.{AreItems, NestOneDeep, encoded_record, is_type_id, item_field, item_record, record_text, set_cost, set_field, set_levels, set_merged, set_need, set_records, set_text, starts}
 
 -- ---- one field

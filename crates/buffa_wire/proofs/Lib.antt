@@ -9,7 +9,8 @@ pub mod InsideLemmas
 pub mod PassLemmas
 mod LeaveLemmas
 pub mod SpentLemmas
-pub mod FaultLemmas
 pub mod SequenceLemmas
-pub mod PinLemmas
+pub mod ByFieldLemmas
+pub mod CostLemmas
+pub mod KeepLemmas
 mod ShortLemmas

@@ -1,6 +1,7 @@
 -- What is left of a budget.
-use Rattle.std.specs.Prelude.{◌≡◌, ℕ, ◌+◌, ◌-◌, ◌<◌, ◌≤◌, ◌⊎◌}
+use Rattle.std.specs.Prelude.{◌≡◌, ℕ, ◌+◌, ◌-◌, ◌<◌, ◌≤◌, ◌⊎◌, Result, Ok, Err}
 use denote.Ref.{MutBor}
+use Rattle.buffa_bytes.specs.declared.error.DecodeError.{DecodeError}
 
 -- slots for unknown fields, and units of element memory
 pub record BudgetLeft : Type 0 where
@@ -22,6 +23,11 @@ slots n = record { unknown = n; memory = 0 }
 -- both together
 abbrev pub plus : BudgetLeft → BudgetLeft → BudgetLeft
 plus a b = record { unknown = a.unknown + b.unknown; memory = a.memory + b.memory }
+
+-- what is needed by what was read, if it was read
+abbrev pub need_by : {A : Type 0} → Result A DecodeError → (A → BudgetLeft) → BudgetLeft
+need_by (Ok x) f = f x
+need_by (Err e) f = nothing
 
 -- of left, need can't be spent
 abbrev pub Lacks : BudgetLeft → BudgetLeft → Type 0

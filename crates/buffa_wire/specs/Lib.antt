@@ -26,4 +26,6 @@ pub use Rattle.buffa_bytes.specs.WireType
 pub use Rattle.buffa_bytes.specs.Written
 pub mod Enums
 pub mod Sequence
+pub mod ByField
+pub mod Kept
 pub mod Pinned

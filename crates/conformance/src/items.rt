@@ -4,11 +4,10 @@ ghost use Rattle.std.specs.Prelude.{◌<◌};
 
 use buffa_message_set::message_set::{item_encoded_len, merge_item, write_item};
 use buffa_wire::{Budget, Buf, DecodeContext, DecodeError};
-use conformance_records::unread;
 use conformance_rows::case::Case;
 use conformance_rows::fault::Fault;
 use conformance_rows::mark::Mark;
-use conformance_rows::outcome::{Outcome, count_told, got, left, text_told, told, written};
+use conformance_rows::outcome::{Outcome, count_told, got, left, text_told, told, unread, written};
 use conformance_rows::words::bytes_word;
 use std::alloc::Global;
 

@@ -7,15 +7,15 @@ mod extensions;
 mod items;
 mod scalars;
 
-use conformance_lists::on_lists;
-use conformance_records::{fields_and_numbers, on_records};
 use conformance_rows::any_buf::AnyBuf;
 use conformance_rows::calls::{Group, Kind, group_of};
 use conformance_rows::case::Case;
 use conformance_rows::fault::Fault;
 use conformance_rows::mark::Mark;
 use conformance_rows::outcome::Outcome;
-use conformance_runs::{Calls, run_rows};
+use conformance_rows::runs::{Calls, run_rows};
+use conformance_wire::lists::on_lists;
+use conformance_wire::records::{fields_and_numbers, on_records};
 use enums::on_enums;
 use extensions::extension;
 use items::{item, write_an_item};

@@ -5,31 +5,31 @@ use buffa_kinds::explicit::Explicit;
 use buffa_kinds::implicit::Implicit;
 use buffa_kinds::joined::Joined;
 use buffa_kinds::separate::Separate;
-use conformance_messages::{Parted, Parts, parts_of};
+use conformance_messages::{Parted, Parts, parted_word};
 use conformance_rows::fault::Fault;
 use conformance_rows::words::Worded;
 use std::alloc::Global;
 
 impl Parted<Kinds> for Explicit {
-    fn parts(&self, parts: &mut Parts<Kinds>) -> Result<(), Fault> {
-        parts.maybe(1, &self.int32)?;
-        parts.maybe(2, &self.int64)?;
-        parts.maybe(3, &self.uint32)?;
-        parts.maybe(4, &self.uint64)?;
-        parts.maybe(5, &self.sint32)?;
-        parts.maybe(6, &self.sint64)?;
-        parts.maybe(7, &self.truth)?;
-        parts.maybe(8, &self.fixed32)?;
-        parts.maybe(15, &self.fixed64)?;
-        parts.maybe(16, &self.sfixed32)?;
-        parts.maybe(536870911, &self.sfixed64)?;
-        parts.kept(&self.rest)
+    fn parts(&self, parts: &mut Parts<Kinds>) {
+        parts.maybe(1, &self.int32);
+        parts.maybe(2, &self.int64);
+        parts.maybe(3, &self.uint32);
+        parts.maybe(4, &self.uint64);
+        parts.maybe(5, &self.sint32);
+        parts.maybe(6, &self.sint64);
+        parts.maybe(7, &self.truth);
+        parts.maybe(8, &self.fixed32);
+        parts.maybe(15, &self.fixed64);
+        parts.maybe(16, &self.sfixed32);
+        parts.maybe(536870911, &self.sfixed64);
+        parts.kept(&self.rest);
     }
 }
 
 impl Worded<Kinds> for Explicit {
     fn word(&self, alloc: Global) -> Result<String, Fault> {
-        parts_of::<Kinds, _>(alloc, self)?.word()
+        parted_word::<Kinds, _>(alloc, self)
     }
 
     fn of_word(_alloc: Global, _word: &str) -> Result<Explicit, Fault> {
@@ -38,24 +38,24 @@ impl Worded<Kinds> for Explicit {
 }
 
 impl Parted<Kinds> for Implicit {
-    fn parts(&self, parts: &mut Parts<Kinds>) -> Result<(), Fault> {
-        parts.value(1, &self.int32)?;
-        parts.value(2, &self.int64)?;
-        parts.value(3, &self.uint32)?;
-        parts.value(4, &self.uint64)?;
-        parts.value(5, &self.sint32)?;
-        parts.value(6, &self.sint64)?;
-        parts.value(7, &self.truth)?;
-        parts.value(8, &self.fixed32)?;
-        parts.value(9, &self.fixed64)?;
-        parts.value(10, &self.sfixed32)?;
-        parts.value(11, &self.sfixed64)
+    fn parts(&self, parts: &mut Parts<Kinds>) {
+        parts.value(1, &self.int32);
+        parts.value(2, &self.int64);
+        parts.value(3, &self.uint32);
+        parts.value(4, &self.uint64);
+        parts.value(5, &self.sint32);
+        parts.value(6, &self.sint64);
+        parts.value(7, &self.truth);
+        parts.value(8, &self.fixed32);
+        parts.value(9, &self.fixed64);
+        parts.value(10, &self.sfixed32);
+        parts.value(11, &self.sfixed64);
     }
 }
 
 impl Worded<Kinds> for Implicit {
     fn word(&self, alloc: Global) -> Result<String, Fault> {
-        parts_of::<Kinds, _>(alloc, self)?.word()
+        parted_word::<Kinds, _>(alloc, self)
     }
 
     fn of_word(_alloc: Global, _word: &str) -> Result<Implicit, Fault> {
@@ -64,25 +64,25 @@ impl Worded<Kinds> for Implicit {
 }
 
 impl Parted<Kinds> for Joined {
-    fn parts(&self, parts: &mut Parts<Kinds>) -> Result<(), Fault> {
-        parts.list(1, self.int32.as_slice())?;
-        parts.list(2, self.int64.as_slice())?;
-        parts.list(3, self.uint32.as_slice())?;
-        parts.list(4, self.uint64.as_slice())?;
-        parts.list(5, self.sint32.as_slice())?;
-        parts.list(6, self.sint64.as_slice())?;
-        parts.list(7, self.truth.as_slice())?;
-        parts.list(15, self.fixed32.as_slice())?;
-        parts.list(16, self.fixed64.as_slice())?;
-        parts.list(2047, self.sfixed32.as_slice())?;
-        parts.list(2048, self.sfixed64.as_slice())?;
-        parts.kept(&self.rest)
+    fn parts(&self, parts: &mut Parts<Kinds>) {
+        parts.list(1, self.int32.as_slice());
+        parts.list(2, self.int64.as_slice());
+        parts.list(3, self.uint32.as_slice());
+        parts.list(4, self.uint64.as_slice());
+        parts.list(5, self.sint32.as_slice());
+        parts.list(6, self.sint64.as_slice());
+        parts.list(7, self.truth.as_slice());
+        parts.list(15, self.fixed32.as_slice());
+        parts.list(16, self.fixed64.as_slice());
+        parts.list(2047, self.sfixed32.as_slice());
+        parts.list(2048, self.sfixed64.as_slice());
+        parts.kept(&self.rest);
     }
 }
 
 impl Worded<Kinds> for Joined {
     fn word(&self, alloc: Global) -> Result<String, Fault> {
-        parts_of::<Kinds, _>(alloc, self)?.word()
+        parted_word::<Kinds, _>(alloc, self)
     }
 
     fn of_word(_alloc: Global, _word: &str) -> Result<Joined, Fault> {
@@ -91,24 +91,24 @@ impl Worded<Kinds> for Joined {
 }
 
 impl Parted<Kinds> for Separate {
-    fn parts(&self, parts: &mut Parts<Kinds>) -> Result<(), Fault> {
-        parts.list(1, self.int32.as_slice())?;
-        parts.list(2, self.int64.as_slice())?;
-        parts.list(3, self.uint32.as_slice())?;
-        parts.list(4, self.uint64.as_slice())?;
-        parts.list(5, self.sint32.as_slice())?;
-        parts.list(6, self.sint64.as_slice())?;
-        parts.list(7, self.truth.as_slice())?;
-        parts.list(8, self.fixed32.as_slice())?;
-        parts.list(9, self.fixed64.as_slice())?;
-        parts.list(10, self.sfixed32.as_slice())?;
-        parts.list(11, self.sfixed64.as_slice())
+    fn parts(&self, parts: &mut Parts<Kinds>) {
+        parts.list(1, self.int32.as_slice());
+        parts.list(2, self.int64.as_slice());
+        parts.list(3, self.uint32.as_slice());
+        parts.list(4, self.uint64.as_slice());
+        parts.list(5, self.sint32.as_slice());
+        parts.list(6, self.sint64.as_slice());
+        parts.list(7, self.truth.as_slice());
+        parts.list(8, self.fixed32.as_slice());
+        parts.list(9, self.fixed64.as_slice());
+        parts.list(10, self.sfixed32.as_slice());
+        parts.list(11, self.sfixed64.as_slice());
     }
 }
 
 impl Worded<Kinds> for Separate {
     fn word(&self, alloc: Global) -> Result<String, Fault> {
-        parts_of::<Kinds, _>(alloc, self)?.word()
+        parted_word::<Kinds, _>(alloc, self)
     }
 
     fn of_word(_alloc: Global, _word: &str) -> Result<Separate, Fault> {

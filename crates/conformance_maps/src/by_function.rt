@@ -1,13 +1,15 @@
 // Entries of messages that are merged by a function.
 
 use crate::reads::{Limits, Read};
+use crate::storages::OnMap;
+use crate::store::Store;
 use buffa_map::map_codec::{MapCodec, MapStorage, MapValueDecode, Msg, merge_message_entry_by};
 use buffa_wire::{Budget, Buf, DecodeContext, DecodeError, Message};
+use conformance_rows::calls::Kind;
 use conformance_rows::case::Case;
 use conformance_rows::fault::Fault;
 use conformance_rows::mark::Mark;
 use conformance_rows::outcome::Outcome;
-use conformance_stores::{OnMap, Store};
 use std::alloc::Global;
 
 // Merges an entry by the message's own way to merge bytes.
@@ -38,9 +40,9 @@ pub struct ByFunction<'a, B> {
 impl<By, KC: MapCodec, M: Message, B: Buf> OnMap<By, KC, Msg<M>> for ByFunction<'_, B> {
     fn on_map<
         C: Store<By> + MapStorage<Key = KC::Value, Value = <Msg<M> as MapValueDecode>::Value>,
-    >(self, alloc: Global, case: &Case<'_>, mark: &mut Mark) -> Result<Outcome, Fault> {
+    >(self, alloc: Global, case: &Case<'_>, kind: Kind, mark: &mut Mark) -> Result<Outcome, Fault> {
         let mut limits = Limits::of(case)?;
-        let mut map = C::filled(alloc, case.before())?;
+        let mut map = C::filled(alloc, kind, case.before())?;
         mark.begin(alloc);
         let answer = merged::<KC, M, C, B>(alloc, &mut map, self.buf, limits.context());
         let read = Read::of(answer, mark.end(), self.buf);

@@ -1,6 +1,8 @@
 // Calls that read entries and runs of map fields.
 
 use crate::reads::{Limits, Read};
+use crate::storages::{OnMap, stored};
+use crate::store::Store;
 use buffa_map::map_codec::{
     Bool, BytesBuf, BytesVec, Int32, MapCodec, MapStorage, MapValueDecode, ProtoBytesMap,
     ProtoStringMap, RewriteError, Str, Uint32, merge_entry, merge_entry_with_unknowns,
@@ -13,7 +15,6 @@ use conformance_rows::fault::Fault;
 use conformance_rows::mark::Mark;
 use conformance_rows::outcome::{Outcome, left, text_told};
 use conformance_rows::words::{Worded, records_of, records_word};
-use conformance_stores::{OnMap, Store, stored};
 use std::alloc::Global;
 use std::hash::Hash;
 
@@ -100,6 +101,18 @@ impl Given {
             list,
         })
     }
+
+    // The call of a row with what it gives.
+    fn read<
+        KC: MapCodec,
+        VC: MapValueDecode,
+        C: MapStorage<Key = KC::Value, Value = VC::Value>,
+        B: Buf,
+    >(&mut self, alloc: Global, call: &str, map: &mut C, buf: &mut B) -> Result<(), DecodeError> {
+        let ctx = self.limits.context();
+        let list = self.list.as_mut();
+        read::<KC, VC, C, B>(alloc, call, map, buf, ctx, self.number, list)
+    }
 }
 
 /// An entry or a run that is read from a buffer.
@@ -114,20 +127,13 @@ impl<By, KC: MapCodec, VC: MapValueDecode, B: Buf> OnMap<By, KC, VC> for Runs<'_
         self,
         alloc: Global,
         case: &Case<'_>,
+        kind: Kind,
         mark: &mut Mark,
     ) -> Result<Outcome, Fault> {
         let mut given = Given::of(alloc, case)?;
-        let mut map = C::filled(alloc, case.before())?;
+        let mut map = C::filled(alloc, kind, case.before())?;
         mark.begin(alloc);
-        let answer = read::<KC, VC, C, B>(
-            alloc,
-            case.call,
-            &mut map,
-            self.buf,
-            given.limits.context(),
-            given.number,
-            given.list.as_mut(),
-        );
+        let answer = given.read::<KC, VC, C, B>(alloc, case.call, &mut map, self.buf);
         let read = Read::of(answer, mark.end(), self.buf);
         let kept = kept(alloc, &given.list);
         read.outcome(alloc, case, &given.limits.budget, map.words(alloc), kept)
@@ -163,10 +169,16 @@ fn rewriting<
     VC: MapCodec,
     C: Store<By> + MapStorage<Key = KC::Value, Value = VC::Value>,
     B: Buf,
->(alloc: Global, case: &Case<'_>, mark: &mut Mark, buf: &mut B) -> Result<Outcome, Fault> {
+>(
+    alloc: Global,
+    case: &Case<'_>,
+    kind: Kind,
+    mark: &mut Mark,
+    buf: &mut B,
+) -> Result<Outcome, Fault> {
     let mut limits = Limits::of(case)?;
     let number = case.field_number()?;
-    let mut map = C::filled(alloc, case.before())?;
+    let mut map = C::filled(alloc, kind, case.before())?;
     let mut text = Vec::new(alloc);
     mark.begin(alloc);
     let answer = rewrite_map_field::<KC, VC, C, B, Vec<u8>>(
@@ -202,13 +214,14 @@ impl<By, KC: MapCodec, VC: MapCodec, B: Buf> OnMap<By, KC, VC> for Entries<'_, B
         self,
         alloc: Global,
         case: &Case<'_>,
+        kind: Kind,
         mark: &mut Mark,
     ) -> Result<Outcome, Fault> {
         if case.call == "rewrite" {
-            return rewriting::<By, KC, VC, C, B>(alloc, case, mark, self.buf);
+            return rewriting::<By, KC, VC, C, B>(alloc, case, kind, mark, self.buf);
         }
         let runs = Runs { buf: self.buf };
-        OnMap::<By, KC, VC>::on_map::<C>(runs, alloc, case, mark)
+        OnMap::<By, KC, VC>::on_map::<C>(runs, alloc, case, kind, mark)
     }
 }
 
@@ -227,8 +240,8 @@ where
     stored::<By, KC, VC, _>(alloc, case, kind, mark, Entries { buf })
 }
 
-/// What comes of a row on pairs of numbers, texts and bytes; none where its types don't go into the storage.
-pub fn fields<By, B: Buf>(
+// Pairs of types of one's own, and of the two types of bytes.
+fn of_own<By, B: Buf>(
     alloc: Global,
     case: &Case<'_>,
     kind: Kind,
@@ -236,13 +249,6 @@ pub fn fields<By, B: Buf>(
     buf: &mut B,
 ) -> Result<Option<Outcome>, Fault> {
     match case.types {
-        "string,int32" => pair::<By, Str, Int32, B>(alloc, case, kind, mark, buf),
-        "int32,int32" => pair::<By, Int32, Int32, B>(alloc, case, kind, mark, buf),
-        "int32,bool" => pair::<By, Int32, Bool, B>(alloc, case, kind, mark, buf),
-        "int32,uint32" => pair::<By, Int32, Uint32, B>(alloc, case, kind, mark, buf),
-        "int32,string" => pair::<By, Int32, Str, B>(alloc, case, kind, mark, buf),
-        "int32,bytes" => pair::<By, Int32, BytesVec, B>(alloc, case, kind, mark, buf),
-        "int32,shared-bytes" => pair::<By, Int32, BytesBuf, B>(alloc, case, kind, mark, buf),
         "int32,own-string" => {
             pair::<By, Int32, ProtoStringMap<String>, B>(alloc, case, kind, mark, buf)
         }
@@ -262,5 +268,25 @@ pub fn fields<By, B: Buf>(
             )
         }
         _ => Err(Fault::Form),
+    }
+}
+
+/// What comes of a row on pairs of numbers, texts and bytes; none where its types don't go into the storage.
+pub fn fields<By, B: Buf>(
+    alloc: Global,
+    case: &Case<'_>,
+    kind: Kind,
+    mark: &mut Mark,
+    buf: &mut B,
+) -> Result<Option<Outcome>, Fault> {
+    match case.types {
+        "string,int32" => pair::<By, Str, Int32, B>(alloc, case, kind, mark, buf),
+        "int32,int32" => pair::<By, Int32, Int32, B>(alloc, case, kind, mark, buf),
+        "int32,bool" => pair::<By, Int32, Bool, B>(alloc, case, kind, mark, buf),
+        "int32,uint32" => pair::<By, Int32, Uint32, B>(alloc, case, kind, mark, buf),
+        "int32,string" => pair::<By, Int32, Str, B>(alloc, case, kind, mark, buf),
+        "int32,bytes" => pair::<By, Int32, BytesVec, B>(alloc, case, kind, mark, buf),
+        "int32,shared-bytes" => pair::<By, Int32, BytesBuf, B>(alloc, case, kind, mark, buf),
+        _ => of_own::<By, B>(alloc, case, kind, mark, buf),
     }
 }

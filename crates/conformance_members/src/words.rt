@@ -9,7 +9,7 @@ use buffa_inventory::parcel::Parcel;
 use buffa_inventory::state::State;
 use buffa_inventory::store::Store;
 use buffa_wire::EnumValue;
-use conformance_messages::{Parted, Parts, parts_of};
+use conformance_messages::{Parted, Parts, parted_word};
 use conformance_rows::fault::Fault;
 use conformance_rows::words::Worded;
 use std::alloc::Global;
@@ -29,22 +29,22 @@ impl Worded<Members> for EnumValue<State> {
 }
 
 impl Parted<Members> for Assorted {
-    fn parts(&self, parts: &mut Parts<Members>) -> Result<(), Fault> {
-        parts.maybe(1, &self.data)?;
-        parts.maybe(2, &self.state)?;
-        parts.list(3, self.parts.as_slice())?;
-        parts.list(4, self.past.as_slice())?;
-        parts.list(5, self.coming.as_slice())?;
-        parts.map(6, &self.marks)?;
-        parts.map(7, &self.states)?;
-        parts.value(8, &self.shared)?;
-        parts.kept(&self.rest)
+    fn parts(&self, parts: &mut Parts<Members>) {
+        parts.maybe(1, &self.data);
+        parts.maybe(2, &self.state);
+        parts.list(3, self.parts.as_slice());
+        parts.list(4, self.past.as_slice());
+        parts.list(5, self.coming.as_slice());
+        parts.map(6, &self.marks);
+        parts.map(7, &self.states);
+        parts.value(8, &self.shared);
+        parts.kept(&self.rest);
     }
 }
 
 impl Worded<Members> for Assorted {
     fn word(&self, alloc: Global) -> Result<String, Fault> {
-        parts_of::<Members, _>(alloc, self)?.word()
+        parted_word::<Members, _>(alloc, self)
     }
 
     fn of_word(_alloc: Global, _word: &str) -> Result<Assorted, Fault> {
@@ -53,15 +53,15 @@ impl Worded<Members> for Assorted {
 }
 
 impl Parted<Members> for Depot {
-    fn parts(&self, parts: &mut Parts<Members>) -> Result<(), Fault> {
-        parts.value(1, &self.city)?;
-        parts.list(2, self.parcels.as_slice())
+    fn parts(&self, parts: &mut Parts<Members>) {
+        parts.value(1, &self.city);
+        parts.list(2, self.parcels.as_slice());
     }
 }
 
 impl Worded<Members> for Depot {
     fn word(&self, alloc: Global) -> Result<String, Fault> {
-        parts_of::<Members, _>(alloc, self)?.word()
+        parted_word::<Members, _>(alloc, self)
     }
 
     fn of_word(_alloc: Global, _word: &str) -> Result<Depot, Fault> {
@@ -70,18 +70,18 @@ impl Worded<Members> for Depot {
 }
 
 impl Parted<Members> for Inventory {
-    fn parts(&self, parts: &mut Parts<Members>) -> Result<(), Fault> {
-        parts.value(1, &self.total)?;
-        parts.value(2, &self.note)?;
-        parts.maybe(3, &self.listed)?;
-        parts.map(5, &self.counts)?;
-        parts.kept(&self.rest)
+    fn parts(&self, parts: &mut Parts<Members>) {
+        parts.value(1, &self.total);
+        parts.value(2, &self.note);
+        parts.maybe(3, &self.listed);
+        parts.map(5, &self.counts);
+        parts.kept(&self.rest);
     }
 }
 
 impl Worded<Members> for Inventory {
     fn word(&self, alloc: Global) -> Result<String, Fault> {
-        parts_of::<Members, _>(alloc, self)?.word()
+        parted_word::<Members, _>(alloc, self)
     }
 
     fn of_word(_alloc: Global, _word: &str) -> Result<Inventory, Fault> {
@@ -90,25 +90,25 @@ impl Worded<Members> for Inventory {
 }
 
 impl Parted<Members> for Order {
-    fn parts(&self, parts: &mut Parts<Members>) -> Result<(), Fault> {
-        parts.value(1, &self.id)?;
-        parts.value(2, &self.note)?;
-        parts.maybe(3, &self.gift)?;
-        parts.value(4, &self.state)?;
-        parts.map(5, &self.counts)?;
-        parts.value(6, &self.blob)?;
-        parts.list(7, self.steps.as_slice())?;
-        parts.maybe(8, &self.code)?;
-        parts.maybe(9, &self.stamp)?;
-        parts.map(10, &self.names)?;
-        parts.list(11, self.tags.as_slice())?;
-        parts.maybe(12, &self.floor)
+    fn parts(&self, parts: &mut Parts<Members>) {
+        parts.value(1, &self.id);
+        parts.value(2, &self.note);
+        parts.maybe(3, &self.gift);
+        parts.value(4, &self.state);
+        parts.map(5, &self.counts);
+        parts.value(6, &self.blob);
+        parts.list(7, self.steps.as_slice());
+        parts.maybe(8, &self.code);
+        parts.maybe(9, &self.stamp);
+        parts.map(10, &self.names);
+        parts.list(11, self.tags.as_slice());
+        parts.maybe(12, &self.floor);
     }
 }
 
 impl Worded<Members> for Order {
     fn word(&self, alloc: Global) -> Result<String, Fault> {
-        parts_of::<Members, _>(alloc, self)?.word()
+        parted_word::<Members, _>(alloc, self)
     }
 
     fn of_word(_alloc: Global, _word: &str) -> Result<Order, Fault> {
@@ -117,15 +117,15 @@ impl Worded<Members> for Order {
 }
 
 impl Parted<Members> for Parcel {
-    fn parts(&self, parts: &mut Parts<Members>) -> Result<(), Fault> {
-        parts.value(1, &self.id)?;
-        parts.maybe(2, &self.stock)
+    fn parts(&self, parts: &mut Parts<Members>) {
+        parts.value(1, &self.id);
+        parts.maybe(2, &self.stock);
     }
 }
 
 impl Worded<Members> for Parcel {
     fn word(&self, alloc: Global) -> Result<String, Fault> {
-        parts_of::<Members, _>(alloc, self)?.word()
+        parted_word::<Members, _>(alloc, self)
     }
 
     fn of_word(_alloc: Global, _word: &str) -> Result<Parcel, Fault> {
@@ -134,15 +134,15 @@ impl Worded<Members> for Parcel {
 }
 
 impl Parted<Members> for Store {
-    fn parts(&self, parts: &mut Parts<Members>) -> Result<(), Fault> {
-        parts.value(1, &self.name)?;
-        parts.map(2, &self.shelves)
+    fn parts(&self, parts: &mut Parts<Members>) {
+        parts.value(1, &self.name);
+        parts.map(2, &self.shelves);
     }
 }
 
 impl Worded<Members> for Store {
     fn word(&self, alloc: Global) -> Result<String, Fault> {
-        parts_of::<Members, _>(alloc, self)?.word()
+        parted_word::<Members, _>(alloc, self)
     }
 
     fn of_word(_alloc: Global, _word: &str) -> Result<Store, Fault> {

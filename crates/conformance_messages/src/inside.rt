@@ -1,23 +1,37 @@
-// Messages behind a length, and fields of messages, which leave what follows them.
+// Messages behind a length, which leave what follows them.
 
-use crate::messages::{merged_told, standing};
-use buffa_wire::{Budget, Buf, DecodeContext, DecodeError, Message, Tag};
+use crate::merges::{limits_of, outcome_of, standing};
+use crate::messages::merged_told;
+use buffa_wire::{Buf, DecodeContext, DecodeError, Message};
 use conformance_rows::case::Case;
 use conformance_rows::fault::Fault;
 use conformance_rows::mark::Mark;
-use conformance_rows::outcome::{Outcome, left, told};
+use conformance_rows::outcome::Outcome;
 use conformance_rows::words::Worded;
 use std::alloc::Global;
 
-/// Merges one field, tag and all.
-pub(crate) fn one_field<M: Message>(
+// Merges a length and so many bytes into a message, and says how many bytes are unread.
+fn merged<M: Message, B: Buf>(
     alloc: Global,
     message: &mut M,
-    buf: &mut &[u8],
+    buf: &mut B,
     ctx: DecodeContext<'_>,
-) -> Result<(), DecodeError> {
-    let tag = Tag::decode(buf)?;
-    message.merge_field(alloc, tag, buf, ctx)
+) -> Result<usize, DecodeError> {
+    message.merge_length_delimited::<B>(alloc, buf, ctx)?;
+    Ok(buf.remaining())
+}
+
+// The same, and whether a request for memory was refused.
+fn merging<M: Message, B: Buf>(
+    alloc: Global,
+    mark: &mut Mark,
+    buf: &mut B,
+    message: &mut M,
+    ctx: DecodeContext<'_>,
+) -> (Result<usize, DecodeError>, bool) {
+    mark.begin(alloc);
+    let answer = merged::<M, B>(alloc, message, buf, ctx);
+    (answer, mark.end())
 }
 
 /// What comes of a length and so many bytes that are merged into a message.
@@ -27,20 +41,10 @@ pub fn delimited<By, M: Message + Worded<By>, B: Buf>(
     mark: &mut Mark,
     buf: &mut B,
 ) -> Result<Outcome, Fault> {
-    let mut budget = Budget::new(case.slots()?).with_element_memory(case.units()?);
-    let ctx = DecodeContext::new(case.depth()?, &mut budget);
+    let (mut budget, depth) = limits_of(case)?;
     let mut message = standing::<M>(alloc, case)?;
-    mark.begin(alloc);
-    let answer = message.merge_length_delimited::<B>(alloc, buf, ctx);
-    let refused = mark.end();
-    let unread = if answer.is_ok() { buf.remaining() } else { 0 };
-    let words = merged_told::<By, M>(alloc, case, answer, &message);
-    Outcome::of_words(
-        alloc,
-        told(alloc, answer),
-        words,
-        Ok(String::new(alloc)),
-        refused,
-    )?
-    .with_left(left(alloc, case, &budget, unread), unread)
+    let ctx = DecodeContext::new(depth, &mut budget);
+    let (answer, refused) = merging::<M, B>(alloc, mark, buf, &mut message, ctx);
+    let words = merged_told::<By, M>(alloc, case, answer.is_ok(), &message);
+    outcome_of(alloc, case, answer, words, &budget, refused)
 }

@@ -7,8 +7,10 @@ mod messages;
 mod parts;
 mod passes;
 mod slots;
+mod stands;
 
 pub use inside::delimited;
-pub use merges::parted;
+pub use merges::standing;
 pub use messages::message;
-pub use parts::{Parted, Parts, parts_of};
+pub use parts::{Parted, Parts, parted_word};
+pub use stands::{merge, parted};

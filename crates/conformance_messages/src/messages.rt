@@ -1,68 +1,28 @@
 // Calls on messages.
 
-use crate::inside::one_field;
+use crate::merges::{limits_of, merging, outcome_of, standing};
 use crate::passes::of_map;
-use crate::slots::{sized, sized_told, slots_told, with_slots};
-use buffa_wire::{Budget, Buf, DecodeContext, DecodeError, EncodeError, Message};
+use crate::slots::{sized, sized_outcome, with_slots};
+use buffa_wire::{DecodeContext, EncodeError, Message};
 use conformance_rows::calls::Kind;
 use conformance_rows::case::Case;
 use conformance_rows::fault::Fault;
 use conformance_rows::mark::Mark;
-use conformance_rows::outcome::{Outcome, count_told, got, left, text_told, told, written};
+use conformance_rows::outcome::{Outcome, got, text_told, written};
 use conformance_rows::words::Worded;
 use std::alloc::Global;
-
-/// The message that the bytes before are read as.
-pub(crate) fn standing<M: Message>(alloc: Global, case: &Case<'_>) -> Result<M, Fault> {
-    let bytes = hex::decode(alloc, case.before())?;
-    let mut message = M::blank(alloc);
-    match message.merge_from_slice(alloc, bytes.as_slice()) {
-        Ok(()) => Ok(message),
-        Err(_) => Err(Fault::Form),
-    }
-}
 
 /// The word of a message; after a refusal, when it is some value of its type, only where the row says `state=told`.
 pub(crate) fn merged_told<By, M: Worded<By>>(
     alloc: Global,
     case: &Case<'_>,
-    answer: Result<(), DecodeError>,
+    is_ok: bool,
     message: &M,
 ) -> Result<String, Fault> {
-    if answer.is_ok() || case.says("state", "told") {
+    if is_ok || case.says("state", "told") {
         return message.word(alloc);
     }
     Ok(String::new(alloc))
-}
-
-// Merges all bytes; under budgets of their own, where the row says `how=alone`.
-fn all_merged<M: Message>(
-    alloc: Global,
-    case: &Case<'_>,
-    message: &mut M,
-    buf: &mut &[u8],
-    ctx: DecodeContext<'_>,
-) -> Result<(), DecodeError> {
-    if case.says("how", "alone") {
-        message.merge_from_slice(alloc, buf)
-    } else {
-        message.merge(alloc, buf, ctx)
-    }
-}
-
-// Merges bytes: all of them, or one field.
-fn merged<M: Message>(
-    alloc: Global,
-    case: &Case<'_>,
-    message: &mut M,
-    buf: &mut &[u8],
-    ctx: DecodeContext<'_>,
-) -> Result<(), DecodeError> {
-    if case.call == "merge-field" {
-        one_field::<M>(alloc, message, buf, ctx)
-    } else {
-        all_merged::<M>(alloc, case, message, buf, ctx)
-    }
 }
 
 // Bytes that are merged into a message, and what it is then.
@@ -72,24 +32,12 @@ fn merge<By, M: Message + Worded<By>>(
     mark: &mut Mark,
     bytes: &[u8],
 ) -> Result<Outcome, Fault> {
-    let mut budget = Budget::new(case.slots()?).with_element_memory(case.units()?);
-    let ctx = DecodeContext::new(case.depth()?, &mut budget);
+    let (mut budget, depth) = limits_of(case)?;
     let mut message = standing::<M>(alloc, case)?;
-    let mut buf = bytes;
-    mark.begin(alloc);
-    let answer = merged::<M>(alloc, case, &mut message, &mut buf, ctx);
-    let refused = mark.end();
-    let is_left = answer.is_ok() && case.call == "merge-field";
-    let unread = if is_left { buf.remaining() } else { 0 };
-    let words = merged_told::<By, M>(alloc, case, answer, &message);
-    Outcome::of_words(
-        alloc,
-        told(alloc, answer),
-        words,
-        Ok(String::new(alloc)),
-        refused,
-    )?
-    .with_left(left(alloc, case, &budget, unread), unread)
+    let ctx = DecodeContext::new(depth, &mut budget);
+    let (answer, refused) = merging::<M>(alloc, case, mark, bytes, &mut message, ctx);
+    let words = merged_told::<By, M>(alloc, case, answer.is_ok(), &message);
+    outcome_of(alloc, case, answer, words, &budget, refused)
 }
 
 // A text that was made, or none.
@@ -102,10 +50,15 @@ fn made_told(alloc: Global, made: &Result<Vec<u8>, EncodeError>) -> Result<Strin
 }
 
 // The text of a message, by both passes.
+fn encoded<M: Message>(alloc: Global, message: &M) -> Result<Vec<u8>, EncodeError> {
+    message.try_encode_to_vec(alloc)
+}
+
+// The text of a message.
 fn encode<M: Message>(alloc: Global, case: &Case<'_>, mark: &mut Mark) -> Result<Outcome, Fault> {
     let message = standing::<M>(alloc, case)?;
     mark.begin(alloc);
-    let made = message.try_encode_to_vec(alloc);
+    let made = encoded::<M>(alloc, &message);
     let refused = mark.end();
     let text = made_told(alloc, &made);
     Outcome::of_words(
@@ -124,9 +77,7 @@ fn size<M: Message>(alloc: Global, case: &Case<'_>, mark: &mut Mark) -> Result<O
     mark.begin(alloc);
     let made = sized::<M>(&message, &mut cache);
     let refused = mark.end();
-    let slots = slots_told(alloc, case, &mut cache)?;
-    let answer = sized_told(alloc, case, made, slots.as_str());
-    Outcome::of_words(alloc, answer, count_told(alloc, made), Ok(slots), refused)
+    sized_outcome(alloc, case, &mut cache, made, refused)
 }
 
 // A message that is cleared.

@@ -16,13 +16,15 @@ type Part = (u32, String);
 pub struct Parts<By> {
     alloc: Global,
     all: Vec<Part>,
+    // Why a member isn't told.
+    fault: Option<Fault>,
     by: PhantomData<By>,
 }
 
 /// A message whose members are told as words.
 pub trait Parted<By> {
     /// Puts the word of each member behind the others.
-    fn parts(&self, parts: &mut Parts<By>) -> Result<(), Fault>;
+    fn parts(&self, parts: &mut Parts<By>);
 }
 
 /// The words of a message's members.
@@ -30,16 +32,35 @@ pub fn parts_of<By, M: Parted<By>>(alloc: Global, message: &M) -> Result<Parts<B
     let mut parts = Parts {
         alloc,
         all: Vec::new(alloc),
+        fault: None,
         by: PhantomData,
     };
-    message.parts(&mut parts)?;
-    Ok(parts)
+    message.parts(&mut parts);
+    match parts.fault {
+        None => Ok(parts),
+        Some(fault) => Err(fault),
+    }
 }
 
-// Words, and one more behind a mark that stands between them.
-fn with_word(alloc: Global, words: &str, mark: &str, word: &str) -> Result<String, Fault> {
-    let mark = if words.is_empty() { "" } else { mark };
-    Ok(format!(in alloc; "{words}{mark}{word}")?)
+/// The word of a message by its members.
+pub fn parted_word<By, M: Parted<By>>(alloc: Global, message: &M) -> Result<String, Fault> {
+    let parts = parts_of::<By, M>(alloc, message)?;
+    parts.word()
+}
+
+// Words, and one more behind a comma.
+fn with_word(alloc: Global, words: &str, word: &str) -> Result<String, Fault> {
+    let comma = if words.is_empty() { "" } else { "," };
+    Ok(format!(in alloc; "{words}{comma}{word}")?)
+}
+
+// The words of values.
+fn words_of<By, V: Worded<By>>(alloc: Global, values: &[V]) -> Result<Vec<String>, Fault> {
+    let mut words = Vec::new(alloc);
+    for value in values {
+        words.push(value.word(alloc)?)?;
+    }
+    Ok(words)
 }
 
 // The word of a pair.
@@ -66,39 +87,85 @@ fn pair_words<By, K: MapKey + Hash + Worded<By>, V: Worded<By>>(
     Ok(pairs)
 }
 
+// Whether a member has the same word twice, or is that of a number.
+fn is_same(part: &Part, another: &Part, number: u32) -> bool {
+    part.0 == number || part.1.as_str() == another.1.as_str()
+}
+
+// The words behind one another, with a comma between them.
+fn joined(alloc: Global, words: &[String]) -> Result<String, Fault> {
+    let mut all = String::new(alloc);
+    for word in words {
+        all = with_word(alloc, all.as_str(), word.as_str())?;
+    }
+    Ok(all)
+}
+
+// Some words between two marks, with a comma between them.
+fn between(alloc: Global, front: &str, words: &[String], back: &str) -> Result<String, Fault> {
+    let words = joined(alloc, words)?;
+    Ok(format!(in alloc; "{front}{words}{back}")?)
+}
+
+// The word of a value, or `none`.
+fn maybe_word<By, V: Worded<By>>(alloc: Global, value: &Option<V>) -> Result<String, Fault> {
+    match value {
+        Some(value) => value.word(alloc),
+        None => Ok(String::from_str(alloc, "none")?),
+    }
+}
+
+// The word of values.
+fn list_word<By, V: Worded<By>>(alloc: Global, values: &[V]) -> Result<String, Fault> {
+    let words = words_of::<By, V>(alloc, values)?;
+    between(alloc, "[", words.as_slice(), "]")
+}
+
+// The word of a map.
+fn map_word<By, K: MapKey + Hash + Worded<By>, V: Worded<By>>(
+    alloc: Global,
+    map: &Map<K, V>,
+) -> Result<String, Fault> {
+    let pairs = pair_words::<By, K, V>(alloc, map)?;
+    between(alloc, "{", pairs.as_slice(), "}")
+}
+
+// Puts a part behind others; whether there was memory.
+fn is_put(all: &mut Vec<Part>, part: Part) -> bool {
+    all.push(part).is_ok()
+}
+
 impl<By> Parts<By> {
-    // One more.
-    fn push(&mut self, number: u32, word: String) -> Result<(), Fault> {
-        self.all.push((number, word))?;
-        Ok(())
-    }
-
-    /// A value.
-    pub fn value<V: Worded<By>>(&mut self, number: u32, value: &V) -> Result<(), Fault> {
-        let word = value.word(self.alloc)?;
-        self.push(number, word)
-    }
-
-    /// A value, or `none`.
-    pub fn maybe<V: Worded<By>>(&mut self, number: u32, value: &Option<V>) -> Result<(), Fault> {
-        match value {
-            Some(value) => self.value::<V>(number, value),
-            None => {
-                let word = String::from_str(self.alloc, "none")?;
-                self.push(number, word)
+    // One more, or the fault that stands in its place.
+    fn push(&mut self, number: u32, word: Result<String, Fault>) {
+        match word {
+            Ok(word) => {
+                if !is_put(&mut self.all, (number, word)) {
+                    self.fault = Some(Fault::Memory);
+                }
+            }
+            Err(fault) => {
+                self.fault = Some(fault);
             }
         }
     }
 
+    /// A value.
+    pub fn value<V: Worded<By>>(&mut self, number: u32, value: &V) {
+        let word = value.word(self.alloc);
+        self.push(number, word);
+    }
+
+    /// A value, or `none`.
+    pub fn maybe<V: Worded<By>>(&mut self, number: u32, value: &Option<V>) {
+        let word = maybe_word::<By, V>(self.alloc, value);
+        self.push(number, word);
+    }
+
     /// Values between square brackets.
-    pub fn list<V: Worded<By>>(&mut self, number: u32, values: &[V]) -> Result<(), Fault> {
-        let alloc = self.alloc;
-        let mut words = String::new(alloc);
-        for value in values {
-            let word = value.word(alloc)?;
-            words = with_word(alloc, words.as_str(), ",", word.as_str())?;
-        }
-        self.push(number, format!(in alloc; "[{words}]")?)
+    pub fn list<V: Worded<By>>(&mut self, number: u32, values: &[V]) {
+        let word = list_word::<By, V>(self.alloc, values);
+        self.push(number, word);
     }
 
     /// The pairs of a map between braces, in the order of their words.
@@ -106,20 +173,15 @@ impl<By> Parts<By> {
         &mut self,
         number: u32,
         map: &Map<K, V>,
-    ) -> Result<(), Fault> {
-        let alloc = self.alloc;
-        let pairs = pair_words::<By, K, V>(alloc, map)?;
-        let mut words = String::new(alloc);
-        for pair in pairs.iter() {
-            words = with_word(alloc, words.as_str(), ",", pair.as_str())?;
-        }
-        self.push(number, format!(in alloc; "{{{words}}}")?)
+    ) {
+        let word = map_word::<By, K, V>(self.alloc, map);
+        self.push(number, word);
     }
 
     /// What is kept, in hexadecimal.
-    pub fn kept(&mut self, fields: &UnknownFields) -> Result<(), Fault> {
-        let word = records_word(self.alloc, fields)?;
-        self.push(0, word)
+    pub fn kept(&mut self, fields: &UnknownFields) {
+        let word = records_word(self.alloc, fields);
+        self.push(0, word);
     }
 
     /// The word of the message: those of its members between parentheses.
@@ -137,11 +199,9 @@ impl<By> Parts<By> {
     pub fn is_same_but(&self, other: &Parts<By>, number: u32) -> bool {
         let mut others = other.all.iter();
         for part in self.all.iter() {
-            let Some(another) = others.next() else {
-                return false;
-            };
-            if part.0 != number && part.1.as_str() != another.1.as_str() {
-                return false;
+            match others.next() {
+                Some(another) if is_same(part, another, number) => {}
+                _ => return false,
             }
         }
         true

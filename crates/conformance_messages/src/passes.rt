@@ -5,7 +5,7 @@ ghost use Rattle.buffa_wire.specs.Number.{IsNumber};
 ghost use Rattle.buffa_wire.specs.Passes.{IsNext};
 ghost use Rattle.buffa_map.specs.MessageField.{IsFieldSized, field_slots};
 
-use crate::slots::{sized_told, slots_told, with_slots, with_slots_behind};
+use crate::slots::{sized_outcome, with_slots, with_slots_behind};
 use buffa_map::map_codec::{
     Int32, Map, MapCodec, MapStorage, Msg, StableWalk, message_field_len, message_field_len_by,
     read_map_field, write_message_field, write_message_field_by,
@@ -163,12 +163,42 @@ where
     mark.begin(alloc);
     let size = first_pass::<KC, M, C>(map, number, &mut cache, by_function);
     let refused = mark.end();
-    let slots = slots_told(alloc, case, &mut cache)?;
-    let answer = sized_told(alloc, case, size, slots.as_str());
-    Outcome::of_words(alloc, answer, count_told(alloc, size), Ok(slots), refused)
+    sized_outcome(alloc, case, &mut cache, size, refused)
 }
 
-// The map field that a map of messages is sized and written as.
+// What comes of a size and a text.
+fn written_outcome(
+    alloc: Global,
+    size: Result<u64, EncodeError>,
+    text: &[u8],
+    refused: bool,
+) -> Result<Outcome, Fault> {
+    let words = count_told(alloc, size);
+    let text = text_told(alloc, text);
+    Outcome::of_words(alloc, written(alloc, size), words, text, refused)
+}
+
+// The length and the text of a map of messages.
+fn writing<
+    'a,
+    KC: MapCodec,
+    M: Message + 'a,
+    C: StableWalk<'a> + MapStorage<Key = KC::Value, Value = M>,
+>(alloc: Global, case: &Case<'_>, mark: &mut Mark, map: &'a C) -> Result<Outcome, Fault>
+where
+    KC::Value: 'a,
+{
+    let number = case.field_number()?;
+    let by_function = case.says("by", "functions");
+    let mut cache = with_slots_behind(alloc, case)?;
+    let mut text = Vec::new(alloc);
+    mark.begin(alloc);
+    let size = both_passes::<KC, M, C>(map, number, &mut cache, &mut text, by_function);
+    let refused = mark.end();
+    written_outcome(alloc, size, text.as_slice(), refused)
+}
+
+// What comes of a row on a map of messages, by its call.
 fn field<
     'a,
     KC: MapCodec,
@@ -181,16 +211,7 @@ where
     if case.call == "size-messages" {
         return sizing::<KC, M, C>(alloc, case, mark, map);
     }
-    let number = case.field_number()?;
-    let by_function = case.says("by", "functions");
-    let mut cache = with_slots_behind(alloc, case)?;
-    let mut text = Vec::new(alloc);
-    mark.begin(alloc);
-    let size = both_passes::<KC, M, C>(map, number, &mut cache, &mut text, by_function);
-    let refused = mark.end();
-    let words = count_told(alloc, size);
-    let text = text_told(alloc, text.as_slice());
-    Outcome::of_words(alloc, written(alloc, size), words, text, refused)
+    writing::<KC, M, C>(alloc, case, mark, map)
 }
 
 // What comes of a row on a map of messages in a `BTreeMap`.

@@ -5,7 +5,7 @@ ghost use Rattle.std.specs.Prelude.{◌≡◌, ◌+◌, length, IfOk, OnOk};
 use buffa_wire::{EncodeError, Message, SizeCache};
 use conformance_rows::case::{Case, or_dash};
 use conformance_rows::fault::Fault;
-use conformance_rows::outcome::written;
+use conformance_rows::outcome::{Outcome, count_told, written};
 use std::alloc::Global;
 
 // What a slot holds that was there before a call.
@@ -82,12 +82,8 @@ fn slots_word(alloc: Global, cache: &mut SizeCache) -> Result<String, Fault>
     Ok(words)
 }
 
-/// The slots of a cache of which none was consumed, where the row tells them.
-pub(crate) fn slots_told(
-    alloc: Global,
-    case: &Case<'_>,
-    cache: &mut SizeCache,
-) -> Result<String, Fault>
+// The slots of a cache of which none was consumed, where the row tells them.
+fn slots_told(alloc: Global, case: &Case<'_>, cache: &mut SizeCache) -> Result<String, Fault>
     requires { cache.old.next ≡ 0 }
 {
     if !case.says("cache", "told") {
@@ -97,19 +93,27 @@ pub(crate) fn slots_told(
     Ok(format!(in alloc; "cache {}", or_dash(words.as_str()))?)
 }
 
+// Whether a word is that of a slot that was there before.
+fn is_before(word: Option<&str>) -> bool {
+    match word {
+        Some(word) => word == "7",
+        None => false,
+    }
+}
+
 // Whether the first slots of those that are told are the ones that were there before.
 fn first_stand(case: &Case<'_>, slots: &str) -> Result<bool, Fault> {
     let mut words = slots.split(' ').skip(1);
     for _ in 0..case.reserved()? {
-        if words.next() != Some("7") {
+        if !is_before(words.next()) {
             return Ok(false);
         }
     }
     Ok(true)
 }
 
-/// The word of a size's answer; another one where the slots that were there before don't come first.
-pub(crate) fn sized_told(
+// The word of a size's answer; another one where the slots that were there before don't come first.
+fn sized_told(
     alloc: Global,
     case: &Case<'_>,
     made: Result<u64, EncodeError>,
@@ -119,4 +123,19 @@ pub(crate) fn sized_told(
         return Ok(String::from_str(alloc, "slots are gone")?);
     }
     written(alloc, made)
+}
+
+/// What comes of a size, with the slots of a cache of which none was consumed, where the row tells them.
+pub(crate) fn sized_outcome(
+    alloc: Global,
+    case: &Case<'_>,
+    cache: &mut SizeCache,
+    made: Result<u64, EncodeError>,
+    refused: bool,
+) -> Result<Outcome, Fault>
+    requires { cache.old.next ≡ 0 }
+{
+    let slots = slots_told(alloc, case, cache)?;
+    let answer = sized_told(alloc, case, made, slots.as_str());
+    Outcome::of_words(alloc, answer, count_told(alloc, made), Ok(slots), refused)
 }

@@ -7,14 +7,13 @@ use buffa_samples::keep::BudgetMsg;
 use buffa_samples::tree::Tree;
 use buffa_samples::two::TestMsg;
 use buffa_wire::{Buf, Message};
-use conformance_maps::ByFunction;
+use conformance_maps::{ByFunction, stored};
 use conformance_rows::calls::Kind;
 use conformance_rows::case::Case;
 use conformance_rows::fault::Fault;
 use conformance_rows::mark::Mark;
 use conformance_rows::outcome::Outcome;
 use conformance_rows::words::Worded;
-use conformance_stores::stored;
 use conformance_words::Samples;
 use std::alloc::Global;
 

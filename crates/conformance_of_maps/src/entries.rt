@@ -10,14 +10,13 @@ use buffa_samples::tree::Tree;
 use buffa_samples::two::TestMsg;
 use buffa_samples::word::Word;
 use buffa_wire::{Buf, Message};
-use conformance_maps::{Entries, Runs, pair};
+use conformance_maps::{Entries, Runs, hashed, ordered, pair, stored};
 use conformance_rows::calls::Kind;
 use conformance_rows::case::Case;
 use conformance_rows::fault::Fault;
 use conformance_rows::mark::Mark;
 use conformance_rows::outcome::Outcome;
 use conformance_rows::words::Worded;
-use conformance_stores::{hashed, ordered, stored};
 use conformance_words::Samples;
 use std::alloc::Global;
 

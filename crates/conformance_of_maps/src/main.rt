@@ -6,15 +6,15 @@ mod entries;
 mod payloads;
 mod written;
 
+use conformance_maps::kinds;
 use conformance_rows::any_buf::AnyBuf;
 use conformance_rows::calls::{Group, Kind, group_of};
 use conformance_rows::case::Case;
 use conformance_rows::fault::Fault;
 use conformance_rows::mark::Mark;
 use conformance_rows::outcome::Outcome;
-use conformance_runs::{Calls, run_rows};
+use conformance_rows::runs::{Calls, run_rows};
 use conformance_words::Samples;
-use conformance_writes::kinds;
 use entries::fields;
 use payloads::{spells, values};
 use std::alloc::Global;

@@ -3,14 +3,13 @@
 use buffa_map::map_codec::{ClosedEnum, Int32, OpenEnum, ProtoStringMap};
 use buffa_samples::hues::Old;
 use buffa_samples::word::Word;
+use conformance_maps::{Written, hashed, ordered, written_pair};
 use conformance_rows::calls::Kind;
 use conformance_rows::case::Case;
 use conformance_rows::fault::Fault;
 use conformance_rows::mark::Mark;
 use conformance_rows::outcome::Outcome;
-use conformance_stores::{hashed, ordered};
 use conformance_words::Samples;
-use conformance_writes::{Written, pair};
 use std::alloc::Global;
 
 /// What comes of a row that sizes or writes a map in this storage; none where its types don't go there.
@@ -21,14 +20,14 @@ pub fn writes(
     mark: &mut Mark,
 ) -> Result<Option<Outcome>, Fault> {
     match case.types {
-        "int32,open" => pair::<Samples, Int32, OpenEnum<Old>>(alloc, case, kind, mark),
+        "int32,open" => written_pair::<Samples, Int32, OpenEnum<Old>>(alloc, case, kind, mark),
         "word,int32" => {
             hashed::<Samples, ProtoStringMap<Word>, Int32, _>(alloc, case, kind, mark, Written)
         }
         "old,int32" => {
             ordered::<Samples, ClosedEnum<Old>, Int32, _>(alloc, case, kind, mark, Written)
         }
-        "int32,old" => pair::<Samples, Int32, ClosedEnum<Old>>(alloc, case, kind, mark),
-        _ => conformance_writes::writes::<Samples>(alloc, case, kind, mark),
+        "int32,old" => written_pair::<Samples, Int32, ClosedEnum<Old>>(alloc, case, kind, mark),
+        _ => conformance_maps::writes::<Samples>(alloc, case, kind, mark),
     }
 }

@@ -10,7 +10,7 @@ use conformance_rows::case::Case;
 use conformance_rows::fault::Fault;
 use conformance_rows::mark::Mark;
 use conformance_rows::outcome::Outcome;
-use conformance_runs::{Calls, run_rows};
+use conformance_rows::runs::{Calls, run_rows};
 use samples::{message, values};
 use std::alloc::Global;
 use std::process::ExitCode;

@@ -3,9 +3,7 @@
 ghost use Rattle.std.specs.Prelude.{◌≡◌, ◌<◌, ◌^◌, length, IfSome};
 ghost use Rattle.buffa_bytes.specs.Pieces.{joined};
 
-use crate::fault::Fault;
 use buffa_wire::Pieces;
-use std::alloc::Global;
 
 // The bytes of all slices, where they are fewer than 2^64.
 #[tactic(auto, using(buffa_bytes::proofs::PieceLemmas::joined_step))]
@@ -23,14 +21,4 @@ fn total(pieces: &[&[u8]]) -> Option<usize>
 pub fn pieces_of<'a>(pieces: &'a [&'a [u8]]) -> Option<Pieces<'a>> {
     total(pieces)?;
     Some(Pieces::new(pieces))
-}
-
-/// The bytes one by one, with an empty slice before each.
-pub fn single_bytes<'a>(alloc: Global, bytes: &'a [u8]) -> Result<Vec<&'a [u8]>, Fault> {
-    let mut pieces = Vec::new(alloc);
-    for piece in bytes.chunks(1) {
-        pieces.push(&bytes[..0])?;
-        pieces.push(piece)?;
-    }
-    Ok(pieces)
 }

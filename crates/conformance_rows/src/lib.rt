@@ -1,17 +1,23 @@
-//! Rows of tables, and what comes of a call, in words.
+//! Rows of tables on the library: what comes of a call in words, values as words, and buffers.
 //!
 //! A row is a [`case::Case`], and what its call does an [`outcome::Outcome`]; [`words`] has values as words, [`calls`]
-//! what a call is given, and [`mark`] the lines before and after a call, between which memory may be refused;
-//! [`repeated`] reads lines in which a text stands many times over, and [`any_buf`] is the one type of buffers.
+//! what a call is given, and [`mark`] the lines before and after a call, between which memory may be refused. [`any_buf`] is
+//! the one type of buffers, and [`runs`] runs rows, each of whose calls reads one.
 #![tactic(auto)]
 
 pub mod any_buf;
-pub mod calls;
-pub mod case;
-pub mod cuts;
-pub mod fault;
-pub mod mark;
+mod cuts;
 pub mod outcome;
-pub mod repeated;
-pub mod tally;
+pub mod runs;
 pub mod words;
+
+use buffa_wire::{DEFAULT_ELEMENT_MEMORY_LIMIT, DEFAULT_UNKNOWN_FIELD_LIMIT, MAX_FIELD_NUMBER};
+use conformance_tables::case::{MAX_NUMBER, SLOTS, UNITS};
+pub use conformance_tables::{calls, case, fault, mark, tally};
+
+// What a row may say, and what it means where it says nothing, is what the library has.
+const _: () = prove!(MAX_NUMBER == MAX_FIELD_NUMBER);
+
+const _: () = prove!(SLOTS == DEFAULT_UNKNOWN_FIELD_LIMIT as u64);
+
+const _: () = prove!(UNITS == DEFAULT_ELEMENT_MEMORY_LIMIT as u64);

@@ -1,4 +1,6 @@
 use Rattle.std.proofs.Common.{sym, ap, ◌∙◌, map, take, ◌++◌, subst}
+use Rattle.std.proofs.lemmas.List.{take_all}
+use Rattle.std.proofs.lemmas.Result.{err_from_is_err_and}
 use Rattle.buffa_codec.specs.Reading.{Each, joined}
 use Rattle.buffa_codec.proofs.Lists.{means_more, Each-append, joined-append}
 use Rattle.buffa_codec.proofs.packed.packed_bytes.Goals as goal
@@ -14,3 +16,27 @@ loop-v-preserved g c =
       written = c.in_ok-encode_packed.ensures.ok ∙ ap (λ l. l ++ text (m c.v-item.result)) c.loop-v.invariant.written ∙ sym (ap (joined text) more ∙ joined-append text front (m c.v-item.result));
       fit = subst (Each g.C.SingularCodec.fits) (sym more) (Each-append g.C.SingularCodec.fits front (m c.v-item.result) c.loop-v.invariant.fit c.in_ok-encode_packed.ensures.fits);
     }
+
+pub returns-in_err-encode_packed-clause-bytes : goal.returns-in_err-encode_packed-clause-bytes
+returns-in_err-encode_packed-clause-bytes g c =
+    let p = err_from_is_err_and c.from_residual.result c.from_residual.ensures.1 in
+    rw p.1 tt
+
+pub returns-in_err-encode_packed-clause-refused : goal.returns-in_err-encode_packed-clause-refused
+returns-in_err-encode_packed-clause-refused g c =
+    let p = err_from_is_err_and c.from_residual.result c.from_residual.ensures.1 in
+    rw (p.1, p.2) c.in_err-encode_packed.ensures.refused
+
+pub returns-in_err-encode_packed-clause-fits : goal.returns-in_err-encode_packed-clause-fits
+returns-in_err-encode_packed-clause-fits g c =
+    let p = err_from_is_err_and c.from_residual.result c.from_residual.ensures.1 in
+    rw p.1 tt
+
+pub returns-clause-bytes : goal.returns-clause-bytes
+returns-clause-bytes g c =
+    c.loop-v.invariant.written
+    ∙ ap (λ l. joined g.C.PackableCodec.packed_text (map g.C.Value.Blank.meaning l)) (take_all c.loop-v.v-index c.args.values.now c.loop-v-test.false)
+
+pub returns-clause-fits : goal.returns-clause-fits
+returns-clause-fits g c =
+    subst (λ l. Each g.C.SingularCodec.fits (map g.C.Value.Blank.meaning l)) (take_all c.loop-v.v-index c.args.values.now c.loop-v-test.false) c.loop-v.invariant.fit

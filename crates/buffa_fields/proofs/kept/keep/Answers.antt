@@ -21,6 +21,7 @@ returns-in_err-field c = (
   still c.from_residual.result c.args.fields.now.records,
   let p = err_from_is_err_and c.from_residual.result c.from_residual.ensures.1 in
       keep_asks c.args.ctx.depth c.unknown_left.result c.args.tag.number c.args.tag.wire_type c.args.buf.now.now c.args.fields.now.records c.args.ctx.budget.now c.unknown_left.ensures c.from_residual.result _ _ p.1 p.2 c.in_err-field.ensures.full,
+  still c.from_residual.result c.args.ctx.budget.now,
 )
 
 pub returns-in-Err : goal.returns-in-Err
@@ -30,6 +31,7 @@ returns-in-Err c = (
       (datum_of c.in_ok-field.field.payload) c.in_ok-field.left c.read_alone.new.buf.now c.read_alone.new.buf.now c.in_ok-field.ensures.reads,
   (let e = c.in-Err.ensures.err in cc),
   λ full. keep_asks_put c.args.ctx.depth c.unknown_left.result c.args.tag.number c.args.tag.wire_type c.args.buf.now.now c.args.fields.now.records c.args.ctx.budget.now c.unknown_left.ensures (datum_of c.in_ok-field.field.payload, c.in_ok-field.left, c.read_alone.new.buf.now) c.in_ok-field.ensures.reads,
+  refl,
 )
 
 pub returns : goal.returns
@@ -39,6 +41,7 @@ returns c =
       keep_ok c.args.ctx.depth c.unknown_left.result c.args.tag.number c.args.tag.wire_type c.args.buf.now.now c.args.fields.now.records c.args.ctx.budget.now c.unknown_left.ensures
           (datum_of c.in_ok-field.field.payload) c.in_ok-field.left c.push.new.self.records _ c.read_alone.new.buf.now c.in_ok-field.ensures.reads is
           (ap (λ z. z.unknown) c.with_element_memory.ensures ∙ c.new.ensures.unknown) (ap (λ z. z.memory) c.with_element_memory.ensures ∙ c.memory_left.ensures),
+      tt,
       tt,
       tt,
     )

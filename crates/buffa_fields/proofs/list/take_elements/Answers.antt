@@ -1,4 +1,4 @@
-use Rattle.std.proofs.Common.{◌≡◌, ◌∙◌, inl, inr, IsOk, ap, map, sym}
+use Rattle.std.proofs.Common.{◌≡◌, ◌∙◌, inl, inr, IsOk, ap, map, refl, sym}
 use Rattle.buffa_bytes.proofs.StepLemmas.{agree_err, agree_ok}
 use Rattle.buffa_bytes.specs.Content.{content_at}
 use Rattle.buffa_bytes.specs.declared.error.DecodeError.TheVariants.{WireTypeMismatch}
@@ -82,4 +82,4 @@ returns-in-Err-check_wire_type-clause-wire g c = λ e told.
     let n = c.args.tag.number in
     let w = c.args.tag.wire_type in
     let other = agree_err (check_wire n LengthDelimited w) c.in-Err-check_wire_type.field-0 (check_sound n LengthDelimited w) c.in-Err-check_wire_type.ensures in
-    sym c.in-Err.ensures ∙ (ap (λ z. check_wire n z w) c.WIRE_TYPE.ensures ∙ other_wire n g.C.MapValueDecode.WIRE_TYPE w e told other.0)
+    (sym c.in-Err.ensures ∙ (ap (λ z. check_wire n z w) c.WIRE_TYPE.ensures ∙ other_wire n g.C.MapValueDecode.WIRE_TYPE w e told other.0), refl, refl)

@@ -12,4 +12,4 @@ returns g c =
     let new = c.visit.new.visitor in
     let k = sizes g.M.Fields.layout c.args.message.now 0 [] new.cache.ghost_name name first new.cache.now new.total
     (c.visit.ensures.seen z (subst (λ r. IsCounted name r first z) (sym c.requires) (counts_none 0 [] name first))) in
-    record { same_reference = k.0; sized = k.1 }
+    record { same_reference = k.0; sized = k.1; always = k.2 }

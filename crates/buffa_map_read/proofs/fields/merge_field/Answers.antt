@@ -53,3 +53,31 @@ returns-after-status-clause-ok g c =
     elim c.match-status.branch [ in-Known w ↦ ap is_known w.in-Known.is ∙ sym w.parts-is | in_default w ↦ not_known c.in_ok-status.status w.in_default.not-Known ∙ sym w.parts-is ] in
     good_value _ _ _ _ _ _ _ _ _ c.in_ok-tag.ensures.reads (λ e. c.if-field_number-eq1.false (c.field_number.ensures ∙ e)) (sym c.field_number-else-field_number-eq1.ensures ∙ c.if-field_number-eq2.true)
     c.WIRE_TYPE-then-field_number-eq2.result wire c.in_ok-check_wire_type-2.ensures (λ plain. g.met.W.MergeValue.free plain c.args.ctx.depth) c.in_ok-status.status _ _ _ _ _ c.in_ok-status.ensures.ok known c.in_ok-status.ensures.spends
+
+-- ---- what is past the buffer stays
+pub returns-in_err-tag-clause-kept : goal.returns-in_err-tag-clause-kept
+returns-in_err-tag-clause-kept g c = c.in_err-tag.ensures.kept
+
+pub returns-in_err-check_wire_type-clause-kept : goal.returns-in_err-check_wire_type-clause-kept
+returns-in_err-check_wire_type-clause-kept g c = c.in_ok-tag.ensures.kept
+
+pub returns-in_err-check_wire_type-2-clause-kept : goal.returns-in_err-check_wire_type-2-clause-kept
+returns-in_err-check_wire_type-2-clause-kept g c = c.in_ok-tag.ensures.kept
+
+pub returns-in_err-merge-clause-kept : goal.returns-in_err-merge-clause-kept
+returns-in_err-merge-clause-kept g c = c.in_err-merge.ensures.kept ∙ c.in_ok-tag.ensures.kept
+
+pub returns-in_ok-merge-clause-kept : goal.returns-in_ok-merge-clause-kept
+returns-in_ok-merge-clause-kept g c = c.in_ok-merge.ensures.kept ∙ c.in_ok-tag.ensures.kept
+
+pub returns-in_err-status-clause-kept : goal.returns-in_err-status-clause-kept
+returns-in_err-status-clause-kept g c = c.in_err-status.ensures.kept ∙ c.in_ok-tag.ensures.kept
+
+pub returns-after-status-clause-kept : goal.returns-after-status-clause-kept
+returns-after-status-clause-kept g c = c.in_ok-status.ensures.kept ∙ c.in_ok-tag.ensures.kept
+
+pub returns-in_err-skip_field_depth-clause-kept : goal.returns-in_err-skip_field_depth-clause-kept
+returns-in_err-skip_field_depth-clause-kept g c = c.in_err-skip_field_depth.ensures.kept ∙ c.in_ok-tag.ensures.kept
+
+pub returns-in_ok-skip_field_depth-clause-kept : goal.returns-in_ok-skip_field_depth-clause-kept
+returns-in_ok-skip_field_depth-clause-kept g c = c.in_ok-skip_field_depth.ensures.kept ∙ c.in_ok-tag.ensures.kept

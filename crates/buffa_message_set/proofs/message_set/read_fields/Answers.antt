@@ -39,3 +39,23 @@ pub returns-in_err-merge_field-clause-full : goal.returns-in_err-merge_field-cla
 returns-in_err-merge_field-clause-full g c =
     let p = err_from_is_err_and c.from_residual-in_err-merge_field.result c.from_residual-in_err-merge_field.ensures.1 in
     rw (p.1, p.2) (λ k. found_message _ _ _ _ c.loop-tag.invariant.reached _ _ _ c.in_ok-tag.ensures.reads (c.in_err-merge_field.ensures.full k))
+
+pub returns-in_err-tag-clause-kept : goal.returns-in_err-tag-clause-kept
+returns-in_err-tag-clause-kept g c = c.in_err-tag.ensures.kept ∙ c.loop-tag.invariant.kept
+
+pub returns-in_err-tag-clause-tail : goal.returns-in_err-tag-clause-tail
+returns-in_err-tag-clause-tail g c = tail_more _ _ _ c.in_err-tag.ensures.tail c.loop-tag.invariant.tail
+
+pub returns-then-is_of-clause-kept : goal.returns-then-is_of-clause-kept
+returns-then-is_of-clause-kept g c = c.in_ok-tag.ensures.kept ∙ c.loop-tag.invariant.kept
+
+pub returns-then-is_of-clause-tail : goal.returns-then-is_of-clause-tail
+returns-then-is_of-clause-tail g c = tail_more _ _ _ c.in_ok-tag.ensures.tail c.loop-tag.invariant.tail
+
+pub returns-in_err-merge_field-clause-kept : goal.returns-in_err-merge_field-clause-kept
+returns-in_err-merge_field-clause-kept g c =
+    c.in_err-merge_field.ensures.kept ∙ c.in_ok-tag.ensures.kept ∙ c.loop-tag.invariant.kept
+
+pub returns-in_err-merge_field-clause-tail : goal.returns-in_err-merge_field-clause-tail
+returns-in_err-merge_field-clause-tail g c =
+    tail_more _ _ _ c.in_err-merge_field.ensures.tail (tail_more _ _ _ c.in_ok-tag.ensures.tail c.loop-tag.invariant.tail)

@@ -11,7 +11,8 @@ use Rattle.buffa_wire.specs.BudgetLeft.{BudgetLeft, PaysAtMost}
 use Rattle.buffa_wire.specs.Message.{MergeFault, cost_in, merged_in}
 use Rattle.buffa_wire.proofs.MessageLemmas.{field_costs, field_means, judged_all, loop_fault, reaches_tag, untagged}
 use Rattle.buffa_map.specs.Pairs.{means}
-use Rattle.buffa_fields.specs.Keep.{keep_need, keep_takes}
+use Rattle.buffa_wire.specs.Kept.{keep_need}
+use Rattle.buffa_fields.specs.Keep.{keep_takes}
 use Rattle.buffa_fields.specs.TakesLaws.{taken_full}
 use Rattle.buffa_node.proofs.FieldMerge.{both_stay, child_merged, kept_merged, on_err, score_merged, shade_merged}
 use Rattle.buffa_node.proofs.LoopLemmas.{all_merged, front_next, front_none, stops_at, stops_untagged}

@@ -1,4 +1,4 @@
-use Rattle.std.proofs.Common.{inl, inr, Some, sym, ap, ◌∙◌}
+use Rattle.std.proofs.Common.{inl, inr, Some, refl, sym, ap, ◌∙◌}
 use Rattle.std.specs.Option.{option_map}
 use Rattle.buffa_fields.specs.Layout.{Took}
 use Rattle.buffa_fields.specs.Values.{value_taken}
@@ -19,7 +19,7 @@ returns-in-Ok g c =
         t.4,
       ),
       tt,
-      λ e other. c.in-Ok.ensures.wire e other,
+      λ e other. let k = (c.in-Ok.ensures.wire e other).0 in cc,
     )
 
 pub returns-in-Err : goal.returns-in-Err
@@ -38,5 +38,5 @@ returns-in-Err g c =
         e.2,
       ),
       c.in-Err.ensures.full,
-      λ e other. c.in-Err.ensures.wire e other,
+      λ e other. let k = c.in-Err.ensures.wire e other in (k.0, refl, k.2),
     )

@@ -1,4 +1,5 @@
-use Rattle.buffa_samples.specs.FieldsLaws.{free, full_not_at_end}
+use Rattle.buffa_wire.proofs.ByFieldLemmas.{free}
+use Rattle.buffa_samples.specs.FieldsLaws.{full_not_at_end}
 use Rattle.buffa_samples.specs.Count.{count_field}
 use Rattle.buffa_samples.specs.CountLaws.{count_ends, count_same, count_sound}
 use Rattle.buffa_samples.proofs.count.CountMsgMessage.merge_field.Goals as goal

@@ -1,4 +1,5 @@
-use Rattle.buffa_samples.specs.FieldsLaws.{free, full_not_at_end}
+use Rattle.buffa_wire.proofs.ByFieldLemmas.{free}
+use Rattle.buffa_samples.specs.FieldsLaws.{full_not_at_end}
 use Rattle.buffa_samples.specs.Flat.{flat_field}
 use Rattle.buffa_samples.specs.FlatLaws.{flat_ends, flat_same, flat_sound}
 use Rattle.buffa_samples.proofs.flat.FlatMsgMessage.merge_field.Goals as goal

@@ -1,4 +1,5 @@
-use Rattle.buffa_samples.specs.FieldsLaws.{free, full_not_at_end}
+use Rattle.buffa_wire.proofs.ByFieldLemmas.{free}
+use Rattle.buffa_samples.specs.FieldsLaws.{full_not_at_end}
 use Rattle.buffa_samples.specs.Two.{two_field}
 use Rattle.buffa_samples.specs.TwoLaws.{two_ends, two_same, two_sound}
 use Rattle.buffa_samples.proofs.two.TestMsgMessage.merge_field.Goals as goal

@@ -1,0 +1,161 @@
+-- What a message owes follows from what each of its fields does.
+use Rattle.std.proofs.Common.{◌≡◌, ◌⊎◌, inl, inr, ℕ, zero, suc, ◌<◌, ◌≤◌, List, [], ◌∷◌, ◌++◌, length, Some, None, Result, Ok, Err, refl, sym, ap, subst, ◌∙◌, arith, append_assoc, append-nil, length-append}
+use Rattle.std.specs.Option.{option_and_then}
+use Rattle.buffa_bytes.specs.Gives.{◌>>=◌, Gives}
+use Rattle.buffa_bytes.specs.Field.{IsTag, Payload, SomeField}
+use Rattle.buffa_bytes.specs.Join.{Join}
+use Rattle.buffa_bytes.specs.Join.Join.{none, more}
+use Rattle.buffa_wire.specs.BudgetLeft.{BudgetLeft, nothing}
+use Rattle.buffa_wire.specs.Message.{IsFieldMerged, IsJudged}
+use Rattle.buffa_bytes.specs.declared.wire_type.WireType.{WireType}
+use Rattle.buffa_bytes.specs.declared.error.DecodeError.{DecodeError}
+use Rattle.buffa_bytes.proofs.StepLemmas.{Agrees, agree_bind, agree_err, agree_ok, agree_weaker, bind_same}
+use Rattle.buffa_bytes.proofs.FieldLemmas.{tag_complete, tag_some, tag_sound}
+use Rattle.buffa_wire.proofs.MessageLemmas.{NoLimit, tag_no_limit}
+use Rattle.buffa_wire.specs.Sequence.{parse_all, parse_within}
+use Rattle.buffa_wire.proofs.SequenceLemmas.{ok_same}
+use Rattle.buffa_wire.specs.ByField.{FieldReader, merged_by, next_at, value_of}
+
+-- ---- steps along bytes, each of which takes some
+module _ {S : Type 0} (f : S → List ℕ → Result (S × List ℕ) DecodeError) (falls : (s : S) (bs : List ℕ) (x : S × List ℕ) → f s bs ≡ Ok x → length x.1 < length bs) where
+  enough : (k m : ℕ) (s : S) (bs : List ℕ) → length bs ≤ k → length bs ≤ m → parse_within f k s bs ≡ parse_within f m s bs
+  unfolding parse_within
+  enough k m s [] h l = refl
+  enough zero m s (b ∷ bs) h l = absurd (omega arith)
+  enough (suc k) zero s (b ∷ bs) h l = absurd (omega arith)
+  enough (suc k) (suc m) s (b ∷ bs) h l = bind_same (f s (b ∷ bs)) (λ x. parse_within f k x.0 x.1) (λ x. parse_within f m x.0 x.1)
+      (λ x e. let short = falls s (b ∷ bs) x e in enough k m x.0 x.1 (omega (arith, short)) (omega (arith, short)))
+
+  turn : (s : S) (b : ℕ) (bs : List ℕ) → parse_all f s (b ∷ bs) ≡ (f s (b ∷ bs) >>= (λ x. parse_within f (length bs) x.0 x.1))
+  unfolding parse_within parse_all
+  turn s b bs = refl
+
+  whole : (s : S) (bs : List ℕ) → parse_all f s bs ≡ parse_within f (length bs) s bs
+  unfolding parse_all
+  whole s bs = refl
+
+  pub along_ok : (s t : S) (bs x : List ℕ) → 0 < length bs → f s bs ≡ Ok (t, x) → parse_all f s bs ≡ parse_all f t x
+  along_ok s t [] x some h = absurd (omega arith)
+  along_ok s t (b ∷ bs) x some h =
+      let short = falls s (b ∷ bs) (t, x) h in
+      turn s b bs ∙ rw h (enough (length bs) (length x) t x (omega (arith, short)) (omega arith)) ∙ sym (whole t x)
+
+  pub along_err : (s : S) (bs : List ℕ) (e : DecodeError) → 0 < length bs → f s bs ≡ Err e → parse_all f s bs ≡ Err e
+  along_err s [] e some h = absurd (omega arith)
+  along_err s (b ∷ bs) e some h = turn s b bs ∙ rw h refl
+
+  pub along_none : (s : S) → parse_all f s [] ≡ Ok s
+  unfolding parse_within parse_all
+  along_none s = refl
+
+pub some_of : {A : Type 0} (r : Result A DecodeError) (w : A) → value_of r ≡ Some w → r ≡ Ok w
+some_of (Ok x) w h = cc
+some_of (Err e) w h = cc
+
+-- ---- what one field owes
+-- its reading takes a payload of the grammar, or tells a fault that is no limit's
+abbrev pub IsSound : {X : Type 0} → ℕ → FieldReader X → Type 0
+IsSound {X} d field = (v : X) (n : ℕ) (w : WireType) (bs : List ℕ) → Agrees (field v n w bs) (λ x. (p : List ℕ) × Payload d n w p × (bs ≡ p ++ x.1)) NoLimit
+
+-- a payload is read the same whatever follows it
+abbrev pub Same : {X : Type 0} → (List ℕ → Result (X × List ℕ) DecodeError) → List ℕ → Type 0
+Same {X} read p = ((u : X) × ((x : List ℕ) → read (p ++ x) ≡ Ok (u, x))) ⊎ ((e : DecodeError) × ((x : List ℕ) → read (p ++ x) ≡ Err e))
+
+abbrev pub IsSame : {X : Type 0} → ℕ → FieldReader X → Type 0
+IsSame {X} d field = (v : X) (n : ℕ) (w : WireType) (p : List ℕ) → Payload d n w p → Same (field v n w) p
+
+-- ---- what the message then owes
+module _ {X : Type 0} (d : ℕ) (field : FieldReader X) (sound : IsSound d field) (same : IsSame d field) where
+  next_sound : (v : X) (bs : List ℕ) → Agrees (next_at field v bs) (λ x. (f : List ℕ) × SomeField d f × (bs ≡ f ++ x.1) × (0 < length f)) NoLimit
+  next_sound v bs = agree_bind (tag_sound bs)
+      (λ t u. agree_weaker (sound v t.0 t.1 t.2) (λ x p. (
+        u.0 ++ p.0,
+        (t.0, t.1, (u.0, p.0, u.1, p.1, refl)),
+        u.2 ∙ ap (λ z. u.0 ++ z) p.2 ∙ sym (append_assoc u.0 p.0 x.1),
+        omega (arith, tag_some u.0 t.0 t.1 u.1, length-append u.0 p.0),
+      )) (λ e h. h))
+      (λ e h. tag_no_limit bs e h)
+
+  falls : (v : X) (bs : List ℕ) (x : X × List ℕ) → next_at field v bs ≡ Ok x → length x.1 < length bs
+  falls v bs x h = let u = agree_ok (next_at field v bs) x (next_sound v bs) h in omega (arith, u.3, ap length u.2, length-append u.0 x.1)
+
+  then_joined : (k : ℕ) (v : X) (bs : List ℕ) (w : X) (r : Result (X × List ℕ) DecodeError) → next_at field v bs ≡ r → (r >>= (λ x. parse_within (next_at field) k x.0 x.1)) ≡ Ok w →
+      ((u : X) (x : List ℕ) → parse_within (next_at field) k u x ≡ Ok w → Join (SomeField d) x) → Join (SomeField d) bs
+  then_joined k v bs w (Ok x) is h again =
+      let u = agree_ok (next_at field v bs) x (next_sound v bs) is in subst (λ z. Join (SomeField d) z) (sym u.2) (more u.0 x.1 u.1 (again x.0 x.1 h))
+  then_joined k v bs w (Err e) is h again = cc
+
+  joined : (k : ℕ) (v : X) (bs : List ℕ) (w : X) → parse_within (next_at field) k v bs ≡ Ok w → Join (SomeField d) bs
+  unfolding parse_within
+  joined k v [] w h = none
+  joined zero v (b ∷ bs) w h = cc
+  joined (suc k) v (b ∷ bs) w h = then_joined k v (b ∷ bs) w (next_at field v (b ∷ bs)) refl h (λ u x q. joined k u x w q)
+
+  -- what is merged is a join of fields
+  pub fields : (v w : X) (b : List ℕ) → merged_by field v b ≡ Some w → Join (SomeField d) b
+  fields v w b h = joined (length b) v b w (sym (whole (next_at field) falls v b) ∙ some_of (parse_all (next_at field) v b) w h)
+
+  -- no bytes change nothing
+  pub empty : (v : X) → merged_by field v [] ≡ Some v
+  empty v = ap value_of (along_none (next_at field) falls v)
+
+  module _ (v : X) (n : ℕ) (w : WireType) (t : List ℕ) (tag : IsTag t n w) where
+    here : (bs : List ℕ) → next_at field v (t ++ bs) ≡ field v n w bs
+    here bs = rw (tag_complete t n w bs tag) refl
+
+    some : (bs : List ℕ) → 0 < length (t ++ bs)
+    some bs = omega (arith, tag_some t n w tag, length-append t bs)
+
+    -- a field is merged, and then what follows it
+    pub read : (u : X) (bs rest : List ℕ) → field v n w bs ≡ Ok (u, rest) → merged_by field v (t ++ bs) ≡ merged_by field u rest
+    read u bs rest h = ap value_of (along_ok (next_at field) falls v u (t ++ bs) rest (some bs) (here bs ∙ h))
+
+    -- a field is refused, and so is all
+    pub refused : (bs : List ℕ) (e : DecodeError) → field v n w bs ≡ Err e → merged_by field v (t ++ bs) ≡ None
+    refused bs e h = ap value_of (along_err (next_at field) falls v (t ++ bs) e (some bs) (here bs ∙ h))
+
+    refused_by : (bs rest p : List ℕ) (e : DecodeError) → field v n w bs ≡ Err e → bs ≡ p ++ rest → Same (field v n w) p → merged_by field v (t ++ p) ≡ None
+    refused_by bs rest p e h is (inl (u, k)) = let bad = sym (k rest) ∙ ap (field v n w) (sym is) ∙ h in cc
+    refused_by bs rest p e h is (inr (f, k)) = ap (λ z. merged_by field v (t ++ z)) (sym (append-nil p)) ∙ refused (p ++ []) f (k [])
+
+    -- a field is refused, and so is what a refusal speaks of
+    pub judged : (bs p : List ℕ) (e : DecodeError) → field v n w bs ≡ Err e → IsJudged d n w bs p → merged_by field v (t ++ p) ≡ None
+    judged bs p e h (inl (rest, payload, is)) = refused_by bs rest p e h is (same v n w p payload)
+    judged bs p e h (inr (is, off)) = ap (λ z. merged_by field v (t ++ z)) is ∙ refused bs e h
+
+    -- a field alone
+    pub read_last : (u : X) (p : List ℕ) → field v n w (p ++ []) ≡ Ok (u, []) → merged_by field v (t ++ p) ≡ Some u
+    read_last u p h = ap (λ z. merged_by field v (t ++ z)) (sym (append-nil p)) ∙ read u (p ++ []) [] h ∙ empty u
+
+    then_rest : (p r : List ℕ) → Same (field v n w) p → merged_by field v (t ++ (p ++ r)) ≡ option_and_then (λ u. merged_by field u r) (merged_by field v (t ++ p))
+    then_rest p r (inl (u, k)) = read u (p ++ r) r (k r) ∙ sym (ap (option_and_then (λ z. merged_by field z r)) (read_last u p (k [])))
+    then_rest p r (inr (e, k)) =
+        let alone : merged_by field v (t ++ p) ≡ None = ap (λ z. merged_by field v (t ++ z)) (sym (append-nil p)) ∙ refused (p ++ []) e (k []) in
+        refused (p ++ r) e (k r) ∙ sym (ap (option_and_then (λ z. merged_by field z r)) alone)
+
+    taken_by : (u : X) (bs rest p : List ℕ) → field v n w bs ≡ Ok (u, rest) → bs ≡ p ++ rest → Same (field v n w) p → merged_by field v (t ++ p) ≡ Some u
+    taken_by u bs rest p h is (inl (x, k)) =
+        let both : (let r : Result (X × List ℕ) DecodeError = Ok (x, rest) in r ≡ Ok (u, rest)) = sym (k rest) ∙ ap (field v n w) (sym is) ∙ h in
+        let first : x ≡ u = ap (λ z. z.0) (ok_same both) in
+        read_last x p (k []) ∙ ap (λ z. Some z) first
+    taken_by u bs rest p h is (inr (e, k)) = let bad = sym (k rest) ∙ ap (field v n w) (sym is) ∙ h in cc
+
+  -- a field, and what follows it
+  pub next : (v : X) (f r : List ℕ) → SomeField d f → merged_by field v (f ++ r) ≡ option_and_then (λ w. merged_by field w r) (merged_by field v f)
+  next v f r (n, w, (t, p, tag, payload, is)) =
+      ap (merged_by field v) (ap (λ z. z ++ r) is ∙ append_assoc t p r) ∙ then_rest v n w t tag p r (same v n w p payload)
+      ∙ sym (ap (λ z. option_and_then (λ u. merged_by field u r) (merged_by field v z)) is)
+
+  -- one field, whose tag was read, is taken
+  pub taken : (v u : X) (n : ℕ) (w : WireType) (bs rest : List ℕ) → field v n w bs ≡ Ok (u, rest) →
+      (p : List ℕ) × Payload d n w p × (bs ≡ p ++ rest) × ((t : List ℕ) → IsTag t n w → merged_by field v (t ++ p) ≡ Some u)
+  taken v u n w bs rest h =
+      let q = agree_ok (field v n w bs) (u, rest) (sound v n w bs) h in
+      (q.0, q.1, q.2, λ t tag. taken_by v n w t tag u bs rest q.0 h q.2 (same v n w q.0 q.1))
+
+  -- where messages cost nothing
+  pub free : (r : Result (Unit {0}) DecodeError) (old new : X) (n : ℕ) (w : WireType) (bs rest : List ℕ) (left : BudgetLeft) → Gives (λ _. (new, rest)) r (field old n w bs) →
+      IsFieldMerged (λ _. merged_by field) (λ _ _. nothing) d old n w bs left r new left rest
+  free (Ok x) old new n w bs rest left h = let q = taken old new n w bs rest h in (q.0, q.1, q.2, λ t tag. (q.3 t tag, (omega arith, omega arith)))
+  free (Err e) old new n w bs rest left h =
+      λ t p tag j. ((omega arith, omega arith, omega arith, omega arith), λ ne. inr (judged old n w t tag bs p e h j, agree_err (field old n w bs) e (sound old n w bs) h))

@@ -1,0 +1,103 @@
+-- What fields cost together follows from what each costs.
+use Rattle.std.proofs.Common.{◌≡◌, ◌≢◌, ◌⊎◌, inl, inr, ℕ, ◌+◌, zero, suc, ◌<◌, ◌≤◌, List, [], ◌∷◌, ◌++◌, length, Result, Ok, Err, refl, sym, ap, subst, ◌∙◌, arith, append_assoc, append-nil, length-append}
+use Rattle.std.specs.Result.{MatchResult}
+use Rattle.buffa_bytes.proofs.FieldLemmas.{payload_complete, skip_falls, tag_complete, tag_falls, tag_some}
+use Rattle.buffa_bytes.specs.declared.wire_type.WireType.{WireType}
+use Rattle.buffa_bytes.specs.declared.error.DecodeError.{DecodeError}
+use Rattle.buffa_bytes.specs.declared.error.DecodeError.TheVariants.{OutOfMemory}
+use Rattle.buffa_wire.proofs.MessageLemmas.{NoLimit}
+use Rattle.buffa_bytes.specs.Field.{IsTag, Payload, SomeField}
+use Rattle.buffa_wire.specs.BudgetLeft.{BudgetLeft, Lacks, Pays, PaysAtMost, need_by, nothing, plus}
+use Rattle.buffa_wire.specs.Message.{IsFieldMerged, IsJudged}
+use Rattle.buffa_bytes.specs.Reading.{skip_at, tag_at}
+use Rattle.buffa_wire.specs.ByField.{FieldNeed, FieldReader, cost_by, cost_within, merged_by}
+use Rattle.buffa_wire.proofs.ByFieldLemmas.{IsSame, IsSound, judged, taken}
+
+need_same : {A : Type 0} (r : Result A DecodeError) (f g : A → BudgetLeft) → ((x : A) → r ≡ Ok x → f x ≡ g x) → need_by r f ≡ need_by r g
+need_same (Ok x) f g h = h x refl
+need_same (Err e) f g h = refl
+
+pub plus_nothing : (a : BudgetLeft) → plus a nothing ≡ a
+plus_nothing a =
+    let u : a.unknown + 0 ≡ a.unknown = omega arith in
+    let m : a.memory + 0 ≡ a.memory = omega arith in
+    λ i. record { unknown = u i; memory = m i }
+
+module _ (need : FieldNeed) (d : ℕ) where
+  enough : (k m : ℕ) (bs : List ℕ) → length bs ≤ k → length bs ≤ m → cost_within need d k bs ≡ cost_within need d m bs
+  unfolding cost_within
+  enough k m [] h l = refl
+  enough zero m (b ∷ bs) h l = absurd (omega arith)
+  enough (suc k) zero (b ∷ bs) h l = absurd (omega arith)
+  enough (suc k) (suc m) (b ∷ bs) h l = need_same (tag_at (b ∷ bs)) _ _ (λ t e. ap (plus (need t.0 t.1 t.2))
+      (need_same (skip_at d t.0 t.1 t.2) _ _ (λ rest s.
+      enough k m rest (omega (arith, h, tag_falls (b ∷ bs) t e, skip_falls d t.0 t.1 t.2 rest s)) (omega (arith, l, tag_falls (b ∷ bs) t e, skip_falls d t.0 t.1 t.2 rest s)))))
+
+  turn : (bs : List ℕ) → 0 < length bs → cost_by need d bs ≡ need_by (tag_at bs) (λ t. plus (need t.0 t.1 t.2) (need_by (skip_at d t.0 t.1 t.2) (cost_by need d)))
+  unfolding cost_within cost_by
+  turn [] h = absurd (omega arith)
+  turn (b ∷ bs) h = need_same (tag_at (b ∷ bs)) _ _ (λ t e. ap (plus (need t.0 t.1 t.2))
+      (need_same (skip_at d t.0 t.1 t.2) _ _ (λ rest s.
+      enough (length bs) (length rest) rest (omega (arith, tag_falls (b ∷ bs) t e, skip_falls d t.0 t.1 t.2 rest s)) (omega arith))))
+
+  pub cost_empty : cost_by need d [] ≡ nothing
+  unfolding cost_within cost_by
+  cost_empty = refl
+
+  -- a tag, and then what follows it
+  pub cost_tagged : (t bs : List ℕ) (n : ℕ) (w : WireType) → IsTag t n w → cost_by need d (t ++ bs) ≡ plus (need n w bs) (need_by (skip_at d n w bs) (cost_by need d))
+  cost_tagged t bs n w tag = turn (t ++ bs) (omega (arith, tag_some t n w tag, length-append t bs)) ∙ rw (tag_complete t n w bs tag) refl
+
+  module _ (stays : (n : ℕ) (w : WireType) (p x : List ℕ) → Payload d n w p → need n w (p ++ x) ≡ need n w p) where
+    -- a field, and then what follows it
+    field_and : (t p r : List ℕ) (n : ℕ) (w : WireType) → IsTag t n w → Payload d n w p → cost_by need d (t ++ (p ++ r)) ≡ plus (need n w p) (cost_by need d r)
+    field_and t p r n w tag payload =
+        cost_tagged t (p ++ r) n w tag
+        ∙ ap (λ z. plus z (need_by (skip_at d n w (p ++ r)) (cost_by need d))) (stays n w p r payload)
+        ∙ ap (λ z. plus (need n w p) (need_by z (cost_by need d))) (payload_complete d n w p r payload)
+
+    pub field_alone : (t p : List ℕ) (n : ℕ) (w : WireType) → IsTag t n w → Payload d n w p → cost_by need d (t ++ p) ≡ need n w p
+    field_alone t p n w tag payload =
+        ap (λ z. cost_by need d (t ++ z)) (sym (append-nil p)) ∙ field_and t p [] n w tag payload
+        ∙ ap (plus (need n w p)) cost_empty ∙ plus_nothing (need n w p)
+
+    pub cost_next : (f r : List ℕ) → SomeField d f → cost_by need d (f ++ r) ≡ plus (cost_by need d f) (cost_by need d r)
+    cost_next f r (n, w, (t, p, tag, payload, is)) =
+        ap (cost_by need d) (ap (λ z. z ++ r) is ∙ append_assoc t p r) ∙ field_and t p r n w tag payload
+        ∙ ap (λ z. plus z (cost_by need d r)) (sym (ap (cost_by need d) is ∙ field_alone t p n w tag payload))
+
+    -- what a refusal speaks of costs the field, and what may follow it
+    cost_judged : (t p bs : List ℕ) (n : ℕ) (w : WireType) → IsTag t n w → IsJudged d n w bs p → (after : BudgetLeft) × (cost_by need d (t ++ p) ≡ plus (need n w bs) after)
+    cost_judged t p bs n w tag (inl (rest, payload, is)) =
+        (nothing, field_alone t p n w tag payload ∙ sym (ap (need n w) is ∙ stays n w p rest payload) ∙ sym (plus_nothing (need n w bs)))
+    cost_judged t p bs n w tag (inr (is, off)) =
+        (need_by (skip_at d n w bs) (cost_by need d), ap (λ z. cost_by need d (t ++ z)) is ∙ cost_tagged t bs n w tag)
+
+    -- one field, whose tag was read, where messages cost something
+    module _ {X : Type 0} (field : FieldReader X) (sound : IsSound d field) (same : IsSame d field) where
+      -- the field's part of a contract
+      abbrev pub IsPaid : {T : Type 0} → Result T DecodeError → X → X → ℕ → WireType → List ℕ → List ℕ → BudgetLeft → BudgetLeft → Type 0
+      IsPaid r old new n w bs rest before after =
+          MatchResult r
+          (λ _. (field old n w bs ≡ Ok (new, rest)) × Pays before (need n w bs) after)
+          (λ e. PaysAtMost before (need n w bs) after
+          × (e ≢ OutOfMemory → Lacks before (need n w bs) ⊎ ((x : DecodeError) × (field old n w bs ≡ Err x) × NoLimit e)))
+
+      lacks : (a b left : BudgetLeft) → Lacks left a → Lacks left (plus a b)
+      lacks a b left (inl h) = inl (omega (arith, h))
+      lacks a b left (inr h) = inr (omega (arith, h))
+
+      pub paid : (r : Result (Unit {0}) DecodeError) (old new : X) (n : ℕ) (w : WireType) (bs rest : List ℕ) (before after : BudgetLeft) → IsPaid r old new n w bs rest before after →
+          IsFieldMerged (λ _. merged_by field) (λ _. cost_by need d) d old n w bs before r new after rest
+      paid (Ok x) old new n w bs rest before after (h, k) =
+          let q = taken d field sound same old new n w bs rest h in
+          let all : need n w bs ≡ need n w q.0 = ap (need n w) q.2 ∙ stays n w q.0 rest q.1 in
+          (q.0, q.1, q.2, λ t tag. (q.3 t tag, subst (λ z. Pays before z after) (all ∙ sym (field_alone t q.0 n w tag q.1)) k))
+      paid (Err e) old new n w bs rest before after (h, k) = λ t p tag j.
+          let cost = cost_judged t p bs n w tag j in (
+            subst (λ z. PaysAtMost before z after) (sym cost.1) (h.0, omega (arith, h.1), h.2, omega (arith, h.3)),
+            λ ne. elim (k ne) [
+              | inl few ↦ inl (subst (λ z. Lacks before z) (sym cost.1) (lacks (need n w bs) cost.0 before few))
+              | inr bad ↦ inr (judged d field sound same old n w t tag bs p bad.0 bad.1 j, bad.2)
+            ],
+          )

@@ -1,0 +1,40 @@
+-- A message field by field: what a type says of one field decides what all bytes mean to it.
+-- Source: the protobuf encoding guide, "Message Structure".
+use Rattle.std.specs.Prelude.{ℕ, zero, suc, List, [], ◌∷◌, length, Option, Some, None, Result, Ok, Err}
+use Rattle.buffa_bytes.specs.Gives.{◌>>=◌}
+use Rattle.buffa_bytes.specs.Reading.{tag_at, skip_at}
+use Rattle.buffa_bytes.specs.declared.wire_type.WireType.{WireType}
+use Rattle.buffa_bytes.specs.declared.error.DecodeError.{DecodeError}
+use Rattle.buffa_wire.specs.BudgetLeft.{BudgetLeft, need_by, nothing, plus}
+use Rattle.buffa_wire.specs.Sequence.{parse_all}
+
+-- What the field whose tag, of a number and a wire type, was read makes of a value, and what follows the field.
+abbrev pub FieldReader : Type 0 → Type 0
+FieldReader X = X → ℕ → WireType → List ℕ → Result (X × List ℕ) DecodeError
+
+-- the same of the field at the front, its tag too
+abbrev pub next_at : {X : Type 0} → FieldReader X → X → List ℕ → Result (X × List ℕ) DecodeError
+next_at field v bs = tag_at bs >>= (λ t. field v t.0 t.1 t.2)
+
+-- the value, if there is one
+abbrev pub value_of : {A : Type 0} → Result A DecodeError → Option A
+value_of (Ok x) = Some x
+value_of (Err e) = None
+
+-- what fields, to the end of the bytes, make of a value
+abbrev pub merged_by : {X : Type 0} → FieldReader X → X → List ℕ → Option X
+merged_by field v bs = value_of (parse_all (next_at field) v bs)
+
+-- What the field whose tag, of a number and a wire type, was read costs, a malformed one too.
+abbrev pub FieldNeed : Type 0
+FieldNeed = ℕ → WireType → List ℕ → BudgetLeft
+
+-- What fields cost, to the end of the bytes or to what is no field, which counts too. Each field has a byte at least,
+-- so the bytes bound the steps.
+unfoldable pub cost_within : FieldNeed → ℕ → ℕ → List ℕ → BudgetLeft
+cost_within need d k [] = nothing
+cost_within need d zero (b ∷ bs) = nothing
+cost_within need d (suc k) (b ∷ bs) = need_by (tag_at (b ∷ bs)) (λ t. plus (need t.0 t.1 t.2) (need_by (skip_at d t.0 t.1 t.2) (cost_within need d k)))
+
+unfoldable pub cost_by : FieldNeed → ℕ → List ℕ → BudgetLeft
+cost_by need d bs = cost_within need d (length bs) bs

@@ -1,0 +1,21 @@
+-- What keeping a field as a record costs. Source: the protobuf encoding guide, "Message Structure".
+use Rattle.std.specs.Prelude.{ℕ, suc, ◌-◌, List, length, Result, Ok, Err}
+use Rattle.buffa_bytes.specs.declared.wire_type.WireType.{WireType}
+use Rattle.buffa_bytes.specs.declared.error.DecodeError.{DecodeError}
+use Rattle.buffa_wire.specs.BudgetLeft.{BudgetLeft, slots}
+use Rattle.buffa_wire.specs.ByField.{FieldNeed}
+use Rattle.buffa_wire.specs.RecordReading.{field_at}
+use Rattle.buffa_wire.specs.Records.{Datum}
+
+-- the record of a field whose tag was read, where slots are there for all: each record has a byte at least
+abbrev pub record_at : ℕ → ℕ → WireType → List ℕ → Result (Datum × ℕ × List ℕ) DecodeError
+record_at d n w bs = field_at d (suc (length bs)) n w bs
+
+-- the slots that so many steps left were spent of those that were there for all
+abbrev pub spent_of : ℕ → Result (Datum × ℕ × List ℕ) DecodeError → BudgetLeft
+spent_of all (Ok x) = slots (all - x.1)
+spent_of all (Err e) = slots all
+
+-- a field costs a slot for itself and for each field in its groups; what is no field one for each byte, and one
+abbrev pub keep_need : ℕ → FieldNeed
+keep_need d n w bs = spent_of (suc (length bs)) (record_at d n w bs)

@@ -1,0 +1,2 @@
+pub mod PinLemmas
+pub mod FaultLemmas

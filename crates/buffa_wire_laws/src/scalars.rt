@@ -1,0 +1,107 @@
+//! Which scalar each one is, in the words of the encoding guide: laws, as in [`records`](crate::records).
+
+ghost use Rattle.std.specs.Prelude.{◌≡◌, ◌<◌, ◌^◌, ◌↔◌, ℤ, ℕ, None, Some};
+ghost use Rattle.buffa_bytes.specs.Scalars.{bool_of, bool_text, fixed32_of, fixed32_text, fixed64_of, fixed64_text};
+ghost use Rattle.buffa_bytes.specs.Scalars.{int64_of, int64_text, sfixed32_of, sfixed32_text, sfixed64_of};
+ghost use Rattle.buffa_bytes.specs.Scalars.{sfixed64_text, sint32_of, sint32_text, sint64_of, sint64_text};
+ghost use Rattle.buffa_bytes.specs.Scalars.{uint32_of, uint32_text, uint64_of, uint64_text};
+ghost use Rattle.std.specs.Int.{to_le_bytes, w32, w64};
+ghost use Rattle.buffa_bytes.specs.Values.{int32_of, int32_text};
+ghost use Rattle.buffa_bytes.specs.Varint.{varint_text};
+ghost use Rattle.buffa_bytes.specs.declared.wire_type.WireType.TheVariants as wire;
+ghost use Rattle.buffa_wire.specs.Found.{fixed32_in, fixed64_in, varint_in};
+ghost use Rattle.buffa_wire.specs.Records.{fixed32, fixed64, varint};
+
+use buffa_wire::form::{EightBytes, Form, FourBytes, Varint};
+use buffa_wire::scalar::Scalar;
+use buffa_wire::scalars::{
+    Bool, Fixed32, Fixed64, Int32, Int64, Sfixed32, Sfixed64, Sint32, Sint64, Uint32, Uint64,
+};
+
+/// What is written of a value of each scalar. Nothing is open.
+pub fn scalars_are_written()
+    ensures int32 { (v : ℤ) → ⟦<<Int32 as Scalar>::Form as Form>⟧.payload (⟦<Int32 as Scalar>⟧.number_of v) ≡ int32_text v }
+    ensures int64 { (v : ℤ) → ⟦<<Int64 as Scalar>::Form as Form>⟧.payload (⟦<Int64 as Scalar>⟧.number_of v) ≡ int64_text v }
+    ensures uint32 { (v : ℕ) → ⟦<<Uint32 as Scalar>::Form as Form>⟧.payload (⟦<Uint32 as Scalar>⟧.number_of v) ≡ uint32_text v }
+    ensures uint64 { (v : ℕ) → ⟦<<Uint64 as Scalar>::Form as Form>⟧.payload (⟦<Uint64 as Scalar>⟧.number_of v) ≡ uint64_text v }
+    ensures sint32 { (v : ℤ) → ⟦<<Sint32 as Scalar>::Form as Form>⟧.payload (⟦<Sint32 as Scalar>⟧.number_of v) ≡ sint32_text v }
+    ensures sint64 { (v : ℤ) → ⟦<<Sint64 as Scalar>::Form as Form>⟧.payload (⟦<Sint64 as Scalar>⟧.number_of v) ≡ sint64_text v }
+    ensures bool { (v : _) → ⟦<<Bool as Scalar>::Form as Form>⟧.payload (⟦<Bool as Scalar>⟧.number_of v) ≡ bool_text v }
+    ensures fixed32 { (v : ℕ) → ⟦<<Fixed32 as Scalar>::Form as Form>⟧.payload (⟦<Fixed32 as Scalar>⟧.number_of v) ≡ fixed32_text v }
+    ensures fixed64 { (v : ℕ) → ⟦<<Fixed64 as Scalar>::Form as Form>⟧.payload (⟦<Fixed64 as Scalar>⟧.number_of v) ≡ fixed64_text v }
+    ensures sfixed32 { (v : ℤ) → ⟦<<Sfixed32 as Scalar>::Form as Form>⟧.payload (⟦<Sfixed32 as Scalar>⟧.number_of v) ≡ sfixed32_text v }
+    ensures sfixed64 { (v : ℤ) → ⟦<<Sfixed64 as Scalar>::Form as Form>⟧.payload (⟦<Sfixed64 as Scalar>⟧.number_of v) ≡ sfixed64_text v }
+{}
+
+/// What the number in a payload of each scalar means. Nothing is open.
+pub fn scalars_are_read()
+    ensures int32 { (n : ℕ) → ⟦<Int32 as Scalar>⟧.value_of n ≡ int32_of n }
+    ensures int64 { (n : ℕ) → ⟦<Int64 as Scalar>⟧.value_of n ≡ int64_of n }
+    ensures uint32 { (n : ℕ) → ⟦<Uint32 as Scalar>⟧.value_of n ≡ uint32_of n }
+    ensures uint64 { (n : ℕ) → ⟦<Uint64 as Scalar>⟧.value_of n ≡ uint64_of n }
+    ensures sint32 { (n : ℕ) → ⟦<Sint32 as Scalar>⟧.value_of n ≡ sint32_of n }
+    ensures sint64 { (n : ℕ) → ⟦<Sint64 as Scalar>⟧.value_of n ≡ sint64_of n }
+    ensures bool { (n : ℕ) → ⟦<Bool as Scalar>⟧.value_of n ≡ bool_of n }
+    ensures fixed32 { (n : ℕ) → ⟦<Fixed32 as Scalar>⟧.value_of n ≡ fixed32_of n }
+    ensures fixed64 { (n : ℕ) → ⟦<Fixed64 as Scalar>⟧.value_of n ≡ fixed64_of n }
+    ensures sfixed32 { (n : ℕ) → ⟦<Sfixed32 as Scalar>⟧.value_of n ≡ sfixed32_of n }
+    ensures sfixed64 { (n : ℕ) → ⟦<Sfixed64 as Scalar>⟧.value_of n ≡ sfixed64_of n }
+{}
+
+/// The wire type of each scalar's payloads. Nothing is open.
+pub fn scalars_have_wire_types()
+    ensures int32 { ⟦<<Int32 as Scalar>::Form as Form>⟧.WIRE_TYPE ≡ wire.Varint }
+    ensures int64 { ⟦<<Int64 as Scalar>::Form as Form>⟧.WIRE_TYPE ≡ wire.Varint }
+    ensures uint32 { ⟦<<Uint32 as Scalar>::Form as Form>⟧.WIRE_TYPE ≡ wire.Varint }
+    ensures uint64 { ⟦<<Uint64 as Scalar>::Form as Form>⟧.WIRE_TYPE ≡ wire.Varint }
+    ensures sint32 { ⟦<<Sint32 as Scalar>::Form as Form>⟧.WIRE_TYPE ≡ wire.Varint }
+    ensures sint64 { ⟦<<Sint64 as Scalar>::Form as Form>⟧.WIRE_TYPE ≡ wire.Varint }
+    ensures bool { ⟦<<Bool as Scalar>::Form as Form>⟧.WIRE_TYPE ≡ wire.Varint }
+    ensures fixed32 { ⟦<<Fixed32 as Scalar>::Form as Form>⟧.WIRE_TYPE ≡ wire.Fixed32 }
+    ensures fixed64 { ⟦<<Fixed64 as Scalar>::Form as Form>⟧.WIRE_TYPE ≡ wire.Fixed64 }
+    ensures sfixed32 { ⟦<<Sfixed32 as Scalar>::Form as Form>⟧.WIRE_TYPE ≡ wire.Fixed32 }
+    ensures sfixed64 { ⟦<<Sfixed64 as Scalar>::Form as Form>⟧.WIRE_TYPE ≡ wire.Fixed64 }
+{}
+
+/// What a value of each scalar costs where it is an element. Nothing is open.
+pub fn scalars_cost_so_much()
+    ensures int32 { ⟦<Int32 as Scalar>⟧.UNITS ≡ 4 }
+    ensures int64 { ⟦<Int64 as Scalar>⟧.UNITS ≡ 8 }
+    ensures uint32 { ⟦<Uint32 as Scalar>⟧.UNITS ≡ 4 }
+    ensures uint64 { ⟦<Uint64 as Scalar>⟧.UNITS ≡ 8 }
+    ensures sint32 { ⟦<Sint32 as Scalar>⟧.UNITS ≡ 4 }
+    ensures sint64 { ⟦<Sint64 as Scalar>⟧.UNITS ≡ 8 }
+    ensures bool { ⟦<Bool as Scalar>⟧.UNITS ≡ 1 }
+    ensures fixed32 { ⟦<Fixed32 as Scalar>⟧.UNITS ≡ 4 }
+    ensures fixed64 { ⟦<Fixed64 as Scalar>⟧.UNITS ≡ 8 }
+    ensures sfixed32 { ⟦<Sfixed32 as Scalar>⟧.UNITS ≡ 4 }
+    ensures sfixed64 { ⟦<Sfixed64 as Scalar>⟧.UNITS ≡ 8 }
+{}
+
+/// The length of each scalar's payloads, where they have one. Nothing is open.
+pub fn scalars_have_lengths()
+    ensures int32 { ⟦<Int32 as Scalar>⟧.LEN ≡ None }
+    ensures int64 { ⟦<Int64 as Scalar>⟧.LEN ≡ None }
+    ensures uint32 { ⟦<Uint32 as Scalar>⟧.LEN ≡ None }
+    ensures uint64 { ⟦<Uint64 as Scalar>⟧.LEN ≡ None }
+    ensures sint32 { ⟦<Sint32 as Scalar>⟧.LEN ≡ None }
+    ensures sint64 { ⟦<Sint64 as Scalar>⟧.LEN ≡ None }
+    ensures bool { ⟦<Bool as Scalar>⟧.LEN ≡ Some 1 }
+    ensures fixed32 { ⟦<Fixed32 as Scalar>⟧.LEN ≡ Some 4 }
+    ensures fixed64 { ⟦<Fixed64 as Scalar>⟧.LEN ≡ Some 8 }
+    ensures sfixed32 { ⟦<Sfixed32 as Scalar>⟧.LEN ≡ Some 4 }
+    ensures sfixed64 { ⟦<Sfixed64 as Scalar>⟧.LEN ≡ Some 8 }
+{}
+
+/// How each form spells a number, which numbers it spells, and the record of one. Nothing is open.
+pub fn forms_are_these()
+    ensures varint { (n : ℕ) → (⟦<Varint as Form>⟧.payload n ≡ varint_text n) × (⟦<Varint as Form>⟧.spells n ↔ (n < 2 ^ 64)) }
+    ensures varint_record { (n : ℕ) → (⟦<Varint as Form>⟧.datum n ≡ varint n) × (⟦<Varint as Form>⟧.found ≡ varint_in) }
+    ensures varint_wire { ⟦<Varint as Form>⟧.WIRE_TYPE ≡ wire.Varint }
+    ensures four { (n : ℕ) → (⟦<FourBytes as Form>⟧.payload n ≡ to_le_bytes w32 n) × (⟦<FourBytes as Form>⟧.spells n ↔ (n < 2 ^ 32)) }
+    ensures four_record { (n : ℕ) → (⟦<FourBytes as Form>⟧.datum n ≡ fixed32 n) × (⟦<FourBytes as Form>⟧.found ≡ fixed32_in) }
+    ensures four_wire { ⟦<FourBytes as Form>⟧.WIRE_TYPE ≡ wire.Fixed32 }
+    ensures eight { (n : ℕ) → (⟦<EightBytes as Form>⟧.payload n ≡ to_le_bytes w64 n) × (⟦<EightBytes as Form>⟧.spells n ↔ (n < 2 ^ 64)) }
+    ensures eight_record { (n : ℕ) → (⟦<EightBytes as Form>⟧.datum n ≡ fixed64 n) × (⟦<EightBytes as Form>⟧.found ≡ fixed64_in) }
+    ensures eight_wire { ⟦<EightBytes as Form>⟧.WIRE_TYPE ≡ wire.Fixed64 }
+{}

@@ -1,0 +1,225 @@
+// Calls that size and write map fields, or put a pair into a map.
+
+ghost use Rattle.buffa_wire.specs.Number.{IsNumber};
+
+use crate::storages::{OnMap, stored};
+use crate::store::Store;
+use buffa_map::map_codec::{
+    Bool, BytesBuf, BytesVec, Fixed32, Fixed64, Int32, MapCodec, MapStorage, ProtoBytesMap,
+    ProtoStringMap, Sint32, Str,
+};
+use buffa_wire::{EncodeError, MapKey, varint_len};
+use conformance_rows::calls::Kind;
+use conformance_rows::case::Case;
+use conformance_rows::fault::Fault;
+use conformance_rows::mark::Mark;
+use conformance_rows::outcome::{Outcome, count_told, got, text_told, written};
+use conformance_rows::words::Worded;
+use std::alloc::Global;
+use std::hash::Hash;
+
+/// The bytes of the tag of a map field.
+pub(crate) fn tag_len_of(number: u32) -> u64 {
+    varint_len(u64::from(number) * 8 + 2) as u64
+}
+
+// Writes a map, with its length before it where the row asks for both.
+fn write<
+    By,
+    KC: MapCodec,
+    VC: MapCodec,
+    C: Store<By> + MapStorage<Key = KC::Value, Value = VC::Value>,
+>(map: &C, sized: bool, number: u32, text: &mut Vec<u8>) -> Result<u64, EncodeError>
+    requires { IsNumber number }
+{
+    if sized {
+        return map.sized::<KC, VC>(number, text);
+    }
+    map.storage_write::<KC, VC, Vec<u8>>(number, text)?;
+    Ok(map.len_of::<KC, VC>(tag_len_of(number)))
+}
+
+// A length and a number of pairs; nothing where the map wasn't written.
+fn pairs_told(alloc: Global, len: Result<u64, EncodeError>, pairs: usize) -> Result<String, Fault> {
+    match len {
+        Ok(len) => Ok(format!(in alloc; "{len} {pairs}")?),
+        Err(_) => Ok(String::new(alloc)),
+    }
+}
+
+// What is told of a write.
+fn written_told(
+    alloc: Global,
+    len: Result<u64, EncodeError>,
+    pairs: usize,
+    text: &[u8],
+    refused: bool,
+) -> Result<Outcome, Fault> {
+    let words = pairs_told(alloc, len, pairs);
+    Outcome::of_words(
+        alloc,
+        written(alloc, len),
+        words,
+        text_told(alloc, text),
+        refused,
+    )
+}
+
+// What comes of a write: the length and the text; and how many pairs there are.
+fn writing<
+    By,
+    KC: MapCodec,
+    VC: MapCodec,
+    C: Store<By> + MapStorage<Key = KC::Value, Value = VC::Value>,
+>(alloc: Global, case: &Case<'_>, kind: Kind, mark: &mut Mark) -> Result<Outcome, Fault> {
+    let number = case.field_number()?;
+    let map = C::filled(alloc, kind, case.before())?;
+    let mut text = Vec::new(alloc);
+    mark.begin(alloc);
+    let len = write::<By, KC, VC, C>(&map, case.call == "size-and-write", number, &mut text);
+    let refused = mark.end();
+    written_told(alloc, len, map.storage_len(), text.as_slice(), refused)
+}
+
+// A length, and how many pairs there are before and after.
+fn sizes_told(alloc: Global, len: u64, pairs: usize, after: usize) -> Result<String, Fault> {
+    Ok(format!(in alloc; "{len} {pairs} {after}")?)
+}
+
+// What is told of sizes.
+fn sized_told(
+    alloc: Global,
+    words: Result<String, Fault>,
+    refused: bool,
+) -> Result<Outcome, Fault> {
+    let none = Ok(String::new(alloc));
+    Outcome::of_words(alloc, got(alloc, true), words, none, refused)
+}
+
+// How long a map field is; nothing is written.
+fn sizing<
+    By,
+    KC: MapCodec,
+    VC: MapCodec,
+    C: Store<By> + MapStorage<Key = KC::Value, Value = VC::Value>,
+>(alloc: Global, case: &Case<'_>, kind: Kind, mark: &mut Mark) -> Result<Outcome, Fault> {
+    let tag_len = u64::from(case.number()?);
+    let mut map = C::filled(alloc, kind, case.before())?;
+    mark.begin(alloc);
+    let len = map.len_of::<KC, VC>(tag_len);
+    let pairs = map.storage_len();
+    map.storage_clear();
+    let refused = mark.end();
+    sized_told(
+        alloc,
+        sizes_told(alloc, len, pairs, map.storage_len()),
+        refused,
+    )
+}
+
+// What is told of a pair that is put.
+fn put_told(
+    alloc: Global,
+    is_put: bool,
+    pairs: Result<String, Fault>,
+    count: usize,
+    refused: bool,
+) -> Result<Outcome, Fault> {
+    let none = Ok(String::new(alloc));
+    let count = count_told(alloc, Ok(count as u64));
+    Outcome::of_words(alloc, got(alloc, is_put), pairs, none, refused)?.with_left(count, 0)
+}
+
+// A pair that is put into a map: the pairs then, and how many there are.
+fn putting<
+    By,
+    KC: MapCodec,
+    VC: MapCodec,
+    C: Store<By> + MapStorage<Key = KC::Value, Value = VC::Value>,
+>(alloc: Global, case: &Case<'_>, kind: Kind, mark: &mut Mark) -> Result<Outcome, Fault> {
+    let mut map = C::filled(alloc, kind, case.before())?;
+    let (key, value) = C::pair(alloc, case.input())?;
+    mark.begin(alloc);
+    let answer = map.storage_insert(key, value);
+    let refused = mark.end();
+    put_told(
+        alloc,
+        answer.is_ok(),
+        map.words(alloc),
+        map.storage_len(),
+        refused,
+    )
+}
+
+/// A map that is sized or written, or takes a pair.
+#[derive(Drop)]
+pub struct Written;
+
+impl<By, KC: MapCodec, VC: MapCodec> OnMap<By, KC, VC> for Written {
+    fn on_map<C: Store<By> + MapStorage<Key = KC::Value, Value = VC::Value>>(
+        self,
+        alloc: Global,
+        case: &Case<'_>,
+        kind: Kind,
+        mark: &mut Mark,
+    ) -> Result<Outcome, Fault> {
+        match case.call {
+            "put" => putting::<By, KC, VC, C>(alloc, case, kind, mark),
+            "size" => sizing::<By, KC, VC, C>(alloc, case, kind, mark),
+            _ => writing::<By, KC, VC, C>(alloc, case, kind, mark),
+        }
+    }
+}
+
+/// What comes of a row on a pair of codecs; none where its types don't go into the storage.
+pub fn written_pair<By, KC: MapCodec, VC: MapCodec>(
+    alloc: Global,
+    case: &Case<'_>,
+    kind: Kind,
+    mark: &mut Mark,
+) -> Result<Option<Outcome>, Fault>
+where
+    KC::Value: MapKey + Ord + Hash + Worded<By>,
+    VC::Value: Worded<By>,
+{
+    stored::<By, KC, VC, _>(alloc, case, kind, mark, Written)
+}
+
+/// What comes of a row that sizes or writes a map of numbers, texts or bytes in this storage.
+pub fn writes<By>(
+    alloc: Global,
+    case: &Case<'_>,
+    kind: Kind,
+    mark: &mut Mark,
+) -> Result<Option<Outcome>, Fault> {
+    match case.types {
+        "string,int32" => written_pair::<By, Str, Int32>(alloc, case, kind, mark),
+        "own-string,int32" => written_pair::<By, ProtoStringMap<String>, Int32>(
+            alloc, case, kind, mark,
+        ),
+        "int32,string" => written_pair::<By, Int32, Str>(alloc, case, kind, mark),
+        "int32,own-string" => written_pair::<By, Int32, ProtoStringMap<String>>(
+            alloc, case, kind, mark,
+        ),
+        "int32,bytes" => written_pair::<By, Int32, BytesVec>(alloc, case, kind, mark),
+        "int32,shared-bytes" => written_pair::<By, Int32, BytesBuf>(alloc, case, kind, mark),
+        "int32,own-bytes" => written_pair::<By, Int32, ProtoBytesMap<Vec<u8>>>(
+            alloc, case, kind, mark,
+        ),
+        "own-string,own-bytes" => {
+            written_pair::<By, ProtoStringMap<String>, ProtoBytesMap<Vec<u8>>>(
+                alloc, case, kind, mark,
+            )
+        }
+        "bytes,shared-bytes" => written_pair::<By, BytesVec, BytesBuf>(alloc, case, kind, mark),
+        "shared-bytes,own-string" => {
+            written_pair::<By, BytesBuf, ProtoStringMap<String>>(alloc, case, kind, mark)
+        }
+        "own-bytes,bool" => written_pair::<By, ProtoBytesMap<Vec<u8>>, Bool>(
+            alloc, case, kind, mark,
+        ),
+        "sint32,bool" => written_pair::<By, Sint32, Bool>(alloc, case, kind, mark),
+        "fixed32,fixed64" => written_pair::<By, Fixed32, Fixed64>(alloc, case, kind, mark),
+        _ => Err(Fault::Form),
+    }
+}
