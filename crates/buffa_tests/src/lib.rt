@@ -1,5 +1,6 @@
 //! Tests of what crosses crates, by the names of the facade, and of what is no case of a table: the cases stand in
-//! `vectors`, and the crate `conformance` runs them. Nothing stands on this crate.
+//! `vectors`, and the crate `conformance` runs them. Then the examples of the documentation, run: each line of them stands in
+//! a function here, or in another proved one. Nothing stands on this crate.
 //!
 //! Expected values come from outside: from the protobuf encoding guide, worked out by hand, or from a table. The
 //! messages, enums and keys stand in `buffa_samples`, an extendee and the options in `buffa_options`.
@@ -8,6 +9,8 @@
 #[cfg(test)]
 mod carrier;
 #[cfg(test)]
+mod examples;
+#[cfg(test)]
 mod facade;
 #[cfg(test)]
 mod fields;
@@ -15,5 +18,7 @@ mod fields;
 mod guide;
 #[cfg(test)]
 mod large;
+#[cfg(test)]
+mod map_examples;
 #[cfg(test)]
 mod options;
