@@ -2,7 +2,7 @@
 
 use crate::reads::{Limits, Read};
 use crate::storages::OnMap;
-use crate::store::Store;
+use crate::store::{Store, filled};
 use buffa_map::map_codec::{MapCodec, MapStorage, MapValueDecode, Msg, merge_message_entry_by};
 use buffa_wire::{Budget, Buf, DecodeContext, DecodeError, Message};
 use conformance_rows::calls::Kind;
@@ -10,6 +10,7 @@ use conformance_rows::case::Case;
 use conformance_rows::fault::Fault;
 use conformance_rows::mark::Mark;
 use conformance_rows::outcome::Outcome;
+use conformance_rows::words::Worded;
 use std::alloc::Global;
 
 // Merges an entry by the message's own way to merge bytes.
@@ -37,12 +38,15 @@ pub struct ByFunction<'a, B> {
     pub buf: &'a mut B,
 }
 
-impl<By, KC: MapCodec, M: Message, B: Buf> OnMap<By, KC, Msg<M>> for ByFunction<'_, B> {
+impl<By, KC: MapCodec, M: Message + Worded<By>, B: Buf> OnMap<By, KC, Msg<M>> for ByFunction<'_, B>
+where
+    KC::Value: Worded<By>,
+{
     fn on_map<
         C: Store<By> + MapStorage<Key = KC::Value, Value = <Msg<M> as MapValueDecode>::Value>,
     >(self, alloc: Global, case: &Case<'_>, kind: Kind, mark: &mut Mark) -> Result<Outcome, Fault> {
         let mut limits = Limits::of(case)?;
-        let mut map = C::filled(alloc, kind, case.before())?;
+        let mut map = filled::<By, KC::Value, M, C>(alloc, kind, case.before())?;
         mark.begin(alloc);
         let answer = merged::<KC, M, C, B>(alloc, &mut map, self.buf, limits.context());
         let read = Read::of(answer, mark.end(), self.buf);

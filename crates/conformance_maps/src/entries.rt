@@ -1,19 +1,21 @@
 // Calls that read entries and runs of map fields.
 
+ghost use Rattle.buffa_wire.specs.Number.{IsNumber};
+
 use crate::reads::{Limits, Read};
 use crate::storages::{OnMap, stored};
-use crate::store::Store;
+use crate::store::{Store, filled};
 use buffa_map::map_codec::{
-    Bool, BytesBuf, BytesVec, Int32, MapCodec, MapStorage, MapValueDecode, ProtoBytesMap,
+    Bool, BytesBuf, BytesVec, Int32, MapCodec, MapStorage, MapValueDecode, MapWrite, ProtoBytesMap,
     ProtoStringMap, RewriteError, Str, Uint32, merge_entry, merge_entry_with_unknowns,
     read_map_field, rewrite_map_field,
 };
 use buffa_wire::{Budget, Buf, DecodeContext, DecodeError, MapKey, UnknownFields};
 use conformance_rows::calls::Kind;
-use conformance_rows::case::{Case, given, or_dash};
+use conformance_rows::case::{Case, given};
 use conformance_rows::fault::Fault;
 use conformance_rows::mark::Mark;
-use conformance_rows::outcome::{Outcome, left, text_told};
+use conformance_rows::outcome::{Outcome, digits_told, text_told, with_left};
 use conformance_rows::words::{Worded, records_of, records_word};
 use std::alloc::Global;
 use std::hash::Hash;
@@ -32,53 +34,30 @@ fn kept(alloc: Global, list: &Option<UnknownFields>) -> Result<String, Fault> {
         None => Ok(String::new(alloc)),
         Some(list) => {
             let records = records_word(alloc, list)?;
-            Ok(format!(in alloc; "list {}", or_dash(records.as_str()))?)
+            digits_told(alloc, "list", records.as_str())
         }
     }
 }
 
-// An entry, with or without a list.
-fn merged<
+// A run, or an entry, whose undeclared values may be kept.
+fn listed<
     KC: MapCodec,
     VC: MapValueDecode,
     C: MapStorage<Key = KC::Value, Value = VC::Value>,
     B: Buf,
 >(
     alloc: Global,
+    is_run: bool,
     map: &mut C,
     buf: &mut B,
     ctx: DecodeContext<'_>,
     number: u32,
     list: Option<&mut UnknownFields>,
 ) -> Result<(), DecodeError> {
-    match list {
-        None => merge_entry::<KC, VC, C, B>(alloc, map, buf, ctx),
-        Some(_) => merge_entry_with_unknowns::<KC, VC, C, B>(alloc, map, buf, ctx, number, list),
+    if is_run {
+        return read_map_field::<KC, VC, C, B>(alloc, map, number, buf, ctx, list);
     }
-}
-
-// The call of a row that reads an entry or a run.
-fn read<
-    KC: MapCodec,
-    VC: MapValueDecode,
-    C: MapStorage<Key = KC::Value, Value = VC::Value>,
-    B: Buf,
->(
-    alloc: Global,
-    call: &str,
-    map: &mut C,
-    buf: &mut B,
-    ctx: DecodeContext<'_>,
-    number: u32,
-    list: Option<&mut UnknownFields>,
-) -> Result<(), DecodeError> {
-    match call {
-        "entry" => merged::<KC, VC, C, B>(alloc, map, buf, ctx, number, list),
-        "unlisted" => {
-            merge_entry_with_unknowns::<KC, VC, C, B>(alloc, map, buf, ctx, number, None)
-        }
-        _ => read_map_field::<KC, VC, C, B>(alloc, map, number, buf, ctx, list),
-    }
+    merge_entry_with_unknowns::<KC, VC, C, B>(alloc, map, buf, ctx, number, list)
 }
 
 // What an entry or a run is read with: limits, a number, and a list if one is lent.
@@ -110,8 +89,14 @@ impl Given {
         B: Buf,
     >(&mut self, alloc: Global, call: &str, map: &mut C, buf: &mut B) -> Result<(), DecodeError> {
         let ctx = self.limits.context();
-        let list = self.list.as_mut();
-        read::<KC, VC, C, B>(alloc, call, map, buf, ctx, self.number, list)
+        match call {
+            "entry" if self.list.is_none() => merge_entry::<KC, VC, C, B>(alloc, map, buf, ctx),
+            "unlisted" => listed::<KC, VC, C, B>(alloc, false, map, buf, ctx, self.number, None),
+            _ => {
+                let list = self.list.as_mut();
+                listed::<KC, VC, C, B>(alloc, call != "entry", map, buf, ctx, self.number, list)
+            }
+        }
     }
 }
 
@@ -122,7 +107,11 @@ pub struct Runs<'a, B> {
     pub buf: &'a mut B,
 }
 
-impl<By, KC: MapCodec, VC: MapValueDecode, B: Buf> OnMap<By, KC, VC> for Runs<'_, B> {
+impl<By, KC: MapCodec, VC: MapValueDecode, B: Buf> OnMap<By, KC, VC> for Runs<'_, B>
+where
+    KC::Value: Worded<By>,
+    VC::Value: Worded<By>,
+{
     fn on_map<C: Store<By> + MapStorage<Key = KC::Value, Value = VC::Value>>(
         self,
         alloc: Global,
@@ -131,7 +120,7 @@ impl<By, KC: MapCodec, VC: MapValueDecode, B: Buf> OnMap<By, KC, VC> for Runs<'_
         mark: &mut Mark,
     ) -> Result<Outcome, Fault> {
         let mut given = Given::of(alloc, case)?;
-        let mut map = C::filled(alloc, kind, case.before())?;
+        let mut map = filled::<By, KC::Value, VC::Value, C>(alloc, kind, case.before())?;
         mark.begin(alloc);
         let answer = given.read::<KC, VC, C, B>(alloc, case.call, &mut map, self.buf);
         let read = Read::of(answer, mark.end(), self.buf);
@@ -158,8 +147,28 @@ fn rewritten(
     text: Result<String, Fault>,
     refused: bool,
 ) -> Result<Outcome, Fault> {
-    let left = left(alloc, case, budget, 0);
-    Outcome::of_words(alloc, rewrite_told(alloc, answer), pairs, text, refused)?.with_left(left, 0)
+    let answer = rewrite_told(alloc, answer);
+    let outcome = Outcome::of_words(alloc, answer, pairs, text, refused);
+    with_left(alloc, case, budget, outcome, 0)
+}
+
+// Rewrites a map field.
+fn rewrite<
+    KC: MapCodec,
+    VC: MapCodec,
+    C: MapWrite + MapStorage<Key = KC::Value, Value = VC::Value>,
+    B: Buf,
+>(
+    alloc: Global,
+    map: &mut C,
+    number: u32,
+    buf: &mut B,
+    ctx: DecodeContext<'_>,
+    text: &mut Vec<u8>,
+) -> Result<(), RewriteError>
+    requires { IsNumber number }
+{
+    rewrite_map_field::<KC, VC, C, B, Vec<u8>>(alloc, map, number, buf, ctx, text)
 }
 
 // What comes of a rewrite.
@@ -175,20 +184,18 @@ fn rewriting<
     kind: Kind,
     mark: &mut Mark,
     buf: &mut B,
-) -> Result<Outcome, Fault> {
+) -> Result<Outcome, Fault>
+where
+    KC::Value: Worded<By>,
+    VC::Value: Worded<By>,
+{
     let mut limits = Limits::of(case)?;
     let number = case.field_number()?;
-    let mut map = C::filled(alloc, kind, case.before())?;
+    let mut map = filled::<By, KC::Value, VC::Value, C>(alloc, kind, case.before())?;
     let mut text = Vec::new(alloc);
     mark.begin(alloc);
-    let answer = rewrite_map_field::<KC, VC, C, B, Vec<u8>>(
-        alloc,
-        &mut map,
-        number,
-        buf,
-        limits.context(),
-        &mut text,
-    );
+    let ctx = limits.context();
+    let answer = rewrite::<KC, VC, C, B>(alloc, &mut map, number, buf, ctx, &mut text);
     let refused = mark.end();
     let text = text_told(alloc, text.as_slice());
     rewritten(
@@ -209,7 +216,11 @@ pub struct Entries<'a, B> {
     pub buf: &'a mut B,
 }
 
-impl<By, KC: MapCodec, VC: MapCodec, B: Buf> OnMap<By, KC, VC> for Entries<'_, B> {
+impl<By, KC: MapCodec, VC: MapCodec, B: Buf> OnMap<By, KC, VC> for Entries<'_, B>
+where
+    KC::Value: Worded<By>,
+    VC::Value: Worded<By>,
+{
     fn on_map<C: Store<By> + MapStorage<Key = KC::Value, Value = VC::Value>>(
         self,
         alloc: Global,

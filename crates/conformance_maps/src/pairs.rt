@@ -2,11 +2,11 @@
 
 ghost use Rattle.buffa_wire.specs.Number.{IsNumber};
 
-use crate::sizes::tag_len_of;
-use crate::store::told as pairs_told;
+use crate::sizes::{put_text, tag_len_of};
+use crate::store::{len_in, told as pairs_told};
 use buffa_map::map_codec::{
-    Bool, BytesVec, Fixed32, Fixed64, Int32, Int64, Map, MapCodec, MapStorage, MapWrite, Sfixed32,
-    Sfixed64, Sint32, Sint64, Str, Uint32, Uint64, field_len, read_map_field,
+    Bool, BytesVec, Fixed32, Fixed64, Int32, Int64, Map, MapCodec, MapStorage, Sfixed32, Sfixed64,
+    Sint32, Sint64, Str, Uint32, Uint64, read_map_field,
 };
 use buffa_wire::{Budget, DecodeContext, DecodeError, EncodeError, MapKey};
 use conformance_rows::case::Case;
@@ -40,8 +40,8 @@ where
     KC::Value: MapKey + Hash,
     requires { IsNumber number }
 {
-    map.storage_write::<KC, VC, Vec<u8>>(number, text)?;
-    Ok(field_len::<KC, VC, Map<KC::Value, VC::Value>>(map, tag_len_of(number)))
+    put_text::<KC, VC, Map<KC::Value, VC::Value>>(map, number, text)?;
+    Ok(len_in::<KC, VC, Map<KC::Value, VC::Value>>(map, tag_len_of(number)))
 }
 
 // Whether a map is written as these bytes, and has their length.
@@ -85,15 +85,15 @@ fn field_told(
 // What comes of a row of these kinds: the pairs that are read, and whether they are written back.
 fn in_a_map<By, KC: MapCodec, VC: MapCodec>(
     alloc: Global,
-    number: u32,
+    case: &Case<'_>,
     mark: &mut Mark,
     bytes: &[u8],
 ) -> Result<Outcome, Fault>
 where
     KC::Value: MapKey + Hash + Worded<By>,
     VC::Value: Worded<By>,
-    requires { IsNumber number }
 {
+    let number = case.field_number()?;
     let mut map: Map<KC::Value, VC::Value> = Map::new(alloc);
     let mut text = Vec::new(alloc);
     mark.begin(alloc);
@@ -108,29 +108,28 @@ where
 // The same of a row with this kind of key.
 fn of_value<By, KC: MapCodec>(
     alloc: Global,
-    number: u32,
+    case: &Case<'_>,
     value: &str,
     mark: &mut Mark,
     bytes: &[u8],
 ) -> Result<Outcome, Fault>
 where
     KC::Value: MapKey + Hash + Worded<By>,
-    requires { IsNumber number }
 {
     match value {
-        "int32" => in_a_map::<By, KC, Int32>(alloc, number, mark, bytes),
-        "int64" => in_a_map::<By, KC, Int64>(alloc, number, mark, bytes),
-        "uint32" => in_a_map::<By, KC, Uint32>(alloc, number, mark, bytes),
-        "uint64" => in_a_map::<By, KC, Uint64>(alloc, number, mark, bytes),
-        "sint32" => in_a_map::<By, KC, Sint32>(alloc, number, mark, bytes),
-        "sint64" => in_a_map::<By, KC, Sint64>(alloc, number, mark, bytes),
-        "bool" => in_a_map::<By, KC, Bool>(alloc, number, mark, bytes),
-        "fixed32" => in_a_map::<By, KC, Fixed32>(alloc, number, mark, bytes),
-        "fixed64" => in_a_map::<By, KC, Fixed64>(alloc, number, mark, bytes),
-        "sfixed32" => in_a_map::<By, KC, Sfixed32>(alloc, number, mark, bytes),
-        "sfixed64" => in_a_map::<By, KC, Sfixed64>(alloc, number, mark, bytes),
-        "string" => in_a_map::<By, KC, Str>(alloc, number, mark, bytes),
-        "bytes" => in_a_map::<By, KC, BytesVec>(alloc, number, mark, bytes),
+        "int32" => in_a_map::<By, KC, Int32>(alloc, case, mark, bytes),
+        "int64" => in_a_map::<By, KC, Int64>(alloc, case, mark, bytes),
+        "uint32" => in_a_map::<By, KC, Uint32>(alloc, case, mark, bytes),
+        "uint64" => in_a_map::<By, KC, Uint64>(alloc, case, mark, bytes),
+        "sint32" => in_a_map::<By, KC, Sint32>(alloc, case, mark, bytes),
+        "sint64" => in_a_map::<By, KC, Sint64>(alloc, case, mark, bytes),
+        "bool" => in_a_map::<By, KC, Bool>(alloc, case, mark, bytes),
+        "fixed32" => in_a_map::<By, KC, Fixed32>(alloc, case, mark, bytes),
+        "fixed64" => in_a_map::<By, KC, Fixed64>(alloc, case, mark, bytes),
+        "sfixed32" => in_a_map::<By, KC, Sfixed32>(alloc, case, mark, bytes),
+        "sfixed64" => in_a_map::<By, KC, Sfixed64>(alloc, case, mark, bytes),
+        "string" => in_a_map::<By, KC, Str>(alloc, case, mark, bytes),
+        "bytes" => in_a_map::<By, KC, BytesVec>(alloc, case, mark, bytes),
         _ => Err(Fault::Form),
     }
 }
@@ -145,20 +144,19 @@ pub fn kinds<By>(
     let Some((key, value)) = case.types.split_once(',') else {
         return Err(Fault::Form);
     };
-    let number = case.field_number()?;
     match key {
-        "int32" => of_value::<By, Int32>(alloc, number, value, mark, bytes),
-        "int64" => of_value::<By, Int64>(alloc, number, value, mark, bytes),
-        "uint32" => of_value::<By, Uint32>(alloc, number, value, mark, bytes),
-        "uint64" => of_value::<By, Uint64>(alloc, number, value, mark, bytes),
-        "sint32" => of_value::<By, Sint32>(alloc, number, value, mark, bytes),
-        "sint64" => of_value::<By, Sint64>(alloc, number, value, mark, bytes),
-        "bool" => of_value::<By, Bool>(alloc, number, value, mark, bytes),
-        "fixed32" => of_value::<By, Fixed32>(alloc, number, value, mark, bytes),
-        "fixed64" => of_value::<By, Fixed64>(alloc, number, value, mark, bytes),
-        "sfixed32" => of_value::<By, Sfixed32>(alloc, number, value, mark, bytes),
-        "sfixed64" => of_value::<By, Sfixed64>(alloc, number, value, mark, bytes),
-        "string" => of_value::<By, Str>(alloc, number, value, mark, bytes),
+        "int32" => of_value::<By, Int32>(alloc, case, value, mark, bytes),
+        "int64" => of_value::<By, Int64>(alloc, case, value, mark, bytes),
+        "uint32" => of_value::<By, Uint32>(alloc, case, value, mark, bytes),
+        "uint64" => of_value::<By, Uint64>(alloc, case, value, mark, bytes),
+        "sint32" => of_value::<By, Sint32>(alloc, case, value, mark, bytes),
+        "sint64" => of_value::<By, Sint64>(alloc, case, value, mark, bytes),
+        "bool" => of_value::<By, Bool>(alloc, case, value, mark, bytes),
+        "fixed32" => of_value::<By, Fixed32>(alloc, case, value, mark, bytes),
+        "fixed64" => of_value::<By, Fixed64>(alloc, case, value, mark, bytes),
+        "sfixed32" => of_value::<By, Sfixed32>(alloc, case, value, mark, bytes),
+        "sfixed64" => of_value::<By, Sfixed64>(alloc, case, value, mark, bytes),
+        "string" => of_value::<By, Str>(alloc, case, value, mark, bytes),
         _ => Err(Fault::Form),
     }
 }

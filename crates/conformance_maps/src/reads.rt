@@ -3,7 +3,7 @@
 use buffa_wire::{Budget, Buf, DecodeContext, DecodeError};
 use conformance_rows::case::Case;
 use conformance_rows::fault::Fault;
-use conformance_rows::outcome::{Outcome, left, told};
+use conformance_rows::outcome::{Outcome, budget_of, told, unread, with_left};
 use std::alloc::Global;
 
 /// What a row reads with: a budget, and a depth.
@@ -18,7 +18,7 @@ pub(crate) struct Limits {
 impl Limits {
     /// The limits of a row.
     pub(crate) fn of(case: &Case<'_>) -> Result<Limits, Fault> {
-        let budget = Budget::new(case.slots()?).with_element_memory(case.units()?);
+        let budget = budget_of(case)?;
         let depth = case.depth()?;
         Ok(Limits { budget, depth })
     }
@@ -43,10 +43,9 @@ pub(crate) struct Read {
 impl Read {
     /// The answer of a read from a buffer.
     pub(crate) fn of<B: Buf>(answer: Result<(), DecodeError>, refused: bool, buf: &B) -> Read {
-        let unread = if answer.is_ok() { buf.remaining() } else { 0 };
         Read {
             answer,
-            unread,
+            unread: unread::<B>(answer.is_ok(), buf),
             refused,
         }
     }
@@ -60,10 +59,8 @@ impl Read {
         pairs: Result<String, Fault>,
         rest: Result<String, Fault>,
     ) -> Result<Outcome, Fault> {
-        let left = left(alloc, case, budget, self.unread);
-        Outcome::of_words(alloc, told(alloc, self.answer), pairs, rest, self.refused)?.with_left(
-            left,
-            self.unread,
-        )
+        let answer = told(alloc, self.answer);
+        let outcome = Outcome::of_words(alloc, answer, pairs, rest, self.refused);
+        with_left(alloc, case, budget, outcome, self.unread)
     }
 }

@@ -3,17 +3,17 @@
 ghost use Rattle.buffa_wire.specs.Number.{IsNumber};
 
 use crate::storages::{OnMap, stored};
-use crate::store::Store;
+use crate::store::{Store, filled, pair_of, put};
 use buffa_map::map_codec::{
-    Bool, BytesBuf, BytesVec, Fixed32, Fixed64, Int32, MapCodec, MapStorage, ProtoBytesMap,
-    ProtoStringMap, Sint32, Str,
+    Bool, BytesBuf, BytesVec, Fixed32, Fixed64, Int32, MapCodec, MapStorage, MapWrite,
+    ProtoBytesMap, ProtoStringMap, Sint32, Str,
 };
 use buffa_wire::{EncodeError, MapKey, varint_len};
 use conformance_rows::calls::Kind;
 use conformance_rows::case::Case;
 use conformance_rows::fault::Fault;
 use conformance_rows::mark::Mark;
-use conformance_rows::outcome::{Outcome, count_told, got, text_told, written};
+use conformance_rows::outcome::{Outcome, got, in_words, text_told, written};
 use conformance_rows::words::Worded;
 use std::alloc::Global;
 use std::hash::Hash;
@@ -21,6 +21,17 @@ use std::hash::Hash;
 /// The bytes of the tag of a map field.
 pub(crate) fn tag_len_of(number: u32) -> u64 {
     varint_len(u64::from(number) * 8 + 2) as u64
+}
+
+/// Writes a map.
+pub(crate) fn put_text<
+    KC: MapCodec,
+    VC: MapCodec,
+    C: MapWrite + MapStorage<Key = KC::Value, Value = VC::Value>,
+>(map: &C, number: u32, text: &mut Vec<u8>) -> Result<(), EncodeError>
+    requires { IsNumber number }
+{
+    map.storage_write::<KC, VC, Vec<u8>>(number, text)
 }
 
 // Writes a map, with its length before it where the row asks for both.
@@ -35,7 +46,7 @@ fn write<
     if sized {
         return map.sized::<KC, VC>(number, text);
     }
-    map.storage_write::<KC, VC, Vec<u8>>(number, text)?;
+    put_text::<KC, VC, C>(map, number, text)?;
     Ok(map.len_of::<KC, VC>(tag_len_of(number)))
 }
 
@@ -65,20 +76,34 @@ fn written_told(
     )
 }
 
+// How many pairs there are.
+fn count<C: MapStorage>(map: &C) -> usize {
+    map.storage_len()
+}
+
+// Takes all pairs out.
+fn empty<C: MapStorage>(map: &mut C) {
+    map.storage_clear();
+}
+
 // What comes of a write: the length and the text; and how many pairs there are.
 fn writing<
     By,
     KC: MapCodec,
     VC: MapCodec,
     C: Store<By> + MapStorage<Key = KC::Value, Value = VC::Value>,
->(alloc: Global, case: &Case<'_>, kind: Kind, mark: &mut Mark) -> Result<Outcome, Fault> {
+>(alloc: Global, case: &Case<'_>, kind: Kind, mark: &mut Mark) -> Result<Outcome, Fault>
+where
+    KC::Value: Worded<By>,
+    VC::Value: Worded<By>,
+{
     let number = case.field_number()?;
-    let map = C::filled(alloc, kind, case.before())?;
+    let map = filled::<By, KC::Value, VC::Value, C>(alloc, kind, case.before())?;
     let mut text = Vec::new(alloc);
     mark.begin(alloc);
     let len = write::<By, KC, VC, C>(&map, case.call == "size-and-write", number, &mut text);
     let refused = mark.end();
-    written_told(alloc, len, map.storage_len(), text.as_slice(), refused)
+    written_told(alloc, len, count::<C>(&map), text.as_slice(), refused)
 }
 
 // A length, and how many pairs there are before and after.
@@ -102,19 +127,20 @@ fn sizing<
     KC: MapCodec,
     VC: MapCodec,
     C: Store<By> + MapStorage<Key = KC::Value, Value = VC::Value>,
->(alloc: Global, case: &Case<'_>, kind: Kind, mark: &mut Mark) -> Result<Outcome, Fault> {
+>(alloc: Global, case: &Case<'_>, kind: Kind, mark: &mut Mark) -> Result<Outcome, Fault>
+where
+    KC::Value: Worded<By>,
+    VC::Value: Worded<By>,
+{
     let tag_len = u64::from(case.number()?);
-    let mut map = C::filled(alloc, kind, case.before())?;
+    let mut map = filled::<By, KC::Value, VC::Value, C>(alloc, kind, case.before())?;
     mark.begin(alloc);
     let len = map.len_of::<KC, VC>(tag_len);
-    let pairs = map.storage_len();
-    map.storage_clear();
+    let pairs = count::<C>(&map);
+    empty::<C>(&mut map);
     let refused = mark.end();
-    sized_told(
-        alloc,
-        sizes_told(alloc, len, pairs, map.storage_len()),
-        refused,
-    )
+    let words = sizes_told(alloc, len, pairs, count::<C>(&map));
+    sized_told(alloc, words, refused)
 }
 
 // What is told of a pair that is put.
@@ -126,7 +152,7 @@ fn put_told(
     refused: bool,
 ) -> Result<Outcome, Fault> {
     let none = Ok(String::new(alloc));
-    let count = count_told(alloc, Ok(count as u64));
+    let count = in_words(alloc, &count);
     Outcome::of_words(alloc, got(alloc, is_put), pairs, none, refused)?.with_left(count, 0)
 }
 
@@ -136,26 +162,29 @@ fn putting<
     KC: MapCodec,
     VC: MapCodec,
     C: Store<By> + MapStorage<Key = KC::Value, Value = VC::Value>,
->(alloc: Global, case: &Case<'_>, kind: Kind, mark: &mut Mark) -> Result<Outcome, Fault> {
-    let mut map = C::filled(alloc, kind, case.before())?;
-    let (key, value) = C::pair(alloc, case.input())?;
+>(alloc: Global, case: &Case<'_>, kind: Kind, mark: &mut Mark) -> Result<Outcome, Fault>
+where
+    KC::Value: Worded<By>,
+    VC::Value: Worded<By>,
+{
+    let mut map = filled::<By, KC::Value, VC::Value, C>(alloc, kind, case.before())?;
+    let (key, value) = pair_of::<By, KC::Value, VC::Value>(alloc, case.input())?;
     mark.begin(alloc);
-    let answer = map.storage_insert(key, value);
+    let is_put = put::<C>(&mut map, key, value).is_ok();
     let refused = mark.end();
-    put_told(
-        alloc,
-        answer.is_ok(),
-        map.words(alloc),
-        map.storage_len(),
-        refused,
-    )
+    let pairs = map.words(alloc);
+    put_told(alloc, is_put, pairs, count::<C>(&map), refused)
 }
 
 /// A map that is sized or written, or takes a pair.
 #[derive(Drop)]
 pub struct Written;
 
-impl<By, KC: MapCodec, VC: MapCodec> OnMap<By, KC, VC> for Written {
+impl<By, KC: MapCodec, VC: MapCodec> OnMap<By, KC, VC> for Written
+where
+    KC::Value: Worded<By>,
+    VC::Value: Worded<By>,
+{
     fn on_map<C: Store<By> + MapStorage<Key = KC::Value, Value = VC::Value>>(
         self,
         alloc: Global,

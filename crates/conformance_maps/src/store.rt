@@ -16,11 +16,8 @@ use std::hash::Hash;
 
 /// A map whose pairs are told as words.
 pub trait Store<By>: MapWrite + Drop {
-    /// The map of pairs that stand as words; of this kind, where its type is of each.
-    fn filled(alloc: Global, kind: Kind, pairs: &str) -> Result<Self, Fault>;
-
-    /// The pair of a word.
-    fn pair(alloc: Global, word: &str) -> Result<(Self::Key, Self::Value), Fault>;
+    /// A map with no pairs; of this kind, where its type is of each.
+    fn empty(alloc: Global, kind: Kind) -> Self;
 
     /// The pairs as they are walked, each as `key=value`, with a space between them.
     fn words(&self, alloc: Global) -> Result<String, Fault>;
@@ -40,8 +37,11 @@ pub trait Store<By>: MapWrite + Drop {
         requires { IsNumber number };
 }
 
-// The pair of a word: a key, and behind an equals sign its value.
-fn pair_of<By, K: Worded<By>, V: Worded<By>>(alloc: Global, word: &str) -> Result<(K, V), Fault> {
+/// The pair of a word: a key, and behind an equals sign its value.
+pub(crate) fn pair_of<By, K: Worded<By>, V: Worded<By>>(
+    alloc: Global,
+    word: &str,
+) -> Result<(K, V), Fault> {
     let Some((key, value)) = word.split_once('=') else {
         return Err(Fault::Form);
     };
@@ -50,32 +50,72 @@ fn pair_of<By, K: Worded<By>, V: Worded<By>>(alloc: Global, word: &str) -> Resul
     Ok((key, value))
 }
 
-// A map, and the pairs of words.
-fn filled_with<By, K: Worded<By>, V: Worded<By>, C: MapStorage<Key = K, Value = V> + Drop>(
+/// Puts a pair into a map.
+pub(crate) fn put<C: MapStorage>(map: &mut C, key: C::Key, value: C::Value) -> Result<(), Fault> {
+    match map.storage_insert(key, value) {
+        Ok(()) => Ok(()),
+        Err(_) => Err(Fault::Memory),
+    }
+}
+
+// Puts the pair of a word into a map.
+fn put_word<By, K: Worded<By>, V: Worded<By>, C: MapStorage<Key = K, Value = V>>(
     alloc: Global,
-    map: C,
-    pairs: &str,
-) -> Result<C, Fault> {
-    let mut map = map;
+    map: &mut C,
+    word: &str,
+) -> Result<(), Fault> {
+    let (key, value) = pair_of::<By, K, V>(alloc, word)?;
+    put::<C>(map, key, value)
+}
+
+/// The map of pairs that stand as words; of this kind, where its type is of each.
+pub(crate) fn filled<
+    By,
+    K: Worded<By>,
+    V: Worded<By>,
+    C: Store<By> + MapStorage<Key = K, Value = V>,
+>(alloc: Global, kind: Kind, pairs: &str) -> Result<C, Fault> {
+    let mut map = C::empty(alloc, kind);
     for pair in pairs.split_ascii_whitespace() {
-        let (key, value) = pair_of::<By, K, V>(alloc, pair)?;
-        map.storage_insert(key, value)?;
+        put_word::<By, K, V, C>(alloc, &mut map, pair)?;
     }
     Ok(map)
 }
 
-// Words, and those of one pair more.
-fn with_pair(
+// The word of a pair of words.
+fn joined(alloc: Global, key: &str, value: &str) -> Result<String, Fault> {
+    Ok(format!(in alloc; "{key}={value}")?)
+}
+
+// The word of a pair.
+fn pair_word<By, K: Worded<By>, V: Worded<By>>(
+    alloc: Global,
+    key: &K,
+    value: &V,
+) -> Result<String, Fault> {
+    let key = key.word(alloc)?;
+    let value = value.word(alloc)?;
+    joined(alloc, key.as_str(), value.as_str())
+}
+
+// Words, and one more.
+fn with_word(alloc: Global, words: &str, word: &str) -> Result<String, Fault> {
+    if words.is_empty() {
+        return Ok(String::from_str(alloc, word)?);
+    }
+    Ok(format!(in alloc; "{words} {word}")?)
+}
+
+// Words, and that of one pair more.
+fn with_pair<By, K: Worded<By>, V: Worded<By>>(
     alloc: Global,
     words: Result<String, Fault>,
-    key: Result<String, Fault>,
-    value: Result<String, Fault>,
+    key: &K,
+    value: &V,
 ) -> Result<String, Fault> {
     let words = words?;
-    let key = key?;
-    let value = value?;
-    let space = if words.is_empty() { "" } else { " " };
-    Ok(format!(in alloc; "{words}{space}{key}={value}")?)
+    let word = pair_word::<By, K, V>(alloc, key, value)?;
+    with_word(alloc, words.as_str(), word.as_str())
 }
 
 /// The pairs of a map as words.
@@ -88,23 +128,47 @@ pub(crate) fn told<
 >(alloc: Global, map: &'a C) -> Result<String, Fault> {
     let mut words = Ok(String::new(alloc));
     for (key, value) in map.storage_iter() {
-        words = with_pair(alloc, words, key.word(alloc), value.word(alloc));
+        words = with_pair::<By, K, V>(alloc, words, key, value);
     }
     words
 }
 
+/// The length of a map field.
+pub(crate) fn len_in<
+    'a,
+    KC: MapCodec,
+    VC: MapCodec,
+    C: MapWalk<'a> + MapStorage<Key = KC::Value, Value = VC::Value>,
+>(map: &'a C, tag_len: u64) -> u64
+where
+    KC::Value: 'a,
+    VC::Value: 'a,
+{
+    field_len::<KC, VC, C>(map, tag_len)
+}
+
+// A map field, sized and written.
+fn sized_in<
+    'a,
+    KC: MapCodec,
+    VC: MapCodec,
+    C: MapWalk<'a> + MapStorage<Key = KC::Value, Value = VC::Value>,
+>(map: &'a C, number: u32, text: &mut Vec<u8>) -> Result<u64, EncodeError>
+where
+    KC::Value: 'a,
+    VC::Value: 'a,
+    requires { IsNumber number }
+{
+    size_and_write_field::<KC, VC, C>(map, number, text)
+}
+
 impl<By, K: MapKey + Ord + Hash + Worded<By>, V: Worded<By>> Store<By> for AnyMap<K, V> {
-    fn filled(alloc: Global, kind: Kind, pairs: &str) -> Result<Self, Fault> {
-        let map = match kind {
+    fn empty(alloc: Global, kind: Kind) -> Self {
+        match kind {
             Kind::Ordered => AnyMap::Ordered(BTreeMap::new(alloc)),
             Kind::Hashed => AnyMap::Hashed(HashMap::new(alloc)),
             Kind::Indexed => AnyMap::Indexed(Map::new(alloc)),
-        };
-        filled_with::<By, K, V, Self>(alloc, map, pairs)
-    }
-
-    fn pair(alloc: Global, word: &str) -> Result<(K, V), Fault> {
-        pair_of::<By, K, V>(alloc, word)
+        }
     }
 
     fn words(&self, alloc: Global) -> Result<String, Fault> {
@@ -117,9 +181,9 @@ impl<By, K: MapKey + Ord + Hash + Worded<By>, V: Worded<By>> Store<By> for AnyMa
 
     fn len_of<KC: MapCodec<Value = K>, VC: MapCodec<Value = V>>(&self, tag_len: u64) -> u64 {
         match self {
-            AnyMap::Ordered(map) => field_len::<KC, VC, BTreeMap<K, V>>(map, tag_len),
-            AnyMap::Hashed(map) => field_len::<KC, VC, HashMap<K, V>>(map, tag_len),
-            AnyMap::Indexed(map) => field_len::<KC, VC, Map<K, V>>(map, tag_len),
+            AnyMap::Ordered(map) => len_in::<KC, VC, BTreeMap<K, V>>(map, tag_len),
+            AnyMap::Hashed(map) => len_in::<KC, VC, HashMap<K, V>>(map, tag_len),
+            AnyMap::Indexed(map) => len_in::<KC, VC, Map<K, V>>(map, tag_len),
         }
     }
 
@@ -129,24 +193,16 @@ impl<By, K: MapKey + Ord + Hash + Worded<By>, V: Worded<By>> Store<By> for AnyMa
         text: &mut Vec<u8>,
     ) -> Result<u64, EncodeError> {
         match self {
-            AnyMap::Ordered(map) => {
-                size_and_write_field::<KC, VC, BTreeMap<K, V>>(map, number, text)
-            }
-            AnyMap::Hashed(map) => {
-                size_and_write_field::<KC, VC, HashMap<K, V>>(map, number, text)
-            }
-            AnyMap::Indexed(map) => size_and_write_field::<KC, VC, Map<K, V>>(map, number, text),
+            AnyMap::Ordered(map) => sized_in::<KC, VC, BTreeMap<K, V>>(map, number, text),
+            AnyMap::Hashed(map) => sized_in::<KC, VC, HashMap<K, V>>(map, number, text),
+            AnyMap::Indexed(map) => sized_in::<KC, VC, Map<K, V>>(map, number, text),
         }
     }
 }
 
 impl<By, K: MapKey + Ord + Worded<By>, V: Worded<By>> Store<By> for BTreeMap<K, V> {
-    fn filled(alloc: Global, _kind: Kind, pairs: &str) -> Result<Self, Fault> {
-        filled_with::<By, K, V, Self>(alloc, BTreeMap::new(alloc), pairs)
-    }
-
-    fn pair(alloc: Global, word: &str) -> Result<(K, V), Fault> {
-        pair_of::<By, K, V>(alloc, word)
+    fn empty(alloc: Global, _kind: Kind) -> Self {
+        BTreeMap::new(alloc)
     }
 
     fn words(&self, alloc: Global) -> Result<String, Fault> {
@@ -154,7 +210,7 @@ impl<By, K: MapKey + Ord + Worded<By>, V: Worded<By>> Store<By> for BTreeMap<K, 
     }
 
     fn len_of<KC: MapCodec<Value = K>, VC: MapCodec<Value = V>>(&self, tag_len: u64) -> u64 {
-        field_len::<KC, VC, Self>(self, tag_len)
+        len_in::<KC, VC, Self>(self, tag_len)
     }
 
     fn sized<KC: MapCodec<Value = K>, VC: MapCodec<Value = V>>(
@@ -162,17 +218,13 @@ impl<By, K: MapKey + Ord + Worded<By>, V: Worded<By>> Store<By> for BTreeMap<K, 
         number: u32,
         text: &mut Vec<u8>,
     ) -> Result<u64, EncodeError> {
-        size_and_write_field::<KC, VC, Self>(self, number, text)
+        sized_in::<KC, VC, Self>(self, number, text)
     }
 }
 
 impl<By, K: MapKey + Hash + Worded<By>, V: Worded<By>> Store<By> for HashMap<K, V> {
-    fn filled(alloc: Global, _kind: Kind, pairs: &str) -> Result<Self, Fault> {
-        filled_with::<By, K, V, Self>(alloc, HashMap::new(alloc), pairs)
-    }
-
-    fn pair(alloc: Global, word: &str) -> Result<(K, V), Fault> {
-        pair_of::<By, K, V>(alloc, word)
+    fn empty(alloc: Global, _kind: Kind) -> Self {
+        HashMap::new(alloc)
     }
 
     fn words(&self, alloc: Global) -> Result<String, Fault> {
@@ -180,7 +232,7 @@ impl<By, K: MapKey + Hash + Worded<By>, V: Worded<By>> Store<By> for HashMap<K, 
     }
 
     fn len_of<KC: MapCodec<Value = K>, VC: MapCodec<Value = V>>(&self, tag_len: u64) -> u64 {
-        field_len::<KC, VC, Self>(self, tag_len)
+        len_in::<KC, VC, Self>(self, tag_len)
     }
 
     fn sized<KC: MapCodec<Value = K>, VC: MapCodec<Value = V>>(
@@ -188,17 +240,13 @@ impl<By, K: MapKey + Hash + Worded<By>, V: Worded<By>> Store<By> for HashMap<K, 
         number: u32,
         text: &mut Vec<u8>,
     ) -> Result<u64, EncodeError> {
-        size_and_write_field::<KC, VC, Self>(self, number, text)
+        sized_in::<KC, VC, Self>(self, number, text)
     }
 }
 
 impl<By, K: MapKey + Hash + Worded<By>, V: Worded<By>> Store<By> for Map<K, V> {
-    fn filled(alloc: Global, _kind: Kind, pairs: &str) -> Result<Self, Fault> {
-        filled_with::<By, K, V, Self>(alloc, Map::new(alloc), pairs)
-    }
-
-    fn pair(alloc: Global, word: &str) -> Result<(K, V), Fault> {
-        pair_of::<By, K, V>(alloc, word)
+    fn empty(alloc: Global, _kind: Kind) -> Self {
+        Map::new(alloc)
     }
 
     fn words(&self, alloc: Global) -> Result<String, Fault> {
@@ -206,7 +254,7 @@ impl<By, K: MapKey + Hash + Worded<By>, V: Worded<By>> Store<By> for Map<K, V> {
     }
 
     fn len_of<KC: MapCodec<Value = K>, VC: MapCodec<Value = V>>(&self, tag_len: u64) -> u64 {
-        field_len::<KC, VC, Self>(self, tag_len)
+        len_in::<KC, VC, Self>(self, tag_len)
     }
 
     fn sized<KC: MapCodec<Value = K>, VC: MapCodec<Value = V>>(
@@ -214,6 +262,6 @@ impl<By, K: MapKey + Hash + Worded<By>, V: Worded<By>> Store<By> for Map<K, V> {
         number: u32,
         text: &mut Vec<u8>,
     ) -> Result<u64, EncodeError> {
-        size_and_write_field::<KC, VC, Self>(self, number, text)
+        sized_in::<KC, VC, Self>(self, number, text)
     }
 }

@@ -10,14 +10,24 @@ use conformance_rows::outcome::Outcome;
 use conformance_rows::words::Worded;
 use std::alloc::Global;
 
-// Merges a length and so many bytes into a message, and says how many bytes are unread.
+// Merges a length and so many bytes into a message.
+fn merge<M: Message, B: Buf>(
+    alloc: Global,
+    message: &mut M,
+    buf: &mut B,
+    ctx: DecodeContext<'_>,
+) -> Result<(), DecodeError> {
+    message.merge_length_delimited::<B>(alloc, buf, ctx)
+}
+
+// The same, and says how many bytes are unread.
 fn merged<M: Message, B: Buf>(
     alloc: Global,
     message: &mut M,
     buf: &mut B,
     ctx: DecodeContext<'_>,
 ) -> Result<usize, DecodeError> {
-    message.merge_length_delimited::<B>(alloc, buf, ctx)?;
+    merge::<M, B>(alloc, message, buf, ctx)?;
     Ok(buf.remaining())
 }
 

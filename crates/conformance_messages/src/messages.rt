@@ -80,6 +80,11 @@ fn size<M: Message>(alloc: Global, case: &Case<'_>, mark: &mut Mark) -> Result<O
     sized_outcome(alloc, case, &mut cache, made, refused)
 }
 
+// Clears a message.
+fn empty<M: Message>(alloc: Global, message: &mut M) {
+    message.clear(alloc);
+}
+
 // A message that is cleared.
 fn clear<By, M: Message + Worded<By>>(
     alloc: Global,
@@ -88,7 +93,7 @@ fn clear<By, M: Message + Worded<By>>(
 ) -> Result<Outcome, Fault> {
     let mut message = standing::<M>(alloc, case)?;
     mark.begin(alloc);
-    message.clear(alloc);
+    empty::<M>(alloc, &mut message);
     let refused = mark.end();
     let word = message.word(alloc);
     Outcome::of_words(

@@ -63,6 +63,11 @@ fn words_of<By, V: Worded<By>>(alloc: Global, values: &[V]) -> Result<Vec<String
     Ok(words)
 }
 
+// The word of a pair of words.
+fn paired(alloc: Global, key: &str, value: &str) -> Result<String, Fault> {
+    Ok(format!(in alloc; "{key}={value}")?)
+}
+
 // The word of a pair.
 fn pair_word<By, K: Worded<By>, V: Worded<By>>(
     alloc: Global,
@@ -71,7 +76,7 @@ fn pair_word<By, K: Worded<By>, V: Worded<By>>(
 ) -> Result<String, Fault> {
     let key = key.word(alloc)?;
     let value = value.word(alloc)?;
-    Ok(format!(in alloc; "{key}={value}")?)
+    paired(alloc, key.as_str(), value.as_str())
 }
 
 // The words of the pairs of a map, in the order of these.
@@ -101,10 +106,15 @@ fn joined(alloc: Global, words: &[String]) -> Result<String, Fault> {
     Ok(all)
 }
 
+// A text between two marks.
+fn around(alloc: Global, front: &str, text: &str, back: &str) -> Result<String, Fault> {
+    Ok(format!(in alloc; "{front}{text}{back}")?)
+}
+
 // Some words between two marks, with a comma between them.
 fn between(alloc: Global, front: &str, words: &[String], back: &str) -> Result<String, Fault> {
     let words = joined(alloc, words)?;
-    Ok(format!(in alloc; "{front}{words}{back}")?)
+    around(alloc, front, words.as_str(), back)
 }
 
 // The word of a value, or `none`.
@@ -128,6 +138,12 @@ fn map_word<By, K: MapKey + Hash + Worded<By>, V: Worded<By>>(
 ) -> Result<String, Fault> {
     let pairs = pair_words::<By, K, V>(alloc, map)?;
     between(alloc, "{", pairs.as_slice(), "}")
+}
+
+// Words, and that of a part behind a bar, but before the first.
+fn with_part(alloc: Global, words: &str, is_first: bool, part: &Part) -> Result<String, Fault> {
+    let mark = if is_first { "" } else { "|" };
+    Ok(format!(in alloc; "{words}{mark}{}", part.1.as_str())?)
 }
 
 // Puts a part behind others; whether there was memory.
@@ -189,10 +205,9 @@ impl<By> Parts<By> {
         let alloc = self.alloc;
         let mut words = String::new(alloc);
         for (at, part) in self.all.iter().enumerate() {
-            let mark = if at == 0 { "" } else { "|" };
-            words = format!(in alloc; "{words}{mark}{}", part.1.as_str())?;
+            words = with_part(alloc, words.as_str(), at == 0, part)?;
         }
-        Ok(format!(in alloc; "({words})")?)
+        around(alloc, "(", words.as_str(), ")")
     }
 
     /// Whether the members are the same, but for that of a number.

@@ -11,7 +11,8 @@ use buffa_map::map_codec::{
     read_map_field, write_message_field, write_message_field_by,
 };
 use buffa_wire::{
-    Budget, DecodeContext, EncodeError, Message, RECURSION_LIMIT, SizeCache, varint_len,
+    Budget, DecodeContext, DecodeError, EncodeError, Message, RECURSION_LIMIT, SizeCache,
+    varint_len,
 };
 use conformance_rows::calls::Kind;
 use conformance_rows::case::Case;
@@ -26,7 +27,26 @@ fn tag_len_of(number: u32) -> u64 {
     varint_len(u64::from(number) * 8 + 2) as u64
 }
 
-// The length of a map field of messages, and their slots: by the call for messages, or by one that is passed a function.
+// The length of a map field of messages, and their slots, by the call that is passed a function.
+fn size_by_function<
+    'a,
+    KC: MapCodec,
+    M: Message + 'a,
+    C: StableWalk<'a> + MapStorage<Key = KC::Value, Value = M>,
+>(map: &'a C, tag_len: u64, cache: &mut SizeCache) -> Result<u64, EncodeError>
+where
+    KC::Value: 'a,
+    ensures { IsFieldSized KC.writing M.text M.slots tag_len (C.walk map.now) cache.old result cache.new }
+{
+    message_field_len_by::<KC, M, C, _>(
+        map,
+        tag_len,
+        cache,
+        |value: &M, cache: &mut SizeCache| value.compute_size(cache),
+    )
+}
+
+// The same, or by the call for messages.
 fn size_field<
     'a,
     KC: MapCodec,
@@ -37,18 +57,34 @@ where
     KC::Value: 'a,
     ensures { IsFieldSized KC.writing M.text M.slots tag_len (C.walk map.now) cache.old result cache.new }
 {
-    if !by_function {
-        return message_field_len::<KC, M, C>(map, tag_len, cache);
+    if by_function {
+        return size_by_function::<KC, M, C>(map, tag_len, cache);
     }
-    message_field_len_by::<KC, M, C, _>(
+    message_field_len::<KC, M, C>(map, tag_len, cache)
+}
+
+// The text of a map field of messages whose slots are the next, by the call that is passed a function.
+fn write_by_function<
+    'a,
+    KC: MapCodec,
+    M: Message + 'a,
+    C: StableWalk<'a> + MapStorage<Key = KC::Value, Value = M>,
+>(map: &'a C, number: u32, cache: &mut SizeCache, text: &mut Vec<u8>) -> Result<(), EncodeError>
+where
+    KC::Value: 'a,
+    requires number { IsNumber number }
+    requires next { IsNext (field_slots M.text M.slots (C.walk map.now)) cache.old }
+{
+    write_message_field_by::<KC, M, C, Vec<u8>, _>(
         map,
-        tag_len,
+        number,
         cache,
-        |value: &M, cache: &mut SizeCache| value.compute_size(cache),
+        text,
+        |value: &M, cache: &mut SizeCache, text: &mut Vec<u8>| value.write_to(cache, text),
     )
 }
 
-// The text of a map field of messages whose slots are the next, in the same two ways.
+// The same, or by the call for messages.
 fn write_field<
     'a,
     KC: MapCodec,
@@ -66,16 +102,10 @@ where
     requires number { IsNumber number }
     requires next { IsNext (field_slots M.text M.slots (C.walk map.now)) cache.old }
 {
-    if !by_function {
-        return write_message_field::<KC, M, C, Vec<u8>>(map, number, cache, text);
+    if by_function {
+        return write_by_function::<KC, M, C>(map, number, cache, text);
     }
-    write_message_field_by::<KC, M, C, Vec<u8>, _>(
-        map,
-        number,
-        cache,
-        text,
-        |value: &M, cache: &mut SizeCache, text: &mut Vec<u8>| value.write_to(cache, text),
-    )
+    write_message_field::<KC, M, C, Vec<u8>>(map, number, cache, text)
 }
 
 // The length and the text of a map field of messages, with a cache of which every slot was consumed.
@@ -118,6 +148,18 @@ where
     }
 }
 
+// Reads a map field into a map.
+fn read<KC: MapCodec, M: Message, C: MapStorage<Key = KC::Value, Value = M>>(
+    alloc: Global,
+    map: &mut C,
+    number: u32,
+    bytes: &[u8],
+    ctx: DecodeContext<'_>,
+) -> Result<(), DecodeError> {
+    let mut rest = bytes;
+    read_map_field::<KC, Msg<M>, C, _>(alloc, map, number, &mut rest, ctx, None)
+}
+
 // Fills a map field into a map.
 fn fill_of<KC: MapCodec, M: Message, C: MapStorage<Key = KC::Value, Value = M>>(
     alloc: Global,
@@ -128,8 +170,7 @@ fn fill_of<KC: MapCodec, M: Message, C: MapStorage<Key = KC::Value, Value = M>>(
 ) -> Result<(), Fault> {
     let mut budget = Budget::new(slots);
     let ctx = DecodeContext::new(RECURSION_LIMIT, &mut budget);
-    let mut rest = bytes;
-    match read_map_field::<KC, Msg<M>, C, _>(alloc, map, number, &mut rest, ctx, None) {
+    match read::<KC, M, C>(alloc, map, number, bytes, ctx) {
         Ok(()) => Ok(()),
         Err(_) => Err(Fault::Form),
     }
