@@ -20,7 +20,7 @@ struct Stored<T> {
 }
 
 // Sets a value, and reads it.
-fn stored<V, T, C: ExtensionCodec<Value = V, Output = T>>(
+fn set_and_read<V, T, C: ExtensionCodec<Value = V, Output = T>>(
     alloc: Global,
     number: u32,
     mut carrier: Carrier,
@@ -70,7 +70,7 @@ pub fn set_then<By, T: Told<By>, C: ExtensionCodec<Value = T::Value, Output = T>
     let number = case.number()?;
     let carrier = carrier_of(alloc, case)?;
     mark.begin(alloc);
-    let Stored { carrier, found } = stored::<T::Value, T, C>(alloc, number, carrier, value);
+    let Stored { carrier, found } = set_and_read::<T::Value, T, C>(alloc, number, carrier, value);
     let refused = mark.end();
     let words = words_of::<By, T, EncodeError>(alloc, &found);
     let records = if is_full(&found) {

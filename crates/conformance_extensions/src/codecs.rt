@@ -200,7 +200,7 @@ struct Packed {
 }
 
 // Packs a value behind bytes.
-fn packed<V: Drop, C: PackableCodec<Value = V>>(value: V, mut bytes: Vec<u8>) -> Packed {
+fn pack_behind<V: Drop, C: PackableCodec<Value = V>>(value: V, mut bytes: Vec<u8>) -> Packed {
     let answer = C::encode_packed(&value, &mut bytes);
     Packed { bytes, answer }
 }
@@ -229,7 +229,7 @@ pub fn pack<By, V: Worded<By>, C: PackableCodec<Value = V>>(
     let bytes = hex::decode(alloc, case.before())?;
     let value = V::of_word(alloc, case.input())?;
     mark.begin(alloc);
-    let packed = packed::<V, C>(value, bytes);
+    let packed = pack_behind::<V, C>(value, bytes);
     let refused = mark.end();
     packed_told(alloc, packed, refused)
 }

@@ -11,28 +11,41 @@ use conformance_rows::outcome::Outcome;
 use conformance_rows::words::Worded;
 use std::alloc::{AllocError, Global};
 
-// What a descriptor gives back of what it was given.
+// A number and an extendee.
 #[derive(Clone, Copy)]
 struct Part {
     number: u32,
     extendee: &'static str,
 }
 
-fn part<C: ExtensionCodec, D>(ext: &Extension<C, D>) -> Part {
+// The parts of a descriptor, of its copy, and of one with a default.
+#[derive(Clone, Copy)]
+struct Parts {
+    first: Part,
+    copy: Part,
+    declares: Part,
+}
+
+// What a descriptor gives back of what it was given.
+fn part_of<C: ExtensionCodec, D>(ext: &Extension<C, D>) -> Part {
     Part {
         number: ext.number(),
         extendee: ext.extendee(),
     }
 }
 
-// The parts of a descriptor, of its copy, and of one with a default.
-fn parts<C: ExtensionCodec>(number: u32) -> Result<[Part; 3], AllocError> {
+// What descriptors of a number give back.
+fn parts_of<C: ExtensionCodec>(number: u32) -> Result<Parts, AllocError> {
     let first = Extension::<C>::new(number, "test.Carrier");
     let copy = first.clone()?;
     let declares = Extension::<C>::with_default(number, "test.Carrier", |_alloc: Global| {
         Err(AllocError)
     });
-    Ok([part(&first), part(&copy), part(&declares)])
+    Ok(Parts {
+        first: part_of(&first),
+        copy: part_of(&copy),
+        declares: part_of(&declares),
+    })
 }
 
 // Words, and behind them the number and the extendee of a descriptor.
@@ -41,13 +54,11 @@ fn with_part(alloc: Global, words: &str, part: Part) -> Result<String, Fault> {
     Ok(format!(in alloc; "{words}{space}{} {}", part.number, part.extendee)?)
 }
 
-// The numbers and the extendees of descriptors.
-fn parts_told(alloc: Global, parts: &[Part]) -> Result<String, Fault> {
-    let mut words = String::new(alloc);
-    for part in parts {
-        words = with_part(alloc, words.as_str(), *part)?;
-    }
-    Ok(words)
+// The numbers and the extendees of all parts.
+fn parts_told(alloc: Global, parts: Parts) -> Result<String, Fault> {
+    let first = with_part(alloc, "", parts.first)?;
+    let both = with_part(alloc, first.as_str(), parts.copy)?;
+    with_part(alloc, both.as_str(), parts.declares)
 }
 
 /// What a descriptor gives back of what it was given.
@@ -58,15 +69,36 @@ pub fn descriptor<C: ExtensionCodec>(
 ) -> Result<Outcome, Fault> {
     let number = case.number()?;
     mark.begin(alloc);
-    let parts = parts::<C>(number);
+    let parts = parts_of::<C>(number);
     let refused = mark.end();
-    let parts = parts?;
-    words_told(alloc, parts_told(alloc, &parts), refused)
+    words_told(alloc, parts_told(alloc, parts?), refused)
+}
+
+// A word of at most 64 bytes with spaces behind it, which a default may hold.
+fn short_of(word: &str) -> Result<[u8; 64], Fault> {
+    let mut short = [b' '; 64];
+    let text = word.as_bytes();
+    if text.len() > 64 {
+        return Err(Fault::Form);
+    }
+    short[..text.len()].copy_from_slice(text);
+    Ok(short)
+}
+
+// The word of the setting `declared`.
+fn declared_of(case: &Case<'_>) -> Result<Option<[u8; 64]>, Fault> {
+    match case.setting("declared") {
+        None => Ok(None),
+        Some(word) => Ok(Some(short_of(word)?)),
+    }
 }
 
 // The value of a word, made anew, as a default is.
-fn made<By, V: Worded<By>>(alloc: Global, word: &str) -> Result<V, AllocError> {
-    match V::of_word(alloc, word) {
+fn made<By, V: Worded<By>>(alloc: Global, word: &[u8; 64]) -> Result<V, AllocError> {
+    let Ok(text) = str::from_utf8(word) else {
+        return Err(AllocError);
+    };
+    match V::of_word(alloc, text.trim()) {
         Ok(value) => Ok(value),
         Err(_) => Err(AllocError),
     }
@@ -90,10 +122,10 @@ fn declared<By, V: Worded<By>, C: ExtensionCodec<Value = V, Output = Option<V>>>
     alloc: Global,
     number: u32,
     carrier: Option<&Carrier>,
-    word: &str,
+    word: [u8; 64],
 ) -> Result<Option<V>, AllocError> {
-    let ext = Extension::<C>::with_default(number, "test.Carrier", |a: Global| {
-        made::<By, V>(a, word)
+    let ext = Extension::<C>::with_default(number, "test.Carrier", move |a: Global| {
+        made::<By, V>(a, &word)
     });
     match carrier {
         None => ext.declared(alloc),
@@ -106,7 +138,7 @@ fn found<By, V: Worded<By>, C: ExtensionCodec<Value = V, Output = Option<V>>>(
     alloc: Global,
     number: u32,
     carrier: Option<&Carrier>,
-    word: Option<&str>,
+    word: Option<[u8; 64]>,
 ) -> Result<Option<V>, AllocError> {
     match word {
         None => undeclared::<V, C>(alloc, number, carrier),
@@ -121,7 +153,7 @@ pub fn default<By, V: Worded<By>, C: ExtensionCodec<Value = V, Output = Option<V
     mark: &mut Mark,
 ) -> Result<Outcome, Fault> {
     let number = case.number()?;
-    let word = case.setting("declared");
+    let word = declared_of(case)?;
     let carrier = carrier_of(alloc, case)?;
     mark.begin(alloc);
     let found = found::<By, V, C>(alloc, number, Some(&carrier), word);
@@ -136,7 +168,7 @@ pub fn declares<By, V: Worded<By>, C: ExtensionCodec<Value = V, Output = Option<
     mark: &mut Mark,
 ) -> Result<Outcome, Fault> {
     let number = case.number()?;
-    let word = case.setting("declared");
+    let word = declared_of(case)?;
     mark.begin(alloc);
     let found = found::<By, V, C>(alloc, number, None, word);
     let refused = mark.end();

@@ -62,7 +62,7 @@ fn steps_of(alloc: Global, words: &str, most: usize) -> Result<Vec<Step>, Fault>
 }
 
 // Takes steps.
-fn replayed(alloc: Global, mut fields: UnknownFields, steps: Vec<Step>) -> Replayed {
+fn take_steps(alloc: Global, mut fields: UnknownFields, steps: Vec<Step>) -> Replayed {
     let answer = replay(alloc, &mut fields, steps);
     Replayed { fields, answer }
 }
@@ -77,7 +77,7 @@ fn stopped_told(
 ) -> Result<String, Fault> {
     let old = records_of(alloc, case.before())?;
     let steps = steps_of(alloc, case.input(), done)?;
-    let wanted = replayed(alloc, old, steps);
+    let wanted = take_steps(alloc, old, steps);
     if wanted.answer.is_err() {
         return Err(Fault::Memory);
     }
@@ -112,7 +112,7 @@ pub fn steps(alloc: Global, case: &Case<'_>, mark: &mut Mark) -> Result<Outcome,
     let steps = steps_of(alloc, case.input(), usize::MAX)?;
     let count = steps.len();
     mark.begin(alloc);
-    let replayed = replayed(alloc, fields, steps);
+    let replayed = take_steps(alloc, fields, steps);
     let refused = mark.end();
     replayed_told(alloc, case, &replayed, count, refused)
 }

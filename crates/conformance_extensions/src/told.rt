@@ -124,7 +124,13 @@ pub fn found_told<By, T: Told<By>>(
     refused: bool,
 ) -> Result<Outcome, Fault> {
     let words = words_of::<By, T, AllocError>(alloc, found);
-    got_told(alloc, found.is_ok(), words, records_told(alloc, fields), refused)
+    got_told(
+        alloc,
+        found.is_ok(),
+        words,
+        records_told(alloc, fields),
+        refused,
+    )
 }
 
 /// The carrier of the records that stand before.
