@@ -1,31 +1,40 @@
 // Values that are set, and read again in the same call.
 
-ghost use Rattle.std.specs.Prelude.{◌≡◌};
-
-use crate::told::{Told, are_same, carrier_of, is_full, stand_told, values_of};
-use buffa_ext::{Extension, ExtensionCodec, ExtensionSet, set_then_read};
+use crate::sets::put;
+use crate::told::{Told, are_same, carrier_of, is_full, stand_told, words_of};
+use buffa_ext::{Extension, ExtensionCodec, set_then_read};
 use buffa_options::Carrier;
 use buffa_wire::{EncodeError, UnknownFields};
 use conformance_rows::case::Case;
 use conformance_rows::fault::Fault;
 use conformance_rows::mark::Mark;
 use conformance_rows::outcome::{Outcome, records_told, written};
-use conformance_rows::words::{Worded, records_of};
+use conformance_rows::words::records_of;
 use std::alloc::Global;
 
-// The words of what was read, or nothing.
-fn read_told<By, T: Told<By>>(
+// The carrier then, and what was read.
+#[derive(Drop)]
+struct Stored<T> {
+    carrier: Carrier,
+    found: Result<T, EncodeError>,
+}
+
+// Sets a value, and reads it.
+fn set_and_read<V, T, C: ExtensionCodec<Value = V, Output = T>>(
     alloc: Global,
-    found: &Result<T, EncodeError>,
-) -> Result<String, Fault> {
-    match found {
-        Ok(found) => found.words(alloc),
-        Err(_) => Ok(String::new(alloc)),
-    }
+    number: u32,
+    mut carrier: Carrier,
+    value: V,
+) -> Stored<T>
+    requires { C.normal (C.meaning value) }
+{
+    let ext = Extension::<C>::new(number, "test.Carrier");
+    let found = set_then_read(alloc, &mut carrier, &ext, value);
+    Stored { carrier, found }
 }
 
 // What stands where memory ran out: the old records, or those of the value set too.
-fn set_told(
+fn either_told(
     alloc: Global,
     case: &Case<'_>,
     fields: &UnknownFields,
@@ -36,54 +45,50 @@ fn set_told(
     stand_told(alloc, fields, may)
 }
 
-/// What is set and read; `again` is the same value.
-pub fn set_then<By, T: Told<By> + Drop, V: Drop, C: ExtensionCodec<Value = V, Output = T>>(
+// The same, of the value that the row has.
+fn value_told<By, T: Told<By>, C: ExtensionCodec<Value = T::Value>>(
+    alloc: Global,
+    case: &Case<'_>,
+    number: u32,
+    fields: &UnknownFields,
+) -> Result<String, Fault> {
+    let mut carrier = carrier_of(alloc, case)?;
+    let value = T::value_of(alloc, case.input())?;
+    let _ = put::<T::Value, C>(alloc, number, false, value, &mut carrier);
+    either_told(alloc, case, fields, &carrier.fields)
+}
+
+/// What is set and read of a value, which is that of the row's words.
+pub fn set_then<By, T: Told<By>, C: ExtensionCodec<Value = T::Value, Output = T>>(
     alloc: Global,
     case: &Case<'_>,
     mark: &mut Mark,
-    value: V,
-    again: V,
+    value: T::Value,
 ) -> Result<Outcome, Fault>
     requires { C.normal (C.meaning value) }
 {
-    let ext = Extension::<C>::new(case.number()?, "test.Carrier");
-    let mut carrier = carrier_of(alloc, case)?;
-    let mut other = carrier_of(alloc, case)?;
+    let number = case.number()?;
+    let carrier = carrier_of(alloc, case)?;
     mark.begin(alloc);
-    let found = set_then_read(alloc, &mut carrier, &ext, value);
+    let Stored { carrier, found } = set_and_read::<T::Value, T, C>(alloc, number, carrier, value);
     let refused = mark.end();
-    let words = read_told::<By, T>(alloc, &found);
+    let words = words_of::<By, T, EncodeError>(alloc, &found);
     let records = if is_full(&found) {
-        let _ = other.set_extension(alloc, &ext, again);
-        set_told(alloc, case, &carrier.fields, &other.fields)
+        value_told::<By, T, C>(alloc, case, number, &carrier.fields)
     } else {
         records_told(alloc, &carrier.fields)
     };
     Outcome::of_words(alloc, written(alloc, found), words, records, refused)
 }
 
-/// A single value of a codec whose values are all read back.
-pub fn one<By, V: Worded<By>, C: ExtensionCodec<Value = V, Output = Option<V>>>(
+/// A value of a codec whose values are all read back.
+pub fn any<By, T: Told<By>, C: ExtensionCodec<Value = T::Value, Output = T>>(
     alloc: Global,
     case: &Case<'_>,
     mark: &mut Mark,
 ) -> Result<Outcome, Fault>
     requires { (v : C.Meaning) → C.normal v }
 {
-    let value = V::of_word(alloc, case.input())?;
-    let again = V::of_word(alloc, case.input())?;
-    set_then::<By, Option<V>, V, C>(alloc, case, mark, value, again)
-}
-
-/// A list of a codec whose lists are all read back.
-pub fn list<By, V: Worded<By>, C: ExtensionCodec<Value = Vec<V>, Output = Vec<V>>>(
-    alloc: Global,
-    case: &Case<'_>,
-    mark: &mut Mark,
-) -> Result<Outcome, Fault>
-    requires { (v : C.Meaning) → C.normal v }
-{
-    let values = values_of::<By, V>(alloc, case.input())?;
-    let again = values_of::<By, V>(alloc, case.input())?;
-    set_then::<By, Vec<V>, Vec<V>, C>(alloc, case, mark, values, again)
+    let value = T::value_of(alloc, case.input())?;
+    set_then::<By, T, C>(alloc, case, mark, value)
 }

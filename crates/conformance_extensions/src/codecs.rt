@@ -1,16 +1,18 @@
 // Calls on codecs: a record of a value and back, and packed bytes and back.
 
-use crate::told::{Told, asks_to_try, found_told, values_of};
+use crate::told::{Told, asks_to_try, found_told, got_told};
 use buffa_ext::{PackableCodec, SingularCodec};
 use buffa_wire::{
     Budget, DecodeContext, EncodeError, UnknownField, UnknownFieldData, UnknownFields,
 };
-use conformance_rows::case::{Case, or_dash};
+use conformance_rows::case::Case;
 use conformance_rows::fault::Fault;
 use conformance_rows::mark::Mark;
-use conformance_rows::outcome::{Outcome, got, left, records_told, written};
+use conformance_rows::outcome::{
+    Outcome, budget_of, digits_told, records_told, with_left, written,
+};
 use conformance_rows::words::{Worded, records_of};
-use std::alloc::Global;
+use std::alloc::{AllocError, Global};
 
 // The one record of a payload, behind number 1.
 fn one_record(alloc: Global, payload: UnknownFieldData) -> Result<UnknownFields, Fault> {
@@ -25,8 +27,8 @@ fn record_told(alloc: Global, payload: UnknownFieldData) -> Result<String, Fault
     records_told(alloc, &fields)
 }
 
-// The first record's payload.
-fn first_of(fields: &UnknownFields) -> Result<&UnknownFieldData, Fault> {
+/// The first record's payload.
+pub fn first_of(fields: &UnknownFields) -> Result<&UnknownFieldData, Fault> {
     match fields.iter().next() {
         Some(field) => Ok(&field.payload),
         None => Err(Fault::Form),
@@ -38,22 +40,42 @@ fn no_records(alloc: Global) -> Result<String, Fault> {
     Ok(String::from_str(alloc, "records -")?)
 }
 
+// What comes of a payload that was not made.
+fn unmade_told(
+    alloc: Global,
+    fault: EncodeError,
+    records: Result<String, Fault>,
+    refused: bool,
+) -> Result<Outcome, Fault> {
+    let answer = written::<()>(alloc, Err(fault));
+    Outcome::of_words(alloc, answer, Ok(String::new(alloc)), records, refused)
+}
+
 /// What comes of a payload that was made, or not.
 pub fn made_told(
     alloc: Global,
     made: Result<UnknownFieldData, EncodeError>,
     refused: bool,
 ) -> Result<Outcome, Fault> {
-    let none = Ok(String::new(alloc));
     match made {
         Ok(payload) => {
-            let records = record_told(alloc, payload);
-            Outcome::of_words(alloc, got(alloc, true), none, records, refused)
+            let none = Ok(String::new(alloc));
+            got_told(alloc, true, none, record_told(alloc, payload), refused)
         }
-        Err(fault) => {
-            let answer = written::<()>(alloc, Err(fault));
-            Outcome::of_words(alloc, answer, none, no_records(alloc), refused)
-        }
+        Err(fault) => unmade_told(alloc, fault, no_records(alloc), refused),
+    }
+}
+
+// The record of a value, by one of two calls that are alike.
+fn made<V: Drop, C: SingularCodec<Value = V>>(
+    alloc: Global,
+    tries: bool,
+    value: V,
+) -> Result<UnknownFieldData, EncodeError> {
+    if tries {
+        C::try_encode_one(alloc, &value)
+    } else {
+        C::encode_one(alloc, &value)
     }
 }
 
@@ -66,68 +88,54 @@ pub fn encode_one<By, V: Worded<By>, C: SingularCodec<Value = V>>(
     let value = V::of_word(alloc, case.input())?;
     let tries = asks_to_try(case);
     mark.begin(alloc);
-    let made = if tries {
-        C::try_encode_one(alloc, &value)
-    } else {
-        C::encode_one(alloc, &value)
-    };
+    let made = made::<V, C>(alloc, tries, value);
     let refused = mark.end();
     made_told(alloc, made, refused)
 }
 
-/// What a codec reads of the first record.
+// What a codec reads of a record, or reads of it in a context.
+fn found<V, C: SingularCodec<Value = V>>(
+    alloc: Global,
+    case: &Case<'_>,
+    payload: &UnknownFieldData,
+    ctx: DecodeContext<'_>,
+) -> Result<Option<V>, AllocError> {
+    if case.call == "decode-one" {
+        C::decode_one(alloc, payload)
+    } else {
+        C::decode_one_ctx(alloc, payload, ctx)
+    }
+}
+
+// An outcome with what is left of the budget, where the setting `left` asks for it.
+fn with_budget(
+    alloc: Global,
+    case: &Case<'_>,
+    budget: &Budget,
+    outcome: Result<Outcome, Fault>,
+) -> Result<Outcome, Fault> {
+    if case.says("left", "told") {
+        with_left(alloc, case, budget, outcome, 0)
+    } else {
+        outcome
+    }
+}
+
+/// What a codec reads of the first record, by one of two calls.
 pub fn decode_one<By, V: Worded<By>, C: SingularCodec<Value = V>>(
     alloc: Global,
     case: &Case<'_>,
     mark: &mut Mark,
 ) -> Result<Outcome, Fault> {
-    let fields = records_of(alloc, case.before())?;
-    let payload = first_of(&fields)?;
-    mark.begin(alloc);
-    let found = C::decode_one(alloc, payload);
-    let refused = mark.end();
-    found_told::<By, Option<V>>(alloc, &found, &fields, refused)
-}
-
-// With what is left of the budget.
-fn with_left(
-    alloc: Global,
-    case: &Case<'_>,
-    budget: &Budget,
-    outcome: Outcome,
-) -> Result<Outcome, Fault> {
-    outcome.with_left(left(alloc, case, budget, 0), 0)
-}
-
-// The same, where the setting `left` asks for it.
-fn with_budget(
-    alloc: Global,
-    case: &Case<'_>,
-    budget: &Budget,
-    outcome: Outcome,
-) -> Result<Outcome, Fault> {
-    if case.says("left", "told") {
-        with_left(alloc, case, budget, outcome)
-    } else {
-        Ok(outcome)
-    }
-}
-
-/// The same in a context.
-pub fn decode_one_ctx<By, V: Worded<By>, C: SingularCodec<Value = V>>(
-    alloc: Global,
-    case: &Case<'_>,
-    mark: &mut Mark,
-) -> Result<Outcome, Fault> {
-    let mut budget = Budget::new(case.slots()?).with_element_memory(case.units()?);
+    let mut budget = budget_of(case)?;
     let depth = case.depth()?;
     let fields = records_of(alloc, case.before())?;
     let payload = first_of(&fields)?;
     let ctx = DecodeContext::new(depth, &mut budget);
     mark.begin(alloc);
-    let found = C::decode_one_ctx(alloc, payload, ctx);
+    let found = found::<V, C>(alloc, case, payload, ctx);
     let refused = mark.end();
-    let outcome = found_told::<By, Option<V>>(alloc, &found, &fields, refused)?;
+    let outcome = found_told::<By, Option<V>>(alloc, &found, &fields, refused);
     with_budget(alloc, case, &budget, outcome)
 }
 
@@ -143,17 +151,25 @@ fn front_told(alloc: Global, case: &Case<'_>, stand: &str, all: &str) -> Result<
     Ok(format!(in alloc; "records {stand} may not stand")?)
 }
 
-// The words of what bytes hold behind old values.
-fn unpacked_words<By, V: Worded<By>, C: SingularCodec<Value = V>>(
+// Puts the values that bytes hold behind others; whether all are there.
+fn unpacked<V, C: SingularCodec<Value = V>>(bytes: &[u8], values: &mut Vec<V>) -> bool {
+    C::decode_packed(bytes, values).is_ok()
+}
+
+// What stands where memory ran out, of words: `front_told`, where all are those of the values that bytes hold behind
+// the values before.
+fn stand_told<By, V: Worded<By>, C: SingularCodec<Value = V>>(
     alloc: Global,
     case: &Case<'_>,
     bytes: &[u8],
+    stand: &str,
 ) -> Result<String, Fault> {
-    let mut values = values_of::<By, V>(alloc, case.before())?;
-    match C::decode_packed(bytes, &mut values) {
-        Ok(()) => Told::<By>::words(&values, alloc),
-        Err(_) => Err(Fault::Memory),
+    let mut values = <Vec<V> as Told<By>>::value_of(alloc, case.before())?;
+    if !unpacked::<V, C>(bytes, &mut values) {
+        return Err(Fault::Memory);
     }
+    let all = Told::<By>::words(&values, alloc)?;
+    front_told(alloc, case, stand, all.as_str())
 }
 
 /// The values that a codec reads of packed bytes, behind those that stand before.
@@ -163,42 +179,45 @@ pub fn unpack<By, V: Worded<By>, C: SingularCodec<Value = V>>(
     mark: &mut Mark,
 ) -> Result<Outcome, Fault> {
     let bytes = hex::decode(alloc, case.input())?;
-    let mut values = values_of::<By, V>(alloc, case.before())?;
+    let mut values = <Vec<V> as Told<By>>::value_of(alloc, case.before())?;
     mark.begin(alloc);
-    let done = C::decode_packed(bytes.as_slice(), &mut values);
+    let is_ok = unpacked::<V, C>(bytes.as_slice(), &mut values);
     let refused = mark.end();
     let words = Told::<By>::words(&values, alloc)?;
-    let records = if done.is_ok() {
+    let records = if is_ok {
         no_records(alloc)
     } else {
-        let all = unpacked_words::<By, V, C>(alloc, case, bytes.as_slice())?;
-        front_told(alloc, case, words.as_str(), all.as_str())
+        stand_told::<By, V, C>(alloc, case, bytes.as_slice(), words.as_str())
     };
-    Outcome::of_words(alloc, got(alloc, done.is_ok()), Ok(words), records, refused)
+    got_told(alloc, is_ok, Ok(words), records, refused)
+}
+
+// The bytes behind which a value was packed, or not.
+#[derive(Drop)]
+struct Packed {
+    bytes: Vec<u8>,
+    answer: Result<(), EncodeError>,
+}
+
+// Packs a value behind bytes.
+fn pack_behind<V: Drop, C: PackableCodec<Value = V>>(value: V, mut bytes: Vec<u8>) -> Packed {
+    let answer = C::encode_packed(&value, &mut bytes);
+    Packed { bytes, answer }
+}
+
+// The bytes that stand where memory ran out.
+fn bytes_told(alloc: Global, bytes: &[u8]) -> Result<String, Fault> {
+    let digits = hex::encode(alloc, bytes)?;
+    digits_told(alloc, "records", digits.as_str())
 }
 
 // What comes of bytes behind which a value was packed, or not; then they are as they were.
-fn packed_told(
-    alloc: Global,
-    case: &Case<'_>,
-    answer: Result<(), EncodeError>,
-    bytes: Vec<u8>,
-    refused: bool,
-) -> Result<Outcome, Fault> {
-    let Err(fault) = answer else {
-        let payload = UnknownFieldData::LengthDelimited(bytes);
-        return made_told(alloc, Ok(payload), refused);
-    };
-    let digits = hex::encode(alloc, bytes.as_slice())?;
-    let records = Ok(format!(in alloc; "records {}", or_dash(digits.as_str()))?);
-    let none = Ok(String::new(alloc));
-    Outcome::of_words(
-        alloc,
-        written::<()>(alloc, Err(fault)),
-        none,
-        records,
-        refused,
-    )
+fn packed_told(alloc: Global, packed: Packed, refused: bool) -> Result<Outcome, Fault> {
+    let Packed { bytes, answer } = packed;
+    match answer {
+        Ok(()) => made_told(alloc, Ok(UnknownFieldData::LengthDelimited(bytes)), refused),
+        Err(fault) => unmade_told(alloc, fault, bytes_told(alloc, bytes.as_slice()), refused),
+    }
 }
 
 /// The packed bytes of a value, behind those that stand before, as a record.
@@ -207,10 +226,10 @@ pub fn pack<By, V: Worded<By>, C: PackableCodec<Value = V>>(
     case: &Case<'_>,
     mark: &mut Mark,
 ) -> Result<Outcome, Fault> {
+    let bytes = hex::decode(alloc, case.before())?;
     let value = V::of_word(alloc, case.input())?;
-    let mut bytes = hex::decode(alloc, case.before())?;
     mark.begin(alloc);
-    let answer = C::encode_packed(&value, &mut bytes);
+    let packed = pack_behind::<V, C>(value, bytes);
     let refused = mark.end();
-    packed_told(alloc, case, answer, bytes, refused)
+    packed_told(alloc, packed, refused)
 }

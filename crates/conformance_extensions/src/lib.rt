@@ -1,12 +1,12 @@
 //! Rows on extensions of a carrier, and on the codecs themselves.
 #![tactic(auto)]
 
-mod alone;
-pub mod back;
+mod back;
 mod codecs;
 mod descriptors;
 mod messages;
 pub mod normal;
+mod reads;
 mod sets;
 mod steps;
 mod told;
@@ -24,34 +24,22 @@ use conformance_rows::outcome::Outcome;
 use conformance_rows::words::Worded;
 use normal::Normal;
 use std::alloc::Global;
+use told::Told;
 
-// A call on a list.
-fn list<By, V: Worded<By>, L: ExtensionCodec<Value = Vec<V>, Output = Vec<V>>>(
+// A call on what is read as a T.
+fn read_as<By, T: Told<By>, C: ExtensionCodec<Value = T::Value, Output = T>>(
     alloc: Global,
     case: &Case<'_>,
     mark: &mut Mark,
 ) -> Result<Outcome, Fault> {
     match case.call {
-        "decode-of" | "encode-into" => alone::list::<By, V, L>(alloc, case, mark),
-        "descriptor" => descriptors::descriptor::<L>(alloc, case, mark),
-        _ => sets::list::<By, V, L>(alloc, case, mark),
-    }
-}
-
-// A call on a single value.
-fn one<By, V: Worded<By>, C: ExtensionCodec<Value = V, Output = Option<V>>>(
-    alloc: Global,
-    case: &Case<'_>,
-    mark: &mut Mark,
-) -> Result<Outcome, Fault> {
-    match (case.call, case.setting("declared")) {
-        ("decode-of" | "encode-into", _) => alone::one::<By, V, C>(alloc, case, mark),
-        ("descriptor", _) => descriptors::descriptor::<C>(alloc, case, mark),
-        ("declared", _) => descriptors::declared::<By, V, C>(alloc, case, mark),
-        ("default", Some(word)) => {
-            descriptors::get_or_declared::<By, V, C>(alloc, case, mark, word)
-        }
-        _ => sets::one::<By, V, C>(alloc, case, mark),
+        "get" | "decode-of" => reads::get::<By, T, C>(alloc, case, mark),
+        "set" => sets::set::<By, T, C>(alloc, case, mark),
+        "encode-into" => sets::encode_into::<By, T, C>(alloc, case, mark),
+        "clear" => reads::clear::<C>(alloc, case, mark),
+        "has" => reads::is_there::<C>(alloc, case, mark),
+        "descriptor" => descriptors::descriptor::<C>(alloc, case, mark),
+        _ => Err(Fault::Form),
     }
 }
 
@@ -63,11 +51,12 @@ pub fn plain<
 >(alloc: Global, case: &Case<'_>, mark: &mut Mark) -> Result<Outcome, Fault> {
     match case.call {
         "encode-one" => codecs::encode_one::<By, V, C>(alloc, case, mark),
-        "decode-one" => codecs::decode_one::<By, V, C>(alloc, case, mark),
-        "decode-one-ctx" => codecs::decode_one_ctx::<By, V, C>(alloc, case, mark),
+        "decode-one" | "decode-one-ctx" => codecs::decode_one::<By, V, C>(alloc, case, mark),
         "unpack" => codecs::unpack::<By, V, C>(alloc, case, mark),
-        _ if case.says("how", "all") => list::<By, V, Repeated<C>>(alloc, case, mark),
-        _ => one::<By, V, C>(alloc, case, mark),
+        _ if case.says("how", "all") => read_as::<By, Vec<V>, Repeated<C>>(alloc, case, mark),
+        "default" => descriptors::default::<By, V, C>(alloc, case, mark),
+        "declared" => descriptors::declares::<By, V, C>(alloc, case, mark),
+        _ => read_as::<By, Option<V>, C>(alloc, case, mark),
     }
 }
 
@@ -78,11 +67,11 @@ fn set_number<By, V: Worded<By>, C: Numbered<Value = V>>(
     mark: &mut Mark,
 ) -> Result<Outcome, Fault> {
     if case.says("how", "all") {
-        back::list::<By, V, Repeated<C>>(alloc, case, mark)
+        back::any::<By, Vec<V>, Repeated<C>>(alloc, case, mark)
     } else if case.says("how", "packed") {
-        back::list::<By, V, PackedRepeated<C>>(alloc, case, mark)
+        back::any::<By, Vec<V>, PackedRepeated<C>>(alloc, case, mark)
     } else {
-        back::one::<By, V, C>(alloc, case, mark)
+        back::any::<By, Option<V>, C>(alloc, case, mark)
     }
 }
 
@@ -95,7 +84,9 @@ pub fn packable<By, V: Worded<By>, C: Numbered<Value = V>>(
     match case.call {
         "pack" => codecs::pack::<By, V, C>(alloc, case, mark),
         "set-then-read" => set_number::<By, V, C>(alloc, case, mark),
-        _ if case.says("how", "packed") => { list::<By, V, PackedRepeated<C>>(alloc, case, mark) }
+        _ if case.says("how", "packed") => read_as::<By, Vec<V>, PackedRepeated<C>>(
+            alloc, case, mark,
+        ),
         _ => plain::<By, V, C>(alloc, case, mark),
     }
 }
@@ -117,23 +108,23 @@ pub fn message<By, Back, M: Worded<By> + Normal<Back>, K: MessageRecord>(
 
 // A text.
 fn string<By>(alloc: Global, case: &Case<'_>, mark: &mut Mark) -> Result<Outcome, Fault> {
-    match (case.call, case.setting("how")) {
-        ("set-then-read", Some(_)) => {
-            back::list::<By, String, Repeated<StringCodec>>(alloc, case, mark)
-        }
-        ("set-then-read", None) => back::one::<By, String, StringCodec>(alloc, case, mark),
-        _ => plain::<By, String, StringCodec>(alloc, case, mark),
+    if case.call != "set-then-read" {
+        plain::<By, String, StringCodec>(alloc, case, mark)
+    } else if case.says("how", "all") {
+        back::any::<By, Vec<String>, Repeated<StringCodec>>(alloc, case, mark)
+    } else {
+        back::any::<By, Option<String>, StringCodec>(alloc, case, mark)
     }
 }
 
 // Bytes.
 fn bytes<By>(alloc: Global, case: &Case<'_>, mark: &mut Mark) -> Result<Outcome, Fault> {
-    match (case.call, case.setting("how")) {
-        ("set-then-read", Some(_)) => {
-            back::list::<By, Vec<u8>, Repeated<BytesCodec>>(alloc, case, mark)
-        }
-        ("set-then-read", None) => back::one::<By, Vec<u8>, BytesCodec>(alloc, case, mark),
-        _ => plain::<By, Vec<u8>, BytesCodec>(alloc, case, mark),
+    if case.call != "set-then-read" {
+        plain::<By, Vec<u8>, BytesCodec>(alloc, case, mark)
+    } else if case.says("how", "all") {
+        back::any::<By, Vec<Vec<u8>>, Repeated<BytesCodec>>(alloc, case, mark)
+    } else {
+        back::any::<By, Option<Vec<u8>>, BytesCodec>(alloc, case, mark)
     }
 }
 

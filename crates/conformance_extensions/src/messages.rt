@@ -1,13 +1,13 @@
 // Calls on the records of messages: their texts held, and merged.
 
-use crate::codecs::made_told;
+use crate::codecs::{first_of, made_told};
 use buffa_ext::MessageRecord;
 use buffa_ext::message::merge_number;
-use buffa_wire::{Budget, DecodeContext, DecodeError, Message};
+use buffa_wire::{Budget, DecodeContext, DecodeError, Message, UnknownFields};
 use conformance_rows::case::Case;
 use conformance_rows::fault::Fault;
 use conformance_rows::mark::Mark;
-use conformance_rows::outcome::{Outcome, left, records_told, told};
+use conformance_rows::outcome::{Outcome, budget_of, records_told, told, with_left};
 use conformance_rows::words::{Worded, records_of};
 use std::alloc::Global;
 
@@ -24,19 +24,39 @@ pub fn hold<K: MessageRecord>(
     made_told(alloc, made, refused)
 }
 
+// A word, and another one behind it.
+fn both_told(alloc: Global, found: bool, word: &str) -> Result<String, Fault> {
+    Ok(format!(in alloc; "{found} {word}")?)
+}
+
 // Whether there was a text, and the message; nothing of what is left of a message after a fault.
-fn merged_told<By, M: Worded<By>>(
+fn words_of<By, M: Worded<By>>(
     alloc: Global,
-    merged: &Result<bool, DecodeError>,
+    merged: Result<bool, DecodeError>,
     message: &M,
 ) -> Result<String, Fault> {
     match merged {
         Ok(found) => {
             let word = message.word(alloc)?;
-            Ok(format!(in alloc; "{found} {word}")?)
+            both_told(alloc, found, word.as_str())
         }
         Err(_) => Ok(String::new(alloc)),
     }
+}
+
+// What comes of a merge.
+fn merge_told(
+    alloc: Global,
+    case: &Case<'_>,
+    budget: &Budget,
+    fields: &UnknownFields,
+    merged: Result<bool, DecodeError>,
+    words: Result<String, Fault>,
+    refused: bool,
+) -> Result<Outcome, Fault> {
+    let records = records_told(alloc, fields);
+    let outcome = Outcome::of_words(alloc, told(alloc, merged), words, records, refused);
+    with_left(alloc, case, budget, outcome, 0)
 }
 
 /// What the texts of all records of a number make of a message.
@@ -46,18 +66,14 @@ pub fn merge_all<By, M: Worded<By> + Message, K: MessageRecord>(
     mark: &mut Mark,
 ) -> Result<Outcome, Fault> {
     let number = case.number()?;
-    let mut budget = Budget::new(case.slots()?).with_element_memory(case.units()?);
+    let mut budget = budget_of(case)?;
     let fields = records_of(alloc, case.before())?;
     let mut message = M::of_word(alloc, case.input())?;
     mark.begin(alloc);
     let merged = merge_number::<K, M>(alloc, number, &fields, &mut budget, &mut message);
     let refused = mark.end();
-    let words = merged_told::<By, M>(alloc, &merged, &message);
-    let records = records_told(alloc, &fields);
-    Outcome::of_words(alloc, told(alloc, merged), words, records, refused)?.with_left(
-        left(alloc, case, &budget, 0),
-        0,
-    )
+    let words = words_of::<By, M>(alloc, merged, &message);
+    merge_told(alloc, case, &budget, &fields, merged, words, refused)
 }
 
 /// What the text of the first record makes of a message, at the context's depth.
@@ -66,21 +82,15 @@ pub fn merge_in<By, M: Worded<By> + Message, K: MessageRecord>(
     case: &Case<'_>,
     mark: &mut Mark,
 ) -> Result<Outcome, Fault> {
-    let mut budget = Budget::new(case.slots()?).with_element_memory(case.units()?);
+    let mut budget = budget_of(case)?;
     let depth = case.depth()?;
     let fields = records_of(alloc, case.before())?;
+    let payload = first_of(&fields)?;
     let mut message = M::of_word(alloc, case.input())?;
-    let Some(field) = fields.iter().next() else {
-        return Err(Fault::Form);
-    };
     let ctx = DecodeContext::new(depth, &mut budget);
     mark.begin(alloc);
-    let merged = K::merge_in::<M>(alloc, &field.payload, &mut message, ctx);
+    let merged = K::merge_in::<M>(alloc, payload, &mut message, ctx);
     let refused = mark.end();
-    let words = merged_told::<By, M>(alloc, &merged, &message);
-    let records = records_told(alloc, &fields);
-    Outcome::of_words(alloc, told(alloc, merged), words, records, refused)?.with_left(
-        left(alloc, case, &budget, 0),
-        0,
-    )
+    let words = words_of::<By, M>(alloc, merged, &message);
+    merge_told(alloc, case, &budget, &fields, merged, words, refused)
 }

@@ -7,7 +7,7 @@ ghost use Rattle.buffa_codec.specs.Reading.{CoversAll, Each, full};
 ghost use Rattle.conformance_extensions.specs.Normal.{IsNormal};
 
 use crate::back::set_then;
-use crate::told::values_of;
+use crate::told::Told;
 use buffa_ext::{MessageIn, MessageRecord, Repeated, SingularCodec};
 use buffa_wire::{
     Budget, DEFAULT_UNKNOWN_FIELD_LIMIT, DecodeContext, EncodeError, Message, RECURSION_LIMIT,
@@ -86,13 +86,12 @@ fn one<By, Back, M: Worded<By> + Normal<Back>, K: MessageRecord>(
     mark: &mut Mark,
 ) -> Result<Outcome, Fault> {
     let message = M::of_word(alloc, case.input())?;
-    let again = M::of_word(alloc, case.input())?;
     if !message.is_normal() {
         return Err(Fault::Form);
     }
     let mut budget = Budget::new(DEFAULT_UNKNOWN_FIELD_LIMIT);
     pay::<MessageIn<K, M>>(alloc, &mut budget, &message)?;
-    set_then::<By, Option<M>, M, MessageIn<K, M>>(alloc, case, mark, message, again)
+    set_then::<By, Option<M>, MessageIn<K, M>>(alloc, case, mark, message)
 }
 
 // A list of messages.
@@ -101,13 +100,12 @@ fn list<By, Back, M: Worded<By> + Normal<Back>, K: MessageRecord>(
     case: &Case<'_>,
     mark: &mut Mark,
 ) -> Result<Outcome, Fault> {
-    let messages = values_of::<By, M>(alloc, case.input())?;
-    let again = values_of::<By, M>(alloc, case.input())?;
+    let messages = <Vec<M> as Told<By>>::value_of(alloc, case.input())?;
     if !are_normal::<Back, M>(messages.as_slice()) {
         return Err(Fault::Form);
     }
     pay_all::<MessageIn<K, M>>(alloc, messages.as_slice())?;
-    set_then::<By, Vec<M>, Vec<M>, Repeated<MessageIn<K, M>>>(alloc, case, mark, messages, again)
+    set_then::<By, Vec<M>, Repeated<MessageIn<K, M>>>(alloc, case, mark, messages)
 }
 
 /// A message, or a list of them, that is set and read in one call; a row isn't in form whose messages aren't read back.

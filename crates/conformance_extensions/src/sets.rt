@@ -1,166 +1,114 @@
-// Calls on extensions of a carrier: a value or a list of them, read, set and cleared.
+// Values that are set, or put behind others by a codec alone.
 
-use crate::told::{Told, asks_to_try, carrier_of, found_told, values_of, word_of, words_of};
+use crate::reads::read;
+use crate::told::{Told, asks_to_try, carrier_of, is_full, stand_told, words_of, written_told};
 use buffa_ext::{Extension, ExtensionCodec, ExtensionSet};
+use buffa_options::Carrier;
+use buffa_wire::{EncodeError, UnknownFields};
 use conformance_rows::case::Case;
 use conformance_rows::fault::Fault;
 use conformance_rows::mark::Mark;
-use conformance_rows::outcome::{Outcome, got, records_told, written};
-use conformance_rows::words::Worded;
-use std::alloc::Global;
+use conformance_rows::outcome::{Outcome, records_told};
+use conformance_rows::words::{records_of, records_word};
+use std::alloc::{AllocError, Global};
 
-// What is read.
-fn get<By, T: Told<By> + Drop, C: ExtensionCodec<Output = T>>(
+/// Sets a value, by one of two calls that are alike.
+pub fn put<V, C: ExtensionCodec<Value = V>>(
     alloc: Global,
-    case: &Case<'_>,
-    mark: &mut Mark,
-) -> Result<Outcome, Fault> {
-    let ext = Extension::<C>::new(case.number()?, "test.Carrier");
-    let carrier = carrier_of(alloc, case)?;
-    mark.begin(alloc);
-    let found = carrier.extension(alloc, &ext);
-    let refused = mark.end();
-    found_told::<By, T>(alloc, &found, &carrier.fields, refused)
-}
-
-// What is read of what was set.
-fn set<By, T: Told<By> + Drop, V: Drop, C: ExtensionCodec<Value = V, Output = T>>(
-    alloc: Global,
-    case: &Case<'_>,
-    mark: &mut Mark,
+    number: u32,
+    tries: bool,
     value: V,
-) -> Result<Outcome, Fault> {
-    let ext = Extension::<C>::new(case.number()?, "test.Carrier");
-    let mut carrier = carrier_of(alloc, case)?;
-    let tries = asks_to_try(case);
-    mark.begin(alloc);
-    let answer = if tries {
+    carrier: &mut Carrier,
+) -> Result<(), EncodeError> {
+    let ext = Extension::<C>::new(number, "test.Carrier");
+    if tries {
         carrier.try_set_extension(alloc, &ext, value)
     } else {
         carrier.set_extension(alloc, &ext, value)
-    };
-    let refused = mark.end();
-    let words = words_of::<By, T>(alloc, &carrier.extension(alloc, &ext));
-    let records = records_told(alloc, &carrier.fields);
-    Outcome::of_words(alloc, written(alloc, answer), words, records, refused)
+    }
 }
 
-// A single value that is set.
-fn set_one<By, V: Worded<By>, C: ExtensionCodec<Value = V, Output = Option<V>>>(
+/// What is read of what was set.
+pub fn set<By, T: Told<By>, C: ExtensionCodec<Value = T::Value, Output = T>>(
     alloc: Global,
     case: &Case<'_>,
     mark: &mut Mark,
 ) -> Result<Outcome, Fault> {
-    let value = V::of_word(alloc, case.input())?;
-    set::<By, Option<V>, V, C>(alloc, case, mark, value)
-}
-
-// A list that is set.
-fn set_list<By, V: Worded<By>, C: ExtensionCodec<Value = Vec<V>, Output = Vec<V>>>(
-    alloc: Global,
-    case: &Case<'_>,
-    mark: &mut Mark,
-) -> Result<Outcome, Fault> {
-    let values = values_of::<By, V>(alloc, case.input())?;
-    set::<By, Vec<V>, Vec<V>, C>(alloc, case, mark, values)
-}
-
-// A single value that is read, or the type's default.
-fn get_or_default<By, V: Worded<By>, C: ExtensionCodec<Value = V, Output = Option<V>>>(
-    alloc: Global,
-    case: &Case<'_>,
-    mark: &mut Mark,
-) -> Result<Outcome, Fault> {
-    let ext = Extension::<C>::new(case.number()?, "test.Carrier");
-    let carrier = carrier_of(alloc, case)?;
-    mark.begin(alloc);
-    let found = carrier.extension_or_default(alloc, &ext);
-    let refused = mark.end();
-    let words = word_of::<By, V>(alloc, &found);
-    let answer = got(alloc, found.is_ok());
-    Outcome::of_words(
-        alloc,
-        answer,
-        words,
-        records_told(alloc, &carrier.fields),
-        refused,
-    )
-}
-
-// Whether there is an extension, and whether there is after it was cleared.
-fn both_told(alloc: Global, had: bool, has: bool) -> Result<String, Fault> {
-    Ok(format!(in alloc; "{had} {has}")?)
-}
-
-// Whether there is an extension, and the records without it.
-fn clear<C: ExtensionCodec>(
-    alloc: Global,
-    case: &Case<'_>,
-    mark: &mut Mark,
-) -> Result<Outcome, Fault> {
-    let ext = Extension::<C>::new(case.number()?, "test.Carrier");
+    let number = case.number()?;
     let mut carrier = carrier_of(alloc, case)?;
+    let value = T::value_of(alloc, case.input())?;
+    let tries = asks_to_try(case);
     mark.begin(alloc);
-    let had = carrier.has_extension(&ext);
-    carrier.clear_extension(&ext);
-    let has = carrier.has_extension(&ext);
+    let answer = put::<T::Value, C>(alloc, number, tries, value, &mut carrier);
     let refused = mark.end();
-    let words = both_told(alloc, had, has);
+    let found = read::<T, C>(alloc, number, &carrier);
+    let words = words_of::<By, T, AllocError>(alloc, &found);
     let records = records_told(alloc, &carrier.fields);
-    Outcome::of_words(alloc, got(alloc, true), words, records, refused)
+    written_told(alloc, answer, words, records, refused)
 }
 
-// The extendee that the setting `extendee` names, the carrier or another message.
-fn extendee_of(case: &Case<'_>) -> &'static str {
-    match case.setting("extendee") {
-        None => "test.Carrier",
-        Some(_) => "other.Message",
+// Puts a value's records behind others, by one of two calls that are alike.
+fn push<V, C: ExtensionCodec<Value = V>>(
+    alloc: Global,
+    number: u32,
+    tries: bool,
+    value: V,
+    fields: &mut UnknownFields,
+) -> Result<(), EncodeError> {
+    if tries {
+        C::try_encode(alloc, number, value, fields)
+    } else {
+        C::encode(alloc, number, value, fields)
     }
 }
 
-// Whether there is an extension of an extendee.
-fn has<C: ExtensionCodec>(
+// What stands where memory ran out: the old records, and behind them a beginning of the new ones, but not all. `whole`
+// is what stands with ample memory, and `is_all` says whether all new records are in it.
+fn front_told(
+    alloc: Global,
+    case: &Case<'_>,
+    fields: &UnknownFields,
+    whole: &UnknownFields,
+    is_all: bool,
+) -> Result<String, Fault> {
+    let stands = records_word(alloc, fields)?;
+    let all = records_word(alloc, whole)?;
+    let has_old = stands.as_str().starts_with(case.before());
+    let is_front = all.as_str().starts_with(stands.as_str());
+    let is_short = fields.len() < whole.len() || !is_all;
+    stand_told(alloc, fields, has_old && is_front && is_short)
+}
+
+// The same, of the value that the row has.
+fn value_told<By, T: Told<By>, C: ExtensionCodec<Value = T::Value>>(
+    alloc: Global,
+    case: &Case<'_>,
+    number: u32,
+    fields: &UnknownFields,
+) -> Result<String, Fault> {
+    let mut whole = records_of(alloc, case.before())?;
+    let value = T::value_of(alloc, case.input())?;
+    let all = push::<T::Value, C>(alloc, number, asks_to_try(case), value, &mut whole);
+    front_told(alloc, case, fields, &whole, all.is_ok())
+}
+
+/// What stands behind other records.
+pub fn encode_into<By, T: Told<By>, C: ExtensionCodec<Value = T::Value>>(
     alloc: Global,
     case: &Case<'_>,
     mark: &mut Mark,
 ) -> Result<Outcome, Fault> {
-    let ext = Extension::<C>::new(case.number()?, extendee_of(case));
-    let carrier = carrier_of(alloc, case)?;
+    let number = case.number()?;
+    let mut fields = records_of(alloc, case.before())?;
+    let value = T::value_of(alloc, case.input())?;
+    let tries = asks_to_try(case);
     mark.begin(alloc);
-    let has = carrier.has_extension(&ext);
+    let answer = push::<T::Value, C>(alloc, number, tries, value, &mut fields);
     let refused = mark.end();
-    let words = Ok(format!(in alloc; "{has}")?);
-    let records = records_told(alloc, &carrier.fields);
-    Outcome::of_words(alloc, got(alloc, true), words, records, refused)
-}
-
-/// A call on a single value.
-pub fn one<By, V: Worded<By>, C: ExtensionCodec<Value = V, Output = Option<V>>>(
-    alloc: Global,
-    case: &Case<'_>,
-    mark: &mut Mark,
-) -> Result<Outcome, Fault> {
-    match case.call {
-        "get" => get::<By, Option<V>, C>(alloc, case, mark),
-        "set" => set_one::<By, V, C>(alloc, case, mark),
-        "default" => get_or_default::<By, V, C>(alloc, case, mark),
-        "clear" => clear::<C>(alloc, case, mark),
-        "has" => has::<C>(alloc, case, mark),
-        _ => Err(Fault::Form),
-    }
-}
-
-/// A call on a list.
-pub fn list<By, V: Worded<By>, C: ExtensionCodec<Value = Vec<V>, Output = Vec<V>>>(
-    alloc: Global,
-    case: &Case<'_>,
-    mark: &mut Mark,
-) -> Result<Outcome, Fault> {
-    match case.call {
-        "get" => get::<By, Vec<V>, C>(alloc, case, mark),
-        "set" => set_list::<By, V, C>(alloc, case, mark),
-        "clear" => clear::<C>(alloc, case, mark),
-        "has" => has::<C>(alloc, case, mark),
-        _ => Err(Fault::Form),
-    }
+    let records = if is_full(&answer) {
+        value_told::<By, T, C>(alloc, case, number, &fields)
+    } else {
+        records_told(alloc, &fields)
+    };
+    written_told(alloc, answer, Ok(String::new(alloc)), records, refused)
 }

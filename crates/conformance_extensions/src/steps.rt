@@ -1,15 +1,22 @@
 // Steps: sets and clears of any numbers, one after the other.
 
-use crate::told::{are_same, stand_told};
+use crate::told::{are_same, got_told, stand_told};
 use buffa_ext::stage::replace;
 use buffa_ext::{ReplayFault, Step, replay};
 use buffa_wire::{UnknownField, UnknownFieldData, UnknownFields};
 use conformance_rows::case::Case;
 use conformance_rows::fault::Fault;
 use conformance_rows::mark::Mark;
-use conformance_rows::outcome::{Outcome, got, records_told};
+use conformance_rows::outcome::{Outcome, in_words, records_told};
 use conformance_rows::words::records_of;
 use std::alloc::Global;
+
+// The records then, and how many steps stand where a replay ended early.
+#[derive(Drop)]
+struct Replayed {
+    fields: UnknownFields,
+    answer: Result<(), ReplayFault>,
+}
 
 // Puts what a record holds behind others.
 fn push_payload(payloads: &mut Vec<UnknownFieldData>, field: &UnknownField) -> Result<(), Fault> {
@@ -54,6 +61,12 @@ fn steps_of(alloc: Global, words: &str, most: usize) -> Result<Vec<Step>, Fault>
     Ok(steps)
 }
 
+// Takes steps.
+fn take_steps(alloc: Global, mut fields: UnknownFields, steps: Vec<Step>) -> Replayed {
+    let answer = replay(alloc, &mut fields, steps);
+    Replayed { fields, answer }
+}
+
 // What stands where memory ran out: what so many steps, fewer than there are, make of the old records.
 fn stopped_told(
     alloc: Global,
@@ -62,12 +75,13 @@ fn stopped_told(
     done: usize,
     count: usize,
 ) -> Result<String, Fault> {
+    let old = records_of(alloc, case.before())?;
     let steps = steps_of(alloc, case.input(), done)?;
-    let mut wanted = records_of(alloc, case.before())?;
-    let Ok(()) = replay(alloc, &mut wanted, steps) else {
+    let wanted = take_steps(alloc, old, steps);
+    if wanted.answer.is_err() {
         return Err(Fault::Memory);
-    };
-    let may = done < count && are_same(alloc, fields, &wanted)?;
+    }
+    let may = done < count && are_same(alloc, fields, &wanted.fields)?;
     stand_told(alloc, fields, may)
 }
 
@@ -75,31 +89,32 @@ fn stopped_told(
 fn replayed_told(
     alloc: Global,
     case: &Case<'_>,
-    fields: &UnknownFields,
-    answer: Result<(), ReplayFault>,
+    replayed: &Replayed,
     count: usize,
     refused: bool,
 ) -> Result<Outcome, Fault> {
-    let (done, records) = match answer {
-        Ok(()) => (count, records_told(alloc, fields)),
-        Err(fault) => (
-            fault.done,
-            stopped_told(alloc, case, fields, fault.done, count),
-        ),
-    };
-    let words = Ok(format!(in alloc; "{done}")?);
-    Outcome::of_words(alloc, got(alloc, answer.is_ok()), words, records, refused)
+    let fields = &replayed.fields;
+    match replayed.answer {
+        Ok(()) => {
+            let records = records_told(alloc, fields);
+            got_told(alloc, true, in_words(alloc, &count), records, refused)
+        }
+        Err(fault) => {
+            let records = stopped_told(alloc, case, fields, fault.done, count);
+            got_told(alloc, false, in_words(alloc, &fault.done), records, refused)
+        }
+    }
 }
 
 /// What steps make of records.
 pub fn steps(alloc: Global, case: &Case<'_>, mark: &mut Mark) -> Result<Outcome, Fault> {
+    let fields = records_of(alloc, case.before())?;
     let steps = steps_of(alloc, case.input(), usize::MAX)?;
     let count = steps.len();
-    let mut fields = records_of(alloc, case.before())?;
     mark.begin(alloc);
-    let answer = replay(alloc, &mut fields, steps);
+    let replayed = take_steps(alloc, fields, steps);
     let refused = mark.end();
-    replayed_told(alloc, case, &fields, answer, count, refused)
+    replayed_told(alloc, case, &replayed, count, refused)
 }
 
 /// Records in the place of those of a number.
@@ -110,7 +125,7 @@ pub fn replaced(alloc: Global, case: &Case<'_>, mark: &mut Mark) -> Result<Outco
     mark.begin(alloc);
     let answer = replace(&mut fields, number, staged);
     let refused = mark.end();
-    let words = Ok(String::new(alloc));
+    let none = Ok(String::new(alloc));
     let records = records_told(alloc, &fields);
-    Outcome::of_words(alloc, got(alloc, answer.is_ok()), words, records, refused)
+    got_told(alloc, answer.is_ok(), none, records, refused)
 }

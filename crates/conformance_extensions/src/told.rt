@@ -4,73 +4,45 @@ use buffa_options::Carrier;
 use buffa_wire::{EncodeError, UnknownFields};
 use conformance_rows::case::Case;
 use conformance_rows::fault::Fault;
-use conformance_rows::outcome::{Outcome, got, records_told};
+use conformance_rows::outcome::{Outcome, got, records_told, written};
 use conformance_rows::words::{Worded, records_of, records_word};
 use std::alloc::{AllocError, Global};
 
-/// What a codec reads, in words.
-pub trait Told<By> {
+/// What a codec reads, in words, and the values that it writes, of words.
+pub trait Told<By>: Drop {
+    /// What it writes.
+    type Value: Drop;
+
     /// The words.
     fn words(&self, alloc: Global) -> Result<String, Fault>;
+
+    /// The value of words.
+    fn value_of(alloc: Global, words: &str) -> Result<Self::Value, Fault>;
 }
 
 // The word of a value, or `none`.
 impl<By, V: Worded<By>> Told<By> for Option<V> {
+    type Value = V;
+
     fn words(&self, alloc: Global) -> Result<String, Fault> {
         match self {
             Some(value) => value.word(alloc),
             None => Ok(String::from_str(alloc, "none")?),
         }
     }
-}
 
-// The words of values, with a space between them.
-impl<By, V: Worded<By>> Told<By> for Vec<V> {
-    fn words(&self, alloc: Global) -> Result<String, Fault> {
-        let mut text = String::new(alloc);
-        for value in self.iter() {
-            let word = value.word(alloc)?;
-            if !text.is_empty() {
-                text.push_str(" ")?;
-            }
-            text.push_str(word.as_str())?;
-        }
-        Ok(text)
+    fn value_of(alloc: Global, words: &str) -> Result<V, Fault> {
+        V::of_word(alloc, words)
     }
 }
 
-/// The words of what was read; nothing where memory ran out.
-pub fn words_of<By, T: Told<By>>(
-    alloc: Global,
-    found: &Result<T, AllocError>,
-) -> Result<String, Fault> {
-    match found {
-        Ok(found) => found.words(alloc),
-        Err(_) => Ok(String::new(alloc)),
+// Puts a word behind others, with a space between them.
+fn push_word(text: &mut String, word: &str) -> Result<(), Fault> {
+    if !text.is_empty() {
+        text.push_str(" ")?;
     }
-}
-
-/// The word of a value, or nothing where memory ran out.
-pub fn word_of<By, V: Worded<By>>(
-    alloc: Global,
-    found: &Result<V, AllocError>,
-) -> Result<String, Fault> {
-    match found {
-        Ok(value) => value.word(alloc),
-        Err(_) => Ok(String::new(alloc)),
-    }
-}
-
-/// What comes of a value that was read of records, or not where memory ran out.
-pub fn found_told<By, T: Told<By>>(
-    alloc: Global,
-    found: &Result<T, AllocError>,
-    fields: &UnknownFields,
-    refused: bool,
-) -> Result<Outcome, Fault> {
-    let words = words_of::<By, T>(alloc, found);
-    let answer = got(alloc, found.is_ok());
-    Outcome::of_words(alloc, answer, words, records_told(alloc, fields), refused)
+    text.push_str(word)?;
+    Ok(())
 }
 
 // Puts the value of a word behind others.
@@ -83,13 +55,82 @@ fn push_value<By, V: Worded<By>>(
     Ok(())
 }
 
-/// The values of words.
-pub fn values_of<By, V: Worded<By>>(alloc: Global, words: &str) -> Result<Vec<V>, Fault> {
-    let mut values = Vec::new(alloc);
-    for word in words.split_ascii_whitespace() {
-        push_value::<By, V>(alloc, &mut values, word)?;
+// The words of values.
+impl<By, V: Worded<By>> Told<By> for Vec<V> {
+    type Value = Vec<V>;
+
+    fn words(&self, alloc: Global) -> Result<String, Fault> {
+        let mut text = String::new(alloc);
+        for value in self.iter() {
+            let word = value.word(alloc)?;
+            push_word(&mut text, word.as_str())?;
+        }
+        Ok(text)
     }
-    Ok(values)
+
+    fn value_of(alloc: Global, words: &str) -> Result<Vec<V>, Fault> {
+        let mut values = Vec::new(alloc);
+        for word in words.split_ascii_whitespace() {
+            push_value::<By, V>(alloc, &mut values, word)?;
+        }
+        Ok(values)
+    }
+}
+
+/// The words of what was read; nothing where it wasn't.
+pub fn words_of<By, T: Told<By>, E>(alloc: Global, found: &Result<T, E>) -> Result<String, Fault> {
+    match found {
+        Ok(found) => found.words(alloc),
+        Err(_) => Ok(String::new(alloc)),
+    }
+}
+
+/// What comes of a call that failed for want of memory alone, if at all.
+pub fn got_told(
+    alloc: Global,
+    is_ok: bool,
+    words: Result<String, Fault>,
+    records: Result<String, Fault>,
+    refused: bool,
+) -> Result<Outcome, Fault> {
+    Outcome::of_words(alloc, got(alloc, is_ok), words, records, refused)
+}
+
+/// What comes of a call that tells no records.
+pub fn words_told(
+    alloc: Global,
+    words: Result<String, Fault>,
+    refused: bool,
+) -> Result<Outcome, Fault> {
+    got_told(alloc, true, words, Ok(String::new(alloc)), refused)
+}
+
+/// What comes of a write.
+pub fn written_told(
+    alloc: Global,
+    answer: Result<(), EncodeError>,
+    words: Result<String, Fault>,
+    records: Result<String, Fault>,
+    refused: bool,
+) -> Result<Outcome, Fault> {
+    Outcome::of_words(alloc, written(alloc, answer), words, records, refused)
+}
+
+/// What comes of a value that was read of records, or not where memory ran out.
+pub fn found_told<By, T: Told<By>>(
+    alloc: Global,
+    found: &Result<T, AllocError>,
+    fields: &UnknownFields,
+    refused: bool,
+) -> Result<Outcome, Fault> {
+    let words = words_of::<By, T, AllocError>(alloc, found);
+    got_told(
+        alloc,
+        found.is_ok(),
+        words,
+        records_told(alloc, fields),
+        refused,
+    )
 }
 
 /// The carrier of the records that stand before.
