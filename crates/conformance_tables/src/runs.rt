@@ -39,9 +39,17 @@ fn run_by<C: CallsOnBytes>(
 }
 
 // Runs a row in one storage.
-fn run_in<C: CallsOnBytes>(alloc: Global, run: &Run<'_>, refusing: bool, tally: &mut Tally) {
-    match bytes_of(alloc, run.case) {
-        Ok(bytes) => run_by::<C>(alloc, run, bytes.as_slice(), refusing, tally),
+fn run_in<C: CallsOnBytes>(
+    alloc: Global,
+    case: &Case<'_>,
+    kind: Kind,
+    errors: Stderr,
+    refusing: bool,
+    tally: &mut Tally,
+) {
+    let run = Run { case, kind, errors };
+    match bytes_of(alloc, case) {
+        Ok(bytes) => run_by::<C>(alloc, &run, bytes.as_slice(), refusing, tally),
         Err(fault) => tally.note(Err(fault)),
     }
 }
@@ -56,8 +64,7 @@ fn run_row<C: CallsOnBytes>(
     let mut tally = Tally::new();
     for kind in [Kind::Ordered, Kind::Hashed, Kind::Indexed] {
         if is_run_in(case, kind) {
-            let run = Run { case, kind, errors };
-            run_in::<C>(alloc, &run, refusing, &mut tally);
+            run_in::<C>(alloc, case, kind, errors, refusing, &mut tally);
         }
     }
     tally.of_row()
