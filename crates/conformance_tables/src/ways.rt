@@ -168,13 +168,7 @@ impl Run<'_> {
     }
 
     // The row in two, with an empty slice before each.
-    fn in_two<C: CallsOnBytes>(
-        &self,
-        alloc: Global,
-        front: &[u8],
-        back: &[u8],
-        tally: &mut Tally,
-    ) {
+    fn in_two<C: CallsOnBytes>(&self, alloc: Global, front: &[u8], back: &[u8], tally: &mut Tally) {
         let parts: [&[u8]; 4] = [&[], front, &[], back];
         self.tell(alloc, self.pieces::<C>(alloc, &parts, None), tally);
     }
@@ -232,12 +226,7 @@ impl Run<'_> {
     }
 
     // Whether a beginning that is refused is cut off, and what its whole records make stands.
-    fn is_cut_off(
-        &self,
-        alloc: Global,
-        outcome: &Outcome,
-        standing: &str,
-    ) -> Result<bool, Fault> {
+    fn is_cut_off(&self, alloc: Global, outcome: &Outcome, standing: &str) -> Result<bool, Fault> {
         if !is_torn(self.case.call, outcome.answer(), outcome.rest()) {
             return Ok(false);
         }
@@ -287,7 +276,12 @@ impl Run<'_> {
         tally: &mut Tally,
     ) {
         if let Some(outcome) = tally.kept(self.slice::<C>(alloc, front, None)) {
-            self.tell_alike(alloc, &outcome, self.singles::<C>(alloc, front, None), tally);
+            self.tell_alike(
+                alloc,
+                &outcome,
+                self.singles::<C>(alloc, front, None),
+                tally,
+            );
             if self.is_whole::<C>(alloc, front, taken) {
                 self.stands(alloc, &outcome, standing, tally);
             } else {
@@ -354,12 +348,7 @@ impl Run<'_> {
 
     // What may stand where memory ran out, a line each: what stood before, and of a run what each beginning of records
     // makes.
-    fn may_stand<C: CallsOnBytes>(
-        &self,
-        alloc: Global,
-        bytes: &[u8],
-        tally: &mut Tally,
-    ) -> String {
+    fn may_stand<C: CallsOnBytes>(&self, alloc: Global, bytes: &[u8], tally: &mut Tally) -> String {
         let mut lines = String::new(alloc);
         tally.note(push_line(&mut lines, self.start(alloc)));
         if reads_to_the_end(self.case.call) && keeps_a_map(self.case.call) {
