@@ -1,6 +1,7 @@
 // What the calls of rows are given, and what they leave.
 
 use crate::case::Case;
+use crate::words::is_one;
 
 /// A storage.
 #[derive(Clone, Copy, PartialEq, Eq)]
@@ -46,7 +47,12 @@ pub enum Group {
 
 // Whether a call is one of some, which stand with a space between them.
 fn is_among(call: &str, calls: &str) -> bool {
-    calls.split(' ').any(|one| one == call)
+    for one in calls.split(' ') {
+        if is_one(one, call) {
+            return true;
+        }
+    }
+    false
 }
 
 /// The group of a call.
@@ -83,6 +89,14 @@ pub fn group_of(call: &str) -> Group {
         Group::Messages
     } else {
         Group::Extensions
+    }
+}
+
+/// Whether a call reads from a buffer, however it lies.
+pub fn reads_a_buffer(call: &str) -> bool {
+    match group_of(call) {
+        Group::Fields | Group::Items | Group::Values => true,
+        _ => false,
     }
 }
 

@@ -3,6 +3,7 @@
 ghost use Rattle.std.specs.Prelude.{◌<◌, ◌≤◌, IfOk};
 
 use crate::fault::Fault;
+use crate::words::is_one;
 use std::str::Split;
 
 /// The greatest number that a field may have.
@@ -65,12 +66,35 @@ pub fn case_of(line: &str) -> Option<Case<'_>> {
 
 /// A text, or none where it is `-`.
 pub fn given(text: &str) -> &str {
-    if text == "-" { "" } else { text }
+    if is_one(text, "-") { "" } else { text }
 }
 
 /// A text, or `-` for none.
 pub fn or_dash(text: &str) -> &str {
     if text.is_empty() { "-" } else { text }
+}
+
+// What a word says of a setting, if it is that setting's.
+fn said_of<'a>(word: &'a str, name: &str) -> Option<&'a str> {
+    let (front, said) = word.split_once('=')?;
+    if is_one(front, name) {
+        return Some(said);
+    }
+    None
+}
+
+// A number that isn't too great for 32 bits.
+fn narrow(number: Result<u64, Fault>) -> Result<u32, Fault> {
+    let number = number?;
+    if number > 4_294_967_295 {
+        return Err(Fault::Form);
+    }
+    Ok(number as u32)
+}
+
+// A number as a count.
+fn count(number: Result<u64, Fault>) -> Result<usize, Fault> {
+    Ok(number? as usize)
 }
 
 impl<'a> Case<'a> {
@@ -87,10 +111,8 @@ impl<'a> Case<'a> {
     /// What a setting says, if it is there.
     pub fn setting(&self, name: &str) -> Option<&'a str> {
         for word in self.settings.split(' ') {
-            if let Some((front, said)) = word.split_once('=') {
-                if front == name {
-                    return Some(said);
-                }
+            if let Some(said) = said_of(word, name) {
+                return Some(said);
             }
         }
         None
@@ -101,8 +123,8 @@ impl<'a> Case<'a> {
         self.setting(name).is_some()
     }
 
-    // The number that a setting says, or another one.
-    fn number_or(&self, name: &str, other: u64) -> Result<u64, Fault> {
+    /// The number that a setting says, or another one.
+    pub fn number_or(&self, name: &str, other: u64) -> Result<u64, Fault> {
         match self.setting(name) {
             None => Ok(other),
             Some(said) => Ok(said.parse::<u64>()?),
@@ -111,18 +133,12 @@ impl<'a> Case<'a> {
 
     /// The depth; 10 where nothing is said.
     pub fn depth(&self) -> Result<u32, Fault> {
-        match self.setting("depth") {
-            None => Ok(10),
-            Some(said) => Ok(said.parse::<u32>()?),
-        }
+        narrow(self.number_or("depth", 10))
     }
 
     /// The field number; 5 where nothing is said.
     pub fn number(&self) -> Result<u32, Fault> {
-        match self.setting("number") {
-            None => Ok(5),
-            Some(said) => Ok(said.parse::<u32>()?),
-        }
+        narrow(self.number_or("number", 5))
     }
 
     /// The field number, which has to be one that a field may have.
@@ -144,19 +160,19 @@ impl<'a> Case<'a> {
     /// Whether a setting says this.
     pub fn says(&self, name: &str, said: &str) -> bool {
         match self.setting(name) {
-            Some(found) => found == said,
+            Some(found) => is_one(found, said),
             None => false,
         }
     }
 
     /// The slots of the budget.
     pub fn slots(&self) -> Result<usize, Fault> {
-        Ok(self.number_or("slots", SLOTS)? as usize)
+        count(self.number_or("slots", SLOTS))
     }
 
     /// The units of the budget.
     pub fn units(&self) -> Result<usize, Fault> {
-        Ok(self.number_or("units", UNITS)? as usize)
+        count(self.number_or("units", UNITS))
     }
 
     /// The number of bytes; none where nothing is said.
@@ -166,6 +182,6 @@ impl<'a> Case<'a> {
 
     /// How many more records a list has room for; none where nothing is said.
     pub fn room(&self) -> Result<usize, Fault> {
-        Ok(self.number_or("room", 0)? as usize)
+        count(self.number_or("room", 0))
     }
 }

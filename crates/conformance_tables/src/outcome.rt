@@ -2,11 +2,11 @@
 
 use crate::case::{Case, or_dash};
 use crate::fault::Fault;
+use crate::words::{copied, digits_of, joined, made};
 use std::alloc::Global;
 use std::fmt::Display;
 
 /// What comes of a call.
-#[derive(Drop)]
 pub struct Outcome {
     /// `ok`, or the fault.
     pub answer: String,
@@ -20,6 +20,23 @@ pub struct Outcome {
     pub unread: usize,
     /// Whether a request for memory was refused.
     pub refused: bool,
+}
+
+/// What comes of a way to run a row; none where its types don't go into the storage.
+pub type Found = Result<Option<Outcome>, Fault>;
+
+// By hand, so that it is one call wherever an outcome is dropped, and not one for each text.
+impl Drop for Outcome {
+    fn drop(self) {
+        let Outcome {
+            answer: _,
+            pairs: _,
+            rest: _,
+            left: _,
+            unread: _,
+            refused: _,
+        } = self;
+    }
 }
 
 impl Outcome {
@@ -51,54 +68,76 @@ impl Outcome {
         self.unread = unread;
         Ok(self)
     }
+
+    /// The answer.
+    pub fn answer(&self) -> &str {
+        self.answer.as_str()
+    }
+
+    /// The pairs.
+    pub fn pairs(&self) -> &str {
+        self.pairs.as_str()
+    }
+
+    /// The records or the text.
+    pub fn rest(&self) -> &str {
+        self.rest.as_str()
+    }
+
+    /// What is left.
+    pub fn left(&self) -> &str {
+        self.left.as_str()
+    }
 }
 
 /// The word of what took memory, or none.
 pub fn got(alloc: Global, is_ok: bool) -> Result<String, Fault> {
-    let word = if is_ok { "ok" } else { "OutOfMemory" };
-    Ok(String::from_str(alloc, word)?)
+    copied(alloc, if is_ok { "ok" } else { "OutOfMemory" })
 }
 
 /// A number or a fault in words.
 pub fn in_words<T: Display>(alloc: Global, value: &T) -> Result<String, Fault> {
-    Ok(format!(in alloc; "{value}")?)
+    made(format!(in alloc; "{value}"))
 }
 
 /// What hexadecimal digits are, and they, or a dash for none.
 pub fn digits_told(alloc: Global, name: &str, digits: &str) -> Result<String, Fault> {
-    Ok(format!(in alloc; "{name} {}", or_dash(digits))?)
+    joined(alloc, name, " ", or_dash(digits))
 }
 
 /// A text that was written, in hexadecimal.
 pub fn text_told(alloc: Global, text: &[u8]) -> Result<String, Fault> {
-    let digits = hex::encode(alloc, text)?;
+    let digits = digits_of(alloc, text)?;
     digits_told(alloc, "text", digits.as_str())
 }
 
 /// The two joined by a semicolon; no part is left out for being empty, except the second one.
 pub fn and(alloc: Global, first: &str, second: &str) -> Result<String, Fault> {
-    if second.is_empty() {
-        return Ok(String::from_str(alloc, first)?);
-    }
-    if first.is_empty() {
-        return Ok(String::from_str(alloc, second)?);
-    }
-    Ok(format!(in alloc; "{first}; {second}")?)
+    let sign = if first.is_empty() || second.is_empty() {
+        ""
+    } else {
+        "; "
+    };
+    joined(alloc, first, sign, second)
 }
 
-// What is left, and behind it a part, where it is told.
-fn with_part(
-    alloc: Global,
-    left: String,
-    is_told: bool,
-    count: usize,
-    name: &str,
-) -> Result<String, Fault> {
+// How many there are, and of what; nothing where it isn't told.
+fn part(alloc: Global, is_told: bool, count: usize, name: &str) -> Result<String, Fault> {
     if !is_told {
-        return Ok(left);
+        return Ok(String::new(alloc));
     }
-    let sign = if left.is_empty() { "" } else { "; " };
-    Ok(format!(in alloc; "{left}{sign}{count} {name}")?)
+    made(format!(in alloc; "{count} {name}"))
+}
+
+// The two joined, if both are there.
+fn both(
+    alloc: Global,
+    first: Result<String, Fault>,
+    second: Result<String, Fault>,
+) -> Result<String, Fault> {
+    let first = first?;
+    let second = second?;
+    and(alloc, first.as_str(), second.as_str())
 }
 
 /// What is left of a budget's slots and units, where the row's settings name them, and of the buffer, where some is.
@@ -109,8 +148,8 @@ pub fn left_told(
     units: usize,
     unread: usize,
 ) -> Result<String, Fault> {
-    let none = String::new(alloc);
-    let slots = with_part(alloc, none, case.says_of("slots"), slots, "slots")?;
-    let both = with_part(alloc, slots, case.says_of("units"), units, "units")?;
-    with_part(alloc, both, unread > 0, unread, "unread")
+    let slots = part(alloc, case.says_of("slots"), slots, "slots");
+    let units = part(alloc, case.says_of("units"), units, "units");
+    let unread = part(alloc, unread > 0, unread, "unread");
+    both(alloc, both(alloc, slots, units), unread)
 }

@@ -1,25 +1,34 @@
 // Lines in which a text stands many times over.
 
 use crate::fault::Fault;
+use crate::words::push_text;
 use std::alloc::Global;
 
 // A text that is repeated, how many times, and what stands behind it.
 type Repeated<'a> = (&'a str, u64, &'a str);
 
+// How often a text is repeated, if digits say it.
+fn times(count: &str) -> Option<u64> {
+    match count.parse::<u64>() {
+        Ok(count) => Some(count),
+        Err(_) => None,
+    }
+}
+
 // What stands behind an opening parenthesis, if it is a repetition.
 fn repeated(part: &str) -> Option<Repeated<'_>> {
     let (inside, behind) = part.split_once(')')?;
     let (text, count) = inside.split_once('*')?;
-    match count.parse::<u64>() {
-        Ok(count) => Some((text, count, behind)),
-        Err(_) => None,
+    match times(count) {
+        Some(count) => Some((text, count, behind)),
+        None => None,
     }
 }
 
 // Puts a text behind a line, so many times.
 fn push_times(line: &mut String, text: &str, count: u64) -> Result<(), Fault> {
     for _ in 0..count {
-        line.push_str(text)?;
+        push_text(line, text)?;
     }
     Ok(())
 }
@@ -29,12 +38,21 @@ fn push_part(line: &mut String, part: &str) -> Result<(), Fault> {
     match repeated(part) {
         Some((text, count, behind)) => {
             push_times(line, text, count)?;
-            line.push_str(behind)?;
+            push_text(line, behind)
         }
         None => {
-            line.push('(')?;
-            line.push_str(part)?;
+            push_text(line, "(")?;
+            push_text(line, part)
         }
+    }
+}
+
+// Puts the parts of a line behind another, each of them behind an opening parenthesis but the first.
+fn push_parts(whole: &mut String, line: &str) -> Result<(), Fault> {
+    let mut parts = line.split('(');
+    push_text(whole, parts.next().unwrap_or(""))?;
+    for part in parts {
+        push_part(whole, part)?;
     }
     Ok(())
 }
@@ -42,10 +60,6 @@ fn push_part(line: &mut String, part: &str) -> Result<(), Fault> {
 /// The line with each `(TEXT*N)` as the text N times: `(0801*3)` stands for `080108010801`.
 pub fn expanded(alloc: Global, line: &str) -> Result<String, Fault> {
     let mut whole = String::new(alloc);
-    let mut parts = line.split('(');
-    whole.push_str(parts.next().unwrap_or(""))?;
-    for part in parts {
-        push_part(&mut whole, part)?;
-    }
+    push_parts(&mut whole, line)?;
     Ok(whole)
 }

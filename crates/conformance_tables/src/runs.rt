@@ -7,6 +7,7 @@ use crate::on_bytes::CallsOnBytes;
 use crate::repeated::expanded;
 use crate::tally::Tally;
 use crate::ways::Run;
+use crate::words::{digits_bytes, is_one};
 use std::alloc::Global;
 use std::env;
 use std::io::{self, BufRead, BufReader, Stderr};
@@ -17,28 +18,24 @@ fn bytes_of(alloc: Global, case: &Case<'_>) -> Result<Vec<u8>, Fault> {
     if takes_words(case.call) {
         return Ok(Vec::new(alloc));
     }
-    Ok(hex::decode(alloc, case.input())?)
+    digits_bytes(alloc, case.input())
 }
 
 // Runs a row in the ways that it is to be run in.
 fn run_by<C: CallsOnBytes>(
     alloc: Global,
-    run: Run<'_>,
+    run: &Run<'_>,
     bytes: &[u8],
     refusing: bool,
     tally: &mut Tally,
-) -> Result<(), Fault> {
+) {
     if run.case.says("ways", "once") {
-        return run.whole::<C>(alloc, bytes, tally);
+        run.whole::<C>(alloc, bytes, tally);
+    } else if refusing {
+        run.refused::<C>(alloc, bytes, tally);
+    } else {
+        run.each_way::<C>(alloc, bytes, tally);
     }
-    if refusing {
-        return run.refused::<C>(alloc, bytes, tally);
-    }
-    run.whole_and_cut::<C>(alloc, bytes, tally)?;
-    if run.case.answer == "ok" {
-        run.beginnings::<C>(alloc, bytes, tally)?;
-    }
-    Ok(())
 }
 
 // Runs a row in one storage.
@@ -49,10 +46,12 @@ fn run_in<C: CallsOnBytes>(
     errors: Stderr,
     refusing: bool,
     tally: &mut Tally,
-) -> Result<(), Fault> {
-    let bytes = bytes_of(alloc, case)?;
+) {
     let run = Run { case, kind, errors };
-    run_by::<C>(alloc, run, bytes.as_slice(), refusing, tally)
+    match bytes_of(alloc, case) {
+        Ok(bytes) => run_by::<C>(alloc, &run, bytes.as_slice(), refusing, tally),
+        Err(fault) => tally.note(Err(fault)),
+    }
 }
 
 // Runs a row in each storage.
@@ -61,29 +60,37 @@ fn run_row<C: CallsOnBytes>(
     case: &Case<'_>,
     errors: Stderr,
     refusing: bool,
-) -> Result<Tally, Fault> {
+) -> Tally {
     let mut tally = Tally::new();
     for kind in [Kind::Ordered, Kind::Hashed, Kind::Indexed] {
         if is_run_in(case, kind) {
-            run_in::<C>(alloc, case, kind, errors, refusing, &mut tally)?;
+            run_in::<C>(alloc, case, kind, errors, refusing, &mut tally);
         }
     }
-    Ok(tally)
+    tally.of_row()
 }
 
-// Runs the row of a line; a line that is no row doesn't hold.
+// Runs the row of a line that stands out in full; a line that is no row doesn't hold.
+fn run_whole<C: CallsOnBytes>(alloc: Global, line: &str, errors: Stderr, refusing: bool) -> Tally {
+    match case_of(line) {
+        None => Tally::one_wrong(),
+        Some(case) => run_row::<C>(alloc, &case, errors, refusing),
+    }
+}
+
+// Runs the row of a line.
 fn run_line<C: CallsOnBytes>(alloc: Global, line: &str, errors: Stderr, refusing: bool) -> Tally {
-    let mut wrong = Tally::new();
-    wrong.add(false);
-    let Ok(line) = expanded(alloc, line) else {
-        return wrong;
-    };
-    match case_of(line.as_str()) {
-        None => wrong,
-        Some(case) => match run_row::<C>(alloc, &case, errors, refusing) {
-            Ok(tally) => tally,
-            Err(_) => wrong,
-        },
+    match expanded(alloc, line) {
+        Ok(line) => run_whole::<C>(alloc, line.as_str(), errors, refusing),
+        Err(_) => Tally::one_wrong(),
+    }
+}
+
+// Whether a word of the call, if there is one, asks for refusals.
+fn asks_for_refusals(word: Option<String>) -> bool {
+    match word {
+        None => false,
+        Some(word) => is_one(word.as_str(), "refused"),
     }
 }
 
@@ -91,67 +98,100 @@ fn run_line<C: CallsOnBytes>(alloc: Global, line: &str, errors: Stderr, refusing
 fn is_refusing(rt: &HostRuntime) -> bool {
     match env::args(rt) {
         Err(_) => false,
-        Ok(mut words) => match words.nth(1) {
-            None => false,
-            Some(word) => word.as_str() == "refused",
-        },
+        Ok(mut words) => asks_for_refusals(words.nth(1)),
     }
 }
 
-// Runs a row, adds its runs to those of all, and tells whether it holds.
-fn holds<C: CallsOnBytes>(
-    rt: &HostRuntime,
-    row: &str,
-    refusing: bool,
-    all: &mut Tally,
-) -> io::Result<bool> {
-    let tally = run_line::<C>(rt.alloc(), row, rt.stderr(), refusing);
-    *all = all.and(tally);
-    if tally.wrong == 0 && tally.runs > 0 {
-        return Ok(true);
-    }
-    println!(rt; "{} of {} runs are wrong: {row}", tally.wrong, tally.runs)?;
-    Ok(false)
-}
-
-// Tells how many rows held, and where memory is refused how often it was.
-fn tell_all(
-    rt: &HostRuntime,
-    refusing: bool,
+// The runs of all rows, and how many rows held.
+#[derive(Clone, Copy)]
+struct Sums {
     all: Tally,
     held: u64,
     failed: u64,
-) -> io::Result<()> {
-    if refusing {
-        println!(rt;
-            "{} runs, {} requests for memory refused",
-            all.runs, all.refused
-        )?;
-    }
-    println!(rt; "{held} held, {failed} did not")
 }
 
-// Runs the rows of standard input.
-fn run_all<C: CallsOnBytes>(rt: &HostRuntime) -> io::Result<bool> {
-    let alloc = rt.alloc();
-    let refusing = is_refusing(rt);
-    let mut all = Tally::new();
-    let mut held = 0u64;
-    let mut failed = 0u64;
-    for line in BufReader::new(alloc, rt.reader())?.lines(alloc) {
-        let line = line?;
-        let row = line.as_str();
-        if row.is_empty() || row.starts_with('#') {
-            continue;
+impl Sums {
+    // Adds the runs of a row; whether it holds.
+    fn add(&mut self, tally: Tally) -> bool {
+        self.all = self.all.and(tally);
+        if tally.holds() {
+            self.held = self.held.saturating_add(1);
+            return true;
         }
-        if holds::<C>(rt, row, refusing, &mut all)? {
-            held = held.saturating_add(1);
-        } else {
-            failed = failed.saturating_add(1);
-        }
+        self.failed = self.failed.saturating_add(1);
+        false
     }
-    tell_all(rt, refusing, all, held, failed)?;
-    Ok(failed == 0)
+}
+
+// Tells how many runs of a row are wrong.
+fn tell_wrong(rt: &HostRuntime, row: &str, tally: Tally) -> io::Result<()> {
+    println!(rt; "{} of {} runs are wrong: {row}", tally.wrong, tally.runs)
+}
+
+// Runs a row, adds its runs to those of all, and tells where it doesn't hold.
+fn add_row<C: CallsOnBytes>(
+    rt: &HostRuntime,
+    row: &str,
+    refusing: bool,
+    sums: &mut Sums,
+) -> io::Result<()> {
+    if row.is_empty() || row.starts_with('#') {
+        return Ok(());
+    }
+    let tally = run_line::<C>(rt.alloc(), row, rt.stderr(), refusing);
+    if sums.add(tally) {
+        return Ok(());
+    }
+    tell_wrong(rt, row, tally)
+}
+
+// Runs the row of a line, if it was read.
+fn add_line<C: CallsOnBytes>(
+    rt: &HostRuntime,
+    line: io::Result<String>,
+    refusing: bool,
+    sums: &mut Sums,
+) -> io::Result<()> {
+    let line = line?;
+    add_row::<C>(rt, line.as_str(), refusing, sums)
+}
+
+// Runs the rows of standard input, and adds them.
+fn add_all<C: CallsOnBytes>(rt: &HostRuntime, refusing: bool, sums: &mut Sums) -> io::Result<()> {
+    let alloc = rt.alloc();
+    for line in BufReader::new(alloc, rt.reader())?.lines(alloc) {
+        add_line::<C>(rt, line, refusing, sums)?;
+    }
+    Ok(())
+}
+
+// Tells how often memory was refused.
+fn tell_refused(rt: &HostRuntime, all: Tally) -> io::Result<()> {
+    println!(rt;
+        "{} runs, {} requests for memory refused",
+        all.runs, all.refused
+    )
+}
+
+// Tells how many rows held, and where memory is refused how often it was.
+fn tell_all(rt: &HostRuntime, refusing: bool, sums: Sums) -> io::Result<()> {
+    if refusing {
+        tell_refused(rt, sums.all)?;
+    }
+    println!(rt; "{} held, {} did not", sums.held, sums.failed)
+}
+
+// Runs the rows of standard input; whether all hold.
+fn run_all<C: CallsOnBytes>(rt: &HostRuntime) -> io::Result<bool> {
+    let refusing = is_refusing(rt);
+    let mut sums = Sums {
+        all: Tally::new(),
+        held: 0,
+        failed: 0,
+    };
+    add_all::<C>(rt, refusing, &mut sums)?;
+    tell_all(rt, refusing, sums)?;
+    Ok(sums.failed == 0)
 }
 
 /// Runs the rows of standard input, and tells which of them don't hold.

@@ -1,13 +1,13 @@
 // The ways to run a row that reads bytes: whole, cut, each beginning, and with memory refused.
 
-use crate::calls::{Group, Kind, group_of, keeps_a_map, reads_bytes, reads_to_the_end};
+use crate::calls::{Kind, keeps_a_map, reads_a_buffer, reads_bytes, reads_to_the_end};
 use crate::case::{Case, given};
 use crate::fault::Fault;
 use crate::mark::Mark;
 use crate::on_bytes::CallsOnBytes;
-use crate::outcome::{Outcome, and};
+use crate::outcome::{Found, Outcome, and};
 use crate::tally::Tally;
-use crate::words::in_order;
+use crate::words::{copied, in_order, is_one, joined, push_text};
 use bytes::Bytes;
 use std::alloc::Global;
 use std::io::Stderr;
@@ -23,25 +23,60 @@ pub struct Run<'a> {
     pub errors: Stderr,
 }
 
-// Whether two texts are one.
-fn is_one(text: &str, other: &str) -> bool {
-    text == other
+// Whether two texts are one, if both are there.
+fn are_one(text: Result<String, Fault>, other: Result<String, Fault>) -> Result<bool, Fault> {
+    let text = text?;
+    let other = other?;
+    Ok(is_one(text.as_str(), other.as_str()))
 }
 
 // Whether two outcomes are one, but for the pairs.
 fn is_alike(outcome: &Outcome, other: &Outcome) -> bool {
-    is_one(outcome.answer.as_str(), other.answer.as_str())
-        && is_one(outcome.rest.as_str(), other.rest.as_str())
-        && is_one(outcome.left.as_str(), other.left.as_str())
+    is_one(outcome.answer(), other.answer())
+        && is_one(outcome.rest(), other.rest())
+        && is_one(outcome.left(), other.left())
         && outcome.unread == other.unread
+}
+
+// Whether an answer is any fault but want of memory.
+fn is_fault(answer: &str) -> bool {
+    !is_one(answer, "ok") && !is_one(answer, "OutOfMemory")
+}
+
+// Whether bytes are cut off, by the answer; of a rewrite no text stands.
+fn is_torn(call: &str, answer: &str, rest: &str) -> bool {
+    is_one(answer, "UnexpectedEof") && (!is_one(call, "rewrite") || is_one(rest, "text -"))
+}
+
+// Puts a line behind others, if it is there.
+fn push_line(lines: &mut String, line: Result<String, Fault>) -> Result<(), Fault> {
+    let line = line?;
+    push_text(lines, line.as_str())?;
+    push_text(lines, "\n")
+}
+
+// Whether a line is one of others.
+fn has_line(lines: &str, line: &str) -> bool {
+    for one in lines.split('\n') {
+        if is_one(one, line) {
+            return true;
+        }
+    }
+    false
+}
+
+// Puts a piece behind others, with an empty one before it.
+fn push_piece<'a>(pieces: &mut Vec<&'a [u8]>, piece: &'a [u8]) -> Result<(), Fault> {
+    pieces.push(&[])?;
+    pieces.push(piece)?;
+    Ok(())
 }
 
 // The bytes one by one, with an empty slice before each.
 fn single_bytes<'a>(alloc: Global, bytes: &'a [u8]) -> Result<Vec<&'a [u8]>, Fault> {
     let mut pieces: Vec<&'a [u8]> = Vec::new(alloc);
     for piece in bytes.chunks(1) {
-        pieces.push(&[])?;
-        pieces.push(piece)?;
+        push_piece(&mut pieces, piece)?;
     }
     Ok(pieces)
 }
@@ -50,7 +85,7 @@ impl Run<'_> {
     // The pairs as they are compared: in order, where the storage keeps none.
     fn pairs(&self, alloc: Global, pairs: &str) -> Result<String, Fault> {
         match self.kind {
-            Kind::Indexed => Ok(String::from_str(alloc, pairs)?),
+            Kind::Indexed => copied(alloc, pairs),
             Kind::Ordered | Kind::Hashed => in_order(alloc, pairs),
         }
     }
@@ -58,141 +93,101 @@ impl Run<'_> {
     // What stands after, in words; the pairs come first.
     fn state(&self, alloc: Global, pairs: &str, rest: &str) -> Result<String, Fault> {
         let pairs = self.pairs(alloc, pairs)?;
-        Ok(format!(in alloc; "{pairs}; {rest}")?)
+        joined(alloc, pairs.as_str(), "; ", rest)
     }
 
     // The same as the row says it.
     fn expected(&self, alloc: Global) -> Result<String, Fault> {
-        let (pairs, rest) = match self.case.after.split_once("; ") {
-            Some(parts) => parts,
-            None => (self.case.after, ""),
-        };
-        self.state(alloc, given(pairs), rest)
+        let after = self.case.after;
+        match after.split_once("; ") {
+            Some((pairs, rest)) => self.state(alloc, given(pairs), rest),
+            None => self.state(alloc, given(after), ""),
+        }
     }
 
-    // Whether what stands of an outcome, and what is left, is what the row says.
-    fn is_expected(&self, alloc: Global, outcome: &Outcome) -> Result<bool, Fault> {
-        let rest = and(alloc, outcome.rest.as_str(), outcome.left.as_str())?;
-        let found = self.state(alloc, outcome.pairs.as_str(), rest.as_str())?;
-        let expected = self.expected(alloc)?;
-        Ok(found.as_str() == expected.as_str())
+    // The same as an outcome has it, with what is left.
+    fn found(&self, alloc: Global, outcome: &Outcome) -> Result<String, Fault> {
+        let rest = and(alloc, outcome.rest(), outcome.left())?;
+        self.state(alloc, outcome.pairs(), rest.as_str())
     }
 
     // Whether an outcome is the row's. `refused` is any fault but want of memory, and says nothing of the state.
     fn is_right(&self, alloc: Global, outcome: &Outcome) -> Result<bool, Fault> {
-        let answer = outcome.answer.as_str();
-        if self.case.answer == "refused" {
-            return Ok(answer != "ok" && answer != "OutOfMemory");
+        let answer = self.case.answer;
+        if is_one(answer, "refused") {
+            return Ok(is_fault(outcome.answer()));
         }
-        if answer != self.case.answer {
+        if !is_one(answer, outcome.answer()) {
             return Ok(false);
         }
-        self.is_expected(alloc, outcome)
+        are_one(self.found(alloc, outcome), self.expected(alloc))
     }
 
     // What comes of a slice.
-    fn slice<C: CallsOnBytes>(
-        &self,
-        alloc: Global,
-        bytes: &[u8],
-        nth: Option<u64>,
-    ) -> Result<Option<Outcome>, Fault> {
+    fn slice<C: CallsOnBytes>(&self, alloc: Global, bytes: &[u8], nth: Option<u64>) -> Found {
+        let case = self.case;
+        let kind = self.kind;
         let mut mark = Mark::new(self.errors, nth);
-        match group_of(self.case.call) {
-            Group::Fields | Group::Items | Group::Values => {
-                C::slice(alloc, self.case, self.kind, &mut mark, bytes)
-            }
-            _ => C::called(alloc, self.case, self.kind, &mut mark, bytes),
+        if reads_a_buffer(case.call) {
+            C::slice(alloc, case, kind, &mut mark, bytes)
+        } else {
+            C::called(alloc, case, kind, &mut mark, bytes)
         }
     }
 
     // What comes of shared bytes.
-    fn shared<C: CallsOnBytes>(
-        &self,
-        alloc: Global,
-        bytes: &[u8],
-        nth: Option<u64>,
-    ) -> Result<Option<Outcome>, Fault> {
+    fn shared<C: CallsOnBytes>(&self, alloc: Global, bytes: &[u8], nth: Option<u64>) -> Found {
         let mut mark = Mark::new(self.errors, nth);
         let bytes = Bytes::copy_from_slice(alloc, bytes)?;
         C::shared(alloc, self.case, self.kind, &mut mark, bytes)
     }
 
     // What comes of pieces.
-    fn pieces<C: CallsOnBytes>(
-        &self,
-        alloc: Global,
-        pieces: &[&[u8]],
-        nth: Option<u64>,
-    ) -> Result<Option<Outcome>, Fault> {
+    fn pieces<C: CallsOnBytes>(&self, alloc: Global, pieces: &[&[u8]], nth: Option<u64>) -> Found {
         let mut mark = Mark::new(self.errors, nth);
         C::pieces(alloc, self.case, self.kind, &mut mark, pieces)
     }
 
     // What comes of single bytes.
-    fn singles<C: CallsOnBytes>(
-        &self,
-        alloc: Global,
-        bytes: &[u8],
-        nth: Option<u64>,
-    ) -> Result<Option<Outcome>, Fault> {
+    fn singles<C: CallsOnBytes>(&self, alloc: Global, bytes: &[u8], nth: Option<u64>) -> Found {
         let parts = single_bytes(alloc, bytes)?;
         self.pieces::<C>(alloc, parts.as_slice(), nth)
     }
 
-    // Whether there is no outcome, or the row's.
-    fn tell(
-        &self,
-        alloc: Global,
-        outcome: Option<Outcome>,
-        tally: &mut Tally,
-    ) -> Result<(), Fault> {
-        if let Some(outcome) = outcome {
-            let right = self.is_right(alloc, &outcome)?;
-            tally.add(right);
+    // Counts whether there is no outcome, or the row's.
+    fn tell(&self, alloc: Global, found: Found, tally: &mut Tally) {
+        if let Some(outcome) = tally.kept(found) {
+            tally.add_told(self.is_right(alloc, &outcome));
         }
-        Ok(())
     }
 
     /// The row in one piece: a slice, and shared bytes.
-    pub fn whole<C: CallsOnBytes>(
-        &self,
-        alloc: Global,
-        bytes: &[u8],
-        tally: &mut Tally,
-    ) -> Result<(), Fault> {
-        let whole = self.slice::<C>(alloc, bytes, None)?;
-        self.tell(alloc, whole, tally)?;
-        let shared = self.shared::<C>(alloc, bytes, None)?;
-        self.tell(alloc, shared, tally)
+    pub fn whole<C: CallsOnBytes>(&self, alloc: Global, bytes: &[u8], tally: &mut Tally) {
+        self.tell(alloc, self.slice::<C>(alloc, bytes, None), tally);
+        self.tell(alloc, self.shared::<C>(alloc, bytes, None), tally);
     }
 
     // The row in two, with an empty slice before each.
-    fn in_two<C: CallsOnBytes>(
-        &self,
-        alloc: Global,
-        front: &[u8],
-        back: &[u8],
-        tally: &mut Tally,
-    ) -> Result<(), Fault> {
+    fn in_two<C: CallsOnBytes>(&self, alloc: Global, front: &[u8], back: &[u8], tally: &mut Tally) {
         let parts: [&[u8]; 4] = [&[], front, &[], back];
-        let found = self.pieces::<C>(alloc, &parts, None)?;
-        self.tell(alloc, found, tally)
+        self.tell(alloc, self.pieces::<C>(alloc, &parts, None), tally);
     }
 
-    /// The row in one piece, and cut.
-    pub fn whole_and_cut<C: CallsOnBytes>(
-        &self,
-        alloc: Global,
-        bytes: &[u8],
-        tally: &mut Tally,
-    ) -> Result<(), Fault> {
-        self.whole::<C>(alloc, bytes, tally)?;
+    // The row in one piece, and cut.
+    fn whole_and_cut<C: CallsOnBytes>(&self, alloc: Global, bytes: &[u8], tally: &mut Tally) {
+        self.whole::<C>(alloc, bytes, tally);
         for cut in 0..=bytes.len() {
-            self.in_two::<C>(alloc, &bytes[..cut], &bytes[cut..], tally)?;
+            self.in_two::<C>(alloc, &bytes[..cut], &bytes[cut..], tally);
         }
-        let found = self.singles::<C>(alloc, bytes, None)?;
-        self.tell(alloc, found, tally)
+        self.tell(alloc, self.singles::<C>(alloc, bytes, None), tally);
+    }
+
+    /// The row in one piece, and cut; and each beginning, where it is accepted.
+    pub fn each_way<C: CallsOnBytes>(&self, alloc: Global, bytes: &[u8], tally: &mut Tally) {
+        self.whole_and_cut::<C>(alloc, bytes, tally);
+        if is_one(self.case.answer, "ok") {
+            self.beginnings::<C>(alloc, bytes, tally);
+        }
     }
 
     // Whether a beginning is whole: records, or all that the row takes.
@@ -203,129 +198,137 @@ impl Run<'_> {
         front.len() >= taken
     }
 
-    // What stands before the call beside a list.
-    fn start_of(&self, alloc: Global, list: &str) -> Result<String, Fault> {
-        let rest = format!(in alloc; "list {list}")?;
-        self.state(alloc, self.case.before(), rest.as_str())
+    // What stands before the call beside the pairs.
+    fn rest_before(&self, alloc: Global) -> Result<String, Fault> {
+        if is_one(self.case.call, "rewrite") {
+            return copied(alloc, "text -");
+        }
+        match self.case.setting("list") {
+            Some(list) => joined(alloc, "list ", list, ""),
+            None => Ok(String::new(alloc)),
+        }
     }
 
     // What stands before the call, as it is told after a refusal.
     fn start(&self, alloc: Global) -> Result<String, Fault> {
-        if self.case.call == "rewrite" {
-            return self.state(alloc, self.case.before(), "text -");
-        }
-        match self.case.setting("list") {
-            Some(list) => self.start_of(alloc, list),
-            None => self.state(alloc, self.case.before(), ""),
-        }
+        let rest = self.rest_before(alloc)?;
+        self.state(alloc, self.case.before(), rest.as_str())
     }
 
     // What stands of an outcome, of a rewrite without its text.
     fn standing(&self, alloc: Global, outcome: &Outcome) -> Result<String, Fault> {
-        let rest = if self.case.call == "rewrite" {
+        let rest = if is_one(self.case.call, "rewrite") {
             "text -"
         } else {
-            outcome.rest.as_str()
+            outcome.rest()
         };
-        self.state(alloc, outcome.pairs.as_str(), rest)
+        self.state(alloc, outcome.pairs(), rest)
     }
 
-    // Whether a beginning that is refused is cut off, and what its whole records make stands: of a rewrite no text.
-    fn is_cut_off(&self, outcome: &Outcome, found: &str, standing: &str) -> bool {
-        if outcome.answer.as_str() != "UnexpectedEof" {
-            return false;
+    // Whether a beginning that is refused is cut off, and what its whole records make stands.
+    fn is_cut_off(&self, alloc: Global, outcome: &Outcome, standing: &str) -> Result<bool, Fault> {
+        if !is_torn(self.case.call, outcome.answer(), outcome.rest()) {
+            return Ok(false);
         }
-        if self.case.call == "rewrite" && outcome.rest.as_str() != "text -" {
-            return false;
+        if !keeps_a_map(self.case.call) {
+            return Ok(true);
         }
-        found == standing || !keeps_a_map(self.case.call)
+        let found = self.standing(alloc, outcome)?;
+        Ok(is_one(found.as_str(), standing))
     }
 
     // Whether an outcome is another one.
     fn are_alike(&self, alloc: Global, outcome: &Outcome, other: &Outcome) -> Result<bool, Fault> {
-        let pairs = self.pairs(alloc, outcome.pairs.as_str())?;
-        let others = self.pairs(alloc, other.pairs.as_str())?;
-        Ok(pairs.as_str() == others.as_str() && is_alike(outcome, other))
+        if !is_alike(outcome, other) {
+            return Ok(false);
+        }
+        are_one(
+            self.pairs(alloc, outcome.pairs()),
+            self.pairs(alloc, other.pairs()),
+        )
     }
 
-    // Whether single bytes have the outcome of a slice, and what is left is the same, where a buffer is read.
-    fn is_alike<C: CallsOnBytes>(
-        &self,
-        alloc: Global,
-        bytes: &[u8],
-        outcome: &Outcome,
-    ) -> Result<bool, Fault> {
-        match self.singles::<C>(alloc, bytes, None)? {
-            None => Ok(true),
-            Some(other) => self.are_alike(alloc, outcome, &other),
+    // Counts whether another way, if it is run, has the same outcome, and leaves the same.
+    fn tell_alike(&self, alloc: Global, outcome: &Outcome, found: Found, tally: &mut Tally) {
+        match tally.kept(found) {
+            None => tally.add(true),
+            Some(other) => tally.add_told(self.are_alike(alloc, outcome, &other)),
         }
     }
 
-    // What stands after a beginning, by its outcome: of its whole records, where it is cut off of those before it. In
-    // single bytes it has the same outcome.
-    fn stands_after<C: CallsOnBytes>(
-        &self,
-        alloc: Global,
-        front: &[u8],
-        is_whole: bool,
-        outcome: &Outcome,
-        standing: String,
-        tally: &mut Tally,
-    ) -> Result<String, Fault> {
-        tally.add(self.is_alike::<C>(alloc, front, outcome)?);
-        let found = self.standing(alloc, outcome)?;
-        if is_whole {
-            tally.add(outcome.answer.as_str() == "ok");
-            return Ok(found);
+    // A beginning that is whole: it is accepted, and what it makes stands.
+    fn stands(&self, alloc: Global, outcome: &Outcome, standing: &mut String, tally: &mut Tally) {
+        tally.add(is_one(outcome.answer(), "ok"));
+        match self.standing(alloc, outcome) {
+            Ok(found) => *standing = found,
+            Err(fault) => tally.note(Err(fault)),
         }
-        tally.add(self.is_cut_off(outcome, found.as_str(), standing.as_str()));
-        Ok(standing)
     }
 
-    // One beginning, and what stands after it.
+    // One beginning: of its whole records what stands, where it is cut off of those before it. In single bytes it has
+    // the same outcome.
     fn beginning<C: CallsOnBytes>(
         &self,
         alloc: Global,
         front: &[u8],
         taken: usize,
-        standing: String,
+        standing: &mut String,
         tally: &mut Tally,
-    ) -> Result<String, Fault> {
-        let is_whole = self.is_whole::<C>(alloc, front, taken);
-        match self.slice::<C>(alloc, front, None)? {
-            None => Ok(standing),
-            Some(outcome) => {
-                self.stands_after::<C>(alloc, front, is_whole, &outcome, standing, tally)
+    ) {
+        if let Some(outcome) = tally.kept(self.slice::<C>(alloc, front, None)) {
+            self.tell_alike(
+                alloc,
+                &outcome,
+                self.singles::<C>(alloc, front, None),
+                tally,
+            );
+            if self.is_whole::<C>(alloc, front, taken) {
+                self.stands(alloc, &outcome, standing, tally);
+            } else {
+                tally.add_told(self.is_cut_off(alloc, &outcome, standing.as_str()));
             }
         }
     }
 
-    // How many bytes a row takes that is accepted, if it is run.
-    fn taken<C: CallsOnBytes>(&self, alloc: Global, bytes: &[u8]) -> Result<Option<usize>, Fault> {
-        match self.slice::<C>(alloc, bytes, None)? {
-            None => Ok(None),
-            Some(all) => Ok(Some(bytes.len().saturating_sub(all.unread))),
-        }
-    }
-
-    /// Each beginning of a row that is accepted: whole, or cut off, and then what its whole records make stands.
-    pub fn beginnings<C: CallsOnBytes>(
+    // Each beginning of a row that takes so many bytes.
+    fn each_beginning<C: CallsOnBytes>(
         &self,
         alloc: Global,
         bytes: &[u8],
+        taken: usize,
+        standing: &mut String,
         tally: &mut Tally,
-    ) -> Result<(), Fault> {
-        if !reads_bytes(self.case.call) {
-            return Ok(());
-        }
-        let Some(taken) = self.taken::<C>(alloc, bytes)? else {
-            return Ok(());
-        };
-        let mut standing = self.start(alloc)?;
+    ) {
         for cut in 0..bytes.len() {
-            standing = self.beginning::<C>(alloc, &bytes[..cut], taken, standing, tally)?;
+            self.beginning::<C>(alloc, &bytes[..cut], taken, standing, tally);
         }
-        Ok(())
+    }
+
+    // Each beginning, behind what stands before the call.
+    fn from_start<C: CallsOnBytes>(
+        &self,
+        alloc: Global,
+        bytes: &[u8],
+        taken: usize,
+        tally: &mut Tally,
+    ) {
+        match self.start(alloc) {
+            Ok(mut standing) => {
+                self.each_beginning::<C>(alloc, bytes, taken, &mut standing, tally);
+            }
+            Err(fault) => tally.note(Err(fault)),
+        }
+    }
+
+    // Each beginning of a row that is accepted: whole, or cut off, and then what its whole records make stands.
+    fn beginnings<C: CallsOnBytes>(&self, alloc: Global, bytes: &[u8], tally: &mut Tally) {
+        if !reads_bytes(self.case.call) {
+            return;
+        }
+        if let Some(all) = tally.kept(self.slice::<C>(alloc, bytes, None)) {
+            let taken = bytes.len().saturating_sub(all.unread);
+            self.from_start::<C>(alloc, bytes, taken, tally);
+        }
     }
 
     // Adds what stands after a beginning that is accepted.
@@ -333,119 +336,99 @@ impl Run<'_> {
         &self,
         alloc: Global,
         front: &[u8],
-        found: &mut Vec<String>,
-    ) -> Result<(), Fault> {
-        if let Some(outcome) = self.slice::<C>(alloc, front, None)? {
-            if outcome.answer.as_str() == "ok" {
-                found.push(self.standing(alloc, &outcome)?)?;
+        lines: &mut String,
+        tally: &mut Tally,
+    ) {
+        if let Some(outcome) = tally.kept(self.slice::<C>(alloc, front, None)) {
+            if is_one(outcome.answer(), "ok") {
+                tally.note(push_line(lines, self.standing(alloc, &outcome)));
             }
         }
-        Ok(())
     }
 
-    // What may stand where memory ran out: what stood before, and of a run what each beginning of records makes.
-    fn may_stand<C: CallsOnBytes>(
-        &self,
-        alloc: Global,
-        bytes: &[u8],
-    ) -> Result<Vec<String>, Fault> {
-        let mut found = Vec::new(alloc);
-        found.push(self.start(alloc)?)?;
+    // What may stand where memory ran out, a line each: what stood before, and of a run what each beginning of records
+    // makes.
+    fn may_stand<C: CallsOnBytes>(&self, alloc: Global, bytes: &[u8], tally: &mut Tally) -> String {
+        let mut lines = String::new(alloc);
+        tally.note(push_line(&mut lines, self.start(alloc)));
         if reads_to_the_end(self.case.call) && keeps_a_map(self.case.call) {
             for cut in 0..=bytes.len() {
-                self.push_standing::<C>(alloc, &bytes[..cut], &mut found)?;
+                self.push_standing::<C>(alloc, &bytes[..cut], &mut lines, tally);
             }
         }
-        Ok(found)
+        lines
+    }
+
+    // Whether a text is a part of what the row says.
+    fn is_expected_in_part(&self, alloc: Global, text: &str) -> Result<bool, Fault> {
+        let expected = self.expected(alloc)?;
+        Ok(expected.as_str().contains(text))
     }
 
     // Whether the records or the text of an outcome may stand where memory ran out: the records are those before, the
     // text is a beginning of the row's.
     fn rest_stands(&self, alloc: Global, rest: &str) -> Result<bool, Fault> {
         if let Some(records) = rest.strip_prefix("records ") {
-            return Ok(records == self.case.before);
+            return Ok(is_one(records, self.case.before));
         }
-        if rest.starts_with("text ") && rest != "text -" {
-            let expected = self.expected(alloc)?;
-            return Ok(expected.as_str().contains(rest));
+        if rest.starts_with("text ") && !is_one(rest, "text -") {
+            return self.is_expected_in_part(alloc, rest);
         }
         Ok(true)
     }
 
     // Whether an outcome is want of memory, and what stands may stand then.
-    fn is_refused_well(
-        &self,
-        alloc: Global,
-        outcome: &Outcome,
-        may: &[String],
-    ) -> Result<bool, Fault> {
-        if outcome.answer.as_str() != "OutOfMemory" {
-            return Ok(false);
-        }
-        if !self.rest_stands(alloc, outcome.rest.as_str())? {
+    fn is_refused_well(&self, alloc: Global, outcome: &Outcome, may: &str) -> Result<bool, Fault> {
+        if !is_one(outcome.answer(), "OutOfMemory") || !self.rest_stands(alloc, outcome.rest())? {
             return Ok(false);
         }
         if !keeps_a_map(self.case.call) {
             return Ok(true);
         }
         let found = self.standing(alloc, outcome)?;
-        Ok(may.iter().any(|state| state.as_str() == found.as_str()))
+        Ok(has_line(may, found.as_str()))
     }
 
     // The outcome of a way: whole, or in single bytes.
-    fn by<C: CallsOnBytes>(
-        &self,
-        alloc: Global,
-        bytes: &[u8],
-        cut: bool,
-        nth: u64,
-    ) -> Result<Option<Outcome>, Fault> {
+    fn by<C: CallsOnBytes>(&self, alloc: Global, bytes: &[u8], cut: bool, nth: u64) -> Found {
         if !cut {
             return self.slice::<C>(alloc, bytes, Some(nth));
         }
         self.singles::<C>(alloc, bytes, Some(nth))
     }
 
-    // How many requests the call may make.
-    fn most(&self) -> Result<u64, Fault> {
-        match self.case.setting("requests") {
-            None => Ok(1000),
-            Some(said) => Ok(said.parse::<u64>()?),
+    // Whether an outcome after a request that was refused is as it may be: want of memory, or where the row says that
+    // memory is spared, the row's.
+    fn is_excused(&self, alloc: Global, outcome: &Outcome, may: &str) -> Result<bool, Fault> {
+        if self.case.says("memory", "spared") && self.is_right(alloc, outcome)? {
+            return Ok(true);
+        }
+        self.is_refused_well(alloc, outcome, may)
+    }
+
+    // Counts what comes of a request that was refused, or of none, as the outcome tells; whether one was.
+    fn tell_refused(&self, alloc: Global, found: Found, may: &str, tally: &mut Tally) -> bool {
+        match tally.kept(found) {
+            None => false,
+            Some(outcome) => {
+                if outcome.refused {
+                    tally.add_refused_told(self.is_excused(alloc, &outcome, may));
+                } else {
+                    tally.add_told(self.is_right(alloc, &outcome));
+                }
+                outcome.refused
+            }
         }
     }
 
-    // What comes of a request that was refused, or of none, as the outcome tells; whether one was.
-    fn tell_refused(
-        &self,
-        alloc: Global,
-        outcome: &Outcome,
-        may: &[String],
-        tally: &mut Tally,
-    ) -> Result<bool, Fault> {
-        let right = self.is_right(alloc, outcome)?;
-        if !outcome.refused {
-            tally.add(right);
-            return Ok(false);
-        }
-        let spared = right && self.case.says("memory", "spared");
-        let well = self.is_refused_well(alloc, outcome, may)?;
-        tally.add_refused(well || spared);
-        Ok(true)
-    }
-
-    // One request refused; whether there was one.
-    fn refused_at<C: CallsOnBytes>(
-        &self,
-        alloc: Global,
-        bytes: &[u8],
-        cut: bool,
-        nth: u64,
-        may: &[String],
-        tally: &mut Tally,
-    ) -> Result<bool, Fault> {
-        match self.by::<C>(alloc, bytes, cut, nth)? {
-            None => Ok(false),
-            Some(outcome) => self.tell_refused(alloc, &outcome, may, tally),
+    // How many requests the call may make, and one more.
+    fn requests(&self, tally: &mut Tally) -> u64 {
+        match self.case.number_or("requests", 1000) {
+            Ok(most) => most.saturating_add(1),
+            Err(fault) => {
+                tally.note(Err(fault));
+                0
+            }
         }
     }
 
@@ -455,16 +438,15 @@ impl Run<'_> {
         alloc: Global,
         bytes: &[u8],
         cut: bool,
-        may: &[String],
+        may: &str,
         tally: &mut Tally,
-    ) -> Result<(), Fault> {
-        for nth in 1..=self.most()?.saturating_add(1) {
-            if !self.refused_at::<C>(alloc, bytes, cut, nth, may, tally)? {
-                return Ok(());
+    ) {
+        for nth in 1..=self.requests(tally) {
+            if !self.tell_refused(alloc, self.by::<C>(alloc, bytes, cut, nth), may, tally) {
+                return;
             }
         }
         tally.add(false);
-        Ok(())
     }
 
     // All requests refused of a row in two.
@@ -474,66 +456,36 @@ impl Run<'_> {
         front: &[u8],
         back: &[u8],
         tally: &mut Tally,
-    ) -> Result<(), Fault> {
+    ) {
         let parts: [&[u8]; 2] = [front, back];
-        let found = self.pieces::<C>(alloc, &parts, Some(0))?;
-        self.tell(alloc, found, tally)
-    }
-
-    // All requests refused of a row by a way: whole, or in single bytes.
-    fn by_with_none<C: CallsOnBytes>(
-        &self,
-        alloc: Global,
-        bytes: &[u8],
-        cut: bool,
-        tally: &mut Tally,
-    ) -> Result<(), Fault> {
-        let found = self.by::<C>(alloc, bytes, cut, 0)?;
-        self.tell(alloc, found, tally)
+        self.tell(alloc, self.pieces::<C>(alloc, &parts, Some(0)), tally);
     }
 
     // All requests refused of a row that takes none, cut: in single bytes, and in two.
-    fn cut_with_none<C: CallsOnBytes>(
-        &self,
-        alloc: Global,
-        bytes: &[u8],
-        tally: &mut Tally,
-    ) -> Result<(), Fault> {
-        self.by_with_none::<C>(alloc, bytes, true, tally)?;
+    fn cut_with_none<C: CallsOnBytes>(&self, alloc: Global, bytes: &[u8], tally: &mut Tally) {
+        self.tell(alloc, self.by::<C>(alloc, bytes, true, 0), tally);
         for cut in 0..=bytes.len() {
-            self.in_two_with_none::<C>(alloc, &bytes[..cut], &bytes[cut..], tally)?;
+            self.in_two_with_none::<C>(alloc, &bytes[..cut], &bytes[cut..], tally);
         }
-        Ok(())
     }
 
     // All requests refused of a row that says that it takes none (`none`), or none of bytes in one piece (`whole`).
-    fn with_none<C: CallsOnBytes>(
-        &self,
-        alloc: Global,
-        bytes: &[u8],
-        tally: &mut Tally,
-    ) -> Result<(), Fault> {
+    fn with_none<C: CallsOnBytes>(&self, alloc: Global, bytes: &[u8], tally: &mut Tally) {
         let none = self.case.says("memory", "none");
         if none || self.case.says("memory", "whole") {
-            self.by_with_none::<C>(alloc, bytes, false, tally)?;
+            self.tell(alloc, self.by::<C>(alloc, bytes, false, 0), tally);
         }
         if none {
-            self.cut_with_none::<C>(alloc, bytes, tally)?;
+            self.cut_with_none::<C>(alloc, bytes, tally);
         }
-        Ok(())
     }
 
     /// Each request for memory refused in turn, whole and in single bytes; and all of them, where the row says that
     /// it takes none.
-    pub fn refused<C: CallsOnBytes>(
-        &self,
-        alloc: Global,
-        bytes: &[u8],
-        tally: &mut Tally,
-    ) -> Result<(), Fault> {
-        let may = self.may_stand::<C>(alloc, bytes)?;
-        self.refused_by::<C>(alloc, bytes, false, may.as_slice(), tally)?;
-        self.refused_by::<C>(alloc, bytes, true, may.as_slice(), tally)?;
-        self.with_none::<C>(alloc, bytes, tally)
+    pub fn refused<C: CallsOnBytes>(&self, alloc: Global, bytes: &[u8], tally: &mut Tally) {
+        let may = self.may_stand::<C>(alloc, bytes, tally);
+        self.refused_by::<C>(alloc, bytes, false, may.as_str(), tally);
+        self.refused_by::<C>(alloc, bytes, true, may.as_str(), tally);
+        self.with_none::<C>(alloc, bytes, tally);
     }
 }
