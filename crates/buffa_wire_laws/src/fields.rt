@@ -328,6 +328,15 @@ pub fn buffers_are_these<B: Buf>()
         (λ s. s.inner) (λ s. s.limit) B.unread B.beyond }
 {}
 
+/// A lent front that is let go, and not finished, leaves the buffer as it was.
+pub fn fronts_let_go_stay<B: Buf + Drop>(buf: &mut B, limit: usize)
+    ensures { buf.new ≡ buf.old }
+{
+    if limit <= buf.remaining() {
+        let _front = Limited::new(buf, limit);
+    }
+}
+
 /// An adapted buffer shows what the one within does, and keeps what that one keeps. It leaves open where chunks end.
 #[tactic(auto, using(buffa_bytes::proofs::AdaptedLemmas::kept_is_one))]
 pub fn adapted_buffers_are_these<B: bytes::Buf>()

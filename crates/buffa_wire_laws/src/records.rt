@@ -29,7 +29,8 @@ use buffa_bytes::Blank;
 use buffa_wire::budget::{DEFAULT_ELEMENT_MEMORY_LIMIT, DEFAULT_UNKNOWN_FIELD_LIMIT};
 use buffa_wire::context::RECURSION_LIMIT;
 use buffa_wire::enumeration::{EnumValue, Enumeration};
-use buffa_wire::message::{MAX_MESSAGE_BYTES, Message};
+use buffa_wire::formed::{Formed, MessageForm};
+use buffa_wire::message::{MAX_MESSAGE_BYTES, Message, MessageSpec};
 use buffa_wire::unknown_fields::{UnknownField, UnknownFieldData, UnknownFields};
 
 /// Whole bytes are read as records exactly where the grammar has them and a slot is left for each record,
@@ -139,6 +140,19 @@ pub fn records_are_pinned()
     ensures whole { (d s : ℕ) (bs : List ℕ) → RecordsArePinned d s bs }
 {}
 
+/// A type that is a message as another says means, costs and is written as that one says. Nothing else is open.
+pub fn formed_messages_are_these<M: Formed>()
+where
+    M::Form: MessageForm<M>,
+    ensures merged { (⟦<M as MessageSpec>⟧.merged ≡ M.Form.merged) × (⟦<M as MessageSpec>⟧.cost ≡ M.Form.cost) }
+    ensures text { (v : M.Meaning) → ⟦<M as MessageSpec>⟧.text v ≡ records_text (M.Form.records v) }
+    ensures records { ⟦<M as MessageSpec>⟧.records ≡ M.Form.records }
+    ensures slots { ⟦<M as MessageSpec>⟧.slots ≡ M.Form.slots }
+    ensures levels { ⟦<M as MessageSpec>⟧.levels ≡ M.Form.levels }
+    ensures normal { (v : M.Meaning) → ⟦<M as MessageSpec>⟧.normal v ↔ M.Form.normal v }
+    ensures units { ⟦<M as MessageSpec>⟧.COST ≡ M.Form.COST }
+{}
+
 /// What is spent leaves one budget, and it is spent exactly where it is there. Nothing is open.
 pub fn budgets_are_pinned()
     ensures { (left need : BudgetLeft) → BudgetIsPinned left need }
@@ -154,7 +168,8 @@ pub fn open_enums_are_these<E: Enumeration>()
 {}
 
 /// `==` of values of an open enum: declared ones are compared by their type, numbers as numbers, and the two are never
-/// equal; and `clone` makes a clone of a declared one, and the same number. Nothing else is open.
+/// equal; and `clone` makes a clone of a declared one, and the same number, and fails only where that of a declared one may.
+/// Nothing else is open.
 pub fn open_enums_are_compared<E: Enumeration + Clone + PartialEq>()
     ensures known { (a b : E) → ⟦<EnumValue<E> as PartialEq>⟧.eq (EnumValue.Known a) (EnumValue.Known b) ≡ E.eq a b }
     ensures number { (m n : ℤ) → (⟦<EnumValue<E> as PartialEq>⟧.eq (EnumValue.Unknown m) (EnumValue.Unknown n) ≡ true)
@@ -166,6 +181,8 @@ pub fn open_enums_are_compared<E: Enumeration + Clone + PartialEq>()
         (b : E) × (c ≡ EnumValue.Known b) × E.is_clone a b }
     ensures number_clone { (n : ℤ) (c : EnumValue E) → ⟦<EnumValue<E> as Clone>⟧.is_clone (EnumValue.Unknown n) c → c
         ≡ EnumValue.Unknown n }
+    ensures known_made { (a : E) → E.is_infallible a → ⟦<EnumValue<E> as Clone>⟧.is_infallible (EnumValue.Known a) }
+    ensures number_made { (n : ℤ) → ⟦<EnumValue<E> as Clone>⟧.is_infallible (EnumValue.Unknown n) }
 {}
 
 /// Slots are consumed in the order in which they were reserved: those that are appended behind a cursor at the end are
