@@ -61,6 +61,10 @@ Has P ds = (front : List Datum) × (d : Datum) × (back : List Datum) × P d × 
 abbrev pub HasLast : {M : Type 0} → (Datum → Type 0) → (Datum → Option M) → List Datum → Type 0
 HasLast P one ds = (front : List Datum) × (d : Datum) × (back : List Datum) × P d × (filter_map one back ≡ []) × (ds ≡ front ++ d ∷ back)
 
+-- a text takes memory to be read where it has a byte, and it is the last that is read
+abbrev pub TakesText : (Datum → Option (List ℕ)) → List Datum → Type 0
+TakesText held ds = HasLast (λ d. HasByte (held d)) held ds
+
 -- a record of a list takes memory: its reading does, or it has a value, which is stored
 abbrev pub TakesElement : {M : Type 0} → (Datum → Type 0) → (BudgetLeft → Datum → Option M) → (List ℕ → List M) → Datum → Type 0
 TakesElement takes one packed d = takes d ⊎ ((b : BudgetLeft) × (elements packed d (one b d) ≢ []))

@@ -24,7 +24,7 @@ ghost use Rattle.std.specs.Int.{cast_unsigned, from_bool, w32, w64};
 ghost use Rattle.buffa_bytes.specs.Scalars.{zigzag};
 ghost use Rattle.buffa_wire.specs.Records.{varint, fixed32, fixed64};
 ghost use Rattle.buffa_codec.specs.Reading.{LaterReadingsWin, ReadAlike, ReadingsJoin};
-ghost use Rattle.buffa_codec.specs.Reading.{bytes_held, full, last_read};
+ghost use Rattle.buffa_codec.specs.Reading.{TakesText, bytes_held, full, last_read};
 ghost use Rattle.buffa_codec.specs.Reading.{CoversAll, Each, ReadsList, first_refusal, packed_record, string_held};
 ghost use Rattle.buffa_bytes.specs.declared.wire_type.WireType.{WireType};
 ghost use Rattle.buffa_codec.specs.PackedGrammar.{ArePacked};
@@ -187,9 +187,11 @@ pub fn enums_are_read_as_numbers<E: Enumeration>()
         ↔ (os ≡ map (λ v. open_number E.of_number v.1) vs) }
 {}
 
-/// An enum's number is read in a record, or in packed bytes, as that of an `int32`, at any depth; and so it is
-/// written.
+/// An enum is a number ([`numbers_are_read`]). It is read in a record, or in packed bytes, as that of an `int32`, at
+/// any depth; and so it is written.
 pub fn enum_records_are_read<E: Enumeration>()
+    ensures value { (n : ℕ) → ⟦<EnumCodec<E> as Numbered>⟧.value_of n ≡ open_number E.of_number (int32_of n) }
+    ensures number { (v : Bool × ℤ) → ⟦<EnumCodec<E> as Numbered>⟧.number_of v ≡ cast_unsigned w64 v.1 }
     ensures one { (n : ℕ) (b : BudgetLeft) (d : Datum) → ⟦<EnumCodec<E> as SingularCodec>⟧.one n b d
         ≡ option_map (λ k. open_number E.of_number (int32_of k)) (varint_in d) }
     ensures packed { (bs : List ℕ) → ⟦<EnumCodec<E> as SingularCodec>⟧.packed bs
@@ -248,7 +250,8 @@ pub fn scalars_are_read()
 {}
 
 /// Strings and bytes are read of the last record of bytes, strings where these are UTF-8; all of them are
-/// written, and read back; and no packed ones are read. Only a text of a byte or more takes memory to be read.
+/// written, and read back; and no packed ones are read. Only a text of a byte or more takes memory to be read, the
+/// last one alone, and an empty one is written in the list's room.
 pub fn texts_are_read()
     ensures strings { (ds : List Datum) (o : Option (List ℕ)) → ⟦<StringCodec as ExtensionCodec>⟧.reads ds o
         ↔ (o ≡ last_read string_held ds) }
@@ -264,6 +267,10 @@ pub fn texts_are_read()
         × (⟦<BytesCodec as SingularCodec>⟧.packed bs ≡ []) }
     ensures memory { (d : Datum) → (⟦<StringCodec as SingularCodec>⟧.takes d ↔ HasByte (string_held d))
         × (⟦<BytesCodec as SingularCodec>⟧.takes d ↔ HasByte (bytes_held d)) }
+    ensures counts { (ds : List Datum) → (⟦<StringCodec as ExtensionCodec>⟧.takes ds ↔ TakesText string_held ds)
+        × (⟦<BytesCodec as ExtensionCodec>⟧.takes ds ↔ TakesText bytes_held ds) }
+    ensures in_room { (v : List ℕ) → (⟦<StringCodec as ExtensionCodec>⟧.in_room v ↔ (v ≡ []))
+        × (⟦<BytesCodec as ExtensionCodec>⟧.in_room v ↔ (v ≡ [])) }
     ensures holds { (v : List ℕ) (o : Option (List ℕ)) → (⟦<StringCodec as ExtensionCodec>⟧.holds v o ↔ (o ≡ Some v))
         × (⟦<BytesCodec as ExtensionCodec>⟧.holds v o ↔ (o ≡ Some v)) }
     ensures free { (v : List ℕ) → (⟦<StringCodec as SingularCodec>⟧.made_free v ↔ (v ≡ []))

@@ -81,3 +81,11 @@ pub fn holders_are_these()
     ensures carrier { ⟦<Carrier as ExtensionSet>⟧.fqn ≡ codes "test.Carrier" }
     ensures records { (m : Carrier) → ⟦<Carrier as ExtensionSet>⟧.fields_of m ≡ m.fields }
 {}
+
+/// The constant `PROTO_FQN` of each of these is that name, too. Nothing is left open.
+pub fn names_are_these() -> (&'static str, &'static str)
+    ensures options { result.0.now ≡ codes "google.protobuf.FieldOptions" }
+    ensures carrier { result.1.now ≡ codes "test.Carrier" }
+{
+    (FieldOptions::PROTO_FQN, Carrier::PROTO_FQN)
+}
