@@ -21,7 +21,7 @@ use crate::carrier::Carrier;
 use crate::options::FieldOptions;
 use crate::price::{Price, PriceCodec};
 use crate::rules::{Rules, Violation};
-use buffa_codec::{ExtensionCodec, PackableCodec, SingularCodec};
+use buffa_codec::{ExtensionCodec, Numbered, PackableCodec, SingularCodec};
 use buffa_ext::ExtensionSet;
 use buffa_wire::Blank;
 
@@ -34,10 +34,12 @@ pub fn judgements_are_pinned()
     ensures told { OneViolation }
 {}
 
-/// A price is read and written as a `sint64`, in lists too, packed or not.
+/// A price is a number, read and written as a `sint64`, in lists too, packed or not.
 pub fn prices_are_sint64()
     ensures meaning { (p : Price) → ⟦<Price as Blank>⟧.meaning p ≡ p.cents }
     ensures blank { ⟦<Price as Blank>⟧.blank_is ≡ pos 0 }
+    ensures value { (n : ℕ) → ⟦<PriceCodec as Numbered>⟧.value_of n ≡ sint64_of n }
+    ensures number { (v : ℤ) → ⟦<PriceCodec as Numbered>⟧.number_of v ≡ zigzag v }
     ensures reads { (ds : List Datum) (o : Option ℤ) → ⟦<PriceCodec as ExtensionCodec>⟧.reads ds o
         ↔ (o ≡ last_read (λ d. option_map sint64_of (varint_in d)) ds) }
     ensures records { (v : ℤ) → ⟦<PriceCodec as ExtensionCodec>⟧.recs v ≡ varint (zigzag v) ∷ [] }
