@@ -21,7 +21,7 @@ use crate::carrier::Carrier;
 use crate::options::FieldOptions;
 use crate::price::{Price, PriceCodec};
 use crate::rules::{Rules, Violation};
-use buffa_codec::{ExtensionCodec, PackableCodec, SingularCodec};
+use buffa_codec::{ExtensionCodec, Numbered, PackableCodec, SingularCodec};
 use buffa_ext::ExtensionSet;
 use buffa_wire::Blank;
 
@@ -34,10 +34,12 @@ pub fn judgements_are_pinned()
     ensures told { OneViolation }
 {}
 
-/// A price is read and written as a `sint64`, in lists too, packed or not.
+/// A price is a number, read and written as a `sint64`, in lists too, packed or not.
 pub fn prices_are_sint64()
     ensures meaning { (p : Price) → ⟦<Price as Blank>⟧.meaning p ≡ p.cents }
     ensures blank { ⟦<Price as Blank>⟧.blank_is ≡ pos 0 }
+    ensures value { (n : ℕ) → ⟦<PriceCodec as Numbered>⟧.value_of n ≡ sint64_of n }
+    ensures number { (v : ℤ) → ⟦<PriceCodec as Numbered>⟧.number_of v ≡ zigzag v }
     ensures reads { (ds : List Datum) (o : Option ℤ) → ⟦<PriceCodec as ExtensionCodec>⟧.reads ds o
         ↔ (o ≡ last_read (λ d. option_map sint64_of (varint_in d)) ds) }
     ensures records { (v : ℤ) → ⟦<PriceCodec as ExtensionCodec>⟧.recs v ≡ varint (zigzag v) ∷ [] }
@@ -81,3 +83,11 @@ pub fn holders_are_these()
     ensures carrier { ⟦<Carrier as ExtensionSet>⟧.fqn ≡ codes "test.Carrier" }
     ensures records { (m : Carrier) → ⟦<Carrier as ExtensionSet>⟧.fields_of m ≡ m.fields }
 {}
+
+/// The constant `PROTO_FQN` of each of these is that name, too. Nothing is left open.
+pub fn names_are_these() -> (&'static str, &'static str)
+    ensures options { result.0.now ≡ codes "google.protobuf.FieldOptions" }
+    ensures carrier { result.1.now ≡ codes "test.Carrier" }
+{
+    (FieldOptions::PROTO_FQN, Carrier::PROTO_FQN)
+}

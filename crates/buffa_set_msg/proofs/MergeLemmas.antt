@@ -8,11 +8,12 @@ use Rattle.buffa_bytes.specs.Join.{Join}
 use Rattle.buffa_bytes.specs.Join.Join.{none, more}
 use Rattle.buffa_bytes.specs.Reading.{skip_at, tag_at}
 use Rattle.buffa_bytes.specs.declared.wire_type.WireType.{WireType}
+use Rattle.buffa_bytes.specs.declared.wire_type.WireType.TheVariants.{EndGroup}
 use Rattle.buffa_bytes.specs.declared.error.DecodeError.{DecodeError}
 use Rattle.buffa_bytes.specs.declared.error.DecodeError.TheVariants.{OutOfMemory}
 use Rattle.buffa_wire.proofs.MessageLemmas.{untagged}
 use Rattle.buffa_wire.specs.BudgetLeft.{BudgetLeft, Lacks, Pays, PaysAtMost, need_by, nothing, plus}
-use Rattle.buffa_wire.specs.Message.{MergeFault}
+use Rattle.buffa_wire.specs.Message.{BeginsField, MergeFault}
 use Rattle.buffa_wire.specs.Records.{Datum}
 use Rattle.buffa_wire.proofs.CostLemmas.{cost_tagged, field_alone}
 use Rattle.buffa_wire.specs.ByField.{value_of}
@@ -150,8 +151,8 @@ module _ (d : ℕ) where
     )
 
     -- ---- what merge promises of a refusal, and of the end
-    pub stops : (e : DecodeError) → 0 < length bs → (e ≢ OutOfMemory → NextIsRefused d v bs now e) → StopsBehind d old all before e v now
-    stops e some why = (came.front, bs, came.fields, came.split, some, came.means, came.pays, why)
+    pub stops : (e : DecodeError) → 0 < length bs → (e ≢ OutOfMemory → NextIsRefused d v bs now e) → (e ≡ OutOfMemory → BeginsField bs) → StopsBehind d old all before e v now
+    stops e some why full = (came.front, bs, came.fields, came.split, some, came.means, came.pays, why, full)
 
     pub stops_merged : (e : DecodeError) → 0 < length bs → (e ≢ OutOfMemory → NextIsRefused d v bs now e) →
         PaysAtMost before (set_cost d all) now × (e ≢ OutOfMemory → MergeFault (set_merged d old all) (set_cost d all) before e)
@@ -159,10 +160,10 @@ module _ (d : ℕ) where
 
     -- a field that was refused, and changed nothing
     pub refused_next : (u : Values) (left : BudgetLeft) (n : ℕ) (w : WireType) (rest : List ℕ) (e : DecodeError) → tag_at bs ≡ Ok (n, w, rest) → 0 < length bs → u ≡ v → left ≡ now →
-        (e ≢ OutOfMemory → IsRefused d v n w rest now e) → StopsBehind d old all before e u left × (PaysAtMost before (set_cost d all) left × (e ≢ OutOfMemory → MergeFault (set_merged d old all) (set_cost d all) before e))
-    refused_next u left n w rest e tag some same kept why =
+        (e ≢ OutOfMemory → IsRefused d v n w rest now e) → (e ≡ OutOfMemory → w ≢ EndGroup) → StopsBehind d old all before e u left × (PaysAtMost before (set_cost d all) left × (e ≢ OutOfMemory → MergeFault (set_merged d old all) (set_cost d all) before e))
+    refused_next u left n w rest e tag some same kept why full =
         let next : e ≢ OutOfMemory → NextIsRefused d v bs now e = λ ne. inr (n, w, rest, tag, why ne) in (
-          subst (λ z. StopsBehind d old all before e z left) (sym same) (subst (λ z. StopsBehind d old all before e v z) (sym kept) (stops e some next)),
+          subst (λ z. StopsBehind d old all before e z left) (sym same) (subst (λ z. StopsBehind d old all before e v z) (sym kept) (stops e some next (λ h. (n, w, rest, tag, full h)))),
           subst (λ z. PaysAtMost before (set_cost d all) z × (e ≢ OutOfMemory → MergeFault (set_merged d old all) (set_cost d all) before e)) (sym kept) (stops_merged e some next),
         )
 

@@ -122,7 +122,7 @@ one_fault d v bs left e f (inr (n, w, after, tag, why)) (inr (m, u, behind_tag, 
     err_same (sym why.1 ∙ ap (λ z. record_of_field d left.unknown z.0 z.1 z.2) (ok_same (sym tag ∙ also)) ∙ because.1)
 
 pub stop_is_pinned : StopIsPinned
-stop_is_pinned d old a b bs before x y e h (f, r, j, is, some, ma, px, na) (g, s, k, is2, some2, mb, py, nb) ne nh =
+stop_is_pinned d old a b bs before x y e h (f, r, j, is, some, ma, px, na, fa) (g, s, k, is2, some2, mb, py, nb, fb) ne nh =
     let same = one_front d f g j k r s old a b before x y e h (sym is ∙ is2) ma mb px py (na ne) (nb nh) in
     let value : a ≡ b = some_same (sym ma ∙ ap (set_merged d old) same ∙ mb) in
     let cost = ap (set_cost d) same in

@@ -9,7 +9,7 @@ use Rattle.buffa_bytes.specs.declared.error.DecodeError.{DecodeError}
 use Rattle.buffa_bytes.specs.declared.error.DecodeError.TheVariants.{OutOfMemory, RecursionLimitExceeded}
 use Rattle.buffa_wire.specs.BudgetLeft.{BudgetLeft, Pays, slots}
 use Rattle.buffa_wire.specs.Gives.{◌>>=◌}
-use Rattle.buffa_wire.specs.Message.{MergeFault}
+use Rattle.buffa_wire.specs.Message.{BeginsField, MergeFault}
 use Rattle.buffa_wire.specs.Reading.{tag_at}
 use Rattle.buffa_wire.specs.RecordReading.{field_at}
 use Rattle.buffa_wire.specs.Records.{Datum, bytes, group, height, no_records, one, varint}
@@ -117,12 +117,12 @@ NextIsRefused d v bs left e =
     (tag_at bs ≡ Err e) ⊎ ((n : ℕ) × (w : WireType) × (rest : List ℕ) × (tag_at bs ≡ Ok (n, w, rest)) × IsRefused d v n w rest left e)
 
 -- after a refusal: some fields begin the bytes, the new value is what they make of the old one, exactly their cost is
--- spent, and the field behind them is the one that is refused, unless memory ran out
+-- spent, and the field behind them is the one that is refused, unless memory ran out, at a tag that is no end tag
 abbrev pub StopsBehind : ℕ → List (ℕ × Datum) → List ℕ → BudgetLeft → DecodeError → List (ℕ × Datum) → BudgetLeft → Type 0
 StopsBehind d old bs before e new after =
     (front : List ℕ) × (rest : List ℕ) × Join (SomeField d) front × (bs ≡ front ++ rest) × (0 < length rest)
     × (set_merged d old front ≡ Some new) × Pays before (set_cost d front) after
-    × (e ≢ OutOfMemory → NextIsRefused d new rest after e)
+    × (e ≢ OutOfMemory → NextIsRefused d new rest after e) × (e ≡ OutOfMemory → BeginsField rest)
 
 -- so one value stands after a refusal, one budget is left, and one fault is told, unless memory ran out
 abbrev pub StopIsPinned : Type 0

@@ -27,6 +27,13 @@ pub fn sets_lend_these()
     ensures fields { (m : SetMsg) → ⟦<SetMsg as ExtensionSet>⟧.fields_of m ≡ m.fields }
 {}
 
+/// The constant `PROTO_FQN` is that name, too. Nothing is open.
+pub fn set_name_is_this() -> &'static str
+    ensures { result.now ≡ codes "buffa.sample.SetMsg" }
+{
+    SetMsg::PROTO_FQN
+}
+
 /// Which MessageSets are read back from their text: those of Items alone. They nest one level deep, if any is there.
 pub fn sets_are_read_back()
     ensures normal { (v : List (ℕ × Datum)) → ⟦<SetMsg as MessageSpec>⟧.normal v ↔ AreItems v }

@@ -18,7 +18,8 @@ pub returns-in_err-tag-clause-stops : goal.returns-in_err-tag-clause-stops
 returns-in_err-tag-clause-stops c =
     let p = err_from_is_err_and c.from_residual.result c.from_residual.ensures.1 in
     let some : 0 < length c.loop-rest.rest.now = omega (arith, c.remaining.ensures, c.loop-rest-test.true) in
-    rw (p.1, p.2) (stops _ _ _ _ _ _ _ c.loop-rest.invariant _ some (λ ne. inl c.in_err-tag.ensures.reads))
+    rw (p.1, p.2) (stops _ _ _ _ _ _ _ c.loop-rest.invariant _ some (λ ne. inl c.in_err-tag.ensures.reads)
+    (λ h. absurd (tag_full c.loop-rest.rest.now (c.in_err-tag.ensures.reads ∙ ap (λ e. Err e) h))))
 
 pub returns-in_err-tag-clause-full : goal.returns-in_err-tag-clause-full
 returns-in_err-tag-clause-full c =
@@ -39,14 +40,14 @@ returns-in_err-merge_field-clause-merged c =
     let p = err_from_is_err_and c.from_residual-in_err-merge_field.result c.from_residual-in_err-merge_field.ensures.1 in
     let some : 0 < length c.loop-rest.rest.now = omega (arith, c.remaining.ensures, c.loop-rest-test.true) in
     let t = c.in_err-merge_field.ensures.takes in
-    rw (p.1, p.2) (refused_next _ _ _ _ _ _ _ c.loop-rest.invariant _ _ _ _ _ _ c.in_ok-tag.ensures.reads some t.0 t.1 t.2).1
+    rw (p.1, p.2) (refused_next _ _ _ _ _ _ _ c.loop-rest.invariant _ _ _ _ _ _ c.in_ok-tag.ensures.reads some t.0 t.1 t.2 c.in_err-merge_field.ensures.full).1
 
 pub returns-in_err-merge_field-clause-stops : goal.returns-in_err-merge_field-clause-stops
 returns-in_err-merge_field-clause-stops c =
     let p = err_from_is_err_and c.from_residual-in_err-merge_field.result c.from_residual-in_err-merge_field.ensures.1 in
     let some : 0 < length c.loop-rest.rest.now = omega (arith, c.remaining.ensures, c.loop-rest-test.true) in
     let t = c.in_err-merge_field.ensures.takes in
-    rw (p.1, p.2) (refused_next _ _ _ _ _ _ _ c.loop-rest.invariant _ _ _ _ _ _ c.in_ok-tag.ensures.reads some t.0 t.1 t.2).0
+    rw (p.1, p.2) (refused_next _ _ _ _ _ _ _ c.loop-rest.invariant _ _ _ _ _ _ c.in_ok-tag.ensures.reads some t.0 t.1 t.2 c.in_err-merge_field.ensures.full).0
 
 pub returns-in_err-merge_field-clause-full : goal.returns-in_err-merge_field-clause-full
 returns-in_err-merge_field-clause-full c =
