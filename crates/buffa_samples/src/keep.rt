@@ -1,8 +1,9 @@
 //! A message that keeps every field.
 
-ghost use Rattle.std.specs.Prelude.{◌≡◌, ◌≢◌, [], refl, IfOk, IsOk, OnErr};
+ghost use Rattle.std.specs.Prelude.{◌≡◌, ◌≢◌, ◌<◌, [], refl, IfOk, IsOk, OnErr};
 ghost use Rattle.buffa_wire.specs.BudgetLeft.{budget_left};
-ghost use Rattle.buffa_bytes.specs.declared.wire_type.WireType.TheVariants.{EndGroup};
+ghost use Rattle.buffa_bytes.specs.Left.{LeavesUnlessFull, past_no_payload};
+ghost use Rattle.buffa_bytes.specs.declared.wire_type.WireType.TheVariants.{EndGroup, StartGroup};
 ghost use Rattle.buffa_wire.specs.Gives.{FullOnlyIf, GivesUnlessFull};
 ghost use Rattle.buffa_wire.specs.Message.{MergesField};
 ghost use Rattle.buffa_wire.specs.Passes.{IsSized};
@@ -120,6 +121,8 @@ pub fn read_alone(
         (field_at depth slots tag.number tag.wire_type buf.old.now) }
     ensures number { IfOk result (λ x. x.0.number ≡ tag.number) }
     ensures full { FullOnlyIf result (TakesMemory depth slots tag.wire_type buf.old.now) }
+    ensures left { tag.wire_type ≢ StartGroup → 0 < slots →
+        LeavesUnlessFull result (past_no_payload tag.wire_type buf.old.now) buf.new.now }
 {
     let mut own = Budget::new(slots);
     let lent = DecodeContext {

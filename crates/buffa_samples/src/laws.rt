@@ -4,14 +4,14 @@ ghost use Rattle.std.specs.Prelude.{◌≡◌, ◌↔◌, ◌<◌, ◌+◌, ◌^
 ghost use Rattle.std.specs.Hash as fed;
 ghost use Rattle.std.specs.Int.{w32};
 ghost use Rattle.std.specs.Ordering.{int_cmp};
-ghost use Rattle.buffa_bytes.specs.Pinned.{SameIsOne};
+ghost use Rattle.buffa_bytes.specs.Pinned.{IsCopied, SameIsOne};
 ghost use Rattle.buffa_wire.specs.Enums.{numbers};
 ghost use Rattle.buffa_wire.specs.Parse.{Fits};
 ghost use Rattle.buffa_wire.specs.Records.{Datum, height, records_of};
 ghost use Rattle.buffa_wire.specs.Text.{records_text};
 ghost use Rattle.buffa_samples.specs.Count.{count_cost, count_merged, count_records, count_text};
 ghost use Rattle.buffa_samples.specs.Flat.{flat_cost, flat_merged, value_records, value_text};
-ghost use Rattle.buffa_samples.specs.Grown.{Grown, grown, no_kids};
+ghost use Rattle.buffa_samples.specs.Grown.{Grown, grown, kids, no_kids};
 ghost use Rattle.buffa_samples.specs.Hues.{first_numbers};
 ghost use Rattle.buffa_samples.specs.Keep.{keep_cost, keep_merged};
 ghost use Rattle.buffa_samples.specs.Letters.{lower, same_letters};
@@ -30,7 +30,8 @@ use crate::tree::Tree;
 use crate::two::TestMsg;
 use crate::word::Word;
 use buffa_map::map_codec::{MapCodec, MapStorage};
-use buffa_wire::{Blank, Enumeration, MapKey, MessageSpec, ProtoString};
+use buffa_wire::{Blank, Enumeration, MapKey, MessageSpec, ProtoString, UnknownFields};
+use std::collections::BTreeMap;
 use std::hash::Hash;
 
 /// What bytes make of a normal tree is normal, and so is the blank one: in every map the keys ascend, and labels and
@@ -74,6 +75,20 @@ pub fn messages_mean_these()
     ensures tree { (m : Tree) → ⟦<Tree as Blank>⟧.meaning m ≡ m }
 {}
 
+/// What a tree means is what its fields hold: its label, and its children by their keys. Nothing is open.
+pub fn trees_hold_these(tree: &Tree) -> (&i32, &BTreeMap<i32, Tree>)
+    ensures { tree.now ≡ grown result.0.now (kids result.1.now.entries) }
+{
+    (&tree.label, &tree.children)
+}
+
+/// What a message that keeps every field means is what its field holds. Nothing is open.
+pub fn kept_fields_are_held(message: &BudgetMsg) -> &UnknownFields
+    ensures { message.now ≡ result.now.records }
+{
+    &message.fields
+}
+
 /// Which values of each sample are read back from their text, and how deep it nests. Nothing is open.
 pub fn messages_are_read_back()
     ensures flat { (v : ℤ) → ⟦<FlatMsg as MessageSpec>⟧.normal v ↔ FitsSigned w32 v }
@@ -89,14 +104,16 @@ pub fn messages_are_read_back()
     ensures blank_tree { ⟦<Tree as Blank>⟧.blank_is ≡ grown (pos 0) no_kids }
 {}
 
-/// Which numbers the two enums declare, among the first four, and by which values, and their default. Nothing is
-/// open of these.
+/// Which numbers the two enums declare, among the first four, and by which values, and their default; `==`, `clone` and
+/// the order of their values. Nothing is open of these.
 pub fn enums_are_these()
     ensures old { map ⟦<Old as Enumeration>⟧.of_number first_numbers ≡ Some Old.A ∷ Some Old.B ∷ None ∷ None ∷ [] }
     ensures new { map ⟦<New as Enumeration>⟧.of_number first_numbers
         ≡ Some New.A ∷ Some New.B ∷ Some New.C ∷ None ∷ [] }
     ensures blank { (⟦<Old as Blank>⟧.blank_is ≡ pos 0) × (⟦<New as Blank>⟧.blank_is ≡ pos 0) }
     ensures equal { SameIsOne ⟦<Old as PartialEq>⟧.eq × SameIsOne ⟦<New as PartialEq>⟧.eq }
+    ensures copied_old { IsCopied ⟦<Old as Clone>⟧.is_clone ⟦<Old as Clone>⟧.is_infallible }
+    ensures copied_new { IsCopied ⟦<New as Clone>⟧.is_clone ⟦<New as Clone>⟧.is_infallible }
     ensures order { (a b : Old) → ⟦<Old as Ord>⟧.cmp a b
         ≡ int_cmp (⟦<Old as Blank>⟧.meaning a) (⟦<Old as Blank>⟧.meaning b) }
 {}
