@@ -1,6 +1,6 @@
-//! What the names of this crate stand for: no two of them can be exchanged while these laws hold.
+//! What the names of this crate stand for: no two limits, codecs or samples can be exchanged while these laws hold.
 
-ghost use Rattle.std.specs.Prelude.{◌≡◌, ◌↔◌, ◌∷◌, ◌-◌, ◌^◌, [], ℕ, List, Option, false, option_map, pos, true};
+ghost use Rattle.std.specs.Prelude.{◌≡◌, ◌↔◌, ◌∷◌, ◌-◌, ◌^◌, [], ℕ, List, Option, false, map, option_map, pos, true};
 ghost use Rattle.buffa_bytes.specs.Scalars.{bool_of, fixed32_of, fixed64_of, int64_of, sfixed32_of, sfixed64_of};
 ghost use Rattle.buffa_bytes.specs.Scalars.{sint32_of, sint64_of, uint32_of, uint64_of};
 ghost use Rattle.buffa_bytes.specs.Values.{int32_of};
@@ -9,17 +9,18 @@ ghost use Rattle.buffa_wire.specs.BudgetLeft.{BudgetLeft};
 ghost use Rattle.buffa_wire.specs.Enums.{numbers};
 ghost use Rattle.buffa_wire.specs.Found.{fixed32_in, fixed64_in, varint_in};
 ghost use Rattle.buffa_wire.specs.Records.{Datum, bytes as held_bytes};
-ghost use Rattle.buffa_codec.specs.Reading.{bytes_held, last_read, string_held};
+ghost use Rattle.buffa_codec.specs.Reading.{bytes_held, last_read, packed_record, string_held};
 ghost use Rattle.buffa_ext.specs.Messages.{group_of};
 ghost use Rattle.buffa_map.specs.Enums.{closed_reading, open_reading};
 ghost use Rattle.buffa_map.specs.Message.{message_reading};
 ghost use Rattle.buffa_map.specs.Scalars.{bytes_reading, number_reading, string_reading};
 
-use crate::extension::{ExtensionCodec, SingularCodec, codecs};
+use crate::extension::{ExtensionCodec, PackableCodec, SingularCodec, codecs};
 use crate::map_codec::{MapStorage, MapValueDecode};
 use crate::{
     Blank, DEFAULT_ELEMENT_MEMORY_LIMIT, DEFAULT_UNKNOWN_FIELD_LIMIT, Enumeration,
-    MAX_FIELD_NUMBER, MAX_MESSAGE_BYTES, Map, MapKey, Message, RECURSION_LIMIT, map_codec,
+    MAX_FIELD_NUMBER, MAX_MESSAGE_BYTES, Map, MapKey, Message, MessageSpec, RECURSION_LIMIT, map_codec,
+    samples,
 };
 use std::hash::Hash;
 
@@ -32,8 +33,8 @@ pub fn limits_are_these()
     ensures message_bytes { MAX_MESSAGE_BYTES ≡ 2 ^ 31 - 1 }
 {}
 
-/// How each codec of extensions of one value reads a record.
-pub fn extension_codecs_are_these<M: Message>()
+/// How each codec of extensions of one value reads a record, and which records lists and messages have.
+pub fn extension_codecs_are_these<M: Message, P: PackableCodec>()
     ensures int32 { (n : ℕ) (b : BudgetLeft) (d : Datum) → ⟦<codecs::Int32 as SingularCodec>⟧.one n b d
         ≡ option_map int32_of (varint_in d) }
     ensures int64 { (n : ℕ) (b : BudgetLeft) (d : Datum) → ⟦<codecs::Int64 as SingularCodec>⟧.one n b d
@@ -58,6 +59,9 @@ pub fn extension_codecs_are_these<M: Message>()
         ≡ option_map sfixed64_of (fixed64_in d) }
     ensures enums { (n : ℕ) (b : BudgetLeft) (d : Datum) → ⟦<codecs::EnumI32 as SingularCodec>⟧.one n b d
         ≡ option_map int32_of (varint_in d) }
+    ensures lists { (vs : List P.Value.Meaning) → ⟦<codecs::Repeated<P> as ExtensionCodec>⟧.recs vs ≡ map P.text vs }
+    ensures packed { (vs : List P.Value.Meaning) → ⟦<codecs::PackedRepeated<P> as ExtensionCodec>⟧.recs vs
+        ≡ packed_record P.packed_text vs }
     ensures message { (v : M.Meaning) → ⟦<codecs::MessageCodec<M> as ExtensionCodec>⟧.recs v ≡ held_bytes (M.text v) ∷ [] }
     ensures group { (v : M.Meaning) → ⟦<codecs::GroupCodec<M> as ExtensionCodec>⟧.recs v ≡ group_of (M.text v) ∷ [] }
 {}
@@ -81,4 +85,10 @@ pub fn map_codecs_are_these<E: Enumeration, M: Message, K: MapKey + Hash, V: Bla
     ensures open { ⟦<map_codec::OpenEnum<E> as MapValueDecode>⟧.reading ≡ open_reading E.of_number }
     ensures message { ⟦<map_codec::Msg<M> as MapValueDecode>⟧.reading ≡ message_reading M.blank_is M.merged M.cost }
     ensures map { ⟦<Map<K, V> as MapStorage>⟧.keeps_order ≡ true }
+{}
+
+/// Which sample each name is, by what an element of it costs.
+pub fn samples_are_these()
+    ensures node { ⟦<samples::Node as MessageSpec>⟧.COST ≡ 96 }
+    ensures set { ⟦<samples::SetMsg as MessageSpec>⟧.COST ≡ 24 }
 {}

@@ -4,6 +4,7 @@
 pub mod assorted;
 pub mod depot;
 pub mod inventory;
+pub mod laws;
 pub mod maps;
 pub mod order;
 pub mod parcel;

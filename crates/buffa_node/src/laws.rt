@@ -1,13 +1,16 @@
 //! Laws: which message a node is, and which enum a shade.
 
-ghost use Rattle.std.specs.Prelude.{◌≡◌, ◌↔◌, ◌∷◌, [], ℕ, None, Some, map, pos};
-ghost use Rattle.buffa_node.specs.Branch.{Branch, bare};
+ghost use Rattle.std.specs.Prelude.{◌≡◌, ◌↔◌, ◌∷◌, [], ℕ, None, Some, map, pos, string_bytes};
+ghost use Rattle.buffa_bytes.specs.Pinned.{IsCopied, SameIsOne};
+ghost use Rattle.buffa_map.specs.Pairs.{means};
+ghost use Rattle.buffa_node.specs.Branch.{Branch, bare, branch, kids, shade_number};
 ghost use Rattle.buffa_node.specs.NodeMeaning.{cost, merged};
 ghost use Rattle.buffa_node.specs.NodeText.{IsNormal, levels, records, slots, text};
 
 use crate::node::Node;
 use crate::shade::Shade;
-use buffa_wire::{Blank, Enumeration, MessageSpec};
+use buffa_wire::{Blank, Enumeration, MessageSpec, UnknownFields};
+use std::collections::BTreeMap;
 
 /// Which message a node is: what bytes make of it and cost, its text, its slots, which nodes are read back, and how deep
 /// their text nests. Nothing is open.
@@ -21,9 +24,26 @@ pub fn node_is_this()
     ensures meaning { (m : Node) → ⟦<Node as Blank>⟧.meaning m ≡ m }
 {}
 
-/// Which of the first three numbers shades declare, by which values, and their default.
+/// What a node means is what its fields hold. Nothing is open.
+pub fn nodes_hold_these(
+    node: &Node,
+) -> (
+    &BTreeMap<String, i32>,
+    &BTreeMap<i32, Node>,
+    &BTreeMap<i32, Shade>,
+    &UnknownFields,
+)
+    ensures { node.now ≡ branch (means string_bytes (λ v. v) result.0.now.entries) (kids result.1.now.entries)
+        (means (λ k. k) shade_number result.2.now.entries) result.3.now.records }
+{
+    (&node.scores, &node.children, &node.shades, &node.rest)
+}
+
+/// Which of the first three numbers shades declare, by which values, and their default; `==` and `clone` of them.
 pub fn shades_are_these()
     ensures declared { map ⟦<Shade as Enumeration>⟧.of_number (pos 0 ∷ pos 1 ∷ pos 2 ∷ [])
         ≡ Some Shade.A ∷ Some Shade.B ∷ None ∷ [] }
     ensures blank { ⟦<Shade as Blank>⟧.blank_is ≡ pos 0 }
+    ensures equal { SameIsOne ⟦<Shade as PartialEq>⟧.eq }
+    ensures copied { IsCopied ⟦<Shade as Clone>⟧.is_clone ⟦<Shade as Clone>⟧.is_infallible }
 {}

@@ -5,6 +5,7 @@ ghost use Rattle.std.specs.Prelude.{◌≡◌, false};
 ghost use Rattle.buffa_wire.specs.Number.{IsNumber};
 ghost use Rattle.buffamap.specs.Again.{RepliesToAgain};
 ghost use Rattle.buffamap.specs.Ext.{RepliesToExt};
+ghost use Rattle.buffamap.specs.Fault.{IsOfBytes, IsOfDigits, IsOfRewrite, IsOfText};
 ghost use Rattle.buffamap.specs.Item.{RepliesToItem};
 ghost use Rattle.buffamap.specs.Pinned.{CallIsPinned, HasReply, ReplyIsPinned, ReplyIsPinnedButForFaults};
 ghost use Rattle.buffamap.specs.Read.{RepliesToRead};
@@ -13,8 +14,11 @@ ghost use Rattle.buffamap.specs.Write.{RepliesToWrite};
 
 use crate::calls::{ReadCalls, SureCalls, WriteCalls};
 use crate::choice::Choice;
-use buffa::MessageSpec;
-use buffa::map_codec::{ClosedEnum, Int32};
+use crate::fault::Fault;
+use buffa::map_codec::{ClosedEnum, Int32, RewriteError};
+use buffa::{DecodeError, EncodeError, MessageSpec};
+use hex::FromHexError;
+use std::alloc::{AllocError, AllocFailed};
 use std::io::Sink;
 
 /// `read N` has one reply to each input. Memory is left open: the reply may be that it ran out.
@@ -65,6 +69,17 @@ pub fn one_reply_to_item()
 pub fn one_reply_to_again<M: MessageSpec>()
     ensures one { ReplyIsPinnedButForFaults (RepliesToAgain M.merged M.cost M.text M.blank_is) }
     ensures there { HasReply (RepliesToAgain M.merged M.cost M.text M.blank_is) }
+{}
+
+/// Which fault an error of a layer below is: no other, and out of memory where memory ran out. Nothing is open.
+pub fn faults_are_these<T: Drop>()
+    ensures none { (e : AllocError) (f : Fault) → ⟦<Fault as From<AllocError>>⟧.from_gives e f → f ≡ Fault.OutOfMemory }
+    ensures failed { (e : AllocFailed T) (f : Fault) → ⟦<Fault as From<AllocFailed<T>>>⟧.from_gives e f →
+        f ≡ Fault.OutOfMemory }
+    ensures digits { (e : FromHexError) (f : Fault) → ⟦<Fault as From<FromHexError>>⟧.from_gives e f → IsOfDigits e f }
+    ensures bytes { (e : DecodeError) (f : Fault) → ⟦<Fault as From<DecodeError>>⟧.from_gives e f → IsOfBytes e f }
+    ensures text { (e : EncodeError) (f : Fault) → ⟦<Fault as From<EncodeError>>⟧.from_gives e f → IsOfText e f }
+    ensures rewrite { (e : RewriteError) (f : Fault) → ⟦<Fault as From<RewriteError>>⟧.from_gives e f → IsOfRewrite e f }
 {}
 
 /// A call of bytes in memory, as a reader, or of a sink that keeps nothing, as a writer, never fails. Nothing is open.
