@@ -1,5 +1,5 @@
 -- What is proved of fields that are kept.
-use Rattle.std.proofs.Common.{◌≡◌, ◌≢◌, ◌⊎◌, inl, inr, ℕ, suc, ◌+◌, ◌-◌, ◌≤◌, List, [], ◌∷◌, ◌++◌, length, Some, Result, Ok, Err, IsOk, refl, ap, sym, subst, ◌∙◌, arith, append_assoc, append-nil}
+use Rattle.std.proofs.Common.{◌≡◌, ◌≢◌, ◌⊎◌, inl, inr, ℕ, suc, ◌+◌, ◌≤◌, List, [], ◌∷◌, ◌++◌, length, Some, Result, Ok, Err, IsOk, refl, ap, sym, subst, ◌∙◌, arith, append_assoc, append-nil}
 use Rattle.buffa_bytes.proofs.StepLemmas.{agree_err, agree_ok}
 use Rattle.buffa_bytes.specs.Field.{Group, PayloadOver}
 use Rattle.buffa_bytes.specs.declared.wire_type.WireType.{WireType}
@@ -11,9 +11,9 @@ use Rattle.buffa_wire.proofs.MessageLemmas.{NoLimit}
 use Rattle.buffa_wire.specs.BudgetLeft.{BudgetLeft, Lacks, slots as left_slots}
 use Rattle.buffa_wire.proofs.ParseLemmas.{text_parses}
 use Rattle.buffa_wire.specs.Falls.{height-records}
-use Rattle.buffa_wire.specs.Parse.{Fits, IsPayload, Parse, slots, slots_inside}
+use Rattle.buffa_wire.specs.Parse.{Fits, IsPayload, Parse, slots_inside}
 use Rattle.buffa_wire.specs.RecordReading.{TakesMemory, field_at}
-use Rattle.buffa_wire.specs.Records.{Datum, height, one, records_of}
+use Rattle.buffa_wire.specs.Records.{Datum, height, records_of}
 use Rattle.buffa_wire.specs.Text.{records_text, wire_of}
 use Rattle.std.specs.Prelude.{Bool, true, ◌&&◌}
 use Rattle.buffa_wire.proofs.KeepLemmas.{all_slots, enough_slots, field_short, le_or_lt, needed, payload_of_record, record_of_payload}
