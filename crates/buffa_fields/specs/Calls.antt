@@ -1,12 +1,13 @@
 -- What a call that takes a field, or writes a member, did: from what it was passed to what it left.
 use Rattle.std.specs.Prelude.{◌≡◌, ◌≤◌, ℕ, Bool, List, [], ◌∷◌, length, Some, Result, Err}
+use Rattle.std.specs.HashMap.{HashMap}
 use Rattle.buffa_bytes.specs.declared.error.DecodeError.{DecodeError}
 use Rattle.buffa_bytes.specs.declared.error.EncodeError.{EncodeError}
 use Rattle.buffa_bytes.specs.declared.tag.Tag.{Tag}
 use Rattle.buffa_bytes.specs.declared.wire_type.WireType.{WireType}
 use Rattle.buffa_wire.specs.BudgetLeft.{BudgetLeft, budget_left}
 use Rattle.buffa_wire.specs.Cache.{Cache}
-use Rattle.buffa_wire.specs.Message.{IsFieldMerged}
+use Rattle.buffa_wire.specs.Message.{IsFieldMerged, MergesBytes}
 use Rattle.buffa_wire.specs.Parse.{Fits}
 use Rattle.buffa_wire.specs.Passes.{IsWritten, cap}
 use Rattle.buffa_wire.specs.Reading.{check_wire}
@@ -15,6 +16,7 @@ use Rattle.buffa_wire.specs.Text.{records_text}
 use Rattle.buffa_wire.specs.declared.context.DecodeContext.{DecodeContext}
 use Rattle.buffa_map.specs.Calls.{Exit}
 use Rattle.buffa_map.specs.Codec.{Reading, Writing}
+use Rattle.buffa_map.specs.Pairs.{means}
 use Rattle.buffa_fields.specs.Layout.{Layout}
 use Rattle.buffa_fields.specs.Lists.{check_list_wire, elements_taken}
 use Rattle.buffa_fields.specs.MapFields.{entry_cost, entry_taken}
@@ -46,14 +48,25 @@ module _ {P D T : Type 0} (tag : Tag) (ctx : DecodeContext) (left : Exit D) (old
   abbrev pub TakesValue : {X : Type 0} → Reading X → (P → X) → Type 0
   TakesValue codec says = TakesIn (value_taken codec) free says
 
-  -- the same of an entry of a map, where a pair costs so many units
-  abbrev pub TakesEntry : {K V : Type 0} → Reading K → Reading V → (K → K → Bool) → ℕ → (P → List (K × V)) → Type 0
-  TakesEntry key val same cost says = TakesIn (entry_taken key val same) (entry_cost key val cost) says
+  -- a message of such members merged the field, and paid for it
+  abbrev pub MergesIn : {X : Type 0} → Taker X → Need → (P → X) → Type 0
+  MergesIn takes need says =
+      IsFieldMerged (merged_of takes) (cost_of need) ctx.depth (says old) tag.number tag.wire_type before.now ctx.budget.now r (says new) (budget_left left) after.now
 
-  -- a message by its members merged the field, and paid for it
-  abbrev pub MergesIn : {X : Type 0} → Layout P X → Type 0
-  MergesIn l =
-      IsFieldMerged (merged_of l.takes) (cost_of l.need) ctx.depth (l.meaning old) tag.number tag.wire_type before.now ctx.budget.now r (l.meaning new) (budget_left left) after.now
+-- a map took an entry, where keys and values mean so, and a pair costs so many units; a contract sees an IndexMap as a HashMap
+abbrev pub TakesEntry : {A B S D T K V : Type 0} → Tag → DecodeContext → Exit D → HashMap A B S → HashMap A B S → Bor (List ℕ) → Bor (List ℕ) → Result T DecodeError → (A → K) → (B → V) → Reading K → Reading V → (K → K → Bool) → ℕ → Type 0
+TakesEntry tag ctx left old new before after r key_means val_means key val same cost =
+    TakesIn tag ctx left old new before after r (entry_taken key val same) (entry_cost key val cost) (λ m. means key_means val_means m.entries)
+
+-- the member of the field's number took it, and the others stay
+abbrev pub MemberTakes : {M X D : Type 0} → Tag → DecodeContext → Exit D → M → M → Bor (List ℕ) → Bor (List ℕ) → Result (Unit {0}) DecodeError → Layout M X → Type 0
+MemberTakes tag ctx left old new before after r l =
+    l.Taken ctx.depth old tag.number tag.wire_type before.now ctx.budget.now r new (budget_left left) after.now
+
+-- a message of such members merged all the fields that the bytes are, and paid for them
+abbrev pub MergesAll : {M X D T : Type 0} → DecodeContext → Exit D → M → M → List ℕ → Result T DecodeError → Taker X → Need → (M → X) → Type 0
+MergesAll ctx left old new bs r takes need says =
+    MergesBytes (merged_of takes) (cost_of need) ctx.depth (says old) bs ctx.budget.now r (says new) (budget_left left)
 
 -- elements were taken behind the others, at any budget
 abbrev pub TakesElements : {P V T : Type 0} → Tag → ℕ → P → P → Bor (List ℕ) → Bor (List ℕ) → Result T DecodeError → Reading V → (P → List V) → Type 0

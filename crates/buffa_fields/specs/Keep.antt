@@ -1,8 +1,9 @@
 -- Fields that are kept as records. Source: the protobuf encoding guide, "Message Structure".
-use Rattle.std.specs.Prelude.{◌≡◌, ◌⊎◌, ℕ, ◌-◌, Bool, true, List, [], ◌∷◌, ◌++◌, Option, Some, None, Result, Ok, Err, IsOk}
+use Rattle.std.specs.Prelude.{◌≡◌, ◌⊎◌, ℕ, Bool, true, List, [], ◌∷◌, ◌++◌, Option, Some, None, Result, Ok, Err, IsOk}
 use Rattle.std.specs.Option.{option_map}
+use Rattle.buffa_bytes.specs.declared.wire_type.WireType.{WireType}
 use Rattle.buffa_bytes.specs.declared.error.DecodeError.{DecodeError}
-use Rattle.buffa_wire.specs.BudgetLeft.{slots}
+use Rattle.buffa_wire.specs.Parse.{TakesField}
 use Rattle.buffa_wire.specs.RecordReading.{TakesMemory, field_at}
 use Rattle.buffa_wire.specs.Records.{Datum}
 use Rattle.buffa_wire.specs.Kept.{record_at}
@@ -19,6 +20,10 @@ keep_takes d v n w p = option_map (λ x. v ++ (n, x) ∷ []) (record_in (record_
 -- with so many slots, keeping a field takes memory where reading it does, or where it is read
 abbrev pub KeepTakesMemory : ℕ → Asks
 KeepTakesMemory s d n w bs = TakesMemory d s w bs ⊎ IsOk (field_at d s n w bs)
+
+-- a field of number n and wire type w is there behind its tag, and of s slots it has its own, and one for each inside
+abbrev pub IsFieldThere : ℕ → ℕ → ℕ → WireType → List ℕ → Type 0
+IsFieldThere d s n w bs = (x : Datum) × (left : ℕ) × (rest : List ℕ) × TakesField d s n w bs x left rest
 
 -- each record has a number of P
 abbrev pub AllNumbers : (ℕ → Bool) → List (ℕ × Datum) → Type 0

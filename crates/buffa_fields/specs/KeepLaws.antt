@@ -1,5 +1,5 @@
 -- What is proved of fields that are kept.
-use Rattle.std.proofs.Common.{◌≡◌, ◌≢◌, ◌⊎◌, inl, inr, ℕ, suc, ◌+◌, ◌-◌, ◌≤◌, List, [], ◌∷◌, ◌++◌, length, Some, Result, Ok, Err, IsOk, refl, ap, sym, subst, ◌∙◌, arith, append_assoc, append-nil}
+use Rattle.std.proofs.Common.{◌≡◌, ◌≢◌, ◌⊎◌, inl, inr, ℕ, suc, ◌+◌, ◌≤◌, List, [], ◌∷◌, ◌++◌, length, Some, Result, Ok, Err, IsOk, refl, ap, sym, subst, ◌∙◌, arith, append_assoc, append-nil}
 use Rattle.buffa_bytes.proofs.StepLemmas.{agree_err, agree_ok}
 use Rattle.buffa_bytes.specs.Field.{Group, PayloadOver}
 use Rattle.buffa_bytes.specs.declared.wire_type.WireType.{WireType}
@@ -11,14 +11,14 @@ use Rattle.buffa_wire.proofs.MessageLemmas.{NoLimit}
 use Rattle.buffa_wire.specs.BudgetLeft.{BudgetLeft, Lacks, slots as left_slots}
 use Rattle.buffa_wire.proofs.ParseLemmas.{text_parses}
 use Rattle.buffa_wire.specs.Falls.{height-records}
-use Rattle.buffa_wire.specs.Parse.{Fits, IsPayload, Parse, TakesField, slots, slots_inside}
+use Rattle.buffa_wire.specs.Parse.{Fits, IsPayload, Parse, slots_inside}
 use Rattle.buffa_wire.specs.RecordReading.{TakesMemory, field_at}
-use Rattle.buffa_wire.specs.Records.{Datum, height, one, records_of}
+use Rattle.buffa_wire.specs.Records.{Datum, height, records_of}
 use Rattle.buffa_wire.specs.Text.{records_text, wire_of}
 use Rattle.std.specs.Prelude.{Bool, true, ◌&&◌}
 use Rattle.buffa_wire.proofs.KeepLemmas.{all_slots, enough_slots, field_short, le_or_lt, needed, payload_of_record, record_of_payload}
 use Rattle.buffa_wire.specs.Kept.{keep_need, record_at, spent_of}
-use Rattle.buffa_fields.specs.Keep.{AllNumbers, KeepTakesMemory, keep_takes}
+use Rattle.buffa_fields.specs.Keep.{AllNumbers, IsFieldThere, KeepTakesMemory, keep_takes}
 use Rattle.buffa_fields.specs.PairLaws.{both_true}
 use Rattle.buffa_fields.specs.Takes.{IsTaken, Leads, Piece, ReadsBack, Untaken, joined}
 use Rattle.buffa_wire.proofs.SpentLemmas.{is_there}
@@ -124,10 +124,10 @@ value_there : {A E : Type 0} (r : Result A E) → IsOk r → (x : A) × (r ≡ O
 value_there (Ok x) h = (x, refl)
 value_there (Err e) h = cc
 
-pub asks_kept : (s d n : ℕ) (w : WireType) (bs : List ℕ) → KeepTakesMemory s d n w bs → TakesMemory d s w bs ⊎ ((x : Datum) × (left : ℕ) × (rest : List ℕ) × TakesField d s n w bs x left rest)
+pub asks_kept : (s d n : ℕ) (w : WireType) (bs : List ℕ) → KeepTakesMemory s d n w bs → TakesMemory d s w bs ⊎ IsFieldThere d s n w bs
 asks_kept s d n w bs (inl h) = inl h
 asks_kept s d n w bs (inr h) = let x = value_there (field_at d s n w bs) h in inr (x.0.0, x.0.1, x.0.2, agree_ok (field_at d s n w bs) x.0 (field_is_read d s n w bs) x.1)
 
-pub kept_asks_for : (s d n : ℕ) (w : WireType) (bs : List ℕ) → TakesMemory d s w bs ⊎ ((x : Datum) × (left : ℕ) × (rest : List ℕ) × TakesField d s n w bs x left rest) → KeepTakesMemory s d n w bs
+pub kept_asks_for : (s d n : ℕ) (w : WireType) (bs : List ℕ) → TakesMemory d s w bs ⊎ IsFieldThere d s n w bs → KeepTakesMemory s d n w bs
 kept_asks_for s d n w bs (inl h) = inl h
 kept_asks_for s d n w bs (inr (x, left, rest, h)) = inr (is_there (field_at d s n w bs) (x, left, rest) (field_taken d s n w bs x left rest h))

@@ -1,7 +1,7 @@
 //! Messages by their fields.
 
 ghost use Rattle.std.specs.Prelude.{◌≡◌, ◌<◌, ℕ, true};
-ghost use Rattle.buffa_wire.specs.BudgetLeft.{budget_left};
+ghost use Rattle.buffa_fields.specs.Calls.{MemberTakes};
 ghost use Rattle.buffa_fields.specs.Layout.{Layout, Seen};
 
 use crate::visitor::Visitor;
@@ -53,6 +53,5 @@ pub trait Fields: Drop {
         buf: &mut &[u8],
         ctx: DecodeContext<'_>,
     ) -> Result<(), DecodeError>
-        ensures { layout.Taken ctx.entry.depth self.old tag.number tag.wire_type buf.old.now ctx.entry.budget.now
-            result self.new (budget_left ctx.exit) buf.new.now };
+        ensures { MemberTakes tag ctx.entry ctx.exit self.old self.new buf.old buf.new result layout };
 }

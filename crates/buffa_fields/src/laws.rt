@@ -8,7 +8,7 @@ ghost use Rattle.std.specs.List.{IsDistinct};
 ghost use Rattle.std.specs.Map.{keys_of};
 ghost use Rattle.std.specs.Option.{option_map};
 ghost use Rattle.buffa_wire.specs.BudgetLeft.{slots};
-ghost use Rattle.buffa_wire.specs.Parse.{IsPayload, TakesField, slots_inside};
+ghost use Rattle.buffa_wire.specs.Parse.{IsPayload, slots_inside};
 ghost use Rattle.buffa_wire.specs.RecordReading.{TakesMemory};
 ghost use Rattle.buffa_wire.specs.Records.{Datum, height};
 ghost use Rattle.buffa_wire.specs.Records.Datum.{varint, fixed32, fixed64, bytes};
@@ -17,6 +17,7 @@ ghost use Rattle.buffa_wire.specs.Text.{wire_of};
 ghost use Rattle.buffa_map.specs.Message.{message_reading};
 ghost use Rattle.buffa_map.specs.Pairs.{means};
 ghost use Rattle.buffa_map.specs.Text.{AllHold};
+ghost use Rattle.buffa_fields.specs.Keep.{IsFieldThere};
 ghost use Rattle.buffa_fields.specs.KindLaws.{is_none, is_nought, is_zero};
 ghost use Rattle.buffa_fields.specs.Lists.{Each, ElementsTakeMemory, check_list_wire};
 ghost use Rattle.buffa_fields.specs.Lists.{element_records, elements_taken, packed_records};
@@ -242,7 +243,7 @@ pub fn kept_fields_are_these<M>()
     ensures takes { (get : M → List (ℕ × Datum)) (d n : ℕ) (x : Datum) (p : List ℕ) (v : List (ℕ × Datum)) →
         IsPayload d n x p → (keep get).takes d v n (wire_of x) p ≡ Some (v ++ (n, x) ∷ []) }
     ensures asks { (get : M → List (ℕ × Datum)) (s d n : ℕ) (w : _) (bs : List ℕ) → (keep get).asks s d n w bs
-        ↔ (TakesMemory d s w bs ⊎ ((x : Datum) × (left : ℕ) × (rest : List ℕ) × TakesField d s n w bs x left rest)) }
+        ↔ (TakesMemory d s w bs ⊎ IsFieldThere d s n w bs) }
     ensures need { (get : M → List (ℕ × Datum)) (d n : ℕ) (x : Datum) (p more : List ℕ) → IsPayload d n x p →
         (keep get).need d n (wire_of x) (p ++ more) ≡ slots (1 + slots_inside x) }
     ensures records { (get : M → List (ℕ × Datum)) (v : List (ℕ × Datum)) → (keep get).records v ≡ v }

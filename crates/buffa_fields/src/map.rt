@@ -52,8 +52,8 @@ pub(crate) fn take_entry<KC: MapCodec, VC: MapValueDecode>(
 ) -> Result<(), DecodeError>
 where
     KC::Value: MapKey + Hash,
-    ensures taken { TakesEntry tag ctx.entry ctx.exit map.old map.new buf.old buf.new result KC.reading VC.reading
-        KC.Value.same (KC.COST + VC.COST) (λ m. means KC.Value.meaning VC.Value.meaning m.entries) }
+    ensures taken { TakesEntry tag ctx.entry ctx.exit map.old map.new buf.old buf.new result KC.Value.meaning
+        VC.Value.meaning KC.reading VC.reading KC.Value.same (KC.COST + VC.COST) }
     ensures full { FullOnlyIf result (PairTakesMemory KC.reading VC.reading ctx.entry.depth tag.number tag.wire_type
         buf.old.now) }
     ensures wire { ChecksWire tag WireType.LengthDelimited result

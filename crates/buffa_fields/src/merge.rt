@@ -1,11 +1,9 @@
 //! Merging all fields, and what stands after a refusal.
 
 ghost use Rattle.std.specs.Prelude.{OnErr};
-ghost use Rattle.buffa_wire.specs.BudgetLeft.{budget_left};
 ghost use Rattle.buffa_wire.specs.Gives.{FullOnlyIf};
-ghost use Rattle.buffa_wire.specs.Message.{MergesBytes};
+ghost use Rattle.buffa_fields.specs.Calls.{MergesAll};
 ghost use Rattle.buffa_fields.specs.Stands.{MergingTakesMemory, Stands};
-ghost use Rattle.buffa_fields.specs.Takes.{cost_of, merged_of};
 
 use crate::fields::Fields;
 use buffa_wire::{Buf, DecodeContext, DecodeError, Tag};
@@ -26,9 +24,8 @@ pub fn merge_fields<M: Fields>(
     bytes: &[u8],
     ctx: DecodeContext<'_>,
 ) -> Result<(), DecodeError>
-    ensures merged { MergesBytes (merged_of M.layout.takes) (cost_of M.layout.need) ctx.entry.depth
-        (M.layout.meaning message.old) bytes.now ctx.entry.budget.now result (M.layout.meaning message.new)
-        (budget_left ctx.exit) }
+    ensures merged { MergesAll ctx.entry ctx.exit message.old message.new bytes.now result M.layout.takes M.layout.need
+        M.layout.meaning }
     ensures stands { OnErr result (Stands M.layout.takes M.layout.Apart ctx.entry.depth
         (M.layout.meaning message.old) bytes.now (M.layout.meaning message.new)) }
     ensures full { FullOnlyIf result (MergingTakesMemory M.layout.takes M.layout.asks ctx.entry.depth

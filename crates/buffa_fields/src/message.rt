@@ -2,14 +2,12 @@
 
 ghost use Rattle.std.specs.Prelude.{◌≡◌, ◌≢◌, ◌≤◌, [], IsOk, Ok, Some, refl, ℕ};
 ghost use Rattle.std.proofs.Common.{ap, ◌∙◌};
-ghost use Rattle.buffa_wire.specs.BudgetLeft.{budget_left};
 ghost use Rattle.buffa_wire.specs.Gives.{FullOnlyIf};
-ghost use Rattle.buffa_wire.specs.Message.{IsFieldMerged, MergesField};
 ghost use Rattle.buffa_wire.specs.Parse.{Fits};
 ghost use Rattle.buffa_wire.specs.Passes.{IsNext, IsSized, IsWritten};
 ghost use Rattle.buffa_wire.specs.Records.{records_of};
 ghost use Rattle.buffa_wire.specs.Text.{records_text};
-ghost use Rattle.buffa_fields.specs.Calls.{MembersReadBack, MergesIn, WritesMembers};
+ghost use Rattle.buffa_fields.specs.Calls.{MemberTakes, MembersReadBack, MergesIn, WritesMembers};
 ghost use Rattle.buffa_fields.specs.LayoutLaws.{reads_back};
 ghost use Rattle.buffa_fields.specs.Takes.{cost_of, merged_of};
 ghost use Rattle.buffa_fields.specs.TakesLaws.{cost_of_next, cost_of_none, merged_empty, merged_fields, merged_next};
@@ -81,10 +79,10 @@ fn merge<M: Fields>(
     buf: &mut &[u8],
     ctx: DecodeContext<'_>,
 ) -> Result<(), DecodeError>
-    ensures merged { MergesIn tag ctx.entry ctx.exit message.old message.new buf.old buf.new result M.layout }
+    ensures merged { MergesIn tag ctx.entry ctx.exit message.old message.new buf.old buf.new result M.layout.takes
+        M.layout.need M.layout.meaning }
     ensures full { FullOnlyIf result (tag.wire_type ≢ WireType.EndGroup) }
-    ensures taken { M.layout.Taken ctx.entry.depth message.old tag.number tag.wire_type buf.old.now ctx.entry.budget.now
-        result message.new (budget_left ctx.exit) buf.new.now }
+    ensures taken { MemberTakes tag ctx.entry ctx.exit message.old message.new buf.old buf.new result M.layout }
 {
     message.take(alloc, tag, buf, ctx)
 }
@@ -171,12 +169,10 @@ impl<M: Listing> MessageForm<M> for Listed {
         buf: &mut &[u8],
         ctx: DecodeContext<'_>,
     ) -> Result<(), DecodeError>
-        ensures merged { MergesField (merged_of M.layout.takes) (cost_of M.layout.need) ctx.entry
-            (M.meaning message.old) tag.number tag.wire_type buf.old.now result (M.meaning message.new)
-            (budget_left ctx.exit) buf.new.now }
+        ensures merged { MergesIn tag ctx.entry ctx.exit message.old message.new buf.old buf.new result M.layout.takes
+            M.layout.need M.meaning }
         ensures full { FullOnlyIf result (tag.wire_type ≢ WireType.EndGroup) }
-        ensures taken { M.layout.Taken ctx.entry.depth message.old tag.number tag.wire_type buf.old.now
-            ctx.entry.budget.now result message.new (budget_left ctx.exit) buf.new.now }
+        ensures taken { MemberTakes tag ctx.entry ctx.exit message.old message.new buf.old buf.new result M.layout }
     {
         merge(message, alloc, tag, buf, ctx)
     }
