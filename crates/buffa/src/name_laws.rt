@@ -19,8 +19,8 @@ use crate::extension::{ExtensionCodec, PackableCodec, SingularCodec, codecs};
 use crate::map_codec::{MapStorage, MapValueDecode};
 use crate::{
     Blank, DEFAULT_ELEMENT_MEMORY_LIMIT, DEFAULT_UNKNOWN_FIELD_LIMIT, Enumeration,
-    MAX_FIELD_NUMBER, MAX_MESSAGE_BYTES, Map, MapKey, Message, MessageSpec, RECURSION_LIMIT, map_codec,
-    samples,
+    MAX_FIELD_NUMBER, MAX_MESSAGE_BYTES, Map, MapKey, Message, MessageSpec, RECURSION_LIMIT,
+    map_codec, samples,
 };
 use std::hash::Hash;
 
