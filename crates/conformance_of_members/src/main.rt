@@ -1,8 +1,9 @@
 // Runs the rows of tables on messages from their fields.
 #![tactic(auto)]
 
-use conformance_kinds::{is_kind, on_kinds};
-use conformance_members::on_members;
+mod kinds;
+mod members;
+
 use conformance_rows::any_buf::AnyBuf;
 use conformance_rows::calls::{Group, Kind, group_of};
 use conformance_rows::case::Case;
@@ -10,13 +11,15 @@ use conformance_rows::fault::Fault;
 use conformance_rows::mark::Mark;
 use conformance_rows::outcome::Outcome;
 use conformance_rows::runs::{Calls, run_rows};
+use kinds::{is_kind, on_kinds};
+use members::on_members;
 use std::alloc::Global;
 use std::process::ExitCode;
 
 // The calls on messages from their fields.
-struct Members;
+struct FromFields;
 
-impl Calls for Members {
+impl Calls for FromFields {
     fn read(
         _alloc: Global,
         _case: &Case<'_>,
@@ -45,5 +48,5 @@ impl Calls for Members {
 }
 
 fn main(rt: HostRuntime) -> ExitCode {
-    run_rows::<Members>(&rt)
+    run_rows::<FromFields>(&rt)
 }

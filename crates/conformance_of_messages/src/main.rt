@@ -1,9 +1,9 @@
 // Runs the rows of tables on messages, nodes and MessageSets.
 #![tactic(auto)]
 
+mod nodes;
 mod samples;
 
-use conformance_nodes::{has_node_or_set, node_payloads, on_nodes};
 use conformance_rows::any_buf::AnyBuf;
 use conformance_rows::calls::{Group, Kind, group_of};
 use conformance_rows::case::Case;
@@ -11,6 +11,7 @@ use conformance_rows::fault::Fault;
 use conformance_rows::mark::Mark;
 use conformance_rows::outcome::Outcome;
 use conformance_rows::runs::{Calls, run_rows};
+use nodes::{has_node_or_set, node_payloads, on_nodes};
 use samples::{message, values};
 use std::alloc::Global;
 use std::process::ExitCode;

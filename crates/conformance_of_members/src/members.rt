@@ -1,5 +1,4 @@
-//! Rows on messages from their fields, of which it is judged what stands after a refusal too.
-#![tactic(auto)]
+// Rows on messages from their fields, of which it is judged what stands after a refusal too.
 
 mod words;
 

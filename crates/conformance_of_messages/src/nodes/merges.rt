@@ -1,6 +1,6 @@
 // Bytes that are merged into a message, and what stands where they are refused.
 
-use crate::Nodes;
+use crate::nodes::Nodes;
 use buffa_wire::{Budget, Buf, DecodeContext, DecodeError, Message, RECURSION_LIMIT, Tag};
 use conformance_rows::case::Case;
 use conformance_rows::fault::Fault;

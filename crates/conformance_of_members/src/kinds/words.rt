@@ -1,6 +1,6 @@
 // Messages of all scalars as words; no message is read of a word.
 
-use crate::Kinds;
+use crate::kinds::Kinds;
 use buffa_kinds::explicit::Explicit;
 use buffa_kinds::implicit::Implicit;
 use buffa_kinds::joined::Joined;

@@ -1,6 +1,6 @@
 // Nodes and MessageSets as words.
 
-use crate::Nodes;
+use crate::nodes::Nodes;
 use buffa_map::map_codec::MapWalk;
 use buffa_node::node::Node;
 use buffa_node::shade::Shade;

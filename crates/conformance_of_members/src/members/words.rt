@@ -1,6 +1,6 @@
 // Messages from their fields as words; no message is read of a word.
 
-use crate::Members;
+use crate::members::Members;
 use buffa_inventory::assorted::Assorted;
 use buffa_inventory::depot::Depot;
 use buffa_inventory::inventory::Inventory;

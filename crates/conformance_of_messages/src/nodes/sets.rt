@@ -1,7 +1,7 @@
 // Extensions of a MessageSet, which are its Items.
 
-use crate::Nodes;
-use crate::merges::standing;
+use crate::nodes::Nodes;
+use crate::nodes::merges::standing;
 use buffa_ext::codecs::{BytesCodec, Int32, Repeated, StringCodec};
 use buffa_ext::{Extension, ExtensionCodec, ExtensionSet};
 use buffa_set_msg::SetMsg;

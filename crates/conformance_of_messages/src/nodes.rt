@@ -1,5 +1,4 @@
-//! Rows on nodes and MessageSets, of which it is told what stands after a refusal too.
-#![tactic(auto)]
+// Rows on nodes and MessageSets, of which it is told what stands after a refusal too.
 
 mod merges;
 mod sets;
@@ -17,8 +16,8 @@ use conformance_rows::fault::Fault;
 use conformance_rows::mark::Mark;
 use conformance_rows::outcome::Outcome;
 use conformance_rows::words::Worded;
-use merges::merge;
-use sets::extension;
+use crate::nodes::merges::merge;
+use crate::nodes::sets::extension;
 use std::alloc::Global;
 
 /// The words of nodes and MessageSets.
