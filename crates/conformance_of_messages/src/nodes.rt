@@ -4,6 +4,8 @@ mod merges;
 mod sets;
 mod words;
 
+use crate::nodes::merges::merge;
+use crate::nodes::sets::extension;
 use buffa_map::map_codec::Msg;
 use buffa_node::node::Node;
 use buffa_set_msg::SetMsg;
@@ -16,8 +18,6 @@ use conformance_rows::fault::Fault;
 use conformance_rows::mark::Mark;
 use conformance_rows::outcome::Outcome;
 use conformance_rows::words::Worded;
-use crate::nodes::merges::merge;
-use crate::nodes::sets::extension;
 use std::alloc::Global;
 
 /// The words of nodes and MessageSets.
