@@ -7,6 +7,7 @@ runs that agree with Google's protobuf. Prints a line for each group; exits with
 gcc. `rt ci` leaves the program; where there is none, `rt run` builds it.
 """
 import functools
+import multiprocessing
 import os
 import resource
 import shutil
@@ -326,25 +327,35 @@ def programs():
     return made
 
 
+def runs_of(task):
+    """Runs a group in a room of its own: how many runs it made, and how many of them differed."""
+    program, group, room = task
+    seen = Differences()
+    with tempfile.TemporaryDirectory(dir=room) as own:
+        if os.path.exists(f"{room}/refuse.so"):
+            shutil.copy(f"{room}/refuse.so", own)
+        return group(program, own, seen), seen.found
+
+
 def main():
     groups = [answers, wrong_words, failed_reads, failed_writes, pieces]
-    shimmed = [slow_streams, short_writes, refusals]
-    seen = Differences()
-    with tempfile.TemporaryDirectory(prefix="outside-") as room:
+    shimmed = [refusals, short_writes, slow_streams]
+    failed = 0
+    with tempfile.TemporaryDirectory(prefix="outside-") as room, multiprocessing.Pool() as pool:
         if shutil.which("gcc"):
             subprocess.run(["gcc", "-O2", "-Wall", "-Werror", "-shared", "-fPIC", "-o", f"{room}/refuse.so", f"{TOP}/tests/refuse.c"], check=True)
-            groups += shimmed
+            groups = shimmed + groups
         else:
             print("outside: gcc is missing, so no request for memory could be refused, and no write cut")
-            seen.found += 1
-        for program in programs():
-            for group in groups:
-                before = seen.found
-                runs = group(program, room, seen)
-                verdict = "as it must be" if seen.found == before else f"{seen.found - before} DIFFERENCES"
-                print(f"outside: {os.path.basename(program)}, {group.__name__.replace('_', ' ')}: {runs} runs, {verdict}")
-    print("outside: passed" if not seen.found else "outside: FAILED")
-    return 1 if seen.found else 0
+            failed += 1
+        # (the longest first)
+        tasks = [(program, group, room) for group in groups for program in programs()]
+        for (program, group, _), (runs, found) in zip(tasks, pool.imap(runs_of, tasks)):
+            failed += found
+            verdict = f"{found} DIFFERENCES" if found else "as it must be"
+            print(f"outside: {os.path.basename(program)}, {group.__name__.replace('_', ' ')}: {runs} runs, {verdict}")
+    print("outside: FAILED" if failed else "outside: passed")
+    return 1 if failed else 0
 
 
 if __name__ == "__main__":
