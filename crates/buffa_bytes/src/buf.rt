@@ -135,7 +135,8 @@ pub fn front<B: Buf>(buf: &B, len: u64) -> Option<&[u8]>
 /// Copies the first `len` bytes out of the buffer.
 ///
 /// # Errors
-/// [`DecodeError::UnexpectedEof`] where fewer are left, and nothing is asked of memory then.
+/// [`DecodeError::UnexpectedEof`] where fewer are left, and nothing is asked of memory then; or
+/// [`DecodeError::OutOfMemory`], of a byte or more.
 ///
 /// ```ignore
 /// let front = copy_bytes(alloc, buf, len)?; // of "abc" and 2: "ab", and `buf` is "c" then

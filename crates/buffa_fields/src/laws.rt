@@ -253,7 +253,7 @@ pub fn kept_fields_are_these<M>()
 {}
 
 /// A message of its members: the member of its number takes a field, and merging costs what the fields cost. It is
-/// normal where its members are.
+/// normal where its members are, and sure of memory in its size pass where it has no slots.
 pub fn messages_are_these<M: Listing>()
     ensures meaning { (m : M) → M.meaning m ≡ M.layout.meaning m }
     ensures blank { M.blank_is ≡ M.layout.blank }
@@ -264,4 +264,7 @@ pub fn messages_are_these<M: Listing>()
     ensures levels { ⟦<Listed as MessageForm<M>>⟧.levels ≡ M.layout.levels }
     ensures units { ⟦<Listed as MessageForm<M>>⟧.COST ≡ M.COST }
     ensures normal { (v : _) → ⟦<Listed as MessageForm<M>>⟧.normal v ↔ (M.layout.Owes × M.layout.normal v) }
+    ensures sure { (v : _) → ⟦<Listed as MessageForm<M>>⟧.sure v ↔ (M.layout.slots v ≡ []) }
+    ensures taken { (d n : ℕ) (old new : M) (w : _) (bs rest : List ℕ) (a b : _) (r : _) →
+        ⟦<Listed as MessageForm<M>>⟧.Taken d old n w bs a r new b rest ↔ M.layout.Taken d old n w bs a r new b rest }
 {}

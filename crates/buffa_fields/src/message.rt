@@ -132,6 +132,10 @@ impl<M: Listing> MessageForm<M> for Listed {
 
     ghost normal = { λ v. M.layout.Owes × M.layout.normal v };
 
+    ghost sure = { λ v. M.layout.slots v ≡ [] };
+
+    ghost Taken = { M.layout.Taken };
+
     ghost positive = { M.positive };
 
     ghost merged_empty = { merged_empty M.layout.takes };

@@ -103,7 +103,7 @@ pub fn scalars_are_these()
         × (⟦<Sfixed64 as MapCodec>⟧.writing ≡ eight_writing (cast_unsigned w64)) }
 {}
 
-/// How strings and bytes are read and written, and what holds of those that a value may have.
+/// How strings and bytes are read and written, what holds of those that a value may have, and what a value costs.
 pub fn texts_are_these()
     ensures string { (⟦<Str as MapValueDecode>⟧.reading ≡ string_reading [] (λ b. b))
         × (⟦<Str as MapCodec>⟧.writing ≡ delimited_writing (λ b. b)) }
@@ -113,6 +113,8 @@ pub fn texts_are_these()
         × (⟦<BytesBuf as MapCodec>⟧.writing ≡ delimited_writing (λ b. b)) }
     ensures fits { (b : List ℕ) → (⟦<Str as MapCodec>⟧.fits b ↔ IsText b)
         × (⟦<BytesVec as MapCodec>⟧.fits b ↔ IsLengthy b) × (⟦<BytesBuf as MapCodec>⟧.fits b ↔ IsLengthy b) }
+    ensures costs { (⟦<Str as MapValueDecode>⟧.COST ≡ 24) × (⟦<BytesVec as MapValueDecode>⟧.COST ≡ 24)
+        × (⟦<BytesBuf as MapValueDecode>⟧.COST ≡ 32) }
 {}
 
 /// What a value of each scalar costs, and the length of its payloads, where they have one.

@@ -31,6 +31,11 @@ pub level_left : (d : ℕ) → 0 < d → level true d ≡ Ok tt
 level_left zero h = absurd (omega (arith, h))
 level_left (suc d) h = refl
 
+-- and nowhere else
+pub depth_left : (d : ℕ) → level true d ≡ Ok tt → 0 < d
+depth_left zero h = cc
+depth_left (suc d) h = omega arith
+
 bind_whole : {A B : Type 0} (r : Result A DecodeError) (f : A → B) → IsOk r → IsOk (r >>= (λ p. let x : B = f p in Ok x))
 bind_whole (Ok p) f h = refl
 bind_whole (Err e) f h = cc

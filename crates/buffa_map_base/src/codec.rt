@@ -96,7 +96,7 @@ pub trait MapValueDecode: sealed::Sealed {
         ensures level { OnErr result (level reading.nested ctx.entry.depth ≢ Ok tt → B.unread buf.new
             ≡ B.unread buf.old) }
         ensures empty { HoldsNothing reading ctx.entry.depth (B.unread buf.old) → IsOk result }
-        ensures left { reading.nested ≡ false → reading.takes_memory ≡ true →
+        ensures left { reading.takes_memory ≡ true → level reading.nested ctx.entry.depth ≡ Ok tt →
             LeavesUnlessFull result (past_no_text (B.unread buf.old)) (B.unread buf.new) }
         ensures past { reading.nested ≡ false → reading.takes_memory ≡ false →
             OnErr result (B.unread buf.new ≡ past_no_payload reading.wire (B.unread buf.old)) }

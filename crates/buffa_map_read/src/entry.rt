@@ -29,6 +29,7 @@ fn charge(budget: &mut Budget, key: usize, value: usize) -> Result<(), DecodeErr
     ensures err { OnErr result ((budget.old.memory < key + value) × (budget.new ≡ budget.old)) }
     ensures which { IfErr result (λ e. e ≡ ElementMemoryLimitExceeded) }
 {
+    // for the proof: what is left is a `usize`, which is less than a sum past that
     let _left = budget.memory_left();
     match key.checked_add(value) {
         Some(cost) => budget.take_memory(cost),

@@ -68,6 +68,15 @@ IsFieldMerged merged cost d old n w bs before r new after rest =
 abbrev pub MergesField : {X T : Type 0} → (ℕ → X → List ℕ → Option X) → (ℕ → List ℕ → BudgetLeft) → DecodeContext → X → ℕ → WireType → List ℕ → Result T DecodeError → X → BudgetLeft → List ℕ → Type 0
 MergesField merged cost ctx old n w bs r new after rest = IsFieldMerged merged cost ctx.depth old n w bs ctx.budget.now r new after rest
 
+-- What a type says, besides, of the field that was merged, at a depth: of the message that stood, the number, the wire type,
+-- the bytes and the budget; and of the answer, the message, the budget and the bytes that it left.
+abbrev pub FieldTaken : Type 0 → Type 1
+FieldTaken M = ℕ → M → ℕ → WireType → List ℕ → BudgetLeft → Result (Unit {0}) DecodeError → M → BudgetLeft → List ℕ → Type 0
+
+-- the same in a context
+abbrev pub TakesField : {M : Type 0} → FieldTaken M → DecodeContext → M → ℕ → WireType → List ℕ → Result (Unit {0}) DecodeError → M → BudgetLeft → List ℕ → Type 0
+TakesField taken ctx old n w bs r new after rest = taken ctx.depth old n w bs ctx.budget.now r new after rest
+
 -- a message inside a field is one level deeper: what its bytes mean, and what they cost
 abbrev pub merged_in : {X : Type 0} → (ℕ → X → List ℕ → Option X) → ℕ → X → List ℕ → Option X
 merged_in merged zero old b = None

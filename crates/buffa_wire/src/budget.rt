@@ -23,8 +23,8 @@ pub const DEFAULT_ELEMENT_MEMORY_LIMIT: usize = 268_435_456;
 /// What reading may still spend.
 ///
 /// One slot is spent for each unknown field that is kept, nested ones too, for each map entry that is kept
-/// whole, and for each MessageSet Item; for each map entry the units that its two codecs cost. What was spent
-/// stays spent, also where the reading is refused later.
+/// whole, and for each MessageSet Item; for each map entry the units that its two codecs cost, and for each message of
+/// a repeated field those that its type costs. What was spent stays spent, also where the reading is refused later.
 ///
 /// ```ignore
 /// let mut budget = Budget::new(DEFAULT_UNKNOWN_FIELD_LIMIT);

@@ -1,12 +1,13 @@
 //! Types whose reading and writing as messages another type says, once for all of them.
 
 ghost use Rattle.std.specs.Prelude.{◌≡◌, ◌≢◌, ◌++◌, ◌<◌, ◌≤◌, ℕ, List, [], Option, Some, refl};
+ghost use Rattle.std.specs.Prelude.{IsOk};
 ghost use Rattle.std.specs.Option.{option_and_then};
 ghost use Rattle.buffa_bytes.specs.Field.{SomeField};
 ghost use Rattle.buffa_bytes.specs.Gives.{FullOnlyIf};
 ghost use Rattle.buffa_bytes.specs.Join.{Join};
 ghost use Rattle.buffa_wire.specs.BudgetLeft.{BudgetLeft, budget_left, nothing, plus};
-ghost use Rattle.buffa_wire.specs.Message.{MergesField};
+ghost use Rattle.buffa_wire.specs.Message.{FieldTaken, MergesField, TakesField};
 ghost use Rattle.buffa_wire.specs.Parse.{Fits};
 ghost use Rattle.buffa_wire.specs.Passes.{IsNext, IsSized, IsWritten};
 ghost use Rattle.buffa_wire.specs.Records.{Datum, records_of};
@@ -47,6 +48,12 @@ pub trait MessageForm<M: Blank> {
     /// The values that their text reads back to.
     ghost normal: { M.Meaning → Type 0 };
 
+    /// The values whose size pass never runs out of memory.
+    ghost sure: { M.Meaning → Type 0 };
+
+    /// What is said, besides, of the field that was merged, also where it is refused.
+    ghost Taken: { FieldTaken M };
+
     /// An element has a cost.
     ghost positive: { 0 < COST };
 
@@ -75,8 +82,9 @@ pub trait MessageForm<M: Blank> {
     /// let size = <M::Form as MessageForm<M>>::compute_size(self, cache)?;
     /// ```
     fn compute_size(message: &M, cache: &mut SizeCache) -> Result<u32, EncodeError>
-        ensures { IsSized (records_text (records (M.meaning message.now))) (slots (M.meaning message.now)) cache.old result
-            cache.new };
+        ensures sized { IsSized (records_text (records (M.meaning message.now))) (slots (M.meaning message.now))
+            cache.old result cache.new }
+        ensures always { sure (M.meaning message.now) → IsOk result };
 
     /// The write pass.
     ///
@@ -112,7 +120,9 @@ pub trait MessageForm<M: Blank> {
     ) -> Result<(), DecodeError>
         ensures merged { MergesField merged cost ctx.entry (M.meaning message.old) tag.number tag.wire_type buf.old.now
             result (M.meaning message.new) (budget_left ctx.exit) buf.new.now }
-        ensures full { FullOnlyIf result (tag.wire_type ≢ WireType.EndGroup) };
+        ensures full { FullOnlyIf result (tag.wire_type ≢ WireType.EndGroup) }
+        ensures taken { TakesField Taken ctx.entry message.old tag.number tag.wire_type buf.old.now result message.new
+            (budget_left ctx.exit) buf.new.now };
 
     /// The text reads back, where no length is too large to be read.
     ghost merged_text: { (d : ℕ) (v : M.Meaning) → Fits (records_of (records v)) → normal v → levels v ≤ d →
@@ -174,7 +184,12 @@ impl<M: Formed> Message for M
 where
     M::Form: MessageForm<M>,
 {
-    fn compute_size(&self, cache: &mut SizeCache) -> Result<u32, EncodeError> {
+    /// The size pass, which never runs out of memory where the form is sure of that.
+    fn compute_size(&self, cache: &mut SizeCache) -> Result<u32, EncodeError>
+        ensures sized { IsSized (⟦<M as MessageSpec>⟧.text (M.meaning self.now))
+            (⟦<M as MessageSpec>⟧.slots (M.meaning self.now)) cache.old result cache.new }
+        ensures always { M.Form.sure (M.meaning self.now) → IsOk result }
+    {
         <M::Form as MessageForm<M>>::compute_size(self, cache)
     }
 
@@ -186,13 +201,20 @@ where
         <M::Form as MessageForm<M>>::write_to(self, cache, sink)
     }
 
+    /// The form merges the field, and what it says of one that is refused holds.
     fn merge_field(
         &mut self,
         alloc: Global,
         tag: Tag,
         buf: &mut &[u8],
         ctx: DecodeContext<'_>,
-    ) -> Result<(), DecodeError> {
+    ) -> Result<(), DecodeError>
+        ensures merged { MergesField ⟦<M as MessageSpec>⟧.merged ⟦<M as MessageSpec>⟧.cost ctx.entry (M.meaning self.old)
+            tag.number tag.wire_type buf.old.now result (M.meaning self.new) (budget_left ctx.exit) buf.new.now }
+        ensures full { FullOnlyIf result (tag.wire_type ≢ WireType.EndGroup) }
+        ensures taken { TakesField M.Form.Taken ctx.entry self.old tag.number tag.wire_type buf.old.now result self.new
+            (budget_left ctx.exit) buf.new.now }
+    {
         <M::Form as MessageForm<M>>::merge_field(self, alloc, tag, buf, ctx)
     }
 }

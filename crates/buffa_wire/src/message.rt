@@ -265,8 +265,7 @@ pub trait Message: MessageSpec {
         ensures spent { OnErr result (PaysAtMost ctx.entry.budget.now
             (cost_of_payload Self.cost ctx.entry.depth (delimited_at (B.unread buf.old))) (budget_left ctx.exit)) }
         ensures full { FullOnlyIf result ((0 < ctx.entry.depth) × IsOk (delimited_at (B.unread buf.old))) }
-        ensures free { (rest : List ℕ) → 0 < ctx.entry.depth → delimited_at (B.unread buf.old) ≡ Ok ([], rest) →
-            IsOk result }
+        ensures free { (r : List ℕ) → 0 < ctx.entry.depth → delimited_at (B.unread buf.old) ≡ Ok ([], r) → IsOk result }
         ensures outside { (IsOk (delimited_at (B.unread buf.old)) → ⊥) → Self.meaning self.new ≡ Self.meaning self.old }
         ensures level { ctx.entry.depth ≡ 0 → (Self.meaning self.new ≡ Self.meaning self.old)
             × (B.unread buf.new ≡ B.unread buf.old) }

@@ -140,7 +140,8 @@ pub fn records_are_pinned()
     ensures whole { (d s : ℕ) (bs : List ℕ) → RecordsArePinned d s bs }
 {}
 
-/// A type that is a message as another says means, costs and is written as that one says. Nothing else is open.
+/// A type that is a message as another says means, costs and is written as that one says. Open is
+/// what becomes of a field that is refused, and where memory runs out: the calls of the message say that.
 pub fn formed_messages_are_these<M: Formed>()
 where
     M::Form: MessageForm<M>,

@@ -1,4 +1,5 @@
 use Rattle.std.proofs.lemmas.Result.{err_from_is_err_and}
+use Rattle.buffa_map_base.proofs.MemoryLemmas.{depth_left}
 use Rattle.buffa_map_base.proofs.MessageLemmas.{message_refused, reads_nothing}
 use Rattle.buffa_map_codecs.proofs.message.MsgMapValueDecode.merge.Goals as goal
 
@@ -12,3 +13,8 @@ returns-in_err-merge_length_delimited-clause-empty g c h =
     let n = reads_nothing g.M.Blank.blank_is g.M.MessageSpec.merged g.M.MessageSpec.cost c.args.ctx.depth (g.B.Buf.unread c.args.buf.now) h in
     let read = c.in_err-merge_length_delimited.ensures.free n.0 n.1 n.2 in
     absurd (let no : ⊥ = cc in no)
+
+pub returns-in_err-merge_length_delimited-clause-left : goal.returns-in_err-merge_length_delimited-clause-left
+returns-in_err-merge_length_delimited-clause-left g c = λ takes deep.
+    let p = err_from_is_err_and c.from_residual.result c.from_residual.ensures.1 in
+    rw (p.1, p.2) (c.in_err-merge_length_delimited.ensures.left (depth_left c.args.ctx.depth deep))
