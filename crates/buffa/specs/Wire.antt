@@ -17,7 +17,7 @@ pub use Rattle.buffa_bytes.specs.Written.{UsesRoom, Writes}
 pub use Rattle.buffa_wire.specs.BudgetLeft.{BudgetLeft, PaysAtMost, SlotTaken, SlotsSpent, budget_left, nothing, plus}
 pub use Rattle.buffa_wire.specs.Cache.{advanced, appended}
 pub use Rattle.buffa_wire.specs.Enums.{DeclaresBlank, numbers, open_number}
-pub use Rattle.buffa_wire.specs.Message.{BeginsField, IsMergedAlone, MergesBytes, MergesField, MergesInside, PayloadFault, cost_of_payload}
+pub use Rattle.buffa_wire.specs.Message.{BeginsField, IsMergedAlone, MergesBytes, MergesField, MergesInside, PayloadFault, TakesField, cost_of_payload}
 pub use Rattle.buffa_wire.specs.Parse.{Fits}
 pub use Rattle.buffa_wire.specs.Passes.{IsNext, IsSized, IsWritten}
 pub use Rattle.buffa_wire.specs.RecordReading.{ListTakesMemory, TakesMemory, field_in, list_at}
