@@ -4,7 +4,7 @@ Each function is given a row, as `second_reading.py` reads it, and finds its ans
 """
 from rules import (
     DELIMITED, END, KINDS, MESSAGES, MOST_LEVELS, START, Budget, Bytes, Fault, blank, delimited, inside, merge, message_text,
-    of_word, packed, payload, plain, read_list, read_one, read_record, record_text, records, tag_text, word,
+    of_word, packed, payload, plain, read_list, read_one, read_record, record_encoding, records, tag_encoding, word,
 )
 
 CALLS = (
@@ -32,11 +32,11 @@ def records_of_value(row):
     values = [of_word(kind, it) for it in (row.given.split() if how else [row.given])]
     if how == "packed":
         text = b"".join(payload(kind, it) for it in values)
-        return [(row.number, DELIMITED, tag_text(row.number, DELIMITED) + delimited(text))] if values else [], None
+        return [(row.number, DELIMITED, tag_encoding(row.number, DELIMITED) + delimited(text))] if values else [], None
     wire = START if row.types.endswith("-group") else KINDS[kind][0]
     for it in values:
         try:
-            new.append((row.number, wire, record_text(row.types, row.number, it)))
+            new.append((row.number, wire, record_encoding(row.types, row.number, it)))
         except Fault as fault:
             return new, fault
     return new, None
@@ -96,7 +96,7 @@ def on_record(row):
     kind = plain(row.types)
     if row.call == "encode-one":
         try:
-            return "ok", f"-; records {record_text(row.types, 1, of_word(kind, row.given)).hex()}"
+            return "ok", f"-; records {record_encoding(row.types, 1, of_word(kind, row.given)).hex()}"
         except Fault as fault:
             return str(fault), "-; records -"
     first = records(bytes.fromhex(row.before))[0]
@@ -110,7 +110,7 @@ def on_packed(row):
     kind = plain(row.types)
     if row.call == "pack":
         text = bytes.fromhex(row.before) + payload(kind, of_word(kind, row.given))
-        return "ok", f"-; records {(tag_text(1, DELIMITED) + delimited(text)).hex()}"
+        return "ok", f"-; records {(tag_encoding(1, DELIMITED) + delimited(text)).hex()}"
     values = row.before.split() + [word(kind, it) for it in packed(row.types, bytes.fromhex(row.given))]
     return "ok", f"{' '.join(values) or '-'}; records -"
 
@@ -121,10 +121,10 @@ def on_messages(row):
     if row.call == "hold":
         text = bytes.fromhex(row.given)
         try:
-            inner = b"".join(it[2] for it in records(text)) + tag_text(1, END) if is_group else delimited(text)
+            inner = b"".join(it[2] for it in records(text)) + tag_encoding(1, END) if is_group else delimited(text)
         except Fault as fault:
             return f"GroupRefused {fault}", "-; records -"
-        return "ok", f"-; records {(tag_text(1, START if is_group else DELIMITED) + inner).hex()}"
+        return "ok", f"-; records {(tag_encoding(1, START if is_group else DELIMITED) + inner).hex()}"
     found, message, is_there = records(bytes.fromhex(row.before)), of_word(kind, row.given), False
     mine = found[:1] if row.call == "merge-in" else [it for it in found if it[0] == row.number]
     depth = row.depth if row.call == "merge-in" else MOST_LEVELS
@@ -143,8 +143,8 @@ def renumbered(number, text):
     tag = buf.varint()
     rest = text[buf.at :]
     if tag % 8 == START:
-        rest = rest[: len(rest) - len(tag_text(tag // 8, END))] + tag_text(number, END)
-    return tag_text(number, tag % 8) + rest
+        rest = rest[: len(rest) - len(tag_encoding(tag // 8, END))] + tag_encoding(number, END)
+    return tag_encoding(number, tag % 8) + rest
 
 
 def on_list(row):

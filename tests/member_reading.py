@@ -5,8 +5,8 @@ default, an optional one where it is there; elements of a list come one in a fie
 merged into, an element of a list and a value of a map is new. `second_reading.py` judges rows on them by it.
 """
 from rules import (
-    BLANKS, BY_MEMBERS, DELIMITED, KINDS, MESSAGES, Bytes, Fault, blank, delimited, field_text, kept_field, merge, merge_entry,
-    message_text, mismatch, payload, skip, tag_text, value, word,
+    BLANKS, BY_MEMBERS, DELIMITED, KINDS, MESSAGES, Bytes, Fault, blank, delimited, field_encoding, kept_field, merge, merge_entry,
+    message_text, mismatch, payload, skip, tag_encoding, value, word,
 )
 
 NUMBERS = (
@@ -65,15 +65,15 @@ class ByMembers:
         """The text of each member's fields."""
         for (number, how, kind), part in zip(self.members, message):
             if how == "map":
-                yield field_text(kind, number, part.items())
+                yield field_encoding(kind, number, part.items())
                 continue
             if how == "packed":
-                yield tag_text(number, DELIMITED) + delimited(b"".join(payload(kind, it) for it in part)) if part else b""
+                yield tag_encoding(number, DELIMITED) + delimited(b"".join(payload(kind, it) for it in part)) if part else b""
                 continue
             there = {"optional": [part] * (part is not None), "repeated": part}.get(how, [part] * (part != blank(kind)))
             for one in there:
                 inner = delimited(message_text(kind, one)) if kind in MESSAGES else payload(kind, one)
-                yield tag_text(number, KINDS[kind][0]) + inner
+                yield tag_encoding(number, KINDS[kind][0]) + inner
 
     def text(self, message):
         return b"".join(self.texts(message)) + message[-1]

@@ -15,7 +15,7 @@ sys.dont_write_bytecode = True
 from conformance import PROGRAMS, all_hold, program_of
 from rules import (
     BYTES, DELIMITED, EIGHT, END, FOUR, KINDS, MESSAGES, NODE_MAPS, START, STRINGS, VARINT, Fault, delimited, of_word, plain,
-    put, read_list, records, tag_text, varint_text, word,
+    put, read_list, records, tag_encoding, varint_encoding, word,
 )
 from second_reading import BY_MEMBERS, TOP, Row
 
@@ -56,7 +56,7 @@ class Maker:
         return self.any.random() * count < 1
 
     def varint(self, number):
-        text = bytearray(varint_text(number))
+        text = bytearray(varint_encoding(number))
         while self.is_one_in(10) and len(text) < 11:
             text[-1] |= 128
             text.append(0)
@@ -118,10 +118,10 @@ class Maker:
         if self.is_one_in(4):
             return self.field(self.pick(number, 13, 14), self.pick(VARINT, EIGHT, DELIMITED, START, FOUR), levels)
         if how == "map":
-            return tag_text(number, DELIMITED) + self.entry(inner)
+            return tag_encoding(number, DELIMITED) + self.entry(inner)
         if how in ("repeated", "packed") and KINDS[inner][0] != DELIMITED and self.is_one_in(2):
-            return tag_text(number, DELIMITED) + delimited(b"".join(self.payload(inner) for _ in range(self.any.randint(0, 3))))
-        return tag_text(number, KINDS[inner][0]) + self.payload(inner)
+            return tag_encoding(number, DELIMITED) + delimited(b"".join(self.payload(inner) for _ in range(self.any.randint(0, 3))))
+        return tag_encoding(number, KINDS[inner][0]) + self.payload(inner)
 
     def message(self, kind, levels):
         text = b""
@@ -137,7 +137,7 @@ class Maker:
                 text += b"\x12" + delimited(self.of_kind("int32", 1) + child)
             elif kind != "set" and self.is_one_in(2):
                 number = {"count": 9, "two": self.pick(1, 2)}.get(kind, 1)
-                text += tag_text(number, VARINT) + self.varint(self.number())
+                text += tag_encoding(number, VARINT) + self.varint(self.number())
             else:
                 text += self.field(self.pick(3, 4, 5), self.pick(VARINT, EIGHT, DELIMITED, START, FOUR), levels)
         return text

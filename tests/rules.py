@@ -37,7 +37,7 @@ def mismatch(number, expected, actual):
     return Fault(f"WireTypeMismatch {number} {expected} {actual}")
 
 
-def varint_text(number):
+def varint_encoding(number):
     if number < 128:
         return bytes((number,))
     out = bytearray()
@@ -47,12 +47,12 @@ def varint_text(number):
     return bytes(out) + bytes([number])
 
 
-def tag_text(number, wire):
-    return varint_text(number * 8 + wire)
+def tag_encoding(number, wire):
+    return varint_encoding(number * 8 + wire)
 
 
 def delimited(text):
-    return varint_text(len(text)) + text
+    return varint_encoding(len(text)) + text
 
 
 class Bytes:
@@ -99,7 +99,7 @@ class Budget:
     def __init__(self, slots=MOST_SLOTS, units=MOST_UNITS):
         self.slots, self.units = slots, units
 
-    def take_slot(self):
+    def take_unknown(self):
         if self.slots == 0:
             raise Fault("UnknownFieldLimitExceeded")
         self.slots -= 1
@@ -130,10 +130,10 @@ def keep(buf, number, wire, depth, budget):
     """The text of a field that is kept, in shortest spellings."""
     if wire == END:
         raise Fault(f"InvalidEndGroup {number}")
-    budget.take_slot()
-    tag = tag_text(number, wire)
+    budget.take_unknown()
+    tag = tag_encoding(number, wire)
     if wire == VARINT:
-        return tag + varint_text(buf.varint())
+        return tag + varint_encoding(buf.varint())
     if wire == DELIMITED:
         return tag + delimited(buf.take(buf.varint()))
     if wire in (EIGHT, FOUR):
@@ -143,7 +143,7 @@ def keep(buf, number, wire, depth, budget):
     found = [tag]
     while (inner := buf.tag()) != (number, END):
         found.append(keep(buf, *inner, depth - 1, budget))
-    return b"".join(found) + tag_text(number, END)
+    return b"".join(found) + tag_encoding(number, END)
 
 
 def records(text, depth=MOST_LEVELS):
@@ -200,8 +200,8 @@ def payload(kind, given):
         bits = 32 if wire == FOUR else 64
         return (given % (1 << bits)).to_bytes(bits // 8, "little")
     if kind in ("sint32", "sint64"):
-        return varint_text(2 * given if given >= 0 else -2 * given - 1)
-    return varint_text(int(given) % 2**64)
+        return varint_encoding(2 * given if given >= 0 else -2 * given - 1)
+    return varint_encoding(int(given) % 2**64)
 
 
 def int32_member(buf, number, wire):
@@ -239,7 +239,7 @@ def set_field(found, buf, number, wire, depth, budget):
         if depth == 0:
             raise Fault("RecursionLimitExceeded")
         number, message = read_item(buf, depth - 1, own)
-        wire, text = DELIMITED, tag_text(number, DELIMITED) + delimited(message)
+        wire, text = DELIMITED, tag_encoding(number, DELIMITED) + delimited(message)
     else:
         text = keep(buf, number, wire, depth, own)
     budget.slots = own.slots
@@ -284,12 +284,12 @@ def merge(kind, message, text, depth, budget):
     return message + b"".join(kept) if kind == "keep" else message
 
 
-def item_text(record):
+def item_encoding(record):
     """The text of a record of a MessageSet: of a delimited one whose number is a type id an Item, of any other the record."""
     number, wire, text = record
     if wire != DELIMITED or not 0 < number < 2**31:
         return text
-    return b"\x0b\x10" + varint_text(number) + b"\x1a" + delimited(inside(record)) + b"\x0c"
+    return b"\x0b\x10" + varint_encoding(number) + b"\x1a" + delimited(inside(record)) + b"\x0c"
 
 
 def message_text(kind, message):
@@ -298,25 +298,25 @@ def message_text(kind, message):
     if kind == "keep":
         return message
     if kind == "set":
-        return b"".join(map(item_text, message))
+        return b"".join(map(item_encoding, message))
     if kind == "node":
-        fields = [field_text(NODE_MAPS[at], at, sorted(message[at - 1].items())) for at in NODE_MAPS]
+        fields = [field_encoding(NODE_MAPS[at], at, sorted(message[at - 1].items())) for at in NODE_MAPS]
         return b"".join(fields) + message[3]
     if kind == "count":
-        return message * (tag_text(9, VARINT) + b"\0")
+        return message * (tag_encoding(9, VARINT) + b"\0")
     numbers = {"flat": lambda it: [it], "two": list, "tree": lambda it: [it[0]]}[kind](message)
-    text = b"".join(tag_text(1 + i, VARINT) + payload("int32", it) for i, it in enumerate(numbers) if it)
-    return text + (field_text(("int32", "tree"), 2, sorted(message[1].items())) if kind == "tree" else b"")
+    text = b"".join(tag_encoding(1 + i, VARINT) + payload("int32", it) for i, it in enumerate(numbers) if it)
+    return text + (field_encoding(("int32", "tree"), 2, sorted(message[1].items())) if kind == "tree" else b"")
 
 
-def field_text(kinds, number, pairs):
+def field_encoding(kinds, number, pairs):
     """The text of a map field of these pairs."""
     text = b""
     for key, held in pairs:
         is_message = kinds[1] in MESSAGES
         inner = delimited(message_text(kinds[1], held)) if is_message else payload(kinds[1], held)
-        entry = tag_text(1, KINDS[kinds[0]][0]) + payload(kinds[0], key) + tag_text(2, KINDS[kinds[1]][0]) + inner
-        text += tag_text(number, DELIMITED) + delimited(entry)
+        entry = tag_encoding(1, KINDS[kinds[0]][0]) + payload(kinds[0], key) + tag_encoding(2, KINDS[kinds[1]][0]) + inner
+        text += tag_encoding(number, DELIMITED) + delimited(entry)
     return text
 
 
@@ -351,8 +351,8 @@ def merge_entry(kinds, pairs, buf, depth, budget, number, kept):
     if is_declared:
         put(kinds[0], pairs, *found)
     elif kept is not None:
-        budget.take_slot()
-        kept.append(tag_text(number, DELIMITED) + delimited(text))
+        budget.take_unknown()
+        kept.append(tag_encoding(number, DELIMITED) + delimited(text))
 
 
 def read_run(kinds, pairs, buf, depth, budget, number, kept):
@@ -366,7 +366,7 @@ def read_run(kinds, pairs, buf, depth, budget, number, kept):
 
 
 def read_item(buf, depth, budget):
-    budget.take_slot()
+    budget.take_unknown()
     type_id, message = None, bytearray()
     while (tag := buf.tag()) != (1, END):
         if tag == (2, VARINT):
@@ -442,7 +442,7 @@ def inside(record):
     buf.varint()
     if wire == DELIMITED:
         return buf.take(buf.varint())
-    return text[buf.at : len(text) - len(tag_text(number, END))]
+    return text[buf.at : len(text) - len(tag_encoding(number, END))]
 
 
 def read_record(codec, record, depth, budget):
@@ -501,17 +501,17 @@ def read_one(codec, mine):
     return message
 
 
-def record_text(codec, number, held):
+def record_encoding(codec, number, held):
     kind = plain(codec)
     if kind not in MESSAGES:
-        return tag_text(number, KINDS[kind][0]) + payload(kind, held)
+        return tag_encoding(number, KINDS[kind][0]) + payload(kind, held)
     if kind == "count" and 2 * held > MOST_BYTES:
         raise Fault("MessageTooLarge")
     text = message_text(kind, held)
     if not codec.endswith("-group"):
-        return tag_text(number, DELIMITED) + delimited(text)
+        return tag_encoding(number, DELIMITED) + delimited(text)
     try:
         records(text)
     except Fault as fault:
         raise Fault(f"GroupRefused {fault}") from None
-    return tag_text(number, START) + text + tag_text(number, END)
+    return tag_encoding(number, START) + text + tag_encoding(number, END)

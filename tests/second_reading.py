@@ -16,8 +16,8 @@ import extension_reading
 from member_reading import BY_MEMBERS
 from rules import (
     EIGHT, FOUR, KINDS, MESSAGES, MOST_BYTES, MOST_LEVELS, MOST_SLOTS, MOST_UNITS, Budget, Bytes, Fault, blank, delimited,
-    field_text, keep, merge, merge_entry, merge_field, message_text, mismatch, of_word, payload, put, read_item,
-    read_run, records, skip, tag_text, value, varint_text, word,
+    field_encoding, keep, merge, merge_entry, merge_field, message_text, mismatch, of_word, payload, put, read_item,
+    read_run, records, skip, tag_encoding, value, varint_encoding, word,
 )
 
 TOP = os.path.dirname(os.path.dirname(os.path.abspath(__file__)))
@@ -88,10 +88,10 @@ class Row:
         words = " ".join(f"{word(self.kinds[0], key)}={word(self.kinds[1], held)}" for key, held in order) or "-"
         unread = buf.unread() if answer == "ok" else 0
         if self.call == "field":
-            written = answer != "ok" or field_text(self.kinds, self.number, order) == buf.text
+            written = answer != "ok" or field_encoding(self.kinds, self.number, order) == buf.text
             return answer if written else "not written back", self.told(words)
         if self.call == "rewrite":
-            text = (field_text(self.kinds, self.number, order) + b"".join(kept)).hex() if answer == "ok" else ""
+            text = (field_encoding(self.kinds, self.number, order) + b"".join(kept)).hex() if answer == "ok" else ""
             return answer, self.told(words, f"text {text or '-'}")
         lists = [f"list {(old.strip('-') + b''.join(kept).hex()) or '-'}"] if old is not None else []
         return answer, self.told(words, *lists, unread=unread)
@@ -99,7 +99,7 @@ class Row:
     def of_written_map(self, in_order):
         pairs = self.pairs()
         order = sorted(pairs.items()) if in_order else list(pairs.items())
-        text = field_text(self.kinds, self.number if self.call != "size" else 1, order)
+        text = field_encoding(self.kinds, self.number if self.call != "size" else 1, order)
         if self.call == "size":
             return "ok", f"{len(text) + len(pairs) * (self.number - 1)} {len(pairs)} 0"
         return "ok", f"{len(text)} {len(pairs)}; text {text.hex() or '-'}"
@@ -128,7 +128,7 @@ class Row:
     def of_records(self, _in_order):
         text = bytes.fromhex(self.given or self.before)
         if self.call == "write-item":
-            text = b"\x0b\x10" + varint_text(self.number) + b"\x1a" + delimited(bytes.fromhex(self.given)) + b"\x0c"
+            text = b"\x0b\x10" + varint_encoding(self.number) + b"\x1a" + delimited(bytes.fromhex(self.given)) + b"\x0c"
             return "ok", f"{len(text)}; text {text.hex()}"
         try:
             found = records(text)
@@ -145,7 +145,7 @@ class Row:
             pairs = {}
             read_run(("int32", kind), pairs, Bytes(before), MOST_LEVELS, Budget(), self.number, None)
             order = sorted(pairs.items()) if in_order else list(pairs.items())
-            text = field_text(("int32", kind), self.number, order)
+            text = field_encoding(("int32", kind), self.number, order)
             slots = [it for _, held in order for it in [len(message_text(kind, held)), *slots_of(kind, held)]]
             written = [f"text {text.hex() or '-'}"] if self.call == "write-messages" else []
             return "ok", "; ".join([str(len(text)), *self.cache(slots), *written])
@@ -209,7 +209,7 @@ class Row:
                 expected = self.setting("expect", wire)
                 if wire != expected:
                     raise mismatch(number, expected, wire)
-                return "ok", self.told(f"{number} {wire}", f"text {tag_text(number, wire).hex()}", unread=buf.unread())
+                return "ok", self.told(f"{number} {wire}", f"text {tag_encoding(number, wire).hex()}", unread=buf.unread())
             if self.call == "payload":
                 return self.of_payload(kind, buf)
             if self.call == "copy":
@@ -263,7 +263,7 @@ class Row:
             return "ok", f"{word('open', int(self.given))} {self.given}"
         if self.call == "item-len":
             length = self.setting("length", 0)
-            return "ok", str(4 + len(varint_text(self.number)) + len(varint_text(length)) + length)
+            return "ok", str(4 + len(varint_encoding(self.number)) + len(varint_encoding(length)) + length)
         if self.call == "limits":
             return LIMITS[self.types]
         if self.call == "cache":
@@ -296,7 +296,7 @@ class Row:
     def of_context(self, step):
         try:
             if step == "slot":
-                self.budget.take_slot()
+                self.budget.take_unknown()
             elif step.startswith("units:"):
                 self.budget.take_units(int(step[6:]))
             elif self.depth == 0:
@@ -336,8 +336,8 @@ class Row:
 def spelled(kind, said):
     """The text of a value, or of a tag: `number:wire type`."""
     if kind == "tag":
-        return tag_text(*map(int, said.split(":")))
-    return varint_text(int(said)) if kind in ("varint", "length") else payload(kind, of_word(kind, said))
+        return tag_encoding(*map(int, said.split(":")))
+    return varint_encoding(int(said)) if kind in ("varint", "length") else payload(kind, of_word(kind, said))
 
 
 def with_pairs_in_order(state):

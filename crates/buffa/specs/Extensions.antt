@@ -3,5 +3,5 @@ pub use Rattle.buffa_codec.specs.Reading.{Adds, AddsSome, AddsSomeValues, AddsVa
 pub use Rattle.buffa_codec.specs.Sub.{sub, tagged, without}
 pub use Rattle.buffa_ext.specs.Changes.{change_of}
 pub use Rattle.buffa_ext.specs.Defaults.{IsDefaulted, IsRefused, ReadsNumber}
-pub use Rattle.buffa_ext.specs.Messages.{MergesOne, MergesRecords, texts_in}
+pub use Rattle.buffa_ext.specs.Messages.{MergesOne, MergesRecords, encodings_in}
 pub use Rattle.buffa_ext.specs.Steps.{HasRecord, IsCleared, IsSet, IsSetUnread, KeepsRoom, RefusedAt, after}

@@ -4,4 +4,4 @@ pub use Rattle.buffa_map.specs.Codec.{AlwaysDeclared, HoldsNothing, IsWhole, Rea
 pub use Rattle.buffa_map.specs.Lent.{room_in, room_left}
 pub use Rattle.buffa_map.specs.MessageField.{IsFieldSized, IsFieldWritten, KeepsRoom, UsesFieldRoom, field_slots}
 pub use Rattle.buffa_map.specs.Pairs.{InOrder, ListsOnce, SamePairs, mean, means, put}
-pub use Rattle.buffa_map.specs.Text.{AllHold, HasText, entry_text, field_size, field_text, record_text, saturated}
+pub use Rattle.buffa_map.specs.Encoding.{AllHold, HasEncoding, entry_encoding, field_size, field_encoding, record_encoding, saturated}

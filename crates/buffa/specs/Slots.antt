@@ -2,12 +2,12 @@
 use Rattle.std.specs.Prelude.{◌≡◌, ℕ, List, [], ◌∷◌, ◌++◌, length}
 use Rattle.buffa_bytes.specs.declared.wire_type.WireType.TheVariants.{LengthDelimited}
 use Rattle.buffa_wire.specs.Passes.{IsSmall}
-use Rattle.buffa_wire.specs.Values.{tag_text}
-use Rattle.buffa_wire.specs.Varint.{varint_text}
+use Rattle.buffa_wire.specs.Values.{tag_encoding}
+use Rattle.buffa_wire.specs.Varint.{varint_encoding}
 use Rattle.buffa_map.specs.Codec.{Writing}
 use Rattle.buffa_map.specs.MessageField.{entry_size, field_slots, key_and_length}
 use Rattle.buffa_map.specs.Scalars.{delimited_writing}
-use Rattle.buffa_map.specs.Text.{field_text}
+use Rattle.buffa_map.specs.Encoding.{field_encoding}
 
 -- no message has more than 2^31 - 1 bytes
 abbrev pub AreSmall : {K M : Type 0} → (M → List ℕ) → List (K × M) → Type 0
@@ -18,7 +18,7 @@ module _ {K M : Type 0} (key : Writing K) (text slots : M → List ℕ) where
   -- the record of number n of a pair whose message is said to have so many bytes
   abbrev pub record_by : ℕ → K × M → ℕ → List ℕ
   record_by n p inner =
-      let head = tag_text n LengthDelimited ++ varint_text (entry_size key p.0 inner) in
+      let head = tag_encoding n LengthDelimited ++ varint_encoding (entry_size key p.0 inner) in
       head ++ (key_and_length key p.0 inner ++ text p.1)
 
   -- Of the pairs in order, the next slot is said to be the length of the message, and the message's own slots
@@ -33,4 +33,4 @@ module _ {K M : Type 0} (key : Writing K) (text slots : M → List ℕ) where
   abbrev pub SlotsAreLengths : Type 0
   SlotsAreLengths =
       (n : ℕ) (l : List (K × M)) (rest : List ℕ) → AreSmall text l →
-      WrittenBySlots n l (field_slots text slots l ++ rest) (field_text key (delimited_writing text) n l) rest
+      WrittenBySlots n l (field_slots text slots l ++ rest) (field_encoding key (delimited_writing text) n l) rest

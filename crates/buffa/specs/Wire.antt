@@ -3,18 +3,18 @@ pub use Rattle.buffa_bytes.specs.Content.{HasContent, content_at}
 pub use Rattle.buffa_bytes.specs.Field.{SomeField}
 pub use Rattle.buffa_bytes.specs.Gives.{FullOnlyIf, Gives, GivesUnlessFull}
 pub use Rattle.buffa_bytes.specs.Join.{Join}
-pub use Rattle.buffa_bytes.specs.Left.{LeavesUnlessFull, past_no_payload, past_no_tag, past_no_text, past_no_varint}
+pub use Rattle.buffa_bytes.specs.Left.{LeavesUnlessFull, past_no_payload, past_no_tag, past_no_delimited, past_no_varint}
 pub use Rattle.buffa_bytes.specs.Number.{IsNumber}
 pub use Rattle.buffa_bytes.specs.Pieces.{joined}
 pub use Rattle.buffa_bytes.specs.Reading.{check_wire, delimited_at, skip_at, tag_at, taken, varint_at}
-pub use Rattle.buffa_bytes.specs.Scalars.{bool_at, bool_text, fixed32_at, fixed32_text, fixed64_at, fixed64_text, int32_at, int32_text, int64_at, int64_text, sfixed32_at, sfixed32_text, sfixed64_at, sfixed64_text, sint32_at, sint32_text, sint64_at, sint64_text, uint32_at, uint32_text, uint64_at, uint64_text, unzigzag, zigzag}
+pub use Rattle.buffa_bytes.specs.Scalars.{bool_at, bool_encoding, fixed32_at, fixed32_encoding, fixed64_at, fixed64_encoding, int32_at, int32_encoding, int64_at, int64_encoding, sfixed32_at, sfixed32_encoding, sfixed64_at, sfixed64_encoding, sint32_at, sint32_encoding, sint64_at, sint64_encoding, uint32_at, uint32_encoding, uint64_at, uint64_encoding, unzigzag, zigzag}
 pub use Rattle.buffa_bytes.specs.Texts.{bytes_as, string_as, text_as}
 pub use Rattle.buffa_bytes.specs.Unread.{IsFrontOf, IsTailOf, MayBeCut}
-pub use Rattle.buffa_bytes.specs.Values.{delimited_text, string_at, tag_text}
-pub use Rattle.buffa_bytes.specs.Varint.{varint_text}
+pub use Rattle.buffa_bytes.specs.Values.{delimited_encoding, string_at, tag_encoding}
+pub use Rattle.buffa_bytes.specs.Varint.{varint_encoding}
 pub use Rattle.buffa_bytes.specs.WireType.{wire_kind, wire_number}
 pub use Rattle.buffa_bytes.specs.Written.{UsesRoom, Writes}
-pub use Rattle.buffa_wire.specs.BudgetLeft.{BudgetLeft, PaysAtMost, SlotTaken, SlotsSpent, budget_left, nothing, plus}
+pub use Rattle.buffa_wire.specs.BudgetLeft.{BudgetLeft, PaysAtMost, UnknownTaken, UnknownsSpent, budget_left, nothing, plus}
 pub use Rattle.buffa_wire.specs.Cache.{advanced, appended}
 pub use Rattle.buffa_wire.specs.Enums.{DeclaresBlank, numbers, open_number}
 pub use Rattle.buffa_wire.specs.Message.{BeginsField, IsMergedAlone, MergesBytes, MergesField, MergesInside, PayloadFault, TakesField, cost_of_payload}
@@ -22,6 +22,6 @@ pub use Rattle.buffa_wire.specs.Parse.{Fits}
 pub use Rattle.buffa_wire.specs.Passes.{IsNext, IsSized, IsWritten}
 pub use Rattle.buffa_wire.specs.RecordReading.{ListTakesMemory, TakesMemory, field_in, list_at}
 pub use Rattle.buffa_wire.specs.Records.{Datum, IsEmpty, IsNumeric, bytes, records_of}
-pub use Rattle.buffa_wire.specs.Text.{records_text, wire_of}
+pub use Rattle.buffa_wire.specs.Encoding.{records_encoding, wire_of}
 pub use Rattle.buffa_wire.specs.Unread.{bytes_read}
 pub use Rattle.buffa_wire.specs.View.{AnswersRecords, CalledAtRecord, datum_of, record_of, records_in}

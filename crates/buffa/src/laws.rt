@@ -9,7 +9,7 @@ ghost use Rattle.buffa_ext.specs.Steps.{ClearsAreOne, IsExactlySet, KeepsTheRest
 ghost use Rattle.buffa_ext.specs.Steps.{StandsLast, TakesOut, TakesThePlace};
 ghost use Rattle.buffa_map.specs.Laws.{RewriteMeans, RunsJoin, SizeIsLength};
 ghost use Rattle.buffa_map.specs.Scalars.{delimited_writing};
-ghost use Rattle.buffa_message_set.specs.Item.{NoOtherFront, WrittenIsItem, body_text, item_text};
+ghost use Rattle.buffa_message_set.specs.Item.{NoOtherFront, WrittenIsItem, body_encoding, item_encoding};
 ghost use Rattle.buffa.specs.Keys.{KeepsStoredKeys};
 ghost use Rattle.buffa.specs.Slots.{SlotsAreLengths};
 
@@ -159,7 +159,7 @@ pub fn law_10<K: MapKey + Ord + Hash, V: Blank, S: BuildHasher, C: MapStorage>()
 /// The Item is what follows the start tag, which is one byte. Whatever follows the Item, no other front of the
 /// bytes is an Item. The number is 1 to 2,147,483,647.
 pub fn law_11()
-    ensures start { (id : ℕ) (msg : List ℕ) → item_text id msg ≡ ITEM_START_TAG ∷ body_text id msg }
+    ensures start { (id : ℕ) (msg : List ℕ) → item_encoding id msg ≡ ITEM_START_TAG ∷ body_encoding id msg }
     ensures item { WrittenIsItem }
     ensures only { NoOtherFront }
 {

@@ -61,7 +61,7 @@ pub fn extension_codecs_are_these<M: Message, P: PackableCodec>()
         ≡ option_map int32_of (varint_in d) }
     ensures lists { (vs : List P.Value.Meaning) → ⟦<codecs::Repeated<P> as ExtensionCodec>⟧.recs vs ≡ map P.text vs }
     ensures packed { (vs : List P.Value.Meaning) → ⟦<codecs::PackedRepeated<P> as ExtensionCodec>⟧.recs vs
-        ≡ packed_record P.packed_text vs }
+        ≡ packed_record P.packed_encoding vs }
     ensures message { (v : M.Meaning) → ⟦<codecs::MessageCodec<M> as ExtensionCodec>⟧.recs v ≡ held_bytes (M.text v) ∷ [] }
     ensures group { (v : M.Meaning) → ⟦<codecs::GroupCodec<M> as ExtensionCodec>⟧.recs v ≡ group_of (M.text v) ∷ [] }
 {}

@@ -6,12 +6,12 @@ use Rattle.std.proofs.lemmas.List.{take-append-drop}
 use Rattle.std.proofs.Math.Seq.{drop-append_seam, take-append_seam}
 use Rattle.buffa_bytes.specs.declared.error.DecodeError.{DecodeError}
 use Rattle.buffa_bytes.specs.declared.error.DecodeError.TheVariants.{UnexpectedEof}
-use Rattle.buffa_bytes.specs.Varint.{varint_text, IsVarint}
+use Rattle.buffa_bytes.specs.Varint.{varint_encoding, IsVarint}
 use Rattle.buffa_bytes.specs.Field.{LengthFault, TakesDelimited}
 use Rattle.buffa_bytes.specs.Reading.{taken, delimited_at}
-use Rattle.buffa_bytes.specs.Values.{delimited_text, string_at}
+use Rattle.buffa_bytes.specs.Values.{delimited_encoding, string_at}
 use Rattle.buffa_bytes.proofs.StepLemmas.{Agrees, agree_bind, agree_if, agree_weaker}
-use Rattle.buffa_bytes.proofs.VarintLemmas.{varint_sound, varint_complete, varint_faulty, IsVarint-varint_text}
+use Rattle.buffa_bytes.proofs.VarintLemmas.{varint_sound, varint_complete, varint_faulty, IsVarint-varint_encoding}
 
 pub taken_sound : (n : ℕ) (bs : List ℕ) → Agrees (taken n bs) (λ p. (length p.0 ≡ n) × (bs ≡ p.0 ++ p.1)) (λ e. (length bs < n) × (e ≡ UnexpectedEof))
 unfolding taken
@@ -45,8 +45,8 @@ pub delimited_faulty : (bs : List ℕ) (e : DecodeError) → LengthFault bs e �
 delimited_faulty bs e (inl h) = rw (varint_faulty bs e h) refl
 delimited_faulty bs e (inr (n, rest, (t, v, is), l, k)) = rw (is, varint_complete t n rest v) (taken_faulty n rest l ∙ ap (λ x. Err x) (sym k))
 
-pub delimited_back : (p rest : List ℕ) → length p < 2 ^ 64 → delimited_at (delimited_text p ++ rest) ≡ Ok (p, rest)
-delimited_back p rest h = ap delimited_at (append_assoc (varint_text (length p)) p rest) ∙ delimited_complete (varint_text (length p)) p rest (IsVarint-varint_text (length p) h)
+pub delimited_back : (p rest : List ℕ) → length p < 2 ^ 64 → delimited_at (delimited_encoding p ++ rest) ≡ Ok (p, rest)
+delimited_back p rest h = ap delimited_at (append_assoc (varint_encoding (length p)) p rest) ∙ delimited_complete (varint_encoding (length p)) p rest (IsVarint-varint_encoding (length p) h)
 
-pub string_back : (text rest : List ℕ) → is_utf8 text ≡ true → length text < 2 ^ 64 → string_at (delimited_text text ++ rest) ≡ Ok (text, rest)
+pub string_back : (text rest : List ℕ) → is_utf8 text ≡ true → length text < 2 ^ 64 → string_at (delimited_encoding text ++ rest) ≡ Ok (text, rest)
 string_back text rest u h = rw (delimited_back text rest h, u) refl

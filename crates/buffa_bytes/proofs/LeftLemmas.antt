@@ -9,7 +9,7 @@ use Rattle.buffa_bytes.specs.declared.wire_type.WireType.TheVariants.{Varint, Fi
 use Rattle.buffa_bytes.specs.declared.error.DecodeError.{DecodeError}
 use Rattle.buffa_bytes.specs.declared.error.DecodeError.TheVariants.{OutOfMemory}
 use Rattle.buffa_bytes.specs.Gives.{Gives, GivesUnlessFull}
-use Rattle.buffa_bytes.specs.Left.{LeavesUnlessFull, past_no_varint, past_no_payload, past_no_tag, past_no_text}
+use Rattle.buffa_bytes.specs.Left.{LeavesUnlessFull, past_no_varint, past_no_payload, past_no_tag, past_no_delimited}
 use Rattle.buffa_bytes.specs.Reading.{varint_at, past, taken, delimited_at}
 use Rattle.buffa_bytes.specs.Unread.{IsFrontOf, IsTailOf}
 use Rattle.buffa_bytes.specs.Varint.{TakesVarint, VarintFault}
@@ -52,14 +52,14 @@ abbrev refused : DecodeError → Result (List ℕ) DecodeError
 refused e = Err e
 
 -- the length stands there, and passes the end
-text_cut : (n : ℕ) (bs mid : List ℕ) → varint_at bs ≡ Ok (n, mid) → length mid < n → past_no_text bs ≡ mid
-unfolding past_no_text
-text_cut n bs mid v h = rw (past_no_text, v, lt-ltb (length mid) n h) refl
+text_cut : (n : ℕ) (bs mid : List ℕ) → varint_at bs ≡ Ok (n, mid) → length mid < n → past_no_delimited bs ≡ mid
+unfolding past_no_delimited
+text_cut n bs mid v h = rw (past_no_delimited, v, lt-ltb (length mid) n h) refl
 
 -- the bytes stand there
-text_whole : (n : ℕ) (bs mid : List ℕ) → varint_at bs ≡ Ok (n, mid) → n ≤ length mid → past_no_text bs ≡ drop n mid
-unfolding past_no_text
-text_whole n bs mid v h = rw (past_no_text, v, le-ltb (length mid) n h) refl
+text_whole : (n : ℕ) (bs mid : List ℕ) → varint_at bs ≡ Ok (n, mid) → n ≤ length mid → past_no_delimited bs ≡ drop n mid
+unfolding past_no_delimited
+text_whole n bs mid v h = rw (past_no_delimited, v, le-ltb (length mid) n h) refl
 
 taken_whole : (n : ℕ) (mid p new : List ℕ) → taken n mid ≡ Ok (p, new) → (n ≤ length mid) × (new ≡ drop n mid)
 taken_whole n mid p new e =
@@ -72,10 +72,10 @@ bytes_of (Ok p) = p.0
 bytes_of (Err e) = []
 
 -- a fault of the length, as `?` hands it on
-pub left_no_length : {X : Type 0} {r : Result X DecodeError} {e d : DecodeError} → r ≡ Err e → e ≡ d → (bs new : List ℕ) → varint_at bs ≡ Err d → new ≡ past_no_varint bs → LeavesUnlessFull r (past_no_text bs) new
-unfolding past_no_text
+pub left_no_length : {X : Type 0} {r : Result X DecodeError} {e d : DecodeError} → r ≡ Err e → e ≡ d → (bs new : List ℕ) → varint_at bs ≡ Err d → new ≡ past_no_varint bs → LeavesUnlessFull r (past_no_delimited bs) new
+unfolding past_no_delimited
 left_no_length is same bs new v left =
-    let past : past_no_text bs ≡ past_no_varint bs = rw (past_no_text, v) refl in
+    let past : past_no_delimited bs ≡ past_no_varint bs = rw (past_no_delimited, v) refl in
     rw is (λ _. left ∙ sym past, subst (λ z. IsTailOf z new) (left ∙ sym past) (tail_whole new))
 
 -- where the whole text was read, nothing else was
@@ -84,19 +84,19 @@ left_read (Ok x) past new e = tt
 left_read (Err d) past new e = (λ _. e, subst (λ z. IsTailOf z new) e (tail_whole new))
 
 -- the text was there, and was passed over
-pub left_passed : {X : Type 0} (r : Result X DecodeError) (n : ℕ) (bs mid part new : List ℕ) → varint_at bs ≡ Ok (n, mid) → IsFrontOf part n mid → new ≡ drop n mid → LeavesUnlessFull r (past_no_text bs) new
-left_passed r n bs mid part new v f e = left_read r (past_no_text bs) new (e ∙ sym (text_whole n bs mid v f.fits))
+pub left_passed : {X : Type 0} (r : Result X DecodeError) (n : ℕ) (bs mid part new : List ℕ) → varint_at bs ≡ Ok (n, mid) → IsFrontOf part n mid → new ≡ drop n mid → LeavesUnlessFull r (past_no_delimited bs) new
+left_passed r n bs mid part new v f e = left_read r (past_no_delimited bs) new (e ∙ sym (text_whole n bs mid v f.fits))
 
 -- the text was taken
-pub left_taken : {X : Type 0} (r : Result X DecodeError) (n : ℕ) (bs mid p new : List ℕ) → varint_at bs ≡ Ok (n, mid) → taken n mid ≡ Ok (p, new) → LeavesUnlessFull r (past_no_text bs) new
-left_taken r n bs mid p new v e = let h = taken_whole n mid p new e in left_read r (past_no_text bs) new (h.1 ∙ sym (text_whole n bs mid v h.0))
+pub left_taken : {X : Type 0} (r : Result X DecodeError) (n : ℕ) (bs mid p new : List ℕ) → varint_at bs ≡ Ok (n, mid) → taken n mid ≡ Ok (p, new) → LeavesUnlessFull r (past_no_delimited bs) new
+left_taken r n bs mid p new v e = let h = taken_whole n mid p new e in left_read r (past_no_delimited bs) new (h.1 ∙ sym (text_whole n bs mid v h.0))
 
 -- the text was not taken
 left_err : (d : DecodeError) (n : ℕ) (bs mid new : List ℕ) → varint_at bs ≡ Ok (n, mid) → (d ≢ OutOfMemory → taken n mid ≡ Err d) → (length mid < n → new ≡ mid) → IsTailOf (drop n mid) new →
-    (d ≢ OutOfMemory → new ≡ past_no_text bs) × IsTailOf (past_no_text bs) new
+    (d ≢ OutOfMemory → new ≡ past_no_delimited bs) × IsTailOf (past_no_delimited bs) new
 unfolding taken
 left_err d n bs mid new v t short within = elim (cases_lt (length mid) n) [
-  | inl cut ↦ (let e : new ≡ past_no_text bs = short cut ∙ sym (text_cut n bs mid v cut) in (λ _. e, subst (λ z. IsTailOf z new) e (tail_whole new)))
+  | inl cut ↦ (let e : new ≡ past_no_delimited bs = short cut ∙ sym (text_cut n bs mid v cut) in (λ _. e, subst (λ z. IsTailOf z new) e (tail_whole new)))
   | inr whole ↦ (
     λ no. absurd (let k : good (take n mid, drop n mid) ≡ bad d = sym (rw (le-ltb (length mid) n whole) refl) ∙ t no in cc),
     subst (λ z. IsTailOf z new) (sym (text_whole n bs mid v whole)) within,
@@ -105,17 +105,17 @@ left_err d n bs mid new v t short within = elim (cases_lt (length mid) n) [
 
 -- as `?` hands it on
 pub left_refused : {X : Type 0} {r : Result X DecodeError} {e d : DecodeError} → r ≡ Err e → e ≡ d → (n : ℕ) (bs mid new : List ℕ) → varint_at bs ≡ Ok (n, mid) → (d ≢ OutOfMemory → taken n mid ≡ Err d) →
-    (length mid < n → new ≡ mid) → IsTailOf (drop n mid) new → LeavesUnlessFull r (past_no_text bs) new
+    (length mid < n → new ≡ mid) → IsTailOf (drop n mid) new → LeavesUnlessFull r (past_no_delimited bs) new
 left_refused is same n bs mid new v t short within = rw (is, same) (left_err _ n bs mid new v t short within)
 
 -- as it is handed on
 pub left_copied : {X : Type 0} (view : X → List ℕ × List ℕ) (r : Result X DecodeError) (n : ℕ) (bs mid new : List ℕ) → varint_at bs ≡ Ok (n, mid) → GivesUnlessFull view r (taken n mid) →
-    (length mid < n → new ≡ mid) → IsTailOf (drop n mid) new → LeavesUnlessFull r (past_no_text bs) new
+    (length mid < n → new ≡ mid) → IsTailOf (drop n mid) new → LeavesUnlessFull r (past_no_delimited bs) new
 left_copied view (Ok x) n bs mid new v t short within = tt
 left_copied view (Err d) n bs mid new v t short within = left_err d n bs mid new v t short within
 
 -- the text was read, and its copy wasn't made
-pub left_behind : {X : Type 0} (r : Result X DecodeError) (bs p new : List ℕ) → delimited_at bs ≡ Ok (p, new) → LeavesUnlessFull r (past_no_text bs) new
+pub left_behind : {X : Type 0} (r : Result X DecodeError) (bs p new : List ℕ) → delimited_at bs ≡ Ok (p, new) → LeavesUnlessFull r (past_no_delimited bs) new
 left_behind r bs p new e =
     let t = agree_ok (delimited_at bs) (p, new) (delimited_sound bs) e in
     let v : varint_at bs ≡ Ok (length p, p ++ new) = ap varint_at t.2 ∙ varint_complete t.0 (length p) (p ++ new) t.1 in
@@ -133,7 +133,7 @@ left_bytes (Err d) n bs new h short = elim (cases_lt (length bs) n) [
 ]
 
 -- so many bytes, behind their length
-pub left_behind_length : (r : Result (Unit {0}) DecodeError) (n : ℕ) (bs mid new : List ℕ) → varint_at bs ≡ Ok (n, mid) → Gives (λ _. new) r (past n mid) → (length mid < n → new ≡ mid) → OnErr r (new ≡ past_no_text bs)
+pub left_behind_length : (r : Result (Unit {0}) DecodeError) (n : ℕ) (bs mid new : List ℕ) → varint_at bs ≡ Ok (n, mid) → Gives (λ _. new) r (past n mid) → (length mid < n → new ≡ mid) → OnErr r (new ≡ past_no_delimited bs)
 unfolding past
 left_behind_length (Ok x) n bs mid new v h short = tt
 left_behind_length (Err d) n bs mid new v h short = elim (cases_lt (length mid) n) [
@@ -147,10 +147,10 @@ unfolding past_no_payload
 left_of_varint is w bs new k h = rw (is, k) h
 
 pub left_of_length : {r : Result (Unit {0}) DecodeError} {e d : DecodeError} → r ≡ Err e → (w : WireType) (bs new : List ℕ) → w ≡ LengthDelimited → varint_at bs ≡ Err d → new ≡ past_no_varint bs → OnErr r (new ≡ past_no_payload w bs)
-unfolding past_no_payload past_no_text
-left_of_length is w bs new k v h = rw (is, k) (h ∙ sym (rw (past_no_text, v) refl))
+unfolding past_no_payload past_no_delimited
+left_of_length is w bs new k v h = rw (is, k) (h ∙ sym (rw (past_no_delimited, v) refl))
 
-pub left_of_text : (r : Result (Unit {0}) DecodeError) (w : WireType) (bs new : List ℕ) → w ≡ LengthDelimited → OnErr r (new ≡ past_no_text bs) → OnErr r (new ≡ past_no_payload w bs)
+pub left_of_text : (r : Result (Unit {0}) DecodeError) (w : WireType) (bs new : List ℕ) → w ≡ LengthDelimited → OnErr r (new ≡ past_no_delimited bs) → OnErr r (new ≡ past_no_payload w bs)
 unfolding past_no_payload
 left_of_text r w bs new k h = rw k h
 
@@ -177,20 +177,20 @@ no_varint bs = refl
 varint_taken : (bs : List ℕ) (n : ℕ) (rest : List ℕ) → TakesVarint bs n rest → varint_at bs ≡ Ok (n, rest)
 varint_taken bs n rest h = ap varint_at h.2 ∙ varint_complete h.0 n rest h.1
 
-pub no_number : (bs : List ℕ) (e : DecodeError) → VarintFault bs e → (past_no_tag bs ≡ drop 10 bs) × (past_no_text bs ≡ drop 10 bs)
-unfolding past_no_tag past_no_text past_no_varint
-no_number bs e h = (rw (past_no_tag, varint_faulty bs e h) refl, rw (past_no_text, varint_faulty bs e h) refl)
+pub no_number : (bs : List ℕ) (e : DecodeError) → VarintFault bs e → (past_no_tag bs ≡ drop 10 bs) × (past_no_delimited bs ≡ drop 10 bs)
+unfolding past_no_tag past_no_delimited past_no_varint
+no_number bs e h = (rw (past_no_tag, varint_faulty bs e h) refl, rw (past_no_delimited, varint_faulty bs e h) refl)
 
 pub no_tag : (bs : List ℕ) (n : ℕ) (rest : List ℕ) → TakesVarint bs n rest → past_no_tag bs ≡ rest
 unfolding past_no_tag
 no_tag bs n rest h = rw (past_no_tag, varint_taken bs n rest h) refl
 
-pub no_text_cut : (bs : List ℕ) (n : ℕ) (rest : List ℕ) → TakesVarint bs n rest → length rest < n → past_no_text bs ≡ rest
+pub no_text_cut : (bs : List ℕ) (n : ℕ) (rest : List ℕ) → TakesVarint bs n rest → length rest < n → past_no_delimited bs ≡ rest
 no_text_cut bs n rest h few = text_cut n bs rest (varint_taken bs n rest h) few
 
-pub no_text_whole : (bs : List ℕ) (n : ℕ) (rest : List ℕ) → TakesVarint bs n rest → n ≤ length rest → past_no_text bs ≡ drop n rest
+pub no_text_whole : (bs : List ℕ) (n : ℕ) (rest : List ℕ) → TakesVarint bs n rest → n ≤ length rest → past_no_delimited bs ≡ drop n rest
 no_text_whole bs n rest h some = text_whole n bs rest (varint_taken bs n rest h) some
 
-pub no_payload : (bs : List ℕ) → (past_no_payload Varint bs ≡ drop 10 bs) × (past_no_payload LengthDelimited bs ≡ past_no_text bs)
+pub no_payload : (bs : List ℕ) → (past_no_payload Varint bs ≡ drop 10 bs) × (past_no_payload LengthDelimited bs ≡ past_no_delimited bs)
 unfolding past_no_payload past_no_varint
 no_payload bs = (refl, refl)

@@ -5,9 +5,9 @@ use Rattle.std.specs.Int.{cast_unsigned, from_bool, to_le_bytes, w32, w64}
 use Rattle.std.proofs.lemmas.Int.{to_z-of_z}
 use Rattle.std.proofs.lemmas.Nat.{from_le_bytes-to_le_bytes_4, from_le_bytes-to_le_bytes_8}
 use Rattle.std.proofs.lemmas.Bool.{cases_lt}
-use Rattle.buffa_bytes.specs.Varint.{varint_text, shortest}
-use Rattle.buffa_bytes.specs.Scalars.{zigzag, unzigzag, varint_as, four_as, eight_as, int64_of, uint32_of, sint32_of, sint64_of, bool_of, bool_text, sfixed32_of, sfixed64_of}
-use Rattle.buffa_bytes.proofs.VarintLemmas.{varint_complete, IsVarint-varint_text}
+use Rattle.buffa_bytes.specs.Varint.{varint_encoding, shortest}
+use Rattle.buffa_bytes.specs.Scalars.{zigzag, unzigzag, varint_as, four_as, eight_as, int64_of, uint32_of, sint32_of, sint64_of, bool_of, bool_encoding, sfixed32_of, sfixed64_of}
+use Rattle.buffa_bytes.proofs.VarintLemmas.{varint_complete, IsVarint-varint_encoding}
 use Rattle.buffa_bytes.proofs.DelimitedLemmas.{taken_complete}
 
 -- ---- zigzag
@@ -81,8 +81,8 @@ sfixed64_means v h = to_z-of_z w64 v h
 -- ---- reading back
 
 -- a varint that means v
-pub varint_back : {A : Type 0} (of : ℕ → A) (n : ℕ) (v : A) (rest : List ℕ) → n < 2 ^ 64 → of n ≡ v → varint_as of (varint_text n ++ rest) ≡ Ok (v, rest)
-varint_back of n v rest h e = rw (varint_complete (varint_text n) n rest (IsVarint-varint_text n h), e) refl
+pub varint_back : {A : Type 0} (of : ℕ → A) (n : ℕ) (v : A) (rest : List ℕ) → n < 2 ^ 64 → of n ≡ v → varint_as of (varint_encoding n ++ rest) ≡ Ok (v, rest)
+varint_back of n v rest h e = rw (varint_complete (varint_encoding n) n rest (IsVarint-varint_encoding n h), e) refl
 
 -- four bytes that mean v
 pub four_back : {A : Type 0} (of : ℕ → A) (n : ℕ) (v : A) (rest : List ℕ) → n < 2 ^ 32 → of n ≡ v → four_as of (to_le_bytes w32 n ++ rest) ≡ Ok (v, rest)
@@ -92,7 +92,7 @@ four_back of n v rest h e = rw (taken_complete 4 (to_le_bytes w32 n) rest refl, 
 pub eight_back : {A : Type 0} (of : ℕ → A) (n : ℕ) (v : A) (rest : List ℕ) → n < 2 ^ 64 → of n ≡ v → eight_as of (to_le_bytes w64 n ++ rest) ≡ Ok (v, rest)
 eight_back of n v rest h e = rw (taken_complete 8 (to_le_bytes w64 n) rest refl, from_le_bytes-to_le_bytes_8 n h, e) refl
 
-pub bool_length : (b : Bool) → length (bool_text b) ≡ 1
-unfolding varint_text shortest
+pub bool_length : (b : Bool) → length (bool_encoding b) ≡ 1
+unfolding varint_encoding shortest
 bool_length true = refl
 bool_length false = refl

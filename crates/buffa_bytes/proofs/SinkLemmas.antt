@@ -1,6 +1,6 @@
 -- One text after another.
-use Rattle.buffa_bytes.specs.Varint.{varint_text}
-use Rattle.buffa_bytes.proofs.ShortestLemmas.{varint_text-more, varint_text-last, varint_text-some}
+use Rattle.buffa_bytes.specs.Varint.{varint_encoding}
+use Rattle.buffa_bytes.proofs.ShortestLemmas.{varint_encoding-more, varint_encoding-last, varint_encoding-some}
 use Rattle.std.proofs.Common.{[], ◌∷◌, ◌+◌, ◌/◌, ◌%◌, ◌<◌, ◌≤◌, length, arith, ◌≡◌, ℕ, List, ◌++◌, refl, sym, subst, ◌∙◌, ap, append_assoc, append-nil, length-append}
 use Rattle.std.specs.Prelude.{Result, Err}
 use Rattle.std.proofs.lemmas.Result.{MatchResult-weaker}
@@ -47,31 +47,31 @@ pub sent_none : (old : List ℕ) (room : ℕ) (all : List ℕ) → Sent old old 
 sent_none old room all = record { done = []; is = sym (append-nil old); whole = refl; fits = omega arith }
 
 -- a digit more
-pub sent_digit : (old mid new : List ℕ) (room left less : ℕ) (all : List ℕ) (n : ℕ) → 128 ≤ n → Sent old mid room left all (varint_text n) → new ≡ mid ++ ((n % 128 + 128) ∷ []) → left ≤ less + 1 → Sent old new room less all (varint_text (n / 128))
+pub sent_digit : (old mid new : List ℕ) (room left less : ℕ) (all : List ℕ) (n : ℕ) → 128 ≤ n → Sent old mid room left all (varint_encoding n) → new ≡ mid ++ ((n % 128 + 128) ∷ []) → left ≤ less + 1 → Sent old new room less all (varint_encoding (n / 128))
 sent_digit old mid new room left less all n large s e h = record {
   done = s.done ++ (n % 128 + 128) ∷ [];
   is = e ∙ ap (λ t. t ++ (n % 128 + 128) ∷ []) s.is ∙ append_assoc old s.done ((n % 128 + 128) ∷ []);
-  whole = append_assoc s.done ((n % 128 + 128) ∷ []) (varint_text (n / 128)) ∙ ap (λ t. s.done ++ t) (sym (varint_text-more n large)) ∙ s.whole;
+  whole = append_assoc s.done ((n % 128 + 128) ∷ []) (varint_encoding (n / 128)) ∙ ap (λ t. s.done ++ t) (sym (varint_encoding-more n large)) ∙ s.whole;
   fits = omega (arith, s.fits, h, length-append s.done ((n % 128 + 128) ∷ []));
 }
 
 -- the last digit
-pub sent_last : {T : Type 0} (r : Result T EncodeError) (old mid new : List ℕ) (room left : ℕ) (all : List ℕ) (n : ℕ) → n < 128 → Sent old mid room left all (varint_text n) → Writes r mid (n ∷ []) new → Writes r old all new
+pub sent_last : {T : Type 0} (r : Result T EncodeError) (old mid new : List ℕ) (room left : ℕ) (all : List ℕ) (n : ℕ) → n < 128 → Sent old mid room left all (varint_encoding n) → Writes r mid (n ∷ []) new → Writes r old all new
 sent_last r old mid new room left all n small s w =
-    subst (λ t. Writes r old t new) (ap (λ t. s.done ++ t) (sym (varint_text-last n small)) ∙ s.whole) (writes_then r old s.done (n ∷ []) mid new s.is w)
+    subst (λ t. Writes r old t new) (ap (λ t. s.done ++ t) (sym (varint_encoding-last n small)) ∙ s.whole) (writes_then r old s.done (n ∷ []) mid new s.is w)
 
-pub sent_room : {T : Type 0} (r : Result T EncodeError) (old mid : List ℕ) (room left less : ℕ) (all : List ℕ) (n : ℕ) → n < 128 → Sent old mid room left all (varint_text n) → UsesRoom r left (n ∷ []) less → UsesRoom r room all less
+pub sent_room : {T : Type 0} (r : Result T EncodeError) (old mid : List ℕ) (room left less : ℕ) (all : List ℕ) (n : ℕ) → n < 128 → Sent old mid room left all (varint_encoding n) → UsesRoom r left (n ∷ []) less → UsesRoom r room all less
 sent_room r old mid room left less all n small s w =
-    subst (λ t. UsesRoom r room t less) (ap (λ t. s.done ++ t) (sym (varint_text-last n small)) ∙ s.whole) (room_then r room left less s.done (n ∷ []) s.fits w)
+    subst (λ t. UsesRoom r room t less) (ap (λ t. s.done ++ t) (sym (varint_encoding-last n small)) ∙ s.whole) (room_then r room left less s.done (n ∷ []) s.fits w)
 
 -- a refusal of a digit, as `?` hands it on
-pub sent_refused : {T : Type 0} {r : Result T EncodeError} {e d : EncodeError} → r ≡ Err e → e ≡ d → (old mid new : List ℕ) (room left : ℕ) (all : List ℕ) (n : ℕ) → 128 ≤ n → Sent old mid room left all (varint_text n) →
+pub sent_refused : {T : Type 0} {r : Result T EncodeError} {e d : EncodeError} → r ≡ Err e → e ≡ d → (old mid new : List ℕ) (room left : ℕ) (all : List ℕ) (n : ℕ) → 128 ≤ n → Sent old mid room left all (varint_encoding n) →
     (d ≡ OutOfMemory) × WritesFront mid ((n % 128 + 128) ∷ []) new → Writes r old all new
 sent_refused {r = r} is same old mid new room left all n large s w =
     let b : List ℕ = (n % 128 + 128) ∷ [] in
-    let whole : (s.done ++ b) ++ varint_text (n / 128) ≡ all = append_assoc s.done b (varint_text (n / 128)) ∙ ap (λ t. s.done ++ t) (sym (varint_text-more n large)) ∙ s.whole in
-    subst (λ t. Writes r old t new) whole (exits_first is same old (s.done ++ b) (varint_text (n / 128)) new (w.0, front_second old s.done b mid new s.is w.1))
+    let whole : (s.done ++ b) ++ varint_encoding (n / 128) ≡ all = append_assoc s.done b (varint_encoding (n / 128)) ∙ ap (λ t. s.done ++ t) (sym (varint_encoding-more n large)) ∙ s.whole in
+    subst (λ t. Writes r old t new) whole (exits_first is same old (s.done ++ b) (varint_encoding (n / 128)) new (w.0, front_second old s.done b mid new s.is w.1))
 
-pub sent_full : {T : Type 0} {r : Result T EncodeError} {e : EncodeError} → r ≡ Err e → (old mid : List ℕ) (room left less : ℕ) (all : List ℕ) (n : ℕ) → 128 ≤ n → Sent old mid room left all (varint_text n) → left < 1 → UsesRoom r room all less
+pub sent_full : {T : Type 0} {r : Result T EncodeError} {e : EncodeError} → r ≡ Err e → (old mid : List ℕ) (room left less : ℕ) (all : List ℕ) (n : ℕ) → 128 ≤ n → Sent old mid room left all (varint_encoding n) → left < 1 → UsesRoom r room all less
 sent_full is old mid room left less all n large s h =
-    rw is (omega (arith, s.fits, h, ap length s.whole, length-append s.done (varint_text n), varint_text-some n))
+    rw is (omega (arith, s.fits, h, ap length s.whole, length-append s.done (varint_encoding n), varint_encoding-some n))

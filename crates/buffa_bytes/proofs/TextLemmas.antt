@@ -8,18 +8,18 @@ use Rattle.buffa_bytes.specs.declared.error.DecodeError.TheVariants.{OutOfMemory
 use Rattle.buffa_bytes.specs.Gives.{FullOnlyIf, GivesUnlessFull}
 use Rattle.buffa_bytes.specs.Reading.{varint_at, taken, delimited_at}
 use Rattle.buffa_bytes.specs.Unread.{IsFrontOf}
-use Rattle.buffa_bytes.specs.Values.{delimited_text}
+use Rattle.buffa_bytes.specs.Values.{delimited_encoding}
 use Rattle.buffa_bytes.specs.Texts.{text_as, string_as, bytes_as}
 use Rattle.buffa_bytes.proofs.DelimitedLemmas.{delimited_back, taken_sound}
 use Rattle.buffa_bytes.proofs.FullLemmas.{varint_no_full}
 use Rattle.buffa_bytes.proofs.StepLemmas.{agree_ok}
 
 -- a text that means v by of
-pub own_string_back : {A : Type 0} (of : List ℕ → A) (text : List ℕ) (v : A) (rest : List ℕ) → length text < 2 ^ 64 → is_utf8 text ≡ true → of text ≡ v → string_as of (delimited_text text ++ rest) ≡ Ok (v, rest)
+pub own_string_back : {A : Type 0} (of : List ℕ → A) (text : List ℕ) (v : A) (rest : List ℕ) → length text < 2 ^ 64 → is_utf8 text ≡ true → of text ≡ v → string_as of (delimited_encoding text ++ rest) ≡ Ok (v, rest)
 own_string_back of text v rest h good e = rw (delimited_back text rest h, good, e) refl
 
 -- bytes that mean v by of
-pub own_bytes_back : {A : Type 0} (of : List ℕ → A) (bytes : List ℕ) (v : A) (rest : List ℕ) → length bytes < 2 ^ 64 → of bytes ≡ v → bytes_as of (delimited_text bytes ++ rest) ≡ Ok (v, rest)
+pub own_bytes_back : {A : Type 0} (of : List ℕ → A) (bytes : List ℕ) (v : A) (rest : List ℕ) → length bytes < 2 ^ 64 → of bytes ≡ v → bytes_as of (delimited_encoding bytes ++ rest) ≡ Ok (v, rest)
 own_bytes_back of bytes v rest h e = rw (delimited_back bytes rest h, e) refl
 
 -- the front of the bytes is what is taken of them

@@ -6,11 +6,11 @@ use Rattle.std.proofs.lemmas.List.Elements.{All-head, All-tail, All-cons, All-ni
 use Rattle.std.proofs.Math.Nat.{pow-suc}
 use Rattle.buffa_bytes.specs.declared.error.DecodeError.{DecodeError}
 use Rattle.buffa_bytes.specs.declared.error.DecodeError.TheVariants.{UnexpectedEof, VarintTooLong}
-use Rattle.buffa_bytes.specs.Varint.{IsByte, base128, Continue, IsVarint, TakesVarint, VarintFault, shortest, varint_text}
+use Rattle.buffa_bytes.specs.Varint.{IsByte, base128, Continue, IsVarint, TakesVarint, VarintFault, shortest, varint_encoding}
 use Rattle.buffa_bytes.specs.Reading.{varint_within, varint_at}
 use Rattle.buffa_bytes.proofs.StepLemmas.{Agrees, agree_bind, agree_if, agree_weaker}
 use Rattle.buffa_bytes.proofs.DigitLemmas.{base128-lt, some_scale}
-use Rattle.buffa_bytes.proofs.ShortestLemmas.{one_byte, more_bytes, length-varint_text, length-shortest}
+use Rattle.buffa_bytes.proofs.ShortestLemmas.{one_byte, more_bytes, length-varint_encoding, length-shortest}
 
 record Spelled (k : ℕ) (bs : List ℕ) (n : ℕ) (rest : List ℕ) : Type 0 where
   front : List ℕ
@@ -156,14 +156,14 @@ short_in (suc k) n h = elim (cases_lt n 128) [
   | inr large ↦ (let s = short_in k (n / 128) (omega arith) in rw (more_bytes k n large) (record { front = (n % 128 + 128) ∷ s.front; last = s.last; is = ap (λ x. (n % 128 + 128) ∷ x) s.is; continue = (omega arith, s.continue); ends = s.ends; value = omega (arith, s.value) }))
 ]
 
-pub IsVarint-varint_text : (n : ℕ) → n < 2 ^ 64 → IsVarint (varint_text n) n
-unfolding varint_text
-IsVarint-varint_text n h = let s = short_in n n (omega arith) in
-    record { front = s.front; last = s.last; spelled = s.is; continue = s.continue; ends = s.ends; short = omega (arith, length-varint_text n h, ap length s.is, length-append s.front (s.last ∷ [])); value = s.value; fits = h }
+pub IsVarint-varint_encoding : (n : ℕ) → n < 2 ^ 64 → IsVarint (varint_encoding n) n
+unfolding varint_encoding
+IsVarint-varint_encoding n h = let s = short_in n n (omega arith) in
+    record { front = s.front; last = s.last; spelled = s.is; continue = s.continue; ends = s.ends; short = omega (arith, length-varint_encoding n h, ap length s.is, length-append s.front (s.last ∷ [])); value = s.value; fits = h }
 
-pub varint_text-shortest : (bytes : List ℕ) (n : ℕ) → IsVarint bytes n → length (varint_text n) ≤ length bytes
-unfolding varint_text
-varint_text-shortest bytes n v =
+pub varint_encoding-shortest : (bytes : List ℕ) (n : ℕ) → IsVarint bytes n → length (varint_encoding n) ≤ length bytes
+unfolding varint_encoding
+varint_encoding-shortest bytes n v =
     let e : length bytes ≡ suc (length v.front) = ap length v.spelled ∙ omega (arith, length-append v.front (v.last ∷ [])) in
     let b : n < 128 ^ length bytes = rw v.value (base128-lt bytes) in
     let c : n < 128 ^ suc (length v.front) = rw e at b in

@@ -16,13 +16,13 @@ unfoldable pub past_no_tag : List ℕ → List ℕ
 past_no_tag bs = elim (varint_at bs) [ Ok n ↦ n.1 | Err e ↦ past_no_varint bs ]
 
 -- no text begins them: what follows their length where that passes the end, else what follows so many bytes
-unfoldable pub past_no_text : List ℕ → List ℕ
-past_no_text bs = elim (varint_at bs) [ Ok n ↦ (if nat_lt (length n.1) n.0 then n.1 else drop n.0 n.1) | Err e ↦ past_no_varint bs ]
+unfoldable pub past_no_delimited : List ℕ → List ℕ
+past_no_delimited bs = elim (varint_at bs) [ Ok n ↦ (if nat_lt (length n.1) n.0 then n.1 else drop n.0 n.1) | Err e ↦ past_no_varint bs ]
 
 -- no payload of this wire type begins them; groups apart
 unfoldable pub past_no_payload : WireType → List ℕ → List ℕ
 past_no_payload Varint bs = past_no_varint bs
-past_no_payload LengthDelimited bs = past_no_text bs
+past_no_payload LengthDelimited bs = past_no_delimited bs
 past_no_payload _ bs = bs
 
 -- refused bytes leave this rest, and where memory ran out no less of them is left

@@ -5,9 +5,9 @@ use Rattle.std.specs.Prelude.{ℕ, ℤ, pos, negsuc, ◌+◌, ◌*◌, ◌/◌, 
 use Rattle.std.specs.Int.{cast_unsigned, cast_signed, from_bool, from_le_bytes, to_le_bytes, w32, w64}
 use Rattle.buffa_bytes.specs.Gives.{◌>>=◌}
 use Rattle.buffa_bytes.specs.declared.error.DecodeError.{DecodeError}
-use Rattle.buffa_bytes.specs.Varint.{varint_text}
+use Rattle.buffa_bytes.specs.Varint.{varint_encoding}
 use Rattle.buffa_bytes.specs.Reading.{varint_at, taken}
-pub use Rattle.buffa_bytes.specs.Values.{int32_text, int32_of, int32_at}
+pub use Rattle.buffa_bytes.specs.Values.{int32_encoding, int32_of, int32_at}
 
 -- ---- zigzag: signed numbers of small magnitude as small numbers
 
@@ -26,41 +26,41 @@ unzigzag n = if n % 2 == 0 then pos (n / 2) else negsuc (n / 2)
 abbrev pub varint_as : {A : Type 0} → (ℕ → A) → List ℕ → Result (A × List ℕ) DecodeError
 varint_as of bs = varint_at bs >>= (λ n. Ok (of n.0, n.1))
 
-abbrev pub int64_text : ℤ → List ℕ
-int64_text v = varint_text (cast_unsigned w64 v)
+abbrev pub int64_encoding : ℤ → List ℕ
+int64_encoding v = varint_encoding (cast_unsigned w64 v)
 
 abbrev pub int64_of : ℕ → ℤ
 int64_of n = cast_signed w64 n
 
-abbrev pub uint32_text : ℕ → List ℕ
-uint32_text n = varint_text n
+abbrev pub uint32_encoding : ℕ → List ℕ
+uint32_encoding n = varint_encoding n
 
 -- the low 32 bits
 abbrev pub uint32_of : ℕ → ℕ
 uint32_of n = n % 2 ^ 32
 
-abbrev pub uint64_text : ℕ → List ℕ
-uint64_text n = varint_text n
+abbrev pub uint64_encoding : ℕ → List ℕ
+uint64_encoding n = varint_encoding n
 
 abbrev pub uint64_of : ℕ → ℕ
 uint64_of n = n
 
-abbrev pub sint32_text : ℤ → List ℕ
-sint32_text v = varint_text (zigzag v)
+abbrev pub sint32_encoding : ℤ → List ℕ
+sint32_encoding v = varint_encoding (zigzag v)
 
 -- the zigzag in the low 32 bits
 abbrev pub sint32_of : ℕ → ℤ
 sint32_of n = unzigzag (n % 2 ^ 32)
 
-abbrev pub sint64_text : ℤ → List ℕ
-sint64_text v = varint_text (zigzag v)
+abbrev pub sint64_encoding : ℤ → List ℕ
+sint64_encoding v = varint_encoding (zigzag v)
 
 abbrev pub sint64_of : ℕ → ℤ
 sint64_of n = unzigzag n
 
 -- 1 for true, 0 for false
-abbrev pub bool_text : Bool → List ℕ
-bool_text b = varint_text (from_bool b)
+abbrev pub bool_encoding : Bool → List ℕ
+bool_encoding b = varint_encoding (from_bool b)
 
 -- anything but 0 is true
 abbrev pub bool_of : ℕ → Bool
@@ -94,26 +94,26 @@ four_as of bs = taken 4 bs >>= (λ p. Ok (of (from_le_bytes w32 p.0), p.1))
 abbrev pub eight_as : {A : Type 0} → (ℕ → A) → List ℕ → Result (A × List ℕ) DecodeError
 eight_as of bs = taken 8 bs >>= (λ p. Ok (of (from_le_bytes w64 p.0), p.1))
 
-abbrev pub fixed32_text : ℕ → List ℕ
-fixed32_text n = to_le_bytes w32 n
+abbrev pub fixed32_encoding : ℕ → List ℕ
+fixed32_encoding n = to_le_bytes w32 n
 
 abbrev pub fixed32_of : ℕ → ℕ
 fixed32_of n = n
 
-abbrev pub fixed64_text : ℕ → List ℕ
-fixed64_text n = to_le_bytes w64 n
+abbrev pub fixed64_encoding : ℕ → List ℕ
+fixed64_encoding n = to_le_bytes w64 n
 
 abbrev pub fixed64_of : ℕ → ℕ
 fixed64_of n = n
 
-abbrev pub sfixed32_text : ℤ → List ℕ
-sfixed32_text v = to_le_bytes w32 (cast_unsigned w32 v)
+abbrev pub sfixed32_encoding : ℤ → List ℕ
+sfixed32_encoding v = to_le_bytes w32 (cast_unsigned w32 v)
 
 abbrev pub sfixed32_of : ℕ → ℤ
 sfixed32_of n = cast_signed w32 n
 
-abbrev pub sfixed64_text : ℤ → List ℕ
-sfixed64_text v = to_le_bytes w64 (cast_unsigned w64 v)
+abbrev pub sfixed64_encoding : ℤ → List ℕ
+sfixed64_encoding v = to_le_bytes w64 (cast_unsigned w64 v)
 
 abbrev pub sfixed64_of : ℕ → ℤ
 sfixed64_of n = cast_signed w64 n

@@ -8,20 +8,20 @@ use Rattle.buffa_bytes.specs.Gives.{◌>>=◌}
 use Rattle.buffa_bytes.specs.declared.wire_type.WireType.{WireType}
 use Rattle.buffa_bytes.specs.declared.error.DecodeError.{DecodeError}
 use Rattle.buffa_bytes.specs.declared.error.DecodeError.TheVariants.{InvalidUtf8}
-use Rattle.buffa_bytes.specs.Varint.{varint_text}
+use Rattle.buffa_bytes.specs.Varint.{varint_encoding}
 use Rattle.buffa_bytes.specs.Reading.{varint_at, delimited_at}
 
 -- the shortest tag
-abbrev pub tag_text : ℕ → WireType → List ℕ
-tag_text f w = varint_text (8 * f + wire_number w)
+abbrev pub tag_encoding : ℕ → WireType → List ℕ
+tag_encoding f w = varint_encoding (8 * f + wire_number w)
 
 -- a length and the bytes
-abbrev pub delimited_text : List ℕ → List ℕ
-delimited_text bytes = varint_text (length bytes) ++ bytes
+abbrev pub delimited_encoding : List ℕ → List ℕ
+delimited_encoding bytes = varint_encoding (length bytes) ++ bytes
 
 -- the 64-bit two's complement of an int32, as a varint
-abbrev pub int32_text : ℤ → List ℕ
-int32_text v = varint_text (cast_unsigned w64 v)
+abbrev pub int32_encoding : ℤ → List ℕ
+int32_encoding v = varint_encoding (cast_unsigned w64 v)
 
 -- the low 32 bits of a number, in two's complement
 abbrev pub int32_of : ℕ → ℤ

@@ -44,5 +44,5 @@ shortest zero n = n ∷ []
 shortest (suc k) n = elim (nat_lt n 128) [ true ↦ n ∷ [] | false ↦ (n % 128 + 128) ∷ shortest k (n / 128) ]
 
 -- the shortest spelling of n
-unfoldable pub varint_text : ℕ → List ℕ
-varint_text n = shortest n n
+unfoldable pub varint_encoding : ℕ → List ℕ
+varint_encoding n = shortest n n

@@ -38,7 +38,7 @@ impl Tag {
     ghost use Rattle.buffa_bytes.specs.Left.{past_no_tag};
     ghost use Rattle.buffa_bytes.specs.Number.{IsNumber};
     ghost use Rattle.buffa_bytes.specs.Reading.{tag_at};
-    ghost use Rattle.buffa_bytes.specs.Values.{tag_text};
+    ghost use Rattle.buffa_bytes.specs.Values.{tag_encoding};
     ghost use Rattle.buffa_bytes.specs.Written.{UsesRoom, Writes};
     ghost use Rattle.buffa_bytes.specs.Unread.{IsTailOf};
 
@@ -86,8 +86,8 @@ impl Tag {
     /// Tag::new(number, WireType::LengthDelimited).encode(sink)?; // 2A for 5
     /// ```
     pub fn encode<S: EncodeSink>(self, sink: &mut S) -> Result<(), EncodeError>
-        ensures writes { Writes result (S.written sink.old) (tag_text self.number self.wire_type) (S.written sink.new) }
-        ensures room { UsesRoom result (S.room sink.old) (tag_text self.number self.wire_type) (S.room sink.new) }
+        ensures writes { Writes result (S.written sink.old) (tag_encoding self.number self.wire_type) (S.written sink.new) }
+        ensures room { UsesRoom result (S.room sink.old) (tag_encoding self.number self.wire_type) (S.room sink.new) }
     {
         let number = u64::from(self.number) * 8 + u64::from(self.wire_type.number());
         encode_varint(number, sink)

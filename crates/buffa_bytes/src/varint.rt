@@ -4,7 +4,7 @@ ghost use Rattle.std.specs.Prelude.{◌≡◌, ◌<◌, ◌∷◌, [], length, M
 ghost use Rattle.buffa_bytes.specs.Gives.{Gives};
 ghost use Rattle.buffa_bytes.specs.Left.{past_no_varint};
 ghost use Rattle.buffa_bytes.specs.Reading.{varint_at};
-ghost use Rattle.buffa_bytes.specs.Varint.{varint_text};
+ghost use Rattle.buffa_bytes.specs.Varint.{varint_encoding};
 ghost use Rattle.buffa_bytes.specs.Written.{UsesRoom, Writes};
 ghost use Rattle.buffa_bytes.specs.Unread.{IsTailOf};
 
@@ -108,8 +108,8 @@ fn decode_digits<B: Buf>(buf: &mut B) -> Result<u64, DecodeError>
 /// ```
 #[tactic(auto, using(crate::proofs::ShortestLemmas::v_laws))]
 pub fn encode_varint<S: EncodeSink>(n: u64, sink: &mut S) -> Result<(), EncodeError>
-    ensures writes { Writes result (S.written sink.old) (varint_text n) (S.written sink.new) }
-    ensures room { UsesRoom result (S.room sink.old) (varint_text n) (S.room sink.new) }
+    ensures writes { Writes result (S.written sink.old) (varint_encoding n) (S.written sink.new) }
+    ensures room { UsesRoom result (S.room sink.old) (varint_encoding n) (S.room sink.new) }
 {
     let mut rest = n;
     while rest >= 128 {
@@ -125,7 +125,7 @@ pub fn encode_varint<S: EncodeSink>(n: u64, sink: &mut S) -> Result<(), EncodeEr
 /// let len = varint_len(number); // 2 for 150
 /// ```
 pub fn varint_len(n: u64) -> usize
-    ensures { result ≡ length (varint_text n) }
+    ensures { result ≡ length (varint_encoding n) }
 {
     let bits = 64 - (n | 1).leading_zeros();
     ((bits * 9 + 64) / 64) as usize
@@ -139,7 +139,7 @@ pub fn varint_len(n: u64) -> usize
 #[tactic(auto, using(crate::proofs::ShortestLemmas::v_laws))]
 #[inline(always)]
 pub fn prefix_len(len: u64) -> usize
-    ensures { result ≡ length (varint_text len) }
+    ensures { result ≡ length (varint_encoding len) }
 {
     if len < 128 { 1 } else { varint_len(len) }
 }

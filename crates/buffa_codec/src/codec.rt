@@ -294,7 +294,7 @@ pub trait SingularCodec {
 /// ```
 pub trait PackableCodec: SingularCodec {
     /// The bytes of a value.
-    ghost packed_text: { Self.Value.Meaning → List ℕ };
+    ghost packed_encoding: { Self.Value.Meaning → List ℕ };
 
     /// Puts the bytes of a value behind the others.
     ///
@@ -305,15 +305,15 @@ pub trait PackableCodec: SingularCodec {
     /// C::encode_packed(&value, &mut bytes)?;
     /// ```
     fn encode_packed(value: &Self::Value, buf: &mut Vec<u8>) -> Result<(), EncodeError>
-        ensures ok { OnOk result (buf.new.items ≡ buf.old.items ++ packed_text (Self.Value.meaning value.now)) }
+        ensures ok { OnOk result (buf.new.items ≡ buf.old.items ++ packed_encoding (Self.Value.meaning value.now)) }
         ensures err { OnErr result (buf.new.items ≡ buf.old.items) }
         ensures room { UsesRoom result (vec_capacity buf.old - vec_len buf.old)
-            (packed_text (Self.Value.meaning value.now)) (vec_capacity buf.new - vec_len buf.new) }
+            (packed_encoding (Self.Value.meaning value.now)) (vec_capacity buf.new - vec_len buf.new) }
         ensures refused { Refuses result None }
         ensures fits { OnOk result (Self.fits (Self.Value.meaning value.now)) };
 
     /// Packed bytes of values are read back.
-    ghost unpacks: { (v : _) (rest : _) → Self.fits v → Self.packed (packed_text v ++ rest)
+    ghost unpacks: { (v : _) (rest : _) → Self.fits v → Self.packed (packed_encoding v ++ rest)
         ≡ Self.back v ∷ Self.packed rest };
 
     /// No bytes hold no values.

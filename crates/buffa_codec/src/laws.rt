@@ -8,9 +8,9 @@ ghost use Rattle.buffa_bytes.specs.declared.error.EncodeError.{EncodeError};
 ghost use Rattle.buffa_bytes.specs.declared.wire_type.WireType.TheVariants.{Fixed32 as FourBytes, Fixed64 as EightBytes, Varint};
 ghost use Rattle.buffa_bytes.specs.Scalars.{bool_of, fixed32_of, fixed64_of, int32_of, int64_of, sfixed32_of};
 ghost use Rattle.buffa_bytes.specs.Scalars.{sfixed64_of, sint32_of, sint64_of, uint32_of, uint64_of};
-ghost use Rattle.buffa_bytes.specs.Scalars.{bool_text, fixed32_text, fixed64_text, int32_text, int64_text};
-ghost use Rattle.buffa_bytes.specs.Scalars.{sfixed32_text, sfixed64_text, sint32_text, sint64_text, uint32_text};
-ghost use Rattle.buffa_bytes.specs.Scalars.{uint64_text};
+ghost use Rattle.buffa_bytes.specs.Scalars.{bool_encoding, fixed32_encoding, fixed64_encoding, int32_encoding, int64_encoding};
+ghost use Rattle.buffa_bytes.specs.Scalars.{sfixed32_encoding, sfixed64_encoding, sint32_encoding, sint64_encoding, uint32_encoding};
+ghost use Rattle.buffa_bytes.specs.Scalars.{uint64_encoding};
 ghost use Rattle.buffa_wire.specs.BudgetLeft.{BudgetLeft, nothing};
 ghost use Rattle.buffa_codec.specs.Pinned.{BeginsAlike, EncodingIsPinned, HasAnswer, LeavesOne, OneAnswer, OneList};
 ghost use Rattle.buffa_codec.specs.Pinned.{RefusalIsPinned, UnpackingIsPinned};
@@ -102,17 +102,17 @@ pub fn scalars_come_back<S: Scalar>()
 
 /// The bytes of each scalar in a packed record.
 pub fn packed_scalars_are_written()
-    ensures int32 { (v : ℤ) → ⟦<Int32 as PackableCodec>⟧.packed_text v ≡ int32_text v }
-    ensures int64 { (v : ℤ) → ⟦<Int64 as PackableCodec>⟧.packed_text v ≡ int64_text v }
-    ensures uint32 { (v : ℕ) → ⟦<Uint32 as PackableCodec>⟧.packed_text v ≡ uint32_text v }
-    ensures uint64 { (v : ℕ) → ⟦<Uint64 as PackableCodec>⟧.packed_text v ≡ uint64_text v }
-    ensures sint32 { (v : ℤ) → ⟦<Sint32 as PackableCodec>⟧.packed_text v ≡ sint32_text v }
-    ensures sint64 { (v : ℤ) → ⟦<Sint64 as PackableCodec>⟧.packed_text v ≡ sint64_text v }
-    ensures bool { (v : Bool) → ⟦<BoolScalar as PackableCodec>⟧.packed_text v ≡ bool_text v }
-    ensures fixed32 { (v : ℕ) → ⟦<Fixed32 as PackableCodec>⟧.packed_text v ≡ fixed32_text v }
-    ensures fixed64 { (v : ℕ) → ⟦<Fixed64 as PackableCodec>⟧.packed_text v ≡ fixed64_text v }
-    ensures sfixed32 { (v : ℤ) → ⟦<Sfixed32 as PackableCodec>⟧.packed_text v ≡ sfixed32_text v }
-    ensures sfixed64 { (v : ℤ) → ⟦<Sfixed64 as PackableCodec>⟧.packed_text v ≡ sfixed64_text v }
+    ensures int32 { (v : ℤ) → ⟦<Int32 as PackableCodec>⟧.packed_encoding v ≡ int32_encoding v }
+    ensures int64 { (v : ℤ) → ⟦<Int64 as PackableCodec>⟧.packed_encoding v ≡ int64_encoding v }
+    ensures uint32 { (v : ℕ) → ⟦<Uint32 as PackableCodec>⟧.packed_encoding v ≡ uint32_encoding v }
+    ensures uint64 { (v : ℕ) → ⟦<Uint64 as PackableCodec>⟧.packed_encoding v ≡ uint64_encoding v }
+    ensures sint32 { (v : ℤ) → ⟦<Sint32 as PackableCodec>⟧.packed_encoding v ≡ sint32_encoding v }
+    ensures sint64 { (v : ℤ) → ⟦<Sint64 as PackableCodec>⟧.packed_encoding v ≡ sint64_encoding v }
+    ensures bool { (v : Bool) → ⟦<BoolScalar as PackableCodec>⟧.packed_encoding v ≡ bool_encoding v }
+    ensures fixed32 { (v : ℕ) → ⟦<Fixed32 as PackableCodec>⟧.packed_encoding v ≡ fixed32_encoding v }
+    ensures fixed64 { (v : ℕ) → ⟦<Fixed64 as PackableCodec>⟧.packed_encoding v ≡ fixed64_encoding v }
+    ensures sfixed32 { (v : ℤ) → ⟦<Sfixed32 as PackableCodec>⟧.packed_encoding v ≡ sfixed32_encoding v }
+    ensures sfixed64 { (v : ℤ) → ⟦<Sfixed64 as PackableCodec>⟧.packed_encoding v ≡ sfixed64_encoding v }
 {}
 
 /// The values of each scalar in a packed record.
@@ -197,7 +197,7 @@ pub fn enum_records_are_read<E: Enumeration>()
     ensures packed { (bs : List ℕ) → ⟦<EnumCodec<E> as SingularCodec>⟧.packed bs
         ≡ map (λ k. open_number E.of_number (int32_of k)) (numbers_in Varint bs) }
     ensures text { (v : Bool × ℤ) → ⟦<EnumCodec<E> as SingularCodec>⟧.text v ≡ varint (cast_unsigned w64 v.1) }
-    ensures packed_text { (v : Bool × ℤ) → ⟦<EnumCodec<E> as PackableCodec>⟧.packed_text v ≡ int32_text v.1 }
+    ensures packed_encoding { (v : Bool × ℤ) → ⟦<EnumCodec<E> as PackableCodec>⟧.packed_encoding v ≡ int32_encoding v.1 }
     ensures back { (v : Bool × ℤ) → ⟦<EnumCodec<E> as SingularCodec>⟧.back v ≡ open_number E.of_number v.1 }
     ensures fits { (v : Bool × ℤ) → ⟦<EnumCodec<E> as SingularCodec>⟧.fits v ↔ FitsSigned w32 v.1 }
 {}
@@ -297,7 +297,7 @@ pub fn lists_are_read<C: SingularCodec, P: PackableCodec>()
         ↔ ReadsList (C.one 100) (C.leaves 100) C.packed ds vs }
     ensures records { (vs : List C.Value.Meaning) → ⟦<Repeated<C> as ExtensionCodec>⟧.recs vs ≡ map C.text vs }
     ensures packed { (vs : List P.Value.Meaning) → ⟦<PackedRepeated<P> as ExtensionCodec>⟧.recs vs
-        ≡ packed_record P.packed_text vs }
+        ≡ packed_record P.packed_encoding vs }
     ensures refusal { (vs : List C.Value.Meaning) → ⟦<Repeated<C> as ExtensionCodec>⟧.refusal vs
         ≡ first_refusal C.refusal vs }
     ensures written { (vs : List P.Value.Meaning) → ⟦<PackedRepeated<P> as ExtensionCodec>⟧.refusal vs ≡ None }

@@ -167,7 +167,7 @@ impl<N: Numbered> LastWins for N {
 }
 
 impl<N: Numbered> PackableCodec for N {
-    ghost packed_text = { λ v. N.Form.payload (N.number_of v) };
+    ghost packed_encoding = { λ v. N.Form.payload (N.number_of v) };
 
     fn encode_packed(value: &N::Value, buf: &mut Vec<u8>) -> Result<(), EncodeError> {
         let len = buf.len();

@@ -34,7 +34,7 @@ impl<C: PackableCodec> ExtensionCodec for PackedRepeated<C> {
 
     ghost reads = { ReadsList (C.one 100) (C.leaves 100) C.packed };
 
-    ghost recs = { packed_record C.packed_text };
+    ghost recs = { packed_record C.packed_encoding };
 
     ghost refusal = { λ vs. None };
 
@@ -72,7 +72,7 @@ impl<C: PackableCodec> ExtensionCodec for PackedRepeated<C> {
     }
 
     ghost reads_back = { λ v o f n h.
-        packed_back C.fits (C.one 100) (C.leaves 100) C.packed C.packed_text C.back C.PackableCodec.unpacks
+        packed_back C.fits (C.one 100) (C.leaves 100) C.packed C.packed_encoding C.back C.PackableCodec.unpacks
         C.PackableCodec.unpacks_none C.PackableCodec.bytes_unread v o h.0 f h.1 };
 }
 
@@ -82,7 +82,7 @@ fn packed_bytes<C: PackableCodec>(
     alloc: Global,
     values: &[C::Value],
 ) -> Result<Vec<u8>, EncodeError>
-    ensures bytes { IfOk result (λ b. b.items ≡ joined C.packed_text (map C.Value.meaning values.now)) }
+    ensures bytes { IfOk result (λ b. b.items ≡ joined C.packed_encoding (map C.Value.meaning values.now)) }
     ensures refused { Refuses result None }
     ensures fits { OnOk result (Each C.fits (map C.Value.meaning values.now)) }
 {

@@ -14,21 +14,21 @@ use Rattle.buffa_wire.specs.declared.unknown_fields.UnknownField.{UnknownField}
 use Rattle.buffa_codec.specs.Sub.{sub}
 use Rattle.buffa_codec.proofs.Filtered.{sub-append}
 use Rattle.buffa_codec.proofs.Turns.{sub-take_more, sub-one_same, sub-one_other}
-use Rattle.buffa_ext.specs.Messages.{IsAllMerged, StopsAt, texts_in}
+use Rattle.buffa_ext.specs.Messages.{IsAllMerged, StopsAt, encodings_in}
 use Rattle.buffa_ext.specs.MessageFacts.{merged_more, text_refused}
 
 module _ (held : Datum → Option (List ℕ)) (n : ℕ) (xs : List UnknownField) (i : ℕ) (x : UnknownField) (lt : i < length xs) (e : x ≡ get_or xs i x) where
   so_far : List (List ℕ)
-  so_far = texts_in held (sub n (records_in (take i xs)))
+  so_far = encodings_in held (sub n (records_in (take i xs)))
 
-  texts_more : x.number ≡ n → texts_in held (sub n (records_in (take (i + 1) xs))) ≡ texts_in held (sub n (records_in (take i xs))) ++ texts_in held (datum_of x.payload ∷ [])
+  texts_more : x.number ≡ n → encodings_in held (sub n (records_in (take (i + 1) xs))) ≡ encodings_in held (sub n (records_in (take i xs))) ++ encodings_in held (datum_of x.payload ∷ [])
   texts_more same =
-      ap (texts_in held) (sub-take_more n xs i x lt e ∙ ap (λ l. sub n (records_in (take i xs)) ++ l) (sub-one_same n x same))
+      ap (encodings_in held) (sub-take_more n xs i x lt e ∙ ap (λ l. sub n (records_in (take i xs)) ++ l) (sub-one_same n x same))
       ∙ filter_map-append held (sub n (records_in (take i xs))) (datum_of x.payload ∷ [])
 
-  texts_same : x.number ≢ n → texts_in held (sub n (records_in (take (i + 1) xs))) ≡ texts_in held (sub n (records_in (take i xs)))
+  texts_same : x.number ≢ n → encodings_in held (sub n (records_in (take (i + 1) xs))) ≡ encodings_in held (sub n (records_in (take i xs)))
   texts_same other =
-      ap (texts_in held) (sub-take_more n xs i x lt e ∙ ap (λ l. sub n (records_in (take i xs)) ++ l) (sub-one_other n x other) ∙ append-nil (sub n (records_in (take i xs))))
+      ap (encodings_in held) (sub-take_more n xs i x lt e ∙ ap (λ l. sub n (records_in (take i xs)) ++ l) (sub-one_other n x other) ∙ append-nil (sub n (records_in (take i xs))))
 
   records_cut : x.number ≡ n → sub n (records_in xs) ≡ sub n (records_in (take i xs)) ++ datum_of x.payload ∷ sub n (records_in (drop (i + 1) xs))
   records_cut same =
@@ -39,29 +39,29 @@ module _ (held : Datum → Option (List ℕ)) (n : ℕ) (xs : List UnknownField)
       ∙ append_assoc (sub n (records_in (take i xs))) (datum_of x.payload ∷ []) (sub n (records_in (drop (i + 1) xs)))
 
   module _ {X : Type 0} (merged : X → List ℕ → Option X) (cost : List ℕ → BudgetLeft) (old mid : X) (b m : BudgetLeft) (f : Bool)
-      (h : IsAllMerged merged cost (texts_in held (sub n (records_in (take i xs)))) old b (Ok f) mid m) where
+      (h : IsAllMerged merged cost (encodings_in held (sub n (records_in (take i xs)))) old b (Ok f) mid m) where
     -- a record of the number is merged
     pub one_more : (new newer : X) (a after : BudgetLeft) (g found : Bool) → x.number ≡ n → newer ≡ new → after ≡ a → found ≡ (f || g)
-        → IsAllMerged merged cost (texts_in held (datum_of x.payload ∷ [])) mid m (Ok g) new a
-        → IsAllMerged merged cost (texts_in held (sub n (records_in (take (i + 1) xs)))) old b (Ok found) newer after
+        → IsAllMerged merged cost (encodings_in held (datum_of x.payload ∷ [])) mid m (Ok g) new a
+        → IsAllMerged merged cost (encodings_in held (sub n (records_in (take (i + 1) xs)))) old b (Ok found) newer after
     one_more new newer a after g found same en ea ef k =
         subst (λ l. IsAllMerged merged cost l old b (Ok found) newer after) (sym (texts_more same))
-        (subst (λ y. IsAllMerged merged cost (texts_in held (sub n (records_in (take i xs))) ++ texts_in held (datum_of x.payload ∷ [])) old b (Ok found) y after) (sym en)
-        (subst (λ y. IsAllMerged merged cost (texts_in held (sub n (records_in (take i xs))) ++ texts_in held (datum_of x.payload ∷ [])) old b (Ok found) new y) (sym ea)
-        (merged_more merged cost (texts_in held (sub n (records_in (take i xs)))) (texts_in held (datum_of x.payload ∷ [])) old mid new f g found b m a ef h k)))
+        (subst (λ y. IsAllMerged merged cost (encodings_in held (sub n (records_in (take i xs))) ++ encodings_in held (datum_of x.payload ∷ [])) old b (Ok found) y after) (sym en)
+        (subst (λ y. IsAllMerged merged cost (encodings_in held (sub n (records_in (take i xs))) ++ encodings_in held (datum_of x.payload ∷ [])) old b (Ok found) new y) (sym ea)
+        (merged_more merged cost (encodings_in held (sub n (records_in (take i xs)))) (encodings_in held (datum_of x.payload ∷ [])) old mid new f g found b m a ef h k)))
 
     -- another record is passed over
     pub passed_over : (newer : X) (after : BudgetLeft) (found : Bool) → x.number ≢ n → newer ≡ mid → after ≡ m → found ≡ f
-        → IsAllMerged merged cost (texts_in held (sub n (records_in (take (i + 1) xs)))) old b (Ok found) newer after
+        → IsAllMerged merged cost (encodings_in held (sub n (records_in (take (i + 1) xs)))) old b (Ok found) newer after
     passed_over newer after found other en ea ef =
         subst (λ l. IsAllMerged merged cost l old b (Ok found) newer after) (sym (texts_same other))
-        (subst (λ y. IsAllMerged merged cost (texts_in held (sub n (records_in (take i xs)))) old b (Ok found) y after) (sym en)
-        (subst (λ y. IsAllMerged merged cost (texts_in held (sub n (records_in (take i xs)))) old b (Ok found) mid y) (sym ea)
-        (subst (λ y. IsAllMerged merged cost (texts_in held (sub n (records_in (take i xs)))) old b (Ok y) mid m) (sym ef) h)))
+        (subst (λ y. IsAllMerged merged cost (encodings_in held (sub n (records_in (take i xs)))) old b (Ok found) y after) (sym en)
+        (subst (λ y. IsAllMerged merged cost (encodings_in held (sub n (records_in (take i xs)))) old b (Ok found) mid y) (sym ea)
+        (subst (λ y. IsAllMerged merged cost (encodings_in held (sub n (records_in (take i xs)))) old b (Ok y) mid m) (sym ef) h)))
 
     -- the text of a record of the number is refused
     pub stops_here : (takes : Datum → Type 0) (new : X) (a : BudgetLeft) (err : DecodeError) (all : List (ℕ × Datum)) → x.number ≡ n → records_in xs ≡ all
-        → IsAllMerged merged cost (texts_in held (datum_of x.payload ∷ [])) mid m (Err err) new a → texts_in held (datum_of x.payload ∷ []) ≢ [] → (err ≡ OutOfMemory → takes (datum_of x.payload))
+        → IsAllMerged merged cost (encodings_in held (datum_of x.payload ∷ [])) mid m (Err err) new a → encodings_in held (datum_of x.payload ∷ []) ≢ [] → (err ≡ OutOfMemory → takes (datum_of x.payload))
         → StopsAt merged cost held takes (sub n all) old b err a
     stops_here takes new a err all same whole k some full = (
       sub n (records_in (take i xs)),

@@ -10,7 +10,7 @@ use Rattle.buffa_wire.specs.Records.{Datum, varint, fixed32, fixed64, bytes, gro
 use Rattle.buffa_codec.specs.Reading.{Covers, ReadsAll, ReadsList, elements, full, minus, unpacked}
 use Rattle.buffa_codec.specs.Texts.{left_over, minus_nothing}
 use Rattle.buffa_ext.specs.Defaults.{IsDefaulted}
-use Rattle.buffa_ext.specs.Messages.{AreMerged, IsTextRefused, LeavesOf, MergingStaysWithin, cost_all, merged_all, message_of, texts_in}
+use Rattle.buffa_ext.specs.Messages.{AreMerged, IsEncodingRefused, LeavesOf, MergingStaysWithin, cost_all, merged_all, message_of, encodings_in}
 use Rattle.buffa_ext.specs.MessageFacts.{all_merged, left_yes}
 use Rattle.buffa_ext.specs.Pinned.{ListIsExact, MergingIsPinned, RecordMergeIsPinned}
 
@@ -52,21 +52,21 @@ module _ {X : Type 0} (merged : X → List ℕ → Option X) (cost : List ℕ �
   Stuck d old before = (t : List ℕ) × (e : DecodeError) × (held d ≡ Some t) × MergeFault (merged old t) (cost t) before e
 
   abbrev Done : List Datum → X → BudgetLeft → X → BudgetLeft → Type 0
-  Done ds old before mid left = AreMerged merged cost (texts_in held ds) old before mid left
+  Done ds old before mid left = AreMerged merged cost (encodings_in held ds) old before mid left
 
   not_then : (o : Option X) (ts : List (List ℕ)) (mid : X) (need before left : BudgetLeft) (e : DecodeError) → option_and_then (λ w. merged_all merged w ts) o ≡ Some mid
       → Pays before (plus need (cost_all cost ts)) left → MergeFault o need before e → ⊥
   not_then o ts mid need before left e h p (inl k) = paid_all_not_lacked before need (cost_all cost ts) left p k
   not_then o ts mid need before left e h p (inr k) = some_none mid (sym h ∙ ap (option_and_then (λ w. merged_all merged w ts)) k.0)
 
-  texts_on : (d : Datum) (ds : List Datum) (o : Option (List ℕ)) → held d ≡ o → texts_in held (d ∷ ds) ≡ cons_option o (texts_in held ds)
-  texts_on d ds o h = ap (λ z. cons_option z (texts_in held ds)) h
+  texts_on : (d : Datum) (ds : List Datum) (o : Option (List ℕ)) → held d ≡ o → encodings_in held (d ∷ ds) ≡ cons_option o (encodings_in held ds)
+  texts_on d ds o h = ap (λ z. cons_option z (encodings_in held ds)) h
 
   -- what is stuck isn't done
   stuck_not_done : (d : Datum) (ds : List Datum) (old mid : X) (before left : BudgetLeft) → Stuck d old before → Done (d ∷ ds) old before mid left → ⊥
   stuck_not_done d ds old mid before left (t, e, h, fault) done =
       let k = subst (λ l. AreMerged merged cost l old before mid left) (texts_on d ds (Some t) h) done in
-      not_then (merged old t) (texts_in held ds) mid (cost t) before left e k.0 k.1 fault
+      not_then (merged old t) (encodings_in held ds) mid (cost t) before left e k.0 k.1 fault
 
   stuck_from : (d : Datum) (old mid : X) (before left : BudgetLeft) → Done [] old before mid left → Stuck d mid left → Stuck d old before
   stuck_from d old mid before left done stuck =
@@ -75,8 +75,8 @@ module _ {X : Type 0} (merged : X → List ℕ → Option X) (cost : List ℕ �
 
   -- what follows the first record goes on from what it leaves
   module _ (f g : List Datum) (mid mid' : X) (left left' : BudgetLeft) (again : (w : X) (b : BudgetLeft) → Done f w b mid left → Done g w b mid' left' → f ≡ g) where
-    over_text : (o : Option X) (c before : BudgetLeft) → option_and_then (λ w. merged_all merged w (texts_in held f)) o ≡ Some mid → Pays before (plus c (cost_all cost (texts_in held f))) left
-        → option_and_then (λ w. merged_all merged w (texts_in held g)) o ≡ Some mid' → Pays before (plus c (cost_all cost (texts_in held g))) left' → f ≡ g
+    over_text : (o : Option X) (c before : BudgetLeft) → option_and_then (λ w. merged_all merged w (encodings_in held f)) o ≡ Some mid → Pays before (plus c (cost_all cost (encodings_in held f))) left
+        → option_and_then (λ w. merged_all merged w (encodings_in held g)) o ≡ Some mid' → Pays before (plus c (cost_all cost (encodings_in held g))) left' → f ≡ g
     over_text None c before h p k q = some_none mid (sym h)
     over_text (Some w) c before h p k q = again w (minus before c) (h, (omega (arith, p), omega (arith, p))) (k, (omega (arith, q), omega (arith, q)))
 
@@ -103,16 +103,16 @@ module _ {X : Type 0} (merged : X → List ℕ → Option X) (cost : List ℕ �
       x (held x) old before refl h (subst (λ z. Done (z ∷ g) old before mid' left') (sym head) k) in
       ap (λ z. z ∷ f) head ∙ ap (λ l. y ∷ l) rest
 
-  stuck_by : (d : Datum) (mid : X) (left after : BudgetLeft) (e : DecodeError) → e ≢ OutOfMemory → IsTextRefused merged cost held takes d mid left e after → Stuck d mid left
+  stuck_by : (d : Datum) (mid : X) (left after : BudgetLeft) (e : DecodeError) → e ≢ OutOfMemory → IsEncodingRefused merged cost held takes d mid left e after → Stuck d mid left
   stuck_by d mid left after e ne r = (r.0, e, r.1, r.4 ne)
 
   pub record_merge_is_pinned : RecordMergeIsPinned merged cost held
   record_merge_is_pinned = record {
     alike = λ d old new newer before left over f g h k.
-        let need = cost_all cost (texts_in held (d ∷ [])) in
+        let need = cost_all cost (encodings_in held (d ∷ [])) in
         (h.0 ∙ sym k.0, same_some new newer (sym h.1 ∙ k.1), left_over before need left h.2 ∙ sym (left_over before need over k.2));
     refused = λ d old new newer before left over f e h k ne.
-        no_fault (merged_all merged old (texts_in held (d ∷ []))) (cost_all cost (texts_in held (d ∷ []))) before left new e h.1 h.2 (k.1 ne);
+        no_fault (merged_all merged old (encodings_in held (d ∷ []))) (cost_all cost (encodings_in held (d ∷ []))) before left new e h.1 h.2 (k.1 ne);
   }
 
   pub merging_is_pinned : MergingIsPinned merged cost held takes
@@ -120,10 +120,10 @@ module _ {X : Type 0} (merged : X → List ℕ → Option X) (cost : List ℕ �
     alike = λ ds old new newer before left over f g h k. (
       h.0 ∙ sym k.0,
       same_some new newer (sym h.1.0 ∙ k.1.0),
-      left_over before (cost_all cost (texts_in held ds)) left h.1.1 ∙ sym (left_over before (cost_all cost (texts_in held ds)) over k.1.1),
+      left_over before (cost_all cost (encodings_in held ds)) left h.1.1 ∙ sym (left_over before (cost_all cost (encodings_in held ds)) over k.1.1),
     );
     refused = λ ds old new newer before left over f e h k kept.
-        no_fault (merged_all merged old (texts_in held ds)) (cost_all cost (texts_in held ds)) before left new e h.1.0 h.1.1 ((all_merged merged cost held takes ds old newer before over (Err e) k).1 kept);
+        no_fault (merged_all merged old (encodings_in held ds)) (cost_all cost (encodings_in held ds)) before left new e h.1.0 h.1.1 ((all_merged merged cost held takes ds old newer before over (Err e) k).1 kept);
     stopped = λ ds old before left over e f h k kept also.
         one_stop h.0 k.0 h.1 k.1 h.2 k.2 old h.3 k.3 before h.4 k.4 (sym h.5 ∙ k.5) h.6 (stuck_by h.1 h.3 h.4 left e kept h.7) k.6 (stuck_by k.1 k.3 k.4 over f also k.7);
   }
@@ -144,10 +144,10 @@ no_elements X (group rs) = refl
 
 module _ {X : Type 0} (merged : X → List ℕ → Option X) (cost : List ℕ → BudgetLeft) (blank : X) (held : Datum → Option (List ℕ)) where
   abbrev one : BudgetLeft → Datum → Option X
-  one b d = message_of merged cost blank b (texts_in held (d ∷ []))
+  one b d = message_of merged cost blank b (encodings_in held (d ∷ []))
 
   abbrev leaves : BudgetLeft → Datum → BudgetLeft → Type 0
-  leaves b d left = LeavesOf (message_of merged cost blank b (texts_in held (d ∷ []))) b (cost_all cost (texts_in held (d ∷ []))) left
+  leaves b d left = LeavesOf (message_of merged cost blank b (encodings_in held (d ∷ []))) b (cost_all cost (encodings_in held (d ∷ []))) left
 
   abbrev none : List ℕ → List X
   none bs = []
@@ -171,7 +171,7 @@ module _ {X : Type 0} (merged : X → List ℕ → Option X) (cost : List ℕ �
   over_none : (b c mid : BudgetLeft) → Covers b c → PaysAtMost b nothing mid → Covers mid c
   over_none b c mid k p = (omega (arith, k, p), omega (arith, k, p))
 
-  text_step : (b mid : BudgetLeft) (d : Datum) (t : List ℕ) (ts : List (List ℕ)) (o : Option X) → merged blank t ≡ o → texts_in held (d ∷ []) ≡ t ∷ [] → Covers b (plus (cost t) (cost_all cost ts)) → leaves b d mid
+  text_step : (b mid : BudgetLeft) (d : Datum) (t : List ℕ) (ts : List (List ℕ)) (o : Option X) → merged blank t ≡ o → encodings_in held (d ∷ []) ≡ t ∷ [] → Covers b (plus (cost t) (cost_all cost ts)) → leaves b d mid
       → Covers mid (cost_all cost ts) × (elements none d (one b d) ++ values ts ≡ cons_option o (values ts))
   text_step b mid d t ts (Some v) e same k h =
       let read = read_by b t (Some v) e (small b (cost t) (cost_all cost ts) k) in
@@ -190,16 +190,16 @@ module _ {X : Type 0} (merged : X → List ℕ → Option X) (cost : List ℕ �
   step : (b mid : BudgetLeft) (d : Datum) (ts : List (List ℕ)) (o : Option (List ℕ)) → held d ≡ o → Covers b (cost_all cost (cons_option o ts)) → leaves b d mid
       → Covers mid (cost_all cost ts) × (elements none d (one b d) ++ values ts ≡ values (cons_option o ts))
   step b mid d ts None e k h =
-      let same : texts_in held (d ∷ []) ≡ [] = ap (λ z. cons_option z []) e in (
+      let same : encodings_in held (d ∷ []) ≡ [] = ap (λ z. cons_option z []) e in (
         over_none b (cost_all cost ts) mid k (subst (λ l. LeavesOf (message_of merged cost blank b l) b (cost_all cost l) mid) same h),
         ap (λ l. elements none d (message_of merged cost blank b l) ++ values ts) same ∙ ap (λ l. l ++ values ts) (no_elements X d),
       )
   step b mid d ts (Some t) e k h = text_step b mid d t ts (merged blank t) refl (ap (λ z. cons_option z []) e) k h
 
-  list_by : (b left : BudgetLeft) (ds : List Datum) (vs : List X) → Covers b (cost_all cost (texts_in held ds)) → ReadsAll one leaves none b ds vs left → vs ≡ values (texts_in held ds)
+  list_by : (b left : BudgetLeft) (ds : List Datum) (vs : List X) → Covers b (cost_all cost (encodings_in held ds)) → ReadsAll one leaves none b ds vs left → vs ≡ values (encodings_in held ds)
   list_by b left [] vs k h = h.0
   list_by b left (d ∷ ds) vs k h =
-      let t = step b h.0 d (texts_in held ds) (held d) refl k h.2 in
+      let t = step b h.0 d (encodings_in held ds) (held d) refl k h.2 in
       h.4 ∙ ap (λ l. elements none d (one b d) ++ l) (list_by h.0 left ds h.1 t.0 h.3) ∙ t.1
 
   pub list_is_exact : ListIsExact (ReadsList one leaves none) merged cost blank held

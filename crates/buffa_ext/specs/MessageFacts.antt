@@ -14,11 +14,11 @@ use Rattle.buffa_wire.specs.Message.{MergeFault}
 use Rattle.buffa_wire.specs.Parse.{Fits}
 use Rattle.buffa_wire.specs.RecordReading.{list_at}
 use Rattle.buffa_wire.specs.Records.{Datum, group, records_of, records_height}
-use Rattle.buffa_wire.specs.Text.{records_text, fields_text}
+use Rattle.buffa_wire.specs.Encoding.{records_encoding, fields_encoding}
 use Rattle.buffa_wire.proofs.LoopLemmas.{list_is_read}
 use Rattle.buffa_wire.proofs.ParseLemmas.{one_reading, text_parses}
 use Rattle.buffa_codec.specs.Reading.{Covers, full}
-use Rattle.buffa_ext.specs.Messages.{LeavesOf, IsAllMerged, IsAnswer, IsTextRefused, MergesRecords, cost_all, group_held, group_of, group_refusal, is_left, merged_all, message_of, or_none, some_there, text_refusal, texts_in, why_refused}
+use Rattle.buffa_ext.specs.Messages.{LeavesOf, IsAllMerged, IsAnswer, IsEncodingRefused, MergesRecords, cost_all, group_held, group_of, group_refusal, is_left, merged_all, message_of, or_none, some_there, encoding_refusal, encodings_in, why_refused}
 
 le_yes : (m n : ℕ) → m ≤ n → nat_le m n ≡ true
 le_yes m n h = grind (arith, common_steps)
@@ -200,43 +200,43 @@ module _ {X : Type 0} (merged : X → List ℕ → Option X) (cost : List ℕ �
   fault_of_one t mid m err (inr h) = inr (alone_too (merged mid t) h.0, h.1)
 
   -- the text of one record is refused
-  pub text_refused : (held : Datum → Option (List ℕ)) (takes : Datum → Type 0) (d : Datum) (o : Option (List ℕ)) (mid new : X) (m a : BudgetLeft) (err : DecodeError) → held d ≡ o → texts_in held (d ∷ []) ≢ []
-      → (err ≡ OutOfMemory → takes d) → IsAllMerged merged cost (texts_in held (d ∷ [])) mid m (Err err) new a → IsTextRefused merged cost held takes d mid m err a
+  pub text_refused : (held : Datum → Option (List ℕ)) (takes : Datum → Type 0) (d : Datum) (o : Option (List ℕ)) (mid new : X) (m a : BudgetLeft) (err : DecodeError) → held d ≡ o → encodings_in held (d ∷ []) ≢ []
+      → (err ≡ OutOfMemory → takes d) → IsAllMerged merged cost (encodings_in held (d ∷ [])) mid m (Err err) new a → IsEncodingRefused merged cost held takes d mid m err a
   text_refused held takes d None mid new m a err e some full k = absurd (some (ap (λ z. cons_option z []) e))
   text_refused held takes d (Some t) mid new m a err e some full k =
-      let same : texts_in held (d ∷ []) ≡ t ∷ [] = ap (λ z. cons_option z []) e in
+      let same : encodings_in held (d ∷ []) ≡ t ∷ [] = ap (λ z. cons_option z []) e in
       let q = subst (λ l. IsAllMerged merged cost l mid m (Err err) new a) same k in
       (t, e, (omega (arith, q.0), omega (arith, q.0), omega (arith, q.0), omega (arith, q.0)), full, λ ne. fault_alone t mid m err (q.1 ne))
 
-  one_of_all : (held : Datum → Option (List ℕ)) (takes : Datum → Type 0) (d : Datum) (mid new : X) (m a : BudgetLeft) (err : DecodeError) → IsTextRefused merged cost held takes d mid m err a
-      → IsAllMerged merged cost (texts_in held (d ∷ [])) mid m (Err err) new a
+  one_of_all : (held : Datum → Option (List ℕ)) (takes : Datum → Type 0) (d : Datum) (mid new : X) (m a : BudgetLeft) (err : DecodeError) → IsEncodingRefused merged cost held takes d mid m err a
+      → IsAllMerged merged cost (encodings_in held (d ∷ [])) mid m (Err err) new a
   one_of_all held takes d mid new m a err h =
       subst (λ l. IsAllMerged merged cost l mid m (Err err) new a) (sym (ap (λ z. cons_option z []) h.1))
       ((omega (arith, h.2), omega (arith, h.2), omega (arith, h.2), omega (arith, h.2)), λ ne. fault_of_one h.0 mid m err (h.4 ne))
 
   -- so the texts of all records are merged, or refused
   pub all_merged : (held : Datum → Option (List ℕ)) (takes : Datum → Type 0) (ds : List Datum) (old new : X) (before after : BudgetLeft) (r : Result Bool DecodeError)
-      → MergesRecords merged cost held takes ds old before r new after → IsAllMerged merged cost (texts_in held ds) old before r new after
+      → MergesRecords merged cost held takes ds old before r new after → IsAllMerged merged cost (encodings_in held ds) old before r new after
   all_merged held takes ds old new before after (Ok f) h = (h.0, h.1.0, h.1.1)
   all_merged held takes ds old new before after (Err e) (front, d, back, mid, left, cut, done, refused) =
-      merged_fault (texts_in held front) (texts_in held (d ∷ [])) (texts_in held back) (texts_in held ds) old mid new (some_there (texts_in held front)) e before left after
-      (ap (texts_in held) cut ∙ filter_map-append held front (d ∷ back) ∙ ap (λ l. texts_in held front ++ l) (filter_map-append held (d ∷ []) back))
+      merged_fault (encodings_in held front) (encodings_in held (d ∷ [])) (encodings_in held back) (encodings_in held ds) old mid new (some_there (encodings_in held front)) e before left after
+      (ap (encodings_in held) cut ∙ filter_map-append held front (d ∷ back) ∙ ap (λ l. encodings_in held front ++ l) (filter_map-append held (d ∷ []) back))
       (refl, done.0, done.1) (one_of_all held takes d mid new left after e refused)
 
   -- the answer after merging records into a blank is the message of their texts
   pub records_answer : {V E : Type 0} (held : Datum → Option (List ℕ)) (takes : Datum → Type 0) (ds : List Datum) (old blank new : X) (before left after : BudgetLeft) (r : Result Bool DecodeError) (x : Result V E) (f : V → Option X)
-      → old ≡ blank → before ≡ left → MergesRecords merged cost held takes ds old before r new after → IfOk x (λ o. IsAnswer r new (f o)) → IfOk x (λ o. f o ≡ message_of merged cost blank left (texts_in held ds))
+      → old ≡ blank → before ≡ left → MergesRecords merged cost held takes ds old before r new after → IfOk x (λ o. IsAnswer r new (f o)) → IfOk x (λ o. f o ≡ message_of merged cost blank left (encodings_in held ds))
   records_answer held takes ds old blank new before left after r (Ok o) f s b m a =
       let whole = all_merged held takes ds old new before after r m in
-      answers blank new left after (texts_in held ds) r (f o)
-      (subst (λ y. IsAllMerged merged cost (texts_in held ds) blank y r new after) b (subst (λ y. IsAllMerged merged cost (texts_in held ds) y before r new after) s whole)) a
+      answers blank new left after (encodings_in held ds) r (f o)
+      (subst (λ y. IsAllMerged merged cost (encodings_in held ds) blank y r new after) b (subst (λ y. IsAllMerged merged cost (encodings_in held ds) y before r new after) s whole)) a
   records_answer held takes ds old blank new before left after r (Err e) f s b m a = tt
 
   -- one record, read back
   pub one_back : (held : Datum → Option (List ℕ)) (blank v : X) (b : BudgetLeft) (d : Datum) (t : List ℕ) → held d ≡ Some t → merged blank t ≡ Some v
-      → Covers b (cost_all cost (texts_in held (d ∷ []))) → message_of merged cost blank b (texts_in held (d ∷ [])) ≡ Some v
+      → Covers b (cost_all cost (encodings_in held (d ∷ []))) → message_of merged cost blank b (encodings_in held (d ∷ [])) ≡ Some v
   one_back held blank v b d t h e k =
-      let same : texts_in held (d ∷ []) ≡ t ∷ [] = ap (λ o. cons_option o []) h in
+      let same : encodings_in held (d ∷ []) ≡ t ∷ [] = ap (λ o. cons_option o []) h in
       ap (message_of merged cost blank b) same
       ∙ ap (λ c. if c then merged_all merged blank (t ∷ []) else None) (left_yes b (cost_all cost (t ∷ [])) (subst (λ l. Covers b (cost_all cost l)) same k))
       ∙ ap (option_and_then (λ w. merged_all merged w [])) e
@@ -250,37 +250,37 @@ refusal_by : {A : Type 0} (b : Bool) (o : Option A) (e : A) → (if b then o els
 refusal_by true o e h = h
 refusal_by false o e h = cc
 
-pub held_too : (refusal : List ℕ → Option EncodeError) (t : List ℕ) → text_refusal refusal t ≡ None → refusal t ≡ None
+pub held_too : (refusal : List ℕ → Option EncodeError) (t : List ℕ) → encoding_refusal refusal t ≡ None → refusal t ≡ None
 held_too refusal t h = refusal_by (nat_lt (length t) (2 ^ 31)) (refusal t) MessageTooLarge h
 
-pub small_refusal : (refusal : List ℕ → Option EncodeError) (t : List ℕ) → length t < 2 ^ 31 → text_refusal refusal t ≡ refusal t
+pub small_refusal : (refusal : List ℕ → Option EncodeError) (t : List ℕ) → length t < 2 ^ 31 → encoding_refusal refusal t ≡ refusal t
 small_refusal refusal t h = ap (λ c. if c then refusal t else Some MessageTooLarge) (lt_yes (length t) (2 ^ 31) h)
 
-pub large_refusal : (refusal : List ℕ → Option EncodeError) (t : List ℕ) → 2 ^ 31 ≤ length t → text_refusal refusal t ≡ Some MessageTooLarge
+pub large_refusal : (refusal : List ℕ → Option EncodeError) (t : List ℕ) → 2 ^ 31 ≤ length t → encoding_refusal refusal t ≡ Some MessageTooLarge
 large_refusal refusal t h = ap (λ c. if c then refusal t else Some MessageTooLarge) (lt_no (length t) (2 ^ 31) h)
 
 -- ---- groups
 
-group_by : (rs : List (ℕ × Datum)) (r : Result (List (ℕ × Datum)) DecodeError) → list_at 100 1000000 (records_text rs) ≡ r → Fits (records_of rs) → why_refused r ≡ None
-    → group_held (group (records_of (or_none r))) ≡ Some (records_text rs)
+group_by : (rs : List (ℕ × Datum)) (r : Result (List (ℕ × Datum)) DecodeError) → list_at 100 1000000 (records_encoding rs) ≡ r → Fits (records_of rs) → why_refused r ≡ None
+    → group_held (group (records_of (or_none r))) ≡ Some (records_encoding rs)
 group_by rs (Ok qs) e f h =
-    let read = agree_ok (list_at 100 1000000 (records_text rs)) qs (list_is_read 100 1000000 (records_text rs)) e in
+    let read = agree_ok (list_at 100 1000000 (records_encoding rs)) qs (list_is_read 100 1000000 (records_encoding rs)) e in
     let parse = text_parses (records_of rs) (records_height (records_of rs)) f (omega arith) in
-    ap (λ x. Some (fields_text x)) (sym (one_reading (records_text rs) (records_height (records_of rs)) 100 (records_of rs) (records_of qs) parse read.0))
+    ap (λ x. Some (fields_encoding x)) (sym (one_reading (records_encoding rs) (records_height (records_of rs)) 100 (records_of rs) (records_of qs) parse read.0))
 group_by rs (Err g) e f h = some_none (GroupRefused g) h
 
 -- the group of a text holds it
-pub group_back : (rs : List (ℕ × Datum)) → Fits (records_of rs) → group_refusal (records_text rs) ≡ None → group_held (group_of (records_text rs)) ≡ Some (records_text rs)
-group_back rs f h = group_by rs (list_at 100 1000000 (records_text rs)) refl f h
+pub group_back : (rs : List (ℕ × Datum)) → Fits (records_of rs) → group_refusal (records_encoding rs) ≡ None → group_held (group_of (records_encoding rs)) ≡ Some (records_encoding rs)
+group_back rs f h = group_by rs (list_at 100 1000000 (records_encoding rs)) refl f h
 
 -- what a message's record is read as
 pub message_back : {X : Type 0} (merged : ℕ → X → List ℕ → Option X) (cost : ℕ → List ℕ → BudgetLeft) (held : Datum → Option (List ℕ)) (holder : List ℕ → Datum) (refusal : List ℕ → Option EncodeError)
     (blank : X) (text : X → List ℕ) (records : X → List (ℕ × Datum)) (levels : X → ℕ) (normal : X → Type 0)
-    → ((v : X) → text v ≡ records_text (records v))
+    → ((v : X) → text v ≡ records_encoding (records v))
     → ((d : ℕ) (v : X) → Fits (records_of (records v)) → normal v → levels v ≤ d → merged d blank (text v) ≡ Some v)
-    → ((rs : List (ℕ × Datum)) → Fits (records_of rs) → refusal (records_text rs) ≡ None → held (holder (records_text rs)) ≡ Some (records_text rs))
-    → (v : X) (b : BudgetLeft) → text_refusal refusal (text v) ≡ None → normal v × (levels v ≤ 100) × Fits (records_of (records v))
-    → Covers b (cost_all (cost 100) (texts_in held (holder (text v) ∷ []))) → message_of (merged 100) (cost 100) blank b (texts_in held (holder (text v) ∷ [])) ≡ Some v
+    → ((rs : List (ℕ × Datum)) → Fits (records_of rs) → refusal (records_encoding rs) ≡ None → held (holder (records_encoding rs)) ≡ Some (records_encoding rs))
+    → (v : X) (b : BudgetLeft) → encoding_refusal refusal (text v) ≡ None → normal v × (levels v ≤ 100) × Fits (records_of (records v))
+    → Covers b (cost_all (cost 100) (encodings_in held (holder (text v) ∷ []))) → message_of (merged 100) (cost 100) blank b (encodings_in held (holder (text v) ∷ [])) ≡ Some v
 message_back merged cost held holder refusal blank text records levels normal is_text back kept v b f n k =
     let same = is_text v in
     one_back (merged 100) (cost 100) held blank v b (holder (text v)) (text v)

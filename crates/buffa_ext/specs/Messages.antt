@@ -13,17 +13,17 @@ use Rattle.buffa_wire.specs.declared.context.DecodeContext.{DecodeContext}
 use Rattle.buffa_wire.specs.Parse.{Fits}
 use Rattle.buffa_wire.specs.Records.{Datum, group, records_of}
 use Rattle.buffa_wire.specs.RecordReading.{list_at}
-use Rattle.buffa_wire.specs.Text.{fields_text}
+use Rattle.buffa_wire.specs.Encoding.{fields_encoding}
 use Rattle.buffa_codec.specs.Reading.{Covers, full}
 
 -- the message's text in a group: that of its records
 abbrev pub group_held : Datum → Option (List ℕ)
-group_held (group rs) = Some (fields_text rs)
+group_held (group rs) = Some (fields_encoding rs)
 group_held _ = None
 
 -- the texts in records
-abbrev pub texts_in : (Datum → Option (List ℕ)) → List Datum → List (List ℕ)
-texts_in held ds = filter_map held ds
+abbrev pub encodings_in : (Datum → Option (List ℕ)) → List Datum → List (List ℕ)
+encodings_in held ds = filter_map held ds
 
 -- texts merged in order
 abbrev pub merged_all : {X : Type 0} → (X → List ℕ → Option X) → X → List (List ℕ) → Option X
@@ -46,7 +46,7 @@ message_of merged cost blank left (b ∷ bs) = if is_left left (cost_all cost (b
 
 -- records are read as the message of the texts in them
 abbrev pub ReadsMessages : {X : Type 0} → (List Datum → Option X → Type 0) → (X → List ℕ → Option X) → (List ℕ → BudgetLeft) → X → (Datum → Option (List ℕ)) → Type 0
-ReadsMessages {X = X} reads merged cost blank held = (ds : List Datum) (o : Option X) → reads ds o ↔ (o ≡ message_of merged cost blank full (texts_in held ds))
+ReadsMessages {X = X} reads merged cost blank held = (ds : List Datum) (o : Option X) → reads ds o ↔ (o ≡ message_of merged cost blank full (encodings_in held ds))
 
 -- reading a message spends its cost, and otherwise no more than that
 abbrev pub LeavesOf : {X : Type 0} → Option X → BudgetLeft → BudgetLeft → BudgetLeft → Type 0
@@ -56,7 +56,7 @@ LeavesOf None before need after = PaysAtMost before need after
 -- what reading the message in one record may leave
 abbrev pub LeavesOfRecord : {X : Type 0} → (X → List ℕ → Option X) → (List ℕ → BudgetLeft) → X → (Datum → Option (List ℕ)) → BudgetLeft → Datum → BudgetLeft → Type 0
 LeavesOfRecord merged cost blank held b d left =
-    let texts = texts_in held (d ∷ []) in
+    let texts = encodings_in held (d ∷ []) in
     LeavesOf (message_of merged cost blank b texts) b (cost_all cost texts) left
 
 -- there is a text
@@ -74,7 +74,7 @@ IsAllMerged merged cost bs old before r new after =
 
 -- merging the text in one record in a context
 abbrev pub MergesOne : {X : Type 0} → (ℕ → X → List ℕ → Option X) → (ℕ → List ℕ → BudgetLeft) → (Datum → Option (List ℕ)) → DecodeContext → Datum → X → Result Bool DecodeError → X → BudgetLeft → Type 0
-MergesOne merged cost held ctx d old r new after = IsAllMerged (merged ctx.depth) (cost ctx.depth) (texts_in held (d ∷ [])) old ctx.budget.now r new after
+MergesOne merged cost held ctx d old r new after = IsAllMerged (merged ctx.depth) (cost ctx.depth) (encodings_in held (d ∷ [])) old ctx.budget.now r new after
 
 -- texts are merged in order, and exactly what they cost is spent
 abbrev pub AreMerged : {X : Type 0} → (X → List ℕ → Option X) → (List ℕ → BudgetLeft) → List (List ℕ) → X → BudgetLeft → X → BudgetLeft → Type 0
@@ -82,8 +82,8 @@ AreMerged merged cost bs old before new after = (merged_all merged old bs ≡ So
 
 -- the text of a record is refused: at most its own cost is spent, memory is told only of a record that takes some, and
 -- anything else tells why the text isn't merged
-abbrev pub IsTextRefused : {X : Type 0} → (X → List ℕ → Option X) → (List ℕ → BudgetLeft) → (Datum → Option (List ℕ)) → (Datum → Type 0) → Datum → X → BudgetLeft → DecodeError → BudgetLeft → Type 0
-IsTextRefused merged cost held takes d old before e after =
+abbrev pub IsEncodingRefused : {X : Type 0} → (X → List ℕ → Option X) → (List ℕ → BudgetLeft) → (Datum → Option (List ℕ)) → (Datum → Type 0) → Datum → X → BudgetLeft → DecodeError → BudgetLeft → Type 0
+IsEncodingRefused merged cost held takes d old before e after =
     (t : List ℕ) × (held d ≡ Some t) × PaysAtMost before (cost t) after × (e ≡ OutOfMemory → takes d)
     × (e ≢ OutOfMemory → MergeFault (merged old t) (cost t) before e)
 
@@ -92,13 +92,13 @@ IsTextRefused merged cost held takes d old before e after =
 abbrev pub StopsAt : {X : Type 0} → (X → List ℕ → Option X) → (List ℕ → BudgetLeft) → (Datum → Option (List ℕ)) → (Datum → Type 0) → List Datum → X → BudgetLeft → DecodeError → BudgetLeft → Type 0
 StopsAt {X = X} merged cost held takes ds old before e after =
     (front : List Datum) × (d : Datum) × (back : List Datum) × (mid : X) × (left : BudgetLeft) × (ds ≡ front ++ d ∷ back)
-    × AreMerged merged cost (texts_in held front) old before mid left × IsTextRefused merged cost held takes d mid left e after
+    × AreMerged merged cost (encodings_in held front) old before mid left × IsEncodingRefused merged cost held takes d mid left e after
 
 -- merging the texts in records tells whether there was one; or it stops at a record
 abbrev pub MergesRecords : {X : Type 0} → (X → List ℕ → Option X) → (List ℕ → BudgetLeft) → (Datum → Option (List ℕ)) → (Datum → Type 0) → List Datum → X → BudgetLeft → Result Bool DecodeError → X → BudgetLeft → Type 0
 MergesRecords merged cost held takes ds old before r new after =
     MatchResult r
-    (λ some. (some ≡ some_there (texts_in held ds)) × AreMerged merged cost (texts_in held ds) old before new after)
+    (λ some. (some ≡ some_there (encodings_in held ds)) × AreMerged merged cost (encodings_in held ds) old before new after)
     (λ e. StopsAt merged cost held takes ds old before e after)
 
 -- whatever merging records answers, at most what their texts cost together is spent; and where they are merged that was
@@ -106,13 +106,13 @@ MergesRecords merged cost held takes ds old before r new after =
 abbrev pub MergingStaysWithin : {X : Type 0} → (X → List ℕ → Option X) → (List ℕ → BudgetLeft) → (Datum → Option (List ℕ)) → (Datum → Type 0) → Type 0
 MergingStaysWithin {X = X} merged cost held takes =
     (ds : List Datum) (old new : X) (before after : BudgetLeft) (r : Result Bool DecodeError) → MergesRecords merged cost held takes ds old before r new after
-    → PaysAtMost before (cost_all cost (texts_in held ds)) after × (IsOk r → Covers before (cost_all cost (texts_in held ds)))
+    → PaysAtMost before (cost_all cost (encodings_in held ds)) after × (IsOk r → Covers before (cost_all cost (encodings_in held ds)))
 
 -- a record is such, and those before it are merged into a blank under a pair of default budgets
 abbrev pub ReachesRecord : {X : Type 0} → (X → List ℕ → Option X) → (List ℕ → BudgetLeft) → X → (Datum → Option (List ℕ)) → (Datum → Type 0) → List Datum → Type 0
 ReachesRecord {X = X} merged cost blank held takes ds =
     (front : List Datum) × (d : Datum) × (back : List Datum) × (mid : X) × (left : BudgetLeft) × (ds ≡ front ++ d ∷ back)
-    × AreMerged merged cost (texts_in held front) blank full mid left × takes d
+    × AreMerged merged cost (encodings_in held front) blank full mid left × takes d
 
 -- what is answered after merging: the message where a text was there, and none after a fault
 abbrev pub IsAnswer : {X : Type 0} → Result Bool DecodeError → X → Option X → Type 0
@@ -134,8 +134,8 @@ abbrev pub group_of : List ℕ → Datum
 group_of text = group (records_of (or_none (list_at 100 1000000 text)))
 
 -- the texts in the group of a message's text: that one
-abbrev pub group_texts : List ℕ → List (List ℕ)
-group_texts text = texts_in group_held (group_of text ∷ [])
+abbrev pub group_encodings : List ℕ → List (List ℕ)
+group_encodings text = encodings_in group_held (group_of text ∷ [])
 
 abbrev pub why_refused : Result (List (ℕ × Datum)) DecodeError → Option EncodeError
 why_refused (Ok rs) = None
@@ -145,8 +145,8 @@ abbrev pub group_refusal : List ℕ → Option EncodeError
 group_refusal text = why_refused (list_at 100 1000000 text)
 
 -- why a text isn't written: it is too long, or else it can't be held
-abbrev pub text_refusal : (List ℕ → Option EncodeError) → List ℕ → Option EncodeError
-text_refusal refusal text = if nat_lt (length text) (2 ^ 31) then refusal text else Some MessageTooLarge
+abbrev pub encoding_refusal : (List ℕ → Option EncodeError) → List ℕ → Option EncodeError
+encoding_refusal refusal text = if nat_lt (length text) (2 ^ 31) then refusal text else Some MessageTooLarge
 
 -- a message is read back: its type says so, it isn't too deep, its numbers can be written, and the texts in its record
 -- cost no more than a pair of default budgets

@@ -7,7 +7,7 @@ use Rattle.buffa_wire.specs.BudgetLeft.{BudgetLeft}
 use Rattle.buffa_wire.specs.Records.{Datum, Held}
 use Rattle.buffa_codec.specs.Reading.{Covers, full}
 use Rattle.buffa_ext.specs.Defaults.{IsDefaulted}
-use Rattle.buffa_ext.specs.Messages.{IsAllMerged, MergesRecords, StopsAt, cost_all, texts_in}
+use Rattle.buffa_ext.specs.Messages.{IsAllMerged, MergesRecords, StopsAt, cost_all, encodings_in}
 use Rattle.buffa_ext.specs.Steps.{IsCleared, IsSet}
 
 -- records that are merged leave one value and one budget, and tell in one way whether there was a text; what is merged
@@ -27,16 +27,16 @@ pub record MergingIsPinned {X : Type 0} (merged : X → List ℕ → Option X) (
 -- merged isn't refused, memory aside
 pub record RecordMergeIsPinned {X : Type 0} (merged : X → List ℕ → Option X) (cost : List ℕ → BudgetLeft) (held : Datum → Option (List ℕ)) : Type 0 where
   pub alike : (d : Datum) (old new newer : X) (before left over : BudgetLeft) (f g : Bool)
-      → IsAllMerged merged cost (texts_in held (d ∷ [])) old before (Ok f) new left → IsAllMerged merged cost (texts_in held (d ∷ [])) old before (Ok g) newer over
+      → IsAllMerged merged cost (encodings_in held (d ∷ [])) old before (Ok f) new left → IsAllMerged merged cost (encodings_in held (d ∷ [])) old before (Ok g) newer over
       → (f ≡ g) × (new ≡ newer) × (left ≡ over)
   pub refused : (d : Datum) (old new newer : X) (before left over : BudgetLeft) (f : Bool) (e : DecodeError)
-      → IsAllMerged merged cost (texts_in held (d ∷ [])) old before (Ok f) new left → IsAllMerged merged cost (texts_in held (d ∷ [])) old before (Err e) newer over
+      → IsAllMerged merged cost (encodings_in held (d ∷ [])) old before (Ok f) new left → IsAllMerged merged cost (encodings_in held (d ∷ [])) old before (Err e) newer over
       → (e ≢ OutOfMemory) → ⊥
 
 -- where all texts are covered, a list has the value of each that means one
 abbrev pub ListIsExact : {X : Type 0} → (List Datum → List X → Type 0) → (X → List ℕ → Option X) → (List ℕ → BudgetLeft) → X → (Datum → Option (List ℕ)) → Type 0
 ListIsExact {X = X} reads merged cost blank held =
-    (ds : List Datum) (vs : List X) → Covers full (cost_all cost (texts_in held ds)) → reads ds vs → vs ≡ filter_map (merged blank) (texts_in held ds)
+    (ds : List Datum) (vs : List X) → Covers full (cost_all cost (encodings_in held ds)) → reads ds vs → vs ≡ filter_map (merged blank) (encodings_in held ds)
 
 -- a value that is read, else declared, else the blank is one, if all that may be declared is one
 abbrev pub DefaultIsPinned : {V M : Type 0} → (List Datum → Option M → Type 0) → (V → M) → M → (Option V → Type 0) → Type 0

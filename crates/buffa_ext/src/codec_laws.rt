@@ -58,7 +58,7 @@ pub fn other_names_are_these<E: Enumeration, C: SingularCodec, P: PackableCodec,
     ensures packed { (ds : List Datum) (vs : List P.Value.Meaning) → ⟦<PackedRepeated<P> as ExtensionCodec>⟧.reads ds vs
         ↔ ReadsList (P.one 100) (P.leaves 100) P.packed ds vs }
     ensures packed_records { (vs : List P.Value.Meaning) → ⟦<PackedRepeated<P> as ExtensionCodec>⟧.recs vs
-        ≡ packed_record P.packed_text vs }
+        ≡ packed_record P.packed_encoding vs }
     ensures messages { ReadsMessages ⟦<MessageCodec<M> as ExtensionCodec>⟧.reads (M.merged 100) (M.cost 100) M.blank_is
         bytes_held }
     ensures message_records { (v : M.Meaning) → ⟦<MessageCodec<M> as ExtensionCodec>⟧.recs v ≡ bytes (M.text v) ∷ [] }

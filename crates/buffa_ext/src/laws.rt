@@ -17,7 +17,7 @@ ghost use Rattle.buffa_codec.specs.Sub.{sub};
 ghost use Rattle.buffa_ext.specs.Changes.{SameIsOneChange};
 ghost use Rattle.buffa_ext.specs.Messages.{BeginsFieldIn, IsReadBack, LeavesOfRecord, MergingStaysWithin};
 ghost use Rattle.buffa_ext.specs.Messages.{ReachesRecord, ReadsMessages, cost_all, group_held, group_of};
-ghost use Rattle.buffa_ext.specs.Messages.{group_refusal, group_texts, message_of, text_refusal, texts_in};
+ghost use Rattle.buffa_ext.specs.Messages.{group_refusal, group_encodings, message_of, encoding_refusal, encodings_in};
 ghost use Rattle.buffa_ext.specs.Pinned.{ClearIsPinned, DefaultIsPinned, ListIsExact, MergingIsPinned};
 ghost use Rattle.buffa_ext.specs.Pinned.{RecordMergeIsPinned, SetIsPinned};
 ghost use Rattle.buffa_ext.specs.Steps.{Change, ClearsAreOne, IsExactlySet, KeepsTheRest, LeavesOthers};
@@ -88,7 +88,7 @@ pub fn last_set_counts()
 /// records under any budget never spends more than their texts cost together, nor more than was there.
 pub fn messages_stay_within_a_budget<K: MessageRecord, M: Message>()
     ensures read { (ds : List Datum) (v : M.Meaning) → ⟦<MessageIn<K, M> as ExtensionCodec>⟧.reads ds (Some v)
-        → Covers full (cost_all (M.cost 100) (texts_in K.held ds)) }
+        → Covers full (cost_all (M.cost 100) (encodings_in K.held ds)) }
     ensures merged { MergingStaysWithin (M.merged 100) (M.cost 100) K.held (K.takes 100) }
 {}
 
@@ -105,7 +105,7 @@ pub fn messages_are_read<M: Message>()
     ensures normal { (v : M.Meaning) → ⟦<MessageCodec<M> as ExtensionCodec>⟧.normal v
         ↔ IsReadBack (M.normal v) (M.levels v) (M.records v) (M.cost 100) (M.text v ∷ []) }
     ensures group_normal { (v : M.Meaning) → ⟦<GroupCodec<M> as ExtensionCodec>⟧.normal v
-        ↔ IsReadBack (M.normal v) (M.levels v) (M.records v) (M.cost 100) (group_texts (M.text v)) }
+        ↔ IsReadBack (M.normal v) (M.levels v) (M.records v) (M.cost 100) (group_encodings (M.text v)) }
     ensures holds { (v : M.Meaning) (o : Option M.Meaning) → ⟦<MessageCodec<M> as ExtensionCodec>⟧.holds v o
         ↔ (o ≡ Some v) }
     ensures group_holds { (v : M.Meaning) (o : Option M.Meaning) → ⟦<GroupCodec<M> as ExtensionCodec>⟧.holds v o
@@ -119,9 +119,9 @@ pub fn messages_are_read<M: Message>()
     ensures group_too_large { (v : M.Meaning) → 2 ^ 31 ≤ length (M.text v) →
         ⟦<GroupCodec<M> as ExtensionCodec>⟧.refusal v ≡ Some MessageTooLarge }
     ensures fits { (v : M.Meaning) → ⟦<MessageCodec<M> as ExtensionCodec>⟧.fits v
-        ↔ (text_refusal (λ t. None) (M.text v) ≡ None) }
+        ↔ (encoding_refusal (λ t. None) (M.text v) ≡ None) }
     ensures group_fits { (v : M.Meaning) → ⟦<GroupCodec<M> as ExtensionCodec>⟧.fits v
-        ↔ (text_refusal group_refusal (M.text v) ≡ None) }
+        ↔ (encoding_refusal group_refusal (M.text v) ≡ None) }
     ensures written { (v : M.Meaning) → length (M.text v) < 2 ^ 31 →
         (⟦<MessageCodec<M> as ExtensionCodec>⟧.refusal v ≡ None)
         × (⟦<GroupCodec<M> as ExtensionCodec>⟧.refusal v ≡ group_refusal (M.text v)) }
@@ -131,18 +131,18 @@ pub fn messages_are_read<M: Message>()
 /// of a list.
 pub fn message_records_are_read<M: Message>()
     ensures one { (n : ℕ) (b : BudgetLeft) (d : Datum) → ⟦<MessageCodec<M> as SingularCodec>⟧.one n b d
-        ≡ message_of (M.merged n) (M.cost n) M.blank_is b (texts_in bytes_held (d ∷ [])) }
+        ≡ message_of (M.merged n) (M.cost n) M.blank_is b (encodings_in bytes_held (d ∷ [])) }
     ensures leaves { (n : ℕ) (b left : BudgetLeft) (d : Datum) → ⟦<MessageCodec<M> as SingularCodec>⟧.leaves n b d left
         ↔ LeavesOfRecord (M.merged n) (M.cost n) M.blank_is bytes_held b d left }
     ensures cost { (d : Datum) → ⟦<MessageCodec<M> as SingularCodec>⟧.cost d
-        ≡ cost_all (M.cost 100) (texts_in bytes_held (d ∷ [])) }
+        ≡ cost_all (M.cost 100) (encodings_in bytes_held (d ∷ [])) }
     ensures most { (n : ℕ) (d : Datum) → ⟦<MessageCodec<M> as SingularCodec>⟧.most n d
-        ≡ cost_all (M.cost n) (texts_in bytes_held (d ∷ [])) }
+        ≡ cost_all (M.cost n) (encodings_in bytes_held (d ∷ [])) }
     ensures text { (v : M.Meaning) → ⟦<MessageCodec<M> as SingularCodec>⟧.text v ≡ held_bytes (M.text v) }
     ensures refusal { (v : M.Meaning) → ⟦<MessageCodec<M> as SingularCodec>⟧.refusal v
-        ≡ text_refusal (λ t. None) (M.text v) }
+        ≡ encoding_refusal (λ t. None) (M.text v) }
     ensures fits { (v : M.Meaning) → ⟦<MessageCodec<M> as SingularCodec>⟧.fits v
-        ↔ (text_refusal (λ t. None) (M.text v) ≡ None) }
+        ↔ (encoding_refusal (λ t. None) (M.text v) ≡ None) }
     ensures normal { (v : M.Meaning) → ⟦<MessageCodec<M> as SingularCodec>⟧.normal v
         ↔ (M.normal v × (M.levels v ≤ 100) × Fits (records_of (M.records v))) }
     ensures back { (v : M.Meaning) → ⟦<MessageCodec<M> as SingularCodec>⟧.back v ≡ v }
@@ -153,18 +153,18 @@ pub fn message_records_are_read<M: Message>()
 /// The same of a group.
 pub fn group_records_are_read<M: Message>()
     ensures one { (n : ℕ) (b : BudgetLeft) (d : Datum) → ⟦<GroupCodec<M> as SingularCodec>⟧.one n b d
-        ≡ message_of (M.merged n) (M.cost n) M.blank_is b (texts_in group_held (d ∷ [])) }
+        ≡ message_of (M.merged n) (M.cost n) M.blank_is b (encodings_in group_held (d ∷ [])) }
     ensures leaves { (n : ℕ) (b left : BudgetLeft) (d : Datum) → ⟦<GroupCodec<M> as SingularCodec>⟧.leaves n b d left
         ↔ LeavesOfRecord (M.merged n) (M.cost n) M.blank_is group_held b d left }
     ensures cost { (d : Datum) → ⟦<GroupCodec<M> as SingularCodec>⟧.cost d
-        ≡ cost_all (M.cost 100) (texts_in group_held (d ∷ [])) }
+        ≡ cost_all (M.cost 100) (encodings_in group_held (d ∷ [])) }
     ensures most { (n : ℕ) (d : Datum) → ⟦<GroupCodec<M> as SingularCodec>⟧.most n d
-        ≡ cost_all (M.cost n) (texts_in group_held (d ∷ [])) }
+        ≡ cost_all (M.cost n) (encodings_in group_held (d ∷ [])) }
     ensures text { (v : M.Meaning) → ⟦<GroupCodec<M> as SingularCodec>⟧.text v ≡ group_of (M.text v) }
     ensures refusal { (v : M.Meaning) → ⟦<GroupCodec<M> as SingularCodec>⟧.refusal v
-        ≡ text_refusal group_refusal (M.text v) }
+        ≡ encoding_refusal group_refusal (M.text v) }
     ensures fits { (v : M.Meaning) → ⟦<GroupCodec<M> as SingularCodec>⟧.fits v
-        ↔ (text_refusal group_refusal (M.text v) ≡ None) }
+        ↔ (encoding_refusal group_refusal (M.text v) ≡ None) }
     ensures normal { (v : M.Meaning) → ⟦<GroupCodec<M> as SingularCodec>⟧.normal v
         ↔ (M.normal v × (M.levels v ≤ 100) × Fits (records_of (M.records v))) }
     ensures back { (v : M.Meaning) → ⟦<GroupCodec<M> as SingularCodec>⟧.back v ≡ v }

@@ -9,7 +9,7 @@ ghost use Rattle.buffa_wire.specs.Records.{records_of};
 ghost use Rattle.buffa_codec.specs.Reading.{Covers, full};
 ghost use Rattle.buffa_codec.specs.Sub.{sub};
 ghost use Rattle.buffa_ext.specs.Messages.{IsAnswer, LeavesOfRecord, MergesRecords, ReachesRecord, cost_all, message_of};
-ghost use Rattle.buffa_ext.specs.Messages.{text_refusal, texts_in};
+ghost use Rattle.buffa_ext.specs.Messages.{encoding_refusal, encodings_in};
 ghost use Rattle.buffa_ext.specs.MessageFacts.{message_back, spent, spent_cost};
 
 use crate::record::{Delimited, Grouped, MessageRecord};
@@ -64,7 +64,7 @@ fn answer<M: Message>(
 impl<K: MessageRecord, M: Message> SingularCodec for MessageIn<K, M> {
     type Value = M;
 
-    ghost one = { λ depth b d. message_of (M.merged depth) (M.cost depth) M.blank_is b (texts_in K.held (d ∷ [])) };
+    ghost one = { λ depth b d. message_of (M.merged depth) (M.cost depth) M.blank_is b (encodings_in K.held (d ∷ [])) };
 
     ghost leaves = { λ depth. LeavesOfRecord (M.merged depth) (M.cost depth) M.blank_is K.held };
 
@@ -72,17 +72,17 @@ impl<K: MessageRecord, M: Message> SingularCodec for MessageIn<K, M> {
 
     ghost text = { λ v. K.holder (M.text v) };
 
-    ghost refusal = { λ v. text_refusal K.refusal (M.text v) };
+    ghost refusal = { λ v. encoding_refusal K.refusal (M.text v) };
 
-    ghost fits = { λ v. text_refusal K.refusal (M.text v) ≡ None };
+    ghost fits = { λ v. encoding_refusal K.refusal (M.text v) ≡ None };
 
     ghost normal = { λ v. M.normal v × (M.levels v ≤ 100) × Fits (records_of (M.records v)) };
 
     ghost back = { λ v. v };
 
-    ghost cost = { λ d. cost_all (M.cost 100) (texts_in K.held (d ∷ [])) };
+    ghost cost = { λ d. cost_all (M.cost 100) (encodings_in K.held (d ∷ [])) };
 
-    ghost most = { λ depth d. cost_all (M.cost depth) (texts_in K.held (d ∷ [])) };
+    ghost most = { λ depth d. cost_all (M.cost depth) (encodings_in K.held (d ∷ [])) };
 
     ghost never_fails = { ⊥ };
 
@@ -125,12 +125,12 @@ impl<K: MessageRecord, M: Message> SingularCodec for MessageIn<K, M> {
 
     ghost reads_text = { λ v b f n h.
         message_back M.merged M.cost K.held K.holder K.refusal M.blank_is M.text M.records M.levels M.normal
-        M.MessageSpec.text_records M.MessageSpec.merged_text K.MessageRecord.held_back v b f n h };
+        M.MessageSpec.encoding_records M.MessageSpec.merged_encoding K.MessageRecord.held_back v b f n h };
 
     ghost spends_cost = { λ b left d v e h. spent_cost (M.merged 100) (M.cost 100) M.blank_is v b left
-        (texts_in K.held (d ∷ [])) e h };
+        (encodings_in K.held (d ∷ [])) e h };
 
-    ghost spends = { λ b left d h. spent (M.merged 100) (M.cost 100) M.blank_is b left (texts_in K.held (d ∷ [])) h };
+    ghost spends = { λ b left d h. spent (M.merged 100) (M.cost 100) M.blank_is b left (encodings_in K.held (d ∷ [])) h };
 }
 
 /// Merges the texts in all records of the number, 100 levels deep, and tells whether there is one. It spends
@@ -182,13 +182,13 @@ impl<K: MessageRecord, M: Message> ExtensionCodec for MessageIn<K, M> {
 
     ghost answer = { option_map M.meaning };
 
-    ghost reads = { λ ds o. o ≡ message_of (M.merged 100) (M.cost 100) M.blank_is full (texts_in K.held ds) };
+    ghost reads = { λ ds o. o ≡ message_of (M.merged 100) (M.cost 100) M.blank_is full (encodings_in K.held ds) };
 
     ghost recs = { λ v. K.holder (M.text v) ∷ [] };
 
-    ghost refusal = { λ v. text_refusal K.refusal (M.text v) };
+    ghost refusal = { λ v. encoding_refusal K.refusal (M.text v) };
 
-    ghost fits = { λ v. text_refusal K.refusal (M.text v) ≡ None };
+    ghost fits = { λ v. encoding_refusal K.refusal (M.text v) ≡ None };
 
     ghost normal = { λ v. ⟦<MessageIn<K, M> as SingularCodec>⟧.normal v
         × Covers full (⟦<MessageIn<K, M> as SingularCodec>⟧.cost (K.holder (M.text v))) };
@@ -223,5 +223,5 @@ impl<K: MessageRecord, M: Message> ExtensionCodec for MessageIn<K, M> {
 
     ghost reads_back = { λ v o f n h.
         h ∙ message_back M.merged M.cost K.held K.holder K.refusal M.blank_is M.text M.records M.levels M.normal
-        M.MessageSpec.text_records M.MessageSpec.merged_text K.MessageRecord.held_back v full f n.0 n.1 };
+        M.MessageSpec.encoding_records M.MessageSpec.merged_encoding K.MessageRecord.held_back v full f n.0 n.1 };
 }

@@ -7,10 +7,10 @@ ghost use Rattle.buffa_bytes.specs.Gives.{FullOnlyIf};
 ghost use Rattle.buffa_wire.specs.BudgetLeft.{budget_left};
 ghost use Rattle.buffa_wire.specs.Parse.{Fits};
 ghost use Rattle.buffa_wire.specs.Records.{Datum, bytes, records_of};
-ghost use Rattle.buffa_wire.specs.Text.{records_text};
+ghost use Rattle.buffa_wire.specs.Encoding.{records_encoding};
 ghost use Rattle.buffa_wire.specs.View.{datum_of};
 ghost use Rattle.buffa_codec.specs.Reading.{HasByte, Refuses, bytes_held};
-ghost use Rattle.buffa_ext.specs.Messages.{BeginsFieldIn, MergesOne, group_held, group_of, group_refusal, texts_in};
+ghost use Rattle.buffa_ext.specs.Messages.{BeginsFieldIn, MergesOne, group_held, group_of, group_refusal, encodings_in};
 ghost use Rattle.buffa_ext.specs.MessageFacts.{group_back};
 
 use buffa_wire::{
@@ -55,7 +55,7 @@ pub trait MessageRecord {
     ) -> Result<bool, DecodeError>
         ensures merged { MergesOne M.merged M.cost held ctx.entry (datum_of payload.now) (M.meaning message.old) result
             (M.meaning message.new) (budget_left ctx.exit) }
-        ensures text { OnErr result (texts_in held (datum_of payload.now ∷ []) ≢ []) }
+        ensures text { OnErr result (encodings_in held (datum_of payload.now ∷ []) ≢ []) }
         ensures full { FullOnlyIf result (takes ctx.entry.depth (datum_of payload.now)) };
 
     /// The record of a text.
@@ -73,8 +73,8 @@ pub trait MessageRecord {
         ensures always { never_fails → IsOk result };
 
     /// The record of a text holds it.
-    ghost held_back: { (rs : _) → Fits (records_of rs) → refusal (records_text rs) ≡ None →
-        held (holder (records_text rs)) ≡ Some (records_text rs) };
+    ghost held_back: { (rs : _) → Fits (records_of rs) → refusal (records_encoding rs) ≡ None →
+        held (holder (records_encoding rs)) ≡ Some (records_encoding rs) };
 }
 
 /// A length-delimited record, whose bytes are the text.

@@ -12,7 +12,7 @@ use Rattle.buffa_wire.specs.Parse.{Fits}
 use Rattle.buffa_wire.specs.Passes.{IsWritten, cap}
 use Rattle.buffa_wire.specs.Reading.{check_wire}
 use Rattle.buffa_wire.specs.Records.{bytes, records_of}
-use Rattle.buffa_wire.specs.Text.{records_text}
+use Rattle.buffa_wire.specs.Encoding.{records_encoding}
 use Rattle.buffa_wire.specs.declared.context.DecodeContext.{DecodeContext}
 use Rattle.buffa_map.specs.Calls.{Exit}
 use Rattle.buffa_map.specs.Codec.{Reading, Writing}
@@ -78,22 +78,22 @@ TakesElements tag d old new before after r codec says =
 module _ {T : Type 0} (before : Cache) (put : List ℕ) (r : Result T EncodeError) (after : Cache) (puts : List ℕ) where
   -- the members of a message
   abbrev pub WritesMembers : {M X : Type 0} → Layout M X → M → Type 0
-  WritesMembers l m = IsWritten (records_text (l.records (l.meaning m))) (l.slots (l.meaning m)) before put r after puts
+  WritesMembers l m = IsWritten (records_encoding (l.records (l.meaning m))) (l.slots (l.meaning m)) before put r after puts
 
   module _ {X : Type 0} (text slots : X → List ℕ) (n : ℕ) where
     -- one message
     abbrev pub WritesMessage : X → Type 0
-    WritesMessage v = IsWritten (records_text ((n, bytes (text v)) ∷ [])) (cap (length (text v)) ∷ slots v) before put r after puts
+    WritesMessage v = IsWritten (records_encoding ((n, bytes (text v)) ∷ [])) (cap (length (text v)) ∷ slots v) before put r after puts
 
     -- a list of them
     abbrev pub WritesMessages : List X → Type 0
-    WritesMessages vs = IsWritten (records_text (messages_records text n vs)) (messages_slots text slots vs) before put r after puts
+    WritesMessages vs = IsWritten (records_encoding (messages_records text n vs)) (messages_slots text slots vs) before put r after puts
 
     -- a map of them
     abbrev pub WritesPairs : {K : Type 0} → Writing K → List (K × X) → Type 0
-    WritesPairs key l = IsWritten (records_text (pair_records key text n l)) (pair_slots text slots l) before put r after puts
+    WritesPairs key l = IsWritten (records_encoding (pair_records key text n l)) (pair_slots text slots l) before put r after puts
 
 -- the text of a normal value reads back to it, where its lengths can be read and it isn't too deep
 abbrev pub MembersReadBack : {M X : Type 0} → Layout M X → X → X → Type 0
 MembersReadBack l blank v =
-    (d : ℕ) → Fits (records_of (l.records v)) → l.normal v → l.levels v ≤ d → merged_of l.takes d blank (records_text (l.records v)) ≡ Some v
+    (d : ℕ) → Fits (records_of (l.records v)) → l.normal v → l.levels v ≤ d → merged_of l.takes d blank (records_encoding (l.records v)) ≡ Some v

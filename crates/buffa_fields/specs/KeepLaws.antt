@@ -11,10 +11,10 @@ use Rattle.buffa_wire.proofs.MessageLemmas.{NoLimit}
 use Rattle.buffa_wire.specs.BudgetLeft.{BudgetLeft, Lacks, slots as left_slots}
 use Rattle.buffa_wire.proofs.ParseLemmas.{text_parses}
 use Rattle.buffa_wire.specs.Falls.{height-records}
-use Rattle.buffa_wire.specs.Parse.{Fits, IsPayload, Parse, slots_inside}
+use Rattle.buffa_wire.specs.Parse.{Fits, IsPayload, Parse, fields_inside}
 use Rattle.buffa_wire.specs.RecordReading.{TakesMemory, field_at}
 use Rattle.buffa_wire.specs.Records.{Datum, height, records_of}
-use Rattle.buffa_wire.specs.Text.{records_text, wire_of}
+use Rattle.buffa_wire.specs.Encoding.{records_encoding, wire_of}
 use Rattle.std.specs.Prelude.{Bool, true, ◌&&◌}
 use Rattle.buffa_wire.proofs.KeepLemmas.{all_slots, enough_slots, field_short, le_or_lt, needed, payload_of_record, record_of_payload}
 use Rattle.buffa_wire.specs.Kept.{keep_need, record_at, spent_of}
@@ -40,9 +40,9 @@ kept_pieces P (y ∷ ys) d v b ok (f, r, (t, p, tag, payload, is), next, all) =
       (ok.0, tag, payload_of_record y.1 d y.0 p payload, v ++ (y.0, y.1) ∷ [], takes_record d y.0 (wire_of y.1) p y.1 payload refl v, subst (λ z. Leads keep_takes P d (v ++ (y.0, y.1) ∷ []) more.0 z) (append_assoc v (y ∷ []) ys) more.2),
     )
 
-pub keep_back : (P : ℕ → Bool) (d : ℕ) (v : List (ℕ × Datum)) → AllNumbers P v → Fits (records_of v) → height v ≤ d → ReadsBack keep_takes P d [] (records_text v) v
+pub keep_back : (P : ℕ → Bool) (d : ℕ) (v : List (ℕ × Datum)) → AllNumbers P v → Fits (records_of v) → height v ≤ d → ReadsBack keep_takes P d [] (records_encoding v) v
 keep_back P d v ok fits low =
-    let k = kept_pieces P v d [] (records_text v) ok (text_parses (records_of v) d fits (subst (λ k. k ≤ d) (sym (height-records v)) low)) in
+    let k = kept_pieces P v d [] (records_encoding v) ok (text_parses (records_of v) d fits (subst (λ k. k ≤ d) (sym (height-records v)) low)) in
     record { pieces = k.0; spelled = k.1; leads = k.2 }
 
 pub all_numbers : (v : List (ℕ × Datum)) → AllNumbers (λ n. true) v
@@ -75,7 +75,7 @@ module _ (d s n : ℕ) (w : WireType) (bs : List ℕ) (v : List (ℕ × Datum)) 
   none_there (Ok y) is e h =
       let u = agree_ok (record_at d n w bs) y (field_is_read d (suc (length bs)) n w bs) is in
       let need = needed d n w bs u.0 y.2 y.0 u.1 u.2 u.4 in
-      elim (le_or_lt (1 + slots_inside y.0) s) [
+      elim (le_or_lt (1 + fields_inside y.0) s) [
         | inl many ↦ let k = sym h ∙ enough_slots d s n w bs u.0 y.2 y.0 u.1 u.2 u.4 many in cc
         | inr few ↦ inl (inl (omega (arith, few, all, ap (λ z. z.unknown) need)))
       ]
@@ -117,7 +117,7 @@ keep_as d n w bs before u v same r new after rest h = subst (λ z. IsTaken keep_
 pub kept_record : (d n : ℕ) (x : Datum) (p : List ℕ) (v : List (ℕ × Datum)) → IsPayload d n x p → keep_takes d v n (wire_of x) p ≡ Some (v ++ (n, x) ∷ [])
 kept_record d n x p v h = takes_record d n (wire_of x) p x h refl v
 
-pub kept_costs : (d n : ℕ) (x : Datum) (p more : List ℕ) → IsPayload d n x p → keep_need d n (wire_of x) (p ++ more) ≡ left_slots (1 + slots_inside x)
+pub kept_costs : (d n : ℕ) (x : Datum) (p more : List ℕ) → IsPayload d n x p → keep_need d n (wire_of x) (p ++ more) ≡ left_slots (1 + fields_inside x)
 kept_costs d n x p more h = needed d n (wire_of x) (p ++ more) p more x h refl refl
 
 value_there : {A E : Type 0} (r : Result A E) → IsOk r → (x : A) × (r ≡ Ok x)

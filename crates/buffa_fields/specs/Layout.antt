@@ -10,7 +10,7 @@ use Rattle.buffa_wire.specs.Parse.{Fits}
 use Rattle.buffa_wire.specs.Cache.{Cache}
 use Rattle.buffa_wire.specs.Passes.{IsNext, IsSized, IsWritten}
 use Rattle.buffa_wire.specs.Records.{Datum, records_of}
-use Rattle.buffa_wire.specs.Text.{records_text}
+use Rattle.buffa_wire.specs.Encoding.{records_encoding}
 use Rattle.buffa_wire.specs.Kept.{keep_need}
 use Rattle.buffa_fields.specs.Keep.{KeepTakesMemory, keep_takes}
 use Rattle.buffa_fields.specs.Takes.{Asks, IsTaken, Need, ReadsBack, Stays, Taker}
@@ -34,7 +34,7 @@ pub record Slot (P X : Type 0) : Type 1 where
 
 -- The records read back to the value.
 pub record ReadsBackTo {P X : Type 0} (s : Slot P X) : Type 0 where
-  pub back : (k : ℕ) → IsNumber k → (d : ℕ) (v : X) → Fits (records_of (s.records k v)) → s.normal v → s.levels v ≤ d → ReadsBack s.takes (λ n. n == k) d s.blank (records_text (s.records k v)) v
+  pub back : (k : ℕ) → IsNumber k → (d : ℕ) (v : X) → Fits (records_of (s.records k v)) → s.normal v → s.levels v ≤ d → ReadsBack s.takes (λ n. n == k) d s.blank (records_encoding (s.records k v)) v
 
 -- ---- what the calls of a message's members owe
 
@@ -81,11 +81,11 @@ visited s k p z = more (s.records k (s.meaning p)) (s.slots (s.meaning p)) z
 
 -- what was seen was sized, into the cache; memory runs out only where a message has a slot in it
 unfoldable pub IsCounted : ℕ → Result ℕ EncodeError → Cache → Seen → Type 0
-IsCounted cache r now z = (z.cache ≡ cache) × IsSized (records_text z.records) z.slots z.first r now × (z.slots ≡ [] → IsOk r)
+IsCounted cache r now z = (z.cache ≡ cache) × IsSized (records_encoding z.records) z.slots z.first r now × (z.slots ≡ [] → IsOk r)
 
 -- it was written, behind what stood in the sink, out of the cache
 unfoldable pub IsPut : ℕ → ℕ → List ℕ → Cache → Result (Unit {0}) EncodeError → Seen → Type 0
-IsPut sink cache written now r z = (z.sink ≡ sink) × (z.cache ≡ cache) × IsWritten (records_text z.records) z.slots z.first z.before r now written
+IsPut sink cache written now r z = (z.sink ≡ sink) × (z.cache ≡ cache) × IsWritten (records_encoding z.records) z.slots z.first z.before r now written
 
 -- these sizes are next, unless memory ran out
 unfoldable pub Follow : List ℕ → Result (Unit {0}) EncodeError → Cache → Type 0
@@ -134,4 +134,4 @@ pub record Layout (M X : Type 0) : Type 1 where
   pub within_both : (P Q : ℕ → Bool) (v : X) → within P v → within Q v → within (λ n. P n && Q n) v
   -- where the records of each member read back, those of all do
   pub Owes : Type 0
-  pub back : Owes → sound ≡ true → (P : ℕ → Bool) (d : ℕ) (v : X) → within P v → Fits (records_of (records v)) → normal v → levels v ≤ d → ReadsBack takes P d blank (records_text (records v)) v
+  pub back : Owes → sound ≡ true → (P : ℕ → Bool) (d : ℕ) (v : X) → within P v → Fits (records_of (records v)) → normal v → levels v ≤ d → ReadsBack takes P d blank (records_encoding (records v)) v

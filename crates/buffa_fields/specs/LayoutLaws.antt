@@ -13,11 +13,11 @@ use Rattle.buffa_wire.specs.Passes.{IsNext, IsSized, IsSmall, IsWritten, cap}
 use Rattle.buffa_wire.specs.Cache.{Cache}
 use Rattle.buffa_wire.proofs.PassLemmas.{appended_none, appended_twice, done, next_front, next_past, refused, written_none, written_short, written_then}
 use Rattle.buffa_wire.specs.Records.{Datum, records_of}
-use Rattle.buffa_wire.specs.Text.{records_text}
+use Rattle.buffa_wire.specs.Encoding.{records_encoding}
 use Rattle.buffa_fields.specs.Layout.{Choice, Follow, IsCounted, IsPut, Kept, Layout, Passed, Seen, Slot, Took, costs_nothing, more, passes, visited}
 use Rattle.buffa_wire.specs.Kept.{keep_need}
 use Rattle.buffa_fields.specs.Keep.{KeepTakesMemory, keep_takes}
-use Rattle.buffa_fields.specs.PairLaws.{first_taken, other_taken, records_text-append}
+use Rattle.buffa_fields.specs.PairLaws.{first_taken, other_taken, records_encoding-append}
 use Rattle.buffa_fields.specs.Takes.{IsTaken, Need, Taker, both_need, both_take, cost_of, merged_of}
 use Rattle.buffa_fields.specs.TakesLaws.{back as leads_back, taken_full, taken_merges}
 
@@ -113,11 +113,11 @@ sized_more t u s x c0 c1 c2 total len new h k e =
     (cap_more (length t) (length u) total len new h.0 k.0 e ∙ ap cap (sym (length-append t u)), k.1 ∙ appended_twice s x c0 c1 h.1)
 
 pub counted : (rs : List (ℕ × Datum)) (ss : List ℕ) (z : Seen) (cache : ℕ) (c1 c2 : Cache) (total len new : ℕ) → IsCounted cache (sum total) c1 z →
-    IsSized (records_text rs) ss c1 (sum len) c2 → new ≡ min (total + len) 4294967295 → IsCounted cache (sum new) c2 (more rs ss z)
+    IsSized (records_encoding rs) ss c1 (sum len) c2 → new ≡ min (total + len) 4294967295 → IsCounted cache (sum new) c2 (more rs ss z)
 unfolding IsCounted more
 counted rs ss z cache c1 c2 total len new (is, h, _) k e = (
   is,
-  subst (λ (l : List ℕ). IsSized l (z.slots ++ ss) z.first (sum new) c2) (sym (records_text-append z.records rs)) (sized_more (records_text z.records) (records_text rs) z.slots ss z.first c1 c2 total len new h k e),
+  subst (λ (l : List ℕ). IsSized l (z.slots ++ ss) z.first (sum new) c2) (sym (records_encoding-append z.records rs)) (sized_more (records_encoding z.records) (records_encoding rs) z.slots ss z.first c1 c2 total len new h k e),
   λ none. refl,
 )
 
@@ -131,7 +131,7 @@ second_none [] b h = h
 second_none (x ∷ a) b h = cc
 
 pub counted_err : (rs : List (ℕ × Datum)) (ss : List ℕ) (z : Seen) (cache : ℕ) (c1 c2 : Cache) (total : ℕ) (e : EncodeError) → IsCounted cache (sum total) c1 z →
-    IsSized (records_text rs) ss c1 (failed e) c2 → (ss ≡ [] → IsOk (failed e)) → IsCounted cache (failed e) c2 (more rs ss z)
+    IsSized (records_encoding rs) ss c1 (failed e) c2 → (ss ≡ [] → IsOk (failed e)) → IsCounted cache (failed e) c2 (more rs ss z)
 unfolding IsCounted more
 counted_err rs ss z cache c1 c2 total e (is, h, _) (which, longer) always =
     (is, (which, (z.slots ++ longer.0, longer.1 ∙ appended_twice z.slots longer.0 z.first c1 h.1)), λ none. always (second_none z.slots ss none))
@@ -147,14 +147,14 @@ small_both t u h = (omega (arith, h, length-append t u), omega (arith, h, length
 
 -- the next records are written behind the others
 pub put : (rs : List (ℕ × Datum)) (ss : List ℕ) (z : Seen) (sink cache : ℕ) (old new : List ℕ) (c1 c2 : Cache) (r : Result (Unit {0}) EncodeError) → IsPut sink cache old c1 done z →
-    IsWritten (records_text rs) ss c1 old r c2 new → IsPut sink cache new c2 r (more rs ss z)
+    IsWritten (records_encoding rs) ss c1 old r c2 new → IsPut sink cache new c2 r (more rs ss z)
 unfolding IsPut more
 put rs ss z sink cache old new c1 c2 r (is, same, h) k = (
   is,
   same,
-  subst (λ (l : List ℕ). IsWritten l (z.slots ++ ss) z.first z.before r c2 new) (sym (records_text-append z.records rs))
-      (written_then (IsSmall (records_text z.records)) (IsSmall (records_text rs)) (IsSmall (records_text z.records ++ records_text rs)) (records_text z.records) (records_text rs) z.slots ss z.first c1 c2 z.before old new
-      (small_both (records_text z.records) (records_text rs)) r h k),
+  subst (λ (l : List ℕ). IsWritten l (z.slots ++ ss) z.first z.before r c2 new) (sym (records_encoding-append z.records rs))
+      (written_then (IsSmall (records_encoding z.records)) (IsSmall (records_encoding rs)) (IsSmall (records_encoding z.records ++ records_encoding rs)) (records_encoding z.records) (records_encoding rs) z.slots ss z.first c1 c2 z.before old new
+      (small_both (records_encoding z.records) (records_encoding rs)) r h k),
 )
 
 -- nothing is, once memory ran out
@@ -163,14 +163,14 @@ unfolding IsPut more
 put_none rs ss z sink cache new c e (is, same, h) = (
   is,
   same,
-  subst (λ (l : List ℕ). IsWritten l (z.slots ++ ss) z.first z.before (refused e) c new) (sym (records_text-append z.records rs))
-      (written_short (IsSmall (records_text z.records)) (IsSmall (records_text rs)) (IsSmall (records_text z.records ++ records_text rs)) (records_text z.records) (records_text rs) z.slots ss z.first c c z.before new new
-      (λ h. (small_both (records_text z.records) (records_text rs) h).0) e h),
+  subst (λ (l : List ℕ). IsWritten l (z.slots ++ ss) z.first z.before (refused e) c new) (sym (records_encoding-append z.records rs))
+      (written_short (IsSmall (records_encoding z.records)) (IsSmall (records_encoding rs)) (IsSmall (records_encoding z.records ++ records_encoding rs)) (records_encoding z.records) (records_encoding rs) z.slots ss z.first c c z.before new new
+      (λ h. (small_both (records_encoding z.records) (records_encoding rs) h).0) e h),
 )
 
 -- no records, no text
-pub unwritten : (rs : List (ℕ × Datum)) (c : Cache) (b : List ℕ) → rs ≡ [] → IsWritten (records_text rs) [] c b done c b
-unwritten rs c b is = subst (λ z. IsWritten (records_text z) [] c b done c b) (sym is) (written_none (IsSmall []) c b)
+pub unwritten : (rs : List (ℕ × Datum)) (c : Cache) (b : List ℕ) → rs ≡ [] → IsWritten (records_encoding rs) [] c b done c b
+unwritten rs c b is = subst (λ z. IsWritten (records_encoding z) [] c b done c b) (sym is) (written_none (IsSmall []) c b)
 
 -- ---- the sizes that are next
 pub follow_first : (ss rest : List ℕ) (c : Cache) → Follow (ss ++ rest) done c → IsNext ss c
@@ -209,25 +209,25 @@ unfolding IsPut start
 puts_none sink before cache c = (refl, refl, written_none (IsSmall []) c before)
 
 was_put : (rs : List (ℕ × Datum)) (ss : List ℕ) (sink from : ℕ) (before : List ℕ) (cache of : ℕ) (first now : Cache) (new : List ℕ) (r : Result (Unit {0}) EncodeError) →
-    IsPut sink cache new now r (more rs ss (start from before of first)) → (sink ≡ from) × (cache ≡ of) × IsWritten (records_text rs) ss first before r now new
+    IsPut sink cache new now r (more rs ss (start from before of first)) → (sink ≡ from) × (cache ≡ of) × IsWritten (records_encoding rs) ss first before r now new
 unfolding IsPut start more
 was_put rs ss sink from before cache of first now new r h = (sym h.0, sym h.1, h.2)
 
 was_counted : (rs : List (ℕ × Datum)) (ss : List ℕ) (sink : ℕ) (before : List ℕ) (cache of : ℕ) (first now : Cache) (r : Result ℕ EncodeError) →
-    IsCounted cache r now (more rs ss (start sink before of first)) → (cache ≡ of) × IsSized (records_text rs) ss first r now × (ss ≡ [] → IsOk r)
+    IsCounted cache r now (more rs ss (start sink before of first)) → (cache ≡ of) × IsSized (records_encoding rs) ss first r now × (ss ≡ [] → IsOk r)
 unfolding IsCounted start more
 was_counted rs ss sink before cache of first now r h = (sym h.0, h.1, h.2)
 
 module _ {M X : Type 0} (l : Layout M X) where
   -- the size pass
   pub sizes : (m : M) (sink : ℕ) (before : List ℕ) (cache of : ℕ) (first now : Cache) (r : Result ℕ EncodeError) → IsCounted cache r now (l.seen m (start sink before of first)) →
-      (cache ≡ of) × IsSized (records_text (l.records (l.meaning m))) (l.slots (l.meaning m)) first r now × (l.slots (l.meaning m) ≡ [] → IsOk r)
+      (cache ≡ of) × IsSized (records_encoding (l.records (l.meaning m))) (l.slots (l.meaning m)) first r now × (l.slots (l.meaning m) ≡ [] → IsOk r)
   sizes m sink before cache of first now r h =
       was_counted (l.records (l.meaning m)) (l.slots (l.meaning m)) sink before cache of first now r (subst (λ z. IsCounted cache r now z) (l.seen_is m (start sink before of first)) h)
 
   -- the write pass
   pub puts : (m : M) (from sink : ℕ) (before : List ℕ) (of cache : ℕ) (first now : Cache) (new : List ℕ) (r : Result (Unit {0}) EncodeError) → IsPut sink cache new now r (l.seen m (start from before of first)) →
-      (sink ≡ from) × (cache ≡ of) × IsWritten (records_text (l.records (l.meaning m))) (l.slots (l.meaning m)) first before r now new
+      (sink ≡ from) × (cache ≡ of) × IsWritten (records_encoding (l.records (l.meaning m))) (l.slots (l.meaning m)) first before r now new
   puts m from sink before of cache first now new r h =
       was_put (l.records (l.meaning m)) (l.slots (l.meaning m)) sink from before cache of first now new r (subst (λ z. IsPut sink cache new now r z) (l.seen_is m (start from before of first)) h)
 
@@ -243,6 +243,6 @@ module _ {M X : Type 0} (l : Layout M X) where
       taken_full l.takes l.need d (l.meaning old) (l.meaning new) n wire bs rest before after r (l.taken_is d old n wire bs before r new after rest h)
 
   -- the text reads back
-  pub reads_back : l.Owes → l.sound ≡ true → (d : ℕ) (v : X) → Fits (records_of (l.records v)) → l.normal v → l.levels v ≤ d → merged_of l.takes d l.blank (records_text (l.records v)) ≡ Some v
+  pub reads_back : l.Owes → l.sound ≡ true → (d : ℕ) (v : X) → Fits (records_of (l.records v)) → l.normal v → l.levels v ≤ d → merged_of l.takes d l.blank (records_encoding (l.records v)) ≡ Some v
   reads_back owes sound d v fits normal low =
-      leads_back l.takes d (λ n. true) l.blank (records_text (l.records v)) v (l.back owes sound (λ n. true) d v (l.within_all v) fits normal low)
+      leads_back l.takes d (λ n. true) l.blank (records_encoding (l.records v)) v (l.back owes sound (λ n. true) d v (l.within_all v) fits normal low)

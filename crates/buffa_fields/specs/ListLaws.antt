@@ -7,10 +7,10 @@ use Rattle.buffa_bytes.proofs.DelimitedLemmas.{delimited_back, delimited_complet
 use Rattle.buffa_bytes.proofs.FieldLemmas.{wire_small}
 use Rattle.buffa_bytes.proofs.SinkLemmas.{front_first, front_second}
 use Rattle.buffa_bytes.proofs.StepLemmas.{Agrees, agree_bind, agree_err, agree_ok}
-use Rattle.buffa_bytes.proofs.VarintLemmas.{IsVarint-varint_text, varint_falls}
+use Rattle.buffa_bytes.proofs.VarintLemmas.{IsVarint-varint_encoding, varint_falls}
 use Rattle.buffa_bytes.specs.Content.{Content, HasContent, content_at}
 use Rattle.buffa_bytes.specs.Content.Content.{number, bytes as held}
-use Rattle.buffa_bytes.specs.Varint.{varint_text}
+use Rattle.buffa_bytes.specs.Varint.{varint_encoding}
 use Rattle.buffa_bytes.specs.WireType.{wire_number}
 use Rattle.buffa_bytes.specs.declared.error.DecodeError.{DecodeError}
 use Rattle.buffa_bytes.specs.declared.error.DecodeError.TheVariants.{OutOfMemory, UnexpectedEof, WireTypeMismatch}
@@ -28,16 +28,16 @@ use Rattle.buffa_wire.specs.Passes.{cap}
 use Rattle.buffa_wire.specs.Reading.{check_wire, delimited_at}
 use Rattle.buffa_wire.specs.Records.{Datum, records_of}
 use Rattle.buffa_wire.specs.Sequence.{parse_all, parse_within}
-use Rattle.buffa_wire.specs.Text.{field_text, records_text}
-use Rattle.buffa_wire.specs.Values.{delimited_text, tag_text}
+use Rattle.buffa_wire.specs.Encoding.{field_encoding, records_encoding}
+use Rattle.buffa_wire.specs.Values.{delimited_encoding, tag_encoding}
 use Rattle.buffa_wire.specs.WireType.{same_wire}
 use Rattle.buffa_wire.specs.Written.{WritesFront}
 use Rattle.buffa_map.proofs.EntryLemmas.{same_false, same_refl, value_complete, value_sound}
 use Rattle.buffa_map.specs.Codec.{Reading, ValueFault, Writing, level, value_at}
 use Rattle.buffa_wire.proofs.ByFieldLemmas.{along_err, along_none, along_ok}
 use Rattle.buffa_fields.specs.LayoutLaws.{cap_more}
-use Rattle.buffa_fields.specs.Lists.{Each, TakesPacked, check_list_wire, element_at, element_records, elements_in, elements_taken, packed_records, packed_text}
-use Rattle.buffa_fields.specs.PairLaws.{records_text-append}
+use Rattle.buffa_fields.specs.Lists.{Each, TakesPacked, check_list_wire, element_at, element_records, elements_in, elements_taken, packed_records, packed_encoding}
+use Rattle.buffa_fields.specs.PairLaws.{records_encoding-append}
 use Rattle.buffa_fields.specs.Takes.{IsTaken, Leads, Piece, ReadsBack, joined}
 use Rattle.buffa_fields.specs.ValueLaws.{content_payload, fault_no_limit, none_of}
 use Rattle.buffa_fields.specs.Values.{free}
@@ -234,15 +234,15 @@ module _ {V : Type 0} (reading : Reading V) (writing : Writing V) (datum : V →
     (no_limit : (d : ℕ) (old : V) (c : Content) (x : DecodeError) → reading.reads d old c ≡ Err x → IsLimit x → ⊥)
     (WIRE : WireType) (wire : reading.wire ≡ WIRE) (written : writing.wire ≡ WIRE) (Fit Normal : V → Type 0)
     (reads_back : (d : ℕ) (old v : V) → Fit v → Normal v → (c : Content) × HasContent writing.wire (writing.text v) c × (reading.reads d old c ≡ Ok (v, true)))
-    (datum_text : (n : ℕ) (v : V) → tag_text n writing.wire ++ writing.text v ≡ field_text n (datum v)) where
+    (datum_encoding : (n : ℕ) (v : V) → tag_encoding n writing.wire ++ writing.text v ≡ field_encoding n (datum v)) where
   same : reading.wire ≡ writing.wire
   same = wire ∙ sym written
 
   small_tag : (w : WireType) → 8 * n + wire_number w < 2 ^ 64
   small_tag w = omega (arith, is_number.0, is_number.1, wire_small w)
 
-  tag_is : (w : WireType) → IsTag (tag_text n w) n w
-  tag_is w = (is_number, IsVarint-varint_text (8 * n + wire_number w) (small_tag w))
+  tag_is : (w : WireType) → IsTag (tag_encoding n w) n w
+  tag_is w = (is_number, IsVarint-varint_encoding (8 * n + wire_number w) (small_tag w))
 
   at_front : (v : V) (rest : List ℕ) → Fit v → Normal v → value_at reading d reading.blank (writing.text v ++ rest) ≡ Ok ((v, true), rest)
   at_front v rest fit normal =
@@ -253,12 +253,12 @@ module _ {V : Type 0} (reading : Reading V) (writing : Writing V) (datum : V →
   alone v fit normal = ap (value_at reading d reading.blank) (sym (append-nil (writing.text v))) ∙ at_front v [] fit normal
 
   abbrev piece : V → Piece
-  piece v = record { tag = tag_text n writing.wire; number = n; wire = writing.wire; payload = writing.text v }
+  piece v = record { tag = tag_encoding n writing.wire; number = n; wire = writing.wire; payload = writing.text v }
 
-  spelled_all : (vs : List V) → records_text (element_records datum n vs) ≡ joined (map piece vs)
+  spelled_all : (vs : List V) → records_encoding (element_records datum n vs) ≡ joined (map piece vs)
   unfolding element_records
   spelled_all [] = refl
-  spelled_all (v ∷ vs) = λ i. sym (datum_text n v) i ++ spelled_all vs i
+  spelled_all (v ∷ vs) = λ i. sym (datum_encoding n v) i ++ spelled_all vs i
 
   takes_one : (acc : List V) (v : V) → Fit v → Normal v → elements_taken reading d acc n writing.wire (writing.text v) ≡ Some (acc ++ v ∷ [])
   unfolding elements_taken
@@ -276,38 +276,38 @@ module _ {V : Type 0} (reading : Reading V) (writing : Writing V) (datum : V →
         subst (λ z. Leads (elements_taken reading) (λ m. m == n) d (acc ++ v ∷ []) (map piece vs) z) (append_assoc acc (v ∷ []) vs) (leads_all (acc ++ v ∷ []) vs h.1),
       )
 
-  pub elements_back : (vs : List V) → Each (λ v. Fit v × Normal v) vs → ReadsBack (elements_taken reading) (λ m. m == n) d [] (records_text (element_records datum n vs)) vs
+  pub elements_back : (vs : List V) → Each (λ v. Fit v × Normal v) vs → ReadsBack (elements_taken reading) (λ m. m == n) d [] (records_encoding (element_records datum n vs)) vs
   elements_back vs h = record { pieces = map piece vs; spelled = spelled_all vs; leads = leads_all [] vs h }
 
   -- ---- packed
-  unpacks : (acc vs : List V) → Each (λ v. Fit v × Normal v) vs → elements_in reading d acc (packed_text writing.text vs) ≡ Ok (acc ++ vs)
+  unpacks : (acc vs : List V) → Each (λ v. Fit v × Normal v) vs → elements_in reading d acc (packed_encoding writing.text vs) ≡ Ok (acc ++ vs)
   unpacks acc [] h = elements_end reading plain no_limit d acc ∙ ap (λ z. Ok z) (sym (append-nil acc))
   unpacks acc (v ∷ vs) h =
       let r = reads_back d reading.blank v h.0.0 h.0.1 in
-      let rest = packed_text writing.text vs in
+      let rest = packed_encoding writing.text vs in
       let some : 0 < length (writing.text v ++ rest) = omega (arith, has_byte writing.wire (writing.text v) r.0 r.1, length-append (writing.text v) rest) in
       elements_next reading plain no_limit d acc (acc ++ v ∷ []) (writing.text v ++ rest) rest some (rw (at_front v rest h.0.0 h.0.1) refl)
       ∙ unpacks (acc ++ v ∷ []) vs h.1 ∙ ap (λ z. Ok z) (append_assoc acc (v ∷ []) vs)
 
-  takes_packed : same_wire reading.wire LengthDelimited ≡ false → (vs : List V) → Each (λ v. Fit v × Normal v) vs → length (packed_text writing.text vs) < 2 ^ 64 →
-      elements_taken reading d [] n LengthDelimited (delimited_text (packed_text writing.text vs)) ≡ Some vs
+  takes_packed : same_wire reading.wire LengthDelimited ≡ false → (vs : List V) → Each (λ v. Fit v × Normal v) vs → length (packed_encoding writing.text vs) < 2 ^ 64 →
+      elements_taken reading d [] n LengthDelimited (delimited_encoding (packed_encoding writing.text vs)) ≡ Some vs
   unfolding elements_taken
   takes_packed off vs h fits =
-      let b = packed_text writing.text vs in
-      let is : delimited_at (delimited_text b) ≡ Ok (b, []) = ap delimited_at (sym (append-nil (delimited_text b))) ∙ delimited_back b [] fits in
+      let b = packed_encoding writing.text vs in
+      let is : delimited_at (delimited_encoding b) ≡ Ok (b, []) = ap delimited_at (sym (append-nil (delimited_encoding b))) ∙ delimited_back b [] fits in
       rw (off, is, unpacks [] vs h) refl
 
   pub packed_back : same_wire reading.wire LengthDelimited ≡ false → (vs : List V) → Fits (records_of (packed_records writing.text n vs)) → Each (λ v. Fit v × Normal v) vs →
-      ReadsBack (elements_taken reading) (λ m. m == n) d [] (records_text (packed_records writing.text n vs)) vs
+      ReadsBack (elements_taken reading) (λ m. m == n) d [] (records_encoding (packed_records writing.text n vs)) vs
   unfolding packed_records
   packed_back apart [] fits h = record { pieces = []; spelled = refl; leads = refl }
   packed_back apart (v ∷ vs) fits h =
-      let b = packed_text writing.text (v ∷ vs) in
-      let one : Piece = record { tag = tag_text n LengthDelimited; number = n; wire = LengthDelimited; payload = delimited_text b } in
+      let b = packed_encoding writing.text (v ∷ vs) in
+      let one : Piece = record { tag = tag_encoding n LengthDelimited; number = n; wire = LengthDelimited; payload = delimited_encoding b } in
       record {
         pieces = one ∷ [];
         spelled = refl;
-        leads = (eq-eqb n n refl, tag_is LengthDelimited, (varint_text (length b), b, IsVarint-varint_text (length b) fits.1, refl), v ∷ vs, takes_packed apart (v ∷ vs) h fits.1, refl);
+        leads = (eq-eqb n n refl, tag_is LengthDelimited, (varint_encoding (length b), b, IsVarint-varint_encoding (length b) fits.1, refl), v ∷ vs, takes_packed apart (v ∷ vs) h fits.1, refl);
       }
 
 -- ---- the wire type of a field
@@ -361,40 +361,40 @@ means_cut meaning xs i x lt e =
     ∙ ap (λ l. map meaning (take i xs) ++ map meaning l) (drop_more xs i x lt) ∙ ap (λ y. map meaning (take i xs) ++ meaning y ∷ map meaning (drop (i + 1) xs)) (sym e)
 
 module _ {V : Type 0} (datum : V → Datum) (n : ℕ) where
-  text_two : (vs us : List V) → records_text (element_records datum n (vs ++ us)) ≡ records_text (element_records datum n vs) ++ records_text (element_records datum n us)
+  text_two : (vs us : List V) → records_encoding (element_records datum n (vs ++ us)) ≡ records_encoding (element_records datum n vs) ++ records_encoding (element_records datum n us)
   unfolding element_records
-  text_two vs us = ap records_text (map-append (λ v. (n, datum v)) vs us) ∙ records_text-append (map (λ v. (n, datum v)) vs) (map (λ v. (n, datum v)) us)
+  text_two vs us = ap records_encoding (map-append (λ v. (n, datum v)) vs us) ∙ records_encoding-append (map (λ v. (n, datum v)) vs) (map (λ v. (n, datum v)) us)
 
-  text_one : (v : V) → records_text (element_records datum n (v ∷ [])) ≡ records_text ((n, datum v) ∷ [])
+  text_one : (v : V) → records_encoding (element_records datum n (v ∷ [])) ≡ records_encoding ((n, datum v) ∷ [])
   unfolding element_records
   text_one v = refl
 
-  text_more : (vs : List V) (v : V) → records_text (element_records datum n (vs ++ v ∷ [])) ≡ records_text (element_records datum n vs) ++ records_text ((n, datum v) ∷ [])
-  text_more vs v = text_two vs (v ∷ []) ∙ ap (λ (z : List ℕ). records_text (element_records datum n vs) ++ z) (text_one v)
+  text_more : (vs : List V) (v : V) → records_encoding (element_records datum n (vs ++ v ∷ [])) ≡ records_encoding (element_records datum n vs) ++ records_encoding ((n, datum v) ∷ [])
+  text_more vs v = text_two vs (v ∷ []) ∙ ap (λ (z : List ℕ). records_encoding (element_records datum n vs) ++ z) (text_one v)
 
-  pub text_none : (old : List ℕ) → old ≡ old ++ records_text (element_records datum n [])
+  pub text_none : (old : List ℕ) → old ≡ old ++ records_encoding (element_records datum n [])
   unfolding element_records
   text_none old = sym (append-nil old)
 
-  pub count_none : 0 ≡ cap (length (records_text (element_records datum n [])))
+  pub count_none : 0 ≡ cap (length (records_encoding (element_records datum n [])))
   unfolding element_records
   count_none = refl
 
   module _ {P : Type 0} (meaning : P → V) (xs : List P) (i : ℕ) (x : P) (lt : i < length xs) (is : x ≡ get_or xs i x) where
     abbrev text_to : ℕ → List ℕ
-    text_to k = records_text (element_records datum n (map meaning (take k xs)))
+    text_to k = records_encoding (element_records datum n (map meaning (take k xs)))
 
     abbrev here : List ℕ
-    here = records_text ((n, datum (meaning x)) ∷ [])
+    here = records_encoding ((n, datum (meaning x)) ∷ [])
 
     pub text_next : text_to (i + 1) ≡ text_to i ++ here
-    text_next = ap (λ (z : List V). records_text (element_records datum n z)) (means_more meaning xs i x lt is) ∙ text_more (map meaning (take i xs)) (meaning x)
+    text_next = ap (λ (z : List V). records_encoding (element_records datum n z)) (means_more meaning xs i x lt is) ∙ text_more (map meaning (take i xs)) (meaning x)
 
-    pub text_cut : records_text (element_records datum n (map meaning xs)) ≡ (text_to i ++ here) ++ records_text (element_records datum n (map meaning (drop (i + 1) xs)))
+    pub text_cut : records_encoding (element_records datum n (map meaning xs)) ≡ (text_to i ++ here) ++ records_encoding (element_records datum n (map meaning (drop (i + 1) xs)))
     text_cut =
         let rest = map meaning (drop (i + 1) xs) in
-        ap (λ (z : List V). records_text (element_records datum n z)) (means_cut meaning xs i x lt is ∙ sym (append_assoc (map meaning (take i xs)) (meaning x ∷ []) rest))
-        ∙ text_two (map meaning (take i xs) ++ meaning x ∷ []) rest ∙ ap (λ (z : List ℕ). z ++ records_text (element_records datum n rest)) (text_more (map meaning (take i xs)) (meaning x))
+        ap (λ (z : List V). records_encoding (element_records datum n z)) (means_cut meaning xs i x lt is ∙ sym (append_assoc (map meaning (take i xs)) (meaning x ∷ []) rest))
+        ∙ text_two (map meaning (take i xs) ++ meaning x ∷ []) rest ∙ ap (λ (z : List ℕ). z ++ records_encoding (element_records datum n rest)) (text_more (map meaning (take i xs)) (meaning x))
 
     pub len_more : (total len new : ℕ) → total ≡ cap (length (text_to i)) → len ≡ cap (length here) → new ≡ min (total + len) 4294967295 → new ≡ cap (length (text_to (i + 1)))
     len_more total len new h k e = cap_more (length (text_to i)) (length here) total len new h k e ∙ ap cap (sym (length-append (text_to i) here) ∙ ap length (sym text_next))
@@ -402,7 +402,7 @@ module _ {V : Type 0} (datum : V → Datum) (n : ℕ) where
     pub write_more : (old mid new : List ℕ) → mid ≡ old ++ text_to i → new ≡ mid ++ here → new ≡ old ++ text_to (i + 1)
     write_more old mid new h k = k ∙ ap (λ (z : List ℕ). z ++ here) h ∙ append_assoc old (text_to i) here ∙ ap (λ (z : List ℕ). old ++ z) (sym text_next)
 
-    pub write_stops : (old mid new : List ℕ) → mid ≡ old ++ text_to i → WritesFront mid here new → WritesFront old (records_text (element_records datum n (map meaning xs))) new
+    pub write_stops : (old mid new : List ℕ) → mid ≡ old ++ text_to i → WritesFront mid here new → WritesFront old (records_encoding (element_records datum n (map meaning xs))) new
     write_stops old mid new h front =
         let rest = map meaning (drop (i + 1) xs) in
-        subst (λ (z : List ℕ). WritesFront old z new) (sym text_cut) (front_first old (text_to i ++ here) (records_text (element_records datum n rest)) new (front_second old (text_to i) here mid new h front))
+        subst (λ (z : List ℕ). WritesFront old z new) (sym text_cut) (front_first old (text_to i ++ here) (records_encoding (element_records datum n rest)) new (front_second old (text_to i) here mid new h front))

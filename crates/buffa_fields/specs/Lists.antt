@@ -63,14 +63,14 @@ unfoldable pub element_records : {V : Type 0} → (V → Datum) → ℕ → List
 element_records datum n vs = map (λ v. (n, datum v)) vs
 
 -- the payloads of elements, joined
-abbrev pub packed_text : {V : Type 0} → (V → List ℕ) → List V → List ℕ
-packed_text text [] = []
-packed_text text (v ∷ vs) = text v ++ packed_text text vs
+abbrev pub packed_encoding : {V : Type 0} → (V → List ℕ) → List V → List ℕ
+packed_encoding text [] = []
+packed_encoding text (v ∷ vs) = text v ++ packed_encoding text vs
 
 -- one record of all elements, and none where there are none
 unfoldable pub packed_records : {V : Type 0} → (V → List ℕ) → ℕ → List V → List (ℕ × Datum)
 packed_records text n [] = []
-packed_records text n (v ∷ vs) = (n, bytes (packed_text text (v ∷ vs))) ∷ []
+packed_records text n (v ∷ vs) = (n, bytes (packed_encoding text (v ∷ vs))) ∷ []
 
 -- each element
 abbrev pub Each : {V : Type 0} → (V → Type 0) → List V → Type 0

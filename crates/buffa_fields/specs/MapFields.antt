@@ -7,7 +7,7 @@ use Rattle.buffa_bytes.specs.declared.wire_type.WireType.TheVariants.{LengthDeli
 use Rattle.buffa_bytes.specs.declared.error.EncodeError.{EncodeError}
 use Rattle.buffa_bytes.specs.declared.error.EncodeError.TheVariants as encode
 use Rattle.buffa_wire.specs.Passes.{Begins, IsSmall}
-use Rattle.buffa_wire.specs.Text.{records_text}
+use Rattle.buffa_wire.specs.Encoding.{records_encoding}
 use Rattle.buffa_wire.specs.BudgetLeft.{need_by, nothing}
 use Rattle.buffa_wire.specs.Reading.{delimited_at}
 use Rattle.buffa_wire.specs.Records.{Datum, bytes}
@@ -16,7 +16,7 @@ use Rattle.buffa_map.specs.Codec.{Reading, Writing}
 use Rattle.buffa_map.specs.Entry.{IsEntry, entry_of, need_of}
 use Rattle.buffa_map.specs.Fields.{FieldsTakeMemory}
 use Rattle.buffa_map.specs.Run.{step}
-use Rattle.buffa_map.specs.Text.{entry_text}
+use Rattle.buffa_map.specs.Encoding.{entry_encoding}
 use Rattle.buffa_map.specs.declared.map_entry.MapEntry.{MapEntry}
 use Rattle.buffa_wire.specs.ByField.{value_of}
 use Rattle.buffa_fields.specs.Takes.{Asks, Need, Taker}
@@ -44,11 +44,11 @@ module _ {K V : Type 0} (key : Reading K) (val : Reading V) where
 -- a record for each pair
 abbrev pub map_records : {K V : Type 0} → Writing K → Writing V → ℕ → List (K × V) → List (ℕ × Datum)
 map_records key val n [] = []
-map_records key val n (p ∷ ps) = (n, bytes (entry_text key val p)) ∷ map_records key val n ps
+map_records key val n (p ∷ ps) = (n, bytes (entry_encoding key val p)) ∷ map_records key val n ps
 
 -- a map field was written, or memory ran out before all of it was; or it is no text of a message
 abbrev pub WritesMap : {K V T : Type 0} → Writing K → Writing V → ℕ → List (K × V) → List ℕ → Result T EncodeError → List ℕ → Type 0
 WritesMap key val n l old r new =
-    let text = records_text (map_records key val n l) in
+    let text = records_encoding (map_records key val n l) in
     (bs : List ℕ) × (new ≡ old ++ bs)
     × MatchResult r (λ _. IsSmall text → bs ≡ text) (λ e. (e ≡ encode.OutOfMemory) × (IsSmall text → Begins bs text))

@@ -5,7 +5,7 @@ use Rattle.std.specs.Cmp.{IsEquivalence}
 use Rattle.std.specs.List.{IsDistinct}
 use Rattle.std.specs.Map.{keys_of}
 use Rattle.buffa_bytes.proofs.DelimitedLemmas.{delimited_back, delimited_complete, delimited_faulty, delimited_taken}
-use Rattle.buffa_bytes.proofs.VarintLemmas.{IsVarint-varint_text}
+use Rattle.buffa_bytes.proofs.VarintLemmas.{IsVarint-varint_encoding}
 use Rattle.buffa_bytes.specs.declared.error.DecodeError.{DecodeError}
 use Rattle.buffa_bytes.specs.declared.error.DecodeError.TheVariants as error
 use Rattle.buffa_bytes.specs.declared.error.DecodeError.TheVariants.{OutOfMemory, WireTypeMismatch}
@@ -22,7 +22,7 @@ use Rattle.buffa_wire.specs.Passes.{IsWritten, cap}
 use Rattle.buffa_wire.proofs.PassLemmas.{consumes_none, written_none}
 use Rattle.buffa_wire.specs.Reading.{delimited_at}
 use Rattle.buffa_wire.specs.Records.{Datum, records_of}
-use Rattle.buffa_wire.specs.Text.{records_text}
+use Rattle.buffa_wire.specs.Encoding.{records_encoding}
 use Rattle.buffa_wire.proofs.SequenceLemmas.{ok_same}
 use Rattle.buffa_map.proofs.EntryLemmas.{entry_complete, entry_faulty, same_false}
 use Rattle.buffa_map.specs.Codec.{Reading, Writing}
@@ -31,7 +31,7 @@ use Rattle.buffa_map.specs.Fields.{FieldsTakeMemory}
 use Rattle.buffa_map.specs.Laws.{LimitsAreTrue, SizeIsLength}
 use Rattle.buffa_map.specs.Merge.{EntryTakesMemory, MergesEntry, RefusesEntry, dropping, state}
 use Rattle.buffa_map.specs.Run.{step}
-use Rattle.buffa_map.specs.Text.{AllHold, HasText, RefusesField, entry_text, field_size, field_text, record_text, saturated}
+use Rattle.buffa_map.specs.Encoding.{AllHold, HasEncoding, RefusesField, entry_encoding, field_size, field_encoding, record_encoding, saturated}
 use Rattle.buffa_map.specs.declared.map_entry.MapEntry.{MapEntry}
 use Rattle.buffa_bytes.specs.declared.error.EncodeError.{EncodeError}
 use Rattle.buffa_bytes.specs.declared.error.EncodeError.TheVariants as encode
@@ -39,19 +39,19 @@ use Rattle.buffa_fields.specs.MapFields.{PairTakesMemory, WritesMap, entry_cost,
 use Rattle.buffa_fields.specs.Takes.{IsTaken, Leads, Piece, ReadsBack, Stays, Untaken, joined}
 use Rattle.std.proofs.Common.{map}
 use Rattle.buffa_map.proofs.BackLemmas.{IsReadBack, as_record, entry_back, fold_back, is_tag}
-use Rattle.buffa_map.proofs.WriteLemmas.{field_text-append}
+use Rattle.buffa_map.proofs.WriteLemmas.{field_encoding-append}
 use Rattle.buffa_map.specs.Run.{fold_entries, pair_entry}
-use Rattle.buffa_wire.specs.Values.{delimited_text, tag_text}
-use Rattle.buffa_wire.specs.Varint.{varint_text}
+use Rattle.buffa_wire.specs.Values.{delimited_encoding, tag_encoding}
+use Rattle.buffa_wire.specs.Varint.{varint_encoding}
 
 -- ---- the text
-pub map_text : {K V : Type 0} (key : Writing K) (val : Writing V) (n : ℕ) (l : List (K × V)) → records_text (map_records key val n l) ≡ field_text key val n l
-map_text key val n [] = refl
-map_text key val n (p ∷ ps) = ap (λ (z : List ℕ). record_text key val n p ++ z) (map_text key val n ps)
+pub map_encoding : {K V : Type 0} (key : Writing K) (val : Writing V) (n : ℕ) (l : List (K × V)) → records_encoding (map_records key val n l) ≡ field_encoding key val n l
+map_encoding key val n [] = refl
+map_encoding key val n (p ∷ ps) = ap (λ (z : List ℕ). record_encoding key val n p ++ z) (map_encoding key val n ps)
 
-pub map_has_text : {K V : Type 0} (key : Writing K) (val : Writing V) (n : ℕ) (l : List (K × V)) → Fits (records_of (map_records key val n l)) → HasText key val l
-map_has_text key val n [] h = tt
-map_has_text key val n (p ∷ ps) h = (h.1, map_has_text key val n ps h.2)
+pub map_has_encoding : {K V : Type 0} (key : Writing K) (val : Writing V) (n : ℕ) (l : List (K × V)) → Fits (records_of (map_records key val n l)) → HasEncoding key val l
+map_has_encoding key val n [] h = tt
+map_has_encoding key val n (p ∷ ps) h = (h.1, map_has_encoding key val n ps h.2)
 
 first_same : (a b x y : List ℕ) → (let r : Result (List ℕ × List ℕ) DecodeError = Ok (a, x) in r ≡ Ok (b, y)) → a ≡ b
 first_same a b x y h = ap (λ z. z.0) (ok_same h)
@@ -187,88 +187,88 @@ module _ {K V : Type 0} (key : Reading K) (val : Reading V) (same : K → K → 
 module _ {K V : Type 0} (key : Reading K) (val : Reading V) (kw : Writing K) (vw : Writing V) (same_key : kw.wire ≡ key.wire) (same_val : vw.wire ≡ val.wire) (same : K → K → Bool) (is_eq : IsEquivalence same)
     (KeyOk : K → Type 0) (ValOk : V → Type 0) (d : ℕ) (key_back : (v : K) → KeyOk v → IsReadBack key kw d v) (val_back : (v : V) → ValOk v → IsReadBack val vw d v) (n : ℕ) (number : IsNumber n) where
   abbrev piece : K × V → Piece
-  piece p = record { tag = tag_text n LengthDelimited; number = n; wire = LengthDelimited; payload = delimited_text (entry_text kw vw p) }
+  piece p = record { tag = tag_encoding n LengthDelimited; number = n; wire = LengthDelimited; payload = delimited_encoding (entry_encoding kw vw p) }
 
-  pieces_text : (l : List (K × V)) → records_text (map_records kw vw n l) ≡ joined (map piece l)
+  pieces_text : (l : List (K × V)) → records_encoding (map_records kw vw n l) ≡ joined (map piece l)
   pieces_text [] = refl
-  pieces_text (p ∷ ps) = ap (λ (z : List ℕ). record_text kw vw n p ++ z) (pieces_text ps)
+  pieces_text (p ∷ ps) = ap (λ (z : List ℕ). record_encoding kw vw n p ++ z) (pieces_text ps)
 
-  read_entry : (p : K × V) → length (entry_text kw vw p) < 2 ^ 64 → KeyOk p.0 → ValOk p.1 → (m : List (K × V)) →
-      entry_taken key val same d m n LengthDelimited (delimited_text (entry_text kw vw p)) ≡ Some (step same m (pair_entry p))
+  read_entry : (p : K × V) → length (entry_encoding kw vw p) < 2 ^ 64 → KeyOk p.0 → ValOk p.1 → (m : List (K × V)) →
+      entry_taken key val same d m n LengthDelimited (delimited_encoding (entry_encoding kw vw p)) ≡ Some (step same m (pair_entry p))
   unfolding entry_taken entry_cost
   read_entry p fits a b m =
-      let e = entry_text kw vw p in
-      let alone : delimited_at (delimited_text e) ≡ Ok (e, []) = ap delimited_at (sym (append-nil (delimited_text e))) ∙ delimited_back e [] fits in
+      let e = entry_encoding kw vw p in
+      let alone : delimited_at (delimited_encoding e) ≡ Ok (e, []) = ap delimited_at (sym (append-nil (delimited_encoding e))) ∙ delimited_back e [] fits in
       rw (alone, entry_complete key val d e (pair_entry p) (entry_back key val kw vw same_key same_val d KeyOk ValOk key_back val_back p a b)) refl
 
-  leads_all : (m l : List (K × V)) → AllHold KeyOk ValOk l → HasText kw vw l → Leads (entry_taken key val same) (λ x. x == n) d m (map piece l) (fold_entries same m (map (as_record kw vw) l))
+  leads_all : (m l : List (K × V)) → AllHold KeyOk ValOk l → HasEncoding kw vw l → Leads (entry_taken key val same) (λ x. x == n) d m (map piece l) (fold_entries same m (map (as_record kw vw) l))
   unfolding entry_taken entry_cost
   leads_all m [] ok has = refl
   leads_all m (p ∷ ps) ok has = (
     eq-eqb n n refl,
     is_tag n LengthDelimited number,
-    (varint_text (length (entry_text kw vw p)), entry_text kw vw p, IsVarint-varint_text (length (entry_text kw vw p)) has.0, refl),
+    (varint_encoding (length (entry_encoding kw vw p)), entry_encoding kw vw p, IsVarint-varint_encoding (length (entry_encoding kw vw p)) has.0, refl),
     step same m (pair_entry p),
     read_entry p has.0 ok.0 ok.1 m,
     leads_all (step same m (pair_entry p)) ps ok.2 has.1,
   )
 
   pub map_back : (l : List (K × V)) → Fits (records_of (map_records kw vw n l)) → AllHold KeyOk ValOk l → IsDistinct same (keys_of l) →
-      ReadsBack (entry_taken key val same) (λ x. x == n) d [] (records_text (map_records kw vw n l)) l
+      ReadsBack (entry_taken key val same) (λ x. x == n) d [] (records_encoding (map_records kw vw n l)) l
   unfolding entry_taken entry_cost
   map_back l fits ok distinct = record {
     pieces = map piece l;
     spelled = pieces_text l;
-    leads = subst (λ z. Leads (entry_taken key val same) (λ x. x == n) d [] (map piece l) z) (fold_back is_eq (as_record kw vw) (λ p. refl) l distinct) (leads_all [] l ok (map_has_text kw vw n l fits));
+    leads = subst (λ z. Leads (entry_taken key val same) (λ x. x == n) d [] (map piece l) z) (fold_back is_eq (as_record kw vw) (λ p. refl) l distinct) (leads_all [] l ok (map_has_encoding kw vw n l fits));
   }
 
 -- ---- the size
-module _ {K V : Type 0} (kw : Writing K) (vw : Writing V) (is : SizeIsLength kw vw) (n k t total : ℕ) (l m : List (K × V)) (walk : l ≡ m) (tag : t ≡ length (varint_text k)) (number : k ≡ 8 * n + 2) (sum : total ≡ saturated (field_size kw vw t l)) where
-  size_of : length (records_text (map_records kw vw n m)) ≡ field_size kw vw t l
+module _ {K V : Type 0} (kw : Writing K) (vw : Writing V) (is : SizeIsLength kw vw) (n k t total : ℕ) (l m : List (K × V)) (walk : l ≡ m) (tag : t ≡ length (varint_encoding k)) (number : k ≡ 8 * n + 2) (sum : total ≡ saturated (field_size kw vw t l)) where
+  size_of : length (records_encoding (map_records kw vw n m)) ≡ field_size kw vw t l
   size_of =
-      let here : t ≡ length (tag_text n LengthDelimited) = tag ∙ ap (λ (z : ℕ). length (varint_text z)) number in
-      ap length (map_text kw vw n m) ∙ is n m ∙ ap (λ (z : List (K × V)). field_size kw vw (length (tag_text n LengthDelimited)) z) (sym walk) ∙ ap (λ (z : ℕ). field_size kw vw z l) (sym here)
+      let here : t ≡ length (tag_encoding n LengthDelimited) = tag ∙ ap (λ (z : ℕ). length (varint_encoding z)) number in
+      ap length (map_encoding kw vw n m) ∙ is n m ∙ ap (λ (z : List (K × V)). field_size kw vw (length (tag_encoding n LengthDelimited)) z) (sym walk) ∙ ap (λ (z : ℕ). field_size kw vw z l) (sym here)
 
-  pub small_map : total < 4294967295 → total ≡ cap (length (records_text (map_records kw vw n m)))
+  pub small_map : total < 4294967295 → total ≡ cap (length (records_encoding (map_records kw vw n m)))
   small_map h = omega (arith, h, sum, size_of)
 
-  pub large_map : 4294967295 ≤ total → 4294967295 ≡ cap (length (records_text (map_records kw vw n m)))
+  pub large_map : 4294967295 ≤ total → 4294967295 ≡ cap (length (records_encoding (map_records kw vw n m)))
   large_map h = omega (arith, h, sum, size_of)
 
 -- ---- the write
 module _ {K V : Type 0} (kw : Writing K) (vw : Writing V) (n : ℕ) (l m : List (K × V)) (old new : List ℕ) (walk : l ≡ m) where
-  text_is : field_text kw vw n l ≡ records_text (map_records kw vw n m)
-  text_is = ap (field_text kw vw n) walk ∙ sym (map_text kw vw n m)
+  text_is : field_encoding kw vw n l ≡ records_encoding (map_records kw vw n m)
+  text_is = ap (field_encoding kw vw n) walk ∙ sym (map_encoding kw vw n m)
 
-  pub map_written : new ≡ old ++ field_text kw vw n l → WritesMap kw vw n m old (let r : Result (Unit {0}) EncodeError = Ok tt in r) new
-  map_written h = (field_text kw vw n l, h, λ small. text_is)
+  pub map_written : new ≡ old ++ field_encoding kw vw n l → WritesMap kw vw n m old (let r : Result (Unit {0}) EncodeError = Ok tt in r) new
+  map_written h = (field_encoding kw vw n l, h, λ small. text_is)
 
-  long_in : (done : List (K × V)) (p : K × V) (rest : List (K × V)) → length (entry_text kw vw p) ≤ length (field_text kw vw n (done ++ p ∷ rest))
-  long_in [] p rest = omega (arith, length-append (record_text kw vw n p) (field_text kw vw n rest), length-append (tag_text n LengthDelimited) (delimited_text (entry_text kw vw p)), length-append (varint_text (length (entry_text kw vw p))) (entry_text kw vw p))
-  long_in (q ∷ qs) p rest = omega (arith, long_in qs p rest, length-append (record_text kw vw n q) (field_text kw vw n (qs ++ p ∷ rest)))
+  long_in : (done : List (K × V)) (p : K × V) (rest : List (K × V)) → length (entry_encoding kw vw p) ≤ length (field_encoding kw vw n (done ++ p ∷ rest))
+  long_in [] p rest = omega (arith, length-append (record_encoding kw vw n p) (field_encoding kw vw n rest), length-append (tag_encoding n LengthDelimited) (delimited_encoding (entry_encoding kw vw p)), length-append (varint_encoding (length (entry_encoding kw vw p))) (entry_encoding kw vw p))
+  long_in (q ∷ qs) p rest = omega (arith, long_in qs p rest, length-append (record_encoding kw vw n q) (field_encoding kw vw n (qs ++ p ∷ rest)))
 
   pub map_unwritten : (e : EncodeError) → RefusesField kw vw n old new l e → WritesMap kw vw n m old (let r : Result (Unit {0}) EncodeError = Err encode.OutOfMemory in r) new
   map_unwritten encode.OutOfMemory (done, p, rest, split, has, long, (front, more, cut, h, some)) = (
-    field_text kw vw n done ++ front,
-    h ∙ append_assoc old (field_text kw vw n done) front,
+    field_encoding kw vw n done ++ front,
+    h ∙ append_assoc old (field_encoding kw vw n done) front,
     (
       refl,
       λ small. (
-        more ++ field_text kw vw n rest,
-        sym text_is ∙ ap (field_text kw vw n) split ∙ field_text-append kw vw n done (p ∷ rest)
-            ∙ ap (λ (z : List ℕ). field_text kw vw n done ++ (z ++ field_text kw vw n rest)) cut
-            ∙ ap (λ (z : List ℕ). field_text kw vw n done ++ z) (append_assoc front more (field_text kw vw n rest))
-            ∙ sym (append_assoc (field_text kw vw n done) front (more ++ field_text kw vw n rest)),
-        omega (arith, some, length-append more (field_text kw vw n rest)),
+        more ++ field_encoding kw vw n rest,
+        sym text_is ∙ ap (field_encoding kw vw n) split ∙ field_encoding-append kw vw n done (p ∷ rest)
+            ∙ ap (λ (z : List ℕ). field_encoding kw vw n done ++ (z ++ field_encoding kw vw n rest)) cut
+            ∙ ap (λ (z : List ℕ). field_encoding kw vw n done ++ z) (append_assoc front more (field_encoding kw vw n rest))
+            ∙ sym (append_assoc (field_encoding kw vw n done) front (more ++ field_encoding kw vw n rest)),
+        omega (arith, some, length-append more (field_encoding kw vw n rest)),
       ),
     ),
   )
   map_unwritten encode.MessageTooLarge (done, p, rest, split, has, long, h) =
-      (field_text kw vw n done, h, (refl, λ small. absurd (omega (arith, small, long, long_in done p rest, ap (λ (z : List (K × V)). length (field_text kw vw n z)) split, ap length text_is))))
+      (field_encoding kw vw n done, h, (refl, λ small. absurd (omega (arith, small, long, long_in done p rest, ap (λ (z : List (K × V)). length (field_encoding kw vw n z)) split, ap length text_is))))
   map_unwritten (encode.GroupRefused e) h = absurd h
 
 -- a map field takes no slots
 pub map_alone : {K V : Type 0} (key : Writing K) (val : Writing V) (n : ℕ) (l : List (K × V)) (old new : List ℕ) (c : Cache) (r : Result (Unit {0}) EncodeError) → WritesMap key val n l old r new →
-    IsWritten (records_text (map_records key val n l)) [] c old r c new
+    IsWritten (records_encoding (map_records key val n l)) [] c old r c new
 map_alone key val n l old new c (Ok _) (bs, p, q) = (bs, p, ((written_none (Unit {0}) c old).2.0, q))
 map_alone key val n l old new c (Err e) (bs, p, q) = (bs, p, (q.0, q.1, consumes_none [] c))

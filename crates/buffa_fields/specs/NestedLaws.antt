@@ -4,7 +4,7 @@ use Rattle.std.proofs.lemmas.Bool.{cases_lt, eq-eqb}
 use Rattle.std.specs.Option.{option_map}
 use Rattle.buffa_bytes.proofs.DelimitedLemmas.{delimited_back, delimited_complete, delimited_sound}
 use Rattle.buffa_bytes.proofs.StepLemmas.{agree_err, agree_ok}
-use Rattle.buffa_bytes.proofs.VarintLemmas.{IsVarint-varint_text}
+use Rattle.buffa_bytes.proofs.VarintLemmas.{IsVarint-varint_encoding}
 use Rattle.buffa_bytes.specs.declared.error.DecodeError.{DecodeError}
 use Rattle.buffa_bytes.specs.declared.error.DecodeError.TheVariants.{OutOfMemory, WireTypeMismatch}
 use Rattle.buffa_bytes.specs.declared.error.EncodeError.{EncodeError}
@@ -26,9 +26,9 @@ use Rattle.buffa_wire.specs.Parse.{Fits}
 use Rattle.buffa_wire.specs.Passes.{IsSmall, IsWritten, cap}
 use Rattle.buffa_wire.specs.Reading.{delimited_at}
 use Rattle.buffa_wire.specs.Records.{bytes, records_of}
-use Rattle.buffa_wire.specs.Text.{records_text}
-use Rattle.buffa_wire.specs.Values.{delimited_text, tag_text}
-use Rattle.buffa_wire.specs.Varint.{varint_text}
+use Rattle.buffa_wire.specs.Encoding.{records_encoding}
+use Rattle.buffa_wire.specs.Values.{delimited_encoding, tag_encoding}
+use Rattle.buffa_wire.specs.Varint.{varint_encoding}
 use Rattle.buffa_map.proofs.BackLemmas.{is_tag}
 use Rattle.buffa_map.proofs.EntryLemmas.{same_false}
 use Rattle.buffa_fields.specs.Nested.{MessageTakesMemory, inside, message_cost, message_in, message_levels, message_records, message_slots, message_taken, or_blank}
@@ -125,7 +125,7 @@ there blank merged need d n w old a new bs rest before after (Err e) is (pays, w
 -- ---- the text
 -- what stands before a message's text
 abbrev pub head : ℕ → ℕ → List ℕ
-head n inner = tag_text n LengthDelimited ++ varint_text inner
+head n inner = tag_encoding n LengthDelimited ++ varint_encoding inner
 
 -- a length is told, unless it is too large for a message
 abbrev pub Tells : ℕ → List ℕ → Type 0
@@ -135,27 +135,27 @@ pub cap_tells : (inner : ℕ) (text : List ℕ) → inner ≡ cap (length text) 
 cap_tells inner text is = ((λ h. omega (arith, is, h)), (λ h. omega (arith, is, h)))
 
 module _ (n inner : ℕ) (text : List ℕ) (is : Tells inner text) where
-  head_then : length text < 4294967295 → head n inner ++ text ≡ records_text ((n, bytes text) ∷ [])
+  head_then : length text < 4294967295 → head n inner ++ text ≡ records_encoding ((n, bytes text) ∷ [])
   head_then h =
-      let tag = tag_text n LengthDelimited in
-      append_assoc tag (varint_text inner) text ∙ ap (λ (k : ℕ). tag ++ (varint_text k ++ text)) (is.0 h) ∙ sym (append-nil (tag ++ delimited_text text))
+      let tag = tag_encoding n LengthDelimited in
+      append_assoc tag (varint_encoding inner) text ∙ ap (λ (k : ℕ). tag ++ (varint_encoding k ++ text)) (is.0 h) ∙ sym (append-nil (tag ++ delimited_encoding text))
 
-  whole_length : length (records_text ((n, bytes text) ∷ [])) ≡ length (tag_text n LengthDelimited) + (length (varint_text (length text)) + length text)
+  whole_length : length (records_encoding ((n, bytes text) ∷ [])) ≡ length (tag_encoding n LengthDelimited) + (length (varint_encoding (length text)) + length text)
   whole_length =
-      let tag = tag_text n LengthDelimited in
-      ap length (append-nil (tag ++ delimited_text text)) ∙ length-append tag (delimited_text text) ∙ ap (λ (z : ℕ). length tag + z) (length-append (varint_text (length text)) text)
+      let tag = tag_encoding n LengthDelimited in
+      ap length (append-nil (tag ++ delimited_encoding text)) ∙ length-append tag (delimited_encoding text) ∙ ap (λ (z : ℕ). length tag + z) (length-append (varint_encoding (length text)) text)
 
-  pub record_size : (tag len total : ℕ) → tag ≡ length (tag_text n LengthDelimited) → len ≡ length (varint_text inner) → cap total ≡ cap (tag + (len + inner)) → cap total ≡ cap (length (records_text ((n, bytes text) ∷ [])))
+  pub record_size : (tag len total : ℕ) → tag ≡ length (tag_encoding n LengthDelimited) → len ≡ length (varint_encoding inner) → cap total ≡ cap (tag + (len + inner)) → cap total ≡ cap (length (records_encoding ((n, bytes text) ∷ [])))
   record_size tag len total h k e = elim (cases_lt (length text) 4294967295) [
     | inl small ↦
         let same = is.0 (omega (arith, small)) in
-        let l = ap (λ (z : ℕ). length (varint_text z)) same in
+        let l = ap (λ (z : ℕ). length (varint_encoding z)) same in
         e ∙ ap cap (omega (arith, h, k, whole_length, same, l))
     | inr large ↦ let much = is.1 (omega (arith, large)) in omega (arith, e, whole_length, much, large)
   ]
 
   abbrev pub spelled_one : List ℕ
-  spelled_one = records_text ((n, bytes text) ∷ [])
+  spelled_one = records_encoding ((n, bytes text) ∷ [])
 
   small_text : IsSmall spelled_one → IsSmall text
   small_text h = omega (arith, h, whole_length)
@@ -197,31 +197,31 @@ unfolding message_slots
 message_has_slot text slots v o is none = let two = sym (ap (message_slots text slots) is) ∙ none in cc
 
 -- no message, no text
-pub unwritten_message : {X : Type 0} (text slots : X → List ℕ) (n : ℕ) (v : Option X) (c : Cache) (b : List ℕ) → v ≡ None → IsWritten (records_text (message_records text n v)) (message_slots text slots v) c b done c b
+pub unwritten_message : {X : Type 0} (text slots : X → List ℕ) (n : ℕ) (v : Option X) (c : Cache) (b : List ℕ) → v ≡ None → IsWritten (records_encoding (message_records text n v)) (message_slots text slots v) c b done c b
 unfolding message_records message_slots
-unwritten_message text slots n v c b is = subst (λ z. IsWritten (records_text (message_records text n z)) (message_slots text slots z) c b done c b) (sym is) (written_none (IsSmall []) c b)
+unwritten_message text slots n v c b is = subst (λ z. IsWritten (records_encoding (message_records text n z)) (message_slots text slots z) c b done c b) (sym is) (written_none (IsSmall []) c b)
 
 -- ---- it reads back
 module _ {X : Type 0} (merged : ℕ → X → List ℕ → Option X) (blank : X) (text : X → List ℕ) (level : X → ℕ) (Normal : X → Type 0)
     (back : (d : ℕ) (v : X) → Normal v → level v ≤ d → merged d blank (text v) ≡ Some v) (n : ℕ) (number : IsNumber n) where
-  pub taken_back : (d : ℕ) (v : X) → length (text v) < 2 ^ 64 → Normal v → suc (level v) ≤ d → message_in merged d blank n LengthDelimited (delimited_text (text v)) ≡ Some v
+  pub taken_back : (d : ℕ) (v : X) → length (text v) < 2 ^ 64 → Normal v → suc (level v) ≤ d → message_in merged d blank n LengthDelimited (delimited_encoding (text v)) ≡ Some v
   unfolding message_in
   taken_back zero v fits normal low = absurd (omega arith)
   taken_back (suc d) v fits normal low =
-      let alone : delimited_at (delimited_text (text v)) ≡ Ok (text v, []) = ap delimited_at (sym (append-nil (delimited_text (text v)))) ∙ delimited_back (text v) [] fits in
+      let alone : delimited_at (delimited_encoding (text v)) ≡ Ok (text v, []) = ap delimited_at (sym (append-nil (delimited_encoding (text v)))) ∙ delimited_back (text v) [] fits in
       rw alone (back d v normal (omega (arith, low)))
 
   pub message_back : (d : ℕ) (v : Option X) → Fits (records_of (message_records text n v)) → IfThere Normal v → message_levels level v ≤ d →
-      ReadsBack (message_taken blank merged) (λ m. m == n) d None (records_text (message_records text n v)) v
+      ReadsBack (message_taken blank merged) (λ m. m == n) d None (records_encoding (message_records text n v)) v
   unfolding message_records
   message_back d None fits normal low = record { pieces = []; spelled = refl; leads = refl }
   message_back d (Some v) fits normal low = record {
-    pieces = record { tag = tag_text n LengthDelimited; number = n; wire = LengthDelimited; payload = delimited_text (text v) } ∷ [];
+    pieces = record { tag = tag_encoding n LengthDelimited; number = n; wire = LengthDelimited; payload = delimited_encoding (text v) } ∷ [];
     spelled = refl;
     leads = (
       eq-eqb n n refl,
       is_tag n LengthDelimited number,
-      (varint_text (length (text v)), text v, IsVarint-varint_text (length (text v)) fits.1, refl),
+      (varint_encoding (length (text v)), text v, IsVarint-varint_encoding (length (text v)) fits.1, refl),
       Some v,
       ap (option_map (λ x. Some x)) (taken_back d v fits.1 normal low),
       refl,

@@ -3,7 +3,7 @@ use Rattle.std.proofs.Common.{◌≡◌, ℕ, zero, suc, ◌+◌, ◌*◌, ◌^�
 use Rattle.std.specs.Cmp.{IsEquivalence}
 use Rattle.std.specs.List.{IsDistinct}
 use Rattle.std.specs.Map.{keys_of}
-use Rattle.buffa_bytes.proofs.VarintLemmas.{IsVarint-varint_text}
+use Rattle.buffa_bytes.proofs.VarintLemmas.{IsVarint-varint_encoding}
 use Rattle.buffa_bytes.specs.declared.error.EncodeError.{EncodeError}
 use Rattle.buffa_bytes.specs.declared.wire_type.WireType.TheVariants.{LengthDelimited}
 use Rattle.buffa_wire.proofs.PassLemmas.{written_same}
@@ -14,20 +14,20 @@ use Rattle.buffa_wire.specs.Number.{IsNumber}
 use Rattle.buffa_wire.specs.Parse.{Fits}
 use Rattle.buffa_wire.specs.Passes.{IsSized, IsSmall, IsWritten, cap}
 use Rattle.buffa_wire.specs.Records.{records_of}
-use Rattle.buffa_wire.specs.Text.{records_text}
-use Rattle.buffa_wire.specs.Values.{tag_text}
-use Rattle.buffa_wire.specs.Varint.{varint_text}
+use Rattle.buffa_wire.specs.Encoding.{records_encoding}
+use Rattle.buffa_wire.specs.Values.{tag_encoding}
+use Rattle.buffa_wire.specs.Varint.{varint_encoding}
 use Rattle.buffa_map.proofs.BackLemmas.{IsReadBack}
 use Rattle.buffa_map.proofs.MessageFieldLemmas.{small_field}
-use Rattle.buffa_map.proofs.SizeLemmas.{length-entry_text, length-field_text}
+use Rattle.buffa_map.proofs.SizeLemmas.{length-entry_encoding, length-field_encoding}
 use Rattle.buffa_map.specs.Codec.{Reading, Writing}
 use Rattle.buffa_map.specs.Message.{meant, message_reading}
 use Rattle.buffa_map.specs.MessageField.{IsFieldSized, IsFieldWritten, IsSmallField, field_slots}
 use Rattle.buffa_map.specs.Scalars.{delimited_writing}
-use Rattle.buffa_map.specs.Text.{AllHold, field_size, field_text}
+use Rattle.buffa_map.specs.Encoding.{AllHold, field_size, field_encoding}
 use Rattle.buffa_fields.specs.LayoutLaws.{failed, sum}
 use Rattle.buffa_fields.specs.MapFields.{entry_taken, map_records}
-use Rattle.buffa_fields.specs.MapLaws.{map_back, map_text}
+use Rattle.buffa_fields.specs.MapLaws.{map_back, map_encoding}
 use Rattle.buffa_fields.specs.NestedMaps.{pair_levels, pair_records, pair_slots}
 use Rattle.buffa_fields.specs.Takes.{ReadsBack}
 
@@ -40,18 +40,18 @@ no_pairs text slots (p ∷ ps) none = cc
 -- ---- the passes
 module _ {K X : Type 0} (key : Writing K) (text slots : X → List ℕ) (n : ℕ) (l : List (K × X)) where
   abbrev whole : List ℕ
-  whole = records_text (pair_records key text n l)
+  whole = records_encoding (pair_records key text n l)
 
-  text_is : field_text key (delimited_writing text) n l ≡ whole
+  text_is : field_encoding key (delimited_writing text) n l ≡ whole
   unfolding pair_records
-  text_is = sym (map_text key (delimited_writing text) n l)
+  text_is = sym (map_encoding key (delimited_writing text) n l)
 
-  size_is : length whole ≡ field_size key (delimited_writing text) (length (tag_text n LengthDelimited)) l
-  size_is = ap length (sym text_is) ∙ length-field_text key (delimited_writing text) n l
+  size_is : length whole ≡ field_size key (delimited_writing text) (length (tag_encoding n LengthDelimited)) l
+  size_is = ap length (sym text_is) ∙ length-field_encoding key (delimited_writing text) n l
 
-  module _ (k t : ℕ) (tag : t ≡ length (varint_text k)) (number : k ≡ 8 * n + 2) (c0 c1 : Cache) where
+  module _ (k t : ℕ) (tag : t ≡ length (varint_encoding k)) (number : k ≡ 8 * n + 2) (c0 c1 : Cache) where
     length_is : length whole ≡ field_size key (delimited_writing text) t l
-    length_is = size_is ∙ ap (λ (z : ℕ). field_size key (delimited_writing text) z l) (sym (tag ∙ ap (λ (z : ℕ). length (varint_text z)) number))
+    length_is = size_is ∙ ap (λ (z : ℕ). field_size key (delimited_writing text) z l) (sym (tag ∙ ap (λ (z : ℕ). length (varint_encoding z)) number))
 
     -- the size that was told, as a number of 32 bits
     pub pairs_sized : (total told : ℕ) → told ≡ cap total → IsFieldSized key text slots t l c0 (sum total) c1 → IsSized whole (pair_slots text slots l) c0 (sum told) c1
@@ -64,8 +64,8 @@ module _ {K X : Type 0} (key : Writing K) (text slots : X → List ℕ) (n : ℕ
   pub pairs_written : (c0 c1 : Cache) (b0 b1 : List ℕ) (r : Result (Unit {0}) EncodeError) → IsFieldWritten key text slots n l c0 b0 r c1 b1 → IsWritten whole (pair_slots text slots l) c0 b0 r c1 b1
   unfolding pair_slots
   pairs_written c0 c1 b0 b1 r h =
-      written_same (IsSmallField key text l) (IsSmall whole) (field_text key (delimited_writing text) n l) whole (field_slots text slots l) 0 c0 c1 c1 b0 b1
-      (λ small. small_field key text (length (tag_text n LengthDelimited)) l (omega (arith, small, size_is))) (λ small. text_is) r h
+      written_same (IsSmallField key text l) (IsSmall whole) (field_encoding key (delimited_writing text) n l) whole (field_slots text slots l) 0 c0 c1 c1 b0 b1
+      (λ small. small_field key text (length (tag_encoding n LengthDelimited)) l (omega (arith, small, size_is))) (λ small. text_is) r h
 
 -- ---- the text reads back
 module _ {X : Type 0} (merged : ℕ → X → List ℕ → Option X) (blank : X) (cost : ℕ → List ℕ → BudgetLeft) (text : X → List ℕ) (level : X → ℕ) (Normal : X → Type 0)
@@ -77,19 +77,19 @@ module _ {X : Type 0} (merged : ℕ → X → List ℕ → Option X) (blank : X)
   inside_back : (d : ℕ) (v : X) → IsLow d v → IsReadBack (message_reading blank merged cost) (delimited_writing text) d v
   inside_back zero v (normal, fits, low) = absurd (omega (arith, low))
   inside_back (suc d) v (normal, fits, low) =
-      (refl, held (text v), (varint_text (length (text v)), IsVarint-varint_text (length (text v)) fits, refl), ap meant (back d v normal (omega (arith, low))))
+      (refl, held (text v), (varint_encoding (length (text v)), IsVarint-varint_encoding (length (text v)) fits, refl), ap meant (back d v normal (omega (arith, low))))
 
   module _ {K : Type 0} (key : Reading K) (kw : Writing K) (same_key : kw.wire ≡ key.wire) (same : K → K → Bool) (is_eq : IsEquivalence same) (KeyOk : K → Type 0)
       (key_back : (d : ℕ) (v : K) → KeyOk v → IsReadBack key kw d v) (n : ℕ) (number : IsNumber n) (d : ℕ) where
     all_low : (l : List (K × X)) → Fits (records_of (map_records kw (delimited_writing text) n l)) → AllHold KeyOk Normal l → pair_levels level l ≤ d → AllHold KeyOk (IsLow d) l
     all_low [] fits ok low = tt
     all_low (p ∷ ps) fits ok low =
-        let whole = length-entry_text kw (delimited_writing text) p in
-        let both = length-append (varint_text (length (text p.1))) (text p.1) in
+        let whole = length-entry_encoding kw (delimited_writing text) p in
+        let both = length-append (varint_encoding (length (text p.1))) (text p.1) in
         (ok.0, (ok.1, omega (arith, fits.1, whole, both), omega (arith, low)), all_low ps fits.2 ok.2 (omega (arith, low)))
 
     pub pairs_back : (l : List (K × X)) → Fits (records_of (pair_records kw text n l)) → AllHold KeyOk Normal l → IsDistinct same (keys_of l) → pair_levels level l ≤ d →
-        ReadsBack (entry_taken key (message_reading blank merged cost) same) (λ m. m == n) d [] (records_text (pair_records kw text n l)) l
+        ReadsBack (entry_taken key (message_reading blank merged cost) same) (λ m. m == n) d [] (records_encoding (pair_records kw text n l)) l
     unfolding pair_records
     pairs_back l fits ok distinct low =
         map_back key (message_reading blank merged cost) kw (delimited_writing text) same_key refl same is_eq KeyOk (IsLow d) d (key_back d) (inside_back d) n number l fits (all_low l fits ok low) distinct

@@ -8,30 +8,30 @@ use Rattle.buffa_wire.proofs.PassLemmas.{refused, written_none, written_put}
 use Rattle.buffa_wire.specs.Cache.{Cache}
 use Rattle.buffa_wire.specs.Passes.{IsSmall, IsWritten, cap}
 use Rattle.buffa_wire.specs.Records.{bytes}
-use Rattle.buffa_wire.specs.Text.{records_text}
-use Rattle.buffa_map.specs.Text.{saturated}
+use Rattle.buffa_wire.specs.Encoding.{records_encoding}
+use Rattle.buffa_map.specs.Encoding.{saturated}
 use Rattle.buffa_fields.specs.ListLaws.{means_cut, means_more}
-use Rattle.buffa_fields.specs.Lists.{packed_records, packed_text}
+use Rattle.buffa_fields.specs.Lists.{packed_records, packed_encoding}
 use Rattle.buffa_fields.specs.NestedLaws.{Tells, head, head_cut, record_after}
 
 -- ---- payloads, one behind the other
 module _ {V : Type 0} (text : V → List ℕ) where
-  text_two : (us vs : List V) → packed_text text (us ++ vs) ≡ packed_text text us ++ packed_text text vs
+  text_two : (us vs : List V) → packed_encoding text (us ++ vs) ≡ packed_encoding text us ++ packed_encoding text vs
   text_two [] vs = refl
-  text_two (u ∷ us) vs = ap (λ (z : List ℕ). text u ++ z) (text_two us vs) ∙ sym (append_assoc (text u) (packed_text text us) (packed_text text vs))
+  text_two (u ∷ us) vs = ap (λ (z : List ℕ). text u ++ z) (text_two us vs) ∙ sym (append_assoc (text u) (packed_encoding text us) (packed_encoding text vs))
 
-  text_more : (us : List V) (v : V) → packed_text text (us ++ v ∷ []) ≡ packed_text text us ++ text v
-  text_more us v = text_two us (v ∷ []) ∙ ap (λ (z : List ℕ). packed_text text us ++ z) (append-nil (text v))
+  text_more : (us : List V) (v : V) → packed_encoding text (us ++ v ∷ []) ≡ packed_encoding text us ++ text v
+  text_more us v = text_two us (v ∷ []) ∙ ap (λ (z : List ℕ). packed_encoding text us ++ z) (append-nil (text v))
 
   module _ {P : Type 0} (meaning : P → V) (xs : List P) (i : ℕ) (x : P) (lt : i < length xs) (is : x ≡ get_or xs i x) where
     abbrev text_to : ℕ → List ℕ
-    text_to k = packed_text text (map meaning (take k xs))
+    text_to k = packed_encoding text (map meaning (take k xs))
 
     abbrev here : List ℕ
     here = text (meaning x)
 
     to_next : text_to (i + 1) ≡ text_to i ++ here
-    to_next = ap (packed_text text) (means_more meaning xs i x lt is) ∙ text_more (map meaning (take i xs)) (meaning x)
+    to_next = ap (packed_encoding text) (means_more meaning xs i x lt is) ∙ text_more (map meaning (take i xs)) (meaning x)
 
     pub payloads_more : (total len new : ℕ) → total ≡ saturated (length (text_to i)) → len ≡ length here → new ≡ min (total + len) 18446744073709551615 → new ≡ saturated (length (text_to (i + 1)))
     payloads_more total len new h k e =
@@ -42,21 +42,21 @@ module _ {V : Type 0} (text : V → List ℕ) where
     pub payload_more : (old mid new : List ℕ) → mid ≡ old ++ text_to i → new ≡ mid ++ here → new ≡ old ++ text_to (i + 1)
     payload_more old mid new h k = k ∙ ap (λ (z : List ℕ). z ++ here) h ∙ append_assoc old (text_to i) here ∙ ap (λ (z : List ℕ). old ++ z) (sym to_next)
 
-    pub payload_stops : (old mid new : List ℕ) → mid ≡ old ++ text_to i → WritesFront mid here new → WritesFront old (packed_text text (map meaning xs)) new
+    pub payload_stops : (old mid new : List ℕ) → mid ≡ old ++ text_to i → WritesFront mid here new → WritesFront old (packed_encoding text (map meaning xs)) new
     payload_stops old mid new h front =
         let rest = map meaning (drop (i + 1) xs) in
-        let all : packed_text text (map meaning xs) ≡ (text_to i ++ here) ++ packed_text text rest =
-        ap (packed_text text) (means_cut meaning xs i x lt is ∙ sym (append_assoc (map meaning (take i xs)) (meaning x ∷ []) rest))
-        ∙ text_two (map meaning (take i xs) ++ meaning x ∷ []) rest ∙ ap (λ (z : List ℕ). z ++ packed_text text rest) (text_more (map meaning (take i xs)) (meaning x)) in
-        subst (λ (z : List ℕ). WritesFront old z new) (sym all) (front_first old (text_to i ++ here) (packed_text text rest) new (front_second old (text_to i) here mid new h front))
+        let all : packed_encoding text (map meaning xs) ≡ (text_to i ++ here) ++ packed_encoding text rest =
+        ap (packed_encoding text) (means_cut meaning xs i x lt is ∙ sym (append_assoc (map meaning (take i xs)) (meaning x ∷ []) rest))
+        ∙ text_two (map meaning (take i xs) ++ meaning x ∷ []) rest ∙ ap (λ (z : List ℕ). z ++ packed_encoding text rest) (text_more (map meaning (take i xs)) (meaning x)) in
+        subst (λ (z : List ℕ). WritesFront old z new) (sym all) (front_first old (text_to i ++ here) (packed_encoding text rest) new (front_second old (text_to i) here mid new h front))
 
 -- ---- one record of them all
 module _ {V : Type 0} (text : V → List ℕ) (n : ℕ) {P : Type 0} (meaning : P → V) (xs : List P) where
   abbrev all : List ℕ
-  all = packed_text text (map meaning xs)
+  all = packed_encoding text (map meaning xs)
 
   abbrev pub packed : List ℕ
-  packed = records_text (packed_records text n (map meaning xs))
+  packed = records_encoding (packed_records text n (map meaning xs))
 
   pub all_tells : (inner : ℕ) → inner ≡ saturated (length all) → Tells inner all
   all_tells inner is = ((λ h. omega (arith, is, h)), (λ h. omega (arith, is, h)))
@@ -66,24 +66,24 @@ module _ {V : Type 0} (text : V → List ℕ) (n : ℕ) {P : Type 0} (meaning : 
   is_none [] h = refl
   is_none (x ∷ l) h = absurd (omega arith)
 
-  is_one : (l : List P) → 0 < length l → packed_records text n (map meaning l) ≡ (n, bytes (packed_text text (map meaning l))) ∷ []
+  is_one : (l : List P) → 0 < length l → packed_records text n (map meaning l) ≡ (n, bytes (packed_encoding text (map meaning l))) ∷ []
   unfolding packed_records
   is_one [] h = absurd (omega arith)
   is_one (x ∷ l) h = refl
 
   pub packed_nothing : length xs ≤ 0 → 0 ≡ cap (length packed)
-  packed_nothing h = ap (λ z. cap (length (records_text z))) (sym (is_none xs h))
+  packed_nothing h = ap (λ z. cap (length (records_encoding z))) (sym (is_none xs h))
 
   pub packed_unwritten : length xs ≤ 0 → (old : List ℕ) (c : Cache) → IsWritten packed [] c old (let r : Result (Unit {0}) EncodeError = Ok tt in r) c old
-  packed_unwritten h old c = subst (λ z. IsWritten (records_text z) [] c old (let r : Result (Unit {0}) EncodeError = Ok tt in r) c old) (sym (is_none xs h)) (written_none (IsSmall []) c old)
+  packed_unwritten h old c = subst (λ z. IsWritten (records_encoding z) [] c old (let r : Result (Unit {0}) EncodeError = Ok tt in r) c old) (sym (is_none xs h)) (written_none (IsSmall []) c old)
 
-  pub packed_sized : 0 < length xs → (inner len : ℕ) → inner ≡ saturated (length all) → ((t : List ℕ) → Tells inner t → len ≡ cap (length (records_text ((n, bytes t) ∷ [])))) → len ≡ cap (length packed)
-  packed_sized some inner len is h = h all (all_tells inner is) ∙ ap (λ z. cap (length (records_text z))) (sym (is_one xs some))
+  pub packed_sized : 0 < length xs → (inner len : ℕ) → inner ≡ saturated (length all) → ((t : List ℕ) → Tells inner t → len ≡ cap (length (records_encoding ((n, bytes t) ∷ [])))) → len ≡ cap (length packed)
+  packed_sized some inner len is h = h all (all_tells inner is) ∙ ap (λ z. cap (length (records_encoding z))) (sym (is_one xs some))
 
   module _ (some : 0 < length xs) (inner : ℕ) (is : inner ≡ saturated (length all)) (c : Cache) (b0 b1 b2 : List ℕ) where
     pub packed_written : (r : Result (Unit {0}) EncodeError) → b1 ≡ b0 ++ head n inner → Writes r b1 all b2 → IsWritten packed [] c b0 r c b2
     packed_written r h w =
-        subst (λ z. IsWritten (records_text z) [] c b0 r c b2) (sym (is_one xs some)) (record_after n inner all (all_tells inner is) [] c c b0 b1 b2 r h (written_put (IsSmall all) all c b1 b2 r w))
+        subst (λ z. IsWritten (records_encoding z) [] c b0 r c b2) (sym (is_one xs some)) (record_after n inner all (all_tells inner is) [] c c b0 b1 b2 r h (written_put (IsSmall all) all c b1 b2 r w))
 
     pub packed_cut : (e : EncodeError) → (e ≡ encode.OutOfMemory) × WritesFront b0 (head n inner) b1 → IsWritten packed [] c b0 (refused e) c b1
-    packed_cut e h = subst (λ z. IsWritten (records_text z) [] c b0 (refused e) c b1) (sym (is_one xs some)) (head_cut n inner all (all_tells inner is) [] c c b0 b1 b1 e h)
+    packed_cut e h = subst (λ z. IsWritten (records_encoding z) [] c b0 (refused e) c b1) (sym (is_one xs some)) (head_cut n inner all (all_tells inner is) [] c c b0 b1 b1 e h)

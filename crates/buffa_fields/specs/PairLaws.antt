@@ -8,13 +8,13 @@ use Rattle.buffa_bytes.specs.declared.error.DecodeError.{DecodeError}
 use Rattle.buffa_wire.specs.Number.{IsNumber}
 use Rattle.buffa_wire.specs.Parse.{Fits}
 use Rattle.buffa_wire.specs.Records.{Datum, records_of}
-use Rattle.buffa_wire.specs.Text.{field_text, records_text}
+use Rattle.buffa_wire.specs.Encoding.{field_encoding, records_encoding}
 use Rattle.buffa_fields.specs.Takes.{IsTaken, Leads, Need, Piece, ReadsBack, Stays, Taker, both_need, both_take, is_number, joined}
 
 -- ---- records
-pub records_text-append : (xs ys : List (ℕ × Datum)) → records_text (xs ++ ys) ≡ records_text xs ++ records_text ys
-records_text-append [] ys = refl
-records_text-append (x ∷ xs) ys = ap (λ (z : List ℕ). field_text x.0 x.1 ++ z) (records_text-append xs ys) ∙ sym (append_assoc (field_text x.0 x.1) (records_text xs) (records_text ys))
+pub records_encoding-append : (xs ys : List (ℕ × Datum)) → records_encoding (xs ++ ys) ≡ records_encoding xs ++ records_encoding ys
+records_encoding-append [] ys = refl
+records_encoding-append (x ∷ xs) ys = ap (λ (z : List ℕ). field_encoding x.0 x.1 ++ z) (records_encoding-append xs ys) ∙ sym (append_assoc (field_encoding x.0 x.1) (records_encoding xs) (records_encoding ys))
 
 pub fits_both : (xs ys : List (ℕ × Datum)) → Fits (records_of (xs ++ ys)) → Fits (records_of xs) × Fits (records_of ys)
 fits_both [] ys h = (tt, h)
@@ -79,10 +79,10 @@ module _ {A B : Type 0} (k : ℕ) (f : Taker A) (g : Taker B) (P : ℕ → Bool)
 pub both_back : {A B : Type 0} (k : ℕ) (f : Taker A) (g : Taker B) (D : ℕ → Bool) (sound : Bool) (a : A) (b : B)
     (fr : A → List (ℕ × Datum)) (gr : B → List (ℕ × Datum)) (fn : A → Type 0) (gn : B → Type 0) (fl : A → ℕ) (gl : B → ℕ) (within : (ℕ → Bool) → B → Type 0) →
     ((P Q : ℕ → Bool) (v : B) → within P v → within Q v → within (λ n. P n && Q n) v) →
-    (IsNumber k → (d : ℕ) (v : A) → Fits (records_of (fr v)) → fn v → fl v ≤ d → ReadsBack f (λ n. n == k) d a (records_text (fr v)) v) →
-    (sound ≡ true → (P : ℕ → Bool) (d : ℕ) (v : B) → within P v → Fits (records_of (gr v)) → gn v → gl v ≤ d → ReadsBack g P d b (records_text (gr v)) v) →
+    (IsNumber k → (d : ℕ) (v : A) → Fits (records_of (fr v)) → fn v → fl v ≤ d → ReadsBack f (λ n. n == k) d a (records_encoding (fr v)) v) →
+    (sound ≡ true → (P : ℕ → Bool) (d : ℕ) (v : B) → within P v → Fits (records_of (gr v)) → gn v → gl v ≤ d → ReadsBack g P d b (records_encoding (gr v)) v) →
     (is_number k && not (D k) && sound) ≡ true → (P : ℕ → Bool) (d : ℕ) (v : A × B) → (P k ≡ true) × within P v.1 → Fits (records_of (fr v.0 ++ gr v.1)) → fn v.0 × gn v.1 × within (λ n. not (n == k)) v.1 → max (fl v.0) (gl v.1) ≤ d →
-    ReadsBack (both_take k f g) P d (a, b) (records_text (fr v.0 ++ gr v.1)) v
+    ReadsBack (both_take k f g) P d (a, b) (records_encoding (fr v.0 ++ gr v.1)) v
 both_back k f g D sound a b fr gr fn gn fl gl within both one more ok P d v has fits normal low =
     let two = and_left (is_number k && not (D k)) sound ok in
     let all = fits_both (fr v.0) (gr v.1) fits in
@@ -90,7 +90,7 @@ both_back k f g D sound a b fr gr fn gn fl gl within both one more ok P d v has 
     let y = more (and_right (is_number k && not (D k)) sound ok) (λ n. not (n == k) && P n) d v.1 (both (λ n. not (n == k)) P v.1 normal.2 has.1) all.1 normal.1 (omega (arith, low)) in
     record {
       pieces = x.pieces ++ y.pieces;
-      spelled = records_text-append (fr v.0) (gr v.1) ∙ (λ i. x.spelled i ++ y.spelled i) ∙ sym (joined-append x.pieces y.pieces);
+      spelled = records_encoding-append (fr v.0) (gr v.1) ∙ (λ i. x.spelled i ++ y.spelled i) ∙ sym (joined-append x.pieces y.pieces);
       leads = along k f g P d (a, b) (v.0, b) v x.pieces y.pieces (first k f g P has.0 d a v.0 b x.pieces x.leads) (others k f g P d v.0 b v.1 y.pieces y.leads);
     }
 

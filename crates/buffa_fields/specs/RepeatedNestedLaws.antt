@@ -2,7 +2,7 @@
 use Rattle.std.proofs.Common.{◌≡◌, ◌≢◌, inl, inr, ℕ, zero, suc, ◌+◌, ◌==◌, ◌<◌, ◌≤◌, min, List, [], ◌∷◌, ◌++◌, length, map, take, drop, get_or, Option, Some, Result, Ok, Err, refl, sym, ap, subst, ◌∙◌, arith, append_assoc, append-nil, length-append}
 use Rattle.std.proofs.lemmas.Bool.{eq-eqb}
 use Rattle.std.specs.Option.{option_map}
-use Rattle.buffa_bytes.proofs.VarintLemmas.{IsVarint-varint_text}
+use Rattle.buffa_bytes.proofs.VarintLemmas.{IsVarint-varint_encoding}
 use Rattle.buffa_bytes.specs.declared.error.DecodeError.{DecodeError}
 use Rattle.buffa_bytes.specs.declared.error.DecodeError.TheVariants.{ElementMemoryLimitExceeded, WireTypeMismatch}
 use Rattle.buffa_bytes.specs.declared.error.EncodeError.{EncodeError}
@@ -18,9 +18,9 @@ use Rattle.buffa_wire.specs.Parse.{Fits}
 use Rattle.buffa_wire.specs.Passes.{IsNext, IsSized, IsSmall, IsWritten, cap}
 use Rattle.buffa_wire.specs.Reading.{delimited_at}
 use Rattle.buffa_wire.specs.Records.{bytes, records_of}
-use Rattle.buffa_wire.specs.Text.{records_text}
-use Rattle.buffa_wire.specs.Values.{delimited_text, tag_text}
-use Rattle.buffa_wire.specs.Varint.{varint_text}
+use Rattle.buffa_wire.specs.Encoding.{records_encoding}
+use Rattle.buffa_wire.specs.Values.{delimited_encoding, tag_encoding}
+use Rattle.buffa_wire.specs.Varint.{varint_encoding}
 use Rattle.buffa_map.proofs.BackLemmas.{is_tag}
 use Rattle.buffa_map.proofs.EntryLemmas.{same_false}
 use Rattle.buffa_fields.specs.LayoutLaws.{failed, sized_more, small_both, sum}
@@ -113,26 +113,26 @@ module _ {X : Type 0} (text slots : X → List ℕ) where
 
   module _ (n : ℕ) where
     -- no messages
-    pub sized_none : (c : Cache) → IsSized (records_text (messages_records text n [])) (messages_slots text slots []) c (sum 0) c
+    pub sized_none : (c : Cache) → IsSized (records_encoding (messages_records text n [])) (messages_slots text slots []) c (sum 0) c
     unfolding element_records messages_slots
     sized_none c = (refl, λ i. record { slots = sym (append-nil c.slots) i; next = c.next })
 
-    pub written_no : (c : Cache) (b : List ℕ) → IsWritten (records_text (messages_records text n [])) (messages_slots text slots []) c b done c b
+    pub written_no : (c : Cache) (b : List ℕ) → IsWritten (records_encoding (messages_records text n [])) (messages_slots text slots []) c b done c b
     unfolding element_records messages_slots
     written_no c b = written_none (IsSmall []) c b
 
     module _ {P : Type 0} (meaning : P → X) (xs : List P) (i : ℕ) (x : P) (lt : i < length xs) (is : x ≡ get_or xs i x) where
       abbrev text_to : ℕ → List ℕ
-      text_to k = records_text (messages_records text n (map meaning (take k xs)))
+      text_to k = records_encoding (messages_records text n (map meaning (take k xs)))
 
       abbrev slots_to : ℕ → List ℕ
       slots_to k = messages_slots text slots (map meaning (take k xs))
 
       abbrev here : List ℕ
-      here = records_text ((n, bytes (text (meaning x))) ∷ [])
+      here = records_encoding ((n, bytes (text (meaning x))) ∷ [])
 
       abbrev all : List ℕ
-      all = records_text (messages_records text n (map meaning xs))
+      all = records_encoding (messages_records text n (map meaning xs))
 
       abbrev all_slots : List ℕ
       all_slots = messages_slots text slots (map meaning xs)
@@ -191,7 +191,7 @@ module _ {X : Type 0} (text slots : X → List ℕ) where
       pub write_stops : (c0 c1 c2 : Cache) (b0 b1 b2 : List ℕ) (e : EncodeError) → IsWritten (text_to i) (slots_to i) c0 b0 done c1 b1 → IsWritten here (own (meaning x)) c1 b1 (refused e) c2 b2 →
           IsWritten all all_slots c0 b0 (refused e) c2 b2
       write_stops c0 c1 c2 b0 b1 b2 e h k =
-          let rest = records_text (messages_records text n later) in
+          let rest = records_encoding (messages_records text n later) in
           let more = messages_slots text slots later in
           let both = text_to i ++ here in
           let slots = slots_to i ++ own (meaning x) in
@@ -204,12 +204,12 @@ module _ {X : Type 0} (text slots : X → List ℕ) where
 module _ {X : Type 0} (merged : ℕ → X → List ℕ → Option X) (blank : X) (text : X → List ℕ) (level : X → ℕ) (Normal : X → Type 0)
     (back : (d : ℕ) (v : X) → Normal v → level v ≤ d → merged d blank (text v) ≡ Some v) (n : ℕ) (number : IsNumber n) where
   abbrev piece : X → Piece
-  piece v = record { tag = tag_text n LengthDelimited; number = n; wire = LengthDelimited; payload = delimited_text (text v) }
+  piece v = record { tag = tag_encoding n LengthDelimited; number = n; wire = LengthDelimited; payload = delimited_encoding (text v) }
 
-  spelled_all : (vs : List X) → records_text (messages_records text n vs) ≡ joined (map piece vs)
+  spelled_all : (vs : List X) → records_encoding (messages_records text n vs) ≡ joined (map piece vs)
   unfolding element_records
   spelled_all [] = refl
-  spelled_all (v ∷ vs) = ap (λ (z : List ℕ). (tag_text n LengthDelimited ++ delimited_text (text v)) ++ z) (spelled_all vs)
+  spelled_all (v ∷ vs) = ap (λ (z : List ℕ). (tag_encoding n LengthDelimited ++ delimited_encoding (text v)) ++ z) (spelled_all vs)
 
   leads_all : (d : ℕ) (acc vs : List X) → Fits (records_of (messages_records text n vs)) → Each Normal vs → messages_levels level vs ≤ d →
       Leads (messages_taken blank merged) (λ m. m == n) d acc (map piece vs) (acc ++ vs)
@@ -218,12 +218,12 @@ module _ {X : Type 0} (merged : ℕ → X → List ℕ → Option X) (blank : X)
   leads_all d acc (v ∷ vs) fits normal low = (
     eq-eqb n n refl,
     is_tag n LengthDelimited number,
-    (varint_text (length (text v)), text v, IsVarint-varint_text (length (text v)) fits.1, refl),
+    (varint_encoding (length (text v)), text v, IsVarint-varint_encoding (length (text v)) fits.1, refl),
     acc ++ v ∷ [],
     ap (option_map (λ x. acc ++ x ∷ [])) (taken_back merged blank text level Normal back n number d v fits.1 normal.0 (omega (arith, low))),
     subst (λ z. Leads (messages_taken blank merged) (λ m. m == n) d (acc ++ v ∷ []) (map piece vs) z) (append_assoc acc (v ∷ []) vs) (leads_all d (acc ++ v ∷ []) vs fits.2 normal.1 (omega (arith, low))),
   )
 
   pub messages_back : (d : ℕ) (vs : List X) → Fits (records_of (messages_records text n vs)) → Each Normal vs → messages_levels level vs ≤ d →
-      ReadsBack (messages_taken blank merged) (λ m. m == n) d [] (records_text (messages_records text n vs)) vs
+      ReadsBack (messages_taken blank merged) (λ m. m == n) d [] (records_encoding (messages_records text n vs)) vs
   messages_back d vs fits normal low = record { pieces = map piece vs; spelled = spelled_all vs; leads = leads_all d [] vs fits normal low }

@@ -36,5 +36,5 @@ pub record Paid {X : Type 0} (takes : Taker X) (need : Need) (d : ℕ) (old : X)
   pub means : merged_of takes d old bytes ≡ merged_of takes d now rest
   pub unknown : left.unknown + (cost_of need d bytes).unknown ≡ before.unknown + (cost_of need d rest).unknown
   pub memory : left.memory + (cost_of need d bytes).memory ≡ before.memory + (cost_of need d rest).memory
-  pub no_slot : left.unknown ≤ before.unknown
+  pub no_unknown : left.unknown ≤ before.unknown
   pub no_unit : left.memory ≤ before.memory

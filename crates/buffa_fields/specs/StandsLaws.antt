@@ -112,7 +112,7 @@ module _ {M X : Type 0} (l : Layout M X) (d : ℕ) (old : X) (bytes : List ℕ) 
   Refuses e over = PaysAtMost first (cost d bytes) over × (e ≢ OutOfMemory → MergeFault (merged d old bytes) (cost d bytes) first e)
 
   pub nothing_paid : Paid l.takes l.need d old bytes first old bytes first
-  nothing_paid = record { means = refl; unknown = refl; memory = refl; no_slot = omega arith; no_unit = omega arith }
+  nothing_paid = record { means = refl; unknown = refl; memory = refl; no_unknown = omega arith; no_unit = omega arith }
 
   -- a field more
   pub field_paid : (m new : M) (n : ℕ) (w : WireType) (rest bs after_bs : List ℕ) (before after : BudgetLeft) → Paid l.takes l.need d old bytes first (l.meaning m) rest before → tag_at rest ≡ Ok (n, w, bs) →
@@ -128,7 +128,7 @@ module _ {M X : Type 0} (l : Layout M X) (d : ℕ) (old : X) (bytes : List ℕ) 
         means = h.means ∙ means;
         unknown = omega (arith, h.unknown, one.1.0, ap (λ (z : BudgetLeft). z.unknown) costs);
         memory = omega (arith, h.memory, one.1.1, ap (λ (z : BudgetLeft). z.memory) costs);
-        no_slot = omega (arith, h.no_slot, one.1.0);
+        no_unknown = omega (arith, h.no_unknown, one.1.0);
         no_unit = omega (arith, h.no_unit, one.1.1);
       }
 
@@ -144,7 +144,7 @@ module _ {M X : Type 0} (l : Layout M X) (d : ℕ) (old : X) (bytes : List ℕ) 
   -- no tag is next
   pub tag_refused : (m : M) (rest : List ℕ) (before : BudgetLeft) (e : DecodeError) → Paid l.takes l.need d old bytes first (l.meaning m) rest before → 0 < length rest → tag_at rest ≡ Err e → Refuses e before
   tag_refused m rest before e h some no_tag =
-      loop_fault (merged d old bytes) (merged d (l.meaning m) rest) first before before (cost d bytes) (cost d rest) e h.means h.unknown h.memory h.no_slot h.no_unit
+      loop_fault (merged d old bytes) (merged d (l.meaning m) rest) first before before (cost d bytes) (cost d rest) e h.means h.unknown h.memory h.no_unknown h.no_unit
       ((omega arith, omega arith, omega arith, omega arith), λ ne. untagged merged cost (merged_fields l.takes) (merged_next l.takes) (cost_of_next l.need l.stays) d (l.meaning m) rest before e some no_tag)
 
   -- the next field is refused
@@ -156,4 +156,4 @@ module _ {M X : Type 0} (l : Layout M X) (d : ℕ) (old : X) (bytes : List ℕ) 
       let why : PaysAtMost before (cost d rest) after × (e ≢ OutOfMemory → MergeFault (merged d (l.meaning m) rest) (cost d rest) before e) =
       subst (λ (z : List ℕ). PaysAtMost before (cost d z) after × (e ≢ OutOfMemory → MergeFault (merged d (l.meaning m) z) (cost d z) before e)) (sym u.2)
       (judged_all merged cost (merged_fields l.takes) (merged_next l.takes) (cost_of_next l.need l.stays) d (l.meaning m) n w bs before after e p u.0 u.1) in
-      loop_fault (merged d old bytes) (merged d (l.meaning m) rest) first before after (cost d bytes) (cost d rest) e h.means h.unknown h.memory h.no_slot h.no_unit why
+      loop_fault (merged d old bytes) (merged d (l.meaning m) rest) first before after (cost d bytes) (cost d rest) e h.means h.unknown h.memory h.no_unknown h.no_unit why

@@ -2,7 +2,7 @@
 use Rattle.std.proofs.Common.{◌≡◌, ◌≢◌, inl, inr, ℕ, ◌+◌, ◌*◌, ◌^◌, ◌==◌, ◌<◌, ◌≤◌, Bool, true, false, List, [], ◌∷◌, ◌++◌, Option, Some, None, Result, Ok, Err, IsOk, refl, sym, ap, subst, ◌∙◌, arith, append-nil}
 use Rattle.std.proofs.lemmas.Bool.{eq-eqb}
 use Rattle.buffa_bytes.proofs.StepLemmas.{agree_err, agree_ok}
-use Rattle.buffa_bytes.proofs.VarintLemmas.{IsVarint-varint_text}
+use Rattle.buffa_bytes.proofs.VarintLemmas.{IsVarint-varint_encoding}
 use Rattle.buffa_bytes.specs.Content.{Content, ContentFault, HasContent, content_at}
 use Rattle.buffa_bytes.specs.Content.Content.{number, bytes}
 use Rattle.buffa_bytes.specs.declared.error.DecodeError.{DecodeError}
@@ -23,8 +23,8 @@ use Rattle.buffa_bytes.proofs.FieldLemmas.{wire_small}
 use Rattle.buffa_bytes.specs.WireType.{wire_number}
 use Rattle.buffa_wire.specs.Field.{IsTag}
 use Rattle.buffa_wire.specs.Records.{Datum}
-use Rattle.buffa_wire.specs.Text.{field_text, records_text}
-use Rattle.buffa_wire.specs.Values.{tag_text}
+use Rattle.buffa_wire.specs.Encoding.{field_encoding, records_encoding}
+use Rattle.buffa_wire.specs.Values.{tag_encoding}
 
 -- ---- contents are payloads
 pub content_payload : (d n : ℕ) (w : WireType) (p : List ℕ) (c : Content) → HasContent w p c → Payload d n w p
@@ -125,7 +125,7 @@ refused_plain true codec d old bs left e h r = cc
 module _ {V : Type 0} (reading : Reading V) (writing : Writing V) (datum : V → Datum) (n : ℕ) (number : IsNumber n) (d : ℕ) (plain : reading.nested ≡ false)
     (WIRE : WireType) (wire : reading.wire ≡ WIRE) (written : writing.wire ≡ WIRE) (Fit Normal : V → Type 0)
     (reads_back : (d : ℕ) (old v : V) → Fit v → Normal v → (c : Content) × HasContent writing.wire (writing.text v) c × (reading.reads d old c ≡ Ok (v, true)))
-    (datum_text : (n : ℕ) (v : V) → tag_text n writing.wire ++ writing.text v ≡ field_text n (datum v)) where
+    (datum_encoding : (n : ℕ) (v : V) → tag_encoding n writing.wire ++ writing.text v ≡ field_encoding n (datum v)) where
   small_tag : (w : WireType) → 8 * n + wire_number w < 2 ^ 64
   small_tag w = omega (arith, number.0, number.1, wire_small w)
 
@@ -142,15 +142,15 @@ module _ {V : Type 0} (reading : Reading V) (writing : Writing V) (datum : V →
       (content_payload d n writing.wire (writing.text v) r.0 r.1, rw (ap (same_wire reading.wire) (sym same) ∙ same_refl reading.wire, is) refl)
 
   abbrev piece : V → Piece
-  piece v = record { tag = tag_text n writing.wire; number = n; wire = writing.wire; payload = writing.text v }
+  piece v = record { tag = tag_encoding n writing.wire; number = n; wire = writing.wire; payload = writing.text v }
 
-  spelled_one : (v : V) → records_text ((n, datum v) ∷ []) ≡ joined (piece v ∷ [])
-  spelled_one v = append-nil (field_text n (datum v)) ∙ sym (datum_text n v) ∙ sym (append-nil (tag_text n writing.wire ++ writing.text v))
+  spelled_one : (v : V) → records_encoding ((n, datum v) ∷ []) ≡ joined (piece v ∷ [])
+  spelled_one v = append-nil (field_encoding n (datum v)) ∙ sym (datum_encoding n v) ∙ sym (append-nil (tag_encoding n writing.wire ++ writing.text v))
 
-  tag_is : IsTag (tag_text n writing.wire) n writing.wire
-  tag_is = (number, IsVarint-varint_text (8 * n + wire_number writing.wire) (small_tag writing.wire))
+  tag_is : IsTag (tag_encoding n writing.wire) n writing.wire
+  tag_is = (number, IsVarint-varint_encoding (8 * n + wire_number writing.wire) (small_tag writing.wire))
 
-  pub some_back : (v : Option V) → IfThere (λ x. Fit x × Normal x) v → ReadsBack (some_taken reading) (λ m. m == n) d None (records_text (some_records datum n v)) v
+  pub some_back : (v : Option V) → IfThere (λ x. Fit x × Normal x) v → ReadsBack (some_taken reading) (λ m. m == n) d None (records_encoding (some_records datum n v)) v
   some_back None h = record { pieces = []; spelled = refl; leads = refl }
   some_back (Some v) h =
       let one = one_piece reading.blank v h.0 h.1 in
@@ -162,10 +162,10 @@ module _ {V : Type 0} (reading : Reading V) (writing : Writing V) (datum : V →
 
   -- a value that isn't written where it is the default
   pub plain_back : (blank : V) (test : V → Bool) → ((v : V) → Normal v → test v ≡ true → v ≡ blank) → (v : V) → Fit v → Normal v →
-      ReadsBack (value_taken reading) (λ m. m == n) d blank (records_text (records_unless (test v) ((n, datum v) ∷ []))) v
+      ReadsBack (value_taken reading) (λ m. m == n) d blank (records_encoding (records_unless (test v) ((n, datum v) ∷ []))) v
   plain_back blank test only v fit normal = at (test v) refl
     where
-      at : (b : Bool) → test v ≡ b → ReadsBack (value_taken reading) (λ m. m == n) d blank (records_text (records_unless b ((n, datum v) ∷ []))) v
+      at : (b : Bool) → test v ≡ b → ReadsBack (value_taken reading) (λ m. m == n) d blank (records_encoding (records_unless b ((n, datum v) ∷ []))) v
       at true is = record { pieces = []; spelled = refl; leads = sym (only v normal is) }
       at false is =
           let one = one_piece blank v fit normal in

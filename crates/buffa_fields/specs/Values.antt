@@ -5,7 +5,7 @@ use Rattle.std.specs.Option.{option_map}
 use Rattle.buffa_bytes.specs.declared.error.DecodeError.{DecodeError}
 use Rattle.buffa_wire.specs.BudgetLeft.{nothing}
 use Rattle.buffa_wire.specs.Records.{Datum}
-use Rattle.buffa_wire.specs.Values.{tag_text}
+use Rattle.buffa_wire.specs.Values.{tag_encoding}
 use Rattle.buffa_wire.specs.WireType.{same_wire}
 use Rattle.buffa_map.specs.Codec.{HoldsNothing, Reading, TakesMemory, Writing, value_at}
 use Rattle.buffa_fields.specs.Takes.{Asks, Need, Taker}
@@ -33,13 +33,13 @@ abbrev pub ValueTakesMemory : {V : Type 0} → Reading V → Asks
 ValueTakesMemory codec d n w bs = (w ≡ codec.wire) × TakesMemory codec d bs × (HoldsNothing codec d bs → ⊥)
 
 -- the field of a value
-abbrev pub value_text : {V : Type 0} → Writing V → ℕ → V → List ℕ
-value_text codec n v = tag_text n codec.wire ++ codec.text v
+abbrev pub value_encoding : {V : Type 0} → Writing V → ℕ → V → List ℕ
+value_encoding codec n v = tag_encoding n codec.wire ++ codec.text v
 
 -- that of a value which may be absent
 abbrev pub some_text : {V : Type 0} → Writing V → ℕ → Option V → List ℕ
 some_text codec n None = []
-some_text codec n (Some v) = value_text codec n v
+some_text codec n (Some v) = value_encoding codec n v
 
 abbrev pub some_records : {V : Type 0} → (V → Datum) → ℕ → Option V → List (ℕ × Datum)
 some_records datum n None = []

@@ -5,7 +5,7 @@ ghost use Rattle.buffa_wire.specs.BudgetLeft.{budget_left};
 ghost use Rattle.buffa_wire.specs.Gives.{FullOnlyIf, GivesUnlessFull};
 ghost use Rattle.buffa_wire.specs.Passes.{cap};
 ghost use Rattle.buffa_wire.specs.RecordReading.{TakesMemory, field_at};
-ghost use Rattle.buffa_wire.specs.Text.{records_text};
+ghost use Rattle.buffa_wire.specs.Encoding.{records_encoding};
 ghost use Rattle.buffa_wire.specs.View.{datum_of};
 ghost use Rattle.buffa_fields.specs.Layout.{Kept, Passed};
 
@@ -86,7 +86,7 @@ pub fn keep(
 
 // The length of the text of kept fields, or 2^32 - 1 where it is more.
 pub(crate) fn kept_len(fields: &UnknownFields) -> u32
-    ensures { result ≡ cap (length (records_text fields.now.records)) }
+    ensures { result ≡ cap (length (records_encoding fields.now.records)) }
 {
     let total = fields.encoded_len();
     if total < 4_294_967_295 {

@@ -21,7 +21,7 @@ impl Kind for Int32 {
 
     ghost is_blank = { is_zero };
 
-    ghost datum_text = { λ n v. refl };
+    ghost datum_encoding = { λ n v. refl };
 
     ghost blank_only = { λ v _ h. zero_only v h };
 
@@ -35,7 +35,7 @@ impl Kind for Bool {
 
     ghost is_blank = { not };
 
-    ghost datum_text = { λ n v. refl };
+    ghost datum_encoding = { λ n v. refl };
 
     ghost blank_only = { λ v _ h. same_false_only v h };
 
@@ -49,7 +49,7 @@ impl<T: ProtoString> Kind for ProtoStringMap<T> {
 
     ghost is_blank = { λ v. is_none (T.text v) };
 
-    ghost datum_text = { λ n v. refl };
+    ghost datum_encoding = { λ n v. refl };
 
     ghost blank_only = { λ v _ h. sym (T.ProtoString.meaning_stays v)
         ∙ ap T.of_text (none_only (T.text v) h ∙ sym T.ProtoString.blank_text)
@@ -69,7 +69,7 @@ impl Kind for Int64 {
         *value == 0
     }
 
-    ghost datum_text = { λ n v. refl };
+    ghost datum_encoding = { λ n v. refl };
 
     ghost blank_only = { λ v _ h. zero_only v h };
 }
@@ -83,7 +83,7 @@ impl Kind for Uint32 {
         *value == 0
     }
 
-    ghost datum_text = { λ n v. refl };
+    ghost datum_encoding = { λ n v. refl };
 
     ghost blank_only = { λ v _ h. nought_only v h };
 }
@@ -97,7 +97,7 @@ impl Kind for Uint64 {
         *value == 0
     }
 
-    ghost datum_text = { λ n v. refl };
+    ghost datum_encoding = { λ n v. refl };
 
     ghost blank_only = { λ v _ h. nought_only v h };
 }
@@ -111,7 +111,7 @@ impl Kind for Sint32 {
         *value == 0
     }
 
-    ghost datum_text = { λ n v. refl };
+    ghost datum_encoding = { λ n v. refl };
 
     ghost blank_only = { λ v _ h. zero_only v h };
 }
@@ -125,7 +125,7 @@ impl Kind for Sint64 {
         *value == 0
     }
 
-    ghost datum_text = { λ n v. refl };
+    ghost datum_encoding = { λ n v. refl };
 
     ghost blank_only = { λ v _ h. zero_only v h };
 }
@@ -139,7 +139,7 @@ impl Kind for Fixed32 {
         *value == 0
     }
 
-    ghost datum_text = { λ n v. refl };
+    ghost datum_encoding = { λ n v. refl };
 
     ghost blank_only = { λ v _ h. nought_only v h };
 }
@@ -153,7 +153,7 @@ impl Kind for Fixed64 {
         *value == 0
     }
 
-    ghost datum_text = { λ n v. refl };
+    ghost datum_encoding = { λ n v. refl };
 
     ghost blank_only = { λ v _ h. nought_only v h };
 }
@@ -167,7 +167,7 @@ impl Kind for Sfixed32 {
         *value == 0
     }
 
-    ghost datum_text = { λ n v. refl };
+    ghost datum_encoding = { λ n v. refl };
 
     ghost blank_only = { λ v _ h. zero_only v h };
 }
@@ -181,7 +181,7 @@ impl Kind for Sfixed64 {
         *value == 0
     }
 
-    ghost datum_text = { λ n v. refl };
+    ghost datum_encoding = { λ n v. refl };
 
     ghost blank_only = { λ v _ h. zero_only v h };
 }
@@ -195,7 +195,7 @@ impl<T: ProtoBytes> Kind for ProtoBytesMap<T> {
         value.as_bytes().is_empty()
     }
 
-    ghost datum_text = { λ n v. refl };
+    ghost datum_encoding = { λ n v. refl };
 
     ghost blank_only = { λ v _ h. sym (T.ProtoBytes.meaning_stays v)
         ∙ ap T.of_bytes (none_only (T.bytes v) h ∙ sym T.ProtoBytes.blank_bytes)
@@ -211,7 +211,7 @@ impl Kind for BytesBuf {
         Bytes::as_slice(value).is_empty()
     }
 
-    ghost datum_text = { λ n v. refl };
+    ghost datum_encoding = { λ n v. refl };
 
     ghost blank_only = { λ v _ h. none_only v h };
 }
@@ -225,7 +225,7 @@ impl<E: Enumeration> Kind for OpenEnum<E> {
         value.to_i32() == 0
     }
 
-    ghost datum_text = { λ n v. refl };
+    ghost datum_encoding = { λ n v. refl };
 
     ghost blank_only = { λ v normal h. normal ∙ ap (open_number E.of_number) (zero_only v.1 h) };
 }

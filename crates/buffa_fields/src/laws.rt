@@ -8,15 +8,15 @@ ghost use Rattle.std.specs.List.{IsDistinct};
 ghost use Rattle.std.specs.Map.{keys_of};
 ghost use Rattle.std.specs.Option.{option_map};
 ghost use Rattle.buffa_wire.specs.BudgetLeft.{slots};
-ghost use Rattle.buffa_wire.specs.Parse.{IsPayload, slots_inside};
+ghost use Rattle.buffa_wire.specs.Parse.{IsPayload, fields_inside};
 ghost use Rattle.buffa_wire.specs.RecordReading.{TakesMemory};
 ghost use Rattle.buffa_wire.specs.Records.{Datum, height};
 ghost use Rattle.buffa_wire.specs.Records.Datum.{varint, fixed32, fixed64, bytes};
 ghost use Rattle.buffa_wire.specs.Reading.{check_wire};
-ghost use Rattle.buffa_wire.specs.Text.{wire_of};
+ghost use Rattle.buffa_wire.specs.Encoding.{wire_of};
 ghost use Rattle.buffa_map.specs.Message.{message_reading};
 ghost use Rattle.buffa_map.specs.Pairs.{means};
-ghost use Rattle.buffa_map.specs.Text.{AllHold};
+ghost use Rattle.buffa_map.specs.Encoding.{AllHold};
 ghost use Rattle.buffa_fields.specs.Keep.{IsFieldThere};
 ghost use Rattle.buffa_fields.specs.KindLaws.{is_none, is_nought, is_zero};
 ghost use Rattle.buffa_fields.specs.Lists.{Each, ElementsTakeMemory, check_list_wire};
@@ -245,7 +245,7 @@ pub fn kept_fields_are_these<M>()
     ensures asks { (get : M → List (ℕ × Datum)) (s d n : ℕ) (w : _) (bs : List ℕ) → (keep get).asks s d n w bs
         ↔ (TakesMemory d s w bs ⊎ IsFieldThere d s n w bs) }
     ensures need { (get : M → List (ℕ × Datum)) (d n : ℕ) (x : Datum) (p more : List ℕ) → IsPayload d n x p →
-        (keep get).need d n (wire_of x) (p ++ more) ≡ slots (1 + slots_inside x) }
+        (keep get).need d n (wire_of x) (p ++ more) ≡ slots (1 + fields_inside x) }
     ensures records { (get : M → List (ℕ × Datum)) (v : List (ℕ × Datum)) → (keep get).records v ≡ v }
     ensures slots { (get : M → List (ℕ × Datum)) (v : List (ℕ × Datum)) → (keep get).slots v ≡ [] }
     ensures levels { (get : M → List (ℕ × Datum)) (v : List (ℕ × Datum)) → (keep get).levels v ≡ height v }

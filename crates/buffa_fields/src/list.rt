@@ -7,7 +7,7 @@ ghost use Rattle.buffa_bytes.specs.Reading.{delimited_at};
 ghost use Rattle.buffa_wire.specs.BudgetLeft.{BudgetLeft};
 ghost use Rattle.buffa_wire.specs.Number.{IsNumber};
 ghost use Rattle.buffa_wire.specs.Passes.{cap};
-ghost use Rattle.buffa_wire.specs.Text.{records_text};
+ghost use Rattle.buffa_wire.specs.Encoding.{records_encoding};
 ghost use Rattle.buffa_wire.specs.Written.{Writes};
 ghost use Rattle.buffa_fields.specs.Calls.{ChecksListWire, TakesElements};
 ghost use Rattle.buffa_fields.specs.Lists.{ElementsTakeMemory, PackedTakeMemory, TakesPacked};
@@ -133,7 +133,7 @@ pub(crate) fn take_elements<C: MapCodec>(
 // The length of the fields of elements, or 2^32 - 1 where it is more.
 pub(crate) fn elements_len<C: Kind>(number: u32, values: &[C::Value]) -> u32
     requires { IsNumber number }
-    ensures { result ≡ cap (length (records_text
+    ensures { result ≡ cap (length (records_encoding
         (element_records C.datum number (map C.Value.meaning values.now)))) }
 {
     let mut total: u32 = 0;
@@ -150,7 +150,7 @@ pub(crate) fn write_elements<C: Kind, S: EncodeSink>(
     sink: &mut S,
 ) -> Result<(), EncodeError>
     requires { IsNumber number }
-    ensures { Writes result (S.written sink.old) (records_text
+    ensures { Writes result (S.written sink.old) (records_encoding
         (element_records C.datum number (map C.Value.meaning values.now))) (S.written sink.new) }
 {
     for value in values {

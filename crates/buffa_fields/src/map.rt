@@ -5,7 +5,7 @@ ghost use Rattle.buffa_wire.specs.BudgetLeft.{budget_left};
 ghost use Rattle.buffa_wire.specs.Gives.{FullOnlyIf};
 ghost use Rattle.buffa_wire.specs.Number.{IsNumber};
 ghost use Rattle.buffa_wire.specs.Passes.{cap};
-ghost use Rattle.buffa_wire.specs.Text.{records_text};
+ghost use Rattle.buffa_wire.specs.Encoding.{records_encoding};
 ghost use Rattle.buffa_map.specs.Pairs.{means};
 ghost use Rattle.buffa_fields.specs.Calls.{ChecksWire, TakesEntry};
 ghost use Rattle.buffa_fields.specs.MapFields.{PairTakesMemory, WritesMap, entry_cost, entry_taken, map_records};
@@ -28,7 +28,7 @@ pub(crate) fn map_len<KC: MapCodec, VC: MapCodec>(
 where
     KC::Value: MapKey + Hash,
     requires { IsNumber number }
-    ensures { result ≡ cap (length (records_text (map_records KC.writing VC.writing number
+    ensures { result ≡ cap (length (records_encoding (map_records KC.writing VC.writing number
         (means KC.Value.meaning VC.Value.meaning map.now.entries)))) }
 {
     size_is_length::<KC, VC>();

@@ -8,7 +8,7 @@ ghost use Rattle.buffa_bytes.specs.declared.wire_type.WireType.TheVariants.{Leng
 ghost use Rattle.buffa_wire.specs.Reading.{check_wire};
 ghost use Rattle.buffa_map.proofs.BackLemmas.{plain_back};
 ghost use Rattle.buffa_map.specs.Pairs.{means};
-ghost use Rattle.buffa_map.specs.Text.{AllHold};
+ghost use Rattle.buffa_map.specs.Encoding.{AllHold};
 ghost use Rattle.buffa_fields.specs.MapFields.{PairTakesMemory, entry_cost, entry_taken};
 ghost use Rattle.buffa_fields.specs.MapLaws.{map_back, map_stays};
 ghost use Rattle.buffa_fields.specs.Slots.{entry_records};

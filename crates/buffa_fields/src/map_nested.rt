@@ -8,11 +8,11 @@ ghost use Rattle.buffa_bytes.specs.declared.wire_type.WireType.TheVariants.{Leng
 ghost use Rattle.buffa_wire.specs.Number.{IsNumber};
 ghost use Rattle.buffa_wire.specs.Passes.{IsNext, IsSized, IsWritten};
 ghost use Rattle.buffa_wire.specs.Reading.{check_wire};
-ghost use Rattle.buffa_wire.specs.Text.{records_text};
+ghost use Rattle.buffa_wire.specs.Encoding.{records_encoding};
 ghost use Rattle.buffa_map.proofs.BackLemmas.{plain_back};
 ghost use Rattle.buffa_map.specs.Message.{message_reading};
 ghost use Rattle.buffa_map.specs.Pairs.{means};
-ghost use Rattle.buffa_map.specs.Text.{AllHold};
+ghost use Rattle.buffa_map.specs.Encoding.{AllHold};
 ghost use Rattle.buffa_fields.specs.Calls.{WritesPairs};
 ghost use Rattle.buffa_fields.specs.MapFields.{PairTakesMemory, entry_cost, entry_taken};
 ghost use Rattle.buffa_fields.specs.MapLaws.{map_stays};
@@ -43,7 +43,7 @@ where
     KC::Value: MapKey + Hash,
     requires { IsNumber number }
     ensures sized { let l = means KC.Value.meaning N.meaning map.now.entries in
-        IsSized (records_text (pair_records KC.writing N.text number l)) (pair_slots N.text N.slots l) cache.old result
+        IsSized (records_encoding (pair_records KC.writing N.text number l)) (pair_slots N.text N.slots l) cache.old result
         cache.new }
     ensures always { pair_slots N.text N.slots (means KC.Value.meaning N.meaning map.now.entries) ≡ [] → IsOk result }
 {
@@ -137,7 +137,7 @@ where
     ghost back = { record {
       back = λ n number d l fits normal low. pairs_back N.merged N.blank_is N.cost N.text N.levels
           (FitsInside N.normal N.records)
-          (λ d v ok low. N.MessageSpec.merged_text d v ok.1 ok.0 low) KC.reading KC.writing
+          (λ d v ok low. N.MessageSpec.merged_encoding d v ok.1 ok.0 low) KC.reading KC.writing
           (KC.MapCodec.written_wire ∙ sym KC.MapValueDecode.wire) KC.Value.same KC.Value.MapKey.equivalence
           (λ k. KC.fits k × KC.normal k)
           (λ d v h. plain_back KC.reading KC.writing d v KC.MapCodec.plain (KC.MapCodec.reads_back d KC.reading.blank v h.0 h.1))

@@ -4,7 +4,7 @@ ghost use Rattle.std.specs.Prelude.{◌≡◌, [], IsOk};
 ghost use Rattle.buffa_wire.specs.BudgetLeft.{budget_left};
 ghost use Rattle.buffa_wire.specs.Number.{IsNumber};
 ghost use Rattle.buffa_wire.specs.Passes.{IsNext, IsSized, IsWritten};
-ghost use Rattle.buffa_wire.specs.Text.{records_text};
+ghost use Rattle.buffa_wire.specs.Encoding.{records_encoding};
 ghost use Rattle.buffa_fields.specs.Layout.{ReadsBackTo, Slot, Took};
 
 use buffa_wire::{DecodeContext, DecodeError, EncodeError, EncodeSink, SizeCache, Tag};
@@ -35,7 +35,7 @@ pub trait Member {
     /// ```
     fn len(number: u32, part: &Self::Part, cache: &mut SizeCache) -> Result<u32, EncodeError>
         requires { IsNumber number }
-        ensures sized { IsSized (records_text (slot.records number (slot.meaning part.now)))
+        ensures sized { IsSized (records_encoding (slot.records number (slot.meaning part.now)))
             (slot.slots (slot.meaning part.now)) cache.old result cache.new }
         ensures always { slot.slots (slot.meaning part.now) ≡ [] → IsOk result };
 
@@ -55,7 +55,7 @@ pub trait Member {
     ) -> Result<(), EncodeError>
         requires number { IsNumber number }
         requires next { IsNext (slot.slots (slot.meaning part.now)) cache.old }
-        ensures { IsWritten (records_text (slot.records number (slot.meaning part.now)))
+        ensures { IsWritten (records_encoding (slot.records number (slot.meaning part.now)))
             (slot.slots (slot.meaning part.now)) cache.old (S.written sink.old) result cache.new
             (S.written sink.new) };
 

@@ -6,7 +6,7 @@ ghost use Rattle.buffa_wire.specs.Gives.{FullOnlyIf};
 ghost use Rattle.buffa_wire.specs.Parse.{Fits};
 ghost use Rattle.buffa_wire.specs.Passes.{IsNext, IsSized, IsWritten};
 ghost use Rattle.buffa_wire.specs.Records.{records_of};
-ghost use Rattle.buffa_wire.specs.Text.{records_text};
+ghost use Rattle.buffa_wire.specs.Encoding.{records_encoding};
 ghost use Rattle.buffa_fields.specs.Calls.{MemberTakes, MembersReadBack, MergesIn, WritesMembers};
 ghost use Rattle.buffa_fields.specs.LayoutLaws.{reads_back};
 ghost use Rattle.buffa_fields.specs.Takes.{cost_of, merged_of};
@@ -27,7 +27,7 @@ use std::alloc::Global;
 fn size_members<M: Fields>(message: &M, sizer: &mut Sizer<'_>)
     requires { sizer.old.total ≡ Ok 0 }
     ensures same_reference { sizer.new.cache.ghost_name ≡ sizer.old.cache.ghost_name }
-    ensures sized { IsSized (records_text (M.layout.records (M.layout.meaning message.now)))
+    ensures sized { IsSized (records_encoding (M.layout.records (M.layout.meaning message.now)))
         (M.layout.slots (M.layout.meaning message.now)) sizer.old.cache.now sizer.new.total sizer.new.cache.now }
     ensures always { M.layout.slots (M.layout.meaning message.now) ≡ [] → IsOk sizer.new.total }
 {
@@ -36,7 +36,7 @@ fn size_members<M: Fields>(message: &M, sizer: &mut Sizer<'_>)
 
 // The size pass of a message by its members.
 fn size<M: Fields>(message: &M, cache: &mut SizeCache) -> Result<u32, EncodeError>
-    ensures sized { IsSized (records_text (M.layout.records (M.layout.meaning message.now)))
+    ensures sized { IsSized (records_encoding (M.layout.records (M.layout.meaning message.now)))
         (M.layout.slots (M.layout.meaning message.now)) cache.old result cache.new }
     ensures always { M.layout.slots (M.layout.meaning message.now) ≡ [] → IsOk result }
 {
@@ -150,7 +150,7 @@ impl<M: Listing> MessageForm<M> for Listed {
 
     /// The size pass, which runs out of memory only where there is a message inside.
     fn compute_size(message: &M, cache: &mut SizeCache) -> Result<u32, EncodeError>
-        ensures sized { IsSized (records_text (M.layout.records (M.meaning message.now)))
+        ensures sized { IsSized (records_encoding (M.layout.records (M.meaning message.now)))
             (M.layout.slots (M.meaning message.now)) cache.old result cache.new }
         ensures always { M.layout.slots (M.meaning message.now) ≡ [] → IsOk result }
     {
@@ -181,8 +181,8 @@ impl<M: Listing> MessageForm<M> for Listed {
         merge(message, alloc, tag, buf, ctx)
     }
 
-    ghost merged_text = { λ d v fits normal low.
-        ap (λ b. merged_of M.layout.takes d b (records_text (M.layout.records v))) M.Listing.starts
+    ghost merged_encoding = { λ d v fits normal low.
+        ap (λ b. merged_of M.layout.takes d b (records_encoding (M.layout.records v))) M.Listing.starts
         ∙ reads_back M.layout normal.0 M.sound d v fits normal.1 low };
 }
 

@@ -9,7 +9,7 @@ ghost use Rattle.buffa_wire.specs.Number.{IsNumber};
 ghost use Rattle.buffa_wire.specs.Passes.{IsNext, IsSized, IsWritten, cap};
 ghost use Rattle.buffa_wire.specs.Reading.{check_wire};
 ghost use Rattle.buffa_wire.specs.Records.{bytes};
-ghost use Rattle.buffa_wire.specs.Text.{records_text};
+ghost use Rattle.buffa_wire.specs.Encoding.{records_encoding};
 ghost use Rattle.buffa_wire.specs.Written.{Writes};
 ghost use Rattle.buffa_fields.specs.Calls.{ChecksWire, TakesIn, WritesMessage};
 ghost use Rattle.buffa_fields.specs.Nested.{FitsInside, MessageTakesMemory, message_cost, message_in};
@@ -30,7 +30,7 @@ use std::marker::PhantomData;
 #[tactic(auto, using(crate::specs::NestedLaws::record_size))]
 pub(crate) fn record_len(number: u32, inner: u64) -> u32
     requires { IsNumber number }
-    ensures { (text : List ℕ) → Tells inner text → result ≡ cap (length (records_text ((number, bytes text) ∷ []))) }
+    ensures { (text : List ℕ) → Tells inner text → result ≡ cap (length (records_encoding ((number, bytes text) ∷ []))) }
 {
     let tag = varint_len(u64::from(number) * 8 + 2) as u64;
     let len = prefix_len(inner) as u64;
@@ -49,7 +49,7 @@ pub(crate) fn message_len<N: Message>(
     cache: &mut SizeCache,
 ) -> Result<u32, EncodeError>
     requires { IsNumber number }
-    ensures { let v = N.meaning message.now in IsSized (records_text ((number, bytes (N.text v)) ∷ []))
+    ensures { let v = N.meaning message.now in IsSized (records_encoding ((number, bytes (N.text v)) ∷ []))
         (cap (length (N.text v)) ∷ N.slots v) cache.old result cache.new }
 {
     let slot = match cache.reserve() {
@@ -190,6 +190,6 @@ impl<N: Message> Member for Nested<N> {
     ghost back = { record {
       back = λ n number d v fits normal low. message_back N.merged N.blank_is N.text N.levels
           (FitsInside N.normal N.records)
-          (λ d v ok low. N.MessageSpec.merged_text d v ok.1 ok.0 low) n number d v fits normal low;
+          (λ d v ok low. N.MessageSpec.merged_encoding d v ok.1 ok.0 low) n number d v fits normal low;
     } };
 }

@@ -87,6 +87,6 @@ impl<C: Kind> Member for Optional<C> {
     ghost back = { record {
       back = λ k number d v fits normal low. unfold optional_records in (some_back C.reading C.writing C.datum k number d
           C.MapCodec.plain C.WIRE_TYPE C.MapValueDecode.wire C.MapCodec.written_wire C.fits C.normal C.MapCodec.reads_back
-          C.Kind.datum_text v normal);
+          C.Kind.datum_encoding v normal);
     } };
 }

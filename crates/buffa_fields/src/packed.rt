@@ -4,12 +4,12 @@ ghost use Rattle.std.specs.Prelude.{[], false, length, map, refl, ◌==◌, ◌�
 ghost use Rattle.buffa_bytes.specs.declared.wire_type.WireType.TheVariants.{LengthDelimited};
 ghost use Rattle.buffa_wire.specs.Number.{IsNumber};
 ghost use Rattle.buffa_wire.specs.Passes.{IsWritten, cap};
-ghost use Rattle.buffa_wire.specs.Text.{records_text};
+ghost use Rattle.buffa_wire.specs.Encoding.{records_encoding};
 ghost use Rattle.buffa_wire.specs.WireType.{same_wire};
 ghost use Rattle.buffa_wire.specs.Written.{Writes};
-ghost use Rattle.buffa_map.specs.Text.{saturated};
+ghost use Rattle.buffa_map.specs.Encoding.{saturated};
 ghost use Rattle.buffa_fields.specs.Lists.{Each, ElementsTakeMemory, check_list_wire};
-ghost use Rattle.buffa_fields.specs.Lists.{elements_taken, packed_records, packed_text};
+ghost use Rattle.buffa_fields.specs.Lists.{elements_taken, packed_records, packed_encoding};
 ghost use Rattle.buffa_fields.specs.ListLaws.{packed_back};
 ghost use Rattle.buffa_fields.specs.Values.{free};
 
@@ -87,7 +87,7 @@ impl<E: Enumeration> Packable for OpenEnum<E> {
 
 // The length of all payloads, or 2^64 - 1 where it is more.
 fn payloads_len<C: Kind>(values: &[C::Value]) -> u64
-    ensures { result ≡ saturated (length (packed_text C.writing.text (map C.Value.meaning values.now))) }
+    ensures { result ≡ saturated (length (packed_encoding C.writing.text (map C.Value.meaning values.now))) }
 {
     let mut total: u64 = 0;
     for value in values {
@@ -101,7 +101,7 @@ fn write_payloads<C: Kind, S: EncodeSink>(
     values: &[C::Value],
     sink: &mut S,
 ) -> Result<(), EncodeError>
-    ensures { Writes result (S.written sink.old) (packed_text C.writing.text (map C.Value.meaning values.now))
+    ensures { Writes result (S.written sink.old) (packed_encoding C.writing.text (map C.Value.meaning values.now))
         (S.written sink.new) }
 {
     for value in values {
@@ -116,7 +116,7 @@ fn write_payloads<C: Kind, S: EncodeSink>(
 // The length of the one record of a list, or 2^32 - 1 where it is more; 0 where the list is empty.
 fn packed_len<C: Kind>(number: u32, values: &[C::Value]) -> u32
     requires { IsNumber number }
-    ensures { result ≡ cap (length (records_text
+    ensures { result ≡ cap (length (records_encoding
         (packed_records C.writing.text number (map C.Value.meaning values.now)))) }
 {
     if values.len() == 0 {
@@ -133,7 +133,7 @@ fn write_packed<C: Kind, S: EncodeSink>(
     sink: &mut S,
 ) -> Result<(), EncodeError>
     requires { IsNumber number }
-    ensures { IsWritten (records_text (packed_records C.writing.text number (map C.Value.meaning values.now))) []
+    ensures { IsWritten (records_encoding (packed_records C.writing.text number (map C.Value.meaning values.now))) []
         _cache.old (S.written sink.old) result _cache.new (S.written sink.new) }
 {
     if values.len() == 0 {
@@ -201,6 +201,6 @@ impl<C: Packable> Member for Packed<C> {
     ghost back = { record {
       back = λ k number d v fits normal low. packed_back C.reading C.writing C.datum k number d C.MapCodec.plain
           C.MapValueDecode.no_limit C.WIRE_TYPE C.MapValueDecode.wire C.MapCodec.written_wire C.fits C.normal
-          C.MapCodec.reads_back C.Kind.datum_text C.Packable.apart v fits normal;
+          C.MapCodec.reads_back C.Kind.datum_encoding C.Packable.apart v fits normal;
     } };
 }

@@ -78,6 +78,6 @@ impl<C: Kind> Member for Plain<C> {
     ghost back = { record {
       back = λ k number d v fits normal low. unfold plain_records in (plain_back C.reading C.writing C.datum k number d
           C.MapCodec.plain C.WIRE_TYPE C.MapValueDecode.wire C.MapCodec.written_wire C.fits C.normal C.MapCodec.reads_back
-          C.Kind.datum_text C.Value.blank_is C.is_blank C.Kind.blank_only v normal.0 normal.1);
+          C.Kind.datum_encoding C.Value.blank_is C.is_blank C.Kind.blank_only v normal.0 normal.1);
     } };
 }

@@ -7,7 +7,7 @@ ghost use Rattle.buffa_wire.specs.Gives.{FullOnlyIf};
 ghost use Rattle.buffa_wire.specs.Number.{IsNumber};
 ghost use Rattle.buffa_wire.specs.Passes.{IsNext, IsSized, IsWritten};
 ghost use Rattle.buffa_wire.specs.Reading.{check_wire};
-ghost use Rattle.buffa_wire.specs.Text.{records_text};
+ghost use Rattle.buffa_wire.specs.Encoding.{records_encoding};
 ghost use Rattle.buffa_fields.specs.Calls.{ChecksWire, TakesIn, WritesMessages};
 ghost use Rattle.buffa_fields.specs.Lists.{Each};
 ghost use Rattle.buffa_fields.specs.Nested.{FitsInside, MessageTakesMemory, message_in};
@@ -87,7 +87,7 @@ fn messages_len<N: Message>(
     cache: &mut SizeCache,
 ) -> Result<u32, EncodeError>
     requires { IsNumber number }
-    ensures sized { let vs = map N.meaning messages.now in IsSized (records_text (messages_records N.text number vs))
+    ensures sized { let vs = map N.meaning messages.now in IsSized (records_encoding (messages_records N.text number vs))
         (messages_slots N.text N.slots vs) cache.old result cache.new }
     ensures always { messages_slots N.text N.slots (map N.meaning messages.now) ≡ [] → IsOk result }
 {
@@ -177,6 +177,6 @@ impl<N: Message> Member for RepeatedNested<N> {
     ghost back = { record {
       back = λ n number d v fits normal low. messages_back N.merged N.blank_is N.text N.levels
           (FitsInside N.normal N.records)
-          (λ d v ok low. N.MessageSpec.merged_text d v ok.1 ok.0 low) n number d v fits normal low;
+          (λ d v ok low. N.MessageSpec.merged_encoding d v ok.1 ok.0 low) n number d v fits normal low;
     } };
 }

@@ -5,8 +5,8 @@ ghost use Rattle.buffa_wire.specs.BudgetLeft.{budget_left};
 ghost use Rattle.buffa_wire.specs.Gives.{FullOnlyIf};
 ghost use Rattle.buffa_wire.specs.Number.{IsNumber};
 ghost use Rattle.buffa_wire.specs.Passes.{cap};
-ghost use Rattle.buffa_wire.specs.Text.{records_text};
-ghost use Rattle.buffa_wire.specs.Values.{tag_text};
+ghost use Rattle.buffa_wire.specs.Encoding.{records_encoding};
+ghost use Rattle.buffa_wire.specs.Values.{tag_encoding};
 ghost use Rattle.buffa_wire.specs.Written.{Writes};
 ghost use Rattle.buffa_wire.specs.Reading.{check_wire};
 ghost use Rattle.buffa_fields.specs.Calls.{ChecksWire, TakesValue};
@@ -48,7 +48,7 @@ pub(crate) fn take_value<C: MapCodec>(
 // The length of a field, or 2^32 - 1 where it is more.
 pub(crate) fn value_len<C: Kind>(number: u32, value: &C::Value) -> u32
     requires { IsNumber number }
-    ensures { result ≡ cap (length (records_text ((number, C.datum (C.Value.meaning value.now)) ∷ []))) }
+    ensures { result ≡ cap (length (records_encoding ((number, C.datum (C.Value.meaning value.now)) ∷ []))) }
 {
     let tag = varint_len(u64::from(number) * 8 + u64::from(C::WIRE_TYPE.number())) as u64;
     let total = C::encoded_len(value).saturating_add(tag);
@@ -68,7 +68,7 @@ fn write_parts<C: Kind, S: EncodeSink>(
 ) -> Result<(), EncodeError>
     requires { IsNumber number }
     ensures { Writes result (S.written sink.old)
-        (tag_text number C.WIRE_TYPE ++ C.writing.text (C.Value.meaning value.now)) (S.written sink.new) }
+        (tag_encoding number C.WIRE_TYPE ++ C.writing.text (C.Value.meaning value.now)) (S.written sink.new) }
 {
     Tag::new(number, C::WIRE_TYPE).encode(sink)?;
     C::encode(value, sink)
@@ -81,7 +81,7 @@ pub(crate) fn write_value<C: Kind, S: EncodeSink>(
     sink: &mut S,
 ) -> Result<(), EncodeError>
     requires { IsNumber number }
-    ensures { Writes result (S.written sink.old) (records_text ((number, C.datum (C.Value.meaning value.now)) ∷ []))
+    ensures { Writes result (S.written sink.old) (records_encoding ((number, C.datum (C.Value.meaning value.now)) ∷ []))
         (S.written sink.new) }
 {
     write_parts::<C, S>(number, value, sink)

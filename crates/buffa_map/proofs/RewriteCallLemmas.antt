@@ -6,13 +6,13 @@ use Rattle.buffa_bytes.specs.declared.error.EncodeError.{EncodeError}
 use Rattle.buffa_bytes.specs.declared.error.EncodeError.TheVariants.{OutOfMemory}
 use Rattle.buffa_wire.specs.BudgetLeft.{BudgetLeft}
 use Rattle.buffa_wire.specs.Records.{Datum, bytes}
-use Rattle.buffa_wire.specs.Text.{records_text}
+use Rattle.buffa_wire.specs.Encoding.{records_encoding}
 use Rattle.buffa_map_base.specs.Codec.{Reading, Writing}
 use Rattle.buffa_map_base.specs.Merge.{ReadsRun, Rules, State, StopsRun, keeping, state}
 use Rattle.buffa_map_base.specs.Pairs.{InOrder}
 use Rattle.buffa_map_base.specs.Rewrite.{RefusesOutput, RefusesRewrite, RewritesRun, WritesWalk}
 use Rattle.buffa_map_base.specs.Run.{added, undeclared_records}
-use Rattle.buffa_map_base.specs.Text.{field_text}
+use Rattle.buffa_map_base.specs.Encoding.{field_encoding}
 use Rattle.buffa_map_base.proofs.RunLemmas.{added_records}
 
 -- a run that is read into an emptied map
@@ -33,15 +33,15 @@ module _ {K V : Type 0} (rk : Reading K) (rv : Reading V) (key : Writing K) (val
       RewritesRun (keeping rk rv eq keeps d n cost) key val KeyFits ValFits Walks left bs pairs over rest old new before after
   rewrites u w = record {
     entries = read.entries;
-    out = field_text key val n w.walk ++ records_text (undeclared_records n read.entries);
+    out = field_encoding key val n w.walk ++ records_encoding (undeclared_records n read.entries);
     run = read.run;
     folded = read.folded;
     order = read.order;
     rewrite = (w.walk, (w.once.0, λ q. read.folded q ∙ w.once.1 q), w.text.0, w.fits, refl);
     walks = w.walks;
-    ordered = λ k. ap (λ (z : List (K × V)). field_text key val n z ++ records_text (undeclared_records n read.entries)) (ordered w.walk w.walks k ∙ read.order k);
-    text = w.text.1 ∙ ap (λ z. old ++ (field_text key val n w.walk ++ records_text z)) is_kept;
-    room = subst (λ z. before ≤ after + length (field_text key val n w.walk ++ records_text z)) is_kept w.room;
+    ordered = λ k. ap (λ (z : List (K × V)). field_encoding key val n z ++ records_encoding (undeclared_records n read.entries)) (ordered w.walk w.walks k ∙ read.order k);
+    text = w.text.1 ∙ ap (λ z. old ++ (field_encoding key val n w.walk ++ records_encoding z)) is_kept;
+    room = subst (λ z. before ≤ after + length (field_encoding key val n w.walk ++ records_encoding z)) is_kept w.room;
     paid = read.paid;
     whole = read.whole;
   }
@@ -58,7 +58,7 @@ module _ {K V : Type 0} (rk : Reading K) (rv : Reading V) (key : Writing K) (val
     walked = λ k. ordered w.walk w.walks k ∙ read.order k;
     walks = w.walks;
     text = subst (λ (z : List (ℕ × Datum)). RefusesRewrite key val n z old new w.walk e) is_kept w.text;
-    room = subst (λ z. e ≡ OutOfMemory → before < length (field_text key val n w.walk ++ records_text z)) is_kept w.room;
+    room = subst (λ z. e ≡ OutOfMemory → before < length (field_encoding key val n w.walk ++ records_encoding z)) is_kept w.room;
     paid = read.paid;
     whole = read.whole;
   }

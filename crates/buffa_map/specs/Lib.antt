@@ -8,7 +8,7 @@ pub use Rattle.buffa_map_base.specs.Run
 pub use Rattle.buffa_map_base.specs.Merge
 pub use Rattle.buffa_map_base.specs.Parts
 pub use Rattle.buffa_map_base.specs.Lent
-pub use Rattle.buffa_map_base.specs.Text
+pub use Rattle.buffa_map_base.specs.Encoding
 pub use Rattle.buffa_map_base.specs.Message
 pub use Rattle.buffa_map_base.specs.MessageLaws
 pub use Rattle.buffa_map_base.specs.MessageField

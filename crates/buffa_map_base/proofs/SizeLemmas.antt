@@ -2,15 +2,15 @@
 use Rattle.std.proofs.Common.{◌≡◌, ℕ, ◌+◌, ◌*◌, ◌^◌, ◌<◌, ◌≤◌, nat_lt, Bool, true, false, List, [], ◌∷◌, ◌++◌, length, Option, None, Some, refl, sym, ap, ◌∙◌, arith, length-append, inl, inr, if◌then◌else◌, suc-mul, zero-mul}
 use Rattle.std.proofs.lemmas.Bool.{lt-ltb, le-ltb, ltb-true, ltb-false, cases_lt}
 use Rattle.std.specs.Option.{SomeIff, IfSome}
-use Rattle.buffa_wire.specs.Varint.{varint_text}
-use Rattle.buffa_wire.specs.Values.{delimited_text, tag_text}
+use Rattle.buffa_wire.specs.Varint.{varint_encoding}
+use Rattle.buffa_wire.specs.Values.{delimited_encoding, tag_encoding}
 use Rattle.buffa_wire.specs.WireType.{wire_number}
 use Rattle.buffa_bytes.specs.declared.wire_type.WireType.{WireType}
 use Rattle.buffa_bytes.specs.declared.wire_type.WireType.TheVariants.{LengthDelimited}
 use Rattle.buffa_bytes.proofs.FieldLemmas.{wire_small}
-use Rattle.buffa_bytes.proofs.ShortestLemmas.{varint_text-last}
+use Rattle.buffa_bytes.proofs.ShortestLemmas.{varint_encoding-last}
 use Rattle.buffa_map_base.specs.Codec.{Writing}
-use Rattle.buffa_map_base.specs.Text.{entry_text, record_text, field_text, field_size, as_u64, saturated}
+use Rattle.buffa_map_base.specs.Encoding.{entry_encoding, record_encoding, field_encoding, field_size, as_u64, saturated}
 
 none_in : (n : ℕ) (b : Bool) → nat_lt n (2 ^ 64) ≡ b → None ≡ (if b then Some n else None) → 2 ^ 64 ≤ n
 none_in n true h e = cc
@@ -33,26 +33,26 @@ pub as_u64-past : (n : ℕ) → 2 ^ 64 ≤ n → as_u64 n ≡ None
 as_u64-past n h = rw (le-ltb n (2 ^ 64) h) refl
 
 -- a tag of number 1 or 2 has one byte
-small_tag : (n : ℕ) (w : WireType) → n < 15 → length (tag_text n w) ≡ 1
-small_tag n w h = ap length (varint_text-last (8 * n + wire_number w) (omega (arith, wire_small w)))
+small_tag : (n : ℕ) (w : WireType) → n < 15 → length (tag_encoding n w) ≡ 1
+small_tag n w h = ap length (varint_encoding-last (8 * n + wire_number w) (omega (arith, wire_small w)))
 
 module _ {K W : Type 0} (key : Writing K) (val : Writing W) where
-  pub length-entry_text : (p : K × W) → length (entry_text key val p) ≡ 2 + (length (key.text p.0) + length (val.text p.1))
-  length-entry_text p =
+  pub length-entry_encoding : (p : K × W) → length (entry_encoding key val p) ≡ 2 + (length (key.text p.0) + length (val.text p.1))
+  length-entry_encoding p =
       omega (
         arith,
         small_tag 1 key.wire (omega arith),
         small_tag 2 val.wire (omega arith),
-        length-append (tag_text 1 key.wire ++ key.text p.0) (tag_text 2 val.wire ++ val.text p.1),
-        length-append (tag_text 1 key.wire) (key.text p.0),
-        length-append (tag_text 2 val.wire) (val.text p.1),
+        length-append (tag_encoding 1 key.wire ++ key.text p.0) (tag_encoding 2 val.wire ++ val.text p.1),
+        length-append (tag_encoding 1 key.wire) (key.text p.0),
+        length-append (tag_encoding 2 val.wire) (val.text p.1),
       )
 
   -- the size is the length of the text
-  pub length-field_text : (n : ℕ) (l : List (K × W)) → length (field_text key val n l) ≡ field_size key val (length (tag_text n LengthDelimited)) l
-  length-field_text n [] = refl
-  length-field_text n (p ∷ ps) =
-      omega (arith, length-field_text n ps, length-append (record_text key val n p) (field_text key val n ps), length-append (tag_text n LengthDelimited) (delimited_text (entry_text key val p)), length-append (varint_text (length (entry_text key val p))) (entry_text key val p))
+  pub length-field_encoding : (n : ℕ) (l : List (K × W)) → length (field_encoding key val n l) ≡ field_size key val (length (tag_encoding n LengthDelimited)) l
+  length-field_encoding n [] = refl
+  length-field_encoding n (p ∷ ps) =
+      omega (arith, length-field_encoding n ps, length-append (record_encoding key val n p) (field_encoding key val n ps), length-append (tag_encoding n LengthDelimited) (delimited_encoding (entry_encoding key val p)), length-append (varint_encoding (length (entry_encoding key val p))) (entry_encoding key val p))
 
   pub field_size-append : (t : ℕ) (ps qs : List (K × W)) → field_size key val t (ps ++ qs) ≡ field_size key val t ps + field_size key val t qs
   field_size-append t [] qs = omega arith

@@ -6,7 +6,7 @@ use Rattle.buffa_bytes.proofs.DelimitedLemmas.{delimited_sound, delimited_taken,
 use Rattle.buffa_bytes.proofs.FieldLemmas.{tag_sound}
 use Rattle.buffa_bytes.proofs.StepLemmas.{agree_err, agree_ok}
 use Rattle.buffa_bytes.proofs.TailLemmas.{tail_dropped}
-use Rattle.buffa_bytes.specs.Left.{past_no_text, past_no_varint}
+use Rattle.buffa_bytes.specs.Left.{past_no_delimited, past_no_varint}
 use Rattle.buffa_bytes.specs.Unread.{IsTailOf}
 use Rattle.buffa_bytes.specs.declared.error.DecodeError.{DecodeError}
 use Rattle.buffa_bytes.specs.declared.error.DecodeError.TheVariants.{UnexpectedEof}
@@ -40,16 +40,16 @@ unfolding taken
 cut_short n bs mid v few = rw (v, lt-ltb (length mid) n few) refl
 
 -- what follows the length that passes the end; what follows no length
-pub past_cut : (n : ℕ) (bs mid : List ℕ) → varint_at bs ≡ Ok (n, mid) → length mid < n → mid ≡ past_no_text bs
-unfolding past_no_text
-past_cut n bs mid v few = rw (past_no_text, v, lt-ltb (length mid) n few) refl
+pub past_cut : (n : ℕ) (bs mid : List ℕ) → varint_at bs ≡ Ok (n, mid) → length mid < n → mid ≡ past_no_delimited bs
+unfolding past_no_delimited
+past_cut n bs mid v few = rw (past_no_delimited, v, lt-ltb (length mid) n few) refl
 
-pub past_short : (bs unread : List ℕ) (f : DecodeError) → varint_at bs ≡ Err f → unread ≡ past_no_varint bs → unread ≡ past_no_text bs
-unfolding past_no_text
-past_short bs unread f v h = h ∙ sym (rw (past_no_text, v) refl)
+pub past_short : (bs unread : List ℕ) (f : DecodeError) → varint_at bs ≡ Err f → unread ≡ past_no_varint bs → unread ≡ past_no_delimited bs
+unfolding past_no_delimited
+past_short bs unread f v h = h ∙ sym (rw (past_no_delimited, v) refl)
 
 -- the same, where so many bytes were to be copied
-pub past_copy : (n : ℕ) (bs mid unread : List ℕ) (x : DecodeError) → varint_at bs ≡ Ok (n, mid) → delimited_at bs ≡ taken n mid → (length mid < n → unread ≡ mid) → delimited_at bs ≡ Err x → unread ≡ past_no_text bs
+pub past_copy : (n : ℕ) (bs mid unread : List ℕ) (x : DecodeError) → varint_at bs ≡ Ok (n, mid) → delimited_at bs ≡ taken n mid → (length mid < n → unread ≡ mid) → delimited_at bs ≡ Err x → unread ≡ past_no_delimited bs
 past_copy n bs mid unread x v same short bad =
     let few = (agree_err (taken n mid) x (taken_sound n mid) (sym same ∙ bad)).0 in
     short few ∙ past_cut n bs mid v few

@@ -11,14 +11,14 @@ use Rattle.std.proofs.lemmas.Map.{lookup-remove_entry}
 use Rattle.std.proofs.lemmas.Map.Entries.{lookup_head, lookup_tail}
 use Rattle.std.proofs.lemmas.Map.Keys.{IsDistinct-cons, IsDistinct-head, IsDistinct-tail}
 use Rattle.std.proofs.lemmas.Option.{none-some, same_Some}
-use Rattle.buffa_wire.specs.Values.{tag_text}
-use Rattle.buffa_wire.specs.Varint.{varint_text}
+use Rattle.buffa_wire.specs.Values.{tag_encoding}
+use Rattle.buffa_wire.specs.Varint.{varint_encoding}
 use Rattle.buffa_bytes.specs.declared.wire_type.WireType.TheVariants.{LengthDelimited}
 use Rattle.buffa_map_base.specs.Codec.{Writing}
 use Rattle.buffa_map_base.specs.Pairs.{ListsOnce}
-use Rattle.buffa_map_base.specs.Text.{entry_text, field_size, field_text, saturated}
+use Rattle.buffa_map_base.specs.Encoding.{entry_encoding, field_size, field_encoding, saturated}
 use Rattle.buffa_map_base.proofs.HashedLemmas.{beside, keys-beside, lookup-beside}
-use Rattle.buffa_map_base.proofs.SizeLemmas.{counted_size, length-field_text}
+use Rattle.buffa_map_base.proofs.SizeLemmas.{counted_size, length-field_encoding}
 
 -- ---- values under keys that differ: equal look-ups give equal values, in some order
 
@@ -86,7 +86,7 @@ module _ {K V : Type 0} {eq : K → K → Bool} (laws : IsEquivalence eq) where
 
 module _ {K V : Type 0} (key : Writing K) (val : Writing V) where
   abbrev pair_size : ℕ → K × V → ℕ
-  pair_size t p = t + (length (varint_text (length (entry_text key val p))) + length (entry_text key val p))
+  pair_size t p = t + (length (varint_encoding (length (entry_encoding key val p))) + length (entry_encoding key val p))
 
   size_is_sum : (t : ℕ) (l : List (K × V)) → field_size key val t l ≡ sum_by (pair_size t) l
   size_is_sum t [] = refl
@@ -103,10 +103,10 @@ module _ {K V : Type 0} (key : Writing K) (val : Writing V) where
         is ∙ ap (λ z. saturated (z * r)) (count ∙ sym (one_count laws m l d h)) ∙ ap saturated (sym (counted_size key val t r l one))
 
     -- a size that one walk announced, and the text of another one
-    pub announced : (t n size : ℕ) (m a b : List (K × V)) (old new : List ℕ) → ListsOnce eq m a → ListsOnce eq m b → t ≡ length (tag_text n LengthDelimited) →
-        size ≡ saturated (field_size key val t a) → new ≡ old ++ field_text key val n b → length new < 2 ^ 64 → length new ≡ length old + size
+    pub announced : (t n size : ℕ) (m a b : List (K × V)) (old new : List ℕ) → ListsOnce eq m a → ListsOnce eq m b → t ≡ length (tag_encoding n LengthDelimited) →
+        size ≡ saturated (field_size key val t a) → new ≡ old ++ field_encoding key val n b → length new < 2 ^ 64 → length new ≡ length old + size
     announced t n size m a b old new x y tag is text few =
-        let same : field_size key val t a ≡ length (field_text key val n b) =
-        one_size t m a b x y ∙ ap (λ z. field_size key val z b) tag ∙ sym (length-field_text key val n b) in
-        let whole : length new ≡ length old + length (field_text key val n b) = ap length text ∙ length-append old (field_text key val n b) in
+        let same : field_size key val t a ≡ length (field_encoding key val n b) =
+        one_size t m a b x y ∙ ap (λ z. field_size key val z b) tag ∙ sym (length-field_encoding key val n b) in
+        let whole : length new ≡ length old + length (field_encoding key val n b) = ap length text ∙ length-append old (field_encoding key val n b) in
         omega (arith, same, whole, is, few)

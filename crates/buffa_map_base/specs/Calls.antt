@@ -16,7 +16,7 @@ use Rattle.buffa_map_base.specs.MessageField.{KeepsRoom, UsesRecordRoom}
 use Rattle.buffa_map_base.specs.Pairs.{ListsOnce}
 use Rattle.buffa_map_base.specs.Parts.{ReadsCut, ReadsParts}
 use Rattle.buffa_map_base.specs.Rewrite.{RewritesRun, WritesWalk}
-use Rattle.buffa_map_base.specs.Text.{AllHold, UsesRoomOf, WritesField, field_text}
+use Rattle.buffa_map_base.specs.Encoding.{AllHold, UsesRoomOf, WritesField, field_encoding}
 use Rattle.buffa_map_base.specs.declared.map_entry.MapEntry.{MapEntry}
 use denote.Ref.{Bor, MutBor}
 
@@ -120,7 +120,7 @@ module _ {K V M : Type 0} (eq : K → K → Bool) (Walks : M → List (K × V) �
   abbrev pub WritesMapField : {S T : Type 0} → (S → List ℕ) → (S → ℕ) → S → S → Result T EncodeError → Type 0
   WritesMapField written room old new r =
       (l : List (K × V)) × Walks map l × ListsOnce eq (pairs map) l × WritesField key val n (written old) (written new) r l
-      × OnOk r (AllHold KeyFits ValFits l) × UsesRoomOf r (room old) (field_text key val n l) (room new)
+      × OnOk r (AllHold KeyFits ValFits l) × UsesRoomOf r (room old) (field_encoding key val n l) (room new)
 
   -- the same with the records of a list behind it
   abbrev pub WritesWithKept : {S T : Type 0} → List (ℕ × Datum) → (S → List ℕ) → (S → ℕ) → S → S → Result T EncodeError → Type 0

@@ -2,7 +2,7 @@
 use Rattle.std.specs.Prelude.{◌≡◌, ◌≢◌, ℕ, ◌+◌, ◌≤◌, Bool, List, [], ◌∷◌, ◌++◌, ◌⊎◌, cond, true, Option, None, Some, Ok, Err, IsOk}
 use Rattle.buffa_bytes.specs.declared.error.DecodeError.{DecodeError}
 use Rattle.buffa_bytes.specs.declared.error.DecodeError.TheVariants.{OutOfMemory}
-use Rattle.buffa_bytes.specs.Left.{past_no_tag, past_no_text}
+use Rattle.buffa_bytes.specs.Left.{past_no_tag, past_no_delimited}
 use Rattle.buffa_bytes.specs.Unread.{IsTailOf}
 use Rattle.buffa_bytes.specs.declared.wire_type.WireType.{WireType}
 use Rattle.buffa_wire.specs.Field.{TakesDelimited}
@@ -67,8 +67,8 @@ pub record MergesEntry {K V : Type 0} (r : Rules K V) (old : State K V) (bytes :
   pub pays : Pays old.left (plus (need_of r.key r.val r.depth r.cost entry) (slots (cond says.known 0 r.slot))) new.left
 
 -- what keeping an entry takes is left: a slot, behind what its fields cost
-abbrev pub HasSlot : {K V : Type 0} → Rules K V → BudgetLeft → List ℕ → Type 0
-HasSlot r left e = (r.slot ≢ 0) × ((need_of r.key r.val r.depth r.cost e).unknown + r.slot ≤ left.unknown)
+abbrev pub HasUnknownLeft : {K V : Type 0} → Rules K V → BudgetLeft → List ℕ → Type 0
+HasUnknownLeft r left e = (r.slot ≢ 0) × ((need_of r.key r.val r.depth r.cost e).unknown + r.slot ≤ left.unknown)
 
 -- Where merging an entry takes memory, of which f is told: its length and so many bytes are there; these are copied,
 -- if an entry may be undeclared and is kept then; or its units are left, and a field takes memory, or the whole entry is
@@ -78,7 +78,7 @@ EntryTakesMemory {K} {V} r left bs f =
     (e : List ℕ) × (rest : List ℕ) × (delimited_at bs ≡ Ok (e, rest))
     × (((r.slot ≢ 0) × (r.val.undeclared ≡ true) × (e ≢ []))
     ⊎ ((r.cost ≤ left.memory) × (FieldsTakeMemory r.key r.val r.depth e f
-    ⊎ ((s : MapEntry K V) × IsEntry r.key r.val r.depth e s × ((s.known ≡ true) ⊎ HasSlot r left e)))))
+    ⊎ ((s : MapEntry K V) × IsEntry r.key r.val r.depth e s × ((s.known ≡ true) ⊎ HasUnknownLeft r left e)))))
 
 -- f is why not, and out of memory only where merging the entry takes memory; map and records stand. What is
 -- unread is a tail of what was; it is what follows the entry, where that was there and had a fault, and what follows its
@@ -91,7 +91,7 @@ pub record RefusesEntry {K V : Type 0} (r : Rules K V) (old : State K V) (bytes 
   pub tail : IsTailOf unread bytes
   pub past : f ≢ OutOfMemory → (e rest : List ℕ) → TakesDelimited bytes e rest → unread ≡ rest
   pub within : (e rest : List ℕ) → TakesDelimited bytes e rest → IsTailOf rest unread
-  pub past_no_text : (x : DecodeError) → delimited_at bytes ≡ Err x → unread ≡ past_no_text bytes
+  pub past_no_delimited : (x : DecodeError) → delimited_at bytes ≡ Err x → unread ≡ past_no_delimited bytes
   pub pairs : new.pairs ≡ old.pairs
   pub records : new.records ≡ old.records
   pub units : (new.left.memory ≡ old.left.memory)
@@ -101,7 +101,7 @@ pub record RefusesEntry {K V : Type 0} (r : Rules K V) (old : State K V) (bytes 
   pub unspent : (IsOk (delimited_at bytes) → ⊥) → new.left ≡ old.left
   pub most : new.left.unknown ≤ old.left.unknown
   pub least : old.left.unknown ≤ new.left.unknown + (r.slot + (inner_need r.key r.val r.depth bytes).unknown)
-  pub no_slot : f ≢ OutOfMemory → old.left.unknown ≤ new.left.unknown + (inner_need r.key r.val r.depth bytes).unknown
+  pub no_unknown : f ≢ OutOfMemory → old.left.unknown ≤ new.left.unknown + (inner_need r.key r.val r.depth bytes).unknown
 
 -- the entry was merged, or refused, whatever bytes it begins behind its length
 abbrev pub MergesWhole : {K V : Type 0} → Rules K V → State K V → List ℕ → State K V → Type 0
@@ -143,7 +143,7 @@ pub record StopsRun {K V : Type 0} (r : Rules K V) (old : State K V) (bytes : Li
       ⊎ ((new.left.memory + r.cost ≤ over.memory)
       × (over.memory ≤ new.left.memory + (r.cost + (record_need r.key r.val r.depth rest).memory)))
   pub most : new.left.unknown ≤ over.unknown
-  pub one_slot : over.unknown ≤ new.left.unknown + (r.slot + (record_need r.key r.val r.depth rest).unknown)
+  pub one_unknown : over.unknown ≤ new.left.unknown + (r.slot + (record_need r.key r.val r.depth rest).unknown)
   pub fault : f ≢ OutOfMemory → RecordFault r.key r.val r.depth r.number r.cost r.slot over rest f
   pub memory : f ≡ OutOfMemory → (mid : List ℕ) × (tag_at rest ≡ Ok (r.number, LengthDelimited, mid)) × EntryTakesMemory r over mid f
   pub unspent : (HasRecord r.number rest → ⊥) → new.left ≡ over
@@ -152,6 +152,6 @@ pub record StopsRun {K V : Type 0} (r : Rules K V) (old : State K V) (bytes : Li
   pub past_tag : (g : ℕ) (w : WireType) (mid : List ℕ) → tag_at rest ≡ Ok (g, w, mid) → (g ≢ r.number) ⊎ (w ≢ LengthDelimited) → unread ≡ mid
   pub past : f ≢ OutOfMemory → (mid e after : List ℕ) → tag_at rest ≡ Ok (r.number, LengthDelimited, mid) → TakesDelimited mid e after → unread ≡ after
   pub within : (mid e after : List ℕ) → tag_at rest ≡ Ok (r.number, LengthDelimited, mid) → TakesDelimited mid e after → IsTailOf after unread
-  pub past_no_text : (mid : List ℕ) (x : DecodeError) → tag_at rest ≡ Ok (r.number, LengthDelimited, mid) → delimited_at mid ≡ Err x → unread ≡ past_no_text mid
+  pub past_no_delimited : (mid : List ℕ) (x : DecodeError) → tag_at rest ≡ Ok (r.number, LengthDelimited, mid) → delimited_at mid ≡ Err x → unread ≡ past_no_delimited mid
   pub past_no_tag : (x : DecodeError) → tag_at rest ≡ Err x → unread ≡ past_no_tag rest
-  pub no_slot : f ≢ OutOfMemory → over.unknown ≤ new.left.unknown + (record_need r.key r.val r.depth rest).unknown
+  pub no_unknown : f ≢ OutOfMemory → over.unknown ≤ new.left.unknown + (record_need r.key r.val r.depth rest).unknown

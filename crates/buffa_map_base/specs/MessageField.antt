@@ -7,24 +7,24 @@ use Rattle.buffa_bytes.specs.declared.error.EncodeError.TheVariants.{OutOfMemory
 use Rattle.buffa_wire.specs.Cache.{Cache, appended}
 use Rattle.buffa_wire.specs.Passes.{IsLonger, IsSmall, WritesIf, cap}
 use Rattle.buffa_wire.specs.Written.{UsesRoom}
-use Rattle.buffa_wire.specs.Values.{tag_text}
-use Rattle.buffa_wire.specs.Varint.{varint_text}
+use Rattle.buffa_wire.specs.Values.{tag_encoding}
+use Rattle.buffa_wire.specs.Varint.{varint_encoding}
 use Rattle.buffa_map_base.specs.Codec.{Writing}
 use Rattle.buffa_map_base.specs.Scalars.{delimited_writing}
-use Rattle.buffa_map_base.specs.Text.{entry_text, field_size, field_text, record_text, saturated}
+use Rattle.buffa_map_base.specs.Encoding.{entry_encoding, field_size, field_encoding, record_encoding, saturated}
 use denote.Ref.{Bor, MutBor}
 
 -- a message whose length is known: the entry's length, and what stands before the message's text in its record of number n
 module _ {K : Type 0} (key : Writing K) where
   abbrev pub entry_size : K → ℕ → ℕ
-  entry_size k inner = 2 + (length (key.text k) + (length (varint_text inner) + inner))
+  entry_size k inner = 2 + (length (key.text k) + (length (varint_encoding inner) + inner))
 
   -- the key field, and the tag and the length of the value
   abbrev pub key_and_length : K → ℕ → List ℕ
-  key_and_length k inner = (tag_text 1 key.wire ++ key.text k) ++ (tag_text 2 LengthDelimited ++ varint_text inner)
+  key_and_length k inner = (tag_encoding 1 key.wire ++ key.text k) ++ (tag_encoding 2 LengthDelimited ++ varint_encoding inner)
 
-  abbrev pub head_text : ℕ → K → ℕ → List ℕ
-  head_text n k inner = (tag_text n LengthDelimited ++ varint_text (saturated (entry_size k inner))) ++ key_and_length k inner
+  abbrev pub head_encoding : ℕ → K → ℕ → List ℕ
+  head_encoding n k inner = (tag_encoding n LengthDelimited ++ varint_encoding (saturated (entry_size k inner))) ++ key_and_length k inner
 
 -- for each pair in order the capped length of the message's text, and then its own slots
 abbrev pub field_slots : {K M : Type 0} → (M → List ℕ) → (M → List ℕ) → List (K × M) → List ℕ
@@ -34,7 +34,7 @@ field_slots text slots (p ∷ ps) = cap (length (text p.1)) ∷ slots p.1 ++ fie
 module _ {K M : Type 0} (key : Writing K) (text : M → List ℕ) where
   -- the message isn't too large to be written, nor the entry too long for its length to be a varint
   abbrev pub IsSmallPair : K × M → Type 0
-  IsSmallPair p = IsSmall (text p.1) × (length (entry_text key (delimited_writing text) p) < 2 ^ 64)
+  IsSmallPair p = IsSmall (text p.1) × (length (entry_encoding key (delimited_writing text) p) < 2 ^ 64)
 
   -- no message is too large to be written, and no entry too long for its length to be a varint
   abbrev pub IsSmallField : List (K × M) → Type 0
@@ -52,19 +52,19 @@ module _ {K M : Type 0} (key : Writing K) (text : M → List ℕ) where
 
   -- the text, written where messages are small; the slots are consumed
   abbrev pub IsFieldWritten : (M → List ℕ) → ℕ → List (K × M) → Cache → List ℕ → Result (Unit {0}) EncodeError → Cache → List ℕ → Type 0
-  IsFieldWritten slots n l old before r new after = WritesIf (IsSmallField l) (field_text key (delimited_writing text) n l) (field_slots text slots l) old before r new after
+  IsFieldWritten slots n l old before r new after = WritesIf (IsSmallField l) (field_encoding key (delimited_writing text) n l) (field_slots text slots l) old before r new after
 
   -- where messages are small, a field that fits is written, and takes no more room than it has bytes
   abbrev pub UsesFieldRoom : ℕ → List (K × M) → Result (Unit {0}) EncodeError → ℕ → ℕ → Type 0
-  UsesFieldRoom n l r room left = IsSmallField l → UsesRoom r room (field_text key (delimited_writing text) n l) left
+  UsesFieldRoom n l r room left = IsSmallField l → UsesRoom r room (field_encoding key (delimited_writing text) n l) left
 
   -- the same of the record of one pair
   abbrev pub UsesRecordRoom : ℕ → K × M → Result (Unit {0}) EncodeError → ℕ → ℕ → Type 0
-  UsesRecordRoom n p r room left = IsSmallPair p → UsesRoom r room (record_text key (delimited_writing text) n p) left
+  UsesRecordRoom n p r room left = IsSmallPair p → UsesRoom r room (record_encoding key (delimited_writing text) n p) left
 
   -- the record of one pair
   abbrev pub IsRecordWritten : (M → List ℕ) → ℕ → K × M → Cache → List ℕ → Result (Unit {0}) EncodeError → Cache → List ℕ → Type 0
-  IsRecordWritten slots n p old before r new after = WritesIf (IsSmallPair p) (record_text key (delimited_writing text) n p) (cap (length (text p.1)) ∷ slots p.1) old before r new after
+  IsRecordWritten slots n p old before r new after = WritesIf (IsSmallPair p) (record_encoding key (delimited_writing text) n p) (cap (length (text p.1)) ∷ slots p.1) old before r new after
 
 -- a function that writes messages writes those that fit, and takes no more room than they have bytes
 abbrev pub KeepsRoom : {A C S : Type 0} → (Bor A → MutBor C → MutBor S → Result (Unit {0}) EncodeError → MutBor C → MutBor S → Type 0) → (A → List ℕ) → (S → ℕ) → Type 0

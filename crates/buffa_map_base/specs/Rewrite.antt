@@ -3,7 +3,7 @@
 use Rattle.std.specs.Prelude.{◌≡◌, ◌≢◌, ◌+◌, ◌<◌, ◌≤◌, length, ℕ, Bool, true, ◌&&◌, not, List, [], ◌∷◌, ◌++◌, ◌⊎◌, Option, None, Some, IfSome, OnOk, Result, MatchResult}
 use Rattle.std.specs.List.{filter}
 use Rattle.buffa_wire.specs.BudgetLeft.{BudgetLeft}
-use Rattle.buffa_wire.specs.Text.{records_text}
+use Rattle.buffa_wire.specs.Encoding.{records_encoding}
 use Rattle.buffa_wire.specs.Records.{Datum}
 use Rattle.buffa_wire.specs.Written.{WritesFront}
 use Rattle.buffa_bytes.specs.declared.error.DecodeError.{DecodeError}
@@ -13,13 +13,13 @@ use Rattle.buffa_map_base.specs.Codec.{Writing}
 use Rattle.buffa_map_base.specs.Pairs.{InOrder, ListsOnce, SamePairs}
 use Rattle.buffa_map_base.specs.Merge.{Rules, StopsRun, state}
 use Rattle.buffa_map_base.specs.Run.{EntryRecord, fold_entries, undeclared, Paid, Run, undeclared_records}
-use Rattle.buffa_map_base.specs.Text.{AllHold, HasText, RefusesField, UsesRoomOf, field_text}
+use Rattle.buffa_map_base.specs.Encoding.{AllHold, HasEncoding, RefusesField, UsesRoomOf, field_encoding}
 
 -- out is a text of the map that the entries es make of the empty one, its pairs in any order, and behind it a
 -- record for each entry of es that is undeclared, in order
 abbrev pub IsRewrite : {K V : Type 0} → (K → K → Bool) → Writing K → Writing V → (K → Type 0) → (V → Type 0) → ℕ → List (EntryRecord K V) → List ℕ → Type 0
 IsRewrite {K} {V} eq key val KeyFits ValFits n es out =
-    (l : List (K × V)) × ListsOnce eq (fold_entries eq [] es) l × HasText key val l × AllHold KeyFits ValFits l × (out ≡ field_text key val n l ++ records_text (undeclared_records n es))
+    (l : List (K × V)) × ListsOnce eq (fold_entries eq [] es) l × HasEncoding key val l × AllHold KeyFits ValFits l × (out ≡ field_encoding key val n l ++ records_encoding (undeclared_records n es))
 
 -- an entry to two readers of one run: its key, and whether its value is one that the first, and that the second reader's enum declares
 pub record Seen (K : Type 0) : Type 0 where
@@ -74,13 +74,13 @@ module _ {K V : Type 0} (key : Writing K) (val : Writing V) (n : ℕ) (kept : Li
   abbrev pub RefusesRewrite : List (K × V) → EncodeError → Type 0
   RefusesRewrite l OutOfMemory =
       RefusesField key val n old new l OutOfMemory
-      ⊎ (HasText key val l × WritesFront (old ++ field_text key val n l) (records_text kept) new)
+      ⊎ (HasEncoding key val l × WritesFront (old ++ field_encoding key val n l) (records_encoding kept) new)
   RefusesRewrite l MessageTooLarge = RefusesField key val n old new l MessageTooLarge
   RefusesRewrite l (GroupRefused e) = ⊥
 
   -- the text of l and of the kept records was written, or refused
   abbrev pub WritesRewrite : {T : Type 0} → Result T EncodeError → List (K × V) → Type 0
-  WritesRewrite r l = MatchResult r (λ _. HasText key val l × (new ≡ old ++ (field_text key val n l ++ records_text kept))) (RefusesRewrite l)
+  WritesRewrite r l = MatchResult r (λ _. HasEncoding key val l × (new ≡ old ++ (field_encoding key val n l ++ records_encoding kept))) (RefusesRewrite l)
 
 -- a map was walked once, and its text and the kept records' were written, or refused; what had room wasn't
 pub record WritesWalk {K V : Type 0} (eq : K → K → Bool) (Walks : List (K × V) → Type 0) (key : Writing K) (val : Writing V) (KeyFits : K → Type 0) (ValFits : V → Type 0) (n : ℕ) (pairs : List (K × V)) (kept : List (ℕ × Datum)) (old : List ℕ) (before : ℕ) {T : Type 0} (r : Result T EncodeError) (new : List ℕ) (after : ℕ) : Type 0 where
@@ -88,7 +88,7 @@ pub record WritesWalk {K V : Type 0} (eq : K → K → Bool) (Walks : List (K ×
   pub once : ListsOnce eq pairs walk
   pub text : WritesRewrite key val n kept old new r walk
   pub fits : OnOk r (AllHold KeyFits ValFits walk)
-  pub room : UsesRoomOf r before (field_text key val n walk ++ records_text kept) after
+  pub room : UsesRoomOf r before (field_encoding key val n walk ++ records_encoding kept) after
   pub walks : Walks walk
 
 -- ---- what a rewrite does
@@ -103,7 +103,7 @@ pub record RewritesRun {K V : Type 0} (r : Rules K V) (key : Writing K) (val : W
   pub rewrite : IsRewrite r.same key val KeyFits ValFits r.number entries out
   pub walks : Walks rewrite.0
   pub text : written ≡ old ++ out
-  pub ordered : r.keeps_order ≡ true → out ≡ field_text key val r.number (fold_entries r.same [] entries) ++ records_text (undeclared_records r.number entries)
+  pub ordered : r.keeps_order ≡ true → out ≡ field_encoding key val r.number (fold_entries r.same [] entries) ++ records_encoding (undeclared_records r.number entries)
   pub room : before ≤ after + length out
   pub paid : Paid r.key r.val r.depth r.cost r.slot left entries over
   pub whole : rest ≡ []
@@ -124,6 +124,6 @@ pub record RefusesOutput {K V : Type 0} (r : Rules K V) (key : Writing K) (val :
   pub walked : InOrder r.keeps_order (fold_entries r.same [] entries) walk
   pub walks : Walks walk
   pub text : RefusesRewrite key val r.number (undeclared_records r.number entries) old written walk e
-  pub room : e ≡ OutOfMemory → before < length (field_text key val r.number walk ++ records_text (undeclared_records r.number entries))
+  pub room : e ≡ OutOfMemory → before < length (field_encoding key val r.number walk ++ records_encoding (undeclared_records r.number entries))
   pub paid : Paid r.key r.val r.depth r.cost r.slot left entries over
   pub whole : rest ≡ []

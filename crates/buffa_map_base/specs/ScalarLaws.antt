@@ -5,14 +5,14 @@ use Rattle.buffa_wire.specs.Gives.{◌>>=◌}
 use Rattle.buffa_wire.specs.Content.{Content, HasContent, bytes_in}
 use Rattle.buffa_wire.specs.Content.Content.{bytes}
 use Rattle.buffa_wire.specs.Message.{IsLimit}
-use Rattle.buffa_wire.specs.Values.{delimited_text}
-use Rattle.buffa_wire.specs.Varint.{varint_text}
+use Rattle.buffa_wire.specs.Values.{delimited_encoding}
+use Rattle.buffa_wire.specs.Varint.{varint_encoding}
 use Rattle.buffa_bytes.specs.Texts.{text_as}
 use Rattle.buffa_bytes.specs.declared.wire_type.WireType.{WireType}
 use Rattle.buffa_bytes.specs.declared.wire_type.WireType.TheVariants.{LengthDelimited}
 use Rattle.buffa_bytes.specs.declared.error.DecodeError.{DecodeError}
 use Rattle.buffa_bytes.specs.declared.error.DecodeError.TheVariants.{InvalidUtf8}
-use Rattle.buffa_bytes.proofs.VarintLemmas.{IsVarint-varint_text}
+use Rattle.buffa_bytes.proofs.VarintLemmas.{IsVarint-varint_encoding}
 use Rattle.buffa_map_base.specs.Scalars.{IsLengthy, IsText}
 pub use Rattle.buffa_wire.specs.ScalarFacts.{no_fixed_length}
 
@@ -56,8 +56,8 @@ abbrev pub ReadsAs : {V : Type 0} → WireType → (Content → Result (V × Boo
 ReadsAs w reads p v = (c : Content) × HasContent w p c × (reads c ≡ Ok (v, true))
 
 module _ {A : Type 0} (of : List ℕ → A) (content : A → List ℕ) (v : A) where
-  pub bytes_read_back : IsLengthy (content v) → of (content v) ≡ v → ReadsAs LengthDelimited (λ c. read (of (bytes_in c), true)) (delimited_text (content v)) v
-  bytes_read_back h e = (bytes (content v), (varint_text (length (content v)), IsVarint-varint_text (length (content v)) h, refl), ap (λ z. Ok (z, true)) e)
+  pub bytes_read_back : IsLengthy (content v) → of (content v) ≡ v → ReadsAs LengthDelimited (λ c. read (of (bytes_in c), true)) (delimited_encoding (content v)) v
+  bytes_read_back h e = (bytes (content v), (varint_encoding (length (content v)), IsVarint-varint_encoding (length (content v)) h, refl), ap (λ z. Ok (z, true)) e)
 
-  pub string_reads_back : IsText (content v) → of (content v) ≡ v → ReadsAs LengthDelimited (λ c. text_as of (bytes_in c) >>= (λ x. read (x, true))) (delimited_text (content v)) v
-  string_reads_back h e = (bytes (content v), (varint_text (length (content v)), IsVarint-varint_text (length (content v)) h.1, refl), rw (h.0, e) refl)
+  pub string_reads_back : IsText (content v) → of (content v) ≡ v → ReadsAs LengthDelimited (λ c. text_as of (bytes_in c) >>= (λ x. read (x, true))) (delimited_encoding (content v)) v
+  string_reads_back h e = (bytes (content v), (varint_encoding (length (content v)), IsVarint-varint_encoding (length (content v)) h.1, refl), rw (h.0, e) refl)

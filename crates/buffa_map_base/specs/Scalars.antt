@@ -7,8 +7,8 @@ use Rattle.std.specs.Str.{is_utf8}
 use Rattle.buffa_wire.specs.Gives.{◌>>=◌}
 use Rattle.buffa_wire.specs.Content.{number_in, bytes_in}
 use Rattle.buffa_wire.specs.BudgetLeft.{nothing}
-use Rattle.buffa_wire.specs.Values.{delimited_text}
-use Rattle.buffa_wire.specs.Varint.{varint_text}
+use Rattle.buffa_wire.specs.Values.{delimited_encoding}
+use Rattle.buffa_wire.specs.Varint.{varint_encoding}
 use Rattle.buffa_bytes.specs.Texts.{text_as}
 use Rattle.buffa_bytes.specs.declared.wire_type.WireType.{WireType}
 use Rattle.buffa_bytes.specs.declared.wire_type.WireType.TheVariants.{Varint, Fixed64, LengthDelimited, Fixed32}
@@ -34,7 +34,7 @@ abbrev pub number_writing : {V : Type 0} → WireType → (ℕ → List ℕ) →
 number_writing w payload num = record { wire = w; text = λ v. payload (num v) }
 
 abbrev pub varint_writing : {V : Type 0} → (V → ℕ) → Writing V
-varint_writing num = record { wire = Varint; text = λ v. varint_text (num v) }
+varint_writing num = record { wire = Varint; text = λ v. varint_encoding (num v) }
 
 -- four bytes, the lowest first
 abbrev pub four_writing : {V : Type 0} → (V → ℕ) → Writing V
@@ -46,7 +46,7 @@ eight_writing num = record { wire = Fixed64; text = λ v. to_le_bytes w64 (num v
 
 -- a length and the bytes
 abbrev pub delimited_writing : {V : Type 0} → (V → List ℕ) → Writing V
-delimited_writing bytes = record { wire = LengthDelimited; text = λ v. delimited_text (bytes v) }
+delimited_writing bytes = record { wire = LengthDelimited; text = λ v. delimited_encoding (bytes v) }
 
 -- ---- what a type holds
 

@@ -5,7 +5,7 @@ ghost use Rattle.std.specs.Prelude.{IsOk, OnErr};
 ghost use Rattle.buffa_bytes.specs.declared.error.DecodeError.TheVariants.{OutOfMemory};
 ghost use Rattle.buffa_bytes.specs.declared.wire_type.WireType.{WireType};
 ghost use Rattle.buffa_bytes.specs.Gives.{FullOnlyIf};
-ghost use Rattle.buffa_bytes.specs.Left.{LeavesUnlessFull, past_no_payload, past_no_text};
+ghost use Rattle.buffa_bytes.specs.Left.{LeavesUnlessFull, past_no_payload, past_no_delimited};
 ghost use Rattle.buffa_bytes.specs.Unread.{IsTailOf};
 ghost use Rattle.buffa_wire.specs.Content.{Content, HasContent};
 ghost use Rattle.buffa_wire.specs.BudgetLeft.{budget_left, nothing};
@@ -97,7 +97,7 @@ pub trait MapValueDecode: sealed::Sealed {
             ≡ B.unread buf.old) }
         ensures empty { HoldsNothing reading ctx.entry.depth (B.unread buf.old) → IsOk result }
         ensures left { reading.takes_memory ≡ true → level reading.nested ctx.entry.depth ≡ Ok tt →
-            LeavesUnlessFull result (past_no_text (B.unread buf.old)) (B.unread buf.new) }
+            LeavesUnlessFull result (past_no_delimited (B.unread buf.old)) (B.unread buf.new) }
         ensures past { reading.nested ≡ false → reading.takes_memory ≡ false →
             OnErr result (B.unread buf.new ≡ past_no_payload reading.wire (B.unread buf.old)) }
         ensures kept { B.beyond buf.new ≡ B.beyond buf.old }

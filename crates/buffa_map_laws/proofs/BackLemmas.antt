@@ -6,13 +6,13 @@ use Rattle.std.specs.Map.{keys_of}
 use Rattle.buffa_wire.specs.Content.{Content, HasContent}
 use Rattle.buffa_wire.specs.Field.{IsTag}
 use Rattle.buffa_wire.specs.Number.{IsNumber}
-use Rattle.buffa_wire.specs.Values.{tag_text}
-use Rattle.buffa_wire.specs.Varint.{varint_text}
+use Rattle.buffa_wire.specs.Values.{tag_encoding}
+use Rattle.buffa_wire.specs.Varint.{varint_encoding}
 use Rattle.buffa_wire.specs.WireType.{wire_number}
 use Rattle.buffa_bytes.specs.declared.wire_type.WireType.{WireType}
 use Rattle.buffa_bytes.specs.declared.wire_type.WireType.TheVariants.{LengthDelimited}
 use Rattle.buffa_bytes.proofs.FieldLemmas.{wire_small}
-use Rattle.buffa_bytes.proofs.VarintLemmas.{IsVarint-varint_text}
+use Rattle.buffa_bytes.proofs.VarintLemmas.{IsVarint-varint_encoding}
 use Rattle.buffa_map_base.specs.Codec.{Reading, Writing, level}
 use Rattle.buffa_wire.specs.BudgetLeft.{BudgetLeft}
 use Rattle.buffa_wire.specs.Content.Content.{bytes}
@@ -23,15 +23,15 @@ use Rattle.buffa_map_base.specs.Scalars.{delimited_writing}
 use Rattle.buffa_map_base.specs.Entry.{IsCodecField, IsEntry, IsField, blanks}
 use Rattle.buffa_map_base.specs.Pairs.{put}
 use Rattle.buffa_map_base.specs.Run.{fold_entries, IsRecord, undeclared, Run, EntryRecord, pair_entry}
-use Rattle.buffa_map_base.specs.Text.{AllHold, HasText, entry_text, field_text, record_text}
+use Rattle.buffa_map_base.specs.Encoding.{AllHold, HasEncoding, entry_encoding, field_encoding, record_encoding}
 use Rattle.buffa_map_base.specs.declared.map_entry.MapEntry.{MapEntry}
 
-pub is_tag : (n : ℕ) (w : WireType) → IsNumber n → IsTag (tag_text n w) n w
-is_tag n w h = (h, IsVarint-varint_text (8 * n + wire_number w) (omega (arith, wire_small w)))
+pub is_tag : (n : ℕ) (w : WireType) → IsNumber n → IsTag (tag_encoding n w) n w
+is_tag n w h = (h, IsVarint-varint_encoding (8 * n + wire_number w) (omega (arith, wire_small w)))
 
 -- the record of a pair
 abbrev pub as_record : {K W : Type 0} → Writing K → Writing W → K × W → EntryRecord K W
-as_record kw vw p = record { bytes = entry_text kw vw p; parts = pair_entry p }
+as_record kw vw p = record { bytes = entry_encoding kw vw p; parts = pair_entry p }
 
 -- a payload of v is read as v, where the default stood
 abbrev pub IsReadBack : {X : Type 0} → Reading X → Writing X → ℕ → X → Type 0
@@ -42,25 +42,25 @@ plain_back r w d v plain h = (rw plain refl, h.0, h.1, h.2)
 
 module _ {K W : Type 0} (key : Reading K) (val : Reading W) (kw : Writing K) (vw : Writing W) (same_key : kw.wire ≡ key.wire) (same_val : vw.wire ≡ val.wire) (d : ℕ)
     (KeyOk : K → Type 0) (ValOk : W → Type 0) (key_back : (v : K) → KeyOk v → IsReadBack key kw d v) (val_back : (v : W) → ValOk v → IsReadBack val vw d v) where
-  part : {X : Type 0} (r : Reading X) (w : Writing X) (n : ℕ) (v : X) → IsNumber n → w.wire ≡ r.wire → IsReadBack r w d v → IsCodecField r d n r.blank (tag_text n w.wire ++ w.text v) v true
-  part r w n v num same (left, c, h, k) = (tag_text n w.wire, w.text v, c, subst (λ z. IsTag (tag_text n w.wire) n z) same (is_tag n w.wire num), left, subst (λ z. HasContent z (w.text v) c) same h, k, refl)
+  part : {X : Type 0} (r : Reading X) (w : Writing X) (n : ℕ) (v : X) → IsNumber n → w.wire ≡ r.wire → IsReadBack r w d v → IsCodecField r d n r.blank (tag_encoding n w.wire ++ w.text v) v true
+  part r w n v num same (left, c, h, k) = (tag_encoding n w.wire, w.text v, c, subst (λ z. IsTag (tag_encoding n w.wire) n z) same (is_tag n w.wire num), left, subst (λ z. HasContent z (w.text v) c) same h, k, refl)
 
-  pub entry_back : (p : K × W) → KeyOk p.0 → ValOk p.1 → IsEntry key val d (entry_text kw vw p) (pair_entry p)
+  pub entry_back : (p : K × W) → KeyOk p.0 → ValOk p.1 → IsEntry key val d (entry_encoding kw vw p) (pair_entry p)
   entry_back p a b =
-      let f = tag_text 1 kw.wire ++ kw.text p.0 in
-      let g = tag_text 2 vw.wire ++ vw.text p.1 in
+      let f = tag_encoding 1 kw.wire ++ kw.text p.0 in
+      let g = tag_encoding 2 vw.wire ++ vw.text p.1 in
       let s = blanks key val d in
       let t : MapEntry K W = record { key = p.0; value = val.blank; known = true } in
       let one : IsField key val d s f t = inl (p.0, true, part key kw 1 p.0 (omega arith, omega arith) same_key (key_back p.0 a), refl) in
       let two : IsField key val d t g (pair_entry p) = inr (inl (p.1, true, part val vw 2 p.1 (omega arith, omega arith) same_val (val_back p.1 b), refl)) in
       (f ∷ g ∷ [], sym (append-nil (f ++ (g ++ [])) ∙ ap (λ z. f ++ z) (append-nil g)), (t, one, (pair_entry p, two, refl)))
 
-  pub record_back : (n : ℕ) (p : K × W) → IsNumber n → length (entry_text kw vw p) < 2 ^ 64 → KeyOk p.0 → ValOk p.1 → IsRecord key val d n (record_text kw vw n p) (as_record kw vw p)
-  record_back n p num fits a b = (tag_text n LengthDelimited, varint_text (length (entry_text kw vw p)), is_tag n LengthDelimited num, IsVarint-varint_text (length (entry_text kw vw p)) fits, refl, entry_back p a b)
+  pub record_back : (n : ℕ) (p : K × W) → IsNumber n → length (entry_encoding kw vw p) < 2 ^ 64 → KeyOk p.0 → ValOk p.1 → IsRecord key val d n (record_encoding kw vw n p) (as_record kw vw p)
+  record_back n p num fits a b = (tag_encoding n LengthDelimited, varint_encoding (length (entry_encoding kw vw p)), is_tag n LengthDelimited num, IsVarint-varint_encoding (length (entry_encoding kw vw p)) fits, refl, entry_back p a b)
 
-  pub run_back : (n : ℕ) (l : List (K × W)) → IsNumber n → HasText kw vw l → AllHold KeyOk ValOk l → Run key val d n (field_text kw vw n l) (map (as_record kw vw) l)
+  pub run_back : (n : ℕ) (l : List (K × W)) → IsNumber n → HasEncoding kw vw l → AllHold KeyOk ValOk l → Run key val d n (field_encoding kw vw n l) (map (as_record kw vw) l)
   run_back n [] num has ok = refl
-  run_back n (p ∷ ps) num has ok = (record_text kw vw n p, field_text kw vw n ps, record_back n p num has.0 ok.0 ok.1, refl, run_back n ps num has.1 ok.2)
+  run_back n (p ∷ ps) num has ok = (record_encoding kw vw n p, field_encoding kw vw n ps, record_back n p num has.0 ok.0 ok.1, refl, run_back n ps num has.1 ok.2)
 
 nothing-before : {K : Type 0} (eq : K → K → Bool) (ys : List K) → AllByRecursion (λ y. AllByRecursion (λ x. eq y x ≡ false) []) ys
 nothing-before eq [] = tt
@@ -102,7 +102,7 @@ all_declared say is (p ∷ l) = rw (is p) (all_declared say is l)
 
 -- ---- messages: small ones have a text, and are read back where a level is left for each of theirs
 module _ {K M : Type 0} (kw : Writing K) (text : M → List ℕ) where
-  pub small_text : (l : List (K × M)) → IsSmallField kw text l → HasText kw (delimited_writing text) l
+  pub small_text : (l : List (K × M)) → IsSmallField kw text l → HasEncoding kw (delimited_writing text) l
   small_text [] h = tt
   small_text (p ∷ ps) h = (h.0.1, small_text ps h.1)
 
@@ -115,4 +115,4 @@ module _ {M : Type 0} (blank : M) (merged : ℕ → M → List ℕ → Option M)
   message_back zero v small some means = absurd (omega (arith, some))
   message_back (suc e) v small some means =
       let fits : length (text v) < 2 ^ 64 = omega (arith, small) in
-      (refl, bytes (text v), (varint_text (length (text v)), IsVarint-varint_text (length (text v)) fits, refl), ap meant (means e refl))
+      (refl, bytes (text v), (varint_encoding (length (text v)), IsVarint-varint_encoding (length (text v)) fits, refl), ap meant (means e refl))

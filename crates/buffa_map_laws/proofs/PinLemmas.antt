@@ -97,10 +97,10 @@ module _ {K V : Type 0} (key : Reading K) (val : Reading V) (d n cost slot : ℕ
       (more : List ℕ) × (record_at key val d n cost slot left bs ≡ Ok (x, more ++ rest)) × Run key val d n more es
   first_record x es left over bs a rest split (r, more, m, e, run) paid =
       let whole : bs ≡ r ++ (more ++ rest) = split ∙ ap (λ z. z ++ rest) e ∙ append_assoc r more rest in
-      (more, ap (record_at key val d n cost slot left) whole ∙ said_complete key val d n cost slot left r (more ++ rest) x (omega (arith, paid.0)) (one_slot paid.1) m, run)
+      (more, ap (record_at key val d n cost slot left) whole ∙ said_complete key val d n cost slot left r (more ++ rest) x (omega (arith, paid.0)) (one_unknown paid.1) m, run)
     where
-      one_slot : over.unknown + ((length (undeclared (x ∷ es))) * slot + (inner_needs key val d (x ∷ es)).unknown) ≡ left.unknown → (need_of key val d cost x.bytes).unknown + cond x.parts.known 0 slot ≤ left.unknown
-      one_slot h = omega (arith, h, slots_kept x.parts.known x.bytes (undeclared es) slot)
+      one_unknown : over.unknown + ((length (undeclared (x ∷ es))) * slot + (inner_needs key val d (x ∷ es)).unknown) ≡ left.unknown → (need_of key val d cost x.bytes).unknown + cond x.parts.known 0 slot ≤ left.unknown
+      one_unknown h = omega (arith, h, slots_kept x.parts.known x.bytes (undeclared es) slot)
 
   -- no record begins bytes that have a fault
   no_record : (left over : BudgetLeft) (bs a rest : List ℕ) (f : DecodeError) → bs ≡ a ++ rest → a ≡ [] → Paid key val d cost slot left [] over → RecordFault key val d n cost slot over rest f →
@@ -159,7 +159,7 @@ module _ {K V : Type 0} (r : Rules K V)
         let none = inner_none r.key r.val r.depth r.number r.cost r.slot key_free val_free plain bs in
         let unit = ap (λ (z : BudgetLeft). z.memory) none in
         let taken = ap (λ (z : BudgetLeft). z.unknown) none in
-        one_left a.left b.left (omega (arith, h.most, k.most, h.no_slot ne, k.no_slot nf, taken))
+        one_left a.left b.left (omega (arith, h.most, k.most, h.no_unknown ne, k.no_unknown nf, taken))
         (one_memory old.left.memory r.cost (inner_need r.key r.val r.depth bs).memory a.left.memory b.left.memory unit h.units k.units (h.charged ne p.0 p.1 t) (k.charged nf p.0 p.1 t))
     refused_left (Err z) is = h.unspent (not_ok (delimited_at bs) z is) ∙ sym (k.unspent (not_ok (delimited_at bs) z is))
 
@@ -178,7 +178,7 @@ module _ {K V : Type 0} (r : Rules K V)
   one_rest : (old : State K V) (bs : List ℕ) (a b : State K V) (x y : List ℕ) (f g : DecodeError) → RefusesEntry r old bs a x f → RefusesEntry r old bs b y g → f ≢ OutOfMemory → g ≢ OutOfMemory →
       (z : Result (List ℕ × List ℕ) DecodeError) → delimited_at bs ≡ z → x ≡ y
   one_rest old bs a b x y f g h k ne nf (Ok p) is = let t = agree_ok (delimited_at bs) p (delimited_sound bs) is in h.past ne p.0 p.1 t ∙ sym (k.past nf p.0 p.1 t)
-  one_rest old bs a b x y f g h k ne nf (Err z) is = h.past_no_text z is ∙ sym (k.past_no_text z is)
+  one_rest old bs a b x y f g h k ne nf (Err z) is = h.past_no_delimited z is ∙ sym (k.past_no_delimited z is)
 
   pub entry_is_pinned : EntryIsPinned r
   entry_is_pinned = record {
@@ -238,7 +238,7 @@ module _ {K V : Type 0} (r : Rules K V)
     one_unread (inr (inr (inr (m, t, inl bad)))) =
         let is = tag_read r.key r.val r.depth r.number r.cost r.slot h.over h.rest m r.number LengthDelimited t in
         let short = delimited_faulty m f bad in
-        h.past_no_text m f is short ∙ sym (k.past_no_text m f (ap tag_at (sym stopped_same.1) ∙ is) short)
+        h.past_no_delimited m f is short ∙ sym (k.past_no_delimited m f (ap tag_at (sym stopped_same.1) ∙ is) short)
     one_unread (inr (inr (inr (m, t, inr (u, e, after, v, split, bad))))) =
         let is = tag_read r.key r.val r.depth r.number r.cost r.slot h.over h.rest m r.number LengthDelimited t in
         h.past ne m e after is (u, v, split) ∙ sym (k.past nf m e after (ap tag_at (sym stopped_same.1) ∙ is) (u, v, split))
@@ -259,7 +259,7 @@ module _ {K V : Type 0} (r : Rules K V)
                 let two = ap (λ (z : BudgetLeft). z.unknown) stopped_over in
                 let hc = h.charged ne mid e after tag t in
                 let kc = k.charged nf mid e after (subst (λ z. tag_at z ≡ Ok (r.number, LengthDelimited, mid)) rest tag) t in
-                one_left a.left b.left (omega (arith, h.most, k.most, h.no_slot ne, k.no_slot nf, two, ap (λ (z : BudgetLeft). z.unknown) none, ap (λ (z : BudgetLeft). z.unknown) nil))
+                one_left a.left b.left (omega (arith, h.most, k.most, h.no_unknown ne, k.no_unknown nf, two, ap (λ (z : BudgetLeft). z.unknown) none, ap (λ (z : BudgetLeft). z.unknown) nil))
                 (spent_one h.over.memory k.over.memory r.cost (record_need r.key r.val r.depth h.rest).memory (record_need r.key r.val r.depth k.rest).memory a.left.memory b.left.memory one (ap (λ (z : BudgetLeft). z.memory) none) (ap (λ (z : BudgetLeft). z.memory) nil) h.units k.units hc kc)
           ]
 

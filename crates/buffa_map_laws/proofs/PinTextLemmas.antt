@@ -15,8 +15,8 @@ use Rattle.buffa_wire.specs.BudgetLeft.{BudgetLeft, nothing}
 use Rattle.buffa_wire.specs.Cache.{Cache}
 use Rattle.buffa_wire.specs.Content.{Content}
 use Rattle.buffa_wire.specs.Records.{Datum}
-use Rattle.buffa_wire.specs.Text.{records_text}
-use Rattle.buffa_wire.specs.Values.{tag_text}
+use Rattle.buffa_wire.specs.Encoding.{records_encoding}
+use Rattle.buffa_wire.specs.Values.{tag_encoding}
 use Rattle.buffa_map_base.specs.Codec.{Writing}
 use Rattle.buffa_map_base.specs.MessageField.{IsFieldSized, IsFieldWritten, IsSmallField}
 use Rattle.buffa_map_base.specs.Merge.{Rules, state}
@@ -24,18 +24,18 @@ use Rattle.buffa_map_base.specs.Pairs.{ListsOnce, SamePairs, put}
 use Rattle.buffa_map_laws.specs.PinnedTexts.{FieldIsPinned, MessagesArePinned, NoneIsFull, PutIsPinned, RewriteIsPinned}
 use Rattle.buffa_map_base.specs.Rewrite.{RefusesBytes, RefusesOutput, RefusesRewrite, RewritesRun}
 use Rattle.buffa_map_base.specs.Run.{EntryRecord, Paid, Run, fold_entries, undeclared_records}
-use Rattle.buffa_map_base.specs.Text.{HasText, RefusesField, WritesField, entry_text, field_text, saturated}
+use Rattle.buffa_map_base.specs.Encoding.{HasEncoding, RefusesField, WritesField, entry_encoding, field_encoding, saturated}
 use Rattle.buffa_map_laws.proofs.PinLemmas.{fault_of, one_over, run_is_pinned, run_one}
 use Rattle.buffa_map_base.proofs.PutLemmas.{key_or, lookup_entry-put}
 use Rattle.buffa_map_base.proofs.RunLemmas.{run_complete, run_faulty}
-use Rattle.buffa_map_base.proofs.SizeLemmas.{length-field_text}
+use Rattle.buffa_map_base.proofs.SizeLemmas.{length-field_encoding}
 use Rattle.buffa_map_base.proofs.WalkLemmas.{one_size, permuted}
 
 module _ {K V : Type 0} (key : Writing K) (val : Writing V) where
   abbrev IsShort : K × V → Type 0
-  IsShort p = length (entry_text key val p) < 2 ^ 64
+  IsShort p = length (entry_encoding key val p) < 2 ^ 64
 
-  all_short : (l : List (K × V)) → HasText key val l → All IsShort l
+  all_short : (l : List (K × V)) → HasEncoding key val l → All IsShort l
   all_short [] h = All-nil IsShort
   all_short (p ∷ ps) h = All-cons IsShort p ps h.0 (all_short ps h.1)
 
@@ -44,9 +44,9 @@ module _ {K V : Type 0} (key : Writing K) (val : Writing V) where
   short_in (x ∷ done) p rest h = short_in done p rest (All-tail IsShort x (done ++ p ∷ rest) h)
 
   -- no entry of a text is too long, in whatever order
-  no_long : (l m done : List (K × V)) (p : K × V) (rest : List (K × V)) → HasText key val l → All IsShort l → m ≡ done ++ p ∷ rest → (All IsShort l → All IsShort m) → 2 ^ 64 ≤ length (entry_text key val p) → ⊥
+  no_long : (l m done : List (K × V)) (p : K × V) (rest : List (K × V)) → HasEncoding key val l → All IsShort l → m ≡ done ++ p ∷ rest → (All IsShort l → All IsShort m) → 2 ^ 64 ≤ length (entry_encoding key val p) → ⊥
   no_long l m done p rest has all is turn long =
-      let few : length (entry_text key val p) < 2 ^ 64 = short_in done p rest (subst (All IsShort) is (turn all)) in
+      let few : length (entry_encoding key val p) < 2 ^ 64 = short_in done p rest (subst (All IsShort) is (turn all)) in
       absurd (omega (arith, few, long))
 
   head_of : {A : Type 0} {x y : A} {xs ys : List A} → (x ∷ xs) ≡ (y ∷ ys) → x ≡ y
@@ -55,11 +55,11 @@ module _ {K V : Type 0} (key : Writing K) (val : Writing V) where
   tail_of : {A : Type 0} {x y : A} {xs ys : List A} → (x ∷ xs) ≡ (y ∷ ys) → xs ≡ ys
   tail_of h = cc
 
-  first_long : (done more : List (K × V)) (p q : K × V) (rest tail : List (K × V)) → done ++ p ∷ rest ≡ more ++ q ∷ tail → HasText key val done → HasText key val more →
-      2 ^ 64 ≤ length (entry_text key val p) → 2 ^ 64 ≤ length (entry_text key val q) → done ≡ more
+  first_long : (done more : List (K × V)) (p q : K × V) (rest tail : List (K × V)) → done ++ p ∷ rest ≡ more ++ q ∷ tail → HasEncoding key val done → HasEncoding key val more →
+      2 ^ 64 ≤ length (entry_encoding key val p) → 2 ^ 64 ≤ length (entry_encoding key val q) → done ≡ more
   first_long [] [] p q rest tail e h k a b = refl
-  first_long [] (y ∷ more) p q rest tail e h k a b = absurd (omega (arith, a, k.0, ap (λ z. length (entry_text key val z)) (head_of e)))
-  first_long (x ∷ done) [] p q rest tail e h k a b = absurd (omega (arith, b, h.0, ap (λ z. length (entry_text key val z)) (head_of e)))
+  first_long [] (y ∷ more) p q rest tail e h k a b = absurd (omega (arith, a, k.0, ap (λ z. length (entry_encoding key val z)) (head_of e)))
+  first_long (x ∷ done) [] p q rest tail e h k a b = absurd (omega (arith, b, h.0, ap (λ z. length (entry_encoding key val z)) (head_of e)))
   first_long (x ∷ done) (y ∷ more) p q rest tail e h k a b =
       let first = head_of e in
       let others = first_long done more p q rest tail (tail_of e) h.1 k.1 a b in
@@ -67,7 +67,7 @@ module _ {K V : Type 0} (key : Writing K) (val : Writing V) where
 
   one_refusal : (n : ℕ) (old a b : List ℕ) (l : List (K × V)) → RefusesField key val n old a l MessageTooLarge → RefusesField key val n old b l MessageTooLarge → a ≡ b
   one_refusal n old a b l (done, p, rest, is, has, long, text) (more, q, tail, was, short, large, words) =
-      text ∙ ap (λ z. old ++ field_text key val n z) (first_long done more p q rest tail (sym is ∙ was) has short long large) ∙ sym words
+      text ∙ ap (λ z. old ++ field_encoding key val n z) (first_long done more p q rest tail (sym is ∙ was) has short long large) ∙ sym words
 
   one_text : (n : ℕ) (old a b : List ℕ) (l : List (K × V)) (r s : Result (Unit {0}) EncodeError) →
       WritesField key val n old a r l → WritesField key val n old b s l → NoneIsFull r s → (r ≡ s) × (a ≡ b)
@@ -128,11 +128,11 @@ module _ {K V : Type 0} (r : Rules K V) (laws : IsEquivalence r.same)
       SamePairs r.same a b × (over ≡ last) × (x ≡ y) × (length v ≡ length w) × (h.rewrite.0 ≡ k.rewrite.0 → v ≡ w)
   one_rewrite m n h k =
       let e = same_runs h.entries k.entries h.run k.run in
-      let t = length (tag_text r.number LengthDelimited) in
+      let t = length (tag_encoding r.number LengthDelimited) in
       let size = one_size key val laws t (fold_entries r.same [] h.entries) h.rewrite.0 k.rewrite.0 h.rewrite.1 (once_more h.entries k.entries e k.rewrite.0 k.rewrite.1) in
       let first = ap length (h.text ∙ ap (λ z. old ++ z) h.rewrite.4) in
       let second = ap length (k.text ∙ ap (λ z. old ++ z) k.rewrite.4) in
-      let kept = ap (λ z. length (records_text (undeclared_records r.number z))) e in (
+      let kept = ap (λ z. length (records_encoding (undeclared_records r.number z))) e in (
         λ q. sym (h.folded q) ∙ ap (λ z. lookup_entry (r.same q) (fold_entries r.same [] z)) e ∙ k.folded q,
         one_over r.key r.val r.depth r.number r.cost r.slot key_free val_free left over last h.entries k.entries e h.paid k.paid,
         h.whole ∙ sym k.whole,
@@ -142,15 +142,15 @@ module _ {K V : Type 0} (r : Rules K V) (laws : IsEquivalence r.same)
           second,
           kept,
           size,
-          length-field_text key val r.number h.rewrite.0,
-          length-field_text key val r.number k.rewrite.0,
-          length-append old (field_text key val r.number h.rewrite.0 ++ records_text (undeclared_records r.number h.entries)),
-          length-append old (field_text key val r.number k.rewrite.0 ++ records_text (undeclared_records r.number k.entries)),
-          length-append (field_text key val r.number h.rewrite.0) (records_text (undeclared_records r.number h.entries)),
-          length-append (field_text key val r.number k.rewrite.0) (records_text (undeclared_records r.number k.entries)),
+          length-field_encoding key val r.number h.rewrite.0,
+          length-field_encoding key val r.number k.rewrite.0,
+          length-append old (field_encoding key val r.number h.rewrite.0 ++ records_encoding (undeclared_records r.number h.entries)),
+          length-append old (field_encoding key val r.number k.rewrite.0 ++ records_encoding (undeclared_records r.number k.entries)),
+          length-append (field_encoding key val r.number h.rewrite.0) (records_encoding (undeclared_records r.number h.entries)),
+          length-append (field_encoding key val r.number k.rewrite.0) (records_encoding (undeclared_records r.number k.entries)),
         ),
-        λ same. h.text ∙ ap (λ z. old ++ z) (h.rewrite.4 ∙ ap (λ z. field_text key val r.number z ++ records_text (undeclared_records r.number h.entries)) same
-            ∙ ap (λ z. field_text key val r.number k.rewrite.0 ++ records_text (undeclared_records r.number z)) e ∙ sym k.rewrite.4) ∙ sym k.text,
+        λ same. h.text ∙ ap (λ z. old ++ z) (h.rewrite.4 ∙ ap (λ z. field_encoding key val r.number z ++ records_encoding (undeclared_records r.number h.entries)) same
+            ∙ ap (λ z. field_encoding key val r.number k.rewrite.0 ++ records_encoding (undeclared_records r.number z)) e ∙ sym k.rewrite.4) ∙ sym k.text,
       )
 
   written_no_refusal : (m : ℕ) (h : Rewritten m) (e : EncodeError) (k : RefusesOutput r key val B left bytes b last y old w room e) → RefusesRewrite key val r.number (undeclared_records r.number k.entries) old w k.walk e → e ≢ OutOfMemory → ⊥

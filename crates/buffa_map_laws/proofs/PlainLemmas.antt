@@ -37,5 +37,5 @@ module _ {K V : Type 0} (r : Rules K V) (need : (e : List ℕ) → need_of r.key
         charged = λ ne e rest t room. exact old.left.memory new.left.memory r.cost _ h.units unit (h.charged ne e rest t room);
         most = h.most;
         least = omega (arith, h.least, slot);
-        no_slot = λ ne. omega (arith, h.most, h.no_slot ne, slot);
+        no_unknown = λ ne. omega (arith, h.most, h.no_unknown ne, slot);
       }

@@ -10,12 +10,12 @@ use Rattle.buffa_wire.specs.Content.{Content, HasContent, number_in}
 use Rattle.buffa_wire.specs.Enums.{Numbers, DeclaresBlank, Refines}
 use Rattle.buffa_wire.specs.Number.{IsNumber}
 use Rattle.buffa_wire.specs.Records.{bytes}
-use Rattle.buffa_wire.specs.Text.{records_text}
-use Rattle.buffa_wire.specs.Values.{int32_of, tag_text}
-use Rattle.buffa_wire.specs.Varint.{varint_text}
+use Rattle.buffa_wire.specs.Encoding.{records_encoding}
+use Rattle.buffa_wire.specs.Values.{int32_of, tag_encoding}
+use Rattle.buffa_wire.specs.Varint.{varint_encoding}
 use Rattle.buffa_wire.specs.BudgetLeft.{BudgetLeft, nothing, plus}
 use Rattle.buffa_bytes.specs.declared.wire_type.WireType.TheVariants.{LengthDelimited}
-use Rattle.buffa_bytes.proofs.VarintLemmas.{IsVarint-varint_text}
+use Rattle.buffa_bytes.proofs.VarintLemmas.{IsVarint-varint_encoding}
 use Rattle.buffa_wire.specs.Sequence.{ParsesEach}
 use Rattle.buffa_map_base.specs.Codec.{Reading, Writing}
 use Rattle.buffa_map_base.specs.Entry.{IsEntry, IsField, blanks}
@@ -24,7 +24,7 @@ use Rattle.buffa_map_base.specs.Enums.{ClosedFits, closed_reading, closed_writin
 use Rattle.buffa_map_base.specs.Pairs.{ListsOnce, SamePairs, put}
 use Rattle.buffa_map_base.specs.Rewrite.{IsOrderedClass, IsRewrite, KeepsMeaning, Ordered, Seen, first, is_new, last, seen}
 use Rattle.buffa_map_base.specs.Run.{fold_entries, undeclared, Run, EntryRecord, inner_needs, undeclared_records}
-use Rattle.buffa_map_base.specs.Text.{AllHold, field_text}
+use Rattle.buffa_map_base.specs.Encoding.{AllHold, field_encoding}
 use Rattle.buffa_map_base.specs.declared.map_entry.MapEntry.{MapEntry}
 use Rattle.buffa_wire.proofs.SequenceLemmas.{ok_same}
 use Rattle.buffa_map_laws.proofs.BackLemmas.{as_record, is_tag, plain_back, run_back}
@@ -244,14 +244,14 @@ module _ {K : Type 0} (Normal : K → Type 0) (e : Numbers) where
 
 module _ {K : Type 0} (key : Reading K) (Normal : K → Type 0) (e f : Numbers) where
   kept_one : (d n : ℕ) (b : Bool) (bs : List ℕ) (ks : List (List ℕ)) (y : EntryRecord K ℤ) (us : List (EntryRecord K ℤ)) → IsNumber n → bs ≡ y.bytes → length y.bytes < 2 ^ 64 → IsEntry key (closed_reading f) d y.bytes y.parts →
-      Run key (closed_reading f) d n (records_text (map (λ k. (n, bytes k)) ks)) us → Run key (closed_reading f) d n (records_text (map (λ k. (n, bytes k)) (cond b ks (bs ∷ ks)))) (cond b us (y ∷ us))
+      Run key (closed_reading f) d n (records_encoding (map (λ k. (n, bytes k)) ks)) us → Run key (closed_reading f) d n (records_encoding (map (λ k. (n, bytes k)) (cond b ks (bs ∷ ks)))) (cond b us (y ∷ us))
   kept_one d n true bs ks y us num same fits entry h = h
   kept_one d n false bs ks y us num same fits entry h =
-      let tag = tag_text n LengthDelimited in
-      (tag ++ (varint_text (length bs) ++ bs), records_text (map (λ k. (n, bytes k)) ks), (tag, varint_text (length y.bytes), is_tag n LengthDelimited num, IsVarint-varint_text (length y.bytes) fits, ap (λ z. tag ++ (varint_text (length z) ++ z)) same, entry), refl, h)
+      let tag = tag_encoding n LengthDelimited in
+      (tag ++ (varint_encoding (length bs) ++ bs), records_encoding (map (λ k. (n, bytes k)) ks), (tag, varint_encoding (length y.bytes), is_tag n LengthDelimited num, IsVarint-varint_encoding (length y.bytes) fits, ap (λ z. tag ++ (varint_encoding (length z) ++ z)) same, entry), refl, h)
 
   -- the text of the kept records is a run of them
-  pub unread_run : (d n : ℕ) (b : List ℕ) (es fs : List (EntryRecord K ℤ)) → IsNumber n → Twins Normal e es fs → Run key (closed_reading f) d n b fs → Run key (closed_reading f) d n (records_text (undeclared_records n es)) (unread es fs)
+  pub unread_run : (d n : ℕ) (b : List ℕ) (es fs : List (EntryRecord K ℤ)) → IsNumber n → Twins Normal e es fs → Run key (closed_reading f) d n b fs → Run key (closed_reading f) d n (records_encoding (undeclared_records n es)) (unread es fs)
   unread_run d n b [] [] num h k = refl
   unread_run d n b [] (y ∷ fs) num h k = absurd h
   unread_run d n b (x ∷ es) [] num h k = absurd h
@@ -442,7 +442,7 @@ module _ {K : Type 0} (key : Reading K) (write : Writing K) (same_wire : write.w
       let ok = all_fit Fits Normal e f refines.0 l fits (keys_of_walk es fs t l enum) in
       let one = run_back key (closed_reading f) write closed_writing same_wire refl d (λ k. Fits k × Normal k) (ClosedFits f) (λ v ok. plain_back key write d v plain (key_back d key.blank v ok)) (λ v ok. plain_back (closed_reading f) closed_writing d v refl (value_back d f.blank v ok)) n l num has ok in
       let two = unread_run key Normal e f d n b es fs num t k in
-      let both = Run-join key (closed_reading f) d n (field_text write closed_writing n l) (records_text (undeclared_records n es)) (map says l) (unread es fs) one two in (
+      let both = Run-join key (closed_reading f) d n (field_encoding write closed_writing n l) (records_encoding (undeclared_records n es)) (map says l) (unread es fs) one two in (
         said_again es fs t l enum,
         subst (λ z. Run key (closed_reading f) d n z (said_again es fs t l enum)) (sym is) both,
         (again_kept es fs t l enum, again_same es fs t l enum, same_again es fs t l enum),

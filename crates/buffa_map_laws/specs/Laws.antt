@@ -12,7 +12,7 @@ use Rattle.buffa_wire.specs.Field.{TakesDelimited}
 use Rattle.buffa_wire.specs.BudgetLeft.{Lacks, BudgetLeft, nothing, plus, slots, units}
 use Rattle.buffa_wire.specs.Message.{IsLimit}
 use Rattle.buffa_wire.specs.Number.{IsNumber}
-use Rattle.buffa_wire.specs.Values.{tag_text}
+use Rattle.buffa_wire.specs.Values.{tag_encoding}
 use Rattle.buffa_map_base.specs.Codec.{Reading, ValueFault, Writing, level, value_at}
 use Rattle.buffa_map_base.specs.Entry.{EntryFault, EntryOf, FaultOf, IsEntry, entry_of, inner_need, need_of}
 use Rattle.buffa_map_base.specs.Enums.{ClosedFits, closed_reading, closed_writing}
@@ -21,7 +21,7 @@ use Rattle.buffa_map_base.specs.Scalars.{delimited_writing}
 use Rattle.buffa_map_base.specs.Pairs.{ListsOnce}
 use Rattle.buffa_map_base.specs.Rewrite.{IsRewrite, KeepsMeaning}
 use Rattle.buffa_map_base.specs.Run.{fold_entries, undeclared, Paid, Run, RunFault, EntryRecord, inner_needs, record_need, run_of}
-use Rattle.buffa_map_base.specs.Text.{AllHold, HasText, field_size, field_text}
+use Rattle.buffa_map_base.specs.Encoding.{AllHold, HasEncoding, field_size, field_encoding}
 use Rattle.buffa_map_base.specs.declared.map_entry.MapEntry.{MapEntry}
 
 module _ {V : Type 0} (codec : Reading V) where
@@ -92,7 +92,7 @@ module _ {K V : Type 0} (key : Reading K) (val : Reading V) where
 
 -- the size of a field is the length of its text
 abbrev pub SizeIsLength : {K V : Type 0} → Writing K → Writing V → Type 0
-SizeIsLength {K} {V} key val = (n : ℕ) (l : List (K × V)) → length (field_text key val n l) ≡ field_size key val (length (tag_text n LengthDelimited)) l
+SizeIsLength {K} {V} key val = (n : ℕ) (l : List (K × V)) → length (field_encoding key val n l) ≡ field_size key val (length (tag_encoding n LengthDelimited)) l
 
 -- Two walks of one map give the same pairs, in some order, and have one size.
 pub record WalksAgree {K V : Type 0} (key : Writing K) (val : Writing V) (eq : K → K → Bool) : Type 0 where
@@ -105,14 +105,14 @@ module _ {K V : Type 0} (key : Reading K) (val : Reading V) (kw : Writing K) (vw
     (KeyFits KeyNormal : K → Type 0) (ValFits ValNormal : V → Type 0) where
   pub record ReadsBack (d n : ℕ) (l : List (K × V)) : Type 0 where
     pub entries : List (EntryRecord K V)
-    pub run : Run key val d n (field_text kw vw n l) entries
+    pub run : Run key val d n (field_encoding kw vw n l) entries
     pub folded : fold_entries eq [] entries ≡ l
     pub declared : undeclared entries ≡ []
     pub many : length entries ≡ length l
 
   abbrev pub WrittenIsRead : Type 0
   WrittenIsRead =
-      (d n : ℕ) (l : List (K × V)) → IsNumber n → HasText kw vw l → AllHold KeyFits ValFits l → AllHold KeyNormal ValNormal l → IsDistinct eq (keys_of l) → ReadsBack d n l
+      (d n : ℕ) (l : List (K × V)) → IsNumber n → HasEncoding kw vw l → AllHold KeyFits ValFits l → AllHold KeyNormal ValNormal l → IsDistinct eq (keys_of l) → ReadsBack d n l
 
 -- The same of normal messages, where they are small enough to be written, and a level is left for each of theirs.
 module _ {K M : Type 0} (key : Reading K) (val : Reading M) (kw : Writing K) (text : M → List ℕ) (eq : K → K → Bool)

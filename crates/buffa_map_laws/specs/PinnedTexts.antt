@@ -13,7 +13,7 @@ use Rattle.buffa_map_base.specs.MessageField.{IsFieldSized, IsFieldWritten, IsSm
 use Rattle.buffa_map_base.specs.Merge.{Rules, keeping}
 use Rattle.buffa_map_base.specs.Pairs.{InOrder, ListsOnce, SamePairs, put}
 use Rattle.buffa_map_base.specs.Rewrite.{RefusesBytes, RefusesOutput, RewritesRun}
-use Rattle.buffa_map_base.specs.Text.{WritesField, field_size, saturated}
+use Rattle.buffa_map_base.specs.Encoding.{WritesField, field_size, saturated}
 
 -- two answers, of which none is told as out of memory
 abbrev pub NoneIsFull : {T : Type 0} → Result T EncodeError → Result T EncodeError → Type 0

@@ -35,7 +35,7 @@ module _ {K V : Type 0} (r : Rules K V) (old : State K V) (bytes : List ℕ) whe
     pub charged : f ≢ OutOfMemory → (e rest : List ℕ) → TakesDelimited bytes e rest → r.cost ≤ old.left.memory → new.left.memory + r.cost ≡ old.left.memory
     pub most : new.left.unknown ≤ old.left.unknown
     pub least : old.left.unknown ≤ new.left.unknown + r.slot
-    pub no_slot : f ≢ OutOfMemory → new.left.unknown ≡ old.left.unknown
+    pub no_unknown : f ≢ OutOfMemory → new.left.unknown ≡ old.left.unknown
 
 -- entries under these rules are exact
 abbrev pub IsExact : {K V : Type 0} → Rules K V → Type 0

@@ -89,7 +89,7 @@ module _ {K V : Type 0} (key : Reading K) (val : Reading V) (d : ℕ) (bytes : L
     pub reached : ParsesTo (IsField key val d) start bytes s rest
     pub unknown : now.unknown + (need_at key val d start bytes).unknown ≡ left.unknown + (need_at key val d s rest).unknown
     pub memory : now.memory + (need_at key val d start bytes).memory ≡ left.memory + (need_at key val d s rest).memory
-    pub no_slot : now.unknown ≤ left.unknown
+    pub no_unknown : now.unknown ≤ left.unknown
     pub no_unit : now.memory ≤ left.memory
 
   pub no_field : (s : MapEntry K V) → s ≡ start → Merged s left bytes
@@ -97,7 +97,7 @@ module _ {K V : Type 0} (key : Reading K) (val : Reading V) (d : ℕ) (bytes : L
     reached = ([], refl, sym is);
     unknown = rw is refl;
     memory = rw is refl;
-    no_slot = omega arith;
+    no_unknown = omega arith;
     no_unit = omega arith;
   }
 
@@ -117,7 +117,7 @@ module _ {K V : Type 0} (key : Reading K) (val : Reading V) (d : ℕ) (bytes : L
           reached = field_step key val d bytes s t rest after h.reached m.field;
           unknown = omega (arith, h.unknown, m.pays.0, ap (λ (z : BudgetLeft). z.unknown) e);
           memory = omega (arith, h.memory, m.pays.1, ap (λ (z : BudgetLeft). z.memory) e);
-          no_slot = omega (arith, h.no_slot, m.pays.0);
+          no_unknown = omega (arith, h.no_unknown, m.pays.0);
           no_unit = omega (arith, h.no_unit, m.pays.1);
         }
 
@@ -128,7 +128,7 @@ module _ {K V : Type 0} (key : Reading K) (val : Reading V) (d : ℕ) (bytes : L
     bad_field over f some k = record {
       full = λ out. (s, rest, h.reached, some_left some, k.full out);
       fault = λ ne. fields_fault key val d bytes s rest left now some h.unknown h.memory f h.reached (k.fault ne);
-      pays = fields_spent key val d bytes s rest left now some h.unknown h.memory over h.no_slot h.no_unit k.pays;
+      pays = fields_spent key val d bytes s rest left now some h.unknown h.memory over h.no_unknown h.no_unit k.pays;
     }
 
 -- a status that isn't `Known` is that of an undeclared value

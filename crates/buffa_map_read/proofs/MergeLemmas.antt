@@ -3,7 +3,7 @@ use Rattle.std.specs.Prelude.{IsOk}
 use Rattle.std.proofs.Common.{arith, ◌≡◌, ◌≢◌, ◌+◌, ◌<◌, ◌≤◌, ◌++◌, ◌⊎◌, inl, inr, ℕ, true, false, List, [], Result, Ok, Err, ap, append-nil, length, refl, subst, sym, take, ◌∙◌}
 use Rattle.buffa_bytes.specs.declared.error.DecodeError.{DecodeError}
 use Rattle.buffa_bytes.specs.declared.error.DecodeError.TheVariants.{ElementMemoryLimitExceeded, OutOfMemory, UnexpectedEof, UnknownFieldLimitExceeded}
-use Rattle.buffa_bytes.specs.Left.{past_no_text}
+use Rattle.buffa_bytes.specs.Left.{past_no_delimited}
 use Rattle.buffa_wire.proofs.SequenceLemmas.{ok_no_err}
 use Rattle.buffa_wire.specs.BudgetLeft.{BudgetLeft, Lacks, need_by}
 use Rattle.buffa_wire.specs.Reading.{delimited_at}
@@ -30,11 +30,11 @@ module _ {K V : Type 0} (r : Rules K V) (pairs : List (K × V)) (records : List 
   abbrev fields_need : List ℕ → BudgetLeft
   fields_need e = need_at r.key r.val r.depth (blanks r.key r.val r.depth) e
 
-  pub no_entry : (unread : List ℕ) (f : DecodeError) → IsTailOf unread bs → (f ≢ OutOfMemory → delimited_at bs ≡ Err f) → (f ≡ OutOfMemory → EntryTakesMemory r left bs f) → ((e rest : List ℕ) → TakesDelimited bs e rest → IsTailOf rest unread) → ((x : DecodeError) → delimited_at bs ≡ Err x → unread ≡ past_no_text bs) →
+  pub no_entry : (unread : List ℕ) (f : DecodeError) → IsTailOf unread bs → (f ≢ OutOfMemory → delimited_at bs ≡ Err f) → (f ≡ OutOfMemory → EntryTakesMemory r left bs f) → ((e rest : List ℕ) → TakesDelimited bs e rest → IsTailOf rest unread) → ((x : DecodeError) → delimited_at bs ≡ Err x → unread ≡ past_no_delimited bs) →
       RefusesEntry r (state pairs records left) bs (state pairs records left) unread f
   no_entry unread f tail h full near short = record {
     within = near;
-    past_no_text = short;
+    past_no_delimited = short;
     fault = λ ne. entry_short r.key r.val r.depth r.cost r.slot left bs f (h ne);
     memory = full;
     tail = tail;
@@ -46,7 +46,7 @@ module _ {K V : Type 0} (r : Rules K V) (pairs : List (K × V)) (records : List 
     unspent = λ no. refl;
     most = omega arith;
     least = omega arith;
-    no_slot = λ ne. omega arith;
+    no_unknown = λ ne. omega arith;
   }
 
   -- the bytes of an entry are copied, of which there are some
@@ -56,7 +56,7 @@ module _ {K V : Type 0} (r : Rules K V) (pairs : List (K × V)) (records : List 
   copy_takes n mid f (Err x) is keeps same ok some = cc
 
   pub no_copy : (n : ℕ) (mid unread : List ℕ) (f : DecodeError) → (r.slot ≢ 0) × (r.val.undeclared ≡ true) → delimited_at bs ≡ taken n mid → IsTailOf unread bs → (f ≢ OutOfMemory → taken n mid ≡ Err f) → (f ≡ OutOfMemory → IsOk (taken n mid)) → (n ≡ 0 → false ≡ true) →
-      ((e rest : List ℕ) → TakesDelimited bs e rest → IsTailOf rest unread) → ((x : DecodeError) → delimited_at bs ≡ Err x → unread ≡ past_no_text bs) →
+      ((e rest : List ℕ) → TakesDelimited bs e rest → IsTailOf rest unread) → ((x : DecodeError) → delimited_at bs ≡ Err x → unread ≡ past_no_delimited bs) →
       RefusesEntry r (state pairs records left) bs (state pairs records left) unread f
   no_copy n mid unread f keeps same tail reads full free near short =
       no_entry unread f tail (λ ne. same ∙ reads ne) (λ out. copy_takes n mid f (taken n mid) refl keeps same (full out) (λ z. let k = free z in cc)) near short
@@ -89,7 +89,7 @@ module _ {K V : Type 0} (r : Rules K V) (pairs : List (K × V)) (records : List 
           tail = delimited_tail bs e rest is;
           past = λ ne x after t. one_rest bs e rest x after is t;
           within = λ x after t. subst (λ z. IsTailOf z rest) (one_rest bs e rest x after is t) (tail_whole rest);
-          past_no_text = λ x no. absurd (ok_no_err (sym is ∙ no));
+          past_no_delimited = λ x no. absurd (ok_no_err (sym is ∙ no));
           pairs = refl;
           records = refl;
           units = parts_units over.memory h.units;
@@ -97,7 +97,7 @@ module _ {K V : Type 0} (r : Rules K V) (pairs : List (K × V)) (records : List 
           unspent = λ no. absurd (no (rw is refl));
           most = h.most;
           least = omega (arith, h.least, taken);
-          no_slot = λ ne. omega (arith, h.least, taken);
+          no_unknown = λ ne. omega (arith, h.least, taken);
         }
 
     module _ (s : MapEntry K V) (over : BudgetLeft) (h : ReadsParts r.key r.val r.depth r.cost e left s over) where
@@ -136,7 +136,7 @@ module _ {K V : Type 0} (r : Rules K V) (pairs : List (K × V)) (records : List 
 
       -- where none is kept, the records and the budget stand
       pub is_dropped : s.known ≡ false → r.slot ≡ 0 → ((n : ℕ) (x : List ℕ) → r.adds n x ≡ []) → MergesEntry r (state pairs records left) bs (state pairs records over) rest
-      is_dropped known no_slot none = is_kept known records over (rw (none r.number e) (sym (append-nil records))) (omega (arith, no_slot)) refl
+      is_dropped known no_unknown none = is_kept known records over (rw (none r.number e) (sym (append-nil records))) (omega (arith, no_unknown)) refl
 
       pub not_kept : s.known ≡ false → (kept : List (ℕ × Datum)) (last : BudgetLeft) (f : DecodeError) → kept ≡ records → last.unknown ≤ over.unknown → over.unknown ≤ last.unknown + r.slot → last.memory ≡ over.memory →
           (f ≢ OutOfMemory → (over.unknown < r.slot) × (f ≡ UnknownFieldLimitExceeded) × (last.unknown ≡ over.unknown)) → (f ≡ OutOfMemory → (r.slot ≢ 0) × (r.slot ≤ over.unknown)) → RefusesEntry r (state pairs records left) bs (state pairs kept last) rest f
@@ -149,7 +149,7 @@ module _ {K V : Type 0} (r : Rules K V) (pairs : List (K × V)) (records : List 
             tail = delimited_tail bs e rest is;
             past = λ ne x after t. one_rest bs e rest x after is t;
             within = λ x after t. subst (λ z. IsTailOf z rest) (one_rest bs e rest x after is t) (tail_whole rest);
-            past_no_text = λ x no. absurd (ok_no_err (sym is ∙ no));
+            past_no_delimited = λ x no. absurd (ok_no_err (sym is ∙ no));
             pairs = refl;
             records = same;
             units = inr (omega (arith, h.pays, unit), omega (arith, h.pays, unit, units));
@@ -157,7 +157,7 @@ module _ {K V : Type 0} (r : Rules K V) (pairs : List (K × V)) (records : List 
             unspent = λ no. absurd (no (rw is refl));
             most = omega (arith, h.pays, most);
             least = omega (arith, h.pays, least, taken);
-            no_slot = λ ne. omega (arith, h.pays, (which ne).2, taken);
+            no_unknown = λ ne. omega (arith, h.pays, (which ne).2, taken);
           }
 
   -- a cut entry is refused

@@ -8,7 +8,7 @@ use Rattle.buffa_bytes.specs.declared.error.DecodeError.{DecodeError}
 use Rattle.buffa_bytes.specs.declared.error.DecodeError.TheVariants.{OutOfMemory, UnexpectedField}
 use Rattle.buffa_bytes.specs.declared.wire_type.WireType.{WireType}
 use Rattle.buffa_bytes.specs.declared.wire_type.WireType.TheVariants.{LengthDelimited}
-use Rattle.buffa_bytes.specs.Left.{past_no_tag, past_no_text}
+use Rattle.buffa_bytes.specs.Left.{past_no_tag, past_no_delimited}
 use Rattle.buffa_wire.proofs.SequenceLemmas.{ok_no_err}
 use Rattle.buffa_wire.specs.BudgetLeft.{BudgetLeft}
 use Rattle.buffa_wire.specs.Reading.{check_wire, delimited_at, tag_at}
@@ -78,17 +78,17 @@ module _ {K V : Type 0} (r : Rules K V) (old : State K V) (bs : List ℕ) where
       some = some more;
       units = inl refl;
       most = omega arith;
-      one_slot = omega arith;
+      one_unknown = omega arith;
       fault = fault;
       memory = λ out. absurd (full out);
       unspent = λ no. refl;
       charged = λ ne mid e after is t room. absurd (past.1 mid is);
-      no_slot = λ ne. omega arith;
+      no_unknown = λ ne. omega arith;
       tail = tail;
       past_tag = past.0;
       past = λ ne mid e after is t. absurd (past.1 mid is);
       within = λ mid e after is t. absurd (past.1 mid is);
-      past_no_text = λ mid x is no. absurd (past.1 mid is);
+      past_no_delimited = λ mid x is no. absurd (past.1 mid is);
       past_no_tag = short;
     }
 
@@ -123,16 +123,16 @@ module _ {K V : Type 0} (r : Rules K V) (old : State K V) (bs : List ℕ) where
               some = some more;
               units = elim k.units [ inl e ↦ inl e | inr e ↦ inr (e.0, omega (arith, e.1, units)) ];
               most = k.most;
-              one_slot = omega (arith, k.least, taken);
+              one_unknown = omega (arith, k.least, taken);
               fault = λ ne. record_entry r.key r.val r.depth r.number r.cost r.slot now.left rest mid g w f tag same wire (k.fault ne);
               memory = λ out. (mid, found, k.memory out);
               unspent = λ no. k.unspent (λ is. no (mid, found, is));
               charged = λ ne m e after is t room. k.charged ne e after (subst (λ z. TakesDelimited z e after) (one_after rest m mid r.number r.number LengthDelimited LengthDelimited is found) t) room;
-              no_slot = λ ne. omega (arith, k.no_slot ne, taken);
+              no_unknown = λ ne. omega (arith, k.no_unknown ne, taken);
               tail = tail_more rest mid unread k.tail (tag_tail rest mid g w tag);
               past_tag = λ h v m is other. absurd (elim other [ inl n ↦ n (one_number rest m mid h r.number v w is (tag ∙ ap (λ z. Ok (z, w, mid)) same)) | inr n ↦ n (one_wire rest m mid h r.number v LengthDelimited is found) ]);
               past = λ ne m e after is t. k.past ne e after (subst (λ z. TakesDelimited z e after) (one_after rest m mid r.number r.number LengthDelimited LengthDelimited is found) t);
-              past_no_text = λ m x is no. let one = one_after rest m mid r.number r.number LengthDelimited LengthDelimited is found in k.past_no_text x (ap delimited_at (sym one) ∙ no) ∙ ap past_no_text (sym one);
+              past_no_delimited = λ m x is no. let one = one_after rest m mid r.number r.number LengthDelimited LengthDelimited is found in k.past_no_delimited x (ap delimited_at (sym one) ∙ no) ∙ ap past_no_delimited (sym one);
               past_no_tag = λ x no. absurd (ok_no_err (sym tag ∙ no));
               within = λ m e after is t. k.within e after (subst (λ z. TakesDelimited z e after) (one_after rest m mid r.number r.number LengthDelimited LengthDelimited is found) t);
             }

@@ -106,7 +106,7 @@ impl Keeper for UnknownFields {
         entry: &[u8],
         budget: &mut Budget,
     ) -> Result<(), DecodeError> {
-        budget.take_slot()?;
+        budget.take_unknown()?;
         let Ok(kept) = Vec::from_slice(alloc, entry) else {
             return Err(DecodeError::OutOfMemory);
         };

@@ -1,19 +1,19 @@
 -- Records written one after another.
 use Rattle.std.proofs.Common.{◌≡◌, ℕ, ◌+◌, ◌^◌, ◌<◌, ◌≤◌, List, [], ◌∷◌, ◌++◌, length, arith, Result, Err, inl, inr, refl, sym, ap, subst, ◌∙◌, append_assoc, append-nil, length-append}
 use Rattle.std.proofs.lemmas.Result.{MatchResult-weaker}
-use Rattle.buffa_wire.specs.Varint.{varint_text}
-use Rattle.buffa_wire.specs.Values.{tag_text}
+use Rattle.buffa_wire.specs.Varint.{varint_encoding}
+use Rattle.buffa_wire.specs.Values.{tag_encoding}
 use Rattle.buffa_wire.specs.Written.{UsesRoom, Writes, WritesFront}
 use Rattle.buffa_bytes.specs.declared.wire_type.WireType.TheVariants.{LengthDelimited}
 use Rattle.buffa_bytes.specs.declared.error.EncodeError.{EncodeError}
 use Rattle.buffa_bytes.specs.declared.error.EncodeError.TheVariants.{MessageTooLarge, GroupRefused, OutOfMemory}
 use Rattle.buffa_bytes.proofs.SinkLemmas.{front_first, front_second}
 use Rattle.buffa_wire.specs.Records.{Datum}
-use Rattle.buffa_wire.specs.Text as records
+use Rattle.buffa_wire.specs.Encoding as records
 use Rattle.buffa_map_base.specs.Codec.{Writing}
 use Rattle.buffa_map_base.specs.Pairs.{means}
 use Rattle.buffa_map_base.specs.Rewrite.{RefusesRewrite, WritesRewrite}
-use Rattle.buffa_map_base.specs.Text.{entry_text, record_text, field_text, AllHold, HasText, RefusesRecord, WritesRecord, RefusesField, UsesRoomOf, WritesField}
+use Rattle.buffa_map_base.specs.Encoding.{entry_encoding, record_encoding, field_encoding, AllHold, HasEncoding, RefusesRecord, WritesRecord, RefusesField, UsesRoomOf, WritesField}
 
 -- the room of two texts, of which the first was written
 pub room_of_both : {T : Type 0} (r : Result T EncodeError) (room mid left : ℕ) (a b : List ℕ) → room ≤ mid + length a → UsesRoom r mid b left → UsesRoomOf r room (a ++ b) left
@@ -27,96 +27,96 @@ no_room_for_both is same room left a b w = rw (is, same) (λ o. omega (arith, w 
 
 module _ {K W : Type 0} (key : Writing K) (val : Writing W) (n : ℕ) where
   -- a record's text: its head, and its entry
-  record_whole : (p : K × W) (len : ℕ) → len ≡ length (entry_text key val p) → (tag_text n LengthDelimited ++ varint_text len) ++ entry_text key val p ≡ record_text key val n p
-  record_whole p len e = ap (λ k. (tag_text n LengthDelimited ++ varint_text k) ++ entry_text key val p) e ∙ append_assoc (tag_text n LengthDelimited) (varint_text (length (entry_text key val p))) (entry_text key val p)
+  record_whole : (p : K × W) (len : ℕ) → len ≡ length (entry_encoding key val p) → (tag_encoding n LengthDelimited ++ varint_encoding len) ++ entry_encoding key val p ≡ record_encoding key val n p
+  record_whole p len e = ap (λ k. (tag_encoding n LengthDelimited ++ varint_encoding k) ++ entry_encoding key val p) e ∙ append_assoc (tag_encoding n LengthDelimited) (varint_encoding (length (entry_encoding key val p))) (entry_encoding key val p)
 
   -- a refusal of the head, as `?` hands it on
-  pub head_refused : {T : Type 0} {r : Result T EncodeError} {e d : EncodeError} → r ≡ Err e → e ≡ d → (old new : List ℕ) (p : K × W) (len : ℕ) → len ≡ length (entry_text key val p) → length (entry_text key val p) < 2 ^ 64 →
-      (d ≡ OutOfMemory) × WritesFront old (tag_text n LengthDelimited ++ varint_text len) new → WritesRecord key val n old new r p
+  pub head_refused : {T : Type 0} {r : Result T EncodeError} {e d : EncodeError} → r ≡ Err e → e ≡ d → (old new : List ℕ) (p : K × W) (len : ℕ) → len ≡ length (entry_encoding key val p) → length (entry_encoding key val p) < 2 ^ 64 →
+      (d ≡ OutOfMemory) × WritesFront old (tag_encoding n LengthDelimited ++ varint_encoding len) new → WritesRecord key val n old new r p
   head_refused is same old new p len l fits w =
-      rw (is, same, w.0) (fits, subst (λ z. WritesFront old z new) (record_whole p len l) (front_first old (tag_text n LengthDelimited ++ varint_text len) (entry_text key val p) new w.1))
+      rw (is, same, w.0) (fits, subst (λ z. WritesFront old z new) (record_whole p len l) (front_first old (tag_encoding n LengthDelimited ++ varint_encoding len) (entry_encoding key val p) new w.1))
 
   -- the room of a record, whose head was refused, or written
-  pub head_no_room : {T : Type 0} {r : Result T EncodeError} {e : EncodeError} → r ≡ Err e → (room left : ℕ) (p : K × W) (len : ℕ) → len ≡ length (entry_text key val p) →
-      room < length (tag_text n LengthDelimited ++ varint_text len) → UsesRoomOf r room (record_text key val n p) left
+  pub head_no_room : {T : Type 0} {r : Result T EncodeError} {e : EncodeError} → r ≡ Err e → (room left : ℕ) (p : K × W) (len : ℕ) → len ≡ length (entry_encoding key val p) →
+      room < length (tag_encoding n LengthDelimited ++ varint_encoding len) → UsesRoomOf r room (record_encoding key val n p) left
   head_no_room {r = r} is room left p len l w =
-      subst (λ z. UsesRoomOf r room z left) (record_whole p len l) (no_room_for_both is refl room left (tag_text n LengthDelimited ++ varint_text len) (entry_text key val p) (λ _. w))
+      subst (λ z. UsesRoomOf r room z left) (record_whole p len l) (no_room_for_both is refl room left (tag_encoding n LengthDelimited ++ varint_encoding len) (entry_encoding key val p) (λ _. w))
 
-  pub entry_room : {T : Type 0} (r : Result T EncodeError) (room mid left : ℕ) (p : K × W) (len : ℕ) → len ≡ length (entry_text key val p) →
-      room ≤ mid + length (tag_text n LengthDelimited ++ varint_text len) → UsesRoom r mid (entry_text key val p) left → UsesRoomOf r room (record_text key val n p) left
+  pub entry_room : {T : Type 0} (r : Result T EncodeError) (room mid left : ℕ) (p : K × W) (len : ℕ) → len ≡ length (entry_encoding key val p) →
+      room ≤ mid + length (tag_encoding n LengthDelimited ++ varint_encoding len) → UsesRoom r mid (entry_encoding key val p) left → UsesRoomOf r room (record_encoding key val n p) left
   entry_room r room mid left p len l e w =
-      subst (λ z. UsesRoomOf r room z left) (record_whole p len l) (room_of_both r room mid left (tag_text n LengthDelimited ++ varint_text len) (entry_text key val p) e w)
+      subst (λ z. UsesRoomOf r room z left) (record_whole p len l) (room_of_both r room mid left (tag_encoding n LengthDelimited ++ varint_encoding len) (entry_encoding key val p) e w)
 
   -- the entry behind the head
-  pub entry_written : {T : Type 0} (r : Result T EncodeError) (old mid new : List ℕ) (p : K × W) (len : ℕ) → len ≡ length (entry_text key val p) → length (entry_text key val p) < 2 ^ 64 →
-      mid ≡ old ++ (tag_text n LengthDelimited ++ varint_text len) → Writes r mid (entry_text key val p) new → WritesRecord key val n old new r p
+  pub entry_written : {T : Type 0} (r : Result T EncodeError) (old mid new : List ℕ) (p : K × W) (len : ℕ) → len ≡ length (entry_encoding key val p) → length (entry_encoding key val p) < 2 ^ 64 →
+      mid ≡ old ++ (tag_encoding n LengthDelimited ++ varint_encoding len) → Writes r mid (entry_encoding key val p) new → WritesRecord key val n old new r p
   entry_written r old mid new p len l fits m h = MatchResult-weaker r h
-      (λ x w. (fits, w ∙ ap (λ z. z ++ entry_text key val p) m ∙ append_assoc old (tag_text n LengthDelimited ++ varint_text len) (entry_text key val p) ∙ ap (λ z. old ++ z) (record_whole p len l)))
-      (λ e w. subst (RefusesRecord key val n old new p) (sym w.0) (fits, subst (λ z. WritesFront old z new) (record_whole p len l) (front_second old (tag_text n LengthDelimited ++ varint_text len) (entry_text key val p) mid new m w.1)))
+      (λ x w. (fits, w ∙ ap (λ z. z ++ entry_encoding key val p) m ∙ append_assoc old (tag_encoding n LengthDelimited ++ varint_encoding len) (entry_encoding key val p) ∙ ap (λ z. old ++ z) (record_whole p len l)))
+      (λ e w. subst (RefusesRecord key val n old new p) (sym w.0) (fits, subst (λ z. WritesFront old z new) (record_whole p len l) (front_second old (tag_encoding n LengthDelimited ++ varint_encoding len) (entry_encoding key val p) mid new m w.1)))
 
-  pub field_text-append : (ps rs : List (K × W)) → field_text key val n (ps ++ rs) ≡ field_text key val n ps ++ field_text key val n rs
-  field_text-append [] rs = refl
-  field_text-append (p ∷ ps) rs = ap (λ z. record_text key val n p ++ z) (field_text-append ps rs) ∙ sym (append_assoc (record_text key val n p) (field_text key val n ps) (field_text key val n rs))
+  pub field_encoding-append : (ps rs : List (K × W)) → field_encoding key val n (ps ++ rs) ≡ field_encoding key val n ps ++ field_encoding key val n rs
+  field_encoding-append [] rs = refl
+  field_encoding-append (p ∷ ps) rs = ap (λ z. record_encoding key val n p ++ z) (field_encoding-append ps rs) ∙ sym (append_assoc (record_encoding key val n p) (field_encoding key val n ps) (field_encoding key val n rs))
 
-  pub field_text-last : (ps : List (K × W)) (p : K × W) → field_text key val n (ps ++ p ∷ []) ≡ field_text key val n ps ++ record_text key val n p
-  field_text-last ps p = field_text-append ps (p ∷ []) ∙ ap (λ z. field_text key val n ps ++ z) (append-nil (record_text key val n p))
+  pub field_encoding-last : (ps : List (K × W)) (p : K × W) → field_encoding key val n (ps ++ p ∷ []) ≡ field_encoding key val n ps ++ record_encoding key val n p
+  field_encoding-last ps p = field_encoding-append ps (p ∷ []) ∙ ap (λ z. field_encoding key val n ps ++ z) (append-nil (record_encoding key val n p))
 
   -- the records of some pairs, and of one more, are no longer than those of all
-  pub field_text-parts : (all done : List (K × W)) (p : K × W) (rest : List (K × W)) → all ≡ done ++ p ∷ rest →
-      length (field_text key val n done) + length (record_text key val n p) ≤ length (field_text key val n all)
-  field_text-parts all done p rest is =
+  pub field_encoding-parts : (all done : List (K × W)) (p : K × W) (rest : List (K × W)) → all ≡ done ++ p ∷ rest →
+      length (field_encoding key val n done) + length (record_encoding key val n p) ≤ length (field_encoding key val n all)
+  field_encoding-parts all done p rest is =
       omega (
         arith,
-        ap (λ z. length (field_text key val n z)) is,
-        ap length (field_text-append done (p ∷ rest)),
-        length-append (field_text key val n done) (record_text key val n p ++ field_text key val n rest),
-        length-append (record_text key val n p) (field_text key val n rest),
+        ap (λ z. length (field_encoding key val n z)) is,
+        ap length (field_encoding-append done (p ∷ rest)),
+        length-append (field_encoding key val n done) (record_encoding key val n p ++ field_encoding key val n rest),
+        length-append (record_encoding key val n p) (field_encoding key val n rest),
       )
 
   -- the room that some records took, and one more
-  pub room_more : (room mid left : ℕ) (done : List (K × W)) (p : K × W) → room ≤ mid + length (field_text key val n done) → mid ≤ left + length (record_text key val n p) → room ≤ left + length (field_text key val n (done ++ p ∷ []))
-  room_more room mid left done p h k = omega (arith, h, k, ap length (field_text-last done p), length-append (field_text key val n done) (record_text key val n p))
+  pub room_more : (room mid left : ℕ) (done : List (K × W)) (p : K × W) → room ≤ mid + length (field_encoding key val n done) → mid ≤ left + length (record_encoding key val n p) → room ≤ left + length (field_encoding key val n (done ++ p ∷ []))
+  room_more room mid left done p h k = omega (arith, h, k, ap length (field_encoding-last done p), length-append (field_encoding key val n done) (record_encoding key val n p))
 
-  pub HasText-last : (ps : List (K × W)) (p : K × W) → HasText key val ps → length (entry_text key val p) < 2 ^ 64 → HasText key val (ps ++ p ∷ [])
-  HasText-last [] p h k = (k, tt)
-  HasText-last (q ∷ ps) p h k = (h.0, HasText-last ps p h.1 k)
+  pub HasEncoding-last : (ps : List (K × W)) (p : K × W) → HasEncoding key val ps → length (entry_encoding key val p) < 2 ^ 64 → HasEncoding key val (ps ++ p ∷ [])
+  HasEncoding-last [] p h k = (k, tt)
+  HasEncoding-last (q ∷ ps) p h k = (h.0, HasEncoding-last ps p h.1 k)
 
   pub AllHold-last : (P : K → Type 0) (Q : W → Type 0) (ps : List (K × W)) (p : K × W) → AllHold P Q ps → P p.0 → Q p.1 → AllHold P Q (ps ++ p ∷ [])
   AllHold-last P Q [] p h a b = (a, b, tt)
   AllHold-last P Q (q ∷ ps) p h a b = (h.0, h.1, AllHold-last P Q ps p h.2 a b)
 
-  refused : (old mid new : List ℕ) (all done : List (K × W)) (p : K × W) (rest : List (K × W)) → all ≡ done ++ p ∷ rest → HasText key val done → mid ≡ old ++ field_text key val n done →
+  refused : (old mid new : List ℕ) (all done : List (K × W)) (p : K × W) (rest : List (K × W)) → all ≡ done ++ p ∷ rest → HasEncoding key val done → mid ≡ old ++ field_encoding key val n done →
       (e : EncodeError) → RefusesRecord key val n mid new p e → RefusesField key val n old new all e
-  refused old mid new all done p rest is has m OutOfMemory w = (done, p, rest, is, has, w.0, subst (λ z. WritesFront z (record_text key val n p) new) m w.1)
+  refused old mid new all done p rest is has m OutOfMemory w = (done, p, rest, is, has, w.0, subst (λ z. WritesFront z (record_encoding key val n p) new) m w.1)
   refused old mid new all done p rest is has m MessageTooLarge w = (done, p, rest, is, has, w.0, w.1 ∙ m)
   refused old mid new all done p rest is has m (GroupRefused e) w = absurd w
 
   -- a refusal of a record after those of done, as `?` hands it on
   pub field_refused : {T : Type 0} {r : Result T EncodeError} {e d : EncodeError} → r ≡ Err e → e ≡ d → (old mid new : List ℕ) (all done : List (K × W)) (p : K × W) (rest : List (K × W)) →
-      all ≡ done ++ p ∷ rest → HasText key val done → mid ≡ old ++ field_text key val n done → RefusesRecord key val n mid new p d → WritesField key val n old new r all
+      all ≡ done ++ p ∷ rest → HasEncoding key val done → mid ≡ old ++ field_encoding key val n done → RefusesRecord key val n mid new p d → WritesField key val n old new r all
   field_refused {d = d} eq same old mid new all done p rest is has m w = rw (eq, same) (refused old mid new all done p rest is has m d w)
 
 -- ---- the pairs of a walk, one after another
 module _ {K W A B : Type 0} (mk : A → K) (mv : B → W) (key : Writing K) (val : Writing W) (n : ℕ) (P : K → Type 0) (Q : W → Type 0) (all : List (K × W)) (old : List ℕ) (room : ℕ) where
   -- of all pairs the records of some are written, and the others are left
   abbrev pub IsSent : List (A × B) → List ℕ → ℕ → Type 0
-  IsSent left now spare = (done : List (K × W)) × (all ≡ done ++ means mk mv left) × HasText key val done × AllHold P Q done
-      × (now ≡ old ++ field_text key val n done) × (room ≤ spare + length (field_text key val n done))
+  IsSent left now spare = (done : List (K × W)) × (all ≡ done ++ means mk mv left) × HasEncoding key val done × AllHold P Q done
+      × (now ≡ old ++ field_encoding key val n done) × (room ≤ spare + length (field_encoding key val n done))
 
   pub sent_none : (l : List (A × B)) → all ≡ means mk mv l → IsSent l old room
   sent_none l e = ([], e, tt, tt, sym (append-nil old), omega arith)
 
   pub sent_more : (l rest : List (A × B)) (a : A) (b : B) → l ≡ (a, b) ∷ rest → (mid new : List ℕ) (spare less : ℕ) → IsSent l mid spare →
-      length (entry_text key val (mk a, mv b)) < 2 ^ 64 → new ≡ mid ++ record_text key val n (mk a, mv b) → spare ≤ less + length (record_text key val n (mk a, mv b)) →
+      length (entry_encoding key val (mk a, mv b)) < 2 ^ 64 → new ≡ mid ++ record_encoding key val n (mk a, mv b) → spare ≤ less + length (record_encoding key val n (mk a, mv b)) →
       P (mk a) → Q (mv b) → IsSent rest new less
   sent_more l rest a b e mid new spare less s fits w k p q =
       let m : K × W = (mk a, mv b) in (
         s.0 ++ m ∷ [],
         s.1 ∙ ap (λ (z : List (A × B)). s.0 ++ means mk mv z) e ∙ sym (append_assoc s.0 (m ∷ []) (means mk mv rest)),
-        HasText-last key val n s.0 m s.2 fits,
+        HasEncoding-last key val n s.0 m s.2 fits,
         AllHold-last key val n P Q s.0 m s.3 p q,
-        w ∙ ap (λ z. z ++ record_text key val n m) s.4 ∙ append_assoc old (field_text key val n s.0) (record_text key val n m) ∙ ap (λ z. old ++ z) (sym (field_text-last key val n s.0 m)),
-        omega (arith, k, s.5, ap length (field_text-last key val n s.0 m), length-append (field_text key val n s.0) (record_text key val n m)),
+        w ∙ ap (λ z. z ++ record_encoding key val n m) s.4 ∙ append_assoc old (field_encoding key val n s.0) (record_encoding key val n m) ∙ ap (λ z. old ++ z) (sym (field_encoding-last key val n s.0 m)),
+        omega (arith, k, s.5, ap length (field_encoding-last key val n s.0 m), length-append (field_encoding key val n s.0) (record_encoding key val n m)),
       )
 
   -- a refusal of the next record, as `?` hands it on
@@ -126,12 +126,12 @@ module _ {K W A B : Type 0} (mk : A → K) (mv : B → W) (key : Writing K) (val
       field_refused key val n is same old mid new all s.0 (mk a, mv b) (means mk mv rest) (s.1 ∙ ap (λ (z : List (A × B)). s.0 ++ means mk mv z) e) s.2 s.4 w
 
   pub sent_no_room : {T : Type 0} {r : Result T EncodeError} {e d : EncodeError} → r ≡ Err e → e ≡ d → (l rest : List (A × B)) (a : A) (b : B) → l ≡ (a, b) ∷ rest → (mid : List ℕ) (spare left : ℕ) → IsSent l mid spare →
-      (d ≡ OutOfMemory → spare < length (record_text key val n (mk a, mv b))) → UsesRoomOf r room (field_text key val n all) left
+      (d ≡ OutOfMemory → spare < length (record_encoding key val n (mk a, mv b))) → UsesRoomOf r room (field_encoding key val n all) left
   sent_no_room is same l rest a b e mid spare left s w =
-      rw (is, same) (λ o. omega (arith, w o, s.5, field_text-parts key val n all s.0 (mk a, mv b) (means mk mv rest) (s.1 ∙ ap (λ (z : List (A × B)). s.0 ++ means mk mv z) e)))
+      rw (is, same) (λ o. omega (arith, w o, s.5, field_encoding-parts key val n all s.0 (mk a, mv b) (means mk mv rest) (s.1 ∙ ap (λ (z : List (A × B)). s.0 ++ means mk mv z) e)))
 
   pub sent_all : (l : List (A × B)) → l ≡ [] → (now : List ℕ) (spare : ℕ) → IsSent l now spare →
-      (HasText key val all × (now ≡ old ++ field_text key val n all)) × AllHold P Q all × (room ≤ spare + length (field_text key val n all))
+      (HasEncoding key val all × (now ≡ old ++ field_encoding key val n all)) × AllHold P Q all × (room ≤ spare + length (field_encoding key val n all))
   sent_all l e now spare s =
       let whole : all ≡ s.0 = s.1 ∙ ap (λ (z : List (A × B)). s.0 ++ means mk mv z) e ∙ append-nil s.0 in
       rw whole ((s.2, s.4), s.3, s.5)
@@ -148,7 +148,7 @@ module _ {K W : Type 0} (key : Writing K) (val : Writing W) (n : ℕ) (kept : Li
   rewrite_refused {d = d} is same old new l w = rw (is, same) (rewrite_stops old new l d w)
 
   -- the records behind the map
-  pub rewrite_written : {T : Type 0} (r : Result T EncodeError) (old mid new : List ℕ) (l : List (K × W)) → HasText key val l → mid ≡ old ++ field_text key val n l → Writes r mid (records.records_text kept) new → WritesRewrite key val n kept old new r l
+  pub rewrite_written : {T : Type 0} (r : Result T EncodeError) (old mid new : List ℕ) (l : List (K × W)) → HasEncoding key val l → mid ≡ old ++ field_encoding key val n l → Writes r mid (records.records_encoding kept) new → WritesRewrite key val n kept old new r l
   rewrite_written r old mid new l has m h = MatchResult-weaker r h
-      (λ x w. (has, w ∙ ap (λ z. z ++ records.records_text kept) m ∙ append_assoc old (field_text key val n l) (records.records_text kept)))
-      (λ e w. subst (RefusesRewrite key val n kept old new l) (sym w.0) (inr (has, subst (λ z. WritesFront z (records.records_text kept) new) m w.1)))
+      (λ x w. (has, w ∙ ap (λ z. z ++ records.records_encoding kept) m ∙ append_assoc old (field_encoding key val n l) (records.records_encoding kept)))
+      (λ e w. subst (RefusesRewrite key val n kept old new l) (sym w.0) (inr (has, subst (λ z. WritesFront z (records.records_encoding kept) new) m w.1)))

@@ -3,10 +3,10 @@
 ghost use Rattle.std.specs.Prelude.{◌≡◌, ◌≢◌, ◌+◌, [], length, OnErr};
 ghost use Rattle.std.specs.List.{Contains};
 ghost use Rattle.std.specs.Map.{values_of};
-ghost use Rattle.buffa_wire.specs.Varint.{varint_text};
+ghost use Rattle.buffa_wire.specs.Varint.{varint_encoding};
 ghost use Rattle.buffa_map_base.specs.Calls.{SizesMessages};
 ghost use Rattle.buffa_map_base.specs.MessageField.{IsFieldSized, entry_size};
-ghost use Rattle.buffa_map_base.specs.Text.{saturated};
+ghost use Rattle.buffa_map_base.specs.Encoding.{saturated};
 
 use buffa_map_base::codec::MapCodec;
 use buffa_map_base::storage::{MapStorage, StableWalk};
@@ -25,7 +25,7 @@ pub(crate) fn message_entry_len<KC: MapCodec>(key: &KC::Value, inner: u32) -> u6
 // The length of its record, or 2^64 - 1.
 fn message_record_len<KC: MapCodec>(outer_tag_len: u64, key: &KC::Value, inner: u32) -> u64
     ensures { let n = entry_size KC.writing (KC.Value.meaning key.now) inner in
-        result ≡ saturated (outer_tag_len + (length (varint_text (saturated n)) + n)) }
+        result ≡ saturated (outer_tag_len + (length (varint_encoding (saturated n)) + n)) }
 {
     let len = message_entry_len::<KC>(key, inner);
     outer_tag_len

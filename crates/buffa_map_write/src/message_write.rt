@@ -8,7 +8,7 @@ ghost use Rattle.buffa_wire.specs.Passes.{IsNext, cap};
 ghost use Rattle.buffa_wire.specs.Written.{UsesRoom, Writes};
 ghost use Rattle.buffa_map_base.specs.Calls.{KeepsRecordRoom, WritesMessages};
 ghost use Rattle.buffa_map_base.specs.MessageField.{IsFieldWritten, IsRecordWritten, KeepsRoom, UsesFieldRoom};
-ghost use Rattle.buffa_map_base.specs.MessageField.{field_slots, head_text, key_and_length};
+ghost use Rattle.buffa_map_base.specs.MessageField.{field_slots, head_encoding, key_and_length};
 
 use crate::message_size::message_entry_len;
 use crate::write::{write_head, write_part};
@@ -41,9 +41,9 @@ fn write_message_head<KC: MapCodec, S: EncodeSink>(
     sink: &mut S,
 ) -> Result<(), EncodeError>
     requires { IsNumber number }
-    ensures writes { Writes result (S.written sink.old) (head_text KC.writing number (KC.Value.meaning key.now) inner)
+    ensures writes { Writes result (S.written sink.old) (head_encoding KC.writing number (KC.Value.meaning key.now) inner)
         (S.written sink.new) }
-    ensures room { UsesRoom result (S.room sink.old) (head_text KC.writing number (KC.Value.meaning key.now) inner)
+    ensures room { UsesRoom result (S.room sink.old) (head_encoding KC.writing number (KC.Value.meaning key.now) inner)
         (S.room sink.new) }
 {
     write_head(number, message_entry_len::<KC>(key, inner), sink)?;

@@ -1,9 +1,9 @@
 //! The size of a map field.
 
 ghost use Rattle.std.specs.Prelude.{◌≡◌, ◌+◌, ◌∷◌, List, [], IfSome, length};
-ghost use Rattle.buffa_wire.specs.Varint.{varint_text};
+ghost use Rattle.buffa_wire.specs.Varint.{varint_encoding};
 ghost use Rattle.buffa_map_base.specs.Pairs.{ListsOnce};
-ghost use Rattle.buffa_map_base.specs.Text.{as_u64, entry_text, field_size, saturated};
+ghost use Rattle.buffa_map_base.specs.Encoding.{as_u64, entry_encoding, field_size, saturated};
 
 use buffa_map_base::codec::MapCodec;
 use buffa_map_base::storage::{MapStorage, MapWalk};
@@ -14,7 +14,7 @@ pub(crate) fn entry_len<KC: MapCodec, VC: MapCodec>(
     key: &KC::Value,
     value: &VC::Value,
 ) -> Option<u64>
-    ensures len { result ≡ as_u64 (length (entry_text KC.writing VC.writing
+    ensures len { result ≡ as_u64 (length (entry_encoding KC.writing VC.writing
         (KC.Value.meaning key.now, VC.Value.meaning value.now))) }
     ensures fits { KC.fits (KC.Value.meaning key.now) × VC.fits (VC.Value.meaning value.now) }
 {
@@ -25,7 +25,7 @@ pub(crate) fn entry_len<KC: MapCodec, VC: MapCodec>(
 // The length of a record whose payloads have so many bytes, if it fits 64 bits.
 fn framed_len(outer_tag_len: u64, key_len: u64, value_len: u64) -> Option<u64>
     ensures { let n = 2 + (key_len + value_len) in
-        result ≡ as_u64 (outer_tag_len + (length (varint_text n) + n)) }
+        result ≡ as_u64 (outer_tag_len + (length (varint_encoding n) + n)) }
 {
     let entry_len = key_len.checked_add(value_len)?.checked_add(2)?;
     let head = outer_tag_len.checked_add(prefix_len(entry_len) as u64)?;
@@ -36,7 +36,7 @@ fn framed_len(outer_tag_len: u64, key_len: u64, value_len: u64) -> Option<u64>
 #[inline(never)]
 fn large_record_len(outer_tag_len: u64, key_len: u64, value_len: u64) -> u64
     ensures { let n = 2 + (key_len + value_len) in
-        result ≡ saturated (outer_tag_len + (length (varint_text n) + n)) }
+        result ≡ saturated (outer_tag_len + (length (varint_encoding n) + n)) }
 {
     match framed_len(outer_tag_len, key_len, value_len) {
         Some(len) => len,
@@ -53,9 +53,9 @@ fn record_len<KC: MapCodec, VC: MapCodec>(
     key: &KC::Value,
     value: &VC::Value,
 ) -> u64
-    ensures { let n = length (entry_text KC.writing VC.writing
+    ensures { let n = length (entry_encoding KC.writing VC.writing
         (KC.Value.meaning key.now, VC.Value.meaning value.now)) in
-        result ≡ saturated (outer_tag_len + (length (varint_text n) + n)) }
+        result ≡ saturated (outer_tag_len + (length (varint_encoding n) + n)) }
 {
     let (key_len, value_len) = (KC::encoded_len(key), VC::encoded_len(value));
     if outer_tag_len >= SMALL || key_len >= SMALL || value_len >= SMALL {

@@ -5,11 +5,11 @@
 
 ghost use Rattle.std.specs.Prelude.{◌≡◌, ◌++◌};
 ghost use Rattle.buffa_wire.specs.Number.{IsNumber};
-ghost use Rattle.buffa_wire.specs.Values.{delimited_text, tag_text};
-ghost use Rattle.buffa_wire.specs.Varint.{varint_text};
+ghost use Rattle.buffa_wire.specs.Values.{delimited_encoding, tag_encoding};
+ghost use Rattle.buffa_wire.specs.Varint.{varint_encoding};
 ghost use Rattle.buffa_wire.specs.Written.{UsesRoom, Writes};
 ghost use Rattle.buffa_map_base.specs.Calls.{WritesMapField};
-ghost use Rattle.buffa_map_base.specs.Text.{UsesRoomOf, WritesRecord, entry_text, record_text};
+ghost use Rattle.buffa_map_base.specs.Encoding.{UsesRoomOf, WritesRecord, entry_encoding, record_encoding};
 
 use crate::size::entry_len;
 use buffa_map_base::codec::MapCodec;
@@ -26,9 +26,9 @@ pub(crate) fn write_part<VC: MapCodec, S: EncodeSink>(
 ) -> Result<(), EncodeError>
     requires { IsNumber number }
     ensures writes { Writes result (S.written sink.old)
-        (tag_text number VC.writing.wire ++ VC.writing.text (VC.Value.meaning value.now)) (S.written sink.new) }
+        (tag_encoding number VC.writing.wire ++ VC.writing.text (VC.Value.meaning value.now)) (S.written sink.new) }
     ensures room { UsesRoom result (S.room sink.old)
-        (tag_text number VC.writing.wire ++ VC.writing.text (VC.Value.meaning value.now)) (S.room sink.new) }
+        (tag_encoding number VC.writing.wire ++ VC.writing.text (VC.Value.meaning value.now)) (S.room sink.new) }
 {
     Tag::new(number, VC::WIRE_TYPE).encode(sink)?;
     VC::encode(value, sink)
@@ -43,10 +43,10 @@ fn write_entry<KC: MapCodec, VC: MapCodec, S: EncodeSink>(
     sink: &mut S,
 ) -> Result<(), EncodeError>
     ensures writes { Writes result (S.written sink.old)
-        (entry_text KC.writing VC.writing (KC.Value.meaning key.now, VC.Value.meaning value.now))
+        (entry_encoding KC.writing VC.writing (KC.Value.meaning key.now, VC.Value.meaning value.now))
         (S.written sink.new) }
     ensures room { UsesRoom result (S.room sink.old)
-        (entry_text KC.writing VC.writing (KC.Value.meaning key.now, VC.Value.meaning value.now))
+        (entry_encoding KC.writing VC.writing (KC.Value.meaning key.now, VC.Value.meaning value.now))
         (S.room sink.new) }
 {
     write_part::<KC, S>(1, key, sink)?;
@@ -62,9 +62,9 @@ pub(crate) fn write_head<S: EncodeSink>(
     sink: &mut S,
 ) -> Result<(), EncodeError>
     requires { IsNumber number }
-    ensures writes { Writes result (S.written sink.old) (tag_text number WireType.LengthDelimited ++ varint_text len)
+    ensures writes { Writes result (S.written sink.old) (tag_encoding number WireType.LengthDelimited ++ varint_encoding len)
         (S.written sink.new) }
-    ensures room { UsesRoom result (S.room sink.old) (tag_text number WireType.LengthDelimited ++ varint_text len)
+    ensures room { UsesRoom result (S.room sink.old) (tag_encoding number WireType.LengthDelimited ++ varint_encoding len)
         (S.room sink.new) }
 {
     Tag::new(number, WireType::LengthDelimited).encode(sink)?;
@@ -82,7 +82,7 @@ pub(crate) fn write_record<KC: MapCodec, VC: MapCodec, S: EncodeSink>(
     requires { IsNumber number }
     ensures written { WritesRecord KC.writing VC.writing number (S.written sink.old) (S.written sink.new) result
         (KC.Value.meaning key.now, VC.Value.meaning value.now) }
-    ensures room { UsesRoomOf result (S.room sink.old) (record_text KC.writing VC.writing number
+    ensures room { UsesRoomOf result (S.room sink.old) (record_encoding KC.writing VC.writing number
         (KC.Value.meaning key.now, VC.Value.meaning value.now)) (S.room sink.new) }
     ensures fits { KC.fits (KC.Value.meaning key.now) × VC.fits (VC.Value.meaning value.now) }
 {

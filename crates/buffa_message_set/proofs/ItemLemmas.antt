@@ -3,8 +3,8 @@ use Rattle.std.proofs.Common.{◌≡◌, ◌≢◌, ◌⊎◌, inl, inr, ℕ, ze
 use Rattle.std.proofs.lemmas.Bool.{eqb-true, eq-eqb, lt-ltb, le-ltb, ltb-true, ltb-false}
 use Rattle.std.proofs.lemmas.List.{append_cancel_right}
 use Rattle.buffa_wire.specs.Field.{IsTag, LengthFault, Payload, TakesDelimited, TakesTag}
-use Rattle.buffa_wire.specs.Values.{tag_text}
-use Rattle.buffa_wire.specs.Varint.{IsVarint, varint_text}
+use Rattle.buffa_wire.specs.Values.{tag_encoding}
+use Rattle.buffa_wire.specs.Varint.{IsVarint, varint_encoding}
 use Rattle.buffa_wire.specs.Reading.{delimited_at, skip_at, tag_at, taken, varint_at}
 use Rattle.buffa_wire.specs.WireType.{same_wire}
 use Rattle.buffa_bytes.specs.declared.wire_type.WireType.{WireType}
@@ -16,13 +16,13 @@ use Rattle.buffa_bytes.proofs.StepLemmas.{Agrees, agree_bind, agree_err, agree_i
 use Rattle.buffa_bytes.proofs.DelimitedLemmas.{delimited_complete, delimited_faulty, delimited_sound, taken_sound}
 use Rattle.buffa_bytes.proofs.FieldLemmas.{payload_complete, payload_faulty, payload_sound, tag_complete, tag_faulty, tag_some, tag_sound}
 use Rattle.buffa_bytes.proofs.FullLemmas.{delimited_full, payload_fault_full, payload_full, tag_fault_full}
-use Rattle.buffa_bytes.proofs.VarintLemmas.{IsVarint-varint_text, varint_complete, varint_faulty, varint_sound}
+use Rattle.buffa_bytes.proofs.VarintLemmas.{IsVarint-varint_encoding, varint_complete, varint_faulty, varint_sound}
 use Rattle.buffa_wire.specs.Gives.{FullOnlyIf, Gives}
 use Rattle.buffa_wire.specs.Unread.{IsFrontOf}
 use Rattle.buffa_wire.specs.Sequence.{ParsesEach, ParsesTo, join}
 use Rattle.buffa_wire.proofs.InsideLemmas.{delimited_front}
 use Rattle.buffa_wire.proofs.SequenceLemmas.{ParsesTo-first, ParsesTo-more, ok_same}
-use Rattle.buffa_message_set.specs.Item.{BytesAt, EndFault, FieldFault, HasMessage, IsField, IsMessageAt, IsOther, IsOutOfRange, IsTypeId, Item, ItemFault, Reaches, Said, TakesItem, TypeIdFault, appended_at, body_text, ended, ends, field_at, item_at, item_within, said, says, type_id_at, unsaid}
+use Rattle.buffa_message_set.specs.Item.{BytesAt, EndFault, FieldFault, HasMessage, IsField, IsMessageAt, IsOther, IsOutOfRange, IsTypeId, Item, ItemFault, Reaches, Said, TakesItem, TypeIdFault, appended_at, body_encoding, ended, ends, field_at, item_at, item_within, said, says, type_id_at, unsaid}
 
 -- ---- numbers and wire types that are looked for
 same_true : (v w : WireType) → same_wire v w ≡ true → v ≡ w
@@ -413,25 +413,25 @@ module _ (d : ℕ) where
   given_in_range (Ok x) id msg o m bs rest e h = read_in_range bs (id x) (msg x) rest (e ∙ h)
   given_in_range (Err f) id msg o m bs rest e h = tt
 
-  pub written_item : (id : ℕ) (msg : List ℕ) → IsTypeId id → length msg < 2 ^ 64 → Item d (body_text id msg) id msg
+  pub written_item : (id : ℕ) (msg : List ℕ) → IsTypeId id → length msg < 2 ^ 64 → Item d (body_encoding id msg) id msg
   written_item id msg range short =
-      let two = tag_text 2 Varint in
-      let three = tag_text 3 LengthDelimited in
-      let len = varint_text (length msg) in
-      let end = tag_text 1 EndGroup in
-      let first = two ++ varint_text id in
+      let two = tag_encoding 2 Varint in
+      let three = tag_encoding 3 LengthDelimited in
+      let len = varint_encoding (length msg) in
+      let end = tag_encoding 1 EndGroup in
+      let first = two ++ varint_encoding id in
       let second = three ++ (len ++ msg) in
-      let is_two : IsTag two 2 Varint = ((omega arith, omega arith), IsVarint-varint_text 16 (omega arith)) in
-      let is_three : IsTag three 3 LengthDelimited = ((omega arith, omega arith), IsVarint-varint_text 26 (omega arith)) in
-      let is_end : IsTag end 1 EndGroup = ((omega arith, omega arith), IsVarint-varint_text 12 (omega arith)) in
-      let is_id : IsVarint (varint_text id) id = IsVarint-varint_text id (omega (arith, range.1)) in
-      let is_len : IsVarint len (length msg) = IsVarint-varint_text (length msg) short in
-      let split : body_text id msg ≡ join (first ∷ second ∷ []) ++ end = simp (append_assoc, append-nil) in (
+      let is_two : IsTag two 2 Varint = ((omega arith, omega arith), IsVarint-varint_encoding 16 (omega arith)) in
+      let is_three : IsTag three 3 LengthDelimited = ((omega arith, omega arith), IsVarint-varint_encoding 26 (omega arith)) in
+      let is_end : IsTag end 1 EndGroup = ((omega arith, omega arith), IsVarint-varint_encoding 12 (omega arith)) in
+      let is_id : IsVarint (varint_encoding id) id = IsVarint-varint_encoding id (omega (arith, range.1)) in
+      let is_len : IsVarint len (length msg) = IsVarint-varint_encoding (length msg) short in
+      let split : body_encoding id msg ≡ join (first ∷ second ∷ []) ++ end = simp (append_assoc, append-nil) in (
         end,
         is_end,
         (
           first ∷ second ∷ [],
           split,
-          (says id [], inl (two, varint_text id, id, is_two, is_id, range, refl, refl), (says id msg, inr (inl (three, len, msg, is_three, is_len, refl, refl)), refl)),
+          (says id [], inl (two, varint_encoding id, id, is_two, is_id, range, refl, refl), (says id msg, inr (inl (three, len, msg, is_three, is_len, refl, refl)), refl)),
         ),
       )

@@ -7,9 +7,9 @@ use Rattle.buffa_bytes.specs.declared.error.DecodeError.TheVariants.{UnknownFiel
 use Rattle.buffa_bytes.specs.declared.wire_type.WireType.TheVariants.{StartGroup}
 use Rattle.buffa_bytes.proofs.StepLemmas.{agree_err, agree_ok}
 use Rattle.buffa_wire.specs.BudgetLeft.{BudgetLeft}
-use Rattle.buffa_wire.specs.Values.{tag_text}
+use Rattle.buffa_wire.specs.Values.{tag_encoding}
 use Rattle.buffa_wire.proofs.SequenceLemmas.{ok_same}
-use Rattle.buffa_message_set.specs.Item.{IsTypeId, ItemFault, SpendsSlot, TakesItem, body_text, item_at, item_in, item_text}
+use Rattle.buffa_message_set.specs.Item.{IsTypeId, ItemFault, SpendsUnknown, TakesItem, body_encoding, item_at, item_in, item_encoding}
 use Rattle.buffa_message_set.specs.Pinned.{GivesItem, ItemIsPinned, WrittenItemIsPinned}
 use Rattle.buffa_message_set.proofs.ItemLemmas.{one_item, read_sound, written_item}
 
@@ -32,7 +32,7 @@ told d slots bs f false e h some = agree_err (item_at d bs) f (read_sound d bs) 
 same_left : (a b : BudgetLeft) → a.unknown ≡ b.unknown → a.memory ≡ b.memory → a ≡ b
 same_left a b u m i = record { unknown = u i; memory = m i }
 
-spent : (old a b : BudgetLeft) → SpendsSlot old a → SpendsSlot old b → a ≡ b
+spent : (old a b : BudgetLeft) → SpendsUnknown old a → SpendsUnknown old b → a ≡ b
 spent old a b (inl h) (inl k) = h.1 ∙ sym k.1
 spent old a b (inl h) (inr k) = absurd (omega (arith, h.0, k.0))
 spent old a b (inr h) (inl k) = absurd (omega (arith, h.0, k.0))
@@ -51,10 +51,10 @@ item_is_pinned = record {
 }
 
 no_other : (id other : ℕ) (msg bytes : List ℕ) → IsTypeId id → IsTypeId other → length msg < 2 ^ 64 → length bytes < 2 ^ 64 →
-    item_text id msg ≡ item_text other bytes → (id ≡ other) × (msg ≡ bytes)
+    item_encoding id msg ≡ item_encoding other bytes → (id ≡ other) × (msg ≡ bytes)
 no_other id other msg bytes h k short brief e =
-    let same : body_text id msg ≡ body_text other bytes = append_cancel_left (tag_text 1 StartGroup) (body_text id msg) (body_text other bytes) e in
-    let one = one_item 0 (body_text id msg) (body_text other bytes) [] [] msg bytes id other (written_item 0 id msg h short) (written_item 0 other bytes k brief) (ap (λ z. z ++ []) same) in
+    let same : body_encoding id msg ≡ body_encoding other bytes = append_cancel_left (tag_encoding 1 StartGroup) (body_encoding id msg) (body_encoding other bytes) e in
+    let one = one_item 0 (body_encoding id msg) (body_encoding other bytes) [] [] msg bytes id other (written_item 0 id msg h short) (written_item 0 other bytes k brief) (ap (λ z. z ++ []) same) in
     (one.1, one.2)
 
 pub written_item_is_pinned : WrittenItemIsPinned

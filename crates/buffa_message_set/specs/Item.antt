@@ -2,8 +2,8 @@
 -- Source: the documentation of buffa, "MessageSet wire format helpers"; the protobuf encoding guide, "Groups".
 use Rattle.std.specs.Prelude.{◌≡◌, ◌≢◌, ℕ, zero, suc, ◌+◌, ◌^◌, ◌<◌, ◌≤◌, ◌==◌, ◌&&◌, nat_lt, ◌⊎◌, Bool, List, [], ◌++◌, length, Option, None, Some, Result, Ok, Err, if◌then◌else◌}
 use Rattle.buffa_wire.specs.Gives.{◌>>=◌}
-use Rattle.buffa_wire.specs.Varint.{IsVarint, TakesVarint, VarintFault, varint_text}
-use Rattle.buffa_wire.specs.Values.{delimited_text, tag_text}
+use Rattle.buffa_wire.specs.Varint.{IsVarint, TakesVarint, VarintFault, varint_encoding}
+use Rattle.buffa_wire.specs.Values.{delimited_encoding, tag_encoding}
 use Rattle.buffa_wire.specs.Field.{Field, Group, IsTag, LengthFault, PayloadFault, TagFault, TakesDelimited, TakesTag}
 use Rattle.buffa_wire.specs.Reading.{delimited_at, skip_at, tag_at, varint_at}
 use Rattle.buffa_wire.specs.WireType.{same_wire}
@@ -174,22 +174,22 @@ abbrev pub item_in : ℕ → ℕ → List ℕ → Result (ℕ × List ℕ × Lis
 item_in d slots bs = if slots == 0 then Err UnknownFieldLimitExceeded else item_at d bs
 
 -- a slot is spent, and nothing else; or none was left, and nothing is spent
-abbrev pub SpendsSlot : BudgetLeft → BudgetLeft → Type 0
-SpendsSlot old new = ((old.unknown ≡ 0) × (new ≡ old)) ⊎ ((new.unknown + 1 ≡ old.unknown) × (new.memory ≡ old.memory))
+abbrev pub SpendsUnknown : BudgetLeft → BudgetLeft → Type 0
+SpendsUnknown old new = ((old.unknown ≡ 0) × (new ≡ old)) ⊎ ((new.unknown + 1 ≡ old.unknown) × (new.memory ≡ old.memory))
 
 -- ---- the text
 
 -- the type id, the message, the end tag; and the same with the start tag first
-abbrev pub body_text : ℕ → List ℕ → List ℕ
-body_text id msg =
-    tag_text 2 Varint ++ (varint_text id ++ (tag_text 3 LengthDelimited ++ (delimited_text msg ++ tag_text 1 EndGroup)))
+abbrev pub body_encoding : ℕ → List ℕ → List ℕ
+body_encoding id msg =
+    tag_encoding 2 Varint ++ (varint_encoding id ++ (tag_encoding 3 LengthDelimited ++ (delimited_encoding msg ++ tag_encoding 1 EndGroup)))
 
-abbrev pub item_text : ℕ → List ℕ → List ℕ
-item_text id msg = tag_text 1 StartGroup ++ body_text id msg
+abbrev pub item_encoding : ℕ → List ℕ → List ℕ
+item_encoding id msg = tag_encoding 1 StartGroup ++ body_encoding id msg
 
 -- the length of the text, where the message has so many bytes
 abbrev pub item_size : ℕ → ℕ → ℕ
-item_size id len = 4 + length (varint_text id) + length (varint_text len) + len
+item_size id len = 4 + length (varint_encoding id) + length (varint_encoding len) + len
 
 -- ---- laws
 
@@ -201,14 +201,14 @@ OneItem =
 
 -- the text of an Item, without its start tag, is that Item
 abbrev pub WrittenIsItem : Type 0
-WrittenIsItem = (d id : ℕ) (msg : List ℕ) → IsTypeId id → length msg < 2 ^ 64 → Item d (body_text id msg) id msg
+WrittenIsItem = (d id : ℕ) (msg : List ℕ) → IsTypeId id → length msg < 2 ^ 64 → Item d (body_encoding id msg) id msg
 
 -- and whatever follows it, no other front of the bytes is an Item
 abbrev pub NoOtherFront : Type 0
 NoOtherFront =
     (d id : ℕ) (msg rest : List ℕ) → IsTypeId id → length msg < 2 ^ 64 → (front after other : List ℕ) (n : ℕ) →
-    Item d front n other → body_text id msg ++ rest ≡ front ++ after →
-    (front ≡ body_text id msg) × (n ≡ id) × (other ≡ msg)
+    Item d front n other → body_encoding id msg ++ rest ≡ front ++ after →
+    (front ≡ body_encoding id msg) × (n ≡ id) × (other ≡ msg)
 
 -- an Item is what follows the start tag of a group of number 1, one level deeper
 abbrev pub ItemsAreGroups : Type 0

@@ -7,7 +7,7 @@ use Rattle.buffa_bytes.specs.declared.error.EncodeError.TheVariants.{OutOfMemory
 use Rattle.buffa_wire.specs.BudgetLeft.{BudgetLeft}
 use Rattle.buffa_wire.specs.Gives.{GivesUnlessFull}
 use Rattle.buffa_wire.specs.Written.{UsesRoom, Writes}
-use Rattle.buffa_message_set.specs.Item.{IsTypeId, ItemFault, SpendsSlot, TakesItem, item_in, item_text}
+use Rattle.buffa_message_set.specs.Item.{IsTypeId, ItemFault, SpendsUnknown, TakesItem, item_in, item_encoding}
 
 -- what reading an Item may answer, where so many slots are left, and what it leaves unread
 abbrev pub GivesItem : ℕ → ℕ → List ℕ → Result (ℕ × List ℕ) DecodeError → List ℕ → Type 0
@@ -21,17 +21,17 @@ pub record ItemIsPinned : Type 0 where
   pub refused : (d slots : ℕ) (bs x y : List ℕ) (a : ℕ × List ℕ) (f : DecodeError) → GivesItem d slots bs (Ok a) x → GivesItem d slots bs (Err f) y → f ≢ OutOfMemory → ⊥
   pub fault : (d slots : ℕ) (bs x y : List ℕ) (f g : DecodeError) → GivesItem d slots bs (Err f) x → GivesItem d slots bs (Err g) y → f ≢ OutOfMemory → g ≢ OutOfMemory → f ≡ g
   pub is_a_fault : (d slots : ℕ) (bs x : List ℕ) (f : DecodeError) → GivesItem d slots bs (Err f) x → f ≢ OutOfMemory → 0 < slots → ItemFault d bs f
-  pub spent : (old a b : BudgetLeft) → SpendsSlot old a → SpendsSlot old b → a ≡ b
+  pub spent : (old a b : BudgetLeft) → SpendsUnknown old a → SpendsUnknown old b → a ≡ b
 
 -- what writing an Item may leave in a sink
 abbrev pub WritesItem : ℕ → List ℕ → Result (Unit {0}) EncodeError → List ℕ → List ℕ → Type 0
-WritesItem id msg r old new = Writes r old (item_text id msg) new
+WritesItem id msg r old new = Writes r old (item_encoding id msg) new
 
 -- An Item is written in one way only, and no other one has its text; it is refused for want of memory alone, and never
 -- where there is room.
 pub record WrittenItemIsPinned : Type 0 where
   pub written : (id : ℕ) (msg old a b : List ℕ) → WritesItem id msg (Ok tt) old a → WritesItem id msg (Ok tt) old b → a ≡ b
   pub refused : (id : ℕ) (msg old a : List ℕ) (f : EncodeError) → WritesItem id msg (Err f) old a → f ≡ NoMemory
-  pub fits : (id room left : ℕ) (msg : List ℕ) (f : EncodeError) → UsesRoom {T = Unit {0}} (Err f) room (item_text id msg) left → length (item_text id msg) ≤ room → ⊥
+  pub fits : (id room left : ℕ) (msg : List ℕ) (f : EncodeError) → UsesRoom {T = Unit {0}} (Err f) room (item_encoding id msg) left → length (item_encoding id msg) ≤ room → ⊥
   pub no_other : (id other : ℕ) (msg bytes : List ℕ) → IsTypeId id → IsTypeId other → length msg < 2 ^ 64 → length bytes < 2 ^ 64 →
-      item_text id msg ≡ item_text other bytes → (id ≡ other) × (msg ≡ bytes)
+      item_encoding id msg ≡ item_encoding other bytes → (id ≡ other) × (msg ≡ bytes)

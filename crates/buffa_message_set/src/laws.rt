@@ -6,10 +6,10 @@ ghost use Rattle.buffa_bytes.specs.declared.error.DecodeError.TheVariants.{OutOf
 ghost use Rattle.buffa_bytes.specs.declared.wire_type.WireType.TheVariants.{EndGroup, LengthDelimited};
 ghost use Rattle.buffa_bytes.specs.declared.wire_type.WireType.TheVariants.{StartGroup, Varint};
 ghost use Rattle.buffa_wire.specs.Message.{IsLimit};
-ghost use Rattle.buffa_wire.specs.Values.{tag_text};
+ghost use Rattle.buffa_wire.specs.Values.{tag_encoding};
 ghost use Rattle.buffa_message_set.specs.Item.{GroupsAreReadAlike, IsTypeId, Item, ItemFault, ItemsAreGroups};
-ghost use Rattle.buffa_message_set.specs.Item.{NoOtherFront, OneItem, TakesItem, WrittenIsItem, body_text, item_at};
-ghost use Rattle.buffa_message_set.specs.Item.{item_text};
+ghost use Rattle.buffa_message_set.specs.Item.{NoOtherFront, OneItem, TakesItem, WrittenIsItem, body_encoding, item_at};
+ghost use Rattle.buffa_message_set.specs.Item.{item_encoding};
 ghost use Rattle.buffa_message_set.specs.Pinned.{ItemIsPinned, WrittenItemIsPinned};
 
 use crate::message_set::{ITEM_END_TAG, ITEM_START_TAG, MESSAGE_TAG, TYPE_ID_TAG};
@@ -19,7 +19,7 @@ use crate::message_set::{ITEM_END_TAG, ITEM_START_TAG, MESSAGE_TAG, TYPE_ID_TAG}
 /// The Item is what follows the start tag, which is one byte. Whatever follows the Item, no other front of the
 /// bytes is an Item. The number is 1 to 2,147,483,647.
 pub fn written_items_are_items()
-    ensures start { (id : ℕ) (msg : List ℕ) → item_text id msg ≡ ITEM_START_TAG ∷ body_text id msg }
+    ensures start { (id : ℕ) (msg : List ℕ) → item_encoding id msg ≡ ITEM_START_TAG ∷ body_encoding id msg }
     ensures item { WrittenIsItem }
     ensures only { NoOtherFront }
 {}
@@ -64,8 +64,8 @@ pub fn written_items_are_pinned()
 
 /// The four tags of an Item, each of which has one byte.
 pub fn item_tags()
-    ensures start { tag_text 1 StartGroup ≡ ITEM_START_TAG ∷ [] }
-    ensures end { tag_text 1 EndGroup ≡ ITEM_END_TAG ∷ [] }
-    ensures type_id { tag_text 2 Varint ≡ TYPE_ID_TAG ∷ [] }
-    ensures message { tag_text 3 LengthDelimited ≡ MESSAGE_TAG ∷ [] }
+    ensures start { tag_encoding 1 StartGroup ≡ ITEM_START_TAG ∷ [] }
+    ensures end { tag_encoding 1 EndGroup ≡ ITEM_END_TAG ∷ [] }
+    ensures type_id { tag_encoding 2 Varint ≡ TYPE_ID_TAG ∷ [] }
+    ensures message { tag_encoding 3 LengthDelimited ≡ MESSAGE_TAG ∷ [] }
 {}

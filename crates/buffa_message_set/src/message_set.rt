@@ -16,11 +16,11 @@ ghost use Rattle.buffa_wire.specs.BudgetLeft.{budget_left};
 ghost use Rattle.buffa_wire.specs.Gives.{FullOnlyIf, Gives, GivesUnlessFull};
 ghost use Rattle.buffa_wire.specs.Reading.{taken, varint_at};
 ghost use Rattle.buffa_wire.specs.Unread.{IsTailOf};
-ghost use Rattle.buffa_wire.specs.Values.{delimited_text, tag_text};
+ghost use Rattle.buffa_wire.specs.Values.{delimited_encoding, tag_encoding};
 ghost use Rattle.buffa_wire.specs.WireType.{same_wire};
 ghost use Rattle.buffa_wire.specs.Written.{UsesRoom, Writes};
-ghost use Rattle.buffa_message_set.specs.Item.{HasMessage, IsTypeId, SpendsSlot, field_at, item_at, item_in, item_size, item_text};
-ghost use Rattle.buffa_message_set.specs.Item.{BytesAt, IsMessageAt, appended_at, body_text, ended_by, id_then, said_by, type_id_at, unsaid};
+ghost use Rattle.buffa_message_set.specs.Item.{HasMessage, IsTypeId, SpendsUnknown, field_at, item_at, item_in, item_size, item_encoding};
+ghost use Rattle.buffa_message_set.specs.Item.{BytesAt, IsMessageAt, appended_at, body_encoding, ended_by, id_then, said_by, type_id_at, unsaid};
 
 use buffa_bytes::buf::{copy_bytes, front};
 use buffa_wire::{
@@ -69,7 +69,7 @@ const MAX_TYPE_ID: u64 = 2_147_483_647;
 pub fn item_encoded_len(number: u32, payload_len: usize) -> usize
     requires { item_size number payload_len < 2 ^ 64 }
     ensures size { result ≡ item_size number payload_len }
-    ensures text { (msg : List ℕ) → length msg ≡ payload_len → length (item_text number msg) ≡ result }
+    ensures text { (msg : List ℕ) → length msg ≡ payload_len → length (item_encoding number msg) ≡ result }
 {
     4 + varint_len(u64::from(number)) + varint_len(payload_len as u64) + payload_len
 }
@@ -91,8 +91,8 @@ pub fn write_item<S: EncodeSink>(
     sink: &mut S,
 ) -> Result<(), EncodeError>
     requires { IsTypeId number }
-    ensures writes { Writes result (S.written sink.old) (item_text number payload.now) (S.written sink.new) }
-    ensures room { UsesRoom result (S.room sink.old) (item_text number payload.now) (S.room sink.new) }
+    ensures writes { Writes result (S.written sink.old) (item_encoding number payload.now) (S.written sink.new) }
+    ensures room { UsesRoom result (S.room sink.old) (item_encoding number payload.now) (S.room sink.new) }
 {
     encode_varint(ITEM_START_TAG, sink)?;
     write_body(number, payload, sink)
@@ -103,8 +103,8 @@ pub fn write_item<S: EncodeSink>(
 #[tactic(auto, using(buffa_bytes::proofs::SinkLemmas::writes_then, buffa_bytes::proofs::SinkLemmas::front_first, buffa_bytes::proofs::SinkLemmas::room_then))]
 fn write_body<S: EncodeSink>(number: u32, payload: &[u8], sink: &mut S) -> Result<(), EncodeError>
     requires { IsTypeId number }
-    ensures writes { Writes result (S.written sink.old) (body_text number payload.now) (S.written sink.new) }
-    ensures room { UsesRoom result (S.room sink.old) (body_text number payload.now) (S.room sink.new) }
+    ensures writes { Writes result (S.written sink.old) (body_encoding number payload.now) (S.written sink.new) }
+    ensures room { UsesRoom result (S.room sink.old) (body_encoding number payload.now) (S.room sink.new) }
 {
     encode_varint(TYPE_ID_TAG, sink)?;
     types::encode_uint32(number, sink)?;
@@ -116,10 +116,10 @@ fn write_body<S: EncodeSink>(number: u32, payload: &[u8], sink: &mut S) -> Resul
 #[tactic(auto, using(buffa_bytes::proofs::SinkLemmas::writes_then, buffa_bytes::proofs::SinkLemmas::front_first, buffa_bytes::proofs::SinkLemmas::room_then))]
 fn write_message<S: EncodeSink>(payload: &[u8], sink: &mut S) -> Result<(), EncodeError>
     ensures writes { Writes result (S.written sink.old)
-        (tag_text 3 WireType.LengthDelimited ++ (delimited_text payload.now ++ tag_text 1 WireType.EndGroup))
+        (tag_encoding 3 WireType.LengthDelimited ++ (delimited_encoding payload.now ++ tag_encoding 1 WireType.EndGroup))
         (S.written sink.new) }
     ensures room { UsesRoom result (S.room sink.old)
-        (tag_text 3 WireType.LengthDelimited ++ (delimited_text payload.now ++ tag_text 1 WireType.EndGroup))
+        (tag_encoding 3 WireType.LengthDelimited ++ (delimited_encoding payload.now ++ tag_encoding 1 WireType.EndGroup))
         (S.room sink.new) }
 {
     encode_varint(MESSAGE_TAG, sink)?;
@@ -156,13 +156,13 @@ pub fn merge_item<B: Buf>(
     ensures range { IfOk result (λ item. IsTypeId item.0) }
     ensures full { FullOnlyIf result ((0 < ctx.entry.budget.now.unknown)
         × HasMessage ctx.entry.depth (B.unread buf.old)) }
-    ensures spent { SpendsSlot ctx.entry.budget.now (budget_left ctx.exit) }
+    ensures spent { SpendsUnknown ctx.entry.budget.now (budget_left ctx.exit) }
     ensures untouched { ctx.entry.budget.now.unknown ≡ 0 → B.unread buf.new ≡ B.unread buf.old }
     ensures kept { B.beyond buf.new ≡ B.beyond buf.old }
     ensures tail { IsTailOf (B.unread buf.new) (B.unread buf.old) }
 {
     let DecodeContext { depth, budget } = ctx;
-    budget.take_slot()?;
+    budget.take_unknown()?;
     read_item(alloc, buf, depth)
 }
 

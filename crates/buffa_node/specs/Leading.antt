@@ -9,12 +9,12 @@ use Rattle.std.specs.Ordering.{match_ordering, ordering_reverse}
 use Rattle.std.specs.declared.cmp.Ordering.{Ordering}
 use Rattle.std.specs.declared.cmp.Ordering.TheVariants.{Less, Greater}
 use Rattle.buffa_bytes.proofs.DelimitedLemmas.{delimited_back}
-use Rattle.buffa_bytes.proofs.VarintLemmas.{IsVarint-varint_text}
+use Rattle.buffa_bytes.proofs.VarintLemmas.{IsVarint-varint_encoding}
 use Rattle.buffa_bytes.specs.declared.wire_type.WireType.TheVariants.{LengthDelimited}
 use Rattle.buffa_wire.specs.Number.{IsNumber}
 use Rattle.buffa_wire.specs.Reading.{delimited_at}
-use Rattle.buffa_wire.specs.Values.{delimited_text, tag_text}
-use Rattle.buffa_wire.specs.Varint.{varint_text}
+use Rattle.buffa_wire.specs.Values.{delimited_encoding, tag_encoding}
+use Rattle.buffa_wire.specs.Varint.{varint_encoding}
 use Rattle.buffa_map.proofs.BackLemmas.{is_tag}
 use Rattle.buffa_map.proofs.EntryLemmas.{entry_complete}
 use Rattle.buffa_map.specs.Codec.{Reading}
@@ -49,10 +49,10 @@ put_last {cmp = cmp} o (e ∷ es) k v more s =
 
 -- an entry that is read does what it does
 pub read_entry : {K V X : Type 0} (key : Reading K) (val : Reading V) (does : X → List ℕ → MapEntry K V → X) (d n : ℕ) (v : X) (e : List ℕ) (s : MapEntry K V) → length e < 2 ^ 64 → IsEntry key val d e s →
-    entry_taken key val does d v n LengthDelimited (delimited_text e) ≡ Some (does v e s)
+    entry_taken key val does d v n LengthDelimited (delimited_encoding e) ≡ Some (does v e s)
 unfolding entry_taken
 read_entry key val does d n v e s short h =
-    let alone : delimited_at (delimited_text e) ≡ Ok (e, []) = ap delimited_at (sym (append-nil (delimited_text e))) ∙ delimited_back e [] short in
+    let alone : delimited_at (delimited_encoding e) ≡ Ok (e, []) = ap delimited_at (sym (append-nil (delimited_encoding e))) ∙ delimited_back e [] short in
     rw (alone, entry_complete key val d e s h) refl
 
 -- each pair is P
@@ -62,13 +62,13 @@ Each P (x ∷ xs) = P x × Each P xs
 
 -- the record of a pair
 abbrev pub piece : {A : Type 0} → ℕ → (A → List ℕ) → A → Piece
-piece n entry p = record { tag = tag_text n LengthDelimited; number = n; wire = LengthDelimited; payload = delimited_text (entry p) }
+piece n entry p = record { tag = tag_encoding n LengthDelimited; number = n; wire = LengthDelimited; payload = delimited_encoding (entry p) }
 
 -- ---- the records of pairs in the order of their keys, behind those that were
 module _ {K V X : Type 0} {cmp : K → K → Ordering} (o : IsTotalOrder cmp) (T : Taker X) (d n : ℕ) (number : IsNumber n) (set : List (K × V) → X) (entry : K × V → List ℕ) where
   -- an entry that isn't too long is put behind those before it
   abbrev pub IsPut : K × V → Type 0
-  IsPut p = (length (entry p) < 2 ^ 64) × ((done : List (K × V)) → T d (set done) n LengthDelimited (delimited_text (entry p)) ≡ Some (set (insert_entry cmp done p.0 p.1)))
+  IsPut p = (length (entry p) < 2 ^ 64) × ((done : List (K × V)) → T d (set done) n LengthDelimited (delimited_encoding (entry p)) ≡ Some (set (insert_entry cmp done p.0 p.1)))
 
   pub entries_lead : (done l : List (K × V)) → Each IsPut l → IsStrictlySortedBy cmp (keys_of (done ++ l)) → Leads T any d (set done) (map (piece n entry) l) (set (done ++ l))
   entries_lead done [] h s = ap set (sym (append-nil done))
@@ -76,7 +76,7 @@ module _ {K V X : Type 0} {cmp : K → K → Ordering} (o : IsTotalOrder cmp) (T
       let all : (done ++ p ∷ []) ++ ps ≡ done ++ p ∷ ps = append_assoc done (p ∷ []) ps in (
         refl,
         is_tag n LengthDelimited number,
-        (varint_text (length (entry p)), entry p, IsVarint-varint_text (length (entry p)) h.0.0, refl),
+        (varint_encoding (length (entry p)), entry p, IsVarint-varint_encoding (length (entry p)) h.0.0, refl),
         set (done ++ p ∷ []),
         h.0.1 done ∙ ap (λ z. Some (set z)) (put_last o done p.0 p.1 ps s),
         subst (λ z. Leads T any d (set (done ++ p ∷ [])) (map (piece n entry) ps) (set z)) all (entries_lead (done ++ p ∷ []) ps h.1 (subst (λ z. IsStrictlySortedBy cmp (keys_of z)) (sym all) s)),

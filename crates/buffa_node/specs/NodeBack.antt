@@ -8,7 +8,7 @@ use Rattle.std.specs.Option.{option_map}
 use Rattle.std.specs.Ordering.{int_cmp}
 use Rattle.buffa_bytes.proofs.DelimitedLemmas.{delimited_complete}
 use Rattle.buffa_bytes.proofs.IntLemmas.{int32_below, int32_means}
-use Rattle.buffa_bytes.proofs.VarintLemmas.{IsVarint-varint_text}
+use Rattle.buffa_bytes.proofs.VarintLemmas.{IsVarint-varint_encoding}
 use Rattle.buffa_bytes.specs.declared.wire_type.WireType.TheVariants.{LengthDelimited, Varint}
 use Rattle.buffa_wire.proofs.ParseLemmas.{text_parses}
 use Rattle.buffa_wire.specs.BudgetLeft.{nothing}
@@ -18,9 +18,9 @@ use Rattle.buffa_wire.specs.Message.{merged_in}
 use Rattle.buffa_wire.specs.Parse.{Fits, FitsDatum, IsPayload, Parse}
 use Rattle.buffa_wire.specs.Reading.{delimited_at}
 use Rattle.buffa_wire.specs.Records.{Datum, bytes, datum_height, group, height, records_of, varint, fixed32, fixed64}
-use Rattle.buffa_wire.specs.Text.{field_text as record_of, records_text, wire_of}
-use Rattle.buffa_wire.specs.Values.{delimited_text, tag_text}
-use Rattle.buffa_wire.specs.Varint.{varint_text}
+use Rattle.buffa_wire.specs.Encoding.{field_encoding as record_of, records_encoding, wire_of}
+use Rattle.buffa_wire.specs.Values.{delimited_encoding, tag_encoding}
+use Rattle.buffa_wire.specs.Varint.{varint_encoding}
 use Rattle.buffa_map.proofs.BackLemmas.{IsReadBack, entry_back}
 use Rattle.buffa_map.proofs.EntryLemmas.{entry_complete}
 use Rattle.buffa_map.specs.Codec.{Writing, level}
@@ -30,9 +30,9 @@ use Rattle.buffa_map.specs.Message.{meant}
 use Rattle.buffa_map.specs.Run.{pair_entry, undeclared_record}
 use Rattle.buffa_map.specs.ScalarLaws.{string_reads_back}
 use Rattle.buffa_map.specs.Scalars.{IsText, delimited_writing}
-use Rattle.buffa_map.specs.Text.{AllHold, HasText, entry_text, field_text, record_text}
+use Rattle.buffa_map.specs.Encoding.{AllHold, HasEncoding, entry_encoding, field_encoding, record_encoding}
 use Rattle.buffa_fields.specs.MapFields.{map_records}
-use Rattle.buffa_fields.specs.MapLaws.{map_has_text}
+use Rattle.buffa_fields.specs.MapLaws.{map_has_encoding}
 use Rattle.buffa_fields.specs.PairLaws.{fits_both}
 use Rattle.buffa_fields.specs.Keep.{keep_takes, record_in}
 use Rattle.buffa_fields.specs.Takes.{Leads, Piece, Taker, joined, merged_of}
@@ -43,7 +43,7 @@ use Rattle.buffa_node.specs.Entries.{entry_taken, put_in}
 use Rattle.buffa_node.specs.Leading.{Each, IsPut, any, entries_lead, joined_both, leads_both, piece, read_entry}
 use Rattle.buffa_node.specs.Nesting.{undeclared_at}
 use Rattle.buffa_node.specs.NodeMeaning.{ChildMeaning, children, children_take, merged, node_takes, numbers, shades, shades_take, text_cmp, texts}
-use Rattle.buffa_node.specs.NodeText.{AreKept, AreNormal, IsKept, IsNormal, IsUndeclared, entry_levels, kept_levels, kept_under, kid_entry, kid_record, kids_records, kids_text, levels, levels_below, number_writing, records, scores_text, shades_text, text, text_writing}
+use Rattle.buffa_node.specs.NodeText.{AreKept, AreNormal, IsKept, IsNormal, IsUndeclared, entry_levels, kept_levels, kept_under, kid_entry, kid_record, kids_records, kids_encoding, levels, levels_below, number_writing, records, scores_encoding, shades_encoding, text, text_writing}
 
 -- ---- no entry and no record is too long
 abbrev KidsShort : Kids → Type 0
@@ -51,45 +51,45 @@ KidsShort no_kids = Unit {0}
 KidsShort (kid k t ks) = (length (kid_entry k (text t)) < 2 ^ 64) × KidsShort ks
 
 pub record IsShort (t : Branch) : Type 0 where
-  pub scores : HasText text_writing number_writing (scores_of t)
+  pub scores : HasEncoding text_writing number_writing (scores_of t)
   pub children : KidsShort (kids_of t)
-  pub shades : HasText number_writing closed_writing (shades_of t)
+  pub shades : HasEncoding number_writing closed_writing (shades_of t)
   pub kept : Fits (records_of (kept_of t))
 
 shorter : (k : ℤ) (b : List ℕ) → length (kid_entry k b) < 2 ^ 64 → length b < 2 ^ 64
-shorter k b h = omega (arith, h, length-append (tag_text 1 Varint ++ varint_text (cast_unsigned w64 k)) (tag_text 2 LengthDelimited ++ delimited_text b), length-append (tag_text 2 LengthDelimited) (delimited_text b), length-append (varint_text (length b)) b)
+shorter k b h = omega (arith, h, length-append (tag_encoding 1 Varint ++ varint_encoding (cast_unsigned w64 k)) (tag_encoding 2 LengthDelimited ++ delimited_encoding b), length-append (tag_encoding 2 LengthDelimited) (delimited_encoding b), length-append (varint_encoding (length b)) b)
 
-longer : (n : ℕ) (e : List ℕ) → length e ≤ length (tag_text n LengthDelimited ++ delimited_text e)
-longer n e = omega (arith, length-append (tag_text n LengthDelimited) (delimited_text e), length-append (varint_text (length e)) e)
+longer : (n : ℕ) (e : List ℕ) → length e ≤ length (tag_encoding n LengthDelimited ++ delimited_encoding e)
+longer n e = omega (arith, length-append (tag_encoding n LengthDelimited) (delimited_encoding e), length-append (varint_encoding (length e)) e)
 
-short_pairs : {K V : Type 0} (kw : Writing K) (vw : Writing V) (n : ℕ) (l : List (K × V)) → length (field_text kw vw n l) < 2 ^ 64 → HasText kw vw l
+short_pairs : {K V : Type 0} (kw : Writing K) (vw : Writing V) (n : ℕ) (l : List (K × V)) → length (field_encoding kw vw n l) < 2 ^ 64 → HasEncoding kw vw l
 short_pairs kw vw n [] h = tt
 short_pairs kw vw n (p ∷ ps) h =
-    let both = length-append (record_text kw vw n p) (field_text kw vw n ps) in
-    (omega (arith, h, both, longer n (entry_text kw vw p)), short_pairs kw vw n ps (omega (arith, h, both)))
+    let both = length-append (record_encoding kw vw n p) (field_encoding kw vw n ps) in
+    (omega (arith, h, both, longer n (entry_encoding kw vw p)), short_pairs kw vw n ps (omega (arith, h, both)))
 
-short_kids : (ks : Kids) → length (kids_text ks) < 2 ^ 64 → KidsShort ks
+short_kids : (ks : Kids) → length (kids_encoding ks) < 2 ^ 64 → KidsShort ks
 short_kids no_kids h = tt
 short_kids (kid k t ks) h =
-    let both = length-append (kid_record k (text t)) (kids_text ks) in
+    let both = length-append (kid_record k (text t)) (kids_encoding ks) in
     (omega (arith, h, both, longer 2 (kid_entry k (text t))), short_kids ks (omega (arith, h, both)))
 
-short_kept : (r : Kept) → AreKept r → length (records_text r) < 2 ^ 64 → Fits (records_of r)
+short_kept : (r : Kept) → AreKept r → length (records_encoding r) < 2 ^ 64 → Fits (records_of r)
 short_kept [] n h = tt
 short_kept (y ∷ ys) (inl (high, fits), ns) h =
-    let both = length-append (record_of y.0 y.1) (records_text ys) in
+    let both = length-append (record_of y.0 y.1) (records_encoding ys) in
     (fits.0, fits.1, short_kept ys ns (omega (arith, h, both)))
 short_kept (y ∷ ys) (inr (three, e, is, undeclared), ns) h =
-    let both = length-append (record_of y.0 y.1) (records_text ys) in
-    let one : length (record_of y.0 y.1) ≡ length (tag_text 3 LengthDelimited ++ delimited_text e) = λ i. length (record_of (three i) (is i)) in
+    let both = length-append (record_of y.0 y.1) (records_encoding ys) in
+    let one : length (record_of y.0 y.1) ≡ length (tag_encoding 3 LengthDelimited ++ delimited_encoding e) = λ i. length (record_of (three i) (is i)) in
     ((omega (arith, three), omega (arith, three)), subst FitsDatum (sym is) (omega (arith, h, both, one, longer 3 e)), short_kept ys ns (omega (arith, h, both)))
 
 -- a child's text is shorter than its entry, and so is all in it
 short_text : (t : Branch) → IsNormal t → length (text t) < 2 ^ 64 → IsShort t
 short_text (branch a ks h r) n short =
-    let one = length-append (scores_text a) (kids_text ks ++ (shades_text h ++ records_text r)) in
-    let two = length-append (kids_text ks) (shades_text h ++ records_text r) in
-    let three = length-append (shades_text h) (records_text r) in
+    let one = length-append (scores_encoding a) (kids_encoding ks ++ (shades_encoding h ++ records_encoding r)) in
+    let two = length-append (kids_encoding ks) (shades_encoding h ++ records_encoding r) in
+    let three = length-append (shades_encoding h) (records_encoding r) in
     record {
       scores = short_pairs text_writing number_writing 1 a (omega (arith, short, one));
       children = short_kids ks (omega (arith, short, one, two));
@@ -107,9 +107,9 @@ short_all (branch a ks h r) fits =
     let two = fits_both (kids_records ks) (map_records number_writing closed_writing 3 h ++ r) one.1 in
     let three = fits_both (map_records number_writing closed_writing 3 h) r two.1 in
     record {
-      scores = map_has_text text_writing number_writing 1 a one.0;
+      scores = map_has_encoding text_writing number_writing 1 a one.0;
       children = short_records ks two.0;
-      shades = map_has_text number_writing closed_writing 3 h three.0;
+      shades = map_has_encoding number_writing closed_writing 3 h three.0;
       kept = three.1;
     }
 
@@ -119,7 +119,7 @@ module _ (d : ℕ) (m : ChildMeaning) where
   T = node_takes m
 
   number_back : (v : ℤ) → FitsSigned w32 v → IsReadBack numbers number_writing d v
-  number_back v h = (refl, number (cast_unsigned w64 v), IsVarint-varint_text (cast_unsigned w64 v) (int32_below v h), ap (λ z. Ok (z, true)) (int32_means v h))
+  number_back v h = (refl, number (cast_unsigned w64 v), IsVarint-varint_encoding (cast_unsigned w64 v) (int32_below v h), ap (λ z. Ok (z, true)) (int32_means v h))
 
   text_back : (t : List ℕ) → IsText t → IsReadBack texts text_writing d t
   text_back t h = let u = string_reads_back (λ (x : List ℕ). x) (λ (x : List ℕ). x) t h refl in (refl, u.0, u.1, u.2)
@@ -128,11 +128,11 @@ module _ (d : ℕ) (m : ChildMeaning) where
   shade_back v h = let u = closed_reads_back shade_numbers d (pos 0) v h in (refl, u.0, u.1, u.2)
 
   child_back : (t : Branch) → level true d ≡ Ok tt → merged_in (λ _. m) d bare (text t) ≡ Some t → length (text t) < 2 ^ 64 → IsReadBack (children m (λ _. nothing)) (delimited_writing text) d t
-  child_back t deep means short = (deep, held (text t), (varint_text (length (text t)), IsVarint-varint_text (length (text t)) short, refl), ap meant means)
+  child_back t deep means short = (deep, held (text t), (varint_encoding (length (text t)), IsVarint-varint_encoding (length (text t)) short, refl), ap meant means)
 
   -- ---- scores
   abbrev score_entry : List ℕ × ℤ → List ℕ
-  score_entry p = entry_text text_writing number_writing p
+  score_entry p = entry_encoding text_writing number_writing p
 
   abbrev with_scores : Scores → Branch
   with_scores a = branch a no_kids [] []
@@ -147,13 +147,13 @@ module _ (d : ℕ) (m : ChildMeaning) where
         (entry_back texts numbers text_writing number_writing refl refl d IsText (FitsSigned w32) text_back number_back p key value)),
   )
 
-  scores_put : (l : Scores) → AllHold IsText (FitsSigned w32) l → HasText text_writing number_writing l → Each ScorePut l
+  scores_put : (l : Scores) → AllHold IsText (FitsSigned w32) l → HasEncoding text_writing number_writing l → Each ScorePut l
   scores_put [] h k = tt
   scores_put (p ∷ ps) h k = (score_put p h.0 h.1 k.0, scores_put ps h.2 k.1)
 
   -- ---- children
   abbrev child_entry : ℤ × Branch → List ℕ
-  child_entry p = entry_text number_writing (delimited_writing text) p
+  child_entry p = entry_encoding number_writing (delimited_writing text) p
 
   -- a child whose entry is read
   abbrev pub IsChildRead : ℤ → Branch → Type 0
@@ -173,7 +173,7 @@ module _ (d : ℕ) (m : ChildMeaning) where
     kid_put : (k : ℤ) (t : Branch) → IsChildRead k t → KidPut (k, t)
     kid_put k t (key, short, value) = (
       short,
-      λ done. ap (λ (xs : List (ℤ × Branch)). option_map with_kids (children_take m d xs 2 LengthDelimited (delimited_text (child_entry (k, t))))) (listed-kids done)
+      λ done. ap (λ (xs : List (ℤ × Branch)). option_map with_kids (children_take m d xs 2 LengthDelimited (delimited_encoding (child_entry (k, t))))) (listed-kids done)
           ∙ ap (option_map with_kids) (read_entry numbers (children m (λ _. nothing)) (λ x e s. put_in int_cmp x s) d 2 done (child_entry (k, t)) (pair_entry (k, t)) short
           (entry_back numbers (children m (λ _. nothing)) number_writing (delimited_writing text) refl refl d (FitsSigned w32) (IsReadBack (children m (λ _. nothing)) (delimited_writing text) d) number_back (λ v h. h) (k, t) key value)),
     )
@@ -185,7 +185,7 @@ module _ (d : ℕ) (m : ChildMeaning) where
     -- ---- shades
     module _ (ks : Kids) where
       abbrev shade_entry : ℤ × ℤ → List ℕ
-      shade_entry p = entry_text number_writing closed_writing p
+      shade_entry p = entry_encoding number_writing closed_writing p
 
       abbrev with_shades : Shades → Branch
       with_shades h = branch a ks h []
@@ -200,7 +200,7 @@ module _ (d : ℕ) (m : ChildMeaning) where
             (entry_back numbers shades number_writing closed_writing refl refl d (FitsSigned w32) (ClosedFits shade_numbers) number_back shade_back p key value)),
       )
 
-      shades_put : (l : Shades) → AllHold (FitsSigned w32) (ClosedFits shade_numbers) l → HasText number_writing closed_writing l → Each ShadePut l
+      shades_put : (l : Shades) → AllHold (FitsSigned w32) (ClosedFits shade_numbers) l → HasEncoding number_writing closed_writing l → Each ShadePut l
       shades_put [] h k = tt
       shades_put (p ∷ ps) h k = (shade_put p h.0 h.1 k.0, shades_put ps h.2 k.1)
 
@@ -248,11 +248,11 @@ module _ (d : ℕ) (m : ChildMeaning) where
             )
 
   -- ---- all
-  pairs_text : {K V : Type 0} (kw : Writing K) (vw : Writing V) (n : ℕ) (l : List (K × V)) → field_text kw vw n l ≡ joined (map (piece n (entry_text kw vw)) l)
+  pairs_text : {K V : Type 0} (kw : Writing K) (vw : Writing V) (n : ℕ) (l : List (K × V)) → field_encoding kw vw n l ≡ joined (map (piece n (entry_encoding kw vw)) l)
   pairs_text kw vw n [] = refl
-  pairs_text kw vw n (p ∷ ps) = ap (λ (z : List ℕ). record_text kw vw n p ++ z) (pairs_text kw vw n ps)
+  pairs_text kw vw n (p ∷ ps) = ap (λ (z : List ℕ). record_encoding kw vw n p ++ z) (pairs_text kw vw n ps)
 
-  kids_pieces : (ks : Kids) → kids_text ks ≡ joined (map (piece 2 child_entry) (listed ks))
+  kids_pieces : (ks : Kids) → kids_encoding ks ≡ joined (map (piece 2 child_entry) (listed ks))
   kids_pieces no_kids = refl
   kids_pieces (kid k t ks) = ap (λ (z : List ℕ). kid_record k (text t) ++ z) (kids_pieces ks)
 
@@ -268,15 +268,15 @@ module _ (d : ℕ) (m : ChildMeaning) where
   heights_low [] = omega arith
   heights_low (y ∷ ys) = omega (arith, low_datum (y.0 == 3) y.1, heights_low ys)
 
-  kept_parses : (r : Kept) → Fits (records_of r) → kept_levels r ≤ d → Parse d (records_text r) (records_of r)
+  kept_parses : (r : Kept) → Fits (records_of r) → kept_levels r ≤ d → Parse d (records_encoding r) (records_of r)
   kept_parses r fits low = text_parses (records_of r) d fits (subst (λ k. k ≤ d) (sym (height-records r)) (omega (arith, low, heights_low r)))
 
   pub node_read : (a : Scores) (ks : Kids) (h : Shades) (r : Kept) → IsShort (branch a ks h r) → IsNormal (branch a ks h r) → AreRead ks → kept_levels r ≤ d → merged_of T d bare (text (branch a ks h r)) ≡ Some (branch a ks h r)
   node_read a ks h r short n read low =
       let one = map (piece 1 score_entry) a in
       let two = map (piece 2 child_entry) (listed ks) in
-      let three = map (piece 3 (entry_text number_writing closed_writing)) h in
-      let kept = kept_lead a ks h r [] (records_text r) n.3 low (kept_parses r short.kept low) in
+      let three = map (piece 3 (entry_encoding number_writing closed_writing)) h in
+      let kept = kept_lead a ks h r [] (records_encoding r) n.3 low (kept_parses r short.kept low) in
       let mid : Branch = branch a no_kids [] [] in
       let low_mid : Branch = branch a ks [] [] in
       let end : Branch = branch a ks h [] in

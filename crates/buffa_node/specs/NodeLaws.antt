@@ -4,18 +4,18 @@ use Rattle.std.specs.Option.{option_and_then}
 use Rattle.buffa_wire.specs.BudgetLeft.{nothing, plus}
 use Rattle.buffa_wire.specs.Field.{SomeField}
 use Rattle.buffa_wire.specs.Join.{Join}
-use Rattle.buffa_wire.specs.Text.{records_text}
+use Rattle.buffa_wire.specs.Encoding.{records_encoding}
 use Rattle.buffa_wire.proofs.KeepLemmas.{keep_stays}
 use Rattle.buffa_fields.specs.MapFields.{map_records}
-use Rattle.buffa_fields.specs.MapLaws.{map_text}
-use Rattle.buffa_fields.specs.PairLaws.{records_text-append}
+use Rattle.buffa_fields.specs.MapLaws.{map_encoding}
+use Rattle.buffa_fields.specs.PairLaws.{records_encoding-append}
 use Rattle.buffa_fields.specs.Takes.{Stays}
 use Rattle.buffa_fields.specs.TakesLaws as fields
 use Rattle.buffa_map.specs.Enums.{closed_writing}
 use Rattle.buffa_node.specs.Branch.{Branch, Kids, branch, kid, no_kids}
 use Rattle.buffa_node.specs.EntriesLaws.{entry_stays, four_stay}
 use Rattle.buffa_node.specs.NodeMeaning.{ChildCost, ChildMeaning, children, cost, merged, node_need, node_takes, numbers, shades, texts}
-use Rattle.buffa_node.specs.NodeText.{kid_record, kids_records, kids_text, number_writing, records, shades_text, text, text_writing}
+use Rattle.buffa_node.specs.NodeText.{kid_record, kids_records, kids_encoding, number_writing, records, shades_encoding, text, text_writing}
 
 pub node_stays : (m : ChildMeaning) (c : ChildCost) → Stays (node_need m c)
 node_stays m c d n w p x h =
@@ -43,15 +43,15 @@ cost_next zero = fields.cost_of_next (node_need (λ _ _. None) (λ _. nothing)) 
 cost_next (suc d) = fields.cost_of_next (node_need (merged d) (cost d)) (node_stays (merged d) (cost d)) (suc d)
 
 -- ---- the text is that of records
-kids_are : (ks : Kids) → kids_text ks ≡ records_text (kids_records ks)
+kids_are : (ks : Kids) → kids_encoding ks ≡ records_encoding (kids_records ks)
 kids_are no_kids = refl
 kids_are (kid k t ks) = ap (λ (z : List ℕ). kid_record k (text t) ++ z) (kids_are ks)
 
-pub text_records : (t : Branch) → text t ≡ records_text (records t)
-text_records (branch a ks h r) =
+pub encoding_records : (t : Branch) → text t ≡ records_encoding (records t)
+encoding_records (branch a ks h r) =
     let one = map_records text_writing number_writing 1 a in
     let two = kids_records ks in
     let three = map_records number_writing closed_writing 3 h in
-    let end : shades_text h ++ records_text r ≡ records_text (three ++ r) = ap (λ (z : List ℕ). z ++ records_text r) (sym (map_text number_writing closed_writing 3 h)) ∙ sym (records_text-append three r) in
-    let mid : kids_text ks ++ (shades_text h ++ records_text r) ≡ records_text (two ++ (three ++ r)) = (λ i. kids_are ks i ++ end i) ∙ sym (records_text-append two (three ++ r)) in
-    (λ i. sym (map_text text_writing number_writing 1 a) i ++ mid i) ∙ sym (records_text-append one (two ++ (three ++ r)))
+    let end : shades_encoding h ++ records_encoding r ≡ records_encoding (three ++ r) = ap (λ (z : List ℕ). z ++ records_encoding r) (sym (map_encoding number_writing closed_writing 3 h)) ∙ sym (records_encoding-append three r) in
+    let mid : kids_encoding ks ++ (shades_encoding h ++ records_encoding r) ≡ records_encoding (two ++ (three ++ r)) = (λ i. kids_are ks i ++ end i) ∙ sym (records_encoding-append two (three ++ r)) in
+    (λ i. sym (map_encoding text_writing number_writing 1 a) i ++ mid i) ∙ sym (records_encoding-append one (two ++ (three ++ r)))

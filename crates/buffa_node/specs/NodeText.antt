@@ -10,14 +10,14 @@ use Rattle.buffa_wire.specs.Cache.{Cache}
 use Rattle.buffa_wire.specs.Parse.{Fits}
 use Rattle.buffa_wire.specs.Passes.{IsWritten, cap}
 use Rattle.buffa_wire.specs.Records.{Datum, bytes, datum_height, records_of}
-use Rattle.buffa_wire.specs.Text.{records_text}
+use Rattle.buffa_wire.specs.Encoding.{records_encoding}
 use Rattle.buffa_map.specs.Codec.{Writing}
 use Rattle.buffa_map.specs.Entry.{IsEntry, entry_of}
 use Rattle.buffa_map.specs.Enums.{ClosedFits, closed_writing}
 use Rattle.buffa_map.specs.MessageField.{field_slots}
 use Rattle.buffa_map.specs.Pairs.{means}
 use Rattle.buffa_map.specs.Scalars.{IsText, delimited_writing, varint_writing}
-use Rattle.buffa_map.specs.Text.{AllHold, entry_text, field_text, record_text}
+use Rattle.buffa_map.specs.Encoding.{AllHold, entry_encoding, field_encoding, record_encoding}
 use Rattle.buffa_map.specs.declared.map_entry.MapEntry.{MapEntry}
 use Rattle.buffa_wire.specs.ByField.{value_of}
 use Rattle.buffa_fields.specs.MapFields.{map_records}
@@ -33,25 +33,25 @@ number_writing = varint_writing (cast_unsigned w64)
 
 -- a child's entry, where its text is given
 abbrev pub kid_entry : ℤ → List ℕ → List ℕ
-kid_entry k t = entry_text number_writing (delimited_writing (λ (x : List ℕ). x)) (k, t)
+kid_entry k t = entry_encoding number_writing (delimited_writing (λ (x : List ℕ). x)) (k, t)
 
 abbrev pub kid_record : ℤ → List ℕ → List ℕ
-kid_record k t = record_text number_writing (delimited_writing (λ (x : List ℕ). x)) 2 (k, t)
+kid_record k t = record_encoding number_writing (delimited_writing (λ (x : List ℕ). x)) 2 (k, t)
 
-abbrev pub scores_text : Scores → List ℕ
-scores_text a = field_text text_writing number_writing 1 a
+abbrev pub scores_encoding : Scores → List ℕ
+scores_encoding a = field_encoding text_writing number_writing 1 a
 
-abbrev pub shades_text : Shades → List ℕ
-shades_text h = field_text number_writing closed_writing 3 h
+abbrev pub shades_encoding : Shades → List ℕ
+shades_encoding h = field_encoding number_writing closed_writing 3 h
 
 abbrev mutual
   -- a record for each score, child and shade, and then what is kept
   pub text : Branch → List ℕ
-  text (branch a ks h r) = scores_text a ++ (kids_text ks ++ (shades_text h ++ records_text r))
+  text (branch a ks h r) = scores_encoding a ++ (kids_encoding ks ++ (shades_encoding h ++ records_encoding r))
 
-  pub kids_text : Kids → List ℕ
-  kids_text no_kids = []
-  kids_text (kid k t ks) = kid_record k (text t) ++ kids_text ks
+  pub kids_encoding : Kids → List ℕ
+  kids_encoding no_kids = []
+  kids_encoding (kid k t ks) = kid_record k (text t) ++ kids_encoding ks
 
 abbrev mutual
   -- for each child the capped length of its text, and then its own slots
@@ -135,9 +135,9 @@ meant-is [] = refl
 meant-is (e ∷ es) = ap (λ (xs : List (ℤ × Branch)). (e.0, e.1) ∷ xs) (meant-is es)
 
 -- the children's records are the field of the map
-pub kids_text-field : (es : List (ℤ × Branch)) → kids_text (kids es) ≡ field_text number_writing (delimited_writing text) 2 (meant es)
-kids_text-field [] = refl
-kids_text-field (e ∷ es) = ap (λ (r : List ℕ). kid_record e.0 (text e.1) ++ r) (kids_text-field es)
+pub kids_encoding-field : (es : List (ℤ × Branch)) → kids_encoding (kids es) ≡ field_encoding number_writing (delimited_writing text) 2 (meant es)
+kids_encoding-field [] = refl
+kids_encoding-field (e ∷ es) = ap (λ (r : List ℕ). kid_record e.0 (text e.1) ++ r) (kids_encoding-field es)
 
 pub slots-field : (es : List (ℤ × Branch)) → slots_below (kids es) ≡ field_slots text slots (meant es)
 slots-field [] = refl

@@ -3,7 +3,7 @@
 ghost use Rattle.std.specs.Prelude.{◌≡◌, OnErr, string_bytes};
 ghost use Rattle.buffa_wire.specs.Number.{IsNumber};
 ghost use Rattle.buffa_map.specs.Pairs.{means};
-ghost use Rattle.buffa_map.specs.Text.{field_text};
+ghost use Rattle.buffa_map.specs.Encoding.{field_encoding};
 ghost use Rattle.buffa_node.specs.Branch.{shade_number};
 ghost use Rattle.buffa_node.specs.Calls.{TakesScore, TakesShade, shades_and};
 ghost use Rattle.buffa_node.specs.Writes.{WritesSmall, only_memory};
@@ -104,7 +104,7 @@ pub(crate) fn write_map<KC: MapCodec, VC: MapCodec, S: EncodeSink>(
 where
     KC::Value: MapKey + Ord,
     requires { IsNumber number }
-    ensures { WritesSmall (field_text KC.writing VC.writing number
+    ensures { WritesSmall (field_encoding KC.writing VC.writing number
         (means KC.Value.meaning VC.Value.meaning map.now.entries)) (S.written sink.old) result (S.written sink.new) }
 {
     match write_field::<KC, VC, BTreeMap<KC::Value, VC::Value>, S>(map, number, sink) {

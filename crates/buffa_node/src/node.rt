@@ -90,7 +90,7 @@ impl MessageSpec for Node {
     ghost use Rattle.std.proofs.Common.{arith};
     ghost use Rattle.buffa_node.specs.NodeText.{IsNormal, levels, records};
     ghost use Rattle.buffa_node.specs.NodeBack.{back};
-    ghost use Rattle.buffa_node.specs.NodeLaws.{cost_empty, cost_next, text_records};
+    ghost use Rattle.buffa_node.specs.NodeLaws.{cost_empty, cost_next, encoding_records};
     ghost use Rattle.buffa_node.specs.NodeLaws.{merged_empty, merged_fields, merged_next};
 
     const COST: usize = 96;
@@ -111,9 +111,9 @@ impl MessageSpec for Node {
 
     ghost normal = { IsNormal };
 
-    ghost text_records = { text_records };
+    ghost encoding_records = { encoding_records };
 
-    ghost merged_text = { back };
+    ghost merged_encoding = { back };
 
     ghost positive = { omega arith };
 

@@ -4,7 +4,7 @@
 ghost use Rattle.std.specs.Prelude.{◌≡◌, ◌↔◌, ◌⊎◌, ℕ, ℤ, List, [], ◌∷◌, FitsSigned, None, Option, Some, codes, map, option_map};
 ghost use Rattle.std.specs.Prelude.{pos};
 ghost use Rattle.std.specs.Int.{w64};
-ghost use Rattle.buffa_bytes.specs.Scalars.{sint64_of, sint64_text, zigzag};
+ghost use Rattle.buffa_bytes.specs.Scalars.{sint64_of, sint64_encoding, zigzag};
 ghost use Rattle.buffa_bytes.specs.declared.wire_type.WireType.TheVariants.{Varint};
 ghost use Rattle.buffa_bytes.specs.Pinned.{IsCopied, SameIsOne};
 ghost use Rattle.buffa_wire.specs.BudgetLeft.{BudgetLeft, nothing};
@@ -48,7 +48,7 @@ pub fn prices_are_sint64()
         ≡ option_map sint64_of (varint_in d) }
     ensures packed { (bs : List ℕ) → ⟦<PriceCodec as SingularCodec>⟧.packed bs ≡ map sint64_of (numbers_in Varint bs) }
     ensures text { (v : ℤ) → ⟦<PriceCodec as SingularCodec>⟧.text v ≡ varint (zigzag v) }
-    ensures packed_text { (v : ℤ) → ⟦<PriceCodec as PackableCodec>⟧.packed_text v ≡ sint64_text v }
+    ensures packed_encoding { (v : ℤ) → ⟦<PriceCodec as PackableCodec>⟧.packed_encoding v ≡ sint64_encoding v }
     ensures back { (v : ℤ) → ⟦<PriceCodec as SingularCodec>⟧.back v ≡ v }
     ensures fits { (v : ℤ) → ⟦<PriceCodec as SingularCodec>⟧.fits v ↔ FitsSigned w64 v }
     ensures normal { (v : ℤ) → ⟦<PriceCodec as SingularCodec>⟧.normal v }

@@ -9,7 +9,7 @@ use Rattle.buffa_bytes.specs.declared.error.DecodeError.TheVariants as decode
 use Rattle.buffa_bytes.specs.declared.error.EncodeError.TheVariants as encode
 use Rattle.buffa_map.specs.Codec.{Writing}
 use Rattle.buffa_map.specs.Pairs.{InOrder}
-use Rattle.buffa_map.specs.Text.{HasText, entry_text}
+use Rattle.buffa_map.specs.Encoding.{HasEncoding, entry_encoding}
 use Rattle.buffa_map.proofs.WalkLemmas.{permuted}
 use Rattle.buffa_samples.specs.Pinned.{IsFull, TripIsPinned}
 use Rattle.buffa_samples.specs.RoundTrip.{RefusesPairs}
@@ -18,9 +18,9 @@ use Rattle.buffa_samples.specs.declared.round_trip.TripFault.TheVariants.{Decode
 
 module _ {K V : Type 0} (key : Writing K) (val : Writing V) where
   abbrev IsShort : K × V → Type 0
-  IsShort p = length (entry_text key val p) < 2 ^ 64
+  IsShort p = length (entry_encoding key val p) < 2 ^ 64
 
-  all_short : (l : List (K × V)) → HasText key val l → All IsShort l
+  all_short : (l : List (K × V)) → HasEncoding key val l → All IsShort l
   all_short [] h = All-nil IsShort
   all_short (p ∷ ps) h = All-cons IsShort p ps h.0 (all_short ps h.1)
 
@@ -29,13 +29,13 @@ module _ {K V : Type 0} (key : Writing K) (val : Writing V) where
   short_in (x ∷ done) p rest h = short_in done p rest (All-tail IsShort x (done ++ p ∷ rest) h)
 
   -- what has a text has no entry that is too long, in whatever order
-  pub no_long : (l m done : List (K × V)) (p : K × V) (rest : List (K × V)) → HasText key val l → IsPermutation l m → m ≡ done ++ p ∷ rest → 2 ^ 64 ≤ length (entry_text key val p) → ⊥
+  pub no_long : (l m done : List (K × V)) (p : K × V) (rest : List (K × V)) → HasEncoding key val l → IsPermutation l m → m ≡ done ++ p ∷ rest → 2 ^ 64 ≤ length (entry_encoding key val p) → ⊥
   no_long l m done p rest has turn is long =
-      let few : length (entry_text key val p) < 2 ^ 64 = short_in done p rest (subst (All IsShort) is (All-permutation IsShort l m turn (all_short l has))) in
+      let few : length (entry_encoding key val p) < 2 ^ 64 = short_in done p rest (subst (All IsShort) is (All-permutation IsShort l m turn (all_short l has))) in
       absurd (omega (arith, few, long))
 
   module _ {eq : K → K → Bool} (laws : IsEquivalence eq) (cost : ℕ) (m : List (K × V)) (Walk : List (K × V) → Type 0) where
-    refused_pairs : (l w : List (K × V)) (f : TripFault) → IsPermutation l w → HasText key val l → length l * cost ≤ 268435456 → RefusesPairs key val cost w f → IsFull f
+    refused_pairs : (l w : List (K × V)) (f : TripFault) → IsPermutation l w → HasEncoding key val l → length l * cost ≤ 268435456 → RefusesPairs key val cost w f → IsFull f
     refused_pairs l w (Encode encode.OutOfMemory) turn has paid h = tt
     refused_pairs l w (Encode encode.MessageTooLarge) turn has paid h = absurd (no_long l w h.0 h.1 h.2 has turn h.3 h.4)
     refused_pairs l w (Encode (encode.GroupRefused e)) turn has paid h = absurd h

@@ -2,21 +2,21 @@
 use Rattle.std.proofs.Common.{◌≡◌, ◌≢◌, ◌<◌, ◌≤◌, ℕ, zero, suc, ℤ, ◌+◌, List, [], ◌∷◌, ◌++◌, length, min, sym, ap, ◌∙◌, arith, length-append, refl, subst}
 use Rattle.std.specs.List.{Contains}
 use Rattle.std.specs.Map.{values_of}
-use Rattle.buffa_bytes.proofs.ShortestLemmas.{varint_text-last}
+use Rattle.buffa_bytes.proofs.ShortestLemmas.{varint_encoding-last}
 use Rattle.buffa_bytes.specs.declared.wire_type.WireType.TheVariants.{LengthDelimited}
 use Rattle.buffa_wire.specs.Passes.{IsSmall, cap}
-use Rattle.buffa_wire.specs.Values.{tag_text}
+use Rattle.buffa_wire.specs.Values.{tag_encoding}
 use Rattle.buffa_map.specs.MessageField.{IsSmallField, field_slots}
 use Rattle.buffa_map.specs.Scalars.{delimited_writing}
-use Rattle.buffa_map.specs.Text.{field_size, field_text}
+use Rattle.buffa_map.specs.Encoding.{field_size, field_encoding}
 use Rattle.buffa_map.proofs.MessageFieldLemmas.{small_field}
-use Rattle.buffa_map.proofs.SizeLemmas.{length-field_text}
-use Rattle.buffa_samples.specs.Flat.{value_text}
+use Rattle.buffa_map.proofs.SizeLemmas.{length-field_encoding}
+use Rattle.buffa_samples.specs.Flat.{value_encoding}
 use Rattle.buffa_samples.specs.Grown.{Grown, grown, height, heights, kids}
 use Rattle.buffa_samples.specs.TreeText.{key_writing, meant, meant-is, slots, slots-field, text, texts-field}
 
-tag_one : length (tag_text 2 LengthDelimited) ≡ 1
-tag_one = ap length (varint_text-last 18 (omega arith))
+tag_one : length (tag_encoding 2 LengthDelimited) ≡ 1
+tag_one = ap length (varint_encoding-last 18 (omega arith))
 
 no_list : {P : Type 0} (x : ℕ) (xs : List ℕ) → x ∷ xs ≡ [] → P
 no_list x xs e = cc
@@ -26,13 +26,13 @@ no_slots [] e = refl
 no_slots (p ∷ es) e = no_list _ _ e
 
 module _ (t : Grown) (l : ℤ) (es : List (ℤ × Grown)) (is : grown l (kids es) ≡ t) where
-  pub text_is : text t ≡ value_text l ++ field_text key_writing (delimited_writing text) 2 (meant es)
-  text_is = ap text (sym is) ∙ ap (λ (r : List ℕ). value_text l ++ r) (texts-field es)
+  pub text_is : text t ≡ value_encoding l ++ field_encoding key_writing (delimited_writing text) 2 (meant es)
+  text_is = ap text (sym is) ∙ ap (λ (r : List ℕ). value_encoding l ++ r) (texts-field es)
 
-  pub length_is : length (text t) ≡ length (value_text l) + field_size key_writing (delimited_writing text) 1 (meant es)
-  length_is = ap length text_is ∙ length-append (value_text l) (field_text key_writing (delimited_writing text) 2 (meant es))
-      ∙ ap (λ (n : ℕ). length (value_text l) + n) (length-field_text key_writing (delimited_writing text) 2 (meant es))
-      ∙ ap (λ (k : ℕ). length (value_text l) + field_size key_writing (delimited_writing text) k (meant es)) tag_one
+  pub length_is : length (text t) ≡ length (value_encoding l) + field_size key_writing (delimited_writing text) 1 (meant es)
+  length_is = ap length text_is ∙ length-append (value_encoding l) (field_encoding key_writing (delimited_writing text) 2 (meant es))
+      ∙ ap (λ (n : ℕ). length (value_encoding l) + n) (length-field_encoding key_writing (delimited_writing text) 2 (meant es))
+      ∙ ap (λ (k : ℕ). length (value_encoding l) + field_size key_writing (delimited_writing text) k (meant es)) tag_one
 
   pub slots_is : field_slots text slots (meant es) ≡ slots t
   slots_is = sym (slots-field es) ∙ ap slots is
@@ -45,7 +45,7 @@ module _ (t : Grown) (l : ℤ) (es : List (ℤ × Grown)) (is : grown l (kids es
   pub small_kids : IsSmall (text t) → IsSmallField key_writing text (meant es)
   small_kids h = small_field key_writing text 1 (meant es) (omega (arith, length_is, h))
 
-  module _ (n label total : ℕ) (sized : cap n ≡ cap (field_size key_writing (delimited_writing text) 1 (meant es))) (labelled : label ≡ length (value_text l)) (summed : total ≡ min (n + label) 18446744073709551615) where
+  module _ (n label total : ℕ) (sized : cap n ≡ cap (field_size key_writing (delimited_writing text) 1 (meant es))) (labelled : label ≡ length (value_encoding l)) (summed : total ≡ min (n + label) 18446744073709551615) where
     pub small_total : total < 4294967295 → total ≡ cap (length (text t))
     small_total h = omega (arith, length_is, sized, labelled, summed)
 

@@ -11,15 +11,15 @@ use Rattle.buffa_map.specs.Entry.{need_of}
 use Rattle.buffa_map.specs.Codec.{Reading, Writing}
 use Rattle.buffa_map.specs.Merge.{State, StopsRun, dropping, state}
 use Rattle.buffa_map.specs.Run.{Paid, RecordFault, Run, RunFault, EntryRecord, inner_needs}
-use Rattle.buffa_map.specs.Text.{RefusesField, field_text}
+use Rattle.buffa_map.specs.Encoding.{RefusesField, field_encoding}
 use Rattle.buffa_samples.specs.RoundTrip.{RefusesPairs}
 use Rattle.buffa_samples.specs.declared.round_trip.TripFault.TheVariants.{Encode}
 
 -- a refusal to write
 pub unwritten : {K V : Type 0} (key : Writing K) (val : Writing V) (cost n : ℕ) (old new : List ℕ) (l : List (K × V)) (f : EncodeError) →
-    (room : ℕ) → RefusesField key val n old new l f → (f ≡ OutOfMemory → room < length (field_text key val n l)) → RefusesPairs key val cost l (Encode f)
+    (room : ℕ) → RefusesField key val n old new l f → (f ≡ OutOfMemory → room < length (field_encoding key val n l)) → RefusesPairs key val cost l (Encode f)
 unwritten key val cost n old new l MessageTooLarge room h few = (h.0, h.1, h.2, h.3, h.5)
-unwritten key val cost n old new l OutOfMemory room h few = λ none. omega (arith, few refl, ap (λ z. length (field_text key val n z)) none)
+unwritten key val cost n old new l OutOfMemory room h few = λ none. omega (arith, few refl, ap (λ z. length (field_encoding key val n z)) none)
 unwritten key val cost n old new l (GroupRefused e) room h few = h
 
 module _ {K V : Type 0} (key : Reading K) (val : Reading V) (d n : ℕ)

@@ -4,8 +4,8 @@ use Rattle.std.specs.Prelude.{ℕ, zero, suc, ◌+◌, ◌-◌, ◌^◌, ◌==�
 use Rattle.buffa_bytes.specs.declared.wire_type.WireType.TheVariants.{Varint}
 use Rattle.buffa_wire.specs.BudgetLeft.{BudgetLeft, nothing}
 use Rattle.buffa_wire.specs.Records.{Datum, varint}
-use Rattle.buffa_wire.specs.Values.{tag_text}
-use Rattle.buffa_wire.specs.Varint.{varint_text}
+use Rattle.buffa_wire.specs.Values.{tag_encoding}
+use Rattle.buffa_wire.specs.Varint.{varint_encoding}
 use Rattle.buffa_wire.specs.ByField.{FieldReader, merged_by}
 use Rattle.buffa_samples.specs.Fields.{skipped_field, varint_field}
 
@@ -25,12 +25,12 @@ count_cost d bs = nothing
 
 -- one field
 abbrev pub one_text : List ℕ
-one_text = tag_text 9 Varint ++ varint_text 0
+one_text = tag_encoding 9 Varint ++ varint_encoding 0
 
 -- so many fields
-abbrev pub count_text : ℕ → List ℕ
-count_text zero = []
-count_text (suc n) = one_text ++ count_text n
+abbrev pub count_encoding : ℕ → List ℕ
+count_encoding zero = []
+count_encoding (suc n) = one_text ++ count_encoding n
 
 -- their records
 abbrev pub count_records : ℕ → List (ℕ × Datum)

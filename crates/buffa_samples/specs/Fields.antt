@@ -4,7 +4,7 @@ use Rattle.std.specs.Prelude.{ℕ, zero, suc, ℤ, pos, negsuc, List, [], ◌∷
 use Rattle.buffa_wire.specs.Gives.{◌>>=◌}
 use Rattle.buffa_wire.specs.Reading.{check_wire, skip_at, varint_at}
 use Rattle.buffa_wire.specs.Records.{Datum, varint}
-use Rattle.buffa_wire.specs.Values.{int32_at, int32_text, tag_text}
+use Rattle.buffa_wire.specs.Values.{int32_at, int32_encoding, tag_encoding}
 use Rattle.std.specs.Int.{cast_unsigned, w64}
 use Rattle.buffa_bytes.specs.declared.wire_type.WireType.{WireType}
 use Rattle.buffa_bytes.specs.declared.wire_type.WireType.TheVariants.{Varint}
@@ -23,10 +23,10 @@ abbrev pub skipped_field : {X : Type 0} → ℕ → X → ℕ → WireType → L
 skipped_field d v n w bs = skip_at d n w bs >>= (λ rest. Ok (v, rest))
 
 -- the text of an int32 field of number n, which isn't written at 0
-abbrev pub number_text : ℕ → ℤ → List ℕ
-number_text n (pos zero) = []
-number_text n (pos (suc k)) = tag_text n Varint ++ int32_text (pos (suc k))
-number_text n (negsuc k) = tag_text n Varint ++ int32_text (negsuc k)
+abbrev pub number_encoding : ℕ → ℤ → List ℕ
+number_encoding n (pos zero) = []
+number_encoding n (pos (suc k)) = tag_encoding n Varint ++ int32_encoding (pos (suc k))
+number_encoding n (negsuc k) = tag_encoding n Varint ++ int32_encoding (negsuc k)
 
 -- its record
 abbrev pub number_records : ℕ → ℤ → List (ℕ × Datum)

@@ -6,8 +6,8 @@ use Rattle.buffa_wire.specs.Join.Join.{more}
 use Rattle.buffa_wire.specs.Number.{IsNumber}
 use Rattle.buffa_wire.specs.Reading.{tag_at}
 use Rattle.buffa_wire.specs.Records.{Datum}
-use Rattle.buffa_wire.specs.Text.{records_text, field_text}
-use Rattle.buffa_wire.specs.Values.{int32_at, int32_of, int32_text, tag_text}
+use Rattle.buffa_wire.specs.Encoding.{records_encoding, field_encoding}
+use Rattle.buffa_wire.specs.Values.{int32_at, int32_of, int32_encoding, tag_encoding}
 use Rattle.buffa_bytes.specs.Varint.{TakesVarint, VarintFault}
 use Rattle.buffa_bytes.specs.declared.wire_type.WireType.{WireType}
 use Rattle.buffa_bytes.specs.declared.wire_type.WireType.TheVariants.{Varint, Fixed64, LengthDelimited, StartGroup, EndGroup, Fixed32}
@@ -16,8 +16,8 @@ use Rattle.buffa_bytes.specs.declared.error.DecodeError.TheVariants.{OutOfMemory
 use Rattle.buffa_bytes.proofs.StepLemmas.{Agrees, agree_bind}
 use Rattle.buffa_bytes.proofs.FieldLemmas.{payload_complete, payload_sound}
 use Rattle.buffa_bytes.proofs.IntLemmas.{int32_below}
-use Rattle.buffa_bytes.proofs.ShortestLemmas.{varint_text-last, length-varint_text}
-use Rattle.buffa_bytes.proofs.VarintLemmas.{IsVarint-varint_text, varint_complete, varint_sound as varint_is_sound}
+use Rattle.buffa_bytes.proofs.ShortestLemmas.{varint_encoding-last, length-varint_encoding}
+use Rattle.buffa_bytes.proofs.VarintLemmas.{IsVarint-varint_encoding, varint_complete, varint_sound as varint_is_sound}
 use Rattle.std.specs.Int.{cast_unsigned, w32, w64}
 use Rattle.buffa_wire.proofs.MessageLemmas.{NoLimit, payload_no_limit, var_no_limit}
 use Rattle.buffa_wire.specs.Sequence.{parse_all, parse_within}
@@ -25,7 +25,7 @@ use Rattle.buffa_wire.proofs.SequenceLemmas.{ok_same}
 use Rattle.buffa_map.proofs.EntryLemmas.{check_sound}
 use Rattle.buffa_wire.specs.ByField.{FieldReader, merged_by, next_at}
 use Rattle.buffa_wire.proofs.ByFieldLemmas.{IsSame, IsSound, Same, read, some_of}
-use Rattle.buffa_samples.specs.Fields.{int32_field, number_records, number_text, skipped_field, varint_field}
+use Rattle.buffa_samples.specs.Fields.{int32_field, number_records, number_encoding, skipped_field, varint_field}
 
 -- ---- fields that are passed over
 module _ {X : Type 0} (d : ℕ) (v : X) (n : ℕ) (w : WireType) where
@@ -124,49 +124,49 @@ full_not_at_end field ends (Ok x) old new n w bs rest h = tt
 full_not_at_end field ends (Err e) old new n w bs rest h = λ full is. ends old n bs (ap (λ z. field old n z bs) (sym is) ∙ h ∙ ap (λ z. Err z) full)
 
 -- ---- the text of an int32 field
-pub zero_text : (n : ℕ) (v : ℤ) → v ≡ pos 0 → number_text n v ≡ []
-zero_text n v h = ap (number_text n) h
+pub zero_text : (n : ℕ) (v : ℤ) → v ≡ pos 0 → number_encoding n v ≡ []
+zero_text n v h = ap (number_encoding n) h
 
-pub some_text : (n : ℕ) (v : ℤ) → (v ≡ pos 0 → ⊥) → number_text n v ≡ tag_text n Varint ++ int32_text v
+pub some_text : (n : ℕ) (v : ℤ) → (v ≡ pos 0 → ⊥) → number_encoding n v ≡ tag_encoding n Varint ++ int32_encoding v
 some_text n (pos zero) h = absurd (h refl)
 some_text n (pos (suc k)) h = refl
 some_text n (negsuc k) h = refl
 
-pub number_text_records : (n : ℕ) (v : ℤ) → number_text n v ≡ records_text (number_records n v)
-number_text_records n (pos zero) = refl
-number_text_records n (pos (suc k)) = sym (append-nil (tag_text n Varint ++ int32_text (pos (suc k))))
-number_text_records n (negsuc k) = sym (append-nil (tag_text n Varint ++ int32_text (negsuc k)))
+pub number_encoding_records : (n : ℕ) (v : ℤ) → number_encoding n v ≡ records_encoding (number_records n v)
+number_encoding_records n (pos zero) = refl
+number_encoding_records n (pos (suc k)) = sym (append-nil (tag_encoding n Varint ++ int32_encoding (pos (suc k))))
+number_encoding_records n (negsuc k) = sym (append-nil (tag_encoding n Varint ++ int32_encoding (negsuc k)))
 
-records_text-append : (xs ys : List (ℕ × Datum)) → records_text (xs ++ ys) ≡ records_text xs ++ records_text ys
-records_text-append [] ys = refl
-records_text-append (x ∷ xs) ys = ap (λ (z : List ℕ). field_text x.0 x.1 ++ z) (records_text-append xs ys) ∙ sym (append_assoc (field_text x.0 x.1) (records_text xs) (records_text ys))
+records_encoding-append : (xs ys : List (ℕ × Datum)) → records_encoding (xs ++ ys) ≡ records_encoding xs ++ records_encoding ys
+records_encoding-append [] ys = refl
+records_encoding-append (x ∷ xs) ys = ap (λ (z : List ℕ). field_encoding x.0 x.1 ++ z) (records_encoding-append xs ys) ∙ sym (append_assoc (field_encoding x.0 x.1) (records_encoding xs) (records_encoding ys))
 
 -- the text of records and of more records
-pub both_records : (a b : List ℕ) (xs ys : List (ℕ × Datum)) → a ≡ records_text xs → b ≡ records_text ys → a ++ b ≡ records_text (xs ++ ys)
-both_records a b xs ys h k = (λ i. h i ++ k i) ∙ sym (records_text-append xs ys)
+pub both_records : (a b : List ℕ) (xs ys : List (ℕ × Datum)) → a ≡ records_encoding xs → b ≡ records_encoding ys → a ++ b ≡ records_encoding (xs ++ ys)
+both_records a b xs ys h k = (λ i. h i ++ k i) ∙ sym (records_encoding-append xs ys)
 
 -- the tag of a small number is one byte
-pub tag_one : (n : ℕ) → n < 16 → length (tag_text n Varint) ≡ 1
-tag_one n h = ap length (varint_text-last (8 * n + 0) (omega (arith, h)))
+pub tag_one : (n : ℕ) → n < 16 → length (tag_encoding n Varint) ≡ 1
+tag_one n h = ap length (varint_encoding-last (8 * n + 0) (omega (arith, h)))
 
-pub length_tag : (n : ℕ) (v : ℤ) → n < 16 → length (tag_text n Varint ++ int32_text v) ≡ 1 + length (int32_text v)
-length_tag n v h = omega (arith, length-append (tag_text n Varint) (int32_text v), tag_one n h)
+pub length_tag : (n : ℕ) (v : ℤ) → n < 16 → length (tag_encoding n Varint ++ int32_encoding v) ≡ 1 + length (int32_encoding v)
+length_tag n v h = omega (arith, length-append (tag_encoding n Varint) (int32_encoding v), tag_one n h)
 
-pub length_number : (n : ℕ) (v : ℤ) → n < 16 → FitsSigned w32 v → length (number_text n v) ≤ 11
+pub length_number : (n : ℕ) (v : ℤ) → n < 16 → FitsSigned w32 v → length (number_encoding n v) ≤ 11
 length_number n (pos zero) h f = omega arith
-length_number n (pos (suc k)) h f = omega (arith, length_tag n (pos (suc k)) h, length-varint_text (cast_unsigned w64 (pos (suc k))) (int32_below (pos (suc k)) f))
-length_number n (negsuc k) h f = omega (arith, length_tag n (negsuc k) h, length-varint_text (cast_unsigned w64 (negsuc k)) (int32_below (negsuc k) f))
+length_number n (pos (suc k)) h f = omega (arith, length_tag n (pos (suc k)) h, length-varint_encoding (cast_unsigned w64 (pos (suc k))) (int32_below (pos (suc k)) f))
+length_number n (negsuc k) h f = omega (arith, length_tag n (negsuc k) h, length-varint_encoding (cast_unsigned w64 (negsuc k)) (int32_below (negsuc k) f))
 
-pub number_tag : (n : ℕ) → IsNumber n → n < 16 → IsTag (tag_text n Varint) n Varint
-number_tag n is h = (is, IsVarint-varint_text (8 * n + 0) (omega (arith, h)))
+pub number_tag : (n : ℕ) → IsNumber n → n < 16 → IsTag (tag_encoding n Varint) n Varint
+number_tag n is h = (is, IsVarint-varint_encoding (8 * n + 0) (omega (arith, h)))
 
 -- the text of an int32 field is merged, and then what follows it
 module _ {X : Type 0} (d : ℕ) (field : FieldReader X) (sound : IsSound d field) (same : IsSame d field) (n : ℕ) (number : IsNumber n) (small : n < 16) where
-  pub number_read : (v : ℤ) (u put : X) (rest : List ℕ) → (v ≡ pos 0 → u ≡ put) → (field u n Varint (int32_text v ++ rest) ≡ Ok (put, rest)) → merged_by field u (number_text n v ++ rest) ≡ merged_by field put rest
+  pub number_read : (v : ℤ) (u put : X) (rest : List ℕ) → (v ≡ pos 0 → u ≡ put) → (field u n Varint (int32_encoding v ++ rest) ≡ Ok (put, rest)) → merged_by field u (number_encoding n v ++ rest) ≡ merged_by field put rest
   number_read (pos zero) u put rest h k = ap (λ z. merged_by field z rest) (h refl)
   number_read (pos (suc m)) u put rest h k =
       let v = pos (suc m) in
-      ap (merged_by field u) (append_assoc (tag_text n Varint) (int32_text v) rest) ∙ read d field sound same u n Varint (tag_text n Varint) (number_tag n number small) put (int32_text v ++ rest) rest k
+      ap (merged_by field u) (append_assoc (tag_encoding n Varint) (int32_encoding v) rest) ∙ read d field sound same u n Varint (tag_encoding n Varint) (number_tag n number small) put (int32_encoding v ++ rest) rest k
   number_read (negsuc m) u put rest h k =
       let v = negsuc m in
-      ap (merged_by field u) (append_assoc (tag_text n Varint) (int32_text v) rest) ∙ read d field sound same u n Varint (tag_text n Varint) (number_tag n number small) put (int32_text v ++ rest) rest k
+      ap (merged_by field u) (append_assoc (tag_encoding n Varint) (int32_encoding v) rest) ∙ read d field sound same u n Varint (tag_encoding n Varint) (number_tag n number small) put (int32_encoding v ++ rest) rest k

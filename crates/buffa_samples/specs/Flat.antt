@@ -4,7 +4,7 @@ use Rattle.std.specs.Prelude.{ℤ, ℕ, ◌==◌, List, Option, if◌then◌else
 use Rattle.buffa_wire.specs.BudgetLeft.{BudgetLeft, nothing}
 use Rattle.buffa_wire.specs.Records.{Datum}
 use Rattle.buffa_wire.specs.ByField.{FieldReader, merged_by}
-use Rattle.buffa_samples.specs.Fields.{int32_field, number_records, number_text, skipped_field}
+use Rattle.buffa_samples.specs.Fields.{int32_field, number_records, number_encoding, skipped_field}
 
 abbrev pub flat_field : ℕ → FieldReader ℤ
 flat_field d v n w bs = if n == 1 then int32_field 1 (λ x. x) w bs else skipped_field d v n w bs
@@ -17,8 +17,8 @@ abbrev pub flat_cost : ℕ → List ℕ → BudgetLeft
 flat_cost d bs = nothing
 
 -- the field of the value, not written at 0
-abbrev pub value_text : ℤ → List ℕ
-value_text v = number_text 1 v
+abbrev pub value_encoding : ℤ → List ℕ
+value_encoding v = number_encoding 1 v
 
 -- its record
 abbrev pub value_records : ℤ → List (ℕ × Datum)

@@ -12,10 +12,10 @@ use Rattle.buffa_wire.specs.BudgetLeft.{BudgetLeft, Lacks}
 use Rattle.buffa_wire.specs.Message.{IsFieldMerged}
 use Rattle.buffa_wire.proofs.ParseLemmas.{text_parses}
 use Rattle.buffa_wire.specs.Falls.{height-records}
-use Rattle.buffa_wire.specs.Parse.{Fits, Parse, slots, slots_inside}
+use Rattle.buffa_wire.specs.Parse.{Fits, Parse, slots, fields_inside}
 use Rattle.buffa_wire.specs.RecordReading.{TakesMemory, field_at}
 use Rattle.buffa_wire.specs.Records.{Datum, height, one, records_of}
-use Rattle.buffa_wire.specs.Text.{records_text, wire_of}
+use Rattle.buffa_wire.specs.Encoding.{records_encoding, wire_of}
 use Rattle.buffa_wire.proofs.ByFieldLemmas.{IsSame, IsSound, empty, read}
 use Rattle.buffa_wire.proofs.CostLemmas.{paid}
 use Rattle.buffa_wire.proofs.KeepLemmas.{all_slots, enough_slots, field_short, keep_stays, le_or_lt, needed, payload_of_record, record_of_payload}
@@ -42,8 +42,8 @@ keep_parsed (y ∷ ys) d v b (f, r, (t, p, tag, payload, is), next, all) =
     ∙ read d (keep_field d) (keep_sound d) (keep_same d) v y.0 (wire_of y.1) t tag (v ++ (y.0, y.1) ∷ []) (p ++ r) r kept
     ∙ keep_parsed ys d (v ++ (y.0, y.1) ∷ []) r next ∙ ap (λ z. Some z) (append_assoc v (y ∷ []) ys)
 
-pub keep_back : (d : ℕ) (v : List (ℕ × Datum)) → Fits (records_of v) → height v ≤ d → keep_merged d [] (records_text v) ≡ Some v
-keep_back d v fits h = keep_parsed v d [] (records_text v) (text_parses (records_of v) d fits (subst (λ k. k ≤ d) (sym (height-records v)) h))
+pub keep_back : (d : ℕ) (v : List (ℕ × Datum)) → Fits (records_of v) → height v ≤ d → keep_merged d [] (records_encoding v) ≡ Some v
+keep_back d v fits h = keep_parsed v d [] (records_encoding v) (text_parses (records_of v) d fits (subst (λ k. k ≤ d) (sym (height-records v)) h))
 
 -- ---- a call that reads the field with slots of its own
 module _ (d s n : ℕ) (w : WireType) (bs : List ℕ) where
@@ -60,7 +60,7 @@ module _ (d s n : ℕ) (w : WireType) (bs : List ℕ) where
   refused_by (Ok y) is v left e same h =
       let u = agree_ok (record_at d n w bs) y (field_is_read d (suc (length bs)) n w bs) is in
       let need = needed d n w bs u.0 y.2 y.0 u.1 u.2 u.4 in
-      elim (le_or_lt (1 + slots_inside y.0) s) [
+      elim (le_or_lt (1 + fields_inside y.0) s) [
         | inl many ↦ let k = sym h ∙ enough_slots d s n w bs u.0 y.2 y.0 u.1 u.2 u.4 many in cc
         | inr few ↦ inl (inl (omega (arith, few, same, ap (λ z. z.unknown) need)))
       ]

@@ -9,7 +9,7 @@ use Rattle.buffa_map.specs.Codec.{Writing}
 use Rattle.buffa_map.specs.Scalars.{delimited_writing, number_reading, string_reading, varint_writing}
 use Rattle.buffa_map.specs.Pairs.{InOrder, ListsOnce}
 use Rattle.buffa_map.specs.Merge.{Rules, StopsRun, dropping, state}
-use Rattle.buffa_map.specs.Text.{HasText, entry_text, field_text}
+use Rattle.buffa_map.specs.Encoding.{HasEncoding, entry_encoding, field_encoding}
 use Rattle.buffa_bytes.specs.declared.error.DecodeError.{DecodeError}
 use Rattle.buffa_wire.specs.BudgetLeft.{BudgetLeft, units}
 use Rattle.buffa_samples.specs.Letters.{same_letters}
@@ -26,11 +26,11 @@ module _ {K V : Type 0} (key : Writing K) (val : Writing V) (cost : ℕ) where
   abbrev pub RefusesPairs : List (K × V) → TripFault → Type 0
   RefusesPairs l (Encode encode.MessageTooLarge) =
       (done : List (K × V)) × (p : K × V) × (rest : List (K × V)) × (l ≡ done ++ p ∷ rest)
-      × (2 ^ 64 ≤ length (entry_text key val p))
+      × (2 ^ 64 ≤ length (entry_encoding key val p))
   RefusesPairs l (Encode encode.OutOfMemory) = l ≢ []
   RefusesPairs l (Encode (encode.GroupRefused e)) = ⊥
   RefusesPairs l (Decode f) =
-      (l ≢ []) × HasText key val l
+      (l ≢ []) × HasEncoding key val l
       × (f ≢ decode.OutOfMemory → (f ≡ decode.ElementMemoryLimitExceeded) × (268435456 < length l * cost))
 
   module _ (eq : K → K → Bool) (m : List (K × V)) (Walk : List (K × V) → Type 0) where
@@ -40,7 +40,7 @@ module _ {K V : Type 0} (key : Writing K) (val : Writing V) (cost : ℕ) where
 
     -- in some walk of it no entry is too long, and the pairs cost no more than a budget starts with
     abbrev pub FitsTrip : Type 0
-    FitsTrip = (l : List (K × V)) × Walk l × ListsOnce eq m l × HasText key val l × (length l * cost ≤ 268435456)
+    FitsTrip = (l : List (K × V)) × Walk l × ListsOnce eq m l × HasEncoding key val l × (length l * cost ≤ 268435456)
 
 -- P, if the pairs couldn't be written
 abbrev pub IfUnwritten : TripFault → Type 0 → Type 0
@@ -57,7 +57,7 @@ IfUnread (Decode f) Q = Q f
 abbrev pub StopsInField : {K V : Type 0} → Rules K V → Writing K → Writing V → (List (K × V) → Type 0) → BudgetLeft → List (K × V) → DecodeError → Type 0
 StopsInField {K} {V} r key val Walk left pairs f =
     (l : List (K × V)) × Walk l × (over : BudgetLeft) × (unread : List ℕ)
-    × StopsRun r (state [] [] left) (field_text key val r.number l) (state pairs [] over) unread f
+    × StopsRun r (state [] [] left) (field_encoding key val r.number l) (state pairs [] over) unread f
 
 -- the same, where the map was written, from the units that a budget starts with
 abbrev pub StopsTrip : {K V : Type 0} → Rules K V → Writing K → Writing V → (List (K × V) → Type 0) → List (K × V) → TripFault → Type 0

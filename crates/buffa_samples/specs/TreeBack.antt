@@ -10,15 +10,15 @@ use Rattle.std.specs.Ordering.{int_cmp, match_ordering, ordering_reverse}
 use Rattle.std.specs.declared.cmp.Ordering.TheVariants.{Less, Greater}
 use Rattle.buffa_bytes.proofs.DelimitedLemmas.{delimited_back}
 use Rattle.buffa_bytes.proofs.IntLemmas.{int32_back, int32_below, int32_means}
-use Rattle.buffa_bytes.proofs.VarintLemmas.{IsVarint-varint_text}
+use Rattle.buffa_bytes.proofs.VarintLemmas.{IsVarint-varint_encoding}
 use Rattle.buffa_bytes.specs.declared.wire_type.WireType.TheVariants.{LengthDelimited, Varint}
 use Rattle.buffa_wire.specs.BudgetLeft.{nothing}
 use Rattle.buffa_wire.specs.Content.{bytes, number}
 use Rattle.buffa_wire.specs.Message.{merged_in}
 use Rattle.buffa_wire.specs.Parse.{Fits}
 use Rattle.buffa_wire.specs.Records.{records_of}
-use Rattle.buffa_wire.specs.Values.{delimited_text, int32_text, tag_text}
-use Rattle.buffa_wire.specs.Varint.{varint_text}
+use Rattle.buffa_wire.specs.Values.{delimited_encoding, int32_encoding, tag_encoding}
+use Rattle.buffa_wire.specs.Varint.{varint_encoding}
 use Rattle.buffa_map.proofs.BackLemmas.{is_tag}
 use Rattle.buffa_map.proofs.EntryLemmas.{entry_complete}
 use Rattle.buffa_map.specs.Codec.{level}
@@ -27,7 +27,7 @@ use Rattle.buffa_map.specs.declared.map_entry.MapEntry.{MapEntry}
 use Rattle.buffa_wire.specs.ByField.{merged_by}
 use Rattle.buffa_wire.proofs.ByFieldLemmas.{empty, read}
 use Rattle.buffa_samples.specs.FieldsLaws.{number_read}
-use Rattle.buffa_samples.specs.Flat.{value_text}
+use Rattle.buffa_samples.specs.Flat.{value_encoding}
 use Rattle.buffa_samples.specs.Grown.{Grown, grown, Kids, no_kids, kid, kids, kids_of, kids-listed, listed, listed-kids}
 use Rattle.buffa_samples.specs.TreeLaws.{tree_same, tree_sound}
 use Rattle.buffa_samples.specs.TreeMeaning.{ChildMeaning, child_at, child_reading, key_reading, merged, tree_field}
@@ -47,10 +47,10 @@ put_last (e ∷ es) k t more s =
 
 -- ---- a child's text is shorter than its entry, and that than its record
 shorter : (k : ℤ) (b : List ℕ) → length (kid_entry k b) < 2 ^ 64 → length b < 2 ^ 64
-shorter k b h = omega (arith, h, length-append (tag_text 1 Varint ++ varint_text (cast_unsigned w64 k)) (tag_text 2 LengthDelimited ++ delimited_text b), length-append (tag_text 2 LengthDelimited) (delimited_text b), length-append (varint_text (length b)) b)
+shorter k b h = omega (arith, h, length-append (tag_encoding 1 Varint ++ varint_encoding (cast_unsigned w64 k)) (tag_encoding 2 LengthDelimited ++ delimited_encoding b), length-append (tag_encoding 2 LengthDelimited) (delimited_encoding b), length-append (varint_encoding (length b)) b)
 
 longer : (k : ℤ) (b : List ℕ) → length (kid_entry k b) ≤ length (kid_record k b)
-longer k b = omega (arith, length-append (tag_text 2 LengthDelimited) (delimited_text (kid_entry k b)), length-append (varint_text (length (kid_entry k b))) (kid_entry k b))
+longer k b = omega (arith, length-append (tag_encoding 2 LengthDelimited) (delimited_encoding (kid_entry k b)), length-append (varint_encoding (length (kid_entry k b))) (kid_entry k b))
 
 -- ---- at a level
 module _ (d : ℕ) (m : ChildMeaning) where
@@ -65,25 +65,25 @@ module _ (d : ℕ) (m : ChildMeaning) where
   entry_back : (k : ℤ) (t : Grown) → FitsSigned w32 k → length (text t) < 2 ^ 64 → level true d ≡ Ok tt → merged_in (λ _. m) d (grown (pos 0) no_kids) (text t) ≡ Some t →
       IsEntry key_reading (child_reading m (λ _. nothing)) d (kid_entry k (text t)) (record { key = k; value = t; known = true })
   entry_back k t fits short deep means =
-      let key : List ℕ = varint_text (cast_unsigned w64 k) in
-      let value : List ℕ = delimited_text (text t) in
-      let f : List ℕ = tag_text 1 Varint ++ key in
-      let g : List ℕ = tag_text 2 LengthDelimited ++ value in
+      let key : List ℕ = varint_encoding (cast_unsigned w64 k) in
+      let value : List ℕ = delimited_encoding (text t) in
+      let f : List ℕ = tag_encoding 1 Varint ++ key in
+      let g : List ℕ = tag_encoding 2 LengthDelimited ++ value in
       let s : MapEntry ℤ Grown = blanks key_reading (child_reading m (λ _. nothing)) d in
       let mid : MapEntry ℤ Grown = record { key = k; value = grown (pos 0) no_kids; known = true } in
       let end : MapEntry ℤ Grown = record { key = k; value = t; known = true } in
       let one : IsField key_reading (child_reading m (λ _. nothing)) d s f mid =
-      inl (k, true, (tag_text 1 Varint, key, number (cast_unsigned w64 k), is_tag 1 Varint (omega arith, omega arith), refl, IsVarint-varint_text (cast_unsigned w64 k) (int32_below k fits), ap (λ z. Ok (z, true)) (int32_means k fits), refl), refl) in
+      inl (k, true, (tag_encoding 1 Varint, key, number (cast_unsigned w64 k), is_tag 1 Varint (omega arith, omega arith), refl, IsVarint-varint_encoding (cast_unsigned w64 k) (int32_below k fits), ap (λ z. Ok (z, true)) (int32_means k fits), refl), refl) in
       let two : IsField key_reading (child_reading m (λ _. nothing)) d mid g end =
-      inr (inl (t, true, (tag_text 2 LengthDelimited, value, bytes (text t), is_tag 2 LengthDelimited (omega arith, omega arith), deep, (varint_text (length (text t)), IsVarint-varint_text (length (text t)) short, refl), rw means refl, refl), refl)) in
+      inr (inl (t, true, (tag_encoding 2 LengthDelimited, value, bytes (text t), is_tag 2 LengthDelimited (omega arith, omega arith), deep, (varint_encoding (length (text t)), IsVarint-varint_encoding (length (text t)) short, refl), rw means refl, refl), refl)) in
       (f ∷ g ∷ [], sym (append-nil (f ++ (g ++ [])) ∙ ap (λ z. f ++ z) (append-nil g)), (mid, one, (end, two, refl)))
 
-  child_back : (k : ℤ) (t : Grown) (rest : List ℕ) → IsRead k t → length (text t) < 2 ^ 64 → child_at d m (delimited_text (kid_entry k (text t)) ++ rest) ≡ Ok (record { key = k; value = t; known = true }, rest)
+  child_back : (k : ℤ) (t : Grown) (rest : List ℕ) → IsRead k t → length (text t) < 2 ^ 64 → child_at d m (delimited_encoding (kid_entry k (text t)) ++ rest) ≡ Ok (record { key = k; value = t; known = true }, rest)
   child_back k t rest (fits, short, deep, means) small =
       rw (delimited_back (kid_entry k (text t)) rest short, entry_complete key_reading (child_reading m (λ _. nothing)) d (kid_entry k (text t)) (record { key = k; value = t; known = true }) (entry_back k t fits small deep means)) refl
 
   child_read : (l k : ℤ) (t : Grown) (done : List (ℤ × Grown)) (rest : List ℕ) → IsRead k t → length (text t) < 2 ^ 64 → insert_entry int_cmp done k t ≡ done ++ (k, t) ∷ [] →
-      tree_field d m (grown l (kids done)) 2 LengthDelimited (delimited_text (kid_entry k (text t)) ++ rest) ≡ Ok (grown l (kids (done ++ (k, t) ∷ [])), rest)
+      tree_field d m (grown l (kids done)) 2 LengthDelimited (delimited_encoding (kid_entry k (text t)) ++ rest) ≡ Ok (grown l (kids (done ++ (k, t) ∷ [])), rest)
   child_read l k t done rest h small last =
       rw (child_back k t rest h small) (ap (λ xs. Ok (grown l (kids xs), rest)) (ap (λ xs. insert_entry int_cmp xs k t) (listed-kids done) ∙ last))
 
@@ -92,10 +92,10 @@ module _ (d : ℕ) (m : ChildMeaning) where
       merged_by (tree_field d m) (grown l (kids done)) (texts ks) ≡ Some (grown l (kids (done ++ listed ks)))
   kids_read no_kids l done h s = empty d (tree_field d m) (tree_sound d m) (tree_same d m) (grown l (kids done)) ∙ ap (λ xs. Some (grown l (kids xs))) (sym (append-nil done))
   kids_read (kid k t ks) l done h s =
-      let entry : List ℕ = delimited_text (kid_entry k (text t)) in
+      let entry : List ℕ = delimited_encoding (kid_entry k (text t)) in
       let all : (done ++ (k, t) ∷ []) ++ listed ks ≡ done ++ (k, t) ∷ listed ks = append_assoc done ((k, t) ∷ []) (listed ks) in
-      ap (merged_by (tree_field d m) (grown l (kids done))) (append_assoc (tag_text 2 LengthDelimited) entry (texts ks))
-      ∙ read d (tree_field d m) (tree_sound d m) (tree_same d m) (grown l (kids done)) 2 LengthDelimited (tag_text 2 LengthDelimited) (is_tag 2 LengthDelimited (omega arith, omega arith))
+      ap (merged_by (tree_field d m) (grown l (kids done))) (append_assoc (tag_encoding 2 LengthDelimited) entry (texts ks))
+      ∙ read d (tree_field d m) (tree_sound d m) (tree_same d m) (grown l (kids done)) 2 LengthDelimited (tag_encoding 2 LengthDelimited) (is_tag 2 LengthDelimited (omega arith, omega arith))
       (grown l (kids (done ++ (k, t) ∷ []))) (entry ++ texts ks) (texts ks) (child_read l k t done (texts ks) h.0 (shorter k (text t) h.0.1) (put_last done k t (listed ks) s))
       ∙ kids_read ks l (done ++ (k, t) ∷ []) h.1 (subst (λ xs. IsStrictlySortedBy int_cmp (keys_of xs)) (sym all) s)
       ∙ ap (λ xs. Some (grown l (kids xs))) all
@@ -103,7 +103,7 @@ module _ (d : ℕ) (m : ChildMeaning) where
   -- the label, and then the children
   tree_read : (l : ℤ) (ks : Kids) → FitsSigned w32 l → AreRead ks → IsStrictlySortedBy int_cmp (keys_of (listed ks)) → merged_by (tree_field d m) (grown (pos 0) no_kids) (text (grown l ks)) ≡ Some (grown l ks)
   tree_read l ks fits h s =
-      let label : tree_field d m (grown (pos 0) no_kids) 1 Varint (int32_text l ++ texts ks) ≡ Ok (grown l no_kids, texts ks) = rw (int32_back l (texts ks) fits) refl in
+      let label : tree_field d m (grown (pos 0) no_kids) 1 Varint (int32_encoding l ++ texts ks) ≡ Ok (grown l no_kids, texts ks) = rw (int32_back l (texts ks) fits) refl in
       number_read d (tree_field d m) (tree_sound d m) (tree_same d m) 1 (omega arith, omega arith) (omega arith) l (grown (pos 0) no_kids) (grown l no_kids) (texts ks) (λ z. ap (λ x. grown x no_kids) (sym z)) label
       ∙ kids_read ks l [] h s ∙ ap (λ z. Some (grown l z)) (kids-listed ks)
 
@@ -117,7 +117,7 @@ short_in no_kids h = tt
 short_in (kid k t ks) h = let n = length-append (kid_record k (text t)) (texts ks) in (omega (arith, h, n, longer k (text t)), short_in ks (omega (arith, h, n)))
 
 short_child : (k : ℤ) (t : Grown) → length (kid_entry k (text t)) < 2 ^ 64 → AreShort (kids_of t)
-short_child k (grown l ks) h = short_in ks (omega (arith, shorter k (text (grown l ks)) h, length-append (value_text l) (texts ks)))
+short_child k (grown l ks) h = short_in ks (omega (arith, shorter k (text (grown l ks)) h, length-append (value_encoding l) (texts ks)))
 
 short_records : (ks : Kids) → Fits (records_of (kids_records ks)) → AreShort ks
 short_records no_kids h = tt

@@ -14,7 +14,7 @@ use Rattle.buffa_wire.specs.Field.{Payload, SomeField}
 use Rattle.buffa_wire.specs.Join.{Join}
 use Rattle.buffa_wire.specs.BudgetLeft.{BudgetLeft, Lacks, nothing, plus, slots}
 use Rattle.buffa_wire.specs.Message.{merged_in}
-use Rattle.buffa_wire.specs.Text.{records_text}
+use Rattle.buffa_wire.specs.Encoding.{records_encoding}
 use Rattle.buffa_wire.specs.Varint.{IsVarint}
 use Rattle.buffa_wire.proofs.SequenceLemmas.{ok_same}
 use Rattle.buffa_map.proofs.EntryLemmas.{check_sound, entry_sound}
@@ -25,8 +25,8 @@ use Rattle.buffa_map.specs.declared.map_entry.MapEntry.{MapEntry}
 use Rattle.buffa_wire.proofs.CostLemmas as costs
 use Rattle.buffa_samples.specs.Fields.{int32_field, skipped_field}
 use Rattle.buffa_wire.proofs.ByFieldLemmas.{IsSame, IsSound, Same, empty, fields, next}
-use Rattle.buffa_samples.specs.FieldsLaws.{both_records, int32_same, int32_sound, number_text_records, same_if, skipped_same, skipped_sound}
-use Rattle.buffa_samples.specs.Flat.{value_records, value_text}
+use Rattle.buffa_samples.specs.FieldsLaws.{both_records, int32_same, int32_sound, number_encoding_records, same_if, skipped_same, skipped_sound}
+use Rattle.buffa_samples.specs.Flat.{value_records, value_encoding}
 use Rattle.buffa_samples.specs.Grown.{Grown, grown, Kids, no_kids, kid}
 use Rattle.buffa_samples.specs.TreeMeaning.{ChildCost, ChildMeaning, child_at, child_field, child_need, child_reading, cost, key_reading, merged, tree_field, tree_need, with_child, with_label}
 use Rattle.buffa_samples.specs.TreeText.{kid_record, kids_records, records, text, texts}
@@ -130,9 +130,9 @@ cost_next zero = costs.cost_next (tree_need zero (λ _ _. None) (λ _. nothing))
 cost_next (suc d) = costs.cost_next (tree_need (suc d) (merged d) (cost d)) (suc d) (tree_stays (suc d) (merged d) (cost d))
 
 -- ---- the text is that of records
-kids_text : (ks : Kids) → texts ks ≡ records_text (kids_records ks)
-kids_text no_kids = refl
-kids_text (kid k t ks) = ap (λ (z : List ℕ). kid_record k (text t) ++ z) (kids_text ks)
+kids_encoding : (ks : Kids) → texts ks ≡ records_encoding (kids_records ks)
+kids_encoding no_kids = refl
+kids_encoding (kid k t ks) = ap (λ (z : List ℕ). kid_record k (text t) ++ z) (kids_encoding ks)
 
-pub text_records : (t : Grown) → text t ≡ records_text (records t)
-text_records (grown l ks) = both_records (value_text l) (texts ks) (value_records l) (kids_records ks) (number_text_records 1 l) (kids_text ks)
+pub encoding_records : (t : Grown) → text t ≡ records_encoding (records t)
+encoding_records (grown l ks) = both_records (value_encoding l) (texts ks) (value_records l) (kids_records ks) (number_encoding_records 1 l) (kids_encoding ks)

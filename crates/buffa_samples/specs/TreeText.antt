@@ -13,8 +13,8 @@ use Rattle.buffa_map.specs.Codec.{Writing}
 use Rattle.buffa_map.specs.MessageField.{field_slots}
 use Rattle.buffa_map.specs.Pairs.{means}
 use Rattle.buffa_map.specs.Scalars.{delimited_writing, varint_writing}
-use Rattle.buffa_map.specs.Text.{entry_text, field_text, record_text}
-use Rattle.buffa_samples.specs.Flat.{value_records, value_text}
+use Rattle.buffa_map.specs.Encoding.{entry_encoding, field_encoding, record_encoding}
+use Rattle.buffa_samples.specs.Flat.{value_records, value_encoding}
 use Rattle.buffa_samples.specs.Grown.{Grown, grown, Kids, no_kids, kid, kids, listed}
 
 -- keys are int32
@@ -23,15 +23,15 @@ key_writing = varint_writing (cast_unsigned w64)
 
 -- a child's entry, where its text is given
 abbrev pub kid_entry : ℤ → List ℕ → List ℕ
-kid_entry k t = entry_text key_writing (delimited_writing (λ (x : List ℕ). x)) (k, t)
+kid_entry k t = entry_encoding key_writing (delimited_writing (λ (x : List ℕ). x)) (k, t)
 
 abbrev pub kid_record : ℤ → List ℕ → List ℕ
-kid_record k t = record_text key_writing (delimited_writing (λ (x : List ℕ). x)) 2 (k, t)
+kid_record k t = record_encoding key_writing (delimited_writing (λ (x : List ℕ). x)) 2 (k, t)
 
 abbrev mutual
   -- the label, and then a record of field 2 for each child
   pub text : Grown → List ℕ
-  text (grown l ks) = value_text l ++ texts ks
+  text (grown l ks) = value_encoding l ++ texts ks
 
   pub texts : Kids → List ℕ
   texts no_kids = []
@@ -85,7 +85,7 @@ meant-is [] = refl
 meant-is (e ∷ es) = ap (λ (xs : List (ℤ × Grown)). (e.0, e.1) ∷ xs) (meant-is es)
 
 -- the children's records are the field of the map
-pub texts-field : (es : List (ℤ × Grown)) → texts (kids es) ≡ field_text key_writing (delimited_writing text) 2 (meant es)
+pub texts-field : (es : List (ℤ × Grown)) → texts (kids es) ≡ field_encoding key_writing (delimited_writing text) 2 (meant es)
 texts-field [] = refl
 texts-field (e ∷ es) = ap (λ (r : List ℕ). kid_record e.0 (text e.1) ++ r) (texts-field es)
 

@@ -4,7 +4,7 @@ use Rattle.std.specs.Prelude.{ℤ, ℕ, ◌==◌, List, ◌++◌, Option, if◌t
 use Rattle.buffa_wire.specs.BudgetLeft.{BudgetLeft, nothing}
 use Rattle.buffa_wire.specs.Records.{Datum}
 use Rattle.buffa_wire.specs.ByField.{FieldReader, merged_by}
-use Rattle.buffa_samples.specs.Fields.{int32_field, number_records, number_text, skipped_field}
+use Rattle.buffa_samples.specs.Fields.{int32_field, number_records, number_encoding, skipped_field}
 
 abbrev pub two_field : ℕ → FieldReader (ℤ × ℤ)
 two_field d v n w bs =
@@ -20,7 +20,7 @@ two_cost d bs = nothing
 
 -- the fields of both values, each not written at 0
 abbrev pub two_text : ℤ × ℤ → List ℕ
-two_text v = number_text 1 v.0 ++ number_text 2 v.1
+two_text v = number_encoding 1 v.0 ++ number_encoding 2 v.1
 
 -- their records
 abbrev pub two_records : ℤ × ℤ → List (ℕ × Datum)

@@ -8,9 +8,9 @@ ghost use Rattle.buffa_wire.specs.Message.{MergesField};
 ghost use Rattle.buffa_wire.specs.Passes.{IsSized};
 ghost use Rattle.buffa_wire.specs.Written.{Writes};
 ghost use Rattle.buffa_wire.proofs.ByFieldLemmas.{empty, fields, next};
-ghost use Rattle.buffa_samples.specs.Count.{count_cost, count_field, count_merged, count_records, count_text, one_text};
+ghost use Rattle.buffa_samples.specs.Count.{count_cost, count_field, count_merged, count_records, count_encoding, one_text};
 ghost use Rattle.buffa_samples.specs.CountLaws.{count_back, count_cost_some, count_same, count_sound};
-ghost use Rattle.buffa_samples.specs.CountLaws.{count_text_records};
+ghost use Rattle.buffa_samples.specs.CountLaws.{count_encoding_records};
 
 use buffa_wire::{
     Blank, Buf, DecodeContext, DecodeError, EncodeError, EncodeSink, Message, MessageSpec,
@@ -50,7 +50,7 @@ impl MessageSpec for CountMsg {
 
     ghost cost = { count_cost };
 
-    ghost text = { count_text };
+    ghost text = { count_encoding };
 
     ghost records = { count_records };
 
@@ -60,9 +60,9 @@ impl MessageSpec for CountMsg {
 
     ghost normal = { λ n. n < 2 ^ 64 };
 
-    ghost text_records = { count_text_records };
+    ghost encoding_records = { count_encoding_records };
 
-    ghost merged_text = { λ d n _ h _. count_back d n h };
+    ghost merged_encoding = { λ d n _ h _. count_back d n h };
 
     ghost positive = { count_cost_some };
 
@@ -104,7 +104,7 @@ fn write_one<S: EncodeSink>(sink: &mut S) -> Result<(), EncodeError>
 
 // Writes so many fields.
 fn write_count<S: EncodeSink>(count: u64, sink: &mut S) -> Result<(), EncodeError>
-    ensures { Writes result (S.written sink.old) (count_text count) (S.written sink.new) }
+    ensures { Writes result (S.written sink.old) (count_encoding count) (S.written sink.new) }
 {
     let mut left = count;
     'fields: while left > 0 {
@@ -116,7 +116,7 @@ fn write_count<S: EncodeSink>(count: u64, sink: &mut S) -> Result<(), EncodeErro
 
 impl Message for CountMsg {
     fn compute_size(&self, _cache: &mut SizeCache) -> Result<u32, EncodeError>
-        ensures sized { IsSized (count_text self.now.count) [] _cache.old result _cache.new }
+        ensures sized { IsSized (count_encoding self.now.count) [] _cache.old result _cache.new }
         ensures always { IsOk result }
     {
         let total = self.count.saturating_mul(2);

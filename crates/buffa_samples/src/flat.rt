@@ -8,8 +8,8 @@ ghost use Rattle.buffa_wire.specs.Gives.{FullOnlyIf, Gives};
 ghost use Rattle.buffa_wire.specs.Message.{MergesField};
 ghost use Rattle.buffa_wire.specs.Passes.{IsSized};
 ghost use Rattle.buffa_wire.proofs.ByFieldLemmas.{empty, fields, next};
-ghost use Rattle.buffa_samples.specs.FieldsLaws.{number_text_records};
-ghost use Rattle.buffa_samples.specs.Flat.{flat_cost, flat_field, flat_merged, value_records, value_text};
+ghost use Rattle.buffa_samples.specs.FieldsLaws.{number_encoding_records};
+ghost use Rattle.buffa_samples.specs.Flat.{flat_cost, flat_field, flat_merged, value_records, value_encoding};
 ghost use Rattle.buffa_samples.specs.FlatLaws.{flat_back, flat_cost_some, flat_same, flat_sound};
 
 use crate::int32_field::{number_len, write_number};
@@ -52,7 +52,7 @@ impl MessageSpec for FlatMsg {
 
     ghost cost = { flat_cost };
 
-    ghost text = { value_text };
+    ghost text = { value_encoding };
 
     ghost records = { value_records };
 
@@ -62,9 +62,9 @@ impl MessageSpec for FlatMsg {
 
     ghost normal = { FitsSigned w32 };
 
-    ghost text_records = { number_text_records 1 };
+    ghost encoding_records = { number_encoding_records 1 };
 
-    ghost merged_text = { λ d v _ h _. flat_back d v h };
+    ghost merged_encoding = { λ d v _ h _. flat_back d v h };
 
     ghost positive = { flat_cost_some };
 
@@ -101,7 +101,7 @@ pub(crate) fn merge_value(
 
 impl Message for FlatMsg {
     fn compute_size(&self, _cache: &mut SizeCache) -> Result<u32, EncodeError>
-        ensures sized { IsSized (value_text self.now.value) [] _cache.old result _cache.new }
+        ensures sized { IsSized (value_encoding self.now.value) [] _cache.old result _cache.new }
         ensures always { IsOk result }
     {
         Ok(number_len(1, &self.value))

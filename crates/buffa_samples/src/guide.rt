@@ -1,7 +1,7 @@
 //! The worked example of docs/GUIDE.md: a message type with a map field.
 
 ghost use Rattle.std.specs.Prelude.{◌≡◌, []};
-ghost use Rattle.buffa_map.specs.Text.{UsesRoomOf, WritesField, field_size, field_text, saturated};
+ghost use Rattle.buffa_map.specs.Encoding.{UsesRoomOf, WritesField, field_size, field_encoding, saturated};
 ghost use Rattle.buffa_samples.specs.Inventory.{counted, name_writing, number_writing};
 
 use buffa_map::map_codec::{Int32, Map, Str, field_len, merge_entry, write_field};
@@ -56,7 +56,7 @@ impl Inventory {
         ensures writes { WritesField name_writing number_writing 5 (S.written sink.old) (S.written sink.new) result
             (counted self.now.counts.entries) }
         ensures room { UsesRoomOf result (S.room sink.old)
-            (field_text name_writing number_writing 5 (counted self.now.counts.entries)) (S.room sink.new) }
+            (field_encoding name_writing number_writing 5 (counted self.now.counts.entries)) (S.room sink.new) }
     {
         write_field::<Str, Int32, _, _>(&self.counts, 5, sink)
     }

@@ -3,9 +3,9 @@
 ghost use Rattle.std.specs.Prelude.{◌≡◌, ◌<◌, ◌≤◌, ◌++◌, length};
 ghost use Rattle.buffa_bytes.specs.declared.wire_type.WireType.TheVariants.{Varint};
 ghost use Rattle.buffa_wire.specs.Number.{IsNumber};
-ghost use Rattle.buffa_wire.specs.Values.{int32_text, tag_text};
+ghost use Rattle.buffa_wire.specs.Values.{int32_encoding, tag_encoding};
 ghost use Rattle.buffa_wire.specs.Written.{Writes};
-ghost use Rattle.buffa_samples.specs.Fields.{number_text};
+ghost use Rattle.buffa_samples.specs.Fields.{number_encoding};
 
 use buffa_wire::types::{encode_int32, int32_encoded_len};
 use buffa_wire::{EncodeError, EncodeSink, Tag, WireType};
@@ -13,7 +13,7 @@ use buffa_wire::{EncodeError, EncodeSink, Tag, WireType};
 // The length of a field of a number below 16, also at 0.
 fn len_at(number: u32, value: i32) -> u32
     requires { number < 16 }
-    ensures len { result ≡ length (tag_text number Varint ++ int32_text value) }
+    ensures len { result ≡ length (tag_encoding number Varint ++ int32_encoding value) }
     ensures small { result ≤ 11 }
 {
     int32_encoded_len(value) as u32 + 1
@@ -23,7 +23,7 @@ fn len_at(number: u32, value: i32) -> u32
 #[tactic(auto, using(crate::specs::FieldsLaws::zero_text, crate::specs::FieldsLaws::some_text))]
 pub(crate) fn number_len(number: u32, value: &i32) -> u32
     requires { number < 16 }
-    ensures len { result ≡ length (number_text number value.now) }
+    ensures len { result ≡ length (number_encoding number value.now) }
     ensures small { result ≤ 11 }
 {
     if *value == 0 {
@@ -37,7 +37,7 @@ pub(crate) fn number_len(number: u32, value: &i32) -> u32
 #[tactic(auto, using(buffa_bytes::proofs::SinkLemmas::writes_then, buffa_bytes::proofs::SinkLemmas::front_first))]
 fn write_at<S: EncodeSink>(number: u32, value: i32, sink: &mut S) -> Result<(), EncodeError>
     requires { IsNumber number }
-    ensures { Writes result (S.written sink.old) (tag_text number Varint ++ int32_text value) (S.written sink.new) }
+    ensures { Writes result (S.written sink.old) (tag_encoding number Varint ++ int32_encoding value) (S.written sink.new) }
 {
     Tag::new(number, WireType::Varint).encode(sink)?;
     encode_int32(value, sink)
@@ -51,7 +51,7 @@ pub(crate) fn write_number<S: EncodeSink>(
     sink: &mut S,
 ) -> Result<(), EncodeError>
     requires { IsNumber number }
-    ensures { Writes result (S.written sink.old) (number_text number value.now) (S.written sink.new) }
+    ensures { Writes result (S.written sink.old) (number_encoding number value.now) (S.written sink.new) }
 {
     if *value == 0 {
         Ok(())

@@ -11,7 +11,7 @@ ghost use Rattle.buffa_wire.specs.RecordReading.{TakesMemory, field_at};
 ghost use Rattle.buffa_wire.specs.View.{datum_of};
 ghost use Rattle.buffa_wire.specs.Parse.{Fits};
 ghost use Rattle.buffa_wire.specs.Records.{Datum, height, records_of};
-ghost use Rattle.buffa_wire.specs.Text.{records_text};
+ghost use Rattle.buffa_wire.specs.Encoding.{records_encoding};
 ghost use Rattle.buffa_wire.proofs.CostLemmas.{cost_empty, cost_next};
 ghost use Rattle.buffa_wire.proofs.ByFieldLemmas.{empty, fields, next};
 ghost use Rattle.buffa_wire.specs.Kept.{keep_need};
@@ -75,7 +75,7 @@ impl MessageSpec for BudgetMsg {
 
     ghost cost = { keep_cost };
 
-    ghost text = { records_text };
+    ghost text = { records_encoding };
 
     ghost records = { λ v. v };
 
@@ -85,9 +85,9 @@ impl MessageSpec for BudgetMsg {
 
     ghost normal = { λ v. Fits (records_of v) };
 
-    ghost text_records = { λ v. refl };
+    ghost encoding_records = { λ v. refl };
 
-    ghost merged_text = { λ d v f _ h. keep_back d v f h };
+    ghost merged_encoding = { λ d v f _ h. keep_back d v f h };
 
     ghost positive = { keep_cost_some };
 
@@ -135,7 +135,7 @@ pub fn read_alone(
 
 impl Message for BudgetMsg {
     fn compute_size(&self, _cache: &mut SizeCache) -> Result<u32, EncodeError>
-        ensures sized { IsSized (records_text self.now) [] _cache.old result _cache.new }
+        ensures sized { IsSized (records_encoding self.now) [] _cache.old result _cache.new }
         ensures always { IsOk result }
     {
         let total = self.fields.encoded_len();

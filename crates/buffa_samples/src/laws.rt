@@ -8,9 +8,9 @@ ghost use Rattle.buffa_bytes.specs.Pinned.{IsCopied, SameIsOne};
 ghost use Rattle.buffa_wire.specs.Enums.{numbers};
 ghost use Rattle.buffa_wire.specs.Parse.{Fits};
 ghost use Rattle.buffa_wire.specs.Records.{Datum, height, records_of};
-ghost use Rattle.buffa_wire.specs.Text.{records_text};
-ghost use Rattle.buffa_samples.specs.Count.{count_cost, count_merged, count_records, count_text};
-ghost use Rattle.buffa_samples.specs.Flat.{flat_cost, flat_merged, value_records, value_text};
+ghost use Rattle.buffa_wire.specs.Encoding.{records_encoding};
+ghost use Rattle.buffa_samples.specs.Count.{count_cost, count_merged, count_records, count_encoding};
+ghost use Rattle.buffa_samples.specs.Flat.{flat_cost, flat_merged, value_records, value_encoding};
 ghost use Rattle.buffa_samples.specs.Grown.{Grown, grown, kids, no_kids};
 ghost use Rattle.buffa_samples.specs.Hues.{first_numbers};
 ghost use Rattle.buffa_samples.specs.Keep.{keep_cost, keep_merged};
@@ -44,13 +44,13 @@ pub fn trees_stay_normal()
 /// Which message each sample is: what bytes make of it, what they cost, and its text. Nothing is open.
 pub fn messages_are_these()
     ensures flat { (⟦<FlatMsg as MessageSpec>⟧.merged ≡ flat_merged) × (⟦<FlatMsg as MessageSpec>⟧.cost ≡ flat_cost) }
-    ensures flat_text { ⟦<FlatMsg as MessageSpec>⟧.text ≡ value_text }
+    ensures flat_text { ⟦<FlatMsg as MessageSpec>⟧.text ≡ value_encoding }
     ensures two { (⟦<TestMsg as MessageSpec>⟧.merged ≡ two_merged) × (⟦<TestMsg as MessageSpec>⟧.cost ≡ two_cost) }
     ensures two_text { ⟦<TestMsg as MessageSpec>⟧.text ≡ two_text }
     ensures count { (⟦<CountMsg as MessageSpec>⟧.merged ≡ count_merged) × (⟦<CountMsg as MessageSpec>⟧.cost ≡ count_cost) }
-    ensures count_text { ⟦<CountMsg as MessageSpec>⟧.text ≡ count_text }
+    ensures count_encoding { ⟦<CountMsg as MessageSpec>⟧.text ≡ count_encoding }
     ensures keep { (⟦<BudgetMsg as MessageSpec>⟧.merged ≡ keep_merged) × (⟦<BudgetMsg as MessageSpec>⟧.cost ≡ keep_cost) }
-    ensures keep_text { ⟦<BudgetMsg as MessageSpec>⟧.text ≡ records_text }
+    ensures keep_text { ⟦<BudgetMsg as MessageSpec>⟧.text ≡ records_encoding }
     ensures tree { (⟦<Tree as MessageSpec>⟧.merged ≡ merged) × (⟦<Tree as MessageSpec>⟧.cost ≡ cost) }
     ensures tree_text { ⟦<Tree as MessageSpec>⟧.text ≡ text }
     ensures tree_slots { ⟦<Tree as MessageSpec>⟧.slots ≡ slots }

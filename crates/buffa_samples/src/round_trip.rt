@@ -4,7 +4,7 @@ ghost use Rattle.std.specs.Prelude.{◌≡◌, ◌+◌, [], IfErr, OnOk, IsPermu
 ghost use Rattle.buffa_wire.specs.Number.{IsNumber};
 ghost use Rattle.buffa_map.specs.Merge.{dropping};
 ghost use Rattle.buffa_map.specs.Pairs.{SamePairs};
-ghost use Rattle.buffa_map.specs.Text.{AllHold};
+ghost use Rattle.buffa_map.specs.Encoding.{AllHold};
 ghost use Rattle.buffa_samples.specs.Letters.{same_letters, spelled};
 ghost use Rattle.buffa_samples.specs.RoundTrip.{EachWalk, FitsTrip, IfUnwritten, InWalkOrder, RefusesTrip, StopsTrip};
 ghost use Rattle.buffa_samples.specs.RoundTrip.{flag_writing, word_rules, word_writing};

@@ -75,7 +75,7 @@ impl MessageSpec for Tree {
     ghost use Rattle.std.proofs.Common.{arith};
     ghost use Rattle.buffa_samples.specs.TreeText.{IsNormal, levels, records};
     ghost use Rattle.buffa_samples.specs.TreeBack.{back};
-    ghost use Rattle.buffa_samples.specs.TreeLaws.{cost_empty, cost_next, text_records};
+    ghost use Rattle.buffa_samples.specs.TreeLaws.{cost_empty, cost_next, encoding_records};
     ghost use Rattle.buffa_samples.specs.TreeLaws.{merged_empty, merged_fields, merged_next};
 
     const COST: usize = 32;
@@ -96,9 +96,9 @@ impl MessageSpec for Tree {
 
     ghost normal = { IsNormal };
 
-    ghost text_records = { text_records };
+    ghost encoding_records = { encoding_records };
 
-    ghost merged_text = { back };
+    ghost merged_encoding = { back };
 
     ghost positive = { omega arith };
 

@@ -63,9 +63,9 @@ impl MessageSpec for TestMsg {
 
     ghost normal = { λ v. FitsSigned w32 v.0 × FitsSigned w32 v.1 };
 
-    ghost text_records = { two_text_records };
+    ghost encoding_records = { two_text_records };
 
-    ghost merged_text = { λ d v _ h _. two_back d v h.0 h.1 };
+    ghost merged_encoding = { λ d v _ h _. two_back d v h.0 h.1 };
 
     ghost positive = { two_cost_some };
 

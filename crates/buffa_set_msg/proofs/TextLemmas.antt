@@ -10,7 +10,7 @@ use Rattle.buffa_wire.specs.declared.unknown_fields.UnknownField.{UnknownField}
 use Rattle.buffa_wire.proofs.TextLemmas.{ten_at_most}
 use Rattle.buffa_message_set.specs.Item.{item_size}
 use Rattle.buffa_message_set.proofs.ItemLemmas.{and_true}
-use Rattle.buffa_set_msg.specs.Set.{is_type_id, record_text, set_text}
+use Rattle.buffa_set_msg.specs.Set.{is_type_id, record_encoding, set_encoding}
 
 -- ---- a record
 pub type_id_small : (n : ℕ) → is_type_id n ≡ true → n < 2 ^ 31
@@ -25,26 +25,26 @@ item_fits n len h k =
 -- ---- records
 -- the text of one more record
 pub set_more : (xs : List UnknownField) (i : ℕ) (f d : UnknownField) → i < length xs → f ≡ get_or xs i d
-    → set_text (records_in (take (i + 1) xs)) ≡ set_text (records_in (take i xs)) ++ record_text f.number (datum_of f.payload)
+    → set_encoding (records_in (take (i + 1) xs)) ≡ set_encoding (records_in (take i xs)) ++ record_encoding f.number (datum_of f.payload)
 set_more [] i f d h e = absurd (omega arith)
 set_more (x ∷ xs) zero f d h e = rw e (append-nil _)
 set_more (x ∷ xs) (suc i) f d h e =
     let k : suc i + 1 ≡ suc (i + 1) = omega arith in
-    rw k (ap (λ z. record_text x.number (datum_of x.payload) ++ z) (set_more xs i f d (omega arith) e) ∙ sym (append_assoc (record_text x.number (datum_of x.payload)) (set_text (records_in (take i xs))) (record_text f.number (datum_of f.payload))))
+    rw k (ap (λ z. record_encoding x.number (datum_of x.payload) ++ z) (set_more xs i f d (omega arith) e) ∙ sym (append_assoc (record_encoding x.number (datum_of x.payload)) (set_encoding (records_in (take i xs))) (record_encoding f.number (datum_of f.payload))))
 
-pub set_step : (old now new : List ℕ) (xs : List UnknownField) (i : ℕ) (f d : UnknownField) → new ≡ now ++ record_text f.number (datum_of f.payload) → now ≡ old ++ set_text (records_in (take i xs))
-    → i < length xs → f ≡ get_or xs i d → new ≡ old ++ set_text (records_in (take (i + 1) xs))
+pub set_step : (old now new : List ℕ) (xs : List UnknownField) (i : ℕ) (f d : UnknownField) → new ≡ now ++ record_encoding f.number (datum_of f.payload) → now ≡ old ++ set_encoding (records_in (take i xs))
+    → i < length xs → f ≡ get_or xs i d → new ≡ old ++ set_encoding (records_in (take (i + 1) xs))
 set_step old now new xs i f d p q h e =
-    p ∙ ap (λ z. z ++ record_text f.number (datum_of f.payload)) q ∙ append_assoc old (set_text (records_in (take i xs))) (record_text f.number (datum_of f.payload)) ∙ ap (λ z. old ++ z) (sym (set_more xs i f d h e))
+    p ∙ ap (λ z. z ++ record_encoding f.number (datum_of f.payload)) q ∙ append_assoc old (set_encoding (records_in (take i xs))) (record_encoding f.number (datum_of f.payload)) ∙ ap (λ z. old ++ z) (sym (set_more xs i f d h e))
 
 -- the length of one more record's text, where lengths stop at 2^64 - 1
-pub set_len_more : (xs : List UnknownField) (i : ℕ) (f d : UnknownField) (total n next : ℕ) → i < length xs → f ≡ get_or xs i d → total ≡ min (length (set_text (records_in (take i xs)))) 18446744073709551615
-    → n ≡ min (length (record_text f.number (datum_of f.payload))) 18446744073709551615 → next ≡ min (total + n) 18446744073709551615 → next ≡ min (length (set_text (records_in (take (i + 1) xs)))) 18446744073709551615
-set_len_more xs i f d total n next h e p q r = omega (arith, ap length (set_more xs i f d h e), length-append (set_text (records_in (take i xs))) (record_text f.number (datum_of f.payload)))
+pub set_len_more : (xs : List UnknownField) (i : ℕ) (f d : UnknownField) (total n next : ℕ) → i < length xs → f ≡ get_or xs i d → total ≡ min (length (set_encoding (records_in (take i xs)))) 18446744073709551615
+    → n ≡ min (length (record_encoding f.number (datum_of f.payload))) 18446744073709551615 → next ≡ min (total + n) 18446744073709551615 → next ≡ min (length (set_encoding (records_in (take (i + 1) xs)))) 18446744073709551615
+set_len_more xs i f d total n next h e p q r = omega (arith, ap length (set_more xs i f d h e), length-append (set_encoding (records_in (take i xs))) (record_encoding f.number (datum_of f.payload)))
 
-set_text-append : (rs qs : List (ℕ × Datum)) → set_text (rs ++ qs) ≡ set_text rs ++ set_text qs
-set_text-append [] qs = refl
-set_text-append (r ∷ rs) qs = ap (λ z. record_text r.0 r.1 ++ z) (set_text-append rs qs) ∙ sym (append_assoc (record_text r.0 r.1) (set_text rs) (set_text qs))
+set_encoding-append : (rs qs : List (ℕ × Datum)) → set_encoding (rs ++ qs) ≡ set_encoding rs ++ set_encoding qs
+set_encoding-append [] qs = refl
+set_encoding-append (r ∷ rs) qs = ap (λ z. record_encoding r.0 r.1 ++ z) (set_encoding-append rs qs) ∙ sym (append_assoc (record_encoding r.0 r.1) (set_encoding rs) (set_encoding qs))
 
 records_in-append : (xs ys : List UnknownField) → records_in (xs ++ ys) ≡ records_in xs ++ records_in ys
 records_in-append [] ys = refl
@@ -52,30 +52,30 @@ records_in-append (x ∷ xs) ys = ap (λ z. record_of x ∷ z) (records_in-appen
 
 -- the text of all records: of those before, of one, and of those after
 set_parts : (xs : List UnknownField) (i : ℕ) (f d : UnknownField) → i < length xs → f ≡ get_or xs i d →
-    set_text (records_in xs) ≡ set_text (records_in (take i xs)) ++ (record_text f.number (datum_of f.payload) ++ set_text (records_in (drop (i + 1) xs)))
+    set_encoding (records_in xs) ≡ set_encoding (records_in (take i xs)) ++ (record_encoding f.number (datum_of f.payload) ++ set_encoding (records_in (drop (i + 1) xs)))
 set_parts xs i f d h e =
     let front = take (i + 1) xs in
     let rest = drop (i + 1) xs in
-    ap (λ z. set_text (records_in z)) (sym (take-append-drop (i + 1) xs)) ∙ ap set_text (records_in-append front rest) ∙ set_text-append (records_in front) (records_in rest)
-    ∙ ap (λ z. z ++ set_text (records_in rest)) (set_more xs i f d h e)
-    ∙ append_assoc (set_text (records_in (take i xs))) (record_text f.number (datum_of f.payload)) (set_text (records_in rest))
+    ap (λ z. set_encoding (records_in z)) (sym (take-append-drop (i + 1) xs)) ∙ ap set_encoding (records_in-append front rest) ∙ set_encoding-append (records_in front) (records_in rest)
+    ∙ ap (λ z. z ++ set_encoding (records_in rest)) (set_more xs i f d h e)
+    ∙ append_assoc (set_encoding (records_in (take i xs))) (record_encoding f.number (datum_of f.payload)) (set_encoding (records_in rest))
 
 -- a record that was refused, after those before it
-pub set_refused : (old mid new : List ℕ) (all : List (ℕ × Datum)) (xs : List UnknownField) (i : ℕ) (f d : UnknownField) → records_in xs ≡ all → mid ≡ old ++ set_text (records_in (take i xs)) → i < length xs → f ≡ get_or xs i d →
-    WritesFront mid (record_text f.number (datum_of f.payload)) new → WritesFront old (set_text all) new
+pub set_refused : (old mid new : List ℕ) (all : List (ℕ × Datum)) (xs : List UnknownField) (i : ℕ) (f d : UnknownField) → records_in xs ≡ all → mid ≡ old ++ set_encoding (records_in (take i xs)) → i < length xs → f ≡ get_or xs i d →
+    WritesFront mid (record_encoding f.number (datum_of f.payload)) new → WritesFront old (set_encoding all) new
 set_refused old mid new all xs i f d whole m h e w =
-    let text = record_text f.number (datum_of f.payload) in
-    let rest = set_text (records_in (drop (i + 1) xs)) in
-    subst (λ z. WritesFront old z new) (sym (set_parts xs i f d h e) ∙ ap set_text whole) (front_second old (set_text (records_in (take i xs))) (text ++ rest) mid new m (front_first mid text rest new w))
+    let text = record_encoding f.number (datum_of f.payload) in
+    let rest = set_encoding (records_in (drop (i + 1) xs)) in
+    subst (λ z. WritesFront old z new) (sym (set_parts xs i f d h e) ∙ ap set_encoding whole) (front_second old (set_encoding (records_in (take i xs))) (text ++ rest) mid new m (front_first mid text rest new w))
 
 -- the lengths of these texts
 pub length-set_more : (xs : List UnknownField) (i : ℕ) (f d : UnknownField) → i < length xs → f ≡ get_or xs i d →
-    length (set_text (records_in (take (i + 1) xs))) ≡ length (set_text (records_in (take i xs))) + length (record_text f.number (datum_of f.payload))
-length-set_more xs i f d h e = ap length (set_more xs i f d h e) ∙ length-append (set_text (records_in (take i xs))) (record_text f.number (datum_of f.payload))
+    length (set_encoding (records_in (take (i + 1) xs))) ≡ length (set_encoding (records_in (take i xs))) + length (record_encoding f.number (datum_of f.payload))
+length-set_more xs i f d h e = ap length (set_more xs i f d h e) ∙ length-append (set_encoding (records_in (take i xs))) (record_encoding f.number (datum_of f.payload))
 
 pub length-set_parts : (xs : List UnknownField) (i : ℕ) (f d : UnknownField) → i < length xs → f ≡ get_or xs i d →
-    length (set_text (records_in (take i xs))) + length (record_text f.number (datum_of f.payload)) ≤ length (set_text (records_in xs))
+    length (set_encoding (records_in (take i xs))) + length (record_encoding f.number (datum_of f.payload)) ≤ length (set_encoding (records_in xs))
 length-set_parts xs i f d h e =
-    let text = record_text f.number (datum_of f.payload) in
-    let rest = set_text (records_in (drop (i + 1) xs)) in
-    omega (arith, ap length (set_parts xs i f d h e), length-append (set_text (records_in (take i xs))) (text ++ rest), length-append text rest)
+    let text = record_encoding f.number (datum_of f.payload) in
+    let rest = set_encoding (records_in (drop (i + 1) xs)) in
+    omega (arith, ap length (set_parts xs i f d h e), length-append (set_encoding (records_in (take i xs))) (text ++ rest), length-append text rest)

@@ -13,9 +13,9 @@ use Rattle.buffa_wire.specs.Message.{BeginsField, MergeFault}
 use Rattle.buffa_wire.specs.Reading.{tag_at}
 use Rattle.buffa_wire.specs.RecordReading.{field_at}
 use Rattle.buffa_wire.specs.Records.{Datum, bytes, group, height, no_records, one, varint}
-use Rattle.buffa_wire.specs.Text.{field_text}
+use Rattle.buffa_wire.specs.Encoding.{field_encoding}
 use Rattle.buffa_wire.specs.WireType.{same_wire}
-use Rattle.buffa_message_set.specs.Item.{IsTypeId, item_at, item_in, item_text}
+use Rattle.buffa_message_set.specs.Item.{IsTypeId, item_at, item_in, item_encoding}
 use Rattle.buffa_wire.specs.ByField.{FieldNeed, FieldReader, cost_by, merged_by, value_of}
 use Rattle.buffa_wire.specs.Kept.{keep_need}
 use Rattle.buffa_samples.specs.Keep.{keep_field}
@@ -51,13 +51,13 @@ abbrev pub is_type_id : ℕ → Bool
 is_type_id n = nat_lt 0 n && nat_lt n (2 ^ 31)
 
 -- bytes under a type id are an Item, any other record is a field
-abbrev pub record_text : ℕ → Datum → List ℕ
-record_text n (bytes b) = if is_type_id n then item_text n b else field_text n (bytes b)
-record_text n x = field_text n x
+abbrev pub record_encoding : ℕ → Datum → List ℕ
+record_encoding n (bytes b) = if is_type_id n then item_encoding n b else field_encoding n (bytes b)
+record_encoding n x = field_encoding n x
 
-abbrev pub set_text : List (ℕ × Datum) → List ℕ
-set_text [] = []
-set_text (r ∷ rs) = record_text r.0 r.1 ++ set_text rs
+abbrev pub set_encoding : List (ℕ × Datum) → List ℕ
+set_encoding [] = []
+set_encoding (r ∷ rs) = record_encoding r.0 r.1 ++ set_encoding rs
 
 -- the records of that encoding: an Item is a group of number 1, of its type id and its message
 abbrev pub item_record : ℕ → List ℕ → ℕ × Datum

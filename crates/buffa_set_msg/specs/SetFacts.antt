@@ -2,7 +2,7 @@
 use Rattle.std.proofs.Common.{◌≡◌, inl, inr, ℕ, zero, suc, ◌<◌, ◌≤◌, ◌^◌, max, Bool, true, false, List, [], ◌∷◌, ◌++◌, length, Some, Result, Ok, refl, sym, ap, subst, ◌∙◌, arith, append_assoc, append-nil, if◌then◌else◌}
 use Rattle.std.specs.Option.{option_and_then}
 use Rattle.buffa_bytes.proofs.StepLemmas.{Agrees, agree_bind, agree_if, agree_weaker}
-use Rattle.buffa_bytes.proofs.VarintLemmas.{IsVarint-varint_text}
+use Rattle.buffa_bytes.proofs.VarintLemmas.{IsVarint-varint_encoding}
 use Rattle.buffa_bytes.specs.Field.{Group, IsTag, Payload, SomeField}
 use Rattle.buffa_bytes.specs.Join.{Join}
 use Rattle.buffa_bytes.specs.declared.wire_type.WireType.{WireType}
@@ -12,9 +12,9 @@ use Rattle.buffa_wire.proofs.MessageLemmas.{NoLimit}
 use Rattle.buffa_wire.specs.BudgetLeft.{nothing, plus, slots}
 use Rattle.buffa_wire.specs.Parse.{Fits}
 use Rattle.buffa_wire.specs.Records.{Datum, Records, bytes, datum_height, fixed32, fixed64, group, height, one, records_of, varint}
-use Rattle.buffa_wire.specs.Text.{field_text, records_text}
-use Rattle.buffa_wire.specs.Values.{tag_text}
-use Rattle.buffa_message_set.specs.Item.{IsReadAlike, IsTypeId, body_text, item_at, item_text}
+use Rattle.buffa_wire.specs.Encoding.{field_encoding, records_encoding}
+use Rattle.buffa_wire.specs.Values.{tag_encoding}
+use Rattle.buffa_message_set.specs.Item.{IsReadAlike, IsTypeId, body_encoding, item_at, item_encoding}
 use Rattle.buffa_message_set.proofs.ItemLemmas.{both_true, in_range, read_complete, read_sound, written_item}
 use Rattle.buffa_message_set.proofs.GroupLemmas.{group_alike, item_group, item_no_limit}
 use Rattle.buffa_wire.proofs.CostLemmas.{cost_empty, cost_next}
@@ -22,7 +22,7 @@ use Rattle.buffa_wire.proofs.ByFieldLemmas.{IsSame, IsSound, Same, empty, fields
 use Rattle.buffa_samples.specs.Keep.{keep_field}
 use Rattle.buffa_wire.proofs.KeepLemmas.{keep_stays}
 use Rattle.buffa_samples.specs.KeepLaws.{keep_same, keep_sound}
-use Rattle.buffa_set_msg.specs.Set.{AreItems, NestOneDeep, encoded_record, is_type_id, item_field, item_record, record_text, set_cost, set_field, set_levels, set_merged, set_need, set_records, set_text, starts}
+use Rattle.buffa_set_msg.specs.Set.{AreItems, NestOneDeep, encoded_record, is_type_id, item_field, item_record, record_encoding, set_cost, set_field, set_levels, set_merged, set_need, set_records, set_encoding, starts}
 
 -- ---- one field
 item_sound : (d : ℕ) (v : List (ℕ × Datum)) (bs : List ℕ) → Agrees (item_field d v bs) (λ x. (p : List ℕ) × Payload d 1 StartGroup p × (bs ≡ p ++ x.1)) NoLimit
@@ -78,47 +78,47 @@ pub set_cost_some : 0 < 24
 set_cost_some = omega arith
 
 -- ---- the encoding is that of records
-item_text_record : (n : ℕ) (b : List ℕ) → item_text n b ≡ field_text (item_record n b).0 (item_record n b).1
-item_text_record n b = simp (append_assoc, append-nil)
+item_encoding_record : (n : ℕ) (b : List ℕ) → item_encoding n b ≡ field_encoding (item_record n b).0 (item_record n b).1
+item_encoding_record n b = simp (append_assoc, append-nil)
 
-bytes_text : (k : Bool) (n : ℕ) (b : List ℕ) → (if k then item_text n b else field_text n (bytes b)) ≡
-    field_text (if k then item_record n b else (n, bytes b)).0 (if k then item_record n b else (n, bytes b)).1
-bytes_text true n b = item_text_record n b
+bytes_text : (k : Bool) (n : ℕ) (b : List ℕ) → (if k then item_encoding n b else field_encoding n (bytes b)) ≡
+    field_encoding (if k then item_record n b else (n, bytes b)).0 (if k then item_record n b else (n, bytes b)).1
+bytes_text true n b = item_encoding_record n b
 bytes_text false n b = refl
 
-one_text : (n : ℕ) (x : Datum) → record_text n x ≡ field_text (encoded_record n x).0 (encoded_record n x).1
+one_text : (n : ℕ) (x : Datum) → record_encoding n x ≡ field_encoding (encoded_record n x).0 (encoded_record n x).1
 one_text n (bytes b) = bytes_text (is_type_id n) n b
 one_text n (varint v) = refl
 one_text n (fixed32 v) = refl
 one_text n (fixed64 v) = refl
 one_text n (group rs) = refl
 
-pub set_text_records : (v : List (ℕ × Datum)) → set_text v ≡ records_text (set_records v)
-set_text_records [] = refl
-set_text_records (r ∷ rs) = λ i. one_text r.0 r.1 i ++ set_text_records rs i
+pub set_encoding_records : (v : List (ℕ × Datum)) → set_encoding v ≡ records_encoding (set_records v)
+set_encoding_records [] = refl
+set_encoding_records (r ∷ rs) = λ i. one_text r.0 r.1 i ++ set_encoding_records rs i
 
 -- ---- it reads back
 encoded_item : (n : ℕ) (b : List ℕ) → IsTypeId n → encoded_record n (bytes b) ≡ item_record n b
 encoded_item n b h = rw (in_range n h) refl
 
-text_item : (n : ℕ) (b : List ℕ) → IsTypeId n → record_text n (bytes b) ≡ item_text n b
+text_item : (n : ℕ) (b : List ℕ) → IsTypeId n → record_encoding n (bytes b) ≡ item_encoding n b
 text_item n b h = rw (in_range n h) refl
 
-start_tag : IsTag (tag_text 1 StartGroup) 1 StartGroup
-start_tag = ((omega arith, omega arith), IsVarint-varint_text 11 (omega arith))
+start_tag : IsTag (tag_encoding 1 StartGroup) 1 StartGroup
+start_tag = ((omega arith, omega arith), IsVarint-varint_encoding 11 (omega arith))
 
 fit_parts : (n : ℕ) (b : List ℕ) (rs : Records) → Fits (one (item_record n b).0 (item_record n b).1 rs) → (length b < 2 ^ 64) × Fits rs
 fit_parts n b rs (is_one, (is_two, id, (is_three, short, end)), more) = (short, more)
 
 -- an Item in front of what follows it
-item_back : (d : ℕ) (v : List (ℕ × Datum)) (n : ℕ) (b rest : List ℕ) → IsTypeId n → length b < 2 ^ 64 → set_merged (suc d) v (item_text n b ++ rest) ≡ set_merged (suc d) (v ++ (n, bytes b) ∷ []) rest
+item_back : (d : ℕ) (v : List (ℕ × Datum)) (n : ℕ) (b rest : List ℕ) → IsTypeId n → length b < 2 ^ 64 → set_merged (suc d) v (item_encoding n b ++ rest) ≡ set_merged (suc d) (v ++ (n, bytes b) ∷ []) rest
 item_back d v n b rest h short =
-    let reads : item_at d (body_text n b ++ rest) ≡ Ok (n, b, rest) = read_complete d (body_text n b ++ rest) b rest n (body_text n b, written_item d n b h short, refl) in
-    let taken : set_field (suc d) v 1 StartGroup (body_text n b ++ rest) ≡ Ok (v ++ (n, bytes b) ∷ [], rest) = rw reads refl in
-    ap (set_merged (suc d) v) (append_assoc (tag_text 1 StartGroup) (body_text n b) rest)
-    ∙ read (suc d) (set_field (suc d)) (set_sound (suc d)) (set_same (suc d)) v 1 StartGroup (tag_text 1 StartGroup) start_tag (v ++ (n, bytes b) ∷ []) (body_text n b ++ rest) rest taken
+    let reads : item_at d (body_encoding n b ++ rest) ≡ Ok (n, b, rest) = read_complete d (body_encoding n b ++ rest) b rest n (body_encoding n b, written_item d n b h short, refl) in
+    let taken : set_field (suc d) v 1 StartGroup (body_encoding n b ++ rest) ≡ Ok (v ++ (n, bytes b) ∷ [], rest) = rw reads refl in
+    ap (set_merged (suc d) v) (append_assoc (tag_encoding 1 StartGroup) (body_encoding n b) rest)
+    ∙ read (suc d) (set_field (suc d)) (set_sound (suc d)) (set_same (suc d)) v 1 StartGroup (tag_encoding 1 StartGroup) start_tag (v ++ (n, bytes b) ∷ []) (body_encoding n b ++ rest) rest taken
 
-set_parsed : (ys : List (ℕ × Datum)) (d : ℕ) (v : List (ℕ × Datum)) → Fits (records_of (set_records ys)) → AreItems ys → set_levels ys ≤ d → set_merged d v (set_text ys) ≡ Some (v ++ ys)
+set_parsed : (ys : List (ℕ × Datum)) (d : ℕ) (v : List (ℕ × Datum)) → Fits (records_of (set_records ys)) → AreItems ys → set_levels ys ≤ d → set_merged d v (set_encoding ys) ≡ Some (v ++ ys)
 set_parsed [] d v f h l = set_empty d v ∙ ap (λ z. Some z) (sym (append-nil v))
 set_parsed ((n, bytes b) ∷ ys) zero v f h l =
     let deep : max (datum_height (item_record n b).1) (height (set_records ys)) ≤ 0 = subst (λ r. max (datum_height r.1) (height (set_records ys)) ≤ 0) (encoded_item n b h.0) l in
@@ -126,8 +126,8 @@ set_parsed ((n, bytes b) ∷ ys) zero v f h l =
 set_parsed ((n, bytes b) ∷ ys) (suc d) v f h l =
     let fit = fit_parts n b (records_of (set_records ys)) (subst (λ r. Fits (one r.0 r.1 (records_of (set_records ys)))) (encoded_item n b h.0) f) in
     let deep : max (datum_height (item_record n b).1) (height (set_records ys)) ≤ suc d = subst (λ r. max (datum_height r.1) (height (set_records ys)) ≤ suc d) (encoded_item n b h.0) l in
-    ap (λ z. set_merged (suc d) v (z ++ set_text ys)) (text_item n b h.0)
-    ∙ item_back d v n b (set_text ys) h.0 fit.0
+    ap (λ z. set_merged (suc d) v (z ++ set_encoding ys)) (text_item n b h.0)
+    ∙ item_back d v n b (set_encoding ys) h.0 fit.0
     ∙ set_parsed ys (suc d) (v ++ (n, bytes b) ∷ []) fit.1 h.1 (omega (arith, deep))
     ∙ ap (λ z. Some z) (append_assoc v ((n, bytes b) ∷ []) ys)
 set_parsed ((n, varint x) ∷ ys) d v f h l = absurd h.0
@@ -135,7 +135,7 @@ set_parsed ((n, fixed32 x) ∷ ys) d v f h l = absurd h.0
 set_parsed ((n, fixed64 x) ∷ ys) d v f h l = absurd h.0
 set_parsed ((n, group x) ∷ ys) d v f h l = absurd h.0
 
-pub set_back : (d : ℕ) (v : List (ℕ × Datum)) → Fits (records_of (set_records v)) → AreItems v → set_levels v ≤ d → set_merged d [] (set_text v) ≡ Some v
+pub set_back : (d : ℕ) (v : List (ℕ × Datum)) → Fits (records_of (set_records v)) → AreItems v → set_levels v ≤ d → set_merged d [] (set_encoding v) ≡ Some v
 set_back d v f h l = set_parsed v d [] f h l
 
 -- ---- how deep Items nest

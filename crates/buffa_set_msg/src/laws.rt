@@ -3,7 +3,7 @@
 ghost use Rattle.std.specs.Prelude.{◌≡◌, ◌↔◌, ℕ, List, [], codes};
 ghost use Rattle.buffa_wire.specs.Records.{Datum};
 ghost use Rattle.buffa_set_msg.specs.Set.{AreItems, NestOneDeep, set_cost, set_levels, set_merged, set_records};
-ghost use Rattle.buffa_set_msg.specs.Set.{StopIsPinned, set_text};
+ghost use Rattle.buffa_set_msg.specs.Set.{StopIsPinned, set_encoding};
 
 use crate::set_msg::SetMsg;
 use buffa_ext::ExtensionSet;
@@ -13,7 +13,7 @@ use buffa_wire::{Blank, MessageSpec};
 pub fn sets_are_these()
     ensures merged { ⟦<SetMsg as MessageSpec>⟧.merged ≡ set_merged }
     ensures cost { ⟦<SetMsg as MessageSpec>⟧.cost ≡ set_cost }
-    ensures text { ⟦<SetMsg as MessageSpec>⟧.text ≡ set_text }
+    ensures text { ⟦<SetMsg as MessageSpec>⟧.text ≡ set_encoding }
     ensures records { ⟦<SetMsg as MessageSpec>⟧.records ≡ set_records }
     ensures slots { ⟦<SetMsg as MessageSpec>⟧.slots ≡ (λ _. []) }
     ensures element { ⟦<SetMsg as MessageSpec>⟧.COST ≡ 24 }

@@ -3,13 +3,13 @@
 ghost use Rattle.std.specs.Prelude.{◌≡◌, ◌≢◌, ◌≤◌, length, min};
 ghost use Rattle.buffa_bytes.specs.declared.wire_type.WireType.TheVariants.{EndGroup};
 ghost use Rattle.buffa_wire.specs.Gives.{FullOnlyIf, GivesUnlessFull};
-ghost use Rattle.buffa_wire.specs.Text.{field_text, payload_text};
-ghost use Rattle.buffa_wire.specs.Varint.{varint_text};
+ghost use Rattle.buffa_wire.specs.Encoding.{field_encoding, payload_encoding};
+ghost use Rattle.buffa_wire.specs.Varint.{varint_encoding};
 ghost use Rattle.buffa_wire.specs.View.{datum_of, record_of};
 ghost use Rattle.buffa_wire.specs.WireType.{wire_number};
 ghost use Rattle.buffa_wire.specs.Written.{UsesRoom, Writes};
 ghost use Rattle.std.specs.Prelude.{◌+◌, ◌*◌};
-ghost use Rattle.buffa_set_msg.specs.Set.{is_type_id, record_of_field, record_text, starts};
+ghost use Rattle.buffa_set_msg.specs.Set.{is_type_id, record_of_field, record_encoding, starts};
 
 use buffa_message_set::message_set::{item_encoded_len, merge_item, write_item};
 use buffa_samples::keep::read_alone;
@@ -78,7 +78,7 @@ fn tag_value(number: u32, wire_type: WireType) -> u64
 // The length of a varint.
 #[tactic(auto, using(buffa_wire::proofs::TextLemmas::ten_at_most))]
 fn number_len(n: u64) -> u64
-    ensures len { result ≡ length (varint_text n) }
+    ensures len { result ≡ length (varint_encoding n) }
     ensures short { result ≤ 10 }
 {
     varint_len(n) as u64
@@ -86,7 +86,7 @@ fn number_len(n: u64) -> u64
 
 // The length of a field's text, or 2^64 - 1 where it is longer.
 fn field_len(number: u32, payload: &UnknownFieldData) -> u64
-    ensures { result ≡ min (length (field_text number (datum_of payload.now))) 18446744073709551615 }
+    ensures { result ≡ min (length (field_encoding number (datum_of payload.now))) 18446744073709551615 }
 {
     let tag = number_len(tag_value(number, payload.wire_type()));
     tag.saturating_add(payload_len(number, payload))
@@ -94,7 +94,7 @@ fn field_len(number: u32, payload: &UnknownFieldData) -> u64
 
 // The length of what follows the tag, or 2^64 - 1 where it is longer.
 fn payload_len(number: u32, payload: &UnknownFieldData) -> u64
-    ensures { result ≡ min (length (payload_text number (datum_of payload.now))) 18446744073709551615 }
+    ensures { result ≡ min (length (payload_encoding number (datum_of payload.now))) 18446744073709551615 }
 {
     match payload {
         UnknownFieldData::Varint(v) => number_len(*v),
@@ -113,7 +113,7 @@ fn payload_len(number: u32, payload: &UnknownFieldData) -> u64
 
 // The length of a record's text, or 2^64 - 1 where it is longer.
 pub(crate) fn record_len(field: &UnknownField) -> u64
-    ensures { result ≡ min (length (record_text field.now.number (datum_of field.now.payload)))
+    ensures { result ≡ min (length (record_encoding field.now.number (datum_of field.now.payload)))
         18446744073709551615 }
 {
     match &field.payload {
@@ -137,9 +137,9 @@ fn write_field<S: EncodeSink>(
     payload: &UnknownFieldData,
     sink: &mut S,
 ) -> Result<(), EncodeError>
-    ensures writes { Writes result (S.written sink.old) (field_text number (datum_of payload.now))
+    ensures writes { Writes result (S.written sink.old) (field_encoding number (datum_of payload.now))
         (S.written sink.new) }
-    ensures room { UsesRoom result (S.room sink.old) (field_text number (datum_of payload.now)) (S.room sink.new) }
+    ensures room { UsesRoom result (S.room sink.old) (field_encoding number (datum_of payload.now)) (S.room sink.new) }
 {
     encode_varint(tag_value(number, payload.wire_type()), sink)?;
     write_payload(number, payload, sink)
@@ -152,9 +152,9 @@ fn write_payload<S: EncodeSink>(
     payload: &UnknownFieldData,
     sink: &mut S,
 ) -> Result<(), EncodeError>
-    ensures writes { Writes result (S.written sink.old) (payload_text number (datum_of payload.now))
+    ensures writes { Writes result (S.written sink.old) (payload_encoding number (datum_of payload.now))
         (S.written sink.new) }
-    ensures room { UsesRoom result (S.room sink.old) (payload_text number (datum_of payload.now)) (S.room sink.new) }
+    ensures room { UsesRoom result (S.room sink.old) (payload_encoding number (datum_of payload.now)) (S.room sink.new) }
 {
     match payload {
         UnknownFieldData::Varint(v) => encode_varint(*v, sink),
@@ -173,9 +173,9 @@ pub(crate) fn write_record<S: EncodeSink>(
     field: &UnknownField,
     sink: &mut S,
 ) -> Result<(), EncodeError>
-    ensures writes { Writes result (S.written sink.old) (record_text field.now.number (datum_of field.now.payload))
+    ensures writes { Writes result (S.written sink.old) (record_encoding field.now.number (datum_of field.now.payload))
         (S.written sink.new) }
-    ensures room { UsesRoom result (S.room sink.old) (record_text field.now.number (datum_of field.now.payload))
+    ensures room { UsesRoom result (S.room sink.old) (record_encoding field.now.number (datum_of field.now.payload))
         (S.room sink.new) }
 {
     match &field.payload {

@@ -9,9 +9,9 @@ ghost use Rattle.buffa_wire.specs.Passes.{IsSized, IsWritten};
 ghost use Rattle.buffa_wire.specs.Records.{Held};
 ghost use Rattle.buffa_wire.specs.Written.{UsesRoom, Writes};
 ghost use Rattle.buffa_set_msg.specs.Set.{AreItems, StopsBehind, TakesSetField, set_cost, set_levels, set_merged};
-ghost use Rattle.buffa_set_msg.specs.Set.{set_records, set_text};
+ghost use Rattle.buffa_set_msg.specs.Set.{set_records, set_encoding};
 ghost use Rattle.buffa_set_msg.specs.SetFacts.{set_back, set_cost_empty, set_cost_next, set_cost_some, set_empty};
-ghost use Rattle.buffa_set_msg.specs.SetFacts.{set_fields, set_next, set_text_records};
+ghost use Rattle.buffa_set_msg.specs.SetFacts.{set_fields, set_next, set_encoding_records};
 
 use crate::record::{read_record, record_len, write_record};
 use buffa_ext::ExtensionSet;
@@ -88,7 +88,7 @@ impl MessageSpec for SetMsg {
 
     ghost cost = { set_cost };
 
-    ghost text = { set_text };
+    ghost text = { set_encoding };
 
     ghost records = { set_records };
 
@@ -98,9 +98,9 @@ impl MessageSpec for SetMsg {
 
     ghost normal = { AreItems };
 
-    ghost text_records = { set_text_records };
+    ghost encoding_records = { set_encoding_records };
 
-    ghost merged_text = { λ d v f h l. set_back d v f h l };
+    ghost merged_encoding = { λ d v f h l. set_back d v f h l };
 
     ghost positive = { set_cost_some };
 
@@ -117,7 +117,7 @@ impl MessageSpec for SetMsg {
 
 // The length of the text, or 2^64 - 1 where it is longer.
 fn set_len(fields: &UnknownFields) -> u64
-    ensures { result ≡ min (length (set_text fields.now.records)) 18446744073709551615 }
+    ensures { result ≡ min (length (set_encoding fields.now.records)) 18446744073709551615 }
 {
     let mut total: u64 = 0;
     for field in fields.iter().as_slice() {
@@ -128,8 +128,8 @@ fn set_len(fields: &UnknownFields) -> u64
 
 // Writes the text.
 fn write_set<S: EncodeSink>(fields: &UnknownFields, sink: &mut S) -> Result<(), EncodeError>
-    ensures writes { Writes result (S.written sink.old) (set_text fields.now.records) (S.written sink.new) }
-    ensures room { UsesRoom result (S.room sink.old) (set_text fields.now.records) (S.room sink.new) }
+    ensures writes { Writes result (S.written sink.old) (set_encoding fields.now.records) (S.written sink.new) }
+    ensures room { UsesRoom result (S.room sink.old) (set_encoding fields.now.records) (S.room sink.new) }
 {
     for field in fields.iter().as_slice() {
         write_record(field, sink)?;
@@ -139,7 +139,7 @@ fn write_set<S: EncodeSink>(fields: &UnknownFields, sink: &mut S) -> Result<(), 
 
 impl Message for SetMsg {
     fn compute_size(&self, _cache: &mut SizeCache) -> Result<u32, EncodeError>
-        ensures sized { IsSized (set_text self.now.fields.records) [] _cache.old result _cache.new }
+        ensures sized { IsSized (set_encoding self.now.fields.records) [] _cache.old result _cache.new }
         ensures always { IsOk result }
     {
         let total = set_len(&self.fields);
@@ -155,9 +155,9 @@ impl Message for SetMsg {
         _cache: &mut SizeCache,
         sink: &mut S,
     ) -> Result<(), EncodeError>
-        ensures written { IsWritten (set_text self.now.fields.records) [] _cache.old (S.written sink.old) result
+        ensures written { IsWritten (set_encoding self.now.fields.records) [] _cache.old (S.written sink.old) result
             _cache.new (S.written sink.new) }
-        ensures room { UsesRoom result (S.room sink.old) (set_text self.now.fields.records) (S.room sink.new) }
+        ensures room { UsesRoom result (S.room sink.old) (set_encoding self.now.fields.records) (S.room sink.new) }
     {
         write_set(&self.fields, sink)
     }

@@ -3,7 +3,7 @@
 #![tactic(auto)]
 
 ghost use Rattle.std.specs.Prelude.{◌≡◌, IfOk, string_bytes, vec_items};
-ghost use Rattle.buffa.specs.MapFields.{field_size, field_text, means, saturated};
+ghost use Rattle.buffa.specs.MapFields.{field_size, field_encoding, means, saturated};
 ghost use Rattle.buffa.specs.Wire.{Gives, varint_at};
 
 use buffa::map_codec::{Int32, MapCodec, MapStorage, Str, field_len, write_field};
@@ -22,7 +22,7 @@ use std::test::Fail;
 /// ```
 pub fn encoding_of(alloc: Global, counts: &BTreeMap<String, i32>) -> Result<Vec<u8>, EncodeError>
     ensures { IfOk result (λ bytes. vec_items bytes
-        ≡ field_text ⟦<Str as MapCodec>⟧.writing ⟦<Int32 as MapCodec>⟧.writing 5 (means string_bytes (λ v. v) counts.now.entries)) }
+        ≡ field_encoding ⟦<Str as MapCodec>⟧.writing ⟦<Int32 as MapCodec>⟧.writing 5 (means string_bytes (λ v. v) counts.now.entries)) }
 {
     let mut bytes = Vec::new(alloc);
     write_field::<Str, Int32, _, _>(counts, 5, &mut bytes)?;

@@ -7,7 +7,7 @@ use Rattle.buffa_bytes.specs.Join.{Join}
 use Rattle.buffa_bytes.specs.Join.Join.{none, more}
 use Rattle.buffa_bytes.specs.Field.{IsTag, PayloadOver, SomeFieldOver, SomeField, Group}
 use Rattle.buffa_wire.specs.Records.{Datum, varint, fixed32, fixed64, bytes, group, Records, no_records, one}
-use Rattle.buffa_wire.specs.Text.{wire_of}
+use Rattle.buffa_wire.specs.Encoding.{wire_of}
 use Rattle.buffa_wire.specs.Parse.{Parse, IsPayload}
 
 one_deeper : (d : ℕ) → suc d - 1 ≡ d

@@ -9,7 +9,7 @@ use Rattle.buffa_bytes.specs.Reading.{tag_at, is_end}
 use Rattle.buffa_bytes.proofs.StepLemmas.{Agrees, agree_ok, agree_bind, same_answer, bind_same}
 use Rattle.buffa_bytes.proofs.FieldLemmas.{tag_falls}
 use Rattle.buffa_wire.specs.Records.{Datum, group, Records, no_records, one, records_of, list_of}
-use Rattle.buffa_wire.specs.Text.{wire_of}
+use Rattle.buffa_wire.specs.Encoding.{wire_of}
 use Rattle.buffa_wire.specs.Parse.{Parse, GroupFault, TakesField, FieldFault, RecordsFault, slots}
 use Rattle.buffa_wire.specs.RecordReading.{GroupReader, plain_at, payload_by, field_by, field_then, group_within, group_at, field_at, records_within, records_at, list_at}
 use Rattle.buffa_wire.proofs.ReadLemmas.{Group, also, also-none, behind, behind_none, then_one, closes_no, closes_yes, group_sound, group_complete, group_faulty, group_sound_in, group_complete_in, group_faulty_in, records_sound_in, records_complete_in, records_faulty_in, field_sound, field_complete, field_faulty}
@@ -106,9 +106,9 @@ pub field_end : (d s n : ℕ) (w : WireType) (bs : List ℕ) → w ≡ wire.EndG
 unfolding field_by
 field_end d s n w bs e = rw e refl
 
-pub field_no_slot : (d s n : ℕ) (w : WireType) (bs : List ℕ) → w ≢ wire.EndGroup → s ≡ 0 → field_at d s n w bs ≡ Err UnknownFieldLimitExceeded
+pub field_no_unknown : (d s n : ℕ) (w : WireType) (bs : List ℕ) → w ≢ wire.EndGroup → s ≡ 0 → field_at d s n w bs ≡ Err UnknownFieldLimitExceeded
 unfolding field_by
-field_no_slot d s n w bs o e = rw (not_end w o, eq-eqb s 0 e) refl
+field_no_unknown d s n w bs o e = rw (not_end w o, eq-eqb s 0 e) refl
 
 field_paid : (d s left n : ℕ) (w : WireType) (bs : List ℕ) → w ≢ wire.EndGroup → left + 1 ≡ s → field_at d s n w bs ≡ payload_by (group_at d) left n w bs
 unfolding field_by

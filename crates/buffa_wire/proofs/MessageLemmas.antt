@@ -134,8 +134,8 @@ lacks_all start now all rest u m (inr few) = inr (omega (arith, m, few))
 pub loop_fault : {X : Type 0} (o p : Option X) (start now over all rest : BudgetLeft) (e : DecodeError) → o ≡ p →
     now.unknown + all.unknown ≡ start.unknown + rest.unknown → now.memory + all.memory ≡ start.memory + rest.memory → now.unknown ≤ start.unknown → now.memory ≤ start.memory →
     PaysAtMost now rest over × (e ≢ error.OutOfMemory → MergeFault p rest now e) → PaysAtMost start all over × (e ≢ error.OutOfMemory → MergeFault o all start e)
-loop_fault o p start now over all rest e same u m no_slot no_unit (spent, why) = (
-  (omega (arith, no_slot, spent.0), omega (arith, u, spent.1), omega (arith, no_unit, spent.2), omega (arith, m, spent.3)),
+loop_fault o p start now over all rest e same u m no_unknown no_unit (spent, why) = (
+  (omega (arith, no_unknown, spent.0), omega (arith, u, spent.1), omega (arith, no_unit, spent.2), omega (arith, m, spent.3)),
   λ ne. elim (why ne) [ inl few ↦ inl (lacks_all start now all rest u m few) | inr bad ↦ inr (same ∙ bad.0, bad.1) ],
 )
 

@@ -6,14 +6,14 @@ use Rattle.std.proofs.lemmas.Bool.{cases_lt}
 use Rattle.buffa_bytes.specs.WireType.{wire_number}
 use Rattle.buffa_bytes.specs.declared.wire_type.WireType.{WireType}
 use Rattle.buffa_bytes.specs.declared.wire_type.WireType.TheVariants as wire
-use Rattle.buffa_bytes.specs.Varint.{base128, Continue, IsVarint, varint_text}
-use Rattle.buffa_bytes.specs.Values.{tag_text}
+use Rattle.buffa_bytes.specs.Varint.{base128, Continue, IsVarint, varint_encoding}
+use Rattle.buffa_bytes.specs.Values.{tag_encoding}
 use Rattle.buffa_bytes.specs.Number.{IsNumber}
 use Rattle.buffa_bytes.specs.Field.{IsTag}
-use Rattle.buffa_bytes.proofs.VarintLemmas.{IsVarint-varint_text}
-use Rattle.buffa_bytes.proofs.ShortestLemmas.{varint_text-last, varint_text-more}
+use Rattle.buffa_bytes.proofs.VarintLemmas.{IsVarint-varint_encoding}
+use Rattle.buffa_bytes.proofs.ShortestLemmas.{varint_encoding-last, varint_encoding-more}
 use Rattle.buffa_wire.specs.Records.{Datum, varint, fixed32, fixed64, bytes, group, Records, no_records, one, records_height, datum_height}
-use Rattle.buffa_wire.specs.Text.{wire_of, payload_text, fields_text, field_text}
+use Rattle.buffa_wire.specs.Encoding.{wire_of, payload_encoding, fields_encoding, field_encoding}
 use Rattle.buffa_wire.specs.Parse.{Parse, IsPayload, Fits, FitsDatum, InRange, DatumInRange}
 
 -- ---- more depth changes nothing
@@ -39,21 +39,21 @@ tag_value n wire.StartGroup h = omega (arith, h.1)
 tag_value n wire.EndGroup h = omega (arith, h.1)
 tag_value n wire.Fixed32 h = omega (arith, h.1)
 
-is_tag : (n : ℕ) (w : WireType) → IsNumber n → IsTag (tag_text n w) n w
-is_tag n w h = (h, IsVarint-varint_text (8 * n + wire_number w) (tag_value n w h))
+is_tag : (n : ℕ) (w : WireType) → IsNumber n → IsTag (tag_encoding n w) n w
+is_tag n w h = (h, IsVarint-varint_encoding (8 * n + wire_number w) (tag_value n w h))
 
 mutual
-  pub text_parses : (rs : Records) (d : ℕ) → Fits rs → records_height rs ≤ d → Parse d (fields_text rs) rs
+  pub text_parses : (rs : Records) (d : ℕ) → Fits rs → records_height rs ≤ d → Parse d (fields_encoding rs) rs
   text_parses no_records d h k = refl
   text_parses (one n x rs) d h k =
-      (field_text n x, fields_text rs, (tag_text n (wire_of x), payload_text n x, is_tag n (wire_of x) h.0, payload_parses x d n h.0 h.1 (omega arith), refl), text_parses rs d h.2 (omega arith), refl)
+      (field_encoding n x, fields_encoding rs, (tag_encoding n (wire_of x), payload_encoding n x, is_tag n (wire_of x) h.0, payload_parses x d n h.0 h.1 (omega arith), refl), text_parses rs d h.2 (omega arith), refl)
 
-  payload_parses : (x : Datum) (d n : ℕ) → IsNumber n → FitsDatum x → datum_height x ≤ d → IsPayload d n x (payload_text n x)
-  payload_parses (varint v) d n i h k = IsVarint-varint_text v h
+  payload_parses : (x : Datum) (d n : ℕ) → IsNumber n → FitsDatum x → datum_height x ≤ d → IsPayload d n x (payload_encoding n x)
+  payload_parses (varint v) d n i h k = IsVarint-varint_encoding v h
   payload_parses (fixed32 v) d n i h k = (refl, sym (from_le_bytes-to_le_bytes_4 v h))
   payload_parses (fixed64 v) d n i h k = (refl, sym (from_le_bytes-to_le_bytes_8 v h))
-  payload_parses (bytes v) d n i h k = (varint_text (length v), IsVarint-varint_text (length v) h, refl)
-  payload_parses (group rs) d n i h k = (omega arith, fields_text rs, tag_text n wire.EndGroup, text_parses rs (d - 1) h (omega arith), is_tag n wire.EndGroup i, refl)
+  payload_parses (bytes v) d n i h k = (varint_encoding (length v), IsVarint-varint_encoding (length v) h, refl)
+  payload_parses (group rs) d n i h k = (omega arith, fields_encoding rs, tag_encoding n wire.EndGroup, text_parses rs (d - 1) h (omega arith), is_tag n wire.EndGroup i, refl)
 
 -- ---- a text has one reading
 -- p spells n, in any number of bytes
@@ -68,18 +68,18 @@ record Spells (p : List ℕ) (n : ℕ) : Type 0 where
 spelled : (p : List ℕ) (n : ℕ) → IsVarint p n → Spells p n
 spelled p n v = record { front = v.front; last = v.last; is = v.spelled; continue = v.continue; ends = v.ends; value = v.value }
 
-one_digit : (n : ℕ) → n < 128 → Spells (varint_text n) n
-one_digit n h = rw (varint_text-last n h) (record { front = []; last = n; is = refl; continue = tt; ends = h; value = omega arith })
+one_digit : (n : ℕ) → n < 128 → Spells (varint_encoding n) n
+one_digit n h = rw (varint_encoding-last n h) (record { front = []; last = n; is = refl; continue = tt; ends = h; value = omega arith })
 
-varint_text-spells : (k n : ℕ) → n ≤ k → Spells (varint_text n) n
-varint_text-spells zero n h = one_digit n (omega arith)
-varint_text-spells (suc k) n h = elim (cases_lt n 128) [
+varint_encoding-spells : (k n : ℕ) → n ≤ k → Spells (varint_encoding n) n
+varint_encoding-spells zero n h = one_digit n (omega arith)
+varint_encoding-spells (suc k) n h = elim (cases_lt n 128) [
   | inl small ↦ one_digit n small
-  | inr large ↦ (let s = varint_text-spells k (n / 128) (omega arith) in rw (varint_text-more n large) (record { front = (n % 128 + 128) ∷ s.front; last = s.last; is = ap (λ z. (n % 128 + 128) ∷ z) s.is; continue = (omega arith, s.continue); ends = s.ends; value = omega (arith, s.value) }))
+  | inr large ↦ (let s = varint_encoding-spells k (n / 128) (omega arith) in rw (varint_encoding-more n large) (record { front = (n % 128 + 128) ∷ s.front; last = s.last; is = ap (λ z. (n % 128 + 128) ∷ z) s.is; continue = (omega arith, s.continue); ends = s.ends; value = omega (arith, s.value) }))
 ]
 
-varint_text-own : (n : ℕ) → Spells (varint_text n) n
-varint_text-own n = varint_text-spells n n (omega arith)
+varint_encoding-own : (n : ℕ) → Spells (varint_encoding n) n
+varint_encoding-own n = varint_encoding-spells n n (omega arith)
 
 fronts : (a b : List ℕ) (m n : ℕ) (x y : List ℕ) → Continue a → Continue b → m < 128 → n < 128 → a ++ (m ∷ x) ≡ b ++ (n ∷ y) → (a ≡ b) × (m ≡ n) × (x ≡ y)
 fronts [] [] m n x y p q h k e = (refl, cc, cc)
@@ -128,16 +128,16 @@ mutual
   payload_loose (group rs) d n p (o, b, t, h, tag, is) = (b, t, parse_loose rs (d - 1) b h, spelled t _ tag.1, is)
 
 mutual
-  text_loose : (rs : Records) → InRange rs → Loose (fields_text rs) rs
+  text_loose : (rs : Records) → InRange rs → Loose (fields_encoding rs) rs
   text_loose no_records h = refl
-  text_loose (one n x rs) h = (tag_text n (wire_of x), payload_text n x, fields_text rs, varint_text-own _, payload_text_loose x n h.0, text_loose rs h.1, append_assoc (tag_text n (wire_of x)) (payload_text n x) (fields_text rs))
+  text_loose (one n x rs) h = (tag_encoding n (wire_of x), payload_encoding n x, fields_encoding rs, varint_encoding-own _, payload_encoding_loose x n h.0, text_loose rs h.1, append_assoc (tag_encoding n (wire_of x)) (payload_encoding n x) (fields_encoding rs))
 
-  payload_text_loose : (x : Datum) (n : ℕ) → DatumInRange x → LoosePayload n x (payload_text n x)
-  payload_text_loose (varint v) n h = varint_text-own v
-  payload_text_loose (fixed32 v) n h = (refl, sym (from_le_bytes-to_le_bytes_4 v h))
-  payload_text_loose (fixed64 v) n h = (refl, sym (from_le_bytes-to_le_bytes_8 v h))
-  payload_text_loose (bytes v) n h = (varint_text (length v), varint_text-own _, refl)
-  payload_text_loose (group rs) n h = (fields_text rs, tag_text n wire.EndGroup, text_loose rs h, varint_text-own _, refl)
+  payload_encoding_loose : (x : Datum) (n : ℕ) → DatumInRange x → LoosePayload n x (payload_encoding n x)
+  payload_encoding_loose (varint v) n h = varint_encoding-own v
+  payload_encoding_loose (fixed32 v) n h = (refl, sym (from_le_bytes-to_le_bytes_4 v h))
+  payload_encoding_loose (fixed64 v) n h = (refl, sym (from_le_bytes-to_le_bytes_8 v h))
+  payload_encoding_loose (bytes v) n h = (varint_encoding (length v), varint_encoding-own _, refl)
+  payload_encoding_loose (group rs) n h = (fields_encoding rs, tag_encoding n wire.EndGroup, text_loose rs h, varint_encoding-own _, refl)
 
 split_eq : (a b x y : List ℕ) → length a ≡ length b → a ++ x ≡ b ++ y → (a ≡ b) × (x ≡ y)
 split_eq [] [] x y n e = (refl, e)
@@ -215,5 +215,5 @@ one_loose b rs qs p q = (same_records rs qs b b [] [] p q stops_none stops_none 
 pub one_reading : (b : List ℕ) (c d : ℕ) (rs qs : Records) → Parse c b rs → Parse d b qs → rs ≡ qs
 one_reading b c d rs qs p q = one_loose b rs qs (parse_loose rs c b p) (parse_loose qs d b q)
 
-pub text_is_theirs : (d : ℕ) (rs qs : Records) → InRange rs → Parse d (fields_text rs) qs → qs ≡ rs
-text_is_theirs d rs qs h p = one_loose (fields_text rs) qs rs (parse_loose qs d (fields_text rs) p) (text_loose rs h)
+pub text_is_theirs : (d : ℕ) (rs qs : Records) → InRange rs → Parse d (fields_encoding rs) qs → qs ≡ rs
+text_is_theirs d rs qs h p = one_loose (fields_encoding rs) qs rs (parse_loose qs d (fields_encoding rs) p) (text_loose rs h)

@@ -15,8 +15,8 @@ use Rattle.buffa_bytes.proofs.VarintLemmas.{varint_sound, varint_complete, varin
 use Rattle.buffa_bytes.proofs.DelimitedLemmas.{taken_sound, taken_complete, taken_faulty, delimited_sound, delimited_complete, delimited_faulty}
 use Rattle.buffa_bytes.proofs.FieldLemmas.{tag_sound, tag_complete, tag_faulty, tag_some, not_end}
 use Rattle.buffa_wire.specs.Records.{Datum, varint, fixed32, fixed64, bytes, group, Records, no_records, one}
-use Rattle.buffa_wire.specs.Text.{wire_of}
-use Rattle.buffa_wire.specs.Parse.{Parse, IsPayload, slots, slots_inside, TakesField, TakesRecords, InsideFault, FieldFaultOf, NextFault, GroupFault}
+use Rattle.buffa_wire.specs.Encoding.{wire_of}
+use Rattle.buffa_wire.specs.Parse.{Parse, IsPayload, slots, fields_inside, TakesField, TakesRecords, InsideFault, FieldFaultOf, NextFault, GroupFault}
 use Rattle.buffa_wire.specs.RecordReading.{GroupReader, plain_at, payload_by, field_by, group_within, group_at, records_within}
 
 -- ---- wire types
@@ -125,7 +125,7 @@ module _ (d : ℕ) (inner : GroupReader) (F : ℕ → ℕ → List ℕ → Decod
 
   -- ---- payloads
   abbrev TakesPlain : ℕ → WireType → List ℕ → Datum × List ℕ → Type 0
-  TakesPlain n w bs v = (p : List ℕ) × IsPayload d n v.0 p × (wire_of v.0 ≡ w) × (slots_inside v.0 ≡ 0) × (bs ≡ p ++ v.1)
+  TakesPlain n w bs v = (p : List ℕ) × IsPayload d n v.0 p × (wire_of v.0 ≡ w) × (fields_inside v.0 ≡ 0) × (bs ≡ p ++ v.1)
 
   plain_sound : (n : ℕ) (w : WireType) (bs : List ℕ) → Agrees (plain_at w bs) (λ v. TakesPlain n w bs v) (ContentFault w bs)
   plain_sound n wire.Varint bs = agree_bind (varint_sound bs) (λ v a. record { holds = (a.0, a.1, refl, refl, a.2) }) (λ e f. f)
@@ -139,7 +139,7 @@ module _ (d : ℕ) (inner : GroupReader) (F : ℕ → ℕ → List ℕ → Decod
       (λ v (a : (p : List ℕ) × (length p ≡ 4) × (v.0 ≡ from_le_bytes w32 p) × (bs ≡ p ++ v.1)). record { holds = (a.0, (a.1, a.2), refl, refl, a.3) }) (λ e f. f)
 
   abbrev TakesPayload : ℕ → ℕ → WireType → List ℕ → Datum × ℕ × List ℕ → Type 0
-  TakesPayload s n w bs v = (p : List ℕ) × IsPayload d n v.0 p × (wire_of v.0 ≡ w) × (slots_inside v.0 + v.1 ≡ s) × (bs ≡ p ++ v.2)
+  TakesPayload s n w bs v = (p : List ℕ) × IsPayload d n v.0 p × (wire_of v.0 ≡ w) × (fields_inside v.0 + v.1 ≡ s) × (bs ≡ p ++ v.2)
 
   plain_after : (s n : ℕ) (w : WireType) (bs : List ℕ) → Agrees (plain_at w bs >>= (λ v. Ok (v.0, s, v.1))) (λ v. TakesPayload s n w bs v) (ContentFault w bs)
   plain_after s n w bs = agree_bind (plain_sound n w bs) (λ v a. record { holds = (a.0, a.1, a.2, omega (arith, a.3), a.4) }) (λ e f. f)
@@ -159,7 +159,7 @@ module _ (d : ℕ) (inner : GroupReader) (F : ℕ → ℕ → List ℕ → Decod
   plain_complete n (bytes v) p rest o (t, h, e) = rw (e, append_assoc t v rest, delimited_complete t v rest h) refl
   plain_complete n (group v) p rest o h = absurd (o refl)
 
-  payload_complete : Complete → (s n : ℕ) (x : Datum) (left : ℕ) (p rest : List ℕ) → IsPayload d n x p → slots_inside x + left ≡ s → payload_by inner s n (wire_of x) (p ++ rest) ≡ Ok (x, left, rest)
+  payload_complete : Complete → (s n : ℕ) (x : Datum) (left : ℕ) (p rest : List ℕ) → IsPayload d n x p → fields_inside x + left ≡ s → payload_by inner s n (wire_of x) (p ++ rest) ≡ Ok (x, left, rest)
   payload_complete c s n (varint v) left p rest h e = let k : s ≡ left = omega arith in rw (plain_complete n (varint v) p rest (λ w. cc) h, k) refl
   payload_complete c s n (fixed32 v) left p rest h e = let k : s ≡ left = omega arith in rw (plain_complete n (fixed32 v) p rest (λ w. cc) h, k) refl
   payload_complete c s n (fixed64 v) left p rest h e = let k : s ≡ left = omega arith in rw (plain_complete n (fixed64 v) p rest (λ w. cc) h, k) refl
@@ -193,7 +193,7 @@ module _ (d : ℕ) (inner : GroupReader) (F : ℕ → ℕ → List ℕ → Decod
       (λ v a. (a.0, a.1, a.2, omega (arith, a.3, k), a.4))
       (λ x f. inr (inr (end_false w e, omega arith, f)))))
 
-  pub field_complete : Complete → (s n : ℕ) (x : Datum) (left : ℕ) (p rest : List ℕ) → IsPayload d n x p → 1 + slots_inside x + left ≡ s → field_by inner s n (wire_of x) (p ++ rest) ≡ Ok (x, left, rest)
+  pub field_complete : Complete → (s n : ℕ) (x : Datum) (left : ℕ) (p rest : List ℕ) → IsPayload d n x p → 1 + fields_inside x + left ≡ s → field_by inner s n (wire_of x) (p ++ rest) ≡ Ok (x, left, rest)
   unfolding field_by
   field_complete c s n x left p rest h e =
       rw (not_end (wire_of x) (payload_no_end x), ne_eqb s 0 (λ z. absurd (omega arith))) (payload_complete c (s - 1) n x left p rest h (omega arith))
@@ -249,7 +249,7 @@ module _ (d : ℕ) (inner : GroupReader) (F : ℕ → ℕ → List ℕ → Decod
 
   -- whole fields are passed, by what reads a field and then goes on
   pass : (within : ℕ → ℕ → List ℕ → Result Group DecodeError) →
-      ((k s n : ℕ) (x : Datum) (left : ℕ) (t p rest : List ℕ) → IsTag t n (wire_of x) → IsPayload d n x p → 1 + slots_inside x + left ≡ s →
+      ((k s n : ℕ) (x : Datum) (left : ℕ) (t p rest : List ℕ) → IsTag t n (wire_of x) → IsPayload d n x p → 1 + fields_inside x + left ≡ s →
       within (suc k) s (t ++ (p ++ rest)) ≡ then_one n x (within k left rest)) →
       (rs : Records) (k s left : ℕ) (b x : List ℕ) → Parse d b rs → slots rs + left ≡ s → length (b ++ x) ≤ k → (m : ℕ) × (length x ≤ m) × (within k s (b ++ x) ≡ behind rs (within m left x))
   pass within step no_records k s left b x h e l =
@@ -263,13 +263,13 @@ module _ (d : ℕ) (inner : GroupReader) (F : ℕ → ℕ → List ℕ → Decod
       let i = pass within step rs k (slots rs + left) left r x more refl (omega (arith, tag_some t n (wire_of y) tag, ap length whole, length-append t (p ++ (r ++ x)), length-append p (r ++ x))) in
       (i.0, i.1, ap (within (suc k) s) whole ∙ step k s n y (slots rs + left) t p (r ++ x) tag payload (omega arith) ∙ ap (then_one n y) i.2 ∙ behind_one n y rs (within i.0 left x))
 
-  group_step_in : Complete → (m k s n : ℕ) (x : Datum) (left : ℕ) (t p rest : List ℕ) → IsTag t n (wire_of x) → IsPayload d n x p → 1 + slots_inside x + left ≡ s →
+  group_step_in : Complete → (m k s n : ℕ) (x : Datum) (left : ℕ) (t p rest : List ℕ) → IsTag t n (wire_of x) → IsPayload d n x p → 1 + fields_inside x + left ≡ s →
       group_within inner (suc k) s m (t ++ (p ++ rest)) ≡ then_one n x (group_within inner k left m rest)
   unfolding group_within
   group_step_in c m k s n x left t p rest tag payload e =
       rw (tag_complete t n (wire_of x) (p ++ rest) tag, closes_no (wire_of x) n m (λ w. absurd (payload_no_end x w)), field_complete c s n x left p rest payload e) refl
 
-  records_step_in : Complete → (k s n : ℕ) (x : Datum) (left : ℕ) (t p rest : List ℕ) → IsTag t n (wire_of x) → IsPayload d n x p → 1 + slots_inside x + left ≡ s →
+  records_step_in : Complete → (k s n : ℕ) (x : Datum) (left : ℕ) (t p rest : List ℕ) → IsTag t n (wire_of x) → IsPayload d n x p → 1 + fields_inside x + left ≡ s →
       records_within inner (suc k) s (t ++ (p ++ rest)) ≡ then_one n x (records_within inner k left rest)
   unfolding records_within
   records_step_in c k s n x left [] p rest tag payload e = absurd (omega (arith, tag_some [] n (wire_of x) tag))

@@ -6,10 +6,10 @@ use Rattle.std.proofs.lemmas.List.{take-append-drop, drop-append-le}
 use Rattle.buffa_bytes.specs.declared.error.EncodeError.{EncodeError}
 use Rattle.buffa_bytes.specs.Reading.{varint_at, varint_within}
 use Rattle.buffa_bytes.specs.Unread.{IsChunkOf}
-use Rattle.buffa_bytes.specs.Varint.{varint_text}
+use Rattle.buffa_bytes.specs.Varint.{varint_encoding}
 use Rattle.buffa_bytes.specs.Written.{UsesRoom, Writes}
 use Rattle.buffa_bytes.proofs.StepLemmas.{agree_ok}
-use Rattle.buffa_bytes.proofs.ShortestLemmas.{varint_text-last, varint_text-more}
+use Rattle.buffa_bytes.proofs.ShortestLemmas.{varint_encoding-last, varint_encoding-more}
 use Rattle.buffa_bytes.proofs.VarintLemmas.{varint_sound, varint_complete}
 use Rattle.buffa_bytes.proofs.FieldLemmas.{onward}
 
@@ -35,18 +35,18 @@ read_of_all n k part all c h e =
     ap varint_at (sym whole ∙ onward part t.0 (drop k part) more t.2) ∙ varint_complete t.0 n (drop k part ++ more) t.1
     ∙ ap (λ z. Ok (n, z)) (sym (drop-append-le k part more h) ∙ ap (drop k) whole)
 
-pub text_one : (n a : ℕ) → n < 128 → a ≡ n → a ∷ [] ≡ varint_text n
-text_one n a h e = ap (λ z. z ∷ []) e ∙ sym (varint_text-last n h)
+pub text_one : (n a : ℕ) → n < 128 → a ≡ n → a ∷ [] ≡ varint_encoding n
+text_one n a h e = ap (λ z. z ∷ []) e ∙ sym (varint_encoding-last n h)
 
-pub text_two : (n a b : ℕ) → 128 ≤ n → n < 16384 → a ≡ n % 128 + 128 → b ≡ n / 128 → a ∷ b ∷ [] ≡ varint_text n
+pub text_two : (n a b : ℕ) → 128 ≤ n → n < 16384 → a ≡ n % 128 + 128 → b ≡ n / 128 → a ∷ b ∷ [] ≡ varint_encoding n
 text_two n a b h k e f = let below : n / 128 < 128 = omega arith in
-    rw (e, f) (ap (λ t. (n % 128 + 128) ∷ t) (sym (varint_text-last (n / 128) below)) ∙ sym (varint_text-more n h))
+    rw (e, f) (ap (λ t. (n % 128 + 128) ∷ t) (sym (varint_encoding-last (n / 128) below)) ∙ sym (varint_encoding-more n h))
 
-pub text_three : (n a b c : ℕ) → 16384 ≤ n → n < 2097152 → a ≡ n % 128 + 128 → b ≡ n / 128 % 128 + 128 → c ≡ n / 16384 → a ∷ b ∷ c ∷ [] ≡ varint_text n
+pub text_three : (n a b c : ℕ) → 16384 ≤ n → n < 2097152 → a ≡ n % 128 + 128 → b ≡ n / 128 % 128 + 128 → c ≡ n / 16384 → a ∷ b ∷ c ∷ [] ≡ varint_encoding n
 text_three n a b c h k e f g =
     let large : 128 ≤ n = omega arith in
     let third : c ≡ n / 128 / 128 = omega arith in
-    rw e (ap (λ t. (n % 128 + 128) ∷ t) (text_two (n / 128) b c (omega arith) (omega arith) f third) ∙ sym (varint_text-more n large))
+    rw e (ap (λ t. (n % 128 + 128) ∷ t) (text_two (n / 128) b c (omega arith) (omega arith) f third) ∙ sym (varint_encoding-more n large))
 
 -- a text that is written, by another name
 pub writes_same : {T : Type 0} (r : Result T EncodeError) (old text same new : List ℕ) → text ≡ same → Writes r old text new → Writes r old same new
@@ -56,5 +56,5 @@ pub room_same : {T : Type 0} (r : Result T EncodeError) (room left : ℕ) (text 
 room_same r room left text same e w = subst (λ t. UsesRoom r room t left) e w
 
 -- a text behind a number below 128
-pub text_behind : (m n : ℕ) (text : List ℕ) → m < 128 → text ≡ varint_text n → m ∷ text ≡ varint_text m ++ varint_text n
-text_behind m n text h e = rw (varint_text-last m h) (ap (λ z. m ∷ z) e)
+pub text_behind : (m n : ℕ) (text : List ℕ) → m < 128 → text ≡ varint_encoding n → m ∷ text ≡ varint_encoding m ++ varint_encoding n
+text_behind m n text h e = rw (varint_encoding-last m h) (ap (λ z. m ∷ z) e)

@@ -9,28 +9,28 @@ use Rattle.buffa_wire.specs.Records.{Datum}
 use Rattle.buffa_bytes.specs.Reading.{delimited_at, tag_at}
 use Rattle.buffa_bytes.specs.Unread.{IsTailOf, bytes_read}
 use Rattle.buffa_bytes.proofs.TailLemmas.{tail_shorter}
-use Rattle.buffa_wire.specs.BudgetLeft.{SlotsSpent}
+use Rattle.buffa_wire.specs.BudgetLeft.{UnknownsSpent}
 
 -- ---- slots
-pub none_spent : (n s t : ℕ) → t ≡ s → SlotsSpent n s t
+pub none_spent : (n s t : ℕ) → t ≡ s → UnknownsSpent n s t
 none_spent n s t e = (omega arith, omega arith)
 
-pub one_spent : (n s mid : ℕ) → mid + 1 ≡ s → SlotsSpent (1 + n) s mid
+pub one_spent : (n s mid : ℕ) → mid + 1 ≡ s → UnknownsSpent (1 + n) s mid
 one_spent n s mid e = (omega arith, omega arith)
 
 -- one slot for a field, and what its group spends
-pub field_spent : (n s mid after : ℕ) → mid + 1 ≡ s → SlotsSpent n mid after → SlotsSpent (1 + n) s after
+pub field_spent : (n s mid after : ℕ) → mid + 1 ≡ s → UnknownsSpent n mid after → UnknownsSpent (1 + n) s after
 field_spent n s mid after e h = (omega (arith, h.0), omega (arith, h.1))
 
 -- of bytes all the first are read, then a tag, then a field that spends
-pub next_spent : (all old mid new : List ℕ) (s t u : ℕ) → IsTailOf old all → IsTailOf mid old → IsTailOf new mid → length mid < length old → SlotsSpent (bytes_read all old) s t → SlotsSpent (1 + bytes_read mid new) t u → SlotsSpent (bytes_read all new) s u
+pub next_spent : (all old mid new : List ℕ) (s t u : ℕ) → IsTailOf old all → IsTailOf mid old → IsTailOf new mid → length mid < length old → UnknownsSpent (bytes_read all old) s t → UnknownsSpent (1 + bytes_read mid new) t u → UnknownsSpent (bytes_read all new) s u
 next_spent all old mid new s t u a b c less h k = (
   omega (arith, h.0, k.0),
   omega (arith, h.1, k.1, tail_shorter all old a, tail_shorter old mid b, tail_shorter mid new c),
 )
 
 -- bytes that are read further
-pub further_spent : (all old new : List ℕ) (s t : ℕ) → IsTailOf old all → IsTailOf new old → SlotsSpent (bytes_read all old) s t → SlotsSpent (bytes_read all new) s t
+pub further_spent : (all old new : List ℕ) (s t : ℕ) → IsTailOf old all → IsTailOf new old → UnknownsSpent (bytes_read all old) s t → UnknownsSpent (bytes_read all new) s t
 further_spent all old new s t a b h = (h.0, omega (arith, h.1, tail_shorter all old a, tail_shorter old new b))
 
 -- ---- memory

@@ -44,12 +44,12 @@ PaysAtMost left need over =
     × (over.memory ≤ left.memory) × (left.memory ≤ over.memory + need.memory)
 
 -- of before slots, at most n were spent, and after are left
-abbrev pub SlotsSpent : ℕ → ℕ → ℕ → Type 0
-SlotsSpent n before after = (after ≤ before) × (before ≤ after + n)
+abbrev pub UnknownsSpent : ℕ → ℕ → ℕ → Type 0
+UnknownsSpent n before after = (after ≤ before) × (before ≤ after + n)
 
 -- one slot was taken, where one was there
-abbrev pub SlotTaken : ℕ → ℕ → Type 0
-SlotTaken before after = after ≡ before - 1
+abbrev pub UnknownTaken : ℕ → ℕ → Type 0
+UnknownTaken before after = after ≡ before - 1
 
 -- what a call that took a context left in the budget that was lent with it
 abbrev pub budget_left : {D X : Type 0} → D × (MutBor X × Unit {0}) → X

@@ -11,7 +11,7 @@ use Rattle.buffa_bytes.specs.Field.{IsTag, TagFault, TakesTag}
 use Rattle.buffa_bytes.specs.Varint.{IsVarint}
 use Rattle.buffa_bytes.specs.Content.{ContentFault}
 use Rattle.buffa_wire.specs.Records.{Datum, varint, fixed32, fixed64, bytes, group, Records, no_records, one}
-use Rattle.buffa_wire.specs.Text.{wire_of}
+use Rattle.buffa_wire.specs.Encoding.{wire_of}
 
 -- f is a tag of number n and wire type w, and a payload of P
 abbrev pub FieldOf : (List ℕ → Type 0) → ℕ → WireType → List ℕ → Type 0
@@ -66,19 +66,19 @@ abbrev mutual
 abbrev mutual
   pub slots : Records → ℕ
   slots no_records = 0
-  slots (one n x rs) = 1 + slots_inside x + slots rs
+  slots (one n x rs) = 1 + fields_inside x + slots rs
 
-  pub slots_inside : Datum → ℕ
-  slots_inside (varint v) = 0
-  slots_inside (fixed32 v) = 0
-  slots_inside (fixed64 v) = 0
-  slots_inside (bytes v) = 0
-  slots_inside (group rs) = slots rs
+  pub fields_inside : Datum → ℕ
+  fields_inside (varint v) = 0
+  fields_inside (fixed32 v) = 0
+  fields_inside (fixed64 v) = 0
+  fields_inside (bytes v) = 0
+  fields_inside (group rs) = slots rs
 
 -- a payload that holds x begins old, new is what follows it, and of s slots one is spent for the field, and one
 -- for each record inside
 abbrev pub TakesField : ℕ → ℕ → ℕ → WireType → List ℕ → Datum → ℕ → List ℕ → Type 0
-TakesField d s n w old x left new = (p : List ℕ) × IsPayload d n x p × (wire_of x ≡ w) × (1 + slots_inside x + left ≡ s) × (old ≡ p ++ new)
+TakesField d s n w old x left new = (p : List ℕ) × IsPayload d n x p × (wire_of x ≡ w) × (1 + fields_inside x + left ≡ s) × (old ≡ p ++ new)
 
 -- fields that are the records rs begin old, new is what follows them, and of s slots one is spent for each record
 abbrev pub TakesRecords : ℕ → ℕ → List ℕ → Records → ℕ → List ℕ → Type 0

@@ -5,8 +5,8 @@ use Rattle.buffa_bytes.specs.declared.error.DecodeError.{DecodeError}
 use Rattle.buffa_bytes.specs.declared.error.DecodeError.TheVariants.{OutOfMemory}
 use Rattle.buffa_bytes.specs.declared.error.EncodeError.{EncodeError}
 use Rattle.buffa_bytes.specs.Field.{IsTag}
-use Rattle.buffa_bytes.specs.Left.{LeavesUnlessFull, past_no_payload, past_no_text}
-use Rattle.buffa_wire.specs.BudgetLeft.{BudgetLeft, Lacks, Pays, SlotTaken}
+use Rattle.buffa_bytes.specs.Left.{LeavesUnlessFull, past_no_payload, past_no_delimited}
+use Rattle.buffa_wire.specs.BudgetLeft.{BudgetLeft, Lacks, Pays, UnknownTaken}
 use Rattle.buffa_wire.specs.Cache.{Cache}
 use Rattle.buffa_wire.specs.Message.{IsFieldMerged, IsMerged, IsMergedAlone, IsInside, PayloadFault}
 use Rattle.buffa_wire.specs.Parse.{FieldFault, Parse, RecordsFault, TakesField, slots}
@@ -21,7 +21,7 @@ told e = Err e
 
 -- what is left of refused bytes: of a length and so many bytes, and of a payload
 abbrev pub LeavesText : Result (Unit {0}) DecodeError → List ℕ → List ℕ → Type 0
-LeavesText r bs left = LeavesUnlessFull r (past_no_text bs) left
+LeavesText r bs left = LeavesUnlessFull r (past_no_delimited bs) left
 
 abbrev pub LeavesPayload : Result (Unit {0}) DecodeError → WireType → List ℕ → List ℕ → Type 0
 LeavesPayload r w bs left = LeavesUnlessFull r (past_no_payload w bs) left
@@ -67,7 +67,7 @@ pub record FieldIsPinned (d s n : ℕ) (w : WireType) (bs : List ℕ) : Type 0 w
   pub fault : (e f : DecodeError) → FieldFault d s n w bs e → FieldFault d s n w bs f → e ≡ f
   -- of a field that is no group, what is left of the bytes after a refusal, and of the slots
   pub left : (e : DecodeError) (r q : List ℕ) → e ≢ OutOfMemory → LeavesPayload (told e) w bs r → LeavesPayload (told e) w bs q → r ≡ q
-  pub slot : (k m : ℕ) → SlotTaken s k → SlotTaken s m → k ≡ m
+  pub slot : (k m : ℕ) → UnknownTaken s k → UnknownTaken s m → k ≡ m
 
 -- The same of whole bytes.
 pub record RecordsArePinned (d s : ℕ) (bs : List ℕ) : Type 0 where

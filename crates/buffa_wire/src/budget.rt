@@ -81,9 +81,9 @@ impl Budget {
     /// memory.
     ///
     /// ```ignore
-    /// budget.take_slot()?;
+    /// budget.take_unknown()?;
     /// ```
-    pub fn take_slot(&mut self) -> Result<(), DecodeError>
+    pub fn take_unknown(&mut self) -> Result<(), DecodeError>
         ensures ok { OnOk result ((self.new.unknown + 1 ≡ self.old.unknown) × (self.new.memory ≡ self.old.memory)) }
         ensures err { OnErr result ((self.old.unknown ≡ 0) × (self.new ≡ self.old)) }
         ensures which { IfErr result (λ e. e ≡ error.UnknownFieldLimitExceeded) }

@@ -97,7 +97,7 @@ impl<'a> DecodeContext<'a> {
         ensures which { IfErr result (λ e. e ≡ error.UnknownFieldLimitExceeded) }
     {
         let budget = &mut *self.budget;
-        budget.take_slot()
+        budget.take_unknown()
     }
 
     /// Spends `n` units of element memory.

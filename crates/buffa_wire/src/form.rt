@@ -121,8 +121,8 @@ pub struct Varint;
 impl Sealed for Varint {}
 
 impl Form for Varint {
-    ghost use Rattle.buffa_bytes.proofs.VarintLemmas.{IsVarint-varint_text};
-    ghost use Rattle.buffa_bytes.specs.Varint.{varint_text};
+    ghost use Rattle.buffa_bytes.proofs.VarintLemmas.{IsVarint-varint_encoding};
+    ghost use Rattle.buffa_bytes.specs.Varint.{varint_encoding};
 
     const WIRE_TYPE: WireType = WireType::Varint;
 
@@ -130,7 +130,7 @@ impl Form for Varint {
 
     ghost spells = { λ n. n < 2 ^ 64 };
 
-    ghost payload = { varint_text };
+    ghost payload = { varint_encoding };
 
     ghost datum = { varint };
 
@@ -161,7 +161,7 @@ impl Form for Varint {
         UnknownFieldData::Varint(n)
     }
 
-    ghost reads_back = { IsVarint-varint_text };
+    ghost reads_back = { IsVarint-varint_encoding };
 
     ghost kept = { λ n. refl };
 

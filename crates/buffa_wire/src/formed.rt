@@ -11,7 +11,7 @@ ghost use Rattle.buffa_wire.specs.Message.{FieldTaken, MergesField, TakesField};
 ghost use Rattle.buffa_wire.specs.Parse.{Fits};
 ghost use Rattle.buffa_wire.specs.Passes.{IsNext, IsSized, IsWritten};
 ghost use Rattle.buffa_wire.specs.Records.{Datum, records_of};
-ghost use Rattle.buffa_wire.specs.Text.{records_text};
+ghost use Rattle.buffa_wire.specs.Encoding.{records_encoding};
 
 use crate::cache::SizeCache;
 use crate::context::DecodeContext;
@@ -82,7 +82,7 @@ pub trait MessageForm<M: Blank> {
     /// let size = <M::Form as MessageForm<M>>::compute_size(self, cache)?;
     /// ```
     fn compute_size(message: &M, cache: &mut SizeCache) -> Result<u32, EncodeError>
-        ensures sized { IsSized (records_text (records (M.meaning message.now))) (slots (M.meaning message.now))
+        ensures sized { IsSized (records_encoding (records (M.meaning message.now))) (slots (M.meaning message.now))
             cache.old result cache.new }
         ensures always { sure (M.meaning message.now) → IsOk result };
 
@@ -100,7 +100,7 @@ pub trait MessageForm<M: Blank> {
         sink: &mut S,
     ) -> Result<(), EncodeError>
         requires { IsNext (slots (M.meaning message.now)) cache.old }
-        ensures { IsWritten (records_text (records (M.meaning message.now))) (slots (M.meaning message.now)) cache.old
+        ensures { IsWritten (records_encoding (records (M.meaning message.now))) (slots (M.meaning message.now)) cache.old
             (S.written sink.old) result cache.new (S.written sink.new) };
 
     /// Merges the field whose tag was read.
@@ -125,8 +125,8 @@ pub trait MessageForm<M: Blank> {
             (budget_left ctx.exit) buf.new.now };
 
     /// The text reads back, where no length is too large to be read.
-    ghost merged_text: { (d : ℕ) (v : M.Meaning) → Fits (records_of (records v)) → normal v → levels v ≤ d →
-        merged d M.blank_is (records_text (records v)) ≡ Some v };
+    ghost merged_encoding: { (d : ℕ) (v : M.Meaning) → Fits (records_of (records v)) → normal v → levels v ≤ d →
+        merged d M.blank_is (records_encoding (records v)) ≡ Some v };
 }
 
 /// A type whose messages are read and written as another type says. It is a [`Message`] by that alone.
@@ -153,7 +153,7 @@ where
 
     ghost cost = { M.Form.cost };
 
-    ghost text = { λ v. records_text (M.Form.records v) };
+    ghost text = { λ v. records_encoding (M.Form.records v) };
 
     ghost records = { M.Form.records };
 
@@ -163,9 +163,9 @@ where
 
     ghost normal = { M.Form.normal };
 
-    ghost text_records = { λ v. refl };
+    ghost encoding_records = { λ v. refl };
 
-    ghost merged_text = { M.Form.MessageForm.merged_text };
+    ghost merged_encoding = { M.Form.MessageForm.merged_encoding };
 
     ghost positive = { M.Form.positive };
 

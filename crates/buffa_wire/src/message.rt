@@ -7,7 +7,7 @@ ghost use Rattle.buffa_bytes.specs.declared.error.DecodeError.TheVariants.{OutOf
 ghost use Rattle.buffa_bytes.specs.Field.{SomeField};
 ghost use Rattle.buffa_bytes.specs.Gives.{FullOnlyIf};
 ghost use Rattle.buffa_bytes.specs.Join.{Join};
-ghost use Rattle.buffa_bytes.specs.Left.{LeavesUnlessFull, past_no_text};
+ghost use Rattle.buffa_bytes.specs.Left.{LeavesUnlessFull, past_no_delimited};
 ghost use Rattle.buffa_bytes.specs.Reading.{delimited_at};
 ghost use Rattle.buffa_bytes.specs.Unread.{IsTailOf};
 ghost use Rattle.buffa_wire.specs.BudgetLeft.{BudgetLeft, PaysAtMost, budget_left, nothing, plus};
@@ -15,7 +15,7 @@ ghost use Rattle.buffa_bytes.specs.declared.error.EncodeError.TheVariants as err
 ghost use Rattle.buffa_wire.specs.Parse.{Fits};
 ghost use Rattle.buffa_wire.specs.Passes.{IsNext, IsSized, IsWritten};
 ghost use Rattle.buffa_wire.specs.Records.{Datum, records_of};
-ghost use Rattle.buffa_wire.specs.Text.{records_text};
+ghost use Rattle.buffa_wire.specs.Encoding.{records_encoding};
 ghost use Rattle.buffa_wire.specs.Message.{BeginsField, IsMergedAlone, MergesBytes, MergesField, MergesInside};
 ghost use Rattle.buffa_wire.specs.Message.{PayloadFault, cost_of_payload};
 
@@ -66,10 +66,10 @@ pub trait MessageSpec: Blank {
     ghost normal: { Self.Meaning → Type 0 };
 
     /// The text is that of the records.
-    ghost text_records: { (v : Self.Meaning) → text v ≡ records_text (records v) };
+    ghost encoding_records: { (v : Self.Meaning) → text v ≡ records_encoding (records v) };
 
     /// The text reads back, where no length is too large to be read.
-    ghost merged_text: { (d : ℕ) (v : Self.Meaning) → Fits (records_of (records v)) → normal v → levels v ≤ d →
+    ghost merged_encoding: { (d : ℕ) (v : Self.Meaning) → Fits (records_of (records v)) → normal v → levels v ≤ d →
         merged d Self.blank_is (text v) ≡ Some v };
 
     /// An element has a cost.
@@ -269,7 +269,7 @@ pub trait Message: MessageSpec {
         ensures outside { (IsOk (delimited_at (B.unread buf.old)) → ⊥) → Self.meaning self.new ≡ Self.meaning self.old }
         ensures level { ctx.entry.depth ≡ 0 → (Self.meaning self.new ≡ Self.meaning self.old)
             × (B.unread buf.new ≡ B.unread buf.old) }
-        ensures left { 0 < ctx.entry.depth → LeavesUnlessFull result (past_no_text (B.unread buf.old))
+        ensures left { 0 < ctx.entry.depth → LeavesUnlessFull result (past_no_delimited (B.unread buf.old))
             (B.unread buf.new) }
         ensures kept { B.beyond buf.new ≡ B.beyond buf.old }
         ensures tail { IsTailOf (B.unread buf.new) (B.unread buf.old) }

@@ -8,7 +8,7 @@ ghost use Rattle.buffa_bytes.specs.Gives.{Gives};
 ghost use Rattle.buffa_bytes.specs.Left.{past_no_varint};
 ghost use Rattle.buffa_bytes.specs.Reading.{varint_at};
 ghost use Rattle.buffa_bytes.specs.Unread.{IsTailOf};
-ghost use Rattle.buffa_bytes.specs.Varint.{varint_text};
+ghost use Rattle.buffa_bytes.specs.Varint.{varint_encoding};
 ghost use Rattle.buffa_bytes.specs.Written.{UsesRoom, Writes};
 
 use buffa_bytes::{Buf, DecodeError, EncodeError, EncodeSink, decode_varint, encode_varint};
@@ -59,8 +59,8 @@ pub(crate) fn read_varint<B: Buf>(buf: &mut B) -> Result<u64, DecodeError>
 /// Those of [`encode_varint`].
 #[inline(always)]
 pub(crate) fn write_varint<S: EncodeSink>(n: u64, sink: &mut S) -> Result<(), EncodeError>
-    ensures writes { Writes result (S.written sink.old) (varint_text n) (S.written sink.new) }
-    ensures room { UsesRoom result (S.room sink.old) (varint_text n) (S.room sink.new) }
+    ensures writes { Writes result (S.written sink.old) (varint_encoding n) (S.written sink.new) }
+    ensures room { UsesRoom result (S.room sink.old) (varint_encoding n) (S.room sink.new) }
 {
     if n < 128 {
         return sink.put_byte(n as u8);
@@ -82,8 +82,8 @@ pub(crate) fn write_varint<S: EncodeSink>(n: u64, sink: &mut S) -> Result<(), En
 #[inline(always)]
 #[tactic(auto, using(buffa_bytes::proofs::SinkLemmas::writes_then, buffa_bytes::proofs::SinkLemmas::front_first, buffa_bytes::proofs::SinkLemmas::room_then))]
 pub(crate) fn write_two<S: EncodeSink>(m: u64, n: u64, sink: &mut S) -> Result<(), EncodeError>
-    ensures writes { Writes result (S.written sink.old) (varint_text m ++ varint_text n) (S.written sink.new) }
-    ensures room { UsesRoom result (S.room sink.old) (varint_text m ++ varint_text n) (S.room sink.new) }
+    ensures writes { Writes result (S.written sink.old) (varint_encoding m ++ varint_encoding n) (S.written sink.new) }
+    ensures room { UsesRoom result (S.room sink.old) (varint_encoding m ++ varint_encoding n) (S.room sink.new) }
 {
     if m < 128 && n < 2_097_152 {
         let first = m as u8;

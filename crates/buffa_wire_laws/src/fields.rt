@@ -16,20 +16,20 @@ ghost use Rattle.buffa_bytes.specs.declared.error.DecodeError.TheVariants.{OutOf
 ghost use Rattle.buffa_bytes.specs.declared.error.EncodeError.{EncodeError};
 ghost use Rattle.buffa_bytes.specs.declared.error.MessageSetFault.{MessageSetFault};
 ghost use Rattle.buffa_bytes.specs.ErrorText.{decode_error_text, encode_error_text, message_set_fault_text};
-ghost use Rattle.buffa_bytes.specs.Varint.{IsByte, varint_text, IsVarint, TakesVarint, VarintFault};
-ghost use Rattle.buffa_bytes.specs.Left.{past_no_payload, past_no_tag, past_no_text, past_no_varint};
+ghost use Rattle.buffa_bytes.specs.Varint.{IsByte, varint_encoding, IsVarint, TakesVarint, VarintFault};
+ghost use Rattle.buffa_bytes.specs.Left.{past_no_payload, past_no_tag, past_no_delimited, past_no_varint};
 ghost use Rattle.buffa_bytes.specs.Number.{IsNumber};
 ghost use Rattle.buffa_bytes.specs.Content.{Content, ContentFault, TakesContent, bytes_in, content_at, content_by};
 ghost use Rattle.buffa_bytes.specs.Content.{number_in};
 ghost use Rattle.buffa_bytes.specs.Field.{LengthFault, SomeField, TakesDelimited, TakesTag, TagFault, TakesPayload};
 ghost use Rattle.buffa_bytes.specs.Field.{PayloadFault};
 ghost use Rattle.buffa_bytes.specs.Reading.{delimited_at, varint_at, tag_at, skip_at, group_at, group_by_field};
-ghost use Rattle.buffa_bytes.specs.Scalars.{bool_at, bool_of, bool_text, eight_as, fixed32_at, fixed32_text};
-ghost use Rattle.buffa_bytes.specs.Scalars.{fixed64_at, fixed64_text, four_as, int32_of, int64_at, int64_of};
-ghost use Rattle.buffa_bytes.specs.Scalars.{int64_text, sfixed32_at, sfixed32_of, sfixed32_text, sfixed64_at};
-ghost use Rattle.buffa_bytes.specs.Scalars.{sfixed64_of, sfixed64_text, sint32_at, sint32_of, sint32_text, sint64_at};
-ghost use Rattle.buffa_bytes.specs.Scalars.{sint64_of, sint64_text, uint32_at, uint32_of, uint32_text, uint64_at};
-ghost use Rattle.buffa_bytes.specs.Scalars.{uint64_text, unzigzag, varint_as, zigzag};
+ghost use Rattle.buffa_bytes.specs.Scalars.{bool_at, bool_of, bool_encoding, eight_as, fixed32_at, fixed32_encoding};
+ghost use Rattle.buffa_bytes.specs.Scalars.{fixed64_at, fixed64_encoding, four_as, int32_of, int64_at, int64_of};
+ghost use Rattle.buffa_bytes.specs.Scalars.{int64_encoding, sfixed32_at, sfixed32_of, sfixed32_encoding, sfixed64_at};
+ghost use Rattle.buffa_bytes.specs.Scalars.{sfixed64_of, sfixed64_encoding, sint32_at, sint32_of, sint32_encoding, sint64_at};
+ghost use Rattle.buffa_bytes.specs.Scalars.{sint64_of, sint64_encoding, uint32_at, uint32_of, uint32_encoding, uint64_at};
+ghost use Rattle.buffa_bytes.specs.Scalars.{uint64_encoding, unzigzag, varint_as, zigzag};
 ghost use Rattle.bytes.specs.Filled.{Filled};
 ghost use Rattle.buffa_bytes.specs.Adapted.{ShowsInner, kept_beyond};
 ghost use Rattle.buffa_bytes.specs.Pinned.{AnswerIsPinned, AnswerIsPinnedUnlessFull, ChunkIsPinned, IsItsBytes};
@@ -37,7 +37,7 @@ ghost use Rattle.buffa_bytes.specs.Pinned.{IsCopied, Means, SameIsOne, ShowsByte
 ghost use Rattle.buffa_bytes.specs.Reading.{check_wire};
 ghost use Rattle.buffa_bytes.specs.WireType.{wire_kind, wire_number};
 ghost use Rattle.buffa_bytes.specs.Texts.{bytes_as, string_as, text_as};
-ghost use Rattle.buffa_bytes.specs.Values.{delimited_text, int32_at, int32_text, string_at, tag_text};
+ghost use Rattle.buffa_bytes.specs.Values.{delimited_encoding, int32_at, int32_encoding, string_at, tag_encoding};
 
 use buffa_bytes::adapted::Adapted;
 use buffa_bytes::blank::Blank;
@@ -91,9 +91,9 @@ pub fn payloads_are_read()
 
 /// The shortest spelling is one, none is shorter, and it is read back whatever follows.
 pub fn shortest_spelling()
-    ensures spells { (n : ℕ) → n < 2 ^ 64 → IsVarint (varint_text n) n }
-    ensures shortest { (bytes : List ℕ) (n : ℕ) → IsVarint bytes n → length (varint_text n) ≤ length bytes }
-    ensures read_back { (n : ℕ) (rest : List ℕ) → n < 2 ^ 64 → varint_at (varint_text n ++ rest) ≡ Ok (n, rest) }
+    ensures spells { (n : ℕ) → n < 2 ^ 64 → IsVarint (varint_encoding n) n }
+    ensures shortest { (bytes : List ℕ) (n : ℕ) → IsVarint bytes n → length (varint_encoding n) ≤ length bytes }
+    ensures read_back { (n : ℕ) (rest : List ℕ) → n < 2 ^ 64 → varint_at (varint_encoding n ++ rest) ≡ Ok (n, rest) }
 {}
 
 /// Of two spellings of a number in as many bytes there is one: the shortest is the only one of its length.
@@ -161,13 +161,13 @@ pub fn one_fault()
 
 /// A tag that was written is read back, whatever follows.
 pub fn tags_are_read_back()
-    ensures { (f : ℕ) (w : WireType) (rest : List ℕ) → IsNumber f → tag_at (tag_text f w ++ rest) ≡ Ok (f, w, rest) }
+    ensures { (f : ℕ) (w : WireType) (rest : List ℕ) → IsNumber f → tag_at (tag_encoding f w ++ rest) ≡ Ok (f, w, rest) }
 {}
 
 /// An int32 that was written is read back, whatever follows, and a negative one takes ten bytes.
 pub fn int32_is_read_back()
-    ensures read_back { (v : ℤ) (rest : List ℕ) → FitsSigned w32 v → int32_at (int32_text v ++ rest) ≡ Ok (v, rest) }
-    ensures negative { (v : ℤ) → FitsSigned w32 v → v <ℤ pos 0 → length (int32_text v) ≡ 10 }
+    ensures read_back { (v : ℤ) (rest : List ℕ) → FitsSigned w32 v → int32_at (int32_encoding v ++ rest) ≡ Ok (v, rest) }
+    ensures negative { (v : ℤ) → FitsSigned w32 v → v <ℤ pos 0 → length (int32_encoding v) ≡ 10 }
 {}
 
 /// Zigzag is undone, from either side, and keeps within the width.
@@ -192,49 +192,49 @@ pub fn numbers_mean_their_values()
 
 /// A scalar that was written as a varint is read back, whatever follows.
 pub fn varint_scalars_are_read_back()
-    ensures int64 { (v : ℤ) (rest : List ℕ) → FitsSigned w64 v → int64_at (int64_text v ++ rest) ≡ Ok (v, rest) }
-    ensures uint32 { (n : ℕ) (rest : List ℕ) → n < 2 ^ 32 → uint32_at (uint32_text n ++ rest) ≡ Ok (n, rest) }
-    ensures uint64 { (n : ℕ) (rest : List ℕ) → n < 2 ^ 64 → uint64_at (uint64_text n ++ rest) ≡ Ok (n, rest) }
-    ensures sint32 { (v : ℤ) (rest : List ℕ) → FitsSigned w32 v → sint32_at (sint32_text v ++ rest) ≡ Ok (v, rest) }
-    ensures sint64 { (v : ℤ) (rest : List ℕ) → FitsSigned w64 v → sint64_at (sint64_text v ++ rest) ≡ Ok (v, rest) }
-    ensures bool { (b : Bool) (rest : List ℕ) → bool_at (bool_text b ++ rest) ≡ Ok (b, rest) }
+    ensures int64 { (v : ℤ) (rest : List ℕ) → FitsSigned w64 v → int64_at (int64_encoding v ++ rest) ≡ Ok (v, rest) }
+    ensures uint32 { (n : ℕ) (rest : List ℕ) → n < 2 ^ 32 → uint32_at (uint32_encoding n ++ rest) ≡ Ok (n, rest) }
+    ensures uint64 { (n : ℕ) (rest : List ℕ) → n < 2 ^ 64 → uint64_at (uint64_encoding n ++ rest) ≡ Ok (n, rest) }
+    ensures sint32 { (v : ℤ) (rest : List ℕ) → FitsSigned w32 v → sint32_at (sint32_encoding v ++ rest) ≡ Ok (v, rest) }
+    ensures sint64 { (v : ℤ) (rest : List ℕ) → FitsSigned w64 v → sint64_at (sint64_encoding v ++ rest) ≡ Ok (v, rest) }
+    ensures bool { (b : Bool) (rest : List ℕ) → bool_at (bool_encoding b ++ rest) ≡ Ok (b, rest) }
 {}
 
 /// A scalar that was written as four or eight bytes is read back, whatever follows.
 pub fn fixed_scalars_are_read_back()
-    ensures fixed32 { (n : ℕ) (rest : List ℕ) → n < 2 ^ 32 → fixed32_at (fixed32_text n ++ rest) ≡ Ok (n, rest) }
-    ensures fixed64 { (n : ℕ) (rest : List ℕ) → n < 2 ^ 64 → fixed64_at (fixed64_text n ++ rest) ≡ Ok (n, rest) }
-    ensures sfixed32 { (v : ℤ) (rest : List ℕ) → FitsSigned w32 v → sfixed32_at (sfixed32_text v ++ rest)
+    ensures fixed32 { (n : ℕ) (rest : List ℕ) → n < 2 ^ 32 → fixed32_at (fixed32_encoding n ++ rest) ≡ Ok (n, rest) }
+    ensures fixed64 { (n : ℕ) (rest : List ℕ) → n < 2 ^ 64 → fixed64_at (fixed64_encoding n ++ rest) ≡ Ok (n, rest) }
+    ensures sfixed32 { (v : ℤ) (rest : List ℕ) → FitsSigned w32 v → sfixed32_at (sfixed32_encoding v ++ rest)
         ≡ Ok (v, rest) }
-    ensures sfixed64 { (v : ℤ) (rest : List ℕ) → FitsSigned w64 v → sfixed64_at (sfixed64_text v ++ rest)
+    ensures sfixed64 { (v : ℤ) (rest : List ℕ) → FitsSigned w64 v → sfixed64_at (sfixed64_encoding v ++ rest)
         ≡ Ok (v, rest) }
 {}
 
 /// The scalars of one length, whatever the value.
 pub fn scalars_of_one_length()
-    ensures bool { (b : Bool) → length (bool_text b) ≡ 1 }
-    ensures fixed32 { (n : ℕ) → length (fixed32_text n) ≡ 4 }
-    ensures fixed64 { (n : ℕ) → length (fixed64_text n) ≡ 8 }
-    ensures sfixed32 { (v : ℤ) → length (sfixed32_text v) ≡ 4 }
-    ensures sfixed64 { (v : ℤ) → length (sfixed64_text v) ≡ 8 }
+    ensures bool { (b : Bool) → length (bool_encoding b) ≡ 1 }
+    ensures fixed32 { (n : ℕ) → length (fixed32_encoding n) ≡ 4 }
+    ensures fixed64 { (n : ℕ) → length (fixed64_encoding n) ≡ 8 }
+    ensures sfixed32 { (v : ℤ) → length (sfixed32_encoding v) ≡ 4 }
+    ensures sfixed64 { (v : ℤ) → length (sfixed64_encoding v) ≡ 8 }
 {}
 
 /// A text of UTF-8 that was written is read back, whatever follows.
 pub fn strings_are_read_back()
     ensures { (text rest : List ℕ) → is_utf8 text ≡ true → length text < 2 ^ 64 →
-        string_at (delimited_text text ++ rest) ≡ Ok (text, rest) }
+        string_at (delimited_encoding text ++ rest) ≡ Ok (text, rest) }
 {}
 
 /// A string in a type of one's own that was written is read back, whatever follows.
 pub fn own_strings_are_read_back<S: ProtoString>()
     ensures { (value : S) (rest : List ℕ) → length (S.text (S.meaning value)) < 2 ^ 64 →
-        string_as S.of_text (delimited_text (S.text (S.meaning value)) ++ rest) ≡ Ok (S.meaning value, rest) }
+        string_as S.of_text (delimited_encoding (S.text (S.meaning value)) ++ rest) ≡ Ok (S.meaning value, rest) }
 {}
 
 /// Bytes in a type of one's own that were written are read back, whatever follows.
 pub fn own_bytes_are_read_back<P: ProtoBytes>()
     ensures { (value : P.Meaning) (rest : List ℕ) → length (P.bytes value) < 2 ^ 64 →
-        bytes_as P.of_bytes (delimited_text (P.bytes value) ++ rest) ≡ Ok (value, rest) }
+        bytes_as P.of_bytes (delimited_encoding (P.bytes value) ++ rest) ≡ Ok (value, rest) }
 {}
 
 /// A value is read as the content of its payload.
@@ -261,14 +261,14 @@ pub fn answers_are_pinned<X, Y>()
 pub fn rests_are_these()
     ensures no_varint { (bs : List ℕ) → past_no_varint bs ≡ drop 10 bs }
     ensures no_number { (bs : List ℕ) (e : DecodeError) → VarintFault bs e → (past_no_tag bs ≡ drop 10 bs)
-        × (past_no_text bs ≡ drop 10 bs) }
+        × (past_no_delimited bs ≡ drop 10 bs) }
     ensures tag { (bs : List ℕ) (n : ℕ) (rest : List ℕ) → TakesVarint bs n rest → past_no_tag bs ≡ rest }
-    ensures cut { (bs : List ℕ) (n : ℕ) (rest : List ℕ) → TakesVarint bs n rest → length rest < n → past_no_text bs
+    ensures cut { (bs : List ℕ) (n : ℕ) (rest : List ℕ) → TakesVarint bs n rest → length rest < n → past_no_delimited bs
         ≡ rest }
-    ensures whole { (bs : List ℕ) (n : ℕ) (rest : List ℕ) → TakesVarint bs n rest → n ≤ length rest → past_no_text bs
+    ensures whole { (bs : List ℕ) (n : ℕ) (rest : List ℕ) → TakesVarint bs n rest → n ≤ length rest → past_no_delimited bs
         ≡ drop n rest }
     ensures payload { (bs : List ℕ) → (past_no_payload Varint bs ≡ drop 10 bs)
-        × (past_no_payload LengthDelimited bs ≡ past_no_text bs) }
+        × (past_no_payload LengthDelimited bs ≡ past_no_delimited bs) }
     ensures fixed { (bs : List ℕ) → (past_no_payload Fixed32 bs ≡ bs) × (past_no_payload Fixed64 bs ≡ bs) }
 {}
 

@@ -10,7 +10,7 @@ ghost use Rattle.buffa_wire.specs.Field.{SomeField};
 ghost use Rattle.buffa_wire.specs.Join.{Join};
 ghost use Rattle.buffa_wire.specs.Records.{Datum, Held, height, records_of};
 ghost use Rattle.buffa_wire.specs.View.{datum_of, record_of};
-ghost use Rattle.buffa_wire.specs.Text.{records_text};
+ghost use Rattle.buffa_wire.specs.Encoding.{records_encoding};
 ghost use Rattle.buffa_wire.specs.Parse.{FieldFault, Fits, InRange, Parse, RecordsFault, TakesField, slots};
 ghost use Rattle.buffa_wire.specs.RecordReading.{field_at, list_at};
 ghost use Rattle.buffa_wire.specs.BudgetLeft.{BudgetLeft};
@@ -83,11 +83,11 @@ pub fn one_reading()
 /// slot for each. The text of any records whose data are in range is that of no others.
 pub fn texts_are_read_back()
     ensures parses { (d : ℕ) (rs : List (ℕ × Datum)) → Fits (records_of rs) → height rs ≤ d →
-        Parse d (records_text rs) (records_of rs) }
+        Parse d (records_encoding rs) (records_of rs) }
     ensures read { (d s : ℕ) (rs : List (ℕ × Datum)) → Fits (records_of rs) → height rs ≤ d →
-        slots (records_of rs) ≤ s → list_at d s (records_text rs) ≡ Ok rs }
+        slots (records_of rs) ≤ s → list_at d s (records_encoding rs) ≡ Ok rs }
     ensures theirs { (d : ℕ) (rs qs : List (ℕ × Datum)) → InRange (records_of rs) →
-        Parse d (records_text rs) (records_of qs) → qs ≡ rs }
+        Parse d (records_encoding rs) (records_of qs) → qs ≡ rs }
 {}
 
 /// `==` holds of unknown fields exactly where their records are equal.
@@ -146,7 +146,7 @@ pub fn formed_messages_are_these<M: Formed>()
 where
     M::Form: MessageForm<M>,
     ensures merged { (⟦<M as MessageSpec>⟧.merged ≡ M.Form.merged) × (⟦<M as MessageSpec>⟧.cost ≡ M.Form.cost) }
-    ensures text { (v : M.Meaning) → ⟦<M as MessageSpec>⟧.text v ≡ records_text (M.Form.records v) }
+    ensures text { (v : M.Meaning) → ⟦<M as MessageSpec>⟧.text v ≡ records_encoding (M.Form.records v) }
     ensures records { ⟦<M as MessageSpec>⟧.records ≡ M.Form.records }
     ensures slots { ⟦<M as MessageSpec>⟧.slots ≡ M.Form.slots }
     ensures levels { ⟦<M as MessageSpec>⟧.levels ≡ M.Form.levels }

@@ -1,13 +1,13 @@
 //! Which scalar each one is, in the words of the encoding guide: laws, as in [`records`](crate::records).
 
 ghost use Rattle.std.specs.Prelude.{◌≡◌, ◌<◌, ◌^◌, ◌↔◌, ℤ, ℕ, None, Some};
-ghost use Rattle.buffa_bytes.specs.Scalars.{bool_of, bool_text, fixed32_of, fixed32_text, fixed64_of, fixed64_text};
-ghost use Rattle.buffa_bytes.specs.Scalars.{int64_of, int64_text, sfixed32_of, sfixed32_text, sfixed64_of};
-ghost use Rattle.buffa_bytes.specs.Scalars.{sfixed64_text, sint32_of, sint32_text, sint64_of, sint64_text};
-ghost use Rattle.buffa_bytes.specs.Scalars.{uint32_of, uint32_text, uint64_of, uint64_text};
+ghost use Rattle.buffa_bytes.specs.Scalars.{bool_of, bool_encoding, fixed32_of, fixed32_encoding, fixed64_of, fixed64_encoding};
+ghost use Rattle.buffa_bytes.specs.Scalars.{int64_of, int64_encoding, sfixed32_of, sfixed32_encoding, sfixed64_of};
+ghost use Rattle.buffa_bytes.specs.Scalars.{sfixed64_encoding, sint32_of, sint32_encoding, sint64_of, sint64_encoding};
+ghost use Rattle.buffa_bytes.specs.Scalars.{uint32_of, uint32_encoding, uint64_of, uint64_encoding};
 ghost use Rattle.std.specs.Int.{to_le_bytes, w32, w64};
-ghost use Rattle.buffa_bytes.specs.Values.{int32_of, int32_text};
-ghost use Rattle.buffa_bytes.specs.Varint.{varint_text};
+ghost use Rattle.buffa_bytes.specs.Values.{int32_of, int32_encoding};
+ghost use Rattle.buffa_bytes.specs.Varint.{varint_encoding};
 ghost use Rattle.buffa_bytes.specs.declared.wire_type.WireType.TheVariants as wire;
 ghost use Rattle.buffa_wire.specs.Found.{fixed32_in, fixed64_in, varint_in};
 ghost use Rattle.buffa_wire.specs.Records.{fixed32, fixed64, varint};
@@ -20,17 +20,17 @@ use buffa_wire::scalars::{
 
 /// What is written of a value of each scalar. Nothing is open.
 pub fn scalars_are_written()
-    ensures int32 { (v : ℤ) → ⟦<<Int32 as Scalar>::Form as Form>⟧.payload (⟦<Int32 as Scalar>⟧.number_of v) ≡ int32_text v }
-    ensures int64 { (v : ℤ) → ⟦<<Int64 as Scalar>::Form as Form>⟧.payload (⟦<Int64 as Scalar>⟧.number_of v) ≡ int64_text v }
-    ensures uint32 { (v : ℕ) → ⟦<<Uint32 as Scalar>::Form as Form>⟧.payload (⟦<Uint32 as Scalar>⟧.number_of v) ≡ uint32_text v }
-    ensures uint64 { (v : ℕ) → ⟦<<Uint64 as Scalar>::Form as Form>⟧.payload (⟦<Uint64 as Scalar>⟧.number_of v) ≡ uint64_text v }
-    ensures sint32 { (v : ℤ) → ⟦<<Sint32 as Scalar>::Form as Form>⟧.payload (⟦<Sint32 as Scalar>⟧.number_of v) ≡ sint32_text v }
-    ensures sint64 { (v : ℤ) → ⟦<<Sint64 as Scalar>::Form as Form>⟧.payload (⟦<Sint64 as Scalar>⟧.number_of v) ≡ sint64_text v }
-    ensures bool { (v : _) → ⟦<<Bool as Scalar>::Form as Form>⟧.payload (⟦<Bool as Scalar>⟧.number_of v) ≡ bool_text v }
-    ensures fixed32 { (v : ℕ) → ⟦<<Fixed32 as Scalar>::Form as Form>⟧.payload (⟦<Fixed32 as Scalar>⟧.number_of v) ≡ fixed32_text v }
-    ensures fixed64 { (v : ℕ) → ⟦<<Fixed64 as Scalar>::Form as Form>⟧.payload (⟦<Fixed64 as Scalar>⟧.number_of v) ≡ fixed64_text v }
-    ensures sfixed32 { (v : ℤ) → ⟦<<Sfixed32 as Scalar>::Form as Form>⟧.payload (⟦<Sfixed32 as Scalar>⟧.number_of v) ≡ sfixed32_text v }
-    ensures sfixed64 { (v : ℤ) → ⟦<<Sfixed64 as Scalar>::Form as Form>⟧.payload (⟦<Sfixed64 as Scalar>⟧.number_of v) ≡ sfixed64_text v }
+    ensures int32 { (v : ℤ) → ⟦<<Int32 as Scalar>::Form as Form>⟧.payload (⟦<Int32 as Scalar>⟧.number_of v) ≡ int32_encoding v }
+    ensures int64 { (v : ℤ) → ⟦<<Int64 as Scalar>::Form as Form>⟧.payload (⟦<Int64 as Scalar>⟧.number_of v) ≡ int64_encoding v }
+    ensures uint32 { (v : ℕ) → ⟦<<Uint32 as Scalar>::Form as Form>⟧.payload (⟦<Uint32 as Scalar>⟧.number_of v) ≡ uint32_encoding v }
+    ensures uint64 { (v : ℕ) → ⟦<<Uint64 as Scalar>::Form as Form>⟧.payload (⟦<Uint64 as Scalar>⟧.number_of v) ≡ uint64_encoding v }
+    ensures sint32 { (v : ℤ) → ⟦<<Sint32 as Scalar>::Form as Form>⟧.payload (⟦<Sint32 as Scalar>⟧.number_of v) ≡ sint32_encoding v }
+    ensures sint64 { (v : ℤ) → ⟦<<Sint64 as Scalar>::Form as Form>⟧.payload (⟦<Sint64 as Scalar>⟧.number_of v) ≡ sint64_encoding v }
+    ensures bool { (v : _) → ⟦<<Bool as Scalar>::Form as Form>⟧.payload (⟦<Bool as Scalar>⟧.number_of v) ≡ bool_encoding v }
+    ensures fixed32 { (v : ℕ) → ⟦<<Fixed32 as Scalar>::Form as Form>⟧.payload (⟦<Fixed32 as Scalar>⟧.number_of v) ≡ fixed32_encoding v }
+    ensures fixed64 { (v : ℕ) → ⟦<<Fixed64 as Scalar>::Form as Form>⟧.payload (⟦<Fixed64 as Scalar>⟧.number_of v) ≡ fixed64_encoding v }
+    ensures sfixed32 { (v : ℤ) → ⟦<<Sfixed32 as Scalar>::Form as Form>⟧.payload (⟦<Sfixed32 as Scalar>⟧.number_of v) ≡ sfixed32_encoding v }
+    ensures sfixed64 { (v : ℤ) → ⟦<<Sfixed64 as Scalar>::Form as Form>⟧.payload (⟦<Sfixed64 as Scalar>⟧.number_of v) ≡ sfixed64_encoding v }
 {}
 
 /// What the number in a payload of each scalar means. Nothing is open.
@@ -95,7 +95,7 @@ pub fn scalars_have_lengths()
 
 /// How each form spells a number, which numbers it spells, and the record of one. Nothing is open.
 pub fn forms_are_these()
-    ensures varint { (n : ℕ) → (⟦<Varint as Form>⟧.payload n ≡ varint_text n) × (⟦<Varint as Form>⟧.spells n ↔ (n < 2 ^ 64)) }
+    ensures varint { (n : ℕ) → (⟦<Varint as Form>⟧.payload n ≡ varint_encoding n) × (⟦<Varint as Form>⟧.spells n ↔ (n < 2 ^ 64)) }
     ensures varint_record { (n : ℕ) → (⟦<Varint as Form>⟧.datum n ≡ varint n) × (⟦<Varint as Form>⟧.found ≡ varint_in) }
     ensures varint_wire { ⟦<Varint as Form>⟧.WIRE_TYPE ≡ wire.Varint }
     ensures four { (n : ℕ) → (⟦<FourBytes as Form>⟧.payload n ≡ to_le_bytes w32 n) × (⟦<FourBytes as Form>⟧.spells n ↔ (n < 2 ^ 32)) }

@@ -11,7 +11,7 @@ use Rattle.buffa_map.specs.Entry.{IsField, blanks}
 use Rattle.buffa_map.specs.Enums.{ClosedFits}
 use Rattle.buffa_map.specs.Pairs.{put}
 use Rattle.buffa_map.specs.Run.{Run, fold_entries}
-use Rattle.buffa_map.specs.Text.{AllHold}
+use Rattle.buffa_map.specs.Encoding.{AllHold}
 use Rattle.buffa_map.specs.declared.map_entry.MapEntry.{MapEntry}
 use Rattle.buffamap.specs.Choice.{two_numbers}
 use Rattle.buffamap.specs.Codecs.{int32_reading}

@@ -9,15 +9,15 @@ use Rattle.buffa_bytes.specs.declared.error.DecodeError.{DecodeError}
 use Rattle.buffa_wire.specs.BudgetLeft.{BudgetLeft}
 use Rattle.buffa_wire.specs.Message.{MergeFault, defaults}
 use Rattle.buffa_wire.specs.Records.{Datum}
-use Rattle.buffa_wire.specs.Text.{records_text}
+use Rattle.buffa_wire.specs.Encoding.{records_encoding}
 use Rattle.buffa_map.specs.Enums.{closed_writing}
 use Rattle.buffa_map.specs.Pairs.{ListsOnce}
 use Rattle.buffa_map.specs.Run.{EntryRecord, fold_entries, undeclared_records}
-use Rattle.buffa_map.specs.Text.{HasText, field_text}
+use Rattle.buffa_map.specs.Encoding.{HasEncoding, field_encoding}
 use Rattle.buffa.specs.Branch.{bare}
 use Rattle.buffa.specs.NodeMeaning as node
 use Rattle.buffa.specs.NodeText as node_text
-use Rattle.buffa.specs.Set.{set_cost, set_merged, set_text}
+use Rattle.buffa.specs.Set.{set_cost, set_merged, set_encoding}
 use Rattle.buffamap.specs.Again.{IsEncoded, IsReadAgainIn, IsRefused, RepliesToAgain, encoding_reply}
 use Rattle.buffamap.specs.Codecs.{int32_writing}
 use Rattle.buffamap.proofs.Sorting.{same_sorted}
@@ -72,15 +72,15 @@ rewrite_one n (Ok r) a b (inl h) (inl k) =
     let v = h.1.0 in
     let w = k.1.0 in
     let same = one_list (fold_entries int_eq [] r.0) v.0 w.0 v.1 w.1 h.1.1 k.1.1 in
-    h.2 ∙ ap (λ z. done (hex_line z)) (v.4 ∙ ap (λ z. field_text int32_writing closed_writing n z ++ records_text (undeclared_records n r.0)) same ∙ sym w.4) ∙ sym k.2
+    h.2 ∙ ap (λ z. done (hex_line z)) (v.4 ∙ ap (λ z. field_encoding int32_writing closed_writing n z ++ records_encoding (undeclared_records n r.0)) same ∙ sym w.4) ∙ sym k.2
 rewrite_one n (Ok r) a b (inl h) (inr k) =
     let v = h.1.0 in
     let same = one_list (fold_entries int_eq [] r.0) v.0 k.0.0 v.1 k.0.1 h.1.1 k.0.2 in
-    absurd (k.0.3 (subst (HasText int32_writing closed_writing) same v.2))
+    absurd (k.0.3 (subst (HasEncoding int32_writing closed_writing) same v.2))
 rewrite_one n (Ok r) a b (inr h) (inl k) =
     let w = k.1.0 in
     let same = one_list (fold_entries int_eq [] r.0) w.0 h.0.0 w.1 h.0.1 k.1.1 h.0.2 in
-    absurd (h.0.3 (subst (HasText int32_writing closed_writing) same w.2))
+    absurd (h.0.3 (subst (HasEncoding int32_writing closed_writing) same w.2))
 rewrite_one n (Ok r) a b (inr h) (inr k) = h.1 ∙ sym k.1
 rewrite_one n (Err f) a b h k = h ∙ sym k
 
@@ -181,7 +181,7 @@ command_one (Rewrite n) input a b h k = inl ((rewrite_pinned n).one input a b h 
 command_one (Ext n) input a b h k = inl ((ext_pinned n).one input a b h k)
 command_one Item input a b h k = inl (item_pinned.one input a b h k)
 command_one AgainNode input a b h k = or_open (Some AgainNode) a b tt (again_of_one node.merged node.cost node_text.text bare input a b h k)
-command_one AgainSet input a b h k = or_open (Some AgainSet) a b tt (again_of_one set_merged set_cost set_text [] input a b h k)
+command_one AgainSet input a b h k = or_open (Some AgainSet) a b tt (again_of_one set_merged set_cost set_encoding [] input a b h k)
 
 module _ (o : Option Command) (a b : Reply) where
   one_status : AreOne o a b → a.status ≡ b.status

@@ -14,7 +14,7 @@ use Rattle.buffa_map.specs.Enums.{ClosedFits, closed_writing}
 use Rattle.buffa_map.specs.Merge.{keeping}
 use Rattle.buffa_map.specs.Rewrite.{MatchRefusal, RefusesBytes, RefusesOutput, RewritesRun}
 use Rattle.buffa_map.specs.Run.{Paid, Run}
-use Rattle.buffa_map.specs.Text.{HasText, entry_text}
+use Rattle.buffa_map.specs.Encoding.{HasEncoding, entry_encoding}
 use Rattle.buffa_map.specs.declared.rewrite.RewriteError.{RewriteError}
 use Rattle.buffa_map.specs.declared.rewrite.RewriteError.TheVariants.{Decode, Encode}
 use Rattle.buffa_map.proofs.RunLemmas.{run_complete}
@@ -40,7 +40,7 @@ walked : (es : List (ℤ × Choice)) (l : List Pair) → IsStrictlySortedBy int_
 walked es l s e = subst (λ (z : List Pair). IsStrictlySortedBy int_cmp (keys_of z)) (sym e) (subst (λ (z : List ℤ). IsStrictlySortedBy int_cmp z) (sym (keys_seen es)) s)
 
 -- a list with an entry that is too long has no text
-too_long : (done : List Pair) (p : Pair) (rest : List Pair) → 2 ^ 64 ≤ length (entry_text int32_writing closed_writing p) → HasText int32_writing closed_writing (done ++ p ∷ rest) → ⊥
+too_long : (done : List Pair) (p : Pair) (rest : List Pair) → 2 ^ 64 ≤ length (entry_encoding int32_writing closed_writing p) → HasEncoding int32_writing closed_writing (done ++ p ∷ rest) → ⊥
 too_long [] p rest h k = omega (arith, h, k.0)
 too_long (q ∷ done) p rest h k = too_long done p rest h k.1
 
@@ -79,7 +79,7 @@ module _ (d n : ℕ) (left over : BudgetLeft) (bs rest old new : List ℕ) (befo
   why (Decode f) k = λ real. stops int32_reading choice_reading int_eq 8 1 (λ n e. (n, bytes e) ∷ []) (λ _ d c. refl) (λ _ d c. refl) refl refl (refusal f) d n left over bs [] pairs [] k.0 is_d is_left rest f k.1 real
   why (Encode MessageTooLarge) k = λ real.
       let long = k.text in
-      (refl, subst RunHasNoRewrite (sym (is_run k.entries k.run k.paid)) (k.walk, k.once, walked es k.walk sorted k.walks, λ h. too_long long.0 long.1 long.2 long.5 (subst (HasText int32_writing closed_writing) long.3 h)))
+      (refl, subst RunHasNoRewrite (sym (is_run k.entries k.run k.paid)) (k.walk, k.once, walked es k.walk sorted k.walks, λ h. too_long long.0 long.1 long.2 long.5 (subst (HasEncoding int32_writing closed_writing) long.3 h)))
   why (Encode OutOfMemory) k = λ real. absurd (real refl)
   why (Encode (GroupRefused e)) k = λ real. absurd k.text
 

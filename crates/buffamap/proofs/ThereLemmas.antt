@@ -11,12 +11,12 @@ use Rattle.buffa_wire.specs.BudgetLeft.{BudgetLeft, Lacks}
 use Rattle.buffa_wire.specs.ErrorText.{decode_error_text}
 use Rattle.buffa_wire.specs.Message.{defaults}
 use Rattle.buffa_wire.specs.Records.{Datum}
-use Rattle.buffa_wire.specs.Text.{records_text}
+use Rattle.buffa_wire.specs.Encoding.{records_encoding}
 use Rattle.buffa_map.specs.Enums.{ClosedFits, closed_writing}
 use Rattle.buffa_map.specs.Laws.{RunsAreRead}
 use Rattle.buffa_map.specs.Pairs.{ListsOnce}
 use Rattle.buffa_map.specs.Run.{EntryRecord, fold_entries, undeclared_records}
-use Rattle.buffa_map.specs.Text.{AllHold, HasText, entry_text, field_text}
+use Rattle.buffa_map.specs.Encoding.{AllHold, HasEncoding, entry_encoding, field_encoding}
 use Rattle.buffamap.specs.Again.{IsEncoded, IsReadAgainIn, IsRefused, RepliesToAgain, encoding_reply}
 use Rattle.buffamap.specs.Choice.{two_numbers}
 use Rattle.buffamap.specs.Codecs.{int32_reading, int32_writing}
@@ -113,13 +113,13 @@ module _ {X : Type 0} (merged : ℕ → X → List ℕ → Option X) (cost : ℕ
 
 -- ---- a rewrite
 
-has_or_not : (l : List Choices) → HasText int32_writing closed_writing l ⊎ (HasText int32_writing closed_writing l → ⊥)
+has_or_not : (l : List Choices) → HasEncoding int32_writing closed_writing l ⊎ (HasEncoding int32_writing closed_writing l → ⊥)
 has_or_not [] = inl tt
-has_or_not (p ∷ l) = both (cases_lt (length (entry_text int32_writing closed_writing p)) (2 ^ 64)) (has_or_not l)
+has_or_not (p ∷ l) = both (cases_lt (length (entry_encoding int32_writing closed_writing p)) (2 ^ 64)) (has_or_not l)
   where
-    both : (length (entry_text int32_writing closed_writing p) < 2 ^ 64) ⊎ (2 ^ 64 ≤ length (entry_text int32_writing closed_writing p)) →
-        HasText int32_writing closed_writing l ⊎ (HasText int32_writing closed_writing l → ⊥) →
-        HasText int32_writing closed_writing (p ∷ l) ⊎ (HasText int32_writing closed_writing (p ∷ l) → ⊥)
+    both : (length (entry_encoding int32_writing closed_writing p) < 2 ^ 64) ⊎ (2 ^ 64 ≤ length (entry_encoding int32_writing closed_writing p)) →
+        HasEncoding int32_writing closed_writing l ⊎ (HasEncoding int32_writing closed_writing l → ⊥) →
+        HasEncoding int32_writing closed_writing (p ∷ l) ⊎ (HasEncoding int32_writing closed_writing (p ∷ l) → ⊥)
     both (inl a) (inl b) = inl (a, b)
     both (inl a) (inr b) = inr (λ h. b h.1)
     both (inr a) b = inr (λ h. omega (arith, a, h.0))
@@ -139,9 +139,9 @@ module _ (n : ℕ) (read : RunsAreRead int32_reading choice_reading) where
       fits = ordered_holds int_cmp (FitsSigned w32) (ClosedFits two_numbers) m (pairs_fit r.0 [] (run_fits 100 n bytes r.0 ((read.ok 100 n 8 1 default_left bytes r.0 r.1).0 is).0) tt)
 
       out : List ℕ
-      out = field_text int32_writing closed_writing n l ++ records_text (undeclared_records n r.0)
+      out = field_encoding int32_writing closed_writing n l ++ records_encoding (undeclared_records n r.0)
 
-      told : HasText int32_writing closed_writing l ⊎ (HasText int32_writing closed_writing l → ⊥) → (reply : Reply) × IsRewritten n (Ok r) reply
+      told : HasEncoding int32_writing closed_writing l ⊎ (HasEncoding int32_writing closed_writing l → ⊥) → (reply : Reply) × IsRewritten n (Ok r) reply
       told (inl h) = (done (hex_line out), inl (out, ((l, ordered_once int_cmp_total m, h, fits, refl), ordered_sorted int_cmp_total m), refl))
       told (inr h) = (fault (codes "MessageTooLarge"), inr ((l, ordered_once int_cmp_total m, ordered_sorted int_cmp_total m, h), refl))
 

@@ -16,7 +16,7 @@ use Rattle.buffa_map.specs.Enums.{ClosedFits, closed_reading, closed_writing}
 use Rattle.buffa_map.specs.Pairs.{ListsOnce, means}
 use Rattle.buffa_map.specs.Rewrite.{IsRewrite, KeepsMeaning}
 use Rattle.buffa_map.specs.Run.{EntryRecord, Run, fold_entries, run_of}
-use Rattle.buffa_map.specs.Text.{HasText}
+use Rattle.buffa_map.specs.Encoding.{HasEncoding}
 use Rattle.buffa_map.specs.declared.rewrite.RewriteError.{RewriteError}
 use Rattle.buffa_map.specs.declared.rewrite.RewriteError.TheVariants.{Decode, Encode}
 use Rattle.buffamap.specs.Choice.{number_of, two_numbers}
@@ -56,7 +56,7 @@ RewritesTo n es out =
 abbrev pub HasNoRewrite : List Entry → Type 0
 HasNoRewrite es =
     (l : List Pair) × ListsOnce int_eq (fold_entries int_eq [] es) l × IsStrictlySortedBy int_cmp (keys_of l)
-    × (HasText int32_writing closed_writing l → ⊥)
+    × (HasEncoding int32_writing closed_writing l → ⊥)
 
 -- out is a rewrite of a run; or the run has none
 abbrev pub RunRewritesTo : ℕ → Result (List Entry × BudgetLeft) DecodeError → List ℕ → Type 0

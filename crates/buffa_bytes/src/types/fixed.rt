@@ -3,8 +3,8 @@
 ghost use Rattle.std.specs.Prelude.{◌≡◌, length, OnErr};
 ghost use Rattle.buffa_bytes.specs.Gives.{Gives};
 ghost use Rattle.buffa_bytes.specs.Reading.{taken};
-ghost use Rattle.buffa_bytes.specs.Scalars.{fixed32_at, fixed32_text, fixed64_at, fixed64_text, sfixed32_at};
-ghost use Rattle.buffa_bytes.specs.Scalars.{sfixed32_text, sfixed64_at, sfixed64_text};
+ghost use Rattle.buffa_bytes.specs.Scalars.{fixed32_at, fixed32_encoding, fixed64_at, fixed64_encoding, sfixed32_at};
+ghost use Rattle.buffa_bytes.specs.Scalars.{sfixed32_encoding, sfixed64_at, sfixed64_encoding};
 ghost use Rattle.buffa_bytes.specs.Written.{UsesRoom, Writes};
 ghost use Rattle.buffa_bytes.specs.Unread.{IsTailOf};
 
@@ -50,8 +50,8 @@ fn take_into<B: Buf>(buf: &mut B, bytes: &mut [u8]) -> Result<(), DecodeError>
 /// encode_fixed32(*value, text)?; // 04 03 02 01 for 0x0102_0304
 /// ```
 pub fn encode_fixed32<S: EncodeSink>(value: u32, sink: &mut S) -> Result<(), EncodeError>
-    ensures writes { Writes result (S.written sink.old) (fixed32_text value) (S.written sink.new) }
-    ensures room { UsesRoom result (S.room sink.old) (fixed32_text value) (S.room sink.new) }
+    ensures writes { Writes result (S.written sink.old) (fixed32_encoding value) (S.written sink.new) }
+    ensures room { UsesRoom result (S.room sink.old) (fixed32_encoding value) (S.room sink.new) }
 {
     sink.put_slice(&u32::to_le_bytes(value))
 }
@@ -84,8 +84,8 @@ pub fn decode_fixed32<B: Buf>(buf: &mut B) -> Result<u32, DecodeError>
 /// encode_fixed64(*value, text)?; // 08 07 06 05 04 03 02 01 for 0x0102_0304_0506_0708
 /// ```
 pub fn encode_fixed64<S: EncodeSink>(value: u64, sink: &mut S) -> Result<(), EncodeError>
-    ensures writes { Writes result (S.written sink.old) (fixed64_text value) (S.written sink.new) }
-    ensures room { UsesRoom result (S.room sink.old) (fixed64_text value) (S.room sink.new) }
+    ensures writes { Writes result (S.written sink.old) (fixed64_encoding value) (S.written sink.new) }
+    ensures room { UsesRoom result (S.room sink.old) (fixed64_encoding value) (S.room sink.new) }
 {
     sink.put_slice(&u64::to_le_bytes(value))
 }
@@ -118,8 +118,8 @@ pub fn decode_fixed64<B: Buf>(buf: &mut B) -> Result<u64, DecodeError>
 /// encode_sfixed32(*value, text)?; // FE FF FF FF for -2
 /// ```
 pub fn encode_sfixed32<S: EncodeSink>(value: i32, sink: &mut S) -> Result<(), EncodeError>
-    ensures writes { Writes result (S.written sink.old) (sfixed32_text value) (S.written sink.new) }
-    ensures room { UsesRoom result (S.room sink.old) (sfixed32_text value) (S.room sink.new) }
+    ensures writes { Writes result (S.written sink.old) (sfixed32_encoding value) (S.written sink.new) }
+    ensures room { UsesRoom result (S.room sink.old) (sfixed32_encoding value) (S.room sink.new) }
 {
     sink.put_slice(&i32::to_le_bytes(value))
 }
@@ -152,8 +152,8 @@ pub fn decode_sfixed32<B: Buf>(buf: &mut B) -> Result<i32, DecodeError>
 /// encode_sfixed64(*value, text)?; // FE FF FF FF FF FF FF FF for -2
 /// ```
 pub fn encode_sfixed64<S: EncodeSink>(value: i64, sink: &mut S) -> Result<(), EncodeError>
-    ensures writes { Writes result (S.written sink.old) (sfixed64_text value) (S.written sink.new) }
-    ensures room { UsesRoom result (S.room sink.old) (sfixed64_text value) (S.room sink.new) }
+    ensures writes { Writes result (S.written sink.old) (sfixed64_encoding value) (S.written sink.new) }
+    ensures room { UsesRoom result (S.room sink.old) (sfixed64_encoding value) (S.room sink.new) }
 {
     sink.put_slice(&i64::to_le_bytes(value))
 }

@@ -3,9 +3,9 @@
 ghost use Rattle.std.specs.Prelude.{◌≡◌, length, OnErr};
 ghost use Rattle.buffa_bytes.specs.Gives.{Gives};
 ghost use Rattle.buffa_bytes.specs.Left.{past_no_varint};
-ghost use Rattle.buffa_bytes.specs.Scalars.{bool_at, bool_text, int32_at, int32_text, int64_at, int64_text};
-ghost use Rattle.buffa_bytes.specs.Scalars.{sint32_at, sint32_text, sint64_at, sint64_text, uint32_at, uint32_text};
-ghost use Rattle.buffa_bytes.specs.Scalars.{uint64_at, uint64_text};
+ghost use Rattle.buffa_bytes.specs.Scalars.{bool_at, bool_encoding, int32_at, int32_encoding, int64_at, int64_encoding};
+ghost use Rattle.buffa_bytes.specs.Scalars.{sint32_at, sint32_encoding, sint64_at, sint64_encoding, uint32_at, uint32_encoding};
+ghost use Rattle.buffa_bytes.specs.Scalars.{uint64_at, uint64_encoding};
 ghost use Rattle.buffa_bytes.specs.Written.{UsesRoom, Writes};
 ghost use Rattle.buffa_bytes.specs.Unread.{IsTailOf};
 
@@ -23,7 +23,7 @@ use crate::varint::{decode_varint, encode_varint, varint_len};
 /// let len = int32_encoded_len(*value); // 10 for -2
 /// ```
 pub fn int32_encoded_len(value: i32) -> usize
-    ensures { result ≡ length (int32_text value) }
+    ensures { result ≡ length (int32_encoding value) }
 {
     varint_len(i64::from(value).cast_unsigned())
 }
@@ -38,8 +38,8 @@ pub fn int32_encoded_len(value: i32) -> usize
 /// encode_int32(*value, text)?; // FE FF FF FF FF FF FF FF FF 01 for -2
 /// ```
 pub fn encode_int32<S: EncodeSink>(value: i32, sink: &mut S) -> Result<(), EncodeError>
-    ensures writes { Writes result (S.written sink.old) (int32_text value) (S.written sink.new) }
-    ensures room { UsesRoom result (S.room sink.old) (int32_text value) (S.room sink.new) }
+    ensures writes { Writes result (S.written sink.old) (int32_encoding value) (S.written sink.new) }
+    ensures room { UsesRoom result (S.room sink.old) (int32_encoding value) (S.room sink.new) }
 {
     encode_varint(i64::from(value).cast_unsigned(), sink)
 }
@@ -68,7 +68,7 @@ pub fn decode_int32<B: Buf>(buf: &mut B) -> Result<i32, DecodeError>
 /// let len = int64_encoded_len(*value); // 10 for -1
 /// ```
 pub fn int64_encoded_len(value: i64) -> usize
-    ensures { result ≡ length (int64_text value) }
+    ensures { result ≡ length (int64_encoding value) }
 {
     varint_len(value.cast_unsigned())
 }
@@ -83,8 +83,8 @@ pub fn int64_encoded_len(value: i64) -> usize
 /// encode_int64(*value, text)?; // FF FF FF FF FF FF FF FF FF 01 for -1
 /// ```
 pub fn encode_int64<S: EncodeSink>(value: i64, sink: &mut S) -> Result<(), EncodeError>
-    ensures writes { Writes result (S.written sink.old) (int64_text value) (S.written sink.new) }
-    ensures room { UsesRoom result (S.room sink.old) (int64_text value) (S.room sink.new) }
+    ensures writes { Writes result (S.written sink.old) (int64_encoding value) (S.written sink.new) }
+    ensures room { UsesRoom result (S.room sink.old) (int64_encoding value) (S.room sink.new) }
 {
     encode_varint(value.cast_unsigned(), sink)
 }
@@ -113,7 +113,7 @@ pub fn decode_int64<B: Buf>(buf: &mut B) -> Result<i64, DecodeError>
 /// let len = uint32_encoded_len(*value); // 2 for 150
 /// ```
 pub fn uint32_encoded_len(value: u32) -> usize
-    ensures { result ≡ length (uint32_text value) }
+    ensures { result ≡ length (uint32_encoding value) }
 {
     varint_len(u64::from(value))
 }
@@ -127,8 +127,8 @@ pub fn uint32_encoded_len(value: u32) -> usize
 /// encode_uint32(*value, text)?; // 96 01 for 150
 /// ```
 pub fn encode_uint32<S: EncodeSink>(value: u32, sink: &mut S) -> Result<(), EncodeError>
-    ensures writes { Writes result (S.written sink.old) (uint32_text value) (S.written sink.new) }
-    ensures room { UsesRoom result (S.room sink.old) (uint32_text value) (S.room sink.new) }
+    ensures writes { Writes result (S.written sink.old) (uint32_encoding value) (S.written sink.new) }
+    ensures room { UsesRoom result (S.room sink.old) (uint32_encoding value) (S.room sink.new) }
 {
     encode_varint(u64::from(value), sink)
 }
@@ -157,7 +157,7 @@ pub fn decode_uint32<B: Buf>(buf: &mut B) -> Result<u32, DecodeError>
 /// let len = uint64_encoded_len(*value); // 2 for 150
 /// ```
 pub fn uint64_encoded_len(value: u64) -> usize
-    ensures { result ≡ length (uint64_text value) }
+    ensures { result ≡ length (uint64_encoding value) }
 {
     varint_len(value)
 }
@@ -171,8 +171,8 @@ pub fn uint64_encoded_len(value: u64) -> usize
 /// encode_uint64(*value, text)?; // 96 01 for 150
 /// ```
 pub fn encode_uint64<S: EncodeSink>(value: u64, sink: &mut S) -> Result<(), EncodeError>
-    ensures writes { Writes result (S.written sink.old) (uint64_text value) (S.written sink.new) }
-    ensures room { UsesRoom result (S.room sink.old) (uint64_text value) (S.room sink.new) }
+    ensures writes { Writes result (S.written sink.old) (uint64_encoding value) (S.written sink.new) }
+    ensures room { UsesRoom result (S.room sink.old) (uint64_encoding value) (S.room sink.new) }
 {
     encode_varint(value, sink)
 }
@@ -200,7 +200,7 @@ pub fn decode_uint64<B: Buf>(buf: &mut B) -> Result<u64, DecodeError>
 /// let len = sint32_encoded_len(*value); // 1 for -2
 /// ```
 pub fn sint32_encoded_len(value: i32) -> usize
-    ensures { result ≡ length (sint32_text value) }
+    ensures { result ≡ length (sint32_encoding value) }
 {
     varint_len(u64::from(zigzag_encode_i32(value)))
 }
@@ -214,8 +214,8 @@ pub fn sint32_encoded_len(value: i32) -> usize
 /// encode_sint32(*value, text)?; // 03 for -2
 /// ```
 pub fn encode_sint32<S: EncodeSink>(value: i32, sink: &mut S) -> Result<(), EncodeError>
-    ensures writes { Writes result (S.written sink.old) (sint32_text value) (S.written sink.new) }
-    ensures room { UsesRoom result (S.room sink.old) (sint32_text value) (S.room sink.new) }
+    ensures writes { Writes result (S.written sink.old) (sint32_encoding value) (S.written sink.new) }
+    ensures room { UsesRoom result (S.room sink.old) (sint32_encoding value) (S.room sink.new) }
 {
     encode_varint(u64::from(zigzag_encode_i32(value)), sink)
 }
@@ -244,7 +244,7 @@ pub fn decode_sint32<B: Buf>(buf: &mut B) -> Result<i32, DecodeError>
 /// let len = sint64_encoded_len(*value); // 1 for -2
 /// ```
 pub fn sint64_encoded_len(value: i64) -> usize
-    ensures { result ≡ length (sint64_text value) }
+    ensures { result ≡ length (sint64_encoding value) }
 {
     varint_len(zigzag_encode_i64(value))
 }
@@ -258,8 +258,8 @@ pub fn sint64_encoded_len(value: i64) -> usize
 /// encode_sint64(*value, text)?; // 03 for -2
 /// ```
 pub fn encode_sint64<S: EncodeSink>(value: i64, sink: &mut S) -> Result<(), EncodeError>
-    ensures writes { Writes result (S.written sink.old) (sint64_text value) (S.written sink.new) }
-    ensures room { UsesRoom result (S.room sink.old) (sint64_text value) (S.room sink.new) }
+    ensures writes { Writes result (S.written sink.old) (sint64_encoding value) (S.written sink.new) }
+    ensures room { UsesRoom result (S.room sink.old) (sint64_encoding value) (S.room sink.new) }
 {
     encode_varint(zigzag_encode_i64(value), sink)
 }
@@ -294,8 +294,8 @@ pub const BOOL_ENCODED_LEN: usize = 1;
 /// encode_bool(*value, text)?; // 01 for true
 /// ```
 pub fn encode_bool<S: EncodeSink>(value: bool, sink: &mut S) -> Result<(), EncodeError>
-    ensures writes { Writes result (S.written sink.old) (bool_text value) (S.written sink.new) }
-    ensures room { UsesRoom result (S.room sink.old) (bool_text value) (S.room sink.new) }
+    ensures writes { Writes result (S.written sink.old) (bool_encoding value) (S.written sink.new) }
+    ensures room { UsesRoom result (S.room sink.old) (bool_encoding value) (S.room sink.new) }
 {
     encode_uint64(u64::from(value), sink)
 }

@@ -2,10 +2,10 @@
 
 ghost use Rattle.std.specs.Prelude.{◌≡◌, ℕ, List, [], Ok, length, string_bytes, IsOk};
 ghost use Rattle.buffa_bytes.specs.Gives.{FullOnlyIf, GivesUnlessFull};
-ghost use Rattle.buffa_bytes.specs.Left.{LeavesUnlessFull, past_no_text};
+ghost use Rattle.buffa_bytes.specs.Left.{LeavesUnlessFull, past_no_delimited};
 ghost use Rattle.buffa_bytes.specs.Reading.{delimited_at};
 ghost use Rattle.buffa_bytes.specs.Texts.{bytes_as, string_as};
-ghost use Rattle.buffa_bytes.specs.Values.{delimited_text, string_at};
+ghost use Rattle.buffa_bytes.specs.Values.{delimited_encoding, string_at};
 ghost use Rattle.buffa_bytes.specs.Written.{UsesRoom, Writes};
 ghost use Rattle.buffa_bytes.specs.Unread.{IsTailOf};
 
@@ -23,7 +23,7 @@ use std::alloc::Global;
 /// let len = string_encoded_len(value.as_str()); // 8 for "testing"
 /// ```
 pub fn string_encoded_len(value: &str) -> usize
-    ensures { result ≡ length (delimited_text value.now) }
+    ensures { result ≡ length (delimited_encoding value.now) }
 {
     bytes_encoded_len(value.as_bytes())
 }
@@ -38,8 +38,8 @@ pub fn string_encoded_len(value: &str) -> usize
 /// ```
 #[inline(always)]
 pub fn encode_string<S: EncodeSink>(value: &str, sink: &mut S) -> Result<(), EncodeError>
-    ensures writes { Writes result (S.written sink.old) (delimited_text value.now) (S.written sink.new) }
-    ensures room { UsesRoom result (S.room sink.old) (delimited_text value.now) (S.room sink.new) }
+    ensures writes { Writes result (S.written sink.old) (delimited_encoding value.now) (S.written sink.new) }
+    ensures room { UsesRoom result (S.room sink.old) (delimited_encoding value.now) (S.room sink.new) }
 {
     encode_bytes(value.as_bytes(), sink)
 }
@@ -61,7 +61,7 @@ pub fn decode_string<B: Buf>(alloc: Global, buf: &mut B) -> Result<String, Decod
     ensures free { (rest : List ℕ) → delimited_at (B.unread buf.old) ≡ Ok ([], rest) → IsOk result }
     ensures full { FullOnlyIf result (IsOk (delimited_at (B.unread buf.old))) }
     ensures kept { B.beyond buf.new ≡ B.beyond buf.old }
-    ensures left { LeavesUnlessFull result (past_no_text (B.unread buf.old)) (B.unread buf.new) }
+    ensures left { LeavesUnlessFull result (past_no_delimited (B.unread buf.old)) (B.unread buf.new) }
     ensures tail { IsTailOf (B.unread buf.new) (B.unread buf.old) }
 {
     let len = decode_varint(buf)?;
@@ -83,7 +83,7 @@ pub fn decode_string<B: Buf>(alloc: Global, buf: &mut B) -> Result<String, Decod
 /// let len = bytes_encoded_len(value.as_slice()); // 3 for DE AD
 /// ```
 pub fn bytes_encoded_len(value: &[u8]) -> usize
-    ensures { result ≡ length (delimited_text value.now) }
+    ensures { result ≡ length (delimited_encoding value.now) }
 {
     prefix_len(value.len() as u64) + value.len()
 }
@@ -99,8 +99,8 @@ pub fn bytes_encoded_len(value: &[u8]) -> usize
 #[inline(always)]
 #[tactic(auto, using(crate::proofs::SinkLemmas::writes_then, crate::proofs::SinkLemmas::front_first, crate::proofs::SinkLemmas::room_then))]
 pub fn encode_bytes<S: EncodeSink>(value: &[u8], sink: &mut S) -> Result<(), EncodeError>
-    ensures writes { Writes result (S.written sink.old) (delimited_text value.now) (S.written sink.new) }
-    ensures room { UsesRoom result (S.room sink.old) (delimited_text value.now) (S.room sink.new) }
+    ensures writes { Writes result (S.written sink.old) (delimited_encoding value.now) (S.written sink.new) }
+    ensures room { UsesRoom result (S.room sink.old) (delimited_encoding value.now) (S.room sink.new) }
 {
     encode_varint(value.len() as u64, sink)?;
     sink.put_slice(value)
@@ -122,7 +122,7 @@ pub fn decode_bytes<B: Buf>(alloc: Global, buf: &mut B) -> Result<Vec<u8>, Decod
     ensures free { (rest : List ℕ) → delimited_at (B.unread buf.old) ≡ Ok ([], rest) → IsOk result }
     ensures full { FullOnlyIf result (IsOk (delimited_at (B.unread buf.old))) }
     ensures kept { B.beyond buf.new ≡ B.beyond buf.old }
-    ensures left { LeavesUnlessFull result (past_no_text (B.unread buf.old)) (B.unread buf.new) }
+    ensures left { LeavesUnlessFull result (past_no_delimited (B.unread buf.old)) (B.unread buf.new) }
     ensures tail { IsTailOf (B.unread buf.new) (B.unread buf.old) }
 {
     let len = decode_varint(buf)?;
@@ -142,7 +142,7 @@ pub fn decode_bytes_to_bytes<B: Buf>(alloc: Global, buf: &mut B) -> Result<Bytes
     ensures free { (rest : List ℕ) → delimited_at (B.unread buf.old) ≡ Ok ([], rest) → IsOk result }
     ensures full { FullOnlyIf result (IsOk (delimited_at (B.unread buf.old))) }
     ensures kept { B.beyond buf.new ≡ B.beyond buf.old }
-    ensures left { LeavesUnlessFull result (past_no_text (B.unread buf.old)) (B.unread buf.new) }
+    ensures left { LeavesUnlessFull result (past_no_delimited (B.unread buf.old)) (B.unread buf.new) }
     ensures tail { IsTailOf (B.unread buf.new) (B.unread buf.old) }
 {
     let bytes = decode_bytes(alloc, buf)?;
@@ -172,7 +172,7 @@ pub fn decode_string_to<S: ProtoString, B: Buf>(
     ensures free { (rest : List ℕ) → delimited_at (B.unread buf.old) ≡ Ok ([], rest) → IsOk result }
     ensures full { FullOnlyIf result (IsOk (delimited_at (B.unread buf.old))) }
     ensures kept { B.beyond buf.new ≡ B.beyond buf.old }
-    ensures left { LeavesUnlessFull result (past_no_text (B.unread buf.old)) (B.unread buf.new) }
+    ensures left { LeavesUnlessFull result (past_no_delimited (B.unread buf.old)) (B.unread buf.new) }
     ensures tail { IsTailOf (B.unread buf.new) (B.unread buf.old) }
 {
     let len = decode_varint(buf)?;
@@ -202,7 +202,7 @@ pub fn decode_bytes_to<P: ProtoBytes, B: Buf>(alloc: Global, buf: &mut B) -> Res
     ensures free { (rest : List ℕ) → delimited_at (B.unread buf.old) ≡ Ok ([], rest) → IsOk result }
     ensures full { FullOnlyIf result (IsOk (delimited_at (B.unread buf.old))) }
     ensures kept { B.beyond buf.new ≡ B.beyond buf.old }
-    ensures left { LeavesUnlessFull result (past_no_text (B.unread buf.old)) (B.unread buf.new) }
+    ensures left { LeavesUnlessFull result (past_no_delimited (B.unread buf.old)) (B.unread buf.new) }
     ensures tail { IsTailOf (B.unread buf.new) (B.unread buf.old) }
 {
     let len = decode_varint(buf)?;

@@ -3,7 +3,7 @@
 ghost use Rattle.std.specs.Prelude.{◌≡◌, ◌≢◌, ◌+◌, ◌<◌, IfOk};
 ghost use Rattle.buffa_bytes.specs.Left.{LeavesUnlessFull, past_no_payload};
 ghost use Rattle.buffa_wire.specs.Gives.{FullOnlyIf, GivesUnlessFull};
-ghost use Rattle.buffa_wire.specs.BudgetLeft.{SlotTaken, SlotsSpent, budget_left};
+ghost use Rattle.buffa_wire.specs.BudgetLeft.{UnknownTaken, UnknownsSpent, budget_left};
 ghost use Rattle.buffa_wire.specs.Records.{records_of};
 ghost use Rattle.buffa_wire.specs.RecordReading.{GroupTakesMemory, ListTakesMemory, PayloadTakesMemory, TakesMemory};
 ghost use Rattle.buffa_wire.specs.RecordReading.{field_in, group_in, list_at, plain_at};
@@ -88,17 +88,17 @@ pub fn decode_unknown_field<B: Buf>(
         (B.unread buf.old)) }
     ensures number { IfOk result (λ f. f.number ≡ tag.number) }
     ensures memory { (budget_left ctx.exit).memory ≡ ctx.entry.budget.now.memory }
-    ensures spent { SlotsSpent (1 + bytes_read (B.unread buf.old) (B.unread buf.new))
+    ensures spent { UnknownsSpent (1 + bytes_read (B.unread buf.old) (B.unread buf.new))
         ctx.entry.budget.now.unknown (budget_left ctx.exit).unknown }
     ensures end { tag.wire_type ≡ WireType.EndGroup → budget_left ctx.exit ≡ ctx.entry.budget.now }
     ensures end_stays { tag.wire_type ≡ WireType.EndGroup → B.unread buf.new ≡ B.unread buf.old }
     ensures level { tag.wire_type ≡ WireType.StartGroup → ctx.entry.depth ≡ 0 → B.unread buf.new ≡ B.unread buf.old }
-    ensures no_slot_stays { ctx.entry.budget.now.unknown ≡ 0 → B.unread buf.new ≡ B.unread buf.old }
+    ensures no_unknown_stays { ctx.entry.budget.now.unknown ≡ 0 → B.unread buf.new ≡ B.unread buf.old }
     ensures left { tag.wire_type ≢ WireType.StartGroup → 0 < ctx.entry.budget.now.unknown →
         LeavesUnlessFull result (past_no_payload tag.wire_type (B.unread buf.old)) (B.unread buf.new) }
-    ensures slot { tag.wire_type ≢ WireType.StartGroup → tag.wire_type ≢ WireType.EndGroup → SlotTaken
+    ensures slot { tag.wire_type ≢ WireType.StartGroup → tag.wire_type ≢ WireType.EndGroup → UnknownTaken
         ctx.entry.budget.now.unknown (budget_left ctx.exit).unknown }
-    ensures deep_slot { tag.wire_type ≡ WireType.StartGroup → ctx.entry.depth ≡ 0 → SlotTaken
+    ensures deep_unknown { tag.wire_type ≡ WireType.StartGroup → ctx.entry.depth ≡ 0 → UnknownTaken
         ctx.entry.budget.now.unknown (budget_left ctx.exit).unknown }
     ensures kept { B.beyond buf.new ≡ B.beyond buf.old }
     ensures tail { IsTailOf (B.unread buf.new) (B.unread buf.old) }
@@ -108,7 +108,7 @@ pub fn decode_unknown_field<B: Buf>(
     if let WireType::EndGroup = wire_type {
         return Err(DecodeError::InvalidEndGroup(number));
     }
-    budget.take_slot()?;
+    budget.take_unknown()?;
     if let WireType::StartGroup = wire_type {
         let lent = DecodeContext {
             depth,
@@ -140,7 +140,7 @@ fn decode_group<B: Buf>(
     ensures level { ctx.entry.depth ≡ 0 → B.unread buf.new ≡ B.unread buf.old }
     ensures deep { ctx.entry.depth ≡ 0 → budget_left ctx.exit ≡ ctx.entry.budget.now }
     ensures memory { (budget_left ctx.exit).memory ≡ ctx.entry.budget.now.memory }
-    ensures spent { SlotsSpent (bytes_read (B.unread buf.old) (B.unread buf.new))
+    ensures spent { UnknownsSpent (bytes_read (B.unread buf.old) (B.unread buf.new))
         ctx.entry.budget.now.unknown (budget_left ctx.exit).unknown }
     ensures kept { B.beyond buf.new ≡ B.beyond buf.old }
     ensures tail { IsTailOf (B.unread buf.new) (B.unread buf.old) }

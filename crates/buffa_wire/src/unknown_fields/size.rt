@@ -1,10 +1,10 @@
 //! The lengths of texts of unknown fields.
 
 ghost use Rattle.std.specs.Prelude.{◌≡◌, ◌≤◌, length, min};
-ghost use Rattle.buffa_wire.specs.Text.{records_text, field_text, payload_text};
+ghost use Rattle.buffa_wire.specs.Encoding.{records_encoding, field_encoding, payload_encoding};
 ghost use Rattle.buffa_wire.specs.View.{datum_of};
-ghost use Rattle.buffa_wire.specs.Values.{tag_text};
-ghost use Rattle.buffa_wire.specs.Varint.{varint_text};
+ghost use Rattle.buffa_wire.specs.Values.{tag_encoding};
+ghost use Rattle.buffa_wire.specs.Varint.{varint_encoding};
 
 use crate::unknown_fields::tag::tag_value;
 use crate::unknown_fields::{UnknownFieldData, UnknownFields};
@@ -20,7 +20,7 @@ impl UnknownFields {
     #[cycle(size)]
     #[inline(never)]
     pub fn encoded_len(&self) -> u64
-        ensures { result ≡ min (length (records_text self.now.records)) 18446744073709551615 }
+        ensures { result ≡ min (length (records_encoding self.now.records)) 18446744073709551615 }
     {
         let mut total: u64 = 0;
         for field in &self.fields {
@@ -38,7 +38,7 @@ impl UnknownFields {
 #[inline(always)]
 #[tactic(auto, using(crate::proofs::TextLemmas::ten_at_most))]
 fn number_len(n: u64) -> u64
-    ensures len { result ≡ length (varint_text n) }
+    ensures len { result ≡ length (varint_encoding n) }
     ensures short { result ≤ 10 }
 {
     varint_len(n) as u64
@@ -48,7 +48,7 @@ fn number_len(n: u64) -> u64
 #[inline(always)]
 #[tactic(auto, using(crate::proofs::TextLemmas::ten_at_most))]
 fn tag_len(number: u32, wire_type: WireType) -> u64
-    ensures len { result ≡ length (tag_text number wire_type) }
+    ensures len { result ≡ length (tag_encoding number wire_type) }
     ensures short { result ≤ 10 }
 {
     prefix_len(tag_value(number, wire_type)) as u64
@@ -58,7 +58,7 @@ fn tag_len(number: u32, wire_type: WireType) -> u64
 #[cycle(size)]
 #[inline(always)]
 fn field_len(number: u32, payload: &UnknownFieldData) -> u64
-    ensures { result ≡ min (length (field_text number (datum_of payload.now))) 18446744073709551615 }
+    ensures { result ≡ min (length (field_encoding number (datum_of payload.now))) 18446744073709551615 }
 {
     let tag = tag_len(number, payload.wire_type());
     match payload {
@@ -73,7 +73,7 @@ fn field_len(number: u32, payload: &UnknownFieldData) -> u64
 #[cycle(size)]
 #[inline(always)]
 fn payload_len(number: u32, payload: &UnknownFieldData) -> u64
-    ensures { result ≡ min (length (payload_text number (datum_of payload.now))) 18446744073709551615 }
+    ensures { result ≡ min (length (payload_encoding number (datum_of payload.now))) 18446744073709551615 }
 {
     match payload {
         UnknownFieldData::Varint(v) => return number_len(*v),

@@ -1,7 +1,7 @@
 //! The tags of unknown fields.
 
 ghost use Rattle.std.specs.Prelude.{◌≡◌, ◌+◌, ◌*◌};
-ghost use Rattle.buffa_wire.specs.Text.{wire_of};
+ghost use Rattle.buffa_wire.specs.Encoding.{wire_of};
 ghost use Rattle.buffa_wire.specs.View.{datum_of};
 ghost use Rattle.buffa_wire.specs.WireType.{wire_number};
 

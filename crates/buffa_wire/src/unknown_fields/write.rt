@@ -1,6 +1,6 @@
 //! The texts of unknown fields.
 
-ghost use Rattle.buffa_wire.specs.Text.{records_text, field_text, payload_text};
+ghost use Rattle.buffa_wire.specs.Encoding.{records_encoding, field_encoding, payload_encoding};
 ghost use Rattle.buffa_wire.specs.View.{datum_of};
 ghost use Rattle.buffa_wire.specs.Written.{UsesRoom, Writes};
 
@@ -26,8 +26,8 @@ impl UnknownFields {
     #[cycle(write)]
     #[inline(never)]
     pub fn write_to<S: EncodeSink>(&self, sink: &mut S) -> Result<(), EncodeError>
-        ensures writes { Writes result (S.written sink.old) (records_text self.now.records) (S.written sink.new) }
-        ensures room { UsesRoom result (S.room sink.old) (records_text self.now.records) (S.room sink.new) }
+        ensures writes { Writes result (S.written sink.old) (records_encoding self.now.records) (S.written sink.new) }
+        ensures room { UsesRoom result (S.room sink.old) (records_encoding self.now.records) (S.room sink.new) }
     {
         for field in &self.fields {
             write_field(field.number, &field.payload, sink)?;
@@ -45,9 +45,9 @@ fn write_field<S: EncodeSink>(
     payload: &UnknownFieldData,
     sink: &mut S,
 ) -> Result<(), EncodeError>
-    ensures writes { Writes result (S.written sink.old) (field_text number (datum_of payload.now))
+    ensures writes { Writes result (S.written sink.old) (field_encoding number (datum_of payload.now))
         (S.written sink.new) }
-    ensures room { UsesRoom result (S.room sink.old) (field_text number (datum_of payload.now)) (S.room sink.new) }
+    ensures room { UsesRoom result (S.room sink.old) (field_encoding number (datum_of payload.now)) (S.room sink.new) }
 {
     if let UnknownFieldData::Varint(v) = payload {
         return write_two(tag_value(number, WireType::Varint), *v, sink);
@@ -65,9 +65,9 @@ fn write_payload<S: EncodeSink>(
     payload: &UnknownFieldData,
     sink: &mut S,
 ) -> Result<(), EncodeError>
-    ensures writes { Writes result (S.written sink.old) (payload_text number (datum_of payload.now))
+    ensures writes { Writes result (S.written sink.old) (payload_encoding number (datum_of payload.now))
         (S.written sink.new) }
-    ensures room { UsesRoom result (S.room sink.old) (payload_text number (datum_of payload.now)) (S.room sink.new) }
+    ensures room { UsesRoom result (S.room sink.old) (payload_encoding number (datum_of payload.now)) (S.room sink.new) }
 {
     match payload {
         UnknownFieldData::Varint(v) => return encode_varint(*v, sink),

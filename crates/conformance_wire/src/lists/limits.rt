@@ -31,7 +31,7 @@ fn levels() -> Limit {
 fn slots() -> Limit {
     let mut budget = Budget::new(DEFAULT_UNKNOWN_FIELD_LIMIT);
     for slot in 0..10_000_000u64 {
-        if let Err(fault) = budget.take_slot() {
+        if let Err(fault) = budget.take_unknown() {
             return (slot, Err(fault));
         }
     }

@@ -1,6 +1,6 @@
 use Rattle.std.proofs.Common.{◌≡◌, map, option_map}
 use Rattle.std.specs.Int.{cast_unsigned, w64}
-use Rattle.buffa_bytes.specs.Scalars.{int32_of, int32_text}
+use Rattle.buffa_bytes.specs.Scalars.{int32_of, int32_encoding}
 use Rattle.buffa_bytes.specs.declared.wire_type.WireType.TheVariants.{Varint}
 use Rattle.buffa_wire.specs.Enums.{open_number}
 use Rattle.buffa_wire.specs.Found.{varint_in}
@@ -30,4 +30,4 @@ pub returns-clause-list_records : goal.returns-clause-list_records
 returns-clause-list_records g c = λ vs. map_twice (λ v. v.1) (λ v. varint (cast_unsigned w64 v)) vs
 
 pub returns-clause-packed_records : goal.returns-clause-packed_records
-returns-clause-packed_records g c = λ vs. packed_through (λ v. v.1) int32_text vs
+returns-clause-packed_records g c = λ vs. packed_through (λ v. v.1) int32_encoding vs

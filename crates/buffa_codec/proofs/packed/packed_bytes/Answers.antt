@@ -8,7 +8,7 @@ use Rattle.buffa_codec.proofs.packed.packed_bytes.Goals as goal
 pub loop-v-preserved : goal.loop-v-preserved
 loop-v-preserved g c =
     let m = g.C.Value.Blank.meaning in
-    let text = g.C.PackableCodec.packed_text in
+    let text = g.C.PackableCodec.packed_encoding in
     let xs = c.args.values.now in
     let front = map m (take c.loop-v.v-index xs) in
     let more = means_more m xs c.loop-v.v-index c.v-item.result c.loop-v-test.true c.v-item.is in
@@ -35,7 +35,7 @@ returns-in_err-encode_packed-clause-fits g c =
 pub returns-clause-bytes : goal.returns-clause-bytes
 returns-clause-bytes g c =
     c.loop-v.invariant.written
-    ∙ ap (λ l. joined g.C.PackableCodec.packed_text (map g.C.Value.Blank.meaning l)) (take_all c.loop-v.v-index c.args.values.now c.loop-v-test.false)
+    ∙ ap (λ l. joined g.C.PackableCodec.packed_encoding (map g.C.Value.Blank.meaning l)) (take_all c.loop-v.v-index c.args.values.now c.loop-v-test.false)
 
 pub returns-clause-fits : goal.returns-clause-fits
 returns-clause-fits g c =

@@ -1,5 +1,5 @@
 use Rattle.buffa_codec.specs.Reading.{full, last_read}
-use Rattle.buffa_ext.specs.Messages.{message_of, texts_in}
+use Rattle.buffa_ext.specs.Messages.{message_of, encodings_in}
 use Rattle.buffa_ext.proofs.PinLemmas.{one_default}
 use Rattle.buffa_ext.proofs.laws.defaults_are_pinned.Goals as goal
 
@@ -9,4 +9,4 @@ returns-clause-values g c = λ s ds v w only h k.
 
 pub returns-clause-messages : goal.returns-clause-messages
 returns-clause-messages g c = λ s ds v w only h k.
-    one_default (message_of (g.M.MessageSpec.merged 100) (g.M.MessageSpec.cost 100) g.M.Blank.blank_is full (texts_in g.K.MessageRecord.held ds)) g.M.Blank.meaning g.M.Blank.blank_is (g.E.Declared.may_declare s) only v w h k
+    one_default (message_of (g.M.MessageSpec.merged 100) (g.M.MessageSpec.cost 100) g.M.Blank.blank_is full (encodings_in g.K.MessageRecord.held ds)) g.M.Blank.meaning g.M.Blank.blank_is (g.E.Declared.may_declare s) only v w h k

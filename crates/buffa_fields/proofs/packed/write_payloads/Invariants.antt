@@ -1,6 +1,6 @@
 use Rattle.std.proofs.Common.{◌≡◌, ◌++◌, map, take}
-use Rattle.buffa_fields.specs.Lists.{packed_text}
+use Rattle.buffa_fields.specs.Lists.{packed_encoding}
 use Rattle.buffa_fields.proofs.packed.write_payloads.Given as goal
 
 abbrev pub invariant-loop-value : goal.invariant-loop-value
-invariant-loop-value g l = g.S.EncodeSink.written l.sink ≡ g.S.EncodeSink.written l.fn.sink ++ packed_text g.C.MapCodec.writing.text (map g.C.Value.Blank.meaning (take l.value-index l.values))
+invariant-loop-value g l = g.S.EncodeSink.written l.sink ≡ g.S.EncodeSink.written l.fn.sink ++ packed_encoding g.C.MapCodec.writing.text (map g.C.Value.Blank.meaning (take l.value-index l.values))

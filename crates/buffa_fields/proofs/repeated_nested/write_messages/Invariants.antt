@@ -1,7 +1,7 @@
 use Rattle.std.proofs.Common.{map, take}
 use Rattle.buffa_wire.proofs.PassLemmas.{done}
 use Rattle.buffa_wire.specs.Passes.{IsWritten}
-use Rattle.buffa_wire.specs.Text.{records_text}
+use Rattle.buffa_wire.specs.Encoding.{records_encoding}
 use Rattle.buffa_fields.specs.RepeatedNested.{messages_records, messages_slots}
 use Rattle.buffa_fields.proofs.repeated_nested.write_messages.Given as goal
 
@@ -9,4 +9,4 @@ use Rattle.buffa_fields.proofs.repeated_nested.write_messages.Given as goal
 abbrev pub invariant-loop-message : goal.invariant-loop-message
 invariant-loop-message g l =
     let vs = map g.N.Blank.meaning (take l.message-index l.messages) in
-    IsWritten (records_text (messages_records g.N.MessageSpec.text l.number vs)) (messages_slots g.N.MessageSpec.text g.N.MessageSpec.slots vs) l.fn.cache (g.S.EncodeSink.written l.fn.sink) done l.cache (g.S.EncodeSink.written l.sink)
+    IsWritten (records_encoding (messages_records g.N.MessageSpec.text l.number vs)) (messages_slots g.N.MessageSpec.text g.N.MessageSpec.slots vs) l.fn.cache (g.S.EncodeSink.written l.fn.sink) done l.cache (g.S.EncodeSink.written l.sink)

@@ -21,7 +21,7 @@ returns g c d n l num small fits normal deep distinct =
       entries = map say l;
       run = run_back key val kw vw (g.met.KC.MapCodec.written_wire ∙ sym g.met.KC.MapValueDecode.wire) refl d (λ k. (g.KC.MapCodec.fits k × g.KC.MapCodec.normal k) × Unit {0}) (λ v. ((Fits (records_of (g.M.MessageSpec.records v)) × g.M.MessageSpec.normal v) × (g.M.MessageSpec.levels v < d)) × IsSmall (text v))
           (λ v h. plain_back key kw d v g.met.KC.MapCodec.plain (g.met.KC.MapCodec.reads_back d key.blank v h.0.0 h.0.1))
-          (λ v h. message_back g.M.Blank.blank_is g.M.MessageSpec.merged g.M.MessageSpec.cost text d v h.1 (omega (arith, h.0.1)) (λ e is. g.met.M.MessageSpec.merged_text e v h.0.0.0 h.0.0.1 (omega (arith, is, h.0.1))))
+          (λ v h. message_back g.M.Blank.blank_is g.M.MessageSpec.merged g.M.MessageSpec.cost text d v h.1 (omega (arith, h.0.1)) (λ e is. g.met.M.MessageSpec.merged_encoding e v h.0.0.0 h.0.0.1 (omega (arith, is, h.0.1))))
           n l num (small_text kw text l small) (all_small kw text (λ k. (g.KC.MapCodec.fits k × g.KC.MapCodec.normal k) × Unit {0}) (λ v. (Fits (records_of (g.M.MessageSpec.records v)) × g.M.MessageSpec.normal v) × (g.M.MessageSpec.levels v < d)) l small all);
       folded = fold_back g.met.C.MapStorage.equivalence say (λ p. refl) l distinct;
       declared = all_declared say (λ p. refl) l;

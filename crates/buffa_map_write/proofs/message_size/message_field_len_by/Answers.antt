@@ -8,7 +8,7 @@ use Rattle.buffa_wire.proofs.PassLemmas.{appended_none, appended_twice, longer_t
 use Rattle.buffa_map_base.specs.MessageField.{IsSmallField, field_slots}
 use Rattle.buffa_map_base.specs.Pairs.{mean, means}
 use Rattle.buffa_map_base.specs.Scalars.{delimited_writing}
-use Rattle.buffa_map_base.specs.Text.{field_size, saturated}
+use Rattle.buffa_map_base.specs.Encoding.{field_size, saturated}
 use Rattle.buffa_map_write.proofs.MessageFieldLemmas.{here, onward, size_capped, size_exact}
 use Rattle.buffa_map_base.proofs.WalkLemmas.{has_pairs}
 use Rattle.buffa_map_write.proofs.message_size.message_field_len_by.Goals as goal

@@ -4,7 +4,7 @@ use Rattle.buffa_wire.specs.Passes.{IsLonger, cap}
 use Rattle.buffa_map_base.specs.MessageField.{IsSmallField, field_slots}
 use Rattle.buffa_map_base.specs.Pairs.{means}
 use Rattle.buffa_map_base.specs.Scalars.{delimited_writing}
-use Rattle.buffa_map_base.specs.Text.{field_size, saturated}
+use Rattle.buffa_map_base.specs.Encoding.{field_size, saturated}
 use Rattle.buffa_map_write.proofs.message_size.message_field_len_by.Given as goal
 
 -- the size so far and that of what the walk has left are the whole's, and so with the slots

@@ -7,9 +7,9 @@ use Rattle.buffa_wire.proofs.PassLemmas.{done, next_front, next_past, written_er
 use Rattle.buffa_map_base.specs.MessageField.{IsFieldWritten, IsSmallField, IsSmallPair, field_slots}
 use Rattle.buffa_map_base.specs.Pairs.{mean, means}
 use Rattle.buffa_map_base.specs.Scalars.{delimited_writing}
-use Rattle.buffa_map_base.specs.Text.{field_text, record_text}
+use Rattle.buffa_map_base.specs.Encoding.{field_encoding, record_encoding}
 use Rattle.buffa_map_write.proofs.MessageFieldLemmas.{here, small_at}
-use Rattle.buffa_map_write.proofs.WriteLemmas.{field_text-parts, room_more}
+use Rattle.buffa_map_write.proofs.WriteLemmas.{field_encoding-parts, room_more}
 use Rattle.buffa_map_write.proofs.message_write.write_message_field_by.Goals as goal
 
 pub loop-key-init : goal.loop-key-init
@@ -85,7 +85,7 @@ loop-key-preserved g c =
       next = subst (λ d. IsNext (field_slots text slots rest) d) (sym w.2.0) (next_past slot (field_slots text slots rest) c.loop-key.cache (subst (λ l. IsNext (field_slots text slots l) c.loop-key.cache) n i.next));
       whole = λ r d b h. i.whole r d b
           (subst (λ l. IsFieldWritten key text slots number l c.loop-key.cache (written c.loop-key.sink) r d b) (sym n)
-          (written_then (IsSmallPair key text m) (IsSmallField key text rest) (IsSmallField key text (m ∷ rest)) (record_text key (delimited_writing text) number m) (field_text key (delimited_writing text) number rest) slot (field_slots text slots rest)
+          (written_then (IsSmallPair key text m) (IsSmallField key text rest) (IsSmallField key text (m ∷ rest)) (record_encoding key (delimited_writing text) number m) (field_encoding key (delimited_writing text) number rest) slot (field_slots text slots rest)
           c.loop-key.cache c.write_message_record_by.new.cache d (written c.loop-key.sink) (written c.write_message_record_by.new.sink) b (λ z. z) r w h));
       spare = λ keeps small.
           let one = c.in_ok-write_message_record_by.ensures.room keeps (small_at key text (g.C.StableOrder.walk c.args.map.now) i.within.0 m rest e small) in
@@ -125,8 +125,8 @@ returns-in_err-write_message_record_by-clause-written g c =
     let b2 = written c.write_message_record_by.new.sink in
     i.whole r c2 b2
     (subst (λ l. IsFieldWritten key text slots number l c.loop-key.cache (written c.loop-key.sink) r c2 b2) (sym n)
-    (written_err (IsSmallField key text (m ∷ rest)) (field_text key (delimited_writing text) number (m ∷ rest)) (field_slots text slots (m ∷ rest)) c.loop-key.cache c2 (written c.loop-key.sink) b2 r _ _ q.1 q.2
-    (written_short (IsSmallPair key text m) (IsSmallField key text rest) (IsSmallField key text (m ∷ rest)) (record_text key (delimited_writing text) number m) (field_text key (delimited_writing text) number rest) slot (field_slots text slots rest)
+    (written_err (IsSmallField key text (m ∷ rest)) (field_encoding key (delimited_writing text) number (m ∷ rest)) (field_slots text slots (m ∷ rest)) c.loop-key.cache c2 (written c.loop-key.sink) b2 r _ _ q.1 q.2
+    (written_short (IsSmallPair key text m) (IsSmallField key text rest) (IsSmallField key text (m ∷ rest)) (record_encoding key (delimited_writing text) number m) (field_encoding key (delimited_writing text) number rest) slot (field_slots text slots rest)
     c.loop-key.cache c2 c2 (written c.loop-key.sink) b2 b2 (λ z. z.0) _ w)))
 
 pub returns-clause-written : goal.returns-clause-written
@@ -155,7 +155,7 @@ returns-in_err-write_message_record_by-clause-room g c keeps small =
     let e = i.within.1 ∙ ap (λ (z : List (g.row.KC-Value.Denot × g.row.M.Denot)). i.within.0 ++ means g.KC.Value.Blank.meaning g.M.Blank.meaning z) step in
     let all = g.C.StableOrder.walk c.args.map.now in
     let one = c.in_err-write_message_record_by.ensures.room keeps (small_at key text all i.within.0 m rest e small) in
-    rw q.1 (omega (arith, i.spare keeps small, one, field_text-parts key (delimited_writing text) c.args.field_number all i.within.0 m rest e))
+    rw q.1 (omega (arith, i.spare keeps small, one, field_encoding-parts key (delimited_writing text) c.args.field_number all i.within.0 m rest e))
 
 pub returns-clause-room : goal.returns-clause-room
 returns-clause-room g c keeps small =
@@ -164,4 +164,4 @@ returns-clause-room g c keeps small =
     let i = c.loop-key.invariant in
     let step = c.storage_iter-key-items.ensures.steps c.loop-key.key-iterator None c.next.new.self c.in-None.ensures.steps in
     let whole = i.within.1 ∙ ap (λ (z : List (g.row.KC-Value.Denot × g.row.M.Denot)). i.within.0 ++ means g.KC.Value.Blank.meaning g.M.Blank.meaning z) step.0 ∙ append-nil i.within.0 in
-    omega (arith, i.spare keeps small, ap (λ z. length (field_text key (delimited_writing text) c.args.field_number z)) whole)
+    omega (arith, i.spare keeps small, ap (λ z. length (field_encoding key (delimited_writing text) c.args.field_number z)) whole)

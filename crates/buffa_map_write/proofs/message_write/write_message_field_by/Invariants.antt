@@ -2,7 +2,7 @@ use Rattle.std.proofs.Common.{◌≡◌, ℕ, ◌+◌, ◌≤◌, ◌++◌, List
 use Rattle.buffa_wire.specs.Passes.{IsNext}
 use Rattle.buffa_map_base.specs.MessageField.{IsFieldWritten, IsSmallField, KeepsRoom, field_slots}
 use Rattle.buffa_map_base.specs.Scalars.{delimited_writing}
-use Rattle.buffa_map_base.specs.Text.{field_text}
+use Rattle.buffa_map_base.specs.Encoding.{field_encoding}
 use Rattle.buffa_map_base.specs.Pairs.{means}
 use Rattle.buffa_map_write.proofs.message_write.write_message_field_by.Given as goal
 
@@ -21,5 +21,5 @@ invariant-loop-key g l =
       whole : (r : _) (d : _) (b : List ℕ) → IsFieldWritten key text slots l.field_number rest l.cache (written l.sink) r d b
           → IsFieldWritten key text slots l.field_number all l.fn.cache (written l.fn.sink) r d b;
       spare : KeepsRoom (λ x c s r d t. g.F.Fn.post l.fn.write (x, (c, (s, tt))) (r, (d, (t, tt)))) (λ v. text (g.M.Blank.meaning v)) g.S.EncodeSink.room → IsSmallField key text all
-          → g.S.EncodeSink.room l.fn.sink ≤ g.S.EncodeSink.room l.sink + length (field_text key (delimited_writing text) l.field_number within.0);
+          → g.S.EncodeSink.room l.fn.sink ≤ g.S.EncodeSink.room l.sink + length (field_encoding key (delimited_writing text) l.field_number within.0);
     }

@@ -4,7 +4,7 @@ use Rattle.buffa_wire.specs.Passes.{IsNext, cap}
 use Rattle.buffa_wire.proofs.PassLemmas.{next_ok, next_rest, written_err}
 use Rattle.buffa_map_base.specs.MessageField.{IsSmallPair}
 use Rattle.buffa_map_base.specs.Scalars.{delimited_writing}
-use Rattle.buffa_map_base.specs.Text.{record_text}
+use Rattle.buffa_map_base.specs.Encoding.{record_encoding}
 use Rattle.buffa_map_write.proofs.MessageFieldLemmas.{head_no_room, head_short, record_room, record_written}
 use Rattle.buffa_map_write.proofs.message_write.write_message_record_by.Goals as goal
 
@@ -17,7 +17,7 @@ returns-in_err-write_message_head-clause-written g c =
     let p : g.row.KC-Value-Meaning.Denot × g.row.M-Meaning.Denot = (g.KC.Value.Blank.meaning c.args.key.now, g.M.Blank.meaning c.args.value.now) in
     let slot = cap (length (text p.1)) in
     let n = next_ok slot (slots p.1) c.args.cache.now c.requires.next in
-    written_err (IsSmallPair kw text p) (record_text kw (delimited_writing text) c.args.number p) (slot ∷ slots p.1) c.args.cache.now c.consume_next-inner.new.self (g.S.EncodeSink.written c.args.sink.now) (g.S.EncodeSink.written c.write_message_head.new.sink) c.from_residual.result _ _ q.1 q.2
+    written_err (IsSmallPair kw text p) (record_encoding kw (delimited_writing text) c.args.number p) (slot ∷ slots p.1) c.args.cache.now c.consume_next-inner.new.self (g.S.EncodeSink.written c.args.sink.now) (g.S.EncodeSink.written c.write_message_head.new.sink) c.from_residual.result _ _ q.1 q.2
     (head_short kw text slots c.args.number p c.consume_next-inner.result c.args.cache.now c.consume_next-inner.new.self c.consume_next-inner.new.self (g.S.EncodeSink.written c.args.sink.now) (g.S.EncodeSink.written c.write_message_head.new.sink) (g.S.EncodeSink.written c.write_message_head.new.sink) (c.consume_next-inner.ensures.size ∙ n.1) c.consume_next-inner.ensures.rest _ c.in_err-write_message_head.ensures.writes)
 
 pub returns-clause-written : goal.returns-clause-written

@@ -1,6 +1,6 @@
 use Rattle.std.proofs.Common.{arith, ◌≡◌, ℕ, ◌+◌, ◌++◌, List, [], ◌∷◌, refl, sym, ◌∙◌, ap, append-nil, append_assoc, Some, None}
 use Rattle.buffa_map_base.specs.Pairs.{mean, means}
-use Rattle.buffa_map_base.specs.Text.{field_size, saturated}
+use Rattle.buffa_map_base.specs.Encoding.{field_size, saturated}
 use Rattle.buffa_map_base.proofs.SizeLemmas.{field_size-append, saturated-add}
 use Rattle.buffa_map_base.proofs.WalkLemmas.{counted}
 use Rattle.buffa_map_write.proofs.size.field_len.Goals as goal

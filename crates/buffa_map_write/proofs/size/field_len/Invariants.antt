@@ -1,6 +1,6 @@
 use Rattle.std.proofs.Common.{◌≡◌, ◌++◌, List}
 use Rattle.buffa_map_base.specs.Pairs.{ListsOnce, means}
-use Rattle.buffa_map_base.specs.Text.{field_size, saturated}
+use Rattle.buffa_map_base.specs.Encoding.{field_size, saturated}
 use Rattle.buffa_map_write.proofs.size.field_len.Given as goal
 
 -- of what the walk gives, the records of some pairs are counted, and the others are left

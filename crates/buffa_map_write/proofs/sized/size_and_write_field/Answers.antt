@@ -1,5 +1,5 @@
 use Rattle.std.proofs.Common.{◌∙◌, ap, arith, length}
-use Rattle.buffa_wire.specs.Varint.{varint_text}
+use Rattle.buffa_wire.specs.Varint.{varint_encoding}
 use Rattle.buffa_map_base.proofs.WalkLemmas.{announced}
 use Rattle.buffa_map_write.proofs.sized.size_and_write_field.Goals as goal
 
@@ -8,4 +8,4 @@ returns-clause-size g c =
     let sized = c.field_len-size.ensures in
     let wrote = c.in_ok-write_field.ensures in
     announced g.KC.MapCodec.writing g.VC.MapCodec.writing g.met.C.MapStorage.equivalence _ c.args.field_number _ _ sized.0 wrote.0 c.args.text.now.items c.write_field.new.sink.items sized.2 wrote.2
-    (c.varint_len-tag_len.ensures ∙ ap (λ z. length (varint_text z)) (omega (arith, c.from.ensures))) sized.3 wrote.3.1 (omega (arith, c.len-held.ensures))
+    (c.varint_len-tag_len.ensures ∙ ap (λ z. length (varint_encoding z)) (omega (arith, c.from.ensures))) sized.3 wrote.3.1 (omega (arith, c.len-held.ensures))

@@ -2,8 +2,8 @@ use Rattle.std.proofs.Common.{◌++◌}
 use Rattle.std.proofs.lemmas.Result.{err_from_is_err_and}
 use Rattle.buffa_bytes.proofs.SinkLemmas.{exits_first, room_first, room_then, writes_then}
 use Rattle.buffa_bytes.specs.declared.wire_type.WireType.TheVariants.{EndGroup, LengthDelimited, Varint}
-use Rattle.buffa_wire.specs.Values.{delimited_text, tag_text}
-use Rattle.buffa_wire.specs.Varint.{varint_text}
+use Rattle.buffa_wire.specs.Values.{delimited_encoding, tag_encoding}
+use Rattle.buffa_wire.specs.Varint.{varint_encoding}
 use Rattle.buffa_message_set.proofs.message_set.write_body.Goals as goal
 
 pub returns-in_err-encode_varint-clause-writes : goal.returns-in_err-encode_varint-clause-writes
@@ -29,9 +29,9 @@ returns-in_err-encode_uint32-clause-room g c =
 pub returns-clause-writes : goal.returns-clause-writes
 returns-clause-writes g c =
     let w = g.S.EncodeSink.written in
-    let rest = tag_text 3 LengthDelimited ++ (delimited_text c.args.payload.now ++ tag_text 1 EndGroup) in
-    writes_then c.write_message.result (w c.args.sink.now) (tag_text 2 Varint) (varint_text c.args.number ++ rest) (w c.encode_varint.new.sink) _ c.in_ok-encode_varint.ensures.writes
-    (writes_then c.write_message.result (w c.encode_varint.new.sink) (varint_text c.args.number) rest (w c.encode_uint32.new.sink) _ c.in_ok-encode_uint32.ensures.writes c.write_message.ensures.writes)
+    let rest = tag_encoding 3 LengthDelimited ++ (delimited_encoding c.args.payload.now ++ tag_encoding 1 EndGroup) in
+    writes_then c.write_message.result (w c.args.sink.now) (tag_encoding 2 Varint) (varint_encoding c.args.number ++ rest) (w c.encode_varint.new.sink) _ c.in_ok-encode_varint.ensures.writes
+    (writes_then c.write_message.result (w c.encode_varint.new.sink) (varint_encoding c.args.number) rest (w c.encode_uint32.new.sink) _ c.in_ok-encode_uint32.ensures.writes c.write_message.ensures.writes)
 
 pub returns-clause-room : goal.returns-clause-room
 returns-clause-room g c =

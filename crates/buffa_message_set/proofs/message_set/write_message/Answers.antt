@@ -2,7 +2,7 @@ use Rattle.std.proofs.Common.{◌++◌}
 use Rattle.std.proofs.lemmas.Result.{err_from_is_err_and}
 use Rattle.buffa_bytes.proofs.SinkLemmas.{exits_first, room_first, room_then, writes_then}
 use Rattle.buffa_bytes.specs.declared.wire_type.WireType.TheVariants.{EndGroup, LengthDelimited}
-use Rattle.buffa_wire.specs.Values.{delimited_text, tag_text}
+use Rattle.buffa_wire.specs.Values.{delimited_encoding, tag_encoding}
 use Rattle.buffa_message_set.proofs.message_set.write_message.Goals as goal
 
 pub returns-in_err-encode_varint-clause-writes : goal.returns-in_err-encode_varint-clause-writes
@@ -28,9 +28,9 @@ returns-in_err-encode_bytes-clause-room g c =
 pub returns-clause-writes : goal.returns-clause-writes
 returns-clause-writes g c =
     let w = g.S.EncodeSink.written in
-    let text = delimited_text c.args.payload.now in
-    writes_then c.encode_varint-2.result (w c.args.sink.now) (tag_text 3 LengthDelimited) (text ++ tag_text 1 EndGroup) (w c.encode_varint.new.sink) _ c.in_ok-encode_varint.ensures.writes
-    (writes_then c.encode_varint-2.result (w c.encode_varint.new.sink) text (tag_text 1 EndGroup) (w c.encode_bytes.new.sink) _ c.in_ok-encode_bytes.ensures.writes c.encode_varint-2.ensures.writes)
+    let text = delimited_encoding c.args.payload.now in
+    writes_then c.encode_varint-2.result (w c.args.sink.now) (tag_encoding 3 LengthDelimited) (text ++ tag_encoding 1 EndGroup) (w c.encode_varint.new.sink) _ c.in_ok-encode_varint.ensures.writes
+    (writes_then c.encode_varint-2.result (w c.encode_varint.new.sink) text (tag_encoding 1 EndGroup) (w c.encode_bytes.new.sink) _ c.in_ok-encode_bytes.ensures.writes c.encode_varint-2.ensures.writes)
 
 pub returns-clause-room : goal.returns-clause-room
 returns-clause-room g c =

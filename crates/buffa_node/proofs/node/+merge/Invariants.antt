@@ -25,7 +25,7 @@ invariant-merge_node-loop-rest l =
       means : merged l.fn.depth l.fn.node l.fn.bytes ≡ merged l.fn.depth l.node l.rest;
       unknown : l.budget.unknown + all.unknown ≡ l.fn.budget.unknown + more.unknown;
       memory : l.budget.memory + all.memory ≡ l.fn.budget.memory + more.memory;
-      no_slot : l.budget.unknown ≤ l.fn.budget.unknown;
+      no_unknown : l.budget.unknown ≤ l.fn.budget.unknown;
       no_unit : l.budget.memory ≤ l.fn.budget.memory;
       front : (f : List ℕ) × Join (SomeField l.fn.depth) f × (l.fn.bytes ≡ f ++ l.rest) × (merged l.fn.depth l.fn.node f ≡ Some l.node) × Pays l.fn.budget (cost l.fn.depth f) l.budget;
     }

@@ -2,8 +2,8 @@ use Rattle.std.proofs.Common.{◌≡◌, subst}
 use Rattle.std.proofs.lemmas.Result.{err_from_is_err_and}
 use Rattle.buffa_bytes.proofs.SinkLemmas.{exits_first}
 use Rattle.buffa_bytes.specs.declared.wire_type.WireType.TheVariants.{Varint}
-use Rattle.buffa_wire.specs.Values.{tag_text}
-use Rattle.buffa_wire.specs.Varint.{varint_text}
+use Rattle.buffa_wire.specs.Values.{tag_encoding}
+use Rattle.buffa_wire.specs.Varint.{varint_encoding}
 use Rattle.buffa_wire.specs.Written.{WritesFront}
 use Rattle.buffa_samples.proofs.count.write_one.Goals as goal
 
@@ -12,5 +12,5 @@ returns-in_err-encode g c =
     let p = err_from_is_err_and c.from_residual.result c.from_residual.ensures.1 in
     let old = g.S.EncodeSink.written c.args.sink.now in
     let new = g.S.EncodeSink.written c.encode.new.sink in
-    let same : tag_text c.new.result.number c.new.result.wire_type ≡ tag_text 9 Varint = (λ i. tag_text (c.new.ensures.number i) (c.new.ensures.wire_type i)) in
-    exits_first p.1 p.2 old (tag_text 9 Varint) (varint_text 0) new (c.in_err-encode.ensures.writes.0, subst (λ z. WritesFront old z new) same c.in_err-encode.ensures.writes.1)
+    let same : tag_encoding c.new.result.number c.new.result.wire_type ≡ tag_encoding 9 Varint = (λ i. tag_encoding (c.new.ensures.number i) (c.new.ensures.wire_type i)) in
+    exits_first p.1 p.2 old (tag_encoding 9 Varint) (varint_encoding 0) new (c.in_err-encode.ensures.writes.0, subst (λ z. WritesFront old z new) same c.in_err-encode.ensures.writes.1)

@@ -2,7 +2,7 @@ use Rattle.std.proofs.Common.{◌≡◌, subst}
 use Rattle.std.proofs.lemmas.Result.{err_from_is_err_and}
 use Rattle.buffa_bytes.proofs.SinkLemmas.{exits_first}
 use Rattle.buffa_bytes.specs.declared.wire_type.WireType.TheVariants.{Varint}
-use Rattle.buffa_wire.specs.Values.{int32_text, tag_text}
+use Rattle.buffa_wire.specs.Values.{int32_encoding, tag_encoding}
 use Rattle.buffa_wire.specs.Written.{WritesFront}
 use Rattle.buffa_samples.proofs.int32_field.write_at.Goals as goal
 
@@ -11,5 +11,5 @@ returns-in_err-encode g c =
     let p = err_from_is_err_and c.from_residual.result c.from_residual.ensures.1 in
     let old = g.S.EncodeSink.written c.args.sink.now in
     let new = g.S.EncodeSink.written c.encode.new.sink in
-    let same : tag_text c.new.result.number c.new.result.wire_type ≡ tag_text c.args.number Varint = (λ i. tag_text (c.new.ensures.number i) (c.new.ensures.wire_type i)) in
-    exits_first p.1 p.2 old (tag_text c.args.number Varint) (int32_text c.args.value) new (c.in_err-encode.ensures.writes.0, subst (λ z. WritesFront old z new) same c.in_err-encode.ensures.writes.1)
+    let same : tag_encoding c.new.result.number c.new.result.wire_type ≡ tag_encoding c.args.number Varint = (λ i. tag_encoding (c.new.ensures.number i) (c.new.ensures.wire_type i)) in
+    exits_first p.1 p.2 old (tag_encoding c.args.number Varint) (int32_encoding c.args.value) new (c.in_err-encode.ensures.writes.0, subst (λ z. WritesFront old z new) same c.in_err-encode.ensures.writes.1)

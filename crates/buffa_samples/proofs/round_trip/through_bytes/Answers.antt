@@ -4,7 +4,7 @@ use Rattle.std.proofs.Common.{arith, length-append}
 use Rattle.std.proofs.lemmas.List.{nil_from_length}
 use Rattle.buffa_wire.specs.BudgetLeft.{BudgetLeft}
 use Rattle.buffa_map.specs.Run.{fold_entries, Run}
-use Rattle.buffa_map.specs.Text.{field_text}
+use Rattle.buffa_map.specs.Encoding.{field_encoding}
 use Rattle.buffa_samples.proofs.TripLemmas.{as_units, costs_more, paid_for, stopped, unwritten}
 use Rattle.buffa_samples.proofs.round_trip.through_bytes.Goals as goal
 
@@ -17,7 +17,7 @@ returns-in-Ok-read_map_field-clause-ok g c q =
     let w = c.in-Ok.ensures in
     let r = c.in-Ok-read_map_field.ensures.ok in
     let t = c.written_is_read.ensures depth c.args.number w.0 c.requires.number w.3.0 w.4 (c.requires.normal w.0 w.1) w.2.0 in
-    let field = field_text g.KC.MapCodec.writing g.VC.MapCodec.writing c.args.number w.0 in
+    let field = field_encoding g.KC.MapCodec.writing g.VC.MapCodec.writing c.args.number w.0 in
     let text : c.as_slice-rest.result.now ≡ field = c.as_slice-rest.ensures.value ∙ w.3.1 ∙ ap (λ z. z ++ field) c.new-text.ensures.items in
     let run : Run key val depth c.args.number field r.entries = subst (λ (b : List ℕ). Run key val depth c.args.number b r.entries) text r.run in
     let same : r.entries ≡ t.entries = c.one_reading.ensures.run depth c.args.number field r.entries t.entries run t.run in
@@ -32,7 +32,7 @@ returns-in-Ok-read_map_field-clause-order g c =
     let w = c.in-Ok.ensures in
     let r = c.in-Ok-read_map_field.ensures.ok in
     let t = c.written_is_read.ensures depth c.args.number w.0 c.requires.number w.3.0 w.4 (c.requires.normal w.0 w.1) w.2.0 in
-    let field = field_text g.KC.MapCodec.writing g.VC.MapCodec.writing c.args.number w.0 in
+    let field = field_encoding g.KC.MapCodec.writing g.VC.MapCodec.writing c.args.number w.0 in
     let text : c.as_slice-rest.result.now ≡ field = c.as_slice-rest.ensures.value ∙ w.3.1 ∙ ap (λ z. z ++ field) c.new-text.ensures.items in
     let run : Run key val depth c.args.number field r.entries = subst (λ (b : List ℕ). Run key val depth c.args.number b r.entries) text r.run in
     let same : r.entries ≡ t.entries = c.one_reading.ensures.run depth c.args.number field r.entries t.entries run t.run in
@@ -46,7 +46,7 @@ returns-in-Ok-read_map_field-clause-fits g c =
     let w = c.in-Ok.ensures in
     let r = c.in-Ok-read_map_field.ensures.ok in
     let t = c.written_is_read.ensures depth c.args.number w.0 c.requires.number w.3.0 w.4 (c.requires.normal w.0 w.1) w.2.0 in
-    let field = field_text g.KC.MapCodec.writing g.VC.MapCodec.writing c.args.number w.0 in
+    let field = field_encoding g.KC.MapCodec.writing g.VC.MapCodec.writing c.args.number w.0 in
     let text : c.as_slice-rest.result.now ≡ field = c.as_slice-rest.ensures.value ∙ w.3.1 ∙ ap (λ z. z ++ field) c.new-text.ensures.items in
     let run : Run key val depth c.args.number field r.entries = subst (λ (b : List ℕ). Run key val depth c.args.number b r.entries) text r.run in
     let same : r.entries ≡ t.entries = c.one_reading.ensures.run depth c.args.number field r.entries t.entries run t.run in
@@ -67,7 +67,7 @@ returns-clause-err g c =
     let w = c.in-Ok.ensures in
     let k = c.in-Err-read_map_field.ensures.err in
     let t = c.written_is_read.ensures depth c.args.number w.0 c.requires.number w.3.0 w.4 (c.requires.normal w.0 w.1) w.2.0 in
-    let field = field_text g.KC.MapCodec.writing g.VC.MapCodec.writing c.args.number w.0 in
+    let field = field_encoding g.KC.MapCodec.writing g.VC.MapCodec.writing c.args.number w.0 in
     let text : c.as_slice-rest.result.now ≡ field = c.as_slice-rest.ensures.value ∙ w.3.1 ∙ ap (λ z. z ++ field) c.new-text.ensures.items in
     let run : Run key val depth c.args.number c.as_slice-rest.result.now t.entries = subst (λ (b : List ℕ). Run key val depth c.args.number b t.entries) (sym text) t.run in
     let memory : c.new-ctx.result.budget.now.memory ≡ 268435456 = ap (λ (b : BudgetLeft). b.memory) c.new-ctx.ensures.left ∙ c.new-budget.ensures.memory in (
@@ -80,7 +80,7 @@ returns-clause-err g c =
           ap length (sym k.begins.1),
           length-append k.begins.0 k.rest,
           ap length text,
-          ap (λ z. length (field_text g.KC.MapCodec.writing g.VC.MapCodec.writing c.args.number z)) none,
+          ap (λ z. length (field_encoding g.KC.MapCodec.writing g.VC.MapCodec.writing c.args.number z)) none,
         )))),
         w.3.0,
         λ named.
@@ -95,7 +95,7 @@ returns-clause-err g c =
 pub returns-clause-stops : goal.returns-clause-stops
 returns-clause-stops g c =
     let w = c.in-Ok.ensures in
-    let field = field_text g.KC.MapCodec.writing g.VC.MapCodec.writing c.args.number w.0 in
+    let field = field_encoding g.KC.MapCodec.writing g.VC.MapCodec.writing c.args.number w.0 in
     let text : c.as_slice-rest.result.now ≡ field = c.as_slice-rest.ensures.value ∙ w.3.1 ∙ ap (λ z. z ++ field) c.new-text.ensures.items in
     let left = c.new-ctx.ensures.left ∙ as_units c.new-budget.result 268435456 c.new-budget.ensures.unknown c.new-budget.ensures.memory in (
       w.0,

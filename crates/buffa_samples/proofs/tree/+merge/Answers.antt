@@ -27,7 +27,7 @@ merge_tree-returns-in_err-tag-clause-merged t c =
     let rest = c.loop-rest.rest.now in
     let some : 0 < length rest = omega (arith, c.remaining.ensures, c.loop-rest-test.true) in
     rw (p.1, p.2) (loop_fault (merged d c.args.tree.now c.args.bytes.now) (merged d v rest) c.args.budget.now c.loop-rest.budget c.loop-rest.budget
-    (cost d c.args.bytes.now) (cost d rest) c.in_err-tag.field-0.0 inv.means inv.unknown inv.memory inv.no_slot inv.no_unit
+    (cost d c.args.bytes.now) (cost d rest) c.in_err-tag.field-0.0 inv.means inv.unknown inv.memory inv.no_unknown inv.no_unit
     ((omega arith, omega arith, omega arith, omega arith), λ ne. untagged merged cost merged_fields merged_next cost_next d v rest c.loop-rest.budget c.in_err-tag.field-0.0 some c.in_err-tag.ensures.reads))
 
 pub merge_tree-returns-in_err-tag-clause-full : goal.merge_tree-returns-in_err-tag-clause-full
@@ -46,7 +46,7 @@ merge_tree-loop-rest-init t c = record {
   means = refl;
   unknown = refl;
   memory = refl;
-  no_slot = omega arith;
+  no_unknown = omega arith;
   no_unit = omega arith;
   front = ([], none, refl);
 }
@@ -75,7 +75,7 @@ merge_tree-loop-rest-preserved t c =
       means = inv.means ∙ field_means merged cost merged_fields merged_next cost_next d c.loop-rest.tree c.merge_tree_field.new.tree rest u.0 m.0 x n w u.1 m.1 split one.0;
       unknown = omega (arith, inv.unknown, one.1.0, ap (λ (z : BudgetLeft). z.unknown) costs);
       memory = omega (arith, inv.memory, one.1.1, ap (λ (z : BudgetLeft). z.memory) costs);
-      no_slot = omega (arith, inv.no_slot, one.1.0);
+      no_unknown = omega (arith, inv.no_unknown, one.1.0);
       no_unit = omega (arith, inv.no_unit, one.1.1);
       front = front_more d inv.front.0 c.args.bytes.now rest u.0 m.0 x n w inv.front.1 inv.front.2 u.1 m.1 split;
     }
@@ -95,7 +95,7 @@ merge_tree-returns-in_err-merge_tree_field-clause-merged t c =
     let why : PaysAtMost c.loop-rest.budget (cost d rest) over × (e ≢ OutOfMemory → MergeFault (merged d v rest) (cost d rest) c.loop-rest.budget e) =
     subst (λ (z : List ℕ). PaysAtMost c.loop-rest.budget (cost d z) over × (e ≢ OutOfMemory → MergeFault (merged d v z) (cost d z) c.loop-rest.budget e)) (sym u.2) (judged_all merged cost merged_fields merged_next cost_next d v n w c.decode.new.buf.now c.loop-rest.budget over e c.in_err-merge_tree_field.ensures.merged u.0 u.1) in
     rw (p.1, p.2) (loop_fault (merged d c.args.tree.now c.args.bytes.now) (merged d v rest) c.args.budget.now c.loop-rest.budget over
-    (cost d c.args.bytes.now) (cost d rest) e inv.means inv.unknown inv.memory inv.no_slot inv.no_unit why)
+    (cost d c.args.bytes.now) (cost d rest) e inv.means inv.unknown inv.memory inv.no_unknown inv.no_unit why)
 
 pub merge_tree-returns-clause-merged : goal.merge_tree-returns-clause-merged
 merge_tree-returns-clause-merged t c =

@@ -23,7 +23,7 @@ invariant-merge_tree-loop-rest l =
       means : merged l.fn.depth l.fn.tree l.fn.bytes ≡ merged l.fn.depth l.tree l.rest;
       unknown : l.budget.unknown + all.unknown ≡ l.fn.budget.unknown + more.unknown;
       memory : l.budget.memory + all.memory ≡ l.fn.budget.memory + more.memory;
-      no_slot : l.budget.unknown ≤ l.fn.budget.unknown;
+      no_unknown : l.budget.unknown ≤ l.fn.budget.unknown;
       no_unit : l.budget.memory ≤ l.fn.budget.memory;
       front : (f : List ℕ) × Join (SomeField l.fn.depth) f × (l.fn.bytes ≡ f ++ l.rest);
     }

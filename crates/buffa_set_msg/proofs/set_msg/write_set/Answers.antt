@@ -1,7 +1,7 @@
 use Rattle.std.proofs.Common.{◌∙◌, ap, arith, length}
 use Rattle.std.proofs.lemmas.Result.{err_from_is_err_and}
 use Rattle.buffa_wire.specs.View.{records_in}
-use Rattle.buffa_set_msg.specs.Set.{set_text}
+use Rattle.buffa_set_msg.specs.Set.{set_encoding}
 use Rattle.buffa_set_msg.proofs.TextLemmas.{length-set_more, length-set_parts, set_refused, set_step}
 use Rattle.buffa_set_msg.proofs.set_msg.write_set.Goals as goal
 
@@ -28,5 +28,5 @@ returns-in_err-write_record g c =
         set_refused (g.S.EncodeSink.written c.args.sink.now) (g.S.EncodeSink.written c.loop-field.sink) (g.S.EncodeSink.written c.write_record.new.sink) c.args.fields.now.records xs i c.field-item.result _
             all c.loop-field.invariant.written c.loop-field-test.true c.field-item.is w.1,
       );
-      room = rw p.1 (omega (arith, c.in_err-write_record.ensures.room, c.loop-field.invariant.room, length-set_parts xs i c.field-item.result _ c.loop-field-test.true c.field-item.is, ap (λ z. length (set_text z)) all));
+      room = rw p.1 (omega (arith, c.in_err-write_record.ensures.room, c.loop-field.invariant.room, length-set_parts xs i c.field-item.result _ c.loop-field-test.true c.field-item.is, ap (λ z. length (set_encoding z)) all));
     }

@@ -1,6 +1,6 @@
 use Rattle.std.proofs.Common.{refl}
 use Rattle.std.proofs.lemmas.Result.{err_from_is_err_and}
-use Rattle.buffa_bytes.specs.Varint.{varint_text}
+use Rattle.buffa_bytes.specs.Varint.{varint_encoding}
 use Rattle.buffa_bytes.proofs.SinkLemmas.{exits_first}
 use Rattle.buffa_wire.proofs.ShortLemmas.{text_behind, text_one, text_two, text_three, writes_same, room_same}
 use Rattle.buffa_wire.proofs.short.write_two.Goals as goal
@@ -30,4 +30,4 @@ returns-then-n-lt2097152-clause-room g c =
 pub returns-in_err-encode_varint-clause-writes : goal.returns-in_err-encode_varint-clause-writes
 returns-in_err-encode_varint-clause-writes g c =
     let p = err_from_is_err_and c.from_residual.result c.from_residual.ensures.1 in
-    exits_first p.1 p.2 (g.S.EncodeSink.written c.args.sink.now) (varint_text c.args.m) (varint_text c.args.n) (g.S.EncodeSink.written c.encode_varint.new.sink) c.in_err-encode_varint.ensures.writes
+    exits_first p.1 p.2 (g.S.EncodeSink.written c.args.sink.now) (varint_encoding c.args.m) (varint_encoding c.args.n) (g.S.EncodeSink.written c.encode_varint.new.sink) c.in_err-encode_varint.ensures.writes

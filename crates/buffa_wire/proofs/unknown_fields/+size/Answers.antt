@@ -1,6 +1,6 @@
 use Rattle.std.proofs.Common.{◌≡◌, ◌+◌, min, length, ap, ◌∙◌, arith}
 use Rattle.buffa_wire.specs.Records.{Held}
-use Rattle.buffa_wire.specs.Text.{records_text}
+use Rattle.buffa_wire.specs.Encoding.{records_encoding}
 use Rattle.buffa_wire.specs.View.{records_in}
 use Rattle.buffa_wire.proofs.TextLemmas.{len_more, length-W_parts}
 use Rattle.buffa_wire.proofs.unknown_fields.+size.Goals as goal
@@ -18,6 +18,6 @@ UnknownFields::encoded_len-returns-in_default t c =
       c.in_default.ensures,
       c.loop-field.invariant,
       c.field_len-len.ensures,
-      ap (λ z. length (records_text z)) all,
+      ap (λ z. length (records_encoding z)) all,
       length-W_parts c.deref-field-items.result.now c.loop-field.field-index c.field-item.result _ c.loop-field-test.true c.field-item.is,
     )

@@ -44,7 +44,7 @@ holds_anyhow (Err u) P p = tt
 
 pub returns-then-is_empty-clause-ok : goal.returns-then-is_empty-clause-ok
 returns-then-is_empty-clause-ok g c =
-    packs_none g.C.PackableCodec.packed_text g.C.Value.Blank.meaning c.args.number c.args.value.items c.args.fields.now.records
+    packs_none g.C.PackableCodec.packed_encoding g.C.Value.Blank.meaning c.args.number c.args.value.items c.args.fields.now.records
     (is_none c.is_empty.result _ _ c.is_empty.ensures c.args.value.ok.0 c.if-is_empty.true)
 
 pub returns-then-is_empty-clause-fits : goal.returns-then-is_empty-clause-fits
@@ -63,8 +63,8 @@ returns-in_err-bytes-clause-ok g c =
 pub returns-in_err-bytes-clause-err : goal.returns-in_err-bytes-clause-err
 returns-in_err-bytes-clause-err g c =
     let m = g.C.Value.Blank.meaning in
-    writes_none c.from_residual.result c.args.fields.now.records (tagged c.args.number (packed_record g.C.PackableCodec.packed_text (map m c.args.value.items)))
-    (packed_some g.C.PackableCodec.packed_text m c.args.number c.args.value.items (is_some c.is_empty.result _ _ c.is_empty.ensures c.args.value.ok.0 c.if-is_empty.false))
+    writes_none c.from_residual.result c.args.fields.now.records (tagged c.args.number (packed_record g.C.PackableCodec.packed_encoding (map m c.args.value.items)))
+    (packed_some g.C.PackableCodec.packed_encoding m c.args.number c.args.value.items (is_some c.is_empty.result _ _ c.is_empty.ensures c.args.value.ok.0 c.if-is_empty.false))
 
 pub returns-in_err-bytes-clause-refused : goal.returns-in_err-bytes-clause-refused
 returns-in_err-bytes-clause-refused g c =
@@ -81,16 +81,16 @@ returns-in_err-bytes-clause-fits g c =
 
 pub returns-clause-ok : goal.returns-clause-ok
 returns-clause-ok g c =
-    let one = packs_one g.C.PackableCodec.packed_text g.C.Value.Blank.meaning c.args.number c.args.value.items c.in_ok-bytes.bytes.items
+    let one = packs_one g.C.PackableCodec.packed_encoding g.C.Value.Blank.meaning c.args.number c.args.value.items c.in_ok-bytes.bytes.items
     (is_some c.is_empty.result _ _ c.is_empty.ensures c.args.value.ok.0 c.if-is_empty.false)
-    (c.in_ok-bytes.ensures.bytes ∙ ap (λ l. joined g.C.PackableCodec.packed_text (map g.C.Value.Blank.meaning l)) c.as_slice.ensures.value) in
+    (c.in_ok-bytes.ensures.bytes ∙ ap (λ l. joined g.C.PackableCodec.packed_encoding (map g.C.Value.Blank.meaning l)) c.as_slice.ensures.value) in
     subst (λ ds. OnOk c.push_record.result (Adds c.args.fields.now.records ds c.push_record.new.fields.records)) one c.push_record.ensures.ok
 
 pub returns-clause-err : goal.returns-clause-err
 returns-clause-err g c =
     let m = g.C.Value.Blank.meaning in
-    stayed c.push_record.result c.args.fields.now c.push_record.new.fields (tagged c.args.number (packed_record g.C.PackableCodec.packed_text (map m c.args.value.items)))
-    (packed_some g.C.PackableCodec.packed_text m c.args.number c.args.value.items (is_some c.is_empty.result _ _ c.is_empty.ensures c.args.value.ok.0 c.if-is_empty.false))
+    stayed c.push_record.result c.args.fields.now c.push_record.new.fields (tagged c.args.number (packed_record g.C.PackableCodec.packed_encoding (map m c.args.value.items)))
+    (packed_some g.C.PackableCodec.packed_encoding m c.args.number c.args.value.items (is_some c.is_empty.result _ _ c.is_empty.ensures c.args.value.ok.0 c.if-is_empty.false))
     c.push_record.ensures.err
 
 pub returns-clause-refused : goal.returns-clause-refused

@@ -1,5 +1,5 @@
 use Rattle.std.proofs.Common.{sym, ap, ◌∙◌, ◌++◌, subst}
-use Rattle.buffa_wire.specs.Text.{records_text}
+use Rattle.buffa_wire.specs.Encoding.{records_encoding}
 use Rattle.buffa_wire.specs.View.{datum_of}
 use Rattle.buffa_codec.specs.Reading.{HasByte}
 use Rattle.buffa_ext.specs.Messages.{group_held}
@@ -10,4 +10,4 @@ pub returns-clause-full : goal.returns-clause-full
 returns-clause-full g c full =
     subst HasByte (sym (ap (λ d. group_held (datum_of d)) c.in-Group.is))
     (λ none. tag_has_byte c.as_slice.result.now (c.in-Err.ensures.full full)
-    (c.as_slice.ensures.value ∙ c.in-Ok.ensures.writes ∙ ap (λ l. l ++ records_text c.in-Group.fields.records) c.new-bytes.ensures.items ∙ none))
+    (c.as_slice.ensures.value ∙ c.in-Ok.ensures.writes ∙ ap (λ l. l ++ records_encoding c.in-Group.fields.records) c.new-bytes.ensures.items ∙ none))

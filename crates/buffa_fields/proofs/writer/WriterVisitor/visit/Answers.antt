@@ -1,5 +1,5 @@
 use Rattle.std.proofs.Common.{rules, IsOk}
-use Rattle.buffa_wire.specs.Text.{records_text}
+use Rattle.buffa_wire.specs.Encoding.{records_encoding}
 use Rattle.buffa_fields.specs.LayoutLaws.{follow_on}
 use Rattle.buffa_fields.proofs.writer.WriterVisitor.visit.Goals as goal
 
@@ -9,4 +9,4 @@ returns-then-is_ok-clause-waits g c = λ rest h.
     let v = s.meaning c.args.part.now in
     let w = c.args.self.now in
     let ok : IsOk w.result = search rules in
-    follow_on (records_text (s.records c.args.number v)) (s.slots v) rest (g.S.EncodeSink.written w.sink.now) (g.S.EncodeSink.written c.write_to-self.new.sink) w.cache.now c.write_to-self.new.cache w.result c.write_to-self.result ok c.write_to-self.ensures h
+    follow_on (records_encoding (s.records c.args.number v)) (s.slots v) rest (g.S.EncodeSink.written w.sink.now) (g.S.EncodeSink.written c.write_to-self.new.sink) w.cache.now c.write_to-self.new.cache w.result c.write_to-self.result ok c.write_to-self.ensures h

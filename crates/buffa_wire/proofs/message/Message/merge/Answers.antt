@@ -17,7 +17,7 @@ loop-rest-init g c = record {
   means = refl;
   unknown = refl;
   memory = refl;
-  no_slot = omega arith;
+  no_unknown = omega arith;
   no_unit = omega arith;
   front = ([], none, refl);
 }
@@ -31,7 +31,7 @@ returns-in_err-tag-clause-merged g c =
     let rest = c.loop-rest.rest.now in
     let some : 0 < length rest = omega (arith, c.remaining.ensures, c.loop-rest-test.true) in
     rw (p.1, p.2) (loop_fault (g.Self.MessageSpec.merged d (g.Self.Blank.meaning c.args.self.now) c.args.bytes.now) (g.Self.MessageSpec.merged d v rest) c.args.ctx.budget.now c.loop-rest.budget c.loop-rest.budget
-    (g.Self.MessageSpec.cost d c.args.bytes.now) (g.Self.MessageSpec.cost d rest) c.in_err-tag.field-0.0 inv.means inv.unknown inv.memory inv.no_slot inv.no_unit
+    (g.Self.MessageSpec.cost d c.args.bytes.now) (g.Self.MessageSpec.cost d rest) c.in_err-tag.field-0.0 inv.means inv.unknown inv.memory inv.no_unknown inv.no_unit
     ((omega arith, omega arith, omega arith, omega arith), λ ne. untagged g.Self.MessageSpec.merged g.Self.MessageSpec.cost g.Self.MessageSpec.merged_fields g.Self.MessageSpec.merged_next g.Self.MessageSpec.cost_next d v rest c.loop-rest.budget c.in_err-tag.field-0.0 some c.in_err-tag.ensures.reads))
 
 pub loop-rest-smaller : goal.loop-rest-smaller
@@ -58,7 +58,7 @@ loop-rest-preserved g c =
       means = inv.means ∙ field_means g.Self.MessageSpec.merged g.Self.MessageSpec.cost g.Self.MessageSpec.merged_fields g.Self.MessageSpec.merged_next g.Self.MessageSpec.cost_next d (g.Self.Blank.meaning c.loop-rest.self) (g.Self.Blank.meaning c.merge_field.new.self) rest u.0 m.0 x n w u.1 m.1 split one.0;
       unknown = omega (arith, inv.unknown, one.1.0, ap (λ (z : BudgetLeft). z.unknown) costs);
       memory = omega (arith, inv.memory, one.1.1, ap (λ (z : BudgetLeft). z.memory) costs);
-      no_slot = omega (arith, inv.no_slot, one.1.0);
+      no_unknown = omega (arith, inv.no_unknown, one.1.0);
       no_unit = omega (arith, inv.no_unit, one.1.1);
       front = front_more d inv.front.0 c.args.bytes.now rest u.0 m.0 x n w inv.front.1 inv.front.2 u.1 m.1 split;
     }
@@ -78,7 +78,7 @@ returns-in_err-merge_field-clause-merged g c =
     let why : PaysAtMost c.loop-rest.budget (g.Self.MessageSpec.cost d rest) over × (e ≢ OutOfMemory → MergeFault (g.Self.MessageSpec.merged d v rest) (g.Self.MessageSpec.cost d rest) c.loop-rest.budget e) =
     subst (λ (z : List ℕ). PaysAtMost c.loop-rest.budget (g.Self.MessageSpec.cost d z) over × (e ≢ OutOfMemory → MergeFault (g.Self.MessageSpec.merged d v z) (g.Self.MessageSpec.cost d z) c.loop-rest.budget e)) (sym u.2) (judged_all g.Self.MessageSpec.merged g.Self.MessageSpec.cost g.Self.MessageSpec.merged_fields g.Self.MessageSpec.merged_next g.Self.MessageSpec.cost_next d v n w c.decode.new.buf.now c.loop-rest.budget over e c.in_err-merge_field.ensures.merged u.0 u.1) in
     rw (p.1, p.2) (loop_fault (g.Self.MessageSpec.merged d (g.Self.Blank.meaning c.args.self.now) c.args.bytes.now) (g.Self.MessageSpec.merged d v rest) c.args.ctx.budget.now c.loop-rest.budget over
-    (g.Self.MessageSpec.cost d c.args.bytes.now) (g.Self.MessageSpec.cost d rest) e inv.means inv.unknown inv.memory inv.no_slot inv.no_unit why)
+    (g.Self.MessageSpec.cost d c.args.bytes.now) (g.Self.MessageSpec.cost d rest) e inv.means inv.unknown inv.memory inv.no_unknown inv.no_unit why)
 
 pub returns-in_err-tag-clause-full : goal.returns-in_err-tag-clause-full
 returns-in_err-tag-clause-full g c =

@@ -13,7 +13,7 @@ invariant-loop-rest g l =
       means : g.Self.MessageSpec.merged d (g.Self.Blank.meaning l.fn.self) l.bytes ≡ g.Self.MessageSpec.merged d (g.Self.Blank.meaning l.self) l.rest;
       unknown : l.budget.unknown + all.unknown ≡ l.fn.ctx.budget.now.unknown + more.unknown;
       memory : l.budget.memory + all.memory ≡ l.fn.ctx.budget.now.memory + more.memory;
-      no_slot : l.budget.unknown ≤ l.fn.ctx.budget.now.unknown;
+      no_unknown : l.budget.unknown ≤ l.fn.ctx.budget.now.unknown;
       no_unit : l.budget.memory ≤ l.fn.ctx.budget.now.memory;
       front : (f : List ℕ) × Join (SomeField d) f × (l.bytes ≡ f ++ l.rest);
     }

@@ -10,7 +10,7 @@ use Rattle.buffa_wire.specs.RecordReading.{group_at}
 use Rattle.buffa_bytes.proofs.TailLemmas.{tail_more, tail_whole}
 use Rattle.buffa_bytes.proofs.FullLemmas.{tag_no_full}
 use Rattle.buffa_wire.proofs.SpentLemmas.{begins_reading, begins_taking, field_spent, further_spent, next_spent, none_spent, one_spent, takes_group, takes_inside, takes_plain}
-use Rattle.buffa_wire.proofs.LoopLemmas.{field_falls, field_end, field_no_slot, field_group_ok, field_group_err, field_plain_ok, field_plain_err, group_limit, group_tag_err, group_end, group_other, group_field_err, group_next}
+use Rattle.buffa_wire.proofs.LoopLemmas.{field_falls, field_end, field_no_unknown, field_group_ok, field_group_err, field_plain_ok, field_plain_err, group_limit, group_tag_err, group_end, group_other, group_field_err, group_next}
 use Rattle.buffa_wire.proofs.unknown_fields.read.+decode.Goals as goal
 
 pub decode_group-returns-then-depth-eq0-clause-reads : goal.decode_group-returns-then-depth-eq0-clause-reads
@@ -98,22 +98,22 @@ pub decode_unknown_field-returns-in-EndGroup-clause-left : goal.decode_unknown_f
 decode_unknown_field-returns-in-EndGroup-clause-left g t c = λ k some.
     leaves_all {X = ℕ} (Err (InvalidEndGroup c.args.tag.number)) _ EndGroup (g.B.Buf.unread c.args.buf.now) _ c.in-EndGroup.is (end_stays _) refl
 
-pub decode_unknown_field-returns-in_err-take_slot : goal.decode_unknown_field-returns-in_err-take_slot
-decode_unknown_field-returns-in_err-take_slot g t c =
+pub decode_unknown_field-returns-in_err-take_unknown : goal.decode_unknown_field-returns-in_err-take_unknown
+decode_unknown_field-returns-in_err-take_unknown g t c =
     let p = err_from_is_err_and c.from_residual.result c.from_residual.ensures.1 in
     record {
-      reads = rw (p.1, p.2) (λ other. field_no_slot _ _ _ _ _ c.in_default.not-EndGroup c.in_err-take_slot.ensures.err.0 ∙ ap (λ e. Err e) (sym c.in_err-take_slot.ensures.which));
+      reads = rw (p.1, p.2) (λ other. field_no_unknown _ _ _ _ _ c.in_default.not-EndGroup c.in_err-take_unknown.ensures.err.0 ∙ ap (λ e. Err e) (sym c.in_err-take_unknown.ensures.which));
       number = search rules;
-      memory = ap (λ (b : BudgetLeft). b.memory) c.in_err-take_slot.ensures.err.1;
-      full = rw (p.1, p.2) (λ k. let w = c.in_err-take_slot.ensures.which in cc);
-      spent = none_spent _ _ _ (ap (λ (b : BudgetLeft). b.unknown) c.in_err-take_slot.ensures.err.1);
-      end = λ k. c.in_err-take_slot.ensures.err.1;
+      memory = ap (λ (b : BudgetLeft). b.memory) c.in_err-take_unknown.ensures.err.1;
+      full = rw (p.1, p.2) (λ k. let w = c.in_err-take_unknown.ensures.which in cc);
+      spent = none_spent _ _ _ (ap (λ (b : BudgetLeft). b.unknown) c.in_err-take_unknown.ensures.err.1);
+      end = λ k. c.in_err-take_unknown.ensures.err.1;
       end_stays = λ k. refl {a = g.B.Buf.unread c.args.buf.now};
       level = λ k z. refl {a = g.B.Buf.unread c.args.buf.now};
-      no_slot_stays = λ k. refl {a = g.B.Buf.unread c.args.buf.now};
-      left = λ k some. let no : ⊥ = omega (arith, c.in_err-take_slot.ensures.err.0, some) in absurd no;
-      slot = λ k o. omega (arith, c.in_err-take_slot.ensures.err.0, ap (λ (b : BudgetLeft). b.unknown) c.in_err-take_slot.ensures.err.1);
-      deep_slot = λ k z. omega (arith, c.in_err-take_slot.ensures.err.0, ap (λ (b : BudgetLeft). b.unknown) c.in_err-take_slot.ensures.err.1);
+      no_unknown_stays = λ k. refl {a = g.B.Buf.unread c.args.buf.now};
+      left = λ k some. let no : ⊥ = omega (arith, c.in_err-take_unknown.ensures.err.0, some) in absurd no;
+      slot = λ k o. omega (arith, c.in_err-take_unknown.ensures.err.0, ap (λ (b : BudgetLeft). b.unknown) c.in_err-take_unknown.ensures.err.1);
+      deep_unknown = λ k z. omega (arith, c.in_err-take_unknown.ensures.err.0, ap (λ (b : BudgetLeft). b.unknown) c.in_err-take_unknown.ensures.err.1);
       tail = tail_whole _;
       kept = refl {a = g.B.Buf.beyond c.args.buf.now};
     }
@@ -122,36 +122,36 @@ pub decode_unknown_field-returns-in_err-fields : goal.decode_unknown_field-retur
 decode_unknown_field-returns-in_err-fields g t c =
     let p = err_from_is_err_and c.from_residual-in_err-fields.result c.from_residual-in_err-fields.ensures.1 in
     record {
-      reads = rw (p.1, p.2) (λ other. field_group_err _ _ _ _ _ _ _ c.in-StartGroup.is c.in_ok-take_slot.ensures.ok.0 (c.in_err-fields.ensures.reads other));
+      reads = rw (p.1, p.2) (λ other. field_group_err _ _ _ _ _ _ _ c.in-StartGroup.is c.in_ok-take_unknown.ensures.ok.0 (c.in_err-fields.ensures.reads other));
       number = search rules;
-      memory = c.in_err-fields.ensures.memory ∙ c.in_ok-take_slot.ensures.ok.1;
-      full = rw (p.1, p.2) (λ k. takes_group _ _ _ _ _ c.in_ok-take_slot.ensures.ok.0 c.in-StartGroup.is (c.in_err-fields.ensures.full k));
+      memory = c.in_err-fields.ensures.memory ∙ c.in_ok-take_unknown.ensures.ok.1;
+      full = rw (p.1, p.2) (λ k. takes_group _ _ _ _ _ c.in_ok-take_unknown.ensures.ok.0 c.in-StartGroup.is (c.in_err-fields.ensures.full k));
       level = λ k. c.in_err-fields.ensures.level;
-      spent = field_spent _ _ _ _ c.in_ok-take_slot.ensures.ok.0 c.in_err-fields.ensures.spent;
+      spent = field_spent _ _ _ _ c.in_ok-take_unknown.ensures.ok.0 c.in_err-fields.ensures.spent;
       end = λ k. absurd (c.in_default.not-EndGroup k);
       end_stays = λ k. absurd (c.in_default.not-EndGroup k);
-      no_slot_stays = λ k. absurd (omega (arith, c.in_ok-take_slot.ensures.ok.0, k));
+      no_unknown_stays = λ k. absurd (omega (arith, c.in_ok-take_unknown.ensures.ok.0, k));
       left = λ k some. absurd (k c.in-StartGroup.is);
       slot = λ k o. absurd (k c.in-StartGroup.is);
-      deep_slot = λ k z. omega (arith, c.in_ok-take_slot.ensures.ok.0, ap (λ (b : BudgetLeft). b.unknown) (c.in_err-fields.ensures.deep z));
+      deep_unknown = λ k z. omega (arith, c.in_ok-take_unknown.ensures.ok.0, ap (λ (b : BudgetLeft). b.unknown) (c.in_err-fields.ensures.deep z));
       tail = c.in_err-fields.ensures.tail;
       kept = c.in_err-fields.ensures.kept;
     }
 
 pub decode_unknown_field-returns-in-StartGroup : goal.decode_unknown_field-returns-in-StartGroup
 decode_unknown_field-returns-in-StartGroup g t c = record {
-  reads = field_group_ok _ _ _ _ _ _ _ c.in-StartGroup.is c.in_ok-take_slot.ensures.ok.0 c.in_ok-fields.ensures.reads;
+  reads = field_group_ok _ _ _ _ _ _ _ c.in-StartGroup.is c.in_ok-take_unknown.ensures.ok.0 c.in_ok-fields.ensures.reads;
   number = refl;
-  memory = c.in_ok-fields.ensures.memory ∙ c.in_ok-take_slot.ensures.ok.1;
+  memory = c.in_ok-fields.ensures.memory ∙ c.in_ok-take_unknown.ensures.ok.1;
   full = tt;
   level = λ k. c.in_ok-fields.ensures.level;
-  spent = field_spent _ _ _ _ c.in_ok-take_slot.ensures.ok.0 c.in_ok-fields.ensures.spent;
+  spent = field_spent _ _ _ _ c.in_ok-take_unknown.ensures.ok.0 c.in_ok-fields.ensures.spent;
   end = λ k. absurd (c.in_default.not-EndGroup k);
   end_stays = λ k. absurd (c.in_default.not-EndGroup k);
-  no_slot_stays = λ k. absurd (omega (arith, c.in_ok-take_slot.ensures.ok.0, k));
+  no_unknown_stays = λ k. absurd (omega (arith, c.in_ok-take_unknown.ensures.ok.0, k));
   left = λ k some. absurd (k c.in-StartGroup.is);
   slot = λ k o. absurd (k c.in-StartGroup.is);
-  deep_slot = λ k z. omega (arith, c.in_ok-take_slot.ensures.ok.0, ap (λ (b : BudgetLeft). b.unknown) (c.in_ok-fields.ensures.deep z));
+  deep_unknown = λ k z. omega (arith, c.in_ok-take_unknown.ensures.ok.0, ap (λ (b : BudgetLeft). b.unknown) (c.in_ok-fields.ensures.deep z));
   tail = c.in_ok-fields.ensures.tail;
   kept = c.in_ok-fields.ensures.kept;
 }
@@ -160,36 +160,36 @@ pub decode_unknown_field-returns-in_err-payload : goal.decode_unknown_field-retu
 decode_unknown_field-returns-in_err-payload g t c =
     let p = err_from_is_err_and c.from_residual-in_err-payload.result c.from_residual-in_err-payload.ensures.1 in
     record {
-      reads = rw (p.1, p.2) (λ other. field_plain_err _ _ _ _ _ _ _ c.in_default.not-EndGroup c.in_default-wire_type.not-StartGroup c.in_ok-take_slot.ensures.ok.0 (c.in_err-payload.ensures.reads other));
+      reads = rw (p.1, p.2) (λ other. field_plain_err _ _ _ _ _ _ _ c.in_default.not-EndGroup c.in_default-wire_type.not-StartGroup c.in_ok-take_unknown.ensures.ok.0 (c.in_err-payload.ensures.reads other));
       number = search rules;
-      memory = c.in_ok-take_slot.ensures.ok.1;
-      full = rw (p.1, p.2) (λ k. takes_plain _ _ _ _ _ c.in_ok-take_slot.ensures.ok.0 c.in_default-wire_type.not-StartGroup (c.in_err-payload.ensures.full k));
+      memory = c.in_ok-take_unknown.ensures.ok.1;
+      full = rw (p.1, p.2) (λ k. takes_plain _ _ _ _ _ c.in_ok-take_unknown.ensures.ok.0 c.in_default-wire_type.not-StartGroup (c.in_err-payload.ensures.full k));
       level = λ k. absurd (c.in_default-wire_type.not-StartGroup k);
-      spent = one_spent _ _ _ c.in_ok-take_slot.ensures.ok.0;
+      spent = one_spent _ _ _ c.in_ok-take_unknown.ensures.ok.0;
       end = λ k. absurd (c.in_default.not-EndGroup k);
       end_stays = λ k. absurd (c.in_default.not-EndGroup k);
-      no_slot_stays = λ k. absurd (omega (arith, c.in_ok-take_slot.ensures.ok.0, k));
+      no_unknown_stays = λ k. absurd (omega (arith, c.in_ok-take_unknown.ensures.ok.0, k));
       left = λ k some. rw (p.1, p.2) c.in_err-payload.ensures.left;
-      slot = λ k o. omega (arith, c.in_ok-take_slot.ensures.ok.0);
-      deep_slot = λ k z. omega (arith, c.in_ok-take_slot.ensures.ok.0);
+      slot = λ k o. omega (arith, c.in_ok-take_unknown.ensures.ok.0);
+      deep_unknown = λ k z. omega (arith, c.in_ok-take_unknown.ensures.ok.0);
       tail = c.in_err-payload.ensures.tail;
       kept = c.in_err-payload.ensures.kept;
     }
 
 pub decode_unknown_field-returns : goal.decode_unknown_field-returns
 decode_unknown_field-returns g t c = record {
-  reads = field_plain_ok _ _ _ _ _ _ _ c.in_default.not-EndGroup c.in_default-wire_type.not-StartGroup c.in_ok-take_slot.ensures.ok.0 c.in_ok-payload.ensures.reads;
+  reads = field_plain_ok _ _ _ _ _ _ _ c.in_default.not-EndGroup c.in_default-wire_type.not-StartGroup c.in_ok-take_unknown.ensures.ok.0 c.in_ok-payload.ensures.reads;
   number = refl;
-  memory = c.in_ok-take_slot.ensures.ok.1;
+  memory = c.in_ok-take_unknown.ensures.ok.1;
   full = tt;
   level = λ k. absurd (c.in_default-wire_type.not-StartGroup k);
-  spent = one_spent _ _ _ c.in_ok-take_slot.ensures.ok.0;
+  spent = one_spent _ _ _ c.in_ok-take_unknown.ensures.ok.0;
   end = λ k. absurd (c.in_default.not-EndGroup k);
   end_stays = λ k. absurd (c.in_default.not-EndGroup k);
-  no_slot_stays = λ k. absurd (omega (arith, c.in_ok-take_slot.ensures.ok.0, k));
+  no_unknown_stays = λ k. absurd (omega (arith, c.in_ok-take_unknown.ensures.ok.0, k));
   left = λ k some. tt;
-  slot = λ k o. omega (arith, c.in_ok-take_slot.ensures.ok.0);
-  deep_slot = λ k z. omega (arith, c.in_ok-take_slot.ensures.ok.0);
+  slot = λ k o. omega (arith, c.in_ok-take_unknown.ensures.ok.0);
+  deep_unknown = λ k z. omega (arith, c.in_ok-take_unknown.ensures.ok.0);
   tail = c.in_ok-payload.ensures.tail;
   kept = c.in_ok-payload.ensures.kept;
 }

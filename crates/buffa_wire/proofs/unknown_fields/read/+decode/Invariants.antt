@@ -1,6 +1,6 @@
 use Rattle.std.proofs.Common.{◌≡◌, ◌+◌, ◌-◌, ◌*◌, length}
 use Rattle.buffa_bytes.specs.Unread.{IsTailOf, bytes_read}
-use Rattle.buffa_wire.specs.BudgetLeft.{SlotsSpent}
+use Rattle.buffa_wire.specs.BudgetLeft.{UnknownsSpent}
 use Rattle.buffa_wire.proofs.SpentLemmas.{IsBegun}
 use Rattle.buffa_wire.specs.Records.{records_of}
 use Rattle.buffa_wire.specs.RecordReading.{group_at}
@@ -18,7 +18,7 @@ abbrev pub invariant-decode_group-loop-fields : goal.invariant-decode_group-loop
 invariant-decode_group-loop-fields g l = record {
   read : behind (records_of l.fields.records) (group_at l.depth l.budget.unknown l.number (g.B.Buf.unread l.buf)) ≡ group_at l.fn.ctx.depth l.fn.ctx.budget.now.unknown l.fn.number (g.B.Buf.unread l.fn.buf);
   memory : l.budget.memory ≡ l.fn.ctx.budget.now.memory;
-  spent : SlotsSpent (bytes_read (g.B.Buf.unread l.fn.buf) (g.B.Buf.unread l.buf)) l.fn.ctx.budget.now.unknown l.budget.unknown;
+  spent : UnknownsSpent (bytes_read (g.B.Buf.unread l.fn.buf) (g.B.Buf.unread l.buf)) l.fn.ctx.budget.now.unknown l.budget.unknown;
   tail : IsTailOf (g.B.Buf.unread l.buf) (g.B.Buf.unread l.fn.buf);
   begun : IsBegun (l.depth - 1) l.fn.ctx.budget.now.unknown (g.B.Buf.unread l.fn.buf) l.budget.unknown (g.B.Buf.unread l.buf);
   kept : g.B.Buf.beyond l.buf ≡ g.B.Buf.beyond l.fn.buf;

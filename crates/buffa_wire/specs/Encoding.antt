@@ -4,8 +4,8 @@ use Rattle.std.specs.Prelude.{ℕ, List, [], ◌++◌}
 use Rattle.std.specs.Int.{to_le_bytes, w32, w64}
 use Rattle.buffa_bytes.specs.declared.wire_type.WireType.{WireType}
 use Rattle.buffa_bytes.specs.declared.wire_type.WireType.TheVariants as wire
-use Rattle.buffa_bytes.specs.Varint.{varint_text}
-use Rattle.buffa_bytes.specs.Values.{tag_text, delimited_text}
+use Rattle.buffa_bytes.specs.Varint.{varint_encoding}
+use Rattle.buffa_bytes.specs.Values.{tag_encoding, delimited_encoding}
 use Rattle.buffa_wire.specs.Records.{Datum, varint, fixed32, fixed64, bytes, group, Records, no_records, one, records_of}
 
 -- the wire type of a record's field
@@ -18,21 +18,21 @@ wire_of (group rs) = wire.StartGroup
 
 abbrev mutual
   -- what follows the tag; for a group its fields and its end tag
-  pub payload_text : ℕ → Datum → List ℕ
-  payload_text n (varint v) = varint_text v
-  payload_text n (fixed32 v) = to_le_bytes w32 v
-  payload_text n (fixed64 v) = to_le_bytes w64 v
-  payload_text n (bytes bs) = delimited_text bs
-  payload_text n (group rs) = fields_text rs ++ tag_text n wire.EndGroup
+  pub payload_encoding : ℕ → Datum → List ℕ
+  payload_encoding n (varint v) = varint_encoding v
+  payload_encoding n (fixed32 v) = to_le_bytes w32 v
+  payload_encoding n (fixed64 v) = to_le_bytes w64 v
+  payload_encoding n (bytes bs) = delimited_encoding bs
+  payload_encoding n (group rs) = fields_encoding rs ++ tag_encoding n wire.EndGroup
 
-  pub fields_text : Records → List ℕ
-  fields_text no_records = []
-  fields_text (one n x rs) = (tag_text n (wire_of x) ++ payload_text n x) ++ fields_text rs
+  pub fields_encoding : Records → List ℕ
+  fields_encoding no_records = []
+  fields_encoding (one n x rs) = (tag_encoding n (wire_of x) ++ payload_encoding n x) ++ fields_encoding rs
 
 -- the text of a record
-abbrev pub field_text : ℕ → Datum → List ℕ
-field_text n x = tag_text n (wire_of x) ++ payload_text n x
+abbrev pub field_encoding : ℕ → Datum → List ℕ
+field_encoding n x = tag_encoding n (wire_of x) ++ payload_encoding n x
 
 -- the joined text of the records
-abbrev pub records_text : List (ℕ × Datum) → List ℕ
-records_text rs = fields_text (records_of rs)
+abbrev pub records_encoding : List (ℕ × Datum) → List ℕ
+records_encoding rs = fields_encoding (records_of rs)

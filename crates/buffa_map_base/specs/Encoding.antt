@@ -1,7 +1,7 @@
 -- The text of a map field, and its size. Source: the protobuf encoding guide, "Maps".
 use Rattle.std.specs.Prelude.{◌≡◌, ℕ, ◌+◌, ◌-◌, ◌^◌, ◌<◌, List, [], ◌∷◌, ◌++◌, length, min, nat_lt, Option, None, Some, if◌then◌else◌, ◌≤◌, Result, MatchResult}
-use Rattle.buffa_wire.specs.Varint.{varint_text}
-use Rattle.buffa_wire.specs.Values.{delimited_text, tag_text}
+use Rattle.buffa_wire.specs.Varint.{varint_encoding}
+use Rattle.buffa_wire.specs.Values.{delimited_encoding, tag_encoding}
 use Rattle.buffa_bytes.specs.declared.wire_type.WireType.TheVariants.{LengthDelimited}
 use Rattle.buffa_wire.specs.Written.{WritesFront}
 use Rattle.buffa_bytes.specs.declared.error.EncodeError.{EncodeError}
@@ -10,27 +10,27 @@ use Rattle.buffa_map_base.specs.Codec.{Writing}
 
 module _ {K W : Type 0} (key : Writing K) (val : Writing W) where
   -- the key field and the value field, blanks too
-  abbrev pub entry_text : K × W → List ℕ
-  entry_text p = (tag_text 1 key.wire ++ key.text p.0) ++ (tag_text 2 val.wire ++ val.text p.1)
+  abbrev pub entry_encoding : K × W → List ℕ
+  entry_encoding p = (tag_encoding 1 key.wire ++ key.text p.0) ++ (tag_encoding 2 val.wire ++ val.text p.1)
 
   -- the tag of number n, the entry's length, the entry
-  abbrev pub record_text : ℕ → K × W → List ℕ
-  record_text n p = tag_text n LengthDelimited ++ delimited_text (entry_text p)
+  abbrev pub record_encoding : ℕ → K × W → List ℕ
+  record_encoding n p = tag_encoding n LengthDelimited ++ delimited_encoding (entry_encoding p)
 
   -- a record for each pair, in order
-  abbrev pub field_text : ℕ → List (K × W) → List ℕ
-  field_text n [] = []
-  field_text n (p ∷ ps) = record_text n p ++ field_text n ps
+  abbrev pub field_encoding : ℕ → List (K × W) → List ℕ
+  field_encoding n [] = []
+  field_encoding n (p ∷ ps) = record_encoding n p ++ field_encoding n ps
 
   -- no entry is too long for its length to be a varint
-  abbrev pub HasText : List (K × W) → Type 0
-  HasText [] = Unit {0}
-  HasText (p ∷ ps) = (length (entry_text p) < 2 ^ 64) × HasText ps
+  abbrev pub HasEncoding : List (K × W) → Type 0
+  HasEncoding [] = Unit {0}
+  HasEncoding (p ∷ ps) = (length (entry_encoding p) < 2 ^ 64) × HasEncoding ps
 
   -- the sum of the records' lengths, where t is the length of the field's tag
   abbrev pub field_size : ℕ → List (K × W) → ℕ
   field_size t [] = 0
-  field_size t (p ∷ ps) = t + (length (varint_text (length (entry_text p))) + length (entry_text p)) + field_size t ps
+  field_size t (p ∷ ps) = t + (length (varint_encoding (length (entry_encoding p))) + length (entry_encoding p)) + field_size t ps
 
 -- each key is P, and each value is Q
 abbrev pub AllHold : {K W : Type 0} → (K → Type 0) → (W → Type 0) → List (K × W) → Type 0
@@ -44,26 +44,26 @@ UsesRoomOf r room text left = MatchResult r (λ _. room ≤ left + length text) 
 module _ {K W : Type 0} (key : Writing K) (val : Writing W) (n : ℕ) (old new : List ℕ) where
   -- the record of p was written; or memory ran out after a beginning of it; or its entry is too long, and nothing was written
   abbrev pub RefusesRecord : K × W → EncodeError → Type 0
-  RefusesRecord p OutOfMemory = (length (entry_text key val p) < 2 ^ 64) × WritesFront old (record_text key val n p) new
-  RefusesRecord p MessageTooLarge = (2 ^ 64 ≤ length (entry_text key val p)) × (new ≡ old)
+  RefusesRecord p OutOfMemory = (length (entry_encoding key val p) < 2 ^ 64) × WritesFront old (record_encoding key val n p) new
+  RefusesRecord p MessageTooLarge = (2 ^ 64 ≤ length (entry_encoding key val p)) × (new ≡ old)
   RefusesRecord p (GroupRefused e) = ⊥
 
   abbrev pub WritesRecord : {T : Type 0} → Result T EncodeError → K × W → Type 0
-  WritesRecord r p = MatchResult r (λ _. (length (entry_text key val p) < 2 ^ 64) × (new ≡ old ++ record_text key val n p)) (RefusesRecord p)
+  WritesRecord r p = MatchResult r (λ _. (length (entry_encoding key val p) < 2 ^ 64) × (new ≡ old ++ record_encoding key val n p)) (RefusesRecord p)
 
   -- the records of l were written; or memory ran out after those of the pairs of done and a beginning of the next, whose
   -- entry isn't too long; or that is the first entry that is too long, and the records of done were written
   abbrev pub RefusesField : List (K × W) → EncodeError → Type 0
   RefusesField l OutOfMemory =
-      (done : List (K × W)) × (p : K × W) × (rest : List (K × W)) × (l ≡ done ++ p ∷ rest) × HasText key val done
-      × (length (entry_text key val p) < 2 ^ 64) × WritesFront (old ++ field_text key val n done) (record_text key val n p) new
+      (done : List (K × W)) × (p : K × W) × (rest : List (K × W)) × (l ≡ done ++ p ∷ rest) × HasEncoding key val done
+      × (length (entry_encoding key val p) < 2 ^ 64) × WritesFront (old ++ field_encoding key val n done) (record_encoding key val n p) new
   RefusesField l MessageTooLarge =
-      (done : List (K × W)) × (p : K × W) × (rest : List (K × W)) × (l ≡ done ++ p ∷ rest) × HasText key val done
-      × (2 ^ 64 ≤ length (entry_text key val p)) × (new ≡ old ++ field_text key val n done)
+      (done : List (K × W)) × (p : K × W) × (rest : List (K × W)) × (l ≡ done ++ p ∷ rest) × HasEncoding key val done
+      × (2 ^ 64 ≤ length (entry_encoding key val p)) × (new ≡ old ++ field_encoding key val n done)
   RefusesField l (GroupRefused e) = ⊥
 
   abbrev pub WritesField : {T : Type 0} → Result T EncodeError → List (K × W) → Type 0
-  WritesField r l = MatchResult r (λ _. HasText key val l × (new ≡ old ++ field_text key val n l)) (RefusesField l)
+  WritesField r l = MatchResult r (λ _. HasEncoding key val l × (new ≡ old ++ field_encoding key val n l)) (RefusesField l)
 
 -- a length, if it is a number of 64 bits
 abbrev pub as_u64 : ℕ → Option ℕ
