@@ -8,7 +8,7 @@ pub mod Run
 pub mod Merge
 pub mod Parts
 pub mod Lent
-pub mod Text
+pub mod Encoding
 pub mod Message
 pub mod MessageLaws
 pub mod MessageField

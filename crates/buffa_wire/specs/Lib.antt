@@ -7,7 +7,7 @@ pub mod Code
 pub mod View
 pub mod Falls
 pub mod Equal
-pub mod Text
+pub mod Encoding
 pub mod Parse
 pub mod RecordReading
 pub mod Found

@@ -186,8 +186,8 @@ where
 {
     /// The size pass, which never runs out of memory where the form is sure of that.
     fn compute_size(&self, cache: &mut SizeCache) -> Result<u32, EncodeError>
-        ensures sized { IsSized (⟦<M as MessageSpec>⟧.text (M.meaning self.now))
-            (⟦<M as MessageSpec>⟧.slots (M.meaning self.now)) cache.old result cache.new }
+        ensures sized { IsSized (records_encoding (M.Form.records (M.meaning self.now)))
+            (M.Form.slots (M.meaning self.now)) cache.old result cache.new }
         ensures always { M.Form.sure (M.meaning self.now) → IsOk result }
     {
         <M::Form as MessageForm<M>>::compute_size(self, cache)
@@ -209,8 +209,8 @@ where
         buf: &mut &[u8],
         ctx: DecodeContext<'_>,
     ) -> Result<(), DecodeError>
-        ensures merged { MergesField ⟦<M as MessageSpec>⟧.merged ⟦<M as MessageSpec>⟧.cost ctx.entry (M.meaning self.old)
-            tag.number tag.wire_type buf.old.now result (M.meaning self.new) (budget_left ctx.exit) buf.new.now }
+        ensures merged { MergesField M.Form.merged M.Form.cost ctx.entry (M.meaning self.old) tag.number tag.wire_type
+            buf.old.now result (M.meaning self.new) (budget_left ctx.exit) buf.new.now }
         ensures full { FullOnlyIf result (tag.wire_type ≢ WireType.EndGroup) }
         ensures taken { TakesField M.Form.Taken ctx.entry self.old tag.number tag.wire_type buf.old.now result self.new
             (budget_left ctx.exit) buf.new.now }
