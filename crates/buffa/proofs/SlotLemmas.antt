@@ -11,35 +11,35 @@ use Rattle.buffa_map.specs.Encoding.{entry_encoding, field_encoding, record_enco
 use Rattle.buffa_map.proofs.SizeLemmas.{length-entry_encoding}
 use Rattle.buffa.specs.Slots.{AreSmall, WrittenBySlots, record_by}
 
-module _ {K M : Type 0} (key : Writing K) (text slots : M → List ℕ) (n : ℕ) where
-  same_size : (p : K × M) → length (entry_encoding key (delimited_writing text) p) ≡ entry_size key p.0 (length (text p.1))
-  same_size p = length-entry_encoding key (delimited_writing text) p ∙ ap (λ (m : ℕ). 2 + (length (key.text p.0) + m)) (length-append (varint_encoding (length (text p.1))) (text p.1))
+module _ {K M : Type 0} (key : Writing K) (encoding slots : M → List ℕ) (n : ℕ) where
+  same_size : (p : K × M) → length (entry_encoding key (delimited_writing encoding) p) ≡ entry_size key p.0 (length (encoding p.1))
+  same_size p = length-entry_encoding key (delimited_writing encoding) p ∙ ap (λ (m : ℕ). 2 + (length (key.encoding p.0) + m)) (length-append (varint_encoding (length (encoding p.1))) (encoding p.1))
 
   -- the record with the length of the message is the pair's record
-  same_record : (p : K × M) → record_encoding key (delimited_writing text) n p ≡ record_by key text slots n p (length (text p.1))
+  same_record : (p : K × M) → record_encoding key (delimited_writing encoding) n p ≡ record_by key encoding slots n p (length (encoding p.1))
   same_record p =
       let tag = tag_encoding n LengthDelimited in
-      let first = tag_encoding 1 key.wire ++ key.text p.0 in
+      let first = tag_encoding 1 key.wire ++ key.encoding p.0 in
       let second = tag_encoding 2 LengthDelimited in
-      let len = varint_encoding (length (text p.1)) in
-      let whole = entry_encoding key (delimited_writing text) p in
-      let split : whole ≡ (first ++ (second ++ len)) ++ text p.1 =
-      sym (append_assoc first (second ++ len) (text p.1) ∙ ap (λ z. first ++ z) (append_assoc second len (text p.1))) in
+      let len = varint_encoding (length (encoding p.1)) in
+      let whole = entry_encoding key (delimited_writing encoding) p in
+      let split : whole ≡ (first ++ (second ++ len)) ++ encoding p.1 =
+      sym (append_assoc first (second ++ len) (encoding p.1) ∙ ap (λ z. first ++ z) (append_assoc second len (encoding p.1))) in
       sym (append_assoc tag (varint_encoding (length whole)) whole)
       ∙ (λ i. (tag ++ varint_encoding (same_size p i)) ++ split i)
 
-  told : (p : K × M) → IsSmall (text p.1) → cap (length (text p.1)) ≡ length (text p.1)
+  told : (p : K × M) → IsSmall (encoding p.1) → cap (length (encoding p.1)) ≡ length (encoding p.1)
   told p h = omega (arith, h)
 
-  pub slots_are_lengths : (l : List (K × M)) (rest : List ℕ) → AreSmall text l →
-      WrittenBySlots key text slots n l (field_slots text slots l ++ rest) (field_encoding key (delimited_writing text) n l) rest
+  pub slots_are_lengths : (l : List (K × M)) (rest : List ℕ) → AreSmall encoding l →
+      WrittenBySlots key encoding slots n l (field_slots encoding slots l ++ rest) (field_encoding key (delimited_writing encoding) n l) rest
   slots_are_lengths [] rest h = (refl, refl)
   slots_are_lengths (p ∷ ps) rest h = (
-    length (text p.1),
-    field_slots text slots ps ++ rest,
-    field_encoding key (delimited_writing text) n ps,
+    length (encoding p.1),
+    field_slots encoding slots ps ++ rest,
+    field_encoding key (delimited_writing encoding) n ps,
     refl,
-    ap (λ m. m ∷ (slots p.1 ++ field_slots text slots ps) ++ rest) (told p h.0) ∙ ap (λ z. length (text p.1) ∷ z) (append_assoc (slots p.1) (field_slots text slots ps) rest),
-    ap (λ z. z ++ field_encoding key (delimited_writing text) n ps) (same_record p),
+    ap (λ m. m ∷ (slots p.1 ++ field_slots encoding slots ps) ++ rest) (told p h.0) ∙ ap (λ z. length (encoding p.1) ∷ z) (append_assoc (slots p.1) (field_slots encoding slots ps) rest),
+    ap (λ z. z ++ field_encoding key (delimited_writing encoding) n ps) (same_record p),
     slots_are_lengths ps rest h.1,
   )

@@ -6,5 +6,5 @@ pub mod Slots
 pub mod Wire
 pub use Rattle.buffa_node.specs.Branch
 pub use Rattle.buffa_node.specs.NodeMeaning
-pub use Rattle.buffa_node.specs.NodeText
+pub use Rattle.buffa_node.specs.NodeEncoding
 pub use Rattle.buffa_set_msg.specs.Set

@@ -130,7 +130,7 @@ pub fn law_7<C: LastWins, K: MessageRecord, M: Message, R: SingularCodec, P: Pac
 /// So it is of a field of messages too, where the size is the sum of the records' lengths.
 pub fn law_8<KC: MapCodec, VC: MapCodec, M: MessageSpec>()
     ensures values { SizeIsLength KC.writing VC.writing }
-    ensures messages { SizeIsLength KC.writing (delimited_writing M.text) }
+    ensures messages { SizeIsLength KC.writing (delimited_writing M.encoding) }
 {
     buffa_map::laws::size_is_length::<KC, VC>();
 }
@@ -140,7 +140,7 @@ pub fn law_8<KC: MapCodec, VC: MapCodec, M: MessageSpec>()
 /// For each pair of a walk the next slot is the length of the message's text, and the message's own slots
 /// follow it; the text with these lengths is the field's text. No message is longer than 2^31 - 1 bytes.
 pub fn law_9<KC: MapCodec, M: MessageSpec>()
-    ensures { SlotsAreLengths KC.writing M.text M.slots }
+    ensures { SlotsAreLengths KC.writing M.encoding M.slots }
 {}
 
 /// A put keeps the stored key of a pair that is there, and every other pair.

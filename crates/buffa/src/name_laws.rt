@@ -59,11 +59,11 @@ pub fn extension_codecs_are_these<M: Message, P: PackableCodec>()
         ≡ option_map sfixed64_of (fixed64_in d) }
     ensures enums { (n : ℕ) (b : BudgetLeft) (d : Datum) → ⟦<codecs::EnumI32 as SingularCodec>⟧.one n b d
         ≡ option_map int32_of (varint_in d) }
-    ensures lists { (vs : List P.Value.Meaning) → ⟦<codecs::Repeated<P> as ExtensionCodec>⟧.recs vs ≡ map P.text vs }
+    ensures lists { (vs : List P.Value.Meaning) → ⟦<codecs::Repeated<P> as ExtensionCodec>⟧.recs vs ≡ map P.datum vs }
     ensures packed { (vs : List P.Value.Meaning) → ⟦<codecs::PackedRepeated<P> as ExtensionCodec>⟧.recs vs
         ≡ packed_record P.packed_encoding vs }
-    ensures message { (v : M.Meaning) → ⟦<codecs::MessageCodec<M> as ExtensionCodec>⟧.recs v ≡ held_bytes (M.text v) ∷ [] }
-    ensures group { (v : M.Meaning) → ⟦<codecs::GroupCodec<M> as ExtensionCodec>⟧.recs v ≡ group_of (M.text v) ∷ [] }
+    ensures message { (v : M.Meaning) → ⟦<codecs::MessageCodec<M> as ExtensionCodec>⟧.recs v ≡ held_bytes (M.encoding v) ∷ [] }
+    ensures group { (v : M.Meaning) → ⟦<codecs::GroupCodec<M> as ExtensionCodec>⟧.recs v ≡ group_of (M.encoding v) ∷ [] }
 {}
 
 /// How each codec of map fields reads a payload, and how the map to take where nothing speaks for another one is walked.

@@ -1,7 +1,7 @@
 //! Two messages that stand on this layer alone: a node that holds itself, and a MessageSet.
 //!
 //! Which messages they are is said by [`crate::laws::nodes`] and [`crate::laws::sets`]. What they cite stands in
-//! `specs/` under the names `Branch`, `NodeMeaning`, `NodeText` and `Set`.
+//! `specs/` under the names `Branch`, `NodeMeaning`, `NodeEncoding` and `Set`.
 //!
 //! ```ignore
 //! use buffa::samples::Node;

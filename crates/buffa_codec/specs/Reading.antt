@@ -140,13 +140,13 @@ Each P (v ∷ vs) = P v × Each P vs
 
 -- the texts of the values, joined
 abbrev pub joined : {V : Type 0} → (V → List ℕ) → List V → List ℕ
-joined text [] = []
-joined text (v ∷ vs) = text v ++ joined text vs
+joined encoding [] = []
+joined encoding (v ∷ vs) = encoding v ++ joined encoding vs
 
 -- one record of packed bytes, or none for no values
 abbrev pub packed_record : {V : Type 0} → (V → List ℕ) → List V → List Datum
-packed_record text [] = []
-packed_record text (v ∷ vs) = bytes (joined text (v ∷ vs)) ∷ []
+packed_record encoding [] = []
+packed_record encoding (v ∷ vs) = bytes (joined encoding (v ∷ vs)) ∷ []
 
 -- why the first of the values is refused that is refused at all
 abbrev pub first_refusal : {V : Type 0} → (V → Option EncodeError) → List V → Option EncodeError

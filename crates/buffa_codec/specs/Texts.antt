@@ -39,26 +39,26 @@ string_back v h = rw h refl
 
 -- ---- lists
 
-module _ {M : Type 0} (fits normal : M → Type 0) (cost : Datum → BudgetLeft) (one : BudgetLeft → Datum → Option M) (leaves : BudgetLeft → Datum → BudgetLeft → Type 0) (packed : List ℕ → List M) (text : M → Datum) (back : M → M)
-    (reads : (v : M) (b : BudgetLeft) → fits v → normal v → Covers b (cost (text v)) → one b (text v) ≡ Some (back v))
+module _ {M : Type 0} (fits normal : M → Type 0) (cost : Datum → BudgetLeft) (one : BudgetLeft → Datum → Option M) (leaves : BudgetLeft → Datum → BudgetLeft → Type 0) (packed : List ℕ → List M) (encoding : M → Datum) (back : M → M)
+    (reads : (v : M) (b : BudgetLeft) → fits v → normal v → Covers b (cost (encoding v)) → one b (encoding v) ≡ Some (back v))
     (spends : (b left : BudgetLeft) (d : Datum) (v : M) → one b d ≡ Some v → leaves b d left → Pays b (cost d) left) where
-  pub list_back : (b : BudgetLeft) (vs out : List M) (left : BudgetLeft) → Each fits vs → Each normal vs → CoversAll cost b (map text vs) → ReadsAll one leaves packed b (map text vs) out left → out ≡ map back vs
+  pub list_back : (b : BudgetLeft) (vs out : List M) (left : BudgetLeft) → Each fits vs → Each normal vs → CoversAll cost b (map encoding vs) → ReadsAll one leaves packed b (map encoding vs) out left → out ≡ map back vs
   list_back b [] out left f n k h = h.0
   list_back b (v ∷ vs) out left f n k h =
-      h.4 ∙ ap (λ o. elements packed (text v) o ++ h.1) (reads v b f.0 n.0 k.0)
+      h.4 ∙ ap (λ o. elements packed (encoding v) o ++ h.1) (reads v b f.0 n.0 k.0)
       ∙ ap (λ l. back v ∷ l) (list_back h.0 vs h.1 left f.1 n.1
-      (subst (λ m. CoversAll cost m (map text vs)) (sym (left_over b (cost (text v)) h.0 (spends b h.0 (text v) (back v) (reads v b f.0 n.0 k.0) h.2))) k.1) h.3)
+      (subst (λ m. CoversAll cost m (map encoding vs)) (sym (left_over b (cost (encoding v)) h.0 (spends b h.0 (encoding v) (back v) (reads v b f.0 n.0 k.0) h.2))) k.1) h.3)
 
-module _ {M : Type 0} (fits : M → Type 0) (one : BudgetLeft → Datum → Option M) (leaves : BudgetLeft → Datum → BudgetLeft → Type 0) (packed : List ℕ → List M) (text : M → List ℕ) (back : M → M)
-    (unpacks : (v : M) (rest : List ℕ) → fits v → packed (text v ++ rest) ≡ back v ∷ packed rest)
+module _ {M : Type 0} (fits : M → Type 0) (one : BudgetLeft → Datum → Option M) (leaves : BudgetLeft → Datum → BudgetLeft → Type 0) (packed : List ℕ → List M) (encoding : M → List ℕ) (back : M → M)
+    (unpacks : (v : M) (rest : List ℕ) → fits v → packed (encoding v ++ rest) ≡ back v ∷ packed rest)
     (unpacks_none : packed [] ≡ [])
     (unread : (b : BudgetLeft) (bs : List ℕ) → one b (bytes bs) ≡ None) where
-  pub unpacks_all : (vs : List M) → Each fits vs → packed (joined text vs) ≡ map back vs
+  pub unpacks_all : (vs : List M) → Each fits vs → packed (joined encoding vs) ≡ map back vs
   unpacks_all [] f = unpacks_none
-  unpacks_all (v ∷ vs) f = unpacks v (joined text vs) f.0 ∙ ap (λ l. back v ∷ l) (unpacks_all vs f.1)
+  unpacks_all (v ∷ vs) f = unpacks v (joined encoding vs) f.0 ∙ ap (λ l. back v ∷ l) (unpacks_all vs f.1)
 
-  pub packed_back : (vs out : List M) (left : BudgetLeft) → Each fits vs → ReadsAll one leaves packed full (packed_record text vs) out left → out ≡ map back vs
+  pub packed_back : (vs out : List M) (left : BudgetLeft) → Each fits vs → ReadsAll one leaves packed full (packed_record encoding vs) out left → out ≡ map back vs
   packed_back [] out left f h = h.0
   packed_back (v ∷ vs) out left f h =
-      h.4 ∙ ap (λ o. elements packed (bytes (joined text (v ∷ vs))) o ++ h.1) (unread full (joined text (v ∷ vs)))
+      h.4 ∙ ap (λ o. elements packed (bytes (joined encoding (v ∷ vs))) o ++ h.1) (unread full (joined encoding (v ∷ vs)))
       ∙ ap (λ l. l ++ h.1) (unpacks_all (v ∷ vs) f) ∙ ap (λ l. map back (v ∷ vs) ++ l) (h.3.0) ∙ append-nil (map back (v ∷ vs))

@@ -158,7 +158,7 @@ pub trait SingularCodec {
     ghost packed: { List ℕ → List Self.Value.Meaning };
 
     /// The record of a value.
-    ghost text: { Self.Value.Meaning → Datum };
+    ghost datum: { Self.Value.Meaning → Datum };
 
     /// Why a value can't be written, memory aside.
     ghost refusal: { Self.Value.Meaning → Option EncodeError };
@@ -251,7 +251,7 @@ pub trait SingularCodec {
     /// let payload = C::try_encode_one(alloc, &value)?;
     /// ```
     fn try_encode_one(alloc: Global, value: &Self::Value) -> Result<UnknownFieldData, EncodeError>
-        ensures record { IfOk result (λ d. datum_of d ≡ text (Self.Value.meaning value.now)) }
+        ensures record { IfOk result (λ d. datum_of d ≡ datum (Self.Value.meaning value.now)) }
         ensures refused { Refuses result (refusal (Self.Value.meaning value.now)) }
         ensures fits { OnOk result (fits (Self.Value.meaning value.now)) }
         ensures always { never_fails → IsOk result }
@@ -266,7 +266,7 @@ pub trait SingularCodec {
     /// let payload = C::encode_one(alloc, &value)?;
     /// ```
     fn encode_one(alloc: Global, value: &Self::Value) -> Result<UnknownFieldData, EncodeError>
-        ensures record { IfOk result (λ d. datum_of d ≡ text (Self.Value.meaning value.now)) }
+        ensures record { IfOk result (λ d. datum_of d ≡ datum (Self.Value.meaning value.now)) }
         ensures refused { Refuses result (refusal (Self.Value.meaning value.now)) }
         ensures fits { OnOk result (fits (Self.Value.meaning value.now)) }
         ensures always { never_fails → IsOk result }
@@ -276,7 +276,7 @@ pub trait SingularCodec {
     }
 
     /// The record of a value is read back, where its cost is left.
-    ghost reads_text: { (v : _) (b : _) → fits v → normal v → Covers b (cost (text v)) → one 100 b (text v)
+    ghost reads_datum: { (v : _) (b : _) → fits v → normal v → Covers b (cost (datum v)) → one 100 b (datum v)
         ≡ Some (back v) };
 
     /// A record that is read as a value spends its cost.

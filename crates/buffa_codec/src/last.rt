@@ -26,7 +26,7 @@ pub trait LastWins: SingularCodec {
     ghost made: { (b : BudgetLeft) (d : Datum) → Self.leaves 100 b d b };
 
     /// The record of a value costs no more than there is.
-    ghost covered: { (v : Self.Value.Meaning) → Covers full (Self.cost (Self.text v)) };
+    ghost covered: { (v : Self.Value.Meaning) → Covers full (Self.cost (Self.datum v)) };
 }
 
 impl<C: LastWins> ExtensionCodec for C {
@@ -44,7 +44,7 @@ impl<C: LastWins> ExtensionCodec for C {
 
     ghost reads = { λ ds o. o ≡ last_read (C.one 100 full) ds };
 
-    ghost recs = { λ v. C.text v ∷ [] };
+    ghost recs = { λ v. C.datum v ∷ [] };
 
     ghost refusal = { C.refusal };
 
@@ -91,6 +91,6 @@ impl<C: LastWins> ExtensionCodec for C {
     }
 
     ghost reads_back = { λ v o f n h.
-        last_of_one (C.one 100 full) (C.text v) (C.back v) o
-        (C.SingularCodec.reads_text v full f n (C.LastWins.covered v)) h };
+        last_of_one (C.one 100 full) (C.datum v) (C.back v) o
+        (C.SingularCodec.reads_datum v full f n (C.LastWins.covered v)) h };
 }

@@ -50,7 +50,7 @@ pub fn later_readings_win<C: LastWins>()
 pub fn the_last_record_is_read<C: LastWins>()
     ensures reads { (ds : List Datum) (o : Option C.Value.Meaning) → ⟦<C as ExtensionCodec>⟧.reads ds o
         ↔ (o ≡ last_read (C.one 100 full) ds) }
-    ensures records { (v : C.Value.Meaning) → ⟦<C as ExtensionCodec>⟧.recs v ≡ C.text v ∷ [] }
+    ensures records { (v : C.Value.Meaning) → ⟦<C as ExtensionCodec>⟧.recs v ≡ C.datum v ∷ [] }
     ensures memory { (ds : List Datum) → ⟦<C as ExtensionCodec>⟧.takes ds ↔ HasLast C.takes (C.one 100 full) ds }
     ensures in_room { (v : C.Value.Meaning) → ⟦<C as ExtensionCodec>⟧.in_room v ↔ C.made_free v }
     ensures holds { (v : C.Value.Meaning) (o : Option C.Value.Meaning) → ⟦<C as ExtensionCodec>⟧.holds v o
@@ -81,17 +81,17 @@ pub fn values_mean_these<C: LastWins, R: SingularCodec, P: PackableCodec>(
 
 /// The record of each scalar.
 pub fn scalars_are_written()
-    ensures int32 { (v : ℤ) → ⟦<Int32 as SingularCodec>⟧.text v ≡ varint (cast_unsigned w64 v) }
-    ensures int64 { (v : ℤ) → ⟦<Int64 as SingularCodec>⟧.text v ≡ varint (cast_unsigned w64 v) }
-    ensures uint32 { (v : ℕ) → ⟦<Uint32 as SingularCodec>⟧.text v ≡ varint v }
-    ensures uint64 { (v : ℕ) → ⟦<Uint64 as SingularCodec>⟧.text v ≡ varint v }
-    ensures sint32 { (v : ℤ) → ⟦<Sint32 as SingularCodec>⟧.text v ≡ varint (zigzag v) }
-    ensures sint64 { (v : ℤ) → ⟦<Sint64 as SingularCodec>⟧.text v ≡ varint (zigzag v) }
-    ensures bool { (v : Bool) → ⟦<BoolScalar as SingularCodec>⟧.text v ≡ varint (from_bool v) }
-    ensures fixed32 { (v : ℕ) → ⟦<Fixed32 as SingularCodec>⟧.text v ≡ fixed32 v }
-    ensures fixed64 { (v : ℕ) → ⟦<Fixed64 as SingularCodec>⟧.text v ≡ fixed64 v }
-    ensures sfixed32 { (v : ℤ) → ⟦<Sfixed32 as SingularCodec>⟧.text v ≡ fixed32 (cast_unsigned w32 v) }
-    ensures sfixed64 { (v : ℤ) → ⟦<Sfixed64 as SingularCodec>⟧.text v ≡ fixed64 (cast_unsigned w64 v) }
+    ensures int32 { (v : ℤ) → ⟦<Int32 as SingularCodec>⟧.datum v ≡ varint (cast_unsigned w64 v) }
+    ensures int64 { (v : ℤ) → ⟦<Int64 as SingularCodec>⟧.datum v ≡ varint (cast_unsigned w64 v) }
+    ensures uint32 { (v : ℕ) → ⟦<Uint32 as SingularCodec>⟧.datum v ≡ varint v }
+    ensures uint64 { (v : ℕ) → ⟦<Uint64 as SingularCodec>⟧.datum v ≡ varint v }
+    ensures sint32 { (v : ℤ) → ⟦<Sint32 as SingularCodec>⟧.datum v ≡ varint (zigzag v) }
+    ensures sint64 { (v : ℤ) → ⟦<Sint64 as SingularCodec>⟧.datum v ≡ varint (zigzag v) }
+    ensures bool { (v : Bool) → ⟦<BoolScalar as SingularCodec>⟧.datum v ≡ varint (from_bool v) }
+    ensures fixed32 { (v : ℕ) → ⟦<Fixed32 as SingularCodec>⟧.datum v ≡ fixed32 v }
+    ensures fixed64 { (v : ℕ) → ⟦<Fixed64 as SingularCodec>⟧.datum v ≡ fixed64 v }
+    ensures sfixed32 { (v : ℤ) → ⟦<Sfixed32 as SingularCodec>⟧.datum v ≡ fixed32 (cast_unsigned w32 v) }
+    ensures sfixed64 { (v : ℤ) → ⟦<Sfixed64 as SingularCodec>⟧.datum v ≡ fixed64 (cast_unsigned w64 v) }
 {}
 
 /// A scalar is read back as it was, and each value of its type is one.
@@ -196,7 +196,7 @@ pub fn enum_records_are_read<E: Enumeration>()
         ≡ option_map (λ k. open_number E.of_number (int32_of k)) (varint_in d) }
     ensures packed { (bs : List ℕ) → ⟦<EnumCodec<E> as SingularCodec>⟧.packed bs
         ≡ map (λ k. open_number E.of_number (int32_of k)) (numbers_in Varint bs) }
-    ensures text { (v : Bool × ℤ) → ⟦<EnumCodec<E> as SingularCodec>⟧.text v ≡ varint (cast_unsigned w64 v.1) }
+    ensures text { (v : Bool × ℤ) → ⟦<EnumCodec<E> as SingularCodec>⟧.datum v ≡ varint (cast_unsigned w64 v.1) }
     ensures packed_encoding { (v : Bool × ℤ) → ⟦<EnumCodec<E> as PackableCodec>⟧.packed_encoding v ≡ int32_encoding v.1 }
     ensures back { (v : Bool × ℤ) → ⟦<EnumCodec<E> as SingularCodec>⟧.back v ≡ open_number E.of_number v.1 }
     ensures fits { (v : Bool × ℤ) → ⟦<EnumCodec<E> as SingularCodec>⟧.fits v ↔ FitsSigned w32 v.1 }
@@ -295,14 +295,14 @@ pub fn texts_are_read()
 pub fn lists_are_read<C: SingularCodec, P: PackableCodec>()
     ensures reads { (ds : List Datum) (vs : List C.Value.Meaning) → ⟦<Repeated<C> as ExtensionCodec>⟧.reads ds vs
         ↔ ReadsList (C.one 100) (C.leaves 100) C.packed ds vs }
-    ensures records { (vs : List C.Value.Meaning) → ⟦<Repeated<C> as ExtensionCodec>⟧.recs vs ≡ map C.text vs }
+    ensures records { (vs : List C.Value.Meaning) → ⟦<Repeated<C> as ExtensionCodec>⟧.recs vs ≡ map C.datum vs }
     ensures packed { (vs : List P.Value.Meaning) → ⟦<PackedRepeated<P> as ExtensionCodec>⟧.recs vs
         ≡ packed_record P.packed_encoding vs }
     ensures refusal { (vs : List C.Value.Meaning) → ⟦<Repeated<C> as ExtensionCodec>⟧.refusal vs
         ≡ first_refusal C.refusal vs }
     ensures written { (vs : List P.Value.Meaning) → ⟦<PackedRepeated<P> as ExtensionCodec>⟧.refusal vs ≡ None }
     ensures normal { (vs : List C.Value.Meaning) → ⟦<Repeated<C> as ExtensionCodec>⟧.normal vs
-        ↔ (Each C.normal vs × CoversAll C.cost full (map C.text vs)) }
+        ↔ (Each C.normal vs × CoversAll C.cost full (map C.datum vs)) }
     ensures always { (vs : List P.Value.Meaning) → ⟦<PackedRepeated<P> as ExtensionCodec>⟧.normal vs }
     ensures holds { (vs os : List C.Value.Meaning) → ⟦<Repeated<C> as ExtensionCodec>⟧.holds vs os
         ↔ (os ≡ map C.back vs) }

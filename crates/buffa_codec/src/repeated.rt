@@ -39,13 +39,13 @@ impl<C: SingularCodec> ExtensionCodec for Repeated<C> {
 
     ghost reads = { ReadsList (C.one 100) (C.leaves 100) C.packed };
 
-    ghost recs = { map C.text };
+    ghost recs = { map C.datum };
 
     ghost refusal = { first_refusal C.refusal };
 
     ghost fits = { Each C.fits };
 
-    ghost normal = { λ vs. Each C.normal vs × CoversAll C.cost full (map C.text vs) };
+    ghost normal = { λ vs. Each C.normal vs × CoversAll C.cost full (map C.datum vs) };
 
     ghost holds = { λ v o. o ≡ map C.back v };
 
@@ -86,7 +86,7 @@ impl<C: SingularCodec> ExtensionCodec for Repeated<C> {
     }
 
     ghost reads_back = { λ v o f n h.
-        list_back C.fits C.normal C.cost (C.one 100) (C.leaves 100) C.packed C.text C.back C.SingularCodec.reads_text
+        list_back C.fits C.normal C.cost (C.one 100) (C.leaves 100) C.packed C.datum C.back C.SingularCodec.reads_datum
         C.SingularCodec.spends_cost full v o h.0 f n.0 n.1 h.1 };
 }
 

@@ -38,7 +38,7 @@ impl SingularCodec for StringCodec {
 
     ghost packed = { λ bs. [] };
 
-    ghost text = { bytes };
+    ghost datum = { bytes };
 
     ghost refusal = { λ v. None };
 
@@ -89,7 +89,7 @@ impl SingularCodec for StringCodec {
         Ok(UnknownFieldData::LengthDelimited(held))
     }
 
-    ghost reads_text = { λ v b f n h. string_back v f };
+    ghost reads_datum = { λ v b f n h. string_back v f };
 
     ghost spends_cost = { λ b left d v e h. pays_nothing b left h };
 
@@ -122,7 +122,7 @@ impl SingularCodec for BytesCodec {
 
     ghost packed = { λ bs. [] };
 
-    ghost text = { bytes };
+    ghost datum = { bytes };
 
     ghost refusal = { λ v. None };
 
@@ -172,7 +172,7 @@ impl SingularCodec for BytesCodec {
         Ok(UnknownFieldData::LengthDelimited(held))
     }
 
-    ghost reads_text = { λ v b f n h. refl };
+    ghost reads_datum = { λ v b f n h. refl };
 
     ghost spends_cost = { λ b left d v e h. pays_nothing b left h };
 

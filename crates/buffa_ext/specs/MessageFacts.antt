@@ -275,14 +275,14 @@ group_back rs f h = group_by rs (list_at 100 1000000 (records_encoding rs)) refl
 
 -- what a message's record is read as
 pub message_back : {X : Type 0} (merged : ℕ → X → List ℕ → Option X) (cost : ℕ → List ℕ → BudgetLeft) (held : Datum → Option (List ℕ)) (holder : List ℕ → Datum) (refusal : List ℕ → Option EncodeError)
-    (blank : X) (text : X → List ℕ) (records : X → List (ℕ × Datum)) (levels : X → ℕ) (normal : X → Type 0)
-    → ((v : X) → text v ≡ records_encoding (records v))
-    → ((d : ℕ) (v : X) → Fits (records_of (records v)) → normal v → levels v ≤ d → merged d blank (text v) ≡ Some v)
+    (blank : X) (encoding : X → List ℕ) (records : X → List (ℕ × Datum)) (levels : X → ℕ) (normal : X → Type 0)
+    → ((v : X) → encoding v ≡ records_encoding (records v))
+    → ((d : ℕ) (v : X) → Fits (records_of (records v)) → normal v → levels v ≤ d → merged d blank (encoding v) ≡ Some v)
     → ((rs : List (ℕ × Datum)) → Fits (records_of rs) → refusal (records_encoding rs) ≡ None → held (holder (records_encoding rs)) ≡ Some (records_encoding rs))
-    → (v : X) (b : BudgetLeft) → encoding_refusal refusal (text v) ≡ None → normal v × (levels v ≤ 100) × Fits (records_of (records v))
-    → Covers b (cost_all (cost 100) (encodings_in held (holder (text v) ∷ []))) → message_of (merged 100) (cost 100) blank b (encodings_in held (holder (text v) ∷ [])) ≡ Some v
-message_back merged cost held holder refusal blank text records levels normal is_text back kept v b f n k =
+    → (v : X) (b : BudgetLeft) → encoding_refusal refusal (encoding v) ≡ None → normal v × (levels v ≤ 100) × Fits (records_of (records v))
+    → Covers b (cost_all (cost 100) (encodings_in held (holder (encoding v) ∷ []))) → message_of (merged 100) (cost 100) blank b (encodings_in held (holder (encoding v) ∷ [])) ≡ Some v
+message_back merged cost held holder refusal blank encoding records levels normal is_text back kept v b f n k =
     let same = is_text v in
-    one_back (merged 100) (cost 100) held blank v b (holder (text v)) (text v)
-    (subst (λ t. held (holder t) ≡ Some t) (sym same) (kept (records v) n.2 (subst (λ t. refusal t ≡ None) same (held_too refusal (text v) f))))
+    one_back (merged 100) (cost 100) held blank v b (holder (encoding v)) (encoding v)
+    (subst (λ t. held (holder t) ≡ Some t) (sym same) (kept (records v) n.2 (subst (λ t. refusal t ≡ None) same (held_too refusal (encoding v) f))))
     (back 100 v n.2 n.0 n.1) k

@@ -131,22 +131,22 @@ or_none (Err e) = []
 
 -- the group of a message's text, and why there is none
 abbrev pub group_of : List ℕ → Datum
-group_of text = group (records_of (or_none (list_at 100 1000000 text)))
+group_of encoding = group (records_of (or_none (list_at 100 1000000 encoding)))
 
 -- the texts in the group of a message's text: that one
 abbrev pub group_encodings : List ℕ → List (List ℕ)
-group_encodings text = encodings_in group_held (group_of text ∷ [])
+group_encodings encoding = encodings_in group_held (group_of encoding ∷ [])
 
 abbrev pub why_refused : Result (List (ℕ × Datum)) DecodeError → Option EncodeError
 why_refused (Ok rs) = None
 why_refused (Err e) = Some (GroupRefused e)
 
 abbrev pub group_refusal : List ℕ → Option EncodeError
-group_refusal text = why_refused (list_at 100 1000000 text)
+group_refusal encoding = why_refused (list_at 100 1000000 encoding)
 
 -- why a text isn't written: it is too long, or else it can't be held
 abbrev pub encoding_refusal : (List ℕ → Option EncodeError) → List ℕ → Option EncodeError
-encoding_refusal refusal text = if nat_lt (length text) (2 ^ 31) then refusal text else Some MessageTooLarge
+encoding_refusal refusal encoding = if nat_lt (length encoding) (2 ^ 31) then refusal encoding else Some MessageTooLarge
 
 -- a message is read back: its type says so, it isn't too deep, its numbers can be written, and the texts in its record
 -- cost no more than a pair of default budgets

@@ -8,7 +8,7 @@ use Rattle.buffa_wire.specs.Records.{Datum}
 
 -- at any depth and of any budget a record is read as it holds, and a value is written as what holds it
 abbrev pub IsOf : {M : Type 0} → (ℕ → BudgetLeft → Datum → Option M) → (M → Datum) → (Datum → Option M) → (M → Datum) → Type 0
-IsOf {M = M} one text held holder = ((n : ℕ) (b : BudgetLeft) (d : Datum) → one n b d ≡ held d) × ((v : M) → text v ≡ holder v)
+IsOf {M = M} one encoding held holder = ((n : ℕ) (b : BudgetLeft) (d : Datum) → one n b d ≡ held d) × ((v : M) → encoding v ≡ holder v)
 
 -- the number of an int32 in a record, as the declared value that has it, if one has
 abbrev pub enum_in : {E : Type 0} → (ℤ → Option E) → Datum → Option (Bool × ℤ)

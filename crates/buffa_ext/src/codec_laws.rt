@@ -20,49 +20,49 @@ use buffa_wire::{Enumeration, Message};
 
 /// Each name of a number is the codec that reads and writes it so.
 pub fn number_names_are_these()
-    ensures bool { IsOf ⟦<Bool as SingularCodec>⟧.one ⟦<Bool as SingularCodec>⟧.text
+    ensures bool { IsOf ⟦<Bool as SingularCodec>⟧.one ⟦<Bool as SingularCodec>⟧.datum
         (λ d. option_map bool_of (varint_in d)) (λ v. varint (from_bool v)) }
-    ensures int32 { IsOf ⟦<Int32 as SingularCodec>⟧.one ⟦<Int32 as SingularCodec>⟧.text
+    ensures int32 { IsOf ⟦<Int32 as SingularCodec>⟧.one ⟦<Int32 as SingularCodec>⟧.datum
         (λ d. option_map int32_of (varint_in d)) (λ v. varint (cast_unsigned w64 v)) }
-    ensures enum_i32 { IsOf ⟦<EnumI32 as SingularCodec>⟧.one ⟦<EnumI32 as SingularCodec>⟧.text
+    ensures enum_i32 { IsOf ⟦<EnumI32 as SingularCodec>⟧.one ⟦<EnumI32 as SingularCodec>⟧.datum
         (λ d. option_map int32_of (varint_in d)) (λ v. varint (cast_unsigned w64 v)) }
-    ensures int64 { IsOf ⟦<Int64 as SingularCodec>⟧.one ⟦<Int64 as SingularCodec>⟧.text
+    ensures int64 { IsOf ⟦<Int64 as SingularCodec>⟧.one ⟦<Int64 as SingularCodec>⟧.datum
         (λ d. option_map int64_of (varint_in d)) (λ v. varint (cast_unsigned w64 v)) }
-    ensures uint32 { IsOf ⟦<Uint32 as SingularCodec>⟧.one ⟦<Uint32 as SingularCodec>⟧.text
+    ensures uint32 { IsOf ⟦<Uint32 as SingularCodec>⟧.one ⟦<Uint32 as SingularCodec>⟧.datum
         (λ d. option_map uint32_of (varint_in d)) varint }
-    ensures uint64 { IsOf ⟦<Uint64 as SingularCodec>⟧.one ⟦<Uint64 as SingularCodec>⟧.text
+    ensures uint64 { IsOf ⟦<Uint64 as SingularCodec>⟧.one ⟦<Uint64 as SingularCodec>⟧.datum
         (λ d. option_map uint64_of (varint_in d)) varint }
-    ensures sint32 { IsOf ⟦<Sint32 as SingularCodec>⟧.one ⟦<Sint32 as SingularCodec>⟧.text
+    ensures sint32 { IsOf ⟦<Sint32 as SingularCodec>⟧.one ⟦<Sint32 as SingularCodec>⟧.datum
         (λ d. option_map sint32_of (varint_in d)) (λ v. varint (zigzag v)) }
-    ensures sint64 { IsOf ⟦<Sint64 as SingularCodec>⟧.one ⟦<Sint64 as SingularCodec>⟧.text
+    ensures sint64 { IsOf ⟦<Sint64 as SingularCodec>⟧.one ⟦<Sint64 as SingularCodec>⟧.datum
         (λ d. option_map sint64_of (varint_in d)) (λ v. varint (zigzag v)) }
-    ensures fixed32 { IsOf ⟦<Fixed32 as SingularCodec>⟧.one ⟦<Fixed32 as SingularCodec>⟧.text
+    ensures fixed32 { IsOf ⟦<Fixed32 as SingularCodec>⟧.one ⟦<Fixed32 as SingularCodec>⟧.datum
         (λ d. option_map fixed32_of (fixed32_in d)) fixed32 }
-    ensures fixed64 { IsOf ⟦<Fixed64 as SingularCodec>⟧.one ⟦<Fixed64 as SingularCodec>⟧.text
+    ensures fixed64 { IsOf ⟦<Fixed64 as SingularCodec>⟧.one ⟦<Fixed64 as SingularCodec>⟧.datum
         (λ d. option_map fixed64_of (fixed64_in d)) fixed64 }
-    ensures sfixed32 { IsOf ⟦<Sfixed32 as SingularCodec>⟧.one ⟦<Sfixed32 as SingularCodec>⟧.text
+    ensures sfixed32 { IsOf ⟦<Sfixed32 as SingularCodec>⟧.one ⟦<Sfixed32 as SingularCodec>⟧.datum
         (λ d. option_map sfixed32_of (fixed32_in d)) (λ v. fixed32 (cast_unsigned w32 v)) }
-    ensures sfixed64 { IsOf ⟦<Sfixed64 as SingularCodec>⟧.one ⟦<Sfixed64 as SingularCodec>⟧.text
+    ensures sfixed64 { IsOf ⟦<Sfixed64 as SingularCodec>⟧.one ⟦<Sfixed64 as SingularCodec>⟧.datum
         (λ d. option_map sfixed64_of (fixed64_in d)) (λ v. fixed64 (cast_unsigned w64 v)) }
 {}
 
 /// The names of codecs of texts, enums, lists and messages are those that read and write them so.
 pub fn other_names_are_these<E: Enumeration, C: SingularCodec, P: PackableCodec, M: Message>()
-    ensures string { IsOf ⟦<StringCodec as SingularCodec>⟧.one ⟦<StringCodec as SingularCodec>⟧.text string_held bytes }
-    ensures bytes { IsOf ⟦<BytesCodec as SingularCodec>⟧.one ⟦<BytesCodec as SingularCodec>⟧.text bytes_held bytes }
-    ensures enums { IsOf ⟦<EnumCodec<E> as SingularCodec>⟧.one ⟦<EnumCodec<E> as SingularCodec>⟧.text
+    ensures string { IsOf ⟦<StringCodec as SingularCodec>⟧.one ⟦<StringCodec as SingularCodec>⟧.datum string_held bytes }
+    ensures bytes { IsOf ⟦<BytesCodec as SingularCodec>⟧.one ⟦<BytesCodec as SingularCodec>⟧.datum bytes_held bytes }
+    ensures enums { IsOf ⟦<EnumCodec<E> as SingularCodec>⟧.one ⟦<EnumCodec<E> as SingularCodec>⟧.datum
         (enum_in E.of_number) (λ v. varint (cast_unsigned w64 v.1)) }
     ensures lists { (ds : List Datum) (vs : List C.Value.Meaning) → ⟦<Repeated<C> as ExtensionCodec>⟧.reads ds vs
         ↔ ReadsList (C.one 100) (C.leaves 100) C.packed ds vs }
-    ensures list_records { (vs : List C.Value.Meaning) → ⟦<Repeated<C> as ExtensionCodec>⟧.recs vs ≡ map C.text vs }
+    ensures list_records { (vs : List C.Value.Meaning) → ⟦<Repeated<C> as ExtensionCodec>⟧.recs vs ≡ map C.datum vs }
     ensures packed { (ds : List Datum) (vs : List P.Value.Meaning) → ⟦<PackedRepeated<P> as ExtensionCodec>⟧.reads ds vs
         ↔ ReadsList (P.one 100) (P.leaves 100) P.packed ds vs }
     ensures packed_records { (vs : List P.Value.Meaning) → ⟦<PackedRepeated<P> as ExtensionCodec>⟧.recs vs
         ≡ packed_record P.packed_encoding vs }
     ensures messages { ReadsMessages ⟦<MessageCodec<M> as ExtensionCodec>⟧.reads (M.merged 100) (M.cost 100) M.blank_is
         bytes_held }
-    ensures message_records { (v : M.Meaning) → ⟦<MessageCodec<M> as ExtensionCodec>⟧.recs v ≡ bytes (M.text v) ∷ [] }
+    ensures message_records { (v : M.Meaning) → ⟦<MessageCodec<M> as ExtensionCodec>⟧.recs v ≡ bytes (M.encoding v) ∷ [] }
     ensures groups { ReadsMessages ⟦<GroupCodec<M> as ExtensionCodec>⟧.reads (M.merged 100) (M.cost 100) M.blank_is
         group_held }
-    ensures group_records { (v : M.Meaning) → ⟦<GroupCodec<M> as ExtensionCodec>⟧.recs v ≡ group_of (M.text v) ∷ [] }
+    ensures group_records { (v : M.Meaning) → ⟦<GroupCodec<M> as ExtensionCodec>⟧.recs v ≡ group_of (M.encoding v) ∷ [] }
 {}

@@ -100,12 +100,12 @@ pub fn messages_are_read<M: Message>()
         M.blank_is bytes_held }
     ensures groups { ReadsMessages ⟦<GroupCodec<M> as ExtensionCodec>⟧.reads (M.merged 100) (M.cost 100)
         M.blank_is group_held }
-    ensures bytes { (v : M.Meaning) → ⟦<MessageCodec<M> as ExtensionCodec>⟧.recs v ≡ held_bytes (M.text v) ∷ [] }
-    ensures group { (v : M.Meaning) → ⟦<GroupCodec<M> as ExtensionCodec>⟧.recs v ≡ group_of (M.text v) ∷ [] }
+    ensures bytes { (v : M.Meaning) → ⟦<MessageCodec<M> as ExtensionCodec>⟧.recs v ≡ held_bytes (M.encoding v) ∷ [] }
+    ensures group { (v : M.Meaning) → ⟦<GroupCodec<M> as ExtensionCodec>⟧.recs v ≡ group_of (M.encoding v) ∷ [] }
     ensures normal { (v : M.Meaning) → ⟦<MessageCodec<M> as ExtensionCodec>⟧.normal v
-        ↔ IsReadBack (M.normal v) (M.levels v) (M.records v) (M.cost 100) (M.text v ∷ []) }
+        ↔ IsReadBack (M.normal v) (M.levels v) (M.records v) (M.cost 100) (M.encoding v ∷ []) }
     ensures group_normal { (v : M.Meaning) → ⟦<GroupCodec<M> as ExtensionCodec>⟧.normal v
-        ↔ IsReadBack (M.normal v) (M.levels v) (M.records v) (M.cost 100) (group_encodings (M.text v)) }
+        ↔ IsReadBack (M.normal v) (M.levels v) (M.records v) (M.cost 100) (group_encodings (M.encoding v)) }
     ensures holds { (v : M.Meaning) (o : Option M.Meaning) → ⟦<MessageCodec<M> as ExtensionCodec>⟧.holds v o
         ↔ (o ≡ Some v) }
     ensures group_holds { (v : M.Meaning) (o : Option M.Meaning) → ⟦<GroupCodec<M> as ExtensionCodec>⟧.holds v o
@@ -114,17 +114,17 @@ pub fn messages_are_read<M: Message>()
         ↔ ReachesRecord (M.merged 100) (M.cost 100) M.blank_is bytes_held (BeginsFieldIn bytes_held) ds }
     ensures group_takes { (ds : List Datum) → ⟦<GroupCodec<M> as ExtensionCodec>⟧.takes ds
         ↔ ReachesRecord (M.merged 100) (M.cost 100) M.blank_is group_held (λ d. HasByte (group_held d)) ds }
-    ensures too_large { (v : M.Meaning) → 2 ^ 31 ≤ length (M.text v) → ⟦<MessageCodec<M> as ExtensionCodec>⟧.refusal v
+    ensures too_large { (v : M.Meaning) → 2 ^ 31 ≤ length (M.encoding v) → ⟦<MessageCodec<M> as ExtensionCodec>⟧.refusal v
         ≡ Some MessageTooLarge }
-    ensures group_too_large { (v : M.Meaning) → 2 ^ 31 ≤ length (M.text v) →
+    ensures group_too_large { (v : M.Meaning) → 2 ^ 31 ≤ length (M.encoding v) →
         ⟦<GroupCodec<M> as ExtensionCodec>⟧.refusal v ≡ Some MessageTooLarge }
     ensures fits { (v : M.Meaning) → ⟦<MessageCodec<M> as ExtensionCodec>⟧.fits v
-        ↔ (encoding_refusal (λ t. None) (M.text v) ≡ None) }
+        ↔ (encoding_refusal (λ t. None) (M.encoding v) ≡ None) }
     ensures group_fits { (v : M.Meaning) → ⟦<GroupCodec<M> as ExtensionCodec>⟧.fits v
-        ↔ (encoding_refusal group_refusal (M.text v) ≡ None) }
-    ensures written { (v : M.Meaning) → length (M.text v) < 2 ^ 31 →
+        ↔ (encoding_refusal group_refusal (M.encoding v) ≡ None) }
+    ensures written { (v : M.Meaning) → length (M.encoding v) < 2 ^ 31 →
         (⟦<MessageCodec<M> as ExtensionCodec>⟧.refusal v ≡ None)
-        × (⟦<GroupCodec<M> as ExtensionCodec>⟧.refusal v ≡ group_refusal (M.text v)) }
+        × (⟦<GroupCodec<M> as ExtensionCodec>⟧.refusal v ≡ group_refusal (M.encoding v)) }
 {}
 
 /// One record of bytes is read and written as a message, at any depth and of any budget, and so is an element
@@ -138,11 +138,11 @@ pub fn message_records_are_read<M: Message>()
         ≡ cost_all (M.cost 100) (encodings_in bytes_held (d ∷ [])) }
     ensures most { (n : ℕ) (d : Datum) → ⟦<MessageCodec<M> as SingularCodec>⟧.most n d
         ≡ cost_all (M.cost n) (encodings_in bytes_held (d ∷ [])) }
-    ensures text { (v : M.Meaning) → ⟦<MessageCodec<M> as SingularCodec>⟧.text v ≡ held_bytes (M.text v) }
+    ensures text { (v : M.Meaning) → ⟦<MessageCodec<M> as SingularCodec>⟧.datum v ≡ held_bytes (M.encoding v) }
     ensures refusal { (v : M.Meaning) → ⟦<MessageCodec<M> as SingularCodec>⟧.refusal v
-        ≡ encoding_refusal (λ t. None) (M.text v) }
+        ≡ encoding_refusal (λ t. None) (M.encoding v) }
     ensures fits { (v : M.Meaning) → ⟦<MessageCodec<M> as SingularCodec>⟧.fits v
-        ↔ (encoding_refusal (λ t. None) (M.text v) ≡ None) }
+        ↔ (encoding_refusal (λ t. None) (M.encoding v) ≡ None) }
     ensures normal { (v : M.Meaning) → ⟦<MessageCodec<M> as SingularCodec>⟧.normal v
         ↔ (M.normal v × (M.levels v ≤ 100) × Fits (records_of (M.records v))) }
     ensures back { (v : M.Meaning) → ⟦<MessageCodec<M> as SingularCodec>⟧.back v ≡ v }
@@ -160,11 +160,11 @@ pub fn group_records_are_read<M: Message>()
         ≡ cost_all (M.cost 100) (encodings_in group_held (d ∷ [])) }
     ensures most { (n : ℕ) (d : Datum) → ⟦<GroupCodec<M> as SingularCodec>⟧.most n d
         ≡ cost_all (M.cost n) (encodings_in group_held (d ∷ [])) }
-    ensures text { (v : M.Meaning) → ⟦<GroupCodec<M> as SingularCodec>⟧.text v ≡ group_of (M.text v) }
+    ensures text { (v : M.Meaning) → ⟦<GroupCodec<M> as SingularCodec>⟧.datum v ≡ group_of (M.encoding v) }
     ensures refusal { (v : M.Meaning) → ⟦<GroupCodec<M> as SingularCodec>⟧.refusal v
-        ≡ encoding_refusal group_refusal (M.text v) }
+        ≡ encoding_refusal group_refusal (M.encoding v) }
     ensures fits { (v : M.Meaning) → ⟦<GroupCodec<M> as SingularCodec>⟧.fits v
-        ↔ (encoding_refusal group_refusal (M.text v) ≡ None) }
+        ↔ (encoding_refusal group_refusal (M.encoding v) ≡ None) }
     ensures normal { (v : M.Meaning) → ⟦<GroupCodec<M> as SingularCodec>⟧.normal v
         ↔ (M.normal v × (M.levels v ≤ 100) × Fits (records_of (M.records v))) }
     ensures back { (v : M.Meaning) → ⟦<GroupCodec<M> as SingularCodec>⟧.back v ≡ v }
@@ -182,7 +182,7 @@ pub fn messages_mean_these<K: MessageRecord, M: Message>(value: &M, output: &Opt
 
 /// A record of bytes holds its bytes, and a group the text of its records; which of them take memory to be
 /// merged, at any depth; and which texts have no group.
-pub fn held_texts_are_these()
+pub fn held_encodings_are_these()
     ensures held { (d : Datum) → (⟦<Delimited as MessageRecord>⟧.held d ≡ bytes_held d)
         × (⟦<Grouped as MessageRecord>⟧.held d ≡ group_held d) }
     ensures holder { (t : List ℕ) → (⟦<Delimited as MessageRecord>⟧.holder t ≡ held_bytes t)

@@ -70,11 +70,11 @@ impl<K: MessageRecord, M: Message> SingularCodec for MessageIn<K, M> {
 
     ghost packed = { λ bs. [] };
 
-    ghost text = { λ v. K.holder (M.text v) };
+    ghost datum = { λ v. K.holder (M.encoding v) };
 
-    ghost refusal = { λ v. encoding_refusal K.refusal (M.text v) };
+    ghost refusal = { λ v. encoding_refusal K.refusal (M.encoding v) };
 
-    ghost fits = { λ v. encoding_refusal K.refusal (M.text v) ≡ None };
+    ghost fits = { λ v. encoding_refusal K.refusal (M.encoding v) ≡ None };
 
     ghost normal = { λ v. M.normal v × (M.levels v ≤ 100) × Fits (records_of (M.records v)) };
 
@@ -123,8 +123,8 @@ impl<K: MessageRecord, M: Message> SingularCodec for MessageIn<K, M> {
         K::hold(alloc, text)
     }
 
-    ghost reads_text = { λ v b f n h.
-        message_back M.merged M.cost K.held K.holder K.refusal M.blank_is M.text M.records M.levels M.normal
+    ghost reads_datum = { λ v b f n h.
+        message_back M.merged M.cost K.held K.holder K.refusal M.blank_is M.encoding M.records M.levels M.normal
         M.MessageSpec.encoding_records M.MessageSpec.merged_encoding K.MessageRecord.held_back v b f n h };
 
     ghost spends_cost = { λ b left d v e h. spent_cost (M.merged 100) (M.cost 100) M.blank_is v b left
@@ -184,14 +184,14 @@ impl<K: MessageRecord, M: Message> ExtensionCodec for MessageIn<K, M> {
 
     ghost reads = { λ ds o. o ≡ message_of (M.merged 100) (M.cost 100) M.blank_is full (encodings_in K.held ds) };
 
-    ghost recs = { λ v. K.holder (M.text v) ∷ [] };
+    ghost recs = { λ v. K.holder (M.encoding v) ∷ [] };
 
-    ghost refusal = { λ v. encoding_refusal K.refusal (M.text v) };
+    ghost refusal = { λ v. encoding_refusal K.refusal (M.encoding v) };
 
-    ghost fits = { λ v. encoding_refusal K.refusal (M.text v) ≡ None };
+    ghost fits = { λ v. encoding_refusal K.refusal (M.encoding v) ≡ None };
 
     ghost normal = { λ v. ⟦<MessageIn<K, M> as SingularCodec>⟧.normal v
-        × Covers full (⟦<MessageIn<K, M> as SingularCodec>⟧.cost (K.holder (M.text v))) };
+        × Covers full (⟦<MessageIn<K, M> as SingularCodec>⟧.cost (K.holder (M.encoding v))) };
 
     ghost holds = { λ v o. o ≡ Some v };
 
@@ -222,6 +222,6 @@ impl<K: MessageRecord, M: Message> ExtensionCodec for MessageIn<K, M> {
     }
 
     ghost reads_back = { λ v o f n h.
-        h ∙ message_back M.merged M.cost K.held K.holder K.refusal M.blank_is M.text M.records M.levels M.normal
+        h ∙ message_back M.merged M.cost K.held K.holder K.refusal M.blank_is M.encoding M.records M.levels M.normal
         M.MessageSpec.encoding_records M.MessageSpec.merged_encoding K.MessageRecord.held_back v full f n.0 n.1 };
 }

@@ -233,8 +233,8 @@ module _ {V : Type 0} (codec : Reading V) (plain : codec.nested ≡ false)
 module _ {V : Type 0} (reading : Reading V) (writing : Writing V) (datum : V → Datum) (n : ℕ) (is_number : IsNumber n) (d : ℕ) (plain : reading.nested ≡ false)
     (no_limit : (d : ℕ) (old : V) (c : Content) (x : DecodeError) → reading.reads d old c ≡ Err x → IsLimit x → ⊥)
     (WIRE : WireType) (wire : reading.wire ≡ WIRE) (written : writing.wire ≡ WIRE) (Fit Normal : V → Type 0)
-    (reads_back : (d : ℕ) (old v : V) → Fit v → Normal v → (c : Content) × HasContent writing.wire (writing.text v) c × (reading.reads d old c ≡ Ok (v, true)))
-    (datum_encoding : (n : ℕ) (v : V) → tag_encoding n writing.wire ++ writing.text v ≡ field_encoding n (datum v)) where
+    (reads_back : (d : ℕ) (old v : V) → Fit v → Normal v → (c : Content) × HasContent writing.wire (writing.encoding v) c × (reading.reads d old c ≡ Ok (v, true)))
+    (datum_encoding : (n : ℕ) (v : V) → tag_encoding n writing.wire ++ writing.encoding v ≡ field_encoding n (datum v)) where
   same : reading.wire ≡ writing.wire
   same = wire ∙ sym written
 
@@ -244,23 +244,23 @@ module _ {V : Type 0} (reading : Reading V) (writing : Writing V) (datum : V →
   tag_is : (w : WireType) → IsTag (tag_encoding n w) n w
   tag_is w = (is_number, IsVarint-varint_encoding (8 * n + wire_number w) (small_tag w))
 
-  at_front : (v : V) (rest : List ℕ) → Fit v → Normal v → value_at reading d reading.blank (writing.text v ++ rest) ≡ Ok ((v, true), rest)
+  at_front : (v : V) (rest : List ℕ) → Fit v → Normal v → value_at reading d reading.blank (writing.encoding v ++ rest) ≡ Ok ((v, true), rest)
   at_front v rest fit normal =
       let r = reads_back d reading.blank v fit normal in
-      value_complete reading d reading.blank (writing.text v) rest r.0 (v, true) (rw plain refl) (subst (λ z. HasContent z (writing.text v) r.0) (sym same) r.1) r.2
+      value_complete reading d reading.blank (writing.encoding v) rest r.0 (v, true) (rw plain refl) (subst (λ z. HasContent z (writing.encoding v) r.0) (sym same) r.1) r.2
 
-  alone : (v : V) → Fit v → Normal v → value_at reading d reading.blank (writing.text v) ≡ Ok ((v, true), [])
-  alone v fit normal = ap (value_at reading d reading.blank) (sym (append-nil (writing.text v))) ∙ at_front v [] fit normal
+  alone : (v : V) → Fit v → Normal v → value_at reading d reading.blank (writing.encoding v) ≡ Ok ((v, true), [])
+  alone v fit normal = ap (value_at reading d reading.blank) (sym (append-nil (writing.encoding v))) ∙ at_front v [] fit normal
 
   abbrev piece : V → Piece
-  piece v = record { tag = tag_encoding n writing.wire; number = n; wire = writing.wire; payload = writing.text v }
+  piece v = record { tag = tag_encoding n writing.wire; number = n; wire = writing.wire; payload = writing.encoding v }
 
   spelled_all : (vs : List V) → records_encoding (element_records datum n vs) ≡ joined (map piece vs)
   unfolding element_records
   spelled_all [] = refl
   spelled_all (v ∷ vs) = λ i. sym (datum_encoding n v) i ++ spelled_all vs i
 
-  takes_one : (acc : List V) (v : V) → Fit v → Normal v → elements_taken reading d acc n writing.wire (writing.text v) ≡ Some (acc ++ v ∷ [])
+  takes_one : (acc : List V) (v : V) → Fit v → Normal v → elements_taken reading d acc n writing.wire (writing.encoding v) ≡ Some (acc ++ v ∷ [])
   unfolding elements_taken
   takes_one acc v fit normal = rw (ap (same_wire reading.wire) (sym same) ∙ same_refl reading.wire, alone v fit normal) refl
 
@@ -270,7 +270,7 @@ module _ {V : Type 0} (reading : Reading V) (writing : Writing V) (datum : V →
       let r = reads_back d reading.blank v h.0.0 h.0.1 in (
         eq-eqb n n refl,
         tag_is writing.wire,
-        content_payload d n writing.wire (writing.text v) r.0 r.1,
+        content_payload d n writing.wire (writing.encoding v) r.0 r.1,
         acc ++ v ∷ [],
         takes_one acc v h.0.0 h.0.1,
         subst (λ z. Leads (elements_taken reading) (λ m. m == n) d (acc ++ v ∷ []) (map piece vs) z) (append_assoc acc (v ∷ []) vs) (leads_all (acc ++ v ∷ []) vs h.1),
@@ -280,29 +280,29 @@ module _ {V : Type 0} (reading : Reading V) (writing : Writing V) (datum : V →
   elements_back vs h = record { pieces = map piece vs; spelled = spelled_all vs; leads = leads_all [] vs h }
 
   -- ---- packed
-  unpacks : (acc vs : List V) → Each (λ v. Fit v × Normal v) vs → elements_in reading d acc (packed_encoding writing.text vs) ≡ Ok (acc ++ vs)
+  unpacks : (acc vs : List V) → Each (λ v. Fit v × Normal v) vs → elements_in reading d acc (packed_encoding writing.encoding vs) ≡ Ok (acc ++ vs)
   unpacks acc [] h = elements_end reading plain no_limit d acc ∙ ap (λ z. Ok z) (sym (append-nil acc))
   unpacks acc (v ∷ vs) h =
       let r = reads_back d reading.blank v h.0.0 h.0.1 in
-      let rest = packed_encoding writing.text vs in
-      let some : 0 < length (writing.text v ++ rest) = omega (arith, has_byte writing.wire (writing.text v) r.0 r.1, length-append (writing.text v) rest) in
-      elements_next reading plain no_limit d acc (acc ++ v ∷ []) (writing.text v ++ rest) rest some (rw (at_front v rest h.0.0 h.0.1) refl)
+      let rest = packed_encoding writing.encoding vs in
+      let some : 0 < length (writing.encoding v ++ rest) = omega (arith, has_byte writing.wire (writing.encoding v) r.0 r.1, length-append (writing.encoding v) rest) in
+      elements_next reading plain no_limit d acc (acc ++ v ∷ []) (writing.encoding v ++ rest) rest some (rw (at_front v rest h.0.0 h.0.1) refl)
       ∙ unpacks (acc ++ v ∷ []) vs h.1 ∙ ap (λ z. Ok z) (append_assoc acc (v ∷ []) vs)
 
-  takes_packed : same_wire reading.wire LengthDelimited ≡ false → (vs : List V) → Each (λ v. Fit v × Normal v) vs → length (packed_encoding writing.text vs) < 2 ^ 64 →
-      elements_taken reading d [] n LengthDelimited (delimited_encoding (packed_encoding writing.text vs)) ≡ Some vs
+  takes_packed : same_wire reading.wire LengthDelimited ≡ false → (vs : List V) → Each (λ v. Fit v × Normal v) vs → length (packed_encoding writing.encoding vs) < 2 ^ 64 →
+      elements_taken reading d [] n LengthDelimited (delimited_encoding (packed_encoding writing.encoding vs)) ≡ Some vs
   unfolding elements_taken
   takes_packed off vs h fits =
-      let b = packed_encoding writing.text vs in
+      let b = packed_encoding writing.encoding vs in
       let is : delimited_at (delimited_encoding b) ≡ Ok (b, []) = ap delimited_at (sym (append-nil (delimited_encoding b))) ∙ delimited_back b [] fits in
       rw (off, is, unpacks [] vs h) refl
 
-  pub packed_back : same_wire reading.wire LengthDelimited ≡ false → (vs : List V) → Fits (records_of (packed_records writing.text n vs)) → Each (λ v. Fit v × Normal v) vs →
-      ReadsBack (elements_taken reading) (λ m. m == n) d [] (records_encoding (packed_records writing.text n vs)) vs
+  pub packed_back : same_wire reading.wire LengthDelimited ≡ false → (vs : List V) → Fits (records_of (packed_records writing.encoding n vs)) → Each (λ v. Fit v × Normal v) vs →
+      ReadsBack (elements_taken reading) (λ m. m == n) d [] (records_encoding (packed_records writing.encoding n vs)) vs
   unfolding packed_records
   packed_back apart [] fits h = record { pieces = []; spelled = refl; leads = refl }
   packed_back apart (v ∷ vs) fits h =
-      let b = packed_encoding writing.text (v ∷ vs) in
+      let b = packed_encoding writing.encoding (v ∷ vs) in
       let one : Piece = record { tag = tag_encoding n LengthDelimited; number = n; wire = LengthDelimited; payload = delimited_encoding b } in
       record {
         pieces = one ∷ [];

@@ -124,8 +124,8 @@ refused_plain true codec d old bs left e h r = cc
 -- ---- a value's text reads back
 module _ {V : Type 0} (reading : Reading V) (writing : Writing V) (datum : V → Datum) (n : ℕ) (number : IsNumber n) (d : ℕ) (plain : reading.nested ≡ false)
     (WIRE : WireType) (wire : reading.wire ≡ WIRE) (written : writing.wire ≡ WIRE) (Fit Normal : V → Type 0)
-    (reads_back : (d : ℕ) (old v : V) → Fit v → Normal v → (c : Content) × HasContent writing.wire (writing.text v) c × (reading.reads d old c ≡ Ok (v, true)))
-    (datum_encoding : (n : ℕ) (v : V) → tag_encoding n writing.wire ++ writing.text v ≡ field_encoding n (datum v)) where
+    (reads_back : (d : ℕ) (old v : V) → Fit v → Normal v → (c : Content) × HasContent writing.wire (writing.encoding v) c × (reading.reads d old c ≡ Ok (v, true)))
+    (datum_encoding : (n : ℕ) (v : V) → tag_encoding n writing.wire ++ writing.encoding v ≡ field_encoding n (datum v)) where
   small_tag : (w : WireType) → 8 * n + wire_number w < 2 ^ 64
   small_tag w = omega (arith, number.0, number.1, wire_small w)
 
@@ -133,19 +133,19 @@ module _ {V : Type 0} (reading : Reading V) (writing : Writing V) (datum : V →
   same = wire ∙ sym written
 
   -- one field of the value, whatever stood
-  pub one_piece : (old v : V) → Fit v → Normal v → Payload d n writing.wire (writing.text v) × (value_taken reading d old n writing.wire (writing.text v) ≡ Some v)
+  pub one_piece : (old v : V) → Fit v → Normal v → Payload d n writing.wire (writing.encoding v) × (value_taken reading d old n writing.wire (writing.encoding v) ≡ Some v)
   one_piece old v fit normal =
       let r = reads_back d old v fit normal in
-      let h : HasContent reading.wire (writing.text v) r.0 = subst (λ z. HasContent z (writing.text v) r.0) (sym same) r.1 in
-      let is : value_at reading d old (writing.text v) ≡ Ok ((v, true), []) =
-      ap (value_at reading d old) (sym (append-nil (writing.text v))) ∙ value_complete reading d old (writing.text v) [] r.0 (v, true) (rw plain refl) h r.2 in
-      (content_payload d n writing.wire (writing.text v) r.0 r.1, rw (ap (same_wire reading.wire) (sym same) ∙ same_refl reading.wire, is) refl)
+      let h : HasContent reading.wire (writing.encoding v) r.0 = subst (λ z. HasContent z (writing.encoding v) r.0) (sym same) r.1 in
+      let is : value_at reading d old (writing.encoding v) ≡ Ok ((v, true), []) =
+      ap (value_at reading d old) (sym (append-nil (writing.encoding v))) ∙ value_complete reading d old (writing.encoding v) [] r.0 (v, true) (rw plain refl) h r.2 in
+      (content_payload d n writing.wire (writing.encoding v) r.0 r.1, rw (ap (same_wire reading.wire) (sym same) ∙ same_refl reading.wire, is) refl)
 
   abbrev piece : V → Piece
-  piece v = record { tag = tag_encoding n writing.wire; number = n; wire = writing.wire; payload = writing.text v }
+  piece v = record { tag = tag_encoding n writing.wire; number = n; wire = writing.wire; payload = writing.encoding v }
 
   spelled_one : (v : V) → records_encoding ((n, datum v) ∷ []) ≡ joined (piece v ∷ [])
-  spelled_one v = append-nil (field_encoding n (datum v)) ∙ sym (datum_encoding n v) ∙ sym (append-nil (tag_encoding n writing.wire ++ writing.text v))
+  spelled_one v = append-nil (field_encoding n (datum v)) ∙ sym (datum_encoding n v) ∙ sym (append-nil (tag_encoding n writing.wire ++ writing.encoding v))
 
   tag_is : IsTag (tag_encoding n writing.wire) n writing.wire
   tag_is = (number, IsVarint-varint_encoding (8 * n + wire_number writing.wire) (small_tag writing.wire))

@@ -34,7 +34,7 @@ ValueTakesMemory codec d n w bs = (w ≡ codec.wire) × TakesMemory codec d bs �
 
 -- the field of a value
 abbrev pub value_encoding : {V : Type 0} → Writing V → ℕ → V → List ℕ
-value_encoding codec n v = tag_encoding n codec.wire ++ codec.text v
+value_encoding codec n v = tag_encoding n codec.wire ++ codec.encoding v
 
 -- that of a value which may be absent
 abbrev pub some_text : {V : Type 0} → Writing V → ℕ → Option V → List ℕ

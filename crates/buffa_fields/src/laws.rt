@@ -107,7 +107,7 @@ pub fn packed_lists_are_these<C: Packable>()
     ensures asks { (d n : ℕ) (w : _) (bs : List ℕ) → ⟦<Packed<C> as Member>⟧.slot.asks d n w bs
         ↔ (ElementsTakeMemory C.reading d n w bs) }
     ensures need { ⟦<Packed<C> as Member>⟧.slot.need ≡ free }
-    ensures records { (n : ℕ) (v : _) → ⟦<Packed<C> as Member>⟧.slot.records n v ≡ packed_records C.writing.text n v }
+    ensures records { (n : ℕ) (v : _) → ⟦<Packed<C> as Member>⟧.slot.records n v ≡ packed_records C.writing.encoding n v }
     ensures slots { (v : _) → ⟦<Packed<C> as Member>⟧.slot.slots v ≡ [] }
     ensures levels { (v : _) → ⟦<Packed<C> as Member>⟧.slot.levels v ≡ 0 }
     ensures normal { (v : _) → ⟦<Packed<C> as Member>⟧.slot.normal v ↔ (Each (λ x. C.fits x × C.normal x) v) }
@@ -123,8 +123,8 @@ pub fn nested_members_are_these<N: Message>()
     ensures asks { (d n : ℕ) (w : _) (bs : List ℕ) → ⟦<Nested<N> as Member>⟧.slot.asks d n w bs
         ↔ (MessageTakesMemory d n w bs) }
     ensures need { ⟦<Nested<N> as Member>⟧.slot.need ≡ message_cost N.cost }
-    ensures records { (n : ℕ) (v : _) → ⟦<Nested<N> as Member>⟧.slot.records n v ≡ message_records N.text n v }
-    ensures slots { (v : _) → ⟦<Nested<N> as Member>⟧.slot.slots v ≡ message_slots N.text N.slots v }
+    ensures records { (n : ℕ) (v : _) → ⟦<Nested<N> as Member>⟧.slot.records n v ≡ message_records N.encoding n v }
+    ensures slots { (v : _) → ⟦<Nested<N> as Member>⟧.slot.slots v ≡ message_slots N.encoding N.slots v }
     ensures levels { (v : _) → ⟦<Nested<N> as Member>⟧.slot.levels v ≡ message_levels N.levels v }
     ensures normal { (v : _) → ⟦<Nested<N> as Member>⟧.slot.normal v
         ↔ (IfThere (FitsInside N.normal N.records) v) }
@@ -141,8 +141,8 @@ pub fn lists_of_messages_are_these<N: Message>()
         ↔ (MessagesTakeMemory d n w bs) }
     ensures need { ⟦<RepeatedNested<N> as Member>⟧.slot.need ≡ messages_cost N.COST N.cost }
     ensures records { (n : ℕ) (v : _) → ⟦<RepeatedNested<N> as Member>⟧.slot.records n v
-        ≡ messages_records N.text n v }
-    ensures slots { (v : _) → ⟦<RepeatedNested<N> as Member>⟧.slot.slots v ≡ messages_slots N.text N.slots v }
+        ≡ messages_records N.encoding n v }
+    ensures slots { (v : _) → ⟦<RepeatedNested<N> as Member>⟧.slot.slots v ≡ messages_slots N.encoding N.slots v }
     ensures levels { (v : _) → ⟦<RepeatedNested<N> as Member>⟧.slot.levels v ≡ messages_levels N.levels v }
     ensures normal { (v : _) → ⟦<RepeatedNested<N> as Member>⟧.slot.normal v
         ↔ (Each (FitsInside N.normal N.records) v) }
@@ -186,8 +186,8 @@ where
     ensures need { ⟦<MapOfNested<KC, N> as Member>⟧.slot.need
         ≡ entry_cost KC.reading (message_reading N.blank_is N.merged N.cost) (KC.COST + N.COST) }
     ensures records { (n : ℕ) (v : _) → ⟦<MapOfNested<KC, N> as Member>⟧.slot.records n v
-        ≡ pair_records KC.writing N.text n v }
-    ensures slots { (v : _) → ⟦<MapOfNested<KC, N> as Member>⟧.slot.slots v ≡ pair_slots N.text N.slots v }
+        ≡ pair_records KC.writing N.encoding n v }
+    ensures slots { (v : _) → ⟦<MapOfNested<KC, N> as Member>⟧.slot.slots v ≡ pair_slots N.encoding N.slots v }
     ensures levels { (v : _) → ⟦<MapOfNested<KC, N> as Member>⟧.slot.levels v ≡ pair_levels N.levels v }
     ensures parts { (v : _) → ⟦<MapOfNested<KC, N> as Member>⟧.slot.normal v →
         AllHold (λ k. KC.fits k × KC.normal k) (FitsInside N.normal N.records) v }

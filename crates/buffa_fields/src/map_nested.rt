@@ -43,9 +43,9 @@ where
     KC::Value: MapKey + Hash,
     requires { IsNumber number }
     ensures sized { let l = means KC.Value.meaning N.meaning map.now.entries in
-        IsSized (records_encoding (pair_records KC.writing N.text number l)) (pair_slots N.text N.slots l) cache.old result
+        IsSized (records_encoding (pair_records KC.writing N.encoding number l)) (pair_slots N.encoding N.slots l) cache.old result
         cache.new }
-    ensures always { pair_slots N.text N.slots (means KC.Value.meaning N.meaning map.now.entries) ≡ [] → IsOk result }
+    ensures always { pair_slots N.encoding N.slots (means KC.Value.meaning N.meaning map.now.entries) ≡ [] → IsOk result }
 {
     let tag = varint_len(u64::from(number) * 8 + 2) as u64;
     match message_field_len::<KC, N, Map<KC::Value, N>>(map, tag, cache) {
@@ -65,8 +65,8 @@ fn write_pairs<KC: MapCodec, N: Message, S: EncodeSink>(
 where
     KC::Value: MapKey + Hash,
     requires number { IsNumber number }
-    requires next { IsNext (pair_slots N.text N.slots (means KC.Value.meaning N.meaning map.now.entries)) cache.old }
-    ensures { WritesPairs cache.old (S.written sink.old) result cache.new (S.written sink.new) N.text N.slots number
+    requires next { IsNext (pair_slots N.encoding N.slots (means KC.Value.meaning N.meaning map.now.entries)) cache.old }
+    ensures { WritesPairs cache.old (S.written sink.old) result cache.new (S.written sink.new) N.encoding N.slots number
         KC.writing (means KC.Value.meaning N.meaning map.now.entries) }
 {
     write_message_field::<KC, N, Map<KC::Value, N>, S>(map, number, cache, sink)
@@ -98,8 +98,8 @@ where
       checks = λ n w. check_wire n LengthDelimited w;
       asks = PairTakesMemory KC.reading (message_reading N.blank_is N.merged N.cost);
       need = entry_cost KC.reading (message_reading N.blank_is N.merged N.cost) (KC.COST + N.COST);
-      records = pair_records KC.writing N.text;
-      slots = pair_slots N.text N.slots;
+      records = pair_records KC.writing N.encoding;
+      slots = pair_slots N.encoding N.slots;
       levels = pair_levels N.levels;
       normal = λ l. AllHold (λ k. KC.fits k × KC.normal k) (FitsInside N.normal N.records) l
           × IsDistinct KC.Value.same (keys_of l);
@@ -135,7 +135,7 @@ where
     }
 
     ghost back = { record {
-      back = λ n number d l fits normal low. pairs_back N.merged N.blank_is N.cost N.text N.levels
+      back = λ n number d l fits normal low. pairs_back N.merged N.blank_is N.cost N.encoding N.levels
           (FitsInside N.normal N.records)
           (λ d v ok low. N.MessageSpec.merged_encoding d v ok.1 ok.0 low) KC.reading KC.writing
           (KC.MapCodec.written_wire ∙ sym KC.MapValueDecode.wire) KC.Value.same KC.Value.MapKey.equivalence

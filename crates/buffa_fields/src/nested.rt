@@ -49,8 +49,8 @@ pub(crate) fn message_len<N: Message>(
     cache: &mut SizeCache,
 ) -> Result<u32, EncodeError>
     requires { IsNumber number }
-    ensures { let v = N.meaning message.now in IsSized (records_encoding ((number, bytes (N.text v)) ∷ []))
-        (cap (length (N.text v)) ∷ N.slots v) cache.old result cache.new }
+    ensures { let v = N.meaning message.now in IsSized (records_encoding ((number, bytes (N.encoding v)) ∷ []))
+        (cap (length (N.encoding v)) ∷ N.slots v) cache.old result cache.new }
 {
     let slot = match cache.reserve() {
         Ok(slot) => slot,
@@ -87,8 +87,8 @@ pub(crate) fn write_message<N: Message, S: EncodeSink>(
     sink: &mut S,
 ) -> Result<(), EncodeError>
     requires number { IsNumber number }
-    requires next { let v = N.meaning message.now in IsNext (cap (length (N.text v)) ∷ N.slots v) cache.old }
-    ensures { WritesMessage cache.old (S.written sink.old) result cache.new (S.written sink.new) N.text N.slots number
+    requires next { let v = N.meaning message.now in IsNext (cap (length (N.encoding v)) ∷ N.slots v) cache.old }
+    ensures { WritesMessage cache.old (S.written sink.old) result cache.new (S.written sink.new) N.encoding N.slots number
         (N.meaning message.now) }
 {
     let inner = cache.consume_next();
@@ -139,8 +139,8 @@ impl<N: Message> Member for Nested<N> {
       checks = λ n w. check_wire n LengthDelimited w;
       asks = MessageTakesMemory;
       need = message_cost N.cost;
-      records = message_records N.text;
-      slots = message_slots N.text N.slots;
+      records = message_records N.encoding;
+      slots = message_slots N.encoding N.slots;
       levels = message_levels N.levels;
       normal = λ v. IfThere (FitsInside N.normal N.records) v;
       stays = message_stays N.merged N.cost;
@@ -188,7 +188,7 @@ impl<N: Message> Member for Nested<N> {
     }
 
     ghost back = { record {
-      back = λ n number d v fits normal low. message_back N.merged N.blank_is N.text N.levels
+      back = λ n number d v fits normal low. message_back N.merged N.blank_is N.encoding N.levels
           (FitsInside N.normal N.records)
           (λ d v ok low. N.MessageSpec.merged_encoding d v ok.1 ok.0 low) n number d v fits normal low;
     } };

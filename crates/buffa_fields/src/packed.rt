@@ -87,7 +87,7 @@ impl<E: Enumeration> Packable for OpenEnum<E> {
 
 // The length of all payloads, or 2^64 - 1 where it is more.
 fn payloads_len<C: Kind>(values: &[C::Value]) -> u64
-    ensures { result ≡ saturated (length (packed_encoding C.writing.text (map C.Value.meaning values.now))) }
+    ensures { result ≡ saturated (length (packed_encoding C.writing.encoding (map C.Value.meaning values.now))) }
 {
     let mut total: u64 = 0;
     for value in values {
@@ -101,7 +101,7 @@ fn write_payloads<C: Kind, S: EncodeSink>(
     values: &[C::Value],
     sink: &mut S,
 ) -> Result<(), EncodeError>
-    ensures { Writes result (S.written sink.old) (packed_encoding C.writing.text (map C.Value.meaning values.now))
+    ensures { Writes result (S.written sink.old) (packed_encoding C.writing.encoding (map C.Value.meaning values.now))
         (S.written sink.new) }
 {
     for value in values {
@@ -117,7 +117,7 @@ fn write_payloads<C: Kind, S: EncodeSink>(
 fn packed_len<C: Kind>(number: u32, values: &[C::Value]) -> u32
     requires { IsNumber number }
     ensures { result ≡ cap (length (records_encoding
-        (packed_records C.writing.text number (map C.Value.meaning values.now)))) }
+        (packed_records C.writing.encoding number (map C.Value.meaning values.now)))) }
 {
     if values.len() == 0 {
         return 0;
@@ -133,7 +133,7 @@ fn write_packed<C: Kind, S: EncodeSink>(
     sink: &mut S,
 ) -> Result<(), EncodeError>
     requires { IsNumber number }
-    ensures { IsWritten (records_encoding (packed_records C.writing.text number (map C.Value.meaning values.now))) []
+    ensures { IsWritten (records_encoding (packed_records C.writing.encoding number (map C.Value.meaning values.now))) []
         _cache.old (S.written sink.old) result _cache.new (S.written sink.new) }
 {
     if values.len() == 0 {
@@ -166,7 +166,7 @@ impl<C: Packable> Member for Packed<C> {
       checks = λ n w. check_list_wire n C.WIRE_TYPE w;
       asks = ElementsTakeMemory C.reading;
       need = free;
-      records = packed_records C.writing.text;
+      records = packed_records C.writing.encoding;
       slots = λ _. [];
       levels = λ _. 0;
       normal = λ vs. Each (λ v. C.fits v × C.normal v) vs;

@@ -87,9 +87,9 @@ fn messages_len<N: Message>(
     cache: &mut SizeCache,
 ) -> Result<u32, EncodeError>
     requires { IsNumber number }
-    ensures sized { let vs = map N.meaning messages.now in IsSized (records_encoding (messages_records N.text number vs))
-        (messages_slots N.text N.slots vs) cache.old result cache.new }
-    ensures always { messages_slots N.text N.slots (map N.meaning messages.now) ≡ [] → IsOk result }
+    ensures sized { let vs = map N.meaning messages.now in IsSized (records_encoding (messages_records N.encoding number vs))
+        (messages_slots N.encoding N.slots vs) cache.old result cache.new }
+    ensures always { messages_slots N.encoding N.slots (map N.meaning messages.now) ≡ [] → IsOk result }
 {
     let mut total: u32 = 0;
     for message in messages {
@@ -109,8 +109,8 @@ fn write_messages<N: Message, S: EncodeSink>(
     sink: &mut S,
 ) -> Result<(), EncodeError>
     requires number { IsNumber number }
-    requires next { IsNext (messages_slots N.text N.slots (map N.meaning messages.now)) cache.old }
-    ensures { WritesMessages cache.old (S.written sink.old) result cache.new (S.written sink.new) N.text N.slots number
+    requires next { IsNext (messages_slots N.encoding N.slots (map N.meaning messages.now)) cache.old }
+    ensures { WritesMessages cache.old (S.written sink.old) result cache.new (S.written sink.new) N.encoding N.slots number
         (map N.meaning messages.now) }
 {
     for message in messages {
@@ -143,8 +143,8 @@ impl<N: Message> Member for RepeatedNested<N> {
       checks = λ n w. check_wire n LengthDelimited w;
       asks = MessagesTakeMemory;
       need = messages_cost N.COST N.cost;
-      records = messages_records N.text;
-      slots = messages_slots N.text N.slots;
+      records = messages_records N.encoding;
+      slots = messages_slots N.encoding N.slots;
       levels = messages_levels N.levels;
       normal = λ vs. Each (FitsInside N.normal N.records) vs;
       stays = messages_stay N.COST N.cost;
@@ -175,7 +175,7 @@ impl<N: Message> Member for RepeatedNested<N> {
     }
 
     ghost back = { record {
-      back = λ n number d v fits normal low. messages_back N.merged N.blank_is N.text N.levels
+      back = λ n number d v fits normal low. messages_back N.merged N.blank_is N.encoding N.levels
           (FitsInside N.normal N.records)
           (λ d v ok low. N.MessageSpec.merged_encoding d v ok.1 ok.0 low) n number d v fits normal low;
     } };

@@ -68,7 +68,7 @@ fn write_parts<C: Kind, S: EncodeSink>(
 ) -> Result<(), EncodeError>
     requires { IsNumber number }
     ensures { Writes result (S.written sink.old)
-        (tag_encoding number C.WIRE_TYPE ++ C.writing.text (C.Value.meaning value.now)) (S.written sink.new) }
+        (tag_encoding number C.WIRE_TYPE ++ C.writing.encoding (C.Value.meaning value.now)) (S.written sink.new) }
 {
     Tag::new(number, C::WIRE_TYPE).encode(sink)?;
     C::encode(value, sink)

@@ -23,5 +23,5 @@ pub mod RewriteCallLemmas
 pub use Rattle.buffa_map_laws.proofs.PlainLemmas
 pub use Rattle.buffa_map_base.proofs.WalkLemmas
 pub use Rattle.buffa_map_laws.proofs.PinLemmas
-pub use Rattle.buffa_map_laws.proofs.PinTextLemmas
+pub use Rattle.buffa_map_laws.proofs.PinEncodingLemmas
 pub use Rattle.buffa_map_base.proofs.OrderedLemmas

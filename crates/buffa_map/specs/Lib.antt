@@ -17,6 +17,6 @@ pub use Rattle.buffa_map_base.specs.Enums
 pub use Rattle.buffa_map_base.specs.EnumLaws
 pub use Rattle.buffa_map_laws.specs.Laws
 pub use Rattle.buffa_map_laws.specs.Pinned
-pub use Rattle.buffa_map_laws.specs.PinnedTexts
+pub use Rattle.buffa_map_laws.specs.PinnedEncodings
 pub mod Rewrite
 pub mod Calls

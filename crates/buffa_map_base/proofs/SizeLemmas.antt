@@ -37,15 +37,15 @@ small_tag : (n : ℕ) (w : WireType) → n < 15 → length (tag_encoding n w) �
 small_tag n w h = ap length (varint_encoding-last (8 * n + wire_number w) (omega (arith, wire_small w)))
 
 module _ {K W : Type 0} (key : Writing K) (val : Writing W) where
-  pub length-entry_encoding : (p : K × W) → length (entry_encoding key val p) ≡ 2 + (length (key.text p.0) + length (val.text p.1))
+  pub length-entry_encoding : (p : K × W) → length (entry_encoding key val p) ≡ 2 + (length (key.encoding p.0) + length (val.encoding p.1))
   length-entry_encoding p =
       omega (
         arith,
         small_tag 1 key.wire (omega arith),
         small_tag 2 val.wire (omega arith),
-        length-append (tag_encoding 1 key.wire ++ key.text p.0) (tag_encoding 2 val.wire ++ val.text p.1),
-        length-append (tag_encoding 1 key.wire) (key.text p.0),
-        length-append (tag_encoding 2 val.wire) (val.text p.1),
+        length-append (tag_encoding 1 key.wire ++ key.encoding p.0) (tag_encoding 2 val.wire ++ val.encoding p.1),
+        length-append (tag_encoding 1 key.wire) (key.encoding p.0),
+        length-append (tag_encoding 2 val.wire) (val.encoding p.1),
       )
 
   -- the size is the length of the text

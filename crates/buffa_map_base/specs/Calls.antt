@@ -97,20 +97,20 @@ MergesMessages {M} Gives meaning merged cost depth =
 
 -- a function sizes the messages that are P
 abbrev pub SizesMessages : {M V : Type 0} → (Bor M → MutBor Cache → Result ℕ EncodeError → MutBor Cache → Type 0) → (V → Type 0) → (M → V) → (V → List ℕ) → (V → List ℕ) → Type 0
-SizesMessages {M} Gives P meaning text slots =
+SizesMessages {M} Gives P meaning encoding slots =
     (x : Bor M) (c : MutBor Cache) (r : Result ℕ EncodeError) (d : MutBor Cache) → P (meaning x.now) → Gives x c r d →
-    IsSized (text (meaning x.now)) (slots (meaning x.now)) c.now r d.now
+    IsSized (encoding (meaning x.now)) (slots (meaning x.now)) c.now r d.now
 
 -- a function writes the values that are P
 abbrev pub WritesMessages : {M V S : Type 0} → (Bor M → MutBor Cache → MutBor S → Result (Unit {0}) EncodeError → MutBor Cache → MutBor S → Type 0) → (M → Type 0) → (M → V) → (V → List ℕ) → (V → List ℕ) → (S → List ℕ) → Type 0
-WritesMessages {M} {V} {S} Gives P meaning text slots written =
+WritesMessages {M} {V} {S} Gives P meaning encoding slots written =
     (x : Bor M) (c : MutBor Cache) (s : MutBor S) (r : Result (Unit {0}) EncodeError) (d : MutBor Cache) (t : MutBor S) → P x.now → Gives x c s r d t →
-    IsWritten (text (meaning x.now)) (slots (meaning x.now)) c.now (written s.now) r d.now (written t.now)
+    IsWritten (encoding (meaning x.now)) (slots (meaning x.now)) c.now (written s.now) r d.now (written t.now)
 
 -- where such a function keeps room, so does the record of the pair
 abbrev pub KeepsRecordRoom : {K M V S : Type 0} → (Bor M → MutBor Cache → MutBor S → Result (Unit {0}) EncodeError → MutBor Cache → MutBor S → Type 0) → (M → V) → (S → ℕ) → Writing K → (V → List ℕ) → ℕ → K × V → Result (Unit {0}) EncodeError → S → S → Type 0
-KeepsRecordRoom Gives meaning room key text n p r old new =
-    KeepsRoom Gives (λ v. text (meaning v)) room → UsesRecordRoom key text n p r (room old) (room new)
+KeepsRecordRoom Gives meaning room key encoding n p r old new =
+    KeepsRoom Gives (λ v. encoding (meaning v)) room → UsesRecordRoom key encoding n p r (room old) (room new)
 
 -- ---- a map as a field: its text behind what a sink has, by a walk of it
 

@@ -32,7 +32,7 @@ AlwaysDeclared {V} codec = (d : ℕ) (old : V) (c : Content) (new : V) (known : 
 -- how a codec writes: the wire type, and the payload of a value
 pub record Writing (V : Type 0) : Type 0 where
   pub wire : WireType
-  pub text : V → List ℕ
+  pub encoding : V → List ℕ
 
 -- whether a level is left at a depth, where payloads are nested or not
 abbrev pub level : Bool → ℕ → Result (Unit {0}) DecodeError

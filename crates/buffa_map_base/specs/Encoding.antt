@@ -11,7 +11,7 @@ use Rattle.buffa_map_base.specs.Codec.{Writing}
 module _ {K W : Type 0} (key : Writing K) (val : Writing W) where
   -- the key field and the value field, blanks too
   abbrev pub entry_encoding : K × W → List ℕ
-  entry_encoding p = (tag_encoding 1 key.wire ++ key.text p.0) ++ (tag_encoding 2 val.wire ++ val.text p.1)
+  entry_encoding p = (tag_encoding 1 key.wire ++ key.encoding p.0) ++ (tag_encoding 2 val.wire ++ val.encoding p.1)
 
   -- the tag of number n, the entry's length, the entry
   abbrev pub record_encoding : ℕ → K × W → List ℕ
@@ -39,7 +39,7 @@ AllHold P Q (p ∷ ps) = P p.0 × Q p.1 × AllHold P Q ps
 
 -- what fits is not told as out of memory, and what is written takes no more room than it has bytes
 abbrev pub UsesRoomOf : {T : Type 0} → Result T EncodeError → ℕ → List ℕ → ℕ → Type 0
-UsesRoomOf r room text left = MatchResult r (λ _. room ≤ left + length text) (λ e. e ≡ OutOfMemory → room < length text)
+UsesRoomOf r room encoding left = MatchResult r (λ _. room ≤ left + length encoding) (λ e. e ≡ OutOfMemory → room < length encoding)
 
 module _ {K W : Type 0} (key : Writing K) (val : Writing W) (n : ℕ) (old new : List ℕ) where
   -- the record of p was written; or memory ran out after a beginning of it; or its entry is too long, and nothing was written

@@ -31,22 +31,22 @@ string_reading blank of = record { blank = blank; wire = LengthDelimited; reads 
 
 -- the number of a value, spelled as the payload of wire type w
 abbrev pub number_writing : {V : Type 0} → WireType → (ℕ → List ℕ) → (V → ℕ) → Writing V
-number_writing w payload num = record { wire = w; text = λ v. payload (num v) }
+number_writing w payload num = record { wire = w; encoding = λ v. payload (num v) }
 
 abbrev pub varint_writing : {V : Type 0} → (V → ℕ) → Writing V
-varint_writing num = record { wire = Varint; text = λ v. varint_encoding (num v) }
+varint_writing num = record { wire = Varint; encoding = λ v. varint_encoding (num v) }
 
 -- four bytes, the lowest first
 abbrev pub four_writing : {V : Type 0} → (V → ℕ) → Writing V
-four_writing num = record { wire = Fixed32; text = λ v. to_le_bytes w32 (num v) }
+four_writing num = record { wire = Fixed32; encoding = λ v. to_le_bytes w32 (num v) }
 
 -- eight bytes, the lowest first
 abbrev pub eight_writing : {V : Type 0} → (V → ℕ) → Writing V
-eight_writing num = record { wire = Fixed64; text = λ v. to_le_bytes w64 (num v) }
+eight_writing num = record { wire = Fixed64; encoding = λ v. to_le_bytes w64 (num v) }
 
 -- a length and the bytes
 abbrev pub delimited_writing : {V : Type 0} → (V → List ℕ) → Writing V
-delimited_writing bytes = record { wire = LengthDelimited; text = λ v. delimited_encoding (bytes v) }
+delimited_writing bytes = record { wire = LengthDelimited; encoding = λ v. delimited_encoding (bytes v) }
 
 -- ---- what a type holds
 

@@ -153,7 +153,7 @@ pub trait MapCodec: MapValueDecode {
     /// let len = C::encoded_len(value);
     /// ```
     fn encoded_len(value: &Self::Value) -> u64
-        ensures len { result ≡ length (writing.text (Self.Value.meaning value.now)) }
+        ensures len { result ≡ length (writing.encoding (Self.Value.meaning value.now)) }
         ensures fits { fits (Self.Value.meaning value.now) };
 
     /// Writes the payload.
@@ -165,9 +165,9 @@ pub trait MapCodec: MapValueDecode {
     /// C::encode(value, sink)?;
     /// ```
     fn encode<S: EncodeSink>(value: &Self::Value, sink: &mut S) -> Result<(), EncodeError>
-        ensures writes { Writes result (S.written sink.old) (writing.text (Self.Value.meaning value.now))
+        ensures writes { Writes result (S.written sink.old) (writing.encoding (Self.Value.meaning value.now))
             (S.written sink.new) }
-        ensures room { UsesRoom result (S.room sink.old) (writing.text (Self.Value.meaning value.now))
+        ensures room { UsesRoom result (S.room sink.old) (writing.encoding (Self.Value.meaning value.now))
             (S.room sink.new) };
 
     /// What is written here is no message.
@@ -178,7 +178,7 @@ pub trait MapCodec: MapValueDecode {
 
     /// A payload reads back to its value, whatever stood before, and as a declared one.
     ghost reads_back: { (d : ℕ) (old v : Self.Value.Meaning) → fits v → normal v →
-        (c : Content) × HasContent writing.wire (writing.text v) c × (Self.reading.reads d old c ≡ Ok (v, true)) };
+        (c : Content) × HasContent writing.wire (writing.encoding v) c × (Self.reading.reads d old c ≡ Ok (v, true)) };
 
     /// The default is normal.
     ghost blank_normal: { normal Self.Value.blank_is };
@@ -188,5 +188,5 @@ pub trait MapCodec: MapValueDecode {
         (known : Bool) → normal old → Self.reading.reads d old c ≡ Ok (new, known) → normal new };
 
     /// The fixed length is that of every payload.
-    ghost fixed: { (n : ℕ) → FIXED_LEN ≡ Some n → (v : Self.Value.Meaning) → length (writing.text v) ≡ n };
+    ghost fixed: { (n : ℕ) → FIXED_LEN ≡ Some n → (v : Self.Value.Meaning) → length (writing.encoding v) ≡ n };
 }

@@ -35,20 +35,20 @@ as_record kw vw p = record { bytes = entry_encoding kw vw p; parts = pair_entry 
 
 -- a payload of v is read as v, where the default stood
 abbrev pub IsReadBack : {X : Type 0} → Reading X → Writing X → ℕ → X → Type 0
-IsReadBack r w d v = (level r.nested d ≡ Ok tt) × (c : Content) × HasContent w.wire (w.text v) c × (r.reads d r.blank c ≡ Ok (v, true))
+IsReadBack r w d v = (level r.nested d ≡ Ok tt) × (c : Content) × HasContent w.wire (w.encoding v) c × (r.reads d r.blank c ≡ Ok (v, true))
 
-pub plain_back : {X : Type 0} (r : Reading X) (w : Writing X) (d : ℕ) (v : X) → r.nested ≡ false → (c : Content) × HasContent w.wire (w.text v) c × (r.reads d r.blank c ≡ Ok (v, true)) → IsReadBack r w d v
+pub plain_back : {X : Type 0} (r : Reading X) (w : Writing X) (d : ℕ) (v : X) → r.nested ≡ false → (c : Content) × HasContent w.wire (w.encoding v) c × (r.reads d r.blank c ≡ Ok (v, true)) → IsReadBack r w d v
 plain_back r w d v plain h = (rw plain refl, h.0, h.1, h.2)
 
 module _ {K W : Type 0} (key : Reading K) (val : Reading W) (kw : Writing K) (vw : Writing W) (same_key : kw.wire ≡ key.wire) (same_val : vw.wire ≡ val.wire) (d : ℕ)
     (KeyOk : K → Type 0) (ValOk : W → Type 0) (key_back : (v : K) → KeyOk v → IsReadBack key kw d v) (val_back : (v : W) → ValOk v → IsReadBack val vw d v) where
-  part : {X : Type 0} (r : Reading X) (w : Writing X) (n : ℕ) (v : X) → IsNumber n → w.wire ≡ r.wire → IsReadBack r w d v → IsCodecField r d n r.blank (tag_encoding n w.wire ++ w.text v) v true
-  part r w n v num same (left, c, h, k) = (tag_encoding n w.wire, w.text v, c, subst (λ z. IsTag (tag_encoding n w.wire) n z) same (is_tag n w.wire num), left, subst (λ z. HasContent z (w.text v) c) same h, k, refl)
+  part : {X : Type 0} (r : Reading X) (w : Writing X) (n : ℕ) (v : X) → IsNumber n → w.wire ≡ r.wire → IsReadBack r w d v → IsCodecField r d n r.blank (tag_encoding n w.wire ++ w.encoding v) v true
+  part r w n v num same (left, c, h, k) = (tag_encoding n w.wire, w.encoding v, c, subst (λ z. IsTag (tag_encoding n w.wire) n z) same (is_tag n w.wire num), left, subst (λ z. HasContent z (w.encoding v) c) same h, k, refl)
 
   pub entry_back : (p : K × W) → KeyOk p.0 → ValOk p.1 → IsEntry key val d (entry_encoding kw vw p) (pair_entry p)
   entry_back p a b =
-      let f = tag_encoding 1 kw.wire ++ kw.text p.0 in
-      let g = tag_encoding 2 vw.wire ++ vw.text p.1 in
+      let f = tag_encoding 1 kw.wire ++ kw.encoding p.0 in
+      let g = tag_encoding 2 vw.wire ++ vw.encoding p.1 in
       let s = blanks key val d in
       let t : MapEntry K W = record { key = p.0; value = val.blank; known = true } in
       let one : IsField key val d s f t = inl (p.0, true, part key kw 1 p.0 (omega arith, omega arith) same_key (key_back p.0 a), refl) in

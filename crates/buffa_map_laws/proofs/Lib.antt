@@ -4,4 +4,4 @@ pub mod ClassLemmas
 pub mod RewriteLemmas
 pub mod PlainLemmas
 pub mod PinLemmas
-pub mod PinTextLemmas
+pub mod PinEncodingLemmas

@@ -377,13 +377,13 @@ all_fit P N e f more (p ∷ l) h k = ((h.0, k.0), (h.1.0, more p.1 h.1.1), all_f
 
 module _ {K : Type 0} (key : Reading K) (write : Writing K) (same_wire : write.wire ≡ key.wire) (plain : key.nested ≡ false) (free : key.nested ≡ false → (d : ℕ) (c : Content) → key.cost d c ≡ nothing) (Fits Normal : K → Type 0) (blank_normal : Normal key.blank)
     (stays : (d : ℕ) (old : K) (c : Content) (new : K) (known : Bool) → Normal old → key.reads d old c ≡ Ok (new, known) → Normal new)
-    (back : (d : ℕ) (old v : K) → Fits v → Normal v → (c : Content) × HasContent write.wire (write.text v) c × (key.reads d old c ≡ Ok (v, true)))
+    (back : (d : ℕ) (old v : K) → Fits v → Normal v → (c : Content) × HasContent write.wire (write.encoding v) c × (key.reads d old c ≡ Ok (v, true)))
     (e f : Numbers) (has_blank : DeclaresBlank e) (refines : Refines e f) (eq : K → K → Bool) (laws : IsEquivalence eq) where
   -- a number that f declares is read back
   value_back : (d : ℕ) (old v : ℤ) → ClosedFits f v → (c : Content) × HasContent closed_writing.wire (closed_writing.text v) c × ((closed_reading f).reads d old c ≡ Ok (v, true))
   value_back = closed_reads_back f
 
-  key_back : (d : ℕ) (old v : K) → Fits v × Normal v → (c : Content) × HasContent write.wire (write.text v) c × (key.reads d old c ≡ Ok (v, true))
+  key_back : (d : ℕ) (old v : K) → Fits v × Normal v → (c : Content) × HasContent write.wire (write.encoding v) c × (key.reads d old c ≡ Ok (v, true))
   key_back d old v h = back d old v h.0 h.1
 
   -- a pair of the map, as its record is read

@@ -1,4 +1,4 @@
 pub mod Plain
 pub mod Laws
 pub mod Pinned
-pub mod PinnedTexts
+pub mod PinnedEncodings

@@ -92,7 +92,7 @@ pub fn written_messages_are_read<
     M: MessageSpec,
     C: MapStorage<Key = KC::Value, Value = M>,
 >()
-    ensures { MessagesAreRead KC.reading (message_reading M.blank_is M.merged M.cost) KC.writing M.text C.equal KC.fits
+    ensures { MessagesAreRead KC.reading (message_reading M.blank_is M.merged M.cost) KC.writing M.encoding C.equal KC.fits
         KC.normal (λ v. Fits (records_of (M.records v))) M.normal M.levels }
 {}
 

@@ -2,7 +2,7 @@
 //! said beside each law.
 
 ghost use Rattle.buffa_map_laws.specs.Pinned.{EntriesArePinned, RunsArePinned, ValueIsPinned};
-ghost use Rattle.buffa_map_laws.specs.PinnedTexts.{FieldIsPinned, MessagesArePinned, PutIsPinned, RewritesArePinned};
+ghost use Rattle.buffa_map_laws.specs.PinnedEncodings.{FieldIsPinned, MessagesArePinned, PutIsPinned, RewritesArePinned};
 
 use buffa_map_base::codec::{MapCodec, MapValueDecode};
 use buffa_map_base::storage::MapStorage;
@@ -37,7 +37,7 @@ pub fn map_fields_are_pinned<
 /// A map field of small messages has one size, one text and one cache behind it. Open is what is announced and written
 /// where a message is too large, and where memory runs out.
 pub fn message_fields_are_pinned<KC: MapCodec, M: MessageSpec>()
-    ensures { MessagesArePinned KC.writing M.text M.slots }
+    ensures { MessagesArePinned KC.writing M.encoding M.slots }
 {}
 
 /// A run has one rewrite for one walk, and is refused for the bytes, or for the text, or not at all. Open is which walk

@@ -56,8 +56,8 @@ pub fn message_field_len_by<
 where
     KC::Value: 'a,
     requires may { (x : _) (c : _) → Contains (values_of (C.walk map.now)) (M.meaning x.now) → F.pre size x c }
-    requires keeps { SizesMessages (F.post size) (Contains (values_of (C.walk map.now))) M.meaning M.text M.slots }
-    ensures sized { IsFieldSized KC.writing M.text M.slots outer_tag_len (C.walk map.now) cache.old result cache.new }
+    requires keeps { SizesMessages (F.post size) (Contains (values_of (C.walk map.now))) M.meaning M.encoding M.slots }
+    ensures sized { IsFieldSized KC.writing M.encoding M.slots outer_tag_len (C.walk map.now) cache.old result cache.new }
     ensures some { OnErr result (C.pairs map.now ≢ []) }
 {
     cache.make_room(map.storage_len())?;
@@ -90,7 +90,7 @@ pub fn message_field_len<
 >(map: &'a C, outer_tag_len: u64, cache: &mut SizeCache) -> Result<u64, EncodeError>
 where
     KC::Value: 'a,
-    ensures sized { IsFieldSized KC.writing M.text M.slots outer_tag_len (C.walk map.now) cache.old result cache.new }
+    ensures sized { IsFieldSized KC.writing M.encoding M.slots outer_tag_len (C.walk map.now) cache.old result cache.new }
     ensures some { OnErr result (C.pairs map.now ≢ []) }
 {
     message_field_len_by::<KC, M, C, _>(

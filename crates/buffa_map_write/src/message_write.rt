@@ -62,13 +62,13 @@ fn write_message_record_by<KC: MapCodec, M: MessageSpec, S: EncodeSink, F>(
 where
     F: Fn(&M, &mut SizeCache, &mut S) -> Result<(), EncodeError>,
     requires number { IsNumber number }
-    requires next { IsNext (cap (length (M.text (M.meaning value.now))) ∷ M.slots (M.meaning value.now)) cache.old }
+    requires next { IsNext (cap (length (M.encoding (M.meaning value.now))) ∷ M.slots (M.meaning value.now)) cache.old }
     requires may { (x : _) (c : _) (s : _) → x.now ≡ value.now → IsNext (M.slots (M.meaning x.now)) c.now →
         F.pre write.now x c s }
-    requires keeps { WritesMessages (F.post write.now) (λ x. x ≡ value.now) M.meaning M.text M.slots S.written }
-    ensures written { IsRecordWritten KC.writing M.text M.slots number (KC.Value.meaning key.now, M.meaning value.now)
+    requires keeps { WritesMessages (F.post write.now) (λ x. x ≡ value.now) M.meaning M.encoding M.slots S.written }
+    ensures written { IsRecordWritten KC.writing M.encoding M.slots number (KC.Value.meaning key.now, M.meaning value.now)
         cache.old (S.written sink.old) result cache.new (S.written sink.new) }
-    ensures room { KeepsRecordRoom (F.post write.now) M.meaning S.room KC.writing M.text number
+    ensures room { KeepsRecordRoom (F.post write.now) M.meaning S.room KC.writing M.encoding number
         (KC.Value.meaning key.now, M.meaning value.now) result sink.old sink.new }
 {
     let inner = cache.consume_next();
@@ -106,15 +106,15 @@ pub fn write_message_field_by<
 where
     KC::Value: 'a,
     requires number { IsNumber field_number }
-    requires next { IsNext (field_slots M.text M.slots (C.walk map.now)) cache.old }
+    requires next { IsNext (field_slots M.encoding M.slots (C.walk map.now)) cache.old }
     requires may { (x : _) (c : _) (s : _) → Contains (values_of (C.walk map.now)) (M.meaning x.now) →
         IsNext (M.slots (M.meaning x.now)) c.now → F.pre write x c s }
     requires keeps { WritesMessages (F.post write) (λ x. Contains (values_of (C.walk map.now)) (M.meaning x))
-        M.meaning M.text M.slots S.written }
-    ensures written { IsFieldWritten KC.writing M.text M.slots field_number (C.walk map.now) cache.old
+        M.meaning M.encoding M.slots S.written }
+    ensures written { IsFieldWritten KC.writing M.encoding M.slots field_number (C.walk map.now) cache.old
         (S.written sink.old) result cache.new (S.written sink.new) }
     ensures some { OnErr result (C.walk map.now ≢ []) }
-    ensures room { KeepsRoom (F.post write) (λ v. M.text (M.meaning v)) S.room → UsesFieldRoom KC.writing M.text
+    ensures room { KeepsRoom (F.post write) (λ v. M.encoding (M.meaning v)) S.room → UsesFieldRoom KC.writing M.encoding
         field_number (C.walk map.now) result (S.room sink.old) (S.room sink.new) }
 {
     for (key, value) in map.storage_iter() {
@@ -145,8 +145,8 @@ pub fn write_message_field<
 where
     KC::Value: 'a,
     requires number { IsNumber field_number }
-    requires next { IsNext (field_slots M.text M.slots (C.walk map.now)) cache.old }
-    ensures written { IsFieldWritten KC.writing M.text M.slots field_number (C.walk map.now) cache.old
+    requires next { IsNext (field_slots M.encoding M.slots (C.walk map.now)) cache.old }
+    ensures written { IsFieldWritten KC.writing M.encoding M.slots field_number (C.walk map.now) cache.old
         (S.written sink.old) result cache.new (S.written sink.new) }
     ensures some { OnErr result (C.walk map.now ≢ []) }
 {

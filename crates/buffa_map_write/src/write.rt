@@ -26,9 +26,9 @@ pub(crate) fn write_part<VC: MapCodec, S: EncodeSink>(
 ) -> Result<(), EncodeError>
     requires { IsNumber number }
     ensures writes { Writes result (S.written sink.old)
-        (tag_encoding number VC.writing.wire ++ VC.writing.text (VC.Value.meaning value.now)) (S.written sink.new) }
+        (tag_encoding number VC.writing.wire ++ VC.writing.encoding (VC.Value.meaning value.now)) (S.written sink.new) }
     ensures room { UsesRoom result (S.room sink.old)
-        (tag_encoding number VC.writing.wire ++ VC.writing.text (VC.Value.meaning value.now)) (S.room sink.new) }
+        (tag_encoding number VC.writing.wire ++ VC.writing.encoding (VC.Value.meaning value.now)) (S.room sink.new) }
 {
     Tag::new(number, VC::WIRE_TYPE).encode(sink)?;
     VC::encode(value, sink)

@@ -1,4 +1,4 @@
 pub mod ItemLemmas
-pub mod ItemTextLemmas
+pub mod ItemEncodingLemmas
 pub mod GroupLemmas
 mod PinLemmas

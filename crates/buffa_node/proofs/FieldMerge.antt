@@ -37,7 +37,7 @@ use Rattle.buffa_node.specs.declared.shade.Shade.{Shade}
 use Rattle.buffa_node.specs.Entries.{entry_cost, entry_taken, put_in}
 use Rattle.buffa_node.specs.NodeLaws.{node_stays}
 use Rattle.buffa_node.specs.NodeMeaning.{ChildCost, ChildMeaning, children, children_cost, children_take, cost, merged, node_need, node_takes, numbers, scores_cost, scores_take, shades, shades_cost, shades_take, text_cmp, texts}
-use Rattle.buffa_node.specs.NodeText.{meant, meant-is}
+use Rattle.buffa_node.specs.NodeEncoding.{meant, meant-is}
 
 abbrev Answer : Type 0
 Answer = Result (Unit {0}) DecodeError

@@ -37,6 +37,6 @@ module _ {K V : Type 0} (kw : Writing K) (vw : Writing V) (n : ℕ) (l m : List 
   map_unput e r is h = subst (λ z. WritesSmall (field_encoding kw vw n m) old z new) (sym is) (by_error e h)
 
 -- no slot is consumed
-pub as_pass : (text before new : List ℕ) (r : Result (Unit {0}) EncodeError) (c : Cache) → WritesSmall text before r new → WritesIf (IsSmall text) text [] c before r c new
-as_pass text before new (Ok _) c (bs, p, q) = (bs, p, ((written_none (Unit {0}) c before).2.0, q))
-as_pass text before new (Err e) c (bs, p, q) = (bs, p, (q.0, q.1, consumes_none [] c))
+pub as_pass : (encoding before new : List ℕ) (r : Result (Unit {0}) EncodeError) (c : Cache) → WritesSmall encoding before r new → WritesIf (IsSmall encoding) encoding [] c before r c new
+as_pass encoding before new (Ok _) c (bs, p, q) = (bs, p, ((written_none (Unit {0}) c before).2.0, q))
+as_pass encoding before new (Err e) c (bs, p, q) = (bs, p, (q.0, q.1, consumes_none [] c))

@@ -3,7 +3,7 @@ pub mod BranchFalls
 pub mod Entries
 pub mod EntriesLaws
 pub mod NodeMeaning
-pub mod NodeText
+pub mod NodeEncoding
 pub mod NodeLaws
 pub mod Nesting
 pub mod Leading

@@ -16,7 +16,7 @@ use Rattle.buffa_map.specs.Entry.{IsEntry, IsField, blanks, entry_of}
 use Rattle.buffa_map.specs.declared.map_entry.MapEntry.{MapEntry}
 use Rattle.buffa_wire.specs.ByField.{value_of}
 use Rattle.buffa_node.specs.NodeMeaning.{numbers, shades}
-use Rattle.buffa_node.specs.NodeText.{IsUndeclared, entry_levels, first_depth}
+use Rattle.buffa_node.specs.NodeEncoding.{IsUndeclared, entry_levels, first_depth}
 
 -- ---- fields at another depth
 shift_join : (P Q : List ℕ → Type 0) (l : ℕ) → ((f : List ℕ) → length f ≤ l → P f → Q f) → (b : List ℕ) → Join P b → length b ≤ l → Join Q b

@@ -43,12 +43,12 @@ use Rattle.buffa_node.specs.Entries.{entry_taken, put_in}
 use Rattle.buffa_node.specs.Leading.{Each, IsPut, any, entries_lead, joined_both, leads_both, piece, read_entry}
 use Rattle.buffa_node.specs.Nesting.{undeclared_at}
 use Rattle.buffa_node.specs.NodeMeaning.{ChildMeaning, children, children_take, merged, node_takes, numbers, shades, shades_take, text_cmp, texts}
-use Rattle.buffa_node.specs.NodeText.{AreKept, AreNormal, IsKept, IsNormal, IsUndeclared, entry_levels, kept_levels, kept_under, kid_entry, kid_record, kids_records, kids_encoding, levels, levels_below, number_writing, records, scores_encoding, shades_encoding, text, text_writing}
+use Rattle.buffa_node.specs.NodeEncoding.{AreKept, AreNormal, IsKept, IsNormal, IsUndeclared, entry_levels, kept_levels, kept_under, kid_entry, kid_record, kids_records, kids_encoding, levels, levels_below, number_writing, records, scores_encoding, shades_encoding, encoding, text_writing}
 
 -- ---- no entry and no record is too long
 abbrev KidsShort : Kids → Type 0
 KidsShort no_kids = Unit {0}
-KidsShort (kid k t ks) = (length (kid_entry k (text t)) < 2 ^ 64) × KidsShort ks
+KidsShort (kid k t ks) = (length (kid_entry k (encoding t)) < 2 ^ 64) × KidsShort ks
 
 pub record IsShort (t : Branch) : Type 0 where
   pub scores : HasEncoding text_writing number_writing (scores_of t)
@@ -71,8 +71,8 @@ short_pairs kw vw n (p ∷ ps) h =
 short_kids : (ks : Kids) → length (kids_encoding ks) < 2 ^ 64 → KidsShort ks
 short_kids no_kids h = tt
 short_kids (kid k t ks) h =
-    let both = length-append (kid_record k (text t)) (kids_encoding ks) in
-    (omega (arith, h, both, longer 2 (kid_entry k (text t))), short_kids ks (omega (arith, h, both)))
+    let both = length-append (kid_record k (encoding t)) (kids_encoding ks) in
+    (omega (arith, h, both, longer 2 (kid_entry k (encoding t))), short_kids ks (omega (arith, h, both)))
 
 short_kept : (r : Kept) → AreKept r → length (records_encoding r) < 2 ^ 64 → Fits (records_of r)
 short_kept [] n h = tt
@@ -85,7 +85,7 @@ short_kept (y ∷ ys) (inr (three, e, is, undeclared), ns) h =
     ((omega (arith, three), omega (arith, three)), subst FitsDatum (sym is) (omega (arith, h, both, one, longer 3 e)), short_kept ys ns (omega (arith, h, both)))
 
 -- a child's text is shorter than its entry, and so is all in it
-short_text : (t : Branch) → IsNormal t → length (text t) < 2 ^ 64 → IsShort t
+short_text : (t : Branch) → IsNormal t → length (encoding t) < 2 ^ 64 → IsShort t
 short_text (branch a ks h r) n short =
     let one = length-append (scores_encoding a) (kids_encoding ks ++ (shades_encoding h ++ records_encoding r)) in
     let two = length-append (kids_encoding ks) (shades_encoding h ++ records_encoding r) in
@@ -127,8 +127,8 @@ module _ (d : ℕ) (m : ChildMeaning) where
   shade_back : (v : ℤ) → ClosedFits shade_numbers v → IsReadBack shades closed_writing d v
   shade_back v h = let u = closed_reads_back shade_numbers d (pos 0) v h in (refl, u.0, u.1, u.2)
 
-  child_back : (t : Branch) → level true d ≡ Ok tt → merged_in (λ _. m) d bare (text t) ≡ Some t → length (text t) < 2 ^ 64 → IsReadBack (children m (λ _. nothing)) (delimited_writing text) d t
-  child_back t deep means short = (deep, held (text t), (varint_encoding (length (text t)), IsVarint-varint_encoding (length (text t)) short, refl), ap meant means)
+  child_back : (t : Branch) → level true d ≡ Ok tt → merged_in (λ _. m) d bare (encoding t) ≡ Some t → length (encoding t) < 2 ^ 64 → IsReadBack (children m (λ _. nothing)) (delimited_writing encoding) d t
+  child_back t deep means short = (deep, held (encoding t), (varint_encoding (length (encoding t)), IsVarint-varint_encoding (length (encoding t)) short, refl), ap meant means)
 
   -- ---- scores
   abbrev score_entry : List ℕ × ℤ → List ℕ
@@ -153,11 +153,11 @@ module _ (d : ℕ) (m : ChildMeaning) where
 
   -- ---- children
   abbrev child_entry : ℤ × Branch → List ℕ
-  child_entry p = entry_encoding number_writing (delimited_writing text) p
+  child_entry p = entry_encoding number_writing (delimited_writing encoding) p
 
   -- a child whose entry is read
   abbrev pub IsChildRead : ℤ → Branch → Type 0
-  IsChildRead k t = FitsSigned w32 k × (length (child_entry (k, t)) < 2 ^ 64) × IsReadBack (children m (λ _. nothing)) (delimited_writing text) d t
+  IsChildRead k t = FitsSigned w32 k × (length (child_entry (k, t)) < 2 ^ 64) × IsReadBack (children m (λ _. nothing)) (delimited_writing encoding) d t
 
   abbrev pub AreRead : Kids → Type 0
   AreRead no_kids = Unit {0}
@@ -175,7 +175,7 @@ module _ (d : ℕ) (m : ChildMeaning) where
       short,
       λ done. ap (λ (xs : List (ℤ × Branch)). option_map with_kids (children_take m d xs 2 LengthDelimited (delimited_encoding (child_entry (k, t))))) (listed-kids done)
           ∙ ap (option_map with_kids) (read_entry numbers (children m (λ _. nothing)) (λ x e s. put_in int_cmp x s) d 2 done (child_entry (k, t)) (pair_entry (k, t)) short
-          (entry_back numbers (children m (λ _. nothing)) number_writing (delimited_writing text) refl refl d (FitsSigned w32) (IsReadBack (children m (λ _. nothing)) (delimited_writing text) d) number_back (λ v h. h) (k, t) key value)),
+          (entry_back numbers (children m (λ _. nothing)) number_writing (delimited_writing encoding) refl refl d (FitsSigned w32) (IsReadBack (children m (λ _. nothing)) (delimited_writing encoding) d) number_back (λ v h. h) (k, t) key value)),
     )
 
     kids_put : (ks : Kids) → AreRead ks → Each KidPut (listed ks)
@@ -254,7 +254,7 @@ module _ (d : ℕ) (m : ChildMeaning) where
 
   kids_pieces : (ks : Kids) → kids_encoding ks ≡ joined (map (piece 2 child_entry) (listed ks))
   kids_pieces no_kids = refl
-  kids_pieces (kid k t ks) = ap (λ (z : List ℕ). kid_record k (text t) ++ z) (kids_pieces ks)
+  kids_pieces (kid k t ks) = ap (λ (z : List ℕ). kid_record k (encoding t) ++ z) (kids_pieces ks)
 
   low_datum : (b : Bool) (x : Datum) → datum_height x ≤ (if b then kept_under x else datum_height x)
   low_datum false x = omega arith
@@ -271,7 +271,7 @@ module _ (d : ℕ) (m : ChildMeaning) where
   kept_parses : (r : Kept) → Fits (records_of r) → kept_levels r ≤ d → Parse d (records_encoding r) (records_of r)
   kept_parses r fits low = text_parses (records_of r) d fits (subst (λ k. k ≤ d) (sym (height-records r)) (omega (arith, low, heights_low r)))
 
-  pub node_read : (a : Scores) (ks : Kids) (h : Shades) (r : Kept) → IsShort (branch a ks h r) → IsNormal (branch a ks h r) → AreRead ks → kept_levels r ≤ d → merged_of T d bare (text (branch a ks h r)) ≡ Some (branch a ks h r)
+  pub node_read : (a : Scores) (ks : Kids) (h : Shades) (r : Kept) → IsShort (branch a ks h r) → IsNormal (branch a ks h r) → AreRead ks → kept_levels r ≤ d → merged_of T d bare (encoding (branch a ks h r)) ≡ Some (branch a ks h r)
   node_read a ks h r short n read low =
       let one = map (piece 1 score_entry) a in
       let two = map (piece 2 child_entry) (listed ks) in
@@ -280,7 +280,7 @@ module _ (d : ℕ) (m : ChildMeaning) where
       let mid : Branch = branch a no_kids [] [] in
       let low_mid : Branch = branch a ks [] [] in
       let end : Branch = branch a ks h [] in
-      leads_back T d any bare (text (branch a ks h r)) (branch a ks h r) (record {
+      leads_back T d any bare (encoding (branch a ks h r)) (branch a ks h r) (record {
         pieces = one ++ (two ++ (three ++ kept.0));
         spelled = (λ i. pairs_text text_writing number_writing 1 a i ++ (kids_pieces ks i ++ (pairs_text number_writing closed_writing 3 h i ++ kept.1 i)))
             ∙ sym (joined_both one (two ++ (three ++ kept.0)) ∙ ap (λ z. joined one ++ z) (joined_both two (three ++ kept.0) ∙ ap (λ z. joined two ++ z) (joined_both three kept.0)));
@@ -295,7 +295,7 @@ module _ (d : ℕ) (m : ChildMeaning) where
 
 -- ---- at any depth that suffices
 mutual
-  short_back : (d : ℕ) (t : Branch) → IsShort t → IsNormal t → levels t ≤ d → merged d bare (text t) ≡ Some t
+  short_back : (d : ℕ) (t : Branch) → IsShort t → IsNormal t → levels t ≤ d → merged d bare (encoding t) ≡ Some t
   short_back zero (branch a no_kids h r) short n low = node_read zero (λ _ _. None) a no_kids h r short n tt (omega (arith, low))
   short_back zero (branch a (kid k t ks) h r) short n low = absurd (omega (arith, low))
   short_back (suc d) (branch a ks h r) short n low = node_read (suc d) (merged d) a ks h r short n (all_back d ks short.children n.1.0 (omega (arith, low))) (omega (arith, low))
@@ -303,8 +303,8 @@ mutual
   all_back : (d : ℕ) (ks : Kids) → KidsShort ks → AreNormal ks → levels_below ks ≤ suc d → AreRead (suc d) (merged d) ks
   all_back d no_kids short n low = tt
   all_back d (kid k t ks) short n low =
-      let small = shorter k (text t) short.0 in
+      let small = shorter k (encoding t) short.0 in
       ((n.0, short.0, child_back (suc d) (merged d) t refl (short_back d t (short_text t n.1 small) n.1 (omega (arith, low))) small), all_back d ks short.1 n.2 (omega (arith, low)))
 
-pub back : (d : ℕ) (v : Branch) → Fits (records_of (records v)) → IsNormal v → levels v ≤ d → merged d bare (text v) ≡ Some v
+pub back : (d : ℕ) (v : Branch) → Fits (records_of (records v)) → IsNormal v → levels v ≤ d → merged d bare (encoding v) ≡ Some v
 back d v fits n low = short_back d v (short_all v fits) n low

@@ -15,7 +15,7 @@ use Rattle.buffa_map.specs.Enums.{closed_writing}
 use Rattle.buffa_node.specs.Branch.{Branch, Kids, branch, kid, no_kids}
 use Rattle.buffa_node.specs.EntriesLaws.{entry_stays, four_stay}
 use Rattle.buffa_node.specs.NodeMeaning.{ChildCost, ChildMeaning, children, cost, merged, node_need, node_takes, numbers, shades, texts}
-use Rattle.buffa_node.specs.NodeText.{kid_record, kids_records, kids_encoding, number_writing, records, shades_encoding, text, text_writing}
+use Rattle.buffa_node.specs.NodeEncoding.{kid_record, kids_records, kids_encoding, number_writing, records, shades_encoding, encoding, text_writing}
 
 pub node_stays : (m : ChildMeaning) (c : ChildCost) → Stays (node_need m c)
 node_stays m c d n w p x h =
@@ -45,9 +45,9 @@ cost_next (suc d) = fields.cost_of_next (node_need (merged d) (cost d)) (node_st
 -- ---- the text is that of records
 kids_are : (ks : Kids) → kids_encoding ks ≡ records_encoding (kids_records ks)
 kids_are no_kids = refl
-kids_are (kid k t ks) = ap (λ (z : List ℕ). kid_record k (text t) ++ z) (kids_are ks)
+kids_are (kid k t ks) = ap (λ (z : List ℕ). kid_record k (encoding t) ++ z) (kids_are ks)
 
-pub encoding_records : (t : Branch) → text t ≡ records_encoding (records t)
+pub encoding_records : (t : Branch) → encoding t ≡ records_encoding (records t)
 encoding_records (branch a ks h r) =
     let one = map_records text_writing number_writing 1 a in
     let two = kids_records ks in

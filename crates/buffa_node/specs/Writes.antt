@@ -11,5 +11,5 @@ only_memory _ = Ok tt
 
 -- a text was written behind these bytes, where it isn't too large, or a beginning of it, where memory ran out
 abbrev pub WritesSmall : List ℕ → List ℕ → Result (Unit {0}) EncodeError → List ℕ → Type 0
-WritesSmall text before r new =
-    (bs : List ℕ) × (new ≡ before ++ bs) × MatchResult r (λ _. IsSmall text → bs ≡ text) (λ e. (e ≡ OutOfMemory) × (IsSmall text → Begins bs text))
+WritesSmall encoding before r new =
+    (bs : List ℕ) × (new ≡ before ++ bs) × MatchResult r (λ _. IsSmall encoding → bs ≡ encoding) (λ e. (e ≡ OutOfMemory) × (IsSmall encoding → Begins bs encoding))

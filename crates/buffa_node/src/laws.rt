@@ -5,7 +5,7 @@ ghost use Rattle.buffa_bytes.specs.Pinned.{IsCopied, SameIsOne};
 ghost use Rattle.buffa_map.specs.Pairs.{means};
 ghost use Rattle.buffa_node.specs.Branch.{Branch, bare, branch, kids, shade_number};
 ghost use Rattle.buffa_node.specs.NodeMeaning.{cost, merged};
-ghost use Rattle.buffa_node.specs.NodeText.{IsNormal, levels, records, slots, text};
+ghost use Rattle.buffa_node.specs.NodeEncoding.{IsNormal, encoding, levels, records, slots};
 
 use crate::node::Node;
 use crate::shade::Shade;
@@ -16,7 +16,7 @@ use std::collections::BTreeMap;
 /// their text nests. Nothing is open.
 pub fn node_is_this()
     ensures merged { (⟦<Node as MessageSpec>⟧.merged ≡ merged) × (⟦<Node as MessageSpec>⟧.cost ≡ cost) }
-    ensures text { (⟦<Node as MessageSpec>⟧.text ≡ text) × (⟦<Node as MessageSpec>⟧.records ≡ records) }
+    ensures encoding { (⟦<Node as MessageSpec>⟧.encoding ≡ encoding) × (⟦<Node as MessageSpec>⟧.records ≡ records) }
     ensures slots { (⟦<Node as MessageSpec>⟧.slots ≡ slots) × (⟦<Node as MessageSpec>⟧.COST ≡ 96) }
     ensures levels { ⟦<Node as MessageSpec>⟧.levels ≡ levels }
     ensures normal { (v : Branch) → ⟦<Node as MessageSpec>⟧.normal v ↔ IsNormal v }

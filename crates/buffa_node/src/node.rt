@@ -11,7 +11,7 @@ ghost use Rattle.buffa_wire.specs.Gives.{FullOnlyIf};
 ghost use Rattle.buffa_wire.specs.Message.{BeginsField, IsFieldMerged, IsMerged};
 ghost use Rattle.buffa_node.specs.Calls.{TakesChild};
 ghost use Rattle.buffa_node.specs.NodeMeaning.{cost, merged};
-ghost use Rattle.buffa_node.specs.NodeText.{IsNodeWritten, meant, number_writing, slots, text};
+ghost use Rattle.buffa_node.specs.NodeEncoding.{IsNodeWritten, encoding, meant, number_writing, slots};
 ghost use Rattle.buffa_node.specs.Stops.{Stops};
 
 use crate::maps::{merge_score, merge_shade, write_map};
@@ -88,7 +88,7 @@ impl Blank for Node {
 
 impl MessageSpec for Node {
     ghost use Rattle.std.proofs.Common.{arith};
-    ghost use Rattle.buffa_node.specs.NodeText.{IsNormal, levels, records};
+    ghost use Rattle.buffa_node.specs.NodeEncoding.{IsNormal, levels, records};
     ghost use Rattle.buffa_node.specs.NodeBack.{back};
     ghost use Rattle.buffa_node.specs.NodeLaws.{cost_empty, cost_next, encoding_records};
     ghost use Rattle.buffa_node.specs.NodeLaws.{merged_empty, merged_fields, merged_next};
@@ -101,7 +101,7 @@ impl MessageSpec for Node {
 
     ghost cost = { cost };
 
-    ghost text = { text };
+    ghost encoding = { encoding };
 
     ghost records = { records };
 
@@ -130,7 +130,7 @@ impl MessageSpec for Node {
 
 impl Message for Node {
     fn compute_size(&self, cache: &mut SizeCache) -> Result<u32, EncodeError>
-        ensures sized { IsSized (text self.now) (slots self.now) cache.old result cache.new }
+        ensures sized { IsSized (encoding self.now) (slots self.now) cache.old result cache.new }
         ensures some { OnErr result (slots self.now ≢ []) }
     {
         size_node(self, cache)
@@ -170,7 +170,7 @@ impl Message for Node {
 /// let size = size_node(child, cache);
 /// ```
 pub fn size_node(node: &Node, cache: &mut SizeCache) -> Result<u32, EncodeError>
-    ensures sized { IsSized (text node.now) (slots node.now) cache.old result cache.new }
+    ensures sized { IsSized (encoding node.now) (slots node.now) cache.old result cache.new }
     ensures some { OnErr result (slots node.now ≢ []) }
 {
     let children = message_field_len_by::<Int32, Node, BTreeMap<i32, Node>, _>(
@@ -178,7 +178,7 @@ pub fn size_node(node: &Node, cache: &mut SizeCache) -> Result<u32, EncodeError>
         1,
         cache,
         |child: &Node, cache: &mut SizeCache| -> Result<u32, EncodeError>
-            ensures { IsSized (text child.now) (slots child.now) cache.old result cache.new }
+            ensures { IsSized (encoding child.now) (slots child.now) cache.old result cache.new }
         { size_node(child, cache) },
     )?;
     let scores = field_len::<Str, Int32, BTreeMap<String, i32>>(&node.scores, 1);
@@ -203,12 +203,12 @@ fn write_children_by<S: EncodeSink, F>(
 ) -> Result<(), EncodeError>
 where
     F: Fn(&Node, &mut SizeCache, &mut S) -> Result<(), EncodeError>,
-    requires next { IsNext (field_slots text slots (meant children.now.entries)) cache.old }
+    requires next { IsNext (field_slots encoding slots (meant children.now.entries)) cache.old }
     requires may { (x c s : _) → Contains (values children.now) x.now → IsNext (slots x.now) c.now →
         F.pre write x c s }
     requires keeps { (x c s r d t : _) → Contains (values children.now) x.now →
         F.post write x c s r d t → IsNodeWritten x.now c.now (S.written s.now) r d.now (S.written t.now) }
-    ensures { IsFieldWritten number_writing text slots 2 (meant children.now.entries) cache.old (S.written sink.old)
+    ensures { IsFieldWritten number_writing encoding slots 2 (meant children.now.entries) cache.old (S.written sink.old)
         result cache.new (S.written sink.new) }
 {
     write_message_field_by::<Int32, Node, BTreeMap<i32, Node>, S, F>(

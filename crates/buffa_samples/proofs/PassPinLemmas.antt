@@ -12,7 +12,7 @@ use Rattle.buffa_map.specs.Pairs.{SamePairs}
 use Rattle.buffa_map.specs.declared.rewrite.RewriteError.{RewriteError}
 use Rattle.buffa_map.specs.declared.rewrite.RewriteError.TheVariants as rewriting
 use Rattle.buffa_map.proofs.PinLemmas.{run_is_pinned}
-use Rattle.buffa_map.proofs.PinTextLemmas.{rewrite_is_pinned}
+use Rattle.buffa_map.proofs.PinEncodingLemmas.{rewrite_is_pinned}
 use Rattle.buffa_samples.specs.Passed.{IsRewritten, NotRewritten, Proxy}
 use Rattle.buffa_samples.specs.Pinned.{IsFullRewrite, PassIsPinned}
 

@@ -27,7 +27,7 @@ use Rattle.buffa_samples.proofs.SortedLemmas.{same_sorted, sorted_put}
 use Rattle.buffa_samples.specs.Grown.{Grown, grown, no_kids}
 use Rattle.buffa_samples.specs.TreeLaws.{entry_no_limit}
 use Rattle.buffa_samples.specs.TreeMeaning.{ChildCost, ChildMeaning, IsChildMerged, child_at, child_reading, cost, entry_need, key_reading, merged}
-use Rattle.buffa_samples.specs.TreeText.{meant, meant-is}
+use Rattle.buffa_samples.specs.TreeEncoding.{meant, meant-is}
 
 abbrev done : Result (Unit {0}) DecodeError
 done = Ok tt

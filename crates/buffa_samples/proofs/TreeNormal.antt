@@ -31,7 +31,7 @@ use Rattle.buffa_samples.specs.Fields.{int32_field, skipped_field}
 use Rattle.buffa_samples.specs.FieldsLaws.{Keeps, merged_keeps}
 use Rattle.buffa_samples.specs.Grown.{Grown, grown, kids, kids-listed, listed, listed-kids, no_kids}
 use Rattle.buffa_samples.specs.TreeMeaning.{ChildMeaning, child_at, child_field, child_reading, key_reading, merged, tree_field, with_child, with_label}
-use Rattle.buffa_samples.specs.TreeText.{AreNormal, IsNormal}
+use Rattle.buffa_samples.specs.TreeEncoding.{AreNormal, IsNormal}
 
 int32_fits : (n : ℕ) → FitsSigned w32 (int32_of n)
 unfolding int_wrap

@@ -13,7 +13,7 @@ use Rattle.buffa_map.proofs.MessageFieldLemmas.{small_field}
 use Rattle.buffa_map.proofs.SizeLemmas.{length-field_encoding}
 use Rattle.buffa_samples.specs.Flat.{value_encoding}
 use Rattle.buffa_samples.specs.Grown.{Grown, grown, height, heights, kids}
-use Rattle.buffa_samples.specs.TreeText.{key_writing, meant, meant-is, slots, slots-field, text, texts-field}
+use Rattle.buffa_samples.specs.TreeEncoding.{key_writing, meant, meant-is, slots, slots-field, encoding, kids_encoding-field}
 
 tag_one : length (tag_encoding 2 LengthDelimited) ≡ 1
 tag_one = ap length (varint_encoding-last 18 (omega arith))
@@ -21,20 +21,20 @@ tag_one = ap length (varint_encoding-last 18 (omega arith))
 no_list : {P : Type 0} (x : ℕ) (xs : List ℕ) → x ∷ xs ≡ [] → P
 no_list x xs e = cc
 
-no_slots : (es : List (ℤ × Grown)) → field_slots text slots es ≡ [] → es ≡ []
+no_slots : (es : List (ℤ × Grown)) → field_slots encoding slots es ≡ [] → es ≡ []
 no_slots [] e = refl
 no_slots (p ∷ es) e = no_list _ _ e
 
 module _ (t : Grown) (l : ℤ) (es : List (ℤ × Grown)) (is : grown l (kids es) ≡ t) where
-  pub text_is : text t ≡ value_encoding l ++ field_encoding key_writing (delimited_writing text) 2 (meant es)
-  text_is = ap text (sym is) ∙ ap (λ (r : List ℕ). value_encoding l ++ r) (texts-field es)
+  pub text_is : encoding t ≡ value_encoding l ++ field_encoding key_writing (delimited_writing encoding) 2 (meant es)
+  text_is = ap encoding (sym is) ∙ ap (λ (r : List ℕ). value_encoding l ++ r) (kids_encoding-field es)
 
-  pub length_is : length (text t) ≡ length (value_encoding l) + field_size key_writing (delimited_writing text) 1 (meant es)
-  length_is = ap length text_is ∙ length-append (value_encoding l) (field_encoding key_writing (delimited_writing text) 2 (meant es))
-      ∙ ap (λ (n : ℕ). length (value_encoding l) + n) (length-field_encoding key_writing (delimited_writing text) 2 (meant es))
-      ∙ ap (λ (k : ℕ). length (value_encoding l) + field_size key_writing (delimited_writing text) k (meant es)) tag_one
+  pub length_is : length (encoding t) ≡ length (value_encoding l) + field_size key_writing (delimited_writing encoding) 1 (meant es)
+  length_is = ap length text_is ∙ length-append (value_encoding l) (field_encoding key_writing (delimited_writing encoding) 2 (meant es))
+      ∙ ap (λ (n : ℕ). length (value_encoding l) + n) (length-field_encoding key_writing (delimited_writing encoding) 2 (meant es))
+      ∙ ap (λ (k : ℕ). length (value_encoding l) + field_size key_writing (delimited_writing encoding) k (meant es)) tag_one
 
-  pub slots_is : field_slots text slots (meant es) ≡ slots t
+  pub slots_is : field_slots encoding slots (meant es) ≡ slots t
   slots_is = sym (slots-field es) ∙ ap slots is
 
   -- a tree with a child has slots
@@ -42,14 +42,14 @@ module _ (t : Grown) (l : ℤ) (es : List (ℤ × Grown)) (is : grown l (kids es
   slots_there h none = h (no_slots (meant es) (slots_is ∙ none))
 
   -- a tree that is small has a small field
-  pub small_kids : IsSmall (text t) → IsSmallField key_writing text (meant es)
-  small_kids h = small_field key_writing text 1 (meant es) (omega (arith, length_is, h))
+  pub small_kids : IsSmall (encoding t) → IsSmallField key_writing encoding (meant es)
+  small_kids h = small_field key_writing encoding 1 (meant es) (omega (arith, length_is, h))
 
-  module _ (n label total : ℕ) (sized : cap n ≡ cap (field_size key_writing (delimited_writing text) 1 (meant es))) (labelled : label ≡ length (value_encoding l)) (summed : total ≡ min (n + label) 18446744073709551615) where
-    pub small_total : total < 4294967295 → total ≡ cap (length (text t))
+  module _ (n label total : ℕ) (sized : cap n ≡ cap (field_size key_writing (delimited_writing encoding) 1 (meant es))) (labelled : label ≡ length (value_encoding l)) (summed : total ≡ min (n + label) 18446744073709551615) where
+    pub small_total : total < 4294967295 → total ≡ cap (length (encoding t))
     small_total h = omega (arith, length_is, sized, labelled, summed)
 
-    pub large_total : 4294967295 ≤ total → 4294967295 ≡ cap (length (text t))
+    pub large_total : 4294967295 ≤ total → 4294967295 ≡ cap (length (encoding t))
     large_total h = omega (arith, length_is, sized, labelled, summed)
 
 -- a child is smaller than the tree

@@ -12,7 +12,7 @@ pub mod Passed
 pub mod KeepLaws
 pub mod Grown
 pub mod GrownFalls
-pub mod TreeText
+pub mod TreeEncoding
 pub mod TreeMeaning
 pub mod RoundTrip
 pub mod TreeLaws

@@ -29,7 +29,7 @@ use Rattle.buffa_samples.specs.FieldsLaws.{both_records, int32_same, int32_sound
 use Rattle.buffa_samples.specs.Flat.{value_records, value_encoding}
 use Rattle.buffa_samples.specs.Grown.{Grown, grown, Kids, no_kids, kid}
 use Rattle.buffa_samples.specs.TreeMeaning.{ChildCost, ChildMeaning, child_at, child_field, child_need, child_reading, cost, key_reading, merged, tree_field, tree_need, with_child, with_label}
-use Rattle.buffa_samples.specs.TreeText.{kid_record, kids_records, records, text, texts}
+use Rattle.buffa_samples.specs.TreeEncoding.{kid_record, kids_records, records, encoding, kids_encoding}
 
 lacks_itself : (a : BudgetLeft) → Lacks a a → ⊥
 lacks_itself a (inl h) = omega (arith, h)
@@ -130,9 +130,9 @@ cost_next zero = costs.cost_next (tree_need zero (λ _ _. None) (λ _. nothing))
 cost_next (suc d) = costs.cost_next (tree_need (suc d) (merged d) (cost d)) (suc d) (tree_stays (suc d) (merged d) (cost d))
 
 -- ---- the text is that of records
-kids_encoding : (ks : Kids) → texts ks ≡ records_encoding (kids_records ks)
-kids_encoding no_kids = refl
-kids_encoding (kid k t ks) = ap (λ (z : List ℕ). kid_record k (text t) ++ z) (kids_encoding ks)
+kids_encoding_records : (ks : Kids) → kids_encoding ks ≡ records_encoding (kids_records ks)
+kids_encoding_records no_kids = refl
+kids_encoding_records (kid k t ks) = ap (λ (z : List ℕ). kid_record k (encoding t) ++ z) (kids_encoding_records ks)
 
-pub encoding_records : (t : Grown) → text t ≡ records_encoding (records t)
-encoding_records (grown l ks) = both_records (value_encoding l) (texts ks) (value_records l) (kids_records ks) (number_encoding_records 1 l) (kids_encoding ks)
+pub encoding_records : (t : Grown) → encoding t ≡ records_encoding (records t)
+encoding_records (grown l ks) = both_records (value_encoding l) (kids_encoding ks) (value_records l) (kids_records ks) (number_encoding_records 1 l) (kids_encoding_records ks)

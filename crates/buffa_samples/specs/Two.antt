@@ -19,8 +19,8 @@ abbrev pub two_cost : ℕ → List ℕ → BudgetLeft
 two_cost d bs = nothing
 
 -- the fields of both values, each not written at 0
-abbrev pub two_text : ℤ × ℤ → List ℕ
-two_text v = number_encoding 1 v.0 ++ number_encoding 2 v.1
+abbrev pub two_encoding : ℤ × ℤ → List ℕ
+two_encoding v = number_encoding 1 v.0 ++ number_encoding 2 v.1
 
 -- their records
 abbrev pub two_records : ℤ × ℤ → List (ℕ × Datum)

@@ -11,7 +11,7 @@ use Rattle.buffa_wire.specs.ByField.{merged_by}
 use Rattle.buffa_samples.specs.Fields.{int32_field, number_records, number_encoding, skipped_field}
 use Rattle.buffa_wire.proofs.ByFieldLemmas.{IsSame, IsSound, empty}
 use Rattle.buffa_samples.specs.FieldsLaws.{Ends, both_records, ends_if, int32_ends, int32_same, int32_sound, number_read, number_encoding_records, same_if, skipped_ends, skipped_same, skipped_sound}
-use Rattle.buffa_samples.specs.Two.{two_field, two_merged, two_records, two_text}
+use Rattle.buffa_samples.specs.Two.{two_field, two_merged, two_records, two_encoding}
 
 pub two_sound : (d : ℕ) → IsSound d (two_field d)
 two_sound d v n w bs = agree_if (n == 1) (λ _. int32_sound d n 1 (λ x. (x, v.1)) w bs)
@@ -32,10 +32,10 @@ two_ends d v n bs =
 pub two_cost_some : 0 < 32
 two_cost_some = omega arith
 
-pub two_text_records : (v : ℤ × ℤ) → two_text v ≡ records_encoding (two_records v)
-two_text_records v = both_records (number_encoding 1 v.0) (number_encoding 2 v.1) (number_records 1 v.0) (number_records 2 v.1) (number_encoding_records 1 v.0) (number_encoding_records 2 v.1)
+pub two_encoding_records : (v : ℤ × ℤ) → two_encoding v ≡ records_encoding (two_records v)
+two_encoding_records v = both_records (number_encoding 1 v.0) (number_encoding 2 v.1) (number_records 1 v.0) (number_records 2 v.1) (number_encoding_records 1 v.0) (number_encoding_records 2 v.1)
 
-pub two_back : (d : ℕ) (v : ℤ × ℤ) → FitsSigned w32 v.0 → FitsSigned w32 v.1 → two_merged d (pos 0, pos 0) (two_text v) ≡ Some v
+pub two_back : (d : ℕ) (v : ℤ × ℤ) → FitsSigned w32 v.0 → FitsSigned w32 v.1 → two_merged d (pos 0, pos 0) (two_encoding v) ≡ Some v
 two_back d v h k =
     let one : two_field d (pos 0, pos 0) 1 Varint (int32_encoding v.0 ++ number_encoding 2 v.1) ≡ Ok ((v.0, pos 0), number_encoding 2 v.1) = rw (int32_back v.0 (number_encoding 2 v.1) h) refl in
     let two : two_field d (v.0, pos 0) 2 Varint (int32_encoding v.1 ++ []) ≡ Ok ((v.0, v.1), []) = rw (int32_back v.1 [] k) refl in

@@ -50,7 +50,7 @@ impl MessageSpec for CountMsg {
 
     ghost cost = { count_cost };
 
-    ghost text = { count_encoding };
+    ghost encoding = { count_encoding };
 
     ghost records = { count_records };
 

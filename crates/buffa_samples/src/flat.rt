@@ -52,7 +52,7 @@ impl MessageSpec for FlatMsg {
 
     ghost cost = { flat_cost };
 
-    ghost text = { value_encoding };
+    ghost encoding = { value_encoding };
 
     ghost records = { value_records };
 

@@ -75,7 +75,7 @@ impl MessageSpec for BudgetMsg {
 
     ghost cost = { keep_cost };
 
-    ghost text = { records_encoding };
+    ghost encoding = { records_encoding };
 
     ghost records = { λ v. v };
 

@@ -18,8 +18,8 @@ ghost use Rattle.buffa_samples.specs.Letters.{lower, same_letters};
 ghost use Rattle.buffa_samples.specs.Passed.{proxy};
 ghost use Rattle.buffa_samples.specs.Pinned.{PassIsPinned, TripIsPinned};
 ghost use Rattle.buffa_samples.specs.TreeMeaning.{cost, merged};
-ghost use Rattle.buffa_samples.specs.TreeText.{IsNormal, levels, records, slots, text};
-ghost use Rattle.buffa_samples.specs.Two.{two_cost, two_merged, two_records, two_text};
+ghost use Rattle.buffa_samples.specs.TreeEncoding.{IsNormal, encoding, levels, records, slots};
+ghost use Rattle.buffa_samples.specs.Two.{two_cost, two_merged, two_records, two_encoding};
 
 use crate::count::CountMsg;
 use crate::flat::FlatMsg;
@@ -44,15 +44,15 @@ pub fn trees_stay_normal()
 /// Which message each sample is: what bytes make of it, what they cost, and its text. Nothing is open.
 pub fn messages_are_these()
     ensures flat { (⟦<FlatMsg as MessageSpec>⟧.merged ≡ flat_merged) × (⟦<FlatMsg as MessageSpec>⟧.cost ≡ flat_cost) }
-    ensures flat_text { ⟦<FlatMsg as MessageSpec>⟧.text ≡ value_encoding }
+    ensures flat_encoding { ⟦<FlatMsg as MessageSpec>⟧.encoding ≡ value_encoding }
     ensures two { (⟦<TestMsg as MessageSpec>⟧.merged ≡ two_merged) × (⟦<TestMsg as MessageSpec>⟧.cost ≡ two_cost) }
-    ensures two_text { ⟦<TestMsg as MessageSpec>⟧.text ≡ two_text }
+    ensures two_encoding { ⟦<TestMsg as MessageSpec>⟧.encoding ≡ two_encoding }
     ensures count { (⟦<CountMsg as MessageSpec>⟧.merged ≡ count_merged) × (⟦<CountMsg as MessageSpec>⟧.cost ≡ count_cost) }
-    ensures count_encoding { ⟦<CountMsg as MessageSpec>⟧.text ≡ count_encoding }
+    ensures count_encoding { ⟦<CountMsg as MessageSpec>⟧.encoding ≡ count_encoding }
     ensures keep { (⟦<BudgetMsg as MessageSpec>⟧.merged ≡ keep_merged) × (⟦<BudgetMsg as MessageSpec>⟧.cost ≡ keep_cost) }
-    ensures keep_text { ⟦<BudgetMsg as MessageSpec>⟧.text ≡ records_encoding }
+    ensures keep_encoding { ⟦<BudgetMsg as MessageSpec>⟧.encoding ≡ records_encoding }
     ensures tree { (⟦<Tree as MessageSpec>⟧.merged ≡ merged) × (⟦<Tree as MessageSpec>⟧.cost ≡ cost) }
-    ensures tree_text { ⟦<Tree as MessageSpec>⟧.text ≡ text }
+    ensures tree_encoding { ⟦<Tree as MessageSpec>⟧.encoding ≡ encoding }
     ensures tree_slots { ⟦<Tree as MessageSpec>⟧.slots ≡ slots }
     ensures numbers_slots { (⟦<FlatMsg as MessageSpec>⟧.slots ≡ (λ _. [])) × (⟦<TestMsg as MessageSpec>⟧.slots ≡ (λ _. [])) }
     ensures lists_slots { (⟦<CountMsg as MessageSpec>⟧.slots ≡ (λ _. [])) × (⟦<BudgetMsg as MessageSpec>⟧.slots ≡ (λ _. [])) }

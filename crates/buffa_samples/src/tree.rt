@@ -9,7 +9,7 @@ ghost use Rattle.std.specs.Prelude.{◌≡◌, ◌≢◌, ◌+◌};
 ghost use Rattle.buffa_wire.specs.Gives.{FullOnlyIf};
 ghost use Rattle.buffa_wire.specs.Message.{BeginsField, IsFieldMerged, IsMerged};
 ghost use Rattle.buffa_samples.specs.TreeMeaning.{IsChildMerged, cost, merged};
-ghost use Rattle.buffa_samples.specs.TreeText.{IsTreeWritten, key_writing, meant, slots, text};
+ghost use Rattle.buffa_samples.specs.TreeEncoding.{IsTreeWritten, encoding, key_writing, meant, slots};
 
 use crate::flat::merge_value;
 use crate::int32_field::{number_len, write_number};
@@ -73,7 +73,7 @@ impl Blank for Tree {
 
 impl MessageSpec for Tree {
     ghost use Rattle.std.proofs.Common.{arith};
-    ghost use Rattle.buffa_samples.specs.TreeText.{IsNormal, levels, records};
+    ghost use Rattle.buffa_samples.specs.TreeEncoding.{IsNormal, levels, records};
     ghost use Rattle.buffa_samples.specs.TreeBack.{back};
     ghost use Rattle.buffa_samples.specs.TreeLaws.{cost_empty, cost_next, encoding_records};
     ghost use Rattle.buffa_samples.specs.TreeLaws.{merged_empty, merged_fields, merged_next};
@@ -86,7 +86,7 @@ impl MessageSpec for Tree {
 
     ghost cost = { cost };
 
-    ghost text = { text };
+    ghost encoding = { encoding };
 
     ghost records = { records };
 
@@ -115,7 +115,7 @@ impl MessageSpec for Tree {
 
 impl Message for Tree {
     fn compute_size(&self, cache: &mut SizeCache) -> Result<u32, EncodeError>
-        ensures sized { IsSized (text self.now) (slots self.now) cache.old result cache.new }
+        ensures sized { IsSized (encoding self.now) (slots self.now) cache.old result cache.new }
         ensures some { OnErr result (slots self.now ≢ []) }
     {
         size_tree(self, cache)
@@ -150,7 +150,7 @@ impl Message for Tree {
 /// let size = size_tree(child, cache);
 /// ```
 pub fn size_tree(tree: &Tree, cache: &mut SizeCache) -> Result<u32, EncodeError>
-    ensures sized { IsSized (text tree.now) (slots tree.now) cache.old result cache.new }
+    ensures sized { IsSized (encoding tree.now) (slots tree.now) cache.old result cache.new }
     ensures some { OnErr result (slots tree.now ≢ []) }
 {
     let children = message_field_len_by::<Int32, Tree, BTreeMap<i32, Tree>, _>(
@@ -158,7 +158,7 @@ pub fn size_tree(tree: &Tree, cache: &mut SizeCache) -> Result<u32, EncodeError>
         1,
         cache,
         |child: &Tree, cache: &mut SizeCache| -> Result<u32, EncodeError>
-            ensures { IsSized (text child.now) (slots child.now) cache.old result cache.new }
+            ensures { IsSized (encoding child.now) (slots child.now) cache.old result cache.new }
         { size_tree(child, cache) },
     )?;
     let total = children.saturating_add(u64::from(number_len(1, &tree.label)));
@@ -180,12 +180,12 @@ fn write_children_by<S: EncodeSink, F>(
 ) -> Result<(), EncodeError>
 where
     F: Fn(&Tree, &mut SizeCache, &mut S) -> Result<(), EncodeError>,
-    requires next { IsNext (field_slots text slots (meant children.now.entries)) cache.old }
+    requires next { IsNext (field_slots encoding slots (meant children.now.entries)) cache.old }
     requires may { (x c s : _) → Contains (values children.now) x.now → IsNext (slots x.now) c.now →
         F.pre write x c s }
     requires keeps { (x c s r d t : _) → Contains (values children.now) x.now →
         F.post write x c s r d t → IsTreeWritten x.now c.now (S.written s.now) r d.now (S.written t.now) }
-    ensures { IsFieldWritten key_writing text slots 2 (meant children.now.entries) cache.old (S.written sink.old)
+    ensures { IsFieldWritten key_writing encoding slots 2 (meant children.now.entries) cache.old (S.written sink.old)
         result cache.new (S.written sink.new) }
 {
     write_message_field_by::<Int32, Tree, BTreeMap<i32, Tree>, S, F>(

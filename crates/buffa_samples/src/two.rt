@@ -8,8 +8,8 @@ ghost use Rattle.buffa_wire.specs.Gives.{FullOnlyIf, Gives};
 ghost use Rattle.buffa_wire.specs.Message.{MergesField};
 ghost use Rattle.buffa_wire.specs.Passes.{IsSized};
 ghost use Rattle.buffa_wire.proofs.ByFieldLemmas.{empty, fields, next};
-ghost use Rattle.buffa_samples.specs.Two.{two_cost, two_field, two_merged, two_records, two_text};
-ghost use Rattle.buffa_samples.specs.TwoLaws.{two_back, two_cost_some, two_same, two_sound, two_text_records};
+ghost use Rattle.buffa_samples.specs.Two.{two_cost, two_field, two_merged, two_records, two_encoding};
+ghost use Rattle.buffa_samples.specs.TwoLaws.{two_back, two_cost_some, two_same, two_sound, two_encoding_records};
 
 use crate::int32_field::{number_len, write_number};
 use buffa_wire::types::decode_int32;
@@ -53,7 +53,7 @@ impl MessageSpec for TestMsg {
 
     ghost cost = { two_cost };
 
-    ghost text = { two_text };
+    ghost encoding = { two_encoding };
 
     ghost records = { two_records };
 
@@ -63,7 +63,7 @@ impl MessageSpec for TestMsg {
 
     ghost normal = { λ v. FitsSigned w32 v.0 × FitsSigned w32 v.1 };
 
-    ghost encoding_records = { two_text_records };
+    ghost encoding_records = { two_encoding_records };
 
     ghost merged_encoding = { λ d v _ h _. two_back d v h.0 h.1 };
 
@@ -108,7 +108,7 @@ fn merge_values(
 
 impl Message for TestMsg {
     fn compute_size(&self, _cache: &mut SizeCache) -> Result<u32, EncodeError>
-        ensures sized { IsSized (two_text (self.now.a, self.now.b)) [] _cache.old result _cache.new }
+        ensures sized { IsSized (two_encoding (self.now.a, self.now.b)) [] _cache.old result _cache.new }
         ensures always { IsOk result }
     {
         Ok(number_len(1, &self.a) + number_len(2, &self.b))

@@ -1,4 +1,4 @@
 pub mod FieldLemmas
 pub mod MergeLemmas
-pub mod TextLemmas
+pub mod EncodingLemmas
 mod PinLemmas

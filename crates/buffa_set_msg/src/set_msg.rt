@@ -88,7 +88,7 @@ impl MessageSpec for SetMsg {
 
     ghost cost = { set_cost };
 
-    ghost text = { set_encoding };
+    ghost encoding = { set_encoding };
 
     ghost records = { set_records };
 

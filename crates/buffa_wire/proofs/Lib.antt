@@ -1,5 +1,5 @@
 pub mod RecordLemmas
-pub mod TextLemmas
+pub mod EncodingLemmas
 pub mod ReadLemmas
 pub mod LoopLemmas
 pub mod ParseLemmas

@@ -10,7 +10,7 @@ cap n = min n (2 ^ 32 - 1)
 
 -- a message of this text isn't too large to be written
 abbrev pub IsSmall : List ℕ → Type 0
-IsSmall text = length text < 2 ^ 31
+IsSmall encoding = length encoding < 2 ^ 31
 
 -- the old slots come first, and nothing was consumed
 abbrev pub IsLonger : Cache → Cache → Type 0
@@ -18,8 +18,8 @@ IsLonger old new = (more : List ℕ) × (new ≡ appended more old)
 
 -- the size pass over a value of this text and these slots
 abbrev pub IsSized : List ℕ → List ℕ → Cache → Result ℕ EncodeError → Cache → Type 0
-IsSized text slots old r new =
-    MatchResult r (λ n. (n ≡ cap (length text)) × (new ≡ appended slots old)) (λ e. (e ≡ OutOfMemory) × IsLonger old new)
+IsSized encoding slots old r new =
+    MatchResult r (λ n. (n ≡ cap (length encoding)) × (new ≡ appended slots old)) (λ e. (e ≡ OutOfMemory) × IsLonger old new)
 
 -- the next slots are these
 abbrev pub IsNext : List ℕ → Cache → Type 0
@@ -27,7 +27,7 @@ IsNext slots c = (rest : List ℕ) × (left c ≡ slots ++ rest)
 
 -- bs begins the text, and isn't all of it
 abbrev pub Begins : List ℕ → List ℕ → Type 0
-Begins bs text = (rest : List ℕ) × (text ≡ bs ++ rest) × (0 < length rest)
+Begins bs encoding = (rest : List ℕ) × (encoding ≡ bs ++ rest) × (0 < length rest)
 
 -- some of these slots were consumed, in order, and nothing else changed
 abbrev pub Consumes : List ℕ → Cache → Cache → Type 0
@@ -36,12 +36,12 @@ Consumes slots old new = (n : ℕ) × (n ≤ length slots) × (new ≡ advanced 
 -- the write pass over it: the sink's old bytes stay first, and these slots are consumed; where the premise holds the
 -- text is written, or a beginning of it, and not all, if memory runs out, and of the slots some are consumed then
 abbrev pub WritesIf : {T : Type 0} → Type 0 → List ℕ → List ℕ → Cache → List ℕ → Result T EncodeError → Cache → List ℕ → Type 0
-WritesIf small text slots old before r new after =
+WritesIf small encoding slots old before r new after =
     (bs : List ℕ) × (after ≡ before ++ bs)
     × MatchResult r
-    (λ _. (new ≡ advanced (length slots) old) × (small → bs ≡ text))
-    (λ e. (e ≡ OutOfMemory) × (small → Begins bs text) × Consumes slots old new)
+    (λ _. (new ≡ advanced (length slots) old) × (small → bs ≡ encoding))
+    (λ e. (e ≡ OutOfMemory) × (small → Begins bs encoding) × Consumes slots old new)
 
 -- the same of a message, whose text is written where it isn't too large
 abbrev pub IsWritten : {T : Type 0} → List ℕ → List ℕ → Cache → List ℕ → Result T EncodeError → Cache → List ℕ → Type 0
-IsWritten text slots old before r new after = WritesIf (IsSmall text) text slots old before r new after
+IsWritten encoding slots old before r new after = WritesIf (IsSmall encoding) encoding slots old before r new after

@@ -51,12 +51,12 @@ pub record InsideIsPinned {X : Type 0} (merged : ℕ → X → List ℕ → Opti
   pub left : (e : DecodeError) (r s : List ℕ) → e ≢ OutOfMemory → LeavesText (told e) bs r → LeavesText (told e) bs s → r ≡ s
 
 -- A value is sized in one way only; its text, where it is small, is written in one way only.
-pub record PassesArePinned (text slots : List ℕ) (old : Cache) : Type 0 where
+pub record PassesArePinned (encoding slots : List ℕ) (old : Cache) : Type 0 where
   pub sized : (m n : ℕ) (a b : Cache) →
-      (let r : Result ℕ EncodeError = Ok m in IsSized text slots old r a) → (let r : Result ℕ EncodeError = Ok n in IsSized text slots old r b) → (m ≡ n) × (a ≡ b)
-  pub written : (before x y : List ℕ) (a b : Cache) → IsSmall text →
-      (let r : Result (Unit {0}) EncodeError = done in IsWritten text slots old before r a x) →
-      (let r : Result (Unit {0}) EncodeError = done in IsWritten text slots old before r b y) → (x ≡ y) × (a ≡ b)
+      (let r : Result ℕ EncodeError = Ok m in IsSized encoding slots old r a) → (let r : Result ℕ EncodeError = Ok n in IsSized encoding slots old r b) → (m ≡ n) × (a ≡ b)
+  pub written : (before x y : List ℕ) (a b : Cache) → IsSmall encoding →
+      (let r : Result (Unit {0}) EncodeError = done in IsWritten encoding slots old before r a x) →
+      (let r : Result (Unit {0}) EncodeError = done in IsWritten encoding slots old before r b y) → (x ≡ y) × (a ≡ b)
   -- where memory ran out, no slot but the text's own was consumed, and none was changed
   pub consumed : (a : Cache) → Consumes slots old a → (a.slots ≡ old.slots) × (old.next ≤ a.next) × (a.next ≤ old.next + length slots)
 

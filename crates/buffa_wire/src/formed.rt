@@ -153,7 +153,7 @@ where
 
     ghost cost = { M.Form.cost };
 
-    ghost text = { λ v. records_encoding (M.Form.records v) };
+    ghost encoding = { λ v. records_encoding (M.Form.records v) };
 
     ghost records = { M.Form.records };
 

@@ -51,7 +51,7 @@ pub trait MessageSpec: Blank {
     ghost cost: { ℕ → List ℕ → BudgetLeft };
 
     /// The text of a value.
-    ghost text: { Self.Meaning → List ℕ };
+    ghost encoding: { Self.Meaning → List ℕ };
 
     /// The records whose text it is.
     ghost records: { Self.Meaning → List (ℕ × Datum) };
@@ -66,11 +66,11 @@ pub trait MessageSpec: Blank {
     ghost normal: { Self.Meaning → Type 0 };
 
     /// The text is that of the records.
-    ghost encoding_records: { (v : Self.Meaning) → text v ≡ records_encoding (records v) };
+    ghost encoding_records: { (v : Self.Meaning) → encoding v ≡ records_encoding (records v) };
 
     /// The text reads back, where no length is too large to be read.
     ghost merged_encoding: { (d : ℕ) (v : Self.Meaning) → Fits (records_of (records v)) → normal v → levels v ≤ d →
-        merged d Self.blank_is (text v) ≡ Some v };
+        merged d Self.blank_is (encoding v) ≡ Some v };
 
     /// An element has a cost.
     ghost positive: { 0 < COST };
@@ -107,7 +107,7 @@ pub trait Message: MessageSpec {
     /// let size = message.compute_size(&mut cache)?;
     /// ```
     fn compute_size(&self, cache: &mut SizeCache) -> Result<u32, EncodeError>
-        ensures { IsSized (Self.text (Self.meaning self.now)) (Self.slots (Self.meaning self.now)) cache.old result
+        ensures { IsSized (Self.encoding (Self.meaning self.now)) (Self.slots (Self.meaning self.now)) cache.old result
             cache.new };
 
     /// The write pass, which consumes the value's slots: the next ones of the cache have to be those that
@@ -126,7 +126,7 @@ pub trait Message: MessageSpec {
         sink: &mut S,
     ) -> Result<(), EncodeError>
         requires { IsNext (Self.slots (Self.meaning self.now)) cache.old }
-        ensures { IsWritten (Self.text (Self.meaning self.now)) (Self.slots (Self.meaning self.now)) cache.old
+        ensures { IsWritten (Self.encoding (Self.meaning self.now)) (Self.slots (Self.meaning self.now)) cache.old
             (S.written sink.old) result cache.new (S.written sink.new) };
 
     /// Leaves the default.
@@ -150,10 +150,10 @@ pub trait Message: MessageSpec {
     /// let text = message.try_encode_to_vec(alloc)?;
     /// ```
     fn try_encode_to_vec(&self, alloc: Global) -> Result<Vec<u8>, EncodeError>
-        ensures text { IfOk result (λ v. (v.items ≡ Self.text (Self.meaning self.now))
-            × (length (Self.text (Self.meaning self.now)) < 2 ^ 31)) }
+        ensures text { IfOk result (λ v. (v.items ≡ Self.encoding (Self.meaning self.now))
+            × (length (Self.encoding (Self.meaning self.now)) < 2 ^ 31)) }
         ensures err { IfErr result (λ e. e ≢ error.OutOfMemory → (e ≡ error.MessageTooLarge)
-            × (2 ^ 31 ≤ length (Self.text (Self.meaning self.now)))) }
+            × (2 ^ 31 ≤ length (Self.encoding (Self.meaning self.now)))) }
     {
         let mut cache = SizeCache::new(alloc);
         let size = self.compute_size(&mut cache)?;

@@ -81,7 +81,7 @@ pub fn one_reading()
 
 /// The text of records that fit is theirs, at a depth that their groups need, and it is read back with a
 /// slot for each. The text of any records whose data are in range is that of no others.
-pub fn texts_are_read_back()
+pub fn encodings_are_read_back()
     ensures parses { (d : ℕ) (rs : List (ℕ × Datum)) → Fits (records_of rs) → height rs ≤ d →
         Parse d (records_encoding rs) (records_of rs) }
     ensures read { (d s : ℕ) (rs : List (ℕ × Datum)) → Fits (records_of rs) → height rs ≤ d →
@@ -146,7 +146,7 @@ pub fn formed_messages_are_these<M: Formed>()
 where
     M::Form: MessageForm<M>,
     ensures merged { (⟦<M as MessageSpec>⟧.merged ≡ M.Form.merged) × (⟦<M as MessageSpec>⟧.cost ≡ M.Form.cost) }
-    ensures text { (v : M.Meaning) → ⟦<M as MessageSpec>⟧.text v ≡ records_encoding (M.Form.records v) }
+    ensures text { (v : M.Meaning) → ⟦<M as MessageSpec>⟧.encoding v ≡ records_encoding (M.Form.records v) }
     ensures records { ⟦<M as MessageSpec>⟧.records ≡ M.Form.records }
     ensures slots { ⟦<M as MessageSpec>⟧.slots ≡ M.Form.slots }
     ensures levels { ⟦<M as MessageSpec>⟧.levels ≡ M.Form.levels }

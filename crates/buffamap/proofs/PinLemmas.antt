@@ -16,7 +16,7 @@ use Rattle.buffa_map.specs.Run.{EntryRecord, fold_entries, undeclared_records}
 use Rattle.buffa_map.specs.Encoding.{HasEncoding, field_encoding}
 use Rattle.buffa.specs.Branch.{bare}
 use Rattle.buffa.specs.NodeMeaning as node
-use Rattle.buffa.specs.NodeText as node_text
+use Rattle.buffa.specs.NodeEncoding as node_encoding
 use Rattle.buffa.specs.Set.{set_cost, set_merged, set_encoding}
 use Rattle.buffamap.specs.Again.{IsEncoded, IsReadAgainIn, IsRefused, RepliesToAgain, encoding_reply}
 use Rattle.buffamap.specs.Codecs.{int32_writing}
@@ -180,7 +180,7 @@ command_one (Write n) input a b h k = inl ((write_pinned n).one input a b h k)
 command_one (Rewrite n) input a b h k = inl ((rewrite_pinned n).one input a b h k)
 command_one (Ext n) input a b h k = inl ((ext_pinned n).one input a b h k)
 command_one Item input a b h k = inl (item_pinned.one input a b h k)
-command_one AgainNode input a b h k = or_open (Some AgainNode) a b tt (again_of_one node.merged node.cost node_text.text bare input a b h k)
+command_one AgainNode input a b h k = or_open (Some AgainNode) a b tt (again_of_one node.merged node.cost node_encoding.encoding bare input a b h k)
 command_one AgainSet input a b h k = or_open (Some AgainSet) a b tt (again_of_one set_merged set_cost set_encoding [] input a b h k)
 
 module _ (o : Option Command) (a b : Reply) where

@@ -67,8 +67,8 @@ pub fn one_reply_to_item()
 /// `again` has one reply to each input that it accepts, and refuses every other; of any message. Which fault is told of
 /// bytes that are refused is left open, and memory: the reply may be that it ran out.
 pub fn one_reply_to_again<M: MessageSpec>()
-    ensures one { ReplyIsPinnedButForFaults (RepliesToAgain M.merged M.cost M.text M.blank_is) }
-    ensures there { HasReply (RepliesToAgain M.merged M.cost M.text M.blank_is) }
+    ensures one { ReplyIsPinnedButForFaults (RepliesToAgain M.merged M.cost M.encoding M.blank_is) }
+    ensures there { HasReply (RepliesToAgain M.merged M.cost M.encoding M.blank_is) }
 {}
 
 /// Which fault an error of a layer below is: no other, and out of memory where memory ran out. Nothing is open.

@@ -31,7 +31,7 @@ pub trait Normal<Back>: Message {
 
 // The record of a value; a row whose value has none isn't in form.
 fn payload_of<C: SingularCodec>(alloc: Global, value: &C::Value) -> Result<UnknownFieldData, Fault>
-    ensures { IfOk result (λ d. datum_of d ≡ C.text (C.Value.meaning value.now)) }
+    ensures { IfOk result (λ d. datum_of d ≡ C.datum (C.Value.meaning value.now)) }
 {
     match C::encode_one(alloc, value) {
         Ok(payload) => Ok(payload),
@@ -42,7 +42,7 @@ fn payload_of<C: SingularCodec>(alloc: Global, value: &C::Value) -> Result<Unkno
 
 // Spends what reading a value's record costs; a row whose value isn't read isn't in form.
 fn pay<C: SingularCodec>(alloc: Global, budget: &mut Budget, value: &C::Value) -> Result<(), Fault>
-    ensures { OnOk result (Pays budget.old (C.cost (C.text (C.Value.meaning value.now))) budget.new) }
+    ensures { OnOk result (Pays budget.old (C.cost (C.datum (C.Value.meaning value.now))) budget.new) }
 {
     let payload = payload_of::<C>(alloc, value)?;
     let ctx = DecodeContext {
@@ -58,7 +58,7 @@ fn pay<C: SingularCodec>(alloc: Global, budget: &mut Budget, value: &C::Value) -
 
 // Spends what reading the records of a list costs, one after the other, of one pair of default budgets.
 fn pay_all<C: SingularCodec>(alloc: Global, values: &[C::Value]) -> Result<(), Fault>
-    ensures { OnOk result (CoversAll C.cost full (map C.text (map C.Value.meaning values.now))) }
+    ensures { OnOk result (CoversAll C.cost full (map C.datum (map C.Value.meaning values.now))) }
 {
     let mut budget = Budget::new(DEFAULT_UNKNOWN_FIELD_LIMIT);
     for value in values {

@@ -36,7 +36,7 @@ fn size_by_function<
 >(map: &'a C, tag_len: u64, cache: &mut SizeCache) -> Result<u64, EncodeError>
 where
     KC::Value: 'a,
-    ensures { IsFieldSized KC.writing M.text M.slots tag_len (C.walk map.now) cache.old result cache.new }
+    ensures { IsFieldSized KC.writing M.encoding M.slots tag_len (C.walk map.now) cache.old result cache.new }
 {
     message_field_len_by::<KC, M, C, _>(
         map,
@@ -55,7 +55,7 @@ fn size_field<
 >(map: &'a C, tag_len: u64, cache: &mut SizeCache, by_function: bool) -> Result<u64, EncodeError>
 where
     KC::Value: 'a,
-    ensures { IsFieldSized KC.writing M.text M.slots tag_len (C.walk map.now) cache.old result cache.new }
+    ensures { IsFieldSized KC.writing M.encoding M.slots tag_len (C.walk map.now) cache.old result cache.new }
 {
     if by_function {
         return size_by_function::<KC, M, C>(map, tag_len, cache);
@@ -73,7 +73,7 @@ fn write_by_function<
 where
     KC::Value: 'a,
     requires number { IsNumber number }
-    requires next { IsNext (field_slots M.text M.slots (C.walk map.now)) cache.old }
+    requires next { IsNext (field_slots M.encoding M.slots (C.walk map.now)) cache.old }
 {
     write_message_field_by::<KC, M, C, Vec<u8>, _>(
         map,
@@ -100,7 +100,7 @@ fn write_field<
 where
     KC::Value: 'a,
     requires number { IsNumber number }
-    requires next { IsNext (field_slots M.text M.slots (C.walk map.now)) cache.old }
+    requires next { IsNext (field_slots M.encoding M.slots (C.walk map.now)) cache.old }
 {
     if by_function {
         return write_by_function::<KC, M, C>(map, number, cache, text);

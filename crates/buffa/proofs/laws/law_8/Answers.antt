@@ -3,4 +3,4 @@ use Rattle.buffa_map.specs.Scalars.{delimited_writing}
 use Rattle.buffa.proofs.laws.law_8.Goals as goal
 
 pub returns-clause-messages : goal.returns-clause-messages
-returns-clause-messages g c n l = length-field_encoding g.KC.MapCodec.writing (delimited_writing g.M.MessageSpec.text) n l
+returns-clause-messages g c n l = length-field_encoding g.KC.MapCodec.writing (delimited_writing g.M.MessageSpec.encoding) n l

@@ -4,10 +4,10 @@ use Rattle.buffa_ext.specs.MessageFacts.{large_refusal, small_refusal}
 use Rattle.buffa_ext.proofs.laws.messages_are_read.Goals as goal
 
 pub returns-clause-too_large : goal.returns-clause-too_large
-returns-clause-too_large g c = λ v h. large_refusal (λ t. None) (g.M.MessageSpec.text v) h
+returns-clause-too_large g c = λ v h. large_refusal (λ t. None) (g.M.MessageSpec.encoding v) h
 
 pub returns-clause-group_too_large : goal.returns-clause-group_too_large
-returns-clause-group_too_large g c = λ v h. large_refusal group_refusal (g.M.MessageSpec.text v) h
+returns-clause-group_too_large g c = λ v h. large_refusal group_refusal (g.M.MessageSpec.encoding v) h
 
 pub returns-clause-written : goal.returns-clause-written
-returns-clause-written g c = λ v h. (small_refusal (λ t. None) (g.M.MessageSpec.text v) h, small_refusal group_refusal (g.M.MessageSpec.text v) h)
+returns-clause-written g c = λ v h. (small_refusal (λ t. None) (g.M.MessageSpec.encoding v) h, small_refusal group_refusal (g.M.MessageSpec.encoding v) h)

@@ -9,7 +9,7 @@ use Rattle.buffa_fields.proofs.nested.write_message.Goals as goal
 pub returns-in-Ok : goal.returns-in-Ok
 returns-in-Ok g c =
     let v = g.N.Blank.meaning c.args.message.now in
-    let text = g.N.MessageSpec.text v in
+    let text = g.N.MessageSpec.encoding v in
     let slots = g.N.MessageSpec.slots v in
     let is : c.from.result ≡ cap (length text) = c.from.ensures ∙ (c.consume_next-inner.ensures.size ∙ (next_ok (cap (length text)) slots c.args.cache.now c.requires.next).1) in
     let b0 = g.S.EncodeSink.written c.args.sink.now in
@@ -21,7 +21,7 @@ returns-in-Ok g c =
 pub returns-in-Err : goal.returns-in-Err
 returns-in-Err g c =
     let v = g.N.Blank.meaning c.args.message.now in
-    let text = g.N.MessageSpec.text v in
+    let text = g.N.MessageSpec.encoding v in
     let slots = g.N.MessageSpec.slots v in
     let is : c.from.result ≡ cap (length text) = c.from.ensures ∙ (c.consume_next-inner.ensures.size ∙ (next_ok (cap (length text)) slots c.args.cache.now c.requires.next).1) in
     let b0 = g.S.EncodeSink.written c.args.sink.now in

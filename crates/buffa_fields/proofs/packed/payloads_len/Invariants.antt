@@ -4,4 +4,4 @@ use Rattle.buffa_fields.specs.Lists.{packed_encoding}
 use Rattle.buffa_fields.proofs.packed.payloads_len.Given as goal
 
 abbrev pub invariant-loop-value : goal.invariant-loop-value
-invariant-loop-value g l = l.total ≡ saturated (length (packed_encoding g.C.MapCodec.writing.text (map g.C.Value.Blank.meaning (take l.value-index l.values))))
+invariant-loop-value g l = l.total ≡ saturated (length (packed_encoding g.C.MapCodec.writing.encoding (map g.C.Value.Blank.meaning (take l.value-index l.values))))

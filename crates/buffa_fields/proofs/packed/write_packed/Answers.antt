@@ -4,15 +4,15 @@ use Rattle.buffa_fields.proofs.packed.write_packed.Goals as goal
 
 pub returns-then-values-eq0 : goal.returns-then-values-eq0
 returns-then-values-eq0 g c =
-    packed_unwritten g.C.MapCodec.writing.text c.args.number g.C.Value.Blank.meaning c.args.values.now (omega arith) (g.S.EncodeSink.written c.args.sink.now) c.args._cache.now
+    packed_unwritten g.C.MapCodec.writing.encoding c.args.number g.C.Value.Blank.meaning c.args.values.now (omega arith) (g.S.EncodeSink.written c.args.sink.now) c.args._cache.now
 
 pub returns-in-Ok : goal.returns-in-Ok
 returns-in-Ok g c =
-    packed_written g.C.MapCodec.writing.text c.args.number g.C.Value.Blank.meaning c.args.values.now (omega arith) c.payloads_len.result c.payloads_len.ensures c.args._cache.now
+    packed_written g.C.MapCodec.writing.encoding c.args.number g.C.Value.Blank.meaning c.args.values.now (omega arith) c.payloads_len.result c.payloads_len.ensures c.args._cache.now
     (g.S.EncodeSink.written c.args.sink.now) (g.S.EncodeSink.written c.write_head.new.sink) (g.S.EncodeSink.written c.write_payloads.new.sink) c.write_payloads.result c.in-Ok.ensures c.write_payloads.ensures
 
 pub returns-in-Err : goal.returns-in-Err
 returns-in-Err g c =
     let new = g.S.EncodeSink.written c.write_head.new.sink in
-    packed_cut g.C.MapCodec.writing.text c.args.number g.C.Value.Blank.meaning c.args.values.now (omega arith) c.payloads_len.result c.payloads_len.ensures c.args._cache.now
+    packed_cut g.C.MapCodec.writing.encoding c.args.number g.C.Value.Blank.meaning c.args.values.now (omega arith) c.payloads_len.result c.payloads_len.ensures c.args._cache.now
     (g.S.EncodeSink.written c.args.sink.now) new new c.in-Err.error c.in-Err.ensures

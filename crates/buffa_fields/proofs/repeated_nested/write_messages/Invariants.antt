@@ -9,4 +9,4 @@ use Rattle.buffa_fields.proofs.repeated_nested.write_messages.Given as goal
 abbrev pub invariant-loop-message : goal.invariant-loop-message
 invariant-loop-message g l =
     let vs = map g.N.Blank.meaning (take l.message-index l.messages) in
-    IsWritten (records_encoding (messages_records g.N.MessageSpec.text l.number vs)) (messages_slots g.N.MessageSpec.text g.N.MessageSpec.slots vs) l.fn.cache (g.S.EncodeSink.written l.fn.sink) done l.cache (g.S.EncodeSink.written l.sink)
+    IsWritten (records_encoding (messages_records g.N.MessageSpec.encoding l.number vs)) (messages_slots g.N.MessageSpec.encoding g.N.MessageSpec.slots vs) l.fn.cache (g.S.EncodeSink.written l.fn.sink) done l.cache (g.S.EncodeSink.written l.sink)

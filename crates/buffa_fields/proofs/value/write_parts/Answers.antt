@@ -14,4 +14,4 @@ returns-in_err-encode g c =
     let tag : tag_encoding c.new.result.number c.new.result.wire_type ≡ tag_encoding c.args.number g.C.MapValueDecode.WIRE_TYPE =
     (λ i. tag_encoding (c.new.ensures.number i) ((c.new.ensures.wire_type ∙ c.WIRE_TYPE.ensures) i)) in
     let front = subst (λ (l : List ℕ). (c.in_err-encode.field-0.0 ≡ OutOfMemory) × WritesFront old l new) tag c.in_err-encode.ensures.writes in
-    exits_first q.1 q.2 old (tag_encoding c.args.number g.C.MapValueDecode.WIRE_TYPE) (g.C.MapCodec.writing.text (g.C.Value.Blank.meaning c.args.value.now)) new front
+    exits_first q.1 q.2 old (tag_encoding c.args.number g.C.MapValueDecode.WIRE_TYPE) (g.C.MapCodec.writing.encoding (g.C.Value.Blank.meaning c.args.value.now)) new front

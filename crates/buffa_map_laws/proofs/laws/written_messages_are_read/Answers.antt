@@ -12,7 +12,7 @@ pub returns : goal.returns
 returns g c d n l num small fits normal deep distinct =
     let key = g.KC.MapValueDecode.reading in
     let kw = g.KC.MapCodec.writing in
-    let text = g.M.MessageSpec.text in
+    let text = g.M.MessageSpec.encoding in
     let val = message_reading g.M.Blank.blank_is g.M.MessageSpec.merged g.M.MessageSpec.cost in
     let vw = delimited_writing text in
     let say = as_record kw vw in

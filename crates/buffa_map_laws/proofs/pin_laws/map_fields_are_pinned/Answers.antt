@@ -1,4 +1,4 @@
-use Rattle.buffa_map_laws.proofs.PinTextLemmas.{field_is_pinned}
+use Rattle.buffa_map_laws.proofs.PinEncodingLemmas.{field_is_pinned}
 use Rattle.buffa_map_laws.proofs.pin_laws.map_fields_are_pinned.Goals as goal
 
 pub returns : goal.returns

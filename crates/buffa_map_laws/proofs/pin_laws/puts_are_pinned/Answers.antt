@@ -1,4 +1,4 @@
-use Rattle.buffa_map_laws.proofs.PinTextLemmas.{put_is_pinned}
+use Rattle.buffa_map_laws.proofs.PinEncodingLemmas.{put_is_pinned}
 use Rattle.buffa_map_laws.proofs.pin_laws.puts_are_pinned.Goals as goal
 
 pub returns : goal.returns

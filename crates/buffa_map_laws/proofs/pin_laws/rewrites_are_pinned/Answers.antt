@@ -1,5 +1,5 @@
 use Rattle.buffa_map_base.specs.Merge.{keeping}
-use Rattle.buffa_map_laws.proofs.PinTextLemmas.{rewrite_is_pinned}
+use Rattle.buffa_map_laws.proofs.PinEncodingLemmas.{rewrite_is_pinned}
 use Rattle.buffa_map_laws.proofs.pin_laws.rewrites_are_pinned.Goals as goal
 
 pub returns : goal.returns

@@ -16,7 +16,7 @@ use Rattle.buffa_map_write.proofs.message_size.message_field_len_by.Goals as goa
 pub loop-key-init : goal.loop-key-init
 loop-key-init g c =
     let m = means g.KC.Value.Blank.meaning g.M.Blank.meaning in
-    let text = g.M.MessageSpec.text in
+    let text = g.M.MessageSpec.encoding in
     let same : m (g.C.MapWalk.left c.into_iter-key-iterator.result) ≡ g.C.StableOrder.walk c.args.map.now =
     ap (λ z. m (g.C.MapWalk.left z)) c.into_iter-key-iterator.ensures.into_iter_gives ∙ g.met.C.StableOrder.stable c.args.map.now (m (g.C.MapWalk.left c.storage_iter-key-items.result)) c.storage_iter-key-items.ensures.walk in
     record {
@@ -70,7 +70,7 @@ returns-in_err-inner-clause-sized g c =
 pub loop-key-preserved : goal.loop-key-preserved
 loop-key-preserved g c =
     let key = g.KC.MapCodec.writing in
-    let text = g.M.MessageSpec.text in
+    let text = g.M.MessageSpec.encoding in
     let slots = g.M.MessageSpec.slots in
     let i = c.loop-key.invariant in
     let p : g.row.KC-Value.Denot × g.row.M.Denot = (c.in-Some.key.now, c.in-Some.value.now) in
@@ -107,7 +107,7 @@ loop-key-preserved g c =
 pub returns-clause-sized : goal.returns-clause-sized
 returns-clause-sized g c =
     let key = g.KC.MapCodec.writing in
-    let text = g.M.MessageSpec.text in
+    let text = g.M.MessageSpec.encoding in
     let slots = g.M.MessageSpec.slots in
     let i = c.loop-key.invariant in
     let step = c.storage_iter-key-items.ensures.steps c.loop-key.key-iterator None c.next.new.self c.in-None.ensures.steps in

@@ -11,7 +11,7 @@ use Rattle.buffa_map_write.proofs.message_size.message_field_len_by.Given as goa
 abbrev pub invariant-loop-key : goal.invariant-loop-key
 invariant-loop-key g l =
     let key = g.KC.MapCodec.writing in
-    let text = g.M.MessageSpec.text in
+    let text = g.M.MessageSpec.encoding in
     let slots = g.M.MessageSpec.slots in
     let all = g.C.StableOrder.walk l.map in
     let rest = means g.KC.Value.Blank.meaning g.M.Blank.meaning (g.C.MapWalk.left l.key-iterator) in

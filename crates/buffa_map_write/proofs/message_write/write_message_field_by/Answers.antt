@@ -16,7 +16,7 @@ pub loop-key-init : goal.loop-key-init
 loop-key-init g c =
     let key = g.KC.MapCodec.writing in
     let m = means g.KC.Value.Blank.meaning g.M.Blank.meaning in
-    let text = g.M.MessageSpec.text in
+    let text = g.M.MessageSpec.encoding in
     let slots = g.M.MessageSpec.slots in
     let written = g.S.EncodeSink.written in
     let same : m (g.C.MapWalk.left c.into_iter-key-iterator.result) ≡ g.C.StableOrder.walk c.args.map.now =
@@ -30,7 +30,7 @@ loop-key-init g c =
 
 pub write_message_record_by-requires-clause-next : goal.write_message_record_by-requires-clause-next
 write_message_record_by-requires-clause-next g c =
-    let text = g.M.MessageSpec.text in
+    let text = g.M.MessageSpec.encoding in
     let slots = g.M.MessageSpec.slots in
     let i = c.loop-key.invariant in
     let p : g.row.KC-Value.Denot × g.row.M.Denot = (c.in-Some.key.now, c.in-Some.value.now) in
@@ -66,7 +66,7 @@ write_message_record_by-requires-clause-keeps g c =
 pub loop-key-preserved : goal.loop-key-preserved
 loop-key-preserved g c =
     let key = g.KC.MapCodec.writing in
-    let text = g.M.MessageSpec.text in
+    let text = g.M.MessageSpec.encoding in
     let slots = g.M.MessageSpec.slots in
     let written = g.S.EncodeSink.written in
     let i = c.loop-key.invariant in
@@ -107,7 +107,7 @@ pub returns-in_err-write_message_record_by-clause-written : goal.returns-in_err-
 returns-in_err-write_message_record_by-clause-written g c =
     let q = err_from_is_err_and c.from_residual.result c.from_residual.ensures.1 in
     let key = g.KC.MapCodec.writing in
-    let text = g.M.MessageSpec.text in
+    let text = g.M.MessageSpec.encoding in
     let slots = g.M.MessageSpec.slots in
     let written = g.S.EncodeSink.written in
     let i = c.loop-key.invariant in
@@ -132,7 +132,7 @@ returns-in_err-write_message_record_by-clause-written g c =
 pub returns-clause-written : goal.returns-clause-written
 returns-clause-written g c =
     let key = g.KC.MapCodec.writing in
-    let text = g.M.MessageSpec.text in
+    let text = g.M.MessageSpec.encoding in
     let slots = g.M.MessageSpec.slots in
     let written = g.S.EncodeSink.written in
     let step = c.storage_iter-key-items.ensures.steps c.loop-key.key-iterator None c.next.new.self c.in-None.ensures.steps in
@@ -146,7 +146,7 @@ pub returns-in_err-write_message_record_by-clause-room : goal.returns-in_err-wri
 returns-in_err-write_message_record_by-clause-room g c keeps small =
     let q = err_from_is_err_and c.from_residual.result c.from_residual.ensures.1 in
     let key = g.KC.MapCodec.writing in
-    let text = g.M.MessageSpec.text in
+    let text = g.M.MessageSpec.encoding in
     let i = c.loop-key.invariant in
     let p : g.row.KC-Value.Denot × g.row.M.Denot = (c.in-Some.key.now, c.in-Some.value.now) in
     let m : g.row.KC-Value-Meaning.Denot × g.row.M-Meaning.Denot = mean g.KC.Value.Blank.meaning g.M.Blank.meaning p in
@@ -160,7 +160,7 @@ returns-in_err-write_message_record_by-clause-room g c keeps small =
 pub returns-clause-room : goal.returns-clause-room
 returns-clause-room g c keeps small =
     let key = g.KC.MapCodec.writing in
-    let text = g.M.MessageSpec.text in
+    let text = g.M.MessageSpec.encoding in
     let i = c.loop-key.invariant in
     let step = c.storage_iter-key-items.ensures.steps c.loop-key.key-iterator None c.next.new.self c.in-None.ensures.steps in
     let whole = i.within.1 ∙ ap (λ (z : List (g.row.KC-Value.Denot × g.row.M.Denot)). i.within.0 ++ means g.KC.Value.Blank.meaning g.M.Blank.meaning z) step.0 ∙ append-nil i.within.0 in

@@ -10,7 +10,7 @@ use Rattle.buffa_map_write.proofs.message_write.write_message_field_by.Given as 
 abbrev pub invariant-loop-key : goal.invariant-loop-key
 invariant-loop-key g l =
     let key = g.KC.MapCodec.writing in
-    let text = g.M.MessageSpec.text in
+    let text = g.M.MessageSpec.encoding in
     let slots = g.M.MessageSpec.slots in
     let written = g.S.EncodeSink.written in
     let all = g.C.StableOrder.walk l.map in

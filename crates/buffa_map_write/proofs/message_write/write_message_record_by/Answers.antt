@@ -12,7 +12,7 @@ pub returns-in_err-write_message_head-clause-written : goal.returns-in_err-write
 returns-in_err-write_message_head-clause-written g c =
     let q = err_from_is_err_and c.from_residual.result c.from_residual.ensures.1 in
     let kw = g.KC.MapCodec.writing in
-    let text = g.M.MessageSpec.text in
+    let text = g.M.MessageSpec.encoding in
     let slots = g.M.MessageSpec.slots in
     let p : g.row.KC-Value-Meaning.Denot × g.row.M-Meaning.Denot = (g.KC.Value.Blank.meaning c.args.key.now, g.M.Blank.meaning c.args.value.now) in
     let slot = cap (length (text p.1)) in
@@ -23,7 +23,7 @@ returns-in_err-write_message_head-clause-written g c =
 pub returns-clause-written : goal.returns-clause-written
 returns-clause-written g c =
     let kw = g.KC.MapCodec.writing in
-    let text = g.M.MessageSpec.text in
+    let text = g.M.MessageSpec.encoding in
     let slots = g.M.MessageSpec.slots in
     let p : g.row.KC-Value-Meaning.Denot × g.row.M-Meaning.Denot = (g.KC.Value.Blank.meaning c.args.key.now, g.M.Blank.meaning c.args.value.now) in
     let slot = cap (length (text p.1)) in
@@ -40,7 +40,7 @@ write-requires g c =
 pub returns-in_err-write_message_head-clause-room : goal.returns-in_err-write_message_head-clause-room
 returns-in_err-write_message_head-clause-room g c keeps =
     let q = err_from_is_err_and c.from_residual.result c.from_residual.ensures.1 in
-    let text = g.M.MessageSpec.text in
+    let text = g.M.MessageSpec.encoding in
     let slots = g.M.MessageSpec.slots in
     let p : g.row.KC-Value-Meaning.Denot × g.row.M-Meaning.Denot = (g.KC.Value.Blank.meaning c.args.key.now, g.M.Blank.meaning c.args.value.now) in
     let n = next_ok (cap (length (text p.1))) (slots p.1) c.args.cache.now c.requires.next in
@@ -49,7 +49,7 @@ returns-in_err-write_message_head-clause-room g c keeps =
 
 pub returns-clause-room : goal.returns-clause-room
 returns-clause-room g c keeps =
-    let text = g.M.MessageSpec.text in
+    let text = g.M.MessageSpec.encoding in
     let slots = g.M.MessageSpec.slots in
     let p : g.row.KC-Value-Meaning.Denot × g.row.M-Meaning.Denot = (g.KC.Value.Blank.meaning c.args.key.now, g.M.Blank.meaning c.args.value.now) in
     let n = next_ok (cap (length (text p.1))) (slots p.1) c.args.cache.now c.requires.next in

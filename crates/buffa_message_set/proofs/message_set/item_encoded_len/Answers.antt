@@ -1,7 +1,7 @@
 use Rattle.std.proofs.Common.{arith, ap}
 use Rattle.std.proofs.Common.{ℕ, length}
 use Rattle.buffa_bytes.specs.Varint.{varint_encoding}
-use Rattle.buffa_message_set.proofs.ItemTextLemmas.{length-item_encoding}
+use Rattle.buffa_message_set.proofs.ItemEncodingLemmas.{length-item_encoding}
 use Rattle.buffa_message_set.proofs.message_set.item_encoded_len.Goals as goal
 
 pub returns-clause-text : goal.returns-clause-text

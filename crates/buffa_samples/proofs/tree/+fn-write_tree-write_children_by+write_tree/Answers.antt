@@ -5,7 +5,7 @@ use Rattle.buffa_map.specs.MessageField.{IsSmallField, field_slots}
 use Rattle.buffa_map.specs.Scalars.{delimited_writing}
 use Rattle.buffa_map.specs.Encoding.{field_encoding}
 use Rattle.buffa_samples.specs.Flat.{value_encoding}
-use Rattle.buffa_samples.specs.TreeText.{key_writing, meant, slots, text}
+use Rattle.buffa_samples.specs.TreeEncoding.{key_writing, meant, slots, encoding}
 use Rattle.buffa_samples.proofs.TreeSizes.{slots_is, small_kids, text_is}
 use Rattle.buffa_samples.proofs.tree.+fn-write_tree-write_children_by+write_tree.Goals as goal
 
@@ -23,10 +23,10 @@ returns g t c =
     let b0 = written c.args.sink.now in
     let b1 = written c.write_number.new.sink in
     let b2 = written c.write_children_by.new.sink in
-    let small = IsSmall (text c.args.tree.now) in
+    let small = IsSmall (encoding c.args.tree.now) in
     let label = value_encoding c.tree.inside.label in
-    let field = field_encoding key_writing (delimited_writing text) 2 (meant es) in
-    let h = written_then small (IsSmallField key_writing text (meant es)) small label field [] (field_slots text slots (meant es)) cache cache last b0 b1 b2
+    let field = field_encoding key_writing (delimited_writing encoding) 2 (meant es) in
+    let h = written_then small (IsSmallField key_writing encoding (meant es)) small label field [] (field_slots encoding slots (meant es)) cache cache last b0 b1 b2
     (λ s. (s, small_kids _ _ _ c.tree.view_is s)) r (written_put small label cache b0 b1 done w) c.write_children_by.ensures in
-    subst (λ ss. IsWritten (text c.args.tree.now) ss cache b0 r last b2) (slots_is _ _ _ c.tree.view_is)
-    (subst (λ ts. WritesIf small ts (field_slots text slots (meant es)) cache b0 r last b2) (sym (text_is _ _ _ c.tree.view_is)) h)
+    subst (λ ss. IsWritten (encoding c.args.tree.now) ss cache b0 r last b2) (slots_is _ _ _ c.tree.view_is)
+    (subst (λ ts. WritesIf small ts (field_slots encoding slots (meant es)) cache b0 r last b2) (sym (text_is _ _ _ c.tree.view_is)) h)

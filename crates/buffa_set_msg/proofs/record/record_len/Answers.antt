@@ -1,5 +1,5 @@
 use Rattle.std.proofs.Common.{◌∙◌, arith, sym}
-use Rattle.buffa_set_msg.proofs.TextLemmas.{item_fits}
+use Rattle.buffa_set_msg.proofs.EncodingLemmas.{item_fits}
 use Rattle.buffa_set_msg.proofs.record.record_len.Goals as goal
 
 pub item_encoded_len-requires : goal.item_encoded_len-requires

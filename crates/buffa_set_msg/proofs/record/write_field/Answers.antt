@@ -6,7 +6,7 @@ use Rattle.buffa_wire.specs.View.{datum_of}
 use Rattle.buffa_wire.specs.Values.{tag_encoding}
 use Rattle.buffa_wire.specs.Varint.{varint_encoding}
 use Rattle.buffa_wire.specs.WireType.{wire_number}
-use Rattle.buffa_wire.proofs.TextLemmas.{tag_no_room, tag_refused}
+use Rattle.buffa_wire.proofs.EncodingLemmas.{tag_no_room, tag_refused}
 use Rattle.buffa_set_msg.proofs.record.write_field.Goals as goal
 
 pub returns-in_err-encode_varint-clause-writes : goal.returns-in_err-encode_varint-clause-writes

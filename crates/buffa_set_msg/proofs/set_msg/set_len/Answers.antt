@@ -1,4 +1,4 @@
-use Rattle.buffa_set_msg.proofs.TextLemmas.{set_len_more}
+use Rattle.buffa_set_msg.proofs.EncodingLemmas.{set_len_more}
 use Rattle.buffa_set_msg.proofs.set_msg.set_len.Goals as goal
 
 pub loop-field-preserved : goal.loop-field-preserved

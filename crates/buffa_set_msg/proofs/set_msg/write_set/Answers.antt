@@ -2,7 +2,7 @@ use Rattle.std.proofs.Common.{◌∙◌, ap, arith, length}
 use Rattle.std.proofs.lemmas.Result.{err_from_is_err_and}
 use Rattle.buffa_wire.specs.View.{records_in}
 use Rattle.buffa_set_msg.specs.Set.{set_encoding}
-use Rattle.buffa_set_msg.proofs.TextLemmas.{length-set_more, length-set_parts, set_refused, set_step}
+use Rattle.buffa_set_msg.proofs.EncodingLemmas.{length-set_more, length-set_parts, set_refused, set_step}
 use Rattle.buffa_set_msg.proofs.set_msg.write_set.Goals as goal
 
 pub loop-field-preserved : goal.loop-field-preserved

@@ -2,7 +2,7 @@ use Rattle.std.proofs.Common.{◌≡◌, ◌+◌, min, length, ap, ◌∙◌, ar
 use Rattle.buffa_wire.specs.Records.{Held}
 use Rattle.buffa_wire.specs.Encoding.{records_encoding}
 use Rattle.buffa_wire.specs.View.{records_in}
-use Rattle.buffa_wire.proofs.TextLemmas.{len_more, length-W_parts}
+use Rattle.buffa_wire.proofs.EncodingLemmas.{len_more, length-W_parts}
 use Rattle.buffa_wire.proofs.unknown_fields.+size.Goals as goal
 
 pub UnknownFields::encoded_len-loop-field-preserved : goal.UnknownFields::encoded_len-loop-field-preserved

@@ -6,7 +6,7 @@ use Rattle.buffa_bytes.proofs.SinkLemmas.{exits_first, room_first}
 use Rattle.buffa_wire.specs.Records.{Held}
 use Rattle.buffa_wire.specs.Encoding.{records_encoding, payload_encoding, wire_of}
 use Rattle.buffa_wire.specs.View.{datum_of, records_in}
-use Rattle.buffa_wire.proofs.TextLemmas.{W_step, W_refused, length-W_more, length-W_parts, tag_refused, tag_no_room}
+use Rattle.buffa_wire.proofs.EncodingLemmas.{W_step, W_refused, length-W_more, length-W_parts, tag_refused, tag_no_room}
 use Rattle.buffa_wire.proofs.unknown_fields.+write.Goals as goal
 
 pub UnknownFields::write_to-loop-field-preserved : goal.UnknownFields::write_to-loop-field-preserved

@@ -9,7 +9,7 @@ use Rattle.buffa_codec.proofs.repeated.RepeatedExtensionCodec.try_encode.Goals a
 
 pub returns-in_err-payload-clause-err : goal.returns-in_err-payload-clause-err
 returns-in_err-payload-clause-err g c =
-    writes_front _ g.C.SingularCodec.text g.C.Value.Blank.meaning c.args.number c.args.value.items c.as_slice-v-items.result.now c.loop-v.v-index c.args.fields.now.records c.loop-v.fields.records c.as_slice-v-items.ensures.value c.loop-v-test.true c.loop-v.invariant.written
+    writes_front _ g.C.SingularCodec.datum g.C.Value.Blank.meaning c.args.number c.args.value.items c.as_slice-v-items.result.now c.loop-v.v-index c.args.fields.now.records c.loop-v.fields.records c.as_slice-v-items.ensures.value c.loop-v-test.true c.loop-v.invariant.written
 
 pub returns-in_err-payload-clause-refused : goal.returns-in_err-payload-clause-refused
 returns-in_err-payload-clause-refused g c =
@@ -22,7 +22,7 @@ returns-in_err-payload-clause-refused g c =
 
 pub returns-in_default-clause-err : goal.returns-in_default-clause-err
 returns-in_default-clause-err g c =
-    writes_part g.C.SingularCodec.text g.C.Value.Blank.meaning c.args.number c.args.value.items c.as_slice-v-items.result.now c.loop-v.v-index c.args.fields.now.records c.push.new.self.records c.as_slice-v-items.ensures.value c.loop-v-test.true (ap (λ f. f.records) c.in_default.ensures.err ∙ c.loop-v.invariant.written)
+    writes_part g.C.SingularCodec.datum g.C.Value.Blank.meaning c.args.number c.args.value.items c.as_slice-v-items.result.now c.loop-v.v-index c.args.fields.now.records c.push.new.self.records c.as_slice-v-items.ensures.value c.loop-v-test.true (ap (λ f. f.records) c.in_default.ensures.err ∙ c.loop-v.invariant.written)
 
 pub returns-in_err-payload-clause-reserved : goal.returns-in_err-payload-clause-reserved
 returns-in_err-payload-clause-reserved g c =
@@ -35,7 +35,7 @@ returns-in_default-clause-room g c = subst (KeepsPlaces c.args.fields.now) (sym 
 pub returns-in_default-clause-reserved : goal.returns-in_default-clause-reserved
 returns-in_default-clause-reserved g c free enough =
     let m = g.C.Value.Blank.meaning in
-    c.in_default.ensures.succeeds (omega (arith, enough, c.loop-v.invariant.room, c.loop-v-test.true, ap length c.as_slice-v-items.ensures.value, values_length g.C.SingularCodec.text m c.args.value.items))
+    c.in_default.ensures.succeeds (omega (arith, enough, c.loop-v.invariant.room, c.loop-v-test.true, ap length c.as_slice-v-items.ensures.value, values_length g.C.SingularCodec.datum m c.args.value.items))
 
 pub loop-v-preserved : goal.loop-v-preserved
 loop-v-preserved g c =
@@ -43,7 +43,7 @@ loop-v-preserved g c =
     let xs = c.as_slice-v-items.result.now in
     let more = means_more m xs c.loop-v.v-index c.v-item.result c.loop-v-test.true c.v-item.is in
     record {
-      written = writes_one_more g.C.SingularCodec.text m c.args.number xs c.loop-v.v-index c.v-item.result (datum_of c.in_ok-payload.payload) c.args.fields.now.records c.loop-v.fields.records c.push.new.self.records (c.args.number, datum_of c.in_ok-payload.payload)
+      written = writes_one_more g.C.SingularCodec.datum m c.args.number xs c.loop-v.v-index c.v-item.result (datum_of c.in_ok-payload.payload) c.args.fields.now.records c.loop-v.fields.records c.push.new.self.records (c.args.number, datum_of c.in_ok-payload.payload)
           c.loop-v-test.true c.v-item.is c.in_ok-payload.ensures.record refl c.loop-v.invariant.written c.in-Ok.ensures.ok;
       allowed = ap (first_refusal g.C.SingularCodec.refusal) more ∙ first_refusal-append g.C.SingularCodec.refusal (map m (take c.loop-v.v-index xs)) (m c.v-item.result ∷ []) c.loop-v.invariant.allowed ∙ first_refusal-pass g.C.SingularCodec.refusal (m c.v-item.result) [] c.in_ok-payload.ensures.refused;
       room = omega (arith, c.loop-v.invariant.room, c.in-Ok.ensures.room);

@@ -30,12 +30,12 @@ kid_record k t = record_encoding key_writing (delimited_writing (λ (x : List �
 
 abbrev mutual
   -- the label, and then a record of field 2 for each child
-  pub text : Grown → List ℕ
-  text (grown l ks) = value_encoding l ++ texts ks
+  pub encoding : Grown → List ℕ
+  encoding (grown l ks) = value_encoding l ++ kids_encoding ks
 
-  pub texts : Kids → List ℕ
-  texts no_kids = []
-  texts (kid k t ks) = kid_record k (text t) ++ texts ks
+  pub kids_encoding : Kids → List ℕ
+  kids_encoding no_kids = []
+  kids_encoding (kid k t ks) = kid_record k (encoding t) ++ kids_encoding ks
 
 abbrev mutual
   -- for each child the capped length of its text, and then its own slots
@@ -44,16 +44,16 @@ abbrev mutual
 
   pub slots_below : Kids → List ℕ
   slots_below no_kids = []
-  slots_below (kid k t ks) = cap (length (text t)) ∷ slots t ++ slots_below ks
+  slots_below (kid k t ks) = cap (length (encoding t)) ∷ slots t ++ slots_below ks
 
 -- a tree was written, or refused, by a pass that takes its slots out of a cache
 abbrev pub IsTreeWritten : {T : Type 0} → Grown → Cache → List ℕ → Result T EncodeError → Cache → List ℕ → Type 0
-IsTreeWritten t old before r new after = IsWritten (text t) (slots t) old before r new after
+IsTreeWritten t old before r new after = IsWritten (encoding t) (slots t) old before r new after
 
 -- the records
 abbrev pub kids_records : Kids → List (ℕ × Datum)
 kids_records no_kids = []
-kids_records (kid k t ks) = (2, bytes (kid_entry k (text t))) ∷ kids_records ks
+kids_records (kid k t ks) = (2, bytes (kid_entry k (encoding t))) ∷ kids_records ks
 
 abbrev pub records : Grown → List (ℕ × Datum)
 records (grown l ks) = value_records l ++ kids_records ks
@@ -85,10 +85,10 @@ meant-is [] = refl
 meant-is (e ∷ es) = ap (λ (xs : List (ℤ × Grown)). (e.0, e.1) ∷ xs) (meant-is es)
 
 -- the children's records are the field of the map
-pub texts-field : (es : List (ℤ × Grown)) → texts (kids es) ≡ field_encoding key_writing (delimited_writing text) 2 (meant es)
-texts-field [] = refl
-texts-field (e ∷ es) = ap (λ (r : List ℕ). kid_record e.0 (text e.1) ++ r) (texts-field es)
+pub kids_encoding-field : (es : List (ℤ × Grown)) → kids_encoding (kids es) ≡ field_encoding key_writing (delimited_writing encoding) 2 (meant es)
+kids_encoding-field [] = refl
+kids_encoding-field (e ∷ es) = ap (λ (r : List ℕ). kid_record e.0 (encoding e.1) ++ r) (kids_encoding-field es)
 
-pub slots-field : (es : List (ℤ × Grown)) → slots_below (kids es) ≡ field_slots text slots (meant es)
+pub slots-field : (es : List (ℤ × Grown)) → slots_below (kids es) ≡ field_slots encoding slots (meant es)
 slots-field [] = refl
-slots-field (e ∷ es) = ap (λ (r : List ℕ). cap (length (text e.1)) ∷ slots e.1 ++ r) (slots-field es)
+slots-field (e ∷ es) = ap (λ (r : List ℕ). cap (length (encoding e.1)) ∷ slots e.1 ++ r) (slots-field es)

@@ -5,7 +5,7 @@ use Rattle.buffa_wire.specs.Falls.{height-records}
 use Rattle.buffa_wire.proofs.RecordLemmas.{list-records}
 use Rattle.buffa_wire.proofs.ParseLemmas.{text_parses, text_is_theirs}
 use Rattle.buffa_wire.proofs.LoopLemmas.{list_taken}
-use Rattle.buffa_wire_laws.proofs.records.texts_are_read_back.Goals as goal
+use Rattle.buffa_wire_laws.proofs.records.encodings_are_read_back.Goals as goal
 
 pub returns-clause-parses : goal.returns-clause-parses
 returns-clause-parses c = λ d rs f h. text_parses (records_of rs) d f (subst (λ k. k ≤ d) (sym (height-records rs)) h)

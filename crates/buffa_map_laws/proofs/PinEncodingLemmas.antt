@@ -21,7 +21,7 @@ use Rattle.buffa_map_base.specs.Codec.{Writing}
 use Rattle.buffa_map_base.specs.MessageField.{IsFieldSized, IsFieldWritten, IsSmallField}
 use Rattle.buffa_map_base.specs.Merge.{Rules, state}
 use Rattle.buffa_map_base.specs.Pairs.{ListsOnce, SamePairs, put}
-use Rattle.buffa_map_laws.specs.PinnedTexts.{FieldIsPinned, MessagesArePinned, NoneIsFull, PutIsPinned, RewriteIsPinned}
+use Rattle.buffa_map_laws.specs.PinnedEncodings.{FieldIsPinned, MessagesArePinned, NoneIsFull, PutIsPinned, RewriteIsPinned}
 use Rattle.buffa_map_base.specs.Rewrite.{RefusesBytes, RefusesOutput, RefusesRewrite, RewritesRun}
 use Rattle.buffa_map_base.specs.Run.{EntryRecord, Paid, Run, fold_entries, undeclared_records}
 use Rattle.buffa_map_base.specs.Encoding.{HasEncoding, RefusesField, WritesField, entry_encoding, field_encoding, saturated}

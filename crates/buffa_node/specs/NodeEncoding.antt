@@ -46,12 +46,12 @@ shades_encoding h = field_encoding number_writing closed_writing 3 h
 
 abbrev mutual
   -- a record for each score, child and shade, and then what is kept
-  pub text : Branch → List ℕ
-  text (branch a ks h r) = scores_encoding a ++ (kids_encoding ks ++ (shades_encoding h ++ records_encoding r))
+  pub encoding : Branch → List ℕ
+  encoding (branch a ks h r) = scores_encoding a ++ (kids_encoding ks ++ (shades_encoding h ++ records_encoding r))
 
   pub kids_encoding : Kids → List ℕ
   kids_encoding no_kids = []
-  kids_encoding (kid k t ks) = kid_record k (text t) ++ kids_encoding ks
+  kids_encoding (kid k t ks) = kid_record k (encoding t) ++ kids_encoding ks
 
 abbrev mutual
   -- for each child the capped length of its text, and then its own slots
@@ -60,16 +60,16 @@ abbrev mutual
 
   pub slots_below : Kids → List ℕ
   slots_below no_kids = []
-  slots_below (kid k t ks) = cap (length (text t)) ∷ slots t ++ slots_below ks
+  slots_below (kid k t ks) = cap (length (encoding t)) ∷ slots t ++ slots_below ks
 
 -- a node was written, or refused, by a pass that takes its slots out of a cache
 abbrev pub IsNodeWritten : {T : Type 0} → Branch → Cache → List ℕ → Result T EncodeError → Cache → List ℕ → Type 0
-IsNodeWritten t old before r new after = IsWritten (text t) (slots t) old before r new after
+IsNodeWritten t old before r new after = IsWritten (encoding t) (slots t) old before r new after
 
 -- the records
 abbrev pub kids_records : Kids → List (ℕ × Datum)
 kids_records no_kids = []
-kids_records (kid k t ks) = (2, bytes (kid_entry k (text t))) ∷ kids_records ks
+kids_records (kid k t ks) = (2, bytes (kid_entry k (encoding t))) ∷ kids_records ks
 
 abbrev pub records : Branch → List (ℕ × Datum)
 records (branch a ks h r) = map_records text_writing number_writing 1 a ++ (kids_records ks ++ (map_records number_writing closed_writing 3 h ++ r))
@@ -135,10 +135,10 @@ meant-is [] = refl
 meant-is (e ∷ es) = ap (λ (xs : List (ℤ × Branch)). (e.0, e.1) ∷ xs) (meant-is es)
 
 -- the children's records are the field of the map
-pub kids_encoding-field : (es : List (ℤ × Branch)) → kids_encoding (kids es) ≡ field_encoding number_writing (delimited_writing text) 2 (meant es)
+pub kids_encoding-field : (es : List (ℤ × Branch)) → kids_encoding (kids es) ≡ field_encoding number_writing (delimited_writing encoding) 2 (meant es)
 kids_encoding-field [] = refl
-kids_encoding-field (e ∷ es) = ap (λ (r : List ℕ). kid_record e.0 (text e.1) ++ r) (kids_encoding-field es)
+kids_encoding-field (e ∷ es) = ap (λ (r : List ℕ). kid_record e.0 (encoding e.1) ++ r) (kids_encoding-field es)
 
-pub slots-field : (es : List (ℤ × Branch)) → slots_below (kids es) ≡ field_slots text slots (meant es)
+pub slots-field : (es : List (ℤ × Branch)) → slots_below (kids es) ≡ field_slots encoding slots (meant es)
 slots-field [] = refl
-slots-field (e ∷ es) = ap (λ (r : List ℕ). cap (length (text e.1)) ∷ slots e.1 ++ r) (slots-field es)
+slots-field (e ∷ es) = ap (λ (r : List ℕ). cap (length (encoding e.1)) ∷ slots e.1 ++ r) (slots-field es)
