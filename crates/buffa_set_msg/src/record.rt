@@ -76,7 +76,7 @@ fn tag_value(number: u32, wire_type: WireType) -> u64
 }
 
 // The length of a varint.
-#[tactic(auto, using(buffa_wire::proofs::TextLemmas::ten_at_most))]
+#[tactic(auto, using(buffa_wire::proofs::EncodingLemmas::ten_at_most))]
 fn number_len(n: u64) -> u64
     ensures len { result ≡ length (varint_encoding n) }
     ensures short { result ≤ 10 }
