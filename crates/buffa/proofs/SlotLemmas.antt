@@ -1,4 +1,4 @@
--- Slots, consumed in order, are the lengths in the text of a map field of messages.
+-- Slots, consumed in order, are the lengths in the encoding of a map field of messages.
 use Rattle.std.proofs.Common.{◌≡◌, ℕ, ◌+◌, List, [], ◌∷◌, ◌++◌, length, refl, sym, ap, ◌∙◌, arith, append_assoc, length-append}
 use Rattle.buffa_bytes.specs.declared.wire_type.WireType.TheVariants.{LengthDelimited}
 use Rattle.buffa_wire.specs.Passes.{IsSmall, cap}

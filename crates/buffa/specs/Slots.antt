@@ -29,7 +29,7 @@ module _ {K M : Type 0} (key : Writing K) (text slots : M → List ℕ) where
       (inner : ℕ) × (more : List ℕ) × (out : List ℕ) × (inner ≡ length (text p.1)) × (taken ≡ inner ∷ slots p.1 ++ more)
       × (bytes ≡ record_by n p inner ++ out) × WrittenBySlots n ps more out rest
 
-  -- what is so written by the slots of the pairs is the field's text, and no slot of another is consumed
+  -- what is so written by the slots of the pairs is the field's encoding, and no slot of another is consumed
   abbrev pub SlotsAreLengths : Type 0
   SlotsAreLengths =
       (n : ℕ) (l : List (K × M)) (rest : List ℕ) → AreSmall text l →

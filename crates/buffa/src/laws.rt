@@ -35,7 +35,7 @@ pub use buffa_codec::laws as extension_codecs;
 pub use buffa_ext::laws as extensions;
 /// Laws of messages that are lists of their members, and of the kinds of these.
 pub use buffa_fields::laws as members;
-/// Laws of map fields: codecs, entries, runs, sizes, texts and rewrites.
+/// Laws of map fields: codecs, entries, runs, sizes, encodings and rewrites.
 pub use buffa_map::laws as map_fields;
 /// Laws of Items of a MessageSet.
 pub use buffa_message_set::laws::{
@@ -125,7 +125,8 @@ pub fn law_7<C: LastWins, K: MessageRecord, M: Message, R: SingularCodec, P: Pac
     ensures packed { ⟦<PackedRepeated<P> as ExtensionCodec>⟧.recs [] ≡ [] }
 {}
 
-/// The announced size of a map field is the length of its text, where the tag's length is that of its tag.
+/// The announced size of a map field is the length of its encoding, where the tag's length is that of its
+/// tag.
 ///
 /// So it is of a field of messages too, where the size is the sum of the records' lengths.
 pub fn law_8<KC: MapCodec, VC: MapCodec, M: MessageSpec>()
@@ -135,10 +136,11 @@ pub fn law_8<KC: MapCodec, VC: MapCodec, M: MessageSpec>()
     buffa_map::laws::size_is_length::<KC, VC>();
 }
 
-/// The slots of a map of messages, consumed in order, are the lengths in the field's text.
+/// The slots of a map of messages, consumed in order, are the lengths in the field's encoding.
 ///
-/// For each pair of a walk the next slot is the length of the message's text, and the message's own slots
-/// follow it; the text with these lengths is the field's text. No message is longer than 2^31 - 1 bytes.
+/// For each pair of a walk the next slot is the length of the message's encoding, and the message's own slots
+/// follow it; the encoding with these lengths is the field's encoding. No message is longer than 2^31 - 1
+/// bytes.
 pub fn law_9<KC: MapCodec, M: MessageSpec>()
     ensures { SlotsAreLengths KC.writing M.encoding M.slots }
 {}

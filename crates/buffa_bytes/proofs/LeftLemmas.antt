@@ -35,7 +35,7 @@ pub left_tenth : (n byte : ℕ) (all mid new : List ℕ) → n ≡ 9 → mid ≡
 unfolding past_no_varint
 left_tenth n byte all mid new is m e = left_one n byte all mid new m e ∙ ap (λ k. drop (k + 1) all) is
 
--- ---- texts
+-- ---- delimited encodings
 abbrev Taken : Type 0
 Taken = Result (List ℕ × List ℕ) DecodeError
 
@@ -78,20 +78,20 @@ left_no_length is same bs new v left =
     let past : past_no_delimited bs ≡ past_no_varint bs = rw (past_no_delimited, v) refl in
     rw is (λ _. left ∙ sym past, subst (λ z. IsTailOf z new) (left ∙ sym past) (tail_whole new))
 
--- where the whole text was read, nothing else was
+-- where the whole encoding was read, nothing else was
 left_read : {X : Type 0} (r : Result X DecodeError) (past new : List ℕ) → new ≡ past → LeavesUnlessFull r past new
 left_read (Ok x) past new e = tt
 left_read (Err d) past new e = (λ _. e, subst (λ z. IsTailOf z new) e (tail_whole new))
 
--- the text was there, and was passed over
+-- the bytes were there, and were passed over
 pub left_passed : {X : Type 0} (r : Result X DecodeError) (n : ℕ) (bs mid part new : List ℕ) → varint_at bs ≡ Ok (n, mid) → IsFrontOf part n mid → new ≡ drop n mid → LeavesUnlessFull r (past_no_delimited bs) new
 left_passed r n bs mid part new v f e = left_read r (past_no_delimited bs) new (e ∙ sym (text_whole n bs mid v f.fits))
 
--- the text was taken
+-- the bytes were taken
 pub left_taken : {X : Type 0} (r : Result X DecodeError) (n : ℕ) (bs mid p new : List ℕ) → varint_at bs ≡ Ok (n, mid) → taken n mid ≡ Ok (p, new) → LeavesUnlessFull r (past_no_delimited bs) new
 left_taken r n bs mid p new v e = let h = taken_whole n mid p new e in left_read r (past_no_delimited bs) new (h.1 ∙ sym (text_whole n bs mid v h.0))
 
--- the text was not taken
+-- the bytes were not taken
 left_err : (d : DecodeError) (n : ℕ) (bs mid new : List ℕ) → varint_at bs ≡ Ok (n, mid) → (d ≢ OutOfMemory → taken n mid ≡ Err d) → (length mid < n → new ≡ mid) → IsTailOf (drop n mid) new →
     (d ≢ OutOfMemory → new ≡ past_no_delimited bs) × IsTailOf (past_no_delimited bs) new
 unfolding taken
@@ -114,7 +114,7 @@ pub left_copied : {X : Type 0} (view : X → List ℕ × List ℕ) (r : Result X
 left_copied view (Ok x) n bs mid new v t short within = tt
 left_copied view (Err d) n bs mid new v t short within = left_err d n bs mid new v t short within
 
--- the text was read, and its copy wasn't made
+-- the encoding was read, and the copy of its bytes wasn't made
 pub left_behind : {X : Type 0} (r : Result X DecodeError) (bs p new : List ℕ) → delimited_at bs ≡ Ok (p, new) → LeavesUnlessFull r (past_no_delimited bs) new
 left_behind r bs p new e =
     let t = agree_ok (delimited_at bs) (p, new) (delimited_sound bs) e in

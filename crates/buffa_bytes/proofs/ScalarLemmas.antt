@@ -1,4 +1,4 @@
--- Scalars: what the numbers in their texts mean, and that they are read back.
+-- Scalars: what the numbers in their encodings mean, and that they are read back.
 use Rattle.std.proofs.Common.{◌≡◌, ℕ, ◌+◌, ◌*◌, ◌/◌, ◌%◌, ◌^◌, ◌<◌, Bool, true, false, List, ◌++◌, length, Ok, refl, ap, ◌∙◌, arith, ℤ, pos, negsuc, inl, inr}
 use Rattle.std.specs.Prelude.{FitsSigned}
 use Rattle.std.specs.Int.{cast_unsigned, from_bool, to_le_bytes, w32, w64}

@@ -1,4 +1,4 @@
--- One text after another.
+-- One encoding after another.
 use Rattle.buffa_bytes.specs.Varint.{varint_encoding}
 use Rattle.buffa_bytes.proofs.ShortestLemmas.{varint_encoding-more, varint_encoding-last, varint_encoding-some}
 use Rattle.std.proofs.Common.{[], ◌∷◌, ◌+◌, ◌/◌, ◌%◌, ◌<◌, ◌≤◌, length, arith, ◌≡◌, ℕ, List, ◌++◌, refl, sym, subst, ◌∙◌, ap, append_assoc, append-nil, length-append}
@@ -28,11 +28,11 @@ room_then r room mid left a b e h = MatchResult-weaker r h
     (λ x w. omega (arith, e, w, length-append a b))
     (λ x w. omega (arith, e, w, length-append a b))
 
--- a refusal of the first text, as `?` hands it on, is one of both
+-- a refusal of the first encoding, as `?` hands it on, is one of both
 pub room_first : {T : Type 0} {r : Result T EncodeError} {e : EncodeError} → r ≡ Err e → (room left : ℕ) (a b : List ℕ) → room < length a → UsesRoom r room (a ++ b) left
 room_first is room left a b w = rw is (omega (arith, w, length-append a b))
 
--- a refusal of the first text, as `?` hands it on, is one of both
+-- a refusal of the first encoding, as `?` hands it on, is one of both
 pub exits_first : {T : Type 0} {r : Result T EncodeError} {e d : EncodeError} → r ≡ Err e → e ≡ d → (old a b new : List ℕ) → (d ≡ OutOfMemory) × WritesFront old a new → Writes r old (a ++ b) new
 exits_first is same old a b new w = rw (is, same) (w.0, front_first old a b new w.1)
 

@@ -27,8 +27,8 @@ pub record AnswerIsPinnedUnlessFull (X Y Z : Type 0) : Type 0 where
   pub sure : (f : X → Y) (r : Result X DecodeError) (read : Result Y DecodeError) → IsOk r → GivesUnlessFull f r read → Gives f r read
   pub left : (e : DecodeError) (rest a b : List ℕ) → e ≢ OutOfMemory → LeavesUnlessFull {X = X} (Err e) rest a → LeavesUnlessFull {X = X} (Err e) rest b → a ≡ b
 
--- Of a text that is written one text stands in the sink; a text that fits is not refused; of a refused one not all stands,
--- and of two refused writes the one begins the other.
+-- Of an encoding that is written one encoding stands in the sink; an encoding that fits is not refused; of a refused
+-- one not all stands, and of two refused writes the one begins the other.
 pub record WriteIsPinned (T : Type 0) : Type 0 where
   pub one : (x y : T) (old text a b : List ℕ) → Writes (Ok x) old text a → Writes (Ok y) old text b → a ≡ b
   pub fits : (e : EncodeError) (room left : ℕ) (text : List ℕ) → length text ≤ room → UsesRoom {T = T} (Err e) room text left → ⊥

@@ -1,4 +1,4 @@
--- Strings and bytes in a type of one's own: what is read of their texts.
+-- Strings and bytes in a type of one's own: what is read of their encodings.
 -- Source: the protobuf encoding guide, "Length-Delimited Records".
 use Rattle.std.specs.Prelude.{◌≡◌, ℕ, List, true, Result, Ok, Err, if◌then◌else◌, String, string_bytes}
 use Rattle.std.specs.Str.{is_utf8}

@@ -1,4 +1,4 @@
--- The texts of tags and values, and what is read of them.
+-- The encodings of tags and values, and what is read of them.
 -- Source: the protobuf encoding guide, "Message Structure", "Signed Integers" and "Length-Delimited Records".
 use Rattle.std.specs.Prelude.{ℕ, ℤ, ◌+◌, ◌*◌, ◌%◌, ◌^◌, List, ◌++◌, length, Result, Ok, Err, if◌then◌else◌}
 use Rattle.std.specs.Int.{cast_unsigned, cast_signed, w32, w64}

@@ -1,4 +1,4 @@
-//! Why bytes were refused, and why a text was not written.
+//! Why bytes were refused, and why an encoding was not written.
 
 ghost use Rattle.std.specs.Prelude.{◌≡◌, Some};
 ghost use Rattle.buffa_bytes.specs.ErrorText.{decode_error_text, encode_error_text, message_set_fault_text};
@@ -68,7 +68,7 @@ pub enum DecodeError {
     MessageTooLarge,
     /// Groups or messages nested deeper than the depth allows.
     RecursionLimitExceeded,
-    /// No slot for an unknown field is left.
+    /// The budget has no unknown field left.
     UnknownFieldLimitExceeded,
     /// Too few units of element memory are left.
     ElementMemoryLimitExceeded,
@@ -116,7 +116,7 @@ impl fmt::Display for DecodeError {
 
 impl Error for DecodeError {}
 
-/// Why a text was not written.
+/// Why an encoding was not written.
 ///
 /// `Display` prints the variant's name, and after `GroupRefused` a space and the text of what it holds.
 ///
@@ -125,9 +125,9 @@ impl Error for DecodeError {}
 /// ```
 #[derive(Clone, Copy, Debug, PartialEq, Eq)]
 pub enum EncodeError {
-    /// A text longer than the format can say.
+    /// An encoding longer than the format can say.
     MessageTooLarge,
-    /// The text of a group message can't be read back as a group; why is held.
+    /// The encoding of a group message can't be read back as a group; why is held.
     GroupRefused(DecodeError),
     /// A growth was refused. It says nothing of the value.
     OutOfMemory,

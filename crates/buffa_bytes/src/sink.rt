@@ -1,11 +1,11 @@
-//! Bytes out: a place that text is appended to.
+//! Bytes out: a place that encodings are appended to.
 
 ghost use Rattle.std.specs.Prelude.{◌≡◌, ◌∷◌, ◌-◌, [], ℕ, List, OnErr, vec_capacity, vec_len};
 ghost use Rattle.buffa_bytes.specs.Written.{UsesRoom, Writes};
 
 use crate::error::EncodeError;
 
-/// A place that text is appended to.
+/// A place that encodings are appended to.
 ///
 /// ```ignore
 /// let mut text = Vec::new(alloc);

@@ -1,4 +1,4 @@
-//! The texts of scalars and strings, without their tags.
+//! The encodings of scalars and strings, without their tags.
 
 mod fixed;
 mod integer;

@@ -27,7 +27,7 @@ abbrev pub string_held : Datum → Option (List ℕ)
 string_held (bytes b) = if is_utf8 b then Some b else None
 string_held _ = None
 
--- a text is there, and has a byte
+-- bytes are there, one at least
 abbrev pub HasByte : Option (List ℕ) → Type 0
 HasByte None = ⊥
 HasByte (Some b) = b ≢ []
@@ -61,7 +61,7 @@ Has P ds = (front : List Datum) × (d : Datum) × (back : List Datum) × P d × 
 abbrev pub HasLast : {M : Type 0} → (Datum → Type 0) → (Datum → Option M) → List Datum → Type 0
 HasLast P one ds = (front : List Datum) × (d : Datum) × (back : List Datum) × P d × (filter_map one back ≡ []) × (ds ≡ front ++ d ∷ back)
 
--- a text takes memory to be read where it has a byte, and it is the last that is read
+-- a string or bytes value takes memory to be read where it has a byte, and it is the last that is read
 abbrev pub TakesText : (Datum → Option (List ℕ)) → List Datum → Type 0
 TakesText held ds = HasLast (λ d. HasByte (held d)) held ds
 
@@ -138,7 +138,7 @@ abbrev pub Each : {V : Type 0} → (V → Type 0) → List V → Type 0
 Each P [] = Unit {0}
 Each P (v ∷ vs) = P v × Each P vs
 
--- the texts of the values, joined
+-- the encodings of the values, joined
 abbrev pub joined : {V : Type 0} → (V → List ℕ) → List V → List ℕ
 joined encoding [] = []
 joined encoding (v ∷ vs) = encoding v ++ joined encoding vs

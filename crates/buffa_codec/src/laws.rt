@@ -250,8 +250,8 @@ pub fn scalars_are_read()
 {}
 
 /// Strings and bytes are read of the last record of bytes, strings where these are UTF-8; all of them are
-/// written, and read back; and no packed ones are read. Only a text of a byte or more takes memory to be read, the
-/// last one alone, and an empty one is written in the list's room.
+/// written, and read back; and no packed ones are read. Only a value of a byte or more takes memory to be
+/// read, the last one alone, and an empty one is written in the list's room.
 pub fn texts_are_read()
     ensures strings { (ds : List Datum) (o : Option (List ℕ)) → ⟦<StringCodec as ExtensionCodec>⟧.reads ds o
         ↔ (o ≡ last_read string_held ds) }

@@ -59,7 +59,7 @@ module _ (held : Datum → Option (List ℕ)) (n : ℕ) (xs : List UnknownField)
         (subst (λ y. IsAllMerged merged cost (encodings_in held (sub n (records_in (take i xs)))) old b (Ok found) mid y) (sym ea)
         (subst (λ y. IsAllMerged merged cost (encodings_in held (sub n (records_in (take i xs)))) old b (Ok y) mid m) (sym ef) h)))
 
-    -- the text of a record of the number is refused
+    -- the encoding in a record of the number is refused
     pub stops_here : (takes : Datum → Type 0) (new : X) (a : BudgetLeft) (err : DecodeError) (all : List (ℕ × Datum)) → x.number ≡ n → records_in xs ≡ all
         → IsAllMerged merged cost (encodings_in held (datum_of x.payload ∷ [])) mid m (Err err) new a → encodings_in held (datum_of x.payload ∷ []) ≢ [] → (err ≡ OutOfMemory → takes (datum_of x.payload))
         → StopsAt merged cost held takes (sub n all) old b err a

@@ -47,7 +47,7 @@ module _ {X : Type 0} (merged : X → List ℕ → Option X) (cost : List ℕ �
   no_fault o need before left new e h p (inl k) = paid_not_lacked before need left p k
   no_fault o need before left new e h p (inr k) = not_both new o h k.0
 
-  -- the text of a record means no value, or isn't covered
+  -- the encoding in a record means no value, or isn't covered
   abbrev Stuck : Datum → X → BudgetLeft → Type 0
   Stuck d old before = (t : List ℕ) × (e : DecodeError) × (held d ≡ Some t) × MergeFault (merged old t) (cost t) before e
 

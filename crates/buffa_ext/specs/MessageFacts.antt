@@ -1,4 +1,4 @@
--- What merging the texts of records comes to.
+-- What merging the encodings in records comes to.
 use Rattle.std.proofs.Common.{◌≡◌, ◌≢◌, ℕ, ◌+◌, ◌<◌, ◌≤◌, ◌^◌, Bool, true, false, List, [], ◌∷◌, ◌++◌, ◌&&◌, ◌||◌, nat_le, nat_lt, length, Option, Some, None, Result, Ok, Err, IfOk, inl, inr, refl, sym, ap, subst, ◌∙◌, arith, if◌then◌else◌}
 use Rattle.std.proofs.lemmas.Grind.{common_steps}
 use Rattle.std.specs.Option.{option_and_then}
@@ -101,7 +101,7 @@ module _ {X : Type 0} (merged : X → List ℕ → Option X) (cost : List ℕ �
   no_text blank left [] h = refl
   no_text blank left (b ∷ bs) h = cc
 
-  -- the answer after merging is the message of the texts
+  -- the answer after merging is the message of the encodings
   pub answers : (blank new : X) (left after : BudgetLeft) (bs : List (List ℕ)) (r : Result Bool DecodeError) (o : Option X)
       → IsAllMerged merged cost bs blank left r new after → IsAnswer r new o → o ≡ message_of merged cost blank left bs
   answers blank new left after bs (Ok true) o m a = a ∙ sym (message_some blank new left after bs (sym m.0) m.1 m.2)
@@ -129,7 +129,7 @@ module _ {X : Type 0} (merged : X → List ℕ → Option X) (cost : List ℕ �
   within blank v left [] e = cc
   within blank v left (b ∷ bs) e = left_true left (cost_all cost (b ∷ bs)) (some_if (is_left left (cost_all cost (b ∷ bs))) (merged_all merged blank (b ∷ bs)) v e)
 
-  -- ---- texts one after the other
+  -- ---- encodings one after the other
 
   then_merged : (ys : List (List ℕ)) (xs : List (List ℕ)) (o : Option X)
       → ((w : X) → merged_all merged w (xs ++ ys) ≡ option_and_then (λ v. merged_all merged v ys) (merged_all merged w xs))
@@ -148,7 +148,7 @@ module _ {X : Type 0} (merged : X → List ℕ → Option X) (cost : List ℕ �
   merged_both : (xs ys : List (List ℕ)) (old mid : X) → merged_all merged old xs ≡ Some mid → merged_all merged old (xs ++ ys) ≡ merged_all merged mid ys
   merged_both xs ys old mid e = merged-append xs ys old ∙ ap (option_and_then (λ v. merged_all merged v ys)) e
 
-  -- more texts after those that are merged
+  -- more encodings after those that are merged
   pub merged_more : (xs ys : List (List ℕ)) (old mid new : X) (f g h : Bool) (b m a : BudgetLeft) → h ≡ (f || g)
       → IsAllMerged merged cost xs old b (Ok f) mid m → IsAllMerged merged cost ys mid m (Ok g) new a → IsAllMerged merged cost (xs ++ ys) old b (Ok h) new a
   merged_more xs ys old mid new f g h b m a e p q = (
@@ -199,7 +199,7 @@ module _ {X : Type 0} (merged : X → List ℕ → Option X) (cost : List ℕ �
   fault_of_one t mid m err (inl (inr h)) = inl (inr (omega (arith, h)))
   fault_of_one t mid m err (inr h) = inr (alone_too (merged mid t) h.0, h.1)
 
-  -- the text of one record is refused
+  -- the encoding in one record is refused
   pub text_refused : (held : Datum → Option (List ℕ)) (takes : Datum → Type 0) (d : Datum) (o : Option (List ℕ)) (mid new : X) (m a : BudgetLeft) (err : DecodeError) → held d ≡ o → encodings_in held (d ∷ []) ≢ []
       → (err ≡ OutOfMemory → takes d) → IsAllMerged merged cost (encodings_in held (d ∷ [])) mid m (Err err) new a → IsEncodingRefused merged cost held takes d mid m err a
   text_refused held takes d None mid new m a err e some full k = absurd (some (ap (λ z. cons_option z []) e))
@@ -214,7 +214,7 @@ module _ {X : Type 0} (merged : X → List ℕ → Option X) (cost : List ℕ �
       subst (λ l. IsAllMerged merged cost l mid m (Err err) new a) (sym (ap (λ z. cons_option z []) h.1))
       ((omega (arith, h.2), omega (arith, h.2), omega (arith, h.2), omega (arith, h.2)), λ ne. fault_of_one h.0 mid m err (h.4 ne))
 
-  -- so the texts of all records are merged, or refused
+  -- so the encodings in all records are merged, or refused
   pub all_merged : (held : Datum → Option (List ℕ)) (takes : Datum → Type 0) (ds : List Datum) (old new : X) (before after : BudgetLeft) (r : Result Bool DecodeError)
       → MergesRecords merged cost held takes ds old before r new after → IsAllMerged merged cost (encodings_in held ds) old before r new after
   all_merged held takes ds old new before after (Ok f) h = (h.0, h.1.0, h.1.1)
@@ -223,7 +223,7 @@ module _ {X : Type 0} (merged : X → List ℕ → Option X) (cost : List ℕ �
       (ap (encodings_in held) cut ∙ filter_map-append held front (d ∷ back) ∙ ap (λ l. encodings_in held front ++ l) (filter_map-append held (d ∷ []) back))
       (refl, done.0, done.1) (one_of_all held takes d mid new left after e refused)
 
-  -- the answer after merging records into a blank is the message of their texts
+  -- the answer after merging records into a blank is the message of the encodings in them
   pub records_answer : {V E : Type 0} (held : Datum → Option (List ℕ)) (takes : Datum → Type 0) (ds : List Datum) (old blank new : X) (before left after : BudgetLeft) (r : Result Bool DecodeError) (x : Result V E) (f : V → Option X)
       → old ≡ blank → before ≡ left → MergesRecords merged cost held takes ds old before r new after → IfOk x (λ o. IsAnswer r new (f o)) → IfOk x (λ o. f o ≡ message_of merged cost blank left (encodings_in held ds))
   records_answer held takes ds old blank new before left after r (Ok o) f s b m a =
@@ -244,7 +244,7 @@ module _ {X : Type 0} (merged : X → List ℕ → Option X) (cost : List ℕ �
 some_none : {A P : Type 0} (x : A) → Some x ≡ None → P
 some_none x h = cc
 
--- ---- texts
+-- ---- encodings
 
 refusal_by : {A : Type 0} (b : Bool) (o : Option A) (e : A) → (if b then o else Some e) ≡ None → o ≡ None
 refusal_by true o e h = h
@@ -269,7 +269,7 @@ group_by rs (Ok qs) e f h =
     ap (λ x. Some (fields_encoding x)) (sym (one_reading (records_encoding rs) (records_height (records_of rs)) 100 (records_of rs) (records_of qs) parse read.0))
 group_by rs (Err g) e f h = some_none (GroupRefused g) h
 
--- the group of a text holds it
+-- the group of an encoding holds it
 pub group_back : (rs : List (ℕ × Datum)) → Fits (records_of rs) → group_refusal (records_encoding rs) ≡ None → group_held (group_of (records_encoding rs)) ≡ Some (records_encoding rs)
 group_back rs f h = group_by rs (list_at 100 1000000 (records_encoding rs)) refl f h
 

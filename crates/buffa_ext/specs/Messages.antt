@@ -16,16 +16,16 @@ use Rattle.buffa_wire.specs.RecordReading.{list_at}
 use Rattle.buffa_wire.specs.Encoding.{fields_encoding}
 use Rattle.buffa_codec.specs.Reading.{Covers, full}
 
--- the message's text in a group: that of its records
+-- the message's encoding in a group: that of its records
 abbrev pub group_held : Datum → Option (List ℕ)
 group_held (group rs) = Some (fields_encoding rs)
 group_held _ = None
 
--- the texts in records
+-- the encodings in records
 abbrev pub encodings_in : (Datum → Option (List ℕ)) → List Datum → List (List ℕ)
 encodings_in held ds = filter_map held ds
 
--- texts merged in order
+-- encodings merged in order
 abbrev pub merged_all : {X : Type 0} → (X → List ℕ → Option X) → X → List (List ℕ) → Option X
 merged_all merged old [] = Some old
 merged_all merged old (b ∷ bs) = option_and_then (λ new. merged_all merged new bs) (merged old b)
@@ -39,12 +39,12 @@ cost_all cost (b ∷ bs) = plus (cost b) (cost_all cost bs)
 abbrev pub is_left : BudgetLeft → BudgetLeft → Bool
 is_left left need = nat_le need.unknown left.unknown && nat_le need.memory left.memory
 
--- the message of texts, where there is one at all and their cost is left
+-- the message of encodings, where there is one at all and their cost is left
 abbrev pub message_of : {X : Type 0} → (X → List ℕ → Option X) → (List ℕ → BudgetLeft) → X → BudgetLeft → List (List ℕ) → Option X
 message_of merged cost blank left [] = None
 message_of merged cost blank left (b ∷ bs) = if is_left left (cost_all cost (b ∷ bs)) then merged_all merged blank (b ∷ bs) else None
 
--- records are read as the message of the texts in them
+-- records are read as the message of the encodings in them
 abbrev pub ReadsMessages : {X : Type 0} → (List Datum → Option X → Type 0) → (X → List ℕ → Option X) → (List ℕ → BudgetLeft) → X → (Datum → Option (List ℕ)) → Type 0
 ReadsMessages {X = X} reads merged cost blank held = (ds : List Datum) (o : Option X) → reads ds o ↔ (o ≡ message_of merged cost blank full (encodings_in held ds))
 
@@ -59,50 +59,50 @@ LeavesOfRecord merged cost blank held b d left =
     let texts = encodings_in held (d ∷ []) in
     LeavesOf (message_of merged cost blank b texts) b (cost_all cost texts) left
 
--- there is a text
+-- there is an encoding
 abbrev pub some_there : List (List ℕ) → Bool
 some_there [] = false
 some_there (b ∷ bs) = true
 
--- merging texts in order tells whether there was one; on a refusal at most their cost is spent, and it tells why they
--- aren't merged
+-- merging encodings in order tells whether there was one; on a refusal at most their cost is spent, and it tells why
+-- they aren't merged
 abbrev pub IsAllMerged : {X : Type 0} → (X → List ℕ → Option X) → (List ℕ → BudgetLeft) → List (List ℕ) → X → BudgetLeft → Result Bool DecodeError → X → BudgetLeft → Type 0
 IsAllMerged merged cost bs old before r new after =
     MatchResult r
     (λ some. (some ≡ some_there bs) × (merged_all merged old bs ≡ Some new) × Pays before (cost_all cost bs) after)
     (λ e. PaysAtMost before (cost_all cost bs) after × (e ≢ OutOfMemory → MergeFault (merged_all merged old bs) (cost_all cost bs) before e))
 
--- merging the text in one record in a context
+-- merging the encoding in one record in a context
 abbrev pub MergesOne : {X : Type 0} → (ℕ → X → List ℕ → Option X) → (ℕ → List ℕ → BudgetLeft) → (Datum → Option (List ℕ)) → DecodeContext → Datum → X → Result Bool DecodeError → X → BudgetLeft → Type 0
 MergesOne merged cost held ctx d old r new after = IsAllMerged (merged ctx.depth) (cost ctx.depth) (encodings_in held (d ∷ [])) old ctx.budget.now r new after
 
--- texts are merged in order, and exactly what they cost is spent
+-- encodings are merged in order, and exactly what they cost is spent
 abbrev pub AreMerged : {X : Type 0} → (X → List ℕ → Option X) → (List ℕ → BudgetLeft) → List (List ℕ) → X → BudgetLeft → X → BudgetLeft → Type 0
 AreMerged merged cost bs old before new after = (merged_all merged old bs ≡ Some new) × Pays before (cost_all cost bs) after
 
--- the text of a record is refused: at most its own cost is spent, memory is told only of a record that takes some, and
--- anything else tells why the text isn't merged
+-- the encoding in a record is refused: at most its own cost is spent, memory is told only of a record that takes some,
+-- and anything else tells why the encoding isn't merged
 abbrev pub IsEncodingRefused : {X : Type 0} → (X → List ℕ → Option X) → (List ℕ → BudgetLeft) → (Datum → Option (List ℕ)) → (Datum → Type 0) → Datum → X → BudgetLeft → DecodeError → BudgetLeft → Type 0
 IsEncodingRefused merged cost held takes d old before e after =
     (t : List ℕ) × (held d ≡ Some t) × PaysAtMost before (cost t) after × (e ≡ OutOfMemory → takes d)
     × (e ≢ OutOfMemory → MergeFault (merged old t) (cost t) before e)
 
--- merging records stops at one: all before it are merged and paid for, its own text is refused with what they leave, and
--- nothing is said of those behind it
+-- merging records stops at one: all before it are merged and paid for, the encoding in it is refused with what they
+-- leave, and nothing is said of those behind it
 abbrev pub StopsAt : {X : Type 0} → (X → List ℕ → Option X) → (List ℕ → BudgetLeft) → (Datum → Option (List ℕ)) → (Datum → Type 0) → List Datum → X → BudgetLeft → DecodeError → BudgetLeft → Type 0
 StopsAt {X = X} merged cost held takes ds old before e after =
     (front : List Datum) × (d : Datum) × (back : List Datum) × (mid : X) × (left : BudgetLeft) × (ds ≡ front ++ d ∷ back)
     × AreMerged merged cost (encodings_in held front) old before mid left × IsEncodingRefused merged cost held takes d mid left e after
 
--- merging the texts in records tells whether there was one; or it stops at a record
+-- merging the encodings in records tells whether there was one; or it stops at a record
 abbrev pub MergesRecords : {X : Type 0} → (X → List ℕ → Option X) → (List ℕ → BudgetLeft) → (Datum → Option (List ℕ)) → (Datum → Type 0) → List Datum → X → BudgetLeft → Result Bool DecodeError → X → BudgetLeft → Type 0
 MergesRecords merged cost held takes ds old before r new after =
     MatchResult r
     (λ some. (some ≡ some_there (encodings_in held ds)) × AreMerged merged cost (encodings_in held ds) old before new after)
     (λ e. StopsAt merged cost held takes ds old before e after)
 
--- whatever merging records answers, at most what their texts cost together is spent; and where they are merged that was
--- there to be spent
+-- whatever merging records answers, at most what the encodings in them cost together is spent; and where they are
+-- merged that was there to be spent
 abbrev pub MergingStaysWithin : {X : Type 0} → (X → List ℕ → Option X) → (List ℕ → BudgetLeft) → (Datum → Option (List ℕ)) → (Datum → Type 0) → Type 0
 MergingStaysWithin {X = X} merged cost held takes =
     (ds : List Datum) (old new : X) (before after : BudgetLeft) (r : Result Bool DecodeError) → MergesRecords merged cost held takes ds old before r new after
@@ -114,13 +114,13 @@ ReachesRecord {X = X} merged cost blank held takes ds =
     (front : List Datum) × (d : Datum) × (back : List Datum) × (mid : X) × (left : BudgetLeft) × (ds ≡ front ++ d ∷ back)
     × AreMerged merged cost (encodings_in held front) blank full mid left × takes d
 
--- what is answered after merging: the message where a text was there, and none after a fault
+-- what is answered after merging: the message where an encoding was there, and none after a fault
 abbrev pub IsAnswer : {X : Type 0} → Result Bool DecodeError → X → Option X → Type 0
 IsAnswer (Ok true) v o = o ≡ Some v
 IsAnswer (Ok false) v o = o ≡ None
 IsAnswer (Err e) v o = (o ≡ None) × (e ≢ OutOfMemory)
 
--- a text is there, and a field begins it
+-- an encoding is there, and a field begins it
 abbrev pub BeginsFieldIn : (Datum → Option (List ℕ)) → Datum → Type 0
 BeginsFieldIn held d = IfSome (held d) BeginsField
 
@@ -129,11 +129,11 @@ abbrev pub or_none : Result (List (ℕ × Datum)) DecodeError → List (ℕ × D
 or_none (Ok rs) = rs
 or_none (Err e) = []
 
--- the group of a message's text, and why there is none
+-- the group of a message's encoding, and why there is none
 abbrev pub group_of : List ℕ → Datum
 group_of encoding = group (records_of (or_none (list_at 100 1000000 encoding)))
 
--- the texts in the group of a message's text: that one
+-- the encodings in the group of a message's encoding: that one
 abbrev pub group_encodings : List ℕ → List (List ℕ)
 group_encodings encoding = encodings_in group_held (group_of encoding ∷ [])
 
@@ -144,11 +144,11 @@ why_refused (Err e) = Some (GroupRefused e)
 abbrev pub group_refusal : List ℕ → Option EncodeError
 group_refusal encoding = why_refused (list_at 100 1000000 encoding)
 
--- why a text isn't written: it is too long, or else it can't be held
+-- why an encoding isn't written: it is too long, or else it can't be held
 abbrev pub encoding_refusal : (List ℕ → Option EncodeError) → List ℕ → Option EncodeError
 encoding_refusal refusal encoding = if nat_lt (length encoding) (2 ^ 31) then refusal encoding else Some MessageTooLarge
 
--- a message is read back: its type says so, it isn't too deep, its numbers can be written, and the texts in its record
--- cost no more than a pair of default budgets
+-- a message is read back: its type says so, it isn't too deep, its numbers can be written, and the encodings in its
+-- record cost no more than a pair of default budgets
 abbrev pub IsReadBack : Type 0 → ℕ → List (ℕ × Datum) → (List ℕ → BudgetLeft) → List (List ℕ) → Type 0
 IsReadBack normal levels records cost texts = (normal × (levels ≤ 100) × Fits (records_of records)) × Covers full (cost_all cost texts)

@@ -10,8 +10,8 @@ use Rattle.buffa_ext.specs.Defaults.{IsDefaulted}
 use Rattle.buffa_ext.specs.Messages.{IsAllMerged, MergesRecords, StopsAt, cost_all, encodings_in}
 use Rattle.buffa_ext.specs.Steps.{IsCleared, IsSet}
 
--- records that are merged leave one value and one budget, and tell in one way whether there was a text; what is merged
--- isn't refused, memory aside; and what is refused stops at one record, memory aside
+-- records that are merged leave one value and one budget, and tell in one way whether there was an encoding; what is
+-- merged isn't refused, memory aside; and what is refused stops at one record, memory aside
 pub record MergingIsPinned {X : Type 0} (merged : X → List ℕ → Option X) (cost : List ℕ → BudgetLeft) (held : Datum → Option (List ℕ)) (takes : Datum → Type 0) : Type 0 where
   pub alike : (ds : List Datum) (old new newer : X) (before left over : BudgetLeft) (f g : Bool)
       → MergesRecords merged cost held takes ds old before (Ok f) new left → MergesRecords merged cost held takes ds old before (Ok g) newer over
@@ -23,8 +23,8 @@ pub record MergingIsPinned {X : Type 0} (merged : X → List ℕ → Option X) (
       → (h : StopsAt merged cost held takes ds old before e left) (k : StopsAt merged cost held takes ds old before f over)
       → e ≢ OutOfMemory → f ≢ OutOfMemory → h.0 ≡ k.0
 
--- merging the text in one record leaves one value and one budget, and tells in one way whether there was a text; what is
--- merged isn't refused, memory aside
+-- merging the encoding in one record leaves one value and one budget, and tells in one way whether there was an
+-- encoding; what is merged isn't refused, memory aside
 pub record RecordMergeIsPinned {X : Type 0} (merged : X → List ℕ → Option X) (cost : List ℕ → BudgetLeft) (held : Datum → Option (List ℕ)) : Type 0 where
   pub alike : (d : Datum) (old new newer : X) (before left over : BudgetLeft) (f g : Bool)
       → IsAllMerged merged cost (encodings_in held (d ∷ [])) old before (Ok f) new left → IsAllMerged merged cost (encodings_in held (d ∷ [])) old before (Ok g) newer over
@@ -33,7 +33,7 @@ pub record RecordMergeIsPinned {X : Type 0} (merged : X → List ℕ → Option 
       → IsAllMerged merged cost (encodings_in held (d ∷ [])) old before (Ok f) new left → IsAllMerged merged cost (encodings_in held (d ∷ [])) old before (Err e) newer over
       → (e ≢ OutOfMemory) → ⊥
 
--- where all texts are covered, a list has the value of each that means one
+-- where all encodings are covered, a list has the value of each that means one
 abbrev pub ListIsExact : {X : Type 0} → (List Datum → List X → Type 0) → (X → List ℕ → Option X) → (List ℕ → BudgetLeft) → X → (Datum → Option (List ℕ)) → Type 0
 ListIsExact {X = X} reads merged cost blank held =
     (ds : List Datum) (vs : List X) → Covers full (cost_all cost (encodings_in held ds)) → reads ds vs → vs ≡ filter_map (merged blank) (encodings_in held ds)

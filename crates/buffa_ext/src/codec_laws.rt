@@ -46,7 +46,7 @@ pub fn number_names_are_these()
         (λ d. option_map sfixed64_of (fixed64_in d)) (λ v. fixed64 (cast_unsigned w64 v)) }
 {}
 
-/// The names of codecs of texts, enums, lists and messages are those that read and write them so.
+/// The names of codecs of strings, bytes, enums, lists and messages are those that read and write them so.
 pub fn other_names_are_these<E: Enumeration, C: SingularCodec, P: PackableCodec, M: Message>()
     ensures string { IsOf ⟦<StringCodec as SingularCodec>⟧.one ⟦<StringCodec as SingularCodec>⟧.datum string_held bytes }
     ensures bytes { IsOf ⟦<BytesCodec as SingularCodec>⟧.one ⟦<BytesCodec as SingularCodec>⟧.datum bytes_held bytes }

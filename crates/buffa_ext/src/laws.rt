@@ -85,7 +85,8 @@ pub fn last_set_counts()
 {}
 
 /// The records that are read as one message cost together no more than a pair of default budgets; and merging
-/// records under any budget never spends more than their texts cost together, nor more than was there.
+/// records under any budget never spends more than the encodings in them cost together, nor more than was
+/// there.
 pub fn messages_stay_within_a_budget<K: MessageRecord, M: Message>()
     ensures read { (ds : List Datum) (v : M.Meaning) → ⟦<MessageIn<K, M> as ExtensionCodec>⟧.reads ds (Some v)
         → Covers full (cost_all (M.cost 100) (encodings_in K.held ds)) }
@@ -93,7 +94,7 @@ pub fn messages_stay_within_a_budget<K: MessageRecord, M: Message>()
 {}
 
 /// A message is read of the bytes of all records of bytes of its number, or of the records in all its
-/// groups, merged in order. A value is read back whose type says so, and whose text isn't too deep, nor
+/// groups, merged in order. A value is read back whose type says so, and whose encoding isn't too deep, nor
 /// costs more than the default budgets.
 pub fn messages_are_read<M: Message>()
     ensures delimited { ReadsMessages ⟦<MessageCodec<M> as ExtensionCodec>⟧.reads (M.merged 100) (M.cost 100)
@@ -172,16 +173,16 @@ pub fn group_records_are_read<M: Message>()
     ensures packed { (bs : List ℕ) → ⟦<GroupCodec<M> as SingularCodec>⟧.packed bs ≡ [] }
 {}
 
-/// A value means what its message type says, and so does the answer of a reading; a text of bytes is held
-/// without memory.
+/// A value means what its message type says, and so does the answer of a reading; a record of bytes holds an
+/// encoding without memory.
 pub fn messages_mean_these<K: MessageRecord, M: Message>(value: &M, output: &Option<M>)
     ensures value { ⟦<MessageIn<K, M> as ExtensionCodec>⟧.meaning value.now ≡ M.meaning value.now }
     ensures answer { ⟦<MessageIn<K, M> as ExtensionCodec>⟧.answer output.now ≡ option_map M.meaning output.now }
     ensures held { ⟦<Delimited as MessageRecord>⟧.never_fails }
 {}
 
-/// A record of bytes holds its bytes, and a group the text of its records; which of them take memory to be
-/// merged, at any depth; and which texts have no group.
+/// A record of bytes holds its bytes, and a group the encoding of its records; which of them take memory to
+/// be merged, at any depth; and which encodings have no group.
 pub fn held_encodings_are_these()
     ensures held { (d : Datum) → (⟦<Delimited as MessageRecord>⟧.held d ≡ bytes_held d)
         × (⟦<Grouped as MessageRecord>⟧.held d ≡ group_held d) }
@@ -207,18 +208,18 @@ pub fn defaults_are_these<V, F: Fn(Global) -> Result<V, AllocError>>()
 {}
 
 /// A message is read as one value or none; and merging records in order, or one at any depth, ends in one way,
-/// memory aside: it stops at the first text that is refused, or at none.
+/// memory aside: it stops at the first encoding that is refused, or at none.
 ///
-/// Left open: where memory runs out, of those records up to the first refused text for which merging may take
-/// some (`takes`); which fault is told of that text, and how much of its own cost is spent.
+/// Left open: where memory runs out, of those records up to the first refused encoding for which merging may
+/// take some (`takes`); which fault is told of that encoding, and how much of its own cost is spent.
 pub fn messages_are_pinned<K: MessageRecord, M: Message>()
     ensures read { OneAnswer ⟦<MessageIn<K, M> as ExtensionCodec>⟧.reads }
     ensures merged { MergingIsPinned (M.merged 100) (M.cost 100) K.held (K.takes 100) }
     ensures record { (n : ℕ) → RecordMergeIsPinned (M.merged n) (M.cost n) K.held }
 {}
 
-/// A list of messages whose texts cost together no more than a pair of default budgets has one answer: the
-/// value of each text that means one.
+/// A list of messages whose encodings cost together no more than a pair of default budgets has one answer:
+/// the value of each encoding that means one.
 ///
 /// Left open: past those budgets, which records behind the first refused one are values.
 pub fn lists_of_messages_are_pinned<M: Message>()

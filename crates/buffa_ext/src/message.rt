@@ -21,14 +21,14 @@ use buffa_wire::{
 use std::alloc::{AllocError, Global};
 use std::marker::PhantomData;
 
-/// A message, whose text is the bytes of a record.
+/// A message, whose encoding is the bytes of a record.
 ///
 /// ```ignore
 /// let one = Extension::<MessageCodec<FlatMsg>>::new(7, "test.Carrier");
 /// ```
 pub type MessageCodec<M> = MessageIn<Delimited, M>;
 
-/// A message, whose text is that of a group's records.
+/// A message, whose encoding is that of a group's records.
 ///
 /// ```ignore
 /// let one = Extension::<GroupCodec<BudgetMsg>>::new(1, "test.Carrier");
@@ -45,7 +45,7 @@ pub struct MessageIn<K, M> {
     of: PhantomData<M>,
 }
 
-// The message, where a text was there; none after a fault, but since memory ran out.
+// The message, where an encoding was there; none after a fault, but since memory ran out.
 fn answer<M: Message>(
     merged: Result<bool, DecodeError>,
     message: M,
@@ -133,12 +133,12 @@ impl<K: MessageRecord, M: Message> SingularCodec for MessageIn<K, M> {
     ghost spends = { λ b left d h. spent (M.merged 100) (M.cost 100) M.blank_is b left (encodings_in K.held (d ∷ [])) h };
 }
 
-/// Merges the texts in all records of the number, 100 levels deep, and tells whether there is one. It spends
-/// exactly what they cost together.
+/// Merges the encodings in all records of the number, 100 levels deep, and tells whether there is one. It
+/// spends exactly what they cost together.
 ///
 /// # Errors
-/// Those of [`Message::merge`], of the first text that is refused: those before it are paid for, of its own
-/// cost at most all, and of those behind it nothing. The value is then some value of its type.
+/// Those of [`Message::merge`], of the first encoding that is refused: those before it are paid for, of its
+/// own cost at most all, and of those behind it nothing. The value is then some value of its type.
 ///
 /// ```ignore
 /// let found = merge_number::<K, M>(alloc, number, &fields, &mut budget, &mut message)?;

@@ -1,4 +1,4 @@
-//! How records hold the texts of messages: in bytes, or as a group.
+//! How records hold the encodings of messages: in bytes, or as a group.
 
 ghost use Rattle.std.specs.Prelude.{◌≡◌, ◌≢◌, ℕ, List, [], ◌∷◌, Option, Some, None, IfErr, IfOk, IsOk, OnErr, refl};
 ghost use Rattle.buffa_bytes.specs.declared.error.EncodeError.{EncodeError};
@@ -18,28 +18,28 @@ use buffa_wire::{
 };
 use std::alloc::Global;
 
-/// How records of one kind hold the texts of messages.
+/// How records of one kind hold the encodings of messages.
 ///
 /// ```ignore
 /// let found = merge_number::<K, M>(alloc, number, &fields, &mut budget, &mut message)?;
 /// ```
 pub trait MessageRecord {
-    /// The text in a record of this kind.
+    /// The encoding in a record of this kind.
     ghost held: { Datum → Option (List ℕ) };
 
-    /// The record of a text.
+    /// The record that holds an encoding.
     ghost holder: { List ℕ → Datum };
 
-    /// The records whose text may take memory to be merged, at a depth.
+    /// The records that hold an encoding which may take memory to be merged, at a depth.
     ghost takes: { ℕ → Datum → Type 0 };
 
-    /// Why no record holds a text, memory aside.
+    /// Why no record holds an encoding, memory aside.
     ghost refusal: { List ℕ → Option EncodeError };
 
-    /// Holding a text takes no memory.
+    /// Holding an encoding takes no memory.
     ghost never_fails: { Type 0 };
 
-    /// Merges the text in a record of this kind, at the context's depth, and tells whether there is one.
+    /// Merges the encoding in a record of this kind, at the context's depth, and tells whether there is one.
     ///
     /// # Errors
     /// Those of [`Message::merge`], where there is one; out of memory only where merging it may take some.
@@ -58,10 +58,11 @@ pub trait MessageRecord {
         ensures text { OnErr result (encodings_in held (datum_of payload.now ∷ []) ≢ []) }
         ensures full { FullOnlyIf result (takes ctx.entry.depth (datum_of payload.now)) };
 
-    /// The record of a text.
+    /// The record that holds an encoding.
     ///
     /// # Errors
-    /// Why no record holds it, or out of memory; never for a text of no bytes, nor where holding takes none.
+    /// Why no record holds it, or out of memory; never for an encoding of no bytes, nor where holding takes
+    /// none.
     ///
     /// ```ignore
     /// let payload = K::hold(alloc, text);
@@ -72,12 +73,12 @@ pub trait MessageRecord {
         ensures full { IfErr result (λ e. e ≡ OutOfMemory → text.items ≢ []) }
         ensures always { never_fails → IsOk result };
 
-    /// The record of a text holds it.
+    /// The record of an encoding holds it.
     ghost held_back: { (rs : _) → Fits (records_of rs) → refusal (records_encoding rs) ≡ None →
         held (holder (records_encoding rs)) ≡ Some (records_encoding rs) };
 }
 
-/// A length-delimited record, whose bytes are the text.
+/// A length-delimited record, whose bytes are the message's encoding.
 ///
 /// ```ignore
 /// pub type MessageCodec<M> = MessageIn<Delimited, M>;
@@ -122,7 +123,7 @@ impl MessageRecord for Delimited {
     ghost held_back = { λ rs f h. refl };
 }
 
-/// A group, whose records' text is the text.
+/// A group, whose records' encoding is the message's.
 ///
 /// ```ignore
 /// pub type GroupCodec<M> = MessageIn<Grouped, M>;

@@ -73,7 +73,7 @@ abbrev pub TakesElements : {P V T : Type 0} → Tag → ℕ → P → P → Bor 
 TakesElements tag d old new before after r codec says =
     (left : BudgetLeft) → IsTaken (elements_taken codec) free d (says old) tag.number tag.wire_type before.now left r (says new) left after.now
 
--- ---- texts: what stands in a sink before and after
+-- ---- encodings: what stands in a sink before and after
 
 module _ {T : Type 0} (before : Cache) (put : List ℕ) (r : Result T EncodeError) (after : Cache) (puts : List ℕ) where
   -- the members of a message
@@ -93,7 +93,7 @@ module _ {T : Type 0} (before : Cache) (put : List ℕ) (r : Result T EncodeErro
     abbrev pub WritesPairs : {K : Type 0} → Writing K → List (K × X) → Type 0
     WritesPairs key l = IsWritten (records_encoding (pair_records key text n l)) (pair_slots text slots l) before put r after puts
 
--- the text of a normal value reads back to it, where its lengths can be read and it isn't too deep
+-- the encoding of a normal value reads back to it, where its lengths can be read and it isn't too deep
 abbrev pub MembersReadBack : {M X : Type 0} → Layout M X → X → X → Type 0
 MembersReadBack l blank v =
     (d : ℕ) → Fits (records_of (l.records v)) → l.normal v → l.levels v ≤ d → merged_of l.takes d blank (records_encoding (l.records v)) ≡ Some v

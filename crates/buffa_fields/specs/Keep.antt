@@ -17,11 +17,12 @@ record_in (Err e) = None
 abbrev pub keep_takes : Taker (List (ℕ × Datum))
 keep_takes d v n w p = option_map (λ x. v ++ (n, x) ∷ []) (record_in (record_at d n w p))
 
--- with so many slots, keeping a field takes memory where reading it does, or where it is read
+-- with so many unknown fields left, keeping a field takes memory where reading it does, or where it is read
 abbrev pub KeepTakesMemory : ℕ → Asks
 KeepTakesMemory s d n w bs = TakesMemory d s w bs ⊎ IsOk (field_at d s n w bs)
 
--- a field of number n and wire type w is there behind its tag, and of s slots it has its own, and one for each inside
+-- a field of number n and wire type w is there behind its tag, and of s unknown fields left it has its own, and one for
+-- each inside
 abbrev pub IsFieldThere : ℕ → ℕ → ℕ → WireType → List ℕ → Type 0
 IsFieldThere d s n w bs = (x : Datum) × (left : ℕ) × (rest : List ℕ) × TakesField d s n w bs x left rest
 

@@ -28,7 +28,7 @@ use Rattle.buffa_wire.specs.Gives.{FullOnlyIf}
 takes_record : (d n : ℕ) (w : WireType) (p : List ℕ) (x : Datum) → IsPayload d n x p → wire_of x ≡ w → (v : List (ℕ × Datum)) → keep_takes d v n w p ≡ Some (v ++ (n, x) ∷ [])
 takes_record d n w p x payload same v = rw (all_slots d n w p p [] x payload same (sym (append-nil p))) refl
 
--- ---- the text reads back
+-- ---- the encoding reads back
 kept_pieces : (P : ℕ → Bool) (ys : List (ℕ × Datum)) (d : ℕ) (v : List (ℕ × Datum)) (b : List ℕ) → AllNumbers P ys → Parse d b (records_of ys) →
     (fs : List Piece) × (b ≡ joined fs) × Leads keep_takes P d v fs (v ++ ys)
 kept_pieces P [] d v b ok h = ([], h, sym (append-nil v))
@@ -57,7 +57,7 @@ both_numbers P Q (y ∷ ys) h k = (both_true (P y.0) (Q y.0) h.0 k.0, both_numbe
 pub takes_no_end : (d s : ℕ) (w : WireType) (bs : List ℕ) → TakesMemory d s w bs → w ≢ wire.EndGroup
 takes_no_end d s w bs h end = (subst (λ z. TakesMemory d s z bs) end h).1
 
--- ---- a call that reads the field with slots of its own
+-- ---- a call that reads the field with a budget of its own
 module _ (d s n : ℕ) (w : WireType) (bs : List ℕ) (v : List (ℕ × Datum)) (before : BudgetLeft) (all : s ≡ before.unknown) where
   pub keep_ok : (x : Datum) (left : ℕ) (new : List (ℕ × Datum)) (after : BudgetLeft) (rest : List ℕ) → field_at d s n w bs ≡ Ok (x, left, rest) → new ≡ v ++ (n, x) ∷ [] → after.unknown ≡ left → after.memory ≡ before.memory →
       IsTaken keep_takes keep_need d v n w bs before (let r : Result (Unit {0}) DecodeError = Ok tt in r) new after rest

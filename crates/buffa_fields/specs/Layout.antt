@@ -102,7 +102,7 @@ pub record Layout (M X : Type 0) : Type 1 where
   pub meaning : M → X
   pub blank : X
   pub takes : Taker X
-  -- with so many slots left for what isn't declared, where a field may ask for memory
+  -- with so many unknown fields left, where a field may ask for memory
   pub asks : ℕ → Asks
   pub need : Need
   pub records : X → List (ℕ × Datum)

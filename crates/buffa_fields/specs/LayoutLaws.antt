@@ -100,14 +100,14 @@ sum total = Ok total
 abbrev pub failed : EncodeError → Result ℕ EncodeError
 failed e = Err e
 
--- a text that needs no slot
+-- an encoding that needs no slot
 pub sized_free : (text : List ℕ) (n : ℕ) (c : Cache) → n ≡ cap (length text) → IsSized text [] c (sum n) c
 sized_free text n c h = (h, sym (appended_none c))
 
 pub cap_more : (a b total len new : ℕ) → total ≡ cap a → len ≡ cap b → new ≡ min (total + len) 4294967295 → new ≡ cap (a + b)
 cap_more a b total len new h k e = omega (arith, h, k, e)
 
--- texts one behind the other
+-- encodings one behind the other
 pub sized_more : (t u s x : List ℕ) (c0 c1 c2 : Cache) (total len new : ℕ) → IsSized t s c0 (sum total) c1 → IsSized u x c1 (sum len) c2 → new ≡ min (total + len) 4294967295 → IsSized (t ++ u) (s ++ x) c0 (sum new) c2
 sized_more t u s x c0 c1 c2 total len new h k e =
     (cap_more (length t) (length u) total len new h.0 k.0 e ∙ ap cap (sym (length-append t u)), k.1 ∙ appended_twice s x c0 c1 h.1)
@@ -141,7 +141,7 @@ pub counted_none : (rs : List (ℕ × Datum)) (ss : List ℕ) (z : Seen) (cache 
 unfolding IsCounted more
 counted_none rs ss z cache c e (is, h, always) = (is, h, λ none. always (first_none z.slots ss none))
 
--- ---- texts
+-- ---- encodings
 pub small_both : (t u : List ℕ) → IsSmall (t ++ u) → IsSmall t × IsSmall u
 small_both t u h = (omega (arith, h, length-append t u), omega (arith, h, length-append t u))
 
@@ -168,7 +168,7 @@ put_none rs ss z sink cache new c e (is, same, h) = (
       (λ h. (small_both (records_encoding z.records) (records_encoding rs) h).0) e h),
 )
 
--- no records, no text
+-- no records, an empty encoding
 pub unwritten : (rs : List (ℕ × Datum)) (c : Cache) (b : List ℕ) → rs ≡ [] → IsWritten (records_encoding rs) [] c b done c b
 unwritten rs c b is = subst (λ z. IsWritten (records_encoding z) [] c b done c b) (sym is) (written_none (IsSmall []) c b)
 
@@ -242,7 +242,7 @@ module _ {M X : Type 0} (l : Layout M X) where
   full_of d old new n wire bs rest before after r h =
       taken_full l.takes l.need d (l.meaning old) (l.meaning new) n wire bs rest before after r (l.taken_is d old n wire bs before r new after rest h)
 
-  -- the text reads back
+  -- the encoding reads back
   pub reads_back : l.Owes → l.sound ≡ true → (d : ℕ) (v : X) → Fits (records_of (l.records v)) → l.normal v → l.levels v ≤ d → merged_of l.takes d l.blank (records_encoding (l.records v)) ≡ Some v
   reads_back owes sound d v fits normal low =
       leads_back l.takes d (λ n. true) l.blank (records_encoding (l.records v)) v (l.back owes sound (λ n. true) d v (l.within_all v) fits normal low)

@@ -229,7 +229,7 @@ module _ {V : Type 0} (codec : Reading V) (plain : codec.nested ≡ false)
     packed_taken (Err e) new rest other wire (inl h) = body_err other wire e new rest h
     packed_taken (Err e) new rest other wire (inr (b, after, h, bad)) = packed_err other wire e new b after rest h bad
 
--- ---- the text reads back
+-- ---- the encoding reads back
 module _ {V : Type 0} (reading : Reading V) (writing : Writing V) (datum : V → Datum) (n : ℕ) (is_number : IsNumber n) (d : ℕ) (plain : reading.nested ≡ false)
     (no_limit : (d : ℕ) (old : V) (c : Content) (x : DecodeError) → reading.reads d old c ≡ Err x → IsLimit x → ⊥)
     (WIRE : WireType) (wire : reading.wire ≡ WIRE) (written : writing.wire ≡ WIRE) (Fit Normal : V → Type 0)
@@ -351,7 +351,7 @@ content_there codec d v bs x h =
     let u = agree_ok (value_at codec d v bs) x (value_sound codec d v bs) h in
     subst (λ r. IsOk r) (sym (ap (content_at codec.wire) u.5 ∙ content_complete codec.wire u.1 u.2 x.1 u.3)) refl
 
--- ---- sizes and texts, element by element
+-- ---- sizes and encodings, element by element
 pub means_more : {V M : Type 0} (meaning : V → M) (xs : List V) (i : ℕ) (x : V) → i < length xs → x ≡ get_or xs i x → map meaning (take (i + 1) xs) ≡ map meaning (take i xs) ++ meaning x ∷ []
 means_more meaning xs i x lt e = ap (map meaning) (take_more xs i x lt) ∙ map-append meaning (take i xs) (get_or xs i x ∷ []) ∙ ap (λ y. map meaning (take i xs) ++ meaning y ∷ []) (sym e)
 

@@ -44,7 +44,7 @@ use Rattle.buffa_map.specs.Run.{fold_entries, pair_entry}
 use Rattle.buffa_wire.specs.Values.{delimited_encoding, tag_encoding}
 use Rattle.buffa_wire.specs.Varint.{varint_encoding}
 
--- ---- the text
+-- ---- the encoding
 pub map_encoding : {K V : Type 0} (key : Writing K) (val : Writing V) (n : ℕ) (l : List (K × V)) → records_encoding (map_records key val n l) ≡ field_encoding key val n l
 map_encoding key val n [] = refl
 map_encoding key val n (p ∷ ps) = ap (λ (z : List ℕ). record_encoding key val n p ++ z) (map_encoding key val n ps)
@@ -183,7 +183,7 @@ module _ {K V : Type 0} (key : Reading K) (val : Reading V) (same : K → K → 
           λ full end. let two = sym full ∙ is in cc,
         )
 
--- ---- the text reads back
+-- ---- the encoding reads back
 module _ {K V : Type 0} (key : Reading K) (val : Reading V) (kw : Writing K) (vw : Writing V) (same_key : kw.wire ≡ key.wire) (same_val : vw.wire ≡ val.wire) (same : K → K → Bool) (is_eq : IsEquivalence same)
     (KeyOk : K → Type 0) (ValOk : V → Type 0) (d : ℕ) (key_back : (v : K) → KeyOk v → IsReadBack key kw d v) (val_back : (v : V) → ValOk v → IsReadBack val vw d v) (n : ℕ) (number : IsNumber n) where
   abbrev piece : K × V → Piece

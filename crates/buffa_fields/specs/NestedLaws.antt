@@ -122,8 +122,8 @@ there blank merged need d n w old a new bs rest before after (Err e) is (pays, w
   full,
 )
 
--- ---- the text
--- what stands before a message's text
+-- ---- the encoding
+-- what stands before a message's encoding
 abbrev pub head : ℕ → ℕ → List ℕ
 head n inner = tag_encoding n LengthDelimited ++ varint_encoding inner
 
@@ -160,7 +160,7 @@ module _ (n inner : ℕ) (text : List ℕ) (is : Tells inner text) where
   small_text : IsSmall spelled_one → IsSmall text
   small_text h = omega (arith, h, whole_length)
 
-  -- the head, and then the text
+  -- the head, and then the encoding
   module _ (slots : List ℕ) (c1 c2 : Cache) (b0 b1 b2 : List ℕ) where
     pub record_after : (r : Result (Unit {0}) EncodeError) → b1 ≡ b0 ++ head n inner → IsWritten text slots c1 b1 r c2 b2 → IsWritten spelled_one slots c1 b0 r c2 b2
     record_after r h w =
@@ -196,7 +196,7 @@ pub message_has_slot : {X : Type 0} (text slots : X → List ℕ) (v : X) (o : O
 unfolding message_slots
 message_has_slot text slots v o is none = let two = sym (ap (message_slots text slots) is) ∙ none in cc
 
--- no message, no text
+-- no message, an empty encoding
 pub unwritten_message : {X : Type 0} (text slots : X → List ℕ) (n : ℕ) (v : Option X) (c : Cache) (b : List ℕ) → v ≡ None → IsWritten (records_encoding (message_records text n v)) (message_slots text slots v) c b done c b
 unfolding message_records message_slots
 unwritten_message text slots n v c b is = subst (λ z. IsWritten (records_encoding (message_records text n z)) (message_slots text slots z) c b done c b) (sym is) (written_none (IsSmall []) c b)

@@ -67,7 +67,7 @@ module _ {K X : Type 0} (key : Writing K) (text slots : X → List ℕ) (n : ℕ
       written_same (IsSmallField key text l) (IsSmall whole) (field_encoding key (delimited_writing text) n l) whole (field_slots text slots l) 0 c0 c1 c1 b0 b1
       (λ small. small_field key text (length (tag_encoding n LengthDelimited)) l (omega (arith, small, size_is))) (λ small. text_is) r h
 
--- ---- the text reads back
+-- ---- the encoding reads back
 module _ {X : Type 0} (merged : ℕ → X → List ℕ → Option X) (blank : X) (cost : ℕ → List ℕ → BudgetLeft) (text : X → List ℕ) (level : X → ℕ) (Normal : X → Type 0)
     (back : (d : ℕ) (v : X) → Normal v → level v ≤ d → merged d blank (text v) ≡ Some v) where
   -- a message that is there, and isn't too deep

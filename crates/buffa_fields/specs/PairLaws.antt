@@ -28,7 +28,7 @@ both_stay k f g h j d n w p x payload = at (n == k)
     at true = h d n w p x payload
     at false = j d n w p x payload
 
--- ---- texts that read back
+-- ---- encodings that read back
 pub no_pieces : (P : ℕ → Bool) (d : ℕ) (v : Unit {0}) → ReadsBack (λ d v n w p. Some v) P d tt [] v
 no_pieces P d v = record { pieces = []; spelled = refl; leads = refl }
 

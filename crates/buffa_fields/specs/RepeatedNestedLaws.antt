@@ -97,7 +97,7 @@ message_there merged zero old new n LengthDelimited bs p rest h split is = let u
 message_there merged (suc d) old new n LengthDelimited bs p rest h split is =
     let u = delimited_alone (suc d) n LengthDelimited p rest bs refl h split in (refl, omega arith, is_there (delimited_at bs) (u.0, rest) u.1)
 
--- ---- sizes and texts, message by message
+-- ---- sizes and encodings, message by message
 module _ {X : Type 0} (text slots : X → List ℕ) where
   abbrev own : X → List ℕ
   own v = cap (length (text v)) ∷ slots v
@@ -200,7 +200,7 @@ module _ {X : Type 0} (text slots : X → List ℕ) where
           (written_short (IsSmall both) (IsSmall rest) (IsSmall (both ++ rest)) both rest slots more c0 c2 c2 b0 b2 b2
           (λ s. (small_both both rest s).0) e (with_this (refused e) c0 c1 c2 b0 b1 b2 h k)))
 
--- ---- the text reads back
+-- ---- the encoding reads back
 module _ {X : Type 0} (merged : ℕ → X → List ℕ → Option X) (blank : X) (text : X → List ℕ) (level : X → ℕ) (Normal : X → Type 0)
     (back : (d : ℕ) (v : X) → Normal v → level v ≤ d → merged d blank (text v) ≡ Some v) (n : ℕ) (number : IsNumber n) where
   abbrev piece : X → Piece

@@ -14,7 +14,8 @@ pub record Stands {X : Type 0} (takes : Taker X) (Apart : ℕ → X → X → Ty
   pub merged : merged_of takes d old front ≡ Some mid
   pub apart : (mid ≡ new) ⊎ ((n : ℕ) × (w : WireType) × (more : List ℕ) × (tag_at rest ≡ Ok (n, w, more)) × Apart n mid new)
 
--- where merging fields takes memory: some at the front are merged, and the next one may ask for it, with slots left
+-- where merging fields takes memory: some at the front are merged, and the next one may ask for it, with
+-- unknown fields left
 pub record MergingTakesMemory {X : Type 0} (takes : Taker X) (asks : ℕ → Asks) (d : ℕ) (old : X) (bytes : List ℕ) (slots : ℕ) : Type 0 where
   pub front : List ℕ
   pub rest : List ℕ

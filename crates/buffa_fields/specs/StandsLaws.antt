@@ -78,7 +78,7 @@ module _ {M X : Type 0} (l : Layout M X) (d : ℕ) (old : X) (bytes : List ℕ) 
       let p = l.taken_is d m n w bs before (let r : Result (Unit {0}) DecodeError = Ok tt in r) new after after_bs taken in
       omega (arith, tag_falls rest (n, w, bs) tag, ap length p.2, length-append p.0 after_bs)
 
-  -- no slot comes back
+  -- no unknown field comes back
   pub spends : (m new : M) (n : ℕ) (w : WireType) (bs after_bs : List ℕ) (before after : BudgetLeft) (slots : ℕ) → before.unknown ≤ slots →
       l.Taken d m n w bs before (let r : Result (Unit {0}) DecodeError = Ok tt in r) new after after_bs → after.unknown ≤ slots
   spends m new n w bs after_bs before after slots low taken =

@@ -77,7 +77,7 @@ both_need k f g d n w bs = if n == k then f d n w bs else g d n w bs
 abbrev pub is_number : ℕ → Bool
 is_number n = nat_lt 0 n && nat_lt n 536870912
 
--- ---- texts that read back
+-- ---- encodings that read back
 
 -- a field as it is spelled
 pub record Piece : Type 0 where
@@ -97,7 +97,7 @@ Leads {X} takes P d s (f ∷ fs) t =
     (P f.number ≡ true) × IsTag f.tag f.number f.wire × Payload d f.number f.wire f.payload
     × (u : X) × (takes d s f.number f.wire f.payload ≡ Some u) × Leads takes P d u fs t
 
--- the text is such fields
+-- the encoding is such fields
 pub record ReadsBack {X : Type 0} (takes : Taker X) (P : ℕ → Bool) (d : ℕ) (s : X) (text : List ℕ) (t : X) : Type 0 where
   pub pieces : List Piece
   pub spelled : text ≡ joined pieces

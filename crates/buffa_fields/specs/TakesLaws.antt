@@ -135,7 +135,7 @@ pub skipped_full : (d n : ℕ) (w : WireType) (bs rest : List ℕ) (r : Result (
 skipped_full d n w bs rest (Ok x) h = tt
 skipped_full d n w bs rest (Err e) h = λ full. payload_full d n w bs (h ∙ ap (λ z. Err z) full)
 
--- ---- a text of fields reads back
+-- ---- an encoding of fields reads back
 module _ {X : Type 0} (takes : Taker X) (d : ℕ) (P : ℕ → Bool) where
   led : (s : X) (fs : List Piece) (t : X) → Leads takes P d s fs t → merged_of takes d s (joined fs) ≡ Some t
   unfolding merged_of

@@ -121,7 +121,7 @@ pub refused_plain : {V : Type 0} (b : Bool) (codec : Reading V) (d : ℕ) (old :
 refused_plain false codec d old bs left e h r = r
 refused_plain true codec d old bs left e h r = cc
 
--- ---- a value's text reads back
+-- ---- a value's encoding reads back
 module _ {V : Type 0} (reading : Reading V) (writing : Writing V) (datum : V → Datum) (n : ℕ) (number : IsNumber n) (d : ℕ) (plain : reading.nested ≡ false)
     (WIRE : WireType) (wire : reading.wire ≡ WIRE) (written : writing.wire ≡ WIRE) (Fit Normal : V → Type 0)
     (reads_back : (d : ℕ) (old v : V) → Fit v → Normal v → (c : Content) × HasContent writing.wire (writing.encoding v) c × (reading.reads d old c ≡ Ok (v, true)))

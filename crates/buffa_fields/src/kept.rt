@@ -35,7 +35,7 @@ impl Model for KeptFields {
     ghost view = { λ m. m.fields.records };
 }
 
-// Reads the field whose tag was read, with so many slots, and says how many are left.
+// Reads the field whose tag was read, with so many unknown fields left, and says how many are left then.
 fn read_alone(
     alloc: Global,
     tag: Tag,
@@ -57,8 +57,8 @@ fn read_alone(
     Ok((field, own.unknown_left()))
 }
 
-/// Keeps the field whose tag was read, behind the others; what is refused spends nothing. A field costs a slot of the
-/// budget, and so does each field in its groups.
+/// Keeps the field whose tag was read, behind the others; what is refused spends nothing. A field takes one
+/// of the unknown fields left, and so does each field in its groups.
 ///
 /// ```ignore
 /// let answer = kept::keep(alloc, &mut self.rest, tag, buf, ctx);
@@ -84,7 +84,7 @@ pub fn keep(
     Ok(())
 }
 
-// The length of the text of kept fields, or 2^32 - 1 where it is more.
+// The length of the encoding of kept fields, or 2^32 - 1 where it is more.
 pub(crate) fn kept_len(fields: &UnknownFields) -> u32
     ensures { result ≡ cap (length (records_encoding fields.now.records)) }
 {

@@ -27,7 +27,7 @@ pub trait Kind: MapCodec {
     fn is_blank(value: &Self::Value) -> bool
         ensures { result ≡ is_blank (Self.Value.meaning value.now) };
 
-    /// The text of a field is that of its record.
+    /// The encoding of a field is that of its record.
     ghost datum_encoding: { (n : ℕ) (v : Self.Value.Meaning) → tag_encoding n Self.writing.wire ++ Self.writing.encoding v ≡ field_encoding n (datum v) };
 
     /// No other value is, of those that are read.

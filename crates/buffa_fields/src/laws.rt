@@ -235,8 +235,9 @@ pub fn texts_and_enums_are_these<T: ProtoString, B: ProtoBytes, E: Enumeration>(
         × (⟦<OpenEnum<E> as Kind>⟧.is_blank v ≡ is_zero v.1) }
 {}
 
-/// Fields that aren't declared, where they are kept: each is a record behind the others, and costs a slot for itself
-/// and for each inside. Memory is asked for where reading one takes some, or where one is there and has its slots.
+/// Fields that aren't declared, where they are kept: each is a record behind the others, and costs an unknown
+/// field for itself and for each inside. Memory is asked for where reading one takes some, or where one is
+/// there and these unknown fields are left.
 pub fn kept_fields_are_these<M>()
     ensures meaning { (get : M → List (ℕ × Datum)) (m : M) → (keep get).meaning m ≡ get m }
     ensures blank { (get : M → List (ℕ × Datum)) → (keep get).blank ≡ [] }

@@ -71,7 +71,7 @@ where
     }
 }
 
-// Writes a map field. An entry that is too long for any length is no text of a message.
+// Writes a map field. An entry that is too long for any length is in no encoding of a message.
 pub(crate) fn write_map<KC: MapCodec, VC: MapCodec, S: EncodeSink>(
     number: u32,
     map: &Map<KC::Value, VC::Value>,

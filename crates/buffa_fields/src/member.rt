@@ -25,7 +25,8 @@ pub trait Member {
     /// What it is, and what it owes.
     ghost slot: { Slot Self.Part Self.Meaning };
 
-    /// The length of its text under a number, or 2^32 - 1 where it is more. The value's slots are appended.
+    /// The length of its encoding under a number, or 2^32 - 1 where it is more. The value's slots are
+    /// appended.
     ///
     /// # Errors
     /// [`EncodeError::OutOfMemory`] alone, never for a value with no slots.
@@ -39,7 +40,7 @@ pub trait Member {
             (slot.slots (slot.meaning part.now)) cache.old result cache.new }
         ensures always { slot.slots (slot.meaning part.now) ≡ [] → IsOk result };
 
-    /// Writes its text, and consumes the value's slots, which have to be next.
+    /// Writes its encoding, and consumes the value's slots, which have to be next.
     ///
     /// # Errors
     /// [`EncodeError::OutOfMemory`] alone.
@@ -78,6 +79,6 @@ pub trait Member {
         ensures { Took slot ctx.entry.depth part.old tag.number tag.wire_type buf.old.now ctx.entry.budget.now result
             part.new (budget_left ctx.exit) buf.new.now };
 
-    /// The text reads back.
+    /// The encoding reads back.
     ghost back: { ReadsBackTo slot };
 }

@@ -200,7 +200,7 @@ impl Visitor for Nothing {
     fn visit_kept(&mut self, _fields: &UnknownFields) {}
 }
 
-// Each member's text reads back.
+// Each member's encoding reads back.
 fn members_read_back<M: Fields>(message: &M)
     ensures { M.layout.Owes }
 {
@@ -208,7 +208,8 @@ fn members_read_back<M: Fields>(message: &M)
     message.visit(&mut nothing);
 }
 
-/// The text of a message reads back to it: its lengths can be read, each member is normal, and it isn't too deep.
+/// The encoding of a message reads back to it: its lengths can be read, each member is normal, and it isn't
+/// too deep.
 ///
 /// ```ignore
 /// messages_read_back(&message);

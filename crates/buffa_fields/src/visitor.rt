@@ -7,7 +7,7 @@ ghost use Rattle.buffa_fields.specs.Layout.{ReadsBackTo, Seen, more, visited};
 use crate::member::Member;
 use buffa_wire::UnknownFields;
 
-/// What is done with each member: its length is added, or its text is written.
+/// What is done with each member: its length is added, or its encoding is written.
 ///
 /// ```ignore
 /// impl Visitor for Nothing { .. }

@@ -8,7 +8,7 @@ use Rattle.buffa_map.specs.declared.rewrite.RewriteError.{RewriteError}
 pub use Rattle.buffa_map_base.specs.Calls.{Exit, MergesEntryIn, MergesEntryLent, MergesMessages, ReadsAnew, ReadsRunIn, ReadsRunLent, Reader, RefusesEntryIn, RefusesEntryLent, Rewriter, RewritesIn, SizesMessages, StopsAnew, StopsRunIn, StopsRunLent, WritesMapField, WritesMessages, WritesWithKept}
 
 module _ {K V M B D : Type 0} (w : Rewriter K V M) (n : ℕ) (map : M) (unread : B → List ℕ) (before after : B) (ctx : DecodeContext) (left : Exit D) where
-  -- the bytes of a run or its text were refused
+  -- the bytes of a run or its encoding were refused
   module _ {S : Type 0} (written : S → List ℕ) (room : S → ℕ) (old new : S) where
     abbrev pub RefusesRewriteIn : RewriteError → Type 0
     RefusesRewriteIn r =

@@ -26,7 +26,7 @@ use std::fmt;
 pub enum RewriteError {
     /// The bytes were refused; nothing was written.
     Decode(DecodeError),
-    /// The text was refused, after a beginning of it.
+    /// The encoding was refused, after a beginning of it.
     Encode(EncodeError),
 }
 

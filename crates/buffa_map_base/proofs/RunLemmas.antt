@@ -25,7 +25,7 @@ use Rattle.buffa_map_base.proofs.EntryLemmas.{Plain, check_sound, check_differs,
 use Rattle.buffa_map_base.proofs.NeedLemmas.{need_free}
 use Rattle.buffa_map_base.proofs.PutLemmas.{SamePairs-put}
 
--- ---- the slot of an entry that is undeclared, where n slots are spent in it
+-- ---- what an entry that is undeclared takes of the unknown fields left, where n of them are spent in it
 slots_test : (b : Bool) (u n slot : ℕ) → n + cond b 0 slot ≤ u → (not b && nat_lt u (n + slot)) ≡ false
 slots_test true u n slot h = refl
 slots_test false u n slot h = le-ltb u (n + slot) h

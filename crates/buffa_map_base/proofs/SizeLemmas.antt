@@ -48,7 +48,7 @@ module _ {K W : Type 0} (key : Writing K) (val : Writing W) where
         length-append (tag_encoding 2 val.wire) (val.encoding p.1),
       )
 
-  -- the size is the length of the text
+  -- the size is the length of the encoding
   pub length-field_encoding : (n : ℕ) (l : List (K × W)) → length (field_encoding key val n l) ≡ field_size key val (length (tag_encoding n LengthDelimited)) l
   length-field_encoding n [] = refl
   length-field_encoding n (p ∷ ps) =

@@ -102,7 +102,7 @@ module _ {K V : Type 0} (key : Writing K) (val : Writing V) where
     counted t r n size m l one d h count is =
         is ∙ ap (λ z. saturated (z * r)) (count ∙ sym (one_count laws m l d h)) ∙ ap saturated (sym (counted_size key val t r l one))
 
-    -- a size that one walk announced, and the text of another one
+    -- a size that one walk announced, and the encoding of another one
     pub announced : (t n size : ℕ) (m a b : List (K × V)) (old new : List ℕ) → ListsOnce eq m a → ListsOnce eq m b → t ≡ length (tag_encoding n LengthDelimited) →
         size ≡ saturated (field_size key val t a) → new ≡ old ++ field_encoding key val n b → length new < 2 ^ 64 → length new ≡ length old + size
     announced t n size m a b old new x y tag is text few =

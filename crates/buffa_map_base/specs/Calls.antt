@@ -112,7 +112,7 @@ abbrev pub KeepsRecordRoom : {K M V S : Type 0} → (Bor M → MutBor Cache → 
 KeepsRecordRoom Gives meaning room key encoding n p r old new =
     KeepsRoom Gives (λ v. encoding (meaning v)) room → UsesRecordRoom key encoding n p r (room old) (room new)
 
--- ---- a map as a field: its text behind what a sink has, by a walk of it
+-- ---- a map as a field: its encoding behind what a sink has, by a walk of it
 
 module _ {K V M : Type 0} (eq : K → K → Bool) (Walks : M → List (K × V) → Type 0) (pairs : M → List (K × V)) (map : M) (key : Writing K) (val : Writing V) (KeyFits : K → Type 0) (ValFits : V → Type 0) (n : ℕ) where
   -- it was written, or refused, whole records; what was written is what the types of key and value hold, and what had room

@@ -1,4 +1,4 @@
--- The text of a map field, and its size. Source: the protobuf encoding guide, "Maps".
+-- The encoding of a map field, and its size. Source: the protobuf encoding guide, "Maps".
 use Rattle.std.specs.Prelude.{◌≡◌, ℕ, ◌+◌, ◌-◌, ◌^◌, ◌<◌, List, [], ◌∷◌, ◌++◌, length, min, nat_lt, Option, None, Some, if◌then◌else◌, ◌≤◌, Result, MatchResult}
 use Rattle.buffa_wire.specs.Varint.{varint_encoding}
 use Rattle.buffa_wire.specs.Values.{delimited_encoding, tag_encoding}

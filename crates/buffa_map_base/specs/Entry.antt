@@ -109,8 +109,9 @@ module _ {K V : Type 0} (key : Reading K) (val : Reading V) (d : ℕ) where
   need_of cost e = plus (units cost) (need_at blanks e)
 
   -- f is the first fault, where an entry costs so many units of element memory and what the messages in it cost, and
-  -- one that is undeclared so many slots (none where it is dropped): of the length; of the units; of the fields; of
-  -- the slots. Where what the messages cost isn't left, a message may be refused with any error.
+  -- one that is undeclared so many of the unknown fields left (none where it is dropped): of the length; of the units;
+  -- of the fields; of the unknown fields left. Where what the messages cost isn't left, a message may be refused with
+  -- any error.
   abbrev pub EntryFault : ℕ → ℕ → BudgetLeft → List ℕ → DecodeError → Type 0
   EntryFault cost slot left bs f =
       LengthFault bs f

@@ -26,8 +26,8 @@ pub record State (K V : Type 0) : Type 0 where
 abbrev pub state : {K V : Type 0} → List (K × V) → List (ℕ × Datum) → BudgetLeft → State K V
 state pairs records left = record { pairs = pairs; records = records; left = left }
 
--- how entries are read: by which codecs, under which equality of keys, in which order, how deep, under which number, at which
--- cost; and what one with an undeclared value adds to the records, and takes of the slots
+-- how entries are read: by which codecs, under which equality of keys, in which order, how deep, under which number, at
+-- which cost; and what one with an undeclared value adds to the records, and takes of the unknown fields left
 pub record Rules (K V : Type 0) : Type 0 where
   pub key : Reading K
   pub val : Reading V
@@ -47,7 +47,7 @@ rules key val same ordered depth number cost slot adds =
 abbrev pub dropping : {K V : Type 0} → Reading K → Reading V → (K → K → Bool) → Bool → ℕ → ℕ → ℕ → Rules K V
 dropping key val same ordered depth number cost = rules key val same ordered depth number cost 0 (λ n e. [])
 
--- they are kept, each as a record, and each takes a slot
+-- they are kept, each as a record, and each takes one of the unknown fields left
 abbrev pub keeping : {K V : Type 0} → Reading K → Reading V → (K → K → Bool) → Bool → ℕ → ℕ → ℕ → Rules K V
 keeping key val same ordered depth number cost = rules key val same ordered depth number cost 1 (λ n e. (n, bytes e) ∷ [])
 
@@ -66,13 +66,13 @@ pub record MergesEntry {K V : Type 0} (r : Rules K V) (old : State K V) (bytes :
   pub keeps : new.records ≡ old.records ++ cond says.known [] (r.adds r.number entry)
   pub pays : Pays old.left (plus (need_of r.key r.val r.depth r.cost entry) (slots (cond says.known 0 r.slot))) new.left
 
--- what keeping an entry takes is left: a slot, behind what its fields cost
+-- what keeping an entry takes is left: an unknown field, behind what its fields cost
 abbrev pub HasUnknownLeft : {K V : Type 0} → Rules K V → BudgetLeft → List ℕ → Type 0
 HasUnknownLeft r left e = (r.slot ≢ 0) × ((need_of r.key r.val r.depth r.cost e).unknown + r.slot ≤ left.unknown)
 
 -- Where merging an entry takes memory, of which f is told: its length and so many bytes are there; these are copied,
 -- if an entry may be undeclared and is kept then; or its units are left, and a field takes memory, or the whole entry is
--- put, or kept where its slot is left.
+-- put, or kept where an unknown field is left for it.
 abbrev pub EntryTakesMemory : {K V : Type 0} → Rules K V → BudgetLeft → List ℕ → DecodeError → Type 0
 EntryTakesMemory {K} {V} r left bs f =
     (e : List ℕ) × (rest : List ℕ) × (delimited_at bs ≡ Ok (e, rest))
@@ -82,9 +82,9 @@ EntryTakesMemory {K} {V} r left bs f =
 
 -- f is why not, and out of memory only where merging the entry takes memory; map and records stand. What is
 -- unread is a tail of what was; it is what follows the entry, where that was there and had a fault, and what follows its
--- length, or no length, where it wasn't there. Of the budget at
--- most the entry's cost, its slot and what the messages in it cost are gone; the cost is gone where the entry was there
--- and had a fault; the slot is not, where f is a fault; nothing is, where no length and so many bytes were there.
+-- length, or no length, where it wasn't there. Of the budget at most the entry's cost, the unknown field that keeping
+-- it takes and what the messages in it cost are gone; the cost is gone where the entry was there and had a fault; the
+-- unknown field is not, where f is a fault; nothing is, where no length and so many bytes were there.
 pub record RefusesEntry {K V : Type 0} (r : Rules K V) (old : State K V) (bytes : List ℕ) (new : State K V) (unread : List ℕ) (f : DecodeError) : Type 0 where
   pub fault : f ≢ OutOfMemory → EntryFault r.key r.val r.depth r.cost r.slot old.left bytes f
   pub memory : f ≡ OutOfMemory → EntryTakesMemory r old.left bytes f
@@ -125,11 +125,11 @@ pub record ReadsRun {K V : Type 0} (r : Rules K V) (old : State K V) (bytes : Li
   pub whole : rest ≡ []
 
 -- The records of some entries begin the bytes, and were read; f is why what follows them wasn't, and out of memory only
--- where merging the entry of a record takes memory. What is unread is a tail of what follows them: what follows the tag, where it is another;
--- what follows the entry, where that was there and had a fault; what follows its length, or no length, where it wasn't;
--- what follows no tag, where none was there. Of the budget that they leave at most one entry's cost,
--- its slot and what the messages in it cost are gone; the cost is, where the entry was there and had a fault; nothing
--- is, where no record of the number was there.
+-- where merging the entry of a record takes memory. What is unread is a tail of what follows them: what follows the
+-- tag, where it is another; what follows the entry, where that was there and had a fault; what follows its length, or
+-- no length, where it wasn't; what follows no tag, where none was there. Of the budget that they leave at most one
+-- entry's cost, the unknown field that keeping it takes and what the messages in it cost are gone; the cost is, where
+-- the entry was there and had a fault; nothing is, where no record of the number was there.
 pub record StopsRun {K V : Type 0} (r : Rules K V) (old : State K V) (bytes : List ℕ) (new : State K V) (unread : List ℕ) (f : DecodeError) : Type 0 where
   pub entries : List (EntryRecord K V)
   pub rest : List ℕ

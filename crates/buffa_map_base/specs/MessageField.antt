@@ -1,4 +1,4 @@
--- A map field whose values are messages: its size, its text and its slots.
+-- A map field whose values are messages: its size, its encoding and its slots.
 -- Source: the protobuf encoding guide, "Maps" and "Submessages".
 use Rattle.std.specs.Prelude.{◌≡◌, ℕ, ◌+◌, ◌^◌, ◌<◌, List, [], ◌∷◌, ◌++◌, length, Result, MatchResult}
 use Rattle.buffa_bytes.specs.declared.wire_type.WireType.TheVariants.{LengthDelimited}
@@ -14,7 +14,8 @@ use Rattle.buffa_map_base.specs.Scalars.{delimited_writing}
 use Rattle.buffa_map_base.specs.Encoding.{entry_encoding, field_size, field_encoding, record_encoding, saturated}
 use denote.Ref.{Bor, MutBor}
 
--- a message whose length is known: the entry's length, and what stands before the message's text in its record of number n
+-- a message whose length is known: the entry's length, and what stands before the message's encoding in its record of
+-- number n
 module _ {K : Type 0} (key : Writing K) where
   abbrev pub entry_size : K → ℕ → ℕ
   entry_size k inner = 2 + (length (key.encoding k) + (length (varint_encoding inner) + inner))
@@ -26,7 +27,7 @@ module _ {K : Type 0} (key : Writing K) where
   abbrev pub head_encoding : ℕ → K → ℕ → List ℕ
   head_encoding n k inner = (tag_encoding n LengthDelimited ++ varint_encoding (saturated (entry_size k inner))) ++ key_and_length k inner
 
--- for each pair in order the capped length of the message's text, and then its own slots
+-- for each pair in order the capped length of the message's encoding, and then its own slots
 abbrev pub field_slots : {K M : Type 0} → (M → List ℕ) → (M → List ℕ) → List (K × M) → List ℕ
 field_slots encoding slots [] = []
 field_slots encoding slots (p ∷ ps) = cap (length (encoding p.1)) ∷ slots p.1 ++ field_slots encoding slots ps
@@ -50,7 +51,7 @@ module _ {K M : Type 0} (key : Writing K) (encoding : M → List ℕ) where
       × (new ≡ appended (field_slots encoding slots l) old))
       (λ e. (e ≡ OutOfMemory) × IsLonger old new)
 
-  -- the text, written where messages are small; the slots are consumed
+  -- the encoding, written where messages are small; the slots are consumed
   abbrev pub IsFieldWritten : (M → List ℕ) → ℕ → List (K × M) → Cache → List ℕ → Result (Unit {0}) EncodeError → Cache → List ℕ → Type 0
   IsFieldWritten slots n l old before r new after = WritesIf (IsSmallField l) (field_encoding key (delimited_writing encoding) n l) (field_slots encoding slots l) old before r new after
 

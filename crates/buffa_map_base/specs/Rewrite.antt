@@ -15,7 +15,7 @@ use Rattle.buffa_map_base.specs.Merge.{Rules, StopsRun, state}
 use Rattle.buffa_map_base.specs.Run.{EntryRecord, fold_entries, undeclared, Paid, Run, undeclared_records}
 use Rattle.buffa_map_base.specs.Encoding.{AllHold, HasEncoding, RefusesField, UsesRoomOf, field_encoding}
 
--- out is a text of the map that the entries es make of the empty one, its pairs in any order, and behind it a
+-- out is an encoding of the map that the entries es make of the empty one, its pairs in any order, and behind it a
 -- record for each entry of es that is undeclared, in order
 abbrev pub IsRewrite : {K V : Type 0} → (K → K → Bool) → Writing K → Writing V → (K → Type 0) → (V → Type 0) → ℕ → List (EntryRecord K V) → List ℕ → Type 0
 IsRewrite {K} {V} eq key val KeyFits ValFits n es out =
@@ -69,8 +69,8 @@ KeepsMeaning {K} {V} eq es fs gs =
 -- ---- what is written
 
 module _ {K V : Type 0} (key : Writing K) (val : Writing V) (n : ℕ) (kept : List (ℕ × Datum)) (old new : List ℕ) where
-  -- Memory ran out in the text of l, or behind it, after a beginning of the kept records; or an entry of l is too long,
-  -- and the records of the pairs before it were written.
+  -- Memory ran out in the encoding of l, or behind it, after a beginning of the kept records; or an entry of l is too
+  -- long, and the records of the pairs before it were written.
   abbrev pub RefusesRewrite : List (K × V) → EncodeError → Type 0
   RefusesRewrite l OutOfMemory =
       RefusesField key val n old new l OutOfMemory
@@ -78,11 +78,11 @@ module _ {K V : Type 0} (key : Writing K) (val : Writing V) (n : ℕ) (kept : Li
   RefusesRewrite l MessageTooLarge = RefusesField key val n old new l MessageTooLarge
   RefusesRewrite l (GroupRefused e) = ⊥
 
-  -- the text of l and of the kept records was written, or refused
+  -- the encoding of l and of the kept records was written, or refused
   abbrev pub WritesRewrite : {T : Type 0} → Result T EncodeError → List (K × V) → Type 0
   WritesRewrite r l = MatchResult r (λ _. HasEncoding key val l × (new ≡ old ++ (field_encoding key val n l ++ records_encoding kept))) (RefusesRewrite l)
 
--- a map was walked once, and its text and the kept records' were written, or refused; what had room wasn't
+-- a map was walked once, and its encoding and the kept records' were written, or refused; what had room wasn't
 pub record WritesWalk {K V : Type 0} (eq : K → K → Bool) (Walks : List (K × V) → Type 0) (key : Writing K) (val : Writing V) (KeyFits : K → Type 0) (ValFits : V → Type 0) (n : ℕ) (pairs : List (K × V)) (kept : List (ℕ × Datum)) (old : List ℕ) (before : ℕ) {T : Type 0} (r : Result T EncodeError) (new : List ℕ) (after : ℕ) : Type 0 where
   pub walk : List (K × V)
   pub once : ListsOnce eq pairs walk
@@ -113,7 +113,7 @@ abbrev pub RefusesBytes : {K V : Type 0} → Rules K V → BudgetLeft → List �
 RefusesBytes r left bytes new over unread old written f =
     (kept : List (ℕ × Datum)) × StopsRun r (state [] [] left) bytes (state new kept over) unread f × (written ≡ old)
 
--- the records were read, and e is why the text wasn't written whole: out of memory only where it has no room
+-- the records were read, and e is why the encoding wasn't written whole: out of memory only where it has no room
 pub record RefusesOutput {K V : Type 0} (r : Rules K V) (key : Writing K) (val : Writing V) (Walks : List (K × V) → Type 0) (left : BudgetLeft) (bytes : List ℕ) (new : List (K × V)) (over : BudgetLeft) (rest : List ℕ) (old written : List ℕ) (before : ℕ) (e : EncodeError) : Type 0 where
   pub entries : List (EntryRecord K V)
   pub walk : List (K × V)

@@ -54,7 +54,7 @@ module _ {K V : Type 0} (key : Reading K) (val : Reading V) (d : ℕ) where
   inner_needs (x ∷ xs) = plus (need_at key val d (blanks key val d) x.bytes) (inner_needs xs)
 
   -- over is over of left after these entries, each of which costs some units of element memory and what the
-  -- messages in it cost, and each one that is undeclared some slots
+  -- messages in it cost, and each one that is undeclared some of the unknown fields left
   abbrev pub Paid : ℕ → ℕ → BudgetLeft → List (EntryRecord K V) → BudgetLeft → Type 0
   Paid cost slot left es over =
       (over.memory + (length es * cost + (inner_needs es).memory) ≡ left.memory)

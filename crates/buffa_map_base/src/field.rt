@@ -36,7 +36,7 @@ pub trait Lends: Reads {
 
 /// What rewrites a map field.
 pub trait Rewrites: Reads {
-    /// What reads it, and how its text is written.
+    /// What reads it, and how its encoding is written.
     ghost rewriter: { Rewriter Self.Key.Meaning Self.Value.Meaning Self.Map };
 }
 

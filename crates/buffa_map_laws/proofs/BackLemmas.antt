@@ -100,7 +100,7 @@ pub all_declared : {K W : Type 0} (say : K × W → EntryRecord K W) → ((p : K
 all_declared say is [] = refl
 all_declared say is (p ∷ l) = rw (is p) (all_declared say is l)
 
--- ---- messages: small ones have a text, and are read back where a level is left for each of theirs
+-- ---- messages: small ones have an encoding, and are read back where a level is left for each of theirs
 module _ {K M : Type 0} (kw : Writing K) (text : M → List ℕ) where
   pub small_text : (l : List (K × M)) → IsSmallField kw text l → HasEncoding kw (delimited_writing text) l
   small_text [] h = tt

@@ -1,4 +1,4 @@
--- Sizes, texts, rewrites and puts have one answer.
+-- Sizes, encodings, rewrites and puts have one answer.
 use Rattle.std.proofs.Common.{◌≡◌, ◌≢◌, ℕ, ◌^◌, ◌<◌, ◌≤◌, Bool, false, cond, List, [], ◌∷◌, ◌++◌, Some, Result, Ok, Err, length, ap, refl, subst, sym, ◌∙◌, arith, length-append}
 use Rattle.std.specs.Cmp.{IsEquivalence}
 use Rattle.std.specs.List.{All}
@@ -43,7 +43,7 @@ module _ {K V : Type 0} (key : Writing K) (val : Writing V) where
   short_in [] p rest h = All-head IsShort p rest h
   short_in (x ∷ done) p rest h = short_in done p rest (All-tail IsShort x (done ++ p ∷ rest) h)
 
-  -- no entry of a text is too long, in whatever order
+  -- no entry of an encoding is too long, in whatever order
   no_long : (l m done : List (K × V)) (p : K × V) (rest : List (K × V)) → HasEncoding key val l → All IsShort l → m ≡ done ++ p ∷ rest → (All IsShort l → All IsShort m) → 2 ^ 64 ≤ length (entry_encoding key val p) → ⊥
   no_long l m done p rest has all is turn long =
       let few : length (entry_encoding key val p) < 2 ^ 64 = short_in done p rest (subst (All IsShort) is (turn all)) in
@@ -161,7 +161,7 @@ module _ {K V : Type 0} (r : Rules K V) (laws : IsEquivalence r.same)
       let turned = permuted laws (fold_entries r.same [] h.entries) h.rewrite.0 k.walk h.rewrite.1 (once_more h.entries k.entries e k.walk k.once) in
       no_long key val h.rewrite.0 k.walk done p rest h.rewrite.2 (all_short key val h.rewrite.0 h.rewrite.2) is (All-permutation (IsShort key val) h.rewrite.0 k.walk turned) long
 
-  -- two refused texts
+  -- two refused encodings
   one_error : (d e : EncodeError) (kept more : List (ℕ × Datum)) (l m : List (K × V)) → RefusesRewrite key val r.number kept old v l d → RefusesRewrite key val r.number more old w m e →
       d ≢ OutOfMemory → e ≢ OutOfMemory → (d ≡ e) × (l ≡ m → v ≡ w)
   one_error OutOfMemory e kept more l m h k ne nf = absurd (ne refl)

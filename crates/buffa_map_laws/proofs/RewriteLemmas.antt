@@ -250,7 +250,7 @@ module _ {K : Type 0} (key : Reading K) (Normal : K → Type 0) (e f : Numbers) 
       let tag = tag_encoding n LengthDelimited in
       (tag ++ (varint_encoding (length bs) ++ bs), records_encoding (map (λ k. (n, bytes k)) ks), (tag, varint_encoding (length y.bytes), is_tag n LengthDelimited num, IsVarint-varint_encoding (length y.bytes) fits, ap (λ z. tag ++ (varint_encoding (length z) ++ z)) same, entry), refl, h)
 
-  -- the text of the kept records is a run of them
+  -- the encoding of the kept records is a run of them
   pub unread_run : (d n : ℕ) (b : List ℕ) (es fs : List (EntryRecord K ℤ)) → IsNumber n → Twins Normal e es fs → Run key (closed_reading f) d n b fs → Run key (closed_reading f) d n (records_encoding (undeclared_records n es)) (unread es fs)
   unread_run d n b [] [] num h k = refl
   unread_run d n b [] (y ∷ fs) num h k = absurd h
@@ -380,7 +380,7 @@ module _ {K : Type 0} (key : Reading K) (write : Writing K) (same_wire : write.w
     (back : (d : ℕ) (old v : K) → Fits v → Normal v → (c : Content) × HasContent write.wire (write.encoding v) c × (key.reads d old c ≡ Ok (v, true)))
     (e f : Numbers) (has_blank : DeclaresBlank e) (refines : Refines e f) (eq : K → K → Bool) (laws : IsEquivalence eq) where
   -- a number that f declares is read back
-  value_back : (d : ℕ) (old v : ℤ) → ClosedFits f v → (c : Content) × HasContent closed_writing.wire (closed_writing.text v) c × ((closed_reading f).reads d old c ≡ Ok (v, true))
+  value_back : (d : ℕ) (old v : ℤ) → ClosedFits f v → (c : Content) × HasContent closed_writing.wire (closed_writing.encoding v) c × ((closed_reading f).reads d old c ≡ Ok (v, true))
   value_back = closed_reads_back f
 
   key_back : (d : ℕ) (old v : K) → Fits v × Normal v → (c : Content) × HasContent write.wire (write.encoding v) c × (key.reads d old c ≡ Ok (v, true))
@@ -432,7 +432,7 @@ module _ {K : Type 0} (key : Reading K) (write : Writing K) (same_wire : write.w
         (exact laws (kinds es fs) l walks (Declared e) (new-kinds Normal e es fs t)
         (λ q. ap (lookup_entry (eq q)) (sym (again_folds [])) ∙ same q ∙ ap (lookup_entry (eq q)) (run_folds [])))
 
-  -- what the rewrite's text means to the second reader
+  -- what the rewrite's encoding means to the second reader
   abbrev pub Means : ℕ → ℕ → List (EntryRecord K ℤ) → List (EntryRecord K ℤ) → List ℕ → Type 0
   Means d n es fs out = (gs : List (EntryRecord K ℤ)) × Run key (closed_reading f) d n out gs × KeepsMeaning eq es fs gs
 

@@ -61,7 +61,7 @@ module _ {K V : Type 0} (key : Reading K) (val : Reading V) where
     pub run : ArePlain → (d : ℕ) (es : List (EntryRecord K V)) → inner_needs key val d es ≡ nothing
 
   -- a limit's error is a fault of an entry only where what it needs isn't left: its units, what the messages in it
-  -- cost, and the slots of one that is undeclared
+  -- cost, and the unknown fields of one that is undeclared
   abbrev pub LimitsAreTrue : Type 0
   LimitsAreTrue =
       (d cost slot : ℕ) (left : BudgetLeft) (bs : List ℕ) (f : DecodeError) → EntryFault key val d cost slot left bs f → IsLimit f →
@@ -90,7 +90,7 @@ module _ {K V : Type 0} (key : Reading K) (val : Reading V) where
     pub fold : (m : List (K × V)) (es fs : List (EntryRecord K V)) → fold_entries eq m (es ++ fs) ≡ fold_entries eq (fold_entries eq m es) fs
     pub kept : (es fs : List (EntryRecord K V)) → undeclared (es ++ fs) ≡ undeclared es ++ undeclared fs
 
--- the size of a field is the length of its text
+-- the size of a field is the length of its encoding
 abbrev pub SizeIsLength : {K V : Type 0} → Writing K → Writing V → Type 0
 SizeIsLength {K} {V} key val = (n : ℕ) (l : List (K × V)) → length (field_encoding key val n l) ≡ field_size key val (length (tag_encoding n LengthDelimited)) l
 
@@ -99,8 +99,8 @@ pub record WalksAgree {K V : Type 0} (key : Writing K) (val : Writing V) (eq : K
   pub pairs : (m a b : List (K × V)) → ListsOnce eq m a → ListsOnce eq m b → IsPermutation a b
   pub size : (t : ℕ) (m a b : List (K × V)) → ListsOnce eq m a → ListsOnce eq m b → field_size key val t a ≡ field_size key val t b
 
--- The text of normal pairs with distinct keys is a run, which makes these pairs of the empty map, keeps nothing, and
--- has an entry for each pair.
+-- The encoding of normal pairs with distinct keys is a run, which makes these pairs of the empty map, keeps nothing,
+-- and has an entry for each pair.
 module _ {K V : Type 0} (key : Reading K) (val : Reading V) (kw : Writing K) (vw : Writing V) (eq : K → K → Bool)
     (KeyFits KeyNormal : K → Type 0) (ValFits ValNormal : V → Type 0) where
   pub record ReadsBack (d n : ℕ) (l : List (K × V)) : Type 0 where

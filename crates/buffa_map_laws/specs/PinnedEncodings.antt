@@ -1,4 +1,4 @@
--- What the contracts of sizes, texts, rewrites and storages leave open: nothing, but for what is said here.
+-- What the contracts of sizes, encodings, rewrites and storages leave open: nothing, but for what is said here.
 use Rattle.std.specs.Prelude.{◌≡◌, ◌≢◌, ℕ, Bool, false, List, Some, None, Result, Err, length}
 use Rattle.std.specs.Map.{lookup_entry}
 use Rattle.buffa_bytes.specs.declared.error.DecodeError.{DecodeError}
@@ -26,7 +26,7 @@ module _ {K V : Type 0} (key : Writing K) (val : Writing V) (eq : K → K → Bo
     pub written : (n : ℕ) (old a b : List ℕ) (l : List (K × V)) (r s : Result (Unit {0}) EncodeError) →
         WritesField key val n old a r l → WritesField key val n old b s l → NoneIsFull r s → (r ≡ s) × (a ≡ b)
 
--- A map of small messages has one size and one text, and leaves one cache, memory aside.
+-- A map of small messages has one size and one encoding, and leaves one cache, memory aside.
 pub record MessagesArePinned {K M : Type 0} (key : Writing K) (text slots : M → List ℕ) : Type 0 where
   pub sized : (t : ℕ) (l : List (K × M)) (old a b : Cache) (r s : Result ℕ EncodeError) → IsSmallField key text l →
       IsFieldSized key text slots t l old r a → IsFieldSized key text slots t l old s b → NoneIsFull r s → (r ≡ s) × (a ≡ b)
@@ -34,8 +34,8 @@ pub record MessagesArePinned {K M : Type 0} (key : Writing K) (text slots : M �
       IsFieldWritten key text slots n l old before r a x → IsFieldWritten key text slots n l old before s b y → NoneIsFull r s → (r ≡ s) × (a ≡ b) × (x ≡ y)
 
 -- A run is rewritten in one way only, where one walk is written, and what is rewritten can't have been refused, memory
--- aside; nor can the bytes, where the text was. Two faults of the bytes are one, and find the same pairs. So do two
--- refused texts; memory aside they have one error, and of one walk the same of the text was written.
+-- aside; nor can the bytes, where the encoding was. Two faults of the bytes are one, and find the same pairs. So do two
+-- refused encodings; memory aside they have one error, and of one walk the same of the encoding was written.
 module _ {K V : Type 0} (r : Rules K V) (key : Writing K) (val : Writing V) (KeyFits : K → Type 0) (ValFits : V → Type 0) (A B : List (K × V) → Type 0)
     (left : BudgetLeft) (bytes : List ℕ) (a b : List (K × V)) (over last : BudgetLeft) (x y old v w : List ℕ) (room : ℕ) where
   pub record RewriteIsPinned : Type 0 where

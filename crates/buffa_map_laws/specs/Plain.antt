@@ -11,7 +11,7 @@ use Rattle.buffa_wire.specs.Records.{Datum}
 use Rattle.buffa_map_base.specs.Merge.{MergesEntry, RefusesEntry, Rules, State, rules}
 use Rattle.buffa_map_base.specs.declared.map_entry.MapEntry.{MapEntry}
 
--- f is the first fault: of the length; of the units; of the fields; of the slots
+-- f is the first fault: of the length; of the units; of the fields; of the unknown fields left
 abbrev pub PlainFault : {K V : Type 0} → Reading K → Reading V → ℕ → ℕ → ℕ → BudgetLeft → List ℕ → DecodeError → Type 0
 PlainFault {K} {V} key val d cost slot left bs f =
     LengthFault bs f
@@ -21,14 +21,14 @@ PlainFault {K} {V} key val d cost slot left bs f =
     ⊎ ((s : MapEntry K V) × IsEntry key val d e s × (s.known ≡ false) × (left.unknown < slot) × (f ≡ UnknownFieldLimitExceeded))))))
 
 module _ {K V : Type 0} (r : Rules K V) (old : State K V) (bytes : List ℕ) where
-  -- a merged entry spends its cost, and its slot where its value is undeclared
+  -- a merged entry spends its cost, and its unknown fields where its value is undeclared
   abbrev pub MergesExactly : State K V → List ℕ → Type 0
   MergesExactly new rest =
       (m : MergesEntry r old bytes new rest) →
       (new.left.memory + r.cost ≡ old.left.memory) × (new.left.unknown + cond m.says.known 0 r.slot ≡ old.left.unknown)
 
   -- A refused one spends its cost or nothing. A fault is the first; it spends the cost where the entry was there and
-  -- the units were, and no slot.
+  -- the units were, and no unknown field.
   pub record SpendsExactly (new : State K V) (f : DecodeError) : Type 0 where
     pub which : f ≢ OutOfMemory → PlainFault r.key r.val r.depth r.cost r.slot old.left bytes f
     pub units : (new.left.memory ≡ old.left.memory) ⊎ (new.left.memory + r.cost ≡ old.left.memory)

@@ -23,9 +23,9 @@ pub fn entries_are_read<KC: MapValueDecode, VC: MapValueDecode>()
     ensures { EntriesAreRead KC.reading VC.reading }
 {}
 
-/// The same of a whole run of records, where some units and slots are left, each entry costs units of
-/// element memory and what the messages in it cost, and each one with an undeclared value slots: what is
-/// read is the entries, and what is over.
+/// The same of a whole run of records, where some units and unknown fields are left, each entry costs units
+/// of element memory and what the messages in it cost, and each one with an undeclared value costs unknown
+/// fields: what is read is the entries, and what is over.
 pub fn runs_are_read<KC: MapValueDecode, VC: MapValueDecode>()
     ensures { RunsAreRead KC.reading VC.reading }
 {}
@@ -43,7 +43,7 @@ pub fn plain_entries_are_exact<KC: MapCodec, VC: MapCodec>()
 }
 
 /// A budget's error is told of an entry only where what it needs isn't left: its units, what the messages in
-/// it cost, and the slot of one with an undeclared value, where it is kept.
+/// it cost, and the unknown field of one with an undeclared value, where it is kept.
 pub fn limits_are_told_where_needs_are_not_left<KC: MapValueDecode, VC: MapValueDecode>()
     ensures { LimitsAreTrue KC.reading VC.reading }
 {}
@@ -63,7 +63,7 @@ pub fn runs_join<
     ensures { RunsJoin KC.reading VC.reading C.equal }
 {}
 
-/// The size of a field is the length of its text, where its tag is the field's.
+/// The size of a field is the length of its encoding, where its tag is the field's.
 pub fn size_is_length<KC: MapCodec, VC: MapCodec>()
     ensures { SizeIsLength KC.writing VC.writing }
 {}
@@ -74,7 +74,7 @@ pub fn walks_agree<KC: MapCodec, VC: MapCodec, C: MapStorage<Key = KC::Value, Va
     ensures { WalksAgree KC.writing VC.writing C.equal }
 {}
 
-/// The text of pairs is a run that says these pairs, so that a map that is written and then read into an
+/// The encoding of pairs is a run that says these pairs, so that a map that is written and then read into an
 /// empty one is that map, stored keys too, in whatever order it was walked. Each entry is declared, and there
 /// are as many as there are pairs.
 pub fn written_is_read<
@@ -85,7 +85,7 @@ pub fn written_is_read<
     ensures { WrittenIsRead KC.reading VC.reading KC.writing VC.writing C.equal KC.fits KC.normal VC.fits VC.normal }
 {}
 
-/// The same of messages: the text that `write_message_field` writes
+/// The same of messages: the encoding that `write_message_field` writes
 /// of normal ones is a run that says these pairs, where a level is left for each of theirs.
 pub fn written_messages_are_read<
     KC: MapCodec,

@@ -24,8 +24,8 @@ pub fn runs_are_pinned<KC: MapValueDecode, VC: MapValueDecode>()
     ensures { RunsArePinned KC.reading VC.reading }
 {}
 
-/// A map field has one size and one text for one walk, and is refused at one entry. Open is which walk a storage gives
-/// that promises none, and where memory runs out.
+/// A map field has one size and one encoding for one walk, and is refused at one entry. Open is which walk a
+/// storage gives that promises none, and where memory runs out.
 pub fn map_fields_are_pinned<
     KC: MapCodec,
     VC: MapCodec,
@@ -34,14 +34,14 @@ pub fn map_fields_are_pinned<
     ensures { FieldIsPinned KC.writing VC.writing C.equal }
 {}
 
-/// A map field of small messages has one size, one text and one cache behind it. Open is what is announced and written
-/// where a message is too large, and where memory runs out.
+/// A map field of small messages has one size, one encoding and one cache behind it. Open is what is
+/// announced and written where a message is too large, and where memory runs out.
 pub fn message_fields_are_pinned<KC: MapCodec, M: MessageSpec>()
     ensures { MessagesArePinned KC.writing M.encoding M.slots }
 {}
 
-/// A run has one rewrite for one walk, and is refused for the bytes, or for the text, or not at all. Open is which walk
-/// a storage gives that promises none, and where memory runs out.
+/// A run has one rewrite for one walk, and is refused for the bytes, or for the encoding, or not at all. Open
+/// is which walk a storage gives that promises none, and where memory runs out.
 pub fn rewrites_are_pinned<
     KC: MapCodec,
     VC: MapCodec,

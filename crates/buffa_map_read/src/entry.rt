@@ -214,12 +214,12 @@ pub fn merge_entry<
 /// Merges one entry as [`merge_entry`] does, and keeps one with a value that is undeclared, if a list is passed.
 ///
 /// It is appended to the list as a length-delimited record of the field's `number`, byte for byte as it
-/// was read, and takes one slot of the budget of unknown fields. Without a list it is dropped, and takes
+/// was read, and takes one of the unknown fields left. Without a list it is dropped, and takes
 /// none.
 ///
 /// # Errors
-/// Those of [`merge_entry`], and after them [`DecodeError::UnknownFieldLimitExceeded`] where a slot is
-/// needed and none is left. The map and the list are as they were then; what was charged stays spent.
+/// Those of [`merge_entry`], and after them [`DecodeError::UnknownFieldLimitExceeded`] where an unknown field
+/// is needed and none is left. The map and the list are as they were then; what was charged stays spent.
 ///
 /// Source: the protobuf encoding guide, "Maps", and the language guide on unknown values of an enum.
 ///

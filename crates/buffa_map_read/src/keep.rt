@@ -22,7 +22,7 @@ pub trait Keeper {
     /// The records so far, and those that there is room for.
     ghost room: { Self → ℕ };
 
-    /// The slots for unknown fields that one entry takes.
+    /// How many of the unknown fields left one entry takes.
     ghost slot: { ℕ };
 
     /// What the bytes of an entry of a field of this number add.
@@ -46,14 +46,14 @@ pub trait Keeper {
         ensures memory { budget.new.memory ≡ budget.old.memory }
         ensures room { room self.old ≤ room self.new };
 
-    /// Where it keeps none, an entry takes no slot, and adds nothing.
+    /// Where it keeps none, an entry takes none of the unknown fields left, and adds nothing.
     ghost drops: { KEEPS ≡ false → (slot ≡ 0) × ((n : ℕ) (entry : List ℕ) → adds n entry ≡ []) };
 
-    /// Where it keeps some, an entry takes a slot.
+    /// Where it keeps some, an entry takes some of the unknown fields left.
     ghost keeps: { KEEPS ≡ true → slot ≢ 0 };
 }
 
-/// Entries are dropped, and take no slot.
+/// Entries are dropped, and take none of the unknown fields left.
 #[derive(Drop)]
 pub struct Dropped;
 

@@ -63,8 +63,8 @@ pub fn read_run_by<
 /// Merges the records of a map field, to the end of the buffer, into the map.
 ///
 /// An entry with a value that is undeclared is appended to the list, if one is passed, as a
-/// length-delimited record of the field's `number`, byte for byte, and takes a slot of the budget of
-/// unknown fields; without a list it is dropped, and takes none.
+/// length-delimited record of the field's `number`, byte for byte, and takes one of the
+/// unknown fields left; without a list it is dropped, and takes none.
 ///
 /// # Errors
 /// The first fault of a record, in this order: of its tag; [`DecodeError::UnexpectedField`] for another

@@ -59,7 +59,7 @@ module _ {K M : Type 0} (key : Writing K) (encoding : M → List ℕ) (p : K × 
     pub size_exact : IsSmall (encoding p.1) → length whole < 2 ^ 64 → saturated (next + rest) ≡ saturated (total + (t + (length (varint_encoding (length whole)) + length whole) + rest))
     size_exact h k = exact (omega (arith, h)) k
 
-  -- the head, and then the message's text, are the record
+  -- the head, and then the message's encoding, are the record
   pub head_then : (n : ℕ) → IsSmall (encoding p.1) → length whole < 2 ^ 64 → head_encoding key n p.0 inner ++ encoding p.1 ≡ record_encoding key (delimited_writing encoding) n p
   head_then n h k =
       let tag = tag_encoding n LengthDelimited in
@@ -99,7 +99,7 @@ small_field key encoding t (p ∷ ps) h =
     let w = length-entry_encoding key (delimited_writing encoding) p ∙ ap (λ (n : ℕ). 2 + (length (key.encoding p.0) + n)) (length-append (varint_encoding (length (encoding p.1))) (encoding p.1)) in
     ((omega (arith, w), omega (arith, w)), small_field key encoding t ps (omega arith))
 
--- a record: its head, and then the message's text, behind a slot that tells its length
+-- a record: its head, and then the message's encoding, behind a slot that tells its length
 module _ {K M : Type 0} (key : Writing K) (encoding slots : M → List ℕ) (n : ℕ) (p : K × M) (inner : ℕ) (c0 c1 c2 : Cache) (b0 b1 b2 : List ℕ)
     (is : inner ≡ cap (length (encoding p.1))) (on : c1 ≡ advanced 1 c0) where
   small_head : IsSmallPair key encoding p → IsSmallPair key encoding p × IsSmall (encoding p.1)

@@ -15,18 +15,18 @@ use Rattle.buffa_map_base.specs.Pairs.{means}
 use Rattle.buffa_map_base.specs.Rewrite.{RefusesRewrite, WritesRewrite}
 use Rattle.buffa_map_base.specs.Encoding.{entry_encoding, record_encoding, field_encoding, AllHold, HasEncoding, RefusesRecord, WritesRecord, RefusesField, UsesRoomOf, WritesField}
 
--- the room of two texts, of which the first was written
+-- the room of two encodings, of which the first was written
 pub room_of_both : {T : Type 0} (r : Result T EncodeError) (room mid left : ℕ) (a b : List ℕ) → room ≤ mid + length a → UsesRoom r mid b left → UsesRoomOf r room (a ++ b) left
 room_of_both r room mid left a b wrote h = MatchResult-weaker r h
     (λ x w. omega (arith, wrote, w, length-append a b))
     (λ x w _. omega (arith, wrote, w, length-append a b))
 
--- a refusal of the first of two texts, as `?` hands it on
+-- a refusal of the first of two encodings, as `?` hands it on
 pub no_room_for_both : {T : Type 0} {r : Result T EncodeError} {e d : EncodeError} → r ≡ Err e → e ≡ d → (room left : ℕ) (a b : List ℕ) → (d ≡ OutOfMemory → room < length a) → UsesRoomOf r room (a ++ b) left
 no_room_for_both is same room left a b w = rw (is, same) (λ o. omega (arith, w o, length-append a b))
 
 module _ {K W : Type 0} (key : Writing K) (val : Writing W) (n : ℕ) where
-  -- a record's text: its head, and its entry
+  -- a record's encoding: its head, and its entry
   record_whole : (p : K × W) (len : ℕ) → len ≡ length (entry_encoding key val p) → (tag_encoding n LengthDelimited ++ varint_encoding len) ++ entry_encoding key val p ≡ record_encoding key val n p
   record_whole p len e = ap (λ k. (tag_encoding n LengthDelimited ++ varint_encoding k) ++ entry_encoding key val p) e ∙ append_assoc (tag_encoding n LengthDelimited) (varint_encoding (length (entry_encoding key val p))) (entry_encoding key val p)
 

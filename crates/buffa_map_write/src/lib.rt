@@ -1,4 +1,5 @@
-//! Map fields, written: from a walk of a storage by way of a size ([`size`]) into a text ([`write`](mod@write)).
+//! Map fields, written: from a walk of a storage by way of a size ([`size`]) into an encoding
+//! ([`write`](mod@write)).
 #![tactic(auto)]
 
 pub mod map_write;

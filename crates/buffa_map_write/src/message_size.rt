@@ -36,7 +36,7 @@ fn message_record_len<KC: MapCodec>(outer_tag_len: u64, key: &KC::Value, inner: 
 /// The length of a map field of messages in bytes, or 2^64 - 1 where it is more, by a function that sizes a
 /// message. `outer_tag_len` is the length of the field's tag.
 ///
-/// For each pair of the walk the length of the message's text is put into the cache, and then its own
+/// For each pair of the walk the length of the message's encoding is put into the cache, and then its own
 /// slots. The function may be called on each value of the map, and is asked for nothing of others; so a
 /// type that holds itself is sized by a function that recurs through this one.
 ///

@@ -1,4 +1,4 @@
-//! The text of a map field of messages.
+//! The encoding of a map field of messages.
 
 ghost use Rattle.std.specs.Prelude.{◌≡◌, ◌≢◌, ◌∷◌, [], length, OnErr};
 ghost use Rattle.std.specs.List.{Contains};
@@ -32,7 +32,7 @@ fn write_key_and_length<KC: MapCodec, S: EncodeSink>(
     write_head(2, u64::from(inner), sink)
 }
 
-// Writes all of a record but the message's text.
+// Writes all of a record but the message's encoding.
 #[tactic(auto, using(buffa_bytes::proofs::SinkLemmas::writes_then, buffa_bytes::proofs::SinkLemmas::front_first, buffa_bytes::proofs::SinkLemmas::room_then))]
 fn write_message_head<KC: MapCodec, S: EncodeSink>(
     number: u32,
@@ -78,7 +78,7 @@ where
 
 /// Writes a map field of messages, by a function that writes a message.
 ///
-/// For each pair of the walk the next slot of the cache is the length of the message's text. The function
+/// For each pair of the walk the next slot of the cache is the length of the message's encoding. The function
 /// may be called on each value of the map where the next slots are the value's, and is asked for nothing
 /// of others; so a type that holds itself is written by a function that recurs through this one.
 ///
@@ -127,7 +127,7 @@ where
 ///
 /// `field_number` is 1 to [`MAX_FIELD_NUMBER`](buffa_wire::MAX_FIELD_NUMBER). The next slots of the cache
 /// are those that [`message_field_len`](crate::message_size::message_field_len) put there, and they are
-/// consumed. What is written is the field's text where no message is longer than 2^31 - 1 bytes.
+/// consumed. What is written is the field's encoding where no message is longer than 2^31 - 1 bytes.
 ///
 /// # Errors
 /// [`EncodeError::OutOfMemory`] alone; the sink's old bytes come first then.

@@ -1,4 +1,4 @@
-//! The text of a map field.
+//! The encoding of a map field.
 //!
 //! The steps of a record stand inside the loop over the pairs (`inline`): a call would hand each result over in
 //! memory, which cost a third of the time.
@@ -99,8 +99,8 @@ pub(crate) fn write_record<KC: MapCodec, VC: MapCodec, S: EncodeSink>(
 ///
 /// # Errors
 /// [`EncodeError::MessageTooLarge`] at the first entry of 2^64 bytes or more, after the records of the
-/// pairs before it; [`EncodeError::OutOfMemory`], after a beginning of the text, where the text doesn't fit
-/// for sure.
+/// pairs before it; [`EncodeError::OutOfMemory`], after a beginning of the encoding, where the encoding
+/// doesn't fit for sure.
 ///
 /// Source: the protobuf encoding guide, "Maps".
 ///

@@ -1,4 +1,4 @@
--- The text of an Item.
+-- The encoding of an Item.
 use Rattle.std.proofs.Common.{◌≡◌, ℕ, List, ◌++◌, length, arith, ap, length-append}
 use Rattle.buffa_wire.specs.Values.{delimited_encoding, tag_encoding}
 use Rattle.buffa_wire.specs.Varint.{varint_encoding}

@@ -13,7 +13,7 @@ use Rattle.buffa_message_set.specs.Item.{IsTypeId, ItemFault, SpendsUnknown, Tak
 use Rattle.buffa_message_set.specs.Pinned.{GivesItem, ItemIsPinned, WrittenItemIsPinned}
 use Rattle.buffa_message_set.proofs.ItemLemmas.{one_item, read_sound, written_item}
 
--- a slot is left
+-- an unknown field is left
 read_there : (d slots : ℕ) (bs : List ℕ) → (slots == 0) ≡ false → item_in d slots bs ≡ item_at d bs
 read_there d slots bs e = rw e refl
 

@@ -169,15 +169,15 @@ item_within d (suc k) s bs = do
 unfoldable pub item_at : ℕ → List ℕ → Result (ℕ × List ℕ × List ℕ) DecodeError
 item_at d bs = item_within d (suc (length bs)) unsaid bs
 
--- the same, where so many slots for unknown fields are left, and one is taken first
+-- the same, where so many unknown fields are left, and one is taken first
 abbrev pub item_in : ℕ → ℕ → List ℕ → Result (ℕ × List ℕ × List ℕ) DecodeError
 item_in d slots bs = if slots == 0 then Err UnknownFieldLimitExceeded else item_at d bs
 
--- a slot is spent, and nothing else; or none was left, and nothing is spent
+-- an unknown field is spent, and nothing else; or none was left, and nothing is spent
 abbrev pub SpendsUnknown : BudgetLeft → BudgetLeft → Type 0
 SpendsUnknown old new = ((old.unknown ≡ 0) × (new ≡ old)) ⊎ ((new.unknown + 1 ≡ old.unknown) × (new.memory ≡ old.memory))
 
--- ---- the text
+-- ---- the encoding
 
 -- the type id, the message, the end tag; and the same with the start tag first
 abbrev pub body_encoding : ℕ → List ℕ → List ℕ
@@ -187,7 +187,7 @@ body_encoding id msg =
 abbrev pub item_encoding : ℕ → List ℕ → List ℕ
 item_encoding id msg = tag_encoding 1 StartGroup ++ body_encoding id msg
 
--- the length of the text, where the message has so many bytes
+-- the length of the encoding, where the message has so many bytes
 abbrev pub item_size : ℕ → ℕ → ℕ
 item_size id len = 4 + length (varint_encoding id) + length (varint_encoding len) + len
 
@@ -199,7 +199,7 @@ OneItem =
     (d : ℕ) (a b x y m o : List ℕ) (n k : ℕ) →
     Item d a n m → Item d b k o → a ++ x ≡ b ++ y → (a ≡ b) × (n ≡ k) × (m ≡ o)
 
--- the text of an Item, without its start tag, is that Item
+-- the encoding of an Item, without its start tag, is that Item
 abbrev pub WrittenIsItem : Type 0
 WrittenIsItem = (d id : ℕ) (msg : List ℕ) → IsTypeId id → length msg < 2 ^ 64 → Item d (body_encoding id msg) id msg
 

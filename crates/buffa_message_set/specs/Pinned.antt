@@ -9,7 +9,7 @@ use Rattle.buffa_wire.specs.Gives.{GivesUnlessFull}
 use Rattle.buffa_wire.specs.Written.{UsesRoom, Writes}
 use Rattle.buffa_message_set.specs.Item.{IsTypeId, ItemFault, SpendsUnknown, TakesItem, item_in, item_encoding}
 
--- what reading an Item may answer, where so many slots are left, and what it leaves unread
+-- what reading an Item may answer, where so many unknown fields are left, and what it leaves unread
 abbrev pub GivesItem : ℕ → ℕ → List ℕ → Result (ℕ × List ℕ) DecodeError → List ℕ → Type 0
 GivesItem d slots bs r rest = GivesUnlessFull (λ item. (item.0, item.1, rest)) r (item_in d slots bs)
 
@@ -27,8 +27,8 @@ pub record ItemIsPinned : Type 0 where
 abbrev pub WritesItem : ℕ → List ℕ → Result (Unit {0}) EncodeError → List ℕ → List ℕ → Type 0
 WritesItem id msg r old new = Writes r old (item_encoding id msg) new
 
--- An Item is written in one way only, and no other one has its text; it is refused for want of memory alone, and never
--- where there is room.
+-- An Item is written in one way only, and no other one has its encoding; it is refused for want of memory alone, and
+-- never where there is room.
 pub record WrittenItemIsPinned : Type 0 where
   pub written : (id : ℕ) (msg old a b : List ℕ) → WritesItem id msg (Ok tt) old a → WritesItem id msg (Ok tt) old b → a ≡ b
   pub refused : (id : ℕ) (msg old a : List ℕ) (f : EncodeError) → WritesItem id msg (Err f) old a → f ≡ NoMemory

@@ -49,15 +49,15 @@ pub fn items_are_groups()
 
 /// Bytes, a depth and a budget have one answer as an Item, and leave one budget.
 ///
-/// What is left open: after a refusal, how much stays unread (an end of what was there, and all of it where no slot
-/// was left); and where memory runs out, which is told only where message bytes are there.
+/// What is left open: after a refusal, how much stays unread (an end of what was there, and all of it where
+/// no unknown field was left); and where memory runs out, which is told only where message bytes are there.
 pub fn items_are_pinned()
     ensures { ItemIsPinned }
 {}
 
-/// A type id and a message are written in one way, and no others have that text.
+/// A type id and a message are written in one way, and no others have that encoding.
 ///
-/// What is left open: where memory runs out, how much of the text stands.
+/// What is left open: where memory runs out, how much of the encoding stands.
 pub fn written_items_are_pinned()
     ensures { WrittenItemIsPinned }
 {}

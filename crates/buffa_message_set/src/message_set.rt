@@ -60,8 +60,8 @@ pub const MESSAGE_TAG: u64 = 0x1A;
 // The greatest type id. Source: a type id is an int32, and positive.
 const MAX_TYPE_ID: u64 = 2_147_483_647;
 
-/// The length of an Item's text in bytes, start tag and end tag too, where the message has `payload_len` bytes.
-/// The sum has to be below 2^64.
+/// The length of an Item's encoding in bytes, start tag and end tag too, where the message has `payload_len`
+/// bytes. The sum has to be below 2^64.
 ///
 /// ```ignore
 /// let len = item_encoded_len(number, payload_len); // 12 for 1000 and 5
@@ -79,7 +79,7 @@ pub fn item_encoded_len(number: u32, payload_len: usize) -> usize
 /// `number` is 1 to 2,147,483,647.
 ///
 /// # Errors
-/// [`EncodeError::OutOfMemory`] alone, after a beginning of the text.
+/// [`EncodeError::OutOfMemory`] alone, after a beginning of the encoding.
 ///
 /// ```ignore
 /// write_item(1000, b"hello", &mut text)?; // 0B 10 E8 07 1A 05 68 65 6C 6C 6F 0C
@@ -129,17 +129,17 @@ fn write_message<S: EncodeSink>(payload: &[u8], sink: &mut S) -> Result<(), Enco
 
 /// Reads an Item whose start tag was read, up to its end tag, and answers the type id and the message bytes.
 ///
-/// It takes one slot for unknown fields first. The type id and the message come in either order; the last
+/// First it takes one of the unknown fields left. The type id and the message come in either order; the last
 /// type id counts, and the bytes of several messages are joined. Other fields are passed over at the context's
 /// depth, so the context is to be one that was descended: `ctx.descend()?`. What follows the Item is left
 /// unread. Memory is asked for only for message bytes that are there, and never for a message of none.
 ///
 /// # Errors
-/// The first fault, and nothing else is handed out: [`DecodeError::UnknownFieldLimitExceeded`] where no slot
-/// is left, and then none is spent and nothing is read; of a tag, as [`Tag::decode`] tells it; of a varint or
-/// a length; [`DecodeError::InvalidMessageSet`] for a type id out of range, at once, and for none at the end;
-/// [`DecodeError::InvalidEndGroup`] for an end tag of another number; of a field that is passed over, as
-/// [`skip_field_depth`] tells it. Or [`DecodeError::OutOfMemory`].
+/// The first fault, and nothing else is handed out: [`DecodeError::UnknownFieldLimitExceeded`] where no
+/// unknown field is left, and then none is spent and nothing is read; of a tag, as [`Tag::decode`] tells it;
+/// of a varint or a length; [`DecodeError::InvalidMessageSet`] for a type id out of range, at once, and for
+/// none at the end; [`DecodeError::InvalidEndGroup`] for an end tag of another number; of a field that is
+/// passed over, as [`skip_field_depth`] tells it. Or [`DecodeError::OutOfMemory`].
 ///
 /// Source: the documentation of buffa, "MessageSet wire format helpers".
 ///
@@ -175,7 +175,7 @@ struct ItemParts {
     message: Vec<u8>,
 }
 
-// Reads an Item whose start tag was read and whose slot is taken.
+// Reads an Item whose start tag was read and whose unknown field is taken.
 fn read_item<B: Buf>(alloc: Global, buf: &mut B, depth: u32) -> Result<(u32, Vec<u8>), DecodeError>
     ensures reads { GivesUnlessFull (λ item. (item.0, item.1.items, B.unread buf.new)) result
         (item_at depth (B.unread buf.old)) }

@@ -147,7 +147,7 @@ module _ {K V X : Type 0} (key : Reading K) (val paid : Reading V) (cost slot : 
           at unlimited (inr (t, e, more, varint, split, inr (enough, inr (inl fault)))) = inr (refused_at e f wire fault more (delimited_taken bs e more (t, varint, split)), unlimited)
           at unlimited (inr (t, e, more, varint, split, inr (enough, inr (inr (s, entry, known, few, is))))) = absurd (unlimited (subst (λ z. IsLimit z) (sym is) tt))
 
-      -- what is spent of units, and of slots
+      -- what is spent of units, and of unknown fields
       abbrev pub Spent : BudgetLeft → BudgetLeft → Type 0
       Spent mid after =
           ((mid.memory ≡ before.memory) ⊎ ((mid.memory + cost ≤ before.memory) × (before.memory ≤ mid.memory + (cost + (inner_need key paid d bs).memory))))

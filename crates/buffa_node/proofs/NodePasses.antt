@@ -1,4 +1,4 @@
--- The size and the text of a node, by those of its maps.
+-- The size and the encoding of a node, by those of its maps.
 use Rattle.std.proofs.Common.{◌≡◌, ◌≢◌, ◌<◌, ◌≤◌, ℕ, zero, suc, ℤ, ◌+◌, List, [], ◌∷◌, ◌++◌, length, min, Result, Ok, Err, sym, ap, ◌∙◌, arith, append-nil, length-append, refl, subst}
 use Rattle.std.specs.List.{Contains}
 use Rattle.std.specs.Map.{values_of}
@@ -105,7 +105,7 @@ module _ (t : Branch) (a : Scores) (es : List (ℤ × Branch)) (h : Shades) (r :
     pub large_total : 4294967295 ≤ s → 4294967295 ≡ cap (length (encoding t))
     large_total high = cap_high (length (encoding t)) s total high
 
-  -- ---- the text
+  -- ---- the encoding
   module _ (c d : Cache) (b0 b1 b2 b3 b4 : List ℕ) where
     abbrev S : Type 0
     S = IsSmall (encoding t)

@@ -19,7 +19,7 @@ use Rattle.buffa_fields.specs.Takes.{Need, Taker}
 abbrev pub put_in : {K V : Type 0} → (K → K → Ordering) → List (K × V) → MapEntry K V → List (K × V)
 put_in cmp m s = cond s.known (insert_entry cmp m s.key s.value) m
 
--- what one that is undeclared takes, where each takes so many slots
+-- what one that is undeclared takes, where each takes so many unknown fields
 abbrev pub slot_of : {K V : Type 0} → ℕ → Result (MapEntry K V) DecodeError → BudgetLeft
 slot_of slot (Ok s) = slots (cond s.known 0 slot)
 slot_of slot (Err e) = nothing
@@ -35,7 +35,7 @@ module _ {K V : Type 0} (key : Reading K) (val : Reading V) where
   unfoldable pub entry_taken : {X : Type 0} → (X → List ℕ → MapEntry K V → X) → Taker X
   entry_taken does d v n w p = if same_wire LengthDelimited w then option_map (λ x. does v x.0 x.1) (entry_in d (delimited_at p)) else None
 
-  -- an entry costs so many units, what the messages in it cost, by paid, and its slots
+  -- an entry costs so many units, what the messages in it cost, by paid, and its unknown fields
   unfoldable pub entry_cost : Reading V → ℕ → ℕ → Need
   entry_cost paid cost slot d n w bs =
       if same_wire LengthDelimited w then need_by (delimited_at bs) (λ e. plus (need_of key paid d cost e.0) (slot_of slot (entry_of key val d e.0))) else nothing

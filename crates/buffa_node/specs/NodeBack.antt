@@ -1,4 +1,4 @@
--- The text of a node reads back.
+-- The encoding of a node reads back.
 use Rattle.std.proofs.Common.{◌≡◌, inl, inr, ◌==◌, ◌^◌, ◌<◌, ◌≤◌, ℕ, ℤ, zero, suc, pos, FitsSigned, Bool, false, true, List, [], ◌∷◌, ◌++◌, length, length-append, None, Some, Ok, refl, sym, ap, subst, ◌∙◌, arith, append_assoc, append-nil, map, if◌then◌else◌}
 use Rattle.std.proofs.lemmas.Bool.{ne_eqb}
 use Rattle.std.specs.Cmp.{int_cmp_total}
@@ -84,7 +84,7 @@ short_kept (y ∷ ys) (inr (three, e, is, undeclared), ns) h =
     let one : length (record_of y.0 y.1) ≡ length (tag_encoding 3 LengthDelimited ++ delimited_encoding e) = λ i. length (record_of (three i) (is i)) in
     ((omega (arith, three), omega (arith, three)), subst FitsDatum (sym is) (omega (arith, h, both, one, longer 3 e)), short_kept ys ns (omega (arith, h, both)))
 
--- a child's text is shorter than its entry, and so is all in it
+-- a child's encoding is shorter than its entry, and so is all in it
 short_text : (t : Branch) → IsNormal t → length (encoding t) < 2 ^ 64 → IsShort t
 short_text (branch a ks h r) n short =
     let one = length-append (scores_encoding a) (kids_encoding ks ++ (shades_encoding h ++ records_encoding r)) in

@@ -1,4 +1,4 @@
--- The text, the records, the slots and the levels of a node, and which nodes their text reads back to.
+-- The encoding, the records, the slots and the levels of a node, and which nodes their encoding reads back to.
 use Rattle.std.specs.Prelude.{◌≡◌, ◌==◌, ◌<◌, ◌⊎◌, ℕ, zero, suc, ℤ, FitsSigned, false, max, List, [], ◌∷◌, ◌++◌, length, refl, Result, is_some, if◌then◌else◌}
 use Rattle.std.proofs.Common.{ap}
 use Rattle.std.specs.Int.{cast_unsigned, w32, w64}
@@ -31,7 +31,7 @@ text_writing = delimited_writing (λ t. t)
 abbrev pub number_writing : Writing ℤ
 number_writing = varint_writing (cast_unsigned w64)
 
--- a child's entry, where its text is given
+-- a child's entry, where its encoding is given
 abbrev pub kid_entry : ℤ → List ℕ → List ℕ
 kid_entry k t = entry_encoding number_writing (delimited_writing (λ (x : List ℕ). x)) (k, t)
 
@@ -54,7 +54,7 @@ abbrev mutual
   kids_encoding (kid k t ks) = kid_record k (encoding t) ++ kids_encoding ks
 
 abbrev mutual
-  -- for each child the capped length of its text, and then its own slots
+  -- for each child the capped length of its encoding, and then its own slots
   pub slots : Branch → List ℕ
   slots (branch a ks h r) = slots_below ks
 
@@ -113,7 +113,7 @@ abbrev pub AreKept : Kept → Type 0
 AreKept [] = Unit {0}
 AreKept (y ∷ ys) = IsKept y × AreKept ys
 
--- the nodes that their text reads back to: keys and values are of their types, shades are declared, keys ascend
+-- the nodes that their encoding reads back to: keys and values are of their types, shades are declared, keys ascend
 abbrev mutual
   pub IsNormal : Branch → Type 0
   IsNormal (branch a ks h r) =

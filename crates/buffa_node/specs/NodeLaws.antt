@@ -42,7 +42,7 @@ pub cost_next : (d : ℕ) (f r : List ℕ) → SomeField d f → cost d (f ++ r)
 cost_next zero = fields.cost_of_next (node_need (λ _ _. None) (λ _. nothing)) (node_stays (λ _ _. None) (λ _. nothing)) zero
 cost_next (suc d) = fields.cost_of_next (node_need (merged d) (cost d)) (node_stays (merged d) (cost d)) (suc d)
 
--- ---- the text is that of records
+-- ---- the encoding is that of records
 kids_are : (ks : Kids) → kids_encoding ks ≡ records_encoding (kids_records ks)
 kids_are no_kids = refl
 kids_are (kid k t ks) = ap (λ (z : List ℕ). kid_record k (encoding t) ++ z) (kids_are ks)

@@ -58,7 +58,7 @@ children_take m = entry_taken numbers (children m (λ _. nothing)) (λ es e s. p
 abbrev pub children_cost : ChildMeaning → ChildCost → Need
 children_cost m c = entry_cost numbers (children m (λ _. nothing)) (children m c) 100 0
 
--- field 3, and what is kept beside it: an entry with an undeclared shade, byte for byte, which takes a slot
+-- field 3, and what is kept beside it: an entry with an undeclared shade, byte for byte, which costs an unknown field
 abbrev pub shades_take : Taker (Shades × Kept)
 shades_take = entry_taken numbers shades (λ x e s. (put_in int_cmp x.0 s, x.1 ++ undeclared_record 3 e s.known))
 

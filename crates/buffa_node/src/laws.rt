@@ -12,8 +12,8 @@ use crate::shade::Shade;
 use buffa_wire::{Blank, Enumeration, MessageSpec, UnknownFields};
 use std::collections::BTreeMap;
 
-/// Which message a node is: what bytes make of it and cost, its text, its slots, which nodes are read back, and how deep
-/// their text nests. Nothing is open.
+/// Which message a node is: what bytes make of it and cost, its encoding, its slots, which nodes are read
+/// back, and how deep their encoding nests. Nothing is open.
 pub fn node_is_this()
     ensures merged { (⟦<Node as MessageSpec>⟧.merged ≡ merged) × (⟦<Node as MessageSpec>⟧.cost ≡ cost) }
     ensures encoding { (⟦<Node as MessageSpec>⟧.encoding ≡ encoding) × (⟦<Node as MessageSpec>⟧.records ≡ records) }

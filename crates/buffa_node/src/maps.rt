@@ -44,7 +44,8 @@ pub(crate) fn merge_score(
     answer
 }
 
-// Merges the entry of a shade, or keeps it where the shade is undeclared. A refused one takes no slot.
+// Merges the entry of a shade, or keeps it where the shade is undeclared. A refused one takes no unknown
+// field.
 pub(crate) fn merge_shade(
     alloc: Global,
     shades: &mut BTreeMap<i32, Shade>,
@@ -85,7 +86,7 @@ pub(crate) fn merge_shade(
     }
 }
 
-// Passes on that memory ran out. An entry that is too long for any length is in no text of a message.
+// Passes on that memory ran out. An entry that is too long for any length is in no encoding of a message.
 fn memory_alone(error: EncodeError) -> Result<(), EncodeError>
     ensures { result ≡ only_memory error }
 {

@@ -161,7 +161,7 @@ impl Message for Node {
     }
 }
 
-/// The size pass: the length of the text, and the slots of the children appended.
+/// The size pass: the length of the encoding, and the slots of the children appended.
 ///
 /// # Errors
 /// Those of [`Message::compute_size`]; never for a node with no children.
@@ -216,7 +216,7 @@ where
     )
 }
 
-/// The write pass: the text, and the slots of the children consumed.
+/// The write pass: the encoding, and the slots of the children consumed.
 ///
 /// # Errors
 /// Those of [`Message::write_to`].
@@ -330,8 +330,8 @@ fn merge_node_field(
 }
 
 /// Merges the fields that the bytes are, all of them, where so many levels may still open: a child is one level
-/// deeper. A score costs 28 units of element memory, a child 100 and what is in it, a shade 8; what is kept costs a slot
-/// for each record, those in groups too.
+/// deeper. A score costs 28 units of element memory, a child 100 and what is in it, a shade 8; what is kept
+/// costs an unknown field for each record, those in groups too.
 ///
 /// # Errors
 /// Those of [`Message::merge`]. The node is then what the fields before the refused one make of it.

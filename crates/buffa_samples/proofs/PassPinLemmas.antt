@@ -21,7 +21,7 @@ module _ {K : Type 0} (p : Proxy K) (KeyFits : K → Type 0) (walks : List (K ×
     (val_free : (p.older d n).val.nested ≡ false → (e : ℕ) (c : Content) → (p.older d n).val.cost e c ≡ nothing)
     (new_key_free : (p.newer d n).key.nested ≡ false → (e : ℕ) (c : Content) → (p.newer d n).key.cost e c ≡ nothing)
     (new_val_free : (p.newer d n).val.nested ≡ false → (e : ℕ) (c : Content) → (p.newer d n).val.cost e c ≡ nothing) where
-  -- two rewrites fill the same map, and are one text where one walk was written
+  -- two rewrites fill the same map, and are one encoding where one walk was written
   one : (x y : List (K × ℤ)) (v w : List ℕ) (h : IsRewritten p KeyFits d n bytes x v) (k : IsRewritten p KeyFits d n bytes y w) →
       SamePairs (p.older d n).same x y × (h.rewrites.rewrite.0 ≡ k.rewrites.rewrite.0 → v ≡ w)
   one x y v w h k =

@@ -16,11 +16,11 @@ use Rattle.buffa_map.specs.declared.rewrite.RewriteError.{RewriteError}
 use Rattle.buffa_map.specs.declared.rewrite.RewriteError.TheVariants.{Decode, Encode}
 use Rattle.buffa_samples.specs.Passed.{IsShortage}
 
--- a budget is what is left of its slots and its units
+-- a budget is its unknown fields left and its element memory left
 pub left_is : (b : BudgetLeft) (u m : ℕ) → b.unknown ≡ u → b.memory ≡ m → b ≡ record { unknown = u; memory = m }
 left_is b u m h k = subst (λ (z : ℕ). b ≡ record { unknown = u; memory = z }) k (subst (λ (z : ℕ). b ≡ record { unknown = z; memory = b.memory }) h refl)
 
--- the bytes were refused, or the text of the rewrite
+-- the bytes were refused, or the encoding of the rewrite
 module _ {K : Type 0} (rk : Reading K) (rv : Reading ℤ) (key : Writing K) (eq : K → K → Bool) (keeps : Bool) (n cost : ℕ) (bs : List ℕ) (pairs : List (K × ℤ)) (walks : List (K × ℤ) → Type 0) where
   abbrev Refused : ℕ → ℕ → BudgetLeft → List ℕ → BudgetLeft → List ℕ → List ℕ → RewriteError → Type 0
   Refused room d left old over rest written x = MatchRefusal x
@@ -55,7 +55,7 @@ module _ {K : Type 0} (rk : Reading K) (rv : Reading ℤ) (key : Writing K) (eq 
         (subst (λ (z : List ℕ). Refused room e given z over rest written x) empty (subst (λ (z : BudgetLeft). Refused room e z old over rest written x) is (subst (λ (z : ℕ). Refused room z left old over rest written x) same h))),
   )
 
--- the same rewrite, by the names of the clause, into an empty text
+-- the same rewrite, by the names of the clause, into an empty sink
 pub rewritten : {K : Type 0} (rk : Reading K) (rv : Reading ℤ) (key : Writing K) (KeyFits : K → Type 0) (ValFits : ℤ → Type 0) (eq : K → K → Bool) (keeps : Bool) (n cost : ℕ) (bs : List ℕ) (pairs : List (K × ℤ)) (walks : List (K × ℤ) → Type 0)
     (d e : ℕ) (left given over : BudgetLeft) (rest old written : List ℕ) (before after : ℕ) → d ≡ e → left ≡ given →
     (h : RewritesRun (keeping rk rv eq keeps d n cost) key closed_writing KeyFits ValFits walks left bs pairs over rest old written before after) →

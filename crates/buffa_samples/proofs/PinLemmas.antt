@@ -28,7 +28,7 @@ module _ {K V : Type 0} (key : Writing K) (val : Writing V) where
   short_in [] p rest h = All-head IsShort p rest h
   short_in (x ∷ done) p rest h = short_in done p rest (All-tail IsShort x (done ++ p ∷ rest) h)
 
-  -- what has a text has no entry that is too long, in whatever order
+  -- what has an encoding has no entry that is too long, in whatever order
   pub no_long : (l m done : List (K × V)) (p : K × V) (rest : List (K × V)) → HasEncoding key val l → IsPermutation l m → m ≡ done ++ p ∷ rest → 2 ^ 64 ≤ length (entry_encoding key val p) → ⊥
   no_long l m done p rest has turn is long =
       let few : length (entry_encoding key val p) < 2 ^ 64 = short_in done p rest (subst (All IsShort) is (All-permutation IsShort l m turn (all_short l has))) in

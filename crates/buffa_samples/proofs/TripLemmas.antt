@@ -25,7 +25,7 @@ unwritten key val cost n old new l (GroupRefused e) room h few = h
 module _ {K V : Type 0} (key : Reading K) (val : Reading V) (d n : ℕ)
     (needs : (cost : ℕ) (e : List ℕ) → need_of key val d cost e ≡ units cost) (inner : (es : List (EntryRecord K V)) → inner_needs key val d es ≡ nothing)
     (no_fault : (cost slot : ℕ) (left over : BudgetLeft) (bs : List ℕ) (es : List (EntryRecord K V)) (f : DecodeError) → Run key val d n bs es → Paid key val d cost slot left es over → RunFault key val d n cost slot left bs f → ⊥) where
-  -- where no slot is asked for, the fault of a record is that of the budget, or one that it has at no cost
+  -- where no unknown field is asked for, the fault of a record is that of the budget, or one that it has at no cost
   at_no_cost : (cost : ℕ) (left : BudgetLeft) (bs : List ℕ) (f : DecodeError) → RecordFault key val d n cost 0 left bs f → (f ≡ ElementMemoryLimitExceeded) ⊎ RecordFault key val d n 0 0 left bs f
   at_no_cost cost left bs f (inl h) = inr (inl h)
   at_no_cost cost left bs f (inr (inl h)) = inr (inr (inl h))

@@ -44,7 +44,7 @@ pub length_count : (n : ℕ) → length (count_encoding n) ≡ 2 * n
 length_count zero = refl
 length_count (suc n) = omega (arith, length-append one_text (count_encoding n), length_one, length_count n)
 
--- ---- the text reads back
+-- ---- the encoding reads back
 counted : (d k n : ℕ) → k + n < 2 ^ 64 → count_merged d k (count_encoding n) ≡ Some (k + n)
 counted d k zero h = let e : k ≡ k + 0 = omega arith in empty d (count_field d) (count_sound d) (count_same d) k ∙ ap (λ z. Some z) e
 counted d k (suc n) h =

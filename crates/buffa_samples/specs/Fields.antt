@@ -1,4 +1,4 @@
--- Single fields of the samples: how each is read, and its text.
+-- Single fields of the samples: how each is read, and its encoding.
 -- Source: the protobuf encoding guide, "Message Structure".
 use Rattle.std.specs.Prelude.{ℕ, zero, suc, ℤ, pos, negsuc, List, [], ◌∷◌, ◌++◌, Result, Ok}
 use Rattle.buffa_wire.specs.Gives.{◌>>=◌}
@@ -22,7 +22,7 @@ int32_field n put w bs = check_wire n Varint w >>= (λ _. int32_at bs >>= (λ x.
 abbrev pub skipped_field : {X : Type 0} → ℕ → X → ℕ → WireType → List ℕ → Result (X × List ℕ) DecodeError
 skipped_field d v n w bs = skip_at d n w bs >>= (λ rest. Ok (v, rest))
 
--- the text of an int32 field of number n, which isn't written at 0
+-- the encoding of an int32 field of number n, which isn't written at 0
 abbrev pub number_encoding : ℕ → ℤ → List ℕ
 number_encoding n (pos zero) = []
 number_encoding n (pos (suc k)) = tag_encoding n Varint ++ int32_encoding (pos (suc k))

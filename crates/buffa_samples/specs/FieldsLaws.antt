@@ -123,7 +123,7 @@ pub full_not_at_end : {X T : Type 0} (field : FieldReader X) → Ends field → 
 full_not_at_end field ends (Ok x) old new n w bs rest h = tt
 full_not_at_end field ends (Err e) old new n w bs rest h = λ full is. ends old n bs (ap (λ z. field old n z bs) (sym is) ∙ h ∙ ap (λ z. Err z) full)
 
--- ---- the text of an int32 field
+-- ---- the encoding of an int32 field
 pub zero_text : (n : ℕ) (v : ℤ) → v ≡ pos 0 → number_encoding n v ≡ []
 zero_text n v h = ap (number_encoding n) h
 
@@ -141,7 +141,7 @@ records_encoding-append : (xs ys : List (ℕ × Datum)) → records_encoding (xs
 records_encoding-append [] ys = refl
 records_encoding-append (x ∷ xs) ys = ap (λ (z : List ℕ). field_encoding x.0 x.1 ++ z) (records_encoding-append xs ys) ∙ sym (append_assoc (field_encoding x.0 x.1) (records_encoding xs) (records_encoding ys))
 
--- the text of records and of more records
+-- the encoding of records and of more records
 pub both_records : (a b : List ℕ) (xs ys : List (ℕ × Datum)) → a ≡ records_encoding xs → b ≡ records_encoding ys → a ++ b ≡ records_encoding (xs ++ ys)
 both_records a b xs ys h k = (λ i. h i ++ k i) ∙ sym (records_encoding-append xs ys)
 
@@ -160,7 +160,7 @@ length_number n (negsuc k) h f = omega (arith, length_tag n (negsuc k) h, length
 pub number_tag : (n : ℕ) → IsNumber n → n < 16 → IsTag (tag_encoding n Varint) n Varint
 number_tag n is h = (is, IsVarint-varint_encoding (8 * n + 0) (omega (arith, h)))
 
--- the text of an int32 field is merged, and then what follows it
+-- the encoding of an int32 field is merged, and then what follows it
 module _ {X : Type 0} (d : ℕ) (field : FieldReader X) (sound : IsSound d field) (same : IsSame d field) (n : ℕ) (number : IsNumber n) (small : n < 16) where
   pub number_read : (v : ℤ) (u put : X) (rest : List ℕ) → (v ≡ pos 0 → u ≡ put) → (field u n Varint (int32_encoding v ++ rest) ≡ Ok (put, rest)) → merged_by field u (number_encoding n v ++ rest) ≡ merged_by field put rest
   number_read (pos zero) u put rest h k = ap (λ z. merged_by field z rest) (h refl)

@@ -33,7 +33,7 @@ keep_same d v n w p h =
     let x = record_of_payload d n w p h in
     inl (v ++ (n, x.0) ∷ [], λ r. rw (all_slots d n w (p ++ r) p r x.0 x.1 x.2 refl) refl)
 
--- ---- the text reads back
+-- ---- the encoding reads back
 pub keep_parsed : (ys : List (ℕ × Datum)) (d : ℕ) (v : List (ℕ × Datum)) (b : List ℕ) → Parse d b (records_of ys) → keep_merged d v b ≡ Some (v ++ ys)
 keep_parsed [] d v b h = ap (keep_merged d v) h ∙ empty d (keep_field d) (keep_sound d) (keep_same d) v ∙ ap (λ z. Some z) (sym (append-nil v))
 keep_parsed (y ∷ ys) d v b (f, r, (t, p, tag, payload, is), next, all) =
@@ -45,9 +45,9 @@ keep_parsed (y ∷ ys) d v b (f, r, (t, p, tag, payload, is), next, all) =
 pub keep_back : (d : ℕ) (v : List (ℕ × Datum)) → Fits (records_of v) → height v ≤ d → keep_merged d [] (records_encoding v) ≡ Some v
 keep_back d v fits h = keep_parsed v d [] (records_encoding v) (text_parses (records_of v) d fits (subst (λ k. k ≤ d) (sym (height-records v)) h))
 
--- ---- a call that reads the field with slots of its own
+-- ---- a call that reads the field with a budget of its own
 module _ (d s n : ℕ) (w : WireType) (bs : List ℕ) where
-  -- the record is read, and its slots are spent
+  -- the record is read, and its unknown fields are spent
   pub keeps : (x : Datum) (left : ℕ) (rest : List ℕ) → field_at d s n w bs ≡ Ok (x, left, rest) → (v : List (ℕ × Datum)) →
       (keep_field d v n w bs ≡ Ok (v ++ (n, x) ∷ [], rest)) × (left + (keep_need d n w bs).unknown ≡ s) × ((keep_need d n w bs).memory ≡ 0)
   keeps x left rest h v =

@@ -73,7 +73,7 @@ module _ {K : Type 0} (p : Proxy K) (KeyFits : K → Type 0) (d n : ℕ) (bytes 
       (es fs : List (EntryRecord K ℤ)) → RunTo (p.older d n) bytes es → RunTo (p.newer d n) bytes fs → Ordered same es fs → SamePairs same (fold_entries same old fs) new
 
   -- Why the bytes weren't rewritten, where the map was left with these pairs, and is walked so: the fault that reading them into
-  -- an empty map stopped at; or they are a run, and the error of its text.
+  -- an empty map stopped at; or they are a run, and the error of its encoding.
   abbrev pub NotRewritten : (List (K × ℤ) → Type 0) → List (K × ℤ) → RewriteError → Type 0
   NotRewritten walks pairs e =
       (over : BudgetLeft) × (rest : List ℕ) × (written : List ℕ)

@@ -1,4 +1,4 @@
--- The text of a tree reads back.
+-- The encoding of a tree reads back.
 use Rattle.std.proofs.Common.{◌≡◌, inl, inr, refl, sym, ap, subst, ◌∙◌, arith, ℕ, zero, suc, ℤ, pos, negsuc, FitsSigned, ◌^◌, ◌<◌, ◌≤◌, ◌++◌, true, List, [], ◌∷◌, length, length-append, append_assoc, append-nil, Some, None, Ok}
 use Rattle.std.specs.Cmp.{int_cmp_total}
 use Rattle.std.specs.Int.{cast_unsigned, w32, w64}
@@ -45,7 +45,7 @@ put_last (e ∷ es) k t more s =
     let greater : int_cmp k e.0 ≡ Greater = int_cmp_total.antisymm k e.0 ∙ ap ordering_reverse (all_before (λ y. int_cmp e.0 y ≡ Less) es k t more s.0) in
     ap (λ r. match_ordering r ((k, t) ∷ e ∷ es) ((e.0, t) ∷ es) (e ∷ insert_entry int_cmp es k t)) greater ∙ ap (λ xs. e ∷ xs) (put_last es k t more s.1)
 
--- ---- a child's text is shorter than its entry, and that than its record
+-- ---- a child's encoding is shorter than its entry, and that than its record
 shorter : (k : ℤ) (b : List ℕ) → length (kid_entry k b) < 2 ^ 64 → length b < 2 ^ 64
 shorter k b h = omega (arith, h, length-append (tag_encoding 1 Varint ++ varint_encoding (cast_unsigned w64 k)) (tag_encoding 2 LengthDelimited ++ delimited_encoding b), length-append (tag_encoding 2 LengthDelimited) (delimited_encoding b), length-append (varint_encoding (length b)) b)
 
@@ -54,7 +54,7 @@ longer k b = omega (arith, length-append (tag_encoding 2 LengthDelimited) (delim
 
 -- ---- at a level
 module _ (d : ℕ) (m : ChildMeaning) where
-  -- a key that is an int32, and a child whose text the level below reads back, in an entry that isn't too long
+  -- a key that is an int32, and a child whose encoding the level below reads back, in an entry that isn't too long
   abbrev IsRead : ℤ → Grown → Type 0
   IsRead k t = FitsSigned w32 k × (length (kid_entry k (encoding t)) < 2 ^ 64) × (level true d ≡ Ok tt) × (merged_in (λ _. m) d (grown (pos 0) no_kids) (encoding t) ≡ Some t)
 

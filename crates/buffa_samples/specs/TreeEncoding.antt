@@ -1,4 +1,4 @@
--- The text, the records and the slots of a tree.
+-- The encoding, the records and the slots of a tree.
 use Rattle.std.specs.Prelude.{◌≡◌, ℕ, ℤ, FitsSigned, suc, max, List, [], ◌∷◌, ◌++◌, length, refl, Result}
 use Rattle.std.proofs.Common.{ap}
 use Rattle.std.specs.Int.{cast_unsigned, w32, w64}
@@ -21,7 +21,7 @@ use Rattle.buffa_samples.specs.Grown.{Grown, grown, Kids, no_kids, kid, kids, li
 abbrev pub key_writing : Writing ℤ
 key_writing = varint_writing (cast_unsigned w64)
 
--- a child's entry, where its text is given
+-- a child's entry, where its encoding is given
 abbrev pub kid_entry : ℤ → List ℕ → List ℕ
 kid_entry k t = entry_encoding key_writing (delimited_writing (λ (x : List ℕ). x)) (k, t)
 
@@ -38,7 +38,7 @@ abbrev mutual
   kids_encoding (kid k t ks) = kid_record k (encoding t) ++ kids_encoding ks
 
 abbrev mutual
-  -- for each child the capped length of its text, and then its own slots
+  -- for each child the capped length of its encoding, and then its own slots
   pub slots : Grown → List ℕ
   slots (grown l ks) = slots_below ks
 
@@ -67,7 +67,7 @@ abbrev mutual
   levels_below no_kids = 0
   levels_below (kid k t ks) = max (suc (levels t)) (levels_below ks)
 
--- the trees that their text reads back to: labels and keys are int32, and the keys ascend
+-- the trees that their encoding reads back to: labels and keys are int32, and the keys ascend
 abbrev mutual
   pub IsNormal : Grown → Type 0
   IsNormal (grown l ks) = FitsSigned w32 l × IsStrictlySortedBy int_cmp (keys_of (listed ks)) × AreNormal ks

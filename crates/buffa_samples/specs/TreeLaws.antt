@@ -129,7 +129,7 @@ pub cost_next : (d : ℕ) (f r : List ℕ) → SomeField d f → cost d (f ++ r)
 cost_next zero = costs.cost_next (tree_need zero (λ _ _. None) (λ _. nothing)) zero (tree_stays zero (λ _ _. None) (λ _. nothing))
 cost_next (suc d) = costs.cost_next (tree_need (suc d) (merged d) (cost d)) (suc d) (tree_stays (suc d) (merged d) (cost d))
 
--- ---- the text is that of records
+-- ---- the encoding is that of records
 kids_encoding_records : (ks : Kids) → kids_encoding ks ≡ records_encoding (kids_records ks)
 kids_encoding_records no_kids = refl
 kids_encoding_records (kid k t ks) = ap (λ (z : List ℕ). kid_record k (encoding t) ++ z) (kids_encoding_records ks)

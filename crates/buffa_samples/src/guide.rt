@@ -36,7 +36,7 @@ impl Inventory {
         }
     }
 
-    /// The length of the text: the tag of number 5 has one byte.
+    /// The length of the encoding: the tag of number 5 has one byte.
     ///
     /// ```ignore
     /// assert_eq!(rt; inventory.encoded_len(), 14);

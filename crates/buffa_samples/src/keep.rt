@@ -28,7 +28,8 @@ use std::marker::Model;
 
 /// No field is declared: each is kept as an unknown field, behind those that it has.
 ///
-/// A field costs a slot of the budget, and so does each field in its groups; what is refused spends nothing.
+/// A field takes one of the unknown fields left, and so does each field in its groups; what is
+/// refused spends nothing.
 ///
 /// ```ignore
 /// message.merge(alloc, bytes, DecodeContext::new(1, &mut budget))?; // of 38 96 01: keeps field 7, the varint 150
@@ -102,7 +103,7 @@ impl MessageSpec for BudgetMsg {
     ghost cost_next = { λ d f r h. cost_next (keep_need d) d (keep_stays d) f r h };
 }
 
-/// Reads the field whose tag was read, with so many slots, and says how many are left.
+/// Reads the field whose tag was read, with so many unknown fields left, and says how many are left then.
 ///
 /// # Errors
 /// Those of [`decode_unknown_field`].

@@ -41,7 +41,7 @@ pub fn trees_stay_normal()
     ensures blank { IsNormal ⟦<Tree as Blank>⟧.blank_is }
 {}
 
-/// Which message each sample is: what bytes make of it, what they cost, and its text. Nothing is open.
+/// Which message each sample is: what bytes make of it, what they cost, and its encoding. Nothing is open.
 pub fn messages_are_these()
     ensures flat { (⟦<FlatMsg as MessageSpec>⟧.merged ≡ flat_merged) × (⟦<FlatMsg as MessageSpec>⟧.cost ≡ flat_cost) }
     ensures flat_encoding { ⟦<FlatMsg as MessageSpec>⟧.encoding ≡ value_encoding }
@@ -89,7 +89,7 @@ pub fn kept_fields_are_held(message: &BudgetMsg) -> &UnknownFields
     &message.fields
 }
 
-/// Which values of each sample are read back from their text, and how deep it nests. Nothing is open.
+/// Which values of each sample are read back from their encoding, and how deep it nests. Nothing is open.
 pub fn messages_are_read_back()
     ensures flat { (v : ℤ) → ⟦<FlatMsg as MessageSpec>⟧.normal v ↔ FitsSigned w32 v }
     ensures two { (v : ℤ × ℤ) → ⟦<TestMsg as MessageSpec>⟧.normal v ↔ (FitsSigned w32 v.0 × FitsSigned w32 v.1) }
@@ -154,7 +154,7 @@ pub fn ways_are_these<
 
 /// A map field is passed on in one way only: the same entries are kept; where the run is ordered, or one walk was written,
 /// the map has the same pairs; and what was passed on can't have been refused, memory aside. Open is where memory runs
-/// out; and what a reading makes of another walk's text, and whether the budget lasts for it.
+/// out; and what a reading makes of another walk's encoding, and whether the budget lasts for it.
 pub fn passes_are_pinned<
     KC: MapCodec,
     E: Enumeration,

@@ -141,7 +141,7 @@ impl Message for Tree {
     }
 }
 
-/// The size pass: the length of the text, and the slots of the children appended.
+/// The size pass: the length of the encoding, and the slots of the children appended.
 ///
 /// # Errors
 /// Those of [`Message::compute_size`]; never for a tree with no children.
@@ -193,7 +193,7 @@ where
     )
 }
 
-/// The write pass: the text, and the slots of the children consumed.
+/// The write pass: the encoding, and the slots of the children consumed.
 ///
 /// ```ignore
 /// let answer = write_tree(child, cache, sink);

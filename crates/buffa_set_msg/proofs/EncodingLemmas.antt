@@ -16,14 +16,14 @@ use Rattle.buffa_set_msg.specs.Set.{is_type_id, record_encoding, set_encoding}
 pub type_id_small : (n : ℕ) → is_type_id n ≡ true → n < 2 ^ 31
 type_id_small n e = let h = and_true (nat_lt 0 n) (nat_lt n (2 ^ 31)) e in ltb-true n (2 ^ 31) h.1
 
--- the text of an Item under a type id, of a message in memory, is no longer than can be told
+-- the encoding of an Item under a type id, of a message in memory, is no longer than can be told
 pub item_fits : (n len : ℕ) → is_type_id n ≡ true → len < 2 ^ 63 → item_size n len < 2 ^ 64
 item_fits n len h k =
     let small = type_id_small n h in
     omega (arith, ten_at_most n (omega (arith, small)), ten_at_most len (omega (arith, k)), k)
 
 -- ---- records
--- the text of one more record
+-- the encoding of one more record
 pub set_more : (xs : List UnknownField) (i : ℕ) (f d : UnknownField) → i < length xs → f ≡ get_or xs i d
     → set_encoding (records_in (take (i + 1) xs)) ≡ set_encoding (records_in (take i xs)) ++ record_encoding f.number (datum_of f.payload)
 set_more [] i f d h e = absurd (omega arith)
@@ -37,7 +37,7 @@ pub set_step : (old now new : List ℕ) (xs : List UnknownField) (i : ℕ) (f d 
 set_step old now new xs i f d p q h e =
     p ∙ ap (λ z. z ++ record_encoding f.number (datum_of f.payload)) q ∙ append_assoc old (set_encoding (records_in (take i xs))) (record_encoding f.number (datum_of f.payload)) ∙ ap (λ z. old ++ z) (sym (set_more xs i f d h e))
 
--- the length of one more record's text, where lengths stop at 2^64 - 1
+-- the length of one more record's encoding, where lengths stop at 2^64 - 1
 pub set_len_more : (xs : List UnknownField) (i : ℕ) (f d : UnknownField) (total n next : ℕ) → i < length xs → f ≡ get_or xs i d → total ≡ min (length (set_encoding (records_in (take i xs)))) 18446744073709551615
     → n ≡ min (length (record_encoding f.number (datum_of f.payload))) 18446744073709551615 → next ≡ min (total + n) 18446744073709551615 → next ≡ min (length (set_encoding (records_in (take (i + 1) xs)))) 18446744073709551615
 set_len_more xs i f d total n next h e p q r = omega (arith, ap length (set_more xs i f d h e), length-append (set_encoding (records_in (take i xs))) (record_encoding f.number (datum_of f.payload)))
@@ -50,7 +50,7 @@ records_in-append : (xs ys : List UnknownField) → records_in (xs ++ ys) ≡ re
 records_in-append [] ys = refl
 records_in-append (x ∷ xs) ys = ap (λ z. record_of x ∷ z) (records_in-append xs ys)
 
--- the text of all records: of those before, of one, and of those after
+-- the encoding of all records: of those before, of one, and of those after
 set_parts : (xs : List UnknownField) (i : ℕ) (f d : UnknownField) → i < length xs → f ≡ get_or xs i d →
     set_encoding (records_in xs) ≡ set_encoding (records_in (take i xs)) ++ (record_encoding f.number (datum_of f.payload) ++ set_encoding (records_in (drop (i + 1) xs)))
 set_parts xs i f d h e =
@@ -68,7 +68,7 @@ set_refused old mid new all xs i f d whole m h e w =
     let rest = set_encoding (records_in (drop (i + 1) xs)) in
     subst (λ z. WritesFront old z new) (sym (set_parts xs i f d h e) ∙ ap set_encoding whole) (front_second old (set_encoding (records_in (take i xs))) (text ++ rest) mid new m (front_first mid text rest new w))
 
--- the lengths of these texts
+-- the lengths of these encodings
 pub length-set_more : (xs : List UnknownField) (i : ℕ) (f d : UnknownField) → i < length xs → f ≡ get_or xs i d →
     length (set_encoding (records_in (take (i + 1) xs))) ≡ length (set_encoding (records_in (take i xs))) + length (record_encoding f.number (datum_of f.payload))
 length-set_more xs i f d h e = ap length (set_more xs i f d h e) ∙ length-append (set_encoding (records_in (take i xs))) (record_encoding f.number (datum_of f.payload))

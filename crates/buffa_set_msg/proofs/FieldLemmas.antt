@@ -1,4 +1,4 @@
--- One field of a MessageSet, as a call reads it with slots of its own.
+-- One field of a MessageSet, as a call reads it with a budget of its own.
 use Rattle.std.proofs.Common.{◌≡◌, ◌≢◌, ◌⊎◌, inl, inr, ℕ, zero, suc, ◌+◌, ◌-◌, ◌==◌, Bool, true, false, List, [], ◌∷◌, ◌++◌, Result, Ok, Err, refl, sym, ap, subst, ◌∙◌, arith}
 use Rattle.std.proofs.lemmas.Bool.{eqb-false, eqb-true}
 use Rattle.buffa_bytes.proofs.StepLemmas.{agree_err}
@@ -27,7 +27,7 @@ start_no_end n w e is = let both = both_true n 1 StartGroup w e in let k = both.
 
 -- ---- what it means for the records that there are
 
--- r is put behind the others, and of s slots left are left
+-- r is put behind the others, and of s unknown fields left are left
 abbrev Takes : ℕ → ℕ → ℕ → WireType → List ℕ → ℕ × Datum → ℕ → List ℕ → List (ℕ × Datum) → Type 0
 Takes d s n w bs r left rest v =
     (set_field d v n w bs ≡ Ok (v ++ r ∷ [], rest)) × (left + (set_need d n w bs).unknown ≡ s) × ((set_need d n w bs).memory ≡ 0)

@@ -38,7 +38,7 @@ set_field d v n w bs = if starts n w then item_field d v bs else keep_field d v 
 abbrev pub set_merged : ℕ → List (ℕ × Datum) → List ℕ → Option (List (ℕ × Datum))
 set_merged d v bs = merged_by (set_field d) v bs
 
--- an Item costs a slot, a malformed one too; any other field costs what keeping it does
+-- an Item costs an unknown field, a malformed one too; any other field costs what keeping it does
 abbrev pub set_need : ℕ → FieldNeed
 set_need d n w bs = if starts n w then slots 1 else keep_need d n w bs
 
@@ -90,7 +90,8 @@ NestOneDeep = (v : List (ℕ × Datum)) → AreItems v → ((v ≡ []) × (set_l
 
 -- ---- calls
 
--- the record of the field whose tag was read, where so many slots are left; how many are left then; and what follows it
+-- the record of the field whose tag was read, where so many unknown fields are left; how many are left then; and what
+-- follows it
 abbrev pub item_of : ℕ → ℕ → List ℕ → Result ((ℕ × Datum) × ℕ × List ℕ) DecodeError
 item_of zero s bs = Err RecursionLimitExceeded
 item_of (suc d) s bs = item_in d s bs >>= (λ x. Ok ((x.0, bytes x.1), s - 1, x.2))
@@ -99,7 +100,7 @@ abbrev pub record_of_field : ℕ → ℕ → ℕ → WireType → List ℕ → R
 record_of_field d s n w bs = if starts n w then item_of d s bs else (field_at d s n w bs >>= (λ x. Ok ((n, x.0), x.1, x.2)))
 
 -- why the field whose tag was read isn't merged into v: its cost isn't left; or it means nothing, and no limit is told;
--- and what is told is the fault of reading its record with the slots that are left
+-- and what is told is the fault of reading its record with the unknown fields that are left
 abbrev pub IsRefused : ℕ → List (ℕ × Datum) → ℕ → WireType → List ℕ → BudgetLeft → DecodeError → Type 0
 IsRefused d v n w bs left e =
     MergeFault (value_of (set_field d v n w bs)) (set_need d n w bs) left e × (record_of_field d left.unknown n w bs ≡ Err e)

@@ -9,7 +9,7 @@ use crate::set_msg::SetMsg;
 use buffa_ext::ExtensionSet;
 use buffa_wire::{Blank, MessageSpec};
 
-/// What bytes make of a MessageSet, what they cost, its text, and what it means. Nothing is open.
+/// What bytes make of a MessageSet, what they cost, its encoding, and what it means. Nothing is open.
 pub fn sets_are_these()
     ensures merged { ⟦<SetMsg as MessageSpec>⟧.merged ≡ set_merged }
     ensures cost { ⟦<SetMsg as MessageSpec>⟧.cost ≡ set_cost }
@@ -34,7 +34,8 @@ pub fn set_name_is_this() -> &'static str
     SetMsg::PROTO_FQN
 }
 
-/// Which MessageSets are read back from their text: those of Items alone. They nest one level deep, if any is there.
+/// Which MessageSets are read back from their encoding: those of Items alone. They nest one level deep, if
+/// any is there.
 pub fn sets_are_read_back()
     ensures normal { (v : List (ℕ × Datum)) → ⟦<SetMsg as MessageSpec>⟧.normal v ↔ AreItems v }
     ensures levels { ⟦<SetMsg as MessageSpec>⟧.levels ≡ set_levels }

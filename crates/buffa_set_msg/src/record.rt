@@ -36,8 +36,9 @@ fn is_type_id(number: u32) -> bool
     0 < number && number < 2_147_483_648
 }
 
-// Reads the field whose tag was read, with so many slots, and says how many are left. An Item, a level deeper, is the
-// record of its type id that holds its message; any other field is kept as it is.
+// Reads the field whose tag was read, with so many unknown fields left, and says how many are left then. An
+// Item, a level deeper, is the record of its type id that holds its message; any other field is kept as it
+// is.
 pub(crate) fn read_record(
     alloc: Global,
     tag: Tag,
@@ -84,7 +85,7 @@ fn number_len(n: u64) -> u64
     varint_len(n) as u64
 }
 
-// The length of a field's text, or 2^64 - 1 where it is longer.
+// The length of a field's encoding, or 2^64 - 1 where it is longer.
 fn field_len(number: u32, payload: &UnknownFieldData) -> u64
     ensures { result ≡ min (length (field_encoding number (datum_of payload.now))) 18446744073709551615 }
 {
@@ -111,7 +112,7 @@ fn payload_len(number: u32, payload: &UnknownFieldData) -> u64
     }
 }
 
-// The length of a record's text, or 2^64 - 1 where it is longer.
+// The length of a record's encoding, or 2^64 - 1 where it is longer.
 pub(crate) fn record_len(field: &UnknownField) -> u64
     ensures { result ≡ min (length (record_encoding field.now.number (datum_of field.now.payload)))
         18446744073709551615 }

@@ -25,7 +25,8 @@ use std::alloc::Global;
 /// A MessageSet: each Item is kept as the bytes of its message under its type id, where an extension of that number
 /// finds it; every other field is kept as it is.
 ///
-/// An Item costs a slot of the budget, any other field a slot for itself and for each field in its groups.
+/// An Item takes one of the unknown fields left, any other field one for itself and for each field in its
+/// groups.
 ///
 /// ```ignore
 /// set.merge_from_slice(alloc, &[0x0B, 0x10, 0x05, 0x1A, 0x01, 0x78, 0x0C])?;
@@ -115,7 +116,7 @@ impl MessageSpec for SetMsg {
     ghost cost_next = { set_cost_next };
 }
 
-// The length of the text, or 2^64 - 1 where it is longer.
+// The length of the encoding, or 2^64 - 1 where it is longer.
 fn set_len(fields: &UnknownFields) -> u64
     ensures { result ≡ min (length (set_encoding fields.now.records)) 18446744073709551615 }
 {
@@ -126,7 +127,7 @@ fn set_len(fields: &UnknownFields) -> u64
     total
 }
 
-// Writes the text.
+// Writes the encoding.
 fn write_set<S: EncodeSink>(fields: &UnknownFields, sink: &mut S) -> Result<(), EncodeError>
     ensures writes { Writes result (S.written sink.old) (set_encoding fields.now.records) (S.written sink.new) }
     ensures room { UsesRoom result (S.room sink.old) (set_encoding fields.now.records) (S.room sink.new) }

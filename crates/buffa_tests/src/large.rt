@@ -1,4 +1,4 @@
-//! Groups whose records are more than a budget has slots, which no bytes are read as.
+//! Groups whose records are more than a budget has unknown fields left, which no bytes are read as.
 
 use buffa::extension::codecs::{GroupCodec, Repeated};
 use buffa::extension::{Extension, ExtensionSet};

@@ -1,4 +1,4 @@
--- The text of records, one after another.
+-- The encoding of records, one after another.
 use Rattle.std.proofs.Common.{◌≡◌, ℕ, suc, zero, ◌+◌, ◌*◌, ◌<◌, ◌≤◌, ◌^◌, min, List, [], ◌∷◌, ◌++◌, length, take, drop, get_or, refl, sym, ap, subst, ◌∙◌, arith, append_assoc, append-nil, length-append}
 use Rattle.std.proofs.lemmas.List.{take-append-drop}
 use Rattle.buffa_bytes.specs.Varint.{varint_encoding}
@@ -19,7 +19,7 @@ use Rattle.buffa_wire.specs.declared.unknown_fields.UnknownField.{UnknownField}
 pub ten_at_most : (n : ℕ) → n < 2 ^ 64 → length (varint_encoding n) ≤ 10
 ten_at_most = length-varint_encoding
 
--- the text of one more field
+-- the encoding of one more field
 pub W_more : (xs : List UnknownField) (i : ℕ) (f d : UnknownField) → i < length xs → f ≡ get_or xs i d
     → records_encoding (records_in (take (i + 1) xs)) ≡ records_encoding (records_in (take i xs)) ++ field_encoding f.number (datum_of f.payload)
 W_more [] i f d h e = absurd (omega arith)
@@ -33,7 +33,7 @@ pub W_step : (old now new : List ℕ) (xs : List UnknownField) (i : ℕ) (f d : 
 W_step old now new xs i f d p q h e =
     p ∙ ap (λ z. z ++ field_encoding f.number (datum_of f.payload)) q ∙ append_assoc old (records_encoding (records_in (take i xs))) (field_encoding f.number (datum_of f.payload)) ∙ ap (λ z. old ++ z) (sym (W_more xs i f d h e))
 
--- the length of one more field's text, where lengths stop at 2^64 - 1
+-- the length of one more field's encoding, where lengths stop at 2^64 - 1
 pub len_more : (xs : List UnknownField) (i : ℕ) (f d : UnknownField) (total n next : ℕ) → i < length xs → f ≡ get_or xs i d → total ≡ min (length (records_encoding (records_in (take i xs)))) 18446744073709551615
     → n ≡ min (length (field_encoding f.number (datum_of f.payload))) 18446744073709551615 → next ≡ min (total + n) 18446744073709551615 → next ≡ min (length (records_encoding (records_in (take (i + 1) xs)))) 18446744073709551615
 len_more xs i f d total n next h e p q r = omega (arith, ap length (W_more xs i f d h e), length-append (records_encoding (records_in (take i xs))) (field_encoding f.number (datum_of f.payload)))
@@ -46,7 +46,7 @@ records_in-append : (xs ys : List UnknownField) → records_in (xs ++ ys) ≡ re
 records_in-append [] ys = refl
 records_in-append (x ∷ xs) ys = ap (λ z. record_of x ∷ z) (records_in-append xs ys)
 
--- the text of all fields: of those before, of one, and of those after
+-- the encoding of all fields: of those before, of one, and of those after
 records_encoding-parts : (xs : List UnknownField) (i : ℕ) (f d : UnknownField) → i < length xs → f ≡ get_or xs i d →
     records_encoding (records_in xs) ≡ records_encoding (records_in (take i xs)) ++ (field_encoding f.number (datum_of f.payload) ++ records_encoding (records_in (drop (i + 1) xs)))
 records_encoding-parts xs i f d h e =
@@ -71,7 +71,7 @@ tag_refused is same n k w v rest old new e f h =
     let t : varint_encoding n ≡ tag_encoding k v = ap varint_encoding (e ∙ ap (λ x. 8 * k + wire_number x) f) in
     exits_first is same old (tag_encoding k v) rest new (h.0, subst (λ z. WritesFront old z new) t h.1)
 
--- the lengths of these texts
+-- the lengths of these encodings
 pub length-W_more : (xs : List UnknownField) (i : ℕ) (f d : UnknownField) → i < length xs → f ≡ get_or xs i d →
     length (records_encoding (records_in (take (i + 1) xs))) ≡ length (records_encoding (records_in (take i xs))) + length (field_encoding f.number (datum_of f.payload))
 length-W_more xs i f d h e = ap length (W_more xs i f d h e) ∙ length-append (records_encoding (records_in (take i xs))) (field_encoding f.number (datum_of f.payload))

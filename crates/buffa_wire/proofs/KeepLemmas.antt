@@ -1,4 +1,5 @@
--- A field whose payload is one of the grammar is kept as one record, for as many slots as it has fields.
+-- A field whose payload is one of the grammar is kept as one record, and of the unknown fields left as many are spent
+-- as it has fields.
 use Rattle.std.proofs.Common.{◌≡◌, ◌⊎◌, inl, inr, ℕ, zero, suc, ◌+◌, ◌-◌, ◌<◌, ◌≤◌, List, [], ◌++◌, length, Ok, refl, ap, sym, subst, ◌∙◌, arith, append-nil, length-append}
 use Rattle.std.specs.Int.{from_le_bytes, w32, w64}
 use Rattle.buffa_bytes.proofs.FieldLemmas.{tag_some}
@@ -61,7 +62,7 @@ mutual
   inside_short (bytes v) d n p h = omega arith
   inside_short (group rs) d n p (o, b, t, h, tag, is) = omega (arith, records_short rs (d - 1) b h, ap length is, length-append b t)
 
--- ---- a limit is told only where the slots are fewer than the bytes
+-- ---- a limit is told only where no more unknown fields are left than there are bytes
 as_no_limit : (e f : DecodeError) → e ≡ f → NoLimit f → NoLimit e
 as_no_limit e f h k = subst (λ z. NoLimit z) (sym h) k
 
@@ -98,7 +99,7 @@ pub field_short : (d s n : ℕ) (w : WireType) (bs : List ℕ) (e : DecodeError)
 field_short d s n w bs e h l = in_field (GroupFault d) (group_short d) s n w bs e h l
 
 -- ---- one field
--- a field whose record is x is read with any slots that suffice
+-- a field whose record is x is read where enough unknown fields are left
 pub enough_slots : (d s n : ℕ) (w : WireType) (bs p rest : List ℕ) (x : Datum) → IsPayload d n x p → wire_of x ≡ w → bs ≡ p ++ rest → 1 + fields_inside x ≤ s → field_at d s n w bs ≡ Ok (x, s - (1 + fields_inside x), rest)
 enough_slots d s n w bs p rest x payload same is h = field_taken d s n w bs x (s - (1 + fields_inside x)) rest (p, payload, same, omega (arith, h), is)
 

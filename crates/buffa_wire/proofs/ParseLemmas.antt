@@ -1,4 +1,4 @@
--- Records and their texts: a text has one reading, and what is written is read.
+-- Records and their encodings: an encoding has one reading, and what is written is read.
 use Rattle.std.proofs.Common.{◌≡◌, ℕ, zero, suc, ◌+◌, ◌-◌, ◌*◌, ◌/◌, ◌%◌, ◌<◌, ◌≤◌, ◌^◌, List, [], ◌∷◌, ◌++◌, length, refl, sym, ap, ◌∙◌, arith, append_assoc, length-append, inl, inr}
 use Rattle.std.specs.Int.{from_le_bytes, w32, w64}
 use Rattle.std.proofs.lemmas.Nat.{from_le_bytes-to_le_bytes_4, from_le_bytes-to_le_bytes_8}
@@ -30,7 +30,7 @@ mutual
   payload-deeper (bytes v) c d n p h a = a
   payload-deeper (group rs) c d n p h (o, b, t, q, tag, is) = (omega arith, b, t, Parse-deeper rs (c - 1) (d - 1) b (omega arith) q, tag, is)
 
--- ---- the text of records is theirs
+-- ---- the encoding of records is theirs
 tag_value : (n : ℕ) (w : WireType) → IsNumber n → 8 * n + wire_number w < 2 ^ 64
 tag_value n wire.Varint h = omega (arith, h.1)
 tag_value n wire.Fixed64 h = omega (arith, h.1)
@@ -55,7 +55,7 @@ mutual
   payload_parses (bytes v) d n i h k = (varint_encoding (length v), IsVarint-varint_encoding (length v) h, refl)
   payload_parses (group rs) d n i h k = (omega arith, fields_encoding rs, tag_encoding n wire.EndGroup, text_parses rs (d - 1) h (omega arith), is_tag n wire.EndGroup i, refl)
 
--- ---- a text has one reading
+-- ---- an encoding has one reading
 -- p spells n, in any number of bytes
 record Spells (p : List ℕ) (n : ℕ) : Type 0 where
   front : List ℕ

@@ -66,7 +66,7 @@ module _ (P Q R : Type 0) (t u s z : List ℕ) (c0 c1 c2 : Cache) (b0 b1 b2 : Li
       let e : (c0.next + length s) + length z ≡ c0.next + length (s ++ z) = omega (arith, length-append s z) in
       p ∙ ap (advanced (length z)) q ∙ (λ i. record { slots = c0.slots; next = e i })
 
-  -- one text after another
+  -- one encoding after another
   pub written_then : (R → P × Q) → (r : Result (Unit {0}) EncodeError) → WritesIf P t s c0 b0 done c1 b1 → WritesIf Q u z c1 b1 r c2 b2 → WritesIf R (t ++ u) (s ++ z) c0 b0 r c2 b2
   written_then f (Ok _) (xs, p, q) (ys, v, w) = (
     xs ++ ys,
@@ -92,7 +92,7 @@ module _ (P Q R : Type 0) (t u s z : List ℕ) (c0 c1 c2 : Cache) (b0 b1 b2 : Li
     ),
   )
 
-  -- a text that was cut short
+  -- an encoding that was cut short
   pub written_short : (R → P) → (e : EncodeError) → WritesIf P t s c0 b0 (refused e) c1 b1 → WritesIf R (t ++ u) (s ++ z) c0 b0 (refused e) c1 b1
   written_short f e (xs, p, q) = (
     xs,
@@ -113,12 +113,12 @@ pub written_err : (P : Type 0) (t s : List ℕ) (c0 c1 : Cache) (b0 b1 : List �
     WritesIf P t s c0 b0 (refused e) c1 b1 → WritesIf P t s c0 b0 r c1 b1
 written_err P t s c0 c1 b0 b1 r e f p q h = subst (λ r. WritesIf P t s c0 b0 r c1 b1) (sym (p ∙ ap (λ x. Err x) q)) h
 
--- a text that needs no slot
+-- an encoding that needs no slot
 pub written_put : (P : Type 0) (t : List ℕ) (c : Cache) (b0 b1 : List ℕ) (r : Result (Unit {0}) EncodeError) → Writes r b0 t b1 → WritesIf P t [] c b0 r c b1
 written_put P t c b0 b1 (Ok _) h = (t, h, (stays c, λ _. refl))
 written_put P t c b0 b1 (Err e) (is, (front, rest, split, h, more)) = (front, h, (is, λ _. (rest, split, more), consumes_none [] c))
 
--- a text that is another one where the premise holds, behind a slot that was consumed
+-- an encoding that is another one where the premise holds, behind a slot that was consumed
 module _ (P Q : Type 0) (t u s : List ℕ) (slot : ℕ) (c0 c1 c2 : Cache) (b0 b1 : List ℕ) where
   pub written_same : (Q → P) → (Q → t ≡ u) → (r : Result (Unit {0}) EncodeError) → WritesIf P t s c0 b0 r c1 b1 → WritesIf Q u s c0 b0 r c1 b1
   written_same f g (Ok _) (xs, p, q) = (xs, p, (q.0, λ h. q.1 (f h) ∙ g h))

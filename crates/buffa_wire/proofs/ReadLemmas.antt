@@ -96,7 +96,7 @@ one_more bs t p after mid b rest e f g = e ∙ ap (λ z. t ++ z) (f ∙ ap (λ z
 parted : (b f rest t p x : List ℕ) → b ≡ f ++ rest → f ≡ t ++ p → b ++ x ≡ t ++ (p ++ (rest ++ x))
 parted b f rest t p x e h = rw (e, h) (simp append_assoc)
 
--- a payload, with the slots that are left
+-- a payload, with the unknown fields that are left
 abbrev with_left : ℕ → Result (Datum × List ℕ) DecodeError → Result (Datum × ℕ × List ℕ) DecodeError
 with_left s r = r >>= (λ v. Ok (v.0, s, v.1))
 

@@ -48,13 +48,13 @@ text_three n a b c h k e f g =
     let third : c ≡ n / 128 / 128 = omega arith in
     rw e (ap (λ t. (n % 128 + 128) ∷ t) (text_two (n / 128) b c (omega arith) (omega arith) f third) ∙ sym (varint_encoding-more n large))
 
--- a text that is written, by another name
+-- an encoding that is written, by another name
 pub writes_same : {T : Type 0} (r : Result T EncodeError) (old text same new : List ℕ) → text ≡ same → Writes r old text new → Writes r old same new
 writes_same r old text same new e w = subst (λ t. Writes r old t new) e w
 
 pub room_same : {T : Type 0} (r : Result T EncodeError) (room left : ℕ) (text same : List ℕ) → text ≡ same → UsesRoom r room text left → UsesRoom r room same left
 room_same r room left text same e w = subst (λ t. UsesRoom r room t left) e w
 
--- a text behind a number below 128
+-- an encoding behind a number below 128
 pub text_behind : (m n : ℕ) (text : List ℕ) → m < 128 → text ≡ varint_encoding n → m ∷ text ≡ varint_encoding m ++ varint_encoding n
 text_behind m n text h e = rw (varint_encoding-last m h) (ap (λ z. m ∷ z) e)

@@ -1,4 +1,4 @@
--- Slots that were spent, and when memory is asked for.
+-- Unknown fields left that were spent, and when memory is asked for.
 use Rattle.std.proofs.Common.{◌≡◌, ◌≢◌, ◌⊎◌, inl, inr, ℕ, zero, suc, true, false, ◌+◌, ◌-◌, ◌<◌, List, [], length, Result, Ok, Err, refl, sym, ap, subst, ◌∙◌, arith}
 use Rattle.std.specs.Prelude.{IsOk}
 use Rattle.buffa_bytes.specs.declared.wire_type.WireType.{WireType}
@@ -11,14 +11,14 @@ use Rattle.buffa_bytes.specs.Unread.{IsTailOf, bytes_read}
 use Rattle.buffa_bytes.proofs.TailLemmas.{tail_shorter}
 use Rattle.buffa_wire.specs.BudgetLeft.{UnknownsSpent}
 
--- ---- slots
+-- ---- unknown fields left
 pub none_spent : (n s t : ℕ) → t ≡ s → UnknownsSpent n s t
 none_spent n s t e = (omega arith, omega arith)
 
 pub one_spent : (n s mid : ℕ) → mid + 1 ≡ s → UnknownsSpent (1 + n) s mid
 one_spent n s mid e = (omega arith, omega arith)
 
--- one slot for a field, and what its group spends
+-- one of the unknown fields left for a field, and what its group spends
 pub field_spent : (n s mid after : ℕ) → mid + 1 ≡ s → UnknownsSpent n mid after → UnknownsSpent (1 + n) s after
 field_spent n s mid after e h = (omega (arith, h.0), omega (arith, h.1))
 
@@ -54,7 +54,7 @@ plain_takes G s k wire.LengthDelimited bs o h = h
 plain_takes G s k wire.StartGroup bs o h = absurd (o refl)
 plain_takes G s k _ bs o h = absurd h
 
--- a field whose slot was spent
+-- a field for which one of the unknown fields left was spent
 pub takes_plain : (d s left : ℕ) (w : WireType) (bs : List ℕ) → left + 1 ≡ s → w ≢ wire.StartGroup → PayloadTakesMemory (λ s bs. ⊥) 0 w bs → TakesMemory d s w bs
 takes_plain d s left w bs e o h = (omega arith, plain_takes (GroupTakesMemory d) (s - 1) 0 w bs o h)
 
@@ -63,7 +63,7 @@ takes_group d s left w bs e o h =
     let k : left ≡ s - 1 = omega arith in
     (omega arith, rw o (subst (λ z. GroupTakesMemory d z bs) k h))
 
--- nothing of all was read and no slot was spent, or all takes memory
+-- nothing of all was read and none of the unknown fields left was spent, or all takes memory
 abbrev pub IsBegun : ℕ → ℕ → List ℕ → ℕ → List ℕ → Type 0
 IsBegun d s all left now = ((now ≡ all) × (left ≡ s)) ⊎ ListTakesMemory d s all
 

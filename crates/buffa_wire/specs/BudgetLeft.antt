@@ -3,20 +3,20 @@ use Rattle.std.specs.Prelude.{◌≡◌, ℕ, ◌+◌, ◌-◌, ◌<◌, ◌≤�
 use denote.Ref.{MutBor}
 use Rattle.buffa_bytes.specs.declared.error.DecodeError.{DecodeError}
 
--- slots for unknown fields, and units of element memory
+-- unknown fields left, and units of element memory left
 pub record BudgetLeft : Type 0 where
   pub unknown : ℕ
   pub memory : ℕ
 
--- no slot and no unit
+-- no unknown field and no unit
 abbrev pub nothing : BudgetLeft
 nothing = record { unknown = 0; memory = 0 }
 
--- no slot, and so many units
+-- no unknown field, and so many units
 abbrev pub units : ℕ → BudgetLeft
 units n = record { unknown = 0; memory = n }
 
--- so many slots, and no unit
+-- so many unknown fields, and no unit
 abbrev pub slots : ℕ → BudgetLeft
 slots n = record { unknown = n; memory = 0 }
 
@@ -43,11 +43,11 @@ PaysAtMost left need over =
     (over.unknown ≤ left.unknown) × (left.unknown ≤ over.unknown + need.unknown)
     × (over.memory ≤ left.memory) × (left.memory ≤ over.memory + need.memory)
 
--- of before slots, at most n were spent, and after are left
+-- of before unknown fields left, at most n were spent, and after are left
 abbrev pub UnknownsSpent : ℕ → ℕ → ℕ → Type 0
 UnknownsSpent n before after = (after ≤ before) × (before ≤ after + n)
 
--- one slot was taken, where one was there
+-- one of the unknown fields left was taken, where one was there
 abbrev pub UnknownTaken : ℕ → ℕ → Type 0
 UnknownTaken before after = after ≡ before - 1
 

@@ -1,4 +1,4 @@
--- The text of records: for each the shortest tag, and its payload with the shortest length.
+-- The encoding of records: for each the shortest tag, and its payload with the shortest length.
 -- Source: the protobuf encoding guide, "Message Structure" and "Groups".
 use Rattle.std.specs.Prelude.{ℕ, List, [], ◌++◌}
 use Rattle.std.specs.Int.{to_le_bytes, w32, w64}
@@ -29,10 +29,10 @@ abbrev mutual
   fields_encoding no_records = []
   fields_encoding (one n x rs) = (tag_encoding n (wire_of x) ++ payload_encoding n x) ++ fields_encoding rs
 
--- the text of a record
+-- the encoding of a record
 abbrev pub field_encoding : ℕ → Datum → List ℕ
 field_encoding n x = tag_encoding n (wire_of x) ++ payload_encoding n x
 
--- the joined text of the records
+-- the joined encodings of the records
 abbrev pub records_encoding : List (ℕ × Datum) → List ℕ
 records_encoding rs = fields_encoding (records_of rs)

@@ -7,15 +7,17 @@ use Rattle.buffa_wire.specs.ByField.{FieldNeed}
 use Rattle.buffa_wire.specs.RecordReading.{field_at}
 use Rattle.buffa_wire.specs.Records.{Datum}
 
--- the record of a field whose tag was read, where slots are there for all: each record has a byte at least
+-- the record of a field whose tag was read, where enough unknown fields are left for all: each record has a byte at
+-- least
 abbrev pub record_at : ℕ → ℕ → WireType → List ℕ → Result (Datum × ℕ × List ℕ) DecodeError
 record_at d n w bs = field_at d (suc (length bs)) n w bs
 
--- the slots that so many steps left were spent of those that were there for all
+-- of so many unknown fields left, those that reading spent; all of them where it had a fault
 abbrev pub spent_of : ℕ → Result (Datum × ℕ × List ℕ) DecodeError → BudgetLeft
 spent_of all (Ok x) = slots (all - x.1)
 spent_of all (Err e) = slots all
 
--- a field costs a slot for itself and for each field in its groups; what is no field one for each byte, and one
+-- a field costs one of the unknown fields left for itself and one for each field in its groups; what is no field one
+-- for each byte, and one
 abbrev pub keep_need : ℕ → FieldNeed
 keep_need d n w bs = spent_of (suc (length bs)) (record_at d n w bs)

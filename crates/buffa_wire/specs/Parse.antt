@@ -36,7 +36,7 @@ abbrev mutual
 abbrev pub IsField : ℕ → ℕ → Datum → List ℕ → Type 0
 IsField d n x f = FieldOf (IsPayload d n x) n (wire_of x) f
 
--- records whose text is read back: numbers that a field may have, data in range, no length of 2^64 or more
+-- records whose encoding is read back: numbers that a field may have, data in range, no length of 2^64 or more
 abbrev mutual
   pub Fits : Records → Type 0
   Fits no_records = Unit {0}
@@ -62,7 +62,7 @@ abbrev mutual
   DatumInRange (bytes v) = Unit {0}
   DatumInRange (group rs) = InRange rs
 
--- one slot for each record, nested ones too
+-- what records take of the unknown fields left: one for each record, nested ones too
 abbrev mutual
   pub slots : Records → ℕ
   slots no_records = 0
@@ -75,16 +75,17 @@ abbrev mutual
   fields_inside (bytes v) = 0
   fields_inside (group rs) = slots rs
 
--- a payload that holds x begins old, new is what follows it, and of s slots one is spent for the field, and one
--- for each record inside
+-- a payload that holds x begins old, new is what follows it, and of s unknown fields left one is spent for the field,
+-- and one for each record inside
 abbrev pub TakesField : ℕ → ℕ → ℕ → WireType → List ℕ → Datum → ℕ → List ℕ → Type 0
 TakesField d s n w old x left new = (p : List ℕ) × IsPayload d n x p × (wire_of x ≡ w) × (1 + fields_inside x + left ≡ s) × (old ≡ p ++ new)
 
--- fields that are the records rs begin old, new is what follows them, and of s slots one is spent for each record
+-- fields that are the records rs begin old, new is what follows them, and of s unknown fields left one is spent for
+-- each record, nested ones too
 abbrev pub TakesRecords : ℕ → ℕ → List ℕ → Records → ℕ → List ℕ → Type 0
 TakesRecords d s old rs left new = (b : List ℕ) × Parse d b rs × (slots rs + left ≡ s) × (old ≡ b ++ new)
 
--- Why no field is read after a tag of number n and wire type w, in this order: an end tag, no slot left, the
+-- Why no field is read after a tag of number n and wire type w, in this order: an end tag, no unknown field left, the
 -- payload's fault. G says why no group is read.
 abbrev pub InsideFault : (ℕ → ℕ → List ℕ → DecodeError → Type 0) → ℕ → ℕ → WireType → List ℕ → DecodeError → Type 0
 InsideFault G s n wire.StartGroup bs e = G s n bs e

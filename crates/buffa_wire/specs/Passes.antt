@@ -8,7 +8,7 @@ use Rattle.buffa_wire.specs.Cache.{Cache, left, appended, advanced}
 abbrev pub cap : ℕ → ℕ
 cap n = min n (2 ^ 32 - 1)
 
--- a message of this text isn't too large to be written
+-- a message of this encoding isn't too large to be written
 abbrev pub IsSmall : List ℕ → Type 0
 IsSmall encoding = length encoding < 2 ^ 31
 
@@ -16,7 +16,7 @@ IsSmall encoding = length encoding < 2 ^ 31
 abbrev pub IsLonger : Cache → Cache → Type 0
 IsLonger old new = (more : List ℕ) × (new ≡ appended more old)
 
--- the size pass over a value of this text and these slots
+-- the size pass over a value of this encoding and these slots
 abbrev pub IsSized : List ℕ → List ℕ → Cache → Result ℕ EncodeError → Cache → Type 0
 IsSized encoding slots old r new =
     MatchResult r (λ n. (n ≡ cap (length encoding)) × (new ≡ appended slots old)) (λ e. (e ≡ OutOfMemory) × IsLonger old new)
@@ -25,7 +25,7 @@ IsSized encoding slots old r new =
 abbrev pub IsNext : List ℕ → Cache → Type 0
 IsNext slots c = (rest : List ℕ) × (left c ≡ slots ++ rest)
 
--- bs begins the text, and isn't all of it
+-- bs begins the encoding, and isn't all of it
 abbrev pub Begins : List ℕ → List ℕ → Type 0
 Begins bs encoding = (rest : List ℕ) × (encoding ≡ bs ++ rest) × (0 < length rest)
 
@@ -34,7 +34,7 @@ abbrev pub Consumes : List ℕ → Cache → Cache → Type 0
 Consumes slots old new = (n : ℕ) × (n ≤ length slots) × (new ≡ advanced n old)
 
 -- the write pass over it: the sink's old bytes stay first, and these slots are consumed; where the premise holds the
--- text is written, or a beginning of it, and not all, if memory runs out, and of the slots some are consumed then
+-- encoding is written, or a beginning of it, and not all, if memory runs out, and of the slots some are consumed then
 abbrev pub WritesIf : {T : Type 0} → Type 0 → List ℕ → List ℕ → Cache → List ℕ → Result T EncodeError → Cache → List ℕ → Type 0
 WritesIf small encoding slots old before r new after =
     (bs : List ℕ) × (after ≡ before ++ bs)
@@ -42,6 +42,6 @@ WritesIf small encoding slots old before r new after =
     (λ _. (new ≡ advanced (length slots) old) × (small → bs ≡ encoding))
     (λ e. (e ≡ OutOfMemory) × (small → Begins bs encoding) × Consumes slots old new)
 
--- the same of a message, whose text is written where it isn't too large
+-- the same of a message, whose encoding is written where it isn't too large
 abbrev pub IsWritten : {T : Type 0} → List ℕ → List ℕ → Cache → List ℕ → Result T EncodeError → Cache → List ℕ → Type 0
 IsWritten encoding slots old before r new after = WritesIf (IsSmall encoding) encoding slots old before r new after

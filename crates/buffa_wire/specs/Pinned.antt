@@ -50,22 +50,23 @@ pub record InsideIsPinned {X : Type 0} (merged : ℕ → X → List ℕ → Opti
       IsInside merged cost d old bs before a x r → PayloadFault merged cost d old bs before e → ⊥
   pub left : (e : DecodeError) (r s : List ℕ) → e ≢ OutOfMemory → LeavesText (told e) bs r → LeavesText (told e) bs s → r ≡ s
 
--- A value is sized in one way only; its text, where it is small, is written in one way only.
+-- A value is sized in one way only; its encoding, where it is small, is written in one way only.
 pub record PassesArePinned (encoding slots : List ℕ) (old : Cache) : Type 0 where
   pub sized : (m n : ℕ) (a b : Cache) →
       (let r : Result ℕ EncodeError = Ok m in IsSized encoding slots old r a) → (let r : Result ℕ EncodeError = Ok n in IsSized encoding slots old r b) → (m ≡ n) × (a ≡ b)
   pub written : (before x y : List ℕ) (a b : Cache) → IsSmall encoding →
       (let r : Result (Unit {0}) EncodeError = done in IsWritten encoding slots old before r a x) →
       (let r : Result (Unit {0}) EncodeError = done in IsWritten encoding slots old before r b y) → (x ≡ y) × (a ≡ b)
-  -- where memory ran out, no slot but the text's own was consumed, and none was changed
+  -- where memory ran out, no slot but the value's own was consumed, and none was changed
   pub consumed : (a : Cache) → Consumes slots old a → (a.slots ≡ old.slots) × (old.next ≤ a.next) × (a.next ≤ old.next + length slots)
 
--- A field is read as one record, and is spent one number of slots; what is read has no fault, and what has a fault one.
+-- A field is read as one record, and of the unknown fields left one number is spent; what is read has no fault, and
+-- what has a fault one.
 pub record FieldIsPinned (d s n : ℕ) (w : WireType) (bs : List ℕ) : Type 0 where
   pub taken : (x y : Datum) (k m : ℕ) (r q : List ℕ) → TakesField d s n w bs x k r → TakesField d s n w bs y m q → (x ≡ y) × (k ≡ m) × (r ≡ q)
   pub refused : (x : Datum) (k : ℕ) (r : List ℕ) (e : DecodeError) → TakesField d s n w bs x k r → FieldFault d s n w bs e → ⊥
   pub fault : (e f : DecodeError) → FieldFault d s n w bs e → FieldFault d s n w bs f → e ≡ f
-  -- of a field that is no group, what is left of the bytes after a refusal, and of the slots
+  -- of a field that is no group, what is left of the bytes after a refusal, and how many unknown fields are left
   pub left : (e : DecodeError) (r q : List ℕ) → e ≢ OutOfMemory → LeavesPayload (told e) w bs r → LeavesPayload (told e) w bs q → r ≡ q
   pub slot : (k m : ℕ) → UnknownTaken s k → UnknownTaken s m → k ≡ m
 

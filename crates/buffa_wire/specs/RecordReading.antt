@@ -1,5 +1,5 @@
--- What reading records gives: the records, the slots for unknown fields that are left, and the bytes that
--- follow; or the first fault.
+-- What reading records gives: the records, the unknown fields that are left, and the bytes that follow; or the
+-- first fault.
 use Rattle.std.specs.Prelude.{◌≡◌, ◌≢◌, ℕ, zero, suc, ◌-◌, ◌<◌, ◌⊎◌, ◌==◌, ◌&&◌, List, [], ◌∷◌, length, IsOk, Result, Ok, Err, if◌then◌else◌}
 use Rattle.buffa_bytes.specs.Gives.{◌>>=◌}
 use Rattle.buffa_bytes.specs.declared.wire_type.WireType.{WireType}
@@ -11,7 +11,7 @@ use Rattle.buffa_bytes.specs.Scalars.{fixed32_at, fixed64_at}
 use Rattle.buffa_wire.specs.declared.context.DecodeContext.{DecodeContext}
 use Rattle.buffa_wire.specs.Records.{Datum, varint, fixed32, fixed64, bytes, group, Records, no_records, one, list_of}
 
--- what reads the rest of a group: of the slots that are left, the group's number, and the bytes
+-- what reads the rest of a group: of the unknown fields that are left, the group's number, and the bytes
 abbrev pub GroupReader : Type 0
 GroupReader = ℕ → ℕ → List ℕ → Result (Records × ℕ × List ℕ) DecodeError
 
@@ -24,12 +24,13 @@ plain_at wire.StartGroup bs = Err (InvalidWireType 3)
 plain_at wire.EndGroup bs = Err (InvalidWireType 4)
 plain_at wire.Fixed32 bs = fixed32_at bs >>= (λ v. Ok (fixed32 v.0, v.1))
 
--- the payload of a field whose slot is spent
+-- the payload of a field for which one of the unknown fields left is spent
 abbrev pub payload_by : GroupReader → ℕ → ℕ → WireType → List ℕ → Result (Datum × ℕ × List ℕ) DecodeError
 payload_by inner s n wire.StartGroup bs = inner s n bs >>= (λ v. Ok (group v.0, v.1, v.2))
 payload_by inner s n w bs = plain_at w bs >>= (λ v. Ok (v.0, s, v.1))
 
--- the field after its tag: an end tag is none, then a slot is spent, then the payload is read
+-- the field after its tag: an end tag is none, then one of the unknown fields left is spent, then the payload
+-- is read
 unfoldable pub field_by : GroupReader → ℕ → ℕ → WireType → List ℕ → Result (Datum × ℕ × List ℕ) DecodeError
 field_by inner s n w bs =
     if is_end w then Err (InvalidEndGroup n) else
@@ -54,7 +55,7 @@ group_at (suc d) s n bs = group_within (group_at d) (length bs) s n bs
 abbrev pub field_at : ℕ → ℕ → ℕ → WireType → List ℕ → Result (Datum × ℕ × List ℕ) DecodeError
 field_at d = field_by (group_at d)
 
--- both in a context, of its depth and its slots
+-- both in a context, of its depth and its unknown fields left
 abbrev pub field_in : DecodeContext → ℕ → WireType → List ℕ → Result (Datum × ℕ × List ℕ) DecodeError
 field_in ctx = field_at ctx.depth ctx.budget.now.unknown
 
@@ -82,7 +83,8 @@ PayloadTakesMemory G s wire.LengthDelimited bs = (b : List ℕ) × (rest : List 
 PayloadTakesMemory G s wire.StartGroup bs = G s bs
 PayloadTakesMemory G s w bs = ⊥
 
--- fields take memory: the first one is read, and so kept, or its payload takes memory, where a slot is left
+-- fields take memory: the first one is read, and so kept, or its payload takes memory, where an unknown
+-- field is left
 abbrev pub FieldsTakeMemory : GroupReader → (ℕ → List ℕ → Type 0) → ℕ → List ℕ → Type 0
 FieldsTakeMemory inner G s bs =
     (t : ℕ × WireType × List ℕ) × (tag_at bs ≡ Ok t)

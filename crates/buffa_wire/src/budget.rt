@@ -1,4 +1,4 @@
-//! What reading may still spend: slots for unknown fields, and units of element memory.
+//! What reading may still spend: the unknown fields left, and the units of element memory left.
 
 ghost use Rattle.std.specs.Prelude.{◌≡◌, ◌+◌, ◌<◌, IfErr, OnErr, OnOk};
 ghost use Rattle.buffa_bytes.specs.declared.error.DecodeError.TheVariants as error;
@@ -6,7 +6,7 @@ ghost use Rattle.buffa_bytes.specs.declared.error.DecodeError.TheVariants as err
 use buffa_bytes::DecodeError;
 use std::marker::Model;
 
-/// The slots for unknown fields that a message is read with where nothing else is said.
+/// The unknown fields left that a message is read with where nothing else is said.
 ///
 /// ```ignore
 /// let fresh = Budget::new(DEFAULT_UNKNOWN_FIELD_LIMIT);
@@ -22,9 +22,10 @@ pub const DEFAULT_ELEMENT_MEMORY_LIMIT: usize = 268_435_456;
 
 /// What reading may still spend.
 ///
-/// One slot is spent for each unknown field that is kept, nested ones too, for each map entry that is kept
-/// whole, and for each MessageSet Item; for each map entry the units that its two codecs cost, and for each message of
-/// a repeated field those that its type costs. What was spent stays spent, also where the reading is refused later.
+/// Of the unknown fields left one is spent for each unknown field that is kept, nested ones too, for each map
+/// entry that is kept whole, and for each MessageSet Item; of the element memory left, for each map entry the
+/// units that its two codecs cost, and for each message of a repeated field those that its type costs. What
+/// was spent stays spent, also where the reading is refused later.
 ///
 /// ```ignore
 /// let mut budget = Budget::new(DEFAULT_UNKNOWN_FIELD_LIMIT);
@@ -45,7 +46,8 @@ impl Model for Budget {
 }
 
 impl Budget {
-    /// A budget of `unknown` slots and [`DEFAULT_ELEMENT_MEMORY_LIMIT`] units of element memory.
+    /// A budget with `unknown` unknown fields left and [`DEFAULT_ELEMENT_MEMORY_LIMIT`] units of element
+    /// memory.
     ///
     /// ```ignore
     /// let mut budget = Budget::new(2);
@@ -60,7 +62,7 @@ impl Budget {
         }
     }
 
-    /// The same slots, and `memory` units of element memory.
+    /// The same unknown fields left, and `memory` units of element memory.
     ///
     /// ```ignore
     /// let budget = Budget::new(left).with_element_memory(budget.memory_left());
@@ -74,7 +76,7 @@ impl Budget {
         }
     }
 
-    /// Spends one slot.
+    /// Spends one of the unknown fields left.
     ///
     /// # Errors
     /// [`DecodeError::UnknownFieldLimitExceeded`] where none is left; nothing is spent then. It takes no
@@ -116,7 +118,7 @@ impl Budget {
         Ok(())
     }
 
-    /// The slots that are left.
+    /// The unknown fields that are left.
     ///
     /// ```ignore
     /// let slots = budget.unknown_left();

@@ -79,7 +79,7 @@ impl<'a> DecodeContext<'a> {
         })
     }
 
-    /// Spends one slot for an unknown field.
+    /// Spends one of the unknown fields left.
     ///
     /// # Errors
     /// [`DecodeError::UnknownFieldLimitExceeded`] where none is left; nothing is spent then. It takes no

@@ -33,7 +33,8 @@ pub trait MessageForm<M: Blank> {
     /// At a depth, what merging bytes makes of a value, or none.
     ghost merged: { ℕ → M.Meaning → List ℕ → Option M.Meaning };
 
-    /// At a depth, the slots and units that merging bytes costs, malformed ones too.
+    /// At a depth, the unknown fields and the units of element memory that merging bytes costs, malformed
+    /// ones too.
     ghost cost: { ℕ → List ℕ → BudgetLeft };
 
     /// The records that a value is written as.
@@ -42,10 +43,10 @@ pub trait MessageForm<M: Blank> {
     /// The sizes of the messages in it, in the order in which its passes reserve and consume them.
     ghost slots: { M.Meaning → List ℕ };
 
-    /// How deep groups and messages nest in the text.
+    /// How deep groups and messages nest in the encoding.
     ghost levels: { M.Meaning → ℕ };
 
-    /// The values that their text reads back to.
+    /// The values that their encoding reads back to.
     ghost normal: { M.Meaning → Type 0 };
 
     /// The values whose size pass never runs out of memory.
@@ -124,7 +125,7 @@ pub trait MessageForm<M: Blank> {
         ensures taken { TakesField Taken ctx.entry message.old tag.number tag.wire_type buf.old.now result message.new
             (budget_left ctx.exit) buf.new.now };
 
-    /// The text reads back, where no length is too large to be read.
+    /// The encoding reads back, where no length is too large to be read.
     ghost merged_encoding: { (d : ℕ) (v : M.Meaning) → Fits (records_of (records v)) → normal v → levels v ≤ d →
         merged d M.blank_is (records_encoding (records v)) ≡ Some v };
 }

@@ -1,7 +1,8 @@
 //! The wire layer: the ground floor of `buffa_bytes`, the budgets and contexts that reading lends on, and
 //! the unknown fields that it keeps.
 //!
-//! It re-exports the types of `buffa_bytes`, its readers and writers, and the module of the texts of scalars.
+//! It re-exports the types of `buffa_bytes`, its readers and writers, and the module of the encodings of
+//! scalars.
 #![tactic(auto)]
 
 pub mod budget;

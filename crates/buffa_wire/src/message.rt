@@ -26,7 +26,7 @@ use buffa_bytes::buf::{copy_bytes, front};
 use buffa_bytes::{Blank, Buf, DecodeError, EncodeError, EncodeSink, Tag, WireType, decode_varint};
 use std::alloc::Global;
 
-/// The most bytes that a message's text may have: 2^31 - 1.
+/// The most bytes that a message's encoding may have: 2^31 - 1.
 ///
 /// ```ignore
 /// if len > MAX_MESSAGE_BYTES { .. }
@@ -47,28 +47,29 @@ pub trait MessageSpec: Blank {
     /// At a depth, what merging bytes makes of a value, or none.
     ghost merged: { ℕ → Self.Meaning → List ℕ → Option Self.Meaning };
 
-    /// At a depth, the slots and units that merging bytes costs, malformed ones too.
+    /// At a depth, the unknown fields and the units of element memory that merging bytes costs, malformed
+    /// ones too.
     ghost cost: { ℕ → List ℕ → BudgetLeft };
 
-    /// The text of a value.
+    /// The encoding of a value.
     ghost encoding: { Self.Meaning → List ℕ };
 
-    /// The records whose text it is.
+    /// The records whose encoding it is.
     ghost records: { Self.Meaning → List (ℕ × Datum) };
 
     /// The sizes of the messages in it, in the order in which its passes reserve and consume them.
     ghost slots: { Self.Meaning → List ℕ };
 
-    /// How deep groups and messages nest in the text.
+    /// How deep groups and messages nest in the encoding.
     ghost levels: { Self.Meaning → ℕ };
 
-    /// The values that their text reads back to.
+    /// The values that their encoding reads back to.
     ghost normal: { Self.Meaning → Type 0 };
 
-    /// The text is that of the records.
+    /// The encoding is that of the records.
     ghost encoding_records: { (v : Self.Meaning) → encoding v ≡ records_encoding (records v) };
 
-    /// The text reads back, where no length is too large to be read.
+    /// The encoding reads back, where no length is too large to be read.
     ghost merged_encoding: { (d : ℕ) (v : Self.Meaning) → Fits (records_of (records v)) → normal v → levels v ≤ d →
         merged d Self.blank_is (encoding v) ≡ Some v };
 
@@ -98,7 +99,8 @@ pub trait MessageSpec: Blank {
 /// impl Message for Tree { .. }
 /// ```
 pub trait Message: MessageSpec {
-    /// The size pass: the length of the text, or 2^32 - 1 where it is more. The value's slots are appended.
+    /// The size pass: the length of the encoding, or 2^32 - 1 where it is more. The value's slots are
+    /// appended.
     ///
     /// # Errors
     /// [`EncodeError::OutOfMemory`] alone; the old slots come first then.
@@ -111,11 +113,12 @@ pub trait Message: MessageSpec {
             cache.new };
 
     /// The write pass, which consumes the value's slots: the next ones of the cache have to be those that
-    /// [`Message::compute_size`] appended for this value. Where the text has at most 2^31 - 1 bytes it is
+    /// [`Message::compute_size`] appended for this value. Where the encoding has at most 2^31 - 1 bytes it is
     /// appended to the sink.
     ///
     /// # Errors
-    /// [`EncodeError::OutOfMemory`] alone, after a beginning of the text; some of the value's slots are consumed then.
+    /// [`EncodeError::OutOfMemory`] alone, after a beginning of the encoding; some of the value's slots are
+    /// consumed then.
     ///
     /// ```ignore
     /// message.write_to(cache, sink)?;
@@ -140,10 +143,10 @@ pub trait Message: MessageSpec {
         *self = Self::blank(alloc);
     }
 
-    /// The text, by both passes.
+    /// The encoding, by both passes.
     ///
     /// # Errors
-    /// [`EncodeError::MessageTooLarge`] where the text is longer than 2^31 - 1 bytes; or
+    /// [`EncodeError::MessageTooLarge`] where the encoding is longer than 2^31 - 1 bytes; or
     /// [`EncodeError::OutOfMemory`].
     ///
     /// ```ignore

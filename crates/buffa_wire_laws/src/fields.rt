@@ -278,8 +278,8 @@ pub fn answers_are_pinned_unless_full<X, Y, Z>()
     ensures { AnswerIsPinnedUnlessFull X Y Z }
 {}
 
-/// A text is written in one way. It leaves open whether a text is refused that doesn't fit for sure, before which of its
-/// bytes, and whether more room is left than is promised.
+/// An encoding is written in one way. It leaves open whether an encoding is refused that doesn't fit for
+/// sure, before which of its bytes, and whether more room is left than is promised.
 pub fn writes_are_pinned<T>()
     ensures { WriteIsPinned T }
 {}

@@ -33,15 +33,15 @@ use buffa_wire::formed::{Formed, MessageForm};
 use buffa_wire::message::{MAX_MESSAGE_BYTES, Message, MessageSpec};
 use buffa_wire::unknown_fields::{UnknownField, UnknownFieldData, UnknownFields};
 
-/// Whole bytes are read as records exactly where the grammar has them and a slot is left for each record,
-/// nested ones too; else the first fault is told.
+/// Whole bytes are read as records exactly where the grammar has them and an unknown field is left for each
+/// record, nested ones too; else the first fault is told.
 pub fn records_are_read()
     ensures ok { (d s : ℕ) (bs : List ℕ) (rs : List (ℕ × Datum)) → (list_at d s bs ≡ Ok rs)
         ↔ (Parse d bs (records_of rs) × (slots (records_of rs) ≤ s)) }
     ensures err { (d s : ℕ) (bs : List ℕ) (e : DecodeError) → (list_at d s bs ≡ Err e) ↔ RecordsFault d s bs e }
 {}
 
-/// The same of one field after its tag, and what it leaves of the slots and of the bytes.
+/// The same of one field after its tag, and how many unknown fields it leaves, and what of the bytes.
 pub fn fields_are_read()
     ensures ok { (d s n : ℕ) (w : WireType) (bs : List ℕ) (x : Datum) (left : ℕ) (rest : List ℕ) →
         (field_at d s n w bs ≡ Ok (x, left, rest)) ↔ TakesField d s n w bs x left rest }
@@ -64,7 +64,7 @@ pub fn constants()
     ensures message_bytes { MAX_MESSAGE_BYTES ≡ 2 ^ 31 - 1 }
 {}
 
-/// Records are what fields say: bytes are a join of fields exactly where they are the text of records, and
+/// Records are what fields say: bytes are a join of fields exactly where they are an encoding of records, and
 /// more depth changes nothing.
 pub fn records_are_fields()
     ensures fields { (d : ℕ) (bs : List ℕ) → Join (SomeField d) bs
@@ -73,14 +73,14 @@ pub fn records_are_fields()
         Parse d bs (records_of rs) }
 {}
 
-/// Bytes are the text of one list of records, at any depths.
+/// Bytes are an encoding of one list of records, at any depths.
 pub fn one_reading()
     ensures { (bs : List ℕ) (c d : ℕ) (rs qs : List (ℕ × Datum)) → Parse c bs (records_of rs) →
         Parse d bs (records_of qs) → rs ≡ qs }
 {}
 
-/// The text of records that fit is theirs, at a depth that their groups need, and it is read back with a
-/// slot for each. The text of any records whose data are in range is that of no others.
+/// The encoding of records that fit is theirs, at a depth that their groups need, and it is read back with an
+/// unknown field left for each. The encoding of any records whose data are in range is that of no others.
 pub fn encodings_are_read_back()
     ensures parses { (d : ℕ) (rs : List (ℕ × Datum)) → Fits (records_of rs) → height rs ≤ d →
         Parse d (records_encoding rs) (records_of rs) }
@@ -124,17 +124,19 @@ pub fn merging_inside_is_pinned<M: Message>()
         before }
 {}
 
-/// A value is sized and, where its text is small, written in one way.
+/// A value is sized and, where its encoding is small, written in one way.
 ///
-/// Open: when memory runs out, how many slots are reserved then, and what is written of a text that isn't small.
+/// Open: when memory runs out, how many slots are reserved then, and what is written of an encoding that
+/// isn't small.
 pub fn passes_are_pinned()
     ensures { (text slots : List ℕ) (old : Cache) → PassesArePinned text slots old }
 {}
 
 /// A field, and whole bytes, are read as one list of records, or refused by one fault.
 ///
-/// Open: when memory runs out of those cases where reading takes any, and what is unread then; of a group that is
-/// refused how many of the slots are spent, at most one and one for each byte that was read, and where the buffer stands.
+/// Open: when memory runs out of those cases where reading takes any, and what is unread then; of a group
+/// that is refused how many of the unknown fields left are spent, at most one and one for each byte that was
+/// read, and where the buffer stands.
 pub fn records_are_pinned()
     ensures field { (d s n : ℕ) (w : WireType) (bs : List ℕ) → FieldIsPinned d s n w bs }
     ensures whole { (d s : ℕ) (bs : List ℕ) → RecordsArePinned d s bs }

@@ -1,4 +1,4 @@
-//! A text that fits into what a sink has.
+//! An encoding that fits into what a sink has.
 
 use buffa_bytes::types;
 use std::test::Fail;

@@ -39,7 +39,7 @@ keys_seen (e ∷ es) = ap (λ z. e.0 ∷ z) (keys_seen es)
 walked : (es : List (ℤ × Choice)) (l : List Pair) → IsStrictlySortedBy int_cmp (keys_of es) → l ≡ pairs_of es → IsStrictlySortedBy int_cmp (keys_of l)
 walked es l s e = subst (λ (z : List Pair). IsStrictlySortedBy int_cmp (keys_of z)) (sym e) (subst (λ (z : List ℤ). IsStrictlySortedBy int_cmp z) (sym (keys_seen es)) s)
 
--- a list with an entry that is too long has no text
+-- a list with an entry that is too long has no encoding
 too_long : (done : List Pair) (p : Pair) (rest : List Pair) → 2 ^ 64 ≤ length (entry_encoding int32_writing closed_writing p) → HasEncoding int32_writing closed_writing (done ++ p ∷ rest) → ⊥
 too_long [] p rest h k = omega (arith, h, k.0)
 too_long (q ∷ done) p rest h k = too_long done p rest h k.1

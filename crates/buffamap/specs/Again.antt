@@ -24,7 +24,7 @@ module _ {X : Type 0} (meant : Option X) (cost : BudgetLeft) where
   IsRefused reply =
       (e : DecodeError) × (e ≢ OutOfMemory) × MergeFault meant cost defaults e × (reply ≡ fault (decode_error_text e))
 
--- a type of messages, by what bytes make of a value and cost, by the text of a value, and by the blank one
+-- a type of messages, by what bytes make of a value and cost, by the encoding of a value, and by the blank one
 module _ {X : Type 0} (merged : ℕ → X → List ℕ → Option X) (cost : ℕ → List ℕ → BudgetLeft) (text : X → List ℕ) (blank : X) where
   abbrev pub IsReadAgain : List ℕ → Reply → Type 0
   IsReadAgain bytes reply =

@@ -8,7 +8,7 @@ use Rattle.buffamap.specs.Forms.{hex_bytes, without_newline}
 use Rattle.buffamap.specs.Reply.{Reply, bad_input, done, fault, hex_line, line}
 
 -- the number, the message bytes and what follows the Item, or the first fault: fields that are passed over 99 levels
--- deep, and a million slots
+-- deep, and a million unknown fields left
 abbrev pub item_from : List ℕ → Result (ℕ × List ℕ × List ℕ) DecodeError
 item_from bytes = item_in 99 1000000 bytes
 

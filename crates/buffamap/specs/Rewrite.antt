@@ -38,7 +38,7 @@ abbrev pub choice_reading : Reading ℤ
 choice_reading = closed_reading two_numbers
 
 -- the entries of a run and what is over, or the first fault: map<int32, E>, 100 levels deep, an entry of
--- 4 + 4 units, and a slot for each that is kept
+-- 4 + 4 units, and an unknown field for each that is kept
 abbrev pub run_from : ℕ → List ℕ → Result (List Entry × BudgetLeft) DecodeError
 run_from n bytes = run_of int32_reading choice_reading 100 n 8 1 default_left bytes
 

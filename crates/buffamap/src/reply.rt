@@ -54,7 +54,7 @@ fn line_of_bytes(alloc: Global, error: DecodeError) -> Result<String, AllocError
     format!(in alloc; "fault {error}\n")
 }
 
-// The line that names why a text is refused.
+// The line that names why an encoding is refused.
 fn line_of_text(alloc: Global, error: EncodeError) -> Result<String, AllocError>
     ensures { IfOk result (λ text. string_bytes text ≡ line (codes "fault " ++ encode_error_text error)) }
 {

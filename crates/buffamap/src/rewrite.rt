@@ -13,7 +13,7 @@ use buffa::{Budget, DEFAULT_UNKNOWN_FIELD_LIMIT, DecodeContext, RECURSION_LIMIT}
 use std::alloc::Global;
 use std::collections::BTreeMap;
 
-// Rewrites a run into an empty text.
+// Rewrites a run into an empty vector.
 fn rewrite_into(
     alloc: Global,
     number: u32,

@@ -68,7 +68,7 @@ fn length_of(alloc: Global, case: &Case<'_>, mark: &mut Mark) -> Result<Outcome,
     Outcome::of_words(alloc, got(alloc, true), words, none, refused)
 }
 
-/// What comes of a row that writes an Item: its length, and the text; or its length alone.
+/// What comes of a row that writes an Item: its length, and the encoding; or its length alone.
 pub fn write_an_item(
     alloc: Global,
     case: &Case<'_>,

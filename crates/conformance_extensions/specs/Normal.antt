@@ -3,8 +3,8 @@ use Rattle.std.specs.Prelude.{ℕ, ◌≤◌, List}
 use Rattle.buffa_wire.specs.Parse.{Fits}
 use Rattle.buffa_wire.specs.Records.{Datum, height, records_of}
 
--- a message is read back of its text, where its cost is left: its type says so, it isn't too deep, and its records can be
--- written
+-- a message is read back of its encoding, where its cost is left: its type says so, it isn't too deep, and its records
+-- can be written
 abbrev pub IsNormal : Type 0 → ℕ → List (ℕ × Datum) → Type 0
 IsNormal normal levels records = normal × (levels ≤ 100) × Fits (records_of records)
 

@@ -1,4 +1,4 @@
-// Calls on the records of messages: their texts held, and merged.
+// Calls on the records of messages: their encodings held, and merged.
 
 use crate::codecs::{first_of, made_told};
 use buffa_ext::MessageRecord;
@@ -11,7 +11,7 @@ use conformance_rows::outcome::{Outcome, budget_of, records_told, told, with_lef
 use conformance_rows::words::{Worded, records_of};
 use std::alloc::Global;
 
-/// The record of a text.
+/// The record of an encoding.
 pub fn hold<K: MessageRecord>(
     alloc: Global,
     case: &Case<'_>,
@@ -29,7 +29,7 @@ fn both_told(alloc: Global, found: bool, word: &str) -> Result<String, Fault> {
     Ok(format!(in alloc; "{found} {word}")?)
 }
 
-// Whether there was a text, and the message; nothing of what is left of a message after a fault.
+// Whether there was an encoding, and the message; nothing of what is left of a message after a fault.
 fn words_of<By, M: Worded<By>>(
     alloc: Global,
     merged: Result<bool, DecodeError>,
@@ -59,7 +59,7 @@ fn merge_told(
     with_left(alloc, case, budget, outcome, 0)
 }
 
-/// What the texts of all records of a number make of a message.
+/// What the encodings of all records of a number make of a message.
 pub fn merge_all<By, M: Worded<By> + Message, K: MessageRecord>(
     alloc: Global,
     case: &Case<'_>,
@@ -76,7 +76,7 @@ pub fn merge_all<By, M: Worded<By> + Message, K: MessageRecord>(
     merge_told(alloc, case, &budget, &fields, merged, words, refused)
 }
 
-/// What the text of the first record makes of a message, at the context's depth.
+/// What the encoding of the first record makes of a message, at the context's depth.
 pub fn merge_in<By, M: Worded<By> + Message, K: MessageRecord>(
     alloc: Global,
     case: &Case<'_>,

@@ -23,7 +23,7 @@ use std::alloc::Global;
 /// A message that tells whether it is read back. `Back` is a type of the crate that says how, so that a crate can say it
 /// of types that are not its own.
 pub trait Normal<Back>: Message {
-    /// Whether the message is read back of its text, where its cost is left.
+    /// Whether the message is read back of its encoding, where its cost is left.
     fn is_normal(&self) -> bool
         ensures { IsTrue result → IsNormal (Self.normal (Self.meaning self.now)) (Self.levels (Self.meaning self.now))
             (Self.records (Self.meaning self.now)) };
@@ -67,7 +67,7 @@ fn pay_all<C: SingularCodec>(alloc: Global, values: &[C::Value]) -> Result<(), F
     Ok(())
 }
 
-// Whether each message of a list is read back of its text, where its cost is left.
+// Whether each message of a list is read back of its encoding, where its cost is left.
 fn are_normal<Back, M: Normal<Back>>(messages: &[M]) -> bool
     ensures { IsTrue result → Each (λ v. IsNormal (M.normal v) (M.levels v) (M.records v)) (map M.meaning messages.now) }
 {

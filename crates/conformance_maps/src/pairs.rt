@@ -17,7 +17,7 @@ use conformance_rows::words::Worded;
 use std::alloc::Global;
 use std::hash::Hash;
 
-// Reads a map field at depth 0, with a budget of no slots.
+// Reads a map field at depth 0, with a budget that has no unknown field left.
 fn read<KC: MapCodec, VC: MapCodec, C: MapStorage<Key = KC::Value, Value = VC::Value>>(
     alloc: Global,
     map: &mut C,

@@ -86,7 +86,7 @@ fn empty<C: MapStorage>(map: &mut C) {
     map.storage_clear();
 }
 
-// What comes of a write: the length and the text; and how many pairs there are.
+// What comes of a write: the length and the encoding; and how many pairs there are.
 fn writing<
     By,
     KC: MapCodec,

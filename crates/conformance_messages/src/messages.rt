@@ -40,7 +40,7 @@ fn merge<By, M: Message + Worded<By>>(
     outcome_of(alloc, case, answer, words, &budget, refused)
 }
 
-// A text that was made, or none.
+// An encoding that was made, or none.
 fn made_told(alloc: Global, made: &Result<Vec<u8>, EncodeError>) -> Result<String, Fault> {
     let text = match made {
         Ok(text) => text.as_slice(),
@@ -49,12 +49,12 @@ fn made_told(alloc: Global, made: &Result<Vec<u8>, EncodeError>) -> Result<Strin
     text_told(alloc, text)
 }
 
-// The text of a message, by both passes.
+// The encoding of a message, by both passes.
 fn encoded<M: Message>(alloc: Global, message: &M) -> Result<Vec<u8>, EncodeError> {
     message.try_encode_to_vec(alloc)
 }
 
-// The text of a message.
+// The encoding of a message.
 fn encode<M: Message>(alloc: Global, case: &Case<'_>, mark: &mut Mark) -> Result<Outcome, Fault> {
     let message = standing::<M>(alloc, case)?;
     mark.begin(alloc);

@@ -63,7 +63,7 @@ where
     message_field_len::<KC, M, C>(map, tag_len, cache)
 }
 
-// The text of a map field of messages whose slots are the next, by the call that is passed a function.
+// The encoding of a map field of messages whose slots are the next, by the call that is passed a function.
 fn write_by_function<
     'a,
     KC: MapCodec,
@@ -108,7 +108,7 @@ where
     write_message_field::<KC, M, C, Vec<u8>>(map, number, cache, text)
 }
 
-// The length and the text of a map field of messages, with a cache of which every slot was consumed.
+// The length and the encoding of a map field of messages, with a cache of which every slot was consumed.
 fn both_passes<
     'a,
     KC: MapCodec,
@@ -207,7 +207,7 @@ where
     sized_outcome(alloc, case, &mut cache, size, refused)
 }
 
-// What comes of a size and a text.
+// What comes of a size and an encoding.
 fn written_outcome(
     alloc: Global,
     size: Result<u64, EncodeError>,
@@ -219,7 +219,7 @@ fn written_outcome(
     Outcome::of_words(alloc, written(alloc, size), words, text, refused)
 }
 
-// The length and the text of a map of messages.
+// The length and the encoding of a map of messages.
 fn writing<
     'a,
     KC: MapCodec,

@@ -9,7 +9,7 @@ use std::str::Split;
 /// The greatest number that a field may have.
 pub const MAX_NUMBER: u32 = 536_870_911;
 
-/// The slots of a budget of which a row says nothing.
+/// The unknown fields left in a budget of which a row says nothing.
 pub const SLOTS: u64 = 1_000_000;
 
 /// The units of a budget of which a row says nothing.
@@ -165,7 +165,7 @@ impl<'a> Case<'a> {
         }
     }
 
-    /// The slots of the budget.
+    /// The unknown fields left in the budget.
     pub fn slots(&self) -> Result<usize, Fault> {
         count(self.number_or("slots", SLOTS))
     }

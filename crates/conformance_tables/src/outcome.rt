@@ -12,7 +12,7 @@ pub struct Outcome {
     pub answer: String,
     /// What a refusal leaves or goes back to: the pairs of a map.
     pub pairs: String,
-    /// The records that were kept, or the text that was written.
+    /// The records that were kept, or the encoding that was written.
     pub rest: String,
     /// What is left of the budget and of the buffer.
     pub left: String,
@@ -79,7 +79,7 @@ impl Outcome {
         self.pairs.as_str()
     }
 
-    /// The records or the text.
+    /// The records or the encoding.
     pub fn rest(&self) -> &str {
         self.rest.as_str()
     }
@@ -105,7 +105,7 @@ pub fn digits_told(alloc: Global, name: &str, digits: &str) -> Result<String, Fa
     joined(alloc, name, " ", or_dash(digits))
 }
 
-/// A text that was written, in hexadecimal.
+/// An encoding that was written, in hexadecimal.
 pub fn text_told(alloc: Global, text: &[u8]) -> Result<String, Fault> {
     let digits = digits_of(alloc, text)?;
     digits_told(alloc, "text", digits.as_str())
@@ -140,7 +140,8 @@ fn both(
     and(alloc, first.as_str(), second.as_str())
 }
 
-/// What is left of a budget's slots and units, where the row's settings name them, and of the buffer, where some is.
+/// What is left of a budget, its unknown fields and units, where the row's settings name them, and of the
+/// buffer, where some is.
 pub fn left_told(
     alloc: Global,
     case: &Case<'_>,

@@ -43,7 +43,7 @@ fn is_fault(answer: &str) -> bool {
     !is_one(answer, "ok") && !is_one(answer, "OutOfMemory")
 }
 
-// Whether bytes are cut off, by the answer; of a rewrite no text stands.
+// Whether bytes are cut off, by the answer; of a rewrite no encoding stands.
 fn is_torn(call: &str, answer: &str, rest: &str) -> bool {
     is_one(answer, "UnexpectedEof") && (!is_one(call, "rewrite") || is_one(rest, "text -"))
 }
@@ -215,7 +215,7 @@ impl Run<'_> {
         self.state(alloc, self.case.before(), rest.as_str())
     }
 
-    // What stands of an outcome, of a rewrite without its text.
+    // What stands of an outcome, of a rewrite without its encoding.
     fn standing(&self, alloc: Global, outcome: &Outcome) -> Result<String, Fault> {
         let rest = if is_one(self.case.call, "rewrite") {
             "text -"
@@ -365,8 +365,8 @@ impl Run<'_> {
         Ok(expected.as_str().contains(text))
     }
 
-    // Whether the records or the text of an outcome may stand where memory ran out: the records are those before, the
-    // text is a beginning of the row's.
+    // Whether the records or the encoding of an outcome may stand where memory ran out: the records are those
+    // before, the encoding is a beginning of the row's.
     fn rest_stands(&self, alloc: Global, rest: &str) -> Result<bool, Fault> {
         if let Some(records) = rest.strip_prefix("records ") {
             return Ok(is_one(records, self.case.before));

@@ -125,7 +125,7 @@ pub fn fields_and_numbers<B: Buf>(
     }
 }
 
-// An outcome of records: their length, and their text.
+// An outcome of records: their length, and their encoding.
 fn of_records(
     alloc: Global,
     answer: Result<String, Fault>,

@@ -106,7 +106,7 @@ impl Worded<Samples> for CountMsg {
     }
 }
 
-// The text of the fields.
+// The encoding of the fields.
 impl Worded<Samples> for BudgetMsg {
     fn word(&self, alloc: Global) -> Result<String, Fault> {
         let digits = records_word(alloc, &self.fields)?;

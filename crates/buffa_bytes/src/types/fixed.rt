@@ -12,10 +12,10 @@ use crate::buf::Buf;
 use crate::error::{DecodeError, EncodeError};
 use crate::sink::EncodeSink;
 
-/// The length of a fixed32's and an sfixed32's text, in bytes.
+/// The length of a fixed32's and an sfixed32's encoding, in bytes.
 pub const FIXED32_ENCODED_LEN: usize = 4;
 
-/// The length of a fixed64's and an sfixed64's text, in bytes.
+/// The length of a fixed64's and an sfixed64's encoding, in bytes.
 pub const FIXED64_ENCODED_LEN: usize = 8;
 
 // Fills `bytes` with the first bytes of the buffer.
@@ -44,7 +44,7 @@ fn take_into<B: Buf>(buf: &mut B, bytes: &mut [u8]) -> Result<(), DecodeError>
 /// Numbers".
 ///
 /// # Errors
-/// [`EncodeError::OutOfMemory`] alone, after a beginning of the text.
+/// [`EncodeError::OutOfMemory`] alone, after a beginning of the encoding.
 ///
 /// ```ignore
 /// encode_fixed32(*value, text)?; // 04 03 02 01 for 0x0102_0304
@@ -78,7 +78,7 @@ pub fn decode_fixed32<B: Buf>(buf: &mut B) -> Result<u32, DecodeError>
 /// Writes a fixed64: eight bytes, the lowest first.
 ///
 /// # Errors
-/// [`EncodeError::OutOfMemory`] alone, after a beginning of the text.
+/// [`EncodeError::OutOfMemory`] alone, after a beginning of the encoding.
 ///
 /// ```ignore
 /// encode_fixed64(*value, text)?; // 08 07 06 05 04 03 02 01 for 0x0102_0304_0506_0708
@@ -112,7 +112,7 @@ pub fn decode_fixed64<B: Buf>(buf: &mut B) -> Result<u64, DecodeError>
 /// Writes an sfixed32: four bytes in two's complement, the lowest first.
 ///
 /// # Errors
-/// [`EncodeError::OutOfMemory`] alone, after a beginning of the text.
+/// [`EncodeError::OutOfMemory`] alone, after a beginning of the encoding.
 ///
 /// ```ignore
 /// encode_sfixed32(*value, text)?; // FE FF FF FF for -2
@@ -146,7 +146,7 @@ pub fn decode_sfixed32<B: Buf>(buf: &mut B) -> Result<i32, DecodeError>
 /// Writes an sfixed64: eight bytes in two's complement, the lowest first.
 ///
 /// # Errors
-/// [`EncodeError::OutOfMemory`] alone, after a beginning of the text.
+/// [`EncodeError::OutOfMemory`] alone, after a beginning of the encoding.
 ///
 /// ```ignore
 /// encode_sfixed64(*value, text)?; // FE FF FF FF FF FF FF FF for -2

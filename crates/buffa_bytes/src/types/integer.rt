@@ -17,7 +17,7 @@ use crate::types::zigzag::{
 };
 use crate::varint::{decode_varint, encode_varint, varint_len};
 
-/// The length of an int32's text: 1 to 5 bytes, or 10 for a negative one.
+/// The length of an int32's encoding: 1 to 5 bytes, or 10 for a negative one.
 ///
 /// ```ignore
 /// let len = int32_encoded_len(*value); // 10 for -2
@@ -32,7 +32,7 @@ pub fn int32_encoded_len(value: i32) -> usize
 /// "Signed Integers".
 ///
 /// # Errors
-/// [`EncodeError::OutOfMemory`] alone, after a beginning of the text.
+/// [`EncodeError::OutOfMemory`] alone, after a beginning of the encoding.
 ///
 /// ```ignore
 /// encode_int32(*value, text)?; // FE FF FF FF FF FF FF FF FF 01 for -2
@@ -62,7 +62,7 @@ pub fn decode_int32<B: Buf>(buf: &mut B) -> Result<i32, DecodeError>
     Ok(((number % (1 << 32)) as u32).cast_signed())
 }
 
-/// The length of an int64's text: 1 to 9 bytes, or 10 for a negative one.
+/// The length of an int64's encoding: 1 to 9 bytes, or 10 for a negative one.
 ///
 /// ```ignore
 /// let len = int64_encoded_len(*value); // 10 for -1
@@ -77,7 +77,7 @@ pub fn int64_encoded_len(value: i64) -> usize
 /// "Signed Integers".
 ///
 /// # Errors
-/// [`EncodeError::OutOfMemory`] alone, after a beginning of the text.
+/// [`EncodeError::OutOfMemory`] alone, after a beginning of the encoding.
 ///
 /// ```ignore
 /// encode_int64(*value, text)?; // FF FF FF FF FF FF FF FF FF 01 for -1
@@ -107,7 +107,7 @@ pub fn decode_int64<B: Buf>(buf: &mut B) -> Result<i64, DecodeError>
     Ok(number.cast_signed())
 }
 
-/// The length of a uint32's text: 1 to 5 bytes.
+/// The length of a uint32's encoding: 1 to 5 bytes.
 ///
 /// ```ignore
 /// let len = uint32_encoded_len(*value); // 2 for 150
@@ -121,7 +121,7 @@ pub fn uint32_encoded_len(value: u32) -> usize
 /// Writes a uint32: a varint.
 ///
 /// # Errors
-/// [`EncodeError::OutOfMemory`] alone, after a beginning of the text.
+/// [`EncodeError::OutOfMemory`] alone, after a beginning of the encoding.
 ///
 /// ```ignore
 /// encode_uint32(*value, text)?; // 96 01 for 150
@@ -151,7 +151,7 @@ pub fn decode_uint32<B: Buf>(buf: &mut B) -> Result<u32, DecodeError>
     Ok((number % (1 << 32)) as u32)
 }
 
-/// The length of a uint64's text: 1 to 10 bytes.
+/// The length of a uint64's encoding: 1 to 10 bytes.
 ///
 /// ```ignore
 /// let len = uint64_encoded_len(*value); // 2 for 150
@@ -165,7 +165,7 @@ pub fn uint64_encoded_len(value: u64) -> usize
 /// Writes a uint64: a varint.
 ///
 /// # Errors
-/// [`EncodeError::OutOfMemory`] alone, after a beginning of the text.
+/// [`EncodeError::OutOfMemory`] alone, after a beginning of the encoding.
 ///
 /// ```ignore
 /// encode_uint64(*value, text)?; // 96 01 for 150
@@ -194,7 +194,7 @@ pub fn decode_uint64<B: Buf>(buf: &mut B) -> Result<u64, DecodeError>
     decode_varint(buf)
 }
 
-/// The length of a sint32's text: 1 to 5 bytes.
+/// The length of a sint32's encoding: 1 to 5 bytes.
 ///
 /// ```ignore
 /// let len = sint32_encoded_len(*value); // 1 for -2
@@ -208,7 +208,7 @@ pub fn sint32_encoded_len(value: i32) -> usize
 /// Writes a sint32: its zigzag as a varint.
 ///
 /// # Errors
-/// [`EncodeError::OutOfMemory`] alone, after a beginning of the text.
+/// [`EncodeError::OutOfMemory`] alone, after a beginning of the encoding.
 ///
 /// ```ignore
 /// encode_sint32(*value, text)?; // 03 for -2
@@ -238,7 +238,7 @@ pub fn decode_sint32<B: Buf>(buf: &mut B) -> Result<i32, DecodeError>
     Ok(zigzag_decode_i32((number % (1 << 32)) as u32))
 }
 
-/// The length of a sint64's text: 1 to 10 bytes.
+/// The length of a sint64's encoding: 1 to 10 bytes.
 ///
 /// ```ignore
 /// let len = sint64_encoded_len(*value); // 1 for -2
@@ -252,7 +252,7 @@ pub fn sint64_encoded_len(value: i64) -> usize
 /// Writes a sint64: its zigzag as a varint.
 ///
 /// # Errors
-/// [`EncodeError::OutOfMemory`] alone, after a beginning of the text.
+/// [`EncodeError::OutOfMemory`] alone, after a beginning of the encoding.
 ///
 /// ```ignore
 /// encode_sint64(*value, text)?; // 03 for -2
@@ -282,13 +282,13 @@ pub fn decode_sint64<B: Buf>(buf: &mut B) -> Result<i64, DecodeError>
     Ok(zigzag_decode_i64(number))
 }
 
-/// The length of a bool's text, in bytes.
+/// The length of a bool's encoding, in bytes.
 pub const BOOL_ENCODED_LEN: usize = 1;
 
 /// Writes a bool: 1 for true, 0 for false. Source: the protobuf encoding guide, "Bools and Enums".
 ///
 /// # Errors
-/// [`EncodeError::OutOfMemory`] alone, after a beginning of the text.
+/// [`EncodeError::OutOfMemory`] alone, after a beginning of the encoding.
 ///
 /// ```ignore
 /// encode_bool(*value, text)?; // 01 for true

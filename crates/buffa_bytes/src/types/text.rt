@@ -17,7 +17,7 @@ use crate::varint::{decode_varint, encode_varint, prefix_len};
 use bytes::Bytes;
 use std::alloc::Global;
 
-/// The length of a string's text: the length varint and the bytes.
+/// The length of a string's encoding: the length varint and the bytes.
 ///
 /// ```ignore
 /// let len = string_encoded_len(value.as_str()); // 8 for "testing"
@@ -31,7 +31,7 @@ pub fn string_encoded_len(value: &str) -> usize
 /// Writes a string: the length as a varint, and the bytes.
 ///
 /// # Errors
-/// [`EncodeError::OutOfMemory`] alone, after a beginning of the text.
+/// [`EncodeError::OutOfMemory`] alone, after a beginning of the encoding.
 ///
 /// ```ignore
 /// encode_string("testing", &mut text)?; // 07 74 65 73 74 69 6E 67
@@ -77,7 +77,7 @@ pub fn decode_string<B: Buf>(alloc: Global, buf: &mut B) -> Result<String, Decod
     }
 }
 
-/// The length of a bytes value's text: the length varint and the bytes.
+/// The length of a bytes value's encoding: the length varint and the bytes.
 ///
 /// ```ignore
 /// let len = bytes_encoded_len(value.as_slice()); // 3 for DE AD
@@ -91,7 +91,7 @@ pub fn bytes_encoded_len(value: &[u8]) -> usize
 /// Writes bytes: the length as a varint, and the bytes.
 ///
 /// # Errors
-/// [`EncodeError::OutOfMemory`] alone, after a beginning of the text.
+/// [`EncodeError::OutOfMemory`] alone, after a beginning of the encoding.
 ///
 /// ```ignore
 /// encode_bytes(value.as_slice(), text)?; // 02 DE AD for DE AD

@@ -57,14 +57,15 @@ fn decode_plain<B: Buf>(
 
 /// Reads the field whose tag was read, and keeps it.
 ///
-/// It spends one slot for the field, and one for each field in its groups, and no element memory. After an
-/// error no more slots are spent than one and the bytes that were read, and one, where one was left, of a field that is no
-/// group and of a group at depth 0. Memory is asked for only where a slot was left, for bytes, one at least, that are
-/// there, and for a group's fields once the first is read.
+/// Of the unknown fields left it spends one for the field, and one for each field in its groups, and it
+/// spends no element memory. After an error no more unknown fields are spent than one and the bytes that were
+/// read, and one, where one was left, of a field that is no group and of a group at depth 0. Memory is asked
+/// for only where an unknown field was left, for bytes, one at least, that are there, and for a group's
+/// fields once the first is read.
 ///
 /// # Errors
-/// The first fault, in this order: [`DecodeError::InvalidEndGroup`] for an end tag, which takes no slot;
-/// [`DecodeError::UnknownFieldLimitExceeded`] where no slot is left; those of the payload, as
+/// The first fault, in this order: [`DecodeError::InvalidEndGroup`] for an end tag, which spends nothing;
+/// [`DecodeError::UnknownFieldLimitExceeded`] where no unknown field is left; those of the payload, as
 /// [`skip_field_depth`](crate::skip_field_depth) tells them. Inside a group, one level less deep, the same
 /// of each tag and field. Or [`DecodeError::OutOfMemory`].
 ///
@@ -171,7 +172,7 @@ fn decode_group<B: Buf>(
 
 impl UnknownFields {
     /// Reads fields to the end of the bytes, with groups nested at most [`RECURSION_LIMIT`] deep and
-    /// [`DEFAULT_UNKNOWN_FIELD_LIMIT`] slots.
+    /// [`DEFAULT_UNKNOWN_FIELD_LIMIT`] unknown fields left.
     ///
     /// # Errors
     /// The first fault: of a tag, as [`Tag::decode`] tells it, or of the field behind it, as

@@ -1,4 +1,4 @@
-//! The lengths of texts of unknown fields.
+//! The lengths of encodings of unknown fields.
 
 ghost use Rattle.std.specs.Prelude.{◌≡◌, ◌≤◌, length, min};
 ghost use Rattle.buffa_wire.specs.Encoding.{records_encoding, field_encoding, payload_encoding};
@@ -11,7 +11,7 @@ use crate::unknown_fields::{UnknownFieldData, UnknownFields};
 use buffa_bytes::{WireType, prefix_len, varint_len};
 
 impl UnknownFields {
-    /// The length of the text that [`UnknownFields::write_to`] writes, in bytes, or 2^64 - 1 where it is
+    /// The length of the encoding that [`UnknownFields::write_to`] writes, in bytes, or 2^64 - 1 where it is
     /// longer. It takes no memory.
     ///
     /// ```ignore
@@ -54,7 +54,7 @@ fn tag_len(number: u32, wire_type: WireType) -> u64
     prefix_len(tag_value(number, wire_type)) as u64
 }
 
-// The length of a field's text, or 2^64 - 1 where it is longer.
+// The length of a field's encoding, or 2^64 - 1 where it is longer.
 #[cycle(size)]
 #[inline(always)]
 fn field_len(number: u32, payload: &UnknownFieldData) -> u64

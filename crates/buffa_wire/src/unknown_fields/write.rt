@@ -1,4 +1,4 @@
-//! The texts of unknown fields.
+//! The encodings of unknown fields.
 
 ghost use Rattle.buffa_wire.specs.Encoding.{records_encoding, field_encoding, payload_encoding};
 ghost use Rattle.buffa_wire.specs.View.{datum_of};
@@ -16,7 +16,7 @@ impl UnknownFields {
     /// to that are read back.
     ///
     /// # Errors
-    /// [`EncodeError::OutOfMemory`] alone, after a beginning of the text.
+    /// [`EncodeError::OutOfMemory`] alone, after a beginning of the encoding.
     ///
     /// Source: the protobuf encoding guide, "Message Structure".
     ///

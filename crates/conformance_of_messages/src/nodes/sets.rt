@@ -46,7 +46,7 @@ impl<V: Worded<Nodes>> Told for Vec<V> {
     }
 }
 
-// The text of a MessageSet.
+// The encoding of a MessageSet.
 fn text_of(alloc: Global, set: &SetMsg) -> Result<String, Fault> {
     match set.try_encode_to_vec(alloc) {
         Ok(text) => text_told(alloc, text.as_slice()),
@@ -72,7 +72,7 @@ fn found_told<T: Told>(alloc: Global, found: &Result<T, AllocError>) -> Result<S
     }
 }
 
-// What is read, and the text that stands.
+// What is read, and the encoding that stands.
 fn get<T: Told + Drop, C: ExtensionCodec<Output = T>>(
     alloc: Global,
     case: &Case<'_>,
@@ -115,7 +115,7 @@ fn refused_told(
     Outcome::of_words(alloc, told, Ok(String::new(alloc)), none, refused)
 }
 
-// What is told of a set that was not refused: what is read of it, and the text then.
+// What is told of a set that was not refused: what is read of it, and the encoding then.
 fn set_told<T: Told + Drop, C: ExtensionCodec<Output = T>>(
     alloc: Global,
     set: &SetMsg,
@@ -132,7 +132,8 @@ fn set_told<T: Told + Drop, C: ExtensionCodec<Output = T>>(
     Outcome::of_words(alloc, got(alloc, true), words, Ok(text), refused)
 }
 
-// What is read of what was set, and the text then; another answer where a set that is refused changes the text.
+// What is read of what was set, and the encoding then; another answer where a set that is refused changes
+// the encoding.
 fn set<T: Told + Drop, V: Drop, C: ExtensionCodec<Value = V, Output = T>>(
     alloc: Global,
     case: &Case<'_>,
@@ -165,7 +166,7 @@ fn cleared_told(alloc: Global, had: bool, has: bool) -> Result<String, Fault> {
     Ok(format!(in alloc; "{had} {has}")?)
 }
 
-// Whether there is an extension, and whether there is after it was cleared; and the text then.
+// Whether there is an extension, and whether there is after it was cleared; and the encoding then.
 fn clear<C: ExtensionCodec>(
     alloc: Global,
     case: &Case<'_>,

@@ -11,7 +11,7 @@ use std::alloc::Global;
 // What is done in a context.
 #[derive(Clone, Copy)]
 enum Deed {
-    // A slot is spent.
+    // An unknown field is spent.
     Slot,
     // Units are spent.
     Units(usize),

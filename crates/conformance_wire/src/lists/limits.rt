@@ -27,7 +27,7 @@ fn levels() -> Limit {
     (1000, Ok(()))
 }
 
-// How many slots there are, and what is told of one more.
+// How many unknown fields there are, and what is told of one more.
 fn slots() -> Limit {
     let mut budget = Budget::new(DEFAULT_UNKNOWN_FIELD_LIMIT);
     for slot in 0..10_000_000u64 {

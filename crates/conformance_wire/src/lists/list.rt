@@ -23,7 +23,7 @@ fn standing(alloc: Global, case: &Case<'_>) -> Result<UnknownFields, Fault> {
     Ok(fields)
 }
 
-// How many records there are, and their text.
+// How many records there are, and their encoding.
 fn list_told(
     alloc: Global,
     is_ok: bool,
@@ -94,7 +94,7 @@ pub fn reserved(alloc: Global, case: &Case<'_>, mark: &mut Mark) -> Result<Outco
     Outcome::of_words(alloc, got(alloc, is_ok), words, records, refused)
 }
 
-/// The text of records: its length, and the text.
+/// The encoding of records: its length, and the encoding.
 pub fn text(alloc: Global, case: &Case<'_>, mark: &mut Mark) -> Result<Outcome, Fault> {
     let fields = standing(alloc, case)?;
     let mut text = Vec::new(alloc);

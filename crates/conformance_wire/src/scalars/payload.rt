@@ -67,7 +67,7 @@ where
     read_told::<By, P::Value, B>(alloc, case, read, refused, buf)
 }
 
-/// A payload that is written: the length that was announced, and the text.
+/// A payload that is written: the length that was announced, and the encoding.
 pub fn spell<By, P: Payload>(
     alloc: Global,
     case: &Case<'_>,

@@ -24,7 +24,7 @@ fn tag_of<B: Buf>(buf: &mut B, expected: Option<WireType>) -> Result<Tag, Decode
     Ok(tag)
 }
 
-// The text of a tag.
+// The encoding of a tag.
 fn text_of(alloc: Global, tag: Tag) -> Result<String, Fault> {
     let mut text = Vec::new(alloc);
     match tag.encode(&mut text) {
@@ -44,7 +44,7 @@ fn tag_word(alloc: Global, read: Result<Tag, DecodeError>) -> Result<String, Fau
     }
 }
 
-// The text of a tag that was read, or nothing.
+// The encoding of a tag that was read, or nothing.
 fn tag_text(alloc: Global, read: Result<Tag, DecodeError>) -> Result<String, Fault> {
     match read {
         Ok(tag) => text_of(alloc, tag),
@@ -91,7 +91,7 @@ fn tag_of_words(words: &str) -> Result<Tag, Fault> {
     Ok(Tag::new(number, wire_type))
 }
 
-/// A tag that is written: its length, and its text. It stands as `number:wire type`.
+/// A tag that is written: its length, and its encoding. It stands as `number:wire type`.
 pub fn spell(alloc: Global, case: &Case<'_>, mark: &mut Mark) -> Result<Outcome, Fault> {
     let tag = tag_of_words(case.input())?;
     let mut text = Vec::new(alloc);

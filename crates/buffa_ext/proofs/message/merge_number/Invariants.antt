@@ -4,7 +4,7 @@ use Rattle.buffa_codec.specs.Sub.{sub}
 use Rattle.buffa_ext.specs.Messages.{IsAllMerged, encodings_in}
 use Rattle.buffa_ext.proofs.message.merge_number.Given as goal
 
--- the texts so far are merged
+-- the encodings so far are merged
 abbrev pub invariant-loop-field : goal.invariant-loop-field
 invariant-loop-field g l =
     IsAllMerged (g.M.MessageSpec.merged 100) (g.M.MessageSpec.cost 100) (encodings_in g.K.MessageRecord.held (sub l.number (records_in (take l.field-index l.field-items))))

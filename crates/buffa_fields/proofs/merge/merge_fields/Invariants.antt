@@ -2,7 +2,7 @@ use Rattle.std.proofs.Common.{◌≤◌, length}
 use Rattle.buffa_fields.specs.Stands.{Merged, Paid}
 use Rattle.buffa_fields.proofs.merge.merge_fields.Given as goal
 
--- the bytes before the rest were merged and paid for, and no slot came back
+-- the bytes before the rest were merged and paid for, and no unknown field came back
 abbrev pub invariant-loop-rest : goal.invariant-loop-rest
 invariant-loop-rest g l = record {
   merged : Merged g.M.Fields.layout.takes l.depth (g.M.Fields.layout.meaning l.fn.message) l.bytes l.rest (g.M.Fields.layout.meaning l.message);
