@@ -2,7 +2,7 @@
 #![tactic(auto)]
 
 mod inside;
-mod merges;
+pub mod merges;
 mod messages;
 mod parts;
 mod passes;
@@ -10,7 +10,6 @@ mod slots;
 mod stands;
 
 pub use inside::delimited;
-pub use merges::standing;
 pub use messages::message;
 pub use parts::{Parted, Parts, parted_word};
 pub use stands::{merge, parted};

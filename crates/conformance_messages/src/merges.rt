@@ -60,7 +60,7 @@ fn tagged<M: Message>(
 }
 
 /// Merges one field, tag and all.
-pub(crate) fn field<M: Message>(
+pub fn field<M: Message>(
     alloc: Global,
     message: &mut M,
     buf: &mut &[u8],
@@ -127,7 +127,7 @@ pub(crate) fn outcome_of(
 }
 
 /// Merges what the row says, and says how many bytes are unread, and whether a request for memory was refused.
-pub(crate) fn merging<M: Message>(
+pub fn merging<M: Message>(
     alloc: Global,
     case: &Case<'_>,
     mark: &mut Mark,

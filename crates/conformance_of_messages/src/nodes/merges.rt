@@ -1,65 +1,14 @@
 // Bytes that are merged into a message, and what stands where they are refused.
 
 use crate::nodes::Nodes;
-use buffa_wire::{Budget, Buf, DecodeContext, DecodeError, Message, RECURSION_LIMIT, Tag};
+use buffa_wire::{Buf, DecodeContext, DecodeError, Message, RECURSION_LIMIT};
+use conformance_messages::merges::{field, merging, standing};
 use conformance_rows::case::Case;
 use conformance_rows::fault::Fault;
 use conformance_rows::mark::Mark;
-use conformance_rows::outcome::{Outcome, left, told};
+use conformance_rows::outcome::{Outcome, budget_of, left, told};
 use conformance_rows::words::Worded;
 use std::alloc::Global;
-
-/// The message that the bytes before are read as.
-pub(crate) fn standing<M: Message>(alloc: Global, case: &Case<'_>) -> Result<M, Fault> {
-    let bytes = hex::decode(alloc, case.before())?;
-    let mut message = M::blank(alloc);
-    match message.merge_from_slice(alloc, bytes.as_slice()) {
-        Ok(()) => Ok(message),
-        Err(_) => Err(Fault::Form),
-    }
-}
-
-// Merges all fields; under budgets of their own, where the row says `how=alone`.
-fn fields<M: Message>(
-    alloc: Global,
-    case: &Case<'_>,
-    message: &mut M,
-    bytes: &[u8],
-    ctx: DecodeContext<'_>,
-) -> Result<(), DecodeError> {
-    if case.says("how", "alone") {
-        return message.merge_from_slice(alloc, bytes);
-    }
-    message.merge(alloc, bytes, ctx)
-}
-
-// Merges one field, tag and all.
-fn field<M: Message>(
-    alloc: Global,
-    message: &mut M,
-    buf: &mut &[u8],
-    ctx: DecodeContext<'_>,
-) -> Result<(), DecodeError> {
-    let tag = Tag::decode(buf)?;
-    message.merge_field(alloc, tag, buf, ctx)
-}
-
-// Merges what the row says, and says how many bytes are unread.
-fn merged<M: Message>(
-    alloc: Global,
-    case: &Case<'_>,
-    message: &mut M,
-    bytes: &[u8],
-    ctx: DecodeContext<'_>,
-) -> Result<usize, DecodeError> {
-    if case.call == "merge-field" {
-        let mut buf = bytes;
-        field::<M>(alloc, message, &mut buf, ctx)?;
-        return Ok(buf.remaining());
-    }
-    fields::<M>(alloc, case, message, bytes, ctx)?;
-    Ok(0)
-}
 
 // How many levels a row gives.
 fn levels(case: &Case<'_>) -> Result<u32, Fault> {
@@ -67,12 +16,6 @@ fn levels(case: &Case<'_>) -> Result<u32, Fault> {
         return Ok(RECURSION_LIMIT);
     }
     case.depth()
-}
-
-// The budget of a row.
-fn budget_of(case: &Case<'_>) -> Result<Budget, Fault> {
-    let slots = case.slots()?;
-    Ok(Budget::new(slots).with_element_memory(case.units()?))
 }
 
 // Whether a message's word is this one.
@@ -135,9 +78,7 @@ pub(crate) fn merge<M: Message + Worded<Nodes>>(
     let mut budget = budget_of(case)?;
     let ctx = DecodeContext::new(case.depth()?, &mut budget);
     let mut message = standing::<M>(alloc, case)?;
-    mark.begin(alloc);
-    let answer = merged::<M>(alloc, case, &mut message, bytes, ctx);
-    let refused = mark.end();
+    let (answer, refused) = merging::<M>(alloc, case, mark, bytes, &mut message, ctx);
     let word = message.word(alloc)?;
     let told = answer_told::<M>(alloc, case, bytes, answer, word.as_str());
     let unread = answer.unwrap_or(0);

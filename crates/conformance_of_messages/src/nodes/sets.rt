@@ -1,11 +1,11 @@
 // Extensions of a MessageSet, which are its Items.
 
 use crate::nodes::Nodes;
-use crate::nodes::merges::standing;
 use buffa_ext::codecs::{BytesCodec, Int32, Repeated, StringCodec};
 use buffa_ext::{Extension, ExtensionCodec, ExtensionSet};
 use buffa_set_msg::SetMsg;
 use buffa_wire::{EncodeError, Message};
+use conformance_messages::merges::standing;
 use conformance_rows::case::Case;
 use conformance_rows::fault::Fault;
 use conformance_rows::mark::Mark;
