@@ -9,7 +9,7 @@ pub use Rattle.buffa_bytes.specs.Pieces.{joined}
 pub use Rattle.buffa_bytes.specs.Reading.{check_wire, delimited_at, skip_at, tag_at, taken, varint_at}
 pub use Rattle.buffa_bytes.specs.Scalars.{bool_at, bool_encoding, fixed32_at, fixed32_encoding, fixed64_at, fixed64_encoding, int32_at, int32_encoding, int64_at, int64_encoding, sfixed32_at, sfixed32_encoding, sfixed64_at, sfixed64_encoding, sint32_at, sint32_encoding, sint64_at, sint64_encoding, uint32_at, uint32_encoding, uint64_at, uint64_encoding, unzigzag, zigzag}
 pub use Rattle.buffa_bytes.specs.Texts.{bytes_as, string_as, text_as}
-pub use Rattle.buffa_bytes.specs.Unread.{IsFrontOf, IsTailOf, MayBeCut}
+pub use Rattle.buffa_bytes.specs.Unread.{IsFrontOf, IsTailOf, MayBeCut, bytes_read}
 pub use Rattle.buffa_bytes.specs.Values.{delimited_encoding, string_at, tag_encoding}
 pub use Rattle.buffa_bytes.specs.Varint.{varint_encoding}
 pub use Rattle.buffa_bytes.specs.WireType.{wire_kind, wire_number}
@@ -23,5 +23,4 @@ pub use Rattle.buffa_wire.specs.Passes.{IsNext, IsSized, IsWritten}
 pub use Rattle.buffa_wire.specs.RecordReading.{ListTakesMemory, TakesMemory, field_in, list_at}
 pub use Rattle.buffa_wire.specs.Records.{Datum, IsEmpty, IsNumeric, bytes, records_of}
 pub use Rattle.buffa_wire.specs.Encoding.{records_encoding, wire_of}
-pub use Rattle.buffa_wire.specs.Unread.{bytes_read}
 pub use Rattle.buffa_wire.specs.View.{AnswersRecords, CalledAtRecord, datum_of, record_of, records_in}

@@ -2,7 +2,7 @@
 use Rattle.std.proofs.Common.{◌≡◌, ℕ, zero, suc, ◌≤◌, List, [], ◌∷◌, length, Result, Ok, Err, refl, sym, ap, ◌∙◌, subst, arith}
 use Rattle.buffa_bytes.specs.declared.wire_type.WireType.{WireType}
 use Rattle.buffa_bytes.specs.declared.error.DecodeError.{DecodeError}
-use Rattle.buffa_wire.specs.Content.{Content, content_at}
+use Rattle.buffa_bytes.specs.Content.{Content, content_at}
 use Rattle.buffa_bytes.proofs.StepLemmas.{agree_ok, agree_err}
 use Rattle.buffa_bytes.proofs.ContentLemmas.{content_sound, content_taken, content_faulty}
 use Rattle.buffa_codec.specs.Packed.{numbers_in}

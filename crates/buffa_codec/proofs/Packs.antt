@@ -5,8 +5,8 @@ use Rattle.std.proofs.lemmas.Grind.{common_steps}
 use Rattle.std.proofs.lemmas.List.{length-append, length-map, map-append}
 use Rattle.buffa_bytes.specs.declared.wire_type.WireType.{WireType}
 use Rattle.buffa_bytes.specs.declared.error.DecodeError.{DecodeError}
-use Rattle.buffa_wire.specs.Content.{content_at}
-use Rattle.buffa_wire.specs.Content.Content.{number}
+use Rattle.buffa_bytes.specs.Content.{content_at}
+use Rattle.buffa_bytes.specs.Content.Content.{number}
 use Rattle.buffa_codec.specs.Packed.{numbers_in}
 use Rattle.buffa_codec.specs.Reading.{AddsSomeValues}
 use Rattle.buffa_codec.specs.PackedFacts.{numbers_step, numbers_end}

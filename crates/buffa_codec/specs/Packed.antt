@@ -1,7 +1,7 @@
 -- Packed numbers: payloads of one wire type, one after the other.
 -- Source: the protobuf encoding guide, "Packed Repeated Fields".
 use Rattle.std.specs.Prelude.{ℕ, zero, suc, List, [], ◌∷◌, length, Result, Ok, Err}
-use Rattle.buffa_wire.specs.Content.{Content, content_at, number_in}
+use Rattle.buffa_bytes.specs.Content.{Content, content_at, number_in}
 use Rattle.buffa_bytes.specs.declared.wire_type.WireType.{WireType}
 use Rattle.buffa_bytes.specs.declared.error.DecodeError.{DecodeError}
 

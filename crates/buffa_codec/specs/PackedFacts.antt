@@ -4,8 +4,8 @@ use Rattle.std.proofs.lemmas.List.{length-append}
 use Rattle.buffa_bytes.specs.declared.wire_type.WireType.{WireType}
 use Rattle.buffa_bytes.specs.declared.wire_type.WireType.TheVariants.{Varint, Fixed64, LengthDelimited, Fixed32}
 use Rattle.buffa_bytes.specs.declared.error.DecodeError.{DecodeError}
-use Rattle.buffa_wire.specs.Content.{Content, HasContent, content_at, number_in}
-use Rattle.buffa_wire.specs.Content.Content.{number, bytes}
+use Rattle.buffa_bytes.specs.Content.{Content, HasContent, content_at, number_in}
+use Rattle.buffa_bytes.specs.Content.Content.{number, bytes}
 use Rattle.buffa_bytes.proofs.StepLemmas.{agree_ok}
 use Rattle.buffa_bytes.proofs.ContentLemmas.{content_sound, content_complete}
 use Rattle.buffa_bytes.proofs.VarintLemmas.{varint_falls}

@@ -1,7 +1,7 @@
 -- What packed numbers are, in the words of the grammar of payloads.
 -- Source: the protobuf encoding guide, "Packed Repeated Fields".
 use Rattle.std.specs.Prelude.{◌≡◌, ℕ, List, [], ◌∷◌}
-use Rattle.buffa_wire.specs.Content.{Content, ContentFault, TakesContent, number_in}
+use Rattle.buffa_bytes.specs.Content.{Content, ContentFault, TakesContent, number_in}
 use Rattle.buffa_bytes.specs.declared.wire_type.WireType.{WireType}
 use Rattle.buffa_bytes.specs.declared.error.DecodeError.{DecodeError}
 

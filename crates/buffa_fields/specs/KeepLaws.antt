@@ -22,7 +22,7 @@ use Rattle.buffa_fields.specs.Keep.{AllNumbers, IsFieldThere, KeepTakesMemory, k
 use Rattle.buffa_fields.specs.PairLaws.{both_true}
 use Rattle.buffa_fields.specs.Takes.{IsTaken, Leads, Piece, ReadsBack, Untaken, joined}
 use Rattle.buffa_wire.proofs.SpentLemmas.{is_there}
-use Rattle.buffa_wire.specs.Gives.{FullOnlyIf}
+use Rattle.buffa_bytes.specs.Gives.{FullOnlyIf}
 
 -- ---- a payload makes a record
 takes_record : (d n : ℕ) (w : WireType) (p : List ℕ) (x : Datum) → IsPayload d n x p → wire_of x ≡ w → (v : List (ℕ × Datum)) → keep_takes d v n w p ≡ Some (v ++ (n, x) ∷ [])

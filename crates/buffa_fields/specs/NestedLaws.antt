@@ -18,17 +18,17 @@ use Rattle.buffa_wire.proofs.SequenceLemmas.{ok_same}
 use Rattle.buffa_wire.proofs.SpentLemmas.{takes_bytes}
 use Rattle.buffa_wire.specs.BudgetLeft.{BudgetLeft, Lacks, PaysAtMost}
 use Rattle.buffa_wire.specs.Cache.{Cache, advanced}
-use Rattle.buffa_wire.specs.Field.{Payload}
-use Rattle.buffa_wire.specs.Gives.{FullOnlyIf}
+use Rattle.buffa_bytes.specs.Field.{Payload}
+use Rattle.buffa_bytes.specs.Gives.{FullOnlyIf}
 use Rattle.buffa_wire.specs.Message.{IsInside, PayloadFault, cost_of_payload}
-use Rattle.buffa_wire.specs.Number.{IsNumber}
+use Rattle.buffa_bytes.specs.Number.{IsNumber}
 use Rattle.buffa_wire.specs.Parse.{Fits}
 use Rattle.buffa_wire.specs.Passes.{IsSmall, IsWritten, cap}
-use Rattle.buffa_wire.specs.Reading.{delimited_at}
+use Rattle.buffa_bytes.specs.Reading.{delimited_at}
 use Rattle.buffa_wire.specs.Records.{bytes, records_of}
 use Rattle.buffa_wire.specs.Encoding.{records_encoding}
-use Rattle.buffa_wire.specs.Values.{delimited_encoding, tag_encoding}
-use Rattle.buffa_wire.specs.Varint.{varint_encoding}
+use Rattle.buffa_bytes.specs.Values.{delimited_encoding, tag_encoding}
+use Rattle.buffa_bytes.specs.Varint.{varint_encoding}
 use Rattle.buffa_map.proofs.BackLemmas.{is_tag}
 use Rattle.buffa_map.proofs.EntryLemmas.{same_false}
 use Rattle.buffa_fields.specs.Nested.{MessageTakesMemory, inside, message_cost, message_in, message_levels, message_records, message_slots, message_taken, or_blank}

@@ -9,14 +9,14 @@ use Rattle.buffa_bytes.specs.declared.wire_type.WireType.TheVariants.{LengthDeli
 use Rattle.buffa_wire.proofs.PassLemmas.{written_same}
 use Rattle.buffa_wire.specs.BudgetLeft.{BudgetLeft}
 use Rattle.buffa_wire.specs.Cache.{Cache}
-use Rattle.buffa_wire.specs.Content.Content.{bytes as held}
-use Rattle.buffa_wire.specs.Number.{IsNumber}
+use Rattle.buffa_bytes.specs.Content.Content.{bytes as held}
+use Rattle.buffa_bytes.specs.Number.{IsNumber}
 use Rattle.buffa_wire.specs.Parse.{Fits}
 use Rattle.buffa_wire.specs.Passes.{IsSized, IsSmall, IsWritten, cap}
 use Rattle.buffa_wire.specs.Records.{records_of}
 use Rattle.buffa_wire.specs.Encoding.{records_encoding}
-use Rattle.buffa_wire.specs.Values.{tag_encoding}
-use Rattle.buffa_wire.specs.Varint.{varint_encoding}
+use Rattle.buffa_bytes.specs.Values.{tag_encoding}
+use Rattle.buffa_bytes.specs.Varint.{varint_encoding}
 use Rattle.buffa_map.proofs.BackLemmas.{IsReadBack}
 use Rattle.buffa_map.proofs.MessageFieldLemmas.{small_field}
 use Rattle.buffa_map.proofs.SizeLemmas.{length-entry_encoding, length-field_encoding}

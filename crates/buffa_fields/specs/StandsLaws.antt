@@ -8,11 +8,11 @@ use Rattle.buffa_bytes.specs.declared.error.DecodeError.TheVariants.{OutOfMemory
 use Rattle.buffa_bytes.specs.declared.wire_type.WireType.{WireType}
 use Rattle.buffa_wire.proofs.MessageLemmas.{field_costs, field_means, judged_all, loop_fault, untagged}
 use Rattle.buffa_wire.specs.BudgetLeft.{BudgetLeft, Pays, PaysAtMost}
-use Rattle.buffa_wire.specs.Field.{SomeField}
-use Rattle.buffa_wire.specs.Join.{Join}
-use Rattle.buffa_wire.specs.Join.Join.{none, more}
+use Rattle.buffa_bytes.specs.Field.{SomeField}
+use Rattle.buffa_bytes.specs.Join.{Join}
+use Rattle.buffa_bytes.specs.Join.Join.{none, more}
 use Rattle.buffa_wire.specs.Message.{MergeFault}
-use Rattle.buffa_wire.specs.Reading.{tag_at}
+use Rattle.buffa_bytes.specs.Reading.{tag_at}
 use Rattle.buffa_fields.specs.Layout.{Layout}
 use Rattle.buffa_fields.specs.LayoutLaws.{merges}
 use Rattle.buffa_fields.specs.Stands.{MergingTakesMemory, Merged, Paid, Stands}

@@ -11,20 +11,18 @@ use Rattle.buffa_bytes.specs.declared.wire_type.WireType.{WireType}
 use Rattle.buffa_bytes.specs.declared.wire_type.WireType.TheVariants.{Varint, Fixed64, LengthDelimited, StartGroup, EndGroup, Fixed32}
 use Rattle.buffa_wire.proofs.MessageLemmas.{NoLimit, length_no_limit, var_no_limit}
 use Rattle.buffa_wire.specs.BudgetLeft.{BudgetLeft}
-use Rattle.buffa_wire.specs.Field.{Payload}
+use Rattle.buffa_bytes.specs.Field.{Payload, IsTag}
 use Rattle.buffa_wire.specs.Message.{IsLimit}
-use Rattle.buffa_wire.specs.Number.{IsNumber}
-use Rattle.buffa_wire.specs.WireType.{same_wire}
+use Rattle.buffa_bytes.specs.Number.{IsNumber}
+use Rattle.buffa_bytes.specs.WireType.{same_wire, wire_number}
 use Rattle.buffa_map.proofs.EntryLemmas.{same_false, same_refl, value_complete, value_sound}
 use Rattle.buffa_map.specs.Codec.{Reading, Refuses, Spends, Tells, ValueFault, Writing, level, value_at}
 use Rattle.buffa_fields.specs.Takes.{IsTaken, Piece, ReadsBack, joined}
 use Rattle.buffa_fields.specs.Values.{IfThere, all_of, free, records_unless, some_records, some_taken, value_taken}
 use Rattle.buffa_bytes.proofs.FieldLemmas.{wire_small}
-use Rattle.buffa_bytes.specs.WireType.{wire_number}
-use Rattle.buffa_wire.specs.Field.{IsTag}
 use Rattle.buffa_wire.specs.Records.{Datum}
 use Rattle.buffa_wire.specs.Encoding.{field_encoding, records_encoding}
-use Rattle.buffa_wire.specs.Values.{tag_encoding}
+use Rattle.buffa_bytes.specs.Values.{tag_encoding}
 
 -- ---- contents are payloads
 pub content_payload : (d n : ℕ) (w : WireType) (p : List ℕ) (c : Content) → HasContent w p c → Payload d n w p

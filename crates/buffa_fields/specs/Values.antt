@@ -5,8 +5,8 @@ use Rattle.std.specs.Option.{option_map}
 use Rattle.buffa_bytes.specs.declared.error.DecodeError.{DecodeError}
 use Rattle.buffa_wire.specs.BudgetLeft.{nothing}
 use Rattle.buffa_wire.specs.Records.{Datum}
-use Rattle.buffa_wire.specs.Values.{tag_encoding}
-use Rattle.buffa_wire.specs.WireType.{same_wire}
+use Rattle.buffa_bytes.specs.Values.{tag_encoding}
+use Rattle.buffa_bytes.specs.WireType.{same_wire}
 use Rattle.buffa_map.specs.Codec.{HoldsNothing, Reading, TakesMemory, Writing, value_at}
 use Rattle.buffa_fields.specs.Takes.{Asks, Need, Taker}
 

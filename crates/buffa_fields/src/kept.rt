@@ -2,7 +2,7 @@
 
 ghost use Rattle.std.specs.Prelude.{◌≡◌, IfOk, length};
 ghost use Rattle.buffa_wire.specs.BudgetLeft.{budget_left};
-ghost use Rattle.buffa_wire.specs.Gives.{FullOnlyIf, GivesUnlessFull};
+ghost use Rattle.buffa_bytes.specs.Gives.{FullOnlyIf, GivesUnlessFull};
 ghost use Rattle.buffa_wire.specs.Passes.{cap};
 ghost use Rattle.buffa_wire.specs.RecordReading.{TakesMemory, field_at};
 ghost use Rattle.buffa_wire.specs.Encoding.{records_encoding};

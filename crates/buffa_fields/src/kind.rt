@@ -3,7 +3,7 @@
 ghost use Rattle.std.specs.Prelude.{◌≡◌, ◌++◌, ℕ, Bool, true, IsTrue, ◌↔◌};
 ghost use Rattle.buffa_wire.specs.Records.{Datum};
 ghost use Rattle.buffa_wire.specs.Encoding.{field_encoding};
-ghost use Rattle.buffa_wire.specs.Values.{tag_encoding};
+ghost use Rattle.buffa_bytes.specs.Values.{tag_encoding};
 
 use buffa_map::map_codec::MapCodec;
 

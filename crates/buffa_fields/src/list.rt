@@ -5,13 +5,12 @@ ghost use Rattle.buffa_bytes.specs.Content.{content_at};
 ghost use Rattle.buffa_bytes.specs.Gives.{FullOnlyIf, Gives, GivesUnlessFull};
 ghost use Rattle.buffa_bytes.specs.Reading.{delimited_at};
 ghost use Rattle.buffa_wire.specs.BudgetLeft.{BudgetLeft};
-ghost use Rattle.buffa_wire.specs.Number.{IsNumber};
+ghost use Rattle.buffa_bytes.specs.Number.{IsNumber};
 ghost use Rattle.buffa_wire.specs.Passes.{cap};
 ghost use Rattle.buffa_wire.specs.Encoding.{records_encoding};
-ghost use Rattle.buffa_wire.specs.Written.{Writes};
+ghost use Rattle.buffa_bytes.specs.Written.{Writes};
 ghost use Rattle.buffa_fields.specs.Calls.{ChecksListWire, TakesElements};
-ghost use Rattle.buffa_fields.specs.Lists.{ElementsTakeMemory, PackedTakeMemory, TakesPacked};
-ghost use Rattle.buffa_fields.specs.Lists.{element_at, element_records, elements_in, elements_taken};
+ghost use Rattle.buffa_fields.specs.Lists.{ElementsTakeMemory, PackedTakeMemory, TakesPacked, element_at, element_records, elements_in, elements_taken};
 ghost use Rattle.buffa_fields.specs.Takes.{IsTaken};
 ghost use Rattle.buffa_fields.specs.Values.{free};
 

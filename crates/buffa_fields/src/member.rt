@@ -2,7 +2,7 @@
 
 ghost use Rattle.std.specs.Prelude.{◌≡◌, [], IsOk};
 ghost use Rattle.buffa_wire.specs.BudgetLeft.{budget_left};
-ghost use Rattle.buffa_wire.specs.Number.{IsNumber};
+ghost use Rattle.buffa_bytes.specs.Number.{IsNumber};
 ghost use Rattle.buffa_wire.specs.Passes.{IsNext, IsSized, IsWritten};
 ghost use Rattle.buffa_wire.specs.Encoding.{records_encoding};
 ghost use Rattle.buffa_fields.specs.Layout.{ReadsBackTo, Slot, Took};

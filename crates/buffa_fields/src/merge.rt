@@ -1,7 +1,7 @@
 //! Merging all fields, and what stands after a refusal.
 
 ghost use Rattle.std.specs.Prelude.{OnErr};
-ghost use Rattle.buffa_wire.specs.Gives.{FullOnlyIf};
+ghost use Rattle.buffa_bytes.specs.Gives.{FullOnlyIf};
 ghost use Rattle.buffa_fields.specs.Calls.{MergesAll};
 ghost use Rattle.buffa_fields.specs.Stands.{MergingTakesMemory, Stands};
 

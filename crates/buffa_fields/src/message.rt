@@ -2,7 +2,7 @@
 
 ghost use Rattle.std.specs.Prelude.{◌≡◌, ◌≢◌, ◌≤◌, [], IsOk, Ok, Some, refl, ℕ};
 ghost use Rattle.std.proofs.Common.{ap, ◌∙◌};
-ghost use Rattle.buffa_wire.specs.Gives.{FullOnlyIf};
+ghost use Rattle.buffa_bytes.specs.Gives.{FullOnlyIf};
 ghost use Rattle.buffa_wire.specs.Parse.{Fits};
 ghost use Rattle.buffa_wire.specs.Passes.{IsNext, IsSized, IsWritten};
 ghost use Rattle.buffa_wire.specs.Records.{records_of};

@@ -2,14 +2,13 @@
 
 ghost use Rattle.std.specs.Prelude.{[], false, length, map, refl, ◌==◌, ◌≡◌};
 ghost use Rattle.buffa_bytes.specs.declared.wire_type.WireType.TheVariants.{LengthDelimited};
-ghost use Rattle.buffa_wire.specs.Number.{IsNumber};
+ghost use Rattle.buffa_bytes.specs.Number.{IsNumber};
 ghost use Rattle.buffa_wire.specs.Passes.{IsWritten, cap};
 ghost use Rattle.buffa_wire.specs.Encoding.{records_encoding};
-ghost use Rattle.buffa_wire.specs.WireType.{same_wire};
-ghost use Rattle.buffa_wire.specs.Written.{Writes};
+ghost use Rattle.buffa_bytes.specs.WireType.{same_wire};
+ghost use Rattle.buffa_bytes.specs.Written.{Writes};
 ghost use Rattle.buffa_map.specs.Encoding.{saturated};
-ghost use Rattle.buffa_fields.specs.Lists.{Each, ElementsTakeMemory, check_list_wire};
-ghost use Rattle.buffa_fields.specs.Lists.{elements_taken, packed_records, packed_encoding};
+ghost use Rattle.buffa_fields.specs.Lists.{Each, ElementsTakeMemory, check_list_wire, elements_taken, packed_records, packed_encoding};
 ghost use Rattle.buffa_fields.specs.ListLaws.{packed_back};
 ghost use Rattle.buffa_fields.specs.Values.{free};
 

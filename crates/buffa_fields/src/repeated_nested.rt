@@ -3,16 +3,15 @@
 ghost use Rattle.std.specs.Prelude.{[], ◌≡◌, ◌==◌, IsOk, map};
 ghost use Rattle.buffa_bytes.specs.declared.wire_type.WireType.TheVariants.{LengthDelimited};
 ghost use Rattle.buffa_wire.specs.BudgetLeft.{budget_left};
-ghost use Rattle.buffa_wire.specs.Gives.{FullOnlyIf};
-ghost use Rattle.buffa_wire.specs.Number.{IsNumber};
+ghost use Rattle.buffa_bytes.specs.Gives.{FullOnlyIf};
+ghost use Rattle.buffa_bytes.specs.Number.{IsNumber};
 ghost use Rattle.buffa_wire.specs.Passes.{IsNext, IsSized, IsWritten};
-ghost use Rattle.buffa_wire.specs.Reading.{check_wire};
+ghost use Rattle.buffa_bytes.specs.Reading.{check_wire};
 ghost use Rattle.buffa_wire.specs.Encoding.{records_encoding};
 ghost use Rattle.buffa_fields.specs.Calls.{ChecksWire, TakesIn, WritesMessages};
 ghost use Rattle.buffa_fields.specs.Lists.{Each};
 ghost use Rattle.buffa_fields.specs.Nested.{FitsInside, MessageTakesMemory, message_in};
-ghost use Rattle.buffa_fields.specs.RepeatedNested.{MessagesTakeMemory, messages_cost, messages_levels};
-ghost use Rattle.buffa_fields.specs.RepeatedNested.{messages_records, messages_slots, messages_taken};
+ghost use Rattle.buffa_fields.specs.RepeatedNested.{MessagesTakeMemory, messages_cost, messages_levels, messages_records, messages_slots, messages_taken};
 ghost use Rattle.buffa_fields.specs.RepeatedNestedLaws.{messages_back, messages_stay};
 ghost use Rattle.buffa_fields.specs.Takes.{IsTaken};
 

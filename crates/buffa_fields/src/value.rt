@@ -2,13 +2,13 @@
 
 ghost use Rattle.std.specs.Prelude.{◌≡◌, ◌∷◌, ◌++◌, [], length};
 ghost use Rattle.buffa_wire.specs.BudgetLeft.{budget_left};
-ghost use Rattle.buffa_wire.specs.Gives.{FullOnlyIf};
-ghost use Rattle.buffa_wire.specs.Number.{IsNumber};
+ghost use Rattle.buffa_bytes.specs.Gives.{FullOnlyIf};
+ghost use Rattle.buffa_bytes.specs.Number.{IsNumber};
 ghost use Rattle.buffa_wire.specs.Passes.{cap};
 ghost use Rattle.buffa_wire.specs.Encoding.{records_encoding};
-ghost use Rattle.buffa_wire.specs.Values.{tag_encoding};
-ghost use Rattle.buffa_wire.specs.Written.{Writes};
-ghost use Rattle.buffa_wire.specs.Reading.{check_wire};
+ghost use Rattle.buffa_bytes.specs.Values.{tag_encoding};
+ghost use Rattle.buffa_bytes.specs.Written.{Writes};
+ghost use Rattle.buffa_bytes.specs.Reading.{check_wire};
 ghost use Rattle.buffa_fields.specs.Calls.{ChecksWire, TakesValue};
 ghost use Rattle.buffa_fields.specs.Takes.{IsTaken};
 ghost use Rattle.buffa_fields.specs.Values.{ValueTakesMemory, free, value_taken};

@@ -1,7 +1,7 @@
 //! What is done with each member of a message, one after the other.
 
 ghost use Rattle.std.specs.Prelude.{◌++◌, [], ℕ, List};
-ghost use Rattle.buffa_wire.specs.Number.{IsNumber};
+ghost use Rattle.buffa_bytes.specs.Number.{IsNumber};
 ghost use Rattle.buffa_fields.specs.Layout.{ReadsBackTo, Seen, more, visited};
 
 use crate::member::Member;

@@ -1,7 +1,7 @@
 //! The rewrite of a map field by a reader that doesn't know all its values.
 
 ghost use Rattle.std.specs.Prelude.{◌≡◌, IfErr, OnOk};
-ghost use Rattle.buffa_wire.specs.Number.{IsNumber};
+ghost use Rattle.buffa_bytes.specs.Number.{IsNumber};
 ghost use Rattle.buffa_map.specs.Calls.{ReadsAnew, RefusesRewriteIn, RewritesIn, StopsAnew, WritesWithKept};
 ghost use Rattle.buffa_map.specs.Rewrite.{rewrite_error_text};
 

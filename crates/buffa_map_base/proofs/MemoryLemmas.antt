@@ -8,10 +8,10 @@ use Rattle.buffa_bytes.specs.declared.error.DecodeError.{DecodeError}
 use Rattle.buffa_bytes.specs.declared.error.DecodeError.TheVariants.{OutOfMemory, WireTypeMismatch}
 use Rattle.buffa_bytes.specs.declared.wire_type.WireType.{WireType}
 use Rattle.buffa_bytes.specs.declared.wire_type.WireType.TheVariants.{LengthDelimited}
-use Rattle.buffa_wire.specs.Gives.{◌>>=◌}
-use Rattle.buffa_wire.specs.Content.{content_at}
-use Rattle.buffa_wire.specs.Reading.{check_wire, delimited_at, skip_at, varint_at}
-use Rattle.buffa_wire.specs.Values.{int32_at}
+use Rattle.buffa_bytes.specs.Gives.{◌>>=◌}
+use Rattle.buffa_bytes.specs.Content.{content_at}
+use Rattle.buffa_bytes.specs.Reading.{check_wire, delimited_at, skip_at, varint_at}
+use Rattle.buffa_bytes.specs.Values.{int32_at}
 use Rattle.buffa_map_base.specs.Codec.{level}
 use Rattle.buffa_map_base.proofs.EntryLemmas.{check_sound}
 

@@ -1,9 +1,9 @@
 -- What fields and entries need of a budget, and how the loop over the fields pays it.
 use Rattle.std.proofs.Common.{◌≡◌, ◌≢◌, ◌⊎◌, inl, inr, ℕ, zero, suc, ◌+◌, ◌==◌, ◌<◌, ◌≤◌, Bool, true, false, List, [], ◌∷◌, length, Result, Ok, Err, refl, sym, ap, subst, ◌∙◌, arith, if◌then◌else◌}
 use Rattle.std.proofs.lemmas.Bool.{eq-eqb, ne_eqb}
-use Rattle.buffa_wire.specs.Field.{TakesDelimited, TakesTag}
-use Rattle.buffa_wire.specs.Reading.{tag_at, check_wire, delimited_at, skip_at}
-use Rattle.buffa_wire.specs.WireType.{same_wire}
+use Rattle.buffa_bytes.specs.Field.{TakesDelimited, TakesTag}
+use Rattle.buffa_bytes.specs.Reading.{tag_at, check_wire, delimited_at, skip_at}
+use Rattle.buffa_bytes.specs.WireType.{same_wire}
 use Rattle.buffa_wire.specs.BudgetLeft.{BudgetLeft, Lacks, Pays, PaysAtMost, need_by, nothing, plus, slots}
 use Rattle.buffa_wire.specs.Message.{IsLimit}
 use Rattle.buffa_wire.proofs.MessageLemmas.{NoLimit, length_no_limit, payload_no_limit, tag_no_limit, var_no_limit}
@@ -14,7 +14,7 @@ use Rattle.buffa_bytes.specs.declared.error.DecodeError.TheVariants.{ElementMemo
 use Rattle.buffa_bytes.proofs.DelimitedLemmas.{delimited_sound, delimited_taken}
 use Rattle.buffa_bytes.proofs.StepLemmas.{agree_ok, agree_err}
 use Rattle.buffa_bytes.proofs.FieldLemmas.{tag_sound}
-use Rattle.buffa_wire.specs.Content.{Content, ContentFault}
+use Rattle.buffa_bytes.specs.Content.{Content, ContentFault}
 use Rattle.buffa_wire.specs.Sequence.{ParsesTo}
 use Rattle.buffa_map_base.specs.Codec.{Reading, Tells, ValueFault, level, value_at, value_need}
 use Rattle.buffa_map_base.specs.Entry.{CodecFault, EntryFault, EntryOf, FaultOf, FieldFault, IsEntry, IsField, blanks, codec_need, field_at, field_need, inner_need, need_at, need_of, need_within}

@@ -2,8 +2,8 @@
 use Rattle.std.proofs.Common.{◌≡◌, ◌≢◌, ◌⊎◌, inl, inr, ℕ, ◌+◌, ◌-◌, ◌*◌, ◌==◌, nat_lt, ◌<◌, ◌≤◌, Bool, true, false, ◌&&◌, ◌||◌, not, cond, List, [], ◌∷◌, ◌++◌, length, map, Ok, Err, refl, sym, ap, subst, ◌∙◌, arith, append_assoc, append-nil, length-append}
 use Rattle.std.proofs.lemmas.Bool.{cases_lt, eqb-true, eqb-false, eq-eqb, ne_eqb, lt-ltb, le-ltb, ltb-true, ltb-false}
 use Rattle.std.specs.Cmp.{IsEquivalence}
-use Rattle.buffa_wire.specs.Field.{IsTag, TakesTag}
-use Rattle.buffa_wire.specs.Reading.{tag_at, check_wire, delimited_at}
+use Rattle.buffa_bytes.specs.Field.{IsTag, TakesTag}
+use Rattle.buffa_bytes.specs.Reading.{tag_at, check_wire, delimited_at}
 use Rattle.buffa_bytes.specs.declared.wire_type.WireType.{WireType}
 use Rattle.buffa_bytes.specs.declared.wire_type.WireType.TheVariants.{LengthDelimited}
 use Rattle.buffa_bytes.specs.declared.error.DecodeError.{DecodeError}
@@ -12,7 +12,7 @@ use Rattle.buffa_bytes.proofs.StepLemmas.{Agrees, agree_bind, agree_if, agree_ok
 use Rattle.buffa_bytes.proofs.FieldLemmas.{tag_sound, tag_complete, tag_faulty, tag_some}
 use Rattle.buffa_bytes.proofs.DelimitedLemmas.{delimited_sound, delimited_complete, delimited_faulty}
 use Rattle.buffa_wire.specs.BudgetLeft.{BudgetLeft, Lacks, Pays, nothing, plus, slots}
-use Rattle.buffa_wire.specs.Content.{Content}
+use Rattle.buffa_bytes.specs.Content.{Content}
 use Rattle.buffa_wire.specs.Records.{Datum, bytes}
 use Rattle.buffa_wire.specs.Sequence.{join, ParsesEach}
 use Rattle.buffa_map_base.specs.Codec.{Reading}

@@ -12,9 +12,8 @@ use Rattle.buffa_bytes.specs.declared.error.DecodeError.{DecodeError}
 use Rattle.buffa_bytes.specs.declared.error.DecodeError.TheVariants.{UnexpectedEof}
 use Rattle.buffa_wire.proofs.InsideLemmas.{delimited_front}
 use Rattle.buffa_bytes.specs.declared.wire_type.WireType.{WireType}
-use Rattle.buffa_wire.specs.Field.{TakesDelimited}
-use Rattle.buffa_bytes.specs.Reading.{taken, varint_at}
-use Rattle.buffa_wire.specs.Reading.{delimited_at, tag_at}
+use Rattle.buffa_bytes.specs.Field.{TakesDelimited}
+use Rattle.buffa_bytes.specs.Reading.{taken, varint_at, delimited_at, tag_at}
 
 tail_behind : (front rest all : List ℕ) → all ≡ front ++ rest → IsTailOf rest all
 tail_behind front rest all e = tail_dropped (length front) all rest (sym (ap (drop (length front)) e ∙ drop-append_seam front rest))

@@ -1,9 +1,9 @@
 -- The encoding of a map field, and its size. Source: the protobuf encoding guide, "Maps".
 use Rattle.std.specs.Prelude.{◌≡◌, ℕ, ◌+◌, ◌-◌, ◌^◌, ◌<◌, List, [], ◌∷◌, ◌++◌, length, min, nat_lt, Option, None, Some, if◌then◌else◌, ◌≤◌, Result, MatchResult}
-use Rattle.buffa_wire.specs.Varint.{varint_encoding}
-use Rattle.buffa_wire.specs.Values.{delimited_encoding, tag_encoding}
+use Rattle.buffa_bytes.specs.Varint.{varint_encoding}
+use Rattle.buffa_bytes.specs.Values.{delimited_encoding, tag_encoding}
 use Rattle.buffa_bytes.specs.declared.wire_type.WireType.TheVariants.{LengthDelimited}
-use Rattle.buffa_wire.specs.Written.{WritesFront}
+use Rattle.buffa_bytes.specs.Written.{WritesFront}
 use Rattle.buffa_bytes.specs.declared.error.EncodeError.{EncodeError}
 use Rattle.buffa_bytes.specs.declared.error.EncodeError.TheVariants.{MessageTooLarge, GroupRefused, OutOfMemory}
 use Rattle.buffa_map_base.specs.Codec.{Writing}

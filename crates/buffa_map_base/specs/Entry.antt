@@ -1,12 +1,12 @@
 -- Map entries: a join of fields, of which those of number 1 are the key and those of number 2 the value.
 -- Source: the protobuf encoding guide, "Maps".
 use Rattle.std.specs.Prelude.{◌≡◌, ◌≢◌, ℕ, zero, suc, ◌+◌, ◌<◌, ◌≤◌, ◌==◌, Bool, false, true, List, [], ◌∷◌, ◌++◌, length, ◌⊎◌, if◌then◌else◌, Result, Ok}
-use Rattle.buffa_wire.specs.Gives.{◌>>=◌}
-use Rattle.buffa_wire.specs.Varint.{IsVarint}
-use Rattle.buffa_wire.specs.Field.{IsTag, Field, TakesTag, TagFault, LengthFault, PayloadFault}
-use Rattle.buffa_wire.specs.Content.{Content, HasContent}
-use Rattle.buffa_wire.specs.Reading.{tag_at, check_wire, skip_at, delimited_at}
-use Rattle.buffa_wire.specs.WireType.{same_wire}
+use Rattle.buffa_bytes.specs.Gives.{◌>>=◌}
+use Rattle.buffa_bytes.specs.Varint.{IsVarint}
+use Rattle.buffa_bytes.specs.Field.{IsTag, Field, TakesTag, TagFault, LengthFault, PayloadFault}
+use Rattle.buffa_bytes.specs.Content.{Content, HasContent}
+use Rattle.buffa_bytes.specs.Reading.{tag_at, check_wire, skip_at, delimited_at}
+use Rattle.buffa_bytes.specs.WireType.{same_wire}
 use Rattle.buffa_bytes.specs.declared.wire_type.WireType.{WireType}
 use Rattle.buffa_bytes.specs.declared.error.DecodeError.{DecodeError}
 use Rattle.buffa_bytes.specs.declared.error.DecodeError.TheVariants.{ElementMemoryLimitExceeded, UnknownFieldLimitExceeded, WireTypeMismatch}

@@ -1,8 +1,8 @@
 -- What the codecs of enums owe.
 use Rattle.std.proofs.Common.{◌≡◌, ℕ, ℤ, Bool, true, Option, Result, Ok, refl, sym, ap, subst, ◌∙◌}
 use Rattle.std.specs.Int.{cast_unsigned, w64}
-use Rattle.buffa_wire.specs.Content.{Content, HasContent}
-use Rattle.buffa_wire.specs.Content.Content.{number}
+use Rattle.buffa_bytes.specs.Content.{Content, HasContent}
+use Rattle.buffa_bytes.specs.Content.Content.{number}
 use Rattle.buffa_wire.specs.Enums.{Numbers, open_number}
 use Rattle.buffa_bytes.specs.declared.error.DecodeError.{DecodeError}
 use Rattle.buffa_bytes.proofs.IntLemmas.{int32_below, int32_means}

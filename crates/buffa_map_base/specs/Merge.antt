@@ -5,9 +5,9 @@ use Rattle.buffa_bytes.specs.declared.error.DecodeError.TheVariants.{OutOfMemory
 use Rattle.buffa_bytes.specs.Left.{past_no_tag, past_no_delimited}
 use Rattle.buffa_bytes.specs.Unread.{IsTailOf}
 use Rattle.buffa_bytes.specs.declared.wire_type.WireType.{WireType}
-use Rattle.buffa_wire.specs.Field.{TakesDelimited}
+use Rattle.buffa_bytes.specs.Field.{TakesDelimited}
 use Rattle.buffa_wire.specs.BudgetLeft.{BudgetLeft, Pays, plus, slots}
-use Rattle.buffa_wire.specs.Reading.{delimited_at, tag_at}
+use Rattle.buffa_bytes.specs.Reading.{delimited_at, tag_at}
 use Rattle.buffa_wire.specs.Records.{Datum, bytes}
 use Rattle.buffa_bytes.specs.declared.wire_type.WireType.TheVariants.{LengthDelimited}
 use Rattle.buffa_map_base.specs.Codec.{Reading}

@@ -1,7 +1,7 @@
 -- The codec of messages: a length and so many bytes, which are merged into the value one level down.
 -- Source: the protobuf encoding guide, "Submessages".
 use Rattle.std.specs.Prelude.{ℕ, Bool, false, true, List, Option, Some, None, Result, Ok, Err}
-use Rattle.buffa_wire.specs.Content.{bytes_in}
+use Rattle.buffa_bytes.specs.Content.{bytes_in}
 use Rattle.buffa_wire.specs.BudgetLeft.{BudgetLeft}
 use Rattle.buffa_wire.specs.Message.{cost_in, merged_in}
 use Rattle.buffa_bytes.specs.declared.wire_type.WireType.TheVariants.{LengthDelimited}

@@ -1,9 +1,9 @@
 -- Runs of map records, and what they mean. Source: the protobuf encoding guide, "Maps".
 use Rattle.std.specs.Prelude.{◌≡◌, ◌≢◌, ℕ, ◌+◌, ◌-◌, ◌*◌, nat_lt, ◌==◌, ◌&&◌, ◌||◌, not, Bool, true, List, [], ◌∷◌, ◌++◌, length, map, cond, ◌⊎◌, if◌then◌else◌, Result, Ok, Err}
-use Rattle.buffa_wire.specs.Gives.{◌>>=◌}
-use Rattle.buffa_wire.specs.Varint.{IsVarint}
-use Rattle.buffa_wire.specs.Field.{IsTag, TakesTag, TagFault}
-use Rattle.buffa_wire.specs.Reading.{tag_at, check_wire, delimited_at}
+use Rattle.buffa_bytes.specs.Gives.{◌>>=◌}
+use Rattle.buffa_bytes.specs.Varint.{IsVarint}
+use Rattle.buffa_bytes.specs.Field.{IsTag, TakesTag, TagFault}
+use Rattle.buffa_bytes.specs.Reading.{tag_at, check_wire, delimited_at}
 use Rattle.buffa_bytes.specs.declared.wire_type.WireType.{WireType}
 use Rattle.buffa_bytes.specs.declared.wire_type.WireType.TheVariants.{LengthDelimited}
 use Rattle.buffa_bytes.specs.declared.error.DecodeError.{DecodeError}

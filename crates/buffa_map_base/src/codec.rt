@@ -1,19 +1,17 @@
 //! Codecs: how the keys and values of a map field are read and written.
 
-ghost use Rattle.std.specs.Prelude.{◌≡◌, ◌≢◌, ℕ, Bool, List, Option, Some, false, true, length, Ok, Err, IfErr, IfOk};
-ghost use Rattle.std.specs.Prelude.{IsOk, OnErr};
+ghost use Rattle.std.specs.Prelude.{◌≡◌, ◌≢◌, ℕ, Bool, List, Option, Some, false, true, length, Ok, Err, IfErr, IfOk, IsOk, OnErr};
 ghost use Rattle.buffa_bytes.specs.declared.error.DecodeError.TheVariants.{OutOfMemory};
 ghost use Rattle.buffa_bytes.specs.declared.wire_type.WireType.{WireType};
 ghost use Rattle.buffa_bytes.specs.Gives.{FullOnlyIf};
 ghost use Rattle.buffa_bytes.specs.Left.{LeavesUnlessFull, past_no_payload, past_no_delimited};
 ghost use Rattle.buffa_bytes.specs.Unread.{IsTailOf};
-ghost use Rattle.buffa_wire.specs.Content.{Content, HasContent};
+ghost use Rattle.buffa_bytes.specs.Content.{Content, HasContent};
 ghost use Rattle.buffa_wire.specs.BudgetLeft.{budget_left, nothing};
 ghost use Rattle.buffa_wire.specs.Message.{IsLimit};
-ghost use Rattle.buffa_wire.specs.Written.{UsesRoom, Writes};
+ghost use Rattle.buffa_bytes.specs.Written.{UsesRoom, Writes};
 ghost use Rattle.buffa_bytes.specs.declared.error.DecodeError.{DecodeError};
-ghost use Rattle.buffa_map_base.specs.Codec.{AlwaysDeclared, HoldsNothing, IsWhole, Reading, Refuses, Spends};
-ghost use Rattle.buffa_map_base.specs.Codec.{TakesMemory, Writing, is_known, level, value_at, value_need};
+ghost use Rattle.buffa_map_base.specs.Codec.{AlwaysDeclared, HoldsNothing, IsWhole, Reading, Refuses, Spends, TakesMemory, Writing, is_known, level, value_at, value_need};
 
 use buffa_wire::{Blank, Buf, DecodeContext, DecodeError, EncodeError, EncodeSink, WireType};
 use std::alloc::Global;

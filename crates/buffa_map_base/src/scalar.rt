@@ -2,7 +2,7 @@
 
 ghost use Rattle.std.specs.Prelude.{false, refl, true};
 ghost use Rattle.std.proofs.Common.{Ok, ap};
-ghost use Rattle.buffa_wire.specs.Content.Content.{number};
+ghost use Rattle.buffa_bytes.specs.Content.Content.{number};
 ghost use Rattle.buffa_map_base.specs.Scalars.{number_reading, number_writing};
 ghost use Rattle.buffa_map_base.specs.ScalarLaws.{always_known, never_faulty};
 

@@ -3,7 +3,7 @@
 ghost use Rattle.std.specs.Prelude.{false, refl, true};
 ghost use Rattle.buffa_bytes.specs.declared.wire_type.WireType.TheVariants.{LengthDelimited};
 ghost use Rattle.buffa_wire.specs.Message.{merged_in};
-ghost use Rattle.buffa_wire.specs.Content.{bytes_in};
+ghost use Rattle.buffa_bytes.specs.Content.{bytes_in};
 ghost use Rattle.buffa_map_base.specs.Message.{message_reading};
 ghost use Rattle.buffa_map_base.specs.MessageLaws.{meant_known, meant_no_limit};
 

@@ -3,19 +3,19 @@ use Rattle.std.proofs.Common.{◌≡◌, inl, inr, ℕ, zero, suc, Option, Some,
 use Rattle.std.specs.Cmp.{IsEquivalence}
 use Rattle.std.specs.List.{IsDistinct, AllByRecursion}
 use Rattle.std.specs.Map.{keys_of}
-use Rattle.buffa_wire.specs.Content.{Content, HasContent}
-use Rattle.buffa_wire.specs.Field.{IsTag}
-use Rattle.buffa_wire.specs.Number.{IsNumber}
-use Rattle.buffa_wire.specs.Values.{tag_encoding}
-use Rattle.buffa_wire.specs.Varint.{varint_encoding}
-use Rattle.buffa_wire.specs.WireType.{wire_number}
+use Rattle.buffa_bytes.specs.Content.{Content, HasContent}
+use Rattle.buffa_bytes.specs.Field.{IsTag}
+use Rattle.buffa_bytes.specs.Number.{IsNumber}
+use Rattle.buffa_bytes.specs.Values.{tag_encoding}
+use Rattle.buffa_bytes.specs.Varint.{varint_encoding}
+use Rattle.buffa_bytes.specs.WireType.{wire_number}
 use Rattle.buffa_bytes.specs.declared.wire_type.WireType.{WireType}
 use Rattle.buffa_bytes.specs.declared.wire_type.WireType.TheVariants.{LengthDelimited}
 use Rattle.buffa_bytes.proofs.FieldLemmas.{wire_small}
 use Rattle.buffa_bytes.proofs.VarintLemmas.{IsVarint-varint_encoding}
 use Rattle.buffa_map_base.specs.Codec.{Reading, Writing, level}
 use Rattle.buffa_wire.specs.BudgetLeft.{BudgetLeft}
-use Rattle.buffa_wire.specs.Content.Content.{bytes}
+use Rattle.buffa_bytes.specs.Content.Content.{bytes}
 use Rattle.buffa_wire.specs.Passes.{IsSmall}
 use Rattle.buffa_map_base.specs.Message.{meant, message_reading}
 use Rattle.buffa_map_base.specs.MessageField.{IsSmallField}

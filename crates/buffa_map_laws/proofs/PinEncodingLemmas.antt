@@ -13,10 +13,10 @@ use Rattle.buffa_bytes.specs.declared.wire_type.WireType.TheVariants.{LengthDeli
 use Rattle.buffa_wire.proofs.SequenceLemmas.{ok_no_err}
 use Rattle.buffa_wire.specs.BudgetLeft.{BudgetLeft, nothing}
 use Rattle.buffa_wire.specs.Cache.{Cache}
-use Rattle.buffa_wire.specs.Content.{Content}
+use Rattle.buffa_bytes.specs.Content.{Content}
 use Rattle.buffa_wire.specs.Records.{Datum}
 use Rattle.buffa_wire.specs.Encoding.{records_encoding}
-use Rattle.buffa_wire.specs.Values.{tag_encoding}
+use Rattle.buffa_bytes.specs.Values.{tag_encoding}
 use Rattle.buffa_map_base.specs.Codec.{Writing}
 use Rattle.buffa_map_base.specs.MessageField.{IsFieldSized, IsFieldWritten, IsSmallField}
 use Rattle.buffa_map_base.specs.Merge.{Rules, state}

@@ -11,9 +11,9 @@ use Rattle.buffa_wire_laws.proofs.PinLemmas.{budget_is_pinned}
 use Rattle.buffa_wire.proofs.SequenceLemmas.{ok_no_err, ok_same}
 use Rattle.buffa_bytes.specs.Left.{past_no_tag}
 use Rattle.buffa_wire.specs.BudgetLeft.{BudgetLeft, Pays, nothing, plus, slots}
-use Rattle.buffa_wire.specs.Content.{Content}
-use Rattle.buffa_wire.specs.Field.{TakesDelimited}
-use Rattle.buffa_wire.specs.Reading.{delimited_at, tag_at}
+use Rattle.buffa_bytes.specs.Content.{Content}
+use Rattle.buffa_bytes.specs.Field.{TakesDelimited}
+use Rattle.buffa_bytes.specs.Reading.{delimited_at, tag_at}
 use Rattle.buffa_map_base.specs.Codec.{Reading, Refuses, Spends, value_at, value_need}
 use Rattle.buffa_map_base.specs.Entry.{EntryFault, inner_need, need_at, need_of, blanks}
 use Rattle.buffa_map_base.specs.Merge.{HasRecord, RefusesEntry, Rules, State, StopsRun}

@@ -6,13 +6,13 @@ use Rattle.std.specs.List.{IsDistinct, filter}
 use Rattle.std.specs.Map.{lookup_entry, keys_of}
 use Rattle.std.proofs.lemmas.Map.Entries.{none_past_head}
 use Rattle.std.proofs.lemmas.Map.Keys.{IsDistinct-tail}
-use Rattle.buffa_wire.specs.Content.{Content, HasContent, number_in}
+use Rattle.buffa_bytes.specs.Content.{Content, HasContent, number_in}
 use Rattle.buffa_wire.specs.Enums.{Numbers, DeclaresBlank, Refines}
-use Rattle.buffa_wire.specs.Number.{IsNumber}
+use Rattle.buffa_bytes.specs.Number.{IsNumber}
 use Rattle.buffa_wire.specs.Records.{bytes}
 use Rattle.buffa_wire.specs.Encoding.{records_encoding}
-use Rattle.buffa_wire.specs.Values.{int32_of, tag_encoding}
-use Rattle.buffa_wire.specs.Varint.{varint_encoding}
+use Rattle.buffa_bytes.specs.Values.{int32_of, tag_encoding}
+use Rattle.buffa_bytes.specs.Varint.{varint_encoding}
 use Rattle.buffa_wire.specs.BudgetLeft.{BudgetLeft, nothing, plus}
 use Rattle.buffa_bytes.specs.declared.wire_type.WireType.TheVariants.{LengthDelimited}
 use Rattle.buffa_bytes.proofs.VarintLemmas.{IsVarint-varint_encoding}

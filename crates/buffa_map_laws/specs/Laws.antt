@@ -6,13 +6,13 @@ use Rattle.std.specs.List.Sorted.{IsPermutation}
 use Rattle.std.specs.Map.{keys_of}
 use Rattle.buffa_bytes.specs.declared.error.DecodeError.{DecodeError}
 use Rattle.buffa_bytes.specs.declared.wire_type.WireType.TheVariants.{LengthDelimited}
-use Rattle.buffa_wire.specs.Content.{Content, TakesContent}
+use Rattle.buffa_bytes.specs.Content.{Content, TakesContent}
 use Rattle.buffa_wire.specs.Enums.{DeclaresBlank, Numbers, Refines}
-use Rattle.buffa_wire.specs.Field.{TakesDelimited}
+use Rattle.buffa_bytes.specs.Field.{TakesDelimited}
 use Rattle.buffa_wire.specs.BudgetLeft.{Lacks, BudgetLeft, nothing, plus, slots, units}
 use Rattle.buffa_wire.specs.Message.{IsLimit}
-use Rattle.buffa_wire.specs.Number.{IsNumber}
-use Rattle.buffa_wire.specs.Values.{tag_encoding}
+use Rattle.buffa_bytes.specs.Number.{IsNumber}
+use Rattle.buffa_bytes.specs.Values.{tag_encoding}
 use Rattle.buffa_map_base.specs.Codec.{Reading, ValueFault, Writing, level, value_at}
 use Rattle.buffa_map_base.specs.Entry.{EntryFault, EntryOf, FaultOf, IsEntry, entry_of, inner_need, need_of}
 use Rattle.buffa_map_base.specs.Enums.{ClosedFits, closed_reading, closed_writing}

@@ -1,8 +1,8 @@
 -- What the promises of entries come to where no payload is a message.
 use Rattle.std.specs.Prelude.{◌≡◌, ◌≢◌, ℕ, ◌+◌, ◌<◌, ◌≤◌, Bool, false, List, ◌++◌, length, cond, ◌⊎◌}
-use Rattle.buffa_wire.specs.Field.{LengthFault, TakesDelimited}
+use Rattle.buffa_bytes.specs.Field.{LengthFault, TakesDelimited}
 use Rattle.buffa_wire.specs.BudgetLeft.{BudgetLeft}
-use Rattle.buffa_wire.specs.Varint.{IsVarint}
+use Rattle.buffa_bytes.specs.Varint.{IsVarint}
 use Rattle.buffa_bytes.specs.declared.error.DecodeError.{DecodeError}
 use Rattle.buffa_bytes.specs.declared.error.DecodeError.TheVariants.{ElementMemoryLimitExceeded, OutOfMemory, UnknownFieldLimitExceeded}
 use Rattle.buffa_map_base.specs.Codec.{Reading}

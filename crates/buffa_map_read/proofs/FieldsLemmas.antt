@@ -4,9 +4,9 @@ use Rattle.buffa_bytes.proofs.FullLemmas.{tag_no_full}
 use Rattle.buffa_bytes.specs.declared.error.DecodeError.{DecodeError}
 use Rattle.buffa_bytes.specs.declared.error.DecodeError.TheVariants.{OutOfMemory}
 use Rattle.buffa_bytes.specs.declared.wire_type.WireType.{WireType}
-use Rattle.buffa_wire.specs.Content.{Content}
+use Rattle.buffa_bytes.specs.Content.{Content}
 use Rattle.buffa_wire.specs.BudgetLeft.{BudgetLeft, Pays, PaysAtMost, nothing}
-use Rattle.buffa_wire.specs.Reading.{check_wire, skip_at, tag_at}
+use Rattle.buffa_bytes.specs.Reading.{check_wire, skip_at, tag_at}
 use Rattle.buffa_wire.specs.Sequence.{ParsesTo}
 use Rattle.buffa_map_base.specs.Codec.{Reading, Refuses, Spends, TakesMemory, is_known, value_at, value_need}
 use Rattle.buffa_map_base.specs.Entry.{FieldFault, IsField, blanks, need_at}

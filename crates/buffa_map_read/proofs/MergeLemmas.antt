@@ -6,8 +6,7 @@ use Rattle.buffa_bytes.specs.declared.error.DecodeError.TheVariants.{ElementMemo
 use Rattle.buffa_bytes.specs.Left.{past_no_delimited}
 use Rattle.buffa_wire.proofs.SequenceLemmas.{ok_no_err}
 use Rattle.buffa_wire.specs.BudgetLeft.{BudgetLeft, Lacks, need_by}
-use Rattle.buffa_wire.specs.Reading.{delimited_at}
-use Rattle.buffa_bytes.specs.Reading.{taken, varint_at}
+use Rattle.buffa_bytes.specs.Reading.{delimited_at, taken, varint_at}
 use Rattle.buffa_bytes.proofs.DelimitedLemmas.{taken_sound}
 use Rattle.buffa_bytes.proofs.StepLemmas.{agree_ok}
 use Rattle.buffa_wire.specs.Records.{Datum}
@@ -20,7 +19,7 @@ use Rattle.buffa_map_base.specs.declared.map_entry.MapEntry.{MapEntry}
 use Rattle.buffa_map_base.proofs.TailLemmas.{cut_front, cut_short, past_cut, delimited_tail, one_rest}
 use Rattle.buffa_bytes.specs.Unread.{IsTailOf}
 use Rattle.buffa_bytes.proofs.TailLemmas.{tail_whole}
-use Rattle.buffa_wire.specs.Field.{TakesDelimited}
+use Rattle.buffa_bytes.specs.Field.{TakesDelimited}
 use Rattle.buffa_map_base.proofs.NeedLemmas.{entry_charged, entry_found, entry_refused, entry_short, entry_slotless, no_length}
 
 module _ {K V : Type 0} (r : Rules K V) (pairs : List (K × V)) (records : List (ℕ × Datum)) (left : BudgetLeft) (bs : List ℕ) where

@@ -11,14 +11,14 @@ use Rattle.buffa_bytes.specs.declared.wire_type.WireType.TheVariants.{LengthDeli
 use Rattle.buffa_bytes.specs.Left.{past_no_tag, past_no_delimited}
 use Rattle.buffa_wire.proofs.SequenceLemmas.{ok_no_err}
 use Rattle.buffa_wire.specs.BudgetLeft.{BudgetLeft}
-use Rattle.buffa_wire.specs.Reading.{check_wire, delimited_at, tag_at}
+use Rattle.buffa_bytes.specs.Reading.{check_wire, delimited_at, tag_at}
 use Rattle.buffa_map_base.specs.Merge.{MergesEntry, ReadsRun, RefusesEntry, Rules, State, StopsRun}
 use Rattle.buffa_map_base.specs.Pairs.{InOrder, SamePairs}
 use Rattle.buffa_map_base.specs.Run.{fold_entries, Paid, RecordFault, Run, EntryRecord, added}
 use Rattle.buffa_map_base.proofs.EntryLemmas.{check_sound}
 use Rattle.buffa_bytes.proofs.TailLemmas.{tail_more}
 use Rattle.buffa_bytes.specs.Unread.{IsTailOf}
-use Rattle.buffa_wire.specs.Field.{TakesDelimited}
+use Rattle.buffa_bytes.specs.Field.{TakesDelimited}
 use Rattle.buffa_map_base.proofs.MemoryLemmas.{mismatch_no_full}
 use Rattle.buffa_map_base.proofs.TailLemmas.{no_tag, one_after, one_number, one_wire, tag_tail}
 use Rattle.buffa_map_base.proofs.RunLemmas.{fold_entries-more, fold_entries-order, Paid-more, Run-last, added-more, entry_falls, record_entry, record_found, record_mismatch, record_needs, record_other, record_tag}

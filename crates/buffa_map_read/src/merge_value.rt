@@ -5,12 +5,11 @@ ghost use Rattle.buffa_bytes.specs.declared.error.DecodeError.TheVariants.{OutOf
 ghost use Rattle.buffa_bytes.specs.declared.wire_type.WireType.{WireType};
 ghost use Rattle.buffa_bytes.specs.declared.wire_type.WireType.TheVariants.{LengthDelimited};
 ghost use Rattle.buffa_bytes.specs.Gives.{FullOnlyIf};
-ghost use Rattle.buffa_wire.specs.Content.{Content, bytes_in};
+ghost use Rattle.buffa_bytes.specs.Content.{Content, bytes_in};
 ghost use Rattle.buffa_wire.specs.BudgetLeft.{budget_left, nothing};
 ghost use Rattle.buffa_wire.specs.Message.{merged_in};
 ghost use Rattle.buffa_map_base.specs.Calls.{MergesMessages};
-ghost use Rattle.buffa_map_base.specs.Codec.{AlwaysDeclared, Reading, Refuses, Spends, TakesMemory, is_known};
-ghost use Rattle.buffa_map_base.specs.Codec.{value_at, value_need};
+ghost use Rattle.buffa_map_base.specs.Codec.{AlwaysDeclared, Reading, Refuses, Spends, TakesMemory, is_known, value_at, value_need};
 ghost use Rattle.buffa_map_base.specs.Message.{message_reading};
 ghost use Rattle.buffa_map_base.specs.MessageLaws.{meant_known};
 

@@ -12,8 +12,8 @@ use Rattle.buffa_bytes.specs.declared.error.EncodeError.TheVariants.{OutOfMemory
 use Rattle.buffa_wire.specs.Cache.{Cache, advanced}
 use Rattle.buffa_wire.specs.Passes.{IsSmall, IsWritten, cap}
 use Rattle.buffa_wire.proofs.PassLemmas.{done, refused, written_behind, written_put, written_same, written_then}
-use Rattle.buffa_wire.specs.Values.{tag_encoding}
-use Rattle.buffa_wire.specs.Varint.{varint_encoding}
+use Rattle.buffa_bytes.specs.Values.{tag_encoding}
+use Rattle.buffa_bytes.specs.Varint.{varint_encoding}
 use Rattle.buffa_map_base.specs.Codec.{Writing}
 use Rattle.buffa_map_base.specs.MessageField.{IsRecordWritten, IsSmallField, IsSmallPair, UsesRecordRoom, entry_size, head_encoding}
 use Rattle.buffa_map_base.specs.Scalars.{delimited_writing}

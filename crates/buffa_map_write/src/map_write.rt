@@ -1,7 +1,7 @@
 //! Storages that can be written while they are lent for as long as a call.
 
 ghost use Rattle.buffa_map_base.specs.Calls.{WritesMapField};
-ghost use Rattle.buffa_wire.specs.Number.{IsNumber};
+ghost use Rattle.buffa_bytes.specs.Number.{IsNumber};
 
 use crate::write::{write_field, write_record};
 use buffa_map_base::codec::MapCodec;

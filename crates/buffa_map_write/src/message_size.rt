@@ -3,7 +3,7 @@
 ghost use Rattle.std.specs.Prelude.{◌≡◌, ◌≢◌, ◌+◌, [], length, OnErr};
 ghost use Rattle.std.specs.List.{Contains};
 ghost use Rattle.std.specs.Map.{values_of};
-ghost use Rattle.buffa_wire.specs.Varint.{varint_encoding};
+ghost use Rattle.buffa_bytes.specs.Varint.{varint_encoding};
 ghost use Rattle.buffa_map_base.specs.Calls.{SizesMessages};
 ghost use Rattle.buffa_map_base.specs.MessageField.{IsFieldSized, entry_size};
 ghost use Rattle.buffa_map_base.specs.Encoding.{saturated};

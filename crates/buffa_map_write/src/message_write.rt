@@ -3,12 +3,11 @@
 ghost use Rattle.std.specs.Prelude.{◌≡◌, ◌≢◌, ◌∷◌, [], length, OnErr};
 ghost use Rattle.std.specs.List.{Contains};
 ghost use Rattle.std.specs.Map.{values_of};
-ghost use Rattle.buffa_wire.specs.Number.{IsNumber};
+ghost use Rattle.buffa_bytes.specs.Number.{IsNumber};
 ghost use Rattle.buffa_wire.specs.Passes.{IsNext, cap};
-ghost use Rattle.buffa_wire.specs.Written.{UsesRoom, Writes};
+ghost use Rattle.buffa_bytes.specs.Written.{UsesRoom, Writes};
 ghost use Rattle.buffa_map_base.specs.Calls.{KeepsRecordRoom, WritesMessages};
-ghost use Rattle.buffa_map_base.specs.MessageField.{IsFieldWritten, IsRecordWritten, KeepsRoom, UsesFieldRoom};
-ghost use Rattle.buffa_map_base.specs.MessageField.{field_slots, head_encoding, key_and_length};
+ghost use Rattle.buffa_map_base.specs.MessageField.{IsFieldWritten, IsRecordWritten, KeepsRoom, UsesFieldRoom, field_slots, head_encoding, key_and_length};
 
 use crate::message_size::message_entry_len;
 use crate::write::{write_head, write_part};

@@ -1,7 +1,7 @@
 //! The size of a map field.
 
 ghost use Rattle.std.specs.Prelude.{◌≡◌, ◌+◌, ◌∷◌, List, [], IfSome, length};
-ghost use Rattle.buffa_wire.specs.Varint.{varint_encoding};
+ghost use Rattle.buffa_bytes.specs.Varint.{varint_encoding};
 ghost use Rattle.buffa_map_base.specs.Pairs.{ListsOnce};
 ghost use Rattle.buffa_map_base.specs.Encoding.{as_u64, entry_encoding, field_size, saturated};
 

@@ -1,7 +1,7 @@
 //! A map field, sized and written.
 
 ghost use Rattle.std.specs.Prelude.{◌≡◌, ◌+◌, ◌-◌, IfOk, length, vec_capacity, vec_len};
-ghost use Rattle.buffa_wire.specs.Number.{IsNumber};
+ghost use Rattle.buffa_bytes.specs.Number.{IsNumber};
 ghost use Rattle.buffa_map_base.specs.Calls.{WritesMapField};
 
 use crate::size::field_len;

@@ -4,10 +4,10 @@
 //! memory, which cost a third of the time.
 
 ghost use Rattle.std.specs.Prelude.{◌≡◌, ◌++◌};
-ghost use Rattle.buffa_wire.specs.Number.{IsNumber};
-ghost use Rattle.buffa_wire.specs.Values.{delimited_encoding, tag_encoding};
-ghost use Rattle.buffa_wire.specs.Varint.{varint_encoding};
-ghost use Rattle.buffa_wire.specs.Written.{UsesRoom, Writes};
+ghost use Rattle.buffa_bytes.specs.Number.{IsNumber};
+ghost use Rattle.buffa_bytes.specs.Values.{delimited_encoding, tag_encoding};
+ghost use Rattle.buffa_bytes.specs.Varint.{varint_encoding};
+ghost use Rattle.buffa_bytes.specs.Written.{UsesRoom, Writes};
 ghost use Rattle.buffa_map_base.specs.Calls.{WritesMapField};
 ghost use Rattle.buffa_map_base.specs.Encoding.{UsesRoomOf, WritesRecord, entry_encoding, record_encoding};
 

@@ -13,7 +13,7 @@ use Rattle.buffa_bytes.specs.declared.error.MessageSetFault.TheVariants.{Missing
 use Rattle.buffa_wire.proofs.MessageLemmas.{NoLimit, length_no_limit, payload_no_limit, tag_no_limit, var_no_limit}
 use Rattle.buffa_wire.proofs.SequenceLemmas.{ParsesTo-first}
 use Rattle.buffa_wire.specs.Sequence.{ParsesEach, join}
-use Rattle.buffa_wire.specs.WireType.{same_wire}
+use Rattle.buffa_bytes.specs.WireType.{same_wire}
 use Rattle.buffa_message_set.specs.Item.{FieldFault, IsField, IsReadAlike, IsTypeId, Item, ItemFault, Said, said, says, unsaid}
 use Rattle.buffa_message_set.proofs.ItemLemmas.{StopsFrom, TakesFrom, and_true, both_false, both_true, field_no_end, out_of, read_complete, read_faulty, tag_of, takes_item}
 

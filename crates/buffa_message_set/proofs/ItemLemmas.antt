@@ -2,11 +2,11 @@
 use Rattle.std.proofs.Common.{◌≡◌, ◌≢◌, ◌⊎◌, inl, inr, ℕ, zero, suc, ◌==◌, ◌&&◌, nat_lt, ◌<◌, ◌^◌, Bool, true, false, List, [], ◌∷◌, ◌++◌, length, drop, Option, None, Some, Result, Ok, Err, IfOk, IsOk, refl, true≢false, sym, ap, subst, ◌∙◌, arith, append_assoc, append-nil, length-append}
 use Rattle.std.proofs.lemmas.Bool.{eqb-true, eq-eqb, lt-ltb, le-ltb, ltb-true, ltb-false}
 use Rattle.std.proofs.lemmas.List.{append_cancel_right}
-use Rattle.buffa_wire.specs.Field.{IsTag, LengthFault, Payload, TakesDelimited, TakesTag}
-use Rattle.buffa_wire.specs.Values.{tag_encoding}
-use Rattle.buffa_wire.specs.Varint.{IsVarint, varint_encoding}
-use Rattle.buffa_wire.specs.Reading.{delimited_at, skip_at, tag_at, taken, varint_at}
-use Rattle.buffa_wire.specs.WireType.{same_wire}
+use Rattle.buffa_bytes.specs.Field.{IsTag, LengthFault, Payload, TakesDelimited, TakesTag}
+use Rattle.buffa_bytes.specs.Values.{tag_encoding}
+use Rattle.buffa_bytes.specs.Varint.{IsVarint, varint_encoding}
+use Rattle.buffa_bytes.specs.Reading.{delimited_at, skip_at, tag_at, taken, varint_at}
+use Rattle.buffa_bytes.specs.WireType.{same_wire}
 use Rattle.buffa_bytes.specs.declared.wire_type.WireType.{WireType}
 use Rattle.buffa_bytes.specs.declared.wire_type.WireType.TheVariants.{Varint, Fixed64, LengthDelimited, StartGroup, EndGroup, Fixed32}
 use Rattle.buffa_bytes.specs.declared.error.DecodeError.{DecodeError}
@@ -17,8 +17,8 @@ use Rattle.buffa_bytes.proofs.DelimitedLemmas.{delimited_complete, delimited_fau
 use Rattle.buffa_bytes.proofs.FieldLemmas.{payload_complete, payload_faulty, payload_sound, tag_complete, tag_faulty, tag_some, tag_sound}
 use Rattle.buffa_bytes.proofs.FullLemmas.{delimited_full, payload_fault_full, payload_full, tag_fault_full}
 use Rattle.buffa_bytes.proofs.VarintLemmas.{IsVarint-varint_encoding, varint_complete, varint_faulty, varint_sound}
-use Rattle.buffa_wire.specs.Gives.{FullOnlyIf, Gives}
-use Rattle.buffa_wire.specs.Unread.{IsFrontOf}
+use Rattle.buffa_bytes.specs.Gives.{FullOnlyIf, Gives}
+use Rattle.buffa_bytes.specs.Unread.{IsFrontOf}
 use Rattle.buffa_wire.specs.Sequence.{ParsesEach, ParsesTo, join}
 use Rattle.buffa_wire.proofs.InsideLemmas.{delimited_front}
 use Rattle.buffa_wire.proofs.SequenceLemmas.{ParsesTo-first, ParsesTo-more, ok_same}

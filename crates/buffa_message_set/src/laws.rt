@@ -3,13 +3,10 @@
 ghost use Rattle.std.specs.Prelude.{◌≡◌, ◌≢◌, ◌↔◌, [], ◌∷◌, ℕ, List, Ok, Err};
 ghost use Rattle.buffa_bytes.specs.declared.error.DecodeError.{DecodeError};
 ghost use Rattle.buffa_bytes.specs.declared.error.DecodeError.TheVariants.{OutOfMemory};
-ghost use Rattle.buffa_bytes.specs.declared.wire_type.WireType.TheVariants.{EndGroup, LengthDelimited};
-ghost use Rattle.buffa_bytes.specs.declared.wire_type.WireType.TheVariants.{StartGroup, Varint};
+ghost use Rattle.buffa_bytes.specs.declared.wire_type.WireType.TheVariants.{EndGroup, LengthDelimited, StartGroup, Varint};
 ghost use Rattle.buffa_wire.specs.Message.{IsLimit};
-ghost use Rattle.buffa_wire.specs.Values.{tag_encoding};
-ghost use Rattle.buffa_message_set.specs.Item.{GroupsAreReadAlike, IsTypeId, Item, ItemFault, ItemsAreGroups};
-ghost use Rattle.buffa_message_set.specs.Item.{NoOtherFront, OneItem, TakesItem, WrittenIsItem, body_encoding, item_at};
-ghost use Rattle.buffa_message_set.specs.Item.{item_encoding};
+ghost use Rattle.buffa_bytes.specs.Values.{tag_encoding};
+ghost use Rattle.buffa_message_set.specs.Item.{GroupsAreReadAlike, IsTypeId, Item, ItemFault, ItemsAreGroups, NoOtherFront, OneItem, TakesItem, WrittenIsItem, body_encoding, item_at, item_encoding};
 ghost use Rattle.buffa_message_set.specs.Pinned.{ItemIsPinned, WrittenItemIsPinned};
 
 use crate::message_set::{ITEM_END_TAG, ITEM_START_TAG, MESSAGE_TAG, TYPE_ID_TAG};

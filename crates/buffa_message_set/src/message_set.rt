@@ -13,14 +13,13 @@
 ghost use Rattle.std.specs.Prelude.{◌≡◌, ◌≢◌, ◌^◌, ◌<◌, ◌++◌, ◌==◌, ◌&&◌, ℕ, List, length, Ok, Err, IfErr, IfOk, IsOk, MatchResult};
 ghost use Rattle.buffa_bytes.specs.declared.error.DecodeError.TheVariants.{OutOfMemory};
 ghost use Rattle.buffa_wire.specs.BudgetLeft.{budget_left};
-ghost use Rattle.buffa_wire.specs.Gives.{FullOnlyIf, Gives, GivesUnlessFull};
-ghost use Rattle.buffa_wire.specs.Reading.{taken, varint_at};
-ghost use Rattle.buffa_wire.specs.Unread.{IsTailOf};
-ghost use Rattle.buffa_wire.specs.Values.{delimited_encoding, tag_encoding};
-ghost use Rattle.buffa_wire.specs.WireType.{same_wire};
-ghost use Rattle.buffa_wire.specs.Written.{UsesRoom, Writes};
-ghost use Rattle.buffa_message_set.specs.Item.{HasMessage, IsTypeId, SpendsUnknown, field_at, item_at, item_in, item_size, item_encoding};
-ghost use Rattle.buffa_message_set.specs.Item.{BytesAt, IsMessageAt, appended_at, body_encoding, ended_by, id_then, said_by, type_id_at, unsaid};
+ghost use Rattle.buffa_bytes.specs.Gives.{FullOnlyIf, Gives, GivesUnlessFull};
+ghost use Rattle.buffa_bytes.specs.Reading.{taken, varint_at};
+ghost use Rattle.buffa_bytes.specs.Unread.{IsTailOf};
+ghost use Rattle.buffa_bytes.specs.Values.{delimited_encoding, tag_encoding};
+ghost use Rattle.buffa_bytes.specs.WireType.{same_wire};
+ghost use Rattle.buffa_bytes.specs.Written.{UsesRoom, Writes};
+ghost use Rattle.buffa_message_set.specs.Item.{HasMessage, IsTypeId, SpendsUnknown, field_at, item_at, item_in, item_size, item_encoding, BytesAt, IsMessageAt, appended_at, body_encoding, ended_by, id_then, said_by, type_id_at, unsaid};
 
 use buffa_bytes::buf::{copy_bytes, front};
 use buffa_wire::{

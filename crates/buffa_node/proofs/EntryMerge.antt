@@ -17,10 +17,10 @@ use Rattle.buffa_bytes.specs.declared.wire_type.WireType.TheVariants.{LengthDeli
 use Rattle.buffa_wire.proofs.MessageLemmas.{NoLimit}
 use Rattle.buffa_wire.proofs.SequenceLemmas.{ok_same}
 use Rattle.buffa_wire.specs.BudgetLeft.{BudgetLeft, Lacks, Pays, PaysAtMost, plus, slots}
-use Rattle.buffa_wire.specs.Content.{Content}
-use Rattle.buffa_wire.specs.Field.{Payload}
+use Rattle.buffa_bytes.specs.Content.{Content}
+use Rattle.buffa_bytes.specs.Field.{Payload}
 use Rattle.buffa_wire.specs.Message.{IsLimit}
-use Rattle.buffa_wire.specs.Reading.{delimited_at}
+use Rattle.buffa_bytes.specs.Reading.{delimited_at}
 use Rattle.buffa_map.proofs.EntryLemmas.{entry_complete, entry_faulty, same_false}
 use Rattle.buffa_map.proofs.NeedLemmas.{entry_limited}
 use Rattle.buffa_map.proofs.PutLemmas.{SamePairs-insert_entry}

@@ -14,9 +14,9 @@ use Rattle.buffa_bytes.specs.declared.error.DecodeError.TheVariants as error
 use Rattle.buffa_bytes.specs.declared.wire_type.WireType.{WireType}
 use Rattle.buffa_bytes.specs.declared.wire_type.WireType.TheVariants.{LengthDelimited}
 use Rattle.buffa_wire.specs.BudgetLeft.{BudgetLeft, Pays, nothing, plus, slots}
-use Rattle.buffa_wire.specs.Content.{bytes_in}
+use Rattle.buffa_bytes.specs.Content.{bytes_in}
 use Rattle.buffa_wire.specs.Message.{IsFieldMerged, cost_in, merged_in}
-use Rattle.buffa_wire.specs.Reading.{check_wire, delimited_at}
+use Rattle.buffa_bytes.specs.Reading.{check_wire, delimited_at}
 use Rattle.buffa_map.proofs.EntryLemmas.{check_sound}
 use Rattle.buffa_map.specs.Codec.{Reading}
 use Rattle.buffa_map.specs.Entry.{EntryFault, EntryOf, inner_need, need_at, need_of, need_within}

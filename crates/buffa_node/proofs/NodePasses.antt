@@ -10,7 +10,7 @@ use Rattle.buffa_wire.proofs.PassLemmas.{written_put, written_short, written_the
 use Rattle.buffa_wire.specs.Cache.{Cache}
 use Rattle.buffa_wire.specs.Passes.{IsSmall, WritesIf, cap}
 use Rattle.buffa_wire.specs.Encoding.{records_encoding}
-use Rattle.buffa_wire.specs.Values.{tag_encoding}
+use Rattle.buffa_bytes.specs.Values.{tag_encoding}
 use Rattle.buffa_map.proofs.MessageFieldLemmas.{small_field}
 use Rattle.buffa_map.proofs.SizeLemmas.{length-field_encoding}
 use Rattle.buffa_map.specs.Codec.{Writing}

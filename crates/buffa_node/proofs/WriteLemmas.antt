@@ -6,8 +6,8 @@ use Rattle.buffa_bytes.specs.declared.wire_type.WireType.TheVariants.{LengthDeli
 use Rattle.buffa_wire.proofs.PassLemmas.{consumes_none, written_none}
 use Rattle.buffa_wire.specs.Cache.{Cache}
 use Rattle.buffa_wire.specs.Passes.{IsSmall, WritesIf}
-use Rattle.buffa_wire.specs.Values.{delimited_encoding, tag_encoding}
-use Rattle.buffa_wire.specs.Varint.{varint_encoding}
+use Rattle.buffa_bytes.specs.Values.{delimited_encoding, tag_encoding}
+use Rattle.buffa_bytes.specs.Varint.{varint_encoding}
 use Rattle.buffa_map.specs.Codec.{Writing}
 use Rattle.buffa_map.specs.Encoding.{RefusesField, entry_encoding, field_encoding, record_encoding}
 use Rattle.buffa_fields.specs.MapLaws.{map_encoding, map_unwritten}

@@ -7,8 +7,8 @@ use Rattle.std.specs.declared.cmp.Ordering.{Ordering}
 use Rattle.buffa_bytes.specs.declared.error.DecodeError.{DecodeError}
 use Rattle.buffa_bytes.specs.declared.wire_type.WireType.TheVariants.{LengthDelimited}
 use Rattle.buffa_wire.specs.BudgetLeft.{BudgetLeft, need_by, nothing, plus, slots}
-use Rattle.buffa_wire.specs.Reading.{delimited_at}
-use Rattle.buffa_wire.specs.WireType.{same_wire}
+use Rattle.buffa_bytes.specs.Reading.{delimited_at}
+use Rattle.buffa_bytes.specs.WireType.{same_wire}
 use Rattle.buffa_map.specs.Codec.{Reading}
 use Rattle.buffa_map.specs.Entry.{entry_of, need_of}
 use Rattle.buffa_map.specs.declared.map_entry.MapEntry.{MapEntry}

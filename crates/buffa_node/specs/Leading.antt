@@ -11,10 +11,10 @@ use Rattle.std.specs.declared.cmp.Ordering.TheVariants.{Less, Greater}
 use Rattle.buffa_bytes.proofs.DelimitedLemmas.{delimited_back}
 use Rattle.buffa_bytes.proofs.VarintLemmas.{IsVarint-varint_encoding}
 use Rattle.buffa_bytes.specs.declared.wire_type.WireType.TheVariants.{LengthDelimited}
-use Rattle.buffa_wire.specs.Number.{IsNumber}
-use Rattle.buffa_wire.specs.Reading.{delimited_at}
-use Rattle.buffa_wire.specs.Values.{delimited_encoding, tag_encoding}
-use Rattle.buffa_wire.specs.Varint.{varint_encoding}
+use Rattle.buffa_bytes.specs.Number.{IsNumber}
+use Rattle.buffa_bytes.specs.Reading.{delimited_at}
+use Rattle.buffa_bytes.specs.Values.{delimited_encoding, tag_encoding}
+use Rattle.buffa_bytes.specs.Varint.{varint_encoding}
 use Rattle.buffa_map.proofs.BackLemmas.{is_tag}
 use Rattle.buffa_map.proofs.EntryLemmas.{entry_complete}
 use Rattle.buffa_map.specs.Codec.{Reading}

@@ -8,8 +8,8 @@ use Rattle.buffa_bytes.specs.declared.error.DecodeError.{DecodeError}
 use Rattle.buffa_bytes.specs.declared.wire_type.WireType.{WireType}
 use Rattle.buffa_bytes.specs.declared.wire_type.WireType.TheVariants.{Varint, Fixed64, LengthDelimited, StartGroup, EndGroup, Fixed32}
 use Rattle.buffa_wire.proofs.SequenceLemmas.{ok_same}
-use Rattle.buffa_wire.specs.Join.{Join}
-use Rattle.buffa_wire.specs.Join.Join.{none, more}
+use Rattle.buffa_bytes.specs.Join.{Join}
+use Rattle.buffa_bytes.specs.Join.Join.{none, more}
 use Rattle.buffa_wire.specs.Sequence.{ParsesEach, join}
 use Rattle.buffa_map.proofs.EntryLemmas.{entry_complete, entry_sound}
 use Rattle.buffa_map.specs.Entry.{IsEntry, IsField, blanks, entry_of}

@@ -12,15 +12,15 @@ use Rattle.buffa_bytes.proofs.VarintLemmas.{IsVarint-varint_encoding}
 use Rattle.buffa_bytes.specs.declared.wire_type.WireType.TheVariants.{LengthDelimited, Varint}
 use Rattle.buffa_wire.proofs.ParseLemmas.{text_parses}
 use Rattle.buffa_wire.specs.BudgetLeft.{nothing}
-use Rattle.buffa_wire.specs.Content.{bytes as held, number}
+use Rattle.buffa_bytes.specs.Content.{bytes as held, number}
 use Rattle.buffa_wire.specs.Falls.{height-records}
 use Rattle.buffa_wire.specs.Message.{merged_in}
 use Rattle.buffa_wire.specs.Parse.{Fits, FitsDatum, IsPayload, Parse}
-use Rattle.buffa_wire.specs.Reading.{delimited_at}
+use Rattle.buffa_bytes.specs.Reading.{delimited_at}
 use Rattle.buffa_wire.specs.Records.{Datum, bytes, datum_height, group, height, records_of, varint, fixed32, fixed64}
 use Rattle.buffa_wire.specs.Encoding.{field_encoding as record_of, records_encoding, wire_of}
-use Rattle.buffa_wire.specs.Values.{delimited_encoding, tag_encoding}
-use Rattle.buffa_wire.specs.Varint.{varint_encoding}
+use Rattle.buffa_bytes.specs.Values.{delimited_encoding, tag_encoding}
+use Rattle.buffa_bytes.specs.Varint.{varint_encoding}
 use Rattle.buffa_map.proofs.BackLemmas.{IsReadBack, entry_back}
 use Rattle.buffa_map.proofs.EntryLemmas.{entry_complete}
 use Rattle.buffa_map.specs.Codec.{Writing, level}

@@ -2,8 +2,8 @@
 use Rattle.std.proofs.Common.{◌≡◌, ℕ, zero, suc, List, [], ◌++◌, Some, None, refl, sym, ap, ◌∙◌}
 use Rattle.std.specs.Option.{option_and_then}
 use Rattle.buffa_wire.specs.BudgetLeft.{nothing, plus}
-use Rattle.buffa_wire.specs.Field.{SomeField}
-use Rattle.buffa_wire.specs.Join.{Join}
+use Rattle.buffa_bytes.specs.Field.{SomeField}
+use Rattle.buffa_bytes.specs.Join.{Join}
 use Rattle.buffa_wire.specs.Encoding.{records_encoding}
 use Rattle.buffa_wire.proofs.KeepLemmas.{keep_stays}
 use Rattle.buffa_fields.specs.MapFields.{map_records}

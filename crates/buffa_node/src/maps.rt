@@ -1,7 +1,7 @@
 //! Map fields of a node, an entry at a time.
 
 ghost use Rattle.std.specs.Prelude.{◌≡◌, OnErr, string_bytes};
-ghost use Rattle.buffa_wire.specs.Number.{IsNumber};
+ghost use Rattle.buffa_bytes.specs.Number.{IsNumber};
 ghost use Rattle.buffa_map.specs.Pairs.{means};
 ghost use Rattle.buffa_map.specs.Encoding.{field_encoding};
 ghost use Rattle.buffa_node.specs.Branch.{shade_number};

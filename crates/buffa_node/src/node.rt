@@ -1,13 +1,12 @@
 //! A message that holds itself, keeps entries with undeclared values, and every field that it doesn't declare.
 
-ghost use Rattle.std.specs.Prelude.{OnErr, [], pos, IfErr};
+ghost use Rattle.std.specs.Prelude.{OnErr, [], pos, IfErr, ◌≡◌, ◌≢◌, ◌+◌};
 ghost use Rattle.buffa_wire.specs.Passes.{IsNext, IsSized};
 ghost use Rattle.std.specs.BTreeMap.{values};
 ghost use Rattle.std.specs.List.{Contains};
 ghost use Rattle.buffa_map.specs.MessageField.{IsFieldWritten, field_slots};
-ghost use Rattle.std.specs.Prelude.{◌≡◌, ◌≢◌, ◌+◌};
 ghost use Rattle.buffa_wire.specs.BudgetLeft.{budget_left};
-ghost use Rattle.buffa_wire.specs.Gives.{FullOnlyIf};
+ghost use Rattle.buffa_bytes.specs.Gives.{FullOnlyIf};
 ghost use Rattle.buffa_wire.specs.Message.{BeginsField, IsFieldMerged, IsMerged};
 ghost use Rattle.buffa_node.specs.Calls.{TakesChild};
 ghost use Rattle.buffa_node.specs.NodeMeaning.{cost, merged};

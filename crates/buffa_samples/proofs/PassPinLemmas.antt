@@ -4,7 +4,7 @@ use Rattle.std.specs.Cmp.{IsEquivalence}
 use Rattle.buffa_bytes.specs.declared.error.DecodeError.TheVariants as decode
 use Rattle.buffa_bytes.specs.declared.error.EncodeError.TheVariants as encode
 use Rattle.buffa_wire.specs.BudgetLeft.{nothing}
-use Rattle.buffa_wire.specs.Content.{Content}
+use Rattle.buffa_bytes.specs.Content.{Content}
 use Rattle.buffa_wire.specs.Message.{defaults}
 use Rattle.buffa_map.specs.Enums.{ClosedFits, closed_writing}
 use Rattle.buffa_map.specs.Merge.{ReadsRun, state}

@@ -9,8 +9,8 @@ use Rattle.buffa_bytes.proofs.DelimitedLemmas.{delimited_faulty, delimited_taken
 use Rattle.buffa_bytes.specs.declared.error.DecodeError.{DecodeError}
 use Rattle.buffa_wire.proofs.MessageLemmas.{NoLimit, length_no_limit}
 use Rattle.buffa_wire.specs.BudgetLeft.{BudgetLeft, Lacks, Pays, PaysAtMost, nothing, plus, slots, units}
-use Rattle.buffa_wire.specs.Content.{bytes_in}
-use Rattle.buffa_wire.specs.Varint.{IsVarint}
+use Rattle.buffa_bytes.specs.Content.{bytes_in}
+use Rattle.buffa_bytes.specs.Varint.{IsVarint}
 use Rattle.buffa_wire.specs.Message.{merged_in}
 use Rattle.buffa_map.proofs.EntryLemmas.{entry_complete, entry_faulty}
 use Rattle.buffa_map.proofs.NeedLemmas.{inner_is}

@@ -18,11 +18,11 @@ use Rattle.buffa_map.specs.Message.{meant}
 use Rattle.buffa_bytes.specs.declared.error.DecodeError.{DecodeError}
 use Rattle.buffa_bytes.specs.declared.wire_type.WireType.{WireType}
 use Rattle.buffa_bytes.specs.declared.wire_type.WireType.TheVariants.{LengthDelimited, Varint}
-use Rattle.buffa_wire.specs.Content.{bytes_in, number_in}
+use Rattle.buffa_bytes.specs.Content.{bytes_in, number_in}
 use Rattle.buffa_wire.specs.Message.{merged_in}
 use Rattle.buffa_wire.specs.BudgetLeft.{nothing}
 use Rattle.buffa_wire.specs.Sequence.{ParsesEach}
-use Rattle.buffa_wire.specs.Values.{int32_at, int32_of}
+use Rattle.buffa_bytes.specs.Values.{int32_at, int32_of}
 use Rattle.buffa_map.proofs.EntryLemmas.{check_sound, entry_sound}
 use Rattle.buffa_map.specs.Entry.{IsEntry, IsField, blanks}
 use Rattle.buffa_map.specs.declared.map_entry.MapEntry.{MapEntry}

@@ -5,7 +5,7 @@ use Rattle.std.specs.Map.{values_of}
 use Rattle.buffa_bytes.proofs.ShortestLemmas.{varint_encoding-last}
 use Rattle.buffa_bytes.specs.declared.wire_type.WireType.TheVariants.{LengthDelimited}
 use Rattle.buffa_wire.specs.Passes.{IsSmall, cap}
-use Rattle.buffa_wire.specs.Values.{tag_encoding}
+use Rattle.buffa_bytes.specs.Values.{tag_encoding}
 use Rattle.buffa_map.specs.MessageField.{IsSmallField, field_slots}
 use Rattle.buffa_map.specs.Scalars.{delimited_writing}
 use Rattle.buffa_map.specs.Encoding.{field_size, field_encoding}

@@ -4,7 +4,7 @@ use Rattle.std.specs.Int.{w32}
 use Rattle.buffa_bytes.proofs.IntLemmas.{int32_back}
 use Rattle.buffa_bytes.proofs.StepLemmas.{agree_if}
 use Rattle.buffa_bytes.specs.declared.wire_type.WireType.TheVariants.{EndGroup, Varint}
-use Rattle.buffa_wire.specs.Values.{int32_encoding}
+use Rattle.buffa_bytes.specs.Values.{int32_encoding}
 use Rattle.buffa_wire.specs.ByField.{merged_by}
 use Rattle.buffa_samples.specs.Fields.{int32_field, skipped_field}
 use Rattle.buffa_wire.proofs.ByFieldLemmas.{IsSame, IsSound, empty}

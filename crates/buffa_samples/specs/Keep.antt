@@ -1,7 +1,7 @@
 -- What bytes mean to a message that keeps every field: the records that they are, behind those that it had.
 -- Source: the protobuf encoding guide, "Message Structure".
 use Rattle.std.specs.Prelude.{ℕ, ◌-◌, List, [], ◌∷◌, ◌++◌, Option, Ok}
-use Rattle.buffa_wire.specs.Gives.{◌>>=◌}
+use Rattle.buffa_bytes.specs.Gives.{◌>>=◌}
 use Rattle.buffa_wire.specs.BudgetLeft.{BudgetLeft}
 use Rattle.buffa_wire.specs.Records.{Datum}
 use Rattle.buffa_wire.specs.Kept.{keep_need, record_at}

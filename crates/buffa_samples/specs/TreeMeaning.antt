@@ -7,12 +7,12 @@ use Rattle.buffa_bytes.specs.declared.error.DecodeError.{DecodeError}
 use Rattle.buffa_bytes.specs.declared.error.DecodeError.TheVariants.{OutOfMemory}
 use Rattle.buffa_bytes.specs.declared.wire_type.WireType.{WireType}
 use Rattle.buffa_bytes.specs.declared.wire_type.WireType.TheVariants.{LengthDelimited, Varint}
-use Rattle.buffa_wire.specs.Gives.{◌>>=◌}
+use Rattle.buffa_bytes.specs.Gives.{◌>>=◌}
 use Rattle.buffa_wire.specs.BudgetLeft.{BudgetLeft, Lacks, Pays, PaysAtMost, nothing, plus, units}
 use Rattle.buffa_wire.specs.Message.{IsLimit, cost_in, merged_in}
-use Rattle.buffa_wire.specs.Reading.{check_wire, delimited_at}
-use Rattle.buffa_wire.specs.Values.{int32_of}
-use Rattle.buffa_wire.specs.WireType.{same_wire}
+use Rattle.buffa_bytes.specs.Reading.{check_wire, delimited_at}
+use Rattle.buffa_bytes.specs.Values.{int32_of}
+use Rattle.buffa_bytes.specs.WireType.{same_wire}
 use Rattle.buffa_map.specs.Codec.{Reading}
 use Rattle.buffa_map.specs.Entry.{entry_of, inner_need}
 use Rattle.buffa_map.specs.declared.map_entry.MapEntry.{MapEntry}

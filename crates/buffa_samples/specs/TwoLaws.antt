@@ -6,7 +6,7 @@ use Rattle.buffa_bytes.proofs.StepLemmas.{agree_if}
 use Rattle.buffa_bytes.specs.declared.wire_type.WireType.TheVariants.{EndGroup, Varint}
 use Rattle.buffa_bytes.specs.declared.error.DecodeError.{DecodeError}
 use Rattle.buffa_wire.specs.Encoding.{records_encoding}
-use Rattle.buffa_wire.specs.Values.{int32_encoding}
+use Rattle.buffa_bytes.specs.Values.{int32_encoding}
 use Rattle.buffa_wire.specs.ByField.{merged_by}
 use Rattle.buffa_samples.specs.Fields.{int32_field, number_records, number_encoding, skipped_field}
 use Rattle.buffa_wire.proofs.ByFieldLemmas.{IsSame, IsSound, empty}

@@ -3,14 +3,13 @@
 ghost use Rattle.std.specs.Prelude.{◌≡◌, ◌≢◌, ◌<◌, ◌^◌, [], refl, IsOk, OnErr};
 ghost use Rattle.buffa_bytes.specs.declared.wire_type.WireType.TheVariants.{EndGroup};
 ghost use Rattle.buffa_wire.specs.BudgetLeft.{budget_left};
-ghost use Rattle.buffa_wire.specs.Gives.{FullOnlyIf, Gives};
+ghost use Rattle.buffa_bytes.specs.Gives.{FullOnlyIf, Gives};
 ghost use Rattle.buffa_wire.specs.Message.{MergesField};
 ghost use Rattle.buffa_wire.specs.Passes.{IsSized};
-ghost use Rattle.buffa_wire.specs.Written.{Writes};
+ghost use Rattle.buffa_bytes.specs.Written.{Writes};
 ghost use Rattle.buffa_wire.proofs.ByFieldLemmas.{empty, fields, next};
 ghost use Rattle.buffa_samples.specs.Count.{count_cost, count_field, count_merged, count_records, count_encoding, one_text};
-ghost use Rattle.buffa_samples.specs.CountLaws.{count_back, count_cost_some, count_same, count_sound};
-ghost use Rattle.buffa_samples.specs.CountLaws.{count_encoding_records};
+ghost use Rattle.buffa_samples.specs.CountLaws.{count_back, count_cost_some, count_same, count_sound, count_encoding_records};
 
 use buffa_wire::{
     Blank, Buf, DecodeContext, DecodeError, EncodeError, EncodeSink, Message, MessageSpec,

@@ -4,7 +4,7 @@ ghost use Rattle.std.specs.Prelude.{◌≡◌, ◌≢◌, [], pos, refl, FitsSig
 ghost use Rattle.std.specs.Int.{w32};
 ghost use Rattle.buffa_bytes.specs.declared.wire_type.WireType.TheVariants.{EndGroup};
 ghost use Rattle.buffa_wire.specs.BudgetLeft.{budget_left};
-ghost use Rattle.buffa_wire.specs.Gives.{FullOnlyIf, Gives};
+ghost use Rattle.buffa_bytes.specs.Gives.{FullOnlyIf, Gives};
 ghost use Rattle.buffa_wire.specs.Message.{MergesField};
 ghost use Rattle.buffa_wire.specs.Passes.{IsSized};
 ghost use Rattle.buffa_wire.proofs.ByFieldLemmas.{empty, fields, next};

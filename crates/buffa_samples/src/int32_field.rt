@@ -2,9 +2,9 @@
 
 ghost use Rattle.std.specs.Prelude.{◌≡◌, ◌<◌, ◌≤◌, ◌++◌, length};
 ghost use Rattle.buffa_bytes.specs.declared.wire_type.WireType.TheVariants.{Varint};
-ghost use Rattle.buffa_wire.specs.Number.{IsNumber};
-ghost use Rattle.buffa_wire.specs.Values.{int32_encoding, tag_encoding};
-ghost use Rattle.buffa_wire.specs.Written.{Writes};
+ghost use Rattle.buffa_bytes.specs.Number.{IsNumber};
+ghost use Rattle.buffa_bytes.specs.Values.{int32_encoding, tag_encoding};
+ghost use Rattle.buffa_bytes.specs.Written.{Writes};
 ghost use Rattle.buffa_samples.specs.Fields.{number_encoding};
 
 use buffa_wire::types::{encode_int32, int32_encoded_len};

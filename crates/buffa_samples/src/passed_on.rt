@@ -2,10 +2,9 @@
 
 ghost use Rattle.std.specs.Prelude.{◌≡◌, ◌≤◌, IfErr, OnOk};
 ghost use Rattle.buffa_wire.specs.Enums.{Refines, numbers};
-ghost use Rattle.buffa_wire.specs.Number.{IsNumber};
+ghost use Rattle.buffa_bytes.specs.Number.{IsNumber};
 ghost use Rattle.buffa_map.specs.Lent.{room_of};
-ghost use Rattle.buffa_samples.specs.Passed.{IfRefused, IfUnread, IsRun, KeepsRun, MeansRun, NotRewritten, Proxy};
-ghost use Rattle.buffa_samples.specs.Passed.{ReadsRewrite, Stopped, proxy};
+ghost use Rattle.buffa_samples.specs.Passed.{IfRefused, IfUnread, IsRun, KeepsRun, MeansRun, NotRewritten, Proxy, ReadsRewrite, Stopped, proxy};
 
 use buffa_map::laws::{
     newer_enums_take_it_too, one_reading, plain_entries_need_units, rewrite_means,

@@ -1,13 +1,12 @@
 //! A map through its bytes and back: whatever the codecs, the storage and the order of its walk.
 
 ghost use Rattle.std.specs.Prelude.{◌≡◌, ◌+◌, [], IfErr, OnOk, IsPermutation};
-ghost use Rattle.buffa_wire.specs.Number.{IsNumber};
+ghost use Rattle.buffa_bytes.specs.Number.{IsNumber};
 ghost use Rattle.buffa_map.specs.Merge.{dropping};
 ghost use Rattle.buffa_map.specs.Pairs.{SamePairs};
 ghost use Rattle.buffa_map.specs.Encoding.{AllHold};
 ghost use Rattle.buffa_samples.specs.Letters.{same_letters, spelled};
-ghost use Rattle.buffa_samples.specs.RoundTrip.{EachWalk, FitsTrip, IfUnwritten, InWalkOrder, RefusesTrip, StopsTrip};
-ghost use Rattle.buffa_samples.specs.RoundTrip.{flag_writing, word_rules, word_writing};
+ghost use Rattle.buffa_samples.specs.RoundTrip.{EachWalk, FitsTrip, IfUnwritten, InWalkOrder, RefusesTrip, StopsTrip, flag_writing, word_rules, word_writing};
 
 use crate::word::Word;
 use buffa_map::laws::{one_reading, plain_entries_need_units, written_is_read};

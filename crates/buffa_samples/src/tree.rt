@@ -1,12 +1,11 @@
 //! A message that holds itself.
 
-ghost use Rattle.std.specs.Prelude.{OnErr, [], pos};
+ghost use Rattle.std.specs.Prelude.{OnErr, [], pos, ◌≡◌, ◌≢◌, ◌+◌};
 ghost use Rattle.buffa_wire.specs.Passes.{IsNext, IsSized};
 ghost use Rattle.std.specs.BTreeMap.{values};
 ghost use Rattle.std.specs.List.{Contains};
 ghost use Rattle.buffa_map.specs.MessageField.{IsFieldWritten, field_slots};
-ghost use Rattle.std.specs.Prelude.{◌≡◌, ◌≢◌, ◌+◌};
-ghost use Rattle.buffa_wire.specs.Gives.{FullOnlyIf};
+ghost use Rattle.buffa_bytes.specs.Gives.{FullOnlyIf};
 ghost use Rattle.buffa_wire.specs.Message.{BeginsField, IsFieldMerged, IsMerged};
 ghost use Rattle.buffa_samples.specs.TreeMeaning.{IsChildMerged, cost, merged};
 ghost use Rattle.buffa_samples.specs.TreeEncoding.{IsTreeWritten, encoding, key_writing, meant, slots};

@@ -13,7 +13,7 @@ use Rattle.buffa_wire.specs.BudgetLeft.{nothing, plus, slots}
 use Rattle.buffa_wire.specs.Parse.{Fits}
 use Rattle.buffa_wire.specs.Records.{Datum, Records, bytes, datum_height, fixed32, fixed64, group, height, one, records_of, varint}
 use Rattle.buffa_wire.specs.Encoding.{field_encoding, records_encoding}
-use Rattle.buffa_wire.specs.Values.{tag_encoding}
+use Rattle.buffa_bytes.specs.Values.{tag_encoding}
 use Rattle.buffa_message_set.specs.Item.{IsReadAlike, IsTypeId, body_encoding, item_at, item_encoding}
 use Rattle.buffa_message_set.proofs.ItemLemmas.{both_true, in_range, read_complete, read_sound, written_item}
 use Rattle.buffa_message_set.proofs.GroupLemmas.{group_alike, item_group, item_no_limit}

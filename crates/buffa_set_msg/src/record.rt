@@ -1,14 +1,13 @@
 // One record of a MessageSet: read, sized and written.
 
-ghost use Rattle.std.specs.Prelude.{◌≡◌, ◌≢◌, ◌≤◌, length, min};
+ghost use Rattle.std.specs.Prelude.{◌≡◌, ◌≢◌, ◌≤◌, length, min, ◌+◌, ◌*◌};
 ghost use Rattle.buffa_bytes.specs.declared.wire_type.WireType.TheVariants.{EndGroup};
-ghost use Rattle.buffa_wire.specs.Gives.{FullOnlyIf, GivesUnlessFull};
+ghost use Rattle.buffa_bytes.specs.Gives.{FullOnlyIf, GivesUnlessFull};
 ghost use Rattle.buffa_wire.specs.Encoding.{field_encoding, payload_encoding};
-ghost use Rattle.buffa_wire.specs.Varint.{varint_encoding};
+ghost use Rattle.buffa_bytes.specs.Varint.{varint_encoding};
 ghost use Rattle.buffa_wire.specs.View.{datum_of, record_of};
-ghost use Rattle.buffa_wire.specs.WireType.{wire_number};
-ghost use Rattle.buffa_wire.specs.Written.{UsesRoom, Writes};
-ghost use Rattle.std.specs.Prelude.{◌+◌, ◌*◌};
+ghost use Rattle.buffa_bytes.specs.WireType.{wire_number};
+ghost use Rattle.buffa_bytes.specs.Written.{UsesRoom, Writes};
 ghost use Rattle.buffa_set_msg.specs.Set.{is_type_id, record_of_field, record_encoding, starts};
 
 use buffa_message_set::message_set::{item_encoded_len, merge_item, write_item};

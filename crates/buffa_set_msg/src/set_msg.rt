@@ -3,15 +3,13 @@
 ghost use Rattle.std.specs.Prelude.{◌≡◌, ◌≢◌, [], codes, length, min, refl, IfErr, IsOk};
 ghost use Rattle.buffa_bytes.specs.declared.wire_type.WireType.TheVariants.{EndGroup};
 ghost use Rattle.buffa_wire.specs.BudgetLeft.{budget_left};
-ghost use Rattle.buffa_wire.specs.Gives.{FullOnlyIf};
+ghost use Rattle.buffa_bytes.specs.Gives.{FullOnlyIf};
 ghost use Rattle.buffa_wire.specs.Message.{BeginsField, MergesBytes, MergesField};
 ghost use Rattle.buffa_wire.specs.Passes.{IsSized, IsWritten};
 ghost use Rattle.buffa_wire.specs.Records.{Held};
-ghost use Rattle.buffa_wire.specs.Written.{UsesRoom, Writes};
-ghost use Rattle.buffa_set_msg.specs.Set.{AreItems, StopsBehind, TakesSetField, set_cost, set_levels, set_merged};
-ghost use Rattle.buffa_set_msg.specs.Set.{set_records, set_encoding};
-ghost use Rattle.buffa_set_msg.specs.SetFacts.{set_back, set_cost_empty, set_cost_next, set_cost_some, set_empty};
-ghost use Rattle.buffa_set_msg.specs.SetFacts.{set_fields, set_next, set_encoding_records};
+ghost use Rattle.buffa_bytes.specs.Written.{UsesRoom, Writes};
+ghost use Rattle.buffa_set_msg.specs.Set.{AreItems, StopsBehind, TakesSetField, set_cost, set_levels, set_merged, set_records, set_encoding};
+ghost use Rattle.buffa_set_msg.specs.SetFacts.{set_back, set_cost_empty, set_cost_next, set_cost_some, set_empty, set_fields, set_next, set_encoding_records};
 
 use crate::record::{read_record, record_len, write_record};
 use buffa_ext::ExtensionSet;

@@ -1,13 +1,12 @@
 //! What the definitions of records say together: each law is a function with nothing to do, whose contract
 //! is the law.
 
-ghost use Rattle.std.specs.Prelude.{◌≡◌, ◌≢◌, ◌-◌, ◌^◌, ◌≤◌, ◌↔◌, ◌∷◌, ℕ, ℤ, List, Ok, Err, true, false};
-ghost use Rattle.std.specs.Prelude.{length, pos, slice_index};
+ghost use Rattle.std.specs.Prelude.{◌≡◌, ◌≢◌, ◌-◌, ◌^◌, ◌≤◌, ◌↔◌, ◌∷◌, ℕ, ℤ, List, Ok, Err, true, false, length, pos, slice_index};
 ghost use Rattle.buffa_bytes.specs.declared.wire_type.WireType.{WireType};
 ghost use Rattle.buffa_bytes.specs.declared.error.DecodeError.{DecodeError};
 ghost use Rattle.buffa_bytes.specs.declared.error.DecodeError.TheVariants.{OutOfMemory};
-ghost use Rattle.buffa_wire.specs.Field.{SomeField};
-ghost use Rattle.buffa_wire.specs.Join.{Join};
+ghost use Rattle.buffa_bytes.specs.Field.{SomeField, IsTag};
+ghost use Rattle.buffa_bytes.specs.Join.{Join};
 ghost use Rattle.buffa_wire.specs.Records.{Datum, Held, height, records_of};
 ghost use Rattle.buffa_wire.specs.View.{datum_of, record_of};
 ghost use Rattle.buffa_wire.specs.Encoding.{records_encoding};
@@ -17,9 +16,7 @@ ghost use Rattle.buffa_wire.specs.BudgetLeft.{BudgetLeft};
 ghost use Rattle.buffa_wire.specs.Cache.{Cache, advanced, appended};
 ghost use Rattle.buffa_wire.specs.Enums.{open_number};
 ghost use Rattle.buffa_wire.specs.Passes.{IsNext};
-ghost use Rattle.buffa_wire.specs.Field.{IsTag};
-ghost use Rattle.buffa_wire.specs.Pinned.{BudgetIsPinned, FieldIsPinned, FieldMergeIsPinned, InsideIsPinned};
-ghost use Rattle.buffa_wire.specs.Pinned.{MergeIsPinned, PassesArePinned, RecordsArePinned};
+ghost use Rattle.buffa_wire.specs.Pinned.{BudgetIsPinned, FieldIsPinned, FieldMergeIsPinned, InsideIsPinned, MergeIsPinned, PassesArePinned, RecordsArePinned};
 
 pub use crate::scalars::{
     forms_are_these, scalars_are_read, scalars_are_written, scalars_cost_so_much,

@@ -4,7 +4,7 @@ use Rattle.std.specs.Prelude.{IfErr}
 use Rattle.std.specs.Result.{IsErrAnd}
 use Rattle.buffa_bytes.specs.declared.error.DecodeError.{DecodeError}
 use Rattle.buffa_bytes.specs.declared.error.DecodeError.TheVariants as of_bytes
-use Rattle.buffa_wire.specs.ErrorText.{decode_error_text}
+use Rattle.buffa_bytes.specs.ErrorText.{decode_error_text}
 use Rattle.buffamap.specs.declared.fault.Fault.{Fault}
 use Rattle.buffamap.specs.declared.fault.Fault.TheVariants.{Form, OutOfMemory, RefusedBytes, RefusedText, Stream, Words}
 use Rattle.buffamap.specs.Fault.{IsOfBytes, SaysNone, Tells, told}

@@ -6,7 +6,7 @@ use Rattle.std.specs.Ordering.{int_eq}
 use Rattle.buffa_bytes.specs.declared.error.DecodeError.{DecodeError}
 use Rattle.buffa_bytes.specs.Content.{number_in}
 use Rattle.buffa_wire.specs.Sequence.{ParsesEach}
-use Rattle.buffa_wire.specs.Values.{int32_of}
+use Rattle.buffa_bytes.specs.Values.{int32_of}
 use Rattle.buffa_map.specs.Entry.{IsField, blanks}
 use Rattle.buffa_map.specs.Enums.{ClosedFits}
 use Rattle.buffa_map.specs.Pairs.{put}

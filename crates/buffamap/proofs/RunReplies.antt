@@ -5,7 +5,7 @@ use Rattle.std.proofs.lemmas.Result.{on_ok_weaker}
 use Rattle.buffa_bytes.specs.declared.error.DecodeError.{DecodeError}
 use Rattle.buffa_bytes.specs.declared.error.DecodeError.TheVariants.{OutOfMemory}
 use Rattle.buffa_wire.specs.BudgetLeft.{BudgetLeft, nothing}
-use Rattle.buffa_wire.specs.Content.{Content}
+use Rattle.buffa_bytes.specs.Content.{Content}
 use Rattle.buffa_wire.specs.Records.{Datum}
 use Rattle.buffa_map.specs.Codec.{Reading}
 use Rattle.buffa_map.specs.Pairs.{SamePairs}

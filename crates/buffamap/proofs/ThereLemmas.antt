@@ -8,7 +8,7 @@ use Rattle.std.specs.Ordering.{int_cmp, int_eq, nat_cmp}
 use Rattle.buffa_bytes.specs.declared.error.DecodeError.{DecodeError}
 use Rattle.buffa_bytes.specs.declared.error.DecodeError.TheVariants.{UnexpectedEof}
 use Rattle.buffa_wire.specs.BudgetLeft.{BudgetLeft, Lacks}
-use Rattle.buffa_wire.specs.ErrorText.{decode_error_text}
+use Rattle.buffa_bytes.specs.ErrorText.{decode_error_text}
 use Rattle.buffa_wire.specs.Message.{defaults}
 use Rattle.buffa_wire.specs.Records.{Datum}
 use Rattle.buffa_wire.specs.Encoding.{records_encoding}
@@ -27,8 +27,7 @@ use Rattle.buffamap.specs.Lines.{InOrder, Pair, lines_of, map_in, same_key}
 use Rattle.buffamap.specs.Pinned.{HasReply}
 use Rattle.buffamap.specs.Read.{default_left, RepliesToBytes, RepliesToRead, RepliesToRun, run_from}
 use Rattle.buffamap.specs.Reply.{Reply, bad_input, done, fault, hex_line}
-use Rattle.buffamap.specs.Rewrite.{Entry, IsRewritten, IsRewrittenOf, RepliesToRewrite, choice_reading}
-use Rattle.buffamap.specs.Rewrite.{Pair as Choices, run_from as rewrite_from}
+use Rattle.buffamap.specs.Rewrite.{Entry, IsRewritten, IsRewrittenOf, RepliesToRewrite, choice_reading, Pair as Choices, run_from as rewrite_from}
 use Rattle.buffamap.specs.Write.{RepliesToMap, RepliesToWrite, field_reply}
 use Rattle.buffa_codec.specs.Sub.{sub}
 use Rattle.buffamap.proofs.FitLemmas.{pairs_fit, run_fits}

@@ -1,7 +1,7 @@
 -- The codecs of map<string, int32>. Source: the protobuf encoding guide, "Maps".
 use Rattle.std.specs.Prelude.{ℤ, ℕ, pos, List, []}
 use Rattle.std.specs.Int.{cast_unsigned, w64}
-use Rattle.buffa_wire.specs.Values.{int32_of}
+use Rattle.buffa_bytes.specs.Values.{int32_of}
 use Rattle.buffa_bytes.specs.declared.wire_type.WireType.TheVariants.{Varint}
 use Rattle.buffa_map.specs.Codec.{Reading, Writing}
 use Rattle.buffa_map.specs.Scalars.{delimited_writing, number_reading, varint_writing}

@@ -5,11 +5,11 @@ use Rattle.std.specs.List.{flat_map}
 use Rattle.hex.specs.Hex.{encode_lower}
 use Rattle.buffa_bytes.specs.declared.error.DecodeError.{DecodeError}
 use Rattle.buffa_bytes.specs.declared.wire_type.WireType.TheVariants.{Varint}
-use Rattle.buffa_wire.specs.ErrorText.{decode_error_text}
+use Rattle.buffa_bytes.specs.ErrorText.{decode_error_text}
 use Rattle.buffa_wire.specs.Found.{varint_in}
 use Rattle.buffa_wire.specs.RecordReading.{list_at}
 use Rattle.buffa_wire.specs.Records.{Datum}
-use Rattle.buffa_wire.specs.Values.{int32_of}
+use Rattle.buffa_bytes.specs.Values.{int32_of}
 use Rattle.buffa_codec.specs.Packed.{numbers_in}
 use Rattle.buffa_codec.specs.Reading.{elements, last_read, string_held}
 use Rattle.buffa_codec.specs.Sub.{sub}

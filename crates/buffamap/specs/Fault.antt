@@ -8,7 +8,7 @@ use Rattle.buffa_bytes.specs.declared.error.EncodeError.{EncodeError}
 use Rattle.buffa_bytes.specs.declared.error.EncodeError.TheVariants as of_text
 use Rattle.buffa_map.specs.declared.rewrite.RewriteError.{RewriteError}
 use Rattle.buffa_map.specs.declared.rewrite.RewriteError.TheVariants.{Decode, Encode}
-use Rattle.buffa_wire.specs.ErrorText.{decode_error_text, encode_error_text}
+use Rattle.buffa_bytes.specs.ErrorText.{decode_error_text, encode_error_text}
 use Rattle.buffamap.specs.declared.fault.Fault.{Fault}
 use Rattle.buffamap.specs.declared.fault.Fault.TheVariants.{Form, OutOfMemory, RefusedBytes, RefusedText, Stream, Words}
 use Rattle.buffamap.specs.Reply.{Reply, bad_input, broken, fault, no_memory, wrong_words}

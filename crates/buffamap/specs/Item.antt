@@ -3,7 +3,7 @@ use Rattle.std.specs.Prelude.{◌≡◌, ℕ, List, ◌++◌, Option, Some, None
 use Rattle.std.specs.Fmt.{decimal}
 use Rattle.buffa_message_set.specs.Item.{item_in}
 use Rattle.buffa_bytes.specs.declared.error.DecodeError.{DecodeError}
-use Rattle.buffa_wire.specs.ErrorText.{decode_error_text}
+use Rattle.buffa_bytes.specs.ErrorText.{decode_error_text}
 use Rattle.buffamap.specs.Forms.{hex_bytes, without_newline}
 use Rattle.buffamap.specs.Reply.{Reply, bad_input, done, fault, hex_line, line}
 

@@ -1,7 +1,7 @@
 -- What the reply relations leave open: nothing, but for what is said here.
 use Rattle.std.specs.Prelude.{◌≡◌, ◌≢◌, ◌⊎◌, ◌++◌, ℕ, List, Bool, false, Option, Some}
 use Rattle.buffa_bytes.specs.declared.error.DecodeError.{DecodeError}
-use Rattle.buffa_wire.specs.ErrorText.{decode_error_text}
+use Rattle.buffa_bytes.specs.ErrorText.{decode_error_text}
 use Rattle.buffamap.specs.declared.command.Command.{Command}
 use Rattle.buffamap.specs.declared.command.Command.TheVariants.{AgainNode, AgainSet}
 use Rattle.buffamap.specs.Command.{command_of, texts}

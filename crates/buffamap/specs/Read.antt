@@ -1,7 +1,7 @@
 -- What `read N` answers: the pairs of a run, a line each.
 use Rattle.std.specs.Prelude.{◌≡◌, ℕ, ℤ, List, [], Option, Some, None, Result, Ok, Err}
 use Rattle.buffa_bytes.specs.declared.error.DecodeError.{DecodeError}
-use Rattle.buffa_wire.specs.ErrorText.{decode_error_text}
+use Rattle.buffa_bytes.specs.ErrorText.{decode_error_text}
 use Rattle.buffa_wire.specs.BudgetLeft.{BudgetLeft}
 use Rattle.buffa_map.specs.Pairs.{SamePairs}
 use Rattle.buffa_map.specs.Run.{fold_entries, EntryRecord, run_of}

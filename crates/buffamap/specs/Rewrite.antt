@@ -10,7 +10,7 @@ use Rattle.buffa_bytes.specs.declared.error.DecodeError.TheVariants as of_bytes
 use Rattle.buffa_bytes.specs.declared.error.EncodeError.TheVariants as of_text
 use Rattle.buffa_wire.specs.BudgetLeft.{BudgetLeft}
 use Rattle.buffa_wire.specs.Enums.{Numbers, Refines}
-use Rattle.buffa_wire.specs.ErrorText.{decode_error_text}
+use Rattle.buffa_bytes.specs.ErrorText.{decode_error_text}
 use Rattle.buffa_map.specs.Codec.{Reading}
 use Rattle.buffa_map.specs.Enums.{ClosedFits, closed_reading, closed_writing}
 use Rattle.buffa_map.specs.Pairs.{ListsOnce, means}

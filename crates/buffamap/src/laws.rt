@@ -2,7 +2,7 @@
 //! the law.
 
 ghost use Rattle.std.specs.Prelude.{◌≡◌, false};
-ghost use Rattle.buffa_wire.specs.Number.{IsNumber};
+ghost use Rattle.buffa_bytes.specs.Number.{IsNumber};
 ghost use Rattle.buffamap.specs.Again.{RepliesToAgain};
 ghost use Rattle.buffamap.specs.Ext.{RepliesToExt};
 ghost use Rattle.buffamap.specs.Fault.{IsOfBytes, IsOfDigits, IsOfRewrite, IsOfText};

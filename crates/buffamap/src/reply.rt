@@ -1,6 +1,6 @@
 // What is told of a call: a line and an exit status.
 ghost use Rattle.std.specs.Prelude.{◌≡◌, ◌++◌, IfOk, codes, string_bytes};
-ghost use Rattle.buffa_wire.specs.ErrorText.{decode_error_text, encode_error_text};
+ghost use Rattle.buffa_bytes.specs.ErrorText.{decode_error_text, encode_error_text};
 ghost use Rattle.buffamap.specs.Engine.{Gives, GivesLine, TellsFault};
 ghost use Rattle.buffamap.specs.Reply.{line, reply};
 ghost use Rattle.buffamap.specs.Streams.{Writes, change};

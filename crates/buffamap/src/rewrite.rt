@@ -1,6 +1,6 @@
 // `rewrite N`: a run as a reader of two values writes it.
 ghost use Rattle.std.specs.Prelude.{◌≡◌, [], IfErr, IfOk, OnOk};
-ghost use Rattle.buffa_wire.specs.Number.{IsNumber};
+ghost use Rattle.buffa_bytes.specs.Number.{IsNumber};
 ghost use Rattle.buffamap.specs.Fault.{Tells};
 ghost use Rattle.buffamap.specs.Reply.{done};
 ghost use Rattle.buffamap.specs.Rewrite.{IsRewritten, RefusesRun, RepliesToRewrite, RunRewritesTo, run_from};

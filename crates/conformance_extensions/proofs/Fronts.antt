@@ -2,7 +2,7 @@
 use Rattle.std.proofs.Common.{◌≡◌, ℕ, ◌+◌, ◌<◌, ◌≤◌, List, ◌∷◌, length, get_or, drop, map, sym, ap, subst, ◌∙◌, arith}
 use Rattle.std.proofs.lemmas.List.{drop_all, drop_more}
 use Rattle.buffa_wire.specs.BudgetLeft.{BudgetLeft, Pays}
-use Rattle.buffa_wire.specs.Number.{IsNumber}
+use Rattle.buffa_bytes.specs.Number.{IsNumber}
 use Rattle.buffa_wire.specs.Parse.{FitsDatum}
 use Rattle.buffa_wire.specs.Records.{Datum, datum_height}
 use Rattle.buffa_wire.specs.View.{datum_of, records_in}

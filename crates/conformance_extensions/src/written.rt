@@ -1,7 +1,7 @@
 // Records that can be written, so that they are read again.
 
 ghost use Rattle.std.specs.Prelude.{◌≤◌, IsTrue};
-ghost use Rattle.buffa_wire.specs.Number.{IsNumber};
+ghost use Rattle.buffa_bytes.specs.Number.{IsNumber};
 ghost use Rattle.buffa_wire.specs.Parse.{FitsDatum};
 ghost use Rattle.buffa_wire.specs.Records.{datum_height};
 ghost use Rattle.buffa_wire.specs.View.{datum_of};

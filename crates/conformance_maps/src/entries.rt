@@ -1,6 +1,6 @@
 // Calls that read entries and runs of map fields.
 
-ghost use Rattle.buffa_wire.specs.Number.{IsNumber};
+ghost use Rattle.buffa_bytes.specs.Number.{IsNumber};
 
 use crate::reads::{Limits, Read};
 use crate::storages::{OnMap, stored};

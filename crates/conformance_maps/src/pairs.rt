@@ -1,6 +1,6 @@
 // Fields of every kind of key and value.
 
-ghost use Rattle.buffa_wire.specs.Number.{IsNumber};
+ghost use Rattle.buffa_bytes.specs.Number.{IsNumber};
 
 use crate::sizes::{put_text, tag_len_of};
 use crate::store::{len_in, told as pairs_told};

@@ -1,6 +1,6 @@
 // Calls that size and write map fields, or put a pair into a map.
 
-ghost use Rattle.buffa_wire.specs.Number.{IsNumber};
+ghost use Rattle.buffa_bytes.specs.Number.{IsNumber};
 
 use crate::storages::{OnMap, stored};
 use crate::store::{Store, filled, pair_of, put};

@@ -1,6 +1,6 @@
 // Maps that are filled with words, and told as words.
 
-ghost use Rattle.buffa_wire.specs.Number.{IsNumber};
+ghost use Rattle.buffa_bytes.specs.Number.{IsNumber};
 
 use crate::any_map::AnyMap;
 use buffa_map::map_codec::{

@@ -1,7 +1,7 @@
 // Map fields of messages, sized and written by both passes.
 
 ghost use Rattle.std.specs.Prelude.{◌≡◌, length, OnOk};
-ghost use Rattle.buffa_wire.specs.Number.{IsNumber};
+ghost use Rattle.buffa_bytes.specs.Number.{IsNumber};
 ghost use Rattle.buffa_wire.specs.Passes.{IsNext};
 ghost use Rattle.buffa_map.specs.MessageField.{IsFieldSized, field_slots};
 

@@ -2,12 +2,11 @@
 
 ghost use Rattle.std.specs.Prelude.{◌≡◌, ◌≢◌, ◌+◌, ◌<◌, IfOk};
 ghost use Rattle.buffa_bytes.specs.Left.{LeavesUnlessFull, past_no_payload};
-ghost use Rattle.buffa_wire.specs.Gives.{FullOnlyIf, GivesUnlessFull};
+ghost use Rattle.buffa_bytes.specs.Gives.{FullOnlyIf, GivesUnlessFull};
 ghost use Rattle.buffa_wire.specs.BudgetLeft.{UnknownTaken, UnknownsSpent, budget_left};
 ghost use Rattle.buffa_wire.specs.Records.{records_of};
-ghost use Rattle.buffa_wire.specs.RecordReading.{GroupTakesMemory, ListTakesMemory, PayloadTakesMemory, TakesMemory};
-ghost use Rattle.buffa_wire.specs.RecordReading.{field_in, group_in, list_at, plain_at};
-ghost use Rattle.buffa_wire.specs.Unread.{IsTailOf, bytes_read};
+ghost use Rattle.buffa_wire.specs.RecordReading.{GroupTakesMemory, ListTakesMemory, PayloadTakesMemory, TakesMemory, field_in, group_in, list_at, plain_at};
+ghost use Rattle.buffa_bytes.specs.Unread.{IsTailOf, bytes_read};
 ghost use Rattle.buffa_wire.specs.View.{datum_of};
 
 use crate::budget::{Budget, DEFAULT_UNKNOWN_FIELD_LIMIT};

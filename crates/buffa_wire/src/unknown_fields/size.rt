@@ -3,8 +3,8 @@
 ghost use Rattle.std.specs.Prelude.{◌≡◌, ◌≤◌, length, min};
 ghost use Rattle.buffa_wire.specs.Encoding.{records_encoding, field_encoding, payload_encoding};
 ghost use Rattle.buffa_wire.specs.View.{datum_of};
-ghost use Rattle.buffa_wire.specs.Values.{tag_encoding};
-ghost use Rattle.buffa_wire.specs.Varint.{varint_encoding};
+ghost use Rattle.buffa_bytes.specs.Values.{tag_encoding};
+ghost use Rattle.buffa_bytes.specs.Varint.{varint_encoding};
 
 use crate::unknown_fields::tag::tag_value;
 use crate::unknown_fields::{UnknownFieldData, UnknownFields};

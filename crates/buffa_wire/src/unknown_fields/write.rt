@@ -2,7 +2,7 @@
 
 ghost use Rattle.buffa_wire.specs.Encoding.{records_encoding, field_encoding, payload_encoding};
 ghost use Rattle.buffa_wire.specs.View.{datum_of};
-ghost use Rattle.buffa_wire.specs.Written.{UsesRoom, Writes};
+ghost use Rattle.buffa_bytes.specs.Written.{UsesRoom, Writes};
 
 use crate::short::write_two;
 use crate::unknown_fields::tag::tag_value;

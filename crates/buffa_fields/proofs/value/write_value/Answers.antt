@@ -1,7 +1,7 @@
 use Rattle.std.proofs.Common.{◌∙◌, ◌++◌, List, ℕ, ap, append-nil, subst, sym}
 use Rattle.buffa_wire.specs.Encoding.{field_encoding}
-use Rattle.buffa_wire.specs.Values.{tag_encoding}
-use Rattle.buffa_wire.specs.Written.{Writes}
+use Rattle.buffa_bytes.specs.Values.{tag_encoding}
+use Rattle.buffa_bytes.specs.Written.{Writes}
 use Rattle.buffa_fields.proofs.value.write_value.Goals as goal
 
 pub returns : goal.returns

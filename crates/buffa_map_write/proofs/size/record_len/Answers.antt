@@ -1,5 +1,5 @@
 use Rattle.std.proofs.Common.{arith, ◌≡◌, ℕ, ◌+◌, ◌≤◌, length, ◌∙◌, ap}
-use Rattle.buffa_wire.specs.Varint.{varint_encoding}
+use Rattle.buffa_bytes.specs.Varint.{varint_encoding}
 use Rattle.buffa_wire.proofs.EncodingLemmas.{ten_at_most}
 use Rattle.buffa_map_base.specs.Encoding.{entry_encoding, saturated}
 use Rattle.buffa_map_base.proofs.SizeLemmas.{length-entry_encoding}

@@ -1,5 +1,5 @@
 use Rattle.std.proofs.Common.{◌∙◌, ap, arith, length}
-use Rattle.buffa_wire.specs.Varint.{varint_encoding}
+use Rattle.buffa_bytes.specs.Varint.{varint_encoding}
 use Rattle.buffa_map_base.proofs.WalkLemmas.{announced}
 use Rattle.buffa_map_write.proofs.sized.size_and_write_field.Goals as goal
 

@@ -1,9 +1,9 @@
 use Rattle.std.proofs.Common.{◌≡◌, ◌<◌, length, subst}
 use Rattle.std.proofs.lemmas.Result.{err_from_is_err_and}
 use Rattle.buffa_bytes.proofs.SinkLemmas.{exits_first, room_first}
-use Rattle.buffa_wire.specs.Varint.{varint_encoding}
-use Rattle.buffa_wire.specs.Values.{tag_encoding}
-use Rattle.buffa_wire.specs.Written.{WritesFront}
+use Rattle.buffa_bytes.specs.Varint.{varint_encoding}
+use Rattle.buffa_bytes.specs.Values.{tag_encoding}
+use Rattle.buffa_bytes.specs.Written.{WritesFront}
 use Rattle.buffa_bytes.specs.declared.wire_type.WireType.TheVariants.{LengthDelimited}
 use Rattle.buffa_map_write.proofs.write.write_head.Goals as goal
 

@@ -1,6 +1,6 @@
 use Rattle.std.proofs.Common.{List, ℕ, Result}
 use Rattle.buffa_bytes.specs.declared.error.EncodeError.{EncodeError}
-use Rattle.buffa_wire.specs.Written.{Writes}
+use Rattle.buffa_bytes.specs.Written.{Writes}
 use Rattle.buffa_samples.specs.Count.{count_encoding}
 use Rattle.buffa_samples.proofs.count.write_count.Given as goal
 

@@ -2,9 +2,9 @@ use Rattle.std.proofs.Common.{◌≡◌, subst}
 use Rattle.std.proofs.lemmas.Result.{err_from_is_err_and}
 use Rattle.buffa_bytes.proofs.SinkLemmas.{exits_first}
 use Rattle.buffa_bytes.specs.declared.wire_type.WireType.TheVariants.{Varint}
-use Rattle.buffa_wire.specs.Values.{tag_encoding}
-use Rattle.buffa_wire.specs.Varint.{varint_encoding}
-use Rattle.buffa_wire.specs.Written.{WritesFront}
+use Rattle.buffa_bytes.specs.Values.{tag_encoding}
+use Rattle.buffa_bytes.specs.Varint.{varint_encoding}
+use Rattle.buffa_bytes.specs.Written.{WritesFront}
 use Rattle.buffa_samples.proofs.count.write_one.Goals as goal
 
 pub returns-in_err-encode : goal.returns-in_err-encode

@@ -3,7 +3,7 @@ use Rattle.std.proofs.lemmas.Int.{to_z-of_z}
 use Rattle.std.specs.Int.{cast_unsigned, w32, w64}
 use Rattle.buffa_bytes.proofs.IntLemmas.{int32_below}
 use Rattle.buffa_bytes.proofs.ShortestLemmas.{length-varint_encoding}
-use Rattle.buffa_wire.specs.Values.{int32_encoding}
+use Rattle.buffa_bytes.specs.Values.{int32_encoding}
 use Rattle.buffa_samples.specs.FieldsLaws.{length_tag}
 use Rattle.buffa_samples.proofs.int32_field.len_at.Goals as goal
 

@@ -2,8 +2,8 @@ use Rattle.std.proofs.Common.{◌≡◌, subst}
 use Rattle.std.proofs.lemmas.Result.{err_from_is_err_and}
 use Rattle.buffa_bytes.proofs.SinkLemmas.{exits_first}
 use Rattle.buffa_bytes.specs.declared.wire_type.WireType.TheVariants.{Varint}
-use Rattle.buffa_wire.specs.Values.{int32_encoding, tag_encoding}
-use Rattle.buffa_wire.specs.Written.{WritesFront}
+use Rattle.buffa_bytes.specs.Values.{int32_encoding, tag_encoding}
+use Rattle.buffa_bytes.specs.Written.{WritesFront}
 use Rattle.buffa_samples.proofs.int32_field.write_at.Goals as goal
 
 pub returns-in_err-encode : goal.returns-in_err-encode

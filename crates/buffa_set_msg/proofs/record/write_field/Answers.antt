@@ -3,9 +3,9 @@ use Rattle.std.proofs.lemmas.Result.{err_from_is_err_and}
 use Rattle.buffa_bytes.proofs.SinkLemmas.{room_then, writes_then}
 use Rattle.buffa_wire.specs.Encoding.{payload_encoding, wire_of}
 use Rattle.buffa_wire.specs.View.{datum_of}
-use Rattle.buffa_wire.specs.Values.{tag_encoding}
-use Rattle.buffa_wire.specs.Varint.{varint_encoding}
-use Rattle.buffa_wire.specs.WireType.{wire_number}
+use Rattle.buffa_bytes.specs.Values.{tag_encoding}
+use Rattle.buffa_bytes.specs.Varint.{varint_encoding}
+use Rattle.buffa_bytes.specs.WireType.{wire_number}
 use Rattle.buffa_wire.proofs.EncodingLemmas.{tag_no_room, tag_refused}
 use Rattle.buffa_set_msg.proofs.record.write_field.Goals as goal
 

@@ -2,7 +2,7 @@ use Rattle.std.proofs.lemmas.Result.{err_from_is_err_and}
 use Rattle.buffa_bytes.specs.declared.wire_type.WireType.TheVariants.{EndGroup}
 use Rattle.buffa_bytes.proofs.SinkLemmas.{exits_first, room_first}
 use Rattle.buffa_wire.specs.Encoding.{records_encoding}
-use Rattle.buffa_wire.specs.Values.{tag_encoding}
+use Rattle.buffa_bytes.specs.Values.{tag_encoding}
 use Rattle.buffa_set_msg.proofs.record.write_payload.Goals as goal
 
 pub returns-in_err-write_to-in-Group-clause-writes : goal.returns-in_err-write_to-in-Group-clause-writes

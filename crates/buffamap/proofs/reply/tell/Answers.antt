@@ -1,5 +1,5 @@
 use Rattle.std.proofs.Common.{inl, codes, ◌++◌}
-use Rattle.buffa_wire.specs.ErrorText.{decode_error_text, encode_error_text}
+use Rattle.buffa_bytes.specs.ErrorText.{decode_error_text, encode_error_text}
 use Rattle.buffamap.specs.Reply.{line}
 use Rattle.buffamap.proofs.EngineLemmas.{named_or_not}
 use Rattle.buffamap.proofs.Written.{nothing_more}
