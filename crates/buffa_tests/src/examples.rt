@@ -27,7 +27,7 @@ const ITEM: [u8; 12] = [
 fn an_item_is_written(rt: HostRuntime) -> Result<(), Fail> {
     let mut text = Vec::new(rt.alloc());
     write_item(1000, b"hello", &mut text)?;
-    assert_eq!(rt; text.as_slice(), ITEM.as_slice());
+    assert!(rt; text.as_slice() == ITEM.as_slice());
     Ok(())
 }
 
@@ -43,10 +43,10 @@ fn item_of(alloc: Global, bytes: &[u8]) -> Result<(u32, Vec<u8>), Fail> {
 #[test]
 fn an_item_is_read(rt: HostRuntime) -> Result<(), Fail> {
     let mut rest: &[u8] = &ITEM;
-    assert_eq!(rt; decode_varint(&mut rest)?, ITEM_START_TAG);
+    assert!(rt; decode_varint(&mut rest)? == ITEM_START_TAG);
     let (number, payload) = item_of(rt.alloc(), rest)?;
-    assert_eq!(rt; number, 1000);
-    assert_eq!(rt; payload.as_slice(), b"hello".as_slice());
+    assert!(rt; number == 1000);
+    assert!(rt; payload.as_slice() == b"hello".as_slice());
     Ok(())
 }
 
@@ -58,7 +58,7 @@ fn a_message_is_merged_by_its_members(rt: HostRuntime) -> Result<(), Fail> {
     let ctx = DecodeContext::new(RECURSION_LIMIT, &mut budget);
     let bytes: &[u8] = &[0x08, 0x96, 0x01];
     merge_fields(&mut message, alloc, bytes, ctx)?;
-    assert_eq!(rt; message.total, 150);
+    assert!(rt; message.total == 150);
     messages_read_back(&message);
     Ok(())
 }
@@ -70,7 +70,7 @@ fn a_sample_comes_back(rt: HostRuntime) -> Result<(), Fail> {
     node.merge_from_slice(alloc, &[0x12, 0x02, 0x08, 0x01])?;
     let text = node.try_encode_to_vec(alloc)?;
     let written: &[u8] = &[0x12, 0x04, 0x08, 0x01, 0x12, 0x00];
-    assert_eq!(rt; text.as_slice(), written);
+    assert!(rt; text.as_slice() == written);
     Ok(())
 }
 
@@ -108,7 +108,7 @@ fn a_node_has_a_shade(rt: HostRuntime) -> Result<(), Fail> {
     let is_b = node.shades.get(&2) == Some(&Shade::B);
     assert!(rt; is_b);
     let size = size_of(rt.alloc(), &node)?;
-    assert_eq!(rt; size, 6);
+    assert!(rt; size == 6);
     Ok(())
 }
 
@@ -117,7 +117,7 @@ fn a_value_is_encoded_into_a_record(rt: HostRuntime) -> Result<(), Fail> {
     let alloc = rt.alloc();
     let mut fields = UnknownFields::new(alloc);
     <Int32 as ExtensionCodec>::encode(alloc, 7, -7, &mut fields)?;
-    assert_eq!(rt; Int32::decode(alloc, 7, &fields)?, Some(-7));
+    assert!(rt; Int32::decode(alloc, 7, &fields)? == Some(-7));
     Ok(())
 }
 
@@ -126,9 +126,9 @@ fn lists_are_encoded_behind_a_record(rt: HostRuntime) -> Result<(), Fail> {
     let alloc = rt.alloc();
     let mut fields = UnknownFields::decode_from_slice(alloc, &[0x38, 0x01])?;
     Repeated::<Int32>::encode(alloc, 7, vec![in alloc; 3, 300]?, &mut fields)?;
-    assert_eq!(rt; fields.len(), 3);
+    assert!(rt; fields.len() == 3);
     PackedRepeated::<Int32>::encode(alloc, 7, vec![in alloc; 4, 5]?, &mut fields)?;
-    assert_eq!(rt; fields.len(), 4);
+    assert!(rt; fields.len() == 4);
     Ok(())
 }
 
@@ -148,6 +148,6 @@ fn extensions_name_their_codec(rt: HostRuntime) {
         Extension::<MessageCodec<FlatMsg>>::new(7, "test.Carrier").number(),
     ];
     for number in numbers {
-        assert_eq!(rt; number, 7);
+        assert!(rt; number == 7);
     }
 }

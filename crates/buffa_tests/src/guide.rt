@@ -38,14 +38,14 @@ fn a_message_with_a_map_field(rt: HostRuntime) -> Result<(), Fail> {
         0x02,
     ];
     let inventory = inventory_of(rt.alloc(), bytes)?;
-    assert_eq!(rt; inventory.counts.storage_len(), 2);
+    assert!(rt; inventory.counts.storage_len() == 2);
     assert!(rt; has(&inventory, "b", 2));
     assert_eq!(rt; inventory.encoded_len(), 14);
     let text = text_of(rt.alloc(), &inventory)?;
     let written: &[u8] = &[
         0x2A, 0x05, 0x0A, 0x01, 0x61, 0x10, 0x01, 0x2A, 0x05, 0x0A, 0x01, 0x62, 0x10, 0x02,
     ];
-    assert_eq!(rt; text.as_slice(), written);
+    assert!(rt; text.as_slice() == written);
     Ok(())
 }
 
@@ -72,8 +72,8 @@ fn sized_and_written(alloc: Global, map: Map<i32, TestMsg>) -> Result<(u64, Vec<
 fn a_map_field_of_messages(rt: HostRuntime) -> Result<(), Fail> {
     let map = map_of_one(rt.alloc())?;
     let (size, text) = sized_and_written(rt.alloc(), map)?;
-    assert_eq!(rt; size, 8);
-    assert_eq!(rt; text.as_slice(), ENTRY.as_slice());
+    assert!(rt; size == 8);
+    assert!(rt; text.as_slice() == ENTRY.as_slice());
     Ok(())
 }
 
@@ -91,7 +91,7 @@ fn map_of(alloc: Global, bytes: &[u8]) -> Result<Map<i32, TestMsg>, Fail> {
 fn messages_are_read_into_a_map(rt: HostRuntime) -> Result<(), Fail> {
     let read = map_of(rt.alloc(), &ENTRY)?;
     match read.get(&3) {
-        Some(message) => assert_eq!(rt; (message.a, message.b), (5, 0)),
+        Some(message) => assert!(rt; (message.a, message.b) == (5, 0)),
         None => assert!(rt; false),
     }
     Ok(())

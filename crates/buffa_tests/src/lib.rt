@@ -3,7 +3,8 @@
 //! a function here, or in another proved one. Nothing stands on this crate.
 //!
 //! Expected values come from outside: from the protobuf encoding guide, worked out by hand, or from a table. The
-//! messages, enums and keys stand in `buffa_samples`, an extendee and the options in `buffa_options`.
+//! messages, enums and keys stand in `buffa_samples`, an extendee and the options in `buffa_options`. Tests compare with
+//! `==` in `assert!`: of `assert_eq!` it is proved too how both sides print, which takes a fifth of a test's time.
 #![tactic(auto)]
 
 #[cfg(test)]

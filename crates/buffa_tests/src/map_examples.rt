@@ -38,9 +38,9 @@ fn a_map_field_is_read_sized_and_written(rt: HostRuntime) -> Result<(), Fail> {
     let alloc = rt.alloc();
     let counts = map_of(alloc, &ENTRY)?;
     let size = field_len::<Str, Int32, _>(&counts, 1);
-    assert_eq!(rt; size, 7);
+    assert!(rt; size == 7);
     let text = text_of(alloc, counts)?;
-    assert_eq!(rt; text.as_slice(), ENTRY.as_slice());
+    assert!(rt; text.as_slice() == ENTRY.as_slice());
     Ok(())
 }
 
@@ -55,8 +55,8 @@ fn a_map_field_is_sized_and_written_at_once(rt: HostRuntime) -> Result<(), Fail>
     let alloc = rt.alloc();
     let counts = map_of(alloc, &ENTRY)?;
     let (size, text) = at_once(counts, Vec::from_slice(alloc, &ENTRY)?)?;
-    assert_eq!(rt; size, 7);
-    assert_eq!(rt; text.len(), 14);
+    assert!(rt; size == 7);
+    assert!(rt; text.len() == 14);
     Ok(())
 }
 
@@ -68,7 +68,7 @@ fn an_entry_is_merged(rt: HostRuntime) -> Result<(), Fail> {
     let mut rest: &[u8] = &ENTRY[1..];
     let mut map: Map<String, i32> = Map::new(alloc);
     merge_entry::<Str, Int32, _, _>(alloc, &mut map, &mut rest, ctx)?;
-    assert_eq!(rt; map.get("a"), Some(&1));
+    assert!(rt; map.get("a") == Some(&1));
     Ok(())
 }
 
@@ -104,7 +104,7 @@ fn has_b(map: &Map<i32, Old>) -> bool {
 fn undeclared_values_of_a_closed_enum_are_kept(rt: HostRuntime) -> Result<(), Fail> {
     let (map, unknown) = hues_of(rt.alloc(), &HUES)?;
     assert!(rt; has_b(&map));
-    assert_eq!(rt; unknown.len(), 1);
+    assert!(rt; unknown.len() == 1);
     Ok(())
 }
 
@@ -121,7 +121,7 @@ fn undeclared_values_of_an_open_enum_are_numbers(rt: HostRuntime) -> Result<(), 
     let open = open_hues(rt.alloc())?;
     let mut text = Vec::new(rt.alloc());
     write_field::<Int32, OpenEnum<Old>, _, _>(&open, 5, &mut text)?;
-    assert_eq!(rt; text.as_slice(), HUES.as_slice());
+    assert!(rt; text.as_slice() == HUES.as_slice());
     Ok(())
 }
 
@@ -145,7 +145,7 @@ fn words_are_read_into_a_map(rt: HostRuntime) -> Result<(), Fail> {
     let ctx = DecodeContext::new(RECURSION_LIMIT, &mut budget);
     let mut words: Map<Word, bool> = Map::new(alloc);
     read_map_field::<ProtoStringMap<Word>, Bool, _, _>(alloc, &mut words, 1, &mut rest, ctx, None)?;
-    assert_eq!(rt; words.storage_len(), 1);
+    assert!(rt; words.storage_len() == 1);
     Ok(())
 }
 
@@ -164,7 +164,7 @@ fn values_that_are_bytes_are_written(rt: HostRuntime) -> Result<(), Fail> {
     let map = map_of_bytes(rt.alloc())?;
     let mut text = Vec::new(rt.alloc());
     write_field::<Int32, ProtoBytesMap<Vec<u8>>, _, _>(&map, 5, &mut text)?;
-    assert_eq!(rt; text.as_slice(), BYTES.as_slice());
+    assert!(rt; text.as_slice() == BYTES.as_slice());
     Ok(())
 }
 
@@ -182,7 +182,7 @@ fn shared_bytes(alloc: Global, record: &[u8]) -> Result<Map<i32, Bytes>, Fail> {
 fn values_that_are_bytes_are_read(rt: HostRuntime) -> Result<(), Fail> {
     let shared = shared_bytes(rt.alloc(), &BYTES)?;
     match shared.get(&1) {
-        Some(bytes) => assert_eq!(rt; bytes.as_slice(), [0xDE, 0xAD].as_slice()),
+        Some(bytes) => assert!(rt; bytes.as_slice() == [0xDE, 0xAD].as_slice()),
         None => assert!(rt; false),
     }
     Ok(())

@@ -35,8 +35,8 @@ fn numbers_are_read_of_their_records(rt: HostRuntime) -> Result<(), Fail> {
     ];
     for (bytes, read, filled) in rows {
         let options = options_of(alloc, bytes)?;
-        assert_eq!(rt; read_int32(alloc, &options, 50001)?, read);
-        assert_eq!(rt; max_length_or_default(alloc, &options)?, filled);
+        assert!(rt; read_int32(alloc, &options, 50001)? == read);
+        assert!(rt; max_length_or_default(alloc, &options)? == filled);
     }
     Ok(())
 }
@@ -46,7 +46,7 @@ fn texts_are_read_of_their_records(rt: HostRuntime) -> Result<(), Fail> {
     let alloc = rt.alloc();
     let options = options_of(alloc, b"\x92\xB5\x18\x04name\x92\xB5\x18\x01\xFF")?;
     match read_label(alloc, &options)? {
-        Some(label) => assert_eq!(rt; label.as_str(), "name"),
+        Some(label) => assert!(rt; label.as_str() == "name"),
         None => assert!(rt; false),
     }
     Ok(())
@@ -57,7 +57,7 @@ fn lists_are_read_of_their_records(rt: HostRuntime) -> Result<(), Fail> {
     let alloc = rt.alloc();
     let listed = [0x98, 0xB5, 0x18, 0x01, 0x9A, 0xB5, 0x18, 0x03, 2, 0xAC, 2];
     let choices = read_choices(alloc, &options_of(alloc, &listed)?)?;
-    assert_eq!(rt; choices.as_slice(), [1, 2, 300].as_slice());
+    assert!(rt; choices.as_slice() == [1, 2, 300].as_slice());
     Ok(())
 }
 
@@ -78,7 +78,7 @@ fn values_are_judged_by_options(rt: HostRuntime) -> Result<(), Fail> {
         (Some(10), Err(Violation::TooGreat)),
     ];
     for (value, expected) in rows {
-        assert_eq!(rt; validate(alloc, &options, value)?, expected);
+        assert!(rt; validate(alloc, &options, value)? == expected);
     }
     Ok(())
 }
@@ -87,8 +87,8 @@ fn values_are_judged_by_options(rt: HostRuntime) -> Result<(), Fail> {
 fn values_are_free_without_options(rt: HostRuntime) -> Result<(), Fail> {
     let alloc = rt.alloc();
     let free = options_of(alloc, &[])?;
-    assert_eq!(rt; validate(alloc, &free, None)?, Ok(()));
-    assert_eq!(rt; validate(alloc, &free, Some(-1))?, Ok(()));
+    assert!(rt; validate(alloc, &free, None)? == Ok(()));
+    assert!(rt; validate(alloc, &free, Some(-1))? == Ok(()));
     Ok(())
 }
 
@@ -106,10 +106,10 @@ fn options_with(alloc: Global, owed: Price) -> Result<(FieldOptions, Option<Pric
 fn prices_are_stored(rt: HostRuntime) -> Result<(), Fail> {
     let owed = Price { cents: -3 };
     let (options, stored) = options_with(rt.alloc(), owed)?;
-    assert_eq!(rt; stored, Some(owed));
+    assert!(rt; stored == Some(owed));
     let mut text = Vec::new(rt.alloc());
     options.fields.write_to(&mut text)?;
-    assert_eq!(rt; text.as_slice(), PRICE.as_slice());
+    assert!(rt; text.as_slice() == PRICE.as_slice());
     Ok(())
 }
 
@@ -122,6 +122,6 @@ fn prices_are_read_as_a_packed_list(rt: HostRuntime) -> Result<(), Fail> {
         "google.protobuf.FieldOptions",
     );
     let all = options.extension(alloc, &prices)?;
-    assert_eq!(rt; all.as_slice(), [Price { cents: -3 }].as_slice());
+    assert!(rt; all.as_slice() == [Price { cents: -3 }].as_slice());
     Ok(())
 }

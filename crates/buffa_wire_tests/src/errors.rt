@@ -46,10 +46,10 @@ const PRINTED: [(DecodeError, &str); 15] = [
 fn errors_are_printed_by_name(rt: HostRuntime) -> Result<(), Fail> {
     for (error, text) in PRINTED.iter() {
         let printed = format!(in rt.alloc(); "{error}")?;
-        assert_eq!(rt; printed.as_str(), *text);
+        assert!(rt; printed.as_str() == *text);
     }
     let refused = EncodeError::GroupRefused(DecodeError::InvalidUtf8);
     let printed = format!(in rt.alloc(); "{refused}")?;
-    assert_eq!(rt; printed.as_str(), "GroupRefused InvalidUtf8");
+    assert!(rt; printed.as_str() == "GroupRefused InvalidUtf8");
     Ok(())
 }
