@@ -23,3 +23,5 @@ mod large;
 mod map_examples;
 #[cfg(test)]
 mod options;
+#[cfg(test)]
+mod user;

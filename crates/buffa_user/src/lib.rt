@@ -6,11 +6,10 @@ ghost use Rattle.std.specs.Prelude.{◌≡◌, IfOk, string_bytes, vec_items};
 ghost use Rattle.buffa.specs.MapFields.{field_size, field_encoding, means, saturated};
 ghost use Rattle.buffa.specs.Wire.{Gives, varint_at};
 
-use buffa::map_codec::{Int32, MapCodec, MapStorage, Str, field_len, write_field};
+use buffa::map_codec::{Int32, MapCodec, Str, field_len, write_field};
 use buffa::{DecodeError, EncodeError, decode_varint};
 use std::alloc::Global;
 use std::collections::BTreeMap;
-use std::test::Fail;
 
 /// The encoding of the field `map<string, int32> counts = 5`: a record for each pair, in the order of the keys.
 ///
@@ -53,19 +52,4 @@ pub fn number_at(rest: &mut &[u8]) -> Result<u64, DecodeError>
     ensures { Gives (λ n. (n, rest.new.now)) result (varint_at rest.old.now) }
 {
     decode_varint(rest)
-}
-
-#[test]
-fn a_field_is_announced_and_written(rt: HostRuntime) -> Result<(), Fail> {
-    let alloc = rt.alloc();
-    let mut counts: BTreeMap<String, i32> = BTreeMap::new(alloc);
-    counts.storage_insert(String::from_str(alloc, "a")?, 1)?;
-    let bytes = encoding_of(alloc, &counts)?;
-    let size = announced(&counts);
-    assert_eq!(rt; size, 7);
-    assert_eq!(rt; bytes.len(), 7);
-    let mut rest = bytes.as_slice();
-    let number = number_at(&mut rest)?;
-    assert_eq!(rt; number, 42);
-    Ok(())
 }
