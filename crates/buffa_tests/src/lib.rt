@@ -22,6 +22,4 @@ mod large;
 #[cfg(test)]
 mod map_examples;
 #[cfg(test)]
-mod options;
-#[cfg(test)]
 mod user;
