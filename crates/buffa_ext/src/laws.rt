@@ -124,8 +124,9 @@ pub fn messages_are_read<M: Message>()
     ensures group_fits { (v : M.Meaning) → ⟦<GroupCodec<M> as ExtensionCodec>⟧.fits v
         ↔ (encoding_refusal group_refusal (M.encoding v) ≡ None) }
     ensures written { (v : M.Meaning) → length (M.encoding v) < 2 ^ 31 →
-        (⟦<MessageCodec<M> as ExtensionCodec>⟧.refusal v ≡ None)
-        × (⟦<GroupCodec<M> as ExtensionCodec>⟧.refusal v ≡ group_refusal (M.encoding v)) }
+        ⟦<MessageCodec<M> as ExtensionCodec>⟧.refusal v ≡ None }
+    ensures group_written { (v : M.Meaning) → length (M.encoding v) < 2 ^ 31 →
+        ⟦<GroupCodec<M> as ExtensionCodec>⟧.refusal v ≡ group_refusal (M.encoding v) }
 {}
 
 /// One record of bytes is read and written as a message, at any depth and of any budget, and so is an element

@@ -9,7 +9,7 @@ use Rattle.buffa_wire.specs.BudgetLeft.{BudgetLeft, budget_left}
 use Rattle.buffa_wire.specs.Cache.{Cache}
 use Rattle.buffa_wire.specs.Message.{IsFieldMerged, MergesBytes}
 use Rattle.buffa_wire.specs.Parse.{Fits}
-use Rattle.buffa_wire.specs.Passes.{IsWritten, cap}
+use Rattle.buffa_wire.specs.Passes.{IsSized, IsWritten, cap}
 use Rattle.buffa_bytes.specs.Reading.{check_wire}
 use Rattle.buffa_wire.specs.Records.{bytes, records_of}
 use Rattle.buffa_wire.specs.Encoding.{records_encoding}
@@ -92,6 +92,10 @@ module _ {T : Type 0} (before : Cache) (put : List ℕ) (r : Result T EncodeErro
     -- a map of them
     abbrev pub WritesPairs : {K : Type 0} → Writing K → List (K × X) → Type 0
     WritesPairs key l = IsWritten (records_encoding (pair_records key text n l)) (pair_slots text slots l) before put r after puts
+
+-- the size pass over a map of messages
+abbrev pub SizesPairs : {K X : Type 0} → (X → List ℕ) → (X → List ℕ) → ℕ → Writing K → List (K × X) → Cache → Result ℕ EncodeError → Cache → Type 0
+SizesPairs text slots n key l before r after = IsSized (records_encoding (pair_records key text n l)) (pair_slots text slots l) before r after
 
 -- the encoding of a normal value reads back to it, where its lengths can be read and it isn't too deep
 abbrev pub MembersReadBack : {M X : Type 0} → Layout M X → X → X → Type 0

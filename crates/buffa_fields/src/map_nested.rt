@@ -6,14 +6,13 @@ ghost use Rattle.std.specs.List.{IsDistinct};
 ghost use Rattle.std.specs.Map.{keys_of};
 ghost use Rattle.buffa_bytes.specs.declared.wire_type.WireType.TheVariants.{LengthDelimited};
 ghost use Rattle.buffa_bytes.specs.Number.{IsNumber};
-ghost use Rattle.buffa_wire.specs.Passes.{IsNext, IsSized, IsWritten};
+ghost use Rattle.buffa_wire.specs.Passes.{IsNext};
 ghost use Rattle.buffa_bytes.specs.Reading.{check_wire};
-ghost use Rattle.buffa_wire.specs.Encoding.{records_encoding};
 ghost use Rattle.buffa_map.proofs.BackLemmas.{plain_back};
 ghost use Rattle.buffa_map.specs.Message.{message_reading};
 ghost use Rattle.buffa_map.specs.Pairs.{means};
 ghost use Rattle.buffa_map.specs.Encoding.{AllHold};
-ghost use Rattle.buffa_fields.specs.Calls.{WritesPairs};
+ghost use Rattle.buffa_fields.specs.Calls.{SizesPairs, WritesPairs};
 ghost use Rattle.buffa_fields.specs.MapFields.{PairTakesMemory, entry_cost, entry_taken};
 ghost use Rattle.buffa_fields.specs.MapLaws.{map_stays};
 ghost use Rattle.buffa_fields.specs.Nested.{FitsInside};
@@ -42,9 +41,8 @@ fn pairs_len<KC: MapCodec, N: Message>(
 where
     KC::Value: MapKey + Hash,
     requires { IsNumber number }
-    ensures sized { let l = means KC.Value.meaning N.meaning map.now.entries in
-        IsSized (records_encoding (pair_records KC.writing N.encoding number l)) (pair_slots N.encoding N.slots l) cache.old result
-        cache.new }
+    ensures sized { SizesPairs N.encoding N.slots number KC.writing (means KC.Value.meaning N.meaning map.now.entries)
+        cache.old result cache.new }
     ensures always { pair_slots N.encoding N.slots (means KC.Value.meaning N.meaning map.now.entries) ≡ [] → IsOk result }
 {
     let tag = varint_len(u64::from(number) * 8 + 2) as u64;
