@@ -10,3 +10,5 @@ pub mod order;
 pub mod parcel;
 pub mod state;
 pub mod store;
+#[cfg(test)]
+mod tests;

@@ -1,7 +1,9 @@
 //! Examples of README, of docs/GUIDE.md and of comments, run, but for those on map fields: calls that no other proved function
 //! makes in this way.
 
-use buffa::extension::codecs::{BytesCodec, MessageCodec, PackedRepeated, Repeated, StringCodec};
+use buffa::extension::codecs::{
+    BytesCodec, EnumCodec, MessageCodec, PackedRepeated, Repeated, StringCodec,
+};
 use buffa::extension::{Extension, ExtensionCodec, ExtensionSet};
 use buffa::map_codec::{
     Bool, Fixed32, Fixed64, Int32, Int64, Sfixed32, Sfixed64, Sint64, Uint32, Uint64,
@@ -9,12 +11,11 @@ use buffa::map_codec::{
 use buffa::message_set::{ITEM_START_TAG, merge_item, write_item};
 use buffa::samples::{Node, SetMsg, Shade};
 use buffa::{
-    Blank, Budget, DecodeContext, Message, RECURSION_LIMIT, SizeCache, UnknownFields, decode_varint,
+    Blank, Budget, DecodeContext, EnumValue, Message, RECURSION_LIMIT, SizeCache, UnknownFields,
+    decode_varint,
 };
-use buffa_fields::merge::merge_fields;
-use buffa_fields::message::messages_read_back;
-use buffa_inventory::inventory::Inventory;
 use buffa_samples::flat::FlatMsg;
+use buffa_samples::hues::Old;
 use std::alloc::Global;
 use std::test::Fail;
 
@@ -47,19 +48,6 @@ fn an_item_is_read(rt: HostRuntime) -> Result<(), Fail> {
     let (number, payload) = item_of(rt.alloc(), rest)?;
     assert!(rt; number == 1000);
     assert!(rt; payload.as_slice() == b"hello".as_slice());
-    Ok(())
-}
-
-#[test]
-fn a_message_is_merged_by_its_members(rt: HostRuntime) -> Result<(), Fail> {
-    let alloc = rt.alloc();
-    let mut message: Inventory = Blank::blank(alloc);
-    let mut budget = Budget::new(0);
-    let ctx = DecodeContext::new(RECURSION_LIMIT, &mut budget);
-    let bytes: &[u8] = &[0x08, 0x96, 0x01];
-    merge_fields(&mut message, alloc, bytes, ctx)?;
-    assert!(rt; message.total == 150);
-    messages_read_back(&message);
     Ok(())
 }
 
@@ -118,6 +106,15 @@ fn a_value_is_encoded_into_a_record(rt: HostRuntime) -> Result<(), Fail> {
     let mut fields = UnknownFields::new(alloc);
     <Int32 as ExtensionCodec>::encode(alloc, 7, -7, &mut fields)?;
     assert!(rt; Int32::decode(alloc, 7, &fields)? == Some(-7));
+    Ok(())
+}
+
+#[test]
+fn a_declared_value_is_read_of_records(rt: HostRuntime) -> Result<(), Fail> {
+    let alloc = rt.alloc();
+    let fields = UnknownFields::decode_from_slice(alloc, &[0x38, 0x01])?;
+    let hue = EnumCodec::<Old>::decode(alloc, 7, &fields)?;
+    assert!(rt; hue == Some(EnumValue::Known(Old::B)));
     Ok(())
 }
 

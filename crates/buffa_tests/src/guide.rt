@@ -1,7 +1,8 @@
 //! The worked examples of docs/GUIDE.md, run.
 
 use buffa::map_codec::{
-    Int32, Map, MapStorage, Msg, message_field_len, read_map_field, write_message_field,
+    Int32, Map, MapStorage, Msg, Str, merge_entry, message_field_len, read_map_field,
+    write_message_field,
 };
 use buffa::{Budget, DecodeContext, EncodeError, RECURSION_LIMIT, SizeCache};
 use buffa_samples::guide::Inventory;
@@ -46,6 +47,18 @@ fn a_message_with_a_map_field(rt: HostRuntime) -> Result<(), Fail> {
         0x2A, 0x05, 0x0A, 0x01, 0x61, 0x10, 0x01, 0x2A, 0x05, 0x0A, 0x01, 0x62, 0x10, 0x02,
     ];
     assert!(rt; text.as_slice() == written);
+    Ok(())
+}
+
+#[test]
+fn an_entry_is_merged(rt: HostRuntime) -> Result<(), Fail> {
+    let alloc = rt.alloc();
+    let mut budget = Budget::new(0);
+    let ctx = DecodeContext::new(RECURSION_LIMIT, &mut budget);
+    let mut rest: &[u8] = &[0x05, 0x0A, 0x01, 0x61, 0x10, 0x01];
+    let mut map: Map<String, i32> = Map::new(alloc);
+    merge_entry::<Str, Int32, _, _>(alloc, &mut map, &mut rest, ctx)?;
+    assert!(rt; map.get("a") == Some(&1));
     Ok(())
 }
 

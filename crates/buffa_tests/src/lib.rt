@@ -14,12 +14,8 @@ mod examples;
 #[cfg(test)]
 mod facade;
 #[cfg(test)]
-mod fields;
-#[cfg(test)]
 mod guide;
 #[cfg(test)]
 mod large;
-#[cfg(test)]
-mod map_examples;
 #[cfg(test)]
 mod user;

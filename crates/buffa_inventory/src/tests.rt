@@ -1,7 +1,9 @@
-//! A message type that is made of a list of its fields.
+//! Tests of a message type that is made of a list of its fields.
 
-use buffa::{Blank, Message};
-use buffa_inventory::inventory::Inventory;
+use crate::inventory::Inventory;
+use buffa_fields::merge::merge_fields;
+use buffa_fields::message::messages_read_back;
+use buffa_wire::{Blank, Budget, DecodeContext, Message, RECURSION_LIMIT};
 use std::alloc::Global;
 use std::test::Fail;
 
@@ -49,5 +51,18 @@ fn an_inventory_is_written(rt: HostRuntime) -> Result<(), Fail> {
     let message = inventory_of(rt.alloc(), &RECORDS)?;
     let text = text_of(rt.alloc(), &message)?;
     assert!(rt; text.as_slice() == WRITTEN.as_slice());
+    Ok(())
+}
+
+#[test]
+fn a_message_is_merged_by_its_members(rt: HostRuntime) -> Result<(), Fail> {
+    let alloc = rt.alloc();
+    let mut message: Inventory = Blank::blank(alloc);
+    let mut budget = Budget::new(0);
+    let ctx = DecodeContext::new(RECURSION_LIMIT, &mut budget);
+    let bytes: &[u8] = &[0x08, 0x96, 0x01];
+    merge_fields(&mut message, alloc, bytes, ctx)?;
+    assert!(rt; message.total == 150);
+    messages_read_back(&message);
     Ok(())
 }

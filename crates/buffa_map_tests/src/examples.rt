@@ -1,14 +1,12 @@
 //! Examples on map fields: calls that no other proved function makes in this way.
 
-use buffa::extension::ExtensionCodec;
-use buffa::extension::codecs::EnumCodec;
-use buffa::map_codec::{
+use buffa_map::map_codec::{
     Bool, BytesBuf, ClosedEnum, Int32, Map, MapStorage, OpenEnum, ProtoBytesMap, ProtoStringMap,
-    Str, field_len, merge_entry, read_map_field, size_and_write_field, write_field,
+    Str, field_len, read_map_field, size_and_write_field, write_field,
 };
-use buffa::{Budget, DecodeContext, EncodeError, EnumValue, RECURSION_LIMIT, UnknownFields};
 use buffa_samples::hues::Old;
 use buffa_samples::word::Word;
+use buffa_wire::{Budget, DecodeContext, EncodeError, EnumValue, RECURSION_LIMIT, UnknownFields};
 use bytes::Bytes;
 use std::alloc::Global;
 use std::test::Fail;
@@ -57,18 +55,6 @@ fn a_map_field_is_sized_and_written_at_once(rt: HostRuntime) -> Result<(), Fail>
     let (size, text) = at_once(counts, Vec::from_slice(alloc, &ENTRY)?)?;
     assert!(rt; size == 7);
     assert!(rt; text.len() == 14);
-    Ok(())
-}
-
-#[test]
-fn an_entry_is_merged(rt: HostRuntime) -> Result<(), Fail> {
-    let alloc = rt.alloc();
-    let mut budget = Budget::new(0);
-    let ctx = DecodeContext::new(RECURSION_LIMIT, &mut budget);
-    let mut rest: &[u8] = &ENTRY[1..];
-    let mut map: Map<String, i32> = Map::new(alloc);
-    merge_entry::<Str, Int32, _, _>(alloc, &mut map, &mut rest, ctx)?;
-    assert!(rt; map.get("a") == Some(&1));
     Ok(())
 }
 
@@ -122,15 +108,6 @@ fn undeclared_values_of_an_open_enum_are_numbers(rt: HostRuntime) -> Result<(), 
     let mut text = Vec::new(rt.alloc());
     write_field::<Int32, OpenEnum<Old>, _, _>(&open, 5, &mut text)?;
     assert!(rt; text.as_slice() == HUES.as_slice());
-    Ok(())
-}
-
-#[test]
-fn a_declared_value_is_read_of_records(rt: HostRuntime) -> Result<(), Fail> {
-    let alloc = rt.alloc();
-    let fields = UnknownFields::decode_from_slice(alloc, &[0x38, 0x01])?;
-    let hue = EnumCodec::<Old>::decode(alloc, 7, &fields)?;
-    assert!(rt; hue == Some(EnumValue::Known(Old::B)));
     Ok(())
 }
 
