@@ -10,4 +10,7 @@ pub returns-clause-group_too_large : goal.returns-clause-group_too_large
 returns-clause-group_too_large g c = λ v h. large_refusal group_refusal (g.M.MessageSpec.encoding v) h
 
 pub returns-clause-written : goal.returns-clause-written
-returns-clause-written g c = λ v h. (small_refusal (λ t. None) (g.M.MessageSpec.encoding v) h, small_refusal group_refusal (g.M.MessageSpec.encoding v) h)
+returns-clause-written g c = λ v h. small_refusal (λ t. None) (g.M.MessageSpec.encoding v) h
+
+pub returns-clause-group_written : goal.returns-clause-group_written
+returns-clause-group_written g c = λ v h. small_refusal group_refusal (g.M.MessageSpec.encoding v) h
