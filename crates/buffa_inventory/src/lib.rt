@@ -10,5 +10,3 @@ pub mod order;
 pub mod parcel;
 pub mod state;
 pub mod store;
-#[cfg(test)]
-mod tests;

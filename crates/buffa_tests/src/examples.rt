@@ -14,6 +14,9 @@ use buffa::{
     Blank, Budget, DecodeContext, EnumValue, Message, RECURSION_LIMIT, SizeCache, UnknownFields,
     decode_varint,
 };
+use buffa_fields::merge::merge_fields;
+use buffa_fields::message::messages_read_back;
+use buffa_inventory::inventory::Inventory;
 use buffa_samples::flat::FlatMsg;
 use buffa_samples::hues::Old;
 use std::alloc::Global;
@@ -48,6 +51,19 @@ fn an_item_is_read(rt: HostRuntime) -> Result<(), Fail> {
     let (number, payload) = item_of(rt.alloc(), rest)?;
     assert!(rt; number == 1000);
     assert!(rt; payload.as_slice() == b"hello".as_slice());
+    Ok(())
+}
+
+#[test]
+fn a_message_is_merged_by_its_members(rt: HostRuntime) -> Result<(), Fail> {
+    let alloc = rt.alloc();
+    let mut message: Inventory = Blank::blank(alloc);
+    let mut budget = Budget::new(0);
+    let ctx = DecodeContext::new(RECURSION_LIMIT, &mut budget);
+    let bytes: &[u8] = &[0x08, 0x96, 0x01];
+    merge_fields(&mut message, alloc, bytes, ctx)?;
+    assert!(rt; message.total == 150);
+    messages_read_back(&message);
     Ok(())
 }
 

@@ -5,7 +5,7 @@ use buffa_wire::EnumValue;
 use conformance_rows::case::Case;
 use conformance_rows::fault::Fault;
 use conformance_rows::mark::Mark;
-use conformance_rows::outcome::{Outcome, got};
+use conformance_rows::outcome::{Outcome, got, two_in_words};
 use conformance_rows::words::Worded;
 use conformance_words::Samples;
 use std::alloc::Global;
@@ -29,7 +29,7 @@ fn number(alloc: Global, case: &Case<'_>, mark: &mut Mark) -> Result<Outcome, Fa
     let number = value.to_i32();
     let refused = mark.end();
     let word = Worded::<Samples>::word(&value, alloc)?;
-    let words = Ok(format!(in alloc; "{word} {number}")?);
+    let words = two_in_words(alloc, &word, &number);
     let none = Ok(String::new(alloc));
     Outcome::of_words(alloc, got(alloc, true), words, none, refused)
 }

@@ -7,7 +7,9 @@ use buffa_wire::{Budget, Buf, DecodeContext, DecodeError};
 use conformance_rows::case::Case;
 use conformance_rows::fault::Fault;
 use conformance_rows::mark::Mark;
-use conformance_rows::outcome::{Outcome, count_told, got, left, text_told, told, unread, written};
+use conformance_rows::outcome::{
+    Outcome, count_told, got, left, text_told, told, two_in_words, unread, written,
+};
 use conformance_rows::words::bytes_word;
 use std::alloc::Global;
 
@@ -16,7 +18,7 @@ fn item_told(alloc: Global, read: &Result<(u32, Vec<u8>), DecodeError>) -> Resul
     match read {
         Ok(item) => {
             let message = bytes_word(alloc, item.1.as_slice())?;
-            Ok(format!(in alloc; "{} {message}", item.0)?)
+            two_in_words(alloc, &item.0, &message)
         }
         Err(_) => Ok(String::new(alloc)),
     }

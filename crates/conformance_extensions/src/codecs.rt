@@ -11,7 +11,7 @@ use conformance_rows::mark::Mark;
 use conformance_rows::outcome::{
     Outcome, budget_of, digits_told, records_told, with_left, written,
 };
-use conformance_rows::words::{Worded, records_of};
+use conformance_rows::words::{Worded, copied, joined, records_of};
 use std::alloc::{AllocError, Global};
 
 // The one record of a payload, behind number 1.
@@ -37,7 +37,7 @@ pub fn first_of(fields: &UnknownFields) -> Result<&UnknownFieldData, Fault> {
 
 // No records.
 fn no_records(alloc: Global) -> Result<String, Fault> {
-    Ok(String::from_str(alloc, "records -")?)
+    copied(alloc, "records -")
 }
 
 // What comes of a payload that was not made.
@@ -146,9 +146,9 @@ fn front_told(alloc: Global, case: &Case<'_>, stand: &str, all: &str) -> Result<
         None => false,
     };
     if is_front && stand.starts_with(case.before()) {
-        return Ok(format!(in alloc; "records {}", case.before)?);
+        return joined(alloc, "records ", case.before, "");
     }
-    Ok(format!(in alloc; "records {stand} may not stand")?)
+    joined(alloc, "records ", stand, " may not stand")
 }
 
 // Puts the values that bytes hold behind others; whether all are there.

@@ -7,8 +7,8 @@ use buffa_wire::Blank;
 use conformance_rows::case::Case;
 use conformance_rows::fault::Fault;
 use conformance_rows::mark::Mark;
-use conformance_rows::outcome::Outcome;
-use conformance_rows::words::Worded;
+use conformance_rows::outcome::{Outcome, in_words};
+use conformance_rows::words::{Worded, joined};
 use std::alloc::{AllocError, Global};
 
 // A number and an extendee.
@@ -51,7 +51,9 @@ fn parts_of<C: ExtensionCodec>(number: u32) -> Result<Parts, AllocError> {
 // Words, and behind them the number and the extendee of a descriptor.
 fn with_part(alloc: Global, words: &str, part: Part) -> Result<String, Fault> {
     let space = if words.is_empty() { "" } else { " " };
-    Ok(format!(in alloc; "{words}{space}{} {}", part.number, part.extendee)?)
+    let number = in_words(alloc, &part.number)?;
+    let part = joined(alloc, number.as_str(), " ", part.extendee)?;
+    joined(alloc, words, space, part.as_str())
 }
 
 // The numbers and the extendees of all parts.

@@ -7,8 +7,8 @@ use buffa_wire::{Budget, DecodeContext, DecodeError, Message, UnknownFields};
 use conformance_rows::case::Case;
 use conformance_rows::fault::Fault;
 use conformance_rows::mark::Mark;
-use conformance_rows::outcome::{Outcome, budget_of, records_told, told, with_left};
-use conformance_rows::words::{Worded, records_of};
+use conformance_rows::outcome::{Outcome, budget_of, in_words, records_told, told, with_left};
+use conformance_rows::words::{Worded, joined, records_of};
 use std::alloc::Global;
 
 /// The record of an encoding.
@@ -26,7 +26,8 @@ pub fn hold<K: MessageRecord>(
 
 // A word, and another one behind it.
 fn both_told(alloc: Global, found: bool, word: &str) -> Result<String, Fault> {
-    Ok(format!(in alloc; "{found} {word}")?)
+    let found = in_words(alloc, &found)?;
+    joined(alloc, found.as_str(), " ", word)
 }
 
 // Whether there was an encoding, and the message; nothing of what is left of a message after a fault.

@@ -6,7 +6,7 @@ use buffa_options::Carrier;
 use conformance_rows::case::Case;
 use conformance_rows::fault::Fault;
 use conformance_rows::mark::Mark;
-use conformance_rows::outcome::{Outcome, in_words, records_told};
+use conformance_rows::outcome::{Outcome, in_words, records_told, two_in_words};
 use std::alloc::{AllocError, Global};
 
 /// What a carrier's extension is read as.
@@ -63,7 +63,7 @@ fn cleared<C: ExtensionCodec>(number: u32, carrier: &mut Carrier) -> (bool, bool
 
 // Whether there is an extension, and whether there is after it was cleared.
 fn both_told(alloc: Global, had: bool, has: bool) -> Result<String, Fault> {
-    Ok(format!(in alloc; "{had} {has}")?)
+    two_in_words(alloc, &had, &has)
 }
 
 /// Whether there is an extension, and the records without it.

@@ -5,7 +5,7 @@ use buffa_wire::{EncodeError, UnknownFields};
 use conformance_rows::case::Case;
 use conformance_rows::fault::Fault;
 use conformance_rows::outcome::{Outcome, got, records_told, written};
-use conformance_rows::words::{Worded, records_of, records_word};
+use conformance_rows::words::{Worded, copied, joined, records_of, records_word};
 use std::alloc::{AllocError, Global};
 
 /// What a codec reads, in words, and the values that it writes, of words.
@@ -27,7 +27,7 @@ impl<By, V: Worded<By>> Told<By> for Option<V> {
     fn words(&self, alloc: Global) -> Result<String, Fault> {
         match self {
             Some(value) => value.word(alloc),
-            None => Ok(String::from_str(alloc, "none")?),
+            None => copied(alloc, "none"),
         }
     }
 
@@ -157,9 +157,9 @@ pub fn is_full<T>(answer: &Result<T, EncodeError>) -> bool {
 pub fn stand_told(alloc: Global, fields: &UnknownFields, may: bool) -> Result<String, Fault> {
     let digits = records_word(alloc, fields)?;
     if may {
-        return Ok(format!(in alloc; "stand {digits}")?);
+        return joined(alloc, "stand ", digits.as_str(), "");
     }
-    Ok(format!(in alloc; "records {digits} may not stand")?)
+    joined(alloc, "records ", digits.as_str(), " may not stand")
 }
 
 /// Whether two lists are of the same records.

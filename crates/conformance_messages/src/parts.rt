@@ -3,7 +3,7 @@
 use buffa_map::map_codec::{Map, MapWalk};
 use buffa_wire::{MapKey, UnknownFields};
 use conformance_rows::fault::Fault;
-use conformance_rows::words::{Worded, records_word};
+use conformance_rows::words::{Worded, copied, joined, records_word};
 use std::alloc::Global;
 use std::hash::Hash;
 use std::marker::PhantomData;
@@ -51,7 +51,7 @@ pub fn parted_word<By, M: Parted<By>>(alloc: Global, message: &M) -> Result<Stri
 // Words, and one more behind a comma.
 fn with_word(alloc: Global, words: &str, word: &str) -> Result<String, Fault> {
     let comma = if words.is_empty() { "" } else { "," };
-    Ok(format!(in alloc; "{words}{comma}{word}")?)
+    joined(alloc, words, comma, word)
 }
 
 // The words of values.
@@ -65,7 +65,7 @@ fn words_of<By, V: Worded<By>>(alloc: Global, values: &[V]) -> Result<Vec<String
 
 // The word of a pair of words.
 fn paired(alloc: Global, key: &str, value: &str) -> Result<String, Fault> {
-    Ok(format!(in alloc; "{key}={value}")?)
+    joined(alloc, key, "=", value)
 }
 
 // The word of a pair.
@@ -108,7 +108,7 @@ fn joined(alloc: Global, words: &[String]) -> Result<String, Fault> {
 
 // A text between two marks.
 fn around(alloc: Global, front: &str, text: &str, back: &str) -> Result<String, Fault> {
-    Ok(format!(in alloc; "{front}{text}{back}")?)
+    joined(alloc, front, text, back)
 }
 
 // Some words between two marks, with a comma between them.
@@ -121,7 +121,7 @@ fn between(alloc: Global, front: &str, words: &[String], back: &str) -> Result<S
 fn maybe_word<By, V: Worded<By>>(alloc: Global, value: &Option<V>) -> Result<String, Fault> {
     match value {
         Some(value) => value.word(alloc),
-        None => Ok(String::from_str(alloc, "none")?),
+        None => copied(alloc, "none"),
     }
 }
 
@@ -143,7 +143,7 @@ fn map_word<By, K: MapKey + Hash + Worded<By>, V: Worded<By>>(
 // Words, and that of a part behind a bar, but before the first.
 fn with_part(alloc: Global, words: &str, is_first: bool, part: &Part) -> Result<String, Fault> {
     let mark = if is_first { "" } else { "|" };
-    Ok(format!(in alloc; "{words}{mark}{}", part.1.as_str())?)
+    joined(alloc, words, mark, part.1.as_str())
 }
 
 // Puts a part behind others; whether there was memory.

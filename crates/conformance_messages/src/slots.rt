@@ -5,7 +5,8 @@ ghost use Rattle.std.specs.Prelude.{◌≡◌, ◌+◌, length, IfOk, OnOk};
 use buffa_wire::{EncodeError, Message, SizeCache};
 use conformance_rows::case::{Case, or_dash};
 use conformance_rows::fault::Fault;
-use conformance_rows::outcome::{Outcome, count_told, written};
+use conformance_rows::outcome::{Outcome, count_told, in_words, written};
+use conformance_rows::words::{copied, joined};
 use std::alloc::Global;
 
 // What a slot holds that was there before a call.
@@ -60,10 +61,9 @@ pub(crate) fn sized<M: Message>(message: &M, cache: &mut SizeCache) -> Result<u6
 
 // Words and the next slot's, with a space between them, but before the first.
 fn with_word(alloc: Global, words: &str, is_first: bool, size: u32) -> Result<String, Fault> {
-    if is_first {
-        return Ok(format!(in alloc; "{size}")?);
-    }
-    Ok(format!(in alloc; "{words} {size}")?)
+    let size = in_words(alloc, &size)?;
+    let space = if is_first { "" } else { " " };
+    joined(alloc, words, space, size.as_str())
 }
 
 // The slots of a cache in order, with a space between them.
@@ -90,7 +90,7 @@ fn slots_told(alloc: Global, case: &Case<'_>, cache: &mut SizeCache) -> Result<S
         return Ok(String::new(alloc));
     }
     let words = slots_word(alloc, cache)?;
-    Ok(format!(in alloc; "cache {}", or_dash(words.as_str()))?)
+    joined(alloc, "cache ", or_dash(words.as_str()), "")
 }
 
 // Whether a word is that of a slot that was there before.
@@ -120,7 +120,7 @@ fn sized_told(
     slots: &str,
 ) -> Result<String, Fault> {
     if case.says("cache", "told") && !first_stand(case, slots)? {
-        return Ok(String::from_str(alloc, "slots are gone")?);
+        return copied(alloc, "slots are gone");
     }
     written(alloc, made)
 }

@@ -1,51 +1,58 @@
 // Entries of messages that are merged by a function.
 
-use buffa_map::map_codec::{Int32, Msg, Str};
-use buffa_samples::count::CountMsg;
-use buffa_samples::flat::FlatMsg;
-use buffa_samples::keep::BudgetMsg;
-use buffa_samples::tree::Tree;
-use buffa_samples::two::TestMsg;
-use buffa_wire::{Buf, Message};
-use conformance_maps::{ByFunction, stored};
+use crate::reads::{Limits, Read};
+use crate::storages::OnMessages;
+use crate::store::{Store, filled};
+use buffa_map::map_codec::{MapCodec, MapStorage, MapValueDecode, Msg, merge_message_entry_by};
+use buffa_wire::{Budget, Buf, DecodeContext, DecodeError, Message};
 use conformance_rows::calls::Kind;
 use conformance_rows::case::Case;
 use conformance_rows::fault::Fault;
 use conformance_rows::mark::Mark;
 use conformance_rows::outcome::Outcome;
 use conformance_rows::words::Worded;
-use conformance_words::Samples;
 use std::alloc::Global;
 
-// An entry of messages by numbers, merged by a function.
-fn by_function<M: Message + Worded<Samples>, B: Buf>(
+// Merges an entry by the message's own way to merge bytes.
+fn merged<KC: MapCodec, M: Message, C: MapStorage<Key = KC::Value, Value = M>, B: Buf>(
     alloc: Global,
-    case: &Case<'_>,
-    kind: Kind,
-    mark: &mut Mark,
+    map: &mut C,
     buf: &mut B,
-) -> Result<Option<Outcome>, Fault> {
-    stored::<Samples, Int32, Msg<M>, _>(alloc, case, kind, mark, ByFunction { buf })
+    ctx: DecodeContext<'_>,
+) -> Result<(), DecodeError> {
+    merge_message_entry_by::<KC, M, C, B, _>(
+        alloc,
+        map,
+        buf,
+        ctx,
+        |message: &mut M, bytes: &[u8], depth: u32, budget: &mut Budget| {
+            message.merge(alloc, bytes, DecodeContext { depth, budget })
+        },
+    )
 }
 
-/// What comes of a row that merges an entry of messages by a function.
-pub fn entries_by_function<B: Buf>(
-    alloc: Global,
-    case: &Case<'_>,
-    kind: Kind,
-    mark: &mut Mark,
-    buf: &mut B,
-) -> Result<Option<Outcome>, Fault> {
-    match case.types {
-        "int32,flat" => by_function::<FlatMsg, B>(alloc, case, kind, mark, buf),
-        "int32,two" => by_function::<TestMsg, B>(alloc, case, kind, mark, buf),
-        "int32,count" => by_function::<CountMsg, B>(alloc, case, kind, mark, buf),
-        "int32,keep" => by_function::<BudgetMsg, B>(alloc, case, kind, mark, buf),
-        "int32,tree" => by_function::<Tree, B>(alloc, case, kind, mark, buf),
-        "string,keep" => {
-            let call = ByFunction { buf };
-            stored::<Samples, Str, Msg<BudgetMsg>, _>(alloc, case, kind, mark, call)
-        }
-        _ => Err(Fault::Form),
+/// An entry that is read from a buffer, and its message merged by a function.
+#[derive(Drop)]
+pub struct ByFunction<'a, B> {
+    /// The buffer.
+    pub buf: &'a mut B,
+}
+
+impl<By, B: Buf> OnMessages<By> for ByFunction<'_, B> {
+    fn on_messages<
+        KC: MapCodec,
+        M: Message + Worded<By>,
+        C: Store<By> + MapStorage<Key = KC::Value, Value = <Msg<M> as MapValueDecode>::Value>,
+    >(self, alloc: Global, case: &Case<'_>, kind: Kind, mark: &mut Mark) -> Result<Outcome, Fault>
+    where
+        KC::Value: Worded<By>,
+    {
+        let mut limits = Limits::of(case)?;
+        let mut map = filled::<By, KC::Value, M, C>(alloc, kind, case.before())?;
+        mark.begin(alloc);
+        let answer = merged::<KC, M, C, B>(alloc, &mut map, self.buf, limits.context());
+        let read = Read::of(answer, mark.end(), self.buf);
+        let none = Ok(String::new(alloc));
+        read.outcome(alloc, case, &limits.budget, map.words(alloc), none)
     }
 }

@@ -1,12 +1,18 @@
 // Runs the rows of tables on map fields, and on payloads of values that are no messages.
 #![tactic(auto)]
 
+mod any_map;
 mod by_function;
+mod codecs;
 mod entries;
+mod fields;
+mod kinds;
 mod payloads;
-mod written;
+mod reads;
+mod sizes;
+mod storages;
+mod store;
 
-use conformance_maps::kinds;
 use conformance_rows::any_buf::AnyBuf;
 use conformance_rows::calls::{Group, Kind, group_of};
 use conformance_rows::case::Case;
@@ -14,12 +20,12 @@ use conformance_rows::fault::Fault;
 use conformance_rows::mark::Mark;
 use conformance_rows::outcome::Outcome;
 use conformance_rows::runs::{Calls, run_rows};
-use conformance_words::Samples;
-use entries::fields;
-use payloads::{spells, values};
+use conformance_words::{Read, Samples, Spelled};
+use fields::{fields, writes};
+use kinds::kinds;
+use payloads::payloads;
 use std::alloc::Global;
 use std::process::ExitCode;
-use written::writes;
 
 // The calls on map fields and payloads.
 struct MapFields;
@@ -39,7 +45,7 @@ impl Calls for MapFields {
     ) -> Result<Option<Outcome>, Fault> {
         match group_of(case.call) {
             Group::Fields => fields(alloc, case, kind, mark, buf),
-            Group::Values => some(values(alloc, case, mark, buf)),
+            Group::Values => some(payloads(alloc, case, mark, Read { buf })),
             _ => Ok(None),
         }
     }
@@ -54,7 +60,7 @@ impl Calls for MapFields {
         match group_of(case.call) {
             Group::Kinds => some(kinds::<Samples>(alloc, case, mark, bytes)),
             Group::Writes => writes(alloc, case, kind, mark),
-            Group::Spelled => some(spells(alloc, case, mark)),
+            Group::Spelled => some(payloads(alloc, case, mark, Spelled)),
             _ => Ok(None),
         }
     }

@@ -11,13 +11,13 @@ use buffa_node::node::Node;
 use buffa_set_msg::SetMsg;
 use buffa_wire::{Buf, Message};
 use conformance_messages::{delimited, message};
-use conformance_payloads::payload;
 use conformance_rows::calls::Kind;
 use conformance_rows::case::Case;
 use conformance_rows::fault::Fault;
 use conformance_rows::mark::Mark;
 use conformance_rows::outcome::Outcome;
 use conformance_rows::words::Worded;
+use conformance_words::payload;
 use std::alloc::Global;
 
 /// The words of nodes and MessageSets.

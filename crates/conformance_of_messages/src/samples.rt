@@ -8,14 +8,13 @@ use buffa_samples::tree::Tree;
 use buffa_samples::two::TestMsg;
 use buffa_wire::{Buf, Message};
 use conformance_messages::delimited;
-use conformance_payloads::payload;
 use conformance_rows::calls::Kind;
 use conformance_rows::case::Case;
 use conformance_rows::fault::Fault;
 use conformance_rows::mark::Mark;
 use conformance_rows::outcome::Outcome;
 use conformance_rows::words::Worded;
-use conformance_words::Samples;
+use conformance_words::{Samples, payload};
 use std::alloc::Global;
 
 // A length and so many bytes: merged into a message, or read as the payload of a value that is one.

@@ -5,7 +5,9 @@ use buffa_wire::{Budget, Buf, DecodeError, EncodeError, UnknownFields};
 use conformance_tables::case::Case;
 use conformance_tables::fault::Fault;
 use conformance_tables::outcome::left_told;
-pub use conformance_tables::outcome::{Outcome, and, digits_told, got, in_words, text_told};
+pub use conformance_tables::outcome::{
+    Outcome, and, digits_told, got, in_words, text_told, two_in_words,
+};
 use std::alloc::Global;
 
 /// The word of an answer.

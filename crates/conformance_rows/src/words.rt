@@ -4,7 +4,9 @@ use buffa_wire::{Blank, UnknownFields};
 use bytes::Bytes;
 use conformance_tables::fault::Fault;
 use conformance_tables::outcome::in_words;
-pub use conformance_tables::words::{bytes_word, push_word, text_word, word_bytes, word_text};
+pub use conformance_tables::words::{
+    bytes_word, copied, joined, push_word, text_word, word_bytes, word_text,
+};
 use std::alloc::Global;
 
 /// A value that stands in a table as one word. `By` is a type of the crate that says how, so that a crate can say it
@@ -15,6 +17,12 @@ pub trait Worded<By>: Blank {
 
     /// The value of a word.
     fn of_word(alloc: Global, word: &str) -> Result<Self, Fault>;
+}
+
+/// The word of a number that an enum doesn't declare: it stands behind a question mark.
+pub fn unknown_word(alloc: Global, number: i32) -> Result<String, Fault> {
+    let number = in_words(alloc, &number)?;
+    joined(alloc, "?", number.as_str(), "")
 }
 
 impl<By> Worded<By> for i32 {

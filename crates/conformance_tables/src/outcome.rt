@@ -100,6 +100,15 @@ pub fn in_words<T: Display>(alloc: Global, value: &T) -> Result<String, Fault> {
     made(format!(in alloc; "{value}"))
 }
 
+/// Two numbers or faults in words, with a space between them.
+pub fn two_in_words<T: Display, U: Display>(
+    alloc: Global,
+    first: &T,
+    second: &U,
+) -> Result<String, Fault> {
+    made(format!(in alloc; "{first} {second}"))
+}
+
 /// What hexadecimal digits are, and they, or a dash for none.
 pub fn digits_told(alloc: Global, name: &str, digits: &str) -> Result<String, Fault> {
     joined(alloc, name, " ", or_dash(digits))
@@ -126,7 +135,8 @@ fn part(alloc: Global, is_told: bool, count: usize, name: &str) -> Result<String
     if !is_told {
         return Ok(String::new(alloc));
     }
-    made(format!(in alloc; "{count} {name}"))
+    let count = in_words(alloc, &count)?;
+    joined(alloc, count.as_str(), " ", name)
 }
 
 // The two joined, if both are there.

@@ -11,7 +11,10 @@ use buffa_samples::two::TestMsg;
 use buffa_samples::word::Word;
 use buffa_wire::{EnumValue, Enumeration};
 use conformance_rows::fault::Fault;
-use conformance_rows::words::{Worded, records_of, records_word, text_word, word_text};
+use conformance_rows::outcome::in_words;
+use conformance_rows::words::{
+    Worded, copied, joined, records_of, records_word, text_word, unknown_word, word_text,
+};
 use std::alloc::Global;
 
 impl Worded<Samples> for Word {
@@ -27,7 +30,7 @@ impl Worded<Samples> for Word {
 
 impl Worded<Samples> for Old {
     fn word(&self, alloc: Global) -> Result<String, Fault> {
-        Ok(format!(in alloc; "{}", self.to_i32())?)
+        in_words(alloc, &self.to_i32())
     }
 
     fn of_word(_alloc: Global, word: &str) -> Result<Old, Fault> {
@@ -40,7 +43,7 @@ impl Worded<Samples> for Old {
 
 impl Worded<Samples> for New {
     fn word(&self, alloc: Global) -> Result<String, Fault> {
-        Ok(format!(in alloc; "{}", self.to_i32())?)
+        in_words(alloc, &self.to_i32())
     }
 
     fn of_word(_alloc: Global, word: &str) -> Result<New, Fault> {
@@ -55,8 +58,8 @@ impl Worded<Samples> for New {
 impl Worded<Samples> for EnumValue<Old> {
     fn word(&self, alloc: Global) -> Result<String, Fault> {
         match self {
-            EnumValue::Known(_) => Ok(format!(in alloc; "{}", self.to_i32())?),
-            EnumValue::Unknown(n) => Ok(format!(in alloc; "?{n}")?),
+            EnumValue::Known(_) => in_words(alloc, &self.to_i32()),
+            EnumValue::Unknown(n) => unknown_word(alloc, *n),
         }
     }
 
@@ -70,7 +73,7 @@ impl Worded<Samples> for EnumValue<Old> {
 
 impl Worded<Samples> for FlatMsg {
     fn word(&self, alloc: Global) -> Result<String, Fault> {
-        Ok(format!(in alloc; "{}", self.value)?)
+        in_words(alloc, &self.value)
     }
 
     fn of_word(alloc: Global, word: &str) -> Result<FlatMsg, Fault> {
@@ -82,7 +85,9 @@ impl Worded<Samples> for FlatMsg {
 // Both numbers, with a comma between them.
 impl Worded<Samples> for TestMsg {
     fn word(&self, alloc: Global) -> Result<String, Fault> {
-        Ok(format!(in alloc; "{},{}", self.a, self.b)?)
+        let a = in_words(alloc, &self.a)?;
+        let b = in_words(alloc, &self.b)?;
+        joined(alloc, a.as_str(), ",", b.as_str())
     }
 
     fn of_word(alloc: Global, word: &str) -> Result<TestMsg, Fault> {
@@ -97,7 +102,7 @@ impl Worded<Samples> for TestMsg {
 
 impl Worded<Samples> for CountMsg {
     fn word(&self, alloc: Global) -> Result<String, Fault> {
-        Ok(format!(in alloc; "{}", self.count)?)
+        in_words(alloc, &self.count)
     }
 
     fn of_word(alloc: Global, word: &str) -> Result<CountMsg, Fault> {
@@ -110,7 +115,7 @@ impl Worded<Samples> for CountMsg {
 impl Worded<Samples> for BudgetMsg {
     fn word(&self, alloc: Global) -> Result<String, Fault> {
         let digits = records_word(alloc, &self.fields)?;
-        Ok(format!(in alloc; "x{digits}")?)
+        joined(alloc, "x", digits.as_str(), "")
     }
 
     fn of_word(alloc: Global, word: &str) -> Result<BudgetMsg, Fault> {
@@ -130,7 +135,7 @@ fn with_child(alloc: Global, text: &str, key: i32, child: &str) -> Result<String
 // The words of a tree that has at most so many levels below its own.
 fn tree_word(alloc: Global, tree: &Tree, levels: u32) -> Result<String, Fault> {
     if levels == 0 {
-        return Ok(String::from_str(alloc, "..")?);
+        return copied(alloc, "..");
     }
     let mut text = String::new(alloc);
     for (key, child) in tree.children.storage_iter() {

@@ -11,15 +11,16 @@ use buffa_inventory::store::Store;
 use buffa_wire::EnumValue;
 use conformance_messages::{Parted, Parts, parted_word};
 use conformance_rows::fault::Fault;
-use conformance_rows::words::Worded;
+use conformance_rows::outcome::in_words;
+use conformance_rows::words::{Worded, unknown_word};
 use std::alloc::Global;
 
 // A declared value is known; any other stands behind a question mark.
 impl Worded<Members> for EnumValue<State> {
     fn word(&self, alloc: Global) -> Result<String, Fault> {
         match self {
-            EnumValue::Known(_) => Ok(format!(in alloc; "{}", self.to_i32())?),
-            EnumValue::Unknown(n) => Ok(format!(in alloc; "?{n}")?),
+            EnumValue::Known(_) => in_words(alloc, &self.to_i32()),
+            EnumValue::Unknown(n) => unknown_word(alloc, *n),
         }
     }
 

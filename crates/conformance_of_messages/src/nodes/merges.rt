@@ -6,8 +6,8 @@ use conformance_messages::merges::{field, merging, standing};
 use conformance_rows::case::Case;
 use conformance_rows::fault::Fault;
 use conformance_rows::mark::Mark;
-use conformance_rows::outcome::{Outcome, budget_of, left, told};
-use conformance_rows::words::Worded;
+use conformance_rows::outcome::{Outcome, budget_of, in_words, left, told};
+use conformance_rows::words::{Worded, joined};
 use std::alloc::Global;
 
 // How many levels a row gives.
@@ -65,7 +65,8 @@ fn answer_told<M: Message + Worded<Nodes>>(
     if stands::<M>(alloc, case, bytes, word, full)? {
         return told(alloc, answer);
     }
-    Ok(format!(in alloc; "{fault}, and other fields stand")?)
+    let fault = in_words(alloc, &fault)?;
+    joined(alloc, fault.as_str(), ", and other fields stand", "")
 }
 
 /// What comes of bytes that are merged, all of them or one field: the message, also where a field is refused.

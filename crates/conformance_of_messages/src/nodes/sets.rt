@@ -9,8 +9,8 @@ use conformance_messages::merges::standing;
 use conformance_rows::case::Case;
 use conformance_rows::fault::Fault;
 use conformance_rows::mark::Mark;
-use conformance_rows::outcome::{Outcome, got, text_told, written};
-use conformance_rows::words::Worded;
+use conformance_rows::outcome::{Outcome, got, text_told, two_in_words, written};
+use conformance_rows::words::{Worded, copied, joined};
 use std::alloc::{AllocError, Global};
 
 // What a codec reads, in words.
@@ -23,7 +23,7 @@ impl<V: Worded<Nodes>> Told for Option<V> {
     fn told(&self, alloc: Global) -> Result<String, Fault> {
         match self {
             Some(value) => value.word(alloc),
-            None => Ok(String::from_str(alloc, "none")?),
+            None => copied(alloc, "none"),
         }
     }
 }
@@ -31,7 +31,7 @@ impl<V: Worded<Nodes>> Told for Option<V> {
 // Words, and one word more.
 fn with_word(alloc: Global, text: &str, word: &str) -> Result<String, Fault> {
     let space = if text.is_empty() { "" } else { " " };
-    Ok(format!(in alloc; "{text}{space}{word}")?)
+    joined(alloc, text, space, word)
 }
 
 // The words of values, with a space between them.
@@ -109,7 +109,7 @@ fn refused_told(
     let told = if stands {
         written(alloc, answer)
     } else {
-        Ok(String::from_str(alloc, "other records stand")?)
+        copied(alloc, "other records stand")
     };
     let none = Ok(String::new(alloc));
     Outcome::of_words(alloc, told, Ok(String::new(alloc)), none, refused)
@@ -163,7 +163,7 @@ fn cleared<C: ExtensionCodec>(set: &mut SetMsg, number: u32) -> (bool, bool) {
 
 // Whether there is an extension, and whether there is after it was cleared, in words.
 fn cleared_told(alloc: Global, had: bool, has: bool) -> Result<String, Fault> {
-    Ok(format!(in alloc; "{had} {has}")?)
+    two_in_words(alloc, &had, &has)
 }
 
 // Whether there is an extension, and whether there is after it was cleared; and the encoding then.

@@ -7,14 +7,16 @@ use buffa_node::shade::Shade;
 use buffa_set_msg::SetMsg;
 use buffa_wire::Enumeration;
 use conformance_rows::fault::Fault;
-use conformance_rows::words::{Worded, records_word, text_word};
+use conformance_rows::outcome::in_words;
+use conformance_rows::words::{Worded, copied, joined, records_word, text_word};
 use std::alloc::Global;
 use std::collections::BTreeMap;
 
 // Pairs so far, and one pair more.
 fn with_pair(alloc: Global, pairs: &str, key: &str, value: &str) -> Result<String, Fault> {
     let comma = if pairs.is_empty() { "" } else { "," };
-    Ok(format!(in alloc; "{pairs}{comma}{key}={value}")?)
+    let pair = joined(alloc, key, "=", value)?;
+    joined(alloc, pairs, comma, pair.as_str())
 }
 
 // Scores in the order of their keys.
@@ -22,7 +24,7 @@ fn scores_word(alloc: Global, scores: &BTreeMap<String, i32>) -> Result<String, 
     let mut pairs = String::new(alloc);
     for (key, score) in scores.storage_iter() {
         let key = text_word(alloc, key.as_str())?;
-        let score = format!(in alloc; "{}", *score)?;
+        let score = in_words(alloc, score)?;
         pairs = with_pair(alloc, pairs.as_str(), key.as_str(), score.as_str())?;
     }
     Ok(pairs)
@@ -32,8 +34,8 @@ fn scores_word(alloc: Global, scores: &BTreeMap<String, i32>) -> Result<String, 
 fn shades_word(alloc: Global, shades: &BTreeMap<i32, Shade>) -> Result<String, Fault> {
     let mut pairs = String::new(alloc);
     for (key, shade) in shades.storage_iter() {
-        let key = format!(in alloc; "{}", *key)?;
-        let shade = format!(in alloc; "{}", shade.to_i32())?;
+        let key = in_words(alloc, key)?;
+        let shade = in_words(alloc, &shade.to_i32())?;
         pairs = with_pair(alloc, pairs.as_str(), key.as_str(), shade.as_str())?;
     }
     Ok(pairs)
@@ -42,11 +44,11 @@ fn shades_word(alloc: Global, shades: &BTreeMap<i32, Shade>) -> Result<String, F
 // The words of a node that has at most so many levels below its own.
 fn node_word(alloc: Global, node: &Node, levels: u32) -> Result<String, Fault> {
     if levels == 0 {
-        return Ok(String::from_str(alloc, "..")?);
+        return copied(alloc, "..");
     }
     let mut children = String::new(alloc);
     for (key, child) in node.children.storage_iter() {
-        let key = format!(in alloc; "{}", *key)?;
+        let key = in_words(alloc, key)?;
         let child = node_word(alloc, child, levels - 1)?;
         children = with_pair(alloc, children.as_str(), key.as_str(), child.as_str())?;
     }
@@ -72,7 +74,7 @@ impl Worded<Nodes> for Node {
 impl Worded<Nodes> for SetMsg {
     fn word(&self, alloc: Global) -> Result<String, Fault> {
         let digits = records_word(alloc, &self.fields)?;
-        Ok(format!(in alloc; "x{digits}")?)
+        joined(alloc, "x", digits.as_str(), "")
     }
 
     fn of_word(_alloc: Global, _word: &str) -> Result<SetMsg, Fault> {

@@ -4,8 +4,8 @@ use buffa_wire::{DecodeContext, DecodeError};
 use conformance_rows::case::Case;
 use conformance_rows::fault::Fault;
 use conformance_rows::mark::Mark;
-use conformance_rows::outcome::{Outcome, budget_of, got, told, with_left};
-use conformance_rows::words::push_word;
+use conformance_rows::outcome::{Outcome, budget_of, got, in_words, told, with_left};
+use conformance_rows::words::{joined, push_word};
 use std::alloc::Global;
 
 // What is done in a context.
@@ -88,7 +88,8 @@ fn answers(alloc: Global, steps: &[Step]) -> Result<String, Fault> {
 
 // The depth that is left.
 fn depth_told(alloc: Global, depth: u32) -> Result<String, Fault> {
-    Ok(format!(in alloc; "depth {depth}")?)
+    let depth = in_words(alloc, &depth)?;
+    joined(alloc, "depth ", depth.as_str(), "")
 }
 
 /// What steps in a context answer, and what is left then.

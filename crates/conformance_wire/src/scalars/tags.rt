@@ -4,7 +4,9 @@ use buffa_wire::{Buf, DecodeError, MAX_FIELD_NUMBER, Tag, WireType, check_wire_t
 use conformance_rows::case::Case;
 use conformance_rows::fault::Fault;
 use conformance_rows::mark::Mark;
-use conformance_rows::outcome::{Outcome, in_words, text_told, told, unread, with_unread, written};
+use conformance_rows::outcome::{
+    Outcome, in_words, text_told, told, two_in_words, unread, with_unread, written,
+};
 use std::alloc::Global;
 
 // The wire type of a number in digits.
@@ -38,7 +40,7 @@ fn tag_word(alloc: Global, read: Result<Tag, DecodeError>) -> Result<String, Fau
     match read {
         Ok(tag) => {
             let wire_type = tag.wire_type().number();
-            Ok(format!(in alloc; "{} {wire_type}", tag.field_number())?)
+            two_in_words(alloc, &tag.field_number(), &wire_type)
         }
         Err(_) => Ok(String::new(alloc)),
     }

@@ -6,7 +6,7 @@ use buffa_wire::types::{
 use conformance_rows::case::Case;
 use conformance_rows::fault::Fault;
 use conformance_rows::mark::Mark;
-use conformance_rows::outcome::{Outcome, got};
+use conformance_rows::outcome::{Outcome, got, two_in_words};
 use std::alloc::Global;
 
 // The zigzag of an i32, and the number of that zigzag.
@@ -34,7 +34,7 @@ pub fn zigzag(alloc: Global, case: &Case<'_>, mark: &mut Mark) -> Result<Outcome
         "sint64" => of_64(mark, alloc, case.input().parse::<i64>()?),
         _ => return Err(Fault::Form),
     };
-    let words = format!(in alloc; "{folded} {back}")?;
+    let words = two_in_words(alloc, &folded, &back)?;
     let none = Ok(String::new(alloc));
     Outcome::of_words(alloc, got(alloc, true), Ok(words), none, refused)
 }

@@ -9,7 +9,7 @@ use buffa_map::map_codec::{
 use buffa_wire::{EncodeError, MapKey};
 use conformance_rows::calls::Kind;
 use conformance_rows::fault::Fault;
-use conformance_rows::words::Worded;
+use conformance_rows::words::{Worded, copied, joined};
 use std::alloc::Global;
 use std::collections::{BTreeMap, HashMap};
 use std::hash::Hash;
@@ -82,11 +82,6 @@ pub(crate) fn filled<
     Ok(map)
 }
 
-// The word of a pair of words.
-fn joined(alloc: Global, key: &str, value: &str) -> Result<String, Fault> {
-    Ok(format!(in alloc; "{key}={value}")?)
-}
-
 // The word of a pair.
 fn pair_word<By, K: Worded<By>, V: Worded<By>>(
     alloc: Global,
@@ -95,15 +90,15 @@ fn pair_word<By, K: Worded<By>, V: Worded<By>>(
 ) -> Result<String, Fault> {
     let key = key.word(alloc)?;
     let value = value.word(alloc)?;
-    joined(alloc, key.as_str(), value.as_str())
+    joined(alloc, key.as_str(), "=", value.as_str())
 }
 
 // Words, and one more.
 fn with_word(alloc: Global, words: &str, word: &str) -> Result<String, Fault> {
     if words.is_empty() {
-        return Ok(String::from_str(alloc, word)?);
+        return copied(alloc, word);
     }
-    Ok(format!(in alloc; "{words} {word}")?)
+    joined(alloc, words, " ", word)
 }
 
 // Words, and that of one pair more.

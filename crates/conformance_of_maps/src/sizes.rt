@@ -2,21 +2,17 @@
 
 ghost use Rattle.buffa_bytes.specs.Number.{IsNumber};
 
-use crate::storages::{OnMap, stored};
+use crate::storages::OnMap;
 use crate::store::{Store, filled, pair_of, put};
-use buffa_map::map_codec::{
-    Bool, BytesBuf, BytesVec, Fixed32, Fixed64, Int32, MapCodec, MapStorage, MapWrite,
-    ProtoBytesMap, ProtoStringMap, Sint32, Str,
-};
-use buffa_wire::{EncodeError, MapKey, varint_len};
+use buffa_map::map_codec::{MapCodec, MapStorage, MapWrite};
+use buffa_wire::{EncodeError, varint_len};
 use conformance_rows::calls::Kind;
 use conformance_rows::case::Case;
 use conformance_rows::fault::Fault;
 use conformance_rows::mark::Mark;
-use conformance_rows::outcome::{Outcome, got, in_words, text_told, written};
+use conformance_rows::outcome::{Outcome, got, in_words, text_told, two_in_words, written};
 use conformance_rows::words::Worded;
 use std::alloc::Global;
-use std::hash::Hash;
 
 /// The bytes of the tag of a map field.
 pub(crate) fn tag_len_of(number: u32) -> u64 {
@@ -53,7 +49,7 @@ fn write<
 // A length and a number of pairs; nothing where the map wasn't written.
 fn pairs_told(alloc: Global, len: Result<u64, EncodeError>, pairs: usize) -> Result<String, Fault> {
     match len {
-        Ok(len) => Ok(format!(in alloc; "{len} {pairs}")?),
+        Ok(len) => two_in_words(alloc, &len, &pairs),
         Err(_) => Ok(String::new(alloc)),
     }
 }
@@ -108,7 +104,8 @@ where
 
 // A length, and how many pairs there are before and after.
 fn sizes_told(alloc: Global, len: u64, pairs: usize, after: usize) -> Result<String, Fault> {
-    Ok(format!(in alloc; "{len} {pairs} {after}")?)
+    let both = two_in_words(alloc, &len, &pairs)?;
+    two_in_words(alloc, &both, &after)
 }
 
 // What is told of sizes.
@@ -180,75 +177,20 @@ where
 #[derive(Drop)]
 pub struct Written;
 
-impl<By, KC: MapCodec, VC: MapCodec> OnMap<By, KC, VC> for Written
-where
-    KC::Value: Worded<By>,
-    VC::Value: Worded<By>,
-{
-    fn on_map<C: Store<By> + MapStorage<Key = KC::Value, Value = VC::Value>>(
-        self,
-        alloc: Global,
-        case: &Case<'_>,
-        kind: Kind,
-        mark: &mut Mark,
-    ) -> Result<Outcome, Fault> {
+impl<By> OnMap<By> for Written {
+    fn on_map<
+        KC: MapCodec,
+        VC: MapCodec,
+        C: Store<By> + MapStorage<Key = KC::Value, Value = VC::Value>,
+    >(self, alloc: Global, case: &Case<'_>, kind: Kind, mark: &mut Mark) -> Result<Outcome, Fault>
+    where
+        KC::Value: Worded<By>,
+        VC::Value: Worded<By>,
+    {
         match case.call {
             "put" => putting::<By, KC, VC, C>(alloc, case, kind, mark),
             "size" => sizing::<By, KC, VC, C>(alloc, case, kind, mark),
             _ => writing::<By, KC, VC, C>(alloc, case, kind, mark),
         }
-    }
-}
-
-/// What comes of a row on a pair of codecs; none where its types don't go into the storage.
-pub fn written_pair<By, KC: MapCodec, VC: MapCodec>(
-    alloc: Global,
-    case: &Case<'_>,
-    kind: Kind,
-    mark: &mut Mark,
-) -> Result<Option<Outcome>, Fault>
-where
-    KC::Value: MapKey + Ord + Hash + Worded<By>,
-    VC::Value: Worded<By>,
-{
-    stored::<By, KC, VC, _>(alloc, case, kind, mark, Written)
-}
-
-/// What comes of a row that sizes or writes a map of numbers, texts or bytes in this storage.
-pub fn writes<By>(
-    alloc: Global,
-    case: &Case<'_>,
-    kind: Kind,
-    mark: &mut Mark,
-) -> Result<Option<Outcome>, Fault> {
-    match case.types {
-        "string,int32" => written_pair::<By, Str, Int32>(alloc, case, kind, mark),
-        "own-string,int32" => written_pair::<By, ProtoStringMap<String>, Int32>(
-            alloc, case, kind, mark,
-        ),
-        "int32,string" => written_pair::<By, Int32, Str>(alloc, case, kind, mark),
-        "int32,own-string" => written_pair::<By, Int32, ProtoStringMap<String>>(
-            alloc, case, kind, mark,
-        ),
-        "int32,bytes" => written_pair::<By, Int32, BytesVec>(alloc, case, kind, mark),
-        "int32,shared-bytes" => written_pair::<By, Int32, BytesBuf>(alloc, case, kind, mark),
-        "int32,own-bytes" => written_pair::<By, Int32, ProtoBytesMap<Vec<u8>>>(
-            alloc, case, kind, mark,
-        ),
-        "own-string,own-bytes" => {
-            written_pair::<By, ProtoStringMap<String>, ProtoBytesMap<Vec<u8>>>(
-                alloc, case, kind, mark,
-            )
-        }
-        "bytes,shared-bytes" => written_pair::<By, BytesVec, BytesBuf>(alloc, case, kind, mark),
-        "shared-bytes,own-string" => {
-            written_pair::<By, BytesBuf, ProtoStringMap<String>>(alloc, case, kind, mark)
-        }
-        "own-bytes,bool" => written_pair::<By, ProtoBytesMap<Vec<u8>>, Bool>(
-            alloc, case, kind, mark,
-        ),
-        "sint32,bool" => written_pair::<By, Sint32, Bool>(alloc, case, kind, mark),
-        "fixed32,fixed64" => written_pair::<By, Fixed32, Fixed64>(alloc, case, kind, mark),
-        _ => Err(Fault::Form),
     }
 }

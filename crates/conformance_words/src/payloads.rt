@@ -9,8 +9,8 @@ use buffa_wire::{Budget, Buf, DecodeContext, DecodeError, EncodeError};
 use conformance_rows::case::Case;
 use conformance_rows::fault::Fault;
 use conformance_rows::mark::Mark;
-use conformance_rows::outcome::{Outcome, left, text_told, told, written};
-use conformance_rows::words::Worded;
+use conformance_rows::outcome::{Outcome, in_words, left, text_told, told, written};
+use conformance_rows::words::{Worded, copied, joined};
 use std::alloc::Global;
 
 // The value that stands before: that of the word, or the default.
@@ -34,8 +34,8 @@ fn value_told<By, V: Worded<By>>(
         _ => value.word(alloc)?,
     };
     match answer {
-        Ok(MapValueDecodeStatus::Known) => Ok(format!(in alloc; "{word} known")?),
-        Ok(_) => Ok(format!(in alloc; "{word} unknown")?),
+        Ok(MapValueDecodeStatus::Known) => joined(alloc, word.as_str(), " known", ""),
+        Ok(_) => joined(alloc, word.as_str(), " unknown", ""),
         Err(_) => Ok(word),
     }
 }
@@ -72,8 +72,8 @@ where
 // A fixed length, or a dash.
 fn fixed_told(alloc: Global, fixed: Option<u64>) -> Result<String, Fault> {
     match fixed {
-        Some(len) => Ok(format!(in alloc; "{len}")?),
-        None => Ok(String::from_str(alloc, "-")?),
+        Some(len) => in_words(alloc, &len),
+        None => copied(alloc, "-"),
     }
 }
 
@@ -92,8 +92,8 @@ fn facts_told<VC: MapCodec>(
     Ok(format!(in alloc; "{len} {cost} {wire_type} {fixed}")?)
 }
 
-/// What comes of a row that writes the payload of a value.
-pub fn spelled<By, VC: MapCodec>(
+// What comes of a row that writes the payload of a value.
+fn spelled<By, VC: MapCodec>(
     alloc: Global,
     case: &Case<'_>,
     mark: &mut Mark,
@@ -112,53 +112,82 @@ where
     Outcome::of_words(alloc, written(alloc, answer), words, text, refused)
 }
 
-/// The same of a number, a text or bytes that is read.
-pub fn payloads<By, B: Buf>(
-    alloc: Global,
-    case: &Case<'_>,
-    mark: &mut Mark,
-    buf: &mut B,
-) -> Result<Outcome, Fault> {
-    match case.types {
-        "int32" => payload::<By, Int32, B>(alloc, case, mark, buf, false),
-        "int64" => payload::<By, Int64, B>(alloc, case, mark, buf, false),
-        "uint32" => payload::<By, Uint32, B>(alloc, case, mark, buf, false),
-        "uint64" => payload::<By, Uint64, B>(alloc, case, mark, buf, false),
-        "sint32" => payload::<By, Sint32, B>(alloc, case, mark, buf, false),
-        "sint64" => payload::<By, Sint64, B>(alloc, case, mark, buf, false),
-        "bool" => payload::<By, Bool, B>(alloc, case, mark, buf, false),
-        "fixed32" => payload::<By, Fixed32, B>(alloc, case, mark, buf, false),
-        "fixed64" => payload::<By, Fixed64, B>(alloc, case, mark, buf, false),
-        "sfixed32" => payload::<By, Sfixed32, B>(alloc, case, mark, buf, false),
-        "sfixed64" => payload::<By, Sfixed64, B>(alloc, case, mark, buf, false),
-        "string" => payload::<By, Str, B>(alloc, case, mark, buf, false),
-        "bytes" => payload::<By, BytesVec, B>(alloc, case, mark, buf, false),
-        "shared-bytes" => payload::<By, BytesBuf, B>(alloc, case, mark, buf, false),
-        "own-string" => { payload::<By, ProtoStringMap<String>, B>(alloc, case, mark, buf, false) }
-        "own-bytes" => payload::<By, ProtoBytesMap<Vec<u8>>, B>(alloc, case, mark, buf, false),
-        _ => Err(Fault::Form),
+/// What a row does with the codec that its type names.
+pub trait OnCodec<By>: Drop {
+    /// What comes of it.
+    fn on_codec<VC: MapCodec>(
+        self,
+        alloc: Global,
+        case: &Case<'_>,
+        mark: &mut Mark,
+    ) -> Result<Outcome, Fault>
+    where
+        VC::Value: Worded<By>;
+}
+
+/// A payload that is read from a buffer.
+#[derive(Drop)]
+pub struct Read<'a, B> {
+    /// The buffer.
+    pub buf: &'a mut B,
+}
+
+impl<By, B: Buf> OnCodec<By> for Read<'_, B> {
+    fn on_codec<VC: MapCodec>(
+        self,
+        alloc: Global,
+        case: &Case<'_>,
+        mark: &mut Mark,
+    ) -> Result<Outcome, Fault>
+    where
+        VC::Value: Worded<By>,
+    {
+        payload::<By, VC, B>(alloc, case, mark, self.buf, false)
     }
 }
 
-/// The same of a number, a text or bytes that is written.
-pub fn spellings<By>(alloc: Global, case: &Case<'_>, mark: &mut Mark) -> Result<Outcome, Fault> {
+/// A payload that is written.
+#[derive(Drop)]
+pub struct Spelled;
+
+impl<By> OnCodec<By> for Spelled {
+    fn on_codec<VC: MapCodec>(
+        self,
+        alloc: Global,
+        case: &Case<'_>,
+        mark: &mut Mark,
+    ) -> Result<Outcome, Fault>
+    where
+        VC::Value: Worded<By>,
+    {
+        spelled::<By, VC>(alloc, case, mark)
+    }
+}
+
+/// What comes of a row on the payload of a number, a text or bytes.
+pub fn payloads<By, O: OnCodec<By>>(
+    alloc: Global,
+    case: &Case<'_>,
+    mark: &mut Mark,
+    call: O,
+) -> Result<Outcome, Fault> {
     match case.types {
-        "int32" => spelled::<By, Int32>(alloc, case, mark),
-        "int64" => spelled::<By, Int64>(alloc, case, mark),
-        "uint32" => spelled::<By, Uint32>(alloc, case, mark),
-        "uint64" => spelled::<By, Uint64>(alloc, case, mark),
-        "sint32" => spelled::<By, Sint32>(alloc, case, mark),
-        "sint64" => spelled::<By, Sint64>(alloc, case, mark),
-        "bool" => spelled::<By, Bool>(alloc, case, mark),
-        "fixed32" => spelled::<By, Fixed32>(alloc, case, mark),
-        "fixed64" => spelled::<By, Fixed64>(alloc, case, mark),
-        "sfixed32" => spelled::<By, Sfixed32>(alloc, case, mark),
-        "sfixed64" => spelled::<By, Sfixed64>(alloc, case, mark),
-        "string" => spelled::<By, Str>(alloc, case, mark),
-        "bytes" => spelled::<By, BytesVec>(alloc, case, mark),
-        "shared-bytes" => spelled::<By, BytesBuf>(alloc, case, mark),
-        "own-string" => spelled::<By, ProtoStringMap<String>>(alloc, case, mark),
-        "own-bytes" => spelled::<By, ProtoBytesMap<Vec<u8>>>(alloc, case, mark),
+        "int32" => call.on_codec::<Int32>(alloc, case, mark),
+        "int64" => call.on_codec::<Int64>(alloc, case, mark),
+        "uint32" => call.on_codec::<Uint32>(alloc, case, mark),
+        "uint64" => call.on_codec::<Uint64>(alloc, case, mark),
+        "sint32" => call.on_codec::<Sint32>(alloc, case, mark),
+        "sint64" => call.on_codec::<Sint64>(alloc, case, mark),
+        "bool" => call.on_codec::<Bool>(alloc, case, mark),
+        "fixed32" => call.on_codec::<Fixed32>(alloc, case, mark),
+        "fixed64" => call.on_codec::<Fixed64>(alloc, case, mark),
+        "sfixed32" => call.on_codec::<Sfixed32>(alloc, case, mark),
+        "sfixed64" => call.on_codec::<Sfixed64>(alloc, case, mark),
+        "string" => call.on_codec::<Str>(alloc, case, mark),
+        "bytes" => call.on_codec::<BytesVec>(alloc, case, mark),
+        "shared-bytes" => call.on_codec::<BytesBuf>(alloc, case, mark),
+        "own-string" => call.on_codec::<ProtoStringMap<String>>(alloc, case, mark),
+        "own-bytes" => call.on_codec::<ProtoBytesMap<Vec<u8>>>(alloc, case, mark),
         _ => Err(Fault::Form),
     }
 }

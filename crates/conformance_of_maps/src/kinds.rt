@@ -13,7 +13,7 @@ use conformance_rows::case::Case;
 use conformance_rows::fault::Fault;
 use conformance_rows::mark::Mark;
 use conformance_rows::outcome::{Outcome, told};
-use conformance_rows::words::Worded;
+use conformance_rows::words::{Worded, copied};
 use std::alloc::Global;
 use std::hash::Hash;
 
@@ -59,7 +59,7 @@ fn answer_told(
     is_written: bool,
 ) -> Result<String, Fault> {
     if answer.is_ok() && !is_written {
-        return Ok(String::from_str(alloc, "not written back")?);
+        return copied(alloc, "not written back");
     }
     told(alloc, answer)
 }
