@@ -12,11 +12,11 @@ pub use Rattle.buffa_map_base.specs.Encoding
 pub use Rattle.buffa_map_base.specs.Message
 pub use Rattle.buffa_map_base.specs.MessageLaws
 pub use Rattle.buffa_map_base.specs.MessageField
-pub use Rattle.buffa_map_laws.specs.Plain
+pub mod Plain
 pub use Rattle.buffa_map_base.specs.Enums
 pub use Rattle.buffa_map_base.specs.EnumLaws
-pub use Rattle.buffa_map_laws.specs.Laws
-pub use Rattle.buffa_map_laws.specs.Pinned
-pub use Rattle.buffa_map_laws.specs.PinnedEncodings
+pub mod Laws
+pub mod Pinned
+pub mod PinnedEncodings
 pub mod Rewrite
 pub mod Calls

@@ -11,19 +11,19 @@ pub use crate::codec_laws::{
 };
 // By the public names, so that the laws say what a user's names stand for.
 use crate::map_codec::{Map, MapStorage, MapValueDecodeStatus, RewriteError, StableOrder};
-pub use buffa_map_base::field_laws::fields_are_these;
-pub use buffa_map_base::storage_laws::{
-    hashed_maps_are_these, index_maps_are_these, ordered_maps_are_these, ordered_maps_have_one_walk,
-};
-pub use buffa_map_laws::laws::{
+pub use crate::map_laws::{
     entries_are_read, limits_are_told_where_needs_are_not_left, newer_enums_take_it_too,
     one_reading, plain_entries_are_exact, plain_entries_need_units, rewrite_means, runs_are_read,
     runs_join, size_is_length, values_are_read, walks_agree, written_is_read,
     written_messages_are_read,
 };
-pub use buffa_map_laws::pin_laws::{
+pub use crate::pin_laws::{
     entries_are_pinned, map_fields_are_pinned, message_fields_are_pinned, puts_are_pinned,
     rewrites_are_pinned, runs_are_pinned, values_are_pinned,
+};
+pub use buffa_map_base::field_laws::fields_are_these;
+pub use buffa_map_base::storage_laws::{
+    hashed_maps_are_these, index_maps_are_these, ordered_maps_are_these, ordered_maps_have_one_walk,
 };
 use buffa_wire::{Blank, MapKey};
 use std::fmt::Display;

@@ -11,6 +11,8 @@
 mod codec_laws;
 pub mod laws;
 pub mod map_codec;
+mod map_laws;
+mod pin_laws;
 mod rewrite;
 
 pub use buffa_map_base::map_entry;

@@ -1,0 +1,111 @@
+//! What the definitions say together: each law is a function with nothing to do, whose contract is the law.
+
+ghost use Rattle.buffa_wire.specs.Parse.{Fits};
+ghost use Rattle.buffa_wire.specs.Records.{records_of};
+ghost use Rattle.buffa_map_base.specs.Message.{message_reading};
+ghost use Rattle.buffa_map.specs.Laws.{EntriesAreRead, LimitsAreTrue, NeedsUnits, OneReading, RewriteMeans};
+ghost use Rattle.buffa_map.specs.Laws.{RunsAreRead, RunsJoin, SizeIsLength, ValuesAreRead, WalksAgree, WrittenIsRead};
+ghost use Rattle.buffa_map.specs.Laws.{MessagesAreRead, NewerTakes};
+ghost use Rattle.buffa_map.specs.Plain.{EntriesAreExact};
+
+use buffa_map_base::codec::{MapCodec, MapValueDecode};
+use buffa_map_base::storage::MapStorage;
+use buffa_wire::MessageSpec;
+
+/// A payload is read exactly where its wire type has one that the codec takes, and refused exactly where not.
+pub fn values_are_read<VC: MapValueDecode>()
+    ensures { ValuesAreRead VC.reading }
+{}
+
+/// A whole entry is read exactly where the grammar has it, and a fault is told only where the grammar has
+/// one; where no payload is a message, which fault it is is one too.
+pub fn entries_are_read<KC: MapValueDecode, VC: MapValueDecode>()
+    ensures { EntriesAreRead KC.reading VC.reading }
+{}
+
+/// The same of a whole run of records, where some units and unknown fields are left, each entry costs units
+/// of element memory and what the messages in it cost, and each one with an undeclared value costs unknown
+/// fields: what is read is the entries, and what is over.
+pub fn runs_are_read<KC: MapValueDecode, VC: MapValueDecode>()
+    ensures { RunsAreRead KC.reading VC.reading }
+{}
+
+/// Where no payload is a message, an entry needs its units and nothing more.
+pub fn plain_entries_need_units<KC: MapValueDecode, VC: MapValueDecode>()
+    ensures { NeedsUnits KC.reading VC.reading }
+{}
+
+/// Where no payload is a message, an entry's fault is the first, and it spends its cost or nothing.
+pub fn plain_entries_are_exact<KC: MapCodec, VC: MapCodec>()
+    ensures { EntriesAreExact KC.reading VC.reading }
+{
+    plain_entries_need_units::<KC, VC>();
+}
+
+/// A budget's error is told of an entry only where what it needs isn't left: its units, what the messages in
+/// it cost, and the unknown field of one with an undeclared value, where it is kept.
+pub fn limits_are_told_where_needs_are_not_left<KC: MapValueDecode, VC: MapValueDecode>()
+    ensures { LimitsAreTrue KC.reading VC.reading }
+{}
+
+/// Bytes are an entry, or a run, in one way only, and not while they have a fault.
+pub fn one_reading<KC: MapValueDecode, VC: MapValueDecode>()
+    ensures { OneReading KC.reading VC.reading }
+{}
+
+/// Two runs, one after the other, are a run of the entries of both; it means what the second one makes of
+/// what the first one makes of a map.
+pub fn runs_join<
+    KC: MapValueDecode,
+    VC: MapValueDecode,
+    C: MapStorage<Key = KC::Value, Value = VC::Value>,
+>()
+    ensures { RunsJoin KC.reading VC.reading C.equal }
+{}
+
+/// The size of a field is the length of its encoding, where its tag is the field's.
+pub fn size_is_length<KC: MapCodec, VC: MapCodec>()
+    ensures { SizeIsLength KC.writing VC.writing }
+{}
+
+/// Two walks of one map give the same pairs, in some order, and have one size: what one walk announces is what
+/// another one writes, also where no two walks are alike.
+pub fn walks_agree<KC: MapCodec, VC: MapCodec, C: MapStorage<Key = KC::Value, Value = VC::Value>>()
+    ensures { WalksAgree KC.writing VC.writing C.equal }
+{}
+
+/// The encoding of pairs is a run that says these pairs, so that a map that is written and then read into an
+/// empty one is that map, stored keys too, in whatever order it was walked. Each entry is declared, and there
+/// are as many as there are pairs.
+pub fn written_is_read<
+    KC: MapCodec,
+    VC: MapCodec,
+    C: MapStorage<Key = KC::Value, Value = VC::Value>,
+>()
+    ensures { WrittenIsRead KC.reading VC.reading KC.writing VC.writing C.equal KC.fits KC.normal VC.fits VC.normal }
+{}
+
+/// The same of messages: the encoding that `write_message_field` writes
+/// of normal ones is a run that says these pairs, where a level is left for each of theirs.
+pub fn written_messages_are_read<
+    KC: MapCodec,
+    M: MessageSpec,
+    C: MapStorage<Key = KC::Value, Value = M>,
+>()
+    ensures { MessagesAreRead KC.reading (message_reading M.blank_is M.merged M.cost) KC.writing M.encoding C.equal KC.fits
+        KC.normal (λ v. Fits (records_of (M.records v))) M.normal M.levels }
+{}
+
+/// A run that a reader of an enum takes, a reader of a newer one takes, which declares more.
+pub fn newer_enums_take_it_too<KC: MapCodec>()
+    ensures { NewerTakes KC.reading }
+{}
+
+/// A rewrite means to a reader who knows more what the run means, where the run is ordered, and only there.
+///
+/// A reader of the enum `e` reads a run, and writes the map and the entries that `e` doesn't declare. The
+/// enum `f` declares all that `e` declares, and has the same default. Its reader reads the rewrite as it
+/// reads the run itself: it keeps the same entries, and makes the same map of any old one, stored keys too.
+pub fn rewrite_means<KC: MapCodec>()
+    ensures { RewriteMeans KC.reading KC.writing KC.fits }
+{}

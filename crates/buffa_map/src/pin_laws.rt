@@ -1,0 +1,57 @@
+//! What the contracts leave open: any two answers that one of them allows for one input are one, but for what is
+//! said beside each law.
+
+ghost use Rattle.buffa_map.specs.Pinned.{EntriesArePinned, RunsArePinned, ValueIsPinned};
+ghost use Rattle.buffa_map.specs.PinnedEncodings.{FieldIsPinned, MessagesArePinned, PutIsPinned, RewritesArePinned};
+
+use buffa_map_base::codec::{MapCodec, MapValueDecode};
+use buffa_map_base::storage::MapStorage;
+use buffa_wire::MessageSpec;
+
+/// A payload is merged in one way only. Open is which fault a malformed message has, and where memory runs out.
+pub fn values_are_pinned<VC: MapValueDecode>()
+    ensures { ValueIsPinned VC.reading }
+{}
+
+/// An entry is merged in one way only, and a fault is one, and leaves one budget. Open is where memory runs out; and
+/// where a payload is a message, which of its faults is told, and what is spent for it.
+pub fn entries_are_pinned<KC: MapValueDecode, VC: MapValueDecode>()
+    ensures { EntriesArePinned KC.reading VC.reading }
+{}
+
+/// A run is read in one way only, and a fault comes after the same entries, and is one. Open is what is open of an entry.
+pub fn runs_are_pinned<KC: MapValueDecode, VC: MapValueDecode>()
+    ensures { RunsArePinned KC.reading VC.reading }
+{}
+
+/// A map field has one size and one encoding for one walk, and is refused at one entry. Open is which walk a
+/// storage gives that promises none, and where memory runs out.
+pub fn map_fields_are_pinned<
+    KC: MapCodec,
+    VC: MapCodec,
+    C: MapStorage<Key = KC::Value, Value = VC::Value>,
+>()
+    ensures { FieldIsPinned KC.writing VC.writing C.equal }
+{}
+
+/// A map field of small messages has one size, one encoding and one cache behind it. Open is what is
+/// announced and written where a message is too large, and where memory runs out.
+pub fn message_fields_are_pinned<KC: MapCodec, M: MessageSpec>()
+    ensures { MessagesArePinned KC.writing M.encoding M.slots }
+{}
+
+/// A run has one rewrite for one walk, and is refused for the bytes, or for the encoding, or not at all. Open
+/// is which walk a storage gives that promises none, and where memory runs out.
+pub fn rewrites_are_pinned<
+    KC: MapCodec,
+    VC: MapCodec,
+    C: MapStorage<Key = KC::Value, Value = VC::Value>,
+>()
+    ensures { RewritesArePinned KC.reading VC.reading C.equal C.keeps_order C.walks KC.writing VC.writing KC.fits VC.fits }
+{}
+
+/// A put keeps a stored key, and changes no other pair; where the order is kept, it leaves one list. Open is, elsewhere,
+/// the order of the pairs.
+pub fn puts_are_pinned<C: MapStorage>()
+    ensures { PutIsPinned C.Value.Meaning C.equal C.keeps_order }
+{}

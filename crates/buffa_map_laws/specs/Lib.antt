@@ -1,4 +1,0 @@
-pub mod Plain
-pub mod Laws
-pub mod Pinned
-pub mod PinnedEncodings
