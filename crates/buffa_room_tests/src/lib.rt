@@ -1,5 +1,5 @@
-//! Tests of `buffa_bytes` and `buffa_wire`, and of options that stand on them, of what is no case of a table. Nothing
-//! stands on this crate.
+//! Tests of the crates below the facade, of what is no case of a table: buffers and sinks of the crate `bytes`, what errors
+//! print, options, many pairs, and examples of the documentation. Nothing stands on this crate.
 //!
 //! Expected values come from outside: from the protobuf encoding guide, or worked out by hand.
 #![tactic(auto)]
@@ -11,10 +11,14 @@ mod buffers;
 #[cfg(test)]
 mod errors;
 #[cfg(test)]
+mod examples;
+#[cfg(test)]
 mod numbers;
 #[cfg(test)]
 mod options;
 #[cfg(test)]
 mod records;
+#[cfg(test)]
+mod storages;
 #[cfg(test)]
 mod texts;

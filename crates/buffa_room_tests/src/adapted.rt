@@ -1,10 +1,11 @@
 //! Buffers and sinks of the crate `bytes`.
 
-use buffa_bytes::Adapted;
+use buffa_bytes::{Adapted, decode_varint};
 use buffa_map::map_codec::{Int32, Map, MapStorage, Str, merge_entry, write_field};
 use buffa_wire::{Budget, DecodeContext, DecodeError, EncodeError, RECURSION_LIMIT};
 use bytes::{Buf, Bytes, BytesMut};
 use std::alloc::Global;
+use std::io::Cursor;
 use std::test::Fail;
 
 // An entry of a map<string, int32> behind its tag, as the protobuf encoding guide spells it: its length, the key
@@ -74,5 +75,26 @@ fn a_field_behind_what_is_there(rt: HostRuntime) -> Result<(), Fail> {
     write_counts(&counts, &mut out)?;
     let written: &[u8] = &[7, 0x2A, 7, 0x0A, 2, b'a', b'b', 0x10, 0x96, 0x01];
     assert!(rt; out.as_slice() == written);
+    Ok(())
+}
+
+#[test]
+fn a_lent_buffer_up_to_a_limit(rt: HostRuntime) -> Result<(), Fail> {
+    let mut rest = BytesMut::copy_from_slice(rt.alloc(), &[0x96, 0x01, 0x96, 7])?;
+    let mut within = Adapted(Buf::take(&mut rest, 3));
+    assert!(rt; decode_varint(&mut within)? == 150);
+    assert!(rt; decode_varint(&mut within) == Err(DecodeError::UnexpectedEof));
+    assert!(rt; rest.as_slice() == [7].as_slice());
+    Ok(())
+}
+
+#[test]
+fn a_cursor_is_read_from_its_position(rt: HostRuntime) -> Result<(), Fail> {
+    let all: &[u8] = &[7, 0x96, 0x01];
+    let mut cursor = Cursor::new(all);
+    cursor.set_position(1);
+    let mut buf = Adapted(cursor);
+    assert!(rt; decode_varint(&mut buf)? == 150);
+    assert!(rt; buf.0.position() == 3);
     Ok(())
 }
