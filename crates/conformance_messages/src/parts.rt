@@ -98,7 +98,7 @@ fn is_same(part: &Part, another: &Part, number: u32) -> bool {
 }
 
 // The words behind one another, with a comma between them.
-fn joined(alloc: Global, words: &[String]) -> Result<String, Fault> {
+fn with_commas(alloc: Global, words: &[String]) -> Result<String, Fault> {
     let mut all = String::new(alloc);
     for word in words {
         all = with_word(alloc, all.as_str(), word.as_str())?;
@@ -113,7 +113,7 @@ fn around(alloc: Global, front: &str, text: &str, back: &str) -> Result<String, 
 
 // Some words between two marks, with a comma between them.
 fn between(alloc: Global, front: &str, words: &[String], back: &str) -> Result<String, Fault> {
-    let words = joined(alloc, words)?;
+    let words = with_commas(alloc, words)?;
     around(alloc, front, words.as_str(), back)
 }
 
