@@ -106,15 +106,10 @@ fn with_commas(alloc: Global, words: &[String]) -> Result<String, Fault> {
     Ok(all)
 }
 
-// A text between two marks.
-fn around(alloc: Global, front: &str, text: &str, back: &str) -> Result<String, Fault> {
-    joined(alloc, front, text, back)
-}
-
 // Some words between two marks, with a comma between them.
 fn between(alloc: Global, front: &str, words: &[String], back: &str) -> Result<String, Fault> {
     let words = with_commas(alloc, words)?;
-    around(alloc, front, words.as_str(), back)
+    joined(alloc, front, words.as_str(), back)
 }
 
 // The word of a value, or `none`.
@@ -207,7 +202,7 @@ impl<By> Parts<By> {
         for (at, part) in self.all.iter().enumerate() {
             words = with_part(alloc, words.as_str(), at == 0, part)?;
         }
-        around(alloc, "(", words.as_str(), ")")
+        joined(alloc, "(", words.as_str(), ")")
     }
 
     /// Whether the members are the same, but for that of a number.
