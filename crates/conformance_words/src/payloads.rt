@@ -93,7 +93,7 @@ fn facts_told<VC: MapCodec>(
 }
 
 // What comes of a row that writes the payload of a value.
-fn spelled<By, VC: MapCodec>(
+fn spell<By, VC: MapCodec>(
     alloc: Global,
     case: &Case<'_>,
     mark: &mut Mark,
@@ -160,7 +160,7 @@ impl<By> OnCodec<By> for Spelled {
     where
         VC::Value: Worded<By>,
     {
-        spelled::<By, VC>(alloc, case, mark)
+        spell::<By, VC>(alloc, case, mark)
     }
 }
 
