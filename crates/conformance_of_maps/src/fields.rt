@@ -84,7 +84,7 @@ fn has_messages(types: &str) -> bool {
 }
 
 /// What comes of a row that reads entries or a run into this storage; none where its types don't go there.
-pub fn fields<B: Buf>(
+pub fn read_fields<B: Buf>(
     alloc: Global,
     case: &Case<'_>,
     kind: Kind,
@@ -101,7 +101,7 @@ pub fn fields<B: Buf>(
 }
 
 /// What comes of a row that sizes or writes a map in this storage; none where its types don't go there.
-pub fn writes(
+pub fn write_fields(
     alloc: Global,
     case: &Case<'_>,
     kind: Kind,

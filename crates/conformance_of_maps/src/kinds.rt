@@ -135,7 +135,7 @@ where
 }
 
 /// What comes of a row of a key kind and a value kind, with a comma between them.
-pub fn kinds<By>(
+pub fn kind_fields<By>(
     alloc: Global,
     case: &Case<'_>,
     mark: &mut Mark,

@@ -21,9 +21,9 @@ use conformance_rows::mark::Mark;
 use conformance_rows::outcome::Outcome;
 use conformance_rows::runs::{Calls, run_rows};
 use conformance_words::{Read, Samples, Spelled};
-use fields::{fields, writes};
-use kinds::kinds;
-use payloads::payloads;
+use fields::{read_fields, write_fields};
+use kinds::kind_fields;
+use payloads::payload_rows;
 use std::alloc::Global;
 use std::process::ExitCode;
 
@@ -44,8 +44,8 @@ impl Calls for MapFields {
         buf: &mut AnyBuf<'_>,
     ) -> Result<Option<Outcome>, Fault> {
         match group_of(case.call) {
-            Group::Fields => fields(alloc, case, kind, mark, buf),
-            Group::Values => some(payloads(alloc, case, mark, Read { buf })),
+            Group::Fields => read_fields(alloc, case, kind, mark, buf),
+            Group::Values => some(payload_rows(alloc, case, mark, Read { buf })),
             _ => Ok(None),
         }
     }
@@ -58,9 +58,9 @@ impl Calls for MapFields {
         bytes: &[u8],
     ) -> Result<Option<Outcome>, Fault> {
         match group_of(case.call) {
-            Group::Kinds => some(kinds::<Samples>(alloc, case, mark, bytes)),
-            Group::Writes => writes(alloc, case, kind, mark),
-            Group::Spelled => some(payloads(alloc, case, mark, Spelled)),
+            Group::Kinds => some(kind_fields::<Samples>(alloc, case, mark, bytes)),
+            Group::Writes => write_fields(alloc, case, kind, mark),
+            Group::Spelled => some(payload_rows(alloc, case, mark, Spelled)),
             _ => Ok(None),
         }
     }

@@ -11,7 +11,7 @@ use conformance_words::{OnCodec, Samples};
 use std::alloc::Global;
 
 /// What comes of a row on the payload of a value.
-pub fn payloads<O: OnCodec<Samples>>(
+pub fn payload_rows<O: OnCodec<Samples>>(
     alloc: Global,
     case: &Case<'_>,
     mark: &mut Mark,

@@ -1,10 +1,10 @@
 //! The words of samples, and rows on payloads by themselves, which are read into a value, and written.
 #![tactic(auto)]
 
-mod payloads;
+mod alone;
 mod words;
 
-pub use payloads::{OnCodec, Read, Spelled, payload, payloads};
+pub use alone::{OnCodec, Read, Spelled, payload, payloads};
 
 /// The words of samples.
 pub struct Samples;
