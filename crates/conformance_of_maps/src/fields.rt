@@ -1,5 +1,10 @@
 // Map fields: those of samples too.
 
+use crate::by_function::ByFunction;
+use crate::codecs::pairs;
+use crate::entries::{Entries, Runs};
+use crate::sizes::Written;
+use crate::storages::{OnMap, OnMessages, hashed, ordered, stored, stored_messages};
 use buffa_map::map_codec::{ClosedEnum, Int32, OpenEnum, ProtoStringMap, Str};
 use buffa_samples::count::CountMsg;
 use buffa_samples::flat::FlatMsg;
@@ -9,10 +14,6 @@ use buffa_samples::tree::Tree;
 use buffa_samples::two::TestMsg;
 use buffa_samples::word::Word;
 use buffa_wire::Buf;
-use conformance_maps::{
-    ByFunction, Entries, OnMap, OnMessages, Runs, Written, hashed, ordered, pairs, stored,
-    stored_messages,
-};
 use conformance_rows::calls::Kind;
 use conformance_rows::case::Case;
 use conformance_rows::fault::Fault;

@@ -1,10 +1,18 @@
 // Runs the rows of tables on map fields, and on payloads of values that are no messages.
 #![tactic(auto)]
 
+mod any_map;
+mod by_function;
+mod codecs;
+mod entries;
 mod fields;
+mod kinds;
 mod payloads;
+mod reads;
+mod sizes;
+mod storages;
+mod store;
 
-use conformance_maps::kind_fields;
 use conformance_rows::any_buf::AnyBuf;
 use conformance_rows::calls::{Group, Kind, group_of};
 use conformance_rows::case::Case;
@@ -14,6 +22,7 @@ use conformance_rows::outcome::Outcome;
 use conformance_rows::runs::{Calls, run_rows};
 use conformance_words::{Read, Samples, Spelled};
 use fields::{read_fields, write_fields};
+use kinds::kind_fields;
 use payloads::payload_rows;
 use std::alloc::Global;
 use std::process::ExitCode;

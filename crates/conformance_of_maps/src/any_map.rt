@@ -25,7 +25,7 @@ pub enum AnyMap<K: MapKey + Ord + Hash, V: Blank> {
 
 impl<K: MapKey + Ord + Hash, V: Blank> MapStorage for AnyMap<K, V> {
     ghost use Rattle.std.specs.Prelude.{◌≡◌};
-    ghost use Rattle.conformance_maps.specs.declared.any_map.AnyMap.TheVariants.{Hashed, Indexed, Ordered};
+    ghost use Rattle.conformance_of_maps.specs.declared.any_map.AnyMap.TheVariants.{Hashed, Indexed, Ordered};
 
     type Key = K;
 
