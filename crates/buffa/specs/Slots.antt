@@ -11,26 +11,26 @@ use Rattle.buffa_map.specs.Encoding.{field_encoding}
 
 -- no message has more than 2^31 - 1 bytes
 abbrev pub AreSmall : {K M : Type 0} → (M → List ℕ) → List (K × M) → Type 0
-AreSmall text [] = Unit {0}
-AreSmall text (p ∷ ps) = IsSmall (text p.1) × AreSmall text ps
+AreSmall encoding [] = Unit {0}
+AreSmall encoding (p ∷ ps) = IsSmall (encoding p.1) × AreSmall encoding ps
 
-module _ {K M : Type 0} (key : Writing K) (text slots : M → List ℕ) where
+module _ {K M : Type 0} (key : Writing K) (encoding slots : M → List ℕ) where
   -- the record of number n of a pair whose message is said to have so many bytes
   abbrev pub record_by : ℕ → K × M → ℕ → List ℕ
   record_by n p inner =
       let head = tag_encoding n LengthDelimited ++ varint_encoding (entry_size key p.0 inner) in
-      head ++ (key_and_length key p.0 inner ++ text p.1)
+      head ++ (key_and_length key p.0 inner ++ encoding p.1)
 
   -- Of the pairs in order, the next slot is said to be the length of the message, and the message's own slots
   -- follow it; so the bytes are written, and the rest of the slots is left.
   abbrev pub WrittenBySlots : ℕ → List (K × M) → List ℕ → List ℕ → List ℕ → Type 0
   WrittenBySlots n [] taken bytes rest = (bytes ≡ []) × (taken ≡ rest)
   WrittenBySlots n (p ∷ ps) taken bytes rest =
-      (inner : ℕ) × (more : List ℕ) × (out : List ℕ) × (inner ≡ length (text p.1)) × (taken ≡ inner ∷ slots p.1 ++ more)
+      (inner : ℕ) × (more : List ℕ) × (out : List ℕ) × (inner ≡ length (encoding p.1)) × (taken ≡ inner ∷ slots p.1 ++ more)
       × (bytes ≡ record_by n p inner ++ out) × WrittenBySlots n ps more out rest
 
   -- what is so written by the slots of the pairs is the field's encoding, and no slot of another is consumed
   abbrev pub SlotsAreLengths : Type 0
   SlotsAreLengths =
-      (n : ℕ) (l : List (K × M)) (rest : List ℕ) → AreSmall text l →
-      WrittenBySlots n l (field_slots text slots l ++ rest) (field_encoding key (delimited_writing text) n l) rest
+      (n : ℕ) (l : List (K × M)) (rest : List ℕ) → AreSmall encoding l →
+      WrittenBySlots n l (field_slots encoding slots l ++ rest) (field_encoding key (delimited_writing encoding) n l) rest

@@ -14,13 +14,13 @@ pub use Rattle.buffa_bytes.specs.Values.{delimited_encoding, string_at, tag_enco
 pub use Rattle.buffa_bytes.specs.Varint.{varint_encoding}
 pub use Rattle.buffa_bytes.specs.WireType.{wire_kind, wire_number}
 pub use Rattle.buffa_bytes.specs.Written.{UsesRoom, Writes}
-pub use Rattle.buffa_wire.specs.BudgetLeft.{BudgetLeft, PaysAtMost, UnknownTaken, UnknownsSpent, budget_left, nothing, plus}
+pub use Rattle.buffa_wire.specs.BudgetLeft.{BudgetLeft, Covers, PaysAtMost, UnknownTaken, UnknownsSpent, budget_left, defaults, nothing, plus}
 pub use Rattle.buffa_wire.specs.Cache.{advanced, appended}
 pub use Rattle.buffa_wire.specs.Enums.{DeclaresBlank, numbers, open_number}
-pub use Rattle.buffa_wire.specs.Message.{BeginsField, IsMergedAlone, MergesBytes, MergesField, MergesInside, PayloadFault, TakesField, cost_of_payload}
+pub use Rattle.buffa_wire.specs.Message.{BeginsField, IsMergedAlone, MergesBytes, MergesField, MergesInside, MessageFault, TakesMessageField, cost_of_payload}
 pub use Rattle.buffa_wire.specs.Parse.{Fits}
 pub use Rattle.buffa_wire.specs.Passes.{IsNext, IsSized, IsWritten}
-pub use Rattle.buffa_wire.specs.RecordReading.{ListTakesMemory, TakesMemory, field_in, list_at}
+pub use Rattle.buffa_wire.specs.RecordReading.{ListTakesMemory, RecordTakesMemory, field_in, list_at}
 pub use Rattle.buffa_wire.specs.Records.{Datum, IsEmpty, IsNumeric, bytes, records_of}
 pub use Rattle.buffa_wire.specs.Encoding.{records_encoding, wire_of}
 pub use Rattle.buffa_wire.specs.View.{AnswersRecords, CalledAtRecord, datum_of, record_of, records_in}

@@ -1,6 +1,6 @@
 //! Two messages that stand on this layer alone: a node that holds itself, and a MessageSet.
 //!
-//! Which messages they are is said by [`crate::laws::nodes`] and [`crate::laws::sets`]. What they cite stands in
+//! Which messages they are is said by [`crate::laws::nodes`] and [`crate::laws::sets`]. What they cite is handed on in
 //! `specs/` under the names `Branch`, `NodeMeaning`, `NodeEncoding` and `Set`.
 //!
 //! ```ignore
@@ -9,7 +9,7 @@
 //!
 //! let mut node = Node::blank(alloc);
 //! node.merge_from_slice(alloc, &[0x12, 0x02, 0x08, 0x01])?; // a blank child under 1
-//! let text = node.try_encode_to_vec(alloc)?; // 12 04 08 01 12 00
+//! let encoding = node.try_encode_to_vec(alloc)?; // 12 04 08 01 12 00
 //! ```
 
 pub use buffa_node::node::{Node, merge_node, size_node, write_node};

@@ -14,8 +14,11 @@ use Rattle.buffa_bytes.specs.Join.{Join}
 use Rattle.buffa_bytes.specs.Number.{IsNumber}
 use Rattle.buffa_bytes.specs.Join.Join.{none, more}
 use Rattle.buffa_bytes.specs.Field.{IsTag, PayloadOver, SomeFieldOver, SomeField, Group, TakesTag, TakesPayload, BadTag, TagFault, PayloadFaultOver, FieldFaultOver, GroupFault, PayloadFault}
-use Rattle.buffa_bytes.specs.Reading.{varint_within, varint_at, tag_of, tag_at, past, skip_by, is_end, fields_within, group_at, skip_at, group_step}
-use Rattle.buffa_bytes.proofs.StepLemmas.{Agrees, agree_bind, agree_if, agree_ok, agree_weaker, same_answer, bind_same}
+use Rattle.buffa_bytes.specs.Reading.{varint_within, varint_at, tag_of, tag_at, past, skip_by, is_end, fields_at, fields_step, group_at, group_step, passed, skip_at}
+use Rattle.buffa_bytes.specs.Scan.{step_then}
+use Rattle.buffa_bytes.specs.Scan.Scanned.{ends, goes}
+use Rattle.buffa_bytes.proofs.StepLemmas.{Agrees, agree_bind, agree_err, agree_if, agree_ok, agree_weaker}
+use Rattle.buffa_bytes.proofs.ScanLemmas.{Leads, Shortens, if_leads, if_short, scan_leads, scan_step}
 use Rattle.buffa_bytes.proofs.VarintLemmas.{varint_sound, varint_complete, varint_faulty, varint_falls}
 
 -- ---- tags
@@ -102,6 +105,10 @@ pub tag_some : (t : List ℕ) (f : ℕ) (w : WireType) → IsTag t f w → 0 < l
 tag_some t f w h = varint_falls t (8 * f + wire_number w) h.1
 
 -- ---- payloads
+-- what is read leaves less
+pub tag_falls : (bs : List ℕ) (t : ℕ × WireType × List ℕ) → tag_at bs ≡ Ok t → length t.2 < length bs
+tag_falls bs t e = let u = agree_ok (tag_at bs) t (tag_sound bs) e in omega (arith, tag_some u.0 t.0 t.1 u.1, ap length u.2, length-append u.0 t.2)
+
 abbrev TakesBytes : ℕ → List ℕ → List ℕ → Type 0
 TakesBytes n bs rest = (p : List ℕ) × (length p ≡ n) × (bs ≡ p ++ rest)
 
@@ -193,77 +200,92 @@ module _ (inner : Inner) (G : ℕ → List ℕ → Type 0) (F : ℕ → List ℕ
   one_more : (bs t p mid : List ℕ) (after body x : List ℕ) → bs ≡ t ++ after → after ≡ p ++ mid → mid ≡ body ++ x → bs ≡ ((t ++ p) ++ body) ++ x
   one_more bs t p mid after body x a b c = a ∙ ap (λ z. t ++ z) (b ∙ ap (λ z. p ++ z) c) ∙ simp append_assoc
 
-  pub fields_sound : Sound → (k f : ℕ) (bs : List ℕ) → length bs ≤ k → Agrees (fields_within inner k f bs) (λ rest. TakesFields f bs rest) (FieldsFault f bs)
-  unfolding fields_within
-  fields_sound s zero f [] h = record { holds = ([], [], none, refl, inl (inl (tt, omega arith))) }
-  fields_sound s zero f (b ∷ bs) h = absurd (omega arith)
-  fields_sound s (suc k) f bs h = agree_bind (tag_sound bs)
-      (λ t u. agree_if (is_end t.1)
-      (λ e. let end : IsTag u.0 t.0 EndGroup = subst (λ w. IsTag u.0 t.0 w) (end_true t.1 e) u.1 in agree_if (t.0 == f)
-      (λ m. record { holds = ([], u.0, none, subst (λ g. IsTag u.0 g EndGroup) (eqb-true t.0 f m) end, u.2) })
-      (λ m. record { holds = ([], bs, none, refl, inr (inl (t.0, t.2, (u.0, end, u.2), eqb-false t.0 f m, refl))) }))
-      (λ e. agree_bind (skip_sound s t.0 t.1 t.2)
-      (λ mid p. agree_weaker (fields_sound s k f mid (omega (arith, tag_some u.0 t.0 t.1 u.1, ap length u.2, ap length p.2, length-append u.0 t.2, length-append p.0 mid)))
-      (λ rest x. ((u.0 ++ p.0) ++ x.0, x.1, more (u.0 ++ p.0) x.0 (t.0, t.1, (u.0, p.0, u.1, p.1, refl)) x.2, x.3, one_more bs u.0 p.0 mid t.2 x.0 (x.1 ++ rest) u.2 p.2 x.4))
-      (λ d x. ((u.0 ++ p.0) ++ x.0, x.1, more (u.0 ++ p.0) x.0 (t.0, t.1, (u.0, p.0, u.1, p.1, refl)) x.2, one_more bs u.0 p.0 mid t.2 x.0 x.1 u.2 p.2 x.3, x.4)))
-      (λ d x. ([], bs, none, refl, inr (inr (t.0, t.1, t.2, u, end_false t.1 e, x))))))
-      (λ e x. ([], bs, none, refl, inl x))
+  module _ (s : Sound) where
+    -- ---- each step takes a byte
+    passed_short : (bs : List ℕ) (t : ℕ × WireType × List ℕ) → tag_at bs ≡ Ok t → (r : Result (List ℕ) DecodeError) → skip_by inner t.0 t.1 t.2 ≡ r → Shortens (passed r) bs
+    passed_short bs t e (Ok mid) h =
+        let p = agree_ok (skip_by inner t.0 t.1 t.2) mid (skip_sound s t.0 t.1 t.2) h in omega (arith, tag_falls bs t e, ap length p.2, length-append p.0 mid)
+    passed_short bs t e (Err x) h = tt
+
+    step_short : (f : ℕ) (bs : List ℕ) (r : Result (ℕ × WireType × List ℕ) DecodeError) → tag_at bs ≡ r → Shortens (fields_step inner f r) bs
+    step_short f bs (Ok t) e =
+        if_short (is_end t.1) (if t.0 == f then Ok t.2 else Err (InvalidEndGroup t.0)) (passed (skip_by inner t.0 t.1 t.2)) bs (λ _. passed_short bs t e (skip_by inner t.0 t.1 t.2) refl)
+    step_short f bs (Err x) e = tt
+
+    pub fields_turn : (f : ℕ) (bs : List ℕ) (r : Result (ℕ × WireType × List ℕ) DecodeError) → tag_at bs ≡ r → fields_at inner f bs ≡ step_then (λ _. fields_at inner f) (fields_step inner f r)
+    unfolding fields_at
+    fields_turn f bs r e =
+        scan_step (λ _ rest. fields_step inner f (tag_at rest)) (Err UnexpectedEof) (λ _ rest. step_short f rest (tag_at rest) refl) tt bs
+        ∙ ap (λ z. step_then (λ _. fields_at inner f) (fields_step inner f z)) e
+
+    -- ---- what is read is in the grammar
+    abbrev Reads : ℕ → List ℕ → Result (List ℕ) DecodeError → Type 0
+    Reads f bs r = Agrees r (λ rest. TakesFields f bs rest) (FieldsFault f bs)
+
+    passed_leads : (f : ℕ) (bs : List ℕ) (t : ℕ × WireType × List ℕ) → tag_at bs ≡ Ok t → t.1 ≢ EndGroup → (r : Result (List ℕ) DecodeError) → skip_by inner t.0 t.1 t.2 ≡ r
+        → Leads (λ _. Reads f) (passed r) tt bs
+    passed_leads f bs t e other (Ok mid) h = λ r q.
+        let u = agree_ok (tag_at bs) t (tag_sound bs) e in
+        let p = agree_ok (skip_by inner t.0 t.1 t.2) mid (skip_sound s t.0 t.1 t.2) h in
+        agree_weaker q
+        (λ rest x. ((u.0 ++ p.0) ++ x.0, x.1, more (u.0 ++ p.0) x.0 (t.0, t.1, (u.0, p.0, u.1, p.1, refl)) x.2, x.3, one_more bs u.0 p.0 mid t.2 x.0 (x.1 ++ rest) u.2 p.2 x.4))
+        (λ d x. ((u.0 ++ p.0) ++ x.0, x.1, more (u.0 ++ p.0) x.0 (t.0, t.1, (u.0, p.0, u.1, p.1, refl)) x.2, one_more bs u.0 p.0 mid t.2 x.0 x.1 u.2 p.2 x.3, x.4))
+    passed_leads f bs t e other (Err d) h =
+        let u = agree_ok (tag_at bs) t (tag_sound bs) e in
+        let x = agree_err (skip_by inner t.0 t.1 t.2) d (skip_sound s t.0 t.1 t.2) h in
+        record { holds = ([], bs, none, refl, inr (inr (t.0, t.1, t.2, u, other, x))) }
+
+    step_leads : (f : ℕ) (bs : List ℕ) (r : Result (ℕ × WireType × List ℕ) DecodeError) → tag_at bs ≡ r → Leads (λ _. Reads f) (fields_step inner f r) tt bs
+    step_leads f bs (Ok t) e =
+        let u = agree_ok (tag_at bs) t (tag_sound bs) e in
+        if_leads (λ _. Reads f) (is_end t.1) (if t.0 == f then Ok t.2 else Err (InvalidEndGroup t.0)) (passed (skip_by inner t.0 t.1 t.2)) tt bs
+        (λ last. let end : IsTag u.0 t.0 EndGroup = subst (λ w. IsTag u.0 t.0 w) (end_true t.1 last) u.1 in agree_if (t.0 == f)
+            (λ m. record { holds = ([], u.0, none, subst (λ g. IsTag u.0 g EndGroup) (eqb-true t.0 f m) end, u.2) })
+            (λ m. record { holds = ([], bs, none, refl, inr (inl (t.0, t.2, (u.0, end, u.2), eqb-false t.0 f m, refl))) }))
+        (λ other. passed_leads f bs t e (end_false t.1 other) (skip_by inner t.0 t.1 t.2) refl)
+    step_leads f bs (Err d) e = record { holds = ([], bs, none, refl, inl (agree_err (tag_at bs) d (tag_sound bs) e)) }
+
+    pub fields_sound : (f : ℕ) (bs : List ℕ) → Agrees (fields_at inner f bs) (λ rest. TakesFields f bs rest) (FieldsFault f bs)
+    unfolding fields_at
+    fields_sound f bs =
+        scan_leads (λ _ rest. fields_step inner f (tag_at rest)) (Err UnexpectedEof) (λ _ rest. step_short f rest (tag_at rest) refl) (λ _. Reads f)
+        (λ _ rest. step_leads f rest (tag_at rest) refl) tt bs
 
   -- an end tag has no payload
   payload_no_end : (f : ℕ) (w : WireType) (p : List ℕ) → PayloadOver G f w p → w ≢ EndGroup
   payload_no_end f w p h e = subst (λ v. PayloadOver G f v p) e h
 
-  pass_one : Complete → (k f : ℕ) (first rest x : List ℕ) (g : ℕ) (w : WireType) (t p : List ℕ) → IsTag t g w → PayloadOver G g w p → first ≡ t ++ p → fields_within inner (suc k) f ((first ++ rest) ++ x) ≡ fields_within inner k f (rest ++ x)
-  unfolding fields_within
-  pass_one c k f first rest x g w t p s q e =
-      let is : (first ++ rest) ++ x ≡ t ++ (p ++ (rest ++ x)) = ap (λ z. (z ++ rest) ++ x) e ∙ simp append_assoc in
-      rw (is, tag_complete t g w (p ++ (rest ++ x)) s, not_end w (payload_no_end g w p q), skip_complete c g w p (rest ++ x) q) refl
+  module _ (s : Sound) (c : Complete) where
+    pass_one : (f : ℕ) (first rest x : List ℕ) (g : ℕ) (w : WireType) (t p : List ℕ) → IsTag t g w → PayloadOver G g w p → first ≡ t ++ p → fields_at inner f ((first ++ rest) ++ x) ≡ fields_at inner f (rest ++ x)
+    pass_one f first rest x g w t p tag q e =
+        let is : (first ++ rest) ++ x ≡ t ++ (p ++ (rest ++ x)) = ap (λ z. (z ++ rest) ++ x) e ∙ simp append_assoc in
+        ap (fields_at inner f) is ∙ fields_turn s f (t ++ (p ++ (rest ++ x))) (Ok (g, w, p ++ (rest ++ x))) (tag_complete t g w (p ++ (rest ++ x)) tag)
+        ∙ rw (not_end w (payload_no_end g w p q), skip_complete c g w p (rest ++ x) q) refl
 
-  -- whole fields are passed
-  pass : Complete → (k f : ℕ) (body x : List ℕ) → Join (SomeFieldOver G) body → length (body ++ x) ≤ k → (m : ℕ) × (length x ≤ m) × (fields_within inner k f (body ++ x) ≡ fields_within inner m f x)
-  unfolding fields_within
-  pass c k f body x none h = (k, h, refl)
-  pass c zero f body x (more first rest (g, w, (t, p, s, q, e)) j) h = absurd (omega (arith, tag_some t g w s, ap length e, length-append t p, length-append first rest, length-append (first ++ rest) x))
-  pass c (suc k) f body x (more first rest (g, w, (t, p, s, q, e)) j) h =
-      let i = pass c k f rest x j (omega (arith, tag_some t g w s, ap length e, length-append t p, length-append first rest, length-append (first ++ rest) x, length-append rest x)) in
-      (i.0, i.1, pass_one c k f first rest x g w t p s q e ∙ i.2)
+    -- whole fields are passed
+    pass : (f : ℕ) (body x : List ℕ) → Join (SomeFieldOver G) body → fields_at inner f (body ++ x) ≡ fields_at inner f x
+    pass f body x none = refl
+    pass f body x (more first rest (g, w, (t, p, tag, q, e)) j) = pass_one f first rest x g w t p tag q e ∙ pass f rest x j
 
-  at_end : (t : List ℕ) (f : ℕ) (rest : List ℕ) → IsTag t f EndGroup → (m : ℕ) → length (t ++ rest) ≤ m → fields_within inner m f (t ++ rest) ≡ Ok rest
-  unfolding fields_within
-  at_end t f rest s zero h = absurd (omega (arith, tag_some t f EndGroup s, length-append t rest))
-  at_end t f rest s (suc m) h = rw (tag_complete t f EndGroup rest s, eq-eqb f f refl) refl
+    pub fields_complete : (f : ℕ) (bs rest : List ℕ) → TakesFields f bs rest → fields_at inner f bs ≡ Ok rest
+    fields_complete f bs rest (body, t, j, tag, e) =
+        ap (fields_at inner f) e ∙ pass f body (t ++ rest) j
+        ∙ fields_turn s f (t ++ rest) (Ok (f, EndGroup, rest)) (tag_complete t f EndGroup rest tag) ∙ rw (eq-eqb f f refl) refl
 
-  at_fault : Faults → (f : ℕ) (bs : List ℕ) (e : DecodeError) → FieldFaultOver F f bs e → (m : ℕ) → length bs ≤ m → fields_within inner m f bs ≡ Err e
-  unfolding fields_within tag_at varint_at varint_within
-  at_fault c f [] e (inl x) zero h = ap (λ r. r >>= (λ t. Ok t.2)) (tag_faulty [] e x)
-  at_fault c f [] e (inr (inl (g, rest, (t, s, is), n, k))) zero h = absurd (omega (arith, tag_some t g EndGroup s, ap length is, length-append t rest))
-  at_fault c f [] e (inr (inr (g, w, rest, (t, s, is), n, x))) zero h = absurd (omega (arith, tag_some t g w s, ap length is, length-append t rest))
-  at_fault c f (b ∷ bs) e x zero h = absurd (omega arith)
-  at_fault c f bs e (inl x) (suc m) h = rw (tag_faulty bs e x) refl
-  at_fault c f bs e (inr (inl (g, rest, (t, s, is), n, k))) (suc m) h = rw (is, tag_complete t g EndGroup rest s, ne_eqb g f n) (ap (λ x. Err x) (sym k))
-  at_fault c f bs e (inr (inr (g, w, rest, (t, s, is), n, x))) (suc m) h = rw (is, tag_complete t g w rest s, not_end w n, skip_faulty c g w rest e x) refl
+    at_fault : Faults → (f : ℕ) (bs : List ℕ) (e : DecodeError) → FieldFaultOver F f bs e → fields_at inner f bs ≡ Err e
+    at_fault d f bs e (inl x) = fields_turn s f bs (Err e) (tag_faulty bs e x)
+    at_fault d f bs e (inr (inl (g, rest, (t, tag, is), n, k))) =
+        fields_turn s f bs (Ok (g, EndGroup, rest)) (ap tag_at is ∙ tag_complete t g EndGroup rest tag) ∙ rw (ne_eqb g f n) (ap (λ x. Err x) (sym k))
+    at_fault d f bs e (inr (inr (g, w, rest, (t, tag, is), n, x))) =
+        fields_turn s f bs (Ok (g, w, rest)) (ap tag_at is ∙ tag_complete t g w rest tag) ∙ rw (not_end w n, skip_faulty d g w rest e x) refl
 
-  pub fields_faulty : Complete → Faults → (k f : ℕ) (bs : List ℕ) (e : DecodeError) → length bs ≤ k → FieldsFault f bs e → fields_within inner k f bs ≡ Err e
-  fields_faulty c d k f bs e h (body, rest, j, is, x) =
-      let l : length (body ++ rest) ≤ k = subst (λ z. length z ≤ k) is h in
-      let i = pass c k f body rest j l in
-      ap (fields_within inner k f) is ∙ i.2 ∙ at_fault d f rest e x i.0 i.1
-
-  pub fields_complete : Complete → (k f : ℕ) (bs rest : List ℕ) → length bs ≤ k → TakesFields f bs rest → fields_within inner k f bs ≡ Ok rest
-  unfolding fields_within
-  fields_complete c k f bs rest h (body, t, j, s, e) =
-      let l : length (body ++ (t ++ rest)) ≤ k = subst (λ z. length z ≤ k) e h in
-      let i = pass c k f body (t ++ rest) j l in
-      ap (fields_within inner k f) e ∙ i.2 ∙ at_end t f rest s i.0 i.1
-
-  -- more steps than bytes change nothing
-  pub enough : Sound → Complete → Faults → (k m f : ℕ) (bs : List ℕ) → length bs ≤ k → length bs ≤ m → fields_within inner k f bs ≡ fields_within inner m f bs
-  enough s c d k m f bs h l = same_answer _ _ (fields_sound s k f bs h) (λ rest x. fields_complete c m f bs rest l x) (λ e x. fields_faulty c d m f bs e l x)
+    pub fields_faulty : Faults → (f : ℕ) (bs : List ℕ) (e : DecodeError) → FieldsFault f bs e → fields_at inner f bs ≡ Err e
+    fields_faulty d f bs e (body, rest, j, is, x) = ap (fields_at inner f) is ∙ pass f body rest j ∙ at_fault d f rest e x
 
 pub group_sound : (d : ℕ) → Sound (group_at d) (Group d) (GroupFault d)
 unfolding group_at Group GroupFault
 group_sound zero f bs = record { holds = refl }
-group_sound (suc d) f bs = agree_weaker (fields_sound (group_at d) (Group d) (GroupFault d) (group_sound d) (length bs) f bs (omega arith))
+group_sound (suc d) f bs = agree_weaker (fields_sound (group_at d) (Group d) (GroupFault d) (group_sound d) f bs)
     (λ rest x. (x.0 ++ x.1, (x.0, x.1, x.2, x.3, refl), x.4 ∙ sym (append_assoc x.0 x.1 rest)))
     (λ e x. x)
 
@@ -271,12 +293,12 @@ pub group_complete : (d : ℕ) → Complete (group_at d) (Group d) (GroupFault d
 unfolding group_at Group
 group_complete zero f p rest h = absurd h
 group_complete (suc d) f p rest (body, t, j, s, e) =
-    fields_complete (group_at d) (Group d) (GroupFault d) (group_complete d) (length (p ++ rest)) f (p ++ rest) rest (omega arith) (body, t, j, s, ap (λ z. z ++ rest) e ∙ append_assoc body t rest)
+    fields_complete (group_at d) (Group d) (GroupFault d) (group_sound d) (group_complete d) f (p ++ rest) rest (body, t, j, s, ap (λ z. z ++ rest) e ∙ append_assoc body t rest)
 
 pub group_faulty : (d : ℕ) → Faults (group_at d) (Group d) (GroupFault d)
 unfolding group_at GroupFault
 group_faulty zero f bs e h = ap (λ x. Err x) (sym h)
-group_faulty (suc d) f bs e h = fields_faulty (group_at d) (Group d) (GroupFault d) (group_complete d) (group_faulty d) (length bs) f bs e (omega arith) h
+group_faulty (suc d) f bs e h = fields_faulty (group_at d) (Group d) (GroupFault d) (group_sound d) (group_complete d) (group_faulty d) f bs e h
 
 pub payload_sound : (d f : ℕ) (w : WireType) (bs : List ℕ) → Agrees (skip_at d f w bs) (λ rest. TakesPayload d f w bs rest) (PayloadFault d f w bs)
 payload_sound d f w bs = skip_sound (group_at d) (Group d) (GroupFault d) (group_sound d) f w bs
@@ -287,25 +309,24 @@ payload_complete d f w p rest h = skip_complete (group_at d) (Group d) (GroupFau
 pub payload_faulty : (d f : ℕ) (w : WireType) (bs : List ℕ) (e : DecodeError) → PayloadFault d f w bs e → skip_at d f w bs ≡ Err e
 payload_faulty d f w bs e h = skip_faulty (group_at d) (Group d) (GroupFault d) (group_faulty d) f w bs e h
 
--- ---- what is read leaves less
-pub tag_falls : (bs : List ℕ) (t : ℕ × WireType × List ℕ) → tag_at bs ≡ Ok t → length t.2 < length bs
-tag_falls bs t e = let u = agree_ok (tag_at bs) t (tag_sound bs) e in omega (arith, tag_some u.0 t.0 t.1 u.1, ap length u.2, length-append u.0 t.2)
-
 pub skip_falls : (d f : ℕ) (w : WireType) (bs rest : List ℕ) → skip_at d f w bs ≡ Ok rest → length rest ≤ length bs
 skip_falls d f w bs rest e = let u = agree_ok (skip_at d f w bs) rest (payload_sound d f w bs) e in omega (arith, ap length u.2, length-append u.0 rest)
 
--- ---- a group, with no count of steps
-cond_same : {A : Type 0} (b : Bool) (x y q : A) → y ≡ q → (if b then x else y) ≡ (if b then x else q)
-cond_same b x y q e = ap (λ z. if b then x else z) e
+-- ---- a group, a tag at a time
+step_is : (go : List ℕ → Result (List ℕ) DecodeError) (b : Bool) (x r : Result (List ℕ) DecodeError) → step_then (λ _. go) (if b then ends x else passed r) ≡ (if b then x else (r >>= go))
+step_is go true x r = refl
+step_is go false x (Ok rest) = refl
+step_is go false x (Err e) = refl
+
+group_by : (d f : ℕ) (bs : List ℕ) (r : Result (ℕ × WireType × List ℕ) DecodeError) → tag_at bs ≡ r → group_at (suc d) f bs ≡ (r >>= group_step d f)
+unfolding group_at
+group_by d f bs (Ok t) e =
+    fields_turn (group_at d) (Group d) (GroupFault d) (group_sound d) f bs (Ok t) e
+    ∙ step_is (fields_at (group_at d) f) (is_end t.1) (if t.0 == f then Ok t.2 else Err (InvalidEndGroup t.0)) (skip_at d t.0 t.1 t.2)
+group_by d f bs (Err x) e = fields_turn (group_at d) (Group d) (GroupFault d) (group_sound d) f bs (Err x) e
 
 pub group_is : (d f : ℕ) (bs : List ℕ) → group_at (suc d) f bs ≡ (tag_at bs >>= group_step d f)
-unfolding group_at fields_within
-group_is d f bs =
-    let enough_for : (k m : ℕ) (cs : List ℕ) → length cs ≤ k → length cs ≤ m → fields_within (group_at d) k f cs ≡ fields_within (group_at d) m f cs =
-    (λ k m cs h l. enough (group_at d) (Group d) (GroupFault d) (group_sound d) (group_complete d) (group_faulty d) k m f cs h l) in
-    enough_for (length bs) (suc (length bs)) bs (omega arith) (omega arith) ∙
-    bind_same (tag_at bs) _ _ (λ t e. cond_same (is_end t.1) _ _ _
-    (bind_same (skip_at d t.0 t.1 t.2) _ _ (λ mid q. enough_for (length bs) (length mid) mid (omega (arith, tag_falls bs t e, skip_falls d t.0 t.1 t.2 mid q)) (omega arith))))
+group_is d f bs = group_by d f bs (tag_at bs) refl
 
 -- ---- the loop over the fields of a group
 pub group_limit : (d f : ℕ) (bs : List ℕ) → d ≡ 0 → group_at d f bs ≡ Err RecursionLimitExceeded

@@ -52,14 +52,14 @@ abbrev refused : DecodeError → Result (List ℕ) DecodeError
 refused e = Err e
 
 -- the length stands there, and passes the end
-text_cut : (n : ℕ) (bs mid : List ℕ) → varint_at bs ≡ Ok (n, mid) → length mid < n → past_no_delimited bs ≡ mid
+delimited_cut : (n : ℕ) (bs mid : List ℕ) → varint_at bs ≡ Ok (n, mid) → length mid < n → past_no_delimited bs ≡ mid
 unfolding past_no_delimited
-text_cut n bs mid v h = rw (past_no_delimited, v, lt-ltb (length mid) n h) refl
+delimited_cut n bs mid v h = rw (past_no_delimited, v, lt-ltb (length mid) n h) refl
 
 -- the bytes stand there
-text_whole : (n : ℕ) (bs mid : List ℕ) → varint_at bs ≡ Ok (n, mid) → n ≤ length mid → past_no_delimited bs ≡ drop n mid
+delimited_whole : (n : ℕ) (bs mid : List ℕ) → varint_at bs ≡ Ok (n, mid) → n ≤ length mid → past_no_delimited bs ≡ drop n mid
 unfolding past_no_delimited
-text_whole n bs mid v h = rw (past_no_delimited, v, le-ltb (length mid) n h) refl
+delimited_whole n bs mid v h = rw (past_no_delimited, v, le-ltb (length mid) n h) refl
 
 taken_whole : (n : ℕ) (mid p new : List ℕ) → taken n mid ≡ Ok (p, new) → (n ≤ length mid) × (new ≡ drop n mid)
 taken_whole n mid p new e =
@@ -85,21 +85,21 @@ left_read (Err d) past new e = (λ _. e, subst (λ z. IsTailOf z new) e (tail_wh
 
 -- the bytes were there, and were passed over
 pub left_passed : {X : Type 0} (r : Result X DecodeError) (n : ℕ) (bs mid part new : List ℕ) → varint_at bs ≡ Ok (n, mid) → IsFrontOf part n mid → new ≡ drop n mid → LeavesUnlessFull r (past_no_delimited bs) new
-left_passed r n bs mid part new v f e = left_read r (past_no_delimited bs) new (e ∙ sym (text_whole n bs mid v f.fits))
+left_passed r n bs mid part new v f e = left_read r (past_no_delimited bs) new (e ∙ sym (delimited_whole n bs mid v f.fits))
 
 -- the bytes were taken
 pub left_taken : {X : Type 0} (r : Result X DecodeError) (n : ℕ) (bs mid p new : List ℕ) → varint_at bs ≡ Ok (n, mid) → taken n mid ≡ Ok (p, new) → LeavesUnlessFull r (past_no_delimited bs) new
-left_taken r n bs mid p new v e = let h = taken_whole n mid p new e in left_read r (past_no_delimited bs) new (h.1 ∙ sym (text_whole n bs mid v h.0))
+left_taken r n bs mid p new v e = let h = taken_whole n mid p new e in left_read r (past_no_delimited bs) new (h.1 ∙ sym (delimited_whole n bs mid v h.0))
 
 -- the bytes were not taken
 left_err : (d : DecodeError) (n : ℕ) (bs mid new : List ℕ) → varint_at bs ≡ Ok (n, mid) → (d ≢ OutOfMemory → taken n mid ≡ Err d) → (length mid < n → new ≡ mid) → IsTailOf (drop n mid) new →
     (d ≢ OutOfMemory → new ≡ past_no_delimited bs) × IsTailOf (past_no_delimited bs) new
 unfolding taken
 left_err d n bs mid new v t short within = elim (cases_lt (length mid) n) [
-  | inl cut ↦ (let e : new ≡ past_no_delimited bs = short cut ∙ sym (text_cut n bs mid v cut) in (λ _. e, subst (λ z. IsTailOf z new) e (tail_whole new)))
+  | inl cut ↦ (let e : new ≡ past_no_delimited bs = short cut ∙ sym (delimited_cut n bs mid v cut) in (λ _. e, subst (λ z. IsTailOf z new) e (tail_whole new)))
   | inr whole ↦ (
     λ no. absurd (let k : good (take n mid, drop n mid) ≡ bad d = sym (rw (le-ltb (length mid) n whole) refl) ∙ t no in cc),
-    subst (λ z. IsTailOf z new) (sym (text_whole n bs mid v whole)) within,
+    subst (λ z. IsTailOf z new) (sym (delimited_whole n bs mid v whole)) within,
   )
 ]
 
@@ -137,7 +137,7 @@ pub left_behind_length : (r : Result (Unit {0}) DecodeError) (n : ℕ) (bs mid n
 unfolding past
 left_behind_length (Ok x) n bs mid new v h short = tt
 left_behind_length (Err d) n bs mid new v h short = elim (cases_lt (length mid) n) [
-  | inl cut ↦ short cut ∙ sym (text_cut n bs mid v cut)
+  | inl cut ↦ short cut ∙ sym (delimited_cut n bs mid v cut)
   | inr whole ↦ absurd (let k : passed (drop n mid) ≡ refused d = sym (rw (le-ltb (length mid) n whole) refl) ∙ h in cc)
 ]
 
@@ -150,9 +150,9 @@ pub left_of_length : {r : Result (Unit {0}) DecodeError} {e d : DecodeError} →
 unfolding past_no_payload past_no_delimited
 left_of_length is w bs new k v h = rw (is, k) (h ∙ sym (rw (past_no_delimited, v) refl))
 
-pub left_of_text : (r : Result (Unit {0}) DecodeError) (w : WireType) (bs new : List ℕ) → w ≡ LengthDelimited → OnErr r (new ≡ past_no_delimited bs) → OnErr r (new ≡ past_no_payload w bs)
+pub left_of_delimited : (r : Result (Unit {0}) DecodeError) (w : WireType) (bs new : List ℕ) → w ≡ LengthDelimited → OnErr r (new ≡ past_no_delimited bs) → OnErr r (new ≡ past_no_payload w bs)
 unfolding past_no_payload
-left_of_text r w bs new k h = rw k h
+left_of_delimited r w bs new k h = rw k h
 
 pub left_of_fixed : (r : Result (Unit {0}) DecodeError) (w v : WireType) (bs new : List ℕ) → w ≡ v → past_no_payload v bs ≡ bs → OnErr r (new ≡ bs) → OnErr r (new ≡ past_no_payload w bs)
 left_of_fixed r w v bs new k is h = rw (k, is) h
@@ -185,11 +185,11 @@ pub no_tag : (bs : List ℕ) (n : ℕ) (rest : List ℕ) → TakesVarint bs n re
 unfolding past_no_tag
 no_tag bs n rest h = rw (past_no_tag, varint_taken bs n rest h) refl
 
-pub no_text_cut : (bs : List ℕ) (n : ℕ) (rest : List ℕ) → TakesVarint bs n rest → length rest < n → past_no_delimited bs ≡ rest
-no_text_cut bs n rest h few = text_cut n bs rest (varint_taken bs n rest h) few
+pub no_delimited_cut : (bs : List ℕ) (n : ℕ) (rest : List ℕ) → TakesVarint bs n rest → length rest < n → past_no_delimited bs ≡ rest
+no_delimited_cut bs n rest h few = delimited_cut n bs rest (varint_taken bs n rest h) few
 
-pub no_text_whole : (bs : List ℕ) (n : ℕ) (rest : List ℕ) → TakesVarint bs n rest → n ≤ length rest → past_no_delimited bs ≡ drop n rest
-no_text_whole bs n rest h some = text_whole n bs rest (varint_taken bs n rest h) some
+pub no_delimited_whole : (bs : List ℕ) (n : ℕ) (rest : List ℕ) → TakesVarint bs n rest → n ≤ length rest → past_no_delimited bs ≡ drop n rest
+no_delimited_whole bs n rest h some = delimited_whole n bs rest (varint_taken bs n rest h) some
 
 pub no_payload : (bs : List ℕ) → (past_no_payload Varint bs ≡ drop 10 bs) × (past_no_payload LengthDelimited bs ≡ past_no_delimited bs)
 unfolding past_no_payload past_no_varint

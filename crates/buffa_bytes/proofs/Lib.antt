@@ -1,6 +1,7 @@
 pub mod DigitLemmas
 pub mod ShortestLemmas
 pub mod StepLemmas
+pub mod ScanLemmas
 pub mod VarintLemmas
 pub mod FieldLemmas
 pub mod DelimitedLemmas

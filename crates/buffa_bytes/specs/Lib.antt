@@ -8,6 +8,7 @@ pub mod Written
 pub mod Varint
 pub mod Join
 pub mod Number
+pub mod Scan
 pub mod Field
 pub mod Reading
 pub mod Left

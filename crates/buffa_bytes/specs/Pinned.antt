@@ -30,11 +30,11 @@ pub record AnswerIsPinnedUnlessFull (X Y Z : Type 0) : Type 0 where
 -- Of an encoding that is written one encoding stands in the sink; an encoding that fits is not refused; of a refused
 -- one not all stands, and of two refused writes the one begins the other.
 pub record WriteIsPinned (T : Type 0) : Type 0 where
-  pub one : (x y : T) (old text a b : List ℕ) → Writes (Ok x) old text a → Writes (Ok y) old text b → a ≡ b
-  pub fits : (e : EncodeError) (room left : ℕ) (text : List ℕ) → length text ≤ room → UsesRoom {T = T} (Err e) room text left → ⊥
-  pub error : (e : EncodeError) (old text new : List ℕ) → Writes {T = T} (Err e) old text new → e ≡ encode.OutOfMemory
-  pub short : (e : EncodeError) (old text new : List ℕ) → Writes {T = T} (Err e) old text new → length new < length old + length text
-  pub fronts : (d e : EncodeError) (old text a b : List ℕ) → length a ≤ length b → Writes {T = T} (Err d) old text a → Writes {T = T} (Err e) old text b → a ≡ take (length a) b
+  pub one : (x y : T) (old encoding a b : List ℕ) → Writes (Ok x) old encoding a → Writes (Ok y) old encoding b → a ≡ b
+  pub fits : (e : EncodeError) (room left : ℕ) (encoding : List ℕ) → length encoding ≤ room → UsesRoom {T = T} (Err e) room encoding left → ⊥
+  pub error : (e : EncodeError) (old encoding new : List ℕ) → Writes {T = T} (Err e) old encoding new → e ≡ encode.OutOfMemory
+  pub short : (e : EncodeError) (old encoding new : List ℕ) → Writes {T = T} (Err e) old encoding new → length new < length old + length encoding
+  pub fronts : (d e : EncodeError) (old encoding a b : List ℕ) → length a ≤ length b → Writes {T = T} (Err d) old encoding a → Writes {T = T} (Err e) old encoding b → a ≡ take (length a) b
 
 -- Of two chunks of the same bytes the one begins the other, and none is empty while bytes are left; fronts of one length are one.
 pub record ChunkIsPinned : Type 0 where

@@ -2,6 +2,8 @@
 use Rattle.std.specs.Prelude.{ℕ, zero, suc, ◌+◌, ◌*◌, ◌/◌, ◌%◌, ◌^◌, ◌==◌, nat_lt, Bool, true, false, List, [], ◌∷◌, length, take, drop, None, Some, Result, Ok, Err, if◌then◌else◌}
 use Rattle.buffa_bytes.specs.WireType.{wire_kind, same_wire}
 use Rattle.buffa_bytes.specs.Gives.{◌>>=◌}
+use Rattle.buffa_bytes.specs.Scan.{Scanned, scan}
+use Rattle.buffa_bytes.specs.Scan.Scanned.{ends, goes}
 use Rattle.buffa_bytes.specs.declared.wire_type.WireType.{WireType}
 use Rattle.buffa_bytes.specs.declared.wire_type.WireType.TheVariants.{Varint, Fixed64, LengthDelimited, StartGroup, EndGroup, Fixed32}
 use Rattle.buffa_bytes.specs.declared.error.DecodeError.{DecodeError}
@@ -59,19 +61,24 @@ abbrev pub is_end : WireType → Bool
 is_end EndGroup = true
 is_end _ = false
 
--- what follows the fields and the end tag of group f; the second number bounds the steps
-unfoldable pub fields_within : (ℕ → List ℕ → Result (List ℕ) DecodeError) → ℕ → ℕ → List ℕ → Result (List ℕ) DecodeError
-fields_within inner zero f bs = Err UnexpectedEof
-fields_within inner (suc k) f bs = do
-  t ← tag_at bs
-  if is_end t.1 then (if t.0 == f then Ok t.2 else Err (InvalidEndGroup t.0)) else (do
-    rest ← skip_by inner t.0 t.1 t.2
-    fields_within inner k f rest)
+-- what is behind a payload is scanned next
+abbrev pub passed : Result (List ℕ) DecodeError → Scanned (Unit {0}) (Result (List ℕ) DecodeError)
+passed (Ok rest) = goes tt rest (λ r. r)
+passed (Err e) = ends (Err e)
 
--- the same, where groups are nested at most d deep; each field has a tag, so the bytes bound the steps
+-- a tag in group f: its end tag ends it, and any other field's payload is passed
+abbrev pub fields_step : (ℕ → List ℕ → Result (List ℕ) DecodeError) → ℕ → Result (ℕ × WireType × List ℕ) DecodeError → Scanned (Unit {0}) (Result (List ℕ) DecodeError)
+fields_step inner f (Ok t) = if is_end t.1 then ends (if t.0 == f then Ok t.2 else Err (InvalidEndGroup t.0)) else passed (skip_by inner t.0 t.1 t.2)
+fields_step inner f (Err e) = ends (Err e)
+
+-- what follows the fields and the end tag of group f
+unfoldable pub fields_at : (ℕ → List ℕ → Result (List ℕ) DecodeError) → ℕ → List ℕ → Result (List ℕ) DecodeError
+fields_at inner f bs = scan (λ _ rest. fields_step inner f (tag_at rest)) (Err UnexpectedEof) tt bs
+
+-- the same, where groups are nested at most d deep
 unfoldable pub group_at : ℕ → ℕ → List ℕ → Result (List ℕ) DecodeError
 group_at zero f bs = Err RecursionLimitExceeded
-group_at (suc d) f bs = fields_within (group_at d) (length bs) f bs
+group_at (suc d) f bs = fields_at (group_at d) f bs
 
 -- what follows the payload of a field
 abbrev pub skip_at : ℕ → ℕ → WireType → List ℕ → Result (List ℕ) DecodeError

@@ -10,7 +10,7 @@ use std::marker::Model;
 /// Slices that are read one after another, as if they lay together; empty ones may be among them.
 ///
 /// ```ignore
-/// let parts: [&[u8]; 2] = [&text[..1], &text[1..]];
+/// let parts: [&[u8]; 2] = [&encoding[..1], &encoding[1..]];
 /// let mut pieces = Pieces::new(&parts);
 /// let number = decode_varint(&mut pieces)?; // of 96 and 01: 150
 /// ```

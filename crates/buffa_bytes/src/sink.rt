@@ -8,8 +8,8 @@ use crate::error::EncodeError;
 /// A place that encodings are appended to.
 ///
 /// ```ignore
-/// let mut text = Vec::new(alloc);
-/// encode_string("testing", &mut text)?; // 07 74 65 73 74 69 6E 67
+/// let mut sink = Vec::new(alloc);
+/// encode_string("testing", &mut sink)?; // 07 74 65 73 74 69 6E 67
 /// ```
 pub trait EncodeSink {
     /// The bytes so far.

@@ -4,12 +4,12 @@ use Rattle.std.specs.Option.{option_or}
 use Rattle.std.proofs.lemmas.List.{append-nil}
 use Rattle.buffa_bytes.specs.declared.error.EncodeError.{EncodeError}
 use Rattle.buffa_bytes.specs.declared.error.EncodeError.TheVariants.{OutOfMemory}
-use Rattle.buffa_wire.specs.BudgetLeft.{BudgetLeft, Pays}
+use Rattle.buffa_wire.specs.BudgetLeft.{BudgetLeft, Pays, defaults, minus}
 use Rattle.buffa_wire.specs.Records.{Datum}
-use Rattle.buffa_codec.specs.Reading.{AddsSome, LaterReadingsWin, ReadsAll, ReadsList, elements, full, last_read, minus}
+use Rattle.buffa_codec.specs.Reading.{AddsSome, LaterReadingsWin, ReadsAll, ReadsList, elements, last_read}
 use Rattle.buffa_codec.specs.Pinned.{AreValues, BeginsAlike, EncodingIsPinned, HasAnswer, LeavesOne, OneAnswer, OneList, RefusalIsPinned}
 use Rattle.buffa_codec.specs.Texts.{left_over}
-use Rattle.buffa_codec.proofs.Filtered.{last_read-append}
+use Rattle.buffa_codec.proofs.FilteredLemmas.{last_read-append}
 
 -- ---- one value
 
@@ -31,7 +31,7 @@ module _ {M : Type 0} (one : BudgetLeft → Datum → Option M) (leaves : Budget
         h.4 ∙ ap (λ l. elements packed d (one b d) ++ l) (all_alike b ds h.1 k.1 x y mine other) ∙ sym k.4
 
     pub lists_alike : OneAnswer (ReadsList one leaves packed)
-    lists_alike ds vs ws h k = all_alike full ds vs ws h.0 k.0 h.1 k.1
+    lists_alike ds vs ws h k = all_alike defaults ds vs ws h.0 k.0 h.1 k.1
 
     module _ (made : (b : BudgetLeft) (d : Datum) → leaves b d b) where
       all_there : (b : BudgetLeft) (ds : List Datum) → (vs : List M) × ReadsAll one leaves packed b ds vs b
@@ -39,7 +39,7 @@ module _ {M : Type 0} (one : BudgetLeft → Datum → Option M) (leaves : Budget
       all_there b (d ∷ ds) = let t = all_there b ds in (elements packed d (one b d) ++ t.0, (b, t.0, made b d, t.1, refl))
 
       pub lists_there : HasAnswer (ReadsList one leaves packed)
-      lists_there ds = let t = all_there full ds in (t.0, (full, t.1))
+      lists_there ds = let t = all_there defaults ds in (t.0, (defaults, t.1))
 
   module _ (cost : Datum → BudgetLeft) (spends : (b left : BudgetLeft) (d : Datum) (v : M) → one b d ≡ Some v → leaves b d left → Pays b (cost d) left) where
     pub leaves_one : LeavesOne one leaves
@@ -54,11 +54,11 @@ module _ {M : Type 0} (one : BudgetLeft → Datum → Option M) (leaves : Budget
         (t.0, t.1, t.2, h.4 ∙ ap (λ o. elements packed d o ++ h.1) a.2 ∙ ap (λ l. a.0 ∷ l) t.3 ∙ ap (λ l. l ++ t.0) (sym a.4))
 
     pub begins_alike : BeginsAlike (ReadsList one leaves packed) one cost
-    begins_alike front back vs out a h = let t = begins full front back vs out h.0 a h.1 in (t.0, t.3)
+    begins_alike front back vs out a h = let t = begins defaults front back vs out h.0 a h.1 in (t.0, t.3)
 
     pub one_list : OneList (ReadsList one leaves packed) one cost
     one_list ds vs out a h =
-        let t = begins full ds [] vs out h.0 a (subst (λ l. ReadsAll one leaves packed full l out h.0) (sym (append-nil ds)) h.1) in
+        let t = begins defaults ds [] vs out h.0 a (subst (λ l. ReadsAll one leaves packed defaults l out h.0) (sym (append-nil ds)) h.1) in
         t.3 ∙ ap (λ l. vs ++ l) t.2.0 ∙ append-nil vs
 
 -- ---- refusals

@@ -1,8 +1,7 @@
 -- What the records of a list cost that are read as values.
 use Rattle.std.specs.Prelude.{◌≡◌, List, [], ◌∷◌, Option, Some, None}
-use Rattle.buffa_wire.specs.BudgetLeft.{BudgetLeft, nothing, plus}
+use Rattle.buffa_wire.specs.BudgetLeft.{BudgetLeft, Covers, defaults, nothing, plus}
 use Rattle.buffa_wire.specs.Records.{Datum}
-use Rattle.buffa_codec.specs.Reading.{Covers, full}
 
 -- what a record costs if it is read as a value
 abbrev pub cost_if : {M : Type 0} → BudgetLeft → Option M → BudgetLeft
@@ -15,6 +14,6 @@ Costs one leaves cost b [] total = total ≡ nothing
 Costs one leaves cost b (d ∷ ds) total =
     (mid : BudgetLeft) × (rest : BudgetLeft) × leaves b d mid × Costs one leaves cost mid ds rest × (total ≡ plus (cost_if (cost d) (one b d)) rest)
 
--- however records are read so from a pair of default budgets, they cost no more than the pair
+-- however records are read so from a default budget, they cost no more than it has
 abbrev pub StaysWithin : {M : Type 0} → (BudgetLeft → Datum → Option M) → (BudgetLeft → Datum → BudgetLeft → Type 0) → (Datum → BudgetLeft) → Type 0
-StaysWithin one leaves cost = (ds : List Datum) (total : BudgetLeft) → Costs one leaves cost full ds total → Covers full total
+StaysWithin one leaves cost = (ds : List Datum) (total : BudgetLeft) → Costs one leaves cost defaults ds total → Covers defaults total

@@ -2,9 +2,9 @@
 use Rattle.std.specs.Prelude.{◌≡◌, ◌≢◌, ℕ, List, [], ◌∷◌, ◌++◌, map, Option, Some, Ok, Err}
 use Rattle.buffa_bytes.specs.declared.error.EncodeError.{EncodeError}
 use Rattle.buffa_bytes.specs.declared.error.EncodeError.TheVariants.{OutOfMemory}
-use Rattle.buffa_wire.specs.BudgetLeft.{BudgetLeft}
+use Rattle.buffa_wire.specs.BudgetLeft.{BudgetLeft, defaults, minus}
 use Rattle.buffa_wire.specs.Records.{Datum}
-use Rattle.buffa_codec.specs.Reading.{Adds, AddsSome, AddsValues, Refuses, full, minus}
+use Rattle.buffa_codec.specs.Reading.{Adds, AddsSome, AddsValues, Refuses}
 
 -- records are read as one answer at most
 abbrev pub OneAnswer : {A : Type 0} → (List Datum → A → Type 0) → Type 0
@@ -26,11 +26,11 @@ AreValues {M = M} one cost b (d ∷ ds) vs = (v : M) × (rest : List M) × (one 
 -- up to the first record that is no value a list has one answer
 abbrev pub BeginsAlike : {M : Type 0} → (List Datum → List M → Type 0) → (BudgetLeft → Datum → Option M) → (Datum → BudgetLeft) → Type 0
 BeginsAlike {M = M} reads one cost =
-    (front back : List Datum) (vs out : List M) → AreValues one cost full front vs → reads (front ++ back) out → (rest : List M) × (out ≡ vs ++ rest)
+    (front back : List Datum) (vs out : List M) → AreValues one cost defaults front vs → reads (front ++ back) out → (rest : List M) × (out ≡ vs ++ rest)
 
 -- where all records are values, a list has one answer
 abbrev pub OneList : {M : Type 0} → (List Datum → List M → Type 0) → (BudgetLeft → Datum → Option M) → (Datum → BudgetLeft) → Type 0
-OneList {M = M} reads one cost = (ds : List Datum) (vs out : List M) → AreValues one cost full ds vs → reads ds out → out ≡ vs
+OneList {M = M} reads one cost = (ds : List Datum) (vs out : List M) → AreValues one cost defaults ds vs → reads ds out → out ≡ vs
 
 -- memory aside, a value that is written isn't refused, and one that is refused is refused for one reason
 pub record RefusalIsPinned (T : Type 0) (refusal : Option EncodeError) : Type 0 where

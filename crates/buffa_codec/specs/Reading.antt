@@ -4,14 +4,10 @@ use Rattle.std.specs.Option.{option_or}
 use Rattle.std.specs.Str.{is_utf8}
 use Rattle.std.specs.List.{filter_map, last_or}
 use Rattle.buffa_wire.specs.Records.{Datum, Held, bytes}
-use Rattle.buffa_wire.specs.BudgetLeft.{BudgetLeft, PaysAtMost}
+use Rattle.buffa_wire.specs.BudgetLeft.{BudgetLeft, Covers, PaysAtMost, defaults, minus}
 use Rattle.buffa_wire.specs.declared.context.DecodeContext.{DecodeContext}
 use Rattle.buffa_bytes.specs.declared.error.EncodeError.{EncodeError}
 use Rattle.buffa_bytes.specs.declared.error.EncodeError.TheVariants.{OutOfMemory}
-
--- what is read with where nothing else is said
-abbrev pub full : BudgetLeft
-full = record { unknown = 1000000; memory = 268435456 }
 
 -- what the last record is read as that is read at all
 abbrev pub last_read : {M : Type 0} → (Datum → Option M) → List Datum → Option M
@@ -101,9 +97,9 @@ ReadsAll one leaves packed b [] vs left = (vs ≡ []) × (left ≡ b)
 ReadsAll {M = M} one leaves packed b (d ∷ ds) vs left =
     (mid : BudgetLeft) × (rest : List M) × leaves b d mid × ReadsAll one leaves packed mid ds rest left × (vs ≡ elements packed d (one b d) ++ rest)
 
--- the same under one pair of default budgets
+-- the same from a default budget
 abbrev pub ReadsList : {M : Type 0} → (BudgetLeft → Datum → Option M) → (BudgetLeft → Datum → BudgetLeft → Type 0) → (List ℕ → List M) → List Datum → List M → Type 0
-ReadsList one leaves packed ds vs = (left : BudgetLeft) × ReadsAll one leaves packed full ds vs left
+ReadsList one leaves packed ds vs = (left : BudgetLeft) × ReadsAll one leaves packed defaults ds vs left
 
 -- of one value: records and then more records are read as the later ones are, or where those are read as nothing, as
 -- the earlier ones
@@ -119,14 +115,6 @@ ReadingsJoin {M = M} reads =
 -- records are read alike
 abbrev pub ReadAlike : {A : Type 0} → (List Datum → A → Type 0) → (List Datum → A → Type 0) → Type 0
 ReadAlike {A = A} reads also = (s : List Datum) (out : A) → reads s out ↔ also s out
-
--- one budget has room for what another is
-abbrev pub Covers : BudgetLeft → BudgetLeft → Type 0
-Covers b c = (c.unknown ≤ b.unknown) × (c.memory ≤ b.memory)
-
--- what is left of a budget
-abbrev pub minus : BudgetLeft → BudgetLeft → BudgetLeft
-minus b c = record { unknown = b.unknown - c.unknown; memory = b.memory - c.memory }
 
 -- the records, one after the other, cost no more than what is left
 abbrev pub CoversAll : (Datum → BudgetLeft) → BudgetLeft → List Datum → Type 0

@@ -5,8 +5,8 @@ use Rattle.std.proofs.Common.{sym, ◌∙◌, ap, subst, arith}
 use Rattle.buffa_wire.specs.Records.{Datum, bytes}
 use Rattle.std.proofs.lemmas.List.{append-nil}
 use Rattle.std.specs.Str.{is_utf8}
-use Rattle.buffa_wire.specs.BudgetLeft.{BudgetLeft, Pays, nothing}
-use Rattle.buffa_codec.specs.Reading.{ReadsAll, Covers, CoversAll, minus, full, Each, elements, joined, last_read, packed_record, string_held}
+use Rattle.buffa_wire.specs.BudgetLeft.{BudgetLeft, Covers, Pays, defaults, minus, nothing}
+use Rattle.buffa_codec.specs.Reading.{ReadsAll, CoversAll, Each, elements, joined, last_read, packed_record, string_held}
 
 pub minus_nothing : (b : BudgetLeft) → b ≡ minus b nothing
 minus_nothing b = simp sub-zero
@@ -14,9 +14,9 @@ minus_nothing b = simp sub-zero
 -- what is left is what was there less the need
 pub left_over : (b need left : BudgetLeft) → Pays b need left → left ≡ minus b need
 left_over b need left h =
-    let slots : b.unknown - need.unknown ≡ left.unknown = omega (arith, h.0) in
+    let unknown : b.unknown - need.unknown ≡ left.unknown = omega (arith, h.0) in
     let units : b.memory - need.memory ≡ left.memory = omega (arith, h.1) in
-    rw (slots, units) refl
+    rw (unknown, units) refl
 
 -- reading that spends nothing
 pub pays_nothing : (b left : BudgetLeft) → left ≡ b → Pays b nothing left
@@ -57,8 +57,8 @@ module _ {M : Type 0} (fits : M → Type 0) (one : BudgetLeft → Datum → Opti
   unpacks_all [] f = unpacks_none
   unpacks_all (v ∷ vs) f = unpacks v (joined encoding vs) f.0 ∙ ap (λ l. back v ∷ l) (unpacks_all vs f.1)
 
-  pub packed_back : (vs out : List M) (left : BudgetLeft) → Each fits vs → ReadsAll one leaves packed full (packed_record encoding vs) out left → out ≡ map back vs
+  pub packed_back : (vs out : List M) (left : BudgetLeft) → Each fits vs → ReadsAll one leaves packed defaults (packed_record encoding vs) out left → out ≡ map back vs
   packed_back [] out left f h = h.0
   packed_back (v ∷ vs) out left f h =
-      h.4 ∙ ap (λ o. elements packed (bytes (joined encoding (v ∷ vs))) o ++ h.1) (unread full (joined encoding (v ∷ vs)))
+      h.4 ∙ ap (λ o. elements packed (bytes (joined encoding (v ∷ vs))) o ++ h.1) (unread defaults (joined encoding (v ∷ vs)))
       ∙ ap (λ l. l ++ h.1) (unpacks_all (v ∷ vs) f) ∙ ap (λ l. map back (v ∷ vs) ++ l) (h.3.0) ∙ append-nil (map back (v ∷ vs))

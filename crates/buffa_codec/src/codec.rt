@@ -5,12 +5,12 @@ ghost use Rattle.std.specs.Prelude.{OnOk, OnErr, IfOk};
 ghost use Rattle.std.specs.Prelude.{IsOk, ◌+◌, ◌-◌, ◌<◌, ◌≤◌, length, vec_capacity, vec_len};
 ghost use Rattle.buffa_bytes.specs.declared.error.EncodeError.{EncodeError};
 ghost use Rattle.buffa_bytes.specs.Written.{UsesRoom};
-ghost use Rattle.buffa_wire.specs.BudgetLeft.{BudgetLeft, Pays, budget_left};
+ghost use Rattle.buffa_wire.specs.BudgetLeft.{BudgetLeft, Covers, Pays, budget_left, defaults};
 ghost use Rattle.buffa_wire.specs.Records.{Datum, bytes};
 ghost use Rattle.buffa_wire.specs.View.{datum_of};
 ghost use Rattle.buffa_codec.specs.Sub.{sub, tagged};
-ghost use Rattle.buffa_codec.specs.Reading.{Adds, AddsSome, AddsSomeValues, AddsValues, Covers, KeepsPlaces, LeavesIn, Refuses};
-ghost use Rattle.buffa_codec.specs.Reading.{SpendsIn, UsesPlaces, full, one_in};
+ghost use Rattle.buffa_codec.specs.Reading.{Adds, AddsSome, AddsSomeValues, AddsValues, KeepsPlaces, LeavesIn, Refuses};
+ghost use Rattle.buffa_codec.specs.Reading.{SpendsIn, UsesPlaces, one_in};
 
 use buffa_wire::{
     Blank, DecodeContext, EncodeError, UnknownField, UnknownFieldData, UnknownFields,
@@ -187,7 +187,7 @@ pub trait SingularCodec {
     /// A record whose reading takes memory.
     ghost takes: { Datum → Type 0 };
 
-    /// Reads a record under a pair of default budgets, 100 levels deep.
+    /// Reads a record under a default budget, 100 levels deep.
     ///
     /// # Errors
     /// Where memory runs out; never at a record that is of no use to the codec.
@@ -199,7 +199,7 @@ pub trait SingularCodec {
         alloc: Global,
         payload: &UnknownFieldData,
     ) -> Result<Option<Self::Value>, AllocError>
-        ensures reads { IfOk result (λ o. option_map Self.Value.meaning o ≡ one 100 full (datum_of payload.now)) }
+        ensures reads { IfOk result (λ o. option_map Self.Value.meaning o ≡ one 100 defaults (datum_of payload.now)) }
         ensures always { never_fails → IsOk result }
         ensures full { OnErr result (takes (datum_of payload.now)) };
 

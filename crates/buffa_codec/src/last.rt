@@ -1,9 +1,9 @@
 //! Codecs of one value: the last record that is read at all.
 
 ghost use Rattle.std.specs.Prelude.{◌≡◌, List, [], ◌∷◌, Option, Some, None, option_map};
-ghost use Rattle.buffa_wire.specs.BudgetLeft.{BudgetLeft};
+ghost use Rattle.buffa_wire.specs.BudgetLeft.{BudgetLeft, Covers, defaults};
 ghost use Rattle.buffa_wire.specs.Records.{Datum};
-ghost use Rattle.buffa_codec.specs.Reading.{Covers, HasLast, full, last_read};
+ghost use Rattle.buffa_codec.specs.Reading.{HasLast, last_read};
 ghost use Rattle.buffa_codec.specs.Texts.{last_of_one};
 
 use crate::codec::{ExtensionCodec, SingularCodec, push_record};
@@ -26,7 +26,7 @@ pub trait LastWins: SingularCodec {
     ghost made: { (b : BudgetLeft) (d : Datum) → Self.leaves 100 b d b };
 
     /// The record of a value costs no more than there is.
-    ghost covered: { (v : Self.Value.Meaning) → Covers full (Self.cost (Self.datum v)) };
+    ghost covered: { (v : Self.Value.Meaning) → Covers defaults (Self.cost (Self.datum v)) };
 }
 
 impl<C: LastWins> ExtensionCodec for C {
@@ -42,7 +42,7 @@ impl<C: LastWins> ExtensionCodec for C {
 
     ghost answer = { option_map C.Value.meaning };
 
-    ghost reads = { λ ds o. o ≡ last_read (C.one 100 full) ds };
+    ghost reads = { λ ds o. o ≡ last_read (C.one 100 defaults) ds };
 
     ghost recs = { λ v. C.datum v ∷ [] };
 
@@ -58,7 +58,7 @@ impl<C: LastWins> ExtensionCodec for C {
 
     ghost in_room = { C.made_free };
 
-    ghost takes = { HasLast C.takes (C.one 100 full) };
+    ghost takes = { HasLast C.takes (C.one 100 defaults) };
 
     fn decode(
         alloc: Global,
@@ -91,6 +91,6 @@ impl<C: LastWins> ExtensionCodec for C {
     }
 
     ghost reads_back = { λ v o f n h.
-        last_of_one (C.one 100 full) (C.datum v) (C.back v) o
-        (C.SingularCodec.reads_datum v full f n (C.LastWins.covered v)) h };
+        last_of_one (C.one 100 defaults) (C.datum v) (C.back v) o
+        (C.SingularCodec.reads_datum v defaults f n (C.LastWins.covered v)) h };
 }

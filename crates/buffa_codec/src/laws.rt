@@ -11,7 +11,7 @@ ghost use Rattle.buffa_bytes.specs.Scalars.{sfixed64_of, sint32_of, sint64_of, u
 ghost use Rattle.buffa_bytes.specs.Scalars.{bool_encoding, fixed32_encoding, fixed64_encoding, int32_encoding, int64_encoding};
 ghost use Rattle.buffa_bytes.specs.Scalars.{sfixed32_encoding, sfixed64_encoding, sint32_encoding, sint64_encoding, uint32_encoding};
 ghost use Rattle.buffa_bytes.specs.Scalars.{uint64_encoding};
-ghost use Rattle.buffa_wire.specs.BudgetLeft.{BudgetLeft, nothing};
+ghost use Rattle.buffa_wire.specs.BudgetLeft.{BudgetLeft, defaults, nothing};
 ghost use Rattle.buffa_codec.specs.Pinned.{BeginsAlike, EncodingIsPinned, HasAnswer, LeavesOne, OneAnswer, OneList};
 ghost use Rattle.buffa_codec.specs.Pinned.{RefusalIsPinned, UnpackingIsPinned};
 ghost use Rattle.buffa_wire.specs.Enums.{open_number};
@@ -24,7 +24,7 @@ ghost use Rattle.std.specs.Int.{cast_unsigned, from_bool, w32, w64};
 ghost use Rattle.buffa_bytes.specs.Scalars.{zigzag};
 ghost use Rattle.buffa_wire.specs.Records.{varint, fixed32, fixed64};
 ghost use Rattle.buffa_codec.specs.Reading.{LaterReadingsWin, ReadAlike, ReadingsJoin};
-ghost use Rattle.buffa_codec.specs.Reading.{TakesText, bytes_held, full, last_read};
+ghost use Rattle.buffa_codec.specs.Reading.{TakesText, bytes_held, last_read};
 ghost use Rattle.buffa_codec.specs.Reading.{CoversAll, Each, ReadsList, first_refusal, packed_record, string_held};
 ghost use Rattle.buffa_bytes.specs.declared.wire_type.WireType.{WireType};
 ghost use Rattle.buffa_codec.specs.PackedGrammar.{ArePacked};
@@ -49,9 +49,9 @@ pub fn later_readings_win<C: LastWins>()
 /// One value is read of the last record that is read at all; and reading takes memory only for that one.
 pub fn the_last_record_is_read<C: LastWins>()
     ensures reads { (ds : List Datum) (o : Option C.Value.Meaning) → ⟦<C as ExtensionCodec>⟧.reads ds o
-        ↔ (o ≡ last_read (C.one 100 full) ds) }
+        ↔ (o ≡ last_read (C.one 100 defaults) ds) }
     ensures records { (v : C.Value.Meaning) → ⟦<C as ExtensionCodec>⟧.recs v ≡ C.datum v ∷ [] }
-    ensures memory { (ds : List Datum) → ⟦<C as ExtensionCodec>⟧.takes ds ↔ HasLast C.takes (C.one 100 full) ds }
+    ensures memory { (ds : List Datum) → ⟦<C as ExtensionCodec>⟧.takes ds ↔ HasLast C.takes (C.one 100 defaults) ds }
     ensures in_room { (v : C.Value.Meaning) → ⟦<C as ExtensionCodec>⟧.in_room v ↔ C.made_free v }
     ensures holds { (v : C.Value.Meaning) (o : Option C.Value.Meaning) → ⟦<C as ExtensionCodec>⟧.holds v o
         ↔ (o ≡ Some (C.back v)) }
@@ -151,7 +151,7 @@ pub fn records_of_values<C: LastWins, P: PackableCodec>()
     ensures packed { ⟦<PackedRepeated<P> as ExtensionCodec>⟧.recs [] ≡ [] }
 {}
 
-/// However records are read one after the other from a pair of default budgets, those that are read as
+/// However records are read one after the other from a default budget, those that are read as
 /// values cost together no more than the pair.
 pub fn lists_stay_within_a_budget<C: SingularCodec>()
     ensures { StaysWithin (C.one 100) (C.leaves 100) C.cost }
@@ -196,7 +196,7 @@ pub fn enum_records_are_read<E: Enumeration>()
         ≡ option_map (λ k. open_number E.of_number (int32_of k)) (varint_in d) }
     ensures packed { (bs : List ℕ) → ⟦<EnumCodec<E> as SingularCodec>⟧.packed bs
         ≡ map (λ k. open_number E.of_number (int32_of k)) (numbers_in Varint bs) }
-    ensures text { (v : Bool × ℤ) → ⟦<EnumCodec<E> as SingularCodec>⟧.datum v ≡ varint (cast_unsigned w64 v.1) }
+    ensures datum { (v : Bool × ℤ) → ⟦<EnumCodec<E> as SingularCodec>⟧.datum v ≡ varint (cast_unsigned w64 v.1) }
     ensures packed_encoding { (v : Bool × ℤ) → ⟦<EnumCodec<E> as PackableCodec>⟧.packed_encoding v ≡ int32_encoding v.1 }
     ensures back { (v : Bool × ℤ) → ⟦<EnumCodec<E> as SingularCodec>⟧.back v ≡ open_number E.of_number v.1 }
     ensures fits { (v : Bool × ℤ) → ⟦<EnumCodec<E> as SingularCodec>⟧.fits v ↔ FitsSigned w32 v.1 }
@@ -288,7 +288,7 @@ pub fn texts_are_read()
         × ⟦<BytesCodec as SingularCodec>⟧.fits v }
 {}
 
-/// Lists are read of all records of their number, from one pair of default budgets, the packed ones too. They
+/// Lists are read of all records of their number, from one default budget, the packed ones too. They
 /// are written as a record for each value, or all in one where there is a value; and a list holds its values,
 /// each as it is read back. A list is read back of records that are, and that together cost no more than the
 /// budgets; a packed one always.
@@ -302,7 +302,7 @@ pub fn lists_are_read<C: SingularCodec, P: PackableCodec>()
         ≡ first_refusal C.refusal vs }
     ensures written { (vs : List P.Value.Meaning) → ⟦<PackedRepeated<P> as ExtensionCodec>⟧.refusal vs ≡ None }
     ensures normal { (vs : List C.Value.Meaning) → ⟦<Repeated<C> as ExtensionCodec>⟧.normal vs
-        ↔ (Each C.normal vs × CoversAll C.cost full (map C.datum vs)) }
+        ↔ (Each C.normal vs × CoversAll C.cost defaults (map C.datum vs)) }
     ensures always { (vs : List P.Value.Meaning) → ⟦<PackedRepeated<P> as ExtensionCodec>⟧.normal vs }
     ensures holds { (vs os : List C.Value.Meaning) → ⟦<Repeated<C> as ExtensionCodec>⟧.holds vs os
         ↔ (os ≡ map C.back vs) }

@@ -2,9 +2,8 @@
 
 ghost use Rattle.std.specs.Prelude.{◌≡◌, ℕ, map, None, option_map, refl};
 ghost use Rattle.std.proofs.Common.{ap, ◌∙◌};
-ghost use Rattle.buffa_wire.specs.BudgetLeft.{nothing};
+ghost use Rattle.buffa_wire.specs.BudgetLeft.{defaults, nothing};
 ghost use Rattle.buffa_codec.specs.Packed.{numbers_in};
-ghost use Rattle.buffa_codec.specs.Reading.{full};
 ghost use Rattle.buffa_codec.specs.Texts.{covers_nothing, covers_same, pays_nothing, some_of};
 ghost use Rattle.buffa_codec.specs.PackedFacts.{none_unpacked, number_unpacks};
 
@@ -163,7 +162,7 @@ impl<N: Numbered> LastWins for N {
 
     ghost made = { λ b d. refl };
 
-    ghost covered = { λ v. covers_nothing full };
+    ghost covered = { λ v. covers_nothing defaults };
 }
 
 impl<N: Numbered> PackableCodec for N {

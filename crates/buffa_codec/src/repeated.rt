@@ -4,7 +4,8 @@ ghost use Rattle.std.specs.Prelude.{◌≡◌, List, map, OnErr, OnOk, IfErr};
 ghost use Rattle.buffa_wire.specs.Records.{Datum};
 ghost use Rattle.buffa_wire.specs.View.{datum_of};
 ghost use Rattle.buffa_codec.specs.Reading.{AddsRecord, CoversAll, Each, Has, ReadsList, TakesElement};
-ghost use Rattle.buffa_codec.specs.Reading.{first_refusal, full};
+ghost use Rattle.buffa_codec.specs.Reading.{first_refusal};
+ghost use Rattle.buffa_wire.specs.BudgetLeft.{defaults};
 ghost use Rattle.buffa_codec.specs.Texts.{list_back};
 
 use crate::codec::{ExtensionCodec, SingularCodec};
@@ -45,7 +46,7 @@ impl<C: SingularCodec> ExtensionCodec for Repeated<C> {
 
     ghost fits = { Each C.fits };
 
-    ghost normal = { λ vs. Each C.normal vs × CoversAll C.cost full (map C.datum vs) };
+    ghost normal = { λ vs. Each C.normal vs × CoversAll C.cost defaults (map C.datum vs) };
 
     ghost holds = { λ v o. o ≡ map C.back v };
 
@@ -87,7 +88,7 @@ impl<C: SingularCodec> ExtensionCodec for Repeated<C> {
 
     ghost reads_back = { λ v o f n h.
         list_back C.fits C.normal C.cost (C.one 100) (C.leaves 100) C.packed C.datum C.back C.SingularCodec.reads_datum
-        C.SingularCodec.spends_cost full v o h.0 f n.0 n.1 h.1 };
+        C.SingularCodec.spends_cost defaults v o h.0 f n.0 n.1 h.1 };
 }
 
 // Puts the values of one record behind the others, and spends what reading it costs.

@@ -3,8 +3,8 @@
 ghost use Rattle.std.specs.Prelude.{◌≡◌, ◌≢◌, ℕ, List, [], None, IfOk, OnErr, refl, string_bytes, true};
 ghost use Rattle.std.specs.Str.{is_utf8};
 ghost use Rattle.buffa_wire.specs.Records.{bytes};
-ghost use Rattle.buffa_wire.specs.BudgetLeft.{nothing};
-ghost use Rattle.buffa_codec.specs.Reading.{HasByte, bytes_held, full, string_held};
+ghost use Rattle.buffa_wire.specs.BudgetLeft.{defaults, nothing};
+ghost use Rattle.buffa_codec.specs.Reading.{HasByte, bytes_held, string_held};
 ghost use Rattle.buffa_codec.specs.Texts.{covers_nothing, covers_same, pays_nothing, string_back};
 
 use crate::codec::SingularCodec;
@@ -103,7 +103,7 @@ impl LastWins for StringCodec {
 
     ghost made = { λ b d. refl };
 
-    ghost covered = { λ v. covers_nothing full };
+    ghost covered = { λ v. covers_nothing defaults };
 }
 
 /// `bytes`: the bytes of a record.
@@ -186,5 +186,5 @@ impl LastWins for BytesCodec {
 
     ghost made = { λ b d. refl };
 
-    ghost covered = { λ v. covers_nothing full };
+    ghost covered = { λ v. covers_nothing defaults };
 }

@@ -1,5 +1,5 @@
-pub mod Histories
-pub mod Replays
-pub mod Merges
+pub mod HistoryLemmas
+pub mod ReplayLemmas
+pub mod MergeLemmas
 pub mod PinLemmas
-pub mod EqualSteps
+pub mod EqualStepLemmas

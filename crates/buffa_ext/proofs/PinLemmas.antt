@@ -4,10 +4,10 @@ use Rattle.std.specs.Option.{option_and_then}
 use Rattle.std.specs.List.{cons_option, filter_map}
 use Rattle.buffa_bytes.specs.declared.error.DecodeError.{DecodeError}
 use Rattle.buffa_bytes.specs.declared.error.DecodeError.TheVariants.{OutOfMemory}
-use Rattle.buffa_wire.specs.BudgetLeft.{BudgetLeft, Lacks, Pays, PaysAtMost, nothing, plus}
+use Rattle.buffa_wire.specs.BudgetLeft.{BudgetLeft, Covers, Lacks, Pays, PaysAtMost, defaults, minus, nothing, plus}
 use Rattle.buffa_wire.specs.Message.{MergeFault}
 use Rattle.buffa_wire.specs.Records.{Datum, varint, fixed32, fixed64, bytes, group}
-use Rattle.buffa_codec.specs.Reading.{Covers, ReadsAll, ReadsList, elements, full, minus, unpacked}
+use Rattle.buffa_codec.specs.Reading.{ReadsAll, ReadsList, elements, unpacked}
 use Rattle.buffa_codec.specs.Texts.{left_over, minus_nothing}
 use Rattle.buffa_ext.specs.Defaults.{IsDefaulted}
 use Rattle.buffa_ext.specs.Messages.{AreMerged, IsEncodingRefused, LeavesOf, MergingStaysWithin, cost_all, merged_all, message_of, encodings_in}
@@ -59,13 +59,13 @@ module _ {X : Type 0} (merged : X → List ℕ → Option X) (cost : List ℕ �
   not_then o ts mid need before left e h p (inl k) = paid_all_not_lacked before need (cost_all cost ts) left p k
   not_then o ts mid need before left e h p (inr k) = some_none mid (sym h ∙ ap (option_and_then (λ w. merged_all merged w ts)) k.0)
 
-  texts_on : (d : Datum) (ds : List Datum) (o : Option (List ℕ)) → held d ≡ o → encodings_in held (d ∷ ds) ≡ cons_option o (encodings_in held ds)
-  texts_on d ds o h = ap (λ z. cons_option z (encodings_in held ds)) h
+  encodings_on : (d : Datum) (ds : List Datum) (o : Option (List ℕ)) → held d ≡ o → encodings_in held (d ∷ ds) ≡ cons_option o (encodings_in held ds)
+  encodings_on d ds o h = ap (λ z. cons_option z (encodings_in held ds)) h
 
   -- what is stuck isn't done
   stuck_not_done : (d : Datum) (ds : List Datum) (old mid : X) (before left : BudgetLeft) → Stuck d old before → Done (d ∷ ds) old before mid left → ⊥
   stuck_not_done d ds old mid before left (t, e, h, fault) done =
-      let k = subst (λ l. AreMerged merged cost l old before mid left) (texts_on d ds (Some t) h) done in
+      let k = subst (λ l. AreMerged merged cost l old before mid left) (encodings_on d ds (Some t) h) done in
       not_then (merged old t) (encodings_in held ds) mid (cost t) before left e k.0 k.1 fault
 
   stuck_from : (d : Datum) (old mid : X) (before left : BudgetLeft) → Done [] old before mid left → Stuck d mid left → Stuck d old before
@@ -75,18 +75,18 @@ module _ {X : Type 0} (merged : X → List ℕ → Option X) (cost : List ℕ �
 
   -- what follows the first record goes on from what it leaves
   module _ (f g : List Datum) (mid mid' : X) (left left' : BudgetLeft) (again : (w : X) (b : BudgetLeft) → Done f w b mid left → Done g w b mid' left' → f ≡ g) where
-    over_text : (o : Option X) (c before : BudgetLeft) → option_and_then (λ w. merged_all merged w (encodings_in held f)) o ≡ Some mid → Pays before (plus c (cost_all cost (encodings_in held f))) left
+    over_encoding : (o : Option X) (c before : BudgetLeft) → option_and_then (λ w. merged_all merged w (encodings_in held f)) o ≡ Some mid → Pays before (plus c (cost_all cost (encodings_in held f))) left
         → option_and_then (λ w. merged_all merged w (encodings_in held g)) o ≡ Some mid' → Pays before (plus c (cost_all cost (encodings_in held g))) left' → f ≡ g
-    over_text None c before h p k q = some_none mid (sym h)
-    over_text (Some w) c before h p k q = again w (minus before c) (h, (omega (arith, p), omega (arith, p))) (k, (omega (arith, q), omega (arith, q)))
+    over_encoding None c before h p k q = some_none mid (sym h)
+    over_encoding (Some w) c before h p k q = again w (minus before c) (h, (omega (arith, p), omega (arith, p))) (k, (omega (arith, q), omega (arith, q)))
 
     over_record : (d : Datum) (o : Option (List ℕ)) (old : X) (before : BudgetLeft) → held d ≡ o → Done (d ∷ f) old before mid left → Done (d ∷ g) old before mid' left' → f ≡ g
     over_record d None old before e h k =
-        again old before (subst (λ l. AreMerged merged cost l old before mid left) (texts_on d f None e) h) (subst (λ l. AreMerged merged cost l old before mid' left') (texts_on d g None e) k)
+        again old before (subst (λ l. AreMerged merged cost l old before mid left) (encodings_on d f None e) h) (subst (λ l. AreMerged merged cost l old before mid' left') (encodings_on d g None e) k)
     over_record d (Some t) old before e h k =
-        let p = subst (λ l. AreMerged merged cost l old before mid left) (texts_on d f (Some t) e) h in
-        let q = subst (λ l. AreMerged merged cost l old before mid' left') (texts_on d g (Some t) e) k in
-        over_text (merged old t) (cost t) before p.0 p.1 q.0 q.1
+        let p = subst (λ l. AreMerged merged cost l old before mid left) (encodings_on d f (Some t) e) h in
+        let q = subst (λ l. AreMerged merged cost l old before mid' left') (encodings_on d g (Some t) e) k in
+        over_encoding (merged old t) (cost t) before p.0 p.1 q.0 q.1
 
   -- merging stops at one record
   one_stop : (f g : List Datum) (d c : Datum) (fb gb : List Datum) (old mid mid' : X) (before left left' : BudgetLeft) → f ++ d ∷ fb ≡ g ++ c ∷ gb
@@ -171,15 +171,15 @@ module _ {X : Type 0} (merged : X → List ℕ → Option X) (cost : List ℕ �
   over_none : (b c mid : BudgetLeft) → Covers b c → PaysAtMost b nothing mid → Covers mid c
   over_none b c mid k p = (omega (arith, k, p), omega (arith, k, p))
 
-  text_step : (b mid : BudgetLeft) (d : Datum) (t : List ℕ) (ts : List (List ℕ)) (o : Option X) → merged blank t ≡ o → encodings_in held (d ∷ []) ≡ t ∷ [] → Covers b (plus (cost t) (cost_all cost ts)) → leaves b d mid
+  encoding_step : (b mid : BudgetLeft) (d : Datum) (t : List ℕ) (ts : List (List ℕ)) (o : Option X) → merged blank t ≡ o → encodings_in held (d ∷ []) ≡ t ∷ [] → Covers b (plus (cost t) (cost_all cost ts)) → leaves b d mid
       → Covers mid (cost_all cost ts) × (elements none d (one b d) ++ values ts ≡ cons_option o (values ts))
-  text_step b mid d t ts (Some v) e same k h =
+  encoding_step b mid d t ts (Some v) e same k h =
       let read = read_by b t (Some v) e (small b (cost t) (cost_all cost ts) k) in
       let left = subst (λ l. LeavesOf (message_of merged cost blank b l) b (cost_all cost l) mid) same h in (
         over_paid b (cost t) (cost_all cost ts) mid k (subst (λ z. LeavesOf z b (plus (cost t) nothing) mid) read left),
         ap (λ l. elements none d (message_of merged cost blank b l) ++ values ts) same ∙ ap (λ z. elements none d z ++ values ts) read,
       )
-  text_step b mid d t ts None e same k h =
+  encoding_step b mid d t ts None e same k h =
       let read = read_by b t None e (small b (cost t) (cost_all cost ts) k) in
       let left = subst (λ l. LeavesOf (message_of merged cost blank b l) b (cost_all cost l) mid) same h in (
         over_most b (cost t) (cost_all cost ts) mid k (subst (λ z. LeavesOf z b (plus (cost t) nothing) mid) read left),
@@ -194,7 +194,7 @@ module _ {X : Type 0} (merged : X → List ℕ → Option X) (cost : List ℕ �
         over_none b (cost_all cost ts) mid k (subst (λ l. LeavesOf (message_of merged cost blank b l) b (cost_all cost l) mid) same h),
         ap (λ l. elements none d (message_of merged cost blank b l) ++ values ts) same ∙ ap (λ l. l ++ values ts) (no_elements X d),
       )
-  step b mid d ts (Some t) e k h = text_step b mid d t ts (merged blank t) refl (ap (λ z. cons_option z []) e) k h
+  step b mid d ts (Some t) e k h = encoding_step b mid d t ts (merged blank t) refl (ap (λ z. cons_option z []) e) k h
 
   list_by : (b left : BudgetLeft) (ds : List Datum) (vs : List X) → Covers b (cost_all cost (encodings_in held ds)) → ReadsAll one leaves none b ds vs left → vs ≡ values (encodings_in held ds)
   list_by b left [] vs k h = h.0
@@ -203,7 +203,7 @@ module _ {X : Type 0} (merged : X → List ℕ → Option X) (cost : List ℕ �
       h.4 ∙ ap (λ l. elements none d (one b d) ++ l) (list_by h.0 left ds h.1 t.0 h.3) ∙ t.1
 
   pub list_is_exact : ListIsExact (ReadsList one leaves none) merged cost blank held
-  list_is_exact ds vs k h = list_by full h.0 ds vs k h.1
+  list_is_exact ds vs k h = list_by defaults h.0 ds vs k h.1
 
 -- ---- defaults
 

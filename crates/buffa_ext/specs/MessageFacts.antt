@@ -9,15 +9,14 @@ use Rattle.buffa_bytes.specs.declared.error.DecodeError.TheVariants.{OutOfMemory
 use Rattle.buffa_bytes.specs.declared.error.EncodeError.{EncodeError}
 use Rattle.buffa_bytes.specs.declared.error.EncodeError.TheVariants.{GroupRefused, MessageTooLarge}
 use Rattle.buffa_bytes.proofs.StepLemmas.{agree_ok}
-use Rattle.buffa_wire.specs.BudgetLeft.{BudgetLeft, Lacks, Pays, PaysAtMost, nothing, plus}
+use Rattle.buffa_wire.specs.BudgetLeft.{BudgetLeft, Covers, Lacks, Pays, PaysAtMost, defaults, nothing, plus}
 use Rattle.buffa_wire.specs.Message.{MergeFault}
 use Rattle.buffa_wire.specs.Parse.{Fits}
 use Rattle.buffa_wire.specs.RecordReading.{list_at}
 use Rattle.buffa_wire.specs.Records.{Datum, group, records_of, records_height}
 use Rattle.buffa_wire.specs.Encoding.{records_encoding, fields_encoding}
 use Rattle.buffa_wire.proofs.LoopLemmas.{list_is_read}
-use Rattle.buffa_wire.proofs.ParseLemmas.{one_reading, text_parses}
-use Rattle.buffa_codec.specs.Reading.{Covers, full}
+use Rattle.buffa_wire.proofs.ParseLemmas.{one_reading, encoding_parses}
 use Rattle.buffa_ext.specs.Messages.{LeavesOf, IsAllMerged, IsAnswer, IsEncodingRefused, MergesRecords, cost_all, group_held, group_of, group_refusal, is_left, merged_all, message_of, or_none, some_there, encoding_refusal, encodings_in, why_refused}
 
 le_yes : (m n : ℕ) → m ≤ n → nat_le m n ≡ true
@@ -55,8 +54,8 @@ left_true b need h =
     let t = both_true (nat_le need.unknown b.unknown) (nat_le need.memory b.memory) h in
     (true_le need.unknown b.unknown t.0, true_le need.memory b.memory t.1)
 
--- the default budgets
-pub is_full : (b : BudgetLeft) → b.unknown ≡ 1000000 → b.memory ≡ 268435456 → b ≡ full
+-- the default budget
+pub is_full : (b : BudgetLeft) → b.unknown ≡ 1000000 → b.memory ≡ 268435456 → b ≡ defaults
 is_full b h k = rw (h, k) refl
 
 some_if : {X : Type 0} (b : Bool) (o : Option X) (v : X) → (if b then o else None) ≡ Some v → b ≡ true
@@ -72,15 +71,15 @@ none_either false o h = refl
 
 plus_assoc : (a b c : BudgetLeft) → plus a (plus b c) ≡ plus (plus a b) c
 plus_assoc a b c =
-    let slots : a.unknown + (b.unknown + c.unknown) ≡ (a.unknown + b.unknown) + c.unknown = omega arith in
+    let unknown : a.unknown + (b.unknown + c.unknown) ≡ (a.unknown + b.unknown) + c.unknown = omega arith in
     let units : a.memory + (b.memory + c.memory) ≡ (a.memory + b.memory) + c.memory = omega arith in
-    rw (slots, units) refl
+    rw (unknown, units) refl
 
 nothing_plus : (a : BudgetLeft) → a ≡ plus nothing a
 nothing_plus a =
-    let slots : 0 + a.unknown ≡ a.unknown = omega arith in
+    let unknown : 0 + a.unknown ≡ a.unknown = omega arith in
     let units : 0 + a.memory ≡ a.memory = omega arith in
-    rw (slots, units) refl
+    rw (unknown, units) refl
 
 there-append : (xs ys : List (List ℕ)) → some_there (xs ++ ys) ≡ (some_there xs || some_there ys)
 there-append [] ys = refl
@@ -97,21 +96,21 @@ module _ {X : Type 0} (merged : X → List ℕ → Option X) (cost : List ℕ �
   message_none blank left (b ∷ bs) e (inl h) = rw (left_no left (cost_all cost (b ∷ bs)) h) refl
   message_none blank left (b ∷ bs) e (inr h) = none_either (is_left left (cost_all cost (b ∷ bs))) (merged_all merged blank (b ∷ bs)) h.0
 
-  no_text : (blank : X) (left : BudgetLeft) (bs : List (List ℕ)) → false ≡ some_there bs → message_of merged cost blank left bs ≡ None
-  no_text blank left [] h = refl
-  no_text blank left (b ∷ bs) h = cc
+  no_encoding : (blank : X) (left : BudgetLeft) (bs : List (List ℕ)) → false ≡ some_there bs → message_of merged cost blank left bs ≡ None
+  no_encoding blank left [] h = refl
+  no_encoding blank left (b ∷ bs) h = cc
 
   -- the answer after merging is the message of the encodings
   pub answers : (blank new : X) (left after : BudgetLeft) (bs : List (List ℕ)) (r : Result Bool DecodeError) (o : Option X)
       → IsAllMerged merged cost bs blank left r new after → IsAnswer r new o → o ≡ message_of merged cost blank left bs
   answers blank new left after bs (Ok true) o m a = a ∙ sym (message_some blank new left after bs (sym m.0) m.1 m.2)
-  answers blank new left after bs (Ok false) o m a = a ∙ sym (no_text blank left bs m.0)
+  answers blank new left after bs (Ok false) o m a = a ∙ sym (no_encoding blank left bs m.0)
   answers blank new left after bs (Err e) o m a = a.0 ∙ sym (message_none blank left bs e (m.1 a.1))
 
   pub leaves : (blank new : X) (left after : BudgetLeft) (bs : List (List ℕ)) (r : Result Bool DecodeError) (o : Option X)
       → IsAllMerged merged cost bs blank left r new after → IsAnswer r new o → LeavesOf (message_of merged cost blank left bs) left (cost_all cost bs) after
   leaves blank new left after bs (Ok true) o m a = subst (λ x. LeavesOf x left (cost_all cost bs) after) (sym (message_some blank new left after bs (sym m.0) m.1 m.2)) m.2
-  leaves blank new left after bs (Ok false) o m a = subst (λ x. LeavesOf x left (cost_all cost bs) after) (sym (no_text blank left bs m.0)) (omega (arith, m.2), omega (arith, m.2), omega (arith, m.2), omega (arith, m.2))
+  leaves blank new left after bs (Ok false) o m a = subst (λ x. LeavesOf x left (cost_all cost bs) after) (sym (no_encoding blank left bs m.0)) (omega (arith, m.2), omega (arith, m.2), omega (arith, m.2), omega (arith, m.2))
   leaves blank new left after bs (Err e) o m a = subst (λ x. LeavesOf x left (cost_all cost bs) after) (sym (message_none blank left bs e (m.1 a.1))) m.0
 
   spent_by : (o : Option X) (b need left : BudgetLeft) → LeavesOf o b need left → Covers b left
@@ -200,10 +199,10 @@ module _ {X : Type 0} (merged : X → List ℕ → Option X) (cost : List ℕ �
   fault_of_one t mid m err (inr h) = inr (alone_too (merged mid t) h.0, h.1)
 
   -- the encoding in one record is refused
-  pub text_refused : (held : Datum → Option (List ℕ)) (takes : Datum → Type 0) (d : Datum) (o : Option (List ℕ)) (mid new : X) (m a : BudgetLeft) (err : DecodeError) → held d ≡ o → encodings_in held (d ∷ []) ≢ []
+  pub encoding_refused : (held : Datum → Option (List ℕ)) (takes : Datum → Type 0) (d : Datum) (o : Option (List ℕ)) (mid new : X) (m a : BudgetLeft) (err : DecodeError) → held d ≡ o → encodings_in held (d ∷ []) ≢ []
       → (err ≡ OutOfMemory → takes d) → IsAllMerged merged cost (encodings_in held (d ∷ [])) mid m (Err err) new a → IsEncodingRefused merged cost held takes d mid m err a
-  text_refused held takes d None mid new m a err e some full k = absurd (some (ap (λ z. cons_option z []) e))
-  text_refused held takes d (Some t) mid new m a err e some full k =
+  encoding_refused held takes d None mid new m a err e some full k = absurd (some (ap (λ z. cons_option z []) e))
+  encoding_refused held takes d (Some t) mid new m a err e some full k =
       let same : encodings_in held (d ∷ []) ≡ t ∷ [] = ap (λ z. cons_option z []) e in
       let q = subst (λ l. IsAllMerged merged cost l mid m (Err err) new a) same k in
       (t, e, (omega (arith, q.0), omega (arith, q.0), omega (arith, q.0), omega (arith, q.0)), full, λ ne. fault_alone t mid m err (q.1 ne))
@@ -265,7 +264,7 @@ group_by : (rs : List (ℕ × Datum)) (r : Result (List (ℕ × Datum)) DecodeEr
     → group_held (group (records_of (or_none r))) ≡ Some (records_encoding rs)
 group_by rs (Ok qs) e f h =
     let read = agree_ok (list_at 100 1000000 (records_encoding rs)) qs (list_is_read 100 1000000 (records_encoding rs)) e in
-    let parse = text_parses (records_of rs) (records_height (records_of rs)) f (omega arith) in
+    let parse = encoding_parses (records_of rs) (records_height (records_of rs)) f (omega arith) in
     ap (λ x. Some (fields_encoding x)) (sym (one_reading (records_encoding rs) (records_height (records_of rs)) 100 (records_of rs) (records_of qs) parse read.0))
 group_by rs (Err g) e f h = some_none (GroupRefused g) h
 

@@ -7,14 +7,13 @@ use Rattle.buffa_bytes.specs.declared.error.DecodeError.{DecodeError}
 use Rattle.buffa_bytes.specs.declared.error.DecodeError.TheVariants.{OutOfMemory}
 use Rattle.buffa_bytes.specs.declared.error.EncodeError.{EncodeError}
 use Rattle.buffa_bytes.specs.declared.error.EncodeError.TheVariants.{GroupRefused, MessageTooLarge}
-use Rattle.buffa_wire.specs.BudgetLeft.{BudgetLeft, Pays, PaysAtMost, nothing, plus}
+use Rattle.buffa_wire.specs.BudgetLeft.{BudgetLeft, Covers, Pays, PaysAtMost, defaults, nothing, plus}
 use Rattle.buffa_wire.specs.Message.{BeginsField, MergeFault}
 use Rattle.buffa_wire.specs.declared.context.DecodeContext.{DecodeContext}
 use Rattle.buffa_wire.specs.Parse.{Fits}
 use Rattle.buffa_wire.specs.Records.{Datum, group, records_of}
 use Rattle.buffa_wire.specs.RecordReading.{list_at}
 use Rattle.buffa_wire.specs.Encoding.{fields_encoding}
-use Rattle.buffa_codec.specs.Reading.{Covers, full}
 
 -- the message's encoding in a group: that of its records
 abbrev pub group_held : Datum → Option (List ℕ)
@@ -46,7 +45,7 @@ message_of merged cost blank left (b ∷ bs) = if is_left left (cost_all cost (b
 
 -- records are read as the message of the encodings in them
 abbrev pub ReadsMessages : {X : Type 0} → (List Datum → Option X → Type 0) → (X → List ℕ → Option X) → (List ℕ → BudgetLeft) → X → (Datum → Option (List ℕ)) → Type 0
-ReadsMessages {X = X} reads merged cost blank held = (ds : List Datum) (o : Option X) → reads ds o ↔ (o ≡ message_of merged cost blank full (encodings_in held ds))
+ReadsMessages {X = X} reads merged cost blank held = (ds : List Datum) (o : Option X) → reads ds o ↔ (o ≡ message_of merged cost blank defaults (encodings_in held ds))
 
 -- reading a message spends its cost, and otherwise no more than that
 abbrev pub LeavesOf : {X : Type 0} → Option X → BudgetLeft → BudgetLeft → BudgetLeft → Type 0
@@ -56,8 +55,8 @@ LeavesOf None before need after = PaysAtMost before need after
 -- what reading the message in one record may leave
 abbrev pub LeavesOfRecord : {X : Type 0} → (X → List ℕ → Option X) → (List ℕ → BudgetLeft) → X → (Datum → Option (List ℕ)) → BudgetLeft → Datum → BudgetLeft → Type 0
 LeavesOfRecord merged cost blank held b d left =
-    let texts = encodings_in held (d ∷ []) in
-    LeavesOf (message_of merged cost blank b texts) b (cost_all cost texts) left
+    let encodings = encodings_in held (d ∷ []) in
+    LeavesOf (message_of merged cost blank b encodings) b (cost_all cost encodings) left
 
 -- there is an encoding
 abbrev pub some_there : List (List ℕ) → Bool
@@ -108,11 +107,11 @@ MergingStaysWithin {X = X} merged cost held takes =
     (ds : List Datum) (old new : X) (before after : BudgetLeft) (r : Result Bool DecodeError) → MergesRecords merged cost held takes ds old before r new after
     → PaysAtMost before (cost_all cost (encodings_in held ds)) after × (IsOk r → Covers before (cost_all cost (encodings_in held ds)))
 
--- a record is such, and those before it are merged into a blank under a pair of default budgets
+-- a record is such, and those before it are merged into a blank under a default budget
 abbrev pub ReachesRecord : {X : Type 0} → (X → List ℕ → Option X) → (List ℕ → BudgetLeft) → X → (Datum → Option (List ℕ)) → (Datum → Type 0) → List Datum → Type 0
 ReachesRecord {X = X} merged cost blank held takes ds =
     (front : List Datum) × (d : Datum) × (back : List Datum) × (mid : X) × (left : BudgetLeft) × (ds ≡ front ++ d ∷ back)
-    × AreMerged merged cost (encodings_in held front) blank full mid left × takes d
+    × AreMerged merged cost (encodings_in held front) blank defaults mid left × takes d
 
 -- what is answered after merging: the message where an encoding was there, and none after a fault
 abbrev pub IsAnswer : {X : Type 0} → Result Bool DecodeError → X → Option X → Type 0
@@ -149,6 +148,6 @@ abbrev pub encoding_refusal : (List ℕ → Option EncodeError) → List ℕ →
 encoding_refusal refusal encoding = if nat_lt (length encoding) (2 ^ 31) then refusal encoding else Some MessageTooLarge
 
 -- a message is read back: its type says so, it isn't too deep, its numbers can be written, and the encodings in its
--- record cost no more than a pair of default budgets
+-- record cost no more than a default budget
 abbrev pub IsReadBack : Type 0 → ℕ → List (ℕ × Datum) → (List ℕ → BudgetLeft) → List (List ℕ) → Type 0
-IsReadBack normal levels records cost texts = (normal × (levels ≤ 100) × Fits (records_of records)) × Covers full (cost_all cost texts)
+IsReadBack normal levels records cost encodings = (normal × (levels ≤ 100) × Fits (records_of records)) × Covers defaults (cost_all cost encodings)

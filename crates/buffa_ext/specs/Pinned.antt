@@ -3,9 +3,8 @@ use Rattle.std.specs.Prelude.{◌≡◌, ◌≢◌, ℕ, Bool, List, [], ◌∷�
 use Rattle.std.specs.List.{filter_map}
 use Rattle.buffa_bytes.specs.declared.error.DecodeError.{DecodeError}
 use Rattle.buffa_bytes.specs.declared.error.DecodeError.TheVariants.{OutOfMemory}
-use Rattle.buffa_wire.specs.BudgetLeft.{BudgetLeft}
+use Rattle.buffa_wire.specs.BudgetLeft.{BudgetLeft, Covers, defaults}
 use Rattle.buffa_wire.specs.Records.{Datum, Held}
-use Rattle.buffa_codec.specs.Reading.{Covers, full}
 use Rattle.buffa_ext.specs.Defaults.{IsDefaulted}
 use Rattle.buffa_ext.specs.Messages.{IsAllMerged, MergesRecords, StopsAt, cost_all, encodings_in}
 use Rattle.buffa_ext.specs.Steps.{IsCleared, IsSet}
@@ -36,7 +35,7 @@ pub record RecordMergeIsPinned {X : Type 0} (merged : X → List ℕ → Option 
 -- where all encodings are covered, a list has the value of each that means one
 abbrev pub ListIsExact : {X : Type 0} → (List Datum → List X → Type 0) → (X → List ℕ → Option X) → (List ℕ → BudgetLeft) → X → (Datum → Option (List ℕ)) → Type 0
 ListIsExact {X = X} reads merged cost blank held =
-    (ds : List Datum) (vs : List X) → Covers full (cost_all cost (encodings_in held ds)) → reads ds vs → vs ≡ filter_map (merged blank) (encodings_in held ds)
+    (ds : List Datum) (vs : List X) → Covers defaults (cost_all cost (encodings_in held ds)) → reads ds vs → vs ≡ filter_map (merged blank) (encodings_in held ds)
 
 -- a value that is read, else declared, else the blank is one, if all that may be declared is one
 abbrev pub DefaultIsPinned : {V M : Type 0} → (List Datum → Option M → Type 0) → (V → M) → M → (Option V → Type 0) → Type 0

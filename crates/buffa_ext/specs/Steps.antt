@@ -35,13 +35,13 @@ after rs [] = rs
 after rs (c ∷ cs) = after (after_one rs c) cs
 
 -- a change that takes memory: a set to some records
-abbrev pub TakesMemory : Change → Type 0
-TakesMemory (set n ds) = ds ≢ []
-TakesMemory (clear n) = ⊥
+abbrev pub ChangeTakesMemory : Change → Type 0
+ChangeTakesMemory (set n ds) = ds ≢ []
+ChangeTakesMemory (clear n) = ⊥
 
 -- the change after so many takes memory
 abbrev pub RefusedAt : ℕ → List Change → Type 0
-RefusedAt k cs = (c : Change) × (rest : List Change) × (drop k cs ≡ c ∷ rest) × TakesMemory c
+RefusedAt k cs = (c : Change) × (rest : List Change) × (drop k cs ≡ c ∷ rest) × ChangeTakesMemory c
 
 -- what a change says of a number, where it says something
 abbrev pub says : ℕ → Change → Option (List Datum)

@@ -8,11 +8,11 @@ ghost use Rattle.buffa_ext.specs.declared.descriptor.Make.{Make};
 ghost use Rattle.buffa_ext.specs.declared.descriptor.NoDefault.{NoDefault};
 ghost use Rattle.buffa_bytes.specs.Pinned.{IsCopied, SameIsOne};
 ghost use Rattle.buffa_bytes.specs.declared.error.EncodeError.TheVariants.{MessageTooLarge};
-ghost use Rattle.buffa_wire.specs.BudgetLeft.{BudgetLeft};
+ghost use Rattle.buffa_wire.specs.BudgetLeft.{BudgetLeft, Covers, defaults};
 ghost use Rattle.buffa_wire.specs.Parse.{Fits};
 ghost use Rattle.buffa_wire.specs.Records.{Datum, bytes as held_bytes, records_of};
 ghost use Rattle.buffa_codec.specs.Pinned.{OneAnswer};
-ghost use Rattle.buffa_codec.specs.Reading.{Covers, HasByte, bytes_held, full};
+ghost use Rattle.buffa_codec.specs.Reading.{HasByte, bytes_held};
 ghost use Rattle.buffa_codec.specs.Sub.{sub};
 ghost use Rattle.buffa_ext.specs.Changes.{SameIsOneChange};
 ghost use Rattle.buffa_ext.specs.Messages.{BeginsFieldIn, IsReadBack, LeavesOfRecord, MergingStaysWithin};
@@ -84,18 +84,18 @@ pub fn last_set_counts()
     ensures clears { ClearsAreOne }
 {}
 
-/// The records that are read as one message cost together no more than a pair of default budgets; and merging
+/// The records that are read as one message cost together no more than a default budget; and merging
 /// records under any budget never spends more than the encodings in them cost together, nor more than was
 /// there.
 pub fn messages_stay_within_a_budget<K: MessageRecord, M: Message>()
     ensures read { (ds : List Datum) (v : M.Meaning) → ⟦<MessageIn<K, M> as ExtensionCodec>⟧.reads ds (Some v)
-        → Covers full (cost_all (M.cost 100) (encodings_in K.held ds)) }
+        → Covers defaults (cost_all (M.cost 100) (encodings_in K.held ds)) }
     ensures merged { MergingStaysWithin (M.merged 100) (M.cost 100) K.held (K.takes 100) }
 {}
 
 /// A message is read of the bytes of all records of bytes of its number, or of the records in all its
 /// groups, merged in order. A value is read back whose type says so, and whose encoding isn't too deep, nor
-/// costs more than the default budgets.
+/// costs more than the default budget.
 pub fn messages_are_read<M: Message>()
     ensures delimited { ReadsMessages ⟦<MessageCodec<M> as ExtensionCodec>⟧.reads (M.merged 100) (M.cost 100)
         M.blank_is bytes_held }
@@ -140,7 +140,7 @@ pub fn message_records_are_read<M: Message>()
         ≡ cost_all (M.cost 100) (encodings_in bytes_held (d ∷ [])) }
     ensures most { (n : ℕ) (d : Datum) → ⟦<MessageCodec<M> as SingularCodec>⟧.most n d
         ≡ cost_all (M.cost n) (encodings_in bytes_held (d ∷ [])) }
-    ensures text { (v : M.Meaning) → ⟦<MessageCodec<M> as SingularCodec>⟧.datum v ≡ held_bytes (M.encoding v) }
+    ensures datum { (v : M.Meaning) → ⟦<MessageCodec<M> as SingularCodec>⟧.datum v ≡ held_bytes (M.encoding v) }
     ensures refusal { (v : M.Meaning) → ⟦<MessageCodec<M> as SingularCodec>⟧.refusal v
         ≡ encoding_refusal (λ t. None) (M.encoding v) }
     ensures fits { (v : M.Meaning) → ⟦<MessageCodec<M> as SingularCodec>⟧.fits v
@@ -162,7 +162,7 @@ pub fn group_records_are_read<M: Message>()
         ≡ cost_all (M.cost 100) (encodings_in group_held (d ∷ [])) }
     ensures most { (n : ℕ) (d : Datum) → ⟦<GroupCodec<M> as SingularCodec>⟧.most n d
         ≡ cost_all (M.cost n) (encodings_in group_held (d ∷ [])) }
-    ensures text { (v : M.Meaning) → ⟦<GroupCodec<M> as SingularCodec>⟧.datum v ≡ group_of (M.encoding v) }
+    ensures datum { (v : M.Meaning) → ⟦<GroupCodec<M> as SingularCodec>⟧.datum v ≡ group_of (M.encoding v) }
     ensures refusal { (v : M.Meaning) → ⟦<GroupCodec<M> as SingularCodec>⟧.refusal v
         ≡ encoding_refusal group_refusal (M.encoding v) }
     ensures fits { (v : M.Meaning) → ⟦<GroupCodec<M> as SingularCodec>⟧.fits v
@@ -219,10 +219,10 @@ pub fn messages_are_pinned<K: MessageRecord, M: Message>()
     ensures record { (n : ℕ) → RecordMergeIsPinned (M.merged n) (M.cost n) K.held }
 {}
 
-/// A list of messages whose encodings cost together no more than a pair of default budgets has one answer:
+/// A list of messages whose encodings cost together no more than a default budget has one answer:
 /// the value of each encoding that means one.
 ///
-/// Left open: past those budgets, which records behind the first refused one are values.
+/// Left open: past that budget, which records behind the first refused one are values.
 pub fn lists_of_messages_are_pinned<M: Message>()
     ensures delimited { ListIsExact ⟦<Repeated<MessageCodec<M>> as ExtensionCodec>⟧.reads (M.merged 100) (M.cost 100)
         M.blank_is bytes_held }

@@ -3,10 +3,9 @@
 ghost use Rattle.std.specs.Prelude.{◌≡◌, ◌≤◌, ℕ, List, [], ◌∷◌, Option, Some, None, Err, option_map, IfOk, OnErr};
 ghost use Rattle.std.proofs.Common.{◌∙◌};
 ghost use Rattle.buffa_bytes.specs.declared.error.DecodeError.TheVariants.{OutOfMemory};
-ghost use Rattle.buffa_wire.specs.BudgetLeft.{BudgetLeft};
+ghost use Rattle.buffa_wire.specs.BudgetLeft.{BudgetLeft, Covers, defaults};
 ghost use Rattle.buffa_wire.specs.Parse.{Fits};
 ghost use Rattle.buffa_wire.specs.Records.{records_of};
-ghost use Rattle.buffa_codec.specs.Reading.{Covers, full};
 ghost use Rattle.buffa_codec.specs.Sub.{sub};
 ghost use Rattle.buffa_ext.specs.Messages.{IsAnswer, LeavesOfRecord, MergesRecords, ReachesRecord, cost_all, message_of};
 ghost use Rattle.buffa_ext.specs.Messages.{encoding_refusal, encodings_in};
@@ -35,7 +34,7 @@ pub type MessageCodec<M> = MessageIn<Delimited, M>;
 /// ```
 pub type GroupCodec<M> = MessageIn<Grouped, M>;
 
-/// A message in records of one kind. All of a number are merged in order, under one pair of default budgets.
+/// A message in records of one kind. All of a number are merged in order, under one default budget.
 ///
 /// ```ignore
 /// pub type MessageCodec<M> = MessageIn<Delimited, M>;
@@ -119,8 +118,8 @@ impl<K: MessageRecord, M: Message> SingularCodec for MessageIn<K, M> {
     }
 
     fn try_encode_one(alloc: Global, value: &M) -> Result<UnknownFieldData, EncodeError> {
-        let text = value.try_encode_to_vec(alloc)?;
-        K::hold(alloc, text)
+        let encoding = value.try_encode_to_vec(alloc)?;
+        K::hold(alloc, encoding)
     }
 
     ghost reads_datum = { λ v b f n h.
@@ -182,7 +181,7 @@ impl<K: MessageRecord, M: Message> ExtensionCodec for MessageIn<K, M> {
 
     ghost answer = { option_map M.meaning };
 
-    ghost reads = { λ ds o. o ≡ message_of (M.merged 100) (M.cost 100) M.blank_is full (encodings_in K.held ds) };
+    ghost reads = { λ ds o. o ≡ message_of (M.merged 100) (M.cost 100) M.blank_is defaults (encodings_in K.held ds) };
 
     ghost recs = { λ v. K.holder (M.encoding v) ∷ [] };
 
@@ -191,7 +190,7 @@ impl<K: MessageRecord, M: Message> ExtensionCodec for MessageIn<K, M> {
     ghost fits = { λ v. encoding_refusal K.refusal (M.encoding v) ≡ None };
 
     ghost normal = { λ v. ⟦<MessageIn<K, M> as SingularCodec>⟧.normal v
-        × Covers full (⟦<MessageIn<K, M> as SingularCodec>⟧.cost (K.holder (M.encoding v))) };
+        × Covers defaults (⟦<MessageIn<K, M> as SingularCodec>⟧.cost (K.holder (M.encoding v))) };
 
     ghost holds = { λ v o. o ≡ Some v };
 
@@ -223,5 +222,5 @@ impl<K: MessageRecord, M: Message> ExtensionCodec for MessageIn<K, M> {
 
     ghost reads_back = { λ v o f n h.
         h ∙ message_back M.merged M.cost K.held K.holder K.refusal M.blank_is M.encoding M.records M.levels M.normal
-        M.MessageSpec.encoding_records M.MessageSpec.merged_encoding K.MessageRecord.held_back v full f n.0 n.1 };
+        M.MessageSpec.encoding_records M.MessageSpec.merged_encoding K.MessageRecord.held_back v defaults f n.0 n.1 };
 }

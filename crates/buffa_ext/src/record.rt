@@ -55,7 +55,7 @@ pub trait MessageRecord {
     ) -> Result<bool, DecodeError>
         ensures merged { MergesOne M.merged M.cost held ctx.entry (datum_of payload.now) (M.meaning message.old) result
             (M.meaning message.new) (budget_left ctx.exit) }
-        ensures text { OnErr result (encodings_in held (datum_of payload.now ∷ []) ≢ []) }
+        ensures encoding { OnErr result (encodings_in held (datum_of payload.now ∷ []) ≢ []) }
         ensures full { FullOnlyIf result (takes ctx.entry.depth (datum_of payload.now)) };
 
     /// The record that holds an encoding.
@@ -65,12 +65,12 @@ pub trait MessageRecord {
     /// none.
     ///
     /// ```ignore
-    /// let payload = K::hold(alloc, text);
+    /// let payload = K::hold(alloc, sink);
     /// ```
-    fn hold(alloc: Global, text: Vec<u8>) -> Result<UnknownFieldData, EncodeError>
-        ensures record { IfOk result (λ d. datum_of d ≡ holder text.items) }
-        ensures refused { Refuses result (refusal text.items) }
-        ensures full { IfErr result (λ e. e ≡ OutOfMemory → text.items ≢ []) }
+    fn hold(alloc: Global, encoding: Vec<u8>) -> Result<UnknownFieldData, EncodeError>
+        ensures record { IfOk result (λ d. datum_of d ≡ holder encoding.items) }
+        ensures refused { Refuses result (refusal encoding.items) }
+        ensures full { IfErr result (λ e. e ≡ OutOfMemory → encoding.items ≢ []) }
         ensures always { never_fails → IsOk result };
 
     /// The record of an encoding holds it.
@@ -103,21 +103,21 @@ impl MessageRecord for Delimited {
         ctx: DecodeContext<'_>,
     ) -> Result<bool, DecodeError> {
         let DecodeContext { depth, budget } = ctx;
-        let UnknownFieldData::LengthDelimited(text) = payload else {
+        let UnknownFieldData::LengthDelimited(encoding) = payload else {
             return Ok(false);
         };
         let lent = DecodeContext {
             depth,
             budget: &mut *budget,
         };
-        match message.merge(alloc, text.as_slice(), lent) {
+        match message.merge(alloc, encoding.as_slice(), lent) {
             Ok(()) => Ok(true),
             Err(error) => Err(error),
         }
     }
 
-    fn hold(_alloc: Global, text: Vec<u8>) -> Result<UnknownFieldData, EncodeError> {
-        Ok(UnknownFieldData::LengthDelimited(text))
+    fn hold(_alloc: Global, encoding: Vec<u8>) -> Result<UnknownFieldData, EncodeError> {
+        Ok(UnknownFieldData::LengthDelimited(encoding))
     }
 
     ghost held_back = { λ rs f h. refl };
@@ -165,8 +165,8 @@ impl MessageRecord for Grouped {
         }
     }
 
-    fn hold(alloc: Global, text: Vec<u8>) -> Result<UnknownFieldData, EncodeError> {
-        match UnknownFields::decode_from_slice(alloc, text.as_slice()) {
+    fn hold(alloc: Global, encoding: Vec<u8>) -> Result<UnknownFieldData, EncodeError> {
+        match UnknownFields::decode_from_slice(alloc, encoding.as_slice()) {
             Ok(fields) => Ok(UnknownFieldData::Group(fields)),
             Err(DecodeError::OutOfMemory) => Err(EncodeError::OutOfMemory),
             Err(error) => Err(EncodeError::GroupRefused(error)),

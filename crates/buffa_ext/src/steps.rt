@@ -3,7 +3,7 @@
 ghost use Rattle.std.specs.Prelude.{◌≡◌, ◌≢◌, ◌<◌, [], length, map, take, OnOk, OnErr, IfErr, IfOk};
 ghost use Rattle.buffa_wire.specs.View.{datum_of};
 ghost use Rattle.buffa_codec.specs.Sub.{tagged};
-ghost use Rattle.buffa_ext.specs.Steps.{KeepsRoom, RefusedAt, TakesMemory, after, after_one, put_in};
+ghost use Rattle.buffa_ext.specs.Steps.{KeepsRoom, RefusedAt, ChangeTakesMemory, after, after_one, put_in};
 ghost use Rattle.std.specs.Prelude.{◌≤◌, ◌+◌};
 ghost use Rattle.buffa_ext.specs.Changes.{change_of};
 
@@ -64,7 +64,7 @@ fn replay_one(alloc: Global, fields: &mut UnknownFields, step: Step) -> Result<(
     ensures ok { OnOk result (fields.new.records ≡ after_one fields.old.records (change_of step)) }
     ensures err { OnErr result (fields.new ≡ fields.old) }
     ensures room { fields.old.spare ≤ fields.new.spare + length (put_in (change_of step)) }
-    ensures memory { OnErr result (TakesMemory (change_of step)) }
+    ensures memory { OnErr result (ChangeTakesMemory (change_of step)) }
 {
     match step {
         Step::Set { number, records } => {

@@ -80,22 +80,22 @@ module _ {T : Type 0} (before : Cache) (put : List ℕ) (r : Result T EncodeErro
   abbrev pub WritesMembers : {M X : Type 0} → Layout M X → M → Type 0
   WritesMembers l m = IsWritten (records_encoding (l.records (l.meaning m))) (l.slots (l.meaning m)) before put r after puts
 
-  module _ {X : Type 0} (text slots : X → List ℕ) (n : ℕ) where
+  module _ {X : Type 0} (encoding slots : X → List ℕ) (n : ℕ) where
     -- one message
     abbrev pub WritesMessage : X → Type 0
-    WritesMessage v = IsWritten (records_encoding ((n, bytes (text v)) ∷ [])) (cap (length (text v)) ∷ slots v) before put r after puts
+    WritesMessage v = IsWritten (records_encoding ((n, bytes (encoding v)) ∷ [])) (cap (length (encoding v)) ∷ slots v) before put r after puts
 
     -- a list of them
     abbrev pub WritesMessages : List X → Type 0
-    WritesMessages vs = IsWritten (records_encoding (messages_records text n vs)) (messages_slots text slots vs) before put r after puts
+    WritesMessages vs = IsWritten (records_encoding (messages_records encoding n vs)) (messages_slots encoding slots vs) before put r after puts
 
     -- a map of them
     abbrev pub WritesPairs : {K : Type 0} → Writing K → List (K × X) → Type 0
-    WritesPairs key l = IsWritten (records_encoding (pair_records key text n l)) (pair_slots text slots l) before put r after puts
+    WritesPairs key l = IsWritten (records_encoding (pair_records key encoding n l)) (pair_slots encoding slots l) before put r after puts
 
 -- the size pass over a map of messages
 abbrev pub SizesPairs : {K X : Type 0} → (X → List ℕ) → (X → List ℕ) → ℕ → Writing K → List (K × X) → Cache → Result ℕ EncodeError → Cache → Type 0
-SizesPairs text slots n key l before r after = IsSized (records_encoding (pair_records key text n l)) (pair_slots text slots l) before r after
+SizesPairs encoding slots n key l before r after = IsSized (records_encoding (pair_records key encoding n l)) (pair_slots encoding slots l) before r after
 
 -- the encoding of a normal value reads back to it, where its lengths can be read and it isn't too deep
 abbrev pub MembersReadBack : {M X : Type 0} → Layout M X → X → X → Type 0

@@ -4,9 +4,9 @@ use Rattle.std.specs.Option.{option_map}
 use Rattle.buffa_bytes.specs.declared.wire_type.WireType.{WireType}
 use Rattle.buffa_bytes.specs.declared.error.DecodeError.{DecodeError}
 use Rattle.buffa_wire.specs.Parse.{TakesField}
-use Rattle.buffa_wire.specs.RecordReading.{TakesMemory, field_at}
+use Rattle.buffa_wire.specs.RecordReading.{RecordTakesMemory, field_at}
 use Rattle.buffa_wire.specs.Records.{Datum}
-use Rattle.buffa_wire.specs.Kept.{record_at}
+use Rattle.buffa_wire.specs.Kept.{kept_record_at}
 use Rattle.buffa_fields.specs.Takes.{Asks, Taker}
 
 abbrev pub record_in : Result (Datum × ℕ × List ℕ) DecodeError → Option Datum
@@ -15,11 +15,11 @@ record_in (Err e) = None
 
 -- it goes behind the others
 abbrev pub keep_takes : Taker (List (ℕ × Datum))
-keep_takes d v n w p = option_map (λ x. v ++ (n, x) ∷ []) (record_in (record_at d n w p))
+keep_takes d v n w p = option_map (λ x. v ++ (n, x) ∷ []) (record_in (kept_record_at d n w p))
 
 -- with so many unknown fields left, keeping a field takes memory where reading it does, or where it is read
 abbrev pub KeepTakesMemory : ℕ → Asks
-KeepTakesMemory s d n w bs = TakesMemory d s w bs ⊎ IsOk (field_at d s n w bs)
+KeepTakesMemory s d n w bs = RecordTakesMemory d s w bs ⊎ IsOk (field_at d s n w bs)
 
 -- a field of number n and wire type w is there behind its tag, and of s unknown fields left it has its own, and one for
 -- each inside

@@ -17,7 +17,7 @@ use Rattle.buffa_fields.specs.Takes.{Asks, IsTaken, Need, ReadsBack, Stays, Take
 
 -- What a member of a message is: what its value means, what a payload makes of it, where that may ask for memory, and
 -- the records it is written as, under a number; with what it owes.
-pub record Slot (P X : Type 0) : Type 1 where
+pub record Shape (P X : Type 0) : Type 1 where
   pub meaning : P → X
   pub blank : X
   pub takes : Taker X
@@ -33,14 +33,14 @@ pub record Slot (P X : Type 0) : Type 1 where
   pub stays : Stays need
 
 -- The records read back to the value.
-pub record ReadsBackTo {P X : Type 0} (s : Slot P X) : Type 0 where
+pub record ReadsBackTo {P X : Type 0} (s : Shape P X) : Type 0 where
   pub back : (k : ℕ) → IsNumber k → (d : ℕ) (v : X) → Fits (records_of (s.records k v)) → s.normal v → s.levels v ≤ d → ReadsBack s.takes (λ n. n == k) d s.blank (records_encoding (s.records k v)) v
 
 -- ---- what the calls of a message's members owe
 
 -- a member takes the field whose tag was read, or tells the fault of its wire type, and then it is as it was, and the
 -- field is unread; memory runs out only where it may be asked for
-unfoldable pub Took : {P X : Type 0} → Slot P X → ℕ → P → ℕ → WireType → List ℕ → BudgetLeft → Result (Unit {0}) DecodeError → P → BudgetLeft → List ℕ → Type 0
+unfoldable pub Took : {P X : Type 0} → Shape P X → ℕ → P → ℕ → WireType → List ℕ → BudgetLeft → Result (Unit {0}) DecodeError → P → BudgetLeft → List ℕ → Type 0
 Took s d old n w bs before r new after rest =
     IsTaken s.takes s.need d (s.meaning old) n w bs before r (s.meaning new) after rest
     × FullOnlyIf r (s.asks d n w bs) × ((e : DecodeError) → s.checks n w ≡ Err e → (r ≡ Err e) × (s.meaning old ≡ s.meaning new) × (bs ≡ rest))
@@ -74,7 +74,7 @@ unfoldable pub more : List (ℕ × Datum) → List ℕ → Seen → Seen
 more rs ss z = record { sink = z.sink; before = z.before; cache = z.cache; first = z.first; records = z.records ++ rs; slots = z.slots ++ ss }
 
 -- a member was visited
-abbrev pub visited : {P X : Type 0} → Slot P X → ℕ → P → Seen → Seen
+abbrev pub visited : {P X : Type 0} → Shape P X → ℕ → P → Seen → Seen
 visited s k p z = more (s.records k (s.meaning p)) (s.slots (s.meaning p)) z
 
 -- ---- what visitors know

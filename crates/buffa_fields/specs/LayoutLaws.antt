@@ -14,7 +14,7 @@ use Rattle.buffa_wire.specs.Cache.{Cache}
 use Rattle.buffa_wire.proofs.PassLemmas.{appended_none, appended_twice, done, next_front, next_past, refused, written_none, written_short, written_then}
 use Rattle.buffa_wire.specs.Records.{Datum, records_of}
 use Rattle.buffa_wire.specs.Encoding.{records_encoding}
-use Rattle.buffa_fields.specs.Layout.{Choice, Follow, IsCounted, IsPut, Kept, Layout, Passed, Seen, Slot, Took, costs_nothing, more, passes, visited}
+use Rattle.buffa_fields.specs.Layout.{Choice, Follow, IsCounted, IsPut, Kept, Layout, Passed, Seen, Shape, Took, costs_nothing, more, passes, visited}
 use Rattle.buffa_wire.specs.Kept.{keep_need}
 use Rattle.buffa_fields.specs.Keep.{KeepTakesMemory, keep_takes}
 use Rattle.buffa_fields.specs.PairLaws.{first_taken, other_taken, records_encoding-append}
@@ -22,7 +22,7 @@ use Rattle.buffa_fields.specs.Takes.{IsTaken, Need, Taker, both_need, both_take,
 use Rattle.buffa_fields.specs.TakesLaws.{back as leads_back, taken_full, taken_merges}
 
 -- ---- one member takes the field, or one of the others
-module _ {P X B : Type 0} (s : Slot P X) (k : ℕ) (g : Taker B) (gn : Need) (d : ℕ) (p q : P) (b c : B) (n : ℕ) (w : WireType) (bs : List ℕ) (before : BudgetLeft) (r : Result (Unit {0}) DecodeError) (after : BudgetLeft) (rest : List ℕ)
+module _ {P X B : Type 0} (s : Shape P X) (k : ℕ) (g : Taker B) (gn : Need) (d : ℕ) (p q : P) (b c : B) (n : ℕ) (w : WireType) (bs : List ℕ) (before : BudgetLeft) (r : Result (Unit {0}) DecodeError) (after : BudgetLeft) (rest : List ℕ)
     (S T : Type 0) (same : S → b ≡ c) (taken : T → IsTaken g gn d b n w bs before r c after rest) where
   by_test : (t : Bool) → (n == k) ≡ t → Choice t (Took s d p n w bs before r q after rest × S) ((q ≡ p) × T) → IsTaken (both_take k s.takes g) (both_need k s.need gn) d (s.meaning p, b) n w bs before r (s.meaning q, c) after rest
   unfolding Took
@@ -37,7 +37,7 @@ module _ {P X B : Type 0} (s : Slot P X) (k : ℕ) (g : Taker B) (gn : Need) (d 
   field_taken h = by_test (n == k) refl h
 
 -- memory runs out only where the member of the field asks for it
-pub field_asks : {P X : Type 0} (s : Slot P X) (k d : ℕ) (p q : P) (n : ℕ) (w : WireType) (bs : List ℕ) (before : BudgetLeft) (r : Result (Unit {0}) DecodeError) (after : BudgetLeft) (rest : List ℕ) (A S T : Type 0) →
+pub field_asks : {P X : Type 0} (s : Shape P X) (k d : ℕ) (p q : P) (n : ℕ) (w : WireType) (bs : List ℕ) (before : BudgetLeft) (r : Result (Unit {0}) DecodeError) (after : BudgetLeft) (rest : List ℕ) (A S T : Type 0) →
     (T → FullOnlyIf r A) → Choice (n == k) (Took s d p n w bs before r q after rest × S) ((q ≡ p) × T) → FullOnlyIf r (Choice (n == k) (s.asks d n w bs) A)
 unfolding Took
 field_asks s k d p q n w bs before r after rest A S T asks h = at (n == k) h
@@ -47,7 +47,7 @@ field_asks s k d p q n w bs before r after rest A S T asks h = at (n == k) h
     at false (stay, h) = asks h
 
 -- a refused field changes its member alone
-pub field_apart : {P X B : Type 0} (s : Slot P X) (k : ℕ) (Apart : ℕ → B → B → Type 0) (p q : P) (b c : B) (n : ℕ) (T S R : Type 0) → (S → b ≡ c) → (R → Apart n b c) →
+pub field_apart : {P X B : Type 0} (s : Shape P X) (k : ℕ) (Apart : ℕ → B → B → Type 0) (p q : P) (b c : B) (n : ℕ) (T S R : Type 0) → (S → b ≡ c) → (R → Apart n b c) →
     Choice (n == k) (T × S) ((q ≡ p) × R) → Choice (n == k) (b ≡ c) ((s.meaning p ≡ s.meaning q) × Apart n b c)
 field_apart s k Apart p q b c n T S R same apart h = at (n == k) h
   where
@@ -89,7 +89,7 @@ more_twice : (a b : List (ℕ × Datum)) (x y : List ℕ) (z : Seen) → more b 
 unfolding more
 more_twice a b x y z = λ i. record { sink = z.sink; before = z.before; cache = z.cache; first = z.first; records = append_assoc z.records a b i; slots = append_assoc z.slots x y i }
 
-pub seen_field : {P X : Type 0} (s : Slot P X) (k : ℕ) (p : P) (b : List (ℕ × Datum)) (x : List ℕ) (z y : Seen) → y ≡ more b x (visited s k p z) →
+pub seen_field : {P X : Type 0} (s : Shape P X) (k : ℕ) (p : P) (b : List (ℕ × Datum)) (x : List ℕ) (z y : Seen) → y ≡ more b x (visited s k p z) →
     y ≡ more (s.records k (s.meaning p) ++ b) (s.slots (s.meaning p) ++ x) z
 seen_field s k p b x z y h = h ∙ more_twice (s.records k (s.meaning p)) b (s.slots (s.meaning p)) x z
 
@@ -101,8 +101,8 @@ abbrev pub failed : EncodeError → Result ℕ EncodeError
 failed e = Err e
 
 -- an encoding that needs no slot
-pub sized_free : (text : List ℕ) (n : ℕ) (c : Cache) → n ≡ cap (length text) → IsSized text [] c (sum n) c
-sized_free text n c h = (h, sym (appended_none c))
+pub sized_free : (encoding : List ℕ) (n : ℕ) (c : Cache) → n ≡ cap (length encoding) → IsSized encoding [] c (sum n) c
+sized_free encoding n c h = (h, sym (appended_none c))
 
 pub cap_more : (a b total len new : ℕ) → total ≡ cap a → len ≡ cap b → new ≡ min (total + len) 4294967295 → new ≡ cap (a + b)
 cap_more a b total len new h k e = omega (arith, h, k, e)
@@ -177,16 +177,16 @@ pub follow_first : (ss rest : List ℕ) (c : Cache) → Follow (ss ++ rest) done
 unfolding Follow
 follow_first ss rest c h = next_front ss rest c h
 
-pub follow_rest : (text ss rest : List ℕ) (old new : List ℕ) (c1 c2 : Cache) (r : Result (Unit {0}) EncodeError) → IsWritten text ss c1 old r c2 new → Follow (ss ++ rest) done c1 → Follow rest r c2
+pub follow_rest : (encoding ss rest : List ℕ) (old new : List ℕ) (c1 c2 : Cache) (r : Result (Unit {0}) EncodeError) → IsWritten encoding ss c1 old r c2 new → Follow (ss ++ rest) done c1 → Follow rest r c2
 unfolding Follow
-follow_rest text ss rest old new c1 c2 (Ok _) (bs, p, q) h = subst (λ z. IsNext rest z) (sym q.0) (next_past ss rest c1 h)
-follow_rest text ss rest old new c1 c2 (Err e) k h = tt
+follow_rest encoding ss rest old new c1 c2 (Ok _) (bs, p, q) h = subst (λ z. IsNext rest z) (sym q.0) (next_past ss rest c1 h)
+follow_rest encoding ss rest old new c1 c2 (Err e) k h = tt
 
 -- the same, where it is known that memory hasn't run out
-pub follow_on : (text ss rest : List ℕ) (old new : List ℕ) (c1 c2 : Cache) (q r : Result (Unit {0}) EncodeError) → IsOk q → IsWritten text ss c1 old r c2 new → Follow (ss ++ rest) q c1 → Follow rest r c2
+pub follow_on : (encoding ss rest : List ℕ) (old new : List ℕ) (c1 c2 : Cache) (q r : Result (Unit {0}) EncodeError) → IsOk q → IsWritten encoding ss c1 old r c2 new → Follow (ss ++ rest) q c1 → Follow rest r c2
 unfolding Follow
-follow_on text ss rest old new c1 c2 (Ok _) r ok h k = follow_rest text ss rest old new c1 c2 r h k
-follow_on text ss rest old new c1 c2 (Err e) r ok h k = cc
+follow_on encoding ss rest old new c1 c2 (Ok _) r ok h k = follow_rest encoding ss rest old new c1 c2 r h k
+follow_on encoding ss rest old new c1 c2 (Err e) r ok h k = cc
 
 pub follow_none : (ss rest : List ℕ) (c : Cache) (e : EncodeError) → Follow rest (refused e) c
 unfolding Follow

@@ -11,7 +11,7 @@ pub mod KeepLaws
 pub mod Layout
 pub mod LayoutLaws
 pub mod Members
-pub mod Slots
+pub mod MemberRecords
 pub mod Nested
 pub mod NestedLaws
 pub mod Lists

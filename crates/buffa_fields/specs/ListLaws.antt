@@ -17,7 +17,7 @@ use Rattle.buffa_bytes.specs.declared.error.DecodeError.TheVariants.{OutOfMemory
 use Rattle.buffa_bytes.specs.declared.wire_type.WireType.{WireType}
 use Rattle.buffa_bytes.specs.declared.wire_type.WireType.TheVariants.{Varint, Fixed64, LengthDelimited, Fixed32}
 use Rattle.buffa_wire.proofs.MessageLemmas.{NoLimit, length_no_limit}
-use Rattle.buffa_wire.proofs.SequenceLemmas.{err_same, ok_same}
+use Rattle.buffa_wire.proofs.SequenceLemmas.{Falls, along_err, along_none, along_ok, err_same, ok_same, parse_keeps}
 use Rattle.buffa_wire.specs.BudgetLeft.{BudgetLeft, nothing}
 use Rattle.buffa_bytes.specs.Field.{IsTag, Payload}
 use Rattle.buffa_bytes.specs.Gives.{◌>>=◌, FullOnlyIf, GivesUnlessFull}
@@ -27,13 +27,11 @@ use Rattle.buffa_wire.specs.Parse.{Fits}
 use Rattle.buffa_wire.specs.Passes.{cap}
 use Rattle.buffa_bytes.specs.Reading.{check_wire, delimited_at}
 use Rattle.buffa_wire.specs.Records.{Datum, records_of}
-use Rattle.buffa_wire.specs.Sequence.{parse_all, parse_within}
 use Rattle.buffa_wire.specs.Encoding.{field_encoding, records_encoding}
 use Rattle.buffa_bytes.specs.Values.{delimited_encoding, tag_encoding}
 use Rattle.buffa_bytes.specs.Written.{WritesFront}
 use Rattle.buffa_map.proofs.EntryLemmas.{same_false, same_refl, value_complete, value_sound}
 use Rattle.buffa_map.specs.Codec.{Reading, ValueFault, Writing, level, value_at}
-use Rattle.buffa_wire.proofs.ByFieldLemmas.{along_err, along_none, along_ok}
 use Rattle.buffa_fields.specs.LayoutLaws.{cap_more}
 use Rattle.buffa_fields.specs.Lists.{Each, TakesPacked, check_list_wire, element_at, element_records, elements_in, elements_taken, packed_records, packed_encoding}
 use Rattle.buffa_fields.specs.PairLaws.{records_encoding-append}
@@ -122,20 +120,11 @@ module _ {V : Type 0} (codec : Reading V) (plain : codec.nested ≡ false)
   unfolding elements_in
   elements_err vs bs e some h = along_err (element_at codec d) falls vs bs e some h
 
-  then_no_limit : (k : ℕ) (vs : List V) (bs : List ℕ) (e : DecodeError) (r : Result (List V × List ℕ) DecodeError) → element_at codec d vs bs ≡ r →
-      (r >>= (λ x. parse_within (element_at codec d) k x.0 x.1)) ≡ Err e → ((us : List V) (x : List ℕ) → parse_within (element_at codec d) k us x ≡ Err e → NoLimit e) → NoLimit e
-  then_no_limit k vs bs e (Ok x) is h again = again x.0 x.1 h
-  then_no_limit k vs bs e (Err f) is h again = told e f (sym (err_same h)) (element_no_limit vs bs f is)
-
-  within_no_limit : (k : ℕ) (vs : List V) (bs : List ℕ) (e : DecodeError) → parse_within (element_at codec d) k vs bs ≡ Err e → NoLimit e
-  unfolding parse_within
-  within_no_limit k vs [] e h = cc
-  within_no_limit zero vs (b ∷ bs) e h = told e UnexpectedEof (sym (err_same h)) (λ l. l)
-  within_no_limit (suc k) vs (b ∷ bs) e h = then_no_limit k vs (b ∷ bs) e (element_at codec d vs (b ∷ bs)) refl h (λ us x q. within_no_limit k us x e q)
-
   elements_no_limit : (vs : List V) (bs : List ℕ) (e : DecodeError) → elements_in codec d vs bs ≡ Err e → NoLimit e
-  unfolding elements_in parse_all
-  elements_no_limit vs bs e h = within_no_limit (length bs) vs bs e h
+  unfolding elements_in
+  elements_no_limit vs bs e h = parse_keeps (element_at codec d) (λ _ _ r. (f : DecodeError) → r ≡ Err f → NoLimit f)
+      (λ vs f is. cc) (λ vs b bs x is f k. told f x (sym (err_same k)) (element_no_limit vs (b ∷ bs) x is)) (λ vs b bs x r is again f k. again f k)
+      (λ vs bs f k. told f UnexpectedEof (sym (err_same k)) (λ l. l)) vs bs e h
 
   -- ---- a field is taken
   module _ (vs : List V) (n : ℕ) (w : WireType) (bs : List ℕ) (before : BudgetLeft) where
@@ -360,48 +349,48 @@ means_cut meaning xs i x lt e =
     ∙ ap (λ l. map meaning (take i xs) ++ map meaning l) (drop_more xs i x lt) ∙ ap (λ y. map meaning (take i xs) ++ meaning y ∷ map meaning (drop (i + 1) xs)) (sym e)
 
 module _ {V : Type 0} (datum : V → Datum) (n : ℕ) where
-  text_two : (vs us : List V) → records_encoding (element_records datum n (vs ++ us)) ≡ records_encoding (element_records datum n vs) ++ records_encoding (element_records datum n us)
+  encoding_two : (vs us : List V) → records_encoding (element_records datum n (vs ++ us)) ≡ records_encoding (element_records datum n vs) ++ records_encoding (element_records datum n us)
   unfolding element_records
-  text_two vs us = ap records_encoding (map-append (λ v. (n, datum v)) vs us) ∙ records_encoding-append (map (λ v. (n, datum v)) vs) (map (λ v. (n, datum v)) us)
+  encoding_two vs us = ap records_encoding (map-append (λ v. (n, datum v)) vs us) ∙ records_encoding-append (map (λ v. (n, datum v)) vs) (map (λ v. (n, datum v)) us)
 
-  text_one : (v : V) → records_encoding (element_records datum n (v ∷ [])) ≡ records_encoding ((n, datum v) ∷ [])
+  encoding_one : (v : V) → records_encoding (element_records datum n (v ∷ [])) ≡ records_encoding ((n, datum v) ∷ [])
   unfolding element_records
-  text_one v = refl
+  encoding_one v = refl
 
-  text_more : (vs : List V) (v : V) → records_encoding (element_records datum n (vs ++ v ∷ [])) ≡ records_encoding (element_records datum n vs) ++ records_encoding ((n, datum v) ∷ [])
-  text_more vs v = text_two vs (v ∷ []) ∙ ap (λ (z : List ℕ). records_encoding (element_records datum n vs) ++ z) (text_one v)
+  encoding_more : (vs : List V) (v : V) → records_encoding (element_records datum n (vs ++ v ∷ [])) ≡ records_encoding (element_records datum n vs) ++ records_encoding ((n, datum v) ∷ [])
+  encoding_more vs v = encoding_two vs (v ∷ []) ∙ ap (λ (z : List ℕ). records_encoding (element_records datum n vs) ++ z) (encoding_one v)
 
-  pub text_none : (old : List ℕ) → old ≡ old ++ records_encoding (element_records datum n [])
+  pub encoding_none : (old : List ℕ) → old ≡ old ++ records_encoding (element_records datum n [])
   unfolding element_records
-  text_none old = sym (append-nil old)
+  encoding_none old = sym (append-nil old)
 
   pub count_none : 0 ≡ cap (length (records_encoding (element_records datum n [])))
   unfolding element_records
   count_none = refl
 
   module _ {P : Type 0} (meaning : P → V) (xs : List P) (i : ℕ) (x : P) (lt : i < length xs) (is : x ≡ get_or xs i x) where
-    abbrev text_to : ℕ → List ℕ
-    text_to k = records_encoding (element_records datum n (map meaning (take k xs)))
+    abbrev encoding_to : ℕ → List ℕ
+    encoding_to k = records_encoding (element_records datum n (map meaning (take k xs)))
 
     abbrev here : List ℕ
     here = records_encoding ((n, datum (meaning x)) ∷ [])
 
-    pub text_next : text_to (i + 1) ≡ text_to i ++ here
-    text_next = ap (λ (z : List V). records_encoding (element_records datum n z)) (means_more meaning xs i x lt is) ∙ text_more (map meaning (take i xs)) (meaning x)
+    pub encoding_next : encoding_to (i + 1) ≡ encoding_to i ++ here
+    encoding_next = ap (λ (z : List V). records_encoding (element_records datum n z)) (means_more meaning xs i x lt is) ∙ encoding_more (map meaning (take i xs)) (meaning x)
 
-    pub text_cut : records_encoding (element_records datum n (map meaning xs)) ≡ (text_to i ++ here) ++ records_encoding (element_records datum n (map meaning (drop (i + 1) xs)))
-    text_cut =
+    pub encoding_cut : records_encoding (element_records datum n (map meaning xs)) ≡ (encoding_to i ++ here) ++ records_encoding (element_records datum n (map meaning (drop (i + 1) xs)))
+    encoding_cut =
         let rest = map meaning (drop (i + 1) xs) in
         ap (λ (z : List V). records_encoding (element_records datum n z)) (means_cut meaning xs i x lt is ∙ sym (append_assoc (map meaning (take i xs)) (meaning x ∷ []) rest))
-        ∙ text_two (map meaning (take i xs) ++ meaning x ∷ []) rest ∙ ap (λ (z : List ℕ). z ++ records_encoding (element_records datum n rest)) (text_more (map meaning (take i xs)) (meaning x))
+        ∙ encoding_two (map meaning (take i xs) ++ meaning x ∷ []) rest ∙ ap (λ (z : List ℕ). z ++ records_encoding (element_records datum n rest)) (encoding_more (map meaning (take i xs)) (meaning x))
 
-    pub len_more : (total len new : ℕ) → total ≡ cap (length (text_to i)) → len ≡ cap (length here) → new ≡ min (total + len) 4294967295 → new ≡ cap (length (text_to (i + 1)))
-    len_more total len new h k e = cap_more (length (text_to i)) (length here) total len new h k e ∙ ap cap (sym (length-append (text_to i) here) ∙ ap length (sym text_next))
+    pub len_more : (total len new : ℕ) → total ≡ cap (length (encoding_to i)) → len ≡ cap (length here) → new ≡ min (total + len) 4294967295 → new ≡ cap (length (encoding_to (i + 1)))
+    len_more total len new h k e = cap_more (length (encoding_to i)) (length here) total len new h k e ∙ ap cap (sym (length-append (encoding_to i) here) ∙ ap length (sym encoding_next))
 
-    pub write_more : (old mid new : List ℕ) → mid ≡ old ++ text_to i → new ≡ mid ++ here → new ≡ old ++ text_to (i + 1)
-    write_more old mid new h k = k ∙ ap (λ (z : List ℕ). z ++ here) h ∙ append_assoc old (text_to i) here ∙ ap (λ (z : List ℕ). old ++ z) (sym text_next)
+    pub write_more : (old mid new : List ℕ) → mid ≡ old ++ encoding_to i → new ≡ mid ++ here → new ≡ old ++ encoding_to (i + 1)
+    write_more old mid new h k = k ∙ ap (λ (z : List ℕ). z ++ here) h ∙ append_assoc old (encoding_to i) here ∙ ap (λ (z : List ℕ). old ++ z) (sym encoding_next)
 
-    pub write_stops : (old mid new : List ℕ) → mid ≡ old ++ text_to i → WritesFront mid here new → WritesFront old (records_encoding (element_records datum n (map meaning xs))) new
+    pub write_stops : (old mid new : List ℕ) → mid ≡ old ++ encoding_to i → WritesFront mid here new → WritesFront old (records_encoding (element_records datum n (map meaning xs))) new
     write_stops old mid new h front =
         let rest = map meaning (drop (i + 1) xs) in
-        subst (λ (z : List ℕ). WritesFront old z new) (sym text_cut) (front_first old (text_to i ++ here) (records_encoding (element_records datum n rest)) new (front_second old (text_to i) here mid new h front))
+        subst (λ (z : List ℕ). WritesFront old z new) (sym encoding_cut) (front_first old (encoding_to i ++ here) (records_encoding (element_records datum n rest)) new (front_second old (encoding_to i) here mid new h front))

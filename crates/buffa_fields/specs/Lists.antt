@@ -64,13 +64,13 @@ element_records datum n vs = map (λ v. (n, datum v)) vs
 
 -- the payloads of elements, joined
 abbrev pub packed_encoding : {V : Type 0} → (V → List ℕ) → List V → List ℕ
-packed_encoding text [] = []
-packed_encoding text (v ∷ vs) = text v ++ packed_encoding text vs
+packed_encoding encoding [] = []
+packed_encoding encoding (v ∷ vs) = encoding v ++ packed_encoding encoding vs
 
 -- one record of all elements, and none where there are none
 unfoldable pub packed_records : {V : Type 0} → (V → List ℕ) → ℕ → List V → List (ℕ × Datum)
-packed_records text n [] = []
-packed_records text n (v ∷ vs) = (n, bytes (packed_encoding text (v ∷ vs))) ∷ []
+packed_records encoding n [] = []
+packed_records encoding n (v ∷ vs) = (n, bytes (packed_encoding encoding (v ∷ vs))) ∷ []
 
 -- each element
 abbrev pub Each : {V : Type 0} → (V → Type 0) → List V → Type 0

@@ -14,7 +14,7 @@ use Rattle.buffa_wire.specs.Records.{Datum, bytes}
 use Rattle.buffa_bytes.specs.WireType.{same_wire}
 use Rattle.buffa_map.specs.Codec.{Reading, Writing}
 use Rattle.buffa_map.specs.Entry.{IsEntry, entry_of, need_of}
-use Rattle.buffa_map.specs.Fields.{FieldsTakeMemory}
+use Rattle.buffa_map.specs.Fields.{EntryFieldsTakeMemory}
 use Rattle.buffa_map.specs.Run.{step}
 use Rattle.buffa_map.specs.Encoding.{entry_encoding}
 use Rattle.buffa_map.specs.declared.map_entry.MapEntry.{MapEntry}
@@ -36,7 +36,7 @@ module _ {K V : Type 0} (key : Reading K) (val : Reading V) where
   abbrev pub PairTakesMemory : Asks
   PairTakesMemory d n w bs =
       (w ≡ LengthDelimited) × (e : List ℕ) × (rest : List ℕ) × (delimited_at bs ≡ Ok (e, rest))
-      × (FieldsTakeMemory key val d e OutOfMemory ⊎ ((s : MapEntry K V) × IsEntry key val d e s × (s.known ≡ true)))
+      × (EntryFieldsTakeMemory key val d e OutOfMemory ⊎ ((s : MapEntry K V) × IsEntry key val d e s × (s.known ≡ true)))
 
   unfoldable pub entry_cost : ℕ → Need
   entry_cost cost d n w bs = if same_wire LengthDelimited w then need_by (delimited_at bs) (λ e. need_of key val d cost e.0) else nothing
@@ -49,6 +49,6 @@ map_records key val n (p ∷ ps) = (n, bytes (entry_encoding key val p)) ∷ map
 -- a map field was written, or memory ran out before all of it was; or it is no encoding of a message
 abbrev pub WritesMap : {K V T : Type 0} → Writing K → Writing V → ℕ → List (K × V) → List ℕ → Result T EncodeError → List ℕ → Type 0
 WritesMap key val n l old r new =
-    let text = records_encoding (map_records key val n l) in
+    let encoding = records_encoding (map_records key val n l) in
     (bs : List ℕ) × (new ≡ old ++ bs)
-    × MatchResult r (λ _. IsSmall text → bs ≡ text) (λ e. (e ≡ encode.OutOfMemory) × (IsSmall text → Begins bs text))
+    × MatchResult r (λ _. IsSmall encoding → bs ≡ encoding) (λ e. (e ≡ encode.OutOfMemory) × (IsSmall encoding → Begins bs encoding))

@@ -12,7 +12,7 @@ use Rattle.buffa_bytes.specs.declared.error.DecodeError.TheVariants.{OutOfMemory
 use Rattle.buffa_bytes.specs.declared.wire_type.WireType.{WireType}
 use Rattle.buffa_bytes.specs.declared.wire_type.WireType.TheVariants.{Varint, Fixed64, LengthDelimited, StartGroup, EndGroup, Fixed32}
 use Rattle.buffa_wire.proofs.MessageLemmas.{NoLimit}
-use Rattle.buffa_wire.specs.BudgetLeft.{BudgetLeft, Lacks, PaysAtMost, plus, slots}
+use Rattle.buffa_wire.specs.BudgetLeft.{BudgetLeft, Lacks, PaysAtMost, plus, unknown_fields}
 use Rattle.buffa_bytes.specs.Field.{Payload}
 use Rattle.buffa_wire.specs.Message.{IsLimit}
 use Rattle.buffa_bytes.specs.Number.{IsNumber}
@@ -27,7 +27,7 @@ use Rattle.buffa_wire.proofs.SequenceLemmas.{ok_same}
 use Rattle.buffa_map.proofs.EntryLemmas.{entry_complete, entry_faulty, same_false}
 use Rattle.buffa_map.specs.Codec.{Reading, Writing}
 use Rattle.buffa_map.specs.Entry.{EntryFault, FaultOf, IsEntry, need_of}
-use Rattle.buffa_map.specs.Fields.{FieldsTakeMemory}
+use Rattle.buffa_map.specs.Fields.{EntryFieldsTakeMemory}
 use Rattle.buffa_map.specs.Laws.{LimitsAreTrue, SizeIsLength}
 use Rattle.buffa_map.specs.Merge.{EntryTakesMemory, MergesEntry, RefusesEntry, dropping, state}
 use Rattle.buffa_map.specs.Run.{step, fold_entries, pair_entry}
@@ -80,7 +80,7 @@ module _ {K V : Type 0} (key : Reading K) (val : Reading V) (same : K → K → 
   -- ---- where it takes memory
   pub map_full : (d n : ℕ) (w : WireType) (bs : List ℕ) (left : BudgetLeft) → w ≡ LengthDelimited → (f : DecodeError) → f ≡ OutOfMemory → EntryTakesMemory (dropping key val same true d 0 cost) left bs f → PairTakesMemory key val d n w bs
   map_full d n w bs left wire f full (e, rest, is, inl copied) = absurd (copied.0 refl)
-  map_full d n w bs left wire f full (e, rest, is, inr (enough, inl field)) = (wire, e, rest, is, inl (subst (λ z. FieldsTakeMemory key val d e z) full field))
+  map_full d n w bs left wire f full (e, rest, is, inr (enough, inl field)) = (wire, e, rest, is, inl (subst (λ z. EntryFieldsTakeMemory key val d e z) full field))
   map_full d n w bs left wire f full (e, rest, is, inr (enough, inr (s, entry, inl known))) = (wire, e, rest, is, inr (s, entry, known))
   map_full d n w bs left wire f full (e, rest, is, inr (enough, inr (s, entry, inr kept))) = absurd (kept.0 refl)
 
@@ -148,12 +148,12 @@ module _ {K V : Type 0} (key : Reading K) (val : Reading V) (same : K → K → 
         | inr unlimited ↦ at unlimited h
       ]
         where
-          plain_lack : (need : BudgetLeft) → Lacks before (plus need (slots 0)) → Lacks before need
+          plain_lack : (need : BudgetLeft) → Lacks before (plus need (unknown_fields 0)) → Lacks before need
           plain_lack need (inl x) = inl (omega (arith, x))
           plain_lack need (inr x) = inr (omega (arith, x))
 
           lacked : (e : List ℕ) → Lacks before (need_of key val d cost e)
-              ⊎ ((s : MapEntry K V) × IsEntry key val d e s × (s.known ≡ false) × Lacks before (plus (need_of key val d cost e) (slots 0))) → Lacks before (need_of key val d cost e)
+              ⊎ ((s : MapEntry K V) × IsEntry key val d e s × (s.known ≡ false) × Lacks before (plus (need_of key val d cost e) (unknown_fields 0))) → Lacks before (need_of key val d cost e)
           lacked e (inl h) = h
           lacked e (inr (s, entry, known, h)) = plain_lack (need_of key val d cost e) h
 
@@ -187,9 +187,9 @@ module _ {K V : Type 0} (key : Reading K) (val : Reading V) (kw : Writing K) (vw
   abbrev piece : K × V → Piece
   piece p = record { tag = tag_encoding n LengthDelimited; number = n; wire = LengthDelimited; payload = delimited_encoding (entry_encoding kw vw p) }
 
-  pieces_text : (l : List (K × V)) → records_encoding (map_records kw vw n l) ≡ joined (map piece l)
-  pieces_text [] = refl
-  pieces_text (p ∷ ps) = ap (λ (z : List ℕ). record_encoding kw vw n p ++ z) (pieces_text ps)
+  pieces_encoding : (l : List (K × V)) → records_encoding (map_records kw vw n l) ≡ joined (map piece l)
+  pieces_encoding [] = refl
+  pieces_encoding (p ∷ ps) = ap (λ (z : List ℕ). record_encoding kw vw n p ++ z) (pieces_encoding ps)
 
   read_entry : (p : K × V) → length (entry_encoding kw vw p) < 2 ^ 64 → KeyOk p.0 → ValOk p.1 → (m : List (K × V)) →
       entry_taken key val same d m n LengthDelimited (delimited_encoding (entry_encoding kw vw p)) ≡ Some (step same m (pair_entry p))
@@ -216,7 +216,7 @@ module _ {K V : Type 0} (key : Reading K) (val : Reading V) (kw : Writing K) (vw
   unfolding entry_taken entry_cost
   map_back l fits ok distinct = record {
     pieces = map piece l;
-    spelled = pieces_text l;
+    spelled = pieces_encoding l;
     leads = subst (λ z. Leads (entry_taken key val same) (λ x. x == n) d [] (map piece l) z) (fold_back is_eq (as_record kw vw) (λ p. refl) l distinct) (leads_all [] l ok (map_has_encoding kw vw n l fits));
   }
 
@@ -235,11 +235,11 @@ module _ {K V : Type 0} (kw : Writing K) (vw : Writing V) (is : SizeIsLength kw 
 
 -- ---- the write
 module _ {K V : Type 0} (kw : Writing K) (vw : Writing V) (n : ℕ) (l m : List (K × V)) (old new : List ℕ) (walk : l ≡ m) where
-  text_is : field_encoding kw vw n l ≡ records_encoding (map_records kw vw n m)
-  text_is = ap (field_encoding kw vw n) walk ∙ sym (map_encoding kw vw n m)
+  encoding_is : field_encoding kw vw n l ≡ records_encoding (map_records kw vw n m)
+  encoding_is = ap (field_encoding kw vw n) walk ∙ sym (map_encoding kw vw n m)
 
   pub map_written : new ≡ old ++ field_encoding kw vw n l → WritesMap kw vw n m old (let r : Result (Unit {0}) EncodeError = Ok tt in r) new
-  map_written h = (field_encoding kw vw n l, h, λ small. text_is)
+  map_written h = (field_encoding kw vw n l, h, λ small. encoding_is)
 
   long_in : (done : List (K × V)) (p : K × V) (rest : List (K × V)) → length (entry_encoding kw vw p) ≤ length (field_encoding kw vw n (done ++ p ∷ rest))
   long_in [] p rest = omega (arith, length-append (record_encoding kw vw n p) (field_encoding kw vw n rest), length-append (tag_encoding n LengthDelimited) (delimited_encoding (entry_encoding kw vw p)), length-append (varint_encoding (length (entry_encoding kw vw p))) (entry_encoding kw vw p))
@@ -253,7 +253,7 @@ module _ {K V : Type 0} (kw : Writing K) (vw : Writing V) (n : ℕ) (l m : List 
       refl,
       λ small. (
         more ++ field_encoding kw vw n rest,
-        sym text_is ∙ ap (field_encoding kw vw n) split ∙ field_encoding-append kw vw n done (p ∷ rest)
+        sym encoding_is ∙ ap (field_encoding kw vw n) split ∙ field_encoding-append kw vw n done (p ∷ rest)
             ∙ ap (λ (z : List ℕ). field_encoding kw vw n done ++ (z ++ field_encoding kw vw n rest)) cut
             ∙ ap (λ (z : List ℕ). field_encoding kw vw n done ++ z) (append_assoc front more (field_encoding kw vw n rest))
             ∙ sym (append_assoc (field_encoding kw vw n done) front (more ++ field_encoding kw vw n rest)),
@@ -262,7 +262,7 @@ module _ {K V : Type 0} (kw : Writing K) (vw : Writing V) (n : ℕ) (l m : List 
     ),
   )
   map_unwritten encode.MessageTooLarge (done, p, rest, split, has, long, h) =
-      (field_encoding kw vw n done, h, (refl, λ small. absurd (omega (arith, small, long, long_in done p rest, ap (λ (z : List (K × V)). length (field_encoding kw vw n z)) split, ap length text_is))))
+      (field_encoding kw vw n done, h, (refl, λ small. absurd (omega (arith, small, long, long_in done p rest, ap (λ (z : List (K × V)). length (field_encoding kw vw n z)) split, ap length encoding_is))))
   map_unwritten (encode.GroupRefused e) h = absurd h
 
 -- a map field takes no slots

@@ -41,15 +41,15 @@ module _ {X : Type 0} (blank : X) where
   abbrev pub message_taken : (ℕ → X → List ℕ → Option X) → Taker (Option X)
   message_taken merged d v n w p = option_map (λ x. Some x) (message_in merged d (or_blank v) n w p)
 
-module _ {X : Type 0} (text : X → List ℕ) where
+module _ {X : Type 0} (encoding : X → List ℕ) where
   unfoldable pub message_records : ℕ → Option X → List (ℕ × Datum)
   message_records n None = []
-  message_records n (Some v) = (n, bytes (text v)) ∷ []
+  message_records n (Some v) = (n, bytes (encoding v)) ∷ []
 
   -- its length, and then the sizes of those in it
   unfoldable pub message_slots : (X → List ℕ) → Option X → List ℕ
   message_slots slots None = []
-  message_slots slots (Some v) = cap (length (text v)) ∷ slots v
+  message_slots slots (Some v) = cap (length (encoding v)) ∷ slots v
 
 -- how deep messages and groups nest in it
 abbrev pub message_levels : {X : Type 0} → (X → ℕ) → Option X → ℕ

@@ -20,7 +20,7 @@ use Rattle.buffa_wire.specs.BudgetLeft.{BudgetLeft, Lacks, PaysAtMost}
 use Rattle.buffa_wire.specs.Cache.{Cache, advanced}
 use Rattle.buffa_bytes.specs.Field.{Payload}
 use Rattle.buffa_bytes.specs.Gives.{FullOnlyIf}
-use Rattle.buffa_wire.specs.Message.{IsInside, PayloadFault, cost_of_payload}
+use Rattle.buffa_wire.specs.Message.{IsInside, MessageFault, cost_of_payload}
 use Rattle.buffa_bytes.specs.Number.{IsNumber}
 use Rattle.buffa_wire.specs.Parse.{Fits}
 use Rattle.buffa_wire.specs.Passes.{IsSmall, IsWritten, cap}
@@ -74,7 +74,7 @@ module _ {X : Type 0} (merged : ℕ → X → List ℕ → Option X) (cost : ℕ
     unfolding message_in
     untaken d none p more payload split = let u = delimited_alone d n w p more bs wire payload split in rw (wire, u.2) (none u.0 more u.1)
 
-    why : (d : ℕ) (e : DecodeError) → PayloadFault merged cost d old bs before e → Lacks before (message_cost cost d n w bs) ⊎ (Untaken (message_in merged) d old n w bs × NoLimit e)
+    why : (d : ℕ) (e : DecodeError) → MessageFault merged cost d old bs before e → Lacks before (message_cost cost d n w bs) ⊎ (Untaken (message_in merged) d old n w bs × NoLimit e)
     unfolding message_cost
     why zero e is = inr (untaken zero (λ b more k. refl), subst (λ z. NoLimit z) (sym is) (λ l. l))
     why (suc d) e (inl is) = inr (untaken (suc d) (λ b more k. let two = sym k ∙ is in cc), length_no_limit bs e (agree_err (delimited_at bs) e (delimited_sound bs) is))
@@ -82,7 +82,7 @@ module _ {X : Type 0} (merged : ℕ → X → List ℕ → Option X) (cost : ℕ
     why (suc d) e (inr (b, after_b, is, inr (none, unlimited))) =
         inr (untaken (suc d) (λ a more k. ap (merged d old) (first_same a b more after_b (sym k ∙ is)) ∙ none), unlimited)
 
-    pub inside_taken : (d : ℕ) (r : Result (Unit {0}) DecodeError) → OnOk r (IsInside merged cost d old bs before new after rest) → IfErr r (λ e. e ≢ OutOfMemory → PayloadFault merged cost d old bs before e) →
+    pub inside_taken : (d : ℕ) (r : Result (Unit {0}) DecodeError) → OnOk r (IsInside merged cost d old bs before new after rest) → IfErr r (λ e. e ≢ OutOfMemory → MessageFault merged cost d old bs before e) →
         OnErr r (PaysAtMost before (cost_of_payload cost d (delimited_at bs)) after) → IsTaken (message_in merged) (message_cost cost) d old n w bs before r new after rest
     unfolding message_cost
     inside_taken d (Ok x) ok fault spent = inside_ok d ok
@@ -129,24 +129,24 @@ head n inner = tag_encoding n LengthDelimited ++ varint_encoding inner
 
 -- a length is told, unless it is too large for a message
 abbrev pub Tells : ℕ → List ℕ → Type 0
-Tells inner text = (length text < 4294967295 → inner ≡ length text) × (4294967295 ≤ length text → 4294967295 ≤ inner)
+Tells inner encoding = (length encoding < 4294967295 → inner ≡ length encoding) × (4294967295 ≤ length encoding → 4294967295 ≤ inner)
 
-pub cap_tells : (inner : ℕ) (text : List ℕ) → inner ≡ cap (length text) → Tells inner text
-cap_tells inner text is = ((λ h. omega (arith, is, h)), (λ h. omega (arith, is, h)))
+pub cap_tells : (inner : ℕ) (encoding : List ℕ) → inner ≡ cap (length encoding) → Tells inner encoding
+cap_tells inner encoding is = ((λ h. omega (arith, is, h)), (λ h. omega (arith, is, h)))
 
-module _ (n inner : ℕ) (text : List ℕ) (is : Tells inner text) where
-  head_then : length text < 4294967295 → head n inner ++ text ≡ records_encoding ((n, bytes text) ∷ [])
+module _ (n inner : ℕ) (encoding : List ℕ) (is : Tells inner encoding) where
+  head_then : length encoding < 4294967295 → head n inner ++ encoding ≡ records_encoding ((n, bytes encoding) ∷ [])
   head_then h =
       let tag = tag_encoding n LengthDelimited in
-      append_assoc tag (varint_encoding inner) text ∙ ap (λ (k : ℕ). tag ++ (varint_encoding k ++ text)) (is.0 h) ∙ sym (append-nil (tag ++ delimited_encoding text))
+      append_assoc tag (varint_encoding inner) encoding ∙ ap (λ (k : ℕ). tag ++ (varint_encoding k ++ encoding)) (is.0 h) ∙ sym (append-nil (tag ++ delimited_encoding encoding))
 
-  whole_length : length (records_encoding ((n, bytes text) ∷ [])) ≡ length (tag_encoding n LengthDelimited) + (length (varint_encoding (length text)) + length text)
+  whole_length : length (records_encoding ((n, bytes encoding) ∷ [])) ≡ length (tag_encoding n LengthDelimited) + (length (varint_encoding (length encoding)) + length encoding)
   whole_length =
       let tag = tag_encoding n LengthDelimited in
-      ap length (append-nil (tag ++ delimited_encoding text)) ∙ length-append tag (delimited_encoding text) ∙ ap (λ (z : ℕ). length tag + z) (length-append (varint_encoding (length text)) text)
+      ap length (append-nil (tag ++ delimited_encoding encoding)) ∙ length-append tag (delimited_encoding encoding) ∙ ap (λ (z : ℕ). length tag + z) (length-append (varint_encoding (length encoding)) encoding)
 
-  pub record_size : (tag len total : ℕ) → tag ≡ length (tag_encoding n LengthDelimited) → len ≡ length (varint_encoding inner) → cap total ≡ cap (tag + (len + inner)) → cap total ≡ cap (length (records_encoding ((n, bytes text) ∷ [])))
-  record_size tag len total h k e = elim (cases_lt (length text) 4294967295) [
+  pub record_size : (tag len total : ℕ) → tag ≡ length (tag_encoding n LengthDelimited) → len ≡ length (varint_encoding inner) → cap total ≡ cap (tag + (len + inner)) → cap total ≡ cap (length (records_encoding ((n, bytes encoding) ∷ [])))
+  record_size tag len total h k e = elim (cases_lt (length encoding) 4294967295) [
     | inl small ↦
         let same = is.0 (omega (arith, small)) in
         let l = ap (λ (z : ℕ). length (varint_encoding z)) same in
@@ -155,18 +155,18 @@ module _ (n inner : ℕ) (text : List ℕ) (is : Tells inner text) where
   ]
 
   abbrev pub spelled_one : List ℕ
-  spelled_one = records_encoding ((n, bytes text) ∷ [])
+  spelled_one = records_encoding ((n, bytes encoding) ∷ [])
 
-  small_text : IsSmall spelled_one → IsSmall text
-  small_text h = omega (arith, h, whole_length)
+  small_encoding : IsSmall spelled_one → IsSmall encoding
+  small_encoding h = omega (arith, h, whole_length)
 
   -- the head, and then the encoding
   module _ (slots : List ℕ) (c1 c2 : Cache) (b0 b1 b2 : List ℕ) where
-    pub record_after : (r : Result (Unit {0}) EncodeError) → b1 ≡ b0 ++ head n inner → IsWritten text slots c1 b1 r c2 b2 → IsWritten spelled_one slots c1 b0 r c2 b2
+    pub record_after : (r : Result (Unit {0}) EncodeError) → b1 ≡ b0 ++ head n inner → IsWritten encoding slots c1 b1 r c2 b2 → IsWritten spelled_one slots c1 b0 r c2 b2
     record_after r h w =
         let put = written_put (IsSmall spelled_one) (head n inner) c1 b0 b1 done h in
-        let both = written_then (IsSmall spelled_one) (IsSmall text) (IsSmall spelled_one) (head n inner) text [] slots c1 c1 c2 b0 b1 b2 (λ s. (s, small_text s)) r put w in
-        written_same (IsSmall spelled_one) (IsSmall spelled_one) (head n inner ++ text) spelled_one slots 0 c1 c2 c2 b0 b2 (λ s. s) (λ s. head_then (omega (arith, small_text s))) r both
+        let both = written_then (IsSmall spelled_one) (IsSmall encoding) (IsSmall spelled_one) (head n inner) encoding [] slots c1 c1 c2 b0 b1 b2 (λ s. (s, small_encoding s)) r put w in
+        written_same (IsSmall spelled_one) (IsSmall spelled_one) (head n inner ++ encoding) spelled_one slots 0 c1 c2 c2 b0 b2 (λ s. s) (λ s. head_then (omega (arith, small_encoding s))) r both
 
     pub head_cut : (e : EncodeError) → (e ≡ encode.OutOfMemory) × WritesFront b0 (head n inner) b1 → IsWritten spelled_one slots c1 b0 (refused e) c1 b1
     head_cut e (m, (front, rest, split, is_new, more)) = (
@@ -175,9 +175,9 @@ module _ (n inner : ℕ) (text : List ℕ) (is : Tells inner text) where
       (
         m,
         λ s. (
-          rest ++ text,
-          sym (head_then (omega (arith, small_text s))) ∙ ap (λ z. z ++ text) split ∙ append_assoc front rest text,
-          omega (arith, more, length-append rest text),
+          rest ++ encoding,
+          sym (head_then (omega (arith, small_encoding s))) ∙ ap (λ z. z ++ encoding) split ∙ append_assoc front rest encoding,
+          omega (arith, more, length-append rest encoding),
         ),
         consumes_none slots c1,
       ),
@@ -185,43 +185,43 @@ module _ (n inner : ℕ) (text : List ℕ) (is : Tells inner text) where
 
   -- the same behind a slot
   module _ (slots : List ℕ) (c0 c1 c2 : Cache) (b0 b1 b2 : List ℕ) (on : c1 ≡ advanced 1 c0) where
-    pub record_written : (r : Result (Unit {0}) EncodeError) → b1 ≡ b0 ++ head n inner → IsWritten text slots c1 b1 r c2 b2 → IsWritten spelled_one (inner ∷ slots) c0 b0 r c2 b2
+    pub record_written : (r : Result (Unit {0}) EncodeError) → b1 ≡ b0 ++ head n inner → IsWritten encoding slots c1 b1 r c2 b2 → IsWritten spelled_one (inner ∷ slots) c0 b0 r c2 b2
     record_written r h w = written_behind (IsSmall spelled_one) (IsSmall spelled_one) spelled_one [] slots inner c0 c1 c2 b0 b2 on r (record_after slots c1 c2 b0 b1 b2 r h w)
 
     pub head_short : (e : EncodeError) → (e ≡ encode.OutOfMemory) × WritesFront b0 (head n inner) b1 → IsWritten spelled_one (inner ∷ slots) c0 b0 (refused e) c1 b1
     head_short e h = written_behind (IsSmall spelled_one) (IsSmall spelled_one) spelled_one [] slots inner c0 c1 c1 b0 b1 on (refused e) (head_cut slots c1 c1 b0 b1 b1 e h)
 
 -- a message has a slot
-pub message_has_slot : {X : Type 0} (text slots : X → List ℕ) (v : X) (o : Option X) → o ≡ Some v → message_slots text slots o ≡ [] → ⊥
+pub message_has_slot : {X : Type 0} (encoding slots : X → List ℕ) (v : X) (o : Option X) → o ≡ Some v → message_slots encoding slots o ≡ [] → ⊥
 unfolding message_slots
-message_has_slot text slots v o is none = let two = sym (ap (message_slots text slots) is) ∙ none in cc
+message_has_slot encoding slots v o is none = let two = sym (ap (message_slots encoding slots) is) ∙ none in cc
 
 -- no message, an empty encoding
-pub unwritten_message : {X : Type 0} (text slots : X → List ℕ) (n : ℕ) (v : Option X) (c : Cache) (b : List ℕ) → v ≡ None → IsWritten (records_encoding (message_records text n v)) (message_slots text slots v) c b done c b
+pub unwritten_message : {X : Type 0} (encoding slots : X → List ℕ) (n : ℕ) (v : Option X) (c : Cache) (b : List ℕ) → v ≡ None → IsWritten (records_encoding (message_records encoding n v)) (message_slots encoding slots v) c b done c b
 unfolding message_records message_slots
-unwritten_message text slots n v c b is = subst (λ z. IsWritten (records_encoding (message_records text n z)) (message_slots text slots z) c b done c b) (sym is) (written_none (IsSmall []) c b)
+unwritten_message encoding slots n v c b is = subst (λ z. IsWritten (records_encoding (message_records encoding n z)) (message_slots encoding slots z) c b done c b) (sym is) (written_none (IsSmall []) c b)
 
 -- ---- it reads back
-module _ {X : Type 0} (merged : ℕ → X → List ℕ → Option X) (blank : X) (text : X → List ℕ) (level : X → ℕ) (Normal : X → Type 0)
-    (back : (d : ℕ) (v : X) → Normal v → level v ≤ d → merged d blank (text v) ≡ Some v) (n : ℕ) (number : IsNumber n) where
-  pub taken_back : (d : ℕ) (v : X) → length (text v) < 2 ^ 64 → Normal v → suc (level v) ≤ d → message_in merged d blank n LengthDelimited (delimited_encoding (text v)) ≡ Some v
+module _ {X : Type 0} (merged : ℕ → X → List ℕ → Option X) (blank : X) (encoding : X → List ℕ) (level : X → ℕ) (Normal : X → Type 0)
+    (back : (d : ℕ) (v : X) → Normal v → level v ≤ d → merged d blank (encoding v) ≡ Some v) (n : ℕ) (number : IsNumber n) where
+  pub taken_back : (d : ℕ) (v : X) → length (encoding v) < 2 ^ 64 → Normal v → suc (level v) ≤ d → message_in merged d blank n LengthDelimited (delimited_encoding (encoding v)) ≡ Some v
   unfolding message_in
   taken_back zero v fits normal low = absurd (omega arith)
   taken_back (suc d) v fits normal low =
-      let alone : delimited_at (delimited_encoding (text v)) ≡ Ok (text v, []) = ap delimited_at (sym (append-nil (delimited_encoding (text v)))) ∙ delimited_back (text v) [] fits in
+      let alone : delimited_at (delimited_encoding (encoding v)) ≡ Ok (encoding v, []) = ap delimited_at (sym (append-nil (delimited_encoding (encoding v)))) ∙ delimited_back (encoding v) [] fits in
       rw alone (back d v normal (omega (arith, low)))
 
-  pub message_back : (d : ℕ) (v : Option X) → Fits (records_of (message_records text n v)) → IfThere Normal v → message_levels level v ≤ d →
-      ReadsBack (message_taken blank merged) (λ m. m == n) d None (records_encoding (message_records text n v)) v
+  pub message_back : (d : ℕ) (v : Option X) → Fits (records_of (message_records encoding n v)) → IfThere Normal v → message_levels level v ≤ d →
+      ReadsBack (message_taken blank merged) (λ m. m == n) d None (records_encoding (message_records encoding n v)) v
   unfolding message_records
   message_back d None fits normal low = record { pieces = []; spelled = refl; leads = refl }
   message_back d (Some v) fits normal low = record {
-    pieces = record { tag = tag_encoding n LengthDelimited; number = n; wire = LengthDelimited; payload = delimited_encoding (text v) } ∷ [];
+    pieces = record { tag = tag_encoding n LengthDelimited; number = n; wire = LengthDelimited; payload = delimited_encoding (encoding v) } ∷ [];
     spelled = refl;
     leads = (
       eq-eqb n n refl,
       is_tag n LengthDelimited number,
-      (varint_encoding (length (text v)), text v, IsVarint-varint_encoding (length (text v)) fits.1, refl),
+      (varint_encoding (length (encoding v)), encoding v, IsVarint-varint_encoding (length (encoding v)) fits.1, refl),
       Some v,
       ap (option_map (λ x. Some x)) (taken_back d v fits.1 normal low),
       refl,

@@ -32,64 +32,64 @@ use Rattle.buffa_fields.specs.NestedMaps.{pair_levels, pair_records, pair_slots}
 use Rattle.buffa_fields.specs.Takes.{ReadsBack}
 
 -- no slots, no pairs
-pub no_pairs : {K X : Type 0} (text slots : X → List ℕ) (l : List (K × X)) → pair_slots text slots l ≡ [] → l ≡ []
+pub no_pairs : {K X : Type 0} (encoding slots : X → List ℕ) (l : List (K × X)) → pair_slots encoding slots l ≡ [] → l ≡ []
 unfolding pair_slots
-no_pairs text slots [] none = refl
-no_pairs text slots (p ∷ ps) none = cc
+no_pairs encoding slots [] none = refl
+no_pairs encoding slots (p ∷ ps) none = cc
 
 -- ---- the passes
-module _ {K X : Type 0} (key : Writing K) (text slots : X → List ℕ) (n : ℕ) (l : List (K × X)) where
+module _ {K X : Type 0} (key : Writing K) (encoding slots : X → List ℕ) (n : ℕ) (l : List (K × X)) where
   abbrev whole : List ℕ
-  whole = records_encoding (pair_records key text n l)
+  whole = records_encoding (pair_records key encoding n l)
 
-  text_is : field_encoding key (delimited_writing text) n l ≡ whole
+  encoding_is : field_encoding key (delimited_writing encoding) n l ≡ whole
   unfolding pair_records
-  text_is = sym (map_encoding key (delimited_writing text) n l)
+  encoding_is = sym (map_encoding key (delimited_writing encoding) n l)
 
-  size_is : length whole ≡ field_size key (delimited_writing text) (length (tag_encoding n LengthDelimited)) l
-  size_is = ap length (sym text_is) ∙ length-field_encoding key (delimited_writing text) n l
+  size_is : length whole ≡ field_size key (delimited_writing encoding) (length (tag_encoding n LengthDelimited)) l
+  size_is = ap length (sym encoding_is) ∙ length-field_encoding key (delimited_writing encoding) n l
 
   module _ (k t : ℕ) (tag : t ≡ length (varint_encoding k)) (number : k ≡ 8 * n + 2) (c0 c1 : Cache) where
-    length_is : length whole ≡ field_size key (delimited_writing text) t l
-    length_is = size_is ∙ ap (λ (z : ℕ). field_size key (delimited_writing text) z l) (sym (tag ∙ ap (λ (z : ℕ). length (varint_encoding z)) number))
+    length_is : length whole ≡ field_size key (delimited_writing encoding) t l
+    length_is = size_is ∙ ap (λ (z : ℕ). field_size key (delimited_writing encoding) z l) (sym (tag ∙ ap (λ (z : ℕ). length (varint_encoding z)) number))
 
     -- the size that was told, as a number of 32 bits
-    pub pairs_sized : (total told : ℕ) → told ≡ cap total → IsFieldSized key text slots t l c0 (sum total) c1 → IsSized whole (pair_slots text slots l) c0 (sum told) c1
+    pub pairs_sized : (total told : ℕ) → told ≡ cap total → IsFieldSized key encoding slots t l c0 (sum total) c1 → IsSized whole (pair_slots encoding slots l) c0 (sum told) c1
     unfolding pair_slots
     pairs_sized total told is (capped, exact, added) = (is ∙ capped ∙ ap cap (sym length_is), added)
 
-    pub pairs_unsized : (e : EncodeError) → IsFieldSized key text slots t l c0 (failed e) c1 → IsSized whole (pair_slots text slots l) c0 (failed e) c1
+    pub pairs_unsized : (e : EncodeError) → IsFieldSized key encoding slots t l c0 (failed e) c1 → IsSized whole (pair_slots encoding slots l) c0 (failed e) c1
     pairs_unsized e h = h
 
-  pub pairs_written : (c0 c1 : Cache) (b0 b1 : List ℕ) (r : Result (Unit {0}) EncodeError) → IsFieldWritten key text slots n l c0 b0 r c1 b1 → IsWritten whole (pair_slots text slots l) c0 b0 r c1 b1
+  pub pairs_written : (c0 c1 : Cache) (b0 b1 : List ℕ) (r : Result (Unit {0}) EncodeError) → IsFieldWritten key encoding slots n l c0 b0 r c1 b1 → IsWritten whole (pair_slots encoding slots l) c0 b0 r c1 b1
   unfolding pair_slots
   pairs_written c0 c1 b0 b1 r h =
-      written_same (IsSmallField key text l) (IsSmall whole) (field_encoding key (delimited_writing text) n l) whole (field_slots text slots l) 0 c0 c1 c1 b0 b1
-      (λ small. small_field key text (length (tag_encoding n LengthDelimited)) l (omega (arith, small, size_is))) (λ small. text_is) r h
+      written_same (IsSmallField key encoding l) (IsSmall whole) (field_encoding key (delimited_writing encoding) n l) whole (field_slots encoding slots l) 0 c0 c1 c1 b0 b1
+      (λ small. small_field key encoding (length (tag_encoding n LengthDelimited)) l (omega (arith, small, size_is))) (λ small. encoding_is) r h
 
 -- ---- the encoding reads back
-module _ {X : Type 0} (merged : ℕ → X → List ℕ → Option X) (blank : X) (cost : ℕ → List ℕ → BudgetLeft) (text : X → List ℕ) (level : X → ℕ) (Normal : X → Type 0)
-    (back : (d : ℕ) (v : X) → Normal v → level v ≤ d → merged d blank (text v) ≡ Some v) where
+module _ {X : Type 0} (merged : ℕ → X → List ℕ → Option X) (blank : X) (cost : ℕ → List ℕ → BudgetLeft) (encoding : X → List ℕ) (level : X → ℕ) (Normal : X → Type 0)
+    (back : (d : ℕ) (v : X) → Normal v → level v ≤ d → merged d blank (encoding v) ≡ Some v) where
   -- a message that is there, and isn't too deep
   abbrev IsLow : ℕ → X → Type 0
-  IsLow d v = Normal v × (length (text v) < 2 ^ 64) × (suc (level v) ≤ d)
+  IsLow d v = Normal v × (length (encoding v) < 2 ^ 64) × (suc (level v) ≤ d)
 
-  inside_back : (d : ℕ) (v : X) → IsLow d v → IsReadBack (message_reading blank merged cost) (delimited_writing text) d v
+  inside_back : (d : ℕ) (v : X) → IsLow d v → IsReadBack (message_reading blank merged cost) (delimited_writing encoding) d v
   inside_back zero v (normal, fits, low) = absurd (omega (arith, low))
   inside_back (suc d) v (normal, fits, low) =
-      (refl, held (text v), (varint_encoding (length (text v)), IsVarint-varint_encoding (length (text v)) fits, refl), ap meant (back d v normal (omega (arith, low))))
+      (refl, held (encoding v), (varint_encoding (length (encoding v)), IsVarint-varint_encoding (length (encoding v)) fits, refl), ap meant (back d v normal (omega (arith, low))))
 
   module _ {K : Type 0} (key : Reading K) (kw : Writing K) (same_key : kw.wire ≡ key.wire) (same : K → K → Bool) (is_eq : IsEquivalence same) (KeyOk : K → Type 0)
       (key_back : (d : ℕ) (v : K) → KeyOk v → IsReadBack key kw d v) (n : ℕ) (number : IsNumber n) (d : ℕ) where
-    all_low : (l : List (K × X)) → Fits (records_of (map_records kw (delimited_writing text) n l)) → AllHold KeyOk Normal l → pair_levels level l ≤ d → AllHold KeyOk (IsLow d) l
+    all_low : (l : List (K × X)) → Fits (records_of (map_records kw (delimited_writing encoding) n l)) → AllHold KeyOk Normal l → pair_levels level l ≤ d → AllHold KeyOk (IsLow d) l
     all_low [] fits ok low = tt
     all_low (p ∷ ps) fits ok low =
-        let whole = length-entry_encoding kw (delimited_writing text) p in
-        let both = length-append (varint_encoding (length (text p.1))) (text p.1) in
+        let whole = length-entry_encoding kw (delimited_writing encoding) p in
+        let both = length-append (varint_encoding (length (encoding p.1))) (encoding p.1) in
         (ok.0, (ok.1, omega (arith, fits.1, whole, both), omega (arith, low)), all_low ps fits.2 ok.2 (omega (arith, low)))
 
-    pub pairs_back : (l : List (K × X)) → Fits (records_of (pair_records kw text n l)) → AllHold KeyOk Normal l → IsDistinct same (keys_of l) → pair_levels level l ≤ d →
-        ReadsBack (entry_taken key (message_reading blank merged cost) same) (λ m. m == n) d [] (records_encoding (pair_records kw text n l)) l
+    pub pairs_back : (l : List (K × X)) → Fits (records_of (pair_records kw encoding n l)) → AllHold KeyOk Normal l → IsDistinct same (keys_of l) → pair_levels level l ≤ d →
+        ReadsBack (entry_taken key (message_reading blank merged cost) same) (λ m. m == n) d [] (records_encoding (pair_records kw encoding n l)) l
     unfolding pair_records
     pairs_back l fits ok distinct low =
-        map_back key (message_reading blank merged cost) kw (delimited_writing text) same_key refl same is_eq KeyOk (IsLow d) d (key_back d) (inside_back d) n number l fits (all_low l fits ok low) distinct
+        map_back key (message_reading blank merged cost) kw (delimited_writing encoding) same_key refl same is_eq KeyOk (IsLow d) d (key_back d) (inside_back d) n number l fits (all_low l fits ok low) distinct

@@ -8,11 +8,11 @@ use Rattle.buffa_fields.specs.MapFields.{map_records}
 
 -- a record for each pair
 unfoldable pub pair_records : {K X : Type 0} → Writing K → (X → List ℕ) → ℕ → List (K × X) → List (ℕ × Datum)
-pair_records key text n l = map_records key (delimited_writing text) n l
+pair_records key encoding n l = map_records key (delimited_writing encoding) n l
 
 -- for each pair in order the length of its message, and then the sizes of those in it
 unfoldable pub pair_slots : {K X : Type 0} → (X → List ℕ) → (X → List ℕ) → List (K × X) → List ℕ
-pair_slots text slots l = field_slots text slots l
+pair_slots encoding slots l = field_slots encoding slots l
 
 -- how deep messages and groups nest in the deepest of them
 abbrev pub pair_levels : {K X : Type 0} → (X → ℕ) → List (K × X) → ℕ

@@ -15,58 +15,58 @@ use Rattle.buffa_fields.specs.Lists.{packed_records, packed_encoding}
 use Rattle.buffa_fields.specs.NestedLaws.{Tells, head, head_cut, record_after}
 
 -- ---- payloads, one behind the other
-module _ {V : Type 0} (text : V → List ℕ) where
-  text_two : (us vs : List V) → packed_encoding text (us ++ vs) ≡ packed_encoding text us ++ packed_encoding text vs
-  text_two [] vs = refl
-  text_two (u ∷ us) vs = ap (λ (z : List ℕ). text u ++ z) (text_two us vs) ∙ sym (append_assoc (text u) (packed_encoding text us) (packed_encoding text vs))
+module _ {V : Type 0} (encoding : V → List ℕ) where
+  encoding_two : (us vs : List V) → packed_encoding encoding (us ++ vs) ≡ packed_encoding encoding us ++ packed_encoding encoding vs
+  encoding_two [] vs = refl
+  encoding_two (u ∷ us) vs = ap (λ (z : List ℕ). encoding u ++ z) (encoding_two us vs) ∙ sym (append_assoc (encoding u) (packed_encoding encoding us) (packed_encoding encoding vs))
 
-  text_more : (us : List V) (v : V) → packed_encoding text (us ++ v ∷ []) ≡ packed_encoding text us ++ text v
-  text_more us v = text_two us (v ∷ []) ∙ ap (λ (z : List ℕ). packed_encoding text us ++ z) (append-nil (text v))
+  encoding_more : (us : List V) (v : V) → packed_encoding encoding (us ++ v ∷ []) ≡ packed_encoding encoding us ++ encoding v
+  encoding_more us v = encoding_two us (v ∷ []) ∙ ap (λ (z : List ℕ). packed_encoding encoding us ++ z) (append-nil (encoding v))
 
   module _ {P : Type 0} (meaning : P → V) (xs : List P) (i : ℕ) (x : P) (lt : i < length xs) (is : x ≡ get_or xs i x) where
-    abbrev text_to : ℕ → List ℕ
-    text_to k = packed_encoding text (map meaning (take k xs))
+    abbrev encoding_to : ℕ → List ℕ
+    encoding_to k = packed_encoding encoding (map meaning (take k xs))
 
     abbrev here : List ℕ
-    here = text (meaning x)
+    here = encoding (meaning x)
 
-    to_next : text_to (i + 1) ≡ text_to i ++ here
-    to_next = ap (packed_encoding text) (means_more meaning xs i x lt is) ∙ text_more (map meaning (take i xs)) (meaning x)
+    to_next : encoding_to (i + 1) ≡ encoding_to i ++ here
+    to_next = ap (packed_encoding encoding) (means_more meaning xs i x lt is) ∙ encoding_more (map meaning (take i xs)) (meaning x)
 
-    pub payloads_more : (total len new : ℕ) → total ≡ saturated (length (text_to i)) → len ≡ length here → new ≡ min (total + len) 18446744073709551615 → new ≡ saturated (length (text_to (i + 1)))
+    pub payloads_more : (total len new : ℕ) → total ≡ saturated (length (encoding_to i)) → len ≡ length here → new ≡ min (total + len) 18446744073709551615 → new ≡ saturated (length (encoding_to (i + 1)))
     payloads_more total len new h k e =
-        let l = length-append (text_to i) here in
-        let sum : new ≡ saturated (length (text_to i) + length here) = omega (arith, h, k, e) in
+        let l = length-append (encoding_to i) here in
+        let sum : new ≡ saturated (length (encoding_to i) + length here) = omega (arith, h, k, e) in
         sum ∙ ap saturated (sym l ∙ ap length (sym to_next))
 
-    pub payload_more : (old mid new : List ℕ) → mid ≡ old ++ text_to i → new ≡ mid ++ here → new ≡ old ++ text_to (i + 1)
-    payload_more old mid new h k = k ∙ ap (λ (z : List ℕ). z ++ here) h ∙ append_assoc old (text_to i) here ∙ ap (λ (z : List ℕ). old ++ z) (sym to_next)
+    pub payload_more : (old mid new : List ℕ) → mid ≡ old ++ encoding_to i → new ≡ mid ++ here → new ≡ old ++ encoding_to (i + 1)
+    payload_more old mid new h k = k ∙ ap (λ (z : List ℕ). z ++ here) h ∙ append_assoc old (encoding_to i) here ∙ ap (λ (z : List ℕ). old ++ z) (sym to_next)
 
-    pub payload_stops : (old mid new : List ℕ) → mid ≡ old ++ text_to i → WritesFront mid here new → WritesFront old (packed_encoding text (map meaning xs)) new
+    pub payload_stops : (old mid new : List ℕ) → mid ≡ old ++ encoding_to i → WritesFront mid here new → WritesFront old (packed_encoding encoding (map meaning xs)) new
     payload_stops old mid new h front =
         let rest = map meaning (drop (i + 1) xs) in
-        let all : packed_encoding text (map meaning xs) ≡ (text_to i ++ here) ++ packed_encoding text rest =
-        ap (packed_encoding text) (means_cut meaning xs i x lt is ∙ sym (append_assoc (map meaning (take i xs)) (meaning x ∷ []) rest))
-        ∙ text_two (map meaning (take i xs) ++ meaning x ∷ []) rest ∙ ap (λ (z : List ℕ). z ++ packed_encoding text rest) (text_more (map meaning (take i xs)) (meaning x)) in
-        subst (λ (z : List ℕ). WritesFront old z new) (sym all) (front_first old (text_to i ++ here) (packed_encoding text rest) new (front_second old (text_to i) here mid new h front))
+        let all : packed_encoding encoding (map meaning xs) ≡ (encoding_to i ++ here) ++ packed_encoding encoding rest =
+        ap (packed_encoding encoding) (means_cut meaning xs i x lt is ∙ sym (append_assoc (map meaning (take i xs)) (meaning x ∷ []) rest))
+        ∙ encoding_two (map meaning (take i xs) ++ meaning x ∷ []) rest ∙ ap (λ (z : List ℕ). z ++ packed_encoding encoding rest) (encoding_more (map meaning (take i xs)) (meaning x)) in
+        subst (λ (z : List ℕ). WritesFront old z new) (sym all) (front_first old (encoding_to i ++ here) (packed_encoding encoding rest) new (front_second old (encoding_to i) here mid new h front))
 
 -- ---- one record of them all
-module _ {V : Type 0} (text : V → List ℕ) (n : ℕ) {P : Type 0} (meaning : P → V) (xs : List P) where
+module _ {V : Type 0} (encoding : V → List ℕ) (n : ℕ) {P : Type 0} (meaning : P → V) (xs : List P) where
   abbrev all : List ℕ
-  all = packed_encoding text (map meaning xs)
+  all = packed_encoding encoding (map meaning xs)
 
   abbrev pub packed : List ℕ
-  packed = records_encoding (packed_records text n (map meaning xs))
+  packed = records_encoding (packed_records encoding n (map meaning xs))
 
   pub all_tells : (inner : ℕ) → inner ≡ saturated (length all) → Tells inner all
   all_tells inner is = ((λ h. omega (arith, is, h)), (λ h. omega (arith, is, h)))
 
-  is_none : (l : List P) → length l ≤ 0 → packed_records text n (map meaning l) ≡ []
+  is_none : (l : List P) → length l ≤ 0 → packed_records encoding n (map meaning l) ≡ []
   unfolding packed_records
   is_none [] h = refl
   is_none (x ∷ l) h = absurd (omega arith)
 
-  is_one : (l : List P) → 0 < length l → packed_records text n (map meaning l) ≡ (n, bytes (packed_encoding text (map meaning l))) ∷ []
+  is_one : (l : List P) → 0 < length l → packed_records encoding n (map meaning l) ≡ (n, bytes (packed_encoding encoding (map meaning l))) ∷ []
   unfolding packed_records
   is_one [] h = absurd (omega arith)
   is_one (x ∷ l) h = refl

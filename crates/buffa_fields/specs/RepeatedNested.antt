@@ -24,15 +24,15 @@ messages_cost each cost d n w bs = if same_wire LengthDelimited w then plus (uni
 abbrev pub MessagesTakeMemory : Asks
 MessagesTakeMemory d n w bs = (w ≡ LengthDelimited) × (0 < d) × IsOk (delimited_at bs)
 
-module _ {X : Type 0} (text : X → List ℕ) where
+module _ {X : Type 0} (encoding : X → List ℕ) where
   -- a record for each message
   abbrev pub messages_records : ℕ → List X → List (ℕ × Datum)
-  messages_records n vs = element_records (λ v. bytes (text v)) n vs
+  messages_records n vs = element_records (λ v. bytes (encoding v)) n vs
 
   -- for each message in order its length, and then the sizes of those in it
   unfoldable pub messages_slots : (X → List ℕ) → List X → List ℕ
   messages_slots slots [] = []
-  messages_slots slots (v ∷ vs) = (cap (length (text v)) ∷ slots v) ++ messages_slots slots vs
+  messages_slots slots (v ∷ vs) = (cap (length (encoding v)) ∷ slots v) ++ messages_slots slots vs
 
 -- how deep messages and groups nest in the deepest of them
 abbrev pub messages_levels : {X : Type 0} → (X → ℕ) → List X → ℕ

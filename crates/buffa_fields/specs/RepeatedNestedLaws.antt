@@ -24,7 +24,7 @@ use Rattle.buffa_bytes.specs.Varint.{varint_encoding}
 use Rattle.buffa_map.proofs.BackLemmas.{is_tag}
 use Rattle.buffa_map.proofs.EntryLemmas.{same_false}
 use Rattle.buffa_fields.specs.LayoutLaws.{failed, sized_more, small_both, sum}
-use Rattle.buffa_fields.specs.ListLaws.{means_cut, means_more, text_cut, text_next}
+use Rattle.buffa_fields.specs.ListLaws.{means_cut, means_more, encoding_cut, encoding_next}
 use Rattle.buffa_fields.specs.Lists.{Each, element_records}
 use Rattle.buffa_fields.specs.Nested.{message_cost, message_in}
 use Rattle.buffa_fields.specs.NestedLaws.{delimited_alone, message_wire_err, taken_back}
@@ -98,132 +98,132 @@ message_there merged (suc d) old new n LengthDelimited bs p rest h split is =
     let u = delimited_alone (suc d) n LengthDelimited p rest bs refl h split in (refl, omega arith, is_there (delimited_at bs) (u.0, rest) u.1)
 
 -- ---- sizes and encodings, message by message
-module _ {X : Type 0} (text slots : X → List ℕ) where
+module _ {X : Type 0} (encoding slots : X → List ℕ) where
   abbrev own : X → List ℕ
-  own v = cap (length (text v)) ∷ slots v
+  own v = cap (length (encoding v)) ∷ slots v
 
-  slots_two : (vs us : List X) → messages_slots text slots (vs ++ us) ≡ messages_slots text slots vs ++ messages_slots text slots us
+  slots_two : (vs us : List X) → messages_slots encoding slots (vs ++ us) ≡ messages_slots encoding slots vs ++ messages_slots encoding slots us
   unfolding messages_slots
   slots_two [] us = refl
-  slots_two (v ∷ vs) us = ap (λ (z : List ℕ). own v ++ z) (slots_two vs us) ∙ sym (append_assoc (own v) (messages_slots text slots vs) (messages_slots text slots us))
+  slots_two (v ∷ vs) us = ap (λ (z : List ℕ). own v ++ z) (slots_two vs us) ∙ sym (append_assoc (own v) (messages_slots encoding slots vs) (messages_slots encoding slots us))
 
-  slots_one : (v : X) → messages_slots text slots (v ∷ []) ≡ own v
+  slots_one : (v : X) → messages_slots encoding slots (v ∷ []) ≡ own v
   unfolding messages_slots
   slots_one v = append-nil (own v)
 
   module _ (n : ℕ) where
     -- no messages
-    pub sized_none : (c : Cache) → IsSized (records_encoding (messages_records text n [])) (messages_slots text slots []) c (sum 0) c
+    pub sized_none : (c : Cache) → IsSized (records_encoding (messages_records encoding n [])) (messages_slots encoding slots []) c (sum 0) c
     unfolding element_records messages_slots
     sized_none c = (refl, λ i. record { slots = sym (append-nil c.slots) i; next = c.next })
 
-    pub written_no : (c : Cache) (b : List ℕ) → IsWritten (records_encoding (messages_records text n [])) (messages_slots text slots []) c b done c b
+    pub written_no : (c : Cache) (b : List ℕ) → IsWritten (records_encoding (messages_records encoding n [])) (messages_slots encoding slots []) c b done c b
     unfolding element_records messages_slots
     written_no c b = written_none (IsSmall []) c b
 
     module _ {P : Type 0} (meaning : P → X) (xs : List P) (i : ℕ) (x : P) (lt : i < length xs) (is : x ≡ get_or xs i x) where
-      abbrev text_to : ℕ → List ℕ
-      text_to k = records_encoding (messages_records text n (map meaning (take k xs)))
+      abbrev encoding_to : ℕ → List ℕ
+      encoding_to k = records_encoding (messages_records encoding n (map meaning (take k xs)))
 
       abbrev slots_to : ℕ → List ℕ
-      slots_to k = messages_slots text slots (map meaning (take k xs))
+      slots_to k = messages_slots encoding slots (map meaning (take k xs))
 
       abbrev here : List ℕ
-      here = records_encoding ((n, bytes (text (meaning x))) ∷ [])
+      here = records_encoding ((n, bytes (encoding (meaning x))) ∷ [])
 
       abbrev all : List ℕ
-      all = records_encoding (messages_records text n (map meaning xs))
+      all = records_encoding (messages_records encoding n (map meaning xs))
 
       abbrev all_slots : List ℕ
-      all_slots = messages_slots text slots (map meaning xs)
+      all_slots = messages_slots encoding slots (map meaning xs)
 
       abbrev later : List X
       later = map meaning (drop (i + 1) xs)
 
-      text_on : text_to (i + 1) ≡ text_to i ++ here
-      text_on = text_next (λ v. bytes (text v)) n meaning xs i x lt is
+      encoding_on : encoding_to (i + 1) ≡ encoding_to i ++ here
+      encoding_on = encoding_next (λ v. bytes (encoding v)) n meaning xs i x lt is
 
       slots_on : slots_to (i + 1) ≡ slots_to i ++ own (meaning x)
       slots_on =
-          ap (messages_slots text slots) (means_more meaning xs i x lt is) ∙ slots_two (map meaning (take i xs)) (meaning x ∷ []) ∙ ap (λ (z : List ℕ). slots_to i ++ z) (slots_one (meaning x))
+          ap (messages_slots encoding slots) (means_more meaning xs i x lt is) ∙ slots_two (map meaning (take i xs)) (meaning x ∷ []) ∙ ap (λ (z : List ℕ). slots_to i ++ z) (slots_one (meaning x))
 
-      slots_cut : all_slots ≡ slots_to i ++ (own (meaning x) ++ messages_slots text slots later)
+      slots_cut : all_slots ≡ slots_to i ++ (own (meaning x) ++ messages_slots encoding slots later)
       slots_cut =
-          ap (messages_slots text slots) (means_cut meaning xs i x lt is) ∙ slots_two (map meaning (take i xs)) (meaning x ∷ later)
-          ∙ ap (λ (z : List ℕ). slots_to i ++ z) (slots_two (meaning x ∷ []) later ∙ ap (λ (z : List ℕ). z ++ messages_slots text slots later) (slots_one (meaning x)))
+          ap (messages_slots encoding slots) (means_cut meaning xs i x lt is) ∙ slots_two (map meaning (take i xs)) (meaning x ∷ later)
+          ∙ ap (λ (z : List ℕ). slots_to i ++ z) (slots_two (meaning x ∷ []) later ∙ ap (λ (z : List ℕ). z ++ messages_slots encoding slots later) (slots_one (meaning x)))
 
       -- a message has a slot
       pub messages_have_slots : all_slots ≡ [] → ⊥
       messages_have_slots none =
-          let rest = own (meaning x) ++ messages_slots text slots later in
+          let rest = own (meaning x) ++ messages_slots encoding slots later in
           let l : length (slots_to i ++ rest) ≡ 0 = ap length (sym slots_cut ∙ none) in
-          absurd (omega (arith, l, length-append (slots_to i) rest, length-append (own (meaning x)) (messages_slots text slots later)))
+          absurd (omega (arith, l, length-append (slots_to i) rest, length-append (own (meaning x)) (messages_slots encoding slots later)))
 
       -- the size pass goes on, or stops
-      pub size_on : (c0 c1 c2 : Cache) (total len new : ℕ) → IsSized (text_to i) (slots_to i) c0 (sum total) c1 → IsSized here (own (meaning x)) c1 (sum len) c2 → new ≡ min (total + len) 4294967295 →
-          IsSized (text_to (i + 1)) (slots_to (i + 1)) c0 (sum new) c2
+      pub size_on : (c0 c1 c2 : Cache) (total len new : ℕ) → IsSized (encoding_to i) (slots_to i) c0 (sum total) c1 → IsSized here (own (meaning x)) c1 (sum len) c2 → new ≡ min (total + len) 4294967295 →
+          IsSized (encoding_to (i + 1)) (slots_to (i + 1)) c0 (sum new) c2
       size_on c0 c1 c2 total len new h k e =
-          subst (λ (z : List ℕ). IsSized z (slots_to (i + 1)) c0 (sum new) c2) (sym text_on)
-          (subst (λ (z : List ℕ). IsSized (text_to i ++ here) z c0 (sum new) c2) (sym slots_on) (sized_more (text_to i) here (slots_to i) (own (meaning x)) c0 c1 c2 total len new h k e))
+          subst (λ (z : List ℕ). IsSized z (slots_to (i + 1)) c0 (sum new) c2) (sym encoding_on)
+          (subst (λ (z : List ℕ). IsSized (encoding_to i ++ here) z c0 (sum new) c2) (sym slots_on) (sized_more (encoding_to i) here (slots_to i) (own (meaning x)) c0 c1 c2 total len new h k e))
 
-      pub size_stops : (c0 c1 c2 : Cache) (total : ℕ) (e : EncodeError) → IsSized (text_to i) (slots_to i) c0 (sum total) c1 → IsSized here (own (meaning x)) c1 (failed e) c2 → IsSized all all_slots c0 (failed e) c2
+      pub size_stops : (c0 c1 c2 : Cache) (total : ℕ) (e : EncodeError) → IsSized (encoding_to i) (slots_to i) c0 (sum total) c1 → IsSized here (own (meaning x)) c1 (failed e) c2 → IsSized all all_slots c0 (failed e) c2
       size_stops c0 c1 c2 total e h (which, longer) = (which, (slots_to i ++ longer.0, longer.1 ∙ appended_twice (slots_to i) longer.0 c0 c1 h.1))
 
       -- the sizes that are next
-      pub next_of : (c0 c1 : Cache) (b0 b1 : List ℕ) → IsNext all_slots c0 → IsWritten (text_to i) (slots_to i) c0 b0 done c1 b1 → IsNext (own (meaning x)) c1
+      pub next_of : (c0 c1 : Cache) (b0 b1 : List ℕ) → IsNext all_slots c0 → IsWritten (encoding_to i) (slots_to i) c0 b0 done c1 b1 → IsNext (own (meaning x)) c1
       next_of c0 c1 b0 b1 h k =
-          next_front (own (meaning x)) (messages_slots text slots later) c1
-          (subst (λ z. IsNext (own (meaning x) ++ messages_slots text slots later) z) (sym k.2.0)
-          (next_past (slots_to i) (own (meaning x) ++ messages_slots text slots later) c0 (subst (λ (z : List ℕ). IsNext z c0) slots_cut h)))
+          next_front (own (meaning x)) (messages_slots encoding slots later) c1
+          (subst (λ z. IsNext (own (meaning x) ++ messages_slots encoding slots later) z) (sym k.2.0)
+          (next_past (slots_to i) (own (meaning x) ++ messages_slots encoding slots later) c0 (subst (λ (z : List ℕ). IsNext z c0) slots_cut h)))
 
       -- the write pass goes on, or stops
-      with_this : (r : Result (Unit {0}) EncodeError) (c0 c1 c2 : Cache) (b0 b1 b2 : List ℕ) → IsWritten (text_to i) (slots_to i) c0 b0 done c1 b1 → IsWritten here (own (meaning x)) c1 b1 r c2 b2 →
-          IsWritten (text_to i ++ here) (slots_to i ++ own (meaning x)) c0 b0 r c2 b2
+      with_this : (r : Result (Unit {0}) EncodeError) (c0 c1 c2 : Cache) (b0 b1 b2 : List ℕ) → IsWritten (encoding_to i) (slots_to i) c0 b0 done c1 b1 → IsWritten here (own (meaning x)) c1 b1 r c2 b2 →
+          IsWritten (encoding_to i ++ here) (slots_to i ++ own (meaning x)) c0 b0 r c2 b2
       with_this r c0 c1 c2 b0 b1 b2 h k =
-          written_then (IsSmall (text_to i)) (IsSmall here) (IsSmall (text_to i ++ here)) (text_to i) here (slots_to i) (own (meaning x)) c0 c1 c2 b0 b1 b2 (small_both (text_to i) here) r h k
+          written_then (IsSmall (encoding_to i)) (IsSmall here) (IsSmall (encoding_to i ++ here)) (encoding_to i) here (slots_to i) (own (meaning x)) c0 c1 c2 b0 b1 b2 (small_both (encoding_to i) here) r h k
 
-      pub write_on : (c0 c1 c2 : Cache) (b0 b1 b2 : List ℕ) → IsWritten (text_to i) (slots_to i) c0 b0 done c1 b1 → IsWritten here (own (meaning x)) c1 b1 done c2 b2 →
-          IsWritten (text_to (i + 1)) (slots_to (i + 1)) c0 b0 done c2 b2
+      pub write_on : (c0 c1 c2 : Cache) (b0 b1 b2 : List ℕ) → IsWritten (encoding_to i) (slots_to i) c0 b0 done c1 b1 → IsWritten here (own (meaning x)) c1 b1 done c2 b2 →
+          IsWritten (encoding_to (i + 1)) (slots_to (i + 1)) c0 b0 done c2 b2
       write_on c0 c1 c2 b0 b1 b2 h k =
-          subst (λ (z : List ℕ). IsWritten z (slots_to (i + 1)) c0 b0 done c2 b2) (sym text_on)
-          (subst (λ (z : List ℕ). IsWritten (text_to i ++ here) z c0 b0 done c2 b2) (sym slots_on) (with_this done c0 c1 c2 b0 b1 b2 h k))
+          subst (λ (z : List ℕ). IsWritten z (slots_to (i + 1)) c0 b0 done c2 b2) (sym encoding_on)
+          (subst (λ (z : List ℕ). IsWritten (encoding_to i ++ here) z c0 b0 done c2 b2) (sym slots_on) (with_this done c0 c1 c2 b0 b1 b2 h k))
 
-      pub write_stops : (c0 c1 c2 : Cache) (b0 b1 b2 : List ℕ) (e : EncodeError) → IsWritten (text_to i) (slots_to i) c0 b0 done c1 b1 → IsWritten here (own (meaning x)) c1 b1 (refused e) c2 b2 →
+      pub write_stops : (c0 c1 c2 : Cache) (b0 b1 b2 : List ℕ) (e : EncodeError) → IsWritten (encoding_to i) (slots_to i) c0 b0 done c1 b1 → IsWritten here (own (meaning x)) c1 b1 (refused e) c2 b2 →
           IsWritten all all_slots c0 b0 (refused e) c2 b2
       write_stops c0 c1 c2 b0 b1 b2 e h k =
-          let rest = records_encoding (messages_records text n later) in
-          let more = messages_slots text slots later in
-          let both = text_to i ++ here in
+          let rest = records_encoding (messages_records encoding n later) in
+          let more = messages_slots encoding slots later in
+          let both = encoding_to i ++ here in
           let slots = slots_to i ++ own (meaning x) in
-          subst (λ (z : List ℕ). IsWritten z all_slots c0 b0 (refused e) c2 b2) (sym (text_cut (λ v. bytes (text v)) n meaning xs i x lt is))
+          subst (λ (z : List ℕ). IsWritten z all_slots c0 b0 (refused e) c2 b2) (sym (encoding_cut (λ v. bytes (encoding v)) n meaning xs i x lt is))
           (subst (λ (z : List ℕ). IsWritten (both ++ rest) z c0 b0 (refused e) c2 b2) (append_assoc (slots_to i) (own (meaning x)) more ∙ sym slots_cut)
           (written_short (IsSmall both) (IsSmall rest) (IsSmall (both ++ rest)) both rest slots more c0 c2 c2 b0 b2 b2
           (λ s. (small_both both rest s).0) e (with_this (refused e) c0 c1 c2 b0 b1 b2 h k)))
 
 -- ---- the encoding reads back
-module _ {X : Type 0} (merged : ℕ → X → List ℕ → Option X) (blank : X) (text : X → List ℕ) (level : X → ℕ) (Normal : X → Type 0)
-    (back : (d : ℕ) (v : X) → Normal v → level v ≤ d → merged d blank (text v) ≡ Some v) (n : ℕ) (number : IsNumber n) where
+module _ {X : Type 0} (merged : ℕ → X → List ℕ → Option X) (blank : X) (encoding : X → List ℕ) (level : X → ℕ) (Normal : X → Type 0)
+    (back : (d : ℕ) (v : X) → Normal v → level v ≤ d → merged d blank (encoding v) ≡ Some v) (n : ℕ) (number : IsNumber n) where
   abbrev piece : X → Piece
-  piece v = record { tag = tag_encoding n LengthDelimited; number = n; wire = LengthDelimited; payload = delimited_encoding (text v) }
+  piece v = record { tag = tag_encoding n LengthDelimited; number = n; wire = LengthDelimited; payload = delimited_encoding (encoding v) }
 
-  spelled_all : (vs : List X) → records_encoding (messages_records text n vs) ≡ joined (map piece vs)
+  spelled_all : (vs : List X) → records_encoding (messages_records encoding n vs) ≡ joined (map piece vs)
   unfolding element_records
   spelled_all [] = refl
-  spelled_all (v ∷ vs) = ap (λ (z : List ℕ). (tag_encoding n LengthDelimited ++ delimited_encoding (text v)) ++ z) (spelled_all vs)
+  spelled_all (v ∷ vs) = ap (λ (z : List ℕ). (tag_encoding n LengthDelimited ++ delimited_encoding (encoding v)) ++ z) (spelled_all vs)
 
-  leads_all : (d : ℕ) (acc vs : List X) → Fits (records_of (messages_records text n vs)) → Each Normal vs → messages_levels level vs ≤ d →
+  leads_all : (d : ℕ) (acc vs : List X) → Fits (records_of (messages_records encoding n vs)) → Each Normal vs → messages_levels level vs ≤ d →
       Leads (messages_taken blank merged) (λ m. m == n) d acc (map piece vs) (acc ++ vs)
   unfolding element_records
   leads_all d acc [] fits normal low = sym (append-nil acc)
   leads_all d acc (v ∷ vs) fits normal low = (
     eq-eqb n n refl,
     is_tag n LengthDelimited number,
-    (varint_encoding (length (text v)), text v, IsVarint-varint_encoding (length (text v)) fits.1, refl),
+    (varint_encoding (length (encoding v)), encoding v, IsVarint-varint_encoding (length (encoding v)) fits.1, refl),
     acc ++ v ∷ [],
-    ap (option_map (λ x. acc ++ x ∷ [])) (taken_back merged blank text level Normal back n number d v fits.1 normal.0 (omega (arith, low))),
+    ap (option_map (λ x. acc ++ x ∷ [])) (taken_back merged blank encoding level Normal back n number d v fits.1 normal.0 (omega (arith, low))),
     subst (λ z. Leads (messages_taken blank merged) (λ m. m == n) d (acc ++ v ∷ []) (map piece vs) z) (append_assoc acc (v ∷ []) vs) (leads_all d (acc ++ v ∷ []) vs fits.2 normal.1 (omega (arith, low))),
   )
 
-  pub messages_back : (d : ℕ) (vs : List X) → Fits (records_of (messages_records text n vs)) → Each Normal vs → messages_levels level vs ≤ d →
-      ReadsBack (messages_taken blank merged) (λ m. m == n) d [] (records_encoding (messages_records text n vs)) vs
+  pub messages_back : (d : ℕ) (vs : List X) → Fits (records_of (messages_records encoding n vs)) → Each Normal vs → messages_levels level vs ≤ d →
+      ReadsBack (messages_taken blank merged) (λ m. m == n) d [] (records_encoding (messages_records encoding n vs)) vs
   messages_back d vs fits normal low = record { pieces = map piece vs; spelled = spelled_all vs; leads = leads_all d [] vs fits normal low }

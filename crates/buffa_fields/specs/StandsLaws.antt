@@ -79,16 +79,16 @@ module _ {M X : Type 0} (l : Layout M X) (d : ℕ) (old : X) (bytes : List ℕ) 
       omega (arith, tag_falls rest (n, w, bs) tag, ap length p.2, length-append p.0 after_bs)
 
   -- no unknown field comes back
-  pub spends : (m new : M) (n : ℕ) (w : WireType) (bs after_bs : List ℕ) (before after : BudgetLeft) (slots : ℕ) → before.unknown ≤ slots →
-      l.Taken d m n w bs before (let r : Result (Unit {0}) DecodeError = Ok tt in r) new after after_bs → after.unknown ≤ slots
-  spends m new n w bs after_bs before after slots low taken =
+  pub spends : (m new : M) (n : ℕ) (w : WireType) (bs after_bs : List ℕ) (before after : BudgetLeft) (unknown : ℕ) → before.unknown ≤ unknown →
+      l.Taken d m n w bs before (let r : Result (Unit {0}) DecodeError = Ok tt in r) new after after_bs → after.unknown ≤ unknown
+  spends m new n w bs after_bs before after unknown low taken =
       let p = l.taken_is d m n w bs before (let r : Result (Unit {0}) DecodeError = Ok tt in r) new after after_bs taken in
       omega (arith, low, p.4.0)
 
   -- memory runs out only at a field that may ask for it
-  pub asked : (m new : M) (n : ℕ) (w : WireType) (rest bs after_bs : List ℕ) (before after : BudgetLeft) (e : DecodeError) (slots : ℕ) → before.unknown ≤ slots → Merged l.takes d old bytes rest (l.meaning m) →
-      tag_at rest ≡ Ok (n, w, bs) → l.Taken d m n w bs before (let r : Result (Unit {0}) DecodeError = Err e in r) new after after_bs → e ≡ OutOfMemory → MergingTakesMemory l.takes l.asks d old bytes slots
-  asked m new n w rest bs after_bs before after e slots low h tag taken full = record {
+  pub asked : (m new : M) (n : ℕ) (w : WireType) (rest bs after_bs : List ℕ) (before after : BudgetLeft) (e : DecodeError) (unknown : ℕ) → before.unknown ≤ unknown → Merged l.takes d old bytes rest (l.meaning m) →
+      tag_at rest ≡ Ok (n, w, bs) → l.Taken d m n w bs before (let r : Result (Unit {0}) DecodeError = Err e in r) new after after_bs → e ≡ OutOfMemory → MergingTakesMemory l.takes l.asks d old bytes unknown
+  asked m new n w rest bs after_bs before after e unknown low h tag taken full = record {
     front = h.front;
     rest = rest;
     split = h.split;

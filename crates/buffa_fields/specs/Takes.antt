@@ -98,7 +98,7 @@ Leads {X} takes P d s (f ∷ fs) t =
     × (u : X) × (takes d s f.number f.wire f.payload ≡ Some u) × Leads takes P d u fs t
 
 -- the encoding is such fields
-pub record ReadsBack {X : Type 0} (takes : Taker X) (P : ℕ → Bool) (d : ℕ) (s : X) (text : List ℕ) (t : X) : Type 0 where
+pub record ReadsBack {X : Type 0} (takes : Taker X) (P : ℕ → Bool) (d : ℕ) (s : X) (encoding : List ℕ) (t : X) : Type 0 where
   pub pieces : List Piece
-  pub spelled : text ≡ joined pieces
+  pub spelled : encoding ≡ joined pieces
   pub leads : Leads takes P d s pieces t

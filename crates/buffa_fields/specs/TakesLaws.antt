@@ -146,5 +146,5 @@ module _ {X : Type 0} (takes : Taker X) (d : ℕ) (P : ℕ → Bool) where
       (framed_at takes d s f.number f.wire f.payload (joined fs) payload ∙ ap (answer (joined fs)) h)
       ∙ led u fs t l
 
-  pub back : (s : X) (text : List ℕ) (t : X) → ReadsBack takes P d s text t → merged_of takes d s text ≡ Some t
-  back s text t h = ap (merged_of takes d s) h.spelled ∙ led s h.pieces t h.leads
+  pub back : (s : X) (encoding : List ℕ) (t : X) → ReadsBack takes P d s encoding t → merged_of takes d s encoding ≡ Some t
+  back s encoding t h = ap (merged_of takes d s) h.spelled ∙ led s h.pieces t h.leads

@@ -16,7 +16,7 @@ use Rattle.buffa_wire.specs.Message.{IsLimit}
 use Rattle.buffa_bytes.specs.Number.{IsNumber}
 use Rattle.buffa_bytes.specs.WireType.{same_wire, wire_number}
 use Rattle.buffa_map.proofs.EntryLemmas.{same_false, same_refl, value_complete, value_sound}
-use Rattle.buffa_map.specs.Codec.{Reading, Refuses, Spends, Tells, ValueFault, Writing, level, value_at}
+use Rattle.buffa_map.specs.Codec.{Reading, RefusesValue, Spends, Tells, ValueFault, Writing, level, value_at}
 use Rattle.buffa_fields.specs.Takes.{IsTaken, Piece, ReadsBack, joined}
 use Rattle.buffa_fields.specs.Values.{IfThere, all_of, free, records_unless, some_records, some_taken, value_taken}
 use Rattle.buffa_bytes.proofs.FieldLemmas.{wire_small}
@@ -115,7 +115,7 @@ pub kept_by : {T : Type 0} (b : Bool) (r : Result T DecodeError) (left need over
 kept_by false r left need over h s = s
 kept_by true r left need over h s = cc
 
-pub refused_plain : {V : Type 0} (b : Bool) (codec : Reading V) (d : ℕ) (old : V) (bs : List ℕ) (left : BudgetLeft) (e : DecodeError) → b ≡ false → Refuses b codec d old bs left e → value_at codec d old bs ≡ Err e
+pub refused_plain : {V : Type 0} (b : Bool) (codec : Reading V) (d : ℕ) (old : V) (bs : List ℕ) (left : BudgetLeft) (e : DecodeError) → b ≡ false → RefusesValue b codec d old bs left e → value_at codec d old bs ≡ Err e
 refused_plain false codec d old bs left e h r = r
 refused_plain true codec d old bs left e h r = cc
 

@@ -7,7 +7,7 @@ use Rattle.buffa_wire.specs.BudgetLeft.{nothing}
 use Rattle.buffa_wire.specs.Records.{Datum}
 use Rattle.buffa_bytes.specs.Values.{tag_encoding}
 use Rattle.buffa_bytes.specs.WireType.{same_wire}
-use Rattle.buffa_map.specs.Codec.{HoldsNothing, Reading, TakesMemory, Writing, value_at}
+use Rattle.buffa_map.specs.Codec.{HoldsNothing, Reading, ReadingTakesMemory, Writing, value_at}
 use Rattle.buffa_fields.specs.Takes.{Asks, Need, Taker}
 
 -- what is read of a whole payload
@@ -30,16 +30,16 @@ free d n w bs = nothing
 
 -- it takes memory where the field's wire type is the codec's, which takes some, and a whole payload of a byte or more is there
 abbrev pub ValueTakesMemory : {V : Type 0} → Reading V → Asks
-ValueTakesMemory codec d n w bs = (w ≡ codec.wire) × TakesMemory codec d bs × (HoldsNothing codec d bs → ⊥)
+ValueTakesMemory codec d n w bs = (w ≡ codec.wire) × ReadingTakesMemory codec d bs × (HoldsNothing codec d bs → ⊥)
 
 -- the field of a value
 abbrev pub value_encoding : {V : Type 0} → Writing V → ℕ → V → List ℕ
 value_encoding codec n v = tag_encoding n codec.wire ++ codec.encoding v
 
 -- that of a value which may be absent
-abbrev pub some_text : {V : Type 0} → Writing V → ℕ → Option V → List ℕ
-some_text codec n None = []
-some_text codec n (Some v) = value_encoding codec n v
+abbrev pub some_encoding : {V : Type 0} → Writing V → ℕ → Option V → List ℕ
+some_encoding codec n None = []
+some_encoding codec n (Some v) = value_encoding codec n v
 
 abbrev pub some_records : {V : Type 0} → (V → Datum) → ℕ → Option V → List (ℕ × Datum)
 some_records datum n None = []
@@ -47,8 +47,8 @@ some_records datum n (Some v) = (n, datum v) ∷ []
 
 -- a value that isn't written where it is the default
 abbrev pub unless : Bool → List ℕ → List ℕ
-unless true text = []
-unless false text = text
+unless true encoding = []
+unless false encoding = encoding
 
 abbrev pub records_unless : Bool → List (ℕ × Datum) → List (ℕ × Datum)
 records_unless true rs = []

@@ -4,7 +4,7 @@ ghost use Rattle.std.specs.Prelude.{◌≡◌, IfOk, length};
 ghost use Rattle.buffa_wire.specs.BudgetLeft.{budget_left};
 ghost use Rattle.buffa_bytes.specs.Gives.{FullOnlyIf, GivesUnlessFull};
 ghost use Rattle.buffa_wire.specs.Passes.{cap};
-ghost use Rattle.buffa_wire.specs.RecordReading.{TakesMemory, field_at};
+ghost use Rattle.buffa_wire.specs.RecordReading.{RecordTakesMemory, field_at};
 ghost use Rattle.buffa_wire.specs.Encoding.{records_encoding};
 ghost use Rattle.buffa_wire.specs.View.{datum_of};
 ghost use Rattle.buffa_fields.specs.Layout.{Kept, Passed};
@@ -41,14 +41,14 @@ fn read_alone(
     tag: Tag,
     buf: &mut &[u8],
     depth: u32,
-    slots: usize,
+    unknown: usize,
 ) -> Result<(UnknownField, usize), DecodeError>
     ensures reads { GivesUnlessFull (λ x. (datum_of x.0.payload, x.1, buf.new.now)) result
-        (field_at depth slots tag.number tag.wire_type buf.old.now) }
-    ensures full { FullOnlyIf result (TakesMemory depth slots tag.wire_type buf.old.now) }
+        (field_at depth unknown tag.number tag.wire_type buf.old.now) }
+    ensures full { FullOnlyIf result (RecordTakesMemory depth unknown tag.wire_type buf.old.now) }
     ensures number { IfOk result (λ x. x.0.number ≡ tag.number) }
 {
-    let mut own = Budget::new(slots);
+    let mut own = Budget::new(unknown);
     let lent = DecodeContext {
         depth,
         budget: &mut own,

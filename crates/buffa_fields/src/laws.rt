@@ -7,9 +7,9 @@ ghost use Rattle.std.specs.Int.{cast_unsigned, w64};
 ghost use Rattle.std.specs.List.{IsDistinct};
 ghost use Rattle.std.specs.Map.{keys_of};
 ghost use Rattle.std.specs.Option.{option_map};
-ghost use Rattle.buffa_wire.specs.BudgetLeft.{slots};
+ghost use Rattle.buffa_wire.specs.BudgetLeft.{unknown_fields};
 ghost use Rattle.buffa_wire.specs.Parse.{IsPayload, fields_inside};
-ghost use Rattle.buffa_wire.specs.RecordReading.{TakesMemory};
+ghost use Rattle.buffa_wire.specs.RecordReading.{RecordTakesMemory};
 ghost use Rattle.buffa_wire.specs.Records.{Datum, height};
 ghost use Rattle.buffa_wire.specs.Records.Datum.{varint, fixed32, fixed64, bytes};
 ghost use Rattle.buffa_bytes.specs.Reading.{check_wire};
@@ -25,7 +25,7 @@ ghost use Rattle.buffa_fields.specs.Members.{keep};
 ghost use Rattle.buffa_fields.specs.Nested.{FitsInside, MessageTakesMemory, message_cost, message_levels, message_records, message_slots, message_taken};
 ghost use Rattle.buffa_fields.specs.NestedMaps.{pair_levels, pair_records, pair_slots};
 ghost use Rattle.buffa_fields.specs.RepeatedNested.{MessagesTakeMemory, messages_cost, messages_levels, messages_records, messages_slots, messages_taken};
-ghost use Rattle.buffa_fields.specs.Slots.{entry_records, optional_records, plain_records};
+ghost use Rattle.buffa_fields.specs.MemberRecords.{entry_records, optional_records, plain_records};
 ghost use Rattle.buffa_fields.specs.Takes.{cost_of, merged_of};
 ghost use Rattle.buffa_fields.specs.Values.{IfThere, ValueTakesMemory, free, some_taken, value_taken};
 
@@ -51,97 +51,97 @@ use std::hash::Hash;
 
 /// A member with implicit presence: a payload of its wire type is its value; the default has no record.
 pub fn plain_members_are_these<C: Kind>()
-    ensures meaning { (p : _) → ⟦<Plain<C> as Member>⟧.slot.meaning p ≡ C.Value.meaning p }
-    ensures blank { ⟦<Plain<C> as Member>⟧.slot.blank ≡ C.Value.blank_is }
-    ensures takes { ⟦<Plain<C> as Member>⟧.slot.takes ≡ value_taken C.reading }
-    ensures checks { (n : ℕ) (w : _) → ⟦<Plain<C> as Member>⟧.slot.checks n w ≡ check_wire n C.WIRE_TYPE w }
-    ensures asks { (d n : ℕ) (w : _) (bs : List ℕ) → ⟦<Plain<C> as Member>⟧.slot.asks d n w bs
+    ensures meaning { (p : _) → ⟦<Plain<C> as Member>⟧.shape.meaning p ≡ C.Value.meaning p }
+    ensures blank { ⟦<Plain<C> as Member>⟧.shape.blank ≡ C.Value.blank_is }
+    ensures takes { ⟦<Plain<C> as Member>⟧.shape.takes ≡ value_taken C.reading }
+    ensures checks { (n : ℕ) (w : _) → ⟦<Plain<C> as Member>⟧.shape.checks n w ≡ check_wire n C.WIRE_TYPE w }
+    ensures asks { (d n : ℕ) (w : _) (bs : List ℕ) → ⟦<Plain<C> as Member>⟧.shape.asks d n w bs
         ↔ (ValueTakesMemory C.reading d n w bs) }
-    ensures need { ⟦<Plain<C> as Member>⟧.slot.need ≡ free }
-    ensures records { (n : ℕ) (v : _) → ⟦<Plain<C> as Member>⟧.slot.records n v
+    ensures need { ⟦<Plain<C> as Member>⟧.shape.need ≡ free }
+    ensures records { (n : ℕ) (v : _) → ⟦<Plain<C> as Member>⟧.shape.records n v
         ≡ plain_records C.is_blank C.datum n v }
-    ensures slots { (v : _) → ⟦<Plain<C> as Member>⟧.slot.slots v ≡ [] }
-    ensures levels { (v : _) → ⟦<Plain<C> as Member>⟧.slot.levels v ≡ 0 }
-    ensures normal { (v : _) → ⟦<Plain<C> as Member>⟧.slot.normal v ↔ (C.fits v × C.normal v) }
+    ensures slots { (v : _) → ⟦<Plain<C> as Member>⟧.shape.slots v ≡ [] }
+    ensures levels { (v : _) → ⟦<Plain<C> as Member>⟧.shape.levels v ≡ 0 }
+    ensures normal { (v : _) → ⟦<Plain<C> as Member>⟧.shape.normal v ↔ (C.fits v × C.normal v) }
 {}
 
 /// A member that may be absent: a record where it is there, the default too.
 pub fn optional_members_are_these<C: Kind>()
-    ensures meaning { (p : _) → ⟦<Optional<C> as Member>⟧.slot.meaning p ≡ option_map C.Value.meaning p }
-    ensures blank { ⟦<Optional<C> as Member>⟧.slot.blank ≡ None }
-    ensures takes { ⟦<Optional<C> as Member>⟧.slot.takes ≡ some_taken C.reading }
-    ensures checks { (n : ℕ) (w : _) → ⟦<Optional<C> as Member>⟧.slot.checks n w ≡ check_wire n C.WIRE_TYPE w }
-    ensures asks { (d n : ℕ) (w : _) (bs : List ℕ) → ⟦<Optional<C> as Member>⟧.slot.asks d n w bs
+    ensures meaning { (p : _) → ⟦<Optional<C> as Member>⟧.shape.meaning p ≡ option_map C.Value.meaning p }
+    ensures blank { ⟦<Optional<C> as Member>⟧.shape.blank ≡ None }
+    ensures takes { ⟦<Optional<C> as Member>⟧.shape.takes ≡ some_taken C.reading }
+    ensures checks { (n : ℕ) (w : _) → ⟦<Optional<C> as Member>⟧.shape.checks n w ≡ check_wire n C.WIRE_TYPE w }
+    ensures asks { (d n : ℕ) (w : _) (bs : List ℕ) → ⟦<Optional<C> as Member>⟧.shape.asks d n w bs
         ↔ (ValueTakesMemory C.reading d n w bs) }
-    ensures need { ⟦<Optional<C> as Member>⟧.slot.need ≡ free }
-    ensures records { (n : ℕ) (v : _) → ⟦<Optional<C> as Member>⟧.slot.records n v ≡ optional_records C.datum n v }
-    ensures slots { (v : _) → ⟦<Optional<C> as Member>⟧.slot.slots v ≡ [] }
-    ensures levels { (v : _) → ⟦<Optional<C> as Member>⟧.slot.levels v ≡ 0 }
-    ensures normal { (v : _) → ⟦<Optional<C> as Member>⟧.slot.normal v ↔ (IfThere (λ x. C.fits x × C.normal x) v) }
+    ensures need { ⟦<Optional<C> as Member>⟧.shape.need ≡ free }
+    ensures records { (n : ℕ) (v : _) → ⟦<Optional<C> as Member>⟧.shape.records n v ≡ optional_records C.datum n v }
+    ensures slots { (v : _) → ⟦<Optional<C> as Member>⟧.shape.slots v ≡ [] }
+    ensures levels { (v : _) → ⟦<Optional<C> as Member>⟧.shape.levels v ≡ 0 }
+    ensures normal { (v : _) → ⟦<Optional<C> as Member>⟧.shape.normal v ↔ (IfThere (λ x. C.fits x × C.normal x) v) }
 {}
 
 /// A list: each record of its wire type has an element, one with a length packed ones; a record is written for each.
 pub fn lists_are_these<C: Kind>()
-    ensures meaning { (p : _) → ⟦<Repeated<C> as Member>⟧.slot.meaning p ≡ map C.Value.meaning p.items }
-    ensures blank { ⟦<Repeated<C> as Member>⟧.slot.blank ≡ [] }
-    ensures takes { ⟦<Repeated<C> as Member>⟧.slot.takes ≡ elements_taken C.reading }
-    ensures checks { (n : ℕ) (w : _) → ⟦<Repeated<C> as Member>⟧.slot.checks n w ≡ check_list_wire n C.WIRE_TYPE w }
-    ensures asks { (d n : ℕ) (w : _) (bs : List ℕ) → ⟦<Repeated<C> as Member>⟧.slot.asks d n w bs
+    ensures meaning { (p : _) → ⟦<Repeated<C> as Member>⟧.shape.meaning p ≡ map C.Value.meaning p.items }
+    ensures blank { ⟦<Repeated<C> as Member>⟧.shape.blank ≡ [] }
+    ensures takes { ⟦<Repeated<C> as Member>⟧.shape.takes ≡ elements_taken C.reading }
+    ensures checks { (n : ℕ) (w : _) → ⟦<Repeated<C> as Member>⟧.shape.checks n w ≡ check_list_wire n C.WIRE_TYPE w }
+    ensures asks { (d n : ℕ) (w : _) (bs : List ℕ) → ⟦<Repeated<C> as Member>⟧.shape.asks d n w bs
         ↔ (ElementsTakeMemory C.reading d n w bs) }
-    ensures need { ⟦<Repeated<C> as Member>⟧.slot.need ≡ free }
-    ensures records { (n : ℕ) (v : _) → ⟦<Repeated<C> as Member>⟧.slot.records n v ≡ element_records C.datum n v }
-    ensures slots { (v : _) → ⟦<Repeated<C> as Member>⟧.slot.slots v ≡ [] }
-    ensures levels { (v : _) → ⟦<Repeated<C> as Member>⟧.slot.levels v ≡ 0 }
-    ensures normal { (v : _) → ⟦<Repeated<C> as Member>⟧.slot.normal v ↔ (Each (λ x. C.fits x × C.normal x) v) }
+    ensures need { ⟦<Repeated<C> as Member>⟧.shape.need ≡ free }
+    ensures records { (n : ℕ) (v : _) → ⟦<Repeated<C> as Member>⟧.shape.records n v ≡ element_records C.datum n v }
+    ensures slots { (v : _) → ⟦<Repeated<C> as Member>⟧.shape.slots v ≡ [] }
+    ensures levels { (v : _) → ⟦<Repeated<C> as Member>⟧.shape.levels v ≡ 0 }
+    ensures normal { (v : _) → ⟦<Repeated<C> as Member>⟧.shape.normal v ↔ (Each (λ x. C.fits x × C.normal x) v) }
 {}
 
 /// The same, written packed: one record of all elements, none where there is none.
 pub fn packed_lists_are_these<C: Packable>()
-    ensures meaning { (p : _) → ⟦<Packed<C> as Member>⟧.slot.meaning p ≡ map C.Value.meaning p.items }
-    ensures blank { ⟦<Packed<C> as Member>⟧.slot.blank ≡ [] }
-    ensures takes { ⟦<Packed<C> as Member>⟧.slot.takes ≡ elements_taken C.reading }
-    ensures checks { (n : ℕ) (w : _) → ⟦<Packed<C> as Member>⟧.slot.checks n w ≡ check_list_wire n C.WIRE_TYPE w }
-    ensures asks { (d n : ℕ) (w : _) (bs : List ℕ) → ⟦<Packed<C> as Member>⟧.slot.asks d n w bs
+    ensures meaning { (p : _) → ⟦<Packed<C> as Member>⟧.shape.meaning p ≡ map C.Value.meaning p.items }
+    ensures blank { ⟦<Packed<C> as Member>⟧.shape.blank ≡ [] }
+    ensures takes { ⟦<Packed<C> as Member>⟧.shape.takes ≡ elements_taken C.reading }
+    ensures checks { (n : ℕ) (w : _) → ⟦<Packed<C> as Member>⟧.shape.checks n w ≡ check_list_wire n C.WIRE_TYPE w }
+    ensures asks { (d n : ℕ) (w : _) (bs : List ℕ) → ⟦<Packed<C> as Member>⟧.shape.asks d n w bs
         ↔ (ElementsTakeMemory C.reading d n w bs) }
-    ensures need { ⟦<Packed<C> as Member>⟧.slot.need ≡ free }
-    ensures records { (n : ℕ) (v : _) → ⟦<Packed<C> as Member>⟧.slot.records n v ≡ packed_records C.writing.encoding n v }
-    ensures slots { (v : _) → ⟦<Packed<C> as Member>⟧.slot.slots v ≡ [] }
-    ensures levels { (v : _) → ⟦<Packed<C> as Member>⟧.slot.levels v ≡ 0 }
-    ensures normal { (v : _) → ⟦<Packed<C> as Member>⟧.slot.normal v ↔ (Each (λ x. C.fits x × C.normal x) v) }
+    ensures need { ⟦<Packed<C> as Member>⟧.shape.need ≡ free }
+    ensures records { (n : ℕ) (v : _) → ⟦<Packed<C> as Member>⟧.shape.records n v ≡ packed_records C.writing.encoding n v }
+    ensures slots { (v : _) → ⟦<Packed<C> as Member>⟧.shape.slots v ≡ [] }
+    ensures levels { (v : _) → ⟦<Packed<C> as Member>⟧.shape.levels v ≡ 0 }
+    ensures normal { (v : _) → ⟦<Packed<C> as Member>⟧.shape.normal v ↔ (Each (λ x. C.fits x × C.normal x) v) }
 {}
 
 /// A message that may be absent: each record is merged into the one that stands.
 pub fn nested_members_are_these<N: Message>()
-    ensures meaning { (p : _) → ⟦<Nested<N> as Member>⟧.slot.meaning p ≡ option_map N.meaning p }
-    ensures blank { ⟦<Nested<N> as Member>⟧.slot.blank ≡ None }
-    ensures takes { ⟦<Nested<N> as Member>⟧.slot.takes ≡ message_taken N.blank_is N.merged }
-    ensures checks { (n : ℕ) (w : _) → ⟦<Nested<N> as Member>⟧.slot.checks n w
+    ensures meaning { (p : _) → ⟦<Nested<N> as Member>⟧.shape.meaning p ≡ option_map N.meaning p }
+    ensures blank { ⟦<Nested<N> as Member>⟧.shape.blank ≡ None }
+    ensures takes { ⟦<Nested<N> as Member>⟧.shape.takes ≡ message_taken N.blank_is N.merged }
+    ensures checks { (n : ℕ) (w : _) → ⟦<Nested<N> as Member>⟧.shape.checks n w
         ≡ check_wire n WireType.LengthDelimited w }
-    ensures asks { (d n : ℕ) (w : _) (bs : List ℕ) → ⟦<Nested<N> as Member>⟧.slot.asks d n w bs
+    ensures asks { (d n : ℕ) (w : _) (bs : List ℕ) → ⟦<Nested<N> as Member>⟧.shape.asks d n w bs
         ↔ (MessageTakesMemory d n w bs) }
-    ensures need { ⟦<Nested<N> as Member>⟧.slot.need ≡ message_cost N.cost }
-    ensures records { (n : ℕ) (v : _) → ⟦<Nested<N> as Member>⟧.slot.records n v ≡ message_records N.encoding n v }
-    ensures slots { (v : _) → ⟦<Nested<N> as Member>⟧.slot.slots v ≡ message_slots N.encoding N.slots v }
-    ensures levels { (v : _) → ⟦<Nested<N> as Member>⟧.slot.levels v ≡ message_levels N.levels v }
-    ensures normal { (v : _) → ⟦<Nested<N> as Member>⟧.slot.normal v
+    ensures need { ⟦<Nested<N> as Member>⟧.shape.need ≡ message_cost N.cost }
+    ensures records { (n : ℕ) (v : _) → ⟦<Nested<N> as Member>⟧.shape.records n v ≡ message_records N.encoding n v }
+    ensures slots { (v : _) → ⟦<Nested<N> as Member>⟧.shape.slots v ≡ message_slots N.encoding N.slots v }
+    ensures levels { (v : _) → ⟦<Nested<N> as Member>⟧.shape.levels v ≡ message_levels N.levels v }
+    ensures normal { (v : _) → ⟦<Nested<N> as Member>⟧.shape.normal v
         ↔ (IfThere (FitsInside N.normal N.records) v) }
 {}
 
 /// A list of messages: each record is a new element, which costs the units of its type too.
 pub fn lists_of_messages_are_these<N: Message>()
-    ensures meaning { (p : _) → ⟦<RepeatedNested<N> as Member>⟧.slot.meaning p ≡ map N.meaning p.items }
-    ensures blank { ⟦<RepeatedNested<N> as Member>⟧.slot.blank ≡ [] }
-    ensures takes { ⟦<RepeatedNested<N> as Member>⟧.slot.takes ≡ messages_taken N.blank_is N.merged }
-    ensures checks { (n : ℕ) (w : _) → ⟦<RepeatedNested<N> as Member>⟧.slot.checks n w
+    ensures meaning { (p : _) → ⟦<RepeatedNested<N> as Member>⟧.shape.meaning p ≡ map N.meaning p.items }
+    ensures blank { ⟦<RepeatedNested<N> as Member>⟧.shape.blank ≡ [] }
+    ensures takes { ⟦<RepeatedNested<N> as Member>⟧.shape.takes ≡ messages_taken N.blank_is N.merged }
+    ensures checks { (n : ℕ) (w : _) → ⟦<RepeatedNested<N> as Member>⟧.shape.checks n w
         ≡ check_wire n WireType.LengthDelimited w }
-    ensures asks { (d n : ℕ) (w : _) (bs : List ℕ) → ⟦<RepeatedNested<N> as Member>⟧.slot.asks d n w bs
+    ensures asks { (d n : ℕ) (w : _) (bs : List ℕ) → ⟦<RepeatedNested<N> as Member>⟧.shape.asks d n w bs
         ↔ (MessagesTakeMemory d n w bs) }
-    ensures need { ⟦<RepeatedNested<N> as Member>⟧.slot.need ≡ messages_cost N.COST N.cost }
-    ensures records { (n : ℕ) (v : _) → ⟦<RepeatedNested<N> as Member>⟧.slot.records n v
+    ensures need { ⟦<RepeatedNested<N> as Member>⟧.shape.need ≡ messages_cost N.COST N.cost }
+    ensures records { (n : ℕ) (v : _) → ⟦<RepeatedNested<N> as Member>⟧.shape.records n v
         ≡ messages_records N.encoding n v }
-    ensures slots { (v : _) → ⟦<RepeatedNested<N> as Member>⟧.slot.slots v ≡ messages_slots N.encoding N.slots v }
-    ensures levels { (v : _) → ⟦<RepeatedNested<N> as Member>⟧.slot.levels v ≡ messages_levels N.levels v }
-    ensures normal { (v : _) → ⟦<RepeatedNested<N> as Member>⟧.slot.normal v
+    ensures slots { (v : _) → ⟦<RepeatedNested<N> as Member>⟧.shape.slots v ≡ messages_slots N.encoding N.slots v }
+    ensures levels { (v : _) → ⟦<RepeatedNested<N> as Member>⟧.shape.levels v ≡ messages_levels N.levels v }
+    ensures normal { (v : _) → ⟦<RepeatedNested<N> as Member>⟧.shape.normal v
         ↔ (Each (FitsInside N.normal N.records) v) }
 {}
 
@@ -149,20 +149,20 @@ pub fn lists_of_messages_are_these<N: Message>()
 pub fn maps_are_these<KC: MapCodec, VC: MapCodec>()
 where
     KC::Value: MapKey + Hash,
-    ensures meaning { (p : _) → ⟦<MapOf<KC, VC> as Member>⟧.slot.meaning p
+    ensures meaning { (p : _) → ⟦<MapOf<KC, VC> as Member>⟧.shape.meaning p
         ≡ means KC.Value.meaning VC.Value.meaning p.entries }
-    ensures blank { ⟦<MapOf<KC, VC> as Member>⟧.slot.blank ≡ [] }
-    ensures takes { ⟦<MapOf<KC, VC> as Member>⟧.slot.takes ≡ entry_taken KC.reading VC.reading KC.Value.same }
-    ensures checks { (n : ℕ) (w : _) → ⟦<MapOf<KC, VC> as Member>⟧.slot.checks n w
+    ensures blank { ⟦<MapOf<KC, VC> as Member>⟧.shape.blank ≡ [] }
+    ensures takes { ⟦<MapOf<KC, VC> as Member>⟧.shape.takes ≡ entry_taken KC.reading VC.reading KC.Value.same }
+    ensures checks { (n : ℕ) (w : _) → ⟦<MapOf<KC, VC> as Member>⟧.shape.checks n w
         ≡ check_wire n WireType.LengthDelimited w }
-    ensures asks { (d n : ℕ) (w : _) (bs : List ℕ) → ⟦<MapOf<KC, VC> as Member>⟧.slot.asks d n w bs
+    ensures asks { (d n : ℕ) (w : _) (bs : List ℕ) → ⟦<MapOf<KC, VC> as Member>⟧.shape.asks d n w bs
         ↔ (PairTakesMemory KC.reading VC.reading d n w bs) }
-    ensures need { ⟦<MapOf<KC, VC> as Member>⟧.slot.need ≡ entry_cost KC.reading VC.reading (KC.COST + VC.COST) }
-    ensures records { (n : ℕ) (v : _) → ⟦<MapOf<KC, VC> as Member>⟧.slot.records n v
+    ensures need { ⟦<MapOf<KC, VC> as Member>⟧.shape.need ≡ entry_cost KC.reading VC.reading (KC.COST + VC.COST) }
+    ensures records { (n : ℕ) (v : _) → ⟦<MapOf<KC, VC> as Member>⟧.shape.records n v
         ≡ entry_records KC.writing VC.writing n v }
-    ensures slots { (v : _) → ⟦<MapOf<KC, VC> as Member>⟧.slot.slots v ≡ [] }
-    ensures levels { (v : _) → ⟦<MapOf<KC, VC> as Member>⟧.slot.levels v ≡ 0 }
-    ensures normal { (v : _) → ⟦<MapOf<KC, VC> as Member>⟧.slot.normal v
+    ensures slots { (v : _) → ⟦<MapOf<KC, VC> as Member>⟧.shape.slots v ≡ [] }
+    ensures levels { (v : _) → ⟦<MapOf<KC, VC> as Member>⟧.shape.levels v ≡ 0 }
+    ensures normal { (v : _) → ⟦<MapOf<KC, VC> as Member>⟧.shape.normal v
         ↔ (AllHold (λ k. KC.fits k × KC.normal k) (λ x. VC.fits x × VC.normal x) v
         × IsDistinct KC.Value.same (keys_of v)) }
 {}
@@ -171,27 +171,27 @@ where
 pub fn maps_of_messages_are_these<KC: MapCodec, N: Message>()
 where
     KC::Value: MapKey + Hash,
-    ensures meaning { (p : _) → ⟦<MapOfNested<KC, N> as Member>⟧.slot.meaning p
+    ensures meaning { (p : _) → ⟦<MapOfNested<KC, N> as Member>⟧.shape.meaning p
         ≡ means KC.Value.meaning N.meaning p.entries }
-    ensures blank { ⟦<MapOfNested<KC, N> as Member>⟧.slot.blank ≡ [] }
-    ensures takes { ⟦<MapOfNested<KC, N> as Member>⟧.slot.takes
+    ensures blank { ⟦<MapOfNested<KC, N> as Member>⟧.shape.blank ≡ [] }
+    ensures takes { ⟦<MapOfNested<KC, N> as Member>⟧.shape.takes
         ≡ entry_taken KC.reading (message_reading N.blank_is N.merged N.cost) KC.Value.same }
-    ensures checks { (n : ℕ) (w : _) → ⟦<MapOfNested<KC, N> as Member>⟧.slot.checks n w
+    ensures checks { (n : ℕ) (w : _) → ⟦<MapOfNested<KC, N> as Member>⟧.shape.checks n w
         ≡ check_wire n WireType.LengthDelimited w }
-    ensures asks { (d n : ℕ) (w : _) (bs : List ℕ) → ⟦<MapOfNested<KC, N> as Member>⟧.slot.asks d n w bs
+    ensures asks { (d n : ℕ) (w : _) (bs : List ℕ) → ⟦<MapOfNested<KC, N> as Member>⟧.shape.asks d n w bs
         ↔ (PairTakesMemory KC.reading (message_reading N.blank_is N.merged N.cost) d n w bs) }
-    ensures need { ⟦<MapOfNested<KC, N> as Member>⟧.slot.need
+    ensures need { ⟦<MapOfNested<KC, N> as Member>⟧.shape.need
         ≡ entry_cost KC.reading (message_reading N.blank_is N.merged N.cost) (KC.COST + N.COST) }
-    ensures records { (n : ℕ) (v : _) → ⟦<MapOfNested<KC, N> as Member>⟧.slot.records n v
+    ensures records { (n : ℕ) (v : _) → ⟦<MapOfNested<KC, N> as Member>⟧.shape.records n v
         ≡ pair_records KC.writing N.encoding n v }
-    ensures slots { (v : _) → ⟦<MapOfNested<KC, N> as Member>⟧.slot.slots v ≡ pair_slots N.encoding N.slots v }
-    ensures levels { (v : _) → ⟦<MapOfNested<KC, N> as Member>⟧.slot.levels v ≡ pair_levels N.levels v }
-    ensures parts { (v : _) → ⟦<MapOfNested<KC, N> as Member>⟧.slot.normal v →
+    ensures slots { (v : _) → ⟦<MapOfNested<KC, N> as Member>⟧.shape.slots v ≡ pair_slots N.encoding N.slots v }
+    ensures levels { (v : _) → ⟦<MapOfNested<KC, N> as Member>⟧.shape.levels v ≡ pair_levels N.levels v }
+    ensures parts { (v : _) → ⟦<MapOfNested<KC, N> as Member>⟧.shape.normal v →
         AllHold (λ k. KC.fits k × KC.normal k) (FitsInside N.normal N.records) v }
-    ensures keys { (v : _) → ⟦<MapOfNested<KC, N> as Member>⟧.slot.normal v → IsDistinct KC.Value.same (keys_of v) }
+    ensures keys { (v : _) → ⟦<MapOfNested<KC, N> as Member>⟧.shape.normal v → IsDistinct KC.Value.same (keys_of v) }
     ensures normal { (v : _) → IsDistinct KC.Value.same (keys_of v) →
         AllHold (λ k. KC.fits k × KC.normal k) (FitsInside N.normal N.records) v →
-        ⟦<MapOfNested<KC, N> as Member>⟧.slot.normal v }
+        ⟦<MapOfNested<KC, N> as Member>⟧.shape.normal v }
 {}
 
 /// The record of a number, and which number is the default: 0, or false.
@@ -241,9 +241,9 @@ pub fn kept_fields_are_these<M>()
     ensures takes { (get : M → List (ℕ × Datum)) (d n : ℕ) (x : Datum) (p : List ℕ) (v : List (ℕ × Datum)) →
         IsPayload d n x p → (keep get).takes d v n (wire_of x) p ≡ Some (v ++ (n, x) ∷ []) }
     ensures asks { (get : M → List (ℕ × Datum)) (s d n : ℕ) (w : _) (bs : List ℕ) → (keep get).asks s d n w bs
-        ↔ (TakesMemory d s w bs ⊎ IsFieldThere d s n w bs) }
+        ↔ (RecordTakesMemory d s w bs ⊎ IsFieldThere d s n w bs) }
     ensures need { (get : M → List (ℕ × Datum)) (d n : ℕ) (x : Datum) (p more : List ℕ) → IsPayload d n x p →
-        (keep get).need d n (wire_of x) (p ++ more) ≡ slots (1 + fields_inside x) }
+        (keep get).need d n (wire_of x) (p ++ more) ≡ unknown_fields (1 + fields_inside x) }
     ensures records { (get : M → List (ℕ × Datum)) (v : List (ℕ × Datum)) → (keep get).records v ≡ v }
     ensures slots { (get : M → List (ℕ × Datum)) (v : List (ℕ × Datum)) → (keep get).slots v ≡ [] }
     ensures levels { (get : M → List (ℕ × Datum)) (v : List (ℕ × Datum)) → (keep get).levels v ≡ height v }

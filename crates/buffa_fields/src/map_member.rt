@@ -11,7 +11,7 @@ ghost use Rattle.buffa_map.specs.Pairs.{means};
 ghost use Rattle.buffa_map.specs.Encoding.{AllHold};
 ghost use Rattle.buffa_fields.specs.MapFields.{PairTakesMemory, entry_cost, entry_taken};
 ghost use Rattle.buffa_fields.specs.MapLaws.{map_back, map_stays};
-ghost use Rattle.buffa_fields.specs.Slots.{entry_records};
+ghost use Rattle.buffa_fields.specs.MemberRecords.{entry_records};
 
 use crate::map::{map_len, take_entry, write_map};
 use crate::member::Member;
@@ -41,7 +41,7 @@ where
 
     type Meaning = [(<KC::Value as Blank>::Meaning, <VC::Value as Blank>::Meaning); 0];
 
-    ghost slot = { record {
+    ghost shape = { record {
       meaning = λ m. means KC.Value.meaning VC.Value.meaning m.entries;
       blank = [];
       takes = entry_taken KC.reading VC.reading KC.Value.same;
@@ -56,7 +56,7 @@ where
       stays = map_stays KC.reading VC.reading KC.Value.same (KC.COST + VC.COST);
     } };
 
-    #[tactic(auto, using(crate::specs::LayoutLaws::sized_free), unfolding(crate::specs::Slots::entry_records))]
+    #[tactic(auto, using(crate::specs::LayoutLaws::sized_free), unfolding(crate::specs::MemberRecords::entry_records))]
     fn len(
         number: u32,
         part: &Map<KC::Value, VC::Value>,
@@ -65,7 +65,7 @@ where
         Ok(map_len::<KC, VC>(number, part))
     }
 
-    #[tactic(auto, using(crate::specs::MapLaws::map_alone), unfolding(crate::specs::Slots::entry_records))]
+    #[tactic(auto, using(crate::specs::MapLaws::map_alone), unfolding(crate::specs::MemberRecords::entry_records))]
     fn write_to<S: EncodeSink>(
         number: u32,
         part: &Map<KC::Value, VC::Value>,

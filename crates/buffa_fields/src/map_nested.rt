@@ -89,7 +89,7 @@ where
 
     type Meaning = [(<KC::Value as Blank>::Meaning, <N as Blank>::Meaning); 0];
 
-    ghost slot = { record {
+    ghost shape = { record {
       meaning = λ m. means KC.Value.meaning N.meaning m.entries;
       blank = [];
       takes = entry_taken KC.reading (message_reading N.blank_is N.merged N.cost) KC.Value.same;

@@ -5,7 +5,7 @@ ghost use Rattle.buffa_wire.specs.BudgetLeft.{budget_left};
 ghost use Rattle.buffa_bytes.specs.Number.{IsNumber};
 ghost use Rattle.buffa_wire.specs.Passes.{IsNext, IsSized, IsWritten};
 ghost use Rattle.buffa_wire.specs.Encoding.{records_encoding};
-ghost use Rattle.buffa_fields.specs.Layout.{ReadsBackTo, Slot, Took};
+ghost use Rattle.buffa_fields.specs.Layout.{ReadsBackTo, Shape, Took};
 
 use buffa_wire::{DecodeContext, DecodeError, EncodeError, EncodeSink, SizeCache, Tag};
 use std::alloc::Global;
@@ -23,7 +23,7 @@ pub trait Member {
     type Meaning;
 
     /// What it is, and what it owes.
-    ghost slot: { Slot Self.Part Self.Meaning };
+    ghost shape: { Shape Self.Part Self.Meaning };
 
     /// The length of its encoding under a number, or 2^32 - 1 where it is more. The value's slots are
     /// appended.
@@ -36,9 +36,9 @@ pub trait Member {
     /// ```
     fn len(number: u32, part: &Self::Part, cache: &mut SizeCache) -> Result<u32, EncodeError>
         requires { IsNumber number }
-        ensures sized { IsSized (records_encoding (slot.records number (slot.meaning part.now)))
-            (slot.slots (slot.meaning part.now)) cache.old result cache.new }
-        ensures always { slot.slots (slot.meaning part.now) ≡ [] → IsOk result };
+        ensures sized { IsSized (records_encoding (shape.records number (shape.meaning part.now)))
+            (shape.slots (shape.meaning part.now)) cache.old result cache.new }
+        ensures always { shape.slots (shape.meaning part.now) ≡ [] → IsOk result };
 
     /// Writes its encoding, and consumes the value's slots, which have to be next.
     ///
@@ -55,9 +55,9 @@ pub trait Member {
         sink: &mut S,
     ) -> Result<(), EncodeError>
         requires number { IsNumber number }
-        requires next { IsNext (slot.slots (slot.meaning part.now)) cache.old }
-        ensures { IsWritten (records_encoding (slot.records number (slot.meaning part.now)))
-            (slot.slots (slot.meaning part.now)) cache.old (S.written sink.old) result cache.new
+        requires next { IsNext (shape.slots (shape.meaning part.now)) cache.old }
+        ensures { IsWritten (records_encoding (shape.records number (shape.meaning part.now)))
+            (shape.slots (shape.meaning part.now)) cache.old (S.written sink.old) result cache.new
             (S.written sink.new) };
 
     /// Merges the field whose tag was read.
@@ -76,9 +76,9 @@ pub trait Member {
         buf: &mut &[u8],
         ctx: DecodeContext<'_>,
     ) -> Result<(), DecodeError>
-        ensures { Took slot ctx.entry.depth part.old tag.number tag.wire_type buf.old.now ctx.entry.budget.now result
+        ensures { Took shape ctx.entry.depth part.old tag.number tag.wire_type buf.old.now ctx.entry.budget.now result
             part.new (budget_left ctx.exit) buf.new.now };
 
     /// The encoding reads back.
-    ghost back: { ReadsBackTo slot };
+    ghost back: { ReadsBackTo shape };
 }

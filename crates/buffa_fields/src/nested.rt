@@ -29,7 +29,7 @@ use std::marker::PhantomData;
 #[tactic(auto, using(crate::specs::NestedLaws::record_size))]
 pub(crate) fn record_len(number: u32, inner: u64) -> u32
     requires { IsNumber number }
-    ensures { (text : List ℕ) → Tells inner text → result ≡ cap (length (records_encoding ((number, bytes text) ∷ []))) }
+    ensures { (encoding : List ℕ) → Tells inner encoding → result ≡ cap (length (records_encoding ((number, bytes encoding) ∷ []))) }
 {
     let tag = varint_len(u64::from(number) * 8 + 2) as u64;
     let len = prefix_len(inner) as u64;
@@ -78,7 +78,7 @@ pub(crate) fn write_head<S: EncodeSink>(
     encode_varint(inner, sink)
 }
 
-// Writes a message's record, whose length is the next slot.
+// Writes a message's record; the message's length is in the next slot.
 pub(crate) fn write_message<N: Message, S: EncodeSink>(
     number: u32,
     message: &N,
@@ -131,7 +131,7 @@ impl<N: Message> Member for Nested<N> {
 
     type Meaning = Option<<N as Blank>::Meaning>;
 
-    ghost slot = { record {
+    ghost shape = { record {
       meaning = λ p. option_map N.meaning p;
       blank = None;
       takes = message_taken N.blank_is N.merged;

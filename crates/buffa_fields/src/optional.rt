@@ -5,7 +5,7 @@ ghost use Rattle.std.specs.Option.{option_map};
 ghost use Rattle.buffa_bytes.specs.Reading.{check_wire};
 ghost use Rattle.buffa_fields.specs.Values.{IfThere, ValueTakesMemory, free, some_taken};
 ghost use Rattle.buffa_fields.specs.ValueLaws.{some_back};
-ghost use Rattle.buffa_fields.specs.Slots.{optional_records};
+ghost use Rattle.buffa_fields.specs.MemberRecords.{optional_records};
 
 use crate::kind::Kind;
 use crate::member::Member;
@@ -28,7 +28,7 @@ impl<C: Kind> Member for Optional<C> {
 
     type Meaning = Option<<C::Value as Blank>::Meaning>;
 
-    ghost slot = { record {
+    ghost shape = { record {
       meaning = λ p. option_map C.Value.meaning p;
       blank = None;
       takes = some_taken C.reading;
@@ -42,7 +42,7 @@ impl<C: Kind> Member for Optional<C> {
       stays = λ d n w p x h. refl;
     } };
 
-    #[tactic(auto, using(crate::specs::LayoutLaws::sized_free), unfolding(crate::specs::Slots::optional_records))]
+    #[tactic(auto, using(crate::specs::LayoutLaws::sized_free), unfolding(crate::specs::MemberRecords::optional_records))]
     fn len(
         number: u32,
         part: &Option<C::Value>,
@@ -54,7 +54,7 @@ impl<C: Kind> Member for Optional<C> {
         }
     }
 
-    #[tactic(auto, using(buffa_wire::proofs::PassLemmas::written_none, buffa_wire::proofs::PassLemmas::written_put), unfolding(crate::specs::Slots::optional_records))]
+    #[tactic(auto, using(buffa_wire::proofs::PassLemmas::written_none, buffa_wire::proofs::PassLemmas::written_put), unfolding(crate::specs::MemberRecords::optional_records))]
     fn write_to<S: EncodeSink>(
         number: u32,
         part: &Option<C::Value>,

@@ -158,7 +158,7 @@ impl<C: Packable> Member for Packed<C> {
 
     type Meaning = [<C::Value as Blank>::Meaning; 0];
 
-    ghost slot = { record {
+    ghost shape = { record {
       meaning = λ vs. map C.Value.meaning vs.items;
       blank = [];
       takes = elements_taken C.reading;

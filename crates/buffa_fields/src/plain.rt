@@ -4,7 +4,7 @@ ghost use Rattle.std.specs.Prelude.{[], ◌∷◌, refl, ◌==◌};
 ghost use Rattle.buffa_bytes.specs.Reading.{check_wire};
 ghost use Rattle.buffa_fields.specs.Values.{ValueTakesMemory, free, value_taken};
 ghost use Rattle.buffa_fields.specs.ValueLaws.{plain_back};
-ghost use Rattle.buffa_fields.specs.Slots.{plain_records};
+ghost use Rattle.buffa_fields.specs.MemberRecords.{plain_records};
 
 use crate::kind::Kind;
 use crate::member::Member;
@@ -27,7 +27,7 @@ impl<C: Kind> Member for Plain<C> {
 
     type Meaning = <C::Value as Blank>::Meaning;
 
-    ghost slot = { record {
+    ghost shape = { record {
       meaning = C.Value.meaning;
       blank = C.Value.blank_is;
       takes = value_taken C.reading;
@@ -41,7 +41,7 @@ impl<C: Kind> Member for Plain<C> {
       stays = λ d n w p x h. refl;
     } };
 
-    #[tactic(auto, using(crate::specs::LayoutLaws::sized_free), unfolding(crate::specs::Slots::plain_records))]
+    #[tactic(auto, using(crate::specs::LayoutLaws::sized_free), unfolding(crate::specs::MemberRecords::plain_records))]
     fn len(number: u32, part: &C::Value, _cache: &mut SizeCache) -> Result<u32, EncodeError> {
         if C::is_blank(part) {
             Ok(0)
@@ -50,7 +50,7 @@ impl<C: Kind> Member for Plain<C> {
         }
     }
 
-    #[tactic(auto, using(buffa_wire::proofs::PassLemmas::written_none, buffa_wire::proofs::PassLemmas::written_put), unfolding(crate::specs::Slots::plain_records))]
+    #[tactic(auto, using(buffa_wire::proofs::PassLemmas::written_none, buffa_wire::proofs::PassLemmas::written_put), unfolding(crate::specs::MemberRecords::plain_records))]
     fn write_to<S: EncodeSink>(
         number: u32,
         part: &C::Value,

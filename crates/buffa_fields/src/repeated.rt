@@ -27,7 +27,7 @@ impl<C: Kind> Member for Repeated<C> {
 
     type Meaning = [<C::Value as Blank>::Meaning; 0];
 
-    ghost slot = { record {
+    ghost shape = { record {
       meaning = λ vs. map C.Value.meaning vs.items;
       blank = [];
       takes = elements_taken C.reading;

@@ -135,7 +135,7 @@ impl<N: Message> Member for RepeatedNested<N> {
 
     type Meaning = [<N as Blank>::Meaning; 0];
 
-    ghost slot = { record {
+    ghost shape = { record {
       meaning = λ p. map N.meaning p.items;
       blank = [];
       takes = messages_taken N.blank_is N.merged;

@@ -26,11 +26,11 @@ pub trait Visitor {
     /// ```
     fn visit<M: Member>(&mut self, number: u32, part: &M::Part)
         requires number { IsNumber number }
-        requires waits { (rest : List ℕ) × Waits (M.slot.slots (M.slot.meaning part.now) ++ rest) self.old }
-        ensures seen { (z : Seen) → IsAt z self.old → IsAt (visited M.slot number part.now z) self.new }
-        ensures waits { (rest : List ℕ) → Waits (M.slot.slots (M.slot.meaning part.now) ++ rest) self.old →
+        requires waits { (rest : List ℕ) × Waits (M.shape.slots (M.shape.meaning part.now) ++ rest) self.old }
+        ensures seen { (z : Seen) → IsAt z self.old → IsAt (visited M.shape number part.now z) self.new }
+        ensures waits { (rest : List ℕ) → Waits (M.shape.slots (M.shape.meaning part.now) ++ rest) self.old →
             Waits rest self.new }
-        ensures back { ReadsBackTo M.slot };
+        ensures back { ReadsBackTo M.shape };
 
     /// The fields that were kept.
     ///

@@ -69,14 +69,14 @@ impl Fields for Assorted {
 
     ghost positive = { lit< tt };
 
-    ghost layout = { field 1 (λ m. m.data) ⟦<Optional<BytesVec> as Member>⟧.slot (
-        field 2 (λ m. m.state) ⟦<Optional<OpenEnum<State>> as Member>⟧.slot (
-        field 3 (λ m. m.parts) ⟦<Repeated<BytesVec> as Member>⟧.slot (
-        field 4 (λ m. m.past) ⟦<Repeated<OpenEnum<State>> as Member>⟧.slot (
-        field 5 (λ m. m.coming) ⟦<Packed<OpenEnum<State>> as Member>⟧.slot (
-        field 6 (λ m. m.marks) ⟦<MapOf<Bool, BytesVec> as Member>⟧.slot (
-        field 7 (λ m. m.states) ⟦<MapOf<Int64, OpenEnum<State>> as Member>⟧.slot (
-        field 8 (λ m. m.shared) ⟦<Plain<BytesBuf> as Member>⟧.slot (
+    ghost layout = { field 1 (λ m. m.data) ⟦<Optional<BytesVec> as Member>⟧.shape (
+        field 2 (λ m. m.state) ⟦<Optional<OpenEnum<State>> as Member>⟧.shape (
+        field 3 (λ m. m.parts) ⟦<Repeated<BytesVec> as Member>⟧.shape (
+        field 4 (λ m. m.past) ⟦<Repeated<OpenEnum<State>> as Member>⟧.shape (
+        field 5 (λ m. m.coming) ⟦<Packed<OpenEnum<State>> as Member>⟧.shape (
+        field 6 (λ m. m.marks) ⟦<MapOf<Bool, BytesVec> as Member>⟧.shape (
+        field 7 (λ m. m.states) ⟦<MapOf<Int64, OpenEnum<State>> as Member>⟧.shape (
+        field 8 (λ m. m.shared) ⟦<Plain<BytesBuf> as Member>⟧.shape (
         keep (λ m. m.rest.records))))))))) };
 
     ghost sound = { refl };

@@ -39,8 +39,8 @@ impl Fields for Depot {
 
     ghost positive = { lit< tt };
 
-    ghost layout = { field 1 (λ m. m.city) ⟦<Plain<Str> as Member>⟧.slot (
-        field 2 (λ m. m.parcels) ⟦<RepeatedNested<Parcel> as Member>⟧.slot (
+    ghost layout = { field 1 (λ m. m.city) ⟦<Plain<Str> as Member>⟧.shape (
+        field 2 (λ m. m.parcels) ⟦<RepeatedNested<Parcel> as Member>⟧.shape (
         skip)) };
 
     ghost sound = { refl };

@@ -67,17 +67,17 @@ impl Fields for Explicit {
 
     ghost positive = { lit< tt };
 
-    ghost layout = { field 1 (λ m. m.int32) ⟦<Optional<Int32> as Member>⟧.slot (
-        field 2 (λ m. m.int64) ⟦<Optional<Int64> as Member>⟧.slot (
-        field 3 (λ m. m.uint32) ⟦<Optional<Uint32> as Member>⟧.slot (
-        field 4 (λ m. m.uint64) ⟦<Optional<Uint64> as Member>⟧.slot (
-        field 5 (λ m. m.sint32) ⟦<Optional<Sint32> as Member>⟧.slot (
-        field 6 (λ m. m.sint64) ⟦<Optional<Sint64> as Member>⟧.slot (
-        field 7 (λ m. m.truth) ⟦<Optional<Bool> as Member>⟧.slot (
-        field 8 (λ m. m.fixed32) ⟦<Optional<Fixed32> as Member>⟧.slot (
-        field 15 (λ m. m.fixed64) ⟦<Optional<Fixed64> as Member>⟧.slot (
-        field 16 (λ m. m.sfixed32) ⟦<Optional<Sfixed32> as Member>⟧.slot (
-        field 536870911 (λ m. m.sfixed64) ⟦<Optional<Sfixed64> as Member>⟧.slot (
+    ghost layout = { field 1 (λ m. m.int32) ⟦<Optional<Int32> as Member>⟧.shape (
+        field 2 (λ m. m.int64) ⟦<Optional<Int64> as Member>⟧.shape (
+        field 3 (λ m. m.uint32) ⟦<Optional<Uint32> as Member>⟧.shape (
+        field 4 (λ m. m.uint64) ⟦<Optional<Uint64> as Member>⟧.shape (
+        field 5 (λ m. m.sint32) ⟦<Optional<Sint32> as Member>⟧.shape (
+        field 6 (λ m. m.sint64) ⟦<Optional<Sint64> as Member>⟧.shape (
+        field 7 (λ m. m.truth) ⟦<Optional<Bool> as Member>⟧.shape (
+        field 8 (λ m. m.fixed32) ⟦<Optional<Fixed32> as Member>⟧.shape (
+        field 15 (λ m. m.fixed64) ⟦<Optional<Fixed64> as Member>⟧.shape (
+        field 16 (λ m. m.sfixed32) ⟦<Optional<Sfixed32> as Member>⟧.shape (
+        field 536870911 (λ m. m.sfixed64) ⟦<Optional<Sfixed64> as Member>⟧.shape (
         keep (λ m. m.rest.records)))))))))))) };
 
     ghost sound = { refl };

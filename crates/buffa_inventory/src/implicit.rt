@@ -60,17 +60,17 @@ impl Fields for Implicit {
 
     ghost positive = { lit< tt };
 
-    ghost layout = { field 1 (λ m. m.int32) ⟦<Plain<Int32> as Member>⟧.slot (
-        field 2 (λ m. m.int64) ⟦<Plain<Int64> as Member>⟧.slot (
-        field 3 (λ m. m.uint32) ⟦<Plain<Uint32> as Member>⟧.slot (
-        field 4 (λ m. m.uint64) ⟦<Plain<Uint64> as Member>⟧.slot (
-        field 5 (λ m. m.sint32) ⟦<Plain<Sint32> as Member>⟧.slot (
-        field 6 (λ m. m.sint64) ⟦<Plain<Sint64> as Member>⟧.slot (
-        field 7 (λ m. m.truth) ⟦<Plain<Bool> as Member>⟧.slot (
-        field 8 (λ m. m.fixed32) ⟦<Plain<Fixed32> as Member>⟧.slot (
-        field 9 (λ m. m.fixed64) ⟦<Plain<Fixed64> as Member>⟧.slot (
-        field 10 (λ m. m.sfixed32) ⟦<Plain<Sfixed32> as Member>⟧.slot (
-        field 11 (λ m. m.sfixed64) ⟦<Plain<Sfixed64> as Member>⟧.slot (
+    ghost layout = { field 1 (λ m. m.int32) ⟦<Plain<Int32> as Member>⟧.shape (
+        field 2 (λ m. m.int64) ⟦<Plain<Int64> as Member>⟧.shape (
+        field 3 (λ m. m.uint32) ⟦<Plain<Uint32> as Member>⟧.shape (
+        field 4 (λ m. m.uint64) ⟦<Plain<Uint64> as Member>⟧.shape (
+        field 5 (λ m. m.sint32) ⟦<Plain<Sint32> as Member>⟧.shape (
+        field 6 (λ m. m.sint64) ⟦<Plain<Sint64> as Member>⟧.shape (
+        field 7 (λ m. m.truth) ⟦<Plain<Bool> as Member>⟧.shape (
+        field 8 (λ m. m.fixed32) ⟦<Plain<Fixed32> as Member>⟧.shape (
+        field 9 (λ m. m.fixed64) ⟦<Plain<Fixed64> as Member>⟧.shape (
+        field 10 (λ m. m.sfixed32) ⟦<Plain<Sfixed32> as Member>⟧.shape (
+        field 11 (λ m. m.sfixed64) ⟦<Plain<Sfixed64> as Member>⟧.shape (
         skip))))))))))) };
 
     ghost sound = { refl };

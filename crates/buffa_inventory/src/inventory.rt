@@ -47,10 +47,10 @@ impl Fields for Inventory {
 
     ghost positive = { lit< tt };
 
-    ghost layout = { field 1 (λ m. m.total) ⟦<Plain<Int32> as Member>⟧.slot (
-        field 2 (λ m. m.note) ⟦<Plain<Str> as Member>⟧.slot (
-        field 3 (λ m. m.listed) ⟦<Optional<Bool> as Member>⟧.slot (
-        field 5 (λ m. m.counts) ⟦<MapOf<Str, Int32> as Member>⟧.slot (
+    ghost layout = { field 1 (λ m. m.total) ⟦<Plain<Int32> as Member>⟧.shape (
+        field 2 (λ m. m.note) ⟦<Plain<Str> as Member>⟧.shape (
+        field 3 (λ m. m.listed) ⟦<Optional<Bool> as Member>⟧.shape (
+        field 5 (λ m. m.counts) ⟦<MapOf<Str, Int32> as Member>⟧.shape (
         keep (λ m. m.rest.records))))) };
 
     ghost sound = { refl };

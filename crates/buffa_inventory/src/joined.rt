@@ -61,17 +61,17 @@ impl Fields for Joined {
 
     ghost positive = { lit< tt };
 
-    ghost layout = { field 1 (λ m. m.int32) ⟦<Packed<Int32> as Member>⟧.slot (
-        field 2 (λ m. m.int64) ⟦<Packed<Int64> as Member>⟧.slot (
-        field 3 (λ m. m.uint32) ⟦<Packed<Uint32> as Member>⟧.slot (
-        field 4 (λ m. m.uint64) ⟦<Packed<Uint64> as Member>⟧.slot (
-        field 5 (λ m. m.sint32) ⟦<Packed<Sint32> as Member>⟧.slot (
-        field 6 (λ m. m.sint64) ⟦<Packed<Sint64> as Member>⟧.slot (
-        field 7 (λ m. m.truth) ⟦<Packed<Bool> as Member>⟧.slot (
-        field 15 (λ m. m.fixed32) ⟦<Packed<Fixed32> as Member>⟧.slot (
-        field 16 (λ m. m.fixed64) ⟦<Packed<Fixed64> as Member>⟧.slot (
-        field 2047 (λ m. m.sfixed32) ⟦<Packed<Sfixed32> as Member>⟧.slot (
-        field 2048 (λ m. m.sfixed64) ⟦<Packed<Sfixed64> as Member>⟧.slot (
+    ghost layout = { field 1 (λ m. m.int32) ⟦<Packed<Int32> as Member>⟧.shape (
+        field 2 (λ m. m.int64) ⟦<Packed<Int64> as Member>⟧.shape (
+        field 3 (λ m. m.uint32) ⟦<Packed<Uint32> as Member>⟧.shape (
+        field 4 (λ m. m.uint64) ⟦<Packed<Uint64> as Member>⟧.shape (
+        field 5 (λ m. m.sint32) ⟦<Packed<Sint32> as Member>⟧.shape (
+        field 6 (λ m. m.sint64) ⟦<Packed<Sint64> as Member>⟧.shape (
+        field 7 (λ m. m.truth) ⟦<Packed<Bool> as Member>⟧.shape (
+        field 15 (λ m. m.fixed32) ⟦<Packed<Fixed32> as Member>⟧.shape (
+        field 16 (λ m. m.fixed64) ⟦<Packed<Fixed64> as Member>⟧.shape (
+        field 2047 (λ m. m.sfixed32) ⟦<Packed<Sfixed32> as Member>⟧.shape (
+        field 2048 (λ m. m.sfixed64) ⟦<Packed<Sfixed64> as Member>⟧.shape (
         keep (λ m. m.rest.records)))))))))))) };
 
     ghost sound = { refl };

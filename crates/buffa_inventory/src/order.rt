@@ -68,18 +68,18 @@ impl Fields for Order {
 
     ghost positive = { lit< tt };
 
-    ghost layout = { field 1 (λ m. m.id) ⟦<Plain<Int64> as Member>⟧.slot (
-        field 2 (λ m. m.note) ⟦<Plain<Str> as Member>⟧.slot (
-        field 3 (λ m. m.gift) ⟦<Optional<Bool> as Member>⟧.slot (
-        field 4 (λ m. m.state) ⟦<Plain<OpenEnum<State>> as Member>⟧.slot (
-        field 5 (λ m. m.counts) ⟦<MapOf<Str, Int32> as Member>⟧.slot (
-        field 6 (λ m. m.blob) ⟦<Plain<BytesVec> as Member>⟧.slot (
-        field 7 (λ m. m.steps) ⟦<Packed<Sint32> as Member>⟧.slot (
-        field 8 (λ m. m.code) ⟦<Optional<Str> as Member>⟧.slot (
-        field 9 (λ m. m.stamp) ⟦<Optional<Fixed64> as Member>⟧.slot (
-        field 10 (λ m. m.names) ⟦<MapOf<Int32, Str> as Member>⟧.slot (
-        field 11 (λ m. m.tags) ⟦<Repeated<Str> as Member>⟧.slot (
-        field 12 (λ m. m.floor) ⟦<Optional<Int32> as Member>⟧.slot (
+    ghost layout = { field 1 (λ m. m.id) ⟦<Plain<Int64> as Member>⟧.shape (
+        field 2 (λ m. m.note) ⟦<Plain<Str> as Member>⟧.shape (
+        field 3 (λ m. m.gift) ⟦<Optional<Bool> as Member>⟧.shape (
+        field 4 (λ m. m.state) ⟦<Plain<OpenEnum<State>> as Member>⟧.shape (
+        field 5 (λ m. m.counts) ⟦<MapOf<Str, Int32> as Member>⟧.shape (
+        field 6 (λ m. m.blob) ⟦<Plain<BytesVec> as Member>⟧.shape (
+        field 7 (λ m. m.steps) ⟦<Packed<Sint32> as Member>⟧.shape (
+        field 8 (λ m. m.code) ⟦<Optional<Str> as Member>⟧.shape (
+        field 9 (λ m. m.stamp) ⟦<Optional<Fixed64> as Member>⟧.shape (
+        field 10 (λ m. m.names) ⟦<MapOf<Int32, Str> as Member>⟧.shape (
+        field 11 (λ m. m.tags) ⟦<Repeated<Str> as Member>⟧.shape (
+        field 12 (λ m. m.floor) ⟦<Optional<Int32> as Member>⟧.shape (
         skip)))))))))))) };
 
     ghost sound = { refl };

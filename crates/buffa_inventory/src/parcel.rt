@@ -38,8 +38,8 @@ impl Fields for Parcel {
 
     ghost positive = { lit< tt };
 
-    ghost layout = { field 1 (λ m. m.id) ⟦<Plain<Int64> as Member>⟧.slot (
-        field 2 (λ m. m.stock) ⟦<Nested<Inventory> as Member>⟧.slot (
+    ghost layout = { field 1 (λ m. m.id) ⟦<Plain<Int64> as Member>⟧.shape (
+        field 2 (λ m. m.stock) ⟦<Nested<Inventory> as Member>⟧.shape (
         skip)) };
 
     ghost sound = { refl };

@@ -60,17 +60,17 @@ impl Fields for Separate {
 
     ghost positive = { lit< tt };
 
-    ghost layout = { field 1 (λ m. m.int32) ⟦<Repeated<Int32> as Member>⟧.slot (
-        field 2 (λ m. m.int64) ⟦<Repeated<Int64> as Member>⟧.slot (
-        field 3 (λ m. m.uint32) ⟦<Repeated<Uint32> as Member>⟧.slot (
-        field 4 (λ m. m.uint64) ⟦<Repeated<Uint64> as Member>⟧.slot (
-        field 5 (λ m. m.sint32) ⟦<Repeated<Sint32> as Member>⟧.slot (
-        field 6 (λ m. m.sint64) ⟦<Repeated<Sint64> as Member>⟧.slot (
-        field 7 (λ m. m.truth) ⟦<Repeated<Bool> as Member>⟧.slot (
-        field 8 (λ m. m.fixed32) ⟦<Repeated<Fixed32> as Member>⟧.slot (
-        field 9 (λ m. m.fixed64) ⟦<Repeated<Fixed64> as Member>⟧.slot (
-        field 10 (λ m. m.sfixed32) ⟦<Repeated<Sfixed32> as Member>⟧.slot (
-        field 11 (λ m. m.sfixed64) ⟦<Repeated<Sfixed64> as Member>⟧.slot (
+    ghost layout = { field 1 (λ m. m.int32) ⟦<Repeated<Int32> as Member>⟧.shape (
+        field 2 (λ m. m.int64) ⟦<Repeated<Int64> as Member>⟧.shape (
+        field 3 (λ m. m.uint32) ⟦<Repeated<Uint32> as Member>⟧.shape (
+        field 4 (λ m. m.uint64) ⟦<Repeated<Uint64> as Member>⟧.shape (
+        field 5 (λ m. m.sint32) ⟦<Repeated<Sint32> as Member>⟧.shape (
+        field 6 (λ m. m.sint64) ⟦<Repeated<Sint64> as Member>⟧.shape (
+        field 7 (λ m. m.truth) ⟦<Repeated<Bool> as Member>⟧.shape (
+        field 8 (λ m. m.fixed32) ⟦<Repeated<Fixed32> as Member>⟧.shape (
+        field 9 (λ m. m.fixed64) ⟦<Repeated<Fixed64> as Member>⟧.shape (
+        field 10 (λ m. m.sfixed32) ⟦<Repeated<Sfixed32> as Member>⟧.shape (
+        field 11 (λ m. m.sfixed64) ⟦<Repeated<Sfixed64> as Member>⟧.shape (
         skip))))))))))) };
 
     ghost sound = { refl };

@@ -35,8 +35,8 @@ impl Fields for Store {
 
     ghost positive = { lit< tt };
 
-    ghost layout = { field 1 (λ m. m.name) ⟦<Plain<Str> as Member>⟧.slot (
-        field 2 (λ m. m.shelves) ⟦<MapOfNested<Str, Inventory> as Member>⟧.slot (
+    ghost layout = { field 1 (λ m. m.name) ⟦<Plain<Str> as Member>⟧.shape (
+        field 2 (λ m. m.shelves) ⟦<MapOfNested<Str, Inventory> as Member>⟧.shape (
         skip)) };
 
     ghost sound = { refl };

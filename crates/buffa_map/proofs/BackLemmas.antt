@@ -20,7 +20,7 @@ use Rattle.buffa_wire.specs.Passes.{IsSmall}
 use Rattle.buffa_map_base.specs.Message.{meant, message_reading}
 use Rattle.buffa_map_base.specs.MessageField.{IsSmallField}
 use Rattle.buffa_map_base.specs.Scalars.{delimited_writing}
-use Rattle.buffa_map_base.specs.Entry.{IsCodecField, IsEntry, IsField, blanks}
+use Rattle.buffa_map_base.specs.Entry.{IsCodecField, IsEntry, IsEntryField, blanks}
 use Rattle.buffa_map_base.specs.Pairs.{put}
 use Rattle.buffa_map_base.specs.Run.{fold_entries, IsRecord, undeclared, Run, EntryRecord, pair_entry}
 use Rattle.buffa_map_base.specs.Encoding.{AllHold, HasEncoding, entry_encoding, field_encoding, record_encoding}
@@ -51,8 +51,8 @@ module _ {K W : Type 0} (key : Reading K) (val : Reading W) (kw : Writing K) (vw
       let g = tag_encoding 2 vw.wire ++ vw.encoding p.1 in
       let s = blanks key val d in
       let t : MapEntry K W = record { key = p.0; value = val.blank; known = true } in
-      let one : IsField key val d s f t = inl (p.0, true, part key kw 1 p.0 (omega arith, omega arith) same_key (key_back p.0 a), refl) in
-      let two : IsField key val d t g (pair_entry p) = inr (inl (p.1, true, part val vw 2 p.1 (omega arith, omega arith) same_val (val_back p.1 b), refl)) in
+      let one : IsEntryField key val d s f t = inl (p.0, true, part key kw 1 p.0 (omega arith, omega arith) same_key (key_back p.0 a), refl) in
+      let two : IsEntryField key val d t g (pair_entry p) = inr (inl (p.1, true, part val vw 2 p.1 (omega arith, omega arith) same_val (val_back p.1 b), refl)) in
       (f ∷ g ∷ [], sym (append-nil (f ++ (g ++ [])) ∙ ap (λ z. f ++ z) (append-nil g)), (t, one, (pair_entry p, two, refl)))
 
   pub record_back : (n : ℕ) (p : K × W) → IsNumber n → length (entry_encoding kw vw p) < 2 ^ 64 → KeyOk p.0 → ValOk p.1 → IsRecord key val d n (record_encoding kw vw n p) (as_record kw vw p)
@@ -101,18 +101,18 @@ all_declared say is [] = refl
 all_declared say is (p ∷ l) = rw (is p) (all_declared say is l)
 
 -- ---- messages: small ones have an encoding, and are read back where a level is left for each of theirs
-module _ {K M : Type 0} (kw : Writing K) (text : M → List ℕ) where
-  pub small_text : (l : List (K × M)) → IsSmallField kw text l → HasEncoding kw (delimited_writing text) l
-  small_text [] h = tt
-  small_text (p ∷ ps) h = (h.0.1, small_text ps h.1)
+module _ {K M : Type 0} (kw : Writing K) (encoding : M → List ℕ) where
+  pub small_encoding : (l : List (K × M)) → IsSmallField kw encoding l → HasEncoding kw (delimited_writing encoding) l
+  small_encoding [] h = tt
+  small_encoding (p ∷ ps) h = (h.0.1, small_encoding ps h.1)
 
-  pub all_small : (P : K → Type 0) (Q : M → Type 0) (l : List (K × M)) → IsSmallField kw text l → AllHold P Q l → AllHold P (λ v. Q v × IsSmall (text v)) l
+  pub all_small : (P : K → Type 0) (Q : M → Type 0) (l : List (K × M)) → IsSmallField kw encoding l → AllHold P Q l → AllHold P (λ v. Q v × IsSmall (encoding v)) l
   all_small P Q [] h k = tt
   all_small P Q (p ∷ ps) h k = (k.0, (k.1, h.0.0), all_small P Q ps h.1 k.2)
 
-module _ {M : Type 0} (blank : M) (merged : ℕ → M → List ℕ → Option M) (cost : ℕ → List ℕ → BudgetLeft) (text : M → List ℕ) where
-  pub message_back : (d : ℕ) (v : M) → IsSmall (text v) → 0 < d → ((e : ℕ) → suc e ≡ d → merged e blank (text v) ≡ Some v) → IsReadBack (message_reading blank merged cost) (delimited_writing text) d v
+module _ {M : Type 0} (blank : M) (merged : ℕ → M → List ℕ → Option M) (cost : ℕ → List ℕ → BudgetLeft) (encoding : M → List ℕ) where
+  pub message_back : (d : ℕ) (v : M) → IsSmall (encoding v) → 0 < d → ((e : ℕ) → suc e ≡ d → merged e blank (encoding v) ≡ Some v) → IsReadBack (message_reading blank merged cost) (delimited_writing encoding) d v
   message_back zero v small some means = absurd (omega (arith, some))
   message_back (suc e) v small some means =
-      let fits : length (text v) < 2 ^ 64 = omega (arith, small) in
-      (refl, bytes (text v), (varint_encoding (length (text v)), IsVarint-varint_encoding (length (text v)) fits, refl), ap meant (means e refl))
+      let fits : length (encoding v) < 2 ^ 64 = omega (arith, small) in
+      (refl, bytes (encoding v), (varint_encoding (length (encoding v)), IsVarint-varint_encoding (length (encoding v)) fits, refl), ap meant (means e refl))

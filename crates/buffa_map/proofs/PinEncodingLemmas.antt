@@ -66,42 +66,42 @@ module _ {K V : Type 0} (key : Writing K) (val : Writing V) where
       (λ i. first i ∷ others i)
 
   one_refusal : (n : ℕ) (old a b : List ℕ) (l : List (K × V)) → RefusesField key val n old a l MessageTooLarge → RefusesField key val n old b l MessageTooLarge → a ≡ b
-  one_refusal n old a b l (done, p, rest, is, has, long, text) (more, q, tail, was, short, large, words) =
-      text ∙ ap (λ z. old ++ field_encoding key val n z) (first_long done more p q rest tail (sym is ∙ was) has short long large) ∙ sym words
+  one_refusal n old a b l (done, p, rest, is, has, long, encoding) (more, q, tail, was, short, large, words) =
+      encoding ∙ ap (λ z. old ++ field_encoding key val n z) (first_long done more p q rest tail (sym is ∙ was) has short long large) ∙ sym words
 
-  one_text : (n : ℕ) (old a b : List ℕ) (l : List (K × V)) (r s : Result (Unit {0}) EncodeError) →
+  one_encoding : (n : ℕ) (old a b : List ℕ) (l : List (K × V)) (r s : Result (Unit {0}) EncodeError) →
       WritesField key val n old a r l → WritesField key val n old b s l → NoneIsFull r s → (r ≡ s) × (a ≡ b)
-  one_text n old a b l (Ok u) (Ok w) h k none = (refl, h.1 ∙ sym k.1)
-  one_text n old a b l (Err OutOfMemory) s h k none = absurd (none.0 refl)
-  one_text n old a b l r (Err OutOfMemory) h k none = absurd (none.1 refl)
-  one_text n old a b l (Err (GroupRefused e)) s h k none = absurd h
-  one_text n old a b l r (Err (GroupRefused e)) h k none = absurd k
-  one_text n old a b l (Ok u) (Err MessageTooLarge) h k none = absurd (no_long l l k.0 k.1 k.2 h.0 (all_short l h.0) k.3 (λ z. z) k.5)
-  one_text n old a b l (Err MessageTooLarge) (Ok u) h k none = absurd (no_long l l h.0 h.1 h.2 k.0 (all_short l k.0) h.3 (λ z. z) h.5)
-  one_text n old a b l (Err MessageTooLarge) (Err MessageTooLarge) h k none = (refl, one_refusal n old a b l h k)
+  one_encoding n old a b l (Ok u) (Ok w) h k none = (refl, h.1 ∙ sym k.1)
+  one_encoding n old a b l (Err OutOfMemory) s h k none = absurd (none.0 refl)
+  one_encoding n old a b l r (Err OutOfMemory) h k none = absurd (none.1 refl)
+  one_encoding n old a b l (Err (GroupRefused e)) s h k none = absurd h
+  one_encoding n old a b l r (Err (GroupRefused e)) h k none = absurd k
+  one_encoding n old a b l (Ok u) (Err MessageTooLarge) h k none = absurd (no_long l l k.0 k.1 k.2 h.0 (all_short l h.0) k.3 (λ z. z) k.5)
+  one_encoding n old a b l (Err MessageTooLarge) (Ok u) h k none = absurd (no_long l l h.0 h.1 h.2 k.0 (all_short l k.0) h.3 (λ z. z) h.5)
+  one_encoding n old a b l (Err MessageTooLarge) (Err MessageTooLarge) h k none = (refl, one_refusal n old a b l h k)
 
   pub field_is_pinned : {eq : K → K → Bool} → IsEquivalence eq → FieldIsPinned key val eq
   field_is_pinned laws = record {
     size = λ t m a b h k. ap saturated (one_size key val laws t m a b h k);
-    written = λ n old a b l r s h k none. one_text n old a b l r s h k none;
+    written = λ n old a b l r s h k none. one_encoding n old a b l r s h k none;
   }
 
 -- ---- messages
 
-module _ {K M : Type 0} (key : Writing K) (text slots : M → List ℕ) where
-  one_sized : (t : ℕ) (l : List (K × M)) (old a b : Cache) (r s : Result ℕ EncodeError) → IsSmallField key text l →
-      IsFieldSized key text slots t l old r a → IsFieldSized key text slots t l old s b → NoneIsFull r s → (r ≡ s) × (a ≡ b)
+module _ {K M : Type 0} (key : Writing K) (encoding slots : M → List ℕ) where
+  one_sized : (t : ℕ) (l : List (K × M)) (old a b : Cache) (r s : Result ℕ EncodeError) → IsSmallField key encoding l →
+      IsFieldSized key encoding slots t l old r a → IsFieldSized key encoding slots t l old s b → NoneIsFull r s → (r ≡ s) × (a ≡ b)
   one_sized t l old a b (Ok n) (Ok m) small h k none = (ap (λ z. Ok z) (h.1 small ∙ sym (k.1 small)), h.2 ∙ sym k.2)
   one_sized t l old a b (Err e) s small h k none = absurd (none.0 (ap (λ z. Err z) h.0))
   one_sized t l old a b (Ok n) (Err e) small h k none = absurd (none.1 (ap (λ z. Err z) k.0))
 
-  one_written : (n : ℕ) (l : List (K × M)) (old a b : Cache) (before x y : List ℕ) (r s : Result (Unit {0}) EncodeError) → IsSmallField key text l →
-      IsFieldWritten key text slots n l old before r a x → IsFieldWritten key text slots n l old before s b y → NoneIsFull r s → (r ≡ s) × (a ≡ b) × (x ≡ y)
+  one_written : (n : ℕ) (l : List (K × M)) (old a b : Cache) (before x y : List ℕ) (r s : Result (Unit {0}) EncodeError) → IsSmallField key encoding l →
+      IsFieldWritten key encoding slots n l old before r a x → IsFieldWritten key encoding slots n l old before s b y → NoneIsFull r s → (r ≡ s) × (a ≡ b) × (x ≡ y)
   one_written n l old a b before x y (Ok u) (Ok w) small h k none = (refl, h.2.0 ∙ sym k.2.0, h.1 ∙ ap (λ z. before ++ z) (h.2.1 small ∙ sym (k.2.1 small)) ∙ sym k.1)
   one_written n l old a b before x y (Err e) s small h k none = absurd (none.0 (ap (λ z. Err z) h.2.0))
   one_written n l old a b before x y (Ok u) (Err e) small h k none = absurd (none.1 (ap (λ z. Err z) k.2.0))
 
-  pub messages_are_pinned : MessagesArePinned key text slots
+  pub messages_are_pinned : MessagesArePinned key encoding slots
   messages_are_pinned = record { sized = one_sized; written = one_written }
 
 -- ---- rewrites
@@ -113,13 +113,13 @@ module _ {K V : Type 0} (r : Rules K V) (laws : IsEquivalence r.same)
   abbrev Rewritten : ℕ → Type 0
   Rewritten m = RewritesRun r key val KeyFits ValFits A left bytes a over x old v room m
 
-  read_no_fault : (es : List (EntryRecord K V)) (f : DecodeError) → Run r.key r.val r.depth r.number bytes es → Paid r.key r.val r.depth r.cost r.slot left es over → RefusesBytes r left bytes b last y old w f → f ≢ decoding.OutOfMemory → ⊥
+  read_no_fault : (es : List (EntryRecord K V)) (f : DecodeError) → Run r.key r.val r.depth r.number bytes es → Paid r.key r.val r.depth r.cost r.extra left es over → RefusesBytes r left bytes b last y old w f → f ≢ decoding.OutOfMemory → ⊥
   read_no_fault es f run paid k ne =
-      ok_no_err (sym (run_complete r.key r.val r.depth r.number r.cost r.slot key_free val_free left bytes es over run paid)
-      ∙ (run_faulty r.key r.val r.depth r.number r.cost r.slot key_free val_free left bytes f (fault_of r key_free val_free (state [] [] left) bytes (state b k.0 last) y f k.1 ne)).1)
+      ok_no_err (sym (run_complete r.key r.val r.depth r.number r.cost r.extra key_free val_free left bytes es over run paid)
+      ∙ (run_faulty r.key r.val r.depth r.number r.cost r.extra key_free val_free left bytes f (fault_of r key_free val_free (state [] [] left) bytes (state b k.0 last) y f k.1 ne)).1)
 
   same_runs : (es fs : List (EntryRecord K V)) → Run r.key r.val r.depth r.number bytes es → Run r.key r.val r.depth r.number bytes fs → es ≡ fs
-  same_runs es fs h k = run_one r.key r.val r.depth r.number r.cost r.slot key_free val_free bytes es fs h k
+  same_runs es fs h k = run_one r.key r.val r.depth r.number r.cost r.extra key_free val_free bytes es fs h k
 
   once_more : (es fs : List (EntryRecord K V)) → es ≡ fs → (l : List (K × V)) → ListsOnce r.same (fold_entries r.same [] fs) l → ListsOnce r.same (fold_entries r.same [] es) l
   once_more es fs e l h = subst (λ z. ListsOnce r.same (fold_entries r.same [] z) l) (sym e) h
@@ -130,11 +130,11 @@ module _ {K V : Type 0} (r : Rules K V) (laws : IsEquivalence r.same)
       let e = same_runs h.entries k.entries h.run k.run in
       let t = length (tag_encoding r.number LengthDelimited) in
       let size = one_size key val laws t (fold_entries r.same [] h.entries) h.rewrite.0 k.rewrite.0 h.rewrite.1 (once_more h.entries k.entries e k.rewrite.0 k.rewrite.1) in
-      let first = ap length (h.text ∙ ap (λ z. old ++ z) h.rewrite.4) in
-      let second = ap length (k.text ∙ ap (λ z. old ++ z) k.rewrite.4) in
+      let first = ap length (h.encoding ∙ ap (λ z. old ++ z) h.rewrite.4) in
+      let second = ap length (k.encoding ∙ ap (λ z. old ++ z) k.rewrite.4) in
       let kept = ap (λ z. length (records_encoding (undeclared_records r.number z))) e in (
         λ q. sym (h.folded q) ∙ ap (λ z. lookup_entry (r.same q) (fold_entries r.same [] z)) e ∙ k.folded q,
-        one_over r.key r.val r.depth r.number r.cost r.slot key_free val_free left over last h.entries k.entries e h.paid k.paid,
+        one_over r.key r.val r.depth r.number r.cost r.extra key_free val_free left over last h.entries k.entries e h.paid k.paid,
         h.whole ∙ sym k.whole,
         omega (
           arith,
@@ -149,13 +149,13 @@ module _ {K V : Type 0} (r : Rules K V) (laws : IsEquivalence r.same)
           length-append (field_encoding key val r.number h.rewrite.0) (records_encoding (undeclared_records r.number h.entries)),
           length-append (field_encoding key val r.number k.rewrite.0) (records_encoding (undeclared_records r.number k.entries)),
         ),
-        λ same. h.text ∙ ap (λ z. old ++ z) (h.rewrite.4 ∙ ap (λ z. field_encoding key val r.number z ++ records_encoding (undeclared_records r.number h.entries)) same
-            ∙ ap (λ z. field_encoding key val r.number k.rewrite.0 ++ records_encoding (undeclared_records r.number z)) e ∙ sym k.rewrite.4) ∙ sym k.text,
+        λ same. h.encoding ∙ ap (λ z. old ++ z) (h.rewrite.4 ∙ ap (λ z. field_encoding key val r.number z ++ records_encoding (undeclared_records r.number h.entries)) same
+            ∙ ap (λ z. field_encoding key val r.number k.rewrite.0 ++ records_encoding (undeclared_records r.number z)) e ∙ sym k.rewrite.4) ∙ sym k.encoding,
       )
 
   written_no_refusal : (m : ℕ) (h : Rewritten m) (e : EncodeError) (k : RefusesOutput r key val B left bytes b last y old w room e) → RefusesRewrite key val r.number (undeclared_records r.number k.entries) old w k.walk e → e ≢ OutOfMemory → ⊥
-  written_no_refusal m h OutOfMemory k text ne = ne refl
-  written_no_refusal m h (GroupRefused e) k text ne = text
+  written_no_refusal m h OutOfMemory k encoding ne = ne refl
+  written_no_refusal m h (GroupRefused e) k encoding ne = encoding
   written_no_refusal m h MessageTooLarge k (done, p, rest, is, has, long, whole) ne =
       let e = same_runs h.entries k.entries h.run k.run in
       let turned = permuted laws (fold_entries r.same [] h.entries) h.rewrite.0 k.walk h.rewrite.1 (once_more h.entries k.entries e k.walk k.once) in
@@ -171,29 +171,29 @@ module _ {K V : Type 0} (r : Rules K V) (laws : IsEquivalence r.same)
   one_error MessageTooLarge MessageTooLarge kept more l m h k ne nf =
       (refl, λ same. one_refusal key val r.number old v w m (subst (λ z. RefusesField key val r.number old v z MessageTooLarge) same h) k)
 
-  two_texts : (d e : EncodeError) (h : RefusesOutput r key val A left bytes a over x old v room d) (k : RefusesOutput r key val B left bytes b last y old w room e) →
+  two_encodings : (d e : EncodeError) (h : RefusesOutput r key val A left bytes a over x old v room d) (k : RefusesOutput r key val B left bytes b last y old w room e) →
       SamePairs r.same a b × (over ≡ last) × (x ≡ y) × (d ≢ OutOfMemory → e ≢ OutOfMemory → (d ≡ e) × (h.walk ≡ k.walk → v ≡ w))
-  two_texts d e h k =
+  two_encodings d e h k =
       let same = same_runs h.entries k.entries h.run k.run in (
         λ q. sym (h.folded q) ∙ ap (λ z. lookup_entry (r.same q) (fold_entries r.same [] z)) same ∙ k.folded q,
-        one_over r.key r.val r.depth r.number r.cost r.slot key_free val_free left over last h.entries k.entries same h.paid k.paid,
+        one_over r.key r.val r.depth r.number r.cost r.extra key_free val_free left over last h.entries k.entries same h.paid k.paid,
         h.whole ∙ sym k.whole,
-        one_error d e (undeclared_records r.number h.entries) (undeclared_records r.number k.entries) h.walk k.walk h.text k.text,
+        one_error d e (undeclared_records r.number h.entries) (undeclared_records r.number k.entries) h.walk k.walk h.encoding k.encoding,
       )
 
   pub rewrite_is_pinned : RewriteIsPinned r key val KeyFits ValFits A B left bytes a b over last x y old v w room
   rewrite_is_pinned = record {
     rewritten = one_rewrite;
     read = λ m f h k ne. read_no_fault h.entries f h.run h.paid k ne;
-    written = λ m e h k ne. written_no_refusal m h e k k.text ne;
+    written = λ m e h k ne. written_no_refusal m h e k k.encoding ne;
     either = λ f e h k ne.
-        ok_no_err (sym (run_complete r.key r.val r.depth r.number r.cost r.slot key_free val_free left bytes k.entries last k.run k.paid)
-        ∙ (run_faulty r.key r.val r.depth r.number r.cost r.slot key_free val_free left bytes f (fault_of r key_free val_free (state [] [] left) bytes (state a h.0 over) x f h.1 ne)).1);
+        ok_no_err (sym (run_complete r.key r.val r.depth r.number r.cost r.extra key_free val_free left bytes k.entries last k.run k.paid)
+        ∙ (run_faulty r.key r.val r.depth r.number r.cost r.extra key_free val_free left bytes f (fault_of r key_free val_free (state [] [] left) bytes (state a h.0 over) x f h.1 ne)).1);
     faults = λ plain f g h k ne nf.
         let same = (run_is_pinned r key_free val_free).faults plain (state [] [] left) bytes (state a h.0 over) (state b k.0 last) x y f g h.1 k.1 ne nf in
         let stops = (run_is_pinned r key_free val_free).stops (state [] [] left) bytes (state a h.0 over) (state b k.0 last) x y f g h.1 k.1 ne nf in
         (same.0, same.1.pairs, same.1.left, stops.4, h.2 ∙ sym k.2);
-    texts = two_texts;
+    encodings = two_encodings;
   }
 
 -- ---- puts

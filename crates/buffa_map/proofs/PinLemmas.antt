@@ -10,11 +10,11 @@ use Rattle.buffa_bytes.specs.declared.wire_type.WireType.TheVariants.{LengthDeli
 use Rattle.buffa_wire_laws.proofs.PinLemmas.{budget_is_pinned}
 use Rattle.buffa_wire.proofs.SequenceLemmas.{ok_no_err, ok_same}
 use Rattle.buffa_bytes.specs.Left.{past_no_tag}
-use Rattle.buffa_wire.specs.BudgetLeft.{BudgetLeft, Pays, nothing, plus, slots}
+use Rattle.buffa_wire.specs.BudgetLeft.{BudgetLeft, Pays, nothing, plus, unknown_fields}
 use Rattle.buffa_bytes.specs.Content.{Content}
 use Rattle.buffa_bytes.specs.Field.{TakesDelimited}
 use Rattle.buffa_bytes.specs.Reading.{delimited_at, tag_at}
-use Rattle.buffa_map_base.specs.Codec.{Reading, Refuses, Spends, value_at, value_need}
+use Rattle.buffa_map_base.specs.Codec.{Reading, RefusesValue, Spends, value_at, value_need}
 use Rattle.buffa_map_base.specs.Entry.{EntryFault, inner_need, need_at, need_of, blanks}
 use Rattle.buffa_map_base.specs.Merge.{HasRecord, RefusesEntry, Rules, State, StopsRun}
 use Rattle.buffa_map_base.specs.Pairs.{SamePairs}
@@ -24,7 +24,7 @@ use Rattle.buffa_map_base.proofs.EntryLemmas.{Plain, need_by-nothing, value_faul
 use Rattle.buffa_map.proofs.FrontLemmas.{paid_no_fault, same_front, same_taken}
 use Rattle.buffa_map_base.proofs.NeedLemmas.{need_free}
 use Rattle.buffa_map_base.proofs.ResultLemmas.{not_ok}
-use Rattle.buffa_map_base.proofs.RunLemmas.{InFault, in_faulty, run_complete, run_faulty, said_complete, said_faulty, slots_kept, tag_read}
+use Rattle.buffa_map_base.proofs.RunLemmas.{InFault, in_faulty, run_complete, run_faulty, said_complete, said_faulty, extra_kept, tag_read}
 use Rattle.buffa_map_base.proofs.TailLemmas.{no_tag, one_number, one_wire, one_after}
 
 err_one : {A : Type 0} {x y : DecodeError} {r : Result A DecodeError} → r ≡ Err x → r ≡ Err y → x ≡ y
@@ -56,21 +56,21 @@ spent_one old over cost n m a b is z w h k p q =
 
 -- ---- entries
 
-module _ {K V : Type 0} (key : Reading K) (val : Reading V) (d n cost slot : ℕ)
+module _ {K V : Type 0} (key : Reading K) (val : Reading V) (d n cost extra : ℕ)
     (key_free : key.nested ≡ false → (d : ℕ) (c : Content) → key.cost d c ≡ nothing) (val_free : val.nested ≡ false → (d : ℕ) (c : Content) → val.cost d c ≡ nothing) where
-  behind_one : Plain key val d → (left : BudgetLeft) (e : List ℕ) (f g : DecodeError) → InFault key val d n cost slot left e f → InFault key val d n cost slot left e g → f ≡ g
+  behind_one : Plain key val d → (left : BudgetLeft) (e : List ℕ) (f g : DecodeError) → InFault key val d n cost extra left e f → InFault key val d n cost extra left e g → f ≡ g
   behind_one plain left e f g h k =
-      let p = in_faulty key val d n cost slot left key_free val_free e f h in
-      let q = in_faulty key val d n cost slot left key_free val_free e g k in
+      let p = in_faulty key val d n cost extra left key_free val_free e f h in
+      let q = in_faulty key val d n cost extra left key_free val_free e g k in
       p.2 plain ∙ err_one p.1 q.1 ∙ sym (q.2 plain)
 
-  entry_one : Plain key val d → (left : BudgetLeft) (bs : List ℕ) (f g : DecodeError) → EntryFault key val d cost slot left bs f → EntryFault key val d cost slot left bs g → f ≡ g
+  entry_one : Plain key val d → (left : BudgetLeft) (bs : List ℕ) (f g : DecodeError) → EntryFault key val d cost extra left bs f → EntryFault key val d cost extra left bs g → f ≡ g
   entry_one plain left bs f g (inl h) (inl k) = err_one (delimited_faulty bs f h) (delimited_faulty bs g k)
   entry_one plain left bs f g (inl h) (inr (t, e, rest, v, is, k)) = absurd (ok_no_err (sym (delimited_taken bs e rest (t, v, is)) ∙ delimited_faulty bs f h))
   entry_one plain left bs f g (inr (t, e, rest, v, is, h)) (inl k) = absurd (ok_no_err (sym (delimited_taken bs e rest (t, v, is)) ∙ delimited_faulty bs g k))
   entry_one plain left bs f g (inr (t, e, rest, v, is, h)) (inr (u, x, after, w, was, k)) =
       let same = same_taken key val d bs e rest x after (t, v, is) (u, w, was) in
-      behind_one plain left e f g h (subst (λ (z : List ℕ). InFault key val d n cost slot left z g) (sym (ap (λ z. z.0) same)) k)
+      behind_one plain left e f g h (subst (λ (z : List ℕ). InFault key val d n cost extra left z g) (sym (ap (λ z. z.0) same)) k)
 
   inner_none : Plain key val d → (bs : List ℕ) → inner_need key val d bs ≡ nothing
   inner_none plain bs = need_by-nothing (delimited_at bs) (λ e. need_at key val d (blanks key val d) e.0) (λ e. need_free key val d key_free val_free (blanks key val d) e.0 plain)
@@ -87,34 +87,34 @@ module _ {K V : Type 0} (key : Reading K) (val : Reading V) (d n cost slot : ℕ
       let both : BudgetLeft = plus a b in
       ap (λ z. z.0) (ok_same (sym (run_complete key val d n 0 0 key_free val_free both bs es b h (omega arith, omega arith)) ∙ run_complete key val d n 0 0 key_free val_free both bs fs a k (omega arith, omega arith)))
 
-  pub one_over : (left a b : BudgetLeft) (es fs : List (EntryRecord K V)) → es ≡ fs → Paid key val d cost slot left es a → Paid key val d cost slot left fs b → a ≡ b
+  pub one_over : (left a b : BudgetLeft) (es fs : List (EntryRecord K V)) → es ≡ fs → Paid key val d cost extra left es a → Paid key val d cost extra left fs b → a ≡ b
   one_over left a b es fs e h k =
-      let paid = subst (λ z. Paid key val d cost slot left z b) (sym e) k in
+      let paid = subst (λ z. Paid key val d cost extra left z b) (sym e) k in
       one_left a b (omega (arith, h.1, paid.1)) (omega (arith, h.0, paid.0))
 
   -- the record of the first entry of a run
-  first_record : (x : EntryRecord K V) (es : List (EntryRecord K V)) (left over : BudgetLeft) (bs a rest : List ℕ) → bs ≡ a ++ rest → Run key val d n a (x ∷ es) → Paid key val d cost slot left (x ∷ es) over →
-      (more : List ℕ) × (record_at key val d n cost slot left bs ≡ Ok (x, more ++ rest)) × Run key val d n more es
+  first_record : (x : EntryRecord K V) (es : List (EntryRecord K V)) (left over : BudgetLeft) (bs a rest : List ℕ) → bs ≡ a ++ rest → Run key val d n a (x ∷ es) → Paid key val d cost extra left (x ∷ es) over →
+      (more : List ℕ) × (record_at key val d n cost extra left bs ≡ Ok (x, more ++ rest)) × Run key val d n more es
   first_record x es left over bs a rest split (r, more, m, e, run) paid =
       let whole : bs ≡ r ++ (more ++ rest) = split ∙ ap (λ z. z ++ rest) e ∙ append_assoc r more rest in
-      (more, ap (record_at key val d n cost slot left) whole ∙ said_complete key val d n cost slot left r (more ++ rest) x (omega (arith, paid.0)) (one_unknown paid.1) m, run)
+      (more, ap (record_at key val d n cost extra left) whole ∙ said_complete key val d n cost extra left r (more ++ rest) x (omega (arith, paid.0)) (one_unknown paid.1) m, run)
     where
-      one_unknown : over.unknown + ((length (undeclared (x ∷ es))) * slot + (inner_needs key val d (x ∷ es)).unknown) ≡ left.unknown → (need_of key val d cost x.bytes).unknown + cond x.parts.known 0 slot ≤ left.unknown
-      one_unknown h = omega (arith, h, slots_kept x.parts.known x.bytes (undeclared es) slot)
+      one_unknown : over.unknown + ((length (undeclared (x ∷ es))) * extra + (inner_needs key val d (x ∷ es)).unknown) ≡ left.unknown → (need_of key val d cost x.bytes).unknown + cond x.parts.known 0 extra ≤ left.unknown
+      one_unknown h = omega (arith, h, extra_kept x.parts.known x.bytes (undeclared es) extra)
 
   -- no record begins bytes that have a fault
-  no_record : (left over : BudgetLeft) (bs a rest : List ℕ) (f : DecodeError) → bs ≡ a ++ rest → a ≡ [] → Paid key val d cost slot left [] over → RecordFault key val d n cost slot over rest f →
-      (x : DecodeError) × (record_at key val d n cost slot left bs ≡ Err x)
+  no_record : (left over : BudgetLeft) (bs a rest : List ℕ) (f : DecodeError) → bs ≡ a ++ rest → a ≡ [] → Paid key val d cost extra left [] over → RecordFault key val d n cost extra over rest f →
+      (x : DecodeError) × (record_at key val d n cost extra left bs ≡ Err x)
   no_record left over bs a rest f split none paid bad =
-      let p = said_faulty key val d n cost slot over key_free val_free rest f bad in
+      let p = said_faulty key val d n cost extra over key_free val_free rest f bad in
       let same : over ≡ left = one_left over left (omega (arith, paid.1)) (omega (arith, paid.0)) in
       let whole : bs ≡ rest = split ∙ ap (λ z. z ++ rest) none in
-      (p.0, ap (record_at key val d n cost slot left) whole ∙ subst (λ z. record_at key val d n cost slot z rest ≡ Err p.0) same p.1)
+      (p.0, ap (record_at key val d n cost extra left) whole ∙ subst (λ z. record_at key val d n cost extra z rest ≡ Err p.0) same p.1)
 
   -- two faults come after the same entries
   stop_one : (es fs : List (EntryRecord K V)) (left over last : BudgetLeft) (bs a rest b more : List ℕ) (f g : DecodeError) →
-      bs ≡ a ++ rest → Run key val d n a es → Paid key val d cost slot left es over → RecordFault key val d n cost slot over rest f →
-      bs ≡ b ++ more → Run key val d n b fs → Paid key val d cost slot left fs last → RecordFault key val d n cost slot last more g → (es ≡ fs) × (rest ≡ more)
+      bs ≡ a ++ rest → Run key val d n a es → Paid key val d cost extra left es over → RecordFault key val d n cost extra over rest f →
+      bs ≡ b ++ more → Run key val d n b fs → Paid key val d cost extra left fs last → RecordFault key val d n cost extra last more g → (es ≡ fs) × (rest ≡ more)
   stop_one [] [] left over last bs a rest b more f g s run paid bad t ran spent worse =
       (refl, sym (s ∙ ap (λ z. z ++ rest) run) ∙ t ∙ ap (λ z. z ++ more) ran)
   stop_one [] (y ∷ fs) left over last bs a rest b more f g s run paid bad t ran spent worse =
@@ -130,22 +130,22 @@ module _ {K V : Type 0} (key : Reading K) (val : Reading V) (d n cost slot : ℕ
       let q = first_record y fs left last bs b more t ran spent in
       let same = ok_same (sym p.1 ∙ q.1) in
       let one : x ≡ y = ap (λ z. z.0) same in
-      let u : BudgetLeft = record { unknown = over.unknown + (length (undeclared es) * slot + (inner_needs key val d es).unknown); memory = over.memory + (length es * cost + (inner_needs key val d es).memory) } in
-      let again = subst (λ z. Paid key val d cost slot left (z ∷ fs) last) (sym one) spent in
+      let u : BudgetLeft = record { unknown = over.unknown + (length (undeclared es) * extra + (inner_needs key val d es).unknown); memory = over.memory + (length es * cost + (inner_needs key val d es).memory) } in
+      let again = subst (λ z. Paid key val d cost extra left (z ∷ fs) last) (sym one) spent in
       let i = stop_one es fs u over last (p.0 ++ rest) p.0 rest q.0 more f g refl p.2 (refl, refl) bad (ap (λ z. z.1) same) q.2
-      (omega (arith, paid.0, again.0), omega (arith, paid.1, again.1, slots_kept x.parts.known x.bytes (undeclared es) slot, slots_kept x.parts.known x.bytes (undeclared fs) slot)) worse in
+      (omega (arith, paid.0, again.0), omega (arith, paid.1, again.1, extra_kept x.parts.known x.bytes (undeclared es) extra, extra_kept x.parts.known x.bytes (undeclared fs) extra)) worse in
       ((λ j. one j ∷ i.0 j), i.1)
 
   -- where a record has a fault, it is there, or it isn't
-  record_there : (over : BudgetLeft) (rest : List ℕ) (f : DecodeError) → RecordFault key val d n cost slot over rest f →
+  record_there : (over : BudgetLeft) (rest : List ℕ) (f : DecodeError) → RecordFault key val d n cost extra over rest f →
       (HasRecord n rest → ⊥) ⊎ ((mid : List ℕ) × (e : List ℕ) × (after : List ℕ) × (tag_at rest ≡ Ok (n, LengthDelimited, mid)) × TakesDelimited mid e after)
   record_there over rest f (inl h) = inl (λ (mid, is, ok). no_tag rest f (tag_faulty rest f h) n LengthDelimited mid is)
-  record_there over rest f (inr (inl (g, w, m, t, other, which))) = inl (λ (mid, is, ok). other (one_number rest m mid g n w LengthDelimited (tag_read key val d n cost slot over rest m g w t) is))
-  record_there over rest f (inr (inr (inl (w, m, t, other, which)))) = inl (λ (mid, is, ok). other (one_wire rest m mid n n w LengthDelimited (tag_read key val d n cost slot over rest m n w t) is))
+  record_there over rest f (inr (inl (g, w, m, t, other, which))) = inl (λ (mid, is, ok). other (one_number rest m mid g n w LengthDelimited (tag_read key val d n cost extra over rest m g w t) is))
+  record_there over rest f (inr (inr (inl (w, m, t, other, which)))) = inl (λ (mid, is, ok). other (one_wire rest m mid n n w LengthDelimited (tag_read key val d n cost extra over rest m n w t) is))
   record_there over rest f (inr (inr (inr (m, t, inl h)))) =
-      let tag = tag_read key val d n cost slot over rest m n LengthDelimited t in
+      let tag = tag_read key val d n cost extra over rest m n LengthDelimited t in
       inl (λ (mid, is, ok). not_ok (delimited_at mid) f (subst (λ z. delimited_at z ≡ Err f) (sym (one_after rest mid m n n LengthDelimited LengthDelimited is tag)) (delimited_faulty m f h)) ok)
-  record_there over rest f (inr (inr (inr (m, t, inr (u, e, after, v, is, h))))) = inr (m, e, after, tag_read key val d n cost slot over rest m n LengthDelimited t, (u, v, is))
+  record_there over rest f (inr (inr (inr (m, t, inr (u, e, after, v, is, h))))) = inr (m, e, after, tag_read key val d n cost extra over rest m n LengthDelimited t, (u, v, is))
 
 -- ---- the laws
 
@@ -156,7 +156,7 @@ module _ {K V : Type 0} (r : Rules K V)
     refused_left : (z : Result (List ℕ × List ℕ) DecodeError) → delimited_at bs ≡ z → a.left ≡ b.left
     refused_left (Ok p) is =
         let t = agree_ok (delimited_at bs) p (delimited_sound bs) is in
-        let none = inner_none r.key r.val r.depth r.number r.cost r.slot key_free val_free plain bs in
+        let none = inner_none r.key r.val r.depth r.number r.cost r.extra key_free val_free plain bs in
         let unit = ap (λ (z : BudgetLeft). z.memory) none in
         let taken = ap (λ (z : BudgetLeft). z.unknown) none in
         one_left a.left b.left (omega (arith, h.most, k.most, h.no_unknown ne, k.no_unknown nf, taken))
@@ -166,7 +166,7 @@ module _ {K V : Type 0} (r : Rules K V)
     refused_one : (f ≡ g) × SameState r a b
     refused_one =
         let pairs : a.pairs ≡ b.pairs = h.pairs ∙ sym k.pairs in (
-          entry_one r.key r.val r.depth r.number r.cost r.slot key_free val_free plain old.left bs f g (h.fault ne) (k.fault nf),
+          entry_one r.key r.val r.depth r.number r.cost r.extra key_free val_free plain old.left bs f g (h.fault ne) (k.fault nf),
           record {
             pairs = λ q. ap (lookup_entry (r.same q)) pairs;
             records = h.records ∙ sym k.records;
@@ -186,8 +186,8 @@ module _ {K V : Type 0} (r : Rules K V)
         let same = same_front r.key r.val r.depth bs h.entry x h.says k.entry y k.says h.read k.read in
         let e = same.0 in
         let s = same.2 in
-        let need : plus (need_of r.key r.val r.depth r.cost h.entry) (slots (cond h.says.known 0 r.slot)) ≡ plus (need_of r.key r.val r.depth r.cost k.entry) (slots (cond k.says.known 0 r.slot)) =
-        ap (λ z. plus (need_of r.key r.val r.depth r.cost z) (slots (cond h.says.known 0 r.slot))) e ∙ ap (λ z. plus (need_of r.key r.val r.depth r.cost k.entry) (slots (cond z.known 0 r.slot))) s in (
+        let need : plus (need_of r.key r.val r.depth r.cost h.entry) (unknown_fields (cond h.says.known 0 r.extra)) ≡ plus (need_of r.key r.val r.depth r.cost k.entry) (unknown_fields (cond k.says.known 0 r.extra)) =
+        ap (λ z. plus (need_of r.key r.val r.depth r.cost z) (unknown_fields (cond h.says.known 0 r.extra))) e ∙ ap (λ z. plus (need_of r.key r.val r.depth r.cost k.entry) (unknown_fields (cond z.known 0 r.extra))) s in (
           record {
             pairs = λ q. sym (h.put q) ∙ ap (λ z. lookup_entry (r.same q) (step r.same old.pairs z)) s ∙ k.put q;
             records = h.keeps ∙ ap (λ z. old.records ++ cond z.known [] (r.adds r.number h.entry)) s ∙ ap (λ z. old.records ++ cond k.says.known [] (r.adds r.number z)) e ∙ sym k.keeps;
@@ -198,7 +198,7 @@ module _ {K V : Type 0} (r : Rules K V)
         );
     refused = λ old bs a b x y f h k ne.
         let paid = h.pays in
-        paid_no_fault r.key r.val r.depth r.cost r.slot old.left bs h.entry x h.says f h.read
+        paid_no_fault r.key r.val r.depth r.cost r.extra old.left bs h.entry x h.says f h.read
         (omega (arith, paid.1)) (omega (arith, paid.0)) (k.fault ne);
     leaves = λ old bs a b x y f g h k ne nf. one_rest old bs a b x y f g h k ne nf (delimited_at bs) refl;
     faults = λ plain old bs a b x y f g h k ne nf. refused_one plain old bs a b x y f g h k ne nf;
@@ -212,47 +212,47 @@ module _ {K V : Type 0} (r : Rules K V)
     l ∙ ap (λ z. old.records ++ added r.adds r.number z) e ∙ sym m,
   )
 
-  pub fault_of : (old : State K V) (bs : List ℕ) (a : State K V) (x : List ℕ) (f : DecodeError) → StopsRun r old bs a x f → f ≢ OutOfMemory → RunFault r.key r.val r.depth r.number r.cost r.slot old.left bs f
+  pub fault_of : (old : State K V) (bs : List ℕ) (a : State K V) (x : List ℕ) (f : DecodeError) → StopsRun r old bs a x f → f ≢ OutOfMemory → RunFault r.key r.val r.depth r.number r.cost r.extra old.left bs f
   fault_of old bs a x f h ne = (h.entries, h.rest, h.over, h.begins, h.some, h.fault ne)
 
   module _ (old : State K V) (bs : List ℕ) (a b : State K V) (x y : List ℕ) (f g : DecodeError)
       (h : StopsRun r old bs a x f) (k : StopsRun r old bs b y g) (ne : f ≢ OutOfMemory) (nf : g ≢ OutOfMemory) where
     stopped_same : (h.entries ≡ k.entries) × (h.rest ≡ k.rest)
-    stopped_same = stop_one r.key r.val r.depth r.number r.cost r.slot key_free val_free h.entries k.entries old.left h.over k.over bs h.begins.0 h.rest k.begins.0 k.rest f g
+    stopped_same = stop_one r.key r.val r.depth r.number r.cost r.extra key_free val_free h.entries k.entries old.left h.over k.over bs h.begins.0 h.rest k.begins.0 k.rest f g
         h.begins.1 h.begins.2 h.begins.3 (h.fault ne) k.begins.1 k.begins.2 k.begins.3 (k.fault nf)
 
     stopped_after : SamePairs r.same a.pairs b.pairs × (a.records ≡ b.records)
     stopped_after = after_same old a b h.entries k.entries stopped_same.0 h.folded k.folded h.keeps k.keeps
 
-    one_unread : RecordFault r.key r.val r.depth r.number r.cost r.slot h.over h.rest f → x ≡ y
+    one_unread : RecordFault r.key r.val r.depth r.number r.cost r.extra h.over h.rest f → x ≡ y
     one_unread (inl bad) =
         let is = tag_faulty h.rest f bad in
         let same = stopped_same.1 in
         h.past_no_tag f is ∙ ap past_no_tag same ∙ sym (k.past_no_tag f (ap tag_at (sym same) ∙ is))
     one_unread (inr (inl (n, w, m, t, other, which))) =
-        let is = tag_read r.key r.val r.depth r.number r.cost r.slot h.over h.rest m n w t in
+        let is = tag_read r.key r.val r.depth r.number r.cost r.extra h.over h.rest m n w t in
         h.past_tag n w m is (inl other) ∙ sym (k.past_tag n w m (ap tag_at (sym stopped_same.1) ∙ is) (inl other))
     one_unread (inr (inr (inl (w, m, t, other, which)))) =
-        let is = tag_read r.key r.val r.depth r.number r.cost r.slot h.over h.rest m r.number w t in
+        let is = tag_read r.key r.val r.depth r.number r.cost r.extra h.over h.rest m r.number w t in
         h.past_tag r.number w m is (inr other) ∙ sym (k.past_tag r.number w m (ap tag_at (sym stopped_same.1) ∙ is) (inr other))
     one_unread (inr (inr (inr (m, t, inl bad)))) =
-        let is = tag_read r.key r.val r.depth r.number r.cost r.slot h.over h.rest m r.number LengthDelimited t in
+        let is = tag_read r.key r.val r.depth r.number r.cost r.extra h.over h.rest m r.number LengthDelimited t in
         let short = delimited_faulty m f bad in
         h.past_no_delimited m f is short ∙ sym (k.past_no_delimited m f (ap tag_at (sym stopped_same.1) ∙ is) short)
     one_unread (inr (inr (inr (m, t, inr (u, e, after, v, split, bad))))) =
-        let is = tag_read r.key r.val r.depth r.number r.cost r.slot h.over h.rest m r.number LengthDelimited t in
+        let is = tag_read r.key r.val r.depth r.number r.cost r.extra h.over h.rest m r.number LengthDelimited t in
         h.past ne m e after is (u, v, split) ∙ sym (k.past nf m e after (ap tag_at (sym stopped_same.1) ∙ is) (u, v, split))
 
     module _ (plain : Plain r.key r.val r.depth) where
       stopped_over : h.over ≡ k.over
-      stopped_over = one_over r.key r.val r.depth r.number r.cost r.slot key_free val_free old.left h.over k.over h.entries k.entries stopped_same.0 h.begins.3 k.begins.3
+      stopped_over = one_over r.key r.val r.depth r.number r.cost r.extra key_free val_free old.left h.over k.over h.entries k.entries stopped_same.0 h.begins.3 k.begins.3
 
       stopped_left : a.left ≡ b.left
       stopped_left =
-          let none = record_none r.key r.val r.depth r.number r.cost r.slot key_free val_free plain h.rest in
-          let nil = record_none r.key r.val r.depth r.number r.cost r.slot key_free val_free plain k.rest in
+          let none = record_none r.key r.val r.depth r.number r.cost r.extra key_free val_free plain h.rest in
+          let nil = record_none r.key r.val r.depth r.number r.cost r.extra key_free val_free plain k.rest in
           let rest = stopped_same.1 in
-          elim (record_there r.key r.val r.depth r.number r.cost r.slot key_free val_free h.over h.rest f (h.fault ne)) [
+          elim (record_there r.key r.val r.depth r.number r.cost r.extra key_free val_free h.over h.rest f (h.fault ne)) [
             | inl away ↦ h.unspent away ∙ stopped_over ∙ sym (k.unspent (λ z. away (subst (HasRecord r.number) (sym rest) z)))
             | inr (mid, e, after, tag, t) ↦
                 let one = ap (λ (z : BudgetLeft). z.memory) stopped_over in
@@ -265,8 +265,8 @@ module _ {K V : Type 0} (r : Rules K V)
 
       stopped_one : (f ≡ g) × SameState r a b
       stopped_one =
-          let p = run_faulty r.key r.val r.depth r.number r.cost r.slot key_free val_free old.left bs f (fault_of old bs a x f h ne) in
-          let q = run_faulty r.key r.val r.depth r.number r.cost r.slot key_free val_free old.left bs g (fault_of old bs b y g k nf) in (
+          let p = run_faulty r.key r.val r.depth r.number r.cost r.extra key_free val_free old.left bs f (fault_of old bs a x f h ne) in
+          let q = run_faulty r.key r.val r.depth r.number r.cost r.extra key_free val_free old.left bs g (fault_of old bs b y g k nf) in (
             p.2 plain ∙ err_one p.1 q.1 ∙ sym (q.2 plain),
             record {
               pairs = stopped_after.0;
@@ -279,19 +279,19 @@ module _ {K V : Type 0} (r : Rules K V)
   pub run_is_pinned : RunIsPinned r
   run_is_pinned = record {
     read = λ old bs a b x y h k.
-        let e = run_one r.key r.val r.depth r.number r.cost r.slot key_free val_free bs h.entries k.entries h.run k.run in
+        let e = run_one r.key r.val r.depth r.number r.cost r.extra key_free val_free bs h.entries k.entries h.run k.run in
         let after = after_same old a b h.entries k.entries e h.folded k.folded h.keeps k.keeps in (
           record {
             pairs = after.0;
             records = after.1;
-            left = one_over r.key r.val r.depth r.number r.cost r.slot key_free val_free old.left a.left b.left h.entries k.entries e h.paid k.paid;
+            left = one_over r.key r.val r.depth r.number r.cost r.extra key_free val_free old.left a.left b.left h.entries k.entries e h.paid k.paid;
             order = λ o. h.order o ∙ ap (fold_entries r.same old.pairs) e ∙ sym (k.order o);
           },
           h.whole ∙ sym k.whole,
         );
     refused = λ old bs a b x y f h k ne.
-        ok_no_err (sym (run_complete r.key r.val r.depth r.number r.cost r.slot key_free val_free old.left bs h.entries a.left h.run h.paid)
-        ∙ (run_faulty r.key r.val r.depth r.number r.cost r.slot key_free val_free old.left bs f (fault_of old bs b y f k ne)).1);
+        ok_no_err (sym (run_complete r.key r.val r.depth r.number r.cost r.extra key_free val_free old.left bs h.entries a.left h.run h.paid)
+        ∙ (run_faulty r.key r.val r.depth r.number r.cost r.extra key_free val_free old.left bs f (fault_of old bs b y f k ne)).1);
     stops = λ old bs a b x y f g h k ne nf.
         let same = stopped_same old bs a b x y f g h k ne nf in
         let after = stopped_after old bs a b x y f g h k ne nf in
@@ -301,15 +301,15 @@ module _ {K V : Type 0} (r : Rules K V)
 
 -- ---- payloads
 
-plainly : {V : Type 0} (codec : Reading V) → codec.nested ≡ false → (d : ℕ) (old : V) (bs : List ℕ) (left : BudgetLeft) (f : DecodeError) → Refuses codec.nested codec d old bs left f → value_at codec d old bs ≡ Err f
-plainly codec plain d old bs left f h = subst (λ z. Refuses z codec d old bs left f) plain h
+plainly : {V : Type 0} (codec : Reading V) → codec.nested ≡ false → (d : ℕ) (old : V) (bs : List ℕ) (left : BudgetLeft) (f : DecodeError) → RefusesValue codec.nested codec d old bs left f → value_at codec d old bs ≡ Err f
+plainly codec plain d old bs left f h = subst (λ z. RefusesValue z codec d old bs left f) plain h
 
 paid_once : (b : Bool) (left need x y : BudgetLeft) → Spends {T = Unit {0}} b (Ok tt) left need x → Spends {T = Unit {0}} b (Ok tt) left need y → x ≡ y
 paid_once false left need x y h k = h ∙ sym k
 paid_once true left need x y h k = same_left left need need x y refl h k
 
 not_refused : {V : Type 0} (codec : Reading V) (d : ℕ) (old : V) (bs : List ℕ) (left over : BudgetLeft) (x : (V × Bool) × List ℕ) (f : DecodeError) (b : Bool) →
-    value_at codec d old bs ≡ Ok x → Spends {T = Unit {0}} b (Ok tt) left (value_need codec d bs) over → Refuses b codec d old bs left f → ⊥
+    value_at codec d old bs ≡ Ok x → Spends {T = Unit {0}} b (Ok tt) left (value_need codec d bs) over → RefusesValue b codec d old bs left f → ⊥
 not_refused codec d old bs left over x f false h paid k = ok_no_err (sym h ∙ k)
 not_refused codec d old bs left over x f true h paid (inl few) = (budget_is_pinned left (value_need codec d bs)).lacked over paid few
 not_refused codec d old bs left over x f true h paid (inr bad) = ok_no_err (sym h ∙ (value_faulty codec d old bs f bad).1)

@@ -15,7 +15,7 @@ either a b cost n (inl h) z = inl h
 either a b cost n (inr h) z = inr (omega (arith, h, z))
 
 module _ {K V : Type 0} (r : Rules K V) (need : (e : List ℕ) → need_of r.key r.val r.depth r.cost e ≡ units r.cost) (old : State K V) (bs : List ℕ) where
-  fault_of_plain : (left : BudgetLeft) (f : DecodeError) → EntryFault r.key r.val r.depth r.cost r.slot left bs f → PlainFault r.key r.val r.depth r.cost r.slot left bs f
+  fault_of_plain : (left : BudgetLeft) (f : DecodeError) → EntryFault r.key r.val r.depth r.cost r.extra left bs f → PlainFault r.key r.val r.depth r.cost r.extra left bs f
   fault_of_plain left f (inl h) = inl h
   fault_of_plain left f (inr (t, e, rest, v, is, inl h)) = inr (t, e, rest, v, is, inl h)
   fault_of_plain left f (inr (t, e, rest, v, is, inr (many, inl (inl few)))) = absurd (omega (arith, few, ap (λ (z : BudgetLeft). z.unknown) (need e)))
@@ -30,12 +30,12 @@ module _ {K V : Type 0} (r : Rules K V) (need : (e : List ℕ) → need_of r.key
   pub exact_refusal : inner_need r.key r.val r.depth bs ≡ nothing → (new : State K V) (rest : List ℕ) (f : DecodeError) → RefusesEntry r old bs new rest f → SpendsExactly r old bs new f
   exact_refusal inner new rest f h =
       let unit = ap (λ (z : BudgetLeft). z.memory) inner in
-      let slot = ap (λ (z : BudgetLeft). z.unknown) inner in
+      let extra = ap (λ (z : BudgetLeft). z.unknown) inner in
       record {
         which = λ ne. fault_of_plain old.left f (h.fault ne);
         units = either old.left.memory new.left.memory r.cost _ h.units unit;
         charged = λ ne e rest t room. exact old.left.memory new.left.memory r.cost _ h.units unit (h.charged ne e rest t room);
         most = h.most;
-        least = omega (arith, h.least, slot);
-        no_unknown = λ ne. omega (arith, h.most, h.no_unknown ne, slot);
+        least = omega (arith, h.least, extra);
+        no_unknown = λ ne. omega (arith, h.most, h.no_unknown ne, extra);
       }

@@ -37,10 +37,10 @@ module _ {K V : Type 0} (rk : Reading K) (rv : Reading V) (key : Writing K) (val
     run = read.run;
     folded = read.folded;
     order = read.order;
-    rewrite = (w.walk, (w.once.0, λ q. read.folded q ∙ w.once.1 q), w.text.0, w.fits, refl);
+    rewrite = (w.walk, (w.once.0, λ q. read.folded q ∙ w.once.1 q), w.encoding.0, w.fits, refl);
     walks = w.walks;
     ordered = λ k. ap (λ (z : List (K × V)). field_encoding key val n z ++ records_encoding (undeclared_records n read.entries)) (ordered w.walk w.walks k ∙ read.order k);
-    text = w.text.1 ∙ ap (λ z. old ++ (field_encoding key val n w.walk ++ records_encoding z)) is_kept;
+    encoding = w.encoding.1 ∙ ap (λ z. old ++ (field_encoding key val n w.walk ++ records_encoding z)) is_kept;
     room = subst (λ z. before ≤ after + length (field_encoding key val n w.walk ++ records_encoding z)) is_kept w.room;
     paid = read.paid;
     whole = read.whole;
@@ -57,7 +57,7 @@ module _ {K V : Type 0} (rk : Reading K) (rv : Reading V) (key : Writing K) (val
     once = (w.once.0, λ q. read.folded q ∙ w.once.1 q);
     walked = λ k. ordered w.walk w.walks k ∙ read.order k;
     walks = w.walks;
-    text = subst (λ (z : List (ℕ × Datum)). RefusesRewrite key val n z old new w.walk e) is_kept w.text;
+    encoding = subst (λ (z : List (ℕ × Datum)). RefusesRewrite key val n z old new w.walk e) is_kept w.encoding;
     room = subst (λ z. e ≡ OutOfMemory → before < length (field_encoding key val n w.walk ++ records_encoding z)) is_kept w.room;
     paid = read.paid;
     whole = read.whole;

@@ -18,7 +18,7 @@ use Rattle.buffa_bytes.specs.declared.wire_type.WireType.TheVariants.{LengthDeli
 use Rattle.buffa_bytes.proofs.VarintLemmas.{IsVarint-varint_encoding}
 use Rattle.buffa_wire.specs.Sequence.{ParsesEach}
 use Rattle.buffa_map_base.specs.Codec.{Reading, Writing}
-use Rattle.buffa_map_base.specs.Entry.{IsEntry, IsField, blanks}
+use Rattle.buffa_map_base.specs.Entry.{IsEntry, IsEntryField, blanks}
 use Rattle.buffa_map_base.specs.EnumLaws.{closed_reads_back}
 use Rattle.buffa_map_base.specs.Enums.{ClosedFits, closed_reading, closed_writing}
 use Rattle.buffa_map_base.specs.Pairs.{ListsOnce, SamePairs, put}
@@ -126,7 +126,7 @@ module _ {K : Type 0} (key : Reading K) (Normal : K → Type 0) (blank_normal : 
   value_twin n v w false true h k = inr (inl (refl, refl, λ u i. not_declared n u h i))
   value_twin n v w false false h k = inr (inr (refl, refl))
 
-  field_twin : (d : ℕ) (s r t : MapEntry K ℤ) (p : List ℕ) → Twin Normal e s r → IsField key (closed_reading e) d s p t → (u : MapEntry K ℤ) × IsField key (closed_reading f) d r p u × Twin Normal e t u
+  field_twin : (d : ℕ) (s r t : MapEntry K ℤ) (p : List ℕ) → Twin Normal e s r → IsEntryField key (closed_reading e) d s p t → (u : MapEntry K ℤ) × IsEntryField key (closed_reading f) d r p u × Twin Normal e t u
   field_twin d s r t p h (inl (k, known, (tag, body, c, is, level_left, has, reads, split), st)) =
       let u : MapEntry K ℤ = record r { key = k } in
       let again : key.reads d r.key c ≡ Ok (k, known) = subst (λ z. key.reads d z c ≡ Ok (k, known)) h.0 reads in
@@ -144,7 +144,7 @@ module _ {K : Type 0} (key : Reading K) (Normal : K → Type 0) (blank_normal : 
   field_twin d s r t p h (inr (inr (n, w, not_one, not_two, field, st))) =
       (r, inr (inr (n, w, not_one, not_two, field, refl)), subst (λ z. Twin Normal e z r) (sym st) h)
 
-  along_twin : (d : ℕ) (ps : List (List ℕ)) (s r t : MapEntry K ℤ) → Twin Normal e s r → ParsesEach (IsField key (closed_reading e) d) s ps t → (u : MapEntry K ℤ) × ParsesEach (IsField key (closed_reading f) d) r ps u × Twin Normal e t u
+  along_twin : (d : ℕ) (ps : List (List ℕ)) (s r t : MapEntry K ℤ) → Twin Normal e s r → ParsesEach (IsEntryField key (closed_reading e) d) s ps t → (u : MapEntry K ℤ) × ParsesEach (IsEntryField key (closed_reading f) d) r ps u × Twin Normal e t u
   along_twin d [] s r t h a = (r, refl, subst (λ z. Twin Normal e z r) a h)
   along_twin d (p ∷ ps) s r t h (m, field, a) =
       let one = field_twin d s r m p h field in

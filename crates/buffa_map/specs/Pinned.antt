@@ -3,7 +3,7 @@ use Rattle.std.specs.Prelude.{◌≡◌, ◌≢◌, ℕ, Bool, false, true, List
 use Rattle.buffa_bytes.specs.declared.error.DecodeError.{DecodeError}
 use Rattle.buffa_bytes.specs.declared.error.DecodeError.TheVariants.{OutOfMemory}
 use Rattle.buffa_wire.specs.BudgetLeft.{BudgetLeft}
-use Rattle.buffa_map_base.specs.Codec.{Reading, Refuses, Spends, value_at, value_need}
+use Rattle.buffa_map_base.specs.Codec.{Reading, RefusesValue, Spends, value_at, value_need}
 use Rattle.buffa_map.specs.Laws.{ArePlain}
 use Rattle.buffa_wire.specs.Records.{Datum}
 use Rattle.buffa_map_base.specs.Merge.{MergesEntry, ReadsRun, RefusesEntry, Rules, State, StopsRun, rules}
@@ -52,11 +52,11 @@ module _ {K V : Type 0} (r : Rules K V) where
 module _ {K V : Type 0} (key : Reading K) (val : Reading V) where
   abbrev pub EntriesArePinned : Type 0
   EntriesArePinned =
-      (same : K → K → Bool) (ordered : Bool) (d n cost slot : ℕ) (adds : ℕ → List ℕ → List (ℕ × Datum)) → EntryIsPinned (rules key val same ordered d n cost slot adds)
+      (same : K → K → Bool) (ordered : Bool) (d n cost extra : ℕ) (adds : ℕ → List ℕ → List (ℕ × Datum)) → EntryIsPinned (rules key val same ordered d n cost extra adds)
 
   abbrev pub RunsArePinned : Type 0
   RunsArePinned =
-      (same : K → K → Bool) (ordered : Bool) (d n cost slot : ℕ) (adds : ℕ → List ℕ → List (ℕ × Datum)) → RunIsPinned (rules key val same ordered d n cost slot adds)
+      (same : K → K → Bool) (ordered : Bool) (d n cost extra : ℕ) (adds : ℕ → List ℕ → List (ℕ × Datum)) → RunIsPinned (rules key val same ordered d n cost extra adds)
 
 -- the payload at the front was merged, and what it costs was spent
 abbrev pub IsPaid : {V : Type 0} → Reading V → ℕ → List ℕ → BudgetLeft → BudgetLeft → Type 0
@@ -69,6 +69,6 @@ pub record ValueIsPinned {V : Type 0} (codec : Reading V) : Type 0 where
       value_at codec d old bs ≡ Ok ((v, a), x) → value_at codec d old bs ≡ Ok ((w, b), y) → (v ≡ w) × (a ≡ b) × (x ≡ y)
   pub spent : (d : ℕ) (bs : List ℕ) (left a b : BudgetLeft) → IsPaid codec d bs left a → IsPaid codec d bs left b → a ≡ b
   pub refused : (d : ℕ) (old : V) (bs : List ℕ) (left over : BudgetLeft) (v : V) (a : Bool) (x : List ℕ) (f : DecodeError) →
-      value_at codec d old bs ≡ Ok ((v, a), x) → IsPaid codec d bs left over → Refuses codec.nested codec d old bs left f → ⊥
+      value_at codec d old bs ≡ Ok ((v, a), x) → IsPaid codec d bs left over → RefusesValue codec.nested codec d old bs left f → ⊥
   pub faults : codec.nested ≡ false → (d : ℕ) (old : V) (bs : List ℕ) (left : BudgetLeft) (f g : DecodeError) →
-      Refuses codec.nested codec d old bs left f → Refuses codec.nested codec d old bs left g → f ≡ g
+      RefusesValue codec.nested codec d old bs left f → RefusesValue codec.nested codec d old bs left g → f ≡ g

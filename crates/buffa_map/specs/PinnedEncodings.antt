@@ -27,11 +27,11 @@ module _ {K V : Type 0} (key : Writing K) (val : Writing V) (eq : K → K → Bo
         WritesField key val n old a r l → WritesField key val n old b s l → NoneIsFull r s → (r ≡ s) × (a ≡ b)
 
 -- A map of small messages has one size and one encoding, and leaves one cache, memory aside.
-pub record MessagesArePinned {K M : Type 0} (key : Writing K) (text slots : M → List ℕ) : Type 0 where
-  pub sized : (t : ℕ) (l : List (K × M)) (old a b : Cache) (r s : Result ℕ EncodeError) → IsSmallField key text l →
-      IsFieldSized key text slots t l old r a → IsFieldSized key text slots t l old s b → NoneIsFull r s → (r ≡ s) × (a ≡ b)
-  pub written : (n : ℕ) (l : List (K × M)) (old a b : Cache) (before x y : List ℕ) (r s : Result (Unit {0}) EncodeError) → IsSmallField key text l →
-      IsFieldWritten key text slots n l old before r a x → IsFieldWritten key text slots n l old before s b y → NoneIsFull r s → (r ≡ s) × (a ≡ b) × (x ≡ y)
+pub record MessagesArePinned {K M : Type 0} (key : Writing K) (encoding slots : M → List ℕ) : Type 0 where
+  pub sized : (t : ℕ) (l : List (K × M)) (old a b : Cache) (r s : Result ℕ EncodeError) → IsSmallField key encoding l →
+      IsFieldSized key encoding slots t l old r a → IsFieldSized key encoding slots t l old s b → NoneIsFull r s → (r ≡ s) × (a ≡ b)
+  pub written : (n : ℕ) (l : List (K × M)) (old a b : Cache) (before x y : List ℕ) (r s : Result (Unit {0}) EncodeError) → IsSmallField key encoding l →
+      IsFieldWritten key encoding slots n l old before r a x → IsFieldWritten key encoding slots n l old before s b y → NoneIsFull r s → (r ≡ s) × (a ≡ b) × (x ≡ y)
 
 -- A run is rewritten in one way only, where one walk is written, and what is rewritten can't have been refused, memory
 -- aside; nor can the bytes, where the encoding was. Two faults of the bytes are one, and find the same pairs. So do two
@@ -46,7 +46,7 @@ module _ {K V : Type 0} (r : Rules K V) (key : Writing K) (val : Writing V) (Key
     pub either : (f : DecodeError) (e : EncodeError) → RefusesBytes r left bytes a over x old v f → RefusesOutput r key val B left bytes b last y old w room e → f ≢ decoding.OutOfMemory → ⊥
     pub faults : ArePlain r.key r.val → (f g : DecodeError) → RefusesBytes r left bytes a over x old v f → RefusesBytes r left bytes b last y old w g → f ≢ decoding.OutOfMemory → g ≢ decoding.OutOfMemory →
         (f ≡ g) × SamePairs r.same a b × (over ≡ last) × (x ≡ y) × (v ≡ w)
-    pub texts : (d e : EncodeError) (h : RefusesOutput r key val A left bytes a over x old v room d) (k : RefusesOutput r key val B left bytes b last y old w room e) →
+    pub encodings : (d e : EncodeError) (h : RefusesOutput r key val A left bytes a over x old v room d) (k : RefusesOutput r key val B left bytes b last y old w room e) →
         SamePairs r.same a b × (over ≡ last) × (x ≡ y) × (d ≢ OutOfMemory → e ≢ OutOfMemory → (d ≡ e) × (h.walk ≡ k.walk → v ≡ w))
 
 -- the same by these codecs and a storage that is walked so, whatever the rules beside them

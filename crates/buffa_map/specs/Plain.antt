@@ -13,28 +13,28 @@ use Rattle.buffa_map_base.specs.declared.map_entry.MapEntry.{MapEntry}
 
 -- f is the first fault: of the length; of the units; of the fields; of the unknown fields left
 abbrev pub PlainFault : {K V : Type 0} → Reading K → Reading V → ℕ → ℕ → ℕ → BudgetLeft → List ℕ → DecodeError → Type 0
-PlainFault {K} {V} key val d cost slot left bs f =
+PlainFault {K} {V} key val d cost extra left bs f =
     LengthFault bs f
     ⊎ ((t : List ℕ) × (e : List ℕ) × (rest : List ℕ) × IsVarint t (length e) × (bs ≡ t ++ (e ++ rest))
     × (((left.memory < cost) × (f ≡ ElementMemoryLimitExceeded))
     ⊎ ((cost ≤ left.memory) × (FaultOf key val d e f
-    ⊎ ((s : MapEntry K V) × IsEntry key val d e s × (s.known ≡ false) × (left.unknown < slot) × (f ≡ UnknownFieldLimitExceeded))))))
+    ⊎ ((s : MapEntry K V) × IsEntry key val d e s × (s.known ≡ false) × (left.unknown < extra) × (f ≡ UnknownFieldLimitExceeded))))))
 
 module _ {K V : Type 0} (r : Rules K V) (old : State K V) (bytes : List ℕ) where
   -- a merged entry spends its cost, and its unknown fields where its value is undeclared
   abbrev pub MergesExactly : State K V → List ℕ → Type 0
   MergesExactly new rest =
       (m : MergesEntry r old bytes new rest) →
-      (new.left.memory + r.cost ≡ old.left.memory) × (new.left.unknown + cond m.says.known 0 r.slot ≡ old.left.unknown)
+      (new.left.memory + r.cost ≡ old.left.memory) × (new.left.unknown + cond m.says.known 0 r.extra ≡ old.left.unknown)
 
   -- A refused one spends its cost or nothing. A fault is the first; it spends the cost where the entry was there and
   -- the units were, and no unknown field.
   pub record SpendsExactly (new : State K V) (f : DecodeError) : Type 0 where
-    pub which : f ≢ OutOfMemory → PlainFault r.key r.val r.depth r.cost r.slot old.left bytes f
+    pub which : f ≢ OutOfMemory → PlainFault r.key r.val r.depth r.cost r.extra old.left bytes f
     pub units : (new.left.memory ≡ old.left.memory) ⊎ (new.left.memory + r.cost ≡ old.left.memory)
     pub charged : f ≢ OutOfMemory → (e rest : List ℕ) → TakesDelimited bytes e rest → r.cost ≤ old.left.memory → new.left.memory + r.cost ≡ old.left.memory
     pub most : new.left.unknown ≤ old.left.unknown
-    pub least : old.left.unknown ≤ new.left.unknown + r.slot
+    pub least : old.left.unknown ≤ new.left.unknown + r.extra
     pub no_unknown : f ≢ OutOfMemory → new.left.unknown ≡ old.left.unknown
 
 -- entries under these rules are exact
@@ -46,4 +46,4 @@ IsExact {K} {V} r =
 -- so are entries by these codecs, whatever the rules beside them
 abbrev pub EntriesAreExact : {K V : Type 0} → Reading K → Reading V → Type 0
 EntriesAreExact {K} {V} key val =
-    (same : K → K → Bool) (ordered : Bool) (d n cost slot : ℕ) (adds : ℕ → List ℕ → List (ℕ × Datum)) → IsExact (rules key val same ordered d n cost slot adds)
+    (same : K → K → Bool) (ordered : Bool) (d n cost extra : ℕ) (adds : ℕ → List ℕ → List (ℕ × Datum)) → IsExact (rules key val same ordered d n cost extra adds)

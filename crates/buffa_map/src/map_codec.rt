@@ -4,7 +4,7 @@
 //! use buffa_map::map_codec::{Int32, Str, field_len, merge_entry, write_field};
 //!
 //! let size = field_len::<Str, Int32, _>(&map, 1);
-//! write_field::<Str, Int32, _, _>(&map, 5, &mut text)?;
+//! write_field::<Str, Int32, _, _>(&map, 5, &mut sink)?;
 //! merge_entry::<Str, Int32, _, _>(alloc, &mut map, &mut rest, ctx)?;
 //! ```
 

@@ -95,7 +95,7 @@ fn write_with<
 /// Source: the protobuf language guide on unknown values of an enum in a map.
 ///
 /// ```ignore
-/// rewrite_map_field::<Int32, ClosedEnum<Choice>, _, _, _>(alloc, &mut pairs, number, &mut rest, ctx, text)?;
+/// rewrite_map_field::<Int32, ClosedEnum<Choice>, _, _, _>(alloc, &mut pairs, number, &mut rest, ctx, sink)?;
 /// ```
 pub fn rewrite_map_field<
     KC: MapCodec,
@@ -118,10 +118,10 @@ pub fn rewrite_map_field<
         B.unread buf.old buf.new ctx.entry ctx.exit S.written S.room sink.old sink.new) }
     ensures kept { B.beyond buf.new ≡ B.beyond buf.old }
 {
-    let mut unread = UnknownFields::new(alloc);
-    match read_anew::<KC, VC, C, B>(alloc, map, number, buf, ctx, &mut unread) {
+    let mut aside = UnknownFields::new(alloc);
+    match read_anew::<KC, VC, C, B>(alloc, map, number, buf, ctx, &mut aside) {
         Err(fault) => Err(RewriteError::Decode(fault)),
-        Ok(()) => match write_with::<KC, VC, C, S>(map, number, &unread, sink) {
+        Ok(()) => match write_with::<KC, VC, C, S>(map, number, &aside, sink) {
             Ok(()) => Ok(()),
             Err(error) => Err(RewriteError::Encode(error)),
         },

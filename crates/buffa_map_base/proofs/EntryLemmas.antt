@@ -15,8 +15,8 @@ use Rattle.buffa_bytes.proofs.FieldLemmas.{tag_sound, tag_complete, tag_faulty, 
 use Rattle.buffa_bytes.proofs.ContentLemmas.{content_sound, content_complete, content_taken, content_faulty}
 use Rattle.buffa_wire.specs.BudgetLeft.{BudgetLeft, Lacks, Pays, PaysAtMost, need_by, nothing}
 use Rattle.buffa_wire.specs.Sequence.{ParsesTo}
-use Rattle.buffa_map_base.specs.Codec.{Reading, Refuses, Spends, Tells, ValueFault, level, value_at, value_need}
-use Rattle.buffa_map_base.specs.Entry.{CodecFault, codec_at, blanks, IsField, FieldFault, IsEntry, FaultOf, field_at, entry_of}
+use Rattle.buffa_map_base.specs.Codec.{Reading, RefusesValue, Spends, Tells, ValueFault, level, value_at, value_need}
+use Rattle.buffa_map_base.specs.Entry.{CodecFault, codec_at, blanks, IsEntryField, EntryFieldFault, IsEntry, FaultOf, entry_field_at, entry_of}
 use Rattle.buffa_map_base.specs.declared.map_entry.MapEntry.{MapEntry}
 use Rattle.buffa_wire.proofs.SequenceLemmas.{Answers, answer, answers_as, along_sound, along_complete, along_faulty, ParsesTo-more}
 
@@ -117,7 +117,7 @@ module _ {V : Type 0} (codec : Reading V) (d : ℕ) (old : V) where
   value_faulty bs e (inr (inr (open_level, c, rest, x, t, h, k))) = (x, rw (open_level, content_taken codec.wire bs c rest t, h) refl, told_plainly codec.nested x e k)
 
   -- why merging refuses, whether payloads are nested or not
-  pub refused_in : (b : Bool) (bs : List ℕ) (left : BudgetLeft) (e : DecodeError) → Refuses b codec d old bs left e → Lacks left (value_need codec d bs) ⊎ ValueFault codec d old bs e
+  pub refused_in : (b : Bool) (bs : List ℕ) (left : BudgetLeft) (e : DecodeError) → RefusesValue b codec d old bs left e → Lacks left (value_need codec d bs) ⊎ ValueFault codec d old bs e
   refused_in false bs left e h = inr (agree_err (value_at codec d old bs) e (value_sound bs) h)
   refused_in true bs left e h = h
 
@@ -144,12 +144,12 @@ module _ {V : Type 0} (codec : Reading V) (d n : ℕ) (old : V) where
 module _ {K V : Type 0} (key : Reading K) (val : Reading V) (d : ℕ) where
   -- one field at the front of the bytes
   abbrev pub FieldAt : MapEntry K V → List ℕ → MapEntry K V × List ℕ → Type 0
-  FieldAt s bs x = (f : List ℕ) × IsField key val d s f x.0 × (bs ≡ f ++ x.1)
+  FieldAt s bs x = (f : List ℕ) × IsEntryField key val d s f x.0 × (bs ≡ f ++ x.1)
 
   whole : (bs t p : List ℕ) (after rest : List ℕ) → bs ≡ t ++ after → after ≡ p ++ rest → bs ≡ (t ++ p) ++ rest
   whole bs t p after rest a b = a ∙ ap (λ z. t ++ z) b ∙ sym (append_assoc t p rest)
 
-  pub field_sound : (s : MapEntry K V) (bs : List ℕ) → Agrees (field_at key val d s bs) (FieldAt s bs) (FieldFault key val d s bs)
+  pub field_sound : (s : MapEntry K V) (bs : List ℕ) → Agrees (entry_field_at key val d s bs) (FieldAt s bs) (EntryFieldFault key val d s bs)
   field_sound s bs = agree_bind (tag_sound bs)
       (λ t u. agree_if (t.0 == 1)
       (λ one. let is : t.0 ≡ 1 = eqb-true t.0 1 one in
@@ -184,7 +184,7 @@ module _ {K V : Type 0} (key : Reading K) (val : Reading V) (d : ℕ) where
       (λ e h. inr (inr (inr (t.0, t.1, t.2, eqb-false t.0 1 not_one, eqb-false t.0 2 not_two, u, h)))))))
       (λ e h. inl h)
 
-  pub field_complete : (s t : MapEntry K V) (f rest : List ℕ) → IsField key val d s f t → field_at key val d s (f ++ rest) ≡ Ok (t, rest)
+  pub field_complete : (s t : MapEntry K V) (f rest : List ℕ) → IsEntryField key val d s f t → entry_field_at key val d s (f ++ rest) ≡ Ok (t, rest)
   field_complete s t f rest (inl (k, known, (tag, p, c, is_tag, o, h, r, e), st)) =
       let split : f ++ rest ≡ tag ++ (p ++ rest) = ap (λ z. z ++ rest) e ∙ append_assoc tag p rest in
       rw (split, tag_complete tag 1 key.wire (p ++ rest) is_tag, codec_complete key d 1 s.key key.wire p rest c (k, known) refl o h r) (ap (λ z. Ok (z, rest)) (sym st))
@@ -202,36 +202,36 @@ module _ {K V : Type 0} (key : Reading K) (val : Reading V) (d : ℕ) where
   abbrev pub Plain : Type 0
   Plain = (key.nested ≡ false) × (val.nested ≡ false)
 
-  pub field_faulty : (s : MapEntry K V) (bs : List ℕ) (e : DecodeError) → FieldFault key val d s bs e → Answers Plain (field_at key val d s bs) e
+  pub field_faulty : (s : MapEntry K V) (bs : List ℕ) (e : DecodeError) → EntryFieldFault key val d s bs e → Answers Plain (entry_field_at key val d s bs) e
   field_faulty s bs e (inl h) = answer (rw (tag_faulty bs e h) refl)
   field_faulty s bs e (inr (inl (w, rest, t, h))) = let q = codec_faulty key d 1 s.key w rest e h in (q.0, rw (tag_read bs rest 1 w t, q.1) refl, λ p. q.2 p.0)
   field_faulty s bs e (inr (inr (inl (w, rest, t, h)))) = let q = codec_faulty val d 2 s.value w rest e h in (q.0, rw (tag_read bs rest 2 w t, q.1) refl, λ p. q.2 p.1)
   field_faulty s bs e (inr (inr (inr (n, w, rest, not_one, not_two, t, h)))) = answer (rw (tag_read bs rest n w t, ne_eqb n 1 not_one, ne_eqb n 2 not_two, payload_faulty d n w rest e h) refl)
 
-  field_some : (s t : MapEntry K V) (f : List ℕ) → IsField key val d s f t → 0 < length f
+  field_some : (s t : MapEntry K V) (f : List ℕ) → IsEntryField key val d s f t → 0 < length f
   field_some s t f (inl (k, known, (tag, p, c, is_tag, o, h, r, e), st)) = omega (arith, tag_some tag 1 key.wire is_tag, ap length e, length-append tag p)
   field_some s t f (inr (inl (v, known, (tag, p, c, is_tag, o, h, r, e), st))) = omega (arith, tag_some tag 2 val.wire is_tag, ap length e, length-append tag p)
   field_some s t f (inr (inr (n, w, not_one, not_two, (tag, p, is_tag, h, e), st))) = omega (arith, tag_some tag n w is_tag, ap length e, length-append tag p)
 
   pub entry_sound : (e : List ℕ) → Agrees (entry_of key val d e) (IsEntry key val d e) (FaultOf key val d e)
-  entry_sound e = along_sound (IsField key val d) (field_at key val d) (FieldFault key val d) field_sound field_complete Plain field_faulty field_some (blanks key val d) e
+  entry_sound e = along_sound (IsEntryField key val d) (entry_field_at key val d) (EntryFieldFault key val d) field_sound field_complete Plain field_faulty field_some (blanks key val d) e
 
   pub entry_complete : (e : List ℕ) (s : MapEntry K V) → IsEntry key val d e s → entry_of key val d e ≡ Ok s
-  entry_complete e s h = along_complete (IsField key val d) (field_at key val d) (FieldFault key val d) field_sound field_complete Plain field_faulty field_some (blanks key val d) s e h
+  entry_complete e s h = along_complete (IsEntryField key val d) (entry_field_at key val d) (EntryFieldFault key val d) field_sound field_complete Plain field_faulty field_some (blanks key val d) s e h
 
   pub entry_faulty : (e : List ℕ) (f : DecodeError) → FaultOf key val d e f → Answers Plain (entry_of key val d e) f
-  entry_faulty e f h = along_faulty (IsField key val d) (field_at key val d) (FieldFault key val d) field_sound field_complete Plain field_faulty field_some (blanks key val d) e f h
+  entry_faulty e f h = along_faulty (IsEntryField key val d) (entry_field_at key val d) (EntryFieldFault key val d) field_sound field_complete Plain field_faulty field_some (blanks key val d) e f h
 
   -- ---- the loop over the fields
-  pub field_step : (e : List ℕ) (s t : MapEntry K V) (r x : List ℕ) → ParsesTo (IsField key val d) (blanks key val d) e s r → field_at key val d s r ≡ Ok (t, x) → ParsesTo (IsField key val d) (blanks key val d) e t x
+  pub field_step : (e : List ℕ) (s t : MapEntry K V) (r x : List ℕ) → ParsesTo (IsEntryField key val d) (blanks key val d) e s r → entry_field_at key val d s r ≡ Ok (t, x) → ParsesTo (IsEntryField key val d) (blanks key val d) e t x
   field_step e s t r x h k =
-      let u = agree_ok (field_at key val d s r) (t, x) (field_sound s r) k in
-      ParsesTo-more (IsField key val d) e (blanks key val d) s t u.0 r x h u.1 u.2
+      let u = agree_ok (entry_field_at key val d s r) (t, x) (field_sound s r) k in
+      ParsesTo-more (IsEntryField key val d) e (blanks key val d) s t u.0 r x h u.1 u.2
 
-  pub field_shorter : (s t : MapEntry K V) (r x : List ℕ) → field_at key val d s r ≡ Ok (t, x) → length x < length r
+  pub field_shorter : (s t : MapEntry K V) (r x : List ℕ) → entry_field_at key val d s r ≡ Ok (t, x) → length x < length r
   field_shorter s t r x k =
-      let u = agree_ok (field_at key val d s r) (t, x) (field_sound s r) k in
+      let u = agree_ok (entry_field_at key val d s r) (t, x) (field_sound s r) k in
       omega (arith, field_some s t u.0 u.1, ap length u.2, length-append u.0 x)
 
-  pub field_stops : (e : List ℕ) (s : MapEntry K V) (r : List ℕ) (f : DecodeError) → ParsesTo (IsField key val d) (blanks key val d) e s r → 0 < length r → field_at key val d s r ≡ Err f → FaultOf key val d e f
-  field_stops e s r f h n k = (s, r, h, (λ z. absurd (omega (arith, ap length z))), agree_err (field_at key val d s r) f (field_sound s r) k)
+  pub field_stops : (e : List ℕ) (s : MapEntry K V) (r : List ℕ) (f : DecodeError) → ParsesTo (IsEntryField key val d) (blanks key val d) e s r → 0 < length r → entry_field_at key val d s r ≡ Err f → FaultOf key val d e f
+  field_stops e s r f h n k = (s, r, h, (λ z. absurd (omega (arith, ap length z))), agree_err (entry_field_at key val d s r) f (field_sound s r) k)

@@ -7,7 +7,7 @@ use Rattle.buffa_wire.proofs.SequenceLemmas.{ok_same}
 use Rattle.buffa_bytes.specs.Field.{TakesDelimited}
 use Rattle.buffa_bytes.specs.Reading.{delimited_at}
 use Rattle.buffa_wire.specs.BudgetLeft.{BudgetLeft, Lacks, need_by}
-use Rattle.buffa_wire.specs.Message.{PayloadFault, cost_in, cost_of_payload}
+use Rattle.buffa_wire.specs.Message.{MessageFault, cost_in, cost_of_payload}
 use Rattle.buffa_bytes.specs.declared.error.DecodeError.{DecodeError}
 use Rattle.buffa_bytes.specs.declared.error.DecodeError.TheVariants.{UnexpectedEof}
 use Rattle.buffa_bytes.proofs.StepLemmas.{agree_ok, agree_err}
@@ -35,7 +35,7 @@ module _ {V : Type 0} (blank : V) (merged : ℕ → V → List ℕ → Option V)
   reads_nothing zero bs h = absurd (let open_level = h.1 in cc)
   reads_nothing (suc d) bs h = (h.2, omega arith, content_of h.2 (delimited_at bs) h.3)
 
-  pub message_refused : (d : ℕ) (old : V) (bs : List ℕ) (left : BudgetLeft) (e : DecodeError) → PayloadFault merged cost d old bs left e →
+  pub message_refused : (d : ℕ) (old : V) (bs : List ℕ) (left : BudgetLeft) (e : DecodeError) → MessageFault merged cost d old bs left e →
       Lacks left (value_need (message_reading blank merged cost) d bs) ⊎ ValueFault (message_reading blank merged cost) d old bs e
   message_refused zero old bs left e h = inr (inl (ap (λ z. Err z) (sym h)))
   message_refused (suc d) old bs left e (inl h) = inr (inr (inl (refl, agree_err (delimited_at bs) e (delimited_sound bs) h)))

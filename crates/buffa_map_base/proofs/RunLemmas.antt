@@ -11,7 +11,7 @@ use Rattle.buffa_bytes.specs.declared.error.DecodeError.TheVariants.{ElementMemo
 use Rattle.buffa_bytes.proofs.StepLemmas.{Agrees, agree_bind, agree_if, agree_ok, agree_err, agree_weaker}
 use Rattle.buffa_bytes.proofs.FieldLemmas.{tag_sound, tag_complete, tag_faulty, tag_some}
 use Rattle.buffa_bytes.proofs.DelimitedLemmas.{delimited_sound, delimited_complete, delimited_faulty}
-use Rattle.buffa_wire.specs.BudgetLeft.{BudgetLeft, Lacks, Pays, nothing, plus, slots}
+use Rattle.buffa_wire.specs.BudgetLeft.{BudgetLeft, Lacks, Pays, nothing, plus, unknown_fields}
 use Rattle.buffa_bytes.specs.Content.{Content}
 use Rattle.buffa_wire.specs.Records.{Datum, bytes}
 use Rattle.buffa_wire.specs.Sequence.{join, ParsesEach}
@@ -26,20 +26,20 @@ use Rattle.buffa_map_base.proofs.NeedLemmas.{need_free}
 use Rattle.buffa_map_base.proofs.PutLemmas.{SamePairs-put}
 
 -- ---- what an entry that is undeclared takes of the unknown fields left, where n of them are spent in it
-slots_test : (b : Bool) (u n slot : ℕ) → n + cond b 0 slot ≤ u → (not b && nat_lt u (n + slot)) ≡ false
-slots_test true u n slot h = refl
-slots_test false u n slot h = le-ltb u (n + slot) h
+extra_test : (b : Bool) (u n extra : ℕ) → n + cond b 0 extra ≤ u → (not b && nat_lt u (n + extra)) ≡ false
+extra_test true u n extra h = refl
+extra_test false u n extra h = le-ltb u (n + extra) h
 
-slots_many : (b : Bool) (u n slot : ℕ) → n ≤ u → (not b && nat_lt u (n + slot)) ≡ false → n + cond b 0 slot ≤ u
-slots_many true u n slot l h = omega (arith, l)
-slots_many false u n slot l h = ltb-false u (n + slot) h
+extra_many : (b : Bool) (u n extra : ℕ) → n ≤ u → (not b && nat_lt u (n + extra)) ≡ false → n + cond b 0 extra ≤ u
+extra_many true u n extra l h = omega (arith, l)
+extra_many false u n extra l h = ltb-false u (n + extra) h
 
-slots_few : (b : Bool) (u n slot : ℕ) → (not b && nat_lt u (n + slot)) ≡ true → (b ≡ false) × (u < n + slot)
-slots_few true u n slot h = cc
-slots_few false u n slot h = (refl, ltb-true u (n + slot) h)
+extra_few : (b : Bool) (u n extra : ℕ) → (not b && nat_lt u (n + extra)) ≡ true → (b ≡ false) × (u < n + extra)
+extra_few true u n extra h = cc
+extra_few false u n extra h = (refl, ltb-true u (n + extra) h)
 
-slots_short : (b : Bool) (u n slot : ℕ) → b ≡ false → u < n + slot → (not b && nat_lt u (n + slot)) ≡ true
-slots_short b u n slot h k = rw (h, lt-ltb u (n + slot) k) refl
+extra_short : (b : Bool) (u n extra : ℕ) → b ≡ false → u < n + extra → (not b && nat_lt u (n + extra)) ≡ true
+extra_short b u n extra h k = rw (h, lt-ltb u (n + extra) k) refl
 
 -- ---- whether a need is left
 either_true : (a b : Bool) → (a || b) ≡ true → (a ≡ true) ⊎ (b ≡ true)
@@ -72,9 +72,9 @@ either : (b : Bool) {P : Type 0} → (b ≡ true → P) → (b ≡ false → P) 
 either true h k = h refl
 either false h k = k refl
 
-pub slots_kept : (b : Bool) (e : List ℕ) (ks : List (List ℕ)) (slot : ℕ) → length (cond b ks (e ∷ ks)) * slot ≡ cond b 0 slot + length ks * slot
-slots_kept true e ks slot = omega arith
-slots_kept false e ks slot = omega arith
+pub extra_kept : (b : Bool) (e : List ℕ) (ks : List (List ℕ)) (extra : ℕ) → length (cond b ks (e ∷ ks)) * extra ≡ cond b 0 extra + length ks * extra
+extra_kept true e ks extra = omega arith
+extra_kept false e ks extra = omega arith
 
 module _ {K V : Type 0} (key : Reading K) (val : Reading V) (d n : ℕ) where
   -- one record more
@@ -99,20 +99,20 @@ module _ {K V : Type 0} (key : Reading K) (val : Reading V) (d n : ℕ) where
         u.2 ∙ ap (λ z. u.0 ++ z) (is ∙ sym (append_assoc l e rest)) ∙ sym (append_assoc u.0 (l ++ e) rest),
       )
 
-  pub record_tag : (cost slot : ℕ) (left : BudgetLeft) (bs : List ℕ) (f : DecodeError) → tag_at bs ≡ Err f → RecordFault key val d n cost slot left bs f
-  record_tag cost slot left bs f h = inl (agree_err (tag_at bs) f (tag_sound bs) h)
+  pub record_tag : (cost extra : ℕ) (left : BudgetLeft) (bs : List ℕ) (f : DecodeError) → tag_at bs ≡ Err f → RecordFault key val d n cost extra left bs f
+  record_tag cost extra left bs f h = inl (agree_err (tag_at bs) f (tag_sound bs) h)
 
-  pub record_other : (cost slot : ℕ) (left : BudgetLeft) (bs mid : List ℕ) (g : ℕ) (w : WireType) → tag_at bs ≡ Ok (g, w, mid) → g ≢ n → RecordFault key val d n cost slot left bs (UnexpectedField g)
-  record_other cost slot left bs mid g w h other = inr (inl (g, w, mid, agree_ok (tag_at bs) (g, w, mid) (tag_sound bs) h, other, refl))
+  pub record_other : (cost extra : ℕ) (left : BudgetLeft) (bs mid : List ℕ) (g : ℕ) (w : WireType) → tag_at bs ≡ Ok (g, w, mid) → g ≢ n → RecordFault key val d n cost extra left bs (UnexpectedField g)
+  record_other cost extra left bs mid g w h other = inr (inl (g, w, mid, agree_ok (tag_at bs) (g, w, mid) (tag_sound bs) h, other, refl))
 
-  pub record_mismatch : (cost slot : ℕ) (left : BudgetLeft) (bs mid : List ℕ) (g : ℕ) (w : WireType) (f : DecodeError) → tag_at bs ≡ Ok (g, w, mid) → g ≡ n → check_wire g LengthDelimited w ≡ Err f → RecordFault key val d n cost slot left bs f
-  record_mismatch cost slot left bs mid g w f h same k =
+  pub record_mismatch : (cost extra : ℕ) (left : BudgetLeft) (bs mid : List ℕ) (g : ℕ) (w : WireType) (f : DecodeError) → tag_at bs ≡ Ok (g, w, mid) → g ≡ n → check_wire g LengthDelimited w ≡ Err f → RecordFault key val d n cost extra left bs f
+  record_mismatch cost extra left bs mid g w f h same k =
       let u : TakesTag bs g w mid = agree_ok (tag_at bs) (g, w, mid) (tag_sound bs) h in
       let m = agree_err (check_wire n LengthDelimited w) f (check_sound n LengthDelimited w) (subst (λ z. check_wire z LengthDelimited w ≡ Err f) same k) in
       inr (inr (inl (w, mid, subst (λ z. TakesTag bs z w mid) same u, m.0, m.1)))
 
-  pub record_entry : (cost slot : ℕ) (left : BudgetLeft) (bs mid : List ℕ) (g : ℕ) (w : WireType) (f : DecodeError) → tag_at bs ≡ Ok (g, w, mid) → g ≡ n → check_wire g LengthDelimited w ≡ Ok tt → EntryFault key val d cost slot left mid f → RecordFault key val d n cost slot left bs f
-  record_entry cost slot left bs mid g w f h same checked k =
+  pub record_entry : (cost extra : ℕ) (left : BudgetLeft) (bs mid : List ℕ) (g : ℕ) (w : WireType) (f : DecodeError) → tag_at bs ≡ Ok (g, w, mid) → g ≡ n → check_wire g LengthDelimited w ≡ Ok tt → EntryFault key val d cost extra left mid f → RecordFault key val d n cost extra left bs f
+  record_entry cost extra left bs mid g w f h same checked k =
       let u : TakesTag bs g w mid = agree_ok (tag_at bs) (g, w, mid) (tag_sound bs) h in
       let wire : w ≡ LengthDelimited = agree_ok (check_wire g LengthDelimited w) tt (check_sound g LengthDelimited w) checked in
       inr (inr (inr (mid, subst (λ z. TakesTag bs z LengthDelimited mid) same (subst (λ z. TakesTag bs g z mid) wire u), k)))
@@ -126,40 +126,40 @@ module _ {K V : Type 0} (key : Reading K) (val : Reading V) (d n : ℕ) where
   entry_falls bs e s rest (l, v, is, entry) = omega (arith, ap length is, length-append l (e ++ rest), length-append e rest)
 
   -- ---- the reading
-  module _ (cost slot : ℕ) (left : BudgetLeft) where
+  module _ (cost extra : ℕ) (left : BudgetLeft) where
     -- the record at the front, and what was paid for it
     abbrev pub SaidAt : List ℕ → EntryRecord K V × List ℕ → Type 0
     SaidAt bs x =
         (r : List ℕ) × IsRecord key val d n r x.0 × (bs ≡ r ++ x.1)
-        × ((need_of key val d cost x.0.bytes).memory ≤ left.memory) × ((need_of key val d cost x.0.bytes).unknown + cond x.0.parts.known 0 slot ≤ left.unknown)
+        × ((need_of key val d cost x.0.bytes).memory ≤ left.memory) × ((need_of key val d cost x.0.bytes).unknown + cond x.0.parts.known 0 extra ≤ left.unknown)
 
     retag : (bs rest : List ℕ) (g : ℕ) (w : WireType) → TakesTag bs g w rest → g ≡ n → w ≡ LengthDelimited → TakesTag bs n LengthDelimited rest
     retag bs rest g w u is wire = subst (λ z. TakesTag bs z LengthDelimited rest) is (subst (λ z. TakesTag bs g z rest) wire u)
 
     -- the entry of a length
     abbrev InEntry : List ℕ → MapEntry K V → Type 0
-    InEntry e s = IsEntry key val d e s × ((need_of key val d cost e).memory ≤ left.memory) × ((need_of key val d cost e).unknown + cond s.known 0 slot ≤ left.unknown)
+    InEntry e s = IsEntry key val d e s × ((need_of key val d cost e).memory ≤ left.memory) × ((need_of key val d cost e).unknown + cond s.known 0 extra ≤ left.unknown)
 
     abbrev pub InFault : List ℕ → DecodeError → Type 0
     InFault e f = ((left.memory < cost) × (f ≡ ElementMemoryLimitExceeded))
         ⊎ ((cost ≤ left.memory) × (Lacks left (need_of key val d cost e) ⊎ (FaultOf key val d e f
-        ⊎ ((s : MapEntry K V) × IsEntry key val d e s × (s.known ≡ false) × (left.unknown < (need_of key val d cost e).unknown + slot) × (f ≡ UnknownFieldLimitExceeded)))))
+        ⊎ ((s : MapEntry K V) × IsEntry key val d e s × (s.known ≡ false) × (left.unknown < (need_of key val d cost e).unknown + extra) × (f ≡ UnknownFieldLimitExceeded)))))
 
     in_lacks : (e : List ℕ) → Lacks left (need_of key val d cost e) → InFault e ElementMemoryLimitExceeded
     in_lacks e h = elim (cases_lt left.memory cost) [ inl less ↦ inl (less, refl) | inr many ↦ inr (omega (arith, many), inl h) ]
 
-    in_sound : (e : List ℕ) → Agrees (entry_in key val d cost slot left e) (InEntry e) (InFault e)
+    in_sound : (e : List ℕ) → Agrees (entry_in key val d cost extra left e) (InEntry e) (InFault e)
     in_sound e = agree_if (lacks left (need_of key val d cost e))
         (λ few. record { holds = in_lacks e (lacks_true left (need_of key val d cost e) few) })
         (λ many. let room = lacks_false left (need_of key val d cost e) many in
         let units : cost ≤ left.memory = omega (arith, room.1) in
         agree_bind (entry_sound key val d e)
-        (λ s entry. agree_if (not s.known && nat_lt left.unknown ((need_of key val d cost e).unknown + slot))
-        (λ few. let h = slots_few s.known left.unknown (need_of key val d cost e).unknown slot few in record { holds = inr (units, inr (inr (s, entry, h.0, h.1, refl))) })
-        (λ some. record { holds = (entry, room.1, slots_many s.known left.unknown (need_of key val d cost e).unknown slot room.0 some) }))
+        (λ s entry. agree_if (not s.known && nat_lt left.unknown ((need_of key val d cost e).unknown + extra))
+        (λ few. let h = extra_few s.known left.unknown (need_of key val d cost e).unknown extra few in record { holds = inr (units, inr (inr (s, entry, h.0, h.1, refl))) })
+        (λ some. record { holds = (entry, room.1, extra_many s.known left.unknown (need_of key val d cost e).unknown extra room.0 some) }))
         (λ f broken. inr (units, inr (inl broken))))
 
-    pub said_sound : (bs : List ℕ) → Agrees (record_at key val d n cost slot left bs) (SaidAt bs) (RecordFault key val d n cost slot left bs)
+    pub said_sound : (bs : List ℕ) → Agrees (record_at key val d n cost extra left bs) (SaidAt bs) (RecordFault key val d n cost extra left bs)
     said_sound bs = agree_bind (tag_sound bs)
         (λ t u. agree_if (t.0 == n)
         (λ same. let is : t.0 ≡ n = eqb-true t.0 n same in
@@ -181,12 +181,12 @@ module _ {K V : Type 0} (key : Reading K) (val : Reading V) (d n : ℕ) where
         (λ other. record { holds = inr (inl (t.0, t.1, t.2, u, eqb-false t.0 n other, refl)) }))
         (λ f h. inl h)
 
-    pub said_complete : (r rest : List ℕ) (x : EntryRecord K V) → (need_of key val d cost x.bytes).memory ≤ left.memory → (need_of key val d cost x.bytes).unknown + cond x.parts.known 0 slot ≤ left.unknown → IsRecord key val d n r x →
-        record_at key val d n cost slot left (r ++ rest) ≡ Ok (x, rest)
+    pub said_complete : (r rest : List ℕ) (x : EntryRecord K V) → (need_of key val d cost x.bytes).memory ≤ left.memory → (need_of key val d cost x.bytes).unknown + cond x.parts.known 0 extra ≤ left.unknown → IsRecord key val d n r x →
+        record_at key val d n cost extra left (r ++ rest) ≡ Ok (x, rest)
     said_complete r rest x many slots (t, l, tag, v, e, entry) =
         let split : r ++ rest ≡ t ++ (l ++ (x.bytes ++ rest)) = ap (λ z. z ++ rest) e ∙ append_assoc t (l ++ x.bytes) rest ∙ ap (λ z. t ++ z) (append_assoc l x.bytes rest) in
         let room = lacks_none left (need_of key val d cost x.bytes) (omega (arith, slots)) many in
-        let inside : entry_in key val d cost slot left x.bytes ≡ Ok x.parts = rw (room, entry_complete key val d x.bytes x.parts entry, slots_test x.parts.known left.unknown (need_of key val d cost x.bytes).unknown slot slots) refl in
+        let inside : entry_in key val d cost extra left x.bytes ≡ Ok x.parts = rw (room, entry_complete key val d x.bytes x.parts entry, extra_test x.parts.known left.unknown (need_of key val d cost x.bytes).unknown extra slots) refl in
         rw (split, tag_complete t n LengthDelimited (l ++ (x.bytes ++ rest)) tag, eq-eqb n n refl, delimited_complete l x.bytes rest v, inside) refl
 
     pub tag_read : (bs rest : List ℕ) (g : ℕ) (w : WireType) → TakesTag bs g w rest → tag_at bs ≡ Ok (g, w, rest)
@@ -198,10 +198,10 @@ module _ {K V : Type 0} (key : Reading K) (val : Reading V) (d n : ℕ) where
       not_lacking e many (inl few) p = let none = need_free key val d key_free val_free (blanks key val d) e p in absurd (omega (arith, few, ap (λ (z : BudgetLeft). z.unknown) none))
       not_lacking e many (inr few) p = let none = need_free key val d key_free val_free (blanks key val d) e p in absurd (omega (arith, many, few, ap (λ (z : BudgetLeft). z.memory) none))
 
-      in_none : (e : List ℕ) (f : DecodeError) → cost ≤ left.memory → Lacks left (need_of key val d cost e) → Answers (Plain key val d) (entry_in key val d cost slot left e) f
+      in_none : (e : List ℕ) (f : DecodeError) → cost ≤ left.memory → Lacks left (need_of key val d cost e) → Answers (Plain key val d) (entry_in key val d cost extra left e) f
       in_none e f many h = (ElementMemoryLimitExceeded, rw (lacks_some left (need_of key val d cost e) h) refl, λ p. not_lacking e many h p)
 
-      pub in_faulty : (e : List ℕ) (f : DecodeError) → InFault e f → Answers (Plain key val d) (entry_in key val d cost slot left e) f
+      pub in_faulty : (e : List ℕ) (f : DecodeError) → InFault e f → Answers (Plain key val d) (entry_in key val d cost extra left e) f
       in_faulty e f (inl (few, is)) = let h : Lacks left (need_of key val d cost e) = inr (omega (arith, few)) in answer (rw (lacks_some left (need_of key val d cost e) h) (ap (λ z. Err z) (sym is)))
       in_faulty e f (inr (many, inl h)) = in_none e f many h
       in_faulty e f (inr (many, inr (inl h))) = either (lacks left (need_of key val d cost e))
@@ -209,9 +209,9 @@ module _ {K V : Type 0} (key : Reading K) (val : Reading V) (d n : ℕ) where
           (λ room. answers_as (λ x k. rw (room, k) refl) (entry_faulty key val d e f h))
       in_faulty e f (inr (many, inr (inr (s, entry, no_value, few, is)))) = either (lacks left (need_of key val d cost e))
           (λ less. in_none e f many (lacks_true left (need_of key val d cost e) less))
-          (λ room. answer (rw (room, entry_complete key val d e s entry, slots_short s.known left.unknown (need_of key val d cost e).unknown slot no_value few) (ap (λ z. Err z) (sym is))))
+          (λ room. answer (rw (room, entry_complete key val d e s entry, extra_short s.known left.unknown (need_of key val d cost e).unknown extra no_value few) (ap (λ z. Err z) (sym is))))
 
-      pub said_faulty : (bs : List ℕ) (f : DecodeError) → RecordFault key val d n cost slot left bs f → Answers (Plain key val d) (record_at key val d n cost slot left bs) f
+      pub said_faulty : (bs : List ℕ) (f : DecodeError) → RecordFault key val d n cost extra left bs f → Answers (Plain key val d) (record_at key val d n cost extra left bs) f
       said_faulty bs f (inl h) = answer (rw (tag_faulty bs f h) refl)
       said_faulty bs f (inr (inl (g, w, rest, t, other, is))) = answer (rw (tag_read bs rest g w t, ne_eqb g n other) (ap (λ z. Err z) (sym is)))
       said_faulty bs f (inr (inr (inl (w, rest, t, other, is)))) = answer (rw (tag_read bs rest n w t, eq-eqb n n refl, check_differs n LengthDelimited w other) (ap (λ z. Err z) (sym is)))
@@ -223,79 +223,79 @@ module _ {K V : Type 0} (key : Reading K) (val : Reading V) (d n : ℕ) where
   record_some r x (t, l, tag, v, e, entry) = omega (arith, tag_some t n LengthDelimited tag, ap length e, length-append t (l ++ x.bytes))
 
   -- a run as pieces that make a list longer, and pay
-  module _ (cost slot : ℕ) where
+  module _ (cost extra : ℕ) where
     abbrev Paying : Type 0
     Paying = List (EntryRecord K V) × BudgetLeft
 
     abbrev Longer : Paying → List ℕ → Paying → Type 0
     Longer s r t =
         (x : EntryRecord K V) × IsRecord key val d n r x × (t.0 ≡ s.0 ++ x ∷ []) × (t.1.memory + (need_of key val d cost x.bytes).memory ≡ s.1.memory)
-        × (t.1.unknown + ((need_of key val d cost x.bytes).unknown + cond x.parts.known 0 slot) ≡ s.1.unknown)
+        × (t.1.unknown + ((need_of key val d cost x.bytes).unknown + cond x.parts.known 0 extra) ≡ s.1.unknown)
 
     abbrev Broken : Paying → List ℕ → DecodeError → Type 0
-    Broken s bs f = RecordFault key val d n cost slot s.1 bs f
+    Broken s bs f = RecordFault key val d n cost extra s.1 bs f
 
-    next_sound : (s : Paying) (bs : List ℕ) → Agrees (next_record key val d n cost slot s bs) (λ x. (r : List ℕ) × Longer s r x.0 × (bs ≡ r ++ x.1)) (Broken s bs)
-    next_sound s bs = agree_bind (said_sound cost slot s.1 bs) (λ x h. record { holds = (h.0, (x.0, h.1, refl, omega (arith, h.3), omega (arith, h.4)), h.2) }) (λ f h. h)
+    next_sound : (s : Paying) (bs : List ℕ) → Agrees (next_record key val d n cost extra s bs) (λ x. (r : List ℕ) × Longer s r x.0 × (bs ≡ r ++ x.1)) (Broken s bs)
+    next_sound s bs = agree_bind (said_sound cost extra s.1 bs) (λ x h. record { holds = (h.0, (x.0, h.1, refl, omega (arith, h.3), omega (arith, h.4)), h.2) }) (λ f h. h)
 
-    next_complete : (s t : Paying) (r rest : List ℕ) → Longer s r t → next_record key val d n cost slot s (r ++ rest) ≡ Ok (t, rest)
+    next_complete : (s t : Paying) (r rest : List ℕ) → Longer s r t → next_record key val d n cost extra s (r ++ rest) ≡ Ok (t, rest)
     next_complete s t r rest (x, h, e, paid, slots) =
         let memory : s.1.memory - (need_of key val d cost x.bytes).memory ≡ t.1.memory = omega (arith, paid) in
-        let unknown : s.1.unknown - ((need_of key val d cost x.bytes).unknown + cond x.parts.known 0 slot) ≡ t.1.unknown = omega (arith, slots) in
-        let same : (let made : Paying = (s.0 ++ x ∷ [], after_entry key val d cost slot s.1 x) in made ≡ t) = (λ i. (sym e i, record { unknown = unknown i; memory = memory i })) in
-        rw (said_complete cost slot s.1 r rest x (omega (arith, paid)) (omega (arith, slots)) h) (ap (λ z. Ok (z, rest)) same)
+        let unknown : s.1.unknown - ((need_of key val d cost x.bytes).unknown + cond x.parts.known 0 extra) ≡ t.1.unknown = omega (arith, slots) in
+        let same : (let made : Paying = (s.0 ++ x ∷ [], after_entry key val d cost extra s.1 x) in made ≡ t) = (λ i. (sym e i, record { unknown = unknown i; memory = memory i })) in
+        rw (said_complete cost extra s.1 r rest x (omega (arith, paid)) (omega (arith, slots)) h) (ap (λ z. Ok (z, rest)) same)
 
     next_some : (s t : Paying) (r : List ℕ) → Longer s r t → 0 < length r
     next_some s t r (x, h, e, paid, slots) = record_some r x h
 
     -- pieces that lead from one list to another are a run of what was added
-    run_of_pieces : (ps : List (List ℕ)) (s t : Paying) → ParsesEach Longer s ps t → (xs : List (EntryRecord K V)) × Run key val d n (join ps) xs × (t.0 ≡ s.0 ++ xs) × Paid key val d cost slot s.1 xs t.1
+    run_of_pieces : (ps : List (List ℕ)) (s t : Paying) → ParsesEach Longer s ps t → (xs : List (EntryRecord K V)) × Run key val d n (join ps) xs × (t.0 ≡ s.0 ++ xs) × Paid key val d cost extra s.1 xs t.1
     run_of_pieces [] s t h = ([], refl, sym (ap (λ z. z.0) h) ∙ sym (append-nil s.0), (omega (arith, ap (λ z. z.1.memory) h), omega (arith, ap (λ z. z.1.unknown) h)))
     run_of_pieces (p ∷ ps) s t (u, (x, m, e, paid, slots), h) =
         let i = run_of_pieces ps u t h in (
           x ∷ i.0,
           (p, join ps, m, refl, i.1),
           i.2 ∙ ap (λ z. z ++ i.0) e ∙ append_assoc s.0 (x ∷ []) i.0,
-          (omega (arith, i.3.0, paid), omega (arith, i.3.1, slots, slots_kept x.parts.known x.bytes (undeclared i.0) slot)),
+          (omega (arith, i.3.0, paid), omega (arith, i.3.1, slots, extra_kept x.parts.known x.bytes (undeclared i.0) extra)),
         )
 
-    pieces_of_run : (b : List ℕ) (s : Paying) (xs : List (EntryRecord K V)) (over : BudgetLeft) → Run key val d n b xs → Paid key val d cost slot s.1 xs over → (ps : List (List ℕ)) × (b ≡ join ps) × ParsesEach Longer s ps (s.0 ++ xs, over)
+    pieces_of_run : (b : List ℕ) (s : Paying) (xs : List (EntryRecord K V)) (over : BudgetLeft) → Run key val d n b xs → Paid key val d cost extra s.1 xs over → (ps : List (List ℕ)) × (b ≡ join ps) × ParsesEach Longer s ps (s.0 ++ xs, over)
     pieces_of_run b s [] over h paid =
         let memory : s.1.memory ≡ over.memory = omega (arith, paid.0) in
         let unknown : s.1.unknown ≡ over.unknown = omega (arith, paid.1) in
         ([], h, (λ i. (sym (append-nil s.0) i, record { unknown = unknown i; memory = memory i })))
     pieces_of_run b s (x ∷ xs) over (r, rest, m, e, h) paid =
-        let u : Paying = (s.0 ++ x ∷ [], record { unknown = over.unknown + (length (undeclared xs) * slot + (inner_needs key val d xs).unknown); memory = over.memory + (length xs * cost + (inner_needs key val d xs).memory) }) in
+        let u : Paying = (s.0 ++ x ∷ [], record { unknown = over.unknown + (length (undeclared xs) * extra + (inner_needs key val d xs).unknown); memory = over.memory + (length xs * cost + (inner_needs key val d xs).memory) }) in
         let i = pieces_of_run rest u xs over h (refl, refl) in (
           r ∷ i.0,
           e ∙ ap (λ z. r ++ z) i.1,
-          (u, (x, m, refl, omega (arith, paid.0), omega (arith, paid.1, slots_kept x.parts.known x.bytes (undeclared xs) slot)), subst (λ z. ParsesEach Longer u i.0 (z, over)) (append_assoc s.0 (x ∷ []) xs) i.2),
+          (u, (x, m, refl, omega (arith, paid.0), omega (arith, paid.1, extra_kept x.parts.known x.bytes (undeclared xs) extra)), subst (λ z. ParsesEach Longer u i.0 (z, over)) (append_assoc s.0 (x ∷ []) xs) i.2),
         )
 
     -- what a whole run says, and what is over
     abbrev pub WholeRun : BudgetLeft → List ℕ → Paying → Type 0
-    WholeRun left bs t = Run key val d n bs t.0 × Paid key val d cost slot left t.0 t.1
+    WholeRun left bs t = Run key val d n bs t.0 × Paid key val d cost extra left t.0 t.1
 
     module _ (key_free : key.nested ≡ false → (d : ℕ) (c : Content) → key.cost d c ≡ nothing) (val_free : val.nested ≡ false → (d : ℕ) (c : Content) → val.cost d c ≡ nothing) where
-      next_faulty : (s : Paying) (bs : List ℕ) (f : DecodeError) → Broken s bs f → Answers (Plain key val d) (next_record key val d n cost slot s bs) f
-      next_faulty s bs f h = answers_as (λ x k. rw k refl) (said_faulty cost slot s.1 key_free val_free bs f h)
+      next_faulty : (s : Paying) (bs : List ℕ) (f : DecodeError) → Broken s bs f → Answers (Plain key val d) (next_record key val d n cost extra s bs) f
+      next_faulty s bs f h = answers_as (λ x k. rw k refl) (said_faulty cost extra s.1 key_free val_free bs f h)
 
-      pub run_sound : (left : BudgetLeft) (bs : List ℕ) → Agrees (run_of key val d n cost slot left bs) (WholeRun left bs) (RunFault key val d n cost slot left bs)
-      run_sound left bs = agree_weaker (along_sound Longer (next_record key val d n cost slot) Broken next_sound next_complete (Plain key val d) next_faulty next_some ([], left) bs)
+      pub run_sound : (left : BudgetLeft) (bs : List ℕ) → Agrees (run_of key val d n cost extra left bs) (WholeRun left bs) (RunFault key val d n cost extra left bs)
+      run_sound left bs = agree_weaker (along_sound Longer (next_record key val d n cost extra) Broken next_sound next_complete (Plain key val d) next_faulty next_some ([], left) bs)
           (λ t h. let i = run_of_pieces h.0 ([], left) t h.2 in
-          (subst (λ z. Run key val d n bs z) (sym i.2) (subst (λ z. Run key val d n z i.0) (sym (h.1 ∙ append-nil (join h.0))) i.1), subst (λ z. Paid key val d cost slot left z t.1) (sym i.2) i.3))
+          (subst (λ z. Run key val d n bs z) (sym i.2) (subst (λ z. Run key val d n z i.0) (sym (h.1 ∙ append-nil (join h.0))) i.1), subst (λ z. Paid key val d cost extra left z t.1) (sym i.2) i.3))
           (λ f h. let i = run_of_pieces h.2.0 ([], left) h.0 h.2.2 in
           (i.0, h.1, h.0.1, (join h.2.0, h.2.1, i.1, i.3), h.3, h.4))
 
-      pub run_complete : (left : BudgetLeft) (bs : List ℕ) (es : List (EntryRecord K V)) (over : BudgetLeft) → Run key val d n bs es → Paid key val d cost slot left es over → run_of key val d n cost slot left bs ≡ Ok (es, over)
+      pub run_complete : (left : BudgetLeft) (bs : List ℕ) (es : List (EntryRecord K V)) (over : BudgetLeft) → Run key val d n bs es → Paid key val d cost extra left es over → run_of key val d n cost extra left bs ≡ Ok (es, over)
       run_complete left bs es over h paid =
           let i = pieces_of_run bs ([], left) es over h paid in
-          along_complete Longer (next_record key val d n cost slot) Broken next_sound next_complete (Plain key val d) next_faulty next_some ([], left) (es, over) bs (i.0, i.1 ∙ sym (append-nil (join i.0)), i.2)
+          along_complete Longer (next_record key val d n cost extra) Broken next_sound next_complete (Plain key val d) next_faulty next_some ([], left) (es, over) bs (i.0, i.1 ∙ sym (append-nil (join i.0)), i.2)
 
-      pub run_faulty : (left : BudgetLeft) (bs : List ℕ) (f : DecodeError) → RunFault key val d n cost slot left bs f → Answers (Plain key val d) (run_of key val d n cost slot left bs) f
+      pub run_faulty : (left : BudgetLeft) (bs : List ℕ) (f : DecodeError) → RunFault key val d n cost extra left bs f → Answers (Plain key val d) (run_of key val d n cost extra left bs) f
       run_faulty left bs f (es, rest, over, (front, e, h, paid), some, broken) =
           let i = pieces_of_run front ([], left) es over h paid in
-          along_faulty Longer (next_record key val d n cost slot) Broken next_sound next_complete (Plain key val d) next_faulty next_some ([], left) bs f ((es, over), rest, (i.0, e ∙ ap (λ z. z ++ rest) i.1, i.2), some, broken)
+          along_faulty Longer (next_record key val d n cost extra) Broken next_sound next_complete (Plain key val d) next_faulty next_some ([], left) bs f ((es, over), rest, (i.0, e ∙ ap (λ z. z ++ rest) i.1, i.2), some, broken)
 
 -- what no payload of which is nested costs is the units
 pub inner_free : {K V : Type 0} (key : Reading K) (val : Reading V) (d : ℕ) → (key.nested ≡ false → (d : ℕ) (c : Content) → key.cost d c ≡ nothing) → (val.nested ≡ false → (d : ℕ) (c : Content) → val.cost d c ≡ nothing) →
@@ -359,10 +359,10 @@ inner_needs-last : {K V : Type 0} (key : Reading K) (val : Reading V) (d : ℕ) 
 inner_needs-last key val d [] x = (omega arith, omega arith)
 inner_needs-last key val d (y ∷ xs) x = let i = inner_needs-last key val d xs x in (omega (arith, i.0), omega (arith, i.1))
 
-pub Paid-more : {K V : Type 0} (key : Reading K) (val : Reading V) (d cost slot : ℕ) (a b c : BudgetLeft) (xs : List (EntryRecord K V)) (x : EntryRecord K V) → Paid key val d cost slot a xs b →
-    Pays b (plus (need_of key val d cost x.bytes) (slots (cond x.parts.known 0 slot))) c → Paid key val d cost slot a (xs ++ x ∷ []) c
-Paid-more key val d cost slot a b c xs x h k =
+pub Paid-more : {K V : Type 0} (key : Reading K) (val : Reading V) (d cost extra : ℕ) (a b c : BudgetLeft) (xs : List (EntryRecord K V)) (x : EntryRecord K V) → Paid key val d cost extra a xs b →
+    Pays b (plus (need_of key val d cost x.bytes) (unknown_fields (cond x.parts.known 0 extra))) c → Paid key val d cost extra a (xs ++ x ∷ []) c
+Paid-more key val d cost extra a b c xs x h k =
     let i = inner_needs-last key val d xs x in (
       rw (length-append xs (x ∷ [])) (omega (arith, h.0, k.1, i.0)),
-      rw (undeclared-append xs (x ∷ []), length-append (undeclared xs) (undeclared (x ∷ []))) (omega (arith, h.1, k.0, i.1, slots_kept x.parts.known x.bytes [] slot)),
+      rw (undeclared-append xs (x ∷ []), length-append (undeclared xs) (undeclared (x ∷ []))) (omega (arith, h.1, k.0, i.1, extra_kept x.parts.known x.bytes [] extra)),
     )

@@ -105,8 +105,8 @@ module _ {K V : Type 0} (key : Writing K) (val : Writing V) where
     -- a size that one walk announced, and the encoding of another one
     pub announced : (t n size : ℕ) (m a b : List (K × V)) (old new : List ℕ) → ListsOnce eq m a → ListsOnce eq m b → t ≡ length (tag_encoding n LengthDelimited) →
         size ≡ saturated (field_size key val t a) → new ≡ old ++ field_encoding key val n b → length new < 2 ^ 64 → length new ≡ length old + size
-    announced t n size m a b old new x y tag is text few =
+    announced t n size m a b old new x y tag is encoding few =
         let same : field_size key val t a ≡ length (field_encoding key val n b) =
         one_size t m a b x y ∙ ap (λ z. field_size key val z b) tag ∙ sym (length-field_encoding key val n b) in
-        let whole : length new ≡ length old + length (field_encoding key val n b) = ap length text ∙ length-append old (field_encoding key val n b) in
+        let whole : length new ≡ length old + length (field_encoding key val n b) = ap length encoding ∙ length-append old (field_encoding key val n b) in
         omega (arith, same, whole, is, few)

@@ -9,10 +9,10 @@ use Rattle.buffa_wire.specs.Passes.{IsSized, IsWritten}
 use Rattle.buffa_wire.specs.Records.{Datum, Held}
 use Rattle.buffa_wire.specs.declared.context.DecodeContext.{DecodeContext}
 use Rattle.buffa_map_base.specs.Codec.{Reading, Writing}
-use Rattle.buffa_map_base.specs.Fields.{MergesField, MergesFields}
-use Rattle.buffa_map_base.specs.Lent.{records_in, records_left}
+use Rattle.buffa_map_base.specs.Fields.{MergesEntryField, MergesFields}
+use Rattle.buffa_map_base.specs.Lent.{lent_records, records_left}
 use Rattle.buffa_map_base.specs.Merge.{MergesEntry, MergesWhole, ReadsRun, RefusesEntry, RefusesWhole, Rules, StopsRun, state}
-use Rattle.buffa_map_base.specs.MessageField.{KeepsRoom, UsesRecordRoom}
+use Rattle.buffa_map_base.specs.MessageField.{KeepsMessageRoom, UsesRecordRoom}
 use Rattle.buffa_map_base.specs.Pairs.{ListsOnce}
 use Rattle.buffa_map_base.specs.Parts.{ReadsCut, ReadsParts}
 use Rattle.buffa_map_base.specs.Rewrite.{RewritesRun, WritesWalk}
@@ -29,7 +29,7 @@ Exit D = D × (MutBor BudgetLeft × Unit {0})
 module _ {K V P B D : Type 0} (key : Reading K) (val : Reading V) (ctx : DecodeContext) (left : Exit D) (says : P → MapEntry K V) (unread : B → List ℕ) where
   abbrev pub MergesFieldIn : P → P → B → B → Type 0
   MergesFieldIn old new before after =
-      MergesField key val ctx.depth (says old) ctx.budget.now (unread before) (says new) (budget_left left) (unread after)
+      MergesEntryField key val ctx.depth (says old) ctx.budget.now (unread before) (says new) (budget_left left) (unread after)
 
   abbrev pub MergesFieldsIn : B → P → Type 0
   MergesFieldsIn before parts = MergesFields key val ctx.depth (unread before) ctx.budget.now (says parts) (budget_left left)
@@ -76,16 +76,16 @@ module _ {K V M D : Type 0} (r : Reader K V M) (n : ℕ) (old new : M) (entry : 
 module _ {K V M B D : Type 0} (r : Option (MutBor Held) → Reader K V M) (n : ℕ) (old new : M) (unread : B → List ℕ) (before after : B) (ctx : DecodeContext) (left : Exit D)
     (lent : Option (MutBor Held)) (list : Unit {0} ⊎ ((MutBor Held × Unit {0}) ⊎ ⊥)) where
   abbrev pub MergesEntryLent : Type 0
-  MergesEntryLent = MergesEntryIn (r lent) n old new unread before after ctx left (records_in lent) (records_left list)
+  MergesEntryLent = MergesEntryIn (r lent) n old new unread before after ctx left (lent_records lent) (records_left list)
 
   abbrev pub RefusesEntryLent : DecodeError → Type 0
-  RefusesEntryLent f = RefusesEntryIn (r lent) n old new unread before after ctx left (records_in lent) (records_left list) f
+  RefusesEntryLent f = RefusesEntryIn (r lent) n old new unread before after ctx left (lent_records lent) (records_left list) f
 
   abbrev pub ReadsRunLent : Type 0
-  ReadsRunLent = ReadsRunIn (r lent) n old new unread before after ctx left (records_in lent) (records_left list)
+  ReadsRunLent = ReadsRunIn (r lent) n old new unread before after ctx left (lent_records lent) (records_left list)
 
   abbrev pub StopsRunLent : DecodeError → Type 0
-  StopsRunLent f = StopsRunIn (r lent) n old new unread before after ctx left (records_in lent) (records_left list) f
+  StopsRunLent f = StopsRunIn (r lent) n old new unread before after ctx left (lent_records lent) (records_left list) f
 
 -- ---- functions that merge, size and write messages, whose values mean so
 
@@ -110,7 +110,7 @@ WritesMessages {M} {V} {S} Gives P meaning encoding slots written =
 -- where such a function keeps room, so does the record of the pair
 abbrev pub KeepsRecordRoom : {K M V S : Type 0} → (Bor M → MutBor Cache → MutBor S → Result (Unit {0}) EncodeError → MutBor Cache → MutBor S → Type 0) → (M → V) → (S → ℕ) → Writing K → (V → List ℕ) → ℕ → K × V → Result (Unit {0}) EncodeError → S → S → Type 0
 KeepsRecordRoom Gives meaning room key encoding n p r old new =
-    KeepsRoom Gives (λ v. encoding (meaning v)) room → UsesRecordRoom key encoding n p r (room old) (room new)
+    KeepsMessageRoom Gives (λ v. encoding (meaning v)) room → UsesRecordRoom key encoding n p r (room old) (room new)
 
 -- ---- a map as a field: its encoding behind what a sink has, by a walk of it
 

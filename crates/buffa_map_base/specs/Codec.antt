@@ -49,8 +49,8 @@ value_at codec d old bs = do
   Ok (v, c.1)
 
 -- where reading the payload at the front takes memory: the codec takes it, a level is left, and a whole payload is there
-abbrev pub TakesMemory : {V : Type 0} → Reading V → ℕ → List ℕ → Type 0
-TakesMemory codec d bs = (codec.takes_memory ≡ true) × (level codec.nested d ≡ Ok tt) × IsOk (content_at codec.wire bs)
+abbrev pub ReadingTakesMemory : {V : Type 0} → Reading V → ℕ → List ℕ → Type 0
+ReadingTakesMemory codec d bs = (codec.takes_memory ≡ true) × (level codec.nested d ≡ Ok tt) × IsOk (content_at codec.wire bs)
 
 -- a level is left, and a whole payload is at the front
 abbrev pub IsWhole : {V : Type 0} → Reading V → ℕ → List ℕ → Type 0
@@ -79,9 +79,9 @@ ValueFault codec d old bs e =
 -- ---- what merging a payload promises, where payloads are nested or not
 
 -- why it refuses, where left is left
-abbrev pub Refuses : {V : Type 0} → Bool → Reading V → ℕ → V → List ℕ → BudgetLeft → DecodeError → Type 0
-Refuses false codec d old bs left e = value_at codec d old bs ≡ Err e
-Refuses true codec d old bs left e = Lacks left (value_need codec d bs) ⊎ ValueFault codec d old bs e
+abbrev pub RefusesValue : {V : Type 0} → Bool → Reading V → ℕ → V → List ℕ → BudgetLeft → DecodeError → Type 0
+RefusesValue false codec d old bs left e = value_at codec d old bs ≡ Err e
+RefusesValue true codec d old bs left e = Lacks left (value_need codec d bs) ⊎ ValueFault codec d old bs e
 
 -- what it spends: nothing; or exactly the need, and on a refusal at most that
 abbrev pub Spends : {T : Type 0} → Bool → Result T DecodeError → BudgetLeft → BudgetLeft → BudgetLeft → Type 0

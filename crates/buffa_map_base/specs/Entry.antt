@@ -1,16 +1,18 @@
 -- Map entries: a join of fields, of which those of number 1 are the key and those of number 2 the value.
 -- Source: the protobuf encoding guide, "Maps".
-use Rattle.std.specs.Prelude.{◌≡◌, ◌≢◌, ℕ, zero, suc, ◌+◌, ◌<◌, ◌≤◌, ◌==◌, Bool, false, true, List, [], ◌∷◌, ◌++◌, length, ◌⊎◌, if◌then◌else◌, Result, Ok}
+use Rattle.std.specs.Prelude.{◌≡◌, ◌≢◌, ℕ, ◌+◌, ◌<◌, ◌≤◌, ◌==◌, Bool, false, true, List, [], ◌∷◌, ◌++◌, length, ◌⊎◌, if◌then◌else◌, Result, Ok}
 use Rattle.buffa_bytes.specs.Gives.{◌>>=◌}
 use Rattle.buffa_bytes.specs.Varint.{IsVarint}
 use Rattle.buffa_bytes.specs.Field.{IsTag, Field, TakesTag, TagFault, LengthFault, PayloadFault}
 use Rattle.buffa_bytes.specs.Content.{Content, HasContent}
 use Rattle.buffa_bytes.specs.Reading.{tag_at, check_wire, skip_at, delimited_at}
+use Rattle.buffa_bytes.specs.Scan.{scan}
 use Rattle.buffa_bytes.specs.WireType.{same_wire}
 use Rattle.buffa_bytes.specs.declared.wire_type.WireType.{WireType}
 use Rattle.buffa_bytes.specs.declared.error.DecodeError.{DecodeError}
 use Rattle.buffa_bytes.specs.declared.error.DecodeError.TheVariants.{ElementMemoryLimitExceeded, UnknownFieldLimitExceeded, WireTypeMismatch}
 use Rattle.buffa_wire.specs.BudgetLeft.{BudgetLeft, Lacks, need_by, nothing, plus, units}
+use Rattle.buffa_wire.specs.ByField.{costs}
 use Rattle.buffa_wire.specs.Sequence.{ParsesTo, ParseStops, parse_all}
 use Rattle.buffa_map_base.specs.Codec.{Reading, ValueFault, level, value_at, value_need}
 use Rattle.buffa_map_base.specs.declared.map_entry.MapEntry.{MapEntry}
@@ -47,15 +49,15 @@ module _ {K V : Type 0} (key : Reading K) (val : Reading V) (d : ℕ) where
 
   -- f is one field of an entry, which takes what was said from s to t: a key field, a value field, or a
   -- field of another number, with groups nested at most d deep
-  abbrev pub IsField : MapEntry K V → List ℕ → MapEntry K V → Type 0
-  IsField s f t =
+  abbrev pub IsEntryField : MapEntry K V → List ℕ → MapEntry K V → Type 0
+  IsEntryField s f t =
       ((k : K) × (known : Bool) × IsCodecField key d 1 s.key f k known × (t ≡ record s { key = k }))
       ⊎ (((v : V) × (known : Bool) × IsCodecField val d 2 s.value f v known × (t ≡ record s { value = v; known = known }))
       ⊎ ((n : ℕ) × (w : WireType) × (n ≢ 1) × (n ≢ 2) × Field d n w f × (t ≡ s)))
 
   -- why no field of an entry begins these bytes, where s was said
-  abbrev pub FieldFault : MapEntry K V → List ℕ → DecodeError → Type 0
-  FieldFault s bs e =
+  abbrev pub EntryFieldFault : MapEntry K V → List ℕ → DecodeError → Type 0
+  EntryFieldFault s bs e =
       TagFault bs e
       ⊎ (((w : WireType) × (rest : List ℕ) × TakesTag bs 1 w rest × CodecFault key d 1 s.key w rest e)
       ⊎ (((w : WireType) × (rest : List ℕ) × TakesTag bs 2 w rest × CodecFault val d 2 s.value w rest e)
@@ -63,11 +65,11 @@ module _ {K V : Type 0} (key : Reading K) (val : Reading V) (d : ℕ) where
 
   -- e is a join of fields, which take the blanks to s
   abbrev pub IsEntry : List ℕ → MapEntry K V → Type 0
-  IsEntry e s = ParsesTo IsField blanks e s []
+  IsEntry e s = ParsesTo IsEntryField blanks e s []
 
   -- f is the first fault of what follows the fields that begin e
   abbrev pub FaultOf : List ℕ → DecodeError → Type 0
-  FaultOf e f = ParseStops IsField FieldFault blanks e f
+  FaultOf e f = ParseStops IsEntryField EntryFieldFault blanks e f
 
   -- a length and the entry e, which says s, begin the bytes, and rest follows
   abbrev pub EntryOf : List ℕ → List ℕ → MapEntry K V → List ℕ → Type 0
@@ -77,15 +79,15 @@ module _ {K V : Type 0} (key : Reading K) (val : Reading V) (d : ℕ) where
   EntryAt bs s rest = (e : List ℕ) × EntryOf bs e s rest
 
   -- the readings: of the field at the front, and of a whole entry
-  abbrev pub field_at : MapEntry K V → List ℕ → Result (MapEntry K V × List ℕ) DecodeError
-  field_at s bs = do
+  abbrev pub entry_field_at : MapEntry K V → List ℕ → Result (MapEntry K V × List ℕ) DecodeError
+  entry_field_at s bs = do
     t ← tag_at bs
     if t.0 == 1 then (codec_at key d 1 s.key t.1 t.2 >>= (λ v. Ok (record s { key = v.0.0 }, v.1)))
         else (if t.0 == 2 then (codec_at val d 2 s.value t.1 t.2 >>= (λ v. Ok (record s { value = v.0.0; known = v.0.1 }, v.1)))
         else (skip_at d t.0 t.1 t.2 >>= (λ rest. Ok (s, rest))))
 
   abbrev pub entry_of : List ℕ → Result (MapEntry K V) DecodeError
-  entry_of e = parse_all field_at blanks e
+  entry_of e = parse_all entry_field_at blanks e
 
   -- ---- what an entry needs
 
@@ -94,15 +96,9 @@ module _ {K V : Type 0} (key : Reading K) (val : Reading V) (d : ℕ) where
   field_need bs = need_by (tag_at bs) (λ t.
       if t.0 == 1 then codec_need key d t.1 t.2 else (if t.0 == 2 then codec_need val d t.1 t.2 else nothing))
 
-  -- What fields cost, where s was said, up to the first that isn't merged, which counts too. Each field has a byte
-  -- at least, so the bytes bound the steps.
-  unfoldable pub need_within : ℕ → MapEntry K V → List ℕ → BudgetLeft
-  need_within k s [] = nothing
-  need_within zero s (b ∷ bs) = nothing
-  need_within (suc k) s (b ∷ bs) = plus (field_need (b ∷ bs)) (need_by (field_at s (b ∷ bs)) (λ x. need_within k x.0 x.1))
-
+  -- what fields cost, where s was said, up to the first that isn't merged, which counts too
   unfoldable pub need_at : MapEntry K V → List ℕ → BudgetLeft
-  need_at s bs = need_within (length bs) s bs
+  need_at s bs = scan (λ t rest. costs (field_need rest) (entry_field_at t rest)) nothing s bs
 
   -- What an entry needs, a malformed one too: so many units, and what the messages cost that are merged in it.
   abbrev pub need_of : ℕ → List ℕ → BudgetLeft
@@ -113,12 +109,12 @@ module _ {K V : Type 0} (key : Reading K) (val : Reading V) (d : ℕ) where
   -- of the fields; of the unknown fields left. Where what the messages cost isn't left, a message may be refused with
   -- any error.
   abbrev pub EntryFault : ℕ → ℕ → BudgetLeft → List ℕ → DecodeError → Type 0
-  EntryFault cost slot left bs f =
+  EntryFault cost extra left bs f =
       LengthFault bs f
       ⊎ ((t : List ℕ) × (e : List ℕ) × (rest : List ℕ) × IsVarint t (length e) × (bs ≡ t ++ (e ++ rest))
       × (((left.memory < cost) × (f ≡ ElementMemoryLimitExceeded))
       ⊎ ((cost ≤ left.memory) × (Lacks left (need_of cost e) ⊎ (FaultOf e f
-      ⊎ ((s : MapEntry K V) × IsEntry e s × (s.known ≡ false) × (left.unknown < (need_of cost e).unknown + slot) × (f ≡ UnknownFieldLimitExceeded)))))))
+      ⊎ ((s : MapEntry K V) × IsEntry e s × (s.known ≡ false) × (left.unknown < (need_of cost e).unknown + extra) × (f ≡ UnknownFieldLimitExceeded)))))))
 
   -- what the length and the entry at the front need beyond the units, if they are there
   abbrev pub inner_need : List ℕ → BudgetLeft

@@ -11,11 +11,11 @@ records_left (inr (inl s)) = s.0.now.records
 records_left (inr (inr s)) = []
 
 -- the records of the list at the call, none where no list was lent
-abbrev pub records_in : Option (MutBor Held) → List (ℕ × Datum)
-records_in None = []
-records_in (Some list) = list.now.records
+abbrev pub lent_records : Option (MutBor Held) → List (ℕ × Datum)
+lent_records None = []
+lent_records (Some list) = list.now.records
 
--- the records of a list, and those that it has room for
+-- how many records a list has, and has room for
 abbrev pub room_of : Held → ℕ
 room_of list = length list.records + list.spare
 

@@ -6,13 +6,13 @@ use Rattle.buffa_bytes.specs.Left.{past_no_tag, past_no_delimited}
 use Rattle.buffa_bytes.specs.Unread.{IsTailOf}
 use Rattle.buffa_bytes.specs.declared.wire_type.WireType.{WireType}
 use Rattle.buffa_bytes.specs.Field.{TakesDelimited}
-use Rattle.buffa_wire.specs.BudgetLeft.{BudgetLeft, Pays, plus, slots}
+use Rattle.buffa_wire.specs.BudgetLeft.{BudgetLeft, Pays, plus, unknown_fields}
 use Rattle.buffa_bytes.specs.Reading.{delimited_at, tag_at}
 use Rattle.buffa_wire.specs.Records.{Datum, bytes}
 use Rattle.buffa_bytes.specs.declared.wire_type.WireType.TheVariants.{LengthDelimited}
 use Rattle.buffa_map_base.specs.Codec.{Reading}
 use Rattle.buffa_map_base.specs.Entry.{EntryFault, EntryOf, IsEntry, inner_need, need_of}
-use Rattle.buffa_map_base.specs.Fields.{FieldsTakeMemory}
+use Rattle.buffa_map_base.specs.Fields.{EntryFieldsTakeMemory}
 use Rattle.buffa_map_base.specs.Pairs.{InOrder, SamePairs}
 use Rattle.buffa_map_base.specs.Run.{fold_entries, Paid, RecordFault, Run, RunBegins, EntryRecord, added, record_need, step}
 use Rattle.buffa_map_base.specs.declared.map_entry.MapEntry.{MapEntry}
@@ -36,12 +36,12 @@ pub record Rules (K V : Type 0) : Type 0 where
   pub depth : ℕ
   pub number : ℕ
   pub cost : ℕ
-  pub slot : ℕ
+  pub extra : ℕ
   pub adds : ℕ → List ℕ → List (ℕ × Datum)
 
 abbrev pub rules : {K V : Type 0} → Reading K → Reading V → (K → K → Bool) → Bool → ℕ → ℕ → ℕ → ℕ → (ℕ → List ℕ → List (ℕ × Datum)) → Rules K V
-rules key val same ordered depth number cost slot adds =
-    record { key = key; val = val; same = same; keeps_order = ordered; depth = depth; number = number; cost = cost; slot = slot; adds = adds }
+rules key val same ordered depth number cost extra adds =
+    record { key = key; val = val; same = same; keeps_order = ordered; depth = depth; number = number; cost = cost; extra = extra; adds = adds }
 
 -- entries with an undeclared value are dropped
 abbrev pub dropping : {K V : Type 0} → Reading K → Reading V → (K → K → Bool) → Bool → ℕ → ℕ → ℕ → Rules K V
@@ -64,11 +64,11 @@ pub record MergesEntry {K V : Type 0} (r : Rules K V) (old : State K V) (bytes :
   pub put : SamePairs r.same (step r.same old.pairs says) new.pairs
   pub order : InOrder r.keeps_order (step r.same old.pairs says) new.pairs
   pub keeps : new.records ≡ old.records ++ cond says.known [] (r.adds r.number entry)
-  pub pays : Pays old.left (plus (need_of r.key r.val r.depth r.cost entry) (slots (cond says.known 0 r.slot))) new.left
+  pub pays : Pays old.left (plus (need_of r.key r.val r.depth r.cost entry) (unknown_fields (cond says.known 0 r.extra))) new.left
 
 -- what keeping an entry takes is left: an unknown field, behind what its fields cost
 abbrev pub HasUnknownLeft : {K V : Type 0} → Rules K V → BudgetLeft → List ℕ → Type 0
-HasUnknownLeft r left e = (r.slot ≢ 0) × ((need_of r.key r.val r.depth r.cost e).unknown + r.slot ≤ left.unknown)
+HasUnknownLeft r left e = (r.extra ≢ 0) × ((need_of r.key r.val r.depth r.cost e).unknown + r.extra ≤ left.unknown)
 
 -- Where merging an entry takes memory, of which f is told: its length and so many bytes are there; these are copied,
 -- if an entry may be undeclared and is kept then; or its units are left, and a field takes memory, or the whole entry is
@@ -76,8 +76,8 @@ HasUnknownLeft r left e = (r.slot ≢ 0) × ((need_of r.key r.val r.depth r.cost
 abbrev pub EntryTakesMemory : {K V : Type 0} → Rules K V → BudgetLeft → List ℕ → DecodeError → Type 0
 EntryTakesMemory {K} {V} r left bs f =
     (e : List ℕ) × (rest : List ℕ) × (delimited_at bs ≡ Ok (e, rest))
-    × (((r.slot ≢ 0) × (r.val.undeclared ≡ true) × (e ≢ []))
-    ⊎ ((r.cost ≤ left.memory) × (FieldsTakeMemory r.key r.val r.depth e f
+    × (((r.extra ≢ 0) × (r.val.undeclared ≡ true) × (e ≢ []))
+    ⊎ ((r.cost ≤ left.memory) × (EntryFieldsTakeMemory r.key r.val r.depth e f
     ⊎ ((s : MapEntry K V) × IsEntry r.key r.val r.depth e s × ((s.known ≡ true) ⊎ HasUnknownLeft r left e)))))
 
 -- f is why not, and out of memory only where merging the entry takes memory; map and records stand. What is
@@ -86,7 +86,7 @@ EntryTakesMemory {K} {V} r left bs f =
 -- it takes and what the messages in it cost are gone; the cost is gone where the entry was there and had a fault; the
 -- unknown field is not, where f is a fault; nothing is, where no length and so many bytes were there.
 pub record RefusesEntry {K V : Type 0} (r : Rules K V) (old : State K V) (bytes : List ℕ) (new : State K V) (unread : List ℕ) (f : DecodeError) : Type 0 where
-  pub fault : f ≢ OutOfMemory → EntryFault r.key r.val r.depth r.cost r.slot old.left bytes f
+  pub fault : f ≢ OutOfMemory → EntryFault r.key r.val r.depth r.cost r.extra old.left bytes f
   pub memory : f ≡ OutOfMemory → EntryTakesMemory r old.left bytes f
   pub tail : IsTailOf unread bytes
   pub past : f ≢ OutOfMemory → (e rest : List ℕ) → TakesDelimited bytes e rest → unread ≡ rest
@@ -100,7 +100,7 @@ pub record RefusesEntry {K V : Type 0} (r : Rules K V) (old : State K V) (bytes 
   pub charged : f ≢ OutOfMemory → (e rest : List ℕ) → TakesDelimited bytes e rest → r.cost ≤ old.left.memory → new.left.memory + r.cost ≤ old.left.memory
   pub unspent : (IsOk (delimited_at bytes) → ⊥) → new.left ≡ old.left
   pub most : new.left.unknown ≤ old.left.unknown
-  pub least : old.left.unknown ≤ new.left.unknown + (r.slot + (inner_need r.key r.val r.depth bytes).unknown)
+  pub least : old.left.unknown ≤ new.left.unknown + (r.extra + (inner_need r.key r.val r.depth bytes).unknown)
   pub no_unknown : f ≢ OutOfMemory → old.left.unknown ≤ new.left.unknown + (inner_need r.key r.val r.depth bytes).unknown
 
 -- the entry was merged, or refused, whatever bytes it begins behind its length
@@ -121,7 +121,7 @@ pub record ReadsRun {K V : Type 0} (r : Rules K V) (old : State K V) (bytes : Li
   pub folded : SamePairs r.same (fold_entries r.same old.pairs entries) new.pairs
   pub order : InOrder r.keeps_order (fold_entries r.same old.pairs entries) new.pairs
   pub keeps : new.records ≡ old.records ++ added r.adds r.number entries
-  pub paid : Paid r.key r.val r.depth r.cost r.slot old.left entries new.left
+  pub paid : Paid r.key r.val r.depth r.cost r.extra old.left entries new.left
   pub whole : rest ≡ []
 
 -- The records of some entries begin the bytes, and were read; f is why what follows them wasn't, and out of memory only
@@ -134,7 +134,7 @@ pub record StopsRun {K V : Type 0} (r : Rules K V) (old : State K V) (bytes : Li
   pub entries : List (EntryRecord K V)
   pub rest : List ℕ
   pub over : BudgetLeft
-  pub begins : RunBegins r.key r.val r.depth r.number r.cost r.slot old.left bytes entries rest over
+  pub begins : RunBegins r.key r.val r.depth r.number r.cost r.extra old.left bytes entries rest over
   pub folded : SamePairs r.same (fold_entries r.same old.pairs entries) new.pairs
   pub order : InOrder r.keeps_order (fold_entries r.same old.pairs entries) new.pairs
   pub keeps : new.records ≡ old.records ++ added r.adds r.number entries
@@ -143,8 +143,8 @@ pub record StopsRun {K V : Type 0} (r : Rules K V) (old : State K V) (bytes : Li
       ⊎ ((new.left.memory + r.cost ≤ over.memory)
       × (over.memory ≤ new.left.memory + (r.cost + (record_need r.key r.val r.depth rest).memory)))
   pub most : new.left.unknown ≤ over.unknown
-  pub one_unknown : over.unknown ≤ new.left.unknown + (r.slot + (record_need r.key r.val r.depth rest).unknown)
-  pub fault : f ≢ OutOfMemory → RecordFault r.key r.val r.depth r.number r.cost r.slot over rest f
+  pub one_unknown : over.unknown ≤ new.left.unknown + (r.extra + (record_need r.key r.val r.depth rest).unknown)
+  pub fault : f ≢ OutOfMemory → RecordFault r.key r.val r.depth r.number r.cost r.extra over rest f
   pub memory : f ≡ OutOfMemory → (mid : List ℕ) × (tag_at rest ≡ Ok (r.number, LengthDelimited, mid)) × EntryTakesMemory r over mid f
   pub unspent : (HasRecord r.number rest → ⊥) → new.left ≡ over
   pub charged : f ≢ OutOfMemory → (mid e after : List ℕ) → tag_at rest ≡ Ok (r.number, LengthDelimited, mid) → TakesDelimited mid e after → r.cost ≤ over.memory → new.left.memory + r.cost ≤ over.memory

@@ -68,5 +68,5 @@ module _ {K M : Type 0} (key : Writing K) (encoding : M → List ℕ) where
   IsRecordWritten slots n p old before r new after = WritesIf (IsSmallPair p) (record_encoding key (delimited_writing encoding) n p) (cap (length (encoding p.1)) ∷ slots p.1) old before r new after
 
 -- a function that writes messages writes those that fit, and takes no more room than they have bytes
-abbrev pub KeepsRoom : {A C S : Type 0} → (Bor A → MutBor C → MutBor S → Result (Unit {0}) EncodeError → MutBor C → MutBor S → Type 0) → (A → List ℕ) → (S → ℕ) → Type 0
-KeepsRoom {A} {C} {S} Gives encoding room = (x : Bor A) (c : MutBor C) (s : MutBor S) (r : Result (Unit {0}) EncodeError) (d : MutBor C) (t : MutBor S) → Gives x c s r d t → UsesRoom r (room s.now) (encoding x.now) (room t.now)
+abbrev pub KeepsMessageRoom : {A C S : Type 0} → (Bor A → MutBor C → MutBor S → Result (Unit {0}) EncodeError → MutBor C → MutBor S → Type 0) → (A → List ℕ) → (S → ℕ) → Type 0
+KeepsMessageRoom {A} {C} {S} Gives encoding room = (x : Bor A) (c : MutBor C) (s : MutBor S) (r : Result (Unit {0}) EncodeError) (d : MutBor C) (t : MutBor S) → Gives x c s r d t → UsesRoom r (room s.now) (encoding x.now) (room t.now)

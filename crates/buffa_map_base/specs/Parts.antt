@@ -5,7 +5,7 @@ use Rattle.buffa_bytes.specs.declared.error.DecodeError.TheVariants.{ElementMemo
 use Rattle.buffa_wire.specs.BudgetLeft.{BudgetLeft, Lacks, Pays}
 use Rattle.buffa_map_base.specs.Codec.{Reading}
 use Rattle.buffa_map_base.specs.Entry.{FaultOf, IsEntry, need_of}
-use Rattle.buffa_map_base.specs.Fields.{FieldsTakeMemory}
+use Rattle.buffa_map_base.specs.Fields.{EntryFieldsTakeMemory}
 use Rattle.buffa_map_base.specs.declared.map_entry.MapEntry.{MapEntry}
 
 module _ {K V : Type 0} (key : Reading K) (val : Reading V) (d cost : ℕ) where
@@ -20,7 +20,7 @@ module _ {K V : Type 0} (key : Reading K) (val : Reading V) (d cost : ℕ) where
     pub fault : f ≢ OutOfMemory → ((left.memory < cost) × (f ≡ ElementMemoryLimitExceeded))
         ⊎ ((cost ≤ left.memory) × (Lacks left (need_of key val d cost e) ⊎ FaultOf key val d e f))
     pub memory : f ≡ OutOfMemory → (cost ≤ left.memory)
-        × (FieldsTakeMemory key val d e f ⊎ ((s : MapEntry K V) × IsEntry key val d e s × (s.known ≡ true)))
+        × (EntryFieldsTakeMemory key val d e f ⊎ ((s : MapEntry K V) × IsEntry key val d e s × (s.known ≡ true)))
     pub units : (over.memory ≡ left.memory)
         ⊎ ((over.memory + cost ≤ left.memory) × (left.memory ≤ over.memory + (need_of key val d cost e).memory))
     pub charged : cost ≤ left.memory → over.memory + cost ≤ left.memory

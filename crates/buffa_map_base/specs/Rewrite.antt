@@ -86,7 +86,7 @@ module _ {K V : Type 0} (key : Writing K) (val : Writing V) (n : ℕ) (kept : Li
 pub record WritesWalk {K V : Type 0} (eq : K → K → Bool) (Walks : List (K × V) → Type 0) (key : Writing K) (val : Writing V) (KeyFits : K → Type 0) (ValFits : V → Type 0) (n : ℕ) (pairs : List (K × V)) (kept : List (ℕ × Datum)) (old : List ℕ) (before : ℕ) {T : Type 0} (r : Result T EncodeError) (new : List ℕ) (after : ℕ) : Type 0 where
   pub walk : List (K × V)
   pub once : ListsOnce eq pairs walk
-  pub text : WritesRewrite key val n kept old new r walk
+  pub encoding : WritesRewrite key val n kept old new r walk
   pub fits : OnOk r (AllHold KeyFits ValFits walk)
   pub room : UsesRoomOf r before (field_encoding key val n walk ++ records_encoding kept) after
   pub walks : Walks walk
@@ -102,10 +102,10 @@ pub record RewritesRun {K V : Type 0} (r : Rules K V) (key : Writing K) (val : W
   pub order : InOrder r.keeps_order (fold_entries r.same [] entries) new
   pub rewrite : IsRewrite r.same key val KeyFits ValFits r.number entries out
   pub walks : Walks rewrite.0
-  pub text : written ≡ old ++ out
+  pub encoding : written ≡ old ++ out
   pub ordered : r.keeps_order ≡ true → out ≡ field_encoding key val r.number (fold_entries r.same [] entries) ++ records_encoding (undeclared_records r.number entries)
   pub room : before ≤ after + length out
-  pub paid : Paid r.key r.val r.depth r.cost r.slot left entries over
+  pub paid : Paid r.key r.val r.depth r.cost r.extra left entries over
   pub whole : rest ≡ []
 
 -- f is why the bytes were refused; the entries before it stand in the map, and nothing was written
@@ -123,7 +123,7 @@ pub record RefusesOutput {K V : Type 0} (r : Rules K V) (key : Writing K) (val :
   pub once : ListsOnce r.same (fold_entries r.same [] entries) walk
   pub walked : InOrder r.keeps_order (fold_entries r.same [] entries) walk
   pub walks : Walks walk
-  pub text : RefusesRewrite key val r.number (undeclared_records r.number entries) old written walk e
+  pub encoding : RefusesRewrite key val r.number (undeclared_records r.number entries) old written walk e
   pub room : e ≡ OutOfMemory → before < length (field_encoding key val r.number walk ++ records_encoding (undeclared_records r.number entries))
-  pub paid : Paid r.key r.val r.depth r.cost r.slot left entries over
+  pub paid : Paid r.key r.val r.depth r.cost r.extra left entries over
   pub whole : rest ≡ []

@@ -56,9 +56,9 @@ module _ {K V : Type 0} (key : Reading K) (val : Reading V) (d : ℕ) where
   -- over is over of left after these entries, each of which costs some units of element memory and what the
   -- messages in it cost, and each one that is undeclared some of the unknown fields left
   abbrev pub Paid : ℕ → ℕ → BudgetLeft → List (EntryRecord K V) → BudgetLeft → Type 0
-  Paid cost slot left es over =
+  Paid cost extra left es over =
       (over.memory + (length es * cost + (inner_needs es).memory) ≡ left.memory)
-      × (over.unknown + (length (undeclared es) * slot + (inner_needs es).unknown) ≡ left.unknown)
+      × (over.unknown + (length (undeclared es) * extra + (inner_needs es).unknown) ≡ left.unknown)
 
   -- what the messages cost that are merged in the record at the front, if a tag, a length and an entry are there
   abbrev pub record_need : List ℕ → BudgetLeft
@@ -67,17 +67,17 @@ module _ {K V : Type 0} (key : Reading K) (val : Reading V) (d : ℕ) where
   -- What an entry that is paid says. Where a fault inside a message isn't named, or what the messages cost isn't left,
   -- the error stands for any that may be told.
   abbrev pub entry_in : ℕ → ℕ → BudgetLeft → List ℕ → Result (MapEntry K V) DecodeError
-  entry_in cost slot left e =
+  entry_in cost extra left e =
       let need : BudgetLeft = need_of key val d cost e in
       if lacks left need then Err ElementMemoryLimitExceeded else (do
         s ← entry_of key val d e
-        if not s.known && nat_lt left.unknown (need.unknown + slot) then Err UnknownFieldLimitExceeded else Ok s)
+        if not s.known && nat_lt left.unknown (need.unknown + extra) then Err UnknownFieldLimitExceeded else Ok s)
 
   -- what is left after it
   abbrev pub after_entry : ℕ → ℕ → BudgetLeft → EntryRecord K V → BudgetLeft
-  after_entry cost slot left x =
+  after_entry cost extra left x =
       let need : BudgetLeft = need_of key val d cost x.bytes in
-      record { unknown = left.unknown - (need.unknown + cond x.parts.known 0 slot); memory = left.memory - need.memory }
+      record { unknown = left.unknown - (need.unknown + cond x.parts.known 0 extra); memory = left.memory - need.memory }
 
 module _ {K V : Type 0} (key : Reading K) (val : Reading V) (d n : ℕ) where
   -- r is a tag of number n, a length, and the entry x of that length
@@ -94,36 +94,36 @@ module _ {K V : Type 0} (key : Reading K) (val : Reading V) (d n : ℕ) where
   -- f is why no record begins these bytes, in this order: the tag's fault, another number, another wire
   -- type, the fault of the length and the entry
   abbrev pub RecordFault : ℕ → ℕ → BudgetLeft → List ℕ → DecodeError → Type 0
-  RecordFault cost slot left bs f =
+  RecordFault cost extra left bs f =
       TagFault bs f
       ⊎ (((g : ℕ) × (w : WireType) × (rest : List ℕ) × TakesTag bs g w rest × (g ≢ n) × (f ≡ UnexpectedField g))
       ⊎ (((w : WireType) × (rest : List ℕ) × TakesTag bs n w rest × (w ≢ LengthDelimited) × (f ≡ WireTypeMismatch n LengthDelimited w))
-      ⊎ ((rest : List ℕ) × TakesTag bs n LengthDelimited rest × EntryFault key val d cost slot left rest f)))
+      ⊎ ((rest : List ℕ) × TakesTag bs n LengthDelimited rest × EntryFault key val d cost extra left rest f)))
 
   -- records of the entries es begin the bytes, rest follows, and they are paid
   abbrev pub RunBegins : ℕ → ℕ → BudgetLeft → List ℕ → List (EntryRecord K V) → List ℕ → BudgetLeft → Type 0
-  RunBegins cost slot left bs es rest over = (front : List ℕ) × (bs ≡ front ++ rest) × Run front es × Paid key val d cost slot left es over
+  RunBegins cost extra left bs es rest over = (front : List ℕ) × (bs ≡ front ++ rest) × Run front es × Paid key val d cost extra left es over
 
   -- after the records of some entries, f is the first fault of what is left
   abbrev pub RunFault : ℕ → ℕ → BudgetLeft → List ℕ → DecodeError → Type 0
-  RunFault cost slot left bs f =
-      (es : List (EntryRecord K V)) × (rest : List ℕ) × (over : BudgetLeft) × RunBegins cost slot left bs es rest over × (rest ≢ []) × RecordFault cost slot over rest f
+  RunFault cost extra left bs f =
+      (es : List (EntryRecord K V)) × (rest : List ℕ) × (over : BudgetLeft) × RunBegins cost extra left bs es rest over × (rest ≢ []) × RecordFault cost extra over rest f
 
   -- the readings: of the record at the front, and of a whole run, which answers the entries and what is over
   abbrev pub record_at : ℕ → ℕ → BudgetLeft → List ℕ → Result (EntryRecord K V × List ℕ) DecodeError
-  record_at cost slot left bs = do
+  record_at cost extra left bs = do
     t ← tag_at bs
     if t.0 == n then (do
       _ ← check_wire n LengthDelimited t.1
       e ← delimited_at t.2
-      s ← entry_in key val d cost slot left e.0
+      s ← entry_in key val d cost extra left e.0
       Ok (record { bytes = e.0; parts = s }, e.1)) else Err (UnexpectedField t.0)
 
   abbrev pub next_record : ℕ → ℕ → List (EntryRecord K V) × BudgetLeft → List ℕ → Result ((List (EntryRecord K V) × BudgetLeft) × List ℕ) DecodeError
-  next_record cost slot s bs = record_at cost slot s.1 bs >>= (λ x. Ok ((s.0 ++ x.0 ∷ [], after_entry key val d cost slot s.1 x.0), x.1))
+  next_record cost extra s bs = record_at cost extra s.1 bs >>= (λ x. Ok ((s.0 ++ x.0 ∷ [], after_entry key val d cost extra s.1 x.0), x.1))
 
   abbrev pub run_of : ℕ → ℕ → BudgetLeft → List ℕ → Result (List (EntryRecord K V) × BudgetLeft) DecodeError
-  run_of cost slot left bs = parse_all (next_record cost slot) ([], left) bs
+  run_of cost extra left bs = parse_all (next_record cost extra) ([], left) bs
 
 module _ {K V : Type 0} (eq : K → K → Bool) where
   -- the pairs after an entry that said s: a declared one is put

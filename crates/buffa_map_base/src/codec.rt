@@ -11,7 +11,7 @@ ghost use Rattle.buffa_wire.specs.BudgetLeft.{budget_left, nothing};
 ghost use Rattle.buffa_wire.specs.Message.{IsLimit};
 ghost use Rattle.buffa_bytes.specs.Written.{UsesRoom, Writes};
 ghost use Rattle.buffa_bytes.specs.declared.error.DecodeError.{DecodeError};
-ghost use Rattle.buffa_map_base.specs.Codec.{AlwaysDeclared, HoldsNothing, IsWhole, Reading, Refuses, Spends, TakesMemory, Writing, is_known, level, value_at, value_need};
+ghost use Rattle.buffa_map_base.specs.Codec.{AlwaysDeclared, HoldsNothing, IsWhole, Reading, RefusesValue, Spends, ReadingTakesMemory, Writing, is_known, level, value_at, value_need};
 
 use buffa_wire::{Blank, Buf, DecodeContext, DecodeError, EncodeError, EncodeSink, WireType};
 use std::alloc::Global;
@@ -84,9 +84,9 @@ pub trait MapValueDecode: sealed::Sealed {
         ensures ok { IfOk result (λ s. value_at reading ctx.entry.depth (Self.Value.meaning value.old)
             (B.unread buf.old) ≡ Ok ((Self.Value.meaning value.new, is_known s), B.unread buf.new)) }
         ensures fault { IfErr result (λ e. e ≢ OutOfMemory →
-            Refuses reading.nested reading ctx.entry.depth (Self.Value.meaning value.old) (B.unread buf.old)
+            RefusesValue reading.nested reading ctx.entry.depth (Self.Value.meaning value.old) (B.unread buf.old)
             ctx.entry.budget.now e) }
-        ensures full { FullOnlyIf result (TakesMemory reading ctx.entry.depth (B.unread buf.old)) }
+        ensures full { FullOnlyIf result (ReadingTakesMemory reading ctx.entry.depth (B.unread buf.old)) }
         ensures err { OnErr result (reading.nested ≡ false → Self.Value.meaning value.new
             ≡ Self.Value.meaning value.old) }
         ensures outside { OnErr result ((IsWhole reading ctx.entry.depth (B.unread buf.old) → ⊥) →

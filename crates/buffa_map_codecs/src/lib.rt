@@ -1,4 +1,4 @@
-//! Map fields: the codecs of scalars, strings, bytes, enums and messages.
+//! Map fields: the codecs of strings, bytes, enums and messages; those of scalars are handed on.
 #![tactic(auto)]
 
 pub mod message;

@@ -1,4 +1,4 @@
-//! The codecs of scalars, strings and bytes.
+//! The codecs of strings, bytes and enums, and the names of those of scalars.
 //!
 //! | Codec | Value | Wire type | Bytes of the payload | Units of element memory |
 //! |---|---|---|---|---|
@@ -13,7 +13,8 @@
 //! | [`ClosedEnum`] | a type that is an [`Enumeration`](buffa_wire::Enumeration) | varint | as `Int32` | 4 |
 //! | [`OpenEnum`] | [`EnumValue`](buffa_wire::EnumValue) of it | varint | as `Int32` | 8 |
 //!
-//! Each of them replaces the value that stood, and leaves it where a payload is refused.
+//! Each of them replaces the value that stood, and leaves it where a payload is refused; a closed enum also where it
+//! declares no such value.
 //! Source: the protobuf encoding guide, "Message Structure".
 
 mod delimited;

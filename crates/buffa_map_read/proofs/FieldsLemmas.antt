@@ -8,9 +8,9 @@ use Rattle.buffa_bytes.specs.Content.{Content}
 use Rattle.buffa_wire.specs.BudgetLeft.{BudgetLeft, Pays, PaysAtMost, nothing}
 use Rattle.buffa_bytes.specs.Reading.{check_wire, skip_at, tag_at}
 use Rattle.buffa_wire.specs.Sequence.{ParsesTo}
-use Rattle.buffa_map_base.specs.Codec.{Reading, Refuses, Spends, TakesMemory, is_known, value_at, value_need}
-use Rattle.buffa_map_base.specs.Entry.{FieldFault, IsField, blanks, need_at}
-use Rattle.buffa_map_base.specs.Fields.{FieldTakesMemory, MergesField, MergesFields, RefusesField, RefusesFields}
+use Rattle.buffa_map_base.specs.Codec.{Reading, RefusesValue, Spends, ReadingTakesMemory, is_known, value_at, value_need}
+use Rattle.buffa_map_base.specs.Entry.{EntryFieldFault, IsEntryField, blanks, need_at}
+use Rattle.buffa_map_base.specs.Fields.{EntryFieldTakesMemory, MergesEntryField, MergesFields, RefusesEntryField, RefusesFields}
 use Rattle.buffa_map_base.specs.declared.codec.MapValueDecodeStatus.{MapValueDecodeStatus}
 use Rattle.buffa_map_base.specs.declared.codec.MapValueDecodeStatus.TheVariants.{Known, Unknown}
 use Rattle.buffa_map_base.specs.declared.map_entry.MapEntry.{MapEntry}
@@ -20,10 +20,10 @@ use Rattle.buffa_map_base.proofs.NeedLemmas.{checked, field_broken, fields_fault
 
 module _ {K V : Type 0} (key : Reading K) (val : Reading V) (d : ℕ) (s : MapEntry K V) (left : BudgetLeft) (bs : List ℕ) where
   -- nothing was spent
-  refused : (f : DecodeError) → (f ≡ OutOfMemory → FieldTakesMemory key val d bs) → (f ≢ OutOfMemory → FieldFault key val d s bs f) → RefusesField key val d s left bs left f
+  refused : (f : DecodeError) → (f ≡ OutOfMemory → EntryFieldTakesMemory key val d bs) → (f ≢ OutOfMemory → EntryFieldFault key val d s bs f) → RefusesEntryField key val d s left bs left f
   refused f full h = record { fault = λ ne. inr (h ne); full = full; pays = (omega arith, omega arith, omega arith, omega arith) }
 
-  pub no_tag : (f : DecodeError) → tag_at bs ≡ Err f → RefusesField key val d s left bs left f
+  pub no_tag : (f : DecodeError) → tag_at bs ≡ Err f → RefusesEntryField key val d s left bs left f
   no_tag f h = refused f (tag_no_full bs f h) (λ ne. field_broken key val d s bs f (rw h refl))
 
   module _ (n : ℕ) (w : WireType) (rest : List ℕ) (tag : tag_at bs ≡ Ok (n, w, rest)) where
@@ -31,11 +31,11 @@ module _ {K V : Type 0} (key : Reading K) (val : Reading V) (d : ℕ) (s : MapEn
     tag_as m v same wire = subst (λ (z : WireType). tag_at bs ≡ Ok (m, z, rest)) wire (subst (λ (z : ℕ). tag_at bs ≡ Ok (z, w, rest)) same tag)
 
     module _ (one : n ≡ 1) (v : WireType) (is : v ≡ key.wire) where
-      pub wrong_key : (f : DecodeError) → check_wire n v w ≡ Err f → RefusesField key val d s left bs left f
+      pub wrong_key : (f : DecodeError) → check_wire n v w ≡ Err f → RefusesEntryField key val d s left bs left f
       wrong_key f h = refused f (mismatch_no_full n v w f h) (λ ne. key_mismatch key val d s bs rest n v w f tag one is h)
 
       pub bad_key : (T : Type 0) (over : BudgetLeft) (f : DecodeError) → check_wire n v w ≡ Ok tt → (key.nested ≡ false → (c : Content) → key.cost d c ≡ nothing) →
-          (f ≢ OutOfMemory → Refuses key.nested key d s.key rest left f) → (f ≡ OutOfMemory → TakesMemory key d rest) → Spends {T = T} key.nested (Err f) left (value_need key d rest) over → RefusesField key val d s left bs over f
+          (f ≢ OutOfMemory → RefusesValue key.nested key d s.key rest left f) → (f ≡ OutOfMemory → ReadingTakesMemory key d rest) → Spends {T = T} key.nested (Err f) left (value_need key d rest) over → RefusesEntryField key val d s left bs over f
       bad_key T over f wire free fault full spent =
           let same : w ≡ key.wire = checked n v w wire ∙ is in
           let paid : PaysAtMost left (value_need key d rest) over = spent_in {T = T} key.nested (Err f) left (value_need key d rest) over (λ plain. value_free key d s.key rest (free plain)) spent in
@@ -46,12 +46,12 @@ module _ {K V : Type 0} (key : Reading K) (val : Reading V) (d : ℕ) (s : MapEn
           }
 
     module _ (not_one : n ≢ 1) (two : n ≡ 2) (v : WireType) (is : v ≡ val.wire) where
-      pub wrong_value : (f : DecodeError) → check_wire n v w ≡ Err f → RefusesField key val d s left bs left f
+      pub wrong_value : (f : DecodeError) → check_wire n v w ≡ Err f → RefusesEntryField key val d s left bs left f
       wrong_value f h = refused f (mismatch_no_full n v w f h) (λ ne. value_mismatch key val d s bs rest n v w f tag not_one two is h)
 
       module _ (wire : check_wire n v w ≡ Ok tt) (free : val.nested ≡ false → (c : Content) → val.cost d c ≡ nothing) where
         pub bad_value : (T : Type 0) (over : BudgetLeft) (f : DecodeError) →
-            (f ≢ OutOfMemory → Refuses val.nested val d s.value rest left f) → (f ≡ OutOfMemory → TakesMemory val d rest) → Spends {T = T} val.nested (Err f) left (value_need val d rest) over → RefusesField key val d s left bs over f
+            (f ≢ OutOfMemory → RefusesValue val.nested val d s.value rest left f) → (f ≡ OutOfMemory → ReadingTakesMemory val d rest) → Spends {T = T} val.nested (Err f) left (value_need val d rest) over → RefusesEntryField key val d s left bs over f
         bad_value T over f fault full spent =
             let same : w ≡ val.wire = checked n v w wire ∙ is in
             let paid : PaysAtMost left (value_need val d rest) over = spent_in {T = T} val.nested (Err f) left (value_need val d rest) over (λ plain. value_free val d s.value rest (free plain)) spent in
@@ -62,14 +62,14 @@ module _ {K V : Type 0} (key : Reading K) (val : Reading V) (d : ℕ) (s : MapEn
             }
 
         pub good_value : {T : Type 0} (x : T) (over : BudgetLeft) (after : List ℕ) (new : V) (known now : Bool) → value_at val d s.value rest ≡ Ok ((new, known), after) → known ≡ now →
-            Spends {T = T} val.nested (Ok x) left (value_need val d rest) over → MergesField key val d s left bs (record s { value = new; known = now }) over after
+            Spends {T = T} val.nested (Ok x) left (value_need val d rest) over → MergesEntryField key val d s left bs (record s { value = new; known = now }) over after
         good_value {T = T} x over after new known now reads same_known spent =
             let same : w ≡ val.wire = checked n v w wire ∙ is in
             let paid : Pays left (value_need val d rest) over = spent_in {T = T} val.nested (Ok x) left (value_need val d rest) over (λ plain. value_free val d s.value rest (free plain)) spent in
             let both = value_merged key val d s bs rest after n w new known now left over tag not_one two same reads same_known paid in
             record { field = both.0; pays = both.1 }
 
-    pub bad_other : (f : DecodeError) → n ≢ 1 → n ≢ 2 → skip_at d n w rest ≡ Err f → RefusesField key val d s left bs left f
+    pub bad_other : (f : DecodeError) → n ≢ 1 → n ≢ 2 → skip_at d n w rest ≡ Err f → RefusesEntryField key val d s left bs left f
     bad_other f not_one not_two h = refused f (skip_no_full d n w rest f h) (λ ne. other_broken key val d s bs rest n w f tag not_one not_two h)
 
 -- ---- all fields
@@ -86,7 +86,7 @@ module _ {K V : Type 0} (key : Reading K) (val : Reading V) (d : ℕ) (bytes : L
 
   -- the fields so far were merged: s was said, now is left, and rest follows them
   pub record Merged (s : MapEntry K V) (now : BudgetLeft) (rest : List ℕ) : Type 0 where
-    pub reached : ParsesTo (IsField key val d) start bytes s rest
+    pub reached : ParsesTo (IsEntryField key val d) start bytes s rest
     pub unknown : now.unknown + (need_at key val d start bytes).unknown ≡ left.unknown + (need_at key val d s rest).unknown
     pub memory : now.memory + (need_at key val d start bytes).memory ≡ left.memory + (need_at key val d s rest).memory
     pub no_unknown : now.unknown ≤ left.unknown
@@ -106,13 +106,13 @@ module _ {K V : Type 0} (key : Reading K) (val : Reading V) (d : ℕ) (bytes : L
     all_fields empty =
         let e = need_end key val d s rest empty in
         record {
-          entry = subst (λ z. ParsesTo (IsField key val d) start bytes s z) (none empty) h.reached;
+          entry = subst (λ z. ParsesTo (IsEntryField key val d) start bytes s z) (none empty) h.reached;
           pays = (omega (arith, h.unknown, ap (λ (z : BudgetLeft). z.unknown) e), omega (arith, h.memory, ap (λ (z : BudgetLeft). z.memory) e));
         }
 
-    pub one_field : (t : MapEntry K V) (over : BudgetLeft) (after : List ℕ) → 0 < length rest → MergesField key val d s now rest t over after → Merged t over after
+    pub one_field : (t : MapEntry K V) (over : BudgetLeft) (after : List ℕ) → 0 < length rest → MergesEntryField key val d s now rest t over after → Merged t over after
     one_field t over after some m =
-        let e = need_step key val d s t rest after some m.field in
+        let e = need_step key val d s t rest after m.field in
         record {
           reached = field_step key val d bytes s t rest after h.reached m.field;
           unknown = omega (arith, h.unknown, m.pays.0, ap (λ (z : BudgetLeft). z.unknown) e);
@@ -121,10 +121,10 @@ module _ {K V : Type 0} (key : Reading K) (val : Reading V) (d : ℕ) (bytes : L
           no_unit = omega (arith, h.no_unit, m.pays.1);
         }
 
-    pub fewer : (t : MapEntry K V) (over : BudgetLeft) (after : List ℕ) → MergesField key val d s now rest t over after → length after < length rest
+    pub fewer : (t : MapEntry K V) (over : BudgetLeft) (after : List ℕ) → MergesEntryField key val d s now rest t over after → length after < length rest
     fewer t over after m = field_shorter key val d s t rest after m.field
 
-    pub bad_field : (over : BudgetLeft) (f : DecodeError) → 0 < length rest → RefusesField key val d s now rest over f → RefusesFields key val d bytes left over f
+    pub bad_field : (over : BudgetLeft) (f : DecodeError) → 0 < length rest → RefusesEntryField key val d s now rest over f → RefusesFields key val d bytes left over f
     bad_field over f some k = record {
       full = λ out. (s, rest, h.reached, some_left some, k.full out);
       fault = λ ne. fields_fault key val d bytes s rest left now some h.unknown h.memory f h.reached (k.fault ne);

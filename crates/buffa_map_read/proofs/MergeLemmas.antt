@@ -11,7 +11,7 @@ use Rattle.buffa_bytes.proofs.DelimitedLemmas.{taken_sound}
 use Rattle.buffa_bytes.proofs.StepLemmas.{agree_ok}
 use Rattle.buffa_wire.specs.Records.{Datum}
 use Rattle.buffa_map_base.specs.Entry.{EntryFault, FaultOf, IsEntry, blanks, inner_need, need_at, need_of}
-use Rattle.buffa_map_base.specs.Fields.{FieldsTakeMemory}
+use Rattle.buffa_map_base.specs.Fields.{EntryFieldsTakeMemory}
 use Rattle.buffa_map_base.specs.Merge.{EntryTakesMemory, MergesEntry, RefusesEntry, Rules, State, state}
 use Rattle.buffa_map_base.specs.Parts.{ReadsParts, RefusesCut, RefusesParts}
 use Rattle.buffa_map_base.specs.Pairs.{InOrder, SamePairs, put}
@@ -20,7 +20,7 @@ use Rattle.buffa_map_base.proofs.TailLemmas.{cut_front, cut_short, past_cut, del
 use Rattle.buffa_bytes.specs.Unread.{IsTailOf}
 use Rattle.buffa_bytes.proofs.TailLemmas.{tail_whole}
 use Rattle.buffa_bytes.specs.Field.{TakesDelimited}
-use Rattle.buffa_map_base.proofs.NeedLemmas.{entry_charged, entry_found, entry_refused, entry_short, entry_slotless, no_length}
+use Rattle.buffa_map_base.proofs.NeedLemmas.{entry_charged, entry_found, entry_refused, entry_short, entry_without, no_length}
 
 module _ {K V : Type 0} (r : Rules K V) (pairs : List (K × V)) (records : List (ℕ × Datum)) (left : BudgetLeft) (bs : List ℕ) where
   abbrev old : State K V
@@ -34,7 +34,7 @@ module _ {K V : Type 0} (r : Rules K V) (pairs : List (K × V)) (records : List 
   no_entry unread f tail h full near short = record {
     within = near;
     past_no_delimited = short;
-    fault = λ ne. entry_short r.key r.val r.depth r.cost r.slot left bs f (h ne);
+    fault = λ ne. entry_short r.key r.val r.depth r.cost r.extra left bs f (h ne);
     memory = full;
     tail = tail;
     past = λ ne e rest t. no_length r.key r.val r.depth bs f (h ne) e rest t;
@@ -49,12 +49,12 @@ module _ {K V : Type 0} (r : Rules K V) (pairs : List (K × V)) (records : List 
   }
 
   -- the bytes of an entry are copied, of which there are some
-  copy_takes : (n : ℕ) (mid : List ℕ) (f : DecodeError) (x : Result (List ℕ × List ℕ) DecodeError) → taken n mid ≡ x → (r.slot ≢ 0) × (r.val.undeclared ≡ true) → delimited_at bs ≡ taken n mid → IsOk x → (n ≡ 0 → ⊥) → EntryTakesMemory r left bs f
+  copy_takes : (n : ℕ) (mid : List ℕ) (f : DecodeError) (x : Result (List ℕ × List ℕ) DecodeError) → taken n mid ≡ x → (r.extra ≢ 0) × (r.val.undeclared ≡ true) → delimited_at bs ≡ taken n mid → IsOk x → (n ≡ 0 → ⊥) → EntryTakesMemory r left bs f
   copy_takes n mid f (Ok p) is keeps same ok some =
       (p.0, p.1, same ∙ is, inl (keeps.0, keeps.1, λ none. some (sym (agree_ok (taken n mid) p (taken_sound n mid) is).0 ∙ ap length none)))
   copy_takes n mid f (Err x) is keeps same ok some = cc
 
-  pub no_copy : (n : ℕ) (mid unread : List ℕ) (f : DecodeError) → (r.slot ≢ 0) × (r.val.undeclared ≡ true) → delimited_at bs ≡ taken n mid → IsTailOf unread bs → (f ≢ OutOfMemory → taken n mid ≡ Err f) → (f ≡ OutOfMemory → IsOk (taken n mid)) → (n ≡ 0 → false ≡ true) →
+  pub no_copy : (n : ℕ) (mid unread : List ℕ) (f : DecodeError) → (r.extra ≢ 0) × (r.val.undeclared ≡ true) → delimited_at bs ≡ taken n mid → IsTailOf unread bs → (f ≢ OutOfMemory → taken n mid ≡ Err f) → (f ≡ OutOfMemory → IsOk (taken n mid)) → (n ≡ 0 → false ≡ true) →
       ((e rest : List ℕ) → TakesDelimited bs e rest → IsTailOf rest unread) → ((x : DecodeError) → delimited_at bs ≡ Err x → unread ≡ past_no_delimited bs) →
       RefusesEntry r (state pairs records left) bs (state pairs records left) unread f
   no_copy n mid unread f keeps same tail reads full free near short =
@@ -64,14 +64,14 @@ module _ {K V : Type 0} (r : Rules K V) (pairs : List (K × V)) (records : List 
     inner : inner_need r.key r.val r.depth bs ≡ fields_need e
     inner = ap (λ z. need_by z (λ x. fields_need x.0)) is
 
-    parts_memory : (f : DecodeError) → (r.cost ≤ left.memory) × (FieldsTakeMemory r.key r.val r.depth e f ⊎ ((s : MapEntry K V) × IsEntry r.key r.val r.depth e s × (s.known ≡ true))) → EntryTakesMemory r left bs f
+    parts_memory : (f : DecodeError) → (r.cost ≤ left.memory) × (EntryFieldsTakeMemory r.key r.val r.depth e f ⊎ ((s : MapEntry K V) × IsEntry r.key r.val r.depth e s × (s.known ≡ true))) → EntryTakesMemory r left bs f
     parts_memory f (room, inl field) = (e, rest, is, inr (room, inl field))
     parts_memory f (room, inr (s, h, known)) = (e, rest, is, inr (room, inr (s, h, inl known)))
 
     parts_fault : (f : DecodeError) → ((left.memory < r.cost) × (f ≡ ElementMemoryLimitExceeded)) ⊎ ((r.cost ≤ left.memory) × (Lacks left (need_of r.key r.val r.depth r.cost e) ⊎ FaultOf r.key r.val r.depth e f)) →
-        EntryFault r.key r.val r.depth r.cost r.slot left bs f
-    parts_fault f (inl few) = entry_charged r.key r.val r.depth r.cost r.slot left bs e rest f is few.0 few.1
-    parts_fault f (inr (room, bad)) = entry_refused r.key r.val r.depth r.cost r.slot left bs e rest f is room bad
+        EntryFault r.key r.val r.depth r.cost r.extra left bs f
+    parts_fault f (inl few) = entry_charged r.key r.val r.depth r.cost r.extra left bs e rest f is few.0 few.1
+    parts_fault f (inr (room, bad)) = entry_refused r.key r.val r.depth r.cost r.extra left bs e rest f is room bad
 
     parts_units : (new : ℕ) → (new ≡ left.memory) ⊎ ((new + r.cost ≤ left.memory) × (left.memory ≤ new + (need_of r.key r.val r.depth r.cost e).memory)) →
         (new ≡ left.memory) ⊎ ((new + r.cost ≤ left.memory) × (left.memory ≤ new + (r.cost + (inner_need r.key r.val r.depth bs).memory)))
@@ -122,28 +122,28 @@ module _ {K V : Type 0} (r : Rules K V) (pairs : List (K × V)) (records : List 
             least = omega (arith, h.pays);
           }))
 
-      pub is_kept : s.known ≡ false → (kept : List (ℕ × Datum)) (last : BudgetLeft) → kept ≡ records ++ r.adds r.number e → last.unknown + r.slot ≡ over.unknown → last.memory ≡ over.memory → MergesEntry r (state pairs records left) bs (state pairs kept last) rest
-      is_kept known kept last added slot unit = record {
+      pub is_kept : s.known ≡ false → (kept : List (ℕ × Datum)) (last : BudgetLeft) → kept ≡ records ++ r.adds r.number e → last.unknown + r.extra ≡ over.unknown → last.memory ≡ over.memory → MergesEntry r (state pairs records left) bs (state pairs kept last) rest
+      is_kept known kept last added extra unit = record {
         says = s;
         entry = e;
         read = entry_found r.key r.val r.depth bs e rest s is h.entry;
         put = rw known (λ q. refl);
         order = rw known (λ keeps. refl);
         keeps = rw known added;
-        pays = (rw known (omega (arith, h.pays, slot)), omega (arith, h.pays, unit));
+        pays = (rw known (omega (arith, h.pays, extra)), omega (arith, h.pays, unit));
       }
 
       -- where none is kept, the records and the budget stand
-      pub is_dropped : s.known ≡ false → r.slot ≡ 0 → ((n : ℕ) (x : List ℕ) → r.adds n x ≡ []) → MergesEntry r (state pairs records left) bs (state pairs records over) rest
+      pub is_dropped : s.known ≡ false → r.extra ≡ 0 → ((n : ℕ) (x : List ℕ) → r.adds n x ≡ []) → MergesEntry r (state pairs records left) bs (state pairs records over) rest
       is_dropped known no_unknown none = is_kept known records over (rw (none r.number e) (sym (append-nil records))) (omega (arith, no_unknown)) refl
 
-      pub not_kept : s.known ≡ false → (kept : List (ℕ × Datum)) (last : BudgetLeft) (f : DecodeError) → kept ≡ records → last.unknown ≤ over.unknown → over.unknown ≤ last.unknown + r.slot → last.memory ≡ over.memory →
-          (f ≢ OutOfMemory → (over.unknown < r.slot) × (f ≡ UnknownFieldLimitExceeded) × (last.unknown ≡ over.unknown)) → (f ≡ OutOfMemory → (r.slot ≢ 0) × (r.slot ≤ over.unknown)) → RefusesEntry r (state pairs records left) bs (state pairs kept last) rest f
+      pub not_kept : s.known ≡ false → (kept : List (ℕ × Datum)) (last : BudgetLeft) (f : DecodeError) → kept ≡ records → last.unknown ≤ over.unknown → over.unknown ≤ last.unknown + r.extra → last.memory ≡ over.memory →
+          (f ≢ OutOfMemory → (over.unknown < r.extra) × (f ≡ UnknownFieldLimitExceeded) × (last.unknown ≡ over.unknown)) → (f ≡ OutOfMemory → (r.extra ≢ 0) × (r.extra ≤ over.unknown)) → RefusesEntry r (state pairs records left) bs (state pairs kept last) rest f
       not_kept known kept last f same most least unit which keeps =
           let units = ap (λ (z : BudgetLeft). z.memory) inner in
           let taken = ap (λ (z : BudgetLeft). z.unknown) inner in
           record {
-            fault = λ ne. entry_slotless r.key r.val r.depth r.cost r.slot left bs e rest s f is (omega (arith, h.pays)) h.entry known (omega (arith, (which ne).0, h.pays)) (which ne).1;
+            fault = λ ne. entry_without r.key r.val r.depth r.cost r.extra left bs e rest s f is (omega (arith, h.pays)) h.entry known (omega (arith, (which ne).0, h.pays)) (which ne).1;
             memory = λ out. (e, rest, is, inr (omega (arith, h.pays), inr (s, h.entry, inr ((keeps out).0, omega (arith, (keeps out).1, h.pays)))));
             tail = delimited_tail bs e rest is;
             past = λ ne x after t. one_rest bs e rest x after is t;

@@ -5,7 +5,7 @@ use Rattle.buffa_bytes.specs.declared.error.DecodeError.TheVariants.{ElementMemo
 use Rattle.buffa_wire.specs.BudgetLeft.{BudgetLeft, Lacks}
 use Rattle.buffa_wire.specs.Sequence.{ParsesEach}
 use Rattle.buffa_map_base.specs.Codec.{AlwaysDeclared, Reading}
-use Rattle.buffa_map_base.specs.Entry.{FaultOf, IsField, blanks, need_at, need_of}
+use Rattle.buffa_map_base.specs.Entry.{FaultOf, IsEntryField, blanks, need_at, need_of}
 use Rattle.buffa_map_base.specs.Fields.{MergesFields, RefusesFields}
 use Rattle.buffa_map_base.specs.Parts.{ReadsParts, RefusesParts}
 use Rattle.buffa_map_base.specs.declared.map_entry.MapEntry.{MapEntry}
@@ -45,12 +45,12 @@ module _ {K V : Type 0} (key : Reading K) (val : Reading V) (d cost : ℕ) (e : 
 
 -- an entry is declared where each value is
 module _ {K V : Type 0} (key : Reading K) (val : Reading V) (d : ℕ) (all : AlwaysDeclared val) where
-  field_declared : (s : MapEntry K V) (f : List ℕ) (t : MapEntry K V) → s.known ≡ true → IsField key val d s f t → t.known ≡ true
+  field_declared : (s : MapEntry K V) (f : List ℕ) (t : MapEntry K V) → s.known ≡ true → IsEntryField key val d s f t → t.known ≡ true
   field_declared s f t known (inl (k, same, field, is)) = rw is known
   field_declared s f t known (inr (inl (v, same, (head, payload, c, tag, room, has, reads, split), is))) = rw is (all d s.value c v same reads)
   field_declared s f t known (inr (inr (n, w, no_key, no_value, field, is))) = rw is known
 
-  each_declared : (fs : List (List ℕ)) (s t : MapEntry K V) → s.known ≡ true → ParsesEach (IsField key val d) s fs t → t.known ≡ true
+  each_declared : (fs : List (List ℕ)) (s t : MapEntry K V) → s.known ≡ true → ParsesEach (IsEntryField key val d) s fs t → t.known ≡ true
   each_declared [] s t known same = ap (λ (z : MapEntry K V). z.known) (sym same) ∙ known
   each_declared (f ∷ fs) s t known (u, field, rest) = each_declared fs u t (field_declared s f u known field) rest
 

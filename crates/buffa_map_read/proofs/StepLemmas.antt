@@ -40,7 +40,7 @@ module _ {K V : Type 0} (r : Rules K V) (old : State K V) (bs : List ℕ) where
     pub folded : SamePairs r.same (fold_entries r.same old.pairs entries) now.pairs
     pub order : InOrder r.keeps_order (fold_entries r.same old.pairs entries) now.pairs
     pub keeps : now.records ≡ old.records ++ added r.adds r.number entries
-    pub paid : Paid r.key r.val r.depth r.cost r.slot old.left entries now.left
+    pub paid : Paid r.key r.val r.depth r.cost r.extra old.left entries now.left
 
   pub none_reached : Reached old bs
   none_reached = record { front = []; entries = []; split = refl; run = refl; folded = λ q. refl; order = λ keeps. refl; keeps = sym (append-nil old.records); paid = (omega arith, omega arith) }
@@ -66,7 +66,7 @@ module _ {K V : Type 0} (r : Rules K V) (old : State K V) (bs : List ℕ) where
         × ((mid : List ℕ) → tag_at rest ≡ Ok (r.number, LengthDelimited, mid) → ⊥)
 
     -- the next record is refused before its entry
-    stop_here : (unread : List ℕ) (f : DecodeError) → IsTailOf unread rest → Unread unread → ((x : DecodeError) → tag_at rest ≡ Err x → unread ≡ past_no_tag rest) → 0 < length rest → (f ≡ OutOfMemory → ⊥) → (f ≢ OutOfMemory → RecordFault r.key r.val r.depth r.number r.cost r.slot now.left rest f) → StopsRun r old bs now unread f
+    stop_here : (unread : List ℕ) (f : DecodeError) → IsTailOf unread rest → Unread unread → ((x : DecodeError) → tag_at rest ≡ Err x → unread ≡ past_no_tag rest) → 0 < length rest → (f ≡ OutOfMemory → ⊥) → (f ≢ OutOfMemory → RecordFault r.key r.val r.depth r.number r.cost r.extra now.left rest f) → StopsRun r old bs now unread f
     stop_here unread f tail past short more full fault = record {
       entries = h.entries;
       rest = rest;
@@ -93,16 +93,16 @@ module _ {K V : Type 0} (r : Rules K V) (old : State K V) (bs : List ℕ) where
     }
 
     pub stop_tag : (unread : List ℕ) (f : DecodeError) → IsTailOf unread rest → unread ≡ past_no_tag rest → 0 < length rest → tag_at rest ≡ Err f → StopsRun r old bs now unread f
-    stop_tag unread f tail left more is = stop_here unread f tail (λ g w mid k. no_tag rest f is g w mid k, λ mid k. no_tag rest f is r.number LengthDelimited mid k) (λ x no. left) more (tag_no_full rest f is) (λ ne. record_tag r.key r.val r.depth r.number r.cost r.slot now.left rest f is)
+    stop_tag unread f tail left more is = stop_here unread f tail (λ g w mid k. no_tag rest f is g w mid k, λ mid k. no_tag rest f is r.number LengthDelimited mid k) (λ x no. left) more (tag_no_full rest f is) (λ ne. record_tag r.key r.val r.depth r.number r.cost r.extra now.left rest f is)
 
     module _ (mid : List ℕ) (g : ℕ) (w : WireType) (more : 0 < length rest) (tag : tag_at rest ≡ Ok (g, w, mid)) where
       pub stop_other : g ≢ r.number → StopsRun r old bs now mid (UnexpectedField g)
-      stop_other other = stop_here mid (UnexpectedField g) (tag_tail rest mid g w tag) (λ h v m k _. one_after rest mid m g h w v tag k, λ m k. other (one_number rest mid m g r.number w LengthDelimited tag k)) (λ x no. absurd (ok_no_err (sym tag ∙ no))) more (λ out. cc) (λ ne. record_other r.key r.val r.depth r.number r.cost r.slot now.left rest mid g w tag other)
+      stop_other other = stop_here mid (UnexpectedField g) (tag_tail rest mid g w tag) (λ h v m k _. one_after rest mid m g h w v tag k, λ m k. other (one_number rest mid m g r.number w LengthDelimited tag k)) (λ x no. absurd (ok_no_err (sym tag ∙ no))) more (λ out. cc) (λ ne. record_other r.key r.val r.depth r.number r.cost r.extra now.left rest mid g w tag other)
 
       pub stop_mismatch : (f : DecodeError) → g ≡ r.number → check_wire g LengthDelimited w ≡ Err f → StopsRun r old bs now mid f
       stop_mismatch f same is =
           let differs = (agree_err (check_wire g LengthDelimited w) f (check_sound g LengthDelimited w) is).0 in
-          stop_here mid f (tag_tail rest mid g w tag) (λ h v m k _. one_after rest mid m g h w v tag k, λ m k. differs (one_wire rest mid m g r.number w LengthDelimited tag k)) (λ x no. absurd (ok_no_err (sym tag ∙ no))) more (mismatch_no_full g LengthDelimited w f is) (λ ne. record_mismatch r.key r.val r.depth r.number r.cost r.slot now.left rest mid g w f tag same is)
+          stop_here mid f (tag_tail rest mid g w tag) (λ h v m k _. one_after rest mid m g h w v tag k, λ m k. differs (one_wire rest mid m g r.number w LengthDelimited tag k)) (λ x no. absurd (ok_no_err (sym tag ∙ no))) more (mismatch_no_full g LengthDelimited w f is) (λ ne. record_mismatch r.key r.val r.depth r.number r.cost r.extra now.left rest mid g w f tag same is)
 
       module _ (same : g ≡ r.number) (wire : check_wire g LengthDelimited w ≡ Ok tt) where
         pub stop_entry : (new : State K V) (unread : List ℕ) (f : DecodeError) → RefusesEntry r now mid new unread f → StopsRun r old bs new unread f
@@ -124,7 +124,7 @@ module _ {K V : Type 0} (r : Rules K V) (old : State K V) (bs : List ℕ) where
               units = elim k.units [ inl e ↦ inl e | inr e ↦ inr (e.0, omega (arith, e.1, units)) ];
               most = k.most;
               one_unknown = omega (arith, k.least, taken);
-              fault = λ ne. record_entry r.key r.val r.depth r.number r.cost r.slot now.left rest mid g w f tag same wire (k.fault ne);
+              fault = λ ne. record_entry r.key r.val r.depth r.number r.cost r.extra now.left rest mid g w f tag same wire (k.fault ne);
               memory = λ out. (mid, found, k.memory out);
               unspent = λ no. k.unspent (λ is. no (mid, found, is));
               charged = λ ne m e after is t room. k.charged ne e after (subst (λ z. TakesDelimited z e after) (one_after rest m mid r.number r.number LengthDelimited LengthDelimited is found) t) room;
@@ -149,7 +149,7 @@ module _ {K V : Type 0} (r : Rules K V) (old : State K V) (bs : List ℕ) where
               order = fold_entries-order r.same r.keeps_order old.pairs now.pairs new.pairs h.entries x k.says refl h.order k.order;
               folded = fold_entries-more laws old.pairs now.pairs new.pairs h.entries x k.says refl h.folded k.put;
               keeps = added-more r.adds r.number old.records now.records new.records h.entries x h.keeps k.keeps;
-              paid = Paid-more r.key r.val r.depth r.cost r.slot old.left now.left new.left h.entries x h.paid k.pays;
+              paid = Paid-more r.key r.val r.depth r.cost r.extra old.left now.left new.left h.entries x h.paid k.pays;
             }
 
         pub less : (new : State K V) (after : List ℕ) → MergesEntry r now mid new after → length after < length rest

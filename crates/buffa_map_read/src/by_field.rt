@@ -26,7 +26,7 @@ impl<KC: MapCodec, W: MergeValue, C: MapStorage<Key = KC::Value, Value = W::Valu
     type Map = C;
 
     ghost reader = { record {
-      rules = λ d n. rules KC.reading W.reading C.equal C.keeps_order d n (KC.COST + W.COST) L.slot L.adds;
+      rules = λ d n. rules KC.reading W.reading C.equal C.keeps_order d n (KC.COST + W.COST) L.extra L.adds;
       pairs = C.pairs;
     } };
 }

@@ -19,11 +19,11 @@ pub trait Keeper {
     /// The records so far.
     ghost records: { Self → List (ℕ × Datum) };
 
-    /// The records so far, and those that there is room for.
+    /// How many records there are and have room.
     ghost room: { Self → ℕ };
 
     /// How many of the unknown fields left one entry takes.
-    ghost slot: { ℕ };
+    ghost extra: { ℕ };
 
     /// What the bytes of an entry of a field of this number add.
     ghost adds: { ℕ → List ℕ → List (ℕ × Datum) };
@@ -37,20 +37,20 @@ pub trait Keeper {
         budget: &mut Budget,
     ) -> Result<(), DecodeError>
         ensures ok { OnOk result ((records self.new ≡ records self.old ++ adds number entry.now)
-            × (budget.new.unknown + slot ≡ budget.old.unknown)) }
+            × (budget.new.unknown + extra ≡ budget.old.unknown)) }
         ensures err { OnErr result ((records self.new ≡ records self.old) × (budget.new.unknown ≤ budget.old.unknown)
-            × (budget.old.unknown ≤ budget.new.unknown + slot)) }
-        ensures fault { IfErr result (λ f. f ≢ OutOfMemory → (budget.old.unknown < slot)
+            × (budget.old.unknown ≤ budget.new.unknown + extra)) }
+        ensures fault { IfErr result (λ f. f ≢ OutOfMemory → (budget.old.unknown < extra)
             × (f ≡ UnknownFieldLimitExceeded) × (budget.new.unknown ≡ budget.old.unknown)) }
-        ensures full { IfErr result (λ f. f ≡ OutOfMemory → (slot ≢ 0) × (slot ≤ budget.old.unknown)) }
+        ensures full { IfErr result (λ f. f ≡ OutOfMemory → (extra ≢ 0) × (extra ≤ budget.old.unknown)) }
         ensures memory { budget.new.memory ≡ budget.old.memory }
         ensures room { room self.old ≤ room self.new };
 
     /// Where it keeps none, an entry takes none of the unknown fields left, and adds nothing.
-    ghost drops: { KEEPS ≡ false → (slot ≡ 0) × ((n : ℕ) (entry : List ℕ) → adds n entry ≡ []) };
+    ghost drops: { KEEPS ≡ false → (extra ≡ 0) × ((n : ℕ) (entry : List ℕ) → adds n entry ≡ []) };
 
     /// Where it keeps some, an entry takes some of the unknown fields left.
-    ghost keeps: { KEEPS ≡ true → slot ≢ 0 };
+    ghost keeps: { KEEPS ≡ true → extra ≢ 0 };
 }
 
 /// Entries are dropped, and take none of the unknown fields left.
@@ -66,7 +66,7 @@ impl Keeper for Dropped {
 
     ghost room = { λ _. 0 };
 
-    ghost slot = { 0 };
+    ghost extra = { 0 };
 
     ghost adds = { λ _ _. [] };
 
@@ -95,7 +95,7 @@ impl Keeper for UnknownFields {
 
     ghost room = { room_of };
 
-    ghost slot = { 1 };
+    ghost extra = { 1 };
 
     ghost adds = { λ number entry. (number, bytes entry) ∷ [] };
 

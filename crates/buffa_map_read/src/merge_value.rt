@@ -9,7 +9,7 @@ ghost use Rattle.buffa_bytes.specs.Content.{Content, bytes_in};
 ghost use Rattle.buffa_wire.specs.BudgetLeft.{budget_left, nothing};
 ghost use Rattle.buffa_wire.specs.Message.{merged_in};
 ghost use Rattle.buffa_map_base.specs.Calls.{MergesMessages};
-ghost use Rattle.buffa_map_base.specs.Codec.{AlwaysDeclared, Reading, Refuses, Spends, TakesMemory, is_known, value_at, value_need};
+ghost use Rattle.buffa_map_base.specs.Codec.{AlwaysDeclared, Reading, RefusesValue, Spends, ReadingTakesMemory, is_known, value_at, value_need};
 ghost use Rattle.buffa_map_base.specs.Message.{message_reading};
 ghost use Rattle.buffa_map_base.specs.MessageLaws.{meant_known};
 
@@ -58,9 +58,9 @@ pub trait MergeValue {
             (B.unread buf.old)
             ≡ Ok ((Self.Value.meaning value.new, is_known s), B.unread buf.new)) }
         ensures fault { IfErr result (λ e. e ≢ OutOfMemory →
-            Refuses reading.nested reading ctx.entry.depth (Self.Value.meaning value.old) (B.unread buf.old)
+            RefusesValue reading.nested reading ctx.entry.depth (Self.Value.meaning value.old) (B.unread buf.old)
             ctx.entry.budget.now e) }
-        ensures full { FullOnlyIf result (TakesMemory reading ctx.entry.depth (B.unread buf.old)) }
+        ensures full { FullOnlyIf result (ReadingTakesMemory reading ctx.entry.depth (B.unread buf.old)) }
         ensures kept { B.beyond buf.new ≡ B.beyond buf.old }
         ensures spends { Spends reading.nested result ctx.entry.budget.now
             (value_need reading ctx.entry.depth (B.unread buf.old)) (budget_left ctx.exit) };

@@ -5,9 +5,9 @@ ghost use Rattle.buffa_bytes.specs.Gives.{FullOnlyIf};
 ghost use Rattle.buffa_bytes.specs.Reading.{delimited_at};
 ghost use Rattle.buffa_bytes.specs.declared.error.DecodeError.TheVariants.{OutOfMemory};
 ghost use Rattle.buffa_wire.specs.BudgetLeft.{PaysAtMost, budget_left};
-ghost use Rattle.buffa_wire.specs.Message.{MergesInside, PayloadFault, cost_of_payload};
+ghost use Rattle.buffa_wire.specs.Message.{MergesInside, MessageFault, cost_of_payload};
 ghost use Rattle.buffa_map_base.specs.Calls.{MergesEntryIn, MergesMessages, RefusesEntryIn};
-ghost use Rattle.buffa_map_base.specs.Codec.{Refuses, Spends, TakesMemory, value_at, value_need};
+ghost use Rattle.buffa_map_base.specs.Codec.{RefusesValue, Spends, ReadingTakesMemory, value_at, value_need};
 ghost use Rattle.buffa_map_base.specs.Message.{message_reading};
 
 use crate::entry::merge_entry_by;
@@ -36,7 +36,7 @@ where
     ensures ok { OnOk result (MergesInside M.merged M.cost ctx.entry (M.meaning value.old) (B.unread buf.old)
         (M.meaning value.new) (budget_left ctx.exit) (B.unread buf.new)) }
     ensures fault { IfErr result (λ e. e ≢ OutOfMemory →
-        PayloadFault M.merged M.cost ctx.entry.depth (M.meaning value.old) (B.unread buf.old) ctx.entry.budget.now
+        MessageFault M.merged M.cost ctx.entry.depth (M.meaning value.old) (B.unread buf.old) ctx.entry.budget.now
         e) }
     ensures full { FullOnlyIf result ((0 < ctx.entry.depth) × IsOk (delimited_at (B.unread buf.old))) }
     ensures spent { OnErr result (PaysAtMost ctx.entry.budget.now
@@ -72,9 +72,9 @@ where
     ensures ok { OnOk result (value_at (message_reading M.blank_is M.merged M.cost) ctx.entry.depth
         (M.meaning value.old) (B.unread buf.old) ≡ Ok ((M.meaning value.new, true), B.unread buf.new)) }
     ensures fault { IfErr result (λ e. e ≢ OutOfMemory →
-        Refuses true (message_reading M.blank_is M.merged M.cost) ctx.entry.depth (M.meaning value.old)
+        RefusesValue true (message_reading M.blank_is M.merged M.cost) ctx.entry.depth (M.meaning value.old)
         (B.unread buf.old) ctx.entry.budget.now e) }
-    ensures full { FullOnlyIf result (TakesMemory (message_reading M.blank_is M.merged M.cost) ctx.entry.depth
+    ensures full { FullOnlyIf result (ReadingTakesMemory (message_reading M.blank_is M.merged M.cost) ctx.entry.depth
         (B.unread buf.old)) }
     ensures kept { B.beyond buf.new ≡ B.beyond buf.old }
     ensures spends { Spends true result ctx.entry.budget.now

@@ -7,7 +7,7 @@ ghost use Rattle.buffa_bytes.specs.Number.{IsNumber};
 ghost use Rattle.buffa_wire.specs.Passes.{IsNext, cap};
 ghost use Rattle.buffa_bytes.specs.Written.{UsesRoom, Writes};
 ghost use Rattle.buffa_map_base.specs.Calls.{KeepsRecordRoom, WritesMessages};
-ghost use Rattle.buffa_map_base.specs.MessageField.{IsFieldWritten, IsRecordWritten, KeepsRoom, UsesFieldRoom, field_slots, head_encoding, key_and_length};
+ghost use Rattle.buffa_map_base.specs.MessageField.{IsFieldWritten, IsRecordWritten, KeepsMessageRoom, UsesFieldRoom, field_slots, head_encoding, key_and_length};
 
 use crate::message_size::message_entry_len;
 use crate::write::{write_head, write_part};
@@ -49,7 +49,7 @@ fn write_message_head<KC: MapCodec, S: EncodeSink>(
     write_key_and_length::<KC, S>(key, inner, sink)
 }
 
-// Writes the record of a pair, whose length is the next slot.
+// Writes the record of a pair, of which the message's length is in the next slot.
 fn write_message_record_by<KC: MapCodec, M: MessageSpec, S: EncodeSink, F>(
     number: u32,
     key: &KC::Value,
@@ -113,7 +113,7 @@ where
     ensures written { IsFieldWritten KC.writing M.encoding M.slots field_number (C.walk map.now) cache.old
         (S.written sink.old) result cache.new (S.written sink.new) }
     ensures some { OnErr result (C.walk map.now ≢ []) }
-    ensures room { KeepsRoom (F.post write) (λ v. M.encoding (M.meaning v)) S.room → UsesFieldRoom KC.writing M.encoding
+    ensures room { KeepsMessageRoom (F.post write) (λ v. M.encoding (M.meaning v)) S.room → UsesFieldRoom KC.writing M.encoding
         field_number (C.walk map.now) result (S.room sink.old) (S.room sink.new) }
 {
     for (key, value) in map.storage_iter() {
@@ -132,7 +132,7 @@ where
 /// [`EncodeError::OutOfMemory`] alone; the sink's old bytes come first then.
 ///
 /// ```ignore
-/// write_message_field::<Int32, TestMsg, _, _>(&map, 5, &mut cache, &mut text)?;
+/// write_message_field::<Int32, TestMsg, _, _>(&map, 5, &mut cache, &mut sink)?;
 /// ```
 pub fn write_message_field<
     'a,

@@ -19,26 +19,26 @@ use buffa_wire::{EncodeError, varint_len};
 /// Those of [`write_field`].
 ///
 /// ```ignore
-/// let size = size_and_write_field::<Str, Int32, _>(&map, 5, &mut text)?;
+/// let size = size_and_write_field::<Str, Int32, _>(&map, 5, &mut sink)?;
 /// ```
 pub fn size_and_write_field<
     'a,
     KC: MapCodec,
     VC: MapCodec,
     C: MapWalk<'a> + MapStorage<Key = KC::Value, Value = VC::Value>,
->(map: &'a C, field_number: u32, text: &mut Vec<u8>) -> Result<u64, EncodeError>
+>(map: &'a C, field_number: u32, sink: &mut Vec<u8>) -> Result<u64, EncodeError>
 where
     KC::Value: 'a,
     VC::Value: 'a,
     requires { IsNumber field_number }
-    ensures size { IfOk result (λ size. length text.new.items ≡ length text.old.items + size) }
-    ensures text { WritesMapField C.equal C.walks C.pairs map.now KC.writing VC.writing KC.fits VC.fits field_number
-        (λ t. t.items) (λ t. vec_capacity t - vec_len t) text.old text.new result }
+    ensures size { IfOk result (λ size. length sink.new.items ≡ length sink.old.items + size) }
+    ensures encoding { WritesMapField C.equal C.walks C.pairs map.now KC.writing VC.writing KC.fits VC.fits field_number
+        (λ t. t.items) (λ t. vec_capacity t - vec_len t) sink.old sink.new result }
 {
     let tag_len = varint_len(u64::from(field_number) * 8 + 2) as u64;
     let size = field_len::<KC, VC, C>(map, tag_len);
-    write_field::<KC, VC, C, Vec<u8>>(map, field_number, text)?;
+    write_field::<KC, VC, C, Vec<u8>>(map, field_number, sink)?;
     // A vector has fewer than 2^64 bytes, so that the size isn't capped.
-    let _held = text.len();
+    let _held = sink.len();
     Ok(size)
 }

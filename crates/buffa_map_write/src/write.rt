@@ -105,7 +105,7 @@ pub(crate) fn write_record<KC: MapCodec, VC: MapCodec, S: EncodeSink>(
 /// Source: the protobuf encoding guide, "Maps".
 ///
 /// ```ignore
-/// write_field::<Str, Int32, _, _>(&map, 5, &mut text)?;
+/// write_field::<Str, Int32, _, _>(&map, 5, &mut sink)?;
 /// ```
 pub fn write_field<
     'a,

@@ -14,16 +14,16 @@ use Rattle.buffa_wire.proofs.MessageLemmas.{NoLimit, length_no_limit, payload_no
 use Rattle.buffa_wire.proofs.SequenceLemmas.{ParsesTo-first}
 use Rattle.buffa_wire.specs.Sequence.{ParsesEach, join}
 use Rattle.buffa_bytes.specs.WireType.{same_wire}
-use Rattle.buffa_message_set.specs.Item.{FieldFault, IsField, IsReadAlike, IsTypeId, Item, ItemFault, Said, said, says, unsaid}
+use Rattle.buffa_message_set.specs.Item.{ItemFieldFault, IsItemField, IsReadAlike, IsTypeId, Item, ItemFault, Said, said, says, unsaid}
 use Rattle.buffa_message_set.proofs.ItemLemmas.{StopsFrom, TakesFrom, and_true, both_false, both_true, field_no_end, out_of, read_complete, read_faulty, tag_of, takes_item}
 
 -- ---- an Item is a group
-field_is : (d : ℕ) (s t : Said) (f : List ℕ) → IsField d s f t → SomeField d f
+field_is : (d : ℕ) (s t : Said) (f : List ℕ) → IsItemField d s f t → SomeField d f
 field_is d s t f (inl (tag, p, id, is_tag, v, range, e, st)) = (2, Varint, (tag, p, is_tag, (id, v), e))
 field_is d s t f (inr (inl (tag, l, b, is_tag, v, e, st))) = (3, LengthDelimited, (tag, l ++ b, is_tag, (l, b, v, refl), e))
 field_is d s t f (inr (inr (n, w, other, h, st))) = (n, w, h)
 
-joined : (d : ℕ) (ps : List (List ℕ)) (s t : Said) → ParsesEach (IsField d) s ps t → Join (SomeField d) (join ps)
+joined : (d : ℕ) (ps : List (List ℕ)) (s t : Said) → ParsesEach (IsItemField d) s ps t → Join (SomeField d) (join ps)
 joined d [] s t h = none
 joined d (p ∷ ps) s t (u, h, w) = more p (join ps) (field_is d s u p h) (joined d ps u t w)
 
@@ -44,7 +44,7 @@ module _ (d : ℕ) where
 
   -- f is a field of an Item; or it is none, for one fault
   abbrev FieldAlike : Said → List ℕ → Type 0
-  FieldAlike s f = ((u : Said) × IsField d s f u) ⊎ ((e : DecodeError) × ((x : List ℕ) → FieldFault d (f ++ x) e))
+  FieldAlike s f = ((u : Said) × IsItemField d s f u) ⊎ ((e : DecodeError) × ((x : List ℕ) → ItemFieldFault d (f ++ x) e))
 
   id_alike : (s : Said) (f t p : List ℕ) (k : ℕ) (b : Bool) → (nat_lt 0 k && nat_lt k (2 ^ 31)) ≡ b → IsTag t 2 Varint → IsVarint p k → f ≡ t ++ p → FieldAlike s f
   id_alike s f t p k true e tag v is = inl (record s { type_id = Some k }, inl (t, p, k, tag, v, in_range k e, is, refl))
@@ -70,16 +70,16 @@ module _ (d : ℕ) where
   end_alike s t None e tag = inr (InvalidMessageSet MissingTypeId, λ x. (s, t ++ x, ([], refl, refl), inr (x, (t, tag, refl), e, refl)))
   end_alike s t (Some id) e tag = inl (id, s.message, λ x. (t, tag, ([], refl, ap (λ o. said o s.message) e)))
 
-  step_alike : (s u : Said) (f b : List ℕ) → IsField d s f u → Alike u b → Alike s (f ++ b)
+  step_alike : (s u : Said) (f b : List ℕ) → IsItemField d s f u → Alike u b → Alike s (f ++ b)
   step_alike s u f b step (inl (id, msg, k)) =
-      inl (id, msg, λ x. let t = k x in (t.0, t.1, ParsesTo-first (IsField d) ((f ++ b) ++ x) s u (says id msg) f (b ++ x) (t.0 ++ x) step (append_assoc f b x) t.2))
+      inl (id, msg, λ x. let t = k x in (t.0, t.1, ParsesTo-first (IsItemField d) ((f ++ b) ++ x) s u (says id msg) f (b ++ x) (t.0 ++ x) step (append_assoc f b x) t.2))
   step_alike s u f b step (inr (e, k)) =
-      inr (e, λ x. let t = k x in (t.0, t.1, ParsesTo-first (IsField d) ((f ++ b) ++ x) s u t.0 f (b ++ x) t.1 step (append_assoc f b x) t.2, t.3))
+      inr (e, λ x. let t = k x in (t.0, t.1, ParsesTo-first (IsItemField d) ((f ++ b) ++ x) s u t.0 f (b ++ x) t.1 step (append_assoc f b x) t.2, t.3))
 
   then_alike : (s : Said) (f b : List ℕ) → FieldAlike s f → ((u : Said) → Alike u b) → Alike s (f ++ b)
   then_alike s f b (inl (u, step)) rest = step_alike s u f b step (rest u)
   then_alike s f b (inr (e, k)) rest =
-      inr (e, λ x. (s, (f ++ b) ++ x, ([], refl, refl), inl (subst (λ z. FieldFault d z e) (sym (append_assoc f b x)) (k (b ++ x)))))
+      inr (e, λ x. (s, (f ++ b) ++ x, ([], refl, refl), inl (subst (λ z. ItemFieldFault d z e) (sym (append_assoc f b x)) (k (b ++ x)))))
 
   fields_alike : (body t : List ℕ) → Join (SomeField d) body → IsTag t 1 EndGroup → (s : Said) → Alike s (body ++ t)
   fields_alike _ t none tag s = end_alike s t s.type_id refl tag

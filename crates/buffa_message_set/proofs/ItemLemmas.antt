@@ -6,23 +6,25 @@ use Rattle.buffa_bytes.specs.Field.{IsTag, LengthFault, Payload, TakesDelimited,
 use Rattle.buffa_bytes.specs.Values.{tag_encoding}
 use Rattle.buffa_bytes.specs.Varint.{IsVarint, varint_encoding}
 use Rattle.buffa_bytes.specs.Reading.{delimited_at, skip_at, tag_at, taken, varint_at}
+use Rattle.buffa_bytes.specs.Scan.{parsed, step_then}
 use Rattle.buffa_bytes.specs.WireType.{same_wire}
 use Rattle.buffa_bytes.specs.declared.wire_type.WireType.{WireType}
 use Rattle.buffa_bytes.specs.declared.wire_type.WireType.TheVariants.{Varint, Fixed64, LengthDelimited, StartGroup, EndGroup, Fixed32}
 use Rattle.buffa_bytes.specs.declared.error.DecodeError.{DecodeError}
-use Rattle.buffa_bytes.specs.declared.error.DecodeError.TheVariants.{InvalidMessageSet, OutOfMemory}
+use Rattle.buffa_bytes.specs.declared.error.DecodeError.TheVariants.{InvalidMessageSet, OutOfMemory, UnexpectedEof}
 use Rattle.buffa_bytes.specs.declared.error.MessageSetFault.TheVariants.{MissingTypeId}
 use Rattle.buffa_bytes.proofs.StepLemmas.{Agrees, agree_bind, agree_err, agree_if, agree_ok, agree_weaker}
 use Rattle.buffa_bytes.proofs.DelimitedLemmas.{delimited_complete, delimited_faulty, delimited_sound, taken_sound}
 use Rattle.buffa_bytes.proofs.FieldLemmas.{payload_complete, payload_faulty, payload_sound, tag_complete, tag_faulty, tag_some, tag_sound}
 use Rattle.buffa_bytes.proofs.FullLemmas.{delimited_full, payload_fault_full, payload_full, tag_fault_full}
 use Rattle.buffa_bytes.proofs.VarintLemmas.{IsVarint-varint_encoding, varint_complete, varint_faulty, varint_sound}
+use Rattle.buffa_bytes.proofs.ScanLemmas.{Leads, Shortens, if_leads, if_short, parsed_leads, parsed_short, scan_leads, scan_step}
 use Rattle.buffa_bytes.specs.Gives.{FullOnlyIf, Gives}
 use Rattle.buffa_bytes.specs.Unread.{IsFrontOf}
 use Rattle.buffa_wire.specs.Sequence.{ParsesEach, ParsesTo, join}
 use Rattle.buffa_wire.proofs.InsideLemmas.{delimited_front}
 use Rattle.buffa_wire.proofs.SequenceLemmas.{ParsesTo-first, ParsesTo-more, ok_same}
-use Rattle.buffa_message_set.specs.Item.{BytesAt, EndFault, FieldFault, HasMessage, IsField, IsMessageAt, IsOther, IsOutOfRange, IsTypeId, Item, ItemFault, Reaches, Said, TakesItem, TypeIdFault, appended_at, body_encoding, ended, ends, field_at, item_at, item_within, said, says, type_id_at, unsaid}
+use Rattle.buffa_message_set.specs.Item.{BytesAt, EndFault, ItemFieldFault, HasMessage, IsItemField, IsMessageAt, IsOther, IsOutOfRange, IsTypeId, Item, ItemFault, Reaches, Said, TakesItem, TypeIdFault, appended_at, body_encoding, ends_item, ended, item_field_at, item_at, item_from, item_step, said, says, type_id_at, unsaid}
 
 -- ---- numbers and wire types that are looked for
 same_true : (v w : WireType) → same_wire v w ≡ true → v ≡ w
@@ -105,13 +107,13 @@ whole all t p after rest a b = a ∙ ap (λ z. t ++ z) b ∙ sym (append_assoc t
 module _ (d : ℕ) where
   -- a field at the front of the bytes, which leads from s to what is said then
   abbrev pub FieldAt : Said → List ℕ → Said × List ℕ → Type 0
-  FieldAt s all x = (f : List ℕ) × IsField d s f x.0 × (all ≡ f ++ x.1)
+  FieldAt s all x = (f : List ℕ) × IsItemField d s f x.0 × (all ≡ f ++ x.1)
 
   pub tag_of : (tag : List ℕ) (n m : ℕ) (v w : WireType) → IsTag tag n w → n ≡ m → v ≡ w → IsTag tag m v
   tag_of tag n m v w h a b = subst (λ x. IsTag tag x v) a (subst (λ x. IsTag tag n x) (sym b) h)
 
   pub field_sound : (s : Said) (all tag bs : List ℕ) (n : ℕ) (w : WireType) → IsTag tag n w → all ≡ tag ++ bs → (n ≡ 1 → w ≢ EndGroup) →
-      Agrees (field_at d s n w bs) (FieldAt s all) (FieldFault d all)
+      Agrees (item_field_at d s n w bs) (FieldAt s all) (ItemFieldFault d all)
   field_sound s all tag bs n w is_tag e open_tag = agree_if ((n == 2) && same_wire Varint w)
       (λ two. let is = both_true n 2 Varint w two in let t = tag_of tag n 2 Varint w is_tag is.0 is.1 in
       agree_bind (type_id_sound bs)
@@ -141,13 +143,13 @@ module _ (d : ℕ) where
     pub after : List ℕ
     pub is_tag : IsTag tag number wire
     pub split : f ++ rest ≡ tag ++ after
-    pub goes_on : ends number wire ≡ false
-    pub reads : field_at d s number wire after ≡ Ok (t, rest)
+    pub goes_on : ends_item number wire ≡ false
+    pub reads : item_field_at d s number wire after ≡ Ok (t, rest)
 
   pub field_no_end : (n : ℕ) (w : WireType) (p : List ℕ) → Payload d n w p → w ≢ EndGroup
   field_no_end n w p h e = subst (λ v. Payload d n v p) e h
 
-  pub field_complete : (s t : Said) (f rest : List ℕ) → IsField d s f t → FieldRead s f t rest
+  pub field_complete : (s t : Said) (f rest : List ℕ) → IsItemField d s f t → FieldRead s f t rest
   field_complete s t f rest (inl (tag, p, id, is_tag, v, range, e, st)) = record {
     tag = tag;
     number = 2;
@@ -179,76 +181,90 @@ module _ (d : ℕ) where
     reads = rw (not_both n 2 Varint w other.0, not_both n 3 LengthDelimited w other.1, payload_complete d n w p rest h) (ap (λ z. Ok (z, rest)) (sym st));
   }
 
-  field_some : (s t : Said) (f : List ℕ) → IsField d s f t → 0 < length f
+  field_some : (s t : Said) (f : List ℕ) → IsItemField d s f t → 0 < length f
   field_some s t f (inl (tag, p, id, is_tag, v, range, e, st)) = omega (arith, tag_some tag 2 Varint is_tag, ap length e, length-append tag p)
   field_some s t f (inr (inl (tag, l, b, is_tag, v, e, st))) = omega (arith, tag_some tag 3 LengthDelimited is_tag, ap length e, length-append tag (l ++ b))
   field_some s t f (inr (inr (n, w, other, (tag, p, is_tag, h, e), st))) = omega (arith, tag_some tag n w is_tag, ap length e, length-append tag p)
 
   -- ---- whole Items, from where s was said
   abbrev pub TakesFrom : Said → List ℕ → ℕ × List ℕ × List ℕ → Type 0
-  TakesFrom s bs x = (end : List ℕ) × IsTag end 1 EndGroup × ParsesTo (IsField d) s bs (says x.0 x.1) (end ++ x.2)
+  TakesFrom s bs x = (end : List ℕ) × IsTag end 1 EndGroup × ParsesTo (IsItemField d) s bs (says x.0 x.1) (end ++ x.2)
 
   abbrev pub StopsFrom : Said → List ℕ → DecodeError → Type 0
-  StopsFrom s bs e = (t : Said) × (rest : List ℕ) × ParsesTo (IsField d) s bs t rest × (FieldFault d rest e ⊎ EndFault t rest e)
+  StopsFrom s bs e = (t : Said) × (rest : List ℕ) × ParsesTo (IsItemField d) s bs t rest × (ItemFieldFault d rest e ⊎ EndFault t rest e)
 
-  here : (s : Said) (bs : List ℕ) → ParsesTo (IsField d) s bs s bs
+  here : (s : Said) (bs : List ℕ) → ParsesTo (IsItemField d) s bs s bs
   here s bs = ([], refl, refl)
 
   ended_sound : (s : Said) (o : Option ℕ) (bs tag rest : List ℕ) → s.type_id ≡ o → IsTag tag 1 EndGroup → bs ≡ tag ++ rest → Agrees (ended o s.message rest) (TakesFrom s bs) (StopsFrom s bs)
   ended_sound s None bs tag rest so is e = record { holds = (s, bs, here s bs, inr (rest, (tag, is, e), so, refl)) }
   ended_sound s (Some id) bs tag rest so is e = record { holds = (tag, is, ([], e, ap (λ o. said o s.message) so)) }
 
-  pub item_sound : (k : ℕ) (s : Said) (bs : List ℕ) → length bs < k → Agrees (item_within d k s bs) (TakesFrom s bs) (StopsFrom s bs)
-  unfolding item_within
-  item_sound zero s bs h = absurd (omega arith)
-  item_sound (suc k) s bs h = agree_bind (tag_sound bs)
-      (λ t u. agree_if (ends t.0 t.1)
-      (λ e. let is = both_true t.0 1 EndGroup t.1 e in ended_sound s s.type_id bs u.0 t.2 refl (tag_of u.0 t.0 1 EndGroup t.1 u.1 is.0 is.1) u.2)
-      (λ e. agree_bind (field_sound s bs u.0 t.2 t.0 t.1 u.1 u.2 (both_false t.0 1 EndGroup t.1 e))
-      (λ x f. agree_weaker (item_sound k x.0 x.1 (omega (arith, field_some s x.0 f.0 f.1, ap length f.2, length-append f.0 x.1)))
-      (λ y w. (w.0, w.1, ParsesTo-first (IsField d) bs s x.0 (says y.0 y.1) f.0 x.1 (w.0 ++ y.2) f.1 f.2 w.2))
-      (λ y w. (w.0, w.1, ParsesTo-first (IsField d) bs s x.0 w.0 f.0 x.1 w.1 f.1 f.2 w.2, w.3)))
-      (λ y w. (s, bs, here s bs, inl w))))
-      (λ e w. (s, bs, here s bs, inl (inl w)))
+  step_short : (s : Said) (bs : List ℕ) (r : Result (ℕ × WireType × List ℕ) DecodeError) → tag_at bs ≡ r → Shortens (item_step d s r) bs
+  step_short s bs (Ok t) e =
+      let u = agree_ok (tag_at bs) t (tag_sound bs) e in
+      if_short (ends_item t.0 t.1) (ended s.type_id s.message t.2) (parsed (item_field_at d s t.0 t.1 t.2)) bs
+      (λ other. parsed_short _ (item_field_at d s t.0 t.1 t.2) bs (λ x h.
+          let f = agree_ok (item_field_at d s t.0 t.1 t.2) x (field_sound s bs u.0 t.2 t.0 t.1 u.1 u.2 (both_false t.0 1 EndGroup t.1 other)) h in
+          omega (arith, field_some s x.0 f.0 f.1, ap length f.2, length-append f.0 x.1)))
+  step_short s bs (Err x) e = tt
 
-  step : (k : ℕ) (s u : Said) (all tag bs after : List ℕ) (n : ℕ) (w : WireType) → IsTag tag n w → all ≡ tag ++ bs → ends n w ≡ false → field_at d s n w bs ≡ Ok (u, after) → item_within d (suc k) s all ≡ item_within d k u after
-  unfolding item_within
-  step k s u all tag bs after n w is_tag e goes_on reads = rw (e, tag_complete tag n w bs is_tag, goes_on, reads) refl
+  turn : (s : Said) (bs : List ℕ) (r : Result (ℕ × WireType × List ℕ) DecodeError) → tag_at bs ≡ r → item_from d s bs ≡ step_then (item_from d) (item_step d s r)
+  unfolding item_from
+  turn s bs r e =
+      scan_step (λ t rest. item_step d t (tag_at rest)) (Err UnexpectedEof) (λ t rest. step_short t rest (tag_at rest) refl) s bs
+      ∙ ap (λ z. step_then (item_from d) (item_step d s z)) e
+
+  abbrev Reads : Said → List ℕ → Result (ℕ × List ℕ × List ℕ) DecodeError → Type 0
+  Reads s bs r = Agrees r (TakesFrom s bs) (StopsFrom s bs)
+
+  step_leads : (s : Said) (bs : List ℕ) (r : Result (ℕ × WireType × List ℕ) DecodeError) → tag_at bs ≡ r → Leads Reads (item_step d s r) s bs
+  step_leads s bs (Ok t) e =
+      let u = agree_ok (tag_at bs) t (tag_sound bs) e in
+      if_leads Reads (ends_item t.0 t.1) (ended s.type_id s.message t.2) (parsed (item_field_at d s t.0 t.1 t.2)) s bs
+      (λ last. let is = both_true t.0 1 EndGroup t.1 last in ended_sound s s.type_id bs u.0 t.2 refl (tag_of u.0 t.0 1 EndGroup t.1 u.1 is.0 is.1) u.2)
+      (λ other.
+          let sound = field_sound s bs u.0 t.2 t.0 t.1 u.1 u.2 (both_false t.0 1 EndGroup t.1 other) in
+          parsed_leads Reads (item_field_at d s t.0 t.1 t.2) s bs
+          (λ x h a q. let f = agree_ok (item_field_at d s t.0 t.1 t.2) x sound h in agree_weaker q
+              (λ y w. (w.0, w.1, ParsesTo-first (IsItemField d) bs s x.0 (says y.0 y.1) f.0 x.1 (w.0 ++ y.2) f.1 f.2 w.2))
+              (λ y w. (w.0, w.1, ParsesTo-first (IsItemField d) bs s x.0 w.0 f.0 x.1 w.1 f.1 f.2 w.2, w.3)))
+          (λ y h. record { holds = (s, bs, here s bs, inl (agree_err (item_field_at d s t.0 t.1 t.2) y sound h)) }))
+  step_leads s bs (Err x) e = record { holds = (s, bs, here s bs, inl (inl (agree_err (tag_at bs) x (tag_sound bs) e))) }
+
+  pub item_sound : (s : Said) (bs : List ℕ) → Agrees (item_from d s bs) (TakesFrom s bs) (StopsFrom s bs)
+  unfolding item_from
+  item_sound s bs =
+      scan_leads (λ t rest. item_step d t (tag_at rest)) (Err UnexpectedEof) (λ t rest. step_short t rest (tag_at rest) refl) Reads
+      (λ t rest. step_leads t rest (tag_at rest) refl) s bs
+
+  step : (s u : Said) (all tag bs after : List ℕ) (n : ℕ) (w : WireType) → IsTag tag n w → all ≡ tag ++ bs → ends_item n w ≡ false → item_field_at d s n w bs ≡ Ok (u, after) → item_from d s all ≡ item_from d u after
+  step s u all tag bs after n w is_tag e goes_on reads = turn s all (Ok (n, w, bs)) (ap tag_at e ∙ tag_complete tag n w bs is_tag) ∙ rw (goes_on, reads) refl
 
   -- whole fields are passed
-  pass : (k : ℕ) (ps : List (List ℕ)) (s t : Said) (rest : List ℕ) → ParsesEach (IsField d) s ps t → length (join ps ++ rest) < k →
-      (m : ℕ) × (length rest < m) × (item_within d k s (join ps ++ rest) ≡ item_within d m t rest)
-  pass k [] s t rest h l = (k, l, ap (λ z. item_within d k z rest) h)
-  pass zero (p ∷ ps) s t rest (u, h, w) l = absurd (omega arith)
-  pass (suc k) (p ∷ ps) s t rest (u, h, w) l =
+  pass : (ps : List (List ℕ)) (s t : Said) (rest : List ℕ) → ParsesEach (IsItemField d) s ps t → item_from d s (join ps ++ rest) ≡ item_from d t rest
+  pass [] s t rest h = ap (λ z. item_from d z rest) h
+  pass (p ∷ ps) s t rest (u, h, w) =
       let c = field_complete s u p (join ps ++ rest) h in
-      let i = pass k ps u t rest w (omega (arith, field_some s u p h, length-append p (join ps), length-append (p ++ join ps) rest, length-append (join ps) rest)) in
-      (i.0, i.1, step k s u ((p ++ join ps) ++ rest) c.tag c.after (join ps ++ rest) c.number c.wire c.is_tag (append_assoc p (join ps) rest ∙ c.split) c.goes_on c.reads ∙ i.2)
+      step s u ((p ++ join ps) ++ rest) c.tag c.after (join ps ++ rest) c.number c.wire c.is_tag (append_assoc p (join ps) rest ∙ c.split) c.goes_on c.reads
+      ∙ pass ps u t rest w
 
-  at_end : (m : ℕ) (id : ℕ) (msg end rest : List ℕ) → IsTag end 1 EndGroup → length (end ++ rest) < m → item_within d m (says id msg) (end ++ rest) ≡ Ok (id, msg, rest)
-  unfolding item_within
-  at_end zero id msg end rest is l = absurd (omega arith)
-  at_end (suc m) id msg end rest is l = rw (tag_complete end 1 EndGroup rest is) refl
+  at_fault : (s : Said) (bs : List ℕ) (e : DecodeError) → ItemFieldFault d bs e ⊎ EndFault s bs e → item_from d s bs ≡ Err e
+  at_fault s bs e (inl (inl h)) = turn s bs (Err e) (tag_faulty bs e h)
+  at_fault s bs e (inl (inr (inl (rest, t, h)))) = turn s bs (Ok (2, Varint, rest)) (tag_read bs rest 2 Varint t) ∙ rw (type_id_faulty rest e h) refl
+  at_fault s bs e (inl (inr (inr (inl (rest, t, h))))) = turn s bs (Ok (3, LengthDelimited, rest)) (tag_read bs rest 3 LengthDelimited t) ∙ rw (delimited_faulty rest e h) refl
+  at_fault s bs e (inl (inr (inr (inr (n, w, rest, other, t, h))))) =
+      turn s bs (Ok (n, w, rest)) (tag_read bs rest n w t)
+      ∙ rw (not_both n 1 EndGroup w other.2, not_both n 2 Varint w other.0, not_both n 3 LengthDelimited w other.1, payload_faulty d n w rest e h) refl
+  at_fault s bs e (inr (rest, t, no_id, k)) = turn s bs (Ok (1, EndGroup, rest)) (tag_read bs rest 1 EndGroup t) ∙ rw no_id (ap (λ x. Err x) (sym k))
 
-  at_fault : (m : ℕ) (s : Said) (bs : List ℕ) (e : DecodeError) → length bs < m → FieldFault d bs e ⊎ EndFault s bs e → item_within d m s bs ≡ Err e
-  unfolding item_within
-  at_fault zero s bs e l h = absurd (omega arith)
-  at_fault (suc m) s bs e l (inl (inl h)) = rw (tag_faulty bs e h) refl
-  at_fault (suc m) s bs e l (inl (inr (inl (rest, t, h)))) = rw (tag_read bs rest 2 Varint t, type_id_faulty rest e h) refl
-  at_fault (suc m) s bs e l (inl (inr (inr (inl (rest, t, h))))) = rw (tag_read bs rest 3 LengthDelimited t, delimited_faulty rest e h) refl
-  at_fault (suc m) s bs e l (inl (inr (inr (inr (n, w, rest, other, t, h))))) =
-      rw (tag_read bs rest n w t, not_both n 1 EndGroup w other.2, not_both n 2 Varint w other.0, not_both n 3 LengthDelimited w other.1, payload_faulty d n w rest e h) refl
-  at_fault (suc m) s bs e l (inr (rest, t, no_id, k)) = rw (tag_read bs rest 1 EndGroup t, no_id) (ap (λ x. Err x) (sym k))
+  pub from_complete : (s : Said) (bs : List ℕ) (x : ℕ × List ℕ × List ℕ) → TakesFrom s bs x → item_from d s bs ≡ Ok x
+  from_complete s bs x (end, is, (ps, e, w)) =
+      ap (item_from d s) e ∙ pass ps s (says x.0 x.1) (end ++ x.2) w
+      ∙ turn (says x.0 x.1) (end ++ x.2) (Ok (1, EndGroup, x.2)) (tag_complete end 1 EndGroup x.2 is)
 
-  pub from_complete : (k : ℕ) (s : Said) (bs : List ℕ) (x : ℕ × List ℕ × List ℕ) → length bs < k → TakesFrom s bs x → item_within d k s bs ≡ Ok x
-  from_complete k s bs x l (end, is, (ps, e, w)) =
-      let i = pass k ps s (says x.0 x.1) (end ++ x.2) w (subst (λ z. length z < k) e l) in
-      ap (item_within d k s) e ∙ i.2 ∙ at_end i.0 x.0 x.1 end x.2 is i.1
-
-  pub from_faulty : (k : ℕ) (s : Said) (bs : List ℕ) (e : DecodeError) → length bs < k → StopsFrom s bs e → item_within d k s bs ≡ Err e
-  from_faulty k s bs e l (t, rest, (ps, is, w), h) =
-      let i = pass k ps s t rest w (subst (λ z. length z < k) is l) in
-      ap (item_within d k s) is ∙ i.2 ∙ at_fault i.0 t rest e i.1 h
+  pub from_faulty : (s : Said) (bs : List ℕ) (e : DecodeError) → StopsFrom s bs e → item_from d s bs ≡ Err e
+  from_faulty s bs e (t, rest, (ps, is, w), h) = ap (item_from d s) is ∙ pass ps s t rest w ∙ at_fault t rest e h
 
   -- ---- the reading of an Item
   pub takes_from : (bs msg rest : List ℕ) (id : ℕ) → TakesItem d bs id msg rest → TakesFrom unsaid bs (id, msg, rest)
@@ -259,15 +275,15 @@ module _ (d : ℕ) where
 
   pub read_sound : (bs : List ℕ) → Agrees (item_at d bs) (λ x. TakesItem d bs x.0 x.1 x.2) (ItemFault d bs)
   unfolding item_at
-  read_sound bs = agree_weaker (item_sound (suc (length bs)) unsaid bs (omega arith)) (λ x h. takes_item bs x.1 x.2 x.0 h) (λ e h. h)
+  read_sound bs = agree_weaker (item_sound unsaid bs) (λ x h. takes_item bs x.1 x.2 x.0 h) (λ e h. h)
 
   pub read_complete : (bs msg rest : List ℕ) (id : ℕ) → TakesItem d bs id msg rest → item_at d bs ≡ Ok (id, msg, rest)
   unfolding item_at
-  read_complete bs msg rest id h = from_complete (suc (length bs)) unsaid bs (id, msg, rest) (omega arith) (takes_from bs msg rest id h)
+  read_complete bs msg rest id h = from_complete unsaid bs (id, msg, rest) (takes_from bs msg rest id h)
 
   pub read_faulty : (bs : List ℕ) (e : DecodeError) → ItemFault d bs e → item_at d bs ≡ Err e
   unfolding item_at
-  read_faulty bs e h = from_faulty (suc (length bs)) unsaid bs e (omega arith) h
+  read_faulty bs e h = from_faulty unsaid bs e h
 
 -- ---- memory is no fault
 type_id_fault_full : (bs : List ℕ) → TypeIdFault bs OutOfMemory → ⊥
@@ -285,7 +301,7 @@ skip_no_full P (Ok x) d n w bs rest h = tt
 skip_no_full P (Err e) d n w bs rest h = payload_no_full d n w bs e h
 
 module _ (d : ℕ) where
-  field_fault_full : (bs : List ℕ) → FieldFault d bs OutOfMemory → ⊥
+  field_fault_full : (bs : List ℕ) → ItemFieldFault d bs OutOfMemory → ⊥
   field_fault_full bs (inl h) = tag_fault_full bs h
   field_fault_full bs (inr (inl (rest, t, h))) = type_id_fault_full rest h
   field_fault_full bs (inr (inr (inl (rest, t, h)))) = delimited_full rest (delimited_faulty rest OutOfMemory h)
@@ -333,44 +349,44 @@ module _ (d : ℕ) (all : List ℕ) (s : Said) (bs : List ℕ) (reached : Reache
     took : TakesTag bs n w rest
     took = agree_ok (tag_at bs) (n, w, rest) (tag_sound bs) tag
 
-    took_end : ends n w ≡ true → TakesTag bs 1 EndGroup rest
+    took_end : ends_item n w ≡ true → TakesTag bs 1 EndGroup rest
     took_end h = let is = both_true n 1 EndGroup w h in (took.0, tag_of d took.0 n 1 EndGroup w took.1 is.0 is.1, took.2)
 
-    pub whole_item : ends n w ≡ true → (id : ℕ) → s.type_id ≡ Some id → item_at d all ≡ Ok (id, s.message, rest)
+    pub whole_item : ends_item n w ≡ true → (id : ℕ) → s.type_id ≡ Some id → item_at d all ≡ Ok (id, s.message, rest)
     whole_item h id is =
         let end = took_end h in
         let same : s ≡ says id s.message = ap (λ o. said o s.message) is in
         read_complete d all s.message rest id (takes_item d all s.message rest id (
           end.0,
           end.1,
-          (reached.0, reached.1 ∙ ap (λ z. join reached.0 ++ z) end.2, subst (λ z. ParsesEach (IsField d) unsaid reached.0 z) same reached.2),
+          (reached.0, reached.1 ∙ ap (λ z. join reached.0 ++ z) end.2, subst (λ z. ParsesEach (IsItemField d) unsaid reached.0 z) same reached.2),
         ))
 
-    pub no_type_id : ends n w ≡ true → s.type_id ≡ None → item_at d all ≡ Err (InvalidMessageSet MissingTypeId)
+    pub no_type_id : ends_item n w ≡ true → s.type_id ≡ None → item_at d all ≡ Err (InvalidMessageSet MissingTypeId)
     no_type_id h is = read_faulty d all (InvalidMessageSet MissingTypeId) (s, bs, reached, inr (rest, took_end h, is, refl))
 
-    ended_by : ends n w ≡ true → (o : Option ℕ) → s.type_id ≡ o → item_at d all ≡ ended o s.message rest
+    ended_by : ends_item n w ≡ true → (o : Option ℕ) → s.type_id ≡ o → item_at d all ≡ ended o s.message rest
     ended_by h None is = no_type_id h is
     ended_by h (Some id) is = whole_item h id is
 
-    pub ended_item : ends n w ≡ true → item_at d all ≡ ended s.type_id s.message rest
+    pub ended_item : ends_item n w ≡ true → item_at d all ≡ ended s.type_id s.message rest
     ended_item h = ended_by h s.type_id refl
 
-    module _ (goes_on : ends n w ≡ false) where
-      sound : Agrees (field_at d s n w rest) (FieldAt d s bs) (FieldFault d bs)
+    module _ (goes_on : ends_item n w ≡ false) where
+      sound : Agrees (item_field_at d s n w rest) (FieldAt d s bs) (ItemFieldFault d bs)
       sound = field_sound d s bs took.0 rest n w took.1 took.2 (both_false n 1 EndGroup w goes_on)
 
-      pub bad_field : (e : DecodeError) → field_at d s n w rest ≡ Err e → item_at d all ≡ Err e
-      bad_field e h = read_faulty d all e (s, bs, reached, inl (agree_err (field_at d s n w rest) e sound h))
+      pub bad_field : (e : DecodeError) → item_field_at d s n w rest ≡ Err e → item_at d all ≡ Err e
+      bad_field e h = read_faulty d all e (s, bs, reached, inl (agree_err (item_field_at d s n w rest) e sound h))
 
-      pub next_field : (t : Said) (after : List ℕ) → field_at d s n w rest ≡ Ok (t, after) → Reaches d all t after
+      pub next_field : (t : Said) (after : List ℕ) → item_field_at d s n w rest ≡ Ok (t, after) → Reaches d all t after
       next_field t after h =
-          let u = agree_ok (field_at d s n w rest) (t, after) sound h in
-          ParsesTo-more (IsField d) all unsaid s t u.0 bs after reached u.1 u.2
+          let u = agree_ok (item_field_at d s n w rest) (t, after) sound h in
+          ParsesTo-more (IsItemField d) all unsaid s t u.0 bs after reached u.1 u.2
 
-      pub fewer : (t : Said) (after : List ℕ) → field_at d s n w rest ≡ Ok (t, after) → length after < length bs
+      pub fewer : (t : Said) (after : List ℕ) → item_field_at d s n w rest ≡ Ok (t, after) → length after < length bs
       fewer t after h =
-          let u = agree_ok (field_at d s n w rest) (t, after) sound h in
+          let u = agree_ok (item_field_at d s n w rest) (t, after) sound h in
           omega (arith, field_some d s t u.0 u.1, ap length u.2, length-append u.0 after)
 
     pub found_message : IsMessageAt n w rest → HasMessage d all
@@ -392,12 +408,12 @@ module _ (d : ℕ) where
   InRange None = Unit {0}
   InRange (Some id) = IsTypeId id
 
-  field_in_range : (s t : Said) (f : List ℕ) → IsField d s f t → InRange s.type_id → InRange t.type_id
+  field_in_range : (s t : Said) (f : List ℕ) → IsItemField d s f t → InRange s.type_id → InRange t.type_id
   field_in_range s t f (inl (tag, p, id, is_tag, v, range, e, st)) h = subst (λ z. InRange z.type_id) (sym st) range
   field_in_range s t f (inr (inl (tag, l, b, is_tag, v, e, st))) h = subst (λ z. InRange z.type_id) (sym st) h
   field_in_range s t f (inr (inr (n, w, other, field, st))) h = subst (λ z. InRange z.type_id) (sym st) h
 
-  each_in_range : (ps : List (List ℕ)) (s t : Said) → ParsesEach (IsField d) s ps t → InRange s.type_id → InRange t.type_id
+  each_in_range : (ps : List (List ℕ)) (s t : Said) → ParsesEach (IsItemField d) s ps t → InRange s.type_id → InRange t.type_id
   each_in_range [] s t e h = subst (λ z. InRange z.type_id) e h
   each_in_range (p ∷ ps) s t (u, f, more) h = each_in_range ps u t more (field_in_range s u p f h)
 

@@ -14,20 +14,20 @@ use Rattle.buffa_message_set.specs.Pinned.{GivesItem, ItemIsPinned, WrittenItemI
 use Rattle.buffa_message_set.proofs.ItemLemmas.{one_item, read_sound, written_item}
 
 -- an unknown field is left
-read_there : (d slots : ℕ) (bs : List ℕ) → (slots == 0) ≡ false → item_in d slots bs ≡ item_at d bs
-read_there d slots bs e = rw e refl
+read_there : (d unknown : ℕ) (bs : List ℕ) → (unknown == 0) ≡ false → item_in d unknown bs ≡ item_at d bs
+read_there d unknown bs e = rw e refl
 
-none_there : (d slots : ℕ) (bs : List ℕ) → (slots == 0) ≡ true → item_in d slots bs ≡ Err UnknownFieldLimitExceeded
-none_there d slots bs e = rw e refl
+none_there : (d unknown : ℕ) (bs : List ℕ) → (unknown == 0) ≡ true → item_in d unknown bs ≡ Err UnknownFieldLimitExceeded
+none_there d unknown bs e = rw e refl
 
-there : (d slots : ℕ) (bs x : List ℕ) (a : ℕ × List ℕ) (b : Bool) → (slots == 0) ≡ b → GivesItem d slots bs (Ok a) x → (0 < slots) × TakesItem d bs a.0 a.1 x
-there d slots bs x a true e h = let no = none_there d slots bs e in cc
-there d slots bs x a false e h =
-    (omega (arith, eqb-false slots 0 e), agree_ok (item_at d bs) (a.0, a.1, x) (read_sound d bs) (sym (read_there d slots bs e) ∙ h))
+there : (d unknown : ℕ) (bs x : List ℕ) (a : ℕ × List ℕ) (b : Bool) → (unknown == 0) ≡ b → GivesItem d unknown bs (Ok a) x → (0 < unknown) × TakesItem d bs a.0 a.1 x
+there d unknown bs x a true e h = let no = none_there d unknown bs e in cc
+there d unknown bs x a false e h =
+    (omega (arith, eqb-false unknown 0 e), agree_ok (item_at d bs) (a.0, a.1, x) (read_sound d bs) (sym (read_there d unknown bs e) ∙ h))
 
-told : (d slots : ℕ) (bs : List ℕ) (f : DecodeError) (b : Bool) → (slots == 0) ≡ b → item_in d slots bs ≡ Err f → 0 < slots → ItemFault d bs f
-told d slots bs f true e h some = absurd (omega (arith, eqb-true slots 0 e, some))
-told d slots bs f false e h some = agree_err (item_at d bs) f (read_sound d bs) (sym (read_there d slots bs e) ∙ h)
+told : (d unknown : ℕ) (bs : List ℕ) (f : DecodeError) (b : Bool) → (unknown == 0) ≡ b → item_in d unknown bs ≡ Err f → 0 < unknown → ItemFault d bs f
+told d unknown bs f true e h some = absurd (omega (arith, eqb-true unknown 0 e, some))
+told d unknown bs f false e h some = agree_err (item_at d bs) f (read_sound d bs) (sym (read_there d unknown bs e) ∙ h)
 
 same_left : (a b : BudgetLeft) → a.unknown ≡ b.unknown → a.memory ≡ b.memory → a ≡ b
 same_left a b u m i = record { unknown = u i; memory = m i }
@@ -40,13 +40,13 @@ spent old a b (inr h) (inr k) = same_left a b (omega (arith, h.0, k.0)) (h.1 ∙
 
 pub item_is_pinned : ItemIsPinned
 item_is_pinned = record {
-  accepted = λ d slots bs x y a b h k.
+  accepted = λ d unknown bs x y a b h k.
       let same = ok_same (sym h ∙ k) in
       (ap (λ z. (z.0, z.1)) same, ap (λ z. z.2) same);
-  is_there = λ d slots bs x a h. there d slots bs x a (slots == 0) refl h;
-  refused = λ d slots bs x y a f h k no. let e = k no in cc;
-  fault = λ d slots bs x y f g h k no nor. let e = h no in let j = k nor in cc;
-  is_a_fault = λ d slots bs x f h no some. told d slots bs f (slots == 0) refl (h no) some;
+  is_there = λ d unknown bs x a h. there d unknown bs x a (unknown == 0) refl h;
+  refused = λ d unknown bs x y a f h k no. let e = k no in cc;
+  fault = λ d unknown bs x y f g h k no nor. let e = h no in let j = k nor in cc;
+  is_a_fault = λ d unknown bs x f h no some. told d unknown bs f (unknown == 0) refl (h no) some;
   spent = spent;
 }
 

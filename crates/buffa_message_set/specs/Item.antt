@@ -1,11 +1,13 @@
 -- The Items of a MessageSet: what follows an Item's start tag, up to and with its end tag.
 -- Source: the documentation of buffa, "MessageSet wire format helpers"; the protobuf encoding guide, "Groups".
-use Rattle.std.specs.Prelude.{◌≡◌, ◌≢◌, ℕ, zero, suc, ◌+◌, ◌^◌, ◌<◌, ◌≤◌, ◌==◌, ◌&&◌, nat_lt, ◌⊎◌, Bool, List, [], ◌++◌, length, Option, None, Some, Result, Ok, Err, if◌then◌else◌}
+use Rattle.std.specs.Prelude.{◌≡◌, ◌≢◌, ℕ, ◌+◌, ◌^◌, ◌<◌, ◌≤◌, ◌==◌, ◌&&◌, nat_lt, ◌⊎◌, Bool, List, [], ◌++◌, length, Option, None, Some, Result, Ok, Err, if◌then◌else◌}
 use Rattle.buffa_bytes.specs.Gives.{◌>>=◌}
 use Rattle.buffa_bytes.specs.Varint.{IsVarint, TakesVarint, VarintFault, varint_encoding}
 use Rattle.buffa_bytes.specs.Values.{delimited_encoding, tag_encoding}
 use Rattle.buffa_bytes.specs.Field.{Field, Group, IsTag, LengthFault, PayloadFault, TagFault, TakesDelimited, TakesTag}
 use Rattle.buffa_bytes.specs.Reading.{delimited_at, skip_at, tag_at, varint_at}
+use Rattle.buffa_bytes.specs.Scan.{Scanned, parsed, scan}
+use Rattle.buffa_bytes.specs.Scan.Scanned.{ends}
 use Rattle.buffa_bytes.specs.WireType.{same_wire}
 use Rattle.buffa_wire.specs.BudgetLeft.{BudgetLeft}
 use Rattle.buffa_bytes.specs.declared.wire_type.WireType.{WireType}
@@ -64,12 +66,12 @@ module _ (d : ℕ) where
   abbrev pub IsOtherField : Said → List ℕ → Said → Type 0
   IsOtherField s f t = (n : ℕ) × (w : WireType) × IsOther n w × Field d n w f × (t ≡ s)
 
-  abbrev pub IsField : Said → List ℕ → Said → Type 0
-  IsField s f t = IsTypeIdField s f t ⊎ (IsMessageField s f t ⊎ IsOtherField s f t)
+  abbrev pub IsItemField : Said → List ℕ → Said → Type 0
+  IsItemField s f t = IsTypeIdField s f t ⊎ (IsMessageField s f t ⊎ IsOtherField s f t)
 
   -- fields begin the bytes and say s, and rest follows them
   abbrev pub Reaches : List ℕ → Said → List ℕ → Type 0
-  Reaches bs s rest = ParsesTo IsField unsaid bs s rest
+  Reaches bs s rest = ParsesTo IsItemField unsaid bs s rest
 
   -- b is fields that give a type id, the last of them id, and the message bytes msg; and an end tag of number 1
   abbrev pub Item : List ℕ → ℕ → List ℕ → Type 0
@@ -101,8 +103,8 @@ EndFault s bs e =
 module _ (d : ℕ) where
   -- Why neither a field nor an end tag of number 1 begins these bytes. The fault of an end tag of another number is
   -- that it ends a group which isn't open.
-  abbrev pub FieldFault : List ℕ → DecodeError → Type 0
-  FieldFault bs e =
+  abbrev pub ItemFieldFault : List ℕ → DecodeError → Type 0
+  ItemFieldFault bs e =
       TagFault bs e
       ⊎ (((rest : List ℕ) × TakesTag bs 2 Varint rest × TypeIdFault rest e)
       ⊎ (((rest : List ℕ) × TakesTag bs 3 LengthDelimited rest × LengthFault rest e)
@@ -110,7 +112,7 @@ module _ (d : ℕ) where
 
   -- e is the first fault of what follows the fields that begin the bytes
   abbrev pub ItemFault : List ℕ → DecodeError → Type 0
-  ItemFault bs e = (s : Said) × (rest : List ℕ) × Reaches d bs s rest × (FieldFault rest e ⊎ EndFault s rest e)
+  ItemFault bs e = (s : Said) × (rest : List ℕ) × Reaches d bs s rest × (ItemFieldFault rest e ⊎ EndFault s rest e)
 
 -- ---- the reading
 
@@ -138,8 +140,8 @@ abbrev pub message_then : Said → List ℕ → Result (Said × List ℕ) Decode
 message_then s bs = appended_at s.message bs >>= (λ x. Ok (record s { message = x.0 }, x.1))
 
 -- what is said after the field of number n and wire type w, whose payload is at the front, and what follows it
-abbrev pub field_at : ℕ → Said → ℕ → WireType → List ℕ → Result (Said × List ℕ) DecodeError
-field_at d s n w bs =
+abbrev pub item_field_at : ℕ → Said → ℕ → WireType → List ℕ → Result (Said × List ℕ) DecodeError
+item_field_at d s n w bs =
     if (n == 2) && same_wire Varint w then id_then s bs else (
     if (n == 3) && same_wire LengthDelimited w then message_then s bs else (skip_at d n w bs >>= (λ rest. Ok (s, rest))))
 
@@ -153,25 +155,25 @@ abbrev pub ended_by : ItemParts → List ℕ → Result (ℕ × List ℕ × List
 ended_by parts rest = ended parts.type_id parts.message.items rest
 
 -- whether a tag is the Item's end tag
-abbrev pub ends : ℕ → WireType → Bool
-ends n w = (n == 1) && same_wire EndGroup w
+abbrev pub ends_item : ℕ → WireType → Bool
+ends_item n w = (n == 1) && same_wire EndGroup w
 
--- the Item, where s was said already; the first number bounds the steps
-unfoldable pub item_within : ℕ → ℕ → Said → List ℕ → Result (ℕ × List ℕ × List ℕ) DecodeError
-item_within d zero s bs = Err UnexpectedEof
-item_within d (suc k) s bs = do
-  t ← tag_at bs
-  if ends t.0 t.1 then ended s.type_id s.message t.2 else (do
-    x ← field_at d s t.0 t.1 t.2
-    item_within d k x.0 x.1)
+-- a tag of an Item, where s was said: its end tag ends it, and any other field is read
+abbrev pub item_step : ℕ → Said → Result (ℕ × WireType × List ℕ) DecodeError → Scanned Said (Result (ℕ × List ℕ × List ℕ) DecodeError)
+item_step d s (Ok t) = if ends_item t.0 t.1 then ends (ended s.type_id s.message t.2) else parsed (item_field_at d s t.0 t.1 t.2)
+item_step d s (Err e) = ends (Err e)
 
--- the type id, the message bytes and what follows the Item; each field has a tag, so there are fewer than bytes
+-- the Item, where s was said already
+unfoldable pub item_from : ℕ → Said → List ℕ → Result (ℕ × List ℕ × List ℕ) DecodeError
+item_from d s bs = scan (λ t rest. item_step d t (tag_at rest)) (Err UnexpectedEof) s bs
+
+-- the type id, the message bytes and what follows the Item
 unfoldable pub item_at : ℕ → List ℕ → Result (ℕ × List ℕ × List ℕ) DecodeError
-item_at d bs = item_within d (suc (length bs)) unsaid bs
+item_at d bs = item_from d unsaid bs
 
 -- the same, where so many unknown fields are left, and one is taken first
 abbrev pub item_in : ℕ → ℕ → List ℕ → Result (ℕ × List ℕ × List ℕ) DecodeError
-item_in d slots bs = if slots == 0 then Err UnknownFieldLimitExceeded else item_at d bs
+item_in d unknown bs = if unknown == 0 then Err UnknownFieldLimitExceeded else item_at d bs
 
 -- an unknown field is spent, and nothing else; or none was left, and nothing is spent
 abbrev pub SpendsUnknown : BudgetLeft → BudgetLeft → Type 0

@@ -11,16 +11,16 @@ use Rattle.buffa_message_set.specs.Item.{IsTypeId, ItemFault, SpendsUnknown, Tak
 
 -- what reading an Item may answer, where so many unknown fields are left, and what it leaves unread
 abbrev pub GivesItem : ℕ → ℕ → List ℕ → Result (ℕ × List ℕ) DecodeError → List ℕ → Type 0
-GivesItem d slots bs r rest = GivesUnlessFull (λ item. (item.0, item.1, rest)) r (item_in d slots bs)
+GivesItem d unknown bs r rest = GivesUnlessFull (λ item. (item.0, item.1, rest)) r (item_in d unknown bs)
 
 -- An Item is read in one way only: the one that the grammar has. What is read can't have been refused, memory aside, and
 -- there is one fault.
 pub record ItemIsPinned : Type 0 where
-  pub accepted : (d slots : ℕ) (bs x y : List ℕ) (a b : ℕ × List ℕ) → GivesItem d slots bs (Ok a) x → GivesItem d slots bs (Ok b) y → (a ≡ b) × (x ≡ y)
-  pub is_there : (d slots : ℕ) (bs x : List ℕ) (a : ℕ × List ℕ) → GivesItem d slots bs (Ok a) x → (0 < slots) × TakesItem d bs a.0 a.1 x
-  pub refused : (d slots : ℕ) (bs x y : List ℕ) (a : ℕ × List ℕ) (f : DecodeError) → GivesItem d slots bs (Ok a) x → GivesItem d slots bs (Err f) y → f ≢ OutOfMemory → ⊥
-  pub fault : (d slots : ℕ) (bs x y : List ℕ) (f g : DecodeError) → GivesItem d slots bs (Err f) x → GivesItem d slots bs (Err g) y → f ≢ OutOfMemory → g ≢ OutOfMemory → f ≡ g
-  pub is_a_fault : (d slots : ℕ) (bs x : List ℕ) (f : DecodeError) → GivesItem d slots bs (Err f) x → f ≢ OutOfMemory → 0 < slots → ItemFault d bs f
+  pub accepted : (d unknown : ℕ) (bs x y : List ℕ) (a b : ℕ × List ℕ) → GivesItem d unknown bs (Ok a) x → GivesItem d unknown bs (Ok b) y → (a ≡ b) × (x ≡ y)
+  pub is_there : (d unknown : ℕ) (bs x : List ℕ) (a : ℕ × List ℕ) → GivesItem d unknown bs (Ok a) x → (0 < unknown) × TakesItem d bs a.0 a.1 x
+  pub refused : (d unknown : ℕ) (bs x y : List ℕ) (a : ℕ × List ℕ) (f : DecodeError) → GivesItem d unknown bs (Ok a) x → GivesItem d unknown bs (Err f) y → f ≢ OutOfMemory → ⊥
+  pub fault : (d unknown : ℕ) (bs x y : List ℕ) (f g : DecodeError) → GivesItem d unknown bs (Err f) x → GivesItem d unknown bs (Err g) y → f ≢ OutOfMemory → g ≢ OutOfMemory → f ≡ g
+  pub is_a_fault : (d unknown : ℕ) (bs x : List ℕ) (f : DecodeError) → GivesItem d unknown bs (Err f) x → f ≢ OutOfMemory → 0 < unknown → ItemFault d bs f
   pub spent : (old a b : BudgetLeft) → SpendsUnknown old a → SpendsUnknown old b → a ≡ b
 
 -- what writing an Item may leave in a sink

@@ -46,7 +46,7 @@ pub fn items_are_groups()
 
 /// Bytes, a depth and a budget have one answer as an Item, and leave one budget.
 ///
-/// What is left open: after a refusal, how much stays unread (an end of what was there, and all of it where
+/// What is left open: after a refusal, how much stays unread (a tail of what was there, and all of it where
 /// no unknown field was left); and where memory runs out, which is told only where message bytes are there.
 pub fn items_are_pinned()
     ensures { ItemIsPinned }

@@ -6,7 +6,7 @@
 //! ```ignore
 //! use buffa::message_set::{ITEM_START_TAG, merge_item, write_item};
 //!
-//! write_item(1000, b"hello", &mut text)?; // 0B 10 E8 07 1A 05 68 65 6C 6C 6F 0C
+//! write_item(1000, b"hello", &mut sink)?; // 0B 10 E8 07 1A 05 68 65 6C 6C 6F 0C
 //! let (number, payload) = merge_item(alloc, &mut rest, ctx.descend()?)?;
 //! ```
 
@@ -19,7 +19,7 @@ ghost use Rattle.buffa_bytes.specs.Unread.{IsTailOf};
 ghost use Rattle.buffa_bytes.specs.Values.{delimited_encoding, tag_encoding};
 ghost use Rattle.buffa_bytes.specs.WireType.{same_wire};
 ghost use Rattle.buffa_bytes.specs.Written.{UsesRoom, Writes};
-ghost use Rattle.buffa_message_set.specs.Item.{HasMessage, IsTypeId, SpendsUnknown, field_at, item_at, item_in, item_size, item_encoding, BytesAt, IsMessageAt, appended_at, body_encoding, ended_by, id_then, said_by, type_id_at, unsaid};
+ghost use Rattle.buffa_message_set.specs.Item.{HasMessage, IsTypeId, SpendsUnknown, item_field_at, item_at, item_in, item_size, item_encoding, BytesAt, IsMessageAt, appended_at, body_encoding, ended_by, id_then, said_by, type_id_at, unsaid};
 
 use buffa_bytes::buf::{copy_bytes, front};
 use buffa_wire::{
@@ -31,28 +31,28 @@ use std::alloc::Global;
 /// The tag that begins an Item: number 1, start of group.
 ///
 /// ```ignore
-/// encode_varint(ITEM_START_TAG, text)?;
+/// encode_varint(ITEM_START_TAG, sink)?;
 /// ```
 pub const ITEM_START_TAG: u64 = 0x0B;
 
 /// The tag that ends an Item: number 1, end of group.
 ///
 /// ```ignore
-/// encode_varint(ITEM_END_TAG, text)?;
+/// encode_varint(ITEM_END_TAG, sink)?;
 /// ```
 pub const ITEM_END_TAG: u64 = 0x0C;
 
 /// The tag of the type id: number 2, a varint.
 ///
 /// ```ignore
-/// encode_varint(TYPE_ID_TAG, text)?;
+/// encode_varint(TYPE_ID_TAG, sink)?;
 /// ```
 pub const TYPE_ID_TAG: u64 = 0x10;
 
 /// The tag of the message: number 3, length-delimited.
 ///
 /// ```ignore
-/// encode_varint(MESSAGE_TAG, text)?;
+/// encode_varint(MESSAGE_TAG, sink)?;
 /// ```
 pub const MESSAGE_TAG: u64 = 0x1A;
 
@@ -68,7 +68,7 @@ const MAX_TYPE_ID: u64 = 2_147_483_647;
 pub fn item_encoded_len(number: u32, payload_len: usize) -> usize
     requires { item_size number payload_len < 2 ^ 64 }
     ensures size { result ≡ item_size number payload_len }
-    ensures text { (msg : List ℕ) → length msg ≡ payload_len → length (item_encoding number msg) ≡ result }
+    ensures encoding { (msg : List ℕ) → length msg ≡ payload_len → length (item_encoding number msg) ≡ result }
 {
     4 + varint_len(u64::from(number)) + varint_len(payload_len as u64) + payload_len
 }
@@ -81,7 +81,7 @@ pub fn item_encoded_len(number: u32, payload_len: usize) -> usize
 /// [`EncodeError::OutOfMemory`] alone, after a beginning of the encoding.
 ///
 /// ```ignore
-/// write_item(1000, b"hello", &mut text)?; // 0B 10 E8 07 1A 05 68 65 6C 6C 6F 0C
+/// write_item(1000, b"hello", &mut sink)?; // 0B 10 E8 07 1A 05 68 65 6C 6C 6F 0C
 /// ```
 #[tactic(auto, using(buffa_bytes::proofs::SinkLemmas::writes_then, buffa_bytes::proofs::SinkLemmas::front_first, buffa_bytes::proofs::SinkLemmas::room_then))]
 pub fn write_item<S: EncodeSink>(
@@ -237,7 +237,7 @@ fn merge_field<B: Buf>(
     parts: &mut ItemParts,
 ) -> Result<(), DecodeError>
     ensures reads { GivesUnlessFull (λ _. (said_by parts.new, B.unread buf.new)) result
-        (field_at depth (said_by parts.old) tag.number tag.wire_type (B.unread buf.old)) }
+        (item_field_at depth (said_by parts.old) tag.number tag.wire_type (B.unread buf.old)) }
     ensures full { FullOnlyIf result (IsMessageAt tag.number tag.wire_type (B.unread buf.old)) }
     ensures kept { B.beyond buf.new ≡ B.beyond buf.old }
     ensures tail { IsTailOf (B.unread buf.new) (B.unread buf.old) }

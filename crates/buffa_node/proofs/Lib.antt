@@ -1,5 +1,5 @@
-pub mod EntryMerge
-pub mod FieldMerge
+pub mod EntryMergeLemmas
+pub mod FieldMergeLemmas
 pub mod LoopLemmas
-pub mod NodePasses
+pub mod NodePassLemmas
 pub mod WriteLemmas

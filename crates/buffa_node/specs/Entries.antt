@@ -6,7 +6,7 @@ use Rattle.std.specs.Option.{option_map}
 use Rattle.std.specs.declared.cmp.Ordering.{Ordering}
 use Rattle.buffa_bytes.specs.declared.error.DecodeError.{DecodeError}
 use Rattle.buffa_bytes.specs.declared.wire_type.WireType.TheVariants.{LengthDelimited}
-use Rattle.buffa_wire.specs.BudgetLeft.{BudgetLeft, need_by, nothing, plus, slots}
+use Rattle.buffa_wire.specs.BudgetLeft.{BudgetLeft, need_by, nothing, plus, unknown_fields}
 use Rattle.buffa_bytes.specs.Reading.{delimited_at}
 use Rattle.buffa_bytes.specs.WireType.{same_wire}
 use Rattle.buffa_map.specs.Codec.{Reading}
@@ -20,9 +20,9 @@ abbrev pub put_in : {K V : Type 0} → (K → K → Ordering) → List (K × V) 
 put_in cmp m s = cond s.known (insert_entry cmp m s.key s.value) m
 
 -- what one that is undeclared takes, where each takes so many unknown fields
-abbrev pub slot_of : {K V : Type 0} → ℕ → Result (MapEntry K V) DecodeError → BudgetLeft
-slot_of slot (Ok s) = slots (cond s.known 0 slot)
-slot_of slot (Err e) = nothing
+abbrev pub extra_of : {K V : Type 0} → ℕ → Result (MapEntry K V) DecodeError → BudgetLeft
+extra_of extra (Ok s) = unknown_fields (cond s.known 0 extra)
+extra_of extra (Err e) = nothing
 
 module _ {K V : Type 0} (key : Reading K) (val : Reading V) where
   -- the entry that a whole payload holds: its bytes, and what they say
@@ -37,5 +37,5 @@ module _ {K V : Type 0} (key : Reading K) (val : Reading V) where
 
   -- an entry costs so many units, what the messages in it cost, by paid, and its unknown fields
   unfoldable pub entry_cost : Reading V → ℕ → ℕ → Need
-  entry_cost paid cost slot d n w bs =
-      if same_wire LengthDelimited w then need_by (delimited_at bs) (λ e. plus (need_of key paid d cost e.0) (slot_of slot (entry_of key val d e.0))) else nothing
+  entry_cost paid cost extra d n w bs =
+      if same_wire LengthDelimited w then need_by (delimited_at bs) (λ e. plus (need_of key paid d cost e.0) (extra_of extra (entry_of key val d e.0))) else nothing

@@ -9,14 +9,14 @@ use Rattle.buffa_fields.specs.Takes.{Stays}
 use Rattle.buffa_node.specs.Entries.{entry_cost}
 
 -- what an entry costs is known by the payload
-pub entry_stays : {K V : Type 0} (key : Reading K) (val paid : Reading V) (cost slot : ℕ) → Stays (entry_cost key val paid cost slot)
+pub entry_stays : {K V : Type 0} (key : Reading K) (val paid : Reading V) (cost extra : ℕ) → Stays (entry_cost key val paid cost extra)
 unfolding entry_cost
-entry_stays key val paid cost slot d n Varint p x h = refl
-entry_stays key val paid cost slot d n Fixed64 p x h = refl
-entry_stays key val paid cost slot d n StartGroup p x h = refl
-entry_stays key val paid cost slot d n EndGroup p x h = refl
-entry_stays key val paid cost slot d n Fixed32 p x h = refl
-entry_stays key val paid cost slot d n LengthDelimited p x (t, body, varint, is) =
+entry_stays key val paid cost extra d n Varint p x h = refl
+entry_stays key val paid cost extra d n Fixed64 p x h = refl
+entry_stays key val paid cost extra d n StartGroup p x h = refl
+entry_stays key val paid cost extra d n EndGroup p x h = refl
+entry_stays key val paid cost extra d n Fixed32 p x h = refl
+entry_stays key val paid cost extra d n LengthDelimited p x (t, body, varint, is) =
     let whole : delimited_at (p ++ x) ≡ Ok (body, x) = ap delimited_at (ap (λ (z : List ℕ). z ++ x) is ∙ append_assoc t body x) ∙ delimited_complete t body x varint in
     let alone : delimited_at p ≡ Ok (body, []) = ap delimited_at (is ∙ ap (λ (z : List ℕ). t ++ z) (sym (append-nil body))) ∙ delimited_complete t body [] varint in
     rw (whole, alone) refl

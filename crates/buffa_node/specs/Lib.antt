@@ -1,5 +1,5 @@
 pub mod Branch
-pub mod BranchFalls
+pub mod BranchFacts
 pub mod Entries
 pub mod EntriesLaws
 pub mod NodeMeaning
@@ -7,7 +7,7 @@ pub mod NodeEncoding
 pub mod NodeLaws
 pub mod Nesting
 pub mod Leading
-pub mod NodeBack
+pub mod NodeBackFacts
 pub mod Stops
 pub mod Writes
 pub mod Calls

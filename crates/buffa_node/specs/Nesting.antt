@@ -12,7 +12,7 @@ use Rattle.buffa_bytes.specs.Join.{Join}
 use Rattle.buffa_bytes.specs.Join.Join.{none, more}
 use Rattle.buffa_wire.specs.Sequence.{ParsesEach, join}
 use Rattle.buffa_map.proofs.EntryLemmas.{entry_complete, entry_sound}
-use Rattle.buffa_map.specs.Entry.{IsEntry, IsField, blanks, entry_of}
+use Rattle.buffa_map.specs.Entry.{IsEntry, IsEntryField, blanks, entry_of}
 use Rattle.buffa_map.specs.declared.map_entry.MapEntry.{MapEntry}
 use Rattle.buffa_wire.specs.ByField.{value_of}
 use Rattle.buffa_node.specs.NodeMeaning.{numbers, shades}
@@ -49,7 +49,7 @@ group_at (suc k) (suc d) n p (inr s) (b, t, j, tag, is) =
     (b, t, shift_join (SomeFieldOver (Group d)) (SomeFieldOver (Group k)) (length b) (λ f l h. some_field (Group d) (Group k) f (λ m q short g. group_at k d m q (inr (omega (arith, s, few, all, both, l, short))) g) h) b j (omega arith), tag, is)
 
 -- ---- so are entries
-one_at : (k d : ℕ) (s t : MapEntry ℤ ℤ) (f : List ℕ) → (d ≤ k) ⊎ (length f ≤ k) → IsField numbers shades d s f t → IsField numbers shades k s f t
+one_at : (k d : ℕ) (s t : MapEntry ℤ ℤ) (f : List ℕ) → (d ≤ k) ⊎ (length f ≤ k) → IsEntryField numbers shades d s f t → IsEntryField numbers shades k s f t
 one_at k d s t f h (inl x) = inl x
 one_at k d s t f h (inr (inl x)) = inr (inl x)
 one_at k d s t f h (inr (inr (n, w, one, two, (tg, p, tag, payload, is), st))) = inr (inr (n, w, one, two, (tg, p, tag, payload_over (Group d) (Group k) n w p (group_at k d n p (fewer h)) payload, is), st))
@@ -58,7 +58,7 @@ one_at k d s t f h (inr (inr (n, w, one, two, (tg, p, tag, payload, is), st))) =
     fewer (inl x) = inl x
     fewer (inr x) = inr (omega (arith, x, ap length is, length-append tg p))
 
-each_at : (k d : ℕ) (ps : List (List ℕ)) (s t : MapEntry ℤ ℤ) → (d ≤ k) ⊎ (length (join ps) ≤ k) → ParsesEach (IsField numbers shades d) s ps t → ParsesEach (IsField numbers shades k) s ps t
+each_at : (k d : ℕ) (ps : List (List ℕ)) (s t : MapEntry ℤ ℤ) → (d ≤ k) ⊎ (length (join ps) ≤ k) → ParsesEach (IsEntryField numbers shades d) s ps t → ParsesEach (IsEntryField numbers shades k) s ps t
 each_at k d [] s t h x = x
 each_at k d (p ∷ ps) s t (inl h) (u, x, y) = (u, one_at k d s u p (inl h) x, each_at k d ps u t (inl h) y)
 each_at k d (p ∷ ps) s t (inr h) (u, x, y) =

@@ -63,7 +63,7 @@ pub(crate) fn merge_shade(
 {
     check_wire_type(tag, WireType::LengthDelimited)?;
     let _old = shades.len();
-    let slots = budget.unknown_left();
+    let unknown = budget.unknown_left();
     let lent = DecodeContext {
         depth,
         budget: &mut *budget,
@@ -80,7 +80,7 @@ pub(crate) fn merge_shade(
     match answer {
         Ok(()) => Ok(()),
         Err(error) => {
-            *budget = Budget::new(slots).with_element_memory(budget.memory_left());
+            *budget = Budget::new(unknown).with_element_memory(budget.memory_left());
             Err(error)
         }
     }

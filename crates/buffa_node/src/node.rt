@@ -60,7 +60,7 @@ impl Model for Node {
 
     ghost size = { height };
 
-    ghost use Rattle.buffa_node.specs.BranchFalls.{most-heights};
+    ghost use Rattle.buffa_node.specs.BranchFacts.{most-heights};
     ghost use Rattle.std.proofs.Common.{arith};
 
     ghost size_decreases = { λ t h. omega (arith, most-heights t.children.entries) };
@@ -88,7 +88,7 @@ impl Blank for Node {
 impl MessageSpec for Node {
     ghost use Rattle.std.proofs.Common.{arith};
     ghost use Rattle.buffa_node.specs.NodeEncoding.{IsNormal, levels, records};
-    ghost use Rattle.buffa_node.specs.NodeBack.{back};
+    ghost use Rattle.buffa_node.specs.NodeBackFacts.{back};
     ghost use Rattle.buffa_node.specs.NodeLaws.{cost_empty, cost_next, encoding_records};
     ghost use Rattle.buffa_node.specs.NodeLaws.{merged_empty, merged_fields, merged_next};
 
@@ -193,7 +193,7 @@ pub fn size_node(node: &Node, cache: &mut SizeCache) -> Result<u32, EncodeError>
 
 // The write pass of the children, by a function that writes a child. Its contract names no trait, so that the goals of
 // the recursion stay small.
-#[tactic(auto, using(crate::proofs::NodePasses::meant_values))]
+#[tactic(auto, using(crate::proofs::NodePassLemmas::meant_values))]
 fn write_children_by<S: EncodeSink, F>(
     children: &BTreeMap<i32, Node>,
     cache: &mut SizeCache,

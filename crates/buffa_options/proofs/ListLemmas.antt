@@ -3,11 +3,11 @@ use Rattle.std.proofs.Common.{◌≡◌, ◌≢◌, inl, inr, ℕ, ℤ, List, []
 use Rattle.std.specs.List.{flat_map}
 use Rattle.buffa_bytes.specs.Values.{int32_of}
 use Rattle.buffa_bytes.specs.declared.wire_type.WireType.TheVariants.{Varint}
-use Rattle.buffa_wire.specs.BudgetLeft.{BudgetLeft}
+use Rattle.buffa_wire.specs.BudgetLeft.{BudgetLeft, defaults}
 use Rattle.buffa_wire.specs.Found.{varint_in}
 use Rattle.buffa_wire.specs.Records.{Datum, varint, fixed32, fixed64, bytes, group}
 use Rattle.buffa_codec.specs.Packed.{numbers_in}
-use Rattle.buffa_codec.specs.Reading.{Has, ReadsAll, ReadsList, TakesElement, elements, full}
+use Rattle.buffa_codec.specs.Reading.{Has, ReadsAll, ReadsList, TakesElement, elements}
 use Rattle.buffa_options.specs.Options.{int32s_in}
 
 abbrev one : BudgetLeft → Datum → Option ℤ
@@ -31,7 +31,7 @@ in_records b left [] vs h = h.0
 in_records b left (d ∷ ds) vs (mid, rest, l, more, e) = e ∙ ap (λ x. x ++ rest) (in_record b d) ∙ ap (λ x. int32s_in d ++ x) (in_records mid left ds rest more)
 
 pub in_list : (ds : List Datum) (vs : List ℤ) → ReadsList one leaves packed ds vs → vs ≡ flat_map int32s_in ds
-in_list ds vs h = in_records full h.0 ds vs h.1
+in_list ds vs h = in_records defaults h.0 ds vs h.1
 
 -- ---- a record that has a number
 

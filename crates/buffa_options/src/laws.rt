@@ -47,7 +47,7 @@ pub fn prices_are_sint64()
     ensures one { (n : ℕ) (b : BudgetLeft) (d : Datum) → ⟦<PriceCodec as SingularCodec>⟧.one n b d
         ≡ option_map sint64_of (varint_in d) }
     ensures packed { (bs : List ℕ) → ⟦<PriceCodec as SingularCodec>⟧.packed bs ≡ map sint64_of (numbers_in Varint bs) }
-    ensures text { (v : ℤ) → ⟦<PriceCodec as SingularCodec>⟧.datum v ≡ varint (zigzag v) }
+    ensures datum { (v : ℤ) → ⟦<PriceCodec as SingularCodec>⟧.datum v ≡ varint (zigzag v) }
     ensures packed_encoding { (v : ℤ) → ⟦<PriceCodec as PackableCodec>⟧.packed_encoding v ≡ sint64_encoding v }
     ensures back { (v : ℤ) → ⟦<PriceCodec as SingularCodec>⟧.back v ≡ v }
     ensures fits { (v : ℤ) → ⟦<PriceCodec as SingularCodec>⟧.fits v ↔ FitsSigned w64 v }

@@ -8,7 +8,7 @@ use std::alloc::Global;
 use std::test::Fail;
 
 // 150, "ok" and the fixed32 1, as the protobuf encoding guide spells them; then a 7.
-const TEXT: [u8; 10] = [0x96, 0x01, 2, b'o', b'k', 1, 0, 0, 0, 7];
+const ENCODING: [u8; 10] = [0x96, 0x01, 2, b'o', b'k', 1, 0, 0, 0, 7];
 
 fn read_three<B: Buf>(alloc: Global, buf: &mut B) -> Result<(u64, String, u32), DecodeError>
     ensures kept { B.beyond buf.new ≡ B.beyond buf.old }
@@ -42,11 +42,11 @@ fn read_within<B: Buf>(
 
 #[test]
 fn the_front_is_shown_where_it_lies_together(rt: HostRuntime) {
-    let text: &[u8] = &TEXT;
-    assert!(rt; front(&text, 2) == Some([0x96, 0x01].as_slice()));
-    assert!(rt; front(&text, 10) == Some(text));
-    assert!(rt; front(&text, 11) == None);
-    let parts: [&[u8]; 2] = [&text[..1], &text[1..]];
+    let encoding: &[u8] = &ENCODING;
+    assert!(rt; front(&encoding, 2) == Some([0x96, 0x01].as_slice()));
+    assert!(rt; front(&encoding, 10) == Some(encoding));
+    assert!(rt; front(&encoding, 11) == None);
+    let parts: [&[u8]; 2] = [&encoding[..1], &encoding[1..]];
     let pieces = Pieces::new(&parts);
     assert!(rt; front(&pieces, 1) == Some([0x96].as_slice()));
     assert!(rt; front(&pieces, 2) == None);
@@ -54,11 +54,11 @@ fn the_front_is_shown_where_it_lies_together(rt: HostRuntime) {
 
 #[test]
 fn a_limit_holds(rt: HostRuntime) -> Result<(), Fail> {
-    let mut rest: &[u8] = &TEXT;
+    let mut rest: &[u8] = &ENCODING;
     let (number, word, one) = read_within(rt.alloc(), &mut rest, 9)?;
     assert!(rt; are_three(number, &word, one));
     assert!(rt; rest == [7].as_slice());
-    let mut rest: &[u8] = &TEXT;
+    let mut rest: &[u8] = &ENCODING;
     let refused = read_within(rt.alloc(), &mut rest, 8).err();
     assert!(rt; refused == Some(DecodeError::UnexpectedEof));
     Ok(())

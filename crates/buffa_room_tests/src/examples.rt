@@ -25,10 +25,10 @@ fn map_of(alloc: Global, record: &[u8]) -> Result<Map<String, i32>, Fail> {
 }
 
 // The records that a map is written as.
-fn text_of(alloc: Global, counts: Map<String, i32>) -> Result<Vec<u8>, EncodeError> {
-    let mut text = Vec::new(alloc);
-    write_field::<Str, Int32, _, _>(&counts, 5, &mut text)?;
-    Ok(text)
+fn encoding_of(alloc: Global, counts: Map<String, i32>) -> Result<Vec<u8>, EncodeError> {
+    let mut encoding = Vec::new(alloc);
+    write_field::<Str, Int32, _, _>(&counts, 5, &mut encoding)?;
+    Ok(encoding)
 }
 
 #[test]
@@ -37,24 +37,24 @@ fn a_map_field_is_read_sized_and_written(rt: HostRuntime) -> Result<(), Fail> {
     let counts = map_of(alloc, &ENTRY)?;
     let size = field_len::<Str, Int32, _>(&counts, 1);
     assert!(rt; size == 7);
-    let text = text_of(alloc, counts)?;
-    assert!(rt; text.as_slice() == ENTRY.as_slice());
+    let encoding = encoding_of(alloc, counts)?;
+    assert!(rt; encoding.as_slice() == ENTRY.as_slice());
     Ok(())
 }
 
 // The size that is announced of a map, and its records behind what is there.
-fn at_once(counts: Map<String, i32>, mut text: Vec<u8>) -> Result<(u64, Vec<u8>), EncodeError> {
-    let size = size_and_write_field::<Str, Int32, _>(&counts, 5, &mut text)?;
-    Ok((size, text))
+fn at_once(counts: Map<String, i32>, mut encoding: Vec<u8>) -> Result<(u64, Vec<u8>), EncodeError> {
+    let size = size_and_write_field::<Str, Int32, _>(&counts, 5, &mut encoding)?;
+    Ok((size, encoding))
 }
 
 #[test]
 fn a_map_field_is_sized_and_written_at_once(rt: HostRuntime) -> Result<(), Fail> {
     let alloc = rt.alloc();
     let counts = map_of(alloc, &ENTRY)?;
-    let (size, text) = at_once(counts, Vec::from_slice(alloc, &ENTRY)?)?;
+    let (size, encoding) = at_once(counts, Vec::from_slice(alloc, &ENTRY)?)?;
     assert!(rt; size == 7);
-    assert!(rt; text.len() == 14);
+    assert!(rt; encoding.len() == 14);
     Ok(())
 }
 
@@ -105,9 +105,9 @@ fn open_hues(alloc: Global) -> Result<Map<i32, EnumValue<Old>>, Fail> {
 #[test]
 fn undeclared_values_of_an_open_enum_are_numbers(rt: HostRuntime) -> Result<(), Fail> {
     let open = open_hues(rt.alloc())?;
-    let mut text = Vec::new(rt.alloc());
-    write_field::<Int32, OpenEnum<Old>, _, _>(&open, 5, &mut text)?;
-    assert!(rt; text.as_slice() == HUES.as_slice());
+    let mut encoding = Vec::new(rt.alloc());
+    write_field::<Int32, OpenEnum<Old>, _, _>(&open, 5, &mut encoding)?;
+    assert!(rt; encoding.as_slice() == HUES.as_slice());
     Ok(())
 }
 
@@ -139,9 +139,9 @@ fn map_of_bytes(alloc: Global) -> Result<Map<i32, Vec<u8>>, Fail> {
 #[test]
 fn values_that_are_bytes_are_written(rt: HostRuntime) -> Result<(), Fail> {
     let map = map_of_bytes(rt.alloc())?;
-    let mut text = Vec::new(rt.alloc());
-    write_field::<Int32, ProtoBytesMap<Vec<u8>>, _, _>(&map, 5, &mut text)?;
-    assert!(rt; text.as_slice() == BYTES.as_slice());
+    let mut encoding = Vec::new(rt.alloc());
+    write_field::<Int32, ProtoBytesMap<Vec<u8>>, _, _>(&map, 5, &mut encoding)?;
+    assert!(rt; encoding.as_slice() == BYTES.as_slice());
     Ok(())
 }
 

@@ -96,8 +96,8 @@ fn prices_are_stored(rt: HostRuntime) -> Result<(), Fail> {
     let owed = Price { cents: -3 };
     let (options, stored) = options_with(rt.alloc(), owed)?;
     assert!(rt; stored == Some(owed));
-    let mut text = Vec::new(rt.alloc());
-    options.fields.write_to(&mut text)?;
-    assert!(rt; text.as_slice() == PRICE.as_slice());
+    let mut encoding = Vec::new(rt.alloc());
+    options.fields.write_to(&mut encoding)?;
+    assert!(rt; encoding.as_slice() == PRICE.as_slice());
     Ok(())
 }

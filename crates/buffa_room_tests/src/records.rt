@@ -22,12 +22,12 @@ fn fields_of_any_number_are_written(rt: HostRuntime) -> Result<(), Fail> {
     assert!(rt; fields.spare() == 0);
     fields.push(field(0, UnknownFieldData::Fixed64(2)))?;
     fields.push(field(u32::MAX, UnknownFieldData::Varint(300)))?;
-    let mut text = Vec::new(rt.alloc());
-    fields.write_to(&mut text)?;
+    let mut encoding = Vec::new(rt.alloc());
+    fields.write_to(&mut encoding)?;
     let expected: [u8; 16] = [
         1, 2, 0, 0, 0, 0, 0, 0, 0, 0xF8, 0xFF, 0xFF, 0xFF, 0x7F, 0xAC, 2,
     ];
-    assert!(rt; text.as_slice() == expected.as_slice());
+    assert!(rt; encoding.as_slice() == expected.as_slice());
     assert!(rt; fields.encoded_len() == 16);
     Ok(())
 }

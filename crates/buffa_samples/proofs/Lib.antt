@@ -1,10 +1,10 @@
 pub mod NormalLemmas
 pub mod PassedLemmas
 pub mod SortedLemmas
-pub mod TreeFields
-pub mod TreeMerge
-pub mod TreeSizes
+pub mod TreeFieldLemmas
+pub mod TreeMergeLemmas
+pub mod TreeSizeLemmas
 pub mod TripLemmas
-pub mod TreeNormal
+pub mod TreeNormalLemmas
 mod PinLemmas
 mod PassPinLemmas

@@ -3,9 +3,8 @@ use Rattle.std.proofs.Common.{◌≡◌, ◌∙◌, ℕ, ℤ, false, List, [], s
 use Rattle.std.specs.Cmp.{IsEquivalence}
 use Rattle.buffa_bytes.specs.declared.error.DecodeError.TheVariants as decode
 use Rattle.buffa_bytes.specs.declared.error.EncodeError.TheVariants as encode
-use Rattle.buffa_wire.specs.BudgetLeft.{nothing}
+use Rattle.buffa_wire.specs.BudgetLeft.{defaults, nothing}
 use Rattle.buffa_bytes.specs.Content.{Content}
-use Rattle.buffa_wire.specs.Message.{defaults}
 use Rattle.buffa_map.specs.Enums.{ClosedFits, closed_writing}
 use Rattle.buffa_map.specs.Merge.{ReadsRun, state}
 use Rattle.buffa_map.specs.Pairs.{SamePairs}
@@ -42,13 +41,13 @@ module _ {K : Type 0} (p : Proxy K) (KeyFits : K → Type 0) (walks : List (K ×
     ordered = λ old a b es fs s t o h k q. sym (h es fs s t o q) ∙ k es fs s t o q;
     filled = λ x y m a b u v w h k. (one x y h.out k.out h.rewritten k.rewritten).0;
     read = λ x y m a b u v w h k walk.
-        let text = (one x y h.out k.out h.rewritten k.rewritten).1 walk in
+        let encoding = (one x y h.out k.out h.rewritten k.rewritten).1 walk in
         let both = (run_is_pinned (p.newer d n) new_key_free new_val_free).read (state m u.records defaults) k.out (state a v.records h.over) (state b w.records k.over) [] []
-        (subst (λ (z : List ℕ). ReadsRun (p.newer d n) (state m u.records defaults) z (state a v.records h.over) []) text h.reads) k.reads in
+        (subst (λ (z : List ℕ). ReadsRun (p.newer d n) (state m u.records defaults) z (state a v.records h.over) []) encoding h.reads) k.reads in
         (both.0.pairs, both.0.records);
     rewritten = λ x y m a u v e h k. no_refusal x y h.out e h.rewritten k;
     stopped = λ x y m a b u v w f h k walk ne.
-        let text = (one x y h.out k.out h.rewritten k.rewritten).1 walk in
+        let encoding = (one x y h.out k.out h.rewritten k.rewritten).1 walk in
         (run_is_pinned (p.newer d n) new_key_free new_val_free).refused (state m u.records defaults) k.out (state a v.records h.over) (state b w.records k.over) [] k.unread f
-        (subst (λ (z : List ℕ). ReadsRun (p.newer d n) (state m u.records defaults) z (state a v.records h.over) []) text h.reads) k.stops ne;
+        (subst (λ (z : List ℕ). ReadsRun (p.newer d n) (state m u.records defaults) z (state a v.records h.over) []) encoding h.reads) k.stops ne;
   }

@@ -39,7 +39,7 @@ module _ {K : Type 0} (rk : Reading K) (rv : Reading ℤ) (key : Writing K) (eq 
     once = h.once;
     walked = h.walked;
     walks = h.walks;
-    text = h.text;
+    encoding = h.encoding;
     room = λ is. omega (arith, h.room is);
     paid = h.paid;
     whole = h.whole;
@@ -68,7 +68,7 @@ rewritten rk rv key KeyFits ValFits eq keeps n cost bs pairs walks d e left give
   order = h.order;
   rewrite = h.rewrite;
   walks = tt;
-  text = refl;
+  encoding = refl;
   ordered = h.ordered;
   room = omega arith;
   paid = subst (λ (z : BudgetLeft). Paid rk rv e cost 1 z h.entries over) is (subst (λ (z : ℕ). Paid rk rv z cost 1 left h.entries over) same h.paid);
@@ -87,23 +87,23 @@ enough : (left : BudgetLeft) (cost : ℕ) → cost ≤ left.memory → Lacks lef
 enough left cost h (inl x) = omega (arith, x)
 enough left cost h (inr x) = omega (arith, h, x)
 
-module _ {K V : Type 0} (key : Reading K) (val : Reading V) (d n cost slot : ℕ) (plain : (e : List ℕ) → need_of key val d cost e ≡ units cost) where
+module _ {K V : Type 0} (key : Reading K) (val : Reading V) (d n cost extra : ℕ) (plain : (e : List ℕ) → need_of key val d cost e ≡ units cost) where
   -- a fault that is no limit's is one whatever is left
-  entry_limit : (left other : BudgetLeft) (bs : List ℕ) (f : DecodeError) → EntryFault key val d cost slot left bs f → IsLimit f ⊎ EntryFault key val d 0 0 other bs f
+  entry_limit : (left other : BudgetLeft) (bs : List ℕ) (f : DecodeError) → EntryFault key val d cost extra left bs f → IsLimit f ⊎ EntryFault key val d 0 0 other bs f
   entry_limit left other bs f (inl h) = inr (inl h)
   entry_limit left other bs f (inr (t, e, rest, v, b, inl h)) = inl (subst IsLimit (sym h.1) tt)
   entry_limit left other bs f (inr (t, e, rest, v, b, inr (some, inl h))) = absurd (enough left cost some (subst (λ z. Lacks left z) (plain e) h))
   entry_limit left other bs f (inr (t, e, rest, v, b, inr (some, inr (inl h)))) = inr (inr (t, e, rest, v, b, inr (omega arith, inr (inl h))))
   entry_limit left other bs f (inr (t, e, rest, v, b, inr (some, inr (inr (s, is, known, few, h))))) = inl (subst IsLimit (sym h) tt)
 
-  record_limit : (left other : BudgetLeft) (bs : List ℕ) (f : DecodeError) → RecordFault key val d n cost slot left bs f → IsLimit f ⊎ RecordFault key val d n 0 0 other bs f
+  record_limit : (left other : BudgetLeft) (bs : List ℕ) (f : DecodeError) → RecordFault key val d n cost extra left bs f → IsLimit f ⊎ RecordFault key val d n 0 0 other bs f
   record_limit left other bs f (inl h) = inr (inl h)
   record_limit left other bs f (inr (inl h)) = inr (inr (inl h))
   record_limit left other bs f (inr (inr (inl h))) = inr (inr (inr (inl h)))
   record_limit left other bs f (inr (inr (inr (rest, takes, h)))) = elim (entry_limit left other rest f h) [ inl l ↦ inl l | inr k ↦ inr (inr (inr (inr (rest, takes, k)))) ]
 
   pub stop_is_limit : OneReading key val → (left over : BudgetLeft) (out rest : List ℕ) (gs es : List (EntryRecord K V)) (f : DecodeError) → Run key val d n out gs →
-      RunBegins key val d n cost slot left out es rest over → rest ≢ [] → RecordFault key val d n cost slot over rest f → IsLimit f
+      RunBegins key val d n cost extra left out es rest over → rest ≢ [] → RecordFault key val d n cost extra over rest f → IsLimit f
   stop_is_limit one left over out rest gs es f run begins some fault =
       let a = inner_needs key val d gs in
       let b = inner_needs key val d es in
@@ -116,12 +116,12 @@ module _ {K V : Type 0} (key : Reading K) (val : Reading V) (d n cost slot : ℕ
 
 module _ {K : Type 0} (rk : Reading K) (rv : Reading ℤ) (eq : K → K → Bool) (keeps : Bool) (n cost : ℕ) (pairs : List (K × ℤ)) (records : List (ℕ × Datum)) (new : State K ℤ) (unread : List ℕ) (f : DecodeError) where
   -- the same stop, by the names of the clause
-  pub stopped : (d e : ℕ) (left given : BudgetLeft) (text out : List ℕ) → d ≡ e → left ≡ given → text ≡ out →
-      StopsRun (keeping rk rv eq keeps d n cost) (state pairs records left) text new unread f → StopsRun (keeping rk rv eq keeps e n cost) (state pairs records given) out new unread f
-  stopped d e left given text out same is whole h =
+  pub stopped : (d e : ℕ) (left given : BudgetLeft) (encoding out : List ℕ) → d ≡ e → left ≡ given → encoding ≡ out →
+      StopsRun (keeping rk rv eq keeps d n cost) (state pairs records left) encoding new unread f → StopsRun (keeping rk rv eq keeps e n cost) (state pairs records given) out new unread f
+  stopped d e left given encoding out same is whole h =
       subst (λ (z : List ℕ). StopsRun (keeping rk rv eq keeps e n cost) (state pairs records given) z new unread f) whole
-      (subst (λ (z : BudgetLeft). StopsRun (keeping rk rv eq keeps e n cost) (state pairs records z) text new unread f) is
-      (subst (λ (z : ℕ). StopsRun (keeping rk rv eq keeps z n cost) (state pairs records left) text new unread f) same h))
+      (subst (λ (z : BudgetLeft). StopsRun (keeping rk rv eq keeps e n cost) (state pairs records z) encoding new unread f) is
+      (subst (λ (z : ℕ). StopsRun (keeping rk rv eq keeps z n cost) (state pairs records left) encoding new unread f) same h))
 
   pub stop_is_shortage : (d : ℕ) (left : BudgetLeft) (out : List ℕ) (gs : List (EntryRecord K ℤ)) → ((e : List ℕ) → need_of rk rv d cost e ≡ units cost) → OneReading rk rv → Run rk rv d n out gs →
       StopsRun (keeping rk rv eq keeps d n cost) (state pairs records left) out new unread f → IsShortage f
@@ -130,10 +130,10 @@ module _ {K : Type 0} (rk : Reading K) (rv : Reading ℤ) (eq : K → K → Bool
 
 -- the same reading of the whole, by the names of the clause
 pub read_whole : {K : Type 0} (rk : Reading K) (rv : Reading ℤ) (eq : K → K → Bool) (keeps : Bool) (n cost : ℕ) (pairs : List (K × ℤ)) (records : List (ℕ × Datum)) (new : State K ℤ) (rest : List ℕ)
-    (d e : ℕ) (left given : BudgetLeft) (text out : List ℕ) → d ≡ e → left ≡ given → text ≡ out →
-    ReadsRun (keeping rk rv eq keeps d n cost) (state pairs records left) text new rest → ReadsRun (keeping rk rv eq keeps e n cost) (state pairs records given) out new []
-read_whole rk rv eq keeps n cost pairs records new rest d e left given text out same is whole h =
+    (d e : ℕ) (left given : BudgetLeft) (encoding out : List ℕ) → d ≡ e → left ≡ given → encoding ≡ out →
+    ReadsRun (keeping rk rv eq keeps d n cost) (state pairs records left) encoding new rest → ReadsRun (keeping rk rv eq keeps e n cost) (state pairs records given) out new []
+read_whole rk rv eq keeps n cost pairs records new rest d e left given encoding out same is whole h =
     subst (λ (z : List ℕ). ReadsRun (keeping rk rv eq keeps e n cost) (state pairs records given) out new z) h.whole
     (subst (λ (z : List ℕ). ReadsRun (keeping rk rv eq keeps e n cost) (state pairs records given) z new rest) whole
-    (subst (λ (z : BudgetLeft). ReadsRun (keeping rk rv eq keeps e n cost) (state pairs records z) text new rest) is
-    (subst (λ (z : ℕ). ReadsRun (keeping rk rv eq keeps z n cost) (state pairs records left) text new rest) same h)))
+    (subst (λ (z : BudgetLeft). ReadsRun (keeping rk rv eq keeps e n cost) (state pairs records z) encoding new rest) is
+    (subst (λ (z : ℕ). ReadsRun (keeping rk rv eq keeps z n cost) (state pairs records left) encoding new rest) same h)))

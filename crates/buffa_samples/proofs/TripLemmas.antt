@@ -24,7 +24,7 @@ unwritten key val cost n old new l (GroupRefused e) room h few = h
 
 module _ {K V : Type 0} (key : Reading K) (val : Reading V) (d n : ℕ)
     (needs : (cost : ℕ) (e : List ℕ) → need_of key val d cost e ≡ units cost) (inner : (es : List (EntryRecord K V)) → inner_needs key val d es ≡ nothing)
-    (no_fault : (cost slot : ℕ) (left over : BudgetLeft) (bs : List ℕ) (es : List (EntryRecord K V)) (f : DecodeError) → Run key val d n bs es → Paid key val d cost slot left es over → RunFault key val d n cost slot left bs f → ⊥) where
+    (no_fault : (cost extra : ℕ) (left over : BudgetLeft) (bs : List ℕ) (es : List (EntryRecord K V)) (f : DecodeError) → Run key val d n bs es → Paid key val d cost extra left es over → RunFault key val d n cost extra left bs f → ⊥) where
   -- where no unknown field is asked for, the fault of a record is that of the budget, or one that it has at no cost
   at_no_cost : (cost : ℕ) (left : BudgetLeft) (bs : List ℕ) (f : DecodeError) → RecordFault key val d n cost 0 left bs f → (f ≡ ElementMemoryLimitExceeded) ⊎ RecordFault key val d n 0 0 left bs f
   at_no_cost cost left bs f (inl h) = inr (inl h)
@@ -54,9 +54,9 @@ module _ {K V : Type 0} (key : Reading K) (val : Reading V) (d n : ℕ)
       unpaid enough = no_fault cost 0 left (record { unknown = left.unknown; memory = left.memory - length es * cost }) bs es f run (paid_at cost es left (record { unknown = left.unknown; memory = left.memory - length es * cost }) (omega (arith, enough)) (omega arith)) h
 
 -- what a reading stopped at, where its start is known by equations
-pub stopped : {K V : Type 0} (rk : Reading K) (rv : Reading V) (same : K → K → Bool) (keeps : Bool) (d e n cost : ℕ) (left given : BudgetLeft) (pairs : List (K × V)) (bs text : List ℕ) (new : State K V) (unread : List ℕ) (f : DecodeError) →
-    d ≡ e → left ≡ given → pairs ≡ [] → bs ≡ text → StopsRun (dropping rk rv same keeps d n cost) (state pairs [] left) bs new unread f → StopsRun (dropping rk rv same keeps e n cost) (state [] [] given) text new unread f
-stopped rk rv same keeps d e n cost left given pairs bs text new unread f depth is none whole h =
+pub stopped : {K V : Type 0} (rk : Reading K) (rv : Reading V) (same : K → K → Bool) (keeps : Bool) (d e n cost : ℕ) (left given : BudgetLeft) (pairs : List (K × V)) (bs encoding : List ℕ) (new : State K V) (unread : List ℕ) (f : DecodeError) →
+    d ≡ e → left ≡ given → pairs ≡ [] → bs ≡ encoding → StopsRun (dropping rk rv same keeps d n cost) (state pairs [] left) bs new unread f → StopsRun (dropping rk rv same keeps e n cost) (state [] [] given) encoding new unread f
+stopped rk rv same keeps d e n cost left given pairs bs encoding new unread f depth is none whole h =
     subst (λ (z : List ℕ). StopsRun (dropping rk rv same keeps e n cost) (state [] [] given) z new unread f) whole
     (subst (λ z. StopsRun (dropping rk rv same keeps e n cost) (state z [] given) bs new unread f) none
     (subst (λ (z : BudgetLeft). StopsRun (dropping rk rv same keeps e n cost) (state pairs [] z) bs new unread f) is
@@ -66,6 +66,6 @@ pub as_units : (b : BudgetLeft) (n : ℕ) → b.unknown ≡ 0 → b.memory ≡ n
 as_units b n u m = ap (λ (z : ℕ). record { unknown = z; memory = b.memory }) u ∙ ap (λ (z : ℕ). record { unknown = 0; memory = z }) m
 
 -- what is paid costs no more than was left
-pub paid_for : {K V : Type 0} (rk : Reading K) (rv : Reading V) (d cost slot : ℕ) (left over : BudgetLeft) (es : List (EntryRecord K V)) (all many : ℕ) →
-    left.memory ≡ all → length es ≡ many → Paid rk rv d cost slot left es over → many * cost ≤ all
-paid_for rk rv d cost slot left over es all many is count paid = subst (λ z. z * cost ≤ all) count (omega (arith, is, paid.0))
+pub paid_for : {K V : Type 0} (rk : Reading K) (rv : Reading V) (d cost extra : ℕ) (left over : BudgetLeft) (es : List (EntryRecord K V)) (all many : ℕ) →
+    left.memory ≡ all → length es ≡ many → Paid rk rv d cost extra left es over → many * cost ≤ all
+paid_for rk rv d cost extra left over es all many is count paid = subst (λ z. z * cost ≤ all) count (omega (arith, is, paid.0))

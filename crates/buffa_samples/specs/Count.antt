@@ -24,13 +24,13 @@ abbrev pub count_cost : ℕ → List ℕ → BudgetLeft
 count_cost d bs = nothing
 
 -- one field
-abbrev pub one_text : List ℕ
-one_text = tag_encoding 9 Varint ++ varint_encoding 0
+abbrev pub one_encoding : List ℕ
+one_encoding = tag_encoding 9 Varint ++ varint_encoding 0
 
 -- so many fields
 abbrev pub count_encoding : ℕ → List ℕ
 count_encoding zero = []
-count_encoding (suc n) = one_text ++ count_encoding n
+count_encoding (suc n) = one_encoding ++ count_encoding n
 
 -- their records
 abbrev pub count_records : ℕ → List (ℕ × Datum)

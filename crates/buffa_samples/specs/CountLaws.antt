@@ -16,7 +16,7 @@ use Rattle.buffa_wire.specs.ByField.{merged_by}
 use Rattle.buffa_samples.specs.Fields.{skipped_field, varint_field}
 use Rattle.buffa_wire.proofs.ByFieldLemmas.{IsSame, IsSound, empty, read}
 use Rattle.buffa_samples.specs.FieldsLaws.{Ends, ends_if, number_tag, same_if, skipped_ends, skipped_same, skipped_sound, tag_one, varint_same, varint_sound}
-use Rattle.buffa_samples.specs.Count.{count_field, count_merged, count_records, count_encoding, one_more, one_text}
+use Rattle.buffa_samples.specs.Count.{count_field, count_merged, count_records, count_encoding, one_more, one_encoding}
 
 pub count_sound : (d : ℕ) → IsSound d (count_field d)
 count_sound d v n w bs = agree_if (n == 9) (λ _. varint_sound d n 9 (λ _. one_more v) w bs) (λ _. skipped_sound d v n w bs)
@@ -35,14 +35,14 @@ count_cost_some = omega arith
 
 pub count_encoding_records : (n : ℕ) → count_encoding n ≡ records_encoding (count_records n)
 count_encoding_records zero = refl
-count_encoding_records (suc n) = ap (λ (z : List ℕ). one_text ++ z) (count_encoding_records n)
+count_encoding_records (suc n) = ap (λ (z : List ℕ). one_encoding ++ z) (count_encoding_records n)
 
-length_one : length one_text ≡ 2
+length_one : length one_encoding ≡ 2
 length_one = omega (arith, length-append (tag_encoding 9 Varint) (varint_encoding 0), tag_one 9 (omega arith), ap length (varint_encoding-last 0 (omega arith)))
 
 pub length_count : (n : ℕ) → length (count_encoding n) ≡ 2 * n
 length_count zero = refl
-length_count (suc n) = omega (arith, length-append one_text (count_encoding n), length_one, length_count n)
+length_count (suc n) = omega (arith, length-append one_encoding (count_encoding n), length_one, length_count n)
 
 -- ---- the encoding reads back
 counted : (d k n : ℕ) → k + n < 2 ^ 64 → count_merged d k (count_encoding n) ≡ Some (k + n)
@@ -59,11 +59,11 @@ pub count_back : (d n : ℕ) → n < 2 ^ 64 → count_merged d 0 (count_encoding
 count_back d n h = let e : 0 + n ≡ n = omega arith in counted d 0 n (omega (arith, h)) ∙ ap (λ z. Some z) e
 
 -- ---- writing a field, and then the others
-pub count_turn : {T : Type 0} (r : Result T EncodeError) (old mid new : List ℕ) (left less : ℕ) → left ≡ suc less → mid ≡ old ++ one_text → Writes r mid (count_encoding less) new → Writes r old (count_encoding left) new
-count_turn r old mid new left less is e h = subst (λ z. Writes r old (count_encoding z) new) (sym is) (writes_then r old one_text (count_encoding less) mid new e h)
+pub count_turn : {T : Type 0} (r : Result T EncodeError) (old mid new : List ℕ) (left less : ℕ) → left ≡ suc less → mid ≡ old ++ one_encoding → Writes r mid (count_encoding less) new → Writes r old (count_encoding left) new
+count_turn r old mid new left less is e h = subst (λ z. Writes r old (count_encoding z) new) (sym is) (writes_then r old one_encoding (count_encoding less) mid new e h)
 
 pub count_none : (old : List ℕ) (left : ℕ) → left ≡ 0 → old ≡ old ++ count_encoding left
 count_none old left is = sym (append-nil old) ∙ ap (λ z. old ++ count_encoding z) (sym is)
 
-pub count_short : {T : Type 0} {r : Result T EncodeError} {e f : EncodeError} → r ≡ Err e → e ≡ f → (old new : List ℕ) (left less : ℕ) → left ≡ suc less → (f ≡ OutOfMemory) × WritesFront old one_text new → Writes r old (count_encoding left) new
-count_short {r = r} is same old new left less more h = subst (λ z. Writes r old (count_encoding z) new) (sym more) (exits_first is same old one_text (count_encoding less) new h)
+pub count_short : {T : Type 0} {r : Result T EncodeError} {e f : EncodeError} → r ≡ Err e → e ≡ f → (old new : List ℕ) (left less : ℕ) → left ≡ suc less → (f ≡ OutOfMemory) × WritesFront old one_encoding new → Writes r old (count_encoding left) new
+count_short {r = r} is same old new left less more h = subst (λ z. Writes r old (count_encoding z) new) (sym more) (exits_first is same old one_encoding (count_encoding less) new h)

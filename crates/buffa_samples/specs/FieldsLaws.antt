@@ -20,8 +20,8 @@ use Rattle.buffa_bytes.proofs.ShortestLemmas.{varint_encoding-last, length-varin
 use Rattle.buffa_bytes.proofs.VarintLemmas.{IsVarint-varint_encoding, varint_complete, varint_sound as varint_is_sound}
 use Rattle.std.specs.Int.{cast_unsigned, w32, w64}
 use Rattle.buffa_wire.proofs.MessageLemmas.{NoLimit, payload_no_limit, var_no_limit}
-use Rattle.buffa_wire.specs.Sequence.{parse_all, parse_within}
-use Rattle.buffa_wire.proofs.SequenceLemmas.{ok_same}
+use Rattle.buffa_wire.specs.Sequence.{parse_all}
+use Rattle.buffa_wire.proofs.SequenceLemmas.{ok_same, parse_keeps}
 use Rattle.buffa_map.proofs.EntryLemmas.{check_sound}
 use Rattle.buffa_wire.specs.ByField.{FieldReader, merged_by, next_at}
 use Rattle.buffa_wire.proofs.ByFieldLemmas.{IsSame, IsSound, Same, read, some_of}
@@ -89,20 +89,10 @@ module _ {X : Type 0} (field : FieldReader X) (P : X → Type 0) (keeps : Keeps 
   next_keeps (Ok t) v x p h = keeps v t.0 t.1 t.2 x p h
   next_keeps (Err e) v x p h = cc
 
-  then_keeps : (k : ℕ) (v : X) (bs : List ℕ) (w : X) (r : Result (X × List ℕ) DecodeError) → next_at field v bs ≡ r → P v → (r >>= (λ x. parse_within (next_at field) k x.0 x.1)) ≡ Ok w →
-      ((u : X) (x : List ℕ) → P u → parse_within (next_at field) k u x ≡ Ok w → P w) → P w
-  then_keeps k v bs w (Ok x) is p h again = again x.0 x.1 (next_keeps (tag_at bs) v x p is) h
-  then_keeps k v bs w (Err e) is p h again = cc
-
-  within_keeps : (k : ℕ) (v : X) (bs : List ℕ) (w : X) → P v → parse_within (next_at field) k v bs ≡ Ok w → P w
-  unfolding parse_within
-  within_keeps k v [] w p h = let e = ok_same h in subst P e p
-  within_keeps zero v (b ∷ bs) w p h = cc
-  within_keeps (suc k) v (b ∷ bs) w p h = then_keeps k v (b ∷ bs) w (next_at field v (b ∷ bs)) refl p h (λ u x q g. within_keeps k u x w q g)
-
   pub merged_keeps : (v : X) (bs : List ℕ) (w : X) → P v → merged_by field v bs ≡ Some w → P w
-  unfolding parse_all
-  merged_keeps v bs w p h = within_keeps (length bs) v bs w p (some_of (parse_all (next_at field) v bs) w h)
+  merged_keeps v bs w p h = parse_keeps (next_at field) (λ v _ r. (u : X) → P v → r ≡ Ok u → P u)
+      (λ v u p e. subst P (ok_same e) p) (λ v b bs e is u p bad. cc) (λ v b bs x r is again u p e. again u (next_keeps (tag_at (b ∷ bs)) v x p is) e)
+      (λ v bs u p bad. cc) v bs w p (some_of (parse_all (next_at field) v bs) w h)
 
 -- ---- an end tag is no field, and isn't told as out of memory
 abbrev pub Ends : {X : Type 0} → FieldReader X → Type 0
@@ -124,13 +114,13 @@ full_not_at_end field ends (Ok x) old new n w bs rest h = tt
 full_not_at_end field ends (Err e) old new n w bs rest h = λ full is. ends old n bs (ap (λ z. field old n z bs) (sym is) ∙ h ∙ ap (λ z. Err z) full)
 
 -- ---- the encoding of an int32 field
-pub zero_text : (n : ℕ) (v : ℤ) → v ≡ pos 0 → number_encoding n v ≡ []
-zero_text n v h = ap (number_encoding n) h
+pub zero_encoding : (n : ℕ) (v : ℤ) → v ≡ pos 0 → number_encoding n v ≡ []
+zero_encoding n v h = ap (number_encoding n) h
 
-pub some_text : (n : ℕ) (v : ℤ) → (v ≡ pos 0 → ⊥) → number_encoding n v ≡ tag_encoding n Varint ++ int32_encoding v
-some_text n (pos zero) h = absurd (h refl)
-some_text n (pos (suc k)) h = refl
-some_text n (negsuc k) h = refl
+pub some_encoding : (n : ℕ) (v : ℤ) → (v ≡ pos 0 → ⊥) → number_encoding n v ≡ tag_encoding n Varint ++ int32_encoding v
+some_encoding n (pos zero) h = absurd (h refl)
+some_encoding n (pos (suc k)) h = refl
+some_encoding n (negsuc k) h = refl
 
 pub number_encoding_records : (n : ℕ) (v : ℤ) → number_encoding n v ≡ records_encoding (number_records n v)
 number_encoding_records n (pos zero) = refl

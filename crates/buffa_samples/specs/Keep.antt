@@ -4,11 +4,11 @@ use Rattle.std.specs.Prelude.{ℕ, ◌-◌, List, [], ◌∷◌, ◌++◌, Optio
 use Rattle.buffa_bytes.specs.Gives.{◌>>=◌}
 use Rattle.buffa_wire.specs.BudgetLeft.{BudgetLeft}
 use Rattle.buffa_wire.specs.Records.{Datum}
-use Rattle.buffa_wire.specs.Kept.{keep_need, record_at}
+use Rattle.buffa_wire.specs.Kept.{keep_need, kept_record_at}
 use Rattle.buffa_wire.specs.ByField.{FieldReader, cost_by, merged_by}
 
 abbrev pub keep_field : ℕ → FieldReader (List (ℕ × Datum))
-keep_field d v n w bs = record_at d n w bs >>= (λ x. Ok (v ++ (n, x.0) ∷ [], x.2))
+keep_field d v n w bs = kept_record_at d n w bs >>= (λ x. Ok (v ++ (n, x.0) ∷ [], x.2))
 
 abbrev pub keep_merged : ℕ → List (ℕ × Datum) → List ℕ → Option (List (ℕ × Datum))
 keep_merged d v bs = merged_by (keep_field d) v bs

@@ -11,12 +11,12 @@ pub mod Keep
 pub mod Passed
 pub mod KeepLaws
 pub mod Grown
-pub mod GrownFalls
+pub mod GrownFacts
 pub mod TreeEncoding
 pub mod TreeMeaning
 pub mod RoundTrip
 pub mod TreeLaws
-pub mod TreeBack
+pub mod TreeBackFacts
 pub mod Pinned
 pub mod Hues
 pub mod Inventory

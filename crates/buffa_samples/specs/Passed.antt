@@ -2,9 +2,8 @@
 use Rattle.std.specs.Prelude.{◌≡◌, ◌+◌, ◌++◌, ℕ, ℤ, Bool, List, []}
 use Rattle.buffa_bytes.specs.declared.error.DecodeError.{DecodeError}
 use Rattle.buffa_bytes.specs.declared.error.DecodeError.TheVariants.{ElementMemoryLimitExceeded, OutOfMemory, UnknownFieldLimitExceeded}
-use Rattle.buffa_wire.specs.BudgetLeft.{BudgetLeft}
+use Rattle.buffa_wire.specs.BudgetLeft.{BudgetLeft, defaults}
 use Rattle.buffa_wire.specs.Enums.{Numbers}
-use Rattle.buffa_wire.specs.Message.{defaults}
 use Rattle.buffa_wire.specs.Records.{Held}
 use Rattle.buffa_map.specs.Codec.{Reading, Writing}
 use Rattle.buffa_map.specs.Enums.{ClosedFits, closed_reading, closed_writing}
@@ -80,7 +79,7 @@ module _ {K : Type 0} (p : Proxy K) (KeyFits : K → Type 0) (d n : ℕ) (bytes 
       × MatchRefusal e (RefusesBytes (p.older d n) defaults bytes pairs over rest [] written)
       (RefusesOutput (p.older d n) p.key closed_writing walks defaults bytes pairs over rest [] written 0)
 
-  -- the older reader read the bytes from the default budgets, filled are the pairs that they make of the empty map, and out is
+  -- the older reader read the bytes from the default budget, filled are the pairs that they make of the empty map, and out is
   -- a rewrite of the run
   pub record IsRewritten (filled : List (K × ℤ)) (out : List ℕ) : Type 0 where
     pub left : BudgetLeft

@@ -11,7 +11,7 @@ use Rattle.buffa_bytes.specs.declared.wire_type.WireType.TheVariants.{Varint, Fi
 use Rattle.buffa_wire.proofs.MessageLemmas.{NoLimit, length_no_limit}
 use Rattle.buffa_bytes.specs.Content.{bytes_in}
 use Rattle.buffa_bytes.specs.Join.{Join}
-use Rattle.buffa_wire.specs.BudgetLeft.{BudgetLeft, Lacks, nothing, plus, slots}
+use Rattle.buffa_wire.specs.BudgetLeft.{BudgetLeft, Lacks, nothing, plus, unknown_fields}
 use Rattle.buffa_wire.specs.Message.{merged_in}
 use Rattle.buffa_wire.specs.Encoding.{records_encoding}
 use Rattle.buffa_bytes.specs.Varint.{IsVarint}
@@ -34,7 +34,7 @@ lacks_itself : (a : BudgetLeft) → Lacks a a → ⊥
 lacks_itself a (inl h) = omega (arith, h)
 lacks_itself a (inr h) = omega (arith, h)
 
-lacks_not : (a : BudgetLeft) → Lacks a (plus a (slots 0)) → ⊥
+lacks_not : (a : BudgetLeft) → Lacks a (plus a (unknown_fields 0)) → ⊥
 lacks_not a (inl h) = omega (arith, h)
 lacks_not a (inr h) = omega (arith, h)
 
@@ -49,7 +49,7 @@ module _ (d : ℕ) (m : ChildMeaning) where
       let same : u.0 ≡ e = ap (λ z. z.0) (ok_same (sym (delimited_taken bs u.0 u.1 u.2) ∙ delimited_taken bs e rest (t, v, is))) in
       elim u.3 [
         | inl k ↦ lacks_itself need (subst (λ z. Lacks need (need_of key_reading (child_reading m (λ _. nothing)) d 0 z)) same k)
-        | inr k ↦ lacks_not need (subst (λ z. Lacks need (plus (need_of key_reading (child_reading m (λ _. nothing)) d 0 z) (slots 0))) same k.3)
+        | inr k ↦ lacks_not need (subst (λ z. Lacks need (plus (need_of key_reading (child_reading m (λ _. nothing)) d 0 z) (unknown_fields 0))) same k.3)
       ]
 
   mismatch : (w : WireType) (e : DecodeError) → e ≡ WireTypeMismatch 2 LengthDelimited w → NoLimit e

@@ -8,7 +8,7 @@ ghost use Rattle.buffa_wire.specs.Message.{MergesField};
 ghost use Rattle.buffa_wire.specs.Passes.{IsSized};
 ghost use Rattle.buffa_bytes.specs.Written.{Writes};
 ghost use Rattle.buffa_wire.proofs.ByFieldLemmas.{empty, fields, next};
-ghost use Rattle.buffa_samples.specs.Count.{count_cost, count_field, count_merged, count_records, count_encoding, one_text};
+ghost use Rattle.buffa_samples.specs.Count.{count_cost, count_field, count_merged, count_records, count_encoding, one_encoding};
 ghost use Rattle.buffa_samples.specs.CountLaws.{count_back, count_cost_some, count_same, count_sound, count_encoding_records};
 
 use buffa_wire::{
@@ -95,7 +95,7 @@ fn merge_count(count: &mut u64, tag: Tag, buf: &mut &[u8], depth: u32) -> Result
 // Writes one field.
 #[tactic(auto, using(buffa_bytes::proofs::SinkLemmas::writes_then, buffa_bytes::proofs::SinkLemmas::front_first))]
 fn write_one<S: EncodeSink>(sink: &mut S) -> Result<(), EncodeError>
-    ensures { Writes result (S.written sink.old) one_text (S.written sink.new) }
+    ensures { Writes result (S.written sink.old) one_encoding (S.written sink.new) }
 {
     Tag::new(9, WireType::Varint).encode(sink)?;
     encode_varint(0, sink)

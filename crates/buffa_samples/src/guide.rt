@@ -50,7 +50,7 @@ impl Inventory {
     /// Writes a record for each count.
     ///
     /// ```ignore
-    /// inventory.write(&mut text)?;
+    /// inventory.write(&mut sink)?;
     /// ```
     pub fn write<S: EncodeSink>(&self, sink: &mut S) -> Result<(), EncodeError>
         ensures writes { WritesField name_writing number_writing 5 (S.written sink.old) (S.written sink.new) result

@@ -20,7 +20,7 @@ fn len_at(number: u32, value: i32) -> u32
 }
 
 // The length of a field of a number below 16.
-#[tactic(auto, using(crate::specs::FieldsLaws::zero_text, crate::specs::FieldsLaws::some_text))]
+#[tactic(auto, using(crate::specs::FieldsLaws::zero_encoding, crate::specs::FieldsLaws::some_encoding))]
 pub(crate) fn number_len(number: u32, value: &i32) -> u32
     requires { number < 16 }
     ensures len { result ≡ length (number_encoding number value.now) }
@@ -44,7 +44,7 @@ fn write_at<S: EncodeSink>(number: u32, value: i32, sink: &mut S) -> Result<(), 
 }
 
 // Writes a field.
-#[tactic(auto, using(crate::specs::FieldsLaws::zero_text, crate::specs::FieldsLaws::some_text))]
+#[tactic(auto, using(crate::specs::FieldsLaws::zero_encoding, crate::specs::FieldsLaws::some_encoding))]
 pub(crate) fn write_number<S: EncodeSink>(
     number: u32,
     value: &i32,

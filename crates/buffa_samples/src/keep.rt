@@ -7,7 +7,7 @@ ghost use Rattle.buffa_bytes.specs.declared.wire_type.WireType.TheVariants.{EndG
 ghost use Rattle.buffa_bytes.specs.Gives.{FullOnlyIf, GivesUnlessFull};
 ghost use Rattle.buffa_wire.specs.Message.{MergesField};
 ghost use Rattle.buffa_wire.specs.Passes.{IsSized};
-ghost use Rattle.buffa_wire.specs.RecordReading.{TakesMemory, field_at};
+ghost use Rattle.buffa_wire.specs.RecordReading.{RecordTakesMemory, field_at};
 ghost use Rattle.buffa_wire.specs.View.{datum_of};
 ghost use Rattle.buffa_wire.specs.Parse.{Fits};
 ghost use Rattle.buffa_wire.specs.Records.{Datum, height, records_of};
@@ -116,16 +116,16 @@ pub fn read_alone(
     tag: Tag,
     buf: &mut &[u8],
     depth: u32,
-    slots: usize,
+    unknown: usize,
 ) -> Result<(UnknownField, usize), DecodeError>
     ensures reads { GivesUnlessFull (λ x. (datum_of x.0.payload, x.1, buf.new.now)) result
-        (field_at depth slots tag.number tag.wire_type buf.old.now) }
+        (field_at depth unknown tag.number tag.wire_type buf.old.now) }
     ensures number { IfOk result (λ x. x.0.number ≡ tag.number) }
-    ensures full { FullOnlyIf result (TakesMemory depth slots tag.wire_type buf.old.now) }
-    ensures left { tag.wire_type ≢ StartGroup → 0 < slots →
+    ensures full { FullOnlyIf result (RecordTakesMemory depth unknown tag.wire_type buf.old.now) }
+    ensures left { tag.wire_type ≢ StartGroup → 0 < unknown →
         LeavesUnlessFull result (past_no_payload tag.wire_type buf.old.now) buf.new.now }
 {
-    let mut own = Budget::new(slots);
+    let mut own = Budget::new(unknown);
     let lent = DecodeContext {
         depth,
         budget: &mut own,

@@ -106,18 +106,18 @@ pub fn passed_on<
         number bytes.now (C.pairs scratch.new) (D.pairs map.old) unknown.old (D.pairs map.new) unknown.new)) }
     ensures room { room_of unknown.old ≤ room_of unknown.new }
 {
-    let mut text = Vec::new(alloc);
+    let mut encoding = Vec::new(alloc);
     let mut budget = Budget::new(DEFAULT_UNKNOWN_FIELD_LIMIT);
     let mut rest = bytes;
     let ctx = DecodeContext::new(depth, &mut budget);
     match rewrite_map_field::<KC, ClosedEnum<E>, C, _, _>(
-        alloc, scratch, number, &mut rest, ctx, &mut text,
+        alloc, scratch, number, &mut rest, ctx, &mut encoding,
     ) {
         Ok(()) => {}
         Err(error) => return Err(PassFault::Rewrite(error)),
     }
     let mut fresh = Budget::new(DEFAULT_UNKNOWN_FIELD_LIMIT);
-    let mut written = text.as_slice();
+    let mut written = encoding.as_slice();
     let ctx = DecodeContext::new(depth, &mut fresh);
     newer_enums_take_it_too::<KC>();
     rewrite_means::<KC>();

@@ -65,13 +65,13 @@ where
         (dropping KC.reading VC.reading C.equal C.keeps_order 0 number (KC.COST + VC.COST)) KC.writing VC.writing
         (C.walks map.now) (C.pairs copy.new)) }
 {
-    let mut text = Vec::new(alloc);
-    match write_field::<KC, VC, C, _>(map, number, &mut text) {
+    let mut encoding = Vec::new(alloc);
+    match write_field::<KC, VC, C, _>(map, number, &mut encoding) {
         Ok(()) => {}
         Err(error) => return Err(TripFault::Encode(error)),
     }
     let mut budget = Budget::new(0);
-    let mut rest = text.as_slice();
+    let mut rest = encoding.as_slice();
     let ctx = DecodeContext::new(0, &mut budget);
     written_is_read::<KC, VC, C>();
     one_reading::<KC, VC>();

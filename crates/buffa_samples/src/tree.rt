@@ -47,7 +47,7 @@ impl Model for Tree {
 
     ghost size = { height };
 
-    ghost use Rattle.buffa_samples.specs.GrownFalls.{most-heights};
+    ghost use Rattle.buffa_samples.specs.GrownFacts.{most-heights};
     ghost use Rattle.std.proofs.Common.{arith};
 
     ghost size_decreases = { λ t h. omega (arith, most-heights t.children.entries) };
@@ -73,7 +73,7 @@ impl Blank for Tree {
 impl MessageSpec for Tree {
     ghost use Rattle.std.proofs.Common.{arith};
     ghost use Rattle.buffa_samples.specs.TreeEncoding.{IsNormal, levels, records};
-    ghost use Rattle.buffa_samples.specs.TreeBack.{back};
+    ghost use Rattle.buffa_samples.specs.TreeBackFacts.{back};
     ghost use Rattle.buffa_samples.specs.TreeLaws.{cost_empty, cost_next, encoding_records};
     ghost use Rattle.buffa_samples.specs.TreeLaws.{merged_empty, merged_fields, merged_next};
 
@@ -170,7 +170,7 @@ pub fn size_tree(tree: &Tree, cache: &mut SizeCache) -> Result<u32, EncodeError>
 
 // The write pass of the children, by a function that writes a child. Its contract names no trait, so that the goals of
 // the recursion stay small.
-#[tactic(auto, using(crate::proofs::TreeSizes::meant_values))]
+#[tactic(auto, using(crate::proofs::TreeSizeLemmas::meant_values))]
 fn write_children_by<S: EncodeSink, F>(
     children: &BTreeMap<i32, Tree>,
     cache: &mut SizeCache,

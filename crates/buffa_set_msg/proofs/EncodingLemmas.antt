@@ -64,9 +64,9 @@ set_parts xs i f d h e =
 pub set_refused : (old mid new : List ℕ) (all : List (ℕ × Datum)) (xs : List UnknownField) (i : ℕ) (f d : UnknownField) → records_in xs ≡ all → mid ≡ old ++ set_encoding (records_in (take i xs)) → i < length xs → f ≡ get_or xs i d →
     WritesFront mid (record_encoding f.number (datum_of f.payload)) new → WritesFront old (set_encoding all) new
 set_refused old mid new all xs i f d whole m h e w =
-    let text = record_encoding f.number (datum_of f.payload) in
+    let encoding = record_encoding f.number (datum_of f.payload) in
     let rest = set_encoding (records_in (drop (i + 1) xs)) in
-    subst (λ z. WritesFront old z new) (sym (set_parts xs i f d h e) ∙ ap set_encoding whole) (front_second old (set_encoding (records_in (take i xs))) (text ++ rest) mid new m (front_first mid text rest new w))
+    subst (λ z. WritesFront old z new) (sym (set_parts xs i f d h e) ∙ ap set_encoding whole) (front_second old (set_encoding (records_in (take i xs))) (encoding ++ rest) mid new m (front_first mid encoding rest new w))
 
 -- the lengths of these encodings
 pub length-set_more : (xs : List UnknownField) (i : ℕ) (f d : UnknownField) → i < length xs → f ≡ get_or xs i d →
@@ -76,6 +76,6 @@ length-set_more xs i f d h e = ap length (set_more xs i f d h e) ∙ length-appe
 pub length-set_parts : (xs : List UnknownField) (i : ℕ) (f d : UnknownField) → i < length xs → f ≡ get_or xs i d →
     length (set_encoding (records_in (take i xs))) + length (record_encoding f.number (datum_of f.payload)) ≤ length (set_encoding (records_in xs))
 length-set_parts xs i f d h e =
-    let text = record_encoding f.number (datum_of f.payload) in
+    let encoding = record_encoding f.number (datum_of f.payload) in
     let rest = set_encoding (records_in (drop (i + 1) xs)) in
-    omega (arith, ap length (set_parts xs i f d h e), length-append (set_encoding (records_in (take i xs))) (text ++ rest), length-append text rest)
+    omega (arith, ap length (set_parts xs i f d h e), length-append (set_encoding (records_in (take i xs))) (encoding ++ rest), length-append encoding rest)

@@ -9,7 +9,7 @@ use Rattle.buffa_bytes.specs.declared.error.DecodeError.{DecodeError}
 use Rattle.buffa_bytes.specs.declared.error.DecodeError.TheVariants.{OutOfMemory, RecursionLimitExceeded, UnknownFieldLimitExceeded}
 use Rattle.buffa_wire.proofs.MessageLemmas.{NoLimit}
 use Rattle.buffa_wire.proofs.SequenceLemmas.{err_same, ok_same}
-use Rattle.buffa_wire.specs.BudgetLeft.{BudgetLeft, Lacks, slots}
+use Rattle.buffa_wire.specs.BudgetLeft.{BudgetLeft, Lacks, unknown_fields}
 use Rattle.buffa_wire.specs.Message.{IsFieldMerged}
 use Rattle.buffa_wire.specs.RecordReading.{field_at}
 use Rattle.buffa_wire.specs.Records.{Datum, bytes}
@@ -54,7 +54,7 @@ module _ (s : ℕ) (bs : List ℕ) where
       (put ∙ ap (λ z. Ok (v ++ z.0 ∷ [], z.2)) same, omega (arith, fewer, some))
 
   item_refuses : (d : ℕ) (v : List (ℕ × Datum)) (left : BudgetLeft) (e : DecodeError) (z : Bool) (q : Result (ℕ × List ℕ × List ℕ) DecodeError) → (s == 0) ≡ z → item_at d bs ≡ q → left.unknown ≡ s →
-      item_of (suc d) s bs ≡ Err e → Lacks left (slots 1) ⊎ ((x : DecodeError) × (item_field (suc d) v bs ≡ Err x) × NoLimit e)
+      item_of (suc d) s bs ≡ Err e → Lacks left (unknown_fields 1) ⊎ ((x : DecodeError) × (item_field (suc d) v bs ≡ Err x) × NoLimit e)
   item_refuses d v left e true q none is same h = inl (inl (omega (arith, eqb-true s 0 none, same)))
   item_refuses d v left e false (Ok x) some is same h =
       let k : item_of (suc d) s bs ≡ Ok ((x.0, bytes x.1), s - 1, x.2) = rw (some, is) refl in
@@ -69,7 +69,7 @@ module _ (s : ℕ) (bs : List ℕ) where
   any_item_takes zero r left rest v h = cc
   any_item_takes (suc d) r left rest v h = item_takes d r left rest v (s == 0) (item_at d bs) refl refl h
 
-  any_item_refuses : (d : ℕ) (v : List (ℕ × Datum)) (left : BudgetLeft) (e : DecodeError) → left.unknown ≡ s → item_of d s bs ≡ Err e → Lacks left (slots 1) ⊎ ((x : DecodeError) × (item_field d v bs ≡ Err x) × NoLimit e)
+  any_item_refuses : (d : ℕ) (v : List (ℕ × Datum)) (left : BudgetLeft) (e : DecodeError) → left.unknown ≡ s → item_of d s bs ≡ Err e → Lacks left (unknown_fields 1) ⊎ ((x : DecodeError) × (item_field d v bs ≡ Err x) × NoLimit e)
   any_item_refuses zero v left e same h = inr (RecursionLimitExceeded, refl, subst (λ z. NoLimit z) (err_same h) (λ l. l))
   any_item_refuses (suc d) v left e same h = item_refuses d v left e (s == 0) (item_at d bs) refl refl same h
 
@@ -135,10 +135,10 @@ module _ (d n : ℕ) (w : WireType) (bs rest : List ℕ) (v : List (ℕ × Datum
       paid (set_need d) d (set_stays d) (set_field d) (set_sound d) (set_same d) bad v v n w bs rest left left ((omega arith, omega arith, omega arith, omega arith), why) in
       subst (λ z. IsMergedField z v left left) (sym (is ∙ ap (λ x. Err x) same)) (merged, (refl, refl, λ ne. refusal d n w bs v left e (why ne) (subst (λ k. record_of_field d k n w bs ≡ Err e) all (h ne))))
 
-  pub set_ok : (r : ℕ × Datum) (slots_left : ℕ) (new : List (ℕ × Datum)) (before after : BudgetLeft) (s : ℕ) → s ≡ before.unknown → record_of_field d s n w bs ≡ Ok (r, slots_left, rest) → new ≡ v ++ r ∷ [] →
-      after.unknown ≡ slots_left → after.memory ≡ before.memory → IsMergedField well new before after
-  set_ok r slots_left new before after s all h is u m =
-      let k = takes_by d s n w bs (starts n w) refl r slots_left rest v h in
+  pub set_ok : (r : ℕ × Datum) (unknown_left : ℕ) (new : List (ℕ × Datum)) (before after : BudgetLeft) (s : ℕ) → s ≡ before.unknown → record_of_field d s n w bs ≡ Ok (r, unknown_left, rest) → new ≡ v ++ r ∷ [] →
+      after.unknown ≡ unknown_left → after.memory ≡ before.memory → IsMergedField well new before after
+  set_ok r unknown_left new before after s all h is u m =
+      let k = takes_by d s n w bs (starts n w) refl r unknown_left rest v h in
       let takes : set_field d v n w bs ≡ Ok (new, rest) = k.0 ∙ ap (λ z. Ok (z, rest)) (sym is) in
       let unknown : after.unknown + (set_need d n w bs).unknown ≡ before.unknown = omega (arith, u, k.1, all) in
       let memory : after.memory + (set_need d n w bs).memory ≡ before.memory = omega (arith, m, k.2) in

@@ -7,7 +7,7 @@ use Rattle.buffa_bytes.specs.declared.wire_type.WireType.{WireType}
 use Rattle.buffa_bytes.specs.declared.wire_type.WireType.TheVariants.{StartGroup}
 use Rattle.buffa_bytes.specs.declared.error.DecodeError.{DecodeError}
 use Rattle.buffa_bytes.specs.declared.error.DecodeError.TheVariants.{OutOfMemory, RecursionLimitExceeded}
-use Rattle.buffa_wire.specs.BudgetLeft.{BudgetLeft, Pays, slots}
+use Rattle.buffa_wire.specs.BudgetLeft.{BudgetLeft, Pays, unknown_fields}
 use Rattle.buffa_bytes.specs.Gives.{◌>>=◌}
 use Rattle.buffa_wire.specs.Message.{BeginsField, MergeFault}
 use Rattle.buffa_bytes.specs.Reading.{tag_at}
@@ -40,7 +40,7 @@ set_merged d v bs = merged_by (set_field d) v bs
 
 -- an Item costs an unknown field, a malformed one too; any other field costs what keeping it does
 abbrev pub set_need : ℕ → FieldNeed
-set_need d n w bs = if starts n w then slots 1 else keep_need d n w bs
+set_need d n w bs = if starts n w then unknown_fields 1 else keep_need d n w bs
 
 abbrev pub set_cost : ℕ → List ℕ → BudgetLeft
 set_cost d bs = cost_by (set_need d) d bs

@@ -9,7 +9,7 @@ use Rattle.buffa_bytes.specs.declared.wire_type.WireType.{WireType}
 use Rattle.buffa_bytes.specs.declared.wire_type.WireType.TheVariants.{StartGroup}
 use Rattle.buffa_bytes.specs.declared.error.DecodeError.{DecodeError}
 use Rattle.buffa_wire.proofs.MessageLemmas.{NoLimit}
-use Rattle.buffa_wire.specs.BudgetLeft.{nothing, plus, slots}
+use Rattle.buffa_wire.specs.BudgetLeft.{nothing, plus, unknown_fields}
 use Rattle.buffa_wire.specs.Parse.{Fits}
 use Rattle.buffa_wire.specs.Records.{Datum, Records, bytes, datum_height, fixed32, fixed64, group, height, one, records_of, varint}
 use Rattle.buffa_wire.specs.Encoding.{field_encoding, records_encoding}
@@ -56,7 +56,7 @@ set_same d v n w p h = pick (item_field d v) (keep_field d v n w) p (starts n w)
     (λ e. keep_same d v n w p h)
 
 pub set_stays : (d n : ℕ) (w : WireType) (p x : List ℕ) → Payload d n w p → set_need d n w (p ++ x) ≡ set_need d n w p
-set_stays d n w p x h = ap (λ z. if starts n w then slots 1 else z) (keep_stays d n w p x h)
+set_stays d n w p x h = ap (λ z. if starts n w then unknown_fields 1 else z) (keep_stays d n w p x h)
 
 -- ---- the laws of merging
 pub set_empty : (d : ℕ) (v : List (ℕ × Datum)) → set_merged d v [] ≡ Some v
@@ -81,28 +81,28 @@ set_cost_some = omega arith
 item_encoding_record : (n : ℕ) (b : List ℕ) → item_encoding n b ≡ field_encoding (item_record n b).0 (item_record n b).1
 item_encoding_record n b = simp (append_assoc, append-nil)
 
-bytes_text : (k : Bool) (n : ℕ) (b : List ℕ) → (if k then item_encoding n b else field_encoding n (bytes b)) ≡
+bytes_encoding : (k : Bool) (n : ℕ) (b : List ℕ) → (if k then item_encoding n b else field_encoding n (bytes b)) ≡
     field_encoding (if k then item_record n b else (n, bytes b)).0 (if k then item_record n b else (n, bytes b)).1
-bytes_text true n b = item_encoding_record n b
-bytes_text false n b = refl
+bytes_encoding true n b = item_encoding_record n b
+bytes_encoding false n b = refl
 
-one_text : (n : ℕ) (x : Datum) → record_encoding n x ≡ field_encoding (encoded_record n x).0 (encoded_record n x).1
-one_text n (bytes b) = bytes_text (is_type_id n) n b
-one_text n (varint v) = refl
-one_text n (fixed32 v) = refl
-one_text n (fixed64 v) = refl
-one_text n (group rs) = refl
+one_encoding : (n : ℕ) (x : Datum) → record_encoding n x ≡ field_encoding (encoded_record n x).0 (encoded_record n x).1
+one_encoding n (bytes b) = bytes_encoding (is_type_id n) n b
+one_encoding n (varint v) = refl
+one_encoding n (fixed32 v) = refl
+one_encoding n (fixed64 v) = refl
+one_encoding n (group rs) = refl
 
 pub set_encoding_records : (v : List (ℕ × Datum)) → set_encoding v ≡ records_encoding (set_records v)
 set_encoding_records [] = refl
-set_encoding_records (r ∷ rs) = λ i. one_text r.0 r.1 i ++ set_encoding_records rs i
+set_encoding_records (r ∷ rs) = λ i. one_encoding r.0 r.1 i ++ set_encoding_records rs i
 
 -- ---- it reads back
 encoded_item : (n : ℕ) (b : List ℕ) → IsTypeId n → encoded_record n (bytes b) ≡ item_record n b
 encoded_item n b h = rw (in_range n h) refl
 
-text_item : (n : ℕ) (b : List ℕ) → IsTypeId n → record_encoding n (bytes b) ≡ item_encoding n b
-text_item n b h = rw (in_range n h) refl
+encoding_item : (n : ℕ) (b : List ℕ) → IsTypeId n → record_encoding n (bytes b) ≡ item_encoding n b
+encoding_item n b h = rw (in_range n h) refl
 
 start_tag : IsTag (tag_encoding 1 StartGroup) 1 StartGroup
 start_tag = ((omega arith, omega arith), IsVarint-varint_encoding 11 (omega arith))
@@ -126,7 +126,7 @@ set_parsed ((n, bytes b) ∷ ys) zero v f h l =
 set_parsed ((n, bytes b) ∷ ys) (suc d) v f h l =
     let fit = fit_parts n b (records_of (set_records ys)) (subst (λ r. Fits (one r.0 r.1 (records_of (set_records ys)))) (encoded_item n b h.0) f) in
     let deep : max (datum_height (item_record n b).1) (height (set_records ys)) ≤ suc d = subst (λ r. max (datum_height r.1) (height (set_records ys)) ≤ suc d) (encoded_item n b h.0) l in
-    ap (λ z. set_merged (suc d) v (z ++ set_encoding ys)) (text_item n b h.0)
+    ap (λ z. set_merged (suc d) v (z ++ set_encoding ys)) (encoding_item n b h.0)
     ∙ item_back d v n b (set_encoding ys) h.0 fit.0
     ∙ set_parsed ys (suc d) (v ++ (n, bytes b) ∷ []) fit.1 h.1 (omega (arith, deep))
     ∙ ap (λ z. Some z) (append_assoc v ((n, bytes b) ∷ []) ys)

@@ -13,7 +13,7 @@ use buffa_wire::{Blank, MessageSpec};
 pub fn sets_are_these()
     ensures merged { ⟦<SetMsg as MessageSpec>⟧.merged ≡ set_merged }
     ensures cost { ⟦<SetMsg as MessageSpec>⟧.cost ≡ set_cost }
-    ensures text { ⟦<SetMsg as MessageSpec>⟧.encoding ≡ set_encoding }
+    ensures encoding { ⟦<SetMsg as MessageSpec>⟧.encoding ≡ set_encoding }
     ensures records { ⟦<SetMsg as MessageSpec>⟧.records ≡ set_records }
     ensures slots { ⟦<SetMsg as MessageSpec>⟧.slots ≡ (λ _. []) }
     ensures element { ⟦<SetMsg as MessageSpec>⟧.COST ≡ 24 }

@@ -43,19 +43,19 @@ pub(crate) fn read_record(
     tag: Tag,
     buf: &mut &[u8],
     depth: u32,
-    slots: usize,
+    unknown: usize,
 ) -> Result<(UnknownField, usize), DecodeError>
     ensures reads { GivesUnlessFull (λ x. (record_of x.0, x.1, buf.new.now)) result
-        (record_of_field depth slots tag.number tag.wire_type buf.old.now) }
+        (record_of_field depth unknown tag.number tag.wire_type buf.old.now) }
     ensures full { FullOnlyIf result (tag.wire_type ≢ EndGroup) }
 {
     if !starts_item(tag) {
-        return read_alone(alloc, tag, buf, depth, slots);
+        return read_alone(alloc, tag, buf, depth, unknown);
     }
     if depth == 0 {
         return Err(DecodeError::RecursionLimitExceeded);
     }
-    let mut own = Budget::new(slots);
+    let mut own = Budget::new(unknown);
     let lent = DecodeContext {
         depth: depth - 1,
         budget: &mut own,

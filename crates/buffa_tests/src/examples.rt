@@ -29,9 +29,9 @@ const ITEM: [u8; 12] = [
 
 #[test]
 fn an_item_is_written(rt: HostRuntime) -> Result<(), Fail> {
-    let mut text = Vec::new(rt.alloc());
-    write_item(1000, b"hello", &mut text)?;
-    assert!(rt; text.as_slice() == ITEM.as_slice());
+    let mut encoding = Vec::new(rt.alloc());
+    write_item(1000, b"hello", &mut encoding)?;
+    assert!(rt; encoding.as_slice() == ITEM.as_slice());
     Ok(())
 }
 
@@ -72,9 +72,9 @@ fn a_sample_comes_back(rt: HostRuntime) -> Result<(), Fail> {
     let alloc = rt.alloc();
     let mut node = Node::blank(alloc);
     node.merge_from_slice(alloc, &[0x12, 0x02, 0x08, 0x01])?;
-    let text = node.try_encode_to_vec(alloc)?;
+    let encoding = node.try_encode_to_vec(alloc)?;
     let written: &[u8] = &[0x12, 0x04, 0x08, 0x01, 0x12, 0x00];
-    assert!(rt; text.as_slice() == written);
+    assert!(rt; encoding.as_slice() == written);
     Ok(())
 }
 

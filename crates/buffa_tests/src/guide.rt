@@ -26,10 +26,10 @@ fn has(inventory: &Inventory, name: &str, count: i32) -> bool {
 }
 
 // The bytes that an inventory is written as.
-fn text_of(alloc: Global, inventory: &Inventory) -> Result<Vec<u8>, EncodeError> {
-    let mut text = Vec::new(alloc);
-    inventory.write(&mut text)?;
-    Ok(text)
+fn encoding_of(alloc: Global, inventory: &Inventory) -> Result<Vec<u8>, EncodeError> {
+    let mut encoding = Vec::new(alloc);
+    inventory.write(&mut encoding)?;
+    Ok(encoding)
 }
 
 #[test]
@@ -42,11 +42,11 @@ fn a_message_with_a_map_field(rt: HostRuntime) -> Result<(), Fail> {
     assert!(rt; inventory.counts.storage_len() == 2);
     assert!(rt; has(&inventory, "b", 2));
     assert_eq!(rt; inventory.encoded_len(), 14);
-    let text = text_of(rt.alloc(), &inventory)?;
+    let encoding = encoding_of(rt.alloc(), &inventory)?;
     let written: &[u8] = &[
         0x2A, 0x05, 0x0A, 0x01, 0x61, 0x10, 0x01, 0x2A, 0x05, 0x0A, 0x01, 0x62, 0x10, 0x02,
     ];
-    assert!(rt; text.as_slice() == written);
+    assert!(rt; encoding.as_slice() == written);
     Ok(())
 }
 
@@ -76,17 +76,17 @@ fn map_of_one(alloc: Global) -> Result<Map<i32, TestMsg>, Fail> {
 fn sized_and_written(alloc: Global, map: Map<i32, TestMsg>) -> Result<(u64, Vec<u8>), EncodeError> {
     let mut cache = SizeCache::new(alloc);
     let size = message_field_len::<Int32, TestMsg, _>(&map, 1, &mut cache)?;
-    let mut text = Vec::new(alloc);
-    write_message_field::<Int32, TestMsg, _, _>(&map, 5, &mut cache, &mut text)?;
-    Ok((size, text))
+    let mut encoding = Vec::new(alloc);
+    write_message_field::<Int32, TestMsg, _, _>(&map, 5, &mut cache, &mut encoding)?;
+    Ok((size, encoding))
 }
 
 #[test]
 fn a_map_field_of_messages(rt: HostRuntime) -> Result<(), Fail> {
     let map = map_of_one(rt.alloc())?;
-    let (size, text) = sized_and_written(rt.alloc(), map)?;
+    let (size, encoding) = sized_and_written(rt.alloc(), map)?;
     assert!(rt; size == 8);
-    assert!(rt; text.as_slice() == ENTRY.as_slice());
+    assert!(rt; encoding.as_slice() == ENTRY.as_slice());
     Ok(())
 }
 

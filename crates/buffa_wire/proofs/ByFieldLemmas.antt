@@ -12,41 +12,9 @@ use Rattle.buffa_bytes.specs.declared.error.DecodeError.{DecodeError}
 use Rattle.buffa_bytes.proofs.StepLemmas.{Agrees, agree_bind, agree_err, agree_ok, agree_weaker, bind_same}
 use Rattle.buffa_bytes.proofs.FieldLemmas.{tag_complete, tag_some, tag_sound}
 use Rattle.buffa_wire.proofs.MessageLemmas.{NoLimit, tag_no_limit}
-use Rattle.buffa_wire.specs.Sequence.{parse_all, parse_within}
-use Rattle.buffa_wire.proofs.SequenceLemmas.{ok_same}
+use Rattle.buffa_wire.specs.Sequence.{parse_all}
+use Rattle.buffa_wire.proofs.SequenceLemmas.{Falls, along_err, along_none, along_ok, ok_same, parse_leads}
 use Rattle.buffa_wire.specs.ByField.{FieldReader, merged_by, next_at, value_of}
-
--- ---- steps along bytes, each of which takes some
-module _ {S : Type 0} (f : S → List ℕ → Result (S × List ℕ) DecodeError) (falls : (s : S) (bs : List ℕ) (x : S × List ℕ) → f s bs ≡ Ok x → length x.1 < length bs) where
-  enough : (k m : ℕ) (s : S) (bs : List ℕ) → length bs ≤ k → length bs ≤ m → parse_within f k s bs ≡ parse_within f m s bs
-  unfolding parse_within
-  enough k m s [] h l = refl
-  enough zero m s (b ∷ bs) h l = absurd (omega arith)
-  enough (suc k) zero s (b ∷ bs) h l = absurd (omega arith)
-  enough (suc k) (suc m) s (b ∷ bs) h l = bind_same (f s (b ∷ bs)) (λ x. parse_within f k x.0 x.1) (λ x. parse_within f m x.0 x.1)
-      (λ x e. let short = falls s (b ∷ bs) x e in enough k m x.0 x.1 (omega (arith, short)) (omega (arith, short)))
-
-  turn : (s : S) (b : ℕ) (bs : List ℕ) → parse_all f s (b ∷ bs) ≡ (f s (b ∷ bs) >>= (λ x. parse_within f (length bs) x.0 x.1))
-  unfolding parse_within parse_all
-  turn s b bs = refl
-
-  whole : (s : S) (bs : List ℕ) → parse_all f s bs ≡ parse_within f (length bs) s bs
-  unfolding parse_all
-  whole s bs = refl
-
-  pub along_ok : (s t : S) (bs x : List ℕ) → 0 < length bs → f s bs ≡ Ok (t, x) → parse_all f s bs ≡ parse_all f t x
-  along_ok s t [] x some h = absurd (omega arith)
-  along_ok s t (b ∷ bs) x some h =
-      let short = falls s (b ∷ bs) (t, x) h in
-      turn s b bs ∙ rw h (enough (length bs) (length x) t x (omega (arith, short)) (omega arith)) ∙ sym (whole t x)
-
-  pub along_err : (s : S) (bs : List ℕ) (e : DecodeError) → 0 < length bs → f s bs ≡ Err e → parse_all f s bs ≡ Err e
-  along_err s [] e some h = absurd (omega arith)
-  along_err s (b ∷ bs) e some h = turn s b bs ∙ rw h refl
-
-  pub along_none : (s : S) → parse_all f s [] ≡ Ok s
-  unfolding parse_within parse_all
-  along_none s = refl
 
 pub some_of : {A : Type 0} (r : Result A DecodeError) (w : A) → value_of r ≡ Some w → r ≡ Ok w
 some_of (Ok x) w h = cc
@@ -76,24 +44,15 @@ module _ {X : Type 0} (d : ℕ) (field : FieldReader X) (sound : IsSound d field
       )) (λ e h. h))
       (λ e h. tag_no_limit bs e h)
 
-  falls : (v : X) (bs : List ℕ) (x : X × List ℕ) → next_at field v bs ≡ Ok x → length x.1 < length bs
+  falls : Falls (next_at field)
   falls v bs x h = let u = agree_ok (next_at field v bs) x (next_sound v bs) h in omega (arith, u.3, ap length u.2, length-append u.0 x.1)
-
-  then_joined : (k : ℕ) (v : X) (bs : List ℕ) (w : X) (r : Result (X × List ℕ) DecodeError) → next_at field v bs ≡ r → (r >>= (λ x. parse_within (next_at field) k x.0 x.1)) ≡ Ok w →
-      ((u : X) (x : List ℕ) → parse_within (next_at field) k u x ≡ Ok w → Join (SomeField d) x) → Join (SomeField d) bs
-  then_joined k v bs w (Ok x) is h again =
-      let u = agree_ok (next_at field v bs) x (next_sound v bs) is in subst (λ z. Join (SomeField d) z) (sym u.2) (more u.0 x.1 u.1 (again x.0 x.1 h))
-  then_joined k v bs w (Err e) is h again = cc
-
-  joined : (k : ℕ) (v : X) (bs : List ℕ) (w : X) → parse_within (next_at field) k v bs ≡ Ok w → Join (SomeField d) bs
-  unfolding parse_within
-  joined k v [] w h = none
-  joined zero v (b ∷ bs) w h = cc
-  joined (suc k) v (b ∷ bs) w h = then_joined k v (b ∷ bs) w (next_at field v (b ∷ bs)) refl h (λ u x q. joined k u x w q)
 
   -- what is merged is a join of fields
   pub fields : (v w : X) (b : List ℕ) → merged_by field v b ≡ Some w → Join (SomeField d) b
-  fields v w b h = joined (length b) v b w (sym (whole (next_at field) falls v b) ∙ some_of (parse_all (next_at field) v b) w h)
+  fields v w b h = parse_leads (next_at field) (λ _ bs r. (u : X) → r ≡ Ok u → Join (SomeField d) bs)
+      (λ v u is. none) (λ v b bs e is u bad. cc)
+      (λ v b bs x r is again u end. let p = agree_ok (next_at field v (b ∷ bs)) x (next_sound v (b ∷ bs)) is in subst (λ z. Join (SomeField d) z) (sym p.2) (more p.0 x.1 p.1 (again u end)))
+      falls v b w (some_of (parse_all (next_at field) v b) w h)
 
   -- no bytes change nothing
   pub empty : (v : X) → merged_by field v [] ≡ Some v

@@ -1,7 +1,7 @@
 -- What fields cost together follows from what each costs.
 use Rattle.std.proofs.Common.{◌≡◌, ◌≢◌, ◌⊎◌, inl, inr, ℕ, ◌+◌, zero, suc, ◌<◌, ◌≤◌, List, [], ◌∷◌, ◌++◌, length, Result, Ok, Err, refl, sym, ap, subst, ◌∙◌, arith, append_assoc, append-nil, length-append}
 use Rattle.std.specs.Result.{MatchResult}
-use Rattle.buffa_bytes.proofs.FieldLemmas.{payload_complete, skip_falls, tag_complete, tag_falls, tag_some}
+use Rattle.buffa_bytes.proofs.FieldLemmas.{payload_complete, skip_falls, tag_complete, tag_falls}
 use Rattle.buffa_bytes.specs.declared.wire_type.WireType.{WireType}
 use Rattle.buffa_bytes.specs.declared.error.DecodeError.{DecodeError}
 use Rattle.buffa_bytes.specs.declared.error.DecodeError.TheVariants.{OutOfMemory}
@@ -9,13 +9,12 @@ use Rattle.buffa_wire.proofs.MessageLemmas.{NoLimit}
 use Rattle.buffa_bytes.specs.Field.{IsTag, Payload, SomeField}
 use Rattle.buffa_wire.specs.BudgetLeft.{BudgetLeft, Lacks, Pays, PaysAtMost, need_by, nothing, plus}
 use Rattle.buffa_wire.specs.Message.{IsFieldMerged, IsJudged}
+use Rattle.buffa_bytes.specs.Gives.{◌>>=◌}
 use Rattle.buffa_bytes.specs.Reading.{skip_at, tag_at}
-use Rattle.buffa_wire.specs.ByField.{FieldNeed, FieldReader, cost_by, cost_within, merged_by}
+use Rattle.buffa_bytes.specs.Scan.{step_then}
+use Rattle.buffa_bytes.proofs.ScanLemmas.{Shortens, scan_step}
+use Rattle.buffa_wire.specs.ByField.{FieldNeed, FieldReader, cost_by, costs, field_costs, merged_by}
 use Rattle.buffa_wire.proofs.ByFieldLemmas.{IsSame, IsSound, judged, taken}
-
-need_same : {A : Type 0} (r : Result A DecodeError) (f g : A → BudgetLeft) → ((x : A) → r ≡ Ok x → f x ≡ g x) → need_by r f ≡ need_by r g
-need_same (Ok x) f g h = h x refl
-need_same (Err e) f g h = refl
 
 pub plus_nothing : (a : BudgetLeft) → plus a nothing ≡ a
 plus_nothing a =
@@ -24,29 +23,36 @@ plus_nothing a =
     λ i. record { unknown = u i; memory = m i }
 
 module _ (need : FieldNeed) (d : ℕ) where
-  enough : (k m : ℕ) (bs : List ℕ) → length bs ≤ k → length bs ≤ m → cost_within need d k bs ≡ cost_within need d m bs
-  unfolding cost_within
-  enough k m [] h l = refl
-  enough zero m (b ∷ bs) h l = absurd (omega arith)
-  enough (suc k) zero (b ∷ bs) h l = absurd (omega arith)
-  enough (suc k) (suc m) (b ∷ bs) h l = need_same (tag_at (b ∷ bs)) _ _ (λ t e. ap (plus (need t.0 t.1 t.2))
-      (need_same (skip_at d t.0 t.1 t.2) _ _ (λ rest s.
-      enough k m rest (omega (arith, h, tag_falls (b ∷ bs) t e, skip_falls d t.0 t.1 t.2 rest s)) (omega (arith, l, tag_falls (b ∷ bs) t e, skip_falls d t.0 t.1 t.2 rest s)))))
+  -- a field that is read takes a byte
+  skipped : (bs : List ℕ) (t : ℕ × WireType × List ℕ) → tag_at bs ≡ Ok t → (r : Result (List ℕ) DecodeError) → skip_at d t.0 t.1 t.2 ≡ r
+      → Shortens (costs (need t.0 t.1 t.2) (r >>= (λ rest. Ok (tt, rest)))) bs
+  skipped bs t e (Ok rest) s = omega (arith, tag_falls bs t e, skip_falls d t.0 t.1 t.2 rest s)
+  skipped bs t e (Err f) s = tt
 
-  turn : (bs : List ℕ) → 0 < length bs → cost_by need d bs ≡ need_by (tag_at bs) (λ t. plus (need t.0 t.1 t.2) (need_by (skip_at d t.0 t.1 t.2) (cost_by need d)))
-  unfolding cost_within cost_by
-  turn [] h = absurd (omega arith)
-  turn (b ∷ bs) h = need_same (tag_at (b ∷ bs)) _ _ (λ t e. ap (plus (need t.0 t.1 t.2))
-      (need_same (skip_at d t.0 t.1 t.2) _ _ (λ rest s.
-      enough (length bs) (length rest) rest (omega (arith, tag_falls (b ∷ bs) t e, skip_falls d t.0 t.1 t.2 rest s)) (omega arith))))
+  short : (bs : List ℕ) (r : Result (ℕ × WireType × List ℕ) DecodeError) → tag_at bs ≡ r → Shortens (field_costs need d r) bs
+  short bs (Ok t) e = skipped bs t e (skip_at d t.0 t.1 t.2) refl
+  short bs (Err f) e = tt
+
+  turn : (bs : List ℕ) (r : Result (ℕ × WireType × List ℕ) DecodeError) → tag_at bs ≡ r → cost_by need d bs ≡ step_then (λ _. cost_by need d) (field_costs need d r)
+  unfolding cost_by
+  turn bs r e =
+      scan_step (λ _ rest. field_costs need d (tag_at rest)) nothing (λ _ rest. short rest (tag_at rest) refl) tt bs
+      ∙ ap (λ z. step_then (λ _. cost_by need d) (field_costs need d z)) e
+
+  none_at : (r : Result (ℕ × WireType × List ℕ) DecodeError) → tag_at [] ≡ r → cost_by need d [] ≡ nothing
+  none_at (Ok t) e = absurd (omega (arith, tag_falls [] t e))
+  none_at (Err f) e = turn [] (Err f) e
 
   pub cost_empty : cost_by need d [] ≡ nothing
-  unfolding cost_within cost_by
-  cost_empty = refl
+  cost_empty = none_at (tag_at []) refl
+
+  behind : (m : BudgetLeft) (r : Result (List ℕ) DecodeError) → step_then (λ _. cost_by need d) (costs m (r >>= (λ rest. Ok (tt, rest)))) ≡ plus m (need_by r (cost_by need d))
+  behind m (Ok rest) = refl
+  behind m (Err e) = sym (plus_nothing m)
 
   -- a tag, and then what follows it
   pub cost_tagged : (t bs : List ℕ) (n : ℕ) (w : WireType) → IsTag t n w → cost_by need d (t ++ bs) ≡ plus (need n w bs) (need_by (skip_at d n w bs) (cost_by need d))
-  cost_tagged t bs n w tag = turn (t ++ bs) (omega (arith, tag_some t n w tag, length-append t bs)) ∙ rw (tag_complete t n w bs tag) refl
+  cost_tagged t bs n w tag = turn (t ++ bs) (Ok (n, w, bs)) (tag_complete t n w bs tag) ∙ behind (need n w bs) (skip_at d n w bs)
 
   module _ (stays : (n : ℕ) (w : WireType) (p x : List ℕ) → Payload d n w p → need n w (p ++ x) ≡ need n w p) where
     -- a field, and then what follows it

@@ -60,9 +60,9 @@ records_encoding-parts xs i f d h e =
 pub W_refused : (old mid new : List ℕ) (all : List (ℕ × Datum)) (xs : List UnknownField) (i : ℕ) (f d : UnknownField) → records_in xs ≡ all → mid ≡ old ++ records_encoding (records_in (take i xs)) → i < length xs → f ≡ get_or xs i d →
     WritesFront mid (field_encoding f.number (datum_of f.payload)) new → WritesFront old (records_encoding all) new
 W_refused old mid new all xs i f d whole m h e w =
-    let text = field_encoding f.number (datum_of f.payload) in
+    let encoding = field_encoding f.number (datum_of f.payload) in
     let rest = records_encoding (records_in (drop (i + 1) xs)) in
-    subst (λ z. WritesFront old z new) (sym (records_encoding-parts xs i f d h e) ∙ ap records_encoding whole) (front_second old (records_encoding (records_in (take i xs))) (text ++ rest) mid new m (front_first mid text rest new w))
+    subst (λ z. WritesFront old z new) (sym (records_encoding-parts xs i f d h e) ∙ ap records_encoding whole) (front_second old (records_encoding (records_in (take i xs))) (encoding ++ rest) mid new m (front_first mid encoding rest new w))
 
 -- a tag that was refused, as `?` hands it on
 pub tag_refused : {T : Type 0} {r : Result T EncodeError} {e d : EncodeError} → r ≡ Err e → e ≡ d → (n k : ℕ) (w v : WireType) (rest old new : List ℕ) → n ≡ 8 * k + wire_number w → w ≡ v →
@@ -79,9 +79,9 @@ length-W_more xs i f d h e = ap length (W_more xs i f d h e) ∙ length-append (
 pub length-W_parts : (xs : List UnknownField) (i : ℕ) (f d : UnknownField) → i < length xs → f ≡ get_or xs i d →
     length (records_encoding (records_in (take i xs))) + length (field_encoding f.number (datum_of f.payload)) ≤ length (records_encoding (records_in xs))
 length-W_parts xs i f d h e =
-    let text = field_encoding f.number (datum_of f.payload) in
+    let encoding = field_encoding f.number (datum_of f.payload) in
     let rest = records_encoding (records_in (drop (i + 1) xs)) in
-    omega (arith, ap length (records_encoding-parts xs i f d h e), length-append (records_encoding (records_in (take i xs))) (text ++ rest), length-append text rest)
+    omega (arith, ap length (records_encoding-parts xs i f d h e), length-append (records_encoding (records_in (take i xs))) (encoding ++ rest), length-append encoding rest)
 
 pub tag_no_room : {T : Type 0} {r : Result T EncodeError} {e : EncodeError} → r ≡ Err e → (n k : ℕ) (w v : WireType) (rest : List ℕ) (room left : ℕ) → n ≡ 8 * k + wire_number w → w ≡ v →
     room < length (varint_encoding n) → UsesRoom r room (tag_encoding k v ++ rest) left

@@ -12,7 +12,7 @@ use Rattle.buffa_bytes.proofs.FieldLemmas.{tag_falls}
 use Rattle.buffa_bytes.proofs.StepLemmas.{agree_ok}
 use Rattle.buffa_wire.proofs.SequenceLemmas.{ok_same}
 use Rattle.buffa_wire.specs.BudgetLeft.{BudgetLeft, Pays, PaysAtMost, nothing}
-use Rattle.buffa_wire.specs.Message.{BeginsField, IsMerged, MergeFault, PayloadFault, cost_in, cost_of_payload, merged_in}
+use Rattle.buffa_wire.specs.Message.{BeginsField, IsMerged, MergeFault, MessageFault, cost_in, cost_of_payload, merged_in}
 
 -- a length, and so many bytes at the front of what follows it
 pub delimited_front : (n : ℕ) (bs mid part : List ℕ) → varint_at bs ≡ Ok (n, mid) → IsFrontOf part n mid → delimited_at bs ≡ Ok (part, drop n mid)
@@ -31,7 +31,7 @@ module _ {X T : Type 0} (merged : ℕ → X → List ℕ → Option X) (cost : �
   inside_ok (suc d) old new bs b rest before after (Err x) deep e h = tt
 
   pub inside_fault : (d : ℕ) (old new : X) (bs b rest : List ℕ) (before after : BudgetLeft) (r : Result T DecodeError) → d ≢ 0 → delimited_at bs ≡ Ok (b, rest) → Inside d old b before r new after →
-      IfErr r (λ x. x ≢ error.OutOfMemory → PayloadFault merged cost d old bs before x)
+      IfErr r (λ x. x ≢ error.OutOfMemory → MessageFault merged cost d old bs before x)
   inside_fault zero old new bs b rest before after r deep e h = absurd (deep refl)
   inside_fault (suc d) old new bs b rest before after (Ok x) deep e h = tt
   inside_fault (suc d) old new bs b rest before after (Err x) deep e h = let k : suc d - 1 ≡ d = omega arith in λ ne. inr (b, rest, e, (rw k at h).1 ne)

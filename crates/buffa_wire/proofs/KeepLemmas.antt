@@ -12,10 +12,10 @@ use Rattle.buffa_bytes.specs.declared.error.DecodeError.TheVariants as error
 use Rattle.buffa_wire.proofs.JoinLemmas.{join_records, records_join}
 use Rattle.buffa_wire.proofs.LoopLemmas.{field_taken}
 use Rattle.buffa_wire.proofs.MessageLemmas.{NoLimit, length_no_limit, tag_no_limit, var_no_limit}
-use Rattle.buffa_wire.specs.BudgetLeft.{slots as left_slots}
-use Rattle.buffa_wire.specs.Kept.{keep_need, record_at, spent_of}
+use Rattle.buffa_wire.specs.BudgetLeft.{unknown_fields}
+use Rattle.buffa_wire.specs.Kept.{keep_need, kept_record_at, spent_of}
 use Rattle.buffa_wire.specs.Message.{IsLimit}
-use Rattle.buffa_wire.specs.Parse.{FieldFault, FieldFaultOf, GroupFault, InsideFault, IsPayload, Parse, slots, fields_inside}
+use Rattle.buffa_wire.specs.Parse.{FieldFault, FieldFaultOf, GroupFault, InsideFault, IsPayload, Parse, field_count, fields_inside}
 use Rattle.buffa_wire.specs.RecordReading.{field_at}
 use Rattle.buffa_wire.specs.Records.{Datum, Records, bytes, fixed32, fixed64, group, no_records, one, varint}
 use Rattle.buffa_wire.specs.Encoding.{wire_of}
@@ -50,7 +50,7 @@ payload_of_record (group rs) (suc d) n p (o, b, t, h, tag, is) = (b, t, records_
 
 -- ---- each record has a byte at least
 mutual
-  records_short : (rs : Records) (d : ℕ) (b : List ℕ) → Parse d b rs → slots rs ≤ length b
+  records_short : (rs : Records) (d : ℕ) (b : List ℕ) → Parse d b rs → field_count rs ≤ length b
   records_short no_records d b h = omega arith
   records_short (one n x rs) d b (f, r, (t, p, tag, payload, is), next, all) =
       omega (arith, inside_short x d n p payload, records_short rs d r next, tag_some t n (wire_of x) tag, ap length is, length-append t p, ap length all, length-append f r)
@@ -100,17 +100,17 @@ field_short d s n w bs e h l = in_field (GroupFault d) (group_short d) s n w bs 
 
 -- ---- one field
 -- a field whose record is x is read where enough unknown fields are left
-pub enough_slots : (d s n : ℕ) (w : WireType) (bs p rest : List ℕ) (x : Datum) → IsPayload d n x p → wire_of x ≡ w → bs ≡ p ++ rest → 1 + fields_inside x ≤ s → field_at d s n w bs ≡ Ok (x, s - (1 + fields_inside x), rest)
-enough_slots d s n w bs p rest x payload same is h = field_taken d s n w bs x (s - (1 + fields_inside x)) rest (p, payload, same, omega (arith, h), is)
+pub enough_unknown : (d s n : ℕ) (w : WireType) (bs p rest : List ℕ) (x : Datum) → IsPayload d n x p → wire_of x ≡ w → bs ≡ p ++ rest → 1 + fields_inside x ≤ s → field_at d s n w bs ≡ Ok (x, s - (1 + fields_inside x), rest)
+enough_unknown d s n w bs p rest x payload same is h = field_taken d s n w bs x (s - (1 + fields_inside x)) rest (p, payload, same, omega (arith, h), is)
 
-pub all_slots : (d n : ℕ) (w : WireType) (bs p rest : List ℕ) (x : Datum) → IsPayload d n x p → wire_of x ≡ w → bs ≡ p ++ rest → record_at d n w bs ≡ Ok (x, suc (length bs) - (1 + fields_inside x), rest)
-all_slots d n w bs p rest x payload same is =
-    enough_slots d (suc (length bs)) n w bs p rest x payload same is (omega (arith, inside_short x d n p payload, ap length is, length-append p rest))
+pub all_fields : (d n : ℕ) (w : WireType) (bs p rest : List ℕ) (x : Datum) → IsPayload d n x p → wire_of x ≡ w → bs ≡ p ++ rest → kept_record_at d n w bs ≡ Ok (x, suc (length bs) - (1 + fields_inside x), rest)
+all_fields d n w bs p rest x payload same is =
+    enough_unknown d (suc (length bs)) n w bs p rest x payload same is (omega (arith, inside_short x d n p payload, ap length is, length-append p rest))
 
-pub needed : (d n : ℕ) (w : WireType) (bs p rest : List ℕ) (x : Datum) → IsPayload d n x p → wire_of x ≡ w → bs ≡ p ++ rest → keep_need d n w bs ≡ left_slots (1 + fields_inside x)
+pub needed : (d n : ℕ) (w : WireType) (bs p rest : List ℕ) (x : Datum) → IsPayload d n x p → wire_of x ≡ w → bs ≡ p ++ rest → keep_need d n w bs ≡ unknown_fields (1 + fields_inside x)
 needed d n w bs p rest x payload same is =
     let k : suc (length bs) - (suc (length bs) - (1 + fields_inside x)) ≡ 1 + fields_inside x = omega (arith, inside_short x d n p payload, ap length is, length-append p rest) in
-    ap (spent_of (suc (length bs))) (all_slots d n w bs p rest x payload same is) ∙ ap left_slots k
+    ap (spent_of (suc (length bs))) (all_fields d n w bs p rest x payload same is) ∙ ap unknown_fields k
 
 pub keep_stays : (d n : ℕ) (w : WireType) (p x : List ℕ) → Payload d n w p → keep_need d n w (p ++ x) ≡ keep_need d n w p
 keep_stays d n w p r h =

@@ -20,15 +20,15 @@ past_varint : (bs : List ℕ) → past_no_payload Varint bs ≡ past_no_varint b
 unfolding past_no_payload
 past_varint bs = refl
 
-past_text : (bs : List ℕ) → past_no_payload LengthDelimited bs ≡ past_no_delimited bs
+past_delimited : (bs : List ℕ) → past_no_payload LengthDelimited bs ≡ past_no_delimited bs
 unfolding past_no_payload
-past_text bs = refl
+past_delimited bs = refl
 
 pub leaves_varint : {X : Type 0} (r : Result X DecodeError) (w : WireType) (bs new : List ℕ) → w ≡ Varint → new ≡ past_no_varint bs → LeavesUnlessFull r (past_no_payload w bs) new
 leaves_varint r w bs new k e = leaves_in r w Varint bs (past_no_varint bs) new k (past_varint bs) (leaves r (past_no_varint bs) new e)
 
-pub leaves_text : {X : Type 0} (r : Result X DecodeError) (w : WireType) (bs new : List ℕ) → w ≡ LengthDelimited → LeavesUnlessFull r (past_no_delimited bs) new → LeavesUnlessFull r (past_no_payload w bs) new
-leaves_text r w bs new k h = leaves_in r w LengthDelimited bs (past_no_delimited bs) new k (past_text bs) h
+pub leaves_delimited : {X : Type 0} (r : Result X DecodeError) (w : WireType) (bs new : List ℕ) → w ≡ LengthDelimited → LeavesUnlessFull r (past_no_delimited bs) new → LeavesUnlessFull r (past_no_payload w bs) new
+leaves_delimited r w bs new k h = leaves_in r w LengthDelimited bs (past_no_delimited bs) new k (past_delimited bs) h
 
 -- of four or eight bytes, and of an end tag, all are left
 pub leaves_all : {X : Type 0} (r : Result X DecodeError) (w v : WireType) (bs new : List ℕ) → w ≡ v → past_no_payload v bs ≡ bs → new ≡ bs → LeavesUnlessFull r (past_no_payload w bs) new

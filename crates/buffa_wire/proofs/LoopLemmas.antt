@@ -1,18 +1,20 @@
 -- The loops that read fields, step by step.
-use Rattle.std.proofs.Common.{◌≡◌, ◌≢◌, ℕ, zero, suc, ◌+◌, ◌-◌, ◌==◌, ◌<◌, ◌≤◌, ◌&&◌, Bool, List, [], ◌∷◌, ◌++◌, length, Result, Ok, Err, refl, sym, ap, subst, ◌∙◌, arith, length-append, append-nil, if◌then◌else◌}
+use Rattle.std.proofs.Common.{◌≡◌, ◌≢◌, ℕ, zero, suc, ◌+◌, ◌-◌, ◌==◌, ◌<◌, ◌≤◌, ◌&&◌, Bool, true, false, List, [], ◌∷◌, ◌++◌, length, Result, Ok, Err, refl, sym, ap, subst, ◌∙◌, arith, length-append, append-nil, if◌then◌else◌}
 use Rattle.buffa_bytes.specs.Gives.{◌>>=◌}
 use Rattle.buffa_bytes.specs.declared.wire_type.WireType.{WireType}
 use Rattle.buffa_bytes.specs.declared.wire_type.WireType.TheVariants as wire
 use Rattle.buffa_bytes.specs.declared.error.DecodeError.{DecodeError}
 use Rattle.buffa_bytes.specs.declared.error.DecodeError.TheVariants.{RecursionLimitExceeded, UnknownFieldLimitExceeded, InvalidEndGroup}
 use Rattle.buffa_bytes.specs.Reading.{tag_at, is_end}
-use Rattle.buffa_bytes.proofs.StepLemmas.{Agrees, agree_ok, agree_bind, same_answer, bind_same}
+use Rattle.buffa_bytes.specs.Scan.{step_then}
+use Rattle.buffa_bytes.specs.Scan.Scanned.{ends}
+use Rattle.buffa_bytes.proofs.StepLemmas.{Agrees, agree_ok, agree_bind}
 use Rattle.buffa_bytes.proofs.FieldLemmas.{tag_falls}
 use Rattle.buffa_wire.specs.Records.{Datum, group, Records, no_records, one, records_of, list_of}
 use Rattle.buffa_wire.specs.Encoding.{wire_of}
-use Rattle.buffa_wire.specs.Parse.{Parse, GroupFault, TakesField, FieldFault, RecordsFault, slots}
-use Rattle.buffa_wire.specs.RecordReading.{GroupReader, plain_at, payload_by, field_by, field_then, group_within, group_at, field_at, records_within, records_at, list_at}
-use Rattle.buffa_wire.proofs.ReadLemmas.{Group, also, also-none, behind, behind_none, then_one, closes_no, closes_yes, group_sound, group_complete, group_faulty, group_sound_in, group_complete_in, group_faulty_in, records_sound_in, records_complete_in, records_faulty_in, field_sound, field_complete, field_faulty}
+use Rattle.buffa_wire.specs.Parse.{Parse, GroupFault, TakesField, FieldFault, RecordsFault, field_count}
+use Rattle.buffa_wire.specs.RecordReading.{GroupReader, field_at, field_by, fields_at, group_at, kept_step, list_at, payload_by, plain_at, records_at, then_one}
+use Rattle.buffa_wire.proofs.ReadLemmas.{Group, also, also-none, behind, behind_none, closes_no, closes_yes, group_sound, group_complete, group_faulty, group_turn, records_end, records_turn, records_sound_in, records_complete_in, records_faulty_in, field_sound, field_complete, field_faulty}
 use Rattle.buffa_bytes.proofs.FieldLemmas.{not_end}
 use Rattle.std.proofs.lemmas.Bool.{eq-eqb, ne_eqb}
 use Rattle.buffa_wire.proofs.RecordLemmas.{list-records, records-list}
@@ -24,25 +26,29 @@ field_is_read d = field_sound d (group_at d) (GroupFault d) (group_sound d)
 pub field_falls : (d s n : ℕ) (w : WireType) (bs : List ℕ) (x : Datum × ℕ × List ℕ) → field_at d s n w bs ≡ Ok x → length x.2 ≤ length bs
 field_falls d s n w bs x e = let a = agree_ok (field_at d s n w bs) x (field_is_read d s n w bs) e in omega (arith, ap length a.4, length-append a.0 x.2)
 
--- ---- with no count of steps
-group_enough : (d k m s n : ℕ) (bs : List ℕ) → length bs ≤ k → length bs ≤ m → group_within (group_at d) k s n bs ≡ group_within (group_at d) m s n bs
-group_enough d k m s n bs h l =
-    same_answer _ _ (group_sound_in d (group_at d) (GroupFault d) (group_sound d) k s n bs h)
-    (λ v x. group_complete_in d (group_at d) (GroupFault d) (group_complete d) m s n v bs x l)
-    (λ e x. group_faulty_in d (group_at d) (GroupFault d) (group_complete d) (group_faulty d) m s n bs e x l)
+-- ---- a tag at a time
+-- the field after its tag t, and then what more reads
+abbrev pub field_then : GroupReader → (ℕ → List ℕ → Result Group DecodeError) → ℕ → ℕ × WireType × List ℕ → Result Group DecodeError
+field_then inner more s t = field_by inner s t.0 t.1 t.2 >>= (λ x. then_one t.0 x.0 (more x.1 x.2))
 
 pub after_tag : ℕ → ℕ → ℕ → ℕ × WireType × List ℕ → Result Group DecodeError
 after_tag d s n t = if is_end t.1 && (t.0 == n) then Ok (no_records, s, t.2) else field_then (group_at d) (λ left rest. group_at (suc d) left n rest) s t
 
-cond_same : {A : Type 0} (b : Bool) (x y q : A) → y ≡ q → (if b then x else y) ≡ (if b then x else q)
-cond_same b x y q e = ap (λ z. if b then x else z) e
+step_is : (more : ℕ → List ℕ → Result Group DecodeError) (b : Bool) (x : Result Group DecodeError) (n : ℕ) (r : Result (Datum × ℕ × List ℕ) DecodeError)
+    → step_then more (if b then ends x else kept_step n r) ≡ (if b then x else (r >>= (λ y. then_one n y.0 (more y.1 y.2))))
+step_is more true x n r = refl
+step_is more false x n (Ok y) = refl
+step_is more false x n (Err e) = refl
 
-pub group_is : (d s n : ℕ) (bs : List ℕ) → group_at (suc d) s n bs ≡ (tag_at bs >>= after_tag d s n)
-unfolding group_at group_within after_tag
-group_is d s n bs =
-    group_enough d (length bs) (suc (length bs)) s n bs (omega arith) (omega arith) ∙
-    bind_same (tag_at bs) _ _ (λ t e. cond_same (is_end t.1 && (t.0 == n)) _ _ _
-    (bind_same (field_at d s t.0 t.1 t.2) _ _ (λ x f. ap (then_one t.0 x.0) (group_enough d (length bs) (length x.2) x.1 n x.2 (omega (arith, tag_falls bs t e, field_falls d s t.0 t.1 t.2 x f)) (omega arith)))))
+group_by : (d s n : ℕ) (bs : List ℕ) (r : Result (ℕ × WireType × List ℕ) DecodeError) → tag_at bs ≡ r → group_at (suc d) s n bs ≡ (r >>= after_tag d s n)
+unfolding group_at after_tag
+group_by d s n bs (Ok t) e =
+    group_turn d (group_at d) (GroupFault d) (group_sound d) n s bs (Ok t) e
+    ∙ step_is (λ left rest. fields_at (group_at d) left n rest) (is_end t.1 && (t.0 == n)) (Ok (no_records, s, t.2)) t.0 (field_at d s t.0 t.1 t.2)
+group_by d s n bs (Err x) e = group_turn d (group_at d) (GroupFault d) (group_sound d) n s bs (Err x) e
+
+group_is : (d s n : ℕ) (bs : List ℕ) → group_at (suc d) s n bs ≡ (tag_at bs >>= after_tag d s n)
+group_is d s n bs = group_by d s n bs (tag_at bs) refl
 
 at_least : (d s n : ℕ) (bs : List ℕ) → d ≢ 0 → group_at d s n bs ≡ (tag_at bs >>= after_tag (d - 1) s n)
 at_least zero s n bs o = absurd (o refl)
@@ -135,24 +141,17 @@ pub field_plain_err : (d s left n : ℕ) (w : WireType) (bs : List ℕ) (e : Dec
 field_plain_err d s left n w bs x o g e f = field_paid d s left n w bs o e ∙ payload_is_plain (group_at d) left n w bs g ∙ rw f refl
 
 -- ---- fields to the end of the bytes
-records_enough : (d k m s : ℕ) (bs : List ℕ) → length bs ≤ k → length bs ≤ m → records_within (group_at d) k s bs ≡ records_within (group_at d) m s bs
-records_enough d k m s bs h l =
-    same_answer _ _ (records_sound_in d (group_at d) (GroupFault d) (group_sound d) k s bs h)
-    (λ v x. let is : x.0.0 ≡ bs = sym (x.0.3 ∙ ap (λ z. x.0.0 ++ z) x.1 ∙ append-nil x.0.0) in
-    records_complete_in d (group_at d) (GroupFault d) (group_complete d) m s v.1 v.0 bs (subst (λ z. Parse d z v.0) is x.0.1) x.0.2 l ∙ ap (λ z. Ok (v.0, v.1, z)) (sym x.1))
-    (λ e x. records_faulty_in d (group_at d) (GroupFault d) (group_complete d) (group_faulty d) m s x.1 x.0 bs x.2 e x.3 x.4 x.5 l)
-
 records_none : (d s : ℕ) → records_at d s [] ≡ Ok (no_records, s, [])
-unfolding records_at records_within
-records_none d s = refl
+records_none d s = records_end d (group_at d) (GroupFault d) (group_sound d) s
+
+records_tagged : (d s b : ℕ) (bs : List ℕ) (r : Result (ℕ × WireType × List ℕ) DecodeError) → tag_at (b ∷ bs) ≡ r → records_at d s (b ∷ bs) ≡ (r >>= field_then (group_at d) (records_at d) s)
+records_tagged d s b bs (Ok t) e =
+    records_turn d (group_at d) (GroupFault d) (group_sound d) s b bs (Ok t) e ∙ step_is (records_at d) false (Ok (no_records, s, t.2)) t.0 (field_at d s t.0 t.1 t.2)
+records_tagged d s b bs (Err x) e = records_turn d (group_at d) (GroupFault d) (group_sound d) s b bs (Err x) e
 
 records_is : (d s : ℕ) (bs : List ℕ) → 0 < length bs → records_at d s bs ≡ (tag_at bs >>= field_then (group_at d) (records_at d) s)
-unfolding records_at records_within
 records_is d s [] o = absurd (omega arith)
-records_is d s (b ∷ bs) o =
-    records_enough d (length (b ∷ bs)) (suc (length bs)) s (b ∷ bs) (omega arith) (omega arith) ∙
-    bind_same (tag_at (b ∷ bs)) _ _ (λ t e.
-    bind_same (field_at d s t.0 t.1 t.2) _ _ (λ x f. ap (then_one t.0 x.0) (records_enough d (length bs) (length x.2) x.1 x.2 (omega (arith, tag_falls (b ∷ bs) t e, field_falls d s t.0 t.1 t.2 x f)) (omega arith))))
+records_is d s (b ∷ bs) o = records_tagged d s b bs (tag_at (b ∷ bs)) refl
 
 pub list_begins : (d s left : ℕ) (bs : List ℕ) (rs : List (ℕ × Datum)) → rs ≡ [] → left ≡ s → behind (records_of rs) (records_at d left bs) ≡ records_at d s bs
 list_begins d s left bs rs e f = rw (e, f) (behind_none (records_at d s bs))
@@ -186,20 +185,17 @@ field_taken d s n w bs x left rest (p, payload, same, e, is) =
 pub field_refused : (d s n : ℕ) (w : WireType) (bs : List ℕ) (e : DecodeError) → FieldFault d s n w bs e → field_at d s n w bs ≡ Err e
 field_refused d = field_faulty d (group_at d) (GroupFault d) (group_faulty d)
 
-pub list_is_read : (d s : ℕ) (bs : List ℕ) → Agrees (list_at d s bs) (λ rs. Parse d bs (records_of rs) × (slots (records_of rs) ≤ s)) (RecordsFault d s bs)
-unfolding records_at
-list_is_read d s bs = agree_bind (records_sound_in d (group_at d) (GroupFault d) (group_sound d) (length bs) s bs (omega arith))
+pub list_is_read : (d s : ℕ) (bs : List ℕ) → Agrees (list_at d s bs) (λ rs. Parse d bs (records_of rs) × (field_count (records_of rs) ≤ s)) (RecordsFault d s bs)
+list_is_read d s bs = agree_bind (records_sound_in d (group_at d) (GroupFault d) (group_sound d) s bs)
     (λ v x. let is : x.0.0 ≡ bs = sym (x.0.3 ∙ ap (λ z. x.0.0 ++ z) x.1 ∙ append-nil x.0.0) in
     let back = records-list v.0 in
-    record { holds = (subst (λ z. Parse d bs z) (sym back) (subst (λ z. Parse d z v.0) is x.0.1), subst (λ z. slots z ≤ s) (sym back) (omega (arith, x.0.2))) })
+    record { holds = (subst (λ z. Parse d bs z) (sym back) (subst (λ z. Parse d z v.0) is x.0.1), subst (λ z. field_count z ≤ s) (sym back) (omega (arith, x.0.2))) })
     (λ e x. x)
 
-pub list_taken : (d s : ℕ) (bs : List ℕ) (rs : List (ℕ × Datum)) → Parse d bs (records_of rs) → slots (records_of rs) ≤ s → list_at d s bs ≡ Ok rs
-unfolding records_at
+pub list_taken : (d s : ℕ) (bs : List ℕ) (rs : List (ℕ × Datum)) → Parse d bs (records_of rs) → field_count (records_of rs) ≤ s → list_at d s bs ≡ Ok rs
 list_taken d s bs rs h l =
-    rw (records_complete_in d (group_at d) (GroupFault d) (group_complete d) (length bs) s (s - slots (records_of rs)) (records_of rs) bs h (omega arith) (omega arith)) (ap (λ z. Ok z) (list-records rs))
+    rw (records_complete_in d (group_at d) (GroupFault d) (group_sound d) (group_complete d) s (s - field_count (records_of rs)) (records_of rs) bs h (omega arith)) (ap (λ z. Ok z) (list-records rs))
 
 pub list_refused : (d s : ℕ) (bs : List ℕ) (e : DecodeError) → RecordsFault d s bs e → list_at d s bs ≡ Err e
-unfolding records_at
 list_refused d s bs e (rs, left, rest, h, o, x) =
-    rw (records_faulty_in d (group_at d) (GroupFault d) (group_complete d) (group_faulty d) (length bs) s left rs bs rest e h o x (omega arith)) refl
+    rw (records_faulty_in d (group_at d) (GroupFault d) (group_sound d) (group_complete d) (group_faulty d) s left rs bs rest e h o x) refl

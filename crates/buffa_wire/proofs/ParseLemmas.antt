@@ -43,17 +43,17 @@ is_tag : (n : ℕ) (w : WireType) → IsNumber n → IsTag (tag_encoding n w) n 
 is_tag n w h = (h, IsVarint-varint_encoding (8 * n + wire_number w) (tag_value n w h))
 
 mutual
-  pub text_parses : (rs : Records) (d : ℕ) → Fits rs → records_height rs ≤ d → Parse d (fields_encoding rs) rs
-  text_parses no_records d h k = refl
-  text_parses (one n x rs) d h k =
-      (field_encoding n x, fields_encoding rs, (tag_encoding n (wire_of x), payload_encoding n x, is_tag n (wire_of x) h.0, payload_parses x d n h.0 h.1 (omega arith), refl), text_parses rs d h.2 (omega arith), refl)
+  pub encoding_parses : (rs : Records) (d : ℕ) → Fits rs → records_height rs ≤ d → Parse d (fields_encoding rs) rs
+  encoding_parses no_records d h k = refl
+  encoding_parses (one n x rs) d h k =
+      (field_encoding n x, fields_encoding rs, (tag_encoding n (wire_of x), payload_encoding n x, is_tag n (wire_of x) h.0, payload_parses x d n h.0 h.1 (omega arith), refl), encoding_parses rs d h.2 (omega arith), refl)
 
   payload_parses : (x : Datum) (d n : ℕ) → IsNumber n → FitsDatum x → datum_height x ≤ d → IsPayload d n x (payload_encoding n x)
   payload_parses (varint v) d n i h k = IsVarint-varint_encoding v h
   payload_parses (fixed32 v) d n i h k = (refl, sym (from_le_bytes-to_le_bytes_4 v h))
   payload_parses (fixed64 v) d n i h k = (refl, sym (from_le_bytes-to_le_bytes_8 v h))
   payload_parses (bytes v) d n i h k = (varint_encoding (length v), IsVarint-varint_encoding (length v) h, refl)
-  payload_parses (group rs) d n i h k = (omega arith, fields_encoding rs, tag_encoding n wire.EndGroup, text_parses rs (d - 1) h (omega arith), is_tag n wire.EndGroup i, refl)
+  payload_parses (group rs) d n i h k = (omega arith, fields_encoding rs, tag_encoding n wire.EndGroup, encoding_parses rs (d - 1) h (omega arith), is_tag n wire.EndGroup i, refl)
 
 -- ---- an encoding has one reading
 -- p spells n, in any number of bytes
@@ -128,16 +128,16 @@ mutual
   payload_loose (group rs) d n p (o, b, t, h, tag, is) = (b, t, parse_loose rs (d - 1) b h, spelled t _ tag.1, is)
 
 mutual
-  text_loose : (rs : Records) → InRange rs → Loose (fields_encoding rs) rs
-  text_loose no_records h = refl
-  text_loose (one n x rs) h = (tag_encoding n (wire_of x), payload_encoding n x, fields_encoding rs, varint_encoding-own _, payload_encoding_loose x n h.0, text_loose rs h.1, append_assoc (tag_encoding n (wire_of x)) (payload_encoding n x) (fields_encoding rs))
+  encoding_loose : (rs : Records) → InRange rs → Loose (fields_encoding rs) rs
+  encoding_loose no_records h = refl
+  encoding_loose (one n x rs) h = (tag_encoding n (wire_of x), payload_encoding n x, fields_encoding rs, varint_encoding-own _, payload_encoding_loose x n h.0, encoding_loose rs h.1, append_assoc (tag_encoding n (wire_of x)) (payload_encoding n x) (fields_encoding rs))
 
   payload_encoding_loose : (x : Datum) (n : ℕ) → DatumInRange x → LoosePayload n x (payload_encoding n x)
   payload_encoding_loose (varint v) n h = varint_encoding-own v
   payload_encoding_loose (fixed32 v) n h = (refl, sym (from_le_bytes-to_le_bytes_4 v h))
   payload_encoding_loose (fixed64 v) n h = (refl, sym (from_le_bytes-to_le_bytes_8 v h))
   payload_encoding_loose (bytes v) n h = (varint_encoding (length v), varint_encoding-own _, refl)
-  payload_encoding_loose (group rs) n h = (fields_encoding rs, tag_encoding n wire.EndGroup, text_loose rs h, varint_encoding-own _, refl)
+  payload_encoding_loose (group rs) n h = (fields_encoding rs, tag_encoding n wire.EndGroup, encoding_loose rs h, varint_encoding-own _, refl)
 
 split_eq : (a b x y : List ℕ) → length a ≡ length b → a ++ x ≡ b ++ y → (a ≡ b) × (x ≡ y)
 split_eq [] [] x y n e = (refl, e)
@@ -215,5 +215,5 @@ one_loose b rs qs p q = (same_records rs qs b b [] [] p q stops_none stops_none 
 pub one_reading : (b : List ℕ) (c d : ℕ) (rs qs : Records) → Parse c b rs → Parse d b qs → rs ≡ qs
 one_reading b c d rs qs p q = one_loose b rs qs (parse_loose rs c b p) (parse_loose qs d b q)
 
-pub text_is_theirs : (d : ℕ) (rs qs : Records) → InRange rs → Parse d (fields_encoding rs) qs → qs ≡ rs
-text_is_theirs d rs qs h p = one_loose (fields_encoding rs) qs rs (parse_loose qs d (fields_encoding rs) p) (text_loose rs h)
+pub encoding_is_theirs : (d : ℕ) (rs qs : Records) → InRange rs → Parse d (fields_encoding rs) qs → qs ≡ rs
+encoding_is_theirs d rs qs h p = one_loose (fields_encoding rs) qs rs (parse_loose qs d (fields_encoding rs) p) (encoding_loose rs h)

@@ -1,5 +1,5 @@
 -- What is read of records, and their grammar.
-use Rattle.std.proofs.Common.{◌≡◌, ◌≢◌, inl, inr, ℕ, zero, suc, ◌+◌, ◌-◌, ◌==◌, ◌<◌, ◌≤◌, ◌&&◌, true, false, true≢false, List, [], ◌∷◌, ◌++◌, length, Result, Ok, Err, refl, sym, ap, subst, ◌∙◌, arith, append_assoc, append-nil, length-append}
+use Rattle.std.proofs.Common.{◌≡◌, ◌≢◌, inl, inr, ℕ, zero, suc, ◌+◌, ◌-◌, ◌==◌, ◌<◌, ◌≤◌, ◌&&◌, Bool, true, false, true≢false, List, [], ◌∷◌, ◌++◌, length, Result, Ok, Err, refl, sym, ap, subst, ◌∙◌, arith, append_assoc, append-nil, length-append}
 use Rattle.std.specs.Int.{from_le_bytes, w32, w64}
 use Rattle.std.proofs.lemmas.Bool.{eqb-true, eqb-false, eq-eqb, ne_eqb}
 use Rattle.buffa_bytes.specs.Gives.{◌>>=◌}
@@ -9,15 +9,17 @@ use Rattle.buffa_bytes.specs.declared.error.DecodeError.{DecodeError}
 use Rattle.buffa_bytes.specs.declared.error.DecodeError.TheVariants.{UnexpectedEof}
 use Rattle.buffa_bytes.specs.Field.{IsTag, TagFault, TakesTag}
 use Rattle.buffa_bytes.specs.Content.{ContentFault}
-use Rattle.buffa_bytes.specs.Reading.{varint_within, varint_at, tag_at, is_end}
-use Rattle.buffa_bytes.proofs.StepLemmas.{Agrees, agree_bind, agree_if, agree_weaker}
+use Rattle.buffa_bytes.specs.Reading.{is_end, tag_at}
+use Rattle.buffa_bytes.specs.Scan.{step_then}
+use Rattle.buffa_bytes.proofs.StepLemmas.{Agrees, agree_bind, agree_err, agree_if, agree_ok, agree_weaker}
+use Rattle.buffa_bytes.proofs.ScanLemmas.{Leads, Shortens, if_leads, if_short, scan_leads, scan_step}
 use Rattle.buffa_bytes.proofs.VarintLemmas.{varint_sound, varint_complete, varint_faulty}
 use Rattle.buffa_bytes.proofs.DelimitedLemmas.{taken_sound, taken_complete, taken_faulty, delimited_sound, delimited_complete, delimited_faulty}
 use Rattle.buffa_bytes.proofs.FieldLemmas.{tag_sound, tag_complete, tag_faulty, tag_some, not_end}
 use Rattle.buffa_wire.specs.Records.{Datum, varint, fixed32, fixed64, bytes, group, Records, no_records, one}
 use Rattle.buffa_wire.specs.Encoding.{wire_of}
-use Rattle.buffa_wire.specs.Parse.{Parse, IsPayload, slots, fields_inside, TakesField, TakesRecords, InsideFault, FieldFaultOf, NextFault, GroupFault}
-use Rattle.buffa_wire.specs.RecordReading.{GroupReader, plain_at, payload_by, field_by, group_within, group_at, records_within}
+use Rattle.buffa_wire.specs.Parse.{Parse, IsPayload, field_count, fields_inside, TakesField, TakesRecords, InsideFault, FieldFaultOf, NextFault, GroupFault}
+use Rattle.buffa_wire.specs.RecordReading.{GroupReader, plain_at, ends_group, field_by, fields_at, group_at, kept_step, payload_by, record_step, records_by, records_step, then_one}
 
 -- ---- wire types
 pub end_true : (w : WireType) → is_end w ≡ true → w ≡ wire.EndGroup
@@ -82,10 +84,6 @@ pub behind_none : (r : Result Group DecodeError) → behind no_records r ≡ r
 behind_none (Ok x) = refl
 behind_none (Err e) = refl
 
--- what is read of records, behind one record
-abbrev pub then_one : ℕ → Datum → Result Group DecodeError → Result Group DecodeError
-then_one n x r = r >>= (λ v. Ok (one n x v.0, v.1, v.2))
-
 pub behind_one : (n : ℕ) (x : Datum) (rs : Records) (r : Result Group DecodeError) → then_one n x (behind rs r) ≡ behind (one n x rs) r
 behind_one n x rs (Ok y) = refl
 behind_one n x rs (Err e) = refl
@@ -100,25 +98,17 @@ parted b f rest t p x e h = rw (e, h) (simp append_assoc)
 abbrev with_left : ℕ → Result (Datum × List ℕ) DecodeError → Result (Datum × ℕ × List ℕ) DecodeError
 with_left s r = r >>= (λ v. Ok (v.0, s, v.1))
 
--- of no bytes there is no tag: they end too early
-no_tag : tag_at [] ≡ Err UnexpectedEof
-unfolding tag_at varint_at varint_within
-no_tag = refl
-
-tag_fault_none : (e : DecodeError) → TagFault [] e → UnexpectedEof ≡ e
-tag_fault_none e h = let k = sym no_tag ∙ tag_faulty [] e h in cc
-
 module _ (d : ℕ) (inner : GroupReader) (F : ℕ → ℕ → List ℕ → DecodeError → Type 0) where
   -- the rest of group n begins bs
   abbrev pub TakesGroup : ℕ → ℕ → List ℕ → Group → Type 0
-  TakesGroup s n bs v = (p : List ℕ) × IsPayload d n (group v.0) p × (slots v.0 + v.1 ≡ s) × (bs ≡ p ++ v.2)
+  TakesGroup s n bs v = (p : List ℕ) × IsPayload d n (group v.0) p × (field_count v.0 + v.1 ≡ s) × (bs ≡ p ++ v.2)
 
   -- a reader of groups answers as the grammar says
   abbrev pub Sound : Type 0
   Sound = (s n : ℕ) (bs : List ℕ) → Agrees (inner s n bs) (λ v. TakesGroup s n bs v) (F s n bs)
 
   abbrev pub Complete : Type 0
-  Complete = (s n : ℕ) (rs : Records) (left : ℕ) (p rest : List ℕ) → IsPayload d n (group rs) p → slots rs + left ≡ s → inner s n (p ++ rest) ≡ Ok (rs, left, rest)
+  Complete = (s n : ℕ) (rs : Records) (left : ℕ) (p rest : List ℕ) → IsPayload d n (group rs) p → field_count rs + left ≡ s → inner s n (p ++ rest) ≡ Ok (rs, left, rest)
 
   abbrev pub Faults : Type 0
   Faults = (s n : ℕ) (bs : List ℕ) (e : DecodeError) → F s n bs e → inner s n bs ≡ Err e
@@ -211,7 +201,7 @@ module _ (d : ℕ) (inner : GroupReader) (F : ℕ → ℕ → List ℕ → Decod
 
   -- fields that are rs, and then an end tag of number n
   abbrev pub InGroup : ℕ → ℕ → List ℕ → Group → Type 0
-  InGroup s n bs v = (b : List ℕ) × (t : List ℕ) × Parse d b v.0 × IsTag t n wire.EndGroup × (slots v.0 + v.1 ≡ s) × (bs ≡ b ++ (t ++ v.2))
+  InGroup s n bs v = (b : List ℕ) × (t : List ℕ) × Parse d b v.0 × IsTag t n wire.EndGroup × (field_count v.0 + v.1 ≡ s) × (bs ≡ b ++ (t ++ v.2))
 
   first_and : (s s' left : ℕ) (n : ℕ) (w : WireType) (bs after mid rest : List ℕ) (x : Datum) (rs : Records) (u : TakesTag bs n w after) (a : TakesField d s n w after x s' mid) → TakesRecords d s' mid rs left rest → TakesRecords d s bs (one n x rs) left rest
   first_and s s' left n w bs after mid rest x rs u a r =
@@ -220,110 +210,146 @@ module _ (d : ℕ) (inner : GroupReader) (F : ℕ → ℕ → List ℕ → Decod
   falls : (s s' n : ℕ) (w : WireType) (bs after mid : List ℕ) (x : Datum) (u : TakesTag bs n w after) (a : TakesField d s n w after x s' mid) → length mid < length bs
   falls s s' n w bs after mid x u a = omega (arith, tag_some u.0 n w u.1, ap length u.2, ap length a.4, length-append u.0 after, length-append a.0 mid)
 
-  pub group_sound_in : Sound → (k s n : ℕ) (bs : List ℕ) → length bs ≤ k → Agrees (group_within inner k s n bs) (λ v. InGroup s n bs v) (FieldsFault (λ m. m ≡ n) s bs)
-  unfolding group_within
-  group_sound_in h zero s n [] l = record { holds = (no_records, s, [], ([], refl, omega arith, refl), inl (inl (tt, omega arith))) }
-  group_sound_in h zero s n (b ∷ bs) l = absurd (omega arith)
-  group_sound_in h (suc k) s n bs l = agree_bind (tag_sound bs)
-      (λ t u. agree_if (is_end t.1 && (t.0 == n))
-      (λ e. let c = closes_true t.1 t.0 n e in record { holds = ([], u.0, refl, subst (λ m. IsTag u.0 m wire.EndGroup) c.1 (subst (λ w. IsTag u.0 t.0 w) c.0 u.1), omega arith, u.2) })
-      (λ e. agree_bind (field_sound h s t.0 t.1 t.2)
-      (λ x a. agree_bind (group_sound_in h k x.1 n x.2 (omega (arith, falls s x.1 t.0 t.1 bs t.2 x.2 x.0 u a)))
-      (λ v r. let f = first_and s x.1 v.1 t.0 t.1 bs t.2 x.2 (r.1 ++ v.2) x.0 v.0 u a (r.0, r.2, r.4, r.5) in record { holds = (f.0, r.1, f.1, r.3, f.2, f.3) })
-      (λ y r. (one t.0 x.0 r.0, r.1, r.2, first_and s x.1 r.1 t.0 t.1 bs t.2 x.2 r.2 x.0 r.0 u a r.3, r.4)))
-      (λ y r. (no_records, s, bs, ([], refl, omega arith, refl), inr (t.0, t.1, t.2, u, closes_false t.1 t.0 n e, r)))))
-      (λ y r. (no_records, s, bs, ([], refl, omega arith, refl), inl r))
+  kept_leads : (Q : ℕ → List ℕ → Result Group DecodeError → Type 0) (n : ℕ) (r : Result (Datum × ℕ × List ℕ) DecodeError) (s : ℕ) (bs : List ℕ)
+      → ((x : Datum × ℕ × List ℕ) → r ≡ Ok x → (a : Result Group DecodeError) → Q x.1 x.2 a → Q s bs (then_one n x.0 a)) → ((e : DecodeError) → r ≡ Err e → Q s bs (Err e)) → Leads Q (kept_step n r) s bs
+  kept_leads Q n (Ok x) s bs ok err = λ a q. ok x refl a q
+  kept_leads Q n (Err e) s bs ok err = err e refl
 
-  pub records_sound_in : Sound → (k s : ℕ) (bs : List ℕ) → length bs ≤ k → Agrees (records_within inner k s bs) (λ v. TakesRecords d s bs v.0 v.1 v.2 × (v.2 ≡ []))
-      (λ e. (rs : Records) × (left : ℕ) × (rest : List ℕ) × TakesRecords d s bs rs left rest × (0 < length rest) × NextFault (λ m. ⊥) F left rest e)
-  unfolding records_within
-  records_sound_in h k s [] l = record { holds = (([], refl, omega arith, refl), refl) }
-  records_sound_in h zero s (b ∷ bs) l = absurd (omega arith)
-  records_sound_in h (suc k) s (b ∷ bs) l = agree_bind (tag_sound (b ∷ bs))
-      (λ t u. agree_bind (field_sound h s t.0 t.1 t.2)
-      (λ x a. agree_bind (records_sound_in h k x.1 x.2 (omega (arith, falls s x.1 t.0 t.1 (b ∷ bs) t.2 x.2 x.0 u a)))
-      (λ v r. record { holds = (first_and s x.1 v.1 t.0 t.1 (b ∷ bs) t.2 x.2 v.2 x.0 v.0 u a r.0, r.1) })
-      (λ y r. (one t.0 x.0 r.0, r.1, r.2, first_and s x.1 r.1 t.0 t.1 (b ∷ bs) t.2 x.2 r.2 x.0 r.0 u a r.3, r.4, r.5)))
-      (λ y r. (no_records, s, b ∷ bs, ([], refl, omega arith, refl), omega arith, inr (t.0, t.1, t.2, u, (λ p q. q), r))))
-      (λ y r. (no_records, s, b ∷ bs, ([], refl, omega arith, refl), omega arith, inl r))
+  module _ (h : Sound) where
+    -- ---- each step takes a byte
+    kept_short : (s n : ℕ) (w : WireType) (bs after : List ℕ) → TakesTag bs n w after → (r : Result (Datum × ℕ × List ℕ) DecodeError) → field_by inner s n w after ≡ r → Shortens (kept_step n r) bs
+    kept_short s n w bs after u (Ok x) e = falls s x.1 n w bs after x.2 x.0 u (agree_ok (field_by inner s n w after) x (field_sound h s n w after) e)
+    kept_short s n w bs after u (Err x) e = tt
+
+    step_short : (last : ℕ × WireType × List ℕ → Bool) (s : ℕ) (bs : List ℕ) (r : Result (ℕ × WireType × List ℕ) DecodeError) → tag_at bs ≡ r → Shortens (record_step inner last s r) bs
+    step_short last s bs (Ok t) e =
+        if_short (last t) (Ok (no_records, s, t.2)) (kept_step t.0 (field_by inner s t.0 t.1 t.2)) bs
+        (λ _. kept_short s t.0 t.1 bs t.2 (agree_ok (tag_at bs) t (tag_sound bs) e) (field_by inner s t.0 t.1 t.2) refl)
+    step_short last s bs (Err x) e = tt
+
+    records_short : (s : ℕ) (bs : List ℕ) → Shortens (records_step inner s bs) bs
+    records_short s [] = tt
+    records_short s (b ∷ bs) = step_short (λ _. false) s (b ∷ bs) (tag_at (b ∷ bs)) refl
+
+    pub group_turn : (n s : ℕ) (bs : List ℕ) (r : Result (ℕ × WireType × List ℕ) DecodeError) → tag_at bs ≡ r
+        → fields_at inner s n bs ≡ step_then (λ left rest. fields_at inner left n rest) (record_step inner (ends_group n) s r)
+    unfolding fields_at
+    group_turn n s bs r e =
+        scan_step (λ left rest. record_step inner (ends_group n) left (tag_at rest)) (Err UnexpectedEof) (λ left rest. step_short (ends_group n) left rest (tag_at rest) refl) s bs
+        ∙ ap (λ z. step_then (λ left rest. fields_at inner left n rest) (record_step inner (ends_group n) s z)) e
+
+    pub records_turn : (s b : ℕ) (bs : List ℕ) (r : Result (ℕ × WireType × List ℕ) DecodeError) → tag_at (b ∷ bs) ≡ r
+        → records_by inner s (b ∷ bs) ≡ step_then (records_by inner) (record_step inner (λ _. false) s r)
+    unfolding records_by
+    records_turn s b bs r e =
+        scan_step (records_step inner) (Err UnexpectedEof) records_short s (b ∷ bs) ∙ ap (λ z. step_then (records_by inner) (record_step inner (λ _. false) s z)) e
+
+    pub records_end : (s : ℕ) → records_by inner s [] ≡ Ok (no_records, s, [])
+    unfolding records_by
+    records_end s = scan_step (records_step inner) (Err UnexpectedEof) records_short s []
+
+    -- ---- what is read is in the grammar
+    abbrev ReadsGroup : ℕ → ℕ → List ℕ → Result Group DecodeError → Type 0
+    ReadsGroup n s bs r = Agrees r (λ v. InGroup s n bs v) (FieldsFault (λ m. m ≡ n) s bs)
+
+    group_leads : (n s : ℕ) (bs : List ℕ) (r : Result (ℕ × WireType × List ℕ) DecodeError) → tag_at bs ≡ r → Leads (ReadsGroup n) (record_step inner (ends_group n) s r) s bs
+    group_leads n s bs (Ok t) e =
+        let u = agree_ok (tag_at bs) t (tag_sound bs) e in
+        if_leads (ReadsGroup n) (ends_group n t) (Ok (no_records, s, t.2)) (kept_step t.0 (field_by inner s t.0 t.1 t.2)) s bs
+        (λ last. let c = closes_true t.1 t.0 n last in record { holds = ([], u.0, refl, subst (λ m. IsTag u.0 m wire.EndGroup) c.1 (subst (λ w. IsTag u.0 t.0 w) c.0 u.1), omega arith, u.2) })
+        (λ other. kept_leads (ReadsGroup n) t.0 (field_by inner s t.0 t.1 t.2) s bs
+            (λ x is y q. let a = agree_ok (field_by inner s t.0 t.1 t.2) x (field_sound h s t.0 t.1 t.2) is in agree_bind q
+                (λ v r. let f = first_and s x.1 v.1 t.0 t.1 bs t.2 x.2 (r.1 ++ v.2) x.0 v.0 u a (r.0, r.2, r.4, r.5) in record { holds = (f.0, r.1, f.1, r.3, f.2, f.3) })
+                (λ z r. (one t.0 x.0 r.0, r.1, r.2, first_and s x.1 r.1 t.0 t.1 bs t.2 x.2 r.2 x.0 r.0 u a r.3, r.4)))
+            (λ y is. record { holds = (no_records, s, bs, ([], refl, omega arith, refl), inr (t.0, t.1, t.2, u, closes_false t.1 t.0 n other, agree_err (field_by inner s t.0 t.1 t.2) y (field_sound h s t.0 t.1 t.2) is)) }))
+    group_leads n s bs (Err x) e = record { holds = (no_records, s, bs, ([], refl, omega arith, refl), inl (agree_err (tag_at bs) x (tag_sound bs) e)) }
+
+    pub group_sound_in : (s n : ℕ) (bs : List ℕ) → Agrees (fields_at inner s n bs) (λ v. InGroup s n bs v) (FieldsFault (λ m. m ≡ n) s bs)
+    unfolding fields_at
+    group_sound_in s n bs =
+        scan_leads (λ left rest. record_step inner (ends_group n) left (tag_at rest)) (Err UnexpectedEof) (λ left rest. step_short (ends_group n) left rest (tag_at rest) refl) (ReadsGroup n)
+        (λ left rest. group_leads n left rest (tag_at rest) refl) s bs
+
+    abbrev ReadsRecords : ℕ → List ℕ → Result Group DecodeError → Type 0
+    ReadsRecords s bs r = Agrees r (λ v. TakesRecords d s bs v.0 v.1 v.2 × (v.2 ≡ []))
+        (λ e. (rs : Records) × (left : ℕ) × (rest : List ℕ) × TakesRecords d s bs rs left rest × (0 < length rest) × NextFault (λ m. ⊥) F left rest e)
+
+    tag_leads : (s : ℕ) (bs : List ℕ) (r : Result (ℕ × WireType × List ℕ) DecodeError) → 0 < length bs → tag_at bs ≡ r → Leads ReadsRecords (record_step inner (λ _. false) s r) s bs
+    tag_leads s bs (Ok t) some e =
+        let u = agree_ok (tag_at bs) t (tag_sound bs) e in
+        kept_leads ReadsRecords t.0 (field_by inner s t.0 t.1 t.2) s bs
+        (λ x is y q. let a = agree_ok (field_by inner s t.0 t.1 t.2) x (field_sound h s t.0 t.1 t.2) is in agree_bind q
+            (λ v r. record { holds = (first_and s x.1 v.1 t.0 t.1 bs t.2 x.2 v.2 x.0 v.0 u a r.0, r.1) })
+            (λ z r. (one t.0 x.0 r.0, r.1, r.2, first_and s x.1 r.1 t.0 t.1 bs t.2 x.2 r.2 x.0 r.0 u a r.3, r.4, r.5)))
+        (λ y is. record { holds = (no_records, s, bs, ([], refl, omega arith, refl), some, inr (t.0, t.1, t.2, u, (λ p q. q), agree_err (field_by inner s t.0 t.1 t.2) y (field_sound h s t.0 t.1 t.2) is)) })
+    tag_leads s bs (Err x) some e = record { holds = (no_records, s, bs, ([], refl, omega arith, refl), some, inl (agree_err (tag_at bs) x (tag_sound bs) e)) }
+
+    records_leads : (s : ℕ) (bs : List ℕ) → Leads ReadsRecords (records_step inner s bs) s bs
+    records_leads s [] = record { holds = (([], refl, omega arith, refl), refl) }
+    records_leads s (b ∷ bs) = tag_leads s (b ∷ bs) (tag_at (b ∷ bs)) (omega arith) refl
+
+    pub records_sound_in : (s : ℕ) (bs : List ℕ) → ReadsRecords s bs (records_by inner s bs)
+    unfolding records_by
+    records_sound_in s bs = scan_leads (records_step inner) (Err UnexpectedEof) records_short ReadsRecords records_leads s bs
 
   -- whole fields are passed, by what reads a field and then goes on
-  pass : (within : ℕ → ℕ → List ℕ → Result Group DecodeError) →
-      ((k s n : ℕ) (x : Datum) (left : ℕ) (t p rest : List ℕ) → IsTag t n (wire_of x) → IsPayload d n x p → 1 + fields_inside x + left ≡ s →
-      within (suc k) s (t ++ (p ++ rest)) ≡ then_one n x (within k left rest)) →
-      (rs : Records) (k s left : ℕ) (b x : List ℕ) → Parse d b rs → slots rs + left ≡ s → length (b ++ x) ≤ k → (m : ℕ) × (length x ≤ m) × (within k s (b ++ x) ≡ behind rs (within m left x))
-  pass within step no_records k s left b x h e l =
+  pass : (read : ℕ → List ℕ → Result Group DecodeError) →
+      ((s n : ℕ) (x : Datum) (left : ℕ) (t p rest : List ℕ) → IsTag t n (wire_of x) → IsPayload d n x p → 1 + fields_inside x + left ≡ s → read s (t ++ (p ++ rest)) ≡ then_one n x (read left rest)) →
+      (rs : Records) (s left : ℕ) (b x : List ℕ) → Parse d b rs → field_count rs + left ≡ s → read s (b ++ x) ≡ behind rs (read left x)
+  pass read step no_records s left b x h e =
       let is : b ++ x ≡ x = ap (λ z. z ++ x) h in
       let f : s ≡ left = omega arith in
-      (k, omega (arith, ap length is), rw (is, f) (sym (behind_none (within k left x))))
-  pass within step (one n y rs) zero s left b x (f, r, (t, p, tag, payload, is), more, all) e l =
-      absurd (omega (arith, tag_some t n (wire_of y) tag, ap length is, ap length all, length-append t p, length-append f r, length-append b x))
-  pass within step (one n y rs) (suc k) s left b x (f, r, (t, p, tag, payload, is), more, all) e l =
-      let whole : b ++ x ≡ t ++ (p ++ (r ++ x)) = parted b f r t p x all is in
-      let i = pass within step rs k (slots rs + left) left r x more refl (omega (arith, tag_some t n (wire_of y) tag, ap length whole, length-append t (p ++ (r ++ x)), length-append p (r ++ x))) in
-      (i.0, i.1, ap (within (suc k) s) whole ∙ step k s n y (slots rs + left) t p (r ++ x) tag payload (omega arith) ∙ ap (then_one n y) i.2 ∙ behind_one n y rs (within i.0 left x))
+      rw (is, f) (sym (behind_none (read left x)))
+  pass read step (one n y rs) s left b x (f, r, (t, p, tag, payload, is), more, all) e =
+      ap (read s) (parted b f r t p x all is) ∙ step s n y (field_count rs + left) t p (r ++ x) tag payload (omega arith)
+      ∙ ap (then_one n y) (pass read step rs (field_count rs + left) left r x more refl) ∙ behind_one n y rs (read left x)
 
-  group_step_in : Complete → (m k s n : ℕ) (x : Datum) (left : ℕ) (t p rest : List ℕ) → IsTag t n (wire_of x) → IsPayload d n x p → 1 + fields_inside x + left ≡ s →
-      group_within inner (suc k) s m (t ++ (p ++ rest)) ≡ then_one n x (group_within inner k left m rest)
-  unfolding group_within
-  group_step_in c m k s n x left t p rest tag payload e =
-      rw (tag_complete t n (wire_of x) (p ++ rest) tag, closes_no (wire_of x) n m (λ w. absurd (payload_no_end x w)), field_complete c s n x left p rest payload e) refl
+  module _ (h : Sound) (c : Complete) where
+    group_step : (m s n : ℕ) (x : Datum) (left : ℕ) (t p rest : List ℕ) → IsTag t n (wire_of x) → IsPayload d n x p → 1 + fields_inside x + left ≡ s →
+        fields_at inner s m (t ++ (p ++ rest)) ≡ then_one n x (fields_at inner left m rest)
+    group_step m s n x left t p rest tag payload e =
+        group_turn h m s (t ++ (p ++ rest)) (Ok (n, wire_of x, p ++ rest)) (tag_complete t n (wire_of x) (p ++ rest) tag)
+        ∙ rw (closes_no (wire_of x) n m (λ w. absurd (payload_no_end x w)), field_complete c s n x left p rest payload e) refl
 
-  records_step_in : Complete → (k s n : ℕ) (x : Datum) (left : ℕ) (t p rest : List ℕ) → IsTag t n (wire_of x) → IsPayload d n x p → 1 + fields_inside x + left ≡ s →
-      records_within inner (suc k) s (t ++ (p ++ rest)) ≡ then_one n x (records_within inner k left rest)
-  unfolding records_within
-  records_step_in c k s n x left [] p rest tag payload e = absurd (omega (arith, tag_some [] n (wire_of x) tag))
-  records_step_in c k s n x left (y ∷ t) p rest tag payload e =
-      rw (tag_complete (y ∷ t) n (wire_of x) (p ++ rest) tag, field_complete c s n x left p rest payload e) refl
+    one_record : (s n : ℕ) (x : Datum) (left : ℕ) (t p rest : List ℕ) → IsTag t n (wire_of x) → IsPayload d n x p → 1 + fields_inside x + left ≡ s →
+        records_by inner s (t ++ (p ++ rest)) ≡ then_one n x (records_by inner left rest)
+    one_record s n x left [] p rest tag payload e = absurd (omega (arith, tag_some [] n (wire_of x) tag))
+    one_record s n x left (y ∷ t) p rest tag payload e =
+        records_turn h s y (t ++ (p ++ rest)) (Ok (n, wire_of x, p ++ rest)) (tag_complete (y ∷ t) n (wire_of x) (p ++ rest) tag)
+        ∙ rw (field_complete c s n x left p rest payload e) refl
 
-  -- after whole fields: the end tag of the group, the end of the bytes, or a fault
-  group_end_in : (m s n : ℕ) (t rest : List ℕ) → IsTag t n wire.EndGroup → length (t ++ rest) ≤ m → group_within inner m s n (t ++ rest) ≡ Ok (no_records, s, rest)
-  unfolding group_within
-  group_end_in zero s n t rest h l = absurd (omega (arith, tag_some t n wire.EndGroup h, length-append t rest))
-  group_end_in (suc m) s n t rest h l = rw (tag_complete t n wire.EndGroup rest h, closes_yes wire.EndGroup n n refl refl) refl
+    -- after whole fields: the end tag of the group, or a fault
+    group_end : (s n : ℕ) (t rest : List ℕ) → IsTag t n wire.EndGroup → fields_at inner s n (t ++ rest) ≡ Ok (no_records, s, rest)
+    group_end s n t rest tag = group_turn h n s (t ++ rest) (Ok (n, wire.EndGroup, rest)) (tag_complete t n wire.EndGroup rest tag) ∙ rw (closes_yes wire.EndGroup n n refl refl) refl
 
-  records_end_in : (m s : ℕ) → records_within inner m s [] ≡ Ok (no_records, s, [])
-  unfolding records_within
-  records_end_in zero s = refl
-  records_end_in (suc m) s = refl
+    group_fault : Faults → (s n : ℕ) (bs : List ℕ) (e : DecodeError) → NextFault (λ k. k ≡ n) F s bs e → fields_at inner s n bs ≡ Err e
+    group_fault k s n bs e (inl x) = group_turn h n s bs (Err e) (tag_faulty bs e x)
+    group_fault k s n bs e (inr (f, w, rest, (t, u, is), o, x)) =
+        group_turn h n s bs (Ok (f, w, rest)) (ap tag_at is ∙ tag_complete t f w rest u) ∙ rw (closes_no w f n o, field_faulty k s f w rest e x) refl
 
-  group_fault_in : Faults → (m s n : ℕ) (bs : List ℕ) (e : DecodeError) → NextFault (λ k. k ≡ n) F s bs e → length bs ≤ m → group_within inner m s n bs ≡ Err e
-  unfolding group_within
-  group_fault_in c zero s n [] e (inl h) l = ap (λ x. Err x) (tag_fault_none e h)
-  group_fault_in c zero s n [] e (inr (f, w, rest, (t, u, is), o, h)) l = absurd (omega (arith, tag_some t f w u, ap length is, length-append t rest))
-  group_fault_in c zero s n (b ∷ bs) e h l = absurd (omega arith)
-  group_fault_in c (suc m) s n bs e (inl h) l = rw (tag_faulty bs e h) refl
-  group_fault_in c (suc m) s n bs e (inr (f, w, rest, (t, u, is), o, h)) l = rw (is, tag_complete t f w rest u, closes_no w f n o, field_faulty c s f w rest e h) refl
+    records_fault : Faults → (s : ℕ) (bs : List ℕ) (e : DecodeError) → NextFault (λ k. ⊥) F s bs e → 0 < length bs → records_by inner s bs ≡ Err e
+    records_fault k s [] e x o = absurd (omega arith)
+    records_fault k s (b ∷ bs) e (inl x) o = records_turn h s b bs (Err e) (tag_faulty (b ∷ bs) e x)
+    records_fault k s (b ∷ bs) e (inr (f, w, rest, (t, u, is), _, x)) o =
+        records_turn h s b bs (Ok (f, w, rest)) (ap tag_at is ∙ tag_complete t f w rest u) ∙ rw (field_faulty k s f w rest e x) refl
 
-  records_fault_in : Faults → (m s : ℕ) (bs : List ℕ) (e : DecodeError) → NextFault (λ k. ⊥) F s bs e → 0 < length bs → length bs ≤ m → records_within inner m s bs ≡ Err e
-  unfolding records_within
-  records_fault_in c m s [] e h o l = absurd (omega arith)
-  records_fault_in c zero s (b ∷ bs) e h o l = absurd (omega arith)
-  records_fault_in c (suc m) s (b ∷ bs) e (inl h) o l = rw (tag_faulty (b ∷ bs) e h) refl
-  records_fault_in c (suc m) s (b ∷ bs) e (inr (f, w, rest, (t, u, is), _, h)) o l =
-      let r : tag_at (b ∷ bs) ≡ Ok (f, w, rest) = ap tag_at is ∙ tag_complete t f w rest u in
-      rw (r, field_faulty c s f w rest e h) refl
+    pub group_complete_in : (s n : ℕ) (v : Group) (bs : List ℕ) → InGroup s n bs v → fields_at inner s n bs ≡ Ok v
+    group_complete_in s n v bs (b, t, x, tag, e, is) =
+        ap (fields_at inner s n) is ∙ pass (λ s bs. fields_at inner s n bs) (group_step n) v.0 s v.1 b (t ++ v.2) x e
+        ∙ ap (behind v.0) (group_end v.1 n t v.2 tag) ∙ ap (λ z. Ok (z, v.1, v.2)) (also-none v.0)
 
-  pub group_complete_in : Complete → (k s n : ℕ) (v : Group) (bs : List ℕ) → InGroup s n bs v → length bs ≤ k → group_within inner k s n bs ≡ Ok v
-  group_complete_in c k s n v bs (b, t, h, tag, e, is) l =
-      let i = pass (λ k s bs. group_within inner k s n bs) (group_step_in c n) v.0 k s v.1 b (t ++ v.2) h e (subst (λ z. length z ≤ k) is l) in
-      ap (group_within inner k s n) is ∙ i.2 ∙ ap (behind v.0) (group_end_in i.0 v.1 n t v.2 tag i.1) ∙ ap (λ z. Ok (z, v.1, v.2)) (also-none v.0)
+    pub group_faulty_in : Faults → (s n : ℕ) (bs : List ℕ) (e : DecodeError) → FieldsFault (λ m. m ≡ n) s bs e → fields_at inner s n bs ≡ Err e
+    group_faulty_in k s n bs e (rs, left, rest, (b, y, q, is), x) =
+        ap (fields_at inner s n) is ∙ pass (λ s bs. fields_at inner s n bs) (group_step n) rs s left b rest y q ∙ ap (behind rs) (group_fault k left n rest e x)
 
-  pub group_faulty_in : Complete → Faults → (k s n : ℕ) (bs : List ℕ) (e : DecodeError) → FieldsFault (λ m. m ≡ n) s bs e → length bs ≤ k → group_within inner k s n bs ≡ Err e
-  group_faulty_in c d k s n bs e (rs, left, rest, (b, h, q, is), x) l =
-      let i = pass (λ k s bs. group_within inner k s n bs) (group_step_in c n) rs k s left b rest h q (subst (λ z. length z ≤ k) is l) in
-      ap (group_within inner k s n) is ∙ i.2 ∙ ap (behind rs) (group_fault_in d i.0 left n rest e x i.1)
+    pub records_complete_in : (s left : ℕ) (rs : Records) (bs : List ℕ) → Parse d bs rs → field_count rs + left ≡ s → records_by inner s bs ≡ Ok (rs, left, [])
+    records_complete_in s left rs bs x q =
+        ap (records_by inner s) (sym (append-nil bs)) ∙ pass (records_by inner) one_record rs s left bs [] x q
+        ∙ ap (behind rs) (records_end h left) ∙ ap (λ z. Ok (z, left, [])) (also-none rs)
 
-  pub records_complete_in : Complete → (k s left : ℕ) (rs : Records) (bs : List ℕ) → Parse d bs rs → slots rs + left ≡ s → length bs ≤ k → records_within inner k s bs ≡ Ok (rs, left, [])
-  records_complete_in c k s left rs bs h q l =
-      let is : bs ++ [] ≡ bs = append-nil bs in
-      let i = pass (records_within inner) (records_step_in c) rs k s left bs [] h q (subst (λ z. length z ≤ k) (sym is) l) in
-      ap (records_within inner k s) (sym is) ∙ i.2 ∙ ap (behind rs) (records_end_in i.0 left) ∙ ap (λ z. Ok (z, left, [])) (also-none rs)
-
-  pub records_faulty_in : Complete → Faults → (k s left : ℕ) (rs : Records) (bs rest : List ℕ) (e : DecodeError) → TakesRecords d s bs rs left rest → 0 < length rest → NextFault (λ m. ⊥) F left rest e → length bs ≤ k → records_within inner k s bs ≡ Err e
-  records_faulty_in c f k s left rs bs rest e (b, h, q, is) o x l =
-      let i = pass (records_within inner) (records_step_in c) rs k s left b rest h q (subst (λ z. length z ≤ k) is l) in
-      ap (records_within inner k s) is ∙ i.2 ∙ ap (behind rs) (records_fault_in f i.0 left rest e x o i.1)
+    pub records_faulty_in : Faults → (s left : ℕ) (rs : Records) (bs rest : List ℕ) (e : DecodeError) → TakesRecords d s bs rs left rest → 0 < length rest → NextFault (λ m. ⊥) F left rest e → records_by inner s bs ≡ Err e
+    records_faulty_in k s left rs bs rest e (b, y, q, is) o x =
+        ap (records_by inner s) is ∙ pass (records_by inner) one_record rs s left b rest y q ∙ ap (behind rs) (records_fault k left rest e x o)
 
 -- ---- groups nested at most d deep
 one_deeper : (d : ℕ) → suc d - 1 ≡ d
@@ -332,7 +358,7 @@ one_deeper d = omega arith
 pub group_sound : (d : ℕ) → Sound d (group_at d) (GroupFault d)
 unfolding group_at GroupFault
 group_sound zero s n bs = record { holds = refl }
-group_sound (suc d) s n bs = agree_weaker (group_sound_in d (group_at d) (GroupFault d) (group_sound d) (length bs) s n bs (omega arith))
+group_sound (suc d) s n bs = agree_weaker (group_sound_in d (group_at d) (GroupFault d) (group_sound d) s n bs)
     (λ v a. (a.0 ++ a.1, (omega arith, a.0, a.1, subst (λ k. Parse k a.0 v.0) (sym (one_deeper d)) a.2, a.3, refl), a.4, a.5 ∙ sym (append_assoc a.0 a.1 v.2)))
     (λ e f. f)
 
@@ -340,10 +366,10 @@ pub group_complete : (d : ℕ) → Complete d (group_at d) (GroupFault d)
 unfolding group_at
 group_complete zero s n rs left p rest (o, b, t, h, tag, is) e = absurd (omega arith)
 group_complete (suc d) s n rs left p rest (o, b, t, h, tag, is) e =
-    group_complete_in d (group_at d) (GroupFault d) (group_complete d) (length (p ++ rest)) s n (rs, left, rest) (p ++ rest)
-    (b, t, subst (λ k. Parse k b rs) (one_deeper d) h, tag, e, ap (λ z. z ++ rest) is ∙ append_assoc b t rest) (omega arith)
+    group_complete_in d (group_at d) (GroupFault d) (group_sound d) (group_complete d) s n (rs, left, rest) (p ++ rest)
+    (b, t, subst (λ k. Parse k b rs) (one_deeper d) h, tag, e, ap (λ z. z ++ rest) is ∙ append_assoc b t rest)
 
 pub group_faulty : (d : ℕ) → Faults d (group_at d) (GroupFault d)
 unfolding group_at GroupFault
 group_faulty zero s n bs e h = ap (λ x. Err x) (sym h)
-group_faulty (suc d) s n bs e h = group_faulty_in d (group_at d) (GroupFault d) (group_complete d) (group_faulty d) (length bs) s n bs e h (omega arith)
+group_faulty (suc d) s n bs e h = group_faulty_in d (group_at d) (GroupFault d) (group_sound d) (group_complete d) (group_faulty d) s n bs e h

@@ -1,9 +1,11 @@
 -- Pieces one after another: what is read of them, and the grammar.
-use Rattle.std.proofs.Common.{◌≡◌, ◌≢◌, ℕ, zero, suc, ◌<◌, ◌≤◌, List, [], ◌∷◌, ◌++◌, length, Result, Ok, Err, refl, sym, ap, subst, ◌∙◌, arith, append_assoc, append-nil, length-append}
-use Rattle.buffa_bytes.specs.Gives.{◌>>=◌}
+use Rattle.std.proofs.Common.{◌≡◌, ◌≢◌, ℕ, ◌<◌, List, [], ◌∷◌, ◌++◌, length, Result, Ok, Err, refl, sym, ap, subst, ◌∙◌, arith, append_assoc, append-nil, length-append}
 use Rattle.buffa_bytes.specs.declared.error.DecodeError.{DecodeError}
-use Rattle.buffa_bytes.proofs.StepLemmas.{Agrees, agree_bind, agree_weaker}
-use Rattle.buffa_wire.specs.Sequence.{join, ParsesEach, ParsesTo, ParseStops, parse_within, parse_all}
+use Rattle.buffa_bytes.specs.declared.error.DecodeError.TheVariants.{UnexpectedEof}
+use Rattle.buffa_bytes.specs.Scan.{step_then}
+use Rattle.buffa_bytes.proofs.StepLemmas.{Agrees, agree_err, agree_ok, agree_weaker}
+use Rattle.buffa_bytes.proofs.ScanLemmas.{Leads, Shortens, parsed_leads, parsed_short, scan_keeps, scan_leads, scan_step}
+use Rattle.buffa_wire.specs.Sequence.{join, ParsesEach, ParsesTo, ParseStops, parse_all, parse_step}
 
 join-last : (ps : List (List ℕ)) (p : List ℕ) → join (ps ++ p ∷ []) ≡ join ps ++ p
 join-last [] p = append-nil p
@@ -29,6 +31,52 @@ answer {e = e} h = (e, h, λ _. refl)
 pub answers_as : {A B : Type 0} {P : Type 0} {r : Result A DecodeError} {q : Result B DecodeError} {e : DecodeError} → ((x : DecodeError) → r ≡ Err x → q ≡ Err x) → Answers P r e → Answers P q e
 answers_as f (x, h, k) = (x, f x h, k)
 
+-- ---- a reading along bytes, each step of which takes a byte at least
+abbrev pub Falls : {S : Type 0} → (S → List ℕ → Result (S × List ℕ) DecodeError) → Type 0
+Falls {S} f = (s : S) (bs : List ℕ) (x : S × List ℕ) → f s bs ≡ Ok x → length x.1 < length bs
+
+has_byte : (bs : List ℕ) → bs ≢ [] → 0 < length bs
+has_byte [] n = absurd (n refl)
+has_byte (b ∷ bs) n = omega arith
+
+module _ {S : Type 0} (f : S → List ℕ → Result (S × List ℕ) DecodeError) where
+  module _ (falls : Falls f) where
+    step_short : (s : S) (bs : List ℕ) → Shortens (parse_step f s bs) bs
+    step_short s [] = tt
+    step_short s (b ∷ bs) = parsed_short _ (f s (b ∷ bs)) (b ∷ bs) (falls s (b ∷ bs))
+
+    turn : (s : S) (bs : List ℕ) → parse_all f s bs ≡ step_then (parse_all f) (parse_step f s bs)
+    unfolding parse_all
+    turn s bs = scan_step (parse_step f) (Err UnexpectedEof) step_short s bs
+
+    pub along_ok : (s t : S) (bs x : List ℕ) → 0 < length bs → f s bs ≡ Ok (t, x) → parse_all f s bs ≡ parse_all f t x
+    along_ok s t [] x some h = absurd (omega arith)
+    along_ok s t (b ∷ bs) x some h = turn s (b ∷ bs) ∙ rw h refl
+
+    pub along_err : (s : S) (bs : List ℕ) (e : DecodeError) → 0 < length bs → f s bs ≡ Err e → parse_all f s bs ≡ Err e
+    along_err s [] e some h = absurd (omega arith)
+    along_err s (b ∷ bs) e some h = turn s (b ∷ bs) ∙ rw h refl
+
+    pub along_none : (s : S) → parse_all f s [] ≡ Ok s
+    along_none s = turn s []
+
+  -- what holds at the end and at a fault, and before a piece if it does behind it, holds of what is read
+  module _ (Q : S → List ℕ → Result S DecodeError → Type 0) (none : (s : S) → Q s [] (Ok s))
+      (bad : (s : S) (b : ℕ) (bs : List ℕ) (e : DecodeError) → f s (b ∷ bs) ≡ Err e → Q s (b ∷ bs) (Err e))
+      (good : (s : S) (b : ℕ) (bs : List ℕ) (x : S × List ℕ) (r : Result S DecodeError) → f s (b ∷ bs) ≡ Ok x → Q x.0 x.1 r → Q s (b ∷ bs) r) where
+    step_leads : (s : S) (bs : List ℕ) → Leads Q (parse_step f s bs) s bs
+    step_leads s [] = none s
+    step_leads s (b ∷ bs) = parsed_leads Q (f s (b ∷ bs)) s (b ∷ bs) (λ x e a q. good s b bs x a e q) (bad s b bs)
+
+    pub parse_leads : Falls f → (s : S) (bs : List ℕ) → Q s bs (parse_all f s bs)
+    unfolding parse_all
+    parse_leads falls s bs = scan_leads (parse_step f) (Err UnexpectedEof) (step_short falls) Q step_leads s bs
+
+    -- the same of any reading, where it holds of the fault that stands for too many steps
+    pub parse_keeps : ((s : S) (bs : List ℕ) → Q s bs (Err UnexpectedEof)) → (s : S) (bs : List ℕ) → Q s bs (parse_all f s bs)
+    unfolding parse_all
+    parse_keeps many s bs = scan_keeps (parse_step f) (Err UnexpectedEof) Q step_leads many s bs
+
 module _ {S : Type 0} (Step : S → List ℕ → S → Type 0) where
   pub ParsesEach-last : (ps : List (List ℕ)) (p : List ℕ) (s t u : S) → ParsesEach Step s ps t → Step t p u → ParsesEach Step s (ps ++ p ∷ []) u
   ParsesEach-last [] p s t u h k = (u, subst (λ (z : S). Step z p u) (sym h) k, refl)
@@ -51,57 +99,30 @@ module _ {S : Type 0} (Step : S → List ℕ → S → Type 0) where
       (complete : (s t : S) (p rest : List ℕ) → Step s p t → f s (p ++ rest) ≡ Ok (t, rest))
       (P : Type 0) (faulty : (s : S) (bs : List ℕ) (e : DecodeError) → Fault s bs e → Answers P (f s bs) e)
       (some : (s t : S) (p : List ℕ) → Step s p t → 0 < length p) where
-    sound_in : (k : ℕ) (s : S) (bs : List ℕ) → length bs ≤ k → Agrees (parse_within f k s bs) (λ t. ParsesTo Step s bs t []) (λ e. ParseStops Step Fault s bs e)
-    unfolding parse_within
-    sound_in k s [] h = record { holds = ([], refl, refl) }
-    sound_in zero s (b ∷ bs) h = absurd (omega arith)
-    sound_in (suc k) s (b ∷ bs) h = agree_bind (sound s (b ∷ bs))
-        (λ x u. agree_weaker (sound_in k x.0 x.1 (omega (arith, some s x.0 u.0 u.1, ap length u.2, length-append u.0 x.1)))
-        (λ t w. ParsesTo-first (b ∷ bs) s x.0 t u.0 x.1 [] u.1 u.2 w)
-        (λ e w. (w.0, w.1, ParsesTo-first (b ∷ bs) s x.0 w.0 u.0 x.1 w.1 u.1 u.2 w.2, w.3, w.4)))
-        (λ e w. (s, b ∷ bs, ([], refl, refl), (λ z. cc), w))
-
-    -- the next piece
-    next : (k : ℕ) (s : S) (bs : List ℕ) → 0 < length bs → parse_within f (suc k) s bs ≡ (f s bs >>= (λ x. parse_within f k x.0 x.1))
-    unfolding parse_within
-    next k s [] h = absurd (omega arith)
-    next k s (b ∷ bs) h = refl
+    falls : Falls f
+    falls s bs x h = let u = agree_ok (f s bs) x (sound s bs) h in omega (arith, some s x.0 u.0 u.1, ap length u.2, length-append u.0 x.1)
 
     -- whole pieces are passed
-    pass : (k : ℕ) (ps : List (List ℕ)) (s t : S) (rest : List ℕ) → ParsesEach Step s ps t → length (join ps ++ rest) ≤ k →
-        (m : ℕ) × (length rest ≤ m) × (parse_within f k s (join ps ++ rest) ≡ parse_within f m t rest)
-    pass k [] s t rest h l = (k, l, ap (λ z. parse_within f k z rest) h)
-    pass zero (p ∷ ps) s t rest (u, h, w) l = absurd (omega (arith, some s u p h, length-append p (join ps), length-append (p ++ join ps) rest))
-    pass (suc k) (p ∷ ps) s t rest (u, h, w) l =
-        let more = some s u p h in
-        let i = pass k ps u t rest w (omega (arith, more, length-append p (join ps), length-append (p ++ join ps) rest, length-append (join ps) rest)) in
-        let here : f s ((p ++ join ps) ++ rest) ≡ Ok (u, join ps ++ rest) = ap (f s) (append_assoc p (join ps) rest) ∙ complete s u p (join ps ++ rest) h in
-        let turn : parse_within f (suc k) s ((p ++ join ps) ++ rest) ≡ parse_within f k u (join ps ++ rest) =
-        next k s ((p ++ join ps) ++ rest) (omega (arith, more, length-append p (join ps), length-append (p ++ join ps) rest)) ∙ rw here refl in
-        (i.0, i.1, turn ∙ i.2)
-
-    at_end : (m : ℕ) (t : S) → parse_within f m t [] ≡ Ok t
-    unfolding parse_within
-    at_end m t = refl
-
-    at_fault : (m : ℕ) (t : S) (rest : List ℕ) (e : DecodeError) → rest ≢ [] → length rest ≤ m → f t rest ≡ Err e → parse_within f m t rest ≡ Err e
-    unfolding parse_within
-    at_fault m t [] e n l h = absurd (n refl)
-    at_fault zero t (b ∷ bs) e n l h = absurd (omega arith)
-    at_fault (suc m) t (b ∷ bs) e n l h = rw h refl
+    pass : (ps : List (List ℕ)) (s t : S) (rest : List ℕ) → ParsesEach Step s ps t → parse_all f s (join ps ++ rest) ≡ parse_all f t rest
+    pass [] s t rest h = ap (λ z. parse_all f z rest) h
+    pass (p ∷ ps) s t rest (u, h, w) =
+        ap (parse_all f s) (append_assoc p (join ps) rest)
+        ∙ along_ok f falls s u (p ++ (join ps ++ rest)) (join ps ++ rest) (omega (arith, some s u p h, length-append p (join ps ++ rest))) (complete s u p (join ps ++ rest) h)
+        ∙ pass ps u t rest w
 
     pub along_complete : (s t : S) (bs : List ℕ) → ParsesTo Step s bs t [] → parse_all f s bs ≡ Ok t
-    unfolding parse_all
-    along_complete s t bs (ps, is, w) =
-        let i = pass (length (join ps ++ [])) ps s t [] w (omega arith) in
-        ap (λ z. parse_within f (length z) s z) is ∙ i.2 ∙ at_end i.0 t
+    along_complete s t bs (ps, is, w) = ap (parse_all f s) is ∙ pass ps s t [] w ∙ along_none f falls t
 
     pub along_faulty : (s : S) (bs : List ℕ) (e : DecodeError) → ParseStops Step Fault s bs e → Answers P (parse_all f s bs) e
-    unfolding parse_all
     along_faulty s bs e (t, rest, (ps, is, w), n, h) =
-        let i = pass (length (join ps ++ rest)) ps s t rest w (omega arith) in
-        answers_as (λ x k. ap (λ z. parse_within f (length z) s z) is ∙ i.2 ∙ at_fault i.0 t rest x n i.1 k) (faulty t rest e h)
+        answers_as (λ x k. ap (parse_all f s) is ∙ pass ps s t rest w ∙ along_err f falls t rest x (has_byte rest n) k) (faulty t rest e h)
 
     pub along_sound : (s : S) (bs : List ℕ) → Agrees (parse_all f s bs) (λ t. ParsesTo Step s bs t []) (λ e. ParseStops Step Fault s bs e)
-    unfolding parse_all
-    along_sound s bs = sound_in (length bs) s bs (omega arith)
+    along_sound = parse_leads f (λ s bs r. Agrees r (λ t. ParsesTo Step s bs t []) (λ e. ParseStops Step Fault s bs e))
+        (λ s. record { holds = ([], refl, refl) })
+        (λ s b bs e h. record { holds = (s, b ∷ bs, ([], refl, refl), (λ z. cc), agree_err (f s (b ∷ bs)) e (sound s (b ∷ bs)) h) })
+        (λ s b bs x r h q.
+            let u = agree_ok (f s (b ∷ bs)) x (sound s (b ∷ bs)) h in
+            agree_weaker q (λ t w. ParsesTo-first (b ∷ bs) s x.0 t u.0 x.1 [] u.1 u.2 w)
+            (λ e w. (w.0, w.1, ParsesTo-first (b ∷ bs) s x.0 w.0 u.0 x.1 w.1 u.1 u.2 w.2, w.3, w.4)))
+        falls

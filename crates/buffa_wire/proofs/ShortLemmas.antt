@@ -35,26 +35,26 @@ read_of_all n k part all c h e =
     ap varint_at (sym whole ∙ onward part t.0 (drop k part) more t.2) ∙ varint_complete t.0 n (drop k part ++ more) t.1
     ∙ ap (λ z. Ok (n, z)) (sym (drop-append-le k part more h) ∙ ap (drop k) whole)
 
-pub text_one : (n a : ℕ) → n < 128 → a ≡ n → a ∷ [] ≡ varint_encoding n
-text_one n a h e = ap (λ z. z ∷ []) e ∙ sym (varint_encoding-last n h)
+pub encoding_one : (n a : ℕ) → n < 128 → a ≡ n → a ∷ [] ≡ varint_encoding n
+encoding_one n a h e = ap (λ z. z ∷ []) e ∙ sym (varint_encoding-last n h)
 
-pub text_two : (n a b : ℕ) → 128 ≤ n → n < 16384 → a ≡ n % 128 + 128 → b ≡ n / 128 → a ∷ b ∷ [] ≡ varint_encoding n
-text_two n a b h k e f = let below : n / 128 < 128 = omega arith in
+pub encoding_two : (n a b : ℕ) → 128 ≤ n → n < 16384 → a ≡ n % 128 + 128 → b ≡ n / 128 → a ∷ b ∷ [] ≡ varint_encoding n
+encoding_two n a b h k e f = let below : n / 128 < 128 = omega arith in
     rw (e, f) (ap (λ t. (n % 128 + 128) ∷ t) (sym (varint_encoding-last (n / 128) below)) ∙ sym (varint_encoding-more n h))
 
-pub text_three : (n a b c : ℕ) → 16384 ≤ n → n < 2097152 → a ≡ n % 128 + 128 → b ≡ n / 128 % 128 + 128 → c ≡ n / 16384 → a ∷ b ∷ c ∷ [] ≡ varint_encoding n
-text_three n a b c h k e f g =
+pub encoding_three : (n a b c : ℕ) → 16384 ≤ n → n < 2097152 → a ≡ n % 128 + 128 → b ≡ n / 128 % 128 + 128 → c ≡ n / 16384 → a ∷ b ∷ c ∷ [] ≡ varint_encoding n
+encoding_three n a b c h k e f g =
     let large : 128 ≤ n = omega arith in
     let third : c ≡ n / 128 / 128 = omega arith in
-    rw e (ap (λ t. (n % 128 + 128) ∷ t) (text_two (n / 128) b c (omega arith) (omega arith) f third) ∙ sym (varint_encoding-more n large))
+    rw e (ap (λ t. (n % 128 + 128) ∷ t) (encoding_two (n / 128) b c (omega arith) (omega arith) f third) ∙ sym (varint_encoding-more n large))
 
 -- an encoding that is written, by another name
-pub writes_same : {T : Type 0} (r : Result T EncodeError) (old text same new : List ℕ) → text ≡ same → Writes r old text new → Writes r old same new
-writes_same r old text same new e w = subst (λ t. Writes r old t new) e w
+pub writes_same : {T : Type 0} (r : Result T EncodeError) (old encoding same new : List ℕ) → encoding ≡ same → Writes r old encoding new → Writes r old same new
+writes_same r old encoding same new e w = subst (λ t. Writes r old t new) e w
 
-pub room_same : {T : Type 0} (r : Result T EncodeError) (room left : ℕ) (text same : List ℕ) → text ≡ same → UsesRoom r room text left → UsesRoom r room same left
-room_same r room left text same e w = subst (λ t. UsesRoom r room t left) e w
+pub room_same : {T : Type 0} (r : Result T EncodeError) (room left : ℕ) (encoding same : List ℕ) → encoding ≡ same → UsesRoom r room encoding left → UsesRoom r room same left
+room_same r room left encoding same e w = subst (λ t. UsesRoom r room t left) e w
 
 -- an encoding behind a number below 128
-pub text_behind : (m n : ℕ) (text : List ℕ) → m < 128 → text ≡ varint_encoding n → m ∷ text ≡ varint_encoding m ++ varint_encoding n
-text_behind m n text h e = rw (varint_encoding-last m h) (ap (λ z. m ∷ z) e)
+pub encoding_behind : (m n : ℕ) (encoding : List ℕ) → m < 128 → encoding ≡ varint_encoding n → m ∷ encoding ≡ varint_encoding m ++ varint_encoding n
+encoding_behind m n encoding h e = rw (varint_encoding-last m h) (ap (λ z. m ∷ z) e)

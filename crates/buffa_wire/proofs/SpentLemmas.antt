@@ -4,7 +4,7 @@ use Rattle.std.specs.Prelude.{IsOk}
 use Rattle.buffa_bytes.specs.declared.wire_type.WireType.{WireType}
 use Rattle.buffa_bytes.specs.declared.wire_type.WireType.TheVariants as wire
 use Rattle.buffa_bytes.specs.declared.error.DecodeError.{DecodeError}
-use Rattle.buffa_wire.specs.RecordReading.{GroupTakesMemory, ListTakesMemory, PayloadTakesMemory, TakesMemory, field_at}
+use Rattle.buffa_wire.specs.RecordReading.{GroupTakesMemory, ListTakesMemory, PayloadTakesMemory, RecordTakesMemory, field_at}
 use Rattle.buffa_wire.specs.Records.{Datum}
 use Rattle.buffa_bytes.specs.Reading.{delimited_at, tag_at}
 use Rattle.buffa_bytes.specs.Unread.{IsTailOf, bytes_read}
@@ -55,10 +55,10 @@ plain_takes G s k wire.StartGroup bs o h = absurd (o refl)
 plain_takes G s k _ bs o h = absurd h
 
 -- a field for which one of the unknown fields left was spent
-pub takes_plain : (d s left : ℕ) (w : WireType) (bs : List ℕ) → left + 1 ≡ s → w ≢ wire.StartGroup → PayloadTakesMemory (λ s bs. ⊥) 0 w bs → TakesMemory d s w bs
+pub takes_plain : (d s left : ℕ) (w : WireType) (bs : List ℕ) → left + 1 ≡ s → w ≢ wire.StartGroup → PayloadTakesMemory (λ s bs. ⊥) 0 w bs → RecordTakesMemory d s w bs
 takes_plain d s left w bs e o h = (omega arith, plain_takes (GroupTakesMemory d) (s - 1) 0 w bs o h)
 
-pub takes_group : (d s left : ℕ) (w : WireType) (bs : List ℕ) → left + 1 ≡ s → w ≡ wire.StartGroup → GroupTakesMemory d left bs → TakesMemory d s w bs
+pub takes_group : (d s left : ℕ) (w : WireType) (bs : List ℕ) → left + 1 ≡ s → w ≡ wire.StartGroup → GroupTakesMemory d left bs → RecordTakesMemory d s w bs
 takes_group d s left w bs e o h =
     let k : left ≡ s - 1 = omega arith in
     (omega arith, rw o (subst (λ z. GroupTakesMemory d z bs) k h))
@@ -68,11 +68,11 @@ abbrev pub IsBegun : ℕ → ℕ → List ℕ → ℕ → List ℕ → Type 0
 IsBegun d s all left now = ((now ≡ all) × (left ≡ s)) ⊎ ListTakesMemory d s all
 
 module _ (d s left : ℕ) (all now : List ℕ) (begun : IsBegun d s all left now) (t : ℕ × WireType × List ℕ) (tag : tag_at now ≡ Ok t) where
-  begins : IsBegun d s all left now → IsOk (field_at d left t.0 t.1 t.2) ⊎ TakesMemory d left t.1 t.2 → ListTakesMemory d s all
-  begins (inl (e, f)) h = (t, sym (ap tag_at e) ∙ tag, subst (λ z. IsOk (field_at d z t.0 t.1 t.2) ⊎ TakesMemory d z t.1 t.2) f h)
+  begins : IsBegun d s all left now → IsOk (field_at d left t.0 t.1 t.2) ⊎ RecordTakesMemory d left t.1 t.2 → ListTakesMemory d s all
+  begins (inl (e, f)) h = (t, sym (ap tag_at e) ∙ tag, subst (λ z. IsOk (field_at d z t.0 t.1 t.2) ⊎ RecordTakesMemory d z t.1 t.2) f h)
   begins (inr k) h = k
 
-  pub begins_taking : TakesMemory d left t.1 t.2 → ListTakesMemory d s all
+  pub begins_taking : RecordTakesMemory d left t.1 t.2 → ListTakesMemory d s all
   begins_taking h = begins begun (inr h)
 
   pub begins_reading : (x : Datum × ℕ × List ℕ) → field_at d left t.0 t.1 t.2 ≡ Ok x → ListTakesMemory d s all

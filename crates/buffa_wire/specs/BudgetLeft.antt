@@ -1,5 +1,5 @@
 -- What is left of a budget.
-use Rattle.std.specs.Prelude.{◌≡◌, ℕ, ◌+◌, ◌-◌, ◌<◌, ◌≤◌, ◌⊎◌, Result, Ok, Err}
+use Rattle.std.specs.Prelude.{◌≡◌, ℕ, ◌+◌, ◌-◌, ◌^◌, ◌<◌, ◌≤◌, ◌⊎◌, Result, Ok, Err}
 use denote.Ref.{MutBor}
 use Rattle.buffa_bytes.specs.declared.error.DecodeError.{DecodeError}
 
@@ -17,17 +17,29 @@ abbrev pub units : ℕ → BudgetLeft
 units n = record { unknown = 0; memory = n }
 
 -- so many unknown fields, and no unit
-abbrev pub slots : ℕ → BudgetLeft
-slots n = record { unknown = n; memory = 0 }
+abbrev pub unknown_fields : ℕ → BudgetLeft
+unknown_fields n = record { unknown = n; memory = 0 }
+
+-- where nothing else is said
+abbrev pub defaults : BudgetLeft
+defaults = record { unknown = 1000000; memory = 2 ^ 28 }
 
 -- both together
 abbrev pub plus : BudgetLeft → BudgetLeft → BudgetLeft
 plus a b = record { unknown = a.unknown + b.unknown; memory = a.memory + b.memory }
 
+-- what is left of one, another being spent
+abbrev pub minus : BudgetLeft → BudgetLeft → BudgetLeft
+minus b c = record { unknown = b.unknown - c.unknown; memory = b.memory - c.memory }
+
 -- what is needed by what was read, if it was read
 abbrev pub need_by : {A : Type 0} → Result A DecodeError → (A → BudgetLeft) → BudgetLeft
 need_by (Ok x) f = f x
 need_by (Err e) f = nothing
+
+-- one budget has room for what another is
+abbrev pub Covers : BudgetLeft → BudgetLeft → Type 0
+Covers b c = (c.unknown ≤ b.unknown) × (c.memory ≤ b.memory)
 
 -- of left, need can't be spent
 abbrev pub Lacks : BudgetLeft → BudgetLeft → Type 0

@@ -1,8 +1,10 @@
 -- A message field by field: what a type says of one field decides what all bytes mean to it.
 -- Source: the protobuf encoding guide, "Message Structure".
-use Rattle.std.specs.Prelude.{ℕ, zero, suc, List, [], ◌∷◌, length, Option, Some, None, Result, Ok, Err}
+use Rattle.std.specs.Prelude.{ℕ, List, Option, Some, None, Result, Ok, Err}
 use Rattle.buffa_bytes.specs.Gives.{◌>>=◌}
 use Rattle.buffa_bytes.specs.Reading.{tag_at, skip_at}
+use Rattle.buffa_bytes.specs.Scan.{Scanned, scan}
+use Rattle.buffa_bytes.specs.Scan.Scanned.{ends, goes}
 use Rattle.buffa_bytes.specs.declared.wire_type.WireType.{WireType}
 use Rattle.buffa_bytes.specs.declared.error.DecodeError.{DecodeError}
 use Rattle.buffa_wire.specs.BudgetLeft.{BudgetLeft, need_by, nothing, plus}
@@ -29,12 +31,16 @@ merged_by field v bs = value_of (parse_all (next_at field) v bs)
 abbrev pub FieldNeed : Type 0
 FieldNeed = ℕ → WireType → List ℕ → BudgetLeft
 
--- What fields cost, to the end of the bytes or to what is no field, which counts too. Each field has a byte at least,
--- so the bytes bound the steps.
-unfoldable pub cost_within : FieldNeed → ℕ → ℕ → List ℕ → BudgetLeft
-cost_within need d k [] = nothing
-cost_within need d zero (b ∷ bs) = nothing
-cost_within need d (suc k) (b ∷ bs) = need_by (tag_at (b ∷ bs)) (λ t. plus (need t.0 t.1 t.2) (need_by (skip_at d t.0 t.1 t.2) (cost_within need d k)))
+-- what the piece at the front costs, a malformed one too, and then what those behind it cost
+abbrev pub costs : {S : Type 0} → BudgetLeft → Result (S × List ℕ) DecodeError → Scanned S BudgetLeft
+costs need (Ok x) = goes x.0 x.1 (plus need)
+costs need (Err e) = ends need
 
+-- the same of a field, where a tag was read; nothing where none was
+abbrev pub field_costs : FieldNeed → ℕ → Result (ℕ × WireType × List ℕ) DecodeError → Scanned (Unit {0}) BudgetLeft
+field_costs need d (Ok t) = costs (need t.0 t.1 t.2) (skip_at d t.0 t.1 t.2 >>= (λ rest. Ok (tt, rest)))
+field_costs need d (Err e) = ends nothing
+
+-- what fields cost, to the end of the bytes or to what is no field, which counts too
 unfoldable pub cost_by : FieldNeed → ℕ → List ℕ → BudgetLeft
-cost_by need d bs = cost_within need d (length bs) bs
+cost_by need d bs = scan (λ _ rest. field_costs need d (tag_at rest)) nothing tt bs

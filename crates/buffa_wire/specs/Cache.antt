@@ -1,4 +1,4 @@
--- The sizes that one pass reserves and the other consumes.
+-- The slots that one pass reserves, each for a size, and the other consumes.
 use Rattle.std.specs.Prelude.{ℕ, ◌+◌, List, ◌++◌, drop}
 
 -- the slots that were reserved, in order, and how many of them were consumed
@@ -6,7 +6,7 @@ pub record Cache : Type 0 where
   pub slots : List ℕ
   pub next : ℕ
 
--- what the cursor has left
+-- the slots that are left
 abbrev pub left : Cache → List ℕ
 left c = drop c.next c.slots
 

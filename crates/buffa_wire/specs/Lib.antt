@@ -5,7 +5,7 @@ pub mod Message
 pub mod Records
 pub mod Code
 pub mod View
-pub mod Falls
+pub mod DepthFacts
 pub mod Equal
 pub mod Encoding
 pub mod Parse

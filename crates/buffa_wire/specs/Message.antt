@@ -7,7 +7,7 @@ use Rattle.buffa_bytes.specs.declared.wire_type.WireType.TheVariants.{EndGroup}
 use Rattle.buffa_bytes.specs.Field.{IsTag, Payload, TakesPayload}
 use Rattle.buffa_bytes.specs.Reading.{delimited_at, tag_at}
 use Rattle.buffa_wire.specs.declared.context.DecodeContext.{DecodeContext}
-use Rattle.buffa_wire.specs.BudgetLeft.{BudgetLeft, Lacks, Pays, PaysAtMost, nothing}
+use Rattle.buffa_wire.specs.BudgetLeft.{BudgetLeft, Lacks, Pays, PaysAtMost, defaults, nothing}
 
 -- an error that a budget makes
 abbrev pub IsLimit : DecodeError → Type 0
@@ -35,11 +35,7 @@ BeginsField bs = (n : ℕ) × (w : WireType) × (rest : List ℕ) × (tag_at bs 
 abbrev pub MergesBytes : {X T : Type 0} → (ℕ → X → List ℕ → Option X) → (ℕ → List ℕ → BudgetLeft) → ℕ → X → List ℕ → BudgetLeft → Result T DecodeError → X → BudgetLeft → Type 0
 MergesBytes merged cost d old bs before r new after = IsMerged (merged d old bs) (cost d bs) before r new after
 
--- the budgets where nothing else is said
-abbrev pub defaults : BudgetLeft
-defaults = record { unknown = 1000000; memory = 2 ^ 28 }
-
--- the same from the default budgets: what bytes mean is left where their need is there, and else it tells why not
+-- the same from the default budget: what bytes mean is left where their need is there, and else it tells why not
 abbrev pub IsMergedAlone : {X T : Type 0} → Option X → BudgetLeft → Result T DecodeError → X → Type 0
 IsMergedAlone meant need r new =
     MatchResult r
@@ -74,8 +70,8 @@ abbrev pub FieldTaken : Type 0 → Type 1
 FieldTaken M = ℕ → M → ℕ → WireType → List ℕ → BudgetLeft → Result (Unit {0}) DecodeError → M → BudgetLeft → List ℕ → Type 0
 
 -- the same in a context
-abbrev pub TakesField : {M : Type 0} → FieldTaken M → DecodeContext → M → ℕ → WireType → List ℕ → Result (Unit {0}) DecodeError → M → BudgetLeft → List ℕ → Type 0
-TakesField taken ctx old n w bs r new after rest = taken ctx.depth old n w bs ctx.budget.now r new after rest
+abbrev pub TakesMessageField : {M : Type 0} → FieldTaken M → DecodeContext → M → ℕ → WireType → List ℕ → Result (Unit {0}) DecodeError → M → BudgetLeft → List ℕ → Type 0
+TakesMessageField taken ctx old n w bs r new after rest = taken ctx.depth old n w bs ctx.budget.now r new after rest
 
 -- a message inside a field is one level deeper: what its bytes mean, and what they cost
 abbrev pub merged_in : {X : Type 0} → (ℕ → X → List ℕ → Option X) → ℕ → X → List ℕ → Option X
@@ -102,8 +98,8 @@ cost_of_payload cost d (Err e) = nothing
 
 -- why no length and message at the front are merged, in this order: no level is left; the length's fault, or too few
 -- bytes; the message's
-abbrev pub PayloadFault : {X : Type 0} → (ℕ → X → List ℕ → Option X) → (ℕ → List ℕ → BudgetLeft) → ℕ → X → List ℕ → BudgetLeft → DecodeError → Type 0
-PayloadFault merged cost zero old bs left e = e ≡ RecursionLimitExceeded
-PayloadFault merged cost (suc d) old bs left e =
+abbrev pub MessageFault : {X : Type 0} → (ℕ → X → List ℕ → Option X) → (ℕ → List ℕ → BudgetLeft) → ℕ → X → List ℕ → BudgetLeft → DecodeError → Type 0
+MessageFault merged cost zero old bs left e = e ≡ RecursionLimitExceeded
+MessageFault merged cost (suc d) old bs left e =
     (delimited_at bs ≡ Err e)
     ⊎ ((b : List ℕ) × (rest : List ℕ) × (delimited_at bs ≡ Ok (b, rest)) × MergeFault (merged d old b) (cost d b) left e)

@@ -64,16 +64,16 @@ abbrev mutual
 
 -- what records take of the unknown fields left: one for each record, nested ones too
 abbrev mutual
-  pub slots : Records → ℕ
-  slots no_records = 0
-  slots (one n x rs) = 1 + fields_inside x + slots rs
+  pub field_count : Records → ℕ
+  field_count no_records = 0
+  field_count (one n x rs) = 1 + fields_inside x + field_count rs
 
   pub fields_inside : Datum → ℕ
   fields_inside (varint v) = 0
   fields_inside (fixed32 v) = 0
   fields_inside (fixed64 v) = 0
   fields_inside (bytes v) = 0
-  fields_inside (group rs) = slots rs
+  fields_inside (group rs) = field_count rs
 
 -- a payload that holds x begins old, new is what follows it, and of s unknown fields left one is spent for the field,
 -- and one for each record inside
@@ -83,7 +83,7 @@ TakesField d s n w old x left new = (p : List ℕ) × IsPayload d n x p × (wire
 -- fields that are the records rs begin old, new is what follows them, and of s unknown fields left one is spent for
 -- each record, nested ones too
 abbrev pub TakesRecords : ℕ → ℕ → List ℕ → Records → ℕ → List ℕ → Type 0
-TakesRecords d s old rs left new = (b : List ℕ) × Parse d b rs × (slots rs + left ≡ s) × (old ≡ b ++ new)
+TakesRecords d s old rs left new = (b : List ℕ) × Parse d b rs × (field_count rs + left ≡ s) × (old ≡ b ++ new)
 
 -- Why no field is read after a tag of number n and wire type w, in this order: an end tag, no unknown field left, the
 -- payload's fault. G says why no group is read.

@@ -8,8 +8,8 @@ use Rattle.buffa_bytes.specs.Field.{IsTag}
 use Rattle.buffa_bytes.specs.Left.{LeavesUnlessFull, past_no_payload, past_no_delimited}
 use Rattle.buffa_wire.specs.BudgetLeft.{BudgetLeft, Lacks, Pays, UnknownTaken}
 use Rattle.buffa_wire.specs.Cache.{Cache}
-use Rattle.buffa_wire.specs.Message.{IsFieldMerged, IsMerged, IsMergedAlone, IsInside, PayloadFault}
-use Rattle.buffa_wire.specs.Parse.{FieldFault, Parse, RecordsFault, TakesField, slots}
+use Rattle.buffa_wire.specs.Message.{IsFieldMerged, IsMerged, IsMergedAlone, IsInside, MessageFault}
+use Rattle.buffa_wire.specs.Parse.{FieldFault, Parse, RecordsFault, TakesField, field_count}
 use Rattle.buffa_wire.specs.Passes.{Consumes, IsSized, IsSmall, IsWritten}
 use Rattle.buffa_wire.specs.Records.{Datum, records_of}
 
@@ -20,8 +20,8 @@ abbrev pub told : {E : Type 0} → E → Result (Unit {0}) E
 told e = Err e
 
 -- what is left of refused bytes: of a length and so many bytes, and of a payload
-abbrev pub LeavesText : Result (Unit {0}) DecodeError → List ℕ → List ℕ → Type 0
-LeavesText r bs left = LeavesUnlessFull r (past_no_delimited bs) left
+abbrev pub LeavesDelimited : Result (Unit {0}) DecodeError → List ℕ → List ℕ → Type 0
+LeavesDelimited r bs left = LeavesUnlessFull r (past_no_delimited bs) left
 
 abbrev pub LeavesPayload : Result (Unit {0}) DecodeError → WireType → List ℕ → List ℕ → Type 0
 LeavesPayload r w bs left = LeavesUnlessFull r (past_no_payload w bs) left
@@ -31,7 +31,7 @@ pub record MergeIsPinned {X : Type 0} (meant : Option X) (need before : BudgetLe
   pub merged : (a b : X) (x y : BudgetLeft) → IsMerged meant need before done a x → IsMerged meant need before done b y → (a ≡ b) × (x ≡ y)
   pub refused : (a b : X) (x y : BudgetLeft) (f : DecodeError) →
       IsMerged meant need before done a x → IsMerged meant need before (told f) b y → (f ≢ OutOfMemory) → ⊥
-  -- from default budgets of their own
+  -- from a default budget of their own
   pub alone : (a b : X) → IsMergedAlone meant need done a → IsMergedAlone meant need done b → a ≡ b
   pub not_alone : (a b : X) (f : DecodeError) → IsMergedAlone meant need done a → IsMergedAlone meant need (told f) b → (f ≢ OutOfMemory) → ⊥
 
@@ -47,8 +47,8 @@ pub record InsideIsPinned {X : Type 0} (merged : ℕ → X → List ℕ → Opti
   pub merges : (a b : X) (x y : BudgetLeft) (r s : List ℕ) →
       IsInside merged cost d old bs before a x r → IsInside merged cost d old bs before b y s → (a ≡ b) × (x ≡ y) × (r ≡ s)
   pub refuses : (a : X) (x : BudgetLeft) (r : List ℕ) (e : DecodeError) →
-      IsInside merged cost d old bs before a x r → PayloadFault merged cost d old bs before e → ⊥
-  pub left : (e : DecodeError) (r s : List ℕ) → e ≢ OutOfMemory → LeavesText (told e) bs r → LeavesText (told e) bs s → r ≡ s
+      IsInside merged cost d old bs before a x r → MessageFault merged cost d old bs before e → ⊥
+  pub left : (e : DecodeError) (r s : List ℕ) → e ≢ OutOfMemory → LeavesDelimited (told e) bs r → LeavesDelimited (told e) bs s → r ≡ s
 
 -- A value is sized in one way only; its encoding, where it is small, is written in one way only.
 pub record PassesArePinned (encoding slots : List ℕ) (old : Cache) : Type 0 where
@@ -68,12 +68,12 @@ pub record FieldIsPinned (d s n : ℕ) (w : WireType) (bs : List ℕ) : Type 0 w
   pub fault : (e f : DecodeError) → FieldFault d s n w bs e → FieldFault d s n w bs f → e ≡ f
   -- of a field that is no group, what is left of the bytes after a refusal, and how many unknown fields are left
   pub left : (e : DecodeError) (r q : List ℕ) → e ≢ OutOfMemory → LeavesPayload (told e) w bs r → LeavesPayload (told e) w bs q → r ≡ q
-  pub slot : (k m : ℕ) → UnknownTaken s k → UnknownTaken s m → k ≡ m
+  pub counted : (k m : ℕ) → UnknownTaken s k → UnknownTaken s m → k ≡ m
 
 -- The same of whole bytes.
 pub record RecordsArePinned (d s : ℕ) (bs : List ℕ) : Type 0 where
   pub taken : (rs qs : List (ℕ × Datum)) → Parse d bs (records_of rs) → Parse d bs (records_of qs) → rs ≡ qs
-  pub refused : (rs : List (ℕ × Datum)) (e : DecodeError) → Parse d bs (records_of rs) → slots (records_of rs) ≤ s → RecordsFault d s bs e → ⊥
+  pub refused : (rs : List (ℕ × Datum)) (e : DecodeError) → Parse d bs (records_of rs) → field_count (records_of rs) ≤ s → RecordsFault d s bs e → ⊥
   pub fault : (e f : DecodeError) → RecordsFault d s bs e → RecordsFault d s bs f → e ≡ f
 
 -- What is spent of a budget leaves one budget, and only where it is there.

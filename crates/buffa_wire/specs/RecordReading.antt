@@ -1,12 +1,14 @@
 -- What reading records gives: the records, the unknown fields that are left, and the bytes that follow; or the
 -- first fault.
-use Rattle.std.specs.Prelude.{◌≡◌, ◌≢◌, ℕ, zero, suc, ◌-◌, ◌<◌, ◌⊎◌, ◌==◌, ◌&&◌, List, [], ◌∷◌, length, IsOk, Result, Ok, Err, if◌then◌else◌}
+use Rattle.std.specs.Prelude.{◌≡◌, ◌≢◌, ℕ, zero, suc, ◌-◌, ◌<◌, ◌⊎◌, ◌==◌, ◌&&◌, Bool, false, List, [], ◌∷◌, IsOk, Result, Ok, Err, if◌then◌else◌}
 use Rattle.buffa_bytes.specs.Gives.{◌>>=◌}
 use Rattle.buffa_bytes.specs.declared.wire_type.WireType.{WireType}
 use Rattle.buffa_bytes.specs.declared.wire_type.WireType.TheVariants as wire
 use Rattle.buffa_bytes.specs.declared.error.DecodeError.{DecodeError}
 use Rattle.buffa_bytes.specs.declared.error.DecodeError.TheVariants.{UnexpectedEof, InvalidWireType, RecursionLimitExceeded, UnknownFieldLimitExceeded, InvalidEndGroup}
 use Rattle.buffa_bytes.specs.Reading.{varint_at, delimited_at, tag_at, is_end}
+use Rattle.buffa_bytes.specs.Scan.{Scanned, scan}
+use Rattle.buffa_bytes.specs.Scan.Scanned.{ends, goes}
 use Rattle.buffa_bytes.specs.Scalars.{fixed32_at, fixed64_at}
 use Rattle.buffa_wire.specs.declared.context.DecodeContext.{DecodeContext}
 use Rattle.buffa_wire.specs.Records.{Datum, varint, fixed32, fixed64, bytes, group, Records, no_records, one, list_of}
@@ -36,20 +38,32 @@ field_by inner s n w bs =
     if is_end w then Err (InvalidEndGroup n) else
     if s == 0 then Err UnknownFieldLimitExceeded else payload_by inner (s - 1) n w bs
 
--- the field after its tag t, and then what more reads
-abbrev pub field_then : GroupReader → (ℕ → List ℕ → Result (Records × ℕ × List ℕ) DecodeError) → ℕ → ℕ × WireType × List ℕ → Result (Records × ℕ × List ℕ) DecodeError
-field_then inner more s t = field_by inner s t.0 t.1 t.2 >>= (λ x. more x.1 x.2 >>= (λ rs. Ok (one t.0 x.0 rs.0, rs.1, rs.2)))
+-- a field of number n before those that were read behind it
+abbrev pub then_one : ℕ → Datum → Result (Records × ℕ × List ℕ) DecodeError → Result (Records × ℕ × List ℕ) DecodeError
+then_one n x r = r >>= (λ rs. Ok (one n x rs.0, rs.1, rs.2))
 
--- the fields and the end tag of group n; the first number bounds the steps
-unfoldable pub group_within : GroupReader → ℕ → GroupReader
-group_within inner zero s n bs = Err UnexpectedEof
-group_within inner (suc k) s n bs = tag_at bs >>= (λ t.
-    if is_end t.1 && (t.0 == n) then Ok (no_records, s, t.2) else field_then inner (λ left rest. group_within inner k left n rest) s t)
+-- the field of number n that was read leads to those behind it
+abbrev pub kept_step : ℕ → Result (Datum × ℕ × List ℕ) DecodeError → Scanned ℕ (Result (Records × ℕ × List ℕ) DecodeError)
+kept_step n (Ok x) = goes x.1 x.2 (then_one n x.0)
+kept_step n (Err e) = ends (Err e)
 
--- the same, with groups nested at most d deep; each field has a tag, so the bytes bound the steps
+-- a tag among fields, where so many unknown fields are left: a last one ends them, and the field of any other is read
+abbrev pub record_step : GroupReader → (ℕ × WireType × List ℕ → Bool) → ℕ → Result (ℕ × WireType × List ℕ) DecodeError → Scanned ℕ (Result (Records × ℕ × List ℕ) DecodeError)
+record_step inner last s (Ok t) = if last t then ends (Ok (no_records, s, t.2)) else kept_step t.0 (field_by inner s t.0 t.1 t.2)
+record_step inner last s (Err e) = ends (Err e)
+
+-- the end tag of group n
+abbrev pub ends_group : ℕ → ℕ × WireType × List ℕ → Bool
+ends_group n t = is_end t.1 && (t.0 == n)
+
+-- the fields and the end tag of group n
+unfoldable pub fields_at : GroupReader → GroupReader
+fields_at inner s n bs = scan (λ left rest. record_step inner (ends_group n) left (tag_at rest)) (Err UnexpectedEof) s bs
+
+-- the same, with groups nested at most d deep
 unfoldable pub group_at : ℕ → GroupReader
 group_at zero s n bs = Err RecursionLimitExceeded
-group_at (suc d) s n bs = group_within (group_at d) (length bs) s n bs
+group_at (suc d) s n bs = fields_at (group_at d) s n bs
 
 -- the field after a tag of number n and wire type w
 abbrev pub field_at : ℕ → ℕ → ℕ → WireType → List ℕ → Result (Datum × ℕ × List ℕ) DecodeError
@@ -63,13 +77,15 @@ abbrev pub group_in : DecodeContext → ℕ → List ℕ → Result (Records × 
 group_in ctx = group_at ctx.depth ctx.budget.now.unknown
 
 -- fields, to the end of the bytes
-unfoldable pub records_within : GroupReader → ℕ → ℕ → List ℕ → Result (Records × ℕ × List ℕ) DecodeError
-records_within inner k s [] = Ok (no_records, s, [])
-records_within inner zero s (b ∷ bs) = Err UnexpectedEof
-records_within inner (suc k) s (b ∷ bs) = tag_at (b ∷ bs) >>= field_then inner (records_within inner k) s
+abbrev pub records_step : GroupReader → ℕ → List ℕ → Scanned ℕ (Result (Records × ℕ × List ℕ) DecodeError)
+records_step inner s [] = ends (Ok (no_records, s, []))
+records_step inner s (b ∷ bs) = record_step inner (λ _. false) s (tag_at (b ∷ bs))
 
-unfoldable pub records_at : ℕ → ℕ → List ℕ → Result (Records × ℕ × List ℕ) DecodeError
-records_at d s bs = records_within (group_at d) (length bs) s bs
+unfoldable pub records_by : GroupReader → ℕ → List ℕ → Result (Records × ℕ × List ℕ) DecodeError
+records_by inner s bs = scan (records_step inner) (Err UnexpectedEof) s bs
+
+abbrev pub records_at : ℕ → ℕ → List ℕ → Result (Records × ℕ × List ℕ) DecodeError
+records_at d = records_by (group_at d)
 
 -- the records alone
 abbrev pub list_at : ℕ → ℕ → List ℕ → Result (List (ℕ × Datum)) DecodeError
@@ -96,8 +112,8 @@ GroupTakesMemory zero s bs = ⊥
 GroupTakesMemory (suc d) s bs = FieldsTakeMemory (group_at d) (GroupTakesMemory d) s bs
 
 -- a field after its tag takes memory
-abbrev pub TakesMemory : ℕ → ℕ → WireType → List ℕ → Type 0
-TakesMemory d s w bs = (0 < s) × PayloadTakesMemory (GroupTakesMemory d) (s - 1) w bs
+abbrev pub RecordTakesMemory : ℕ → ℕ → WireType → List ℕ → Type 0
+RecordTakesMemory d s w bs = (0 < s) × PayloadTakesMemory (GroupTakesMemory d) (s - 1) w bs
 
 -- whole bytes take memory
 abbrev pub ListTakesMemory : ℕ → ℕ → List ℕ → Type 0

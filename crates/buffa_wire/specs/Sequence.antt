@@ -1,6 +1,7 @@
 -- Pieces of bytes, one after another, each of which takes a state to the next.
-use Rattle.std.specs.Prelude.{◌≡◌, ◌≢◌, ℕ, zero, suc, List, [], ◌∷◌, ◌++◌, length, Result, Ok, Err}
-use Rattle.buffa_bytes.specs.Gives.{◌>>=◌}
+use Rattle.std.specs.Prelude.{◌≡◌, ◌≢◌, ℕ, List, [], ◌∷◌, ◌++◌, Result, Ok, Err}
+use Rattle.buffa_bytes.specs.Scan.{Scanned, parsed, scan}
+use Rattle.buffa_bytes.specs.Scan.Scanned.{ends}
 use Rattle.buffa_bytes.specs.declared.error.DecodeError.{DecodeError}
 use Rattle.buffa_bytes.specs.declared.error.DecodeError.TheVariants.{UnexpectedEof}
 
@@ -22,14 +23,11 @@ ParsesTo Step s bs t rest = (ps : List (List ℕ)) × (bs ≡ join ps ++ rest) �
 abbrev pub ParseStops : {S : Type 0} → (S → List ℕ → S → Type 0) → (S → List ℕ → DecodeError → Type 0) → S → List ℕ → DecodeError → Type 0
 ParseStops {S} Step Fault s bs e = (t : S) × (rest : List ℕ) × ParsesTo Step s bs t rest × (rest ≢ []) × Fault t rest e
 
--- The same as a reading: f takes a state to the next by the piece at the front. Each piece has a byte at
--- least, so the bytes bound the steps.
-unfoldable pub parse_within : {S : Type 0} → (S → List ℕ → Result (S × List ℕ) DecodeError) → ℕ → S → List ℕ → Result S DecodeError
-parse_within f k s [] = Ok s
-parse_within f zero s (b ∷ bs) = Err UnexpectedEof
-parse_within f (suc k) s (b ∷ bs) = do
-  x ← f s (b ∷ bs)
-  parse_within f k x.0 x.1
+-- the piece at the front, by a reading of it, or the end of the bytes
+abbrev pub parse_step : {S : Type 0} → (S → List ℕ → Result (S × List ℕ) DecodeError) → S → List ℕ → Scanned S (Result S DecodeError)
+parse_step f s [] = ends (Ok s)
+parse_step f s (b ∷ bs) = parsed (f s (b ∷ bs))
 
+-- the same as a reading: f takes a state to the next by the piece at the front, which has a byte at least
 unfoldable pub parse_all : {S : Type 0} → (S → List ℕ → Result (S × List ℕ) DecodeError) → S → List ℕ → Result S DecodeError
-parse_all f s bs = parse_within f (length bs) s bs
+parse_all f s bs = scan (parse_step f) (Err UnexpectedEof) s bs

@@ -121,7 +121,7 @@ impl Budget {
     /// The unknown fields that are left.
     ///
     /// ```ignore
-    /// let slots = budget.unknown_left();
+    /// let unknown = budget.unknown_left();
     /// ```
     pub fn unknown_left(&self) -> usize
         ensures { result ≡ self.now.unknown }

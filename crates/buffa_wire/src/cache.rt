@@ -1,4 +1,4 @@
-//! The sizes that one pass reserves and the other consumes.
+//! The slots that one pass reserves, each for a size, and the other consumes.
 
 ghost use Rattle.std.specs.Prelude.{◌≡◌, ◌+◌, ◌<◌, ◌∷◌, [], length, slice_index, slice_set, IfErr, IfOk, IsOk, OnErr, OnOk};
 ghost use Rattle.buffa_bytes.specs.declared.error.EncodeError.TheVariants as error;
@@ -13,7 +13,7 @@ use std::marker::Model;
 /// ```ignore
 /// let mut cache = SizeCache::new(alloc);
 /// let size = message_field_len::<Int32, TestMsg, _>(&map, 1, &mut cache)?;
-/// write_message_field::<Int32, TestMsg, _, _>(&map, 5, &mut cache, &mut text)?;
+/// write_message_field::<Int32, TestMsg, _, _>(&map, 5, &mut cache, &mut sink)?;
 /// ```
 #[derive(Drop)]
 pub struct SizeCache {

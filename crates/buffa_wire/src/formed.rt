@@ -7,7 +7,7 @@ ghost use Rattle.buffa_bytes.specs.Field.{SomeField};
 ghost use Rattle.buffa_bytes.specs.Gives.{FullOnlyIf};
 ghost use Rattle.buffa_bytes.specs.Join.{Join};
 ghost use Rattle.buffa_wire.specs.BudgetLeft.{BudgetLeft, budget_left, nothing, plus};
-ghost use Rattle.buffa_wire.specs.Message.{FieldTaken, MergesField, TakesField};
+ghost use Rattle.buffa_wire.specs.Message.{FieldTaken, MergesField, TakesMessageField};
 ghost use Rattle.buffa_wire.specs.Parse.{Fits};
 ghost use Rattle.buffa_wire.specs.Passes.{IsNext, IsSized, IsWritten};
 ghost use Rattle.buffa_wire.specs.Records.{Datum, records_of};
@@ -122,7 +122,7 @@ pub trait MessageForm<M: Blank> {
         ensures merged { MergesField merged cost ctx.entry (M.meaning message.old) tag.number tag.wire_type buf.old.now
             result (M.meaning message.new) (budget_left ctx.exit) buf.new.now }
         ensures full { FullOnlyIf result (tag.wire_type ≢ WireType.EndGroup) }
-        ensures taken { TakesField Taken ctx.entry message.old tag.number tag.wire_type buf.old.now result message.new
+        ensures taken { TakesMessageField Taken ctx.entry message.old tag.number tag.wire_type buf.old.now result message.new
             (budget_left ctx.exit) buf.new.now };
 
     /// The encoding reads back, where no length is too large to be read.
@@ -213,7 +213,7 @@ where
         ensures merged { MergesField M.Form.merged M.Form.cost ctx.entry (M.meaning self.old) tag.number tag.wire_type
             buf.old.now result (M.meaning self.new) (budget_left ctx.exit) buf.new.now }
         ensures full { FullOnlyIf result (tag.wire_type ≢ WireType.EndGroup) }
-        ensures taken { TakesField M.Form.Taken ctx.entry self.old tag.number tag.wire_type buf.old.now result self.new
+        ensures taken { TakesMessageField M.Form.Taken ctx.entry self.old tag.number tag.wire_type buf.old.now result self.new
             (budget_left ctx.exit) buf.new.now }
     {
         <M::Form as MessageForm<M>>::merge_field(self, alloc, tag, buf, ctx)

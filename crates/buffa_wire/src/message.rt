@@ -17,7 +17,7 @@ ghost use Rattle.buffa_wire.specs.Passes.{IsNext, IsSized, IsWritten};
 ghost use Rattle.buffa_wire.specs.Records.{Datum, records_of};
 ghost use Rattle.buffa_wire.specs.Encoding.{records_encoding};
 ghost use Rattle.buffa_wire.specs.Message.{BeginsField, IsMergedAlone, MergesBytes, MergesField, MergesInside};
-ghost use Rattle.buffa_wire.specs.Message.{PayloadFault, cost_of_payload};
+ghost use Rattle.buffa_wire.specs.Message.{MessageFault, cost_of_payload};
 
 use crate::budget::{Budget, DEFAULT_UNKNOWN_FIELD_LIMIT};
 use crate::cache::SizeCache;
@@ -150,10 +150,10 @@ pub trait Message: MessageSpec {
     /// [`EncodeError::OutOfMemory`].
     ///
     /// ```ignore
-    /// let text = message.try_encode_to_vec(alloc)?;
+    /// let encoding = message.try_encode_to_vec(alloc)?;
     /// ```
     fn try_encode_to_vec(&self, alloc: Global) -> Result<Vec<u8>, EncodeError>
-        ensures text { IfOk result (λ v. (v.items ≡ Self.encoding (Self.meaning self.now))
+        ensures encoding { IfOk result (λ v. (v.items ≡ Self.encoding (Self.meaning self.now))
             × (length (Self.encoding (Self.meaning self.now)) < 2 ^ 31)) }
         ensures err { IfErr result (λ e. e ≢ error.OutOfMemory → (e ≡ error.MessageTooLarge)
             × (2 ^ 31 ≤ length (Self.encoding (Self.meaning self.now)))) }
@@ -163,9 +163,9 @@ pub trait Message: MessageSpec {
         if size > MAX_MESSAGE_BYTES {
             return Err(EncodeError::MessageTooLarge);
         }
-        let mut text = Vec::new(alloc);
-        self.write_to(&mut cache, &mut text)?;
-        Ok(text)
+        let mut encoding = Vec::new(alloc);
+        self.write_to(&mut cache, &mut encoding)?;
+        Ok(encoding)
     }
 
     /// Merges the field whose tag was read, and leaves what follows it.
@@ -221,7 +221,7 @@ pub trait Message: MessageSpec {
         Ok(())
     }
 
-    /// Merges the fields that the bytes are, at most [`RECURSION_LIMIT`] deep, under default budgets of its own.
+    /// Merges the fields that the bytes are, at most [`RECURSION_LIMIT`] deep, under a default budget of its own.
     ///
     /// # Errors
     /// Those of [`Message::merge`]. The value is then some value of its type.
@@ -263,7 +263,7 @@ pub trait Message: MessageSpec {
         ensures ok { OnOk result (MergesInside Self.merged Self.cost ctx.entry (Self.meaning self.old)
             (B.unread buf.old) (Self.meaning self.new) (budget_left ctx.exit) (B.unread buf.new)) }
         ensures fault { IfErr result (λ e. e ≢ OutOfMemory →
-            PayloadFault Self.merged Self.cost ctx.entry.depth (Self.meaning self.old) (B.unread buf.old)
+            MessageFault Self.merged Self.cost ctx.entry.depth (Self.meaning self.old) (B.unread buf.old)
             ctx.entry.budget.now e) }
         ensures spent { OnErr result (PaysAtMost ctx.entry.budget.now
             (cost_of_payload Self.cost ctx.entry.depth (delimited_at (B.unread buf.old))) (budget_left ctx.exit)) }

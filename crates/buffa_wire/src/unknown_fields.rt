@@ -76,7 +76,7 @@ impl Model for UnknownFields {
     ghost size = { λ h. height h.records };
 
     ghost use Rattle.std.proofs.Common.{arith};
-    ghost use Rattle.buffa_wire.specs.Falls.{deep_fields};
+    ghost use Rattle.buffa_wire.specs.DepthFacts.{deep_fields};
 
     ghost size_decreases = { λ a h. omega (arith, deep_fields a.fields.items) };
 }

@@ -10,8 +10,8 @@ use Rattle.buffa_wire.specs.Cache.{Cache, advanced, appended}
 use Rattle.buffa_wire.specs.Enums.{open_number}
 use Rattle.buffa_wire.specs.Passes.{IsNext}
 use Rattle.buffa_wire.proofs.PassLemmas.{drop_past, next_ok, next_rest}
-use Rattle.buffa_wire.specs.Parse.{slots}
-use Rattle.buffa_wire.specs.Message.{IsFieldMerged, MergeFault, IsInside, PayloadFault, cost_in, merged_in}
+use Rattle.buffa_wire.specs.Parse.{field_count}
+use Rattle.buffa_wire.specs.Message.{IsFieldMerged, MergeFault, IsInside, MessageFault, cost_in, merged_in}
 use Rattle.buffa_bytes.specs.declared.error.DecodeError.TheVariants.{OutOfMemory}
 use Rattle.std.proofs.lemmas.List.{append_cancel_right}
 use Rattle.buffa_wire.proofs.ParseLemmas as parse
@@ -97,7 +97,7 @@ module _ {X : Type 0} (merged : ℕ → X → List ℕ → Option X) (cost : ℕ
       (some_same (merged_in merged d old p) a b means two.0, one_left before (cost_in cost d p) x y pays two.1, sym (ap (λ z. z.1) e))
 
   inside_refuses : (d : ℕ) (old a : X) (bs : List ℕ) (before x : BudgetLeft) (r : List ℕ) (e : DecodeError) →
-      IsInside merged cost d old bs before a x r → PayloadFault merged cost d old bs before e → ⊥
+      IsInside merged cost d old bs before a x r → MessageFault merged cost d old bs before e → ⊥
   inside_refuses zero old a bs before x r e (p, is, means, pays) h = cc
   inside_refuses (suc d) old a bs before x r e (p, is, means, pays) (inl h) = let k = sym is ∙ h in cc
   inside_refuses (suc d) old a bs before x r e (p, is, means, pays) (inr (b, rest, also, why)) =
@@ -115,8 +115,8 @@ module _ {X : Type 0} (merged : ℕ → X → List ℕ → Option X) (cost : ℕ
   }
 
 -- ---- passes
-pub passes_are_pinned : (text slots : List ℕ) (old : Cache) → PassesArePinned text slots old
-passes_are_pinned text slots old = record {
+pub passes_are_pinned : (encoding slots : List ℕ) (old : Cache) → PassesArePinned encoding slots old
+passes_are_pinned encoding slots old = record {
   sized = λ m n a b h k. (h.0 ∙ sym k.0, h.1 ∙ sym k.1);
   written = λ before x y a b small h k. (
     h.1 ∙ ap (λ z. before ++ z) (h.2.1 small ∙ sym (k.2.1 small)) ∙ sym k.1,
@@ -138,7 +138,7 @@ field_is_pinned d s n w bs = record {
   refused = λ x k r e h g. let q = sym (field_taken d s n w bs x k r h) ∙ field_refused d s n w bs e g in cc;
   fault = λ e f h g. let q = sym (field_refused d s n w bs e h) ∙ field_refused d s n w bs f g in cc;
   left = λ e r q other h g. h.0 other ∙ sym (g.0 other);
-  slot = λ k m h g. h ∙ sym g;
+  counted = λ k m h g. h ∙ sym g;
 }
 
 pub records_are_pinned : (d s : ℕ) (bs : List ℕ) → RecordsArePinned d s bs

@@ -10,7 +10,7 @@ ghost use Rattle.buffa_bytes.specs.Join.{Join};
 ghost use Rattle.buffa_wire.specs.Records.{Datum, Held, height, records_of};
 ghost use Rattle.buffa_wire.specs.View.{datum_of, record_of};
 ghost use Rattle.buffa_wire.specs.Encoding.{records_encoding};
-ghost use Rattle.buffa_wire.specs.Parse.{FieldFault, Fits, InRange, Parse, RecordsFault, TakesField, slots};
+ghost use Rattle.buffa_wire.specs.Parse.{FieldFault, Fits, InRange, Parse, RecordsFault, TakesField, field_count};
 ghost use Rattle.buffa_wire.specs.RecordReading.{field_at, list_at};
 ghost use Rattle.buffa_wire.specs.BudgetLeft.{BudgetLeft};
 ghost use Rattle.buffa_wire.specs.Cache.{Cache, advanced, appended};
@@ -34,7 +34,7 @@ use buffa_wire::unknown_fields::{UnknownField, UnknownFieldData, UnknownFields};
 /// record, nested ones too; else the first fault is told.
 pub fn records_are_read()
     ensures ok { (d s : ℕ) (bs : List ℕ) (rs : List (ℕ × Datum)) → (list_at d s bs ≡ Ok rs)
-        ↔ (Parse d bs (records_of rs) × (slots (records_of rs) ≤ s)) }
+        ↔ (Parse d bs (records_of rs) × (field_count (records_of rs) ≤ s)) }
     ensures err { (d s : ℕ) (bs : List ℕ) (e : DecodeError) → (list_at d s bs ≡ Err e) ↔ RecordsFault d s bs e }
 {}
 
@@ -61,7 +61,7 @@ pub fn constants()
     ensures message_bytes { MAX_MESSAGE_BYTES ≡ 2 ^ 31 - 1 }
 {}
 
-/// Records are what fields say: bytes are a join of fields exactly where they are an encoding of records, and
+/// Records are what fields say: bytes are a join of fields exactly where they are the fields of records, and
 /// more depth changes nothing.
 pub fn records_are_fields()
     ensures fields { (d : ℕ) (bs : List ℕ) → Join (SomeField d) bs
@@ -70,7 +70,7 @@ pub fn records_are_fields()
         Parse d bs (records_of rs) }
 {}
 
-/// Bytes are an encoding of one list of records, at any depths.
+/// Bytes are the fields of one list of records, at any depths.
 pub fn one_reading()
     ensures { (bs : List ℕ) (c d : ℕ) (rs qs : List (ℕ × Datum)) → Parse c bs (records_of rs) →
         Parse d bs (records_of qs) → rs ≡ qs }
@@ -82,7 +82,7 @@ pub fn encodings_are_read_back()
     ensures parses { (d : ℕ) (rs : List (ℕ × Datum)) → Fits (records_of rs) → height rs ≤ d →
         Parse d (records_encoding rs) (records_of rs) }
     ensures read { (d s : ℕ) (rs : List (ℕ × Datum)) → Fits (records_of rs) → height rs ≤ d →
-        slots (records_of rs) ≤ s → list_at d s (records_encoding rs) ≡ Ok rs }
+        field_count (records_of rs) ≤ s → list_at d s (records_encoding rs) ≡ Ok rs }
     ensures theirs { (d : ℕ) (rs qs : List (ℕ × Datum)) → InRange (records_of rs) →
         Parse d (records_encoding rs) (records_of qs) → qs ≡ rs }
 {}
@@ -126,7 +126,7 @@ pub fn merging_inside_is_pinned<M: Message>()
 /// Open: when memory runs out, how many slots are reserved then, and what is written of an encoding that
 /// isn't small.
 pub fn passes_are_pinned()
-    ensures { (text slots : List ℕ) (old : Cache) → PassesArePinned text slots old }
+    ensures { (encoding slots : List ℕ) (old : Cache) → PassesArePinned encoding slots old }
 {}
 
 /// A field, and whole bytes, are read as one list of records, or refused by one fault.
@@ -145,7 +145,7 @@ pub fn formed_messages_are_these<M: Formed>()
 where
     M::Form: MessageForm<M>,
     ensures merged { (⟦<M as MessageSpec>⟧.merged ≡ M.Form.merged) × (⟦<M as MessageSpec>⟧.cost ≡ M.Form.cost) }
-    ensures text { (v : M.Meaning) → ⟦<M as MessageSpec>⟧.encoding v ≡ records_encoding (M.Form.records v) }
+    ensures encoding { (v : M.Meaning) → ⟦<M as MessageSpec>⟧.encoding v ≡ records_encoding (M.Form.records v) }
     ensures records { ⟦<M as MessageSpec>⟧.records ≡ M.Form.records }
     ensures slots { ⟦<M as MessageSpec>⟧.slots ≡ M.Form.slots }
     ensures levels { ⟦<M as MessageSpec>⟧.levels ≡ M.Form.levels }
@@ -185,7 +185,7 @@ pub fn open_enums_are_compared<E: Enumeration + Clone + PartialEq>()
     ensures number_made { (n : ℤ) → ⟦<EnumValue<E> as Clone>⟧.is_infallible (EnumValue.Unknown n) }
 {}
 
-/// Slots are consumed in the order in which they were reserved: those that are appended behind a cursor at the end are
+/// Slots are consumed in the order in which they were reserved: those that are appended where all are consumed are
 /// the next ones, and the first of the next ones is consumed. Nothing is open but the room, of which nothing is said.
 pub fn slots_are_consumed_in_order()
     ensures reserved { (slots : List ℕ) (c : Cache) → c.next ≡ length c.slots → IsNext slots (appended slots c) }

@@ -7,7 +7,7 @@ use Rattle.buffa_bytes.specs.declared.error.DecodeError.{DecodeError}
 use Rattle.buffa_bytes.specs.Content.{number_in}
 use Rattle.buffa_wire.specs.Sequence.{ParsesEach}
 use Rattle.buffa_bytes.specs.Values.{int32_of}
-use Rattle.buffa_map.specs.Entry.{IsField, blanks}
+use Rattle.buffa_map.specs.Entry.{IsEntryField, blanks}
 use Rattle.buffa_map.specs.Enums.{ClosedFits}
 use Rattle.buffa_map.specs.Pairs.{put}
 use Rattle.buffa_map.specs.Run.{Run, fold_entries}
@@ -44,12 +44,12 @@ known_fits n old v known fits e = by (two_numbers.declares n) refl e
     by false is e k = absurd (true≢false (sym k ∙ sym (ap (λ (x : ℤ × Bool). x.1) e)))
 
 module _ (d : ℕ) where
-  step_fits : (s t : MapEntry ℤ ℤ) (f : List ℕ) → IsField int32_reading choice_reading d s f t → Fits s → Fits t
+  step_fits : (s t : MapEntry ℤ ℤ) (f : List ℕ) → IsEntryField int32_reading choice_reading d s f t → Fits s → Fits t
   step_fits s t f (inl (k, known, field, is)) h = subst Fits (sym is) (subst (FitsSigned w32) (ap (λ (x : ℤ × Bool). x.0) (read_as _ _ field.6)) (int32_fits (number_in field.2)), h.1)
   step_fits s t f (inr (inl (v, known, field, is))) h = subst Fits (sym is) (h.0, known_fits (int32_of (number_in field.2)) s.value v known (int32_fits (number_in field.2)) (read_as _ _ field.6))
   step_fits s t f (inr (inr (n, w, one, two, field, is))) h = subst Fits (sym is) h
 
-  each_fits : (s t : MapEntry ℤ ℤ) (ps : List (List ℕ)) → ParsesEach (IsField int32_reading choice_reading d) s ps t → Fits s → Fits t
+  each_fits : (s t : MapEntry ℤ ℤ) (ps : List (List ℕ)) → ParsesEach (IsEntryField int32_reading choice_reading d) s ps t → Fits s → Fits t
   each_fits s t [] e h = subst Fits e h
   each_fits s t (p ∷ ps) (u, step, more) h = each_fits u t ps more (step_fits s u p step h)
 

@@ -6,7 +6,7 @@ use Rattle.std.specs.Int.{w32}
 use Rattle.std.specs.Ordering.{int_eq}
 use Rattle.std.proofs.lemmas.Cmp.{int_cmp_total}
 use Rattle.buffa_bytes.specs.declared.error.DecodeError.{DecodeError}
-use Rattle.buffa_wire.specs.BudgetLeft.{BudgetLeft}
+use Rattle.buffa_wire.specs.BudgetLeft.{BudgetLeft, defaults}
 use Rattle.buffa_wire.specs.Enums.{Numbers, Refines}
 use Rattle.buffa_bytes.specs.Number.{IsNumber}
 use Rattle.buffa_map.specs.Enums.{ClosedFits, closed_reading, closed_writing}
@@ -15,7 +15,6 @@ use Rattle.buffa_map.specs.Rewrite.{IsRewrite, KeepsMeaning}
 use Rattle.buffa_map.specs.Run.{Run}
 use Rattle.buffamap.specs.Choice.{two_numbers}
 use Rattle.buffamap.specs.Codecs.{int32_reading, int32_writing}
-use Rattle.buffamap.specs.Read.{default_left}
 use Rattle.buffamap.specs.Reply.{Reply, done, hex_line}
 use Rattle.buffamap.specs.Rewrite.{Entry, IsRewritten, IsRewrittenOf, RewriteKeepsMeaning, choice_reading, run_from}
 
@@ -29,7 +28,7 @@ module _ (n : ℕ) (means : RewriteMeans int32_reading int32_writing (FitsSigned
   kept_by (Err e) is k = let other : ◌≡◌ {A = ℕ} 0 1 = ap (λ (x : Reply). x.status) k in absurd (omega (arith, other))
   kept_by (Ok r) is (inr k) = let other : ◌≡◌ {A = ℕ} 0 1 = ap (λ (x : Reply). x.status) k.1 in absurd (omega (arith, other))
   kept_by (Ok r) is (inl k) =
-      let whole = (read.ok 100 n 8 1 default_left bytes r.0 r.1).0 is in
+      let whole = (read.ok 100 n 8 1 defaults bytes r.0 r.1).0 is in
       let same : r.0 ≡ es = one.run 100 n bytes r.0 es whole.0 run in
       let rewrite : IsRewrite int_eq int32_writing closed_writing (FitsSigned w32) (ClosedFits two_numbers) n es k.0 = subst (λ z. IsRewrite int_eq int32_writing closed_writing (FitsSigned w32) (ClosedFits two_numbers) n z k.0) same k.1.0 in
       let m = means int_eq (eq_by_cmp_equiv int_cmp_total) two_numbers f refl finer 100 n bytes k.0 es fs number run newer rewrite in

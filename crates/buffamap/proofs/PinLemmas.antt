@@ -6,8 +6,8 @@ use Rattle.std.specs.Map.{keys_of}
 use Rattle.std.specs.Ordering.{int_cmp, int_eq}
 use Rattle.std.proofs.lemmas.Cmp.{int_cmp_total}
 use Rattle.buffa_bytes.specs.declared.error.DecodeError.{DecodeError}
-use Rattle.buffa_wire.specs.BudgetLeft.{BudgetLeft}
-use Rattle.buffa_wire.specs.Message.{MergeFault, defaults}
+use Rattle.buffa_wire.specs.BudgetLeft.{BudgetLeft, defaults}
+use Rattle.buffa_wire.specs.Message.{MergeFault}
 use Rattle.buffa_wire.specs.Records.{Datum}
 use Rattle.buffa_wire.specs.Encoding.{records_encoding}
 use Rattle.buffa_map.specs.Enums.{closed_writing}
@@ -20,7 +20,7 @@ use Rattle.buffa.specs.NodeEncoding as node_encoding
 use Rattle.buffa.specs.Set.{set_cost, set_merged, set_encoding}
 use Rattle.buffamap.specs.Again.{IsEncoded, IsReadAgainIn, IsRefused, RepliesToAgain, encoding_reply}
 use Rattle.buffamap.specs.Codecs.{int32_writing}
-use Rattle.buffamap.proofs.Sorting.{same_sorted}
+use Rattle.buffamap.proofs.SortingLemmas.{same_sorted}
 use Rattle.buffamap.specs.declared.command.Command.{Command}
 use Rattle.buffamap.specs.declared.command.Command.TheVariants.{AgainNode, AgainSet, Ext, Item, Read, Rewrite, Write}
 use Rattle.buffamap.specs.Command.{command_of, texts}
@@ -36,7 +36,7 @@ use Rattle.buffamap.specs.Rewrite.{Entry, IsRewritten, IsRewrittenOf, RepliesToR
 use Rattle.buffamap.specs.Rewrite.{Pair as Choices, run_from as rewrite_from}
 use Rattle.buffamap.specs.Streams.{Change, Known, Writes, WritesAll}
 use Rattle.buffamap.specs.Write.{RepliesToMap, RepliesToWrite, field_reply}
-use Rattle.buffamap.proofs.Ordered.{one_order}
+use Rattle.buffamap.proofs.OrderedLemmas.{one_order}
 use denote.Ref.{Bor}
 
 -- where one input has one reply, what is accepted isn't refused

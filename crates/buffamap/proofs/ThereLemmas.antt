@@ -7,9 +7,8 @@ use Rattle.std.specs.Int.{w32}
 use Rattle.std.specs.Ordering.{int_cmp, int_eq, nat_cmp}
 use Rattle.buffa_bytes.specs.declared.error.DecodeError.{DecodeError}
 use Rattle.buffa_bytes.specs.declared.error.DecodeError.TheVariants.{UnexpectedEof}
-use Rattle.buffa_wire.specs.BudgetLeft.{BudgetLeft, Lacks}
+use Rattle.buffa_wire.specs.BudgetLeft.{BudgetLeft, Lacks, defaults}
 use Rattle.buffa_bytes.specs.ErrorText.{decode_error_text}
-use Rattle.buffa_wire.specs.Message.{defaults}
 use Rattle.buffa_wire.specs.Records.{Datum}
 use Rattle.buffa_wire.specs.Encoding.{records_encoding}
 use Rattle.buffa_map.specs.Enums.{ClosedFits, closed_writing}
@@ -25,13 +24,13 @@ use Rattle.buffamap.specs.Forms.{hex_bytes, without_newline}
 use Rattle.buffamap.specs.Item.{IsFound, IsFoundIn, RepliesToItem, item_from, item_lines}
 use Rattle.buffamap.specs.Lines.{InOrder, Pair, lines_of, map_in, same_key}
 use Rattle.buffamap.specs.Pinned.{HasReply}
-use Rattle.buffamap.specs.Read.{default_left, RepliesToBytes, RepliesToRead, RepliesToRun, run_from}
+use Rattle.buffamap.specs.Read.{RepliesToBytes, RepliesToRead, RepliesToRun, run_from}
 use Rattle.buffamap.specs.Reply.{Reply, bad_input, done, fault, hex_line}
 use Rattle.buffamap.specs.Rewrite.{Entry, IsRewritten, IsRewrittenOf, RepliesToRewrite, choice_reading, Pair as Choices, run_from as rewrite_from}
 use Rattle.buffamap.specs.Write.{RepliesToMap, RepliesToWrite, field_reply}
 use Rattle.buffa_codec.specs.Sub.{sub}
 use Rattle.buffamap.proofs.FitLemmas.{pairs_fit, run_fits}
-use Rattle.buffamap.proofs.Ordered.{same_test}
+use Rattle.buffamap.proofs.OrderedLemmas.{same_test}
 use Rattle.buffamap.proofs.OrderLemmas.{ordered, ordered_holds, ordered_once, ordered_sorted}
 
 -- a map has a list of its pairs in order
@@ -135,7 +134,7 @@ module _ (n : ℕ) (read : RunsAreRead int32_reading choice_reading) where
       l = ordered int_cmp m
 
       fits : AllHold (FitsSigned w32) (ClosedFits two_numbers) l
-      fits = ordered_holds int_cmp (FitsSigned w32) (ClosedFits two_numbers) m (pairs_fit r.0 [] (run_fits 100 n bytes r.0 ((read.ok 100 n 8 1 default_left bytes r.0 r.1).0 is).0) tt)
+      fits = ordered_holds int_cmp (FitsSigned w32) (ClosedFits two_numbers) m (pairs_fit r.0 [] (run_fits 100 n bytes r.0 ((read.ok 100 n 8 1 defaults bytes r.0 r.1).0 is).0) tt)
 
       out : List ℕ
       out = field_encoding int32_writing closed_writing n l ++ records_encoding (undeclared_records n r.0)

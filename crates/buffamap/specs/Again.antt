@@ -2,9 +2,9 @@
 use Rattle.std.specs.Prelude.{◌≡◌, ◌≢◌, ◌⊎◌, ◌^◌, ℕ, List, length, nat_lt, codes, Option, Some, None, if◌then◌else◌}
 use Rattle.buffa_bytes.specs.declared.error.DecodeError.{DecodeError}
 use Rattle.buffa_bytes.specs.declared.error.DecodeError.TheVariants.{OutOfMemory}
-use Rattle.buffa_wire.specs.BudgetLeft.{BudgetLeft, Lacks}
+use Rattle.buffa_wire.specs.BudgetLeft.{BudgetLeft, Lacks, defaults}
 use Rattle.buffa_bytes.specs.ErrorText.{decode_error_text}
-use Rattle.buffa_wire.specs.Message.{MergeFault, defaults}
+use Rattle.buffa_wire.specs.Message.{MergeFault}
 use Rattle.buffamap.specs.Forms.{hex_bytes, without_newline}
 use Rattle.buffamap.specs.Reply.{Reply, bad_input, done, fault, hex_line}
 
@@ -14,7 +14,7 @@ encoding_reply text = if nat_lt (length text) (2 ^ 31) then done (hex_line text)
 
 -- bytes that mean so and cost so much
 module _ {X : Type 0} (meant : Option X) (cost : BudgetLeft) where
-  -- their value is encoded, where the default budgets have the cost
+  -- their value is encoded, where the default budget have the cost
   abbrev pub IsEncoded : (X → List ℕ) → Reply → Type 0
   IsEncoded text reply =
       (v : X) × (meant ≡ Some v) × (Lacks defaults cost → ⊥) × (reply ≡ encoding_reply (text v))

@@ -2,7 +2,7 @@
 use Rattle.std.specs.Prelude.{◌≡◌, ℕ, ℤ, List, [], Option, Some, None, Result, Ok, Err}
 use Rattle.buffa_bytes.specs.declared.error.DecodeError.{DecodeError}
 use Rattle.buffa_bytes.specs.ErrorText.{decode_error_text}
-use Rattle.buffa_wire.specs.BudgetLeft.{BudgetLeft}
+use Rattle.buffa_wire.specs.BudgetLeft.{BudgetLeft, defaults}
 use Rattle.buffa_map.specs.Pairs.{SamePairs}
 use Rattle.buffa_map.specs.Run.{fold_entries, EntryRecord, run_of}
 use Rattle.buffamap.specs.Codecs.{int32_reading, string_reading}
@@ -10,14 +10,10 @@ use Rattle.buffamap.specs.Forms.{hex_bytes, without_newline}
 use Rattle.buffamap.specs.Lines.{InOrder, Pair, lines_of, same_key}
 use Rattle.buffamap.specs.Reply.{Reply, bad_input, done, fault}
 
--- what a budget starts with where no other is asked for
-abbrev pub default_left : BudgetLeft
-default_left = record { unknown = 1000000; memory = 268435456 }
-
 -- the entries of a run and what is over, or the first fault: map<string, int32>, 100 levels deep, an entry of
 -- 24 + 4 units, where none is kept
 abbrev pub run_from : ℕ → List ℕ → Result (List (EntryRecord (List ℕ) ℤ) × BudgetLeft) DecodeError
-run_from n bytes = run_of string_reading int32_reading 100 n 28 0 default_left bytes
+run_from n bytes = run_of string_reading int32_reading 100 n 28 0 defaults bytes
 
 -- these are the pairs of what the run means
 abbrev pub MeansRun : Result (List (EntryRecord (List ℕ) ℤ) × BudgetLeft) DecodeError → List Pair → Type 0

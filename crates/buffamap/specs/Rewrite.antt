@@ -8,7 +8,7 @@ use Rattle.std.specs.Ordering.{int_cmp, int_eq}
 use Rattle.buffa_bytes.specs.declared.error.DecodeError.{DecodeError}
 use Rattle.buffa_bytes.specs.declared.error.DecodeError.TheVariants as of_bytes
 use Rattle.buffa_bytes.specs.declared.error.EncodeError.TheVariants as of_text
-use Rattle.buffa_wire.specs.BudgetLeft.{BudgetLeft}
+use Rattle.buffa_wire.specs.BudgetLeft.{BudgetLeft, defaults}
 use Rattle.buffa_wire.specs.Enums.{Numbers, Refines}
 use Rattle.buffa_bytes.specs.ErrorText.{decode_error_text}
 use Rattle.buffa_map.specs.Codec.{Reading}
@@ -22,7 +22,6 @@ use Rattle.buffa_map.specs.declared.rewrite.RewriteError.TheVariants.{Decode, En
 use Rattle.buffamap.specs.Choice.{number_of, two_numbers}
 use Rattle.buffamap.specs.Codecs.{int32_reading, int32_writing}
 use Rattle.buffamap.specs.Forms.{hex_bytes, without_newline}
-use Rattle.buffamap.specs.Read.{default_left}
 use Rattle.buffamap.specs.Reply.{Reply, bad_input, done, fault, hex_line}
 use Rattle.buffamap.specs.declared.choice.Choice.{Choice}
 
@@ -40,7 +39,7 @@ choice_reading = closed_reading two_numbers
 -- the entries of a run and what is over, or the first fault: map<int32, E>, 100 levels deep, an entry of
 -- 4 + 4 units, and an unknown field for each that is kept
 abbrev pub run_from : ℕ → List ℕ → Result (List Entry × BudgetLeft) DecodeError
-run_from n bytes = run_of int32_reading choice_reading 100 n 8 1 default_left bytes
+run_from n bytes = run_of int32_reading choice_reading 100 n 8 1 defaults bytes
 
 -- what is seen of a map's entries
 abbrev pub pairs_of : List (ℤ × Choice) → List Pair

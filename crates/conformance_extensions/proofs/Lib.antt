@@ -1,2 +1,2 @@
 pub mod NormalLemmas
-pub mod Fronts
+pub mod FrontLemmas

@@ -1,9 +1,9 @@
 // Messages that are set and read in one call, where a test says at run time that they are read back.
 
 ghost use Rattle.std.specs.Prelude.{◌≡◌, map, IfOk, IsTrue, OnOk};
-ghost use Rattle.buffa_wire.specs.BudgetLeft.{Pays};
+ghost use Rattle.buffa_wire.specs.BudgetLeft.{Pays, defaults};
 ghost use Rattle.buffa_wire.specs.View.{datum_of};
-ghost use Rattle.buffa_codec.specs.Reading.{CoversAll, Each, full};
+ghost use Rattle.buffa_codec.specs.Reading.{CoversAll, Each};
 ghost use Rattle.conformance_extensions.specs.Normal.{IsNormal};
 
 use crate::back::set_then;
@@ -56,9 +56,9 @@ fn pay<C: SingularCodec>(alloc: Global, budget: &mut Budget, value: &C::Value) -
     }
 }
 
-// Spends what reading the records of a list costs, one after the other, of one pair of default budgets.
+// Spends what reading the records of a list costs, one after the other, of one default budget.
 fn pay_all<C: SingularCodec>(alloc: Global, values: &[C::Value]) -> Result<(), Fault>
-    ensures { OnOk result (CoversAll C.cost full (map C.datum (map C.Value.meaning values.now))) }
+    ensures { OnOk result (CoversAll C.cost defaults (map C.datum (map C.Value.meaning values.now))) }
 {
     let mut budget = Budget::new(DEFAULT_UNKNOWN_FIELD_LIMIT);
     for value in values {

@@ -47,7 +47,7 @@ fn take_into<B: Buf>(buf: &mut B, bytes: &mut [u8]) -> Result<(), DecodeError>
 /// [`EncodeError::OutOfMemory`] alone, after a beginning of the encoding.
 ///
 /// ```ignore
-/// encode_fixed32(*value, text)?; // 04 03 02 01 for 0x0102_0304
+/// encode_fixed32(*value, sink)?; // 04 03 02 01 for 0x0102_0304
 /// ```
 pub fn encode_fixed32<S: EncodeSink>(value: u32, sink: &mut S) -> Result<(), EncodeError>
     ensures writes { Writes result (S.written sink.old) (fixed32_encoding value) (S.written sink.new) }
@@ -81,7 +81,7 @@ pub fn decode_fixed32<B: Buf>(buf: &mut B) -> Result<u32, DecodeError>
 /// [`EncodeError::OutOfMemory`] alone, after a beginning of the encoding.
 ///
 /// ```ignore
-/// encode_fixed64(*value, text)?; // 08 07 06 05 04 03 02 01 for 0x0102_0304_0506_0708
+/// encode_fixed64(*value, sink)?; // 08 07 06 05 04 03 02 01 for 0x0102_0304_0506_0708
 /// ```
 pub fn encode_fixed64<S: EncodeSink>(value: u64, sink: &mut S) -> Result<(), EncodeError>
     ensures writes { Writes result (S.written sink.old) (fixed64_encoding value) (S.written sink.new) }
@@ -115,7 +115,7 @@ pub fn decode_fixed64<B: Buf>(buf: &mut B) -> Result<u64, DecodeError>
 /// [`EncodeError::OutOfMemory`] alone, after a beginning of the encoding.
 ///
 /// ```ignore
-/// encode_sfixed32(*value, text)?; // FE FF FF FF for -2
+/// encode_sfixed32(*value, sink)?; // FE FF FF FF for -2
 /// ```
 pub fn encode_sfixed32<S: EncodeSink>(value: i32, sink: &mut S) -> Result<(), EncodeError>
     ensures writes { Writes result (S.written sink.old) (sfixed32_encoding value) (S.written sink.new) }
@@ -149,7 +149,7 @@ pub fn decode_sfixed32<B: Buf>(buf: &mut B) -> Result<i32, DecodeError>
 /// [`EncodeError::OutOfMemory`] alone, after a beginning of the encoding.
 ///
 /// ```ignore
-/// encode_sfixed64(*value, text)?; // FE FF FF FF FF FF FF FF for -2
+/// encode_sfixed64(*value, sink)?; // FE FF FF FF FF FF FF FF for -2
 /// ```
 pub fn encode_sfixed64<S: EncodeSink>(value: i64, sink: &mut S) -> Result<(), EncodeError>
     ensures writes { Writes result (S.written sink.old) (sfixed64_encoding value) (S.written sink.new) }

@@ -35,7 +35,7 @@ pub fn int32_encoded_len(value: i32) -> usize
 /// [`EncodeError::OutOfMemory`] alone, after a beginning of the encoding.
 ///
 /// ```ignore
-/// encode_int32(*value, text)?; // FE FF FF FF FF FF FF FF FF 01 for -2
+/// encode_int32(*value, sink)?; // FE FF FF FF FF FF FF FF FF 01 for -2
 /// ```
 pub fn encode_int32<S: EncodeSink>(value: i32, sink: &mut S) -> Result<(), EncodeError>
     ensures writes { Writes result (S.written sink.old) (int32_encoding value) (S.written sink.new) }
@@ -80,7 +80,7 @@ pub fn int64_encoded_len(value: i64) -> usize
 /// [`EncodeError::OutOfMemory`] alone, after a beginning of the encoding.
 ///
 /// ```ignore
-/// encode_int64(*value, text)?; // FF FF FF FF FF FF FF FF FF 01 for -1
+/// encode_int64(*value, sink)?; // FF FF FF FF FF FF FF FF FF 01 for -1
 /// ```
 pub fn encode_int64<S: EncodeSink>(value: i64, sink: &mut S) -> Result<(), EncodeError>
     ensures writes { Writes result (S.written sink.old) (int64_encoding value) (S.written sink.new) }
@@ -124,7 +124,7 @@ pub fn uint32_encoded_len(value: u32) -> usize
 /// [`EncodeError::OutOfMemory`] alone, after a beginning of the encoding.
 ///
 /// ```ignore
-/// encode_uint32(*value, text)?; // 96 01 for 150
+/// encode_uint32(*value, sink)?; // 96 01 for 150
 /// ```
 pub fn encode_uint32<S: EncodeSink>(value: u32, sink: &mut S) -> Result<(), EncodeError>
     ensures writes { Writes result (S.written sink.old) (uint32_encoding value) (S.written sink.new) }
@@ -168,7 +168,7 @@ pub fn uint64_encoded_len(value: u64) -> usize
 /// [`EncodeError::OutOfMemory`] alone, after a beginning of the encoding.
 ///
 /// ```ignore
-/// encode_uint64(*value, text)?; // 96 01 for 150
+/// encode_uint64(*value, sink)?; // 96 01 for 150
 /// ```
 pub fn encode_uint64<S: EncodeSink>(value: u64, sink: &mut S) -> Result<(), EncodeError>
     ensures writes { Writes result (S.written sink.old) (uint64_encoding value) (S.written sink.new) }
@@ -211,7 +211,7 @@ pub fn sint32_encoded_len(value: i32) -> usize
 /// [`EncodeError::OutOfMemory`] alone, after a beginning of the encoding.
 ///
 /// ```ignore
-/// encode_sint32(*value, text)?; // 03 for -2
+/// encode_sint32(*value, sink)?; // 03 for -2
 /// ```
 pub fn encode_sint32<S: EncodeSink>(value: i32, sink: &mut S) -> Result<(), EncodeError>
     ensures writes { Writes result (S.written sink.old) (sint32_encoding value) (S.written sink.new) }
@@ -255,7 +255,7 @@ pub fn sint64_encoded_len(value: i64) -> usize
 /// [`EncodeError::OutOfMemory`] alone, after a beginning of the encoding.
 ///
 /// ```ignore
-/// encode_sint64(*value, text)?; // 03 for -2
+/// encode_sint64(*value, sink)?; // 03 for -2
 /// ```
 pub fn encode_sint64<S: EncodeSink>(value: i64, sink: &mut S) -> Result<(), EncodeError>
     ensures writes { Writes result (S.written sink.old) (sint64_encoding value) (S.written sink.new) }
@@ -291,7 +291,7 @@ pub const BOOL_ENCODED_LEN: usize = 1;
 /// [`EncodeError::OutOfMemory`] alone, after a beginning of the encoding.
 ///
 /// ```ignore
-/// encode_bool(*value, text)?; // 01 for true
+/// encode_bool(*value, sink)?; // 01 for true
 /// ```
 pub fn encode_bool<S: EncodeSink>(value: bool, sink: &mut S) -> Result<(), EncodeError>
     ensures writes { Writes result (S.written sink.old) (bool_encoding value) (S.written sink.new) }

@@ -34,7 +34,7 @@ pub fn string_encoded_len(value: &str) -> usize
 /// [`EncodeError::OutOfMemory`] alone, after a beginning of the encoding.
 ///
 /// ```ignore
-/// encode_string("testing", &mut text)?; // 07 74 65 73 74 69 6E 67
+/// encode_string("testing", &mut sink)?; // 07 74 65 73 74 69 6E 67
 /// ```
 #[inline(always)]
 pub fn encode_string<S: EncodeSink>(value: &str, sink: &mut S) -> Result<(), EncodeError>
@@ -94,7 +94,7 @@ pub fn bytes_encoded_len(value: &[u8]) -> usize
 /// [`EncodeError::OutOfMemory`] alone, after a beginning of the encoding.
 ///
 /// ```ignore
-/// encode_bytes(value.as_slice(), text)?; // 02 DE AD for DE AD
+/// encode_bytes(value.as_slice(), sink)?; // 02 DE AD for DE AD
 /// ```
 #[inline(always)]
 #[tactic(auto, using(crate::proofs::SinkLemmas::writes_then, crate::proofs::SinkLemmas::front_first, crate::proofs::SinkLemmas::room_then))]

@@ -201,7 +201,7 @@ impl MapCodec for BytesBuf {
 /// `bytes`, held as a type of one's own.
 ///
 /// ```ignore
-/// write_field::<Int32, ProtoBytesMap<Vec<u8>>, _, _>(&map, 5, &mut text)?;
+/// write_field::<Int32, ProtoBytesMap<Vec<u8>>, _, _>(&map, 5, &mut sink)?;
 /// ```
 pub struct ProtoBytesMap<T> {
     of: PhantomData<T>,

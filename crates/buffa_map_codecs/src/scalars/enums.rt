@@ -111,7 +111,7 @@ impl<E: Enumeration> MapCodec for ClosedEnum<E> {
 /// An open enum: any number, as the declared value where one has it.
 ///
 /// ```ignore
-/// write_field::<Int32, OpenEnum<Old>, _, _>(&map, 5, &mut text)?;
+/// write_field::<Int32, OpenEnum<Old>, _, _>(&map, 5, &mut sink)?;
 /// ```
 pub struct OpenEnum<E> {
     of: PhantomData<E>,

@@ -5,7 +5,7 @@ ghost use Rattle.buffa_bytes.specs.Left.{LeavesUnlessFull, past_no_payload};
 ghost use Rattle.buffa_bytes.specs.Gives.{FullOnlyIf, GivesUnlessFull};
 ghost use Rattle.buffa_wire.specs.BudgetLeft.{UnknownTaken, UnknownsSpent, budget_left};
 ghost use Rattle.buffa_wire.specs.Records.{records_of};
-ghost use Rattle.buffa_wire.specs.RecordReading.{GroupTakesMemory, ListTakesMemory, PayloadTakesMemory, TakesMemory, field_in, group_in, list_at, plain_at};
+ghost use Rattle.buffa_wire.specs.RecordReading.{GroupTakesMemory, ListTakesMemory, PayloadTakesMemory, RecordTakesMemory, field_in, group_in, list_at, plain_at};
 ghost use Rattle.buffa_bytes.specs.Unread.{IsTailOf, bytes_read};
 ghost use Rattle.buffa_wire.specs.View.{datum_of};
 
@@ -84,7 +84,7 @@ pub fn decode_unknown_field<B: Buf>(
 ) -> Result<UnknownField, DecodeError>
     ensures reads { GivesUnlessFull (λ f. (datum_of f.payload, (budget_left ctx.exit).unknown, B.unread buf.new)) result
         (field_in ctx.entry tag.number tag.wire_type (B.unread buf.old)) }
-    ensures full { FullOnlyIf result (TakesMemory ctx.entry.depth ctx.entry.budget.now.unknown tag.wire_type
+    ensures full { FullOnlyIf result (RecordTakesMemory ctx.entry.depth ctx.entry.budget.now.unknown tag.wire_type
         (B.unread buf.old)) }
     ensures number { IfOk result (λ f. f.number ≡ tag.number) }
     ensures memory { (budget_left ctx.exit).memory ≡ ctx.entry.budget.now.memory }
@@ -96,7 +96,7 @@ pub fn decode_unknown_field<B: Buf>(
     ensures no_unknown_stays { ctx.entry.budget.now.unknown ≡ 0 → B.unread buf.new ≡ B.unread buf.old }
     ensures left { tag.wire_type ≢ WireType.StartGroup → 0 < ctx.entry.budget.now.unknown →
         LeavesUnlessFull result (past_no_payload tag.wire_type (B.unread buf.old)) (B.unread buf.new) }
-    ensures slot { tag.wire_type ≢ WireType.StartGroup → tag.wire_type ≢ WireType.EndGroup → UnknownTaken
+    ensures counted { tag.wire_type ≢ WireType.StartGroup → tag.wire_type ≢ WireType.EndGroup → UnknownTaken
         ctx.entry.budget.now.unknown (budget_left ctx.exit).unknown }
     ensures deep_unknown { tag.wire_type ≡ WireType.StartGroup → ctx.entry.depth ≡ 0 → UnknownTaken
         ctx.entry.budget.now.unknown (budget_left ctx.exit).unknown }

@@ -21,7 +21,7 @@ impl UnknownFields {
     /// Source: the protobuf encoding guide, "Message Structure".
     ///
     /// ```ignore
-    /// fields.write_to(&mut text)?; // 38 96 01
+    /// fields.write_to(&mut sink)?; // 38 96 01
     /// ```
     #[cycle(write)]
     #[inline(never)]

@@ -1,7 +1,7 @@
 use Rattle.std.proofs.Common.{ap, arith, ◌∙◌, refl, sym}
 use Rattle.std.proofs.lemmas.Result.{err_from_is_err_and}
 use Rattle.buffa_bytes.proofs.FieldLemmas.{tag_falls, skip_falls, group_limit, group_tag_err, group_end, group_other, group_skip_err, group_next}
-use Rattle.buffa_bytes.proofs.LeftLemmas.{end_stays, fixed32_stays, fixed64_stays, left_behind_length, left_bytes, left_of_fixed, left_of_length, left_of_text, left_of_varint}
+use Rattle.buffa_bytes.proofs.LeftLemmas.{end_stays, fixed32_stays, fixed64_stays, left_behind_length, left_bytes, left_of_fixed, left_of_length, left_of_delimited, left_of_varint}
 use Rattle.buffa_bytes.proofs.TailLemmas.{tail_more, tail_whole}
 use Rattle.buffa_bytes.specs.Left.{past_no_payload}
 use Rattle.buffa_bytes.specs.declared.wire_type.WireType.TheVariants.{Fixed32, Fixed64}
@@ -61,7 +61,7 @@ skip_field_depth-returns-in-Fixed64-clause-left g t c = λ _.
 pub skip_field_depth-returns-in_ok-len-in-LengthDelimited-clause-left : goal.skip_field_depth-returns-in_ok-len-in-LengthDelimited-clause-left
 skip_field_depth-returns-in_ok-len-in-LengthDelimited-clause-left g t c = λ _.
     let r = c.skip_bytes-in-LengthDelimited.result in
-    left_of_text r c.args.tag.wire_type (g.B.Buf.unread c.args.buf.now) _ (sym c.in-LengthDelimited.ensures)
+    left_of_delimited r c.args.tag.wire_type (g.B.Buf.unread c.args.buf.now) _ (sym c.in-LengthDelimited.ensures)
     (left_behind_length r _ (g.B.Buf.unread c.args.buf.now) _ _ c.in_ok-len-in-LengthDelimited.ensures.reads c.skip_bytes-in-LengthDelimited.ensures.reads c.skip_bytes-in-LengthDelimited.ensures.short)
 
 pub skip_field_depth-returns-in-EndGroup-clause-left : goal.skip_field_depth-returns-in-EndGroup-clause-left

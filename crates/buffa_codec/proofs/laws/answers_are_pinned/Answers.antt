@@ -1,5 +1,6 @@
 use Rattle.std.proofs.Common.{refl, sym, ◌∙◌}
-use Rattle.buffa_codec.specs.Reading.{full, last_read}
+use Rattle.buffa_codec.specs.Reading.{last_read}
+use Rattle.buffa_wire.specs.BudgetLeft.{defaults}
 use Rattle.buffa_codec.proofs.PinLemmas.{lists_alike, lists_there}
 use Rattle.buffa_codec.proofs.laws.answers_are_pinned.Goals as goal
 
@@ -7,7 +8,7 @@ pub returns-clause-one : goal.returns-clause-one
 returns-clause-one g c = λ ds a b h k. h ∙ sym k
 
 pub returns-clause-there : goal.returns-clause-there
-returns-clause-there g c = λ ds. (last_read (g.C.SingularCodec.one 100 full) ds, refl)
+returns-clause-there g c = λ ds. (last_read (g.C.SingularCodec.one 100 defaults) ds, refl)
 
 pub returns-clause-lists : goal.returns-clause-lists
 returns-clause-lists g c = let t = g.C.SingularCodec in lists_alike (t.one 100) (t.leaves 100) t.packed g.met.C.LastWins.free

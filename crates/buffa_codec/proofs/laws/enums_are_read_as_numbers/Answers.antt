@@ -6,7 +6,7 @@ use Rattle.buffa_wire.specs.Enums.{open_number}
 use Rattle.buffa_wire.specs.Found.{varint_in}
 use Rattle.buffa_wire.specs.Records.{varint}
 use Rattle.buffa_codec.specs.Packed.{numbers_in}
-use Rattle.buffa_codec.proofs.Throughs.{lists_through, map_twice, option_twice, packed_through, reads_through}
+use Rattle.buffa_codec.proofs.ThroughLemmas.{lists_through, map_twice, option_twice, packed_through, reads_through}
 use Rattle.buffa_codec.proofs.laws.enums_are_read_as_numbers.Goals as goal
 
 pub returns-clause-reads : goal.returns-clause-reads

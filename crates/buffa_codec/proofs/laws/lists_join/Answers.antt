@@ -1,4 +1,4 @@
-use Rattle.buffa_codec.proofs.Joins.{list_splits, list_joins}
+use Rattle.buffa_codec.proofs.JoinLemmas.{list_splits, list_joins}
 use Rattle.buffa_codec.proofs.laws.lists_join.Goals as goal
 
 pub returns : goal.returns

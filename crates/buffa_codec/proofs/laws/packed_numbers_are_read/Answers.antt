@@ -1,4 +1,4 @@
-use Rattle.buffa_codec.proofs.Grammars.{packed_sound, packed_complete}
+use Rattle.buffa_codec.proofs.GrammarLemmas.{packed_sound, packed_complete}
 use Rattle.buffa_codec.proofs.laws.packed_numbers_are_read.Goals as goal
 
 pub returns : goal.returns

@@ -1,6 +1,6 @@
 use Rattle.std.proofs.Common.{sym, ap, ◌∙◌, option_map}
 use Rattle.buffa_wire.specs.View.{datum_of}
-use Rattle.buffa_codec.proofs.Takes.{takes_own, takes_value, takes_packed}
+use Rattle.buffa_codec.proofs.TakesLemmas.{takes_own, takes_value, takes_packed}
 use Rattle.buffa_codec.proofs.repeated.read_one.Goals as goal
 
 pub returns-in_err-v-clause-full : goal.returns-in_err-v-clause-full

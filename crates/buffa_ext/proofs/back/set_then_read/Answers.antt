@@ -1,6 +1,6 @@
 use Rattle.std.proofs.Common.{ap, ◌∙◌, subst, inr}
 use Rattle.buffa_codec.specs.Sub.{sub}
-use Rattle.buffa_codec.proofs.Filtered.{sub-set}
+use Rattle.buffa_codec.proofs.FilteredLemmas.{sub-set}
 use Rattle.buffa_ext.proofs.back.set_then_read.Goals as goal
 
 pub returns-clause-value : goal.returns-clause-value

@@ -1,4 +1,4 @@
-use Rattle.buffa_ext.proofs.Histories.{takes_out}
+use Rattle.buffa_ext.proofs.HistoryLemmas.{takes_out}
 use Rattle.buffa_ext.proofs.laws.clears_take_out.Goals as goal
 
 pub returns : goal.returns

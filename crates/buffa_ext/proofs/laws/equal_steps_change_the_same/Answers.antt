@@ -3,7 +3,7 @@ use Rattle.buffa_ext.specs.Changes.{change_of}
 use Rattle.buffa_ext.specs.contracts.steps.StepPartialEq.TheImpl.{ghosts}
 use Rattle.buffa_ext.specs.declared.steps.Step.{Step}
 use Rattle.buffa_ext.specs.declared.steps.Step.TheVariants.{Set, Clear}
-use Rattle.buffa_ext.proofs.EqualSteps.{steps_are, steps_told}
+use Rattle.buffa_ext.proofs.EqualStepLemmas.{steps_are, steps_told}
 use Rattle.buffa_ext.proofs.laws.equal_steps_change_the_same.Goals as goal
 
 told : (a b : Step) → (ghosts.eq a b ≡ true) ↔ (change_of a ≡ change_of b)

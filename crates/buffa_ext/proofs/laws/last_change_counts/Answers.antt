@@ -1,4 +1,4 @@
-use Rattle.buffa_ext.proofs.Histories.{sub-after}
+use Rattle.buffa_ext.proofs.HistoryLemmas.{sub-after}
 use Rattle.buffa_ext.proofs.laws.last_change_counts.Goals as goal
 
 pub returns : goal.returns

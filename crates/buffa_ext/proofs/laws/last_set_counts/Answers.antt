@@ -1,4 +1,4 @@
-use Rattle.buffa_codec.proofs.Filtered.{set-set, without-without}
+use Rattle.buffa_codec.proofs.FilteredLemmas.{set-set, without-without}
 use Rattle.buffa_ext.proofs.laws.last_set_counts.Goals as goal
 
 pub returns-clause-sets : goal.returns-clause-sets

@@ -1,4 +1,4 @@
-use Rattle.buffa_ext.proofs.Histories.{reads_history}
+use Rattle.buffa_ext.proofs.HistoryLemmas.{reads_history}
 use Rattle.buffa_ext.proofs.laws.reads_after_changes.Goals as goal
 
 pub returns : goal.returns

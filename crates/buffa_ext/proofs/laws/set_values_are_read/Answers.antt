@@ -1,5 +1,5 @@
 use Rattle.std.proofs.Common.{subst, ◌∙◌}
-use Rattle.buffa_ext.proofs.Histories.{sub-after}
+use Rattle.buffa_ext.proofs.HistoryLemmas.{sub-after}
 use Rattle.buffa_ext.proofs.laws.set_values_are_read.Goals as goal
 
 pub returns : goal.returns

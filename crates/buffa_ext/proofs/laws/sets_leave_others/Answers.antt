@@ -1,5 +1,5 @@
-use Rattle.buffa_codec.proofs.Filtered.{sub-set_other}
-use Rattle.buffa_ext.proofs.Histories.{stands_last}
+use Rattle.buffa_codec.proofs.FilteredLemmas.{sub-set_other}
+use Rattle.buffa_ext.proofs.HistoryLemmas.{stands_last}
 use Rattle.buffa_ext.proofs.laws.sets_leave_others.Goals as goal
 
 pub returns-clause-others : goal.returns-clause-others

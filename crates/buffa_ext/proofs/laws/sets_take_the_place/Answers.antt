@@ -1,5 +1,5 @@
-use Rattle.buffa_codec.proofs.Filtered.{sub-set}
-use Rattle.buffa_ext.proofs.Histories.{exactly_set, keeps_the_rest}
+use Rattle.buffa_codec.proofs.FilteredLemmas.{sub-set}
+use Rattle.buffa_ext.proofs.HistoryLemmas.{exactly_set, keeps_the_rest}
 use Rattle.buffa_ext.proofs.laws.sets_take_the_place.Goals as goal
 
 pub returns-clause-place : goal.returns-clause-place

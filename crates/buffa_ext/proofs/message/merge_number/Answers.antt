@@ -1,6 +1,6 @@
 use Rattle.std.proofs.Common.{◌∙◌, ap}
 use Rattle.buffa_wire.specs.View.{records_in}
-use Rattle.buffa_ext.proofs.Merges.{one_more, passed_over, stops_here}
+use Rattle.buffa_ext.proofs.MergeLemmas.{one_more, passed_over, stops_here}
 use Rattle.buffa_ext.proofs.message.merge_number.Goals.{then-field-number+in-Ok, else-field-number}
 use Rattle.buffa_ext.proofs.message.merge_number.Goals as goal
 
@@ -9,7 +9,7 @@ returns-in-Err g c =
     stops_here g.K.MessageRecord.held c.args.number c.as_slice-field-items.result.now c.loop-field.field-index c.field-item.result c.loop-field-test.true c.field-item.is
     (g.M.MessageSpec.merged 100) (g.M.MessageSpec.cost 100) (g.M.Blank.meaning c.args.message.now) (g.M.Blank.meaning c.loop-field.message) c.args.budget.now c.loop-field.budget c.loop-field.found c.loop-field.invariant
     (g.K.MessageRecord.takes 100) (g.M.Blank.meaning c.merge_in.new.message) c.merge_in.new.ctx.1.0 c.in-Err.error c.args.fields.now.records c.if-field-number.true
-    (ap records_in c.as_slice-field-items.ensures.value ∙ c.iter.ensures) c.in-Err.ensures.merged c.in-Err.ensures.text c.in-Err.ensures.full
+    (ap records_in c.as_slice-field-items.ensures.value ∙ c.iter.ensures) c.in-Err.ensures.merged c.in-Err.ensures.encoding c.in-Err.ensures.full
 
 pub loop-field-preserved : goal.loop-field-preserved
 loop-field-preserved g c =

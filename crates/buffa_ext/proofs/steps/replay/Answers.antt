@@ -1,6 +1,6 @@
 use Rattle.std.proofs.Common.{◌∷◌, [], ◌++◌, sym, ap, ◌∙◌, append_assoc, arith, length-append}
 use Rattle.buffa_ext.specs.Changes.{change_of}
-use Rattle.buffa_ext.proofs.Replays.{replay_refused, replays_one_more, room_of_front, room_one_more}
+use Rattle.buffa_ext.proofs.ReplayLemmas.{replay_refused, replays_one_more, room_of_front, room_one_more}
 use Rattle.buffa_ext.proofs.steps.replay.Goals as goal
 
 pub loop-step-preserved : goal.loop-step-preserved

@@ -1,8 +1,8 @@
-use Rattle.buffa_fields.specs.ListLaws.{text_none, write_more, write_stops}
+use Rattle.buffa_fields.specs.ListLaws.{encoding_none, write_more, write_stops}
 use Rattle.buffa_fields.proofs.list.write_elements.Goals as goal
 
 pub loop-value-init : goal.loop-value-init
-loop-value-init g c = text_none g.C.Kind.datum c.args.number (g.S.EncodeSink.written c.args.sink.now)
+loop-value-init g c = encoding_none g.C.Kind.datum c.args.number (g.S.EncodeSink.written c.args.sink.now)
 
 pub loop-value-preserved : goal.loop-value-preserved
 loop-value-preserved g c =

@@ -2,4 +2,4 @@ use Rattle.buffa_map_base.proofs.NeedLemmas.{entry_limited}
 use Rattle.buffa_map.proofs.map_laws.limits_are_told_where_needs_are_not_left.Goals as goal
 
 pub returns : goal.returns
-returns g c d cost slot left bs f h l = entry_limited g.KC.MapValueDecode.reading g.VC.MapValueDecode.reading d g.met.KC.MapValueDecode.no_limit g.met.VC.MapValueDecode.no_limit cost slot left bs f h l
+returns g c d cost extra left bs f h l = entry_limited g.KC.MapValueDecode.reading g.VC.MapValueDecode.reading d g.met.KC.MapValueDecode.no_limit g.met.VC.MapValueDecode.no_limit cost extra left bs f h l

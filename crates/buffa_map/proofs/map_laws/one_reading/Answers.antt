@@ -22,10 +22,10 @@ returns g c = record {
       let b = inner_needs key val d fs in
       let both : BudgetLeft = plus a b in
       ap (λ z. z.0) (ok_same (sym (run_complete key val d n 0 0 key_free val_free both bs es b h (omega arith, omega arith)) ∙ run_complete key val d n 0 0 key_free val_free both bs fs a k (omega arith, omega arith)));
-  run_or_fault = λ d n cost slot left over bs es f h paid k.
+  run_or_fault = λ d n cost extra left over bs es f h paid k.
       let key = g.KC.MapValueDecode.reading in
       let val = g.VC.MapValueDecode.reading in
       let key_free = g.met.KC.MapValueDecode.free in
       let val_free = g.met.VC.MapValueDecode.free in
-      ok_no_err (sym (run_complete key val d n cost slot key_free val_free left bs es over h paid) ∙ (run_faulty key val d n cost slot key_free val_free left bs f k).1);
+      ok_no_err (sym (run_complete key val d n cost extra key_free val_free left bs es over h paid) ∙ (run_faulty key val d n cost extra key_free val_free left bs f k).1);
 }

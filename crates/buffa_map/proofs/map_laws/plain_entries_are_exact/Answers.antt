@@ -3,8 +3,8 @@ use Rattle.buffa_map_base.specs.Merge.{rules}
 use Rattle.buffa_map.proofs.map_laws.plain_entries_are_exact.Goals as goal
 
 pub returns : goal.returns
-returns g c same ordered d n cost slot adds old bytes new =
-    let r = rules g.KC.MapValueDecode.reading g.VC.MapValueDecode.reading same ordered d n cost slot adds in
+returns g c same ordered d n cost extra adds old bytes new =
+    let r = rules g.KC.MapValueDecode.reading g.VC.MapValueDecode.reading same ordered d n cost extra adds in
     let need = c.plain_entries_need_units.ensures.entry (g.met.KC.MapCodec.plain, g.met.VC.MapCodec.plain) d cost in
     let inner = c.plain_entries_need_units.ensures.front (g.met.KC.MapCodec.plain, g.met.VC.MapCodec.plain) d bytes in
     (λ rest. exact_merge r need old bytes new rest, λ rest f. exact_refusal r need old bytes inner new rest f)

@@ -3,5 +3,5 @@ use Rattle.buffa_map.proofs.PinLemmas.{entry_is_pinned}
 use Rattle.buffa_map.proofs.pin_laws.entries_are_pinned.Goals as goal
 
 pub returns : goal.returns
-returns g c same ordered d n cost slot adds =
-    entry_is_pinned (rules g.KC.MapValueDecode.reading g.VC.MapValueDecode.reading same ordered d n cost slot adds) g.met.KC.MapValueDecode.free g.met.VC.MapValueDecode.free
+returns g c same ordered d n cost extra adds =
+    entry_is_pinned (rules g.KC.MapValueDecode.reading g.VC.MapValueDecode.reading same ordered d n cost extra adds) g.met.KC.MapValueDecode.free g.met.VC.MapValueDecode.free

@@ -16,16 +16,16 @@ use Rattle.buffa_map_write.proofs.message_size.message_field_len_by.Goals as goa
 pub loop-key-init : goal.loop-key-init
 loop-key-init g c =
     let m = means g.KC.Value.Blank.meaning g.M.Blank.meaning in
-    let text = g.M.MessageSpec.encoding in
+    let encoding = g.M.MessageSpec.encoding in
     let same : m (g.C.MapWalk.left c.into_iter-key-iterator.result) ≡ g.C.StableOrder.walk c.args.map.now =
     ap (λ z. m (g.C.MapWalk.left z)) c.into_iter-key-iterator.ensures.into_iter_gives ∙ g.met.C.StableOrder.stable c.args.map.now (m (g.C.MapWalk.left c.storage_iter-key-items.result)) c.storage_iter-key-items.ensures.walk in
     record {
       within = ([], sym same);
-      capped = ap (λ l. cap (0 + field_size g.KC.MapCodec.writing (delimited_writing text) c.args.outer_tag_len l)) same ∙ ap cap (omega arith);
-      exact = λ h. (subst (λ l. IsSmallField g.KC.MapCodec.writing text l) (sym same) h, ap (λ l. saturated (0 + field_size g.KC.MapCodec.writing (delimited_writing text) c.args.outer_tag_len l)) same ∙ ap saturated (omega arith));
+      capped = ap (λ l. cap (0 + field_size g.KC.MapCodec.writing (delimited_writing encoding) c.args.outer_tag_len l)) same ∙ ap cap (omega arith);
+      exact = λ h. (subst (λ l. IsSmallField g.KC.MapCodec.writing encoding l) (sym same) h, ap (λ l. saturated (0 + field_size g.KC.MapCodec.writing (delimited_writing encoding) c.args.outer_tag_len l)) same ∙ ap saturated (omega arith));
       bound = omega arith;
-      cache = ap (λ z. appended (field_slots text g.M.MessageSpec.slots (m (g.C.MapWalk.left c.into_iter-key-iterator.result))) z) c.make_room.ensures.slots
-          ∙ ap (λ l. appended (field_slots text g.M.MessageSpec.slots l) c.args.cache.now) same;
+      cache = ap (λ z. appended (field_slots encoding g.M.MessageSpec.slots (m (g.C.MapWalk.left c.into_iter-key-iterator.result))) z) c.make_room.ensures.slots
+          ∙ ap (λ l. appended (field_slots encoding g.M.MessageSpec.slots l) c.args.cache.now) same;
       longer = ([], c.make_room.ensures.slots ∙ sym (appended_none c.args.cache.now));
     }
 
@@ -70,7 +70,7 @@ returns-in_err-inner-clause-sized g c =
 pub loop-key-preserved : goal.loop-key-preserved
 loop-key-preserved g c =
     let key = g.KC.MapCodec.writing in
-    let text = g.M.MessageSpec.encoding in
+    let encoding = g.M.MessageSpec.encoding in
     let slots = g.M.MessageSpec.slots in
     let i = c.loop-key.invariant in
     let p : g.row.KC-Value.Denot × g.row.M.Denot = (c.in-Some.key.now, c.in-Some.value.now) in
@@ -85,21 +85,21 @@ loop-key-preserved g c =
     let s = c.requires.keeps _ _ _ _ h c.size.ensures in
     let t = rw c.in_ok-inner.was at s in
     let added = slots_step _ _ _ _ _ _ _ c.in_ok-slot.ensures.place c.in_ok-slot.ensures.ok t.1 c.set.ensures in
-    let left = field_size key (delimited_writing text) c.args.outer_tag_len rest in
+    let left = field_size key (delimited_writing encoding) c.args.outer_tag_len rest in
     record {
       within = onward m rest all i.within.0 e;
-      capped = size_capped key text m c.in_ok-inner.inner t.0 c.args.outer_tag_len c.loop-key.total left c.message_record_len.result c.saturating_add-total.result c.message_record_len.ensures c.saturating_add-total.ensures
-          ∙ ap (λ l. cap (c.loop-key.total + field_size key (delimited_writing text) c.args.outer_tag_len l)) (sym n) ∙ i.capped;
+      capped = size_capped key encoding m c.in_ok-inner.inner t.0 c.args.outer_tag_len c.loop-key.total left c.message_record_len.result c.saturating_add-total.result c.message_record_len.ensures c.saturating_add-total.ensures
+          ∙ ap (λ l. cap (c.loop-key.total + field_size key (delimited_writing encoding) c.args.outer_tag_len l)) (sym n) ∙ i.capped;
       exact = λ small.
-          let o : IsSmallField key text now = (i.exact small).0 in
-          let u : IsSmallField key text (m ∷ rest) = subst (λ l. IsSmallField key text l) n o in (
+          let o : IsSmallField key encoding now = (i.exact small).0 in
+          let u : IsSmallField key encoding (m ∷ rest) = subst (λ l. IsSmallField key encoding l) n o in (
             u.1,
-            size_exact key text m c.in_ok-inner.inner t.0 c.args.outer_tag_len c.loop-key.total left c.message_record_len.result c.saturating_add-total.result c.message_record_len.ensures c.saturating_add-total.ensures u.0.0 u.0.1
-                ∙ ap (λ l. saturated (c.loop-key.total + field_size key (delimited_writing text) c.args.outer_tag_len l)) (sym n) ∙ (i.exact small).1,
+            size_exact key encoding m c.in_ok-inner.inner t.0 c.args.outer_tag_len c.loop-key.total left c.message_record_len.result c.saturating_add-total.result c.message_record_len.ensures c.saturating_add-total.ensures u.0.0 u.0.1
+                ∙ ap (λ l. saturated (c.loop-key.total + field_size key (delimited_writing encoding) c.args.outer_tag_len l)) (sym n) ∙ (i.exact small).1,
           );
-      cache = appended_twice _ (field_slots text slots rest) _ _ added
-          ∙ ap (λ (x : ℕ). appended (x ∷ slots m.1 ++ field_slots text slots rest) c.loop-key.cache) t.0
-          ∙ ap (λ l. appended (field_slots text slots l) c.loop-key.cache) (sym n) ∙ i.cache;
+      cache = appended_twice _ (field_slots encoding slots rest) _ _ added
+          ∙ ap (λ (x : ℕ). appended (x ∷ slots m.1 ++ field_slots encoding slots rest) c.loop-key.cache) t.0
+          ∙ ap (λ l. appended (field_slots encoding slots l) c.loop-key.cache) (sym n) ∙ i.cache;
       bound = omega (arith, c.saturating_add-total.ensures);
       longer = longer_twice _ _ _ _ i.longer added;
     }
@@ -107,15 +107,15 @@ loop-key-preserved g c =
 pub returns-clause-sized : goal.returns-clause-sized
 returns-clause-sized g c =
     let key = g.KC.MapCodec.writing in
-    let text = g.M.MessageSpec.encoding in
+    let encoding = g.M.MessageSpec.encoding in
     let slots = g.M.MessageSpec.slots in
     let i = c.loop-key.invariant in
     let step = c.storage_iter-key-items.ensures.steps c.loop-key.key-iterator None c.next.new.self c.in-None.ensures.steps in
     let now : List (g.row.KC-Value-Meaning.Denot × g.row.M-Meaning.Denot) = means g.KC.Value.Blank.meaning g.M.Blank.meaning (g.C.MapWalk.left c.loop-key.key-iterator) in
     let n : now ≡ [] = ap (λ (z : List (g.row.KC-Value.Denot × g.row.M.Denot)). means g.KC.Value.Blank.meaning g.M.Blank.meaning z) step.0 in (
-      ap cap (omega arith) ∙ ap (λ l. cap (c.loop-key.total + field_size key (delimited_writing text) c.args.outer_tag_len l)) (sym n) ∙ i.capped,
-      λ small. omega (arith, i.bound) ∙ ap (λ l. saturated (c.loop-key.total + field_size key (delimited_writing text) c.args.outer_tag_len l)) (sym n) ∙ (i.exact small).1,
-      sym (appended_none c.loop-key.cache) ∙ ap (λ l. appended (field_slots text slots l) c.loop-key.cache) (sym n) ∙ i.cache,
+      ap cap (omega arith) ∙ ap (λ l. cap (c.loop-key.total + field_size key (delimited_writing encoding) c.args.outer_tag_len l)) (sym n) ∙ i.capped,
+      λ small. omega (arith, i.bound) ∙ ap (λ l. saturated (c.loop-key.total + field_size key (delimited_writing encoding) c.args.outer_tag_len l)) (sym n) ∙ (i.exact small).1,
+      sym (appended_none c.loop-key.cache) ∙ ap (λ l. appended (field_slots encoding slots l) c.loop-key.cache) (sym n) ∙ i.cache,
     )
 
 pub returns-in_err-slot-clause-some : goal.returns-in_err-slot-clause-some

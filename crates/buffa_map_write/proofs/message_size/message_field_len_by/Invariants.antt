@@ -11,15 +11,15 @@ use Rattle.buffa_map_write.proofs.message_size.message_field_len_by.Given as goa
 abbrev pub invariant-loop-key : goal.invariant-loop-key
 invariant-loop-key g l =
     let key = g.KC.MapCodec.writing in
-    let text = g.M.MessageSpec.encoding in
+    let encoding = g.M.MessageSpec.encoding in
     let slots = g.M.MessageSpec.slots in
     let all = g.C.StableOrder.walk l.map in
     let rest = means g.KC.Value.Blank.meaning g.M.Blank.meaning (g.C.MapWalk.left l.key-iterator) in
     record {
       within : (done : List (g.row.KC-Value-Meaning.Denot × g.row.M-Meaning.Denot)) × (all ≡ done ++ rest);
-      capped : cap (l.total + field_size key (delimited_writing text) l.outer_tag_len rest) ≡ cap (field_size key (delimited_writing text) l.outer_tag_len all);
-      exact : IsSmallField key text all → IsSmallField key text rest × (saturated (l.total + field_size key (delimited_writing text) l.outer_tag_len rest) ≡ saturated (field_size key (delimited_writing text) l.outer_tag_len all));
-      cache : appended (field_slots text slots rest) l.cache ≡ appended (field_slots text slots all) l.fn.cache;
+      capped : cap (l.total + field_size key (delimited_writing encoding) l.outer_tag_len rest) ≡ cap (field_size key (delimited_writing encoding) l.outer_tag_len all);
+      exact : IsSmallField key encoding all → IsSmallField key encoding rest × (saturated (l.total + field_size key (delimited_writing encoding) l.outer_tag_len rest) ≡ saturated (field_size key (delimited_writing encoding) l.outer_tag_len all));
+      cache : appended (field_slots encoding slots rest) l.cache ≡ appended (field_slots encoding unknown_fields all) l.fn.cache;
       bound : l.total < 2 ^ 64;
       longer : IsLonger l.fn.cache l.cache;
     }

@@ -16,21 +16,21 @@ pub loop-key-init : goal.loop-key-init
 loop-key-init g c =
     let key = g.KC.MapCodec.writing in
     let m = means g.KC.Value.Blank.meaning g.M.Blank.meaning in
-    let text = g.M.MessageSpec.encoding in
+    let encoding = g.M.MessageSpec.encoding in
     let slots = g.M.MessageSpec.slots in
     let written = g.S.EncodeSink.written in
     let same : m (g.C.MapWalk.left c.into_iter-key-iterator.result) ≡ g.C.StableOrder.walk c.args.map.now =
     ap (λ z. m (g.C.MapWalk.left z)) c.into_iter-key-iterator.ensures.into_iter_gives ∙ g.met.C.StableOrder.stable c.args.map.now (m (g.C.MapWalk.left c.storage_iter-key-items.result)) c.storage_iter-key-items.ensures.walk in
     record {
       within = ([], sym same);
-      next = subst (λ l. IsNext (field_slots text slots l) c.args.cache.now) (sym same) c.requires.next;
-      whole = λ r d b h. subst (λ l. IsFieldWritten key text slots c.args.field_number l c.args.cache.now (written c.args.sink.now) r d b) same h;
+      next = subst (λ l. IsNext (field_slots encoding slots l) c.args.cache.now) (sym same) c.requires.next;
+      whole = λ r d b h. subst (λ l. IsFieldWritten key encoding slots c.args.field_number l c.args.cache.now (written c.args.sink.now) r d b) same h;
       spare = λ keeps small. omega arith;
     }
 
 pub write_message_record_by-requires-clause-next : goal.write_message_record_by-requires-clause-next
 write_message_record_by-requires-clause-next g c =
-    let text = g.M.MessageSpec.encoding in
+    let encoding = g.M.MessageSpec.encoding in
     let slots = g.M.MessageSpec.slots in
     let i = c.loop-key.invariant in
     let p : g.row.KC-Value.Denot × g.row.M.Denot = (c.in-Some.key.now, c.in-Some.value.now) in
@@ -39,7 +39,7 @@ write_message_record_by-requires-clause-next g c =
     let now : List (g.row.KC-Value-Meaning.Denot × g.row.M-Meaning.Denot) = means g.KC.Value.Blank.meaning g.M.Blank.meaning (g.C.MapWalk.left c.loop-key.key-iterator) in
     let step : g.C.MapWalk.left c.loop-key.key-iterator ≡ p ∷ g.C.MapWalk.left c.next.new.self = c.storage_iter-key-items.ensures.steps c.loop-key.key-iterator (Some (c.in-Some.key, c.in-Some.value)) c.next.new.self c.in-Some.ensures.steps in
     let n : now ≡ m ∷ rest = ap (λ (z : List (g.row.KC-Value.Denot × g.row.M.Denot)). means g.KC.Value.Blank.meaning g.M.Blank.meaning z) step in
-    next_front (cap (length (text m.1)) ∷ slots m.1) (field_slots text slots rest) c.loop-key.cache (subst (λ l. IsNext (field_slots text slots l) c.loop-key.cache) n i.next)
+    next_front (cap (length (encoding m.1)) ∷ slots m.1) (field_slots encoding slots rest) c.loop-key.cache (subst (λ l. IsNext (field_slots encoding slots l) c.loop-key.cache) n i.next)
 
 pub write_message_record_by-requires-clause-may : goal.write_message_record_by-requires-clause-may
 write_message_record_by-requires-clause-may g c =
@@ -66,7 +66,7 @@ write_message_record_by-requires-clause-keeps g c =
 pub loop-key-preserved : goal.loop-key-preserved
 loop-key-preserved g c =
     let key = g.KC.MapCodec.writing in
-    let text = g.M.MessageSpec.encoding in
+    let encoding = g.M.MessageSpec.encoding in
     let slots = g.M.MessageSpec.slots in
     let written = g.S.EncodeSink.written in
     let i = c.loop-key.invariant in
@@ -78,18 +78,18 @@ loop-key-preserved g c =
     let n : now ≡ m ∷ rest = ap (λ (z : List (g.row.KC-Value.Denot × g.row.M.Denot)). means g.KC.Value.Blank.meaning g.M.Blank.meaning z) step in
     let e = i.within.1 ∙ ap (λ (z : List (g.row.KC-Value-Meaning.Denot × g.row.M-Meaning.Denot)). i.within.0 ++ z) n in
     let w = rw c.in_ok-write_message_record_by.was at c.write_message_record_by.ensures.written in
-    let slot = cap (length (text m.1)) ∷ slots m.1 in
+    let slot = cap (length (encoding m.1)) ∷ slots m.1 in
     let number = c.args.field_number in
     record {
       within = (i.within.0 ++ m ∷ [], e ∙ sym (append_assoc i.within.0 (m ∷ []) rest));
-      next = subst (λ d. IsNext (field_slots text slots rest) d) (sym w.2.0) (next_past slot (field_slots text slots rest) c.loop-key.cache (subst (λ l. IsNext (field_slots text slots l) c.loop-key.cache) n i.next));
+      next = subst (λ d. IsNext (field_slots encoding slots rest) d) (sym w.2.0) (next_past slot (field_slots encoding slots rest) c.loop-key.cache (subst (λ l. IsNext (field_slots encoding slots l) c.loop-key.cache) n i.next));
       whole = λ r d b h. i.whole r d b
-          (subst (λ l. IsFieldWritten key text slots number l c.loop-key.cache (written c.loop-key.sink) r d b) (sym n)
-          (written_then (IsSmallPair key text m) (IsSmallField key text rest) (IsSmallField key text (m ∷ rest)) (record_encoding key (delimited_writing text) number m) (field_encoding key (delimited_writing text) number rest) slot (field_slots text slots rest)
+          (subst (λ l. IsFieldWritten key encoding slots number l c.loop-key.cache (written c.loop-key.sink) r d b) (sym n)
+          (written_then (IsSmallPair key encoding m) (IsSmallField key encoding rest) (IsSmallField key encoding (m ∷ rest)) (record_encoding key (delimited_writing encoding) number m) (field_encoding key (delimited_writing encoding) number rest) slot (field_slots encoding slots rest)
           c.loop-key.cache c.write_message_record_by.new.cache d (written c.loop-key.sink) (written c.write_message_record_by.new.sink) b (λ z. z) r w h));
       spare = λ keeps small.
-          let one = c.in_ok-write_message_record_by.ensures.room keeps (small_at key text (g.C.StableOrder.walk c.args.map.now) i.within.0 m rest e small) in
-          room_more key (delimited_writing text) number _ _ _ i.within.0 m (i.spare keeps small) one;
+          let one = c.in_ok-write_message_record_by.ensures.room keeps (small_at key encoding (g.C.StableOrder.walk c.args.map.now) i.within.0 m rest e small) in
+          room_more key (delimited_writing encoding) number _ _ _ i.within.0 m (i.spare keeps small) one;
     }
 
 pub returns-in_err-write_message_record_by-clause-some : goal.returns-in_err-write_message_record_by-clause-some
@@ -107,7 +107,7 @@ pub returns-in_err-write_message_record_by-clause-written : goal.returns-in_err-
 returns-in_err-write_message_record_by-clause-written g c =
     let q = err_from_is_err_and c.from_residual.result c.from_residual.ensures.1 in
     let key = g.KC.MapCodec.writing in
-    let text = g.M.MessageSpec.encoding in
+    let encoding = g.M.MessageSpec.encoding in
     let slots = g.M.MessageSpec.slots in
     let written = g.S.EncodeSink.written in
     let i = c.loop-key.invariant in
@@ -118,35 +118,35 @@ returns-in_err-write_message_record_by-clause-written g c =
     let step : g.C.MapWalk.left c.loop-key.key-iterator ≡ p ∷ g.C.MapWalk.left c.next.new.self = c.storage_iter-key-items.ensures.steps c.loop-key.key-iterator (Some (c.in-Some.key, c.in-Some.value)) c.next.new.self c.in-Some.ensures.steps in
     let n : now ≡ m ∷ rest = ap (λ (z : List (g.row.KC-Value.Denot × g.row.M.Denot)). means g.KC.Value.Blank.meaning g.M.Blank.meaning z) step in
     let w = rw c.in_err-write_message_record_by.was at c.write_message_record_by.ensures.written in
-    let slot = cap (length (text m.1)) ∷ slots m.1 in
+    let slot = cap (length (encoding m.1)) ∷ slots m.1 in
     let number = c.args.field_number in
     let r = c.from_residual.result in
     let c2 = c.write_message_record_by.new.cache in
     let b2 = written c.write_message_record_by.new.sink in
     i.whole r c2 b2
-    (subst (λ l. IsFieldWritten key text slots number l c.loop-key.cache (written c.loop-key.sink) r c2 b2) (sym n)
-    (written_err (IsSmallField key text (m ∷ rest)) (field_encoding key (delimited_writing text) number (m ∷ rest)) (field_slots text slots (m ∷ rest)) c.loop-key.cache c2 (written c.loop-key.sink) b2 r _ _ q.1 q.2
-    (written_short (IsSmallPair key text m) (IsSmallField key text rest) (IsSmallField key text (m ∷ rest)) (record_encoding key (delimited_writing text) number m) (field_encoding key (delimited_writing text) number rest) slot (field_slots text slots rest)
+    (subst (λ l. IsFieldWritten key encoding slots number l c.loop-key.cache (written c.loop-key.sink) r c2 b2) (sym n)
+    (written_err (IsSmallField key encoding (m ∷ rest)) (field_encoding key (delimited_writing encoding) number (m ∷ rest)) (field_slots encoding slots (m ∷ rest)) c.loop-key.cache c2 (written c.loop-key.sink) b2 r _ _ q.1 q.2
+    (written_short (IsSmallPair key encoding m) (IsSmallField key encoding rest) (IsSmallField key encoding (m ∷ rest)) (record_encoding key (delimited_writing encoding) number m) (field_encoding key (delimited_writing encoding) number rest) slot (field_slots encoding slots rest)
     c.loop-key.cache c2 c2 (written c.loop-key.sink) b2 b2 (λ z. z.0) _ w)))
 
 pub returns-clause-written : goal.returns-clause-written
 returns-clause-written g c =
     let key = g.KC.MapCodec.writing in
-    let text = g.M.MessageSpec.encoding in
+    let encoding = g.M.MessageSpec.encoding in
     let slots = g.M.MessageSpec.slots in
     let written = g.S.EncodeSink.written in
     let step = c.storage_iter-key-items.ensures.steps c.loop-key.key-iterator None c.next.new.self c.in-None.ensures.steps in
     let now : List (g.row.KC-Value-Meaning.Denot × g.row.M-Meaning.Denot) = means g.KC.Value.Blank.meaning g.M.Blank.meaning (g.C.MapWalk.left c.loop-key.key-iterator) in
     let n : now ≡ [] = ap (λ (z : List (g.row.KC-Value.Denot × g.row.M.Denot)). means g.KC.Value.Blank.meaning g.M.Blank.meaning z) step.0 in
     c.loop-key.invariant.whole done c.loop-key.cache (written c.loop-key.sink)
-    (subst (λ l. IsFieldWritten key text slots c.args.field_number l c.loop-key.cache (written c.loop-key.sink) done c.loop-key.cache (written c.loop-key.sink)) (sym n)
-    (written_none (IsSmallField key text []) c.loop-key.cache (written c.loop-key.sink)))
+    (subst (λ l. IsFieldWritten key encoding slots c.args.field_number l c.loop-key.cache (written c.loop-key.sink) done c.loop-key.cache (written c.loop-key.sink)) (sym n)
+    (written_none (IsSmallField key encoding []) c.loop-key.cache (written c.loop-key.sink)))
 
 pub returns-in_err-write_message_record_by-clause-room : goal.returns-in_err-write_message_record_by-clause-room
 returns-in_err-write_message_record_by-clause-room g c keeps small =
     let q = err_from_is_err_and c.from_residual.result c.from_residual.ensures.1 in
     let key = g.KC.MapCodec.writing in
-    let text = g.M.MessageSpec.encoding in
+    let encoding = g.M.MessageSpec.encoding in
     let i = c.loop-key.invariant in
     let p : g.row.KC-Value.Denot × g.row.M.Denot = (c.in-Some.key.now, c.in-Some.value.now) in
     let m : g.row.KC-Value-Meaning.Denot × g.row.M-Meaning.Denot = mean g.KC.Value.Blank.meaning g.M.Blank.meaning p in
@@ -154,14 +154,14 @@ returns-in_err-write_message_record_by-clause-room g c keeps small =
     let step : g.C.MapWalk.left c.loop-key.key-iterator ≡ p ∷ g.C.MapWalk.left c.next.new.self = c.storage_iter-key-items.ensures.steps c.loop-key.key-iterator (Some (c.in-Some.key, c.in-Some.value)) c.next.new.self c.in-Some.ensures.steps in
     let e = i.within.1 ∙ ap (λ (z : List (g.row.KC-Value.Denot × g.row.M.Denot)). i.within.0 ++ means g.KC.Value.Blank.meaning g.M.Blank.meaning z) step in
     let all = g.C.StableOrder.walk c.args.map.now in
-    let one = c.in_err-write_message_record_by.ensures.room keeps (small_at key text all i.within.0 m rest e small) in
-    rw q.1 (omega (arith, i.spare keeps small, one, field_encoding-parts key (delimited_writing text) c.args.field_number all i.within.0 m rest e))
+    let one = c.in_err-write_message_record_by.ensures.room keeps (small_at key encoding all i.within.0 m rest e small) in
+    rw q.1 (omega (arith, i.spare keeps small, one, field_encoding-parts key (delimited_writing encoding) c.args.field_number all i.within.0 m rest e))
 
 pub returns-clause-room : goal.returns-clause-room
 returns-clause-room g c keeps small =
     let key = g.KC.MapCodec.writing in
-    let text = g.M.MessageSpec.encoding in
+    let encoding = g.M.MessageSpec.encoding in
     let i = c.loop-key.invariant in
     let step = c.storage_iter-key-items.ensures.steps c.loop-key.key-iterator None c.next.new.self c.in-None.ensures.steps in
     let whole = i.within.1 ∙ ap (λ (z : List (g.row.KC-Value.Denot × g.row.M.Denot)). i.within.0 ++ means g.KC.Value.Blank.meaning g.M.Blank.meaning z) step.0 ∙ append-nil i.within.0 in
-    omega (arith, i.spare keeps small, ap (λ z. length (field_encoding key (delimited_writing text) c.args.field_number z)) whole)
+    omega (arith, i.spare keeps small, ap (λ z. length (field_encoding key (delimited_writing encoding) c.args.field_number z)) whole)

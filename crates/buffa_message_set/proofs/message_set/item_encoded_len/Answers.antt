@@ -4,8 +4,8 @@ use Rattle.buffa_bytes.specs.Varint.{varint_encoding}
 use Rattle.buffa_message_set.proofs.ItemEncodingLemmas.{length-item_encoding}
 use Rattle.buffa_message_set.proofs.message_set.item_encoded_len.Goals as goal
 
-pub returns-clause-text : goal.returns-clause-text
-returns-clause-text c msg e =
+pub returns-clause-encoding : goal.returns-clause-encoding
+returns-clause-encoding c msg e =
     omega (
       arith,
       length-item_encoding c.args.number msg,

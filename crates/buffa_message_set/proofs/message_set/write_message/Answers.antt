@@ -28,9 +28,9 @@ returns-in_err-encode_bytes-clause-room g c =
 pub returns-clause-writes : goal.returns-clause-writes
 returns-clause-writes g c =
     let w = g.S.EncodeSink.written in
-    let text = delimited_encoding c.args.payload.now in
-    writes_then c.encode_varint-2.result (w c.args.sink.now) (tag_encoding 3 LengthDelimited) (text ++ tag_encoding 1 EndGroup) (w c.encode_varint.new.sink) _ c.in_ok-encode_varint.ensures.writes
-    (writes_then c.encode_varint-2.result (w c.encode_varint.new.sink) text (tag_encoding 1 EndGroup) (w c.encode_bytes.new.sink) _ c.in_ok-encode_bytes.ensures.writes c.encode_varint-2.ensures.writes)
+    let encoding = delimited_encoding c.args.payload.now in
+    writes_then c.encode_varint-2.result (w c.args.sink.now) (tag_encoding 3 LengthDelimited) (encoding ++ tag_encoding 1 EndGroup) (w c.encode_varint.new.sink) _ c.in_ok-encode_varint.ensures.writes
+    (writes_then c.encode_varint-2.result (w c.encode_varint.new.sink) encoding (tag_encoding 1 EndGroup) (w c.encode_bytes.new.sink) _ c.in_ok-encode_bytes.ensures.writes c.encode_varint-2.ensures.writes)
 
 pub returns-clause-room : goal.returns-clause-room
 returns-clause-room g c =

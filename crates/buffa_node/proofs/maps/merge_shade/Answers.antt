@@ -2,7 +2,7 @@ use Rattle.std.proofs.Common.{◌∙◌, ◌++◌, ap}
 use Rattle.std.proofs.lemmas.Result.{err_from_is_err_and}
 use Rattle.buffa_map.specs.Pairs.{means}
 use Rattle.buffa_map.specs.Run.{undeclared_record}
-use Rattle.buffa_node.proofs.FieldMerge.{shade_err, shade_ok, wire_answer}
+use Rattle.buffa_node.proofs.FieldMergeLemmas.{shade_err, shade_ok, wire_answer}
 use Rattle.buffa_node.specs.Branch.{Kept, Shades, shade_number}
 use Rattle.std.specs.Ordering.{int_cmp}
 use Rattle.buffa_node.specs.Entries.{put_in}
@@ -26,4 +26,4 @@ returns-in-Err-clause-taken c =
     let answer = c.merge_entry_with_unknowns-answer in
     shade_err c.args.depth c.args.tag.number c.args.tag.wire_type c.args.shades.now.entries answer.new.map.entries c.args.rest.now.records _ c.args.buf.now.now answer.new.buf.now c.args.budget.now answer.new.ctx.1.0
     c.in-Err.error _ c.in_ok-check_wire_type.ensures c.in-Err.ensures.err
-    (ap (λ z. z.unknown) c.with_element_memory.ensures ∙ c.new.ensures.unknown ∙ c.unknown_left-slots.ensures) (ap (λ z. z.memory) c.with_element_memory.ensures ∙ c.memory_left.ensures)
+    (ap (λ z. z.unknown) c.with_element_memory.ensures ∙ c.new.ensures.unknown ∙ c.unknown_left-unknown.ensures) (ap (λ z. z.memory) c.with_element_memory.ensures ∙ c.memory_left.ensures)

@@ -1,7 +1,7 @@
 use Rattle.std.proofs.Common.{arith, refl, ap, ◌∙◌}
 use Rattle.std.proofs.lemmas.Result.{err_from_is_err_and}
 use Rattle.buffa_wire.specs.Cache.{appended}
-use Rattle.buffa_node.proofs.NodePasses.{low_child, large_total, slots_are, slots_there, small_total}
+use Rattle.buffa_node.proofs.NodePassLemmas.{low_child, large_total, slots_are, slots_there, small_total}
 use Rattle.buffa_node.proofs.node.+fn-size_node-message_field_len_by+size_node.Goals as goal
 
 pub message_field_len_by-requires : goal.message_field_len_by-requires

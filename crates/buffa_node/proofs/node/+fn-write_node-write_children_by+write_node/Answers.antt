@@ -4,7 +4,7 @@ use Rattle.std.proofs.lemmas.Result.{err_from_is_err_and}
 use Rattle.buffa_wire.specs.Passes.{IsNext}
 use Rattle.buffa_map.specs.Pairs.{means}
 use Rattle.buffa_node.specs.Branch.{shade_number}
-use Rattle.buffa_node.proofs.NodePasses.{all_written, kids_stop, scores_stop, shades_stop, slots_are}
+use Rattle.buffa_node.proofs.NodePassLemmas.{all_written, kids_stop, scores_stop, shades_stop, slots_are}
 use Rattle.buffa_node.proofs.node.+fn-write_node-write_children_by+write_node.Goals as goal
 
 pub write_children_by-requires-clause-next : goal.write_children_by-requires-clause-next

@@ -14,7 +14,7 @@ use Rattle.buffa_map.specs.Pairs.{means}
 use Rattle.buffa_wire.specs.Kept.{keep_need}
 use Rattle.buffa_fields.specs.Keep.{keep_takes}
 use Rattle.buffa_fields.specs.TakesLaws.{taken_full}
-use Rattle.buffa_node.proofs.FieldMerge.{both_stay, child_merged, kept_merged, on_err, score_merged, shade_merged}
+use Rattle.buffa_node.proofs.FieldMergeLemmas.{both_stay, child_merged, kept_merged, on_err, score_merged, shade_merged}
 use Rattle.buffa_node.proofs.LoopLemmas.{all_merged, front_next, front_none, stops_at, stops_untagged}
 use Rattle.buffa_node.specs.Branch.{branch, kids, shade_number}
 use Rattle.buffa_node.specs.NodeLaws.{cost_next, merged_fields, merged_next}

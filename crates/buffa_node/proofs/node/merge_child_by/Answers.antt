@@ -2,7 +2,7 @@ use Rattle.std.proofs.lemmas.Result.{err_from_is_err_and}
 use Rattle.std.specs.Ordering.{int_cmp}
 use Rattle.buffa_wire.specs.BudgetLeft.{nothing}
 use Rattle.buffa_wire.specs.Message.{cost_in, merged_in}
-use Rattle.buffa_node.proofs.FieldMerge.{child_answer, child_stays, wire_answer}
+use Rattle.buffa_node.proofs.FieldMergeLemmas.{child_answer, child_stays, wire_answer}
 use Rattle.buffa_node.specs.Entries.{put_in}
 use Rattle.buffa_node.specs.NodeMeaning.{children, cost, merged, numbers}
 use Rattle.buffa_node.proofs.node.merge_child_by.Goals as goal

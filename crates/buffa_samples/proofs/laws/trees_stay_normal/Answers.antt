@@ -1,4 +1,4 @@
-use Rattle.buffa_samples.proofs.TreeNormal.{blank_is_normal, stays}
+use Rattle.buffa_samples.proofs.TreeNormalLemmas.{blank_is_normal, stays}
 use Rattle.buffa_samples.proofs.laws.trees_stay_normal.Goals as goal
 
 pub returns : goal.returns

@@ -18,8 +18,8 @@ returns-in-Ok-read_map_field-clause-ok g c q =
     let r = c.in-Ok-read_map_field.ensures.ok in
     let t = c.written_is_read.ensures depth c.args.number w.0 c.requires.number w.3.0 w.4 (c.requires.normal w.0 w.1) w.2.0 in
     let field = field_encoding g.KC.MapCodec.writing g.VC.MapCodec.writing c.args.number w.0 in
-    let text : c.as_slice-rest.result.now ≡ field = c.as_slice-rest.ensures.value ∙ w.3.1 ∙ ap (λ z. z ++ field) c.new-text.ensures.items in
-    let run : Run key val depth c.args.number field r.entries = subst (λ (b : List ℕ). Run key val depth c.args.number b r.entries) text r.run in
+    let encoding : c.as_slice-rest.result.now ≡ field = c.as_slice-rest.ensures.value ∙ w.3.1 ∙ ap (λ z. z ++ field) c.new-encoding.ensures.items in
+    let run : Run key val depth c.args.number field r.entries = subst (λ (b : List ℕ). Run key val depth c.args.number b r.entries) encoding r.run in
     let same : r.entries ≡ t.entries = c.one_reading.ensures.run depth c.args.number field r.entries t.entries run t.run in
     w.2.1 q ∙ ap (lookup_entry (eq q)) (sym t.folded ∙ ap (fold_entries eq []) (sym same) ∙ ap (λ m. fold_entries eq m r.entries) (sym c.requires.empty)) ∙ r.folded q
 
@@ -33,8 +33,8 @@ returns-in-Ok-read_map_field-clause-order g c =
     let r = c.in-Ok-read_map_field.ensures.ok in
     let t = c.written_is_read.ensures depth c.args.number w.0 c.requires.number w.3.0 w.4 (c.requires.normal w.0 w.1) w.2.0 in
     let field = field_encoding g.KC.MapCodec.writing g.VC.MapCodec.writing c.args.number w.0 in
-    let text : c.as_slice-rest.result.now ≡ field = c.as_slice-rest.ensures.value ∙ w.3.1 ∙ ap (λ z. z ++ field) c.new-text.ensures.items in
-    let run : Run key val depth c.args.number field r.entries = subst (λ (b : List ℕ). Run key val depth c.args.number b r.entries) text r.run in
+    let encoding : c.as_slice-rest.result.now ≡ field = c.as_slice-rest.ensures.value ∙ w.3.1 ∙ ap (λ z. z ++ field) c.new-encoding.ensures.items in
+    let run : Run key val depth c.args.number field r.entries = subst (λ (b : List ℕ). Run key val depth c.args.number b r.entries) encoding r.run in
     let same : r.entries ≡ t.entries = c.one_reading.ensures.run depth c.args.number field r.entries t.entries run t.run in
     (w.0, w.1, λ keeps. r.order keeps ∙ ap (λ m. fold_entries eq m r.entries) c.requires.empty ∙ ap (fold_entries eq []) same ∙ t.folded)
 
@@ -47,8 +47,8 @@ returns-in-Ok-read_map_field-clause-fits g c =
     let r = c.in-Ok-read_map_field.ensures.ok in
     let t = c.written_is_read.ensures depth c.args.number w.0 c.requires.number w.3.0 w.4 (c.requires.normal w.0 w.1) w.2.0 in
     let field = field_encoding g.KC.MapCodec.writing g.VC.MapCodec.writing c.args.number w.0 in
-    let text : c.as_slice-rest.result.now ≡ field = c.as_slice-rest.ensures.value ∙ w.3.1 ∙ ap (λ z. z ++ field) c.new-text.ensures.items in
-    let run : Run key val depth c.args.number field r.entries = subst (λ (b : List ℕ). Run key val depth c.args.number b r.entries) text r.run in
+    let encoding : c.as_slice-rest.result.now ≡ field = c.as_slice-rest.ensures.value ∙ w.3.1 ∙ ap (λ z. z ++ field) c.new-encoding.ensures.items in
+    let run : Run key val depth c.args.number field r.entries = subst (λ (b : List ℕ). Run key val depth c.args.number b r.entries) encoding r.run in
     let same : r.entries ≡ t.entries = c.one_reading.ensures.run depth c.args.number field r.entries t.entries run t.run in
     let memory : c.new-ctx.result.budget.now.memory ≡ 268435456 = ap (λ (b : BudgetLeft). b.memory) c.new-ctx.ensures.left ∙ c.new-budget.ensures.memory in
     (w.0, w.1, w.2, w.3.0, paid_for key val depth (g.KC.MapValueDecode.COST + g.VC.MapValueDecode.COST) _ _ _ _ _ _ memory (ap length same ∙ t.many) r.paid)
@@ -68,8 +68,8 @@ returns-clause-err g c =
     let k = c.in-Err-read_map_field.ensures.err in
     let t = c.written_is_read.ensures depth c.args.number w.0 c.requires.number w.3.0 w.4 (c.requires.normal w.0 w.1) w.2.0 in
     let field = field_encoding g.KC.MapCodec.writing g.VC.MapCodec.writing c.args.number w.0 in
-    let text : c.as_slice-rest.result.now ≡ field = c.as_slice-rest.ensures.value ∙ w.3.1 ∙ ap (λ z. z ++ field) c.new-text.ensures.items in
-    let run : Run key val depth c.args.number c.as_slice-rest.result.now t.entries = subst (λ (b : List ℕ). Run key val depth c.args.number b t.entries) (sym text) t.run in
+    let encoding : c.as_slice-rest.result.now ≡ field = c.as_slice-rest.ensures.value ∙ w.3.1 ∙ ap (λ z. z ++ field) c.new-encoding.ensures.items in
+    let run : Run key val depth c.args.number c.as_slice-rest.result.now t.entries = subst (λ (b : List ℕ). Run key val depth c.args.number b t.entries) (sym encoding) t.run in
     let memory : c.new-ctx.result.budget.now.memory ≡ 268435456 = ap (λ (b : BudgetLeft). b.memory) c.new-ctx.ensures.left ∙ c.new-budget.ensures.memory in (
       w.0,
       w.1,
@@ -79,7 +79,7 @@ returns-clause-err g c =
           arith,
           ap length (sym k.begins.1),
           length-append k.begins.0 k.rest,
-          ap length text,
+          ap length encoding,
           ap (λ z. length (field_encoding g.KC.MapCodec.writing g.VC.MapCodec.writing c.args.number z)) none,
         )))),
         w.3.0,
@@ -96,12 +96,12 @@ pub returns-clause-stops : goal.returns-clause-stops
 returns-clause-stops g c =
     let w = c.in-Ok.ensures in
     let field = field_encoding g.KC.MapCodec.writing g.VC.MapCodec.writing c.args.number w.0 in
-    let text : c.as_slice-rest.result.now ≡ field = c.as_slice-rest.ensures.value ∙ w.3.1 ∙ ap (λ z. z ++ field) c.new-text.ensures.items in
+    let encoding : c.as_slice-rest.result.now ≡ field = c.as_slice-rest.ensures.value ∙ w.3.1 ∙ ap (λ z. z ++ field) c.new-encoding.ensures.items in
     let left = c.new-ctx.ensures.left ∙ as_units c.new-budget.result 268435456 c.new-budget.ensures.unknown c.new-budget.ensures.memory in (
       w.0,
       w.1,
       _,
       _,
       stopped g.KC.MapValueDecode.reading g.VC.MapValueDecode.reading g.C.MapStorage.equal g.C.MapStorage.keeps_order _ 0 c.args.number _ _ _ _ _ _ _ _ _
-          c.new-ctx.ensures.depth left c.requires.empty text c.in-Err-read_map_field.ensures.err,
+          c.new-ctx.ensures.depth left c.requires.empty encoding c.in-Err-read_map_field.ensures.err,
     )

@@ -6,7 +6,7 @@ use Rattle.buffa_map.specs.Scalars.{delimited_writing}
 use Rattle.buffa_map.specs.Encoding.{field_encoding}
 use Rattle.buffa_samples.specs.Flat.{value_encoding}
 use Rattle.buffa_samples.specs.TreeEncoding.{key_writing, meant, slots, encoding}
-use Rattle.buffa_samples.proofs.TreeSizes.{slots_is, small_kids, text_is}
+use Rattle.buffa_samples.proofs.TreeSizeLemmas.{slots_is, small_kids, encoding_is}
 use Rattle.buffa_samples.proofs.tree.+fn-write_tree-write_children_by+write_tree.Goals as goal
 
 pub write_children_by-requires-clause-next : goal.write_children_by-requires-clause-next
@@ -29,4 +29,4 @@ returns g t c =
     let h = written_then small (IsSmallField key_writing encoding (meant es)) small label field [] (field_slots encoding slots (meant es)) cache cache last b0 b1 b2
     (λ s. (s, small_kids _ _ _ c.tree.view_is s)) r (written_put small label cache b0 b1 done w) c.write_children_by.ensures in
     subst (λ ss. IsWritten (encoding c.args.tree.now) ss cache b0 r last b2) (slots_is _ _ _ c.tree.view_is)
-    (subst (λ ts. WritesIf small ts (field_slots encoding slots (meant es)) cache b0 r last b2) (sym (text_is _ _ _ c.tree.view_is)) h)
+    (subst (λ ts. WritesIf small ts (field_slots encoding slots (meant es)) cache b0 r last b2) (sym (encoding_is _ _ _ c.tree.view_is)) h)

@@ -10,7 +10,7 @@ use Rattle.buffa_bytes.proofs.FullLemmas.{tag_full}
 use Rattle.buffa_wire.specs.BudgetLeft.{BudgetLeft, PaysAtMost}
 use Rattle.buffa_wire.specs.Message.{MergeFault}
 use Rattle.buffa_wire.proofs.MessageLemmas.{field_costs, field_means, front_more, judged_all, loop_fault, reaches_tag, untagged}
-use Rattle.buffa_samples.proofs.TreeFields.{all_merged, child_full, child_merged, label_merged, mismatch_full, wire_merged}
+use Rattle.buffa_samples.proofs.TreeFieldLemmas.{all_merged, child_full, child_merged, label_merged, mismatch_full, wire_merged}
 use Rattle.buffa_samples.specs.FieldsLaws.{full_not_at_end}
 use Rattle.buffa_samples.specs.Flat.{flat_field}
 use Rattle.buffa_samples.specs.FlatLaws.{flat_ends}

@@ -1,4 +1,4 @@
-use Rattle.buffa_samples.proofs.TreeMerge.{child_answer}
+use Rattle.buffa_samples.proofs.TreeMergeLemmas.{child_answer}
 use Rattle.buffa_samples.proofs.tree.merge_child_by.Goals as goal
 
 pub returns : goal.returns

@@ -5,8 +5,8 @@ use Rattle.buffa_set_msg.proofs.set_msg.write_set.Given as goal
 
 abbrev pub invariant-loop-field : goal.invariant-loop-field
 invariant-loop-field g l =
-    let text = set_encoding (records_in (take l.field-index l.field-items)) in
+    let encoding = set_encoding (records_in (take l.field-index l.field-items)) in
     record {
-      written : g.S.EncodeSink.written l.sink ≡ g.S.EncodeSink.written l.fn.sink ++ text;
-      room : g.S.EncodeSink.room l.fn.sink ≤ g.S.EncodeSink.room l.sink + length text;
+      written : g.S.EncodeSink.written l.sink ≡ g.S.EncodeSink.written l.fn.sink ++ encoding;
+      room : g.S.EncodeSink.room l.fn.sink ≤ g.S.EncodeSink.room l.sink + length encoding;
     }

@@ -5,8 +5,8 @@ use Rattle.buffa_wire.proofs.unknown_fields.+write.Given as goal
 
 abbrev pub invariant-UnknownFields::write_to-loop-field : goal.invariant-UnknownFields::write_to-loop-field
 invariant-UnknownFields::write_to-loop-field g l =
-    let text = records_encoding (records_in (take l.field-index l.field-items)) in
+    let encoding = records_encoding (records_in (take l.field-index l.field-items)) in
     record {
-      written : g.S.EncodeSink.written l.sink ≡ g.S.EncodeSink.written l.fn.sink ++ text;
-      room : g.S.EncodeSink.room l.fn.sink ≤ g.S.EncodeSink.room l.sink + length text;
+      written : g.S.EncodeSink.written l.sink ≡ g.S.EncodeSink.written l.fn.sink ++ encoding;
+      room : g.S.EncodeSink.room l.fn.sink ≤ g.S.EncodeSink.room l.sink + length encoding;
     }

@@ -1,9 +1,10 @@
 use Rattle.std.proofs.Common.{inr, subst, ◌≢◌}
 use Rattle.buffa_bytes.specs.declared.error.DecodeError.TheVariants.{OutOfMemory}
-use Rattle.buffa_wire.specs.Message.{MergeFault, defaults}
+use Rattle.buffa_wire.specs.Message.{MergeFault}
+use Rattle.buffa_wire.specs.BudgetLeft.{defaults}
 use Rattle.buffamap.specs.Again.{IsReadAgain}
 use Rattle.buffamap.specs.Fault.{IsOfBytes}
-use Rattle.buffamap.proofs.AgainReplies.{passed_on, refused}
+use Rattle.buffamap.proofs.AgainReplyLemmas.{passed_on, refused}
 use Rattle.buffamap.proofs.again.again_bytes.Goals as goal
 
 pub returns-in_err-merge_from_slice-clause-fault : goal.returns-in_err-merge_from_slice-clause-fault

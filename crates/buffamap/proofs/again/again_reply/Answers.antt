@@ -1,6 +1,6 @@
 use Rattle.std.proofs.Common.{Some, ap, sym, ◌≡◌, ◌∙◌}
 use Rattle.buffamap.specs.Forms.{hex_bytes, without_newline}
-use Rattle.buffamap.proofs.AgainReplies.{spelled}
+use Rattle.buffamap.proofs.AgainReplyLemmas.{spelled}
 use Rattle.buffamap.proofs.again.again_reply.Goals as goal
 
 pub returns-clause-fault : goal.returns-clause-fault

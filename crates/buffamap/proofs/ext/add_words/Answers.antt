@@ -1,6 +1,6 @@
 use Rattle.std.proofs.Common.{rules, ◌≡◌, ◌++◌, ◌∷◌, get_or, pos}
 use Rattle.std.specs.Fmt.{signed_decimal}
-use Rattle.buffamap.proofs.Extensions.{word_more}
+use Rattle.buffamap.proofs.ExtensionLemmas.{word_more}
 use Rattle.buffamap.proofs.ext.add_words.Goals as goal
 
 pub loop-value-preserved : goal.loop-value-preserved

@@ -1,7 +1,7 @@
 use Rattle.std.proofs.Common.{ap}
 use Rattle.buffamap.specs.Read.{run_from}
 use Rattle.buffamap.specs.Reply.{done}
-use Rattle.buffamap.proofs.ReadReplies.{replied}
+use Rattle.buffamap.proofs.ReadReplyLemmas.{replied}
 use Rattle.buffamap.proofs.read.read_run.Goals as goal
 
 pub returns-clause-text : goal.returns-clause-text

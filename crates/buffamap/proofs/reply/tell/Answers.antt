@@ -2,7 +2,7 @@ use Rattle.std.proofs.Common.{inl, codes, ◌++◌}
 use Rattle.buffa_bytes.specs.ErrorText.{decode_error_text, encode_error_text}
 use Rattle.buffamap.specs.Reply.{line}
 use Rattle.buffamap.proofs.EngineLemmas.{named_or_not}
-use Rattle.buffamap.proofs.Written.{nothing_more}
+use Rattle.buffamap.proofs.WrittenLemmas.{nothing_more}
 use Rattle.buffamap.proofs.reply.tell.Goals as goal
 
 pub returns-in-Words-clause-told : goal.returns-in-Words-clause-told

@@ -1,7 +1,7 @@
 use Rattle.std.proofs.Common.{◌∙◌, ap}
 use Rattle.buffamap.specs.Reply.{hex_line}
 use Rattle.buffamap.specs.Rewrite.{run_from}
-use Rattle.buffamap.proofs.RewriteReplies.{replied}
+use Rattle.buffamap.proofs.RewriteReplyLemmas.{replied}
 use Rattle.buffamap.proofs.rewrite.rewrite_run.Goals as goal
 
 pub returns-clause-text : goal.returns-clause-text

@@ -1,5 +1,5 @@
 use Rattle.std.proofs.Common.{refl, rules}
-use Rattle.buffamap.proofs.Written.{read_to_end}
+use Rattle.buffamap.proofs.WrittenLemmas.{read_to_end}
 use Rattle.buffamap.proofs.stream.read_whole.Goals as goal
 
 pub returns-in-Ok-eq0-clause-bytes : goal.returns-in-Ok-eq0-clause-bytes

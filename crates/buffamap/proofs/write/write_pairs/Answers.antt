@@ -3,7 +3,7 @@ use Rattle.buffa_map.specs.Encoding.{field_encoding}
 use Rattle.buffamap.specs.Codecs.{int32_writing, string_writing}
 use Rattle.buffamap.specs.Lines.{pairs_of}
 use Rattle.buffamap.specs.Reply.{done, hex_line}
-use Rattle.buffamap.proofs.FieldReplies.{written}
+use Rattle.buffamap.proofs.FieldReplyLemmas.{written}
 use Rattle.buffamap.proofs.write.write_pairs.Goals as goal
 
 pub returns-clause-text : goal.returns-clause-text

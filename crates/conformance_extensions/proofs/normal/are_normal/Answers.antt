@@ -1,5 +1,5 @@
 use Rattle.conformance_extensions.specs.Normal.{IsNormal}
-use Rattle.conformance_extensions.proofs.Fronts.{each_from, each_none}
+use Rattle.conformance_extensions.proofs.FrontLemmas.{each_from, each_none}
 use Rattle.conformance_extensions.proofs.normal.are_normal.Goals as goal
 
 pub loop-message-preserved : goal.loop-message-preserved

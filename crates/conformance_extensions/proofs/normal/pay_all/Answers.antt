@@ -1,7 +1,7 @@
 use Rattle.std.proofs.Common.{map, subst}
 use Rattle.buffa_codec.specs.Reading.{CoversAll}
 use Rattle.buffa_ext.specs.MessageFacts.{is_full}
-use Rattle.conformance_extensions.proofs.Fronts.{covers_from, covers_none}
+use Rattle.conformance_extensions.proofs.FrontLemmas.{covers_from, covers_none}
 use Rattle.conformance_extensions.proofs.normal.pay_all.Goals as goal
 
 pub loop-value-init : goal.loop-value-init

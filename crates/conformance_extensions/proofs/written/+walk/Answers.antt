@@ -1,10 +1,10 @@
 use Rattle.std.proofs.Common.{◌≤◌, sym, ap, subst, ◌∙◌, arith}
-use Rattle.buffa_wire.specs.Falls.{height-records}
+use Rattle.buffa_wire.specs.DepthFacts.{height-records}
 use Rattle.buffa_wire.specs.Parse.{FitsDatum}
 use Rattle.buffa_wire.specs.Records.{datum_height}
 use Rattle.buffa_wire.specs.View.{datum_of, records_in}
 use Rattle.conformance_extensions.specs.Normal.{AreWritten}
-use Rattle.conformance_extensions.proofs.Fronts.{written_from, written_none}
+use Rattle.conformance_extensions.proofs.FrontLemmas.{written_from, written_none}
 use Rattle.conformance_extensions.proofs.written.+walk.Goals as goal
 
 pub is_payload_written-returns-then-levels-gt0 : goal.is_payload_written-returns-then-levels-gt0

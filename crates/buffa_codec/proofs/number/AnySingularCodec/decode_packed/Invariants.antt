@@ -1,5 +1,5 @@
 use Rattle.std.proofs.Common.{◌-◌, ◌≤◌, length, vec_capacity, vec_len}
-use Rattle.buffa_codec.proofs.Packs.{Packs}
+use Rattle.buffa_codec.proofs.PackLemmas.{Packs}
 use Rattle.buffa_codec.proofs.number.AnySingularCodec.decode_packed.Given as goal
 
 -- the numbers so far and those of the rest are those of all, and each has taken a place at most; no place is lost

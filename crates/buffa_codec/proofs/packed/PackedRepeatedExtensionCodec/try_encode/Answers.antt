@@ -6,9 +6,9 @@ use Rattle.std.specs.Result.{OnErr, OnOk}
 use Rattle.buffa_wire.specs.Records.{Datum, Held, bytes}
 use Rattle.buffa_codec.specs.Reading.{Adds, AddsSome, Each, joined, packed_record}
 use Rattle.buffa_codec.specs.Sub.{tagged}
-use Rattle.buffa_codec.proofs.Lists.{no_truth, packed_some}
-use Rattle.buffa_codec.proofs.Places.{places_stay}
-use Rattle.buffa_codec.proofs.Turns.{writes_none}
+use Rattle.buffa_codec.proofs.ListLemmas.{no_truth, packed_some}
+use Rattle.buffa_codec.proofs.PlaceLemmas.{places_stay}
+use Rattle.buffa_codec.proofs.TurnLemmas.{writes_none}
 use Rattle.buffa_codec.proofs.packed.PackedRepeatedExtensionCodec.try_encode.Goals as goal
 
 -- a test of a length
@@ -20,18 +20,18 @@ is_some r n zero e same h = absurd (no_truth (sym h ∙ e ∙ eq-eqb n 0 same))
 is_some r n (suc m) e same h = omega arith
 
 -- no values have no record
-packs_none : {V M : Type 0} (text : M → List ℕ) (meaning : V → M) (n : ℕ) (vs : List V) (old : List (ℕ × Datum)) → length vs ≡ 0 → old ≡ old ++ tagged n (packed_record text (map meaning vs))
-packs_none text meaning n [] old none = sym (append-nil old)
-packs_none text meaning n (v ∷ vs) old none = absurd (omega (arith, none))
+packs_none : {V M : Type 0} (encoding : M → List ℕ) (meaning : V → M) (n : ℕ) (vs : List V) (old : List (ℕ × Datum)) → length vs ≡ 0 → old ≡ old ++ tagged n (packed_record encoding (map meaning vs))
+packs_none encoding meaning n [] old none = sym (append-nil old)
+packs_none encoding meaning n (v ∷ vs) old none = absurd (omega (arith, none))
 
 each_none : {V M : Type 0} (P : M → Type 0) (meaning : V → M) (vs : List V) → length vs ≡ 0 → Each P (map meaning vs)
 each_none P meaning [] none = tt
 each_none P meaning (v ∷ vs) none = absurd (omega (arith, none))
 
 -- the record of some values
-packs_one : {V M : Type 0} (text : M → List ℕ) (meaning : V → M) (n : ℕ) (vs : List V) (b : List ℕ) → 0 < length vs → b ≡ joined text (map meaning vs) → (n, bytes b) ∷ [] ≡ tagged n (packed_record text (map meaning vs))
-packs_one text meaning n [] b some e = absurd (omega (arith, some))
-packs_one text meaning n (v ∷ vs) b some e = ap (λ z. (n, bytes z) ∷ []) e
+packs_one : {V M : Type 0} (encoding : M → List ℕ) (meaning : V → M) (n : ℕ) (vs : List V) (b : List ℕ) → 0 < length vs → b ≡ joined encoding (map meaning vs) → (n, bytes b) ∷ [] ≡ tagged n (packed_record encoding (map meaning vs))
+packs_one encoding meaning n [] b some e = absurd (omega (arith, some))
+packs_one encoding meaning n (v ∷ vs) b some e = ap (λ z. (n, bytes z) ∷ []) e
 
 -- a list that stayed as it was has a front of the records
 stayed : {T E : Type 0} (r : Result T E) (old new : Held) (ds : List (ℕ × Datum)) → 0 < length ds → OnErr r (new ≡ old) → OnErr r (AddsSome old.records ds new.records)

@@ -1,12 +1,12 @@
-use Rattle.buffa_codec.proofs.Takes.{takes_text}
+use Rattle.buffa_codec.proofs.TakesLemmas.{takes_text}
 use Rattle.std.proofs.Common.{◌≡◌, ◌++◌, length, false, true, Some, sym, ap, ◌∙◌}
 use Rattle.std.specs.Str.{is_utf8}
 use Rattle.std.proofs.lemmas.Bool.{false_from_ne_true}
 use Rattle.std.proofs.lemmas.Str.{IsUtf8-from_is_utf8, is_utf8-from_IsUtf8}
 use Rattle.buffa_wire.specs.View.{datum_of}
 use Rattle.buffa_codec.specs.Reading.{string_held}
-use Rattle.buffa_codec.proofs.Lists.{no_truth}
-use Rattle.buffa_codec.proofs.Helds.{held_not, held_text}
+use Rattle.buffa_codec.proofs.ListLemmas.{no_truth}
+use Rattle.buffa_codec.proofs.HeldLemmas.{held_not, held_text}
 use Rattle.buffa_codec.proofs.text.StringCodecSingularCodec.decode_one.Goals as goal
 
 pub returns-in_default-from_utf8-clause-reads : goal.returns-in_default-from_utf8-clause-reads

@@ -1,5 +1,5 @@
 use Rattle.std.proofs.Common.{◌∙◌}
-use Rattle.buffa_ext.proofs.Merges.{list_has_byte}
+use Rattle.buffa_ext.proofs.MergeLemmas.{list_has_byte}
 use Rattle.buffa_ext.proofs.record.GroupedMessageRecord.hold.Goals as goal
 
 pub returns-in-Err-OutOfMemory-clause-full : goal.returns-in-Err-OutOfMemory-clause-full

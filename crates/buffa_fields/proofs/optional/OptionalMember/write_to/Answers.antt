@@ -1,7 +1,7 @@
 use Rattle.std.proofs.Common.{ap}
 use Rattle.std.specs.Option.{option_map}
 use Rattle.buffa_fields.specs.LayoutLaws.{unwritten}
-use Rattle.buffa_fields.specs.Slots.{optional_records}
+use Rattle.buffa_fields.specs.MemberRecords.{optional_records}
 use Rattle.buffa_fields.proofs.optional.OptionalMember.write_to.Goals as goal
 
 pub returns-in-None : goal.returns-in-None

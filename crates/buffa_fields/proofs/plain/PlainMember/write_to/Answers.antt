@@ -1,6 +1,6 @@
 use Rattle.std.proofs.Common.{◌∙◌, ◌∷◌, [], ap, sym}
 use Rattle.buffa_fields.specs.LayoutLaws.{unwritten}
-use Rattle.buffa_fields.specs.Slots.{plain_records}
+use Rattle.buffa_fields.specs.MemberRecords.{plain_records}
 use Rattle.buffa_fields.specs.Values.{records_unless}
 use Rattle.buffa_fields.proofs.plain.PlainMember.write_to.Goals as goal
 

@@ -5,7 +5,7 @@ use Rattle.buffa_fields.proofs.writer.WriterVisitor.visit.Goals as goal
 
 pub returns-then-is_ok-clause-waits : goal.returns-then-is_ok-clause-waits
 returns-then-is_ok-clause-waits g c = λ rest h.
-    let s = g.M.Member.slot in
+    let s = g.M.Member.shape in
     let v = s.meaning c.args.part.now in
     let w = c.args.self.now in
     let ok : IsOk w.result = search rules in

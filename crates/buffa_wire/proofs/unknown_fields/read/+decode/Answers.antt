@@ -112,7 +112,7 @@ decode_unknown_field-returns-in_err-take_unknown g t c =
       level = λ k z. refl {a = g.B.Buf.unread c.args.buf.now};
       no_unknown_stays = λ k. refl {a = g.B.Buf.unread c.args.buf.now};
       left = λ k some. let no : ⊥ = omega (arith, c.in_err-take_unknown.ensures.err.0, some) in absurd no;
-      slot = λ k o. omega (arith, c.in_err-take_unknown.ensures.err.0, ap (λ (b : BudgetLeft). b.unknown) c.in_err-take_unknown.ensures.err.1);
+      counted = λ k o. omega (arith, c.in_err-take_unknown.ensures.err.0, ap (λ (b : BudgetLeft). b.unknown) c.in_err-take_unknown.ensures.err.1);
       deep_unknown = λ k z. omega (arith, c.in_err-take_unknown.ensures.err.0, ap (λ (b : BudgetLeft). b.unknown) c.in_err-take_unknown.ensures.err.1);
       tail = tail_whole _;
       kept = refl {a = g.B.Buf.beyond c.args.buf.now};
@@ -132,7 +132,7 @@ decode_unknown_field-returns-in_err-fields g t c =
       end_stays = λ k. absurd (c.in_default.not-EndGroup k);
       no_unknown_stays = λ k. absurd (omega (arith, c.in_ok-take_unknown.ensures.ok.0, k));
       left = λ k some. absurd (k c.in-StartGroup.is);
-      slot = λ k o. absurd (k c.in-StartGroup.is);
+      counted = λ k o. absurd (k c.in-StartGroup.is);
       deep_unknown = λ k z. omega (arith, c.in_ok-take_unknown.ensures.ok.0, ap (λ (b : BudgetLeft). b.unknown) (c.in_err-fields.ensures.deep z));
       tail = c.in_err-fields.ensures.tail;
       kept = c.in_err-fields.ensures.kept;
@@ -150,7 +150,7 @@ decode_unknown_field-returns-in-StartGroup g t c = record {
   end_stays = λ k. absurd (c.in_default.not-EndGroup k);
   no_unknown_stays = λ k. absurd (omega (arith, c.in_ok-take_unknown.ensures.ok.0, k));
   left = λ k some. absurd (k c.in-StartGroup.is);
-  slot = λ k o. absurd (k c.in-StartGroup.is);
+  counted = λ k o. absurd (k c.in-StartGroup.is);
   deep_unknown = λ k z. omega (arith, c.in_ok-take_unknown.ensures.ok.0, ap (λ (b : BudgetLeft). b.unknown) (c.in_ok-fields.ensures.deep z));
   tail = c.in_ok-fields.ensures.tail;
   kept = c.in_ok-fields.ensures.kept;
@@ -170,7 +170,7 @@ decode_unknown_field-returns-in_err-payload g t c =
       end_stays = λ k. absurd (c.in_default.not-EndGroup k);
       no_unknown_stays = λ k. absurd (omega (arith, c.in_ok-take_unknown.ensures.ok.0, k));
       left = λ k some. rw (p.1, p.2) c.in_err-payload.ensures.left;
-      slot = λ k o. omega (arith, c.in_ok-take_unknown.ensures.ok.0);
+      counted = λ k o. omega (arith, c.in_ok-take_unknown.ensures.ok.0);
       deep_unknown = λ k z. omega (arith, c.in_ok-take_unknown.ensures.ok.0);
       tail = c.in_err-payload.ensures.tail;
       kept = c.in_err-payload.ensures.kept;
@@ -188,7 +188,7 @@ decode_unknown_field-returns g t c = record {
   end_stays = λ k. absurd (c.in_default.not-EndGroup k);
   no_unknown_stays = λ k. absurd (omega (arith, c.in_ok-take_unknown.ensures.ok.0, k));
   left = λ k some. tt;
-  slot = λ k o. omega (arith, c.in_ok-take_unknown.ensures.ok.0);
+  counted = λ k o. omega (arith, c.in_ok-take_unknown.ensures.ok.0);
   deep_unknown = λ k z. omega (arith, c.in_ok-take_unknown.ensures.ok.0);
   tail = c.in_ok-payload.ensures.tail;
   kept = c.in_ok-payload.ensures.kept;

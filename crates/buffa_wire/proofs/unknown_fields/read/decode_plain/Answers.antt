@@ -2,7 +2,7 @@ use Rattle.buffa_bytes.specs.declared.wire_type.WireType.TheVariants.{Fixed32, F
 use Rattle.buffa_bytes.proofs.LeftLemmas.{fixed32_stays, fixed64_stays}
 use Rattle.std.proofs.lemmas.Result.{err_from_is_err_and}
 use Rattle.buffa_bytes.proofs.FullLemmas.{varint_no_full, fixed32_no_full, fixed64_no_full}
-use Rattle.buffa_wire.proofs.LeaveLemmas.{leaves_all, leaves_text, leaves_varint}
+use Rattle.buffa_wire.proofs.LeaveLemmas.{leaves_all, leaves_delimited, leaves_varint}
 use Rattle.buffa_wire.proofs.SpentLemmas.{takes_bytes}
 use Rattle.buffa_wire.proofs.unknown_fields.read.decode_plain.Goals as goal
 
@@ -41,4 +41,4 @@ returns-in_err-v-in-Fixed32-clause-left g c =
 pub returns-in_err-v-in-LengthDelimited-clause-left : goal.returns-in_err-v-in-LengthDelimited-clause-left
 returns-in_err-v-in-LengthDelimited-clause-left g c =
     let p = err_from_is_err_and c.from_residual-in_err-v-in-LengthDelimited.result c.from_residual-in_err-v-in-LengthDelimited.ensures.1 in
-    leaves_text c.from_residual-in_err-v-in-LengthDelimited.result _ (g.B.Buf.unread c.args.buf.now) _ c.in-LengthDelimited.is (rw (p.1, p.2) c.in_err-v-in-LengthDelimited.ensures.left)
+    leaves_delimited c.from_residual-in_err-v-in-LengthDelimited.result _ (g.B.Buf.unread c.args.buf.now) _ c.in-LengthDelimited.is (rw (p.1, p.2) c.in_err-v-in-LengthDelimited.ensures.left)

@@ -1,0 +1,70 @@
+-- Lists of values, one more at a time.
+use Rattle.std.proofs.Common.{◌≡◌, ℕ, ◌+◌, ◌<◌, List, [], ◌∷◌, ◌++◌, Option, Some, None, false, true, refl, sym, ◌∙◌, ap, map, take, drop, length, get_or, append_assoc, arith, subst, ◌⊎◌, inl, inr}
+use Rattle.std.proofs.lemmas.List.{map-append, append-nil, take_more, drop_more, take-append-drop}
+use Rattle.buffa_bytes.specs.declared.error.EncodeError.{EncodeError}
+use Rattle.buffa_bytes.specs.declared.error.EncodeError.TheVariants.{OutOfMemory}
+use Rattle.buffa_codec.specs.Reading.{Each, first_refusal, joined, packed_record}
+use Rattle.buffa_codec.specs.Sub.{tagged}
+
+-- what the first values mean, and what one more means
+pub means_more : {V M : Type 0} (meaning : V → M) (xs : List V) (i : ℕ) (x : V) → i < length xs → x ≡ get_or xs i x
+    → map meaning (take (i + 1) xs) ≡ map meaning (take i xs) ++ meaning x ∷ []
+means_more meaning xs i x lt e = ap (map meaning) (take_more xs i x lt) ∙ map-append meaning (take i xs) (get_or xs i x ∷ []) ∙ ap (λ y. map meaning (take i xs) ++ meaning y ∷ []) (sym e)
+
+-- what all values mean, cut at one
+pub means_cut : {V M : Type 0} (meaning : V → M) (xs : List V) (i : ℕ) (x : V) → i < length xs → x ≡ get_or xs i x
+    → map meaning xs ≡ map meaning (take i xs) ++ meaning x ∷ map meaning (drop (i + 1) xs)
+means_cut meaning xs i x lt e =
+    ap (map meaning) (sym (take-append-drop i xs)) ∙ map-append meaning (take i xs) (drop i xs)
+    ∙ ap (λ l. map meaning (take i xs) ++ map meaning l) (drop_more xs i x lt) ∙ ap (λ y. map meaning (take i xs) ++ meaning y ∷ map meaning (drop (i + 1) xs)) (sym e)
+
+pub Each-append : {M : Type 0} (P : M → Type 0) (ms : List M) (m : M) → Each P ms → P m → Each P (ms ++ m ∷ [])
+Each-append P [] m h k = (k, tt)
+Each-append P (x ∷ ms) m h k = (h.0, Each-append P ms m h.1 k)
+
+pub no_truth : false ≡ true → ⊥
+no_truth e = cc
+
+-- a fact that holds of each value holds of one of them
+Each-middle : {M : Type 0} (P : M → Type 0) (front : List M) (m : M) (back : List M) → Each P (front ++ m ∷ back) → P m
+Each-middle P [] m back h = h.0
+Each-middle P (x ∷ front) m back h = Each-middle P front m back h.1
+
+pub Each-at : {V M : Type 0} (P : M → Type 0) (meaning : V → M) (xs : List V) (i : ℕ) (x : V) → i < length xs → x ≡ get_or xs i x → Each P (map meaning xs) → P (meaning x)
+Each-at P meaning xs i x lt e h = Each-middle P (map meaning (take i xs)) (meaning x) (map meaning (drop (i + 1) xs)) (subst (Each P) (means_cut meaning xs i x lt e) h)
+
+-- no refusal before, and then that of the next, or of what follows
+abbrev refused_by : {M : Type 0} → (M → Option EncodeError) → List M → Option EncodeError → Option EncodeError
+refused_by refusal ms (Some e) = Some e
+refused_by refusal ms None = first_refusal refusal ms
+
+passed_over : {M : Type 0} (refusal : M → Option EncodeError) (ms ks : List M) (o : Option EncodeError)
+    → (first_refusal refusal ms ≡ None → first_refusal refusal (ms ++ ks) ≡ first_refusal refusal ks)
+    → refused_by refusal ms o ≡ None → refused_by refusal (ms ++ ks) o ≡ first_refusal refusal ks
+passed_over refusal ms ks (Some e) again h = cc
+passed_over refusal ms ks None again h = again h
+
+pub first_refusal-append : {M : Type 0} (refusal : M → Option EncodeError) (ms ks : List M) → first_refusal refusal ms ≡ None → first_refusal refusal (ms ++ ks) ≡ first_refusal refusal ks
+first_refusal-append refusal [] ks h = refl
+first_refusal-append refusal (m ∷ ms) ks h = passed_over refusal ms ks (refusal m) (first_refusal-append refusal ms ks) h
+
+pub first_refusal-one : {M : Type 0} (refusal : M → Option EncodeError) (m : M) (ks : List M) (e : EncodeError) → refusal m ≡ Some e → first_refusal refusal (m ∷ ks) ≡ Some e
+first_refusal-one refusal m ks e h = ap (refused_by refusal ks) h
+
+pub first_refusal-pass : {M : Type 0} (refusal : M → Option EncodeError) (m : M) (ks : List M) → refusal m ≡ None → first_refusal refusal (m ∷ ks) ≡ first_refusal refusal ks
+first_refusal-pass refusal m ks h = ap (refused_by refusal ks) h
+
+pub joined-append : {M : Type 0} (encoding : M → List ℕ) (ms : List M) (m : M) → joined encoding (ms ++ m ∷ []) ≡ joined encoding ms ++ encoding m
+joined-append encoding [] m = append-nil (encoding m)
+joined-append encoding (x ∷ ms) m = ap (λ l. encoding x ++ l) (joined-append encoding ms m) ∙ sym (append_assoc (encoding x) (joined encoding ms) (encoding m))
+
+-- a packed list that has a value has a record
+pub packed_some : {V M : Type 0} (encoding : M → List ℕ) (meaning : V → M) (n : ℕ) (vs : List V) → 0 < length vs → 0 < length (tagged n (packed_record encoding (map meaning vs)))
+packed_some encoding meaning n [] some = some
+packed_some encoding meaning n (v ∷ vs) some = omega arith
+
+-- a refusal after values that are not refused is that of the whole list
+pub refused_whole : {M : Type 0} (refusal : M → Option EncodeError) (ms : List M) (m : M) (ks all : List M) (e : EncodeError)
+    → all ≡ ms ++ m ∷ ks → first_refusal refusal ms ≡ None → (e ≡ OutOfMemory) ⊎ (refusal m ≡ Some e) → (e ≡ OutOfMemory) ⊎ (first_refusal refusal all ≡ Some e)
+refused_whole refusal ms m ks all e cut none (inl a) = inl a
+refused_whole refusal ms m ks all e cut none (inr b) = inr (ap (first_refusal refusal) cut ∙ first_refusal-append refusal ms (m ∷ ks) none ∙ first_refusal-one refusal m ks e b)

@@ -1,0 +1,89 @@
+-- One turn of a loop that merges the records of a number.
+use Rattle.std.proofs.Common.{◌≡◌, ◌≢◌, ℕ, ◌+◌, ◌<◌, Bool, List, [], ◌∷◌, ◌++◌, ◌||◌, Option, Ok, Err, refl, sym, ◌∙◌, ap, take, drop, length, get_or, append_assoc, subst}
+use Rattle.std.proofs.lemmas.List.{map-append, append-nil, take-append-drop}
+use Rattle.std.proofs.lemmas.List.Elements.{filter_map-append}
+use Rattle.buffa_bytes.specs.declared.error.DecodeError.{DecodeError}
+use Rattle.buffa_bytes.specs.declared.error.DecodeError.TheVariants.{OutOfMemory, UnexpectedEof}
+use Rattle.buffa_bytes.specs.Reading.{tag_at, varint_at, varint_within}
+use Rattle.buffa_wire.specs.Message.{BeginsField}
+use Rattle.buffa_wire.specs.RecordReading.{ListTakesMemory}
+use Rattle.buffa_wire.specs.BudgetLeft.{BudgetLeft}
+use Rattle.buffa_wire.specs.Records.{Datum}
+use Rattle.buffa_wire.specs.View.{record_of, records_in, datum_of}
+use Rattle.buffa_wire.specs.declared.unknown_fields.UnknownField.{UnknownField}
+use Rattle.buffa_codec.specs.Sub.{sub}
+use Rattle.buffa_codec.proofs.FilteredLemmas.{sub-append}
+use Rattle.buffa_codec.proofs.TurnLemmas.{sub-take_more, sub-one_same, sub-one_other}
+use Rattle.buffa_ext.specs.Messages.{IsAllMerged, StopsAt, encodings_in}
+use Rattle.buffa_ext.specs.MessageFacts.{merged_more, encoding_refused}
+
+module _ (held : Datum → Option (List ℕ)) (n : ℕ) (xs : List UnknownField) (i : ℕ) (x : UnknownField) (lt : i < length xs) (e : x ≡ get_or xs i x) where
+  so_far : List (List ℕ)
+  so_far = encodings_in held (sub n (records_in (take i xs)))
+
+  encodings_more : x.number ≡ n → encodings_in held (sub n (records_in (take (i + 1) xs))) ≡ encodings_in held (sub n (records_in (take i xs))) ++ encodings_in held (datum_of x.payload ∷ [])
+  encodings_more same =
+      ap (encodings_in held) (sub-take_more n xs i x lt e ∙ ap (λ l. sub n (records_in (take i xs)) ++ l) (sub-one_same n x same))
+      ∙ filter_map-append held (sub n (records_in (take i xs))) (datum_of x.payload ∷ [])
+
+  encodings_same : x.number ≢ n → encodings_in held (sub n (records_in (take (i + 1) xs))) ≡ encodings_in held (sub n (records_in (take i xs)))
+  encodings_same other =
+      ap (encodings_in held) (sub-take_more n xs i x lt e ∙ ap (λ l. sub n (records_in (take i xs)) ++ l) (sub-one_other n x other) ∙ append-nil (sub n (records_in (take i xs))))
+
+  records_cut : x.number ≡ n → sub n (records_in xs) ≡ sub n (records_in (take i xs)) ++ datum_of x.payload ∷ sub n (records_in (drop (i + 1) xs))
+  records_cut same =
+      ap (λ l. sub n (records_in l)) (sym (take-append-drop (i + 1) xs))
+      ∙ ap (sub n) (map-append record_of (take (i + 1) xs) (drop (i + 1) xs))
+      ∙ sub-append n (records_in (take (i + 1) xs)) (records_in (drop (i + 1) xs))
+      ∙ ap (λ l. l ++ sub n (records_in (drop (i + 1) xs))) (sub-take_more n xs i x lt e ∙ ap (λ l. sub n (records_in (take i xs)) ++ l) (sub-one_same n x same))
+      ∙ append_assoc (sub n (records_in (take i xs))) (datum_of x.payload ∷ []) (sub n (records_in (drop (i + 1) xs)))
+
+  module _ {X : Type 0} (merged : X → List ℕ → Option X) (cost : List ℕ → BudgetLeft) (old mid : X) (b m : BudgetLeft) (f : Bool)
+      (h : IsAllMerged merged cost (encodings_in held (sub n (records_in (take i xs)))) old b (Ok f) mid m) where
+    -- a record of the number is merged
+    pub one_more : (new newer : X) (a after : BudgetLeft) (g found : Bool) → x.number ≡ n → newer ≡ new → after ≡ a → found ≡ (f || g)
+        → IsAllMerged merged cost (encodings_in held (datum_of x.payload ∷ [])) mid m (Ok g) new a
+        → IsAllMerged merged cost (encodings_in held (sub n (records_in (take (i + 1) xs)))) old b (Ok found) newer after
+    one_more new newer a after g found same en ea ef k =
+        subst (λ l. IsAllMerged merged cost l old b (Ok found) newer after) (sym (encodings_more same))
+        (subst (λ y. IsAllMerged merged cost (encodings_in held (sub n (records_in (take i xs))) ++ encodings_in held (datum_of x.payload ∷ [])) old b (Ok found) y after) (sym en)
+        (subst (λ y. IsAllMerged merged cost (encodings_in held (sub n (records_in (take i xs))) ++ encodings_in held (datum_of x.payload ∷ [])) old b (Ok found) new y) (sym ea)
+        (merged_more merged cost (encodings_in held (sub n (records_in (take i xs)))) (encodings_in held (datum_of x.payload ∷ [])) old mid new f g found b m a ef h k)))
+
+    -- another record is passed over
+    pub passed_over : (newer : X) (after : BudgetLeft) (found : Bool) → x.number ≢ n → newer ≡ mid → after ≡ m → found ≡ f
+        → IsAllMerged merged cost (encodings_in held (sub n (records_in (take (i + 1) xs)))) old b (Ok found) newer after
+    passed_over newer after found other en ea ef =
+        subst (λ l. IsAllMerged merged cost l old b (Ok found) newer after) (sym (encodings_same other))
+        (subst (λ y. IsAllMerged merged cost (encodings_in held (sub n (records_in (take i xs)))) old b (Ok found) y after) (sym en)
+        (subst (λ y. IsAllMerged merged cost (encodings_in held (sub n (records_in (take i xs)))) old b (Ok found) mid y) (sym ea)
+        (subst (λ y. IsAllMerged merged cost (encodings_in held (sub n (records_in (take i xs)))) old b (Ok y) mid m) (sym ef) h)))
+
+    -- the encoding in a record of the number is refused
+    pub stops_here : (takes : Datum → Type 0) (new : X) (a : BudgetLeft) (err : DecodeError) (all : List (ℕ × Datum)) → x.number ≡ n → records_in xs ≡ all
+        → IsAllMerged merged cost (encodings_in held (datum_of x.payload ∷ [])) mid m (Err err) new a → encodings_in held (datum_of x.payload ∷ []) ≢ [] → (err ≡ OutOfMemory → takes (datum_of x.payload))
+        → StopsAt merged cost held takes (sub n all) old b err a
+    stops_here takes new a err all same whole k some full = (
+      sub n (records_in (take i xs)),
+      datum_of x.payload,
+      sub n (records_in (drop (i + 1) xs)),
+      mid,
+      m,
+      ap (sub n) (sym whole) ∙ records_cut same,
+      (h.1, h.2),
+      encoding_refused merged cost held takes (datum_of x.payload) (held (datum_of x.payload)) mid new m a err refl some full k,
+    )
+
+-- ---- memory
+
+tag_of_none : tag_at [] ≡ Err UnexpectedEof
+unfolding tag_at varint_at varint_within
+tag_of_none = refl
+
+-- bytes that a field begins are some
+pub tag_has_byte : (bs : List ℕ) → BeginsField bs → bs ≢ []
+tag_has_byte bs (n, w, rest, is, other) none = let k = sym (ap tag_at none ∙ tag_of_none) ∙ is in cc
+
+-- bytes that take memory where they are read as records are some
+pub list_has_byte : (d s : ℕ) (bs : List ℕ) → ListTakesMemory d s bs → bs ≢ []
+list_has_byte d s bs h none = let k = sym (ap tag_at none ∙ tag_of_none) ∙ h.1 in cc

@@ -1,0 +1,174 @@
+-- One field of a tree, whose tag was read, and all of them: what merging them promises.
+use Rattle.std.proofs.Common.{◌≡◌, ◌≢◌, ◌⊎◌, inl, inr, refl, sym, ap, subst, ◌∙◌, arith, ℕ, zero, suc, ℤ, ◌+◌, ◌==◌, true, false, Bool, List, [], ◌∷◌, length, Some, None, Result, Ok, Err, if◌then◌else◌}
+use Rattle.std.proofs.lemmas.Bool.{ne_eqb}
+use Rattle.std.specs.BTreeMap.{insert_entry}
+use Rattle.std.specs.Ordering.{int_cmp}
+use Rattle.std.specs.Prelude.{MatchResult}
+use Rattle.buffa_bytes.proofs.StepLemmas.{agree_err, agree_ok}
+use Rattle.buffa_bytes.specs.declared.error.DecodeError.{DecodeError}
+use Rattle.buffa_bytes.specs.declared.error.DecodeError.TheVariants.{OutOfMemory}
+use Rattle.buffa_bytes.specs.declared.wire_type.WireType.{WireType}
+use Rattle.buffa_bytes.specs.declared.wire_type.WireType.TheVariants.{EndGroup, LengthDelimited, Varint}
+use Rattle.buffa_wire.proofs.MessageLemmas.{NoLimit}
+use Rattle.buffa_wire.specs.BudgetLeft.{BudgetLeft, Lacks, Pays, PaysAtMost, nothing}
+use Rattle.buffa_bytes.specs.Gives.{◌>>=◌, FullOnlyIf, Gives}
+use Rattle.buffa_wire.specs.Message.{IsFieldMerged, cost_in, merged_in}
+use Rattle.buffa_bytes.specs.Reading.{check_wire, skip_at}
+use Rattle.buffa_bytes.specs.Values.{int32_at}
+use Rattle.buffa_map.proofs.EntryLemmas.{check_sound}
+use Rattle.buffa_map.proofs.NeedLemmas.{checked}
+use Rattle.buffa_map.specs.declared.map_entry.MapEntry.{MapEntry}
+use Rattle.buffa_wire.proofs.CostLemmas.{paid}
+use Rattle.buffa_samples.specs.Fields.{int32_field, skipped_field}
+use Rattle.buffa_samples.specs.Flat.{flat_field}
+use Rattle.buffa_samples.specs.FlatLaws.{flat_sound}
+use Rattle.buffa_samples.specs.Grown.{Grown, Kids, grown, kids, listed-kids}
+use Rattle.buffa_samples.specs.TreeLaws.{cost_empty, merged_empty, tree_same, tree_sound, tree_stays}
+use Rattle.buffa_samples.specs.TreeMeaning.{ChildCost, ChildMeaning, IsChildMerged, child_at, cost, entry_need, merged, tree_field, tree_need, with_child, with_label}
+
+abbrev pub done : Result (Unit {0}) DecodeError
+done = Ok tt
+
+abbrev pub refused : DecodeError → Result (Unit {0}) DecodeError
+refused e = Err e
+
+-- ---- one field, at a level
+module _ (d : ℕ) (m : ChildMeaning) (c : ChildCost) where
+  abbrev pub TreePaid : Result (Unit {0}) DecodeError → Grown → Grown → ℕ → WireType → List ℕ → List ℕ → BudgetLeft → BudgetLeft → Type 0
+  TreePaid r old new n w bs rest before after =
+      MatchResult r
+      (λ _. (tree_field d m old n w bs ≡ Ok (new, rest)) × Pays before (tree_need d m c n w bs) after)
+      (λ e. PaysAtMost before (tree_need d m c n w bs) after
+      × (e ≢ OutOfMemory → Lacks before (tree_need d m c n w bs) ⊎ ((x : DecodeError) × (tree_field d m old n w bs ≡ Err x) × NoLimit e)))
+
+  -- a field that is no child's is one of the label's message
+  abbrev alone : ℤ × List ℕ → Result (ℤ × List ℕ) DecodeError
+  alone x = Ok (x.0, x.1)
+
+  abbrev before_all : {X : Type 0} → X → List ℕ → Result (X × List ℕ) DecodeError
+  before_all x rest = Ok (x, rest)
+
+  abbrev keeping : Kids → ℤ × List ℕ → Result (Grown × List ℕ) DecodeError
+  keeping ks x = Ok (grown x.0 ks, x.1)
+
+  label_read : (l : ℤ) (ks : Kids) (w : WireType) (bs : List ℕ) → int32_field 1 (with_label (grown l ks)) w bs ≡ (int32_field 1 (λ x. x) w bs >>= keeping ks)
+  label_read l ks w bs = by (check_wire 1 Varint w) (int32_at bs)
+    where
+      by : (a : Result (Unit {0}) DecodeError) (b : Result (ℤ × List ℕ) DecodeError) → (a >>= (λ _. b >>= keeping ks)) ≡ ((a >>= (λ _. b >>= alone)) >>= keeping ks)
+      by (Ok u) (Ok x) = refl
+      by (Ok u) (Err e) = refl
+      by (Err e) b = refl
+
+  skipped_read : (l : ℤ) (ks : Kids) (n : ℕ) (w : WireType) (bs : List ℕ) → skipped_field d (grown l ks) n w bs ≡ (skipped_field d l n w bs >>= keeping ks)
+  skipped_read l ks n w bs = by (skip_at d n w bs)
+    where
+      by : (a : Result (List ℕ) DecodeError) → (a >>= before_all (grown l ks)) ≡ ((a >>= before_all l) >>= keeping ks)
+      by (Ok x) = refl
+      by (Err e) = refl
+
+  either : (b : Bool) (x y : Result (Grown × List ℕ) DecodeError) (f g : Result (ℤ × List ℕ) DecodeError) (k : ℤ × List ℕ → Result (Grown × List ℕ) DecodeError) → x ≡ (f >>= k) → y ≡ (g >>= k) →
+      (if b then x else y) ≡ ((if b then f else g) >>= k)
+  either true x y f g k h j = h
+  either false x y f g k h j = j
+
+  as_label : (l : ℤ) (ks : Kids) (n : ℕ) (w : WireType) (bs : List ℕ) → n ≢ 2 → tree_field d m (grown l ks) n w bs ≡ (flat_field d l n w bs >>= keeping ks)
+  as_label l ks n w bs other = rw (ne_eqb n 2 other) (either (n == 1) (int32_field 1 (with_label (grown l ks)) w bs) (skipped_field d (grown l ks) n w bs) (int32_field 1 (λ x. x) w bs) (skipped_field d l n w bs)
+      (keeping ks) (label_read l ks w bs) (skipped_read l ks n w bs))
+
+  no_need : (n : ℕ) (w : WireType) (bs : List ℕ) → n ≢ 2 → tree_need d m c n w bs ≡ nothing
+  no_need n w bs other = rw (ne_eqb n 2 other) refl
+
+  pub label_paid : (r : Result (Unit {0}) DecodeError) (l new : ℤ) (ks : Kids) (n : ℕ) (w : WireType) (bs rest : List ℕ) (left : BudgetLeft) → n ≢ 2 → Gives (λ _. (new, rest)) r (flat_field d l n w bs) →
+      TreePaid r (grown l ks) (grown new ks) n w bs rest left left
+  label_paid (Ok x) l new ks n w bs rest left other h =
+      let need = no_need n w bs other in
+      (as_label l ks n w bs other ∙ rw h refl, (omega (arith, ap (λ z. z.unknown) need), omega (arith, ap (λ z. z.memory) need)))
+  label_paid (Err e) l new ks n w bs rest left other h =
+      ((omega arith, omega arith, omega arith, omega arith), λ ne. inr (e, as_label l ks n w bs other ∙ rw h refl, agree_err (flat_field d l n w bs) e (flat_sound d l n w bs) h))
+
+  -- a field of number 2 and another wire type
+  no_mismatch : (w : WireType) (e : DecodeError) → check_wire 2 LengthDelimited w ≡ Err e → NoLimit e
+  no_mismatch w e h = subst (λ z. NoLimit z) (sym (agree_err (check_wire 2 LengthDelimited w) e (check_sound 2 LengthDelimited w) h).1) (λ l. l)
+
+  pub wire_paid : (e : DecodeError) (old : Grown) (n : ℕ) (w : WireType) (bs : List ℕ) (left : BudgetLeft) → n ≡ 2 → check_wire n LengthDelimited w ≡ Err e →
+      TreePaid (refused e) old old n w bs bs left left
+  wire_paid e old n w bs left two h =
+      let here : check_wire 2 LengthDelimited w ≡ Err e = subst (λ z. check_wire z LengthDelimited w ≡ Err e) two h in
+      ((omega arith, omega arith, omega arith, omega arith), λ ne. inr (e, rw (two, here) refl, no_mismatch w e here))
+
+  -- a child's field
+  module _ (l : ℤ) (es : List (ℤ × Grown)) (w : WireType) (bs : List ℕ) where
+    put_kids : (k : ℤ) (t : Grown) → with_child (grown l (kids es)) k t ≡ grown l (kids (insert_entry int_cmp es k t))
+    put_kids k t = ap (λ xs. grown l (kids (insert_entry int_cmp xs k t))) (listed-kids es)
+
+    said_ok : (s : MapEntry ℤ Grown) (new : List (ℤ × Grown)) (rest : List ℕ) → check_wire 2 LengthDelimited w ≡ Ok tt → child_at d m bs ≡ Ok (s, rest) → new ≡ insert_entry int_cmp es s.key s.value →
+        tree_field d m (grown l (kids es)) 2 w bs ≡ Ok (grown l (kids new), rest)
+    said_ok s new rest wire h is = rw (wire, h) (ap (λ z. Ok (z, rest)) (put_kids s.key s.value ∙ ap (λ xs. grown l (kids xs)) (sym is)))
+
+    said_err : (e : DecodeError) → check_wire 2 LengthDelimited w ≡ Ok tt → child_at d m bs ≡ Err e → tree_field d m (grown l (kids es)) 2 w bs ≡ Err e
+    said_err e wire h = rw (wire, h) refl
+
+    need_is : check_wire 2 LengthDelimited w ≡ Ok tt → tree_need d m c 2 w bs ≡ entry_need d m c bs
+    need_is wire = rw (checked 2 LengthDelimited w wire) refl
+
+    -- the entry is merged, and so is the field
+    pub ok_paid : (s : MapEntry ℤ Grown) (n : ℕ) (new : List (ℤ × Grown)) (rest : List ℕ) (before after : BudgetLeft) → n ≡ 2 → check_wire n LengthDelimited w ≡ Ok tt → child_at d m bs ≡ Ok (s, rest) →
+        new ≡ insert_entry int_cmp es s.key s.value → Pays before (entry_need d m c bs) after → TreePaid done (grown l (kids es)) (grown l (kids new)) n w bs rest before after
+    ok_paid s n new rest before after two wire h is p =
+        let here : check_wire 2 LengthDelimited w ≡ Ok tt = subst (λ z. check_wire z LengthDelimited w ≡ Ok tt) two wire in
+        subst (λ z. TreePaid done (grown l (kids es)) (grown l (kids new)) z w bs rest before after) (sym two)
+        (said_ok s new rest here h is, subst (λ z. Pays before z after) (sym (need_is here)) p)
+
+    pub err_paid : (e : DecodeError) (n : ℕ) (new : Grown) (rest : List ℕ) (before after : BudgetLeft) → n ≡ 2 → check_wire n LengthDelimited w ≡ Ok tt → PaysAtMost before (entry_need d m c bs) after →
+        (e ≢ OutOfMemory → Lacks before (entry_need d m c bs) ⊎ ((x : DecodeError) × (child_at d m bs ≡ Err x) × NoLimit e)) → TreePaid (refused e) (grown l (kids es)) new n w bs rest before after
+    err_paid e n new rest before after two wire p why =
+        let here : check_wire 2 LengthDelimited w ≡ Ok tt = subst (λ z. check_wire z LengthDelimited w ≡ Ok tt) two wire in
+        subst (λ z. TreePaid (refused e) (grown l (kids es)) new z w bs rest before after) (sym two)
+        (subst (λ z. PaysAtMost before z after) (sym (need_is here)) p, λ ne. told here (why ne))
+      where
+        told : check_wire 2 LengthDelimited w ≡ Ok tt → Lacks before (entry_need d m c bs) ⊎ ((x : DecodeError) × (child_at d m bs ≡ Err x) × NoLimit e) →
+            Lacks before (tree_need d m c 2 w bs) ⊎ ((x : DecodeError) × (tree_field d m (grown l (kids es)) 2 w bs ≡ Err x) × NoLimit e)
+        told here (inl few) = inl (subst (λ z. Lacks before z) (sym (need_is here)) few)
+        told here (inr (x, h, k)) = inr (x, said_err x here h, k)
+
+-- ---- the field, as the call promises it
+module _ (n : ℕ) (w : WireType) (bs rest : List ℕ) (before after : BudgetLeft) where
+  as_merged : (d : ℕ) (r : Result (Unit {0}) DecodeError) (old new : Grown) → TreePaid d (merged_in merged d) (cost_in cost d) r old new n w bs rest before after → IsFieldMerged merged cost d old n w bs before r new after rest
+  as_merged zero r old new h = paid (tree_need zero (λ _ _. None) (λ _. nothing)) zero (tree_stays zero (λ _ _. None) (λ _. nothing)) (tree_field zero (λ _ _. None)) (tree_sound zero (λ _ _. None)) (tree_same zero (λ _ _. None)) r old new n w bs rest before after h
+  as_merged (suc d) r old new h = paid (tree_need (suc d) (merged d) (cost d)) (suc d) (tree_stays (suc d) (merged d) (cost d)) (tree_field (suc d) (merged d)) (tree_sound (suc d) (merged d)) (tree_same (suc d) (merged d)) r old new n w bs rest before after h
+
+  module _ (d : ℕ) (old : Grown) (l : ℤ) (es : List (ℤ × Grown)) (is : grown l (kids es) ≡ old) where
+    pub child_merged : (r : Result (Unit {0}) DecodeError) (new : List (ℤ × Grown)) → n ≡ 2 → check_wire n LengthDelimited w ≡ Ok tt → IsChildMerged d es bs before r new after rest →
+        IsFieldMerged merged cost d old n w bs before r (grown l (kids new)) after rest
+    child_merged (Ok x) new two wire (s, h, k, p) =
+        subst (λ z. IsFieldMerged merged cost d z n w bs before done (grown l (kids new)) after rest) is
+        (as_merged d done (grown l (kids es)) (grown l (kids new)) (ok_paid d (merged_in merged d) (cost_in cost d) l es w bs s n new rest before after two wire h k p))
+    child_merged (Err e) new two wire (p, why) =
+        subst (λ z. IsFieldMerged merged cost d z n w bs before (refused e) (grown l (kids new)) after rest) is
+        (as_merged d (refused e) (grown l (kids es)) (grown l (kids new)) (err_paid d (merged_in merged d) (cost_in cost d) l es w bs e n (grown l (kids new)) rest before after two wire p why))
+
+module _ (n : ℕ) (w : WireType) (bs rest : List ℕ) (left : BudgetLeft) (d : ℕ) (old : Grown) where
+  pub label_merged : (l : ℤ) (es : List (ℤ × Grown)) → grown l (kids es) ≡ old → (r : Result (Unit {0}) DecodeError) (new : ℤ) → n ≢ 2 → Gives (λ _. (new, rest)) r (flat_field d l n w bs) →
+      IsFieldMerged merged cost d old n w bs left r (grown new (kids es)) left rest
+  label_merged l es is r new other h =
+      subst (λ z. IsFieldMerged merged cost d z n w bs left r (grown new (kids es)) left rest) is
+      (as_merged n w bs rest left left d r (grown l (kids es)) (grown new (kids es)) (label_paid d (merged_in merged d) (cost_in cost d) r l new (kids es) n w bs rest left other h))
+
+  pub wire_merged : (e : DecodeError) → n ≡ 2 → check_wire n LengthDelimited w ≡ Err e → IsFieldMerged merged cost d old n w bs left (refused e) old left bs
+  wire_merged e two h = as_merged n w bs bs left left d (refused e) old old (wire_paid d (merged_in merged d) (cost_in cost d) e old n w bs left two h)
+
+-- ---- the last field was merged
+pub all_merged : (d : ℕ) (old tree : Grown) (bytes rest : List ℕ) (before now : BudgetLeft) → length rest ≡ 0 → merged d old bytes ≡ merged d tree rest →
+    now.unknown + (cost d bytes).unknown ≡ before.unknown + (cost d rest).unknown → now.memory + (cost d bytes).memory ≡ before.memory + (cost d rest).memory →
+    (merged d old bytes ≡ Some tree) × Pays before (cost d bytes) now
+all_merged d old tree bytes [] before now none means unknown memory =
+    (means ∙ merged_empty d tree, (omega (arith, unknown, ap (λ z. z.unknown) (cost_empty d)), omega (arith, memory, ap (λ z. z.memory) (cost_empty d))))
+all_merged d old tree bytes (b ∷ bs) before now none means unknown memory = absurd (omega (arith, none))
+
+-- ---- what isn't told as out of memory
+pub mismatch_full : (n : ℕ) (w : WireType) (e : DecodeError) → check_wire n LengthDelimited w ≡ Err e → e ≢ OutOfMemory
+mismatch_full n w e h full = let k = sym (agree_err (check_wire n LengthDelimited w) e (check_sound n LengthDelimited w) h).1 ∙ full in cc
+
+pub child_full : {T : Type 0} (n : ℕ) (w : WireType) (r : Result T DecodeError) → check_wire n LengthDelimited w ≡ Ok tt → FullOnlyIf r (w ≢ EndGroup)
+child_full n w (Ok x) h = tt
+child_full n w (Err e) h = λ full is. let k = sym (agree_ok (check_wire n LengthDelimited w) tt (check_sound n LengthDelimited w) h) ∙ is in cc

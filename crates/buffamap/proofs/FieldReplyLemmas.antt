@@ -1,0 +1,32 @@
+-- What is answered of pairs that a field was written of.
+use Rattle.std.proofs.Common.{◌≡◌, ℕ, ◌^◌, ◌≤◌, nat_lt, Bool, true, false, List, [], ◌∷◌, ◌++◌, length, refl, sym, ◌∙◌}
+use Rattle.std.specs.Prelude.{codes, ◌&&◌}
+use Rattle.std.proofs.lemmas.Bool.{lt-ltb, le-ltb}
+use Rattle.buffa_map.specs.Codec.{Writing}
+use Rattle.buffa_map.specs.Encoding.{HasEncoding, entry_encoding, field_encoding}
+use Rattle.buffamap.specs.Codecs.{int32_writing, string_writing}
+use Rattle.buffamap.specs.Lines.{Pair}
+use Rattle.buffamap.specs.Reply.{done, fault, hex_line}
+use Rattle.buffamap.specs.Write.{field_reply, has_text}
+
+left_false : (b : Bool) → (b && false) ≡ false
+left_false true = refl
+left_false false = refl
+
+module _ {K V : Type 0} (key : Writing K) (val : Writing V) where
+  abbrev pub size : K × V → ℕ
+  size p = length (entry_encoding key val p)
+
+  pub has : (ps : List (K × V)) → HasEncoding key val ps → has_text key val ps ≡ true
+  has [] h = refl
+  has (p ∷ ps) h = rw (lt-ltb (size p) (2 ^ 64) h.0, has ps h.1) refl
+
+  pub lacks : (done : List (K × V)) (p : K × V) (rest : List (K × V)) → 2 ^ 64 ≤ size p → has_text key val (done ++ p ∷ rest) ≡ false
+  lacks [] p rest h = rw (le-ltb (size p) (2 ^ 64) h) refl
+  lacks (q ∷ done) p rest h = rw (lacks done p rest h) (left_false (nat_lt (size q) (2 ^ 64)))
+
+pub written : (n : ℕ) (ps l : List Pair) → l ≡ ps → HasEncoding string_writing int32_writing l → field_reply n ps ≡ done (hex_line (field_encoding string_writing int32_writing n l))
+written n ps l e h = rw (sym e) (rw (has string_writing int32_writing l h) refl)
+
+pub too_large : (n : ℕ) (ps l done : List Pair) (p : Pair) (rest : List Pair) → l ≡ ps → l ≡ done ++ p ∷ rest → 2 ^ 64 ≤ length (entry_encoding string_writing int32_writing p) → field_reply n ps ≡ fault (codes "MessageTooLarge")
+too_large n ps l done p rest e s h = rw (sym e ∙ s, lacks string_writing int32_writing done p rest h) refl
