@@ -1,13 +1,21 @@
 -- What payloads hold: what is read of them, and the grammar.
-use Rattle.std.proofs.Common.{◌≡◌, ℕ, List, ◌++◌, Ok, Err, refl, sym, ap, ◌∙◌, append_assoc}
+use Rattle.std.proofs.Common.{◌≡◌, ◌<◌, ℕ, List, ◌++◌, length, Ok, Err, refl, sym, ap, ◌∙◌, append_assoc, arith, length-append}
 use Rattle.buffa_bytes.specs.declared.wire_type.WireType.{WireType}
 use Rattle.buffa_bytes.specs.declared.wire_type.WireType.TheVariants.{Varint, Fixed64, LengthDelimited, StartGroup, EndGroup, Fixed32}
 use Rattle.buffa_bytes.specs.declared.error.DecodeError.{DecodeError}
 use Rattle.buffa_bytes.specs.Content.{Content, HasContent, TakesContent, ContentFault, content_at}
 use Rattle.buffa_bytes.specs.Content.Content.{number, bytes}
 use Rattle.buffa_bytes.proofs.StepLemmas.{Agrees, agree_bind}
-use Rattle.buffa_bytes.proofs.VarintLemmas.{varint_sound, varint_complete, varint_faulty}
+use Rattle.buffa_bytes.proofs.VarintLemmas.{varint_sound, varint_complete, varint_falls, varint_faulty}
 use Rattle.buffa_bytes.proofs.DelimitedLemmas.{taken_sound, taken_complete, taken_faulty, delimited_sound, delimited_complete, delimited_faulty}
+
+-- a payload has a byte
+pub has_byte : (w : WireType) (p : List ℕ) (c : Content) → HasContent w p c → 0 < length p
+has_byte Varint p (number n) h = varint_falls p n h
+has_byte Fixed64 p (number n) h = omega (arith, h.0)
+has_byte LengthDelimited p (bytes b) h = omega (arith, varint_falls h.0 (length b) h.1, ap length h.2, length-append h.0 b)
+has_byte Fixed32 p (number n) h = omega (arith, h.0)
+has_byte _ p c h = absurd h
 
 pub content_sound : (w : WireType) (bs : List ℕ) → Agrees (content_at w bs) (λ c. TakesContent w bs c.0 c.1) (ContentFault w bs)
 content_sound Varint bs = agree_bind (varint_sound bs) (λ n v. record { holds = v }) (λ e h. h)

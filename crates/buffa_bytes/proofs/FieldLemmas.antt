@@ -3,7 +3,7 @@ use Rattle.std.proofs.Common.{◌≡◌, ◌≢◌, inl, inr, ℕ, zero, suc, �
 use Rattle.std.proofs.lemmas.Bool.{lt-ltb, le-ltb, ltb-true, ltb-false, cond_both, eqb-true, eqb-false, eq-eqb, ne_eqb}
 use Rattle.std.proofs.lemmas.List.{take-append-drop, append_cancel_right}
 use Rattle.std.proofs.Math.Seq.{drop-append_seam}
-use Rattle.buffa_bytes.specs.WireType.{wire_number, wire_kind}
+use Rattle.buffa_bytes.specs.WireType.{same_wire, wire_kind, wire_number}
 use Rattle.buffa_bytes.specs.Gives.{◌>>=◌}
 use Rattle.buffa_bytes.specs.declared.wire_type.WireType.{WireType}
 use Rattle.buffa_bytes.specs.declared.wire_type.WireType.TheVariants.{Varint, Fixed64, LengthDelimited, StartGroup, EndGroup, Fixed32}
@@ -29,6 +29,23 @@ kind_back LengthDelimited = refl
 kind_back StartGroup = refl
 kind_back EndGroup = refl
 kind_back Fixed32 = refl
+
+pub same_true : (v w : WireType) → same_wire v w ≡ true → v ≡ w
+same_true Varint Varint h = refl
+same_true Fixed64 Fixed64 h = refl
+same_true LengthDelimited LengthDelimited h = refl
+same_true StartGroup StartGroup h = refl
+same_true EndGroup EndGroup h = refl
+same_true Fixed32 Fixed32 h = refl
+same_true _ _ h = cc
+
+pub same_refl : (w : WireType) → same_wire w w ≡ true
+same_refl Varint = refl
+same_refl Fixed64 = refl
+same_refl LengthDelimited = refl
+same_refl StartGroup = refl
+same_refl EndGroup = refl
+same_refl Fixed32 = refl
 
 pub wire_small : (w : WireType) → wire_number w < 6
 wire_small Varint = omega arith
@@ -105,6 +122,9 @@ pub tag_some : (t : List ℕ) (f : ℕ) (w : WireType) → IsTag t f w → 0 < l
 tag_some t f w h = varint_falls t (8 * f + wire_number w) h.1
 
 -- ---- payloads
+pub tag_read : (bs rest : List ℕ) (n : ℕ) (w : WireType) → TakesTag bs n w rest → tag_at bs ≡ Ok (n, w, rest)
+tag_read bs rest n w (t, is_tag, e) = ap tag_at e ∙ tag_complete t n w rest is_tag
+
 -- what is read leaves less
 pub tag_falls : (bs : List ℕ) (t : ℕ × WireType × List ℕ) → tag_at bs ≡ Ok t → length t.2 < length bs
 tag_falls bs t e = let u = agree_ok (tag_at bs) t (tag_sound bs) e in omega (arith, tag_some u.0 t.0 t.1 u.1, ap length u.2, length-append u.0 t.2)
@@ -132,7 +152,7 @@ Inner = ℕ → List ℕ → Result (List ℕ) DecodeError
 abbrev pub Takes : (ℕ → List ℕ → Type 0) → ℕ → List ℕ → List ℕ → Type 0
 Takes G f bs rest = (p : List ℕ) × G f p × (bs ≡ p ++ rest)
 
-end_true : (w : WireType) → is_end w ≡ true → w ≡ EndGroup
+pub end_true : (w : WireType) → is_end w ≡ true → w ≡ EndGroup
 end_true EndGroup e = refl
 end_true Varint e = cc
 end_true Fixed64 e = cc
@@ -140,7 +160,7 @@ end_true LengthDelimited e = cc
 end_true StartGroup e = cc
 end_true Fixed32 e = cc
 
-end_false : (w : WireType) → is_end w ≡ false → w ≢ EndGroup
+pub end_false : (w : WireType) → is_end w ≡ false → w ≢ EndGroup
 end_false w e h = let k : is_end EndGroup ≡ false = subst (λ v. is_end v ≡ false) h e in cc
 
 pub not_end : (w : WireType) → w ≢ EndGroup → is_end w ≡ false
@@ -366,19 +386,13 @@ onward bs t rest x e = ap (λ z. z ++ x) e ∙ append_assoc t rest x
 pub varint_less : (bs : List ℕ) (n : ℕ) (rest : List ℕ) → varint_at bs ≡ Ok (n, rest) → length rest < length bs
 varint_less bs n rest e = let t = agree_ok (varint_at bs) (n, rest) (varint_sound bs) e in omega (arith, varint_falls t.0 n t.1, ap length t.2, length-append t.0 rest)
 
-abbrev good : List ℕ → Result (List ℕ) DecodeError
-good x = Ok x
-
-abbrev bad : DecodeError → Result (List ℕ) DecodeError
-bad e = Err e
-
-pub ok_same : {x y : List ℕ} → good x ≡ good y → x ≡ y
+pub ok_same : {A : Type 0} {x y : A} → (let r : Result A DecodeError = Ok x in r ≡ Ok y) → x ≡ y
 ok_same e = cc
 
-pub err_same : {x y : DecodeError} → bad x ≡ bad y → x ≡ y
+pub err_same : {A : Type 0} {x y : DecodeError} → (let r : Result A DecodeError = Err x in r ≡ Err y) → x ≡ y
 err_same e = cc
 
-pub ok_no_err : {x : List ℕ} {y : DecodeError} → good x ≡ bad y → ⊥
+pub ok_no_err : {A : Type 0} {x : A} {y : DecodeError} → (let r : Result A DecodeError = Ok x in r ≡ Err y) → ⊥
 ok_no_err e = cc
 
 -- ---- no payload and no field begins another

@@ -79,7 +79,7 @@ left_no_length is same bs new v left =
     rw is (λ _. left ∙ sym past, subst (λ z. IsTailOf z new) (left ∙ sym past) (tail_whole new))
 
 -- where the whole encoding was read, nothing else was
-left_read : {X : Type 0} (r : Result X DecodeError) (past new : List ℕ) → new ≡ past → LeavesUnlessFull r past new
+pub left_read : {X : Type 0} (r : Result X DecodeError) (past new : List ℕ) → new ≡ past → LeavesUnlessFull r past new
 left_read (Ok x) past new e = tt
 left_read (Err d) past new e = (λ _. e, subst (λ z. IsTailOf z new) e (tail_whole new))
 

@@ -7,19 +7,11 @@ use Rattle.buffa_bytes.specs.declared.error.DecodeError.{DecodeError}
 use Rattle.buffa_bytes.specs.Content.{Content, HasContent, content_at, number_in}
 use Rattle.buffa_bytes.specs.Content.Content.{number, bytes}
 use Rattle.buffa_bytes.proofs.StepLemmas.{agree_ok}
-use Rattle.buffa_bytes.proofs.ContentLemmas.{content_sound, content_complete}
+use Rattle.buffa_bytes.proofs.ContentLemmas.{content_sound, content_complete, has_byte}
 use Rattle.buffa_bytes.proofs.VarintLemmas.{varint_falls}
 use Rattle.buffa_bytes.specs.Scan.{step_then}
 use Rattle.buffa_bytes.proofs.ScanLemmas.{Shortens, scan_step}
 use Rattle.buffa_codec.specs.Packed.{number_then, numbers_in}
-
--- a payload has a byte
-has_byte : (w : WireType) (p : List ℕ) (c : Content) → HasContent w p c → 0 < length p
-has_byte Varint p (number n) h = varint_falls p n h
-has_byte Fixed64 p (number n) h = omega (arith, h.0)
-has_byte LengthDelimited p (bytes b) h = omega (arith, varint_falls h.0 (length b) h.1, ap length h.2, length-append h.0 b)
-has_byte Fixed32 p (number n) h = omega (arith, h.0)
-has_byte _ p c h = absurd h
 
 content_less : (w : WireType) (bs : List ℕ) (c : Content × List ℕ) → content_at w bs ≡ Ok c → length c.1 < length bs
 content_less w bs c e =

@@ -17,9 +17,10 @@ use Rattle.buffa_wire.specs.Encoding.{records_encoding}
 use Rattle.buffa_fields.specs.Layout.{Choice, Follow, IsCounted, IsPut, Kept, Layout, Passed, Seen, Shape, Took, costs_nothing, more, passes, visited}
 use Rattle.buffa_wire.specs.Kept.{keep_need}
 use Rattle.buffa_fields.specs.Keep.{KeepTakesMemory, keep_takes}
-use Rattle.buffa_fields.specs.PairLaws.{first_taken, other_taken, records_encoding-append}
+use Rattle.buffa_fields.specs.PairLaws.{first_taken, other_taken}
 use Rattle.buffa_fields.specs.Takes.{IsTaken, Need, Taker, both_need, both_take, cost_of, merged_of}
 use Rattle.buffa_fields.specs.TakesLaws.{back as leads_back, taken_full, taken_merges}
+use Rattle.buffa_wire.proofs.EncodingLemmas.{records_encoding-append}
 
 -- ---- one member takes the field, or one of the others
 module _ {P X B : Type 0} (s : Shape P X) (k : ℕ) (g : Taker B) (gn : Need) (d : ℕ) (p q : P) (b c : B) (n : ℕ) (w : WireType) (bs : List ℕ) (before : BudgetLeft) (r : Result (Unit {0}) DecodeError) (after : BudgetLeft) (rest : List ℕ)

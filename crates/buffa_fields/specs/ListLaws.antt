@@ -2,9 +2,9 @@
 use Rattle.std.proofs.Common.{◌≡◌, ◌≢◌, inl, inr, ℕ, zero, suc, ◌+◌, ◌*◌, ◌^◌, ◌==◌, ◌<◌, ◌≤◌, min, Bool, true, false, List, [], ◌∷◌, ◌++◌, length, map, take, drop, get_or, Some, Result, Ok, Err, IsOk, refl, sym, ap, subst, ◌∙◌, arith, append_assoc, append-nil, length-append, if◌then◌else◌}
 use Rattle.std.proofs.lemmas.Bool.{eq-eqb}
 use Rattle.std.proofs.lemmas.List.{map-append, take_more, drop_more, take-append-drop}
-use Rattle.buffa_bytes.proofs.ContentLemmas.{content_complete}
+use Rattle.buffa_bytes.proofs.ContentLemmas.{content_complete, has_byte}
 use Rattle.buffa_bytes.proofs.DelimitedLemmas.{delimited_back, delimited_complete, delimited_sound}
-use Rattle.buffa_bytes.proofs.FieldLemmas.{wire_small}
+use Rattle.buffa_bytes.proofs.FieldLemmas.{wire_small, same_refl}
 use Rattle.buffa_bytes.proofs.SinkLemmas.{front_first, front_second}
 use Rattle.buffa_bytes.proofs.StepLemmas.{Agrees, agree_bind, agree_err, agree_ok}
 use Rattle.buffa_bytes.proofs.VarintLemmas.{IsVarint-varint_encoding, varint_falls}
@@ -30,22 +30,14 @@ use Rattle.buffa_wire.specs.Records.{Datum, records_of}
 use Rattle.buffa_wire.specs.Encoding.{field_encoding, records_encoding}
 use Rattle.buffa_bytes.specs.Values.{delimited_encoding, tag_encoding}
 use Rattle.buffa_bytes.specs.Written.{WritesFront}
-use Rattle.buffa_map.proofs.EntryLemmas.{same_false, same_refl, value_complete, value_sound}
+use Rattle.buffa_map.proofs.EntryLemmas.{same_false, value_complete, value_sound}
 use Rattle.buffa_map.specs.Codec.{Reading, ValueFault, Writing, level, value_at}
 use Rattle.buffa_fields.specs.LayoutLaws.{cap_more}
 use Rattle.buffa_fields.specs.Lists.{Each, TakesPacked, check_list_wire, element_at, element_records, elements_in, elements_taken, packed_records, packed_encoding}
-use Rattle.buffa_fields.specs.PairLaws.{records_encoding-append}
 use Rattle.buffa_fields.specs.Takes.{IsTaken, Leads, Piece, ReadsBack, joined}
 use Rattle.buffa_fields.specs.ValueLaws.{content_payload, fault_no_limit, none_of}
 use Rattle.buffa_fields.specs.Values.{free}
-
--- a payload has a byte
-has_byte : (w : WireType) (p : List ℕ) (c : Content) → HasContent w p c → 0 < length p
-has_byte Varint p (number n) h = varint_falls p n h
-has_byte Fixed64 p (number n) h = omega (arith, h.0)
-has_byte LengthDelimited p (held b) h = omega (arith, varint_falls h.0 (length b) h.1, ap length h.2, length-append h.0 b)
-has_byte Fixed32 p (number n) h = omega (arith, h.0)
-has_byte _ p c h = absurd h
+use Rattle.buffa_wire.proofs.EncodingLemmas.{records_encoding-append}
 
 same_body : (a b x y : List ℕ) → (let r : Result (List ℕ × List ℕ) DecodeError = Ok (a, x) in r ≡ Ok (b, y)) → a ≡ b
 same_body a b x y h = ap (λ z. z.0) (ok_same h)

@@ -10,12 +10,9 @@ use Rattle.buffa_wire.specs.Parse.{Fits}
 use Rattle.buffa_wire.specs.Records.{Datum, records_of}
 use Rattle.buffa_wire.specs.Encoding.{field_encoding, records_encoding}
 use Rattle.buffa_fields.specs.Takes.{IsTaken, Leads, Need, Piece, ReadsBack, Stays, Taker, both_need, both_take, is_number, joined}
+use Rattle.buffa_wire.proofs.EncodingLemmas.{records_encoding-append}
 
 -- ---- records
-pub records_encoding-append : (xs ys : List (ℕ × Datum)) → records_encoding (xs ++ ys) ≡ records_encoding xs ++ records_encoding ys
-records_encoding-append [] ys = refl
-records_encoding-append (x ∷ xs) ys = ap (λ (z : List ℕ). field_encoding x.0 x.1 ++ z) (records_encoding-append xs ys) ∙ sym (append_assoc (field_encoding x.0 x.1) (records_encoding xs) (records_encoding ys))
-
 pub fits_both : (xs ys : List (ℕ × Datum)) → Fits (records_of (xs ++ ys)) → Fits (records_of xs) × Fits (records_of ys)
 fits_both [] ys h = (tt, h)
 fits_both (x ∷ xs) ys h = let k = fits_both xs ys h.2 in ((h.0, h.1, k.0), k.1)

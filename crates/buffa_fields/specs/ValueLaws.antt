@@ -9,20 +9,21 @@ use Rattle.buffa_bytes.specs.declared.error.DecodeError.{DecodeError}
 use Rattle.buffa_bytes.specs.declared.error.DecodeError.TheVariants.{InvalidWireType, OutOfMemory, UnexpectedEof, WireTypeMismatch}
 use Rattle.buffa_bytes.specs.declared.wire_type.WireType.{WireType}
 use Rattle.buffa_bytes.specs.declared.wire_type.WireType.TheVariants.{Varint, Fixed64, LengthDelimited, StartGroup, EndGroup, Fixed32}
-use Rattle.buffa_wire.proofs.MessageLemmas.{NoLimit, length_no_limit, var_no_limit}
+use Rattle.buffa_wire.proofs.MessageLemmas.{NoLimit, length_no_limit, var_no_limit, as_no_limit}
 use Rattle.buffa_wire.specs.BudgetLeft.{BudgetLeft}
 use Rattle.buffa_bytes.specs.Field.{Payload, IsTag}
 use Rattle.buffa_wire.specs.Message.{IsLimit}
 use Rattle.buffa_bytes.specs.Number.{IsNumber}
 use Rattle.buffa_bytes.specs.WireType.{same_wire, wire_number}
-use Rattle.buffa_map.proofs.EntryLemmas.{same_false, same_refl, value_complete, value_sound}
+use Rattle.buffa_map.proofs.EntryLemmas.{same_false, value_complete, value_sound}
 use Rattle.buffa_map.specs.Codec.{Reading, RefusesValue, Spends, Tells, ValueFault, Writing, level, value_at}
 use Rattle.buffa_fields.specs.Takes.{IsTaken, Piece, ReadsBack, joined}
 use Rattle.buffa_fields.specs.Values.{IfThere, all_of, free, records_unless, some_records, some_taken, value_taken}
-use Rattle.buffa_bytes.proofs.FieldLemmas.{wire_small}
+use Rattle.buffa_bytes.proofs.FieldLemmas.{wire_small, same_refl}
 use Rattle.buffa_wire.specs.Records.{Datum}
 use Rattle.buffa_wire.specs.Encoding.{field_encoding, records_encoding}
 use Rattle.buffa_bytes.specs.Values.{tag_encoding}
+use Rattle.buffa_wire.proofs.KeepLemmas.{content_no_limit}
 
 -- ---- contents are payloads
 pub content_payload : (d n : ℕ) (w : WireType) (p : List ℕ) (c : Content) → HasContent w p c → Payload d n w p
@@ -36,17 +37,6 @@ content_payload d n LengthDelimited p (number k) h = absurd h
 content_payload d n Fixed32 p (bytes b) h = absurd h
 content_payload d n StartGroup p c h = absurd h
 content_payload d n EndGroup p c h = absurd h
-
-told : (e f : DecodeError) → e ≡ f → NoLimit f → NoLimit e
-told e f h k = subst (λ z. NoLimit z) (sym h) k
-
-content_no_limit : (w : WireType) (bs : List ℕ) (e : DecodeError) → ContentFault w bs e → NoLimit e
-content_no_limit Varint bs e h = var_no_limit bs e h
-content_no_limit Fixed64 bs e h = told e UnexpectedEof h.1 (λ l. l)
-content_no_limit LengthDelimited bs e h = length_no_limit bs e h
-content_no_limit StartGroup bs e h = told e (InvalidWireType 3) h (λ l. l)
-content_no_limit EndGroup bs e h = told e (InvalidWireType 4) h (λ l. l)
-content_no_limit Fixed32 bs e h = told e UnexpectedEof h.1 (λ l. l)
 
 module _ {V : Type 0} (codec : Reading V) (plain : codec.nested ≡ false)
     (no_limit : (d : ℕ) (old : V) (c : Content) (x : DecodeError) → codec.reads d old c ≡ Err x → IsLimit x → ⊥)
@@ -79,7 +69,7 @@ module _ {V : Type 0} (codec : Reading V) (plain : codec.nested ≡ false)
       IsTaken (value_taken codec) free d v n w bs before (let r : Result (Unit {0}) DecodeError = Err e in r) x after rest
   wire_err e x rest after other is kept = (
     spent_none after kept,
-    λ ne. inr ((λ p more payload split. rw (same_false codec.wire w other) refl), told e (WireTypeMismatch n codec.wire w) is (λ l. l)),
+    λ ne. inr ((λ p more payload split. rw (same_false codec.wire w other) refl), as_no_limit e (WireTypeMismatch n codec.wire w) is (λ l. l)),
     λ full end. let k = sym full ∙ is in cc,
   )
 
@@ -94,7 +84,7 @@ module _ {V : Type 0} (codec : Reading V) (plain : codec.nested ≡ false)
   pub fault_no_limit : (e : DecodeError) → ValueFault codec d v bs e → NoLimit e
   fault_no_limit e (inl h) = let k = open_level in cc
   fault_no_limit e (inr (inl (o, h))) = content_no_limit codec.wire bs e h
-  fault_no_limit e (inr (inr (o, c, rest, x, t, h, tells))) = told e x (plainly codec.nested plain tells) (no_limit d v c x h)
+  fault_no_limit e (inr (inr (o, c, rest, x, t, h, tells))) = as_no_limit e x (plainly codec.nested plain tells) (no_limit d v c x h)
     where
       plainly : (b : Bool) → b ≡ false → Tells b x e → e ≡ x
       plainly false k t = t

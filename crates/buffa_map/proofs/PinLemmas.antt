@@ -2,7 +2,7 @@
 use Rattle.std.proofs.Common.{◌≡◌, ◌≢◌, ℕ, ◌+◌, ◌*◌, ◌≤◌, ◌⊎◌, inl, inr, Bool, false, true, List, [], ◌∷◌, ◌++◌, Result, Ok, Err, length, ap, append_assoc, refl, subst, sym, ◌∙◌, arith, cond}
 use Rattle.std.specs.Map.{lookup_entry}
 use Rattle.buffa_bytes.proofs.DelimitedLemmas.{delimited_faulty, delimited_sound, delimited_taken}
-use Rattle.buffa_bytes.proofs.FieldLemmas.{tag_faulty}
+use Rattle.buffa_bytes.proofs.FieldLemmas.{tag_faulty, tag_read}
 use Rattle.buffa_bytes.proofs.StepLemmas.{agree_ok}
 use Rattle.buffa_bytes.specs.declared.error.DecodeError.{DecodeError}
 use Rattle.buffa_bytes.specs.declared.error.DecodeError.TheVariants.{OutOfMemory}
@@ -24,7 +24,7 @@ use Rattle.buffa_map_base.proofs.EntryLemmas.{Plain, need_by-nothing, value_faul
 use Rattle.buffa_map.proofs.FrontLemmas.{paid_no_fault, same_front, same_taken}
 use Rattle.buffa_map_base.proofs.NeedLemmas.{need_free}
 use Rattle.buffa_map_base.proofs.ResultLemmas.{not_ok}
-use Rattle.buffa_map_base.proofs.RunLemmas.{InFault, in_faulty, run_complete, run_faulty, said_complete, said_faulty, extra_kept, tag_read}
+use Rattle.buffa_map_base.proofs.RunLemmas.{InFault, in_faulty, run_complete, run_faulty, said_complete, said_faulty, extra_kept}
 use Rattle.buffa_map_base.proofs.TailLemmas.{no_tag, one_number, one_wire, one_after}
 
 err_one : {A : Type 0} {x y : DecodeError} {r : Result A DecodeError} → r ≡ Err x → r ≡ Err y → x ≡ y
@@ -140,12 +140,12 @@ module _ {K V : Type 0} (key : Reading K) (val : Reading V) (d n cost extra : �
   record_there : (over : BudgetLeft) (rest : List ℕ) (f : DecodeError) → RecordFault key val d n cost extra over rest f →
       (HasRecord n rest → ⊥) ⊎ ((mid : List ℕ) × (e : List ℕ) × (after : List ℕ) × (tag_at rest ≡ Ok (n, LengthDelimited, mid)) × TakesDelimited mid e after)
   record_there over rest f (inl h) = inl (λ (mid, is, ok). no_tag rest f (tag_faulty rest f h) n LengthDelimited mid is)
-  record_there over rest f (inr (inl (g, w, m, t, other, which))) = inl (λ (mid, is, ok). other (one_number rest m mid g n w LengthDelimited (tag_read key val d n cost extra over rest m g w t) is))
-  record_there over rest f (inr (inr (inl (w, m, t, other, which)))) = inl (λ (mid, is, ok). other (one_wire rest m mid n n w LengthDelimited (tag_read key val d n cost extra over rest m n w t) is))
+  record_there over rest f (inr (inl (g, w, m, t, other, which))) = inl (λ (mid, is, ok). other (one_number rest m mid g n w LengthDelimited (tag_read rest m g w t) is))
+  record_there over rest f (inr (inr (inl (w, m, t, other, which)))) = inl (λ (mid, is, ok). other (one_wire rest m mid n n w LengthDelimited (tag_read rest m n w t) is))
   record_there over rest f (inr (inr (inr (m, t, inl h)))) =
-      let tag = tag_read key val d n cost extra over rest m n LengthDelimited t in
+      let tag = tag_read rest m n LengthDelimited t in
       inl (λ (mid, is, ok). not_ok (delimited_at mid) f (subst (λ z. delimited_at z ≡ Err f) (sym (one_after rest mid m n n LengthDelimited LengthDelimited is tag)) (delimited_faulty m f h)) ok)
-  record_there over rest f (inr (inr (inr (m, t, inr (u, e, after, v, is, h))))) = inr (m, e, after, tag_read key val d n cost extra over rest m n LengthDelimited t, (u, v, is))
+  record_there over rest f (inr (inr (inr (m, t, inr (u, e, after, v, is, h))))) = inr (m, e, after, tag_read rest m n LengthDelimited t, (u, v, is))
 
 -- ---- the laws
 
@@ -230,17 +230,17 @@ module _ {K V : Type 0} (r : Rules K V)
         let same = stopped_same.1 in
         h.past_no_tag f is ∙ ap past_no_tag same ∙ sym (k.past_no_tag f (ap tag_at (sym same) ∙ is))
     one_unread (inr (inl (n, w, m, t, other, which))) =
-        let is = tag_read r.key r.val r.depth r.number r.cost r.extra h.over h.rest m n w t in
+        let is = tag_read h.rest m n w t in
         h.past_tag n w m is (inl other) ∙ sym (k.past_tag n w m (ap tag_at (sym stopped_same.1) ∙ is) (inl other))
     one_unread (inr (inr (inl (w, m, t, other, which)))) =
-        let is = tag_read r.key r.val r.depth r.number r.cost r.extra h.over h.rest m r.number w t in
+        let is = tag_read h.rest m r.number w t in
         h.past_tag r.number w m is (inr other) ∙ sym (k.past_tag r.number w m (ap tag_at (sym stopped_same.1) ∙ is) (inr other))
     one_unread (inr (inr (inr (m, t, inl bad)))) =
-        let is = tag_read r.key r.val r.depth r.number r.cost r.extra h.over h.rest m r.number LengthDelimited t in
+        let is = tag_read h.rest m r.number LengthDelimited t in
         let short = delimited_faulty m f bad in
         h.past_no_delimited m f is short ∙ sym (k.past_no_delimited m f (ap tag_at (sym stopped_same.1) ∙ is) short)
     one_unread (inr (inr (inr (m, t, inr (u, e, after, v, split, bad))))) =
-        let is = tag_read r.key r.val r.depth r.number r.cost r.extra h.over h.rest m r.number LengthDelimited t in
+        let is = tag_read h.rest m r.number LengthDelimited t in
         h.past ne m e after is (u, v, split) ∙ sym (k.past nf m e after (ap tag_at (sym stopped_same.1) ∙ is) (u, v, split))
 
     module _ (plain : Plain r.key r.val r.depth) where

@@ -11,7 +11,7 @@ use Rattle.buffa_bytes.specs.declared.wire_type.WireType.TheVariants.{Varint, Fi
 use Rattle.buffa_bytes.specs.declared.error.DecodeError.{DecodeError}
 use Rattle.buffa_bytes.specs.declared.error.DecodeError.TheVariants.{WireTypeMismatch}
 use Rattle.buffa_bytes.proofs.StepLemmas.{Agrees, agree_bind, agree_if, agree_ok, agree_err, agree_weaker}
-use Rattle.buffa_bytes.proofs.FieldLemmas.{tag_sound, tag_complete, tag_faulty, tag_some, payload_sound, payload_complete, payload_faulty}
+use Rattle.buffa_bytes.proofs.FieldLemmas.{tag_sound, tag_complete, tag_faulty, tag_some, payload_sound, payload_complete, payload_faulty, same_refl, same_true, tag_read}
 use Rattle.buffa_bytes.proofs.ContentLemmas.{content_sound, content_complete, content_taken, content_faulty}
 use Rattle.buffa_wire.specs.BudgetLeft.{BudgetLeft, Lacks, Pays, PaysAtMost, need_by, nothing}
 use Rattle.buffa_wire.specs.Sequence.{ParsesTo}
@@ -19,24 +19,6 @@ use Rattle.buffa_map_base.specs.Codec.{Reading, RefusesValue, Spends, Tells, Val
 use Rattle.buffa_map_base.specs.Entry.{CodecFault, codec_at, blanks, IsEntryField, EntryFieldFault, IsEntry, FaultOf, entry_field_at, entry_of}
 use Rattle.buffa_map_base.specs.declared.map_entry.MapEntry.{MapEntry}
 use Rattle.buffa_wire.proofs.SequenceLemmas.{Answers, answer, answers_as, along_sound, along_complete, along_faulty, ParsesTo-more}
-
--- ---- wire types
-pub same_true : (v w : WireType) → same_wire v w ≡ true → v ≡ w
-same_true Varint Varint h = refl
-same_true Fixed64 Fixed64 h = refl
-same_true LengthDelimited LengthDelimited h = refl
-same_true StartGroup StartGroup h = refl
-same_true EndGroup EndGroup h = refl
-same_true Fixed32 Fixed32 h = refl
-same_true _ _ h = cc
-
-pub same_refl : (w : WireType) → same_wire w w ≡ true
-same_refl Varint = refl
-same_refl Fixed64 = refl
-same_refl LengthDelimited = refl
-same_refl StartGroup = refl
-same_refl EndGroup = refl
-same_refl Fixed32 = refl
 
 false_of : (b : Bool) → (b ≡ true → ⊥) → b ≡ false
 false_of true h = absurd (h refl)
@@ -194,9 +176,6 @@ module _ {K V : Type 0} (key : Reading K) (val : Reading V) (d : ℕ) where
   field_complete s t f rest (inr (inr (n, w, not_one, not_two, (tag, p, is_tag, h, e), st))) =
       let split : f ++ rest ≡ tag ++ (p ++ rest) = ap (λ z. z ++ rest) e ∙ append_assoc tag p rest in
       rw (split, tag_complete tag n w (p ++ rest) is_tag, ne_eqb n 1 not_one, ne_eqb n 2 not_two, payload_complete d n w p rest h) (ap (λ z. Ok (z, rest)) (sym st))
-
-  tag_read : (bs rest : List ℕ) (n : ℕ) (w : WireType) → TakesTag bs n w rest → tag_at bs ≡ Ok (n, w, rest)
-  tag_read bs rest n w (t, is_tag, e) = ap tag_at e ∙ tag_complete t n w rest is_tag
 
   -- no payload of a key or a value is nested
   abbrev pub Plain : Type 0

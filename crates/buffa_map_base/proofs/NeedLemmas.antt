@@ -13,7 +13,7 @@ use Rattle.buffa_bytes.specs.declared.error.DecodeError.{DecodeError}
 use Rattle.buffa_bytes.specs.declared.error.DecodeError.TheVariants.{ElementMemoryLimitExceeded, RecursionLimitExceeded, UnknownFieldLimitExceeded}
 use Rattle.buffa_bytes.proofs.DelimitedLemmas.{delimited_sound, delimited_taken}
 use Rattle.buffa_bytes.proofs.StepLemmas.{agree_ok, agree_err}
-use Rattle.buffa_bytes.proofs.FieldLemmas.{tag_falls, tag_sound}
+use Rattle.buffa_bytes.proofs.FieldLemmas.{tag_falls, tag_sound, same_refl}
 use Rattle.buffa_bytes.specs.Scan.{step_then}
 use Rattle.buffa_bytes.proofs.ScanLemmas.{Leads, Shortens, scan_leads, scan_step}
 use Rattle.buffa_bytes.specs.Content.{Content, ContentFault}
@@ -22,7 +22,8 @@ use Rattle.buffa_wire.specs.Sequence.{ParsesTo}
 use Rattle.buffa_map_base.specs.Codec.{Reading, Tells, ValueFault, level, value_at, value_need}
 use Rattle.buffa_map_base.specs.Entry.{CodecFault, EntryFault, EntryOf, FaultOf, EntryFieldFault, IsEntry, IsEntryField, blanks, codec_need, entry_field_at, field_need, inner_need, need_at, need_of}
 use Rattle.buffa_map_base.specs.declared.map_entry.MapEntry.{MapEntry}
-use Rattle.buffa_map_base.proofs.EntryLemmas.{Plain, check_sound, check_same, field_shorter, field_sound, need_by-nothing, same_refl, value_free}
+use Rattle.buffa_map_base.proofs.EntryLemmas.{Plain, check_sound, check_same, field_shorter, field_sound, need_by-nothing, value_free}
+use Rattle.buffa_wire.proofs.KeepLemmas.{content_no_limit}
 
 pub checked : (f : ℕ) (v w : WireType) → check_wire f v w ≡ Ok tt → w ≡ v
 checked f v w h = agree_ok (check_wire f v w) tt (check_sound f v w) h
@@ -38,14 +39,6 @@ if_both : (b : Bool) (x y : BudgetLeft) → x ≡ nothing → y ≡ nothing → 
 if_both true x y h k = h
 if_both false x y h k = k
 
-content_fair : (w : WireType) (bs : List ℕ) (e : DecodeError) → ContentFault w bs e → NoLimit e
-content_fair Varint bs e h = var_no_limit bs e h
-content_fair Fixed64 bs e h = subst (λ z. NoLimit z) (sym h.1) (λ l. l)
-content_fair LengthDelimited bs e h = length_no_limit bs e h
-content_fair StartGroup bs e h = subst (λ z. NoLimit z) (sym h) (λ l. l)
-content_fair EndGroup bs e h = subst (λ z. NoLimit z) (sym h) (λ l. l)
-content_fair Fixed32 bs e h = subst (λ z. NoLimit z) (sym h.1) (λ l. l)
-
 level_fair : (b : Bool) (d : ℕ) (e : DecodeError) → level b d ≡ Err e → NoLimit e
 level_fair false d e h = cc
 level_fair true zero RecursionLimitExceeded h = λ l. l
@@ -60,7 +53,7 @@ told_fair true x e n (inr h) = h
 codec_fair : {V : Type 0} (codec : Reading V) (d n : ℕ) (old : V) → ((c : Content) (x : DecodeError) → codec.reads d old c ≡ Err x → NoLimit x) → (w : WireType) (bs : List ℕ) (e : DecodeError) → CodecFault codec d n old w bs e → NoLimit e
 codec_fair codec d n old fair w bs e (inl h) = subst (λ z. NoLimit z) (sym h.1) (λ l. l)
 codec_fair codec d n old fair w bs e (inr (same, inl h)) = level_fair codec.nested d e h
-codec_fair codec d n old fair w bs e (inr (same, inr (inl h))) = content_fair codec.wire bs e h.1
+codec_fair codec d n old fair w bs e (inr (same, inr (inl h))) = content_no_limit codec.wire bs e h.1
 codec_fair codec d n old fair w bs e (inr (same, inr (inr (o, c, rest, x, t, h, k)))) = told_fair codec.nested x e (fair c x h) k
 
 module _ {K V : Type 0} (key : Reading K) (val : Reading V) (d : ℕ) where

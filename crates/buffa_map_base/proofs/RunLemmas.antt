@@ -9,7 +9,7 @@ use Rattle.buffa_bytes.specs.declared.wire_type.WireType.TheVariants.{LengthDeli
 use Rattle.buffa_bytes.specs.declared.error.DecodeError.{DecodeError}
 use Rattle.buffa_bytes.specs.declared.error.DecodeError.TheVariants.{ElementMemoryLimitExceeded, UnexpectedField, UnknownFieldLimitExceeded}
 use Rattle.buffa_bytes.proofs.StepLemmas.{Agrees, agree_bind, agree_if, agree_ok, agree_err, agree_weaker}
-use Rattle.buffa_bytes.proofs.FieldLemmas.{tag_sound, tag_complete, tag_faulty, tag_some}
+use Rattle.buffa_bytes.proofs.FieldLemmas.{tag_sound, tag_complete, tag_faulty, tag_some, tag_read}
 use Rattle.buffa_bytes.proofs.DelimitedLemmas.{delimited_sound, delimited_complete, delimited_faulty}
 use Rattle.buffa_wire.specs.BudgetLeft.{BudgetLeft, Lacks, Pays, nothing, plus, unknown_fields}
 use Rattle.buffa_bytes.specs.Content.{Content}
@@ -188,9 +188,6 @@ module _ {K V : Type 0} (key : Reading K) (val : Reading V) (d n : ℕ) where
         let room = lacks_none left (need_of key val d cost x.bytes) (omega (arith, slots)) many in
         let inside : entry_in key val d cost extra left x.bytes ≡ Ok x.parts = rw (room, entry_complete key val d x.bytes x.parts entry, extra_test x.parts.known left.unknown (need_of key val d cost x.bytes).unknown extra slots) refl in
         rw (split, tag_complete t n LengthDelimited (l ++ (x.bytes ++ rest)) tag, eq-eqb n n refl, delimited_complete l x.bytes rest v, inside) refl
-
-    pub tag_read : (bs rest : List ℕ) (g : ℕ) (w : WireType) → TakesTag bs g w rest → tag_at bs ≡ Ok (g, w, rest)
-    tag_read bs rest g w (t, is_tag, e) = ap tag_at e ∙ tag_complete t g w rest is_tag
 
     module _ (key_free : key.nested ≡ false → (d : ℕ) (c : Content) → key.cost d c ≡ nothing) (val_free : val.nested ≡ false → (d : ℕ) (c : Content) → val.cost d c ≡ nothing) where
       -- where no payload is nested, the units are all that is needed

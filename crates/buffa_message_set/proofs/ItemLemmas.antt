@@ -15,7 +15,7 @@ use Rattle.buffa_bytes.specs.declared.error.DecodeError.TheVariants.{InvalidMess
 use Rattle.buffa_bytes.specs.declared.error.MessageSetFault.TheVariants.{MissingTypeId}
 use Rattle.buffa_bytes.proofs.StepLemmas.{Agrees, agree_bind, agree_err, agree_if, agree_ok, agree_weaker}
 use Rattle.buffa_bytes.proofs.DelimitedLemmas.{delimited_complete, delimited_faulty, delimited_sound, taken_sound}
-use Rattle.buffa_bytes.proofs.FieldLemmas.{payload_complete, payload_faulty, payload_sound, tag_complete, tag_faulty, tag_some, tag_sound}
+use Rattle.buffa_bytes.proofs.FieldLemmas.{payload_complete, payload_faulty, payload_sound, tag_complete, tag_faulty, tag_some, tag_sound, same_refl, same_true, tag_read}
 use Rattle.buffa_bytes.proofs.FullLemmas.{delimited_full, payload_fault_full, payload_full, tag_fault_full}
 use Rattle.buffa_bytes.proofs.VarintLemmas.{IsVarint-varint_encoding, varint_complete, varint_faulty, varint_sound}
 use Rattle.buffa_bytes.proofs.ScanLemmas.{Leads, Shortens, if_leads, if_short, parsed_leads, parsed_short, scan_leads, scan_step}
@@ -27,23 +27,6 @@ use Rattle.buffa_wire.proofs.SequenceLemmas.{ParsesTo-first, ParsesTo-more, ok_s
 use Rattle.buffa_message_set.specs.Item.{BytesAt, EndFault, ItemFieldFault, HasMessage, IsItemField, IsMessageAt, IsOther, IsOutOfRange, IsTypeId, Item, ItemFault, Reaches, Said, TakesItem, TypeIdFault, appended_at, body_encoding, ends_item, ended, item_field_at, item_at, item_from, item_step, said, says, type_id_at, unsaid}
 
 -- ---- numbers and wire types that are looked for
-same_true : (v w : WireType) → same_wire v w ≡ true → v ≡ w
-same_true Varint Varint h = refl
-same_true Fixed64 Fixed64 h = refl
-same_true LengthDelimited LengthDelimited h = refl
-same_true StartGroup StartGroup h = refl
-same_true EndGroup EndGroup h = refl
-same_true Fixed32 Fixed32 h = refl
-same_true _ _ h = cc
-
-same_refl : (w : WireType) → same_wire w w ≡ true
-same_refl Varint = refl
-same_refl Fixed64 = refl
-same_refl LengthDelimited = refl
-same_refl StartGroup = refl
-same_refl EndGroup = refl
-same_refl Fixed32 = refl
-
 pub and_true : (a b : Bool) → (a && b) ≡ true → (a ≡ true) × (b ≡ true)
 and_true true b e = (refl, e)
 and_true false b e = cc
@@ -98,9 +81,6 @@ type_id_faulty bs e (inl h) = rw (varint_faulty bs e h) refl
 type_id_faulty bs e (inr (n, rest, (t, v, is), out, k)) = rw (is, varint_complete t n rest v, not_in_range n out) (ap (λ x. Err x) (sym k))
 
 -- ---- fields
-tag_read : (bs rest : List ℕ) (n : ℕ) (w : WireType) → TakesTag bs n w rest → tag_at bs ≡ Ok (n, w, rest)
-tag_read bs rest n w (t, is_tag, e) = ap tag_at e ∙ tag_complete t n w rest is_tag
-
 whole : (all t p : List ℕ) (after rest : List ℕ) → all ≡ t ++ after → after ≡ p ++ rest → all ≡ (t ++ p) ++ rest
 whole all t p after rest a b = a ∙ ap (λ z. t ++ z) b ∙ sym (append_assoc t p rest)
 

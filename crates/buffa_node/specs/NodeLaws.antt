@@ -8,7 +8,6 @@ use Rattle.buffa_wire.specs.Encoding.{records_encoding}
 use Rattle.buffa_wire.proofs.KeepLemmas.{keep_stays}
 use Rattle.buffa_fields.specs.MapFields.{map_records}
 use Rattle.buffa_fields.specs.MapLaws.{map_encoding}
-use Rattle.buffa_fields.specs.PairLaws.{records_encoding-append}
 use Rattle.buffa_fields.specs.Takes.{Stays}
 use Rattle.buffa_fields.specs.TakesLaws as fields
 use Rattle.buffa_map.specs.Enums.{closed_writing}
@@ -16,6 +15,7 @@ use Rattle.buffa_node.specs.Branch.{Branch, Kids, branch, kid, no_kids}
 use Rattle.buffa_node.specs.EntriesLaws.{entry_stays, four_stay}
 use Rattle.buffa_node.specs.NodeMeaning.{ChildCost, ChildMeaning, children, cost, merged, node_need, node_takes, numbers, shades, texts}
 use Rattle.buffa_node.specs.NodeEncoding.{kid_record, kids_records, kids_encoding, number_writing, records, shades_encoding, encoding, text_writing}
+use Rattle.buffa_wire.proofs.EncodingLemmas.{records_encoding-append}
 
 pub node_stays : (m : ChildMeaning) (c : ChildCost) → Stays (node_need m c)
 node_stays m c d n w p x h =

@@ -26,6 +26,7 @@ use Rattle.buffa_map.proofs.EntryLemmas.{check_sound}
 use Rattle.buffa_wire.specs.ByField.{FieldReader, merged_by, next_at}
 use Rattle.buffa_wire.proofs.ByFieldLemmas.{IsSame, IsSound, Same, read, some_of}
 use Rattle.buffa_samples.specs.Fields.{int32_field, number_records, number_encoding, skipped_field, varint_field}
+use Rattle.buffa_wire.proofs.EncodingLemmas.{records_encoding-append}
 
 -- ---- fields that are passed over
 module _ {X : Type 0} (d : ℕ) (v : X) (n : ℕ) (w : WireType) where
@@ -126,10 +127,6 @@ pub number_encoding_records : (n : ℕ) (v : ℤ) → number_encoding n v ≡ re
 number_encoding_records n (pos zero) = refl
 number_encoding_records n (pos (suc k)) = sym (append-nil (tag_encoding n Varint ++ int32_encoding (pos (suc k))))
 number_encoding_records n (negsuc k) = sym (append-nil (tag_encoding n Varint ++ int32_encoding (negsuc k)))
-
-records_encoding-append : (xs ys : List (ℕ × Datum)) → records_encoding (xs ++ ys) ≡ records_encoding xs ++ records_encoding ys
-records_encoding-append [] ys = refl
-records_encoding-append (x ∷ xs) ys = ap (λ (z : List ℕ). field_encoding x.0 x.1 ++ z) (records_encoding-append xs ys) ∙ sym (append_assoc (field_encoding x.0 x.1) (records_encoding xs) (records_encoding ys))
 
 -- the encoding of records and of more records
 pub both_records : (a b : List ℕ) (xs ys : List (ℕ × Datum)) → a ≡ records_encoding xs → b ≡ records_encoding ys → a ++ b ≡ records_encoding (xs ++ ys)

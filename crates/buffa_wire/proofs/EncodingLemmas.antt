@@ -38,7 +38,7 @@ pub len_more : (xs : List UnknownField) (i : ℕ) (f d : UnknownField) (total n 
     → n ≡ min (length (field_encoding f.number (datum_of f.payload))) 18446744073709551615 → next ≡ min (total + n) 18446744073709551615 → next ≡ min (length (records_encoding (records_in (take (i + 1) xs)))) 18446744073709551615
 len_more xs i f d total n next h e p q r = omega (arith, ap length (W_more xs i f d h e), length-append (records_encoding (records_in (take i xs))) (field_encoding f.number (datum_of f.payload)))
 
-records_encoding-append : (rs qs : List (ℕ × Datum)) → records_encoding (rs ++ qs) ≡ records_encoding rs ++ records_encoding qs
+pub records_encoding-append : (rs qs : List (ℕ × Datum)) → records_encoding (rs ++ qs) ≡ records_encoding rs ++ records_encoding qs
 records_encoding-append [] qs = refl
 records_encoding-append (r ∷ rs) qs = ap (λ z. field_encoding r.0 r.1 ++ z) (records_encoding-append rs qs) ∙ sym (append_assoc (field_encoding r.0 r.1) (records_encoding rs) (records_encoding qs))
 

@@ -10,7 +10,7 @@ use Rattle.buffa_wire.specs.Records.{Datum, varint, fixed32, fixed64, bytes, gro
 use Rattle.buffa_wire.specs.Encoding.{wire_of}
 use Rattle.buffa_wire.specs.Parse.{Parse, IsPayload}
 
-one_deeper : (d : ℕ) → suc d - 1 ≡ d
+pub one_deeper : (d : ℕ) → suc d - 1 ≡ d
 one_deeper d = omega arith
 
 module _ (d : ℕ) (G : ℕ → List ℕ → Type 0) (inside : (f : ℕ) (p : List ℕ) → G f p → (rs : Records) × IsPayload d f (group rs) p) where

@@ -9,9 +9,9 @@ use Rattle.buffa_bytes.specs.declared.wire_type.WireType.{WireType}
 use Rattle.buffa_bytes.specs.declared.wire_type.WireType.TheVariants as wire
 use Rattle.buffa_bytes.specs.declared.error.DecodeError.{DecodeError}
 use Rattle.buffa_bytes.specs.declared.error.DecodeError.TheVariants as error
-use Rattle.buffa_wire.proofs.JoinLemmas.{join_records, records_join}
+use Rattle.buffa_wire.proofs.JoinLemmas.{join_records, records_join, one_deeper}
 use Rattle.buffa_wire.proofs.LoopLemmas.{field_taken}
-use Rattle.buffa_wire.proofs.MessageLemmas.{NoLimit, length_no_limit, tag_no_limit, var_no_limit}
+use Rattle.buffa_wire.proofs.MessageLemmas.{NoLimit, length_no_limit, tag_no_limit, var_no_limit, as_no_limit}
 use Rattle.buffa_wire.specs.BudgetLeft.{unknown_fields}
 use Rattle.buffa_wire.specs.Kept.{keep_need, kept_record_at, spent_of}
 use Rattle.buffa_wire.specs.Message.{IsLimit}
@@ -21,9 +21,6 @@ use Rattle.buffa_wire.specs.Records.{Datum, Records, bytes, fixed32, fixed64, gr
 use Rattle.buffa_wire.specs.Encoding.{wire_of}
 
 -- ---- payloads are those of records
-one_deeper : (d : ℕ) → suc d - 1 ≡ d
-one_deeper d = omega arith
-
 group_record : (d n : ℕ) (p : List ℕ) → Group d n p → (x : Datum) × IsPayload d n x p × (wire_of x ≡ wire.StartGroup)
 unfolding Group
 group_record zero n p h = absurd h
@@ -63,10 +60,7 @@ mutual
   inside_short (group rs) d n p (o, b, t, h, tag, is) = omega (arith, records_short rs (d - 1) b h, ap length is, length-append b t)
 
 -- ---- a limit is told only where no more unknown fields are left than there are bytes
-as_no_limit : (e f : DecodeError) → e ≡ f → NoLimit f → NoLimit e
-as_no_limit e f h k = subst (λ z. NoLimit z) (sym h) k
-
-content_no_limit : (w : WireType) (bs : List ℕ) (e : DecodeError) → ContentFault w bs e → NoLimit e
+pub content_no_limit : (w : WireType) (bs : List ℕ) (e : DecodeError) → ContentFault w bs e → NoLimit e
 content_no_limit wire.Varint bs e h = var_no_limit bs e h
 content_no_limit wire.Fixed64 bs e h = as_no_limit e error.UnexpectedEof h.1 (λ l. l)
 content_no_limit wire.LengthDelimited bs e h = length_no_limit bs e h

@@ -6,11 +6,7 @@ use Rattle.buffa_bytes.specs.declared.error.DecodeError.{DecodeError}
 use Rattle.buffa_bytes.specs.Left.{LeavesUnlessFull, past_no_payload, past_no_delimited, past_no_varint}
 use Rattle.buffa_bytes.specs.Unread.{IsTailOf}
 use Rattle.buffa_bytes.proofs.TailLemmas.{tail_whole}
-
--- exactly this rest is left
-leaves : {X : Type 0} (r : Result X DecodeError) (rest new : List ℕ) → new ≡ rest → LeavesUnlessFull r rest new
-leaves (Ok x) rest new e = tt
-leaves (Err d) rest new e = (λ _. e, subst (λ z. IsTailOf z new) e (tail_whole new))
+use Rattle.buffa_bytes.proofs.LeftLemmas.{left_read}
 
 -- the rest of one wire type
 leaves_in : {X : Type 0} (r : Result X DecodeError) (w v : WireType) (bs rest new : List ℕ) → w ≡ v → past_no_payload v bs ≡ rest → LeavesUnlessFull r rest new → LeavesUnlessFull r (past_no_payload w bs) new
@@ -25,11 +21,11 @@ unfolding past_no_payload
 past_delimited bs = refl
 
 pub leaves_varint : {X : Type 0} (r : Result X DecodeError) (w : WireType) (bs new : List ℕ) → w ≡ Varint → new ≡ past_no_varint bs → LeavesUnlessFull r (past_no_payload w bs) new
-leaves_varint r w bs new k e = leaves_in r w Varint bs (past_no_varint bs) new k (past_varint bs) (leaves r (past_no_varint bs) new e)
+leaves_varint r w bs new k e = leaves_in r w Varint bs (past_no_varint bs) new k (past_varint bs) (left_read r (past_no_varint bs) new e)
 
 pub leaves_delimited : {X : Type 0} (r : Result X DecodeError) (w : WireType) (bs new : List ℕ) → w ≡ LengthDelimited → LeavesUnlessFull r (past_no_delimited bs) new → LeavesUnlessFull r (past_no_payload w bs) new
 leaves_delimited r w bs new k h = leaves_in r w LengthDelimited bs (past_no_delimited bs) new k (past_delimited bs) h
 
 -- of four or eight bytes, and of an end tag, all are left
 pub leaves_all : {X : Type 0} (r : Result X DecodeError) (w v : WireType) (bs new : List ℕ) → w ≡ v → past_no_payload v bs ≡ bs → new ≡ bs → LeavesUnlessFull r (past_no_payload w bs) new
-leaves_all r w v bs new k is e = leaves_in r w v bs bs new k is (leaves r bs new e)
+leaves_all r w v bs new k is e = leaves_in r w v bs bs new k is (left_read r bs new e)

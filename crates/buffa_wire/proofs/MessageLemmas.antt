@@ -19,7 +19,7 @@ use Rattle.buffa_wire.specs.Message.{BeginsField, IsJudged, IsLimit, MergeFault}
 abbrev pub NoLimit : DecodeError → Type 0
 NoLimit e = IsLimit e → ⊥
 
-as_no_limit : (e f : DecodeError) → e ≡ f → NoLimit f → NoLimit e
+pub as_no_limit : (e f : DecodeError) → e ≡ f → NoLimit f → NoLimit e
 as_no_limit e f h k = subst (λ z. NoLimit z) (sym h) k
 
 pub var_no_limit : (bs : List ℕ) (e : DecodeError) → VarintFault bs e → NoLimit e

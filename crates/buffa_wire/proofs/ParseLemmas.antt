@@ -15,6 +15,7 @@ use Rattle.buffa_bytes.proofs.ShortestLemmas.{varint_encoding-last, varint_encod
 use Rattle.buffa_wire.specs.Records.{Datum, varint, fixed32, fixed64, bytes, group, Records, no_records, one, records_height, datum_height}
 use Rattle.buffa_wire.specs.Encoding.{wire_of, payload_encoding, fields_encoding, field_encoding}
 use Rattle.buffa_wire.specs.Parse.{Parse, IsPayload, Fits, FitsDatum, InRange, DatumInRange}
+use Rattle.buffa_bytes.proofs.FieldLemmas.{onward}
 
 -- ---- more depth changes nothing
 mutual
@@ -178,9 +179,6 @@ stops_none t rest n x w h = absurd (omega (arith, ap length w.is, length-append 
 spread : (b t p r v : List ℕ) → b ≡ t ++ (p ++ r) → b ++ v ≡ t ++ (p ++ (r ++ v))
 spread b t p r v e = rw e (simp append_assoc)
 
-halved : (p l v r : List ℕ) → p ≡ l ++ v → p ++ r ≡ l ++ (v ++ r)
-halved p l v r e = rw e (append_assoc l v r)
-
 mutual
   same_records : (rs qs : Records) (a b u v : List ℕ) → Loose a rs → Loose b qs → ParseStops u → ParseStops v → a ++ u ≡ b ++ v → (rs ≡ qs) × (u ≡ v)
   same_records no_records no_records a b u v p q i j e = (refl, ap (λ z. z ++ u) (sym p) ∙ e ∙ ap (λ z. z ++ v) q)
@@ -200,11 +198,11 @@ mutual
   same_payload (fixed32 v) (fixed32 w) n m p q r s k a b e = let h = split_eq p q r s (a.0 ∙ sym b.0) e in (ap fixed32 (a.1 ∙ ap (from_le_bytes w32) h.0 ∙ sym b.1), h.1)
   same_payload (fixed64 v) (fixed64 w) n m p q r s k a b e = let h = split_eq p q r s (a.0 ∙ sym b.0) e in (ap fixed64 (a.1 ∙ ap (from_le_bytes w64) h.0 ∙ sym b.1), h.1)
   same_payload (bytes v) (bytes w) n m p q r s k a b e =
-      let h = Spells-one a.0 b.0 (v ++ r) (w ++ s) (length v) (length w) a.1 b.1 (sym (halved p a.0 v r a.2) ∙ e ∙ halved q b.0 w s b.2) in
+      let h = Spells-one a.0 b.0 (v ++ r) (w ++ s) (length v) (length w) a.1 b.1 (sym (onward p a.0 v r a.2) ∙ e ∙ onward q b.0 w s b.2) in
       let l = split_eq v w r s h.1 h.2 in
       (ap bytes l.0, l.1)
   same_payload (group v) (group w) n m p q r s k a b e =
-      let l = same_records v w a.0 b.0 (a.1 ++ r) (b.1 ++ s) a.2 b.2 (stops_end a.1 r n a.3) (stops_end b.1 s m b.3) (sym (halved p a.0 a.1 r a.4) ∙ e ∙ halved q b.0 b.1 s b.4) in
+      let l = same_records v w a.0 b.0 (a.1 ++ r) (b.1 ++ s) a.2 b.2 (stops_end a.1 r n a.3) (stops_end b.1 s m b.3) (sym (onward p a.0 a.1 r a.4) ∙ e ∙ onward q b.0 b.1 s b.4) in
       let h = Spells-one a.1 b.1 r s (8 * n + 4) (8 * m + 4) a.3 b.3 l.1 in
       (ap group l.0, h.2)
   same_payload _ _ n m p q r s k a b e = absurd (omega arith)

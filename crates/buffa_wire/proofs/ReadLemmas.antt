@@ -15,24 +15,14 @@ use Rattle.buffa_bytes.proofs.StepLemmas.{Agrees, agree_bind, agree_err, agree_i
 use Rattle.buffa_bytes.proofs.ScanLemmas.{Leads, Shortens, if_leads, if_short, scan_leads, scan_step}
 use Rattle.buffa_bytes.proofs.VarintLemmas.{varint_sound, varint_complete, varint_faulty}
 use Rattle.buffa_bytes.proofs.DelimitedLemmas.{taken_sound, taken_complete, taken_faulty, delimited_sound, delimited_complete, delimited_faulty}
-use Rattle.buffa_bytes.proofs.FieldLemmas.{tag_sound, tag_complete, tag_faulty, tag_some, not_end}
+use Rattle.buffa_bytes.proofs.FieldLemmas.{tag_sound, tag_complete, tag_faulty, tag_some, not_end, end_false, end_true}
 use Rattle.buffa_wire.specs.Records.{Datum, varint, fixed32, fixed64, bytes, group, Records, no_records, one}
 use Rattle.buffa_wire.specs.Encoding.{wire_of}
 use Rattle.buffa_wire.specs.Parse.{Parse, IsPayload, field_count, fields_inside, TakesField, TakesRecords, InsideFault, FieldFaultOf, NextFault, GroupFault}
 use Rattle.buffa_wire.specs.RecordReading.{GroupReader, plain_at, ends_group, field_by, fields_at, group_at, kept_step, payload_by, record_step, records_by, records_step, then_one}
+use Rattle.buffa_wire.proofs.JoinLemmas.{one_deeper}
 
 -- ---- wire types
-pub end_true : (w : WireType) → is_end w ≡ true → w ≡ wire.EndGroup
-end_true wire.EndGroup e = refl
-end_true wire.Varint e = cc
-end_true wire.Fixed64 e = cc
-end_true wire.LengthDelimited e = cc
-end_true wire.StartGroup e = cc
-end_true wire.Fixed32 e = cc
-
-pub end_false : (w : WireType) → is_end w ≡ false → w ≢ wire.EndGroup
-end_false w e h = let k : is_end wire.EndGroup ≡ false = subst (λ v. is_end v ≡ false) h e in cc
-
 pub payload_no_end : (x : Datum) → wire_of x ≢ wire.EndGroup
 payload_no_end (varint v) e = cc
 payload_no_end (fixed32 v) e = cc
@@ -352,9 +342,6 @@ module _ (d : ℕ) (inner : GroupReader) (F : ℕ → ℕ → List ℕ → Decod
         ap (records_by inner s) is ∙ pass (records_by inner) one_record rs s left b rest y q ∙ ap (behind rs) (records_fault k left rest e x o)
 
 -- ---- groups nested at most d deep
-one_deeper : (d : ℕ) → suc d - 1 ≡ d
-one_deeper d = omega arith
-
 pub group_sound : (d : ℕ) → Sound d (group_at d) (GroupFault d)
 unfolding group_at GroupFault
 group_sound zero s n bs = record { holds = refl }

@@ -6,19 +6,11 @@ use Rattle.buffa_bytes.specs.Scan.{step_then}
 use Rattle.buffa_bytes.proofs.StepLemmas.{Agrees, agree_err, agree_ok, agree_weaker}
 use Rattle.buffa_bytes.proofs.ScanLemmas.{Leads, Shortens, parsed_leads, parsed_short, scan_keeps, scan_leads, scan_step}
 use Rattle.buffa_wire.specs.Sequence.{join, ParsesEach, ParsesTo, ParseStops, parse_all, parse_step}
+pub use Rattle.buffa_bytes.proofs.FieldLemmas.{err_same, ok_no_err, ok_same}
 
 join-last : (ps : List (List ℕ)) (p : List ℕ) → join (ps ++ p ∷ []) ≡ join ps ++ p
 join-last [] p = append-nil p
 join-last (q ∷ ps) p = ap (λ z. q ++ z) (join-last ps p) ∙ sym (append_assoc q (join ps) p)
-
-pub ok_same : {A : Type 0} {x y : A} → (let r : Result A DecodeError = Ok x in r ≡ Ok y) → x ≡ y
-ok_same e = cc
-
-pub err_same : {A : Type 0} {x y : DecodeError} → (let r : Result A DecodeError = Err x in r ≡ Err y) → x ≡ y
-err_same e = cc
-
-pub ok_no_err : {A : Type 0} {x : A} {y : DecodeError} → (let r : Result A DecodeError = Ok x in r ≡ Err y) → ⊥
-ok_no_err e = cc
 
 -- r is a fault, and e is told of it; where P holds, e is that fault
 abbrev pub Answers : {A : Type 0} → Type 0 → Result A DecodeError → DecodeError → Type 0

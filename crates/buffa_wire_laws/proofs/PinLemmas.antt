@@ -20,6 +20,7 @@ use Rattle.buffa_wire.specs.Records.{list_of, records_of}
 use Rattle.buffa_wire.proofs.LoopLemmas.{field_refused, field_taken, list_refused, list_taken}
 use Rattle.buffa_wire.proofs.RecordLemmas.{list-records}
 use Rattle.buffa_wire.proofs.SequenceLemmas.{ok_same}
+use Rattle.buffa_wire.proofs.KeepLemmas.{le_or_lt}
 
 -- ---- budgets
 one_left : (left need a b : BudgetLeft) → Pays left need a → Pays left need b → a ≡ b
@@ -31,11 +32,6 @@ one_left left need a b (u, m) (v, n) =
 not_lacked : (left need a : BudgetLeft) → Pays left need a → Lacks left need → ⊥
 not_lacked left need a (u, m) (inl few) = omega (arith, u, few)
 not_lacked left need a (u, m) (inr few) = omega (arith, m, few)
-
-le_or_lt : (a b : ℕ) → (a ≤ b) ⊎ (b < a)
-le_or_lt zero b = inl (omega arith)
-le_or_lt (suc a) zero = inr (omega arith)
-le_or_lt (suc a) (suc b) = elim (le_or_lt a b) [ inl h ↦ inl (omega (arith, h)) | inr h ↦ inr (omega (arith, h)) ]
 
 paid_or_not : (left need : BudgetLeft) → ((a : BudgetLeft) × Pays left need a) ⊎ Lacks left need
 paid_or_not left need = elim (le_or_lt need.unknown left.unknown) [
