@@ -10,6 +10,7 @@ use Rattle.buffa_codec.specs.Reading.{AddsSome, LaterReadingsWin, ReadsAll, Read
 use Rattle.buffa_codec.specs.Pinned.{AreValues, BeginsAlike, EncodingIsPinned, HasAnswer, LeavesOne, OneAnswer, OneList, RefusalIsPinned}
 use Rattle.buffa_codec.specs.Texts.{left_over}
 use Rattle.buffa_codec.proofs.FilteredLemmas.{last_read-append}
+use Rattle.std.proofs.lemmas.Option.{same_Some}
 
 -- ---- one value
 
@@ -66,9 +67,6 @@ module _ {M : Type 0} (one : BudgetLeft → Datum → Option M) (leaves : Budget
 not_both : {A P : Type 0} (e : A) → None ≡ Some e → P
 not_both e h = cc
 
-same_some : {A : Type 0} (x y : A) → Some x ≡ Some y → x ≡ y
-same_some x y h = cc
-
 module _ (T : Type 0) (refusal : Option EncodeError) where
   either_by : (e : EncodeError) → refusal ≡ None → ((e ≡ OutOfMemory) ⊎ (refusal ≡ Some e)) → e ≡ OutOfMemory
   either_by e h (inl k) = k
@@ -77,7 +75,7 @@ module _ (T : Type 0) (refusal : Option EncodeError) where
   told_by : (e f : EncodeError) → ((e ≡ OutOfMemory) ⊎ (refusal ≡ Some e)) → ((f ≡ OutOfMemory) ⊎ (refusal ≡ Some f)) → e ≢ OutOfMemory → f ≢ OutOfMemory → e ≡ f
   told_by e f (inl h) k mine other = absurd (mine h)
   told_by e f (inr h) (inl k) mine other = absurd (other k)
-  told_by e f (inr h) (inr k) mine other = same_some e f (sym h ∙ k)
+  told_by e f (inr h) (inr k) mine other = same_Some e f (sym h ∙ k)
 
   pub refusal_is_pinned : RefusalIsPinned T refusal
   refusal_is_pinned = record { either = λ x e h k. either_by e h k; told = λ e f h k. told_by e f h k }

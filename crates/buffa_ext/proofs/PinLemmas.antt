@@ -13,9 +13,7 @@ use Rattle.buffa_ext.specs.Defaults.{IsDefaulted}
 use Rattle.buffa_ext.specs.Messages.{AreMerged, IsEncodingRefused, LeavesOf, MergingStaysWithin, cost_all, merged_all, message_of, encodings_in}
 use Rattle.buffa_ext.specs.MessageFacts.{all_merged, left_yes}
 use Rattle.buffa_ext.specs.Pinned.{ListIsExact, MergingIsPinned, RecordMergeIsPinned}
-
-same_some : {A : Type 0} (x y : A) → Some x ≡ Some y → x ≡ y
-same_some x y h = cc
+use Rattle.std.proofs.lemmas.Option.{same_Some}
 
 some_none : {A P : Type 0} (x : A) → Some x ≡ None → P
 some_none x h = cc
@@ -71,7 +69,7 @@ module _ {X : Type 0} (merged : X → List ℕ → Option X) (cost : List ℕ �
   stuck_from : (d : Datum) (old mid : X) (before left : BudgetLeft) → Done [] old before mid left → Stuck d mid left → Stuck d old before
   stuck_from d old mid before left done stuck =
       let same : left ≡ before = left_over before nothing left done.1 ∙ sym (minus_nothing before) in
-      subst (λ b. Stuck d old b) same (subst (λ x. Stuck d x left) (sym (same_some old mid done.0)) stuck)
+      subst (λ b. Stuck d old b) same (subst (λ x. Stuck d x left) (sym (same_Some old mid done.0)) stuck)
 
   -- what follows the first record goes on from what it leaves
   module _ (f g : List Datum) (mid mid' : X) (left left' : BudgetLeft) (again : (w : X) (b : BudgetLeft) → Done f w b mid left → Done g w b mid' left' → f ≡ g) where
@@ -110,7 +108,7 @@ module _ {X : Type 0} (merged : X → List ℕ → Option X) (cost : List ℕ �
   record_merge_is_pinned = record {
     alike = λ d old new newer before left over f g h k.
         let need = cost_all cost (encodings_in held (d ∷ [])) in
-        (h.0 ∙ sym k.0, same_some new newer (sym h.1 ∙ k.1), left_over before need left h.2 ∙ sym (left_over before need over k.2));
+        (h.0 ∙ sym k.0, same_Some new newer (sym h.1 ∙ k.1), left_over before need left h.2 ∙ sym (left_over before need over k.2));
     refused = λ d old new newer before left over f e h k ne.
         no_fault (merged_all merged old (encodings_in held (d ∷ []))) (cost_all cost (encodings_in held (d ∷ []))) before left new e h.1 h.2 (k.1 ne);
   }
@@ -119,7 +117,7 @@ module _ {X : Type 0} (merged : X → List ℕ → Option X) (cost : List ℕ �
   merging_is_pinned = record {
     alike = λ ds old new newer before left over f g h k. (
       h.0 ∙ sym k.0,
-      same_some new newer (sym h.1.0 ∙ k.1.0),
+      same_Some new newer (sym h.1.0 ∙ k.1.0),
       left_over before (cost_all cost (encodings_in held ds)) left h.1.1 ∙ sym (left_over before (cost_all cost (encodings_in held ds)) over k.1.1),
     );
     refused = λ ds old new newer before left over f e h k kept.
@@ -210,14 +208,14 @@ module _ {X : Type 0} (merged : X → List ℕ → Option X) (cost : List ℕ �
 module _ {V M : Type 0} (read : Option M) (meaning : V → M) (blank : M) (declared : Option V → Type 0)
     (one : (o p : Option V) → declared o → declared p → option_map meaning o ≡ option_map meaning p) (v w : V) where
   two_defaults : (declared (Some v) ⊎ (declared None × (meaning v ≡ blank))) → (declared (Some w) ⊎ (declared None × (meaning w ≡ blank))) → meaning v ≡ meaning w
-  two_defaults (inl h) (inl k) = same_some (meaning v) (meaning w) (one (Some v) (Some w) h k)
+  two_defaults (inl h) (inl k) = same_Some (meaning v) (meaning w) (one (Some v) (Some w) h k)
   two_defaults (inl h) (inr k) = not_both (meaning v) (Some (meaning v)) refl (one (Some v) None h k.0)
   two_defaults (inr h) (inl k) = not_both (meaning w) (Some (meaning w)) refl (one (Some w) None k h.0)
   two_defaults (inr h) (inr k) = h.1 ∙ sym k.1
 
   pub one_default : IsDefaulted (λ o. option_map meaning o ≡ read) declared (meaning v ≡ blank) v
       → IsDefaulted (λ o. option_map meaning o ≡ read) declared (meaning w ≡ blank) w → meaning v ≡ meaning w
-  one_default (inl h) (inl k) = same_some (meaning v) (meaning w) (h ∙ sym k)
+  one_default (inl h) (inl k) = same_Some (meaning v) (meaning w) (h ∙ sym k)
   one_default (inl h) (inr k) = not_both (meaning v) read (sym h) (sym k.0)
   one_default (inr h) (inl k) = not_both (meaning w) read (sym k) (sym h.0)
   one_default (inr h) (inr k) = two_defaults h.1 k.1

@@ -6,15 +6,13 @@ use Rattle.std.specs.declared.alloc.AllocError.{AllocError}
 use Rattle.buffa_wire.specs.Records.{Datum}
 use Rattle.buffa_codec.specs.Reading.{HasByte, HasLast, last_read}
 use Rattle.buffa_ext.specs.Defaults.{IsDefaulted}
+use Rattle.std.proofs.lemmas.Option.{same_Some}
 
 some_read : {V : Type 0} (r : Option V) (v d : V) → Some v ≡ r → v ≡ unwrap_or r d
 some_read r v d e = rw (sym e) refl
 
 none_read : {V : Type 0} (r : Option V) (v d : V) → None ≡ r → v ≡ d → v ≡ unwrap_or r d
 none_read r v d e h = rw (sym e) h
-
-same_some : {V : Type 0} (v d : V) → Some v ≡ Some d → v ≡ d
-same_some v d e = cc
 
 never_none : {V : Type 0} {P : Type 0} (d : V) → None ≡ Some d → P
 never_none d e = cc
@@ -25,7 +23,7 @@ pub default_of : {V : Type 0} {reads declared : Option V → Type 0} {blank : Ty
     → ((o : Option V) → reads o → o ≡ r) → ((o : Option V) → declared o → o ≡ Some d)
     → v ≡ unwrap_or r d
 default_of {v = v} r d (inl h) is says = some_read r v d (is (Some v) h)
-default_of {v = v} r d (inr (h, inl k)) is says = none_read r v d (is None h) (same_some v d (says (Some v) k))
+default_of {v = v} r d (inr (h, inl k)) is says = none_read r v d (is None h) (same_Some v d (says (Some v) k))
 default_of {v = v} r d (inr (h, inr k)) is says = never_none d (says None k.0)
 
 pub if_ok : {V E : Type 0} (r : Result V E) (P Q : V → Type 0) → IfOk r P → ((v : V) → P v → Q v) → IfOk r Q

@@ -17,12 +17,10 @@ use Rattle.buffa_wire.proofs.ByFieldLemmas.{Same, refused}
 use Rattle.buffa_set_msg.specs.Set.{IsRefused, NextIsRefused, StopIsPinned, record_of_field, set_cost, set_field, set_merged, set_need}
 use Rattle.buffa_set_msg.specs.SetFacts.{set_cost_empty, set_cost_next, set_empty, set_next, set_same, set_sound, set_stays}
 use Rattle.buffa_set_msg.proofs.MergeLemmas.{then_merged}
+use Rattle.std.proofs.lemmas.Option.{same_Some}
 
 abbrev Values : Type 0
 Values = List (ℕ × Datum)
-
-some_same : {A : Type 0} {x y : A} → Some x ≡ Some y → x ≡ y
-some_same e = cc
 
 same_left : (a b : BudgetLeft) → a.unknown ≡ b.unknown → a.memory ≡ b.memory → a ≡ b
 same_left a b u m i = record { unknown = u i; memory = m i }
@@ -67,7 +65,7 @@ module _ (d : ℕ) where
   module _ (old a b : Values) (r p q s : List ℕ) (one : SomeField d p) (before x y : BudgetLeft) (e : DecodeError) where
     no_front : r ≡ (p ++ q) ++ s → set_merged d old [] ≡ Some a → set_merged d old (p ++ q) ≡ Some b → Pays before (set_cost d []) x → Pays before (set_cost d (p ++ q)) y → NextIsRefused d a r x e → ⊥
     no_front is start means free pays next =
-        let same : old ≡ a = some_same (sym (set_empty d old) ∙ start) in
+        let same : old ≡ a = same_Some _ _ (sym (set_empty d old) ∙ start) in
         let f = one.2 in
         let whole : p ≡ f.0 ++ f.1 = f.4 in
         let merged : set_merged d a ((f.0 ++ f.1) ++ q) ≡ Some b = ap (λ z. set_merged d z ((f.0 ++ f.1) ++ q)) (sym same) ∙ ap (λ z. set_merged d old (z ++ q)) (sym whole) ∙ means in
@@ -109,7 +107,7 @@ module _ (d : ℕ) where
       let mb2 : set_merged d old (p ++ g) ≡ Some b = ap (λ z. set_merged d old (z ++ g)) (sym same) ∙ mb in
       let v = behind (set_merged d old p) g b (sym (set_next d old p g one) ∙ mb2) in
       let py2 : Pays before (set_cost d (p ++ g)) y = subst (λ z. Pays before (set_cost d (z ++ g)) y) same py in
-      let inner : set_merged d u.0 g ≡ Some b = ap (λ z. set_merged d z g) (some_same (sym u.1 ∙ v.1)) ∙ v.2 in
+      let inner : set_merged d u.0 g ≡ Some b = ap (λ z. set_merged d z g) (same_Some _ _ (sym u.1 ∙ v.1)) ∙ v.2 in
       let whole : q ≡ g = one_front q g j k r s u.0 a b (plus x (set_cost d q)) x y e h rest u.2 inner (pays_behind before x y p q g one px) (pays_both before x y p q g one px py2) na nb in
       (λ i. sym same i ++ whole i)
 
@@ -124,7 +122,7 @@ one_fault d v bs left e f (inr (n, w, after, tag, why)) (inr (m, u, behind_tag, 
 pub stop_is_pinned : StopIsPinned
 stop_is_pinned d old a b bs before x y e h (f, r, j, is, some, ma, px, na, fa) (g, s, k, is2, some2, mb, py, nb, fb) ne nh =
     let same = one_front d f g j k r s old a b before x y e h (sym is ∙ is2) ma mb px py (na ne) (nb nh) in
-    let value : a ≡ b = some_same (sym ma ∙ ap (set_merged d old) same ∙ mb) in
+    let value : a ≡ b = same_Some _ _ (sym ma ∙ ap (set_merged d old) same ∙ mb) in
     let cost = ap (set_cost d) same in
     let budget : x ≡ y = same_left x y (omega (arith, px.0, py.0, ap (λ z. z.unknown) cost)) (omega (arith, px.1, py.1, ap (λ z. z.memory) cost)) in
     let behind_it : r ≡ s = append_cancel_left f r s (sym is ∙ is2 ∙ ap (λ z. z ++ s) (sym same)) in
