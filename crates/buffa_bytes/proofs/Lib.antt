@@ -2,6 +2,7 @@ pub mod DigitLemmas
 pub mod ShortestLemmas
 pub mod StepLemmas
 pub mod ScanLemmas
+pub mod ListLemmas
 pub mod VarintLemmas
 pub mod FieldLemmas
 pub mod DelimitedLemmas

@@ -1,22 +1,11 @@
 -- Lists of values, one more at a time.
 use Rattle.std.proofs.Common.{◌≡◌, ℕ, ◌+◌, ◌<◌, List, [], ◌∷◌, ◌++◌, Option, Some, None, false, true, refl, sym, ◌∙◌, ap, map, take, drop, length, get_or, append_assoc, arith, subst, ◌⊎◌, inl, inr}
-use Rattle.std.proofs.lemmas.List.{map-append, append-nil, take_more, drop_more, take-append-drop}
+use Rattle.std.proofs.lemmas.List.{append-nil}
 use Rattle.buffa_bytes.specs.declared.error.EncodeError.{EncodeError}
 use Rattle.buffa_bytes.specs.declared.error.EncodeError.TheVariants.{OutOfMemory}
 use Rattle.buffa_codec.specs.Reading.{Each, first_refusal, joined, packed_record}
 use Rattle.buffa_codec.specs.Sub.{tagged}
-
--- what the first values mean, and what one more means
-pub means_more : {V M : Type 0} (meaning : V → M) (xs : List V) (i : ℕ) (x : V) → i < length xs → x ≡ get_or xs i x
-    → map meaning (take (i + 1) xs) ≡ map meaning (take i xs) ++ meaning x ∷ []
-means_more meaning xs i x lt e = ap (map meaning) (take_more xs i x lt) ∙ map-append meaning (take i xs) (get_or xs i x ∷ []) ∙ ap (λ y. map meaning (take i xs) ++ meaning y ∷ []) (sym e)
-
--- what all values mean, cut at one
-pub means_cut : {V M : Type 0} (meaning : V → M) (xs : List V) (i : ℕ) (x : V) → i < length xs → x ≡ get_or xs i x
-    → map meaning xs ≡ map meaning (take i xs) ++ meaning x ∷ map meaning (drop (i + 1) xs)
-means_cut meaning xs i x lt e =
-    ap (map meaning) (sym (take-append-drop i xs)) ∙ map-append meaning (take i xs) (drop i xs)
-    ∙ ap (λ l. map meaning (take i xs) ++ map meaning l) (drop_more xs i x lt) ∙ ap (λ y. map meaning (take i xs) ++ meaning y ∷ map meaning (drop (i + 1) xs)) (sym e)
+use Rattle.buffa_bytes.proofs.ListLemmas.{means_cut}
 
 pub Each-append : {M : Type 0} (P : M → Type 0) (ms : List M) (m : M) → Each P ms → P m → Each P (ms ++ m ∷ [])
 Each-append P [] m h k = (k, tt)

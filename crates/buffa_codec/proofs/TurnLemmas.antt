@@ -9,8 +9,8 @@ use Rattle.buffa_wire.specs.BudgetLeft.{BudgetLeft}
 use Rattle.buffa_wire.specs.declared.unknown_fields.UnknownField.{UnknownField}
 use Rattle.buffa_codec.specs.Sub.{sub, tagged}
 use Rattle.buffa_codec.specs.Reading.{AddsSome, ReadsAll, elements}
-use Rattle.buffa_codec.proofs.ListLemmas.{means_more}
 use Rattle.buffa_codec.proofs.FilteredLemmas.{sub-append, sub-cons}
+use Rattle.buffa_bytes.proofs.ListLemmas.{means_more}
 
 -- one more record is read
 pub ReadsAll-snoc : {M : Type 0} (one : BudgetLeft → Datum → Option M) (leaves : BudgetLeft → Datum → BudgetLeft → Type 0) (packed : List ℕ → List M) (ds : List Datum) (d : Datum) (b : BudgetLeft) (vs : List M) (mid left : BudgetLeft)

@@ -1,7 +1,7 @@
 -- What is proved of repeated fields.
 use Rattle.std.proofs.Common.{◌≡◌, ◌≢◌, inl, inr, ℕ, zero, suc, ◌+◌, ◌*◌, ◌^◌, ◌==◌, ◌<◌, ◌≤◌, min, Bool, true, false, List, [], ◌∷◌, ◌++◌, length, map, take, drop, get_or, Some, Result, Ok, Err, IsOk, refl, sym, ap, subst, ◌∙◌, arith, append_assoc, append-nil, length-append, if◌then◌else◌}
 use Rattle.std.proofs.lemmas.Bool.{eq-eqb}
-use Rattle.std.proofs.lemmas.List.{map-append, take_more, drop_more, take-append-drop}
+use Rattle.std.proofs.lemmas.List.{map-append}
 use Rattle.buffa_bytes.proofs.ContentLemmas.{content_complete, has_byte}
 use Rattle.buffa_bytes.proofs.DelimitedLemmas.{delimited_back, delimited_complete, delimited_sound}
 use Rattle.buffa_bytes.proofs.FieldLemmas.{wire_small, same_refl}
@@ -38,6 +38,7 @@ use Rattle.buffa_fields.specs.Takes.{IsTaken, Leads, Piece, ReadsBack, joined}
 use Rattle.buffa_fields.specs.ValueLaws.{content_payload, fault_no_limit, none_of}
 use Rattle.buffa_fields.specs.Values.{free}
 use Rattle.buffa_wire.proofs.EncodingLemmas.{records_encoding-append}
+use Rattle.buffa_bytes.proofs.ListLemmas.{means_cut, means_more}
 
 same_body : (a b x y : List ℕ) → (let r : Result (List ℕ × List ℕ) DecodeError = Ok (a, x) in r ≡ Ok (b, y)) → a ≡ b
 same_body a b x y h = ap (λ z. z.0) (ok_same h)
@@ -332,14 +333,6 @@ content_there codec d v bs x h =
     subst (λ r. IsOk r) (sym (ap (content_at codec.wire) u.5 ∙ content_complete codec.wire u.1 u.2 x.1 u.3)) refl
 
 -- ---- sizes and encodings, element by element
-pub means_more : {V M : Type 0} (meaning : V → M) (xs : List V) (i : ℕ) (x : V) → i < length xs → x ≡ get_or xs i x → map meaning (take (i + 1) xs) ≡ map meaning (take i xs) ++ meaning x ∷ []
-means_more meaning xs i x lt e = ap (map meaning) (take_more xs i x lt) ∙ map-append meaning (take i xs) (get_or xs i x ∷ []) ∙ ap (λ y. map meaning (take i xs) ++ meaning y ∷ []) (sym e)
-
-pub means_cut : {V M : Type 0} (meaning : V → M) (xs : List V) (i : ℕ) (x : V) → i < length xs → x ≡ get_or xs i x → map meaning xs ≡ map meaning (take i xs) ++ meaning x ∷ map meaning (drop (i + 1) xs)
-means_cut meaning xs i x lt e =
-    ap (map meaning) (sym (take-append-drop i xs)) ∙ map-append meaning (take i xs) (drop i xs)
-    ∙ ap (λ l. map meaning (take i xs) ++ map meaning l) (drop_more xs i x lt) ∙ ap (λ y. map meaning (take i xs) ++ meaning y ∷ map meaning (drop (i + 1) xs)) (sym e)
-
 module _ {V : Type 0} (datum : V → Datum) (n : ℕ) where
   encoding_two : (vs us : List V) → records_encoding (element_records datum n (vs ++ us)) ≡ records_encoding (element_records datum n vs) ++ records_encoding (element_records datum n us)
   unfolding element_records

@@ -10,9 +10,9 @@ use Rattle.buffa_wire.specs.Passes.{IsSmall, IsWritten, cap}
 use Rattle.buffa_wire.specs.Records.{bytes}
 use Rattle.buffa_wire.specs.Encoding.{records_encoding}
 use Rattle.buffa_map.specs.Encoding.{saturated}
-use Rattle.buffa_fields.specs.ListLaws.{means_cut, means_more}
 use Rattle.buffa_fields.specs.Lists.{packed_records, packed_encoding}
 use Rattle.buffa_fields.specs.NestedLaws.{Tells, head, head_cut, record_after}
+use Rattle.buffa_bytes.proofs.ListLemmas.{means_cut, means_more}
 
 -- ---- payloads, one behind the other
 module _ {V : Type 0} (encoding : V → List ℕ) where

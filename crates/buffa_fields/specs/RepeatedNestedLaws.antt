@@ -24,12 +24,13 @@ use Rattle.buffa_bytes.specs.Varint.{varint_encoding}
 use Rattle.buffa_map.proofs.BackLemmas.{is_tag}
 use Rattle.buffa_map.proofs.EntryLemmas.{same_false}
 use Rattle.buffa_fields.specs.LayoutLaws.{failed, sized_more, small_both, sum}
-use Rattle.buffa_fields.specs.ListLaws.{means_cut, means_more, encoding_cut, encoding_next}
+use Rattle.buffa_fields.specs.ListLaws.{encoding_cut, encoding_next}
 use Rattle.buffa_fields.specs.Lists.{Each, element_records}
 use Rattle.buffa_fields.specs.Nested.{message_cost, message_in}
 use Rattle.buffa_fields.specs.NestedLaws.{delimited_alone, message_wire_err, taken_back}
 use Rattle.buffa_fields.specs.RepeatedNested.{MessagesTakeMemory, messages_cost, messages_levels, messages_records, messages_slots, messages_taken}
 use Rattle.buffa_fields.specs.Takes.{IsTaken, Leads, Piece, ReadsBack, Stays, joined}
+use Rattle.buffa_bytes.proofs.ListLemmas.{means_cut, means_more}
 
 -- ---- costs
 pub messages_stay : (each : ℕ) (cost : ℕ → List ℕ → BudgetLeft) → Stays (messages_cost each cost)

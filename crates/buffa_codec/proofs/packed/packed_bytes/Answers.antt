@@ -2,8 +2,9 @@ use Rattle.std.proofs.Common.{sym, ap, ◌∙◌, map, take, ◌++◌, subst}
 use Rattle.std.proofs.lemmas.List.{take_all}
 use Rattle.std.proofs.lemmas.Result.{err_from_is_err_and}
 use Rattle.buffa_codec.specs.Reading.{Each, joined}
-use Rattle.buffa_codec.proofs.ListLemmas.{means_more, Each-append, joined-append}
+use Rattle.buffa_codec.proofs.ListLemmas.{Each-append, joined-append}
 use Rattle.buffa_codec.proofs.packed.packed_bytes.Goals as goal
+use Rattle.buffa_bytes.proofs.ListLemmas.{means_more}
 
 pub loop-v-preserved : goal.loop-v-preserved
 loop-v-preserved g c =

@@ -4,8 +4,9 @@ use Rattle.buffa_wire.specs.View.{datum_of}
 use Rattle.buffa_codec.specs.Reading.{Each, KeepsPlaces, first_refusal}
 use Rattle.buffa_codec.proofs.PlaceLemmas.{places_more}
 use Rattle.buffa_codec.proofs.TurnLemmas.{values_length, writes_one_more, writes_front, writes_part}
-use Rattle.buffa_codec.proofs.ListLemmas.{Each-at, no_truth, means_more, means_cut, Each-append, first_refusal-append, first_refusal-pass, refused_whole}
+use Rattle.buffa_codec.proofs.ListLemmas.{Each-at, no_truth, Each-append, first_refusal-append, first_refusal-pass, refused_whole}
 use Rattle.buffa_codec.proofs.repeated.RepeatedExtensionCodec.try_encode.Goals as goal
+use Rattle.buffa_bytes.proofs.ListLemmas.{means_cut, means_more}
 
 pub returns-in_err-payload-clause-err : goal.returns-in_err-payload-clause-err
 returns-in_err-payload-clause-err g c =
