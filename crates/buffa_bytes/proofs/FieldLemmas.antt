@@ -260,8 +260,8 @@ module _ (inner : Inner) (G : ℕ → List ℕ → Type 0) (F : ℕ → List ℕ
         let u = agree_ok (tag_at bs) t (tag_sound bs) e in
         if_leads (λ _. Reads f) (is_end t.1) (if t.0 == f then Ok t.2 else Err (InvalidEndGroup t.0)) (passed (skip_by inner t.0 t.1 t.2)) tt bs
         (λ last. let end : IsTag u.0 t.0 EndGroup = subst (λ w. IsTag u.0 t.0 w) (end_true t.1 last) u.1 in agree_if (t.0 == f)
-            (λ m. record { holds = ([], u.0, none, subst (λ g. IsTag u.0 g EndGroup) (eqb-true t.0 f m) end, u.2) })
-            (λ m. record { holds = ([], bs, none, refl, inr (inl (t.0, t.2, (u.0, end, u.2), eqb-false t.0 f m, refl))) }))
+        (λ m. record { holds = ([], u.0, none, subst (λ g. IsTag u.0 g EndGroup) (eqb-true t.0 f m) end, u.2) })
+        (λ m. record { holds = ([], bs, none, refl, inr (inl (t.0, t.2, (u.0, end, u.2), eqb-false t.0 f m, refl))) }))
         (λ other. passed_leads f bs t e (end_false t.1 other) (skip_by inner t.0 t.1 t.2) refl)
     step_leads f bs (Err d) e = record { holds = ([], bs, none, refl, inl (agree_err (tag_at bs) d (tag_sound bs) e)) }
 

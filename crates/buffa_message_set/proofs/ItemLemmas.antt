@@ -185,8 +185,8 @@ module _ (d : ℕ) where
       let u = agree_ok (tag_at bs) t (tag_sound bs) e in
       if_short (ends_item t.0 t.1) (ended s.type_id s.message t.2) (parsed (item_field_at d s t.0 t.1 t.2)) bs
       (λ other. parsed_short _ (item_field_at d s t.0 t.1 t.2) bs (λ x h.
-          let f = agree_ok (item_field_at d s t.0 t.1 t.2) x (field_sound s bs u.0 t.2 t.0 t.1 u.1 u.2 (both_false t.0 1 EndGroup t.1 other)) h in
-          omega (arith, field_some s x.0 f.0 f.1, ap length f.2, length-append f.0 x.1)))
+      let f = agree_ok (item_field_at d s t.0 t.1 t.2) x (field_sound s bs u.0 t.2 t.0 t.1 u.1 u.2 (both_false t.0 1 EndGroup t.1 other)) h in
+      omega (arith, field_some s x.0 f.0 f.1, ap length f.2, length-append f.0 x.1)))
   step_short s bs (Err x) e = tt
 
   turn : (s : Said) (bs : List ℕ) (r : Result (ℕ × WireType × List ℕ) DecodeError) → tag_at bs ≡ r → item_from d s bs ≡ step_then (item_from d) (item_step d s r)
@@ -204,12 +204,12 @@ module _ (d : ℕ) where
       if_leads Reads (ends_item t.0 t.1) (ended s.type_id s.message t.2) (parsed (item_field_at d s t.0 t.1 t.2)) s bs
       (λ last. let is = both_true t.0 1 EndGroup t.1 last in ended_sound s s.type_id bs u.0 t.2 refl (tag_of u.0 t.0 1 EndGroup t.1 u.1 is.0 is.1) u.2)
       (λ other.
-          let sound = field_sound s bs u.0 t.2 t.0 t.1 u.1 u.2 (both_false t.0 1 EndGroup t.1 other) in
-          parsed_leads Reads (item_field_at d s t.0 t.1 t.2) s bs
-          (λ x h a q. let f = agree_ok (item_field_at d s t.0 t.1 t.2) x sound h in agree_weaker q
-              (λ y w. (w.0, w.1, ParsesTo-first (IsItemField d) bs s x.0 (says y.0 y.1) f.0 x.1 (w.0 ++ y.2) f.1 f.2 w.2))
-              (λ y w. (w.0, w.1, ParsesTo-first (IsItemField d) bs s x.0 w.0 f.0 x.1 w.1 f.1 f.2 w.2, w.3)))
-          (λ y h. record { holds = (s, bs, here s bs, inl (agree_err (item_field_at d s t.0 t.1 t.2) y sound h)) }))
+      let sound = field_sound s bs u.0 t.2 t.0 t.1 u.1 u.2 (both_false t.0 1 EndGroup t.1 other) in
+      parsed_leads Reads (item_field_at d s t.0 t.1 t.2) s bs
+      (λ x h a q. let f = agree_ok (item_field_at d s t.0 t.1 t.2) x sound h in agree_weaker q
+      (λ y w. (w.0, w.1, ParsesTo-first (IsItemField d) bs s x.0 (says y.0 y.1) f.0 x.1 (w.0 ++ y.2) f.1 f.2 w.2))
+      (λ y w. (w.0, w.1, ParsesTo-first (IsItemField d) bs s x.0 w.0 f.0 x.1 w.1 f.1 f.2 w.2, w.3)))
+      (λ y h. record { holds = (s, bs, here s bs, inl (agree_err (item_field_at d s t.0 t.1 t.2) y sound h)) }))
   step_leads s bs (Err x) e = record { holds = (s, bs, here s bs, inl (inl (agree_err (tag_at bs) x (tag_sound bs) e))) }
 
   pub item_sound : (s : Said) (bs : List ℕ) → Agrees (item_from d s bs) (TakesFrom s bs) (StopsFrom s bs)

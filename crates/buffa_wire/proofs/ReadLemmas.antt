@@ -248,10 +248,10 @@ module _ (d : ℕ) (inner : GroupReader) (F : ℕ → ℕ → List ℕ → Decod
         if_leads (ReadsGroup n) (ends_group n t) (Ok (no_records, s, t.2)) (kept_step t.0 (field_by inner s t.0 t.1 t.2)) s bs
         (λ last. let c = closes_true t.1 t.0 n last in record { holds = ([], u.0, refl, subst (λ m. IsTag u.0 m wire.EndGroup) c.1 (subst (λ w. IsTag u.0 t.0 w) c.0 u.1), omega arith, u.2) })
         (λ other. kept_leads (ReadsGroup n) t.0 (field_by inner s t.0 t.1 t.2) s bs
-            (λ x is y q. let a = agree_ok (field_by inner s t.0 t.1 t.2) x (field_sound h s t.0 t.1 t.2) is in agree_bind q
-                (λ v r. let f = first_and s x.1 v.1 t.0 t.1 bs t.2 x.2 (r.1 ++ v.2) x.0 v.0 u a (r.0, r.2, r.4, r.5) in record { holds = (f.0, r.1, f.1, r.3, f.2, f.3) })
-                (λ z r. (one t.0 x.0 r.0, r.1, r.2, first_and s x.1 r.1 t.0 t.1 bs t.2 x.2 r.2 x.0 r.0 u a r.3, r.4)))
-            (λ y is. record { holds = (no_records, s, bs, ([], refl, omega arith, refl), inr (t.0, t.1, t.2, u, closes_false t.1 t.0 n other, agree_err (field_by inner s t.0 t.1 t.2) y (field_sound h s t.0 t.1 t.2) is)) }))
+        (λ x is y q. let a = agree_ok (field_by inner s t.0 t.1 t.2) x (field_sound h s t.0 t.1 t.2) is in agree_bind q
+        (λ v r. let f = first_and s x.1 v.1 t.0 t.1 bs t.2 x.2 (r.1 ++ v.2) x.0 v.0 u a (r.0, r.2, r.4, r.5) in record { holds = (f.0, r.1, f.1, r.3, f.2, f.3) })
+        (λ z r. (one t.0 x.0 r.0, r.1, r.2, first_and s x.1 r.1 t.0 t.1 bs t.2 x.2 r.2 x.0 r.0 u a r.3, r.4)))
+        (λ y is. record { holds = (no_records, s, bs, ([], refl, omega arith, refl), inr (t.0, t.1, t.2, u, closes_false t.1 t.0 n other, agree_err (field_by inner s t.0 t.1 t.2) y (field_sound h s t.0 t.1 t.2) is)) }))
     group_leads n s bs (Err x) e = record { holds = (no_records, s, bs, ([], refl, omega arith, refl), inl (agree_err (tag_at bs) x (tag_sound bs) e)) }
 
     pub group_sound_in : (s n : ℕ) (bs : List ℕ) → Agrees (fields_at inner s n bs) (λ v. InGroup s n bs v) (FieldsFault (λ m. m ≡ n) s bs)
@@ -269,8 +269,8 @@ module _ (d : ℕ) (inner : GroupReader) (F : ℕ → ℕ → List ℕ → Decod
         let u = agree_ok (tag_at bs) t (tag_sound bs) e in
         kept_leads ReadsRecords t.0 (field_by inner s t.0 t.1 t.2) s bs
         (λ x is y q. let a = agree_ok (field_by inner s t.0 t.1 t.2) x (field_sound h s t.0 t.1 t.2) is in agree_bind q
-            (λ v r. record { holds = (first_and s x.1 v.1 t.0 t.1 bs t.2 x.2 v.2 x.0 v.0 u a r.0, r.1) })
-            (λ z r. (one t.0 x.0 r.0, r.1, r.2, first_and s x.1 r.1 t.0 t.1 bs t.2 x.2 r.2 x.0 r.0 u a r.3, r.4, r.5)))
+        (λ v r. record { holds = (first_and s x.1 v.1 t.0 t.1 bs t.2 x.2 v.2 x.0 v.0 u a r.0, r.1) })
+        (λ z r. (one t.0 x.0 r.0, r.1, r.2, first_and s x.1 r.1 t.0 t.1 bs t.2 x.2 r.2 x.0 r.0 u a r.3, r.4, r.5)))
         (λ y is. record { holds = (no_records, s, bs, ([], refl, omega arith, refl), some, inr (t.0, t.1, t.2, u, (λ p q. q), agree_err (field_by inner s t.0 t.1 t.2) y (field_sound h s t.0 t.1 t.2) is)) })
     tag_leads s bs (Err x) some e = record { holds = (no_records, s, bs, ([], refl, omega arith, refl), some, inl (agree_err (tag_at bs) x (tag_sound bs) e)) }
 

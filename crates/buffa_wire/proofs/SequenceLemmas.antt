@@ -114,7 +114,7 @@ module _ {S : Type 0} (Step : S → List ℕ → S → Type 0) where
         (λ s. record { holds = ([], refl, refl) })
         (λ s b bs e h. record { holds = (s, b ∷ bs, ([], refl, refl), (λ z. cc), agree_err (f s (b ∷ bs)) e (sound s (b ∷ bs)) h) })
         (λ s b bs x r h q.
-            let u = agree_ok (f s (b ∷ bs)) x (sound s (b ∷ bs)) h in
-            agree_weaker q (λ t w. ParsesTo-first (b ∷ bs) s x.0 t u.0 x.1 [] u.1 u.2 w)
-            (λ e w. (w.0, w.1, ParsesTo-first (b ∷ bs) s x.0 w.0 u.0 x.1 w.1 u.1 u.2 w.2, w.3, w.4)))
+        let u = agree_ok (f s (b ∷ bs)) x (sound s (b ∷ bs)) h in
+        agree_weaker q (λ t w. ParsesTo-first (b ∷ bs) s x.0 t u.0 x.1 [] u.1 u.2 w)
+        (λ e w. (w.0, w.1, ParsesTo-first (b ∷ bs) s x.0 w.0 u.0 x.1 w.1 u.1 u.2 w.2, w.3, w.4)))
         falls
