@@ -9,11 +9,10 @@ use Rattle.buffa_wire.proofs.MessageLemmas.{NoLimit}
 use Rattle.buffa_bytes.specs.Field.{IsTag, Payload, SomeField}
 use Rattle.buffa_wire.specs.BudgetLeft.{BudgetLeft, Lacks, Pays, PaysAtMost, need_by, nothing, plus}
 use Rattle.buffa_wire.specs.Message.{IsFieldMerged, IsJudged}
-use Rattle.buffa_bytes.specs.Gives.{◌>>=◌}
 use Rattle.buffa_bytes.specs.Reading.{skip_at, tag_at}
 use Rattle.buffa_bytes.specs.Scan.{step_then}
 use Rattle.buffa_bytes.proofs.ScanLemmas.{Shortens, scan_step}
-use Rattle.buffa_wire.specs.ByField.{FieldNeed, FieldReader, cost_by, costs, field_costs, merged_by}
+use Rattle.buffa_wire.specs.ByField.{FieldNeed, FieldReader, cost_by, costs, field_costs, merged_by, stateless}
 use Rattle.buffa_wire.proofs.ByFieldLemmas.{IsSame, IsSound, judged, taken}
 
 pub plus_nothing : (a : BudgetLeft) → plus a nothing ≡ a
@@ -25,7 +24,7 @@ plus_nothing a =
 module _ (need : FieldNeed) (d : ℕ) where
   -- a field that is read takes a byte
   skipped : (bs : List ℕ) (t : ℕ × WireType × List ℕ) → tag_at bs ≡ Ok t → (r : Result (List ℕ) DecodeError) → skip_at d t.0 t.1 t.2 ≡ r
-      → Shortens (costs (need t.0 t.1 t.2) (r >>= (λ rest. Ok (tt, rest)))) bs
+      → Shortens (costs (need t.0 t.1 t.2) (stateless r)) bs
   skipped bs t e (Ok rest) s = omega (arith, tag_falls bs t e, skip_falls d t.0 t.1 t.2 rest s)
   skipped bs t e (Err f) s = tt
 
@@ -46,7 +45,7 @@ module _ (need : FieldNeed) (d : ℕ) where
   pub cost_empty : cost_by need d [] ≡ nothing
   cost_empty = none_at (tag_at []) refl
 
-  behind : (m : BudgetLeft) (r : Result (List ℕ) DecodeError) → step_then (λ _. cost_by need d) (costs m (r >>= (λ rest. Ok (tt, rest)))) ≡ plus m (need_by r (cost_by need d))
+  behind : (m : BudgetLeft) (r : Result (List ℕ) DecodeError) → step_then (λ _. cost_by need d) (costs m (stateless r)) ≡ plus m (need_by r (cost_by need d))
   behind m (Ok rest) = refl
   behind m (Err e) = sym (plus_nothing m)
 
