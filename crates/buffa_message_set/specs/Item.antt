@@ -1,6 +1,6 @@
 -- The Items of a MessageSet: what follows an Item's start tag, up to and with its end tag.
 -- Source: the documentation of buffa, "MessageSet wire format helpers"; the protobuf encoding guide, "Groups".
-use Rattle.std.specs.Prelude.{◌≡◌, ◌≢◌, ℕ, ◌+◌, ◌^◌, ◌<◌, ◌≤◌, ◌==◌, ◌&&◌, nat_lt, ◌⊎◌, Bool, List, [], ◌++◌, length, Option, None, Some, Result, Ok, Err, if◌then◌else◌}
+use Rattle.std.specs.Prelude.{◌≡◌, ◌≢◌, ℕ, suc, ◌+◌, ◌^◌, ◌<◌, ◌≤◌, ◌==◌, ◌&&◌, nat_lt, ◌⊎◌, Bool, List, [], ◌++◌, length, Option, None, Some, Result, Ok, Err, if◌then◌else◌}
 use Rattle.buffa_bytes.specs.Gives.{◌>>=◌}
 use Rattle.buffa_bytes.specs.Varint.{IsVarint, TakesVarint, VarintFault, varint_encoding}
 use Rattle.buffa_bytes.specs.Values.{delimited_encoding, tag_encoding}
