@@ -19,7 +19,7 @@ invariant-loop-key g l =
       within : (done : List (g.row.KC-Value-Meaning.Denot × g.row.M-Meaning.Denot)) × (all ≡ done ++ rest);
       capped : cap (l.total + field_size key (delimited_writing encoding) l.outer_tag_len rest) ≡ cap (field_size key (delimited_writing encoding) l.outer_tag_len all);
       exact : IsSmallField key encoding all → IsSmallField key encoding rest × (saturated (l.total + field_size key (delimited_writing encoding) l.outer_tag_len rest) ≡ saturated (field_size key (delimited_writing encoding) l.outer_tag_len all));
-      cache : appended (field_slots encoding slots rest) l.cache ≡ appended (field_slots encoding unknown_fields all) l.fn.cache;
+      cache : appended (field_slots encoding slots rest) l.cache ≡ appended (field_slots encoding slots all) l.fn.cache;
       bound : l.total < 2 ^ 64;
       longer : IsLonger l.fn.cache l.cache;
     }
