@@ -111,7 +111,12 @@ pub fn passed_on<
     let mut rest = bytes;
     let ctx = DecodeContext::new(depth, &mut budget);
     match rewrite_map_field::<KC, ClosedEnum<E>, C, _, _>(
-        alloc, scratch, number, &mut rest, ctx, &mut encoding,
+        alloc,
+        scratch,
+        number,
+        &mut rest,
+        ctx,
+        &mut encoding,
     ) {
         Ok(()) => {}
         Err(error) => return Err(PassFault::Rewrite(error)),
