@@ -5,8 +5,9 @@ A wrong body is an edit, tests/wrong/CRATE/FUNCTION-what_is_wrong.edit: a line '
 'old: TEXT' and 'new: TEXT', each old text standing once in that file of the crate. FUNCTION is the plain name of the
 function that must not be proved then, or TYPE.FUNCTION. Edits of a crate that lie in different functions are applied
 together, to a copy of the repository, and checked in one go. An edit outside of functions, or of a crate below (a line
-'file: ../CRATE/src/x.rt'), is tried alone, and only its function, a law, is checked then. A function may be reported for another one's sake (it calls one that is not proved, or
-the crate isn't read at all): then it is tried once more, alone.
+'file: ../CRATE/src/x.rt'), is tried alone, and only its function, a law, is checked then. A function may be reported
+for another one's sake (it calls one that is not proved, or the crate isn't read at all): then it is tried once more,
+alone.
 
 An edit passes where a goal of the function is not proved. It is unclear, and fails, where the edited text is not read, or
 where only names that its proof file cites went away: change a value and keep the names. It is unclear too where only an

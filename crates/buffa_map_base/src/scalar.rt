@@ -70,6 +70,7 @@ impl<N: Scalar> MapCodec for N {
         <N::Form as Form>::len(N::number_of(value))
     }
 
+    #[inline(always)]
     fn encode<S: EncodeSink>(value: &N::Value, sink: &mut S) -> Result<(), EncodeError> {
         <N::Form as Form>::write(N::number_of(value), sink)
     }
