@@ -9,7 +9,7 @@ use Rattle.buffa_wire.specs.Passes.{IsSized, IsWritten}
 use Rattle.buffa_wire.specs.Records.{Datum, Held}
 use Rattle.buffa_wire.specs.declared.context.DecodeContext.{DecodeContext}
 use Rattle.buffa_map_base.specs.Codec.{Reading, Writing}
-use Rattle.buffa_map_base.specs.Fields.{MergesEntryField, MergesFields}
+use Rattle.buffa_map_base.specs.Fields.{MergesEntryField, MergesFields, RefusesEntryField}
 use Rattle.buffa_map_base.specs.Lent.{lent_records, records_left}
 use Rattle.buffa_map_base.specs.Merge.{MergesEntry, MergesWhole, ReadsRun, RefusesEntry, RefusesWhole, Rules, StopsRun, state}
 use Rattle.buffa_map_base.specs.MessageField.{KeepsMessageRoom, UsesRecordRoom}
@@ -30,6 +30,9 @@ module _ {K V P B D : Type 0} (key : Reading K) (val : Reading V) (ctx : DecodeC
   abbrev pub MergesFieldIn : P → P → B → B → Type 0
   MergesFieldIn old new before after =
       MergesEntryField key val ctx.depth (says old) ctx.budget.now (unread before) (says new) (budget_left left) (unread after)
+
+  abbrev pub RefusesFieldIn : P → B → DecodeError → Type 0
+  RefusesFieldIn old before = RefusesEntryField key val ctx.depth (says old) ctx.budget.now (unread before) (budget_left left)
 
   abbrev pub MergesFieldsIn : B → P → Type 0
   MergesFieldsIn before parts = MergesFields key val ctx.depth (unread before) ctx.budget.now (says parts) (budget_left left)

@@ -2,9 +2,9 @@
 
 ghost use Rattle.std.specs.Prelude.{◌≡◌, IfErr, IfOk, OnOk};
 ghost use Rattle.buffa_wire.specs.BudgetLeft.{budget_left};
-ghost use Rattle.buffa_map_base.specs.Calls.{MergesFieldIn, MergesFieldsIn};
+ghost use Rattle.buffa_map_base.specs.Calls.{MergesFieldIn, MergesFieldsIn, RefusesFieldIn};
 ghost use Rattle.buffa_map_base.specs.Entry.{meant_entry};
-ghost use Rattle.buffa_map_base.specs.Fields.{RefusesEntryField, RefusesFields};
+ghost use Rattle.buffa_map_base.specs.Fields.{RefusesFields};
 
 use crate::merge_value::MergeValue;
 use buffa_map_base::codec::{MapValueDecode, MapValueDecodeStatus};
@@ -23,9 +23,8 @@ fn merge_field<KC: MapValueDecode, W: MergeValue, B: Buf>(
     requires { W.may how.now ctx.depth }
     ensures ok { OnOk result (MergesFieldIn KC.reading W.reading ctx.entry ctx.exit
         (meant_entry KC.Value.meaning W.Value.meaning) B.unread parts.old parts.new buf.old buf.new) }
-    ensures err { IfErr result (RefusesEntryField KC.reading W.reading ctx.entry.depth
-        (meant_entry KC.Value.meaning W.Value.meaning parts.old) ctx.entry.budget.now (B.unread buf.old)
-        (budget_left ctx.exit)) }
+    ensures err { IfErr result (RefusesFieldIn KC.reading W.reading ctx.entry ctx.exit
+        (meant_entry KC.Value.meaning W.Value.meaning) B.unread parts.old buf.old) }
     ensures kept { B.beyond buf.new ≡ B.beyond buf.old }
 {
     let tag = Tag::decode(buf)?;

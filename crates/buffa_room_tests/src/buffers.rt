@@ -40,6 +40,23 @@ fn read_within<B: Buf>(
     Ok(read)
 }
 
+// The same within the first `inner` of the first `outer` bytes.
+fn read_within_twice<B: Buf>(
+    alloc: Global,
+    buf: &mut B,
+    outer: usize,
+    inner: usize,
+) -> Result<(u64, String, u32), DecodeError>
+    requires { (inner ≤ outer) × (outer ≤ length (B.unread buf.old)) }
+    ensures rest { OnOk result (B.unread buf.new ≡ drop outer (B.unread buf.old)) }
+    ensures kept { B.beyond buf.new ≡ B.beyond buf.old }
+{
+    let mut within = Limited::new(buf, outer);
+    let read = read_within(alloc, &mut within, inner)?;
+    within.finish();
+    Ok(read)
+}
+
 #[test]
 fn the_front_is_shown_where_it_lies_together(rt: HostRuntime) {
     let encoding: &[u8] = &ENCODING;
@@ -53,13 +70,23 @@ fn the_front_is_shown_where_it_lies_together(rt: HostRuntime) {
 }
 
 #[test]
-fn a_limit_holds(rt: HostRuntime) -> Result<(), Fail> {
+fn a_limit_under_a_limit(rt: HostRuntime) -> Result<(), Fail> {
     let mut rest: &[u8] = &ENCODING;
-    let (number, word, one) = read_within(rt.alloc(), &mut rest, 9)?;
+    let (number, word, one) = read_within_twice(rt.alloc(), &mut rest, 9, 9)?;
     assert!(rt; are_three(number, &word, one));
     assert!(rt; rest == [7].as_slice());
     let mut rest: &[u8] = &ENCODING;
-    let refused = read_within(rt.alloc(), &mut rest, 8).err();
+    let refused = read_within_twice(rt.alloc(), &mut rest, 10, 8).err();
     assert!(rt; refused == Some(DecodeError::UnexpectedEof));
+    Ok(())
+}
+
+#[test]
+fn limits_over_bytes_that_are_cut(rt: HostRuntime) -> Result<(), Fail> {
+    let parts: [&[u8]; 3] = [&ENCODING[..4], &[], &ENCODING[4..]];
+    let mut pieces = Pieces::new(&parts);
+    let (number, word, one) = read_within_twice(rt.alloc(), &mut pieces, 10, 9)?;
+    assert!(rt; are_three(number, &word, one));
+    assert!(rt; pieces.remaining() == 0);
     Ok(())
 }

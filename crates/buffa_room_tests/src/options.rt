@@ -1,9 +1,11 @@
 //! Options by their bytes.
 
+use buffa_ext::codecs::PackedRepeated;
+use buffa_ext::{Extension, ExtensionSet};
 use buffa_options::options::{
     FieldOptions, max_length_or_default, read_choices, read_int32, read_label,
 };
-use buffa_options::price::{Price, store_price};
+use buffa_options::price::{Price, PriceCodec, store_price};
 use buffa_options::rules::{Violation, validate};
 use buffa_wire::UnknownFields;
 use std::alloc::Global;
@@ -81,6 +83,15 @@ fn values_are_judged_by_options(rt: HostRuntime) -> Result<(), Fail> {
     Ok(())
 }
 
+#[test]
+fn values_are_free_without_options(rt: HostRuntime) -> Result<(), Fail> {
+    let alloc = rt.alloc();
+    let free = options_of(alloc, &[])?;
+    assert!(rt; validate(alloc, &free, None)? == Ok(()));
+    assert!(rt; validate(alloc, &free, Some(-1))? == Ok(()));
+    Ok(())
+}
+
 // The price -3, in a record.
 const PRICE: [u8; 4] = [0xA8, 0xB6, 0x18, 0x05];
 
@@ -99,5 +110,18 @@ fn prices_are_stored(rt: HostRuntime) -> Result<(), Fail> {
     let mut encoding = Vec::new(rt.alloc());
     options.fields.write_to(&mut encoding)?;
     assert!(rt; encoding.as_slice() == PRICE.as_slice());
+    Ok(())
+}
+
+#[test]
+fn prices_are_read_as_a_packed_list(rt: HostRuntime) -> Result<(), Fail> {
+    let alloc = rt.alloc();
+    let options = options_of(alloc, &PRICE)?;
+    let prices = Extension::<PackedRepeated<PriceCodec>>::new(
+        50021,
+        "google.protobuf.FieldOptions",
+    );
+    let all = options.extension(alloc, &prices)?;
+    assert!(rt; all.as_slice() == [Price { cents: -3 }].as_slice());
     Ok(())
 }

@@ -1,6 +1,6 @@
-//! A pair that is put, and maps that are passed on or come back.
+//! Many pairs in each storage, and maps that are passed on or come back.
 
-use buffa_map::map_codec::{Int32, MapStorage};
+use buffa_map::map_codec::{Int32, Map, MapStorage, MapWalk};
 use buffa_samples::hues::{New, Old};
 use buffa_samples::passed_on::passed_on;
 use buffa_samples::round_trip::words_through_bytes;
@@ -10,14 +10,50 @@ use std::alloc::Global;
 use std::collections::{BTreeMap, HashMap};
 use std::test::Fail;
 
-#[test]
-fn a_pair_is_put(rt: HostRuntime) -> Result<(), Fail> {
-    let alloc = rt.alloc();
-    let mut map: BTreeMap<i32, i32> = BTreeMap::new(alloc);
-    for (key, value) in [(1, 5), (1, 7)] {
-        map.storage_insert(key, value)?;
+// How many keys there are.
+const KEYS: i32 = 10_000;
+
+// Puts a pair of each key, and then another value in its place.
+fn fill<C: MapStorage<Key = i32, Value = i32>>(map: &mut C) -> Result<(), Fail> {
+    for key in 0..KEYS {
+        map.storage_insert(key, 0)?;
     }
-    assert!(rt; map.get(&1) == Some(&7));
+    for key in 0..KEYS {
+        map.storage_insert(key, key)?;
+    }
+    Ok(())
+}
+
+// Whether each key is there once, with the value that was put last.
+fn is_filled<'a, C: MapWalk<'a> + MapStorage<Key = i32, Value = i32>>(map: &'a C) -> bool {
+    let mut same = map.storage_len() == KEYS as usize;
+    for (key, value) in map.storage_iter() {
+        same = same && *key == *value && 0 <= *key && *key < KEYS;
+    }
+    same
+}
+
+#[test]
+fn many_pairs_in_a_hash_map(rt: HostRuntime) -> Result<(), Fail> {
+    let mut hashed: HashMap<i32, i32> = HashMap::new(rt.alloc());
+    fill(&mut hashed)?;
+    assert!(rt; is_filled(&hashed));
+    Ok(())
+}
+
+#[test]
+fn many_pairs_in_a_btree_map(rt: HostRuntime) -> Result<(), Fail> {
+    let mut ordered: BTreeMap<i32, i32> = BTreeMap::new(rt.alloc());
+    fill(&mut ordered)?;
+    assert!(rt; is_filled(&ordered));
+    Ok(())
+}
+
+#[test]
+fn many_pairs_in_an_index_map(rt: HostRuntime) -> Result<(), Fail> {
+    let mut indexed: Map<i32, i32> = Map::new(rt.alloc());
+    fill(&mut indexed)?;
+    assert!(rt; is_filled(&indexed));
     Ok(())
 }
 
