@@ -14,6 +14,14 @@ NUMBERS = (
 )
 
 
+# A map keeps the order in which its keys came; an ordered one is walked in the order of its keys.
+MAPS = ("map", "ordered")
+
+
+def walked(how, pairs):
+    return sorted(pairs.items()) if how == "ordered" else pairs.items()
+
+
 class ByMembers:
     """A type of messages: its members by their numbers, each with how it stands and of which kind it is."""
 
@@ -22,7 +30,7 @@ class ByMembers:
 
     def blank(self):
         """The members' defaults, then what is kept."""
-        starts = {"optional": lambda _: None, "repeated": lambda _: (), "packed": lambda _: (), "map": lambda _: {}}
+        starts = {"optional": lambda _: None, "repeated": lambda _: (), "packed": lambda _: (), "map": lambda _: {}, "ordered": lambda _: {}}
         return (*(starts.get(how, blank)(kind) for _, how, kind in self.members), b"")
 
     def merged(self, message, buf, number, wire, depth, budget):
@@ -38,7 +46,7 @@ class ByMembers:
         return message
 
     def part(self, how, kind, old, buf, number, wire, depth, budget):
-        own = DELIMITED if how == "map" else KINDS[kind][0]
+        own = DELIMITED if how in MAPS else KINDS[kind][0]
         if how in ("repeated", "packed") and wire == DELIMITED != own:
             found, inner = list(old), Bytes(buf.take(buf.varint()))
             while inner.unread():
@@ -46,7 +54,7 @@ class ByMembers:
             return tuple(found)
         if wire != own:
             raise mismatch(number, own, wire)
-        if how == "map":
+        if how in MAPS:
             pairs = dict(old)
             merge_entry(kind, pairs, buf, depth, budget, number, None)
             return pairs
@@ -64,8 +72,8 @@ class ByMembers:
     def texts(self, message):
         """The text of each member's fields."""
         for (number, how, kind), part in zip(self.members, message):
-            if how == "map":
-                yield field_encoding(kind, number, part.items())
+            if how in MAPS:
+                yield field_encoding(kind, number, walked(how, part))
                 continue
             if how == "packed":
                 yield tag_encoding(number, DELIMITED) + delimited(b"".join(payload(kind, it) for it in part)) if part else b""
@@ -82,16 +90,17 @@ class ByMembers:
         """The slots of the messages in a message: of each the length of its text, then its own slots."""
         found = []
         for (_, how, kind), part in zip(self.members, message):
-            inner = kind[1] if how == "map" else kind
+            inner = kind[1] if how in MAPS else kind
             if inner in MESSAGES:
-                held = {"map": lambda it: it.values(), "repeated": list, "optional": lambda it: [it] * (it is not None)}[how](part)
+                whole = [it for _, it in walked(how, part)] if how in MAPS else part
+                held = [whole] * (whole is not None) if how == "optional" else whole
                 found += [it for one in held for it in [len(message_text(inner, one)), *BY_MEMBERS[inner].slots(one)]]
         return found
 
     def word(self, message):
         words = []
         for (_, how, kind), part in zip(self.members, message):
-            if how == "map":
+            if how in MAPS:
                 words.append("{" + ",".join(sorted(f"{word(kind[0], key)}={word(kind[1], it)}" for key, it in part.items())) + "}")
             elif how in ("repeated", "packed"):
                 words.append("[" + ",".join(word(kind, it) for it in part) + "]")
@@ -116,6 +125,9 @@ declare("inventory", 96, [(1, "plain", "int32"), (2, "plain", "string"), (3, "op
 declare("parcel", 112, [(1, "plain", "int64"), (2, "optional", "inventory")])
 declare("depot", 56, [(1, "plain", "string"), (2, "repeated", "parcel")])
 declare("store", 72, [(1, "plain", "string"), (2, "map", ("string", "inventory"))])
+declare("ledger", 96, [
+    (1, "ordered", ("string", "int32")), (2, "ordered", ("int32", "inventory")), (3, "ordered", ("bool", "bytes")),
+], True)
 declare("order", 256, [
     (1, "plain", "int64"), (2, "plain", "string"), (3, "optional", "bool"), (4, "plain", "open"),
     (5, "map", ("string", "int32")), (6, "plain", "bytes"), (7, "packed", "sint32"), (8, "optional", "string"),

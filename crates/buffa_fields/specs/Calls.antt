@@ -1,6 +1,8 @@
 -- What a call that takes a field, or writes a member, did: from what it was passed to what it left.
 use Rattle.std.specs.Prelude.{◌≡◌, ◌≤◌, ℕ, Bool, List, [], ◌∷◌, length, Some, Result, Err}
+use Rattle.std.specs.BTreeMap.{BTreeMap, insert_entry}
 use Rattle.std.specs.HashMap.{HashMap}
+use Rattle.std.specs.declared.cmp.Ordering.{Ordering}
 use Rattle.buffa_bytes.specs.declared.error.DecodeError.{DecodeError}
 use Rattle.buffa_bytes.specs.declared.error.EncodeError.{EncodeError}
 use Rattle.buffa_bytes.specs.declared.tag.Tag.{Tag}
@@ -53,10 +55,18 @@ module _ {P D T : Type 0} (tag : Tag) (ctx : DecodeContext) (left : Exit D) (old
   MergesIn takes need says =
       IsFieldMerged (merged_of takes) (cost_of need) ctx.depth (says old) tag.number tag.wire_type before.now ctx.budget.now r (says new) (budget_left left) after.now
 
--- a map took an entry, where keys and values mean so, and a pair costs so many units; a contract sees an IndexMap as a HashMap
-abbrev pub TakesEntry : {A B S D T K V : Type 0} → Tag → DecodeContext → Exit D → HashMap A B S → HashMap A B S → Bor (List ℕ) → Bor (List ℕ) → Result T DecodeError → (A → K) → (B → V) → Reading K → Reading V → (K → K → Bool) → ℕ → Type 0
-TakesEntry tag ctx left old new before after r key_means val_means key val same cost =
-    TakesIn tag ctx left old new before after r (entry_taken key val same) (entry_cost key val cost) (λ m. means key_means val_means m.entries)
+-- a map took an entry, where keys and values mean so, pairs are put so, and a pair costs so many units; a contract sees an
+-- IndexMap as a HashMap
+abbrev pub TakesEntry : {A B S D T K V : Type 0} → Tag → DecodeContext → Exit D → HashMap A B S → HashMap A B S → Bor (List ℕ) → Bor (List ℕ) → Result T DecodeError → (A → K) → (B → V) → Reading K → Reading V →
+    (List (K × V) → K → V → List (K × V)) → ℕ → Type 0
+TakesEntry tag ctx left old new before after r key_means val_means key val puts cost =
+    TakesIn tag ctx left old new before after r (entry_taken key val puts) (entry_cost key val cost) (λ m. means key_means val_means m.entries)
+
+-- the same of one that is walked in the order of its keys
+abbrev pub TakesOrderedEntry : {A B D T K V : Type 0} → Tag → DecodeContext → Exit D → BTreeMap A B → BTreeMap A B → Bor (List ℕ) → Bor (List ℕ) → Result T DecodeError → (A → K) → (B → V) → Reading K → Reading V →
+    (K → K → Ordering) → ℕ → Type 0
+TakesOrderedEntry tag ctx left old new before after r key_means val_means key val order cost =
+    TakesIn tag ctx left old new before after r (entry_taken key val (insert_entry order)) (entry_cost key val cost) (λ m. means key_means val_means m.entries)
 
 -- the member of the field's number took it, and the others stay
 abbrev pub MemberTakes : {M X D : Type 0} → Tag → DecodeContext → Exit D → M → M → Bor (List ℕ) → Bor (List ℕ) → Result (Unit {0}) DecodeError → Layout M X → Type 0

@@ -6,6 +6,8 @@ pub mod ValueLaws
 pub mod KindLaws
 pub mod MapFields
 pub mod MapLaws
+pub mod OrderedMaps
+pub mod OrderedLaws
 pub mod Keep
 pub mod KeepLaws
 pub mod Layout

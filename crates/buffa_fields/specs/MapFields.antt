@@ -1,5 +1,5 @@
 -- Map fields in messages. Source: the protobuf encoding guide, "Maps".
-use Rattle.std.specs.Prelude.{◌≡◌, ◌⊎◌, ℕ, Bool, true, List, [], ◌∷◌, ◌++◌, MatchResult, Option, None, Result, Ok, Err, if◌then◌else◌}
+use Rattle.std.specs.Prelude.{◌≡◌, ◌⊎◌, ℕ, Bool, true, List, [], ◌∷◌, ◌++◌, MatchResult, cond, Option, None, Result, Ok, Err, if◌then◌else◌}
 use Rattle.std.specs.Option.{option_map}
 use Rattle.buffa_bytes.specs.declared.error.DecodeError.{DecodeError}
 use Rattle.buffa_bytes.specs.declared.error.DecodeError.TheVariants.{OutOfMemory}
@@ -15,11 +15,19 @@ use Rattle.buffa_bytes.specs.WireType.{same_wire}
 use Rattle.buffa_map.specs.Codec.{Reading, Writing}
 use Rattle.buffa_map.specs.Entry.{IsEntry, entry_of, need_of}
 use Rattle.buffa_map.specs.Fields.{EntryFieldsTakeMemory}
-use Rattle.buffa_map.specs.Run.{step}
 use Rattle.buffa_map.specs.Encoding.{entry_encoding}
 use Rattle.buffa_map.specs.declared.map_entry.MapEntry.{MapEntry}
 use Rattle.buffa_wire.specs.ByField.{value_of}
 use Rattle.buffa_fields.specs.Takes.{Asks, Need, Taker}
+
+-- where pairs are put so, the pairs after an entry that said s: a declared one is put
+abbrev pub stepped : {K V : Type 0} → (List (K × V) → K → V → List (K × V)) → List (K × V) → MapEntry K V → List (K × V)
+stepped puts m s = cond s.known (puts m s.key s.value) m
+
+-- the pairs after these, which are put one after the other
+abbrev pub put_all : {K V : Type 0} → (List (K × V) → K → V → List (K × V)) → List (K × V) → List (K × V) → List (K × V)
+put_all puts m [] = m
+put_all puts m (p ∷ ps) = put_all puts (puts m p.0 p.1) ps
 
 module _ {K V : Type 0} (key : Reading K) (val : Reading V) where
   -- the entry that a whole payload holds
@@ -29,8 +37,8 @@ module _ {K V : Type 0} (key : Reading K) (val : Reading V) where
   entry_in d (Err f) = None
 
   -- each payload is an entry, whose pair is put
-  unfoldable pub entry_taken : (K → K → Bool) → Taker (List (K × V))
-  entry_taken same d m n w p = if same_wire LengthDelimited w then option_map (step same m) (entry_in d (delimited_at p)) else None
+  unfoldable pub entry_taken : (List (K × V) → K → V → List (K × V)) → Taker (List (K × V))
+  entry_taken puts d m n w p = if same_wire LengthDelimited w then option_map (stepped puts m) (entry_in d (delimited_at p)) else None
 
   -- one takes memory where a length and so many bytes are there, and a field in these does, or they are an entry, which is put
   abbrev pub PairTakesMemory : Asks

@@ -30,14 +30,15 @@ use Rattle.buffa_map.specs.Entry.{EntryFault, FaultOf, IsEntry, need_of}
 use Rattle.buffa_map.specs.Fields.{EntryFieldsTakeMemory}
 use Rattle.buffa_map.specs.Laws.{LimitsAreTrue, SizeIsLength}
 use Rattle.buffa_map.specs.Merge.{EntryTakesMemory, MergesEntry, RefusesEntry, dropping, state}
-use Rattle.buffa_map.specs.Run.{step, fold_entries, pair_entry}
+use Rattle.buffa_map.specs.Pairs.{put}
+use Rattle.buffa_map.specs.Run.{EntryRecord, fold_entries, pair_entry}
 use Rattle.buffa_map.specs.Encoding.{AllHold, HasEncoding, RefusesField, entry_encoding, field_size, field_encoding, record_encoding, saturated}
 use Rattle.buffa_map.specs.declared.map_entry.MapEntry.{MapEntry}
 use Rattle.buffa_bytes.specs.declared.error.EncodeError.{EncodeError}
 use Rattle.buffa_bytes.specs.declared.error.EncodeError.TheVariants as encode
-use Rattle.buffa_fields.specs.MapFields.{PairTakesMemory, WritesMap, entry_cost, entry_taken, map_records}
+use Rattle.buffa_fields.specs.MapFields.{PairTakesMemory, WritesMap, entry_cost, entry_taken, map_records, put_all, stepped}
 use Rattle.buffa_fields.specs.Takes.{IsTaken, Leads, Piece, ReadsBack, Stays, Untaken, joined}
-use Rattle.buffa_map.proofs.BackLemmas.{IsReadBack, as_record, entry_back, fold_back, is_tag}
+use Rattle.buffa_map.proofs.BackLemmas.{IsReadBack, entry_back, fold_back, is_tag}
 use Rattle.buffa_map.proofs.WriteLemmas.{field_encoding-append}
 use Rattle.buffa_bytes.specs.Values.{delimited_encoding, tag_encoding}
 use Rattle.buffa_bytes.specs.Varint.{varint_encoding}
@@ -63,7 +64,7 @@ is_limit error.UnknownFieldLimitExceeded = inl tt
 is_limit error.ElementMemoryLimitExceeded = inl tt
 is_limit _ = inr (λ h. h)
 
-module _ {K V : Type 0} (key : Reading K) (val : Reading V) (same : K → K → Bool) (cost : ℕ) where
+module _ {K V : Type 0} (key : Reading K) (val : Reading V) (cost : ℕ) where
   -- ---- what it costs is known by the payload
   pub map_stays : Stays (entry_cost key val cost)
   unfolding entry_taken entry_cost
@@ -77,8 +78,10 @@ module _ {K V : Type 0} (key : Reading K) (val : Reading V) (same : K → K → 
       let alone : delimited_at p ≡ Ok (body, []) = ap delimited_at (is ∙ ap (λ (z : List ℕ). t ++ z) (sym (append-nil body))) ∙ delimited_complete t body [] varint in
       rw (whole, alone) refl
 
+-- ---- an entry is read by the rules that drop undeclared ones, and put so
+module _ {K V : Type 0} (key : Reading K) (val : Reading V) (same : K → K → Bool) (keeps : Bool) (puts : List (K × V) → K → V → List (K × V)) (cost : ℕ) where
   -- ---- where it takes memory
-  pub map_full : (d n : ℕ) (w : WireType) (bs : List ℕ) (left : BudgetLeft) → w ≡ LengthDelimited → (f : DecodeError) → f ≡ OutOfMemory → EntryTakesMemory (dropping key val same true d 0 cost) left bs f → PairTakesMemory key val d n w bs
+  pub map_full : (d n : ℕ) (w : WireType) (bs : List ℕ) (left : BudgetLeft) → w ≡ LengthDelimited → (f : DecodeError) → f ≡ OutOfMemory → EntryTakesMemory (dropping key val same keeps d 0 cost) left bs f → PairTakesMemory key val d n w bs
   map_full d n w bs left wire f full (e, rest, is, inl copied) = absurd (copied.0 refl)
   map_full d n w bs left wire f full (e, rest, is, inr (enough, inl field)) = (wire, e, rest, is, inl (subst (λ z. EntryFieldsTakeMemory key val d e z) full field))
   map_full d n w bs left wire f full (e, rest, is, inr (enough, inr (s, entry, inl known))) = (wire, e, rest, is, inr (s, entry, known))
@@ -93,10 +96,10 @@ module _ {K V : Type 0} (key : Reading K) (val : Reading V) (same : K → K → 
         (u.1, whole, alone)
 
     -- ---- an entry is taken
-    pub map_ok : w ≡ LengthDelimited → MergesEntry (dropping key val same true d 0 cost) (state old none before) bs (state new none after) rest →
-        IsTaken (entry_taken key val same) (entry_cost key val cost) d old n w bs before (let r : Result (Unit {0}) DecodeError = Ok tt in r) new after rest
+    pub map_ok : w ≡ LengthDelimited → (m : MergesEntry (dropping key val same keeps d 0 cost) (state old none before) bs (state new none after) rest) → new ≡ stepped puts old m.says →
+        IsTaken (entry_taken key val puts) (entry_cost key val cost) d old n w bs before (let r : Result (Unit {0}) DecodeError = Ok tt in r) new after rest
     unfolding entry_taken entry_cost
-    map_ok wire m =
+    map_ok wire m put =
         let t = m.read.0 in
         let e = m.entry in
         let alone : delimited_at (t ++ e) ≡ Ok (e, []) = ap delimited_at (ap (λ (z : List ℕ). t ++ z) (sym (append-nil e))) ∙ delimited_complete t e [] m.read.1 in
@@ -106,12 +109,12 @@ module _ {K V : Type 0} (key : Reading K) (val : Reading V) (same : K → K → 
           t ++ e,
           subst (λ z. Payload d n z (t ++ e)) (sym wire) (t, e, m.read.1, refl),
           m.read.2 ∙ sym (append_assoc t e rest),
-          rw (wire, alone, said) (ap (λ z. Some z) (sym (m.order refl))),
+          rw (wire, alone, said) (ap (λ z. Some z) (sym put)),
           rw (wire, whole) (omega (arith, m.pays.0, none_of), omega (arith, m.pays.1)),
         )
 
     -- ---- or refused
-    spent : (r : Result (List ℕ × List ℕ) DecodeError) → delimited_at bs ≡ r → (f : DecodeError) → RefusesEntry (dropping key val same true d 0 cost) (state old none before) bs (state new none after) rest f →
+    spent : (r : Result (List ℕ × List ℕ) DecodeError) → delimited_at bs ≡ r → (f : DecodeError) → RefusesEntry (dropping key val same keeps d 0 cost) (state old none before) bs (state new none after) rest f →
         PaysAtMost before (entry_cost key val cost d n LengthDelimited bs) after
     unfolding entry_taken entry_cost
     spent (Err x) is f k =
@@ -128,7 +131,7 @@ module _ {K V : Type 0} (key : Reading K) (val : Reading V) (same : K → K → 
         ]
 
     module _ (wire : w ≡ LengthDelimited) (limits : LimitsAreTrue key val) where
-      refused_at : (e : List ℕ) (f : DecodeError) → FaultOf key val d e f → (more : List ℕ) → delimited_at bs ≡ Ok (e, more) → Untaken (entry_taken key val same) d old n w bs
+      refused_at : (e : List ℕ) (f : DecodeError) → FaultOf key val d e f → (more : List ℕ) → delimited_at bs ≡ Ok (e, more) → Untaken (entry_taken key val puts) d old n w bs
       unfolding entry_taken entry_cost
       refused_at e f h more is p after_p payload split =
           let u = payload_at p after_p wire payload split in
@@ -136,10 +139,10 @@ module _ {K V : Type 0} (key : Reading K) (val : Reading V) (same : K → K → 
           let bad = entry_faulty key val d e f h in
           rw (wire, u.2, one, bad.1) refl
 
-      no_payload : (x : DecodeError) → delimited_at bs ≡ Err x → Untaken (entry_taken key val same) d old n w bs
+      no_payload : (x : DecodeError) → delimited_at bs ≡ Err x → Untaken (entry_taken key val puts) d old n w bs
       no_payload x is p more payload split = let u = payload_at p more wire payload split in let k = sym u.1 ∙ is in cc
 
-      why : (f : DecodeError) → EntryFault key val d cost 0 before bs f → Lacks before (entry_cost key val cost d n w bs) ⊎ (Untaken (entry_taken key val same) d old n w bs × NoLimit f)
+      why : (f : DecodeError) → EntryFault key val d cost 0 before bs f → Lacks before (entry_cost key val cost d n w bs) ⊎ (Untaken (entry_taken key val puts) d old n w bs × NoLimit f)
       unfolding entry_taken entry_cost
       why f h = elim (is_limit f) [
         | inl limit ↦
@@ -157,20 +160,20 @@ module _ {K V : Type 0} (key : Reading K) (val : Reading V) (same : K → K → 
           lacked e (inl h) = h
           lacked e (inr (s, entry, known, h)) = plain_lack (need_of key val d cost e) h
 
-          at : NoLimit f → EntryFault key val d cost 0 before bs f → Lacks before (entry_cost key val cost d n w bs) ⊎ (Untaken (entry_taken key val same) d old n w bs × NoLimit f)
+          at : NoLimit f → EntryFault key val d cost 0 before bs f → Lacks before (entry_cost key val cost d n w bs) ⊎ (Untaken (entry_taken key val puts) d old n w bs × NoLimit f)
           at unlimited (inl len) = inr (no_payload f (delimited_faulty bs f len), unlimited)
           at unlimited (inr (t, e, more, varint, split, inl (few, is))) = absurd (unlimited (subst (λ z. IsLimit z) (sym is) tt))
           at unlimited (inr (t, e, more, varint, split, inr (enough, inl lack))) = inl (rw (wire, delimited_taken bs e more (t, varint, split)) lack)
           at unlimited (inr (t, e, more, varint, split, inr (enough, inr (inl fault)))) = inr (refused_at e f fault more (delimited_taken bs e more (t, varint, split)), unlimited)
           at unlimited (inr (t, e, more, varint, split, inr (enough, inr (inr (s, entry, known, few, is))))) = absurd (unlimited (subst (λ z. IsLimit z) (sym is) tt))
 
-      pub map_err : (f : DecodeError) → RefusesEntry (dropping key val same true d 0 cost) (state old none before) bs (state new none after) rest f →
-          IsTaken (entry_taken key val same) (entry_cost key val cost) d old n w bs before (let r : Result (Unit {0}) DecodeError = Err f in r) new after rest
+      pub map_err : (f : DecodeError) → RefusesEntry (dropping key val same keeps d 0 cost) (state old none before) bs (state new none after) rest f →
+          IsTaken (entry_taken key val puts) (entry_cost key val cost) d old n w bs before (let r : Result (Unit {0}) DecodeError = Err f in r) new after rest
       unfolding entry_taken entry_cost
       map_err f k = (rw wire (spent (delimited_at bs) refl f k), λ ne. why f (k.fault ne), λ full end. let two = sym wire ∙ end in cc)
 
     pub map_wire_err : (f : DecodeError) → w ≢ LengthDelimited → f ≡ WireTypeMismatch n LengthDelimited w → after ≡ before →
-        IsTaken (entry_taken key val same) (entry_cost key val cost) d old n w bs before (let r : Result (Unit {0}) DecodeError = Err f in r) new after rest
+        IsTaken (entry_taken key val puts) (entry_cost key val cost) d old n w bs before (let r : Result (Unit {0}) DecodeError = Err f in r) new after rest
     unfolding entry_taken entry_cost
     map_wire_err f other is still =
         let off = same_false LengthDelimited w other in
@@ -181,8 +184,20 @@ module _ {K V : Type 0} (key : Reading K) (val : Reading V) (same : K → K → 
           λ full end. let two = sym full ∙ is in cc,
         )
 
+-- pairs of which no two have one key are put one behind the other
+module _ {K V : Type 0} (same : K → K → Bool) where
+  as_entry : K × V → EntryRecord K V
+  as_entry p = record { bytes = []; parts = pair_entry p }
+
+  folded : (m l : List (K × V)) → put_all (put same) m l ≡ fold_entries same m (map as_entry l)
+  folded m [] = refl
+  folded m (p ∷ ps) = folded (put same m p.0 p.1) ps
+
+  pub distinct_put : IsEquivalence same → (l : List (K × V)) → IsDistinct same (keys_of l) → put_all (put same) [] l ≡ l
+  distinct_put is_eq l distinct = folded [] l ∙ fold_back is_eq as_entry (λ p. refl) l distinct
+
 -- ---- the encoding reads back
-module _ {K V : Type 0} (key : Reading K) (val : Reading V) (kw : Writing K) (vw : Writing V) (same_key : kw.wire ≡ key.wire) (same_val : vw.wire ≡ val.wire) (same : K → K → Bool) (is_eq : IsEquivalence same)
+module _ {K V : Type 0} (key : Reading K) (val : Reading V) (kw : Writing K) (vw : Writing V) (same_key : kw.wire ≡ key.wire) (same_val : vw.wire ≡ val.wire) (puts : List (K × V) → K → V → List (K × V))
     (KeyOk : K → Type 0) (ValOk : V → Type 0) (d : ℕ) (key_back : (v : K) → KeyOk v → IsReadBack key kw d v) (val_back : (v : V) → ValOk v → IsReadBack val vw d v) (n : ℕ) (number : IsNumber n) where
   abbrev piece : K × V → Piece
   piece p = record { tag = tag_encoding n LengthDelimited; number = n; wire = LengthDelimited; payload = delimited_encoding (entry_encoding kw vw p) }
@@ -192,32 +207,32 @@ module _ {K V : Type 0} (key : Reading K) (val : Reading V) (kw : Writing K) (vw
   pieces_encoding (p ∷ ps) = ap (λ (z : List ℕ). record_encoding kw vw n p ++ z) (pieces_encoding ps)
 
   read_entry : (p : K × V) → length (entry_encoding kw vw p) < 2 ^ 64 → KeyOk p.0 → ValOk p.1 → (m : List (K × V)) →
-      entry_taken key val same d m n LengthDelimited (delimited_encoding (entry_encoding kw vw p)) ≡ Some (step same m (pair_entry p))
+      entry_taken key val puts d m n LengthDelimited (delimited_encoding (entry_encoding kw vw p)) ≡ Some (puts m p.0 p.1)
   unfolding entry_taken entry_cost
   read_entry p fits a b m =
       let e = entry_encoding kw vw p in
       let alone : delimited_at (delimited_encoding e) ≡ Ok (e, []) = ap delimited_at (sym (append-nil (delimited_encoding e))) ∙ delimited_back e [] fits in
       rw (alone, entry_complete key val d e (pair_entry p) (entry_back key val kw vw same_key same_val d KeyOk ValOk key_back val_back p a b)) refl
 
-  leads_all : (m l : List (K × V)) → AllHold KeyOk ValOk l → HasEncoding kw vw l → Leads (entry_taken key val same) (λ x. x == n) d m (map piece l) (fold_entries same m (map (as_record kw vw) l))
+  leads_all : (m l : List (K × V)) → AllHold KeyOk ValOk l → HasEncoding kw vw l → Leads (entry_taken key val puts) (λ x. x == n) d m (map piece l) (put_all puts m l)
   unfolding entry_taken entry_cost
   leads_all m [] ok has = refl
   leads_all m (p ∷ ps) ok has = (
     eq-eqb n n refl,
     is_tag n LengthDelimited number,
     (varint_encoding (length (entry_encoding kw vw p)), entry_encoding kw vw p, IsVarint-varint_encoding (length (entry_encoding kw vw p)) has.0, refl),
-    step same m (pair_entry p),
+    puts m p.0 p.1,
     read_entry p has.0 ok.0 ok.1 m,
-    leads_all (step same m (pair_entry p)) ps ok.2 has.1,
+    leads_all (puts m p.0 p.1) ps ok.2 has.1,
   )
 
-  pub map_back : (l : List (K × V)) → Fits (records_of (map_records kw vw n l)) → AllHold KeyOk ValOk l → IsDistinct same (keys_of l) →
-      ReadsBack (entry_taken key val same) (λ x. x == n) d [] (records_encoding (map_records kw vw n l)) l
+  pub map_back : (l : List (K × V)) → Fits (records_of (map_records kw vw n l)) → AllHold KeyOk ValOk l → put_all puts [] l ≡ l →
+      ReadsBack (entry_taken key val puts) (λ x. x == n) d [] (records_encoding (map_records kw vw n l)) l
   unfolding entry_taken entry_cost
-  map_back l fits ok distinct = record {
+  map_back l fits ok put_back = record {
     pieces = map piece l;
     spelled = pieces_encoding l;
-    leads = subst (λ z. Leads (entry_taken key val same) (λ x. x == n) d [] (map piece l) z) (fold_back is_eq (as_record kw vw) (λ p. refl) l distinct) (leads_all [] l ok (map_has_encoding kw vw n l fits));
+    leads = subst (λ z. Leads (entry_taken key val puts) (λ x. x == n) d [] (map piece l) z) put_back (leads_all [] l ok (map_has_encoding kw vw n l fits));
   }
 
 -- ---- the size

@@ -1,8 +1,5 @@
 -- What is proved of map fields of messages as members.
-use Rattle.std.proofs.Common.{◌≡◌, ℕ, zero, suc, ◌+◌, ◌*◌, ◌^◌, ◌==◌, ◌<◌, ◌≤◌, Bool, List, [], ◌∷◌, length, Option, Some, Result, refl, sym, ap, ◌∙◌, arith, length-append}
-use Rattle.std.specs.Cmp.{IsEquivalence}
-use Rattle.std.specs.List.{IsDistinct}
-use Rattle.std.specs.Map.{keys_of}
+use Rattle.std.proofs.Common.{◌≡◌, ℕ, zero, suc, ◌+◌, ◌*◌, ◌^◌, ◌==◌, ◌<◌, ◌≤◌, List, [], ◌∷◌, length, Option, Some, Result, refl, sym, ap, ◌∙◌, arith, length-append}
 use Rattle.buffa_bytes.proofs.VarintLemmas.{IsVarint-varint_encoding}
 use Rattle.buffa_bytes.specs.declared.error.EncodeError.{EncodeError}
 use Rattle.buffa_bytes.specs.declared.wire_type.WireType.TheVariants.{LengthDelimited}
@@ -26,7 +23,7 @@ use Rattle.buffa_map.specs.MessageField.{IsFieldSized, IsFieldWritten, IsSmallFi
 use Rattle.buffa_map.specs.Scalars.{delimited_writing}
 use Rattle.buffa_map.specs.Encoding.{AllHold, field_size, field_encoding}
 use Rattle.buffa_fields.specs.LayoutLaws.{failed, sum}
-use Rattle.buffa_fields.specs.MapFields.{entry_taken, map_records}
+use Rattle.buffa_fields.specs.MapFields.{entry_taken, map_records, put_all}
 use Rattle.buffa_fields.specs.MapLaws.{map_back, map_encoding}
 use Rattle.buffa_fields.specs.NestedMaps.{pair_levels, pair_records, pair_slots}
 use Rattle.buffa_fields.specs.Takes.{ReadsBack}
@@ -79,7 +76,7 @@ module _ {X : Type 0} (merged : ℕ → X → List ℕ → Option X) (blank : X)
   inside_back (suc d) v (normal, fits, low) =
       (refl, held (encoding v), (varint_encoding (length (encoding v)), IsVarint-varint_encoding (length (encoding v)) fits, refl), ap meant (back d v normal (omega (arith, low))))
 
-  module _ {K : Type 0} (key : Reading K) (kw : Writing K) (same_key : kw.wire ≡ key.wire) (same : K → K → Bool) (is_eq : IsEquivalence same) (KeyOk : K → Type 0)
+  module _ {K : Type 0} (key : Reading K) (kw : Writing K) (same_key : kw.wire ≡ key.wire) (puts : List (K × X) → K → X → List (K × X)) (KeyOk : K → Type 0)
       (key_back : (d : ℕ) (v : K) → KeyOk v → IsReadBack key kw d v) (n : ℕ) (number : IsNumber n) (d : ℕ) where
     all_low : (l : List (K × X)) → Fits (records_of (map_records kw (delimited_writing encoding) n l)) → AllHold KeyOk Normal l → pair_levels level l ≤ d → AllHold KeyOk (IsLow d) l
     all_low [] fits ok low = tt
@@ -88,8 +85,8 @@ module _ {X : Type 0} (merged : ℕ → X → List ℕ → Option X) (blank : X)
         let both = length-append (varint_encoding (length (encoding p.1))) (encoding p.1) in
         (ok.0, (ok.1, omega (arith, fits.1, whole, both), omega (arith, low)), all_low ps fits.2 ok.2 (omega (arith, low)))
 
-    pub pairs_back : (l : List (K × X)) → Fits (records_of (pair_records kw encoding n l)) → AllHold KeyOk Normal l → IsDistinct same (keys_of l) → pair_levels level l ≤ d →
-        ReadsBack (entry_taken key (message_reading blank merged cost) same) (λ m. m == n) d [] (records_encoding (pair_records kw encoding n l)) l
+    pub pairs_back : (l : List (K × X)) → Fits (records_of (pair_records kw encoding n l)) → AllHold KeyOk Normal l → put_all puts [] l ≡ l → pair_levels level l ≤ d →
+        ReadsBack (entry_taken key (message_reading blank merged cost) puts) (λ m. m == n) d [] (records_encoding (pair_records kw encoding n l)) l
     unfolding pair_records
-    pairs_back l fits ok distinct low =
-        map_back key (message_reading blank merged cost) kw (delimited_writing encoding) same_key refl same is_eq KeyOk (IsLow d) d (key_back d) (inside_back d) n number l fits (all_low l fits ok low) distinct
+    pairs_back l fits ok put_back low =
+        map_back key (message_reading blank merged cost) kw (delimited_writing encoding) same_key refl puts KeyOk (IsLow d) d (key_back d) (inside_back d) n number l fits (all_low l fits ok low) put_back

@@ -4,6 +4,7 @@
 
 ghost use Rattle.std.specs.Prelude.{◌≡◌, ◌↔◌, ◌⊎◌, ◌+◌, ℕ, ℤ, List, [], ◌∷◌, ◌++◌, None, Some, map, not};
 ghost use Rattle.std.specs.Int.{cast_unsigned, w64};
+ghost use Rattle.std.specs.BTreeMap.{insert_entry};
 ghost use Rattle.std.specs.List.{IsDistinct};
 ghost use Rattle.std.specs.Map.{keys_of};
 ghost use Rattle.std.specs.Option.{option_map};
@@ -15,7 +16,7 @@ ghost use Rattle.buffa_wire.specs.Records.Datum.{varint, fixed32, fixed64, bytes
 ghost use Rattle.buffa_bytes.specs.Reading.{check_wire};
 ghost use Rattle.buffa_wire.specs.Encoding.{wire_of};
 ghost use Rattle.buffa_map.specs.Message.{message_reading};
-ghost use Rattle.buffa_map.specs.Pairs.{means};
+ghost use Rattle.buffa_map.specs.Pairs.{means, put};
 ghost use Rattle.buffa_map.specs.Encoding.{AllHold};
 ghost use Rattle.buffa_fields.specs.Keep.{IsFieldThere};
 ghost use Rattle.buffa_fields.specs.KindLaws.{is_none, is_nought, is_zero};
@@ -25,6 +26,7 @@ ghost use Rattle.buffa_fields.specs.Members.{keep};
 ghost use Rattle.buffa_fields.specs.Nested.{FitsInside, MessageTakesMemory, message_cost, message_levels, message_records, message_slots, message_taken};
 ghost use Rattle.buffa_fields.specs.NestedMaps.{pair_levels, pair_records, pair_slots};
 ghost use Rattle.buffa_fields.specs.RepeatedNested.{MessagesTakeMemory, messages_cost, messages_levels, messages_records, messages_slots, messages_taken};
+ghost use Rattle.buffa_fields.specs.OrderedMaps.{KeysAscend};
 ghost use Rattle.buffa_fields.specs.MemberRecords.{entry_records, optional_records, plain_records};
 ghost use Rattle.buffa_fields.specs.Takes.{cost_of, merged_of};
 ghost use Rattle.buffa_fields.specs.Values.{IfThere, ValueTakesMemory, free, some_taken, value_taken};
@@ -36,6 +38,9 @@ use crate::member::Member;
 use crate::message::{Listed, Listing};
 use crate::nested::Nested;
 use crate::optional::Optional;
+use crate::ordered_key::OrderedKey;
+use crate::ordered_map::OrderedMapOf;
+use crate::ordered_nested::OrderedMapOfNested;
 use crate::packed::{Packable, Packed};
 use crate::plain::Plain;
 use crate::repeated::Repeated;
@@ -152,7 +157,7 @@ where
     ensures meaning { (p : _) → ⟦<MapOf<KC, VC> as Member>⟧.shape.meaning p
         ≡ means KC.Value.meaning VC.Value.meaning p.entries }
     ensures blank { ⟦<MapOf<KC, VC> as Member>⟧.shape.blank ≡ [] }
-    ensures takes { ⟦<MapOf<KC, VC> as Member>⟧.shape.takes ≡ entry_taken KC.reading VC.reading KC.Value.same }
+    ensures takes { ⟦<MapOf<KC, VC> as Member>⟧.shape.takes ≡ entry_taken KC.reading VC.reading (put KC.Value.same) }
     ensures checks { (n : ℕ) (w : _) → ⟦<MapOf<KC, VC> as Member>⟧.shape.checks n w
         ≡ check_wire n WireType.LengthDelimited w }
     ensures asks { (d n : ℕ) (w : _) (bs : List ℕ) → ⟦<MapOf<KC, VC> as Member>⟧.shape.asks d n w bs
@@ -175,7 +180,7 @@ where
         ≡ means KC.Value.meaning N.meaning p.entries }
     ensures blank { ⟦<MapOfNested<KC, N> as Member>⟧.shape.blank ≡ [] }
     ensures takes { ⟦<MapOfNested<KC, N> as Member>⟧.shape.takes
-        ≡ entry_taken KC.reading (message_reading N.blank_is N.merged N.cost) KC.Value.same }
+        ≡ entry_taken KC.reading (message_reading N.blank_is N.merged N.cost) (put KC.Value.same) }
     ensures checks { (n : ℕ) (w : _) → ⟦<MapOfNested<KC, N> as Member>⟧.shape.checks n w
         ≡ check_wire n WireType.LengthDelimited w }
     ensures asks { (d n : ℕ) (w : _) (bs : List ℕ) → ⟦<MapOfNested<KC, N> as Member>⟧.shape.asks d n w bs
@@ -192,6 +197,55 @@ where
     ensures normal { (v : _) → IsDistinct KC.Value.same (keys_of v) →
         AllHold (λ k. KC.fits k × KC.normal k) (FitsInside N.normal N.records) v →
         ⟦<MapOfNested<KC, N> as Member>⟧.shape.normal v }
+{}
+
+/// A map in the order of its keys: each record is an entry, which is put in its place.
+pub fn ordered_maps_are_these<KC: MapCodec, VC: MapCodec>()
+where
+    KC::Value: OrderedKey,
+    ensures meaning { (p : _) → ⟦<OrderedMapOf<KC, VC> as Member>⟧.shape.meaning p
+        ≡ means KC.Value.meaning VC.Value.meaning p.entries }
+    ensures blank { ⟦<OrderedMapOf<KC, VC> as Member>⟧.shape.blank ≡ [] }
+    ensures takes { ⟦<OrderedMapOf<KC, VC> as Member>⟧.shape.takes ≡ entry_taken KC.reading VC.reading (insert_entry KC.Value.order) }
+    ensures checks { (n : ℕ) (w : _) → ⟦<OrderedMapOf<KC, VC> as Member>⟧.shape.checks n w
+        ≡ check_wire n WireType.LengthDelimited w }
+    ensures asks { (d n : ℕ) (w : _) (bs : List ℕ) → ⟦<OrderedMapOf<KC, VC> as Member>⟧.shape.asks d n w bs
+        ↔ (PairTakesMemory KC.reading VC.reading d n w bs) }
+    ensures need { ⟦<OrderedMapOf<KC, VC> as Member>⟧.shape.need ≡ entry_cost KC.reading VC.reading (KC.COST + VC.COST) }
+    ensures records { (n : ℕ) (v : _) → ⟦<OrderedMapOf<KC, VC> as Member>⟧.shape.records n v
+        ≡ entry_records KC.writing VC.writing n v }
+    ensures slots { (v : _) → ⟦<OrderedMapOf<KC, VC> as Member>⟧.shape.slots v ≡ [] }
+    ensures levels { (v : _) → ⟦<OrderedMapOf<KC, VC> as Member>⟧.shape.levels v ≡ 0 }
+    ensures normal { (v : _) → ⟦<OrderedMapOf<KC, VC> as Member>⟧.shape.normal v
+        ↔ (AllHold (λ k. KC.fits k × KC.normal k) (λ x. VC.fits x × VC.normal x) v
+        × KeysAscend KC.Value.order v) }
+{}
+
+/// A map of messages in the order of its keys.
+pub fn ordered_maps_of_messages_are_these<KC: MapCodec, N: Message>()
+where
+    KC::Value: OrderedKey,
+    ensures meaning { (p : _) → ⟦<OrderedMapOfNested<KC, N> as Member>⟧.shape.meaning p
+        ≡ means KC.Value.meaning N.meaning p.entries }
+    ensures blank { ⟦<OrderedMapOfNested<KC, N> as Member>⟧.shape.blank ≡ [] }
+    ensures takes { ⟦<OrderedMapOfNested<KC, N> as Member>⟧.shape.takes
+        ≡ entry_taken KC.reading (message_reading N.blank_is N.merged N.cost) (insert_entry KC.Value.order) }
+    ensures checks { (n : ℕ) (w : _) → ⟦<OrderedMapOfNested<KC, N> as Member>⟧.shape.checks n w
+        ≡ check_wire n WireType.LengthDelimited w }
+    ensures asks { (d n : ℕ) (w : _) (bs : List ℕ) → ⟦<OrderedMapOfNested<KC, N> as Member>⟧.shape.asks d n w bs
+        ↔ (PairTakesMemory KC.reading (message_reading N.blank_is N.merged N.cost) d n w bs) }
+    ensures need { ⟦<OrderedMapOfNested<KC, N> as Member>⟧.shape.need
+        ≡ entry_cost KC.reading (message_reading N.blank_is N.merged N.cost) (KC.COST + N.COST) }
+    ensures records { (n : ℕ) (v : _) → ⟦<OrderedMapOfNested<KC, N> as Member>⟧.shape.records n v
+        ≡ pair_records KC.writing N.encoding n v }
+    ensures slots { (v : _) → ⟦<OrderedMapOfNested<KC, N> as Member>⟧.shape.slots v ≡ pair_slots N.encoding N.slots v }
+    ensures levels { (v : _) → ⟦<OrderedMapOfNested<KC, N> as Member>⟧.shape.levels v ≡ pair_levels N.levels v }
+    ensures parts { (v : _) → ⟦<OrderedMapOfNested<KC, N> as Member>⟧.shape.normal v →
+        AllHold (λ k. KC.fits k × KC.normal k) (FitsInside N.normal N.records) v }
+    ensures keys { (v : _) → ⟦<OrderedMapOfNested<KC, N> as Member>⟧.shape.normal v → KeysAscend KC.Value.order v }
+    ensures normal { (v : _) → KeysAscend KC.Value.order v →
+        AllHold (λ k. KC.fits k × KC.normal k) (FitsInside N.normal N.records) v →
+        ⟦<OrderedMapOfNested<KC, N> as Member>⟧.shape.normal v }
 {}
 
 /// The record of a number, and which number is the default: 0, or false.

@@ -6,13 +6,15 @@ ghost use Rattle.buffa_bytes.specs.Gives.{FullOnlyIf};
 ghost use Rattle.buffa_bytes.specs.Number.{IsNumber};
 ghost use Rattle.buffa_wire.specs.Passes.{cap};
 ghost use Rattle.buffa_wire.specs.Encoding.{records_encoding};
-ghost use Rattle.buffa_map.specs.Pairs.{means};
+ghost use Rattle.buffa_map.specs.Pairs.{means, put};
 ghost use Rattle.buffa_fields.specs.Calls.{ChecksWire, TakesEntry};
 ghost use Rattle.buffa_fields.specs.MapFields.{PairTakesMemory, WritesMap, entry_cost, entry_taken, map_records};
 ghost use Rattle.buffa_fields.specs.Takes.{IsTaken};
 
 use buffa_map::laws::{limits_are_told_where_needs_are_not_left, size_is_length};
-use buffa_map::map_codec::{Map, MapCodec, MapValueDecode, field_len, merge_entry, write_field};
+use buffa_map::map_codec::{
+    Map, MapCodec, MapStorage, MapValueDecode, StableWalk, field_len, merge_entry, write_field,
+};
 use buffa_wire::{
     DecodeContext, DecodeError, EncodeError, EncodeSink, MapKey, Tag, WireType, check_wire_type,
     varint_len,
@@ -21,19 +23,21 @@ use std::alloc::Global;
 use std::hash::Hash;
 
 // The length of a map field, or 2^32 - 1 where it is more.
-pub(crate) fn map_len<KC: MapCodec, VC: MapCodec>(
-    number: u32,
-    map: &Map<KC::Value, VC::Value>,
-) -> u32
+pub(crate) fn map_len<
+    'a,
+    KC: MapCodec,
+    VC: MapCodec,
+    C: StableWalk<'a> + MapStorage<Key = KC::Value, Value = VC::Value>,
+>(number: u32, map: &'a C) -> u32
 where
-    KC::Value: MapKey + Hash,
+    KC::Value: 'a,
+    VC::Value: 'a,
     requires { IsNumber number }
-    ensures { result ≡ cap (length (records_encoding (map_records KC.writing VC.writing number
-        (means KC.Value.meaning VC.Value.meaning map.now.entries)))) }
+    ensures { result ≡ cap (length (records_encoding (map_records KC.writing VC.writing number (C.walk map.now)))) }
 {
     size_is_length::<KC, VC>();
     let tag = varint_len(u64::from(number) * 8 + 2) as u64;
-    let total = field_len::<KC, VC, Map<KC::Value, VC::Value>>(map, tag);
+    let total = field_len::<KC, VC, C>(map, tag);
     if total < 4_294_967_295 {
         total as u32
     } else {
@@ -53,7 +57,7 @@ pub(crate) fn take_entry<KC: MapCodec, VC: MapValueDecode>(
 where
     KC::Value: MapKey + Hash,
     ensures taken { TakesEntry tag ctx.entry ctx.exit map.old map.new buf.old buf.new result KC.Value.meaning
-        VC.Value.meaning KC.reading VC.reading KC.Value.same (KC.COST + VC.COST) }
+        VC.Value.meaning KC.reading VC.reading (put KC.Value.same) (KC.COST + VC.COST) }
     ensures full { FullOnlyIf result (PairTakesMemory KC.reading VC.reading ctx.entry.depth tag.number tag.wire_type
         buf.old.now) }
     ensures wire { ChecksWire tag WireType.LengthDelimited result
@@ -72,18 +76,20 @@ where
 }
 
 // Writes a map field. An entry that is too long for any length is in no encoding of a message.
-pub(crate) fn write_map<KC: MapCodec, VC: MapCodec, S: EncodeSink>(
-    number: u32,
-    map: &Map<KC::Value, VC::Value>,
-    sink: &mut S,
-) -> Result<(), EncodeError>
+pub(crate) fn write_map<
+    'a,
+    KC: MapCodec,
+    VC: MapCodec,
+    C: StableWalk<'a> + MapStorage<Key = KC::Value, Value = VC::Value>,
+    S: EncodeSink,
+>(number: u32, map: &'a C, sink: &mut S) -> Result<(), EncodeError>
 where
-    KC::Value: MapKey + Hash,
+    KC::Value: 'a,
+    VC::Value: 'a,
     requires { IsNumber number }
-    ensures { WritesMap KC.writing VC.writing number (means KC.Value.meaning VC.Value.meaning map.now.entries)
-        (S.written sink.old) result (S.written sink.new) }
+    ensures { WritesMap KC.writing VC.writing number (C.walk map.now) (S.written sink.old) result (S.written sink.new) }
 {
-    match write_field::<KC, VC, Map<KC::Value, VC::Value>, S>(map, number, sink) {
+    match write_field::<KC, VC, C, S>(map, number, sink) {
         Ok(()) => Ok(()),
         Err(_) => Err(EncodeError::OutOfMemory),
     }

@@ -7,10 +7,10 @@ ghost use Rattle.std.specs.Map.{keys_of};
 ghost use Rattle.buffa_bytes.specs.declared.wire_type.WireType.TheVariants.{LengthDelimited};
 ghost use Rattle.buffa_bytes.specs.Reading.{check_wire};
 ghost use Rattle.buffa_map.proofs.BackLemmas.{plain_back};
-ghost use Rattle.buffa_map.specs.Pairs.{means};
+ghost use Rattle.buffa_map.specs.Pairs.{means, put};
 ghost use Rattle.buffa_map.specs.Encoding.{AllHold};
 ghost use Rattle.buffa_fields.specs.MapFields.{PairTakesMemory, entry_cost, entry_taken};
-ghost use Rattle.buffa_fields.specs.MapLaws.{map_back, map_stays};
+ghost use Rattle.buffa_fields.specs.MapLaws.{distinct_put, map_back, map_stays};
 ghost use Rattle.buffa_fields.specs.MemberRecords.{entry_records};
 
 use crate::map::{map_len, take_entry, write_map};
@@ -44,7 +44,7 @@ where
     ghost shape = { record {
       meaning = λ m. means KC.Value.meaning VC.Value.meaning m.entries;
       blank = [];
-      takes = entry_taken KC.reading VC.reading KC.Value.same;
+      takes = entry_taken KC.reading VC.reading (put KC.Value.same);
       checks = λ n w. check_wire n LengthDelimited w;
       asks = PairTakesMemory KC.reading VC.reading;
       need = entry_cost KC.reading VC.reading (KC.COST + VC.COST);
@@ -53,7 +53,7 @@ where
       levels = λ _. 0;
       normal = λ l. AllHold (λ k. KC.fits k × KC.normal k) (λ v. VC.fits v × VC.normal v) l
           × IsDistinct KC.Value.same (keys_of l);
-      stays = map_stays KC.reading VC.reading KC.Value.same (KC.COST + VC.COST);
+      stays = map_stays KC.reading VC.reading (KC.COST + VC.COST);
     } };
 
     #[tactic(auto, using(crate::specs::LayoutLaws::sized_free), unfolding(crate::specs::MemberRecords::entry_records))]
@@ -62,7 +62,7 @@ where
         part: &Map<KC::Value, VC::Value>,
         _cache: &mut SizeCache,
     ) -> Result<u32, EncodeError> {
-        Ok(map_len::<KC, VC>(number, part))
+        Ok(map_len::<KC, VC, Map<KC::Value, VC::Value>>(number, part))
     }
 
     #[tactic(auto, using(crate::specs::MapLaws::map_alone), unfolding(crate::specs::MemberRecords::entry_records))]
@@ -72,7 +72,7 @@ where
         _cache: &mut SizeCache,
         sink: &mut S,
     ) -> Result<(), EncodeError> {
-        write_map::<KC, VC, S>(number, part, sink)
+        write_map::<KC, VC, Map<KC::Value, VC::Value>, S>(number, part, sink)
     }
 
     #[tactic(auto, unfolding(crate::specs::Layout::Took))]
@@ -89,9 +89,9 @@ where
     ghost back = { record {
       back = λ n number d l fits normal low. unfold entry_records in (map_back KC.reading VC.reading KC.writing VC.writing
           (KC.MapCodec.written_wire ∙ sym KC.MapValueDecode.wire) (VC.MapCodec.written_wire ∙ sym VC.MapValueDecode.wire)
-          KC.Value.same KC.Value.MapKey.equivalence (λ k. KC.fits k × KC.normal k) (λ v. VC.fits v × VC.normal v) d
+          (put KC.Value.same) (λ k. KC.fits k × KC.normal k) (λ v. VC.fits v × VC.normal v) d
           (λ v h. plain_back KC.reading KC.writing d v KC.MapCodec.plain (KC.MapCodec.reads_back d KC.reading.blank v h.0 h.1))
           (λ v h. plain_back VC.reading VC.writing d v VC.MapCodec.plain (VC.MapCodec.reads_back d VC.reading.blank v h.0 h.1))
-          n number l fits normal.0 normal.1);
+          n number l fits normal.0 (distinct_put KC.Value.same KC.Value.MapKey.equivalence l normal.1));
     } };
 }

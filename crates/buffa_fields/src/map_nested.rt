@@ -1,6 +1,6 @@
 //! Map fields of messages as members.
 
-ghost use Rattle.std.specs.Prelude.{◌≡◌, ◌+◌, ◌==◌, [], IsOk};
+ghost use Rattle.std.specs.Prelude.{◌≡◌, ◌≢◌, ◌+◌, ◌==◌, [], OnErr};
 ghost use Rattle.std.proofs.Common.{sym, ◌∙◌};
 ghost use Rattle.std.specs.List.{IsDistinct};
 ghost use Rattle.std.specs.Map.{keys_of};
@@ -10,11 +10,11 @@ ghost use Rattle.buffa_wire.specs.Passes.{IsNext};
 ghost use Rattle.buffa_bytes.specs.Reading.{check_wire};
 ghost use Rattle.buffa_map.proofs.BackLemmas.{plain_back};
 ghost use Rattle.buffa_map.specs.Message.{message_reading};
-ghost use Rattle.buffa_map.specs.Pairs.{means};
+ghost use Rattle.buffa_map.specs.Pairs.{means, put};
 ghost use Rattle.buffa_map.specs.Encoding.{AllHold};
 ghost use Rattle.buffa_fields.specs.Calls.{SizesPairs, WritesPairs};
 ghost use Rattle.buffa_fields.specs.MapFields.{PairTakesMemory, entry_cost, entry_taken};
-ghost use Rattle.buffa_fields.specs.MapLaws.{map_stays};
+ghost use Rattle.buffa_fields.specs.MapLaws.{distinct_put, map_stays};
 ghost use Rattle.buffa_fields.specs.Nested.{FitsInside};
 ghost use Rattle.buffa_fields.specs.NestedMapLaws.{pairs_back};
 ghost use Rattle.buffa_fields.specs.NestedMaps.{pair_levels, pair_records, pair_slots};
@@ -22,7 +22,8 @@ ghost use Rattle.buffa_fields.specs.NestedMaps.{pair_levels, pair_records, pair_
 use crate::map::take_entry;
 use crate::member::Member;
 use buffa_map::map_codec::{
-    Map, MapCodec, MapValueDecode, Msg, message_field_len, write_message_field,
+    Map, MapCodec, MapStorage, MapValueDecode, Msg, StableWalk, message_field_len,
+    write_message_field,
 };
 use buffa_wire::{
     Blank, DecodeContext, DecodeError, EncodeError, EncodeSink, MapKey, Message, MessageSpec,
@@ -33,20 +34,20 @@ use std::hash::Hash;
 use std::marker::PhantomData;
 
 // The length of a map field of messages, or 2^32 - 1 where it is more. The slots of each are appended.
-fn pairs_len<KC: MapCodec, N: Message>(
-    number: u32,
-    map: &Map<KC::Value, N>,
-    cache: &mut SizeCache,
-) -> Result<u32, EncodeError>
+pub(crate) fn pairs_len<
+    'a,
+    KC: MapCodec,
+    N: Message + 'a,
+    C: StableWalk<'a> + MapStorage<Key = KC::Value, Value = N>,
+>(number: u32, map: &'a C, cache: &mut SizeCache) -> Result<u32, EncodeError>
 where
-    KC::Value: MapKey + Hash,
+    KC::Value: 'a,
     requires { IsNumber number }
-    ensures sized { SizesPairs N.encoding N.slots number KC.writing (means KC.Value.meaning N.meaning map.now.entries)
-        cache.old result cache.new }
-    ensures always { pair_slots N.encoding N.slots (means KC.Value.meaning N.meaning map.now.entries) ≡ [] → IsOk result }
+    ensures sized { SizesPairs N.encoding N.slots number KC.writing (C.walk map.now) cache.old result cache.new }
+    ensures some { OnErr result (C.pairs map.now ≢ []) }
 {
     let tag = varint_len(u64::from(number) * 8 + 2) as u64;
-    match message_field_len::<KC, N, Map<KC::Value, N>>(map, tag, cache) {
+    match message_field_len::<KC, N, C>(map, tag, cache) {
         Ok(total) => Ok(total.min(4_294_967_295) as u32),
         Err(error) => Err(error),
     }
@@ -54,20 +55,21 @@ where
 
 // Writes a map field of messages, whose slots are next.
 #[tactic(auto, unfolding(crate::specs::NestedMaps::pair_slots))]
-fn write_pairs<KC: MapCodec, N: Message, S: EncodeSink>(
-    number: u32,
-    map: &Map<KC::Value, N>,
-    cache: &mut SizeCache,
-    sink: &mut S,
-) -> Result<(), EncodeError>
+pub(crate) fn write_pairs<
+    'a,
+    KC: MapCodec,
+    N: Message + 'a,
+    C: StableWalk<'a> + MapStorage<Key = KC::Value, Value = N>,
+    S: EncodeSink,
+>(number: u32, map: &'a C, cache: &mut SizeCache, sink: &mut S) -> Result<(), EncodeError>
 where
-    KC::Value: MapKey + Hash,
+    KC::Value: 'a,
     requires number { IsNumber number }
-    requires next { IsNext (pair_slots N.encoding N.slots (means KC.Value.meaning N.meaning map.now.entries)) cache.old }
+    requires next { IsNext (pair_slots N.encoding N.slots (C.walk map.now)) cache.old }
     ensures { WritesPairs cache.old (S.written sink.old) result cache.new (S.written sink.new) N.encoding N.slots number
-        KC.writing (means KC.Value.meaning N.meaning map.now.entries) }
+        KC.writing (C.walk map.now) }
 {
-    write_message_field::<KC, N, Map<KC::Value, N>, S>(map, number, cache, sink)
+    write_message_field::<KC, N, C, S>(map, number, cache, sink)
 }
 
 /// A map field of messages, held in a [`Map`]: the message of an entry is read into a default one, which takes the
@@ -92,7 +94,7 @@ where
     ghost shape = { record {
       meaning = λ m. means KC.Value.meaning N.meaning m.entries;
       blank = [];
-      takes = entry_taken KC.reading (message_reading N.blank_is N.merged N.cost) KC.Value.same;
+      takes = entry_taken KC.reading (message_reading N.blank_is N.merged N.cost) (put KC.Value.same);
       checks = λ n w. check_wire n LengthDelimited w;
       asks = PairTakesMemory KC.reading (message_reading N.blank_is N.merged N.cost);
       need = entry_cost KC.reading (message_reading N.blank_is N.merged N.cost) (KC.COST + N.COST);
@@ -101,7 +103,7 @@ where
       levels = pair_levels N.levels;
       normal = λ l. AllHold (λ k. KC.fits k × KC.normal k) (FitsInside N.normal N.records) l
           × IsDistinct KC.Value.same (keys_of l);
-      stays = map_stays KC.reading (message_reading N.blank_is N.merged N.cost) KC.Value.same (KC.COST + N.COST);
+      stays = map_stays KC.reading (message_reading N.blank_is N.merged N.cost) (KC.COST + N.COST);
     } };
 
     fn len(
@@ -109,7 +111,7 @@ where
         part: &Map<KC::Value, N>,
         cache: &mut SizeCache,
     ) -> Result<u32, EncodeError> {
-        pairs_len::<KC, N>(number, part, cache)
+        pairs_len::<KC, N, Map<KC::Value, N>>(number, part, cache)
     }
 
     fn write_to<S: EncodeSink>(
@@ -118,7 +120,7 @@ where
         cache: &mut SizeCache,
         sink: &mut S,
     ) -> Result<(), EncodeError> {
-        write_pairs::<KC, N, S>(number, part, cache, sink)
+        write_pairs::<KC, N, Map<KC::Value, N>, S>(number, part, cache, sink)
     }
 
     #[tactic(auto, unfolding(crate::specs::Layout::Took))]
@@ -136,9 +138,9 @@ where
       back = λ n number d l fits normal low. pairs_back N.merged N.blank_is N.cost N.encoding N.levels
           (FitsInside N.normal N.records)
           (λ d v ok low. N.MessageSpec.merged_encoding d v ok.1 ok.0 low) KC.reading KC.writing
-          (KC.MapCodec.written_wire ∙ sym KC.MapValueDecode.wire) KC.Value.same KC.Value.MapKey.equivalence
+          (KC.MapCodec.written_wire ∙ sym KC.MapValueDecode.wire) (put KC.Value.same)
           (λ k. KC.fits k × KC.normal k)
           (λ d v h. plain_back KC.reading KC.writing d v KC.MapCodec.plain (KC.MapCodec.reads_back d KC.reading.blank v h.0 h.1))
-          n number d l fits normal.0 normal.1 low;
+          n number d l fits normal.0 (distinct_put KC.Value.same KC.Value.MapKey.equivalence l normal.1) low;
     } };
 }

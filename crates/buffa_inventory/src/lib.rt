@@ -8,6 +8,7 @@ pub mod implicit;
 pub mod inventory;
 pub mod joined;
 pub mod laws;
+pub mod ledger;
 pub mod maps;
 pub mod order;
 pub mod parcel;

@@ -1,11 +1,10 @@
 // The members of a message as words.
 
-use buffa_map::map_codec::{Map, MapWalk};
-use buffa_wire::{MapKey, UnknownFields};
+use buffa_map::map_codec::MapWalk;
+use buffa_wire::UnknownFields;
 use conformance_rows::fault::Fault;
 use conformance_rows::words::{Worded, copied, joined, records_word};
 use std::alloc::Global;
-use std::hash::Hash;
 use std::marker::PhantomData;
 
 // A member's number, and its word; what is kept has the number 0.
@@ -80,13 +79,14 @@ fn pair_word<By, K: Worded<By>, V: Worded<By>>(
 }
 
 // The words of the pairs of a map, in the order of these.
-fn pair_words<By, K: MapKey + Hash + Worded<By>, V: Worded<By>>(
-    alloc: Global,
-    map: &Map<K, V>,
-) -> Result<Vec<String>, Fault> {
+fn pair_words<'a, By, C: MapWalk<'a>>(alloc: Global, map: &'a C) -> Result<Vec<String>, Fault>
+where
+    C::Key: Worded<By> + 'a,
+    C::Value: Worded<By> + 'a,
+{
     let mut pairs = Vec::new(alloc);
     for (key, value) in map.storage_iter() {
-        pairs.push(pair_word::<By, K, V>(alloc, key, value)?)?;
+        pairs.push(pair_word::<By, C::Key, C::Value>(alloc, key, value)?)?;
     }
     pairs.sort()?;
     Ok(pairs)
@@ -127,11 +127,12 @@ fn list_word<By, V: Worded<By>>(alloc: Global, values: &[V]) -> Result<String, F
 }
 
 // The word of a map.
-fn map_word<By, K: MapKey + Hash + Worded<By>, V: Worded<By>>(
-    alloc: Global,
-    map: &Map<K, V>,
-) -> Result<String, Fault> {
-    let pairs = pair_words::<By, K, V>(alloc, map)?;
+fn map_word<'a, By, C: MapWalk<'a>>(alloc: Global, map: &'a C) -> Result<String, Fault>
+where
+    C::Key: Worded<By> + 'a,
+    C::Value: Worded<By> + 'a,
+{
+    let pairs = pair_words::<By, C>(alloc, map)?;
     between(alloc, "{", pairs.as_slice(), "}")
 }
 
@@ -180,12 +181,12 @@ impl<By> Parts<By> {
     }
 
     /// The pairs of a map between braces, in the order of their words.
-    pub fn map<K: MapKey + Hash + Worded<By>, V: Worded<By>>(
-        &mut self,
-        number: u32,
-        map: &Map<K, V>,
-    ) {
-        let word = map_word::<By, K, V>(self.alloc, map);
+    pub fn map<'a, C: MapWalk<'a>>(&mut self, number: u32, map: &'a C)
+    where
+        C::Key: Worded<By> + 'a,
+        C::Value: Worded<By> + 'a,
+    {
+        let word = map_word::<By, C>(self.alloc, map);
         self.push(number, word);
     }
 

@@ -5,6 +5,7 @@ mod words;
 use buffa_inventory::assorted::Assorted;
 use buffa_inventory::depot::Depot;
 use buffa_inventory::inventory::Inventory;
+use buffa_inventory::ledger::Ledger;
 use buffa_inventory::order::Order;
 use buffa_inventory::parcel::Parcel;
 use buffa_inventory::store::Store;
@@ -31,6 +32,7 @@ pub fn on_members(
         "assorted" => parted::<Members, Assorted>(alloc, case, kind, mark, bytes),
         "depot" => parted::<Members, Depot>(alloc, case, kind, mark, bytes),
         "inventory" => parted::<Members, Inventory>(alloc, case, kind, mark, bytes),
+        "ledger" => parted::<Members, Ledger>(alloc, case, kind, mark, bytes),
         "order" => parted::<Members, Order>(alloc, case, kind, mark, bytes),
         "parcel" => parted::<Members, Parcel>(alloc, case, kind, mark, bytes),
         "store" => parted::<Members, Store>(alloc, case, kind, mark, bytes),

@@ -4,6 +4,7 @@ use crate::members::Members;
 use buffa_inventory::assorted::Assorted;
 use buffa_inventory::depot::Depot;
 use buffa_inventory::inventory::Inventory;
+use buffa_inventory::ledger::Ledger;
 use buffa_inventory::order::Order;
 use buffa_inventory::parcel::Parcel;
 use buffa_inventory::state::State;
@@ -86,6 +87,25 @@ impl Worded<Members> for Inventory {
     }
 
     fn of_word(_alloc: Global, _word: &str) -> Result<Inventory, Fault> {
+        Err(Fault::Form)
+    }
+}
+
+impl Parted<Members> for Ledger {
+    fn parts(&self, parts: &mut Parts<Members>) {
+        parts.map(1, &self.balances);
+        parts.map(2, &self.pages);
+        parts.map(3, &self.seals);
+        parts.kept(&self.rest);
+    }
+}
+
+impl Worded<Members> for Ledger {
+    fn word(&self, alloc: Global) -> Result<String, Fault> {
+        parted_word::<Members, _>(alloc, self)
+    }
+
+    fn of_word(_alloc: Global, _word: &str) -> Result<Ledger, Fault> {
         Err(Fault::Form)
     }
 }

@@ -1,8 +1,7 @@
-use Rattle.buffa_map.specs.Pairs.{means}
 use Rattle.buffa_fields.specs.NestedMapLaws.{pairs_written}
 use Rattle.buffa_fields.proofs.map_nested.write_pairs.Goals as goal
 
 pub returns : goal.returns
 returns g c =
-    pairs_written g.KC.MapCodec.writing g.N.MessageSpec.encoding g.N.MessageSpec.slots c.args.number (means g.KC.Value.Blank.meaning g.N.Blank.meaning c.args.map.now.entries) c.args.cache.now c.write_message_field.new.cache
+    pairs_written g.KC.MapCodec.writing g.N.MessageSpec.encoding g.N.MessageSpec.slots c.args.number (g.C.StableOrder.walk c.args.map.now) c.args.cache.now c.write_message_field.new.cache
     (g.S.EncodeSink.written c.args.sink.now) (g.S.EncodeSink.written c.write_message_field.new.sink) c.write_message_field.result c.write_message_field.ensures.written

@@ -1,0 +1,136 @@
+//! Map fields as members that are written in the order of their keys.
+
+ghost use Rattle.std.specs.Prelude.{◌≡◌, ◌+◌, ◌==◌, []};
+ghost use Rattle.std.specs.BTreeMap.{insert_entry};
+ghost use Rattle.std.proofs.Common.{sym, ◌∙◌};
+ghost use Rattle.buffa_bytes.specs.Gives.{FullOnlyIf};
+ghost use Rattle.buffa_bytes.specs.Reading.{check_wire};
+ghost use Rattle.buffa_bytes.specs.declared.wire_type.WireType.TheVariants.{LengthDelimited};
+ghost use Rattle.buffa_map.proofs.BackLemmas.{plain_back};
+ghost use Rattle.buffa_map.specs.Encoding.{AllHold};
+ghost use Rattle.buffa_map.specs.Pairs.{means};
+ghost use Rattle.buffa_fields.specs.Calls.{ChecksWire, TakesOrderedEntry};
+ghost use Rattle.buffa_fields.specs.MapFields.{PairTakesMemory, entry_cost, entry_taken};
+ghost use Rattle.buffa_fields.specs.MapLaws.{map_back, map_stays};
+ghost use Rattle.buffa_fields.specs.MemberRecords.{entry_records};
+ghost use Rattle.buffa_fields.specs.OrderedLaws.{ascending_put};
+ghost use Rattle.buffa_fields.specs.OrderedMaps.{KeysAscend};
+
+use crate::map::{map_len, write_map};
+use crate::member::Member;
+use crate::ordered_key::OrderedKey;
+use buffa_map::laws::limits_are_told_where_needs_are_not_left;
+use buffa_map::map_codec::{MapCodec, MapValueDecode, merge_entry};
+use buffa_wire::{
+    Blank, DecodeContext, DecodeError, EncodeError, EncodeSink, SizeCache, Tag, WireType,
+    check_wire_type,
+};
+use std::alloc::Global;
+use std::collections::BTreeMap;
+use std::marker::PhantomData;
+
+// Merges the entry of the field whose tag was read; the two lengths are there since they tell that the keys ascend.
+#[tactic(auto, unfolding(crate::specs::MapFields::entry_taken, crate::specs::MapFields::entry_cost))]
+pub(crate) fn take_ordered<KC: MapCodec, VC: MapValueDecode>(
+    alloc: Global,
+    map: &mut BTreeMap<KC::Value, VC::Value>,
+    tag: Tag,
+    buf: &mut &[u8],
+    ctx: DecodeContext<'_>,
+) -> Result<(), DecodeError>
+where
+    KC::Value: OrderedKey,
+    ensures taken { TakesOrderedEntry tag ctx.entry ctx.exit map.old map.new buf.old buf.new result KC.Value.meaning
+        VC.Value.meaning KC.reading VC.reading KC.Value.order (KC.COST + VC.COST) }
+    ensures full { FullOnlyIf result (PairTakesMemory KC.reading VC.reading ctx.entry.depth tag.number tag.wire_type
+        buf.old.now) }
+    ensures wire { ChecksWire tag WireType.LengthDelimited result
+        (means KC.Value.meaning VC.Value.meaning map.old.entries)
+        (means KC.Value.meaning VC.Value.meaning map.new.entries) buf.old buf.new }
+{
+    limits_are_told_where_needs_are_not_left::<KC, VC>();
+    match check_wire_type(tag, WireType::LengthDelimited) {
+        Ok(()) => {}
+        Err(error) => return Err(error),
+    }
+    let _old = map.len();
+    let answer = merge_entry::<KC, VC, BTreeMap<KC::Value, VC::Value>, &[u8]>(alloc, map, buf, ctx);
+    let _new = map.len();
+    match answer {
+        Ok(()) => Ok(()),
+        Err(error) => Err(error),
+    }
+}
+
+/// A map field of scalars, strings, bytes or enums, held in a `BTreeMap`: it is written in the order of its keys.
+///
+/// ```ignore
+/// visitor.visit::<OrderedMapOf<Str, Int32>>(5, &self.counts);
+/// ```
+pub struct OrderedMapOf<KC, VC> {
+    key: PhantomData<KC>,
+    value: PhantomData<VC>,
+}
+
+impl<KC: MapCodec, VC: MapCodec> Member for OrderedMapOf<KC, VC>
+where
+    KC::Value: OrderedKey,
+{
+    type Part = BTreeMap<KC::Value, VC::Value>;
+
+    type Meaning = [(<KC::Value as Blank>::Meaning, <VC::Value as Blank>::Meaning); 0];
+
+    ghost shape = { record {
+      meaning = λ m. means KC.Value.meaning VC.Value.meaning m.entries;
+      blank = [];
+      takes = entry_taken KC.reading VC.reading (insert_entry KC.Value.order);
+      checks = λ n w. check_wire n LengthDelimited w;
+      asks = PairTakesMemory KC.reading VC.reading;
+      need = entry_cost KC.reading VC.reading (KC.COST + VC.COST);
+      records = entry_records KC.writing VC.writing;
+      slots = λ _. [];
+      levels = λ _. 0;
+      normal = λ l. AllHold (λ k. KC.fits k × KC.normal k) (λ v. VC.fits v × VC.normal v) l
+          × KeysAscend KC.Value.order l;
+      stays = map_stays KC.reading VC.reading (KC.COST + VC.COST);
+    } };
+
+    #[tactic(auto, using(crate::specs::LayoutLaws::sized_free), unfolding(crate::specs::MemberRecords::entry_records))]
+    fn len(
+        number: u32,
+        part: &BTreeMap<KC::Value, VC::Value>,
+        _cache: &mut SizeCache,
+    ) -> Result<u32, EncodeError> {
+        Ok(map_len::<KC, VC, BTreeMap<KC::Value, VC::Value>>(number, part))
+    }
+
+    #[tactic(auto, using(crate::specs::MapLaws::map_alone), unfolding(crate::specs::MemberRecords::entry_records))]
+    fn write_to<S: EncodeSink>(
+        number: u32,
+        part: &BTreeMap<KC::Value, VC::Value>,
+        _cache: &mut SizeCache,
+        sink: &mut S,
+    ) -> Result<(), EncodeError> {
+        write_map::<KC, VC, BTreeMap<KC::Value, VC::Value>, S>(number, part, sink)
+    }
+
+    #[tactic(auto, unfolding(crate::specs::Layout::Took))]
+    fn merge(
+        part: &mut BTreeMap<KC::Value, VC::Value>,
+        alloc: Global,
+        tag: Tag,
+        buf: &mut &[u8],
+        ctx: DecodeContext<'_>,
+    ) -> Result<(), DecodeError> {
+        take_ordered::<KC, VC>(alloc, part, tag, buf, ctx)
+    }
+
+    ghost back = { record {
+      back = λ n number d l fits normal low. unfold entry_records in (map_back KC.reading VC.reading KC.writing VC.writing
+          (KC.MapCodec.written_wire ∙ sym KC.MapValueDecode.wire) (VC.MapCodec.written_wire ∙ sym VC.MapValueDecode.wire)
+          (insert_entry KC.Value.order) (λ k. KC.fits k × KC.normal k) (λ v. VC.fits v × VC.normal v) d
+          (λ v h. plain_back KC.reading KC.writing d v KC.MapCodec.plain (KC.MapCodec.reads_back d KC.reading.blank v h.0 h.1))
+          (λ v h. plain_back VC.reading VC.writing d v VC.MapCodec.plain (VC.MapCodec.reads_back d VC.reading.blank v h.0 h.1))
+          n number l fits normal.0 (ascending_put KC.Value.OrderedKey.total l normal.1));
+    } };
+}

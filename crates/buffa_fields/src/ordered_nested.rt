@@ -1,0 +1,103 @@
+//! Map fields of messages as members that are written in the order of their keys.
+
+ghost use Rattle.std.specs.Prelude.{◌≡◌, ◌+◌, ◌==◌, []};
+ghost use Rattle.std.specs.BTreeMap.{insert_entry};
+ghost use Rattle.std.proofs.Common.{sym, ◌∙◌};
+ghost use Rattle.buffa_bytes.specs.Reading.{check_wire};
+ghost use Rattle.buffa_bytes.specs.declared.wire_type.WireType.TheVariants.{LengthDelimited};
+ghost use Rattle.buffa_map.proofs.BackLemmas.{plain_back};
+ghost use Rattle.buffa_map.specs.Encoding.{AllHold};
+ghost use Rattle.buffa_map.specs.Message.{message_reading};
+ghost use Rattle.buffa_map.specs.Pairs.{means};
+ghost use Rattle.buffa_fields.specs.MapFields.{PairTakesMemory, entry_cost, entry_taken};
+ghost use Rattle.buffa_fields.specs.MapLaws.{map_stays};
+ghost use Rattle.buffa_fields.specs.Nested.{FitsInside};
+ghost use Rattle.buffa_fields.specs.NestedMapLaws.{pairs_back};
+ghost use Rattle.buffa_fields.specs.NestedMaps.{pair_levels, pair_records, pair_slots};
+ghost use Rattle.buffa_fields.specs.OrderedLaws.{ascending_put};
+ghost use Rattle.buffa_fields.specs.OrderedMaps.{KeysAscend};
+
+use crate::map_nested::{pairs_len, write_pairs};
+use crate::member::Member;
+use crate::ordered_key::OrderedKey;
+use crate::ordered_map::take_ordered;
+use buffa_map::map_codec::{MapCodec, MapValueDecode, Msg};
+use buffa_wire::{
+    Blank, DecodeContext, DecodeError, EncodeError, EncodeSink, Message, MessageSpec, SizeCache,
+    Tag,
+};
+use std::alloc::Global;
+use std::collections::BTreeMap;
+use std::marker::PhantomData;
+
+/// A map field of messages, held in a `BTreeMap`: it is written in the order of its keys.
+///
+/// ```ignore
+/// visitor.visit::<OrderedMapOfNested<Str, Inventory>>(2, &self.shelves); // map<string, Inventory> shelves = 2;
+/// ```
+pub struct OrderedMapOfNested<KC, N> {
+    key: PhantomData<KC>,
+    of: PhantomData<N>,
+}
+
+impl<KC: MapCodec, N: Message> Member for OrderedMapOfNested<KC, N>
+where
+    KC::Value: OrderedKey,
+{
+    type Part = BTreeMap<KC::Value, N>;
+
+    type Meaning = [(<KC::Value as Blank>::Meaning, <N as Blank>::Meaning); 0];
+
+    ghost shape = { record {
+      meaning = λ m. means KC.Value.meaning N.meaning m.entries;
+      blank = [];
+      takes = entry_taken KC.reading (message_reading N.blank_is N.merged N.cost) (insert_entry KC.Value.order);
+      checks = λ n w. check_wire n LengthDelimited w;
+      asks = PairTakesMemory KC.reading (message_reading N.blank_is N.merged N.cost);
+      need = entry_cost KC.reading (message_reading N.blank_is N.merged N.cost) (KC.COST + N.COST);
+      records = pair_records KC.writing N.encoding;
+      slots = pair_slots N.encoding N.slots;
+      levels = pair_levels N.levels;
+      normal = λ l. AllHold (λ k. KC.fits k × KC.normal k) (FitsInside N.normal N.records) l
+          × KeysAscend KC.Value.order l;
+      stays = map_stays KC.reading (message_reading N.blank_is N.merged N.cost) (KC.COST + N.COST);
+    } };
+
+    fn len(
+        number: u32,
+        part: &BTreeMap<KC::Value, N>,
+        cache: &mut SizeCache,
+    ) -> Result<u32, EncodeError> {
+        pairs_len::<KC, N, BTreeMap<KC::Value, N>>(number, part, cache)
+    }
+
+    fn write_to<S: EncodeSink>(
+        number: u32,
+        part: &BTreeMap<KC::Value, N>,
+        cache: &mut SizeCache,
+        sink: &mut S,
+    ) -> Result<(), EncodeError> {
+        write_pairs::<KC, N, BTreeMap<KC::Value, N>, S>(number, part, cache, sink)
+    }
+
+    #[tactic(auto, unfolding(crate::specs::Layout::Took))]
+    fn merge(
+        part: &mut BTreeMap<KC::Value, N>,
+        alloc: Global,
+        tag: Tag,
+        buf: &mut &[u8],
+        ctx: DecodeContext<'_>,
+    ) -> Result<(), DecodeError> {
+        take_ordered::<KC, Msg<N>>(alloc, part, tag, buf, ctx)
+    }
+
+    ghost back = { record {
+      back = λ n number d l fits normal low. pairs_back N.merged N.blank_is N.cost N.encoding N.levels
+          (FitsInside N.normal N.records)
+          (λ d v ok low. N.MessageSpec.merged_encoding d v ok.1 ok.0 low) KC.reading KC.writing
+          (KC.MapCodec.written_wire ∙ sym KC.MapValueDecode.wire) (insert_entry KC.Value.order)
+          (λ k. KC.fits k × KC.normal k)
+          (λ d v h. plain_back KC.reading KC.writing d v KC.MapCodec.plain (KC.MapCodec.reads_back d KC.reading.blank v h.0 h.1))
+          n number d l fits normal.0 (ascending_put KC.Value.OrderedKey.total l normal.1) low;
+    } };
+}
