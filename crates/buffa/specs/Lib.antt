@@ -2,6 +2,7 @@ pub mod Extensions
 pub mod Items
 pub mod Keys
 pub mod MapFields
+pub mod Members
 pub mod Slots
 pub mod Wire
 pub use Rattle.buffa_node.specs.Branch

@@ -1,11 +1,12 @@
 //! Map fields, typed extensions and MessageSet Items of protobuf messages, proved.
 //!
-//! This crate is the one that a user names. [`map_codec`] has map fields, [`extension`] typed extensions,
-//! [`message_set`] Items, and [`laws`] what is proved of them together, one function a law. [`samples`] has two
-//! messages that stand on it. The items of the wire stand at the top.
+//! This crate is the one that a user names. [`fields`] has messages by their fields, [`map_codec`] map fields,
+//! [`extension`] typed extensions, [`message_set`] Items, and [`laws`] what is proved of them together, one function a
+//! law. [`samples`] has two messages that stand on it. The items of the wire stand at the top.
 #![tactic(auto)]
 
 pub mod extension;
+pub mod fields;
 pub mod laws;
 pub mod name_laws;
 pub mod samples;

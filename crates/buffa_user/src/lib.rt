@@ -2,6 +2,8 @@
 //! of the words, and of the laws. Nothing stands on this crate.
 #![tactic(auto)]
 
+pub mod stock;
+
 ghost use Rattle.std.specs.Prelude.{◌≡◌, IfOk, string_bytes, vec_items};
 ghost use Rattle.buffa.specs.MapFields.{field_size, field_encoding, means, saturated};
 ghost use Rattle.buffa.specs.Wire.{Gives, varint_at};

@@ -1,0 +1,2 @@
+-- Words that messages by their fields cite, under one name.
+pub use Rattle.buffa_fields.specs.Members.{field, keep, skip}

@@ -1,0 +1,27 @@
+//! Messages by their fields: a struct of one's own is a [`Message`](crate::Message), and its author writes no proof.
+//!
+//! A struct is one by [`Fields`], [`Blank`](crate::Blank), [`Listing`] and [`Formed`]; what these cite is handed on in
+//! `specs/` under the name `Members`. [`crate::laws::members`] says which member each kind is.
+//!
+//! ```ignore
+//! impl Fields for Stock { .. }
+//! ```
+
+pub use buffa_fields::fields::Fields;
+pub use buffa_fields::kept::{self, KeptFields};
+pub use buffa_fields::kind::Kind;
+pub use buffa_fields::map_member::MapOf;
+pub use buffa_fields::map_nested::MapOfNested;
+pub use buffa_fields::member::Member;
+pub use buffa_fields::message::{Listed, Listing};
+pub use buffa_fields::nested::Nested;
+pub use buffa_fields::optional::Optional;
+pub use buffa_fields::ordered_key::OrderedKey;
+pub use buffa_fields::ordered_map::OrderedMapOf;
+pub use buffa_fields::ordered_nested::OrderedMapOfNested;
+pub use buffa_fields::packed::{Packable, Packed};
+pub use buffa_fields::plain::Plain;
+pub use buffa_fields::repeated::Repeated;
+pub use buffa_fields::repeated_nested::RepeatedNested;
+pub use buffa_fields::visitor::Visitor;
+pub use buffa_wire::Formed;
