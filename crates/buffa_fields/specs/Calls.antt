@@ -1,5 +1,5 @@
 -- What a call that takes a field, or writes a member, did: from what it was passed to what it left.
-use Rattle.std.specs.Prelude.{◌≡◌, ◌≤◌, ℕ, Bool, List, [], ◌∷◌, length, Some, Result, Err}
+use Rattle.std.specs.Prelude.{◌≡◌, ◌≤◌, ℕ, List, [], ◌∷◌, length, Some, Result, Err}
 use Rattle.std.specs.BTreeMap.{BTreeMap, insert_entry}
 use Rattle.std.specs.HashMap.{HashMap}
 use Rattle.std.specs.declared.cmp.Ordering.{Ordering}

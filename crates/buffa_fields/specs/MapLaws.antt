@@ -186,7 +186,7 @@ module _ {K V : Type 0} (key : Reading K) (val : Reading V) (same : K → K → 
 
 -- pairs of which no two have one key are put one behind the other
 module _ {K V : Type 0} (same : K → K → Bool) where
-  as_entry : K × V → EntryRecord K V
+  abbrev as_entry : K × V → EntryRecord K V
   as_entry p = record { bytes = []; parts = pair_entry p }
 
   folded : (m l : List (K × V)) → put_all (put same) m l ≡ fold_entries same m (map as_entry l)

@@ -1,9 +1,10 @@
 -- What is proved of map fields of messages as members.
-use Rattle.std.proofs.Common.{◌≡◌, ℕ, zero, suc, ◌+◌, ◌*◌, ◌^◌, ◌==◌, ◌<◌, ◌≤◌, List, [], ◌∷◌, length, Option, Some, Result, refl, sym, ap, ◌∙◌, arith, length-append}
+use Rattle.std.proofs.Common.{◌≡◌, ◌≢◌, ℕ, zero, suc, ◌+◌, ◌*◌, ◌^◌, ◌==◌, ◌<◌, ◌≤◌, List, [], ◌∷◌, length, Option, Some, Result, Ok, Err, IsOk, OnErr, refl, sym, ap, ◌∙◌, arith, length-append}
 use Rattle.buffa_bytes.proofs.VarintLemmas.{IsVarint-varint_encoding}
 use Rattle.buffa_bytes.specs.declared.error.EncodeError.{EncodeError}
 use Rattle.buffa_bytes.specs.declared.wire_type.WireType.TheVariants.{LengthDelimited}
 use Rattle.buffa_wire.proofs.PassLemmas.{written_same}
+use Rattle.buffa_wire.proofs.SpentLemmas.{is_there}
 use Rattle.buffa_wire.specs.BudgetLeft.{BudgetLeft}
 use Rattle.buffa_wire.specs.Cache.{Cache}
 use Rattle.buffa_bytes.specs.Content.Content.{bytes as held}
@@ -33,6 +34,11 @@ pub no_pairs : {K X : Type 0} (encoding slots : X → List ℕ) (l : List (K × 
 unfolding pair_slots
 no_pairs encoding slots [] none = refl
 no_pairs encoding slots (p ∷ ps) none = cc
+
+-- where none is in it, a map is sized
+pub all_sized : {A : Type 0} (l : List A) (r : Result ℕ EncodeError) → OnErr r (l ≢ []) → l ≡ [] → IsOk r
+all_sized l (Ok n) h none = let r : Result ℕ EncodeError = Ok n in is_there r n refl
+all_sized l (Err e) h none = absurd (h none)
 
 -- ---- the passes
 module _ {K X : Type 0} (key : Writing K) (encoding slots : X → List ℕ) (n : ℕ) (l : List (K × X)) where

@@ -3,11 +3,13 @@
 //! The words of `MapCodec`, `MessageSpec` and `Scalar` that these cite are pinned by the laws of the crates below.
 
 ghost use Rattle.std.specs.Prelude.{◌≡◌, ◌↔◌, ◌⊎◌, ◌+◌, ℕ, ℤ, List, [], ◌∷◌, ◌++◌, None, Some, map, not};
+ghost use Rattle.std.specs.Cmp.Lexicographic.{slice_cmp};
 ghost use Rattle.std.specs.Int.{cast_unsigned, w64};
 ghost use Rattle.std.specs.BTreeMap.{insert_entry};
 ghost use Rattle.std.specs.List.{IsDistinct};
 ghost use Rattle.std.specs.Map.{keys_of};
 ghost use Rattle.std.specs.Option.{option_map};
+ghost use Rattle.std.specs.Ordering.{bool_cmp, int_cmp, nat_cmp};
 ghost use Rattle.buffa_wire.specs.BudgetLeft.{unknown_fields};
 ghost use Rattle.buffa_wire.specs.Parse.{IsPayload, fields_inside};
 ghost use Rattle.buffa_wire.specs.RecordReading.{RecordTakesMemory};
@@ -246,6 +248,16 @@ where
     ensures normal { (v : _) → KeysAscend KC.Value.order v →
         AllHold (λ k. KC.fits k × KC.normal k) (FitsInside N.normal N.records) v →
         ⟦<OrderedMapOfNested<KC, N> as Member>⟧.shape.normal v }
+{}
+
+/// The orders of keys: numbers as numbers, false before true, strings byte by byte.
+pub fn orders_are_these()
+    ensures int32 { ⟦<i32 as OrderedKey>⟧.order ≡ int_cmp }
+    ensures int64 { ⟦<i64 as OrderedKey>⟧.order ≡ int_cmp }
+    ensures uint32 { ⟦<u32 as OrderedKey>⟧.order ≡ nat_cmp }
+    ensures uint64 { ⟦<u64 as OrderedKey>⟧.order ≡ nat_cmp }
+    ensures bool { ⟦<bool as OrderedKey>⟧.order ≡ bool_cmp }
+    ensures string { ⟦<String as OrderedKey>⟧.order ≡ slice_cmp nat_cmp }
 {}
 
 /// The record of a number, and which number is the default: 0, or false.

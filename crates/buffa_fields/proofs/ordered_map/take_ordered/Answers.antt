@@ -1,33 +1,44 @@
-use Rattle.std.proofs.Common.{◌+◌, [], refl, true}
+use Rattle.std.proofs.Common.{◌+◌, [], false}
+use Rattle.std.specs.BTreeMap.{insert_entry}
 use Rattle.buffa_bytes.proofs.StepLemmas.{agree_ok}
 use Rattle.buffa_bytes.specs.declared.wire_type.WireType.TheVariants.{LengthDelimited}
 use Rattle.buffa_bytes.specs.Reading.{check_wire}
 use Rattle.buffa_map.proofs.EntryLemmas.{check_sound}
-use Rattle.buffa_map.specs.Pairs.{means, put}
+use Rattle.buffa_map.specs.Pairs.{means}
+use Rattle.buffa_fields.proofs.OrderedLemmas.{is_put_by, means_ascend}
 use Rattle.buffa_fields.specs.MapLaws.{map_err, map_full, map_ok}
 use Rattle.buffa_fields.proofs.ordered_map.take_ordered.Goals as goal
 
-pub returns-in-Ok-merge_entry-clause-taken : goal.returns-in-Ok-merge_entry-clause-taken
-returns-in-Ok-merge_entry-clause-taken g c =
+pub returns-in-Ok-answer-clause-taken : goal.returns-in-Ok-answer-clause-taken
+returns-in-Ok-answer-clause-taken g c =
     let n = c.args.tag.number in
     let w = c.args.tag.wire_type in
     let wire = agree_ok (check_wire n LengthDelimited w) tt (check_sound n LengthDelimited w) c.in-Ok.ensures in
-    map_ok g.KC.MapValueDecode.reading g.VC.MapValueDecode.reading g.KC.Value.MapKey.same false (insert_entry g.KC.Value.OrderedKey.order) (g.KC.MapValueDecode.COST + g.VC.MapValueDecode.COST) c.args.ctx.depth n w
-    (means g.KC.Value.Blank.meaning g.VC.Value.Blank.meaning c.args.map.now.entries) (means g.KC.Value.Blank.meaning g.VC.Value.Blank.meaning c.merge_entry.new.map.entries) c.args.buf.now.now c.merge_entry.new.buf.now c.args.ctx.budget.now _ [] wire c.in-Ok-merge_entry.ensures.ok (put c.in-Ok-merge_entry.ensures.ok)
+    let order = g.KC.Value.OrderedKey.order in
+    let key = g.KC.Value.Blank.meaning in
+    let value = g.VC.Value.Blank.meaning in
+    let old = c.args.map.now.entries in
+    let new = c.merge_entry-answer.new.map.entries in
+    let m = c.in-Ok-answer.ensures.ok in
+    let first = means_ascend order key value g.KC.Value.Ord.cmp g.met.KC.Value.OrderedKey.compares old c.len-old.ensures.ordered in
+    let last = means_ascend order key value g.KC.Value.Ord.cmp g.met.KC.Value.OrderedKey.compares new c.len-new.ensures.ordered in
+    map_ok g.KC.MapValueDecode.reading g.VC.MapValueDecode.reading g.KC.Value.MapKey.same false (insert_entry order) (g.KC.MapValueDecode.COST + g.VC.MapValueDecode.COST) c.args.ctx.depth n w
+    (means key value old) (means key value new) c.args.buf.now.now c.merge_entry-answer.new.buf.now c.args.ctx.budget.now _ [] wire m
+    (is_put_by g.KC.Value.OrderedKey.total g.KC.Value.MapKey.same g.met.KC.Value.OrderedKey.ties (means key value old) (means key value new) m.says first last m.put)
 
-pub returns-in-Err-merge_entry-clause-taken : goal.returns-in-Err-merge_entry-clause-taken
-returns-in-Err-merge_entry-clause-taken g c =
+pub returns-in-Err-answer-clause-taken : goal.returns-in-Err-answer-clause-taken
+returns-in-Err-answer-clause-taken g c =
     let n = c.args.tag.number in
     let w = c.args.tag.wire_type in
     let wire = agree_ok (check_wire n LengthDelimited w) tt (check_sound n LengthDelimited w) c.in-Ok.ensures in
     map_err g.KC.MapValueDecode.reading g.VC.MapValueDecode.reading g.KC.Value.MapKey.same false (insert_entry g.KC.Value.OrderedKey.order) (g.KC.MapValueDecode.COST + g.VC.MapValueDecode.COST) c.args.ctx.depth n w
-    (means g.KC.Value.Blank.meaning g.VC.Value.Blank.meaning c.args.map.now.entries) (means g.KC.Value.Blank.meaning g.VC.Value.Blank.meaning c.merge_entry.new.map.entries) c.args.buf.now.now c.merge_entry.new.buf.now c.args.ctx.budget.now _ [] wire
-    c.limits_are_told_where_needs_are_not_left.ensures c.in-Err-merge_entry.error c.in-Err-merge_entry.ensures.err
+    (means g.KC.Value.Blank.meaning g.VC.Value.Blank.meaning c.args.map.now.entries) (means g.KC.Value.Blank.meaning g.VC.Value.Blank.meaning c.merge_entry-answer.new.map.entries) c.args.buf.now.now c.merge_entry-answer.new.buf.now c.args.ctx.budget.now _ [] wire
+    c.limits_are_told_where_needs_are_not_left.ensures c.in-Err-answer.error c.in-Err-answer.ensures.err
 
-pub returns-in-Err-merge_entry-clause-full : goal.returns-in-Err-merge_entry-clause-full
-returns-in-Err-merge_entry-clause-full g c = λ full.
+pub returns-in-Err-answer-clause-full : goal.returns-in-Err-answer-clause-full
+returns-in-Err-answer-clause-full g c = λ full.
     let n = c.args.tag.number in
     let w = c.args.tag.wire_type in
     let wire = agree_ok (check_wire n LengthDelimited w) tt (check_sound n LengthDelimited w) c.in-Ok.ensures in
-    map_full g.KC.MapValueDecode.reading g.VC.MapValueDecode.reading g.KC.Value.MapKey.same false (insert_entry g.KC.Value.OrderedKey.order) (g.KC.MapValueDecode.COST + g.VC.MapValueDecode.COST) c.args.ctx.depth n w c.args.buf.now.now c.args.ctx.budget.now wire c.in-Err-merge_entry.error full
-    (c.in-Err-merge_entry.ensures.err.memory full)
+    map_full g.KC.MapValueDecode.reading g.VC.MapValueDecode.reading g.KC.Value.MapKey.same false (insert_entry g.KC.Value.OrderedKey.order) (g.KC.MapValueDecode.COST + g.VC.MapValueDecode.COST) c.args.ctx.depth n w c.args.buf.now.now c.args.ctx.budget.now wire c.in-Err-answer.error full
+    (c.in-Err-answer.ensures.err.memory full)
