@@ -2,7 +2,7 @@
 use Rattle.std.proofs.Common.{◌≡◌, ◌≢◌, ◌⊎◌, inl, inr, ℕ, zero, suc, ◌+◌, ◌==◌, ◌<◌, ◌≤◌, Bool, true, false, List, [], ◌∷◌, length, Result, Ok, Err, refl, sym, ap, subst, ◌∙◌, arith, if◌then◌else◌}
 use Rattle.std.proofs.lemmas.Bool.{eq-eqb, ne_eqb}
 use Rattle.buffa_bytes.specs.Field.{TakesDelimited, TakesTag}
-use Rattle.buffa_bytes.specs.Reading.{tag_at, check_wire, delimited_at, skip_at}
+use Rattle.buffa_bytes.specs.Front.{tag_at, check_wire, delimited_at, skip_at}
 use Rattle.buffa_bytes.specs.WireType.{same_wire}
 use Rattle.buffa_wire.specs.BudgetLeft.{BudgetLeft, Lacks, Pays, PaysAtMost, need_by, nothing, plus, unknown_fields}
 use Rattle.buffa_wire.specs.Message.{IsLimit}

@@ -4,7 +4,7 @@ use Rattle.std.proofs.Math.Seq.{drop-cons}
 use Rattle.std.specs.Fmt.{signed_decimal}
 use Rattle.buffa_wire.specs.BudgetLeft.{BudgetLeft, defaults}
 use Rattle.buffa_wire.specs.Records.{Datum}
-use Rattle.buffa_codec.specs.Reading.{ReadsAll, ReadsList, elements}
+use Rattle.buffa_codec.specs.Decoded.{ReadsAll, ReadsList, elements}
 use Rattle.buffamap.specs.Ext.{int32_held, int32s_of_each, int32s_packed, words_of}
 
 -- the values of records that spend nothing are those of each record, in order

@@ -11,7 +11,7 @@ use Rattle.buffa_wire.specs.RecordReading.{list_at}
 use Rattle.buffa_wire.specs.Records.{Datum}
 use Rattle.buffa_bytes.specs.Values.{int32_of}
 use Rattle.buffa_codec.specs.Packed.{numbers_in}
-use Rattle.buffa_codec.specs.Reading.{elements, last_read, string_held}
+use Rattle.buffa_codec.specs.Decoded.{elements, last_read, string_held}
 use Rattle.buffa_codec.specs.Sub.{sub}
 use Rattle.buffamap.specs.Forms.{hex_bytes, without_newline}
 use Rattle.buffamap.specs.Reply.{Reply, bad_input, done, fault, line}

@@ -55,7 +55,7 @@ fn line_of_bytes(alloc: Global, error: DecodeError) -> Result<String, AllocError
 }
 
 // The line that names why an encoding is refused.
-fn line_of_text(alloc: Global, error: EncodeError) -> Result<String, AllocError>
+fn line_of_encoding(alloc: Global, error: EncodeError) -> Result<String, AllocError>
     ensures { IfOk result (λ text. string_bytes text ≡ line (codes "fault " ++ encode_error_text error)) }
 {
     format!(in alloc; "fault {error}\n")
@@ -97,8 +97,8 @@ pub fn tell<B: WriteCalls<W>, C: WriteCalls<X>, W: Write, X: Write>(
             output,
             errors,
         ),
-        Fault::RefusedText(error) => finish_named::<B, C, W, X>(
-            line_of_text(alloc, error),
+        Fault::RefusedEncoding(error) => finish_named::<B, C, W, X>(
+            line_of_encoding(alloc, error),
             output,
             errors,
         ),
