@@ -10,7 +10,7 @@ use Rattle.buffa_bytes.specs.Number.{IsNumber}
 use Rattle.buffa_bytes.specs.Front.{tag_at}
 use Rattle.buffa_bytes.proofs.VarintLemmas.{varint_complete, IsVarint-varint_encoding}
 use Rattle.buffa_bytes.proofs.DigitLemmas.{base128-lt, grows}
-use Rattle.buffa_bytes.proofs.ShortestLemmas.{length-varint_encoding}
+use Rattle.buffa_bytes.proofs.ShortestLemmas.{ten_at_most}
 use Rattle.buffa_bytes.proofs.FieldLemmas.{is_tag, tag_complete}
 use Rattle.buffa_bytes.specs.Values.{tag_encoding, int32_encoding, int32_of, int32_at}
 
@@ -43,7 +43,7 @@ ten n l h =
     let v = IsVarint-varint_encoding n h in
     elim (cases_lt (length (varint_encoding n)) 10) [
       | inl less ↦ absurd (omega (arith, small_fits n (varint_encoding n) v.value (omega arith)))
-      | inr not ↦ omega (arith, length-varint_encoding n h)
+      | inr not ↦ omega (arith, ten_at_most n h)
     ]
 
 pub tag_back : (f : ℕ) (w : WireType) (rest : List ℕ) → IsNumber f → tag_at (tag_encoding f w ++ rest) ≡ Ok (f, w, rest)

@@ -10,7 +10,7 @@ use Rattle.buffa_bytes.specs.Varint.{IsByte, base128, Continue, IsVarint, TakesV
 use Rattle.buffa_bytes.specs.Front.{varint_within, varint_at}
 use Rattle.buffa_bytes.proofs.StepLemmas.{Agrees, agree_bind, agree_if, agree_weaker}
 use Rattle.buffa_bytes.proofs.DigitLemmas.{base128-lt, some_scale}
-use Rattle.buffa_bytes.proofs.ShortestLemmas.{one_byte, more_bytes, length-varint_encoding, length-shortest}
+use Rattle.buffa_bytes.proofs.ShortestLemmas.{one_byte, more_bytes, ten_at_most, length-shortest}
 
 record Spelled (k : ℕ) (bs : List ℕ) (n : ℕ) (rest : List ℕ) : Type 0 where
   front : List ℕ
@@ -163,7 +163,7 @@ varint_encoding-spells n = short_in n n (omega arith)
 
 pub IsVarint-varint_encoding : (n : ℕ) → n < 2 ^ 64 → IsVarint (varint_encoding n) n
 IsVarint-varint_encoding n h = let s = varint_encoding-spells n in
-    record { front = s.front; last = s.last; spelled = s.is; continue = s.continue; ends = s.ends; short = omega (arith, length-varint_encoding n h, ap length s.is, length-append s.front (s.last ∷ [])); value = s.value; fits = h }
+    record { front = s.front; last = s.last; spelled = s.is; continue = s.continue; ends = s.ends; short = omega (arith, ten_at_most n h, ap length s.is, length-append s.front (s.last ∷ [])); value = s.value; fits = h }
 
 pub varint_encoding-shortest : (bytes : List ℕ) (n : ℕ) → IsVarint bytes n → length (varint_encoding n) ≤ length bytes
 unfolding varint_encoding

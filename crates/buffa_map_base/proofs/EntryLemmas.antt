@@ -5,10 +5,9 @@ use Rattle.buffa_bytes.proofs.ListLemmas.{cut_twice}
 use Rattle.buffa_bytes.specs.Gives.{◌>>=◌}
 use Rattle.buffa_bytes.specs.Field.{IsTag, TakesTag}
 use Rattle.buffa_bytes.specs.Content.{Content, HasContent, content_at}
-use Rattle.buffa_bytes.specs.Front.{tag_at, check_wire}
+use Rattle.buffa_bytes.specs.Front.{check_wire}
 use Rattle.buffa_bytes.specs.WireType.{same_wire}
 use Rattle.buffa_bytes.specs.declared.wire_type.WireType.{WireType}
-use Rattle.buffa_bytes.specs.declared.wire_type.WireType.TheVariants.{Varint, Fixed64, LengthDelimited, StartGroup, EndGroup, Fixed32}
 use Rattle.buffa_bytes.specs.declared.error.DecodeError.{DecodeError}
 use Rattle.buffa_bytes.specs.declared.error.DecodeError.TheVariants.{WireTypeMismatch}
 use Rattle.buffa_bytes.proofs.StepLemmas.{Agrees, agree_bind, agree_if, agree_ok, agree_err, agree_weaker}

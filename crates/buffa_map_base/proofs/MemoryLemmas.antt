@@ -1,7 +1,7 @@
 -- Where reading takes memory, and where out of memory is never told.
 use Rattle.std.specs.Prelude.{IsOk}
 use Rattle.std.proofs.Common.{◌≡◌, ◌<◌, ℕ, zero, suc, true, List, Result, Ok, Err, refl, ap, arith}
-use Rattle.buffa_bytes.proofs.FullLemmas.{content_full, payload_full, varint_no_full}
+use Rattle.buffa_bytes.proofs.FullLemmas.{varint_no_full}
 use Rattle.buffa_bytes.proofs.StepLemmas.{agree_err}
 use Rattle.buffa_bytes.specs.Scalars.{uint32_at}
 use Rattle.buffa_bytes.specs.declared.error.DecodeError.{DecodeError}
@@ -10,7 +10,7 @@ use Rattle.buffa_bytes.specs.declared.wire_type.WireType.{WireType}
 use Rattle.buffa_bytes.specs.declared.wire_type.WireType.TheVariants.{LengthDelimited}
 use Rattle.buffa_bytes.specs.Gives.{◌>>=◌}
 use Rattle.buffa_bytes.specs.Content.{content_at}
-use Rattle.buffa_bytes.specs.Front.{check_wire, delimited_at, skip_at, varint_at}
+use Rattle.buffa_bytes.specs.Front.{check_wire, delimited_at, varint_at}
 use Rattle.buffa_bytes.specs.Values.{int32_at}
 use Rattle.buffa_map_base.specs.Codec.{level}
 use Rattle.buffa_map_base.proofs.EntryLemmas.{check_sound}

@@ -1,5 +1,5 @@
 -- A field of an entry that was merged, or refused, at each place where reading it ends; and the fields of an entry.
-use Rattle.std.proofs.Common.{arith, ◌≡◌, ◌≢◌, ◌+◌, ◌<◌, ◌≤◌, inl, inr, ℕ, Bool, false, List, [], ◌∷◌, Ok, Err, length, ap, refl, subst, sym, ◌∙◌}
+use Rattle.std.proofs.Common.{arith, ◌≡◌, ◌≢◌, ◌+◌, ◌<◌, ◌≤◌, inl, inr, ℕ, Bool, false, List, [], Ok, Err, length, ap, refl, subst, sym, ◌∙◌}
 use Rattle.std.proofs.lemmas.List.{nil_from_length}
 use Rattle.buffa_wire.proofs.SequenceLemmas.{not_nil}
 use Rattle.buffa_bytes.proofs.FullLemmas.{skip_no_full, tag_no_full}

@@ -7,7 +7,7 @@ use Rattle.buffa_bytes.specs.Written.{WritesFront}
 use Rattle.buffa_wire.specs.Records.{Datum}
 use Rattle.buffa_wire.specs.View.{datum_of, record_of, records_in}
 use Rattle.buffa_wire.specs.declared.unknown_fields.UnknownField.{UnknownField}
-use Rattle.buffa_bytes.proofs.ShortestLemmas.{length-varint_encoding}
+use Rattle.buffa_bytes.proofs.ShortestLemmas.{ten_at_most}
 use Rattle.buffa_message_set.specs.Item.{item_size}
 use Rattle.buffa_message_set.proofs.ItemLemmas.{and_true}
 use Rattle.buffa_set_msg.specs.Set.{is_type_id, record_encoding, set_encoding}
@@ -20,7 +20,7 @@ type_id_small n e = let h = and_true (nat_lt 0 n) (nat_lt n (2 ^ 31)) e in ltb-t
 pub item_fits : (n len : ℕ) → is_type_id n ≡ true → len < 2 ^ 63 → item_size n len < 2 ^ 64
 item_fits n len h k =
     let small = type_id_small n h in
-    omega (arith, length-varint_encoding n (omega (arith, small)), length-varint_encoding len (omega (arith, k)), k)
+    omega (arith, ten_at_most n (omega (arith, small)), ten_at_most len (omega (arith, k)), k)
 
 -- ---- records
 -- the encoding of one more record

@@ -76,7 +76,7 @@ fn tag_value(number: u32, wire_type: WireType) -> u64
 }
 
 // The length of a varint.
-#[tactic(auto, using(buffa_bytes::proofs::ShortestLemmas::length-varint_encoding))]
+#[tactic(auto, using(buffa_bytes::proofs::ShortestLemmas::ten_at_most))]
 fn number_len(n: u64) -> u64
     ensures len { result ≡ length (varint_encoding n) }
     ensures short { result ≤ 10 }

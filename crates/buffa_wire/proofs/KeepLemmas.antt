@@ -1,10 +1,9 @@
 -- A field whose payload is one of the grammar is kept as one record, and of the unknown fields left as many are spent
 -- as it has fields.
-use Rattle.std.proofs.Common.{◌≡◌, ◌⊎◌, inl, inr, ℕ, zero, suc, ◌+◌, ◌-◌, ◌<◌, ◌≤◌, List, [], ◌++◌, length, Ok, refl, ap, sym, subst, ◌∙◌, arith, append-nil, length-append}
-use Rattle.std.specs.Int.{from_le_bytes, w32, w64}
+use Rattle.std.proofs.Common.{◌≡◌, ◌⊎◌, inl, inr, ℕ, zero, suc, ◌+◌, ◌-◌, ◌<◌, ◌≤◌, List, [], ◌++◌, length, Ok, refl, ap, sym, ◌∙◌, arith, append-nil, length-append}
 use Rattle.buffa_bytes.proofs.FieldLemmas.{tag_some}
 use Rattle.buffa_bytes.specs.Content.{ContentFault}
-use Rattle.buffa_bytes.specs.Field.{Group, Payload, PayloadOver}
+use Rattle.buffa_bytes.specs.Field.{Payload}
 use Rattle.buffa_bytes.specs.declared.wire_type.WireType.{WireType}
 use Rattle.buffa_bytes.specs.declared.wire_type.WireType.TheVariants as wire
 use Rattle.buffa_bytes.specs.declared.error.DecodeError.{DecodeError}

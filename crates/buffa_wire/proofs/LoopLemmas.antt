@@ -9,7 +9,6 @@ use Rattle.buffa_bytes.specs.Front.{tag_at, is_end}
 use Rattle.buffa_bytes.specs.Scan.{step_then}
 use Rattle.buffa_bytes.specs.Scan.Scanned.{ends}
 use Rattle.buffa_bytes.proofs.StepLemmas.{Agrees, agree_ok, agree_bind}
-use Rattle.buffa_bytes.proofs.FieldLemmas.{tag_falls}
 use Rattle.buffa_wire.specs.Records.{Datum, group, Records, no_records, one, records_of, list_of}
 use Rattle.buffa_wire.specs.Encoding.{wire_of}
 use Rattle.buffa_wire.specs.Parse.{Parse, GroupFault, TakesField, FieldFault, RecordsFault, field_count}

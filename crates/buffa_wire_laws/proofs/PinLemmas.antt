@@ -1,5 +1,5 @@
 -- Answers that contracts allow are one.
-use Rattle.std.proofs.Common.{◌≡◌, ◌≢◌, ◌⊎◌, inl, inr, ℕ, ℤ, true, zero, suc, ◌+◌, ◌-◌, ◌<◌, ◌≤◌, List, [], ◌∷◌, ◌++◌, drop, length, slice_index, Option, Some, refl, sym, ap, subst, ◌∙◌, arith, append-nil}
+use Rattle.std.proofs.Common.{◌≡◌, ◌≢◌, ◌⊎◌, inl, inr, ℕ, ℤ, true, zero, suc, ◌+◌, ◌-◌, List, [], ◌∷◌, ◌++◌, drop, length, slice_index, Option, Some, refl, sym, ap, subst, ◌∙◌, arith, append-nil}
 use Rattle.buffa_bytes.proofs.FieldLemmas.{payload_complete}
 use Rattle.buffa_bytes.specs.declared.wire_type.WireType.{WireType}
 use Rattle.buffa_bytes.specs.declared.error.DecodeError.{DecodeError}
@@ -10,7 +10,6 @@ use Rattle.buffa_wire.specs.Cache.{Cache, advanced, appended}
 use Rattle.buffa_wire.specs.Enums.{open_number}
 use Rattle.buffa_wire.specs.Passes.{IsNext}
 use Rattle.buffa_wire.proofs.PassLemmas.{drop_past, next_ok, next_rest}
-use Rattle.buffa_wire.specs.Parse.{field_count}
 use Rattle.buffa_wire.specs.Message.{IsFieldMerged, MergeFault, IsInside, MessageFault, cost_in, merged_in}
 use Rattle.buffa_bytes.specs.declared.error.DecodeError.TheVariants.{OutOfMemory}
 use Rattle.std.proofs.lemmas.List.{append_cancel_right}

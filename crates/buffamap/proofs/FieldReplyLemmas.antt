@@ -1,6 +1,6 @@
 -- What is answered of pairs that a field was written of.
-use Rattle.std.proofs.Common.{◌≡◌, ℕ, ◌^◌, ◌≤◌, nat_lt, Bool, true, false, List, [], ◌∷◌, ◌++◌, length, refl, sym, ◌∙◌}
-use Rattle.std.specs.Prelude.{codes, ◌&&◌}
+use Rattle.std.proofs.Common.{◌≡◌, ℕ, ◌^◌, ◌≤◌, nat_lt, true, false, List, [], ◌∷◌, ◌++◌, length, refl, sym, ◌∙◌}
+use Rattle.std.specs.Prelude.{codes}
 use Rattle.std.proofs.lemmas.Bool.{lt-ltb, le-ltb, and_right}
 use Rattle.buffa_map.specs.Codec.{Writing}
 use Rattle.buffa_map.specs.Encoding.{HasEncoding, entry_encoding, field_encoding}

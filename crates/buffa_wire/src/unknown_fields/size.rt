@@ -36,7 +36,7 @@ impl UnknownFields {
 
 // The length of a varint.
 #[inline(always)]
-#[tactic(auto, using(crate::proofs::EncodingLemmas::ten_at_most))]
+#[tactic(auto, using(buffa_bytes::proofs::ShortestLemmas::ten_at_most))]
 fn number_len(n: u64) -> u64
     ensures len { result ≡ length (varint_encoding n) }
     ensures short { result ≤ 10 }
@@ -46,7 +46,7 @@ fn number_len(n: u64) -> u64
 
 // The length of a tag. Most numbers are below 16, and their tags have one byte.
 #[inline(always)]
-#[tactic(auto, using(crate::proofs::EncodingLemmas::ten_at_most))]
+#[tactic(auto, using(buffa_bytes::proofs::ShortestLemmas::ten_at_most))]
 fn tag_len(number: u32, wire_type: WireType) -> u64
     ensures len { result ≡ length (tag_encoding number wire_type) }
     ensures short { result ≤ 10 }
