@@ -7,10 +7,6 @@ use Rattle.buffa_wire.specs.Records.{Datum, varint, fixed32, fixed64, bytes, gro
 use Rattle.buffa_codec.specs.Decoded.{ReadsAll, ReadsList, elements, encodings, last_read, packed_record}
 use Rattle.buffa_codec.specs.Through.{ListsThrough, ReadsThrough}
 
-pub map_twice : {A B C : Type 0} (g : A → B) (f : B → C) (xs : List A) → map (λ x. f (g x)) xs ≡ map f (map g xs)
-map_twice g f [] = refl
-map_twice g f (x ∷ xs) = ap (λ l. f (g x) ∷ l) (map_twice g f xs)
-
 pub option_twice : {A B C : Type 0} (g : A → B) (f : B → C) (o : Option A) → option_map (λ x. f (g x)) o ≡ option_map f (option_map g o)
 option_twice g f None = refl
 option_twice g f (Some x) = refl

@@ -95,13 +95,7 @@ pub fn write_message_field_by<
     C: StableWalk<'a> + MapStorage<Key = KC::Value, Value = M>,
     S: EncodeSink,
     F: Fn(&M, &mut SizeCache, &mut S) -> Result<(), EncodeError>,
->(
-    map: &'a C,
-    number: u32,
-    cache: &mut SizeCache,
-    sink: &mut S,
-    write: F,
-) -> Result<(), EncodeError>
+>(map: &'a C, number: u32, cache: &mut SizeCache, sink: &mut S, write: F) -> Result<(), EncodeError>
 where
     KC::Value: 'a,
     requires number { IsNumber number }
