@@ -25,8 +25,8 @@ use Rattle.buffamap.proofs.SortingLemmas.{same_sorted}
 use Rattle.buffamap.specs.declared.command.Command.{Command}
 use Rattle.buffamap.specs.declared.command.Command.TheVariants.{AgainNode, AgainSet, Ext, Item, Read, Rewrite, Write}
 use Rattle.buffamap.specs.Command.{command_of, texts}
-use Rattle.buffamap.specs.Engine.{Answers, Gives, RepliesTo}
-use Rattle.buffamap.specs.Ext.{IsShown, IsShownOf, RepliesToExt, records_of}
+use Rattle.buffamap.specs.Engine.{Answers, GivesReply, RepliesTo}
+use Rattle.buffamap.specs.Ext.{IsShown, IsShownOf, RepliesToExt, records_from}
 use Rattle.buffamap.specs.Forms.{hex_bytes, without_newline}
 use Rattle.buffamap.specs.Item.{IsFound, IsFoundIn, RepliesToItem, item_from}
 use Rattle.buffamap.specs.Lines.{Pair, lines_of, map_in, same_key}
@@ -35,7 +35,7 @@ use Rattle.buffamap.specs.Read.{RepliesToBytes, RepliesToRead, RepliesToRun, run
 use Rattle.buffamap.specs.Reply.{Reply, broken, done, hex_line}
 use Rattle.buffamap.specs.Rewrite.{Entry, IsRewritten, IsRewrittenOf, RepliesToRewrite}
 use Rattle.buffamap.specs.Rewrite.{Pair as Choices, run_from as rewrite_from}
-use Rattle.buffamap.specs.Streams.{Change, Known, Writes, WritesAll}
+use Rattle.buffamap.specs.Streams.{Change, Known, WritesOrBreaks, WritesAll}
 use Rattle.buffamap.specs.Write.{RepliesToMap, RepliesToWrite, field_reply}
 use Rattle.buffamap.proofs.OrderedLemmas.{one_order}
 use denote.Ref.{Bor}
@@ -98,7 +98,7 @@ shown_one n (Err f) a b h k = h ∙ sym k
 
 shown_of_one : (n : ℕ) (o : Option (List ℕ)) (a b : Reply) → IsShownOf n o a → IsShownOf n o b → a ≡ b
 shown_of_one n None a b h k = h ∙ sym k
-shown_of_one n (Some bytes) a b h k = shown_one n (records_of bytes) a b h k
+shown_of_one n (Some bytes) a b h k = shown_one n (records_from bytes) a b h k
 
 pub ext_pinned : (n : ℕ) → ReplyIsPinned (RepliesToExt n)
 ext_pinned n = pinned (RepliesToExt n) (λ input a b h k. shown_of_one n (hex_bytes (without_newline input)) a b h k)
@@ -209,11 +209,11 @@ grown old text None h = absurd h
 grown old text (Some ys) h = ap Some h
 
 -- what is given of a reply where no output has failed, and what where nothing fails
-given : (r : Reply) (out err : Change) (s : ℕ) → Gives r out err s → (s ≡ 3 → out.may_fail ≡ true → ⊥) → (s ≡ r.status) × WritesAll out r.text × Writes err r.complaint
+given : (r : Reply) (out err : Change) (s : ℕ) → GivesReply r out err s → (s ≡ 3 → out.may_fail ≡ true → ⊥) → (s ≡ r.status) × WritesAll out r.text × WritesOrBreaks err r.complaint
 given r out err s (inl h) whole = h
 given r out err s (inr h) whole = absurd (whole h.0 h.1.1)
 
-told_whole : (old text : List ℕ) (p : Known) → Writes (holding false old p) text → p ≡ Some (old ++ text)
+told_whole : (old text : List ℕ) (p : Known) → WritesOrBreaks (holding false old p) text → p ≡ Some (old ++ text)
 told_whole old text p (inl w) = grown old text p w
 told_whole old text p (inr w) = absurd (false≢true w.1)
 
