@@ -9,7 +9,7 @@ ghost use Rattle.buffa_wire.specs.BudgetLeft.{BudgetLeft};
 ghost use Rattle.buffa_wire.specs.Enums.{numbers};
 ghost use Rattle.buffa_wire.specs.Found.{fixed32_in, fixed64_in, varint_in};
 ghost use Rattle.buffa_wire.specs.Records.{Datum, bytes as held_bytes};
-ghost use Rattle.buffa_codec.specs.Reading.{bytes_held, last_read, packed_record, string_held};
+ghost use Rattle.buffa_codec.specs.Decoded.{bytes_held, last_read, packed_record, string_held};
 ghost use Rattle.buffa_ext.specs.Messages.{group_of};
 ghost use Rattle.buffa_map.specs.Enums.{closed_reading, open_reading};
 ghost use Rattle.buffa_map.specs.Message.{message_reading};

@@ -8,7 +8,7 @@ use Rattle.buffa_bytes.specs.declared.error.DecodeError.{DecodeError}
 use Rattle.buffa_bytes.specs.declared.error.DecodeError.TheVariants.{UnexpectedEof}
 use Rattle.buffa_bytes.specs.Varint.{varint_encoding, IsVarint}
 use Rattle.buffa_bytes.specs.Field.{LengthFault, TakesDelimited}
-use Rattle.buffa_bytes.specs.Reading.{taken, delimited_at}
+use Rattle.buffa_bytes.specs.Front.{varint_at, taken, delimited_at}
 use Rattle.buffa_bytes.specs.Values.{delimited_encoding, string_at}
 use Rattle.buffa_bytes.proofs.StepLemmas.{Agrees, agree_bind, agree_if, agree_weaker}
 use Rattle.buffa_bytes.proofs.VarintLemmas.{varint_sound, varint_complete, varint_faulty, IsVarint-varint_encoding}
@@ -27,6 +27,10 @@ taken_complete n p rest e =
 pub taken_faulty : (n : ℕ) (bs : List ℕ) → length bs < n → taken n bs ≡ Err UnexpectedEof
 unfolding taken
 taken_faulty n bs h = rw (lt-ltb (length bs) n h) refl
+
+-- a length, and so many bytes of what follows it
+pub after_length : (n : ℕ) (bs mid : List ℕ) → varint_at bs ≡ Ok (n, mid) → delimited_at bs ≡ taken n mid
+after_length n bs mid v = rw v refl
 
 pub delimited_sound : (bs : List ℕ) → Agrees (delimited_at bs) (λ p. TakesDelimited bs p.0 p.1) (LengthFault bs)
 delimited_sound bs = agree_bind (varint_sound bs)

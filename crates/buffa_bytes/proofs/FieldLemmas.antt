@@ -1,5 +1,5 @@
 -- What is read of tags, payloads and groups, and their grammar.
-use Rattle.std.proofs.Common.{◌≡◌, ◌≢◌, inl, inr, ℕ, zero, suc, ◌+◌, ◌-◌, ◌*◌, ◌/◌, ◌%◌, ◌^◌, ◌==◌, nat_lt, nat_eq, ◌<◌, ◌≤◌, Bool, true, false, List, [], ◌∷◌, ◌++◌, length, take, Option, None, Some, Result, Ok, Err, refl, sym, ap, subst, ◌∙◌, arith, append_assoc, length-append, length-take, if◌then◌else◌}
+use Rattle.std.proofs.Common.{◌≡◌, ◌≢◌, inl, inr, ℕ, zero, suc, ◌+◌, ◌-◌, ◌*◌, ◌/◌, ◌%◌, ◌^◌, ◌==◌, nat_lt, nat_eq, ◌<◌, ◌≤◌, Bool, true, false, List, [], ◌++◌, length, take, Option, None, Some, Result, Ok, Err, refl, sym, ap, subst, ◌∙◌, arith, append_assoc, length-append, length-take, if◌then◌else◌}
 use Rattle.std.proofs.lemmas.Bool.{lt-ltb, le-ltb, ltb-true, ltb-false, cond_both, eqb-true, eqb-false, eq-eqb, ne_eqb}
 use Rattle.std.proofs.lemmas.List.{take-append-drop, append_cancel_right}
 use Rattle.std.proofs.Math.Seq.{drop-append_seam}
@@ -13,13 +13,14 @@ use Rattle.buffa_bytes.specs.Varint.{IsVarint}
 use Rattle.buffa_bytes.specs.Join.{Join}
 use Rattle.buffa_bytes.specs.Number.{IsNumber}
 use Rattle.buffa_bytes.specs.Join.Join.{none, more}
-use Rattle.buffa_bytes.specs.Field.{IsTag, PayloadOver, SomeFieldOver, SomeField, Group, TakesTag, TakesPayload, BadTag, TagFault, PayloadFaultOver, FieldFaultOver, GroupFault, PayloadFault}
-use Rattle.buffa_bytes.specs.Reading.{varint_within, varint_at, tag_of, tag_at, past, skip_by, is_end, fields_at, fields_step, group_at, group_step, passed, skip_at}
+use Rattle.buffa_bytes.specs.Field.{IsTag, PayloadOver, SomeFieldOver, SomeField, Group, TakesTag, TakesPayload, BadTag, TagFault, PayloadFaultOver, FieldFaultOver, GroupFault, PayloadFault, TakesBytes}
+use Rattle.buffa_bytes.specs.Front.{varint_at, tag_of, tag_at, past, skip_by, is_end, fields_at, fields_step, group_at, group_step, passed, skip_at}
 use Rattle.buffa_bytes.specs.Scan.{step_then}
-use Rattle.buffa_bytes.specs.Scan.Scanned.{ends, goes}
+use Rattle.buffa_bytes.specs.Scan.Scanned.{ends}
 use Rattle.buffa_bytes.proofs.StepLemmas.{Agrees, agree_bind, agree_err, agree_if, agree_ok, agree_weaker}
 use Rattle.buffa_bytes.proofs.ScanLemmas.{Leads, Shortens, if_leads, if_short, scan_leads, scan_step}
-use Rattle.buffa_bytes.proofs.VarintLemmas.{varint_sound, varint_complete, varint_faulty, varint_falls}
+use Rattle.buffa_bytes.specs.Values.{tag_encoding}
+use Rattle.buffa_bytes.proofs.VarintLemmas.{IsVarint-varint_encoding, varint_sound, varint_complete, varint_faulty, varint_falls}
 
 -- ---- tags
 kind_back : (w : WireType) → wire_kind (wire_number w) ≡ Some w
@@ -118,6 +119,10 @@ unfolding tag_at
 tag_faulty bs e (inl f) = rw (varint_faulty bs e f) refl
 tag_faulty bs e (inr (n, rest, (t, v, is), b)) = rw (is, varint_complete t n rest v, tag_of_faulty n e b) refl
 
+-- the shortest tag is one
+pub is_tag : (f : ℕ) (w : WireType) → IsNumber f → IsTag (tag_encoding f w) f w
+is_tag f w h = (h, IsVarint-varint_encoding (8 * f + wire_number w) (omega (arith, h.1, wire_small w)))
+
 pub tag_some : (t : List ℕ) (f : ℕ) (w : WireType) → IsTag t f w → 0 < length t
 tag_some t f w h = varint_falls t (8 * f + wire_number w) h.1
 
@@ -128,9 +133,6 @@ tag_read bs rest n w (t, is_tag, e) = ap tag_at e ∙ tag_complete t n w rest is
 -- what is read leaves less
 pub tag_falls : (bs : List ℕ) (t : ℕ × WireType × List ℕ) → tag_at bs ≡ Ok t → length t.2 < length bs
 tag_falls bs t e = let u = agree_ok (tag_at bs) t (tag_sound bs) e in omega (arith, tag_some u.0 t.0 t.1 u.1, ap length u.2, length-append u.0 t.2)
-
-abbrev TakesBytes : ℕ → List ℕ → List ℕ → Type 0
-TakesBytes n bs rest = (p : List ℕ) × (length p ≡ n) × (bs ≡ p ++ rest)
 
 past_sound : (n : ℕ) (bs : List ℕ) → Agrees (past n bs) (λ rest. TakesBytes n bs rest) (λ e. (length bs < n) × (e ≡ UnexpectedEof))
 unfolding past

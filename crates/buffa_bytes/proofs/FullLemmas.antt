@@ -6,7 +6,7 @@ use Rattle.buffa_bytes.specs.declared.error.DecodeError.{DecodeError}
 use Rattle.buffa_bytes.specs.declared.error.DecodeError.TheVariants.{OutOfMemory, UnexpectedEof}
 use Rattle.buffa_bytes.specs.Content.{ContentFault, content_at}
 use Rattle.buffa_bytes.specs.Field.{TagFault, LengthFault, PayloadFaultOver, GroupFault, PayloadFault}
-use Rattle.buffa_bytes.specs.Reading.{varint_at, tag_at, taken, delimited_at, skip_at}
+use Rattle.buffa_bytes.specs.Front.{varint_at, tag_at, taken, delimited_at, skip_at}
 use Rattle.buffa_bytes.specs.Scalars.{fixed32_at, fixed64_at}
 use Rattle.buffa_bytes.specs.Gives.{◌>>=◌}
 use Rattle.std.specs.Int.{from_le_bytes, w32, w64}
@@ -65,12 +65,18 @@ content_full w bs e = content_fault_full w bs (agree_err (content_at w bs) OutOf
 pub payload_full : (d f : ℕ) (w : WireType) (bs : List ℕ) → skip_at d f w bs ≡ Err OutOfMemory → ⊥
 payload_full d f w bs e = payload_fault_full d f w bs (agree_err (skip_at d f w bs) OutOfMemory (payload_sound d f w bs) e)
 
--- a fault of a varint or a tag, told on, is no out of memory
+-- a fault of a varint, a tag or a payload, told on, is no out of memory
 pub varint_no_full : {P : Type 0} (bs : List ℕ) (e : DecodeError) → varint_at bs ≡ Err e → e ≡ OutOfMemory → P
 varint_no_full bs e h k = absurd (varint_full bs (rw k at h))
 
 pub tag_no_full : {P : Type 0} (bs : List ℕ) (e : DecodeError) → tag_at bs ≡ Err e → e ≡ OutOfMemory → P
 tag_no_full bs e h k = absurd (tag_full bs (rw k at h))
+
+pub content_no_full : {P : Type 0} (w : WireType) (bs : List ℕ) (e : DecodeError) → content_at w bs ≡ Err e → e ≡ OutOfMemory → P
+content_no_full w bs e h k = absurd (content_full w bs (rw k at h))
+
+pub skip_no_full : {P : Type 0} (d f : ℕ) (w : WireType) (bs : List ℕ) (e : DecodeError) → skip_at d f w bs ≡ Err e → e ≡ OutOfMemory → P
+skip_no_full d f w bs e h k = absurd (payload_full d f w bs (rw k at h))
 
 -- the same of four and eight bytes
 abbrev some_as : {A : Type 0} → ℕ → (List ℕ → A) → List ℕ → Result (A × List ℕ) DecodeError

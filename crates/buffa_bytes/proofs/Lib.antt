@@ -14,7 +14,7 @@ pub mod LimitLemmas
 pub mod PieceLemmas
 pub mod AdaptedLemmas
 pub mod ScalarLemmas
-pub mod TextLemmas
+pub mod OwnLemmas
 pub mod TailLemmas
 pub mod LeftLemmas
 pub mod FullLemmas

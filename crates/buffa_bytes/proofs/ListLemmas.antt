@@ -1,6 +1,10 @@
--- Lists of values and what they mean, one more at a time.
-use Rattle.std.proofs.Common.{◌≡◌, ℕ, ◌+◌, ◌<◌, List, [], ◌∷◌, ◌++◌, sym, ◌∙◌, ap, map, take, drop, length, get_or}
+-- Pieces of lists; lists of values and what they mean, one more at a time.
+use Rattle.std.proofs.Common.{◌≡◌, ℕ, ◌+◌, ◌<◌, List, [], ◌∷◌, ◌++◌, append_assoc, sym, ◌∙◌, ap, map, take, drop, length, get_or}
 use Rattle.std.proofs.lemmas.List.{map-append, take_more, drop_more, take-append-drop}
+
+-- one piece after the other, both at the front
+pub cut_twice : (bs t p : List ℕ) (after rest : List ℕ) → bs ≡ t ++ after → after ≡ p ++ rest → bs ≡ (t ++ p) ++ rest
+cut_twice bs t p after rest a b = a ∙ ap (λ z. t ++ z) b ∙ sym (append_assoc t p rest)
 
 -- what the first values mean, and what one more means
 pub means_more : {V M : Type 0} (meaning : V → M) (xs : List V) (i : ℕ) (x : V) → i < length xs → x ≡ get_or xs i x

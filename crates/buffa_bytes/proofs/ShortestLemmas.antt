@@ -46,9 +46,9 @@ length-shortest (suc j) (suc k) n h = elim (cases_lt n 128) [
   | inr large ↦ rw (more_bytes k n large) (let below : n / 128 < 128 ^ suc j = (let f : n < 128 ^ suc j * 128 = rw pow-suc at h in omega arith) in omega (arith, length-shortest j k (n / 128) below))
 ]
 
-pub length-varint_encoding : (n : ℕ) → n < 2 ^ 64 → length (varint_encoding n) ≤ 10
+pub ten_at_most : (n : ℕ) → n < 2 ^ 64 → length (varint_encoding n) ≤ 10
 unfolding varint_encoding
-length-varint_encoding n h = length-shortest 9 n n (omega arith)
+ten_at_most n h = length-shortest 9 n n (omega arith)
 
 pub varint_encoding-some : (n : ℕ) → 0 < length (varint_encoding n)
 varint_encoding-some n = elim (cases_lt n 128) [ inl small ↦ rw (varint_encoding-last n small) (omega arith) | inr large ↦ rw (varint_encoding-more n large) (omega arith) ]
@@ -89,4 +89,4 @@ length_by_bits n h =
     let t = leading_top 64 m (omega (arith, le_or_r n 1)) (or_lt 64 n 1 h (omega arith)) in
     from_top n m (count_leading_zeros 64 m) t.0 (le_or_l n 1) (omega (arith, or_add_and n 1)) odd t.1 t.2 t.3
 
-pub ruleset v_laws = (varint_encoding-last, varint_encoding-more, varint_encoding-some, length-varint_encoding)
+pub ruleset v_laws = (varint_encoding-last, varint_encoding-more, varint_encoding-some, ten_at_most)

@@ -6,7 +6,7 @@ use Rattle.std.proofs.lemmas.Bool.{lt-ltb, le-ltb}
 use Rattle.buffa_bytes.specs.Gives.{◌>>=◌}
 use Rattle.buffa_bytes.specs.declared.error.DecodeError.{DecodeError}
 use Rattle.buffa_bytes.specs.declared.error.DecodeError.TheVariants.{UnexpectedEof, VarintTooLong}
-use Rattle.buffa_bytes.specs.Reading.{varint_within}
+use Rattle.buffa_bytes.specs.Front.{varint_within}
 
 bind_same_at : {A B : Type 0} (r q : Result A DecodeError) (f g : A → Result B DecodeError) → q ≡ r → ((x : A) → q ≡ Ok x → f x ≡ g x) → (r >>= f) ≡ (r >>= g)
 bind_same_at (Ok x) q f g e h = h x e

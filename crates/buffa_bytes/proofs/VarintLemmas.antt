@@ -7,10 +7,10 @@ use Rattle.std.proofs.Math.Nat.{pow-suc}
 use Rattle.buffa_bytes.specs.declared.error.DecodeError.{DecodeError}
 use Rattle.buffa_bytes.specs.declared.error.DecodeError.TheVariants.{UnexpectedEof, VarintTooLong}
 use Rattle.buffa_bytes.specs.Varint.{IsByte, base128, Continue, IsVarint, TakesVarint, VarintFault, shortest, varint_encoding}
-use Rattle.buffa_bytes.specs.Reading.{varint_within, varint_at}
+use Rattle.buffa_bytes.specs.Front.{varint_within, varint_at}
 use Rattle.buffa_bytes.proofs.StepLemmas.{Agrees, agree_bind, agree_if, agree_weaker}
 use Rattle.buffa_bytes.proofs.DigitLemmas.{base128-lt, some_scale}
-use Rattle.buffa_bytes.proofs.ShortestLemmas.{one_byte, more_bytes, length-varint_encoding, length-shortest}
+use Rattle.buffa_bytes.proofs.ShortestLemmas.{one_byte, more_bytes, ten_at_most, length-shortest}
 
 record Spelled (k : ℕ) (bs : List ℕ) (n : ℕ) (rest : List ℕ) : Type 0 where
   front : List ℕ
@@ -140,15 +140,16 @@ spelling_same a b n p q v w e =
     ∙ sym w.spelled
 
 -- ---- the shortest spelling
-record Short (bs : List ℕ) (n : ℕ) : Type 0 where
-  front : List ℕ
-  last : ℕ
-  is : bs ≡ front ++ last ∷ []
-  continue : Continue front
-  ends : last < 128
-  value : n ≡ base128 bs
+-- bs spells n, in any number of bytes
+pub record Spells (bs : List ℕ) (n : ℕ) : Type 0 where
+  pub front : List ℕ
+  pub last : ℕ
+  pub is : bs ≡ front ++ last ∷ []
+  pub continue : Continue front
+  pub ends : last < 128
+  pub value : n ≡ base128 bs
 
-short_in : (k n : ℕ) → n ≤ k → Short (shortest k n) n
+short_in : (k n : ℕ) → n ≤ k → Spells (shortest k n) n
 unfolding shortest
 short_in zero n h = record { front = []; last = n; is = refl; continue = tt; ends = omega arith; value = omega arith }
 short_in (suc k) n h = elim (cases_lt n 128) [
@@ -156,10 +157,13 @@ short_in (suc k) n h = elim (cases_lt n 128) [
   | inr large ↦ (let s = short_in k (n / 128) (omega arith) in rw (more_bytes k n large) (record { front = (n % 128 + 128) ∷ s.front; last = s.last; is = ap (λ x. (n % 128 + 128) ∷ x) s.is; continue = (omega arith, s.continue); ends = s.ends; value = omega (arith, s.value) }))
 ]
 
-pub IsVarint-varint_encoding : (n : ℕ) → n < 2 ^ 64 → IsVarint (varint_encoding n) n
+pub varint_encoding-spells : (n : ℕ) → Spells (varint_encoding n) n
 unfolding varint_encoding
-IsVarint-varint_encoding n h = let s = short_in n n (omega arith) in
-    record { front = s.front; last = s.last; spelled = s.is; continue = s.continue; ends = s.ends; short = omega (arith, length-varint_encoding n h, ap length s.is, length-append s.front (s.last ∷ [])); value = s.value; fits = h }
+varint_encoding-spells n = short_in n n (omega arith)
+
+pub IsVarint-varint_encoding : (n : ℕ) → n < 2 ^ 64 → IsVarint (varint_encoding n) n
+IsVarint-varint_encoding n h = let s = varint_encoding-spells n in
+    record { front = s.front; last = s.last; spelled = s.is; continue = s.continue; ends = s.ends; short = omega (arith, ten_at_most n h, ap length s.is, length-append s.front (s.last ∷ [])); value = s.value; fits = h }
 
 pub varint_encoding-shortest : (bytes : List ℕ) (n : ℕ) → IsVarint bytes n → length (varint_encoding n) ≤ length bytes
 unfolding varint_encoding

@@ -9,7 +9,7 @@ use Rattle.buffa_bytes.specs.declared.error.DecodeError.{DecodeError}
 use Rattle.buffa_bytes.specs.declared.error.DecodeError.TheVariants.{UnexpectedEof, InvalidWireType}
 use Rattle.buffa_bytes.specs.Varint.{IsVarint, VarintFault}
 use Rattle.buffa_bytes.specs.Field.{LengthFault}
-use Rattle.buffa_bytes.specs.Reading.{varint_at, taken, delimited_at}
+use Rattle.buffa_bytes.specs.Front.{varint_at, taken, delimited_at}
 
 pub data Content : Type 0 where
   number : ℕ → Content

@@ -4,7 +4,7 @@ use Rattle.buffa_bytes.specs.declared.wire_type.WireType.{WireType}
 use Rattle.buffa_bytes.specs.declared.wire_type.WireType.TheVariants.{Varint, LengthDelimited}
 use Rattle.buffa_bytes.specs.declared.error.DecodeError.{DecodeError}
 use Rattle.buffa_bytes.specs.declared.error.DecodeError.TheVariants.{OutOfMemory}
-use Rattle.buffa_bytes.specs.Reading.{varint_at}
+use Rattle.buffa_bytes.specs.Front.{varint_at}
 use Rattle.buffa_bytes.specs.Unread.{IsTailOf}
 
 -- no varint begins these bytes: what follows the tenth, which no varint passes

@@ -10,11 +10,11 @@ pub mod Join
 pub mod Number
 pub mod Scan
 pub mod Field
-pub mod Reading
+pub mod Front
 pub mod Left
 pub mod Content
 pub mod Values
 pub mod Scalars
-pub mod Texts
+pub mod Delimited
 pub mod Plain
 pub mod Pinned

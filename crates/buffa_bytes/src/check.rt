@@ -1,7 +1,7 @@
 //! Whether a field has the wire type that it is declared with.
 
 ghost use Rattle.buffa_bytes.specs.Gives.{Gives};
-ghost use Rattle.buffa_bytes.specs.Reading.{check_wire};
+ghost use Rattle.buffa_bytes.specs.Front.{check_wire};
 
 use crate::error::DecodeError;
 use crate::tag::Tag;

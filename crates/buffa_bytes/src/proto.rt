@@ -3,7 +3,7 @@
 ghost use Rattle.std.specs.Prelude.{◌≡◌, ℕ, IsOk, List, [], MatchResult, refl, string_bytes, true};
 ghost use Rattle.std.specs.Str.{is_utf8};
 ghost use Rattle.buffa_bytes.specs.Gives.{FullOnlyIf, GivesUnlessFull};
-ghost use Rattle.buffa_bytes.specs.Texts.{string_is_text, text_as};
+ghost use Rattle.buffa_bytes.specs.Delimited.{string_is_text, text_as};
 ghost use Rattle.buffa_bytes.specs.declared.error.DecodeError.TheVariants.{OutOfMemory};
 
 use crate::blank::Blank;

@@ -3,7 +3,7 @@
 ghost use Rattle.std.specs.Prelude.{◌≡◌, ◌≢◌, ◌<◌, length, OnErr};
 ghost use Rattle.buffa_bytes.specs.Gives.{Gives};
 ghost use Rattle.buffa_bytes.specs.Left.{past_no_payload};
-ghost use Rattle.buffa_bytes.specs.Reading.{past, skip_at, group_at};
+ghost use Rattle.buffa_bytes.specs.Front.{past, skip_at, group_at};
 ghost use Rattle.buffa_bytes.specs.Unread.{IsTailOf};
 
 use crate::buf::Buf;
@@ -13,7 +13,7 @@ use crate::varint::decode_varint;
 use crate::wire_type::WireType;
 
 // Passes over `n` bytes.
-#[tactic(auto, using(crate::proofs::TailLemmas::tail_whole, crate::proofs::TailLemmas::tail_dropped), unfolding(crate::specs::Reading::past))]
+#[tactic(auto, using(crate::proofs::TailLemmas::tail_whole, crate::proofs::TailLemmas::tail_dropped), unfolding(crate::specs::Front::past))]
 fn skip_bytes<B: Buf>(buf: &mut B, n: u64) -> Result<(), DecodeError>
     ensures reads { Gives (λ _. B.unread buf.new) result (past n (B.unread buf.old)) }
     ensures short { length (B.unread buf.old) < n → B.unread buf.new ≡ B.unread buf.old }

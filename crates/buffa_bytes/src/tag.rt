@@ -37,7 +37,7 @@ impl Tag {
     ghost use Rattle.buffa_bytes.specs.Gives.{Gives};
     ghost use Rattle.buffa_bytes.specs.Left.{past_no_tag};
     ghost use Rattle.buffa_bytes.specs.Number.{IsNumber};
-    ghost use Rattle.buffa_bytes.specs.Reading.{tag_at};
+    ghost use Rattle.buffa_bytes.specs.Front.{tag_at};
     ghost use Rattle.buffa_bytes.specs.Values.{tag_encoding};
     ghost use Rattle.buffa_bytes.specs.Written.{UsesRoom, Writes};
     ghost use Rattle.buffa_bytes.specs.Unread.{IsTailOf};
@@ -103,7 +103,7 @@ impl Tag {
     /// ```ignore
     /// let tag = Tag::decode(&mut rest)?; // of 2A: number 5, WireType::LengthDelimited
     /// ```
-    #[tactic(auto, unfolding(crate::specs::Reading::tag_at, crate::specs::Reading::tag_of, crate::specs::Left::past_no_tag))]
+    #[tactic(auto, unfolding(crate::specs::Front::tag_at, crate::specs::Front::tag_of, crate::specs::Left::past_no_tag))]
     pub fn decode<B: Buf>(buf: &mut B) -> Result<Tag, DecodeError>
         ensures reads { Gives (λ tag. (tag.number, tag.wire_type, B.unread buf.new)) result
             (tag_at (B.unread buf.old)) }

@@ -3,7 +3,7 @@
 ghost use Rattle.std.specs.Prelude.{◌≡◌, ◌<◌, ◌∷◌, [], length, MatchOption, OnErr};
 ghost use Rattle.buffa_bytes.specs.Gives.{Gives};
 ghost use Rattle.buffa_bytes.specs.Left.{past_no_varint};
-ghost use Rattle.buffa_bytes.specs.Reading.{varint_at};
+ghost use Rattle.buffa_bytes.specs.Front.{varint_at};
 ghost use Rattle.buffa_bytes.specs.Varint.{varint_encoding};
 ghost use Rattle.buffa_bytes.specs.Written.{UsesRoom, Writes};
 ghost use Rattle.buffa_bytes.specs.Unread.{IsTailOf};
@@ -41,7 +41,7 @@ pub fn take_byte<B: Buf>(buf: &mut B) -> Option<u8>
 /// ```ignore
 /// let number = decode_varint(&mut rest)?; // of 96 01: 150
 /// ```
-#[tactic(auto, unfolding(crate::specs::Reading::varint_at, crate::specs::Reading::varint_within))]
+#[tactic(auto, unfolding(crate::specs::Front::varint_at, crate::specs::Front::varint_within))]
 #[inline]
 pub fn decode_varint<B: Buf>(buf: &mut B) -> Result<u64, DecodeError>
     ensures reads { Gives (λ n. (n, B.unread buf.new)) result (varint_at (B.unread buf.old)) }

@@ -6,7 +6,7 @@ use Rattle.std.proofs.lemmas.List.Elements.{filter-append, filter_map-append}
 use Rattle.std.proofs.lemmas.List.{map-append, append-nil}
 use Rattle.std.specs.Option.{option_or}
 use Rattle.buffa_wire.specs.Records.{Datum}
-use Rattle.buffa_codec.specs.Reading.{last_read}
+use Rattle.buffa_codec.specs.Decoded.{last_read}
 use Rattle.buffa_codec.specs.Sub.{sub, without, tagged}
 
 pub sub-cons : (n : ℕ) (r : ℕ × Datum) (rs : List (ℕ × Datum)) → sub n (r ∷ rs) ≡ cond (r.0 == n) (r.1 ∷ sub n rs) (sub n rs)

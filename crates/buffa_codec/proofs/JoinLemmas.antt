@@ -2,7 +2,7 @@
 use Rattle.std.proofs.Common.{◌≡◌, ℕ, List, [], ◌∷◌, ◌++◌, Option, refl, sym, ap, ◌∙◌, subst, append_assoc}
 use Rattle.buffa_wire.specs.Records.{Datum}
 use Rattle.buffa_wire.specs.BudgetLeft.{BudgetLeft, defaults}
-use Rattle.buffa_codec.specs.Reading.{ReadsAll, ReadsList, elements}
+use Rattle.buffa_codec.specs.Decoded.{ReadsAll, ReadsList, elements}
 
 module _ {M : Type 0} (one : BudgetLeft → Datum → Option M) (leaves : BudgetLeft → Datum → BudgetLeft → Type 0) (packed : List ℕ → List M)
     (free : (b left : BudgetLeft) (d : Datum) → leaves b d left → left ≡ b) where

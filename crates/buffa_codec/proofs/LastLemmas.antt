@@ -8,7 +8,7 @@ use Rattle.buffa_wire.specs.Records.{Datum}
 use Rattle.buffa_wire.specs.View.{record_of, records_in, datum_of}
 use Rattle.buffa_wire.specs.declared.unknown_fields.UnknownField.{UnknownField}
 use Rattle.buffa_codec.specs.Sub.{sub}
-use Rattle.buffa_codec.specs.Reading.{HasLast, last_read}
+use Rattle.buffa_codec.specs.Decoded.{HasLast, last_read}
 use Rattle.buffa_codec.proofs.FilteredLemmas.{sub-append}
 use Rattle.buffa_codec.proofs.TurnLemmas.{sub-one_same, sub-one_other}
 

@@ -1,18 +1,15 @@
 -- Lists of values, one more at a time.
-use Rattle.std.proofs.Common.{◌≡◌, ℕ, ◌+◌, ◌<◌, List, [], ◌∷◌, ◌++◌, Option, Some, None, false, true, refl, sym, ◌∙◌, ap, map, take, drop, length, get_or, append_assoc, arith, subst, ◌⊎◌, inl, inr}
+use Rattle.std.proofs.Common.{◌≡◌, ℕ, ◌+◌, ◌<◌, List, [], ◌∷◌, ◌++◌, Option, Some, None, refl, sym, ◌∙◌, ap, map, take, drop, length, get_or, append_assoc, arith, subst, ◌⊎◌, inl, inr}
 use Rattle.std.proofs.lemmas.List.{append-nil}
 use Rattle.buffa_bytes.specs.declared.error.EncodeError.{EncodeError}
 use Rattle.buffa_bytes.specs.declared.error.EncodeError.TheVariants.{OutOfMemory}
-use Rattle.buffa_codec.specs.Reading.{Each, first_refusal, joined, packed_record}
+use Rattle.buffa_codec.specs.Decoded.{Each, encodings, first_refusal, packed_record}
 use Rattle.buffa_codec.specs.Sub.{tagged}
 use Rattle.buffa_bytes.proofs.ListLemmas.{means_cut}
 
 pub Each-append : {M : Type 0} (P : M → Type 0) (ms : List M) (m : M) → Each P ms → P m → Each P (ms ++ m ∷ [])
 Each-append P [] m h k = (k, tt)
 Each-append P (x ∷ ms) m h k = (h.0, Each-append P ms m h.1 k)
-
-pub no_truth : false ≡ true → ⊥
-no_truth e = cc
 
 -- a fact that holds of each value holds of one of them
 Each-middle : {M : Type 0} (P : M → Type 0) (front : List M) (m : M) (back : List M) → Each P (front ++ m ∷ back) → P m
@@ -43,9 +40,9 @@ first_refusal-one refusal m ks e h = ap (refused_by refusal ks) h
 pub first_refusal-pass : {M : Type 0} (refusal : M → Option EncodeError) (m : M) (ks : List M) → refusal m ≡ None → first_refusal refusal (m ∷ ks) ≡ first_refusal refusal ks
 first_refusal-pass refusal m ks h = ap (refused_by refusal ks) h
 
-pub joined-append : {M : Type 0} (encoding : M → List ℕ) (ms : List M) (m : M) → joined encoding (ms ++ m ∷ []) ≡ joined encoding ms ++ encoding m
-joined-append encoding [] m = append-nil (encoding m)
-joined-append encoding (x ∷ ms) m = ap (λ l. encoding x ++ l) (joined-append encoding ms m) ∙ sym (append_assoc (encoding x) (joined encoding ms) (encoding m))
+pub encodings-append : {M : Type 0} (encoding : M → List ℕ) (ms : List M) (m : M) → encodings encoding (ms ++ m ∷ []) ≡ encodings encoding ms ++ encoding m
+encodings-append encoding [] m = append-nil (encoding m)
+encodings-append encoding (x ∷ ms) m = ap (λ l. encoding x ++ l) (encodings-append encoding ms m) ∙ sym (append_assoc (encoding x) (encodings encoding ms) (encoding m))
 
 -- a packed list that has a value has a record
 pub packed_some : {V M : Type 0} (encoding : M → List ℕ) (meaning : V → M) (n : ℕ) (vs : List V) → 0 < length vs → 0 < length (tagged n (packed_record encoding (map meaning vs)))

@@ -1,14 +1,15 @@
 -- One turn of a loop over packed numbers.
-use Rattle.std.proofs.Common.{◌≡◌, ◌<◌, ◌≤◌, ◌+◌, ◌-◌, ℕ, List, [], ◌∷◌, ◌++◌, map, take, length, false, true, Result, Ok, Err, refl, sym, ap, ◌∙◌, append_assoc, append-nil, arith}
+use Rattle.std.proofs.Common.{◌≡◌, ◌<◌, ◌≤◌, ◌+◌, ◌-◌, ℕ, List, [], ◌∷◌, ◌++◌, map, take, length, false, true, Result, Ok, Err, sym, ap, ◌∙◌, append_assoc, append-nil, arith}
 use Rattle.std.specs.Result.{OnErr}
 use Rattle.std.proofs.lemmas.Grind.{common_steps}
 use Rattle.std.proofs.lemmas.List.{length-append, length-map, map-append}
+use Rattle.std.proofs.Math.Seq.{take-append_seam}
 use Rattle.buffa_bytes.specs.declared.wire_type.WireType.{WireType}
 use Rattle.buffa_bytes.specs.declared.error.DecodeError.{DecodeError}
 use Rattle.buffa_bytes.specs.Content.{content_at}
 use Rattle.buffa_bytes.specs.Content.Content.{number}
 use Rattle.buffa_codec.specs.Packed.{numbers_in}
-use Rattle.buffa_codec.specs.Reading.{AddsSomeValues}
+use Rattle.buffa_codec.specs.Decoded.{AddsSomeValues}
 use Rattle.buffa_codec.specs.PackedFacts.{numbers_step, numbers_end}
 
 -- what was put behind the old values so far
@@ -27,10 +28,6 @@ packs_more w meaning of all rest left n old now next v places before after e h m
   omega (arith, h.3, one, length-append h.0 (n ∷ [])),
 )
 
-take_front : {A : Type 0} (xs ys : List A) → take (length xs) (xs ++ ys) ≡ xs
-take_front [] ys = refl
-take_front (x ∷ xs) ys = ap (λ l. x ∷ l) (take_front xs ys)
-
 -- one more number is there than those so far
 numbers_less : {M : Type 0} (w : WireType) (of : ℕ → M) (all rest left done : List ℕ) (n : ℕ) → content_at w rest ≡ Ok (number n, left)
     → numbers_in w all ≡ done ++ numbers_in w rest → length done < length (map of (numbers_in w all))
@@ -44,7 +41,7 @@ packs_front (Err u) w meaning of all rest left n old now next places before f h 
   length (map of h.0),
   omega (arith, length-map h.0 of, numbers_less w of all rest left h.0 n f h.2),
   ap (map meaning) e ∙ h.1 ∙ ap (λ l. map meaning old ++ l)
-      (sym (ap (take (length (map of h.0))) (ap (map of) h.2 ∙ map-append of h.0 (numbers_in w rest)) ∙ take_front (map of h.0) (map of (numbers_in w rest)))),
+      (sym (ap (take (length (map of h.0))) (ap (map of) h.2 ∙ map-append of h.0 (numbers_in w rest)) ∙ take-append_seam (map of h.0) (map of (numbers_in w rest)))),
 )
 
 -- a vector that has no place left

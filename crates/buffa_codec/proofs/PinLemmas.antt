@@ -6,11 +6,11 @@ use Rattle.buffa_bytes.specs.declared.error.EncodeError.{EncodeError}
 use Rattle.buffa_bytes.specs.declared.error.EncodeError.TheVariants.{OutOfMemory}
 use Rattle.buffa_wire.specs.BudgetLeft.{BudgetLeft, Pays, defaults, minus}
 use Rattle.buffa_wire.specs.Records.{Datum}
-use Rattle.buffa_codec.specs.Reading.{AddsSome, LaterReadingsWin, ReadsAll, ReadsList, elements, last_read}
+use Rattle.buffa_codec.specs.Decoded.{AddsSome, LaterReadingsWin, ReadsAll, ReadsList, elements, last_read}
 use Rattle.buffa_codec.specs.Pinned.{AreValues, BeginsAlike, EncodingIsPinned, HasAnswer, LeavesOne, OneAnswer, OneList, RefusalIsPinned}
-use Rattle.buffa_codec.specs.Texts.{left_over}
+use Rattle.buffa_codec.specs.CodecFacts.{left_over}
 use Rattle.buffa_codec.proofs.FilteredLemmas.{last_read-append}
-use Rattle.std.proofs.lemmas.Option.{same_Some}
+use Rattle.std.proofs.lemmas.Option.{none-some, same_Some}
 
 -- ---- one value
 
@@ -64,13 +64,10 @@ module _ {M : Type 0} (one : BudgetLeft → Datum → Option M) (leaves : Budget
 
 -- ---- refusals
 
-not_both : {A P : Type 0} (e : A) → None ≡ Some e → P
-not_both e h = cc
-
 module _ (T : Type 0) (refusal : Option EncodeError) where
   either_by : (e : EncodeError) → refusal ≡ None → ((e ≡ OutOfMemory) ⊎ (refusal ≡ Some e)) → e ≡ OutOfMemory
   either_by e h (inl k) = k
-  either_by e h (inr k) = not_both e (sym h ∙ k)
+  either_by e h (inr k) = absurd (none-some e (sym h ∙ k))
 
   told_by : (e f : EncodeError) → ((e ≡ OutOfMemory) ⊎ (refusal ≡ Some e)) → ((f ≡ OutOfMemory) ⊎ (refusal ≡ Some f)) → e ≢ OutOfMemory → f ≢ OutOfMemory → e ≡ f
   told_by e f (inl h) k mine other = absurd (mine h)

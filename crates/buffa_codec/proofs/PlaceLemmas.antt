@@ -1,7 +1,7 @@
 -- No place for a record is lost.
 use Rattle.std.proofs.Common.{◌≡◌, ℕ, ◌+◌, ◌≤◌, [], ◌∷◌, ◌++◌, ap, length, length-append, arith}
 use Rattle.buffa_wire.specs.Records.{Datum, Held}
-use Rattle.buffa_codec.specs.Reading.{KeepsPlaces}
+use Rattle.buffa_codec.specs.Decoded.{KeepsPlaces}
 
 pub places_stay : (held : Held) → KeepsPlaces held held
 places_stay held = omega arith

@@ -11,7 +11,7 @@ use Rattle.buffa_wire.specs.View.{record_of, records_in, datum_of}
 use Rattle.buffa_wire.specs.declared.unknown_fields.UnknownField.{UnknownField}
 use Rattle.buffa_codec.specs.Packed.{numbers_in}
 use Rattle.buffa_codec.specs.PackedFacts.{numbers_step}
-use Rattle.buffa_codec.specs.Reading.{Has, HasByte, TakesElement, elements, string_held, unpacked}
+use Rattle.buffa_codec.specs.Decoded.{Has, HasByte, TakesElement, elements, string_held, unpacked}
 use Rattle.buffa_codec.specs.Sub.{sub}
 use Rattle.buffa_codec.proofs.FilteredLemmas.{sub-append}
 use Rattle.buffa_codec.proofs.TurnLemmas.{sub-take_more, sub-one_same}

@@ -4,12 +4,8 @@ use Rattle.std.specs.List.{filter_map, last_or, cons_option}
 use Rattle.std.proofs.lemmas.List.{map-append}
 use Rattle.buffa_wire.specs.BudgetLeft.{BudgetLeft, defaults}
 use Rattle.buffa_wire.specs.Records.{Datum, varint, fixed32, fixed64, bytes, group}
-use Rattle.buffa_codec.specs.Reading.{ReadsAll, ReadsList, elements, joined, last_read, packed_record}
+use Rattle.buffa_codec.specs.Decoded.{ReadsAll, ReadsList, elements, encodings, last_read, packed_record}
 use Rattle.buffa_codec.specs.Through.{ListsThrough, ReadsThrough}
-
-pub map_twice : {A B C : Type 0} (g : A → B) (f : B → C) (xs : List A) → map (λ x. f (g x)) xs ≡ map f (map g xs)
-map_twice g f [] = refl
-map_twice g f (x ∷ xs) = ap (λ l. f (g x) ∷ l) (map_twice g f xs)
 
 pub option_twice : {A B C : Type 0} (g : A → B) (f : B → C) (o : Option A) → option_map (λ x. f (g x)) o ≡ option_map f (option_map g o)
 option_twice g f None = refl
@@ -72,10 +68,10 @@ module _ {M N : Type 0} (f : M → N) (one : BudgetLeft → Datum → Option M) 
 
 -- ---- what is written
 
-joined_through : {V W : Type 0} (f : V → W) (encoding : W → List ℕ) (vs : List V) → joined (λ v. encoding (f v)) vs ≡ joined encoding (map f vs)
-joined_through f encoding [] = refl
-joined_through f encoding (v ∷ vs) = ap (λ l. encoding (f v) ++ l) (joined_through f encoding vs)
+encodings_through : {V W : Type 0} (f : V → W) (encoding : W → List ℕ) (vs : List V) → encodings (λ v. encoding (f v)) vs ≡ encodings encoding (map f vs)
+encodings_through f encoding [] = refl
+encodings_through f encoding (v ∷ vs) = ap (λ l. encoding (f v) ++ l) (encodings_through f encoding vs)
 
 pub packed_through : {V W : Type 0} (f : V → W) (encoding : W → List ℕ) (vs : List V) → packed_record (λ v. encoding (f v)) vs ≡ packed_record encoding (map f vs)
 packed_through f encoding [] = refl
-packed_through f encoding (v ∷ vs) = ap (λ l. bytes l ∷ []) (joined_through f encoding (v ∷ vs))
+packed_through f encoding (v ∷ vs) = ap (λ l. bytes l ∷ []) (encodings_through f encoding (v ∷ vs))

@@ -8,7 +8,7 @@ use Rattle.buffa_wire.specs.View.{record_of, records_in, datum_of}
 use Rattle.buffa_wire.specs.BudgetLeft.{BudgetLeft}
 use Rattle.buffa_wire.specs.declared.unknown_fields.UnknownField.{UnknownField}
 use Rattle.buffa_codec.specs.Sub.{sub, tagged}
-use Rattle.buffa_codec.specs.Reading.{AddsSome, ReadsAll, elements}
+use Rattle.buffa_codec.specs.Decoded.{AddsSome, ReadsAll, elements}
 use Rattle.buffa_codec.proofs.FilteredLemmas.{sub-append, sub-cons}
 use Rattle.buffa_bytes.proofs.ListLemmas.{means_more}
 

@@ -1,7 +1,7 @@
 pub mod Sub
 pub mod Packed
-pub mod Reading
-pub mod Texts
+pub mod Decoded
+pub mod CodecFacts
 pub mod PackedFacts
 pub mod Costs
 pub mod Through

@@ -4,7 +4,7 @@ use Rattle.buffa_bytes.specs.declared.error.EncodeError.{EncodeError}
 use Rattle.buffa_bytes.specs.declared.error.EncodeError.TheVariants.{OutOfMemory}
 use Rattle.buffa_wire.specs.BudgetLeft.{BudgetLeft, defaults, minus}
 use Rattle.buffa_wire.specs.Records.{Datum}
-use Rattle.buffa_codec.specs.Reading.{Adds, AddsSome, AddsValues, Refuses}
+use Rattle.buffa_codec.specs.Decoded.{Adds, AddsSome, AddsValues, Refuses}
 
 -- records are read as one answer at most
 abbrev pub OneAnswer : {A : Type 0} → (List Datum → A → Type 0) → Type 0

@@ -9,8 +9,8 @@ ghost use Rattle.buffa_wire.specs.BudgetLeft.{BudgetLeft, Covers, Pays, budget_l
 ghost use Rattle.buffa_wire.specs.Records.{Datum, bytes};
 ghost use Rattle.buffa_wire.specs.View.{datum_of};
 ghost use Rattle.buffa_codec.specs.Sub.{sub, tagged};
-ghost use Rattle.buffa_codec.specs.Reading.{Adds, AddsSome, AddsSomeValues, AddsValues, KeepsPlaces, LeavesIn, Refuses};
-ghost use Rattle.buffa_codec.specs.Reading.{SpendsIn, UsesPlaces, one_in};
+ghost use Rattle.buffa_codec.specs.Decoded.{Adds, AddsSome, AddsSomeValues, AddsValues, KeepsPlaces, LeavesIn, Refuses};
+ghost use Rattle.buffa_codec.specs.Decoded.{SpendsIn, UsesPlaces, one_in};
 
 use buffa_wire::{
     Blank, DecodeContext, EncodeError, UnknownField, UnknownFieldData, UnknownFields,

@@ -3,8 +3,8 @@
 ghost use Rattle.std.specs.Prelude.{◌≡◌, List, [], ◌∷◌, Option, Some, None, option_map};
 ghost use Rattle.buffa_wire.specs.BudgetLeft.{BudgetLeft, Covers, defaults};
 ghost use Rattle.buffa_wire.specs.Records.{Datum};
-ghost use Rattle.buffa_codec.specs.Reading.{HasLast, last_read};
-ghost use Rattle.buffa_codec.specs.Texts.{last_of_one};
+ghost use Rattle.buffa_codec.specs.Decoded.{HasLast, last_read};
+ghost use Rattle.buffa_codec.specs.CodecFacts.{last_of_one};
 
 use crate::codec::{ExtensionCodec, SingularCodec, push_record};
 use buffa_wire::{EncodeError, UnknownFields};

@@ -19,13 +19,13 @@ ghost use Rattle.buffa_wire.specs.Found.{fixed32_in, fixed64_in, varint_in};
 ghost use Rattle.buffa_wire.specs.Records.{Datum, bytes as held_bytes};
 ghost use Rattle.buffa_codec.specs.Costs.{StaysWithin};
 ghost use Rattle.buffa_codec.specs.Packed.{numbers_in};
-ghost use Rattle.buffa_codec.specs.Reading.{Has, HasByte, HasLast, TakesElement};
+ghost use Rattle.buffa_codec.specs.Decoded.{Has, HasByte, HasLast, TakesElement};
 ghost use Rattle.std.specs.Int.{cast_unsigned, from_bool, w32, w64};
 ghost use Rattle.buffa_bytes.specs.Scalars.{zigzag};
 ghost use Rattle.buffa_wire.specs.Records.{varint, fixed32, fixed64};
-ghost use Rattle.buffa_codec.specs.Reading.{LaterReadingsWin, ReadAlike, ReadingsJoin};
-ghost use Rattle.buffa_codec.specs.Reading.{TakesText, bytes_held, last_read};
-ghost use Rattle.buffa_codec.specs.Reading.{CoversAll, Each, ReadsList, first_refusal, packed_record, string_held};
+ghost use Rattle.buffa_codec.specs.Decoded.{LaterReadingsWin, ReadAlike, ReadingsJoin};
+ghost use Rattle.buffa_codec.specs.Decoded.{LastHasByte, bytes_held, last_read};
+ghost use Rattle.buffa_codec.specs.Decoded.{CoversAll, Each, ReadsList, first_refusal, packed_record, string_held};
 ghost use Rattle.buffa_bytes.specs.declared.wire_type.WireType.{WireType};
 ghost use Rattle.buffa_codec.specs.PackedGrammar.{ArePacked};
 ghost use Rattle.buffa_codec.specs.Through.{ListsThrough, ReadsThrough, WritesThrough};
@@ -252,7 +252,7 @@ pub fn scalars_are_read()
 /// Strings and bytes are read of the last record of bytes, strings where these are UTF-8; all of them are
 /// written, and read back; and no packed ones are read. Only a value of a byte or more takes memory to be
 /// read, the last one alone, and an empty one is written in the list's room.
-pub fn texts_are_read()
+pub fn strings_and_bytes_are_read()
     ensures strings { (ds : List Datum) (o : Option (List ℕ)) → ⟦<StringCodec as ExtensionCodec>⟧.reads ds o
         ↔ (o ≡ last_read string_held ds) }
     ensures bytes { (ds : List Datum) (o : Option (List ℕ)) → ⟦<BytesCodec as ExtensionCodec>⟧.reads ds o
@@ -267,8 +267,8 @@ pub fn texts_are_read()
         × (⟦<BytesCodec as SingularCodec>⟧.packed bs ≡ []) }
     ensures memory { (d : Datum) → (⟦<StringCodec as SingularCodec>⟧.takes d ↔ HasByte (string_held d))
         × (⟦<BytesCodec as SingularCodec>⟧.takes d ↔ HasByte (bytes_held d)) }
-    ensures counts { (ds : List Datum) → (⟦<StringCodec as ExtensionCodec>⟧.takes ds ↔ TakesText string_held ds)
-        × (⟦<BytesCodec as ExtensionCodec>⟧.takes ds ↔ TakesText bytes_held ds) }
+    ensures counts { (ds : List Datum) → (⟦<StringCodec as ExtensionCodec>⟧.takes ds ↔ LastHasByte string_held ds)
+        × (⟦<BytesCodec as ExtensionCodec>⟧.takes ds ↔ LastHasByte bytes_held ds) }
     ensures in_room { (v : List ℕ) → (⟦<StringCodec as ExtensionCodec>⟧.in_room v ↔ (v ≡ []))
         × (⟦<BytesCodec as ExtensionCodec>⟧.in_room v ↔ (v ≡ [])) }
     ensures holds { (v : List ℕ) (o : Option (List ℕ)) → (⟦<StringCodec as ExtensionCodec>⟧.holds v o ↔ (o ≡ Some v))

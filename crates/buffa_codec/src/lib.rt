@@ -7,18 +7,18 @@
 #![tactic(auto)]
 
 pub mod codec;
+pub mod delimited;
 pub mod enums;
 pub mod last;
 pub mod laws;
 pub mod number;
 pub mod packed;
 pub mod repeated;
-pub mod text;
 
 pub use codec::{ExtensionCodec, PackableCodec, SingularCodec};
+pub use delimited::{BytesCodec, StringCodec};
 pub use enums::EnumCodec;
 pub use last::LastWins;
 pub use number::Numbered;
 pub use packed::PackedRepeated;
 pub use repeated::Repeated;
-pub use text::{BytesCodec, StringCodec};

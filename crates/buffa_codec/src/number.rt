@@ -4,7 +4,7 @@ ghost use Rattle.std.specs.Prelude.{◌≡◌, ℕ, map, None, option_map, refl}
 ghost use Rattle.std.proofs.Common.{ap, ◌∙◌};
 ghost use Rattle.buffa_wire.specs.BudgetLeft.{defaults, nothing};
 ghost use Rattle.buffa_codec.specs.Packed.{numbers_in};
-ghost use Rattle.buffa_codec.specs.Texts.{covers_nothing, covers_same, pays_nothing, some_of};
+ghost use Rattle.buffa_codec.specs.CodecFacts.{covers_nothing, covers_same, pays_nothing, some_of};
 ghost use Rattle.buffa_codec.specs.PackedFacts.{none_unpacked, number_unpacks};
 
 use crate::codec::{PackableCodec, SingularCodec};
@@ -166,7 +166,7 @@ impl<N: Numbered> LastWins for N {
 }
 
 impl<N: Numbered> PackableCodec for N {
-    ghost packed_encoding = { λ v. N.Form.payload (N.number_of v) };
+    ghost packed_encoding = { λ v. N.Form.encoding (N.number_of v) };
 
     fn encode_packed(value: &N::Value, buf: &mut Vec<u8>) -> Result<(), EncodeError> {
         let len = buf.len();
@@ -178,7 +178,7 @@ impl<N: Numbered> PackableCodec for N {
     }
 
     ghost unpacks = { λ v rest f.
-        number_unpacks N.Form.WIRE_TYPE N.value_of (N.Form.payload (N.number_of v)) (N.number_of v) (N.back v) rest
+        number_unpacks N.Form.WIRE_TYPE N.value_of (N.Form.encoding (N.number_of v)) (N.number_of v) (N.back v) rest
         (N.Form.Form.reads_back (N.number_of v) (N.Numbered.spelled v f)) (N.Numbered.means v f) };
 
     ghost unpacks_none = { none_unpacked N.Form.WIRE_TYPE N.value_of };

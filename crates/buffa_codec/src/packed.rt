@@ -1,8 +1,8 @@
 //! Codecs of lists, all elements in one record.
 
 ghost use Rattle.std.specs.Prelude.{◌≡◌, IfOk, List, None, OnOk, map};
-ghost use Rattle.buffa_codec.specs.Reading.{Each, Has, ReadsList, Refuses, TakesElement, joined, packed_record};
-ghost use Rattle.buffa_codec.specs.Texts.{packed_back};
+ghost use Rattle.buffa_codec.specs.Decoded.{Each, Has, ReadsList, Refuses, TakesElement, encodings, packed_record};
+ghost use Rattle.buffa_codec.specs.CodecFacts.{packed_back};
 
 use crate::codec::{ExtensionCodec, PackableCodec, push_record};
 use crate::repeated::Repeated;
@@ -82,7 +82,7 @@ fn packed_bytes<C: PackableCodec>(
     alloc: Global,
     values: &[C::Value],
 ) -> Result<Vec<u8>, EncodeError>
-    ensures bytes { IfOk result (λ b. b.items ≡ joined C.packed_encoding (map C.Value.meaning values.now)) }
+    ensures bytes { IfOk result (λ b. b.items ≡ encodings C.packed_encoding (map C.Value.meaning values.now)) }
     ensures refused { Refuses result None }
     ensures fits { OnOk result (Each C.fits (map C.Value.meaning values.now)) }
 {

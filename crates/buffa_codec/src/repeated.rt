@@ -3,10 +3,10 @@
 ghost use Rattle.std.specs.Prelude.{◌≡◌, List, map, OnErr, OnOk, IfErr};
 ghost use Rattle.buffa_wire.specs.Records.{Datum};
 ghost use Rattle.buffa_wire.specs.View.{datum_of};
-ghost use Rattle.buffa_codec.specs.Reading.{AddsRecord, CoversAll, Each, Has, ReadsList, TakesElement};
-ghost use Rattle.buffa_codec.specs.Reading.{first_refusal};
+ghost use Rattle.buffa_codec.specs.Decoded.{AddsRecord, CoversAll, Each, Has, ReadsList, TakesElement};
+ghost use Rattle.buffa_codec.specs.Decoded.{first_refusal};
 ghost use Rattle.buffa_wire.specs.BudgetLeft.{defaults};
-ghost use Rattle.buffa_codec.specs.Texts.{list_back};
+ghost use Rattle.buffa_codec.specs.CodecFacts.{list_back};
 
 use crate::codec::{ExtensionCodec, SingularCodec};
 use buffa_wire::{

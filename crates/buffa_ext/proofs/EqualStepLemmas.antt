@@ -1,8 +1,9 @@
 -- Steps are told to be one exactly where they change the same.
-use Rattle.std.proofs.Common.{◌≡◌, Bool, true, false, true≢false, ◌&&◌, List, [], ◌∷◌, map, refl, sym, nat_eq}
+use Rattle.std.proofs.Common.{◌≡◌, Bool, true, false, ◌&&◌, List, [], ◌∷◌, map, refl, nat_eq}
 use Rattle.std.specs.Cmp.{first_so, second_so}
 use Rattle.std.specs.Cmp.Lexicographic.{pointwise}
 use Rattle.std.proofs.lemmas.Bool.Decides.{Decides-eqb}
+use Rattle.std.proofs.lemmas.Bool.{and_from, false≢true}
 use Rattle.buffa_wire.specs.Equal.{datum_eq, datum_eq-Decides}
 use Rattle.buffa_wire.specs.View.{datum_of}
 use Rattle.buffa_wire.specs.declared.unknown_fields.UnknownFieldData.{UnknownFieldData}
@@ -15,16 +16,10 @@ use Rattle.buffa_ext.specs.declared.steps.Step.TheVariants.{Set, Clear}
 abbrev hold_one : UnknownFieldData → UnknownFieldData → Bool
 hold_one x y = datum_eq (datum_of x) (datum_of y)
 
-never : {P : Type 0} → false ≡ true → P
-never e = absurd (true≢false (sym e))
-
-both : (b c : Bool) → b ≡ true → c ≡ true → (b && c) ≡ true
-both b c p q = cc
-
 pub payloads_are : (xs ys : List UnknownFieldData) → pointwise hold_one xs ys ≡ true → map datum_of xs ≡ map datum_of ys
 payloads_are [] [] h = refl
-payloads_are [] (y ∷ ys) h = never h
-payloads_are (x ∷ xs) [] h = never h
+payloads_are [] (y ∷ ys) h = absurd (false≢true h)
+payloads_are (x ∷ xs) [] h = absurd (false≢true h)
 payloads_are (x ∷ xs) (y ∷ ys) h = λ i.
     (datum_eq-Decides (datum_of x) (datum_of y)).0 (first_so (hold_one x y) (pointwise hold_one xs ys) h) i ∷ payloads_are xs ys (second_so (hold_one x y) (pointwise hold_one xs ys) h) i
 
@@ -32,7 +27,7 @@ pub payloads_told : (xs ys : List UnknownFieldData) → map datum_of xs ≡ map 
 payloads_told [] [] e = refl
 payloads_told [] (y ∷ ys) e = cc
 payloads_told (x ∷ xs) [] e = cc
-payloads_told (x ∷ xs) (y ∷ ys) e = both (hold_one x y) (pointwise hold_one xs ys) ((datum_eq-Decides (datum_of x) (datum_of y)).1 (cc)) (payloads_told xs ys (cc))
+payloads_told (x ∷ xs) (y ∷ ys) e = and_from (hold_one x y) (pointwise hold_one xs ys) ((datum_eq-Decides (datum_of x) (datum_of y)).1 (cc)) (payloads_told xs ys (cc))
 
 -- ---- steps
 
@@ -46,11 +41,11 @@ pub steps_are : (a b : Step) → told a b ≡ true → change_of a ≡ change_of
 steps_are (Set m xs) (Set n ys) h = λ i.
     set ((Decides-eqb m n).0 (first_so (nat_eq m n) (pointwise hold_one xs.items ys.items) h) i) (payloads_are xs.items ys.items (second_so (nat_eq m n) (pointwise hold_one xs.items ys.items) h) i)
 steps_are (Clear m) (Clear n) h = λ i. clear ((Decides-eqb m n).0 h i)
-steps_are (Set m xs) (Clear n) h = never h
-steps_are (Clear m) (Set n ys) h = never h
+steps_are (Set m xs) (Clear n) h = absurd (false≢true h)
+steps_are (Clear m) (Set n ys) h = absurd (false≢true h)
 
 pub steps_told : (a b : Step) → change_of a ≡ change_of b → told a b ≡ true
-steps_told (Set m xs) (Set n ys) e = both (nat_eq m n) (pointwise hold_one xs.items ys.items) ((Decides-eqb m n).1 (cc)) (payloads_told xs.items ys.items (cc))
+steps_told (Set m xs) (Set n ys) e = and_from (nat_eq m n) (pointwise hold_one xs.items ys.items) ((Decides-eqb m n).1 (cc)) (payloads_told xs.items ys.items (cc))
 steps_told (Clear m) (Clear n) e = (Decides-eqb m n).1 (cc)
 steps_told (Set m xs) (Clear n) e = cc
 steps_told (Clear m) (Set n ys) e = cc

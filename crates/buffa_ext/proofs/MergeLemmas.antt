@@ -4,7 +4,7 @@ use Rattle.std.proofs.lemmas.List.{map-append, append-nil, take-append-drop}
 use Rattle.std.proofs.lemmas.List.Elements.{filter_map-append}
 use Rattle.buffa_bytes.specs.declared.error.DecodeError.{DecodeError}
 use Rattle.buffa_bytes.specs.declared.error.DecodeError.TheVariants.{OutOfMemory, UnexpectedEof}
-use Rattle.buffa_bytes.specs.Reading.{tag_at, varint_at, varint_within}
+use Rattle.buffa_bytes.specs.Front.{tag_at, varint_at, varint_within}
 use Rattle.buffa_wire.specs.Message.{BeginsField}
 use Rattle.buffa_wire.specs.RecordReading.{ListTakesMemory}
 use Rattle.buffa_wire.specs.BudgetLeft.{BudgetLeft}

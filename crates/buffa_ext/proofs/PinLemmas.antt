@@ -7,22 +7,17 @@ use Rattle.buffa_bytes.specs.declared.error.DecodeError.TheVariants.{OutOfMemory
 use Rattle.buffa_wire.specs.BudgetLeft.{BudgetLeft, Covers, Lacks, Pays, PaysAtMost, defaults, minus, nothing, plus}
 use Rattle.buffa_wire.specs.Message.{MergeFault}
 use Rattle.buffa_wire.specs.Records.{Datum, varint, fixed32, fixed64, bytes, group}
-use Rattle.buffa_codec.specs.Reading.{ReadsAll, ReadsList, elements, unpacked}
-use Rattle.buffa_codec.specs.Texts.{left_over, minus_nothing}
+use Rattle.buffa_codec.specs.Decoded.{ReadsAll, ReadsList, elements, unpacked}
+use Rattle.buffa_codec.specs.CodecFacts.{left_over, minus_nothing}
 use Rattle.buffa_ext.specs.Defaults.{IsDefaulted}
 use Rattle.buffa_ext.specs.Messages.{AreMerged, IsEncodingRefused, LeavesOf, MergingStaysWithin, cost_all, merged_all, message_of, encodings_in}
 use Rattle.buffa_ext.specs.MessageFacts.{all_merged, left_yes}
 use Rattle.buffa_ext.specs.Pinned.{ListIsExact, MergingIsPinned, RecordMergeIsPinned}
-use Rattle.std.proofs.lemmas.Option.{same_Some}
-
-some_none : {A P : Type 0} (x : A) → Some x ≡ None → P
-some_none x h = cc
+use Rattle.std.proofs.lemmas.Option.{none-some, same_Some}
+use Rattle.std.proofs.lemmas.Bool.{false≢true}
 
 not_both : {A P : Type 0} (x : A) (o : Option A) → o ≡ Some x → o ≡ None → P
-not_both x o h k = some_none x (sym h ∙ k)
-
-no_ok : {P : Type 0} → false ≡ true → P
-no_ok h = cc
+not_both x o h k = absurd (none-some x (sym k ∙ h))
 
 -- ---- records that are merged
 
@@ -55,7 +50,7 @@ module _ {X : Type 0} (merged : X → List ℕ → Option X) (cost : List ℕ �
   not_then : (o : Option X) (ts : List (List ℕ)) (mid : X) (need before left : BudgetLeft) (e : DecodeError) → option_and_then (λ w. merged_all merged w ts) o ≡ Some mid
       → Pays before (plus need (cost_all cost ts)) left → MergeFault o need before e → ⊥
   not_then o ts mid need before left e h p (inl k) = paid_all_not_lacked before need (cost_all cost ts) left p k
-  not_then o ts mid need before left e h p (inr k) = some_none mid (sym h ∙ ap (option_and_then (λ w. merged_all merged w ts)) k.0)
+  not_then o ts mid need before left e h p (inr k) = not_both mid _ h (ap (option_and_then (λ w. merged_all merged w ts)) k.0)
 
   encodings_on : (d : Datum) (ds : List Datum) (o : Option (List ℕ)) → held d ≡ o → encodings_in held (d ∷ ds) ≡ cons_option o (encodings_in held ds)
   encodings_on d ds o h = ap (λ z. cons_option z (encodings_in held ds)) h
@@ -75,7 +70,7 @@ module _ {X : Type 0} (merged : X → List ℕ → Option X) (cost : List ℕ �
   module _ (f g : List Datum) (mid mid' : X) (left left' : BudgetLeft) (again : (w : X) (b : BudgetLeft) → Done f w b mid left → Done g w b mid' left' → f ≡ g) where
     over_encoding : (o : Option X) (c before : BudgetLeft) → option_and_then (λ w. merged_all merged w (encodings_in held f)) o ≡ Some mid → Pays before (plus c (cost_all cost (encodings_in held f))) left
         → option_and_then (λ w. merged_all merged w (encodings_in held g)) o ≡ Some mid' → Pays before (plus c (cost_all cost (encodings_in held g))) left' → f ≡ g
-    over_encoding None c before h p k q = some_none mid (sym h)
+    over_encoding None c before h p k q = absurd (none-some mid h)
     over_encoding (Some w) c before h p k q = again w (minus before c) (h, (omega (arith, p), omega (arith, p))) (k, (omega (arith, q), omega (arith, q)))
 
     over_record : (d : Datum) (o : Option (List ℕ)) (old : X) (before : BudgetLeft) → held d ≡ o → Done (d ∷ f) old before mid left → Done (d ∷ g) old before mid' left' → f ≡ g
@@ -129,7 +124,7 @@ module _ {X : Type 0} (merged : X → List ℕ → Option X) (cost : List ℕ �
   -- and spends no more than there is to spend
   pub merging_stays_within : MergingStaysWithin merged cost held takes
   merging_stays_within ds old new before after (Ok f) h = ((omega (arith, h.1.1), omega (arith, h.1.1), omega (arith, h.1.1), omega (arith, h.1.1)), λ t. (omega (arith, h.1.1), omega (arith, h.1.1)))
-  merging_stays_within ds old new before after (Err e) h = ((all_merged merged cost held takes ds old new before after (Err e) h).0, λ f. no_ok f)
+  merging_stays_within ds old new before after (Err e) h = ((all_merged merged cost held takes ds old new before after (Err e) h).0, λ f. absurd (false≢true f))
 
 -- ---- lists of messages
 

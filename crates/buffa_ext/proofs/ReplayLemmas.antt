@@ -2,6 +2,7 @@
 use Rattle.std.proofs.Common.{◌≡◌, ℕ, ◌+◌, ◌<◌, ◌≤◌, add_assoc, List, [], ◌∷◌, ◌++◌, refl, sym, ◌∙◌, ap, drop, map, take, length, arith}
 use Rattle.std.proofs.lemmas.Grind.{common_steps}
 use Rattle.std.proofs.lemmas.List.{map-append, take-map}
+use Rattle.std.proofs.Math.Seq.{take-append_seam}
 use Rattle.buffa_wire.specs.Records.{Datum}
 use Rattle.buffa_ext.specs.Steps.{Change, RefusedAt, ChangeTakesMemory, after, after_one, put_count, put_in}
 
@@ -9,10 +10,6 @@ use Rattle.buffa_ext.specs.Steps.{Change, RefusedAt, ChangeTakesMemory, after, a
 pub after-snoc : (rs : List (ℕ × Datum)) (cs : List Change) (c : Change) → after rs (cs ++ c ∷ []) ≡ after_one (after rs cs) c
 after-snoc rs [] c = refl
 after-snoc rs (d ∷ cs) c = after-snoc (after_one rs d) cs c
-
-pub take-front : {A : Type 0} (xs ys : List A) → take (length xs) (xs ++ ys) ≡ xs
-take-front [] ys = refl
-take-front (x ∷ xs) ys = ap (λ l. x ∷ l) (take-front xs ys)
 
 pub length-front : {A : Type 0} (xs : List A) (y : A) (ys : List A) → length xs < length (xs ++ y ∷ ys)
 length-front xs y ys = grind (arith, common_steps)
@@ -26,7 +23,7 @@ pub replays_front : {S : Type 0} (f : S → Change) (start now next : List (ℕ 
     → all ≡ done ++ rest → n ≡ length done → now ≡ after start (map f done) → next ≡ now
     → next ≡ after start (take n (map f all))
 replays_front f start now next all done rest n whole count so_far same =
-    same ∙ so_far ∙ ap (λ l. after start (map f l)) (sym (take-front done rest) ∙ ap (λ k. take k (done ++ rest)) (sym count) ∙ ap (take n) (sym whole)) ∙ ap (after start) (sym (take-map f n all))
+    same ∙ so_far ∙ ap (λ l. after start (map f l)) (sym (take-append_seam done rest) ∙ ap (λ k. take k (done ++ rest)) (sym count) ∙ ap (take n) (sym whole)) ∙ ap (after start) (sym (take-map f n all))
 
 drop-front : {S : Type 0} (f : S → Change) (xs ys : List S) → drop (length xs) (map f (xs ++ ys)) ≡ map f ys
 drop-front f [] ys = refl
@@ -54,6 +51,6 @@ room_one_more f done s start now next h k =
 pub room_of_front : {S : Type 0} (f : S → Change) (all done rest : List S) (n start now next : ℕ) → all ≡ done ++ rest → n ≡ length done → next ≡ now → start ≤ now + put_count (map f done)
     → start ≤ next + put_count (take n (map f all))
 room_of_front f all done rest n start now next whole count same h =
-    let front : take n (map f all) ≡ map f done = take-map f n all ∙ ap (map f) (ap (take n) whole ∙ ap (λ k. take k (done ++ rest)) count ∙ take-front done rest) in
+    let front : take n (map f all) ≡ map f done = take-map f n all ∙ ap (map f) (ap (take n) whole ∙ ap (λ k. take k (done ++ rest)) count ∙ take-append_seam done rest) in
     let counts : put_count (take n (map f all)) ≡ put_count (map f done) = ap put_count front in
     omega (arith, h, same, counts)

@@ -1,9 +1,11 @@
 -- What merging the encodings in records comes to.
-use Rattle.std.proofs.Common.{◌≡◌, ◌≢◌, ℕ, ◌+◌, ◌<◌, ◌≤◌, ◌^◌, Bool, true, false, List, [], ◌∷◌, ◌++◌, ◌&&◌, ◌||◌, nat_le, nat_lt, length, Option, Some, None, Result, Ok, Err, IfOk, inl, inr, refl, sym, ap, subst, ◌∙◌, arith, if◌then◌else◌}
+use Rattle.std.proofs.Common.{◌≡◌, ◌≢◌, ℕ, ◌+◌, ◌<◌, ◌≤◌, ◌^◌, Bool, true, false, List, [], ◌∷◌, ◌++◌, ◌||◌, nat_le, nat_lt, length, Option, Some, None, Result, Ok, Err, IfOk, inl, inr, refl, sym, ap, subst, ◌∙◌, arith, if◌then◌else◌}
 use Rattle.std.proofs.lemmas.Grind.{common_steps}
 use Rattle.std.specs.Option.{option_and_then}
 use Rattle.std.specs.List.{cons_option}
 use Rattle.std.proofs.lemmas.List.Elements.{filter_map-append}
+use Rattle.std.proofs.lemmas.Bool.{and_parts, and_right}
+use Rattle.std.proofs.lemmas.Option.{none-some}
 use Rattle.buffa_bytes.specs.declared.error.DecodeError.{DecodeError}
 use Rattle.buffa_bytes.specs.declared.error.DecodeError.TheVariants.{OutOfMemory}
 use Rattle.buffa_bytes.specs.declared.error.EncodeError.{EncodeError}
@@ -31,27 +33,19 @@ lt_no m n h = grind (arith, common_steps)
 lt_yes : (m n : ℕ) → m < n → nat_lt m n ≡ true
 lt_yes m n h = grind (arith, common_steps)
 
-and_no : (b : Bool) → (b && false) ≡ false
-and_no true = refl
-and_no false = refl
-
 pub left_yes : (b need : BudgetLeft) → Covers b need → is_left b need ≡ true
 left_yes b need h = rw (le_yes need.unknown b.unknown h.0, le_yes need.memory b.memory h.1) refl
 
 left_no : (b need : BudgetLeft) → Lacks b need → is_left b need ≡ false
 left_no b need (inl h) = rw (le_no need.unknown b.unknown h) refl
-left_no b need (inr h) = rw (le_no need.memory b.memory h) (and_no (nat_le need.unknown b.unknown))
+left_no b need (inr h) = rw (le_no need.memory b.memory h) (and_right (nat_le need.unknown b.unknown) false refl)
 
 true_le : (m n : ℕ) → nat_le m n ≡ true → m ≤ n
 true_le m n h = grind (arith, common_steps)
 
-both_true : (b c : Bool) → (b && c) ≡ true → (b ≡ true) × (c ≡ true)
-both_true true c h = (refl, h)
-both_true false c h = cc
-
 left_true : (b need : BudgetLeft) → is_left b need ≡ true → Covers b need
 left_true b need h =
-    let t = both_true (nat_le need.unknown b.unknown) (nat_le need.memory b.memory) h in
+    let t = and_parts (nat_le need.unknown b.unknown) (nat_le need.memory b.memory) h in
     (true_le need.unknown b.unknown t.0, true_le need.memory b.memory t.1)
 
 -- the default budget
@@ -240,9 +234,6 @@ module _ {X : Type 0} (merged : X → List ℕ → Option X) (cost : List ℕ �
       ∙ ap (λ c. if c then merged_all merged blank (t ∷ []) else None) (left_yes b (cost_all cost (t ∷ [])) (subst (λ l. Covers b (cost_all cost l)) same k))
       ∙ ap (option_and_then (λ w. merged_all merged w [])) e
 
-some_none : {A P : Type 0} (x : A) → Some x ≡ None → P
-some_none x h = cc
-
 -- ---- encodings
 
 refusal_by : {A : Type 0} (b : Bool) (o : Option A) (e : A) → (if b then o else Some e) ≡ None → o ≡ None
@@ -266,7 +257,7 @@ group_by rs (Ok qs) e f h =
     let read = agree_ok (list_at 100 1000000 (records_encoding rs)) qs (list_is_read 100 1000000 (records_encoding rs)) e in
     let parse = encoding_parses (records_of rs) (records_height (records_of rs)) f (omega arith) in
     ap (λ x. Some (fields_encoding x)) (sym (one_reading (records_encoding rs) (records_height (records_of rs)) 100 (records_of rs) (records_of qs) parse read.0))
-group_by rs (Err g) e f h = some_none (GroupRefused g) h
+group_by rs (Err g) e f h = absurd (none-some (GroupRefused g) (sym h))
 
 -- the group of an encoding holds it
 pub group_back : (rs : List (ℕ × Datum)) → Fits (records_of rs) → group_refusal (records_encoding rs) ≡ None → group_held (group_of (records_encoding rs)) ≡ Some (records_encoding rs)

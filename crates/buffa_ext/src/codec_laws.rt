@@ -6,7 +6,7 @@ ghost use Rattle.buffa_bytes.specs.Scalars.{bool_of, fixed32_of, fixed64_of, int
 ghost use Rattle.buffa_bytes.specs.Scalars.{sfixed64_of, sint32_of, sint64_of, uint32_of, uint64_of, zigzag};
 ghost use Rattle.buffa_wire.specs.Found.{fixed32_in, fixed64_in, varint_in};
 ghost use Rattle.buffa_wire.specs.Records.{Datum, bytes, fixed32, fixed64, varint};
-ghost use Rattle.buffa_codec.specs.Reading.{ReadsList, bytes_held, packed_record, string_held};
+ghost use Rattle.buffa_codec.specs.Decoded.{ReadsList, bytes_held, packed_record, string_held};
 ghost use Rattle.buffa_ext.specs.Messages.{ReadsMessages, group_held, group_of};
 ghost use Rattle.buffa_ext.specs.Names.{IsOf, enum_in};
 

@@ -12,7 +12,7 @@ ghost use Rattle.buffa_wire.specs.BudgetLeft.{BudgetLeft, Covers, defaults};
 ghost use Rattle.buffa_wire.specs.Parse.{Fits};
 ghost use Rattle.buffa_wire.specs.Records.{Datum, bytes as held_bytes, records_of};
 ghost use Rattle.buffa_codec.specs.Pinned.{OneAnswer};
-ghost use Rattle.buffa_codec.specs.Reading.{HasByte, bytes_held};
+ghost use Rattle.buffa_codec.specs.Decoded.{HasByte, bytes_held};
 ghost use Rattle.buffa_codec.specs.Sub.{sub};
 ghost use Rattle.buffa_ext.specs.Changes.{SameIsOneChange};
 ghost use Rattle.buffa_ext.specs.Messages.{BeginsFieldIn, IsReadBack, LeavesOfRecord, MergingStaysWithin};

@@ -9,7 +9,7 @@ ghost use Rattle.buffa_wire.specs.Parse.{Fits};
 ghost use Rattle.buffa_wire.specs.Records.{Datum, bytes, records_of};
 ghost use Rattle.buffa_wire.specs.Encoding.{records_encoding};
 ghost use Rattle.buffa_wire.specs.View.{datum_of};
-ghost use Rattle.buffa_codec.specs.Reading.{HasByte, Refuses, bytes_held};
+ghost use Rattle.buffa_codec.specs.Decoded.{HasByte, Refuses, bytes_held};
 ghost use Rattle.buffa_ext.specs.Messages.{BeginsFieldIn, MergesOne, group_held, group_of, group_refusal, encodings_in};
 ghost use Rattle.buffa_ext.specs.MessageFacts.{group_back};
 
@@ -61,11 +61,11 @@ pub trait MessageRecord {
     /// The record that holds an encoding.
     ///
     /// # Errors
-    /// Why no record holds it, or out of memory; never for an encoding of no bytes, nor where holding takes
+    /// Why no record holds it; or out of memory, but never for an encoding of no bytes, nor where holding takes
     /// none.
     ///
     /// ```ignore
-    /// let payload = K::hold(alloc, sink);
+    /// let payload = K::hold(alloc, encoding)?;
     /// ```
     fn hold(alloc: Global, encoding: Vec<u8>) -> Result<UnknownFieldData, EncodeError>
         ensures record { IfOk result (λ d. datum_of d ≡ holder encoding.items) }

@@ -12,7 +12,7 @@ use Rattle.buffa_wire.specs.Cache.{Cache}
 use Rattle.buffa_wire.specs.Message.{IsFieldMerged, MergesBytes}
 use Rattle.buffa_wire.specs.Parse.{Fits}
 use Rattle.buffa_wire.specs.Passes.{IsSized, IsWritten, cap}
-use Rattle.buffa_bytes.specs.Reading.{check_wire}
+use Rattle.buffa_bytes.specs.Front.{check_wire}
 use Rattle.buffa_wire.specs.Records.{bytes, records_of}
 use Rattle.buffa_wire.specs.Encoding.{records_encoding}
 use Rattle.buffa_wire.specs.declared.context.DecodeContext.{DecodeContext}

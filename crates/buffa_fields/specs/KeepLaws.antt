@@ -16,7 +16,8 @@ use Rattle.buffa_wire.specs.RecordReading.{RecordTakesMemory, field_at}
 use Rattle.buffa_wire.specs.Records.{Datum, height, records_of}
 use Rattle.buffa_wire.specs.Encoding.{records_encoding, wire_of}
 use Rattle.std.specs.Prelude.{Bool, true, ◌&&◌}
-use Rattle.buffa_wire.proofs.KeepLemmas.{all_fields, enough_unknown, field_short, le_or_lt, needed, payload_of_record, record_of_payload}
+use Rattle.buffa_wire.proofs.KeepLemmas.{all_fields, enough_unknown, field_short, le_or_lt, needed}
+use Rattle.buffa_wire.proofs.JoinLemmas.{payload_of_record, record_of_payload}
 use Rattle.buffa_wire.specs.Kept.{keep_need, kept_record_at, spent_of}
 use Rattle.buffa_fields.specs.Keep.{AllNumbers, IsFieldThere, KeepTakesMemory, keep_takes}
 use Rattle.buffa_fields.specs.PairLaws.{both_true}

@@ -24,9 +24,9 @@ use Rattle.buffa_wire.specs.Message.{IsLimit}
 use Rattle.buffa_bytes.specs.Number.{IsNumber}
 use Rattle.buffa_wire.specs.Parse.{Fits}
 use Rattle.buffa_wire.specs.Passes.{cap}
-use Rattle.buffa_bytes.specs.Reading.{check_wire, delimited_at}
+use Rattle.buffa_bytes.specs.Front.{check_wire, delimited_at}
 use Rattle.buffa_wire.specs.Records.{Datum, records_of}
-use Rattle.buffa_wire.specs.Encoding.{field_encoding, records_encoding}
+use Rattle.buffa_wire.specs.Encoding.{records_encoding, tagged_encoding}
 use Rattle.buffa_bytes.specs.Values.{delimited_encoding, tag_encoding}
 use Rattle.buffa_bytes.specs.Written.{WritesFront}
 use Rattle.buffa_map.proofs.EntryLemmas.{same_false, value_complete, value_sound}
@@ -214,7 +214,7 @@ module _ {V : Type 0} (reading : Reading V) (writing : Writing V) (datum : V →
     (no_limit : (d : ℕ) (old : V) (c : Content) (x : DecodeError) → reading.reads d old c ≡ Err x → IsLimit x → ⊥)
     (WIRE : WireType) (wire : reading.wire ≡ WIRE) (written : writing.wire ≡ WIRE) (Fit Normal : V → Type 0)
     (reads_back : (d : ℕ) (old v : V) → Fit v → Normal v → (c : Content) × HasContent writing.wire (writing.encoding v) c × (reading.reads d old c ≡ Ok (v, true)))
-    (datum_encoding : (n : ℕ) (v : V) → tag_encoding n writing.wire ++ writing.encoding v ≡ field_encoding n (datum v)) where
+    (datum_encoding : (n : ℕ) (v : V) → tag_encoding n writing.wire ++ writing.encoding v ≡ tagged_encoding n (datum v)) where
   same : reading.wire ≡ writing.wire
   same = wire ∙ sym written
 

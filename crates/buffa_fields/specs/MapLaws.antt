@@ -20,7 +20,7 @@ use Rattle.buffa_wire.specs.Parse.{Fits}
 use Rattle.buffa_wire.specs.Cache.{Cache}
 use Rattle.buffa_wire.specs.Passes.{IsWritten, cap}
 use Rattle.buffa_wire.proofs.PassLemmas.{consumes_none, written_none}
-use Rattle.buffa_bytes.specs.Reading.{delimited_at}
+use Rattle.buffa_bytes.specs.Front.{delimited_at}
 use Rattle.buffa_wire.specs.Records.{Datum, records_of}
 use Rattle.buffa_wire.specs.Encoding.{records_encoding}
 use Rattle.buffa_wire.proofs.SequenceLemmas.{ok_same}
@@ -38,7 +38,8 @@ use Rattle.buffa_bytes.specs.declared.error.EncodeError.{EncodeError}
 use Rattle.buffa_bytes.specs.declared.error.EncodeError.TheVariants as encode
 use Rattle.buffa_fields.specs.MapFields.{PairTakesMemory, WritesMap, entry_cost, entry_taken, map_records, put_all, stepped}
 use Rattle.buffa_fields.specs.Takes.{IsTaken, Leads, Piece, ReadsBack, Stays, Untaken, joined}
-use Rattle.buffa_map.proofs.BackLemmas.{IsReadBack, entry_back, fold_back, is_tag}
+use Rattle.buffa_map.proofs.BackLemmas.{IsReadBack, entry_back, fold_back}
+use Rattle.buffa_bytes.proofs.FieldLemmas.{is_tag}
 use Rattle.buffa_map.proofs.WriteLemmas.{field_encoding-append}
 use Rattle.buffa_bytes.specs.Values.{delimited_encoding, tag_encoding}
 use Rattle.buffa_bytes.specs.Varint.{varint_encoding}

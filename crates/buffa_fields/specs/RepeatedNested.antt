@@ -5,7 +5,7 @@ use Rattle.buffa_bytes.specs.declared.wire_type.WireType.TheVariants.{LengthDeli
 use Rattle.buffa_wire.specs.BudgetLeft.{BudgetLeft, nothing, plus, units}
 use Rattle.buffa_wire.specs.Message.{cost_of_payload}
 use Rattle.buffa_wire.specs.Passes.{cap}
-use Rattle.buffa_bytes.specs.Reading.{delimited_at}
+use Rattle.buffa_bytes.specs.Front.{delimited_at}
 use Rattle.buffa_wire.specs.Records.{Datum, bytes}
 use Rattle.buffa_bytes.specs.WireType.{same_wire}
 use Rattle.buffa_fields.specs.Lists.{element_records}

@@ -2,7 +2,7 @@
 use Rattle.std.specs.Prelude.{◌≡◌, ◌+◌, ◌≤◌, ◌⊎◌, ℕ, List, ◌++◌, Some, Ok}
 use Rattle.buffa_bytes.specs.declared.wire_type.WireType.{WireType}
 use Rattle.buffa_wire.specs.BudgetLeft.{BudgetLeft}
-use Rattle.buffa_bytes.specs.Reading.{tag_at}
+use Rattle.buffa_bytes.specs.Front.{tag_at}
 use Rattle.buffa_fields.specs.Takes.{Asks, Need, Taker, cost_of, merged_of}
 
 -- fields at the front were merged, and of what follows them the member of the next field's number alone may be changed

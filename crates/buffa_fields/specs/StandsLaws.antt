@@ -12,7 +12,7 @@ use Rattle.buffa_bytes.specs.Field.{SomeField}
 use Rattle.buffa_bytes.specs.Join.{Join}
 use Rattle.buffa_bytes.specs.Join.Join.{none, more}
 use Rattle.buffa_wire.specs.Message.{MergeFault}
-use Rattle.buffa_bytes.specs.Reading.{tag_at}
+use Rattle.buffa_bytes.specs.Front.{tag_at}
 use Rattle.buffa_fields.specs.Layout.{Layout}
 use Rattle.buffa_fields.specs.LayoutLaws.{merges}
 use Rattle.buffa_fields.specs.Stands.{MergingTakesMemory, Merged, Paid, Stands}

@@ -14,7 +14,7 @@ use Rattle.buffa_bytes.specs.Field.{Payload, SomeField}
 use Rattle.buffa_bytes.specs.Gives.{FullOnlyIf, Gives}
 use Rattle.buffa_bytes.specs.Join.{Join}
 use Rattle.buffa_wire.specs.Message.{IsFieldMerged}
-use Rattle.buffa_bytes.specs.Reading.{skip_at}
+use Rattle.buffa_bytes.specs.Front.{skip_at}
 use Rattle.buffa_wire.proofs.CostLemmas.{IsPaid, cost_empty, cost_next as costs_next, paid}
 use Rattle.buffa_wire.proofs.ByFieldLemmas.{IsSame, IsSound, Same, empty, fields, next, read}
 use Rattle.buffa_fields.specs.Takes.{IsTaken, Leads, Need, Piece, ReadsBack, Stays, Taker, Untaken, answer, cost_of, framed, front_of, joined, merged_of}

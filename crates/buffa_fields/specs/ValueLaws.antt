@@ -21,7 +21,7 @@ use Rattle.buffa_fields.specs.Takes.{IsTaken, Piece, ReadsBack, joined}
 use Rattle.buffa_fields.specs.Values.{IfThere, all_of, free, records_unless, some_records, some_taken, value_taken}
 use Rattle.buffa_bytes.proofs.FieldLemmas.{wire_small, same_refl}
 use Rattle.buffa_wire.specs.Records.{Datum}
-use Rattle.buffa_wire.specs.Encoding.{field_encoding, records_encoding}
+use Rattle.buffa_wire.specs.Encoding.{records_encoding, tagged_encoding}
 use Rattle.buffa_bytes.specs.Values.{tag_encoding}
 use Rattle.buffa_wire.proofs.KeepLemmas.{content_no_limit}
 
@@ -113,7 +113,7 @@ refused_plain true codec d old bs left e h r = cc
 module _ {V : Type 0} (reading : Reading V) (writing : Writing V) (datum : V → Datum) (n : ℕ) (number : IsNumber n) (d : ℕ) (plain : reading.nested ≡ false)
     (WIRE : WireType) (wire : reading.wire ≡ WIRE) (written : writing.wire ≡ WIRE) (Fit Normal : V → Type 0)
     (reads_back : (d : ℕ) (old v : V) → Fit v → Normal v → (c : Content) × HasContent writing.wire (writing.encoding v) c × (reading.reads d old c ≡ Ok (v, true)))
-    (datum_encoding : (n : ℕ) (v : V) → tag_encoding n writing.wire ++ writing.encoding v ≡ field_encoding n (datum v)) where
+    (datum_encoding : (n : ℕ) (v : V) → tag_encoding n writing.wire ++ writing.encoding v ≡ tagged_encoding n (datum v)) where
   small_tag : (w : WireType) → 8 * n + wire_number w < 2 ^ 64
   small_tag w = omega (arith, number.0, number.1, wire_small w)
 
@@ -133,7 +133,7 @@ module _ {V : Type 0} (reading : Reading V) (writing : Writing V) (datum : V →
   piece v = record { tag = tag_encoding n writing.wire; number = n; wire = writing.wire; payload = writing.encoding v }
 
   spelled_one : (v : V) → records_encoding ((n, datum v) ∷ []) ≡ joined (piece v ∷ [])
-  spelled_one v = append-nil (field_encoding n (datum v)) ∙ sym (datum_encoding n v) ∙ sym (append-nil (tag_encoding n writing.wire ++ writing.encoding v))
+  spelled_one v = append-nil (tagged_encoding n (datum v)) ∙ sym (datum_encoding n v) ∙ sym (append-nil (tag_encoding n writing.wire ++ writing.encoding v))
 
   tag_is : IsTag (tag_encoding n writing.wire) n writing.wire
   tag_is = (number, IsVarint-varint_encoding (8 * n + wire_number writing.wire) (small_tag writing.wire))

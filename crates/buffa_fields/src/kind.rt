@@ -2,7 +2,7 @@
 
 ghost use Rattle.std.specs.Prelude.{◌≡◌, ◌++◌, ℕ, Bool, true, IsTrue, ◌↔◌};
 ghost use Rattle.buffa_wire.specs.Records.{Datum};
-ghost use Rattle.buffa_wire.specs.Encoding.{field_encoding};
+ghost use Rattle.buffa_wire.specs.Encoding.{tagged_encoding};
 ghost use Rattle.buffa_bytes.specs.Values.{tag_encoding};
 
 use buffa_map::map_codec::MapCodec;
@@ -28,7 +28,7 @@ pub trait Kind: MapCodec {
         ensures { result ≡ is_blank (Self.Value.meaning value.now) };
 
     /// The encoding of a field is that of its record.
-    ghost datum_encoding: { (n : ℕ) (v : Self.Value.Meaning) → tag_encoding n Self.writing.wire ++ Self.writing.encoding v ≡ field_encoding n (datum v) };
+    ghost datum_encoding: { (n : ℕ) (v : Self.Value.Meaning) → tag_encoding n Self.writing.wire ++ Self.writing.encoding v ≡ tagged_encoding n (datum v) };
 
     /// No other value is, of those that are read.
     ghost blank_only: { (v : Self.Value.Meaning) → Self.normal v → is_blank v ≡ true → v ≡ Self.Value.blank_is };

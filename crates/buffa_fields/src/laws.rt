@@ -15,7 +15,7 @@ ghost use Rattle.buffa_wire.specs.Parse.{IsPayload, fields_inside};
 ghost use Rattle.buffa_wire.specs.RecordReading.{RecordTakesMemory};
 ghost use Rattle.buffa_wire.specs.Records.{Datum, height};
 ghost use Rattle.buffa_wire.specs.Records.Datum.{varint, fixed32, fixed64, bytes};
-ghost use Rattle.buffa_bytes.specs.Reading.{check_wire};
+ghost use Rattle.buffa_bytes.specs.Front.{check_wire};
 ghost use Rattle.buffa_wire.specs.Encoding.{wire_of};
 ghost use Rattle.buffa_map.specs.Message.{message_reading};
 ghost use Rattle.buffa_map.specs.Pairs.{means, put};

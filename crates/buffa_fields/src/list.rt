@@ -3,7 +3,7 @@
 ghost use Rattle.std.specs.Prelude.{◌≡◌, IsOk, length, map};
 ghost use Rattle.buffa_bytes.specs.Content.{content_at};
 ghost use Rattle.buffa_bytes.specs.Gives.{FullOnlyIf, Gives, GivesUnlessFull};
-ghost use Rattle.buffa_bytes.specs.Reading.{delimited_at};
+ghost use Rattle.buffa_bytes.specs.Front.{delimited_at};
 ghost use Rattle.buffa_wire.specs.BudgetLeft.{BudgetLeft};
 ghost use Rattle.buffa_bytes.specs.Number.{IsNumber};
 ghost use Rattle.buffa_wire.specs.Passes.{cap};
@@ -73,7 +73,7 @@ fn take_all<C: MapCodec>(
 }
 
 // The length and so many bytes at the front.
-#[tactic(auto, unfolding(buffa_bytes::specs::Reading::taken))]
+#[tactic(auto, unfolding(buffa_bytes::specs::Front::taken))]
 fn take_body<'a>(buf: &mut &'a [u8]) -> Result<&'a [u8], DecodeError>
     ensures { Gives (λ b. (b.now, buf.new.now)) result (delimited_at buf.old.now) }
 {

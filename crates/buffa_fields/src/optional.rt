@@ -2,7 +2,7 @@
 
 ghost use Rattle.std.specs.Prelude.{[], None, refl, ◌==◌};
 ghost use Rattle.std.specs.Option.{option_map};
-ghost use Rattle.buffa_bytes.specs.Reading.{check_wire};
+ghost use Rattle.buffa_bytes.specs.Front.{check_wire};
 ghost use Rattle.buffa_fields.specs.Values.{IfThere, ValueTakesMemory, free, some_taken};
 ghost use Rattle.buffa_fields.specs.ValueLaws.{some_back};
 ghost use Rattle.buffa_fields.specs.MemberRecords.{optional_records};

@@ -1,7 +1,7 @@
 //! Members that aren't written where they are the default.
 
 ghost use Rattle.std.specs.Prelude.{[], ◌∷◌, refl, ◌==◌};
-ghost use Rattle.buffa_bytes.specs.Reading.{check_wire};
+ghost use Rattle.buffa_bytes.specs.Front.{check_wire};
 ghost use Rattle.buffa_fields.specs.Values.{ValueTakesMemory, free, value_taken};
 ghost use Rattle.buffa_fields.specs.ValueLaws.{plain_back};
 ghost use Rattle.buffa_fields.specs.MemberRecords.{plain_records};

@@ -1,5 +1,5 @@
 -- What was written is read back.
-use Rattle.std.proofs.Common.{◌≡◌, inl, inr, ℕ, zero, suc, Option, Some, ◌+◌, ◌*◌, ◌^◌, ◌<◌, Bool, true, false, List, [], ◌∷◌, ◌++◌, length, Ok, refl, sym, ap, subst, ◌∙◌, arith, append_assoc, append-nil, map}
+use Rattle.std.proofs.Common.{◌≡◌, inl, inr, ℕ, zero, suc, Option, Some, ◌+◌, ◌^◌, ◌<◌, Bool, true, false, List, [], ◌∷◌, ◌++◌, length, Ok, refl, sym, ap, subst, ◌∙◌, arith, append_assoc, append-nil, map}
 use Rattle.std.specs.Cmp.{IsEquivalence}
 use Rattle.std.specs.List.{IsDistinct, AllByRecursion}
 use Rattle.std.specs.Map.{keys_of}
@@ -8,10 +8,8 @@ use Rattle.buffa_bytes.specs.Field.{IsTag}
 use Rattle.buffa_bytes.specs.Number.{IsNumber}
 use Rattle.buffa_bytes.specs.Values.{tag_encoding}
 use Rattle.buffa_bytes.specs.Varint.{varint_encoding}
-use Rattle.buffa_bytes.specs.WireType.{wire_number}
-use Rattle.buffa_bytes.specs.declared.wire_type.WireType.{WireType}
 use Rattle.buffa_bytes.specs.declared.wire_type.WireType.TheVariants.{LengthDelimited}
-use Rattle.buffa_bytes.proofs.FieldLemmas.{wire_small}
+use Rattle.buffa_bytes.proofs.FieldLemmas.{is_tag}
 use Rattle.buffa_bytes.proofs.VarintLemmas.{IsVarint-varint_encoding}
 use Rattle.buffa_map_base.specs.Codec.{Reading, Writing, level}
 use Rattle.buffa_wire.specs.BudgetLeft.{BudgetLeft}
@@ -25,9 +23,6 @@ use Rattle.buffa_map_base.specs.Pairs.{put}
 use Rattle.buffa_map_base.specs.Run.{fold_entries, IsRecord, undeclared, Run, EntryRecord, pair_entry}
 use Rattle.buffa_map_base.specs.Encoding.{AllHold, HasEncoding, entry_encoding, field_encoding, record_encoding}
 use Rattle.buffa_map_base.specs.declared.map_entry.MapEntry.{MapEntry}
-
-pub is_tag : (n : ℕ) (w : WireType) → IsNumber n → IsTag (tag_encoding n w) n w
-is_tag n w h = (h, IsVarint-varint_encoding (8 * n + wire_number w) (omega (arith, wire_small w)))
 
 -- the record of a pair
 abbrev pub as_record : {K W : Type 0} → Writing K → Writing W → K × W → EntryRecord K W

@@ -9,11 +9,12 @@ use Rattle.buffa_bytes.specs.declared.error.DecodeError.TheVariants.{OutOfMemory
 use Rattle.buffa_bytes.specs.declared.wire_type.WireType.TheVariants.{LengthDelimited}
 use Rattle.buffa_wire_laws.proofs.PinLemmas.{budget_is_pinned}
 use Rattle.buffa_wire.proofs.SequenceLemmas.{ok_no_err, ok_same}
+use Rattle.buffa_wire.proofs.SpentLemmas.{one_left, same_left}
 use Rattle.buffa_bytes.specs.Left.{past_no_tag}
 use Rattle.buffa_wire.specs.BudgetLeft.{BudgetLeft, Pays, nothing, plus, unknown_fields}
 use Rattle.buffa_bytes.specs.Content.{Content}
 use Rattle.buffa_bytes.specs.Field.{TakesDelimited}
-use Rattle.buffa_bytes.specs.Reading.{delimited_at, tag_at}
+use Rattle.buffa_bytes.specs.Front.{delimited_at, tag_at}
 use Rattle.buffa_map_base.specs.Codec.{Reading, RefusesValue, Spends, value_at, value_need}
 use Rattle.buffa_map_base.specs.Entry.{EntryFault, inner_need, need_at, need_of, blanks}
 use Rattle.buffa_map_base.specs.Merge.{HasRecord, RefusesEntry, Rules, State, StopsRun}
@@ -32,12 +33,8 @@ err_one h k = cc
 
 -- ---- budgets
 
-one_left : (a b : BudgetLeft) → a.unknown ≡ b.unknown → a.memory ≡ b.memory → a ≡ b
-one_left a b u m = ap (λ (z : ℕ). record { unknown = z; memory = a.memory }) u ∙ ap (λ (z : ℕ). record { unknown = b.unknown; memory = z }) m
-
-same_left : (old need more a b : BudgetLeft) → need ≡ more → Pays old need a → Pays old more b → a ≡ b
-same_left old need more a b e (u, m) (v, n) =
-    one_left a b (omega (arith, u, v, ap (λ z. z.unknown) e)) (omega (arith, m, n, ap (λ z. z.memory) e))
+same_need : (old need more a b : BudgetLeft) → need ≡ more → Pays old need a → Pays old more b → a ≡ b
+same_need old need more a b e h k = one_left old more a b (subst (λ z. Pays old z a) e h) k
 
 -- what a refusal may spend, where nothing is needed beside the cost
 abbrev Spent : ℕ → ℕ → ℕ → ℕ → Type 0
@@ -90,7 +87,7 @@ module _ {K V : Type 0} (key : Reading K) (val : Reading V) (d n cost extra : �
   pub one_over : (left a b : BudgetLeft) (es fs : List (EntryRecord K V)) → es ≡ fs → Paid key val d cost extra left es a → Paid key val d cost extra left fs b → a ≡ b
   one_over left a b es fs e h k =
       let paid = subst (λ z. Paid key val d cost extra left z b) (sym e) k in
-      one_left a b (omega (arith, h.1, paid.1)) (omega (arith, h.0, paid.0))
+      same_left a b (omega (arith, h.1, paid.1)) (omega (arith, h.0, paid.0))
 
   -- the record of the first entry of a run
   first_record : (x : EntryRecord K V) (es : List (EntryRecord K V)) (left over : BudgetLeft) (bs a rest : List ℕ) → bs ≡ a ++ rest → Run key val d n a (x ∷ es) → Paid key val d cost extra left (x ∷ es) over →
@@ -107,7 +104,7 @@ module _ {K V : Type 0} (key : Reading K) (val : Reading V) (d n cost extra : �
       (x : DecodeError) × (record_at key val d n cost extra left bs ≡ Err x)
   no_record left over bs a rest f split none paid bad =
       let p = said_faulty key val d n cost extra over key_free val_free rest f bad in
-      let same : over ≡ left = one_left over left (omega (arith, paid.1)) (omega (arith, paid.0)) in
+      let same : over ≡ left = same_left over left (omega (arith, paid.1)) (omega (arith, paid.0)) in
       let whole : bs ≡ rest = split ∙ ap (λ z. z ++ rest) none in
       (p.0, ap (record_at key val d n cost extra left) whole ∙ subst (λ z. record_at key val d n cost extra z rest ≡ Err p.0) same p.1)
 
@@ -159,7 +156,7 @@ module _ {K V : Type 0} (r : Rules K V)
         let none = inner_none r.key r.val r.depth r.number r.cost r.extra key_free val_free plain bs in
         let unit = ap (λ (z : BudgetLeft). z.memory) none in
         let taken = ap (λ (z : BudgetLeft). z.unknown) none in
-        one_left a.left b.left (omega (arith, h.most, k.most, h.no_unknown ne, k.no_unknown nf, taken))
+        same_left a.left b.left (omega (arith, h.most, k.most, h.no_unknown ne, k.no_unknown nf, taken))
         (one_memory old.left.memory r.cost (inner_need r.key r.val r.depth bs).memory a.left.memory b.left.memory unit h.units k.units (h.charged ne p.0 p.1 t) (k.charged nf p.0 p.1 t))
     refused_left (Err z) is = h.unspent (not_ok (delimited_at bs) z is) ∙ sym (k.unspent (not_ok (delimited_at bs) z is))
 
@@ -191,7 +188,7 @@ module _ {K V : Type 0} (r : Rules K V)
           record {
             pairs = λ q. sym (h.put q) ∙ ap (λ z. lookup_entry (r.same q) (step r.same old.pairs z)) s ∙ k.put q;
             records = h.keeps ∙ ap (λ z. old.records ++ cond z.known [] (r.adds r.number h.entry)) s ∙ ap (λ z. old.records ++ cond k.says.known [] (r.adds r.number z)) e ∙ sym k.keeps;
-            left = same_left old.left _ _ a.left b.left need h.pays k.pays;
+            left = same_need old.left _ _ a.left b.left need h.pays k.pays;
             order = λ o. h.order o ∙ ap (λ z. step r.same old.pairs z) s ∙ sym (k.order o);
           },
           same.1,
@@ -259,7 +256,7 @@ module _ {K V : Type 0} (r : Rules K V)
                 let two = ap (λ (z : BudgetLeft). z.unknown) stopped_over in
                 let hc = h.charged ne mid e after tag t in
                 let kc = k.charged nf mid e after (subst (λ z. tag_at z ≡ Ok (r.number, LengthDelimited, mid)) rest tag) t in
-                one_left a.left b.left (omega (arith, h.most, k.most, h.no_unknown ne, k.no_unknown nf, two, ap (λ (z : BudgetLeft). z.unknown) none, ap (λ (z : BudgetLeft). z.unknown) nil))
+                same_left a.left b.left (omega (arith, h.most, k.most, h.no_unknown ne, k.no_unknown nf, two, ap (λ (z : BudgetLeft). z.unknown) none, ap (λ (z : BudgetLeft). z.unknown) nil))
                 (spent_one h.over.memory k.over.memory r.cost (record_need r.key r.val r.depth h.rest).memory (record_need r.key r.val r.depth k.rest).memory a.left.memory b.left.memory one (ap (λ (z : BudgetLeft). z.memory) none) (ap (λ (z : BudgetLeft). z.memory) nil) h.units k.units hc kc)
           ]
 
@@ -306,7 +303,7 @@ plainly codec plain d old bs left f h = subst (λ z. RefusesValue z codec d old 
 
 paid_once : (b : Bool) (left need x y : BudgetLeft) → Spends {T = Unit {0}} b (Ok tt) left need x → Spends {T = Unit {0}} b (Ok tt) left need y → x ≡ y
 paid_once false left need x y h k = h ∙ sym k
-paid_once true left need x y h k = same_left left need need x y refl h k
+paid_once true left need x y h k = same_need left need need x y refl h k
 
 not_refused : {V : Type 0} (codec : Reading V) (d : ℕ) (old : V) (bs : List ℕ) (left over : BudgetLeft) (x : (V × Bool) × List ℕ) (f : DecodeError) (b : Bool) →
     value_at codec d old bs ≡ Ok x → Spends {T = Unit {0}} b (Ok tt) left (value_need codec d bs) over → RefusesValue b codec d old bs left f → ⊥

@@ -27,7 +27,8 @@ use Rattle.buffa_map_base.specs.Run.{fold_entries, undeclared, Run, EntryRecord,
 use Rattle.buffa_map_base.specs.Encoding.{AllHold, field_encoding}
 use Rattle.buffa_map_base.specs.declared.map_entry.MapEntry.{MapEntry}
 use Rattle.buffa_wire.proofs.SequenceLemmas.{ok_same}
-use Rattle.buffa_map.proofs.BackLemmas.{as_record, is_tag, plain_back, run_back}
+use Rattle.buffa_map.proofs.BackLemmas.{as_record, plain_back, run_back}
+use Rattle.buffa_bytes.proofs.FieldLemmas.{is_tag}
 use Rattle.buffa_map.proofs.ClassLemmas.{AreNew, IsLater, IsOrderedKinds, Kind, exact, first_key, ignorant, informed, kept_meaning, last_kind, later, nothing_known, put_all}
 use Rattle.buffa_map.proofs.ClassLemmas.Kind.{Both, Later, Neither}
 use Rattle.buffa_map_base.proofs.PutLemmas.{lookup_entry-none}

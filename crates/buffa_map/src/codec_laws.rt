@@ -55,7 +55,7 @@ pub fn coded_is_this<VC: MapCodec>()
 /// All values are read back, but for an open enum those alone that hold a declared number as the declared value.
 pub fn codecs_are_these<N: Scalar, T: ProtoString, P: ProtoBytes, E: Enumeration, M: Message>()
     ensures scalar { Codes ⟦<N as IsCodec>⟧.coded (number_reading N.Form.WIRE_TYPE N.Value.blank_is N.value_of)
-        (number_writing N.Form.WIRE_TYPE N.Form.payload N.number_of) N.UNITS false N.LEN Every }
+        (number_writing N.Form.WIRE_TYPE N.Form.encoding N.number_of) N.UNITS false N.LEN Every }
     ensures string { Codes ⟦<ProtoStringMap<T> as IsCodec>⟧.coded (string_reading T.blank_is T.of_text)
         (delimited_writing T.text) 24 false None Every }
     ensures bytes { Codes ⟦<ProtoBytesMap<P> as IsCodec>⟧.coded (bytes_reading P.blank_is P.of_bytes)
@@ -104,7 +104,7 @@ pub fn scalars_are_these()
 {}
 
 /// How strings and bytes are read and written, what holds of those that a value may have, and what a value costs.
-pub fn texts_are_these()
+pub fn strings_and_bytes_are_these()
     ensures string { (⟦<Str as MapValueDecode>⟧.reading ≡ string_reading [] (λ b. b))
         × (⟦<Str as MapCodec>⟧.writing ≡ delimited_writing (λ b. b)) }
     ensures bytes { (⟦<BytesVec as MapValueDecode>⟧.reading ≡ bytes_reading [] (λ b. b))

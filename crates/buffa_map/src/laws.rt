@@ -7,7 +7,8 @@ ghost use Rattle.buffa_map.specs.declared.rewrite.RewriteError.{RewriteError};
 ghost use Rattle.buffa_map_base.specs.Pairs.{means};
 
 pub use crate::codec_laws::{
-    codecs_are_these, coded_is_this, scalars_are_these, scalars_cost_so_much, texts_are_these,
+    codecs_are_these, coded_is_this, scalars_are_these, scalars_cost_so_much,
+    strings_and_bytes_are_these,
 };
 // By the public names, so that the laws say what a user's names stand for.
 use crate::map_codec::{Map, MapStorage, MapValueDecodeStatus, RewriteError, StableOrder};

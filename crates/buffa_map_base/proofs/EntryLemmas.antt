@@ -1,13 +1,13 @@
 -- The fields of an entry: what is read of them, and the grammar.
 use Rattle.std.proofs.Common.{◌≡◌, ◌≢◌, ◌⊎◌, inl, inr, ℕ, ◌==◌, ◌<◌, Bool, true, false, List, ◌++◌, length, Result, Ok, Err, refl, sym, ap, subst, ◌∙◌, arith, append_assoc, length-append}
-use Rattle.std.proofs.lemmas.Bool.{eqb-true, eqb-false, ne_eqb}
+use Rattle.std.proofs.lemmas.Bool.{eqb-true, eqb-false, ne_eqb, false_from_ne_true}
+use Rattle.buffa_bytes.proofs.ListLemmas.{cut_twice}
 use Rattle.buffa_bytes.specs.Gives.{◌>>=◌}
 use Rattle.buffa_bytes.specs.Field.{IsTag, TakesTag}
 use Rattle.buffa_bytes.specs.Content.{Content, HasContent, content_at}
-use Rattle.buffa_bytes.specs.Reading.{tag_at, check_wire}
+use Rattle.buffa_bytes.specs.Front.{check_wire}
 use Rattle.buffa_bytes.specs.WireType.{same_wire}
 use Rattle.buffa_bytes.specs.declared.wire_type.WireType.{WireType}
-use Rattle.buffa_bytes.specs.declared.wire_type.WireType.TheVariants.{Varint, Fixed64, LengthDelimited, StartGroup, EndGroup, Fixed32}
 use Rattle.buffa_bytes.specs.declared.error.DecodeError.{DecodeError}
 use Rattle.buffa_bytes.specs.declared.error.DecodeError.TheVariants.{WireTypeMismatch}
 use Rattle.buffa_bytes.proofs.StepLemmas.{Agrees, agree_bind, agree_if, agree_ok, agree_err, agree_weaker}
@@ -20,12 +20,8 @@ use Rattle.buffa_map_base.specs.Entry.{CodecFault, codec_at, blanks, IsEntryFiel
 use Rattle.buffa_map_base.specs.declared.map_entry.MapEntry.{MapEntry}
 use Rattle.buffa_wire.proofs.SequenceLemmas.{Answers, answer, answers_as, along_sound, along_complete, along_faulty, ParsesTo-more}
 
-false_of : (b : Bool) → (b ≡ true → ⊥) → b ≡ false
-false_of true h = absurd (h refl)
-false_of false h = refl
-
 pub same_false : (v w : WireType) → w ≢ v → same_wire v w ≡ false
-same_false v w n = false_of (same_wire v w) (λ h. n (sym (same_true v w h)))
+same_false v w n = false_from_ne_true (same_wire v w) (λ h. n (sym (same_true v w h)))
 
 pub same_differs : (v w : WireType) → same_wire v w ≡ false → w ≢ v
 same_differs v w h e = let k : same_wire v v ≡ false = subst (λ z. same_wire v z ≡ false) e h in let t = same_refl v in cc
@@ -128,9 +124,6 @@ module _ {K V : Type 0} (key : Reading K) (val : Reading V) (d : ℕ) where
   abbrev pub FieldAt : MapEntry K V → List ℕ → MapEntry K V × List ℕ → Type 0
   FieldAt s bs x = (f : List ℕ) × IsEntryField key val d s f x.0 × (bs ≡ f ++ x.1)
 
-  whole : (bs t p : List ℕ) (after rest : List ℕ) → bs ≡ t ++ after → after ≡ p ++ rest → bs ≡ (t ++ p) ++ rest
-  whole bs t p after rest a b = a ∙ ap (λ z. t ++ z) b ∙ sym (append_assoc t p rest)
-
   pub field_sound : (s : MapEntry K V) (bs : List ℕ) → Agrees (entry_field_at key val d s bs) (FieldAt s bs) (EntryFieldFault key val d s bs)
   field_sound s bs = agree_bind (tag_sound bs)
       (λ t u. agree_if (t.0 == 1)
@@ -140,7 +133,7 @@ module _ {K V : Type 0} (key : Reading K) (val : Reading V) (d : ℕ) where
         holds = (
           u.0 ++ m.2,
           inl (x.0.0, x.0.1, (u.0, m.2, m.3, (let tag : IsTag u.0 t.0 t.1 = u.1 in subst (λ f. IsTag u.0 f key.wire) is (subst (λ w. IsTag u.0 t.0 w) m.0 tag)), m.1, m.4, m.5, refl), refl),
-          whole bs u.0 m.2 t.2 x.1 u.2 m.6,
+          cut_twice bs u.0 m.2 t.2 x.1 u.2 m.6,
         );
       })
       (λ e h. inr (inl (t.1, t.2, subst (λ f. TakesTag bs f t.1 t.2) is u, h))))
@@ -151,7 +144,7 @@ module _ {K V : Type 0} (key : Reading K) (val : Reading V) (d : ℕ) where
         holds = (
           u.0 ++ m.2,
           inr (inl (x.0.0, x.0.1, (u.0, m.2, m.3, (let tag : IsTag u.0 t.0 t.1 = u.1 in subst (λ f. IsTag u.0 f val.wire) is (subst (λ w. IsTag u.0 t.0 w) m.0 tag)), m.1, m.4, m.5, refl), refl)),
-          whole bs u.0 m.2 t.2 x.1 u.2 m.6,
+          cut_twice bs u.0 m.2 t.2 x.1 u.2 m.6,
         );
       })
       (λ e h. inr (inr (inl (t.1, t.2, subst (λ f. TakesTag bs f t.1 t.2) is u, h)))))
@@ -160,7 +153,7 @@ module _ {K V : Type 0} (key : Reading K) (val : Reading V) (d : ℕ) where
         holds = (
           u.0 ++ p.0,
           inr (inr (t.0, t.1, eqb-false t.0 1 not_one, eqb-false t.0 2 not_two, (u.0, p.0, u.1, p.1, refl), refl)),
-          whole bs u.0 p.0 t.2 rest u.2 p.2,
+          cut_twice bs u.0 p.0 t.2 rest u.2 p.2,
         );
       })
       (λ e h. inr (inr (inr (t.0, t.1, t.2, eqb-false t.0 1 not_one, eqb-false t.0 2 not_two, u, h)))))))

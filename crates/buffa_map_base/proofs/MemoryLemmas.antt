@@ -1,7 +1,7 @@
 -- Where reading takes memory, and where out of memory is never told.
 use Rattle.std.specs.Prelude.{IsOk}
 use Rattle.std.proofs.Common.{◌≡◌, ◌<◌, ℕ, zero, suc, true, List, Result, Ok, Err, refl, ap, arith}
-use Rattle.buffa_bytes.proofs.FullLemmas.{content_full, payload_full, varint_no_full}
+use Rattle.buffa_bytes.proofs.FullLemmas.{varint_no_full}
 use Rattle.buffa_bytes.proofs.StepLemmas.{agree_err}
 use Rattle.buffa_bytes.specs.Scalars.{uint32_at}
 use Rattle.buffa_bytes.specs.declared.error.DecodeError.{DecodeError}
@@ -10,16 +10,10 @@ use Rattle.buffa_bytes.specs.declared.wire_type.WireType.{WireType}
 use Rattle.buffa_bytes.specs.declared.wire_type.WireType.TheVariants.{LengthDelimited}
 use Rattle.buffa_bytes.specs.Gives.{◌>>=◌}
 use Rattle.buffa_bytes.specs.Content.{content_at}
-use Rattle.buffa_bytes.specs.Reading.{check_wire, delimited_at, skip_at, varint_at}
+use Rattle.buffa_bytes.specs.Front.{check_wire, delimited_at, varint_at}
 use Rattle.buffa_bytes.specs.Values.{int32_at}
 use Rattle.buffa_map_base.specs.Codec.{level}
 use Rattle.buffa_map_base.proofs.EntryLemmas.{check_sound}
-
-pub content_no_full : {P : Type 0} (w : WireType) (bs : List ℕ) (e : DecodeError) → content_at w bs ≡ Err e → e ≡ OutOfMemory → P
-content_no_full w bs e h k = absurd (content_full w bs (rw k at h))
-
-pub skip_no_full : {P : Type 0} (d n : ℕ) (w : WireType) (bs : List ℕ) (e : DecodeError) → skip_at d n w bs ≡ Err e → e ≡ OutOfMemory → P
-skip_no_full d n w bs e h k = absurd (payload_full d n w bs (rw k at h))
 
 pub mismatch_no_full : {P : Type 0} (n : ℕ) (v w : WireType) (e : DecodeError) → check_wire n v w ≡ Err e → e ≡ OutOfMemory → P
 mismatch_no_full n v w e h k =

@@ -5,7 +5,7 @@ use Rattle.buffa_bytes.specs.Content.{Content, bytes_in}
 use Rattle.buffa_bytes.specs.Content.Content.{bytes}
 use Rattle.buffa_wire.proofs.SequenceLemmas.{ok_same}
 use Rattle.buffa_bytes.specs.Field.{TakesDelimited}
-use Rattle.buffa_bytes.specs.Reading.{delimited_at}
+use Rattle.buffa_bytes.specs.Front.{delimited_at}
 use Rattle.buffa_wire.specs.BudgetLeft.{BudgetLeft, Lacks, need_by}
 use Rattle.buffa_wire.specs.Message.{MessageFault, cost_in, cost_of_payload}
 use Rattle.buffa_bytes.specs.declared.error.DecodeError.{DecodeError}

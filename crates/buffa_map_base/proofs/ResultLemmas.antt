@@ -1,14 +1,6 @@
 -- What holds of an answer, weakened.
 use Rattle.std.specs.Prelude.{◌≡◌, Result, Ok, Err, OnOk, OnErr, IfErr, IfOk, IsOk}
 
-pub OnOk-map : {T E : Type 0} {P Q : Type 0} (r : Result T E) → (P → Q) → OnOk r P → OnOk r Q
-OnOk-map (Ok v) f h = f h
-OnOk-map (Err e) f h = h
-
-pub OnErr-map : {T E : Type 0} {P Q : Type 0} (r : Result T E) → (P → Q) → OnErr r P → OnErr r Q
-OnErr-map (Ok v) f h = h
-OnErr-map (Err e) f h = f h
-
 pub IfErr-map : {T E : Type 0} {P Q : E → Type 0} (r : Result T E) → ((e : E) → P e → Q e) → IfErr r P → IfErr r Q
 IfErr-map (Ok v) f h = h
 IfErr-map (Err e) f h = f e h

@@ -1,9 +1,9 @@
 -- Records one after another: what is read of them, and the grammar; and what they mean.
-use Rattle.std.proofs.Common.{◌≡◌, ◌≢◌, ◌⊎◌, inl, inr, ℕ, ◌+◌, ◌-◌, ◌*◌, ◌==◌, nat_lt, ◌<◌, ◌≤◌, Bool, true, false, ◌&&◌, ◌||◌, not, cond, List, [], ◌∷◌, ◌++◌, length, map, Ok, Err, refl, sym, ap, subst, ◌∙◌, arith, append_assoc, append-nil, length-append}
-use Rattle.std.proofs.lemmas.Bool.{cases_lt, eqb-true, eqb-false, eq-eqb, ne_eqb, lt-ltb, le-ltb, ltb-true, ltb-false}
+use Rattle.std.proofs.Common.{◌≡◌, ◌≢◌, ◌⊎◌, inl, inr, ℕ, ◌+◌, ◌-◌, ◌*◌, ◌==◌, nat_lt, ◌<◌, ◌≤◌, Bool, true, false, ◌&&◌, not, cond, List, [], ◌∷◌, ◌++◌, length, map, Ok, Err, refl, sym, ap, subst, ◌∙◌, arith, append_assoc, append-nil, length-append}
+use Rattle.std.proofs.lemmas.Bool.{cases_lt, eqb-true, eqb-false, eq-eqb, ne_eqb, lt-ltb, le-ltb, ltb-true, ltb-false, or_cases, or_parts, or_right}
 use Rattle.std.specs.Cmp.{IsEquivalence}
 use Rattle.buffa_bytes.specs.Field.{IsTag, TakesTag}
-use Rattle.buffa_bytes.specs.Reading.{tag_at, check_wire, delimited_at}
+use Rattle.buffa_bytes.specs.Front.{tag_at, check_wire, delimited_at}
 use Rattle.buffa_bytes.specs.declared.wire_type.WireType.{WireType}
 use Rattle.buffa_bytes.specs.declared.wire_type.WireType.TheVariants.{LengthDelimited}
 use Rattle.buffa_bytes.specs.declared.error.DecodeError.{DecodeError}
@@ -42,28 +42,16 @@ extra_short : (b : Bool) (u n extra : ℕ) → b ≡ false → u < n + extra →
 extra_short b u n extra h k = rw (h, lt-ltb u (n + extra) k) refl
 
 -- ---- whether a need is left
-either_true : (a b : Bool) → (a || b) ≡ true → (a ≡ true) ⊎ (b ≡ true)
-either_true true b h = inl refl
-either_true false b h = inr h
-
-neither : (a b : Bool) → (a || b) ≡ false → (a ≡ false) × (b ≡ false)
-neither true b h = cc
-neither false b h = (refl, h)
-
-or_right : (a : Bool) → (a || true) ≡ true
-or_right true = refl
-or_right false = refl
-
 lacks_true : (left need : BudgetLeft) → lacks left need ≡ true → Lacks left need
-lacks_true left need h = elim (either_true (nat_lt left.unknown need.unknown) (nat_lt left.memory need.memory) h)
+lacks_true left need h = elim (or_cases (nat_lt left.unknown need.unknown) (nat_lt left.memory need.memory) h)
     [ inl a ↦ inl (ltb-true left.unknown need.unknown a) | inr b ↦ inr (ltb-true left.memory need.memory b) ]
 
 lacks_false : (left need : BudgetLeft) → lacks left need ≡ false → (need.unknown ≤ left.unknown) × (need.memory ≤ left.memory)
-lacks_false left need h = let n = neither (nat_lt left.unknown need.unknown) (nat_lt left.memory need.memory) h in (ltb-false left.unknown need.unknown n.0, ltb-false left.memory need.memory n.1)
+lacks_false left need h = let n = or_parts (nat_lt left.unknown need.unknown) (nat_lt left.memory need.memory) h in (ltb-false left.unknown need.unknown n.0, ltb-false left.memory need.memory n.1)
 
 lacks_some : (left need : BudgetLeft) → Lacks left need → lacks left need ≡ true
 lacks_some left need (inl h) = rw (lt-ltb left.unknown need.unknown h) refl
-lacks_some left need (inr h) = rw (lt-ltb left.memory need.memory h) (or_right (nat_lt left.unknown need.unknown))
+lacks_some left need (inr h) = rw (lt-ltb left.memory need.memory h) (or_right (nat_lt left.unknown need.unknown) true refl)
 
 lacks_none : (left need : BudgetLeft) → need.unknown ≤ left.unknown → need.memory ≤ left.memory → lacks left need ≡ false
 lacks_none left need h k = rw (le-ltb left.unknown need.unknown h, le-ltb left.memory need.memory k) refl

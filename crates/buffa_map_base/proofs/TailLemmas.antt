@@ -13,7 +13,7 @@ use Rattle.buffa_bytes.specs.declared.error.DecodeError.TheVariants.{UnexpectedE
 use Rattle.buffa_wire.proofs.InsideLemmas.{delimited_front}
 use Rattle.buffa_bytes.specs.declared.wire_type.WireType.{WireType}
 use Rattle.buffa_bytes.specs.Field.{TakesDelimited}
-use Rattle.buffa_bytes.specs.Reading.{taken, varint_at, delimited_at, tag_at}
+use Rattle.buffa_bytes.specs.Front.{taken, varint_at, delimited_at, tag_at}
 
 tail_behind : (front rest all : List ℕ) → all ≡ front ++ rest → IsTailOf rest all
 tail_behind front rest all e = tail_dropped (length front) all rest (sym (ap (drop (length front)) e ∙ drop-append_seam front rest))
@@ -22,10 +22,6 @@ pub tag_tail : (bs rest : List ℕ) (n : ℕ) (w : WireType) → tag_at bs ≡ O
 tag_tail bs rest n w h =
     let t = agree_ok (tag_at bs) (n, w, rest) (tag_sound bs) h in
     tail_behind t.0 rest bs t.2
-
--- what a length and so many bytes are, where the length was read
-pub delimited_after : (n : ℕ) (bs mid : List ℕ) → varint_at bs ≡ Ok (n, mid) → delimited_at bs ≡ taken n mid
-delimited_after n bs mid v = rw v refl
 
 pub delimited_short : (bs : List ℕ) (f : DecodeError) → varint_at bs ≡ Err f → delimited_at bs ≡ Err f
 delimited_short bs f v = rw v refl

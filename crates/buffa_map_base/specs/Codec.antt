@@ -29,7 +29,7 @@ pub record Reading (V : Type 0) : Type 0 where
 abbrev pub AlwaysDeclared : {V : Type 0} → Reading V → Type 0
 AlwaysDeclared {V} codec = (d : ℕ) (old : V) (c : Content) (new : V) (known : Bool) → codec.reads d old c ≡ Ok (new, known) → known ≡ true
 
--- how a codec writes: the wire type, and the payload of a value
+-- how a codec writes: the wire type, and the encoding of a value
 pub record Writing (V : Type 0) : Type 0 where
   pub wire : WireType
   pub encoding : V → List ℕ
@@ -92,7 +92,7 @@ abbrev pub is_known : MapValueDecodeStatus → Bool
 is_known Known = true
 is_known Unknown = false
 
--- What a codec is: how it reads and writes, what a value costs, whether one may be undeclared, the length of its payloads,
+-- What a codec is: how it reads and writes, what a value costs, whether one may be undeclared, the length of its encodings,
 -- if they have one, and which values are read back.
 pub record Coded (V : Type 0) : Type 1 where
   pub reading : Reading V

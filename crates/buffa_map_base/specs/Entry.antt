@@ -5,7 +5,7 @@ use Rattle.buffa_bytes.specs.Gives.{◌>>=◌}
 use Rattle.buffa_bytes.specs.Varint.{IsVarint}
 use Rattle.buffa_bytes.specs.Field.{IsTag, Field, TakesTag, TagFault, LengthFault, PayloadFault}
 use Rattle.buffa_bytes.specs.Content.{Content, HasContent}
-use Rattle.buffa_bytes.specs.Reading.{tag_at, check_wire, skip_at, delimited_at}
+use Rattle.buffa_bytes.specs.Front.{tag_at, check_wire, skip_at, delimited_at}
 use Rattle.buffa_bytes.specs.Scan.{scan}
 use Rattle.buffa_bytes.specs.WireType.{same_wire}
 use Rattle.buffa_bytes.specs.declared.wire_type.WireType.{WireType}

@@ -7,7 +7,7 @@ use Rattle.buffa_bytes.specs.Unread.{IsTailOf}
 use Rattle.buffa_bytes.specs.declared.wire_type.WireType.{WireType}
 use Rattle.buffa_bytes.specs.Field.{TakesDelimited}
 use Rattle.buffa_wire.specs.BudgetLeft.{BudgetLeft, Pays, plus, unknown_fields}
-use Rattle.buffa_bytes.specs.Reading.{delimited_at, tag_at}
+use Rattle.buffa_bytes.specs.Front.{delimited_at, tag_at}
 use Rattle.buffa_wire.specs.Records.{Datum, bytes}
 use Rattle.buffa_bytes.specs.declared.wire_type.WireType.TheVariants.{LengthDelimited}
 use Rattle.buffa_map_base.specs.Codec.{Reading}

@@ -9,7 +9,7 @@ use Rattle.buffa_bytes.specs.Content.{number_in, bytes_in}
 use Rattle.buffa_wire.specs.BudgetLeft.{nothing}
 use Rattle.buffa_bytes.specs.Values.{delimited_encoding}
 use Rattle.buffa_bytes.specs.Varint.{varint_encoding}
-use Rattle.buffa_bytes.specs.Texts.{text_as}
+use Rattle.buffa_bytes.specs.Delimited.{text_as}
 use Rattle.buffa_bytes.specs.declared.wire_type.WireType.{WireType}
 use Rattle.buffa_bytes.specs.declared.wire_type.WireType.TheVariants.{Varint, Fixed64, LengthDelimited, Fixed32}
 use Rattle.buffa_map_base.specs.Codec.{Reading, Writing}

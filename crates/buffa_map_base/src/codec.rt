@@ -130,7 +130,7 @@ pub trait MapValueDecode: sealed::Sealed {
 /// C::encode(value, sink)?; // 07 for 7, where C is Int32
 /// ```
 pub trait MapCodec: MapValueDecode {
-    /// The length of every payload in bytes, where they have one length.
+    /// The length of every encoding in bytes, where they have one length.
     const FIXED_LEN: Option<u64>;
 
     ghost FIXED_LEN: { Option ℕ };
@@ -141,10 +141,10 @@ pub trait MapCodec: MapValueDecode {
     /// What the type holds: each value means something of this.
     ghost fits: { Self.Value.Meaning → Type 0 };
 
-    /// The values whose payload reads back to them; all, but for an open enum.
+    /// The values whose encoding reads back to them; all, but for an open enum.
     ghost normal: { Self.Value.Meaning → Type 0 };
 
-    /// The length of the payload in bytes, a length varint of its own included and the tag not. It takes no
+    /// The length of the encoding in bytes, a length varint of its own included and the tag not. It takes no
     /// memory.
     ///
     /// ```ignore
@@ -154,10 +154,10 @@ pub trait MapCodec: MapValueDecode {
         ensures len { result ≡ length (writing.encoding (Self.Value.meaning value.now)) }
         ensures fits { fits (Self.Value.meaning value.now) };
 
-    /// Writes the payload.
+    /// Writes the encoding.
     ///
     /// # Errors
-    /// [`EncodeError::OutOfMemory`] alone, where the payload doesn't fit for sure; after a beginning of it.
+    /// [`EncodeError::OutOfMemory`] alone, where the encoding doesn't fit for sure; after a beginning of it.
     ///
     /// ```ignore
     /// C::encode(value, sink)?;
@@ -174,7 +174,7 @@ pub trait MapCodec: MapValueDecode {
     /// Payloads are written with the wire type that they are read with.
     ghost written_wire: { writing.wire ≡ Self.WIRE_TYPE };
 
-    /// A payload reads back to its value, whatever stood before, and as a declared one.
+    /// An encoding reads back to its value, whatever stood before, and as a declared one.
     ghost reads_back: { (d : ℕ) (old v : Self.Value.Meaning) → fits v → normal v →
         (c : Content) × HasContent writing.wire (writing.encoding v) c × (Self.reading.reads d old c ≡ Ok (v, true)) };
 
@@ -185,6 +185,6 @@ pub trait MapCodec: MapValueDecode {
     ghost stays_normal: { (d : ℕ) (old : Self.Value.Meaning) (c : Content) (new : Self.Value.Meaning)
         (known : Bool) → normal old → Self.reading.reads d old c ≡ Ok (new, known) → normal new };
 
-    /// The fixed length is that of every payload.
+    /// The fixed length is that of every encoding.
     ghost fixed: { (n : ℕ) → FIXED_LEN ≡ Some n → (v : Self.Value.Meaning) → length (writing.encoding v) ≡ n };
 }

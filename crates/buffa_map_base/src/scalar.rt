@@ -60,7 +60,7 @@ impl<N: Scalar> MapCodec for N {
 
     ghost FIXED_LEN = { N.LEN };
 
-    ghost writing = { number_writing N.Form.WIRE_TYPE N.Form.payload N.number_of };
+    ghost writing = { number_writing N.Form.WIRE_TYPE N.Form.encoding N.number_of };
 
     ghost fits = { N.fits };
 

@@ -1,12 +1,14 @@
 -- A field of an entry that was merged, or refused, at each place where reading it ends; and the fields of an entry.
-use Rattle.std.proofs.Common.{arith, ◌≡◌, ◌≢◌, ◌+◌, ◌<◌, ◌≤◌, inl, inr, ℕ, Bool, false, List, [], ◌∷◌, Ok, Err, length, ap, refl, subst, sym, ◌∙◌}
-use Rattle.buffa_bytes.proofs.FullLemmas.{tag_no_full}
+use Rattle.std.proofs.Common.{arith, ◌≡◌, ◌≢◌, ◌+◌, ◌<◌, ◌≤◌, inl, inr, ℕ, Bool, false, List, [], Ok, Err, length, ap, refl, subst, sym, ◌∙◌}
+use Rattle.std.proofs.lemmas.List.{nil_from_length}
+use Rattle.buffa_wire.proofs.SequenceLemmas.{not_nil}
+use Rattle.buffa_bytes.proofs.FullLemmas.{skip_no_full, tag_no_full}
 use Rattle.buffa_bytes.specs.declared.error.DecodeError.{DecodeError}
 use Rattle.buffa_bytes.specs.declared.error.DecodeError.TheVariants.{OutOfMemory}
 use Rattle.buffa_bytes.specs.declared.wire_type.WireType.{WireType}
 use Rattle.buffa_bytes.specs.Content.{Content}
 use Rattle.buffa_wire.specs.BudgetLeft.{BudgetLeft, Pays, PaysAtMost, nothing}
-use Rattle.buffa_bytes.specs.Reading.{check_wire, skip_at, tag_at}
+use Rattle.buffa_bytes.specs.Front.{check_wire, skip_at, tag_at}
 use Rattle.buffa_wire.specs.Sequence.{ParsesTo}
 use Rattle.buffa_map_base.specs.Codec.{Reading, RefusesValue, Spends, ReadingTakesMemory, is_known, value_at, value_need}
 use Rattle.buffa_map_base.specs.Entry.{EntryFieldFault, IsEntryField, blanks, need_at}
@@ -15,7 +17,7 @@ use Rattle.buffa_map_base.specs.declared.codec.MapValueDecodeStatus.{MapValueDec
 use Rattle.buffa_map_base.specs.declared.codec.MapValueDecodeStatus.TheVariants.{Known, Unknown}
 use Rattle.buffa_map_base.specs.declared.map_entry.MapEntry.{MapEntry}
 use Rattle.buffa_map_base.proofs.EntryLemmas.{field_shorter, field_step, refused_in, spent_in, value_free}
-use Rattle.buffa_map_base.proofs.MemoryLemmas.{mismatch_no_full, skip_no_full}
+use Rattle.buffa_map_base.proofs.MemoryLemmas.{mismatch_no_full}
 use Rattle.buffa_map_base.proofs.NeedLemmas.{checked, field_broken, fields_fault, fields_spent, key_mismatch, key_refused, need-key, need-value, need_end, need_step, other_broken, value_merged, value_mismatch, value_refused}
 
 module _ {K V : Type 0} (key : Reading K) (val : Reading V) (d : ℕ) (s : MapEntry K V) (left : BudgetLeft) (bs : List ℕ) where
@@ -73,13 +75,6 @@ module _ {K V : Type 0} (key : Reading K) (val : Reading V) (d : ℕ) (s : MapEn
     bad_other f not_one not_two h = refused f (skip_no_full d n w rest f h) (λ ne. other_broken key val d s bs rest n w f tag not_one not_two h)
 
 -- ---- all fields
-some_left : {bs : List ℕ} → 0 < length bs → bs ≢ []
-some_left h e = absurd (omega (arith, ap length e))
-
-none : {bs : List ℕ} → length bs ≡ 0 → bs ≡ []
-none {bs = []} h = refl
-none {bs = b ∷ bs} h = absurd (omega (arith, h))
-
 module _ {K V : Type 0} (key : Reading K) (val : Reading V) (d : ℕ) (bytes : List ℕ) (left : BudgetLeft) where
   abbrev start : MapEntry K V
   start = blanks key val d
@@ -106,7 +101,7 @@ module _ {K V : Type 0} (key : Reading K) (val : Reading V) (d : ℕ) (bytes : L
     all_fields empty =
         let e = need_end key val d s rest empty in
         record {
-          entry = subst (λ z. ParsesTo (IsEntryField key val d) start bytes s z) (none empty) h.reached;
+          entry = subst (λ z. ParsesTo (IsEntryField key val d) start bytes s z) (nil_from_length rest empty) h.reached;
           pays = (omega (arith, h.unknown, ap (λ (z : BudgetLeft). z.unknown) e), omega (arith, h.memory, ap (λ (z : BudgetLeft). z.memory) e));
         }
 
@@ -126,7 +121,7 @@ module _ {K V : Type 0} (key : Reading K) (val : Reading V) (d : ℕ) (bytes : L
 
     pub bad_field : (over : BudgetLeft) (f : DecodeError) → 0 < length rest → RefusesEntryField key val d s now rest over f → RefusesFields key val d bytes left over f
     bad_field over f some k = record {
-      full = λ out. (s, rest, h.reached, some_left some, k.full out);
+      full = λ out. (s, rest, h.reached, not_nil rest some, k.full out);
       fault = λ ne. fields_fault key val d bytes s rest left now some h.unknown h.memory f h.reached (k.fault ne);
       pays = fields_spent key val d bytes s rest left now some h.unknown h.memory over h.no_unknown h.no_unit k.pays;
     }

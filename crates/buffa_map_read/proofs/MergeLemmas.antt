@@ -6,7 +6,7 @@ use Rattle.buffa_bytes.specs.declared.error.DecodeError.TheVariants.{ElementMemo
 use Rattle.buffa_bytes.specs.Left.{past_no_delimited}
 use Rattle.buffa_wire.proofs.SequenceLemmas.{ok_no_err}
 use Rattle.buffa_wire.specs.BudgetLeft.{BudgetLeft, Lacks, need_by}
-use Rattle.buffa_bytes.specs.Reading.{delimited_at, taken, varint_at}
+use Rattle.buffa_bytes.specs.Front.{delimited_at, taken, varint_at}
 use Rattle.buffa_bytes.proofs.DelimitedLemmas.{taken_sound}
 use Rattle.buffa_bytes.proofs.StepLemmas.{agree_ok}
 use Rattle.buffa_wire.specs.Records.{Datum}

@@ -1,6 +1,7 @@
 -- A run, record by record: what was read so far, and how reading it ends.
 use Rattle.std.proofs.Common.{arith, ◌≡◌, ◌≢◌, ◌<◌, ◌++◌, ◌⊎◌, inl, inr, ℕ, List, [], ◌∷◌, Ok, Err, ap, append-nil, append_assoc, length, refl, subst, sym, ◌∙◌}
 use Rattle.std.specs.Cmp.{IsEquivalence}
+use Rattle.std.proofs.lemmas.List.{nil_from_length}
 use Rattle.buffa_bytes.proofs.FieldLemmas.{tag_falls}
 use Rattle.buffa_bytes.proofs.FullLemmas.{tag_no_full}
 use Rattle.buffa_bytes.proofs.StepLemmas.{agree_err, agree_ok}
@@ -9,9 +10,9 @@ use Rattle.buffa_bytes.specs.declared.error.DecodeError.TheVariants.{OutOfMemory
 use Rattle.buffa_bytes.specs.declared.wire_type.WireType.{WireType}
 use Rattle.buffa_bytes.specs.declared.wire_type.WireType.TheVariants.{LengthDelimited}
 use Rattle.buffa_bytes.specs.Left.{past_no_tag, past_no_delimited}
-use Rattle.buffa_wire.proofs.SequenceLemmas.{ok_no_err}
+use Rattle.buffa_wire.proofs.SequenceLemmas.{not_nil, ok_no_err}
 use Rattle.buffa_wire.specs.BudgetLeft.{BudgetLeft}
-use Rattle.buffa_bytes.specs.Reading.{check_wire, delimited_at, tag_at}
+use Rattle.buffa_bytes.specs.Front.{check_wire, delimited_at, tag_at}
 use Rattle.buffa_map_base.specs.Merge.{MergesEntry, ReadsRun, RefusesEntry, Rules, State, StopsRun}
 use Rattle.buffa_map_base.specs.Pairs.{InOrder, SamePairs}
 use Rattle.buffa_map_base.specs.Run.{fold_entries, Paid, RecordFault, Run, EntryRecord, added}
@@ -22,13 +23,6 @@ use Rattle.buffa_bytes.specs.Field.{TakesDelimited}
 use Rattle.buffa_map_base.proofs.MemoryLemmas.{mismatch_no_full}
 use Rattle.buffa_map_base.proofs.TailLemmas.{no_tag, one_after, one_number, one_wire, tag_tail}
 use Rattle.buffa_map_base.proofs.RunLemmas.{fold_entries-more, fold_entries-order, Paid-more, Run-last, added-more, entry_falls, record_entry, record_found, record_mismatch, record_needs, record_other, record_tag}
-
-some : {bs : List ℕ} → 0 < length bs → bs ≢ []
-some h e = absurd (omega (arith, ap length e))
-
-none : {bs : List ℕ} → length bs ≡ 0 → bs ≡ []
-none {bs = []} h = refl
-none {bs = b ∷ bs} h = absurd (omega (arith, h))
 
 module _ {K V : Type 0} (r : Rules K V) (old : State K V) (bs : List ℕ) where
   -- the records of some entries begin the bytes, and were read; rest follows them
@@ -48,7 +42,7 @@ module _ {K V : Type 0} (r : Rules K V) (old : State K V) (bs : List ℕ) where
   module _ (now : State K V) (rest : List ℕ) (h : Reached now rest) where
     pub all_reached : length rest ≡ 0 → ReadsRun r old bs now rest
     all_reached empty =
-        let is : rest ≡ [] = none empty in
+        let is : rest ≡ [] = nil_from_length rest empty in
         record {
           entries = h.entries;
           run = subst (λ z. Run r.key r.val r.depth r.number z h.entries) (sym (h.split ∙ ap (λ z. h.front ++ z) is ∙ append-nil h.front)) h.run;
@@ -75,7 +69,7 @@ module _ {K V : Type 0} (r : Rules K V) (old : State K V) (bs : List ℕ) where
       folded = h.folded;
       order = h.order;
       keeps = h.keeps;
-      some = some more;
+      some = not_nil rest more;
       units = inl refl;
       most = omega arith;
       one_unknown = omega arith;
@@ -120,7 +114,7 @@ module _ {K V : Type 0} (r : Rules K V) (old : State K V) (bs : List ℕ) where
               folded = rw k.pairs h.folded;
               order = rw k.pairs h.order;
               keeps = rw k.records h.keeps;
-              some = some more;
+              some = not_nil rest more;
               units = elim k.units [ inl e ↦ inl e | inr e ↦ inr (e.0, omega (arith, e.1, units)) ];
               most = k.most;
               one_unknown = omega (arith, k.least, taken);

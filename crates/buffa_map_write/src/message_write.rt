@@ -95,36 +95,30 @@ pub fn write_message_field_by<
     C: StableWalk<'a> + MapStorage<Key = KC::Value, Value = M>,
     S: EncodeSink,
     F: Fn(&M, &mut SizeCache, &mut S) -> Result<(), EncodeError>,
->(
-    map: &'a C,
-    field_number: u32,
-    cache: &mut SizeCache,
-    sink: &mut S,
-    write: F,
-) -> Result<(), EncodeError>
+>(map: &'a C, number: u32, cache: &mut SizeCache, sink: &mut S, write: F) -> Result<(), EncodeError>
 where
     KC::Value: 'a,
-    requires number { IsNumber field_number }
+    requires number { IsNumber number }
     requires next { IsNext (field_slots M.encoding M.slots (C.walk map.now)) cache.old }
     requires may { (x : _) (c : _) (s : _) → Contains (values_of (C.walk map.now)) (M.meaning x.now) →
         IsNext (M.slots (M.meaning x.now)) c.now → F.pre write x c s }
     requires keeps { WritesMessages (F.post write) (λ x. Contains (values_of (C.walk map.now)) (M.meaning x))
         M.meaning M.encoding M.slots S.written }
-    ensures written { IsFieldWritten KC.writing M.encoding M.slots field_number (C.walk map.now) cache.old
+    ensures written { IsFieldWritten KC.writing M.encoding M.slots number (C.walk map.now) cache.old
         (S.written sink.old) result cache.new (S.written sink.new) }
     ensures some { OnErr result (C.walk map.now ≢ []) }
     ensures room { KeepsMessageRoom (F.post write) (λ v. M.encoding (M.meaning v)) S.room → UsesFieldRoom KC.writing M.encoding
-        field_number (C.walk map.now) result (S.room sink.old) (S.room sink.new) }
+        number (C.walk map.now) result (S.room sink.old) (S.room sink.new) }
 {
     for (key, value) in map.storage_iter() {
-        write_message_record_by::<KC, M, S, F>(field_number, key, value, cache, sink, &write)?;
+        write_message_record_by::<KC, M, S, F>(number, key, value, cache, sink, &write)?;
     }
     Ok(())
 }
 
 /// Writes a map field of messages, whose lengths the cache has.
 ///
-/// `field_number` is 1 to [`MAX_FIELD_NUMBER`](buffa_wire::MAX_FIELD_NUMBER). The next slots of the cache
+/// `number` is 1 to [`MAX_FIELD_NUMBER`](buffa_wire::MAX_FIELD_NUMBER). The next slots of the cache
 /// are those that [`message_field_len`](crate::message_size::message_field_len) put there, and they are
 /// consumed. What is written is the field's encoding where no message is longer than 2^31 - 1 bytes.
 ///
@@ -140,18 +134,18 @@ pub fn write_message_field<
     M: Message + 'a,
     C: StableWalk<'a> + MapStorage<Key = KC::Value, Value = M>,
     S: EncodeSink,
->(map: &'a C, field_number: u32, cache: &mut SizeCache, sink: &mut S) -> Result<(), EncodeError>
+>(map: &'a C, number: u32, cache: &mut SizeCache, sink: &mut S) -> Result<(), EncodeError>
 where
     KC::Value: 'a,
-    requires number { IsNumber field_number }
+    requires number { IsNumber number }
     requires next { IsNext (field_slots M.encoding M.slots (C.walk map.now)) cache.old }
-    ensures written { IsFieldWritten KC.writing M.encoding M.slots field_number (C.walk map.now) cache.old
+    ensures written { IsFieldWritten KC.writing M.encoding M.slots number (C.walk map.now) cache.old
         (S.written sink.old) result cache.new (S.written sink.new) }
     ensures some { OnErr result (C.walk map.now ≢ []) }
 {
     write_message_field_by::<KC, M, C, S, _>(
         map,
-        field_number,
+        number,
         cache,
         sink,
         |value: &M, cache: &mut SizeCache, sink: &mut S| value.write_to(cache, sink),

@@ -9,7 +9,7 @@ use buffa_map_base::codec::MapCodec;
 use buffa_map_base::storage::{MapStorage, MapWalk};
 use buffa_wire::prefix_len;
 
-// The length of an entry, two tags of one byte each and the payloads, if it fits 64 bits.
+// The length of an entry, two tags of one byte each and two encodings, if it fits 64 bits.
 pub(crate) fn entry_len<KC: MapCodec, VC: MapCodec>(
     key: &KC::Value,
     value: &VC::Value,
@@ -18,11 +18,11 @@ pub(crate) fn entry_len<KC: MapCodec, VC: MapCodec>(
         (KC.Value.meaning key.now, VC.Value.meaning value.now))) }
     ensures fits { KC.fits (KC.Value.meaning key.now) × VC.fits (VC.Value.meaning value.now) }
 {
-    let payloads = KC::encoded_len(key).checked_add(VC::encoded_len(value))?;
-    payloads.checked_add(2)
+    let encodings = KC::encoded_len(key).checked_add(VC::encoded_len(value))?;
+    encodings.checked_add(2)
 }
 
-// The length of a record whose payloads have so many bytes, if it fits 64 bits.
+// The length of a record whose key and value have encodings of so many bytes, if it fits 64 bits.
 fn framed_len(outer_tag_len: u64, key_len: u64, value_len: u64) -> Option<u64>
     ensures { let n = 2 + (key_len + value_len) in
         result ≡ as_u64 (outer_tag_len + (length (varint_encoding n) + n)) }
@@ -32,7 +32,7 @@ fn framed_len(outer_tag_len: u64, key_len: u64, value_len: u64) -> Option<u64>
     head.checked_add(entry_len)
 }
 
-// The same, or 2^64 - 1. It stands by itself, since no payload in memory is so long.
+// The same, or 2^64 - 1. It stands by itself, since no encoding in memory is so long.
 #[inline(never)]
 fn large_record_len(outer_tag_len: u64, key_len: u64, value_len: u64) -> u64
     ensures { let n = 2 + (key_len + value_len) in

@@ -13,7 +13,7 @@ use buffa_wire::{EncodeError, varint_len};
 /// Sizes a map field, and writes it behind what the vector has: the size is the number of bytes written, for
 /// any storage, also one whose walks differ.
 ///
-/// `field_number` is 1 to [`MAX_FIELD_NUMBER`](buffa_wire::MAX_FIELD_NUMBER).
+/// `number` is 1 to [`MAX_FIELD_NUMBER`](buffa_wire::MAX_FIELD_NUMBER).
 ///
 /// # Errors
 /// Those of [`write_field`].
@@ -26,18 +26,18 @@ pub fn size_and_write_field<
     KC: MapCodec,
     VC: MapCodec,
     C: MapWalk<'a> + MapStorage<Key = KC::Value, Value = VC::Value>,
->(map: &'a C, field_number: u32, sink: &mut Vec<u8>) -> Result<u64, EncodeError>
+>(map: &'a C, number: u32, sink: &mut Vec<u8>) -> Result<u64, EncodeError>
 where
     KC::Value: 'a,
     VC::Value: 'a,
-    requires { IsNumber field_number }
+    requires { IsNumber number }
     ensures size { IfOk result (λ size. length sink.new.items ≡ length sink.old.items + size) }
-    ensures encoding { WritesMapField C.equal C.walks C.pairs map.now KC.writing VC.writing KC.fits VC.fits field_number
+    ensures encoding { WritesMapField C.equal C.walks C.pairs map.now KC.writing VC.writing KC.fits VC.fits number
         (λ t. t.items) (λ t. vec_capacity t - vec_len t) sink.old sink.new result }
 {
-    let tag_len = varint_len(u64::from(field_number) * 8 + 2) as u64;
+    let tag_len = varint_len(u64::from(number) * 8 + 2) as u64;
     let size = field_len::<KC, VC, C>(map, tag_len);
-    write_field::<KC, VC, C, Vec<u8>>(map, field_number, sink)?;
+    write_field::<KC, VC, C, Vec<u8>>(map, number, sink)?;
     // A vector has fewer than 2^64 bytes, so that the size isn't capped.
     let _held = sink.len();
     Ok(size)

@@ -95,7 +95,7 @@ pub(crate) fn write_record<KC: MapCodec, VC: MapCodec, S: EncodeSink>(
 
 /// Writes a map field: a record for each pair, in the order of a walk; blanks are written too.
 ///
-/// `field_number` is 1 to [`MAX_FIELD_NUMBER`](buffa_wire::MAX_FIELD_NUMBER).
+/// `number` is 1 to [`MAX_FIELD_NUMBER`](buffa_wire::MAX_FIELD_NUMBER).
 ///
 /// # Errors
 /// [`EncodeError::MessageTooLarge`] at the first entry of 2^64 bytes or more, after the records of the
@@ -113,16 +113,16 @@ pub fn write_field<
     VC: MapCodec,
     C: MapWalk<'a> + MapStorage<Key = KC::Value, Value = VC::Value>,
     S: EncodeSink,
->(map: &'a C, field_number: u32, sink: &mut S) -> Result<(), EncodeError>
+>(map: &'a C, number: u32, sink: &mut S) -> Result<(), EncodeError>
 where
     KC::Value: 'a,
     VC::Value: 'a,
-    requires { IsNumber field_number }
-    ensures { WritesMapField C.equal C.walks C.pairs map.now KC.writing VC.writing KC.fits VC.fits field_number
+    requires { IsNumber number }
+    ensures { WritesMapField C.equal C.walks C.pairs map.now KC.writing VC.writing KC.fits VC.fits number
         S.written S.room sink.old sink.new result }
 {
     for (key, value) in map.storage_iter() {
-        write_record::<KC, VC, S>(field_number, key, value, sink)?;
+        write_record::<KC, VC, S>(number, key, value, sink)?;
     }
     Ok(())
 }

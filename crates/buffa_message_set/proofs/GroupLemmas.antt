@@ -1,6 +1,6 @@
 -- An Item is a group of number 1, one level deeper; and whether such a group is an Item doesn't depend on what follows it.
 use Rattle.std.proofs.Common.{◌≡◌, ◌⊎◌, inl, inr, ℕ, suc, ◌==◌, ◌&&◌, nat_lt, ◌^◌, Bool, true, false, List, [], ◌∷◌, ◌++◌, Option, None, Some, refl, sym, ap, subst, ◌∙◌, append_assoc}
-use Rattle.std.proofs.lemmas.Bool.{ltb-true}
+use Rattle.std.proofs.lemmas.Bool.{and_parts, ltb-true}
 use Rattle.buffa_bytes.specs.Field.{Group, IsTag, Payload, SomeField}
 use Rattle.buffa_bytes.specs.Join.{Join}
 use Rattle.buffa_bytes.specs.Join.Join.{none, more}
@@ -10,12 +10,12 @@ use Rattle.buffa_bytes.specs.declared.wire_type.WireType.TheVariants.{Varint, Le
 use Rattle.buffa_bytes.specs.declared.error.DecodeError.{DecodeError}
 use Rattle.buffa_bytes.specs.declared.error.DecodeError.TheVariants.{InvalidMessageSet}
 use Rattle.buffa_bytes.specs.declared.error.MessageSetFault.TheVariants.{MissingTypeId, TypeIdOutOfRange}
-use Rattle.buffa_wire.proofs.MessageLemmas.{NoLimit, length_no_limit, payload_no_limit, tag_no_limit, var_no_limit}
+use Rattle.buffa_wire.proofs.MessageLemmas.{NoLimit, as_no_limit, length_no_limit, payload_no_limit, tag_no_limit, var_no_limit}
 use Rattle.buffa_wire.proofs.SequenceLemmas.{ParsesTo-first}
 use Rattle.buffa_wire.specs.Sequence.{ParsesEach, join}
 use Rattle.buffa_bytes.specs.WireType.{same_wire}
 use Rattle.buffa_message_set.specs.Item.{ItemFieldFault, IsItemField, IsReadAlike, IsTypeId, Item, ItemFault, Said, said, says, unsaid}
-use Rattle.buffa_message_set.proofs.ItemLemmas.{StopsFrom, TakesFrom, and_true, both_false, both_true, field_no_end, out_of, read_complete, read_faulty, tag_of, takes_item}
+use Rattle.buffa_message_set.proofs.ItemLemmas.{StopsFrom, TakesFrom, both_false, both_true, field_no_end, out_of, read_complete, read_faulty, tag_of, takes_item}
 
 -- ---- an Item is a group
 field_is : (d : ℕ) (s t : Said) (f : List ℕ) → IsItemField d s f t → SomeField d f
@@ -23,17 +23,17 @@ field_is d s t f (inl (tag, p, id, is_tag, v, range, e, st)) = (2, Varint, (tag,
 field_is d s t f (inr (inl (tag, l, b, is_tag, v, e, st))) = (3, LengthDelimited, (tag, l ++ b, is_tag, (l, b, v, refl), e))
 field_is d s t f (inr (inr (n, w, other, h, st))) = (n, w, h)
 
-joined : (d : ℕ) (ps : List (List ℕ)) (s t : Said) → ParsesEach (IsItemField d) s ps t → Join (SomeField d) (join ps)
-joined d [] s t h = none
-joined d (p ∷ ps) s t (u, h, w) = more p (join ps) (field_is d s u p h) (joined d ps u t w)
+item_fields : (d : ℕ) (ps : List (List ℕ)) (s t : Said) → ParsesEach (IsItemField d) s ps t → Join (SomeField d) (join ps)
+item_fields d [] s t h = none
+item_fields d (p ∷ ps) s t (u, h, w) = more p (join ps) (field_is d s u p h) (item_fields d ps u t w)
 
 pub item_group : (d : ℕ) (b msg : List ℕ) (id : ℕ) → Item d b id msg → Group (suc d) 1 b
 unfolding Group
-item_group d b msg id (end, is, (ps, e, w)) = (join ps, end, joined d ps unsaid (says id msg) w, is, e)
+item_group d b msg id (end, is, (ps, e, w)) = (join ps, end, item_fields d ps unsaid (says id msg) w, is, e)
 
 -- ---- a group is an Item, or isn't, whatever follows it
 in_range : (k : ℕ) → (nat_lt 0 k && nat_lt k (2 ^ 31)) ≡ true → IsTypeId k
-in_range k e = let h = and_true (nat_lt 0 k) (nat_lt k (2 ^ 31)) e in (ltb-true 0 k h.0, ltb-true k (2 ^ 31) h.1)
+in_range k e = let h = and_parts (nat_lt 0 k) (nat_lt k (2 ^ 31)) e in (ltb-true 0 k h.0, ltb-true k (2 ^ 31) h.1)
 
 module _ (d : ℕ) where
   -- from s, b is an Item up to its end; or it is none, for one fault
@@ -96,9 +96,6 @@ module _ (d : ℕ) where
   group_alike p (body, t, j, tag, is) = answered p (subst (λ z. Alike unsaid z) (sym is) (fields_alike body t j tag unsaid))
 
 -- ---- no fault of an Item is a limit's
-as_no_limit : (e f : DecodeError) → e ≡ f → NoLimit f → NoLimit e
-as_no_limit e f h k = subst (λ z. NoLimit z) (sym h) k
-
 pub item_no_limit : (d : ℕ) (bs : List ℕ) (e : DecodeError) → ItemFault d bs e → NoLimit e
 item_no_limit d bs e (s, rest, reached, inl (inl h)) = tag_no_limit rest e h
 item_no_limit d bs e (s, rest, reached, inl (inr (inl (after, t, inl h)))) = var_no_limit after e h

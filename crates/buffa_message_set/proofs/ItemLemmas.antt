@@ -1,22 +1,23 @@
 -- Items: what is read of them, and the grammar.
-use Rattle.std.proofs.Common.{◌≡◌, ◌≢◌, ◌⊎◌, inl, inr, ℕ, zero, suc, ◌==◌, ◌&&◌, nat_lt, ◌<◌, ◌^◌, Bool, true, false, List, [], ◌∷◌, ◌++◌, length, drop, Option, None, Some, Result, Ok, Err, IfOk, IsOk, refl, true≢false, sym, ap, subst, ◌∙◌, arith, append_assoc, append-nil, length-append}
-use Rattle.std.proofs.lemmas.Bool.{eqb-true, eq-eqb, lt-ltb, le-ltb, ltb-true, ltb-false}
+use Rattle.std.proofs.Common.{◌≡◌, ◌≢◌, ◌⊎◌, inl, inr, ℕ, ◌==◌, ◌&&◌, nat_lt, ◌<◌, ◌^◌, Bool, true, false, List, [], ◌∷◌, ◌++◌, length, drop, Option, None, Some, Result, Ok, Err, IfOk, IsOk, refl, true≢false, sym, ap, subst, ◌∙◌, arith, append_assoc, append-nil, length-append}
+use Rattle.std.proofs.lemmas.Bool.{and_cases, and_parts, eqb-true, eq-eqb, lt-ltb, le-ltb, ltb-true, ltb-false}
 use Rattle.std.proofs.lemmas.List.{append_cancel_right}
 use Rattle.buffa_bytes.specs.Field.{IsTag, LengthFault, Payload, TakesDelimited, TakesTag}
 use Rattle.buffa_bytes.specs.Values.{tag_encoding}
 use Rattle.buffa_bytes.specs.Varint.{IsVarint, varint_encoding}
-use Rattle.buffa_bytes.specs.Reading.{delimited_at, skip_at, tag_at, taken, varint_at}
+use Rattle.buffa_bytes.specs.Front.{delimited_at, skip_at, tag_at, taken, varint_at}
 use Rattle.buffa_bytes.specs.Scan.{parsed, step_then}
 use Rattle.buffa_bytes.specs.WireType.{same_wire}
 use Rattle.buffa_bytes.specs.declared.wire_type.WireType.{WireType}
-use Rattle.buffa_bytes.specs.declared.wire_type.WireType.TheVariants.{Varint, Fixed64, LengthDelimited, StartGroup, EndGroup, Fixed32}
+use Rattle.buffa_bytes.specs.declared.wire_type.WireType.TheVariants.{Varint, LengthDelimited, EndGroup}
 use Rattle.buffa_bytes.specs.declared.error.DecodeError.{DecodeError}
 use Rattle.buffa_bytes.specs.declared.error.DecodeError.TheVariants.{InvalidMessageSet, OutOfMemory, UnexpectedEof}
 use Rattle.buffa_bytes.specs.declared.error.MessageSetFault.TheVariants.{MissingTypeId}
 use Rattle.buffa_bytes.proofs.StepLemmas.{Agrees, agree_bind, agree_err, agree_if, agree_ok, agree_weaker}
 use Rattle.buffa_bytes.proofs.DelimitedLemmas.{delimited_complete, delimited_faulty, delimited_sound, taken_sound}
 use Rattle.buffa_bytes.proofs.FieldLemmas.{payload_complete, payload_faulty, payload_sound, tag_complete, tag_faulty, tag_some, tag_sound, same_refl, same_true, tag_read}
-use Rattle.buffa_bytes.proofs.FullLemmas.{delimited_full, payload_fault_full, payload_full, tag_fault_full}
+use Rattle.buffa_bytes.proofs.ListLemmas.{cut_twice}
+use Rattle.buffa_bytes.proofs.FullLemmas.{delimited_full, payload_fault_full, skip_no_full, tag_fault_full}
 use Rattle.buffa_bytes.proofs.VarintLemmas.{IsVarint-varint_encoding, varint_complete, varint_faulty, varint_sound}
 use Rattle.buffa_bytes.proofs.ScanLemmas.{Leads, Shortens, if_leads, if_short, parsed_leads, parsed_short, scan_leads, scan_step}
 use Rattle.buffa_bytes.specs.Gives.{FullOnlyIf, Gives}
@@ -27,21 +28,13 @@ use Rattle.buffa_wire.proofs.SequenceLemmas.{ParsesTo-first, ParsesTo-more, ok_s
 use Rattle.buffa_message_set.specs.Item.{BytesAt, EndFault, ItemFieldFault, HasMessage, IsItemField, IsMessageAt, IsOther, IsOutOfRange, IsTypeId, Item, ItemFault, Reaches, Said, TakesItem, TypeIdFault, appended_at, body_encoding, ends_item, ended, item_field_at, item_at, item_from, item_step, said, says, type_id_at, unsaid}
 
 -- ---- numbers and wire types that are looked for
-pub and_true : (a b : Bool) → (a && b) ≡ true → (a ≡ true) × (b ≡ true)
-and_true true b e = (refl, e)
-and_true false b e = cc
-
-and_false : (a b : Bool) → (a && b) ≡ false → (a ≡ false) ⊎ (b ≡ false)
-and_false true b e = inr e
-and_false false b e = inl refl
-
 false_and : (a b : Bool) → (a ≡ true → b ≡ true → ⊥) → (a && b) ≡ false
 false_and true true h = absurd (h refl refl)
 false_and true false h = refl
 false_and false b h = refl
 
 pub both_true : (n m : ℕ) (v w : WireType) → ((n == m) && same_wire v w) ≡ true → (n ≡ m) × (v ≡ w)
-both_true n m v w e = let h = and_true (n == m) (same_wire v w) e in (eqb-true n m h.0, same_true v w h.1)
+both_true n m v w e = let h = and_parts (n == m) (same_wire v w) e in (eqb-true n m h.0, same_true v w h.1)
 
 pub is_both : (n m : ℕ) (v w : WireType) → n ≡ m → w ≡ v → ((n == m) && same_wire v w) ≡ true
 is_both n m v w a b = rw (eq-eqb n m a, b, same_refl v) refl
@@ -54,7 +47,7 @@ not_both n m v w h = false_and (n == m) (same_wire v w) (λ a b. h (eqb-true n m
 
 -- ---- type ids
 pub out_of : (n : ℕ) → (nat_lt 0 n && nat_lt n (2 ^ 31)) ≡ false → IsOutOfRange n
-out_of n e = elim (and_false (nat_lt 0 n) (nat_lt n (2 ^ 31)) e) [
+out_of n e = elim (and_cases (nat_lt 0 n) (nat_lt n (2 ^ 31)) e) [
   | inl h ↦ inl (omega (arith, ltb-false 0 n h))
   | inr h ↦ inr (ltb-false n (2 ^ 31) h)
 ]
@@ -69,7 +62,7 @@ not_in_range n (inr h) = rw (le-ltb n (2 ^ 31) h) (false_and (nat_lt 0 n) false 
 type_id_sound : (bs : List ℕ) → Agrees (type_id_at bs) (λ x. (p : List ℕ) × IsVarint p x.0 × IsTypeId x.0 × (bs ≡ p ++ x.1)) (TypeIdFault bs)
 type_id_sound bs = agree_bind (varint_sound bs)
     (λ n v. agree_if (nat_lt 0 n.0 && nat_lt n.0 (2 ^ 31))
-    (λ e. let h = and_true (nat_lt 0 n.0) (nat_lt n.0 (2 ^ 31)) e in record { holds = (v.0, v.1, (ltb-true 0 n.0 h.0, ltb-true n.0 (2 ^ 31) h.1), v.2) })
+    (λ e. let h = and_parts (nat_lt 0 n.0) (nat_lt n.0 (2 ^ 31)) e in record { holds = (v.0, v.1, (ltb-true 0 n.0 h.0, ltb-true n.0 (2 ^ 31) h.1), v.2) })
     (λ e. record { holds = inr (n.0, n.1, v, out_of n.0 e, refl) }))
     (λ e h. inl h)
 
@@ -81,9 +74,6 @@ type_id_faulty bs e (inl h) = rw (varint_faulty bs e h) refl
 type_id_faulty bs e (inr (n, rest, (t, v, is), out, k)) = rw (is, varint_complete t n rest v, not_in_range n out) (ap (λ x. Err x) (sym k))
 
 -- ---- fields
-whole : (all t p : List ℕ) (after rest : List ℕ) → all ≡ t ++ after → after ≡ p ++ rest → all ≡ (t ++ p) ++ rest
-whole all t p after rest a b = a ∙ ap (λ z. t ++ z) b ∙ sym (append_assoc t p rest)
-
 module _ (d : ℕ) where
   -- a field at the front of the bytes, which leads from s to what is said then
   abbrev pub FieldAt : Said → List ℕ → Said × List ℕ → Type 0
@@ -97,7 +87,7 @@ module _ (d : ℕ) where
   field_sound s all tag bs n w is_tag e open_tag = agree_if ((n == 2) && same_wire Varint w)
       (λ two. let is = both_true n 2 Varint w two in let t = tag_of tag n 2 Varint w is_tag is.0 is.1 in
       agree_bind (type_id_sound bs)
-      (λ x m. record { holds = (tag ++ m.0, inl (tag, m.0, x.0, t, m.1, m.2, refl, refl), whole all tag m.0 bs x.1 e m.3) })
+      (λ x m. record { holds = (tag ++ m.0, inl (tag, m.0, x.0, t, m.1, m.2, refl, refl), cut_twice all tag m.0 bs x.1 e m.3) })
       (λ f h. inr (inl (bs, (tag, t, e), h))))
       (λ not_two. agree_if ((n == 3) && same_wire LengthDelimited w)
       (λ three. let is = both_true n 3 LengthDelimited w three in let t = tag_of tag n 3 LengthDelimited w is_tag is.0 is.1 in
@@ -106,13 +96,13 @@ module _ (d : ℕ) where
         holds = (
           tag ++ (m.1.0 ++ m.0),
           inr (inl (tag, m.1.0, m.0, t, m.1.1, refl, ap (said s.type_id) m.2)),
-          whole all tag (m.1.0 ++ m.0) bs x.1 e (m.1.2 ∙ sym (append_assoc m.1.0 m.0 x.1)),
+          cut_twice all tag (m.1.0 ++ m.0) bs x.1 e (m.1.2 ∙ sym (append_assoc m.1.0 m.0 x.1)),
         );
       })
       (λ f h. inr (inr (inl (bs, (tag, t, e), h)))))
       (λ not_three. let other : IsOther n w = (both_false n 2 Varint w not_two, both_false n 3 LengthDelimited w not_three, open_tag) in
       agree_bind (payload_sound d n w bs)
-      (λ rest p. record { holds = (tag ++ p.0, inr (inr (n, w, other, (tag, p.0, is_tag, p.1, refl), refl)), whole all tag p.0 bs rest e p.2) })
+      (λ rest p. record { holds = (tag ++ p.0, inr (inr (n, w, other, (tag, p.0, is_tag, p.1, refl), refl)), cut_twice all tag p.0 bs rest e p.2) })
       (λ f h. inr (inr (inr (n, w, bs, other, (tag, is_tag, e), h))))))
 
   -- the field f was read of f ++ rest by its tag
@@ -273,12 +263,9 @@ type_id_fault_full bs (inr (n, rest, t, out, e)) = cc
 pub type_id_no_full : {P : Type 0} (bs : List ℕ) (e : DecodeError) → type_id_at bs ≡ Err e → e ≡ OutOfMemory → P
 type_id_no_full bs e h k = absurd (type_id_fault_full bs (subst (λ x. TypeIdFault bs x) k (agree_err (type_id_at bs) e (type_id_sound bs) h)))
 
-pub payload_no_full : {P : Type 0} (d n : ℕ) (w : WireType) (bs : List ℕ) (e : DecodeError) → skip_at d n w bs ≡ Err e → e ≡ OutOfMemory → P
-payload_no_full d n w bs e h k = absurd (payload_full d n w bs (h ∙ ap (λ x. Err x) k))
-
-pub skip_no_full : {X : Type 0} (P : Type 0) (r : Result X DecodeError) (d n : ℕ) (w : WireType) (bs rest : List ℕ) → Gives (λ _. rest) r (skip_at d n w bs) → FullOnlyIf r P
-skip_no_full P (Ok x) d n w bs rest h = tt
-skip_no_full P (Err e) d n w bs rest h = payload_no_full d n w bs e h
+pub skipped_no_full : {X : Type 0} (P : Type 0) (r : Result X DecodeError) (d n : ℕ) (w : WireType) (bs rest : List ℕ) → Gives (λ _. rest) r (skip_at d n w bs) → FullOnlyIf r P
+skipped_no_full P (Ok x) d n w bs rest h = tt
+skipped_no_full P (Err e) d n w bs rest h = skip_no_full d n w bs e h
 
 module _ (d : ℕ) where
   field_fault_full : (bs : List ℕ) → ItemFieldFault d bs OutOfMemory → ⊥

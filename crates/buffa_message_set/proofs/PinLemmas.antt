@@ -9,6 +9,7 @@ use Rattle.buffa_bytes.proofs.StepLemmas.{agree_err, agree_ok}
 use Rattle.buffa_wire.specs.BudgetLeft.{BudgetLeft}
 use Rattle.buffa_bytes.specs.Values.{tag_encoding}
 use Rattle.buffa_wire.proofs.SequenceLemmas.{ok_same}
+use Rattle.buffa_wire.proofs.SpentLemmas.{same_left}
 use Rattle.buffa_message_set.specs.Item.{IsTypeId, ItemFault, SpendsUnknown, TakesItem, body_encoding, item_at, item_in, item_encoding}
 use Rattle.buffa_message_set.specs.Pinned.{GivesItem, ItemIsPinned, WrittenItemIsPinned}
 use Rattle.buffa_message_set.proofs.ItemLemmas.{one_item, read_sound, written_item}
@@ -28,9 +29,6 @@ there d unknown bs x a false e h =
 told : (d unknown : ℕ) (bs : List ℕ) (f : DecodeError) (b : Bool) → (unknown == 0) ≡ b → item_in d unknown bs ≡ Err f → 0 < unknown → ItemFault d bs f
 told d unknown bs f true e h some = absurd (omega (arith, eqb-true unknown 0 e, some))
 told d unknown bs f false e h some = agree_err (item_at d bs) f (read_sound d bs) (sym (read_there d unknown bs e) ∙ h)
-
-same_left : (a b : BudgetLeft) → a.unknown ≡ b.unknown → a.memory ≡ b.memory → a ≡ b
-same_left a b u m i = record { unknown = u i; memory = m i }
 
 spent : (old a b : BudgetLeft) → SpendsUnknown old a → SpendsUnknown old b → a ≡ b
 spent old a b (inl h) (inl k) = h.1 ∙ sym k.1

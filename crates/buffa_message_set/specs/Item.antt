@@ -5,7 +5,7 @@ use Rattle.buffa_bytes.specs.Gives.{◌>>=◌}
 use Rattle.buffa_bytes.specs.Varint.{IsVarint, TakesVarint, VarintFault, varint_encoding}
 use Rattle.buffa_bytes.specs.Values.{delimited_encoding, tag_encoding}
 use Rattle.buffa_bytes.specs.Field.{Field, Group, IsTag, LengthFault, PayloadFault, TagFault, TakesDelimited, TakesTag}
-use Rattle.buffa_bytes.specs.Reading.{delimited_at, skip_at, tag_at, varint_at}
+use Rattle.buffa_bytes.specs.Front.{delimited_at, skip_at, tag_at, varint_at}
 use Rattle.buffa_bytes.specs.Scan.{Scanned, parsed, scan}
 use Rattle.buffa_bytes.specs.Scan.Scanned.{ends}
 use Rattle.buffa_bytes.specs.WireType.{same_wire}

@@ -14,7 +14,7 @@ ghost use Rattle.std.specs.Prelude.{◌≡◌, ◌≢◌, ◌^◌, ◌<◌, ◌+
 ghost use Rattle.buffa_bytes.specs.declared.error.DecodeError.TheVariants.{OutOfMemory};
 ghost use Rattle.buffa_wire.specs.BudgetLeft.{budget_left};
 ghost use Rattle.buffa_bytes.specs.Gives.{FullOnlyIf, Gives, GivesUnlessFull};
-ghost use Rattle.buffa_bytes.specs.Reading.{taken, varint_at};
+ghost use Rattle.buffa_bytes.specs.Front.{taken, varint_at};
 ghost use Rattle.buffa_bytes.specs.Unread.{IsTailOf};
 ghost use Rattle.buffa_bytes.specs.Values.{delimited_encoding, tag_encoding};
 ghost use Rattle.buffa_bytes.specs.WireType.{same_wire};

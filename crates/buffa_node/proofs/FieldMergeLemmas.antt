@@ -16,7 +16,7 @@ use Rattle.buffa_bytes.specs.declared.wire_type.WireType.TheVariants.{LengthDeli
 use Rattle.buffa_wire.specs.BudgetLeft.{BudgetLeft, Pays, nothing, plus, unknown_fields}
 use Rattle.buffa_bytes.specs.Content.{bytes_in}
 use Rattle.buffa_wire.specs.Message.{IsFieldMerged, cost_in, merged_in}
-use Rattle.buffa_bytes.specs.Reading.{check_wire, delimited_at}
+use Rattle.buffa_bytes.specs.Front.{check_wire, delimited_at}
 use Rattle.buffa_map.proofs.EntryLemmas.{check_sound}
 use Rattle.buffa_map.specs.Codec.{Reading}
 use Rattle.buffa_map.specs.Entry.{EntryFault, EntryOf, inner_need, need_at, need_of}

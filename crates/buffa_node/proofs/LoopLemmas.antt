@@ -8,7 +8,7 @@ use Rattle.buffa_bytes.specs.Field.{IsTag, Payload, SomeField}
 use Rattle.buffa_bytes.specs.Join.{Join}
 use Rattle.buffa_bytes.specs.Join.Join.{none, more}
 use Rattle.buffa_wire.specs.Message.{IsFieldMerged}
-use Rattle.buffa_bytes.specs.Reading.{tag_at}
+use Rattle.buffa_bytes.specs.Front.{tag_at}
 use Rattle.buffa_node.specs.Branch.{Branch}
 use Rattle.buffa_node.specs.NodeLaws.{cost_empty, cost_next, merged_empty, merged_next}
 use Rattle.buffa_node.specs.NodeMeaning.{cost, merged}

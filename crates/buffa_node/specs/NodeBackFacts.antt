@@ -16,9 +16,9 @@ use Rattle.buffa_bytes.specs.Content.{bytes as held, number}
 use Rattle.buffa_wire.specs.DepthFacts.{height-records}
 use Rattle.buffa_wire.specs.Message.{merged_in}
 use Rattle.buffa_wire.specs.Parse.{Fits, FitsDatum, IsPayload, Parse}
-use Rattle.buffa_bytes.specs.Reading.{delimited_at}
+use Rattle.buffa_bytes.specs.Front.{delimited_at}
 use Rattle.buffa_wire.specs.Records.{Datum, bytes, datum_height, group, height, records_of, varint, fixed32, fixed64}
-use Rattle.buffa_wire.specs.Encoding.{field_encoding as record_of, records_encoding, wire_of}
+use Rattle.buffa_wire.specs.Encoding.{records_encoding, tagged_encoding as record_of, wire_of}
 use Rattle.buffa_bytes.specs.Values.{delimited_encoding, tag_encoding}
 use Rattle.buffa_bytes.specs.Varint.{varint_encoding}
 use Rattle.buffa_map.proofs.BackLemmas.{IsReadBack, entry_back}
@@ -37,7 +37,8 @@ use Rattle.buffa_fields.specs.PairLaws.{fits_both}
 use Rattle.buffa_fields.specs.Keep.{keep_takes, record_in}
 use Rattle.buffa_fields.specs.Takes.{Leads, Piece, Taker, joined, merged_of}
 use Rattle.buffa_fields.specs.TakesLaws.{back as leads_back}
-use Rattle.buffa_wire.proofs.KeepLemmas.{all_fields, payload_of_record}
+use Rattle.buffa_wire.proofs.KeepLemmas.{all_fields}
+use Rattle.buffa_wire.proofs.JoinLemmas.{payload_of_record}
 use Rattle.buffa_node.specs.Branch.{Branch, Kept, Kids, Scores, Shades, bare, branch, kid, kids, kids-listed, kept_of, kids_of, listed, listed-kids, no_kids, scores_of, shade_numbers, shades_of}
 use Rattle.buffa_node.specs.Entries.{entry_taken, put_in}
 use Rattle.buffa_node.specs.Leading.{Each, IsPut, any, entries_lead, joined_both, leads_both, piece, read_entry}

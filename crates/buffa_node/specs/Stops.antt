@@ -4,7 +4,7 @@ use Rattle.buffa_bytes.specs.declared.error.DecodeError.{DecodeError}
 use Rattle.buffa_bytes.specs.declared.wire_type.WireType.{WireType}
 use Rattle.buffa_wire.specs.BudgetLeft.{BudgetLeft, Pays}
 use Rattle.buffa_wire.specs.Message.{IsFieldMerged}
-use Rattle.buffa_bytes.specs.Reading.{tag_at}
+use Rattle.buffa_bytes.specs.Front.{tag_at}
 
 abbrev pub refusal : DecodeError → Result (Unit {0}) DecodeError
 refusal e = Err e

@@ -7,7 +7,7 @@ use Rattle.buffa_wire.specs.BudgetLeft.{BudgetLeft, defaults}
 use Rattle.buffa_wire.specs.Found.{varint_in}
 use Rattle.buffa_wire.specs.Records.{Datum, varint, fixed32, fixed64, bytes, group}
 use Rattle.buffa_codec.specs.Packed.{numbers_in}
-use Rattle.buffa_codec.specs.Reading.{Has, ReadsAll, ReadsList, TakesElement, elements}
+use Rattle.buffa_codec.specs.Decoded.{Has, ReadsAll, ReadsList, TakesElement, elements}
 use Rattle.buffa_options.specs.Options.{int32s_in}
 
 abbrev one : BudgetLeft → Datum → Option ℤ

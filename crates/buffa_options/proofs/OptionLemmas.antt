@@ -4,18 +4,15 @@ use Rattle.std.specs.List.{cons_option, filter_map, last_or}
 use Rattle.std.specs.Result.{IsOk, OnErr}
 use Rattle.std.specs.declared.alloc.AllocError.{AllocError}
 use Rattle.buffa_wire.specs.Records.{Datum}
-use Rattle.buffa_codec.specs.Reading.{HasByte, HasLast, last_read}
+use Rattle.buffa_codec.specs.Decoded.{HasByte, HasLast, last_read}
 use Rattle.buffa_ext.specs.Defaults.{IsDefaulted}
-use Rattle.std.proofs.lemmas.Option.{same_Some}
+use Rattle.std.proofs.lemmas.Option.{none-some, same_Some}
 
 some_read : {V : Type 0} (r : Option V) (v d : V) → Some v ≡ r → v ≡ unwrap_or r d
 some_read r v d e = rw (sym e) refl
 
 none_read : {V : Type 0} (r : Option V) (v d : V) → None ≡ r → v ≡ d → v ≡ unwrap_or r d
 none_read r v d e h = rw (sym e) h
-
-never_none : {V : Type 0} {P : Type 0} (d : V) → None ≡ Some d → P
-never_none d e = cc
 
 -- the value that is read, or else the one that is declared
 pub default_of : {V : Type 0} {reads declared : Option V → Type 0} {blank : Type 0} {v : V} (r : Option V) (d : V)
@@ -24,7 +21,7 @@ pub default_of : {V : Type 0} {reads declared : Option V → Type 0} {blank : Ty
     → v ≡ unwrap_or r d
 default_of {v = v} r d (inl h) is says = some_read r v d (is (Some v) h)
 default_of {v = v} r d (inr (h, inl k)) is says = none_read r v d (is None h) (same_Some v d (says (Some v) k))
-default_of {v = v} r d (inr (h, inr k)) is says = never_none d (says None k.0)
+default_of {v = v} r d (inr (h, inr k)) is says = absurd (none-some d (says None k.0))
 
 pub if_ok : {V E : Type 0} (r : Result V E) (P Q : V → Type 0) → IfOk r P → ((v : V) → P v → Q v) → IfOk r Q
 if_ok (Ok v) P Q h f = f v h

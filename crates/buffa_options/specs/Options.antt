@@ -7,7 +7,7 @@ use Rattle.buffa_bytes.specs.Scalars.{bool_of}
 use Rattle.buffa_bytes.specs.declared.wire_type.WireType.TheVariants.{Varint}
 use Rattle.buffa_wire.specs.Records.{Datum, varint, bytes}
 use Rattle.buffa_wire.specs.Found.{varint_in}
-use Rattle.buffa_codec.specs.Reading.{last_read, string_held}
+use Rattle.buffa_codec.specs.Decoded.{last_read, string_held}
 use Rattle.buffa_codec.specs.Sub.{sub}
 use Rattle.buffa_codec.specs.Packed.{numbers_in}
 

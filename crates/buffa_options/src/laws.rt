@@ -11,7 +11,7 @@ ghost use Rattle.buffa_wire.specs.BudgetLeft.{BudgetLeft, nothing};
 ghost use Rattle.buffa_wire.specs.Found.{varint_in};
 ghost use Rattle.buffa_wire.specs.Records.{Datum, Held, varint};
 ghost use Rattle.buffa_codec.specs.Packed.{numbers_in};
-ghost use Rattle.buffa_codec.specs.Reading.{last_read};
+ghost use Rattle.buffa_codec.specs.Decoded.{last_read};
 ghost use Rattle.buffa_options.specs.Pinned.{IsJudged, OneViolation, NotBoth};
 ghost use Rattle.buffa_options.specs.declared.carrier.Carrier.{Carrier};
 ghost use Rattle.buffa_options.specs.declared.options.FieldOptions.{FieldOptions};

@@ -3,7 +3,7 @@
 ghost use Rattle.std.specs.Prelude.{◌≡◌, ◌≢◌, [], codes, refl, pos, unwrap_or};
 ghost use Rattle.std.specs.Prelude.{IfOk, IsOk, OnErr, option_map, string_bytes};
 ghost use Rattle.buffa_wire.specs.Records.{Held};
-ghost use Rattle.buffa_codec.specs.Reading.{HasByte};
+ghost use Rattle.buffa_codec.specs.Decoded.{HasByte};
 ghost use Rattle.buffa_options.specs.Options.{bool_option, int32_list, int32_option, string_option};
 
 use buffa_codec::{Repeated, StringCodec};

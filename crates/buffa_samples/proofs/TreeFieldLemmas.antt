@@ -13,7 +13,7 @@ use Rattle.buffa_wire.proofs.MessageLemmas.{NoLimit}
 use Rattle.buffa_wire.specs.BudgetLeft.{BudgetLeft, Lacks, Pays, PaysAtMost, nothing}
 use Rattle.buffa_bytes.specs.Gives.{◌>>=◌, FullOnlyIf, Gives}
 use Rattle.buffa_wire.specs.Message.{IsFieldMerged, cost_in, merged_in}
-use Rattle.buffa_bytes.specs.Reading.{check_wire, skip_at}
+use Rattle.buffa_bytes.specs.Front.{check_wire, skip_at}
 use Rattle.buffa_bytes.specs.Values.{int32_at}
 use Rattle.buffa_map.proofs.EntryLemmas.{check_sound}
 use Rattle.buffa_map.proofs.NeedLemmas.{checked}

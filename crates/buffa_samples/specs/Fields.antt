@@ -2,7 +2,7 @@
 -- Source: the protobuf encoding guide, "Message Structure".
 use Rattle.std.specs.Prelude.{ℕ, zero, suc, ℤ, pos, negsuc, List, [], ◌∷◌, ◌++◌, Result, Ok}
 use Rattle.buffa_bytes.specs.Gives.{◌>>=◌}
-use Rattle.buffa_bytes.specs.Reading.{check_wire, skip_at, varint_at}
+use Rattle.buffa_bytes.specs.Front.{check_wire, skip_at, varint_at}
 use Rattle.buffa_wire.specs.Records.{Datum, varint}
 use Rattle.buffa_bytes.specs.Values.{int32_at, int32_encoding, tag_encoding}
 use Rattle.std.specs.Int.{cast_unsigned, w64}

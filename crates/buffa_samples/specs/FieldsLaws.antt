@@ -4,9 +4,9 @@ use Rattle.buffa_bytes.specs.Gives.{◌>>=◌, FullOnlyIf, Gives}
 use Rattle.buffa_bytes.specs.Field.{IsTag, Payload}
 use Rattle.buffa_bytes.specs.Join.Join.{more}
 use Rattle.buffa_bytes.specs.Number.{IsNumber}
-use Rattle.buffa_bytes.specs.Reading.{tag_at}
+use Rattle.buffa_bytes.specs.Front.{tag_at}
 use Rattle.buffa_wire.specs.Records.{Datum}
-use Rattle.buffa_wire.specs.Encoding.{records_encoding, field_encoding}
+use Rattle.buffa_wire.specs.Encoding.{records_encoding, tagged_encoding}
 use Rattle.buffa_bytes.specs.Values.{int32_at, int32_of, int32_encoding, tag_encoding}
 use Rattle.buffa_bytes.specs.Varint.{TakesVarint, VarintFault}
 use Rattle.buffa_bytes.specs.declared.wire_type.WireType.{WireType}
@@ -16,7 +16,7 @@ use Rattle.buffa_bytes.specs.declared.error.DecodeError.TheVariants.{OutOfMemory
 use Rattle.buffa_bytes.proofs.StepLemmas.{Agrees, agree_bind}
 use Rattle.buffa_bytes.proofs.FieldLemmas.{payload_complete, payload_sound}
 use Rattle.buffa_bytes.proofs.IntLemmas.{int32_below}
-use Rattle.buffa_bytes.proofs.ShortestLemmas.{varint_encoding-last, length-varint_encoding}
+use Rattle.buffa_bytes.proofs.ShortestLemmas.{varint_encoding-last, ten_at_most}
 use Rattle.buffa_bytes.proofs.VarintLemmas.{IsVarint-varint_encoding, varint_complete, varint_sound as varint_is_sound}
 use Rattle.std.specs.Int.{cast_unsigned, w32, w64}
 use Rattle.buffa_wire.proofs.MessageLemmas.{NoLimit, payload_no_limit, var_no_limit}
@@ -141,8 +141,8 @@ length_tag n v h = omega (arith, length-append (tag_encoding n Varint) (int32_en
 
 pub length_number : (n : ℕ) (v : ℤ) → n < 16 → FitsSigned w32 v → length (number_encoding n v) ≤ 11
 length_number n (pos zero) h f = omega arith
-length_number n (pos (suc k)) h f = omega (arith, length_tag n (pos (suc k)) h, length-varint_encoding (cast_unsigned w64 (pos (suc k))) (int32_below (pos (suc k)) f))
-length_number n (negsuc k) h f = omega (arith, length_tag n (negsuc k) h, length-varint_encoding (cast_unsigned w64 (negsuc k)) (int32_below (negsuc k) f))
+length_number n (pos (suc k)) h f = omega (arith, length_tag n (pos (suc k)) h, ten_at_most (cast_unsigned w64 (pos (suc k))) (int32_below (pos (suc k)) f))
+length_number n (negsuc k) h f = omega (arith, length_tag n (negsuc k) h, ten_at_most (cast_unsigned w64 (negsuc k)) (int32_below (negsuc k) f))
 
 pub number_tag : (n : ℕ) → IsNumber n → n < 16 → IsTag (tag_encoding n Varint) n Varint
 number_tag n is h = (is, IsVarint-varint_encoding (8 * n + 0) (omega (arith, h)))

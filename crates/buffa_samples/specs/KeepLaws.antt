@@ -18,7 +18,8 @@ use Rattle.buffa_wire.specs.Records.{Datum, height, one, records_of}
 use Rattle.buffa_wire.specs.Encoding.{records_encoding, wire_of}
 use Rattle.buffa_wire.proofs.ByFieldLemmas.{IsSame, IsSound, empty, read}
 use Rattle.buffa_wire.proofs.CostLemmas.{paid}
-use Rattle.buffa_wire.proofs.KeepLemmas.{all_fields, enough_unknown, field_short, keep_stays, le_or_lt, needed, payload_of_record, record_of_payload}
+use Rattle.buffa_wire.proofs.KeepLemmas.{all_fields, enough_unknown, field_short, keep_stays, le_or_lt, needed}
+use Rattle.buffa_wire.proofs.JoinLemmas.{payload_of_record, record_of_payload}
 use Rattle.buffa_wire.specs.Kept.{keep_need, kept_record_at, spent_of}
 use Rattle.buffa_samples.specs.Keep.{keep_cost, keep_field, keep_merged}
 

@@ -19,7 +19,7 @@ use Rattle.buffa_wire.specs.Parse.{Fits}
 use Rattle.buffa_wire.specs.Records.{records_of}
 use Rattle.buffa_bytes.specs.Values.{delimited_encoding, int32_encoding, tag_encoding}
 use Rattle.buffa_bytes.specs.Varint.{varint_encoding}
-use Rattle.buffa_map.proofs.BackLemmas.{is_tag}
+use Rattle.buffa_bytes.proofs.FieldLemmas.{is_tag}
 use Rattle.buffa_map.proofs.EntryLemmas.{entry_complete}
 use Rattle.buffa_map.specs.Codec.{level}
 use Rattle.buffa_map.specs.Entry.{IsEntry, IsEntryField, blanks}

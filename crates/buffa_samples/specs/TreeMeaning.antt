@@ -10,7 +10,7 @@ use Rattle.buffa_bytes.specs.declared.wire_type.WireType.TheVariants.{LengthDeli
 use Rattle.buffa_bytes.specs.Gives.{◌>>=◌}
 use Rattle.buffa_wire.specs.BudgetLeft.{BudgetLeft, Lacks, Pays, PaysAtMost, nothing, plus, units}
 use Rattle.buffa_wire.specs.Message.{IsLimit, cost_in, merged_in}
-use Rattle.buffa_bytes.specs.Reading.{check_wire, delimited_at}
+use Rattle.buffa_bytes.specs.Front.{check_wire, delimited_at}
 use Rattle.buffa_bytes.specs.Values.{int32_of}
 use Rattle.buffa_bytes.specs.WireType.{same_wire}
 use Rattle.buffa_map.specs.Codec.{Reading}

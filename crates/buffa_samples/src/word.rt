@@ -7,7 +7,7 @@ ghost use Rattle.std.specs.Cmp.{on_equiv};
 ghost use Rattle.std.specs.Hash as fed;
 ghost use Rattle.std.specs.Ordering.{on};
 ghost use Rattle.std.proofs.Common.{rules};
-ghost use Rattle.buffa_bytes.specs.Texts.{string_is_text};
+ghost use Rattle.buffa_bytes.specs.Delimited.{string_is_text};
 ghost use Rattle.buffa_samples.specs.Letters.{lower, same_letters};
 
 use buffa_bytes::{Blank, DecodeError, MapKey, ProtoString};

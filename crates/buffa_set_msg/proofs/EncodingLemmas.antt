@@ -7,7 +7,7 @@ use Rattle.buffa_bytes.specs.Written.{WritesFront}
 use Rattle.buffa_wire.specs.Records.{Datum}
 use Rattle.buffa_wire.specs.View.{datum_of, record_of, records_in}
 use Rattle.buffa_wire.specs.declared.unknown_fields.UnknownField.{UnknownField}
-use Rattle.buffa_wire.proofs.EncodingLemmas.{ten_at_most}
+use Rattle.buffa_bytes.proofs.ShortestLemmas.{ten_at_most}
 use Rattle.buffa_message_set.specs.Item.{item_size}
 use Rattle.buffa_message_set.proofs.ItemLemmas.{and_true}
 use Rattle.buffa_set_msg.specs.Set.{is_type_id, record_encoding, set_encoding}

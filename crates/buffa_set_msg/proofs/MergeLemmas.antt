@@ -6,7 +6,7 @@ use Rattle.buffa_bytes.proofs.StepLemmas.{agree_ok}
 use Rattle.buffa_bytes.specs.Field.{SomeField, TakesTag}
 use Rattle.buffa_bytes.specs.Join.{Join}
 use Rattle.buffa_bytes.specs.Join.Join.{none, more}
-use Rattle.buffa_bytes.specs.Reading.{skip_at, tag_at}
+use Rattle.buffa_bytes.specs.Front.{skip_at, tag_at}
 use Rattle.buffa_bytes.specs.declared.wire_type.WireType.{WireType}
 use Rattle.buffa_bytes.specs.declared.wire_type.WireType.TheVariants.{EndGroup}
 use Rattle.buffa_bytes.specs.declared.error.DecodeError.{DecodeError}

@@ -5,10 +5,11 @@ use Rattle.buffa_bytes.proofs.FieldLemmas.{one_field, tag_complete}
 use Rattle.buffa_bytes.specs.Field.{IsTag, Payload, SomeField}
 use Rattle.buffa_bytes.specs.Join.{Join}
 use Rattle.buffa_bytes.specs.Join.Join.{none, more}
-use Rattle.buffa_bytes.specs.Reading.{tag_at}
+use Rattle.buffa_bytes.specs.Front.{tag_at}
 use Rattle.buffa_bytes.specs.declared.wire_type.WireType.{WireType}
 use Rattle.buffa_bytes.specs.declared.error.DecodeError.{DecodeError}
 use Rattle.buffa_wire.proofs.SequenceLemmas.{err_same, ok_same}
+use Rattle.buffa_wire.proofs.SpentLemmas.{same_left}
 use Rattle.buffa_wire.specs.BudgetLeft.{BudgetLeft, Lacks, Pays, plus}
 use Rattle.buffa_wire.specs.Records.{Datum}
 use Rattle.buffa_wire.proofs.CostLemmas.{field_alone}
@@ -21,9 +22,6 @@ use Rattle.std.proofs.lemmas.Option.{same_Some}
 
 abbrev Values : Type 0
 Values = List (ℕ × Datum)
-
-same_left : (a b : BudgetLeft) → a.unknown ≡ b.unknown → a.memory ≡ b.memory → a ≡ b
-same_left a b u m i = record { unknown = u i; memory = m i }
 
 module _ (d : ℕ) where
   -- a field that is merged, and whose cost is there, isn't refused

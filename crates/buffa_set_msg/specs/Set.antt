@@ -10,10 +10,10 @@ use Rattle.buffa_bytes.specs.declared.error.DecodeError.TheVariants.{OutOfMemory
 use Rattle.buffa_wire.specs.BudgetLeft.{BudgetLeft, Pays, unknown_fields}
 use Rattle.buffa_bytes.specs.Gives.{◌>>=◌}
 use Rattle.buffa_wire.specs.Message.{BeginsField, MergeFault}
-use Rattle.buffa_bytes.specs.Reading.{tag_at}
+use Rattle.buffa_bytes.specs.Front.{tag_at}
 use Rattle.buffa_wire.specs.RecordReading.{field_at}
 use Rattle.buffa_wire.specs.Records.{Datum, bytes, group, height, no_records, one, varint}
-use Rattle.buffa_wire.specs.Encoding.{field_encoding}
+use Rattle.buffa_wire.specs.Encoding.{tagged_encoding}
 use Rattle.buffa_bytes.specs.WireType.{same_wire}
 use Rattle.buffa_message_set.specs.Item.{IsTypeId, item_at, item_in, item_encoding}
 use Rattle.buffa_wire.specs.ByField.{FieldNeed, FieldReader, cost_by, merged_by, value_of}
@@ -52,8 +52,8 @@ is_type_id n = nat_lt 0 n && nat_lt n (2 ^ 31)
 
 -- bytes under a type id are an Item, any other record is a field
 abbrev pub record_encoding : ℕ → Datum → List ℕ
-record_encoding n (bytes b) = if is_type_id n then item_encoding n b else field_encoding n (bytes b)
-record_encoding n x = field_encoding n x
+record_encoding n (bytes b) = if is_type_id n then item_encoding n b else tagged_encoding n (bytes b)
+record_encoding n x = tagged_encoding n x
 
 abbrev pub set_encoding : List (ℕ × Datum) → List ℕ
 set_encoding [] = []

@@ -12,7 +12,7 @@ use Rattle.buffa_wire.proofs.MessageLemmas.{NoLimit}
 use Rattle.buffa_wire.specs.BudgetLeft.{nothing, plus, unknown_fields}
 use Rattle.buffa_wire.specs.Parse.{Fits}
 use Rattle.buffa_wire.specs.Records.{Datum, Records, bytes, datum_height, fixed32, fixed64, group, height, one, records_of, varint}
-use Rattle.buffa_wire.specs.Encoding.{field_encoding, records_encoding}
+use Rattle.buffa_wire.specs.Encoding.{records_encoding, tagged_encoding}
 use Rattle.buffa_bytes.specs.Values.{tag_encoding}
 use Rattle.buffa_message_set.specs.Item.{IsReadAlike, IsTypeId, body_encoding, item_at, item_encoding}
 use Rattle.buffa_message_set.proofs.ItemLemmas.{both_true, in_range, read_complete, read_sound, written_item}
@@ -78,15 +78,15 @@ pub set_cost_some : 0 < 24
 set_cost_some = omega arith
 
 -- ---- the encoding is that of records
-item_encoding_record : (n : ℕ) (b : List ℕ) → item_encoding n b ≡ field_encoding (item_record n b).0 (item_record n b).1
+item_encoding_record : (n : ℕ) (b : List ℕ) → item_encoding n b ≡ tagged_encoding (item_record n b).0 (item_record n b).1
 item_encoding_record n b = simp (append_assoc, append-nil)
 
-bytes_encoding : (k : Bool) (n : ℕ) (b : List ℕ) → (if k then item_encoding n b else field_encoding n (bytes b)) ≡
-    field_encoding (if k then item_record n b else (n, bytes b)).0 (if k then item_record n b else (n, bytes b)).1
+bytes_encoding : (k : Bool) (n : ℕ) (b : List ℕ) → (if k then item_encoding n b else tagged_encoding n (bytes b)) ≡
+    tagged_encoding (if k then item_record n b else (n, bytes b)).0 (if k then item_record n b else (n, bytes b)).1
 bytes_encoding true n b = item_encoding_record n b
 bytes_encoding false n b = refl
 
-one_encoding : (n : ℕ) (x : Datum) → record_encoding n x ≡ field_encoding (encoded_record n x).0 (encoded_record n x).1
+one_encoding : (n : ℕ) (x : Datum) → record_encoding n x ≡ tagged_encoding (encoded_record n x).0 (encoded_record n x).1
 one_encoding n (bytes b) = bytes_encoding (is_type_id n) n b
 one_encoding n (varint v) = refl
 one_encoding n (fixed32 v) = refl

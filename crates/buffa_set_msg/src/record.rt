@@ -3,7 +3,7 @@
 ghost use Rattle.std.specs.Prelude.{◌≡◌, ◌≢◌, ◌≤◌, length, min, ◌+◌, ◌*◌};
 ghost use Rattle.buffa_bytes.specs.declared.wire_type.WireType.TheVariants.{EndGroup};
 ghost use Rattle.buffa_bytes.specs.Gives.{FullOnlyIf, GivesUnlessFull};
-ghost use Rattle.buffa_wire.specs.Encoding.{field_encoding, payload_encoding};
+ghost use Rattle.buffa_wire.specs.Encoding.{payload_encoding, tagged_encoding};
 ghost use Rattle.buffa_bytes.specs.Varint.{varint_encoding};
 ghost use Rattle.buffa_wire.specs.View.{datum_of, record_of};
 ghost use Rattle.buffa_bytes.specs.WireType.{wire_number};
@@ -76,7 +76,7 @@ fn tag_value(number: u32, wire_type: WireType) -> u64
 }
 
 // The length of a varint.
-#[tactic(auto, using(buffa_wire::proofs::EncodingLemmas::ten_at_most))]
+#[tactic(auto, using(buffa_bytes::proofs::ShortestLemmas::ten_at_most))]
 fn number_len(n: u64) -> u64
     ensures len { result ≡ length (varint_encoding n) }
     ensures short { result ≤ 10 }
@@ -86,7 +86,7 @@ fn number_len(n: u64) -> u64
 
 // The length of a field's encoding, or 2^64 - 1 where it is longer.
 fn field_len(number: u32, payload: &UnknownFieldData) -> u64
-    ensures { result ≡ min (length (field_encoding number (datum_of payload.now))) 18446744073709551615 }
+    ensures { result ≡ min (length (tagged_encoding number (datum_of payload.now))) 18446744073709551615 }
 {
     let tag = number_len(tag_value(number, payload.wire_type()));
     tag.saturating_add(payload_len(number, payload))
@@ -137,9 +137,9 @@ fn write_field<S: EncodeSink>(
     payload: &UnknownFieldData,
     sink: &mut S,
 ) -> Result<(), EncodeError>
-    ensures writes { Writes result (S.written sink.old) (field_encoding number (datum_of payload.now))
+    ensures writes { Writes result (S.written sink.old) (tagged_encoding number (datum_of payload.now))
         (S.written sink.new) }
-    ensures room { UsesRoom result (S.room sink.old) (field_encoding number (datum_of payload.now)) (S.room sink.new) }
+    ensures room { UsesRoom result (S.room sink.old) (tagged_encoding number (datum_of payload.now)) (S.room sink.new) }
 {
     encode_varint(tag_value(number, payload.wire_type()), sink)?;
     write_payload(number, payload, sink)

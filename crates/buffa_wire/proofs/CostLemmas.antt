@@ -9,7 +9,7 @@ use Rattle.buffa_wire.proofs.MessageLemmas.{NoLimit}
 use Rattle.buffa_bytes.specs.Field.{IsTag, Payload, SomeField}
 use Rattle.buffa_wire.specs.BudgetLeft.{BudgetLeft, Lacks, Pays, PaysAtMost, need_by, nothing, plus}
 use Rattle.buffa_wire.specs.Message.{IsFieldMerged, IsJudged}
-use Rattle.buffa_bytes.specs.Reading.{skip_at, tag_at}
+use Rattle.buffa_bytes.specs.Front.{skip_at, tag_at}
 use Rattle.buffa_bytes.specs.Scan.{step_then}
 use Rattle.buffa_bytes.proofs.ScanLemmas.{Shortens, scan_step}
 use Rattle.buffa_wire.specs.ByField.{FieldNeed, FieldReader, cost_by, costs, field_costs, merged_by, stateless}

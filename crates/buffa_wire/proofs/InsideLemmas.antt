@@ -5,11 +5,9 @@ use Rattle.std.proofs.lemmas.Bool.{le-ltb}
 use Rattle.buffa_bytes.specs.declared.error.DecodeError.{DecodeError}
 use Rattle.buffa_bytes.specs.declared.error.DecodeError.TheVariants as error
 use Rattle.buffa_bytes.specs.Gives.{FullOnlyIf}
-use Rattle.buffa_bytes.specs.Reading.{delimited_at, taken, varint_at}
+use Rattle.buffa_bytes.specs.Front.{delimited_at, taken, varint_at}
 use Rattle.buffa_bytes.specs.Unread.{IsFrontOf}
-use Rattle.buffa_bytes.proofs.DelimitedLemmas.{taken_sound}
 use Rattle.buffa_bytes.proofs.FieldLemmas.{tag_falls}
-use Rattle.buffa_bytes.proofs.StepLemmas.{agree_ok}
 use Rattle.buffa_wire.proofs.SequenceLemmas.{ok_same}
 use Rattle.buffa_wire.specs.BudgetLeft.{BudgetLeft, Pays, PaysAtMost, nothing}
 use Rattle.buffa_wire.specs.Message.{BeginsField, IsMerged, MergeFault, MessageFault, cost_in, cost_of_payload, merged_in}
@@ -71,7 +69,3 @@ same_front bs p x rest h k = ap (λ z. z.0) (ok_same (sym h ∙ k))
 
 pub delimited_by : (n : ℕ) (bs mid : List ℕ) (r : Result (List ℕ × List ℕ) DecodeError) → varint_at bs ≡ Ok (n, mid) → taken n mid ≡ r → delimited_at bs ≡ r
 delimited_by n bs mid r v h = rw v h
-
--- the length of no bytes is 0
-pub none_long : (n : ℕ) (bs mid rest : List ℕ) → varint_at bs ≡ Ok (n, mid) → delimited_at bs ≡ Ok ([], rest) → n ≡ 0
-none_long n bs mid rest v h = sym (agree_ok (taken n mid) ([], rest) (taken_sound n mid) (sym (delimited_by n bs mid (taken n mid) v refl) ∙ h)).0

@@ -5,7 +5,7 @@ use Rattle.buffa_bytes.specs.declared.wire_type.WireType.{WireType}
 use Rattle.buffa_bytes.specs.declared.wire_type.WireType.TheVariants as wire
 use Rattle.buffa_bytes.specs.Join.{Join}
 use Rattle.buffa_bytes.specs.Join.Join.{none, more}
-use Rattle.buffa_bytes.specs.Field.{IsTag, PayloadOver, SomeFieldOver, SomeField, Group}
+use Rattle.buffa_bytes.specs.Field.{IsTag, Payload, PayloadOver, SomeFieldOver, SomeField, Group}
 use Rattle.buffa_wire.specs.Records.{Datum, varint, fixed32, fixed64, bytes, group, Records, no_records, one}
 use Rattle.buffa_wire.specs.Encoding.{wire_of}
 use Rattle.buffa_wire.specs.Parse.{Parse, IsPayload}
@@ -36,6 +36,10 @@ group_records (suc d) f p (b, t, j, tag, is) =
     let r = join_records_in d (Group d) (group_records d) b j in
     (r.0, (omega arith, b, t, subst (λ k. Parse k b r.0) (sym (one_deeper d)) r.1, tag, is))
 
+-- payloads are those of records
+pub record_of_payload : (d n : ℕ) (w : WireType) (p : List ℕ) → Payload d n w p → (x : Datum) × IsPayload d n x p × (wire_of x ≡ w)
+record_of_payload d n w p h = payload_record d (Group d) (group_records d) n w p h
+
 pub join_records : (d : ℕ) (b : List ℕ) → Join (SomeField d) b → (rs : Records) × Parse d b rs
 join_records d b j = join_records_in d (Group d) (group_records d) b j
 
@@ -45,12 +49,12 @@ mutual
   pub records_join : (rs : Records) (d : ℕ) (b : List ℕ) → Parse d b rs → Join (SomeField d) b
   records_join no_records d b p = subst (λ z. Join (SomeField d) z) (sym p) none
   records_join (one n x rs) d b (f, r, (t, q, tag, payload, is), next, all) =
-      subst (λ z. Join (SomeField d) z) (sym all) (more f r (n, wire_of x, (t, q, tag, payload_over x d n q payload, is)) (records_join rs d r next))
+      subst (λ z. Join (SomeField d) z) (sym all) (more f r (n, wire_of x, (t, q, tag, payload_of_record x d n q payload, is)) (records_join rs d r next))
 
-  payload_over : (x : Datum) (d n : ℕ) (p : List ℕ) → IsPayload d n x p → PayloadOver (Group d) n (wire_of x) p
-  payload_over (varint v) d n p h = (v, h)
-  payload_over (fixed32 v) d n p h = h.0
-  payload_over (fixed64 v) d n p h = h.0
-  payload_over (bytes v) d n p (t, u, is) = (t, v, u, is)
-  payload_over (group rs) zero n p (o, b, t, h, tag, is) = absurd (omega arith)
-  payload_over (group rs) (suc d) n p (o, b, t, h, tag, is) = (b, t, records_join rs d b (subst (λ k. Parse k b rs) (one_deeper d) h), tag, is)
+  pub payload_of_record : (x : Datum) (d n : ℕ) (p : List ℕ) → IsPayload d n x p → PayloadOver (Group d) n (wire_of x) p
+  payload_of_record (varint v) d n p h = (v, h)
+  payload_of_record (fixed32 v) d n p h = h.0
+  payload_of_record (fixed64 v) d n p h = h.0
+  payload_of_record (bytes v) d n p (t, u, is) = (t, v, u, is)
+  payload_of_record (group rs) zero n p (o, b, t, h, tag, is) = absurd (omega arith)
+  payload_of_record (group rs) (suc d) n p (o, b, t, h, tag, is) = (b, t, records_join rs d b (subst (λ k. Parse k b rs) (one_deeper d) h), tag, is)

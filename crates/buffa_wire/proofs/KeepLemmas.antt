@@ -1,15 +1,14 @@
 -- A field whose payload is one of the grammar is kept as one record, and of the unknown fields left as many are spent
 -- as it has fields.
-use Rattle.std.proofs.Common.{◌≡◌, ◌⊎◌, inl, inr, ℕ, zero, suc, ◌+◌, ◌-◌, ◌<◌, ◌≤◌, List, [], ◌++◌, length, Ok, refl, ap, sym, subst, ◌∙◌, arith, append-nil, length-append}
-use Rattle.std.specs.Int.{from_le_bytes, w32, w64}
+use Rattle.std.proofs.Common.{◌≡◌, ◌⊎◌, inl, inr, ℕ, zero, suc, ◌+◌, ◌-◌, ◌<◌, ◌≤◌, List, [], ◌++◌, length, Ok, refl, ap, sym, ◌∙◌, arith, append-nil, length-append}
 use Rattle.buffa_bytes.proofs.FieldLemmas.{tag_some}
 use Rattle.buffa_bytes.specs.Content.{ContentFault}
-use Rattle.buffa_bytes.specs.Field.{Group, Payload, PayloadOver}
+use Rattle.buffa_bytes.specs.Field.{Payload}
 use Rattle.buffa_bytes.specs.declared.wire_type.WireType.{WireType}
 use Rattle.buffa_bytes.specs.declared.wire_type.WireType.TheVariants as wire
 use Rattle.buffa_bytes.specs.declared.error.DecodeError.{DecodeError}
 use Rattle.buffa_bytes.specs.declared.error.DecodeError.TheVariants as error
-use Rattle.buffa_wire.proofs.JoinLemmas.{join_records, records_join, one_deeper}
+use Rattle.buffa_wire.proofs.JoinLemmas.{record_of_payload}
 use Rattle.buffa_wire.proofs.LoopLemmas.{field_taken}
 use Rattle.buffa_wire.proofs.MessageLemmas.{NoLimit, length_no_limit, tag_no_limit, var_no_limit, as_no_limit}
 use Rattle.buffa_wire.specs.BudgetLeft.{unknown_fields}
@@ -19,31 +18,6 @@ use Rattle.buffa_wire.specs.Parse.{FieldFault, FieldFaultOf, GroupFault, InsideF
 use Rattle.buffa_wire.specs.RecordReading.{field_at}
 use Rattle.buffa_wire.specs.Records.{Datum, Records, bytes, fixed32, fixed64, group, no_records, one, varint}
 use Rattle.buffa_wire.specs.Encoding.{wire_of}
-
--- ---- payloads are those of records
-group_record : (d n : ℕ) (p : List ℕ) → Group d n p → (x : Datum) × IsPayload d n x p × (wire_of x ≡ wire.StartGroup)
-unfolding Group
-group_record zero n p h = absurd h
-group_record (suc d) n p (b, t, j, tag, is) =
-    let r = join_records d b j in
-    (group r.0, (omega arith, b, t, subst (λ k. Parse k b r.0) (sym (one_deeper d)) r.1, tag, is), refl)
-
-pub record_of_payload : (d n : ℕ) (w : WireType) (p : List ℕ) → Payload d n w p → (x : Datum) × IsPayload d n x p × (wire_of x ≡ w)
-record_of_payload d n wire.Varint p h = (varint h.0, h.1, refl)
-record_of_payload d n wire.Fixed64 p h = (fixed64 (from_le_bytes w64 p), (h, refl), refl)
-record_of_payload d n wire.LengthDelimited p (t, v, u, is) = (bytes v, (t, u, is), refl)
-record_of_payload d n wire.StartGroup p h = group_record d n p h
-record_of_payload d n wire.EndGroup p h = absurd h
-record_of_payload d n wire.Fixed32 p h = (fixed32 (from_le_bytes w32 p), (h, refl), refl)
-
-pub payload_of_record : (x : Datum) (d n : ℕ) (p : List ℕ) → IsPayload d n x p → PayloadOver (Group d) n (wire_of x) p
-unfolding Group
-payload_of_record (varint v) d n p h = (v, h)
-payload_of_record (fixed32 v) d n p h = h.0
-payload_of_record (fixed64 v) d n p h = h.0
-payload_of_record (bytes v) d n p (t, u, is) = (t, v, u, is)
-payload_of_record (group rs) zero n p (o, b, t, h, tag, is) = absurd (omega arith)
-payload_of_record (group rs) (suc d) n p (o, b, t, h, tag, is) = (b, t, records_join rs d b (subst (λ k. Parse k b rs) (one_deeper d) h), tag, is)
 
 -- ---- each record has a byte at least
 mutual

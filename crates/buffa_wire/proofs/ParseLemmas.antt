@@ -1,21 +1,17 @@
 -- Records and their encodings: an encoding has one reading, and what is written is read.
-use Rattle.std.proofs.Common.{◌≡◌, ℕ, zero, suc, ◌+◌, ◌-◌, ◌*◌, ◌/◌, ◌%◌, ◌<◌, ◌≤◌, ◌^◌, List, [], ◌∷◌, ◌++◌, length, refl, sym, ap, ◌∙◌, arith, append_assoc, length-append, inl, inr}
+use Rattle.std.proofs.Common.{◌≡◌, ℕ, ◌+◌, ◌-◌, ◌*◌, ◌<◌, ◌≤◌, List, [], ◌∷◌, ◌++◌, length, refl, sym, ap, ◌∙◌, arith, append_assoc, length-append}
 use Rattle.std.specs.Int.{from_le_bytes, w32, w64}
 use Rattle.std.proofs.lemmas.Nat.{from_le_bytes-to_le_bytes_4, from_le_bytes-to_le_bytes_8}
-use Rattle.std.proofs.lemmas.Bool.{cases_lt}
 use Rattle.buffa_bytes.specs.WireType.{wire_number}
-use Rattle.buffa_bytes.specs.declared.wire_type.WireType.{WireType}
 use Rattle.buffa_bytes.specs.declared.wire_type.WireType.TheVariants as wire
 use Rattle.buffa_bytes.specs.Varint.{base128, Continue, IsVarint, varint_encoding}
 use Rattle.buffa_bytes.specs.Values.{tag_encoding}
 use Rattle.buffa_bytes.specs.Number.{IsNumber}
-use Rattle.buffa_bytes.specs.Field.{IsTag}
-use Rattle.buffa_bytes.proofs.VarintLemmas.{IsVarint-varint_encoding}
-use Rattle.buffa_bytes.proofs.ShortestLemmas.{varint_encoding-last, varint_encoding-more}
+use Rattle.buffa_bytes.proofs.VarintLemmas.{IsVarint-varint_encoding, Spells, varint_encoding-spells}
 use Rattle.buffa_wire.specs.Records.{Datum, varint, fixed32, fixed64, bytes, group, Records, no_records, one, records_height, datum_height}
-use Rattle.buffa_wire.specs.Encoding.{wire_of, payload_encoding, fields_encoding, field_encoding}
+use Rattle.buffa_wire.specs.Encoding.{wire_of, payload_encoding, fields_encoding, tagged_encoding}
 use Rattle.buffa_wire.specs.Parse.{Parse, IsPayload, Fits, FitsDatum, InRange, DatumInRange}
-use Rattle.buffa_bytes.proofs.FieldLemmas.{onward}
+use Rattle.buffa_bytes.proofs.FieldLemmas.{is_tag, onward}
 
 -- ---- more depth changes nothing
 mutual
@@ -32,22 +28,11 @@ mutual
   payload-deeper (group rs) c d n p h (o, b, t, q, tag, is) = (omega arith, b, t, Parse-deeper rs (c - 1) (d - 1) b (omega arith) q, tag, is)
 
 -- ---- the encoding of records is theirs
-tag_value : (n : ℕ) (w : WireType) → IsNumber n → 8 * n + wire_number w < 2 ^ 64
-tag_value n wire.Varint h = omega (arith, h.1)
-tag_value n wire.Fixed64 h = omega (arith, h.1)
-tag_value n wire.LengthDelimited h = omega (arith, h.1)
-tag_value n wire.StartGroup h = omega (arith, h.1)
-tag_value n wire.EndGroup h = omega (arith, h.1)
-tag_value n wire.Fixed32 h = omega (arith, h.1)
-
-is_tag : (n : ℕ) (w : WireType) → IsNumber n → IsTag (tag_encoding n w) n w
-is_tag n w h = (h, IsVarint-varint_encoding (8 * n + wire_number w) (tag_value n w h))
-
 mutual
   pub encoding_parses : (rs : Records) (d : ℕ) → Fits rs → records_height rs ≤ d → Parse d (fields_encoding rs) rs
   encoding_parses no_records d h k = refl
   encoding_parses (one n x rs) d h k =
-      (field_encoding n x, fields_encoding rs, (tag_encoding n (wire_of x), payload_encoding n x, is_tag n (wire_of x) h.0, payload_parses x d n h.0 h.1 (omega arith), refl), encoding_parses rs d h.2 (omega arith), refl)
+      (tagged_encoding n x, fields_encoding rs, (tag_encoding n (wire_of x), payload_encoding n x, is_tag n (wire_of x) h.0, payload_parses x d n h.0 h.1 (omega arith), refl), encoding_parses rs d h.2 (omega arith), refl)
 
   payload_parses : (x : Datum) (d n : ℕ) → IsNumber n → FitsDatum x → datum_height x ≤ d → IsPayload d n x (payload_encoding n x)
   payload_parses (varint v) d n i h k = IsVarint-varint_encoding v h
@@ -57,30 +42,8 @@ mutual
   payload_parses (group rs) d n i h k = (omega arith, fields_encoding rs, tag_encoding n wire.EndGroup, encoding_parses rs (d - 1) h (omega arith), is_tag n wire.EndGroup i, refl)
 
 -- ---- an encoding has one reading
--- p spells n, in any number of bytes
-record Spells (p : List ℕ) (n : ℕ) : Type 0 where
-  front : List ℕ
-  last : ℕ
-  is : p ≡ front ++ last ∷ []
-  continue : Continue front
-  ends : last < 128
-  value : n ≡ base128 p
-
 spelled : (p : List ℕ) (n : ℕ) → IsVarint p n → Spells p n
 spelled p n v = record { front = v.front; last = v.last; is = v.spelled; continue = v.continue; ends = v.ends; value = v.value }
-
-one_digit : (n : ℕ) → n < 128 → Spells (varint_encoding n) n
-one_digit n h = rw (varint_encoding-last n h) (record { front = []; last = n; is = refl; continue = tt; ends = h; value = omega arith })
-
-varint_encoding-spells : (k n : ℕ) → n ≤ k → Spells (varint_encoding n) n
-varint_encoding-spells zero n h = one_digit n (omega arith)
-varint_encoding-spells (suc k) n h = elim (cases_lt n 128) [
-  | inl small ↦ one_digit n small
-  | inr large ↦ (let s = varint_encoding-spells k (n / 128) (omega arith) in rw (varint_encoding-more n large) (record { front = (n % 128 + 128) ∷ s.front; last = s.last; is = ap (λ z. (n % 128 + 128) ∷ z) s.is; continue = (omega arith, s.continue); ends = s.ends; value = omega (arith, s.value) }))
-]
-
-varint_encoding-own : (n : ℕ) → Spells (varint_encoding n) n
-varint_encoding-own n = varint_encoding-spells n n (omega arith)
 
 fronts : (a b : List ℕ) (m n : ℕ) (x y : List ℕ) → Continue a → Continue b → m < 128 → n < 128 → a ++ (m ∷ x) ≡ b ++ (n ∷ y) → (a ≡ b) × (m ≡ n) × (x ≡ y)
 fronts [] [] m n x y p q h k e = (refl, cc, cc)
@@ -113,13 +76,13 @@ abbrev mutual
   LoosePayload n (bytes v) p = (t : List ℕ) × Spells t (length v) × (p ≡ t ++ v)
   LoosePayload n (group rs) p = (b : List ℕ) × (t : List ℕ) × Loose b rs × Spells t (8 * n + 4) × (p ≡ b ++ t)
 
-joined : (b f r t p : List ℕ) → b ≡ f ++ r → f ≡ t ++ p → b ≡ t ++ (p ++ r)
-joined b f r t p e h = e ∙ ap (λ z. z ++ r) h ∙ append_assoc t p r
+split_field : (b f r t p : List ℕ) → b ≡ f ++ r → f ≡ t ++ p → b ≡ t ++ (p ++ r)
+split_field b f r t p e h = e ∙ ap (λ z. z ++ r) h ∙ append_assoc t p r
 
 mutual
   parse_loose : (rs : Records) (d : ℕ) (b : List ℕ) → Parse d b rs → Loose b rs
   parse_loose no_records d b p = p
-  parse_loose (one n x rs) d b (f, r, (t, q, tag, payload, is), more, all) = (t, q, r, spelled t _ tag.1, payload_loose x d n q payload, parse_loose rs d r more, joined b f r t q all is)
+  parse_loose (one n x rs) d b (f, r, (t, q, tag, payload, is), more, all) = (t, q, r, spelled t _ tag.1, payload_loose x d n q payload, parse_loose rs d r more, split_field b f r t q all is)
 
   payload_loose : (x : Datum) (d n : ℕ) (p : List ℕ) → IsPayload d n x p → LoosePayload n x p
   payload_loose (varint v) d n p h = spelled p v h
@@ -131,14 +94,14 @@ mutual
 mutual
   encoding_loose : (rs : Records) → InRange rs → Loose (fields_encoding rs) rs
   encoding_loose no_records h = refl
-  encoding_loose (one n x rs) h = (tag_encoding n (wire_of x), payload_encoding n x, fields_encoding rs, varint_encoding-own _, payload_encoding_loose x n h.0, encoding_loose rs h.1, append_assoc (tag_encoding n (wire_of x)) (payload_encoding n x) (fields_encoding rs))
+  encoding_loose (one n x rs) h = (tag_encoding n (wire_of x), payload_encoding n x, fields_encoding rs, varint_encoding-spells _, payload_encoding_loose x n h.0, encoding_loose rs h.1, append_assoc (tag_encoding n (wire_of x)) (payload_encoding n x) (fields_encoding rs))
 
   payload_encoding_loose : (x : Datum) (n : ℕ) → DatumInRange x → LoosePayload n x (payload_encoding n x)
-  payload_encoding_loose (varint v) n h = varint_encoding-own v
+  payload_encoding_loose (varint v) n h = varint_encoding-spells v
   payload_encoding_loose (fixed32 v) n h = (refl, sym (from_le_bytes-to_le_bytes_4 v h))
   payload_encoding_loose (fixed64 v) n h = (refl, sym (from_le_bytes-to_le_bytes_8 v h))
-  payload_encoding_loose (bytes v) n h = (varint_encoding (length v), varint_encoding-own _, refl)
-  payload_encoding_loose (group rs) n h = (fields_encoding rs, tag_encoding n wire.EndGroup, encoding_loose rs h, varint_encoding-own _, refl)
+  payload_encoding_loose (bytes v) n h = (varint_encoding (length v), varint_encoding-spells _, refl)
+  payload_encoding_loose (group rs) n h = (fields_encoding rs, tag_encoding n wire.EndGroup, encoding_loose rs h, varint_encoding-spells _, refl)
 
 split_eq : (a b x y : List ℕ) → length a ≡ length b → a ++ x ≡ b ++ y → (a ≡ b) × (x ≡ y)
 split_eq [] [] x y n e = (refl, e)

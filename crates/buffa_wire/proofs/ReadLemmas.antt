@@ -9,7 +9,7 @@ use Rattle.buffa_bytes.specs.declared.error.DecodeError.{DecodeError}
 use Rattle.buffa_bytes.specs.declared.error.DecodeError.TheVariants.{UnexpectedEof}
 use Rattle.buffa_bytes.specs.Field.{IsTag, TagFault, TakesTag}
 use Rattle.buffa_bytes.specs.Content.{ContentFault}
-use Rattle.buffa_bytes.specs.Reading.{is_end, tag_at}
+use Rattle.buffa_bytes.specs.Front.{is_end, tag_at}
 use Rattle.buffa_bytes.specs.Scan.{step_then}
 use Rattle.buffa_bytes.proofs.StepLemmas.{Agrees, agree_bind, agree_err, agree_if, agree_ok, agree_weaker}
 use Rattle.buffa_bytes.proofs.ScanLemmas.{Leads, Shortens, if_leads, if_short, scan_leads, scan_step}
@@ -19,7 +19,7 @@ use Rattle.buffa_bytes.proofs.FieldLemmas.{tag_sound, tag_complete, tag_faulty, 
 use Rattle.buffa_wire.specs.Records.{Datum, varint, fixed32, fixed64, bytes, group, Records, no_records, one}
 use Rattle.buffa_wire.specs.Encoding.{wire_of}
 use Rattle.buffa_wire.specs.Parse.{Parse, IsPayload, field_count, fields_inside, TakesField, TakesRecords, InsideFault, FieldFaultOf, NextFault, GroupFault}
-use Rattle.buffa_wire.specs.RecordReading.{GroupReader, plain_at, ends_group, field_by, fields_at, group_at, kept_step, payload_by, record_step, records_by, records_step, then_one}
+use Rattle.buffa_wire.specs.RecordReading.{GroupReader, plain_at, ends_group, field_by, group_records_by, group_records_at, kept_step, payload_by, record_step, records_by, records_step, then_one}
 use Rattle.buffa_wire.proofs.JoinLemmas.{one_deeper}
 
 -- ---- wire types
@@ -222,11 +222,11 @@ module _ (d : ℕ) (inner : GroupReader) (F : ℕ → ℕ → List ℕ → Decod
     records_short s (b ∷ bs) = step_short (λ _. false) s (b ∷ bs) (tag_at (b ∷ bs)) refl
 
     pub group_turn : (n s : ℕ) (bs : List ℕ) (r : Result (ℕ × WireType × List ℕ) DecodeError) → tag_at bs ≡ r
-        → fields_at inner s n bs ≡ step_then (λ left rest. fields_at inner left n rest) (record_step inner (ends_group n) s r)
-    unfolding fields_at
+        → group_records_by inner s n bs ≡ step_then (λ left rest. group_records_by inner left n rest) (record_step inner (ends_group n) s r)
+    unfolding group_records_by
     group_turn n s bs r e =
         scan_step (λ left rest. record_step inner (ends_group n) left (tag_at rest)) (Err UnexpectedEof) (λ left rest. step_short (ends_group n) left rest (tag_at rest) refl) s bs
-        ∙ ap (λ z. step_then (λ left rest. fields_at inner left n rest) (record_step inner (ends_group n) s z)) e
+        ∙ ap (λ z. step_then (λ left rest. group_records_by inner left n rest) (record_step inner (ends_group n) s z)) e
 
     pub records_turn : (s b : ℕ) (bs : List ℕ) (r : Result (ℕ × WireType × List ℕ) DecodeError) → tag_at (b ∷ bs) ≡ r
         → records_by inner s (b ∷ bs) ≡ step_then (records_by inner) (record_step inner (λ _. false) s r)
@@ -254,8 +254,8 @@ module _ (d : ℕ) (inner : GroupReader) (F : ℕ → ℕ → List ℕ → Decod
         (λ y is. record { holds = (no_records, s, bs, ([], refl, omega arith, refl), inr (t.0, t.1, t.2, u, closes_false t.1 t.0 n other, agree_err (field_by inner s t.0 t.1 t.2) y (field_sound h s t.0 t.1 t.2) is)) }))
     group_leads n s bs (Err x) e = record { holds = (no_records, s, bs, ([], refl, omega arith, refl), inl (agree_err (tag_at bs) x (tag_sound bs) e)) }
 
-    pub group_sound_in : (s n : ℕ) (bs : List ℕ) → Agrees (fields_at inner s n bs) (λ v. InGroup s n bs v) (FieldsFault (λ m. m ≡ n) s bs)
-    unfolding fields_at
+    pub group_sound_in : (s n : ℕ) (bs : List ℕ) → Agrees (group_records_by inner s n bs) (λ v. InGroup s n bs v) (FieldsFault (λ m. m ≡ n) s bs)
+    unfolding group_records_by
     group_sound_in s n bs =
         scan_leads (λ left rest. record_step inner (ends_group n) left (tag_at rest)) (Err UnexpectedEof) (λ left rest. step_short (ends_group n) left rest (tag_at rest) refl) (ReadsGroup n)
         (λ left rest. group_leads n left rest (tag_at rest) refl) s bs
@@ -296,7 +296,7 @@ module _ (d : ℕ) (inner : GroupReader) (F : ℕ → ℕ → List ℕ → Decod
 
   module _ (h : Sound) (c : Complete) where
     group_step : (m s n : ℕ) (x : Datum) (left : ℕ) (t p rest : List ℕ) → IsTag t n (wire_of x) → IsPayload d n x p → 1 + fields_inside x + left ≡ s →
-        fields_at inner s m (t ++ (p ++ rest)) ≡ then_one n x (fields_at inner left m rest)
+        group_records_by inner s m (t ++ (p ++ rest)) ≡ then_one n x (group_records_by inner left m rest)
     group_step m s n x left t p rest tag payload e =
         group_turn h m s (t ++ (p ++ rest)) (Ok (n, wire_of x, p ++ rest)) (tag_complete t n (wire_of x) (p ++ rest) tag)
         ∙ rw (closes_no (wire_of x) n m (λ w. absurd (payload_no_end x w)), field_complete c s n x left p rest payload e) refl
@@ -309,10 +309,10 @@ module _ (d : ℕ) (inner : GroupReader) (F : ℕ → ℕ → List ℕ → Decod
         ∙ rw (field_complete c s n x left p rest payload e) refl
 
     -- after whole fields: the end tag of the group, or a fault
-    group_end : (s n : ℕ) (t rest : List ℕ) → IsTag t n wire.EndGroup → fields_at inner s n (t ++ rest) ≡ Ok (no_records, s, rest)
+    group_end : (s n : ℕ) (t rest : List ℕ) → IsTag t n wire.EndGroup → group_records_by inner s n (t ++ rest) ≡ Ok (no_records, s, rest)
     group_end s n t rest tag = group_turn h n s (t ++ rest) (Ok (n, wire.EndGroup, rest)) (tag_complete t n wire.EndGroup rest tag) ∙ rw (closes_yes wire.EndGroup n n refl refl) refl
 
-    group_fault : Faults → (s n : ℕ) (bs : List ℕ) (e : DecodeError) → NextFault (λ k. k ≡ n) F s bs e → fields_at inner s n bs ≡ Err e
+    group_fault : Faults → (s n : ℕ) (bs : List ℕ) (e : DecodeError) → NextFault (λ k. k ≡ n) F s bs e → group_records_by inner s n bs ≡ Err e
     group_fault k s n bs e (inl x) = group_turn h n s bs (Err e) (tag_faulty bs e x)
     group_fault k s n bs e (inr (f, w, rest, (t, u, is), o, x)) =
         group_turn h n s bs (Ok (f, w, rest)) (ap tag_at is ∙ tag_complete t f w rest u) ∙ rw (closes_no w f n o, field_faulty k s f w rest e x) refl
@@ -323,14 +323,14 @@ module _ (d : ℕ) (inner : GroupReader) (F : ℕ → ℕ → List ℕ → Decod
     records_fault k s (b ∷ bs) e (inr (f, w, rest, (t, u, is), _, x)) o =
         records_turn h s b bs (Ok (f, w, rest)) (ap tag_at is ∙ tag_complete t f w rest u) ∙ rw (field_faulty k s f w rest e x) refl
 
-    pub group_complete_in : (s n : ℕ) (v : Group) (bs : List ℕ) → InGroup s n bs v → fields_at inner s n bs ≡ Ok v
+    pub group_complete_in : (s n : ℕ) (v : Group) (bs : List ℕ) → InGroup s n bs v → group_records_by inner s n bs ≡ Ok v
     group_complete_in s n v bs (b, t, x, tag, e, is) =
-        ap (fields_at inner s n) is ∙ pass (λ s bs. fields_at inner s n bs) (group_step n) v.0 s v.1 b (t ++ v.2) x e
+        ap (group_records_by inner s n) is ∙ pass (λ s bs. group_records_by inner s n bs) (group_step n) v.0 s v.1 b (t ++ v.2) x e
         ∙ ap (behind v.0) (group_end v.1 n t v.2 tag) ∙ ap (λ z. Ok (z, v.1, v.2)) (also-none v.0)
 
-    pub group_faulty_in : Faults → (s n : ℕ) (bs : List ℕ) (e : DecodeError) → FieldsFault (λ m. m ≡ n) s bs e → fields_at inner s n bs ≡ Err e
+    pub group_faulty_in : Faults → (s n : ℕ) (bs : List ℕ) (e : DecodeError) → FieldsFault (λ m. m ≡ n) s bs e → group_records_by inner s n bs ≡ Err e
     group_faulty_in k s n bs e (rs, left, rest, (b, y, q, is), x) =
-        ap (fields_at inner s n) is ∙ pass (λ s bs. fields_at inner s n bs) (group_step n) rs s left b rest y q ∙ ap (behind rs) (group_fault k left n rest e x)
+        ap (group_records_by inner s n) is ∙ pass (λ s bs. group_records_by inner s n bs) (group_step n) rs s left b rest y q ∙ ap (behind rs) (group_fault k left n rest e x)
 
     pub records_complete_in : (s left : ℕ) (rs : Records) (bs : List ℕ) → Parse d bs rs → field_count rs + left ≡ s → records_by inner s bs ≡ Ok (rs, left, [])
     records_complete_in s left rs bs x q =
@@ -342,21 +342,21 @@ module _ (d : ℕ) (inner : GroupReader) (F : ℕ → ℕ → List ℕ → Decod
         ap (records_by inner s) is ∙ pass (records_by inner) one_record rs s left b rest y q ∙ ap (behind rs) (records_fault k left rest e x o)
 
 -- ---- groups nested at most d deep
-pub group_sound : (d : ℕ) → Sound d (group_at d) (GroupFault d)
-unfolding group_at GroupFault
+pub group_sound : (d : ℕ) → Sound d (group_records_at d) (GroupFault d)
+unfolding group_records_at GroupFault
 group_sound zero s n bs = record { holds = refl }
-group_sound (suc d) s n bs = agree_weaker (group_sound_in d (group_at d) (GroupFault d) (group_sound d) s n bs)
+group_sound (suc d) s n bs = agree_weaker (group_sound_in d (group_records_at d) (GroupFault d) (group_sound d) s n bs)
     (λ v a. (a.0 ++ a.1, (omega arith, a.0, a.1, subst (λ k. Parse k a.0 v.0) (sym (one_deeper d)) a.2, a.3, refl), a.4, a.5 ∙ sym (append_assoc a.0 a.1 v.2)))
     (λ e f. f)
 
-pub group_complete : (d : ℕ) → Complete d (group_at d) (GroupFault d)
-unfolding group_at
+pub group_complete : (d : ℕ) → Complete d (group_records_at d) (GroupFault d)
+unfolding group_records_at
 group_complete zero s n rs left p rest (o, b, t, h, tag, is) e = absurd (omega arith)
 group_complete (suc d) s n rs left p rest (o, b, t, h, tag, is) e =
-    group_complete_in d (group_at d) (GroupFault d) (group_sound d) (group_complete d) s n (rs, left, rest) (p ++ rest)
+    group_complete_in d (group_records_at d) (GroupFault d) (group_sound d) (group_complete d) s n (rs, left, rest) (p ++ rest)
     (b, t, subst (λ k. Parse k b rs) (one_deeper d) h, tag, e, ap (λ z. z ++ rest) is ∙ append_assoc b t rest)
 
-pub group_faulty : (d : ℕ) → Faults d (group_at d) (GroupFault d)
-unfolding group_at GroupFault
+pub group_faulty : (d : ℕ) → Faults d (group_records_at d) (GroupFault d)
+unfolding group_records_at GroupFault
 group_faulty zero s n bs e h = ap (λ x. Err x) (sym h)
-group_faulty (suc d) s n bs e h = group_faulty_in d (group_at d) (GroupFault d) (group_sound d) (group_complete d) (group_faulty d) s n bs e h
+group_faulty (suc d) s n bs e h = group_faulty_in d (group_records_at d) (GroupFault d) (group_sound d) (group_complete d) (group_faulty d) s n bs e h

@@ -2,6 +2,7 @@
 use Rattle.std.proofs.Common.{◌≡◌, ◌≢◌, ℕ, zero, suc, ◌+◌, ◌<◌, ◌≤◌, Bool, true, false, true≢false, List, [], ◌∷◌, length, get_or, refl, sym, ap, ◌∙◌, arith, cond, take}
 use Rattle.std.specs.List.{filter, items_where_true}
 use Rattle.std.specs.List.Retain.{IsFiltered, ReturnsInTurn}
+use Rattle.std.proofs.lemmas.Bool.{false_from_ne_true}
 use Rattle.buffa_wire.specs.Records.{Datum, Records, one, no_records, records_of, list_of, Held}
 use Rattle.buffa_wire.specs.Equal.{held_eq, records_eq-Decides, field_eq, field_eq-Decides}
 use Rattle.buffa_wire.specs.View.{CalledAtRecord, record_of, records_in}
@@ -22,13 +23,9 @@ pub length-records_in : (fs : List UnknownField) → length (records_in fs) ≡ 
 length-records_in [] = refl
 length-records_in (f ∷ fs) = ap (λ n. suc n) (length-records_in fs)
 
-differs : (b c : Bool) → b ≡ c → (b ≡ true → ⊥) → c ≡ false
-differs b true e other = absurd (other e)
-differs b false e other = refl
-
 pub lengths_differ : (xs ys : List UnknownField) (a b : Held) → a.records ≡ records_in xs → b.records ≡ records_in ys → length xs ≢ length ys → false ≡ held_eq a b
 lengths_differ xs ys a b p q other =
-    sym (differs (held_eq a b) (held_eq a b) refl
+    sym (false_from_ne_true (held_eq a b)
     (λ h. other (sym (length-records_in xs) ∙ ap length (sym p) ∙ ap length (sym (list-records a.records) ∙ ap list_of ((records_eq-Decides (records_of a.records) (records_of b.records)).0 h) ∙ list-records b.records) ∙ ap length q ∙ length-records_in ys)))
 
 step : (b : Bool) (f : UnknownField) (fs : List UnknownField) {q : List (ℕ × Datum)} → records_in fs ≡ q → records_in (cond b (f ∷ fs) fs) ≡ cond b (record_of f ∷ q) q
@@ -82,7 +79,7 @@ pub held_eq_yes : (a b : Held) → a.records ≡ b.records → held_eq a b ≡ t
 held_eq_yes a b e = (records_eq-Decides (records_of a.records) (records_of b.records)).1 (ap records_of e)
 
 pub held_eq_no : (a b : Held) → (a.records ≡ b.records → ⊥) → held_eq a b ≡ false
-held_eq_no a b other = differs (held_eq a b) (held_eq a b) refl (λ h. other (sym (list-records a.records) ∙ ap list_of ((records_eq-Decides (records_of a.records) (records_of b.records)).0 h) ∙ list-records b.records))
+held_eq_no a b other = false_from_ne_true (held_eq a b) (λ h. other (sym (list-records a.records) ∙ ap list_of ((records_eq-Decides (records_of a.records) (records_of b.records)).0 h) ∙ list-records b.records))
 
 pub not_same : (s o : Held) (xs ys : List UnknownField) (i : ℕ) (a b : UnknownField) → records_in xs ≡ s.records → records_in ys ≡ o.records → i < length xs → i < length ys
     → a ≡ get_or xs i a → b ≡ get_or ys i b → field_eq a b ≡ false → false ≡ held_eq s o

@@ -31,6 +31,9 @@ has_byte : (bs : List ℕ) → bs ≢ [] → 0 < length bs
 has_byte [] n = absurd (n refl)
 has_byte (b ∷ bs) n = omega arith
 
+pub not_nil : (bs : List ℕ) → 0 < length bs → bs ≢ []
+not_nil bs h e = absurd (omega (arith, h, ap length e))
+
 module _ {S : Type 0} (f : S → List ℕ → Result (S × List ℕ) DecodeError) where
   module _ (falls : Falls f) where
     step_short : (s : S) (bs : List ℕ) → Shortens (parse_step f s bs) bs

@@ -4,7 +4,7 @@ use Rattle.std.specs.Prelude.{Result}
 use Rattle.std.proofs.lemmas.Bool.{lt-ltb, le-ltb}
 use Rattle.std.proofs.lemmas.List.{take-append-drop, drop-append-le}
 use Rattle.buffa_bytes.specs.declared.error.EncodeError.{EncodeError}
-use Rattle.buffa_bytes.specs.Reading.{varint_at, varint_within}
+use Rattle.buffa_bytes.specs.Front.{varint_at, varint_within}
 use Rattle.buffa_bytes.specs.Unread.{IsChunkOf}
 use Rattle.buffa_bytes.specs.Varint.{varint_encoding}
 use Rattle.buffa_bytes.specs.Written.{UsesRoom, Writes}

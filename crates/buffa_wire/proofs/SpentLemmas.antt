@@ -1,4 +1,4 @@
--- Unknown fields left that were spent, and when memory is asked for.
+-- What is left of budgets, and when memory is asked for.
 use Rattle.std.proofs.Common.{◌≡◌, ◌≢◌, ◌⊎◌, inl, inr, ℕ, zero, suc, true, false, ◌+◌, ◌-◌, ◌<◌, List, [], length, Result, Ok, Err, refl, sym, ap, subst, ◌∙◌, arith}
 use Rattle.std.specs.Prelude.{IsOk}
 use Rattle.buffa_bytes.specs.declared.wire_type.WireType.{WireType}
@@ -6,10 +6,18 @@ use Rattle.buffa_bytes.specs.declared.wire_type.WireType.TheVariants as wire
 use Rattle.buffa_bytes.specs.declared.error.DecodeError.{DecodeError}
 use Rattle.buffa_wire.specs.RecordReading.{GroupTakesMemory, ListTakesMemory, PayloadTakesMemory, RecordTakesMemory, field_at}
 use Rattle.buffa_wire.specs.Records.{Datum}
-use Rattle.buffa_bytes.specs.Reading.{delimited_at, tag_at}
+use Rattle.buffa_bytes.specs.Front.{delimited_at, tag_at}
 use Rattle.buffa_bytes.specs.Unread.{IsTailOf, bytes_read}
 use Rattle.buffa_bytes.proofs.TailLemmas.{tail_shorter}
-use Rattle.buffa_wire.specs.BudgetLeft.{UnknownsSpent}
+use Rattle.buffa_wire.specs.BudgetLeft.{BudgetLeft, Pays, UnknownsSpent}
+
+-- ---- two budgets
+pub same_left : (a b : BudgetLeft) → a.unknown ≡ b.unknown → a.memory ≡ b.memory → a ≡ b
+same_left a b u m i = record { unknown = u i; memory = m i }
+
+-- what pays a need leaves one budget
+pub one_left : (left need a b : BudgetLeft) → Pays left need a → Pays left need b → a ≡ b
+one_left left need a b (u, m) (v, n) = same_left a b (omega (arith, u, v)) (omega (arith, m, n))
 
 -- ---- unknown fields left
 pub none_spent : (n s t : ℕ) → t ≡ s → UnknownsSpent n s t

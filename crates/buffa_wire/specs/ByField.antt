@@ -2,7 +2,7 @@
 -- Source: the protobuf encoding guide, "Message Structure".
 use Rattle.std.specs.Prelude.{ℕ, List, Option, Some, None, Result, Ok, Err}
 use Rattle.buffa_bytes.specs.Gives.{◌>>=◌}
-use Rattle.buffa_bytes.specs.Reading.{tag_at, skip_at}
+use Rattle.buffa_bytes.specs.Front.{tag_at, skip_at}
 use Rattle.buffa_bytes.specs.Scan.{Scanned, scan}
 use Rattle.buffa_bytes.specs.Scan.Scanned.{ends, goes}
 use Rattle.buffa_bytes.specs.declared.wire_type.WireType.{WireType}

@@ -30,8 +30,8 @@ abbrev mutual
   fields_encoding (one n x rs) = (tag_encoding n (wire_of x) ++ payload_encoding n x) ++ fields_encoding rs
 
 -- the encoding of a record
-abbrev pub field_encoding : ℕ → Datum → List ℕ
-field_encoding n x = tag_encoding n (wire_of x) ++ payload_encoding n x
+abbrev pub tagged_encoding : ℕ → Datum → List ℕ
+tagged_encoding n x = tag_encoding n (wire_of x) ++ payload_encoding n x
 
 -- the joined encodings of the records
 abbrev pub records_encoding : List (ℕ × Datum) → List ℕ

@@ -2,10 +2,11 @@
 use Rattle.std.specs.Prelude.{◌≡◌, ℕ, Bool, true, false, ◌&&◌, nat_eq, refl}
 use Rattle.std.specs.Bool.{Decides}
 use Rattle.std.specs.Str.{bytes_eq}
-use Rattle.std.proofs.Common.{true≢false, sym, ap}
+use Rattle.std.proofs.Common.{ap}
 use Rattle.std.proofs.lemmas.Slice.Eq.{bytes_eq-Decides}
 use Rattle.std.proofs.lemmas.Bool.Decides.{Decides-eqb}
 use Rattle.std.specs.Cmp.{IsEquivalence, nat_eq_equiv, decided, on_equiv, and_equiv, first_so, second_so}
+use Rattle.std.proofs.lemmas.Bool.{and_from, false≢true}
 use Rattle.buffa_wire.specs.View.{datum_of, record_of}
 use Rattle.buffa_wire.specs.declared.unknown_fields.UnknownField.{UnknownField}
 use Rattle.buffa_wire.specs.Records.{Datum, varint, fixed32, fixed64, bytes, group, Records, no_records, one, records_of, Held}
@@ -25,14 +26,8 @@ abbrev mutual
   records_eq (one n d rs) no_records = false
   records_eq (one n d rs) (one m e qs) = nat_eq n m && (datum_eq d e && records_eq rs qs)
 
-never : {P : Type 0} → false ≡ true → P
-never e = absurd (true≢false (sym e))
-
 nat_decides : (m n : ℕ) → Decides (nat_eq m n) (m ≡ n)
 nat_decides m n = Decides-eqb m n
-
-both : (b c : Bool) → b ≡ true → c ≡ true → (b && c) ≡ true
-both b c p q = cc
 
 mutual
   pub datum_eq-Decides : (x y : Datum) → Decides (datum_eq x y) (x ≡ y)
@@ -41,17 +36,17 @@ mutual
   datum_eq-Decides (fixed64 a) (fixed64 b) = (λ h. ap fixed64 ((nat_decides a b).0 h), λ e. (nat_decides a b).1 (cc))
   datum_eq-Decides (bytes a) (bytes b) = (λ h. ap bytes ((bytes_eq-Decides a b).0 h), λ e. (bytes_eq-Decides a b).1 (cc))
   datum_eq-Decides (group a) (group b) = (λ h. ap group ((records_eq-Decides a b).0 h), λ e. (records_eq-Decides a b).1 (cc))
-  datum_eq-Decides _ _ = (λ h. never h, λ e. cc)
+  datum_eq-Decides _ _ = (λ h. absurd (false≢true h), λ e. cc)
 
   pub records_eq-Decides : (x y : Records) → Decides (records_eq x y) (x ≡ y)
   records_eq-Decides no_records no_records = (λ h. refl, λ e. refl)
-  records_eq-Decides no_records (one m e qs) = (λ h. never h, λ e. cc)
-  records_eq-Decides (one n d rs) no_records = (λ h. never h, λ e. cc)
+  records_eq-Decides no_records (one m e qs) = (λ h. absurd (false≢true h), λ e. cc)
+  records_eq-Decides (one n d rs) no_records = (λ h. absurd (false≢true h), λ e. cc)
   records_eq-Decides (one n d rs) (one m e qs) = (
     λ h. let p = first_so (nat_eq n m) (datum_eq d e && records_eq rs qs) h in
         let q = second_so (nat_eq n m) (datum_eq d e && records_eq rs qs) h in
         λ i. one ((nat_decides n m).0 p i) ((datum_eq-Decides d e).0 (first_so (datum_eq d e) (records_eq rs qs) q) i) ((records_eq-Decides rs qs).0 (second_so (datum_eq d e) (records_eq rs qs) q) i),
-    λ w. both (nat_eq n m) (datum_eq d e && records_eq rs qs) ((nat_decides n m).1 (cc)) (both (datum_eq d e) (records_eq rs qs) ((datum_eq-Decides d e).1 (cc)) ((records_eq-Decides rs qs).1 (cc))),
+    λ w. and_from (nat_eq n m) (datum_eq d e && records_eq rs qs) ((nat_decides n m).1 (cc)) (and_from (datum_eq d e) (records_eq rs qs) ((datum_eq-Decides d e).1 (cc)) ((records_eq-Decides rs qs).1 (cc))),
   )
 
 pub records_eq_equiv : IsEquivalence records_eq
@@ -78,5 +73,5 @@ field_eq-Decides a b = (
     (nat_decides a.number b.number).0 (first_so (nat_eq a.number b.number) (datum_eq (datum_of a.payload) (datum_of b.payload)) h) i,
     (datum_eq-Decides (datum_of a.payload) (datum_of b.payload)).0 (second_so (nat_eq a.number b.number) (datum_eq (datum_of a.payload) (datum_of b.payload)) h) i,
   ),
-  λ e. both _ _ ((nat_decides a.number b.number).1 (ap (λ (p : ℕ × Datum). p.0) e)) ((datum_eq-Decides (datum_of a.payload) (datum_of b.payload)).1 (ap (λ (p : ℕ × Datum). p.1) e)),
+  λ e. and_from _ _ ((nat_decides a.number b.number).1 (ap (λ (p : ℕ × Datum). p.0) e)) ((datum_eq-Decides (datum_of a.payload) (datum_of b.payload)).1 (ap (λ (p : ℕ × Datum). p.1) e)),
 )

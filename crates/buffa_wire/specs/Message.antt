@@ -5,7 +5,7 @@ use Rattle.buffa_bytes.specs.declared.error.DecodeError.TheVariants.{ElementMemo
 use Rattle.buffa_bytes.specs.declared.wire_type.WireType.{WireType}
 use Rattle.buffa_bytes.specs.declared.wire_type.WireType.TheVariants.{EndGroup}
 use Rattle.buffa_bytes.specs.Field.{IsTag, Payload, TakesPayload}
-use Rattle.buffa_bytes.specs.Reading.{delimited_at, tag_at}
+use Rattle.buffa_bytes.specs.Front.{delimited_at, tag_at}
 use Rattle.buffa_wire.specs.declared.context.DecodeContext.{DecodeContext}
 use Rattle.buffa_wire.specs.BudgetLeft.{BudgetLeft, Lacks, Pays, PaysAtMost, defaults, nothing}
 

@@ -6,7 +6,7 @@ use Rattle.buffa_bytes.specs.declared.wire_type.WireType.{WireType}
 use Rattle.buffa_bytes.specs.declared.wire_type.WireType.TheVariants as wire
 use Rattle.buffa_bytes.specs.declared.error.DecodeError.{DecodeError}
 use Rattle.buffa_bytes.specs.declared.error.DecodeError.TheVariants.{UnexpectedEof, InvalidWireType, RecursionLimitExceeded, UnknownFieldLimitExceeded, InvalidEndGroup}
-use Rattle.buffa_bytes.specs.Reading.{varint_at, delimited_at, tag_at, is_end}
+use Rattle.buffa_bytes.specs.Front.{varint_at, delimited_at, tag_at, is_end}
 use Rattle.buffa_bytes.specs.Scan.{Scanned, scan}
 use Rattle.buffa_bytes.specs.Scan.Scanned.{ends, goes}
 use Rattle.buffa_bytes.specs.Scalars.{fixed32_at, fixed64_at}
@@ -57,24 +57,24 @@ abbrev pub ends_group : ℕ → ℕ × WireType × List ℕ → Bool
 ends_group n t = is_end t.1 && (t.0 == n)
 
 -- the fields and the end tag of group n
-unfoldable pub fields_at : GroupReader → GroupReader
-fields_at inner s n bs = scan (λ left rest. record_step inner (ends_group n) left (tag_at rest)) (Err UnexpectedEof) s bs
+unfoldable pub group_records_by : GroupReader → GroupReader
+group_records_by inner s n bs = scan (λ left rest. record_step inner (ends_group n) left (tag_at rest)) (Err UnexpectedEof) s bs
 
 -- the same, with groups nested at most d deep
-unfoldable pub group_at : ℕ → GroupReader
-group_at zero s n bs = Err RecursionLimitExceeded
-group_at (suc d) s n bs = fields_at (group_at d) s n bs
+unfoldable pub group_records_at : ℕ → GroupReader
+group_records_at zero s n bs = Err RecursionLimitExceeded
+group_records_at (suc d) s n bs = group_records_by (group_records_at d) s n bs
 
 -- the field after a tag of number n and wire type w
 abbrev pub field_at : ℕ → ℕ → ℕ → WireType → List ℕ → Result (Datum × ℕ × List ℕ) DecodeError
-field_at d = field_by (group_at d)
+field_at d = field_by (group_records_at d)
 
 -- both in a context, of its depth and its unknown fields left
 abbrev pub field_in : DecodeContext → ℕ → WireType → List ℕ → Result (Datum × ℕ × List ℕ) DecodeError
 field_in ctx = field_at ctx.depth ctx.budget.now.unknown
 
 abbrev pub group_in : DecodeContext → ℕ → List ℕ → Result (Records × ℕ × List ℕ) DecodeError
-group_in ctx = group_at ctx.depth ctx.budget.now.unknown
+group_in ctx = group_records_at ctx.depth ctx.budget.now.unknown
 
 -- fields, to the end of the bytes
 abbrev pub records_step : GroupReader → ℕ → List ℕ → Scanned ℕ (Result (Records × ℕ × List ℕ) DecodeError)
@@ -85,7 +85,7 @@ unfoldable pub records_by : GroupReader → ℕ → List ℕ → Result (Records
 records_by inner s bs = scan (records_step inner) (Err UnexpectedEof) s bs
 
 abbrev pub records_at : ℕ → ℕ → List ℕ → Result (Records × ℕ × List ℕ) DecodeError
-records_at d = records_by (group_at d)
+records_at d = records_by (group_records_at d)
 
 -- the records alone
 abbrev pub list_at : ℕ → ℕ → List ℕ → Result (List (ℕ × Datum)) DecodeError
@@ -109,7 +109,7 @@ FieldsTakeMemory inner G s bs =
 -- the same of fields in a group, nested at most d deep
 unfoldable pub GroupTakesMemory : ℕ → ℕ → List ℕ → Type 0
 GroupTakesMemory zero s bs = ⊥
-GroupTakesMemory (suc d) s bs = FieldsTakeMemory (group_at d) (GroupTakesMemory d) s bs
+GroupTakesMemory (suc d) s bs = FieldsTakeMemory (group_records_at d) (GroupTakesMemory d) s bs
 
 -- a field after its tag takes memory
 abbrev pub RecordTakesMemory : ℕ → ℕ → WireType → List ℕ → Type 0
@@ -117,4 +117,4 @@ RecordTakesMemory d s w bs = (0 < s) × PayloadTakesMemory (GroupTakesMemory d) 
 
 -- whole bytes take memory
 abbrev pub ListTakesMemory : ℕ → ℕ → List ℕ → Type 0
-ListTakesMemory d s bs = FieldsTakeMemory (group_at d) (GroupTakesMemory d) s bs
+ListTakesMemory d s bs = FieldsTakeMemory (group_records_at d) (GroupTakesMemory d) s bs

@@ -5,7 +5,7 @@ use Rattle.std.specs.Int.{w32}
 use Rattle.buffa_bytes.specs.Scalars.{zigzag}
 use Rattle.buffa_bytes.proofs.ScalarLemmas.{zigzag_fits32}
 
--- ---- lengths of payloads
+-- ---- lengths of encodings
 
 abbrev none : Option ℕ
 none = None

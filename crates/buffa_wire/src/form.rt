@@ -33,8 +33,8 @@ pub trait Form: Sealed {
     /// The numbers that can be spelled.
     ghost spells: { ℕ → Type 0 };
 
-    /// The payload of a number.
-    ghost payload: { ℕ → List ℕ };
+    /// The encoding of a number.
+    ghost encoding: { ℕ → List ℕ };
 
     /// Reads the number at the front. It takes no memory.
     ///
@@ -52,27 +52,27 @@ pub trait Form: Sealed {
         ensures left { OnErr result (B.unread buf.new ≡ past_no_payload WIRE_TYPE (B.unread buf.old)) }
         ensures tail { IsTailOf (B.unread buf.new) (B.unread buf.old) };
 
-    /// The length of a number's payload in bytes, 1 to 10; the number has to be one that can be spelled.
+    /// The length of a number's encoding in bytes, 1 to 10; the number has to be one that can be spelled.
     ///
     /// ```ignore
     /// let len = <N::Form as Form>::len(N::number_of(value));
     /// ```
     fn len(n: u64) -> u64
         requires { spells n }
-        ensures { result ≡ length (payload n) };
+        ensures { result ≡ length (encoding n) };
 
     /// Writes a number, which has to be one that can be spelled.
     ///
     /// # Errors
-    /// [`EncodeError::OutOfMemory`] alone, after a beginning of the payload.
+    /// [`EncodeError::OutOfMemory`] alone, after a beginning of the encoding.
     ///
     /// ```ignore
     /// let answer = <N::Form as Form>::write(N::number_of(value), sink);
     /// ```
     fn write<S: EncodeSink>(n: u64, sink: &mut S) -> Result<(), EncodeError>
         requires { spells n }
-        ensures writes { Writes result (S.written sink.old) (payload n) (S.written sink.new) }
-        ensures room { UsesRoom result (S.room sink.old) (payload n) (S.room sink.new) };
+        ensures writes { Writes result (S.written sink.old) (encoding n) (S.written sink.new) }
+        ensures room { UsesRoom result (S.room sink.old) (encoding n) (S.room sink.new) };
 
     /// The record data of a number.
     ghost datum: { ℕ → Datum };
@@ -98,8 +98,8 @@ pub trait Form: Sealed {
         requires { spells n }
         ensures { datum_of result ≡ datum n };
 
-    /// The payload of a number holds it.
-    ghost reads_back: { (n : ℕ) → spells n → HasContent WIRE_TYPE (payload n) (number n) };
+    /// The encoding of a number holds it.
+    ghost reads_back: { (n : ℕ) → spells n → HasContent WIRE_TYPE (encoding n) (number n) };
 
     /// The record of a number has it.
     ghost kept: { (n : ℕ) → found (datum n) ≡ Some n };
@@ -130,7 +130,7 @@ impl Form for Varint {
 
     ghost spells = { λ n. n < 2 ^ 64 };
 
-    ghost payload = { varint_encoding };
+    ghost encoding = { varint_encoding };
 
     ghost datum = { varint };
 
@@ -190,7 +190,7 @@ impl Form for FourBytes {
 
     ghost spells = { λ n. n < 2 ^ 32 };
 
-    ghost payload = { to_le_bytes w32 };
+    ghost encoding = { to_le_bytes w32 };
 
     ghost datum = { fixed32 };
 
@@ -249,7 +249,7 @@ impl Form for EightBytes {
 
     ghost spells = { λ n. n < 2 ^ 64 };
 
-    ghost payload = { to_le_bytes w64 };
+    ghost encoding = { to_le_bytes w64 };
 
     ghost datum = { fixed64 };
 

@@ -8,7 +8,7 @@ ghost use Rattle.buffa_bytes.specs.Field.{SomeField};
 ghost use Rattle.buffa_bytes.specs.Gives.{FullOnlyIf};
 ghost use Rattle.buffa_bytes.specs.Join.{Join};
 ghost use Rattle.buffa_bytes.specs.Left.{LeavesUnlessFull, past_no_delimited};
-ghost use Rattle.buffa_bytes.specs.Reading.{delimited_at};
+ghost use Rattle.buffa_bytes.specs.Front.{delimited_at};
 ghost use Rattle.buffa_bytes.specs.Unread.{IsTailOf};
 ghost use Rattle.buffa_wire.specs.BudgetLeft.{BudgetLeft, PaysAtMost, budget_left, nothing, plus};
 ghost use Rattle.buffa_bytes.specs.declared.error.EncodeError.TheVariants as error;

@@ -21,7 +21,7 @@ pub trait Scalar: Sealed {
     /// The units of element memory that a value costs.
     const UNITS: usize;
 
-    /// The length of every payload, where they have one length.
+    /// The length of every encoding, where they have one length.
     const LEN: Option<u64>;
 
     ghost UNITS: { ℕ };
@@ -62,6 +62,6 @@ pub trait Scalar: Sealed {
     /// The number of a value means that value.
     ghost means: { (v : Self.Value.Meaning) → fits v → value_of (number_of v) ≡ v };
 
-    /// The fixed length is that of every payload, whatever the value.
-    ghost fixed: { (n : ℕ) → LEN ≡ Some n → (v : Self.Value.Meaning) → length (Self.Form.payload (number_of v)) ≡ n };
+    /// The fixed length is that of every encoding, whatever the value.
+    ghost fixed: { (n : ℕ) → LEN ≡ Some n → (v : Self.Value.Meaning) → length (Self.Form.encoding (number_of v)) ≡ n };
 }

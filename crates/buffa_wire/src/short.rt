@@ -6,7 +6,7 @@
 ghost use Rattle.std.specs.Prelude.{◌≡◌, ◌≤◌, ℕ, List, ◌++◌, Ok, drop, length, IfSome, OnErr};
 ghost use Rattle.buffa_bytes.specs.Gives.{Gives};
 ghost use Rattle.buffa_bytes.specs.Left.{past_no_varint};
-ghost use Rattle.buffa_bytes.specs.Reading.{varint_at};
+ghost use Rattle.buffa_bytes.specs.Front.{varint_at};
 ghost use Rattle.buffa_bytes.specs.Unread.{IsTailOf};
 ghost use Rattle.buffa_bytes.specs.Varint.{varint_encoding};
 ghost use Rattle.buffa_bytes.specs.Written.{UsesRoom, Writes};

@@ -1,16 +1,15 @@
 -- Answers that contracts allow are one.
-use Rattle.std.proofs.Common.{◌≡◌, ◌≢◌, ◌⊎◌, inl, inr, ℕ, ℤ, true, zero, suc, ◌+◌, ◌-◌, ◌<◌, ◌≤◌, List, [], ◌∷◌, ◌++◌, drop, length, slice_index, Option, Some, refl, sym, ap, subst, ◌∙◌, arith, append-nil}
+use Rattle.std.proofs.Common.{◌≡◌, ◌≢◌, ◌⊎◌, inl, inr, ℕ, ℤ, true, zero, suc, ◌+◌, ◌-◌, List, [], ◌∷◌, ◌++◌, drop, length, slice_index, Option, Some, refl, sym, ap, subst, ◌∙◌, arith, append-nil}
 use Rattle.buffa_bytes.proofs.FieldLemmas.{payload_complete}
 use Rattle.buffa_bytes.specs.declared.wire_type.WireType.{WireType}
 use Rattle.buffa_bytes.specs.declared.error.DecodeError.{DecodeError}
 use Rattle.buffa_bytes.specs.Field.{IsTag, Payload}
-use Rattle.buffa_bytes.specs.Reading.{skip_at}
+use Rattle.buffa_bytes.specs.Front.{skip_at}
 use Rattle.buffa_wire.specs.BudgetLeft.{BudgetLeft, Lacks, Pays}
 use Rattle.buffa_wire.specs.Cache.{Cache, advanced, appended}
 use Rattle.buffa_wire.specs.Enums.{open_number}
 use Rattle.buffa_wire.specs.Passes.{IsNext}
 use Rattle.buffa_wire.proofs.PassLemmas.{drop_past, next_ok, next_rest}
-use Rattle.buffa_wire.specs.Parse.{field_count}
 use Rattle.buffa_wire.specs.Message.{IsFieldMerged, MergeFault, IsInside, MessageFault, cost_in, merged_in}
 use Rattle.buffa_bytes.specs.declared.error.DecodeError.TheVariants.{OutOfMemory}
 use Rattle.std.proofs.lemmas.List.{append_cancel_right}
@@ -20,15 +19,10 @@ use Rattle.buffa_wire.specs.Records.{list_of, records_of}
 use Rattle.buffa_wire.proofs.LoopLemmas.{field_refused, field_taken, list_refused, list_taken}
 use Rattle.buffa_wire.proofs.RecordLemmas.{list-records}
 use Rattle.buffa_wire.proofs.SequenceLemmas.{ok_same}
+use Rattle.buffa_wire.proofs.SpentLemmas.{one_left}
 use Rattle.buffa_wire.proofs.KeepLemmas.{le_or_lt}
 
 -- ---- budgets
-one_left : (left need a b : BudgetLeft) → Pays left need a → Pays left need b → a ≡ b
-one_left left need a b (u, m) (v, n) =
-    let unknown : a.unknown ≡ b.unknown = omega (arith, u, v) in
-    let memory : a.memory ≡ b.memory = omega (arith, m, n) in
-    ap (λ (z : ℕ). record { unknown = z; memory = a.memory }) unknown ∙ ap (λ (z : ℕ). record { unknown = b.unknown; memory = z }) memory
-
 not_lacked : (left need a : BudgetLeft) → Pays left need a → Lacks left need → ⊥
 not_lacked left need a (u, m) (inl few) = omega (arith, u, few)
 not_lacked left need a (u, m) (inr few) = omega (arith, m, few)

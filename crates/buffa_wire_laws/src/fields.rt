@@ -23,7 +23,7 @@ ghost use Rattle.buffa_bytes.specs.Content.{Content, ContentFault, TakesContent,
 ghost use Rattle.buffa_bytes.specs.Content.{number_in};
 ghost use Rattle.buffa_bytes.specs.Field.{LengthFault, SomeField, TakesDelimited, TakesTag, TagFault, TakesPayload};
 ghost use Rattle.buffa_bytes.specs.Field.{PayloadFault};
-ghost use Rattle.buffa_bytes.specs.Reading.{delimited_at, varint_at, tag_at, skip_at, group_at, group_by_field};
+ghost use Rattle.buffa_bytes.specs.Front.{delimited_at, varint_at, tag_at, skip_at, group_at, group_by_field};
 ghost use Rattle.buffa_bytes.specs.Scalars.{bool_at, bool_of, bool_encoding, eight_as, fixed32_at, fixed32_encoding};
 ghost use Rattle.buffa_bytes.specs.Scalars.{fixed64_at, fixed64_encoding, four_as, int32_of, int64_at, int64_of};
 ghost use Rattle.buffa_bytes.specs.Scalars.{int64_encoding, sfixed32_at, sfixed32_of, sfixed32_encoding, sfixed64_at};
@@ -34,9 +34,9 @@ ghost use Rattle.bytes.specs.Filled.{Filled};
 ghost use Rattle.buffa_bytes.specs.Adapted.{ShowsInner, kept_beyond};
 ghost use Rattle.buffa_bytes.specs.Pinned.{AnswerIsPinned, AnswerIsPinnedUnlessFull, ChunkIsPinned, IsItsBytes};
 ghost use Rattle.buffa_bytes.specs.Pinned.{IsCopied, Means, SameIsOne, ShowsBytes, ShowsFront, WriteIsPinned};
-ghost use Rattle.buffa_bytes.specs.Reading.{check_wire};
+ghost use Rattle.buffa_bytes.specs.Front.{check_wire};
 ghost use Rattle.buffa_bytes.specs.WireType.{wire_kind, wire_number};
-ghost use Rattle.buffa_bytes.specs.Texts.{bytes_as, string_as, text_as};
+ghost use Rattle.buffa_bytes.specs.Delimited.{bytes_as, string_as, text_as};
 ghost use Rattle.buffa_bytes.specs.Values.{delimited_encoding, int32_at, int32_encoding, string_at, tag_encoding};
 
 use buffa_bytes::adapted::Adapted;
@@ -314,7 +314,7 @@ pub fn keys_are_these()
 {}
 
 /// The text of a `String`, and the bytes of a vector, are its bytes. It leaves nothing open.
-pub fn texts_are_these()
+pub fn values_are_their_bytes()
     ensures string { IsItsBytes ⟦<String as ProtoString>⟧.text ⟦<String as ProtoString>⟧.of_text }
     ensures bytes { IsItsBytes ⟦<Vec<u8> as ProtoBytes>⟧.bytes ⟦<Vec<u8> as ProtoBytes>⟧.of_bytes }
 {}

@@ -20,20 +20,20 @@ use buffa_wire::scalars::{
 
 /// What is written of a value of each scalar. Nothing is open.
 pub fn scalars_are_written()
-    ensures int32 { (v : ℤ) → ⟦<<Int32 as Scalar>::Form as Form>⟧.payload (⟦<Int32 as Scalar>⟧.number_of v) ≡ int32_encoding v }
-    ensures int64 { (v : ℤ) → ⟦<<Int64 as Scalar>::Form as Form>⟧.payload (⟦<Int64 as Scalar>⟧.number_of v) ≡ int64_encoding v }
-    ensures uint32 { (v : ℕ) → ⟦<<Uint32 as Scalar>::Form as Form>⟧.payload (⟦<Uint32 as Scalar>⟧.number_of v) ≡ uint32_encoding v }
-    ensures uint64 { (v : ℕ) → ⟦<<Uint64 as Scalar>::Form as Form>⟧.payload (⟦<Uint64 as Scalar>⟧.number_of v) ≡ uint64_encoding v }
-    ensures sint32 { (v : ℤ) → ⟦<<Sint32 as Scalar>::Form as Form>⟧.payload (⟦<Sint32 as Scalar>⟧.number_of v) ≡ sint32_encoding v }
-    ensures sint64 { (v : ℤ) → ⟦<<Sint64 as Scalar>::Form as Form>⟧.payload (⟦<Sint64 as Scalar>⟧.number_of v) ≡ sint64_encoding v }
-    ensures bool { (v : _) → ⟦<<Bool as Scalar>::Form as Form>⟧.payload (⟦<Bool as Scalar>⟧.number_of v) ≡ bool_encoding v }
-    ensures fixed32 { (v : ℕ) → ⟦<<Fixed32 as Scalar>::Form as Form>⟧.payload (⟦<Fixed32 as Scalar>⟧.number_of v) ≡ fixed32_encoding v }
-    ensures fixed64 { (v : ℕ) → ⟦<<Fixed64 as Scalar>::Form as Form>⟧.payload (⟦<Fixed64 as Scalar>⟧.number_of v) ≡ fixed64_encoding v }
-    ensures sfixed32 { (v : ℤ) → ⟦<<Sfixed32 as Scalar>::Form as Form>⟧.payload (⟦<Sfixed32 as Scalar>⟧.number_of v) ≡ sfixed32_encoding v }
-    ensures sfixed64 { (v : ℤ) → ⟦<<Sfixed64 as Scalar>::Form as Form>⟧.payload (⟦<Sfixed64 as Scalar>⟧.number_of v) ≡ sfixed64_encoding v }
+    ensures int32 { (v : ℤ) → ⟦<<Int32 as Scalar>::Form as Form>⟧.encoding (⟦<Int32 as Scalar>⟧.number_of v) ≡ int32_encoding v }
+    ensures int64 { (v : ℤ) → ⟦<<Int64 as Scalar>::Form as Form>⟧.encoding (⟦<Int64 as Scalar>⟧.number_of v) ≡ int64_encoding v }
+    ensures uint32 { (v : ℕ) → ⟦<<Uint32 as Scalar>::Form as Form>⟧.encoding (⟦<Uint32 as Scalar>⟧.number_of v) ≡ uint32_encoding v }
+    ensures uint64 { (v : ℕ) → ⟦<<Uint64 as Scalar>::Form as Form>⟧.encoding (⟦<Uint64 as Scalar>⟧.number_of v) ≡ uint64_encoding v }
+    ensures sint32 { (v : ℤ) → ⟦<<Sint32 as Scalar>::Form as Form>⟧.encoding (⟦<Sint32 as Scalar>⟧.number_of v) ≡ sint32_encoding v }
+    ensures sint64 { (v : ℤ) → ⟦<<Sint64 as Scalar>::Form as Form>⟧.encoding (⟦<Sint64 as Scalar>⟧.number_of v) ≡ sint64_encoding v }
+    ensures bool { (v : _) → ⟦<<Bool as Scalar>::Form as Form>⟧.encoding (⟦<Bool as Scalar>⟧.number_of v) ≡ bool_encoding v }
+    ensures fixed32 { (v : ℕ) → ⟦<<Fixed32 as Scalar>::Form as Form>⟧.encoding (⟦<Fixed32 as Scalar>⟧.number_of v) ≡ fixed32_encoding v }
+    ensures fixed64 { (v : ℕ) → ⟦<<Fixed64 as Scalar>::Form as Form>⟧.encoding (⟦<Fixed64 as Scalar>⟧.number_of v) ≡ fixed64_encoding v }
+    ensures sfixed32 { (v : ℤ) → ⟦<<Sfixed32 as Scalar>::Form as Form>⟧.encoding (⟦<Sfixed32 as Scalar>⟧.number_of v) ≡ sfixed32_encoding v }
+    ensures sfixed64 { (v : ℤ) → ⟦<<Sfixed64 as Scalar>::Form as Form>⟧.encoding (⟦<Sfixed64 as Scalar>⟧.number_of v) ≡ sfixed64_encoding v }
 {}
 
-/// What the number in a payload of each scalar means. Nothing is open.
+/// What the number in an encoding of each scalar means. Nothing is open.
 pub fn scalars_are_read()
     ensures int32 { (n : ℕ) → ⟦<Int32 as Scalar>⟧.value_of n ≡ int32_of n }
     ensures int64 { (n : ℕ) → ⟦<Int64 as Scalar>⟧.value_of n ≡ int64_of n }
@@ -78,7 +78,7 @@ pub fn scalars_cost_so_much()
     ensures sfixed64 { ⟦<Sfixed64 as Scalar>⟧.UNITS ≡ 8 }
 {}
 
-/// The length of each scalar's payloads, where they have one. Nothing is open.
+/// The length of each scalar's encodings, where they have one. Nothing is open.
 pub fn scalars_have_lengths()
     ensures int32 { ⟦<Int32 as Scalar>⟧.LEN ≡ None }
     ensures int64 { ⟦<Int64 as Scalar>⟧.LEN ≡ None }
@@ -95,13 +95,13 @@ pub fn scalars_have_lengths()
 
 /// How each form spells a number, which numbers it spells, and the record of one. Nothing is open.
 pub fn forms_are_these()
-    ensures varint { (n : ℕ) → (⟦<Varint as Form>⟧.payload n ≡ varint_encoding n) × (⟦<Varint as Form>⟧.spells n ↔ (n < 2 ^ 64)) }
+    ensures varint { (n : ℕ) → (⟦<Varint as Form>⟧.encoding n ≡ varint_encoding n) × (⟦<Varint as Form>⟧.spells n ↔ (n < 2 ^ 64)) }
     ensures varint_record { (n : ℕ) → (⟦<Varint as Form>⟧.datum n ≡ varint n) × (⟦<Varint as Form>⟧.found ≡ varint_in) }
     ensures varint_wire { ⟦<Varint as Form>⟧.WIRE_TYPE ≡ wire.Varint }
-    ensures four { (n : ℕ) → (⟦<FourBytes as Form>⟧.payload n ≡ to_le_bytes w32 n) × (⟦<FourBytes as Form>⟧.spells n ↔ (n < 2 ^ 32)) }
+    ensures four { (n : ℕ) → (⟦<FourBytes as Form>⟧.encoding n ≡ to_le_bytes w32 n) × (⟦<FourBytes as Form>⟧.spells n ↔ (n < 2 ^ 32)) }
     ensures four_record { (n : ℕ) → (⟦<FourBytes as Form>⟧.datum n ≡ fixed32 n) × (⟦<FourBytes as Form>⟧.found ≡ fixed32_in) }
     ensures four_wire { ⟦<FourBytes as Form>⟧.WIRE_TYPE ≡ wire.Fixed32 }
-    ensures eight { (n : ℕ) → (⟦<EightBytes as Form>⟧.payload n ≡ to_le_bytes w64 n) × (⟦<EightBytes as Form>⟧.spells n ↔ (n < 2 ^ 64)) }
+    ensures eight { (n : ℕ) → (⟦<EightBytes as Form>⟧.encoding n ≡ to_le_bytes w64 n) × (⟦<EightBytes as Form>⟧.spells n ↔ (n < 2 ^ 64)) }
     ensures eight_record { (n : ℕ) → (⟦<EightBytes as Form>⟧.datum n ≡ fixed64 n) × (⟦<EightBytes as Form>⟧.found ≡ fixed64_in) }
     ensures eight_wire { ⟦<EightBytes as Form>⟧.WIRE_TYPE ≡ wire.Fixed64 }
 {}

@@ -2,9 +2,10 @@
 use Rattle.std.proofs.Common.{◌≡◌, ◌+◌, ◌<◌, ℕ, ℤ, List, [], ◌∷◌, ◌++◌, refl, sym, ap, ◌∙◌, drop, map, get_or, add-one, length, append_assoc}
 use Rattle.std.proofs.Math.Seq.{drop-cons}
 use Rattle.std.specs.Fmt.{signed_decimal}
+use Rattle.std.proofs.lemmas.List.{map-id}
 use Rattle.buffa_wire.specs.BudgetLeft.{BudgetLeft, defaults}
 use Rattle.buffa_wire.specs.Records.{Datum}
-use Rattle.buffa_codec.specs.Reading.{ReadsAll, ReadsList, elements}
+use Rattle.buffa_codec.specs.Decoded.{ReadsAll, ReadsList, elements}
 use Rattle.buffamap.specs.Ext.{int32_held, int32s_of_each, int32s_packed, words_of}
 
 -- the values of records that spend nothing are those of each record, in order
@@ -17,11 +18,7 @@ rest_of values i d h = rw add-one (drop-cons values i d h)
 
 -- the same from a default budget, of values that mean themselves
 pub list_read : (ds : List Datum) (vs : List ℤ) → ReadsList (λ b d. int32_held d) (λ b d left. left ≡ b) int32s_packed ds (map (λ v. v) vs) → vs ≡ int32s_of_each ds
-list_read ds vs h = sym (same vs) ∙ each_read (λ b d left. left ≡ b) defaults h.0 ds (map (λ v. v) vs) h.1
-  where
-    same : (vs : List ℤ) → map (λ v. v) vs ≡ vs
-    same [] = refl
-    same (v ∷ vs) = ap (λ l. v ∷ l) (same vs)
+list_read ds vs h = sym (map-id vs) ∙ each_read (λ b d left. left ≡ b) defaults h.0 ds (map (λ v. v) vs) h.1
 
 -- one more word
 pub word_more : (text all : List ℕ) (values : List ℤ) (i : ℕ) (d : ℤ) → i < length values → text ++ words_of (drop i values) ≡ all → (text ++ 32 ∷ signed_decimal (get_or values i d)) ++ words_of (drop (i + 1) values) ≡ all

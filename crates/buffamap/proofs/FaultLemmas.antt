@@ -6,7 +6,7 @@ use Rattle.buffa_bytes.specs.declared.error.DecodeError.{DecodeError}
 use Rattle.buffa_bytes.specs.declared.error.DecodeError.TheVariants as of_bytes
 use Rattle.buffa_bytes.specs.ErrorText.{decode_error_text}
 use Rattle.buffamap.specs.declared.fault.Fault.{Fault}
-use Rattle.buffamap.specs.declared.fault.Fault.TheVariants.{Form, OutOfMemory, RefusedBytes, RefusedText, Stream, Words}
+use Rattle.buffamap.specs.declared.fault.Fault.TheVariants.{Form, OutOfMemory, RefusedBytes, RefusedEncoding, Stream, Words}
 use Rattle.buffamap.specs.Fault.{IsOfBytes, SaysNone, Tells, told}
 use Rattle.buffamap.specs.Reply.{Reply, bad_input, fault}
 
@@ -17,7 +17,7 @@ memory_or_not Form = inr (λ e. cc)
 memory_or_not Stream = inr (λ e. cc)
 memory_or_not OutOfMemory = inl refl
 memory_or_not (RefusedBytes x) = inr (λ e. cc)
-memory_or_not (RefusedText x) = inr (λ e. cc)
+memory_or_not (RefusedEncoding x) = inr (λ e. cc)
 
 -- an input that says nothing is told not to be in the stated form
 pub tells_form : {A : Type 0} (P : Option A → Reply → Type 0) → P None bad_input → (o : Option A) (f : Fault) → SaysNone o f → Tells (P o) f

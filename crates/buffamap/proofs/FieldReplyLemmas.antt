@@ -1,29 +1,25 @@
 -- What is answered of pairs that a field was written of.
-use Rattle.std.proofs.Common.{◌≡◌, ℕ, ◌^◌, ◌≤◌, nat_lt, Bool, true, false, List, [], ◌∷◌, ◌++◌, length, refl, sym, ◌∙◌}
-use Rattle.std.specs.Prelude.{codes, ◌&&◌}
-use Rattle.std.proofs.lemmas.Bool.{lt-ltb, le-ltb}
+use Rattle.std.proofs.Common.{◌≡◌, ℕ, ◌^◌, ◌≤◌, nat_lt, true, false, List, [], ◌∷◌, ◌++◌, length, refl, sym, ◌∙◌}
+use Rattle.std.specs.Prelude.{codes}
+use Rattle.std.proofs.lemmas.Bool.{lt-ltb, le-ltb, and_right}
 use Rattle.buffa_map.specs.Codec.{Writing}
 use Rattle.buffa_map.specs.Encoding.{HasEncoding, entry_encoding, field_encoding}
 use Rattle.buffamap.specs.Codecs.{int32_writing, string_writing}
 use Rattle.buffamap.specs.Lines.{Pair}
 use Rattle.buffamap.specs.Reply.{done, fault, hex_line}
-use Rattle.buffamap.specs.Write.{field_reply, has_text}
-
-left_false : (b : Bool) → (b && false) ≡ false
-left_false true = refl
-left_false false = refl
+use Rattle.buffamap.specs.Write.{field_reply, has_field}
 
 module _ {K V : Type 0} (key : Writing K) (val : Writing V) where
   abbrev pub size : K × V → ℕ
   size p = length (entry_encoding key val p)
 
-  pub has : (ps : List (K × V)) → HasEncoding key val ps → has_text key val ps ≡ true
+  pub has : (ps : List (K × V)) → HasEncoding key val ps → has_field key val ps ≡ true
   has [] h = refl
   has (p ∷ ps) h = rw (lt-ltb (size p) (2 ^ 64) h.0, has ps h.1) refl
 
-  pub lacks : (done : List (K × V)) (p : K × V) (rest : List (K × V)) → 2 ^ 64 ≤ size p → has_text key val (done ++ p ∷ rest) ≡ false
+  pub lacks : (done : List (K × V)) (p : K × V) (rest : List (K × V)) → 2 ^ 64 ≤ size p → has_field key val (done ++ p ∷ rest) ≡ false
   lacks [] p rest h = rw (le-ltb (size p) (2 ^ 64) h) refl
-  lacks (q ∷ done) p rest h = rw (lacks done p rest h) (left_false (nat_lt (size q) (2 ^ 64)))
+  lacks (q ∷ done) p rest h = rw (lacks done p rest h) (and_right (nat_lt (size q) (2 ^ 64)) false refl)
 
 pub written : (n : ℕ) (ps l : List Pair) → l ≡ ps → HasEncoding string_writing int32_writing l → field_reply n ps ≡ done (hex_line (field_encoding string_writing int32_writing n l))
 written n ps l e h = rw (sym e) (rw (has string_writing int32_writing l h) refl)

@@ -13,7 +13,7 @@ use Rattle.std.proofs.lemmas.Map.Keys.{IsDistinct-from_sorted}
 use Rattle.buffa_map.specs.Pairs.{SamePairs}
 use Rattle.buffa_map.specs.Pairs as maps
 use Rattle.buffa_map.proofs.PutLemmas.{SamePairs-insert_entry, SamePairs-put}
-use Rattle.buffamap.specs.Lines.{InOrder, Pair, pairs_of, put, same_key}
+use Rattle.buffamap.specs.Lines.{ListedInOrder, Pair, pairs_of, put, same_key}
 use Rattle.buffamap.proofs.SortingLemmas.{same_sorted}
 
 abbrev text_cmp : List ℕ → List ℕ → Ordering
@@ -33,7 +33,7 @@ sorted_texts {Z} (e ∷ es) h = (below es h.0, sorted_texts es h.1)
     below (x ∷ xs) h = (h.0, below xs h.1)
 
 -- the entries of a map are a list of its pairs in order
-pub in_order : {Z : Type 0} (m : List Pair) (es : List (String Z × ℤ)) → IsStrictlySortedBy string_cmp (keys_of es) → SamePairs same_key m (pairs_of es) → InOrder m (pairs_of es)
+pub in_order : {Z : Type 0} (m : List Pair) (es : List (String Z × ℤ)) → IsStrictlySortedBy string_cmp (keys_of es) → SamePairs same_key m (pairs_of es) → ListedInOrder m (pairs_of es)
 in_order m es h s =
     let sorted = sorted_texts es h in
     ((subst (λ eq. IsDistinct eq (keys_of (pairs_of es))) same_test (IsDistinct-from_sorted text_cmp (keys_of (pairs_of es)) sorted), s), sorted)
@@ -54,7 +54,7 @@ put_insert m es k v h =
     (λ s q. SamePairs-put (eq_by_cmp_equiv nat_list_cmp_total) m (pairs_of es) (string_bytes k) v s q ∙ SamePairs-insert_entry nat_list_cmp_total (pairs_of es) (string_bytes k) v (sorted_texts es h) q))
 
 -- a map has one list of its pairs in order
-pub one_order : (m ps qs : List Pair) → InOrder m ps → InOrder m qs → ps ≡ qs
+pub one_order : (m ps qs : List Pair) → ListedInOrder m ps → ListedInOrder m qs → ps ≡ qs
 one_order m ps qs h k =
     let same : SamePairs same_key ps qs = λ q. sym (h.0.1 q) ∙ k.0.1 q in
     same_sorted nat_list_cmp_total ps qs h.1 k.1 (subst (λ eq. SamePairs eq ps qs) (sym same_test) same)

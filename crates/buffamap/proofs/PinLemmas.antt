@@ -5,6 +5,7 @@ use Rattle.std.specs.List.Sorted.{IsStrictlySortedBy}
 use Rattle.std.specs.Map.{keys_of}
 use Rattle.std.specs.Ordering.{int_cmp, int_eq}
 use Rattle.std.proofs.lemmas.Cmp.{int_cmp_total}
+use Rattle.std.proofs.lemmas.Bool.{false≢true}
 use Rattle.buffa_bytes.specs.declared.error.DecodeError.{DecodeError}
 use Rattle.buffa_wire.specs.BudgetLeft.{BudgetLeft, defaults}
 use Rattle.buffa_wire.specs.Message.{MergeFault}
@@ -24,8 +25,8 @@ use Rattle.buffamap.proofs.SortingLemmas.{same_sorted}
 use Rattle.buffamap.specs.declared.command.Command.{Command}
 use Rattle.buffamap.specs.declared.command.Command.TheVariants.{AgainNode, AgainSet, Ext, Item, Read, Rewrite, Write}
 use Rattle.buffamap.specs.Command.{command_of, texts}
-use Rattle.buffamap.specs.Engine.{Answers, Gives, RepliesTo}
-use Rattle.buffamap.specs.Ext.{IsShown, IsShownOf, RepliesToExt, records_of}
+use Rattle.buffamap.specs.Engine.{Answers, GivesReply, RepliesTo}
+use Rattle.buffamap.specs.Ext.{IsShown, IsShownOf, RepliesToExt, records_from}
 use Rattle.buffamap.specs.Forms.{hex_bytes, without_newline}
 use Rattle.buffamap.specs.Item.{IsFound, IsFoundIn, RepliesToItem, item_from}
 use Rattle.buffamap.specs.Lines.{Pair, lines_of, map_in, same_key}
@@ -34,7 +35,7 @@ use Rattle.buffamap.specs.Read.{RepliesToBytes, RepliesToRead, RepliesToRun, run
 use Rattle.buffamap.specs.Reply.{Reply, broken, done, hex_line}
 use Rattle.buffamap.specs.Rewrite.{Entry, IsRewritten, IsRewrittenOf, RepliesToRewrite}
 use Rattle.buffamap.specs.Rewrite.{Pair as Choices, run_from as rewrite_from}
-use Rattle.buffamap.specs.Streams.{Change, Known, Writes, WritesAll}
+use Rattle.buffamap.specs.Streams.{Change, Known, WritesOrBreaks, WritesAll}
 use Rattle.buffamap.specs.Write.{RepliesToMap, RepliesToWrite, field_reply}
 use Rattle.buffamap.proofs.OrderedLemmas.{one_order}
 use denote.Ref.{Bor}
@@ -97,7 +98,7 @@ shown_one n (Err f) a b h k = h ∙ sym k
 
 shown_of_one : (n : ℕ) (o : Option (List ℕ)) (a b : Reply) → IsShownOf n o a → IsShownOf n o b → a ≡ b
 shown_of_one n None a b h k = h ∙ sym k
-shown_of_one n (Some bytes) a b h k = shown_one n (records_of bytes) a b h k
+shown_of_one n (Some bytes) a b h k = shown_one n (records_from bytes) a b h k
 
 pub ext_pinned : (n : ℕ) → ReplyIsPinned (RepliesToExt n)
 ext_pinned n = pinned (RepliesToExt n) (λ input a b h k. shown_of_one n (hex_bytes (without_newline input)) a b h k)
@@ -203,21 +204,18 @@ reply_one : (o : Option Command) (f : Bool) (input : List ℕ) (a b : Reply) →
 reply_one None f input a b h k memory whole = inl (h ∙ sym k)
 reply_one (Some c) f input a b h k memory whole = command_one c input a b (known_reply c f input a h memory.0 whole.0) (known_reply c f input b k memory.1 whole.1)
 
-never : {A : Type 0} → false ≡ true → A
-never e = absurd (let no : false ≡ true = e in cc)
-
 grown : (old text : List ℕ) (a : Known) → Appends (Some old) a text → a ≡ Some (old ++ text)
 grown old text None h = absurd h
 grown old text (Some ys) h = ap Some h
 
 -- what is given of a reply where no output has failed, and what where nothing fails
-given : (r : Reply) (out err : Change) (s : ℕ) → Gives r out err s → (s ≡ 3 → out.may_fail ≡ true → ⊥) → (s ≡ r.status) × WritesAll out r.text × Writes err r.complaint
+given : (r : Reply) (out err : Change) (s : ℕ) → GivesReply r out err s → (s ≡ 3 → out.may_fail ≡ true → ⊥) → (s ≡ r.status) × WritesAll out r.text × WritesOrBreaks err r.complaint
 given r out err s (inl h) whole = h
 given r out err s (inr h) whole = absurd (whole h.0 h.1.1)
 
-told_whole : (old text : List ℕ) (p : Known) → Writes (holding false old p) text → p ≡ Some (old ++ text)
+told_whole : (old text : List ℕ) (p : Known) → WritesOrBreaks (holding false old p) text → p ≡ Some (old ++ text)
 told_whole old text p (inl w) = grown old text p w
-told_whole old text p (inr w) = never w.1
+told_whole old text p (inr w) = absurd (false≢true w.1)
 
 has_line : (out : List ℕ) (x : Reply) (a : Known) → NamesFault x → a ≡ Some (out ++ x.text) → HasFaultLine out a
 has_line out x a names h = (names.0, h ∙ ap (λ (r : Reply). Some (out ++ r.text)) names.1)
@@ -231,10 +229,10 @@ one_output words out x y a b s (inr o) status h k =
 
 sure_pinned : (words : List (Bor (List ℕ))) (input out err : List ℕ) → SureCallIsPinned words input out err
 sure_pinned words input out err a b p q s t h k (x, y) =
-    let g = given h.0 (holding false out a) (holding false err p) s h.2 (λ _ e. never e) in
-    let f = given k.0 (holding false out b) (holding false err q) t k.2 (λ _ e. never e) in
+    let g = given h.0 (holding false out a) (holding false err p) s h.2 (λ _ e. absurd (false≢true e)) in
+    let f = given k.0 (holding false out b) (holding false err q) t k.2 (λ _ e. absurd (false≢true e)) in
     let o : Option Command = command_of (texts words) in
-    let same : AreOne o h.0 k.0 = reply_one o false input h.0 k.0 h.1 k.1 (λ e. x (g.0 ∙ e), λ e. y (f.0 ∙ e)) (λ _ e. never e, λ _ e. never e) in (
+    let same : AreOne o h.0 k.0 = reply_one o false input h.0 k.0 h.1 k.1 (λ e. x (g.0 ∙ e), λ e. y (f.0 ∙ e)) (λ _ e. absurd (false≢true e), λ _ e. absurd (false≢true e)) in (
       g.0 ∙ one_status o h.0 k.0 same ∙ sym f.0,
       one_output words out h.0 k.0 a b s same g.0 (grown out h.0.text a g.1) (grown out k.0.text b f.1),
       told_whole err h.0.complaint p g.2 ∙ ap (λ z. Some (err ++ z)) (one_complaint o h.0 k.0 same) ∙ sym (told_whole err k.0.complaint q f.2),

@@ -96,7 +96,7 @@ told_rewrite n run (Decode e) f is says real = tells_bytes (IsRewritten n) (λ e
 told_rewrite n run (Encode e) f is says real =
     let no_memory : e ≢ OutOfMemory = λ h. real (is.0 h) in
     let said = says no_memory in
-    subst (λ z. IsRewritten n run (told z)) (sym (is.1 no_memory ∙ ap (λ z. faults.RefusedText z) said.0)) (none run said.1)
+    subst (λ z. IsRewritten n run (told z)) (sym (is.1 no_memory ∙ ap (λ z. faults.RefusedEncoding z) said.0)) (none run said.1)
   where
     none : (run : Result (List Entry × BudgetLeft) DecodeError) → RunHasNoRewrite run → IsRewritten n run (fault (codes "MessageTooLarge"))
     none (Ok r) h = inr (h, refl)

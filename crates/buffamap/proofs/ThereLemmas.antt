@@ -19,10 +19,10 @@ use Rattle.buffa_map.specs.Encoding.{AllHold, HasEncoding, entry_encoding, field
 use Rattle.buffamap.specs.Again.{IsEncoded, IsReadAgainIn, IsRefused, RepliesToAgain, encoding_reply}
 use Rattle.buffamap.specs.Choice.{two_numbers}
 use Rattle.buffamap.specs.Codecs.{int32_reading, int32_writing}
-use Rattle.buffamap.specs.Ext.{IsShown, IsShownOf, RepliesToExt, ext_text, records_of}
+use Rattle.buffamap.specs.Ext.{IsShown, IsShownOf, RepliesToExt, ext_text, records_from}
 use Rattle.buffamap.specs.Forms.{hex_bytes, without_newline}
 use Rattle.buffamap.specs.Item.{IsFound, IsFoundIn, RepliesToItem, item_from, item_lines}
-use Rattle.buffamap.specs.Lines.{InOrder, Pair, lines_of, map_in, same_key}
+use Rattle.buffamap.specs.Lines.{ListedInOrder, Pair, lines_of, map_in, same_key}
 use Rattle.buffamap.specs.Pinned.{HasReply}
 use Rattle.buffamap.specs.Read.{RepliesToBytes, RepliesToRead, RepliesToRun, run_from}
 use Rattle.buffamap.specs.Reply.{Reply, bad_input, done, fault, hex_line}
@@ -34,7 +34,7 @@ use Rattle.buffamap.proofs.OrderedLemmas.{same_test}
 use Rattle.buffamap.proofs.OrderLemmas.{ordered, ordered_holds, ordered_once, ordered_sorted}
 
 -- a map has a list of its pairs in order
-listed : (m : List Pair) → (ps : List Pair) × InOrder m ps
+listed : (m : List Pair) → (ps : List Pair) × ListedInOrder m ps
 listed m = (ordered (slice_cmp nat_cmp) m, (subst (λ eq. ListsOnce eq m (ordered (slice_cmp nat_cmp) m)) same_test (ordered_once nat_list_cmp_total m), ordered_sorted nat_list_cmp_total m))
 
 run_there : (r : Result (List (EntryRecord (List ℕ) ℤ) × BudgetLeft) DecodeError) → (reply : Reply) × RepliesToRun r reply
@@ -61,7 +61,7 @@ shown_there n (Err f) = (fault (decode_error_text f), refl)
 
 shown_of_there : (n : ℕ) (o : Option (List ℕ)) → (reply : Reply) × IsShownOf n o reply
 shown_of_there n None = (bad_input, refl)
-shown_of_there n (Some bytes) = shown_there n (records_of bytes)
+shown_of_there n (Some bytes) = shown_there n (records_from bytes)
 
 pub ext_there : (n : ℕ) → HasReply (RepliesToExt n)
 ext_there n input = shown_of_there n (hex_bytes (without_newline input))

@@ -10,14 +10,14 @@ use Rattle.buffamap.specs.Reply.{Reply, bad_input, done, fault, hex_line}
 
 -- an encoding in hexadecimal, or that it is longer than a message may be
 abbrev pub encoding_reply : List ℕ → Reply
-encoding_reply text = if nat_lt (length text) (2 ^ 31) then done (hex_line text) else fault (codes "MessageTooLarge")
+encoding_reply encoding = if nat_lt (length encoding) (2 ^ 31) then done (hex_line encoding) else fault (codes "MessageTooLarge")
 
 -- bytes that mean so and cost so much
 module _ {X : Type 0} (meant : Option X) (cost : BudgetLeft) where
   -- their value is encoded, where the default budget have the cost
   abbrev pub IsEncoded : (X → List ℕ) → Reply → Type 0
-  IsEncoded text reply =
-      (v : X) × (meant ≡ Some v) × (Lacks defaults cost → ⊥) × (reply ≡ encoding_reply (text v))
+  IsEncoded encoding reply =
+      (v : X) × (meant ≡ Some v) × (Lacks defaults cost → ⊥) × (reply ≡ encoding_reply (encoding v))
 
   -- or a fault is told, which isn't that memory ran out: they mean no value, or a budget hasn't the cost
   abbrev pub IsRefused : Reply → Type 0
@@ -25,10 +25,10 @@ module _ {X : Type 0} (meant : Option X) (cost : BudgetLeft) where
       (e : DecodeError) × (e ≢ OutOfMemory) × MergeFault meant cost defaults e × (reply ≡ fault (decode_error_text e))
 
 -- a type of messages, by what bytes make of a value and cost, by the encoding of a value, and by the blank one
-module _ {X : Type 0} (merged : ℕ → X → List ℕ → Option X) (cost : ℕ → List ℕ → BudgetLeft) (text : X → List ℕ) (blank : X) where
+module _ {X : Type 0} (merged : ℕ → X → List ℕ → Option X) (cost : ℕ → List ℕ → BudgetLeft) (encoding : X → List ℕ) (blank : X) where
   abbrev pub IsReadAgain : List ℕ → Reply → Type 0
   IsReadAgain bytes reply =
-      IsEncoded (merged 100 blank bytes) (cost 100 bytes) text reply
+      IsEncoded (merged 100 blank bytes) (cost 100 bytes) encoding reply
       ⊎ IsRefused (merged 100 blank bytes) (cost 100 bytes) reply
 
   abbrev pub IsReadAgainIn : Option (List ℕ) → Reply → Type 0

@@ -11,14 +11,14 @@ use Rattle.buffa_wire.specs.RecordReading.{list_at}
 use Rattle.buffa_wire.specs.Records.{Datum}
 use Rattle.buffa_bytes.specs.Values.{int32_of}
 use Rattle.buffa_codec.specs.Packed.{numbers_in}
-use Rattle.buffa_codec.specs.Reading.{elements, last_read, string_held}
+use Rattle.buffa_codec.specs.Decoded.{elements, last_read, string_held}
 use Rattle.buffa_codec.specs.Sub.{sub}
 use Rattle.buffamap.specs.Forms.{hex_bytes, without_newline}
 use Rattle.buffamap.specs.Reply.{Reply, bad_input, done, fault, line}
 
 -- the records of a message, or the first fault: groups nested at most 100 deep, and a million records
-abbrev pub records_of : List ℕ → Result (List (ℕ × Datum)) DecodeError
-records_of bytes = list_at 100 1000000 bytes
+abbrev pub records_from : List ℕ → Result (List (ℕ × Datum)) DecodeError
+records_from bytes = list_at 100 1000000 bytes
 
 -- ---- what records of one number are read as
 
@@ -73,7 +73,7 @@ IsShown n (Err f) reply = reply ≡ fault (decode_error_text f)
 
 abbrev pub IsShownOf : ℕ → Option (List ℕ) → Reply → Type 0
 IsShownOf n None reply = reply ≡ bad_input
-IsShownOf n (Some bytes) reply = IsShown n (records_of bytes) reply
+IsShownOf n (Some bytes) reply = IsShown n (records_from bytes) reply
 
 -- the input is the message in hexadecimal, which one newline may end
 abbrev pub RepliesToExt : ℕ → List ℕ → Reply → Type 0

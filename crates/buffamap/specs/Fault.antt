@@ -5,12 +5,12 @@ use Rattle.hex.specs.declared.error.FromHexError.TheVariants as of_digits
 use Rattle.buffa_bytes.specs.declared.error.DecodeError.{DecodeError}
 use Rattle.buffa_bytes.specs.declared.error.DecodeError.TheVariants as of_bytes
 use Rattle.buffa_bytes.specs.declared.error.EncodeError.{EncodeError}
-use Rattle.buffa_bytes.specs.declared.error.EncodeError.TheVariants as of_text
+use Rattle.buffa_bytes.specs.declared.error.EncodeError.TheVariants as of_encoding
 use Rattle.buffa_map.specs.declared.rewrite.RewriteError.{RewriteError}
 use Rattle.buffa_map.specs.declared.rewrite.RewriteError.TheVariants.{Decode, Encode}
 use Rattle.buffa_bytes.specs.ErrorText.{decode_error_text, encode_error_text}
 use Rattle.buffamap.specs.declared.fault.Fault.{Fault}
-use Rattle.buffamap.specs.declared.fault.Fault.TheVariants.{Form, OutOfMemory, RefusedBytes, RefusedText, Stream, Words}
+use Rattle.buffamap.specs.declared.fault.Fault.TheVariants.{Form, OutOfMemory, RefusedBytes, RefusedEncoding, Stream, Words}
 use Rattle.buffamap.specs.Reply.{Reply, bad_input, broken, fault, no_memory, wrong_words}
 
 -- the fault that an error of a layer below is: out of memory is out of memory
@@ -20,12 +20,12 @@ IsOfDigits e f = (e ≡ of_digits.OutOfMemory → f ≡ OutOfMemory) × (e ≢ o
 abbrev pub IsOfBytes : DecodeError → Fault → Type 0
 IsOfBytes e f = (e ≡ of_bytes.OutOfMemory → f ≡ OutOfMemory) × (e ≢ of_bytes.OutOfMemory → f ≡ RefusedBytes e)
 
-abbrev pub IsOfText : EncodeError → Fault → Type 0
-IsOfText e f = (e ≡ of_text.OutOfMemory → f ≡ OutOfMemory) × (e ≢ of_text.OutOfMemory → f ≡ RefusedText e)
+abbrev pub IsOfEncoding : EncodeError → Fault → Type 0
+IsOfEncoding e f = (e ≡ of_encoding.OutOfMemory → f ≡ OutOfMemory) × (e ≢ of_encoding.OutOfMemory → f ≡ RefusedEncoding e)
 
 abbrev pub IsOfRewrite : RewriteError → Fault → Type 0
 IsOfRewrite (Decode e) f = IsOfBytes e f
-IsOfRewrite (Encode e) f = IsOfText e f
+IsOfRewrite (Encode e) f = IsOfEncoding e f
 
 -- what is told of a fault
 abbrev pub told : Fault → Reply
@@ -34,7 +34,7 @@ told Form = bad_input
 told Stream = broken
 told OutOfMemory = no_memory
 told (RefusedBytes e) = fault (decode_error_text e)
-told (RefusedText e) = fault (encode_error_text e)
+told (RefusedEncoding e) = fault (encode_error_text e)
 
 -- why a reader wasn't read to its end: memory, or a call that failed
 abbrev pub StopsReading : Bool → Fault → Type 0

@@ -7,7 +7,7 @@ use Rattle.buffa_map.specs.Pairs.{SamePairs}
 use Rattle.buffa_map.specs.Run.{fold_entries, EntryRecord, run_of}
 use Rattle.buffamap.specs.Codecs.{int32_reading, string_reading}
 use Rattle.buffamap.specs.Forms.{hex_bytes, without_newline}
-use Rattle.buffamap.specs.Lines.{InOrder, Pair, lines_of, same_key}
+use Rattle.buffamap.specs.Lines.{ListedInOrder, Pair, lines_of, same_key}
 use Rattle.buffamap.specs.Reply.{Reply, bad_input, done, fault}
 
 -- the entries of a run and what is over, or the first fault: map<string, int32>, 100 levels deep, an entry of
@@ -22,7 +22,7 @@ MeansRun (Err f) ps = ⊥
 
 -- the lines of what a run means, in the order of the keys' bytes; or the fault
 abbrev pub RepliesToRun : Result (List (EntryRecord (List ℕ) ℤ) × BudgetLeft) DecodeError → Reply → Type 0
-RepliesToRun (Ok r) reply = (ps : List Pair) × InOrder (fold_entries same_key [] r.0) ps × (reply ≡ done (lines_of ps))
+RepliesToRun (Ok r) reply = (ps : List Pair) × ListedInOrder (fold_entries same_key [] r.0) ps × (reply ≡ done (lines_of ps))
 RepliesToRun (Err f) reply = reply ≡ fault (decode_error_text f)
 
 abbrev pub RepliesToBytes : ℕ → Option (List ℕ) → Reply → Type 0

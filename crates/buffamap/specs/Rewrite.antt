@@ -7,7 +7,7 @@ use Rattle.std.specs.Map.{keys_of}
 use Rattle.std.specs.Ordering.{int_cmp, int_eq}
 use Rattle.buffa_bytes.specs.declared.error.DecodeError.{DecodeError}
 use Rattle.buffa_bytes.specs.declared.error.DecodeError.TheVariants as of_bytes
-use Rattle.buffa_bytes.specs.declared.error.EncodeError.TheVariants as of_text
+use Rattle.buffa_bytes.specs.declared.error.EncodeError.TheVariants as of_encoding
 use Rattle.buffa_wire.specs.BudgetLeft.{BudgetLeft, defaults}
 use Rattle.buffa_wire.specs.Enums.{Numbers, Refines}
 use Rattle.buffa_bytes.specs.ErrorText.{decode_error_text}
@@ -69,7 +69,7 @@ RunHasNoRewrite (Err f) = ⊥
 -- why a run wasn't rewritten, memory aside
 abbrev pub RefusesRun : Result (List Entry × BudgetLeft) DecodeError → RewriteError → Type 0
 RefusesRun run (Decode f) = f ≢ of_bytes.OutOfMemory → run ≡ Err f
-RefusesRun run (Encode e) = e ≢ of_text.OutOfMemory → (e ≡ of_text.MessageTooLarge) × RunHasNoRewrite run
+RefusesRun run (Encode e) = e ≢ of_encoding.OutOfMemory → (e ≡ of_encoding.MessageTooLarge) × RunHasNoRewrite run
 
 -- the rewrite in hexadecimal; or the fault
 abbrev pub IsRewritten : ℕ → Result (List Entry × BudgetLeft) DecodeError → Reply → Type 0

@@ -4,26 +4,26 @@ use Rattle.std.specs.List.{list_all}
 use Rattle.buffa_map.specs.Codec.{Writing}
 use Rattle.buffa_map.specs.Encoding.{entry_encoding, field_encoding}
 use Rattle.buffamap.specs.Codecs.{int32_writing, string_writing}
-use Rattle.buffamap.specs.Lines.{InOrder, Pair, map_in}
+use Rattle.buffamap.specs.Lines.{ListedInOrder, Pair, map_in}
 use Rattle.buffamap.specs.Reply.{Reply, bad_input, done, fault, hex_line}
 
 -- no entry is too long for its length to be a varint
-abbrev pub has_text : {K V : Type 0} → Writing K → Writing V → List (K × V) → Bool
-has_text key val ps = list_all (λ p. nat_lt (length (entry_encoding key val p)) (2 ^ 64)) ps
+abbrev pub has_field : {K V : Type 0} → Writing K → Writing V → List (K × V) → Bool
+has_field key val ps = list_all (λ p. nat_lt (length (entry_encoding key val p)) (2 ^ 64)) ps
 
 -- the field of pairs in hexadecimal
 abbrev pub field_reply : ℕ → List Pair → Reply
 field_reply n ps =
-    if has_text string_writing int32_writing ps then done (hex_line (field_encoding string_writing int32_writing n ps))
+    if has_field string_writing int32_writing ps then done (hex_line (field_encoding string_writing int32_writing n ps))
     else fault (codes "MessageTooLarge")
 
-abbrev pub IsField : ℕ → List Pair → Reply → Type 0
-IsField n ps reply = reply ≡ field_reply n ps
+abbrev pub IsFieldReply : ℕ → List Pair → Reply → Type 0
+IsFieldReply n ps reply = reply ≡ field_reply n ps
 
 -- the field of the map's pairs, in the order of the keys' bytes
 abbrev pub RepliesToMap : ℕ → Option (List Pair) → Reply → Type 0
 RepliesToMap n None reply = reply ≡ bad_input
-RepliesToMap n (Some m) reply = (ps : List Pair) × InOrder m ps × IsField n ps reply
+RepliesToMap n (Some m) reply = (ps : List Pair) × ListedInOrder m ps × IsFieldReply n ps reply
 
 abbrev pub RepliesToWrite : ℕ → List ℕ → Reply → Type 0
 RepliesToWrite n input = RepliesToMap n (map_in input)

@@ -16,8 +16,8 @@ fn again_bytes<M: Message>(alloc: Global, bytes: &[u8]) -> Result<Vec<u8>, Fault
 {
     let mut message = M::blank(alloc);
     message.merge_from_slice(alloc, bytes)?;
-    let text = message.try_encode_to_vec(alloc)?;
-    Ok(hex_line(alloc, text.as_slice())?)
+    let encoding = message.try_encode_to_vec(alloc)?;
+    Ok(hex_line(alloc, encoding.as_slice())?)
 }
 
 /// The encoding, in hexadecimal, of what the bytes that the input gives in hexadecimal make of a blank message.

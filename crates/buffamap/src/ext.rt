@@ -3,7 +3,7 @@ ghost use Rattle.std.specs.Prelude.{◌≡◌, ◌++◌, IfErr, IfOk, OnOk, code
 ghost use Rattle.buffa_wire.specs.Records.{Held};
 ghost use Rattle.buffa_codec.specs.Sub.{sub};
 ghost use Rattle.buffamap.specs.Ext.{IsShown, RepliesToExt, ext_text, has_line, int32_line, int32_of_last};
-ghost use Rattle.buffamap.specs.Ext.{int32s_of_each, ints_line, records_of, string_line, string_of_last, words_of};
+ghost use Rattle.buffamap.specs.Ext.{int32s_of_each, ints_line, records_from, string_line, string_of_last, words_of};
 ghost use Rattle.buffamap.specs.Fault.{Tells};
 ghost use Rattle.buffamap.specs.Reply.{done};
 
@@ -139,8 +139,8 @@ fn lines_of(alloc: Global, message: &Extendee, number: u32) -> Result<Vec<u8>, A
 
 // The answer to a message.
 fn ext_message(alloc: Global, number: u32, bytes: &[u8]) -> Result<Vec<u8>, Fault>
-    ensures text { IfOk result (λ text. IsShown number (records_of bytes.now) (done text.items)) }
-    ensures fault { IfErr result (Tells (IsShown number (records_of bytes.now))) }
+    ensures text { IfOk result (λ text. IsShown number (records_from bytes.now) (done text.items)) }
+    ensures fault { IfErr result (Tells (IsShown number (records_from bytes.now))) }
 {
     let fields = UnknownFields::decode_from_slice(alloc, bytes)?;
     Ok(lines_of(alloc, &Extendee { fields }, number)?)

@@ -1,6 +1,6 @@
 // Why a call has no answer.
 ghost use Rattle.std.specs.Prelude.{◌≡◌};
-ghost use Rattle.buffamap.specs.Fault.{IsOfBytes, IsOfDigits, IsOfRewrite, IsOfText};
+ghost use Rattle.buffamap.specs.Fault.{IsOfBytes, IsOfDigits, IsOfRewrite, IsOfEncoding};
 ghost use Rattle.buffamap.specs.declared.fault.Fault.TheVariants.{OutOfMemory};
 
 use buffa::map_codec::RewriteError;
@@ -29,7 +29,7 @@ pub enum Fault {
     RefusedBytes(DecodeError),
     /// The bytes that were to be written are refused.
     #[error("the text is refused: {0}")]
-    RefusedText(EncodeError),
+    RefusedEncoding(EncodeError),
 }
 
 impl From<AllocError> for Fault {
@@ -71,12 +71,12 @@ impl From<DecodeError> for Fault {
 }
 
 impl From<EncodeError> for Fault {
-    ghost from_gives = { IsOfText };
+    ghost from_gives = { IsOfEncoding };
 
     fn from(error: EncodeError) -> Fault {
         match error {
             EncodeError::OutOfMemory => Fault::OutOfMemory,
-            _ => Fault::RefusedText(error),
+            _ => Fault::RefusedEncoding(error),
         }
     }
 }

@@ -5,7 +5,7 @@ ghost use Rattle.std.specs.Prelude.{◌≡◌, false};
 ghost use Rattle.buffa_bytes.specs.Number.{IsNumber};
 ghost use Rattle.buffamap.specs.Again.{RepliesToAgain};
 ghost use Rattle.buffamap.specs.Ext.{RepliesToExt};
-ghost use Rattle.buffamap.specs.Fault.{IsOfBytes, IsOfDigits, IsOfRewrite, IsOfText};
+ghost use Rattle.buffamap.specs.Fault.{IsOfBytes, IsOfDigits, IsOfRewrite, IsOfEncoding};
 ghost use Rattle.buffamap.specs.Item.{RepliesToItem};
 ghost use Rattle.buffamap.specs.Pinned.{CallIsPinned, HasReply, ReplyIsPinned, ReplyIsPinnedButForFaults};
 ghost use Rattle.buffamap.specs.Read.{RepliesToRead};
@@ -78,7 +78,7 @@ pub fn faults_are_these<T: Drop>()
         f ≡ Fault.OutOfMemory }
     ensures digits { (e : FromHexError) (f : Fault) → ⟦<Fault as From<FromHexError>>⟧.from_gives e f → IsOfDigits e f }
     ensures bytes { (e : DecodeError) (f : Fault) → ⟦<Fault as From<DecodeError>>⟧.from_gives e f → IsOfBytes e f }
-    ensures text { (e : EncodeError) (f : Fault) → ⟦<Fault as From<EncodeError>>⟧.from_gives e f → IsOfText e f }
+    ensures encoding { (e : EncodeError) (f : Fault) → ⟦<Fault as From<EncodeError>>⟧.from_gives e f → IsOfEncoding e f }
     ensures rewrite { (e : RewriteError) (f : Fault) → ⟦<Fault as From<RewriteError>>⟧.from_gives e f → IsOfRewrite e f }
 {}
 

@@ -1,9 +1,9 @@
 // What is told of a call: a line and an exit status.
 ghost use Rattle.std.specs.Prelude.{◌≡◌, ◌++◌, IfOk, codes, string_bytes};
 ghost use Rattle.buffa_bytes.specs.ErrorText.{decode_error_text, encode_error_text};
-ghost use Rattle.buffamap.specs.Engine.{Gives, GivesLine, TellsFault};
+ghost use Rattle.buffamap.specs.Engine.{GivesReply, GivesLine, TellsFault};
 ghost use Rattle.buffamap.specs.Reply.{line, reply};
-ghost use Rattle.buffamap.specs.Streams.{Writes, change};
+ghost use Rattle.buffamap.specs.Streams.{WritesOrBreaks, change};
 
 use crate::calls::WriteCalls;
 use crate::fault::Fault;
@@ -22,23 +22,23 @@ const BAD_INPUT: &[u8] = b"fault input\n";
 
 const OUT_OF_MEMORY: &[u8] = b"fault OutOfMemory\n";
 
-// Writes the line to the errors, and answers the status, also where they fail.
+// WritesOrBreaks the line to the errors, and answers the status, also where they fail.
 fn complain<C: WriteCalls<X>, X: Write>(status: u8, line: &[u8], errors: &mut X) -> u8
     ensures status { result ≡ status }
-    ensures line { Writes (change C.may_fail X.contents errors.old errors.new) line.now }
+    ensures line { WritesOrBreaks (change C.may_fail X.contents errors.old errors.new) line.now }
 {
     let _ = write_whole::<C, X>(errors, line);
     status
 }
 
-/// Writes the text to the output and answers the status; where the output fails, that is told.
+/// WritesOrBreaks the text to the output and answers the status; where the output fails, that is told.
 pub fn finish<B: WriteCalls<W>, C: WriteCalls<X>, W: Write, X: Write>(
     status: u8,
     text: &[u8],
     output: &mut W,
     errors: &mut X,
 ) -> u8
-    ensures { Gives (reply status text.now) (change B.may_fail W.contents output.old output.new)
+    ensures { GivesReply (reply status text.now) (change B.may_fail W.contents output.old output.new)
         (change C.may_fail X.contents errors.old errors.new) result }
 {
     match write_whole::<B, W>(output, text) {
@@ -55,7 +55,7 @@ fn line_of_bytes(alloc: Global, error: DecodeError) -> Result<String, AllocError
 }
 
 // The line that names why an encoding is refused.
-fn line_of_text(alloc: Global, error: EncodeError) -> Result<String, AllocError>
+fn line_of_encoding(alloc: Global, error: EncodeError) -> Result<String, AllocError>
     ensures { IfOk result (λ text. string_bytes text ≡ line (codes "fault " ++ encode_error_text error)) }
 {
     format!(in alloc; "fault {error}\n")
@@ -97,8 +97,8 @@ pub fn tell<B: WriteCalls<W>, C: WriteCalls<X>, W: Write, X: Write>(
             output,
             errors,
         ),
-        Fault::RefusedText(error) => finish_named::<B, C, W, X>(
-            line_of_text(alloc, error),
+        Fault::RefusedEncoding(error) => finish_named::<B, C, W, X>(
+            line_of_encoding(alloc, error),
             output,
             errors,
         ),

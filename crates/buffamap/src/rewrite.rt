@@ -18,11 +18,11 @@ fn rewrite_into(
     alloc: Global,
     number: u32,
     bytes: &[u8],
-    text: &mut Vec<u8>,
+    run: &mut Vec<u8>,
 ) -> Result<(), RewriteError>
     requires number { IsNumber number }
-    requires empty { text.old.items ≡ [] }
-    ensures text { OnOk result (RunRewritesTo number (run_from number bytes.now) text.new.items) }
+    requires empty { run.old.items ≡ [] }
+    ensures run { OnOk result (RunRewritesTo number (run_from number bytes.now) run.new.items) }
     ensures refused { IfErr result (RefusesRun (run_from number bytes.now)) }
 {
     let mut budget = Budget::new(DEFAULT_UNKNOWN_FIELD_LIMIT);
@@ -35,7 +35,7 @@ fn rewrite_into(
         BTreeMap<i32, Choice>,
         &[u8],
         Vec<u8>,
-    >(alloc, &mut pairs, number, &mut rest, ctx, text);
+    >(alloc, &mut pairs, number, &mut rest, ctx, run);
     // its contract says that the keys ascend
     let _ = pairs.len();
     rewritten
@@ -47,9 +47,9 @@ fn rewrite_run(alloc: Global, number: u32, bytes: &[u8]) -> Result<Vec<u8>, Faul
     ensures text { IfOk result (λ text. IsRewritten number (run_from number bytes.now) (done text.items)) }
     ensures fault { IfErr result (Tells (IsRewritten number (run_from number bytes.now))) }
 {
-    let mut text = Vec::new(alloc);
-    rewrite_into(alloc, number, bytes, &mut text)?;
-    Ok(hex_line(alloc, text.as_slice())?)
+    let mut run = Vec::new(alloc);
+    rewrite_into(alloc, number, bytes, &mut run)?;
+    Ok(hex_line(alloc, run.as_slice())?)
 }
 
 /// The rewrite, in hexadecimal, of a run of field `number`, which the input gives in hexadecimal: the pairs

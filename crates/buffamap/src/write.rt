@@ -4,7 +4,7 @@ ghost use Rattle.buffa_bytes.specs.Number.{IsNumber};
 ghost use Rattle.buffamap.specs.Lines.{pairs_of};
 ghost use Rattle.buffamap.specs.Fault.{Tells};
 ghost use Rattle.buffamap.specs.Reply.{done};
-ghost use Rattle.buffamap.specs.Write.{IsField, RepliesToWrite};
+ghost use Rattle.buffamap.specs.Write.{IsFieldReply, RepliesToWrite};
 
 use crate::fault::Fault;
 use crate::forms::hex_line;
@@ -16,8 +16,8 @@ use std::collections::BTreeMap;
 // The field of a map.
 fn write_pairs(alloc: Global, number: u32, pairs: &BTreeMap<String, i32>) -> Result<Vec<u8>, Fault>
     requires { IsNumber number }
-    ensures text { IfOk result (λ text. IsField number (pairs_of pairs.now.entries) (done text.items)) }
-    ensures fault { IfErr result (Tells (IsField number (pairs_of pairs.now.entries))) }
+    ensures text { IfOk result (λ text. IsFieldReply number (pairs_of pairs.now.entries) (done text.items)) }
+    ensures fault { IfErr result (Tells (IsFieldReply number (pairs_of pairs.now.entries))) }
 {
     let mut field = Vec::new(alloc);
     write_field::<Str, Int32, BTreeMap<String, i32>, Vec<u8>>(pairs, number, &mut field)?;

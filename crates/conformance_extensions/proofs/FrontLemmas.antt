@@ -7,8 +7,8 @@ use Rattle.buffa_wire.specs.Parse.{FitsDatum}
 use Rattle.buffa_wire.specs.Records.{Datum, datum_height}
 use Rattle.buffa_wire.specs.View.{datum_of, records_in}
 use Rattle.buffa_wire.specs.declared.unknown_fields.UnknownField.{UnknownField}
-use Rattle.buffa_codec.specs.Reading.{CoversAll, Each}
-use Rattle.buffa_codec.specs.Texts.{left_over}
+use Rattle.buffa_codec.specs.Decoded.{CoversAll, Each}
+use Rattle.buffa_codec.specs.CodecFacts.{left_over}
 use Rattle.buffa_ext.specs.MessageFacts.{pays_covers}
 use Rattle.conformance_extensions.specs.Normal.{AreWritten}
 

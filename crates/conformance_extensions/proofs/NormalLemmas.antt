@@ -2,8 +2,8 @@
 use Rattle.std.proofs.Common.{List, [], ◌∷◌}
 use Rattle.buffa_wire.specs.BudgetLeft.{BudgetLeft, minus, nothing}
 use Rattle.buffa_wire.specs.Records.{Datum}
-use Rattle.buffa_codec.specs.Reading.{CoversAll, Each}
-use Rattle.buffa_codec.specs.Texts.{covers_nothing}
+use Rattle.buffa_codec.specs.Decoded.{CoversAll, Each}
+use Rattle.buffa_codec.specs.CodecFacts.{covers_nothing}
 
 pub each_unit : {V : Type 0} (vs : List V) → Each (λ _. Unit {0}) vs
 each_unit [] = tt

@@ -3,7 +3,7 @@
 ghost use Rattle.std.specs.Prelude.{◌≡◌, map, IfOk, IsTrue, OnOk};
 ghost use Rattle.buffa_wire.specs.BudgetLeft.{Pays, defaults};
 ghost use Rattle.buffa_wire.specs.View.{datum_of};
-ghost use Rattle.buffa_codec.specs.Reading.{CoversAll, Each};
+ghost use Rattle.buffa_codec.specs.Decoded.{CoversAll, Each};
 ghost use Rattle.conformance_extensions.specs.Normal.{IsNormal};
 
 use crate::back::set_then;

@@ -1,7 +1,7 @@
 //! The lengths of encodings of unknown fields.
 
 ghost use Rattle.std.specs.Prelude.{◌≡◌, ◌≤◌, length, min};
-ghost use Rattle.buffa_wire.specs.Encoding.{records_encoding, field_encoding, payload_encoding};
+ghost use Rattle.buffa_wire.specs.Encoding.{records_encoding, tagged_encoding, payload_encoding};
 ghost use Rattle.buffa_wire.specs.View.{datum_of};
 ghost use Rattle.buffa_bytes.specs.Values.{tag_encoding};
 ghost use Rattle.buffa_bytes.specs.Varint.{varint_encoding};
@@ -36,7 +36,7 @@ impl UnknownFields {
 
 // The length of a varint.
 #[inline(always)]
-#[tactic(auto, using(crate::proofs::EncodingLemmas::ten_at_most))]
+#[tactic(auto, using(buffa_bytes::proofs::ShortestLemmas::ten_at_most))]
 fn number_len(n: u64) -> u64
     ensures len { result ≡ length (varint_encoding n) }
     ensures short { result ≤ 10 }
@@ -46,7 +46,7 @@ fn number_len(n: u64) -> u64
 
 // The length of a tag. Most numbers are below 16, and their tags have one byte.
 #[inline(always)]
-#[tactic(auto, using(crate::proofs::EncodingLemmas::ten_at_most))]
+#[tactic(auto, using(buffa_bytes::proofs::ShortestLemmas::ten_at_most))]
 fn tag_len(number: u32, wire_type: WireType) -> u64
     ensures len { result ≡ length (tag_encoding number wire_type) }
     ensures short { result ≤ 10 }
@@ -58,7 +58,7 @@ fn tag_len(number: u32, wire_type: WireType) -> u64
 #[cycle(size)]
 #[inline(always)]
 fn field_len(number: u32, payload: &UnknownFieldData) -> u64
-    ensures { result ≡ min (length (field_encoding number (datum_of payload.now))) 18446744073709551615 }
+    ensures { result ≡ min (length (tagged_encoding number (datum_of payload.now))) 18446744073709551615 }
 {
     let tag = tag_len(number, payload.wire_type());
     match payload {

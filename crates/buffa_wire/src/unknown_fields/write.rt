@@ -1,6 +1,6 @@
 //! The encodings of unknown fields.
 
-ghost use Rattle.buffa_wire.specs.Encoding.{records_encoding, field_encoding, payload_encoding};
+ghost use Rattle.buffa_wire.specs.Encoding.{records_encoding, tagged_encoding, payload_encoding};
 ghost use Rattle.buffa_wire.specs.View.{datum_of};
 ghost use Rattle.buffa_bytes.specs.Written.{UsesRoom, Writes};
 
@@ -45,9 +45,9 @@ fn write_field<S: EncodeSink>(
     payload: &UnknownFieldData,
     sink: &mut S,
 ) -> Result<(), EncodeError>
-    ensures writes { Writes result (S.written sink.old) (field_encoding number (datum_of payload.now))
+    ensures writes { Writes result (S.written sink.old) (tagged_encoding number (datum_of payload.now))
         (S.written sink.new) }
-    ensures room { UsesRoom result (S.room sink.old) (field_encoding number (datum_of payload.now)) (S.room sink.new) }
+    ensures room { UsesRoom result (S.room sink.old) (tagged_encoding number (datum_of payload.now)) (S.room sink.new) }
 {
     if let UnknownFieldData::Varint(v) = payload {
         return write_two(tag_value(number, WireType::Varint), *v, sink);

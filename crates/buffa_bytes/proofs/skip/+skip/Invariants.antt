@@ -1,5 +1,5 @@
 use Rattle.std.proofs.Common.{◌≡◌, length, ◌+◌, ◌*◌}
-use Rattle.buffa_bytes.specs.Reading.{group_at}
+use Rattle.buffa_bytes.specs.Front.{group_at}
 use Rattle.buffa_bytes.specs.Unread.{IsTailOf}
 use Rattle.buffa_bytes.proofs.skip.+skip.Given as goal
 

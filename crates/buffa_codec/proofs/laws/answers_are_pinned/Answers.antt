@@ -1,5 +1,5 @@
 use Rattle.std.proofs.Common.{refl, sym, ◌∙◌}
-use Rattle.buffa_codec.specs.Reading.{last_read}
+use Rattle.buffa_codec.specs.Decoded.{last_read}
 use Rattle.buffa_wire.specs.BudgetLeft.{defaults}
 use Rattle.buffa_codec.proofs.PinLemmas.{lists_alike, lists_there}
 use Rattle.buffa_codec.proofs.laws.answers_are_pinned.Goals as goal

@@ -1,8 +1,8 @@
 use Rattle.std.proofs.Common.{sym, ap, ◌∙◌, map, take, ◌++◌, subst}
 use Rattle.std.proofs.lemmas.List.{take_all}
 use Rattle.std.proofs.lemmas.Result.{err_from_is_err_and}
-use Rattle.buffa_codec.specs.Reading.{Each, joined}
-use Rattle.buffa_codec.proofs.ListLemmas.{Each-append, joined-append}
+use Rattle.buffa_codec.specs.Decoded.{Each, encodings}
+use Rattle.buffa_codec.proofs.ListLemmas.{Each-append, encodings-append}
 use Rattle.buffa_codec.proofs.packed.packed_bytes.Goals as goal
 use Rattle.buffa_bytes.proofs.ListLemmas.{means_more}
 
@@ -14,7 +14,7 @@ loop-v-preserved g c =
     let front = map m (take c.loop-v.v-index xs) in
     let more = means_more m xs c.loop-v.v-index c.v-item.result c.loop-v-test.true c.v-item.is in
     record {
-      written = c.in_ok-encode_packed.ensures.ok ∙ ap (λ l. l ++ encoding (m c.v-item.result)) c.loop-v.invariant.written ∙ sym (ap (joined encoding) more ∙ joined-append encoding front (m c.v-item.result));
+      written = c.in_ok-encode_packed.ensures.ok ∙ ap (λ l. l ++ encoding (m c.v-item.result)) c.loop-v.invariant.written ∙ sym (ap (encodings encoding) more ∙ encodings-append encoding front (m c.v-item.result));
       fit = subst (Each g.C.SingularCodec.fits) (sym more) (Each-append g.C.SingularCodec.fits front (m c.v-item.result) c.loop-v.invariant.fit c.in_ok-encode_packed.ensures.fits);
     }
 
@@ -36,7 +36,7 @@ returns-in_err-encode_packed-clause-fits g c =
 pub returns-clause-bytes : goal.returns-clause-bytes
 returns-clause-bytes g c =
     c.loop-v.invariant.written
-    ∙ ap (λ l. joined g.C.PackableCodec.packed_encoding (map g.C.Value.Blank.meaning l)) (take_all c.loop-v.v-index c.args.values.now c.loop-v-test.false)
+    ∙ ap (λ l. encodings g.C.PackableCodec.packed_encoding (map g.C.Value.Blank.meaning l)) (take_all c.loop-v.v-index c.args.values.now c.loop-v-test.false)
 
 pub returns-clause-fits : goal.returns-clause-fits
 returns-clause-fits g c =

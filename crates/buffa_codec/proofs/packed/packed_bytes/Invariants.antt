@@ -1,9 +1,9 @@
 use Rattle.std.proofs.Common.{◌≡◌, map, take}
-use Rattle.buffa_codec.specs.Reading.{Each, joined}
+use Rattle.buffa_codec.specs.Decoded.{Each, encodings}
 use Rattle.buffa_codec.proofs.packed.packed_bytes.Given as goal
 
 abbrev pub invariant-loop-v : goal.invariant-loop-v
 invariant-loop-v g l = record {
-  written : l.bytes.items ≡ joined g.C.PackableCodec.packed_encoding (map g.C.Value.Blank.meaning (take l.v-index l.values));
+  written : l.bytes.items ≡ encodings g.C.PackableCodec.packed_encoding (map g.C.Value.Blank.meaning (take l.v-index l.values));
   fit : Each g.C.SingularCodec.fits (map g.C.Value.Blank.meaning (take l.v-index l.values));
 }

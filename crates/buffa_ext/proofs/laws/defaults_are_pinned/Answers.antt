@@ -1,4 +1,4 @@
-use Rattle.buffa_codec.specs.Reading.{last_read}
+use Rattle.buffa_codec.specs.Decoded.{last_read}
 use Rattle.buffa_wire.specs.BudgetLeft.{defaults}
 use Rattle.buffa_ext.specs.Messages.{message_of, encodings_in}
 use Rattle.buffa_ext.proofs.PinLemmas.{one_default}

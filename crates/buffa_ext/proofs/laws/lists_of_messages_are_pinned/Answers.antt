@@ -1,4 +1,4 @@
-use Rattle.buffa_codec.specs.Reading.{bytes_held}
+use Rattle.buffa_codec.specs.Decoded.{bytes_held}
 use Rattle.buffa_ext.specs.Messages.{group_held}
 use Rattle.buffa_ext.proofs.PinLemmas.{list_is_exact}
 use Rattle.buffa_ext.proofs.laws.lists_of_messages_are_pinned.Goals as goal

@@ -3,7 +3,7 @@ use Rattle.buffa_bytes.proofs.StepLemmas.{agree_err, agree_ok}
 use Rattle.buffa_bytes.specs.Content.{content_at}
 use Rattle.buffa_bytes.specs.declared.error.DecodeError.TheVariants.{WireTypeMismatch}
 use Rattle.buffa_bytes.specs.declared.wire_type.WireType.TheVariants.{LengthDelimited}
-use Rattle.buffa_bytes.specs.Reading.{check_wire}
+use Rattle.buffa_bytes.specs.Front.{check_wire}
 use Rattle.buffa_map.proofs.EntryLemmas.{check_sound}
 use Rattle.buffa_fields.specs.ListLaws.{element_taken, neither_err, other_wire, own_wire, packed_taken, packed_wire}
 use Rattle.buffa_fields.specs.Lists.{ElementsTakeMemory, PackedTakeMemory}

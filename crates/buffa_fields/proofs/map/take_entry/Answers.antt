@@ -1,7 +1,7 @@
 use Rattle.std.proofs.Common.{◌+◌, [], refl, true}
 use Rattle.buffa_bytes.proofs.StepLemmas.{agree_ok}
 use Rattle.buffa_bytes.specs.declared.wire_type.WireType.TheVariants.{LengthDelimited}
-use Rattle.buffa_bytes.specs.Reading.{check_wire}
+use Rattle.buffa_bytes.specs.Front.{check_wire}
 use Rattle.buffa_map.proofs.EntryLemmas.{check_sound}
 use Rattle.buffa_map.specs.Pairs.{means, put}
 use Rattle.buffa_fields.specs.MapLaws.{map_err, map_full, map_ok}

@@ -1,7 +1,7 @@
 use Rattle.std.proofs.Common.{◌≡◌, ◌+◌, ◌∙◌, refl, sym, arith}
 use Rattle.buffa_bytes.proofs.StepLemmas.{agree_err, agree_ok}
 use Rattle.buffa_bytes.specs.declared.wire_type.WireType.TheVariants.{LengthDelimited}
-use Rattle.buffa_bytes.specs.Reading.{check_wire}
+use Rattle.buffa_bytes.specs.Front.{check_wire}
 use Rattle.buffa_map.proofs.EntryLemmas.{check_sound}
 use Rattle.buffa_fields.specs.NestedLaws.{inside_full, inside_taken}
 use Rattle.buffa_fields.specs.RepeatedNestedLaws.{charged, uncharged, uncharged_wire}

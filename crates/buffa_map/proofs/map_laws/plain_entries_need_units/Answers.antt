@@ -1,6 +1,6 @@
 use Rattle.std.proofs.Common.{◌≡◌, ◌+◌, ap, arith}
 use Rattle.buffa_wire.specs.BudgetLeft.{units}
-use Rattle.buffa_bytes.specs.Reading.{delimited_at, tag_at}
+use Rattle.buffa_bytes.specs.Front.{delimited_at, tag_at}
 use Rattle.buffa_map_base.specs.Entry.{blanks, inner_need, need_at}
 use Rattle.buffa_map_base.proofs.EntryLemmas.{need_by-nothing}
 use Rattle.buffa_map_base.proofs.NeedLemmas.{need_free}

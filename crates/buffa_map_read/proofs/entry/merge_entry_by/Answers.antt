@@ -1,13 +1,14 @@
 use Rattle.std.proofs.Common.{sym, ◌≡◌, ◌∙◌, Bool, true, false}
-use Rattle.std.proofs.lemmas.Result.{err_from_is_err_and}
+use Rattle.std.proofs.lemmas.Result.{err_from_is_err_and, on_ok_weaker}
 use Rattle.buffa_bytes.proofs.FullLemmas.{varint_no_full}
 use Rattle.buffa_bytes.proofs.TailLemmas.{tail_more}
 use Rattle.buffa_wire.proofs.InsideLemmas.{delimited_front}
 use Rattle.buffa_map_read.proofs.MergeLemmas.{bad_cut, is_dropped, is_put, no_copy, no_entry, not_put}
 use Rattle.buffa_map_read.proofs.PartsLemmas.{entry_declared}
-use Rattle.buffa_map_base.proofs.ResultLemmas.{IfErr-map, IfErr-with, OnOk-both, OnOk-map}
+use Rattle.buffa_map_base.proofs.ResultLemmas.{IfErr-map, IfErr-with, OnOk-both}
 use Rattle.buffa_map_base.proofs.NeedLemmas.{no_length}
-use Rattle.buffa_map_base.proofs.TailLemmas.{near_rest, cut_front, past_copy, past_short, delimited_after, delimited_short}
+use Rattle.buffa_map_base.proofs.TailLemmas.{near_rest, cut_front, past_copy, past_short, delimited_short}
+use Rattle.buffa_bytes.proofs.DelimitedLemmas.{after_length}
 use Rattle.buffa_map_read.proofs.entry.merge_entry_by.Goals.{else-KEEPS-via-then-KEEPS+else-MAY_RETURN_UNKNOWN, else-KEEPS-via-else-KEEPS}
 use Rattle.buffa_map_read.proofs.entry.merge_entry_by.Goals as goal
 
@@ -22,7 +23,7 @@ returns-in_err-len-clause-err g c =
 
 pub returns-in-Some-clause-ok : goal.returns-in-Some-clause-ok
 returns-in-Some-clause-ok g c =
-    OnOk-map c.merge_whole-merged.result (λ h. h _ _ (rw c.advance.ensures.rest (delimited_front _ _ _ _ c.in_ok-len.ensures.reads c.in-Some.ensures))) c.merge_whole-merged.ensures.ok
+    on_ok_weaker c.merge_whole-merged.result (λ h. h _ _ (rw c.advance.ensures.rest (delimited_front _ _ _ _ c.in_ok-len.ensures.reads c.in-Some.ensures))) c.merge_whole-merged.ensures.ok
 
 pub returns-in-Some-clause-err : goal.returns-in-Some-clause-err
 returns-in-Some-clause-err g c =
@@ -33,7 +34,7 @@ returns-in_err-entry-clause-err g c =
     let p = err_from_is_err_and c.from_residual-in_err-entry.result c.from_residual-in_err-entry.ensures.1 in
     let len = c.in_ok-len.ensures in
     let copy = c.in_err-entry.ensures in
-    let same = delimited_after _ _ _ len.reads in
+    let same = after_length _ _ _ len.reads in
     rw (p.1, p.2) (no_copy _ _ _ _ _ _ _ _ _ (g.met.L.Keeper.keeps (sym c.KEEPS.ensures ∙ c.if-KEEPS.true), g.met.W.MergeValue.undeclared ∙ sym c.MAY_RETURN_UNKNOWN.ensures ∙ c.if-MAY_RETURN_UNKNOWN.true) same (tail_more _ _ _ copy.tail len.tail) copy.reads copy.full copy.free (λ e rest t. near_rest _ _ _ _ e rest same t copy.within) (λ x no. past_copy _ _ _ _ x len.reads same copy.short no))
 
 pub returns-in_err-parts-clause-err : goal.returns-in_err-parts-clause-err

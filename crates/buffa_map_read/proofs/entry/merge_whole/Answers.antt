@@ -1,6 +1,6 @@
-use Rattle.std.proofs.lemmas.Result.{err_from_is_err_and}
+use Rattle.std.proofs.lemmas.Result.{err_from_is_err_and, on_ok_weaker}
 use Rattle.buffa_map_read.proofs.MergeLemmas.{bad_parts, is_kept, is_put, not_kept, not_put}
-use Rattle.buffa_map_base.proofs.ResultLemmas.{IfErr-both, IfErr-with, OnOk-both, OnOk-map}
+use Rattle.buffa_map_base.proofs.ResultLemmas.{IfErr-both, IfErr-with, OnOk-both}
 use Rattle.buffa_map_read.proofs.entry.merge_whole.Goals as goal
 
 pub returns-in_err-parts-clause-err : goal.returns-in_err-parts-clause-err
@@ -18,7 +18,7 @@ returns-clause-err g c =
 
 pub returns-then-not-parts-clause-ok : goal.returns-then-not-parts-clause-ok
 returns-then-not-parts-clause-ok g c =
-    OnOk-map c.keep.result (λ h. λ bytes rest is. is_kept _ _ _ _ _ _ _ is _ _ c.in_ok-parts.ensures.ok c.if-not-parts.true _ _ h.0 h.1 c.keep.ensures.memory) c.keep.ensures.ok
+    on_ok_weaker c.keep.result (λ h. λ bytes rest is. is_kept _ _ _ _ _ _ _ is _ _ c.in_ok-parts.ensures.ok c.if-not-parts.true _ _ h.0 h.1 c.keep.ensures.memory) c.keep.ensures.ok
 
 pub returns-then-not-parts-clause-err : goal.returns-then-not-parts-clause-err
 returns-then-not-parts-clause-err g c =

@@ -24,7 +24,7 @@ loop-key-init g c =
     record {
       within = ([], sym same);
       next = subst (λ l. IsNext (field_slots encoding slots l) c.args.cache.now) (sym same) c.requires.next;
-      whole = λ r d b h. subst (λ l. IsFieldWritten key encoding slots c.args.field_number l c.args.cache.now (written c.args.sink.now) r d b) same h;
+      whole = λ r d b h. subst (λ l. IsFieldWritten key encoding slots c.args.number l c.args.cache.now (written c.args.sink.now) r d b) same h;
       spare = λ keeps small. omega arith;
     }
 
@@ -79,7 +79,7 @@ loop-key-preserved g c =
     let e = i.within.1 ∙ ap (λ (z : List (g.row.KC-Value-Meaning.Denot × g.row.M-Meaning.Denot)). i.within.0 ++ z) n in
     let w = rw c.in_ok-write_message_record_by.was at c.write_message_record_by.ensures.written in
     let slot = cap (length (encoding m.1)) ∷ slots m.1 in
-    let number = c.args.field_number in
+    let number = c.args.number in
     record {
       within = (i.within.0 ++ m ∷ [], e ∙ sym (append_assoc i.within.0 (m ∷ []) rest));
       next = subst (λ d. IsNext (field_slots encoding slots rest) d) (sym w.2.0) (next_past slot (field_slots encoding slots rest) c.loop-key.cache (subst (λ l. IsNext (field_slots encoding slots l) c.loop-key.cache) n i.next));
@@ -119,7 +119,7 @@ returns-in_err-write_message_record_by-clause-written g c =
     let n : now ≡ m ∷ rest = ap (λ (z : List (g.row.KC-Value.Denot × g.row.M.Denot)). means g.KC.Value.Blank.meaning g.M.Blank.meaning z) step in
     let w = rw c.in_err-write_message_record_by.was at c.write_message_record_by.ensures.written in
     let slot = cap (length (encoding m.1)) ∷ slots m.1 in
-    let number = c.args.field_number in
+    let number = c.args.number in
     let r = c.from_residual.result in
     let c2 = c.write_message_record_by.new.cache in
     let b2 = written c.write_message_record_by.new.sink in
@@ -139,7 +139,7 @@ returns-clause-written g c =
     let now : List (g.row.KC-Value-Meaning.Denot × g.row.M-Meaning.Denot) = means g.KC.Value.Blank.meaning g.M.Blank.meaning (g.C.MapWalk.left c.loop-key.key-iterator) in
     let n : now ≡ [] = ap (λ (z : List (g.row.KC-Value.Denot × g.row.M.Denot)). means g.KC.Value.Blank.meaning g.M.Blank.meaning z) step.0 in
     c.loop-key.invariant.whole done c.loop-key.cache (written c.loop-key.sink)
-    (subst (λ l. IsFieldWritten key encoding slots c.args.field_number l c.loop-key.cache (written c.loop-key.sink) done c.loop-key.cache (written c.loop-key.sink)) (sym n)
+    (subst (λ l. IsFieldWritten key encoding slots c.args.number l c.loop-key.cache (written c.loop-key.sink) done c.loop-key.cache (written c.loop-key.sink)) (sym n)
     (written_none (IsSmallField key encoding []) c.loop-key.cache (written c.loop-key.sink)))
 
 pub returns-in_err-write_message_record_by-clause-room : goal.returns-in_err-write_message_record_by-clause-room
@@ -155,7 +155,7 @@ returns-in_err-write_message_record_by-clause-room g c keeps small =
     let e = i.within.1 ∙ ap (λ (z : List (g.row.KC-Value.Denot × g.row.M.Denot)). i.within.0 ++ means g.KC.Value.Blank.meaning g.M.Blank.meaning z) step in
     let all = g.C.StableOrder.walk c.args.map.now in
     let one = c.in_err-write_message_record_by.ensures.room keeps (small_at key encoding all i.within.0 m rest e small) in
-    rw q.1 (omega (arith, i.spare keeps small, one, field_encoding-parts key (delimited_writing encoding) c.args.field_number all i.within.0 m rest e))
+    rw q.1 (omega (arith, i.spare keeps small, one, field_encoding-parts key (delimited_writing encoding) c.args.number all i.within.0 m rest e))
 
 pub returns-clause-room : goal.returns-clause-room
 returns-clause-room g c keeps small =
@@ -164,4 +164,4 @@ returns-clause-room g c keeps small =
     let i = c.loop-key.invariant in
     let step = c.storage_iter-key-items.ensures.steps c.loop-key.key-iterator None c.next.new.self c.in-None.ensures.steps in
     let whole = i.within.1 ∙ ap (λ (z : List (g.row.KC-Value.Denot × g.row.M.Denot)). i.within.0 ++ means g.KC.Value.Blank.meaning g.M.Blank.meaning z) step.0 ∙ append-nil i.within.0 in
-    omega (arith, i.spare keeps small, ap (λ z. length (field_encoding key (delimited_writing encoding) c.args.field_number z)) whole)
+    omega (arith, i.spare keeps small, ap (λ z. length (field_encoding key (delimited_writing encoding) c.args.number z)) whole)

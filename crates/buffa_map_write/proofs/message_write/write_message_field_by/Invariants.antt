@@ -18,8 +18,8 @@ invariant-loop-key g l =
     record {
       within : (done : List (g.row.KC-Value-Meaning.Denot × g.row.M-Meaning.Denot)) × (all ≡ done ++ rest);
       next : IsNext (field_slots encoding slots rest) l.cache;
-      whole : (r : _) (d : _) (b : List ℕ) → IsFieldWritten key encoding slots l.field_number rest l.cache (written l.sink) r d b
-          → IsFieldWritten key encoding slots l.field_number all l.fn.cache (written l.fn.sink) r d b;
+      whole : (r : _) (d : _) (b : List ℕ) → IsFieldWritten key encoding slots l.number rest l.cache (written l.sink) r d b
+          → IsFieldWritten key encoding slots l.number all l.fn.cache (written l.fn.sink) r d b;
       spare : KeepsMessageRoom (λ x c s r d t. g.F.Fn.post l.fn.write (x, (c, (s, tt))) (r, (d, (t, tt)))) (λ v. encoding (g.M.Blank.meaning v)) g.S.EncodeSink.room → IsSmallField key encoding all
-          → g.S.EncodeSink.room l.fn.sink ≤ g.S.EncodeSink.room l.sink + length (field_encoding key (delimited_writing encoding) l.field_number within.0);
+          → g.S.EncodeSink.room l.fn.sink ≤ g.S.EncodeSink.room l.sink + length (field_encoding key (delimited_writing encoding) l.number within.0);
     }

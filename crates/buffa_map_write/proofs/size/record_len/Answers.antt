@@ -1,6 +1,6 @@
 use Rattle.std.proofs.Common.{arith, ◌≡◌, ℕ, ◌+◌, ◌≤◌, length, ◌∙◌, ap}
 use Rattle.buffa_bytes.specs.Varint.{varint_encoding}
-use Rattle.buffa_wire.proofs.EncodingLemmas.{ten_at_most}
+use Rattle.buffa_bytes.proofs.ShortestLemmas.{ten_at_most}
 use Rattle.buffa_map_base.specs.Encoding.{entry_encoding, saturated}
 use Rattle.buffa_map_base.proofs.SizeLemmas.{length-entry_encoding}
 use Rattle.buffa_map_write.proofs.size.record_len.Goals as goal

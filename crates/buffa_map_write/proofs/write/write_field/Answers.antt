@@ -9,7 +9,7 @@ loop-key-init g c = (
   means g.KC.Value.Blank.meaning g.VC.Value.Blank.meaning (g.C.MapWalk.left c.storage_iter-key-items.result),
   c.storage_iter-key-items.ensures.walk,
   c.storage_iter-key-items.ensures.pairs,
-  sent_none g.KC.Value.Blank.meaning g.VC.Value.Blank.meaning g.KC.MapCodec.writing g.VC.MapCodec.writing c.args.field_number g.KC.MapCodec.fits g.VC.MapCodec.fits _ _ _ _
+  sent_none g.KC.Value.Blank.meaning g.VC.Value.Blank.meaning g.KC.MapCodec.writing g.VC.MapCodec.writing c.args.number g.KC.MapCodec.fits g.VC.MapCodec.fits _ _ _ _
       (ap (λ z. means g.KC.Value.Blank.meaning g.VC.Value.Blank.meaning (g.C.MapWalk.left z)) (sym c.into_iter-key-iterator.ensures.into_iter_gives)),
 )
 
@@ -21,7 +21,7 @@ loop-key-preserved g c =
       inv.0,
       inv.1,
       inv.2,
-      sent_more g.KC.Value.Blank.meaning g.VC.Value.Blank.meaning g.KC.MapCodec.writing g.VC.MapCodec.writing c.args.field_number g.KC.MapCodec.fits g.VC.MapCodec.fits _ _ _ _ _ _ _ step _ _ _ _ inv.3 wrote.written.0 wrote.written.1 wrote.room wrote.fits.0 wrote.fits.1,
+      sent_more g.KC.Value.Blank.meaning g.VC.Value.Blank.meaning g.KC.MapCodec.writing g.VC.MapCodec.writing c.args.number g.KC.MapCodec.fits g.VC.MapCodec.fits _ _ _ _ _ _ _ step _ _ _ _ inv.3 wrote.written.0 wrote.written.1 wrote.room wrote.fits.0 wrote.fits.1,
     )
 
 pub returns-in_err-write_record : goal.returns-in_err-write_record
@@ -32,14 +32,14 @@ returns-in_err-write_record g c =
       inv.0,
       inv.1,
       inv.2,
-      sent_refused g.KC.Value.Blank.meaning g.VC.Value.Blank.meaning g.KC.MapCodec.writing g.VC.MapCodec.writing c.args.field_number g.KC.MapCodec.fits g.VC.MapCodec.fits _ _ _ q.1 q.2 _ _ _ _ step _ _ _ inv.3 c.in_err-write_record.ensures.written,
+      sent_refused g.KC.Value.Blank.meaning g.VC.Value.Blank.meaning g.KC.MapCodec.writing g.VC.MapCodec.writing c.args.number g.KC.MapCodec.fits g.VC.MapCodec.fits _ _ _ q.1 q.2 _ _ _ _ step _ _ _ inv.3 c.in_err-write_record.ensures.written,
       rw q.1 tt,
-      sent_no_room g.KC.Value.Blank.meaning g.VC.Value.Blank.meaning g.KC.MapCodec.writing g.VC.MapCodec.writing c.args.field_number g.KC.MapCodec.fits g.VC.MapCodec.fits _ _ _ q.1 q.2 _ _ _ _ step _ _ _ inv.3 c.in_err-write_record.ensures.room,
+      sent_no_room g.KC.Value.Blank.meaning g.VC.Value.Blank.meaning g.KC.MapCodec.writing g.VC.MapCodec.writing c.args.number g.KC.MapCodec.fits g.VC.MapCodec.fits _ _ _ q.1 q.2 _ _ _ _ step _ _ _ inv.3 c.in_err-write_record.ensures.room,
     )
 
 pub returns : goal.returns
 returns g c =
     let inv = c.loop-key.invariant in
     let step : g.C.MapWalk.left c.loop-key.key-iterator ≡ [] = (c.storage_iter-key-items.ensures.steps c.loop-key.key-iterator None c.next.new.self c.in-None.ensures.steps).0 in
-    let s = sent_all g.KC.Value.Blank.meaning g.VC.Value.Blank.meaning g.KC.MapCodec.writing g.VC.MapCodec.writing c.args.field_number g.KC.MapCodec.fits g.VC.MapCodec.fits _ _ _ _ step _ _ inv.3 in
+    let s = sent_all g.KC.Value.Blank.meaning g.VC.Value.Blank.meaning g.KC.MapCodec.writing g.VC.MapCodec.writing c.args.number g.KC.MapCodec.fits g.VC.MapCodec.fits _ _ _ _ step _ _ inv.3 in
     (inv.0, inv.1, inv.2, s.0, s.1, s.2)

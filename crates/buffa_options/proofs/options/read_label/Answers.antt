@@ -1,6 +1,6 @@
 use Rattle.std.proofs.Common.{ap, subst}
 use Rattle.std.proofs.lemmas.Result.{on_err_weaker}
-use Rattle.buffa_codec.specs.Reading.{HasByte, string_held}
+use Rattle.buffa_codec.specs.Decoded.{HasByte, string_held}
 use Rattle.buffa_options.specs.Options.{string_option}
 use Rattle.buffa_options.proofs.OptionLemmas.{last_has_byte}
 use Rattle.buffa_options.proofs.options.read_label.Goals as goal

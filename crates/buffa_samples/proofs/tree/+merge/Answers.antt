@@ -3,7 +3,7 @@ use Rattle.std.proofs.lemmas.Result.{err_from_is_err_and}
 use Rattle.buffa_bytes.specs.declared.error.DecodeError.TheVariants.{OutOfMemory}
 use Rattle.buffa_bytes.specs.Field.{TakesTag}
 use Rattle.buffa_bytes.specs.Join.Join.{none}
-use Rattle.buffa_bytes.specs.Reading.{tag_at}
+use Rattle.buffa_bytes.specs.Front.{tag_at}
 use Rattle.buffa_bytes.proofs.StepLemmas.{agree_ok}
 use Rattle.buffa_bytes.proofs.FieldLemmas.{tag_some, tag_sound}
 use Rattle.buffa_bytes.proofs.FullLemmas.{tag_full}

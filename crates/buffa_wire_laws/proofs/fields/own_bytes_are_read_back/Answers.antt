@@ -1,4 +1,4 @@
-use Rattle.buffa_bytes.proofs.TextLemmas.{own_bytes_back}
+use Rattle.buffa_bytes.proofs.OwnLemmas.{own_bytes_back}
 use Rattle.buffa_wire_laws.proofs.fields.own_bytes_are_read_back.Goals as goal
 
 pub returns : goal.returns

@@ -1,4 +1,4 @@
-use Rattle.buffa_bytes.proofs.TextLemmas.{own_string_back}
+use Rattle.buffa_bytes.proofs.OwnLemmas.{own_string_back}
 use Rattle.buffa_wire_laws.proofs.fields.own_strings_are_read_back.Goals as goal
 
 pub returns : goal.returns

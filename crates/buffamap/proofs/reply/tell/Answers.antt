@@ -24,7 +24,7 @@ returns-in-RefusedBytes-clause-told g c =
     rw c.in-RefusedBytes.is (named_or_not c.line_of_bytes.result (line (codes "fault " ++ decode_error_text c.in-RefusedBytes.error)) _ _
     c.finish_named.result c.line_of_bytes.ensures c.finish_named.ensures)
 
-pub returns-in-RefusedText-clause-told : goal.returns-in-RefusedText-clause-told
-returns-in-RefusedText-clause-told g c =
-    rw c.in-RefusedText.is (named_or_not c.line_of_text.result (line (codes "fault " ++ encode_error_text c.in-RefusedText.error)) _ _
-    c.finish_named-in-RefusedText.result c.line_of_text.ensures c.finish_named-in-RefusedText.ensures)
+pub returns-in-RefusedEncoding-clause-told : goal.returns-in-RefusedEncoding-clause-told
+returns-in-RefusedEncoding-clause-told g c =
+    rw c.in-RefusedEncoding.is (named_or_not c.line_of_encoding.result (line (codes "fault " ++ encode_error_text c.in-RefusedEncoding.error)) _ _
+    c.finish_named-in-RefusedEncoding.result c.line_of_encoding.ensures c.finish_named-in-RefusedEncoding.ensures)

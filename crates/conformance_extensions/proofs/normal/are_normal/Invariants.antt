@@ -1,5 +1,5 @@
 use Rattle.std.proofs.Common.{drop, map}
-use Rattle.buffa_codec.specs.Reading.{Each}
+use Rattle.buffa_codec.specs.Decoded.{Each}
 use Rattle.conformance_extensions.specs.Normal.{IsNormal}
 use Rattle.conformance_extensions.proofs.normal.are_normal.Given as goal
 

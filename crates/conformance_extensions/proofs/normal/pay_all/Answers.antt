@@ -1,5 +1,5 @@
 use Rattle.std.proofs.Common.{map, subst}
-use Rattle.buffa_codec.specs.Reading.{CoversAll}
+use Rattle.buffa_codec.specs.Decoded.{CoversAll}
 use Rattle.buffa_ext.specs.MessageFacts.{is_full}
 use Rattle.conformance_extensions.proofs.FrontLemmas.{covers_from, covers_none}
 use Rattle.conformance_extensions.proofs.normal.pay_all.Goals as goal

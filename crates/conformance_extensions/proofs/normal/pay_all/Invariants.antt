@@ -1,5 +1,5 @@
 use Rattle.std.proofs.Common.{drop, map}
-use Rattle.buffa_codec.specs.Reading.{CoversAll}
+use Rattle.buffa_codec.specs.Decoded.{CoversAll}
 use Rattle.buffa_wire.specs.BudgetLeft.{defaults}
 use Rattle.conformance_extensions.proofs.normal.pay_all.Given as goal
 

@@ -1,12 +1,12 @@
 use Rattle.std.proofs.Common.{◌≡◌, ℕ, zero, suc, ◌<◌, ◌∙◌, ◌==◌, List, [], ◌∷◌, ◌++◌, Bool, Result, Ok, Err, true, false, ap, arith, length, map, subst, sym}
-use Rattle.std.proofs.lemmas.Bool.{eqb-true, eq-eqb}
+use Rattle.std.proofs.lemmas.Bool.{eqb-true, eq-eqb, false≢true}
 use Rattle.std.proofs.lemmas.List.{append-nil}
 use Rattle.std.proofs.lemmas.Result.{err_from_is_err_and}
 use Rattle.std.specs.Result.{OnErr, OnOk}
 use Rattle.buffa_wire.specs.Records.{Datum, Held, bytes}
-use Rattle.buffa_codec.specs.Reading.{Adds, AddsSome, Each, joined, packed_record}
+use Rattle.buffa_codec.specs.Decoded.{Adds, AddsSome, Each, encodings, packed_record}
 use Rattle.buffa_codec.specs.Sub.{tagged}
-use Rattle.buffa_codec.proofs.ListLemmas.{no_truth, packed_some}
+use Rattle.buffa_codec.proofs.ListLemmas.{packed_some}
 use Rattle.buffa_codec.proofs.PlaceLemmas.{places_stay}
 use Rattle.buffa_codec.proofs.TurnLemmas.{writes_none}
 use Rattle.buffa_codec.proofs.packed.PackedRepeatedExtensionCodec.try_encode.Goals as goal
@@ -16,7 +16,7 @@ is_none : (r : Bool) (n m : ℕ) → r ≡ (n == 0) → n ≡ m → r ≡ true �
 is_none r n m e same h = sym same ∙ eqb-true n 0 (sym e ∙ h)
 
 is_some : (r : Bool) (n m : ℕ) → r ≡ (n == 0) → n ≡ m → r ≡ false → 0 < m
-is_some r n zero e same h = absurd (no_truth (sym h ∙ e ∙ eq-eqb n 0 same))
+is_some r n zero e same h = absurd (false≢true (sym h ∙ e ∙ eq-eqb n 0 same))
 is_some r n (suc m) e same h = omega arith
 
 -- no values have no record
@@ -29,7 +29,7 @@ each_none P meaning [] none = tt
 each_none P meaning (v ∷ vs) none = absurd (omega (arith, none))
 
 -- the record of some values
-packs_one : {V M : Type 0} (encoding : M → List ℕ) (meaning : V → M) (n : ℕ) (vs : List V) (b : List ℕ) → 0 < length vs → b ≡ joined encoding (map meaning vs) → (n, bytes b) ∷ [] ≡ tagged n (packed_record encoding (map meaning vs))
+packs_one : {V M : Type 0} (encoding : M → List ℕ) (meaning : V → M) (n : ℕ) (vs : List V) (b : List ℕ) → 0 < length vs → b ≡ encodings encoding (map meaning vs) → (n, bytes b) ∷ [] ≡ tagged n (packed_record encoding (map meaning vs))
 packs_one encoding meaning n [] b some e = absurd (omega (arith, some))
 packs_one encoding meaning n (v ∷ vs) b some e = ap (λ z. (n, bytes z) ∷ []) e
 
@@ -83,7 +83,7 @@ pub returns-clause-ok : goal.returns-clause-ok
 returns-clause-ok g c =
     let one = packs_one g.C.PackableCodec.packed_encoding g.C.Value.Blank.meaning c.args.number c.args.value.items c.in_ok-bytes.bytes.items
     (is_some c.is_empty.result _ _ c.is_empty.ensures c.args.value.ok.0 c.if-is_empty.false)
-    (c.in_ok-bytes.ensures.bytes ∙ ap (λ l. joined g.C.PackableCodec.packed_encoding (map g.C.Value.Blank.meaning l)) c.as_slice.ensures.value) in
+    (c.in_ok-bytes.ensures.bytes ∙ ap (λ l. encodings g.C.PackableCodec.packed_encoding (map g.C.Value.Blank.meaning l)) c.as_slice.ensures.value) in
     subst (λ ds. OnOk c.push_record.result (Adds c.args.fields.now.records ds c.push_record.new.fields.records)) one c.push_record.ensures.ok
 
 pub returns-clause-err : goal.returns-clause-err

@@ -1,5 +1,5 @@
 use Rattle.buffa_wire.specs.View.{records_in}
-use Rattle.buffa_codec.specs.Reading.{TakesElement}
+use Rattle.buffa_codec.specs.Decoded.{TakesElement}
 use Rattle.buffa_codec.proofs.TakesLemmas.{has_record}
 use Rattle.std.proofs.Common.{sym, ap, ◌∙◌, subst, map}
 use Rattle.buffa_wire.specs.View.{datum_of}

@@ -1,10 +1,11 @@
 use Rattle.std.proofs.Common.{sym, ap, ◌∙◌, map, take, drop, ◌∷◌, [], ◌+◌, refl, subst, length, arith}
 use Rattle.std.proofs.lemmas.Result.{err_from_is_err_and}
+use Rattle.std.proofs.lemmas.Bool.{false≢true}
 use Rattle.buffa_wire.specs.View.{datum_of}
-use Rattle.buffa_codec.specs.Reading.{Each, KeepsPlaces, first_refusal}
+use Rattle.buffa_codec.specs.Decoded.{Each, KeepsPlaces, first_refusal}
 use Rattle.buffa_codec.proofs.PlaceLemmas.{places_more}
 use Rattle.buffa_codec.proofs.TurnLemmas.{values_length, writes_one_more, writes_front, writes_part}
-use Rattle.buffa_codec.proofs.ListLemmas.{Each-at, no_truth, Each-append, first_refusal-append, first_refusal-pass, refused_whole}
+use Rattle.buffa_codec.proofs.ListLemmas.{Each-at, Each-append, first_refusal-append, first_refusal-pass, refused_whole}
 use Rattle.buffa_codec.proofs.repeated.RepeatedExtensionCodec.try_encode.Goals as goal
 use Rattle.buffa_bytes.proofs.ListLemmas.{means_cut, means_more}
 
@@ -27,7 +28,7 @@ returns-in_default-clause-err g c =
 
 pub returns-in_err-payload-clause-reserved : goal.returns-in_err-payload-clause-reserved
 returns-in_err-payload-clause-reserved g c =
-    λ free enough. absurd (no_truth (c.in_err-payload.ensures.free (Each-at g.C.SingularCodec.made_free g.C.Value.Blank.meaning c.as_slice-v-items.result.now c.loop-v.v-index c.v-item.result c.loop-v-test.true c.v-item.is
+    λ free enough. absurd (false≢true (c.in_err-payload.ensures.free (Each-at g.C.SingularCodec.made_free g.C.Value.Blank.meaning c.as_slice-v-items.result.now c.loop-v.v-index c.v-item.result c.loop-v-test.true c.v-item.is
     (subst (λ l. Each g.C.SingularCodec.made_free (map g.C.Value.Blank.meaning l)) (sym c.as_slice-v-items.ensures.value) free))))
 
 pub returns-in_default-clause-room : goal.returns-in_default-clause-room

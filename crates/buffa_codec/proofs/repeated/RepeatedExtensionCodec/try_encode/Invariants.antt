@@ -1,6 +1,6 @@
 use Rattle.std.proofs.Common.{◌≡◌, ◌≤◌, ◌+◌, ◌++◌, map, take, None}
 use Rattle.buffa_codec.specs.Sub.{tagged}
-use Rattle.buffa_codec.specs.Reading.{Each, KeepsPlaces, first_refusal}
+use Rattle.buffa_codec.specs.Decoded.{Each, KeepsPlaces, first_refusal}
 use Rattle.buffa_codec.proofs.repeated.RepeatedExtensionCodec.try_encode.Given as goal
 
 abbrev pub invariant-loop-v : goal.invariant-loop-v

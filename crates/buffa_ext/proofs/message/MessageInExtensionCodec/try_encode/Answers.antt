@@ -1,6 +1,6 @@
 use Rattle.std.proofs.Common.{sym, subst}
 use Rattle.buffa_wire.specs.View.{datum_of}
-use Rattle.buffa_codec.specs.Reading.{KeepsPlaces}
+use Rattle.buffa_codec.specs.Decoded.{KeepsPlaces}
 use Rattle.buffa_codec.proofs.PlaceLemmas.{places_more, places_stay}
 use Rattle.buffa_ext.proofs.message.MessageInExtensionCodec.try_encode.Goals as goal
 

@@ -1,7 +1,7 @@
 use Rattle.std.proofs.Common.{sym, ap, subst, IfSome}
 use Rattle.buffa_wire.specs.View.{datum_of}
 use Rattle.buffa_wire.specs.Message.{BeginsField}
-use Rattle.buffa_codec.specs.Reading.{bytes_held}
+use Rattle.buffa_codec.specs.Decoded.{bytes_held}
 use Rattle.buffa_ext.proofs.record.DelimitedMessageRecord.merge_in.Goals.{in-Ok, in-Err}
 use Rattle.buffa_ext.proofs.record.DelimitedMessageRecord.merge_in.Goals as goal
 

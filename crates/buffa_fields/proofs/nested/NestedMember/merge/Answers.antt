@@ -3,7 +3,7 @@ use Rattle.std.specs.Option.{option_map}
 use Rattle.buffa_bytes.proofs.StepLemmas.{agree_err}
 use Rattle.buffa_bytes.specs.declared.wire_type.WireType.TheVariants.{LengthDelimited}
 use Rattle.buffa_map.proofs.EntryLemmas.{check_sound}
-use Rattle.buffa_bytes.specs.Reading.{check_wire}
+use Rattle.buffa_bytes.specs.Front.{check_wire}
 use Rattle.buffa_fields.specs.Layout.{Took}
 use Rattle.buffa_fields.specs.Nested.{message_cost, or_blank}
 use Rattle.buffa_fields.specs.NestedLaws.{message_wire_err, there}

@@ -1,5 +1,5 @@
 use Rattle.std.proofs.lemmas.Result.{err_from_is_err_and}
-use Rattle.buffa_map_base.proofs.MemoryLemmas.{content_no_full}
+use Rattle.buffa_bytes.proofs.FullLemmas.{content_no_full}
 use Rattle.buffa_map_base.proofs.scalar.AnyMapValueDecode.merge.Goals as goal
 
 pub returns-in_err-read-clause-full : goal.returns-in_err-read-clause-full

@@ -3,7 +3,8 @@ use Rattle.std.proofs.lemmas.Result.{err_from_is_err_and}
 use Rattle.buffa_bytes.proofs.FullLemmas.{varint_no_full}
 use Rattle.buffa_bytes.proofs.LeftLemmas.{left_no_length, left_passed, left_refused, left_taken}
 use Rattle.buffa_bytes.proofs.TailLemmas.{tail_more, tail_whole}
-use Rattle.buffa_wire.proofs.InsideLemmas.{delimited_by, delimited_front, none_long, none_merges, same_front, inside_fault, inside_full, inside_ok, inside_spent}
+use Rattle.buffa_wire.proofs.InsideLemmas.{delimited_by, delimited_front, none_merges, same_front, inside_fault, inside_full, inside_ok, inside_spent}
+use Rattle.buffa_bytes.proofs.OwnLemmas.{none_taken}
 use Rattle.buffa_wire.proofs.message.Message.merge_length_delimited.Goals as goal
 
 pub returns-in_err-len-clause-full : goal.returns-in_err-len-clause-full
@@ -40,7 +41,7 @@ returns-in-Some-clause-free g c = λ rest deep is.
     none_merges g.Self.MessageSpec.merged g.Self.MessageSpec.cost g.Self.MessageSpec.merged_empty g.Self.MessageSpec.cost_empty _ _ _ _ _ _ c.merge-merged.result none c.merge-merged.ensures.merged c.merge-merged.ensures.full
 
 pub returns-in_err-payload-clause-free : goal.returns-in_err-payload-clause-free
-returns-in_err-payload-clause-free g c = λ rest deep is. let k = c.in_err-payload.ensures.free (none_long _ _ _ _ c.in_ok-len.ensures.reads is) in cc
+returns-in_err-payload-clause-free g c = λ rest deep is. let k = c.in_err-payload.ensures.free (none_taken _ _ _ _ c.in_ok-len.ensures.reads is) in cc
 
 pub returns-clause-free : goal.returns-clause-free
 returns-clause-free g c = λ rest deep is.

@@ -1,4 +1,4 @@
-use Rattle.buffa_bytes.specs.Reading.{delimited_at}
+use Rattle.buffa_bytes.specs.Front.{delimited_at}
 use Rattle.buffa_map_base.proofs.MessageLemmas.{content_of}
 use Rattle.buffa_map_codecs.proofs.scalars.delimited.ProtoStringMapMapValueDecode.merge.Goals as goal
 

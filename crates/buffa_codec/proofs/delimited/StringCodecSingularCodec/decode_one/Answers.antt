@@ -1,13 +1,12 @@
 use Rattle.buffa_codec.proofs.TakesLemmas.{takes_text}
 use Rattle.std.proofs.Common.{◌≡◌, ◌++◌, length, false, true, Some, sym, ap, ◌∙◌}
 use Rattle.std.specs.Str.{is_utf8}
-use Rattle.std.proofs.lemmas.Bool.{false_from_ne_true}
+use Rattle.std.proofs.lemmas.Bool.{false_from_ne_true, false≢true}
 use Rattle.std.proofs.lemmas.Str.{IsUtf8-from_is_utf8, is_utf8-from_IsUtf8}
 use Rattle.buffa_wire.specs.View.{datum_of}
-use Rattle.buffa_codec.specs.Reading.{string_held}
-use Rattle.buffa_codec.proofs.ListLemmas.{no_truth}
+use Rattle.buffa_codec.specs.Decoded.{string_held}
 use Rattle.buffa_codec.proofs.HeldLemmas.{held_not, held_text}
-use Rattle.buffa_codec.proofs.text.StringCodecSingularCodec.decode_one.Goals as goal
+use Rattle.buffa_codec.proofs.delimited.StringCodecSingularCodec.decode_one.Goals as goal
 
 pub returns-in_default-from_utf8-clause-reads : goal.returns-in_default-from_utf8-clause-reads
 returns-in_default-from_utf8-clause-reads c =
@@ -26,4 +25,4 @@ returns-in_err-owned-clause-full c =
     let held = c.in-LengthDelimited.held.items in
     let good : is_utf8 held ≡ true = ap is_utf8 (sym c.as_slice.ensures.value) ∙ is_utf8-from_IsUtf8 c.as_slice.result.now c.in-Ok.ensures.cases.1 in
     takes_text c.from_residual.result (datum_of c.args.payload.now) held (held_text held good ∙ sym (ap (λ d. string_held (datum_of d)) c.in-LengthDelimited.is))
-    (λ none. no_truth (c.in_err-owned.ensures.succeeds (ap length (c.in-Ok.ensures.cases.0 ∙ c.as_slice.ensures.value ∙ none))))
+    (λ none. false≢true (c.in_err-owned.ensures.succeeds (ap length (c.in-Ok.ensures.cases.0 ∙ c.as_slice.ensures.value ∙ none))))

@@ -1,14 +1,9 @@
-use Rattle.buffa_bytes.specs.declared.error.DecodeError.TheVariants.{InvalidUtf8}
-use Rattle.std.proofs.Common.{◌≡◌, ◌∙◌, Err, ℕ, true, false, List, ap, refl, subst, Vec, Global}
-use Rattle.std.specs.Prelude.{string_bytes}
-use Rattle.std.specs.Str.{is_utf8}
-use Rattle.std.proofs.lemmas.Bool.{false_from_ne_true}
-use Rattle.std.proofs.lemmas.Str.{IsUtf8-from_is_utf8, is_utf8-from_IsUtf8, IsUtf8-string_bytes}
 use Rattle.std.proofs.lemmas.Result.{err_from_is_err_and}
-use Rattle.buffa_bytes.proofs.TextLemmas.{string_in_place, whole_in_place, length_no_full, none_in_place, none_taken}
+use Rattle.buffa_bytes.proofs.OwnLemmas.{bytes_in_place, whole_in_place, length_no_full, none_in_place, none_taken}
 use Rattle.buffa_bytes.proofs.LeftLemmas.{left_no_length, left_passed, left_refused, left_taken}
+use Rattle.std.proofs.Common.{◌∙◌}
 use Rattle.buffa_bytes.proofs.TailLemmas.{tail_more}
-use Rattle.buffa_bytes.proofs.types.text.decode_string.Goals as goal
+use Rattle.buffa_bytes.proofs.types.delimited.decode_bytes_to.Goals as goal
 
 pub returns-in_err-len-clause-full : goal.returns-in_err-len-clause-full
 returns-in_err-len-clause-full g c =
@@ -17,22 +12,11 @@ returns-in_err-len-clause-full g c =
 
 pub returns-in-Some-clause-reads : goal.returns-in-Some-clause-reads
 returns-in-Some-clause-reads g c =
-    string_in_place _ _ c.from_wire-read.result _ _ _ _ _ c.in_ok-len.ensures.reads c.in-Some.ensures c.advance.ensures.rest c.from_wire-read.ensures.reads
+    bytes_in_place _ _ c.from_wire-read.result _ _ _ _ _ c.in_ok-len.ensures.reads c.in-Some.ensures c.advance.ensures.rest c.from_wire-read.ensures.reads
 
 pub returns-in-Some-clause-full : goal.returns-in-Some-clause-full
 returns-in-Some-clause-full g c =
     whole_in_place c.from_wire-read.result _ _ _ _ c.in_ok-len.ensures.reads c.in-Some.ensures
-
-pub returns-in-Ok-clause-reads : goal.returns-in-Ok-clause-reads
-returns-in-Ok-clause-reads g c =
-    let same : string_bytes c.in-Ok.text ≡ c.in_ok-bytes.bytes.items = ap (λ (v : Vec ℕ Global). v.items) c.in-Ok.ensures.ok in
-    let good : is_utf8 c.in_ok-bytes.bytes.items ≡ true = subst (λ (z : List ℕ). is_utf8 z ≡ true) same (is_utf8-from_IsUtf8 (string_bytes c.in-Ok.text) (IsUtf8-string_bytes c.in-Ok.text)) in
-    rw (c.in_ok-len.ensures.reads, c.in_ok-bytes.ensures.reads, good, same) refl
-
-pub returns-clause-reads : goal.returns-clause-reads
-returns-clause-reads g c ne =
-    let bad : is_utf8 c.in_ok-bytes.bytes.items ≡ false = false_from_ne_true (is_utf8 c.in_ok-bytes.bytes.items) (λ h. let k : false ≡ true = c.in-Err.ensures.succeeds (IsUtf8-from_is_utf8 c.in_ok-bytes.bytes.items h) in cc) in
-    rw (c.in_ok-len.ensures.reads, c.in_ok-bytes.ensures.reads, bad) refl
 
 pub returns-in_err-len-clause-left : goal.returns-in_err-len-clause-left
 returns-in_err-len-clause-left g c =
@@ -50,7 +34,7 @@ returns-in_err-bytes-clause-left g c =
 
 pub returns-clause-left : goal.returns-clause-left
 returns-clause-left g c =
-    left_taken {X = ℕ} (Err InvalidUtf8) _ (g.B.Buf.unread c.args.buf.now) _ _ _ c.in_ok-len.ensures.reads c.in_ok-bytes.ensures.reads
+    left_taken c.from_wire.result _ (g.B.Buf.unread c.args.buf.now) _ _ _ c.in_ok-len.ensures.reads c.in_ok-bytes.ensures.reads
 
 pub returns-in-Some-clause-free : goal.returns-in-Some-clause-free
 returns-in-Some-clause-free g c = λ rest is. c.from_wire-read.ensures.free (none_in_place _ _ _ _ rest c.in_ok-len.ensures.reads c.in-Some.ensures is)
@@ -78,9 +62,3 @@ returns-clause-kept g c = c.in_ok-bytes.ensures.kept ∙ c.in_ok-len.ensures.kep
 
 pub returns-clause-tail : goal.returns-clause-tail
 returns-clause-tail g c = tail_more _ _ _ c.in_ok-bytes.ensures.tail c.in_ok-len.ensures.tail
-
-pub returns-in-Ok-clause-kept : goal.returns-in-Ok-clause-kept
-returns-in-Ok-clause-kept g c = c.in_ok-bytes.ensures.kept ∙ c.in_ok-len.ensures.kept
-
-pub returns-in-Ok-clause-tail : goal.returns-in-Ok-clause-tail
-returns-in-Ok-clause-tail g c = tail_more _ _ _ c.in_ok-bytes.ensures.tail c.in_ok-len.ensures.tail

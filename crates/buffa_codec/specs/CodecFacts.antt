@@ -1,4 +1,4 @@
--- What was written of a list is read back.
+-- What the laws of codecs rest on: what reading spends, and that what was written is read back.
 use Rattle.std.specs.Prelude.{◌≡◌, ℕ, ◌-◌, List, [], ◌∷◌, ◌++◌, map, Option, Some, None, refl, true}
 use Rattle.std.proofs.Math.Nat.{sub-zero}
 use Rattle.std.proofs.Common.{sym, ◌∙◌, ap, subst, arith}
@@ -6,7 +6,7 @@ use Rattle.buffa_wire.specs.Records.{Datum, bytes}
 use Rattle.std.proofs.lemmas.List.{append-nil}
 use Rattle.std.specs.Str.{is_utf8}
 use Rattle.buffa_wire.specs.BudgetLeft.{BudgetLeft, Covers, Pays, defaults, minus, nothing}
-use Rattle.buffa_codec.specs.Reading.{ReadsAll, CoversAll, Each, elements, joined, last_read, packed_record, string_held}
+use Rattle.buffa_codec.specs.Decoded.{ReadsAll, CoversAll, Each, elements, encodings, last_read, packed_record, string_held}
 
 pub minus_nothing : (b : BudgetLeft) → b ≡ minus b nothing
 minus_nothing b = simp sub-zero
@@ -53,12 +53,12 @@ module _ {M : Type 0} (fits : M → Type 0) (one : BudgetLeft → Datum → Opti
     (unpacks : (v : M) (rest : List ℕ) → fits v → packed (encoding v ++ rest) ≡ back v ∷ packed rest)
     (unpacks_none : packed [] ≡ [])
     (unread : (b : BudgetLeft) (bs : List ℕ) → one b (bytes bs) ≡ None) where
-  pub unpacks_all : (vs : List M) → Each fits vs → packed (joined encoding vs) ≡ map back vs
+  pub unpacks_all : (vs : List M) → Each fits vs → packed (encodings encoding vs) ≡ map back vs
   unpacks_all [] f = unpacks_none
-  unpacks_all (v ∷ vs) f = unpacks v (joined encoding vs) f.0 ∙ ap (λ l. back v ∷ l) (unpacks_all vs f.1)
+  unpacks_all (v ∷ vs) f = unpacks v (encodings encoding vs) f.0 ∙ ap (λ l. back v ∷ l) (unpacks_all vs f.1)
 
   pub packed_back : (vs out : List M) (left : BudgetLeft) → Each fits vs → ReadsAll one leaves packed defaults (packed_record encoding vs) out left → out ≡ map back vs
   packed_back [] out left f h = h.0
   packed_back (v ∷ vs) out left f h =
-      h.4 ∙ ap (λ o. elements packed (bytes (joined encoding (v ∷ vs))) o ++ h.1) (unread defaults (joined encoding (v ∷ vs)))
+      h.4 ∙ ap (λ o. elements packed (bytes (encodings encoding (v ∷ vs))) o ++ h.1) (unread defaults (encodings encoding (v ∷ vs)))
       ∙ ap (λ l. l ++ h.1) (unpacks_all (v ∷ vs) f) ∙ ap (λ l. map back (v ∷ vs) ++ l) (h.3.0) ∙ append-nil (map back (v ∷ vs))

@@ -58,8 +58,8 @@ abbrev pub HasLast : {M : Type 0} → (Datum → Type 0) → (Datum → Option M
 HasLast P one ds = (front : List Datum) × (d : Datum) × (back : List Datum) × P d × (filter_map one back ≡ []) × (ds ≡ front ++ d ∷ back)
 
 -- a string or bytes value takes memory to be read where it has a byte, and it is the last that is read
-abbrev pub TakesText : (Datum → Option (List ℕ)) → List Datum → Type 0
-TakesText held ds = HasLast (λ d. HasByte (held d)) held ds
+abbrev pub LastHasByte : (Datum → Option (List ℕ)) → List Datum → Type 0
+LastHasByte held ds = HasLast (λ d. HasByte (held d)) held ds
 
 -- a record of a list takes memory: its reading does, or it has a value, which is stored
 abbrev pub TakesElement : {M : Type 0} → (Datum → Type 0) → (BudgetLeft → Datum → Option M) → (List ℕ → List M) → Datum → Type 0
@@ -127,14 +127,14 @@ Each P [] = Unit {0}
 Each P (v ∷ vs) = P v × Each P vs
 
 -- the encodings of the values, joined
-abbrev pub joined : {V : Type 0} → (V → List ℕ) → List V → List ℕ
-joined encoding [] = []
-joined encoding (v ∷ vs) = encoding v ++ joined encoding vs
+abbrev pub encodings : {V : Type 0} → (V → List ℕ) → List V → List ℕ
+encodings encoding [] = []
+encodings encoding (v ∷ vs) = encoding v ++ encodings encoding vs
 
 -- one record of packed bytes, or none for no values
 abbrev pub packed_record : {V : Type 0} → (V → List ℕ) → List V → List Datum
 packed_record encoding [] = []
-packed_record encoding (v ∷ vs) = bytes (joined encoding (v ∷ vs)) ∷ []
+packed_record encoding (v ∷ vs) = bytes (encodings encoding (v ∷ vs)) ∷ []
 
 -- why the first of the values is refused that is refused at all
 abbrev pub first_refusal : {V : Type 0} → (V → Option EncodeError) → List V → Option EncodeError

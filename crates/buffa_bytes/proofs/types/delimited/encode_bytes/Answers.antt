@@ -2,7 +2,7 @@ use Rattle.std.proofs.Common.{length}
 use Rattle.std.proofs.lemmas.Result.{err_from_is_err_and}
 use Rattle.buffa_bytes.specs.Varint.{varint_encoding}
 use Rattle.buffa_bytes.proofs.SinkLemmas.{exits_first, room_first}
-use Rattle.buffa_bytes.proofs.types.text.encode_bytes.Goals as goal
+use Rattle.buffa_bytes.proofs.types.delimited.encode_bytes.Goals as goal
 
 pub returns-in_err-encode_varint-clause-writes : goal.returns-in_err-encode_varint-clause-writes
 returns-in_err-encode_varint-clause-writes g c =

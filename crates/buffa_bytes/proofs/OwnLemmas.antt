@@ -6,11 +6,11 @@ use Rattle.std.specs.Str.{is_utf8}
 use Rattle.buffa_bytes.specs.declared.error.DecodeError.{DecodeError}
 use Rattle.buffa_bytes.specs.declared.error.DecodeError.TheVariants.{OutOfMemory}
 use Rattle.buffa_bytes.specs.Gives.{FullOnlyIf, GivesUnlessFull}
-use Rattle.buffa_bytes.specs.Reading.{varint_at, taken, delimited_at}
+use Rattle.buffa_bytes.specs.Front.{varint_at, taken, delimited_at}
 use Rattle.buffa_bytes.specs.Unread.{IsFrontOf}
 use Rattle.buffa_bytes.specs.Values.{delimited_encoding}
-use Rattle.buffa_bytes.specs.Texts.{text_as, string_as, bytes_as}
-use Rattle.buffa_bytes.proofs.DelimitedLemmas.{delimited_back, taken_sound}
+use Rattle.buffa_bytes.specs.Delimited.{text_as, string_as, bytes_as}
+use Rattle.buffa_bytes.proofs.DelimitedLemmas.{after_length, delimited_back, taken_sound}
 use Rattle.buffa_bytes.proofs.FullLemmas.{varint_no_full}
 use Rattle.buffa_bytes.proofs.StepLemmas.{agree_ok}
 
@@ -52,9 +52,6 @@ length_no_full is same bs h = rw (is, same) (varint_no_full bs _ h)
 abbrev bytes_of : Result (List ℕ × List ℕ) DecodeError → List ℕ
 bytes_of (Ok p) = p.0
 bytes_of (Err e) = []
-
-after_length : (n : ℕ) (bs mid : List ℕ) → varint_at bs ≡ Ok (n, mid) → delimited_at bs ≡ taken n mid
-after_length n bs mid v = rw v refl
 
 -- the bytes at the front, behind their length, are none
 pub none_in_place : (n : ℕ) (bs mid part rest : List ℕ) → varint_at bs ≡ Ok (n, mid) → IsFrontOf part n mid → delimited_at bs ≡ Ok ([], rest) → part ≡ []

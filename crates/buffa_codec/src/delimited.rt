@@ -4,8 +4,8 @@ ghost use Rattle.std.specs.Prelude.{◌≡◌, ◌≢◌, ℕ, List, [], None, I
 ghost use Rattle.std.specs.Str.{is_utf8};
 ghost use Rattle.buffa_wire.specs.Records.{bytes};
 ghost use Rattle.buffa_wire.specs.BudgetLeft.{defaults, nothing};
-ghost use Rattle.buffa_codec.specs.Reading.{HasByte, bytes_held, string_held};
-ghost use Rattle.buffa_codec.specs.Texts.{covers_nothing, covers_same, pays_nothing, string_back};
+ghost use Rattle.buffa_codec.specs.Decoded.{HasByte, bytes_held, string_held};
+ghost use Rattle.buffa_codec.specs.CodecFacts.{covers_nothing, covers_same, pays_nothing, string_back};
 
 use crate::codec::SingularCodec;
 use crate::last::LastWins;

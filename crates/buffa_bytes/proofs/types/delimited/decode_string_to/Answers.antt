@@ -1,9 +1,9 @@
 use Rattle.std.proofs.lemmas.Result.{err_from_is_err_and}
-use Rattle.buffa_bytes.proofs.TextLemmas.{bytes_in_place, whole_in_place, length_no_full, none_in_place, none_taken}
+use Rattle.buffa_bytes.proofs.OwnLemmas.{string_in_place, whole_in_place, length_no_full, none_in_place, none_taken}
 use Rattle.buffa_bytes.proofs.LeftLemmas.{left_no_length, left_passed, left_refused, left_taken}
-use Rattle.std.proofs.Common.{◌∙◌}
 use Rattle.buffa_bytes.proofs.TailLemmas.{tail_more}
-use Rattle.buffa_bytes.proofs.types.text.decode_bytes_to.Goals as goal
+use Rattle.std.proofs.Common.{◌∙◌}
+use Rattle.buffa_bytes.proofs.types.delimited.decode_string_to.Goals as goal
 
 pub returns-in_err-len-clause-full : goal.returns-in_err-len-clause-full
 returns-in_err-len-clause-full g c =
@@ -12,7 +12,7 @@ returns-in_err-len-clause-full g c =
 
 pub returns-in-Some-clause-reads : goal.returns-in-Some-clause-reads
 returns-in-Some-clause-reads g c =
-    bytes_in_place _ _ c.from_wire-read.result _ _ _ _ _ c.in_ok-len.ensures.reads c.in-Some.ensures c.advance.ensures.rest c.from_wire-read.ensures.reads
+    string_in_place _ _ c.from_wire-read.result _ _ _ _ _ c.in_ok-len.ensures.reads c.in-Some.ensures c.advance.ensures.rest c.from_wire-read.ensures.reads
 
 pub returns-in-Some-clause-full : goal.returns-in-Some-clause-full
 returns-in-Some-clause-full g c =

@@ -3,8 +3,8 @@
 ghost use Rattle.std.specs.Prelude.{◌≡◌, ℕ, List, [], Ok, length, string_bytes, IsOk};
 ghost use Rattle.buffa_bytes.specs.Gives.{FullOnlyIf, GivesUnlessFull};
 ghost use Rattle.buffa_bytes.specs.Left.{LeavesUnlessFull, past_no_delimited};
-ghost use Rattle.buffa_bytes.specs.Reading.{delimited_at};
-ghost use Rattle.buffa_bytes.specs.Texts.{bytes_as, string_as};
+ghost use Rattle.buffa_bytes.specs.Front.{delimited_at};
+ghost use Rattle.buffa_bytes.specs.Delimited.{bytes_as, string_as};
 ghost use Rattle.buffa_bytes.specs.Values.{delimited_encoding, string_at};
 ghost use Rattle.buffa_bytes.specs.Written.{UsesRoom, Writes};
 ghost use Rattle.buffa_bytes.specs.Unread.{IsTailOf};

@@ -1,8 +1,8 @@
 use Rattle.std.proofs.lemmas.Result.{err_from_is_err_and}
 use Rattle.buffa_bytes.proofs.FullLemmas.{varint_no_full}
 use Rattle.buffa_bytes.proofs.LeftLemmas.{left_copied, left_no_length}
-use Rattle.buffa_bytes.proofs.TextLemmas.{none_taken}
-use Rattle.buffa_bytes.proofs.types.text.decode_bytes.Goals as goal
+use Rattle.buffa_bytes.proofs.OwnLemmas.{none_taken}
+use Rattle.buffa_bytes.proofs.types.delimited.decode_bytes.Goals as goal
 
 pub returns-in_err-len-clause-full : goal.returns-in_err-len-clause-full
 returns-in_err-len-clause-full g c =
