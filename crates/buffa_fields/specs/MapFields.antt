@@ -19,7 +19,7 @@ use Rattle.buffa_map.specs.Run.{step}
 use Rattle.buffa_map.specs.Encoding.{entry_encoding}
 use Rattle.buffa_map.specs.declared.map_entry.MapEntry.{MapEntry}
 use Rattle.buffa_wire.specs.ByField.{value_of}
-use Rattle.buffa_fields.specs.Takes.{Asks, Need, Taker}
+use Rattle.buffa_wire.specs.Takes.{Asks, Need, Taker}
 
 module _ {K V : Type 0} (key : Reading K) (val : Reading V) where
   -- the entry that a whole payload holds
