@@ -24,7 +24,7 @@ use Rattle.buffa_fields.specs.Lists.{check_list_wire, elements_taken}
 use Rattle.buffa_fields.specs.MapFields.{entry_cost, entry_taken}
 use Rattle.buffa_fields.specs.NestedMaps.{pair_records, pair_slots}
 use Rattle.buffa_fields.specs.RepeatedNested.{messages_records, messages_slots}
-use Rattle.buffa_fields.specs.Takes.{IsTaken, Need, Taker, cost_of, merged_of}
+use Rattle.buffa_wire.specs.Takes.{IsTaken, Need, Taker, cost_of, merged_of}
 use Rattle.buffa_fields.specs.Values.{free, value_taken}
 use denote.Ref.{Bor}
 

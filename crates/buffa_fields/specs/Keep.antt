@@ -7,7 +7,7 @@ use Rattle.buffa_wire.specs.Parse.{TakesField}
 use Rattle.buffa_wire.specs.RecordReading.{RecordTakesMemory, field_at}
 use Rattle.buffa_wire.specs.Records.{Datum}
 use Rattle.buffa_wire.specs.Kept.{kept_record_at}
-use Rattle.buffa_fields.specs.Takes.{Asks, Taker}
+use Rattle.buffa_wire.specs.Takes.{Asks, Taker}
 
 abbrev pub record_in : Result (Datum × ℕ × List ℕ) DecodeError → Option Datum
 record_in (Ok x) = Some x.0

@@ -21,7 +21,7 @@ use Rattle.buffa_wire.proofs.JoinLemmas.{payload_of_record, record_of_payload}
 use Rattle.buffa_wire.specs.Kept.{keep_need, kept_record_at, spent_of}
 use Rattle.buffa_fields.specs.Keep.{AllNumbers, IsFieldThere, KeepTakesMemory, keep_takes}
 use Rattle.buffa_fields.specs.PairLaws.{both_true}
-use Rattle.buffa_fields.specs.Takes.{IsTaken, Leads, Piece, ReadsBack, Untaken, joined}
+use Rattle.buffa_wire.specs.Takes.{IsTaken, Leads, Piece, ReadsBack, Untaken, joined}
 use Rattle.buffa_wire.proofs.SpentLemmas.{is_there}
 use Rattle.buffa_bytes.specs.Gives.{FullOnlyIf}
 

@@ -1,5 +1,6 @@
 -- A message as a list of its members, as a value. Source: the protobuf encoding guide, "Message Structure".
-use Rattle.std.specs.Prelude.{◌≡◌, ℕ, ◌==◌, ◌≤◌, ◌&&◌, Bool, true, false, List, [], ◌++◌, Some, Result, Err, IsOk, MatchResult}
+use Rattle.std.specs.Prelude.{◌≡◌, ℕ, ◌==◌, ◌≤◌, ◌&&◌, Bool, true, false, nat_lt, List, [], ◌++◌, Some, Result, Err, IsOk, MatchResult, if◌then◌else◌}
+use Rattle.std.specs.Option.{option_map}
 use Rattle.buffa_bytes.specs.declared.wire_type.WireType.{WireType}
 use Rattle.buffa_bytes.specs.declared.error.DecodeError.{DecodeError}
 use Rattle.buffa_bytes.specs.declared.error.EncodeError.{EncodeError}
@@ -13,7 +14,7 @@ use Rattle.buffa_wire.specs.Records.{Datum, records_of}
 use Rattle.buffa_wire.specs.Encoding.{records_encoding}
 use Rattle.buffa_wire.specs.Kept.{keep_need}
 use Rattle.buffa_fields.specs.Keep.{KeepTakesMemory, keep_takes}
-use Rattle.buffa_fields.specs.Takes.{Asks, IsTaken, Need, ReadsBack, Stays, Taker}
+use Rattle.buffa_wire.specs.Takes.{Asks, IsTaken, Need, ReadsBack, Stays, Taker, costs_nothing}
 
 -- What a member of a message is: what its value means, what a payload makes of it, where that may ask for memory, and
 -- the records it is written as, under a number; with what it owes.
@@ -54,9 +55,6 @@ Kept d old n w bs before r new after rest =
 abbrev pub passes : Taker (Unit {0})
 passes d v n w p = Some v
 
-abbrev pub costs_nothing : Need
-costs_nothing d n w bs = nothing
-
 unfoldable pub Passed : ℕ → ℕ → WireType → List ℕ → BudgetLeft → Result (Unit {0}) DecodeError → BudgetLeft → List ℕ → Type 0
 Passed d n w bs before r after rest = IsTaken passes costs_nothing d tt n w bs before r tt after rest × FullOnlyIf r ⊥
 
@@ -92,6 +90,18 @@ unfoldable pub Follow : List ℕ → Result (Unit {0}) EncodeError → Cache →
 Follow ss r now = MatchResult r (λ _. IsNext ss now) (λ _. Unit {0})
 
 -- ---- lists of members
+
+-- a field, and the others
+abbrev pub both_take : {A B : Type 0} → ℕ → Taker A → Taker B → Taker (A × B)
+both_take k f g d v n w p =
+    if n == k then option_map (λ x. (x, v.1)) (f d v.0 n w p) else option_map (λ y. (v.0, y)) (g d v.1 n w p)
+
+abbrev pub both_need : ℕ → Need → Need → Need
+both_need k f g d n w bs = if n == k then f d n w bs else g d n w bs
+
+-- the numbers of all are numbers that a field may have, and no two are one
+abbrev pub is_number : ℕ → Bool
+is_number n = nat_lt 0 n && nat_lt n 536870912
 
 abbrev pub Choice : Bool → Type 0 → Type 0 → Type 0
 Choice true a b = a

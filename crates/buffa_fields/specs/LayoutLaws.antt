@@ -14,12 +14,12 @@ use Rattle.buffa_wire.specs.Cache.{Cache}
 use Rattle.buffa_wire.proofs.PassLemmas.{appended_none, appended_twice, done, next_front, next_past, refused, written_none, written_short, written_then}
 use Rattle.buffa_wire.specs.Records.{Datum, records_of}
 use Rattle.buffa_wire.specs.Encoding.{records_encoding}
-use Rattle.buffa_fields.specs.Layout.{Choice, Follow, IsCounted, IsPut, Kept, Layout, Passed, Seen, Shape, Took, costs_nothing, more, passes, visited}
+use Rattle.buffa_fields.specs.Layout.{Choice, Follow, IsCounted, IsPut, Kept, Layout, Passed, Seen, Shape, Took, both_need, both_take, more, passes, visited}
 use Rattle.buffa_wire.specs.Kept.{keep_need}
 use Rattle.buffa_fields.specs.Keep.{KeepTakesMemory, keep_takes}
 use Rattle.buffa_fields.specs.PairLaws.{first_taken, other_taken}
-use Rattle.buffa_fields.specs.Takes.{IsTaken, Need, Taker, both_need, both_take, cost_of, merged_of}
-use Rattle.buffa_fields.specs.TakesLaws.{back as leads_back, taken_full, taken_merges}
+use Rattle.buffa_wire.specs.Takes.{IsTaken, Need, Taker, cost_of, costs_nothing, merged_of}
+use Rattle.buffa_wire.proofs.TakesLemmas.{back as leads_back, taken_full, taken_merges}
 use Rattle.buffa_wire.proofs.EncodingLemmas.{records_encoding-append}
 
 -- ---- one member takes the field, or one of the others

@@ -1,5 +1,3 @@
-pub mod Takes
-pub mod TakesLaws
 pub mod PairLaws
 pub mod Values
 pub mod ValueLaws

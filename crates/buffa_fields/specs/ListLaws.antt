@@ -33,7 +33,7 @@ use Rattle.buffa_map.proofs.EntryLemmas.{same_false, value_complete, value_sound
 use Rattle.buffa_map.specs.Codec.{Reading, ValueFault, Writing, level, value_at}
 use Rattle.buffa_fields.specs.LayoutLaws.{cap_more}
 use Rattle.buffa_fields.specs.Lists.{Each, TakesPacked, check_list_wire, element_at, element_records, elements_in, elements_taken, packed_records, packed_encoding}
-use Rattle.buffa_fields.specs.Takes.{IsTaken, Leads, Piece, ReadsBack, joined}
+use Rattle.buffa_wire.specs.Takes.{IsTaken, Leads, Piece, ReadsBack, joined}
 use Rattle.buffa_fields.specs.ValueLaws.{content_payload, fault_no_limit, none_of}
 use Rattle.buffa_fields.specs.Values.{free}
 use Rattle.buffa_wire.proofs.EncodingLemmas.{records_encoding-append}

@@ -18,7 +18,7 @@ use Rattle.buffa_map.specs.Fields.{EntryFieldsTakeMemory}
 use Rattle.buffa_map.specs.Encoding.{entry_encoding}
 use Rattle.buffa_map.specs.declared.map_entry.MapEntry.{MapEntry}
 use Rattle.buffa_wire.specs.ByField.{value_of}
-use Rattle.buffa_fields.specs.Takes.{Asks, Need, Taker}
+use Rattle.buffa_wire.specs.Takes.{Asks, Need, Taker}
 
 -- where pairs are put so, the pairs after an entry that said s: a declared one is put
 abbrev pub stepped : {K V : Type 0} → (List (K × V) → K → V → List (K × V)) → List (K × V) → MapEntry K V → List (K × V)

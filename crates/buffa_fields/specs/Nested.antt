@@ -10,7 +10,7 @@ use Rattle.buffa_wire.specs.Passes.{cap}
 use Rattle.buffa_bytes.specs.Front.{delimited_at}
 use Rattle.buffa_wire.specs.Records.{Datum, bytes, records_of}
 use Rattle.buffa_bytes.specs.WireType.{same_wire}
-use Rattle.buffa_fields.specs.Takes.{Asks, Need, Taker}
+use Rattle.buffa_wire.specs.Takes.{Asks, Need, Taker}
 
 module _ {X : Type 0} (merged : ℕ → X → List ℕ → Option X) where
   -- what a length and so many bytes, which are all, make of the message that stands, one level down

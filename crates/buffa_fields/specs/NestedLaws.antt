@@ -32,7 +32,7 @@ use Rattle.buffa_bytes.specs.Varint.{varint_encoding}
 use Rattle.buffa_bytes.proofs.FieldLemmas.{is_tag}
 use Rattle.buffa_map.proofs.EntryLemmas.{same_false}
 use Rattle.buffa_fields.specs.Nested.{MessageTakesMemory, inside, message_cost, message_in, message_levels, message_records, message_slots, message_taken, or_blank}
-use Rattle.buffa_fields.specs.Takes.{IsTaken, Need, ReadsBack, Stays, Untaken}
+use Rattle.buffa_wire.specs.Takes.{IsTaken, Need, ReadsBack, Stays, Untaken}
 use Rattle.buffa_fields.specs.Values.{IfThere}
 
 -- ---- a payload that is a length and so many bytes

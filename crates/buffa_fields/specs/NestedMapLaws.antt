@@ -27,7 +27,7 @@ use Rattle.buffa_fields.specs.LayoutLaws.{failed, sum}
 use Rattle.buffa_fields.specs.MapFields.{entry_taken, map_records, put_all}
 use Rattle.buffa_fields.specs.MapLaws.{map_back, map_encoding}
 use Rattle.buffa_fields.specs.NestedMaps.{pair_levels, pair_records, pair_slots}
-use Rattle.buffa_fields.specs.Takes.{ReadsBack}
+use Rattle.buffa_wire.specs.Takes.{ReadsBack}
 
 -- no slots, no pairs
 pub no_pairs : {K X : Type 0} (encoding slots : X → List ℕ) (l : List (K × X)) → pair_slots encoding slots l ≡ [] → l ≡ []

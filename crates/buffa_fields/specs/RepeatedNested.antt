@@ -10,7 +10,7 @@ use Rattle.buffa_wire.specs.Records.{Datum, bytes}
 use Rattle.buffa_bytes.specs.WireType.{same_wire}
 use Rattle.buffa_fields.specs.Lists.{element_records}
 use Rattle.buffa_fields.specs.Nested.{message_in}
-use Rattle.buffa_fields.specs.Takes.{Asks, Need, Taker}
+use Rattle.buffa_wire.specs.Takes.{Asks, Need, Taker}
 
 -- each payload is merged into a default message, which goes behind the others
 abbrev pub messages_taken : {X : Type 0} → X → (ℕ → X → List ℕ → Option X) → Taker (List X)

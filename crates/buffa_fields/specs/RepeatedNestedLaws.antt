@@ -29,7 +29,7 @@ use Rattle.buffa_fields.specs.Lists.{Each, element_records}
 use Rattle.buffa_fields.specs.Nested.{message_cost, message_in}
 use Rattle.buffa_fields.specs.NestedLaws.{delimited_alone, message_wire_err, taken_back}
 use Rattle.buffa_fields.specs.RepeatedNested.{MessagesTakeMemory, messages_cost, messages_levels, messages_records, messages_slots, messages_taken}
-use Rattle.buffa_fields.specs.Takes.{IsTaken, Leads, Piece, ReadsBack, Stays, joined}
+use Rattle.buffa_wire.specs.Takes.{IsTaken, Leads, Piece, ReadsBack, Stays, joined}
 use Rattle.buffa_bytes.proofs.ListLemmas.{means_cut, means_more}
 
 -- ---- costs

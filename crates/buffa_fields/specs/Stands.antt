@@ -3,7 +3,7 @@ use Rattle.std.specs.Prelude.{◌≡◌, ◌+◌, ◌≤◌, ◌⊎◌, ℕ, Lis
 use Rattle.buffa_bytes.specs.declared.wire_type.WireType.{WireType}
 use Rattle.buffa_wire.specs.BudgetLeft.{BudgetLeft}
 use Rattle.buffa_bytes.specs.Front.{tag_at}
-use Rattle.buffa_fields.specs.Takes.{Asks, Need, Taker, cost_of, merged_of}
+use Rattle.buffa_wire.specs.Takes.{Asks, Need, Taker, cost_of, merged_of}
 
 -- fields at the front were merged, and of what follows them the member of the next field's number alone may be changed
 pub record Stands {X : Type 0} (takes : Taker X) (Apart : ℕ → X → X → Type 0) (d : ℕ) (old : X) (bytes : List ℕ) (new : X) : Type 0 where

@@ -6,7 +6,8 @@ use Rattle.buffa_bytes.proofs.StepLemmas.{agree_ok}
 use Rattle.buffa_bytes.specs.declared.error.DecodeError.{DecodeError}
 use Rattle.buffa_bytes.specs.declared.error.DecodeError.TheVariants.{OutOfMemory}
 use Rattle.buffa_bytes.specs.declared.wire_type.WireType.{WireType}
-use Rattle.buffa_wire.proofs.MessageLemmas.{field_costs, field_means, judged_all, loop_fault, untagged}
+use Rattle.buffa_wire.proofs.MessageLemmas.{loop_fault}
+use Rattle.buffa_wire.proofs.ByPayloadLemmas.{ByPayload, field_costs, field_means, judged_all, merged_join, plainly, untagged}
 use Rattle.buffa_wire.specs.BudgetLeft.{BudgetLeft, Pays, PaysAtMost}
 use Rattle.buffa_bytes.specs.Field.{SomeField}
 use Rattle.buffa_bytes.specs.Join.{Join}
@@ -16,23 +17,12 @@ use Rattle.buffa_bytes.specs.Front.{tag_at}
 use Rattle.buffa_fields.specs.Layout.{Layout}
 use Rattle.buffa_fields.specs.LayoutLaws.{merges}
 use Rattle.buffa_fields.specs.Stands.{MergingTakesMemory, Merged, Paid, Stands}
-use Rattle.buffa_fields.specs.Takes.{ReadsBack, Taker, cost_of, merged_of}
-use Rattle.buffa_fields.specs.TakesLaws.{back, cost_of_next, cost_of_none, merged_empty, merged_fields, merged_next}
+use Rattle.buffa_wire.specs.Takes.{ReadsBack, Taker, cost_of, merged_of}
+use Rattle.buffa_wire.proofs.TakesLemmas.{back, cost_of_none, merged_of_fields, merged_of_none}
 
 module _ {X : Type 0} (takes : Taker X) (d : ℕ) where
-  -- what follows fields goes on where they ended
-  along : (f : List ℕ) → Join (SomeField d) f → (v : X) (r : List ℕ) → merged_of takes d v (f ++ r) ≡ option_and_then (λ w. merged_of takes d w r) (merged_of takes d v f)
-  along f none v r = ap (option_and_then (λ w. merged_of takes d w r)) (sym (merged_empty takes d v))
-  along f (more a x one h) v r =
-      ap (merged_of takes d v) (append_assoc a x r) ∙ merged_next takes d v a (x ++ r) one ∙ then (λ w. along x h w r) (merged_of takes d v a)
-      ∙ ap (option_and_then (λ w. merged_of takes d w r)) (sym (merged_next takes d v a x one))
-    where
-      then : ((w : X) → merged_of takes d w (x ++ r) ≡ option_and_then (λ w. merged_of takes d w r) (merged_of takes d w x)) → (o : Option X) → option_and_then (λ w. merged_of takes d w (x ++ r)) o ≡ option_and_then (λ w. merged_of takes d w r) (option_and_then (λ w. merged_of takes d w x) o)
-      then on (Some w) = on w
-      then on None = refl
-
   pub starts : (v : X) (bytes : List ℕ) → Merged takes d v bytes bytes v
-  starts v bytes = record { front = []; split = refl; merged = merged_empty takes d v }
+  starts v bytes = record { front = []; split = refl; merged = merged_of_none takes d v }
 
 module _ {M X : Type 0} (l : Layout M X) (d : ℕ) (old : X) (bytes : List ℕ) where
   -- a field more
@@ -47,7 +37,7 @@ module _ {M X : Type 0} (l : Layout M X) (d : ℕ) (old : X) (bytes : List ℕ) 
         leads = (refl, t.1, p.1, l.meaning new, p.3, refl);
       } in
       let all : merged_of l.takes d old (h.front ++ (t.0 ++ p.0)) ≡ Some (l.meaning new) =
-      along l.takes d h.front (merged_fields l.takes d old (l.meaning m) h.front h.merged) old (t.0 ++ p.0)
+      merged_join (plainly l.takes l.need l.stays) d h.front (t.0 ++ p.0) (merged_of_fields l.takes d old (l.meaning m) h.front h.merged) old
       ∙ ap (option_and_then (λ w. merged_of l.takes d w (t.0 ++ p.0))) h.merged
       ∙ back l.takes d (λ n. true) (l.meaning m) (t.0 ++ p.0) (l.meaning new) one in
       record {
@@ -107,6 +97,9 @@ module _ {M X : Type 0} (l : Layout M X) (d : ℕ) (old : X) (bytes : List ℕ) 
   abbrev cost : ℕ → List ℕ → BudgetLeft
   cost = cost_of l.need
 
+  by : ByPayload l.takes l.need merged cost
+  by = plainly l.takes l.need l.stays
+
   -- why the bytes aren't merged, and what was spent
   abbrev Refuses : DecodeError → BudgetLeft → Type 0
   Refuses e over = PaysAtMost first (cost d bytes) over × (e ≢ OutOfMemory → MergeFault (merged d old bytes) (cost d bytes) first e)
@@ -122,8 +115,8 @@ module _ {M X : Type 0} (l : Layout M X) (d : ℕ) (old : X) (bytes : List ℕ) 
       let p = merges l d m new n w bs after_bs before after (let r : Result (Unit {0}) DecodeError = Ok tt in r) taken in
       let split : rest ≡ u.0 ++ (p.0 ++ after_bs) = u.2 ∙ ap (λ (z : List ℕ). u.0 ++ z) p.2 in
       let one = p.3 u.0 u.1 in
-      let costs = field_costs merged cost (merged_fields l.takes) (merged_next l.takes) (cost_of_next l.need l.stays) d rest u.0 p.0 after_bs n w u.1 p.1 split in
-      let means = field_means merged cost (merged_fields l.takes) (merged_next l.takes) (cost_of_next l.need l.stays) d (l.meaning m) (l.meaning new) rest u.0 p.0 after_bs n w u.1 p.1 split one.0 in
+      let costs = field_costs by d rest u.0 p.0 after_bs n w u.1 p.1 split in
+      let means = field_means by d (l.meaning m) (l.meaning new) rest u.0 p.0 after_bs n w u.1 p.1 split one.0 in
       record {
         means = h.means ∙ means;
         unknown = omega (arith, h.unknown, one.1.0, ap (λ (z : BudgetLeft). z.unknown) costs);
@@ -136,7 +129,7 @@ module _ {M X : Type 0} (l : Layout M X) (d : ℕ) (old : X) (bytes : List ℕ) 
   pub all_paid : (m : M) (rest : List ℕ) (left : BudgetLeft) → Paid l.takes l.need d old bytes first (l.meaning m) rest left → length rest ≤ 0 → (merged d old bytes ≡ Some (l.meaning m)) × Pays first (cost d bytes) left
   all_paid m [] left h z =
       let none = cost_of_none l.need d in (
-        h.means ∙ merged_empty l.takes d (l.meaning m),
+        h.means ∙ merged_of_none l.takes d (l.meaning m),
         (omega (arith, h.unknown, ap (λ (z : BudgetLeft). z.unknown) none), omega (arith, h.memory, ap (λ (z : BudgetLeft). z.memory) none)),
       )
   all_paid m (b ∷ bs) left h z = absurd (omega arith)
@@ -145,7 +138,7 @@ module _ {M X : Type 0} (l : Layout M X) (d : ℕ) (old : X) (bytes : List ℕ) 
   pub tag_refused : (m : M) (rest : List ℕ) (before : BudgetLeft) (e : DecodeError) → Paid l.takes l.need d old bytes first (l.meaning m) rest before → 0 < length rest → tag_at rest ≡ Err e → Refuses e before
   tag_refused m rest before e h some no_tag =
       loop_fault (merged d old bytes) (merged d (l.meaning m) rest) first before before (cost d bytes) (cost d rest) e h.means h.unknown h.memory h.no_unknown h.no_unit
-      ((omega arith, omega arith, omega arith, omega arith), λ ne. untagged merged cost (merged_fields l.takes) (merged_next l.takes) (cost_of_next l.need l.stays) d (l.meaning m) rest before e some no_tag)
+      ((omega arith, omega arith, omega arith, omega arith), λ ne. untagged by d (l.meaning m) rest before e some no_tag)
 
   -- the next field is refused
   pub field_refused : (m new : M) (n : ℕ) (w : WireType) (rest bs after_bs : List ℕ) (before after : BudgetLeft) (e : DecodeError) → Paid l.takes l.need d old bytes first (l.meaning m) rest before → tag_at rest ≡ Ok (n, w, bs) →
@@ -155,5 +148,5 @@ module _ {M X : Type 0} (l : Layout M X) (d : ℕ) (old : X) (bytes : List ℕ) 
       let p = merges l d m new n w bs after_bs before after (let r : Result (Unit {0}) DecodeError = Err e in r) taken in
       let why : PaysAtMost before (cost d rest) after × (e ≢ OutOfMemory → MergeFault (merged d (l.meaning m) rest) (cost d rest) before e) =
       subst (λ (z : List ℕ). PaysAtMost before (cost d z) after × (e ≢ OutOfMemory → MergeFault (merged d (l.meaning m) z) (cost d z) before e)) (sym u.2)
-      (judged_all merged cost (merged_fields l.takes) (merged_next l.takes) (cost_of_next l.need l.stays) d (l.meaning m) n w bs before after e p u.0 u.1) in
+      (judged_all by d (l.meaning m) n w bs before after e p u.0 u.1) in
       loop_fault (merged d old bytes) (merged d (l.meaning m) rest) first before after (cost d bytes) (cost d rest) e h.means h.unknown h.memory h.no_unknown h.no_unit why

@@ -17,7 +17,7 @@ use Rattle.buffa_bytes.specs.Number.{IsNumber}
 use Rattle.buffa_bytes.specs.WireType.{same_wire, wire_number}
 use Rattle.buffa_map.proofs.EntryLemmas.{same_false, value_complete, value_sound}
 use Rattle.buffa_map.specs.Codec.{Reading, RefusesValue, Spends, Tells, ValueFault, Writing, level, value_at}
-use Rattle.buffa_fields.specs.Takes.{IsTaken, Piece, ReadsBack, joined}
+use Rattle.buffa_wire.specs.Takes.{IsTaken, Piece, ReadsBack, joined}
 use Rattle.buffa_fields.specs.Values.{IfThere, all_of, free, records_unless, some_records, some_taken, value_taken}
 use Rattle.buffa_bytes.proofs.FieldLemmas.{wire_small, same_refl}
 use Rattle.buffa_wire.specs.Records.{Datum}

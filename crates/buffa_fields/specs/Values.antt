@@ -8,7 +8,7 @@ use Rattle.buffa_wire.specs.Records.{Datum}
 use Rattle.buffa_bytes.specs.Values.{tag_encoding}
 use Rattle.buffa_bytes.specs.WireType.{same_wire}
 use Rattle.buffa_map.specs.Codec.{HoldsNothing, Reading, ReadingTakesMemory, Writing, value_at}
-use Rattle.buffa_fields.specs.Takes.{Asks, Need, Taker}
+use Rattle.buffa_wire.specs.Takes.{Asks, Need, Taker}
 
 -- what is read of a whole payload
 abbrev pub all_of : {V : Type 0} → Result ((V × Bool) × List ℕ) DecodeError → Option V

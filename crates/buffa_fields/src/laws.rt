@@ -30,7 +30,7 @@ ghost use Rattle.buffa_fields.specs.NestedMaps.{pair_levels, pair_records, pair_
 ghost use Rattle.buffa_fields.specs.RepeatedNested.{MessagesTakeMemory, messages_cost, messages_levels, messages_records, messages_slots, messages_taken};
 ghost use Rattle.buffa_fields.specs.OrderedMaps.{KeysAscend};
 ghost use Rattle.buffa_fields.specs.MemberRecords.{entry_records, optional_records, plain_records};
-ghost use Rattle.buffa_fields.specs.Takes.{cost_of, merged_of};
+ghost use Rattle.buffa_wire.specs.Takes.{cost_of, merged_of};
 ghost use Rattle.buffa_fields.specs.Values.{IfThere, ValueTakesMemory, free, some_taken, value_taken};
 
 use crate::kind::Kind;

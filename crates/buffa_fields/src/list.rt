@@ -11,7 +11,7 @@ ghost use Rattle.buffa_wire.specs.Encoding.{records_encoding};
 ghost use Rattle.buffa_bytes.specs.Written.{Writes};
 ghost use Rattle.buffa_fields.specs.Calls.{ChecksListWire, TakesElements};
 ghost use Rattle.buffa_fields.specs.Lists.{ElementsTakeMemory, PackedTakeMemory, TakesPacked, element_at, element_records, elements_in, elements_taken};
-ghost use Rattle.buffa_fields.specs.Takes.{IsTaken};
+ghost use Rattle.buffa_wire.specs.Takes.{IsTaken};
 ghost use Rattle.buffa_fields.specs.Values.{free};
 
 use crate::kind::Kind;

@@ -9,8 +9,7 @@ ghost use Rattle.buffa_wire.specs.Records.{records_of};
 ghost use Rattle.buffa_wire.specs.Encoding.{records_encoding};
 ghost use Rattle.buffa_fields.specs.Calls.{MemberTakes, MembersReadBack, MergesIn, WritesMembers};
 ghost use Rattle.buffa_fields.specs.LayoutLaws.{reads_back};
-ghost use Rattle.buffa_fields.specs.Takes.{cost_of, merged_of};
-ghost use Rattle.buffa_fields.specs.TakesLaws.{cost_of_next, cost_of_none, merged_empty, merged_fields, merged_next};
+ghost use Rattle.buffa_wire.specs.Takes.{cost_of, merged_of};
 
 use crate::fields::Fields;
 use crate::member::Member;
@@ -120,6 +119,10 @@ impl<M: Listing> MessageForm<M> for Listed {
 
     ghost COST = { M.COST };
 
+    ghost takes = { M.layout.takes };
+
+    ghost need = { M.layout.need };
+
     ghost merged = { merged_of M.layout.takes };
 
     ghost cost = { cost_of M.layout.need };
@@ -138,15 +141,11 @@ impl<M: Listing> MessageForm<M> for Listed {
 
     ghost positive = { M.positive };
 
-    ghost merged_empty = { merged_empty M.layout.takes };
+    ghost stays = { M.layout.stays };
 
-    ghost merged_fields = { merged_fields M.layout.takes };
+    ghost merged_is = { λ d v b. refl };
 
-    ghost merged_next = { merged_next M.layout.takes };
-
-    ghost cost_empty = { cost_of_none M.layout.need };
-
-    ghost cost_next = { cost_of_next M.layout.need M.layout.stays };
+    ghost cost_is = { λ d b. refl };
 
     /// The size pass, which runs out of memory only where there is a message inside.
     fn compute_size(message: &M, cache: &mut SizeCache) -> Result<u32, EncodeError>

@@ -14,7 +14,7 @@ ghost use Rattle.buffa_bytes.specs.Written.{Writes};
 ghost use Rattle.buffa_fields.specs.Calls.{ChecksWire, TakesIn, WritesMessage};
 ghost use Rattle.buffa_fields.specs.Nested.{FitsInside, MessageTakesMemory, message_cost, message_in, message_levels, message_records, message_slots, message_taken};
 ghost use Rattle.buffa_fields.specs.NestedLaws.{Tells, head, message_back, message_stays};
-ghost use Rattle.buffa_fields.specs.Takes.{IsTaken};
+ghost use Rattle.buffa_wire.specs.Takes.{IsTaken};
 ghost use Rattle.buffa_fields.specs.Values.{IfThere};
 
 use crate::member::Member;

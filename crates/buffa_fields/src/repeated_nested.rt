@@ -13,7 +13,7 @@ ghost use Rattle.buffa_fields.specs.Lists.{Each};
 ghost use Rattle.buffa_fields.specs.Nested.{FitsInside, MessageTakesMemory, message_in};
 ghost use Rattle.buffa_fields.specs.RepeatedNested.{MessagesTakeMemory, messages_cost, messages_levels, messages_records, messages_slots, messages_taken};
 ghost use Rattle.buffa_fields.specs.RepeatedNestedLaws.{messages_back, messages_stay};
-ghost use Rattle.buffa_fields.specs.Takes.{IsTaken};
+ghost use Rattle.buffa_wire.specs.Takes.{IsTaken};
 
 use crate::member::Member;
 use crate::nested::{message_len, write_message};

@@ -10,7 +10,7 @@ ghost use Rattle.buffa_bytes.specs.Values.{tag_encoding};
 ghost use Rattle.buffa_bytes.specs.Written.{Writes};
 ghost use Rattle.buffa_bytes.specs.Front.{check_wire};
 ghost use Rattle.buffa_fields.specs.Calls.{ChecksWire, TakesValue};
-ghost use Rattle.buffa_fields.specs.Takes.{IsTaken};
+ghost use Rattle.buffa_wire.specs.Takes.{IsTaken};
 ghost use Rattle.buffa_fields.specs.Values.{ValueTakesMemory, free, value_taken};
 
 use crate::kind::Kind;

@@ -29,7 +29,7 @@ use Rattle.buffa_map.specs.Entry.{EntryFault, EntryOf, FaultOf, IsEntry, entry_o
 use Rattle.buffa_map.specs.Pairs.{SamePairs, means, put}
 use Rattle.buffa_map.specs.Run.{step}
 use Rattle.buffa_map.specs.declared.map_entry.MapEntry.{MapEntry}
-use Rattle.buffa_fields.specs.Takes.{IsTaken, Need, Taker, Untaken}
+use Rattle.buffa_wire.specs.Takes.{IsTaken, Need, Taker, Untaken}
 use Rattle.buffa_samples.proofs.SortedLemmas.{same_sorted, sorted_put}
 use Rattle.buffa_node.specs.Entries.{entry_cost, entry_taken, put_in, extra_of}
 

@@ -29,13 +29,13 @@ use Rattle.buffa_map.specs.ScalarLaws.{never_faulty, string_no_limit}
 use Rattle.buffa_map.specs.declared.map_entry.MapEntry.{MapEntry}
 use Rattle.buffa_wire.specs.Kept.{keep_need}
 use Rattle.buffa_fields.specs.Keep.{keep_takes}
-use Rattle.buffa_fields.specs.Takes.{IsTaken}
-use Rattle.buffa_fields.specs.TakesLaws.{taken_merges}
+use Rattle.buffa_wire.specs.Takes.{IsTaken}
+use Rattle.buffa_wire.proofs.ByPayloadLemmas.{merges_taken}
 use Rattle.buffa_node.proofs.EntryMergeLemmas.{is_put, part_taken, sorted_means, taken_err, taken_ok, wire_err}
 use Rattle.buffa_node.specs.Branch.{Branch, Kept, Scores, Shades, bare, branch, kids, listed-kids, shade_number}
 use Rattle.buffa_node.specs.declared.shade.Shade.{Shade}
 use Rattle.buffa_node.specs.Entries.{entry_cost, entry_taken, put_in}
-use Rattle.buffa_node.specs.NodeLaws.{node_stays}
+use Rattle.buffa_node.proofs.LoopLemmas.{by_payloads}
 use Rattle.buffa_node.specs.NodeMeaning.{ChildCost, ChildMeaning, children, children_cost, children_take, cost, merged, node_need, node_takes, numbers, scores_cost, scores_take, shades, shades_cost, shades_take, text_cmp, texts}
 use Rattle.buffa_node.specs.NodeEncoding.{meant, meant-is}
 
@@ -164,8 +164,7 @@ module _ (d n : ℕ) (w : WireType) (es fs : List (ℤ × Shade)) (rs ss : Kept)
 -- ---- a field of a node
 module _ (d n : ℕ) (w : WireType) (bs rest : List ℕ) (before after : BudgetLeft) (r : Answer) where
   as_merged : (k : ℕ) (old new : Branch) → IsTaken (node_takes (merged_in merged k)) (node_need (merged_in merged k) (cost_in cost k)) k old n w bs before r new after rest → IsFieldMerged merged cost k old n w bs before r new after rest
-  as_merged zero old new h = taken_merges (node_takes (λ _ _. None)) zero (node_need (λ _ _. None) (λ _. nothing)) (node_stays (λ _ _. None) (λ _. nothing)) r old new n w bs rest before after h
-  as_merged (suc k) old new h = taken_merges (node_takes (merged k)) (suc k) (node_need (merged k) (cost k)) (node_stays (merged k) (cost k)) r old new n w bs rest before after h
+  as_merged k old new h = merges_taken by_payloads r k old new n w bs rest before after h
 
   module _ (a : Scores) (es : List (ℤ × Branch)) (h : Shades) (q : Kept) (old : Branch) (is : branch a (kids es) h q ≡ old) where
     abbrev M : ChildMeaning

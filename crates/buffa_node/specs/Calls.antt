@@ -5,7 +5,7 @@ use Rattle.buffa_bytes.specs.declared.tag.Tag.{Tag}
 use Rattle.buffa_wire.specs.BudgetLeft.{BudgetLeft}
 use Rattle.buffa_wire.specs.Message.{cost_in, merged_in}
 use Rattle.buffa_map.specs.Pairs.{means}
-use Rattle.buffa_fields.specs.Takes.{IsTaken, Need, Taker}
+use Rattle.buffa_wire.specs.Takes.{IsTaken, Need, Taker}
 use Rattle.buffa_node.specs.Branch.{Branch, Kept, Scores, Shades, shade_number}
 use Rattle.buffa_node.specs.NodeMeaning.{children_cost, children_take, cost, merged, scores_cost, scores_take, shades_cost, shades_take}
 use Rattle.buffa_node.specs.declared.shade.Shade.{Shade}

@@ -13,7 +13,7 @@ use Rattle.buffa_map.specs.Codec.{Reading}
 use Rattle.buffa_map.specs.Entry.{entry_of, need_of}
 use Rattle.buffa_map.specs.declared.map_entry.MapEntry.{MapEntry}
 use Rattle.buffa_wire.specs.ByField.{value_of}
-use Rattle.buffa_fields.specs.Takes.{Need, Taker}
+use Rattle.buffa_wire.specs.Takes.{Need, Taker}
 
 -- a declared pair is put into pairs that stand in the order of their keys
 abbrev pub put_in : {K V : Type 0} → (K → K → Ordering) → List (K × V) → MapEntry K V → List (K × V)

@@ -5,7 +5,7 @@ use Rattle.buffa_bytes.specs.declared.wire_type.WireType.TheVariants.{Varint, Fi
 use Rattle.buffa_wire.specs.BudgetLeft.{BudgetLeft}
 use Rattle.buffa_bytes.specs.Front.{delimited_at}
 use Rattle.buffa_map.specs.Codec.{Reading}
-use Rattle.buffa_fields.specs.Takes.{Stays}
+use Rattle.buffa_wire.specs.Takes.{Stays}
 use Rattle.buffa_node.specs.Entries.{entry_cost}
 
 -- what an entry costs is known by the payload

@@ -20,7 +20,7 @@ use Rattle.buffa_map.proofs.EntryLemmas.{entry_complete}
 use Rattle.buffa_map.specs.Codec.{Reading}
 use Rattle.buffa_map.specs.Entry.{IsEntry}
 use Rattle.buffa_map.specs.declared.map_entry.MapEntry.{MapEntry}
-use Rattle.buffa_fields.specs.Takes.{Leads, Piece, Taker, joined}
+use Rattle.buffa_wire.specs.Takes.{Leads, Piece, Taker, joined}
 use Rattle.buffa_node.specs.Entries.{entry_taken}
 
 -- any number may be a field's

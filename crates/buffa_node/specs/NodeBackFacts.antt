@@ -35,8 +35,8 @@ use Rattle.buffa_fields.specs.MapFields.{map_records}
 use Rattle.buffa_fields.specs.MapLaws.{map_has_encoding}
 use Rattle.buffa_fields.specs.PairLaws.{fits_both}
 use Rattle.buffa_fields.specs.Keep.{keep_takes, record_in}
-use Rattle.buffa_fields.specs.Takes.{Leads, Piece, Taker, joined, merged_of}
-use Rattle.buffa_fields.specs.TakesLaws.{back as leads_back}
+use Rattle.buffa_wire.specs.Takes.{Leads, Piece, Taker, joined, merged_of}
+use Rattle.buffa_wire.proofs.TakesLemmas.{back as leads_back}
 use Rattle.buffa_wire.proofs.KeepLemmas.{all_fields}
 use Rattle.buffa_wire.proofs.JoinLemmas.{payload_of_record}
 use Rattle.buffa_node.specs.Branch.{Branch, Kept, Kids, Scores, Shades, bare, branch, kid, kids, kids-listed, kept_of, kids_of, listed, listed-kids, no_kids, scores_of, shade_numbers, shades_of}

@@ -8,6 +8,7 @@ use Rattle.std.specs.Ordering.{int_cmp, nat_cmp}
 use Rattle.std.specs.declared.cmp.Ordering.{Ordering}
 use Rattle.buffa_bytes.specs.declared.wire_type.WireType.TheVariants.{Varint}
 use Rattle.buffa_wire.specs.BudgetLeft.{BudgetLeft, nothing}
+use Rattle.buffa_wire.specs.Message.{cost_in, merged_in}
 use Rattle.buffa_bytes.specs.Values.{int32_of}
 use Rattle.buffa_map.specs.Codec.{Reading}
 use Rattle.buffa_map.specs.Enums.{closed_reading}
@@ -16,7 +17,7 @@ use Rattle.buffa_map.specs.Run.{undeclared_record}
 use Rattle.buffa_map.specs.Scalars.{number_reading, string_reading}
 use Rattle.buffa_wire.specs.Kept.{keep_need}
 use Rattle.buffa_fields.specs.Keep.{keep_takes}
-use Rattle.buffa_fields.specs.Takes.{Need, Taker, cost_of, merged_of}
+use Rattle.buffa_wire.specs.Takes.{Need, Taker, cost_of, merged_of}
 use Rattle.buffa_node.specs.Branch.{Branch, Kept, Scores, Shades, bare, branch, kids, listed, shade_numbers}
 use Rattle.buffa_node.specs.Entries.{entry_cost, entry_taken, put_in}
 
@@ -86,3 +87,10 @@ merged (suc d) v bs = merged_of (node_takes (merged d)) (suc d) v bs
 abbrev pub cost : ℕ → List ℕ → BudgetLeft
 cost zero bs = cost_of (node_need (λ _ _. None) (λ _. nothing)) zero bs
 cost (suc d) bs = cost_of (node_need (merged d) (cost d)) (suc d) bs
+
+-- what a payload makes of a node, and what a field costs
+abbrev pub takes : Taker Branch
+takes d = node_takes (merged_in merged d) d
+
+abbrev pub need : Need
+need d = node_need (merged_in merged d) (cost_in cost d) d

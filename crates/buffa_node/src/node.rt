@@ -89,12 +89,16 @@ impl MessageSpec for Node {
     ghost use Rattle.std.proofs.Common.{arith};
     ghost use Rattle.buffa_node.specs.NodeEncoding.{IsNormal, levels, records};
     ghost use Rattle.buffa_node.specs.NodeBackFacts.{back};
-    ghost use Rattle.buffa_node.specs.NodeLaws.{cost_empty, cost_next, encoding_records};
-    ghost use Rattle.buffa_node.specs.NodeLaws.{merged_empty, merged_fields, merged_next};
+    ghost use Rattle.buffa_node.specs.NodeLaws.{cost_is, encoding_records, merged_is, stays};
+    ghost use Rattle.buffa_node.specs.NodeMeaning.{need, takes};
 
     const COST: usize = 96;
 
     ghost COST = { 96 };
+
+    ghost takes = { takes };
+
+    ghost need = { need };
 
     ghost merged = { merged };
 
@@ -116,15 +120,11 @@ impl MessageSpec for Node {
 
     ghost positive = { omega arith };
 
-    ghost merged_empty = { merged_empty };
+    ghost stays = { stays };
 
-    ghost merged_fields = { merged_fields };
+    ghost merged_is = { merged_is };
 
-    ghost merged_next = { merged_next };
-
-    ghost cost_empty = { cost_empty };
-
-    ghost cost_next = { cost_next };
+    ghost cost_is = { cost_is };
 }
 
 impl Message for Node {

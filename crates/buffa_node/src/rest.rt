@@ -3,7 +3,7 @@
 ghost use Rattle.std.specs.Prelude.{◌≡◌, OnErr};
 ghost use Rattle.buffa_wire.specs.Kept.{keep_need};
 ghost use Rattle.buffa_fields.specs.Keep.{keep_takes};
-ghost use Rattle.buffa_fields.specs.Takes.{IsTaken};
+ghost use Rattle.buffa_wire.specs.Takes.{IsTaken};
 
 use buffa_fields::kept;
 use buffa_wire::{Budget, DecodeContext, DecodeError, Tag, UnknownFields};

@@ -19,12 +19,13 @@ use Rattle.buffa_map.proofs.EntryLemmas.{check_sound}
 use Rattle.buffa_map.proofs.NeedLemmas.{checked}
 use Rattle.buffa_map.specs.declared.map_entry.MapEntry.{MapEntry}
 use Rattle.buffa_wire.proofs.CostLemmas.{paid}
+use Rattle.buffa_wire.proofs.ByPayloadLemmas.{ByPayload, by_payload}
 use Rattle.buffa_samples.specs.Fields.{int32_field, skipped_field}
 use Rattle.buffa_samples.specs.Flat.{flat_field}
 use Rattle.buffa_samples.specs.FlatLaws.{flat_sound}
 use Rattle.buffa_samples.specs.Grown.{Grown, Kids, grown, kids, listed-kids}
-use Rattle.buffa_samples.specs.TreeLaws.{cost_empty, merged_empty, tree_same, tree_sound, tree_stays}
-use Rattle.buffa_samples.specs.TreeMeaning.{ChildCost, ChildMeaning, IsChildMerged, child_at, cost, entry_need, merged, tree_field, tree_need, with_child, with_label}
+use Rattle.buffa_samples.specs.TreeLaws.{cost_is, merged_is, stays, tree_same, tree_sound, tree_stays}
+use Rattle.buffa_samples.specs.TreeMeaning.{ChildCost, ChildMeaning, IsChildMerged, child_at, cost, entry_need, merged, need, takes, tree_field, tree_need, with_child, with_label}
 
 abbrev pub done : Result (Unit {0}) DecodeError
 done = Ok tt
@@ -157,13 +158,9 @@ module _ (n : ℕ) (w : WireType) (bs rest : List ℕ) (left : BudgetLeft) (d : 
   pub wire_merged : (e : DecodeError) → n ≡ 2 → check_wire n LengthDelimited w ≡ Err e → IsFieldMerged merged cost d old n w bs left (refused e) old left bs
   wire_merged e two h = as_merged n w bs bs left left d (refused e) old old (wire_paid d (merged_in merged d) (cost_in cost d) e old n w bs left two h)
 
--- ---- the last field was merged
-pub all_merged : (d : ℕ) (old tree : Grown) (bytes rest : List ℕ) (before now : BudgetLeft) → length rest ≡ 0 → merged d old bytes ≡ merged d tree rest →
-    now.unknown + (cost d bytes).unknown ≡ before.unknown + (cost d rest).unknown → now.memory + (cost d bytes).memory ≡ before.memory + (cost d rest).memory →
-    (merged d old bytes ≡ Some tree) × Pays before (cost d bytes) now
-all_merged d old tree bytes [] before now none means unknown memory =
-    (means ∙ merged_empty d tree, (omega (arith, unknown, ap (λ z. z.unknown) (cost_empty d)), omega (arith, memory, ap (λ z. z.memory) (cost_empty d))))
-all_merged d old tree bytes (b ∷ bs) before now none means unknown memory = absurd (omega (arith, none))
+-- ---- all fields
+pub by_payloads : ByPayload takes need merged cost
+by_payloads = by_payload stays merged_is cost_is
 
 -- ---- what isn't told as out of memory
 pub mismatch_full : (n : ℕ) (w : WireType) (e : DecodeError) → check_wire n LengthDelimited w ≡ Err e → e ≢ OutOfMemory

@@ -1,18 +1,16 @@
 -- What a tree owes.
 use Rattle.std.proofs.Common.{◌≡◌, inl, inr, ℕ, zero, suc, ◌==◌, Bool, List, [], ◌++◌, length, Some, None, Result, Ok, Err, refl, sym, ap, subst, ◌∙◌, arith, append_assoc, append-nil, if◌then◌else◌}
-use Rattle.std.specs.Option.{option_and_then}
 use Rattle.buffa_bytes.proofs.DelimitedLemmas.{delimited_sound, delimited_taken}
 use Rattle.buffa_bytes.proofs.StepLemmas.{Agrees, agree_bind, agree_if}
-use Rattle.buffa_bytes.specs.Field.{TakesDelimited, Payload, SomeField}
+use Rattle.buffa_bytes.specs.Field.{TakesDelimited, Payload}
 use Rattle.buffa_bytes.specs.declared.error.DecodeError.{DecodeError}
 use Rattle.buffa_bytes.specs.declared.error.DecodeError.TheVariants.{WireTypeMismatch}
 use Rattle.buffa_bytes.specs.declared.wire_type.WireType.{WireType}
 use Rattle.buffa_bytes.specs.declared.wire_type.WireType.TheVariants.{Varint, Fixed64, LengthDelimited, StartGroup, EndGroup, Fixed32}
 use Rattle.buffa_wire.proofs.MessageLemmas.{NoLimit, length_no_limit}
 use Rattle.buffa_bytes.specs.Content.{bytes_in}
-use Rattle.buffa_bytes.specs.Join.{Join}
 use Rattle.buffa_wire.specs.BudgetLeft.{BudgetLeft, Lacks, nothing, plus, unknown_fields}
-use Rattle.buffa_wire.specs.Message.{merged_in}
+use Rattle.buffa_wire.specs.Message.{cost_in, merged_in}
 use Rattle.buffa_wire.specs.Encoding.{records_encoding}
 use Rattle.buffa_bytes.specs.Varint.{IsVarint}
 use Rattle.buffa_wire.proofs.SequenceLemmas.{ok_same}
@@ -21,13 +19,15 @@ use Rattle.buffa_map.proofs.NeedLemmas.{entry_limited}
 use Rattle.buffa_map.specs.Entry.{FaultOf, entry_of, need_of}
 use Rattle.buffa_map.specs.MessageLaws.{meant_no_limit}
 use Rattle.buffa_map.specs.declared.map_entry.MapEntry.{MapEntry}
-use Rattle.buffa_wire.proofs.CostLemmas as costs
+use Rattle.buffa_wire.proofs.TakesLemmas.{cost_by_is, merged_by_is}
+use Rattle.buffa_wire.specs.ByField.{FieldReader}
+use Rattle.buffa_wire.specs.Takes.{Stays, cost_of, merged_of}
 use Rattle.buffa_samples.specs.Fields.{int32_field, skipped_field}
-use Rattle.buffa_wire.proofs.ByFieldLemmas.{IsSame, IsSound, Same, empty, fields, next}
+use Rattle.buffa_wire.proofs.ByFieldLemmas.{IsSame, IsSound, Same}
 use Rattle.buffa_samples.specs.FieldsLaws.{both_records, int32_same, int32_sound, number_encoding_records, same_if, skipped_same, skipped_sound}
 use Rattle.buffa_samples.specs.Flat.{value_records, value_encoding}
 use Rattle.buffa_samples.specs.Grown.{Grown, grown, Kids, no_kids, kid}
-use Rattle.buffa_samples.specs.TreeMeaning.{ChildCost, ChildMeaning, child_at, child_field, child_need, child_reading, cost, key_reading, merged, tree_field, tree_need, with_child, with_label}
+use Rattle.buffa_samples.specs.TreeMeaning.{ChildCost, ChildMeaning, child_at, child_field, child_need, child_reading, cost, key_reading, merged, need, takes, tree_field, tree_need, with_child, with_label}
 use Rattle.buffa_samples.specs.TreeEncoding.{kid_record, kids_records, records, encoding, kids_encoding}
 
 lacks_itself : (a : BudgetLeft) → Lacks a a → ⊥
@@ -107,26 +107,20 @@ module _ (d : ℕ) (m : ChildMeaning) where
     pub tree_stays : (n : ℕ) (w : WireType) (p x : List ℕ) → Payload d n w p → tree_need d m c n w (p ++ x) ≡ tree_need d m c n w p
     tree_stays n w p x h = if_same (n == 2) (child_need d m c w (p ++ x)) (child_need d m c w p) (child_stays n w p x h)
 
--- ---- what all bytes mean, and what they cost
-pub merged_empty : (d : ℕ) (t : Grown) → merged d t [] ≡ Some t
-merged_empty zero t = empty zero (tree_field zero (λ _ _. None)) (tree_sound zero (λ _ _. None)) (tree_same zero (λ _ _. None)) t
-merged_empty (suc d) t = empty (suc d) (tree_field (suc d) (merged d)) (tree_sound (suc d) (merged d)) (tree_same (suc d) (merged d)) t
+-- ---- all bytes mean, and cost, what payloads do
+abbrev reader : ℕ → FieldReader Grown
+reader d = tree_field d (merged_in merged d)
 
-pub merged_fields : (d : ℕ) (v w : Grown) (b : List ℕ) → merged d v b ≡ Some w → Join (SomeField d) b
-merged_fields zero = fields zero (tree_field zero (λ _ _. None)) (tree_sound zero (λ _ _. None)) (tree_same zero (λ _ _. None))
-merged_fields (suc d) = fields (suc d) (tree_field (suc d) (merged d)) (tree_sound (suc d) (merged d)) (tree_same (suc d) (merged d))
+pub stays : Stays need
+stays d = tree_stays d (merged_in merged d) (cost_in cost d)
 
-pub merged_next : (d : ℕ) (v : Grown) (f r : List ℕ) → SomeField d f → merged d v (f ++ r) ≡ option_and_then (λ w. merged d w r) (merged d v f)
-merged_next zero = next zero (tree_field zero (λ _ _. None)) (tree_sound zero (λ _ _. None)) (tree_same zero (λ _ _. None))
-merged_next (suc d) = next (suc d) (tree_field (suc d) (merged d)) (tree_sound (suc d) (merged d)) (tree_same (suc d) (merged d))
+pub merged_is : (d : ℕ) (v : Grown) (b : List ℕ) → merged d v b ≡ merged_of takes d v b
+merged_is zero = merged_by_is reader (λ d. tree_sound d (merged_in merged d)) (λ d. tree_same d (merged_in merged d)) zero
+merged_is (suc d) = merged_by_is reader (λ d. tree_sound d (merged_in merged d)) (λ d. tree_same d (merged_in merged d)) (suc d)
 
-pub cost_empty : (d : ℕ) → cost d [] ≡ nothing
-cost_empty zero = costs.cost_empty (tree_need zero (λ _ _. None) (λ _. nothing)) zero
-cost_empty (suc d) = costs.cost_empty (tree_need (suc d) (merged d) (cost d)) (suc d)
-
-pub cost_next : (d : ℕ) (f r : List ℕ) → SomeField d f → cost d (f ++ r) ≡ plus (cost d f) (cost d r)
-cost_next zero = costs.cost_next (tree_need zero (λ _ _. None) (λ _. nothing)) zero (tree_stays zero (λ _ _. None) (λ _. nothing))
-cost_next (suc d) = costs.cost_next (tree_need (suc d) (merged d) (cost d)) (suc d) (tree_stays (suc d) (merged d) (cost d))
+pub cost_is : (d : ℕ) (b : List ℕ) → cost d b ≡ cost_of need d b
+cost_is zero = cost_by_is need zero
+cost_is (suc d) = cost_by_is need (suc d)
 
 -- ---- the encoding is that of records
 kids_encoding_records : (ks : Kids) → kids_encoding ks ≡ records_encoding (kids_records ks)

@@ -19,6 +19,7 @@ use Rattle.buffa_map.specs.declared.map_entry.MapEntry.{MapEntry}
 use Rattle.buffa_map.specs.Message.{message_reading}
 use Rattle.buffa_map.specs.Scalars.{number_reading}
 use Rattle.buffa_wire.specs.ByField.{FieldNeed, FieldReader, cost_by, merged_by}
+use Rattle.buffa_wire.specs.Takes.{Need, Taker, taken_by}
 use Rattle.buffa_samples.specs.Fields.{int32_field, skipped_field}
 use Rattle.buffa_samples.specs.Grown.{Grown, grown, kids, listed, no_kids}
 
@@ -73,6 +74,13 @@ tree_need d m c n w bs = if n == 2 then child_need d m c w bs else nothing
 abbrev pub cost : ℕ → List ℕ → BudgetLeft
 cost zero bs = cost_by (tree_need zero (λ _ _. None) (λ _. nothing)) zero bs
 cost (suc d) bs = cost_by (tree_need (suc d) (merged d) (cost d)) (suc d) bs
+
+-- what a payload makes of a tree, and what a field costs
+abbrev pub takes : Taker Grown
+takes d = taken_by (tree_field d (merged_in merged d))
+
+abbrev pub need : Need
+need d = tree_need d (merged_in merged d) (cost_in cost d)
 
 -- ---- what merging the entry of a child, at the front of bs, does
 

@@ -7,7 +7,8 @@ ghost use Rattle.buffa_bytes.specs.Gives.{FullOnlyIf, Gives};
 ghost use Rattle.buffa_wire.specs.Message.{MergesField};
 ghost use Rattle.buffa_wire.specs.Passes.{IsSized};
 ghost use Rattle.buffa_bytes.specs.Written.{Writes};
-ghost use Rattle.buffa_wire.proofs.ByFieldLemmas.{empty, fields, next};
+ghost use Rattle.buffa_wire.specs.Takes.{costs_nothing, taken_by};
+ghost use Rattle.buffa_wire.proofs.TakesLemmas.{merged_by_is, nothing_is};
 ghost use Rattle.buffa_samples.specs.Count.{count_cost, count_field, count_merged, count_records, count_encoding, one_encoding};
 ghost use Rattle.buffa_samples.specs.CountLaws.{count_back, count_cost_some, count_same, count_sound, count_encoding_records};
 
@@ -45,6 +46,10 @@ impl MessageSpec for CountMsg {
 
     ghost COST = { 8 };
 
+    ghost takes = { λ d. taken_by (count_field d) };
+
+    ghost need = { costs_nothing };
+
     ghost merged = { count_merged };
 
     ghost cost = { count_cost };
@@ -65,15 +70,11 @@ impl MessageSpec for CountMsg {
 
     ghost positive = { count_cost_some };
 
-    ghost merged_empty = { λ d v. empty d (count_field d) (count_sound d) (count_same d) v };
+    ghost stays = { λ d n w p x h. refl };
 
-    ghost merged_fields = { λ d v w b h. fields d (count_field d) (count_sound d) (count_same d) v w b h };
+    ghost merged_is = { merged_by_is count_field count_sound count_same };
 
-    ghost merged_next = { λ d v f r h. next d (count_field d) (count_sound d) (count_same d) v f r h };
-
-    ghost cost_empty = { λ d. refl };
-
-    ghost cost_next = { λ d f r _. refl };
+    ghost cost_is = { nothing_is };
 }
 
 // Merges the field whose tag was read.

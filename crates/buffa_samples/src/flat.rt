@@ -7,7 +7,8 @@ ghost use Rattle.buffa_wire.specs.BudgetLeft.{budget_left};
 ghost use Rattle.buffa_bytes.specs.Gives.{FullOnlyIf, Gives};
 ghost use Rattle.buffa_wire.specs.Message.{MergesField};
 ghost use Rattle.buffa_wire.specs.Passes.{IsSized};
-ghost use Rattle.buffa_wire.proofs.ByFieldLemmas.{empty, fields, next};
+ghost use Rattle.buffa_wire.specs.Takes.{costs_nothing, taken_by};
+ghost use Rattle.buffa_wire.proofs.TakesLemmas.{merged_by_is, nothing_is};
 ghost use Rattle.buffa_samples.specs.FieldsLaws.{number_encoding_records};
 ghost use Rattle.buffa_samples.specs.Flat.{flat_cost, flat_field, flat_merged, value_records, value_encoding};
 ghost use Rattle.buffa_samples.specs.FlatLaws.{flat_back, flat_cost_some, flat_same, flat_sound};
@@ -48,6 +49,10 @@ impl MessageSpec for FlatMsg {
 
     ghost COST = { 4 };
 
+    ghost takes = { λ d. taken_by (flat_field d) };
+
+    ghost need = { costs_nothing };
+
     ghost merged = { flat_merged };
 
     ghost cost = { flat_cost };
@@ -68,15 +73,11 @@ impl MessageSpec for FlatMsg {
 
     ghost positive = { flat_cost_some };
 
-    ghost merged_empty = { λ d v. empty d (flat_field d) (flat_sound d) (flat_same d) v };
+    ghost stays = { λ d n w p x h. refl };
 
-    ghost merged_fields = { λ d v w b h. fields d (flat_field d) (flat_sound d) (flat_same d) v w b h };
+    ghost merged_is = { merged_by_is flat_field flat_sound flat_same };
 
-    ghost merged_next = { λ d v f r h. next d (flat_field d) (flat_sound d) (flat_same d) v f r h };
-
-    ghost cost_empty = { λ d. refl };
-
-    ghost cost_next = { λ d f r _. refl };
+    ghost cost_is = { nothing_is };
 }
 
 // Merges the field whose tag was read.

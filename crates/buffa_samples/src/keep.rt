@@ -12,9 +12,9 @@ ghost use Rattle.buffa_wire.specs.View.{datum_of};
 ghost use Rattle.buffa_wire.specs.Parse.{Fits};
 ghost use Rattle.buffa_wire.specs.Records.{Datum, height, records_of};
 ghost use Rattle.buffa_wire.specs.Encoding.{records_encoding};
-ghost use Rattle.buffa_wire.proofs.CostLemmas.{cost_empty, cost_next};
-ghost use Rattle.buffa_wire.proofs.ByFieldLemmas.{empty, fields, next};
 ghost use Rattle.buffa_wire.specs.Kept.{keep_need};
+ghost use Rattle.buffa_wire.specs.Takes.{taken_by};
+ghost use Rattle.buffa_wire.proofs.TakesLemmas.{cost_by_is, merged_by_is};
 ghost use Rattle.buffa_samples.specs.Keep.{keep_cost, keep_field, keep_merged};
 ghost use Rattle.buffa_wire.proofs.KeepLemmas.{keep_stays};
 ghost use Rattle.buffa_samples.specs.KeepLaws.{keep_back, keep_cost_some, keep_same, keep_sound};
@@ -72,6 +72,10 @@ impl MessageSpec for BudgetMsg {
 
     ghost COST = { 24 };
 
+    ghost takes = { λ d. taken_by (keep_field d) };
+
+    ghost need = { keep_need };
+
     ghost merged = { keep_merged };
 
     ghost cost = { keep_cost };
@@ -92,15 +96,11 @@ impl MessageSpec for BudgetMsg {
 
     ghost positive = { keep_cost_some };
 
-    ghost merged_empty = { λ d v. empty d (keep_field d) (keep_sound d) (keep_same d) v };
+    ghost stays = { keep_stays };
 
-    ghost merged_fields = { λ d v w b h. fields d (keep_field d) (keep_sound d) (keep_same d) v w b h };
+    ghost merged_is = { merged_by_is keep_field keep_sound keep_same };
 
-    ghost merged_next = { λ d v f r h. next d (keep_field d) (keep_sound d) (keep_same d) v f r h };
-
-    ghost cost_empty = { λ d. cost_empty (keep_need d) d };
-
-    ghost cost_next = { λ d f r h. cost_next (keep_need d) d (keep_stays d) f r h };
+    ghost cost_is = { cost_by_is keep_need };
 }
 
 /// Reads the field whose tag was read, with so many unknown fields left, and says how many are left then.

@@ -74,12 +74,16 @@ impl MessageSpec for Tree {
     ghost use Rattle.std.proofs.Common.{arith};
     ghost use Rattle.buffa_samples.specs.TreeEncoding.{IsNormal, levels, records};
     ghost use Rattle.buffa_samples.specs.TreeBackFacts.{back};
-    ghost use Rattle.buffa_samples.specs.TreeLaws.{cost_empty, cost_next, encoding_records};
-    ghost use Rattle.buffa_samples.specs.TreeLaws.{merged_empty, merged_fields, merged_next};
+    ghost use Rattle.buffa_samples.specs.TreeLaws.{cost_is, encoding_records, merged_is, stays};
+    ghost use Rattle.buffa_samples.specs.TreeMeaning.{need, takes};
 
     const COST: usize = 32;
 
     ghost COST = { 32 };
+
+    ghost takes = { takes };
+
+    ghost need = { need };
 
     ghost merged = { merged };
 
@@ -101,15 +105,11 @@ impl MessageSpec for Tree {
 
     ghost positive = { omega arith };
 
-    ghost merged_empty = { merged_empty };
+    ghost stays = { stays };
 
-    ghost merged_fields = { merged_fields };
+    ghost merged_is = { merged_is };
 
-    ghost merged_next = { merged_next };
-
-    ghost cost_empty = { cost_empty };
-
-    ghost cost_next = { cost_next };
+    ghost cost_is = { cost_is };
 }
 
 impl Message for Tree {

@@ -7,7 +7,8 @@ ghost use Rattle.buffa_wire.specs.BudgetLeft.{budget_left};
 ghost use Rattle.buffa_bytes.specs.Gives.{FullOnlyIf, Gives};
 ghost use Rattle.buffa_wire.specs.Message.{MergesField};
 ghost use Rattle.buffa_wire.specs.Passes.{IsSized};
-ghost use Rattle.buffa_wire.proofs.ByFieldLemmas.{empty, fields, next};
+ghost use Rattle.buffa_wire.specs.Takes.{costs_nothing, taken_by};
+ghost use Rattle.buffa_wire.proofs.TakesLemmas.{merged_by_is, nothing_is};
 ghost use Rattle.buffa_samples.specs.Two.{two_cost, two_field, two_merged, two_records, two_encoding};
 ghost use Rattle.buffa_samples.specs.TwoLaws.{two_back, two_cost_some, two_same, two_sound, two_encoding_records};
 
@@ -49,6 +50,10 @@ impl MessageSpec for TestMsg {
 
     ghost COST = { 32 };
 
+    ghost takes = { λ d. taken_by (two_field d) };
+
+    ghost need = { costs_nothing };
+
     ghost merged = { two_merged };
 
     ghost cost = { two_cost };
@@ -69,15 +74,11 @@ impl MessageSpec for TestMsg {
 
     ghost positive = { two_cost_some };
 
-    ghost merged_empty = { λ d v. empty d (two_field d) (two_sound d) (two_same d) v };
+    ghost stays = { λ d n w p x h. refl };
 
-    ghost merged_fields = { λ d v w b h. fields d (two_field d) (two_sound d) (two_same d) v w b h };
+    ghost merged_is = { merged_by_is two_field two_sound two_same };
 
-    ghost merged_next = { λ d v f r h. next d (two_field d) (two_sound d) (two_same d) v f r h };
-
-    ghost cost_empty = { λ d. refl };
-
-    ghost cost_next = { λ d f r _. refl };
+    ghost cost_is = { nothing_is };
 }
 
 // Merges the field whose tag was read.

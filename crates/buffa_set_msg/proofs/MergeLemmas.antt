@@ -11,7 +11,10 @@ use Rattle.buffa_bytes.specs.declared.wire_type.WireType.{WireType}
 use Rattle.buffa_bytes.specs.declared.wire_type.WireType.TheVariants.{EndGroup}
 use Rattle.buffa_bytes.specs.declared.error.DecodeError.{DecodeError}
 use Rattle.buffa_bytes.specs.declared.error.DecodeError.TheVariants.{OutOfMemory}
-use Rattle.buffa_wire.proofs.MessageLemmas.{untagged}
+use Rattle.buffa_wire.proofs.MessageLemmas.{join_more}
+use Rattle.buffa_wire.proofs.ByPayloadLemmas.{ByPayload, by_payload, cost_empty, cost_join, merged_empty, merged_join, untagged}
+use Rattle.buffa_wire.proofs.TakesLemmas.{cost_by_is, merged_by_is}
+use Rattle.buffa_wire.specs.Takes.{taken_by}
 use Rattle.buffa_wire.specs.BudgetLeft.{BudgetLeft, Lacks, Pays, PaysAtMost, need_by, nothing, plus}
 use Rattle.buffa_wire.specs.Message.{BeginsField, MergeFault}
 use Rattle.buffa_wire.specs.Records.{Datum}
@@ -19,47 +22,18 @@ use Rattle.buffa_wire.proofs.CostLemmas.{cost_tagged, field_alone}
 use Rattle.buffa_wire.specs.ByField.{value_of}
 use Rattle.buffa_wire.proofs.ByFieldLemmas.{refused, taken}
 use Rattle.buffa_set_msg.specs.Set.{IsRefused, NextIsRefused, StopsBehind, set_cost, set_field, set_merged, set_need}
-use Rattle.buffa_set_msg.specs.SetFacts.{set_cost_empty, set_cost_next, set_empty, set_fields, set_next, set_same, set_sound, set_stays}
+use Rattle.buffa_set_msg.specs.SetFacts.{set_same, set_sound, set_stays}
 
 abbrev Values : Type 0
 Values = List (ℕ × Datum)
+
+pub by_payloads : ByPayload (λ d. taken_by (set_field d)) set_need set_merged set_cost
+by_payloads = by_payload set_stays (merged_by_is set_field set_sound set_same) (cost_by_is set_need)
 
 -- ---- fields, and then what follows them
 module _ (d : ℕ) where
   abbrev pub then_merged : Option Values → List ℕ → Option Values
   then_merged o r = option_and_then (λ w. set_merged d w r) o
-
-  through : (o : Option Values) (h r : List ℕ) → ((w : Values) → set_merged d w (h ++ r) ≡ then_merged (set_merged d w h) r) → then_merged o (h ++ r) ≡ then_merged (then_merged o h) r
-  through None h r e = refl
-  through (Some w) h r e = e w
-
-  merged_join : (f r : List ℕ) → Join (SomeField d) f → (v : Values) → set_merged d v (f ++ r) ≡ then_merged (set_merged d v f) r
-  merged_join _ r none v = sym (ap (λ o. then_merged o r) (set_empty d v))
-  merged_join _ r (more g h a j) v =
-      ap (set_merged d v) (append_assoc g h r) ∙ set_next d v g (h ++ r) a ∙ through (set_merged d v g) h r (merged_join h r j)
-      ∙ sym (ap (λ o. then_merged o r) (set_next d v g h a))
-
-  nothing_plus : (c : BudgetLeft) → plus nothing c ≡ c
-  nothing_plus c =
-      let u : 0 + c.unknown ≡ c.unknown = omega arith in
-      let m : 0 + c.memory ≡ c.memory = omega arith in
-      λ i. record { unknown = u i; memory = m i }
-
-  plus_assoc : (a b c : BudgetLeft) → plus a (plus b c) ≡ plus (plus a b) c
-  plus_assoc a b c =
-      let u : a.unknown + (b.unknown + c.unknown) ≡ (a.unknown + b.unknown) + c.unknown = omega arith in
-      let m : a.memory + (b.memory + c.memory) ≡ (a.memory + b.memory) + c.memory = omega arith in
-      λ i. record { unknown = u i; memory = m i }
-
-  cost_join : (f r : List ℕ) → Join (SomeField d) f → set_cost d (f ++ r) ≡ plus (set_cost d f) (set_cost d r)
-  cost_join _ r none = sym (ap (λ z. plus z (set_cost d r)) (set_cost_empty d) ∙ nothing_plus (set_cost d r))
-  cost_join _ r (more g h a j) =
-      ap (set_cost d) (append_assoc g h r) ∙ set_cost_next d g (h ++ r) a ∙ ap (plus (set_cost d g)) (cost_join h r j)
-      ∙ plus_assoc (set_cost d g) (set_cost d h) (set_cost d r) ∙ sym (ap (λ z. plus z (set_cost d r)) (set_cost_next d g h a))
-
-  join_then : (f g : List ℕ) → Join (SomeField d) f → SomeField d g → Join (SomeField d) (f ++ g)
-  join_then _ g none a = subst (λ z. Join (SomeField d) z) (append-nil g) (more g [] a none)
-  join_then _ g (more h k b j) a = subst (λ z. Join (SomeField d) z) (sym (append_assoc h k g)) (more h (k ++ g) b (join_then k g j a))
 
   -- ---- how far merging came: the front is merged, and exactly its cost is spent
   pub record CameTo (old : Values) (all : List ℕ) (before : BudgetLeft) (new : Values) (rest : List ℕ) (now : BudgetLeft) : Type 0 where
@@ -74,17 +48,17 @@ module _ (d : ℕ) where
     front = [];
     fields = none;
     split = refl;
-    means = set_empty d v;
-    pays = subst (λ z. Pays left z left) (sym (set_cost_empty d)) (omega arith, omega arith);
+    means = merged_empty by_payloads d v;
+    pays = subst (λ z. Pays left z left) (sym (cost_empty by_payloads d)) (omega arith, omega arith);
   }
 
   module _ (old : Values) (all : List ℕ) (before : BudgetLeft) (v : Values) (bs : List ℕ) (now : BudgetLeft) (came : CameTo old all before v bs now) where
     -- what is left means in the value what all bytes meant in the old one, and costs what they cost but for the front
     on : set_merged d old all ≡ set_merged d v bs
-    on = ap (set_merged d old) came.split ∙ merged_join came.front bs came.fields old ∙ ap (λ o. then_merged o bs) came.means
+    on = ap (set_merged d old) came.split ∙ merged_join by_payloads d came.front bs came.fields old ∙ ap (λ o. then_merged o bs) came.means
 
     costs : set_cost d all ≡ plus (set_cost d came.front) (set_cost d bs)
-    costs = ap (set_cost d) came.split ∙ cost_join came.front bs came.fields
+    costs = ap (set_cost d) came.split ∙ cost_join by_payloads d came.front bs came.fields
 
     module _ (n : ℕ) (w : WireType) (rest : List ℕ) (tag : tag_at bs ≡ Ok (n, w, rest)) where
       took : TakesTag bs n w rest
@@ -98,12 +72,12 @@ module _ (d : ℕ) where
           let field : SomeField d (t ++ q.0) = (n, w, (t, q.0, took.1, q.1, refl)) in
           let need : set_cost d (t ++ q.0) ≡ set_need d n w rest =
           field_alone (set_need d) d (set_stays d) t q.0 n w took.1 q.1 ∙ sym (ap (set_need d n w) q.2 ∙ set_stays d n w q.0 x q.1) in
-          let cost : set_cost d (came.front ++ (t ++ q.0)) ≡ plus (set_cost d came.front) (set_need d n w rest) = cost_join came.front (t ++ q.0) came.fields ∙ ap (plus (set_cost d came.front)) need in
+          let cost : set_cost d (came.front ++ (t ++ q.0)) ≡ plus (set_cost d came.front) (set_need d n w rest) = cost_join by_payloads d came.front (t ++ q.0) came.fields ∙ ap (plus (set_cost d came.front)) need in
           record {
             front = came.front ++ (t ++ q.0);
-            fields = join_then came.front (t ++ q.0) came.fields field;
+            fields = join_more came.front (t ++ q.0) came.fields field;
             split = came.split ∙ ap (λ z. came.front ++ z) (took.2 ∙ ap (λ z. t ++ z) q.2 ∙ sym (append_assoc t q.0 x)) ∙ sym (append_assoc came.front (t ++ q.0) x);
-            means = merged_join came.front (t ++ q.0) came.fields old ∙ ap (λ o. then_merged o (t ++ q.0)) came.means ∙ q.3 t took.1;
+            means = merged_join by_payloads d came.front (t ++ q.0) came.fields old ∙ ap (λ o. then_merged o (t ++ q.0)) came.means ∙ q.3 t took.1;
             pays = subst (λ z. Pays before z after) (sym cost) (omega (arith, came.pays.0, pays.0), omega (arith, came.pays.1, pays.1));
           }
 
@@ -133,7 +107,7 @@ module _ (d : ℕ) where
     few_all (inr h) = inr (omega (arith, h, came.pays.1, ap (λ z. z.memory) costs))
 
     no_tag : (e : DecodeError) → 0 < length bs → tag_at bs ≡ Err e → MergeFault (set_merged d old all) (set_cost d all) before e
-    no_tag e some h = elim (untagged set_merged set_cost set_fields set_next set_cost_next d v bs now e some h) [
+    no_tag e some h = elim (untagged by_payloads d v bs now e some h) [
       | inl lacks ↦ inl (few_all lacks)
       | inr bad ↦ inr (on ∙ bad.0, bad.1)
     ]

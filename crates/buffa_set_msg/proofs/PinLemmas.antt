@@ -16,8 +16,9 @@ use Rattle.buffa_wire.proofs.CostLemmas.{field_alone}
 use Rattle.buffa_wire.specs.ByField.{value_of}
 use Rattle.buffa_wire.proofs.ByFieldLemmas.{Same, refused}
 use Rattle.buffa_set_msg.specs.Set.{IsRefused, NextIsRefused, StopIsPinned, record_of_field, set_cost, set_field, set_merged, set_need}
-use Rattle.buffa_set_msg.specs.SetFacts.{set_cost_empty, set_cost_next, set_empty, set_next, set_same, set_sound, set_stays}
-use Rattle.buffa_set_msg.proofs.MergeLemmas.{then_merged}
+use Rattle.buffa_set_msg.specs.SetFacts.{set_same, set_sound, set_stays}
+use Rattle.buffa_set_msg.proofs.MergeLemmas.{by_payloads, then_merged}
+use Rattle.buffa_wire.proofs.ByPayloadLemmas.{cost_empty, cost_next, merged_empty, merged_next}
 use Rattle.std.proofs.lemmas.Option.{same_Some}
 
 abbrev Values : Type 0
@@ -34,7 +35,7 @@ module _ (d : ℕ) where
     need = set_stays d n w p (q ++ s) payload ∙ sym (field_alone (set_need d) d (set_stays d) t p n w tag payload)
 
     costs : set_cost d ((t ++ p) ++ q) ≡ plus (set_cost d (t ++ p)) (set_cost d q)
-    costs = set_cost_next d (t ++ p) q (n, w, (t, p, tag, payload, refl))
+    costs = cost_next by_payloads d (t ++ p) q (n, w, (t, p, tag, payload, refl))
 
     enough : Lacks left (set_need d n w rest) → ⊥
     enough (inl few) = omega (arith, few, pays.0, ap (λ z. z.unknown) need, ap (λ z. z.unknown) costs)
@@ -63,12 +64,12 @@ module _ (d : ℕ) where
   module _ (old a b : Values) (r p q s : List ℕ) (one : SomeField d p) (before x y : BudgetLeft) (e : DecodeError) where
     no_front : r ≡ (p ++ q) ++ s → set_merged d old [] ≡ Some a → set_merged d old (p ++ q) ≡ Some b → Pays before (set_cost d []) x → Pays before (set_cost d (p ++ q)) y → NextIsRefused d a r x e → ⊥
     no_front is start means free pays next =
-        let same : old ≡ a = same_Some _ _ (sym (set_empty d old) ∙ start) in
+        let same : old ≡ a = same_Some _ _ (sym (merged_empty by_payloads d old) ∙ start) in
         let f = one.2 in
         let whole : p ≡ f.0 ++ f.1 = f.4 in
         let merged : set_merged d a ((f.0 ++ f.1) ++ q) ≡ Some b = ap (λ z. set_merged d z ((f.0 ++ f.1) ++ q)) (sym same) ∙ ap (λ z. set_merged d old (z ++ q)) (sym whole) ∙ means in
         let cost = ap (λ z. set_cost d (z ++ q)) whole in
-        let nothing_is = set_cost_empty d in
+        let nothing_is = cost_empty by_payloads d in
         let paid : Pays x (set_cost d ((f.0 ++ f.1) ++ q)) y = (
           omega (arith, free.0, pays.0, ap (λ z. z.unknown) cost, ap (λ z. z.unknown) nothing_is),
           omega (arith, free.1, pays.1, ap (λ z. z.memory) cost, ap (λ z. z.memory) nothing_is),
@@ -86,8 +87,8 @@ module _ (d : ℕ) where
 
     pays_both : Pays before (set_cost d (p ++ q)) x → Pays before (set_cost d (p ++ g)) y → Pays (plus x (set_cost d q)) (set_cost d g) y
     pays_both h k =
-        let c = set_cost_next d p q one in
-        let m = set_cost_next d p g one in (
+        let c = cost_next by_payloads d p q one in
+        let m = cost_next by_payloads d p g one in (
           omega (arith, h.0, k.0, ap (λ z. z.unknown) c, ap (λ z. z.unknown) m),
           omega (arith, h.1, k.1, ap (λ z. z.memory) c, ap (λ z. z.memory) m),
         )
@@ -101,9 +102,9 @@ module _ (d : ℕ) where
       let split : p ++ (q ++ r) ≡ o ++ (g ++ s) = sym (append_assoc p q r) ∙ is ∙ append_assoc o g s in
       let same : o ≡ p = sym (one_field d p o (q ++ r) (g ++ s) one two split) in
       let rest : q ++ r ≡ g ++ s = append_cancel_left p (q ++ r) (g ++ s) (split ∙ ap (λ z. z ++ (g ++ s)) same) in
-      let u = behind (set_merged d old p) q a (sym (set_next d old p q one) ∙ ma) in
+      let u = behind (set_merged d old p) q a (sym (merged_next by_payloads d old p q one) ∙ ma) in
       let mb2 : set_merged d old (p ++ g) ≡ Some b = ap (λ z. set_merged d old (z ++ g)) (sym same) ∙ mb in
-      let v = behind (set_merged d old p) g b (sym (set_next d old p g one) ∙ mb2) in
+      let v = behind (set_merged d old p) g b (sym (merged_next by_payloads d old p g one) ∙ mb2) in
       let py2 : Pays before (set_cost d (p ++ g)) y = subst (λ z. Pays before (set_cost d (z ++ g)) y) same py in
       let inner : set_merged d u.0 g ≡ Some b = ap (λ z. set_merged d z g) (same_Some _ _ (sym u.1 ∙ v.1)) ∙ v.2 in
       let whole : q ≡ g = one_front q g j k r s u.0 a b (plus x (set_cost d q)) x y e h rest u.2 inner (pays_behind before x y p q g one px) (pays_both before x y p q g one px py2) na nb in

@@ -1,15 +1,13 @@
 -- What a MessageSet owes as a message.
 use Rattle.std.proofs.Common.{◌≡◌, inl, inr, ℕ, zero, suc, ◌<◌, ◌≤◌, ◌^◌, max, Bool, true, false, List, [], ◌∷◌, ◌++◌, length, Some, Result, Ok, refl, sym, ap, subst, ◌∙◌, arith, append_assoc, append-nil, if◌then◌else◌}
-use Rattle.std.specs.Option.{option_and_then}
 use Rattle.buffa_bytes.proofs.StepLemmas.{Agrees, agree_bind, agree_if, agree_weaker}
 use Rattle.buffa_bytes.proofs.VarintLemmas.{IsVarint-varint_encoding}
-use Rattle.buffa_bytes.specs.Field.{Group, IsTag, Payload, SomeField}
-use Rattle.buffa_bytes.specs.Join.{Join}
+use Rattle.buffa_bytes.specs.Field.{Group, IsTag, Payload}
 use Rattle.buffa_bytes.specs.declared.wire_type.WireType.{WireType}
 use Rattle.buffa_bytes.specs.declared.wire_type.WireType.TheVariants.{StartGroup}
 use Rattle.buffa_bytes.specs.declared.error.DecodeError.{DecodeError}
 use Rattle.buffa_wire.proofs.MessageLemmas.{NoLimit}
-use Rattle.buffa_wire.specs.BudgetLeft.{nothing, plus, unknown_fields}
+use Rattle.buffa_wire.specs.BudgetLeft.{unknown_fields}
 use Rattle.buffa_wire.specs.Parse.{Fits}
 use Rattle.buffa_wire.specs.Records.{Datum, Records, bytes, datum_height, fixed32, fixed64, group, height, one, records_of, varint}
 use Rattle.buffa_wire.specs.Encoding.{records_encoding, tagged_encoding}
@@ -17,12 +15,12 @@ use Rattle.buffa_bytes.specs.Values.{tag_encoding}
 use Rattle.buffa_message_set.specs.Item.{IsReadAlike, IsTypeId, body_encoding, item_at, item_encoding}
 use Rattle.buffa_message_set.proofs.ItemLemmas.{both_true, in_range, read_complete, read_sound, written_item}
 use Rattle.buffa_message_set.proofs.GroupLemmas.{group_alike, item_group, item_no_limit}
-use Rattle.buffa_wire.proofs.CostLemmas.{cost_empty, cost_next}
-use Rattle.buffa_wire.proofs.ByFieldLemmas.{IsSame, IsSound, Same, empty, fields, next, read}
+use Rattle.buffa_wire.specs.Takes.{Stays}
+use Rattle.buffa_wire.proofs.ByFieldLemmas.{IsSame, IsSound, Same, empty, read}
 use Rattle.buffa_samples.specs.Keep.{keep_field}
 use Rattle.buffa_wire.proofs.KeepLemmas.{keep_stays}
 use Rattle.buffa_samples.specs.KeepLaws.{keep_same, keep_sound}
-use Rattle.buffa_set_msg.specs.Set.{AreItems, NestOneDeep, encoded_record, is_type_id, item_field, item_record, record_encoding, set_cost, set_field, set_levels, set_merged, set_need, set_records, set_encoding, starts}
+use Rattle.buffa_set_msg.specs.Set.{AreItems, NestOneDeep, encoded_record, is_type_id, item_field, item_record, record_encoding, set_field, set_levels, set_merged, set_need, set_records, set_encoding, starts}
 
 -- ---- one field
 item_sound : (d : ℕ) (v : List (ℕ × Datum)) (bs : List ℕ) → Agrees (item_field d v bs) (λ x. (p : List ℕ) × Payload d 1 StartGroup p × (bs ≡ p ++ x.1)) NoLimit
@@ -55,24 +53,8 @@ set_same d v n w p h = pick (item_field d v) (keep_field d v n w) p (starts n w)
     (λ e. let is = both_true n 1 StartGroup w e in item_same d v p (payload_as d 1 n w StartGroup p (sym is.0) (sym is.1) h))
     (λ e. keep_same d v n w p h)
 
-pub set_stays : (d n : ℕ) (w : WireType) (p x : List ℕ) → Payload d n w p → set_need d n w (p ++ x) ≡ set_need d n w p
+pub set_stays : Stays set_need
 set_stays d n w p x h = ap (λ z. if starts n w then unknown_fields 1 else z) (keep_stays d n w p x h)
-
--- ---- the laws of merging
-pub set_empty : (d : ℕ) (v : List (ℕ × Datum)) → set_merged d v [] ≡ Some v
-set_empty d v = empty d (set_field d) (set_sound d) (set_same d) v
-
-pub set_fields : (d : ℕ) (v w : List (ℕ × Datum)) (b : List ℕ) → set_merged d v b ≡ Some w → Join (SomeField d) b
-set_fields d v w b h = fields d (set_field d) (set_sound d) (set_same d) v w b h
-
-pub set_next : (d : ℕ) (v : List (ℕ × Datum)) (f r : List ℕ) → SomeField d f → set_merged d v (f ++ r) ≡ option_and_then (λ w. set_merged d w r) (set_merged d v f)
-set_next d v f r h = next d (set_field d) (set_sound d) (set_same d) v f r h
-
-pub set_cost_empty : (d : ℕ) → set_cost d [] ≡ nothing
-set_cost_empty d = cost_empty (set_need d) d
-
-pub set_cost_next : (d : ℕ) (f r : List ℕ) → SomeField d f → set_cost d (f ++ r) ≡ plus (set_cost d f) (set_cost d r)
-set_cost_next d f r h = cost_next (set_need d) d (set_stays d) f r h
 
 pub set_cost_some : 0 < 24
 set_cost_some = omega arith
@@ -119,7 +101,7 @@ item_back d v n b rest h short =
     ∙ read (suc d) (set_field (suc d)) (set_sound (suc d)) (set_same (suc d)) v 1 StartGroup (tag_encoding 1 StartGroup) start_tag (v ++ (n, bytes b) ∷ []) (body_encoding n b ++ rest) rest taken
 
 set_parsed : (ys : List (ℕ × Datum)) (d : ℕ) (v : List (ℕ × Datum)) → Fits (records_of (set_records ys)) → AreItems ys → set_levels ys ≤ d → set_merged d v (set_encoding ys) ≡ Some (v ++ ys)
-set_parsed [] d v f h l = set_empty d v ∙ ap (λ z. Some z) (sym (append-nil v))
+set_parsed [] d v f h l = empty d (set_field d) (set_sound d) (set_same d) v ∙ ap (λ z. Some z) (sym (append-nil v))
 set_parsed ((n, bytes b) ∷ ys) zero v f h l =
     let deep : max (datum_height (item_record n b).1) (height (set_records ys)) ≤ 0 = subst (λ r. max (datum_height r.1) (height (set_records ys)) ≤ 0) (encoded_item n b h.0) l in
     absurd (omega (arith, deep))

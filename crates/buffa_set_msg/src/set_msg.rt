@@ -8,8 +8,11 @@ ghost use Rattle.buffa_wire.specs.Message.{BeginsField, MergesBytes, MergesField
 ghost use Rattle.buffa_wire.specs.Passes.{IsSized, IsWritten};
 ghost use Rattle.buffa_wire.specs.Records.{Held};
 ghost use Rattle.buffa_bytes.specs.Written.{UsesRoom, Writes};
+ghost use Rattle.buffa_wire.specs.Takes.{taken_by};
+ghost use Rattle.buffa_wire.proofs.TakesLemmas.{cost_by_is, merged_by_is};
 ghost use Rattle.buffa_set_msg.specs.Set.{AreItems, StopsBehind, TakesSetField, set_cost, set_levels, set_merged, set_records, set_encoding};
-ghost use Rattle.buffa_set_msg.specs.SetFacts.{set_back, set_cost_empty, set_cost_next, set_cost_some, set_empty, set_fields, set_next, set_encoding_records};
+ghost use Rattle.buffa_set_msg.specs.Set.{set_field, set_need};
+ghost use Rattle.buffa_set_msg.specs.SetFacts.{set_back, set_cost_some, set_encoding_records, set_same, set_sound, set_stays};
 
 use crate::record::{read_record, record_len, write_record};
 use buffa_ext::ExtensionSet;
@@ -83,6 +86,10 @@ impl MessageSpec for SetMsg {
 
     ghost COST = { 24 };
 
+    ghost takes = { λ d. taken_by (set_field d) };
+
+    ghost need = { set_need };
+
     ghost merged = { set_merged };
 
     ghost cost = { set_cost };
@@ -103,15 +110,11 @@ impl MessageSpec for SetMsg {
 
     ghost positive = { set_cost_some };
 
-    ghost merged_empty = { set_empty };
+    ghost stays = { set_stays };
 
-    ghost merged_fields = { set_fields };
+    ghost merged_is = { merged_by_is set_field set_sound set_same };
 
-    ghost merged_next = { set_next };
-
-    ghost cost_empty = { set_cost_empty };
-
-    ghost cost_next = { set_cost_next };
+    ghost cost_is = { cost_by_is set_need };
 }
 
 // The length of the encoding, or 2^64 - 1 where it is longer.

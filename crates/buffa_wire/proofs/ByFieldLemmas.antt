@@ -1,15 +1,16 @@
 -- What a message owes follows from what each of its fields does.
-use Rattle.std.proofs.Common.{◌≡◌, ◌⊎◌, inl, inr, ℕ, zero, suc, ◌<◌, ◌≤◌, List, [], ◌∷◌, ◌++◌, length, Some, None, Result, Ok, Err, refl, sym, ap, subst, ◌∙◌, arith, append_assoc, append-nil, length-append}
+use Rattle.std.proofs.Common.{◌≡◌, ◌⊎◌, inl, inr, ℕ, ◌<◌, List, [], ◌∷◌, ◌++◌, length, Some, None, Result, Ok, Err, refl, sym, ap, subst, ◌∙◌, arith, append_assoc, append-nil, length-append}
 use Rattle.std.specs.Option.{option_and_then}
 use Rattle.buffa_bytes.specs.Gives.{◌>>=◌, Gives}
 use Rattle.buffa_bytes.specs.Field.{IsTag, Payload, SomeField}
 use Rattle.buffa_bytes.specs.Join.{Join}
 use Rattle.buffa_bytes.specs.Join.Join.{none, more}
+use Rattle.buffa_bytes.specs.Reading.{tag_at}
 use Rattle.buffa_wire.specs.BudgetLeft.{BudgetLeft, nothing}
 use Rattle.buffa_wire.specs.Message.{IsFieldMerged, IsJudged}
 use Rattle.buffa_bytes.specs.declared.wire_type.WireType.{WireType}
 use Rattle.buffa_bytes.specs.declared.error.DecodeError.{DecodeError}
-use Rattle.buffa_bytes.proofs.StepLemmas.{Agrees, agree_bind, agree_err, agree_ok, agree_weaker, bind_same}
+use Rattle.buffa_bytes.proofs.StepLemmas.{Agrees, agree_bind, agree_err, agree_ok, agree_weaker}
 use Rattle.buffa_bytes.proofs.FieldLemmas.{tag_complete, tag_some, tag_sound}
 use Rattle.buffa_wire.proofs.MessageLemmas.{NoLimit, tag_no_limit}
 use Rattle.buffa_wire.specs.Sequence.{parse_all}
@@ -118,3 +119,23 @@ module _ {X : Type 0} (d : ℕ) (field : FieldReader X) (sound : IsSound d field
   free (Ok x) old new n w bs rest left h = let q = taken old new n w bs rest h in (q.0, q.1, q.2, λ t tag. (q.3 t tag, (omega arith, omega arith)))
   free (Err e) old new n w bs rest left h =
       λ t p tag j. ((omega arith, omega arith, omega arith, omega arith), λ ne. inr (judged old n w t tag bs p e h j, agree_err (field old n w bs) e (sound old n w bs) h))
+
+-- ---- two readers that make the same of each field make the same of all
+module _ {X : Type 0} (d : ℕ) (f g : FieldReader X) (f_sound : IsSound d f) (f_same : IsSame d f) (g_sound : IsSound d g) (g_same : IsSame d g)
+    (alike : (v : X) (n : ℕ) (w : WireType) (bs : List ℕ) → value_of (f v n w bs) ≡ value_of (g v n w bs)) where
+  next_alike : (v : X) (r : Result (ℕ × WireType × List ℕ) DecodeError) → value_of (r >>= (λ t. f v t.0 t.1 t.2)) ≡ value_of (r >>= (λ t. g v t.0 t.1 t.2))
+  next_alike v (Ok t) = alike v t.0 t.1 t.2
+  next_alike v (Err e) = refl
+
+  ends_alike : (v : X) (bs : List ℕ) → 0 < length bs → (r : Result (X × List ℕ) DecodeError) → next_at g v bs ≡ r → value_of r ≡ None → merged_by g v bs ≡ None
+  ends_alike v bs some (Ok x) is h = cc
+  ends_alike v bs some (Err e) is h = ap value_of (along_err (next_at g) (falls d g g_sound g_same) v bs e some is)
+
+  pub merged_alike : (v : X) (bs : List ℕ) → merged_by f v bs ≡ merged_by g v bs
+  merged_alike v bs = parse_leads (next_at f) (λ v bs r. value_of r ≡ merged_by g v bs)
+      (λ v. sym (empty d g g_sound g_same v))
+      (λ v b bs e is. sym (ends_alike v (b ∷ bs) (omega arith) (next_at g v (b ∷ bs)) refl (sym (next_alike v (tag_at (b ∷ bs))) ∙ ap value_of is)))
+      (λ v b bs x r is q.
+      let there : next_at g v (b ∷ bs) ≡ Ok (x.0, x.1) = some_of (next_at g v (b ∷ bs)) x (sym (next_alike v (tag_at (b ∷ bs))) ∙ ap value_of is) in
+      q ∙ sym (ap value_of (along_ok (next_at g) (falls d g g_sound g_same) v x.0 (b ∷ bs) x.1 (omega arith) there)))
+      (falls d f f_sound f_same) v bs

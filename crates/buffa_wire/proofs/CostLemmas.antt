@@ -1,5 +1,5 @@
 -- What fields cost together follows from what each costs.
-use Rattle.std.proofs.Common.{◌≡◌, ◌≢◌, ◌⊎◌, inl, inr, ℕ, ◌+◌, zero, suc, ◌<◌, ◌≤◌, List, [], ◌∷◌, ◌++◌, length, Result, Ok, Err, refl, sym, ap, subst, ◌∙◌, arith, append_assoc, append-nil, length-append}
+use Rattle.std.proofs.Common.{◌≡◌, ◌≢◌, ◌⊎◌, inl, inr, ℕ, ◌+◌, List, [], ◌++◌, Result, Ok, Err, refl, sym, ap, subst, ◌∙◌, arith, append_assoc, append-nil}
 use Rattle.std.specs.Result.{MatchResult}
 use Rattle.buffa_bytes.proofs.FieldLemmas.{payload_complete, skip_falls, tag_complete, tag_falls}
 use Rattle.buffa_bytes.specs.declared.wire_type.WireType.{WireType}
@@ -11,7 +11,7 @@ use Rattle.buffa_wire.specs.BudgetLeft.{BudgetLeft, Lacks, Pays, PaysAtMost, nee
 use Rattle.buffa_wire.specs.Message.{IsFieldMerged, IsJudged}
 use Rattle.buffa_bytes.specs.Front.{skip_at, tag_at}
 use Rattle.buffa_bytes.specs.Scan.{step_then}
-use Rattle.buffa_bytes.proofs.ScanLemmas.{Shortens, scan_step}
+use Rattle.buffa_bytes.proofs.ScanLemmas.{Leads, Shortens, scan_keeps, scan_step}
 use Rattle.buffa_wire.specs.ByField.{FieldNeed, FieldReader, cost_by, costs, field_costs, merged_by, stateless}
 use Rattle.buffa_wire.proofs.ByFieldLemmas.{IsSame, IsSound, judged, taken}
 
@@ -106,3 +106,22 @@ module _ (need : FieldNeed) (d : ℕ) where
               | inr bad ↦ inr (judged d field sound same old n w t tag bs p bad.0 bad.1 j, bad.2)
             ],
           )
+
+-- ---- where fields cost nothing
+abbrev free : FieldNeed
+free n w bs = nothing
+
+abbrev IsFree : Unit {0} → List ℕ → BudgetLeft → Type 0
+IsFree s bs r = r ≡ nothing
+
+free_piece : (bs : List ℕ) (r : Result (List ℕ) DecodeError) → Leads IsFree (costs nothing (stateless r)) tt bs
+free_piece bs (Ok rest) = λ r q. ap (plus nothing) q
+free_piece bs (Err e) = refl
+
+free_field : (d : ℕ) (bs : List ℕ) (r : Result (ℕ × WireType × List ℕ) DecodeError) → Leads IsFree (field_costs free d r) tt bs
+free_field d bs (Ok t) = free_piece bs (skip_at d t.0 t.1 t.2)
+free_field d bs (Err e) = refl
+
+pub cost_free : (d : ℕ) (bs : List ℕ) → cost_by free d bs ≡ nothing
+unfolding cost_by
+cost_free d bs = scan_keeps (λ _ rest. field_costs free d (tag_at rest)) nothing IsFree (λ _ rest. free_field d rest (tag_at rest)) (λ _ rest. refl) tt bs

@@ -9,7 +9,9 @@ use Rattle.buffa_bytes.specs.Front.{delimited_at, taken, varint_at}
 use Rattle.buffa_bytes.specs.Unread.{IsFrontOf}
 use Rattle.buffa_bytes.proofs.FieldLemmas.{tag_falls}
 use Rattle.buffa_wire.proofs.SequenceLemmas.{ok_same}
+use Rattle.buffa_wire.proofs.ByPayloadLemmas.{ByPayload, cost_empty, merged_empty}
 use Rattle.buffa_wire.specs.BudgetLeft.{BudgetLeft, Pays, PaysAtMost, nothing}
+use Rattle.buffa_wire.specs.Takes.{Need, Taker}
 use Rattle.buffa_wire.specs.Message.{BeginsField, IsMerged, MergeFault, MessageFault, cost_in, cost_of_payload, merged_in}
 
 -- a length, and so many bytes at the front of what follows it
@@ -57,12 +59,11 @@ none_told d v o need before _ is free why full = elim (why (λ q. cc)) [
   | inr bad ↦ let k = sym is ∙ bad.0 in cc
 ]
 
-module _ {X T : Type 0} (merged : ℕ → X → List ℕ → Option X) (cost : ℕ → List ℕ → BudgetLeft)
-    (empty : (d : ℕ) (v : X) → merged d v [] ≡ Some v) (free : (d : ℕ) → cost d [] ≡ nothing) where
+module _ {X T : Type 0} {takes : Taker X} {need : Need} {merged : ℕ → X → List ℕ → Option X} {cost : ℕ → List ℕ → BudgetLeft} (by : ByPayload takes need merged cost) where
   pub none_merges : (d : ℕ) (old new : X) (b : List ℕ) (before after : BudgetLeft) (r : Result T DecodeError) → b ≡ [] → IsMerged (merged d old b) (cost d b) before r new after → FullOnlyIf r (BeginsField b) → IsOk r
   none_merges d old new b before after (Ok x) is h full = refl
   none_merges d old new b before after (Err e) is h full =
-      absurd (none_told d old (merged d old b) (cost d b) before e (ap (merged d old) is ∙ empty d old) (ap (cost d) is ∙ free d) h.1 (λ q. subst BeginsField is (full q)))
+      absurd (none_told d old (merged d old b) (cost d b) before e (ap (merged d old) is ∙ merged_empty by d old) (ap (cost d) is ∙ cost_empty by d) h.1 (λ q. subst BeginsField is (full q)))
 
 pub same_front : (bs p x rest : List ℕ) → delimited_at bs ≡ Ok (p, x) → delimited_at bs ≡ Ok ([], rest) → p ≡ []
 same_front bs p x rest h k = ap (λ z. z.0) (ok_same (sym h ∙ k))

@@ -12,5 +12,7 @@ pub mod SpentLemmas
 pub mod SequenceLemmas
 pub mod ByFieldLemmas
 pub mod CostLemmas
+pub mod TakesLemmas
+pub mod ByPayloadLemmas
 pub mod KeepLemmas
 mod ShortLemmas

@@ -1,6 +1,5 @@
 -- Messages field by field, and what reading bytes never answers.
-use Rattle.std.proofs.Common.{◌≡◌, ◌≢◌, inl, inr, ℕ, zero, suc, ◌+◌, ◌<◌, ◌≤◌, List, [], ◌++◌, length, Option, Some, None, Result, Ok, Err, refl, sym, ap, subst, ◌∙◌, arith, append-nil, append_assoc}
-use Rattle.std.specs.Option.{option_and_then}
+use Rattle.std.proofs.Common.{◌≡◌, ◌≢◌, inl, inr, ℕ, zero, suc, ◌+◌, ◌≤◌, List, [], ◌++◌, Option, Ok, refl, sym, ap, subst, ◌∙◌, arith, append-nil, append_assoc}
 use Rattle.buffa_bytes.specs.declared.wire_type.WireType.{WireType}
 use Rattle.buffa_bytes.specs.declared.wire_type.WireType.TheVariants.{Varint, Fixed64, LengthDelimited, StartGroup, EndGroup, Fixed32}
 use Rattle.buffa_bytes.specs.declared.error.DecodeError.{DecodeError}
@@ -9,11 +8,10 @@ use Rattle.buffa_bytes.specs.Varint.{VarintFault}
 use Rattle.buffa_bytes.specs.Field.{BadTag, FieldFaultOver, GroupFault, IsTag, LengthFault, Payload, PayloadFault, PayloadFaultOver, SomeField, TagFault}
 use Rattle.buffa_bytes.specs.Join.{Join}
 use Rattle.buffa_bytes.specs.Join.Join.{none, more}
-use Rattle.buffa_bytes.specs.Front.{skip_at, tag_at}
-use Rattle.buffa_bytes.proofs.StepLemmas.{agree_err, agree_ok}
-use Rattle.buffa_bytes.proofs.FieldLemmas.{payload_complete, payload_sound, tag_complete, tag_sound}
-use Rattle.buffa_wire.specs.BudgetLeft.{BudgetLeft, Lacks, PaysAtMost, plus}
-use Rattle.buffa_wire.specs.Message.{BeginsField, IsJudged, IsLimit, MergeFault}
+use Rattle.buffa_bytes.specs.Front.{tag_at}
+use Rattle.buffa_bytes.proofs.FieldLemmas.{tag_complete}
+use Rattle.buffa_wire.specs.BudgetLeft.{BudgetLeft, Lacks, PaysAtMost}
+use Rattle.buffa_wire.specs.Message.{BeginsField, IsLimit, MergeFault}
 
 -- ---- no fault of bytes is a limit's
 abbrev pub NoLimit : DecodeError → Type 0
@@ -62,69 +60,6 @@ pub payload_no_limit : (d f : ℕ) (w : WireType) (bs : List ℕ) (e : DecodeErr
 payload_no_limit d f w bs e h = over_no_limit (GroupFault d) (group_no_limit d) f w bs e h
 
 -- ---- a message, field by field
-join_front : {P : List ℕ → Type 0} (b : List ℕ) → Join P b → 0 < length b → (f : List ℕ) × (r : List ℕ) × P f × (b ≡ f ++ r)
-join_front _ none h = absurd (omega (arith, h))
-join_front _ (more f r one k) h = (f, r, one, refl)
-
--- bytes that a field begins have a tag
-tagged : (d : ℕ) (bs f r : List ℕ) (e : DecodeError) → SomeField d f → bs ≡ f ++ r → tag_at bs ≡ Err e → ⊥
-tagged d bs f r e (n, w, (t, p, is_tag, payload, is)) split h =
-    let q : tag_at bs ≡ Ok (n, w, p ++ r) = ap tag_at (split ∙ ap (λ z. z ++ r) is ∙ append_assoc t p r) ∙ tag_complete t n w (p ++ r) is_tag in
-    let k = sym q ∙ h in cc
-
-module _ {X : Type 0} (merged : ℕ → X → List ℕ → Option X) (cost : ℕ → List ℕ → BudgetLeft)
-    (fields : (d : ℕ) (v w : X) (b : List ℕ) → merged d v b ≡ Some w → Join (SomeField d) b)
-    (next : (d : ℕ) (v : X) (f r : List ℕ) → SomeField d f → merged d v (f ++ r) ≡ option_and_then (λ w. merged d w r) (merged d v f))
-    (cost_next : (d : ℕ) (f r : List ℕ) → SomeField d f → cost d (f ++ r) ≡ plus (cost d f) (cost d r)) where
-  no_value : (d : ℕ) (v : X) (bs : List ℕ) (e : DecodeError) (o : Option X) → merged d v bs ≡ o → 0 < length bs → tag_at bs ≡ Err e → o ≡ None
-  no_value d v bs e None is some h = refl
-  no_value d v bs e (Some w) is some h = let j = join_front bs (fields d v w bs is) some in absurd (tagged d bs j.0 j.1 e j.2 j.3 h)
-
-  -- no tag begins what is left
-  pub untagged : (d : ℕ) (v : X) (bs : List ℕ) (left : BudgetLeft) (e : DecodeError) → 0 < length bs → tag_at bs ≡ Err e → MergeFault (merged d v bs) (cost d bs) left e
-  untagged d v bs left e some h = inr (no_value d v bs e (merged d v bs) refl some h, tag_no_limit bs e (agree_err (tag_at bs) e (tag_sound bs) h))
-
-  -- one field is merged
-  pub field_means : (d : ℕ) (v u : X) (bs t p x : List ℕ) (n : ℕ) (w : WireType) → IsTag t n w → Payload d n w p → bs ≡ t ++ (p ++ x) → merged d v (t ++ p) ≡ Some u → merged d v bs ≡ merged d u x
-  field_means d v u bs t p x n w tag payload is h =
-      ap (merged d v) (is ∙ sym (append_assoc t p x)) ∙ next d v (t ++ p) x (n, w, (t, p, tag, payload, refl)) ∙ ap (option_and_then (λ z. merged d z x)) h
-
-  pub field_costs : (d : ℕ) (bs t p x : List ℕ) (n : ℕ) (w : WireType) → IsTag t n w → Payload d n w p → bs ≡ t ++ (p ++ x) → cost d bs ≡ plus (cost d (t ++ p)) (cost d x)
-  field_costs d bs t p x n w tag payload is = ap (cost d) (is ∙ sym (append_assoc t p x)) ∙ cost_next d (t ++ p) x (n, w, (t, p, tag, payload, refl))
-
-  -- why a field isn't merged is why the bytes that it begins aren't
-  module _ (d : ℕ) (v : X) (n : ℕ) (w : WireType) (bs : List ℕ) (left over : BudgetLeft) (e : DecodeError) where
-    abbrev Refuses : List ℕ → Type 0
-    Refuses b = PaysAtMost left (cost d b) over × (e ≢ error.OutOfMemory → MergeFault (merged d v b) (cost d b) left e)
-
-    abbrev Judges : Type 0
-    Judges = (t p : List ℕ) → IsTag t n w → IsJudged d n w bs p → Refuses (t ++ p)
-
-    with_rest : (t p x : List ℕ) → IsTag t n w → Payload d n w p → Refuses (t ++ p) → Refuses (t ++ (p ++ x))
-    with_rest t p x tag payload (spent, why) =
-        let all : cost d (t ++ (p ++ x)) ≡ plus (cost d (t ++ p)) (cost d x) = field_costs d (t ++ (p ++ x)) t p x n w tag payload refl in
-        let unknown = ap (λ (z : BudgetLeft). z.unknown) all in
-        let memory = ap (λ (z : BudgetLeft). z.memory) all in (
-          (spent.0, omega (arith, spent.1, unknown), spent.2, omega (arith, spent.3, memory)),
-          λ ne. elim (why ne) [
-            | inl few ↦ inl (elim few [ inl k ↦ inl (omega (arith, k, unknown)) | inr k ↦ inr (omega (arith, k, memory)) ])
-            | inr bad ↦ inr (
-              ap (merged d v) (sym (append_assoc t p x)) ∙ next d v (t ++ p) x (n, w, (t, p, tag, payload, refl)) ∙ ap (option_and_then (λ z. merged d z x)) bad.0,
-              bad.1,
-            )
-          ],
-        )
-
-    judged_by : (r : Result (List ℕ) DecodeError) → skip_at d n w bs ≡ r → Judges → (t : List ℕ) → IsTag t n w → Refuses (t ++ bs)
-    judged_by (Ok rest) is judges t tag =
-        let u = agree_ok (skip_at d n w bs) rest (payload_sound d n w bs) is in
-        subst (λ z. Refuses (t ++ z)) (sym u.2) (with_rest t u.0 rest tag u.1 (judges t u.0 tag (inl (rest, u.1, u.2))))
-    judged_by (Err f) is judges t tag =
-        judges t bs tag (inr (refl, λ rest u. let k = sym (ap (skip_at d n w) u.2 ∙ payload_complete d n w u.0 rest u.1) ∙ is in cc))
-
-    pub judged_all : Judges → (t : List ℕ) → IsTag t n w → Refuses (t ++ bs)
-    judged_all judges t tag = judged_by (skip_at d n w bs) refl judges t tag
-
 -- what is lacked of what is left is lacked of all
 lacks_all : (start now all rest : BudgetLeft) → now.unknown + all.unknown ≡ start.unknown + rest.unknown → now.memory + all.memory ≡ start.memory + rest.memory → Lacks now rest → Lacks start all
 lacks_all start now all rest u m (inl few) = inl (omega (arith, u, few))
@@ -141,7 +76,7 @@ loop_fault o p start now over all rest e same u m no_unknown no_unit (spent, why
 
 -- ---- how far merging came
 
-join_more : {P : List ℕ → Type 0} (f x : List ℕ) → Join P f → P x → Join P (f ++ x)
+pub join_more : {P : List ℕ → Type 0} (f x : List ℕ) → Join P f → P x → Join P (f ++ x)
 join_more {P = P} f x none h = subst (λ z. Join P z) (append-nil x) (more x [] h none)
 join_more {P = P} f x (more first rest a j) h = subst (λ z. Join P z) (sym (append_assoc first rest x)) (more first (rest ++ x) a (join_more rest x j h))
 

@@ -15,5 +15,6 @@ pub mod ScalarFacts
 pub mod Enums
 pub mod Sequence
 pub mod ByField
+pub mod Takes
 pub mod Kept
 pub mod Pinned

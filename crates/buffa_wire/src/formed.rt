@@ -1,17 +1,15 @@
 //! Types whose reading and writing as messages another type says, once for all of them.
 
-ghost use Rattle.std.specs.Prelude.{◌≡◌, ◌≢◌, ◌++◌, ◌<◌, ◌≤◌, ℕ, List, [], Option, Some, refl};
+ghost use Rattle.std.specs.Prelude.{◌≡◌, ◌≢◌, ◌<◌, ◌≤◌, ℕ, List, Option, Some, refl};
 ghost use Rattle.std.specs.Prelude.{IsOk};
-ghost use Rattle.std.specs.Option.{option_and_then};
-ghost use Rattle.buffa_bytes.specs.Field.{SomeField};
 ghost use Rattle.buffa_bytes.specs.Gives.{FullOnlyIf};
-ghost use Rattle.buffa_bytes.specs.Join.{Join};
-ghost use Rattle.buffa_wire.specs.BudgetLeft.{BudgetLeft, budget_left, nothing, plus};
+ghost use Rattle.buffa_wire.specs.BudgetLeft.{BudgetLeft, budget_left};
 ghost use Rattle.buffa_wire.specs.Message.{FieldTaken, MergesField, TakesMessageField};
 ghost use Rattle.buffa_wire.specs.Parse.{Fits};
 ghost use Rattle.buffa_wire.specs.Passes.{IsNext, IsSized, IsWritten};
 ghost use Rattle.buffa_wire.specs.Records.{Datum, records_of};
 ghost use Rattle.buffa_wire.specs.Encoding.{records_encoding};
+ghost use Rattle.buffa_wire.specs.Takes.{Need, Stays, Taker, cost_of, merged_of};
 
 use crate::cache::SizeCache;
 use crate::context::DecodeContext;
@@ -30,11 +28,16 @@ pub trait MessageForm<M: Blank> {
 
     ghost COST: { ℕ };
 
+    /// At a depth, what a field makes of a value by its payload, or none.
+    ghost takes: { Taker M.Meaning };
+
+    /// At a depth, the unknown fields and the units of element memory that a field costs, a malformed one too.
+    ghost need: { Need };
+
     /// At a depth, what merging bytes makes of a value, or none.
     ghost merged: { ℕ → M.Meaning → List ℕ → Option M.Meaning };
 
-    /// At a depth, the unknown fields and the units of element memory that merging bytes costs, malformed
-    /// ones too.
+    /// At a depth, what merging bytes costs, malformed ones too.
     ghost cost: { ℕ → List ℕ → BudgetLeft };
 
     /// The records that a value is written as.
@@ -58,21 +61,14 @@ pub trait MessageForm<M: Blank> {
     /// An element has a cost.
     ghost positive: { 0 < COST };
 
-    /// No bytes change nothing.
-    ghost merged_empty: { (d : ℕ) (v : M.Meaning) → merged d v [] ≡ Some v };
+    /// What a field costs is known by its payload.
+    ghost stays: { Stays need };
 
-    /// What is merged is a join of fields.
-    ghost merged_fields: { (d : ℕ) (v w : M.Meaning) (b : List ℕ) → merged d v b ≡ Some w → Join (SomeField d) b };
+    /// Bytes make of a value what their payloads do, one after the other.
+    ghost merged_is: { (d : ℕ) (v : M.Meaning) (b : List ℕ) → merged d v b ≡ merged_of takes d v b };
 
-    /// A field, and then what follows it.
-    ghost merged_next: { (d : ℕ) (v : M.Meaning) (f r : List ℕ) → SomeField d f → merged d v (f ++ r)
-        ≡ option_and_then (λ w. merged d w r) (merged d v f) };
-
-    /// No bytes cost nothing.
-    ghost cost_empty: { (d : ℕ) → cost d [] ≡ nothing };
-
-    /// Costs add over fields.
-    ghost cost_next: { (d : ℕ) (f r : List ℕ) → SomeField d f → cost d (f ++ r) ≡ plus (cost d f) (cost d r) };
+    /// They cost what their fields do.
+    ghost cost_is: { (d : ℕ) (b : List ℕ) → cost d b ≡ cost_of need d b };
 
     /// The size pass.
     ///
@@ -150,6 +146,10 @@ where
 
     ghost COST = { M.Form.COST };
 
+    ghost takes = { M.Form.takes };
+
+    ghost need = { M.Form.need };
+
     ghost merged = { M.Form.merged };
 
     ghost cost = { M.Form.cost };
@@ -170,15 +170,11 @@ where
 
     ghost positive = { M.Form.positive };
 
-    ghost merged_empty = { M.Form.merged_empty };
+    ghost stays = { M.Form.stays };
 
-    ghost merged_fields = { M.Form.merged_fields };
+    ghost merged_is = { M.Form.merged_is };
 
-    ghost merged_next = { M.Form.merged_next };
-
-    ghost cost_empty = { M.Form.cost_empty };
-
-    ghost cost_next = { M.Form.cost_next };
+    ghost cost_is = { M.Form.cost_is };
 }
 
 impl<M: Formed> Message for M

@@ -1,16 +1,13 @@
 //! Messages: values that bytes are merged into.
 
-ghost use Rattle.std.specs.Prelude.{◌≡◌, ◌≢◌, ◌++◌, ◌<◌, ◌≤◌, ◌^◌, ℕ, List, [], length, Option, Some, IfErr, IfOk};
+ghost use Rattle.std.specs.Prelude.{◌≡◌, ◌≢◌, ◌<◌, ◌≤◌, ◌^◌, ℕ, List, [], length, Option, Some, IfErr, IfOk};
 ghost use Rattle.std.specs.Prelude.{IsOk, Ok, OnErr, OnOk};
-ghost use Rattle.std.specs.Option.{option_and_then};
 ghost use Rattle.buffa_bytes.specs.declared.error.DecodeError.TheVariants.{OutOfMemory};
-ghost use Rattle.buffa_bytes.specs.Field.{SomeField};
 ghost use Rattle.buffa_bytes.specs.Gives.{FullOnlyIf};
-ghost use Rattle.buffa_bytes.specs.Join.{Join};
 ghost use Rattle.buffa_bytes.specs.Left.{LeavesUnlessFull, past_no_delimited};
 ghost use Rattle.buffa_bytes.specs.Front.{delimited_at};
 ghost use Rattle.buffa_bytes.specs.Unread.{IsTailOf};
-ghost use Rattle.buffa_wire.specs.BudgetLeft.{BudgetLeft, PaysAtMost, budget_left, nothing, plus};
+ghost use Rattle.buffa_wire.specs.BudgetLeft.{BudgetLeft, PaysAtMost, budget_left};
 ghost use Rattle.buffa_bytes.specs.declared.error.EncodeError.TheVariants as error;
 ghost use Rattle.buffa_wire.specs.Parse.{Fits};
 ghost use Rattle.buffa_wire.specs.Passes.{IsNext, IsSized, IsWritten};
@@ -18,6 +15,7 @@ ghost use Rattle.buffa_wire.specs.Records.{Datum, records_of};
 ghost use Rattle.buffa_wire.specs.Encoding.{records_encoding};
 ghost use Rattle.buffa_wire.specs.Message.{BeginsField, IsMergedAlone, MergesBytes, MergesField, MergesInside};
 ghost use Rattle.buffa_wire.specs.Message.{MessageFault, cost_of_payload};
+ghost use Rattle.buffa_wire.specs.Takes.{Need, Stays, Taker, cost_of, merged_of};
 
 use crate::budget::{Budget, DEFAULT_UNKNOWN_FIELD_LIMIT};
 use crate::cache::SizeCache;
@@ -44,11 +42,16 @@ pub trait MessageSpec: Blank {
 
     ghost COST: { ℕ };
 
+    /// At a depth, what a field makes of a value by its payload, or none.
+    ghost takes: { Taker Self.Meaning };
+
+    /// At a depth, the unknown fields and the units of element memory that a field costs, a malformed one too.
+    ghost need: { Need };
+
     /// At a depth, what merging bytes makes of a value, or none.
     ghost merged: { ℕ → Self.Meaning → List ℕ → Option Self.Meaning };
 
-    /// At a depth, the unknown fields and the units of element memory that merging bytes costs, malformed
-    /// ones too.
+    /// At a depth, what merging bytes costs, malformed ones too.
     ghost cost: { ℕ → List ℕ → BudgetLeft };
 
     /// The encoding of a value.
@@ -76,21 +79,14 @@ pub trait MessageSpec: Blank {
     /// An element has a cost.
     ghost positive: { 0 < COST };
 
-    /// No bytes change nothing.
-    ghost merged_empty: { (d : ℕ) (v : Self.Meaning) → merged d v [] ≡ Some v };
+    /// What a field costs is known by its payload.
+    ghost stays: { Stays need };
 
-    /// What is merged is a join of fields.
-    ghost merged_fields: { (d : ℕ) (v w : Self.Meaning) (b : List ℕ) → merged d v b ≡ Some w → Join (SomeField d) b };
+    /// Bytes make of a value what their payloads do, one after the other.
+    ghost merged_is: { (d : ℕ) (v : Self.Meaning) (b : List ℕ) → merged d v b ≡ merged_of takes d v b };
 
-    /// A field, and then what follows it.
-    ghost merged_next: { (d : ℕ) (v : Self.Meaning) (f r : List ℕ) → SomeField d f → merged d v (f ++ r)
-        ≡ option_and_then (λ w. merged d w r) (merged d v f) };
-
-    /// No bytes cost nothing.
-    ghost cost_empty: { (d : ℕ) → cost d [] ≡ nothing };
-
-    /// Costs add over fields.
-    ghost cost_next: { (d : ℕ) (f r : List ℕ) → SomeField d f → cost d (f ++ r) ≡ plus (cost d f) (cost d r) };
+    /// They cost what their fields do.
+    ghost cost_is: { (d : ℕ) (b : List ℕ) → cost d b ≡ cost_of need d b };
 }
 
 /// A message, which bytes can be merged into, and which is written in two passes.

@@ -1,6 +1,6 @@
 use Rattle.std.proofs.Common.{refl}
 use Rattle.buffa_fields.specs.Layout.{Passed, passes}
-use Rattle.buffa_fields.specs.TakesLaws.{skipped, skipped_full}
+use Rattle.buffa_wire.proofs.TakesLemmas.{skipped, skipped_full}
 use Rattle.buffa_fields.proofs.kept.pass.Goals as goal
 
 pub returns : goal.returns

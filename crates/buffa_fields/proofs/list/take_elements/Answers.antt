@@ -7,7 +7,7 @@ use Rattle.buffa_bytes.specs.Front.{check_wire}
 use Rattle.buffa_map.proofs.EntryLemmas.{check_sound}
 use Rattle.buffa_fields.specs.ListLaws.{element_taken, neither_err, other_wire, own_wire, packed_taken, packed_wire}
 use Rattle.buffa_fields.specs.Lists.{ElementsTakeMemory, PackedTakeMemory}
-use Rattle.buffa_fields.specs.TakesLaws.{full_weaker}
+use Rattle.buffa_wire.proofs.TakesLemmas.{full_weaker}
 use Rattle.buffa_fields.proofs.list.take_elements.Goals as goal
 
 pub returns-in-Ok-clause-taken : goal.returns-in-Ok-clause-taken

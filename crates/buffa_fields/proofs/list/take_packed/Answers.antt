@@ -2,7 +2,7 @@ use Rattle.std.proofs.Common.{◌∙◌, IsOk, Err, ap}
 use Rattle.buffa_bytes.proofs.FullLemmas.{delimited_full}
 use Rattle.buffa_bytes.specs.Content.{content_at}
 use Rattle.buffa_fields.specs.Lists.{PackedTakeMemory}
-use Rattle.buffa_fields.specs.TakesLaws.{full_weaker}
+use Rattle.buffa_wire.proofs.TakesLemmas.{full_weaker}
 use Rattle.buffa_fields.proofs.list.take_packed.Goals as goal
 
 pub returns-in-Ok-clause-full : goal.returns-in-Ok-clause-full

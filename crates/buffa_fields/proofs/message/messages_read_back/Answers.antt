@@ -1,7 +1,7 @@
 use Rattle.std.proofs.Common.{◌∙◌, ap}
 use Rattle.buffa_wire.specs.Encoding.{records_encoding}
 use Rattle.buffa_fields.specs.LayoutLaws.{reads_back}
-use Rattle.buffa_fields.specs.Takes.{merged_of}
+use Rattle.buffa_wire.specs.Takes.{merged_of}
 use Rattle.buffa_fields.proofs.message.messages_read_back.Goals as goal
 
 pub returns : goal.returns

@@ -9,15 +9,15 @@ use Rattle.buffa_bytes.proofs.FieldLemmas.{tag_some, tag_sound}
 use Rattle.buffa_bytes.proofs.FullLemmas.{tag_full}
 use Rattle.buffa_wire.specs.BudgetLeft.{BudgetLeft, PaysAtMost}
 use Rattle.buffa_wire.specs.Message.{MergeFault, cost_in, merged_in}
-use Rattle.buffa_wire.proofs.MessageLemmas.{field_costs, field_means, judged_all, loop_fault, reaches_tag, untagged}
+use Rattle.buffa_wire.proofs.MessageLemmas.{loop_fault, reaches_tag}
+use Rattle.buffa_wire.proofs.ByPayloadLemmas.{field_costs, field_means, judged_all, untagged}
 use Rattle.buffa_map.specs.Pairs.{means}
 use Rattle.buffa_wire.specs.Kept.{keep_need}
 use Rattle.buffa_fields.specs.Keep.{keep_takes}
-use Rattle.buffa_fields.specs.TakesLaws.{taken_full}
+use Rattle.buffa_wire.proofs.TakesLemmas.{taken_full}
 use Rattle.buffa_node.proofs.FieldMergeLemmas.{both_stay, child_merged, kept_merged, on_err, score_merged, shade_merged}
-use Rattle.buffa_node.proofs.LoopLemmas.{all_merged, front_next, front_none, stops_at, stops_untagged}
+use Rattle.buffa_node.proofs.LoopLemmas.{all_merged, by_payloads, front_next, front_none, stops_at, stops_untagged}
 use Rattle.buffa_node.specs.Branch.{branch, kids, shade_number}
-use Rattle.buffa_node.specs.NodeLaws.{cost_next, merged_fields, merged_next}
 use Rattle.buffa_node.specs.NodeMeaning.{children_cost, children_take, cost, merged, scores_cost, scores_take, shades_cost, shades_take}
 use Rattle.buffa_node.proofs.node.+merge.Goals as goal
 
@@ -31,7 +31,7 @@ merge_node-returns-in_err-tag-clause-merged t c =
     let some : 0 < length rest = omega (arith, c.remaining.ensures, c.loop-rest-test.true) in
     rw (p.1, p.2) (loop_fault (merged d c.args.node.now c.args.bytes.now) (merged d v rest) c.args.budget.now c.loop-rest.budget c.loop-rest.budget
     (cost d c.args.bytes.now) (cost d rest) c.in_err-tag.field-0.0 inv.means inv.unknown inv.memory inv.no_unknown inv.no_unit
-    ((omega arith, omega arith, omega arith, omega arith), λ ne. untagged merged cost merged_fields merged_next cost_next d v rest c.loop-rest.budget c.in_err-tag.field-0.0 some c.in_err-tag.ensures.reads))
+    ((omega arith, omega arith, omega arith, omega arith), λ ne. untagged by_payloads d v rest c.loop-rest.budget c.in_err-tag.field-0.0 some c.in_err-tag.ensures.reads))
 
 pub merge_node-returns-in_err-tag-clause-full : goal.merge_node-returns-in_err-tag-clause-full
 merge_node-returns-in_err-tag-clause-full t c =
@@ -84,9 +84,9 @@ merge_node-loop-rest-preserved t c =
     let m = c.in_ok-merge_node_field.ensures.merged in
     let split : rest ≡ u.0 ++ (m.0 ++ x) = u.2 ∙ ap (λ z. u.0 ++ z) m.2 in
     let one = m.3 u.0 u.1 in
-    let costs = field_costs merged cost merged_fields merged_next cost_next d rest u.0 m.0 x n w u.1 m.1 split in
+    let costs = field_costs by_payloads d rest u.0 m.0 x n w u.1 m.1 split in
     record {
-      means = inv.means ∙ field_means merged cost merged_fields merged_next cost_next d c.loop-rest.node c.merge_node_field.new.node rest u.0 m.0 x n w u.1 m.1 split one.0;
+      means = inv.means ∙ field_means by_payloads d c.loop-rest.node c.merge_node_field.new.node rest u.0 m.0 x n w u.1 m.1 split one.0;
       unknown = omega (arith, inv.unknown, one.1.0, ap (λ (z : BudgetLeft). z.unknown) costs);
       memory = omega (arith, inv.memory, one.1.1, ap (λ (z : BudgetLeft). z.memory) costs);
       no_unknown = omega (arith, inv.no_unknown, one.1.0);
@@ -107,7 +107,7 @@ merge_node-returns-in_err-merge_node_field-clause-merged t c =
     let u : TakesTag rest n w c.decode.new.buf.now = agree_ok (tag_at rest) (n, w, c.decode.new.buf.now) (tag_sound rest) c.in_ok-tag.ensures.reads in
     let over = c.merge_node_field.new.budget in
     let why : PaysAtMost c.loop-rest.budget (cost d rest) over × (e ≢ OutOfMemory → MergeFault (merged d v rest) (cost d rest) c.loop-rest.budget e) =
-    subst (λ (z : List ℕ). PaysAtMost c.loop-rest.budget (cost d z) over × (e ≢ OutOfMemory → MergeFault (merged d v z) (cost d z) c.loop-rest.budget e)) (sym u.2) (judged_all merged cost merged_fields merged_next cost_next d v n w c.decode.new.buf.now c.loop-rest.budget over e c.in_err-merge_node_field.ensures.merged u.0 u.1) in
+    subst (λ (z : List ℕ). PaysAtMost c.loop-rest.budget (cost d z) over × (e ≢ OutOfMemory → MergeFault (merged d v z) (cost d z) c.loop-rest.budget e)) (sym u.2) (judged_all by_payloads d v n w c.decode.new.buf.now c.loop-rest.budget over e c.in_err-merge_node_field.ensures.merged u.0 u.1) in
     rw (p.1, p.2) (loop_fault (merged d c.args.node.now c.args.bytes.now) (merged d v rest) c.args.budget.now c.loop-rest.budget over
     (cost d c.args.bytes.now) (cost d rest) e inv.means inv.unknown inv.memory inv.no_unknown inv.no_unit why)
 

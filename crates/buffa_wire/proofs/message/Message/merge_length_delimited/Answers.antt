@@ -3,6 +3,7 @@ use Rattle.std.proofs.lemmas.Result.{err_from_is_err_and}
 use Rattle.buffa_bytes.proofs.FullLemmas.{varint_no_full}
 use Rattle.buffa_bytes.proofs.LeftLemmas.{left_no_length, left_passed, left_refused, left_taken}
 use Rattle.buffa_bytes.proofs.TailLemmas.{tail_more, tail_whole}
+use Rattle.buffa_wire.proofs.ByPayloadLemmas.{by_payload}
 use Rattle.buffa_wire.proofs.InsideLemmas.{delimited_by, delimited_front, none_merges, same_front, inside_fault, inside_full, inside_ok, inside_spent}
 use Rattle.buffa_bytes.proofs.OwnLemmas.{none_taken}
 use Rattle.buffa_wire.proofs.message.Message.merge_length_delimited.Goals as goal
@@ -38,7 +39,7 @@ returns-in-Some-clause-full g c =
 pub returns-in-Some-clause-free : goal.returns-in-Some-clause-free
 returns-in-Some-clause-free g c = λ rest deep is.
     let none = same_front _ _ _ _ (delimited_front _ _ _ _ c.in_ok-len.ensures.reads c.in-Some.ensures) is in
-    none_merges g.Self.MessageSpec.merged g.Self.MessageSpec.cost g.Self.MessageSpec.merged_empty g.Self.MessageSpec.cost_empty _ _ _ _ _ _ c.merge-merged.result none c.merge-merged.ensures.merged c.merge-merged.ensures.full
+    none_merges (by_payload g.Self.MessageSpec.stays g.Self.MessageSpec.merged_is g.Self.MessageSpec.cost_is) _ _ _ _ _ _ c.merge-merged.result none c.merge-merged.ensures.merged c.merge-merged.ensures.full
 
 pub returns-in_err-payload-clause-free : goal.returns-in_err-payload-clause-free
 returns-in_err-payload-clause-free g c = λ rest deep is. let k = c.in_err-payload.ensures.free (none_taken _ _ _ _ c.in_ok-len.ensures.reads is) in cc
@@ -46,7 +47,7 @@ returns-in_err-payload-clause-free g c = λ rest deep is. let k = c.in_err-paylo
 pub returns-clause-free : goal.returns-clause-free
 returns-clause-free g c = λ rest deep is.
     let none = same_front _ _ _ _ (delimited_by _ _ _ _ c.in_ok-len.ensures.reads c.in_ok-payload.ensures.reads) is in
-    none_merges g.Self.MessageSpec.merged g.Self.MessageSpec.cost g.Self.MessageSpec.merged_empty g.Self.MessageSpec.cost_empty _ _ _ _ _ _ c.merge.result (c.deref.ensures.value ∙ none) c.merge.ensures.merged c.merge.ensures.full
+    none_merges (by_payload g.Self.MessageSpec.stays g.Self.MessageSpec.merged_is g.Self.MessageSpec.cost_is) _ _ _ _ _ _ c.merge.result (c.deref.ensures.value ∙ none) c.merge.ensures.merged c.merge.ensures.full
 
 pub returns-in_err-len-clause-left : goal.returns-in_err-len-clause-left
 returns-in_err-len-clause-left g c = λ deep.

@@ -1,6 +1,6 @@
 -- What is proved of any fields, taken payload by payload.
-use Rattle.std.proofs.Common.{◌≡◌, ◌≢◌, inl, inr, ℕ, ◌-◌, Bool, List, [], ◌∷◌, ◌++◌, length, take, Option, Some, None, Result, Ok, Err, refl, sym, ap, subst, ◌∙◌, arith, append_assoc, length-append}
-use Rattle.std.specs.Option.{option_and_then}
+use Rattle.std.proofs.Common.{◌≡◌, ◌≢◌, inl, inr, ℕ, ◌-◌, Bool, List, [], ◌∷◌, ◌++◌, length, take, Option, Some, None, Result, Ok, Err, refl, sym, ap, subst, ◌∙◌, arith, append_assoc, append-nil, length-append}
+use Rattle.std.specs.Option.{option_and_then, option_map}
 use Rattle.buffa_bytes.proofs.FieldLemmas.{payload_complete, payload_sound}
 use Rattle.buffa_bytes.proofs.FullLemmas.{payload_full}
 use Rattle.buffa_bytes.proofs.StepLemmas.{Agrees, agree_bind, agree_err, agree_ok}
@@ -15,9 +15,10 @@ use Rattle.buffa_bytes.specs.Gives.{FullOnlyIf, Gives}
 use Rattle.buffa_bytes.specs.Join.{Join}
 use Rattle.buffa_wire.specs.Message.{IsFieldMerged}
 use Rattle.buffa_bytes.specs.Front.{skip_at}
-use Rattle.buffa_wire.proofs.CostLemmas.{IsPaid, cost_empty, cost_next as costs_next, paid}
-use Rattle.buffa_wire.proofs.ByFieldLemmas.{IsSame, IsSound, Same, empty, fields, next, read}
-use Rattle.buffa_fields.specs.Takes.{IsTaken, Leads, Need, Piece, ReadsBack, Stays, Taker, Untaken, answer, cost_of, framed, front_of, joined, merged_of}
+use Rattle.buffa_wire.proofs.CostLemmas.{IsPaid, cost_empty, cost_free, cost_next as costs_next, paid}
+use Rattle.buffa_wire.proofs.ByFieldLemmas.{IsSame, IsSound, Same, empty, fields, merged_alike, next, read}
+use Rattle.buffa_wire.specs.ByField.{FieldReader, cost_by, merged_by, value_of}
+use Rattle.buffa_wire.specs.Takes.{IsTaken, Leads, Need, Piece, ReadsBack, Stays, Taker, Untaken, answer, cost_of, costs_nothing, framed, front_of, joined, merged_of, taken_by}
 
 -- ---- the payload is cut
 take_all : (p x : List ℕ) → take (length p) (p ++ x) ≡ p
@@ -52,17 +53,17 @@ module _ {X : Type 0} (takes : Taker X) (d : ℕ) where
   framed_same v n w p h = same_of v n w p (takes d v n w p) refl h
 
   -- ---- what the message owes
-  pub merged_empty : (v : X) → merged_of takes d v [] ≡ Some v
+  pub merged_of_none : (v : X) → merged_of takes d v [] ≡ Some v
   unfolding merged_of
-  merged_empty v = empty d (framed takes d) framed_sound framed_same v
+  merged_of_none v = empty d (framed takes d) framed_sound framed_same v
 
-  pub merged_fields : (v w : X) (b : List ℕ) → merged_of takes d v b ≡ Some w → Join (SomeField d) b
+  pub merged_of_fields : (v w : X) (b : List ℕ) → merged_of takes d v b ≡ Some w → Join (SomeField d) b
   unfolding merged_of
-  merged_fields v w b h = fields d (framed takes d) framed_sound framed_same v w b h
+  merged_of_fields v w b h = fields d (framed takes d) framed_sound framed_same v w b h
 
-  pub merged_next : (v : X) (f r : List ℕ) → SomeField d f → merged_of takes d v (f ++ r) ≡ option_and_then (λ w. merged_of takes d w r) (merged_of takes d v f)
+  pub merged_of_next : (v : X) (f r : List ℕ) → SomeField d f → merged_of takes d v (f ++ r) ≡ option_and_then (λ w. merged_of takes d w r) (merged_of takes d v f)
   unfolding merged_of
-  merged_next v f r h = next d (framed takes d) framed_sound framed_same v f r h
+  merged_of_next v f r h = next d (framed takes d) framed_sound framed_same v f r h
 
   -- ---- what a call owes
   framed_err : (v : X) (n : ℕ) (w : WireType) (bs : List ℕ) (e : DecodeError) → NoLimit e → Untaken takes d v n w bs →
@@ -139,7 +140,7 @@ skipped_full d n w bs rest (Err e) h = λ full. payload_full d n w bs (h ∙ ap 
 module _ {X : Type 0} (takes : Taker X) (d : ℕ) (P : ℕ → Bool) where
   led : (s : X) (fs : List Piece) (t : X) → Leads takes P d s fs t → merged_of takes d s (joined fs) ≡ Some t
   unfolding merged_of
-  led s [] t h = merged_empty takes d s ∙ ap (λ x. Some x) h
+  led s [] t h = merged_of_none takes d s ∙ ap (λ x. Some x) h
   led s (f ∷ fs) t (is, tag, payload, u, h, l) =
       ap (merged_of takes d s) (append_assoc f.tag f.payload (joined fs))
       ∙ read d (framed takes d) (framed_sound takes d) (framed_same takes d) s f.number f.wire f.tag tag u (f.payload ++ joined fs) (joined fs)
@@ -148,3 +149,45 @@ module _ {X : Type 0} (takes : Taker X) (d : ℕ) (P : ℕ → Bool) where
 
   pub back : (s : X) (encoding : List ℕ) (t : X) → ReadsBack takes P d s encoding t → merged_of takes d s encoding ≡ Some t
   back s encoding t h = ap (merged_of takes d s) h.spelled ∙ led s h.pieces t h.leads
+
+-- ---- fields that a reader reads, as payloads
+module _ {X : Type 0} (field : ℕ → FieldReader X) (sound : (d : ℕ) → IsSound d (field d)) (same : (d : ℕ) → IsSame d (field d)) where
+  abbrev by_reader : Taker X
+  by_reader d = taken_by (field d)
+
+  -- the payload alone
+  alone : (d : ℕ) (v : X) (n : ℕ) (w : WireType) (p : List ℕ) (r : Result (X × List ℕ) DecodeError) → field d v n w (p ++ []) ≡ r → by_reader d v n w p ≡ option_map (λ x. x.0) (value_of r)
+  alone d v n w p r h = ap (taken_by (field d) v n w) (sym (append-nil p)) ∙ ap (λ z. option_map (λ x. x.0) (value_of z)) h
+
+  whole_alike : (d : ℕ) (v : X) (n : ℕ) (w : WireType) (p rest : List ℕ) → Payload d n w p → Same (field d v n w) p → value_of (field d v n w (p ++ rest)) ≡ value_of (framed by_reader d v n w (p ++ rest))
+  whole_alike d v n w p rest h (inl (u, k)) = ap value_of (k rest ∙ sym (framed_at by_reader d v n w p rest h ∙ ap (answer rest) (alone d v n w p (Ok (u, [])) (k []))))
+  whole_alike d v n w p rest h (inr (e, k)) = ap value_of (k rest) ∙ sym (ap value_of (framed_at by_reader d v n w p rest h ∙ ap (answer rest) (alone d v n w p (Err e) (k []))))
+
+  none_read : (d : ℕ) (v : X) (n : ℕ) (w : WireType) (bs : List ℕ) (e : DecodeError) → skip_at d n w bs ≡ Err e → (r : Result (X × List ℕ) DecodeError) → field d v n w bs ≡ r → value_of r ≡ None
+  none_read d v n w bs e no_payload (Err f) is = refl
+  none_read d v n w bs e no_payload (Ok x) is =
+      let q = agree_ok (field d v n w bs) x (sound d v n w bs) is in
+      let both = sym (ap (skip_at d n w) q.2 ∙ payload_complete d n w q.0 x.1 q.1) ∙ no_payload in cc
+
+  field_alike : (d : ℕ) (v : X) (n : ℕ) (w : WireType) (bs : List ℕ) (r : Result (List ℕ) DecodeError) → skip_at d n w bs ≡ r → value_of (field d v n w bs) ≡ value_of (framed by_reader d v n w bs)
+  field_alike d v n w bs (Ok rest) is =
+      let u = agree_ok (skip_at d n w bs) rest (payload_sound d n w bs) is in
+      subst (λ z. value_of (field d v n w z) ≡ value_of (framed by_reader d v n w z)) (sym u.2) (whole_alike d v n w u.0 rest u.1 (same d v n w u.0 u.1))
+  field_alike d v n w bs (Err e) is =
+      let none : framed by_reader d v n w bs ≡ Err e = rw is refl in
+      none_read d v n w bs e is (field d v n w bs) refl ∙ sym (ap value_of none)
+
+  -- all bytes mean what their payloads do
+  pub merged_by_is : (d : ℕ) (v : X) (b : List ℕ) → merged_by (field d) v b ≡ merged_of (λ d. taken_by (field d)) d v b
+  unfolding merged_of
+  merged_by_is d v b = merged_alike d (field d) (framed by_reader d) (sound d) (same d) (framed_sound by_reader d) (framed_same by_reader d)
+      (λ v n w bs. field_alike d v n w bs (skip_at d n w bs) refl) v b
+
+-- ---- what fields cost, as payloads
+pub cost_by_is : (need : Need) (d : ℕ) (b : List ℕ) → cost_by (need d) d b ≡ cost_of need d b
+unfolding cost_of
+cost_by_is need d b = refl
+
+pub nothing_is : (d : ℕ) (b : List ℕ) → nothing ≡ cost_of costs_nothing d b
+unfolding cost_of
+nothing_is d b = sym (cost_free d b)

@@ -1,17 +1,17 @@
 -- What fields make of a value, payload by payload, and what follows of whole bytes.
 -- Source: the protobuf encoding guide, "Message Structure".
-use Rattle.std.specs.Prelude.{◌≡◌, ◌≢◌, ℕ, ◌-◌, ◌==◌, ◌⊎◌, ◌&&◌, Bool, true, nat_lt, List, [], ◌∷◌, ◌++◌, length, take, Option, Some, None, Result, Ok, Err, MatchResult, if◌then◌else◌}
+use Rattle.std.specs.Prelude.{◌≡◌, ◌≢◌, ℕ, ◌-◌, ◌⊎◌, Bool, true, List, [], ◌∷◌, ◌++◌, length, take, Option, Some, None, Result, Ok, Err, MatchResult}
 use Rattle.std.specs.Option.{option_map}
-use Rattle.buffa_wire.specs.BudgetLeft.{BudgetLeft, Lacks, Pays, PaysAtMost}
 use Rattle.buffa_bytes.specs.Field.{IsTag, Payload}
 use Rattle.buffa_bytes.specs.Gives.{◌>>=◌}
-use Rattle.buffa_wire.specs.Message.{IsLimit}
 use Rattle.buffa_bytes.specs.Front.{skip_at}
 use Rattle.buffa_bytes.specs.declared.wire_type.WireType.{WireType}
 use Rattle.buffa_bytes.specs.declared.wire_type.WireType.TheVariants.{EndGroup}
 use Rattle.buffa_bytes.specs.declared.error.DecodeError.{DecodeError}
 use Rattle.buffa_bytes.specs.declared.error.DecodeError.TheVariants.{OutOfMemory, UnexpectedEof}
-use Rattle.buffa_wire.specs.ByField.{FieldReader, cost_by, merged_by}
+use Rattle.buffa_wire.specs.BudgetLeft.{BudgetLeft, Lacks, Pays, PaysAtMost, nothing}
+use Rattle.buffa_wire.specs.ByField.{FieldReader, cost_by, merged_by, value_of}
+use Rattle.buffa_wire.specs.Message.{IsLimit}
 
 -- At a depth, what a field of a number and a wire type makes of a value by its payload, or none where it is refused.
 abbrev pub Taker : Type 0 → Type 0
@@ -20,6 +20,13 @@ Taker X = ℕ → X → ℕ → WireType → List ℕ → Option X
 -- At a depth, what a field costs, where these bytes follow its tag, a malformed one too.
 abbrev pub Need : Type 0
 Need = ℕ → ℕ → WireType → List ℕ → BudgetLeft
+
+-- what a field costs is known by its payload
+abbrev pub Stays : Need → Type 0
+Stays need = (d n : ℕ) (w : WireType) (p x : List ℕ) → Payload d n w p → need d n w (p ++ x) ≡ need d n w p
+
+abbrev pub costs_nothing : Need
+costs_nothing d n w bs = nothing
 
 -- At a depth, where a field of a number and a wire type may ask for memory, if these bytes follow its tag.
 abbrev pub Asks : Type 1
@@ -46,6 +53,10 @@ merged_of takes d v bs = merged_by (framed takes d) v bs
 unfoldable pub cost_of : Need → ℕ → List ℕ → BudgetLeft
 cost_of need d bs = cost_by (need d) d bs
 
+-- what a reader of fields makes of a value by a payload
+abbrev pub taken_by : {X : Type 0} → FieldReader X → X → ℕ → WireType → List ℕ → Option X
+taken_by field v n w p = option_map (λ x. x.0) (value_of (field v n w p))
+
 -- ---- what a call owes that merges the field whose tag was read
 
 -- no payload at the front is taken
@@ -59,23 +70,6 @@ IsTaken takes need d old n w bs before r new after rest =
     (λ e. PaysAtMost before (need d n w bs) after
     × (e ≢ OutOfMemory → Lacks before (need d n w bs) ⊎ (Untaken takes d old n w bs × (IsLimit e → ⊥)))
     × (e ≡ OutOfMemory → w ≢ EndGroup))
-
--- what a field costs is known by its payload
-abbrev pub Stays : Need → Type 0
-Stays need = (d n : ℕ) (w : WireType) (p x : List ℕ) → Payload d n w p → need d n w (p ++ x) ≡ need d n w p
-
--- ---- a field, and the others
-
-abbrev pub both_take : {A B : Type 0} → ℕ → Taker A → Taker B → Taker (A × B)
-both_take k f g d v n w p =
-    if n == k then option_map (λ x. (x, v.1)) (f d v.0 n w p) else option_map (λ y. (v.0, y)) (g d v.1 n w p)
-
-abbrev pub both_need : ℕ → Need → Need → Need
-both_need k f g d n w bs = if n == k then f d n w bs else g d n w bs
-
--- the numbers of all are numbers that a field may have, and no two are one
-abbrev pub is_number : ℕ → Bool
-is_number n = nat_lt 0 n && nat_lt n 536870912
 
 -- ---- encodings that read back
 
