@@ -7,7 +7,7 @@ use Rattle.buffa_bytes.specs.declared.error.DecodeError.TheVariants as error
 use Rattle.buffa_bytes.specs.Field.{IsTag, Payload, SomeField}
 use Rattle.buffa_bytes.specs.Join.{Join}
 use Rattle.buffa_bytes.specs.Join.Join.{none, more}
-use Rattle.buffa_bytes.specs.Reading.{skip_at, tag_at}
+use Rattle.buffa_bytes.specs.Front.{skip_at, tag_at}
 use Rattle.buffa_bytes.proofs.StepLemmas.{agree_err, agree_ok}
 use Rattle.buffa_bytes.proofs.FieldLemmas.{payload_complete, payload_sound, tag_complete, tag_sound}
 use Rattle.buffa_wire.specs.BudgetLeft.{BudgetLeft, Pays, PaysAtMost, nothing, plus}

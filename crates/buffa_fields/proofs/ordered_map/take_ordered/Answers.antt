@@ -2,7 +2,7 @@ use Rattle.std.proofs.Common.{◌+◌, [], false}
 use Rattle.std.specs.BTreeMap.{insert_entry}
 use Rattle.buffa_bytes.proofs.StepLemmas.{agree_ok}
 use Rattle.buffa_bytes.specs.declared.wire_type.WireType.TheVariants.{LengthDelimited}
-use Rattle.buffa_bytes.specs.Reading.{check_wire}
+use Rattle.buffa_bytes.specs.Front.{check_wire}
 use Rattle.buffa_map.proofs.EntryLemmas.{check_sound}
 use Rattle.buffa_map.specs.Pairs.{means}
 use Rattle.buffa_fields.proofs.OrderedLemmas.{is_put_by, means_ascend}
