@@ -14,7 +14,9 @@ use Rattle.buffa_bytes.specs.Field.{Payload, SomeField}
 use Rattle.buffa_bytes.specs.Gives.{FullOnlyIf, Gives}
 use Rattle.buffa_bytes.specs.Join.{Join}
 use Rattle.buffa_wire.specs.Message.{IsFieldMerged}
-use Rattle.buffa_bytes.specs.Reading.{skip_at}
+use Rattle.buffa_bytes.specs.Reading.{skip_at, tag_at}
+use Rattle.buffa_bytes.proofs.ScanLemmas.{Leads as LeadsTo, scan_keeps}
+use Rattle.buffa_wire.specs.ByField.{cost_by, costs, field_costs, stateless}
 use Rattle.buffa_wire.proofs.CostLemmas.{IsPaid, cost_empty, cost_next as costs_next, paid}
 use Rattle.buffa_wire.proofs.ByFieldLemmas.{IsSame, IsSound, Same, empty, fields, next, read}
 use Rattle.buffa_fields.specs.Takes.{IsTaken, Leads, Need, Piece, ReadsBack, Stays, Taker, Untaken, answer, cost_of, framed, front_of, joined, merged_of}
@@ -65,7 +67,7 @@ module _ {X : Type 0} (takes : Taker X) (d : ℕ) where
   merged_next v f r h = next d (framed takes d) framed_sound framed_same v f r h
 
   -- ---- what a call owes
-  framed_err : (v : X) (n : ℕ) (w : WireType) (bs : List ℕ) (e : DecodeError) → NoLimit e → Untaken takes d v n w bs →
+  pub framed_err : (v : X) (n : ℕ) (w : WireType) (bs : List ℕ) (e : DecodeError) → NoLimit e → Untaken takes d v n w bs →
       (r : Result (List ℕ) DecodeError) → skip_at d n w bs ≡ r → (x : DecodeError) × (framed takes d v n w bs ≡ Err x) × NoLimit e
   framed_err v n w bs e k h (Err x) is = (x, rw is refl, k)
   framed_err v n w bs e k h (Ok rest) is =
@@ -103,6 +105,20 @@ cost_of_none need d = cost_empty (need d) d
 pub cost_of_next : (need : Need) → Stays need → (d : ℕ) (f r : List ℕ) → SomeField d f → cost_of need d (f ++ r) ≡ plus (cost_of need d f) (cost_of need d r)
 unfolding cost_of
 cost_of_next need stays d f r h = costs_next (need d) d (stays d) f r h
+
+-- fields that cost nothing each cost nothing together
+module _ (need : Need) (d : ℕ) (free : (n : ℕ) (w : WireType) (bs : List ℕ) → need d n w bs ≡ nothing) where
+  one_free : (m : BudgetLeft) (r : Result (Unit {0} × List ℕ) DecodeError) (bs : List ℕ) → m ≡ nothing → LeadsTo (λ _ _ z. z ≡ nothing) (costs m r) tt bs
+  one_free m (Ok x) bs h = λ r k. rw (h, k) refl
+  one_free m (Err e) bs h = h
+
+  field_free : (r : Result (ℕ × WireType × List ℕ) DecodeError) (bs : List ℕ) → LeadsTo (λ _ _ z. z ≡ nothing) (field_costs (need d) d r) tt bs
+  field_free (Ok t) bs = one_free (need d t.0 t.1 t.2) (stateless (skip_at d t.0 t.1 t.2)) bs (free t.0 t.1 t.2)
+  field_free (Err e) bs = refl
+
+  pub cost_of_free : (bs : List ℕ) → cost_of need d bs ≡ nothing
+  unfolding cost_of cost_by
+  cost_of_free bs = scan_keeps (λ _ rest. field_costs (need d) d (tag_at rest)) nothing (λ _ _ z. z ≡ nothing) (λ _ rest. field_free (tag_at rest) rest) (λ _ _. refl) tt bs
 
 -- ---- fields that are passed over
 pub skipped : {X : Type 0} (takes : Taker X) (d : ℕ) (v : X) (n : ℕ) (w : WireType) (bs rest : List ℕ) (before : BudgetLeft) (r : Result (Unit {0}) DecodeError) →
