@@ -57,7 +57,8 @@ pub fn plain_members_are_these<C: Kind>()
     ensures checks { (n : ℕ) (w : _) → ⟦<Plain<C> as Member>⟧.shape.checks n w ≡ check_wire n C.WIRE_TYPE w }
     ensures asks { (d n : ℕ) (w : _) (bs : List ℕ) → ⟦<Plain<C> as Member>⟧.shape.asks d n w bs
         ↔ (ValueTakesMemory C.reading d n w bs) }
-    ensures refuses { ⟦<Plain<C> as Member>⟧.shape.refuses ≡ RefusesAlone C.reading (λ v. v) }
+    ensures refuses { (d n : ℕ) (old new : _) (w : _) (bs : List ℕ) (e : _) →
+        ⟦<Plain<C> as Member>⟧.shape.refuses d old n w bs e new ↔ RefusesAlone C.reading (λ v. v) d old n w bs e new }
     ensures need { ⟦<Plain<C> as Member>⟧.shape.need ≡ free }
     ensures records { (n : ℕ) (v : _) → ⟦<Plain<C> as Member>⟧.shape.records n v
         ≡ plain_records C.is_blank C.datum n v }
@@ -74,7 +75,9 @@ pub fn optional_members_are_these<C: Kind>()
     ensures checks { (n : ℕ) (w : _) → ⟦<Optional<C> as Member>⟧.shape.checks n w ≡ check_wire n C.WIRE_TYPE w }
     ensures asks { (d n : ℕ) (w : _) (bs : List ℕ) → ⟦<Optional<C> as Member>⟧.shape.asks d n w bs
         ↔ (ValueTakesMemory C.reading d n w bs) }
-    ensures refuses { ⟦<Optional<C> as Member>⟧.shape.refuses ≡ RefusesAlone C.reading (λ _. C.reading.blank) }
+    ensures refuses { (d n : ℕ) (old new : _) (w : _) (bs : List ℕ) (e : _) →
+        ⟦<Optional<C> as Member>⟧.shape.refuses d old n w bs e new
+        ↔ RefusesAlone C.reading (λ _. C.reading.blank) d old n w bs e new }
     ensures need { ⟦<Optional<C> as Member>⟧.shape.need ≡ free }
     ensures records { (n : ℕ) (v : _) → ⟦<Optional<C> as Member>⟧.shape.records n v ≡ optional_records C.datum n v }
     ensures slots { (v : _) → ⟦<Optional<C> as Member>⟧.shape.slots v ≡ [] }
