@@ -72,7 +72,7 @@ module _ (d s n : ℕ) (w : WireType) (bs : List ℕ) (v : List (ℕ × Datum)) 
         (omega (arith, u, ap (λ z. z.unknown) need, k.3, all), omega (arith, m, ap (λ z. z.memory) need)),
       )
 
-  none_there : (r : Result (Datum × ℕ × List ℕ) DecodeError) → kept_record_at d n w bs ≡ r → (e : DecodeError) → field_at d s n w bs ≡ Err e → Lacks before (keep_need d n w bs) ⊎ (Untaken keep_takes d v n w bs × NoLimit e)
+  pub none_there : (r : Result (Datum × ℕ × List ℕ) DecodeError) → kept_record_at d n w bs ≡ r → (e : DecodeError) → field_at d s n w bs ≡ Err e → Lacks before (keep_need d n w bs) ⊎ (Untaken keep_takes d v n w bs × NoLimit e)
   none_there (Ok y) is e h =
       let u = agree_ok (kept_record_at d n w bs) y (field_is_read d (suc (length bs)) n w bs) is in
       let need = needed d n w bs u.0 y.2 y.0 u.1 u.2 u.4 in

@@ -5,7 +5,8 @@ use Rattle.buffa_bytes.specs.declared.wire_type.WireType.{WireType}
 use Rattle.buffa_bytes.specs.declared.error.DecodeError.{DecodeError}
 use Rattle.buffa_bytes.specs.declared.error.EncodeError.{EncodeError}
 use Rattle.buffa_wire.specs.BudgetLeft.{BudgetLeft, nothing}
-use Rattle.buffa_bytes.specs.Gives.{FullOnlyIf}
+use Rattle.buffa_bytes.specs.Gives.{FullOnlyIf, Gives}
+use Rattle.buffa_bytes.specs.Front.{skip_at}
 use Rattle.buffa_bytes.specs.Number.{IsNumber}
 use Rattle.buffa_wire.specs.Parse.{Fits}
 use Rattle.buffa_wire.specs.Cache.{Cache}
@@ -24,6 +25,8 @@ pub record Shape (P X : Type 0) : Type 1 where
   pub takes : Taker X
   -- what is told of the number and the wire type of a field: that the member takes it, or the fault
   pub checks : ℕ → WireType → Result (Unit {0}) DecodeError
+  -- what is said of a refused field: of its fault, and of the value then
+  pub refuses : ℕ → X → ℕ → WireType → List ℕ → DecodeError → X → Type 0
   pub asks : Asks
   pub need : Need
   pub records : ℕ → X → List (ℕ × Datum)
@@ -40,13 +43,14 @@ pub record ReadsBackTo {P X : Type 0} (s : Shape P X) : Type 0 where
 -- ---- what the calls of a message's members owe
 
 -- a member takes the field whose tag was read, or tells the fault of its wire type, and then it is as it was, and the
--- field is unread; memory runs out only where it may be asked for
+-- field is unread; memory runs out only where it may be asked for; a field is refused as the member says
 unfoldable pub Took : {P X : Type 0} → Shape P X → ℕ → P → ℕ → WireType → List ℕ → BudgetLeft → Result (Unit {0}) DecodeError → P → BudgetLeft → List ℕ → Type 0
 Took s d old n w bs before r new after rest =
     IsTaken s.takes s.need d (s.meaning old) n w bs before r (s.meaning new) after rest
     × FullOnlyIf r (s.asks d n w bs) × ((e : DecodeError) → s.checks n w ≡ Err e → (r ≡ Err e) × (s.meaning old ≡ s.meaning new) × (bs ≡ rest))
+    × ((e : DecodeError) → r ≡ Err e → s.refuses d (s.meaning old) n w bs e (s.meaning new))
 
--- a field that isn't declared is kept, or passed over, which takes no memory; one that is refused changes and spends nothing
+-- a field that isn't declared is kept; one that is refused changes and spends nothing
 unfoldable pub Kept : ℕ → List (ℕ × Datum) → ℕ → WireType → List ℕ → BudgetLeft → Result (Unit {0}) DecodeError → List (ℕ × Datum) → BudgetLeft → List ℕ → Type 0
 Kept d old n w bs before r new after rest =
     IsTaken keep_takes keep_need d old n w bs before r new after rest × MatchResult r (λ _. Unit {0}) (λ _. old ≡ new)
@@ -55,8 +59,9 @@ Kept d old n w bs before r new after rest =
 abbrev pub passes : Taker (Unit {0})
 passes d v n w p = Some v
 
+-- or it is passed over, or refused by its fault; nothing is spent
 unfoldable pub Passed : ℕ → ℕ → WireType → List ℕ → BudgetLeft → Result (Unit {0}) DecodeError → BudgetLeft → List ℕ → Type 0
-Passed d n w bs before r after rest = IsTaken passes costs_nothing d tt n w bs before r tt after rest × FullOnlyIf r ⊥
+Passed d n w bs before r after rest = Gives (λ _. rest) r (skip_at d n w bs) × (before ≡ after)
 
 -- What a visitor has seen: records, and sizes of messages in them, since it stood behind these bytes of a sink and
 -- before this cache; both are lent, and known by names.

@@ -19,7 +19,7 @@ use Rattle.buffa_wire.specs.Kept.{keep_need}
 use Rattle.buffa_fields.specs.Keep.{KeepTakesMemory, keep_takes}
 use Rattle.buffa_fields.specs.PairLaws.{first_taken, other_taken}
 use Rattle.buffa_wire.specs.Takes.{IsTaken, Need, Taker, cost_of, costs_nothing, merged_of}
-use Rattle.buffa_wire.proofs.TakesLemmas.{back as leads_back, taken_full, taken_merges}
+use Rattle.buffa_wire.proofs.TakesLemmas.{back as leads_back, skipped, skipped_full, taken_full, taken_merges}
 use Rattle.buffa_wire.proofs.EncodingLemmas.{records_encoding-append}
 
 -- ---- one member takes the field, or one of the others
@@ -75,11 +75,12 @@ kept_asks d old n w bs before r new after rest h = h.2
 pub is_passed : (d n : ℕ) (w : WireType) (bs : List ℕ) (before : BudgetLeft) (r : Result (Unit {0}) DecodeError) (after : BudgetLeft) (rest : List ℕ) →
     Passed d n w bs before r after rest → IsTaken passes costs_nothing d tt n w bs before r tt after rest
 unfolding Passed
-is_passed d n w bs before r after rest h = h.0
+is_passed d n w bs before r after rest (gives, kept) =
+    subst (λ z. IsTaken passes costs_nothing d tt n w bs before r tt z rest) kept (skipped passes d tt n w bs rest before r (λ p. refl) gives)
 
 pub passed_asks : (d n : ℕ) (w : WireType) (bs : List ℕ) (before : BudgetLeft) (r : Result (Unit {0}) DecodeError) (after : BudgetLeft) (rest : List ℕ) → Passed d n w bs before r after rest → FullOnlyIf r ⊥
 unfolding Passed
-passed_asks d n w bs before r after rest h = h.1
+passed_asks d n w bs before r after rest (gives, kept) = skipped_full d n w bs rest r gives
 
 -- ---- what was seen
 pub more_none : (z : Seen) → z ≡ more [] [] z

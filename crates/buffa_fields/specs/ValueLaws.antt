@@ -14,11 +14,12 @@ use Rattle.buffa_wire.specs.BudgetLeft.{BudgetLeft}
 use Rattle.buffa_bytes.specs.Field.{Payload, IsTag}
 use Rattle.buffa_wire.specs.Message.{IsLimit}
 use Rattle.buffa_bytes.specs.Number.{IsNumber}
+use Rattle.buffa_bytes.specs.Front.{check_wire}
 use Rattle.buffa_bytes.specs.WireType.{same_wire, wire_number}
 use Rattle.buffa_map.proofs.EntryLemmas.{same_false, value_complete, value_sound}
 use Rattle.buffa_map.specs.Codec.{Reading, RefusesValue, Spends, Tells, ValueFault, Writing, level, value_at}
 use Rattle.buffa_wire.specs.Takes.{IsTaken, Piece, ReadsBack, joined}
-use Rattle.buffa_fields.specs.Values.{IfThere, all_of, free, records_unless, some_records, some_taken, value_taken}
+use Rattle.buffa_fields.specs.Values.{IfThere, all_of, field_value_at, free, records_unless, some_records, some_taken, value_taken}
 use Rattle.buffa_bytes.proofs.FieldLemmas.{wire_small, same_refl}
 use Rattle.buffa_wire.specs.Records.{Datum}
 use Rattle.buffa_wire.specs.Encoding.{records_encoding, tagged_encoding}
@@ -100,6 +101,14 @@ module _ {V : Type 0} (codec : Reading V) (plain : codec.nested ≡ false)
     ),
     λ no end. let there = subst (λ z. IsOk (content_at z bs)) (sym wire ∙ end) (full no) in cc,
   )
+
+-- ---- a refused field
+module _ {V : Type 0} (codec : Reading V) (d : ℕ) (v : V) (n : ℕ) (w : WireType) (bs : List ℕ) where
+  pub wire_told : (e : DecodeError) → check_wire n codec.wire w ≡ Err e → field_value_at codec d v n w bs ≡ Err e
+  wire_told e h = rw h refl
+
+  pub value_told : (e : DecodeError) → check_wire n codec.wire w ≡ Ok tt → value_at codec d v bs ≡ Err e → field_value_at codec d v n w bs ≡ Err e
+  value_told e h k = rw (h, k) refl
 
 pub kept_by : {T : Type 0} (b : Bool) (r : Result T DecodeError) (left need over : BudgetLeft) → b ≡ false → Spends b r left need over → over ≡ left
 kept_by false r left need over h s = s

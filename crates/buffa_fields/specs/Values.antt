@@ -1,8 +1,12 @@
 -- Fields of one value, which a codec reads and writes.
 -- Source: the protobuf encoding guide, "Message Structure".
-use Rattle.std.specs.Prelude.{◌≡◌, ℕ, List, [], ◌∷◌, ◌++◌, Bool, true, false, Option, Some, None, Result, Ok, Err, if◌then◌else◌}
+use Rattle.std.specs.Prelude.{◌≡◌, ◌≢◌, ℕ, List, [], ◌∷◌, ◌++◌, Bool, true, false, Option, Some, None, Result, Ok, Err, if◌then◌else◌}
 use Rattle.std.specs.Option.{option_map}
 use Rattle.buffa_bytes.specs.declared.error.DecodeError.{DecodeError}
+use Rattle.buffa_bytes.specs.declared.error.DecodeError.TheVariants.{OutOfMemory}
+use Rattle.buffa_bytes.specs.declared.wire_type.WireType.{WireType}
+use Rattle.buffa_bytes.specs.Gives.{◌>>=◌}
+use Rattle.buffa_bytes.specs.Front.{check_wire}
 use Rattle.buffa_wire.specs.BudgetLeft.{nothing}
 use Rattle.buffa_wire.specs.Records.{Datum}
 use Rattle.buffa_bytes.specs.Values.{tag_encoding}
@@ -23,6 +27,18 @@ value_taken codec d v n w p = if same_wire codec.wire w then all_of (value_at co
 -- the same of a value that may be absent: each payload is read by itself
 abbrev pub some_taken : {V : Type 0} → Reading V → Taker (Option V)
 some_taken codec d v n w p = option_map (λ x. Some x) (value_taken codec d codec.blank n w p)
+
+-- the value that the field at the front makes of what stood, and what follows it; or its fault
+abbrev pub field_value_at : {V : Type 0} → Reading V → ℕ → V → ℕ → WireType → List ℕ → Result ((V × Bool) × List ℕ) DecodeError
+field_value_at codec d v n w bs = check_wire n codec.wire w >>= (λ _. value_at codec d v bs)
+
+-- a refused field changes nothing, and its fault is told, unless memory ran out; what is read starts with a value
+abbrev pub RefusesAlone : {V X : Type 0} → Reading V → (X → V) → ℕ → X → ℕ → WireType → List ℕ → DecodeError → X → Type 0
+RefusesAlone codec start d old n w bs e new = (old ≡ new) × (e ≢ OutOfMemory → field_value_at codec d (start old) n w bs ≡ Err e)
+
+-- of a refused field nothing more is said
+abbrev pub unsaid : {X : Type 0} → ℕ → X → ℕ → WireType → List ℕ → DecodeError → X → Type 0
+unsaid d old n w bs e new = Unit {0}
 
 -- it costs nothing
 abbrev pub free : Need

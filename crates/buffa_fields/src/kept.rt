@@ -1,8 +1,10 @@
 //! Fields that aren't declared.
 
-ghost use Rattle.std.specs.Prelude.{◌≡◌, IfOk, length};
+ghost use Rattle.std.specs.Prelude.{◌≡◌, ◌≢◌, ◌<◌, IfOk, length};
 ghost use Rattle.buffa_wire.specs.BudgetLeft.{budget_left};
 ghost use Rattle.buffa_bytes.specs.Gives.{FullOnlyIf, GivesUnlessFull};
+ghost use Rattle.buffa_bytes.specs.Left.{LeavesUnlessFull, past_no_payload};
+ghost use Rattle.buffa_bytes.specs.declared.wire_type.WireType.TheVariants.{StartGroup};
 ghost use Rattle.buffa_wire.specs.Passes.{cap};
 ghost use Rattle.buffa_wire.specs.RecordReading.{RecordTakesMemory, field_at};
 ghost use Rattle.buffa_wire.specs.Encoding.{records_encoding};
@@ -35,8 +37,15 @@ impl Model for KeptFields {
     ghost view = { λ m. m.fields.records };
 }
 
-// Reads the field whose tag was read, with so many unknown fields left, and says how many are left then.
-fn read_alone(
+/// Reads the field whose tag was read, with so many unknown fields left, and says how many are left then.
+///
+/// # Errors
+/// Those of [`decode_unknown_field`].
+///
+/// ```ignore
+/// let (kept, left) = read_alone(alloc, tag, buf, depth, budget.unknown_left())?;
+/// ```
+pub fn read_alone(
     alloc: Global,
     tag: Tag,
     buf: &mut &[u8],
@@ -47,6 +56,8 @@ fn read_alone(
         (field_at depth unknown tag.number tag.wire_type buf.old.now) }
     ensures full { FullOnlyIf result (RecordTakesMemory depth unknown tag.wire_type buf.old.now) }
     ensures number { IfOk result (λ x. x.0.number ≡ tag.number) }
+    ensures left { tag.wire_type ≢ StartGroup → 0 < unknown →
+        LeavesUnlessFull result (past_no_payload tag.wire_type buf.old.now) buf.new.now }
 {
     let mut own = Budget::new(unknown);
     let lent = DecodeContext {
@@ -101,6 +112,7 @@ pub(crate) fn kept_len(fields: &UnknownFields) -> u32
 /// ```ignore
 /// let answer = kept::pass(tag, buf, ctx);
 /// ```
+#[tactic(auto, unfolding(crate::specs::Layout::Passed))]
 pub fn pass(tag: Tag, buf: &mut &[u8], ctx: DecodeContext<'_>) -> Result<(), DecodeError>
     ensures { Passed ctx.entry.depth tag.number tag.wire_type buf.old.now ctx.entry.budget.now result
         (budget_left ctx.exit) buf.new.now }

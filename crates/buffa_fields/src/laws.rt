@@ -31,7 +31,7 @@ ghost use Rattle.buffa_fields.specs.RepeatedNested.{MessagesTakeMemory, messages
 ghost use Rattle.buffa_fields.specs.OrderedMaps.{KeysAscend};
 ghost use Rattle.buffa_fields.specs.MemberRecords.{entry_records, optional_records, plain_records};
 ghost use Rattle.buffa_wire.specs.Takes.{cost_of, merged_of};
-ghost use Rattle.buffa_fields.specs.Values.{IfThere, ValueTakesMemory, free, some_taken, value_taken};
+ghost use Rattle.buffa_fields.specs.Values.{IfThere, RefusesAlone, ValueTakesMemory, free, some_taken, value_taken};
 
 use crate::kind::Kind;
 use crate::map_member::MapOf;
@@ -64,6 +64,8 @@ pub fn plain_members_are_these<C: Kind>()
     ensures checks { (n : ℕ) (w : _) → ⟦<Plain<C> as Member>⟧.shape.checks n w ≡ check_wire n C.WIRE_TYPE w }
     ensures asks { (d n : ℕ) (w : _) (bs : List ℕ) → ⟦<Plain<C> as Member>⟧.shape.asks d n w bs
         ↔ (ValueTakesMemory C.reading d n w bs) }
+    ensures refuses { (d n : ℕ) (old new : _) (w : _) (bs : List ℕ) (e : _) →
+        ⟦<Plain<C> as Member>⟧.shape.refuses d old n w bs e new ↔ RefusesAlone C.reading (λ v. v) d old n w bs e new }
     ensures need { ⟦<Plain<C> as Member>⟧.shape.need ≡ free }
     ensures records { (n : ℕ) (v : _) → ⟦<Plain<C> as Member>⟧.shape.records n v
         ≡ plain_records C.is_blank C.datum n v }
@@ -80,6 +82,9 @@ pub fn optional_members_are_these<C: Kind>()
     ensures checks { (n : ℕ) (w : _) → ⟦<Optional<C> as Member>⟧.shape.checks n w ≡ check_wire n C.WIRE_TYPE w }
     ensures asks { (d n : ℕ) (w : _) (bs : List ℕ) → ⟦<Optional<C> as Member>⟧.shape.asks d n w bs
         ↔ (ValueTakesMemory C.reading d n w bs) }
+    ensures refuses { (d n : ℕ) (old new : _) (w : _) (bs : List ℕ) (e : _) →
+        ⟦<Optional<C> as Member>⟧.shape.refuses d old n w bs e new
+        ↔ RefusesAlone C.reading (λ _. C.reading.blank) d old n w bs e new }
     ensures need { ⟦<Optional<C> as Member>⟧.shape.need ≡ free }
     ensures records { (n : ℕ) (v : _) → ⟦<Optional<C> as Member>⟧.shape.records n v ≡ optional_records C.datum n v }
     ensures slots { (v : _) → ⟦<Optional<C> as Member>⟧.shape.slots v ≡ [] }

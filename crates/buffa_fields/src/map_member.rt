@@ -12,6 +12,7 @@ ghost use Rattle.buffa_map.specs.Encoding.{AllHold};
 ghost use Rattle.buffa_fields.specs.MapFields.{PairTakesMemory, entry_cost, entry_taken};
 ghost use Rattle.buffa_fields.specs.MapLaws.{distinct_put, map_back, map_stays};
 ghost use Rattle.buffa_fields.specs.MemberRecords.{entry_records};
+ghost use Rattle.buffa_fields.specs.Values.{unsaid};
 
 use crate::map::{map_len, take_entry, write_map};
 use crate::member::Member;
@@ -46,6 +47,7 @@ where
       blank = [];
       takes = entry_taken KC.reading VC.reading (put KC.Value.same);
       checks = λ n w. check_wire n LengthDelimited w;
+      refuses = unsaid;
       asks = PairTakesMemory KC.reading VC.reading;
       need = entry_cost KC.reading VC.reading (KC.COST + VC.COST);
       records = entry_records KC.writing VC.writing;

@@ -18,6 +18,7 @@ ghost use Rattle.buffa_fields.specs.MapLaws.{distinct_put, map_stays};
 ghost use Rattle.buffa_fields.specs.Nested.{FitsInside};
 ghost use Rattle.buffa_fields.specs.NestedMapLaws.{pairs_back};
 ghost use Rattle.buffa_fields.specs.NestedMaps.{pair_levels, pair_records, pair_slots};
+ghost use Rattle.buffa_fields.specs.Values.{unsaid};
 
 use crate::map::take_entry;
 use crate::member::Member;
@@ -96,6 +97,7 @@ where
       blank = [];
       takes = entry_taken KC.reading (message_reading N.blank_is N.merged N.cost) (put KC.Value.same);
       checks = λ n w. check_wire n LengthDelimited w;
+      refuses = unsaid;
       asks = PairTakesMemory KC.reading (message_reading N.blank_is N.merged N.cost);
       need = entry_cost KC.reading (message_reading N.blank_is N.merged N.cost) (KC.COST + N.COST);
       records = pair_records KC.writing N.encoding;

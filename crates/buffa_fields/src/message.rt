@@ -199,8 +199,12 @@ impl Visitor for Nothing {
     fn visit_kept(&mut self, _fields: &UnknownFields) {}
 }
 
-// Each member's encoding reads back.
-fn members_read_back<M: Fields>(message: &M)
+/// Each member's encoding reads back.
+///
+/// ```ignore
+/// members_read_back(message);
+/// ```
+pub fn members_read_back<M: Fields>(message: &M)
     ensures { M.layout.Owes }
 {
     let mut nothing = Nothing;

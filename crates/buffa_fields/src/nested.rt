@@ -15,7 +15,7 @@ ghost use Rattle.buffa_fields.specs.Calls.{ChecksWire, TakesIn, WritesMessage};
 ghost use Rattle.buffa_fields.specs.Nested.{FitsInside, MessageTakesMemory, message_cost, message_in, message_levels, message_records, message_slots, message_taken};
 ghost use Rattle.buffa_fields.specs.NestedLaws.{Tells, head, message_back, message_stays};
 ghost use Rattle.buffa_wire.specs.Takes.{IsTaken};
-ghost use Rattle.buffa_fields.specs.Values.{IfThere};
+ghost use Rattle.buffa_fields.specs.Values.{IfThere, unsaid};
 
 use crate::member::Member;
 use buffa_wire::{
@@ -136,6 +136,7 @@ impl<N: Message> Member for Nested<N> {
       blank = None;
       takes = message_taken N.blank_is N.merged;
       checks = λ n w. check_wire n LengthDelimited w;
+      refuses = unsaid;
       asks = MessageTakesMemory;
       need = message_cost N.cost;
       records = message_records N.encoding;

@@ -3,7 +3,7 @@
 ghost use Rattle.std.specs.Prelude.{[], None, refl, ◌==◌};
 ghost use Rattle.std.specs.Option.{option_map};
 ghost use Rattle.buffa_bytes.specs.Front.{check_wire};
-ghost use Rattle.buffa_fields.specs.Values.{IfThere, ValueTakesMemory, free, some_taken};
+ghost use Rattle.buffa_fields.specs.Values.{IfThere, RefusesAlone, ValueTakesMemory, free, some_taken};
 ghost use Rattle.buffa_fields.specs.ValueLaws.{some_back};
 ghost use Rattle.buffa_fields.specs.MemberRecords.{optional_records};
 
@@ -33,6 +33,7 @@ impl<C: Kind> Member for Optional<C> {
       blank = None;
       takes = some_taken C.reading;
       checks = λ n w. check_wire n C.WIRE_TYPE w;
+      refuses = RefusesAlone C.reading (λ _. C.reading.blank);
       asks = ValueTakesMemory C.reading;
       need = free;
       records = optional_records C.datum;

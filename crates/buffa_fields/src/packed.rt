@@ -10,7 +10,7 @@ ghost use Rattle.buffa_bytes.specs.Written.{Writes};
 ghost use Rattle.buffa_map.specs.Encoding.{saturated};
 ghost use Rattle.buffa_fields.specs.Lists.{Each, ElementsTakeMemory, check_list_wire, elements_taken, packed_records, packed_encoding};
 ghost use Rattle.buffa_fields.specs.ListLaws.{packed_back};
-ghost use Rattle.buffa_fields.specs.Values.{free};
+ghost use Rattle.buffa_fields.specs.Values.{free, unsaid};
 
 use crate::kind::Kind;
 use crate::list::take_elements;
@@ -163,6 +163,7 @@ impl<C: Packable> Member for Packed<C> {
       blank = [];
       takes = elements_taken C.reading;
       checks = λ n w. check_list_wire n C.WIRE_TYPE w;
+      refuses = unsaid;
       asks = ElementsTakeMemory C.reading;
       need = free;
       records = packed_records C.writing.encoding;

@@ -2,7 +2,7 @@
 
 ghost use Rattle.std.specs.Prelude.{[], ◌∷◌, refl, ◌==◌};
 ghost use Rattle.buffa_bytes.specs.Front.{check_wire};
-ghost use Rattle.buffa_fields.specs.Values.{ValueTakesMemory, free, value_taken};
+ghost use Rattle.buffa_fields.specs.Values.{RefusesAlone, ValueTakesMemory, free, value_taken};
 ghost use Rattle.buffa_fields.specs.ValueLaws.{plain_back};
 ghost use Rattle.buffa_fields.specs.MemberRecords.{plain_records};
 
@@ -32,6 +32,7 @@ impl<C: Kind> Member for Plain<C> {
       blank = C.Value.blank_is;
       takes = value_taken C.reading;
       checks = λ n w. check_wire n C.WIRE_TYPE w;
+      refuses = RefusesAlone C.reading (λ v. v);
       asks = ValueTakesMemory C.reading;
       need = free;
       records = plain_records C.is_blank C.datum;

@@ -3,7 +3,7 @@
 ghost use Rattle.std.specs.Prelude.{[], map, refl, ◌==◌};
 ghost use Rattle.buffa_fields.specs.Lists.{Each, ElementsTakeMemory, check_list_wire, element_records, elements_taken};
 ghost use Rattle.buffa_fields.specs.ListLaws.{elements_back};
-ghost use Rattle.buffa_fields.specs.Values.{free};
+ghost use Rattle.buffa_fields.specs.Values.{free, unsaid};
 
 use crate::kind::Kind;
 use crate::list::{elements_len, take_elements, write_elements};
@@ -32,6 +32,7 @@ impl<C: Kind> Member for Repeated<C> {
       blank = [];
       takes = elements_taken C.reading;
       checks = λ n w. check_list_wire n C.WIRE_TYPE w;
+      refuses = unsaid;
       asks = ElementsTakeMemory C.reading;
       need = free;
       records = element_records C.datum;

@@ -14,6 +14,7 @@ ghost use Rattle.buffa_fields.specs.Nested.{FitsInside, MessageTakesMemory, mess
 ghost use Rattle.buffa_fields.specs.RepeatedNested.{MessagesTakeMemory, messages_cost, messages_levels, messages_records, messages_slots, messages_taken};
 ghost use Rattle.buffa_fields.specs.RepeatedNestedLaws.{messages_back, messages_stay};
 ghost use Rattle.buffa_wire.specs.Takes.{IsTaken};
+ghost use Rattle.buffa_fields.specs.Values.{unsaid};
 
 use crate::member::Member;
 use crate::nested::{message_len, write_message};
@@ -140,6 +141,7 @@ impl<N: Message> Member for RepeatedNested<N> {
       blank = [];
       takes = messages_taken N.blank_is N.merged;
       checks = λ n w. check_wire n LengthDelimited w;
+      refuses = unsaid;
       asks = MessagesTakeMemory;
       need = messages_cost N.COST N.cost;
       records = messages_records N.encoding;

@@ -1,6 +1,6 @@
 //! The value of a field, by a codec.
 
-ghost use Rattle.std.specs.Prelude.{◌≡◌, ◌∷◌, ◌++◌, [], length};
+ghost use Rattle.std.specs.Prelude.{◌≡◌, ◌∷◌, ◌++◌, [], length, Err};
 ghost use Rattle.buffa_wire.specs.BudgetLeft.{budget_left};
 ghost use Rattle.buffa_bytes.specs.Gives.{FullOnlyIf};
 ghost use Rattle.buffa_bytes.specs.Number.{IsNumber};
@@ -11,7 +11,7 @@ ghost use Rattle.buffa_bytes.specs.Written.{Writes};
 ghost use Rattle.buffa_bytes.specs.Front.{check_wire};
 ghost use Rattle.buffa_fields.specs.Calls.{ChecksWire, TakesValue};
 ghost use Rattle.buffa_wire.specs.Takes.{IsTaken};
-ghost use Rattle.buffa_fields.specs.Values.{ValueTakesMemory, free, value_taken};
+ghost use Rattle.buffa_fields.specs.Values.{RefusesAlone, ValueTakesMemory, free, value_taken};
 
 use crate::kind::Kind;
 use buffa_map::map_codec::{MapCodec, MapValueDecode};
@@ -34,6 +34,8 @@ pub(crate) fn take_value<C: MapCodec>(
         buf.old.now) }
     ensures wire { ChecksWire tag C.WIRE_TYPE result (C.Value.meaning value.old) (C.Value.meaning value.new) buf.old
         buf.new }
+    ensures refused { (e : _) → result ≡ Err e → RefusesAlone C.reading (λ v. v) ctx.entry.depth (C.Value.meaning value.old)
+        tag.number tag.wire_type buf.old.now e (C.Value.meaning value.new) }
 {
     match check_wire_type(tag, C::WIRE_TYPE) {
         Ok(()) => {}

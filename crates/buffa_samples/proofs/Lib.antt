@@ -1,4 +1,5 @@
 pub mod NormalLemmas
+mod NumberLemmas
 pub mod PassedLemmas
 pub mod SortedLemmas
 pub mod TreeFieldLemmas

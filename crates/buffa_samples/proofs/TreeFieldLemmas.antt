@@ -20,9 +20,8 @@ use Rattle.buffa_map.proofs.NeedLemmas.{checked}
 use Rattle.buffa_map.specs.declared.map_entry.MapEntry.{MapEntry}
 use Rattle.buffa_wire.proofs.CostLemmas.{paid}
 use Rattle.buffa_wire.proofs.ByPayloadLemmas.{ByPayload, by_payload}
-use Rattle.buffa_samples.specs.Fields.{int32_field, skipped_field}
-use Rattle.buffa_samples.specs.Flat.{flat_field}
-use Rattle.buffa_samples.specs.FlatLaws.{flat_sound}
+use Rattle.buffa_samples.specs.Fields.{int32_field, skipped_field, value_field}
+use Rattle.buffa_samples.specs.FieldsLaws.{value_sound}
 use Rattle.buffa_samples.specs.Grown.{Grown, Kids, grown, kids, listed-kids}
 use Rattle.buffa_samples.specs.TreeLaws.{cost_is, merged_is, stays, tree_same, tree_sound, tree_stays}
 use Rattle.buffa_samples.specs.TreeMeaning.{ChildCost, ChildMeaning, IsChildMerged, child_at, cost, entry_need, merged, need, takes, tree_field, tree_need, with_child, with_label}
@@ -72,20 +71,20 @@ module _ (d : ℕ) (m : ChildMeaning) (c : ChildCost) where
   either true x y f g k h j = h
   either false x y f g k h j = j
 
-  as_label : (l : ℤ) (ks : Kids) (n : ℕ) (w : WireType) (bs : List ℕ) → n ≢ 2 → tree_field d m (grown l ks) n w bs ≡ (flat_field d l n w bs >>= keeping ks)
+  as_label : (l : ℤ) (ks : Kids) (n : ℕ) (w : WireType) (bs : List ℕ) → n ≢ 2 → tree_field d m (grown l ks) n w bs ≡ (value_field d l n w bs >>= keeping ks)
   as_label l ks n w bs other = rw (ne_eqb n 2 other) (either (n == 1) (int32_field 1 (with_label (grown l ks)) w bs) (skipped_field d (grown l ks) n w bs) (int32_field 1 (λ x. x) w bs) (skipped_field d l n w bs)
       (keeping ks) (label_read l ks w bs) (skipped_read l ks n w bs))
 
   no_need : (n : ℕ) (w : WireType) (bs : List ℕ) → n ≢ 2 → tree_need d m c n w bs ≡ nothing
   no_need n w bs other = rw (ne_eqb n 2 other) refl
 
-  pub label_paid : (r : Result (Unit {0}) DecodeError) (l new : ℤ) (ks : Kids) (n : ℕ) (w : WireType) (bs rest : List ℕ) (left : BudgetLeft) → n ≢ 2 → Gives (λ _. (new, rest)) r (flat_field d l n w bs) →
+  pub label_paid : (r : Result (Unit {0}) DecodeError) (l new : ℤ) (ks : Kids) (n : ℕ) (w : WireType) (bs rest : List ℕ) (left : BudgetLeft) → n ≢ 2 → Gives (λ _. (new, rest)) r (value_field d l n w bs) →
       TreePaid r (grown l ks) (grown new ks) n w bs rest left left
   label_paid (Ok x) l new ks n w bs rest left other h =
       let need = no_need n w bs other in
       (as_label l ks n w bs other ∙ rw h refl, (omega (arith, ap (λ z. z.unknown) need), omega (arith, ap (λ z. z.memory) need)))
   label_paid (Err e) l new ks n w bs rest left other h =
-      ((omega arith, omega arith, omega arith, omega arith), λ ne. inr (e, as_label l ks n w bs other ∙ rw h refl, agree_err (flat_field d l n w bs) e (flat_sound d l n w bs) h))
+      ((omega arith, omega arith, omega arith, omega arith), λ ne. inr (e, as_label l ks n w bs other ∙ rw h refl, agree_err (value_field d l n w bs) e (value_sound d l n w bs) h))
 
   -- a field of number 2 and another wire type
   no_mismatch : (w : WireType) (e : DecodeError) → check_wire 2 LengthDelimited w ≡ Err e → NoLimit e
@@ -149,7 +148,7 @@ module _ (n : ℕ) (w : WireType) (bs rest : List ℕ) (before after : BudgetLef
         (as_merged d (refused e) (grown l (kids es)) (grown l (kids new)) (err_paid d (merged_in merged d) (cost_in cost d) l es w bs e n (grown l (kids new)) rest before after two wire p why))
 
 module _ (n : ℕ) (w : WireType) (bs rest : List ℕ) (left : BudgetLeft) (d : ℕ) (old : Grown) where
-  pub label_merged : (l : ℤ) (es : List (ℤ × Grown)) → grown l (kids es) ≡ old → (r : Result (Unit {0}) DecodeError) (new : ℤ) → n ≢ 2 → Gives (λ _. (new, rest)) r (flat_field d l n w bs) →
+  pub label_merged : (l : ℤ) (es : List (ℤ × Grown)) → grown l (kids es) ≡ old → (r : Result (Unit {0}) DecodeError) (new : ℤ) → n ≢ 2 → Gives (λ _. (new, rest)) r (value_field d l n w bs) →
       IsFieldMerged merged cost d old n w bs left r (grown new (kids es)) left rest
   label_merged l es is r new other h =
       subst (λ z. IsFieldMerged merged cost d z n w bs left r (grown new (kids es)) left rest) is

@@ -11,7 +11,7 @@ use Rattle.buffa_map.specs.Scalars.{delimited_writing}
 use Rattle.buffa_map.specs.Encoding.{field_size, field_encoding}
 use Rattle.buffa_map.proofs.MessageFieldLemmas.{small_field}
 use Rattle.buffa_map.proofs.SizeLemmas.{length-field_encoding}
-use Rattle.buffa_samples.specs.Flat.{value_encoding}
+use Rattle.buffa_samples.specs.Fields.{value_encoding}
 use Rattle.buffa_samples.specs.Grown.{Grown, grown, height, heights, kids}
 use Rattle.buffa_samples.specs.TreeEncoding.{key_writing, meant, meant-is, slots, slots-field, encoding, kids_encoding-field}
 

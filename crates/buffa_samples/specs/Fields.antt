@@ -1,8 +1,9 @@
 -- Single fields of the samples: how each is read, and its encoding.
 -- Source: the protobuf encoding guide, "Message Structure".
-use Rattle.std.specs.Prelude.{ℕ, zero, suc, ℤ, pos, negsuc, List, [], ◌∷◌, ◌++◌, Result, Ok}
+use Rattle.std.specs.Prelude.{ℕ, zero, suc, ◌==◌, ℤ, pos, negsuc, List, [], ◌∷◌, ◌++◌, Result, Ok, if◌then◌else◌}
 use Rattle.buffa_bytes.specs.Gives.{◌>>=◌}
 use Rattle.buffa_bytes.specs.Front.{check_wire, skip_at, varint_at}
+use Rattle.buffa_wire.specs.ByField.{FieldReader}
 use Rattle.buffa_wire.specs.Records.{Datum, varint}
 use Rattle.buffa_bytes.specs.Values.{int32_at, int32_encoding, tag_encoding}
 use Rattle.std.specs.Int.{cast_unsigned, w64}
@@ -22,6 +23,10 @@ int32_field n put w bs = check_wire n Varint w >>= (λ _. int32_at bs >>= (λ x.
 abbrev pub skipped_field : {X : Type 0} → ℕ → X → ℕ → WireType → List ℕ → Result (X × List ℕ) DecodeError
 skipped_field d v n w bs = skip_at d n w bs >>= (λ rest. Ok (v, rest))
 
+-- a field of number 1 is the value, an int32, and any other is passed over
+abbrev pub value_field : ℕ → FieldReader ℤ
+value_field d v n w bs = if n == 1 then int32_field 1 (λ x. x) w bs else skipped_field d v n w bs
+
 -- the encoding of an int32 field of number n, which isn't written at 0
 abbrev pub number_encoding : ℕ → ℤ → List ℕ
 number_encoding n (pos zero) = []
@@ -33,3 +38,10 @@ abbrev pub number_records : ℕ → ℤ → List (ℕ × Datum)
 number_records n (pos zero) = []
 number_records n (pos (suc k)) = (n, varint (cast_unsigned w64 (pos (suc k)))) ∷ []
 number_records n (negsuc k) = (n, varint (cast_unsigned w64 (negsuc k))) ∷ []
+
+-- the same of field 1
+abbrev pub value_encoding : ℤ → List ℕ
+value_encoding v = number_encoding 1 v
+
+abbrev pub value_records : ℤ → List (ℕ × Datum)
+value_records v = number_records 1 v

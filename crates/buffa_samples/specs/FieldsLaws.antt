@@ -1,5 +1,5 @@
 -- What is proved of single fields of the samples.
-use Rattle.std.proofs.Common.{◌≡◌, ◌≢◌, inl, inr, ℤ, FitsSigned, pos, negsuc, ℕ, ◌+◌, ◌*◌, zero, suc, ◌<◌, ◌≤◌, Bool, true, false, List, [], ◌∷◌, ◌++◌, length, Some, Result, Ok, Err, refl, sym, ap, subst, ◌∙◌, arith, append_assoc, append-nil, length-append, if◌then◌else◌}
+use Rattle.std.proofs.Common.{◌≡◌, ◌≢◌, inl, inr, ℤ, FitsSigned, pos, negsuc, ℕ, ◌+◌, ◌*◌, ◌==◌, zero, suc, ◌<◌, ◌≤◌, Bool, true, false, List, [], ◌∷◌, ◌++◌, length, Some, Result, Ok, Err, refl, sym, ap, subst, ◌∙◌, arith, append_assoc, append-nil, length-append, if◌then◌else◌}
 use Rattle.buffa_bytes.specs.Gives.{◌>>=◌, FullOnlyIf, Gives}
 use Rattle.buffa_bytes.specs.Field.{IsTag, Payload}
 use Rattle.buffa_bytes.specs.Join.Join.{more}
@@ -13,7 +13,7 @@ use Rattle.buffa_bytes.specs.declared.wire_type.WireType.{WireType}
 use Rattle.buffa_bytes.specs.declared.wire_type.WireType.TheVariants.{Varint, Fixed64, LengthDelimited, StartGroup, EndGroup, Fixed32}
 use Rattle.buffa_bytes.specs.declared.error.DecodeError.{DecodeError}
 use Rattle.buffa_bytes.specs.declared.error.DecodeError.TheVariants.{OutOfMemory, WireTypeMismatch}
-use Rattle.buffa_bytes.proofs.StepLemmas.{Agrees, agree_bind}
+use Rattle.buffa_bytes.proofs.StepLemmas.{Agrees, agree_bind, agree_if}
 use Rattle.buffa_bytes.proofs.FieldLemmas.{payload_complete, payload_sound}
 use Rattle.buffa_bytes.proofs.IntLemmas.{int32_below}
 use Rattle.buffa_bytes.proofs.ShortestLemmas.{varint_encoding-last, ten_at_most}
@@ -25,7 +25,7 @@ use Rattle.buffa_wire.proofs.SequenceLemmas.{ok_same, parse_keeps}
 use Rattle.buffa_map.proofs.EntryLemmas.{check_sound}
 use Rattle.buffa_wire.specs.ByField.{FieldReader, merged_by, next_at}
 use Rattle.buffa_wire.proofs.ByFieldLemmas.{IsSame, IsSound, Same, read, some_of}
-use Rattle.buffa_samples.specs.Fields.{int32_field, number_records, number_encoding, skipped_field, varint_field}
+use Rattle.buffa_samples.specs.Fields.{int32_field, number_records, number_encoding, skipped_field, value_field, varint_field}
 use Rattle.buffa_wire.proofs.EncodingLemmas.{records_encoding-append}
 
 -- ---- fields that are passed over
@@ -113,6 +113,12 @@ pub full_not_at_end : {X T : Type 0} (field : FieldReader X) → Ends field → 
     Gives (λ _. (new, rest)) r (field old n w bs) → FullOnlyIf r (w ≢ EndGroup)
 full_not_at_end field ends (Ok x) old new n w bs rest h = tt
 full_not_at_end field ends (Err e) old new n w bs rest h = λ full is. ends old n bs (ap (λ z. field old n z bs) (sym is) ∙ h ∙ ap (λ z. Err z) full)
+
+pub value_sound : (d : ℕ) → IsSound d (value_field d)
+value_sound d v n w bs = agree_if (n == 1) (λ _. int32_sound d n 1 (λ x. x) w bs) (λ _. skipped_sound d v n w bs)
+
+pub value_ends : (d : ℕ) → Ends (value_field d)
+value_ends d v n bs = ends_if (n == 1) (int32_field 1 (λ x. x) EndGroup bs) (skipped_field d v n EndGroup bs) (int32_ends 1 (λ x. x) bs) (skipped_ends d v n bs)
 
 -- ---- the encoding of an int32 field
 pub zero_encoding : (n : ℕ) (v : ℤ) → v ≡ pos 0 → number_encoding n v ≡ []

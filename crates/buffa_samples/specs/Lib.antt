@@ -1,15 +1,10 @@
 pub mod Letters
 pub mod Fields
 pub mod FieldsLaws
-pub mod Flat
-pub mod FlatLaws
-pub mod Two
-pub mod TwoLaws
+pub mod Numbers
 pub mod Count
 pub mod CountLaws
-pub mod Keep
 pub mod Passed
-pub mod KeepLaws
 pub mod Grown
 pub mod GrownFacts
 pub mod TreeEncoding

@@ -27,7 +27,7 @@ use Rattle.buffa_map.specs.declared.map_entry.MapEntry.{MapEntry}
 use Rattle.buffa_wire.specs.ByField.{merged_by}
 use Rattle.buffa_wire.proofs.ByFieldLemmas.{empty, read}
 use Rattle.buffa_samples.specs.FieldsLaws.{number_read}
-use Rattle.buffa_samples.specs.Flat.{value_encoding}
+use Rattle.buffa_samples.specs.Fields.{value_encoding}
 use Rattle.buffa_samples.specs.Grown.{Grown, grown, Kids, no_kids, kid, kids, kids_of, kids-listed, listed, listed-kids}
 use Rattle.buffa_samples.specs.TreeLaws.{tree_same, tree_sound}
 use Rattle.buffa_samples.specs.TreeMeaning.{ChildMeaning, child_at, child_reading, key_reading, merged, tree_field}

@@ -14,7 +14,7 @@ use Rattle.buffa_map.specs.MessageField.{field_slots}
 use Rattle.buffa_map.specs.Pairs.{means}
 use Rattle.buffa_map.specs.Scalars.{delimited_writing, varint_writing}
 use Rattle.buffa_map.specs.Encoding.{entry_encoding, field_encoding, record_encoding}
-use Rattle.buffa_samples.specs.Flat.{value_records, value_encoding}
+use Rattle.buffa_samples.specs.Fields.{value_records, value_encoding}
 use Rattle.buffa_samples.specs.Grown.{Grown, grown, Kids, no_kids, kid, kids, listed}
 
 -- keys are int32

@@ -22,10 +22,9 @@ use Rattle.buffa_map.specs.declared.map_entry.MapEntry.{MapEntry}
 use Rattle.buffa_wire.proofs.TakesLemmas.{cost_by_is, merged_by_is}
 use Rattle.buffa_wire.specs.ByField.{FieldReader}
 use Rattle.buffa_wire.specs.Takes.{Stays, cost_of, merged_of}
-use Rattle.buffa_samples.specs.Fields.{int32_field, skipped_field}
+use Rattle.buffa_samples.specs.Fields.{int32_field, skipped_field, value_encoding, value_records}
 use Rattle.buffa_wire.proofs.ByFieldLemmas.{IsSame, IsSound, Same}
 use Rattle.buffa_samples.specs.FieldsLaws.{both_records, int32_same, int32_sound, number_encoding_records, same_if, skipped_same, skipped_sound}
-use Rattle.buffa_samples.specs.Flat.{value_records, value_encoding}
 use Rattle.buffa_samples.specs.Grown.{Grown, grown, Kids, no_kids, kid}
 use Rattle.buffa_samples.specs.TreeMeaning.{ChildCost, ChildMeaning, child_at, child_field, child_need, child_reading, cost, key_reading, merged, need, takes, tree_field, tree_need, with_child, with_label}
 use Rattle.buffa_samples.specs.TreeEncoding.{kid_record, kids_records, records, encoding, kids_encoding}

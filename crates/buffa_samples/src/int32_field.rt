@@ -1,14 +1,37 @@
 //! Fields of an int32 in messages, which aren't written at 0.
 
-ghost use Rattle.std.specs.Prelude.{◌≡◌, ◌<◌, ◌≤◌, ◌++◌, length};
+ghost use Rattle.std.specs.Prelude.{◌≡◌, ◌<◌, ◌≤◌, ◌++◌, length, OnErr};
 ghost use Rattle.buffa_bytes.specs.declared.wire_type.WireType.TheVariants.{Varint};
 ghost use Rattle.buffa_bytes.specs.Number.{IsNumber};
 ghost use Rattle.buffa_bytes.specs.Values.{int32_encoding, tag_encoding};
 ghost use Rattle.buffa_bytes.specs.Written.{Writes};
-ghost use Rattle.buffa_samples.specs.Fields.{number_encoding};
+ghost use Rattle.buffa_bytes.specs.Gives.{Gives};
+ghost use Rattle.buffa_samples.specs.Fields.{number_encoding, value_field};
 
-use buffa_wire::types::{encode_int32, int32_encoded_len};
-use buffa_wire::{EncodeError, EncodeSink, Tag, WireType};
+use buffa_wire::types::{decode_int32, encode_int32, int32_encoded_len};
+use buffa_wire::{
+    DecodeError, EncodeError, EncodeSink, Tag, WireType, check_wire_type, skip_field_depth,
+};
+
+// Merges the field whose tag was read: field 1 is the value, any other is passed over.
+pub(crate) fn merge_value(
+    value: &mut i32,
+    tag: Tag,
+    buf: &mut &[u8],
+    depth: u32,
+) -> Result<(), DecodeError>
+    ensures gives { Gives (λ _. (value.new, buf.new.now)) result
+        (value_field depth value.old tag.number tag.wire_type buf.old.now) }
+    ensures stays { OnErr result (value.new ≡ value.old) }
+{
+    if tag.field_number() == 1 {
+        check_wire_type(tag, WireType::Varint)?;
+        *value = decode_int32(buf)?;
+    } else {
+        skip_field_depth(tag, buf, depth)?;
+    }
+    Ok(())
+}
 
 // The length of a field of a number below 16, also at 0.
 fn len_at(number: u32, value: i32) -> u32

@@ -1,25 +1,27 @@
 //! What the definitions of the samples say together: laws, as in [`laws`](buffa_wire).
 
-ghost use Rattle.std.specs.Prelude.{◌≡◌, ◌↔◌, ◌<◌, ◌+◌, ◌^◌, ℕ, ℤ, FitsSigned, List, [], ◌∷◌, None, Some, map, pos, string_bytes};
+ghost use Rattle.std.specs.Prelude.{◌≡◌, ◌↔◌, ◌<◌, ◌+◌, ◌^◌, ℕ, FitsSigned, List, [], ◌∷◌, ◌++◌, None, OnErr, Some, map, pos, string_bytes};
 ghost use Rattle.std.specs.Hash as fed;
 ghost use Rattle.std.specs.Int.{w32};
 ghost use Rattle.std.specs.Ordering.{int_cmp};
 ghost use Rattle.buffa_bytes.specs.Pinned.{IsCopied, SameIsOne};
+ghost use Rattle.buffa_fields.specs.Keep.{keep_takes};
+ghost use Rattle.buffa_wire.specs.Takes.{cost_of, merged_of};
+ghost use Rattle.buffa_wire.specs.BudgetLeft.{nothing};
 ghost use Rattle.buffa_wire.specs.Enums.{numbers};
-ghost use Rattle.buffa_wire.specs.Parse.{Fits};
-ghost use Rattle.buffa_wire.specs.Records.{Datum, height, records_of};
+ghost use Rattle.buffa_wire.specs.Kept.{keep_need};
+ghost use Rattle.buffa_wire.specs.Records.{Datum, height};
 ghost use Rattle.buffa_wire.specs.Encoding.{records_encoding};
 ghost use Rattle.buffa_samples.specs.Count.{count_cost, count_merged, count_records, count_encoding};
-ghost use Rattle.buffa_samples.specs.Flat.{flat_cost, flat_merged, value_records, value_encoding};
+ghost use Rattle.buffa_samples.specs.Fields.{number_encoding, number_records, value_encoding, value_field, value_records};
 ghost use Rattle.buffa_samples.specs.Grown.{Grown, grown, kids, no_kids};
 ghost use Rattle.buffa_samples.specs.Hues.{first_numbers};
-ghost use Rattle.buffa_samples.specs.Keep.{keep_cost, keep_merged};
 ghost use Rattle.buffa_samples.specs.Letters.{lower, same_letters};
+ghost use Rattle.buffa_samples.specs.Numbers.{IsReadAlone, flat_takes, two_field, two_takes};
 ghost use Rattle.buffa_samples.specs.Passed.{proxy};
 ghost use Rattle.buffa_samples.specs.Pinned.{PassIsPinned, TripIsPinned};
 ghost use Rattle.buffa_samples.specs.TreeMeaning.{cost, merged};
 ghost use Rattle.buffa_samples.specs.TreeEncoding.{IsNormal, encoding, levels, records, slots};
-ghost use Rattle.buffa_samples.specs.Two.{two_cost, two_merged, two_records, two_encoding};
 
 use crate::count::CountMsg;
 use crate::flat::FlatMsg;
@@ -29,8 +31,10 @@ use crate::passed_on::{Pass, Way};
 use crate::tree::Tree;
 use crate::two::TestMsg;
 use crate::word::Word;
+use buffa_fields::fields::Fields;
+use buffa_fields::message::members_read_back;
 use buffa_map::map_codec::{MapCodec, MapStorage};
-use buffa_wire::{Blank, Enumeration, MapKey, MessageSpec, ProtoString, UnknownFields};
+use buffa_wire::{Blank, Enumeration, MapKey, MessageSpec, ProtoString};
 use std::collections::BTreeMap;
 use std::hash::Hash;
 
@@ -43,13 +47,17 @@ pub fn trees_stay_normal()
 
 /// Which message each sample is: what bytes make of it, what they cost, and its encoding. Nothing is open.
 pub fn messages_are_these()
-    ensures flat { (⟦<FlatMsg as MessageSpec>⟧.merged ≡ flat_merged) × (⟦<FlatMsg as MessageSpec>⟧.cost ≡ flat_cost) }
-    ensures flat_encoding { ⟦<FlatMsg as MessageSpec>⟧.encoding ≡ value_encoding }
-    ensures two { (⟦<TestMsg as MessageSpec>⟧.merged ≡ two_merged) × (⟦<TestMsg as MessageSpec>⟧.cost ≡ two_cost) }
-    ensures two_encoding { ⟦<TestMsg as MessageSpec>⟧.encoding ≡ two_encoding }
+    ensures flat { ⟦<FlatMsg as MessageSpec>⟧.merged ≡ merged_of flat_takes }
+    ensures flat_encoding { (v : _) → ⟦<FlatMsg as MessageSpec>⟧.encoding v ≡ value_encoding v.0 }
+    ensures two { ⟦<TestMsg as MessageSpec>⟧.merged ≡ merged_of two_takes }
+    ensures two_encoding { (v : _) → ⟦<TestMsg as MessageSpec>⟧.encoding v
+        ≡ number_encoding 1 v.0 ++ number_encoding 2 v.1.0 }
+    ensures flat_cost { (d : ℕ) (bs : List ℕ) → ⟦<FlatMsg as MessageSpec>⟧.cost d bs ≡ nothing }
+    ensures two_cost { (d : ℕ) (bs : List ℕ) → ⟦<TestMsg as MessageSpec>⟧.cost d bs ≡ nothing }
     ensures count { (⟦<CountMsg as MessageSpec>⟧.merged ≡ count_merged) × (⟦<CountMsg as MessageSpec>⟧.cost ≡ count_cost) }
     ensures count_encoding { ⟦<CountMsg as MessageSpec>⟧.encoding ≡ count_encoding }
-    ensures keep { (⟦<BudgetMsg as MessageSpec>⟧.merged ≡ keep_merged) × (⟦<BudgetMsg as MessageSpec>⟧.cost ≡ keep_cost) }
+    ensures keep { (⟦<BudgetMsg as MessageSpec>⟧.merged ≡ merged_of keep_takes)
+        × (⟦<BudgetMsg as MessageSpec>⟧.cost ≡ cost_of keep_need) }
     ensures keep_encoding { ⟦<BudgetMsg as MessageSpec>⟧.encoding ≡ records_encoding }
     ensures tree { (⟦<Tree as MessageSpec>⟧.merged ≡ merged) × (⟦<Tree as MessageSpec>⟧.cost ≡ cost) }
     ensures tree_encoding { ⟦<Tree as MessageSpec>⟧.encoding ≡ encoding }
@@ -59,8 +67,9 @@ pub fn messages_are_these()
     ensures numbers_cost { (⟦<FlatMsg as MessageSpec>⟧.COST ≡ 4) × (⟦<TestMsg as MessageSpec>⟧.COST ≡ 32) }
     ensures lists_cost { (⟦<CountMsg as MessageSpec>⟧.COST ≡ 8) × (⟦<BudgetMsg as MessageSpec>⟧.COST ≡ 24) }
     ensures tree_costs { ⟦<Tree as MessageSpec>⟧.COST ≡ 32 }
-    ensures numbers_records { (⟦<FlatMsg as MessageSpec>⟧.records ≡ value_records)
-        × (⟦<TestMsg as MessageSpec>⟧.records ≡ two_records) }
+    ensures flat_records { (v : _) → ⟦<FlatMsg as MessageSpec>⟧.records v ≡ value_records v.0 }
+    ensures two_records { (v : _) → ⟦<TestMsg as MessageSpec>⟧.records v
+        ≡ number_records 1 v.0 ++ number_records 2 v.1.0 }
     ensures lists_records { (⟦<CountMsg as MessageSpec>⟧.records ≡ count_records)
         × (⟦<BudgetMsg as MessageSpec>⟧.records ≡ (λ rs. rs)) }
     ensures tree_records { ⟦<Tree as MessageSpec>⟧.records ≡ records }
@@ -68,10 +77,10 @@ pub fn messages_are_these()
 
 /// What the values of the samples of numbers mean: their fields. Nothing is open.
 pub fn messages_mean_these()
-    ensures flat { (m : FlatMsg) → ⟦<FlatMsg as Blank>⟧.meaning m ≡ m.value }
-    ensures two { (m : TestMsg) → ⟦<TestMsg as Blank>⟧.meaning m ≡ (m.a, m.b) }
+    ensures flat { (m : FlatMsg) → ⟦<FlatMsg as Blank>⟧.meaning m ≡ (m.value, tt) }
+    ensures two { (m : TestMsg) → ⟦<TestMsg as Blank>⟧.meaning m ≡ (m.a, (m.b, tt)) }
     ensures count { (m : CountMsg) → ⟦<CountMsg as Blank>⟧.meaning m ≡ m.count }
-    ensures keep { (m : BudgetMsg) → ⟦<BudgetMsg as Blank>⟧.meaning m ≡ m }
+    ensures keep { (m : BudgetMsg) → ⟦<BudgetMsg as Blank>⟧.meaning m ≡ m.fields.records }
     ensures tree { (m : Tree) → ⟦<Tree as Blank>⟧.meaning m ≡ m }
 {}
 
@@ -82,27 +91,37 @@ pub fn trees_hold_these(tree: &Tree) -> (&i32, &BTreeMap<i32, Tree>)
     (&tree.label, &tree.children)
 }
 
-/// What a message that keeps every field means is what its field holds. Nothing is open.
-pub fn kept_fields_are_held(message: &BudgetMsg) -> &UnknownFields
-    ensures { message.now ≡ result.now.records }
-{
-    &message.fields
-}
+/// A field of the samples of numbers is merged as its bytes say, or refused by its fault; nothing is spent. What is
+/// refused changes nothing, where fields are kept, too, and spends nothing there. Open is what stands unread then.
+pub fn fields_are_read_alone()
+    ensures flat { (d n : ℕ) (old new : FlatMsg) (w : _) (bs rest : List ℕ) (a b : _) (r : _) →
+        ⟦<FlatMsg as Fields>⟧.layout.Taken d old n w bs a r new b rest →
+        IsReadAlone (value_field d old.value n w bs) old.value r new.value a b rest }
+    ensures two { (d n : ℕ) (old new : TestMsg) (w : _) (bs rest : List ℕ) (a b : _) (r : _) →
+        ⟦<TestMsg as Fields>⟧.layout.Taken d old n w bs a r new b rest →
+        IsReadAlone (two_field d (old.a, old.b) n w bs) (old.a, old.b) r (new.a, new.b) a b rest }
+    ensures keep { (d n : ℕ) (old new : BudgetMsg) (w : _) (bs rest : List ℕ) (a b : _) (r : _) →
+        ⟦<BudgetMsg as Fields>⟧.layout.Taken d old n w bs a r new b rest →
+        OnErr r ((new.fields.records ≡ old.fields.records) × (b ≡ a)) }
+{}
 
 /// Which values of each sample are read back from their encoding, and how deep it nests. Nothing is open.
-pub fn messages_are_read_back()
-    ensures flat { (v : ℤ) → ⟦<FlatMsg as MessageSpec>⟧.normal v ↔ FitsSigned w32 v }
-    ensures two { (v : ℤ × ℤ) → ⟦<TestMsg as MessageSpec>⟧.normal v ↔ (FitsSigned w32 v.0 × FitsSigned w32 v.1) }
+pub fn messages_are_read_back(flat: &FlatMsg, two: &TestMsg)
+    ensures flat { (v : _) → ⟦<FlatMsg as MessageSpec>⟧.normal v ↔ FitsSigned w32 v.0 }
+    ensures two { (v : _) → ⟦<TestMsg as MessageSpec>⟧.normal v ↔ (FitsSigned w32 v.0 × FitsSigned w32 v.1.0) }
     ensures count { (n : ℕ) → ⟦<CountMsg as MessageSpec>⟧.normal n ↔ (n < 2 ^ 64) }
-    ensures keep { (rs : List (ℕ × Datum)) → ⟦<BudgetMsg as MessageSpec>⟧.normal rs ↔ Fits (records_of rs) }
+    ensures keep { (rs : List (ℕ × Datum)) → ⟦<BudgetMsg as MessageSpec>⟧.normal rs }
     ensures tree { (t : Grown) → ⟦<Tree as MessageSpec>⟧.normal t ↔ IsNormal t }
     ensures deep { (⟦<BudgetMsg as MessageSpec>⟧.levels ≡ height) × (⟦<Tree as MessageSpec>⟧.levels ≡ levels) }
     ensures flat_levels { (⟦<FlatMsg as MessageSpec>⟧.levels ≡ (λ _. 0)) × (⟦<TestMsg as MessageSpec>⟧.levels ≡ (λ _. 0))
         × (⟦<CountMsg as MessageSpec>⟧.levels ≡ (λ _. 0)) }
-    ensures blank { (⟦<FlatMsg as Blank>⟧.blank_is ≡ pos 0) × (⟦<TestMsg as Blank>⟧.blank_is ≡ (pos 0, pos 0)) }
+    ensures blank { (⟦<FlatMsg as Blank>⟧.blank_is ≡ (pos 0, tt)) × (⟦<TestMsg as Blank>⟧.blank_is ≡ (pos 0, (pos 0, tt))) }
     ensures blank_lists { (⟦<CountMsg as Blank>⟧.blank_is ≡ 0) × (⟦<BudgetMsg as Blank>⟧.blank_is ≡ []) }
     ensures blank_tree { ⟦<Tree as Blank>⟧.blank_is ≡ grown (pos 0) no_kids }
-{}
+{
+    members_read_back(flat);
+    members_read_back(two);
+}
 
 /// Which numbers the two enums declare, among the first four, and by which values, and their default; `==`, `clone` and
 /// the order of their values. Nothing is open of these.

@@ -10,8 +10,7 @@ ghost use Rattle.buffa_wire.specs.Message.{BeginsField, IsFieldMerged, IsMerged}
 ghost use Rattle.buffa_samples.specs.TreeMeaning.{IsChildMerged, cost, merged};
 ghost use Rattle.buffa_samples.specs.TreeEncoding.{IsTreeWritten, encoding, key_writing, meant, slots};
 
-use crate::flat::merge_value;
-use crate::int32_field::{number_len, write_number};
+use crate::int32_field::{merge_value, number_len, write_number};
 use buffa_map::map_codec::{
     Int32, merge_message_entry_by, message_field_len_by, write_message_field_by,
 };

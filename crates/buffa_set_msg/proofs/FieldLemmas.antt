@@ -18,12 +18,36 @@ use Rattle.buffa_message_set.proofs.ItemLemmas.{both_true, read_sound}
 use Rattle.buffa_message_set.proofs.GroupLemmas.{item_no_limit}
 use Rattle.buffa_wire.proofs.CostLemmas.{paid}
 use Rattle.buffa_wire.specs.ByField.{value_of}
-use Rattle.buffa_samples.specs.KeepLaws.{keeps, keeps_no, read_not_at_end}
+use Rattle.buffa_fields.specs.Keep.{keep_takes}
+use Rattle.buffa_fields.specs.KeepLaws.{keep_ok, none_there}
+use Rattle.buffa_wire.specs.Takes.{answer, framed}
+use Rattle.buffa_wire.proofs.TakesLemmas.{framed_at, framed_err}
+use Rattle.buffa_wire.proofs.LoopLemmas.{field_end}
+use Rattle.buffa_wire.specs.Kept.{keep_need, kept_record_at}
+use Rattle.buffa_bytes.specs.Front.{skip_at}
 use Rattle.buffa_set_msg.specs.Set.{IsRefused, TakesSetField, item_field, item_of, record_of_field, set_cost, set_field, set_merged, set_need, starts}
 use Rattle.buffa_set_msg.specs.SetFacts.{set_same, set_sound, set_stays}
 
 start_no_end : (n : ℕ) (w : WireType) → starts n w ≡ true → w ≢ EndGroup
 start_no_end n w e is = let both = both_true n 1 StartGroup w e in let k = both.1 ∙ is in cc
+
+-- ---- a field that is kept
+module _ (d s n : ℕ) (w : WireType) (bs : List ℕ) where
+  keeps : (x : Datum) (left : ℕ) (rest : List ℕ) → field_at d s n w bs ≡ Ok (x, left, rest) → (v : List (ℕ × Datum)) →
+      (framed keep_takes d v n w bs ≡ Ok (v ++ (n, x) ∷ [], rest)) × (left + (keep_need d n w bs).unknown ≡ s) × ((keep_need d n w bs).memory ≡ 0)
+  keeps x left rest h v =
+      let t = keep_ok d s n w bs v (unknown_fields s) refl x left (v ++ (n, x) ∷ []) (unknown_fields left) rest h refl refl refl in
+      (ap (framed keep_takes d v n w) t.2 ∙ framed_at keep_takes d v n w t.0 rest t.1 ∙ ap (answer rest) t.3, omega (arith, t.4.0), omega (arith, t.4.1))
+
+  keeps_no : (v : List (ℕ × Datum)) (left : BudgetLeft) (e : DecodeError) → left.unknown ≡ s → field_at d s n w bs ≡ Err e →
+      Lacks left (keep_need d n w bs) ⊎ ((x : DecodeError) × (framed keep_takes d v n w bs ≡ Err x) × NoLimit e)
+  keeps_no v left e same h = elim (none_there d s n w bs v left (sym same) (kept_record_at d n w bs) refl e h) [
+    | inl few ↦ inl few
+    | inr bad ↦ inr (let u = framed_err keep_takes d v n w bs e bad.1 bad.0 (skip_at d n w bs) refl in u)
+  ]
+
+  read_not_at_end : (x : Datum × ℕ × List ℕ) → field_at d s n w bs ≡ Ok x → w ≢ EndGroup
+  read_not_at_end x h is = let k = sym (field_end d s n w bs is) ∙ h in cc
 
 -- ---- what it means for the records that there are
 

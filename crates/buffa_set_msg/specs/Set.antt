@@ -18,7 +18,8 @@ use Rattle.buffa_bytes.specs.WireType.{same_wire}
 use Rattle.buffa_message_set.specs.Item.{IsTypeId, item_at, item_in, item_encoding}
 use Rattle.buffa_wire.specs.ByField.{FieldNeed, FieldReader, cost_by, merged_by, value_of}
 use Rattle.buffa_wire.specs.Kept.{keep_need}
-use Rattle.buffa_samples.specs.Keep.{keep_field}
+use Rattle.buffa_fields.specs.Keep.{keep_takes}
+use Rattle.buffa_wire.specs.Takes.{framed}
 
 -- ---- merging
 
@@ -33,7 +34,7 @@ item_field (suc d) v bs = item_at d bs >>= (λ x. Ok (v ++ (x.0, bytes x.1) ∷ 
 
 -- any other field is kept as it is
 abbrev pub set_field : ℕ → FieldReader (List (ℕ × Datum))
-set_field d v n w bs = if starts n w then item_field d v bs else keep_field d v n w bs
+set_field d v n w bs = if starts n w then item_field d v bs else framed keep_takes d v n w bs
 
 abbrev pub set_merged : ℕ → List (ℕ × Datum) → List ℕ → Option (List (ℕ × Datum))
 set_merged d v bs = merged_by (set_field d) v bs

@@ -15,11 +15,11 @@ use Rattle.buffa_bytes.specs.Values.{tag_encoding}
 use Rattle.buffa_message_set.specs.Item.{IsReadAlike, IsTypeId, body_encoding, item_at, item_encoding}
 use Rattle.buffa_message_set.proofs.ItemLemmas.{both_true, in_range, read_complete, read_sound, written_item}
 use Rattle.buffa_message_set.proofs.GroupLemmas.{group_alike, item_group, item_no_limit}
-use Rattle.buffa_wire.specs.Takes.{Stays}
+use Rattle.buffa_wire.specs.Takes.{Stays, framed}
+use Rattle.buffa_wire.proofs.TakesLemmas.{framed_same, framed_sound}
 use Rattle.buffa_wire.proofs.ByFieldLemmas.{IsSame, IsSound, Same, empty, read}
-use Rattle.buffa_samples.specs.Keep.{keep_field}
+use Rattle.buffa_fields.specs.Keep.{keep_takes}
 use Rattle.buffa_wire.proofs.KeepLemmas.{keep_stays}
-use Rattle.buffa_samples.specs.KeepLaws.{keep_same, keep_sound}
 use Rattle.buffa_set_msg.specs.Set.{AreItems, NestOneDeep, encoded_record, is_type_id, item_field, item_record, record_encoding, set_field, set_levels, set_merged, set_need, set_records, set_encoding, starts}
 
 -- ---- one field
@@ -33,7 +33,7 @@ payload_as d n m v w p a b h = subst (λ k. Payload d k w p) (sym a) (subst (λ 
 pub set_sound : (d : ℕ) → IsSound d (set_field d)
 set_sound d v n w bs = agree_if (starts n w)
     (λ e. let is = both_true n 1 StartGroup w e in agree_weaker (item_sound d v bs) (λ x u. (u.0, payload_as d n 1 StartGroup w u.0 is.0 is.1 u.1, u.2)) (λ e h. h))
-    (λ e. keep_sound d v n w bs)
+    (λ e. framed_sound keep_takes d v n w bs)
 
 answered : (d : ℕ) (v : List (ℕ × Datum)) (p : List ℕ) → IsReadAlike d p → Same (item_field (suc d) v) p
 answered d v p (inl (id, msg, k)) = inl (v ++ (id, bytes msg) ∷ [], λ x. rw (k x) refl)
@@ -49,9 +49,9 @@ pick f g p true h k = h refl
 pick f g p false h k = k refl
 
 pub set_same : (d : ℕ) → IsSame d (set_field d)
-set_same d v n w p h = pick (item_field d v) (keep_field d v n w) p (starts n w)
+set_same d v n w p h = pick (item_field d v) (framed keep_takes d v n w) p (starts n w)
     (λ e. let is = both_true n 1 StartGroup w e in item_same d v p (payload_as d 1 n w StartGroup p (sym is.0) (sym is.1) h))
-    (λ e. keep_same d v n w p h)
+    (λ e. framed_same keep_takes d v n w p h)
 
 pub set_stays : Stays set_need
 set_stays d n w p x h = ap (λ z. if starts n w then unknown_fields 1 else z) (keep_stays d n w p x h)

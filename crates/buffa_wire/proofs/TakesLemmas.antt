@@ -17,7 +17,7 @@ use Rattle.buffa_wire.specs.Message.{IsFieldMerged}
 use Rattle.buffa_bytes.specs.Front.{skip_at}
 use Rattle.buffa_wire.proofs.CostLemmas.{IsPaid, cost_empty, cost_free, cost_next as costs_next, paid}
 use Rattle.buffa_wire.proofs.ByFieldLemmas.{IsSame, IsSound, Same, empty, fields, merged_alike, next, read}
-use Rattle.buffa_wire.specs.ByField.{FieldReader, cost_by, merged_by, value_of}
+use Rattle.buffa_wire.specs.ByField.{FieldNeed, FieldReader, cost_by, merged_by, value_of}
 use Rattle.buffa_wire.specs.Takes.{IsTaken, Leads, Need, Piece, ReadsBack, Stays, Taker, Untaken, answer, cost_of, costs_nothing, framed, front_of, joined, merged_of, taken_by}
 
 -- ---- the payload is cut
@@ -66,7 +66,7 @@ module _ {X : Type 0} (takes : Taker X) (d : ℕ) where
   merged_of_next v f r h = next d (framed takes d) framed_sound framed_same v f r h
 
   -- ---- what a call owes
-  framed_err : (v : X) (n : ℕ) (w : WireType) (bs : List ℕ) (e : DecodeError) → NoLimit e → Untaken takes d v n w bs →
+  pub framed_err : (v : X) (n : ℕ) (w : WireType) (bs : List ℕ) (e : DecodeError) → NoLimit e → Untaken takes d v n w bs →
       (r : Result (List ℕ) DecodeError) → skip_at d n w bs ≡ r → (x : DecodeError) × (framed takes d v n w bs ≡ Err x) × NoLimit e
   framed_err v n w bs e k h (Err x) is = (x, rw is refl, k)
   framed_err v n w bs e k h (Ok rest) is =
@@ -104,6 +104,11 @@ cost_of_none need d = cost_empty (need d) d
 pub cost_of_next : (need : Need) → Stays need → (d : ℕ) (f r : List ℕ) → SomeField d f → cost_of need d (f ++ r) ≡ plus (cost_of need d f) (cost_of need d r)
 unfolding cost_of
 cost_of_next need stays d f r h = costs_next (need d) d (stays d) f r h
+
+-- fields that cost nothing each cost nothing together
+pub cost_of_free : (need : Need) (d : ℕ) → ((n : ℕ) (w : WireType) (bs : List ℕ) → need d n w bs ≡ nothing) → (bs : List ℕ) → cost_of need d bs ≡ nothing
+unfolding cost_of
+cost_of_free need d free bs = ap (λ (f : FieldNeed). cost_by f d bs) (λ i n w b. free n w b i) ∙ cost_free d bs
 
 -- ---- fields that are passed over
 pub skipped : {X : Type 0} (takes : Taker X) (d : ℕ) (v : X) (n : ℕ) (w : WireType) (bs rest : List ℕ) (before : BudgetLeft) (r : Result (Unit {0}) DecodeError) →

@@ -1,10 +1,11 @@
-use Rattle.std.proofs.Common.{◌≡◌, ◌∙◌, ap, refl, sym}
+use Rattle.std.proofs.Common.{◌≡◌, ◌∙◌, Err, ap, refl, sym}
 use Rattle.buffa_bytes.proofs.StepLemmas.{agree_err, agree_ok}
 use Rattle.buffa_bytes.specs.declared.error.DecodeError.TheVariants.{WireTypeMismatch}
 use Rattle.buffa_bytes.specs.Front.{check_wire}
 use Rattle.buffa_map.proofs.EntryLemmas.{check_sound}
 use Rattle.buffa_map.specs.Codec.{value_need}
-use Rattle.buffa_fields.specs.ValueLaws.{kept_by, refused_plain, value_err, value_ok, wire_err}
+use Rattle.buffa_wire.proofs.SequenceLemmas.{err_same}
+use Rattle.buffa_fields.specs.ValueLaws.{kept_by, refused_plain, value_err, value_ok, value_told, wire_err, wire_told}
 use Rattle.buffa_fields.proofs.value.take_value.Goals as goal
 
 pub returns-in-Err-clause-taken : goal.returns-in-Err-clause-taken
@@ -61,4 +62,31 @@ returns-in-Err-merge-clause-full g c = λ full.
       same ∙ (c.WIRE_TYPE.ensures ∙ sym g.met.C.MapValueDecode.wire),
       c.in-Err-merge.ensures.full full,
       λ nothing. let k = c.in-Err-merge.ensures.empty nothing in cc,
+    )
+
+pub returns-in-Err-clause-refused : goal.returns-in-Err-clause-refused
+returns-in-Err-clause-refused g c = λ e same.
+    let codec = g.C.MapValueDecode.reading in
+    let wire_is : codec.wire ≡ c.WIRE_TYPE.result = g.met.C.MapValueDecode.wire ∙ sym c.WIRE_TYPE.ensures in
+    let n = c.args.tag.number in
+    let w = c.args.tag.wire_type in (
+      refl,
+      λ ne. wire_told codec c.args.ctx.depth (g.C.Value.Blank.meaning c.args.value.now) n w c.args.buf.now.now e
+          (ap (λ z. check_wire n z w) wire_is ∙ c.in-Err.ensures ∙ ap (λ x. Err x) (err_same same)),
+    )
+
+pub returns-in-Err-merge-clause-refused : goal.returns-in-Err-merge-clause-refused
+returns-in-Err-merge-clause-refused g c = λ e same.
+    let codec = g.C.MapValueDecode.reading in
+    let plain = g.met.C.MapCodec.plain in
+    let wire_is : codec.wire ≡ c.WIRE_TYPE.result = g.met.C.MapValueDecode.wire ∙ sym c.WIRE_TYPE.ensures in
+    let n = c.args.tag.number in
+    let w = c.args.tag.wire_type in
+    let d = c.args.ctx.depth in
+    let bs = c.args.buf.now.now in
+    let old = g.C.Value.Blank.meaning c.args.value.now in
+    let error = err_same same in (
+      sym (c.in-Err-merge.ensures.err plain),
+      λ ne. value_told codec d old n w bs e (ap (λ z. check_wire n z w) wire_is ∙ c.in-Ok.ensures)
+          (refused_plain codec.nested codec d old bs c.args.ctx.budget.now c.in-Err-merge.error plain (c.in-Err-merge.ensures.fault (λ full. ne (sym error ∙ full))) ∙ ap (λ x. Err x) error),
     )

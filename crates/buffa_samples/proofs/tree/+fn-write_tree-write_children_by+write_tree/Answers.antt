@@ -4,7 +4,7 @@ use Rattle.buffa_wire.proofs.PassLemmas.{done, written_put, written_then}
 use Rattle.buffa_map.specs.MessageField.{IsSmallField, field_slots}
 use Rattle.buffa_map.specs.Scalars.{delimited_writing}
 use Rattle.buffa_map.specs.Encoding.{field_encoding}
-use Rattle.buffa_samples.specs.Flat.{value_encoding}
+use Rattle.buffa_samples.specs.Fields.{value_encoding}
 use Rattle.buffa_samples.specs.TreeEncoding.{key_writing, meant, slots, encoding}
 use Rattle.buffa_samples.proofs.TreeSizeLemmas.{slots_is, small_kids, encoding_is}
 use Rattle.buffa_samples.proofs.tree.+fn-write_tree-write_children_by+write_tree.Goals as goal

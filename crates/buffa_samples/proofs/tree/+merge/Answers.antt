@@ -12,9 +12,8 @@ use Rattle.buffa_wire.specs.Message.{MergeFault}
 use Rattle.buffa_wire.proofs.MessageLemmas.{front_more, loop_fault, reaches_tag}
 use Rattle.buffa_wire.proofs.ByPayloadLemmas.{all_merged, field_costs, field_means, judged_all, untagged}
 use Rattle.buffa_samples.proofs.TreeFieldLemmas.{by_payloads, child_full, child_merged, label_merged, mismatch_full, wire_merged}
-use Rattle.buffa_samples.specs.FieldsLaws.{full_not_at_end}
-use Rattle.buffa_samples.specs.Flat.{flat_field}
-use Rattle.buffa_samples.specs.FlatLaws.{flat_ends}
+use Rattle.buffa_samples.specs.Fields.{value_field}
+use Rattle.buffa_samples.specs.FieldsLaws.{full_not_at_end, value_ends}
 use Rattle.buffa_samples.specs.TreeMeaning.{cost, merged}
 use Rattle.buffa_samples.proofs.tree.+merge.Goals as goal
 
@@ -109,7 +108,7 @@ merge_tree_field-returns-then-field_number-ne2 t c =
     record {
       merged = label_merged c.args.tag.number c.args.tag.wire_type c.args.buf.now.now c.merge_value.new.buf.now c.args.budget.now c.args.depth c.args.tree.now c.tree.inside.label c.tree.inside.children.entries c.tree.view_is
           c.merge_value.result c.merge_value.new.value other c.merge_value.ensures.gives;
-      full = full_not_at_end (flat_field c.args.depth) (flat_ends c.args.depth) c.merge_value.result c.tree.inside.label c.merge_value.new.value c.args.tag.number c.args.tag.wire_type c.args.buf.now.now c.merge_value.new.buf.now c.merge_value.ensures.gives;
+      full = full_not_at_end (value_field c.args.depth) (value_ends c.args.depth) c.merge_value.result c.tree.inside.label c.merge_value.new.value c.args.tag.number c.args.tag.wire_type c.args.buf.now.now c.merge_value.new.buf.now c.merge_value.ensures.gives;
     }
 
 pub merge_tree_field-returns-in_err-check_wire_type : goal.merge_tree_field-returns-in_err-check_wire_type

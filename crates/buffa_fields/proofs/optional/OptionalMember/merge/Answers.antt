@@ -1,7 +1,7 @@
 use Rattle.std.proofs.Common.{inl, inr, Some, refl, sym, ap, ◌∙◌}
 use Rattle.std.specs.Option.{option_map}
 use Rattle.buffa_fields.specs.Layout.{Took}
-use Rattle.buffa_fields.specs.Values.{value_taken}
+use Rattle.buffa_fields.specs.Values.{field_value_at, value_taken}
 use Rattle.buffa_fields.proofs.optional.OptionalMember.merge.Goals as goal
 
 pub returns-in-Ok : goal.returns-in-Ok
@@ -20,6 +20,7 @@ returns-in-Ok g c =
       ),
       tt,
       λ e other. let k = (c.in-Ok.ensures.wire e other).0 in cc,
+      λ e bad. cc,
     )
 
 pub returns-in-Err : goal.returns-in-Err
@@ -39,4 +40,8 @@ returns-in-Err g c =
       ),
       c.in-Err.ensures.full,
       λ e other. let k = c.in-Err.ensures.wire e other in (k.0, refl, k.2),
+      λ e same. (
+        refl,
+        λ ne. ap (λ z. field_value_at g.C.MapValueDecode.reading d z n w c.args.buf.now.now) (g.met.C.MapValueDecode.blank ∙ sym c.blank-value.ensures) ∙ (c.in-Err.ensures.refused e same).1 ne,
+      ),
     )

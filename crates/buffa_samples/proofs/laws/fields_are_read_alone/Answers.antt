@@ -1,0 +1,46 @@
+use Rattle.std.proofs.Common.{◌==◌, sym, subst}
+use Rattle.std.proofs.lemmas.Bool.{eqb-true}
+use Rattle.buffa_bytes.specs.Front.{skip_at}
+use Rattle.buffa_fields.specs.Layout.{Kept, Passed, Took}
+use Rattle.buffa_samples.proofs.NumberLemmas.{choose, kept_alone, member_read, other_read}
+use Rattle.buffa_samples.specs.Fields.{int32_field, skipped_field}
+use Rattle.buffa_samples.specs.Numbers.{IsReadAlone}
+use Rattle.buffa_samples.proofs.laws.fields_are_read_alone.Goals as goal
+
+pub returns-clause-flat : goal.returns-clause-flat
+unfolding Passed Took
+returns-clause-flat c = λ d n old new w bs rest a b r h. choose (n == 1) h
+    (λ is both.
+    let one = eqb-true n 1 is in
+    let took = both.0 in
+    rw is (subst (λ z. IsReadAlone (int32_field z (λ x. x) w bs) old.value r new.value a b rest) one (member_read (λ x. x) d n old.value w bs a r new.value b rest took.0 took.1 took.3)))
+    (λ differs both.
+    let passed = both.1 in
+    rw differs (subst (λ z. IsReadAlone (skipped_field d old.value n w bs) old.value r z a b rest) (sym both.0) (other_read old.value (skip_at d n w bs) r a b rest passed.0 passed.1)))
+
+pub returns-clause-two : goal.returns-clause-two
+unfolding Passed Took
+returns-clause-two c = λ d n old new w bs rest a b r h. choose (n == 1) h
+    (λ is both.
+    let one = eqb-true n 1 is in
+    let took = both.0 in
+    let stays = both.1.0 in
+    let read = member_read (λ x. (x, old.b)) d n old.a w bs a r new.a b rest took.0 took.1 took.3 in
+    rw is (subst (λ z. IsReadAlone (int32_field z (λ x. (x, old.b)) w bs) (old.a, old.b) r (new.a, new.b) a b rest) one
+    (subst (λ z. IsReadAlone (int32_field n (λ x. (x, old.b)) w bs) (old.a, old.b) r (new.a, z) a b rest) (sym stays) read)))
+    (λ differs both. rw differs (choose (n == 2) both.1
+    (λ is again.
+    let two = eqb-true n 2 is in
+    let took = again.0 in
+    let read = member_read (λ x. (old.a, x)) d n old.b w bs a r new.b b rest took.0 took.1 took.3 in
+    rw is (subst (λ z. IsReadAlone (int32_field z (λ x. (old.a, x)) w bs) (old.a, old.b) r (new.a, new.b) a b rest) two
+    (subst (λ z. IsReadAlone (int32_field n (λ x. (old.a, x)) w bs) (old.a, old.b) r (z, new.b) a b rest) (sym both.0) read)))
+    (λ others again.
+    let passed = again.1 in
+    let read = other_read (old.a, old.b) (skip_at d n w bs) r a b rest passed.0 passed.1 in
+    rw others (subst (λ z. IsReadAlone (skipped_field d (old.a, old.b) n w bs) (old.a, old.b) r (z, new.b) a b rest) (sym both.0)
+    (subst (λ z. IsReadAlone (skipped_field d (old.a, old.b) n w bs) (old.a, old.b) r (old.a, z) a b rest) (sym again.0) read)))))
+
+pub returns-clause-keep : goal.returns-clause-keep
+unfolding Kept
+returns-clause-keep c = λ d n old new w bs rest a b r h. kept_alone r h.1 h.3

@@ -1,0 +1,36 @@
+-- What bytes mean to the messages of one int32 and of two: fields of number 1, and of number 2, are the values, others are
+-- passed over. Source: the protobuf encoding guide, "Message Structure".
+use Rattle.std.specs.Prelude.{◌≡◌, ℕ, ◌==◌, ℤ, pos, List, Result, OnErr, if◌then◌else◌}
+use Rattle.buffa_bytes.specs.declared.error.DecodeError.{DecodeError}
+use Rattle.buffa_bytes.specs.declared.wire_type.WireType.TheVariants.{Varint}
+use Rattle.buffa_bytes.specs.Gives.{Gives}
+use Rattle.buffa_bytes.specs.Values.{int32_of}
+use Rattle.buffa_wire.specs.BudgetLeft.{BudgetLeft}
+use Rattle.buffa_wire.specs.ByField.{FieldReader}
+use Rattle.buffa_map.specs.Codec.{Reading}
+use Rattle.buffa_map.specs.Scalars.{number_reading}
+use Rattle.buffa_fields.specs.Layout.{passes}
+use Rattle.buffa_wire.specs.Takes.{Taker}
+use Rattle.buffa_fields.specs.Layout.{both_take}
+use Rattle.buffa_fields.specs.Values.{value_taken}
+use Rattle.buffa_samples.specs.Fields.{int32_field, skipped_field}
+
+abbrev pub int32_reading : Reading ℤ
+int32_reading = number_reading Varint (pos 0) int32_of
+
+abbrev pub flat_takes : Taker (ℤ × Unit {0})
+flat_takes = both_take 1 (value_taken int32_reading) passes
+
+abbrev pub two_takes : Taker (ℤ × (ℤ × Unit {0}))
+two_takes = both_take 1 (value_taken int32_reading) (both_take 2 (value_taken int32_reading) passes)
+
+-- ---- what a call reads of one field
+
+abbrev pub two_field : ℕ → FieldReader (ℤ × ℤ)
+two_field d v n w bs =
+    if n == 1 then int32_field 1 (λ x. (x, v.1)) w bs
+    else (if n == 2 then int32_field 2 (λ x. (v.0, x)) w bs else skipped_field d v n w bs)
+
+-- it was read, or refused by its fault, and then the value stays; nothing was spent
+abbrev pub IsReadAlone : {X : Type 0} → Result (X × List ℕ) DecodeError → X → Result (Unit {0}) DecodeError → X → BudgetLeft → BudgetLeft → List ℕ → Type 0
+IsReadAlone field old r new before after rest = Gives (λ _. (new, rest)) r field × OnErr r (new ≡ old) × (after ≡ before)
