@@ -21,6 +21,8 @@ pub mod RepeatedNested
 pub mod RepeatedNestedLaws
 pub mod NestedMaps
 pub mod NestedMapLaws
+pub mod Groups
+pub mod GroupLaws
 pub mod Stands
 pub mod StandsLaws
 pub mod Calls

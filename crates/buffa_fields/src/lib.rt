@@ -2,6 +2,7 @@
 #![tactic(auto)]
 
 pub mod fields;
+pub mod group;
 pub mod kept;
 pub mod kind;
 pub mod kinds;
