@@ -367,12 +367,12 @@ unfolding group_records message_slots
 unwritten_group records encoding slots n v c b is = subst (λ z. IsWritten (records_encoding (group_records records n z)) (message_slots encoding slots z) c b done c b) (sym is) (written_none (IsSmall []) c b)
 
 -- ---- it reads back
+abbrev pub group_piece : {X : Type 0} → (X → List (ℕ × Datum)) → ℕ → X → Piece
+group_piece records n v = record { tag = tag_encoding n StartGroup; number = n; wire = StartGroup; payload = records_encoding (records v) ++ tag_encoding n EndGroup }
+
 module _ {X : Type 0} (merged : ℕ → X → List ℕ → Option X) (blank : X) (encoding : X → List ℕ) (records : X → List (ℕ × Datum)) (level : X → ℕ) (Normal : X → Type 0)
     (as_records : (v : X) → encoding v ≡ records_encoding (records v)) (whole : (d : ℕ) (v u : X) (b : List ℕ) → merged d v b ≡ Some u → Join (SomeField d) b)
     (back : (d : ℕ) (v : X) → Fits (records_of (records v)) → Normal v → level v ≤ d → merged d blank (encoding v) ≡ Some v) (n : ℕ) (number : IsNumber n) where
-  abbrev group_piece : X → Piece
-  group_piece v = record { tag = tag_encoding n StartGroup; number = n; wire = StartGroup; payload = records_encoding (records v) ++ tag_encoding n EndGroup }
-
   pub group_again : (d : ℕ) (v : X) → Fits (records_of (records v)) → Normal v → suc (level v) ≤ d →
       Payload d n StartGroup (records_encoding (records v) ++ tag_encoding n EndGroup) × (group_in merged d blank n StartGroup (records_encoding (records v) ++ tag_encoding n EndGroup) ≡ Some v)
   unfolding group_in Group
@@ -393,7 +393,7 @@ module _ {X : Type 0} (merged : ℕ → X → List ℕ → Option X) (blank : X)
   group_back d (Some v) fits normal low =
       let again = group_again d v fits.1 normal low in
       record {
-        pieces = group_piece v ∷ [];
+        pieces = group_piece records n v ∷ [];
         spelled = refl;
         leads = (eq-eqb n n refl, is_tag n StartGroup number, again.0, Some v, ap (option_map (λ x. Some x)) again.1, refl);
       }

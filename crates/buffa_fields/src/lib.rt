@@ -19,6 +19,7 @@ pub mod optional;
 pub mod packed;
 pub mod plain;
 pub mod repeated;
+pub mod repeated_group;
 pub mod repeated_nested;
 pub mod sizer;
 mod value;
