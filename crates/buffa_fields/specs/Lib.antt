@@ -21,6 +21,10 @@ pub mod RepeatedNested
 pub mod RepeatedNestedLaws
 pub mod NestedMaps
 pub mod NestedMapLaws
+pub mod Groups
+pub mod GroupLaws
+pub mod RepeatedGroups
+pub mod RepeatedGroupLaws
 pub mod Stands
 pub mod StandsLaws
 pub mod Calls

@@ -17,7 +17,7 @@ use Rattle.buffa_bytes.specs.Number.{IsNumber}
 use Rattle.buffa_wire.specs.Parse.{Fits}
 use Rattle.buffa_wire.specs.Passes.{IsNext, IsSized, IsSmall, IsWritten, cap}
 use Rattle.buffa_bytes.specs.Front.{delimited_at}
-use Rattle.buffa_wire.specs.Records.{bytes, records_of}
+use Rattle.buffa_wire.specs.Records.{Datum, records_of}
 use Rattle.buffa_wire.specs.Encoding.{records_encoding}
 use Rattle.buffa_bytes.specs.Values.{delimited_encoding, tag_encoding}
 use Rattle.buffa_bytes.specs.Varint.{varint_encoding}
@@ -29,7 +29,7 @@ use Rattle.buffa_fields.specs.Lists.{Each, element_records}
 use Rattle.buffa_fields.specs.Nested.{message_cost, message_in}
 use Rattle.buffa_fields.specs.NestedLaws.{delimited_alone, message_wire_err, taken_back}
 use Rattle.buffa_fields.specs.RepeatedNested.{MessagesTakeMemory, messages_cost, messages_levels, messages_records, messages_slots, messages_taken}
-use Rattle.buffa_wire.specs.Takes.{IsTaken, Leads, Piece, ReadsBack, Stays, joined}
+use Rattle.buffa_wire.specs.Takes.{IsTaken, Leads, Need, Piece, ReadsBack, Stays, Taker, joined}
 use Rattle.buffa_bytes.proofs.ListLemmas.{means_cut, means_more}
 
 -- ---- costs
@@ -42,26 +42,17 @@ messages_stay each cost d n EndGroup p x h = refl
 messages_stay each cost d n Fixed32 p x h = refl
 messages_stay each cost d n LengthDelimited p x h = let u = delimited_alone d n LengthDelimited p x (p ++ x) refl h refl in rw (u.1, u.2) refl
 
-module _ {X : Type 0} (merged : ℕ → X → List ℕ → Option X) (each : ℕ) (cost : ℕ → List ℕ → BudgetLeft) (d n : ℕ) (w : WireType) (old new : X) (bs rest : List ℕ) (before after : BudgetLeft) where
-  -- what a message costs that is merged, with its own units
-  costs : w ≡ LengthDelimited → messages_cost each cost d n w bs ≡ plus (units each) (message_cost cost d n w bs)
-  unfolding messages_cost message_cost
-  costs wire = rw wire refl
-
-  -- a field of another wire type costs nothing
-  costs_none : w ≢ LengthDelimited → messages_cost each cost d n w bs ≡ message_cost cost d n w bs
-  unfolding messages_cost message_cost
-  costs_none other = rw (same_false LengthDelimited w other) refl
-
+-- an element of some units, taken as a field is that costs less by these
+module _ {X : Type 0} (takes : Taker X) (each : ℕ) (need whole : Need) (d n : ℕ) (w : WireType) (old new : X) (bs rest : List ℕ) (before after : BudgetLeft) (costs : whole d n w bs ≡ plus (units each) (need d n w bs)) where
   abbrev taken_for : BudgetLeft → Result (Unit {0}) DecodeError → Type 0
-  taken_for need r = IsTaken (message_in merged) (λ d n w bs. need) d old n w bs before r new after rest
+  taken_for need r = IsTaken takes (λ d n w bs. need) d old n w bs before r new after rest
 
-  pub charged : w ≡ LengthDelimited → (mid : BudgetLeft) → mid.memory + each ≡ before.memory → mid.unknown ≡ before.unknown → (r : Result (Unit {0}) DecodeError) →
-      IsTaken (message_in merged) (message_cost cost) d old n w bs mid r new after rest → IsTaken (message_in merged) (messages_cost each cost) d old n w bs before r new after rest
-  charged wire mid paid same (Ok _) (p, payload, split, m, pays) =
-      subst (λ z. taken_for z (Ok tt)) (sym (costs wire)) (p, payload, split, m, (omega (arith, pays.0, same), omega (arith, pays.1, paid)))
-  charged wire mid paid same (Err e) (pays, why, full) =
-      subst (λ z. taken_for z (Err e)) (sym (costs wire)) (
+  pub charged : (mid : BudgetLeft) → mid.memory + each ≡ before.memory → mid.unknown ≡ before.unknown → (r : Result (Unit {0}) DecodeError) →
+      IsTaken takes need d old n w bs mid r new after rest → IsTaken takes whole d old n w bs before r new after rest
+  charged mid paid same (Ok _) (p, payload, split, m, pays) =
+      subst (λ z. taken_for z (Ok tt)) (sym costs) (p, payload, split, m, (omega (arith, pays.0, same), omega (arith, pays.1, paid)))
+  charged mid paid same (Err e) (pays, why, full) =
+      subst (λ z. taken_for z (Err e)) (sym costs) (
         (omega (arith, pays.0, same), omega (arith, pays.1, same), omega (arith, pays.2, paid), omega (arith, pays.3, paid)),
         λ ne. elim (why ne) [
           | inl (inl few) ↦ inl (inl (omega (arith, few, same)))
@@ -72,19 +63,32 @@ module _ {X : Type 0} (merged : ℕ → X → List ℕ → Option X) (each : ℕ
       )
 
   -- the units aren't left
-  pub uncharged : w ≡ LengthDelimited → before.memory < each → after ≡ before → (e : DecodeError) → e ≡ ElementMemoryLimitExceeded → IsTaken (message_in merged) (messages_cost each cost) d old n w bs before (let r : Result (Unit {0}) DecodeError = Err e in r) new after rest
-  uncharged wire few still e is =
+  pub uncharged : before.memory < each → after ≡ before → (e : DecodeError) → e ≡ ElementMemoryLimitExceeded → IsTaken takes whole d old n w bs before (let r : Result (Unit {0}) DecodeError = Err e in r) new after rest
+  uncharged few still e is =
       let a = ap (λ (z : BudgetLeft). z.unknown) still in
       let b = ap (λ (z : BudgetLeft). z.memory) still in
-      subst (λ z. taken_for z (Err e)) (sym (costs wire)) (
+      subst (λ z. taken_for z (Err e)) (sym costs) (
         (omega (arith, a), omega (arith, a), omega (arith, b), omega (arith, b)),
         λ ne. inl (inr (omega (arith, few))),
         λ full end. let two = sym full ∙ is in cc,
       )
 
-  pub uncharged_wire : w ≢ LengthDelimited → (e : DecodeError) → e ≡ WireTypeMismatch n LengthDelimited w → after ≡ before → IsTaken (message_in merged) (messages_cost each cost) d old n w bs before (let r : Result (Unit {0}) DecodeError = Err e in r) new after rest
-  uncharged_wire other e is still =
-      subst (λ z. taken_for z (Err e)) (sym (costs_none other)) (message_wire_err merged cost d n w old new bs rest before after e other is still)
+module _ {X : Type 0} (merged : ℕ → X → List ℕ → Option X) (each : ℕ) (cost : ℕ → List ℕ → BudgetLeft) (d n : ℕ) (w : WireType) (bs : List ℕ) where
+  -- what a message costs that is merged, with its own units
+  pub message_costs : w ≡ LengthDelimited → messages_cost each cost d n w bs ≡ plus (units each) (message_cost cost d n w bs)
+  unfolding messages_cost message_cost
+  message_costs wire = rw wire refl
+
+  -- a field of another wire type costs nothing
+  costs_none : w ≢ LengthDelimited → messages_cost each cost d n w bs ≡ message_cost cost d n w bs
+  unfolding messages_cost message_cost
+  costs_none other = rw (same_false LengthDelimited w other) refl
+
+  pub uncharged_wire : (old new : X) (rest : List ℕ) (before after : BudgetLeft) → w ≢ LengthDelimited → (e : DecodeError) → e ≡ WireTypeMismatch n LengthDelimited w → after ≡ before →
+      IsTaken (message_in merged) (messages_cost each cost) d old n w bs before (let r : Result (Unit {0}) DecodeError = Err e in r) new after rest
+  uncharged_wire old new rest before after other e is still =
+      subst (λ z. IsTaken (message_in merged) (λ d n w bs. z) d old n w bs before (let r : Result (Unit {0}) DecodeError = Err e in r) new after rest) (sym (costs_none other))
+      (message_wire_err merged cost d n w old new bs rest before after e other is still)
 
 -- a message that was read had a level, and a length and so many bytes
 pub message_there : {X : Type 0} (merged : ℕ → X → List ℕ → Option X) (d : ℕ) (old new : X) (n : ℕ) (w : WireType) (bs p rest : List ℕ) → Payload d n w p → bs ≡ p ++ rest → message_in merged d old n w p ≡ Some new → MessagesTakeMemory d n w bs
@@ -99,7 +103,7 @@ message_there merged (suc d) old new n LengthDelimited bs p rest h split is =
     let u = delimited_alone (suc d) n LengthDelimited p rest bs refl h split in (refl, omega arith, is_there (delimited_at bs) (u.0, rest) u.1)
 
 -- ---- sizes and encodings, message by message
-module _ {X : Type 0} (encoding slots : X → List ℕ) where
+module _ {X : Type 0} (datum : X → Datum) (encoding slots : X → List ℕ) where
   abbrev own : X → List ℕ
   own v = cap (length (encoding v)) ∷ slots v
 
@@ -114,26 +118,26 @@ module _ {X : Type 0} (encoding slots : X → List ℕ) where
 
   module _ (n : ℕ) where
     -- no messages
-    pub sized_none : (c : Cache) → IsSized (records_encoding (messages_records encoding n [])) (messages_slots encoding slots []) c (sum 0) c
+    pub sized_none : (c : Cache) → IsSized (records_encoding (element_records datum n [])) (messages_slots encoding slots []) c (sum 0) c
     unfolding element_records messages_slots
     sized_none c = (refl, λ i. record { slots = sym (append-nil c.slots) i; next = c.next })
 
-    pub written_no : (c : Cache) (b : List ℕ) → IsWritten (records_encoding (messages_records encoding n [])) (messages_slots encoding slots []) c b done c b
+    pub written_no : (c : Cache) (b : List ℕ) → IsWritten (records_encoding (element_records datum n [])) (messages_slots encoding slots []) c b done c b
     unfolding element_records messages_slots
     written_no c b = written_none (IsSmall []) c b
 
     module _ {P : Type 0} (meaning : P → X) (xs : List P) (i : ℕ) (x : P) (lt : i < length xs) (is : x ≡ get_or xs i x) where
       abbrev encoding_to : ℕ → List ℕ
-      encoding_to k = records_encoding (messages_records encoding n (map meaning (take k xs)))
+      encoding_to k = records_encoding (element_records datum n (map meaning (take k xs)))
 
       abbrev slots_to : ℕ → List ℕ
       slots_to k = messages_slots encoding slots (map meaning (take k xs))
 
       abbrev here : List ℕ
-      here = records_encoding ((n, bytes (encoding (meaning x))) ∷ [])
+      here = records_encoding ((n, datum (meaning x)) ∷ [])
 
       abbrev all : List ℕ
-      all = records_encoding (messages_records encoding n (map meaning xs))
+      all = records_encoding (element_records datum n (map meaning xs))
 
       abbrev all_slots : List ℕ
       all_slots = messages_slots encoding slots (map meaning xs)
@@ -142,7 +146,7 @@ module _ {X : Type 0} (encoding slots : X → List ℕ) where
       later = map meaning (drop (i + 1) xs)
 
       encoding_on : encoding_to (i + 1) ≡ encoding_to i ++ here
-      encoding_on = encoding_next (λ v. bytes (encoding v)) n meaning xs i x lt is
+      encoding_on = encoding_next datum n meaning xs i x lt is
 
       slots_on : slots_to (i + 1) ≡ slots_to i ++ own (meaning x)
       slots_on =
@@ -192,11 +196,11 @@ module _ {X : Type 0} (encoding slots : X → List ℕ) where
       pub write_stops : (c0 c1 c2 : Cache) (b0 b1 b2 : List ℕ) (e : EncodeError) → IsWritten (encoding_to i) (slots_to i) c0 b0 done c1 b1 → IsWritten here (own (meaning x)) c1 b1 (refused e) c2 b2 →
           IsWritten all all_slots c0 b0 (refused e) c2 b2
       write_stops c0 c1 c2 b0 b1 b2 e h k =
-          let rest = records_encoding (messages_records encoding n later) in
+          let rest = records_encoding (element_records datum n later) in
           let more = messages_slots encoding slots later in
           let both = encoding_to i ++ here in
           let slots = slots_to i ++ own (meaning x) in
-          subst (λ (z : List ℕ). IsWritten z all_slots c0 b0 (refused e) c2 b2) (sym (encoding_cut (λ v. bytes (encoding v)) n meaning xs i x lt is))
+          subst (λ (z : List ℕ). IsWritten z all_slots c0 b0 (refused e) c2 b2) (sym (encoding_cut datum n meaning xs i x lt is))
           (subst (λ (z : List ℕ). IsWritten (both ++ rest) z c0 b0 (refused e) c2 b2) (append_assoc (slots_to i) (own (meaning x)) more ∙ sym slots_cut)
           (written_short (IsSmall both) (IsSmall rest) (IsSmall (both ++ rest)) both rest slots more c0 c2 c2 b0 b2 b2
           (λ s. (small_both both rest s).0) e (with_this (refused e) c0 c1 c2 b0 b1 b2 h k)))

@@ -25,14 +25,17 @@ ghost use Rattle.buffa_fields.specs.KindLaws.{is_none, is_nought, is_zero};
 ghost use Rattle.buffa_fields.specs.Lists.{Each, ElementsTakeMemory, check_list_wire, element_records, elements_taken, packed_records};
 ghost use Rattle.buffa_fields.specs.MapFields.{PairTakesMemory, entry_cost, entry_taken};
 ghost use Rattle.buffa_fields.specs.Members.{keep};
+ghost use Rattle.buffa_fields.specs.Groups.{GroupTakesMemory, group_cost, group_datum, group_records, group_taken};
 ghost use Rattle.buffa_fields.specs.Nested.{FitsInside, MessageTakesMemory, message_cost, message_levels, message_records, message_slots, message_taken};
 ghost use Rattle.buffa_fields.specs.NestedMaps.{pair_levels, pair_records, pair_slots};
 ghost use Rattle.buffa_fields.specs.RepeatedNested.{MessagesTakeMemory, messages_cost, messages_levels, messages_records, messages_slots, messages_taken};
 ghost use Rattle.buffa_fields.specs.OrderedMaps.{KeysAscend};
+ghost use Rattle.buffa_fields.specs.RepeatedGroups.{GroupsTakeMemory, groups_cost, groups_taken};
 ghost use Rattle.buffa_fields.specs.MemberRecords.{entry_records, optional_records, plain_records};
 ghost use Rattle.buffa_wire.specs.Takes.{cost_of, merged_of};
 ghost use Rattle.buffa_fields.specs.Values.{IfThere, RefusesAlone, ValueTakesMemory, free, some_taken, value_taken};
 
+use crate::group::Group;
 use crate::kind::Kind;
 use crate::map_member::MapOf;
 use crate::map_nested::MapOfNested;
@@ -46,6 +49,7 @@ use crate::ordered_nested::OrderedMapOfNested;
 use crate::packed::{Packable, Packed};
 use crate::plain::Plain;
 use crate::repeated::Repeated;
+use crate::repeated_group::RepeatedGroup;
 use crate::repeated_nested::RepeatedNested;
 use buffa_map::map_codec::{
     Bool, BytesBuf, Fixed32, Fixed64, Int32, Int64, MapCodec, OpenEnum, ProtoBytesMap,
@@ -155,6 +159,38 @@ pub fn lists_of_messages_are_these<N: Message>()
     ensures levels { (v : _) → ⟦<RepeatedNested<N> as Member>⟧.shape.levels v ≡ messages_levels N.levels v }
     ensures normal { (v : _) → ⟦<RepeatedNested<N> as Member>⟧.shape.normal v
         ↔ (Each (FitsInside N.normal N.records) v) }
+{}
+
+/// A message that may be absent, as a group: each group is merged into the one that stands.
+pub fn groups_are_these<N: Message>()
+    ensures meaning { (p : _) → ⟦<Group<N> as Member>⟧.shape.meaning p ≡ option_map N.meaning p }
+    ensures blank { ⟦<Group<N> as Member>⟧.shape.blank ≡ None }
+    ensures takes { ⟦<Group<N> as Member>⟧.shape.takes ≡ group_taken N.blank_is N.merged }
+    ensures checks { (n : ℕ) (w : _) → ⟦<Group<N> as Member>⟧.shape.checks n w ≡ check_wire n WireType.StartGroup w }
+    ensures asks { (d n : ℕ) (w : _) (bs : List ℕ) → ⟦<Group<N> as Member>⟧.shape.asks d n w bs
+        ↔ (GroupTakesMemory d n w bs) }
+    ensures need { ⟦<Group<N> as Member>⟧.shape.need ≡ group_cost N.cost }
+    ensures records { (n : ℕ) (v : _) → ⟦<Group<N> as Member>⟧.shape.records n v ≡ group_records N.records n v }
+    ensures slots { (v : _) → ⟦<Group<N> as Member>⟧.shape.slots v ≡ message_slots N.encoding N.slots v }
+    ensures levels { (v : _) → ⟦<Group<N> as Member>⟧.shape.levels v ≡ message_levels N.levels v }
+    ensures normal { (v : _) → ⟦<Group<N> as Member>⟧.shape.normal v ↔ (IfThere N.normal v) }
+{}
+
+/// A list of messages, as groups: each group is a new element, which costs the units of its type too.
+pub fn lists_of_groups_are_these<N: Message>()
+    ensures meaning { (p : _) → ⟦<RepeatedGroup<N> as Member>⟧.shape.meaning p ≡ map N.meaning p.items }
+    ensures blank { ⟦<RepeatedGroup<N> as Member>⟧.shape.blank ≡ [] }
+    ensures takes { ⟦<RepeatedGroup<N> as Member>⟧.shape.takes ≡ groups_taken N.blank_is N.merged }
+    ensures checks { (n : ℕ) (w : _) → ⟦<RepeatedGroup<N> as Member>⟧.shape.checks n w
+        ≡ check_wire n WireType.StartGroup w }
+    ensures asks { (d n : ℕ) (w : _) (bs : List ℕ) → ⟦<RepeatedGroup<N> as Member>⟧.shape.asks d n w bs
+        ↔ (GroupsTakeMemory d n w bs) }
+    ensures need { ⟦<RepeatedGroup<N> as Member>⟧.shape.need ≡ groups_cost N.COST N.cost }
+    ensures records { (n : ℕ) (v : _) → ⟦<RepeatedGroup<N> as Member>⟧.shape.records n v
+        ≡ element_records (group_datum N.records) n v }
+    ensures slots { (v : _) → ⟦<RepeatedGroup<N> as Member>⟧.shape.slots v ≡ messages_slots N.encoding N.slots v }
+    ensures levels { (v : _) → ⟦<RepeatedGroup<N> as Member>⟧.shape.levels v ≡ messages_levels N.levels v }
+    ensures normal { (v : _) → ⟦<RepeatedGroup<N> as Member>⟧.shape.normal v ↔ (Each N.normal v) }
 {}
 
 /// A map: each record is an entry, which is put.

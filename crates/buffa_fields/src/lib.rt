@@ -2,6 +2,7 @@
 #![tactic(auto)]
 
 pub mod fields;
+pub mod group;
 pub mod kept;
 pub mod kind;
 pub mod kinds;
@@ -21,6 +22,7 @@ pub mod ordered_nested;
 pub mod packed;
 pub mod plain;
 pub mod repeated;
+pub mod repeated_group;
 pub mod repeated_nested;
 pub mod sizer;
 mod value;

@@ -1,0 +1,17 @@
+use Rattle.std.proofs.Common.{refl}
+use Rattle.buffa_bytes.proofs.StepLemmas.{agree_err}
+use Rattle.buffa_bytes.specs.declared.wire_type.WireType.TheVariants.{StartGroup}
+use Rattle.buffa_bytes.specs.Front.{check_wire}
+use Rattle.buffa_map.proofs.EntryLemmas.{check_sound}
+use Rattle.buffa_fields.specs.GroupLaws.{group_wire_err}
+use Rattle.buffa_fields.proofs.group.take_group.Goals as goal
+
+pub returns-in-Err-clause-taken : goal.returns-in-Err-clause-taken
+returns-in-Err-clause-taken g c =
+    let n = c.args.tag.number in
+    let w = c.args.tag.wire_type in
+    let old = g.N.Blank.meaning c.args.message.now in
+    let bs = c.args.buf.now.now in
+    let before = c.args.ctx.budget.now in
+    let bad = agree_err (check_wire n StartGroup w) c.in-Err.error (check_sound n StartGroup w) c.in-Err.ensures in
+    group_wire_err g.N.MessageSpec.merged g.N.MessageSpec.cost c.args.ctx.depth n w old old bs bs before before c.in-Err.error bad.0 bad.1 refl

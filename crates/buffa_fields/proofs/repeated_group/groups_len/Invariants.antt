@@ -1,0 +1,14 @@
+use Rattle.std.proofs.Common.{map, take}
+use Rattle.buffa_wire.specs.Passes.{IsSized}
+use Rattle.buffa_wire.specs.Encoding.{records_encoding}
+use Rattle.buffa_fields.specs.LayoutLaws.{sum}
+use Rattle.buffa_fields.specs.Groups.{group_datum}
+use Rattle.buffa_fields.specs.Lists.{element_records}
+use Rattle.buffa_fields.specs.RepeatedNested.{messages_slots}
+use Rattle.buffa_fields.proofs.repeated_group.groups_len.Given as goal
+
+-- the messages so far were sized
+abbrev pub invariant-loop-message : goal.invariant-loop-message
+invariant-loop-message g l =
+    let vs = map g.N.Blank.meaning (take l.message-index l.messages) in
+    IsSized (records_encoding (element_records (group_datum g.N.MessageSpec.records) l.number vs)) (messages_slots g.N.MessageSpec.encoding g.N.MessageSpec.slots vs) l.fn.cache (sum l.total) l.cache

@@ -1,0 +1,14 @@
+use Rattle.std.proofs.Common.{map, take}
+use Rattle.buffa_wire.proofs.PassLemmas.{done}
+use Rattle.buffa_wire.specs.Passes.{IsWritten}
+use Rattle.buffa_wire.specs.Encoding.{records_encoding}
+use Rattle.buffa_fields.specs.Groups.{group_datum}
+use Rattle.buffa_fields.specs.Lists.{element_records}
+use Rattle.buffa_fields.specs.RepeatedNested.{messages_slots}
+use Rattle.buffa_fields.proofs.repeated_group.write_groups.Given as goal
+
+-- the messages so far were written
+abbrev pub invariant-loop-message : goal.invariant-loop-message
+invariant-loop-message g l =
+    let vs = map g.N.Blank.meaning (take l.message-index l.messages) in
+    IsWritten (records_encoding (element_records (group_datum g.N.MessageSpec.records) l.number vs)) (messages_slots g.N.MessageSpec.encoding g.N.MessageSpec.slots vs) l.fn.cache (g.S.EncodeSink.written l.fn.sink) done l.cache (g.S.EncodeSink.written l.sink)

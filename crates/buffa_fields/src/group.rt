@@ -1,0 +1,222 @@
+//! Members that are messages, as groups.
+
+ghost use Rattle.std.specs.Prelude.{None, Some, ◌≡◌, ◌==◌, ◌+◌, ◌<◌, ◌∷◌, [], length};
+ghost use Rattle.std.specs.Option.{option_map};
+ghost use Rattle.buffa_bytes.specs.declared.wire_type.WireType.TheVariants.{EndGroup, StartGroup};
+ghost use Rattle.buffa_wire.specs.BudgetLeft.{budget_left};
+ghost use Rattle.buffa_wire.specs.Message.{BeginsField};
+ghost use Rattle.buffa_bytes.specs.Gives.{FullOnlyIf};
+ghost use Rattle.buffa_bytes.specs.Number.{IsNumber};
+ghost use Rattle.buffa_bytes.specs.Values.{tag_encoding};
+ghost use Rattle.buffa_wire.specs.Passes.{IsNext, IsSized, IsWritten, cap};
+ghost use Rattle.buffa_bytes.specs.Front.{check_wire};
+ghost use Rattle.buffa_fields.specs.Calls.{ChecksWire, TakesIn};
+ghost use Rattle.buffa_fields.specs.Groups.{GroupTakesMemory, group_cost, group_encoding, group_in, group_records, group_taken};
+ghost use Rattle.buffa_fields.specs.GroupLaws.{group_back, group_stays};
+ghost use Rattle.buffa_fields.specs.Nested.{message_levels, message_slots};
+ghost use Rattle.buffa_wire.specs.Takes.{IsTaken};
+ghost use Rattle.buffa_fields.specs.Values.{IfThere};
+
+use crate::member::Member;
+use buffa_wire::{
+    Blank, DecodeContext, DecodeError, EncodeError, EncodeSink, Message, MessageSpec, SizeCache,
+    Tag, WireType, check_wire_type, varint_len,
+};
+use std::alloc::Global;
+use std::marker::PhantomData;
+
+// The length of a group whose message has so many bytes, or 2^32 - 1 where it is more.
+fn tagged_len(number: u32, inner: u32) -> u32
+    requires { IsNumber number }
+    ensures { result ≡ cap (length (tag_encoding number StartGroup) + (inner + length (tag_encoding number EndGroup))) }
+{
+    let start = varint_len(u64::from(number) * 8 + 3) as u64;
+    let end = varint_len(u64::from(number) * 8 + 4) as u64;
+    let total = start.saturating_add(u64::from(inner)).saturating_add(end);
+    if total < 4_294_967_295 {
+        total as u32
+    } else {
+        4_294_967_295
+    }
+}
+
+// The length of a message's group. The length of the message, and then its slots, are appended.
+pub(crate) fn group_len<N: Message>(
+    number: u32,
+    message: &N,
+    cache: &mut SizeCache,
+) -> Result<u32, EncodeError>
+    requires { IsNumber number }
+    ensures { let v = N.meaning message.now in IsSized (group_encoding N.records number v)
+        (cap (length (N.encoding v)) ∷ N.slots v) cache.old result cache.new }
+{
+    let slot = match cache.reserve() {
+        Ok(slot) => slot,
+        Err(error) => return Err(error),
+    };
+    match message.compute_size(cache) {
+        Ok(inner) => {
+            cache.set(slot, inner);
+            Ok(tagged_len(number, inner))
+        }
+        Err(error) => Err(error),
+    }
+}
+
+// Writes a message's group; the message's length is in the next slot.
+pub(crate) fn write_group<N: Message, S: EncodeSink>(
+    number: u32,
+    message: &N,
+    cache: &mut SizeCache,
+    sink: &mut S,
+) -> Result<(), EncodeError>
+    requires number { IsNumber number }
+    requires next { let v = N.meaning message.now in IsNext (cap (length (N.encoding v)) ∷ N.slots v) cache.old }
+    ensures { let v = N.meaning message.now in IsWritten (group_encoding N.records number v)
+        (cap (length (N.encoding v)) ∷ N.slots v) cache.old (S.written sink.old) result cache.new
+        (S.written sink.new) }
+{
+    let _size = cache.consume_next();
+    match Tag::new(number, WireType::StartGroup).encode(sink) {
+        Ok(()) => {}
+        Err(error) => return Err(error),
+    }
+    match message.write_to(cache, sink) {
+        Ok(()) => Tag::new(number, WireType::EndGroup).encode(sink),
+        Err(error) => Err(error),
+    }
+}
+
+// Merges the fields of the group whose start tag was read, and takes its end tag.
+fn merge_group<N: Message>(
+    message: &mut N,
+    alloc: Global,
+    number: u32,
+    buf: &mut &[u8],
+    ctx: DecodeContext<'_>,
+) -> Result<(), DecodeError>
+    ensures taken { IsTaken (group_in N.merged) (group_cost N.cost) ctx.entry.depth (N.meaning message.old) number
+        StartGroup buf.old.now ctx.entry.budget.now result (N.meaning message.new) (budget_left ctx.exit) buf.new.now }
+    ensures full { FullOnlyIf result ((0 < ctx.entry.depth) × BeginsField buf.old.now) }
+{
+    let DecodeContext { depth, budget } = ctx;
+    if depth == 0 {
+        return Err(DecodeError::RecursionLimitExceeded);
+    }
+    loop {
+        let tag = match Tag::decode(buf) {
+            Ok(tag) => tag,
+            Err(error) => return Err(error),
+        };
+        if let WireType::EndGroup = tag.wire_type() {
+            if tag.field_number() == number {
+                return Ok(());
+            }
+            return Err(DecodeError::InvalidEndGroup(tag.field_number()));
+        }
+        let lent = DecodeContext {
+            depth: depth - 1,
+            budget: &mut *budget,
+        };
+        match message.merge_field(alloc, tag, buf, lent) {
+            Ok(()) => {}
+            Err(error) => return Err(error),
+        }
+    }
+}
+
+// Merges the group of the field whose tag was read.
+pub(crate) fn take_group<N: Message>(
+    alloc: Global,
+    message: &mut N,
+    tag: Tag,
+    buf: &mut &[u8],
+    ctx: DecodeContext<'_>,
+) -> Result<(), DecodeError>
+    ensures taken { TakesIn tag ctx.entry ctx.exit message.old message.new buf.old buf.new result (group_in N.merged)
+        (group_cost N.cost) N.meaning }
+    ensures full { FullOnlyIf result (GroupTakesMemory ctx.entry.depth tag.number tag.wire_type buf.old.now) }
+    ensures wire { ChecksWire tag WireType.StartGroup result (N.meaning message.old) (N.meaning message.new) buf.old
+        buf.new }
+{
+    match check_wire_type(tag, WireType::StartGroup) {
+        Ok(()) => merge_group(message, alloc, tag.field_number(), buf, ctx),
+        Err(error) => Err(error),
+    }
+}
+
+/// A message that may be absent, as a group. What is read is merged into the message that stands.
+///
+/// ```ignore
+/// visitor.visit::<Group<Parcel>>(2, &self.sample); // optional group Sample = 2 { .. }
+/// ```
+pub struct Group<N> {
+    of: PhantomData<N>,
+}
+
+impl<N: Message> Member for Group<N> {
+    type Part = Option<N>;
+
+    type Meaning = Option<<N as Blank>::Meaning>;
+
+    ghost shape = { record {
+      meaning = λ p. option_map N.meaning p;
+      blank = None;
+      takes = group_taken N.blank_is N.merged;
+      checks = λ n w. check_wire n StartGroup w;
+      asks = GroupTakesMemory;
+      need = group_cost N.cost;
+      records = group_records N.records;
+      slots = message_slots N.encoding N.slots;
+      levels = message_levels N.levels;
+      normal = λ v. IfThere N.normal v;
+      stays = group_stays N.cost;
+    } };
+
+    #[tactic(auto, using(crate::specs::LayoutLaws::sized_free), unfolding(crate::specs::Groups::group_records, crate::specs::Nested::message_slots))]
+    fn len(number: u32, part: &Option<N>, cache: &mut SizeCache) -> Result<u32, EncodeError> {
+        match part {
+            None => Ok(0),
+            Some(message) => group_len(number, message, cache),
+        }
+    }
+
+    #[tactic(auto, using(buffa_wire::proofs::PassLemmas::written_none), unfolding(crate::specs::Groups::group_records, crate::specs::Nested::message_slots))]
+    fn write_to<S: EncodeSink>(
+        number: u32,
+        part: &Option<N>,
+        cache: &mut SizeCache,
+        sink: &mut S,
+    ) -> Result<(), EncodeError> {
+        match part {
+            None => Ok(()),
+            Some(message) => write_group(number, message, cache, sink),
+        }
+    }
+
+    fn merge(
+        part: &mut Option<N>,
+        alloc: Global,
+        tag: Tag,
+        buf: &mut &[u8],
+        ctx: DecodeContext<'_>,
+    ) -> Result<(), DecodeError> {
+        match check_wire_type(tag, WireType::StartGroup) {
+            Ok(()) => {}
+            Err(error) => return Err(error),
+        }
+        let mut message = match part.take() {
+            Some(message) => message,
+            None => N::blank(alloc),
+        };
+        let result = take_group(alloc, &mut message, tag, buf, ctx);
+        *part = Some(message);
+        result
+    }
+
+    ghost back = { record {
+      back = λ n number d v fits normal low. group_back N.merged N.blank_is N.encoding N.records N.levels N.normal
+          N.MessageSpec.encoding_records N.MessageSpec.merged_fields N.MessageSpec.merged_encoding n number d v fits
+          normal low;
+    } };
+}
