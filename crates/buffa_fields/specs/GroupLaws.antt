@@ -21,7 +21,8 @@ use Rattle.buffa_bytes.specs.Scan.{step_then}
 use Rattle.buffa_bytes.specs.Values.{tag_encoding}
 use Rattle.buffa_bytes.specs.Written.{Writes}
 use Rattle.buffa_wire.proofs.PassLemmas.{done, refused, written_behind, written_none, written_put, written_same, written_short, written_then}
-use Rattle.buffa_wire.proofs.MessageLemmas.{NoLimit, as_no_limit, field_costs, field_means, front_more, judged_all, loop_fault, tag_no_limit}
+use Rattle.buffa_wire.proofs.MessageLemmas.{NoLimit, as_no_limit, front_more, loop_fault, tag_no_limit}
+use Rattle.buffa_wire.proofs.ByPayloadLemmas.{ByPayload, field_costs, field_means, judged_all}
 use Rattle.buffa_wire.specs.BudgetLeft.{BudgetLeft, Lacks, Pays, PaysAtMost, nothing, plus}
 use Rattle.buffa_wire.specs.Cache.{Cache, advanced}
 use Rattle.buffa_wire.specs.Encoding.{records_encoding}
@@ -199,9 +200,7 @@ module _ {X : Type 0} (merged : ℕ → X → List ℕ → Option X) (cost : ℕ
         stopped e (as_no_limit e (InvalidEndGroup m) is (λ l. l)) (group_is d n rest ∙ rw (tag, end, ne_eqb m n other) (ap (λ z. Err z) (sym is))) new x
 
     module _ (m : ℕ) (w : WireType) (x : List ℕ) (tag : tag_at rest ≡ Ok (m, w, x)) (other : w ≢ EndGroup)
-        (whole : (d : ℕ) (v u : X) (b : List ℕ) → merged d v b ≡ Some u → Join (SomeField d) b)
-        (next : (d : ℕ) (v : X) (f r : List ℕ) → SomeField d f → merged d v (f ++ r) ≡ option_and_then (λ u. merged d u r) (merged d v f))
-        (cost_next : (d : ℕ) (f r : List ℕ) → SomeField d f → cost d (f ++ r) ≡ plus (cost d f) (cost d r)) where
+        {T : Taker X} {N : Need} (by : ByPayload T N merged cost) where
       -- a field was merged
       pub merged_on : (new : X) (y : List ℕ) (over : BudgetLeft) → IsFieldMerged merged cost d now m w x left (let r : Result (Unit {0}) DecodeError = Ok tt in r) new over y →
           Underway merged cost d old bs start new y over
@@ -210,12 +209,12 @@ module _ {X : Type 0} (merged : ℕ → X → List ℕ → Option X) (cost : ℕ
           let cut : rest ≡ t.0 ++ (p ++ y) = t.2 ∙ ap (λ (z : List ℕ). t.0 ++ z) is in
           let body : group_body d rest ≡ t.0 ++ (p ++ group_body d y) = ap (group_body d) cut ∙ body_field d t.0 p y m w t.1 payload in
           let paid = (one t.0 t.1).1 in
-          let all = field_costs merged cost whole next cost_next d (group_body d rest) t.0 p (group_body d y) m w t.1 payload body in
+          let all = field_costs by d (group_body d rest) t.0 p (group_body d y) m w t.1 payload body in
           let a = ap (λ (z : BudgetLeft). z.unknown) all in
           let b = ap (λ (z : BudgetLeft). z.memory) all in
           let g = front_more d u.front bs rest t.0 p y m w u.fields u.split t.1 payload cut in
           record {
-            means = u.means ∙ field_means merged cost whole next cost_next d now new (group_body d rest) t.0 p (group_body d y) m w t.1 payload body (one t.0 t.1).0;
+            means = u.means ∙ field_means by d now new (group_body d rest) t.0 p (group_body d y) m w t.1 payload body (one t.0 t.1).0;
             unknown = omega (arith, u.unknown, paid.0, a);
             memory = omega (arith, u.memory, paid.1, b);
             no_unknown = omega (arith, u.no_unknown, paid.0);
@@ -252,7 +251,7 @@ module _ {X : Type 0} (merged : ℕ → X → List ℕ → Option X) (cost : ℕ
       refused_on e new y over h =
           let t = agree_ok (tag_at rest) (m, w, x) (tag_sound rest) tag in
           let z = within t.0 t.1 t.2 (skip_at d m w x) refl in
-          let judged = judged_all merged cost whole next cost_next d now m w z.0 left over e (λ s q is j. h s q is (z.1.1 q j)) t.0 t.1 in
+          let judged = judged_all by d now m w z.0 left over e (λ s q is j. h s q is (z.1.1 q j)) t.0 t.1 in
           let here : PaysAtMost left (cost d (group_body d rest)) over × (e ≢ OutOfMemory → MergeFault (merged d now (group_body d rest)) (cost d (group_body d rest)) left e) =
           subst (λ (b : List ℕ). PaysAtMost left (cost d b) over × (e ≢ OutOfMemory → MergeFault (merged d now b) (cost d b) left e)) (sym z.1.0) judged in
           let all = loop_fault (merged d old (group_body d bs)) (merged d now (group_body d rest)) start left over (cost d (group_body d bs)) (cost d (group_body d rest)) e u.means u.unknown u.memory u.no_unknown u.no_unit here in (

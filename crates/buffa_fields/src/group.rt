@@ -13,9 +13,10 @@ ghost use Rattle.buffa_bytes.specs.Front.{check_wire};
 ghost use Rattle.buffa_fields.specs.Calls.{ChecksWire, TakesIn};
 ghost use Rattle.buffa_fields.specs.Groups.{GroupTakesMemory, group_cost, group_encoding, group_in, group_records, group_taken};
 ghost use Rattle.buffa_fields.specs.GroupLaws.{group_back, group_stays};
+ghost use Rattle.buffa_wire.proofs.ByPayloadLemmas.{by_payload, merged_fields};
 ghost use Rattle.buffa_fields.specs.Nested.{message_levels, message_slots};
 ghost use Rattle.buffa_wire.specs.Takes.{IsTaken};
-ghost use Rattle.buffa_fields.specs.Values.{IfThere};
+ghost use Rattle.buffa_fields.specs.Values.{IfThere, unsaid};
 
 use crate::member::Member;
 use buffa_wire::{
@@ -165,6 +166,7 @@ impl<N: Message> Member for Group<N> {
       takes = group_taken N.blank_is N.merged;
       checks = λ n w. check_wire n StartGroup w;
       asks = GroupTakesMemory;
+      refuses = unsaid;
       need = group_cost N.cost;
       records = group_records N.records;
       slots = message_slots N.encoding N.slots;
@@ -216,7 +218,8 @@ impl<N: Message> Member for Group<N> {
 
     ghost back = { record {
       back = λ n number d v fits normal low. group_back N.merged N.blank_is N.encoding N.records N.levels N.normal
-          N.MessageSpec.encoding_records N.MessageSpec.merged_fields N.MessageSpec.merged_encoding n number d v fits
-          normal low;
+          N.MessageSpec.encoding_records
+          (merged_fields (by_payload N.MessageSpec.stays N.MessageSpec.merged_is N.MessageSpec.cost_is))
+          N.MessageSpec.merged_encoding n number d v fits normal low;
     } };
 }

@@ -15,6 +15,7 @@ ghost use Rattle.buffa_fields.specs.MapLaws.{map_back, map_stays};
 ghost use Rattle.buffa_fields.specs.MemberRecords.{entry_records};
 ghost use Rattle.buffa_fields.specs.OrderedLaws.{ascending_put};
 ghost use Rattle.buffa_fields.specs.OrderedMaps.{KeysAscend};
+ghost use Rattle.buffa_fields.specs.Values.{unsaid};
 
 use crate::map::{map_len, write_map};
 use crate::member::Member;
@@ -86,6 +87,7 @@ where
       takes = entry_taken KC.reading VC.reading (insert_entry KC.Value.order);
       checks = λ n w. check_wire n LengthDelimited w;
       asks = PairTakesMemory KC.reading VC.reading;
+      refuses = unsaid;
       need = entry_cost KC.reading VC.reading (KC.COST + VC.COST);
       records = entry_records KC.writing VC.writing;
       slots = λ _. [];

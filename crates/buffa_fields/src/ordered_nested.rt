@@ -16,6 +16,7 @@ ghost use Rattle.buffa_fields.specs.NestedMapLaws.{pairs_back};
 ghost use Rattle.buffa_fields.specs.NestedMaps.{pair_levels, pair_records, pair_slots};
 ghost use Rattle.buffa_fields.specs.OrderedLaws.{ascending_put};
 ghost use Rattle.buffa_fields.specs.OrderedMaps.{KeysAscend};
+ghost use Rattle.buffa_fields.specs.Values.{unsaid};
 
 use crate::map_nested::{pairs_len, write_pairs};
 use crate::member::Member;
@@ -54,6 +55,7 @@ where
       takes = entry_taken KC.reading (message_reading N.blank_is N.merged N.cost) (insert_entry KC.Value.order);
       checks = λ n w. check_wire n LengthDelimited w;
       asks = PairTakesMemory KC.reading (message_reading N.blank_is N.merged N.cost);
+      refuses = unsaid;
       need = entry_cost KC.reading (message_reading N.blank_is N.merged N.cost) (KC.COST + N.COST);
       records = pair_records KC.writing N.encoding;
       slots = pair_slots N.encoding N.slots;

@@ -14,7 +14,9 @@ ghost use Rattle.buffa_fields.specs.Lists.{Each, element_records};
 ghost use Rattle.buffa_fields.specs.RepeatedGroups.{GroupsTakeMemory, groups_cost, groups_taken};
 ghost use Rattle.buffa_fields.specs.RepeatedGroupLaws.{groups_back, groups_stay};
 ghost use Rattle.buffa_fields.specs.RepeatedNested.{messages_levels, messages_slots};
+ghost use Rattle.buffa_wire.proofs.ByPayloadLemmas.{by_payload, merged_fields};
 ghost use Rattle.buffa_wire.specs.Takes.{IsTaken};
+ghost use Rattle.buffa_fields.specs.Values.{unsaid};
 
 use crate::group::{group_len, take_group, write_group};
 use crate::member::Member;
@@ -145,6 +147,7 @@ impl<N: Message> Member for RepeatedGroup<N> {
       takes = groups_taken N.blank_is N.merged;
       checks = λ n w. check_wire n StartGroup w;
       asks = GroupsTakeMemory;
+      refuses = unsaid;
       need = groups_cost N.COST N.cost;
       records = element_records (group_datum N.records);
       slots = messages_slots N.encoding N.slots;
@@ -179,7 +182,8 @@ impl<N: Message> Member for RepeatedGroup<N> {
 
     ghost back = { record {
       back = λ n number d v fits normal low. groups_back N.merged N.blank_is N.encoding N.records N.levels N.normal
-          N.MessageSpec.encoding_records N.MessageSpec.merged_fields N.MessageSpec.merged_encoding n number d v fits
-          normal low;
+          N.MessageSpec.encoding_records
+          (merged_fields (by_payload N.MessageSpec.stays N.MessageSpec.merged_is N.MessageSpec.cost_is))
+          N.MessageSpec.merged_encoding n number d v fits normal low;
     } };
 }

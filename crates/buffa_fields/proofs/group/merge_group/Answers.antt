@@ -5,6 +5,7 @@ use Rattle.buffa_bytes.proofs.StepLemmas.{agree_ok}
 use Rattle.buffa_bytes.specs.declared.error.DecodeError.TheVariants.{InvalidEndGroup, RecursionLimitExceeded}
 use Rattle.buffa_bytes.specs.declared.wire_type.WireType.TheVariants.{EndGroup}
 use Rattle.buffa_bytes.specs.Front.{tag_at}
+use Rattle.buffa_wire.proofs.ByPayloadLemmas.{by_payload, cost_empty, merged_empty}
 use Rattle.buffa_wire.proofs.MessageLemmas.{reaches_tag}
 use Rattle.buffa_fields.specs.GroupLaws.{begun, ended, merged_on, no_level, no_tag, one_up, other_end, refused_on}
 use Rattle.buffa_fields.proofs.group.merge_group.Goals as goal
@@ -32,7 +33,7 @@ pub loop-tag-preserved : goal.loop-tag-preserved
 loop-tag-preserved g c =
     merged_on g.N.MessageSpec.merged g.N.MessageSpec.cost (c.args.ctx.depth - 1) c.args.number (g.N.Blank.meaning c.args.message.now) c.args.buf.now.now c.args.ctx.budget.now
     (g.N.Blank.meaning c.loop-tag.message) c.loop-tag.buf.now c.loop-tag.budget c.loop-tag.invariant c.in-Ok.tag.number c.in-Ok.tag.wire_type c.decode.new.buf.now c.in-Ok.ensures.reads (λ e. c.in_default.not-EndGroup (c.wire_type.ensures ∙ e))
-    g.N.MessageSpec.merged_fields g.N.MessageSpec.merged_next g.N.MessageSpec.cost_next (g.N.Blank.meaning c.merge_field.new.self) c.merge_field.new.buf.now _ c.in-Ok-merge_field.ensures.merged
+    (by_payload g.N.MessageSpec.stays g.N.MessageSpec.merged_is g.N.MessageSpec.cost_is) (g.N.Blank.meaning c.merge_field.new.self) c.merge_field.new.buf.now _ c.in-Ok-merge_field.ensures.merged
 
 pub returns-in-Err-clause-taken : goal.returns-in-Err-clause-taken
 returns-in-Err-clause-taken g c =
@@ -63,7 +64,7 @@ returns-then-field_number-number-clause-taken g c =
     let now = g.N.Blank.meaning c.loop-tag.message in
     let x = c.decode.new.buf.now in
     one_up merged cost d n old bs start c.args.ctx.depth c.if-depth-eq0.false refl (Ok tt) now c.loop-tag.budget x
-    (ended merged cost d n old bs start now c.loop-tag.buf.now c.loop-tag.budget c.loop-tag.invariant (g.N.MessageSpec.merged_empty d now) (g.N.MessageSpec.cost_empty d)
+    (ended merged cost d n old bs start now c.loop-tag.buf.now c.loop-tag.budget c.loop-tag.invariant (merged_empty (by_payload g.N.MessageSpec.stays g.N.MessageSpec.merged_is g.N.MessageSpec.cost_is) d now) (cost_empty (by_payload g.N.MessageSpec.stays g.N.MessageSpec.merged_is g.N.MessageSpec.cost_is) d)
     c.in-Ok.tag.number c.in-Ok.tag.wire_type x c.in-Ok.ensures.reads (sym c.in-EndGroup.ensures) (sym c.field_number.ensures ∙ c.if-field_number-number.true))
 
 pub returns-in-EndGroup-clause-taken : goal.returns-in-EndGroup-clause-taken
@@ -99,6 +100,6 @@ returns-in-Err-merge_field g c =
     record {
       taken = one_up merged cost d n old bs start c.args.ctx.depth c.if-depth-eq0.false refl (Err e) (g.N.Blank.meaning c.merge_field.new.self) _ c.merge_field.new.buf.now
           (refused_on merged cost d n old bs start (g.N.Blank.meaning c.loop-tag.message) c.loop-tag.buf.now c.loop-tag.budget u m w x c.in-Ok.ensures.reads other
-          g.N.MessageSpec.merged_fields g.N.MessageSpec.merged_next g.N.MessageSpec.cost_next e (g.N.Blank.meaning c.merge_field.new.self) c.merge_field.new.buf.now _ c.in-Err-merge_field.ensures.merged);
+          (by_payload g.N.MessageSpec.stays g.N.MessageSpec.merged_is g.N.MessageSpec.cost_is) e (g.N.Blank.meaning c.merge_field.new.self) c.merge_field.new.buf.now _ c.in-Err-merge_field.ensures.merged);
       full = λ full. (omega (arith, c.if-depth-eq0.false), reaches_tag d u.front bs c.loop-tag.buf.now (m, w, x) u.fields u.split c.in-Ok.ensures.reads other);
     }

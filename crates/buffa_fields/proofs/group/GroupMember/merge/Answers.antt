@@ -25,6 +25,7 @@ returns g c =
       group_there blank g.N.MessageSpec.merged (group_cost g.N.MessageSpec.cost) c.args.ctx.depth c.args.tag.number c.args.tag.wire_type (option_map says c.args.part.now) (says m) (says t.new.message) c.args.buf.now.now t.new.buf.now c.args.ctx.budget.now _ t.result is t.ensures.taken,
       t.ensures.full,
       λ e told. let two = sym c.in-Ok.ensures ∙ told in cc,
+      λ e bad. tt,
     )
 
 pub returns-in-Err : goal.returns-in-Err
@@ -42,4 +43,5 @@ returns-in-Err g c =
           (group_wire_err g.N.MessageSpec.merged g.N.MessageSpec.cost c.args.ctx.depth n w old old bs bs before before c.in-Err.error bad.0 bad.1 refl),
       (λ full. let two = sym full ∙ bad.1 in cc),
       λ e told. (sym c.in-Err.ensures ∙ told, refl, refl),
+      λ e bad. tt,
     )
