@@ -10,6 +10,7 @@ pub mod joined;
 pub mod laws;
 pub mod maps;
 pub mod order;
+pub mod pallet;
 pub mod parcel;
 pub mod separate;
 pub mod state;
