@@ -2,11 +2,11 @@
 
 Written from the encoding guide and from GUIDE's table of kinds of members: a plain member is written unless it is the
 default, an optional one where it is there; elements of a list come one in a field, or packed; a message that stands is
-merged into, an element of a list and a value of a map is new. `second_reading.py` judges rows on them by it.
+merged into, an element of a list and a value of a map is new; a group is its fields and its end tag. `second_reading.py` judges rows on them by it.
 """
 from rules import (
-    BLANKS, BY_MEMBERS, DELIMITED, KINDS, MESSAGES, Bytes, Fault, blank, delimited, field_encoding, kept_field, merge, merge_entry,
-    message_text, mismatch, payload, skip, tag_encoding, value, word,
+    BLANKS, BY_MEMBERS, DELIMITED, END, KINDS, MESSAGES, START, Bytes, Fault, blank, delimited, field_encoding, kept_field, merge,
+    merge_entry, merge_field, message_text, mismatch, payload, skip, tag_encoding, value, word,
 )
 
 NUMBERS = (
@@ -14,12 +14,24 @@ NUMBERS = (
 )
 
 
+# The defaults of members that start out as no value of their kind.
+STARTS = (("optional group", lambda _: None), ("repeated packed groups", lambda _: ()), ("map ordered", lambda _: {}))
+
 # A map keeps the order in which its keys came; an ordered one is walked in the order of its keys.
 MAPS = ("map", "ordered")
 
 
 def walked(how, pairs):
     return sorted(pairs.items()) if how == "ordered" else pairs.items()
+
+
+def merge_group(kind, message, buf, number, depth, budget):
+    """What the fields up to the end tag of a group make of a message."""
+    while (tag := buf.tag()) != (number, END):
+        if tag[1] == END:
+            raise Fault(f"InvalidEndGroup {tag[0]}")
+        message = merge_field(kind, message, buf, *tag, depth, budget)
+    return message
 
 
 class ByMembers:
@@ -30,7 +42,7 @@ class ByMembers:
 
     def blank(self):
         """The members' defaults, then what is kept."""
-        starts = {"optional": lambda _: None, "repeated": lambda _: (), "packed": lambda _: (), "map": lambda _: {}, "ordered": lambda _: {}}
+        starts = {how: start for hows, start in STARTS for how in hows.split()}
         return (*(starts.get(how, blank)(kind) for _, how, kind in self.members), b"")
 
     def merged(self, message, buf, number, wire, depth, budget):
@@ -46,7 +58,7 @@ class ByMembers:
         return message
 
     def part(self, how, kind, old, buf, number, wire, depth, budget):
-        own = DELIMITED if how in MAPS else KINDS[kind][0]
+        own = {"map": DELIMITED, "ordered": DELIMITED, "group": START, "groups": START}.get(how) or KINDS[kind][0]
         if how in ("repeated", "packed") and wire == DELIMITED != own:
             found, inner = list(old), Bytes(buf.take(buf.varint()))
             while inner.unread():
@@ -61,13 +73,16 @@ class ByMembers:
         if kind not in MESSAGES:
             found = value(kind, buf, None)[0]
             return (*old, found) if how in ("repeated", "packed") else found
-        if how == "repeated":
+        if how in ("repeated", "groups"):
             budget.take_units(KINDS[kind][1])
         if depth == 0:
             raise Fault("RecursionLimitExceeded")
-        start = old if how == "optional" and old is not None else blank(kind)
-        found = merge(kind, start, buf.take(buf.varint()), depth - 1, budget)
-        return (*old, found) if how == "repeated" else found
+        found = old if how in ("optional", "group") and old is not None else blank(kind)
+        if own == DELIMITED:
+            found = merge(kind, found, buf.take(buf.varint()), depth - 1, budget)
+        else:
+            found = merge_group(kind, found, buf, number, depth - 1, budget)
+        return (*old, found) if how in ("repeated", "groups") else found
 
     def texts(self, message):
         """The text of each member's fields."""
@@ -78,8 +93,11 @@ class ByMembers:
             if how == "packed":
                 yield tag_encoding(number, DELIMITED) + delimited(b"".join(payload(kind, it) for it in part)) if part else b""
                 continue
-            there = {"optional": [part] * (part is not None), "repeated": part}.get(how, [part] * (part != blank(kind)))
-            for one in there:
+            there = [part] * (part is not None and (how in ("optional", "group") or part != blank(kind)))
+            for one in part if how in ("repeated", "groups") else there:
+                if how in ("group", "groups"):
+                    yield tag_encoding(number, START) + message_text(kind, one) + tag_encoding(number, END)
+                    continue
                 inner = delimited(message_text(kind, one)) if kind in MESSAGES else payload(kind, one)
                 yield tag_encoding(number, KINDS[kind][0]) + inner
 
@@ -93,7 +111,7 @@ class ByMembers:
             inner = kind[1] if how in MAPS else kind
             if inner in MESSAGES:
                 whole = [it for _, it in walked(how, part)] if how in MAPS else part
-                held = [whole] * (whole is not None) if how == "optional" else whole
+                held = whole if how in (*MAPS, "repeated", "groups") else [part] * (part is not None)
                 found += [it for one in held for it in [len(message_text(inner, one)), *BY_MEMBERS[inner].slots(one)]]
         return found
 
@@ -102,7 +120,7 @@ class ByMembers:
         for (_, how, kind), part in zip(self.members, message):
             if how in MAPS:
                 words.append("{" + ",".join(sorted(f"{word(kind[0], key)}={word(kind[1], it)}" for key, it in part.items())) + "}")
-            elif how in ("repeated", "packed"):
+            elif how in ("repeated", "packed", "groups"):
                 words.append("[" + ",".join(word(kind, it) for it in part) + "]")
             else:
                 words.append("none" if part is None else word(kind, part))
@@ -124,6 +142,7 @@ def numbers(how, places):
 declare("inventory", 96, [(1, "plain", "int32"), (2, "plain", "string"), (3, "optional", "bool"), (5, "map", ("string", "int32"))], True)
 declare("parcel", 112, [(1, "plain", "int64"), (2, "optional", "inventory")])
 declare("depot", 56, [(1, "plain", "string"), (2, "repeated", "parcel")])
+declare("pallet", 160, [(1, "plain", "string"), (2, "group", "inventory"), (3, "groups", "inventory")])
 declare("store", 72, [(1, "plain", "string"), (2, "map", ("string", "inventory"))])
 declare("ledger", 96, [
     (1, "ordered", ("string", "int32")), (2, "ordered", ("int32", "inventory")), (3, "ordered", ("bool", "bytes")),

@@ -119,6 +119,9 @@ class Maker:
             return self.field(self.pick(number, 13, 14), self.pick(VARINT, EIGHT, DELIMITED, START, FOUR), levels)
         if how == "map":
             return tag_encoding(number, DELIMITED) + self.entry(inner)
+        if how in ("group", "groups"):
+            end = self.pick(number, number, number, 3) * 8 + END
+            return tag_encoding(number, START) + self.message(inner, levels - 1) + self.varint(end)
         if how in ("repeated", "packed") and KINDS[inner][0] != DELIMITED and self.is_one_in(2):
             return tag_encoding(number, DELIMITED) + delimited(b"".join(self.payload(inner) for _ in range(self.any.randint(0, 3))))
         return tag_encoding(number, KINDS[inner][0]) + self.payload(inner)

@@ -11,6 +11,7 @@ pub mod laws;
 pub mod ledger;
 pub mod maps;
 pub mod order;
+pub mod pallet;
 pub mod parcel;
 pub mod separate;
 pub mod state;

@@ -7,6 +7,7 @@ use buffa_inventory::depot::Depot;
 use buffa_inventory::inventory::Inventory;
 use buffa_inventory::ledger::Ledger;
 use buffa_inventory::order::Order;
+use buffa_inventory::pallet::Pallet;
 use buffa_inventory::parcel::Parcel;
 use buffa_inventory::store::Store;
 use conformance_messages::parted;
@@ -34,6 +35,7 @@ pub fn on_members(
         "inventory" => parted::<Members, Inventory>(alloc, case, kind, mark, bytes),
         "ledger" => parted::<Members, Ledger>(alloc, case, kind, mark, bytes),
         "order" => parted::<Members, Order>(alloc, case, kind, mark, bytes),
+        "pallet" => parted::<Members, Pallet>(alloc, case, kind, mark, bytes),
         "parcel" => parted::<Members, Parcel>(alloc, case, kind, mark, bytes),
         "store" => parted::<Members, Store>(alloc, case, kind, mark, bytes),
         _ => Err(Fault::Form),

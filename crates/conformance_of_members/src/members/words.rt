@@ -6,6 +6,7 @@ use buffa_inventory::depot::Depot;
 use buffa_inventory::inventory::Inventory;
 use buffa_inventory::ledger::Ledger;
 use buffa_inventory::order::Order;
+use buffa_inventory::pallet::Pallet;
 use buffa_inventory::parcel::Parcel;
 use buffa_inventory::state::State;
 use buffa_inventory::store::Store;
@@ -133,6 +134,24 @@ impl Worded<Members> for Order {
     }
 
     fn of_word(_alloc: Global, _word: &str) -> Result<Order, Fault> {
+        Err(Fault::Form)
+    }
+}
+
+impl Parted<Members> for Pallet {
+    fn parts(&self, parts: &mut Parts<Members>) {
+        parts.value(1, &self.mark);
+        parts.maybe(2, &self.stock);
+        parts.list(3, self.layers.as_slice());
+    }
+}
+
+impl Worded<Members> for Pallet {
+    fn word(&self, alloc: Global) -> Result<String, Fault> {
+        parted_word::<Members, _>(alloc, self)
+    }
+
+    fn of_word(_alloc: Global, _word: &str) -> Result<Pallet, Fault> {
         Err(Fault::Form)
     }
 }
