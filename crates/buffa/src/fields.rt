@@ -8,6 +8,7 @@
 //! ```
 
 pub use buffa_fields::fields::Fields;
+pub use buffa_fields::group::Group;
 pub use buffa_fields::kept::{self, KeptFields};
 pub use buffa_fields::kind::Kind;
 pub use buffa_fields::map_member::MapOf;
@@ -22,6 +23,7 @@ pub use buffa_fields::ordered_nested::OrderedMapOfNested;
 pub use buffa_fields::packed::{Packable, Packed};
 pub use buffa_fields::plain::Plain;
 pub use buffa_fields::repeated::Repeated;
+pub use buffa_fields::repeated_group::RepeatedGroup;
 pub use buffa_fields::repeated_nested::RepeatedNested;
 pub use buffa_fields::visitor::Visitor;
 pub use buffa_wire::Formed;

@@ -38,7 +38,7 @@ module _ {K V A B : Type 0} (order : A → A → Ordering) (f : K → A) (g : V 
   all_mean x [] h = tt
   all_mean x (e ∷ es) h = (h.0, all_mean x es h.1)
 
-  sorted_means : (es : List (K × V)) → IsStrictlySortedBy (λ x y. order (f x) (f y)) (keys_of es) → KeysAscend order (means f g es)
+  pub sorted_means : (es : List (K × V)) → IsStrictlySortedBy (λ x y. order (f x) (f y)) (keys_of es) → KeysAscend order (means f g es)
   unfolding IsStrictlySortedBy
   sorted_means [] h = tt
   sorted_means (e ∷ es) h = (all_mean (f e.0) es h.0, sorted_means es h.1)

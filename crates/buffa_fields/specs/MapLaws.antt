@@ -37,6 +37,7 @@ use Rattle.buffa_map.specs.declared.map_entry.MapEntry.{MapEntry}
 use Rattle.buffa_bytes.specs.declared.error.EncodeError.{EncodeError}
 use Rattle.buffa_bytes.specs.declared.error.EncodeError.TheVariants as encode
 use Rattle.buffa_fields.specs.MapFields.{PairTakesMemory, WritesMap, entry_cost, entry_taken, map_records, put_all, stepped}
+use Rattle.buffa_fields.specs.NestedLaws.{delimited_alone, first_same}
 use Rattle.buffa_wire.specs.Takes.{IsTaken, Leads, Piece, ReadsBack, Stays, Untaken, joined}
 use Rattle.buffa_map.proofs.BackLemmas.{IsReadBack, entry_back, fold_back}
 use Rattle.buffa_bytes.proofs.FieldLemmas.{is_tag}
@@ -53,14 +54,11 @@ pub map_has_encoding : {K V : Type 0} (key : Writing K) (val : Writing V) (n : �
 map_has_encoding key val n [] h = tt
 map_has_encoding key val n (p ∷ ps) h = (h.1, map_has_encoding key val n ps h.2)
 
-first_same : (a b x y : List ℕ) → (let r : Result (List ℕ × List ℕ) DecodeError = Ok (a, x) in r ≡ Ok (b, y)) → a ≡ b
-first_same a b x y h = ap (λ z. z.0) (ok_same h)
-
 none_slot : (b : Bool) → let z : ℕ = 0 in cond b z z ≡ z
 none_slot true = refl
 none_slot false = refl
 
-is_limit : (f : DecodeError) → IsLimit f ⊎ NoLimit f
+pub is_limit : (f : DecodeError) → IsLimit f ⊎ NoLimit f
 is_limit error.UnknownFieldLimitExceeded = inl tt
 is_limit error.ElementMemoryLimitExceeded = inl tt
 is_limit _ = inr (λ h. h)
@@ -90,11 +88,7 @@ module _ {K V : Type 0} (key : Reading K) (val : Reading V) (same : K → K → 
 
   module _ (d n : ℕ) (w : WireType) (old new : List (K × V)) (bs rest : List ℕ) (before after : BudgetLeft) (none : List (ℕ × Datum)) where
     payload_at : (p more : List ℕ) → w ≡ LengthDelimited → Payload d n w p → bs ≡ p ++ more → (body : List ℕ) × (delimited_at bs ≡ Ok (body, more)) × (delimited_at p ≡ Ok (body, []))
-    payload_at p more wire h split =
-        let u : Payload d n LengthDelimited p = subst (λ z. Payload d n z p) wire h in
-        let whole : delimited_at bs ≡ Ok (u.1, more) = ap delimited_at (split ∙ ap (λ (z : List ℕ). z ++ more) u.3 ∙ append_assoc u.0 u.1 more) ∙ delimited_complete u.0 u.1 more u.2 in
-        let alone : delimited_at p ≡ Ok (u.1, []) = ap delimited_at (u.3 ∙ ap (λ (z : List ℕ). u.0 ++ z) (sym (append-nil u.1))) ∙ delimited_complete u.0 u.1 [] u.2 in
-        (u.1, whole, alone)
+    payload_at p more wire h split = delimited_alone d n w p more bs wire h split
 
     -- ---- an entry is taken
     pub map_ok : w ≡ LengthDelimited → (m : MergesEntry (dropping key val same keeps d 0 cost) (state old none before) bs (state new none after) rest) → new ≡ stepped puts old m.says →

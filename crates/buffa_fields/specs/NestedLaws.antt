@@ -43,7 +43,7 @@ delimited_alone d n w p more bs wire h split =
     let alone : delimited_at p ≡ Ok (u.1, []) = ap delimited_at (u.3 ∙ ap (λ (z : List ℕ). u.0 ++ z) (sym (append-nil u.1))) ∙ delimited_complete u.0 u.1 [] u.2 in
     (u.1, whole, alone)
 
-first_same : (a b x y : List ℕ) → (let r : Result (List ℕ × List ℕ) DecodeError = Ok (a, x) in r ≡ Ok (b, y)) → a ≡ b
+pub first_same : (a b x y : List ℕ) → (let r : Result (List ℕ × List ℕ) DecodeError = Ok (a, x) in r ≡ Ok (b, y)) → a ≡ b
 first_same a b x y h = ap (λ z. z.0) (ok_same h)
 
 -- ---- the message of a whole payload

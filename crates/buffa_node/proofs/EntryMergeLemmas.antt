@@ -1,21 +1,12 @@
 -- Merging the entry of a map field in a message: what the calls for any map promise, said as what a field does to a value.
 use Rattle.std.proofs.Common.{◌≡◌, ◌≢◌, ◌⊎◌, inl, inr, ℕ, ◌+◌, ◌≤◌, Bool, true, false, cond, List, [], ◌∷◌, ◌++◌, Some, Result, Ok, Err, IsOk, refl, sym, ap, subst, ◌∙◌, arith, append_assoc, append-nil}
-use Rattle.std.specs.BTreeMap.{insert_entry}
-use Rattle.std.specs.Cmp.{IsTotalOrder}
-use Rattle.std.specs.List.{AllByRecursion}
-use Rattle.std.specs.List.Sorted.{IsStrictlySortedBy}
-use Rattle.std.specs.Map.{keys_of}
 use Rattle.std.specs.Option.{option_map}
-use Rattle.std.specs.Ordering.{eq_by_cmp}
-use Rattle.std.specs.declared.cmp.Ordering.{Ordering}
-use Rattle.std.specs.declared.cmp.Ordering.TheVariants.{Less}
 use Rattle.buffa_bytes.proofs.DelimitedLemmas.{delimited_complete, delimited_faulty, delimited_taken}
 use Rattle.buffa_bytes.specs.declared.error.DecodeError.{DecodeError}
 use Rattle.buffa_bytes.specs.declared.error.DecodeError.TheVariants as error
 use Rattle.buffa_bytes.specs.declared.wire_type.WireType.{WireType}
 use Rattle.buffa_bytes.specs.declared.wire_type.WireType.TheVariants.{LengthDelimited}
 use Rattle.buffa_wire.proofs.MessageLemmas.{NoLimit}
-use Rattle.buffa_wire.proofs.SequenceLemmas.{ok_same}
 use Rattle.buffa_wire.specs.BudgetLeft.{BudgetLeft, Lacks, Pays, PaysAtMost, plus, unknown_fields}
 use Rattle.buffa_bytes.specs.Content.{Content}
 use Rattle.buffa_bytes.specs.Field.{Payload}
@@ -23,43 +14,19 @@ use Rattle.buffa_wire.specs.Message.{IsLimit}
 use Rattle.buffa_bytes.specs.Front.{delimited_at}
 use Rattle.buffa_map.proofs.EntryLemmas.{entry_complete, entry_faulty, same_false}
 use Rattle.buffa_map.proofs.NeedLemmas.{entry_limited}
-use Rattle.buffa_map.proofs.PutLemmas.{SamePairs-insert_entry}
 use Rattle.buffa_map.specs.Codec.{Reading}
 use Rattle.buffa_map.specs.Entry.{EntryFault, EntryOf, FaultOf, IsEntry, entry_of, inner_need, need_of}
-use Rattle.buffa_map.specs.Pairs.{SamePairs, means, put}
-use Rattle.buffa_map.specs.Run.{step}
 use Rattle.buffa_map.specs.declared.map_entry.MapEntry.{MapEntry}
 use Rattle.buffa_wire.specs.Takes.{IsTaken, Need, Taker, Untaken}
-use Rattle.buffa_samples.proofs.SortedLemmas.{same_sorted, sorted_put}
-use Rattle.buffa_node.specs.Entries.{entry_cost, entry_taken, put_in, extra_of}
+use Rattle.buffa_fields.specs.MapLaws.{is_limit}
+use Rattle.buffa_fields.specs.NestedLaws.{delimited_alone, first_same}
+use Rattle.buffa_node.specs.Entries.{entry_cost, entry_taken, extra_of}
 
 abbrev good : Result (Unit {0}) DecodeError
 good = Ok tt
 
 abbrev bad : DecodeError → Result (Unit {0}) DecodeError
 bad e = Err e
-
--- ---- pairs in the order of their keys
-module _ {K V : Type 0} {cmp : K → K → Ordering} (o : IsTotalOrder cmp) where
-  put_by : (k : Bool) (old new : List (K × V)) (s : MapEntry K V) → IsStrictlySortedBy cmp (keys_of old) → IsStrictlySortedBy cmp (keys_of new) → SamePairs (eq_by_cmp cmp) (cond k (put (eq_by_cmp cmp) old s.key s.value) old) new →
-      new ≡ cond k (insert_entry cmp old s.key s.value) old
-  put_by true old new s a b h = same_sorted o new (insert_entry cmp old s.key s.value) b (sorted_put o old s.key s.value a) (λ q. sym (h q) ∙ SamePairs-insert_entry o old s.key s.value a q)
-  put_by false old new s a b h = same_sorted o new old b a (λ q. sym (h q))
-
-  -- a step of the fold is an insertion
-  pub is_put : (old new : List (K × V)) (s : MapEntry K V) → IsStrictlySortedBy cmp (keys_of old) → IsStrictlySortedBy cmp (keys_of new) → SamePairs (eq_by_cmp cmp) (step (eq_by_cmp cmp) old s) new → new ≡ put_in cmp old s
-  is_put old new s a b h = put_by s.known old new s a b h
-
--- keys that are in order mean keys in order
-module _ {K V A B : Type 0} (cmp : A → A → Ordering) (f : K → A) (g : V → B) where
-  all_mean : (x : A) (es : List (K × V)) → AllByRecursion (λ y. cmp x (f y) ≡ Less) (keys_of es) → AllByRecursion (λ y. cmp x y ≡ Less) (keys_of (means f g es))
-  all_mean x [] h = tt
-  all_mean x (e ∷ es) h = (h.0, all_mean x es h.1)
-
-  pub sorted_means : (es : List (K × V)) → IsStrictlySortedBy (λ x y. cmp (f x) (f y)) (keys_of es) → IsStrictlySortedBy cmp (keys_of (means f g es))
-  unfolding IsStrictlySortedBy
-  sorted_means [] h = tt
-  sorted_means (e ∷ es) h = (all_mean (f e.0) es h.0, sorted_means es h.1)
 
 -- ---- one field of several
 module _ {A X : Type 0} (f : Taker A) (fn : Need) (T : Taker X) (N : Need) (d n : ℕ) (w : WireType) (a : A) (v : X) (set : A → X)
@@ -75,14 +42,6 @@ module _ {A X : Type 0} (f : Taker A) (fn : Need) (T : Taker X) (N : Need) (d n 
     ],
     full,
   )
-
-first_same : (a b x y : List ℕ) → (let r : Result (List ℕ × List ℕ) DecodeError = Ok (a, x) in r ≡ Ok (b, y)) → a ≡ b
-first_same a b x y h = ap (λ z. z.0) (ok_same h)
-
-is_limit : (f : DecodeError) → IsLimit f ⊎ NoLimit f
-is_limit error.UnknownFieldLimitExceeded = inl tt
-is_limit error.ElementMemoryLimitExceeded = inl tt
-is_limit _ = inr (λ h. h)
 
 -- ---- the field of an entry
 module _ {K V X : Type 0} (key : Reading K) (val paid : Reading V) (cost extra : ℕ) (does : X → List ℕ → MapEntry K V → X) (d n : ℕ) (w : WireType)
@@ -104,11 +63,7 @@ module _ {K V X : Type 0} (key : Reading K) (val paid : Reading V) (cost extra :
 
   module _ (old : X) (bs : List ℕ) (before : BudgetLeft) where
     payload_at : (p more : List ℕ) → w ≡ LengthDelimited → Payload d n w p → bs ≡ p ++ more → (body : List ℕ) × (delimited_at bs ≡ Ok (body, more)) × (delimited_at p ≡ Ok (body, []))
-    payload_at p more wire h split =
-        let u : Payload d n LengthDelimited p = subst (λ z. Payload d n z p) wire h in
-        let whole : delimited_at bs ≡ Ok (u.1, more) = ap delimited_at (split ∙ ap (λ (z : List ℕ). z ++ more) u.3 ∙ append_assoc u.0 u.1 more) ∙ delimited_complete u.0 u.1 more u.2 in
-        let alone : delimited_at p ≡ Ok (u.1, []) = ap delimited_at (u.3 ∙ ap (λ (z : List ℕ). u.0 ++ z) (sym (append-nil u.1))) ∙ delimited_complete u.0 u.1 [] u.2 in
-        (u.1, whole, alone)
+    payload_at p more wire h split = delimited_alone d n w p more bs wire h split
 
     refused_at : (e : List ℕ) (f : DecodeError) → w ≡ LengthDelimited → FaultOf key paid d e f → (more : List ℕ) → delimited_at bs ≡ Ok (e, more) → Untaken (entry_taken key val does) d old n w bs
     unfolding entry_taken

@@ -31,7 +31,8 @@ use Rattle.buffa_wire.specs.Kept.{keep_need}
 use Rattle.buffa_fields.specs.Keep.{keep_takes}
 use Rattle.buffa_wire.specs.Takes.{IsTaken}
 use Rattle.buffa_wire.proofs.ByPayloadLemmas.{merges_taken}
-use Rattle.buffa_node.proofs.EntryMergeLemmas.{is_put, part_taken, sorted_means, taken_err, taken_ok, wire_err}
+use Rattle.buffa_fields.proofs.OrderedLemmas.{is_put, sorted_means}
+use Rattle.buffa_node.proofs.EntryMergeLemmas.{part_taken, taken_err, taken_ok, wire_err}
 use Rattle.buffa_node.specs.Branch.{Branch, Kept, Scores, Shades, bare, branch, kids, listed-kids, shade_number}
 use Rattle.buffa_node.specs.declared.shade.Shade.{Shade}
 use Rattle.buffa_node.specs.Entries.{entry_cost, entry_taken, put_in}

@@ -14,10 +14,11 @@ use Rattle.buffa_map.specs.Entry.{entry_of, need_of}
 use Rattle.buffa_map.specs.declared.map_entry.MapEntry.{MapEntry}
 use Rattle.buffa_wire.specs.ByField.{value_of}
 use Rattle.buffa_wire.specs.Takes.{Need, Taker}
+use Rattle.buffa_fields.specs.MapFields.{stepped}
 
 -- a declared pair is put into pairs that stand in the order of their keys
 abbrev pub put_in : {K V : Type 0} → (K → K → Ordering) → List (K × V) → MapEntry K V → List (K × V)
-put_in cmp m s = cond s.known (insert_entry cmp m s.key s.value) m
+put_in cmp = stepped (insert_entry cmp)
 
 -- what one that is undeclared takes, where each takes so many unknown fields
 abbrev pub extra_of : {K V : Type 0} → ℕ → Result (MapEntry K V) DecodeError → BudgetLeft

@@ -21,6 +21,7 @@ use Rattle.buffa_map.specs.Codec.{Reading}
 use Rattle.buffa_map.specs.Entry.{IsEntry}
 use Rattle.buffa_map.specs.declared.map_entry.MapEntry.{MapEntry}
 use Rattle.buffa_wire.specs.Takes.{Leads, Piece, Taker, joined}
+use Rattle.buffa_fields.specs.OrderedLaws.{put_last}
 use Rattle.buffa_node.specs.Entries.{entry_taken}
 
 -- any number may be a field's
@@ -34,18 +35,6 @@ joined_both (x ∷ xs) ys = ap (λ (z : List ℕ). (x.tag ++ x.payload) ++ z) (j
 pub leads_both : {X : Type 0} (T : Taker X) (d : ℕ) (s t u : X) (fs gs : List Piece) → Leads T any d s fs t → Leads T any d t gs u → Leads T any d s (fs ++ gs) u
 leads_both T d s t u [] gs h l = subst (λ z. Leads T any d z gs u) (sym h) l
 leads_both T d s t u (x ∷ fs) gs (is, tag, payload, v, h, j) l = (is, tag, payload, v, h, leads_both T d v t u fs gs j l)
-
--- ---- the last key goes to the end
-all_before : {K V : Type 0} (P : K → Type 0) (es : List (K × V)) (k : K) (v : V) (more : List (K × V)) → AllByRecursion P (keys_of (es ++ (k, v) ∷ more)) → P k
-all_before P [] k v more a = a.0
-all_before P (e ∷ es) k v more a = all_before P es k v more a.1
-
-put_last : {K V : Type 0} {cmp : K → K → Ordering} → IsTotalOrder cmp → (es : List (K × V)) (k : K) (v : V) (more : List (K × V)) → IsStrictlySortedBy cmp (keys_of (es ++ (k, v) ∷ more)) → insert_entry cmp es k v ≡ es ++ (k, v) ∷ []
-unfolding IsStrictlySortedBy
-put_last o [] k v more s = refl
-put_last {cmp = cmp} o (e ∷ es) k v more s =
-    let greater : cmp k e.0 ≡ Greater = o.antisymm k e.0 ∙ ap ordering_reverse (all_before (λ y. cmp e.0 y ≡ Less) es k v more s.0) in
-    ap (λ r. match_ordering r ((k, v) ∷ e ∷ es) ((e.0, v) ∷ es) (e ∷ insert_entry cmp es k v)) greater ∙ ap (λ xs. e ∷ xs) (put_last o es k v more s.1)
 
 -- an entry that is read does what it does
 pub read_entry : {K V X : Type 0} (key : Reading K) (val : Reading V) (does : X → List ℕ → MapEntry K V → X) (d n : ℕ) (v : X) (e : List ℕ) (s : MapEntry K V) → length e < 2 ^ 64 → IsEntry key val d e s →

@@ -1,7 +1,6 @@
 pub mod NormalLemmas
 mod NumberLemmas
 pub mod PassedLemmas
-pub mod SortedLemmas
 pub mod TreeFieldLemmas
 pub mod TreeMergeLemmas
 pub mod TreeSizeLemmas
