@@ -30,11 +30,11 @@ use Rattle.buffa_wire.specs.Message.{IsFieldMerged, IsJudged, MergeFault}
 use Rattle.buffa_wire.specs.Parse.{Fits}
 use Rattle.buffa_wire.specs.Passes.{IsSmall, IsWritten, WritesIf, cap}
 use Rattle.buffa_wire.specs.Records.{Datum, group, records_of}
-use Rattle.buffa_map.proofs.BackLemmas.{is_tag}
+use Rattle.buffa_bytes.proofs.FieldLemmas.{is_tag}
 use Rattle.buffa_map.proofs.EntryLemmas.{same_false}
 use Rattle.buffa_fields.specs.Groups.{body_behind, body_step, group_body, group_cost, group_in, group_records, group_taken}
 use Rattle.buffa_fields.specs.Nested.{message_levels, message_slots, or_blank}
-use Rattle.buffa_wire.specs.Takes.{IsTaken, Need, Piece, ReadsBack, Stays, Untaken, front_of}
+use Rattle.buffa_wire.specs.Takes.{IsTaken, Need, Piece, ReadsBack, Stays, Untaken, front_of, Taker}
 use Rattle.buffa_fields.specs.Values.{IfThere}
 
 -- ---- the body of a group

@@ -17,7 +17,7 @@ use Rattle.buffa_wire.specs.BudgetLeft.{BudgetLeft, plus, units}
 use Rattle.buffa_wire.specs.Encoding.{records_encoding}
 use Rattle.buffa_wire.specs.Parse.{Fits}
 use Rattle.buffa_wire.specs.Records.{Datum, records_of}
-use Rattle.buffa_map.proofs.BackLemmas.{is_tag}
+use Rattle.buffa_bytes.proofs.FieldLemmas.{is_tag}
 use Rattle.buffa_map.proofs.EntryLemmas.{same_false}
 use Rattle.buffa_fields.specs.Groups.{group_cost, group_datum, group_in}
 use Rattle.buffa_fields.specs.GroupLaws.{group_again, group_piece, group_stays, group_wire_err}
