@@ -11,6 +11,7 @@ use buffa_wire::types::{encode_int32, int32_encoded_len};
 use buffa_wire::{EncodeError, EncodeSink, Tag, WireType};
 
 // The length of a field of a number below 16, also at 0.
+#[inline(always)]
 fn len_at(number: u32, value: i32) -> u32
     requires { number < 16 }
     ensures len { result ≡ length (tag_encoding number Varint ++ int32_encoding value) }
@@ -20,6 +21,7 @@ fn len_at(number: u32, value: i32) -> u32
 }
 
 // The length of a field of a number below 16.
+#[inline(always)]
 #[tactic(auto, using(crate::specs::FieldsLaws::zero_encoding, crate::specs::FieldsLaws::some_encoding))]
 pub(crate) fn number_len(number: u32, value: &i32) -> u32
     requires { number < 16 }
@@ -34,6 +36,7 @@ pub(crate) fn number_len(number: u32, value: &i32) -> u32
 }
 
 // Writes a field, also at 0.
+#[inline(always)]
 #[tactic(auto, using(buffa_bytes::proofs::SinkLemmas::writes_then, buffa_bytes::proofs::SinkLemmas::front_first))]
 fn write_at<S: EncodeSink>(number: u32, value: i32, sink: &mut S) -> Result<(), EncodeError>
     requires { IsNumber number }
@@ -44,6 +47,7 @@ fn write_at<S: EncodeSink>(number: u32, value: i32, sink: &mut S) -> Result<(), 
 }
 
 // Writes a field.
+#[inline(always)]
 #[tactic(auto, using(crate::specs::FieldsLaws::zero_encoding, crate::specs::FieldsLaws::some_encoding))]
 pub(crate) fn write_number<S: EncodeSink>(
     number: u32,
