@@ -63,6 +63,13 @@ def message_list(n, rng):
     return b"".join(delimited(1, number(1, rng.randrange(1, 1_000_000))) for _ in range(n))
 
 
+def two(n, rng):
+    """Messages of two int32 behind their lengths: half of the values below 128, the others below a million."""
+    value = lambda: rng.randrange(1, 128 if rng.random() < 0.5 else 1_000_000)
+    texts = (number(1, value()) + number(2, value()) for _ in range(n))
+    return b"".join(varint(len(text)) + text for text in texts)
+
+
 def items(n, rng):
     """Items with type ids of two bytes, each a message of one int32."""
     ids = (rng.randrange(1_000, 16_000) for _ in range(n))
@@ -92,6 +99,7 @@ for n in map(int, sys.argv[1:]):
     texts["packed"], texts["repeated"] = lists(n, random.Random(3))
     texts["message_list"] = message_list(n, random.Random(4))
     texts["items"] = items(n, random.Random(5))
+    texts["two"] = two(n, random.Random(7))
     for depth in (1, 5, 20):
         texts[f"tree{depth}"] = tree(n, depth, random.Random(6))
     for field, text in texts.items():

@@ -18,12 +18,12 @@ core=${BENCH_CORE:-$(($(nproc) - 1))}
 passes=${BENCH_PASSES:-3}
 sizes=("$@")
 [ $# -gt 0 ] || sizes=(1000 10000 100000 1000000)
-read -r -a fields <<< "${BENCH_FIELDS:-strings messages tree1 tree5 tree20 records packed repeated message_list one items}"
+read -r -a fields <<< "${BENCH_FIELDS:-strings messages tree1 tree5 tree20 two records packed repeated message_list one items}"
 programs=(./ours ./peer_rust ./peer_cpp)
 kit=$(dirname "$(dirname "$(readlink -f "$(command -v rattle || echo /opt/rattle/bin/rattle)")")")
 # What ours stands on, lowest first.
 crates=()
-wanted=" $(grep -E '^(buffa|buffa_samples):' "$top/crates.txt" | tr -d ':' | tr '\n' ' ') "
+wanted=" $(grep -E '^(buffa_ext|buffa_fields|buffa_map|buffa_message_set|buffa_samples):' "$top/crates.txt" | tr -d ':' | tr '\n' ' ') "
 while IFS=: read -r crate _; do
     case $wanted in *" $crate "*) crates+=("$crate") ;; esac
 done < <(grep -v '^#' "$top/crates.txt")

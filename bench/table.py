@@ -22,6 +22,7 @@ FIELDS = {
     "tree1": "trees 1 deep",
     "tree5": "5 deep",
     "tree20": "20 deep",
+    "two": "messages of two int32",
     "records": "unknown fields",
     "packed": "packed int32",
     "repeated": "repeated int32",

@@ -10,6 +10,7 @@ call bench_strings_tree_write, bench_strings_hash_write, bench_strings_index_wri
 parse_call bench_messages_tree_parse, bench_messages_hash_parse, bench_messages_index_parse;
 call bench_messages_tree_write, bench_messages_index_write;
 call bench_records, bench_packed, bench_repeated, bench_one, bench_message_list, bench_items, bench_tree;
+call bench_two_listed, bench_two_hand;
 
 #define PHASES 4
 
@@ -30,6 +31,8 @@ static const struct {
     {"tree1", "ours", NULL, bench_tree, {"parse", "size", "write"}, 0},
     {"tree5", "ours", NULL, bench_tree, {"parse", "size", "write"}, 0},
     {"tree20", "ours", NULL, bench_tree, {"parse", "size", "write"}, 0},
+    {"two", "ours, its fields listed", NULL, bench_two_listed, {"merge", "size", "write"}, 0},
+    {"two", "ours, by hand", NULL, bench_two_hand, {"merge", "size", "write"}, 0},
     {"records", "ours", NULL, bench_records, {"parse", "size", "write"}, 0},
     {"packed", "ours", NULL, bench_packed, {"read", "make"}, 0},
     {"repeated", "ours", NULL, bench_repeated, {"read", "make"}, 0},

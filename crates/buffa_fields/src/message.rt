@@ -23,6 +23,7 @@ use buffa_wire::{
 use std::alloc::Global;
 
 // Sizes all members.
+#[inline(always)]
 fn size_members<M: Fields>(message: &M, sizer: &mut Sizer<'_>)
     requires { sizer.old.total ≡ Ok 0 }
     ensures same_reference { sizer.new.cache.ghost_name ≡ sizer.old.cache.ghost_name }
@@ -34,6 +35,7 @@ fn size_members<M: Fields>(message: &M, sizer: &mut Sizer<'_>)
 }
 
 // The size pass of a message by its members.
+#[inline(always)]
 fn size<M: Fields>(message: &M, cache: &mut SizeCache) -> Result<u32, EncodeError>
     ensures sized { IsSized (records_encoding (M.layout.records (M.layout.meaning message.now)))
         (M.layout.slots (M.layout.meaning message.now)) cache.old result cache.new }
@@ -45,6 +47,7 @@ fn size<M: Fields>(message: &M, cache: &mut SizeCache) -> Result<u32, EncodeErro
 }
 
 // Writes all members.
+#[inline(always)]
 fn write_members<M: Fields, S: EncodeSink>(message: &M, writer: &mut Writer<'_, S>)
     requires fresh { writer.old.result ≡ Ok tt }
     requires next { IsNext (M.layout.slots (M.layout.meaning message.now)) writer.old.cache.now }
@@ -57,6 +60,7 @@ fn write_members<M: Fields, S: EncodeSink>(message: &M, writer: &mut Writer<'_, 
 }
 
 // The write pass.
+#[inline(always)]
 fn write<M: Fields, S: EncodeSink>(
     message: &M,
     cache: &mut SizeCache,
@@ -71,6 +75,7 @@ fn write<M: Fields, S: EncodeSink>(
 }
 
 // Merges the field whose tag was read.
+#[inline(always)]
 fn merge<M: Fields>(
     message: &mut M,
     alloc: Global,
@@ -148,6 +153,7 @@ impl<M: Listing> MessageForm<M> for Listed {
     ghost cost_is = { λ d b. refl };
 
     /// The size pass, which runs out of memory only where there is a message inside.
+    #[inline(always)]
     fn compute_size(message: &M, cache: &mut SizeCache) -> Result<u32, EncodeError>
         ensures sized { IsSized (records_encoding (M.layout.records (M.meaning message.now)))
             (M.layout.slots (M.meaning message.now)) cache.old result cache.new }
@@ -156,6 +162,7 @@ impl<M: Listing> MessageForm<M> for Listed {
         size(message, cache)
     }
 
+    #[inline(always)]
     fn write_to<S: EncodeSink>(
         message: &M,
         cache: &mut SizeCache,
@@ -165,6 +172,7 @@ impl<M: Listing> MessageForm<M> for Listed {
     }
 
     /// The member of the number takes the field, and what is refused leaves the others as they were.
+    #[inline(always)]
     fn merge_field(
         message: &mut M,
         alloc: Global,

@@ -43,6 +43,7 @@ impl<C: Kind> Member for Optional<C> {
       stays = λ d n w p x h. refl;
     } };
 
+    #[inline(always)]
     #[tactic(auto, using(crate::specs::LayoutLaws::sized_free), unfolding(crate::specs::MemberRecords::optional_records))]
     fn len(
         number: u32,
@@ -55,6 +56,7 @@ impl<C: Kind> Member for Optional<C> {
         }
     }
 
+    #[inline(always)]
     #[tactic(auto, using(buffa_wire::proofs::PassLemmas::written_none, buffa_wire::proofs::PassLemmas::written_put), unfolding(crate::specs::MemberRecords::optional_records))]
     fn write_to<S: EncodeSink>(
         number: u32,
@@ -68,6 +70,7 @@ impl<C: Kind> Member for Optional<C> {
         }
     }
 
+    #[inline(always)]
     fn merge(
         part: &mut Option<C::Value>,
         alloc: Global,

@@ -42,6 +42,7 @@ impl<C: Kind> Member for Plain<C> {
       stays = λ d n w p x h. refl;
     } };
 
+    #[inline(always)]
     #[tactic(auto, using(crate::specs::LayoutLaws::sized_free), unfolding(crate::specs::MemberRecords::plain_records))]
     fn len(number: u32, part: &C::Value, _cache: &mut SizeCache) -> Result<u32, EncodeError> {
         if C::is_blank(part) {
@@ -51,6 +52,7 @@ impl<C: Kind> Member for Plain<C> {
         }
     }
 
+    #[inline(always)]
     #[tactic(auto, using(buffa_wire::proofs::PassLemmas::written_none, buffa_wire::proofs::PassLemmas::written_put), unfolding(crate::specs::MemberRecords::plain_records))]
     fn write_to<S: EncodeSink>(
         number: u32,
@@ -65,6 +67,7 @@ impl<C: Kind> Member for Plain<C> {
         }
     }
 
+    #[inline(always)]
     #[tactic(auto, unfolding(crate::specs::Layout::Took))]
     fn merge(
         part: &mut C::Value,

@@ -26,6 +26,7 @@ impl<'a> Sizer<'a> {
     /// ```ignore
     /// let mut sizer = Sizer::new(cache);
     /// ```
+    #[inline(always)]
     pub fn new(cache: &'a mut SizeCache) -> Sizer<'a>
         ensures same_reference { result.cache.ghost_name ≡ cache.entry.ghost_name }
         ensures cache { result.cache.now ≡ cache.old }
@@ -47,6 +48,7 @@ impl Sizer<'_> {
     /// ```ignore
     /// let size = sizer.finish();
     /// ```
+    #[inline(always)]
     pub fn finish(self) -> Result<u32, EncodeError>
         ensures result { result ≡ self.entry.total }
         ensures cache { self.exit.0.now ≡ self.entry.cache.now }
@@ -61,6 +63,7 @@ impl Visitor for Sizer<'_> {
 
     ghost Waits = { λ ss s. Unit {0} };
 
+    #[inline(always)]
     #[tactic(auto, using(crate::specs::LayoutLaws::counted, crate::specs::LayoutLaws::counted_err, crate::specs::LayoutLaws::counted_none))]
     fn visit<M: Member>(&mut self, number: u32, part: &M::Part) {
         if let Ok(total) = self.total {
@@ -71,6 +74,7 @@ impl Visitor for Sizer<'_> {
         }
     }
 
+    #[inline(always)]
     #[tactic(auto, using(crate::specs::LayoutLaws::counted, crate::specs::LayoutLaws::sized_free, crate::specs::LayoutLaws::counted_none))]
     fn visit_kept(&mut self, fields: &UnknownFields) {
         if let Ok(total) = self.total {

@@ -21,6 +21,7 @@ use buffa_wire::{
 use std::alloc::Global;
 
 // Merges the value of the field whose tag was read.
+#[inline(always)]
 pub(crate) fn take_value<C: MapCodec>(
     alloc: Global,
     value: &mut C::Value,
@@ -48,6 +49,7 @@ pub(crate) fn take_value<C: MapCodec>(
 }
 
 // The length of a field, or 2^32 - 1 where it is more.
+#[inline(always)]
 pub(crate) fn value_len<C: Kind>(number: u32, value: &C::Value) -> u32
     requires { IsNumber number }
     ensures { result ≡ cap (length (records_encoding ((number, C.datum (C.Value.meaning value.now)) ∷ []))) }
@@ -62,6 +64,7 @@ pub(crate) fn value_len<C: Kind>(number: u32, value: &C::Value) -> u32
 }
 
 // Writes a tag and a payload.
+#[inline(always)]
 #[tactic(auto, using(buffa_bytes::proofs::SinkLemmas::writes_then, buffa_bytes::proofs::SinkLemmas::front_first))]
 fn write_parts<C: Kind, S: EncodeSink>(
     number: u32,
@@ -77,6 +80,7 @@ fn write_parts<C: Kind, S: EncodeSink>(
 }
 
 // Writes a field.
+#[inline(always)]
 pub(crate) fn write_value<C: Kind, S: EncodeSink>(
     number: u32,
     value: &C::Value,

@@ -26,6 +26,7 @@ impl<'a, S: EncodeSink> Writer<'a, S> {
     /// ```ignore
     /// let mut writer = Writer::new(sink, cache);
     /// ```
+    #[inline(always)]
     pub fn new(sink: &'a mut S, cache: &'a mut SizeCache) -> Writer<'a, S>
         ensures same_sink { result.sink.ghost_name ≡ sink.entry.ghost_name }
         ensures sink { result.sink.now ≡ sink.old }
@@ -50,6 +51,7 @@ impl<S: EncodeSink> Writer<'_, S> {
     /// ```ignore
     /// let answer = writer.finish();
     /// ```
+    #[inline(always)]
     pub fn finish(self) -> Result<(), EncodeError>
         ensures result { result ≡ self.entry.result }
         ensures sink { self.exit.0.now ≡ self.entry.sink.now }
@@ -69,6 +71,7 @@ impl<S: EncodeSink> Visitor for Writer<'_, S> {
 
     ghost Waits = { λ ss w. Follow ss w.result w.cache.now };
 
+    #[inline(always)]
     #[tactic(auto, using(crate::specs::LayoutLaws::put, crate::specs::LayoutLaws::put_none, crate::specs::LayoutLaws::follow_first, crate::specs::LayoutLaws::follow_rest, crate::specs::LayoutLaws::follow_none))]
     fn visit<M: Member>(&mut self, number: u32, part: &M::Part) {
         if self.result.is_ok() {
@@ -76,6 +79,7 @@ impl<S: EncodeSink> Visitor for Writer<'_, S> {
         }
     }
 
+    #[inline(always)]
     #[tactic(auto, using(crate::specs::LayoutLaws::put, crate::specs::LayoutLaws::put_none, buffa_wire::proofs::PassLemmas::written_put, crate::specs::LayoutLaws::follow_rest, crate::specs::LayoutLaws::follow_none))]
     fn visit_kept(&mut self, fields: &UnknownFields) {
         if self.result.is_ok() {

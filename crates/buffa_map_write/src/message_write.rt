@@ -16,6 +16,7 @@ use buffa_map_base::storage::{MapStorage, StableWalk};
 use buffa_wire::{EncodeError, EncodeSink, Message, MessageSpec, SizeCache};
 
 // Writes the key field, and the tag and the length of the value.
+#[inline(always)]
 #[tactic(auto, using(buffa_bytes::proofs::SinkLemmas::writes_then, buffa_bytes::proofs::SinkLemmas::front_first, buffa_bytes::proofs::SinkLemmas::room_then))]
 fn write_key_and_length<KC: MapCodec, S: EncodeSink>(
     key: &KC::Value,
@@ -32,6 +33,7 @@ fn write_key_and_length<KC: MapCodec, S: EncodeSink>(
 }
 
 // Writes all of a record but the message's encoding.
+#[inline(always)]
 #[tactic(auto, using(buffa_bytes::proofs::SinkLemmas::writes_then, buffa_bytes::proofs::SinkLemmas::front_first, buffa_bytes::proofs::SinkLemmas::room_then))]
 fn write_message_head<KC: MapCodec, S: EncodeSink>(
     number: u32,
@@ -50,6 +52,7 @@ fn write_message_head<KC: MapCodec, S: EncodeSink>(
 }
 
 // Writes the record of a pair, of which the message's length is in the next slot.
+#[inline(always)]
 fn write_message_record_by<KC: MapCodec, M: MessageSpec, S: EncodeSink, F>(
     number: u32,
     key: &KC::Value,

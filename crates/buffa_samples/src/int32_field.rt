@@ -34,6 +34,7 @@ pub(crate) fn merge_value(
 }
 
 // The length of a field of a number below 16, also at 0.
+#[inline(always)]
 fn len_at(number: u32, value: i32) -> u32
     requires { number < 16 }
     ensures len { result ≡ length (tag_encoding number Varint ++ int32_encoding value) }
@@ -43,6 +44,7 @@ fn len_at(number: u32, value: i32) -> u32
 }
 
 // The length of a field of a number below 16.
+#[inline(always)]
 #[tactic(auto, using(crate::specs::FieldsLaws::zero_encoding, crate::specs::FieldsLaws::some_encoding))]
 pub(crate) fn number_len(number: u32, value: &i32) -> u32
     requires { number < 16 }
@@ -57,6 +59,7 @@ pub(crate) fn number_len(number: u32, value: &i32) -> u32
 }
 
 // Writes a field, also at 0.
+#[inline(always)]
 #[tactic(auto, using(buffa_bytes::proofs::SinkLemmas::writes_then, buffa_bytes::proofs::SinkLemmas::front_first))]
 fn write_at<S: EncodeSink>(number: u32, value: i32, sink: &mut S) -> Result<(), EncodeError>
     requires { IsNumber number }
@@ -67,6 +70,7 @@ fn write_at<S: EncodeSink>(number: u32, value: i32, sink: &mut S) -> Result<(), 
 }
 
 // Writes a field.
+#[inline(always)]
 #[tactic(auto, using(crate::specs::FieldsLaws::zero_encoding, crate::specs::FieldsLaws::some_encoding))]
 pub(crate) fn write_number<S: EncodeSink>(
     number: u32,

@@ -1,5 +1,5 @@
 -- The encoding of records, one after another.
-use Rattle.std.proofs.Common.{◌≡◌, ℕ, suc, zero, ◌+◌, ◌*◌, ◌<◌, ◌≤◌, min, List, [], ◌∷◌, ◌++◌, length, take, drop, get_or, refl, sym, ap, subst, ◌∙◌, arith, append_assoc, append-nil, length-append}
+use Rattle.std.proofs.Common.{◌≡◌, ℕ, suc, zero, ◌+◌, ◌*◌, ◌<◌, ◌≤◌, ◌^◌, min, Bool, true, false, is_ok, is_err, Ok, List, [], ◌∷◌, ◌++◌, length, take, drop, get_or, refl, sym, ap, subst, ◌∙◌, arith, append_assoc, append-nil, length-append}
 use Rattle.std.proofs.lemmas.List.{take-append-drop}
 use Rattle.buffa_bytes.specs.Varint.{varint_encoding}
 use Rattle.std.specs.Prelude.{Result, Err}
@@ -12,7 +12,7 @@ use Rattle.buffa_bytes.specs.Written.{UsesRoom, Writes, WritesFront}
 use Rattle.buffa_bytes.proofs.SinkLemmas.{front_first, front_second, exits_first, room_first}
 use Rattle.buffa_wire.specs.Records.{Datum}
 use Rattle.buffa_wire.specs.View.{datum_of, record_of, records_in}
-use Rattle.buffa_wire.specs.Encoding.{records_encoding, tagged_encoding}
+use Rattle.buffa_wire.specs.Encoding.{records_encoding, tagged_encoding, told}
 use Rattle.buffa_wire.specs.declared.unknown_fields.UnknownField.{UnknownField}
 
 -- the encoding of one more field
@@ -84,3 +84,33 @@ pub tag_no_room : {T : Type 0} {r : Result T EncodeError} {e : EncodeError} → 
 tag_no_room is n k w v rest room left e f h =
     let t : varint_encoding n ≡ tag_encoding k v = ap varint_encoding (e ∙ ap (λ x. 8 * k + wire_number x) f) in
     room_first is room left (tag_encoding k v) rest (omega (arith, h, ap length t))
+
+-- what was written, told in one bit
+pub told_of : {T : Type 0} (r : Result T EncodeError) (b : Bool) → b ≡ is_ok r → (old encoding new : List ℕ) → Writes r old encoding new → Writes (told b) old encoding new
+told_of (Ok x) b is old encoding new w = rw is w
+told_of (Err e) b is old encoding new w = rw is (refl, w.1)
+
+pub told_room : {T : Type 0} (r : Result T EncodeError) (b : Bool) → b ≡ is_ok r → (room left : ℕ) (encoding : List ℕ) → UsesRoom r room encoding left → UsesRoom (told b) room encoding left
+told_room (Ok x) b is room left encoding w = rw is w
+told_room (Err e) b is room left encoding w = rw is w
+
+pub told_yes : (b : Bool) → b ≡ true → (old encoding new : List ℕ) → Writes (told b) old encoding new → new ≡ old ++ encoding
+told_yes b is old encoding new w = rw is at w
+
+pub told_no : (b : Bool) → b ≡ false → (old encoding new : List ℕ) → Writes (told b) old encoding new → WritesFront old encoding new
+told_no b is old encoding new w = let v : Writes (told false) old encoding new = rw is at w in v.1
+
+pub room_yes : (b : Bool) → b ≡ true → (room left : ℕ) (encoding : List ℕ) → UsesRoom (told b) room encoding left → room ≤ left + length encoding
+room_yes b is room left encoding w = rw is at w
+
+pub room_no : (b : Bool) → b ≡ false → (room left : ℕ) (encoding : List ℕ) → UsesRoom (told b) room encoding left → room < length encoding
+room_no b is room left encoding w = rw is at w
+
+-- what stands where it was refused
+pub err_front : {T : Type 0} (r : Result T EncodeError) → is_err r ≡ true → (old encoding new : List ℕ) → Writes r old encoding new → WritesFront old encoding new
+err_front (Ok x) is old encoding new w = cc
+err_front (Err e) is old encoding new w = w.1
+
+pub err_room : {T : Type 0} (r : Result T EncodeError) → is_err r ≡ true → (room left : ℕ) (encoding : List ℕ) → UsesRoom r room encoding left → room < length encoding
+err_room (Ok x) is room left encoding w = cc
+err_room (Err e) is room left encoding w = w

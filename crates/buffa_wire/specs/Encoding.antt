@@ -1,7 +1,9 @@
 -- The encoding of records: for each the shortest tag, and its payload with the shortest length.
 -- Source: the protobuf encoding guide, "Message Structure" and "Groups".
-use Rattle.std.specs.Prelude.{ℕ, List, [], ◌++◌}
+use Rattle.std.specs.Prelude.{ℕ, Bool, true, false, List, [], ◌++◌, Result, Ok, Err}
 use Rattle.std.specs.Int.{to_le_bytes, w32, w64}
+use Rattle.buffa_bytes.specs.declared.error.EncodeError.{EncodeError}
+use Rattle.buffa_bytes.specs.declared.error.EncodeError.TheVariants.{OutOfMemory}
 use Rattle.buffa_bytes.specs.declared.wire_type.WireType.{WireType}
 use Rattle.buffa_bytes.specs.declared.wire_type.WireType.TheVariants as wire
 use Rattle.buffa_bytes.specs.Varint.{varint_encoding}
@@ -36,3 +38,8 @@ tagged_encoding n x = tag_encoding n (wire_of x) ++ payload_encoding n x
 -- the joined encodings of the records
 abbrev pub records_encoding : List (ℕ × Datum) → List ℕ
 records_encoding rs = fields_encoding (records_of rs)
+
+-- what is told of a write that says only whether all was written
+abbrev pub told : Bool → Result (Unit {0}) EncodeError
+told true = Ok tt
+told false = Err OutOfMemory

@@ -1,6 +1,6 @@
 //! The encodings of unknown fields.
 
-ghost use Rattle.buffa_wire.specs.Encoding.{records_encoding, tagged_encoding, payload_encoding};
+ghost use Rattle.buffa_wire.specs.Encoding.{records_encoding, tagged_encoding, payload_encoding, told};
 ghost use Rattle.buffa_wire.specs.View.{datum_of};
 ghost use Rattle.buffa_bytes.specs.Written.{UsesRoom, Writes};
 
@@ -30,53 +30,56 @@ impl UnknownFields {
         ensures room { UsesRoom result (S.room sink.old) (records_encoding self.now.records) (S.room sink.new) }
     {
         for field in &self.fields {
-            write_field(field.number, &field.payload, sink)?;
+            if !write_field(field.number, &field.payload, sink) {
+                return Err(EncodeError::OutOfMemory);
+            }
         }
         Ok(())
     }
 }
 
-// Writes a field.
+// Writes a field; whether all of it was written. The answer is one bit, since a `Result` is put together in memory.
 #[cycle(write)]
 #[inline(always)]
-#[tactic(auto, using(buffa_bytes::proofs::SinkLemmas::writes_then, buffa_bytes::proofs::SinkLemmas::front_first, buffa_bytes::proofs::SinkLemmas::room_then))]
-fn write_field<S: EncodeSink>(
-    number: u32,
-    payload: &UnknownFieldData,
-    sink: &mut S,
-) -> Result<(), EncodeError>
-    ensures writes { Writes result (S.written sink.old) (tagged_encoding number (datum_of payload.now))
+#[tactic(auto, using(buffa_bytes::proofs::SinkLemmas::writes_then, buffa_bytes::proofs::SinkLemmas::front_first, buffa_bytes::proofs::SinkLemmas::room_then, crate::proofs::EncodingLemmas::told_of, crate::proofs::EncodingLemmas::told_room))]
+fn write_field<S: EncodeSink>(number: u32, payload: &UnknownFieldData, sink: &mut S) -> bool
+    ensures writes { Writes (told result) (S.written sink.old) (tagged_encoding number (datum_of payload.now))
         (S.written sink.new) }
-    ensures room { UsesRoom result (S.room sink.old) (tagged_encoding number (datum_of payload.now)) (S.room sink.new) }
+    ensures room { UsesRoom (told result) (S.room sink.old) (tagged_encoding number (datum_of payload.now))
+        (S.room sink.new) }
 {
     if let UnknownFieldData::Varint(v) = payload {
-        return write_two(tag_value(number, WireType::Varint), *v, sink);
+        return write_two(tag_value(number, WireType::Varint), *v, sink).is_ok();
     }
-    encode_varint(tag_value(number, payload.wire_type()), sink)?;
+    if encode_varint(tag_value(number, payload.wire_type()), sink).is_err() {
+        return false;
+    }
     write_payload(number, payload, sink)
 }
 
-// Writes what follows the tag.
+// Writes what follows the tag; whether all of it was written.
 #[cycle(write)]
 #[inline(always)]
-#[tactic(auto, using(buffa_bytes::proofs::SinkLemmas::writes_then, buffa_bytes::proofs::SinkLemmas::front_first, buffa_bytes::proofs::SinkLemmas::room_then))]
-fn write_payload<S: EncodeSink>(
-    number: u32,
-    payload: &UnknownFieldData,
-    sink: &mut S,
-) -> Result<(), EncodeError>
-    ensures writes { Writes result (S.written sink.old) (payload_encoding number (datum_of payload.now))
+#[tactic(auto, using(buffa_bytes::proofs::SinkLemmas::writes_then, buffa_bytes::proofs::SinkLemmas::front_first, buffa_bytes::proofs::SinkLemmas::room_then, crate::proofs::EncodingLemmas::told_of, crate::proofs::EncodingLemmas::told_room))]
+fn write_payload<S: EncodeSink>(number: u32, payload: &UnknownFieldData, sink: &mut S) -> bool
+    ensures writes { Writes (told result) (S.written sink.old) (payload_encoding number (datum_of payload.now))
         (S.written sink.new) }
-    ensures room { UsesRoom result (S.room sink.old) (payload_encoding number (datum_of payload.now)) (S.room sink.new) }
+    ensures room { UsesRoom (told result) (S.room sink.old) (payload_encoding number (datum_of payload.now))
+        (S.room sink.new) }
 {
     match payload {
-        UnknownFieldData::Varint(v) => return encode_varint(*v, sink),
-        UnknownFieldData::Fixed32(v) => return types::encode_fixed32(*v, sink),
-        UnknownFieldData::Fixed64(v) => return types::encode_fixed64(*v, sink),
-        UnknownFieldData::LengthDelimited(b) => return types::encode_bytes(b.as_slice(), sink),
+        UnknownFieldData::Varint(v) => return encode_varint(*v, sink).is_ok(),
+        UnknownFieldData::Fixed32(v) => return types::encode_fixed32(*v, sink).is_ok(),
+        UnknownFieldData::Fixed64(v) => return types::encode_fixed64(*v, sink).is_ok(),
+        UnknownFieldData::LengthDelimited(b) => return types::encode_bytes(
+            b.as_slice(),
+            sink,
+        ).is_ok(),
         UnknownFieldData::Group(g) => {
-            g.write_to(sink)?;
-            return encode_varint(tag_value(number, WireType::EndGroup), sink);
+            if g.write_to(sink).is_err() {
+                return false;
+            }
+            return encode_varint(tag_value(number, WireType::EndGroup), sink).is_ok();
         }
     }
 }
