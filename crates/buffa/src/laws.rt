@@ -34,7 +34,7 @@ pub use buffa_codec::laws as extension_codecs;
 /// Laws of sets and clears of extensions, and of messages in them.
 pub use buffa_ext::laws as extensions;
 /// Laws of messages that are lists of their members, and of the kinds of these.
-pub use buffa_fields::laws as members;
+pub use buffa_fields_laws as members;
 /// Laws of map fields: codecs, entries, runs, sizes, encodings and rewrites.
 pub use buffa_map::laws as map_fields;
 /// Laws of Items of a MessageSet.

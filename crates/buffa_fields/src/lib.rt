@@ -6,7 +6,6 @@ pub mod group;
 pub mod kept;
 pub mod kind;
 pub mod kinds;
-pub mod laws;
 mod list;
 mod map;
 pub mod map_member;

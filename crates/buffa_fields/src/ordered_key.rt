@@ -14,7 +14,7 @@ use buffa_wire::MapKey;
 /// below is the pattern.
 ///
 /// ```ignore
-/// impl OrderedKey for Word { .. }
+/// impl OrderedKey for String { .. }
 /// ```
 pub trait OrderedKey: MapKey + Ord {
     /// The order of what keys mean.

@@ -66,7 +66,7 @@ where
 /// A map field of scalars, strings, bytes or enums, held in a `BTreeMap`: it is written in the order of its keys.
 ///
 /// ```ignore
-/// visitor.visit::<OrderedMapOf<Str, Int32>>(5, &self.counts);
+/// visitor.visit::<OrderedMapOf<Str, Int32>>(1, &self.balances);
 /// ```
 pub struct OrderedMapOf<KC, VC> {
     key: PhantomData<KC>,

@@ -34,7 +34,7 @@ use std::marker::PhantomData;
 /// A map field of messages, held in a `BTreeMap`: it is written in the order of its keys.
 ///
 /// ```ignore
-/// visitor.visit::<OrderedMapOfNested<Str, Inventory>>(2, &self.shelves); // map<string, Inventory> shelves = 2;
+/// visitor.visit::<OrderedMapOfNested<Int32, Inventory>>(2, &self.pages); // map<int32, Inventory> pages = 2;
 /// ```
 pub struct OrderedMapOfNested<KC, N> {
     key: PhantomData<KC>,

@@ -1,5 +1,5 @@
 use Rattle.buffa_fields.specs.KeepLaws.{asks_kept, kept_asks_for, kept_costs, kept_record}
-use Rattle.buffa_fields.proofs.laws.kept_fields_are_these.Goals as goal
+use Rattle.buffa_fields_laws.proofs.kept_fields_are_these.Goals as goal
 
 pub returns-clause-takes : goal.returns-clause-takes
 returns-clause-takes g c = λ get d n x p v h. kept_record d n x p v h

@@ -1,6 +1,7 @@
 //! Which member each kind is, and which message a list of members: one answer each, in the words of `specs/`.
 //!
 //! The words of `MapCodec`, `MessageSpec` and `Scalar` that these cite are pinned by the laws of the crates below.
+#![tactic(auto)]
 
 ghost use Rattle.std.specs.Prelude.{◌≡◌, ◌↔◌, ◌⊎◌, ◌+◌, ℕ, ℤ, List, [], ◌∷◌, ◌++◌, None, Some, map, not};
 ghost use Rattle.std.specs.Cmp.Lexicographic.{slice_cmp};
@@ -35,22 +36,22 @@ ghost use Rattle.buffa_fields.specs.MemberRecords.{entry_records, optional_recor
 ghost use Rattle.buffa_wire.specs.Takes.{cost_of, merged_of};
 ghost use Rattle.buffa_fields.specs.Values.{IfThere, RefusesAlone, ValueTakesMemory, free, some_taken, value_taken};
 
-use crate::group::Group;
-use crate::kind::Kind;
-use crate::map_member::MapOf;
-use crate::map_nested::MapOfNested;
-use crate::member::Member;
-use crate::message::{Listed, Listing};
-use crate::nested::Nested;
-use crate::optional::Optional;
-use crate::ordered_key::OrderedKey;
-use crate::ordered_map::OrderedMapOf;
-use crate::ordered_nested::OrderedMapOfNested;
-use crate::packed::{Packable, Packed};
-use crate::plain::Plain;
-use crate::repeated::Repeated;
-use crate::repeated_group::RepeatedGroup;
-use crate::repeated_nested::RepeatedNested;
+use buffa_fields::group::Group;
+use buffa_fields::kind::Kind;
+use buffa_fields::map_member::MapOf;
+use buffa_fields::map_nested::MapOfNested;
+use buffa_fields::member::Member;
+use buffa_fields::message::{Listed, Listing};
+use buffa_fields::nested::Nested;
+use buffa_fields::optional::Optional;
+use buffa_fields::ordered_key::OrderedKey;
+use buffa_fields::ordered_map::OrderedMapOf;
+use buffa_fields::ordered_nested::OrderedMapOfNested;
+use buffa_fields::packed::{Packable, Packed};
+use buffa_fields::plain::Plain;
+use buffa_fields::repeated::Repeated;
+use buffa_fields::repeated_group::RepeatedGroup;
+use buffa_fields::repeated_nested::RepeatedNested;
 use buffa_map::map_codec::{
     Bool, BytesBuf, Fixed32, Fixed64, Int32, Int64, MapCodec, OpenEnum, ProtoBytesMap,
     ProtoStringMap, Sfixed32, Sfixed64, Sint32, Sint64, Uint32, Uint64,
