@@ -25,6 +25,7 @@ pub mod Groups
 pub mod GroupLaws
 pub mod RepeatedGroups
 pub mod RepeatedGroupLaws
+pub mod GroupCalls
 pub mod Stands
 pub mod StandsLaws
 pub mod Calls

@@ -8,9 +8,10 @@ ghost use Rattle.buffa_wire.specs.Message.{BeginsField};
 ghost use Rattle.buffa_bytes.specs.Gives.{FullOnlyIf};
 ghost use Rattle.buffa_bytes.specs.Number.{IsNumber};
 ghost use Rattle.buffa_bytes.specs.Values.{tag_encoding};
-ghost use Rattle.buffa_wire.specs.Passes.{IsNext, IsSized, IsWritten, cap};
+ghost use Rattle.buffa_wire.specs.Passes.{IsNext, IsSized, cap};
 ghost use Rattle.buffa_bytes.specs.Front.{check_wire};
 ghost use Rattle.buffa_fields.specs.Calls.{ChecksWire, TakesIn};
+ghost use Rattle.buffa_fields.specs.GroupCalls.{MergesGroup, WritesGroup};
 ghost use Rattle.buffa_fields.specs.Groups.{GroupTakesMemory, group_cost, group_encoding, group_in, group_records, group_taken};
 ghost use Rattle.buffa_fields.specs.GroupLaws.{group_back, group_stays};
 ghost use Rattle.buffa_wire.proofs.ByPayloadLemmas.{by_payload, merged_fields};
@@ -41,7 +42,8 @@ fn tagged_len(number: u32, inner: u32) -> u32
     }
 }
 
-// The length of a message's group. The length of the message, and then its slots, are appended.
+// The length of a message's group. The length of the message, and then its slots, are appended. It isn't written, but a
+// size pass may run out of memory only where there is a slot.
 pub(crate) fn group_len<N: Message>(
     number: u32,
     message: &N,
@@ -73,9 +75,8 @@ pub(crate) fn write_group<N: Message, S: EncodeSink>(
 ) -> Result<(), EncodeError>
     requires number { IsNumber number }
     requires next { let v = N.meaning message.now in IsNext (cap (length (N.encoding v)) ∷ N.slots v) cache.old }
-    ensures { let v = N.meaning message.now in IsWritten (group_encoding N.records number v)
-        (cap (length (N.encoding v)) ∷ N.slots v) cache.old (S.written sink.old) result cache.new
-        (S.written sink.new) }
+    ensures { WritesGroup cache.old (S.written sink.old) result cache.new (S.written sink.new) N.records N.encoding N.slots
+        number (N.meaning message.now) }
 {
     let _size = cache.consume_next();
     match Tag::new(number, WireType::StartGroup).encode(sink) {
@@ -96,8 +97,8 @@ fn merge_group<N: Message>(
     buf: &mut &[u8],
     ctx: DecodeContext<'_>,
 ) -> Result<(), DecodeError>
-    ensures taken { IsTaken (group_in N.merged) (group_cost N.cost) ctx.entry.depth (N.meaning message.old) number
-        StartGroup buf.old.now ctx.entry.budget.now result (N.meaning message.new) (budget_left ctx.exit) buf.new.now }
+    ensures taken { MergesGroup number ctx.entry ctx.exit message.old message.new buf.old buf.new result N.merged N.cost
+        N.meaning }
     ensures full { FullOnlyIf result ((0 < ctx.entry.depth) × BeginsField buf.old.now) }
 {
     let DecodeContext { depth, budget } = ctx;

@@ -5,10 +5,11 @@ ghost use Rattle.buffa_bytes.specs.declared.wire_type.WireType.TheVariants.{Star
 ghost use Rattle.buffa_wire.specs.BudgetLeft.{budget_left};
 ghost use Rattle.buffa_bytes.specs.Gives.{FullOnlyIf};
 ghost use Rattle.buffa_bytes.specs.Number.{IsNumber};
-ghost use Rattle.buffa_wire.specs.Passes.{IsNext, IsSized, IsWritten};
+ghost use Rattle.buffa_wire.specs.Passes.{IsNext, IsSized};
 ghost use Rattle.buffa_bytes.specs.Front.{check_wire};
 ghost use Rattle.buffa_wire.specs.Encoding.{records_encoding};
 ghost use Rattle.buffa_fields.specs.Calls.{ChecksWire, TakesIn};
+ghost use Rattle.buffa_fields.specs.GroupCalls.{WritesGroups};
 ghost use Rattle.buffa_fields.specs.Groups.{GroupTakesMemory, group_datum, group_in};
 ghost use Rattle.buffa_fields.specs.Lists.{Each, element_records};
 ghost use Rattle.buffa_fields.specs.RepeatedGroups.{GroupsTakeMemory, groups_cost, groups_taken};
@@ -113,9 +114,8 @@ fn write_groups<N: Message, S: EncodeSink>(
 ) -> Result<(), EncodeError>
     requires number { IsNumber number }
     requires next { IsNext (messages_slots N.encoding N.slots (map N.meaning messages.now)) cache.old }
-    ensures { let vs = map N.meaning messages.now in IsWritten
-        (records_encoding (element_records (group_datum N.records) number vs)) (messages_slots N.encoding N.slots vs)
-        cache.old (S.written sink.old) result cache.new (S.written sink.new) }
+    ensures { WritesGroups cache.old (S.written sink.old) result cache.new (S.written sink.new) N.records N.encoding
+        N.slots number (map N.meaning messages.now) }
 {
     for message in messages {
         match write_group(number, message, cache, sink) {

@@ -1,4 +1,4 @@
-use Rattle.std.proofs.Common.{◌∙◌, ◌∷◌, ap, sym}
+use Rattle.std.proofs.Common.{◌∙◌, ◌∷◌, ap}
 use Rattle.std.specs.Prelude.{length}
 use Rattle.buffa_wire.proofs.PassLemmas.{slots_step}
 use Rattle.buffa_wire.specs.Cache.{appended}

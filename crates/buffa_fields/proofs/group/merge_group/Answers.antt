@@ -1,4 +1,4 @@
-use Rattle.std.proofs.Common.{◌≡◌, ◌≢◌, ◌∙◌, ◌+◌, ◌-◌, ◌<◌, Ok, Err, length, length-append, ap, refl, sym, arith}
+use Rattle.std.proofs.Common.{◌≢◌, ◌∙◌, ◌-◌, Ok, Err, length, length-append, ap, refl, sym, arith}
 use Rattle.buffa_bytes.proofs.FieldLemmas.{tag_some, tag_sound}
 use Rattle.buffa_bytes.proofs.FullLemmas.{tag_no_full}
 use Rattle.buffa_bytes.proofs.StepLemmas.{agree_ok}

@@ -1,0 +1,33 @@
+-- What a call that merges or writes a group did: from what it was passed to what it left.
+use Rattle.std.specs.Prelude.{ℕ, List, ◌∷◌, length, Option, Result}
+use Rattle.buffa_bytes.specs.declared.error.DecodeError.{DecodeError}
+use Rattle.buffa_bytes.specs.declared.error.EncodeError.{EncodeError}
+use Rattle.buffa_bytes.specs.declared.wire_type.WireType.TheVariants.{StartGroup}
+use Rattle.buffa_wire.specs.BudgetLeft.{BudgetLeft, budget_left}
+use Rattle.buffa_wire.specs.Cache.{Cache}
+use Rattle.buffa_wire.specs.Encoding.{records_encoding}
+use Rattle.buffa_wire.specs.Passes.{IsWritten, cap}
+use Rattle.buffa_wire.specs.Records.{Datum}
+use Rattle.buffa_wire.specs.declared.context.DecodeContext.{DecodeContext}
+use Rattle.buffa_map.specs.Calls.{Exit}
+use Rattle.buffa_fields.specs.Groups.{group_cost, group_datum, group_encoding, group_in}
+use Rattle.buffa_fields.specs.Lists.{element_records}
+use Rattle.buffa_fields.specs.RepeatedNested.{messages_slots}
+use Rattle.buffa_wire.specs.Takes.{IsTaken}
+use denote.Ref.{Bor}
+
+-- a message merged the group of a number whose start tag was read, and paid for it
+abbrev pub MergesGroup : {P X D T : Type 0} → ℕ → DecodeContext → Exit D → P → P → Bor (List ℕ) → Bor (List ℕ) → Result T DecodeError → (ℕ → X → List ℕ → Option X) → (ℕ → List ℕ → BudgetLeft) → (P → X) → Type 0
+MergesGroup n ctx left old new before after r merged cost says =
+    IsTaken (group_in merged) (group_cost cost) ctx.depth (says old) n StartGroup before.now ctx.budget.now r (says new) (budget_left left) after.now
+
+-- ---- encodings: what stands in a sink before and after
+module _ {T : Type 0} (before : Cache) (put : List ℕ) (r : Result T EncodeError) (after : Cache) (puts : List ℕ) where
+  module _ {X : Type 0} (records : X → List (ℕ × Datum)) (encoding slots : X → List ℕ) (n : ℕ) where
+    -- one group
+    abbrev pub WritesGroup : X → Type 0
+    WritesGroup v = IsWritten (group_encoding records n v) (cap (length (encoding v)) ∷ slots v) before put r after puts
+
+    -- a list of them
+    abbrev pub WritesGroups : List X → Type 0
+    WritesGroups vs = IsWritten (records_encoding (element_records (group_datum records) n vs)) (messages_slots encoding slots vs) before put r after puts
