@@ -6,13 +6,14 @@ use Rattle.buffa_bytes.specs.declared.error.DecodeError.{DecodeError}
 use Rattle.buffa_bytes.specs.declared.error.DecodeError.TheVariants.{OutOfMemory}
 use Rattle.buffa_bytes.specs.declared.wire_type.WireType.{WireType}
 use Rattle.buffa_bytes.specs.declared.wire_type.WireType.TheVariants.{Varint, Fixed64, LengthDelimited, StartGroup, EndGroup, Fixed32}
-use Rattle.buffa_bytes.specs.Content.{number_in}
+use Rattle.buffa_bytes.specs.Content.{Content, number_in}
 use Rattle.buffa_bytes.specs.Content.Content.{number}
 use Rattle.buffa_bytes.specs.Field.{Payload}
 use Rattle.buffa_bytes.specs.Gives.{◌>>=◌, FullOnlyIf, Gives}
 use Rattle.buffa_bytes.specs.Front.{check_wire, skip_at, varint_at}
 use Rattle.buffa_bytes.specs.Values.{int32_of}
 use Rattle.buffa_bytes.proofs.VarintLemmas.{varint_complete}
+use Rattle.buffa_wire.proofs.SequenceLemmas.{err_same}
 use Rattle.buffa_wire.specs.BudgetLeft.{BudgetLeft, nothing}
 use Rattle.buffa_wire.specs.Records.{Datum, varint}
 use Rattle.buffa_fields.specs.KindLaws.{is_zero}
@@ -38,11 +39,22 @@ module _ {X : Type 0} (put : ℤ → X) (d n : ℕ) (v : ℤ) where
   taken_by EndGroup p rest u h t = cc
   taken_by Fixed32 p rest u h t = cc
 
+  abbrev content : ℕ × List ℕ → Result (Content × List ℕ) DecodeError
+  content x = Ok (number x.0, x.1)
+
+  abbrev value : Content × List ℕ → Result ((ℤ × Bool) × List ℕ) DecodeError
+  value x = Ok ((int32_of (number_in x.0), true), x.1)
+
+  abbrev int32 : ℕ × List ℕ → Result (ℤ × List ℕ) DecodeError
+  int32 x = Ok (int32_of x.0, x.1)
+
+  abbrev put_there : ℤ × List ℕ → Result (X × List ℕ) DecodeError
+  put_there x = Ok (put x.0, x.1)
+
   same_fault : (c : Result (Unit {0}) DecodeError) (r : Result (ℕ × List ℕ) DecodeError) (e : DecodeError) →
-      (c >>= (λ _. (r >>= (λ x. Ok (number x.0, x.1))) >>= (λ x. Ok ((int32_of (number_in x.0), true), x.1)))) ≡ Err e →
-      (c >>= (λ _. (r >>= (λ x. Ok (int32_of x.0, x.1))) >>= (λ x. Ok (put x.0, x.1)))) ≡ Err e
-  same_fault (Err f) r e h = h
-  same_fault (Ok _) (Err f) e h = h
+      (c >>= (λ _. (r >>= content) >>= value)) ≡ Err e → (c >>= (λ _. (r >>= int32) >>= put_there)) ≡ Err e
+  same_fault (Err f) r e h = let same : f ≡ e = err_same h in ap (λ z. Err z) same
+  same_fault (Ok _) (Err f) e h = let same : f ≡ e = err_same h in ap (λ z. Err z) same
   same_fault (Ok _) (Ok x) e h = cc
 
   pub member_read : (w : WireType) (bs : List ℕ) (before : BudgetLeft) (r : Result (Unit {0}) DecodeError) (u : ℤ) (after : BudgetLeft) (rest : List ℕ) →
@@ -66,9 +78,19 @@ other_read v read (Ok x) before after rest h kept = (ap (λ z. z >>= (λ x. Ok (
 other_read v read (Err e) before after rest h kept = (ap (λ z. z >>= (λ x. Ok (v, x))) h, refl, sym kept)
 
 -- a field that is kept, where it is refused
-pub kept_alone : {X Y : Type 0} {old new : X} {before after : Y} (r : Result (Unit {0}) DecodeError) → MatchResult r (λ _. Unit {0}) (λ _. old ≡ new) → MatchResult r (λ _. Unit {0}) (λ _. before ≡ after) → OnErr r ((new ≡ old) × (after ≡ before))
-kept_alone (Ok x) stays unspent = tt
-kept_alone (Err e) stays unspent = (sym stays, sym unspent)
+pub kept_alone : {X Y : Type 0} (old new : X) (before after : Y) (r : Result (Unit {0}) DecodeError) → MatchResult r (λ _. Unit {0}) (λ _. old ≡ new) → MatchResult r (λ _. Unit {0}) (λ _. before ≡ after) → OnErr r ((new ≡ old) × (after ≡ before))
+kept_alone old new before after (Ok x) stays unspent = tt
+kept_alone old new before after (Err e) stays unspent = (sym stays, sym unspent)
+
+-- ---- two values
+abbrev pub put_first : ℤ → ℤ → ℤ × ℤ
+put_first b x = (x, b)
+
+abbrev pub put_second : ℤ → ℤ → ℤ × ℤ
+put_second a x = (a, x)
+
+abbrev pub TwoIsRead : Result ((ℤ × ℤ) × List ℕ) DecodeError → ℤ × ℤ → Result (Unit {0}) DecodeError → ℤ × ℤ → BudgetLeft → BudgetLeft → List ℕ → Type 0
+TwoIsRead field old r new before after rest = IsReadAlone field old r new before after rest
 
 -- ---- one of two
 pub choose : {A B C : Type 0} (t : Bool) → Choice t A B → (t ≡ true → A → C) → (t ≡ false → B → C) → C

@@ -1,8 +1,8 @@
-use Rattle.std.proofs.Common.{◌==◌, sym, subst}
+use Rattle.std.proofs.Common.{ℤ, ◌==◌, sym, subst}
 use Rattle.std.proofs.lemmas.Bool.{eqb-true}
 use Rattle.buffa_bytes.specs.Front.{skip_at}
 use Rattle.buffa_fields.specs.Layout.{Kept, Passed, Took}
-use Rattle.buffa_samples.proofs.NumberLemmas.{choose, kept_alone, member_read, other_read}
+use Rattle.buffa_samples.proofs.NumberLemmas.{TwoIsRead, choose, kept_alone, member_read, other_read, put_first, put_second}
 use Rattle.buffa_samples.specs.Fields.{int32_field, skipped_field}
 use Rattle.buffa_samples.specs.Numbers.{IsReadAlone}
 use Rattle.buffa_samples.proofs.laws.fields_are_read_alone.Goals as goal
@@ -20,27 +20,25 @@ returns-clause-flat c = λ d n old new w bs rest a b r h. choose (n == 1) h
 
 pub returns-clause-two : goal.returns-clause-two
 unfolding Passed Took
-returns-clause-two c = λ d n old new w bs rest a b r h. choose (n == 1) h
+returns-clause-two c = λ d n old new w bs rest a b r h.
+    let was : ℤ × ℤ = (old.a, old.b) in
+    choose (n == 1) h
     (λ is both.
-    let one = eqb-true n 1 is in
-    let took = both.0 in
-    let stays = both.1.0 in
-    let read = member_read (λ x. (x, old.b)) d n old.a w bs a r new.a b rest took.0 took.1 took.3 in
-    rw is (subst (λ z. IsReadAlone (int32_field z (λ x. (x, old.b)) w bs) (old.a, old.b) r (new.a, new.b) a b rest) one
-    (subst (λ z. IsReadAlone (int32_field n (λ x. (x, old.b)) w bs) (old.a, old.b) r (new.a, z) a b rest) (sym stays) read)))
+      let took = both.0 in
+      let read = member_read (put_first old.b) d n old.a w bs a r new.a b rest took.0 took.1 took.3 in
+      rw is (subst (λ z. TwoIsRead (int32_field z (put_first old.b) w bs) was r (new.a, new.b) a b rest) (eqb-true n 1 is)
+      (subst (λ z. TwoIsRead (int32_field n (put_first old.b) w bs) was r (new.a, z) a b rest) (sym both.1.0) read)))
     (λ differs both. rw differs (choose (n == 2) both.1
-    (λ is again.
-    let two = eqb-true n 2 is in
-    let took = again.0 in
-    let read = member_read (λ x. (old.a, x)) d n old.b w bs a r new.b b rest took.0 took.1 took.3 in
-    rw is (subst (λ z. IsReadAlone (int32_field z (λ x. (old.a, x)) w bs) (old.a, old.b) r (new.a, new.b) a b rest) two
-    (subst (λ z. IsReadAlone (int32_field n (λ x. (old.a, x)) w bs) (old.a, old.b) r (z, new.b) a b rest) (sym both.0) read)))
-    (λ others again.
-    let passed = again.1 in
-    let read = other_read (old.a, old.b) (skip_at d n w bs) r a b rest passed.0 passed.1 in
-    rw others (subst (λ z. IsReadAlone (skipped_field d (old.a, old.b) n w bs) (old.a, old.b) r (z, new.b) a b rest) (sym both.0)
-    (subst (λ z. IsReadAlone (skipped_field d (old.a, old.b) n w bs) (old.a, old.b) r (old.a, z) a b rest) (sym again.0) read)))))
+      (λ is again.
+        let took = again.0 in
+        let read = member_read (put_second old.a) d n old.b w bs a r new.b b rest took.0 took.1 took.3 in
+        rw is (subst (λ z. TwoIsRead (int32_field z (put_second old.a) w bs) was r (new.a, new.b) a b rest) (eqb-true n 2 is)
+        (subst (λ z. TwoIsRead (int32_field n (put_second old.a) w bs) was r (z, new.b) a b rest) (sym both.0) read)))
+      (λ others again.
+        let read = other_read was (skip_at d n w bs) r a b rest again.1.0 again.1.1 in
+        rw others (subst (λ z. TwoIsRead (skipped_field d was n w bs) was r (z, new.b) a b rest) (sym both.0)
+        (subst (λ z. TwoIsRead (skipped_field d was n w bs) was r (old.a, z) a b rest) (sym again.0) read)))))
 
 pub returns-clause-keep : goal.returns-clause-keep
 unfolding Kept
-returns-clause-keep c = λ d n old new w bs rest a b r h. kept_alone r h.1 h.3
+returns-clause-keep c = λ d n old new w bs rest a b r h. kept_alone old.fields.records new.fields.records a b r h.1 h.3
