@@ -1,6 +1,6 @@
 -- The encoding of a MessageSet, one record after another.
 use Rattle.std.proofs.Common.{◌≡◌, ℕ, suc, zero, ◌+◌, ◌<◌, ◌≤◌, ◌^◌, min, nat_lt, true, List, [], ◌∷◌, ◌++◌, length, take, drop, get_or, refl, sym, ap, subst, ◌∙◌, arith, append_assoc, append-nil, length-append}
-use Rattle.std.proofs.lemmas.Bool.{ltb-true}
+use Rattle.std.proofs.lemmas.Bool.{and_parts, ltb-true}
 use Rattle.std.proofs.lemmas.List.{take-append-drop}
 use Rattle.buffa_bytes.proofs.SinkLemmas.{front_first, front_second}
 use Rattle.buffa_bytes.specs.Written.{WritesFront}
@@ -9,12 +9,11 @@ use Rattle.buffa_wire.specs.View.{datum_of, record_of, records_in}
 use Rattle.buffa_wire.specs.declared.unknown_fields.UnknownField.{UnknownField}
 use Rattle.buffa_bytes.proofs.ShortestLemmas.{ten_at_most}
 use Rattle.buffa_message_set.specs.Item.{item_size}
-use Rattle.buffa_message_set.proofs.ItemLemmas.{and_true}
 use Rattle.buffa_set_msg.specs.Set.{is_type_id, record_encoding, set_encoding}
 
 -- ---- a record
 pub type_id_small : (n : ℕ) → is_type_id n ≡ true → n < 2 ^ 31
-type_id_small n e = let h = and_true (nat_lt 0 n) (nat_lt n (2 ^ 31)) e in ltb-true n (2 ^ 31) h.1
+type_id_small n e = let h = and_parts (nat_lt 0 n) (nat_lt n (2 ^ 31)) e in ltb-true n (2 ^ 31) h.1
 
 -- the encoding of an Item under a type id, of a message in memory, is no longer than can be told
 pub item_fits : (n len : ℕ) → is_type_id n ≡ true → len < 2 ^ 63 → item_size n len < 2 ^ 64
