@@ -149,7 +149,7 @@ pub(crate) fn take_group<N: Message>(
 /// A message that may be absent, as a group. What is read is merged into the message that stands.
 ///
 /// ```ignore
-/// visitor.visit::<Group<Parcel>>(2, &self.sample); // optional group Sample = 2 { .. }
+/// visitor.visit::<Group<Inventory>>(2, &self.stock); // a group of number 2
 /// ```
 pub struct Group<N> {
     of: PhantomData<N>,

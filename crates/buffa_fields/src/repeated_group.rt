@@ -128,7 +128,7 @@ fn write_groups<N: Message, S: EncodeSink>(
 /// is in it.
 ///
 /// ```ignore
-/// visitor.visit::<RepeatedGroup<Parcel>>(3, &self.samples); // repeated group Samples = 3 { .. }
+/// visitor.visit::<RepeatedGroup<Inventory>>(3, &self.layers); // groups of number 3
 /// ```
 pub struct RepeatedGroup<N> {
     of: PhantomData<N>,
