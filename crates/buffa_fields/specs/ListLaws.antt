@@ -1,5 +1,5 @@
 -- What is proved of repeated fields.
-use Rattle.std.proofs.Common.{◌≡◌, ◌≢◌, inl, inr, ℕ, zero, suc, ◌+◌, ◌*◌, ◌^◌, ◌==◌, ◌<◌, ◌≤◌, min, Bool, true, false, List, [], ◌∷◌, ◌++◌, length, map, take, drop, get_or, Some, Result, Ok, Err, IsOk, refl, sym, ap, subst, ◌∙◌, arith, append_assoc, append-nil, length-append, if◌then◌else◌}
+use Rattle.std.proofs.Common.{◌≡◌, ◌≢◌, inl, inr, ℕ, ◌+◌, ◌*◌, ◌^◌, ◌==◌, ◌<◌, ◌≤◌, min, Bool, true, false, List, [], ◌∷◌, ◌++◌, length, map, take, drop, get_or, Some, Result, Ok, Err, IsOk, refl, sym, ap, subst, ◌∙◌, arith, append_assoc, append-nil, length-append, if◌then◌else◌}
 use Rattle.std.proofs.lemmas.Bool.{eq-eqb}
 use Rattle.std.proofs.lemmas.List.{map-append}
 use Rattle.buffa_bytes.proofs.ContentLemmas.{content_complete, has_byte}
@@ -7,17 +7,16 @@ use Rattle.buffa_bytes.proofs.DelimitedLemmas.{delimited_back, delimited_complet
 use Rattle.buffa_bytes.proofs.FieldLemmas.{wire_small, same_refl}
 use Rattle.buffa_bytes.proofs.SinkLemmas.{front_first, front_second}
 use Rattle.buffa_bytes.proofs.StepLemmas.{Agrees, agree_bind, agree_err, agree_ok}
-use Rattle.buffa_bytes.proofs.VarintLemmas.{IsVarint-varint_encoding, varint_falls}
+use Rattle.buffa_bytes.proofs.VarintLemmas.{IsVarint-varint_encoding}
 use Rattle.buffa_bytes.specs.Content.{Content, HasContent, content_at}
-use Rattle.buffa_bytes.specs.Content.Content.{number, bytes as held}
 use Rattle.buffa_bytes.specs.Varint.{varint_encoding}
 use Rattle.buffa_bytes.specs.WireType.{wire_number, same_wire}
 use Rattle.buffa_bytes.specs.declared.error.DecodeError.{DecodeError}
 use Rattle.buffa_bytes.specs.declared.error.DecodeError.TheVariants.{OutOfMemory, UnexpectedEof, WireTypeMismatch}
 use Rattle.buffa_bytes.specs.declared.wire_type.WireType.{WireType}
-use Rattle.buffa_bytes.specs.declared.wire_type.WireType.TheVariants.{Varint, Fixed64, LengthDelimited, Fixed32}
+use Rattle.buffa_bytes.specs.declared.wire_type.WireType.TheVariants.{LengthDelimited}
 use Rattle.buffa_wire.proofs.MessageLemmas.{NoLimit, length_no_limit}
-use Rattle.buffa_wire.proofs.SequenceLemmas.{Falls, along_err, along_none, along_ok, err_same, ok_same, parse_keeps}
+use Rattle.buffa_wire.proofs.SequenceLemmas.{along_err, along_none, along_ok, err_same, ok_same, parse_keeps}
 use Rattle.buffa_wire.specs.BudgetLeft.{BudgetLeft, nothing}
 use Rattle.buffa_bytes.specs.Field.{IsTag, Payload}
 use Rattle.buffa_bytes.specs.Gives.{◌>>=◌, FullOnlyIf, GivesUnlessFull}

@@ -8,7 +8,7 @@ use Rattle.buffa_bytes.specs.declared.error.DecodeError.{DecodeError}
 use Rattle.buffa_bytes.specs.Number.{IsNumber}
 use Rattle.buffa_wire.specs.Parse.{Fits}
 use Rattle.buffa_wire.specs.Records.{Datum, records_of}
-use Rattle.buffa_wire.specs.Encoding.{field_encoding, records_encoding}
+use Rattle.buffa_wire.specs.Encoding.{records_encoding}
 use Rattle.buffa_fields.specs.Takes.{IsTaken, Leads, Need, Piece, ReadsBack, Stays, Taker, both_need, both_take, is_number, joined}
 use Rattle.buffa_wire.proofs.EncodingLemmas.{records_encoding-append}
 
