@@ -1,5 +1,5 @@
 -- One field of the messages of int32 and of kept fields; the records of int32, and that they cost nothing.
-use Rattle.std.proofs.Common.{◌≡◌, ◌≢◌, ℕ, zero, suc, ◌==◌, ℤ, pos, negsuc, Bool, true, false, List, [], ◌∷◌, ◌++◌, Some, Result, Ok, Err, refl, sym, ap, ◌∙◌, arith, append-nil, if◌then◌else◌}
+use Rattle.std.proofs.Common.{◌≡◌, ◌≢◌, ℕ, zero, suc, ◌==◌, ℤ, pos, negsuc, Bool, true, false, List, [], ◌++◌, Some, Result, Ok, Err, refl, sym, ap, ◌∙◌, arith, append-nil, if◌then◌else◌}
 use Rattle.std.specs.Int.{cast_unsigned, w64}
 use Rattle.std.specs.Prelude.{MatchResult, OnErr}
 use Rattle.buffa_bytes.specs.declared.error.DecodeError.{DecodeError}
@@ -10,19 +10,19 @@ use Rattle.buffa_bytes.specs.Content.{Content, number_in}
 use Rattle.buffa_bytes.specs.Content.Content.{number}
 use Rattle.buffa_bytes.specs.Field.{Payload}
 use Rattle.buffa_bytes.specs.Gives.{◌>>=◌, FullOnlyIf, Gives}
-use Rattle.buffa_bytes.specs.Front.{check_wire, skip_at, varint_at}
+use Rattle.buffa_bytes.specs.Front.{check_wire, varint_at}
 use Rattle.buffa_bytes.specs.Values.{int32_of}
 use Rattle.buffa_bytes.proofs.VarintLemmas.{varint_complete}
 use Rattle.buffa_wire.proofs.SequenceLemmas.{err_same}
 use Rattle.buffa_wire.specs.BudgetLeft.{BudgetLeft, nothing}
-use Rattle.buffa_wire.specs.Records.{Datum, varint}
+use Rattle.buffa_wire.specs.Records.{varint}
 use Rattle.buffa_fields.specs.KindLaws.{is_zero}
 use Rattle.buffa_fields.specs.MemberRecords.{plain_records}
 use Rattle.buffa_wire.specs.Takes.{IsTaken, cost_of, costs_nothing}
 use Rattle.buffa_fields.specs.Layout.{Choice, both_need}
 use Rattle.buffa_wire.proofs.TakesLemmas.{cost_of_free}
 use Rattle.buffa_fields.specs.Values.{RefusesAlone, ValueTakesMemory, free, value_taken}
-use Rattle.buffa_samples.specs.Fields.{int32_field, number_records, skipped_field}
+use Rattle.buffa_samples.specs.Fields.{int32_field, number_records}
 use Rattle.buffa_samples.specs.Numbers.{IsReadAlone, int32_reading}
 
 -- ---- an int32 field, read as a member reads it

@@ -2,11 +2,10 @@
 use Rattle.std.proofs.Common.{◌≡◌, ◌≢◌, inl, inr, ℤ, FitsSigned, pos, negsuc, ℕ, ◌+◌, ◌*◌, ◌==◌, zero, suc, ◌<◌, ◌≤◌, Bool, true, false, List, [], ◌∷◌, ◌++◌, length, Some, Result, Ok, Err, refl, sym, ap, subst, ◌∙◌, arith, append_assoc, append-nil, length-append, if◌then◌else◌}
 use Rattle.buffa_bytes.specs.Gives.{◌>>=◌, FullOnlyIf, Gives}
 use Rattle.buffa_bytes.specs.Field.{IsTag, Payload}
-use Rattle.buffa_bytes.specs.Join.Join.{more}
 use Rattle.buffa_bytes.specs.Number.{IsNumber}
 use Rattle.buffa_bytes.specs.Front.{tag_at}
 use Rattle.buffa_wire.specs.Records.{Datum}
-use Rattle.buffa_wire.specs.Encoding.{records_encoding, tagged_encoding}
+use Rattle.buffa_wire.specs.Encoding.{records_encoding}
 use Rattle.buffa_bytes.specs.Values.{int32_at, int32_of, int32_encoding, tag_encoding}
 use Rattle.buffa_bytes.specs.Varint.{TakesVarint, VarintFault}
 use Rattle.buffa_bytes.specs.declared.wire_type.WireType.{WireType}

@@ -115,7 +115,8 @@ pub fn messages_are_read_back(flat: &FlatMsg, two: &TestMsg)
     ensures deep { (⟦<BudgetMsg as MessageSpec>⟧.levels ≡ height) × (⟦<Tree as MessageSpec>⟧.levels ≡ levels) }
     ensures flat_levels { (⟦<FlatMsg as MessageSpec>⟧.levels ≡ (λ _. 0)) × (⟦<TestMsg as MessageSpec>⟧.levels ≡ (λ _. 0))
         × (⟦<CountMsg as MessageSpec>⟧.levels ≡ (λ _. 0)) }
-    ensures blank { (⟦<FlatMsg as Blank>⟧.blank_is ≡ (pos 0, tt)) × (⟦<TestMsg as Blank>⟧.blank_is ≡ (pos 0, (pos 0, tt))) }
+    ensures blank { (⟦<FlatMsg as Blank>⟧.blank_is ≡ (pos 0, tt))
+        × (⟦<TestMsg as Blank>⟧.blank_is ≡ (pos 0, (pos 0, tt))) }
     ensures blank_lists { (⟦<CountMsg as Blank>⟧.blank_is ≡ 0) × (⟦<BudgetMsg as Blank>⟧.blank_is ≡ []) }
     ensures blank_tree { ⟦<Tree as Blank>⟧.blank_is ≡ grown (pos 0) no_kids }
 {
