@@ -10,6 +10,7 @@
 #   BENCH_CORE    the core (the last one)
 #   BENCH_PASSES  how often all of them run (3)
 #   BENCH_FIELDS  which tables (all of them, by the names in table.py)
+#   BENCH_COUNT   1: instructions an entry under callgrind (Debian's valgrind), at the first number, in the place of times
 set -euo pipefail
 bench=$(cd "$(dirname "$0")" && pwd)
 top=$(dirname "$bench")
@@ -69,6 +70,18 @@ build_ours
 build_peers
 cd "$build"
 python3 "$bench/data.py" "${sizes[@]}"
+if [ "${BENCH_COUNT:-0}" = 1 ]; then
+    gcc -O2 -shared -fPIC -o instructions.so "$bench/instructions.c"
+    mkdir -p cg
+    for field in "${fields[@]}"; do
+        for program in "${programs[@]}"; do
+            rm -f cg/out*
+            LD_PRELOAD=./instructions.so valgrind --tool=callgrind --callgrind-out-file=cg/out "$program" "${sizes[0]}" "$field" 2> /dev/null \
+                | sed 's/allocations /instructions at /'
+        done
+    done
+    exit
+fi
 : > lines.tsv
 for _ in $(seq "$passes"); do
     for n in "${sizes[@]}"; do

@@ -13,7 +13,6 @@ use buffa_map_base::storage::{MapStorage, StableWalk};
 use buffa_wire::{EncodeError, Message, MessageSpec, SizeCache, prefix_len};
 
 // The length of an entry whose message has so many bytes, or 2^64 - 1.
-#[inline(always)]
 pub(crate) fn message_entry_len<KC: MapCodec>(key: &KC::Value, inner: u32) -> u64
     ensures { result ≡ saturated (entry_size KC.writing (KC.Value.meaning key.now) inner) }
 {
@@ -24,7 +23,6 @@ pub(crate) fn message_entry_len<KC: MapCodec>(key: &KC::Value, inner: u32) -> u6
 }
 
 // The length of its record, or 2^64 - 1.
-#[inline(always)]
 fn message_record_len<KC: MapCodec>(outer_tag_len: u64, key: &KC::Value, inner: u32) -> u64
     ensures { let n = entry_size KC.writing (KC.Value.meaning key.now) inner in
         result ≡ saturated (outer_tag_len + (length (varint_encoding (saturated n)) + n)) }
