@@ -90,8 +90,8 @@ fn groups_len<N: Message>(
     cache: &mut SizeCache,
 ) -> Result<u32, EncodeError>
     requires { IsNumber number }
-    ensures sized { let vs = map N.meaning messages.now in IsSized
-        (records_encoding (element_records (group_datum N.records) number vs)) (messages_slots N.encoding N.slots vs)
+    ensures sized { let v = map N.meaning messages.now in IsSized
+        (records_encoding (element_records (group_datum N.records) number v)) (messages_slots N.encoding N.slots v)
         cache.old result cache.new }
     ensures always { messages_slots N.encoding N.slots (map N.meaning messages.now) ≡ [] → IsOk result }
 {

@@ -87,9 +87,9 @@ pub fn optional_members_are_these<C: Kind>()
     ensures checks { (n : ℕ) (w : _) → ⟦<Optional<C> as Member>⟧.shape.checks n w ≡ check_wire n C.WIRE_TYPE w }
     ensures asks { (d n : ℕ) (w : _) (bs : List ℕ) → ⟦<Optional<C> as Member>⟧.shape.asks d n w bs
         ↔ (ValueTakesMemory C.reading d n w bs) }
-    ensures refuses { (d n : ℕ) (old new : _) (w : _) (bs : List ℕ) (e : _) →
-        ⟦<Optional<C> as Member>⟧.shape.refuses d old n w bs e new
-        ↔ RefusesAlone C.reading (λ _. C.reading.blank) d old n w bs e new }
+    ensures refuses { (d n : ℕ) (old new : _) (w : _) (b : List ℕ) (e : _) →
+        ⟦<Optional<C> as Member>⟧.shape.refuses d old n w b e new
+        ↔ RefusesAlone C.reading (λ _. C.reading.blank) d old n w b e new }
     ensures need { ⟦<Optional<C> as Member>⟧.shape.need ≡ free }
     ensures records { (n : ℕ) (v : _) → ⟦<Optional<C> as Member>⟧.shape.records n v ≡ optional_records C.datum n v }
     ensures slots { (v : _) → ⟦<Optional<C> as Member>⟧.shape.slots v ≡ [] }

@@ -2,6 +2,7 @@
 -- passed over. Source: the protobuf encoding guide, "Message Structure".
 use Rattle.std.specs.Prelude.{◌≡◌, ℕ, ◌==◌, ℤ, pos, List, Result, OnErr, if◌then◌else◌}
 use Rattle.buffa_bytes.specs.declared.error.DecodeError.{DecodeError}
+use Rattle.buffa_bytes.specs.declared.wire_type.WireType.{WireType}
 use Rattle.buffa_bytes.specs.declared.wire_type.WireType.TheVariants.{Varint}
 use Rattle.buffa_bytes.specs.Gives.{Gives}
 use Rattle.buffa_bytes.specs.Values.{int32_of}
@@ -9,9 +10,9 @@ use Rattle.buffa_wire.specs.BudgetLeft.{BudgetLeft}
 use Rattle.buffa_wire.specs.ByField.{FieldReader}
 use Rattle.buffa_map.specs.Codec.{Reading}
 use Rattle.buffa_map.specs.Scalars.{number_reading}
-use Rattle.buffa_fields.specs.Layout.{passes}
+use Rattle.buffa_wire.specs.Message.{FieldTaken}
 use Rattle.buffa_wire.specs.Takes.{Taker}
-use Rattle.buffa_fields.specs.Layout.{both_take}
+use Rattle.buffa_fields.specs.Layout.{both_take, passes}
 use Rattle.buffa_fields.specs.Values.{value_taken}
 use Rattle.buffa_samples.specs.Fields.{int32_field, skipped_field}
 
@@ -34,3 +35,15 @@ two_field d v n w bs =
 -- it was read, or refused by its fault, and then the value stays; nothing was spent
 abbrev pub IsReadAlone : {X : Type 0} → Result (X × List ℕ) DecodeError → X → Result (Unit {0}) DecodeError → X → BudgetLeft → BudgetLeft → List ℕ → Type 0
 IsReadAlone field old r new before after rest = Gives (λ _. (new, rest)) r field × OnErr r (new ≡ old) × (after ≡ before)
+
+-- where a message takes fields so, each is read as by this reader of what it says, or refused
+abbrev pub ReadsAlone : {M X : Type 0} → FieldTaken M → (ℕ → FieldReader X) → (M → X) → Type 0
+ReadsAlone {M} taken field says =
+    (d n : ℕ) (old new : M) (w : WireType) (bs rest : List ℕ) (a b : BudgetLeft) (r : Result (Unit {0}) DecodeError) → taken d old n w bs a r new b rest →
+    IsReadAlone (field d (says old) n w bs) (says old) r (says new) a b rest
+
+-- a refused one changes and spends nothing
+abbrev pub StaysAlone : {M X : Type 0} → FieldTaken M → (M → X) → Type 0
+StaysAlone {M} taken says =
+    (d n : ℕ) (old new : M) (w : WireType) (bs rest : List ℕ) (a b : BudgetLeft) (r : Result (Unit {0}) DecodeError) → taken d old n w bs a r new b rest →
+    OnErr r ((says new ≡ says old) × (b ≡ a))

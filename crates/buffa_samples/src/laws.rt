@@ -1,6 +1,6 @@
 //! What the definitions of the samples say together: laws, as in [`laws`](buffa_wire).
 
-ghost use Rattle.std.specs.Prelude.{◌≡◌, ◌↔◌, ◌<◌, ◌+◌, ◌^◌, ℕ, FitsSigned, List, [], ◌∷◌, ◌++◌, None, OnErr, Some, map, pos, string_bytes};
+ghost use Rattle.std.specs.Prelude.{◌≡◌, ◌↔◌, ◌<◌, ◌+◌, ◌^◌, ℕ, FitsSigned, List, [], ◌∷◌, ◌++◌, None, Some, map, pos, string_bytes};
 ghost use Rattle.std.specs.Hash as fed;
 ghost use Rattle.std.specs.Int.{w32};
 ghost use Rattle.std.specs.Ordering.{int_cmp};
@@ -17,7 +17,7 @@ ghost use Rattle.buffa_samples.specs.Fields.{number_encoding, number_records, va
 ghost use Rattle.buffa_samples.specs.Grown.{Grown, grown, kids, no_kids};
 ghost use Rattle.buffa_samples.specs.Hues.{first_numbers};
 ghost use Rattle.buffa_samples.specs.Letters.{lower, same_letters};
-ghost use Rattle.buffa_samples.specs.Numbers.{IsReadAlone, flat_takes, two_field, two_takes};
+ghost use Rattle.buffa_samples.specs.Numbers.{ReadsAlone, StaysAlone, flat_takes, two_field, two_takes};
 ghost use Rattle.buffa_samples.specs.Passed.{proxy};
 ghost use Rattle.buffa_samples.specs.Pinned.{PassIsPinned, TripIsPinned};
 ghost use Rattle.buffa_samples.specs.TreeMeaning.{cost, merged};
@@ -94,15 +94,9 @@ pub fn trees_hold_these(tree: &Tree) -> (&i32, &BTreeMap<i32, Tree>)
 /// A field of the samples of numbers is merged as its bytes say, or refused by its fault; nothing is spent. What is
 /// refused changes nothing, where fields are kept, too, and spends nothing there. Open is what stands unread then.
 pub fn fields_are_read_alone()
-    ensures flat { (d n : ℕ) (old new : FlatMsg) (w : _) (bs rest : List ℕ) (a b : _) (r : _) →
-        ⟦<FlatMsg as Fields>⟧.layout.Taken d old n w bs a r new b rest →
-        IsReadAlone (value_field d old.value n w bs) old.value r new.value a b rest }
-    ensures two { (d n : ℕ) (old new : TestMsg) (w : _) (bs rest : List ℕ) (a b : _) (r : _) →
-        ⟦<TestMsg as Fields>⟧.layout.Taken d old n w bs a r new b rest →
-        IsReadAlone (two_field d (old.a, old.b) n w bs) (old.a, old.b) r (new.a, new.b) a b rest }
-    ensures keep { (d n : ℕ) (old new : BudgetMsg) (w : _) (bs rest : List ℕ) (a b : _) (r : _) →
-        ⟦<BudgetMsg as Fields>⟧.layout.Taken d old n w bs a r new b rest →
-        OnErr r ((new.fields.records ≡ old.fields.records) × (b ≡ a)) }
+    ensures flat { ReadsAlone ⟦<FlatMsg as Fields>⟧.layout.Taken value_field (λ m. m.value) }
+    ensures two { ReadsAlone ⟦<TestMsg as Fields>⟧.layout.Taken two_field (λ m. (m.a, m.b)) }
+    ensures keep { StaysAlone ⟦<BudgetMsg as Fields>⟧.layout.Taken (λ m. m.fields.records) }
 {}
 
 /// Which values of each sample are read back from their encoding, and how deep it nests. Nothing is open.

@@ -24,20 +24,20 @@ returns-clause-two c = λ d n old new w bs rest a b r h.
     let was : ℤ × ℤ = (old.a, old.b) in
     choose (n == 1) h
     (λ is both.
-      let took = both.0 in
-      let read = member_read (put_first old.b) d n old.a w bs a r new.a b rest took.0 took.1 took.3 in
-      rw is (subst (λ z. TwoIsRead (int32_field z (put_first old.b) w bs) was r (new.a, new.b) a b rest) (eqb-true n 1 is)
-      (subst (λ z. TwoIsRead (int32_field n (put_first old.b) w bs) was r (new.a, z) a b rest) (sym both.1.0) read)))
+    let took = both.0 in
+    let read = member_read (put_first old.b) d n old.a w bs a r new.a b rest took.0 took.1 took.3 in
+    rw is (subst (λ z. TwoIsRead (int32_field z (put_first old.b) w bs) was r (new.a, new.b) a b rest) (eqb-true n 1 is)
+    (subst (λ z. TwoIsRead (int32_field n (put_first old.b) w bs) was r (new.a, z) a b rest) (sym both.1.0) read)))
     (λ differs both. rw differs (choose (n == 2) both.1
-      (λ is again.
-        let took = again.0 in
-        let read = member_read (put_second old.a) d n old.b w bs a r new.b b rest took.0 took.1 took.3 in
-        rw is (subst (λ z. TwoIsRead (int32_field z (put_second old.a) w bs) was r (new.a, new.b) a b rest) (eqb-true n 2 is)
-        (subst (λ z. TwoIsRead (int32_field n (put_second old.a) w bs) was r (z, new.b) a b rest) (sym both.0) read)))
-      (λ others again.
-        let read = other_read was (skip_at d n w bs) r a b rest again.1.0 again.1.1 in
-        rw others (subst (λ z. TwoIsRead (skipped_field d was n w bs) was r (z, new.b) a b rest) (sym both.0)
-        (subst (λ z. TwoIsRead (skipped_field d was n w bs) was r (old.a, z) a b rest) (sym again.0) read)))))
+    (λ is again.
+    let took = again.0 in
+    let read = member_read (put_second old.a) d n old.b w bs a r new.b b rest took.0 took.1 took.3 in
+    rw is (subst (λ z. TwoIsRead (int32_field z (put_second old.a) w bs) was r (new.a, new.b) a b rest) (eqb-true n 2 is)
+    (subst (λ z. TwoIsRead (int32_field n (put_second old.a) w bs) was r (z, new.b) a b rest) (sym both.0) read)))
+    (λ others again.
+    let read = other_read was (skip_at d n w bs) r a b rest again.1.0 again.1.1 in
+    rw others (subst (λ z. TwoIsRead (skipped_field d was n w bs) was r (z, new.b) a b rest) (sym both.0)
+    (subst (λ z. TwoIsRead (skipped_field d was n w bs) was r (old.a, z) a b rest) (sym again.0) read)))))
 
 pub returns-clause-keep : goal.returns-clause-keep
 unfolding Kept
