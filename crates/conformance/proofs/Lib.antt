@@ -1,1 +1,2 @@
 pub mod CountLemmas
+mod NumberLemmas

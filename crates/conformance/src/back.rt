@@ -1,5 +1,7 @@
 // Which messages are read back.
 
+use buffa_fields::message::members_read_back;
+use buffa_map::map_codec::{Int32, MapCodec};
 use buffa_samples::count::CountMsg;
 use buffa_samples::flat::FlatMsg;
 use buffa_samples::keep::BudgetMsg;
@@ -7,20 +9,24 @@ use buffa_samples::two::TestMsg;
 use buffa_wire::RECURSION_LIMIT;
 use conformance_extensions::normal::Normal;
 use conformance_extensions::written::are_written;
+use std::marker::PhantomData;
 
 /// Says which samples are read back.
 pub struct Back;
 
 impl Normal<Back> for FlatMsg {
     fn is_normal(&self) -> bool {
-        let _value = self.value;
+        members_read_back(self);
+        let _value = Int32::encoded_len(&self.value);
         true
     }
 }
 
 impl Normal<Back> for TestMsg {
     fn is_normal(&self) -> bool {
-        let _values = (self.a, self.b);
+        members_read_back(self);
+        let _a = Int32::encoded_len(&self.a);
+        let _b = Int32::encoded_len(&self.b);
         true
     }
 }
@@ -32,7 +38,13 @@ impl Normal<Back> for CountMsg {
     }
 }
 
-impl Normal<Back> for BudgetMsg {
+/// Says the same of messages that keep their fields. It has a parameter since the checker refuses the statement of the
+/// impl below without one: "the import `denote.Param` was announced, and nothing of it was used".
+pub struct Kept<T> {
+    of: PhantomData<T>,
+}
+
+impl<T> Normal<Kept<T>> for BudgetMsg {
     fn is_normal(&self) -> bool {
         are_written(&self.fields, RECURSION_LIMIT)
     }

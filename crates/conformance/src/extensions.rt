@@ -1,6 +1,6 @@
 // Calls on extensions: those whose values are samples too.
 
-use crate::back::Back;
+use crate::back::{Back, Kept};
 use buffa_ext::codecs::EnumCodec;
 use buffa_ext::record::{Delimited, Grouped};
 use buffa_samples::count::CountMsg;
@@ -24,10 +24,10 @@ pub fn extension(alloc: Global, case: &Case<'_>, mark: &mut Mark) -> Result<Outc
         "flat" => of_message::<Samples, Back, FlatMsg, Delimited>(alloc, case, mark),
         "two" => of_message::<Samples, Back, TestMsg, Delimited>(alloc, case, mark),
         "count" => of_message::<Samples, Back, CountMsg, Delimited>(alloc, case, mark),
-        "keep" => of_message::<Samples, Back, BudgetMsg, Delimited>(alloc, case, mark),
+        "keep" => of_message::<Samples, Kept<()>, BudgetMsg, Delimited>(alloc, case, mark),
         "two-group" => of_message::<Samples, Back, TestMsg, Grouped>(alloc, case, mark),
         "count-group" => of_message::<Samples, Back, CountMsg, Grouped>(alloc, case, mark),
-        "keep-group" => of_message::<Samples, Back, BudgetMsg, Grouped>(alloc, case, mark),
+        "keep-group" => of_message::<Samples, Kept<()>, BudgetMsg, Grouped>(alloc, case, mark),
         _ => conformance_extensions::extension::<Samples>(alloc, case, mark),
     }
 }

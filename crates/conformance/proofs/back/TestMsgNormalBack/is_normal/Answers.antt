@@ -1,0 +1,23 @@
+use Rattle.std.proofs.Common.{[], ◌∷◌, ◌++◌, arith, refl}
+use Rattle.std.specs.Int.{cast_unsigned, w64}
+use Rattle.buffa_bytes.proofs.IntLemmas.{int32_below}
+use Rattle.buffa_fields.specs.KindLaws.{is_zero}
+use Rattle.buffa_fields.specs.MemberRecords.{plain_records}
+use Rattle.buffa_fields.specs.Values.{records_unless}
+use Rattle.buffa_wire.specs.Records.{varint}
+use Rattle.conformance.proofs.NumberLemmas.{unless_fits}
+use Rattle.conformance.proofs.back.TestMsgNormalBack.is_normal.Goals as goal
+
+pub returns : goal.returns
+unfolding plain_records
+returns c = λ _.
+    let a = c.args.self.now.a in
+    let b = c.args.self.now.b in
+    let first = c.encoded_len-a.ensures.fits in
+    let second = c.encoded_len-b.ensures.fits in
+    let more = records_unless (is_zero b) ((2, varint (cast_unsigned w64 b)) ∷ []) ++ [] in (
+      (c.members_read_back.ensures, ((first, tt), ((second, tt), tt, tt), (refl, tt))),
+      omega arith,
+      unless_fits (is_zero a) 1 (cast_unsigned w64 a) more (omega arith, omega arith) (int32_below a first)
+          (unless_fits (is_zero b) 2 (cast_unsigned w64 b) [] (omega arith, omega arith) (int32_below b second) tt),
+    )
