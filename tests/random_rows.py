@@ -117,7 +117,7 @@ class Maker:
         number, how, inner = self.any.choice(BY_MEMBERS[kind].members)
         if self.is_one_in(4):
             return self.field(self.pick(number, 13, 14), self.pick(VARINT, EIGHT, DELIMITED, START, FOUR), levels)
-        if how == "map":
+        if how in ("map", "ordered"):
             return tag_encoding(number, DELIMITED) + self.entry(inner)
         if how in ("group", "groups"):
             end = self.pick(number, number, number, 3) * 8 + END
