@@ -147,6 +147,13 @@ declare("store", 72, [(1, "plain", "string"), (2, "map", ("string", "inventory")
 declare("ledger", 96, [
     (1, "ordered", ("string", "int32")), (2, "ordered", ("int32", "inventory")), (3, "ordered", ("bool", "bytes")),
 ], True)
+declare("load", 56, [(1, "optional", "int32"), (2, "optional", "string")], True)
+declare("wagon", 392, [
+    (1, "optional", "load"), (2, "repeated", "load"), (3, "group", "load"), (4, "groups", "load"),
+    (5, "map", ("string", "load")), (6, "ordered", ("int32", "load")), (7, "plain", "int64"), (8, "optional", "string"),
+    (9, "optional", "open"), (10, "packed", "int32"), (11, "repeated", "string"), (12, "map", ("string", "int32")),
+    (13, "ordered", ("int32", "int32")),
+], True)
 declare("order", 256, [
     (1, "plain", "int64"), (2, "plain", "string"), (3, "optional", "bool"), (4, "plain", "open"),
     (5, "map", ("string", "int32")), (6, "plain", "bytes"), (7, "packed", "sint32"), (8, "optional", "string"),

@@ -1,6 +1,7 @@
-// Reads lines `TYPE HEX`, by the C++ classes that protoc generates of members.proto, and prints what the message of the
-// type holds, what it is written as in deterministic order, and whether a map in it has more than one pair; or `refused`.
-// The types that keep no other field are written without these.
+// Reads lines `TYPE HEX`, by the C++ classes that protoc generates of members.proto and wagons.proto, and prints what
+// the message of the type holds, what it is written as in deterministic order, and whether a map in it has more than one
+// pair, but for those that our types write in that order too; or `refused`. The types that keep no other field are
+// written without these.
 #include <algorithm>
 #include <cctype>
 #include <cstdio>
@@ -11,13 +12,16 @@
 #include <vector>
 
 #include "members.pb.h"
+#include "wagons.pb.h"
 #include <google/protobuf/io/coded_stream.h>
 #include <google/protobuf/io/zero_copy_stream_impl_lite.h>
 
 using google::protobuf::FieldDescriptor;
 using google::protobuf::Message;
 
-static const std::set<std::string> KEEPING = {"Assorted", "Explicit", "Inventory", "Joined"};
+static const std::set<std::string> KEEPING = {"Assorted", "Beam", "Explicit", "Frame", "Inventory",
+                                              "Joined", "Ledger", "Load", "Wagon"};
+static const std::set<std::string> IN_ORDER = {"axles", "balances", "berths", "pages", "seals"};
 
 static std::string bytes_of(const std::string& hex) {
   std::string bytes;
@@ -117,7 +121,8 @@ static std::string list_word(const Message& message, const FieldDescriptor* memb
 
 static std::string member_word(const Message& message, const FieldDescriptor* member) {
   if (member->is_repeated()) return list_word(message, member);
-  if (member->has_presence() && !message.GetReflection()->HasField(message, member)) return "none";
+  const bool may_be_none = member->has_presence() && !member->has_default_value();
+  if (may_be_none && !message.GetReflection()->HasField(message, member)) return "none";
   return value_word(message, member);
 }
 
@@ -150,7 +155,8 @@ static std::vector<const Message*> inner(const Message& message) {
 
 static bool has_many(const Message& message) {
   for (const auto* member : members_of(message))
-    if (member->is_map() && message.GetReflection()->FieldSize(message, member) > 1) return true;
+    if (member->is_map() && !IN_ORDER.count(member->name()) && message.GetReflection()->FieldSize(message, member) > 1)
+      return true;
   for (const auto* one : inner(message))
     if (has_many(*one)) return true;
   return false;
@@ -172,8 +178,7 @@ static void forget(Message* message) {
 }
 
 static std::string answer(const std::string& type, const std::string& bytes) {
-  const auto* file = vectors::Inventory::descriptor()->file();
-  const auto* made_of = file->FindMessageTypeByName(type);
+  const auto* made_of = google::protobuf::DescriptorPool::generated_pool()->FindMessageTypeByName("vectors." + type);
   const std::unique_ptr<Message> message(
       google::protobuf::MessageFactory::generated_factory()->GetPrototype(made_of)->New());
   if (!message->ParseFromString(bytes)) return "refused";

@@ -1,9 +1,10 @@
 """Writes vectors/members.tsv by Google's protobuf; rows.py in vectors/google makes rows of it.
 
 It needs protoc, g++ and libprotobuf-dev (3.21.12 was used): python3 vectors/members.py, at the top. A seed may be given
-as an argument. Asked are messages of each type of members.proto, which are drawn by its kinds of fields: values of each
-kind, then fields at random, beginnings of them, and bytes that no reader takes; and the bytes of the rows of
-vectors/cases/members.tsv, but for those on limits. A row of these on which Google's answer is another is named below.
+as an argument. Asked are messages of each type of members.proto and wagons.proto, which are drawn by its kinds of
+fields: values of each kind, many entries of a map, fields at random, beginnings of them, and bytes that no reader takes;
+and the bytes of the rows of vectors/cases/members.tsv, but for those on limits. A row of these on which Google's answer
+is another is named below.
 """
 import re
 import subprocess
@@ -12,17 +13,23 @@ from fnmatch import fnmatchcase
 from pathlib import Path
 
 from enums import varint
-from nodes import DRAW, at_random
+from nodes import DRAW, FAULTS, at_random
 
 HERE = Path(__file__).resolve().parent
-TEXT = (HERE / "members.proto").read_text(encoding="ascii")
-MEMBER = re.compile(r"(?:(optional|repeated) )?(?:map<(\w+), (\w+)>|(\w+)) \w+ = (\d+)(?: \[packed = false\])?;")
-# The types, of each its members: how often one stands, the kind of a key, the kind of a value, the number.
+PROTOS = ["members.proto", "wagons.proto"]
+TEXT = "".join((HERE / name).read_text(encoding="ascii") for name in PROTOS)
+GROUP = re.compile(r"group (\w+) = (\d+) {(.*?)}", re.DOTALL)
+GROUPS = {name: body for name, _, body in GROUP.findall(TEXT)}
+# The messages; a group in one is a member of its own type.
+MESSAGES = dict(re.findall(r"message (\w+) {(.*?)}", GROUP.sub(r"\1 it = \2;", TEXT), re.DOTALL))
+MEMBER = re.compile(r"(?:(optional|repeated) )?(?:map<(\w+), (\w+)>|(\w+)) \w+ = (\d+)(?: \[(?:packed|(default)) = \w+\])?;")
+# The types, of each its members: how often one stands, the kind of a key, the kind of a value, the number. One with a
+# default is there or isn't, but is asked of no field that is its default.
 TYPES = {
-    name: [(often, key, value or kind, int(number)) for often, key, value, kind, number in MEMBER.findall(body)]
-    for name, body in re.findall(r"message (\w+) {(.*?)}", TEXT, re.DOTALL)
+    name: [(default or often, key, value or kind, int(number)) for often, key, value, kind, number, default in MEMBER.findall(body)]
+    for name, body in (MESSAGES | GROUPS).items()
 }
-VARINT, EIGHT, DELIMITED, FOUR = 0, 1, 2, 5
+VARINT, EIGHT, DELIMITED, START, END, FOUR = range(6)
 WIRES = {"fixed64": EIGHT, "sfixed64": EIGHT, "fixed32": FOUR, "sfixed32": FOUR, "string": DELIMITED, "bytes": DELIMITED}
 # The numbers that are spelled for a value; of varints some that have more bits than a number of 32.
 NUMBERS = {
@@ -30,19 +37,25 @@ NUMBERS = {
     FOUR: [0, 1, 2**31 - 1, 2**31, 2**32 - 1],
     EIGHT: [0, 1, 2**63 - 1, 2**63, 2**64 - 1],
 }
+# A closed enum is asked of the values that it declares.
+CLOSED = [0, 1]
 TEXTS = ["", "a", "b", "ab", "Z", "\u00e9", "a b", "x" * 130]
+
+# Types with maps that are written in the order of their keys.
+IN_ORDER = {"Ledger", "Wagon"}
 
 # Why an answer of theirs is another one, and the rows of vectors/cases/members.tsv on which it is.
 OWN = {
     "wire": """a field of another wire type*
         a key of another wire type""",
     "bool": "a bool of 2^63 in an entry",
+    "text": "a text in a * in a list that is no UTF-8",
 }
 WHY = {name.strip(): why for why, names in OWN.items() for name in names.split("\n")}
 
 
 def wire(kind):
-    return DELIMITED if kind in TYPES else WIRES.get(kind, VARINT)
+    return START if kind in GROUPS else DELIMITED if kind in TYPES else WIRES.get(kind, VARINT)
 
 
 def delimited(text):
@@ -54,7 +67,7 @@ def payload(kind, at, levels):
     if kind in TYPES:
         return delimited(message(kind, levels - 1))
     if wire(kind) == VARINT:
-        number = NUMBERS[VARINT][at % 9]
+        number = CLOSED[at % 2] if kind == "Closed" else NUMBERS[VARINT][at % 9]
         return varint(number, 1 if DRAW.randrange(9) == 0 and number < 2**32 else 0)
     if wire(kind) == DELIMITED:
         text = TEXTS[at % 8].encode()
@@ -79,6 +92,10 @@ def member(often, key, kind, number, at, levels):
     """A field of a member; of a list one element, or packed ones where the kind can be packed."""
     if key:
         return field(number, DELIMITED, entry(key, kind, at, levels))
+    if kind in GROUPS:
+        return field(number, START, message(kind, levels - 1) + varint(number * 8 + END))
+    if often == "default" and at % 9 == 0:
+        at += 1
     if often == "repeated" and wire(kind) != DELIMITED and at % 2:
         return field(number, DELIMITED, delimited(b"".join(payload(kind, at + it, levels) for it in range(at % 4))))
     return field(number, wire(kind), payload(kind, at, levels))
@@ -91,8 +108,8 @@ def other(members):
         field(number, VARINT, varint(DRAW.choice([0, 7, 2**64 - 1]))), field(number, FOUR, b"1234"),
         field(number, EIGHT, b"12345678"), field(number, DELIMITED, DRAW.choice([b"\0", b"\3xyz"])),
     ]
-    group = varint(number * 8 + 3) + DRAW.choice(shapes) + DRAW.choice([b"", b"\x13\x08\x05\x14"]) + varint(number * 8 + 4)
-    return DRAW.choice([*shapes, group])
+    group = DRAW.choice(shapes) + DRAW.choice([b"", b"\x13\x08\x05\x14"]) + varint(number * 8 + END)
+    return DRAW.choice([*shapes, field(number, START, group)])
 
 
 def one_field(kind, levels):
@@ -117,8 +134,21 @@ def all_members(kind):
         yield b"".join(fields)
 
 
+def many_entries(kind):
+    """Messages with four entries of one of the maps and a field of each other member, in any order."""
+    for one in [it for it in TYPES[kind] if it[1]] * 2:
+        fields = [member(*it, DRAW.randrange(72), 1) for it in TYPES[kind] for _ in range(4 if it == one else 1)]
+        DRAW.shuffle(fields)
+        yield b"".join(fields)
+
+
 def inputs(kind):
-    members = [b"", *all_members(kind), *at_random(9, lambda: one_field(kind, 2))]
+    members = [b"", *all_members(kind)]
+    if kind in IN_ORDER:
+        members += many_entries(kind)
+    # a field of the number 5 and of another wire type than that member's is kept
+    faults = [it for it in FAULTS if kind != "Wagon" or it[:2] not in ("29", "2d")]
+    members += at_random(20 if kind == "Wagon" else 9, lambda: one_field(kind, 2), faults)
     return [(kind.lower(), it.hex()) for it in members]
 
 
@@ -128,6 +158,8 @@ def by_hand():
     for line in (HERE / "cases" / "members.tsv").read_text(encoding="ascii").splitlines():
         fields = line.split("\t")
         if line.startswith("#") or fields[1] not in ("merge", "encode") or "Limit" in fields[6]:
+            continue
+        if fields[2].capitalize() not in MESSAGES:
             continue
         name, call, kind, _, before, given, answer, after = fields
         why = next((why for form, why in WHY.items() if fnmatchcase(name, form)), "")
@@ -144,7 +176,7 @@ def ask(asked):
 
 
 def mark_of(told, rows):
-    """`same`, or `many` where a map has more than one pair; or why the rows by hand have another answer."""
+    """`same`, or `many` where a map without order has more than one pair; or why the rows by hand have another answer."""
     for name, call, why, after in rows:
         theirs = told[1] if call == "encode" and told != ["refused"] else told[0]
         assert why or theirs == after or call == "encode" and told[2] == "many", f"{name}: {theirs}"
@@ -155,26 +187,27 @@ def mark_of(told, rows):
 
 
 HEAD = """\
-# Messages of members.proto as C++ classes of protobuf 3.21.12 read and write them, in deterministic order; those that keep
-# no other field are written without these.
+# Messages of members.proto and wagons.proto as C++ classes of protobuf 3.21.12 read and write them, in deterministic order;
+# those that keep no other field are written without these.
 # type, bytes in hex (- for none), a mark, what the message then holds, what it is written as. Marks: same; many, a map in it
-# has more than one pair, and they are in the order of their keys; refused; own and why:
+# that ours writes in no order has more than one pair, and they are in the order of their keys; refused; own and why:
 # wire    a field, or a part of an entry, with another wire type is passed over, or kept
 # bool    a bool in an entry is read of its low 32 bits
+# text    a string of proto2, which the wagon is here, may be no UTF-8
 """
 
 
 def build():
     """Builds the program."""
-    subprocess.run(["protoc", f"-I{HERE}", f"--cpp_out={AT}", str(HERE / "members.proto")], check=True)
-    sources = [str(HERE / "members.cc"), f"{AT}/members.pb.cc"]
+    subprocess.run(["protoc", f"-I{HERE}", f"--cpp_out={AT}", *(str(HERE / it) for it in PROTOS)], check=True)
+    sources = [str(HERE / "members.cc"), *(f"{AT}/{it.replace('.proto', '.pb.cc')}" for it in PROTOS)]
     subprocess.run(["g++", f"-I{AT}", "-o", f"{AT}/members", *sources, "-lprotobuf", "-lpthread"], check=True)
 
 
 def main():
     build()
     rows = by_hand()
-    asked = [*rows, *(it for kind in TYPES for it in inputs(kind))]
+    asked = [*rows, *(it for kind in MESSAGES for it in inputs(kind))]
     told = ask(list(dict.fromkeys(asked)))
     # what they wrote is read to the same, and written alike
     wrote = {it: (it[0], words[1].strip("-")) for it, words in told.items() if words != ["refused"]}

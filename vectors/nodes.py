@@ -139,7 +139,7 @@ def item():
 FAULTS = ["0c", "24", "00", "0200", "26", "27", "2bff", "2b34", "2880808080808080808080800100", "2a0561", "2d0102", "2900"]
 
 
-def at_random(count, make):
+def at_random(count, make, faults=FAULTS):
     """Bytes that a maker makes, and by turns a beginning of them, or them with a fault between two of their parts."""
     for at in range(count):
         parts = [make() for _ in range(DRAW.randrange(1, 4))]
@@ -148,7 +148,7 @@ def at_random(count, make):
         if at % 2:
             yield whole[: DRAW.randrange(len(whole) + 1)]
             continue
-        parts.insert(DRAW.randrange(len(parts) + 1), bytes.fromhex(DRAW.choice(FAULTS)))
+        parts.insert(DRAW.randrange(len(parts) + 1), bytes.fromhex(DRAW.choice(faults)))
         yield b"".join(parts)
 
 

@@ -144,8 +144,9 @@ def members():
     out = [
         "# Messages from their fields as C++ classes of protobuf 3.21.12 read and write them, in deterministic order; `refused` is\n",
         "# any fault but want of memory. What a map of more than one pair is written as is asked of what they wrote, in the order\n",
-        "# of keys. Left out are bytes of which they make something else (vectors/members.tsv has them, with why): a field or a\n",
-        "# part of an entry with another wire type, which they pass over or keep; a bool of 2^32 or more in an entry.\n",
+        "# of keys, unless the type writes it in that order too. Left out are bytes of which they make something else\n",
+        "# (vectors/members.tsv has them, with why): a field or a part of an entry with another wire type, which they pass over\n",
+        "# or keep; a bool of 2^32 or more in an entry.\n",
     ]
     for kind, given, mark, *told in answered("members"):
         given = given.strip("-")

@@ -1,23 +1,25 @@
 -- Lists of values, one more at a time.
 use Rattle.std.proofs.Common.{◌≡◌, ℕ, ◌+◌, ◌<◌, List, [], ◌∷◌, ◌++◌, Option, Some, None, refl, sym, ◌∙◌, ap, map, take, drop, length, get_or, append_assoc, arith, subst, ◌⊎◌, inl, inr}
+use Rattle.std.specs.List.{AllByRecursion}
 use Rattle.std.proofs.lemmas.List.{append-nil}
 use Rattle.buffa_bytes.specs.declared.error.EncodeError.{EncodeError}
 use Rattle.buffa_bytes.specs.declared.error.EncodeError.TheVariants.{OutOfMemory}
-use Rattle.buffa_codec.specs.Decoded.{Each, encodings, first_refusal, packed_record}
+use Rattle.buffa_codec.specs.Decoded.{first_refusal, packed_record}
 use Rattle.buffa_codec.specs.Sub.{tagged}
 use Rattle.buffa_bytes.proofs.ListLemmas.{means_cut}
+use Rattle.buffa_wire.specs.Encoding.{encodings}
 
-pub Each-append : {M : Type 0} (P : M → Type 0) (ms : List M) (m : M) → Each P ms → P m → Each P (ms ++ m ∷ [])
-Each-append P [] m h k = (k, tt)
-Each-append P (x ∷ ms) m h k = (h.0, Each-append P ms m h.1 k)
+pub AllByRecursion-append : {M : Type 0} (P : M → Type 0) (ms : List M) (m : M) → AllByRecursion P ms → P m → AllByRecursion P (ms ++ m ∷ [])
+AllByRecursion-append P [] m h k = (k, tt)
+AllByRecursion-append P (x ∷ ms) m h k = (h.0, AllByRecursion-append P ms m h.1 k)
 
 -- a fact that holds of each value holds of one of them
-Each-middle : {M : Type 0} (P : M → Type 0) (front : List M) (m : M) (back : List M) → Each P (front ++ m ∷ back) → P m
-Each-middle P [] m back h = h.0
-Each-middle P (x ∷ front) m back h = Each-middle P front m back h.1
+AllByRecursion-middle : {M : Type 0} (P : M → Type 0) (front : List M) (m : M) (back : List M) → AllByRecursion P (front ++ m ∷ back) → P m
+AllByRecursion-middle P [] m back h = h.0
+AllByRecursion-middle P (x ∷ front) m back h = AllByRecursion-middle P front m back h.1
 
-pub Each-at : {V M : Type 0} (P : M → Type 0) (meaning : V → M) (xs : List V) (i : ℕ) (x : V) → i < length xs → x ≡ get_or xs i x → Each P (map meaning xs) → P (meaning x)
-Each-at P meaning xs i x lt e h = Each-middle P (map meaning (take i xs)) (meaning x) (map meaning (drop (i + 1) xs)) (subst (Each P) (means_cut meaning xs i x lt e) h)
+pub AllByRecursion-at : {V M : Type 0} (P : M → Type 0) (meaning : V → M) (xs : List V) (i : ℕ) (x : V) → i < length xs → x ≡ get_or xs i x → AllByRecursion P (map meaning xs) → P (meaning x)
+AllByRecursion-at P meaning xs i x lt e h = AllByRecursion-middle P (map meaning (take i xs)) (meaning x) (map meaning (drop (i + 1) xs)) (subst (AllByRecursion P) (means_cut meaning xs i x lt e) h)
 
 -- no refusal before, and then that of the next, or of what follows
 abbrev refused_by : {M : Type 0} → (M → Option EncodeError) → List M → Option EncodeError → Option EncodeError

@@ -4,8 +4,9 @@ use Rattle.std.specs.List.{filter_map, last_or, cons_option}
 use Rattle.std.proofs.lemmas.List.{map-append}
 use Rattle.buffa_wire.specs.BudgetLeft.{BudgetLeft, defaults}
 use Rattle.buffa_wire.specs.Records.{Datum, varint, fixed32, fixed64, bytes, group}
-use Rattle.buffa_codec.specs.Decoded.{ReadsAll, ReadsList, elements, encodings, last_read, packed_record}
+use Rattle.buffa_codec.specs.Decoded.{ReadsAll, ReadsList, elements, last_read, packed_record}
 use Rattle.buffa_codec.specs.Through.{ListsThrough, ReadsThrough}
+use Rattle.buffa_wire.specs.Encoding.{encodings}
 
 pub option_twice : {A B C : Type 0} (g : A → B) (f : B → C) (o : Option A) → option_map (λ x. f (g x)) o ≡ option_map f (option_map g o)
 option_twice g f None = refl

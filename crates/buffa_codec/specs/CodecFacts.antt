@@ -1,12 +1,14 @@
 -- What the laws of codecs rest on: what reading spends, and that what was written is read back.
 use Rattle.std.specs.Prelude.{◌≡◌, ℕ, ◌-◌, List, [], ◌∷◌, ◌++◌, map, Option, Some, None, refl, true}
+use Rattle.std.specs.List.{AllByRecursion}
 use Rattle.std.proofs.Math.Nat.{sub-zero}
 use Rattle.std.proofs.Common.{sym, ◌∙◌, ap, subst, arith}
 use Rattle.buffa_wire.specs.Records.{Datum, bytes}
 use Rattle.std.proofs.lemmas.List.{append-nil}
 use Rattle.std.specs.Str.{is_utf8}
 use Rattle.buffa_wire.specs.BudgetLeft.{BudgetLeft, Covers, Pays, defaults, minus, nothing}
-use Rattle.buffa_codec.specs.Decoded.{ReadsAll, CoversAll, Each, elements, encodings, last_read, packed_record, string_held}
+use Rattle.buffa_codec.specs.Decoded.{ReadsAll, CoversAll, elements, last_read, packed_record, string_held}
+use Rattle.buffa_wire.specs.Encoding.{encodings}
 
 pub minus_nothing : (b : BudgetLeft) → b ≡ minus b nothing
 minus_nothing b = simp sub-zero
@@ -42,7 +44,7 @@ string_back v h = rw h refl
 module _ {M : Type 0} (fits normal : M → Type 0) (cost : Datum → BudgetLeft) (one : BudgetLeft → Datum → Option M) (leaves : BudgetLeft → Datum → BudgetLeft → Type 0) (packed : List ℕ → List M) (encoding : M → Datum) (back : M → M)
     (reads : (v : M) (b : BudgetLeft) → fits v → normal v → Covers b (cost (encoding v)) → one b (encoding v) ≡ Some (back v))
     (spends : (b left : BudgetLeft) (d : Datum) (v : M) → one b d ≡ Some v → leaves b d left → Pays b (cost d) left) where
-  pub list_back : (b : BudgetLeft) (vs out : List M) (left : BudgetLeft) → Each fits vs → Each normal vs → CoversAll cost b (map encoding vs) → ReadsAll one leaves packed b (map encoding vs) out left → out ≡ map back vs
+  pub list_back : (b : BudgetLeft) (vs out : List M) (left : BudgetLeft) → AllByRecursion fits vs → AllByRecursion normal vs → CoversAll cost b (map encoding vs) → ReadsAll one leaves packed b (map encoding vs) out left → out ≡ map back vs
   list_back b [] out left f n k h = h.0
   list_back b (v ∷ vs) out left f n k h =
       h.4 ∙ ap (λ o. elements packed (encoding v) o ++ h.1) (reads v b f.0 n.0 k.0)
@@ -53,11 +55,11 @@ module _ {M : Type 0} (fits : M → Type 0) (one : BudgetLeft → Datum → Opti
     (unpacks : (v : M) (rest : List ℕ) → fits v → packed (encoding v ++ rest) ≡ back v ∷ packed rest)
     (unpacks_none : packed [] ≡ [])
     (unread : (b : BudgetLeft) (bs : List ℕ) → one b (bytes bs) ≡ None) where
-  pub unpacks_all : (vs : List M) → Each fits vs → packed (encodings encoding vs) ≡ map back vs
+  pub unpacks_all : (vs : List M) → AllByRecursion fits vs → packed (encodings encoding vs) ≡ map back vs
   unpacks_all [] f = unpacks_none
   unpacks_all (v ∷ vs) f = unpacks v (encodings encoding vs) f.0 ∙ ap (λ l. back v ∷ l) (unpacks_all vs f.1)
 
-  pub packed_back : (vs out : List M) (left : BudgetLeft) → Each fits vs → ReadsAll one leaves packed defaults (packed_record encoding vs) out left → out ≡ map back vs
+  pub packed_back : (vs out : List M) (left : BudgetLeft) → AllByRecursion fits vs → ReadsAll one leaves packed defaults (packed_record encoding vs) out left → out ≡ map back vs
   packed_back [] out left f h = h.0
   packed_back (v ∷ vs) out left f h =
       h.4 ∙ ap (λ o. elements packed (bytes (encodings encoding (v ∷ vs))) o ++ h.1) (unread defaults (encodings encoding (v ∷ vs)))

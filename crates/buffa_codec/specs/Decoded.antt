@@ -1,5 +1,5 @@
 -- What the records of a number are read as.
-use Rattle.std.specs.Prelude.{ℕ, ◌≡◌, ◌≢◌, ◌↔◌, ◌<◌, ◌≤◌, ◌+◌, ◌-◌, ◌⊎◌, List, [], ◌∷◌, ◌++◌, length, map, take, MatchResult, Option, Some, None, Result, Ok, Err, if◌then◌else◌}
+use Rattle.std.specs.Prelude.{ℕ, ◌≡◌, ◌≢◌, ◌↔◌, ◌<◌, ◌≤◌, ◌+◌, ◌⊎◌, List, [], ◌∷◌, ◌++◌, length, map, take, MatchResult, Option, Some, None, Result, Ok, Err, if◌then◌else◌}
 use Rattle.std.specs.Option.{option_or}
 use Rattle.std.specs.Str.{is_utf8}
 use Rattle.std.specs.List.{filter_map, last_or}
@@ -8,6 +8,7 @@ use Rattle.buffa_wire.specs.BudgetLeft.{BudgetLeft, Covers, PaysAtMost, defaults
 use Rattle.buffa_wire.specs.declared.context.DecodeContext.{DecodeContext}
 use Rattle.buffa_bytes.specs.declared.error.EncodeError.{EncodeError}
 use Rattle.buffa_bytes.specs.declared.error.EncodeError.TheVariants.{OutOfMemory}
+use Rattle.buffa_wire.specs.Encoding.{encodings}
 
 -- what the last record is read as that is read at all
 abbrev pub last_read : {M : Type 0} → (Datum → Option M) → List Datum → Option M
@@ -120,16 +121,6 @@ ReadAlike {A = A} reads also = (s : List Datum) (out : A) → reads s out ↔ al
 abbrev pub CoversAll : (Datum → BudgetLeft) → BudgetLeft → List Datum → Type 0
 CoversAll cost b [] = Unit {0}
 CoversAll cost b (d ∷ ds) = Covers b (cost d) × CoversAll cost (minus b (cost d)) ds
-
--- a fact holds of each value
-abbrev pub Each : {V : Type 0} → (V → Type 0) → List V → Type 0
-Each P [] = Unit {0}
-Each P (v ∷ vs) = P v × Each P vs
-
--- the encodings of the values, joined
-abbrev pub encodings : {V : Type 0} → (V → List ℕ) → List V → List ℕ
-encodings encoding [] = []
-encodings encoding (v ∷ vs) = encoding v ++ encodings encoding vs
 
 -- one record of packed bytes, or none for no values
 abbrev pub packed_record : {V : Type 0} → (V → List ℕ) → List V → List Datum

@@ -1,14 +1,12 @@
 -- What the definition of packed numbers comes to.
-use Rattle.std.proofs.Common.{◌≡◌, ℕ, zero, suc, ◌<◌, ◌≤◌, List, [], ◌∷◌, ◌++◌, length, map, Result, Ok, Err, refl, sym, ap, ◌∙◌, arith}
+use Rattle.std.proofs.Common.{◌≡◌, ℕ, ◌<◌, List, [], ◌∷◌, ◌++◌, length, map, Result, Ok, Err, refl, ap, ◌∙◌, arith}
 use Rattle.std.proofs.lemmas.List.{length-append}
 use Rattle.buffa_bytes.specs.declared.wire_type.WireType.{WireType}
-use Rattle.buffa_bytes.specs.declared.wire_type.WireType.TheVariants.{Varint, Fixed64, LengthDelimited, Fixed32}
 use Rattle.buffa_bytes.specs.declared.error.DecodeError.{DecodeError}
 use Rattle.buffa_bytes.specs.Content.{Content, HasContent, content_at, number_in}
-use Rattle.buffa_bytes.specs.Content.Content.{number, bytes}
+use Rattle.buffa_bytes.specs.Content.Content.{number}
 use Rattle.buffa_bytes.proofs.StepLemmas.{agree_ok}
 use Rattle.buffa_bytes.proofs.ContentLemmas.{content_sound, content_complete, has_byte}
-use Rattle.buffa_bytes.proofs.VarintLemmas.{varint_falls}
 use Rattle.buffa_bytes.specs.Scan.{step_then}
 use Rattle.buffa_bytes.proofs.ScanLemmas.{Shortens, scan_step}
 use Rattle.buffa_codec.specs.Packed.{number_then, numbers_in}

@@ -2,6 +2,7 @@
 //! is the law.
 
 ghost use Rattle.std.specs.Prelude.{◌≡◌, ◌≢◌, ◌↔◌, ℕ, ℤ, List, [], ◌∷◌, map, Bool, Option, Some, None, option_map};
+ghost use Rattle.std.specs.List.{AllByRecursion};
 ghost use Rattle.std.specs.Prelude.{FitsSigned, true};
 ghost use Rattle.std.specs.Str.{is_utf8};
 ghost use Rattle.buffa_bytes.specs.declared.error.EncodeError.{EncodeError};
@@ -25,7 +26,7 @@ ghost use Rattle.buffa_bytes.specs.Scalars.{zigzag};
 ghost use Rattle.buffa_wire.specs.Records.{varint, fixed32, fixed64};
 ghost use Rattle.buffa_codec.specs.Decoded.{LaterReadingsWin, ReadAlike, ReadingsJoin};
 ghost use Rattle.buffa_codec.specs.Decoded.{LastHasByte, bytes_held, last_read};
-ghost use Rattle.buffa_codec.specs.Decoded.{CoversAll, Each, ReadsList, first_refusal, packed_record, string_held};
+ghost use Rattle.buffa_codec.specs.Decoded.{CoversAll, ReadsList, first_refusal, packed_record, string_held};
 ghost use Rattle.buffa_bytes.specs.declared.wire_type.WireType.{WireType};
 ghost use Rattle.buffa_codec.specs.PackedGrammar.{ArePacked};
 ghost use Rattle.buffa_codec.specs.Through.{ListsThrough, ReadsThrough, WritesThrough};
@@ -302,19 +303,19 @@ pub fn lists_are_read<C: SingularCodec, P: PackableCodec>()
         ≡ first_refusal C.refusal vs }
     ensures written { (vs : List P.Value.Meaning) → ⟦<PackedRepeated<P> as ExtensionCodec>⟧.refusal vs ≡ None }
     ensures normal { (vs : List C.Value.Meaning) → ⟦<Repeated<C> as ExtensionCodec>⟧.normal vs
-        ↔ (Each C.normal vs × CoversAll C.cost defaults (map C.datum vs)) }
+        ↔ (AllByRecursion C.normal vs × CoversAll C.cost defaults (map C.datum vs)) }
     ensures always { (vs : List P.Value.Meaning) → ⟦<PackedRepeated<P> as ExtensionCodec>⟧.normal vs }
     ensures holds { (vs os : List C.Value.Meaning) → ⟦<Repeated<C> as ExtensionCodec>⟧.holds vs os
         ↔ (os ≡ map C.back vs) }
     ensures packed_holds { (vs os : List P.Value.Meaning) → ⟦<PackedRepeated<P> as ExtensionCodec>⟧.holds vs os
         ↔ (os ≡ map P.back vs) }
-    ensures in_room { (vs : List C.Value.Meaning) → ⟦<Repeated<C> as ExtensionCodec>⟧.in_room vs ↔ Each C.made_free vs }
+    ensures in_room { (vs : List C.Value.Meaning) → ⟦<Repeated<C> as ExtensionCodec>⟧.in_room vs ↔ AllByRecursion C.made_free vs }
     ensures packed_in_room { (vs : List P.Value.Meaning) → ⟦<PackedRepeated<P> as ExtensionCodec>⟧.in_room vs → ⊥ }
     ensures memory { (ds : List Datum) → ⟦<Repeated<C> as ExtensionCodec>⟧.takes ds
         ↔ Has (TakesElement C.takes (C.one 100) C.packed) ds }
-    ensures fits { (vs : List C.Value.Meaning) → ⟦<Repeated<C> as ExtensionCodec>⟧.fits vs ↔ Each C.fits vs }
+    ensures fits { (vs : List C.Value.Meaning) → ⟦<Repeated<C> as ExtensionCodec>⟧.fits vs ↔ AllByRecursion C.fits vs }
     ensures packed_fits { (vs : List P.Value.Meaning) → ⟦<PackedRepeated<P> as ExtensionCodec>⟧.fits vs
-        ↔ Each P.fits vs }
+        ↔ AllByRecursion P.fits vs }
     ensures packed_memory { (ds : List Datum) → ⟦<PackedRepeated<P> as ExtensionCodec>⟧.takes ds
         ↔ Has (TakesElement P.takes (P.one 100) P.packed) ds }
 {}

@@ -1,8 +1,10 @@
 //! Codecs of lists, all elements in one record.
 
 ghost use Rattle.std.specs.Prelude.{◌≡◌, IfOk, List, None, OnOk, map};
-ghost use Rattle.buffa_codec.specs.Decoded.{Each, Has, ReadsList, Refuses, TakesElement, encodings, packed_record};
+ghost use Rattle.std.specs.List.{AllByRecursion};
+ghost use Rattle.buffa_codec.specs.Decoded.{Has, ReadsList, Refuses, TakesElement, packed_record};
 ghost use Rattle.buffa_codec.specs.CodecFacts.{packed_back};
+ghost use Rattle.buffa_wire.specs.Encoding.{encodings};
 
 use crate::codec::{ExtensionCodec, PackableCodec, push_record};
 use crate::repeated::Repeated;
@@ -38,7 +40,7 @@ impl<C: PackableCodec> ExtensionCodec for PackedRepeated<C> {
 
     ghost refusal = { λ vs. None };
 
-    ghost fits = { Each C.fits };
+    ghost fits = { AllByRecursion C.fits };
 
     ghost normal = { λ vs. Unit {0} };
 
@@ -84,7 +86,7 @@ fn packed_bytes<C: PackableCodec>(
 ) -> Result<Vec<u8>, EncodeError>
     ensures bytes { IfOk result (λ b. b.items ≡ encodings C.packed_encoding (map C.Value.meaning values.now)) }
     ensures refused { Refuses result None }
-    ensures fits { OnOk result (Each C.fits (map C.Value.meaning values.now)) }
+    ensures fits { OnOk result (AllByRecursion C.fits (map C.Value.meaning values.now)) }
 {
     let mut bytes = Vec::new(alloc);
     // Each value has a byte at least.

@@ -1,9 +1,10 @@
 //! Codecs of lists, one record an element.
 
 ghost use Rattle.std.specs.Prelude.{◌≡◌, List, map, OnErr, OnOk, IfErr};
+ghost use Rattle.std.specs.List.{AllByRecursion};
 ghost use Rattle.buffa_wire.specs.Records.{Datum};
 ghost use Rattle.buffa_wire.specs.View.{datum_of};
-ghost use Rattle.buffa_codec.specs.Decoded.{AddsRecord, CoversAll, Each, Has, ReadsList, TakesElement};
+ghost use Rattle.buffa_codec.specs.Decoded.{AddsRecord, CoversAll, Has, ReadsList, TakesElement};
 ghost use Rattle.buffa_codec.specs.Decoded.{first_refusal};
 ghost use Rattle.buffa_wire.specs.BudgetLeft.{defaults};
 ghost use Rattle.buffa_codec.specs.CodecFacts.{list_back};
@@ -16,7 +17,7 @@ use buffa_wire::{
 use std::alloc::{AllocError, Global};
 use std::marker::PhantomData;
 
-/// A list: one record an element is written, and packed records are read too.
+/// A list: one record an element is written, and packed records are read too, a malformed one up to its fault.
 ///
 /// ```ignore
 /// Repeated::<Int32>::encode(alloc, 7, vec![in alloc; 3, 300]?, &mut fields)?; // 38 03 38 AC 02
@@ -44,15 +45,15 @@ impl<C: SingularCodec> ExtensionCodec for Repeated<C> {
 
     ghost refusal = { first_refusal C.refusal };
 
-    ghost fits = { Each C.fits };
+    ghost fits = { AllByRecursion C.fits };
 
-    ghost normal = { λ vs. Each C.normal vs × CoversAll C.cost defaults (map C.datum vs) };
+    ghost normal = { λ vs. AllByRecursion C.normal vs × CoversAll C.cost defaults (map C.datum vs) };
 
     ghost holds = { λ v o. o ≡ map C.back v };
 
     ghost never_fails = { ⊥ };
 
-    ghost in_room = { Each C.made_free };
+    ghost in_room = { AllByRecursion C.made_free };
 
     ghost takes = { Has (TakesElement C.takes (C.one 100) C.packed) };
 

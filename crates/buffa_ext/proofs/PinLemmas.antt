@@ -15,17 +15,12 @@ use Rattle.buffa_ext.specs.MessageFacts.{all_merged, left_yes}
 use Rattle.buffa_ext.specs.Pinned.{ListIsExact, MergingIsPinned, RecordMergeIsPinned}
 use Rattle.std.proofs.lemmas.Option.{none-some, same_Some}
 use Rattle.std.proofs.lemmas.Bool.{false≢true}
+use Rattle.buffa_wire.proofs.SequenceLemmas.{heads, tails}
 
 not_both : {A P : Type 0} (x : A) (o : Option A) → o ≡ Some x → o ≡ None → P
 not_both x o h k = absurd (none-some x (sym k ∙ h))
 
 -- ---- records that are merged
-
-same_head : {A : Type 0} (x y : A) (xs ys : List A) → x ∷ xs ≡ y ∷ ys → x ≡ y
-same_head x y xs ys h = cc
-
-same_tail : {A : Type 0} (x y : A) (xs ys : List A) → x ∷ xs ≡ y ∷ ys → xs ≡ ys
-same_tail x y xs ys h = cc
 
 module _ {X : Type 0} (merged : X → List ℕ → Option X) (cost : List ℕ → BudgetLeft) (held : Datum → Option (List ℕ)) (takes : Datum → Type 0) where
   paid_not_lacked : (before need left : BudgetLeft) → Pays before need left → Lacks before need → ⊥
@@ -86,13 +81,13 @@ module _ {X : Type 0} (merged : X → List ℕ → Option X) (cost : List ℕ �
       → Done f old before mid left → Stuck d mid left → Done g old before mid' left' → Stuck c mid' left' → f ≡ g
   one_stop [] [] d c fb gb old mid mid' before left left' cut h s k r = refl
   one_stop [] (y ∷ g) d c fb gb old mid mid' before left left' cut h s k r =
-      absurd (stuck_not_done y g old mid' before left' (subst (λ z. Stuck z old before) (same_head d y fb (g ++ c ∷ gb) cut) (stuck_from d old mid before left h s)) k)
+      absurd (stuck_not_done y g old mid' before left' (subst (λ z. Stuck z old before) (heads cut) (stuck_from d old mid before left h s)) k)
   one_stop (x ∷ f) [] d c fb gb old mid mid' before left left' cut h s k r =
-      absurd (stuck_not_done x f old mid before left (subst (λ z. Stuck z old before) (sym (same_head x c (f ++ d ∷ fb) gb cut)) (stuck_from c old mid' before left' k r)) h)
+      absurd (stuck_not_done x f old mid before left (subst (λ z. Stuck z old before) (sym (heads cut)) (stuck_from c old mid' before left' k r)) h)
   one_stop (x ∷ f) (y ∷ g) d c fb gb old mid mid' before left left' cut h s k r =
-      let head = same_head x y (f ++ d ∷ fb) (g ++ c ∷ gb) cut in
+      let head = heads cut in
       let rest = over_record f g mid mid' left left'
-      (λ w b p q. one_stop f g d c fb gb w mid mid' b left left' (same_tail x y (f ++ d ∷ fb) (g ++ c ∷ gb) cut) p s q r)
+      (λ w b p q. one_stop f g d c fb gb w mid mid' b left left' (tails cut) p s q r)
       x (held x) old before refl h (subst (λ z. Done (z ∷ g) old before mid' left') (sym head) k) in
       ap (λ z. z ∷ f) head ∙ ap (λ l. y ∷ l) rest
 

@@ -1,2 +1,2 @@
-pub mod SortedLemmas
+pub use Rattle.buffa_map_base.proofs.SortedLemmas
 pub mod OrderedLemmas

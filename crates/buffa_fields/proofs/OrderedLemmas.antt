@@ -12,7 +12,7 @@ use Rattle.buffa_map.proofs.PutLemmas.{SamePairs-insert_entry}
 use Rattle.buffa_map.specs.Pairs.{SamePairs, means, put}
 use Rattle.buffa_map.specs.Run.{step}
 use Rattle.buffa_map.specs.declared.map_entry.MapEntry.{MapEntry}
-use Rattle.buffa_fields.proofs.SortedLemmas.{same_sorted, sorted_put}
+use Rattle.buffa_map_base.proofs.SortedLemmas.{same_sorted, sorted_put}
 use Rattle.buffa_fields.specs.MapFields.{stepped}
 use Rattle.buffa_fields.specs.OrderedMaps.{KeysAscend}
 

@@ -3,7 +3,7 @@ use Rattle.std.proofs.Common.{◌≡◌, ◌≢◌, inl, inr, ℕ, zero, suc, �
 use Rattle.std.proofs.Math.Seq.{take-append_seam}
 use Rattle.std.proofs.lemmas.Bool.{eq-eqb, ne_eqb}
 use Rattle.std.proofs.lemmas.List.{append_cancel_right}
-use Rattle.std.specs.Option.{option_and_then, option_map}
+use Rattle.std.specs.Option.{option_map}
 use Rattle.buffa_bytes.proofs.FieldLemmas.{group_is, not_end, one_payload, payload_complete, payload_sound, skip_falls, tag_complete, tag_falls, tag_sound}
 use Rattle.buffa_bytes.proofs.ScanLemmas.{Shortens, if_short, scan_step}
 use Rattle.buffa_bytes.proofs.StepLemmas.{agree_err, agree_ok}
@@ -21,12 +21,12 @@ use Rattle.buffa_bytes.specs.Scan.{step_then}
 use Rattle.buffa_bytes.specs.Values.{tag_encoding}
 use Rattle.buffa_bytes.specs.Written.{Writes}
 use Rattle.buffa_wire.proofs.PassLemmas.{done, refused, written_behind, written_none, written_put, written_same, written_short, written_then}
-use Rattle.buffa_wire.proofs.MessageLemmas.{NoLimit, as_no_limit, front_more, loop_fault, tag_no_limit}
+use Rattle.buffa_wire.proofs.MessageLemmas.{NoLimit, as_no_limit, front_more, loop_fault, reaches_tag, tag_no_limit}
 use Rattle.buffa_wire.proofs.ByPayloadLemmas.{ByPayload, field_costs, field_means, judged_all}
-use Rattle.buffa_wire.specs.BudgetLeft.{BudgetLeft, Lacks, Pays, PaysAtMost, nothing, plus}
+use Rattle.buffa_wire.specs.BudgetLeft.{BudgetLeft, Lacks, Pays, PaysAtMost, nothing}
 use Rattle.buffa_wire.specs.Cache.{Cache, advanced}
 use Rattle.buffa_wire.specs.Encoding.{records_encoding}
-use Rattle.buffa_wire.specs.Message.{IsFieldMerged, IsJudged, MergeFault}
+use Rattle.buffa_wire.specs.Message.{BeginsField, IsFieldMerged, IsJudged, MergeFault}
 use Rattle.buffa_wire.specs.Parse.{Fits}
 use Rattle.buffa_wire.specs.Passes.{IsSmall, IsWritten, WritesIf, cap}
 use Rattle.buffa_wire.specs.Records.{Datum, group, records_of}
@@ -34,8 +34,9 @@ use Rattle.buffa_bytes.proofs.FieldLemmas.{is_tag}
 use Rattle.buffa_map.proofs.EntryLemmas.{same_false}
 use Rattle.buffa_fields.specs.Groups.{body_behind, body_step, group_body, group_cost, group_in, group_records, group_taken}
 use Rattle.buffa_fields.specs.Nested.{message_levels, message_slots, or_blank}
+use Rattle.buffa_fields.specs.Refusals.{RefusesGroup, RefusesInGroup}
 use Rattle.buffa_wire.specs.Takes.{IsTaken, Need, Piece, ReadsBack, Stays, Untaken, front_of, Taker}
-use Rattle.buffa_fields.specs.Values.{IfThere}
+use Rattle.buffa_fields_base.specs.Values.{IfThere}
 
 -- ---- the body of a group
 module _ (d : ℕ) where
@@ -128,10 +129,11 @@ pub record Underway {X : Type 0} (merged : ℕ → X → List ℕ → Option X) 
   pub front : List ℕ
   pub fields : Join (SomeField d) front
   pub split : bs ≡ front ++ rest
+  pub untouched : (BeginsField bs → ⊥) → old ≡ now
 
 module _ {X : Type 0} (merged : ℕ → X → List ℕ → Option X) (cost : ℕ → List ℕ → BudgetLeft) (d n : ℕ) (old : X) (bs : List ℕ) (start : BudgetLeft) where
   pub begun : Underway merged cost d old bs start old bs start
-  begun = record { means = refl; unknown = refl; memory = refl; no_unknown = omega arith; no_unit = omega arith; front = []; fields = none; split = refl }
+  begun = record { means = refl; unknown = refl; memory = refl; no_unknown = omega arith; no_unit = omega arith; front = []; fields = none; split = refl; untouched = λ _. refl }
 
   abbrev taken_as : Result (Unit {0}) DecodeError → X → BudgetLeft → List ℕ → Type 0
   taken_as r new after rest = IsTaken (group_in merged) (group_cost cost) (suc d) old n StartGroup bs start r new after rest
@@ -222,6 +224,7 @@ module _ {X : Type 0} (merged : ℕ → X → List ℕ → Option X) (cost : ℕ
             front = g.0;
             fields = g.1;
             split = g.2;
+            untouched = λ no. absurd (no (reaches_tag d u.front bs rest (m, w, x) u.fields u.split tag other));
           }
 
       -- what of the body follows the tag: a refusal that speaks of it speaks of all that follows
@@ -300,6 +303,9 @@ group_there blank merged need d n w old a new bs rest before after (Err e) is (p
   ],
   full,
 )
+
+pub group_refused : {X : Type 0} (d n : ℕ) (w : WireType) (bs : List ℕ) (e : DecodeError) (old new : X) → RefusesInGroup d old n w bs e new → RefusesGroup d (Some old) n w bs e (Some new)
+group_refused d n w bs e old new k = ((λ none. cc), ((λ other. ap (λ z. Some z) (k.0 other)), (λ none. ap (λ z. Some z) (k.1 none)), (λ no. ap (λ z. Some z) (k.2 no))))
 
 -- ---- the encoding
 module _ (n : ℕ) (rs : List (ℕ × Datum)) where

@@ -1,5 +1,6 @@
 -- What is proved of repeated fields.
-use Rattle.std.proofs.Common.{◌≡◌, ◌≢◌, inl, inr, ℕ, ◌+◌, ◌*◌, ◌^◌, ◌==◌, ◌<◌, ◌≤◌, min, Bool, true, false, List, [], ◌∷◌, ◌++◌, length, map, take, drop, get_or, Some, Result, Ok, Err, IsOk, refl, sym, ap, subst, ◌∙◌, arith, append_assoc, append-nil, length-append, if◌then◌else◌}
+use Rattle.std.proofs.Common.{◌≡◌, ◌≢◌, inl, inr, ℕ, ◌+◌, ◌*◌, ◌^◌, ◌==◌, ◌<◌, ◌≤◌, min, Bool, true, false, List, [], ◌∷◌, ◌++◌, length, map, take, drop, get_or, Some, Result, Ok, Err, IfErr, IsOk, OnErr, refl, sym, ap, subst, ◌∙◌, arith, append_assoc, append-nil, length-append, if◌then◌else◌}
+use Rattle.std.specs.List.{AllByRecursion}
 use Rattle.std.proofs.lemmas.Bool.{eq-eqb}
 use Rattle.std.proofs.lemmas.List.{map-append}
 use Rattle.buffa_bytes.proofs.ContentLemmas.{content_complete, has_byte}
@@ -15,7 +16,7 @@ use Rattle.buffa_bytes.specs.declared.error.DecodeError.{DecodeError}
 use Rattle.buffa_bytes.specs.declared.error.DecodeError.TheVariants.{OutOfMemory, UnexpectedEof, WireTypeMismatch}
 use Rattle.buffa_bytes.specs.declared.wire_type.WireType.{WireType}
 use Rattle.buffa_bytes.specs.declared.wire_type.WireType.TheVariants.{LengthDelimited}
-use Rattle.buffa_wire.proofs.MessageLemmas.{NoLimit, length_no_limit}
+use Rattle.buffa_wire.proofs.MessageLemmas.{NoLimit, length_no_limit, as_no_limit}
 use Rattle.buffa_wire.proofs.SequenceLemmas.{along_err, along_none, along_ok, err_same, ok_same, parse_keeps}
 use Rattle.buffa_wire.specs.BudgetLeft.{BudgetLeft, nothing}
 use Rattle.buffa_bytes.specs.Field.{IsTag, Payload}
@@ -26,33 +27,23 @@ use Rattle.buffa_wire.specs.Parse.{Fits}
 use Rattle.buffa_wire.specs.Passes.{cap}
 use Rattle.buffa_bytes.specs.Front.{check_wire, delimited_at}
 use Rattle.buffa_wire.specs.Records.{Datum, records_of}
-use Rattle.buffa_wire.specs.Encoding.{records_encoding, tagged_encoding}
+use Rattle.buffa_wire.specs.Encoding.{records_encoding, tagged_encoding, encodings}
 use Rattle.buffa_bytes.specs.Values.{delimited_encoding, tag_encoding}
 use Rattle.buffa_bytes.specs.Written.{WritesFront}
 use Rattle.buffa_map.proofs.EntryLemmas.{same_false, value_complete, value_sound}
 use Rattle.buffa_map.specs.Codec.{Reading, ValueFault, Writing, level, value_at}
-use Rattle.buffa_fields.specs.LayoutLaws.{cap_more}
-use Rattle.buffa_fields.specs.Lists.{Each, TakesPacked, check_list_wire, element_at, element_records, elements_in, elements_taken, packed_records, packed_encoding}
+use Rattle.buffa_fields_base.specs.LayoutLaws.{cap_more}
+use Rattle.buffa_fields.specs.Lists.{TakesPacked, check_list_wire, element_at, element_records, elements_in, elements_taken, packed_records}
 use Rattle.buffa_wire.specs.Takes.{IsTaken, Leads, Piece, ReadsBack, joined}
-use Rattle.buffa_fields.specs.ValueLaws.{content_payload, fault_no_limit, none_of}
-use Rattle.buffa_fields.specs.Values.{free}
+use Rattle.buffa_fields_base.specs.ValueLaws.{content_payload, fault_no_limit, none_of, value_told, wire_told}
+use Rattle.buffa_fields_base.specs.Values.{free}
 use Rattle.buffa_wire.proofs.EncodingLemmas.{records_encoding-append}
 use Rattle.buffa_bytes.proofs.ListLemmas.{means_cut, means_more}
+use Rattle.buffa_fields.specs.NestedLaws.{delimited_alone}
+use Rattle.buffa_fields.specs.Refusals.{ElementsRead, RefusesElements, RefusesPacked, StopsAt}
 
 same_body : (a b x y : List ℕ) → (let r : Result (List ℕ × List ℕ) DecodeError = Ok (a, x) in r ≡ Ok (b, y)) → a ≡ b
 same_body a b x y h = ap (λ z. z.0) (ok_same h)
-
--- a delimited payload, wherever it stands
-body_at : (d n : ℕ) (w : WireType) (bs p more : List ℕ) → w ≡ LengthDelimited → Payload d n w p → bs ≡ p ++ more →
-    (b : List ℕ) × (delimited_at bs ≡ Ok (b, more)) × (delimited_at p ≡ Ok (b, []))
-body_at d n w bs p more wire h split =
-    let u : Payload d n LengthDelimited p = subst (λ z. Payload d n z p) wire h in
-    let whole : delimited_at bs ≡ Ok (u.1, more) = ap delimited_at (split ∙ ap (λ (z : List ℕ). z ++ more) u.3 ∙ append_assoc u.0 u.1 more) ∙ delimited_complete u.0 u.1 more u.2 in
-    let alone : delimited_at p ≡ Ok (u.1, []) = ap delimited_at (u.3 ∙ ap (λ (z : List ℕ). u.0 ++ z) (sym (append-nil u.1))) ∙ delimited_complete u.0 u.1 [] u.2 in
-    (u.1, whole, alone)
-
-told : (e f : DecodeError) → e ≡ f → NoLimit f → NoLimit e
-told e f h k = subst (λ z. NoLimit z) (sym h) k
 
 module _ {V : Type 0} (codec : Reading V) (plain : codec.nested ≡ false)
     (no_limit : (d : ℕ) (old : V) (c : Content) (x : DecodeError) → codec.reads d old c ≡ Err x → IsLimit x → ⊥) (d : ℕ) where
@@ -112,11 +103,39 @@ module _ {V : Type 0} (codec : Reading V) (plain : codec.nested ≡ false)
   unfolding elements_in
   elements_err vs bs e some h = along_err (element_at codec d) falls vs bs e some h
 
+  -- ---- what was read so far
+  pub none_read : (vs : List V) (bs : List ℕ) → ElementsRead codec d vs bs bs vs
+  none_read vs bs = record { front = []; split = refl; reads = λ y. refl }
+
+  pub one_read : (old vs us : List V) (b bs x : List ℕ) → ElementsRead codec d old b bs vs → element_at codec d vs bs ≡ Ok (us, x) → ElementsRead codec d old b x us
+  one_read old vs us b bs x h is =
+      let u = element_is vs bs us x is in
+      let again : (y : List ℕ) → element_at codec d vs (u.1 ++ y) ≡ Ok (us, y) =
+      λ y. rw (value_complete codec d codec.blank u.1 y u.2 u.0 open_level u.3 u.4) (ap (λ (z : List V). let r : Result (List V × List ℕ) DecodeError = Ok (z, y) in r) (sym u.5)) in
+      record {
+        front = h.front ++ u.1;
+        split = h.split ∙ ap (λ (z : List ℕ). h.front ++ z) u.6 ∙ sym (append_assoc h.front u.1 x);
+        reads = λ y. ap (elements_in codec d old) (append_assoc h.front u.1 y) ∙ h.reads (u.1 ++ y)
+            ∙ elements_next vs us (u.1 ++ y) y (omega (arith, has_byte codec.wire u.1 u.2 u.3, length-append u.1 y)) (again y);
+      }
+
+  pub read_means : (old vs : List V) (b bs : List ℕ) → ElementsRead codec d old b bs vs → elements_in codec d old b ≡ elements_in codec d vs bs
+  read_means old vs b bs h = ap (elements_in codec d old) h.split ∙ h.reads bs
+
+  pub read_stops : (old vs new : List V) (b bs : List ℕ) (e : DecodeError) → ElementsRead codec d old b bs vs → new ≡ vs → (e ≢ OutOfMemory → element_at codec d vs bs ≡ Err e) → StopsAt codec d old b e new
+  read_stops old vs new b bs e h stays bad = (
+    h.front,
+    bs,
+    h.split,
+    ap (elements_in codec d old) (sym (append-nil h.front)) ∙ h.reads [] ∙ elements_end vs ∙ ap (λ z. Ok z) (sym stays),
+    λ ne. ap (λ z. element_at codec d z bs) stays ∙ bad ne,
+  )
+
   elements_no_limit : (vs : List V) (bs : List ℕ) (e : DecodeError) → elements_in codec d vs bs ≡ Err e → NoLimit e
   unfolding elements_in
   elements_no_limit vs bs e h = parse_keeps (element_at codec d) (λ _ _ r. (f : DecodeError) → r ≡ Err f → NoLimit f)
-      (λ vs f is. cc) (λ vs b bs x is f k. told f x (sym (err_same k)) (element_no_limit vs (b ∷ bs) x is)) (λ vs b bs x r is again f k. again f k)
-      (λ vs bs f k. told f UnexpectedEof (sym (err_same k)) (λ l. l)) vs bs e h
+      (λ vs f is. cc) (λ vs b bs x is f k. as_no_limit f x (sym (err_same k)) (element_no_limit vs (b ∷ bs) x is)) (λ vs b bs x r is again f k. again f k)
+      (λ vs bs f k. as_no_limit f UnexpectedEof (sym (err_same k)) (λ l. l)) vs bs e h
 
   -- ---- a field is taken
   module _ (vs : List V) (n : ℕ) (w : WireType) (bs : List ℕ) (before : BudgetLeft) where
@@ -151,7 +170,7 @@ module _ {V : Type 0} (codec : Reading V) (plain : codec.nested ≡ false)
     unfolding elements_taken
     neither_err e new rest other others is = (
       unspent,
-      λ ne. inr ((λ p more payload split. rw (same_false codec.wire w other, same_false LengthDelimited w others) refl), told e (WireTypeMismatch n codec.wire w) is (λ l. l)),
+      λ ne. inr ((λ p more payload split. rw (same_false codec.wire w other, same_false LengthDelimited w others) refl), as_no_limit e (WireTypeMismatch n codec.wire w) is (λ l. l)),
       λ full end. let k = sym full ∙ is in cc,
     )
 
@@ -178,7 +197,7 @@ module _ {V : Type 0} (codec : Reading V) (plain : codec.nested ≡ false)
       unfolding elements_taken
       body_err e new rest h = (
         unspent,
-        λ ne. inr ((λ p more payload split. let u = body_at d n w bs p more wire payload split in let k = sym u.1 ∙ h in cc), length_no_limit bs e (agree_err (delimited_at bs) e (delimited_sound bs) h)),
+        λ ne. inr ((λ p more payload split. let u = delimited_alone d n w p more bs wire payload split in let k = sym u.1 ∙ h in cc), length_no_limit bs e (agree_err (delimited_at bs) e (delimited_sound bs) h)),
         λ full end. let k = sym wire ∙ end in cc,
       )
 
@@ -189,7 +208,7 @@ module _ {V : Type 0} (codec : Reading V) (plain : codec.nested ≡ false)
         unspent,
         λ ne. inr (
           (λ p more payload split.
-              let u = body_at d n w bs p more wire payload split in
+              let u = delimited_alone d n w p more bs wire payload split in
               let one : u.0 ≡ b = same_body u.0 b more after (sym u.1 ∙ h) in
               rw (off, wire, u.2, one, bad ne) refl),
           elements_no_limit vs b e (bad ne),
@@ -208,6 +227,39 @@ module _ {V : Type 0} (codec : Reading V) (plain : codec.nested ≡ false)
     packed_taken (Ok _) new rest other wire (b, h, all) = packed_ok other wire new b rest h all
     packed_taken (Err e) new rest other wire (inl h) = body_err other wire e new rest h
     packed_taken (Err e) new rest other wire (inr (b, after, h, bad)) = packed_err other wire e new b after rest h bad
+
+    -- ---- what a refused field leaves
+    pub element_refused : (r : Result (Unit {0}) DecodeError) (new : List V) (rest : List ℕ) (e : DecodeError) → r ≡ Err e → w ≡ codec.wire → check_wire n codec.wire w ≡ Ok tt → OnErr r (new ≡ vs) →
+        GivesUnlessFull (λ _. let y : List V × List ℕ = (new, rest) in y) r (element_at codec d vs bs) → RefusesElements codec d vs n w bs e new
+    element_refused (Ok _) new rest e is wire held stays h = cc
+    element_refused (Err f) new rest e is wire held stays h =
+        let same : f ≡ e = err_same is in (
+          λ _. (
+            sym stays,
+            λ ne. value_told codec d codec.blank n w bs e held (value_err_of vs bs e (value_at codec d codec.blank bs) refl (h (λ full. ne (sym same ∙ full)) ∙ ap (λ z. Err z) same)),
+          ),
+          λ other. absurd (other wire),
+        )
+
+    pub packed_refused : (r : Result (Unit {0}) DecodeError) (new : List V) (e : DecodeError) → r ≡ Err e → w ≢ codec.wire → w ≡ LengthDelimited → IfErr r (λ f. RefusesPacked codec d vs bs f new) →
+        RefusesElements codec d vs n w bs e new
+    packed_refused (Ok _) new e is other wire h = cc
+    packed_refused (Err f) new e is other wire h = (
+      λ neither. elim neither [
+        | inl same ↦ absurd (other same)
+        | inr off ↦ absurd (off wire)
+      ],
+      λ _ _. subst (λ z. RefusesPacked codec d vs bs z new) (err_same is) h,
+    )
+
+    pub neither_refused : (e : DecodeError) → w ≢ LengthDelimited → check_wire n codec.wire w ≡ Err e → RefusesElements codec d vs n w bs e vs
+    neither_refused e others told = ((λ _. (refl, λ ne. wire_told codec d codec.blank n w bs e told)), λ other wire. absurd (others wire))
+
+-- an element of packed ones was refused
+pub packed_stops : {V : Type 0} (codec : Reading V) (d : ℕ) (old new : List V) (bs b after : List ℕ) (r : Result (Unit {0}) DecodeError) → delimited_at bs ≡ Ok (b, after) → IfErr r (λ e. StopsAt codec d old b e new) →
+    IfErr r (λ e. RefusesPacked codec d old bs e new)
+packed_stops codec d old new bs b after (Ok _) is h = tt
+packed_stops codec d old new bs b after (Err e) is h = inr (b, after, is, h)
 
 -- ---- the encoding reads back
 module _ {V : Type 0} (reading : Reading V) (writing : Writing V) (datum : V → Datum) (n : ℕ) (is_number : IsNumber n) (d : ℕ) (plain : reading.nested ≡ false)
@@ -244,7 +296,7 @@ module _ {V : Type 0} (reading : Reading V) (writing : Writing V) (datum : V →
   unfolding elements_taken
   takes_one acc v fit normal = rw (ap (same_wire reading.wire) (sym same) ∙ same_refl reading.wire, alone v fit normal) refl
 
-  leads_all : (acc vs : List V) → Each (λ v. Fit v × Normal v) vs → Leads (elements_taken reading) (λ m. m == n) d acc (map piece vs) (acc ++ vs)
+  leads_all : (acc vs : List V) → AllByRecursion (λ v. Fit v × Normal v) vs → Leads (elements_taken reading) (λ m. m == n) d acc (map piece vs) (acc ++ vs)
   leads_all acc [] h = sym (append-nil acc)
   leads_all acc (v ∷ vs) h =
       let r = reads_back d reading.blank v h.0.0 h.0.1 in (
@@ -256,33 +308,33 @@ module _ {V : Type 0} (reading : Reading V) (writing : Writing V) (datum : V →
         subst (λ z. Leads (elements_taken reading) (λ m. m == n) d (acc ++ v ∷ []) (map piece vs) z) (append_assoc acc (v ∷ []) vs) (leads_all (acc ++ v ∷ []) vs h.1),
       )
 
-  pub elements_back : (vs : List V) → Each (λ v. Fit v × Normal v) vs → ReadsBack (elements_taken reading) (λ m. m == n) d [] (records_encoding (element_records datum n vs)) vs
+  pub elements_back : (vs : List V) → AllByRecursion (λ v. Fit v × Normal v) vs → ReadsBack (elements_taken reading) (λ m. m == n) d [] (records_encoding (element_records datum n vs)) vs
   elements_back vs h = record { pieces = map piece vs; spelled = spelled_all vs; leads = leads_all [] vs h }
 
   -- ---- packed
-  unpacks : (acc vs : List V) → Each (λ v. Fit v × Normal v) vs → elements_in reading d acc (packed_encoding writing.encoding vs) ≡ Ok (acc ++ vs)
+  unpacks : (acc vs : List V) → AllByRecursion (λ v. Fit v × Normal v) vs → elements_in reading d acc (encodings writing.encoding vs) ≡ Ok (acc ++ vs)
   unpacks acc [] h = elements_end reading plain no_limit d acc ∙ ap (λ z. Ok z) (sym (append-nil acc))
   unpacks acc (v ∷ vs) h =
       let r = reads_back d reading.blank v h.0.0 h.0.1 in
-      let rest = packed_encoding writing.encoding vs in
+      let rest = encodings writing.encoding vs in
       let some : 0 < length (writing.encoding v ++ rest) = omega (arith, has_byte writing.wire (writing.encoding v) r.0 r.1, length-append (writing.encoding v) rest) in
       elements_next reading plain no_limit d acc (acc ++ v ∷ []) (writing.encoding v ++ rest) rest some (rw (at_front v rest h.0.0 h.0.1) refl)
       ∙ unpacks (acc ++ v ∷ []) vs h.1 ∙ ap (λ z. Ok z) (append_assoc acc (v ∷ []) vs)
 
-  takes_packed : same_wire reading.wire LengthDelimited ≡ false → (vs : List V) → Each (λ v. Fit v × Normal v) vs → length (packed_encoding writing.encoding vs) < 2 ^ 64 →
-      elements_taken reading d [] n LengthDelimited (delimited_encoding (packed_encoding writing.encoding vs)) ≡ Some vs
+  takes_packed : same_wire reading.wire LengthDelimited ≡ false → (vs : List V) → AllByRecursion (λ v. Fit v × Normal v) vs → length (encodings writing.encoding vs) < 2 ^ 64 →
+      elements_taken reading d [] n LengthDelimited (delimited_encoding (encodings writing.encoding vs)) ≡ Some vs
   unfolding elements_taken
   takes_packed off vs h fits =
-      let b = packed_encoding writing.encoding vs in
+      let b = encodings writing.encoding vs in
       let is : delimited_at (delimited_encoding b) ≡ Ok (b, []) = ap delimited_at (sym (append-nil (delimited_encoding b))) ∙ delimited_back b [] fits in
       rw (off, is, unpacks [] vs h) refl
 
-  pub packed_back : same_wire reading.wire LengthDelimited ≡ false → (vs : List V) → Fits (records_of (packed_records writing.encoding n vs)) → Each (λ v. Fit v × Normal v) vs →
+  pub packed_back : same_wire reading.wire LengthDelimited ≡ false → (vs : List V) → Fits (records_of (packed_records writing.encoding n vs)) → AllByRecursion (λ v. Fit v × Normal v) vs →
       ReadsBack (elements_taken reading) (λ m. m == n) d [] (records_encoding (packed_records writing.encoding n vs)) vs
   unfolding packed_records
   packed_back apart [] fits h = record { pieces = []; spelled = refl; leads = refl }
   packed_back apart (v ∷ vs) fits h =
-      let b = packed_encoding writing.encoding (v ∷ vs) in
+      let b = encodings writing.encoding (v ∷ vs) in
       let one : Piece = record { tag = tag_encoding n LengthDelimited; number = n; wire = LengthDelimited; payload = delimited_encoding b } in
       record {
         pieces = one ∷ [];
@@ -291,10 +343,10 @@ module _ {V : Type 0} (reading : Reading V) (writing : Writing V) (datum : V →
       }
 
 -- ---- the wire type of a field
-module _ (n : ℕ) (wire w : WireType) (e : DecodeError) (told : check_list_wire n wire w ≡ Err e) where
-  -- the elements' own is told of by nothing
+module _ (n : ℕ) (wire w : WireType) (e : DecodeError) (as_no_limit : check_list_wire n wire w ≡ Err e) where
+  -- the elements' own is as_no_limit of by nothing
   pub own_wire : check_wire n wire w ≡ Ok tt → ⊥
-  own_wire is = at (same_wire LengthDelimited w) told
+  own_wire is = at (same_wire LengthDelimited w) as_no_limit
     where
       at : (b : Bool) → (if b then (let r : Result (Unit {0}) DecodeError = Ok tt in r) else check_wire n wire w) ≡ Err e → ⊥
       at true h = cc
@@ -302,11 +354,11 @@ module _ (n : ℕ) (wire w : WireType) (e : DecodeError) (told : check_list_wire
 
   -- so are packed ones
   pub packed_wire : w ≡ LengthDelimited → ⊥
-  packed_wire is = let two = rw is at told in cc
+  packed_wire is = let two = rw is at as_no_limit in cc
 
   -- another is, as of one element
   pub other_wire : w ≢ LengthDelimited → check_wire n wire w ≡ Err e
-  other_wire other = rw (same_false LengthDelimited w other) at told
+  other_wire other = rw (same_false LengthDelimited w other) at as_no_limit
 
 -- ---- what calls give
 pub element_from : {V : Type 0} (codec : Reading V) (d : ℕ) (vs : List V) (bs : List ℕ) (blank : V) → codec.blank ≡ blank → (x : V) (known : Bool) (rest : List ℕ) →

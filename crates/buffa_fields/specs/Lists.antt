@@ -14,7 +14,8 @@ use Rattle.buffa_bytes.specs.WireType.{same_wire}
 use Rattle.buffa_map.specs.Codec.{Reading, value_at}
 use Rattle.buffa_wire.specs.ByField.{value_of}
 use Rattle.buffa_wire.specs.Takes.{Asks, Taker}
-use Rattle.buffa_fields.specs.Values.{all_of}
+use Rattle.buffa_fields_base.specs.Values.{all_of}
+use Rattle.buffa_wire.specs.Encoding.{encodings}
 
 module _ {V : Type 0} (codec : Reading V) (d : ℕ) where
   -- the element whose payload is at the front goes behind the others
@@ -62,17 +63,7 @@ ElementsTakeMemory codec d n w bs =
 unfoldable pub element_records : {V : Type 0} → (V → Datum) → ℕ → List V → List (ℕ × Datum)
 element_records datum n vs = map (λ v. (n, datum v)) vs
 
--- the payloads of elements, joined
-abbrev pub packed_encoding : {V : Type 0} → (V → List ℕ) → List V → List ℕ
-packed_encoding encoding [] = []
-packed_encoding encoding (v ∷ vs) = encoding v ++ packed_encoding encoding vs
-
 -- one record of all elements, and none where there are none
 unfoldable pub packed_records : {V : Type 0} → (V → List ℕ) → ℕ → List V → List (ℕ × Datum)
 packed_records encoding n [] = []
-packed_records encoding n (v ∷ vs) = (n, bytes (packed_encoding encoding (v ∷ vs))) ∷ []
-
--- each element
-abbrev pub Each : {V : Type 0} → (V → Type 0) → List V → Type 0
-Each P [] = Unit {0}
-Each P (v ∷ vs) = P v × Each P vs
+packed_records encoding n (v ∷ vs) = (n, bytes (encodings encoding (v ∷ vs))) ∷ []

@@ -54,6 +54,10 @@ abbrev pub map_records : {K V : Type 0} → Writing K → Writing V → ℕ → 
 map_records key val n [] = []
 map_records key val n (p ∷ ps) = (n, bytes (entry_encoding key val p)) ∷ map_records key val n ps
 
+-- the same by a name that stays folded
+unfoldable pub entry_records : {K V : Type 0} → Writing K → Writing V → ℕ → List (K × V) → List (ℕ × Datum)
+entry_records key val n l = map_records key val n l
+
 -- a map field was written, or memory ran out before all of it was; or it is no encoding of a message
 abbrev pub WritesMap : {K V T : Type 0} → Writing K → Writing V → ℕ → List (K × V) → List ℕ → Result T EncodeError → List ℕ → Type 0
 WritesMap key val n l old r new =

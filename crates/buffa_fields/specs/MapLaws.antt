@@ -23,7 +23,6 @@ use Rattle.buffa_wire.proofs.PassLemmas.{consumes_none, written_none}
 use Rattle.buffa_bytes.specs.Front.{delimited_at}
 use Rattle.buffa_wire.specs.Records.{Datum, records_of}
 use Rattle.buffa_wire.specs.Encoding.{records_encoding}
-use Rattle.buffa_wire.proofs.SequenceLemmas.{ok_same}
 use Rattle.buffa_map.proofs.EntryLemmas.{entry_complete, entry_faulty, same_false}
 use Rattle.buffa_map.specs.Codec.{Reading, Writing}
 use Rattle.buffa_map.specs.Entry.{EntryFault, FaultOf, IsEntry, need_of}
@@ -38,6 +37,7 @@ use Rattle.buffa_bytes.specs.declared.error.EncodeError.{EncodeError}
 use Rattle.buffa_bytes.specs.declared.error.EncodeError.TheVariants as encode
 use Rattle.buffa_fields.specs.MapFields.{PairTakesMemory, WritesMap, entry_cost, entry_taken, map_records, put_all, stepped}
 use Rattle.buffa_fields.specs.NestedLaws.{delimited_alone, first_same}
+use Rattle.buffa_fields.specs.Refusals.{RefusesPair}
 use Rattle.buffa_wire.specs.Takes.{IsTaken, Leads, Piece, ReadsBack, Stays, Untaken, joined}
 use Rattle.buffa_map.proofs.BackLemmas.{IsReadBack, entry_back, fold_back}
 use Rattle.buffa_bytes.proofs.FieldLemmas.{is_tag}
@@ -166,6 +166,11 @@ module _ {K V : Type 0} (key : Reading K) (val : Reading V) (same : K → K → 
           IsTaken (entry_taken key val puts) (entry_cost key val cost) d old n w bs before (let r : Result (Unit {0}) DecodeError = Err f in r) new after rest
       unfolding entry_taken entry_cost
       map_err f k = (rw wire (spent (delimited_at bs) refl f k), λ ne. why f (k.fault ne), λ full end. let two = sym wire ∙ end in cc)
+
+    -- it isn't put, and tells its fault
+    pub map_refused : w ≡ LengthDelimited → (f e : DecodeError) → f ≡ e → RefusesEntry (dropping key val same keeps d 0 cost) (state old none before) bs (state new none after) rest f →
+        RefusesPair key val cost d old n w bs e new
+    map_refused wire f e is k = (sym k.pairs, λ ne. inr (wire, before, subst (λ z. EntryFault key val d cost 0 before bs z) is (k.fault (λ full. ne (sym is ∙ full)))))
 
     pub map_wire_err : (f : DecodeError) → w ≢ LengthDelimited → f ≡ WireTypeMismatch n LengthDelimited w → after ≡ before →
         IsTaken (entry_taken key val puts) (entry_cost key val cost) d old n w bs before (let r : Result (Unit {0}) DecodeError = Err f in r) new after rest

@@ -32,8 +32,9 @@ use Rattle.buffa_bytes.specs.Varint.{varint_encoding}
 use Rattle.buffa_bytes.proofs.FieldLemmas.{is_tag}
 use Rattle.buffa_map.proofs.EntryLemmas.{same_false}
 use Rattle.buffa_fields.specs.Nested.{MessageTakesMemory, inside, message_cost, message_in, message_levels, message_records, message_slots, message_taken, or_blank}
+use Rattle.buffa_fields.specs.Refusals.{RefusesInside, RefusesMessage}
 use Rattle.buffa_wire.specs.Takes.{IsTaken, Need, ReadsBack, Stays, Untaken}
-use Rattle.buffa_fields.specs.Values.{IfThere}
+use Rattle.buffa_fields_base.specs.Values.{IfThere}
 
 -- ---- a payload that is a length and so many bytes
 pub delimited_alone : (d n : ℕ) (w : WireType) (p more bs : List ℕ) → w ≡ LengthDelimited → Payload d n w p → bs ≡ p ++ more → (b : List ℕ) × (delimited_at bs ≡ Ok (b, more)) × (delimited_at p ≡ Ok (b, []))
@@ -121,6 +122,10 @@ there blank merged need d n w old a new bs rest before after (Err e) is (pays, w
   ],
   full,
 )
+
+-- ---- a refused field
+pub refused_there : {X : Type 0} (d n : ℕ) (w : WireType) (bs : List ℕ) (e : DecodeError) (old new : X) → RefusesInside d old n w bs e new → RefusesMessage d (Some old) n w bs e (Some new)
+refused_there d n w bs e old new k = ((λ none. cc), ((λ other. ap (λ z. Some z) (k.0 other)), (λ none. ap (λ z. Some z) (k.1 none)), (λ broken. ap (λ z. Some z) (k.2 broken))))
 
 -- ---- the encoding
 -- what stands before a message's encoding

@@ -23,7 +23,7 @@ use Rattle.buffa_map.specs.Message.{meant, message_reading}
 use Rattle.buffa_map.specs.MessageField.{IsFieldSized, IsFieldWritten, IsSmallField, field_slots}
 use Rattle.buffa_map.specs.Scalars.{delimited_writing}
 use Rattle.buffa_map.specs.Encoding.{AllHold, field_size, field_encoding}
-use Rattle.buffa_fields.specs.LayoutLaws.{failed, sum}
+use Rattle.buffa_fields_base.specs.LayoutLaws.{failed, sum}
 use Rattle.buffa_fields.specs.MapFields.{entry_taken, map_records, put_all}
 use Rattle.buffa_fields.specs.MapLaws.{map_back, map_encoding}
 use Rattle.buffa_fields.specs.NestedMaps.{pair_levels, pair_records, pair_slots}

@@ -8,30 +8,30 @@ use Rattle.buffa_wire.proofs.PassLemmas.{refused, written_none, written_put}
 use Rattle.buffa_wire.specs.Cache.{Cache}
 use Rattle.buffa_wire.specs.Passes.{IsSmall, IsWritten, cap}
 use Rattle.buffa_wire.specs.Records.{bytes}
-use Rattle.buffa_wire.specs.Encoding.{records_encoding}
+use Rattle.buffa_wire.specs.Encoding.{records_encoding, encodings}
 use Rattle.buffa_map.specs.Encoding.{saturated}
-use Rattle.buffa_fields.specs.Lists.{packed_records, packed_encoding}
+use Rattle.buffa_fields.specs.Lists.{packed_records}
 use Rattle.buffa_fields.specs.NestedLaws.{Tells, head, head_cut, record_after}
 use Rattle.buffa_bytes.proofs.ListLemmas.{means_cut, means_more}
 
 -- ---- payloads, one behind the other
 module _ {V : Type 0} (encoding : V → List ℕ) where
-  encoding_two : (us vs : List V) → packed_encoding encoding (us ++ vs) ≡ packed_encoding encoding us ++ packed_encoding encoding vs
+  encoding_two : (us vs : List V) → encodings encoding (us ++ vs) ≡ encodings encoding us ++ encodings encoding vs
   encoding_two [] vs = refl
-  encoding_two (u ∷ us) vs = ap (λ (z : List ℕ). encoding u ++ z) (encoding_two us vs) ∙ sym (append_assoc (encoding u) (packed_encoding encoding us) (packed_encoding encoding vs))
+  encoding_two (u ∷ us) vs = ap (λ (z : List ℕ). encoding u ++ z) (encoding_two us vs) ∙ sym (append_assoc (encoding u) (encodings encoding us) (encodings encoding vs))
 
-  encoding_more : (us : List V) (v : V) → packed_encoding encoding (us ++ v ∷ []) ≡ packed_encoding encoding us ++ encoding v
-  encoding_more us v = encoding_two us (v ∷ []) ∙ ap (λ (z : List ℕ). packed_encoding encoding us ++ z) (append-nil (encoding v))
+  encoding_more : (us : List V) (v : V) → encodings encoding (us ++ v ∷ []) ≡ encodings encoding us ++ encoding v
+  encoding_more us v = encoding_two us (v ∷ []) ∙ ap (λ (z : List ℕ). encodings encoding us ++ z) (append-nil (encoding v))
 
   module _ {P : Type 0} (meaning : P → V) (xs : List P) (i : ℕ) (x : P) (lt : i < length xs) (is : x ≡ get_or xs i x) where
     abbrev encoding_to : ℕ → List ℕ
-    encoding_to k = packed_encoding encoding (map meaning (take k xs))
+    encoding_to k = encodings encoding (map meaning (take k xs))
 
     abbrev here : List ℕ
     here = encoding (meaning x)
 
     to_next : encoding_to (i + 1) ≡ encoding_to i ++ here
-    to_next = ap (packed_encoding encoding) (means_more meaning xs i x lt is) ∙ encoding_more (map meaning (take i xs)) (meaning x)
+    to_next = ap (encodings encoding) (means_more meaning xs i x lt is) ∙ encoding_more (map meaning (take i xs)) (meaning x)
 
     pub payloads_more : (total len new : ℕ) → total ≡ saturated (length (encoding_to i)) → len ≡ length here → new ≡ min (total + len) 18446744073709551615 → new ≡ saturated (length (encoding_to (i + 1)))
     payloads_more total len new h k e =
@@ -42,18 +42,18 @@ module _ {V : Type 0} (encoding : V → List ℕ) where
     pub payload_more : (old mid new : List ℕ) → mid ≡ old ++ encoding_to i → new ≡ mid ++ here → new ≡ old ++ encoding_to (i + 1)
     payload_more old mid new h k = k ∙ ap (λ (z : List ℕ). z ++ here) h ∙ append_assoc old (encoding_to i) here ∙ ap (λ (z : List ℕ). old ++ z) (sym to_next)
 
-    pub payload_stops : (old mid new : List ℕ) → mid ≡ old ++ encoding_to i → WritesFront mid here new → WritesFront old (packed_encoding encoding (map meaning xs)) new
+    pub payload_stops : (old mid new : List ℕ) → mid ≡ old ++ encoding_to i → WritesFront mid here new → WritesFront old (encodings encoding (map meaning xs)) new
     payload_stops old mid new h front =
         let rest = map meaning (drop (i + 1) xs) in
-        let all : packed_encoding encoding (map meaning xs) ≡ (encoding_to i ++ here) ++ packed_encoding encoding rest =
-        ap (packed_encoding encoding) (means_cut meaning xs i x lt is ∙ sym (append_assoc (map meaning (take i xs)) (meaning x ∷ []) rest))
-        ∙ encoding_two (map meaning (take i xs) ++ meaning x ∷ []) rest ∙ ap (λ (z : List ℕ). z ++ packed_encoding encoding rest) (encoding_more (map meaning (take i xs)) (meaning x)) in
-        subst (λ (z : List ℕ). WritesFront old z new) (sym all) (front_first old (encoding_to i ++ here) (packed_encoding encoding rest) new (front_second old (encoding_to i) here mid new h front))
+        let all : encodings encoding (map meaning xs) ≡ (encoding_to i ++ here) ++ encodings encoding rest =
+        ap (encodings encoding) (means_cut meaning xs i x lt is ∙ sym (append_assoc (map meaning (take i xs)) (meaning x ∷ []) rest))
+        ∙ encoding_two (map meaning (take i xs) ++ meaning x ∷ []) rest ∙ ap (λ (z : List ℕ). z ++ encodings encoding rest) (encoding_more (map meaning (take i xs)) (meaning x)) in
+        subst (λ (z : List ℕ). WritesFront old z new) (sym all) (front_first old (encoding_to i ++ here) (encodings encoding rest) new (front_second old (encoding_to i) here mid new h front))
 
 -- ---- one record of them all
 module _ {V : Type 0} (encoding : V → List ℕ) (n : ℕ) {P : Type 0} (meaning : P → V) (xs : List P) where
   abbrev all : List ℕ
-  all = packed_encoding encoding (map meaning xs)
+  all = encodings encoding (map meaning xs)
 
   abbrev pub packed : List ℕ
   packed = records_encoding (packed_records encoding n (map meaning xs))
@@ -66,7 +66,7 @@ module _ {V : Type 0} (encoding : V → List ℕ) (n : ℕ) {P : Type 0} (meanin
   is_none [] h = refl
   is_none (x ∷ l) h = absurd (omega arith)
 
-  is_one : (l : List P) → 0 < length l → packed_records encoding n (map meaning l) ≡ (n, bytes (packed_encoding encoding (map meaning l))) ∷ []
+  is_one : (l : List P) → 0 < length l → packed_records encoding n (map meaning l) ≡ (n, bytes (encodings encoding (map meaning l))) ∷ []
   unfolding packed_records
   is_one [] h = absurd (omega arith)
   is_one (x ∷ l) h = refl

@@ -1,5 +1,6 @@
 -- What is proved of lists of messages as groups.
 use Rattle.std.proofs.Common.{◌≡◌, ◌≢◌, inr, ℕ, zero, suc, ◌==◌, ◌≤◌, List, [], ◌∷◌, ◌++◌, map, Option, Some, Result, Err, refl, sym, ap, subst, ◌∙◌, arith, append_assoc, append-nil}
+use Rattle.std.specs.List.{AllByRecursion}
 use Rattle.std.proofs.lemmas.Bool.{eq-eqb}
 use Rattle.std.specs.Option.{option_map}
 use Rattle.buffa_bytes.proofs.FieldLemmas.{payload_taken}
@@ -21,7 +22,7 @@ use Rattle.buffa_bytes.proofs.FieldLemmas.{is_tag}
 use Rattle.buffa_map.proofs.EntryLemmas.{same_false}
 use Rattle.buffa_fields.specs.Groups.{group_cost, group_datum, group_in}
 use Rattle.buffa_fields.specs.GroupLaws.{group_again, group_piece, group_stays, group_wire_err}
-use Rattle.buffa_fields.specs.Lists.{Each, element_records}
+use Rattle.buffa_fields.specs.Lists.{element_records}
 use Rattle.buffa_fields.specs.RepeatedGroups.{GroupsTakeMemory, groups_cost, groups_taken}
 use Rattle.buffa_fields.specs.RepeatedNested.{messages_levels}
 use Rattle.buffa_wire.specs.Takes.{IsTaken, Leads, ReadsBack, Stays, joined}
@@ -78,7 +79,7 @@ module _ {X : Type 0} (merged : ℕ → X → List ℕ → Option X) (blank : X)
   spelled_all [] = refl
   spelled_all (v ∷ vs) = ap (λ (z : List ℕ). (tag_encoding n StartGroup ++ (records_encoding (records v) ++ tag_encoding n EndGroup)) ++ z) (spelled_all vs)
 
-  leads_all : (d : ℕ) (acc vs : List X) → Fits (records_of (all_records vs)) → Each Normal vs → messages_levels level vs ≤ d →
+  leads_all : (d : ℕ) (acc vs : List X) → Fits (records_of (all_records vs)) → AllByRecursion Normal vs → messages_levels level vs ≤ d →
       Leads (groups_taken blank merged) (λ m. m == n) d acc (map (group_piece records n) vs) (acc ++ vs)
   unfolding element_records
   leads_all d acc [] fits normal low = sym (append-nil acc)
@@ -92,6 +93,6 @@ module _ {X : Type 0} (merged : ℕ → X → List ℕ → Option X) (blank : X)
         subst (λ z. Leads (groups_taken blank merged) (λ m. m == n) d (acc ++ v ∷ []) (map (group_piece records n) vs) z) (append_assoc acc (v ∷ []) vs) (leads_all d (acc ++ v ∷ []) vs fits.2 normal.1 (omega (arith, low))),
       )
 
-  pub groups_back : (d : ℕ) (vs : List X) → Fits (records_of (all_records vs)) → Each Normal vs → messages_levels level vs ≤ d →
+  pub groups_back : (d : ℕ) (vs : List X) → Fits (records_of (all_records vs)) → AllByRecursion Normal vs → messages_levels level vs ≤ d →
       ReadsBack (groups_taken blank merged) (λ m. m == n) d [] (records_encoding (all_records vs)) vs
   groups_back d vs fits normal low = record { pieces = map (group_piece records n) vs; spelled = spelled_all vs; leads = leads_all d [] vs fits normal low }

@@ -1,5 +1,6 @@
 -- What is proved of lists of messages.
 use Rattle.std.proofs.Common.{◌≡◌, ◌≢◌, inl, inr, ℕ, zero, suc, ◌+◌, ◌==◌, ◌<◌, ◌≤◌, min, List, [], ◌∷◌, ◌++◌, length, map, take, drop, get_or, Option, Some, Result, Ok, Err, refl, sym, ap, subst, ◌∙◌, arith, append_assoc, append-nil, length-append}
+use Rattle.std.specs.List.{AllByRecursion}
 use Rattle.std.proofs.lemmas.Bool.{eq-eqb}
 use Rattle.std.specs.Option.{option_map}
 use Rattle.buffa_bytes.proofs.VarintLemmas.{IsVarint-varint_encoding}
@@ -23,9 +24,9 @@ use Rattle.buffa_bytes.specs.Values.{delimited_encoding, tag_encoding}
 use Rattle.buffa_bytes.specs.Varint.{varint_encoding}
 use Rattle.buffa_bytes.proofs.FieldLemmas.{is_tag}
 use Rattle.buffa_map.proofs.EntryLemmas.{same_false}
-use Rattle.buffa_fields.specs.LayoutLaws.{failed, sized_more, small_both, sum}
+use Rattle.buffa_fields_base.specs.LayoutLaws.{failed, sized_more, small_both, sum}
 use Rattle.buffa_fields.specs.ListLaws.{encoding_cut, encoding_next}
-use Rattle.buffa_fields.specs.Lists.{Each, element_records}
+use Rattle.buffa_fields.specs.Lists.{element_records}
 use Rattle.buffa_fields.specs.Nested.{message_cost, message_in}
 use Rattle.buffa_fields.specs.NestedLaws.{delimited_alone, message_wire_err, taken_back}
 use Rattle.buffa_fields.specs.RepeatedNested.{MessagesTakeMemory, messages_cost, messages_levels, messages_records, messages_slots, messages_taken}
@@ -216,7 +217,7 @@ module _ {X : Type 0} (merged : ℕ → X → List ℕ → Option X) (blank : X)
   spelled_all [] = refl
   spelled_all (v ∷ vs) = ap (λ (z : List ℕ). (tag_encoding n LengthDelimited ++ delimited_encoding (encoding v)) ++ z) (spelled_all vs)
 
-  leads_all : (d : ℕ) (acc vs : List X) → Fits (records_of (messages_records encoding n vs)) → Each Normal vs → messages_levels level vs ≤ d →
+  leads_all : (d : ℕ) (acc vs : List X) → Fits (records_of (messages_records encoding n vs)) → AllByRecursion Normal vs → messages_levels level vs ≤ d →
       Leads (messages_taken blank merged) (λ m. m == n) d acc (map piece vs) (acc ++ vs)
   unfolding element_records
   leads_all d acc [] fits normal low = sym (append-nil acc)
@@ -229,6 +230,6 @@ module _ {X : Type 0} (merged : ℕ → X → List ℕ → Option X) (blank : X)
     subst (λ z. Leads (messages_taken blank merged) (λ m. m == n) d (acc ++ v ∷ []) (map piece vs) z) (append_assoc acc (v ∷ []) vs) (leads_all d (acc ++ v ∷ []) vs fits.2 normal.1 (omega (arith, low))),
   )
 
-  pub messages_back : (d : ℕ) (vs : List X) → Fits (records_of (messages_records encoding n vs)) → Each Normal vs → messages_levels level vs ≤ d →
+  pub messages_back : (d : ℕ) (vs : List X) → Fits (records_of (messages_records encoding n vs)) → AllByRecursion Normal vs → messages_levels level vs ≤ d →
       ReadsBack (messages_taken blank merged) (λ m. m == n) d [] (records_encoding (messages_records encoding n vs)) vs
   messages_back d vs fits normal low = record { pieces = map piece vs; spelled = spelled_all vs; leads = leads_all d [] vs fits normal low }

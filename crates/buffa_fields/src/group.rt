@@ -10,16 +10,17 @@ ghost use Rattle.buffa_bytes.specs.Number.{IsNumber};
 ghost use Rattle.buffa_bytes.specs.Values.{tag_encoding};
 ghost use Rattle.buffa_wire.specs.Passes.{IsNext, IsSized, cap};
 ghost use Rattle.buffa_bytes.specs.Front.{check_wire};
-ghost use Rattle.buffa_fields.specs.Calls.{ChecksWire, TakesIn};
+ghost use Rattle.buffa_fields_base.specs.Calls.{ChecksWire, TakesIn};
 ghost use Rattle.buffa_fields.specs.GroupCalls.{MergesGroup, WritesGroup};
 ghost use Rattle.buffa_fields.specs.Groups.{GroupTakesMemory, group_cost, group_encoding, group_in, group_records, group_taken};
 ghost use Rattle.buffa_fields.specs.GroupLaws.{group_back, group_stays};
 ghost use Rattle.buffa_wire.proofs.ByPayloadLemmas.{by_payload, merged_fields};
 ghost use Rattle.buffa_fields.specs.Nested.{message_levels, message_slots};
 ghost use Rattle.buffa_wire.specs.Takes.{IsTaken};
-ghost use Rattle.buffa_fields.specs.Values.{IfThere, unsaid};
+ghost use Rattle.buffa_fields.specs.Refusals.{RefusesField, RefusesGroup, RefusesInGroup};
+ghost use Rattle.buffa_fields_base.specs.Values.{IfThere};
 
-use crate::member::Member;
+use buffa_fields_base::member::Member;
 use buffa_wire::{
     Blank, DecodeContext, DecodeError, EncodeError, EncodeSink, Message, MessageSpec, SizeCache,
     Tag, WireType, check_wire_type, varint_len,
@@ -100,6 +101,8 @@ fn merge_group<N: Message>(
     ensures taken { MergesGroup number ctx.entry ctx.exit message.old message.new buf.old buf.new result N.merged N.cost
         N.meaning }
     ensures full { FullOnlyIf result ((0 < ctx.entry.depth) × BeginsField buf.old.now) }
+    ensures level { ctx.entry.depth ≡ 0 → N.meaning message.old ≡ N.meaning message.new }
+    ensures stays { (BeginsField buf.old.now → ⊥) → N.meaning message.old ≡ N.meaning message.new }
 {
     let DecodeContext { depth, budget } = ctx;
     if depth == 0 {
@@ -140,6 +143,8 @@ pub(crate) fn take_group<N: Message>(
     ensures full { FullOnlyIf result (GroupTakesMemory ctx.entry.depth tag.number tag.wire_type buf.old.now) }
     ensures wire { ChecksWire tag WireType.StartGroup result (N.meaning message.old) (N.meaning message.new) buf.old
         buf.new }
+    ensures refused { RefusesField RefusesInGroup tag ctx.entry.depth (N.meaning message.old) (N.meaning message.new)
+        buf.old result }
 {
     match check_wire_type(tag, WireType::StartGroup) {
         Ok(()) => merge_group(message, alloc, tag.field_number(), buf, ctx),
@@ -147,7 +152,8 @@ pub(crate) fn take_group<N: Message>(
     }
 }
 
-/// A message that may be absent, as a group. What is read is merged into the message that stands.
+/// A message that may be absent, as a group. What is read is merged into the message that stands; where none does and a
+/// field is refused, none does afterwards.
 ///
 /// ```ignore
 /// visitor.visit::<Group<Inventory>>(2, &self.stock); // optional group Stock = 2 { .. }
@@ -167,7 +173,7 @@ impl<N: Message> Member for Group<N> {
       takes = group_taken N.blank_is N.merged;
       checks = λ n w. check_wire n StartGroup w;
       asks = GroupTakesMemory;
-      refuses = unsaid;
+      refuses = RefusesGroup;
       need = group_cost N.cost;
       records = group_records N.records;
       slots = message_slots N.encoding N.slots;
@@ -176,7 +182,7 @@ impl<N: Message> Member for Group<N> {
       stays = group_stays N.cost;
     } };
 
-    #[tactic(auto, using(crate::specs::LayoutLaws::sized_free), unfolding(crate::specs::Groups::group_records, crate::specs::Nested::message_slots))]
+    #[tactic(auto, using(buffa_fields_base::specs::LayoutLaws::sized_free), unfolding(crate::specs::Groups::group_records, crate::specs::Nested::message_slots))]
     fn len(number: u32, part: &Option<N>, cache: &mut SizeCache) -> Result<u32, EncodeError> {
         match part {
             None => Ok(0),
@@ -204,17 +210,19 @@ impl<N: Message> Member for Group<N> {
         buf: &mut &[u8],
         ctx: DecodeContext<'_>,
     ) -> Result<(), DecodeError> {
-        match check_wire_type(tag, WireType::StartGroup) {
-            Ok(()) => {}
-            Err(error) => return Err(error),
+        match part {
+            Some(message) => take_group(alloc, message, tag, buf, ctx),
+            None => {
+                let mut message = N::blank(alloc);
+                match take_group(alloc, &mut message, tag, buf, ctx) {
+                    Ok(()) => {
+                        *part = Some(message);
+                        Ok(())
+                    }
+                    Err(error) => Err(error),
+                }
+            }
         }
-        let mut message = match part.take() {
-            Some(message) => message,
-            None => N::blank(alloc),
-        };
-        let result = take_group(alloc, &mut message, tag, buf, ctx);
-        *part = Some(message);
-        result
     }
 
     ghost back = { record {

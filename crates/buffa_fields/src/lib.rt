@@ -1,29 +1,20 @@
 //! Messages from their fields: a message type is data, and its author writes no proof.
 #![tactic(auto)]
 
-pub mod fields;
 pub mod group;
-pub mod kept;
-pub mod kind;
-pub mod kinds;
 mod list;
 mod map;
 pub mod map_member;
 pub mod map_nested;
-pub mod member;
-pub mod merge;
-pub mod message;
 pub mod nested;
-pub mod optional;
 pub mod ordered_key;
 pub mod ordered_map;
 pub mod ordered_nested;
 pub mod packed;
-pub mod plain;
 pub mod repeated;
 pub mod repeated_group;
 pub mod repeated_nested;
-pub mod sizer;
-mod value;
-pub mod visitor;
-pub mod writer;
+
+pub use buffa_fields_base::{
+    fields, kept, kind, kinds, member, merge, message, optional, plain, sizer, visitor, writer,
+};

@@ -1,6 +1,6 @@
 //! Lists of values: each in a field of its own, or packed into one.
 
-ghost use Rattle.std.specs.Prelude.{◌≡◌, IsOk, length, map};
+ghost use Rattle.std.specs.Prelude.{◌≡◌, IfErr, IsOk, OnErr, length, map};
 ghost use Rattle.buffa_bytes.specs.Content.{content_at};
 ghost use Rattle.buffa_bytes.specs.Gives.{FullOnlyIf, Gives, GivesUnlessFull};
 ghost use Rattle.buffa_bytes.specs.Front.{delimited_at};
@@ -9,13 +9,14 @@ ghost use Rattle.buffa_bytes.specs.Number.{IsNumber};
 ghost use Rattle.buffa_wire.specs.Passes.{cap};
 ghost use Rattle.buffa_wire.specs.Encoding.{records_encoding};
 ghost use Rattle.buffa_bytes.specs.Written.{Writes};
-ghost use Rattle.buffa_fields.specs.Calls.{ChecksListWire, TakesElements};
+ghost use Rattle.buffa_fields.specs.KindCalls.{ChecksListWire, TakesElements};
 ghost use Rattle.buffa_fields.specs.Lists.{ElementsTakeMemory, PackedTakeMemory, TakesPacked, element_at, element_records, elements_in, elements_taken};
+ghost use Rattle.buffa_fields.specs.Refusals.{RefusesElements, RefusesField, RefusesPacked, StopsAt};
 ghost use Rattle.buffa_wire.specs.Takes.{IsTaken};
-ghost use Rattle.buffa_fields.specs.Values.{free};
+ghost use Rattle.buffa_fields_base.specs.Values.{free};
 
-use crate::kind::Kind;
-use crate::value::{value_len, write_value};
+use buffa_fields_base::kind::Kind;
+use buffa_fields_base::value::{value_len, write_value};
 use buffa_map::map_codec::{MapCodec, MapValueDecode};
 use buffa_wire::{
     Blank, Budget, Buf, DecodeContext, DecodeError, EncodeError, EncodeSink, Tag, WireType,
@@ -34,6 +35,7 @@ fn take_element<C: MapCodec>(
     ensures reads { GivesUnlessFull (λ _. (map C.Value.meaning values.new.items, buf.new.now)) result
         (element_at C.reading depth (map C.Value.meaning values.old.items) buf.old.now) }
     ensures full { FullOnlyIf result (IsOk (content_at C.reading.wire buf.old.now)) }
+    ensures stays { OnErr result (map C.Value.meaning values.new.items ≡ map C.Value.meaning values.old.items) }
 {
     let mut none = Budget::new(0);
     let lent = DecodeContext {
@@ -61,6 +63,8 @@ fn take_all<C: MapCodec>(
     ensures reads { GivesUnlessFull (λ _. map C.Value.meaning values.new.items) result
         (elements_in C.reading depth (map C.Value.meaning values.old.items) body.now) }
     ensures full { FullOnlyIf result (IsOk (content_at C.reading.wire body.now)) }
+    ensures stops { IfErr result (λ e. StopsAt C.reading depth (map C.Value.meaning values.old.items) body.now e
+        (map C.Value.meaning values.new.items)) }
 {
     let mut rest = body;
     while rest.remaining() > 0 {
@@ -99,6 +103,8 @@ fn take_packed<C: MapCodec>(
     ensures taken { TakesPacked C.reading depth (map C.Value.meaning values.old.items) buf.old.now result
         (map C.Value.meaning values.new.items) buf.new.now }
     ensures full { FullOnlyIf result (PackedTakeMemory C.reading buf.old.now) }
+    ensures refused { IfErr result (λ e. RefusesPacked C.reading depth (map C.Value.meaning values.old.items)
+        buf.old.now e (map C.Value.meaning values.new.items)) }
 {
     match take_body(buf) {
         Ok(body) => take_all::<C>(alloc, values, body, depth),
@@ -119,6 +125,8 @@ pub(crate) fn take_elements<C: MapCodec>(
     ensures full { FullOnlyIf result (ElementsTakeMemory C.reading depth tag.number tag.wire_type buf.old.now) }
     ensures wire { ChecksListWire tag C.WIRE_TYPE result (map C.Value.meaning values.old.items)
         (map C.Value.meaning values.new.items) buf.old buf.new }
+    ensures refused { RefusesField (RefusesElements C.reading) tag depth (map C.Value.meaning values.old.items)
+        (map C.Value.meaning values.new.items) buf.old result }
 {
     match check_wire_type(tag, C::WIRE_TYPE) {
         Ok(()) => take_element::<C>(alloc, values, buf, depth),

@@ -7,8 +7,10 @@ ghost use Rattle.buffa_bytes.specs.Number.{IsNumber};
 ghost use Rattle.buffa_wire.specs.Passes.{cap};
 ghost use Rattle.buffa_wire.specs.Encoding.{records_encoding};
 ghost use Rattle.buffa_map.specs.Pairs.{means, put};
-ghost use Rattle.buffa_fields.specs.Calls.{ChecksWire, TakesEntry};
+ghost use Rattle.buffa_fields_base.specs.Calls.{ChecksWire};
+ghost use Rattle.buffa_fields.specs.KindCalls.{TakesEntry};
 ghost use Rattle.buffa_fields.specs.MapFields.{PairTakesMemory, WritesMap, entry_cost, entry_taken, map_records};
+ghost use Rattle.buffa_fields.specs.Refusals.{RefusesPairIn};
 ghost use Rattle.buffa_wire.specs.Takes.{IsTaken};
 
 use buffa_map::laws::{limits_are_told_where_needs_are_not_left, size_is_length};
@@ -63,6 +65,8 @@ where
     ensures wire { ChecksWire tag WireType.LengthDelimited result
         (means KC.Value.meaning VC.Value.meaning map.old.entries)
         (means KC.Value.meaning VC.Value.meaning map.new.entries) buf.old buf.new }
+    ensures refused { RefusesPairIn tag ctx.entry.depth map.old.entries map.new.entries buf.old result KC.Value.meaning
+        VC.Value.meaning KC.reading VC.reading (KC.COST + VC.COST) }
 {
     limits_are_told_where_needs_are_not_left::<KC, VC>();
     match check_wire_type(tag, WireType::LengthDelimited) {

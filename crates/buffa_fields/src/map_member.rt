@@ -11,11 +11,11 @@ ghost use Rattle.buffa_map.specs.Pairs.{means, put};
 ghost use Rattle.buffa_map.specs.Encoding.{AllHold};
 ghost use Rattle.buffa_fields.specs.MapFields.{PairTakesMemory, entry_cost, entry_taken};
 ghost use Rattle.buffa_fields.specs.MapLaws.{distinct_put, map_back, map_stays};
-ghost use Rattle.buffa_fields.specs.MemberRecords.{entry_records};
-ghost use Rattle.buffa_fields.specs.Values.{unsaid};
+ghost use Rattle.buffa_fields.specs.MapFields.{entry_records};
+ghost use Rattle.buffa_fields.specs.Refusals.{RefusesPair};
 
 use crate::map::{map_len, take_entry, write_map};
-use crate::member::Member;
+use buffa_fields_base::member::Member;
 use buffa_map::map_codec::{Map, MapCodec, MapValueDecode};
 use buffa_wire::{
     Blank, DecodeContext, DecodeError, EncodeError, EncodeSink, MapKey, SizeCache, Tag,
@@ -47,7 +47,7 @@ where
       blank = [];
       takes = entry_taken KC.reading VC.reading (put KC.Value.same);
       checks = λ n w. check_wire n LengthDelimited w;
-      refuses = unsaid;
+      refuses = RefusesPair KC.reading VC.reading (KC.COST + VC.COST);
       asks = PairTakesMemory KC.reading VC.reading;
       need = entry_cost KC.reading VC.reading (KC.COST + VC.COST);
       records = entry_records KC.writing VC.writing;
@@ -58,7 +58,7 @@ where
       stays = map_stays KC.reading VC.reading (KC.COST + VC.COST);
     } };
 
-    #[tactic(auto, using(crate::specs::LayoutLaws::sized_free), unfolding(crate::specs::MemberRecords::entry_records))]
+    #[tactic(auto, using(buffa_fields_base::specs::LayoutLaws::sized_free), unfolding(crate::specs::MapFields::entry_records))]
     fn len(
         number: u32,
         part: &Map<KC::Value, VC::Value>,
@@ -67,7 +67,7 @@ where
         Ok(map_len::<KC, VC, Map<KC::Value, VC::Value>>(number, part))
     }
 
-    #[tactic(auto, using(crate::specs::MapLaws::map_alone), unfolding(crate::specs::MemberRecords::entry_records))]
+    #[tactic(auto, using(crate::specs::MapLaws::map_alone), unfolding(crate::specs::MapFields::entry_records))]
     fn write_to<S: EncodeSink>(
         number: u32,
         part: &Map<KC::Value, VC::Value>,
@@ -77,7 +77,7 @@ where
         write_map::<KC, VC, Map<KC::Value, VC::Value>, S>(number, part, sink)
     }
 
-    #[tactic(auto, unfolding(crate::specs::Layout::Took))]
+    #[tactic(auto, unfolding(buffa_fields_base::specs::Layout::Took))]
     fn merge(
         part: &mut Map<KC::Value, VC::Value>,
         alloc: Global,

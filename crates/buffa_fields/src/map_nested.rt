@@ -12,16 +12,16 @@ ghost use Rattle.buffa_map.proofs.BackLemmas.{plain_back};
 ghost use Rattle.buffa_map.specs.Message.{message_reading};
 ghost use Rattle.buffa_map.specs.Pairs.{means, put};
 ghost use Rattle.buffa_map.specs.Encoding.{AllHold};
-ghost use Rattle.buffa_fields.specs.Calls.{SizesPairs, WritesPairs};
+ghost use Rattle.buffa_fields.specs.KindCalls.{SizesPairs, WritesPairs};
 ghost use Rattle.buffa_fields.specs.MapFields.{PairTakesMemory, entry_cost, entry_taken};
 ghost use Rattle.buffa_fields.specs.MapLaws.{distinct_put, map_stays};
 ghost use Rattle.buffa_fields.specs.Nested.{FitsInside};
 ghost use Rattle.buffa_fields.specs.NestedMapLaws.{pairs_back};
 ghost use Rattle.buffa_fields.specs.NestedMaps.{pair_levels, pair_records, pair_slots};
-ghost use Rattle.buffa_fields.specs.Values.{unsaid};
+ghost use Rattle.buffa_fields.specs.Refusals.{RefusesPair};
 
 use crate::map::take_entry;
-use crate::member::Member;
+use buffa_fields_base::member::Member;
 use buffa_map::map_codec::{
     Map, MapCodec, MapStorage, MapValueDecode, Msg, StableWalk, message_field_len,
     write_message_field,
@@ -97,7 +97,7 @@ where
       blank = [];
       takes = entry_taken KC.reading (message_reading N.blank_is N.merged N.cost) (put KC.Value.same);
       checks = λ n w. check_wire n LengthDelimited w;
-      refuses = unsaid;
+      refuses = RefusesPair KC.reading (message_reading N.blank_is N.merged N.cost) (KC.COST + N.COST);
       asks = PairTakesMemory KC.reading (message_reading N.blank_is N.merged N.cost);
       need = entry_cost KC.reading (message_reading N.blank_is N.merged N.cost) (KC.COST + N.COST);
       records = pair_records KC.writing N.encoding;
@@ -125,7 +125,7 @@ where
         write_pairs::<KC, N, Map<KC::Value, N>, S>(number, part, cache, sink)
     }
 
-    #[tactic(auto, unfolding(crate::specs::Layout::Took))]
+    #[tactic(auto, unfolding(buffa_fields_base::specs::Layout::Took))]
     fn merge(
         part: &mut Map<KC::Value, N>,
         alloc: Global,

@@ -11,13 +11,15 @@ ghost use Rattle.buffa_bytes.specs.Front.{check_wire};
 ghost use Rattle.buffa_wire.specs.Records.{bytes};
 ghost use Rattle.buffa_wire.specs.Encoding.{records_encoding};
 ghost use Rattle.buffa_bytes.specs.Written.{Writes};
-ghost use Rattle.buffa_fields.specs.Calls.{ChecksWire, TakesIn, WritesMessage};
+ghost use Rattle.buffa_fields_base.specs.Calls.{ChecksWire, TakesIn};
+ghost use Rattle.buffa_fields.specs.KindCalls.{WritesMessage};
 ghost use Rattle.buffa_fields.specs.Nested.{FitsInside, MessageTakesMemory, message_cost, message_in, message_levels, message_records, message_slots, message_taken};
 ghost use Rattle.buffa_fields.specs.NestedLaws.{Tells, head, message_back, message_stays};
 ghost use Rattle.buffa_wire.specs.Takes.{IsTaken};
-ghost use Rattle.buffa_fields.specs.Values.{IfThere, unsaid};
+ghost use Rattle.buffa_fields.specs.Refusals.{RefusesField, RefusesInside, RefusesMessage};
+ghost use Rattle.buffa_fields_base.specs.Values.{IfThere};
 
-use crate::member::Member;
+use buffa_fields_base::member::Member;
 use buffa_wire::{
     Blank, DecodeContext, DecodeError, EncodeError, EncodeSink, Message, MessageSpec, SizeCache,
     Tag, WireType, check_wire_type, encode_varint, prefix_len, varint_len,
@@ -110,6 +112,8 @@ pub(crate) fn take_inside<N: Message>(
     ensures full { FullOnlyIf result (MessageTakesMemory ctx.entry.depth tag.number tag.wire_type buf.old.now) }
     ensures wire { ChecksWire tag WireType.LengthDelimited result (N.meaning message.old) (N.meaning message.new)
         buf.old buf.new }
+    ensures refused { RefusesField RefusesInside tag ctx.entry.depth (N.meaning message.old) (N.meaning message.new)
+        buf.old result }
 {
     match check_wire_type(tag, WireType::LengthDelimited) {
         Ok(()) => message.merge_length_delimited(alloc, buf, ctx),
@@ -117,7 +121,8 @@ pub(crate) fn take_inside<N: Message>(
     }
 }
 
-/// A message that may be absent. What is read is merged into the message that stands.
+/// A message that may be absent. What is read is merged into the message that stands; where none does and a field is
+/// refused, none does afterwards.
 ///
 /// ```ignore
 /// visitor.visit::<Nested<Inventory>>(2, &self.stock);
@@ -136,7 +141,7 @@ impl<N: Message> Member for Nested<N> {
       blank = None;
       takes = message_taken N.blank_is N.merged;
       checks = λ n w. check_wire n LengthDelimited w;
-      refuses = unsaid;
+      refuses = RefusesMessage;
       asks = MessageTakesMemory;
       need = message_cost N.cost;
       records = message_records N.encoding;
@@ -146,7 +151,7 @@ impl<N: Message> Member for Nested<N> {
       stays = message_stays N.merged N.cost;
     } };
 
-    #[tactic(auto, using(crate::specs::LayoutLaws::sized_free), unfolding(crate::specs::Nested::message_records, crate::specs::Nested::message_slots))]
+    #[tactic(auto, using(buffa_fields_base::specs::LayoutLaws::sized_free), unfolding(crate::specs::Nested::message_records, crate::specs::Nested::message_slots))]
     fn len(number: u32, part: &Option<N>, cache: &mut SizeCache) -> Result<u32, EncodeError> {
         match part {
             None => Ok(0),
@@ -174,17 +179,19 @@ impl<N: Message> Member for Nested<N> {
         buf: &mut &[u8],
         ctx: DecodeContext<'_>,
     ) -> Result<(), DecodeError> {
-        match check_wire_type(tag, WireType::LengthDelimited) {
-            Ok(()) => {}
-            Err(error) => return Err(error),
+        match part {
+            Some(message) => take_inside(alloc, message, tag, buf, ctx),
+            None => {
+                let mut message = N::blank(alloc);
+                match take_inside(alloc, &mut message, tag, buf, ctx) {
+                    Ok(()) => {
+                        *part = Some(message);
+                        Ok(())
+                    }
+                    Err(error) => Err(error),
+                }
+            }
         }
-        let mut message = match part.take() {
-            Some(message) => message,
-            None => N::blank(alloc),
-        };
-        let result = take_inside(alloc, &mut message, tag, buf, ctx);
-        *part = Some(message);
-        result
     }
 
     ghost back = { record {

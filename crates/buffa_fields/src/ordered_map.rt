@@ -9,17 +9,18 @@ ghost use Rattle.buffa_bytes.specs.declared.wire_type.WireType.TheVariants.{Leng
 ghost use Rattle.buffa_map.proofs.BackLemmas.{plain_back};
 ghost use Rattle.buffa_map.specs.Encoding.{AllHold};
 ghost use Rattle.buffa_map.specs.Pairs.{means};
-ghost use Rattle.buffa_fields.specs.Calls.{ChecksWire, TakesOrderedEntry};
+ghost use Rattle.buffa_fields_base.specs.Calls.{ChecksWire};
+ghost use Rattle.buffa_fields.specs.KindCalls.{TakesOrderedEntry};
 ghost use Rattle.buffa_fields.specs.MapFields.{PairTakesMemory, entry_cost, entry_taken};
 ghost use Rattle.buffa_fields.specs.MapLaws.{map_back, map_stays};
-ghost use Rattle.buffa_fields.specs.MemberRecords.{entry_records};
+ghost use Rattle.buffa_fields.specs.MapFields.{entry_records};
 ghost use Rattle.buffa_fields.specs.OrderedLaws.{ascending_put};
 ghost use Rattle.buffa_fields.specs.OrderedMaps.{KeysAscend};
-ghost use Rattle.buffa_fields.specs.Values.{unsaid};
+ghost use Rattle.buffa_fields.specs.Refusals.{RefusesPair, RefusesPairIn};
 
 use crate::map::{map_len, write_map};
-use crate::member::Member;
 use crate::ordered_key::OrderedKey;
+use buffa_fields_base::member::Member;
 use buffa_map::laws::limits_are_told_where_needs_are_not_left;
 use buffa_map::map_codec::{MapCodec, MapValueDecode, merge_entry};
 use buffa_wire::{
@@ -48,6 +49,8 @@ where
     ensures wire { ChecksWire tag WireType.LengthDelimited result
         (means KC.Value.meaning VC.Value.meaning map.old.entries)
         (means KC.Value.meaning VC.Value.meaning map.new.entries) buf.old buf.new }
+    ensures refused { RefusesPairIn tag ctx.entry.depth map.old.entries map.new.entries buf.old result KC.Value.meaning
+        VC.Value.meaning KC.reading VC.reading (KC.COST + VC.COST) }
 {
     limits_are_told_where_needs_are_not_left::<KC, VC>();
     match check_wire_type(tag, WireType::LengthDelimited) {
@@ -87,7 +90,7 @@ where
       takes = entry_taken KC.reading VC.reading (insert_entry KC.Value.order);
       checks = λ n w. check_wire n LengthDelimited w;
       asks = PairTakesMemory KC.reading VC.reading;
-      refuses = unsaid;
+      refuses = RefusesPair KC.reading VC.reading (KC.COST + VC.COST);
       need = entry_cost KC.reading VC.reading (KC.COST + VC.COST);
       records = entry_records KC.writing VC.writing;
       slots = λ _. [];
@@ -97,7 +100,7 @@ where
       stays = map_stays KC.reading VC.reading (KC.COST + VC.COST);
     } };
 
-    #[tactic(auto, using(crate::specs::LayoutLaws::sized_free), unfolding(crate::specs::MemberRecords::entry_records))]
+    #[tactic(auto, using(buffa_fields_base::specs::LayoutLaws::sized_free), unfolding(crate::specs::MapFields::entry_records))]
     fn len(
         number: u32,
         part: &BTreeMap<KC::Value, VC::Value>,
@@ -106,7 +109,7 @@ where
         Ok(map_len::<KC, VC, BTreeMap<KC::Value, VC::Value>>(number, part))
     }
 
-    #[tactic(auto, using(crate::specs::MapLaws::map_alone), unfolding(crate::specs::MemberRecords::entry_records))]
+    #[tactic(auto, using(crate::specs::MapLaws::map_alone), unfolding(crate::specs::MapFields::entry_records))]
     fn write_to<S: EncodeSink>(
         number: u32,
         part: &BTreeMap<KC::Value, VC::Value>,
@@ -116,7 +119,7 @@ where
         write_map::<KC, VC, BTreeMap<KC::Value, VC::Value>, S>(number, part, sink)
     }
 
-    #[tactic(auto, unfolding(crate::specs::Layout::Took))]
+    #[tactic(auto, unfolding(buffa_fields_base::specs::Layout::Took))]
     fn merge(
         part: &mut BTreeMap<KC::Value, VC::Value>,
         alloc: Global,

@@ -16,12 +16,12 @@ ghost use Rattle.buffa_fields.specs.NestedMapLaws.{pairs_back};
 ghost use Rattle.buffa_fields.specs.NestedMaps.{pair_levels, pair_records, pair_slots};
 ghost use Rattle.buffa_fields.specs.OrderedLaws.{ascending_put};
 ghost use Rattle.buffa_fields.specs.OrderedMaps.{KeysAscend};
-ghost use Rattle.buffa_fields.specs.Values.{unsaid};
+ghost use Rattle.buffa_fields.specs.Refusals.{RefusesPair};
 
 use crate::map_nested::{pairs_len, write_pairs};
-use crate::member::Member;
 use crate::ordered_key::OrderedKey;
 use crate::ordered_map::take_ordered;
+use buffa_fields_base::member::Member;
 use buffa_map::map_codec::{MapCodec, MapValueDecode, Msg};
 use buffa_wire::{
     Blank, DecodeContext, DecodeError, EncodeError, EncodeSink, Message, MessageSpec, SizeCache,
@@ -55,7 +55,7 @@ where
       takes = entry_taken KC.reading (message_reading N.blank_is N.merged N.cost) (insert_entry KC.Value.order);
       checks = λ n w. check_wire n LengthDelimited w;
       asks = PairTakesMemory KC.reading (message_reading N.blank_is N.merged N.cost);
-      refuses = unsaid;
+      refuses = RefusesPair KC.reading (message_reading N.blank_is N.merged N.cost) (KC.COST + N.COST);
       need = entry_cost KC.reading (message_reading N.blank_is N.merged N.cost) (KC.COST + N.COST);
       records = pair_records KC.writing N.encoding;
       slots = pair_slots N.encoding N.slots;
@@ -82,7 +82,7 @@ where
         write_pairs::<KC, N, BTreeMap<KC::Value, N>, S>(number, part, cache, sink)
     }
 
-    #[tactic(auto, unfolding(crate::specs::Layout::Took))]
+    #[tactic(auto, unfolding(buffa_fields_base::specs::Layout::Took))]
     fn merge(
         part: &mut BTreeMap<KC::Value, N>,
         alloc: Global,

@@ -1,21 +1,23 @@
 //! Lists that are written packed.
 
 ghost use Rattle.std.specs.Prelude.{[], false, length, map, refl, ◌==◌, ◌≡◌};
+ghost use Rattle.std.specs.List.{AllByRecursion};
 ghost use Rattle.buffa_bytes.specs.declared.wire_type.WireType.TheVariants.{LengthDelimited};
 ghost use Rattle.buffa_bytes.specs.Number.{IsNumber};
 ghost use Rattle.buffa_wire.specs.Passes.{IsWritten, cap};
-ghost use Rattle.buffa_wire.specs.Encoding.{records_encoding};
+ghost use Rattle.buffa_wire.specs.Encoding.{records_encoding, encodings};
 ghost use Rattle.buffa_bytes.specs.WireType.{same_wire};
 ghost use Rattle.buffa_bytes.specs.Written.{Writes};
 ghost use Rattle.buffa_map.specs.Encoding.{saturated};
-ghost use Rattle.buffa_fields.specs.Lists.{Each, ElementsTakeMemory, check_list_wire, elements_taken, packed_records, packed_encoding};
+ghost use Rattle.buffa_fields.specs.Lists.{ElementsTakeMemory, check_list_wire, elements_taken, packed_records};
 ghost use Rattle.buffa_fields.specs.ListLaws.{packed_back};
-ghost use Rattle.buffa_fields.specs.Values.{free, unsaid};
+ghost use Rattle.buffa_fields.specs.Refusals.{RefusesElements};
+ghost use Rattle.buffa_fields_base.specs.Values.{free};
 
-use crate::kind::Kind;
 use crate::list::take_elements;
-use crate::member::Member;
 use crate::nested::{record_len, write_head};
+use buffa_fields_base::kind::Kind;
+use buffa_fields_base::member::Member;
 use buffa_map::map_codec::{
     Bool, Fixed32, Fixed64, Int32, Int64, MapCodec, MapValueDecode, OpenEnum, Sfixed32, Sfixed64,
     Sint32, Sint64, Uint32, Uint64,
@@ -86,7 +88,7 @@ impl<E: Enumeration> Packable for OpenEnum<E> {
 
 // The length of all payloads, or 2^64 - 1 where it is more.
 fn payloads_len<C: Kind>(values: &[C::Value]) -> u64
-    ensures { result ≡ saturated (length (packed_encoding C.writing.encoding (map C.Value.meaning values.now))) }
+    ensures { result ≡ saturated (length (encodings C.writing.encoding (map C.Value.meaning values.now))) }
 {
     let mut total: u64 = 0;
     for value in values {
@@ -100,7 +102,7 @@ fn write_payloads<C: Kind, S: EncodeSink>(
     values: &[C::Value],
     sink: &mut S,
 ) -> Result<(), EncodeError>
-    ensures { Writes result (S.written sink.old) (packed_encoding C.writing.encoding (map C.Value.meaning values.now))
+    ensures { Writes result (S.written sink.old) (encodings C.writing.encoding (map C.Value.meaning values.now))
         (S.written sink.new) }
 {
     for value in values {
@@ -163,17 +165,17 @@ impl<C: Packable> Member for Packed<C> {
       blank = [];
       takes = elements_taken C.reading;
       checks = λ n w. check_list_wire n C.WIRE_TYPE w;
-      refuses = unsaid;
+      refuses = RefusesElements C.reading;
       asks = ElementsTakeMemory C.reading;
       need = free;
       records = packed_records C.writing.encoding;
       slots = λ _. [];
       levels = λ _. 0;
-      normal = λ vs. Each (λ v. C.fits v × C.normal v) vs;
+      normal = λ vs. AllByRecursion (λ v. C.fits v × C.normal v) vs;
       stays = λ d n w p x h. refl;
     } };
 
-    #[tactic(auto, using(crate::specs::LayoutLaws::sized_free))]
+    #[tactic(auto, using(buffa_fields_base::specs::LayoutLaws::sized_free))]
     fn len(number: u32, part: &Vec<C::Value>, _cache: &mut SizeCache) -> Result<u32, EncodeError> {
         Ok(packed_len::<C>(number, part.as_slice()))
     }
@@ -187,7 +189,7 @@ impl<C: Packable> Member for Packed<C> {
         write_packed::<C, S>(number, part.as_slice(), cache, sink)
     }
 
-    #[tactic(auto, unfolding(crate::specs::Layout::Took))]
+    #[tactic(auto, unfolding(buffa_fields_base::specs::Layout::Took))]
     fn merge(
         part: &mut Vec<C::Value>,
         alloc: Global,

@@ -1,13 +1,15 @@
 //! Members that are lists.
 
 ghost use Rattle.std.specs.Prelude.{[], map, refl, ◌==◌};
-ghost use Rattle.buffa_fields.specs.Lists.{Each, ElementsTakeMemory, check_list_wire, element_records, elements_taken};
+ghost use Rattle.std.specs.List.{AllByRecursion};
+ghost use Rattle.buffa_fields.specs.Lists.{ElementsTakeMemory, check_list_wire, element_records, elements_taken};
 ghost use Rattle.buffa_fields.specs.ListLaws.{elements_back};
-ghost use Rattle.buffa_fields.specs.Values.{free, unsaid};
+ghost use Rattle.buffa_fields.specs.Refusals.{RefusesElements};
+ghost use Rattle.buffa_fields_base.specs.Values.{free};
 
-use crate::kind::Kind;
 use crate::list::{elements_len, take_elements, write_elements};
-use crate::member::Member;
+use buffa_fields_base::kind::Kind;
+use buffa_fields_base::member::Member;
 use buffa_map::map_codec::{MapCodec, MapValueDecode};
 use buffa_wire::{Blank, DecodeContext, DecodeError, EncodeError, EncodeSink, SizeCache, Tag};
 use std::alloc::Global;
@@ -32,17 +34,17 @@ impl<C: Kind> Member for Repeated<C> {
       blank = [];
       takes = elements_taken C.reading;
       checks = λ n w. check_list_wire n C.WIRE_TYPE w;
-      refuses = unsaid;
+      refuses = RefusesElements C.reading;
       asks = ElementsTakeMemory C.reading;
       need = free;
       records = element_records C.datum;
       slots = λ _. [];
       levels = λ _. 0;
-      normal = λ vs. Each (λ v. C.fits v × C.normal v) vs;
+      normal = λ vs. AllByRecursion (λ v. C.fits v × C.normal v) vs;
       stays = λ d n w p x h. refl;
     } };
 
-    #[tactic(auto, using(crate::specs::LayoutLaws::sized_free))]
+    #[tactic(auto, using(buffa_fields_base::specs::LayoutLaws::sized_free))]
     fn len(number: u32, part: &Vec<C::Value>, _cache: &mut SizeCache) -> Result<u32, EncodeError> {
         Ok(elements_len::<C>(number, part.as_slice()))
     }
@@ -57,7 +59,7 @@ impl<C: Kind> Member for Repeated<C> {
         write_elements::<C, S>(number, part.as_slice(), sink)
     }
 
-    #[tactic(auto, unfolding(crate::specs::Layout::Took))]
+    #[tactic(auto, unfolding(buffa_fields_base::specs::Layout::Took))]
     fn merge(
         part: &mut Vec<C::Value>,
         alloc: Global,

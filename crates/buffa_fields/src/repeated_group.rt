@@ -1,6 +1,7 @@
 //! Members that are lists of messages, as groups.
 
 ghost use Rattle.std.specs.Prelude.{[], ◌≡◌, ◌==◌, IsOk, map};
+ghost use Rattle.std.specs.List.{AllByRecursion};
 ghost use Rattle.buffa_bytes.specs.declared.wire_type.WireType.TheVariants.{StartGroup};
 ghost use Rattle.buffa_wire.specs.BudgetLeft.{budget_left};
 ghost use Rattle.buffa_bytes.specs.Gives.{FullOnlyIf};
@@ -8,19 +9,19 @@ ghost use Rattle.buffa_bytes.specs.Number.{IsNumber};
 ghost use Rattle.buffa_wire.specs.Passes.{IsNext, IsSized};
 ghost use Rattle.buffa_bytes.specs.Front.{check_wire};
 ghost use Rattle.buffa_wire.specs.Encoding.{records_encoding};
-ghost use Rattle.buffa_fields.specs.Calls.{ChecksWire, TakesIn};
+ghost use Rattle.buffa_fields_base.specs.Calls.{ChecksWire, TakesIn};
 ghost use Rattle.buffa_fields.specs.GroupCalls.{WritesGroups};
 ghost use Rattle.buffa_fields.specs.Groups.{GroupTakesMemory, group_datum, group_in};
-ghost use Rattle.buffa_fields.specs.Lists.{Each, element_records};
+ghost use Rattle.buffa_fields.specs.Lists.{element_records};
 ghost use Rattle.buffa_fields.specs.RepeatedGroups.{GroupsTakeMemory, groups_cost, groups_taken};
 ghost use Rattle.buffa_fields.specs.RepeatedGroupLaws.{groups_back, groups_stay};
 ghost use Rattle.buffa_fields.specs.RepeatedNested.{messages_levels, messages_slots};
 ghost use Rattle.buffa_wire.proofs.ByPayloadLemmas.{by_payload, merged_fields};
 ghost use Rattle.buffa_wire.specs.Takes.{IsTaken};
-ghost use Rattle.buffa_fields.specs.Values.{unsaid};
+ghost use Rattle.buffa_fields.specs.Refusals.{RefusesField, RefusesNew};
 
 use crate::group::{group_len, take_group, write_group};
-use crate::member::Member;
+use buffa_fields_base::member::Member;
 use buffa_wire::{
     Blank, DecodeContext, DecodeError, EncodeError, EncodeSink, Message, MessageSpec, SizeCache,
     Tag, WireType, check_wire_type,
@@ -71,6 +72,8 @@ fn take_element<N: Message>(
     ensures full { FullOnlyIf result (GroupsTakeMemory ctx.entry.depth tag.number tag.wire_type buf.old.now) }
     ensures wire { ChecksWire tag WireType.StartGroup result (map N.meaning messages.old.items)
         (map N.meaning messages.new.items) buf.old buf.new }
+    ensures refused { RefusesField RefusesNew tag ctx.entry.depth (map N.meaning messages.old.items)
+        (map N.meaning messages.new.items) buf.old result }
 {
     let mut message = N::blank(alloc);
     match take_charged(alloc, &mut message, tag, buf, ctx) {
@@ -147,12 +150,12 @@ impl<N: Message> Member for RepeatedGroup<N> {
       takes = groups_taken N.blank_is N.merged;
       checks = λ n w. check_wire n StartGroup w;
       asks = GroupsTakeMemory;
-      refuses = unsaid;
+      refuses = RefusesNew;
       need = groups_cost N.COST N.cost;
       records = element_records (group_datum N.records);
       slots = messages_slots N.encoding N.slots;
       levels = messages_levels N.levels;
-      normal = λ vs. Each N.normal vs;
+      normal = λ vs. AllByRecursion N.normal vs;
       stays = groups_stay N.COST N.cost;
     } };
 
@@ -169,7 +172,7 @@ impl<N: Message> Member for RepeatedGroup<N> {
         write_groups(number, part.as_slice(), cache, sink)
     }
 
-    #[tactic(auto, unfolding(crate::specs::Layout::Took))]
+    #[tactic(auto, unfolding(buffa_fields_base::specs::Layout::Took))]
     fn merge(
         part: &mut Vec<N>,
         alloc: Global,

@@ -1,6 +1,7 @@
 //! Members that are lists of messages.
 
 ghost use Rattle.std.specs.Prelude.{[], ◌≡◌, ◌==◌, IsOk, map};
+ghost use Rattle.std.specs.List.{AllByRecursion};
 ghost use Rattle.buffa_bytes.specs.declared.wire_type.WireType.TheVariants.{LengthDelimited};
 ghost use Rattle.buffa_wire.specs.BudgetLeft.{budget_left};
 ghost use Rattle.buffa_bytes.specs.Gives.{FullOnlyIf};
@@ -8,16 +9,16 @@ ghost use Rattle.buffa_bytes.specs.Number.{IsNumber};
 ghost use Rattle.buffa_wire.specs.Passes.{IsNext, IsSized, IsWritten};
 ghost use Rattle.buffa_bytes.specs.Front.{check_wire};
 ghost use Rattle.buffa_wire.specs.Encoding.{records_encoding};
-ghost use Rattle.buffa_fields.specs.Calls.{ChecksWire, TakesIn, WritesMessages};
-ghost use Rattle.buffa_fields.specs.Lists.{Each};
+ghost use Rattle.buffa_fields_base.specs.Calls.{ChecksWire, TakesIn};
+ghost use Rattle.buffa_fields.specs.KindCalls.{WritesMessages};
 ghost use Rattle.buffa_fields.specs.Nested.{FitsInside, MessageTakesMemory, message_in};
 ghost use Rattle.buffa_fields.specs.RepeatedNested.{MessagesTakeMemory, messages_cost, messages_levels, messages_records, messages_slots, messages_taken};
 ghost use Rattle.buffa_fields.specs.RepeatedNestedLaws.{messages_back, messages_stay};
 ghost use Rattle.buffa_wire.specs.Takes.{IsTaken};
-ghost use Rattle.buffa_fields.specs.Values.{unsaid};
+ghost use Rattle.buffa_fields.specs.Refusals.{RefusesField, RefusesNew};
 
-use crate::member::Member;
 use crate::nested::{message_len, write_message};
+use buffa_fields_base::member::Member;
 use buffa_wire::{
     Blank, DecodeContext, DecodeError, EncodeError, EncodeSink, Message, MessageSpec, SizeCache,
     Tag, WireType, check_wire_type,
@@ -68,6 +69,8 @@ fn take_message<N: Message>(
     ensures full { FullOnlyIf result (MessagesTakeMemory ctx.entry.depth tag.number tag.wire_type buf.old.now) }
     ensures wire { ChecksWire tag WireType.LengthDelimited result (map N.meaning messages.old.items)
         (map N.meaning messages.new.items) buf.old buf.new }
+    ensures refused { RefusesField RefusesNew tag ctx.entry.depth (map N.meaning messages.old.items)
+        (map N.meaning messages.new.items) buf.old result }
 {
     let mut message = N::blank(alloc);
     match take_charged(alloc, &mut message, tag, buf, ctx) {
@@ -141,13 +144,13 @@ impl<N: Message> Member for RepeatedNested<N> {
       blank = [];
       takes = messages_taken N.blank_is N.merged;
       checks = λ n w. check_wire n LengthDelimited w;
-      refuses = unsaid;
+      refuses = RefusesNew;
       asks = MessagesTakeMemory;
       need = messages_cost N.COST N.cost;
       records = messages_records N.encoding;
       slots = messages_slots N.encoding N.slots;
       levels = messages_levels N.levels;
-      normal = λ vs. Each (FitsInside N.normal N.records) vs;
+      normal = λ vs. AllByRecursion (FitsInside N.normal N.records) vs;
       stays = messages_stay N.COST N.cost;
     } };
 
@@ -164,7 +167,7 @@ impl<N: Message> Member for RepeatedNested<N> {
         write_messages(number, part.as_slice(), cache, sink)
     }
 
-    #[tactic(auto, unfolding(crate::specs::Layout::Took))]
+    #[tactic(auto, unfolding(buffa_fields_base::specs::Layout::Took))]
     fn merge(
         part: &mut Vec<N>,
         alloc: Global,

@@ -4,6 +4,7 @@
 #![tactic(auto)]
 
 ghost use Rattle.std.specs.Prelude.{◌≡◌, ◌↔◌, ◌⊎◌, ◌+◌, ℕ, ℤ, List, [], ◌∷◌, ◌++◌, None, Some, map, not};
+ghost use Rattle.std.specs.List.{AllByRecursion};
 ghost use Rattle.std.specs.Cmp.Lexicographic.{slice_cmp};
 ghost use Rattle.std.specs.Int.{cast_unsigned, w64};
 ghost use Rattle.std.specs.BTreeMap.{insert_entry};
@@ -21,20 +22,22 @@ ghost use Rattle.buffa_wire.specs.Encoding.{wire_of};
 ghost use Rattle.buffa_map.specs.Message.{message_reading};
 ghost use Rattle.buffa_map.specs.Pairs.{means, put};
 ghost use Rattle.buffa_map.specs.Encoding.{AllHold};
-ghost use Rattle.buffa_fields.specs.Keep.{IsFieldThere};
-ghost use Rattle.buffa_fields.specs.KindLaws.{is_none, is_nought, is_zero};
-ghost use Rattle.buffa_fields.specs.Lists.{Each, ElementsTakeMemory, check_list_wire, element_records, elements_taken, packed_records};
+ghost use Rattle.buffa_fields_base.specs.Keep.{IsFieldThere};
+ghost use Rattle.buffa_fields_base.specs.KindLaws.{is_none, is_nought, is_zero};
+ghost use Rattle.buffa_fields.specs.Lists.{ElementsTakeMemory, check_list_wire, element_records, elements_taken, packed_records};
 ghost use Rattle.buffa_fields.specs.MapFields.{PairTakesMemory, entry_cost, entry_taken};
-ghost use Rattle.buffa_fields.specs.Members.{keep};
+ghost use Rattle.buffa_fields_base.specs.Members.{keep};
 ghost use Rattle.buffa_fields.specs.Groups.{GroupTakesMemory, group_cost, group_datum, group_records, group_taken};
 ghost use Rattle.buffa_fields.specs.Nested.{FitsInside, MessageTakesMemory, message_cost, message_levels, message_records, message_slots, message_taken};
 ghost use Rattle.buffa_fields.specs.NestedMaps.{pair_levels, pair_records, pair_slots};
 ghost use Rattle.buffa_fields.specs.RepeatedNested.{MessagesTakeMemory, messages_cost, messages_levels, messages_records, messages_slots, messages_taken};
 ghost use Rattle.buffa_fields.specs.OrderedMaps.{KeysAscend};
 ghost use Rattle.buffa_fields.specs.RepeatedGroups.{GroupsTakeMemory, groups_cost, groups_taken};
-ghost use Rattle.buffa_fields.specs.MemberRecords.{entry_records, optional_records, plain_records};
+ghost use Rattle.buffa_fields.specs.Refusals.{RefusesAs, RefusesElements, RefusesGroup, RefusesMessage, RefusesNew, RefusesPair};
+ghost use Rattle.buffa_fields_base.specs.MemberRecords.{optional_records, plain_records};
+ghost use Rattle.buffa_fields.specs.MapFields.{entry_records};
 ghost use Rattle.buffa_wire.specs.Takes.{cost_of, merged_of};
-ghost use Rattle.buffa_fields.specs.Values.{IfThere, RefusesAlone, ValueTakesMemory, free, some_taken, value_taken};
+ghost use Rattle.buffa_fields_base.specs.Values.{IfThere, RefusesAlone, ValueTakesMemory, free, some_taken, value_taken};
 
 use buffa_fields::group::Group;
 use buffa_fields::kind::Kind;
@@ -105,11 +108,12 @@ pub fn lists_are_these<C: Kind>()
     ensures checks { (n : ℕ) (w : _) → ⟦<Repeated<C> as Member>⟧.shape.checks n w ≡ check_list_wire n C.WIRE_TYPE w }
     ensures asks { (d n : ℕ) (w : _) (bs : List ℕ) → ⟦<Repeated<C> as Member>⟧.shape.asks d n w bs
         ↔ (ElementsTakeMemory C.reading d n w bs) }
+    ensures refuses { RefusesAs ⟦<Repeated<C> as Member>⟧.shape (RefusesElements C.reading) }
     ensures need { ⟦<Repeated<C> as Member>⟧.shape.need ≡ free }
     ensures records { (n : ℕ) (v : _) → ⟦<Repeated<C> as Member>⟧.shape.records n v ≡ element_records C.datum n v }
     ensures slots { (v : _) → ⟦<Repeated<C> as Member>⟧.shape.slots v ≡ [] }
     ensures levels { (v : _) → ⟦<Repeated<C> as Member>⟧.shape.levels v ≡ 0 }
-    ensures normal { (v : _) → ⟦<Repeated<C> as Member>⟧.shape.normal v ↔ (Each (λ x. C.fits x × C.normal x) v) }
+    ensures normal { (v : _) → ⟦<Repeated<C> as Member>⟧.shape.normal v ↔ (AllByRecursion (λ x. C.fits x × C.normal x) v) }
 {}
 
 /// The same, written packed: one record of all elements, none where there is none.
@@ -120,11 +124,12 @@ pub fn packed_lists_are_these<C: Packable>()
     ensures checks { (n : ℕ) (w : _) → ⟦<Packed<C> as Member>⟧.shape.checks n w ≡ check_list_wire n C.WIRE_TYPE w }
     ensures asks { (d n : ℕ) (w : _) (bs : List ℕ) → ⟦<Packed<C> as Member>⟧.shape.asks d n w bs
         ↔ (ElementsTakeMemory C.reading d n w bs) }
+    ensures refuses { RefusesAs ⟦<Packed<C> as Member>⟧.shape (RefusesElements C.reading) }
     ensures need { ⟦<Packed<C> as Member>⟧.shape.need ≡ free }
     ensures records { (n : ℕ) (v : _) → ⟦<Packed<C> as Member>⟧.shape.records n v ≡ packed_records C.writing.encoding n v }
     ensures slots { (v : _) → ⟦<Packed<C> as Member>⟧.shape.slots v ≡ [] }
     ensures levels { (v : _) → ⟦<Packed<C> as Member>⟧.shape.levels v ≡ 0 }
-    ensures normal { (v : _) → ⟦<Packed<C> as Member>⟧.shape.normal v ↔ (Each (λ x. C.fits x × C.normal x) v) }
+    ensures normal { (v : _) → ⟦<Packed<C> as Member>⟧.shape.normal v ↔ (AllByRecursion (λ x. C.fits x × C.normal x) v) }
 {}
 
 /// A message that may be absent: each record is merged into the one that stands.
@@ -136,6 +141,7 @@ pub fn nested_members_are_these<N: Message>()
         ≡ check_wire n WireType.LengthDelimited w }
     ensures asks { (d n : ℕ) (w : _) (bs : List ℕ) → ⟦<Nested<N> as Member>⟧.shape.asks d n w bs
         ↔ (MessageTakesMemory d n w bs) }
+    ensures refuses { RefusesAs ⟦<Nested<N> as Member>⟧.shape RefusesMessage }
     ensures need { ⟦<Nested<N> as Member>⟧.shape.need ≡ message_cost N.cost }
     ensures records { (n : ℕ) (v : _) → ⟦<Nested<N> as Member>⟧.shape.records n v ≡ message_records N.encoding n v }
     ensures slots { (v : _) → ⟦<Nested<N> as Member>⟧.shape.slots v ≡ message_slots N.encoding N.slots v }
@@ -153,13 +159,14 @@ pub fn lists_of_messages_are_these<N: Message>()
         ≡ check_wire n WireType.LengthDelimited w }
     ensures asks { (d n : ℕ) (w : _) (bs : List ℕ) → ⟦<RepeatedNested<N> as Member>⟧.shape.asks d n w bs
         ↔ (MessagesTakeMemory d n w bs) }
+    ensures refuses { RefusesAs ⟦<RepeatedNested<N> as Member>⟧.shape RefusesNew }
     ensures need { ⟦<RepeatedNested<N> as Member>⟧.shape.need ≡ messages_cost N.COST N.cost }
     ensures records { (n : ℕ) (v : _) → ⟦<RepeatedNested<N> as Member>⟧.shape.records n v
         ≡ messages_records N.encoding n v }
     ensures slots { (v : _) → ⟦<RepeatedNested<N> as Member>⟧.shape.slots v ≡ messages_slots N.encoding N.slots v }
     ensures levels { (v : _) → ⟦<RepeatedNested<N> as Member>⟧.shape.levels v ≡ messages_levels N.levels v }
     ensures normal { (v : _) → ⟦<RepeatedNested<N> as Member>⟧.shape.normal v
-        ↔ (Each (FitsInside N.normal N.records) v) }
+        ↔ (AllByRecursion (FitsInside N.normal N.records) v) }
 {}
 
 /// A message that may be absent, as a group: each group is merged into the one that stands.
@@ -170,6 +177,7 @@ pub fn groups_are_these<N: Message>()
     ensures checks { (n : ℕ) (w : _) → ⟦<Group<N> as Member>⟧.shape.checks n w ≡ check_wire n WireType.StartGroup w }
     ensures asks { (d n : ℕ) (w : _) (bs : List ℕ) → ⟦<Group<N> as Member>⟧.shape.asks d n w bs
         ↔ (GroupTakesMemory d n w bs) }
+    ensures refuses { RefusesAs ⟦<Group<N> as Member>⟧.shape RefusesGroup }
     ensures need { ⟦<Group<N> as Member>⟧.shape.need ≡ group_cost N.cost }
     ensures records { (n : ℕ) (v : _) → ⟦<Group<N> as Member>⟧.shape.records n v ≡ group_records N.records n v }
     ensures slots { (v : _) → ⟦<Group<N> as Member>⟧.shape.slots v ≡ message_slots N.encoding N.slots v }
@@ -186,12 +194,13 @@ pub fn lists_of_groups_are_these<N: Message>()
         ≡ check_wire n WireType.StartGroup w }
     ensures asks { (d n : ℕ) (w : _) (bs : List ℕ) → ⟦<RepeatedGroup<N> as Member>⟧.shape.asks d n w bs
         ↔ (GroupsTakeMemory d n w bs) }
+    ensures refuses { RefusesAs ⟦<RepeatedGroup<N> as Member>⟧.shape RefusesNew }
     ensures need { ⟦<RepeatedGroup<N> as Member>⟧.shape.need ≡ groups_cost N.COST N.cost }
     ensures records { (n : ℕ) (v : _) → ⟦<RepeatedGroup<N> as Member>⟧.shape.records n v
         ≡ element_records (group_datum N.records) n v }
     ensures slots { (v : _) → ⟦<RepeatedGroup<N> as Member>⟧.shape.slots v ≡ messages_slots N.encoding N.slots v }
     ensures levels { (v : _) → ⟦<RepeatedGroup<N> as Member>⟧.shape.levels v ≡ messages_levels N.levels v }
-    ensures normal { (v : _) → ⟦<RepeatedGroup<N> as Member>⟧.shape.normal v ↔ (Each N.normal v) }
+    ensures normal { (v : _) → ⟦<RepeatedGroup<N> as Member>⟧.shape.normal v ↔ (AllByRecursion N.normal v) }
 {}
 
 /// A map: each record is an entry, which is put.
@@ -206,6 +215,8 @@ where
         ≡ check_wire n WireType.LengthDelimited w }
     ensures asks { (d n : ℕ) (w : _) (bs : List ℕ) → ⟦<MapOf<KC, VC> as Member>⟧.shape.asks d n w bs
         ↔ (PairTakesMemory KC.reading VC.reading d n w bs) }
+    ensures refuses { RefusesAs ⟦<MapOf<KC, VC> as Member>⟧.shape
+        (RefusesPair KC.reading VC.reading (KC.COST + VC.COST)) }
     ensures need { ⟦<MapOf<KC, VC> as Member>⟧.shape.need ≡ entry_cost KC.reading VC.reading (KC.COST + VC.COST) }
     ensures records { (n : ℕ) (v : _) → ⟦<MapOf<KC, VC> as Member>⟧.shape.records n v
         ≡ entry_records KC.writing VC.writing n v }
@@ -229,6 +240,8 @@ where
         ≡ check_wire n WireType.LengthDelimited w }
     ensures asks { (d n : ℕ) (w : _) (bs : List ℕ) → ⟦<MapOfNested<KC, N> as Member>⟧.shape.asks d n w bs
         ↔ (PairTakesMemory KC.reading (message_reading N.blank_is N.merged N.cost) d n w bs) }
+    ensures refuses { RefusesAs ⟦<MapOfNested<KC, N> as Member>⟧.shape
+        (RefusesPair KC.reading (message_reading N.blank_is N.merged N.cost) (KC.COST + N.COST)) }
     ensures need { ⟦<MapOfNested<KC, N> as Member>⟧.shape.need
         ≡ entry_cost KC.reading (message_reading N.blank_is N.merged N.cost) (KC.COST + N.COST) }
     ensures records { (n : ℕ) (v : _) → ⟦<MapOfNested<KC, N> as Member>⟧.shape.records n v
@@ -255,6 +268,8 @@ where
         ≡ check_wire n WireType.LengthDelimited w }
     ensures asks { (d n : ℕ) (w : _) (bs : List ℕ) → ⟦<OrderedMapOf<KC, VC> as Member>⟧.shape.asks d n w bs
         ↔ (PairTakesMemory KC.reading VC.reading d n w bs) }
+    ensures refuses { RefusesAs ⟦<OrderedMapOf<KC, VC> as Member>⟧.shape
+        (RefusesPair KC.reading VC.reading (KC.COST + VC.COST)) }
     ensures need { ⟦<OrderedMapOf<KC, VC> as Member>⟧.shape.need ≡ entry_cost KC.reading VC.reading (KC.COST + VC.COST) }
     ensures records { (n : ℕ) (v : _) → ⟦<OrderedMapOf<KC, VC> as Member>⟧.shape.records n v
         ≡ entry_records KC.writing VC.writing n v }
@@ -278,6 +293,8 @@ where
         ≡ check_wire n WireType.LengthDelimited w }
     ensures asks { (d n : ℕ) (w : _) (bs : List ℕ) → ⟦<OrderedMapOfNested<KC, N> as Member>⟧.shape.asks d n w bs
         ↔ (PairTakesMemory KC.reading (message_reading N.blank_is N.merged N.cost) d n w bs) }
+    ensures refuses { RefusesAs ⟦<OrderedMapOfNested<KC, N> as Member>⟧.shape
+        (RefusesPair KC.reading (message_reading N.blank_is N.merged N.cost) (KC.COST + N.COST)) }
     ensures need { ⟦<OrderedMapOfNested<KC, N> as Member>⟧.shape.need
         ≡ entry_cost KC.reading (message_reading N.blank_is N.merged N.cost) (KC.COST + N.COST) }
     ensures records { (n : ℕ) (v : _) → ⟦<OrderedMapOfNested<KC, N> as Member>⟧.shape.records n v

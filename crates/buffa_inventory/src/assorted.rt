@@ -1,7 +1,7 @@
 //! Bytes and values of an enum: optional ones, lists, maps.
 
 ghost use Rattle.std.proofs.Common.{lit<, refl};
-ghost use Rattle.buffa_fields.specs.Members.{field, keep};
+ghost use Rattle.buffa_fields_base.specs.Members.{field, keep};
 
 use crate::state::State;
 use buffa_fields::fields::Fields;

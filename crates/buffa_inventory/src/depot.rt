@@ -1,7 +1,7 @@
 //! A depot.
 
 ghost use Rattle.std.proofs.Common.{lit<, refl};
-ghost use Rattle.buffa_fields.specs.Members.{field, skip};
+ghost use Rattle.buffa_fields_base.specs.Members.{field, skip};
 
 use crate::parcel::Parcel;
 use buffa_fields::fields::Fields;

@@ -1,7 +1,7 @@
 //! An inventory.
 
 ghost use Rattle.std.proofs.Common.{lit<, refl};
-ghost use Rattle.buffa_fields.specs.Members.{field, keep};
+ghost use Rattle.buffa_fields_base.specs.Members.{field, keep};
 
 use buffa_fields::fields::Fields;
 use buffa_fields::kept::{self, KeptFields};

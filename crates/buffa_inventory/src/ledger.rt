@@ -1,7 +1,7 @@
 //! A ledger, whose maps are written in the order of their keys.
 
 ghost use Rattle.std.proofs.Common.{lit<, refl};
-ghost use Rattle.buffa_fields.specs.Members.{field, keep};
+ghost use Rattle.buffa_fields_base.specs.Members.{field, keep};
 
 use crate::inventory::Inventory;
 use buffa_fields::fields::Fields;

@@ -30,16 +30,17 @@ use Rattle.buffa_map_base.proofs.PutLemmas.{key_or, lookup_entry-put}
 use Rattle.buffa_map_base.proofs.RunLemmas.{run_complete, run_faulty}
 use Rattle.buffa_map_base.proofs.SizeLemmas.{length-field_encoding}
 use Rattle.buffa_map_base.proofs.WalkLemmas.{one_size, permuted}
+use Rattle.buffa_wire.proofs.SequenceLemmas.{heads, tails}
 
 module _ {K V : Type 0} (key : Writing K) (val : Writing V) where
-  abbrev IsShort : K × V → Type 0
+  abbrev pub IsShort : K × V → Type 0
   IsShort p = length (entry_encoding key val p) < 2 ^ 64
 
-  all_short : (l : List (K × V)) → HasEncoding key val l → All IsShort l
+  pub all_short : (l : List (K × V)) → HasEncoding key val l → All IsShort l
   all_short [] h = All-nil IsShort
   all_short (p ∷ ps) h = All-cons IsShort p ps h.0 (all_short ps h.1)
 
-  short_in : (done : List (K × V)) (p : K × V) (rest : List (K × V)) → All IsShort (done ++ p ∷ rest) → IsShort p
+  pub short_in : (done : List (K × V)) (p : K × V) (rest : List (K × V)) → All IsShort (done ++ p ∷ rest) → IsShort p
   short_in [] p rest h = All-head IsShort p rest h
   short_in (x ∷ done) p rest h = short_in done p rest (All-tail IsShort x (done ++ p ∷ rest) h)
 
@@ -49,20 +50,14 @@ module _ {K V : Type 0} (key : Writing K) (val : Writing V) where
       let few : length (entry_encoding key val p) < 2 ^ 64 = short_in done p rest (subst (All IsShort) is (turn all)) in
       absurd (omega (arith, few, long))
 
-  head_of : {A : Type 0} {x y : A} {xs ys : List A} → (x ∷ xs) ≡ (y ∷ ys) → x ≡ y
-  head_of h = cc
-
-  tail_of : {A : Type 0} {x y : A} {xs ys : List A} → (x ∷ xs) ≡ (y ∷ ys) → xs ≡ ys
-  tail_of h = cc
-
   first_long : (done more : List (K × V)) (p q : K × V) (rest tail : List (K × V)) → done ++ p ∷ rest ≡ more ++ q ∷ tail → HasEncoding key val done → HasEncoding key val more →
       2 ^ 64 ≤ length (entry_encoding key val p) → 2 ^ 64 ≤ length (entry_encoding key val q) → done ≡ more
   first_long [] [] p q rest tail e h k a b = refl
-  first_long [] (y ∷ more) p q rest tail e h k a b = absurd (omega (arith, a, k.0, ap (λ z. length (entry_encoding key val z)) (head_of e)))
-  first_long (x ∷ done) [] p q rest tail e h k a b = absurd (omega (arith, b, h.0, ap (λ z. length (entry_encoding key val z)) (head_of e)))
+  first_long [] (y ∷ more) p q rest tail e h k a b = absurd (omega (arith, a, k.0, ap (λ z. length (entry_encoding key val z)) (heads e)))
+  first_long (x ∷ done) [] p q rest tail e h k a b = absurd (omega (arith, b, h.0, ap (λ z. length (entry_encoding key val z)) (heads e)))
   first_long (x ∷ done) (y ∷ more) p q rest tail e h k a b =
-      let first = head_of e in
-      let others = first_long done more p q rest tail (tail_of e) h.1 k.1 a b in
+      let first = heads e in
+      let others = first_long done more p q rest tail (tails e) h.1 k.1 a b in
       (λ i. first i ∷ others i)
 
   one_refusal : (n : ℕ) (old a b : List ℕ) (l : List (K × V)) → RefusesField key val n old a l MessageTooLarge → RefusesField key val n old b l MessageTooLarge → a ≡ b

@@ -1,7 +1,7 @@
 -- What a call of a reader, or of a writer, did: from what it was passed to what it left. Words of rewrites that are refused;
 -- the others are handed on.
 use Rattle.std.specs.Prelude.{ℕ, List}
-use Rattle.buffa_wire.specs.BudgetLeft.{BudgetLeft, budget_left}
+use Rattle.buffa_wire.specs.BudgetLeft.{budget_left}
 use Rattle.buffa_wire.specs.declared.context.DecodeContext.{DecodeContext}
 use Rattle.buffa_map.specs.Rewrite.{MatchRefusal, RefusesBytes, RefusesOutput}
 use Rattle.buffa_map.specs.declared.rewrite.RewriteError.{RewriteError}

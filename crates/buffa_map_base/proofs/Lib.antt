@@ -11,3 +11,4 @@ pub mod RunLemmas
 pub mod SizeLemmas
 pub mod WalkLemmas
 pub mod OrderedLemmas
+pub mod SortedLemmas

@@ -1,6 +1,6 @@
 -- Map entries: a join of fields, of which those of number 1 are the key and those of number 2 the value.
 -- Source: the protobuf encoding guide, "Maps".
-use Rattle.std.specs.Prelude.{◌≡◌, ◌≢◌, ℕ, ◌+◌, ◌<◌, ◌≤◌, ◌==◌, Bool, false, true, List, [], ◌∷◌, ◌++◌, length, ◌⊎◌, if◌then◌else◌, Result, Ok}
+use Rattle.std.specs.Prelude.{◌≡◌, ◌≢◌, ℕ, ◌+◌, ◌<◌, ◌≤◌, ◌==◌, Bool, false, true, List, [], ◌++◌, length, ◌⊎◌, if◌then◌else◌, Result, Ok}
 use Rattle.buffa_bytes.specs.Gives.{◌>>=◌}
 use Rattle.buffa_bytes.specs.Varint.{IsVarint}
 use Rattle.buffa_bytes.specs.Field.{IsTag, Field, TakesTag, TagFault, LengthFault, PayloadFault}

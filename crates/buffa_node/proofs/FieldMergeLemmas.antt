@@ -28,7 +28,7 @@ use Rattle.buffa_map.specs.Run.{step, undeclared_record}
 use Rattle.buffa_map.specs.ScalarLaws.{never_faulty, string_no_limit}
 use Rattle.buffa_map.specs.declared.map_entry.MapEntry.{MapEntry}
 use Rattle.buffa_wire.specs.Kept.{keep_need}
-use Rattle.buffa_fields.specs.Keep.{keep_takes}
+use Rattle.buffa_fields_base.specs.Keep.{keep_takes}
 use Rattle.buffa_wire.specs.Takes.{IsTaken}
 use Rattle.buffa_wire.proofs.ByPayloadLemmas.{merges_taken}
 use Rattle.buffa_fields.proofs.OrderedLemmas.{is_put, sorted_means}

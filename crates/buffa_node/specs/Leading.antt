@@ -5,9 +5,7 @@ use Rattle.std.specs.Cmp.{IsTotalOrder}
 use Rattle.std.specs.List.{AllByRecursion}
 use Rattle.std.specs.List.Sorted.{IsStrictlySortedBy}
 use Rattle.std.specs.Map.{keys_of}
-use Rattle.std.specs.Ordering.{match_ordering, ordering_reverse}
 use Rattle.std.specs.declared.cmp.Ordering.{Ordering}
-use Rattle.std.specs.declared.cmp.Ordering.TheVariants.{Less, Greater}
 use Rattle.buffa_bytes.proofs.DelimitedLemmas.{delimited_back}
 use Rattle.buffa_bytes.proofs.VarintLemmas.{IsVarint-varint_encoding}
 use Rattle.buffa_bytes.specs.declared.wire_type.WireType.TheVariants.{LengthDelimited}
@@ -44,11 +42,6 @@ read_entry key val does d n v e s short h =
     let alone : delimited_at (delimited_encoding e) ≡ Ok (e, []) = ap delimited_at (sym (append-nil (delimited_encoding e))) ∙ delimited_back e [] short in
     rw (alone, entry_complete key val d e s h) refl
 
--- each pair is P
-abbrev pub Each : {A : Type 0} → (A → Type 0) → List A → Type 0
-Each P [] = Unit {0}
-Each P (x ∷ xs) = P x × Each P xs
-
 -- the record of a pair
 abbrev pub piece : {A : Type 0} → ℕ → (A → List ℕ) → A → Piece
 piece n entry p = record { tag = tag_encoding n LengthDelimited; number = n; wire = LengthDelimited; payload = delimited_encoding (entry p) }
@@ -59,7 +52,7 @@ module _ {K V X : Type 0} {cmp : K → K → Ordering} (o : IsTotalOrder cmp) (T
   abbrev pub IsPut : K × V → Type 0
   IsPut p = (length (entry p) < 2 ^ 64) × ((done : List (K × V)) → T d (set done) n LengthDelimited (delimited_encoding (entry p)) ≡ Some (set (insert_entry cmp done p.0 p.1)))
 
-  pub entries_lead : (done l : List (K × V)) → Each IsPut l → IsStrictlySortedBy cmp (keys_of (done ++ l)) → Leads T any d (set done) (map (piece n entry) l) (set (done ++ l))
+  pub entries_lead : (done l : List (K × V)) → AllByRecursion IsPut l → IsStrictlySortedBy cmp (keys_of (done ++ l)) → Leads T any d (set done) (map (piece n entry) l) (set (done ++ l))
   entries_lead done [] h s = ap set (sym (append-nil done))
   entries_lead done (p ∷ ps) h s =
       let all : (done ++ p ∷ []) ++ ps ≡ done ++ p ∷ ps = append_assoc done (p ∷ []) ps in (

@@ -1,5 +1,6 @@
 -- The encoding of a node reads back.
 use Rattle.std.proofs.Common.{◌≡◌, inl, inr, ◌==◌, ◌^◌, ◌<◌, ◌≤◌, ℕ, ℤ, zero, suc, pos, FitsSigned, Bool, false, true, List, [], ◌∷◌, ◌++◌, length, length-append, None, Some, Ok, refl, sym, ap, subst, ◌∙◌, arith, append_assoc, append-nil, map, if◌then◌else◌}
+use Rattle.std.specs.List.{AllByRecursion}
 use Rattle.std.proofs.lemmas.Bool.{ne_eqb}
 use Rattle.std.specs.Cmp.{int_cmp_total}
 use Rattle.std.specs.Cmp.Lexicographic.{nat_list_cmp_total}
@@ -33,15 +34,15 @@ use Rattle.buffa_map.specs.Scalars.{IsText, delimited_writing}
 use Rattle.buffa_map.specs.Encoding.{AllHold, HasEncoding, entry_encoding, field_encoding, record_encoding}
 use Rattle.buffa_fields.specs.MapFields.{map_records}
 use Rattle.buffa_fields.specs.MapLaws.{map_has_encoding}
-use Rattle.buffa_fields.specs.PairLaws.{fits_both}
-use Rattle.buffa_fields.specs.Keep.{keep_takes, record_in}
+use Rattle.buffa_fields_base.specs.PairLaws.{fits_both}
+use Rattle.buffa_fields_base.specs.Keep.{keep_takes, record_in}
 use Rattle.buffa_wire.specs.Takes.{Leads, Piece, Taker, joined, merged_of}
 use Rattle.buffa_wire.proofs.TakesLemmas.{back as leads_back}
 use Rattle.buffa_wire.proofs.KeepLemmas.{all_fields}
 use Rattle.buffa_wire.proofs.JoinLemmas.{payload_of_record}
 use Rattle.buffa_node.specs.Branch.{Branch, Kept, Kids, Scores, Shades, bare, branch, kid, kids, kids-listed, kept_of, kids_of, listed, listed-kids, no_kids, scores_of, shade_numbers, shades_of}
 use Rattle.buffa_node.specs.Entries.{entry_taken, put_in}
-use Rattle.buffa_node.specs.Leading.{Each, IsPut, any, entries_lead, joined_both, leads_both, piece, read_entry}
+use Rattle.buffa_node.specs.Leading.{IsPut, any, entries_lead, joined_both, leads_both, piece, read_entry}
 use Rattle.buffa_node.specs.Nesting.{undeclared_at}
 use Rattle.buffa_node.specs.NodeMeaning.{ChildMeaning, children, children_take, merged, node_takes, numbers, shades, shades_take, text_cmp, texts}
 use Rattle.buffa_node.specs.NodeEncoding.{AreKept, AreNormal, IsKept, IsNormal, IsUndeclared, entry_levels, kept_levels, kept_under, kid_entry, kid_record, kids_records, kids_encoding, levels, levels_below, number_writing, records, scores_encoding, shades_encoding, encoding, text_writing}
@@ -148,7 +149,7 @@ module _ (d : ℕ) (m : ChildMeaning) where
         (entry_back texts numbers text_writing number_writing refl refl d IsText (FitsSigned w32) text_back number_back p key value)),
   )
 
-  scores_put : (l : Scores) → AllHold IsText (FitsSigned w32) l → HasEncoding text_writing number_writing l → Each ScorePut l
+  scores_put : (l : Scores) → AllHold IsText (FitsSigned w32) l → HasEncoding text_writing number_writing l → AllByRecursion ScorePut l
   scores_put [] h k = tt
   scores_put (p ∷ ps) h k = (score_put p h.0 h.1 k.0, scores_put ps h.2 k.1)
 
@@ -179,7 +180,7 @@ module _ (d : ℕ) (m : ChildMeaning) where
           (entry_back numbers (children m (λ _. nothing)) number_writing (delimited_writing encoding) refl refl d (FitsSigned w32) (IsReadBack (children m (λ _. nothing)) (delimited_writing encoding) d) number_back (λ v h. h) (k, t) key value)),
     )
 
-    kids_put : (ks : Kids) → AreRead ks → Each KidPut (listed ks)
+    kids_put : (ks : Kids) → AreRead ks → AllByRecursion KidPut (listed ks)
     kids_put no_kids h = tt
     kids_put (kid k t ks) h = (kid_put k t h.0, kids_put ks h.1)
 
@@ -201,7 +202,7 @@ module _ (d : ℕ) (m : ChildMeaning) where
             (entry_back numbers shades number_writing closed_writing refl refl d (FitsSigned w32) (ClosedFits shade_numbers) number_back shade_back p key value)),
       )
 
-      shades_put : (l : Shades) → AllHold (FitsSigned w32) (ClosedFits shade_numbers) l → HasEncoding number_writing closed_writing l → Each ShadePut l
+      shades_put : (l : Shades) → AllHold (FitsSigned w32) (ClosedFits shade_numbers) l → HasEncoding number_writing closed_writing l → AllByRecursion ShadePut l
       shades_put [] h k = tt
       shades_put (p ∷ ps) h k = (shade_put p h.0 h.1 k.0, shades_put ps h.2 k.1)
 

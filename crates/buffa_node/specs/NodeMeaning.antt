@@ -16,7 +16,7 @@ use Rattle.buffa_map.specs.Message.{message_reading}
 use Rattle.buffa_map.specs.Run.{undeclared_record}
 use Rattle.buffa_map.specs.Scalars.{number_reading, string_reading}
 use Rattle.buffa_wire.specs.Kept.{keep_need}
-use Rattle.buffa_fields.specs.Keep.{keep_takes}
+use Rattle.buffa_fields_base.specs.Keep.{keep_takes}
 use Rattle.buffa_wire.specs.Takes.{Need, Taker, cost_of, merged_of}
 use Rattle.buffa_node.specs.Branch.{Branch, Kept, Scores, Shades, bare, branch, kids, listed, shade_numbers}
 use Rattle.buffa_node.specs.Entries.{entry_cost, entry_taken, put_in}

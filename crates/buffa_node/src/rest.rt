@@ -2,7 +2,7 @@
 
 ghost use Rattle.std.specs.Prelude.{◌≡◌, OnErr};
 ghost use Rattle.buffa_wire.specs.Kept.{keep_need};
-ghost use Rattle.buffa_fields.specs.Keep.{keep_takes};
+ghost use Rattle.buffa_fields_base.specs.Keep.{keep_takes};
 ghost use Rattle.buffa_wire.specs.Takes.{IsTaken};
 
 use buffa_fields::kept;
@@ -10,7 +10,7 @@ use buffa_wire::{Budget, DecodeContext, DecodeError, Tag, UnknownFields};
 use std::alloc::Global;
 
 // Keeps the field whose tag was read, behind the others. What is refused spends nothing, and leaves the list as it was.
-#[tactic(auto, unfolding(buffa_fields::specs::Layout::Kept))]
+#[tactic(auto, unfolding(buffa_fields_base::specs::Layout::Kept))]
 pub(crate) fn keep_field(
     alloc: Global,
     fields: &mut UnknownFields,

@@ -1,5 +1,5 @@
 -- What a judgement leaves open: nothing.
-use Rattle.std.specs.Prelude.{◌≡◌, ◌⊎◌, ℤ, Option}
+use Rattle.std.specs.Prelude.{◌≡◌, ◌↔◌, ◌⊎◌, ℤ, Bool, true, Option}
 use Rattle.buffa_options.specs.Rules.{Accepts, Breaks}
 use Rattle.buffa_options.specs.declared.rules.Rules.{Rules}
 use Rattle.buffa_options.specs.declared.rules.Violation.{Violation}
@@ -15,3 +15,7 @@ NotBoth = (rules : Rules) (o : Option ℤ) (v : Violation) → Accepts rules o �
 -- the rule that is told is one
 abbrev pub OneViolation : Type 0
 OneViolation = (rules : Rules) (o : Option ℤ) (v w : Violation) → Breaks rules o v → Breaks rules o w → v ≡ w
+
+-- values are equal where they mean the same
+abbrev pub EqualByMeaning : {A M : Type 0} → (A → A → Bool) → (A → M) → Type 0
+EqualByMeaning {A} same meaning = (a b : A) → (same a b ≡ true) ↔ (meaning a ≡ meaning b)

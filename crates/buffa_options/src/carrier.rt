@@ -1,10 +1,17 @@
 //! A message that is nothing but its unknown fields.
 
+ghost use Rattle.std.proofs.Common.{lit<};
 ghost use Rattle.std.specs.Prelude.{codes, refl};
 ghost use Rattle.buffa_wire.specs.Records.{Held};
+ghost use Rattle.buffa_fields_base.specs.Members.{keep};
 
 use buffa_ext::ExtensionSet;
-use buffa_wire::UnknownFields;
+use buffa_fields_base::fields::Fields;
+use buffa_fields_base::kept::{self, KeptFields};
+use buffa_fields_base::message::{Listed, Listing};
+use buffa_fields_base::visitor::Visitor;
+use buffa_wire::{Blank, DecodeContext, DecodeError, Formed, Tag, UnknownFields};
+use std::alloc::Global;
 
 /// A list of records, which lends itself to extensions of `test.Carrier`.
 ///
@@ -17,6 +24,58 @@ use buffa_wire::UnknownFields;
 pub struct Carrier {
     /// The records, in order.
     pub fields: UnknownFields,
+}
+
+impl Fields for Carrier {
+    type Meaning = KeptFields;
+
+    const COST: usize = 24;
+
+    ghost COST = { 24 };
+
+    ghost positive = { lit< tt };
+
+    ghost layout = { keep (λ m. m.fields.records) };
+
+    ghost sound = { refl };
+
+    fn visit<V: Visitor>(&self, visitor: &mut V) {
+        visitor.visit_kept(&self.fields);
+    }
+
+    fn take(
+        &mut self,
+        alloc: Global,
+        tag: Tag,
+        buf: &mut &[u8],
+        ctx: DecodeContext<'_>,
+    ) -> Result<(), DecodeError> {
+        kept::keep(alloc, &mut self.fields, tag, buf, ctx)
+    }
+}
+
+impl Blank for Carrier {
+    type Meaning = <Carrier as Fields>::Meaning;
+
+    ghost meaning = { ⟦<Carrier as Fields>⟧.layout.meaning };
+
+    ghost blank_is = { ⟦<Carrier as Fields>⟧.layout.blank };
+
+    fn blank(alloc: Global) -> Carrier {
+        Carrier {
+            fields: UnknownFields::new(alloc),
+        }
+    }
+}
+
+impl Listing for Carrier {
+    ghost means = { λ m. refl };
+
+    ghost starts = { refl };
+}
+
+impl Formed for Carrier {
+    type Form = Listed;
 }
 
 impl ExtensionSet for Carrier {

@@ -12,7 +12,7 @@ ghost use Rattle.buffa_wire.specs.Found.{varint_in};
 ghost use Rattle.buffa_wire.specs.Records.{Datum, Held, varint};
 ghost use Rattle.buffa_codec.specs.Packed.{numbers_in};
 ghost use Rattle.buffa_codec.specs.Decoded.{last_read};
-ghost use Rattle.buffa_options.specs.Pinned.{IsJudged, OneViolation, NotBoth};
+ghost use Rattle.buffa_options.specs.Pinned.{EqualByMeaning, IsJudged, OneViolation, NotBoth};
 ghost use Rattle.buffa_options.specs.declared.carrier.Carrier.{Carrier};
 ghost use Rattle.buffa_options.specs.declared.options.FieldOptions.{FieldOptions};
 ghost use Rattle.buffa_options.specs.declared.price.Price.{Price};
@@ -82,6 +82,12 @@ pub fn holders_are_these()
         (⟦<FieldOptions as ExtensionSet>⟧.with_fields m w).deprecated ≡ m.deprecated }
     ensures carrier { ⟦<Carrier as ExtensionSet>⟧.fqn ≡ codes "test.Carrier" }
     ensures records { (m : Carrier) → ⟦<Carrier as ExtensionSet>⟧.fields_of m ≡ m.fields }
+{}
+
+/// Options are equal where they mean the same: the declared one, and the records of the others in order. Nothing is
+/// left open.
+pub fn options_are_equal_by_meaning()
+    ensures equal { EqualByMeaning ⟦<FieldOptions as PartialEq>⟧.eq ⟦<FieldOptions as Blank>⟧.meaning }
 {}
 
 /// The constant `PROTO_FQN` of each of these is that name, too. Nothing is left open.

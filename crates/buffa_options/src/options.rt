@@ -1,29 +1,96 @@
 //! The custom options of a field, read of the unknown fields of its options.
 
 ghost use Rattle.std.specs.Prelude.{◌≡◌, ◌≢◌, [], codes, refl, pos, unwrap_or};
+ghost use Rattle.std.proofs.Common.{lit<};
 ghost use Rattle.std.specs.Prelude.{IfOk, IsOk, OnErr, option_map, string_bytes};
 ghost use Rattle.buffa_wire.specs.Records.{Held};
 ghost use Rattle.buffa_codec.specs.Decoded.{HasByte};
+ghost use Rattle.buffa_fields_base.specs.Members.{field, keep};
 ghost use Rattle.buffa_options.specs.Options.{bool_option, int32_list, int32_option, string_option};
 
 use buffa_codec::{Repeated, StringCodec};
 use buffa_ext::{Extension, ExtensionSet};
-use buffa_wire::UnknownFields;
+use buffa_fields_base::fields::Fields;
+use buffa_fields_base::kept::{self, KeptFields};
+use buffa_fields_base::member::Member;
+use buffa_fields_base::message::{Listed, Listing};
+use buffa_fields_base::optional::Optional;
+use buffa_fields_base::visitor::Visitor;
 use buffa_wire::scalars::{Bool, Int32};
+use buffa_wire::{Blank, DecodeContext, DecodeError, Formed, Tag, UnknownFields};
 use std::alloc::{AllocError, Global};
 
 /// The options of a field, as `google.protobuf.FieldOptions` has them: one that is declared, and the records
 /// of all others, custom options among them.
 ///
+/// message FieldOptions { optional bool deprecated = 3; extensions 1000 to max; }
+///
 /// ```ignore
 /// impl ExtensionSet for FieldOptions { .. }
 /// ```
-#[derive(Drop)]
+#[derive(Drop, PartialEq)]
 pub struct FieldOptions {
     /// Whether the field is deprecated.
-    pub deprecated: bool,
+    pub deprecated: Option<bool>,
     /// The records of the other options, in order.
     pub fields: UnknownFields,
+}
+
+impl Fields for FieldOptions {
+    type Meaning = (Option<bool>, KeptFields);
+
+    const COST: usize = 32;
+
+    ghost COST = { 32 };
+
+    ghost positive = { lit< tt };
+
+    ghost layout = { field 3 (λ m. m.deprecated) ⟦<Optional<Bool> as Member>⟧.shape (keep (λ m. m.fields.records)) };
+
+    ghost sound = { refl };
+
+    fn visit<V: Visitor>(&self, visitor: &mut V) {
+        visitor.visit::<Optional<Bool>>(3, &self.deprecated);
+        visitor.visit_kept(&self.fields);
+    }
+
+    fn take(
+        &mut self,
+        alloc: Global,
+        tag: Tag,
+        buf: &mut &[u8],
+        ctx: DecodeContext<'_>,
+    ) -> Result<(), DecodeError> {
+        match tag.field_number() {
+            3 => Optional::<Bool>::merge(&mut self.deprecated, alloc, tag, buf, ctx),
+            _ => kept::keep(alloc, &mut self.fields, tag, buf, ctx),
+        }
+    }
+}
+
+impl Blank for FieldOptions {
+    type Meaning = <FieldOptions as Fields>::Meaning;
+
+    ghost meaning = { ⟦<FieldOptions as Fields>⟧.layout.meaning };
+
+    ghost blank_is = { ⟦<FieldOptions as Fields>⟧.layout.blank };
+
+    fn blank(alloc: Global) -> FieldOptions {
+        FieldOptions {
+            deprecated: None,
+            fields: UnknownFields::new(alloc),
+        }
+    }
+}
+
+impl Listing for FieldOptions {
+    ghost means = { λ m. refl };
+
+    ghost starts = { refl };
+}
+
+impl Formed for FieldOptions {
+    type Form = Listed;
 }
 
 impl ExtensionSet for FieldOptions {

@@ -15,7 +15,7 @@ use std::test::Fail;
 fn options_of(alloc: Global, bytes: &[u8]) -> Result<FieldOptions, Fail> {
     let fields = UnknownFields::decode_from_slice(alloc, bytes)?;
     Ok(FieldOptions {
-        deprecated: false,
+        deprecated: None,
         fields,
     })
 }

@@ -16,12 +16,12 @@ use Rattle.buffa_bytes.proofs.VarintLemmas.{varint_complete}
 use Rattle.buffa_wire.proofs.SequenceLemmas.{err_same}
 use Rattle.buffa_wire.specs.BudgetLeft.{BudgetLeft, nothing}
 use Rattle.buffa_wire.specs.Records.{varint}
-use Rattle.buffa_fields.specs.KindLaws.{is_zero}
-use Rattle.buffa_fields.specs.MemberRecords.{plain_records}
+use Rattle.buffa_fields_base.specs.KindLaws.{is_zero}
+use Rattle.buffa_fields_base.specs.MemberRecords.{plain_records}
 use Rattle.buffa_wire.specs.Takes.{IsTaken, cost_of, costs_nothing}
-use Rattle.buffa_fields.specs.Layout.{Choice, both_need}
+use Rattle.buffa_fields_base.specs.Layout.{Choice, both_need}
 use Rattle.buffa_wire.proofs.TakesLemmas.{cost_of_free}
-use Rattle.buffa_fields.specs.Values.{RefusesAlone, ValueTakesMemory, free, value_taken}
+use Rattle.buffa_fields_base.specs.Values.{RefusesAlone, ValueTakesMemory, free, value_taken}
 use Rattle.buffa_samples.specs.Fields.{int32_field, number_records}
 use Rattle.buffa_samples.specs.Numbers.{IsReadAlone, int32_reading}
 

@@ -1,9 +1,8 @@
 -- A map's way through its bytes has one answer.
-use Rattle.std.proofs.Common.{◌≡◌, ℕ, ◌^◌, ◌*◌, ◌<◌, ◌≤◌, Bool, List, [], ◌∷◌, ◌++◌, length, ap, refl, subst, sym, ◌∙◌, arith}
+use Rattle.std.proofs.Common.{◌≡◌, ℕ, ◌^◌, ◌*◌, ◌<◌, ◌≤◌, Bool, List, ◌∷◌, ◌++◌, length, ap, refl, subst, sym, ◌∙◌, arith}
 use Rattle.std.specs.Cmp.{IsEquivalence}
 use Rattle.std.specs.List.{All}
 use Rattle.std.specs.List.Sorted.{IsPermutation}
-use Rattle.std.proofs.lemmas.List.Elements.{All-cons, All-head, All-nil, All-tail}
 use Rattle.std.proofs.lemmas.List.Sorted.{All-permutation, length_permutation}
 use Rattle.buffa_bytes.specs.declared.error.DecodeError.TheVariants as decode
 use Rattle.buffa_bytes.specs.declared.error.EncodeError.TheVariants as encode
@@ -15,23 +14,13 @@ use Rattle.buffa_samples.specs.Pinned.{IsFull, TripIsPinned}
 use Rattle.buffa_samples.specs.RoundTrip.{RefusesPairs}
 use Rattle.buffa_samples.specs.declared.round_trip.TripFault.{TripFault}
 use Rattle.buffa_samples.specs.declared.round_trip.TripFault.TheVariants.{Decode, Encode}
+use Rattle.buffa_map.proofs.PinEncodingLemmas.{IsShort, all_short, short_in}
 
 module _ {K V : Type 0} (key : Writing K) (val : Writing V) where
-  abbrev IsShort : K × V → Type 0
-  IsShort p = length (entry_encoding key val p) < 2 ^ 64
-
-  all_short : (l : List (K × V)) → HasEncoding key val l → All IsShort l
-  all_short [] h = All-nil IsShort
-  all_short (p ∷ ps) h = All-cons IsShort p ps h.0 (all_short ps h.1)
-
-  short_in : (done : List (K × V)) (p : K × V) (rest : List (K × V)) → All IsShort (done ++ p ∷ rest) → IsShort p
-  short_in [] p rest h = All-head IsShort p rest h
-  short_in (x ∷ done) p rest h = short_in done p rest (All-tail IsShort x (done ++ p ∷ rest) h)
-
   -- what has an encoding has no entry that is too long, in whatever order
   pub no_long : (l m done : List (K × V)) (p : K × V) (rest : List (K × V)) → HasEncoding key val l → IsPermutation l m → m ≡ done ++ p ∷ rest → 2 ^ 64 ≤ length (entry_encoding key val p) → ⊥
   no_long l m done p rest has turn is long =
-      let few : length (entry_encoding key val p) < 2 ^ 64 = short_in done p rest (subst (All IsShort) is (All-permutation IsShort l m turn (all_short l has))) in
+      let few : length (entry_encoding key val p) < 2 ^ 64 = short_in key val done p rest (subst (All (IsShort key val)) is (All-permutation (IsShort key val) l m turn (all_short key val l has))) in
       absurd (omega (arith, few, long))
 
   module _ {eq : K → K → Bool} (laws : IsEquivalence eq) (cost : ℕ) (m : List (K × V)) (Walk : List (K × V) → Type 0) where

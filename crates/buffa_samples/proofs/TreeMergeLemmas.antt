@@ -23,7 +23,7 @@ use Rattle.buffa_map.specs.Pairs.{SamePairs, put}
 use Rattle.buffa_wire.specs.Sequence.{ParsesEach}
 use Rattle.buffa_map.specs.Run.{step}
 use Rattle.buffa_map.specs.declared.map_entry.MapEntry.{MapEntry}
-use Rattle.buffa_fields.proofs.SortedLemmas.{same_sorted, sorted_put}
+use Rattle.buffa_map_base.proofs.SortedLemmas.{same_sorted, sorted_put}
 use Rattle.buffa_samples.specs.Grown.{Grown, grown, no_kids}
 use Rattle.buffa_samples.specs.TreeLaws.{entry_no_limit}
 use Rattle.buffa_samples.specs.TreeMeaning.{ChildCost, ChildMeaning, IsChildMerged, child_at, child_reading, cost, entry_need, key_reading, merged}

@@ -26,7 +26,7 @@ use Rattle.buffa_bytes.specs.Values.{int32_at, int32_of}
 use Rattle.buffa_map.proofs.EntryLemmas.{check_sound, entry_sound}
 use Rattle.buffa_map.specs.Entry.{IsEntry, IsEntryField, blanks}
 use Rattle.buffa_map.specs.declared.map_entry.MapEntry.{MapEntry}
-use Rattle.buffa_fields.proofs.SortedLemmas.{sorted_put}
+use Rattle.buffa_map_base.proofs.SortedLemmas.{sorted_put}
 use Rattle.buffa_samples.specs.Fields.{int32_field, skipped_field}
 use Rattle.buffa_samples.specs.FieldsLaws.{Keeps, merged_keeps}
 use Rattle.buffa_samples.specs.Grown.{Grown, grown, kids, kids-listed, listed, listed-kids, no_kids}

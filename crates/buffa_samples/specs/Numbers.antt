@@ -12,8 +12,8 @@ use Rattle.buffa_map.specs.Codec.{Reading}
 use Rattle.buffa_map.specs.Scalars.{number_reading}
 use Rattle.buffa_wire.specs.Message.{FieldTaken}
 use Rattle.buffa_wire.specs.Takes.{Taker}
-use Rattle.buffa_fields.specs.Layout.{both_take, passes}
-use Rattle.buffa_fields.specs.Values.{value_taken}
+use Rattle.buffa_fields_base.specs.Layout.{both_take, passes}
+use Rattle.buffa_fields_base.specs.Values.{value_taken}
 use Rattle.buffa_samples.specs.Fields.{int32_field, skipped_field}
 
 abbrev pub int32_reading : Reading ℤ

@@ -1,12 +1,12 @@
 //! A message that keeps every field.
 
 ghost use Rattle.std.proofs.Common.{lit<, refl};
-ghost use Rattle.buffa_fields.specs.Members.{keep};
+ghost use Rattle.buffa_fields_base.specs.Members.{keep};
 
-use buffa_fields::fields::Fields;
-use buffa_fields::kept::{self, KeptFields};
-use buffa_fields::message::{Listed, Listing};
-use buffa_fields::visitor::Visitor;
+use buffa_fields_base::fields::Fields;
+use buffa_fields_base::kept::{self, KeptFields};
+use buffa_fields_base::message::{Listed, Listing};
+use buffa_fields_base::visitor::Visitor;
 use buffa_wire::{Blank, DecodeContext, DecodeError, Formed, Tag, UnknownFields};
 use std::alloc::Global;
 

@@ -1,14 +1,14 @@
 //! A message of two int32.
 
 ghost use Rattle.std.proofs.Common.{lit<, refl};
-ghost use Rattle.buffa_fields.specs.Members.{field, skip};
+ghost use Rattle.buffa_fields_base.specs.Members.{field, skip};
 
-use buffa_fields::fields::Fields;
-use buffa_fields::kept;
-use buffa_fields::member::Member;
-use buffa_fields::message::{Listed, Listing};
-use buffa_fields::plain::Plain;
-use buffa_fields::visitor::Visitor;
+use buffa_fields_base::fields::Fields;
+use buffa_fields_base::kept;
+use buffa_fields_base::member::Member;
+use buffa_fields_base::message::{Listed, Listing};
+use buffa_fields_base::plain::Plain;
+use buffa_fields_base::visitor::Visitor;
 use buffa_map::map_codec::Int32;
 use buffa_wire::{Blank, DecodeContext, DecodeError, Formed, Tag};
 use std::alloc::Global;

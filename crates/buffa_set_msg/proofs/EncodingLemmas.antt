@@ -5,11 +5,12 @@ use Rattle.std.proofs.lemmas.List.{take-append-drop}
 use Rattle.buffa_bytes.proofs.SinkLemmas.{front_first, front_second}
 use Rattle.buffa_bytes.specs.Written.{WritesFront}
 use Rattle.buffa_wire.specs.Records.{Datum}
-use Rattle.buffa_wire.specs.View.{datum_of, record_of, records_in}
+use Rattle.buffa_wire.specs.View.{datum_of, records_in}
 use Rattle.buffa_wire.specs.declared.unknown_fields.UnknownField.{UnknownField}
 use Rattle.buffa_bytes.proofs.ShortestLemmas.{ten_at_most}
 use Rattle.buffa_message_set.specs.Item.{item_size}
 use Rattle.buffa_set_msg.specs.Set.{is_type_id, record_encoding, set_encoding}
+use Rattle.buffa_wire.proofs.EncodingLemmas.{records_in-append}
 
 -- ---- a record
 pub type_id_small : (n : ℕ) → is_type_id n ≡ true → n < 2 ^ 31
@@ -44,10 +45,6 @@ set_len_more xs i f d total n next h e p q r = omega (arith, ap length (set_more
 set_encoding-append : (rs qs : List (ℕ × Datum)) → set_encoding (rs ++ qs) ≡ set_encoding rs ++ set_encoding qs
 set_encoding-append [] qs = refl
 set_encoding-append (r ∷ rs) qs = ap (λ z. record_encoding r.0 r.1 ++ z) (set_encoding-append rs qs) ∙ sym (append_assoc (record_encoding r.0 r.1) (set_encoding rs) (set_encoding qs))
-
-records_in-append : (xs ys : List UnknownField) → records_in (xs ++ ys) ≡ records_in xs ++ records_in ys
-records_in-append [] ys = refl
-records_in-append (x ∷ xs) ys = ap (λ z. record_of x ∷ z) (records_in-append xs ys)
 
 -- the encoding of all records: of those before, of one, and of those after
 set_parts : (xs : List UnknownField) (i : ℕ) (f d : UnknownField) → i < length xs → f ≡ get_or xs i d →

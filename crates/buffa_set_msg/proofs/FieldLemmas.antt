@@ -18,8 +18,8 @@ use Rattle.buffa_message_set.proofs.ItemLemmas.{both_true, read_sound}
 use Rattle.buffa_message_set.proofs.GroupLemmas.{item_no_limit}
 use Rattle.buffa_wire.proofs.CostLemmas.{paid}
 use Rattle.buffa_wire.specs.ByField.{value_of}
-use Rattle.buffa_fields.specs.Keep.{keep_takes}
-use Rattle.buffa_fields.specs.KeepLaws.{keep_ok, none_there}
+use Rattle.buffa_fields_base.specs.Keep.{keep_takes}
+use Rattle.buffa_fields_base.specs.KeepLaws.{keep_ok, none_there}
 use Rattle.buffa_wire.specs.Takes.{answer, framed}
 use Rattle.buffa_wire.proofs.TakesLemmas.{framed_at, framed_err}
 use Rattle.buffa_wire.proofs.LoopLemmas.{field_end}

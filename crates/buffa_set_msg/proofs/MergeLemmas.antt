@@ -5,7 +5,7 @@ use Rattle.buffa_bytes.proofs.FieldLemmas.{tag_some, tag_sound}
 use Rattle.buffa_bytes.proofs.StepLemmas.{agree_ok}
 use Rattle.buffa_bytes.specs.Field.{SomeField, TakesTag}
 use Rattle.buffa_bytes.specs.Join.{Join}
-use Rattle.buffa_bytes.specs.Join.Join.{none, more}
+use Rattle.buffa_bytes.specs.Join.Join.{none}
 use Rattle.buffa_bytes.specs.Front.{skip_at, tag_at}
 use Rattle.buffa_bytes.specs.declared.wire_type.WireType.{WireType}
 use Rattle.buffa_bytes.specs.declared.wire_type.WireType.TheVariants.{EndGroup}
@@ -15,7 +15,7 @@ use Rattle.buffa_wire.proofs.MessageLemmas.{join_more}
 use Rattle.buffa_wire.proofs.ByPayloadLemmas.{ByPayload, by_payload, cost_empty, cost_join, merged_empty, merged_join, untagged}
 use Rattle.buffa_wire.proofs.TakesLemmas.{cost_by_is, merged_by_is}
 use Rattle.buffa_wire.specs.Takes.{taken_by}
-use Rattle.buffa_wire.specs.BudgetLeft.{BudgetLeft, Lacks, Pays, PaysAtMost, need_by, nothing, plus}
+use Rattle.buffa_wire.specs.BudgetLeft.{BudgetLeft, Lacks, Pays, PaysAtMost, need_by, plus}
 use Rattle.buffa_wire.specs.Message.{BeginsField, MergeFault}
 use Rattle.buffa_wire.specs.Records.{Datum}
 use Rattle.buffa_wire.proofs.CostLemmas.{cost_tagged, field_alone}

@@ -18,7 +18,7 @@ use Rattle.buffa_bytes.specs.WireType.{same_wire}
 use Rattle.buffa_message_set.specs.Item.{IsTypeId, item_at, item_in, item_encoding}
 use Rattle.buffa_wire.specs.ByField.{FieldNeed, FieldReader, cost_by, merged_by, value_of}
 use Rattle.buffa_wire.specs.Kept.{keep_need}
-use Rattle.buffa_fields.specs.Keep.{keep_takes}
+use Rattle.buffa_fields_base.specs.Keep.{keep_takes}
 use Rattle.buffa_wire.specs.Takes.{framed}
 
 -- ---- merging

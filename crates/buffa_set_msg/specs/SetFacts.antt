@@ -18,7 +18,7 @@ use Rattle.buffa_message_set.proofs.GroupLemmas.{group_alike, item_group, item_n
 use Rattle.buffa_wire.specs.Takes.{Stays, framed}
 use Rattle.buffa_wire.proofs.TakesLemmas.{framed_same, framed_sound}
 use Rattle.buffa_wire.proofs.ByFieldLemmas.{IsSame, IsSound, Same, empty, read}
-use Rattle.buffa_fields.specs.Keep.{keep_takes}
+use Rattle.buffa_fields_base.specs.Keep.{keep_takes}
 use Rattle.buffa_wire.proofs.KeepLemmas.{keep_stays}
 use Rattle.buffa_set_msg.specs.Set.{AreItems, NestOneDeep, encoded_record, is_type_id, item_field, item_record, record_encoding, set_field, set_levels, set_merged, set_need, set_records, set_encoding, starts}
 

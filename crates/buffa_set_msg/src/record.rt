@@ -10,7 +10,7 @@ ghost use Rattle.buffa_bytes.specs.WireType.{wire_number};
 ghost use Rattle.buffa_bytes.specs.Written.{UsesRoom, Writes};
 ghost use Rattle.buffa_set_msg.specs.Set.{is_type_id, record_of_field, record_encoding, starts};
 
-use buffa_fields::kept::read_alone;
+use buffa_fields_base::kept::read_alone;
 use buffa_message_set::message_set::{item_encoded_len, merge_item, write_item};
 use buffa_wire::{
     Budget, DecodeContext, DecodeError, EncodeError, EncodeSink, Tag, UnknownField,

@@ -16,7 +16,7 @@ ghost use Rattle.buffa_set_msg.specs.SetFacts.{set_back, set_cost_some, set_enco
 
 use crate::record::{read_record, record_len, write_record};
 use buffa_ext::ExtensionSet;
-use buffa_fields::kept::KeptFields;
+use buffa_fields_base::kept::KeptFields;
 use buffa_wire::{
     Blank, Budget, Buf, DecodeContext, DecodeError, EncodeError, EncodeSink, Message, MessageSpec,
     SizeCache, Tag, UnknownFields,

@@ -1,5 +1,5 @@
 -- The encoding of records, one after another.
-use Rattle.std.proofs.Common.{◌≡◌, ℕ, suc, zero, ◌+◌, ◌*◌, ◌<◌, ◌≤◌, ◌^◌, min, Bool, true, false, is_ok, is_err, Ok, List, [], ◌∷◌, ◌++◌, length, take, drop, get_or, refl, sym, ap, subst, ◌∙◌, arith, append_assoc, append-nil, length-append}
+use Rattle.std.proofs.Common.{◌≡◌, ℕ, suc, zero, ◌+◌, ◌*◌, ◌<◌, ◌≤◌, min, Bool, true, false, is_ok, is_err, Ok, List, [], ◌∷◌, ◌++◌, length, take, drop, get_or, refl, sym, ap, subst, ◌∙◌, arith, append_assoc, append-nil, length-append}
 use Rattle.std.proofs.lemmas.List.{take-append-drop}
 use Rattle.buffa_bytes.specs.Varint.{varint_encoding}
 use Rattle.std.specs.Prelude.{Result, Err}
@@ -38,7 +38,7 @@ pub records_encoding-append : (rs qs : List (ℕ × Datum)) → records_encoding
 records_encoding-append [] qs = refl
 records_encoding-append (r ∷ rs) qs = ap (λ z. tagged_encoding r.0 r.1 ++ z) (records_encoding-append rs qs) ∙ sym (append_assoc (tagged_encoding r.0 r.1) (records_encoding rs) (records_encoding qs))
 
-records_in-append : (xs ys : List UnknownField) → records_in (xs ++ ys) ≡ records_in xs ++ records_in ys
+pub records_in-append : (xs ys : List UnknownField) → records_in (xs ++ ys) ≡ records_in xs ++ records_in ys
 records_in-append [] ys = refl
 records_in-append (x ∷ xs) ys = ap (λ z. record_of x ∷ z) (records_in-append xs ys)
 

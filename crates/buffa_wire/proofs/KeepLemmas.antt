@@ -1,6 +1,6 @@
 -- A field whose payload is one of the grammar is kept as one record, and of the unknown fields left as many are spent
 -- as it has fields.
-use Rattle.std.proofs.Common.{◌≡◌, ◌⊎◌, inl, inr, ℕ, zero, suc, ◌+◌, ◌-◌, ◌<◌, ◌≤◌, List, [], ◌++◌, length, Ok, refl, ap, sym, ◌∙◌, arith, append-nil, length-append}
+use Rattle.std.proofs.Common.{◌≡◌, inl, inr, ℕ, zero, suc, ◌+◌, ◌-◌, ◌<◌, ◌≤◌, List, [], ◌++◌, length, Ok, refl, ap, sym, ◌∙◌, arith, append-nil, length-append}
 use Rattle.buffa_bytes.proofs.FieldLemmas.{tag_some}
 use Rattle.buffa_bytes.specs.Content.{ContentFault}
 use Rattle.buffa_bytes.specs.Field.{Payload}
@@ -84,8 +84,3 @@ pub keep_stays : (d n : ℕ) (w : WireType) (p x : List ℕ) → Payload d n w p
 keep_stays d n w p r h =
     let x = record_of_payload d n w p h in
     needed d n w (p ++ r) p r x.0 x.1 x.2 refl ∙ sym (needed d n w p p [] x.0 x.1 x.2 (sym (append-nil p)))
-
-pub le_or_lt : (a b : ℕ) → (a ≤ b) ⊎ (b < a)
-le_or_lt zero b = inl (omega arith)
-le_or_lt (suc a) zero = inr (omega arith)
-le_or_lt (suc a) (suc b) = elim (le_or_lt a b) [ inl h ↦ inl (omega (arith, h)) | inr h ↦ inr (omega (arith, h)) ]

@@ -1,11 +1,9 @@
 -- What readers leave of a refused payload.
-use Rattle.std.proofs.Common.{◌≡◌, List, ℕ, Result, Ok, Err, refl, sym, ap, subst, ◌∙◌}
+use Rattle.std.proofs.Common.{◌≡◌, List, ℕ, Result, refl, sym, ap, subst, ◌∙◌}
 use Rattle.buffa_bytes.specs.declared.wire_type.WireType.{WireType}
 use Rattle.buffa_bytes.specs.declared.wire_type.WireType.TheVariants.{Varint, LengthDelimited}
 use Rattle.buffa_bytes.specs.declared.error.DecodeError.{DecodeError}
 use Rattle.buffa_bytes.specs.Left.{LeavesUnlessFull, past_no_payload, past_no_delimited, past_no_varint}
-use Rattle.buffa_bytes.specs.Unread.{IsTailOf}
-use Rattle.buffa_bytes.proofs.TailLemmas.{tail_whole}
 use Rattle.buffa_bytes.proofs.LeftLemmas.{left_read}
 
 -- the rest of one wire type

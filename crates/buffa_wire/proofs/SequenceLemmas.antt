@@ -8,6 +8,13 @@ use Rattle.buffa_bytes.proofs.ScanLemmas.{Leads, Shortens, parsed_leads, parsed_
 use Rattle.buffa_wire.specs.Sequence.{join, ParsesEach, ParsesTo, ParseStops, parse_all, parse_step}
 pub use Rattle.buffa_bytes.proofs.FieldLemmas.{err_same, ok_no_err, ok_same}
 
+-- lists that are the same have the same first, and the same others
+pub heads : {A : Type 0} {x y : A} {xs ys : List A} → x ∷ xs ≡ y ∷ ys → x ≡ y
+heads h = cc
+
+pub tails : {A : Type 0} {x y : A} {xs ys : List A} → x ∷ xs ≡ y ∷ ys → xs ≡ ys
+tails h = cc
+
 join-last : (ps : List (List ℕ)) (p : List ℕ) → join (ps ++ p ∷ []) ≡ join ps ++ p
 join-last [] p = append-nil p
 join-last (q ∷ ps) p = ap (λ z. q ++ z) (join-last ps p) ∙ sym (append_assoc q (join ps) p)

@@ -7,7 +7,7 @@ use Rattle.buffa_bytes.specs.Scan.{Scanned, scan}
 use Rattle.buffa_bytes.specs.Scan.Scanned.{ends, goes}
 use Rattle.buffa_bytes.specs.declared.wire_type.WireType.{WireType}
 use Rattle.buffa_bytes.specs.declared.error.DecodeError.{DecodeError}
-use Rattle.buffa_wire.specs.BudgetLeft.{BudgetLeft, need_by, nothing, plus}
+use Rattle.buffa_wire.specs.BudgetLeft.{BudgetLeft, nothing, plus}
 use Rattle.buffa_wire.specs.Sequence.{parse_all}
 
 -- What the field whose tag, of a number and a wire type, was read makes of a value, and what follows the field.

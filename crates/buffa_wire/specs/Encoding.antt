@@ -1,6 +1,6 @@
 -- The encoding of records: for each the shortest tag, and its payload with the shortest length.
 -- Source: the protobuf encoding guide, "Message Structure" and "Groups".
-use Rattle.std.specs.Prelude.{ℕ, Bool, true, false, List, [], ◌++◌, Result, Ok, Err}
+use Rattle.std.specs.Prelude.{ℕ, Bool, true, false, List, [], ◌∷◌, ◌++◌, Result, Ok, Err}
 use Rattle.std.specs.Int.{to_le_bytes, w32, w64}
 use Rattle.buffa_bytes.specs.declared.error.EncodeError.{EncodeError}
 use Rattle.buffa_bytes.specs.declared.error.EncodeError.TheVariants.{OutOfMemory}
@@ -38,6 +38,11 @@ tagged_encoding n x = tag_encoding n (wire_of x) ++ payload_encoding n x
 -- the joined encodings of the records
 abbrev pub records_encoding : List (ℕ × Datum) → List ℕ
 records_encoding rs = fields_encoding (records_of rs)
+
+-- the encodings of values, joined: what a packed record holds
+abbrev pub encodings : {V : Type 0} → (V → List ℕ) → List V → List ℕ
+encodings encoding [] = []
+encodings encoding (v ∷ vs) = encoding v ++ encodings encoding vs
 
 -- what is told of a write that says only whether all was written
 abbrev pub told : Bool → Result (Unit {0}) EncodeError

@@ -1,5 +1,5 @@
 -- What merging a message promises: what bytes make of a value, and what they cost, is said by the message's type.
-use Rattle.std.specs.Prelude.{◌≡◌, ◌≢◌, ◌^◌, ℕ, zero, suc, ◌⊎◌, List, ◌++◌, Option, Some, None, Result, Ok, Err, MatchResult}
+use Rattle.std.specs.Prelude.{◌≡◌, ◌≢◌, ℕ, zero, suc, ◌⊎◌, List, ◌++◌, Option, Some, None, Result, Ok, Err, MatchResult}
 use Rattle.buffa_bytes.specs.declared.error.DecodeError.{DecodeError}
 use Rattle.buffa_bytes.specs.declared.error.DecodeError.TheVariants.{ElementMemoryLimitExceeded, OutOfMemory, RecursionLimitExceeded, UnknownFieldLimitExceeded}
 use Rattle.buffa_bytes.specs.declared.wire_type.WireType.{WireType}

@@ -20,7 +20,7 @@ use Rattle.buffa_wire.proofs.LoopLemmas.{field_refused, field_taken, list_refuse
 use Rattle.buffa_wire.proofs.RecordLemmas.{list-records}
 use Rattle.buffa_wire.proofs.SequenceLemmas.{ok_same}
 use Rattle.buffa_wire.proofs.SpentLemmas.{one_left}
-use Rattle.buffa_wire.proofs.KeepLemmas.{le_or_lt}
+use Rattle.std.proofs.lemmas.Bool.{cases_lt}
 
 -- ---- budgets
 not_lacked : (left need a : BudgetLeft) → Pays left need a → Lacks left need → ⊥
@@ -28,11 +28,11 @@ not_lacked left need a (u, m) (inl few) = omega (arith, u, few)
 not_lacked left need a (u, m) (inr few) = omega (arith, m, few)
 
 paid_or_not : (left need : BudgetLeft) → ((a : BudgetLeft) × Pays left need a) ⊎ Lacks left need
-paid_or_not left need = elim (le_or_lt need.unknown left.unknown) [
-  | inr few ↦ inr (inl few)
-  | inl some ↦ elim (le_or_lt need.memory left.memory) [
-    | inr few ↦ inr (inr few)
-    | inl more ↦ inl (record { unknown = left.unknown - need.unknown; memory = left.memory - need.memory }, (omega (arith, some), omega (arith, more)))
+paid_or_not left need = elim (cases_lt left.unknown need.unknown) [
+  | inl few ↦ inr (inl few)
+  | inr some ↦ elim (cases_lt left.memory need.memory) [
+    | inl few ↦ inr (inr few)
+    | inr more ↦ inl (record { unknown = left.unknown - need.unknown; memory = left.memory - need.memory }, (omega (arith, some), omega (arith, more)))
   ]
 ]
 

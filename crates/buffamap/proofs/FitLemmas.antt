@@ -15,7 +15,7 @@ use Rattle.buffa_map.specs.Encoding.{AllHold}
 use Rattle.buffa_map.specs.declared.map_entry.MapEntry.{MapEntry}
 use Rattle.buffamap.specs.Choice.{two_numbers}
 use Rattle.buffamap.specs.Codecs.{int32_reading}
-use Rattle.buffamap.specs.Rewrite.{Entry, Pair, choice_reading}
+use Rattle.buffamap.specs.Rewrite.{Entry, ChoicePair, choice_reading}
 
 int32_fits : (n : ℕ) → FitsSigned w32 (int32_of n)
 unfolding int_wrap
@@ -60,7 +60,7 @@ module _ (d : ℕ) where
   run_fits n b [] h = tt
   run_fits n b (x ∷ xs) (r, rest, (t, l, tag, len, is, entry), split, more) = (each_fits (blanks int32_reading choice_reading d) x.parts entry.0 entry.2 blank_fits, run_fits n rest xs more)
 
-put_fits : (m : List Pair) (k v : ℤ) → FitsSigned w32 k → ClosedFits two_numbers v → AllHold (FitsSigned w32) (ClosedFits two_numbers) m → AllHold (FitsSigned w32) (ClosedFits two_numbers) (put int_eq m k v)
+put_fits : (m : List ChoicePair) (k v : ℤ) → FitsSigned w32 k → ClosedFits two_numbers v → AllHold (FitsSigned w32) (ClosedFits two_numbers) m → AllHold (FitsSigned w32) (ClosedFits two_numbers) (put int_eq m k v)
 put_fits [] k v a b h = (a, b, tt)
 put_fits (e ∷ es) k v a b h = by (int_eq k e.0) (put_fits es k v a b h.2)
   where
@@ -68,7 +68,7 @@ put_fits (e ∷ es) k v a b h = by (int_eq k e.0) (put_fits es k v a b h.2)
     by true i = (h.0, b, h.2)
     by false i = (h.0, h.1, i)
 
-pub pairs_fit : (es : List Entry) (m : List Pair) → AllFit es → AllHold (FitsSigned w32) (ClosedFits two_numbers) m → AllHold (FitsSigned w32) (ClosedFits two_numbers) (fold_entries int_eq m es)
+pub pairs_fit : (es : List Entry) (m : List ChoicePair) → AllFit es → AllHold (FitsSigned w32) (ClosedFits two_numbers) m → AllHold (FitsSigned w32) (ClosedFits two_numbers) (fold_entries int_eq m es)
 pairs_fit [] m f h = h
 pairs_fit (x ∷ xs) m f h = pairs_fit xs (cond x.parts.known (put int_eq m x.parts.key x.parts.value) m) f.1 (step x.parts.known f.0.1)
   where

@@ -34,7 +34,7 @@ use Rattle.buffamap.specs.Pinned.{AnyCallIsPinned, CallIsPinned, HasFaultLine, L
 use Rattle.buffamap.specs.Read.{RepliesToBytes, RepliesToRead, RepliesToRun, run_from}
 use Rattle.buffamap.specs.Reply.{Reply, broken, done, hex_line}
 use Rattle.buffamap.specs.Rewrite.{Entry, IsRewritten, IsRewrittenOf, RepliesToRewrite}
-use Rattle.buffamap.specs.Rewrite.{Pair as Choices, run_from as rewrite_from}
+use Rattle.buffamap.specs.Rewrite.{ChoicePair, choice_run}
 use Rattle.buffamap.specs.Streams.{Change, Known, WritesOrBreaks, WritesAll}
 use Rattle.buffamap.specs.Write.{RepliesToMap, RepliesToWrite, field_reply}
 use Rattle.buffamap.proofs.OrderedLemmas.{one_order}
@@ -65,7 +65,7 @@ pub write_pinned : (n : ℕ) → ReplyIsPinned (RepliesToWrite n)
 write_pinned n = pinned (RepliesToWrite n) (λ input a b h k. map_one n (map_in input) a b h k)
 
 -- a map has one list of its pairs in the order of their keys
-one_list : (m l k : List Choices) → ListsOnce int_eq m l → ListsOnce int_eq m k → IsStrictlySortedBy int_cmp (keys_of l) → IsStrictlySortedBy int_cmp (keys_of k) → l ≡ k
+one_list : (m l k : List ChoicePair) → ListsOnce int_eq m l → ListsOnce int_eq m k → IsStrictlySortedBy int_cmp (keys_of l) → IsStrictlySortedBy int_cmp (keys_of k) → l ≡ k
 one_list m l k once again s t = same_sorted int_cmp_total l k s t (λ q. sym (once.1 q) ∙ again.1 q)
 
 rewrite_one : (n : ℕ) (r : Result (List Entry × BudgetLeft) DecodeError) (a b : Reply) → IsRewritten n r a → IsRewritten n r b → a ≡ b
@@ -87,7 +87,7 @@ rewrite_one n (Err f) a b h k = h ∙ sym k
 
 rewritten_one : (n : ℕ) (o : Option (List ℕ)) (a b : Reply) → IsRewrittenOf n o a → IsRewrittenOf n o b → a ≡ b
 rewritten_one n None a b h k = h ∙ sym k
-rewritten_one n (Some bytes) a b h k = rewrite_one n (rewrite_from n bytes) a b h k
+rewritten_one n (Some bytes) a b h k = rewrite_one n (choice_run n bytes) a b h k
 
 pub rewrite_pinned : (n : ℕ) → ReplyIsPinned (RepliesToRewrite n)
 rewrite_pinned n = pinned (RepliesToRewrite n) (λ input a b h k. rewritten_one n (hex_bytes (without_newline input)) a b h k)

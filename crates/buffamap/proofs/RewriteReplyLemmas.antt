@@ -26,20 +26,20 @@ use Rattle.buffamap.specs.Choice.{two_numbers}
 use Rattle.buffamap.specs.Codecs.{int32_reading, int32_writing}
 use Rattle.buffamap.specs.Fault.{IsOfRewrite, Tells, told}
 use Rattle.buffamap.specs.Reply.{done, fault, hex_line}
-use Rattle.buffamap.specs.Rewrite.{Entry, IsRewritten, Pair, RefusesRun, RunHasNoRewrite, RunRewritesTo, choice_reading, pairs_of, run_from}
+use Rattle.buffamap.specs.Rewrite.{Entry, IsRewritten, ChoicePair, RefusesRun, RunHasNoRewrite, RunRewritesTo, choice_reading, choices_of, choice_run}
 use Rattle.buffamap.proofs.FaultLemmas.{tells_bytes}
 use Rattle.buffamap.proofs.RunReplyLemmas.{stops}
 
-keys_seen : (es : List (ℤ × Choice)) → keys_of (pairs_of es) ≡ keys_of es
+keys_seen : (es : List (ℤ × Choice)) → keys_of (choices_of es) ≡ keys_of es
 keys_seen [] = refl
 keys_seen (e ∷ es) = ap (λ z. e.0 ∷ z) (keys_seen es)
 
 -- a walk of a map has its keys in order
-walked : (es : List (ℤ × Choice)) (l : List Pair) → IsStrictlySortedBy int_cmp (keys_of es) → l ≡ pairs_of es → IsStrictlySortedBy int_cmp (keys_of l)
-walked es l s e = subst (λ (z : List Pair). IsStrictlySortedBy int_cmp (keys_of z)) (sym e) (subst (λ (z : List ℤ). IsStrictlySortedBy int_cmp z) (sym (keys_seen es)) s)
+walked : (es : List (ℤ × Choice)) (l : List ChoicePair) → IsStrictlySortedBy int_cmp (keys_of es) → l ≡ choices_of es → IsStrictlySortedBy int_cmp (keys_of l)
+walked es l s e = subst (λ (z : List ChoicePair). IsStrictlySortedBy int_cmp (keys_of z)) (sym e) (subst (λ (z : List ℤ). IsStrictlySortedBy int_cmp z) (sym (keys_seen es)) s)
 
 -- a list with an entry that is too long has no encoding
-too_long : (done : List Pair) (p : Pair) (rest : List Pair) → 2 ^ 64 ≤ length (entry_encoding int32_writing closed_writing p) → HasEncoding int32_writing closed_writing (done ++ p ∷ rest) → ⊥
+too_long : (done : List ChoicePair) (p : ChoicePair) (rest : List ChoicePair) → 2 ^ 64 ≤ length (entry_encoding int32_writing closed_writing p) → HasEncoding int32_writing closed_writing (done ++ p ∷ rest) → ⊥
 too_long [] p rest h k = omega (arith, h, k.0)
 too_long (q ∷ done) p rest h k = too_long done p rest h k.1
 
@@ -47,10 +47,10 @@ refusal : DecodeError → Result ℕ DecodeError
 refusal f = Err f
 
 -- a run that a reader of the two values rewrites
-module _ (d n : ℕ) (left over : BudgetLeft) (bs rest old new : List ℕ) (before after : ℕ) (pairs : List Pair) (es : List (ℤ × Choice)) (is_d : d ≡ 100) (is_left : left ≡ defaults) (empty : old ≡ [])
+module _ (d n : ℕ) (left over : BudgetLeft) (bs rest old new : List ℕ) (before after : ℕ) (pairs : List ChoicePair) (es : List (ℤ × Choice)) (is_d : d ≡ 100) (is_left : left ≡ defaults) (empty : old ≡ [])
     (sorted : IsStrictlySortedBy int_cmp (keys_of es)) where
-  abbrev pub Walks : List Pair → Type 0
-  Walks l = l ≡ pairs_of es
+  abbrev pub Walks : List ChoicePair → Type 0
+  Walks l = l ≡ choices_of es
 
   abbrev pub Rewrites : Type 0
   Rewrites = RewritesRun (keeping int32_reading choice_reading int_eq false d n 8) int32_writing closed_writing (FitsSigned w32) (ClosedFits two_numbers) Walks left bs pairs over rest old new before after
@@ -59,22 +59,22 @@ module _ (d n : ℕ) (left over : BudgetLeft) (bs rest old new : List ℕ) (befo
   Refuses r = MatchRefusal r (RefusesBytes (keeping int32_reading choice_reading int_eq false d n 8) left bs pairs over rest old new)
       (RefusesOutput (keeping int32_reading choice_reading int_eq false d n 8) int32_writing closed_writing Walks left bs pairs over rest old new before)
 
-  is_run : (xs : List Entry) → Run int32_reading choice_reading d n bs xs → Paid int32_reading choice_reading d 8 1 left xs over → run_from n bs ≡ Ok (xs, over)
+  is_run : (xs : List Entry) → Run int32_reading choice_reading d n bs xs → Paid int32_reading choice_reading d 8 1 left xs over → choice_run n bs ≡ Ok (xs, over)
   is_run xs run paid =
       run_complete int32_reading choice_reading 100 n 8 1 (λ _ d c. refl) (λ _ d c. refl) defaults bs xs over (subst (λ z. Run int32_reading choice_reading z n bs xs) is_d run)
       (subst (λ z. Paid int32_reading choice_reading z 8 1 defaults xs over) is_d (subst (λ z. Paid int32_reading choice_reading d 8 1 z xs over) is_left paid))
 
   -- what was written is a rewrite
-  pub rewritten : {T E : Type 0} (r : Result T E) → OnOk r Rewrites → OnOk r (RunRewritesTo n (run_from n bs) new)
+  pub rewritten : {T E : Type 0} (r : Result T E) → OnOk r Rewrites → OnOk r (RunRewritesTo n (choice_run n bs) new)
   rewritten r h = on_ok_weaker r wrote h
     where
-      wrote : Rewrites → RunRewritesTo n (run_from n bs) new
+      wrote : Rewrites → RunRewritesTo n (choice_run n bs) new
       wrote k =
           let w = k.rewrite in
           subst (λ z. RunRewritesTo n z new) (sym (is_run k.entries k.run k.paid))
           ((w.0, w.1, w.2, w.3, k.encoding ∙ ap (λ z. z ++ k.out) empty ∙ w.4), walked es w.0 sorted k.walks)
 
-  why : (r : RewriteError) → Refuses r → RefusesRun (run_from n bs) r
+  why : (r : RewriteError) → Refuses r → RefusesRun (choice_run n bs) r
   why (Decode f) k = λ real. stops int32_reading choice_reading int_eq 8 1 (λ n e. (n, bytes e) ∷ []) (λ _ d c. refl) (λ _ d c. refl) refl refl (refusal f) d n left over bs [] pairs [] k.0 is_d is_left rest f k.1 real
   why (Encode MessageTooLarge) k = λ real.
       let long = k.encoding in
@@ -82,7 +82,7 @@ module _ (d n : ℕ) (left over : BudgetLeft) (bs rest old new : List ℕ) (befo
   why (Encode OutOfMemory) k = λ real. absurd (real refl)
   why (Encode (GroupRefused e)) k = λ real. absurd k.encoding
 
-  pub refused : {T : Type 0} (r : Result T RewriteError) → IfErr r Refuses → IfErr r (RefusesRun (run_from n bs))
+  pub refused : {T : Type 0} (r : Result T RewriteError) → IfErr r Refuses → IfErr r (RefusesRun (choice_run n bs))
   refused r h = IfErr-map r why h
 
 -- what was written, in hexadecimal, is the reply

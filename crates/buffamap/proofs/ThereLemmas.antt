@@ -26,7 +26,7 @@ use Rattle.buffamap.specs.Lines.{ListedInOrder, Pair, lines_of, map_in, same_key
 use Rattle.buffamap.specs.Pinned.{HasReply}
 use Rattle.buffamap.specs.Read.{RepliesToBytes, RepliesToRead, RepliesToRun, run_from}
 use Rattle.buffamap.specs.Reply.{Reply, bad_input, done, fault, hex_line}
-use Rattle.buffamap.specs.Rewrite.{Entry, IsRewritten, IsRewrittenOf, RepliesToRewrite, choice_reading, Pair as Choices, run_from as rewrite_from}
+use Rattle.buffamap.specs.Rewrite.{Entry, IsRewritten, IsRewrittenOf, RepliesToRewrite, choice_reading, ChoicePair, choice_run}
 use Rattle.buffamap.specs.Write.{RepliesToMap, RepliesToWrite, field_reply}
 use Rattle.buffa_codec.specs.Sub.{sub}
 use Rattle.buffamap.proofs.FitLemmas.{pairs_fit, run_fits}
@@ -111,7 +111,7 @@ module _ {X : Type 0} (merged : ℕ → X → List ℕ → Option X) (cost : ℕ
 
 -- ---- a rewrite
 
-has_or_not : (l : List Choices) → HasEncoding int32_writing closed_writing l ⊎ (HasEncoding int32_writing closed_writing l → ⊥)
+has_or_not : (l : List ChoicePair) → HasEncoding int32_writing closed_writing l ⊎ (HasEncoding int32_writing closed_writing l → ⊥)
 has_or_not [] = inl tt
 has_or_not (p ∷ l) = both (cases_lt (length (entry_encoding int32_writing closed_writing p)) (2 ^ 64)) (has_or_not l)
   where
@@ -123,14 +123,14 @@ has_or_not (p ∷ l) = both (cases_lt (length (entry_encoding int32_writing clos
     both (inr a) b = inr (λ h. omega (arith, a, h.0))
 
 module _ (n : ℕ) (read : RunsAreRead int32_reading choice_reading) where
-  rewritten_there : (bytes : List ℕ) (r : Result (List Entry × BudgetLeft) DecodeError) → rewrite_from n bytes ≡ r → (reply : Reply) × IsRewritten n r reply
+  rewritten_there : (bytes : List ℕ) (r : Result (List Entry × BudgetLeft) DecodeError) → choice_run n bytes ≡ r → (reply : Reply) × IsRewritten n r reply
   rewritten_there bytes (Err f) is = (fault (decode_error_text f), refl)
   rewritten_there bytes (Ok r) is = told (has_or_not l)
     where
-      m : List Choices
+      m : List ChoicePair
       m = fold_entries int_eq [] r.0
 
-      l : List Choices
+      l : List ChoicePair
       l = ordered int_cmp m
 
       fits : AllHold (FitsSigned w32) (ClosedFits two_numbers) l
@@ -145,7 +145,7 @@ module _ (n : ℕ) (read : RunsAreRead int32_reading choice_reading) where
 
   rewritten_of_there : (o : Option (List ℕ)) → (reply : Reply) × IsRewrittenOf n o reply
   rewritten_of_there None = (bad_input, refl)
-  rewritten_of_there (Some bytes) = rewritten_there bytes (rewrite_from n bytes) refl
+  rewritten_of_there (Some bytes) = rewritten_there bytes (choice_run n bytes) refl
 
   pub rewrite_there : HasReply (RepliesToRewrite n)
   rewrite_there input = rewritten_of_there (hex_bytes (without_newline input))

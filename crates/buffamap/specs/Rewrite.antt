@@ -26,8 +26,8 @@ use Rattle.buffamap.specs.Reply.{Reply, bad_input, done, fault, hex_line}
 use Rattle.buffamap.specs.declared.choice.Choice.{Choice}
 
 -- a key and the number of a value
-abbrev pub Pair : Type 0
-Pair = ℤ × ℤ
+abbrev pub ChoicePair : Type 0
+ChoicePair = ℤ × ℤ
 
 -- an entry of a run
 abbrev pub Entry : Type 0
@@ -38,12 +38,12 @@ choice_reading = closed_reading two_numbers
 
 -- the entries of a run and what is over, or the first fault: map<int32, E>, 100 levels deep, an entry of
 -- 4 + 4 units, and an unknown field for each that is kept
-abbrev pub run_from : ℕ → List ℕ → Result (List Entry × BudgetLeft) DecodeError
-run_from n bytes = run_of int32_reading choice_reading 100 n 8 1 defaults bytes
+abbrev pub choice_run : ℕ → List ℕ → Result (List Entry × BudgetLeft) DecodeError
+choice_run n bytes = run_of int32_reading choice_reading 100 n 8 1 defaults bytes
 
 -- what is seen of a map's entries
-abbrev pub pairs_of : List (ℤ × Choice) → List Pair
-pairs_of es = means (λ k. k) number_of es
+abbrev pub choices_of : List (ℤ × Choice) → List ChoicePair
+choices_of es = means (λ k. k) number_of es
 
 -- out is a rewrite of the entries, the pairs of their map in the order of the keys
 abbrev pub RewritesTo : ℕ → List Entry → List ℕ → Type 0
@@ -54,7 +54,7 @@ RewritesTo n es out =
 -- the entries' map has an entry that is too long for its length to be a varint
 abbrev pub HasNoRewrite : List Entry → Type 0
 HasNoRewrite es =
-    (l : List Pair) × ListsOnce int_eq (fold_entries int_eq [] es) l × IsStrictlySortedBy int_cmp (keys_of l)
+    (l : List ChoicePair) × ListsOnce int_eq (fold_entries int_eq [] es) l × IsStrictlySortedBy int_cmp (keys_of l)
     × (HasEncoding int32_writing closed_writing l → ⊥)
 
 -- out is a rewrite of a run; or the run has none
@@ -80,7 +80,7 @@ IsRewritten n (Err f) reply = reply ≡ fault (decode_error_text f)
 
 abbrev pub IsRewrittenOf : ℕ → Option (List ℕ) → Reply → Type 0
 IsRewrittenOf n None reply = reply ≡ bad_input
-IsRewrittenOf n (Some bytes) reply = IsRewritten n (run_from n bytes) reply
+IsRewrittenOf n (Some bytes) reply = IsRewritten n (choice_run n bytes) reply
 
 -- the input is the run in hexadecimal, which one newline may end
 abbrev pub RepliesToRewrite : ℕ → List ℕ → Reply → Type 0

@@ -22,7 +22,7 @@ const BAD_INPUT: &[u8] = b"fault input\n";
 
 const OUT_OF_MEMORY: &[u8] = b"fault OutOfMemory\n";
 
-// WritesOrBreaks the line to the errors, and answers the status, also where they fail.
+// Writes the line to the errors, and answers the status, also where they fail.
 fn complain<C: WriteCalls<X>, X: Write>(status: u8, line: &[u8], errors: &mut X) -> u8
     ensures status { result ≡ status }
     ensures line { WritesOrBreaks (change C.may_fail X.contents errors.old errors.new) line.now }
@@ -31,7 +31,7 @@ fn complain<C: WriteCalls<X>, X: Write>(status: u8, line: &[u8], errors: &mut X)
     status
 }
 
-/// WritesOrBreaks the text to the output and answers the status; where the output fails, that is told.
+/// Writes the text to the output and answers the status; where the output fails, that is told.
 pub fn finish<B: WriteCalls<W>, C: WriteCalls<X>, W: Write, X: Write>(
     status: u8,
     text: &[u8],

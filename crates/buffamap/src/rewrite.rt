@@ -3,7 +3,7 @@ ghost use Rattle.std.specs.Prelude.{◌≡◌, [], IfErr, IfOk, OnOk};
 ghost use Rattle.buffa_bytes.specs.Number.{IsNumber};
 ghost use Rattle.buffamap.specs.Fault.{Tells};
 ghost use Rattle.buffamap.specs.Reply.{done};
-ghost use Rattle.buffamap.specs.Rewrite.{IsRewritten, RefusesRun, RepliesToRewrite, RunRewritesTo, run_from};
+ghost use Rattle.buffamap.specs.Rewrite.{IsRewritten, RefusesRun, RepliesToRewrite, RunRewritesTo, choice_run};
 
 use crate::choice::Choice;
 use crate::fault::Fault;
@@ -22,8 +22,8 @@ fn rewrite_into(
 ) -> Result<(), RewriteError>
     requires number { IsNumber number }
     requires empty { run.old.items ≡ [] }
-    ensures run { OnOk result (RunRewritesTo number (run_from number bytes.now) run.new.items) }
-    ensures refused { IfErr result (RefusesRun (run_from number bytes.now)) }
+    ensures run { OnOk result (RunRewritesTo number (choice_run number bytes.now) run.new.items) }
+    ensures refused { IfErr result (RefusesRun (choice_run number bytes.now)) }
 {
     let mut budget = Budget::new(DEFAULT_UNKNOWN_FIELD_LIMIT);
     let ctx = DecodeContext::new(RECURSION_LIMIT, &mut budget);
@@ -44,8 +44,8 @@ fn rewrite_into(
 // The answer to a run.
 fn rewrite_run(alloc: Global, number: u32, bytes: &[u8]) -> Result<Vec<u8>, Fault>
     requires { IsNumber number }
-    ensures text { IfOk result (λ text. IsRewritten number (run_from number bytes.now) (done text.items)) }
-    ensures fault { IfErr result (Tells (IsRewritten number (run_from number bytes.now))) }
+    ensures text { IfOk result (λ text. IsRewritten number (choice_run number bytes.now) (done text.items)) }
+    ensures fault { IfErr result (Tells (IsRewritten number (choice_run number bytes.now))) }
 {
     let mut run = Vec::new(alloc);
     rewrite_into(alloc, number, bytes, &mut run)?;

@@ -1,6 +1,6 @@
 // Which messages are read back.
 
-use buffa_fields::message::members_read_back;
+use buffa_fields_base::message::members_read_back;
 use buffa_map::map_codec::{Int32, MapCodec};
 use buffa_samples::count::CountMsg;
 use buffa_samples::flat::FlatMsg;

@@ -1,5 +1,6 @@
 -- Lists that are gone over from their front: what holds of those behind a place holds of those from it on.
 use Rattle.std.proofs.Common.{◌≡◌, ℕ, ◌+◌, ◌<◌, ◌≤◌, List, ◌∷◌, length, get_or, drop, map, sym, ap, subst, ◌∙◌, arith}
+use Rattle.std.specs.List.{AllByRecursion}
 use Rattle.std.proofs.lemmas.List.{drop_all, drop_more}
 use Rattle.buffa_wire.specs.BudgetLeft.{BudgetLeft, Pays}
 use Rattle.buffa_bytes.specs.Number.{IsNumber}
@@ -7,7 +8,7 @@ use Rattle.buffa_wire.specs.Parse.{FitsDatum}
 use Rattle.buffa_wire.specs.Records.{Datum, datum_height}
 use Rattle.buffa_wire.specs.View.{datum_of, records_in}
 use Rattle.buffa_wire.specs.declared.unknown_fields.UnknownField.{UnknownField}
-use Rattle.buffa_codec.specs.Decoded.{CoversAll, Each}
+use Rattle.buffa_codec.specs.Decoded.{CoversAll}
 use Rattle.buffa_codec.specs.CodecFacts.{left_over}
 use Rattle.buffa_ext.specs.MessageFacts.{pays_covers}
 use Rattle.conformance_extensions.specs.Normal.{AreWritten}
@@ -26,16 +27,16 @@ written_from levels xs i x lt e number payload rest =
 pub written_none : (levels : ℕ) (xs : List UnknownField) (i : ℕ) → length xs ≤ i → AreWritten levels (records_in (drop i xs))
 written_none levels xs i over = subst (λ l. AreWritten levels (records_in l)) (sym (drop_all i xs over)) (tt, omega arith)
 
-pub each_none : {V M : Type 0} (P : M → Type 0) (meaning : V → M) (xs : List V) (i : ℕ) → length xs ≤ i → Each P (map meaning (drop i xs))
-each_none P meaning xs i over = subst (λ l. Each P (map meaning l)) (sym (drop_all i xs over)) tt
+pub each_none : {V M : Type 0} (P : M → Type 0) (meaning : V → M) (xs : List V) (i : ℕ) → length xs ≤ i → AllByRecursion P (map meaning (drop i xs))
+each_none P meaning xs i over = subst (λ l. AllByRecursion P (map meaning l)) (sym (drop_all i xs over)) tt
 
 pub covers_none : {V M : Type 0} (cost : Datum → BudgetLeft) (text : M → Datum) (meaning : V → M) (b : BudgetLeft) (xs : List V) (i : ℕ) → length xs ≤ i
     → CoversAll cost b (map text (map meaning (drop i xs)))
 covers_none cost text meaning b xs i over = subst (λ l. CoversAll cost b (map text (map meaning l))) (sym (drop_all i xs over)) tt
 
 module _ {V M : Type 0} (meaning : V → M) (xs : List V) (i : ℕ) (x : V) (lt : i < length xs) (e : x ≡ get_or xs i x) where
-  pub each_from : (P : M → Type 0) → P (meaning x) → Each P (map meaning (drop (i + 1) xs)) → Each P (map meaning (drop i xs))
-  each_from P p rest = subst (λ l. Each P (map meaning l)) (from_place xs i x lt e) (p, rest)
+  pub each_from : (P : M → Type 0) → P (meaning x) → AllByRecursion P (map meaning (drop (i + 1) xs)) → AllByRecursion P (map meaning (drop i xs))
+  each_from P p rest = subst (λ l. AllByRecursion P (map meaning l)) (from_place xs i x lt e) (p, rest)
 
   pub covers_from : (cost : Datum → BudgetLeft) (text : M → Datum) (b left : BudgetLeft) → Pays b (cost (text (meaning x))) left
       → CoversAll cost left (map text (map meaning (drop (i + 1) xs))) → CoversAll cost b (map text (map meaning (drop i xs)))

@@ -1,11 +1,12 @@
 -- Lists whose elements are all read back, and cost nothing.
 use Rattle.std.proofs.Common.{List, [], ◌∷◌}
+use Rattle.std.specs.List.{AllByRecursion}
 use Rattle.buffa_wire.specs.BudgetLeft.{BudgetLeft, minus, nothing}
 use Rattle.buffa_wire.specs.Records.{Datum}
-use Rattle.buffa_codec.specs.Decoded.{CoversAll, Each}
+use Rattle.buffa_codec.specs.Decoded.{CoversAll}
 use Rattle.buffa_codec.specs.CodecFacts.{covers_nothing}
 
-pub each_unit : {V : Type 0} (vs : List V) → Each (λ _. Unit {0}) vs
+pub each_unit : {V : Type 0} (vs : List V) → AllByRecursion (λ _. Unit {0}) vs
 each_unit [] = tt
 each_unit (v ∷ vs) = (tt, each_unit vs)
 

@@ -1,9 +1,10 @@
 // Messages that are set and read in one call, where a test says at run time that they are read back.
 
 ghost use Rattle.std.specs.Prelude.{◌≡◌, map, IfOk, IsTrue, OnOk};
+ghost use Rattle.std.specs.List.{AllByRecursion};
 ghost use Rattle.buffa_wire.specs.BudgetLeft.{Pays, defaults};
 ghost use Rattle.buffa_wire.specs.View.{datum_of};
-ghost use Rattle.buffa_codec.specs.Decoded.{CoversAll, Each};
+ghost use Rattle.buffa_codec.specs.Decoded.{CoversAll};
 ghost use Rattle.conformance_extensions.specs.Normal.{IsNormal};
 
 use crate::back::set_then;
@@ -69,7 +70,7 @@ fn pay_all<C: SingularCodec>(alloc: Global, values: &[C::Value]) -> Result<(), F
 
 // Whether each message of a list is read back of its encoding, where its cost is left.
 fn are_normal<Back, M: Normal<Back>>(messages: &[M]) -> bool
-    ensures { IsTrue result → Each (λ v. IsNormal (M.normal v) (M.levels v) (M.records v)) (map M.meaning messages.now) }
+    ensures { IsTrue result → AllByRecursion (λ v. IsNormal (M.normal v) (M.levels v) (M.records v)) (map M.meaning messages.now) }
 {
     for message in messages {
         if !message.is_normal() {

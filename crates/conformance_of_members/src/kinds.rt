@@ -2,10 +2,10 @@
 
 mod words;
 
-use buffa_inventory::explicit::Explicit;
-use buffa_inventory::implicit::Implicit;
-use buffa_inventory::joined::Joined;
-use buffa_inventory::separate::Separate;
+use buffa_kinds::explicit::Explicit;
+use buffa_kinds::implicit::Implicit;
+use buffa_kinds::joined::Joined;
+use buffa_kinds::separate::Separate;
 use conformance_messages::parted;
 use conformance_rows::calls::Kind;
 use conformance_rows::case::Case;

@@ -6,10 +6,12 @@ use buffa_inventory::assorted::Assorted;
 use buffa_inventory::depot::Depot;
 use buffa_inventory::inventory::Inventory;
 use buffa_inventory::ledger::Ledger;
+use buffa_inventory::load::Load;
 use buffa_inventory::order::Order;
 use buffa_inventory::pallet::Pallet;
 use buffa_inventory::parcel::Parcel;
 use buffa_inventory::store::Store;
+use buffa_inventory::wagon::Wagon;
 use conformance_messages::parted;
 use conformance_rows::calls::Kind;
 use conformance_rows::case::Case;
@@ -34,10 +36,12 @@ pub fn on_members(
         "depot" => parted::<Members, Depot>(alloc, case, kind, mark, bytes),
         "inventory" => parted::<Members, Inventory>(alloc, case, kind, mark, bytes),
         "ledger" => parted::<Members, Ledger>(alloc, case, kind, mark, bytes),
+        "load" => parted::<Members, Load>(alloc, case, kind, mark, bytes),
         "order" => parted::<Members, Order>(alloc, case, kind, mark, bytes),
         "pallet" => parted::<Members, Pallet>(alloc, case, kind, mark, bytes),
         "parcel" => parted::<Members, Parcel>(alloc, case, kind, mark, bytes),
         "store" => parted::<Members, Store>(alloc, case, kind, mark, bytes),
+        "wagon" => parted::<Members, Wagon>(alloc, case, kind, mark, bytes),
         _ => Err(Fault::Form),
     }
 }

@@ -1,10 +1,10 @@
 // Messages of all scalars as words; no message is read of a word.
 
 use crate::kinds::Kinds;
-use buffa_inventory::explicit::Explicit;
-use buffa_inventory::implicit::Implicit;
-use buffa_inventory::joined::Joined;
-use buffa_inventory::separate::Separate;
+use buffa_kinds::explicit::Explicit;
+use buffa_kinds::implicit::Implicit;
+use buffa_kinds::joined::Joined;
+use buffa_kinds::separate::Separate;
 use conformance_messages::{Parted, Parts, parted_word};
 use conformance_rows::fault::Fault;
 use conformance_rows::words::Worded;

@@ -5,11 +5,13 @@ use buffa_inventory::assorted::Assorted;
 use buffa_inventory::depot::Depot;
 use buffa_inventory::inventory::Inventory;
 use buffa_inventory::ledger::Ledger;
+use buffa_inventory::load::Load;
 use buffa_inventory::order::Order;
 use buffa_inventory::pallet::Pallet;
 use buffa_inventory::parcel::Parcel;
 use buffa_inventory::state::State;
 use buffa_inventory::store::Store;
+use buffa_inventory::wagon::Wagon;
 use buffa_wire::EnumValue;
 use conformance_messages::{Parted, Parts, parted_word};
 use conformance_rows::fault::Fault;
@@ -111,6 +113,24 @@ impl Worded<Members> for Ledger {
     }
 }
 
+impl Parted<Members> for Load {
+    fn parts(&self, parts: &mut Parts<Members>) {
+        parts.maybe(1, &self.weight);
+        parts.maybe(2, &self.mark);
+        parts.kept(&self.rest);
+    }
+}
+
+impl Worded<Members> for Load {
+    fn word(&self, alloc: Global) -> Result<String, Fault> {
+        parted_word::<Members, _>(alloc, self)
+    }
+
+    fn of_word(_alloc: Global, _word: &str) -> Result<Load, Fault> {
+        Err(Fault::Form)
+    }
+}
+
 impl Parted<Members> for Order {
     fn parts(&self, parts: &mut Parts<Members>) {
         parts.value(1, &self.id);
@@ -186,6 +206,35 @@ impl Worded<Members> for Store {
     }
 
     fn of_word(_alloc: Global, _word: &str) -> Result<Store, Fault> {
+        Err(Fault::Form)
+    }
+}
+
+impl Parted<Members> for Wagon {
+    fn parts(&self, parts: &mut Parts<Members>) {
+        parts.maybe(1, &self.load);
+        parts.list(2, self.loads.as_slice());
+        parts.maybe(3, &self.frame);
+        parts.list(4, self.beams.as_slice());
+        parts.map(5, &self.shelves);
+        parts.map(6, &self.berths);
+        parts.value(7, &self.id);
+        parts.maybe(8, &self.name);
+        parts.maybe(9, &self.state);
+        parts.list(10, self.seats.as_slice());
+        parts.list(11, self.tags.as_slice());
+        parts.map(12, &self.counts);
+        parts.map(13, &self.axles);
+        parts.kept(&self.rest);
+    }
+}
+
+impl Worded<Members> for Wagon {
+    fn word(&self, alloc: Global) -> Result<String, Fault> {
+        parted_word::<Members, _>(alloc, self)
+    }
+
+    fn of_word(_alloc: Global, _word: &str) -> Result<Wagon, Fault> {
         Err(Fault::Form)
     }
 }

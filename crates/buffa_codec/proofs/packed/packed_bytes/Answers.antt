@@ -1,10 +1,11 @@
 use Rattle.std.proofs.Common.{sym, ap, ◌∙◌, map, take, ◌++◌, subst}
+use Rattle.std.specs.List.{AllByRecursion}
 use Rattle.std.proofs.lemmas.List.{take_all}
 use Rattle.std.proofs.lemmas.Result.{err_from_is_err_and}
-use Rattle.buffa_codec.specs.Decoded.{Each, encodings}
-use Rattle.buffa_codec.proofs.ListLemmas.{Each-append, encodings-append}
+use Rattle.buffa_codec.proofs.ListLemmas.{AllByRecursion-append, encodings-append}
 use Rattle.buffa_codec.proofs.packed.packed_bytes.Goals as goal
 use Rattle.buffa_bytes.proofs.ListLemmas.{means_more}
+use Rattle.buffa_wire.specs.Encoding.{encodings}
 
 pub loop-v-preserved : goal.loop-v-preserved
 loop-v-preserved g c =
@@ -15,7 +16,7 @@ loop-v-preserved g c =
     let more = means_more m xs c.loop-v.v-index c.v-item.result c.loop-v-test.true c.v-item.is in
     record {
       written = c.in_ok-encode_packed.ensures.ok ∙ ap (λ l. l ++ encoding (m c.v-item.result)) c.loop-v.invariant.written ∙ sym (ap (encodings encoding) more ∙ encodings-append encoding front (m c.v-item.result));
-      fit = subst (Each g.C.SingularCodec.fits) (sym more) (Each-append g.C.SingularCodec.fits front (m c.v-item.result) c.loop-v.invariant.fit c.in_ok-encode_packed.ensures.fits);
+      fit = subst (AllByRecursion g.C.SingularCodec.fits) (sym more) (AllByRecursion-append g.C.SingularCodec.fits front (m c.v-item.result) c.loop-v.invariant.fit c.in_ok-encode_packed.ensures.fits);
     }
 
 pub returns-in_err-encode_packed-clause-bytes : goal.returns-in_err-encode_packed-clause-bytes
@@ -40,4 +41,4 @@ returns-clause-bytes g c =
 
 pub returns-clause-fits : goal.returns-clause-fits
 returns-clause-fits g c =
-    subst (λ l. Each g.C.SingularCodec.fits (map g.C.Value.Blank.meaning l)) (take_all c.loop-v.v-index c.args.values.now c.loop-v-test.false) c.loop-v.invariant.fit
+    subst (λ l. AllByRecursion g.C.SingularCodec.fits (map g.C.Value.Blank.meaning l)) (take_all c.loop-v.v-index c.args.values.now c.loop-v-test.false) c.loop-v.invariant.fit

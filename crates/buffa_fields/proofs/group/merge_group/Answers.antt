@@ -102,4 +102,15 @@ returns-in-Err-merge_field g c =
           (refused_on merged cost d n old bs start (g.N.Blank.meaning c.loop-tag.message) c.loop-tag.buf.now c.loop-tag.budget u m w x c.in-Ok.ensures.reads other
           (by_payload g.N.MessageSpec.stays g.N.MessageSpec.merged_is g.N.MessageSpec.cost_is) e (g.N.Blank.meaning c.merge_field.new.self) c.merge_field.new.buf.now _ c.in-Err-merge_field.ensures.merged);
       full = λ full. (omega (arith, c.if-depth-eq0.false), reaches_tag d u.front bs c.loop-tag.buf.now (m, w, x) u.fields u.split c.in-Ok.ensures.reads other);
+      level = λ none. absurd (c.if-depth-eq0.false none);
+      stays = λ no. absurd (no (reaches_tag d u.front bs c.loop-tag.buf.now (m, w, x) u.fields u.split c.in-Ok.ensures.reads other));
     }
+
+pub returns-in-Err-clause-stays : goal.returns-in-Err-clause-stays
+returns-in-Err-clause-stays g c = c.loop-tag.invariant.untouched
+
+pub returns-then-field_number-number-clause-stays : goal.returns-then-field_number-number-clause-stays
+returns-then-field_number-number-clause-stays g c = c.loop-tag.invariant.untouched
+
+pub returns-in-EndGroup-clause-stays : goal.returns-in-EndGroup-clause-stays
+returns-in-EndGroup-clause-stays g c = c.loop-tag.invariant.untouched

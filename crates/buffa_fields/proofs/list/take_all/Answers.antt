@@ -1,7 +1,7 @@
 use Rattle.std.proofs.Common.{◌≡◌, ◌∙◌, ◌⊎◌, inl, inr, IsOk, ℕ, List, map, arith, refl, subst}
 use Rattle.buffa_bytes.specs.Content.{content_at}
 use Rattle.buffa_bytes.specs.declared.wire_type.WireType.{WireType}
-use Rattle.buffa_fields.specs.ListLaws.{element_falls, element_there, elements_done, elements_err, elements_next}
+use Rattle.buffa_fields.specs.ListLaws.{element_falls, element_there, elements_done, elements_err, none_read, one_read, read_means, read_stops}
 use Rattle.buffa_fields.proofs.list.take_all.Goals as goal
 
 -- where a payload begins what is left, one begins all
@@ -10,16 +10,18 @@ begun w rest body (inl same) here = subst (λ z. IsOk (content_at w z)) same her
 begun w rest body (inr there) here = there
 
 pub loop-rest-init : goal.loop-rest-init
-loop-rest-init g c = record { means = refl; begins = inl refl }
+loop-rest-init g c = record {
+  read = none_read g.C.MapValueDecode.reading g.met.C.MapCodec.plain g.met.C.MapValueDecode.no_limit c.args.depth (map g.C.Value.Blank.meaning c.args.values.now.items) c.args.body.now;
+  begins = inl refl;
+}
 
 pub loop-rest-preserved : goal.loop-rest-preserved
 loop-rest-preserved g c =
     let m = g.C.Value.Blank.meaning in
     let codec = g.C.MapValueDecode.reading in
     record {
-      means = c.loop-rest.invariant.means
-          ∙ elements_next codec g.met.C.MapCodec.plain g.met.C.MapValueDecode.no_limit c.args.depth (map m c.loop-rest.values.items) (map m c.take_element.new.values.items) c.loop-rest.rest.now c.take_element.new.buf.now
-          (omega (arith, c.remaining.ensures, c.loop-rest-test.true)) c.in-Ok.ensures.reads;
+      read = one_read codec g.met.C.MapCodec.plain g.met.C.MapValueDecode.no_limit c.args.depth (map m c.args.values.now.items) (map m c.loop-rest.values.items) (map m c.take_element.new.values.items) c.args.body.now c.loop-rest.rest.now c.take_element.new.buf.now
+          c.loop-rest.invariant.read c.in-Ok.ensures.reads;
       begins = inr (begun codec.wire c.loop-rest.rest.now c.args.body.now c.loop-rest.invariant.begins
           (element_there codec g.met.C.MapCodec.plain g.met.C.MapValueDecode.no_limit c.args.depth (map m c.loop-rest.values.items) c.loop-rest.rest.now (map m c.take_element.new.values.items) c.take_element.new.buf.now c.in-Ok.ensures.reads));
     }
@@ -32,14 +34,25 @@ loop-rest-smaller g c =
 pub returns-in-Err-clause-reads : goal.returns-in-Err-clause-reads
 returns-in-Err-clause-reads g c =
     let m = g.C.Value.Blank.meaning in
-    λ ne. c.loop-rest.invariant.means
-    ∙ elements_err g.C.MapValueDecode.reading g.met.C.MapCodec.plain g.met.C.MapValueDecode.no_limit c.args.depth (map m c.loop-rest.values.items) c.loop-rest.rest.now c.in-Err.error (omega (arith, c.remaining.ensures, c.loop-rest-test.true)) (c.in-Err.ensures.reads ne)
+    let codec = g.C.MapValueDecode.reading in
+    let now = map m c.loop-rest.values.items in
+    λ ne. read_means codec g.met.C.MapCodec.plain g.met.C.MapValueDecode.no_limit c.args.depth (map m c.args.values.now.items) now c.args.body.now c.loop-rest.rest.now c.loop-rest.invariant.read
+    ∙ elements_err codec g.met.C.MapCodec.plain g.met.C.MapValueDecode.no_limit c.args.depth now c.loop-rest.rest.now c.in-Err.error (omega (arith, c.remaining.ensures, c.loop-rest-test.true)) (c.in-Err.ensures.reads ne)
 
 pub returns-in-Err-clause-full : goal.returns-in-Err-clause-full
 returns-in-Err-clause-full g c = λ full.
     begun g.C.MapValueDecode.reading.wire c.loop-rest.rest.now c.args.body.now c.loop-rest.invariant.begins (c.in-Err.ensures.full full)
 
+pub returns-in-Err-clause-stops : goal.returns-in-Err-clause-stops
+returns-in-Err-clause-stops g c =
+    let m = g.C.Value.Blank.meaning in
+    read_stops g.C.MapValueDecode.reading g.met.C.MapCodec.plain g.met.C.MapValueDecode.no_limit c.args.depth (map m c.args.values.now.items) (map m c.loop-rest.values.items) (map m c.take_element.new.values.items) c.args.body.now c.loop-rest.rest.now c.in-Err.error
+    c.loop-rest.invariant.read c.in-Err.ensures.stays c.in-Err.ensures.reads
+
 pub returns-clause-reads : goal.returns-clause-reads
 returns-clause-reads g c =
-    c.loop-rest.invariant.means
-    ∙ elements_done g.C.MapValueDecode.reading g.met.C.MapCodec.plain g.met.C.MapValueDecode.no_limit c.args.depth (map g.C.Value.Blank.meaning c.loop-rest.values.items) c.loop-rest.rest.now (omega (arith, c.remaining.ensures, c.loop-rest-test.false))
+    let m = g.C.Value.Blank.meaning in
+    let codec = g.C.MapValueDecode.reading in
+    let now = map m c.loop-rest.values.items in
+    read_means codec g.met.C.MapCodec.plain g.met.C.MapValueDecode.no_limit c.args.depth (map m c.args.values.now.items) now c.args.body.now c.loop-rest.rest.now c.loop-rest.invariant.read
+    ∙ elements_done codec g.met.C.MapCodec.plain g.met.C.MapValueDecode.no_limit c.args.depth now c.loop-rest.rest.now (omega (arith, c.remaining.ensures, c.loop-rest-test.false))

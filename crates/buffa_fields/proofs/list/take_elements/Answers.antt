@@ -1,12 +1,14 @@
-use Rattle.std.proofs.Common.{◌≡◌, ◌∙◌, inl, inr, IsOk, ap, map, refl, sym}
+use Rattle.std.proofs.Common.{◌≡◌, ◌∙◌, inl, inr, Err, IsOk, ap, map, refl, sym}
 use Rattle.buffa_bytes.proofs.StepLemmas.{agree_err, agree_ok}
 use Rattle.buffa_bytes.specs.Content.{content_at}
 use Rattle.buffa_bytes.specs.declared.error.DecodeError.TheVariants.{WireTypeMismatch}
 use Rattle.buffa_bytes.specs.declared.wire_type.WireType.TheVariants.{LengthDelimited}
 use Rattle.buffa_bytes.specs.Front.{check_wire}
 use Rattle.buffa_map.proofs.EntryLemmas.{check_sound}
-use Rattle.buffa_fields.specs.ListLaws.{element_taken, neither_err, other_wire, own_wire, packed_taken, packed_wire}
+use Rattle.buffa_fields.specs.ListLaws.{element_refused, element_taken, neither_err, neither_refused, other_wire, own_wire, packed_refused, packed_taken, packed_wire}
 use Rattle.buffa_fields.specs.Lists.{ElementsTakeMemory, PackedTakeMemory}
+use Rattle.buffa_wire.proofs.SequenceLemmas.{err_same}
+use Rattle.buffa_wire.specs.BudgetLeft.{nothing}
 use Rattle.buffa_wire.proofs.TakesLemmas.{full_weaker}
 use Rattle.buffa_fields.proofs.list.take_elements.Goals as goal
 
@@ -83,3 +85,36 @@ returns-in-Err-check_wire_type-clause-wire g c = λ e told.
     let w = c.args.tag.wire_type in
     let other = agree_err (check_wire n LengthDelimited w) c.in-Err-check_wire_type.field-0 (check_sound n LengthDelimited w) c.in-Err-check_wire_type.ensures in
     (sym c.in-Err.ensures ∙ (ap (λ z. check_wire n z w) c.WIRE_TYPE.ensures ∙ other_wire n g.C.MapValueDecode.WIRE_TYPE w e told other.0), refl, refl)
+
+pub returns-in-Ok-clause-refused : goal.returns-in-Ok-clause-refused
+returns-in-Ok-clause-refused g c = λ e bad.
+    let m = g.C.Value.Blank.meaning in
+    let codec = g.C.MapValueDecode.reading in
+    let wire_is : codec.wire ≡ c.WIRE_TYPE.result = g.met.C.MapValueDecode.wire ∙ sym c.WIRE_TYPE.ensures in
+    let n = c.args.tag.number in
+    let w = c.args.tag.wire_type in
+    let same = agree_ok (check_wire n c.WIRE_TYPE.result w) tt (check_sound n c.WIRE_TYPE.result w) c.in-Ok.ensures in
+    element_refused codec g.met.C.MapCodec.plain g.met.C.MapValueDecode.no_limit c.args.depth (map m c.args.values.now.items) n w c.args.buf.now.now nothing c.take_element.result (map m c.take_element.new.values.items) c.take_element.new.buf.now e bad
+    (same ∙ sym wire_is) (ap (λ z. check_wire n z w) wire_is ∙ c.in-Ok.ensures) c.take_element.ensures.stays c.take_element.ensures.reads
+
+pub returns-in-Ok-check_wire_type-clause-refused : goal.returns-in-Ok-check_wire_type-clause-refused
+returns-in-Ok-check_wire_type-clause-refused g c = λ e bad.
+    let m = g.C.Value.Blank.meaning in
+    let codec = g.C.MapValueDecode.reading in
+    let wire_is : codec.wire ≡ c.WIRE_TYPE.result = g.met.C.MapValueDecode.wire ∙ sym c.WIRE_TYPE.ensures in
+    let n = c.args.tag.number in
+    let w = c.args.tag.wire_type in
+    let off = agree_err (check_wire n c.WIRE_TYPE.result w) c.in-Err.error (check_sound n c.WIRE_TYPE.result w) c.in-Err.ensures in
+    let held = agree_ok (check_wire n LengthDelimited w) tt (check_sound n LengthDelimited w) c.in-Ok-check_wire_type.ensures in
+    packed_refused codec g.met.C.MapCodec.plain g.met.C.MapValueDecode.no_limit c.args.depth (map m c.args.values.now.items) n w c.args.buf.now.now nothing c.take_packed.result (map m c.take_packed.new.values.items) e bad
+    (λ h. off.0 (h ∙ wire_is)) held c.take_packed.ensures.refused
+
+pub returns-in-Err-check_wire_type-clause-refused : goal.returns-in-Err-check_wire_type-clause-refused
+returns-in-Err-check_wire_type-clause-refused g c = λ e same.
+    let codec = g.C.MapValueDecode.reading in
+    let wire_is : codec.wire ≡ c.WIRE_TYPE.result = g.met.C.MapValueDecode.wire ∙ sym c.WIRE_TYPE.ensures in
+    let n = c.args.tag.number in
+    let w = c.args.tag.wire_type in
+    let other = agree_err (check_wire n LengthDelimited w) c.in-Err-check_wire_type.field-0 (check_sound n LengthDelimited w) c.in-Err-check_wire_type.ensures in
+    neither_refused codec g.met.C.MapCodec.plain g.met.C.MapValueDecode.no_limit c.args.depth (map g.C.Value.Blank.meaning c.args.values.now.items) n w c.args.buf.now.now nothing e other.0
+    (ap (λ z. check_wire n z w) wire_is ∙ c.in-Err.ensures ∙ ap (λ z. Err z) (err_same same))

@@ -36,3 +36,14 @@ returns-in-Err-clause-full g c = λ full.
     let w = c.args.tag.wire_type in
     let bad = agree_err (check_wire n LengthDelimited w) c.in-Err.error (check_sound n LengthDelimited w) c.in-Err.ensures in
     let two = sym full ∙ bad.1 in cc
+
+pub returns-in-Ok-clause-refused : goal.returns-in-Ok-clause-refused
+returns-in-Ok-clause-refused g c = λ e bad.
+    let n = c.args.tag.number in
+    let w = c.args.tag.wire_type in
+    let wire = agree_ok (check_wire n LengthDelimited w) tt (check_sound n LengthDelimited w) c.in-Ok.ensures in
+    let m = c.merge_length_delimited in
+    ((λ other. absurd (other wire)), (λ none. sym (m.ensures.level none).0), (λ broken. sym (m.ensures.outside broken)))
+
+pub returns-in-Err-clause-refused : goal.returns-in-Err-clause-refused
+returns-in-Err-clause-refused g c = λ e bad. ((λ _. refl), (λ _. refl), (λ _. refl))

@@ -1,12 +1,13 @@
-use Rattle.std.proofs.Common.{◌+◌, [], false}
+use Rattle.std.proofs.Common.{◌+◌, ◌∙◌, [], inl, Err, ap, refl, false}
 use Rattle.std.specs.BTreeMap.{insert_entry}
 use Rattle.buffa_bytes.proofs.StepLemmas.{agree_ok}
 use Rattle.buffa_bytes.specs.declared.wire_type.WireType.TheVariants.{LengthDelimited}
 use Rattle.buffa_bytes.specs.Front.{check_wire}
 use Rattle.buffa_map.proofs.EntryLemmas.{check_sound}
+use Rattle.buffa_wire.proofs.SequenceLemmas.{err_same}
 use Rattle.buffa_map.specs.Pairs.{means}
 use Rattle.buffa_fields.proofs.OrderedLemmas.{is_put_by, means_ascend}
-use Rattle.buffa_fields.specs.MapLaws.{map_err, map_full, map_ok}
+use Rattle.buffa_fields.specs.MapLaws.{map_err, map_full, map_ok, map_refused}
 use Rattle.buffa_fields.proofs.ordered_map.take_ordered.Goals as goal
 
 pub returns-in-Ok-answer-clause-taken : goal.returns-in-Ok-answer-clause-taken
@@ -42,3 +43,15 @@ returns-in-Err-answer-clause-full g c = λ full.
     let wire = agree_ok (check_wire n LengthDelimited w) tt (check_sound n LengthDelimited w) c.in-Ok.ensures in
     map_full g.KC.MapValueDecode.reading g.VC.MapValueDecode.reading g.KC.Value.MapKey.same false (insert_entry g.KC.Value.OrderedKey.order) (g.KC.MapValueDecode.COST + g.VC.MapValueDecode.COST) c.args.ctx.depth n w c.args.buf.now.now c.args.ctx.budget.now wire c.in-Err-answer.error full
     (c.in-Err-answer.ensures.err.memory full)
+
+pub returns-in-Err-clause-refused : goal.returns-in-Err-clause-refused
+returns-in-Err-clause-refused g c = λ e same. (refl, λ ne. inl (c.in-Err.ensures ∙ ap (λ z. Err z) (err_same same)))
+
+pub returns-in-Err-answer-clause-refused : goal.returns-in-Err-answer-clause-refused
+returns-in-Err-answer-clause-refused g c = λ e same.
+    let n = c.args.tag.number in
+    let w = c.args.tag.wire_type in
+    let wire = agree_ok (check_wire n LengthDelimited w) tt (check_sound n LengthDelimited w) c.in-Ok.ensures in
+    map_refused g.KC.MapValueDecode.reading g.VC.MapValueDecode.reading g.KC.Value.MapKey.same false (insert_entry g.KC.Value.OrderedKey.order) (g.KC.MapValueDecode.COST + g.VC.MapValueDecode.COST) c.args.ctx.depth n w
+    (means g.KC.Value.Blank.meaning g.VC.Value.Blank.meaning c.args.map.now.entries) (means g.KC.Value.Blank.meaning g.VC.Value.Blank.meaning c.merge_entry-answer.new.map.entries) c.args.buf.now.now c.merge_entry-answer.new.buf.now c.args.ctx.budget.now _ [] wire
+    c.in-Err-answer.error e (err_same same) c.in-Err-answer.ensures.err

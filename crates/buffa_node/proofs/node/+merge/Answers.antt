@@ -13,7 +13,7 @@ use Rattle.buffa_wire.proofs.MessageLemmas.{loop_fault, reaches_tag}
 use Rattle.buffa_wire.proofs.ByPayloadLemmas.{field_costs, field_means, judged_all, untagged}
 use Rattle.buffa_map.specs.Pairs.{means}
 use Rattle.buffa_wire.specs.Kept.{keep_need}
-use Rattle.buffa_fields.specs.Keep.{keep_takes}
+use Rattle.buffa_fields_base.specs.Keep.{keep_takes}
 use Rattle.buffa_wire.proofs.TakesLemmas.{taken_full}
 use Rattle.buffa_node.proofs.FieldMergeLemmas.{both_stay, child_merged, kept_merged, on_err, score_merged, shade_merged}
 use Rattle.buffa_node.proofs.LoopLemmas.{all_merged, by_payloads, front_next, front_none, stops_at, stops_untagged}

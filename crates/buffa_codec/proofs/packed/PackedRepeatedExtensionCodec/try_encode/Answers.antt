@@ -1,15 +1,17 @@
 use Rattle.std.proofs.Common.{◌≡◌, ℕ, zero, suc, ◌<◌, ◌∙◌, ◌==◌, List, [], ◌∷◌, ◌++◌, Bool, Result, Ok, Err, true, false, ap, arith, length, map, subst, sym}
+use Rattle.std.specs.List.{AllByRecursion}
 use Rattle.std.proofs.lemmas.Bool.{eqb-true, eq-eqb, false≢true}
 use Rattle.std.proofs.lemmas.List.{append-nil}
 use Rattle.std.proofs.lemmas.Result.{err_from_is_err_and}
 use Rattle.std.specs.Result.{OnErr, OnOk}
 use Rattle.buffa_wire.specs.Records.{Datum, Held, bytes}
-use Rattle.buffa_codec.specs.Decoded.{Adds, AddsSome, Each, encodings, packed_record}
+use Rattle.buffa_codec.specs.Decoded.{Adds, AddsSome, packed_record}
 use Rattle.buffa_codec.specs.Sub.{tagged}
 use Rattle.buffa_codec.proofs.ListLemmas.{packed_some}
 use Rattle.buffa_codec.proofs.PlaceLemmas.{places_stay}
 use Rattle.buffa_codec.proofs.TurnLemmas.{writes_none}
 use Rattle.buffa_codec.proofs.packed.PackedRepeatedExtensionCodec.try_encode.Goals as goal
+use Rattle.buffa_wire.specs.Encoding.{encodings}
 
 -- a test of a length
 is_none : (r : Bool) (n m : ℕ) → r ≡ (n == 0) → n ≡ m → r ≡ true → m ≡ 0
@@ -24,7 +26,7 @@ packs_none : {V M : Type 0} (encoding : M → List ℕ) (meaning : V → M) (n :
 packs_none encoding meaning n [] old none = sym (append-nil old)
 packs_none encoding meaning n (v ∷ vs) old none = absurd (omega (arith, none))
 
-each_none : {V M : Type 0} (P : M → Type 0) (meaning : V → M) (vs : List V) → length vs ≡ 0 → Each P (map meaning vs)
+each_none : {V M : Type 0} (P : M → Type 0) (meaning : V → M) (vs : List V) → length vs ≡ 0 → AllByRecursion P (map meaning vs)
 each_none P meaning [] none = tt
 each_none P meaning (v ∷ vs) none = absurd (omega (arith, none))
 
@@ -102,4 +104,4 @@ returns-clause-room g c = c.push_record.ensures.room
 pub returns-clause-fits : goal.returns-clause-fits
 returns-clause-fits g c =
     holds_anyhow c.push_record.result _
-    (subst (λ l. Each g.C.SingularCodec.fits (map g.C.Value.Blank.meaning l)) c.as_slice.ensures.value c.in_ok-bytes.ensures.fits)
+    (subst (λ l. AllByRecursion g.C.SingularCodec.fits (map g.C.Value.Blank.meaning l)) c.as_slice.ensures.value c.in_ok-bytes.ensures.fits)

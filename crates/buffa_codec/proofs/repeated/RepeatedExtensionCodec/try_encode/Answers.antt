@@ -1,11 +1,12 @@
 use Rattle.std.proofs.Common.{sym, ap, ◌∙◌, map, take, drop, ◌∷◌, [], ◌+◌, refl, subst, length, arith}
+use Rattle.std.specs.List.{AllByRecursion}
 use Rattle.std.proofs.lemmas.Result.{err_from_is_err_and}
 use Rattle.std.proofs.lemmas.Bool.{false≢true}
 use Rattle.buffa_wire.specs.View.{datum_of}
-use Rattle.buffa_codec.specs.Decoded.{Each, KeepsPlaces, first_refusal}
+use Rattle.buffa_codec.specs.Decoded.{KeepsPlaces, first_refusal}
 use Rattle.buffa_codec.proofs.PlaceLemmas.{places_more}
 use Rattle.buffa_codec.proofs.TurnLemmas.{values_length, writes_one_more, writes_front, writes_part}
-use Rattle.buffa_codec.proofs.ListLemmas.{Each-at, Each-append, first_refusal-append, first_refusal-pass, refused_whole}
+use Rattle.buffa_codec.proofs.ListLemmas.{AllByRecursion-at, AllByRecursion-append, first_refusal-append, first_refusal-pass, refused_whole}
 use Rattle.buffa_codec.proofs.repeated.RepeatedExtensionCodec.try_encode.Goals as goal
 use Rattle.buffa_bytes.proofs.ListLemmas.{means_cut, means_more}
 
@@ -28,8 +29,8 @@ returns-in_default-clause-err g c =
 
 pub returns-in_err-payload-clause-reserved : goal.returns-in_err-payload-clause-reserved
 returns-in_err-payload-clause-reserved g c =
-    λ free enough. absurd (false≢true (c.in_err-payload.ensures.free (Each-at g.C.SingularCodec.made_free g.C.Value.Blank.meaning c.as_slice-v-items.result.now c.loop-v.v-index c.v-item.result c.loop-v-test.true c.v-item.is
-    (subst (λ l. Each g.C.SingularCodec.made_free (map g.C.Value.Blank.meaning l)) (sym c.as_slice-v-items.ensures.value) free))))
+    λ free enough. absurd (false≢true (c.in_err-payload.ensures.free (AllByRecursion-at g.C.SingularCodec.made_free g.C.Value.Blank.meaning c.as_slice-v-items.result.now c.loop-v.v-index c.v-item.result c.loop-v-test.true c.v-item.is
+    (subst (λ l. AllByRecursion g.C.SingularCodec.made_free (map g.C.Value.Blank.meaning l)) (sym c.as_slice-v-items.ensures.value) free))))
 
 pub returns-in_default-clause-room : goal.returns-in_default-clause-room
 returns-in_default-clause-room g c = subst (KeepsPlaces c.args.fields.now) (sym c.in_default.ensures.err) c.loop-v.invariant.places
@@ -50,5 +51,5 @@ loop-v-preserved g c =
       allowed = ap (first_refusal g.C.SingularCodec.refusal) more ∙ first_refusal-append g.C.SingularCodec.refusal (map m (take c.loop-v.v-index xs)) (m c.v-item.result ∷ []) c.loop-v.invariant.allowed ∙ first_refusal-pass g.C.SingularCodec.refusal (m c.v-item.result) [] c.in_ok-payload.ensures.refused;
       room = omega (arith, c.loop-v.invariant.room, c.in-Ok.ensures.room);
       places = places_more c.args.fields.now c.loop-v.fields c.push.new.self (c.args.number, datum_of c.in_ok-payload.payload) c.loop-v.invariant.places c.in-Ok.ensures.ok c.in-Ok.ensures.room;
-      fit = subst (Each g.C.SingularCodec.fits) (sym more) (Each-append g.C.SingularCodec.fits (map m (take c.loop-v.v-index xs)) (m c.v-item.result) c.loop-v.invariant.fit c.in_ok-payload.ensures.fits);
+      fit = subst (AllByRecursion g.C.SingularCodec.fits) (sym more) (AllByRecursion-append g.C.SingularCodec.fits (map m (take c.loop-v.v-index xs)) (m c.v-item.result) c.loop-v.invariant.fit c.in_ok-payload.ensures.fits);
     }

@@ -1,6 +1,7 @@
 use Rattle.std.proofs.Common.{◌≡◌, ◌≤◌, ◌+◌, ◌++◌, map, take, None}
+use Rattle.std.specs.List.{AllByRecursion}
 use Rattle.buffa_codec.specs.Sub.{tagged}
-use Rattle.buffa_codec.specs.Decoded.{Each, KeepsPlaces, first_refusal}
+use Rattle.buffa_codec.specs.Decoded.{KeepsPlaces, first_refusal}
 use Rattle.buffa_codec.proofs.repeated.RepeatedExtensionCodec.try_encode.Given as goal
 
 abbrev pub invariant-loop-v : goal.invariant-loop-v
@@ -9,5 +10,5 @@ invariant-loop-v g l = record {
   allowed : first_refusal g.C.SingularCodec.refusal (map g.C.Value.Blank.meaning (take l.v-index l.v-items)) ≡ None;
   room : l.fn.fields.spare ≤ l.fields.spare + l.v-index;
   places : KeepsPlaces l.fn.fields l.fields;
-  fit : Each g.C.SingularCodec.fits (map g.C.Value.Blank.meaning (take l.v-index l.v-items));
+  fit : AllByRecursion g.C.SingularCodec.fits (map g.C.Value.Blank.meaning (take l.v-index l.v-items));
 }

@@ -1,0 +1,90 @@
+-- What stands of a member whose field was refused, and which fault was told. Source: the protobuf encoding guide, "Message Structure".
+use Rattle.std.specs.Prelude.{◌≡◌, ◌≢◌, ◌⊎◌, ◌↔◌, ℕ, List, ◌++◌, Option, None, Result, Ok, Err, IsOk}
+use Rattle.buffa_bytes.specs.declared.error.DecodeError.{DecodeError}
+use Rattle.buffa_bytes.specs.declared.error.DecodeError.TheVariants.{OutOfMemory}
+use Rattle.buffa_bytes.specs.declared.tag.Tag.{Tag}
+use Rattle.buffa_bytes.specs.declared.wire_type.WireType.{WireType}
+use Rattle.buffa_bytes.specs.declared.wire_type.WireType.TheVariants.{LengthDelimited, StartGroup}
+use Rattle.buffa_bytes.specs.Front.{check_wire, delimited_at}
+use Rattle.buffa_wire.specs.BudgetLeft.{BudgetLeft}
+use Rattle.buffa_wire.specs.Message.{BeginsField}
+use Rattle.buffa_map.specs.Codec.{Reading}
+use Rattle.buffa_map.specs.Entry.{EntryFault}
+use Rattle.buffa_map.specs.Pairs.{means}
+use Rattle.buffa_fields_base.specs.Layout.{Shape}
+use Rattle.buffa_fields_base.specs.Values.{RefusesAlone}
+use Rattle.buffa_fields.specs.Lists.{element_at, elements_in}
+use denote.Ref.{Bor}
+
+-- What is said of a refused field: at a depth, of the value that stood, the number, the wire type, the bytes behind the tag, the
+-- error, and the value that stands.
+abbrev pub Refusal : Type 0 → Type 1
+Refusal X = ℕ → X → ℕ → WireType → List ℕ → DecodeError → X → Type 0
+
+-- a kind of members says this of refused fields
+abbrev pub RefusesAs : {P X : Type 0} → Shape P X → Refusal X → Type 0
+RefusesAs {X = X} s refuses =
+    (d : ℕ) (old : X) (n : ℕ) (w : WireType) (bs : List ℕ) (e : DecodeError) (new : X) → s.refuses d old n w bs e new ↔ refuses d old n w bs e new
+
+-- a call that took the field whose tag was read, where it was refused
+abbrev pub RefusesField : {X T : Type 0} → Refusal X → Tag → ℕ → X → X → Bor (List ℕ) → Result T DecodeError → Type 0
+RefusesField refuses tag d old new before r = (e : DecodeError) → r ≡ Err e → refuses d old tag.number tag.wire_type before.now e new
+
+-- A refused entry isn't put: the pairs are as they were. Unless memory ran out, the wire type is told, or the fault that the
+-- entry has at some budget: of its length, of the units left, or the first of its fields; any, where a message in it lacks some.
+abbrev pub RefusesPair : {K V : Type 0} → Reading K → Reading V → ℕ → Refusal (List (K × V))
+RefusesPair key val cost d old n w bs e new =
+    (old ≡ new)
+    × (e ≢ OutOfMemory → (check_wire n LengthDelimited w ≡ Err e) ⊎ ((w ≡ LengthDelimited) × (left : BudgetLeft) × EntryFault key val d cost 0 left bs e))
+
+-- the same of a call, where keys and values mean so, and a pair costs so many units
+abbrev pub RefusesPairIn : {A B T K V : Type 0} → Tag → ℕ → List (A × B) → List (A × B) → Bor (List ℕ) → Result T DecodeError → (A → K) → (B → V) → Reading K → Reading V → ℕ → Type 0
+RefusesPairIn tag d old new before r key_means val_means key val cost =
+    RefusesField (RefusesPair key val cost) tag d (means key_means val_means old) (means key_means val_means new) before r
+
+-- ---- lists
+module _ {V : Type 0} (codec : Reading V) where
+  -- the elements that a front of these bytes is stand behind those that stood, and the next one has the fault, unless memory ran out
+  abbrev pub StopsAt : ℕ → List V → List ℕ → DecodeError → List V → Type 0
+  StopsAt d old b e new =
+      (front : List ℕ) × (rest : List ℕ) × (b ≡ front ++ rest) × (elements_in codec d old front ≡ Ok new)
+      × (e ≢ OutOfMemory → element_at codec d new rest ≡ Err e)
+
+  -- packed elements were refused: no length and so many bytes are there, and the list is as it was; or one of them was
+  abbrev pub RefusesPacked : ℕ → List V → List ℕ → DecodeError → List V → Type 0
+  RefusesPacked d old bs e new =
+      ((delimited_at bs ≡ Err e) × (old ≡ new)) ⊎ ((b : List ℕ) × (after : List ℕ) × (delimited_at bs ≡ Ok (b, after)) × StopsAt d old b e new)
+
+  -- A refused element isn't put, nor a field that is of no wire type of a list: the list is as it was, and the fault is told, unless
+  -- memory ran out. Of packed elements those before the one that is refused are.
+  abbrev pub RefusesElements : Refusal (List V)
+  RefusesElements d old n w bs e new =
+      ((w ≡ codec.wire) ⊎ (w ≢ LengthDelimited) → RefusesAlone codec (λ _. codec.blank) d old n w bs e new)
+      × (w ≢ codec.wire → w ≡ LengthDelimited → RefusesPacked d old bs e new)
+
+-- elements were read so far: those that a front of these bytes is stand behind those that stood, whatever follows them
+pub record ElementsRead {V : Type 0} (codec : Reading V) (d : ℕ) (old : List V) (b rest : List ℕ) (now : List V) : Type 0 where
+  pub front : List ℕ
+  pub split : b ≡ front ++ rest
+  pub reads : (y : List ℕ) → elements_in codec d old (front ++ y) ≡ elements_in codec d now y
+
+-- ---- messages
+-- a refused message isn't put behind the others: the list is as it was
+abbrev pub RefusesNew : {X : Type 0} → Refusal (List X)
+RefusesNew d old n w bs e new = old ≡ new
+
+-- a message is as it was where the field is of another wire type, no level is left, or no length and so many bytes are there
+abbrev pub RefusesInside : {X : Type 0} → Refusal X
+RefusesInside d old n w bs e new = (w ≢ LengthDelimited → old ≡ new) × (d ≡ 0 → old ≡ new) × ((IsOk (delimited_at bs) → ⊥) → old ≡ new)
+
+-- the same in a group: where no field begins it
+abbrev pub RefusesInGroup : {X : Type 0} → Refusal X
+RefusesInGroup d old n w bs e new = (w ≢ StartGroup → old ≡ new) × (d ≡ 0 → old ≡ new) × ((BeginsField bs → ⊥) → old ≡ new)
+
+-- A refused message that wasn't there isn't there afterwards. One that was is as it was in these cases; in all others what stands in
+-- it is its own affair.
+abbrev pub RefusesMessage : {X : Type 0} → Refusal (Option X)
+RefusesMessage d old n w bs e new = (old ≡ None → new ≡ None) × RefusesInside d old n w bs e new
+
+abbrev pub RefusesGroup : {X : Type 0} → Refusal (Option X)
+RefusesGroup d old n w bs e new = (old ≡ None → new ≡ None) × RefusesInGroup d old n w bs e new

@@ -1,0 +1,13 @@
+pub mod PairLaws
+pub mod Values
+pub mod ValueLaws
+pub mod KindLaws
+pub mod Keep
+pub mod KeepLaws
+pub mod Layout
+pub mod LayoutLaws
+pub mod Members
+pub mod MemberRecords
+pub mod Stands
+pub mod StandsLaws
+pub mod Calls

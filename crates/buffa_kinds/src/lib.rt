@@ -1,0 +1,7 @@
+//! Messages from their fields: one of all scalars for each way in which these stand in a message.
+#![tactic(auto)]
+
+pub mod explicit;
+pub mod implicit;
+pub mod joined;
+pub mod separate;
