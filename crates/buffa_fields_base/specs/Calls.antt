@@ -4,18 +4,18 @@ use Rattle.buffa_bytes.specs.declared.error.DecodeError.{DecodeError}
 use Rattle.buffa_bytes.specs.declared.error.EncodeError.{EncodeError}
 use Rattle.buffa_bytes.specs.declared.tag.Tag.{Tag}
 use Rattle.buffa_bytes.specs.declared.wire_type.WireType.{WireType}
-use Rattle.buffa_wire.specs.BudgetLeft.{budget_left}
+use Rattle.buffa_wire.specs.BudgetLeft.{BudgetLeft, budget_left}
 use Rattle.buffa_wire.specs.Cache.{Cache}
-use Rattle.buffa_wire.specs.Message.{IsFieldMerged, MergesBytes}
+use Rattle.buffa_wire.specs.Message.{FieldTaken, IsFieldMerged, MergesBytes}
 use Rattle.buffa_wire.specs.Parse.{Fits}
 use Rattle.buffa_wire.specs.Passes.{IsWritten}
 use Rattle.buffa_bytes.specs.Front.{check_wire}
-use Rattle.buffa_wire.specs.Records.{records_of}
+use Rattle.buffa_wire.specs.Records.{Datum, records_of}
 use Rattle.buffa_wire.specs.Encoding.{records_encoding}
 use Rattle.buffa_wire.specs.declared.context.DecodeContext.{DecodeContext}
 use Rattle.buffa_map_base.specs.Calls.{Exit}
 use Rattle.buffa_map_base.specs.Codec.{Reading}
-use Rattle.buffa_fields_base.specs.Layout.{Layout}
+use Rattle.buffa_fields_base.specs.Layout.{Kept, Layout}
 use Rattle.buffa_wire.specs.Takes.{IsTaken, Need, Taker, cost_of, merged_of}
 use Rattle.buffa_fields_base.specs.Values.{free, value_taken}
 use denote.Ref.{Bor}
@@ -46,6 +46,11 @@ module _ {P D T : Type 0} (tag : Tag) (ctx : DecodeContext) (left : Exit D) (old
 abbrev pub MemberTakes : {M X D : Type 0} → Tag → DecodeContext → Exit D → M → M → Bor (List ℕ) → Bor (List ℕ) → Result (Unit {0}) DecodeError → Layout M X → Type 0
 MemberTakes tag ctx left old new before after r l =
     l.Taken ctx.depth old tag.number tag.wire_type before.now ctx.budget.now r new (budget_left left) after.now
+
+-- a message keeps each field, behind those that it has
+abbrev pub KeepsFields : {M : Type 0} → FieldTaken M → (M → List (ℕ × Datum)) → Type 0
+KeepsFields {M} taken says =
+    (d n : ℕ) (old new : M) (w : WireType) (bs rest : List ℕ) (a b : BudgetLeft) (r : Result (Unit {0}) DecodeError) → taken d old n w bs a r new b rest → Kept d (says old) n w bs a r (says new) b rest
 
 -- a message of such members merged all the fields that the bytes are, and paid for them
 abbrev pub MergesAll : {M X D T : Type 0} → DecodeContext → Exit D → M → M → List ℕ → Result T DecodeError → Taker X → Need → (M → X) → Type 0

@@ -1,7 +1,9 @@
 -- What is proved of fields that are kept.
-use Rattle.std.proofs.Common.{◌≡◌, ◌≢◌, ◌⊎◌, inl, inr, ℕ, suc, ◌+◌, ◌≤◌, List, [], ◌∷◌, ◌++◌, length, Some, Result, Ok, Err, IsOk, refl, ap, sym, subst, ◌∙◌, arith, append_assoc, append-nil}
+use Rattle.std.proofs.Common.{◌≡◌, ◌≢◌, ◌⊎◌, inl, inr, ℕ, suc, ◌+◌, ◌<◌, ◌≤◌, List, [], ◌∷◌, ◌++◌, length, Some, Result, Ok, Err, IsOk, refl, ap, sym, subst, ◌∙◌, arith, append_assoc, append-nil}
 use Rattle.buffa_bytes.proofs.StepLemmas.{agree_err, agree_ok}
 use Rattle.buffa_bytes.specs.Field.{Group, PayloadOver}
+use Rattle.buffa_bytes.specs.Left.{past_no_payload}
+use Rattle.buffa_bytes.specs.Unread.{IsTailOf}
 use Rattle.buffa_bytes.specs.declared.wire_type.WireType.{WireType}
 use Rattle.buffa_bytes.specs.declared.wire_type.WireType.TheVariants as wire
 use Rattle.buffa_bytes.specs.declared.error.DecodeError.{DecodeError}
@@ -22,7 +24,9 @@ use Rattle.buffa_wire.specs.Kept.{keep_need, kept_record_at, spent_of}
 use Rattle.buffa_fields_base.specs.Keep.{AllNumbers, IsFieldThere, KeepTakesMemory, keep_takes}
 use Rattle.buffa_fields_base.specs.PairLaws.{both_true}
 use Rattle.buffa_wire.specs.Takes.{IsTaken, Leads, Piece, ReadsBack, Untaken, joined}
+use Rattle.buffa_wire.proofs.SequenceLemmas.{err_same}
 use Rattle.buffa_wire.proofs.SpentLemmas.{is_there}
+use Rattle.buffa_fields_base.specs.Layout.{RefusesField}
 use Rattle.buffa_bytes.specs.Gives.{FullOnlyIf}
 use Rattle.std.proofs.lemmas.Bool.{cases_lt}
 
@@ -110,6 +114,19 @@ module _ (d s n : ℕ) (w : WireType) (bs : List ℕ) (v : List (ℕ × Datum)) 
   -- the same of an error that is passed on by `?`
   pub keep_err_as : (r : Result (Unit {0}) DecodeError) (e f : DecodeError) → r ≡ Err f → f ≡ e → (rest : List ℕ) → (e ≢ error.OutOfMemory → field_at d s n w bs ≡ Err e) → (e ≡ error.OutOfMemory → w ≢ wire.EndGroup) → IsTaken keep_takes keep_need d v n w bs before r v before rest
   keep_err_as r e f is same rest h full = subst (λ z. IsTaken keep_takes keep_need d v n w bs before z v before rest) (sym (is ∙ ap (λ x. Err x) same)) (keep_err e rest h full)
+
+  -- what is told and left of a field that is refused
+  pub keep_refused : (r : Result (Unit {0}) DecodeError) (e f : DecodeError) → r ≡ Err f → f ≡ e → (rest : List ℕ) → (e ≢ error.OutOfMemory → field_at d s n w bs ≡ Err e) →
+      (s ≡ 0 → rest ≡ bs) → (w ≡ wire.StartGroup → d ≡ 0 → rest ≡ bs) → (w ≢ wire.StartGroup → 0 < s → (e ≢ error.OutOfMemory → rest ≡ past_no_payload w bs) × IsTailOf (past_no_payload w bs) rest) →
+      (g : DecodeError) → r ≡ Err g → g ≢ error.OutOfMemory → RefusesField d before.unknown n w bs g rest
+  keep_refused r e f is same rest reads none level left g told ne =
+      let one : g ≡ e = err_same (sym told ∙ is) ∙ same in
+      let some : e ≢ error.OutOfMemory = λ full. ne (one ∙ full) in (
+        subst (λ z. field_at d z n w bs ≡ Err g) all (reads some ∙ ap (λ z. Err z) (sym one)),
+        λ no. none (all ∙ no),
+        level,
+        λ group there. (left group (subst (λ z. 0 < z) (sym all) there)).0 some,
+      )
 
 pub keep_as : (d n : ℕ) (w : WireType) (bs : List ℕ) (before : BudgetLeft) (u v : List (ℕ × Datum)) → u ≡ v → (r : Result (Unit {0}) DecodeError) (new : List (ℕ × Datum)) (after : BudgetLeft) (rest : List ℕ) →
     IsTaken keep_takes keep_need d u n w bs before r new after rest → IsTaken keep_takes keep_need d v n w bs before r new after rest

@@ -1,16 +1,20 @@
 -- A message as a list of its members, as a value. Source: the protobuf encoding guide, "Message Structure".
-use Rattle.std.specs.Prelude.{◌≡◌, ℕ, ◌==◌, ◌≤◌, ◌&&◌, Bool, true, false, nat_lt, List, [], ◌∷◌, ◌++◌, Some, Result, Err, IsOk, MatchResult, if◌then◌else◌}
+use Rattle.std.specs.Prelude.{◌≡◌, ◌≢◌, ℕ, ◌==◌, ◌<◌, ◌≤◌, ◌&&◌, Bool, true, false, nat_lt, List, [], ◌∷◌, ◌++◌, Some, Result, Err, IsOk, MatchResult, OnErr, if◌then◌else◌}
 use Rattle.std.specs.Option.{option_map}
 use Rattle.buffa_bytes.specs.declared.wire_type.WireType.{WireType}
+use Rattle.buffa_bytes.specs.declared.wire_type.WireType.TheVariants.{StartGroup}
 use Rattle.buffa_bytes.specs.declared.error.DecodeError.{DecodeError}
+use Rattle.buffa_bytes.specs.declared.error.DecodeError.TheVariants.{OutOfMemory}
 use Rattle.buffa_bytes.specs.declared.error.EncodeError.{EncodeError}
 use Rattle.buffa_wire.specs.BudgetLeft.{BudgetLeft}
 use Rattle.buffa_bytes.specs.Gives.{FullOnlyIf, Gives}
 use Rattle.buffa_bytes.specs.Front.{skip_at}
+use Rattle.buffa_bytes.specs.Left.{past_no_payload}
 use Rattle.buffa_bytes.specs.Number.{IsNumber}
 use Rattle.buffa_wire.specs.Parse.{Fits}
 use Rattle.buffa_wire.specs.Cache.{Cache}
 use Rattle.buffa_wire.specs.Passes.{IsNext, IsSized, IsWritten}
+use Rattle.buffa_wire.specs.RecordReading.{field_at}
 use Rattle.buffa_wire.specs.Records.{Datum, records_of}
 use Rattle.buffa_wire.specs.Encoding.{records_encoding}
 use Rattle.buffa_wire.specs.Kept.{keep_need}
@@ -50,18 +54,27 @@ Took s d old n w bs before r new after rest =
     × FullOnlyIf r (s.asks d n w bs) × ((e : DecodeError) → s.checks n w ≡ Err e → (r ≡ Err e) × (s.meaning old ≡ s.meaning new) × (bs ≡ rest))
     × ((e : DecodeError) → r ≡ Err e → s.refuses d (s.meaning old) n w bs e (s.meaning new))
 
+-- a field is refused by the fault of its bytes, or as one too many; unread is what stands where no payload does, and all
+-- of it where none may be kept, or no level is left for a group
+abbrev pub RefusesField : ℕ → ℕ → ℕ → WireType → List ℕ → DecodeError → List ℕ → Type 0
+RefusesField d s n w bs e rest =
+    (field_at d s n w bs ≡ Err e) × (s ≡ 0 → rest ≡ bs) × (w ≡ StartGroup → d ≡ 0 → rest ≡ bs) × (w ≢ StartGroup → 0 < s → rest ≡ past_no_payload w bs)
+
 -- a field that isn't declared is kept; one that is refused changes and spends nothing
 unfoldable pub Kept : ℕ → List (ℕ × Datum) → ℕ → WireType → List ℕ → BudgetLeft → Result (Unit {0}) DecodeError → List (ℕ × Datum) → BudgetLeft → List ℕ → Type 0
 Kept d old n w bs before r new after rest =
     IsTaken keep_takes keep_need d old n w bs before r new after rest × MatchResult r (λ _. Unit {0}) (λ _. old ≡ new)
     × FullOnlyIf r (KeepTakesMemory before.unknown d n w bs) × MatchResult r (λ _. Unit {0}) (λ _. before ≡ after)
+    × ((e : DecodeError) → r ≡ Err e → e ≢ OutOfMemory → RefusesField d before.unknown n w bs e rest)
 
 abbrev pub passes : Taker (Unit {0})
 passes d v n w p = Some v
 
--- or it is passed over, or refused by its fault; nothing is spent
+-- or it is passed over, or refused by its fault, and then unread as far as no payload is there; nothing is spent
 unfoldable pub Passed : ℕ → ℕ → WireType → List ℕ → BudgetLeft → Result (Unit {0}) DecodeError → BudgetLeft → List ℕ → Type 0
-Passed d n w bs before r after rest = Gives (λ _. rest) r (skip_at d n w bs) × (before ≡ after)
+Passed d n w bs before r after rest =
+    Gives (λ _. rest) r (skip_at d n w bs) × (before ≡ after)
+    × (w ≡ StartGroup → d ≡ 0 → rest ≡ bs) × (w ≢ StartGroup → OnErr r (rest ≡ past_no_payload w bs))
 
 -- What a visitor has seen: records, and sizes of messages in them, since it stood behind these bytes of a sink and
 -- before this cache; both are lent, and known by names.
@@ -113,6 +126,7 @@ both_need k f g d n w bs = if n == k then f d n w bs else g d n w bs
 abbrev pub is_number : ℕ → Bool
 is_number n = nat_lt 0 n && nat_lt n 536870912
 
+-- one of two, by a test
 abbrev pub Choice : Bool → Type 0 → Type 0 → Type 0
 Choice true a b = a
 Choice false a b = b

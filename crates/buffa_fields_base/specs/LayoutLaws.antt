@@ -22,6 +22,11 @@ use Rattle.buffa_wire.specs.Takes.{IsTaken, Need, Taker, cost_of, costs_nothing,
 use Rattle.buffa_wire.proofs.TakesLemmas.{back as leads_back, skipped, skipped_full, taken_full, taken_merges}
 use Rattle.buffa_wire.proofs.EncodingLemmas.{records_encoding-append}
 
+-- ---- one of two
+pub choose : {A B C : Type 0} (t : Bool) → Choice t A B → (t ≡ true → A → C) → (t ≡ false → B → C) → C
+choose true h f g = f refl h
+choose false h f g = g refl h
+
 -- ---- one member takes the field, or one of the others
 module _ {P X B : Type 0} (s : Shape P X) (k : ℕ) (g : Taker B) (gn : Need) (d : ℕ) (p q : P) (b c : B) (n : ℕ) (w : WireType) (bs : List ℕ) (before : BudgetLeft) (r : Result (Unit {0}) DecodeError) (after : BudgetLeft) (rest : List ℕ)
     (S T : Type 0) (same : S → b ≡ c) (taken : T → IsTaken g gn d b n w bs before r c after rest) where
@@ -75,12 +80,12 @@ kept_asks d old n w bs before r new after rest h = h.2
 pub is_passed : (d n : ℕ) (w : WireType) (bs : List ℕ) (before : BudgetLeft) (r : Result (Unit {0}) DecodeError) (after : BudgetLeft) (rest : List ℕ) →
     Passed d n w bs before r after rest → IsTaken passes costs_nothing d tt n w bs before r tt after rest
 unfolding Passed
-is_passed d n w bs before r after rest (gives, kept) =
+is_passed d n w bs before r after rest (gives, kept, _, _) =
     subst (λ z. IsTaken passes costs_nothing d tt n w bs before r tt z rest) kept (skipped passes d tt n w bs rest before r (λ p. refl) gives)
 
 pub passed_asks : (d n : ℕ) (w : WireType) (bs : List ℕ) (before : BudgetLeft) (r : Result (Unit {0}) DecodeError) (after : BudgetLeft) (rest : List ℕ) → Passed d n w bs before r after rest → FullOnlyIf r ⊥
 unfolding Passed
-passed_asks d n w bs before r after rest (gives, kept) = skipped_full d n w bs rest r gives
+passed_asks d n w bs before r after rest (gives, kept, _, _) = skipped_full d n w bs rest r gives
 
 -- ---- what was seen
 pub more_none : (z : Seen) → z ≡ more [] [] z

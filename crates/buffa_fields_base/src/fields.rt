@@ -43,6 +43,9 @@ pub trait Fields: Drop {
 
     /// The member of the number takes the field whose tag was read.
     ///
+    /// # Errors
+    /// The member's own. Of a field that isn't declared, that of keeping it, or of passing over it.
+    ///
     /// ```ignore
     /// let answer = message.take(alloc, tag, &mut rest, lent);
     /// ```

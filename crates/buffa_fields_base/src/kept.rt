@@ -56,6 +56,8 @@ pub fn read_alone(
         (field_at depth unknown tag.number tag.wire_type buf.old.now) }
     ensures full { FullOnlyIf result (RecordTakesMemory depth unknown tag.wire_type buf.old.now) }
     ensures number { IfOk result (λ x. x.0.number ≡ tag.number) }
+    ensures no_unknown_stays { unknown ≡ 0 → buf.new.now ≡ buf.old.now }
+    ensures level { tag.wire_type ≡ StartGroup → depth ≡ 0 → buf.new.now ≡ buf.old.now }
     ensures left { tag.wire_type ≢ StartGroup → 0 < unknown →
         LeavesUnlessFull result (past_no_payload tag.wire_type buf.old.now) buf.new.now }
 {
@@ -70,6 +72,9 @@ pub fn read_alone(
 
 /// Keeps the field whose tag was read, behind the others; what is refused spends nothing. A field takes one
 /// of the unknown fields left, and so does each field in its groups.
+///
+/// # Errors
+/// Those of [`decode_unknown_field`].
 ///
 /// ```ignore
 /// let answer = kept::keep(alloc, &mut self.rest, tag, buf, ctx);
@@ -108,6 +113,9 @@ pub(crate) fn kept_len(fields: &UnknownFields) -> u32
 }
 
 /// Passes over the field whose tag was read.
+///
+/// # Errors
+/// Those of [`skip_field_depth`].
 ///
 /// ```ignore
 /// let answer = kept::pass(tag, buf, ctx);

@@ -3,7 +3,7 @@
 //! The words of `MapCodec`, `MessageSpec` and `Scalar` that these cite are pinned by the laws of the crates below.
 #![tactic(auto)]
 
-ghost use Rattle.std.specs.Prelude.{◌≡◌, ◌↔◌, ◌⊎◌, ◌+◌, ℕ, ℤ, List, [], ◌∷◌, ◌++◌, None, Some, map, not};
+ghost use Rattle.std.specs.Prelude.{◌≡◌, ◌↔◌, ◌⊎◌, ◌+◌, ◌==◌, ◌&&◌, ◌||◌, ℕ, ℤ, List, [], ◌∷◌, ◌++◌, None, Some, map, max, not};
 ghost use Rattle.std.specs.List.{AllByRecursion};
 ghost use Rattle.std.specs.Cmp.Lexicographic.{slice_cmp};
 ghost use Rattle.std.specs.Int.{cast_unsigned, w64};
@@ -26,7 +26,8 @@ ghost use Rattle.buffa_fields_base.specs.Keep.{IsFieldThere};
 ghost use Rattle.buffa_fields_base.specs.KindLaws.{is_none, is_nought, is_zero};
 ghost use Rattle.buffa_fields.specs.Lists.{ElementsTakeMemory, check_list_wire, element_records, elements_taken, packed_records};
 ghost use Rattle.buffa_fields.specs.MapFields.{PairTakesMemory, entry_cost, entry_taken};
-ghost use Rattle.buffa_fields_base.specs.Members.{keep};
+ghost use Rattle.buffa_fields_base.specs.Layout.{Choice, Kept, Passed, Took, both_need, both_take, is_number};
+ghost use Rattle.buffa_fields_base.specs.Members.{field, keep, skip};
 ghost use Rattle.buffa_fields.specs.Groups.{GroupTakesMemory, group_cost, group_datum, group_records, group_taken};
 ghost use Rattle.buffa_fields.specs.Nested.{FitsInside, MessageTakesMemory, message_cost, message_levels, message_records, message_slots, message_taken};
 ghost use Rattle.buffa_fields.specs.NestedMaps.{pair_levels, pair_records, pair_slots};
@@ -39,6 +40,7 @@ ghost use Rattle.buffa_fields.specs.MapFields.{entry_records};
 ghost use Rattle.buffa_wire.specs.Takes.{cost_of, merged_of};
 ghost use Rattle.buffa_fields_base.specs.Values.{IfThere, RefusesAlone, ValueTakesMemory, free, some_taken, value_taken};
 
+use buffa_fields::fields::Fields;
 use buffa_fields::group::Group;
 use buffa_fields::kind::Kind;
 use buffa_fields::map_member::MapOf;
@@ -373,6 +375,52 @@ pub fn kept_fields_are_these<M>()
     ensures slots { (get : M → List (ℕ × Datum)) (v : List (ℕ × Datum)) → (keep get).slots v ≡ [] }
     ensures levels { (get : M → List (ℕ × Datum)) (v : List (ℕ × Datum)) → (keep get).levels v ≡ height v }
     ensures normal { (get : M → List (ℕ × Datum)) (v : List (ℕ × Datum)) → (keep get).normal v }
+    ensures taken { (get : M → List (ℕ × Datum)) (d n : ℕ) (old new : M) (w : _) (bs rest : List ℕ) (a b : _) (r : _) →
+        (keep get).Taken d old n w bs a r new b rest ↔ Kept d (get old) n w bs a r (get new) b rest }
+{}
+
+/// Fields that aren't declared, where they are passed over: for nothing, and nothing is said of them.
+pub fn passed_fields_are_these<M>()
+    ensures takes { (d n : ℕ) (w : _) (p : List ℕ) (v : _) → (skip {M = M}).takes d v n w p ≡ Some v }
+    ensures asks { (s d n : ℕ) (w : _) (bs : List ℕ) → (skip {M = M}).asks s d n w bs → ⊥ }
+    ensures need { (skip {M = M}).need ≡ free }
+    ensures records { (v : _) → ((skip {M = M}).records v ≡ []) × ((skip {M = M}).slots v ≡ []) }
+    ensures normal { (v : _) → ((skip {M = M}).levels v ≡ 0) × (skip {M = M}).normal v }
+    ensures taken { (d n : ℕ) (old new : M) (w : _) (bs rest : List ℕ) (a b : _) (r : _) →
+        (skip {M = M}).Taken d old n w bs a r new b rest ↔ Passed d n w bs a r b rest }
+{}
+
+/// A member in front of others: it takes the fields of its number, and they stay then; all other fields are theirs. What
+/// it is written as comes before what they are.
+pub fn members_are_these<M: Fields, N: Member>()
+    ensures meaning { (k : ℕ) (get : M → N.Part) (m : M) →
+        (field k get N.shape M.layout).meaning m ≡ (N.shape.meaning (get m), M.layout.meaning m) }
+    ensures blank { (k : ℕ) (get : M → N.Part) → (field k get N.shape M.layout).blank ≡ (N.shape.blank, M.layout.blank) }
+    ensures takes { (k : ℕ) (get : M → N.Part) →
+        (field k get N.shape M.layout).takes ≡ both_take k N.shape.takes M.layout.takes }
+    ensures need { (k : ℕ) (get : M → N.Part) → (field k get N.shape M.layout).need ≡ both_need k N.shape.need M.layout.need }
+    ensures asks { (k : ℕ) (get : M → N.Part) (s d n : ℕ) (w : _) (bs : List ℕ) →
+        (field k get N.shape M.layout).asks s d n w bs ↔ Choice (n == k) (N.shape.asks d n w bs) (M.layout.asks s d n w bs) }
+    ensures records { (k : ℕ) (get : M → N.Part) (v : _) →
+        (field k get N.shape M.layout).records v ≡ N.shape.records k v.0 ++ M.layout.records v.1 }
+    ensures slots { (k : ℕ) (get : M → N.Part) (v : _) →
+        (field k get N.shape M.layout).slots v ≡ N.shape.slots v.0 ++ M.layout.slots v.1 }
+    ensures levels { (k : ℕ) (get : M → N.Part) (v : _) →
+        (field k get N.shape M.layout).levels v ≡ max (N.shape.levels v.0) (M.layout.levels v.1) }
+    ensures normal { (k : ℕ) (get : M → N.Part) (v : _) → (field k get N.shape M.layout).normal v
+        ↔ (N.shape.normal v.0 × M.layout.normal v.1 × M.layout.within (λ n. not (n == k)) v.1) }
+    ensures sound { (k : ℕ) (get : M → N.Part) →
+        (field k get N.shape M.layout).sound ≡ (is_number k && not (M.layout.declares k) && M.layout.sound) }
+    ensures declares { (k : ℕ) (get : M → N.Part) (n : ℕ) →
+        (field k get N.shape M.layout).declares n ≡ (n == k || M.layout.declares n) }
+    ensures taken { (k : ℕ) (get : M → N.Part) (d n : ℕ) (old new : M) (w : _) (bs rest : List ℕ) (a b : _) (r : _) →
+        (field k get N.shape M.layout).Taken d old n w bs a r new b rest
+        ↔ Choice (n == k) (Took N.shape d (get old) n w bs a r (get new) b rest × M.layout.Same old new)
+        ((get new ≡ get old) × M.layout.Taken d old n w bs a r new b rest) }
+    ensures apart { (k : ℕ) (get : M → N.Part) (n : ℕ) (v u : _) → (field k get N.shape M.layout).Apart n v u
+        ↔ Choice (n == k) (v.1 ≡ u.1) ((v.0 ≡ u.0) × M.layout.Apart n v.1 u.1) }
+    ensures same { (k : ℕ) (get : M → N.Part) (a b : M) →
+        (field k get N.shape M.layout).Same a b ↔ ((get b ≡ get a) × M.layout.Same a b) }
 {}
 
 /// A message of its members: the member of its number takes a field, and merging costs what the fields cost. It is
@@ -386,6 +434,7 @@ pub fn messages_are_these<M: Listing>()
     ensures slots { ⟦<Listed as MessageForm<M>>⟧.slots ≡ M.layout.slots }
     ensures levels { ⟦<Listed as MessageForm<M>>⟧.levels ≡ M.layout.levels }
     ensures units { ⟦<Listed as MessageForm<M>>⟧.COST ≡ M.COST }
+    ensures takes { (⟦<Listed as MessageForm<M>>⟧.takes ≡ M.layout.takes) × (⟦<Listed as MessageForm<M>>⟧.need ≡ M.layout.need) }
     ensures normal { (v : _) → ⟦<Listed as MessageForm<M>>⟧.normal v ↔ (M.layout.Owes × M.layout.normal v) }
     ensures sure { (v : _) → ⟦<Listed as MessageForm<M>>⟧.sure v ↔ (M.layout.slots v ≡ []) }
     ensures taken { (d n : ℕ) (old new : M) (w : _) (bs rest : List ℕ) (a b : _) (r : _) →

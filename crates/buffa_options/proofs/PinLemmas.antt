@@ -1,7 +1,20 @@
 -- A value is judged in one way.
-use Rattle.std.proofs.Common.{◌≡◌, ◌⊎◌, inl, inr, ℤ, Bool, true, false, Option, Some, None, IfSome, refl, sym, subst, ap, ◌∙◌, ◌&&◌, int_eq, true≢false}
+use Rattle.std.proofs.Common.{◌≡◌, ◌≢◌, ◌⊎◌, inl, inr, ℕ, ℤ, arith, append-nil, List, [], ◌++◌, Bool, true, false, Option, Some, None, IfSome, Result, Ok, Err, refl, sym, subst, ap, ◌∙◌, ◌&&◌, int_eq, true≢false}
 use Rattle.std.specs.Bool.{Decides, beq}
-use Rattle.std.specs.Option.{option_eq}
+use Rattle.std.specs.Option.{option_eq, option_map}
+use Rattle.buffa_bytes.proofs.VarintLemmas.{varint_complete}
+use Rattle.buffa_bytes.specs.Field.{Payload}
+use Rattle.buffa_bytes.specs.Front.{varint_at}
+use Rattle.buffa_bytes.specs.Gives.{FullOnlyIf}
+use Rattle.buffa_bytes.specs.Scalars.{bool_of}
+use Rattle.buffa_bytes.specs.declared.error.DecodeError.{DecodeError}
+use Rattle.buffa_bytes.specs.declared.error.DecodeError.TheVariants.{OutOfMemory}
+use Rattle.buffa_bytes.specs.declared.wire_type.WireType.{WireType}
+use Rattle.buffa_bytes.specs.declared.wire_type.WireType.TheVariants.{Varint, Fixed64, LengthDelimited, StartGroup, EndGroup, Fixed32}
+use Rattle.buffa_wire.specs.BudgetLeft.{BudgetLeft}
+use Rattle.buffa_wire.specs.Takes.{IsTaken}
+use Rattle.buffa_fields_base.specs.Values.{RefusesAlone, ValueTakesMemory, field_value_at, free, some_taken}
+use Rattle.buffa_options.specs.Meaning.{ReadsDeprecated, bool_reading}
 use Rattle.std.proofs.lemmas.Bool.Decides.{Decides-and, Decides-int_eq, Decides-like}
 use Rattle.std.specs.Int.Signed.{◌≤ℤ◌, ◌<ℤ◌, clash_ℤ}
 use Rattle.std.proofs.lemmas.Int.{by_lt_z}
@@ -103,3 +116,37 @@ rules_decide a b =
     Decides-like _ (λ h i. record { min = h.0 i; max = h.1.0 i; required = h.1.1 i })
     (λ e. (ap (λ (r : Rules). r.min) e, (ap (λ (r : Rules). r.max) e, ap (λ (r : Rules). r.required) e)))
     (Decides-and _ _ (bounds a.min b.min) (Decides-and _ _ (bounds a.max b.max) (bits a.required b.required)))
+
+-- ---- a member that may be absent means its bit
+pub bit_is : (x : Option Bool) → option_map (λ b. b) x ≡ x
+bit_is None = refl
+bit_is (Some b) = refl
+
+-- ---- the declared field
+module _ (d n : ℕ) where
+  declared_ok : (w : WireType) (v : Option Bool) (p rest : List ℕ) (u : Option Bool) → Payload d n w p → some_taken bool_reading d v n w p ≡ Some u →
+      (x : Bool) × (u ≡ Some x) × (field_value_at bool_reading d false n w (p ++ rest) ≡ Ok ((x, true), rest))
+  declared_ok Varint v p rest u (k, h) t =
+      let all : some_taken bool_reading d v n Varint p ≡ Some (Some (bool_of k)) = rw (ap varint_at (sym (append-nil p)) ∙ varint_complete p k [] h) refl in
+      let same : u ≡ Some (bool_of k) = let both = sym t ∙ all in cc in
+      (bool_of k, same, rw (varint_complete p k rest h) refl)
+  declared_ok Fixed64 v p rest u h t = cc
+  declared_ok LengthDelimited v p rest u h t = cc
+  declared_ok StartGroup v p rest u h t = cc
+  declared_ok EndGroup v p rest u h t = cc
+  declared_ok Fixed32 v p rest u h t = cc
+
+  pub declared_read : (x y : Option Bool) (w : WireType) (bs rest : List ℕ) (before after : BudgetLeft) (r : Result (Unit {0}) DecodeError) →
+      IsTaken (some_taken bool_reading) free d (option_map (λ b. b) x) n w bs before r (option_map (λ b. b) y) after rest → FullOnlyIf r (ValueTakesMemory bool_reading d n w bs) →
+      ((e : DecodeError) → r ≡ Err e → RefusesAlone bool_reading (λ _. false) d (option_map (λ b. b) x) n w bs e (option_map (λ b. b) y)) → ReadsDeprecated d n x w bs r y rest × (after ≡ before)
+  declared_read x y w bs rest before after (Ok z) (p, h, e, t, k) full refused =
+      let read = declared_ok w (option_map (λ b. b) x) p rest (option_map (λ b. b) y) h t in
+      let unknown : after.unknown ≡ before.unknown = omega (arith, k.0) in
+      let memory : after.memory ≡ before.memory = omega (arith, k.1) in
+      ((read.0, sym (bit_is y) ∙ read.1, ap (field_value_at bool_reading d false n w) e ∙ read.2), λ i. record { unknown = unknown i; memory = memory i })
+  declared_read x y w bs rest before after (Err e) (k, why, end) full refused =
+      let unknown : after.unknown ≡ before.unknown = omega (arith, k.0, k.1, k.2, k.3) in
+      let memory : after.memory ≡ before.memory = omega (arith, k.0, k.1, k.2, k.3) in
+      let told = refused e refl in
+      let none : e ≢ OutOfMemory = λ is. let asked = (full is).1 in cc in
+      ((sym (bit_is y) ∙ sym told.0 ∙ bit_is x, told.1 none), λ i. record { unknown = unknown i; memory = memory i })

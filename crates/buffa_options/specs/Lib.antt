@@ -1,3 +1,4 @@
 pub mod Options
+pub mod Meaning
 pub mod Rules
 pub mod Pinned

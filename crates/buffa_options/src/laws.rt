@@ -9,9 +9,15 @@ ghost use Rattle.buffa_bytes.specs.declared.wire_type.WireType.TheVariants.{Vari
 ghost use Rattle.buffa_bytes.specs.Pinned.{IsCopied, SameIsOne};
 ghost use Rattle.buffa_wire.specs.BudgetLeft.{BudgetLeft, nothing};
 ghost use Rattle.buffa_wire.specs.Found.{varint_in};
-ghost use Rattle.buffa_wire.specs.Records.{Datum, Held, varint};
+ghost use Rattle.buffa_wire.specs.Encoding.{records_encoding};
+ghost use Rattle.buffa_wire.specs.Kept.{keep_need};
+ghost use Rattle.buffa_wire.specs.Records.{Datum, Held, height, varint};
+ghost use Rattle.buffa_wire.specs.Takes.{cost_of, merged_of};
 ghost use Rattle.buffa_codec.specs.Packed.{numbers_in};
 ghost use Rattle.buffa_codec.specs.Decoded.{last_read};
+ghost use Rattle.buffa_fields_base.specs.Calls.{KeepsFields};
+ghost use Rattle.buffa_fields_base.specs.Keep.{keep_takes};
+ghost use Rattle.buffa_options.specs.Meaning.{OthersAreKept, TakesOptions, options_need, options_records, options_takes};
 ghost use Rattle.buffa_options.specs.Pinned.{EqualByMeaning, IsJudged, OneViolation, NotBoth};
 ghost use Rattle.buffa_options.specs.declared.carrier.Carrier.{Carrier};
 ghost use Rattle.buffa_options.specs.declared.options.FieldOptions.{FieldOptions};
@@ -23,7 +29,9 @@ use crate::price::{Price, PriceCodec};
 use crate::rules::{Rules, Violation};
 use buffa_codec::{ExtensionCodec, Numbered, PackableCodec, SingularCodec};
 use buffa_ext::ExtensionSet;
-use buffa_wire::Blank;
+use buffa_fields_base::fields::Fields;
+use buffa_fields_base::message::members_read_back;
+use buffa_wire::{Blank, MessageSpec};
 
 /// A value is accepted, or it breaks a rule, and not both; and the rule that is told is one.
 ///
@@ -84,10 +92,44 @@ pub fn holders_are_these()
     ensures records { (m : Carrier) → ⟦<Carrier as ExtensionSet>⟧.fields_of m ≡ m.fields }
 {}
 
-/// Options are equal where they mean the same: the declared one, and the records of the others in order. Nothing is
-/// left open.
+/// What options and carriers mean, and from which value they start: what the declared one says, and the records of all
+/// others in order. Options are equal where they mean the same. Nothing is left open.
 pub fn options_are_equal_by_meaning()
+    ensures options { (m : FieldOptions) → ⟦<FieldOptions as Blank>⟧.meaning m ≡ (m.deprecated, m.fields.records) }
+    ensures carrier { (m : Carrier) → ⟦<Carrier as Blank>⟧.meaning m ≡ m.fields.records }
+    ensures blank { (⟦<FieldOptions as Blank>⟧.blank_is ≡ (None, [])) × (⟦<Carrier as Blank>⟧.blank_is ≡ []) }
     ensures equal { EqualByMeaning ⟦<FieldOptions as PartialEq>⟧.eq ⟦<FieldOptions as Blank>⟧.meaning }
+{}
+
+/// Which messages they are: what bytes make of them, what they cost, and their encoding. Nothing is open.
+pub fn messages_are_these()
+    ensures options { (⟦<FieldOptions as MessageSpec>⟧.merged ≡ merged_of options_takes)
+        × (⟦<FieldOptions as MessageSpec>⟧.cost ≡ cost_of options_need) }
+    ensures carrier { (⟦<Carrier as MessageSpec>⟧.merged ≡ merged_of keep_takes)
+        × (⟦<Carrier as MessageSpec>⟧.cost ≡ cost_of keep_need) }
+    ensures records { (v : _) → ⟦<FieldOptions as MessageSpec>⟧.records v ≡ options_records v }
+    ensures encoding { (v : _) → ⟦<FieldOptions as MessageSpec>⟧.encoding v ≡ records_encoding (options_records v) }
+    ensures carrier_records { ⟦<Carrier as MessageSpec>⟧.records ≡ (λ rs. rs) }
+    ensures carrier_encoding { ⟦<Carrier as MessageSpec>⟧.encoding ≡ records_encoding }
+    ensures slots { (⟦<FieldOptions as MessageSpec>⟧.slots ≡ (λ _. [])) × (⟦<Carrier as MessageSpec>⟧.slots ≡ (λ _. [])) }
+    ensures costs { (⟦<FieldOptions as MessageSpec>⟧.COST ≡ 32) × (⟦<Carrier as MessageSpec>⟧.COST ≡ 24) }
+{}
+
+/// Which values are read back from their encoding, and how deep it nests. Nothing is open.
+pub fn messages_are_read_back(options: &FieldOptions)
+    ensures options { (v : _) → ⟦<FieldOptions as MessageSpec>⟧.normal v ↔ OthersAreKept v }
+    ensures carrier { (rs : List (ℕ × Datum)) → ⟦<Carrier as MessageSpec>⟧.normal rs }
+    ensures levels { (v : _) → ⟦<FieldOptions as MessageSpec>⟧.levels v ≡ height v.1 }
+    ensures carrier_levels { ⟦<Carrier as MessageSpec>⟧.levels ≡ height }
+{
+    members_read_back(options);
+}
+
+/// The declared field is read by itself, any other is kept behind the others, and what is refused, by the fault of its
+/// bytes, changes and spends nothing. Open is what stands unread of the declared one then, and where memory runs out.
+pub fn fields_are_taken_alone()
+    ensures options { TakesOptions ⟦<FieldOptions as Fields>⟧.layout.Taken }
+    ensures carrier { KeepsFields ⟦<Carrier as Fields>⟧.layout.Taken (λ m. m.fields.records) }
 {}
 
 /// The constant `PROTO_FQN` of each of these is that name, too. Nothing is left open.

@@ -1,7 +1,6 @@
 -- One field of the messages of int32 and of kept fields; the records of int32, and that they cost nothing.
 use Rattle.std.proofs.Common.{◌≡◌, ◌≢◌, ℕ, zero, suc, ◌==◌, ℤ, pos, negsuc, Bool, true, false, List, [], ◌++◌, Some, Result, Ok, Err, refl, sym, ap, ◌∙◌, arith, append-nil, if◌then◌else◌}
 use Rattle.std.specs.Int.{cast_unsigned, w64}
-use Rattle.std.specs.Prelude.{MatchResult, OnErr}
 use Rattle.buffa_bytes.specs.declared.error.DecodeError.{DecodeError}
 use Rattle.buffa_bytes.specs.declared.error.DecodeError.TheVariants.{OutOfMemory}
 use Rattle.buffa_bytes.specs.declared.wire_type.WireType.{WireType}
@@ -19,7 +18,7 @@ use Rattle.buffa_wire.specs.Records.{varint}
 use Rattle.buffa_fields_base.specs.KindLaws.{is_zero}
 use Rattle.buffa_fields_base.specs.MemberRecords.{plain_records}
 use Rattle.buffa_wire.specs.Takes.{IsTaken, cost_of, costs_nothing}
-use Rattle.buffa_fields_base.specs.Layout.{Choice, both_need}
+use Rattle.buffa_fields_base.specs.Layout.{both_need}
 use Rattle.buffa_wire.proofs.TakesLemmas.{cost_of_free}
 use Rattle.buffa_fields_base.specs.Values.{RefusesAlone, ValueTakesMemory, free, value_taken}
 use Rattle.buffa_samples.specs.Fields.{int32_field, number_records}
@@ -76,11 +75,6 @@ pub other_read : {X : Type 0} (v : X) (read : Result (List ℕ) DecodeError) (r 
 other_read v read (Ok x) before after rest h kept = (ap (λ z. z >>= (λ x. Ok (v, x))) h, tt, sym kept)
 other_read v read (Err e) before after rest h kept = (ap (λ z. z >>= (λ x. Ok (v, x))) h, refl, sym kept)
 
--- a field that is kept, where it is refused
-pub kept_alone : {X Y : Type 0} (old new : X) (before after : Y) (r : Result (Unit {0}) DecodeError) → MatchResult r (λ _. Unit {0}) (λ _. old ≡ new) → MatchResult r (λ _. Unit {0}) (λ _. before ≡ after) → OnErr r ((new ≡ old) × (after ≡ before))
-kept_alone old new before after (Ok x) stays unspent = tt
-kept_alone old new before after (Err e) stays unspent = (sym stays, sym unspent)
-
 -- ---- two values
 abbrev pub put_first : ℤ → ℤ → ℤ × ℤ
 put_first b x = (x, b)
@@ -90,11 +84,6 @@ put_second a x = (a, x)
 
 abbrev pub TwoIsRead : Result ((ℤ × ℤ) × List ℕ) DecodeError → ℤ × ℤ → Result (Unit {0}) DecodeError → ℤ × ℤ → BudgetLeft → BudgetLeft → List ℕ → Type 0
 TwoIsRead field old r new before after rest = IsReadAlone field old r new before after rest
-
--- ---- one of two
-pub choose : {A B C : Type 0} (t : Bool) → Choice t A B → (t ≡ true → A → C) → (t ≡ false → B → C) → C
-choose true h f g = f refl h
-choose false h f g = g refl h
 
 -- ---- records
 pub plain_is : (n : ℕ) (v : ℤ) → plain_records is_zero (λ x. varint (cast_unsigned w64 x)) n v ≡ number_records n v

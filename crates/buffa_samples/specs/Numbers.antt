@@ -41,9 +41,3 @@ abbrev pub ReadsAlone : {M X : Type 0} → FieldTaken M → (ℕ → FieldReader
 ReadsAlone {M} taken field says =
     (d n : ℕ) (old new : M) (w : WireType) (bs rest : List ℕ) (a b : BudgetLeft) (r : Result (Unit {0}) DecodeError) → taken d old n w bs a r new b rest →
     IsReadAlone (field d (says old) n w bs) (says old) r (says new) a b rest
-
--- a refused one changes and spends nothing
-abbrev pub StaysAlone : {M X : Type 0} → FieldTaken M → (M → X) → Type 0
-StaysAlone {M} taken says =
-    (d n : ℕ) (old new : M) (w : WireType) (bs rest : List ℕ) (a b : BudgetLeft) (r : Result (Unit {0}) DecodeError) → taken d old n w bs a r new b rest →
-    OnErr r ((says new ≡ says old) × (b ≡ a))

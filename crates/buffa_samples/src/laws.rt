@@ -5,6 +5,7 @@ ghost use Rattle.std.specs.Hash as fed;
 ghost use Rattle.std.specs.Int.{w32};
 ghost use Rattle.std.specs.Ordering.{int_cmp};
 ghost use Rattle.buffa_bytes.specs.Pinned.{IsCopied, SameIsOne};
+ghost use Rattle.buffa_fields_base.specs.Calls.{KeepsFields};
 ghost use Rattle.buffa_fields_base.specs.Keep.{keep_takes};
 ghost use Rattle.buffa_wire.specs.Takes.{cost_of, merged_of};
 ghost use Rattle.buffa_wire.specs.BudgetLeft.{nothing};
@@ -17,7 +18,7 @@ ghost use Rattle.buffa_samples.specs.Fields.{number_encoding, number_records, va
 ghost use Rattle.buffa_samples.specs.Grown.{Grown, grown, kids, no_kids};
 ghost use Rattle.buffa_samples.specs.Hues.{first_numbers};
 ghost use Rattle.buffa_samples.specs.Letters.{lower, same_letters};
-ghost use Rattle.buffa_samples.specs.Numbers.{ReadsAlone, StaysAlone, flat_takes, two_field, two_takes};
+ghost use Rattle.buffa_samples.specs.Numbers.{ReadsAlone, flat_takes, two_field, two_takes};
 ghost use Rattle.buffa_samples.specs.Passed.{proxy};
 ghost use Rattle.buffa_samples.specs.Pinned.{PassIsPinned, TripIsPinned};
 ghost use Rattle.buffa_samples.specs.TreeMeaning.{cost, merged};
@@ -91,12 +92,13 @@ pub fn trees_hold_these(tree: &Tree) -> (&i32, &BTreeMap<i32, Tree>)
     (&tree.label, &tree.children)
 }
 
-/// A field of the samples of numbers is merged as its bytes say, or refused by its fault; nothing is spent. What is
-/// refused changes nothing, where fields are kept, too, and spends nothing there. Open is what stands unread then.
+/// A field of the samples of numbers is merged as its bytes say, or refused by its fault, and changes nothing then; nothing
+/// is spent. Where fields are kept, each is, or is refused so. Open is what stands unread of a number that is refused, and
+/// where memory runs out.
 pub fn fields_are_read_alone()
     ensures flat { ReadsAlone ⟦<FlatMsg as Fields>⟧.layout.Taken value_field (λ m. m.value) }
     ensures two { ReadsAlone ⟦<TestMsg as Fields>⟧.layout.Taken two_field (λ m. (m.a, m.b)) }
-    ensures keep { StaysAlone ⟦<BudgetMsg as Fields>⟧.layout.Taken (λ m. m.fields.records) }
+    ensures keep { KeepsFields ⟦<BudgetMsg as Fields>⟧.layout.Taken (λ m. m.fields.records) }
 {}
 
 /// Which values of each sample are read back from their encoding, and how deep it nests. Nothing is open.

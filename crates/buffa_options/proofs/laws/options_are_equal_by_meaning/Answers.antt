@@ -4,6 +4,7 @@ use Rattle.std.specs.Option.{option_eq, option_map}
 use Rattle.std.proofs.lemmas.Bool.{false≢true}
 use Rattle.buffa_wire.specs.Equal.{held_eq, records_eq-Decides}
 use Rattle.buffa_wire.specs.Records.{Datum, Held, Records, no_records, one, records_of}
+use Rattle.buffa_options.proofs.PinLemmas.{bit_is}
 use Rattle.buffa_options.proofs.laws.options_are_equal_by_meaning.Goals as goal
 
 abbrev list_of : Records → List (ℕ × Datum)
@@ -32,5 +33,8 @@ told (Some false) (Some false) h k = (λ e. λ i. (Some false, same_records h k 
 told (Some true) (Some false) h k = (λ e. absurd (false≢true e), λ e. let q = ap (λ z. z.0) e in cc)
 told (Some false) (Some true) h k = (λ e. absurd (false≢true e), λ e. let q = ap (λ z. z.0) e in cc)
 
-pub returns : goal.returns
-returns c = record { equal = λ a b. told a.deprecated b.deprecated a.fields b.fields }
+pub returns-clause-options : goal.returns-clause-options
+returns-clause-options c = λ m. λ i. (bit_is m.deprecated i, m.fields.records)
+
+pub returns-clause-equal : goal.returns-clause-equal
+returns-clause-equal c = λ a b. told a.deprecated b.deprecated a.fields b.fields

@@ -1,8 +1,9 @@
 use Rattle.std.proofs.Common.{ℤ, ◌==◌, sym, subst}
 use Rattle.std.proofs.lemmas.Bool.{eqb-true}
 use Rattle.buffa_bytes.specs.Front.{skip_at}
-use Rattle.buffa_fields_base.specs.Layout.{Kept, Passed, Took}
-use Rattle.buffa_samples.proofs.NumberLemmas.{TwoIsRead, choose, kept_alone, member_read, other_read, put_first, put_second}
+use Rattle.buffa_fields_base.specs.Layout.{Passed, Took}
+use Rattle.buffa_fields_base.specs.LayoutLaws.{choose}
+use Rattle.buffa_samples.proofs.NumberLemmas.{TwoIsRead, member_read, other_read, put_first, put_second}
 use Rattle.buffa_samples.specs.Fields.{int32_field, skipped_field}
 use Rattle.buffa_samples.specs.Numbers.{IsReadAlone}
 use Rattle.buffa_samples.proofs.laws.fields_are_read_alone.Goals as goal
@@ -40,5 +41,4 @@ returns-clause-two c = λ d n old new w bs rest a b r h.
     (subst (λ z. TwoIsRead (skipped_field d was n w bs) was r (old.a, z) a b rest) (sym again.0) read)))))
 
 pub returns-clause-keep : goal.returns-clause-keep
-unfolding Kept
-returns-clause-keep c = λ d n old new w bs rest a b r h. kept_alone old.fields.records new.fields.records a b r h.1 h.3
+returns-clause-keep c = λ d n old new w bs rest a b r h. h
