@@ -17,7 +17,7 @@ use Rattle.buffa_map.specs.Calls.{Exit}
 use Rattle.buffa_map.specs.Codec.{Reading, Writing}
 use Rattle.buffa_map.specs.Pairs.{means}
 use Rattle.buffa_fields.specs.Lists.{check_list_wire, elements_taken}
-use Rattle.buffa_fields.specs.MapFields.{entry_cost, entry_taken}
+use Rattle.buffa_fields.specs.MapFields.{pair_cost, pair_taken}
 use Rattle.buffa_fields.specs.NestedMaps.{pair_records, pair_slots}
 use Rattle.buffa_fields.specs.RepeatedNested.{messages_records, messages_slots}
 use Rattle.buffa_wire.specs.Takes.{IsTaken}
@@ -37,13 +37,13 @@ ChecksListWire tag expected r old new before after =
 abbrev pub TakesEntry : {A B S D T K V : Type 0} → Tag → DecodeContext → Exit D → HashMap A B S → HashMap A B S → Bor (List ℕ) → Bor (List ℕ) → Result T DecodeError → (A → K) → (B → V) → Reading K → Reading V →
     (List (K × V) → K → V → List (K × V)) → ℕ → Type 0
 TakesEntry tag ctx left old new before after r key_means val_means key val puts cost =
-    TakesIn tag ctx left old new before after r (entry_taken key val puts) (entry_cost key val cost) (λ m. means key_means val_means m.entries)
+    TakesIn tag ctx left old new before after r (pair_taken key val puts) (pair_cost key val cost) (λ m. means key_means val_means m.entries)
 
 -- the same of one that is walked in the order of its keys
 abbrev pub TakesOrderedEntry : {A B D T K V : Type 0} → Tag → DecodeContext → Exit D → BTreeMap A B → BTreeMap A B → Bor (List ℕ) → Bor (List ℕ) → Result T DecodeError → (A → K) → (B → V) → Reading K → Reading V →
     (K → K → Ordering) → ℕ → Type 0
 TakesOrderedEntry tag ctx left old new before after r key_means val_means key val order cost =
-    TakesIn tag ctx left old new before after r (entry_taken key val (insert_entry order)) (entry_cost key val cost) (λ m. means key_means val_means m.entries)
+    TakesIn tag ctx left old new before after r (pair_taken key val (insert_entry order)) (pair_cost key val cost) (λ m. means key_means val_means m.entries)
 
 -- elements were taken behind the others, at any budget
 abbrev pub TakesElements : {P V T : Type 0} → Tag → ℕ → P → P → Bor (List ℕ) → Bor (List ℕ) → Result T DecodeError → Reading V → (P → List V) → Type 0

@@ -3,6 +3,8 @@ pub use Rattle.buffa_fields_base.specs.Values
 pub use Rattle.buffa_fields_base.specs.ValueLaws
 pub use Rattle.buffa_fields_base.specs.KindLaws
 pub mod Refusals
+pub mod Entries
+pub mod EntriesLaws
 pub mod MapFields
 pub mod MapLaws
 pub mod OrderedMaps

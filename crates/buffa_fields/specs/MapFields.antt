@@ -1,24 +1,20 @@
 -- Map fields in messages. Source: the protobuf encoding guide, "Maps".
-use Rattle.std.specs.Prelude.{◌≡◌, ◌⊎◌, ℕ, true, List, [], ◌∷◌, ◌++◌, MatchResult, cond, Option, None, Result, Ok, Err, if◌then◌else◌}
-use Rattle.std.specs.Option.{option_map}
-use Rattle.buffa_bytes.specs.declared.error.DecodeError.{DecodeError}
+use Rattle.std.specs.Prelude.{◌≡◌, ◌⊎◌, ℕ, true, List, [], ◌∷◌, ◌++◌, MatchResult, cond, Result, Ok}
 use Rattle.buffa_bytes.specs.declared.error.DecodeError.TheVariants.{OutOfMemory}
 use Rattle.buffa_bytes.specs.declared.wire_type.WireType.TheVariants.{LengthDelimited}
 use Rattle.buffa_bytes.specs.declared.error.EncodeError.{EncodeError}
 use Rattle.buffa_bytes.specs.declared.error.EncodeError.TheVariants as encode
 use Rattle.buffa_wire.specs.Passes.{Begins, IsSmall}
 use Rattle.buffa_wire.specs.Encoding.{records_encoding}
-use Rattle.buffa_wire.specs.BudgetLeft.{need_by, nothing}
 use Rattle.buffa_bytes.specs.Front.{delimited_at}
 use Rattle.buffa_wire.specs.Records.{Datum, bytes}
-use Rattle.buffa_bytes.specs.WireType.{same_wire}
 use Rattle.buffa_map.specs.Codec.{Reading, Writing}
-use Rattle.buffa_map.specs.Entry.{IsEntry, entry_of, need_of}
+use Rattle.buffa_map.specs.Entry.{IsEntry, need_of}
 use Rattle.buffa_map.specs.Fields.{EntryFieldsTakeMemory}
 use Rattle.buffa_map.specs.Encoding.{entry_encoding}
 use Rattle.buffa_map.specs.declared.map_entry.MapEntry.{MapEntry}
-use Rattle.buffa_wire.specs.ByField.{value_of}
 use Rattle.buffa_wire.specs.Takes.{Asks, Need, Taker}
+use Rattle.buffa_fields.specs.Entries.{entry_cost, entry_taken}
 
 -- where pairs are put so, the pairs after an entry that said s: a declared one is put
 abbrev pub stepped : {K V : Type 0} → (List (K × V) → K → V → List (K × V)) → List (K × V) → MapEntry K V → List (K × V)
@@ -30,24 +26,19 @@ put_all puts m [] = m
 put_all puts m (p ∷ ps) = put_all puts (puts m p.0 p.1) ps
 
 module _ {K V : Type 0} (key : Reading K) (val : Reading V) where
-  -- the entry that a whole payload holds
-  abbrev pub entry_in : ℕ → Result (List ℕ × List ℕ) DecodeError → Option (MapEntry K V)
-  entry_in d (Ok (e, [])) = value_of (entry_of key val d e)
-  entry_in d (Ok (e, b ∷ bs)) = None
-  entry_in d (Err f) = None
-
   -- each payload is an entry, whose pair is put
-  unfoldable pub entry_taken : (List (K × V) → K → V → List (K × V)) → Taker (List (K × V))
-  entry_taken puts d m n w p = if same_wire LengthDelimited w then option_map (stepped puts m) (entry_in d (delimited_at p)) else None
+  abbrev pub pair_taken : (List (K × V) → K → V → List (K × V)) → Taker (List (K × V))
+  pair_taken puts = entry_taken key val (λ m e s. stepped puts m s)
+
+  -- a pair costs so many units, and what the messages in its entry cost
+  abbrev pub pair_cost : ℕ → Need
+  pair_cost cost = entry_cost (λ d e. need_of key val d cost e)
 
   -- one takes memory where a length and so many bytes are there, and a field in these does, or they are an entry, which is put
   abbrev pub PairTakesMemory : Asks
   PairTakesMemory d n w bs =
       (w ≡ LengthDelimited) × (e : List ℕ) × (rest : List ℕ) × (delimited_at bs ≡ Ok (e, rest))
       × (EntryFieldsTakeMemory key val d e OutOfMemory ⊎ ((s : MapEntry K V) × IsEntry key val d e s × (s.known ≡ true)))
-
-  unfoldable pub entry_cost : ℕ → Need
-  entry_cost cost d n w bs = if same_wire LengthDelimited w then need_by (delimited_at bs) (λ e. need_of key val d cost e.0) else nothing
 
 -- a record for each pair
 abbrev pub map_records : {K V : Type 0} → Writing K → Writing V → ℕ → List (K × V) → List (ℕ × Datum)

@@ -24,7 +24,7 @@ use Rattle.buffa_map.specs.MessageField.{IsFieldSized, IsFieldWritten, IsSmallFi
 use Rattle.buffa_map.specs.Scalars.{delimited_writing}
 use Rattle.buffa_map.specs.Encoding.{AllHold, field_size, field_encoding}
 use Rattle.buffa_fields_base.specs.LayoutLaws.{failed, sum}
-use Rattle.buffa_fields.specs.MapFields.{entry_taken, map_records, put_all}
+use Rattle.buffa_fields.specs.MapFields.{map_records, pair_taken, put_all}
 use Rattle.buffa_fields.specs.MapLaws.{map_back, map_encoding}
 use Rattle.buffa_fields.specs.NestedMaps.{pair_levels, pair_records, pair_slots}
 use Rattle.buffa_wire.specs.Takes.{ReadsBack}
@@ -92,7 +92,7 @@ module _ {X : Type 0} (merged : ℕ → X → List ℕ → Option X) (blank : X)
         (ok.0, (ok.1, omega (arith, fits.1, whole, both), omega (arith, low)), all_low ps fits.2 ok.2 (omega (arith, low)))
 
     pub pairs_back : (l : List (K × X)) → Fits (records_of (pair_records kw encoding n l)) → AllHold KeyOk Normal l → put_all puts [] l ≡ l → pair_levels level l ≤ d →
-        ReadsBack (entry_taken key (message_reading blank merged cost) puts) (λ m. m == n) d [] (records_encoding (pair_records kw encoding n l)) l
+        ReadsBack (pair_taken key (message_reading blank merged cost) puts) (λ m. m == n) d [] (records_encoding (pair_records kw encoding n l)) l
     unfolding pair_records
     pairs_back l fits ok put_back low =
         map_back key (message_reading blank merged cost) kw (delimited_writing encoding) same_key refl puts KeyOk (IsLow d) d (key_back d) (inside_back d) n number l fits (all_low l fits ok low) put_back

@@ -9,7 +9,7 @@ ghost use Rattle.buffa_wire.specs.Encoding.{records_encoding};
 ghost use Rattle.buffa_map.specs.Pairs.{means, put};
 ghost use Rattle.buffa_fields_base.specs.Calls.{ChecksWire};
 ghost use Rattle.buffa_fields.specs.KindCalls.{TakesEntry};
-ghost use Rattle.buffa_fields.specs.MapFields.{PairTakesMemory, WritesMap, entry_cost, entry_taken, map_records};
+ghost use Rattle.buffa_fields.specs.MapFields.{PairTakesMemory, WritesMap, map_records, pair_cost, pair_taken};
 ghost use Rattle.buffa_fields.specs.Refusals.{RefusesPairIn};
 ghost use Rattle.buffa_wire.specs.Takes.{IsTaken};
 
@@ -48,7 +48,7 @@ where
 }
 
 // Merges the entry of the field whose tag was read.
-#[tactic(auto, unfolding(crate::specs::MapFields::entry_taken, crate::specs::MapFields::entry_cost))]
+#[tactic(auto, unfolding(crate::specs::Entries::entry_taken, crate::specs::Entries::entry_cost))]
 pub(crate) fn take_entry<KC: MapCodec, VC: MapValueDecode>(
     alloc: Global,
     map: &mut Map<KC::Value, VC::Value>,

@@ -9,7 +9,7 @@ ghost use Rattle.buffa_bytes.specs.Front.{check_wire};
 ghost use Rattle.buffa_map.proofs.BackLemmas.{plain_back};
 ghost use Rattle.buffa_map.specs.Pairs.{means, put};
 ghost use Rattle.buffa_map.specs.Encoding.{AllHold};
-ghost use Rattle.buffa_fields.specs.MapFields.{PairTakesMemory, entry_cost, entry_taken};
+ghost use Rattle.buffa_fields.specs.MapFields.{PairTakesMemory, pair_cost, pair_taken};
 ghost use Rattle.buffa_fields.specs.MapLaws.{distinct_put, map_back, map_stays};
 ghost use Rattle.buffa_fields.specs.MapFields.{entry_records};
 ghost use Rattle.buffa_fields.specs.Refusals.{RefusesPair};
@@ -45,11 +45,11 @@ where
     ghost shape = { record {
       meaning = λ m. means KC.Value.meaning VC.Value.meaning m.entries;
       blank = [];
-      takes = entry_taken KC.reading VC.reading (put KC.Value.same);
+      takes = pair_taken KC.reading VC.reading (put KC.Value.same);
       checks = λ n w. check_wire n LengthDelimited w;
       refuses = RefusesPair KC.reading VC.reading (KC.COST + VC.COST);
       asks = PairTakesMemory KC.reading VC.reading;
-      need = entry_cost KC.reading VC.reading (KC.COST + VC.COST);
+      need = pair_cost KC.reading VC.reading (KC.COST + VC.COST);
       records = entry_records KC.writing VC.writing;
       slots = λ _. [];
       levels = λ _. 0;

@@ -13,7 +13,7 @@ ghost use Rattle.buffa_map.specs.Message.{message_reading};
 ghost use Rattle.buffa_map.specs.Pairs.{means, put};
 ghost use Rattle.buffa_map.specs.Encoding.{AllHold};
 ghost use Rattle.buffa_fields.specs.KindCalls.{SizesPairs, WritesPairs};
-ghost use Rattle.buffa_fields.specs.MapFields.{PairTakesMemory, entry_cost, entry_taken};
+ghost use Rattle.buffa_fields.specs.MapFields.{PairTakesMemory, pair_cost, pair_taken};
 ghost use Rattle.buffa_fields.specs.MapLaws.{distinct_put, map_stays};
 ghost use Rattle.buffa_fields.specs.Nested.{FitsInside};
 ghost use Rattle.buffa_fields.specs.NestedMapLaws.{pairs_back};
@@ -95,11 +95,11 @@ where
     ghost shape = { record {
       meaning = λ m. means KC.Value.meaning N.meaning m.entries;
       blank = [];
-      takes = entry_taken KC.reading (message_reading N.blank_is N.merged N.cost) (put KC.Value.same);
+      takes = pair_taken KC.reading (message_reading N.blank_is N.merged N.cost) (put KC.Value.same);
       checks = λ n w. check_wire n LengthDelimited w;
       refuses = RefusesPair KC.reading (message_reading N.blank_is N.merged N.cost) (KC.COST + N.COST);
       asks = PairTakesMemory KC.reading (message_reading N.blank_is N.merged N.cost);
-      need = entry_cost KC.reading (message_reading N.blank_is N.merged N.cost) (KC.COST + N.COST);
+      need = pair_cost KC.reading (message_reading N.blank_is N.merged N.cost) (KC.COST + N.COST);
       records = pair_records KC.writing N.encoding;
       slots = pair_slots N.encoding N.slots;
       levels = pair_levels N.levels;

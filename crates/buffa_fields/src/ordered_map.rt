@@ -11,7 +11,7 @@ ghost use Rattle.buffa_map.specs.Encoding.{AllHold};
 ghost use Rattle.buffa_map.specs.Pairs.{means};
 ghost use Rattle.buffa_fields_base.specs.Calls.{ChecksWire};
 ghost use Rattle.buffa_fields.specs.KindCalls.{TakesOrderedEntry};
-ghost use Rattle.buffa_fields.specs.MapFields.{PairTakesMemory, entry_cost, entry_taken};
+ghost use Rattle.buffa_fields.specs.MapFields.{PairTakesMemory, pair_cost, pair_taken};
 ghost use Rattle.buffa_fields.specs.MapLaws.{map_back, map_stays};
 ghost use Rattle.buffa_fields.specs.MapFields.{entry_records};
 ghost use Rattle.buffa_fields.specs.OrderedLaws.{ascending_put};
@@ -32,7 +32,7 @@ use std::collections::BTreeMap;
 use std::marker::PhantomData;
 
 // Merges the entry of the field whose tag was read; the two lengths are there since they tell that the keys ascend.
-#[tactic(auto, unfolding(crate::specs::MapFields::entry_taken, crate::specs::MapFields::entry_cost))]
+#[tactic(auto, unfolding(crate::specs::Entries::entry_taken, crate::specs::Entries::entry_cost))]
 pub(crate) fn take_ordered<KC: MapCodec, VC: MapValueDecode>(
     alloc: Global,
     map: &mut BTreeMap<KC::Value, VC::Value>,
@@ -87,11 +87,11 @@ where
     ghost shape = { record {
       meaning = λ m. means KC.Value.meaning VC.Value.meaning m.entries;
       blank = [];
-      takes = entry_taken KC.reading VC.reading (insert_entry KC.Value.order);
+      takes = pair_taken KC.reading VC.reading (insert_entry KC.Value.order);
       checks = λ n w. check_wire n LengthDelimited w;
       asks = PairTakesMemory KC.reading VC.reading;
       refuses = RefusesPair KC.reading VC.reading (KC.COST + VC.COST);
-      need = entry_cost KC.reading VC.reading (KC.COST + VC.COST);
+      need = pair_cost KC.reading VC.reading (KC.COST + VC.COST);
       records = entry_records KC.writing VC.writing;
       slots = λ _. [];
       levels = λ _. 0;

@@ -9,7 +9,7 @@ ghost use Rattle.buffa_map.proofs.BackLemmas.{plain_back};
 ghost use Rattle.buffa_map.specs.Encoding.{AllHold};
 ghost use Rattle.buffa_map.specs.Message.{message_reading};
 ghost use Rattle.buffa_map.specs.Pairs.{means};
-ghost use Rattle.buffa_fields.specs.MapFields.{PairTakesMemory, entry_cost, entry_taken};
+ghost use Rattle.buffa_fields.specs.MapFields.{PairTakesMemory, pair_cost, pair_taken};
 ghost use Rattle.buffa_fields.specs.MapLaws.{map_stays};
 ghost use Rattle.buffa_fields.specs.Nested.{FitsInside};
 ghost use Rattle.buffa_fields.specs.NestedMapLaws.{pairs_back};
@@ -52,11 +52,11 @@ where
     ghost shape = { record {
       meaning = λ m. means KC.Value.meaning N.meaning m.entries;
       blank = [];
-      takes = entry_taken KC.reading (message_reading N.blank_is N.merged N.cost) (insert_entry KC.Value.order);
+      takes = pair_taken KC.reading (message_reading N.blank_is N.merged N.cost) (insert_entry KC.Value.order);
       checks = λ n w. check_wire n LengthDelimited w;
       asks = PairTakesMemory KC.reading (message_reading N.blank_is N.merged N.cost);
       refuses = RefusesPair KC.reading (message_reading N.blank_is N.merged N.cost) (KC.COST + N.COST);
-      need = entry_cost KC.reading (message_reading N.blank_is N.merged N.cost) (KC.COST + N.COST);
+      need = pair_cost KC.reading (message_reading N.blank_is N.merged N.cost) (KC.COST + N.COST);
       records = pair_records KC.writing N.encoding;
       slots = pair_slots N.encoding N.slots;
       levels = pair_levels N.levels;

@@ -1,9 +1,10 @@
 -- What a field and the others owe together.
 use Rattle.std.proofs.Common.{◌≡◌, ◌≢◌, inl, inr, ℕ, ◌==◌, ◌≤◌, max, Bool, true, false, not, ◌&&◌, List, [], ◌∷◌, ◌++◌, Some, Result, Ok, Err, refl, sym, ap, subst, ◌∙◌, arith, append_assoc, if◌then◌else◌}
 use Rattle.std.proofs.lemmas.Bool.{eq-eqb, eqb-true, ltb-true, ne_eqb}
+use Rattle.std.specs.Option.{option_map}
 use Rattle.std.specs.Prelude.{nat_lt}
 use Rattle.buffa_bytes.specs.declared.wire_type.WireType.{WireType}
-use Rattle.buffa_wire.specs.BudgetLeft.{BudgetLeft}
+use Rattle.buffa_wire.specs.BudgetLeft.{BudgetLeft, Lacks, Pays, PaysAtMost}
 use Rattle.buffa_bytes.specs.declared.error.DecodeError.{DecodeError}
 use Rattle.buffa_bytes.specs.Number.{IsNumber}
 use Rattle.buffa_wire.specs.Parse.{Fits}
@@ -30,9 +31,13 @@ both_stay k f g h j d n w p x payload = at (n == k)
 pub no_pieces : (P : ℕ → Bool) (d : ℕ) (v : Unit {0}) → ReadsBack (λ d v n w p. Some v) P d tt [] v
 no_pieces P d v = record { pieces = []; spelled = refl; leads = refl }
 
-joined-append : (xs ys : List Piece) → joined (xs ++ ys) ≡ joined xs ++ joined ys
+pub joined-append : (xs ys : List Piece) → joined (xs ++ ys) ≡ joined xs ++ joined ys
 joined-append [] ys = refl
 joined-append (x ∷ xs) ys = ap (λ (z : List ℕ). (x.tag ++ x.payload) ++ z) (joined-append xs ys) ∙ sym (append_assoc (x.tag ++ x.payload) (joined xs) (joined ys))
+
+pub leads_both : {X : Type 0} (T : Taker X) (P : ℕ → Bool) (d : ℕ) (s t u : X) (fs gs : List Piece) → Leads T P d s fs t → Leads T P d t gs u → Leads T P d s (fs ++ gs) u
+leads_both T P d s t u [] gs h l = subst (λ z. Leads T P d z gs u) (sym h) l
+leads_both T P d s t u (x ∷ fs) gs (is, tag, payload, v, h, j) l = (is, tag, payload, v, h, leads_both T P d v t u fs gs j l)
 
 and_left : (a b : Bool) → (a && b) ≡ true → a ≡ true
 and_left true b h = refl
@@ -70,10 +75,6 @@ module _ {A B : Type 0} (k : ℕ) (f : Taker A) (g : Taker B) (P : ℕ → Bool)
       let off = not_true (x.number == k) (and_left (not (x.number == k)) (P x.number) is) in
       (and_right (not (x.number == k)) (P x.number) is, tag, payload, (a, u), rw (off, h) refl, others d a u t fs l)
 
-  along : (d : ℕ) (s t u : A × B) (fs gs : List Piece) → Leads (both_take k f g) P d s fs t → Leads (both_take k f g) P d t gs u → Leads (both_take k f g) P d s (fs ++ gs) u
-  along d s t u [] gs h l = subst (λ z. Leads (both_take k f g) P d z gs u) (sym h) l
-  along d s t u (x ∷ fs) gs (is, tag, payload, v, h, j) l = (is, tag, payload, v, h, along d v t u fs gs j l)
-
 pub both_back : {A B : Type 0} (k : ℕ) (f : Taker A) (g : Taker B) (D : ℕ → Bool) (sound : Bool) (a : A) (b : B)
     (fr : A → List (ℕ × Datum)) (gr : B → List (ℕ × Datum)) (fn : A → Type 0) (gn : B → Type 0) (fl : A → ℕ) (gl : B → ℕ) (within : (ℕ → Bool) → B → Type 0) →
     ((P Q : ℕ → Bool) (v : B) → within P v → within Q v → within (λ n. P n && Q n) v) →
@@ -89,42 +90,33 @@ both_back k f g D sound a b fr gr fn gn fl gl within both one more ok P d v has 
     record {
       pieces = x.pieces ++ y.pieces;
       spelled = records_encoding-append (fr v.0) (gr v.1) ∙ (λ i. x.spelled i ++ y.spelled i) ∙ sym (joined-append x.pieces y.pieces);
-      leads = along k f g P d (a, b) (v.0, b) v x.pieces y.pieces (first k f g P has.0 d a v.0 b x.pieces x.leads) (others k f g P d v.0 b v.1 y.pieces y.leads);
+      leads = leads_both (both_take k f g) P d (a, b) (v.0, b) v x.pieces y.pieces (first k f g P has.0 d a v.0 b x.pieces x.leads) (others k f g P d v.0 b v.1 y.pieces y.leads);
     }
 
--- ---- one field is merged: the first, or one of the others
+-- ---- one field of several is merged
+module _ {A X : Type 0} (f : Taker A) (fn : Need) (T : Taker X) (N : Need) (d n : ℕ) (w : WireType) (a : A) (v : X) (set : A → X)
+    (same : (p : List ℕ) → T d v n w p ≡ option_map set (f d a n w p)) (costs : (bs : List ℕ) → N d n w bs ≡ fn d n w bs) where
+  pub part_taken : (bs rest : List ℕ) (before after : BudgetLeft) (r : Result (Unit {0}) DecodeError) (x : A) → IsTaken f fn d a n w bs before r x after rest →
+      IsTaken T N d v n w bs before r (set x) after rest
+  part_taken bs rest before after (Ok _) x (p, payload, split, h, pays) =
+      (p, payload, split, same p ∙ ap (option_map set) h, subst (λ z. Pays before z after) (sym (costs bs)) pays)
+  part_taken bs rest before after (Err _) x (pays, why, full) = (
+    subst (λ z. PaysAtMost before z after) (sym (costs bs)) pays,
+    λ ne. elim (why ne) [
+      | inl few ↦ inl (subst (λ z. Lacks before z) (sym (costs bs)) few)
+      | inr refused ↦ inr ((λ p x payload split. same p ∙ ap (option_map set) (refused.0 p x payload split)), refused.1)
+    ],
+    full,
+  )
+
+-- the first, or one of the others
 module _ {A B : Type 0} (k : ℕ) (f : Taker A) (g : Taker B) (fn gn : Need) (d : ℕ) (a : A) (b : B) (n : ℕ) (w : WireType) (bs : List ℕ) (before : BudgetLeft) where
   pub first_taken : (r : Result (Unit {0}) DecodeError) (x : A) (after : BudgetLeft) (rest : List ℕ) → n ≡ k → IsTaken f fn d a n w bs before r x after rest →
       IsTaken (both_take k f g) (both_need k fn gn) d (a, b) n w bs before r (x, b) after rest
-  first_taken (Ok _) x after rest is (p, payload, split, h, pays) =
-      let e = eq-eqb n k is in
-      (p, payload, split, rw (e, h) refl, rw e pays)
-  first_taken (Err _) x after rest is (pays, why, full) =
-      let e = eq-eqb n k is in (
-        rw e pays,
-        λ ne. elim (why ne) [
-          | inl few ↦ inl (rw e few)
-          | inr bad ↦ inr ((λ p rest payload split. rw (e, bad.0 p rest payload split) refl), bad.1)
-        ],
-        full,
-      )
-
-  -- the same, where what stood is known by an equation
-  pub first_taken_of : (c : A) → c ≡ a → (r : Result (Unit {0}) DecodeError) (x : A) (after : BudgetLeft) (rest : List ℕ) → n ≡ k → IsTaken f fn d c n w bs before r x after rest →
-      IsTaken (both_take k f g) (both_need k fn gn) d (a, b) n w bs before r (x, b) after rest
-  first_taken_of c same r x after rest is h = first_taken r x after rest is (subst (λ z. IsTaken f fn d z n w bs before r x after rest) same h)
+  first_taken r x after rest is =
+      part_taken f fn (both_take k f g) (both_need k fn gn) d n w a (a, b) (λ z. (z, b)) (λ p. rw (eq-eqb n k is) refl) (λ p. rw (eq-eqb n k is) refl) bs rest before after r x
 
   pub other_taken : (r : Result (Unit {0}) DecodeError) (y : B) (after : BudgetLeft) (rest : List ℕ) → n ≢ k → IsTaken g gn d b n w bs before r y after rest →
       IsTaken (both_take k f g) (both_need k fn gn) d (a, b) n w bs before r (a, y) after rest
-  other_taken (Ok _) y after rest not_is (p, payload, split, h, pays) =
-      let e = ne_eqb n k not_is in
-      (p, payload, split, rw (e, h) refl, rw e pays)
-  other_taken (Err _) y after rest not_is (pays, why, full) =
-      let e = ne_eqb n k not_is in (
-        rw e pays,
-        λ ne. elim (why ne) [
-          | inl few ↦ inl (rw e few)
-          | inr bad ↦ inr ((λ p rest payload split. rw (e, bad.0 p rest payload split) refl), bad.1)
-        ],
-        full,
-      )
+  other_taken r y after rest not_is =
+      part_taken g gn (both_take k f g) (both_need k fn gn) d n w b (a, b) (λ z. (a, z)) (λ p. rw (ne_eqb n k not_is) refl) (λ p. rw (ne_eqb n k not_is) refl) bs rest before after r y

@@ -9,7 +9,6 @@ use Rattle.buffa_bytes.specs.declared.wire_type.WireType.{WireType}
 use Rattle.buffa_wire.proofs.MessageLemmas.{loop_fault}
 use Rattle.buffa_wire.proofs.ByPayloadLemmas.{ByPayload, field_costs, field_means, judged_all, merged_join, plainly, untagged}
 use Rattle.buffa_wire.specs.BudgetLeft.{BudgetLeft, Pays, PaysAtMost}
-use Rattle.buffa_bytes.specs.Join.Join.{none}
 use Rattle.buffa_wire.specs.Message.{MergeFault}
 use Rattle.buffa_bytes.specs.Front.{tag_at}
 use Rattle.buffa_fields_base.specs.Layout.{Layout}

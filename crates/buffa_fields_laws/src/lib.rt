@@ -25,7 +25,7 @@ ghost use Rattle.buffa_map.specs.Encoding.{AllHold};
 ghost use Rattle.buffa_fields_base.specs.Keep.{IsFieldThere};
 ghost use Rattle.buffa_fields_base.specs.KindLaws.{is_none, is_nought, is_zero};
 ghost use Rattle.buffa_fields.specs.Lists.{ElementsTakeMemory, check_list_wire, element_records, elements_taken, packed_records};
-ghost use Rattle.buffa_fields.specs.MapFields.{PairTakesMemory, entry_cost, entry_taken};
+ghost use Rattle.buffa_fields.specs.MapFields.{PairTakesMemory, pair_cost, pair_taken};
 ghost use Rattle.buffa_fields_base.specs.Layout.{Choice, Kept, Passed, Took, both_need, both_take, is_number};
 ghost use Rattle.buffa_fields_base.specs.Members.{field, keep, skip};
 ghost use Rattle.buffa_fields.specs.Groups.{GroupTakesMemory, group_cost, group_datum, group_records, group_taken};
@@ -212,14 +212,14 @@ where
     ensures meaning { (p : _) → ⟦<MapOf<KC, VC> as Member>⟧.shape.meaning p
         ≡ means KC.Value.meaning VC.Value.meaning p.entries }
     ensures blank { ⟦<MapOf<KC, VC> as Member>⟧.shape.blank ≡ [] }
-    ensures takes { ⟦<MapOf<KC, VC> as Member>⟧.shape.takes ≡ entry_taken KC.reading VC.reading (put KC.Value.same) }
+    ensures takes { ⟦<MapOf<KC, VC> as Member>⟧.shape.takes ≡ pair_taken KC.reading VC.reading (put KC.Value.same) }
     ensures checks { (n : ℕ) (w : _) → ⟦<MapOf<KC, VC> as Member>⟧.shape.checks n w
         ≡ check_wire n WireType.LengthDelimited w }
     ensures asks { (d n : ℕ) (w : _) (bs : List ℕ) → ⟦<MapOf<KC, VC> as Member>⟧.shape.asks d n w bs
         ↔ (PairTakesMemory KC.reading VC.reading d n w bs) }
     ensures refuses { RefusesAs ⟦<MapOf<KC, VC> as Member>⟧.shape
         (RefusesPair KC.reading VC.reading (KC.COST + VC.COST)) }
-    ensures need { ⟦<MapOf<KC, VC> as Member>⟧.shape.need ≡ entry_cost KC.reading VC.reading (KC.COST + VC.COST) }
+    ensures need { ⟦<MapOf<KC, VC> as Member>⟧.shape.need ≡ pair_cost KC.reading VC.reading (KC.COST + VC.COST) }
     ensures records { (n : ℕ) (v : _) → ⟦<MapOf<KC, VC> as Member>⟧.shape.records n v
         ≡ entry_records KC.writing VC.writing n v }
     ensures slots { (v : _) → ⟦<MapOf<KC, VC> as Member>⟧.shape.slots v ≡ [] }
@@ -237,7 +237,7 @@ where
         ≡ means KC.Value.meaning N.meaning p.entries }
     ensures blank { ⟦<MapOfNested<KC, N> as Member>⟧.shape.blank ≡ [] }
     ensures takes { ⟦<MapOfNested<KC, N> as Member>⟧.shape.takes
-        ≡ entry_taken KC.reading (message_reading N.blank_is N.merged N.cost) (put KC.Value.same) }
+        ≡ pair_taken KC.reading (message_reading N.blank_is N.merged N.cost) (put KC.Value.same) }
     ensures checks { (n : ℕ) (w : _) → ⟦<MapOfNested<KC, N> as Member>⟧.shape.checks n w
         ≡ check_wire n WireType.LengthDelimited w }
     ensures asks { (d n : ℕ) (w : _) (bs : List ℕ) → ⟦<MapOfNested<KC, N> as Member>⟧.shape.asks d n w bs
@@ -245,7 +245,7 @@ where
     ensures refuses { RefusesAs ⟦<MapOfNested<KC, N> as Member>⟧.shape
         (RefusesPair KC.reading (message_reading N.blank_is N.merged N.cost) (KC.COST + N.COST)) }
     ensures need { ⟦<MapOfNested<KC, N> as Member>⟧.shape.need
-        ≡ entry_cost KC.reading (message_reading N.blank_is N.merged N.cost) (KC.COST + N.COST) }
+        ≡ pair_cost KC.reading (message_reading N.blank_is N.merged N.cost) (KC.COST + N.COST) }
     ensures records { (n : ℕ) (v : _) → ⟦<MapOfNested<KC, N> as Member>⟧.shape.records n v
         ≡ pair_records KC.writing N.encoding n v }
     ensures slots { (v : _) → ⟦<MapOfNested<KC, N> as Member>⟧.shape.slots v ≡ pair_slots N.encoding N.slots v }
@@ -265,14 +265,14 @@ where
     ensures meaning { (p : _) → ⟦<OrderedMapOf<KC, VC> as Member>⟧.shape.meaning p
         ≡ means KC.Value.meaning VC.Value.meaning p.entries }
     ensures blank { ⟦<OrderedMapOf<KC, VC> as Member>⟧.shape.blank ≡ [] }
-    ensures takes { ⟦<OrderedMapOf<KC, VC> as Member>⟧.shape.takes ≡ entry_taken KC.reading VC.reading (insert_entry KC.Value.order) }
+    ensures takes { ⟦<OrderedMapOf<KC, VC> as Member>⟧.shape.takes ≡ pair_taken KC.reading VC.reading (insert_entry KC.Value.order) }
     ensures checks { (n : ℕ) (w : _) → ⟦<OrderedMapOf<KC, VC> as Member>⟧.shape.checks n w
         ≡ check_wire n WireType.LengthDelimited w }
     ensures asks { (d n : ℕ) (w : _) (bs : List ℕ) → ⟦<OrderedMapOf<KC, VC> as Member>⟧.shape.asks d n w bs
         ↔ (PairTakesMemory KC.reading VC.reading d n w bs) }
     ensures refuses { RefusesAs ⟦<OrderedMapOf<KC, VC> as Member>⟧.shape
         (RefusesPair KC.reading VC.reading (KC.COST + VC.COST)) }
-    ensures need { ⟦<OrderedMapOf<KC, VC> as Member>⟧.shape.need ≡ entry_cost KC.reading VC.reading (KC.COST + VC.COST) }
+    ensures need { ⟦<OrderedMapOf<KC, VC> as Member>⟧.shape.need ≡ pair_cost KC.reading VC.reading (KC.COST + VC.COST) }
     ensures records { (n : ℕ) (v : _) → ⟦<OrderedMapOf<KC, VC> as Member>⟧.shape.records n v
         ≡ entry_records KC.writing VC.writing n v }
     ensures slots { (v : _) → ⟦<OrderedMapOf<KC, VC> as Member>⟧.shape.slots v ≡ [] }
@@ -290,7 +290,7 @@ where
         ≡ means KC.Value.meaning N.meaning p.entries }
     ensures blank { ⟦<OrderedMapOfNested<KC, N> as Member>⟧.shape.blank ≡ [] }
     ensures takes { ⟦<OrderedMapOfNested<KC, N> as Member>⟧.shape.takes
-        ≡ entry_taken KC.reading (message_reading N.blank_is N.merged N.cost) (insert_entry KC.Value.order) }
+        ≡ pair_taken KC.reading (message_reading N.blank_is N.merged N.cost) (insert_entry KC.Value.order) }
     ensures checks { (n : ℕ) (w : _) → ⟦<OrderedMapOfNested<KC, N> as Member>⟧.shape.checks n w
         ≡ check_wire n WireType.LengthDelimited w }
     ensures asks { (d n : ℕ) (w : _) (bs : List ℕ) → ⟦<OrderedMapOfNested<KC, N> as Member>⟧.shape.asks d n w bs
@@ -298,7 +298,7 @@ where
     ensures refuses { RefusesAs ⟦<OrderedMapOfNested<KC, N> as Member>⟧.shape
         (RefusesPair KC.reading (message_reading N.blank_is N.merged N.cost) (KC.COST + N.COST)) }
     ensures need { ⟦<OrderedMapOfNested<KC, N> as Member>⟧.shape.need
-        ≡ entry_cost KC.reading (message_reading N.blank_is N.merged N.cost) (KC.COST + N.COST) }
+        ≡ pair_cost KC.reading (message_reading N.blank_is N.merged N.cost) (KC.COST + N.COST) }
     ensures records { (n : ℕ) (v : _) → ⟦<OrderedMapOfNested<KC, N> as Member>⟧.shape.records n v
         ≡ pair_records KC.writing N.encoding n v }
     ensures slots { (v : _) → ⟦<OrderedMapOfNested<KC, N> as Member>⟧.shape.slots v ≡ pair_slots N.encoding N.slots v }

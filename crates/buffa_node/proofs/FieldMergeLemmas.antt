@@ -1,7 +1,8 @@
 -- Merging one field of a node: what the calls for its maps promise, said of the node.
-use Rattle.std.proofs.Common.{◌≡◌, ◌≢◌, ◌⊎◌, ℕ, ℤ, zero, suc, false, cond, IsOk, ◌+◌, ◌≤◌, List, [], ◌++◌, None, Result, Ok, Err, OnOk, OnErr, IfErr, refl, sym, ap, subst, ◌∙◌, arith}
+use Rattle.std.proofs.Common.{◌≡◌, ◌≢◌, ℕ, ℤ, zero, suc, false, List, [], Result, Ok, Err, OnOk, OnErr, IfErr, refl, sym, ap, subst, ◌∙◌, arith}
 use Rattle.std.proofs.lemmas.Bool.{eq-eqb, ne_eqb}
 use Rattle.std.specs.Prelude.{nat_eq}
+use Rattle.std.specs.BTreeMap.{insert_entry}
 use Rattle.std.specs.Cmp.{int_cmp_total}
 use Rattle.std.specs.Cmp.Lexicographic.{nat_list_cmp_total, pointwise, texts_ties}
 use Rattle.std.specs.List.Sorted.{IsStrictlySortedBy}
@@ -10,34 +11,38 @@ use Rattle.std.specs.Option.{option_map}
 use Rattle.std.specs.Ordering.{int_cmp, int_eq}
 use Rattle.buffa_bytes.proofs.StepLemmas.{agree_err, agree_ok}
 use Rattle.buffa_bytes.specs.declared.error.DecodeError.{DecodeError}
-use Rattle.buffa_bytes.specs.declared.error.DecodeError.TheVariants as error
 use Rattle.buffa_bytes.specs.declared.wire_type.WireType.{WireType}
 use Rattle.buffa_bytes.specs.declared.wire_type.WireType.TheVariants.{LengthDelimited}
-use Rattle.buffa_wire.specs.BudgetLeft.{BudgetLeft, Pays, nothing, plus, unknown_fields}
+use Rattle.buffa_wire.specs.BudgetLeft.{BudgetLeft}
 use Rattle.buffa_bytes.specs.Content.{bytes_in}
 use Rattle.buffa_wire.specs.Message.{IsFieldMerged, cost_in, merged_in}
-use Rattle.buffa_bytes.specs.Front.{check_wire, delimited_at}
-use Rattle.buffa_map.proofs.EntryLemmas.{check_sound}
+use Rattle.buffa_bytes.specs.Front.{check_wire}
+use Rattle.buffa_map.proofs.EntryLemmas.{check_sound, entry_complete}
+use Rattle.buffa_map.proofs.NeedLemmas.{entry_limited}
 use Rattle.buffa_map.specs.Codec.{Reading}
-use Rattle.buffa_map.specs.Entry.{EntryFault, EntryOf, inner_need, need_at, need_of}
+use Rattle.buffa_map.specs.Entry.{need_at}
+use Rattle.buffa_map.specs.Laws.{LimitsAreTrue}
 use Rattle.buffa_map.specs.Merge.{MergesEntry, RefusesEntry, Rules, dropping, keeping, state}
 use Rattle.buffa_map.specs.Message.{message_reading}
 use Rattle.buffa_map.specs.MessageLaws.{meant_no_limit}
 use Rattle.buffa_map.specs.Pairs.{SamePairs, means}
-use Rattle.buffa_map.specs.Run.{step, undeclared_record}
+use Rattle.buffa_map.specs.Run.{step}
 use Rattle.buffa_map.specs.ScalarLaws.{never_faulty, string_no_limit}
 use Rattle.buffa_map.specs.declared.map_entry.MapEntry.{MapEntry}
 use Rattle.buffa_wire.specs.Kept.{keep_need}
 use Rattle.buffa_fields_base.specs.Keep.{keep_takes}
 use Rattle.buffa_wire.specs.Takes.{IsTaken}
 use Rattle.buffa_wire.proofs.ByPayloadLemmas.{merges_taken}
+use Rattle.buffa_fields_base.specs.PairLaws.{part_taken}
 use Rattle.buffa_fields.proofs.OrderedLemmas.{is_put, sorted_means}
-use Rattle.buffa_node.proofs.EntryMergeLemmas.{part_taken, taken_err, taken_ok, wire_err}
+use Rattle.buffa_fields.specs.Entries.{entry_cost, entry_taken}
+use Rattle.buffa_fields.specs.EntriesLaws.{IsCost, entry_err, entry_ok, entry_wire_err}
+use Rattle.buffa_fields.specs.MapFields.{stepped}
+use Rattle.buffa_fields.specs.MapLaws.{map_err, map_ok}
 use Rattle.buffa_node.specs.Branch.{Branch, Kept, Scores, Shades, bare, branch, kids, listed-kids, shade_number}
 use Rattle.buffa_node.specs.declared.shade.Shade.{Shade}
-use Rattle.buffa_node.specs.Entries.{entry_cost, entry_taken, put_in}
 use Rattle.buffa_node.proofs.LoopLemmas.{by_payloads}
-use Rattle.buffa_node.specs.NodeMeaning.{ChildCost, ChildMeaning, children, children_cost, children_take, cost, merged, node_need, node_takes, numbers, scores_cost, scores_take, shades, shades_cost, shades_take, text_cmp, texts}
+use Rattle.buffa_node.specs.NodeMeaning.{ChildCost, ChildMeaning, children_cost, children_take, cost, merged, node_need, node_takes, numbers, put_shade, scores_cost, scores_take, shade_cost, shades, shades_cost, shades_take, text_cmp, texts}
 use Rattle.buffa_node.specs.NodeEncoding.{meant, meant-is}
 
 abbrev Answer : Type 0
@@ -58,12 +63,14 @@ both_stay (Ok x) made old h g q s is a b = tt
 both_stay (Err e) made old h g q s is a b = (λ i. made (a i) (b i)) ∙ is
 
 -- ---- a field of another wire type
-module _ {K V X : Type 0} (key : Reading K) (val paid : Reading V) (cost extra : ℕ) (does : X → List ℕ → MapEntry K V → X) (d n : ℕ) (w : WireType) (old : X) (bs rest : List ℕ) (before : BudgetLeft) where
-  pub wire_answer : (r : Answer) (e f : DecodeError) → r ≡ Err f → f ≡ e → check_wire n LengthDelimited w ≡ Err e → IsTaken (entry_taken key val does) (entry_cost key val paid cost extra) d old n w bs before r old before rest
+module _ {K V X : Type 0} (key : Reading K) (val : Reading V) (does : X → List ℕ → MapEntry K V → X) (costs : ℕ → List ℕ → BudgetLeft)
+    (d n : ℕ) (w : WireType) (old : X) (bs rest : List ℕ) (before : BudgetLeft) where
+  pub wire_answer : (r : Answer) (e f : DecodeError) → r ≡ Err f → f ≡ e → check_wire n LengthDelimited w ≡ Err e →
+      IsTaken (entry_taken key val does) (entry_cost costs) d old n w bs before r old before rest
   wire_answer r e f is same h =
       let k = agree_err (check_wire n LengthDelimited w) e (check_sound n LengthDelimited w) h in
-      subst (λ z. IsTaken (entry_taken key val does) (entry_cost key val paid cost extra) d old n w bs before z old before rest) (sym (is ∙ ap (λ x. Err x) same))
-      (wire_err key val paid cost extra does d n w old old bs rest before e k.0 k.1)
+      subst (λ z. IsTaken (entry_taken key val does) (entry_cost costs) d old n w bs before z old before rest) (sym (is ∙ ap (λ x. Err x) same))
+      (entry_wire_err key val does d n costs w old old bs rest before e k.0 k.1)
 
 -- ---- a score
 module _ {K : Type 0} (f : K → List ℕ) (d n : ℕ) (w : WireType) (es fs : List (K × ℤ)) (bs rest : List ℕ) (before after : BudgetLeft) where
@@ -78,12 +85,12 @@ module _ {K : Type 0} (f : K → List ℕ) (d n : ℕ) (w : WireType) (es fs : L
   score_ok s t wire m =
       let put = is_put nat_list_cmp_total (as_scores es) (as_scores fs) m.says (sorted_means text_cmp f (λ v. v) es s) (sorted_means text_cmp f (λ v. v) fs t)
       (subst (λ eq. SamePairs eq (step eq (as_scores es) m.says) (as_scores fs)) (λ i a b. texts_ties a b i) m.put) in
-      taken_ok texts numbers numbers 28 0 (λ x e s. put_in text_cmp x s) d n w (λ e s h. h) (λ e x h. h) (as_scores es) (as_scores fs) bs rest m.entry m.says before after wire m.read put m.pays
+      map_ok texts numbers (pointwise nat_eq) false (insert_entry text_cmp) 28 d n w bs rest _ _ wire (as_scores es) (as_scores fs) m put
 
   score_err : (e : DecodeError) → w ≡ LengthDelimited → RefusesEntry scores_rules (state (as_scores es) [] before) bs (state (as_scores fs) [] after) rest e → IsTaken scores_take scores_cost d (as_scores es) n w bs before (bad e) (as_scores fs) after rest
   score_err e wire k =
-      taken_err texts numbers numbers 28 0 (λ x e s. put_in text_cmp x s) d n w (λ e s h. h) (λ e x h. h) (as_scores es) bs before (λ d old c x h. string_no_limit (λ t. t) c x h) (λ d old c x h. never_faulty x h) (as_scores fs) rest after after e wire k.fault
-      (k.units, k.unspent, refl, k.most, omega (arith, k.least))
+      map_err texts numbers (pointwise nat_eq) false (insert_entry text_cmp) 28 d n w bs rest _ _ wire (as_scores es) (as_scores fs)
+      (λ d. entry_limited texts numbers d (λ d old c x h. string_no_limit (λ t. t) c x h) (λ d old c x h. never_faulty x h)) e k
 
   pub score_answer : (r : Answer) → IsStrictlySortedBy (λ x y. text_cmp (f x) (f y)) (keys_of es) → IsStrictlySortedBy (λ x y. text_cmp (f x) (f y)) (keys_of fs) → check_wire n LengthDelimited w ≡ Ok tt →
       OnOk r (MergesEntry scores_rules (state (as_scores es) [] before) bs (state (as_scores fs) [] after) rest) → IfErr r (RefusesEntry scores_rules (state (as_scores es) [] before) bs (state (as_scores fs) [] after) rest) →
@@ -102,33 +109,22 @@ module _ (n : ℕ) (w : WireType) (es fs : List (ℤ × Branch)) (bs rest : List
   abbrev ChildRefused : ℕ → DecodeError → Type 0
   ChildRefused d e = RefusesEntry (child_rules d) (state (meant es) [] before) bs (state (meant fs) [] after) rest e
 
-  child_is : (s : MapEntry ℤ Branch) → IsStrictlySortedBy int_cmp (keys_of es) → IsStrictlySortedBy int_cmp (keys_of fs) → SamePairs int_eq (step int_eq (meant es) s) (meant fs) → fs ≡ put_in int_cmp es s
+  child_is : (s : MapEntry ℤ Branch) → IsStrictlySortedBy int_cmp (keys_of es) → IsStrictlySortedBy int_cmp (keys_of fs) → SamePairs int_eq (step int_eq (meant es) s) (meant fs) → fs ≡ stepped (insert_entry int_cmp) es s
   child_is s a b h =
       is_put int_cmp_total es fs s a b (subst (λ xs. SamePairs int_eq (step int_eq es s) xs) (meant-is fs) (subst (λ xs. SamePairs int_eq (step int_eq xs s) (meant fs)) (meant-is es) h))
 
-  module _ (d : ℕ) (m : ChildMeaning) (c : ChildCost) where
-    child_taken : (s : MapEntry ℤ Branch) (e : List ℕ) → IsStrictlySortedBy int_cmp (keys_of es) → IsStrictlySortedBy int_cmp (keys_of fs) → w ≡ LengthDelimited → SamePairs int_eq (step int_eq (meant es) s) (meant fs) → EntryOf numbers (children m c) d bs e s rest →
-        Pays before (plus (need_of numbers (children m c) d 100 e) (unknown_fields (cond s.known 0 0))) after → IsTaken (children_take m) (children_cost m c) d es n w bs before good fs after rest
-    child_taken s e a b wire put read pays =
-        taken_ok numbers (children m (λ _. nothing)) (children m c) 100 0 (λ x e s. put_in int_cmp x s) d n w (λ e s h. h) (λ e x h. h) es fs bs rest e s before after wire read (child_is s a b put) pays
-
-    child_untaken : (e : DecodeError) → w ≡ LengthDelimited → (e ≢ error.OutOfMemory → EntryFault numbers (children m c) d 100 0 before bs e) →
-        (after.memory ≡ before.memory) ⊎ ((after.memory + 100 ≤ before.memory) × (before.memory ≤ after.memory + (100 + (inner_need numbers (children m c) d bs).memory))) →
-        ((IsOk (delimited_at bs) → ⊥) → after ≡ before) → after.unknown ≤ before.unknown → before.unknown ≤ after.unknown + (0 + (inner_need numbers (children m c) d bs).unknown) →
-        IsTaken (children_take m) (children_cost m c) d es n w bs before (bad e) fs after rest
-    child_untaken e wire fault units unspent most least =
-        taken_err numbers (children m (λ _. nothing)) (children m c) 100 0 (λ x e s. put_in int_cmp x s) d n w (λ e s h. h) (λ e x h. h) es bs before (λ d old c x h. never_faulty x h) (λ k old c x q. meant_no_limit (merged_in (λ _. m) k old (bytes_in c)) x q)
-        fs rest after after e wire fault (units, unspent, refl, most, omega (arith, least))
-
   child_ok : (d : ℕ) → IsStrictlySortedBy int_cmp (keys_of es) → IsStrictlySortedBy int_cmp (keys_of fs) → w ≡ LengthDelimited → ChildPut d → IsTaken (children_take (merged_in merged d)) (children_cost (merged_in merged d) (cost_in cost d)) d es n w bs before good fs after rest
-  unfolding need_at
-  child_ok zero a b wire h = child_taken zero (λ _ _. None) (λ _. nothing) h.says h.entry a b wire h.put h.read h.pays
-  child_ok (suc d) a b wire h = child_taken (suc d) (merged d) (cost d) h.says h.entry a b wire h.put h.read h.pays
+  unfolding entry_taken entry_cost need_at
+  child_ok zero a b wire h = map_ok numbers (message_reading bare merged cost) int_eq false (insert_entry int_cmp) 100 zero n w bs rest _ _ wire es fs h (child_is h.says a b h.put)
+  child_ok (suc d) a b wire h = map_ok numbers (message_reading bare merged cost) int_eq false (insert_entry int_cmp) 100 (suc d) n w bs rest _ _ wire es fs h (child_is h.says a b h.put)
+
+  child_limits : LimitsAreTrue numbers (message_reading bare merged cost)
+  child_limits d = entry_limited numbers (message_reading bare merged cost) d (λ d old c x h. never_faulty x h) (λ k old c x q. meant_no_limit (merged_in merged k old (bytes_in c)) x q)
 
   child_err : (d : ℕ) (e : DecodeError) → w ≡ LengthDelimited → ChildRefused d e → IsTaken (children_take (merged_in merged d)) (children_cost (merged_in merged d) (cost_in cost d)) d es n w bs before (bad e) fs after rest
-  unfolding need_at
-  child_err zero e wire h = child_untaken zero (λ _ _. None) (λ _. nothing) e wire h.fault h.units h.unspent h.most h.least
-  child_err (suc d) e wire h = child_untaken (suc d) (merged d) (cost d) e wire h.fault h.units h.unspent h.most h.least
+  unfolding entry_taken entry_cost need_at
+  child_err zero e wire h = map_err numbers (message_reading bare merged cost) int_eq false (insert_entry int_cmp) 100 zero n w bs rest _ _ wire es fs child_limits e h
+  child_err (suc d) e wire h = map_err numbers (message_reading bare merged cost) int_eq false (insert_entry int_cmp) 100 (suc d) n w bs rest _ _ wire es fs child_limits e h
 
   pub child_answer : (d : ℕ) (r : Answer) → IsStrictlySortedBy int_cmp (keys_of es) → IsStrictlySortedBy int_cmp (keys_of fs) → check_wire n LengthDelimited w ≡ Ok tt → OnOk r (ChildPut d) → IfErr r (ChildRefused d) →
       IsTaken (children_take (merged_in merged d)) (children_cost (merged_in merged d) (cost_in cost d)) d es n w bs before r fs after rest
@@ -147,20 +143,23 @@ module _ (d n : ℕ) (w : WireType) (es fs : List (ℤ × Shade)) (rs ss : Kept)
   abbrev shades_rules : Rules ℤ ℤ
   shades_rules = keeping numbers shades int_eq false d 3 8
 
+  is_cost : IsCost numbers shades d 8 1 (shade_cost d)
+  is_cost e = ((omega arith, omega arith), λ s entry. rw (entry_complete numbers shades d e s entry) refl)
+
   pub shade_ok : IsStrictlySortedBy int_cmp (keys_of es) → IsStrictlySortedBy int_cmp (keys_of fs) → check_wire n LengthDelimited w ≡ Ok tt →
       MergesEntry shades_rules (state (as_shades es) rs before) bs (state (as_shades fs) ss after) rest → IsTaken shades_take shades_cost d (as_shades es, rs) n w bs before good (as_shades fs, ss) after rest
   shade_ok s t checked m =
       let wire = agree_ok (check_wire n LengthDelimited w) tt (check_sound n LengthDelimited w) checked in
       let put = is_put int_cmp_total (as_shades es) (as_shades fs) m.says (sorted_means int_cmp (λ k. k) shade_number es s) (sorted_means int_cmp (λ k. k) shade_number fs t) m.put in
-      taken_ok numbers shades shades 8 1 (λ (x : Shades × Kept) e s. (put_in int_cmp x.0 s, x.1 ++ undeclared_record 3 e s.known)) d n w (λ e s h. h) (λ e x h. h) (as_shades es, rs) (as_shades fs, ss) bs rest m.entry m.says before after wire m.read
-      (λ i. (put i, m.keeps i)) m.pays
+      entry_ok shades_rules put_shade shade_cost is_cost n w (as_shades es, rs) (as_shades fs, ss) bs rest _ _ wire m (λ i. (put i, m.keeps i))
 
   pub shade_err : (e : DecodeError) (over : BudgetLeft) → check_wire n LengthDelimited w ≡ Ok tt → RefusesEntry shades_rules (state (as_shades es) rs before) bs (state (as_shades fs) ss after) rest e → over.unknown ≡ before.unknown → over.memory ≡ after.memory →
       IsTaken shades_take shades_cost d (as_shades es, rs) n w bs before (bad e) (as_shades fs, ss) over rest
   shade_err e over checked k unknown_back units_same =
       let wire = agree_ok (check_wire n LengthDelimited w) tt (check_sound n LengthDelimited w) checked in
-      taken_err numbers shades shades 8 1 (λ (x : Shades × Kept) e s. (put_in int_cmp x.0 s, x.1 ++ undeclared_record 3 e s.known)) d n w (λ e s h. h) (λ e x h. h) (as_shades es, rs) bs before (λ d old c x h. never_faulty x h) (λ d old c x h. never_faulty x h)
-      (as_shades fs, ss) rest after over e wire k.fault (k.units, k.unspent, units_same, omega (arith, unknown_back), omega (arith, unknown_back))
+      entry_err shades_rules put_shade shade_cost is_cost n w (as_shades es, rs) (as_shades fs, ss) bs rest _ _ wire
+      (λ d. entry_limited numbers shades d (λ d old c x h. never_faulty x h) (λ d old c x h. never_faulty x h))
+      e over k units_same (omega (arith, unknown_back)) (omega (arith, unknown_back))
 
 -- ---- a field of a node
 module _ (d n : ℕ) (w : WireType) (bs rest : List ℕ) (before after : BudgetLeft) (r : Answer) where

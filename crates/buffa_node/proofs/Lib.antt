@@ -1,4 +1,3 @@
-pub mod EntryMergeLemmas
 pub mod FieldMergeLemmas
 pub mod LoopLemmas
 pub mod NodePassLemmas

@@ -1,46 +1,23 @@
 -- Encodings of records that lead a message from one value to another, field by field.
-use Rattle.std.proofs.Common.{◌≡◌, ℕ, ◌^◌, ◌<◌, Bool, true, List, [], ◌∷◌, ◌++◌, length, Some, Ok, refl, sym, ap, subst, ◌∙◌, append_assoc, append-nil, map}
+use Rattle.std.proofs.Common.{◌≡◌, ℕ, ◌^◌, ◌<◌, Bool, true, List, [], ◌∷◌, ◌++◌, length, Some, refl, sym, ap, subst, ◌∙◌, append_assoc, append-nil, map}
 use Rattle.std.specs.BTreeMap.{insert_entry}
 use Rattle.std.specs.Cmp.{IsTotalOrder}
 use Rattle.std.specs.List.{AllByRecursion}
 use Rattle.std.specs.List.Sorted.{IsStrictlySortedBy}
 use Rattle.std.specs.Map.{keys_of}
 use Rattle.std.specs.declared.cmp.Ordering.{Ordering}
-use Rattle.buffa_bytes.proofs.DelimitedLemmas.{delimited_back}
 use Rattle.buffa_bytes.proofs.VarintLemmas.{IsVarint-varint_encoding}
 use Rattle.buffa_bytes.specs.declared.wire_type.WireType.TheVariants.{LengthDelimited}
 use Rattle.buffa_bytes.specs.Number.{IsNumber}
-use Rattle.buffa_bytes.specs.Front.{delimited_at}
 use Rattle.buffa_bytes.specs.Values.{delimited_encoding, tag_encoding}
 use Rattle.buffa_bytes.specs.Varint.{varint_encoding}
 use Rattle.buffa_bytes.proofs.FieldLemmas.{is_tag}
-use Rattle.buffa_map.proofs.EntryLemmas.{entry_complete}
-use Rattle.buffa_map.specs.Codec.{Reading}
-use Rattle.buffa_map.specs.Entry.{IsEntry}
-use Rattle.buffa_map.specs.declared.map_entry.MapEntry.{MapEntry}
-use Rattle.buffa_wire.specs.Takes.{Leads, Piece, Taker, joined}
+use Rattle.buffa_wire.specs.Takes.{Leads, Piece, Taker}
 use Rattle.buffa_fields.specs.OrderedLaws.{put_last}
-use Rattle.buffa_node.specs.Entries.{entry_taken}
 
 -- any number may be a field's
 abbrev pub any : ℕ → Bool
 any n = true
-
-pub joined_both : (xs ys : List Piece) → joined (xs ++ ys) ≡ joined xs ++ joined ys
-joined_both [] ys = refl
-joined_both (x ∷ xs) ys = ap (λ (z : List ℕ). (x.tag ++ x.payload) ++ z) (joined_both xs ys) ∙ sym (append_assoc (x.tag ++ x.payload) (joined xs) (joined ys))
-
-pub leads_both : {X : Type 0} (T : Taker X) (d : ℕ) (s t u : X) (fs gs : List Piece) → Leads T any d s fs t → Leads T any d t gs u → Leads T any d s (fs ++ gs) u
-leads_both T d s t u [] gs h l = subst (λ z. Leads T any d z gs u) (sym h) l
-leads_both T d s t u (x ∷ fs) gs (is, tag, payload, v, h, j) l = (is, tag, payload, v, h, leads_both T d v t u fs gs j l)
-
--- an entry that is read does what it does
-pub read_entry : {K V X : Type 0} (key : Reading K) (val : Reading V) (does : X → List ℕ → MapEntry K V → X) (d n : ℕ) (v : X) (e : List ℕ) (s : MapEntry K V) → length e < 2 ^ 64 → IsEntry key val d e s →
-    entry_taken key val does d v n LengthDelimited (delimited_encoding e) ≡ Some (does v e s)
-unfolding entry_taken
-read_entry key val does d n v e s short h =
-    let alone : delimited_at (delimited_encoding e) ≡ Ok (e, []) = ap delimited_at (sym (append-nil (delimited_encoding e))) ∙ delimited_back e [] short in
-    rw (alone, entry_complete key val d e s h) refl
 
 -- the record of a pair
 abbrev pub piece : {A : Type 0} → ℕ → (A → List ℕ) → A → Piece

@@ -1,7 +1,5 @@
 pub mod Branch
 pub mod BranchFacts
-pub mod Entries
-pub mod EntriesLaws
 pub mod NodeMeaning
 pub mod NodeEncoding
 pub mod NodeLaws

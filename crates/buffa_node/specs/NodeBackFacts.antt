@@ -2,6 +2,7 @@
 use Rattle.std.proofs.Common.{◌≡◌, inl, inr, ◌==◌, ◌^◌, ◌<◌, ◌≤◌, ℕ, ℤ, zero, suc, pos, FitsSigned, Bool, false, true, List, [], ◌∷◌, ◌++◌, length, length-append, None, Some, Ok, refl, sym, ap, subst, ◌∙◌, arith, append_assoc, append-nil, map, if◌then◌else◌}
 use Rattle.std.specs.List.{AllByRecursion}
 use Rattle.std.proofs.lemmas.Bool.{ne_eqb}
+use Rattle.std.specs.BTreeMap.{insert_entry}
 use Rattle.std.specs.Cmp.{int_cmp_total}
 use Rattle.std.specs.Cmp.Lexicographic.{nat_list_cmp_total}
 use Rattle.std.specs.Int.{cast_unsigned, w32, w64}
@@ -28,23 +29,24 @@ use Rattle.buffa_map.specs.Codec.{Writing, level}
 use Rattle.buffa_map.specs.EnumLaws.{closed_reads_back}
 use Rattle.buffa_map.specs.Enums.{ClosedFits, closed_writing}
 use Rattle.buffa_map.specs.Message.{meant}
-use Rattle.buffa_map.specs.Run.{pair_entry, undeclared_record}
+use Rattle.buffa_map.specs.Run.{pair_entry}
 use Rattle.buffa_map.specs.ScalarLaws.{string_reads_back}
 use Rattle.buffa_map.specs.Scalars.{IsText, delimited_writing}
 use Rattle.buffa_map.specs.Encoding.{AllHold, HasEncoding, entry_encoding, field_encoding, record_encoding}
-use Rattle.buffa_fields.specs.MapFields.{map_records}
+use Rattle.buffa_fields.specs.Entries.{entry_taken}
+use Rattle.buffa_fields.specs.EntriesLaws.{read_entry}
+use Rattle.buffa_fields.specs.MapFields.{map_records, stepped}
 use Rattle.buffa_fields.specs.MapLaws.{map_has_encoding}
-use Rattle.buffa_fields_base.specs.PairLaws.{fits_both}
+use Rattle.buffa_fields_base.specs.PairLaws.{fits_both, joined-append, leads_both}
 use Rattle.buffa_fields_base.specs.Keep.{keep_takes, record_in}
 use Rattle.buffa_wire.specs.Takes.{Leads, Piece, Taker, joined, merged_of}
 use Rattle.buffa_wire.proofs.TakesLemmas.{back as leads_back}
 use Rattle.buffa_wire.proofs.KeepLemmas.{all_fields}
 use Rattle.buffa_wire.proofs.JoinLemmas.{payload_of_record}
 use Rattle.buffa_node.specs.Branch.{Branch, Kept, Kids, Scores, Shades, bare, branch, kid, kids, kids-listed, kept_of, kids_of, listed, listed-kids, no_kids, scores_of, shade_numbers, shades_of}
-use Rattle.buffa_node.specs.Entries.{entry_taken, put_in}
-use Rattle.buffa_node.specs.Leading.{IsPut, any, entries_lead, joined_both, leads_both, piece, read_entry}
+use Rattle.buffa_node.specs.Leading.{IsPut, any, entries_lead, piece}
 use Rattle.buffa_node.specs.Nesting.{undeclared_at}
-use Rattle.buffa_node.specs.NodeMeaning.{ChildMeaning, children, children_take, merged, node_takes, numbers, shades, shades_take, text_cmp, texts}
+use Rattle.buffa_node.specs.NodeMeaning.{ChildMeaning, children, children_take, merged, node_takes, numbers, put_shade, shades, shades_take, text_cmp, texts}
 use Rattle.buffa_node.specs.NodeEncoding.{AreKept, AreNormal, IsKept, IsNormal, IsUndeclared, entry_levels, kept_levels, kept_under, kid_entry, kid_record, kids_records, kids_encoding, levels, levels_below, number_writing, records, scores_encoding, shades_encoding, encoding, text_writing}
 
 -- ---- no entry and no record is too long
@@ -145,7 +147,7 @@ module _ (d : ℕ) (m : ChildMeaning) where
   score_put : (p : List ℕ × ℤ) → IsText p.0 → FitsSigned w32 p.1 → length (score_entry p) < 2 ^ 64 → ScorePut p
   score_put p key value short = (
     short,
-    λ done. ap (option_map with_scores) (read_entry texts numbers (λ x e s. put_in text_cmp x s) d 1 done (score_entry p) (pair_entry p) short
+    λ done. ap (option_map with_scores) (read_entry texts numbers (λ x e s. stepped (insert_entry text_cmp) x s) d 1 done (score_entry p) (pair_entry p) short
         (entry_back texts numbers text_writing number_writing refl refl d IsText (FitsSigned w32) text_back number_back p key value)),
   )
 
@@ -176,7 +178,7 @@ module _ (d : ℕ) (m : ChildMeaning) where
     kid_put k t (key, short, value) = (
       short,
       λ done. ap (λ (xs : List (ℤ × Branch)). option_map with_kids (children_take m d xs 2 LengthDelimited (delimited_encoding (child_entry (k, t))))) (listed-kids done)
-          ∙ ap (option_map with_kids) (read_entry numbers (children m (λ _. nothing)) (λ x e s. put_in int_cmp x s) d 2 done (child_entry (k, t)) (pair_entry (k, t)) short
+          ∙ ap (option_map with_kids) (read_entry numbers (children m (λ _. nothing)) (λ x e s. stepped (insert_entry int_cmp) x s) d 2 done (child_entry (k, t)) (pair_entry (k, t)) short
           (entry_back numbers (children m (λ _. nothing)) number_writing (delimited_writing encoding) refl refl d (FitsSigned w32) (IsReadBack (children m (λ _. nothing)) (delimited_writing encoding) d) number_back (λ v h. h) (k, t) key value)),
     )
 
@@ -198,7 +200,7 @@ module _ (d : ℕ) (m : ChildMeaning) where
       shade_put : (p : ℤ × ℤ) → FitsSigned w32 p.0 → ClosedFits shade_numbers p.1 → length (shade_entry p) < 2 ^ 64 → ShadePut p
       shade_put p key value short = (
         short,
-        λ done. ap (option_map (λ (x : Shades × Kept). branch a ks x.0 x.1)) (read_entry numbers shades (λ (x : Shades × Kept) e s. (put_in int_cmp x.0 s, x.1 ++ undeclared_record 3 e s.known)) d 3 (done, []) (shade_entry p) (pair_entry p) short
+        λ done. ap (option_map (λ (x : Shades × Kept). branch a ks x.0 x.1)) (read_entry numbers shades put_shade d 3 (done, []) (shade_entry p) (pair_entry p) short
             (entry_back numbers shades number_writing closed_writing refl refl d (FitsSigned w32) (ClosedFits shade_numbers) number_back shade_back p key value)),
       )
 
@@ -285,12 +287,12 @@ module _ (d : ℕ) (m : ChildMeaning) where
       leads_back T d any bare (encoding (branch a ks h r)) (branch a ks h r) (record {
         pieces = one ++ (two ++ (three ++ kept.0));
         spelled = (λ i. pairs_encoding text_writing number_writing 1 a i ++ (kids_pieces ks i ++ (pairs_encoding number_writing closed_writing 3 h i ++ kept.1 i)))
-            ∙ sym (joined_both one (two ++ (three ++ kept.0)) ∙ ap (λ z. joined one ++ z) (joined_both two (three ++ kept.0) ∙ ap (λ z. joined two ++ z) (joined_both three kept.0)));
-        leads = leads_both T d bare mid (branch a ks h r) one (two ++ (three ++ kept.0))
+            ∙ sym (joined-append one (two ++ (three ++ kept.0)) ∙ ap (λ z. joined one ++ z) (joined-append two (three ++ kept.0) ∙ ap (λ z. joined two ++ z) (joined-append three kept.0)));
+        leads = leads_both T any d bare mid (branch a ks h r) one (two ++ (three ++ kept.0))
             (entries_lead nat_list_cmp_total T d 1 (omega arith, omega arith) with_scores score_entry [] a (scores_put a n.0.0 short.scores) n.0.1)
-            (leads_both T d mid low_mid (branch a ks h r) two (three ++ kept.0)
+            (leads_both T any d mid low_mid (branch a ks h r) two (three ++ kept.0)
             (subst (λ z. Leads T any d mid two (branch a z [] [])) (kids-listed ks) (entries_lead int_cmp_total T d 2 (omega arith, omega arith) (with_kids a) child_entry [] (listed ks) (kids_put a ks read) n.1.1))
-            (leads_both T d low_mid end (branch a ks h r) three kept.0
+            (leads_both T any d low_mid end (branch a ks h r) three kept.0
             (entries_lead int_cmp_total T d 3 (omega arith, omega arith) (with_shades a ks) (shade_entry a ks) [] h (shades_put a ks h n.2.0 short.shades) n.2.1)
             kept.2));
       })

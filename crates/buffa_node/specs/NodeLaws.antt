@@ -1,22 +1,25 @@
 -- What a node owes.
 use Rattle.std.proofs.Common.{◌≡◌, ℕ, zero, suc, List, ◌++◌, refl, sym, ap, ◌∙◌}
-use Rattle.buffa_wire.specs.BudgetLeft.{nothing}
 use Rattle.buffa_wire.specs.Encoding.{records_encoding}
 use Rattle.buffa_wire.proofs.KeepLemmas.{keep_stays}
 use Rattle.buffa_fields.specs.MapFields.{map_records}
-use Rattle.buffa_fields.specs.MapLaws.{map_encoding}
+use Rattle.buffa_fields.specs.MapLaws.{map_encoding, map_stays}
+use Rattle.buffa_fields.specs.EntriesLaws.{entry_stays}
+use Rattle.buffa_fields_base.specs.Layout.{both_need}
+use Rattle.buffa_fields_base.specs.PairLaws.{both_stay}
+use Rattle.buffa_wire.specs.Kept.{keep_need}
 use Rattle.buffa_wire.specs.Message.{cost_in, merged_in}
 use Rattle.buffa_wire.specs.Takes.{Stays, cost_of, merged_of}
 use Rattle.buffa_map.specs.Enums.{closed_writing}
 use Rattle.buffa_node.specs.Branch.{Branch, Kids, branch, kid, no_kids}
-use Rattle.buffa_node.specs.EntriesLaws.{entry_stays, four_stay}
-use Rattle.buffa_node.specs.NodeMeaning.{ChildCost, ChildMeaning, children, cost, merged, need, node_need, numbers, shades, takes, texts}
+use Rattle.buffa_node.specs.NodeMeaning.{ChildCost, ChildMeaning, children, children_cost, cost, merged, need, node_need, numbers, scores_cost, shade_cost, shades_cost, takes, texts}
 use Rattle.buffa_node.specs.NodeEncoding.{kid_record, kids_records, kids_encoding, number_writing, records, shades_encoding, encoding, text_writing}
 use Rattle.buffa_wire.proofs.EncodingLemmas.{records_encoding-append}
 
 pub node_stays : (m : ChildMeaning) (c : ChildCost) → Stays (node_need m c)
-node_stays m c d n w p x h =
-    four_stay n (entry_stays texts numbers numbers 28 0 d n w p x h) (entry_stays numbers (children m (λ _. nothing)) (children m c) 100 0 d n w p x h) (entry_stays numbers shades shades 8 1 d n w p x h) (keep_stays d n w p x h)
+node_stays m c =
+    both_stay 1 scores_cost (both_need 2 (children_cost m c) (both_need 3 shades_cost keep_need)) (map_stays texts numbers 28)
+    (both_stay 2 (children_cost m c) (both_need 3 shades_cost keep_need) (map_stays numbers (children m c) 100) (both_stay 3 shades_cost keep_need (entry_stays shade_cost) keep_stays))
 
 -- ---- all bytes mean, and cost, what payloads do
 pub stays : Stays need

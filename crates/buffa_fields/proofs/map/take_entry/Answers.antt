@@ -1,4 +1,4 @@
-use Rattle.std.proofs.Common.{◌+◌, ◌∙◌, [], inl, Err, ap, refl, true}
+use Rattle.std.proofs.Common.{◌+◌, ◌∙◌, inl, Err, ap, refl, true}
 use Rattle.buffa_bytes.proofs.StepLemmas.{agree_ok}
 use Rattle.buffa_bytes.specs.declared.wire_type.WireType.TheVariants.{LengthDelimited}
 use Rattle.buffa_bytes.specs.Front.{check_wire}
@@ -14,7 +14,9 @@ returns-in-Ok-merge_entry-clause-taken g c =
     let w = c.args.tag.wire_type in
     let wire = agree_ok (check_wire n LengthDelimited w) tt (check_sound n LengthDelimited w) c.in-Ok.ensures in
     map_ok g.KC.MapValueDecode.reading g.VC.MapValueDecode.reading g.KC.Value.MapKey.same true (put g.KC.Value.MapKey.same) (g.KC.MapValueDecode.COST + g.VC.MapValueDecode.COST) c.args.ctx.depth n w
-    (means g.KC.Value.Blank.meaning g.VC.Value.Blank.meaning c.args.map.now.entries) (means g.KC.Value.Blank.meaning g.VC.Value.Blank.meaning c.merge_entry.new.map.entries) c.args.buf.now.now c.merge_entry.new.buf.now c.args.ctx.budget.now _ [] wire c.in-Ok-merge_entry.ensures.ok (c.in-Ok-merge_entry.ensures.ok.order refl)
+    c.args.buf.now.now c.merge_entry.new.buf.now _ _ wire
+    (means g.KC.Value.Blank.meaning g.VC.Value.Blank.meaning c.args.map.now.entries) (means g.KC.Value.Blank.meaning g.VC.Value.Blank.meaning c.merge_entry.new.map.entries)
+    c.in-Ok-merge_entry.ensures.ok (c.in-Ok-merge_entry.ensures.ok.order refl)
 
 pub returns-in-Err-merge_entry-clause-taken : goal.returns-in-Err-merge_entry-clause-taken
 returns-in-Err-merge_entry-clause-taken g c =
@@ -22,7 +24,8 @@ returns-in-Err-merge_entry-clause-taken g c =
     let w = c.args.tag.wire_type in
     let wire = agree_ok (check_wire n LengthDelimited w) tt (check_sound n LengthDelimited w) c.in-Ok.ensures in
     map_err g.KC.MapValueDecode.reading g.VC.MapValueDecode.reading g.KC.Value.MapKey.same true (put g.KC.Value.MapKey.same) (g.KC.MapValueDecode.COST + g.VC.MapValueDecode.COST) c.args.ctx.depth n w
-    (means g.KC.Value.Blank.meaning g.VC.Value.Blank.meaning c.args.map.now.entries) (means g.KC.Value.Blank.meaning g.VC.Value.Blank.meaning c.merge_entry.new.map.entries) c.args.buf.now.now c.merge_entry.new.buf.now c.args.ctx.budget.now _ [] wire
+    c.args.buf.now.now c.merge_entry.new.buf.now _ _ wire
+    (means g.KC.Value.Blank.meaning g.VC.Value.Blank.meaning c.args.map.now.entries) (means g.KC.Value.Blank.meaning g.VC.Value.Blank.meaning c.merge_entry.new.map.entries)
     c.limits_are_told_where_needs_are_not_left.ensures c.in-Err-merge_entry.error c.in-Err-merge_entry.ensures.err
 
 pub returns-in-Err-merge_entry-clause-full : goal.returns-in-Err-merge_entry-clause-full
@@ -42,5 +45,4 @@ returns-in-Err-merge_entry-clause-refused g c = λ e same.
     let w = c.args.tag.wire_type in
     let wire = agree_ok (check_wire n LengthDelimited w) tt (check_sound n LengthDelimited w) c.in-Ok.ensures in
     map_refused g.KC.MapValueDecode.reading g.VC.MapValueDecode.reading g.KC.Value.MapKey.same true (put g.KC.Value.MapKey.same) (g.KC.MapValueDecode.COST + g.VC.MapValueDecode.COST) c.args.ctx.depth n w
-    (means g.KC.Value.Blank.meaning g.VC.Value.Blank.meaning c.args.map.now.entries) (means g.KC.Value.Blank.meaning g.VC.Value.Blank.meaning c.merge_entry.new.map.entries) c.args.buf.now.now c.merge_entry.new.buf.now c.args.ctx.budget.now _ [] wire
-    c.in-Err-merge_entry.error e (err_same same) c.in-Err-merge_entry.ensures.err
+    c.args.buf.now.now c.merge_entry.new.buf.now _ _ wire c.in-Err-merge_entry.error e (err_same same) c.in-Err-merge_entry.ensures.err

@@ -1,4 +1,4 @@
-use Rattle.std.proofs.Common.{◌+◌, ◌∙◌, [], inl, Err, ap, refl, false}
+use Rattle.std.proofs.Common.{◌+◌, ◌∙◌, inl, Err, ap, refl, false}
 use Rattle.std.specs.BTreeMap.{insert_entry}
 use Rattle.buffa_bytes.proofs.StepLemmas.{agree_ok}
 use Rattle.buffa_bytes.specs.declared.wire_type.WireType.TheVariants.{LengthDelimited}
@@ -24,7 +24,7 @@ returns-in-Ok-answer-clause-taken g c =
     let first = means_ascend order key value g.KC.Value.Ord.cmp g.met.KC.Value.OrderedKey.compares old c.len-old.ensures.ordered in
     let last = means_ascend order key value g.KC.Value.Ord.cmp g.met.KC.Value.OrderedKey.compares new c.len-new.ensures.ordered in
     map_ok g.KC.MapValueDecode.reading g.VC.MapValueDecode.reading g.KC.Value.MapKey.same false (insert_entry order) (g.KC.MapValueDecode.COST + g.VC.MapValueDecode.COST) c.args.ctx.depth n w
-    (means key value old) (means key value new) c.args.buf.now.now c.merge_entry-answer.new.buf.now c.args.ctx.budget.now _ [] wire m
+    c.args.buf.now.now c.merge_entry-answer.new.buf.now _ _ wire (means key value old) (means key value new) m
     (is_put_by g.KC.Value.OrderedKey.total g.KC.Value.MapKey.same g.met.KC.Value.OrderedKey.ties (means key value old) (means key value new) m.says first last m.put)
 
 pub returns-in-Err-answer-clause-taken : goal.returns-in-Err-answer-clause-taken
@@ -33,7 +33,8 @@ returns-in-Err-answer-clause-taken g c =
     let w = c.args.tag.wire_type in
     let wire = agree_ok (check_wire n LengthDelimited w) tt (check_sound n LengthDelimited w) c.in-Ok.ensures in
     map_err g.KC.MapValueDecode.reading g.VC.MapValueDecode.reading g.KC.Value.MapKey.same false (insert_entry g.KC.Value.OrderedKey.order) (g.KC.MapValueDecode.COST + g.VC.MapValueDecode.COST) c.args.ctx.depth n w
-    (means g.KC.Value.Blank.meaning g.VC.Value.Blank.meaning c.args.map.now.entries) (means g.KC.Value.Blank.meaning g.VC.Value.Blank.meaning c.merge_entry-answer.new.map.entries) c.args.buf.now.now c.merge_entry-answer.new.buf.now c.args.ctx.budget.now _ [] wire
+    c.args.buf.now.now c.merge_entry-answer.new.buf.now _ _ wire
+    (means g.KC.Value.Blank.meaning g.VC.Value.Blank.meaning c.args.map.now.entries) (means g.KC.Value.Blank.meaning g.VC.Value.Blank.meaning c.merge_entry-answer.new.map.entries)
     c.limits_are_told_where_needs_are_not_left.ensures c.in-Err-answer.error c.in-Err-answer.ensures.err
 
 pub returns-in-Err-answer-clause-full : goal.returns-in-Err-answer-clause-full
@@ -53,5 +54,4 @@ returns-in-Err-answer-clause-refused g c = λ e same.
     let w = c.args.tag.wire_type in
     let wire = agree_ok (check_wire n LengthDelimited w) tt (check_sound n LengthDelimited w) c.in-Ok.ensures in
     map_refused g.KC.MapValueDecode.reading g.VC.MapValueDecode.reading g.KC.Value.MapKey.same false (insert_entry g.KC.Value.OrderedKey.order) (g.KC.MapValueDecode.COST + g.VC.MapValueDecode.COST) c.args.ctx.depth n w
-    (means g.KC.Value.Blank.meaning g.VC.Value.Blank.meaning c.args.map.now.entries) (means g.KC.Value.Blank.meaning g.VC.Value.Blank.meaning c.merge_entry-answer.new.map.entries) c.args.buf.now.now c.merge_entry-answer.new.buf.now c.args.ctx.budget.now _ [] wire
-    c.in-Err-answer.error e (err_same same) c.in-Err-answer.ensures.err
+    c.args.buf.now.now c.merge_entry-answer.new.buf.now _ _ wire c.in-Err-answer.error e (err_same same) c.in-Err-answer.ensures.err

@@ -2,14 +2,12 @@ use Rattle.std.specs.Prelude.{string_bytes}
 use Rattle.std.proofs.lemmas.Result.{err_from_is_err_and}
 use Rattle.buffa_map.specs.Pairs.{means}
 use Rattle.buffa_node.proofs.FieldMergeLemmas.{score_answer, wire_answer}
-use Rattle.buffa_node.specs.Entries.{put_in}
-use Rattle.buffa_node.specs.NodeMeaning.{numbers, text_cmp, texts}
 use Rattle.buffa_node.proofs.maps.merge_score.Goals as goal
 
 pub returns-in_err-check_wire_type-clause-taken : goal.returns-in_err-check_wire_type-clause-taken
 returns-in_err-check_wire_type-clause-taken c =
     let p = err_from_is_err_and c.from_residual.result c.from_residual.ensures.1 in
-    wire_answer texts numbers numbers 28 0 (λ m e s. put_in text_cmp m s) c.args.depth c.args.tag.number c.args.tag.wire_type (means string_bytes (λ v. v) c.args.scores.now.entries) c.args.buf.now.now c.args.buf.now.now c.args.budget.now
+    wire_answer _ _ _ _ c.args.depth c.args.tag.number c.args.tag.wire_type (means string_bytes (λ v. v) c.args.scores.now.entries) c.args.buf.now.now c.args.buf.now.now c.args.budget.now
     c.from_residual.result c.in_err-check_wire_type.field-0.0 _ p.1 p.2 c.in_err-check_wire_type.ensures
 
 pub returns-clause-taken : goal.returns-clause-taken

@@ -1,18 +1,14 @@
-use Rattle.std.proofs.Common.{◌∙◌, ◌++◌, ap}
+use Rattle.std.proofs.Common.{◌∙◌, ap}
 use Rattle.std.proofs.lemmas.Result.{err_from_is_err_and}
 use Rattle.buffa_map.specs.Pairs.{means}
-use Rattle.buffa_map.specs.Run.{undeclared_record}
 use Rattle.buffa_node.proofs.FieldMergeLemmas.{shade_err, shade_ok, wire_answer}
-use Rattle.buffa_node.specs.Branch.{Kept, Shades, shade_number}
-use Rattle.std.specs.Ordering.{int_cmp}
-use Rattle.buffa_node.specs.Entries.{put_in}
-use Rattle.buffa_node.specs.NodeMeaning.{numbers, shades}
+use Rattle.buffa_node.specs.Branch.{shade_number}
 use Rattle.buffa_node.proofs.maps.merge_shade.Goals as goal
 
 pub returns-in_err-check_wire_type-clause-taken : goal.returns-in_err-check_wire_type-clause-taken
 returns-in_err-check_wire_type-clause-taken c =
     let p = err_from_is_err_and c.from_residual.result c.from_residual.ensures.1 in
-    wire_answer numbers shades shades 8 1 (λ (x : Shades × Kept) e s. (put_in int_cmp x.0 s, x.1 ++ undeclared_record 3 e s.known)) c.args.depth c.args.tag.number c.args.tag.wire_type (means (λ k. k) shade_number c.args.shades.now.entries, c.args.rest.now.records) c.args.buf.now.now c.args.buf.now.now c.args.budget.now
+    wire_answer _ _ _ _ c.args.depth c.args.tag.number c.args.tag.wire_type (means (λ k. k) shade_number c.args.shades.now.entries, c.args.rest.now.records) c.args.buf.now.now c.args.buf.now.now c.args.budget.now
     c.from_residual.result c.in_err-check_wire_type.field-0.0 _ p.1 p.2 c.in_err-check_wire_type.ensures
 
 pub returns-in-Ok-clause-taken : goal.returns-in-Ok-clause-taken

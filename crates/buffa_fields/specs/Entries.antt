@@ -1,29 +1,17 @@
 -- Entries of map fields in a message: what one does to a value, and what it costs.
 -- Source: the protobuf encoding guide, "Maps".
-use Rattle.std.specs.Prelude.{ℕ, List, [], ◌∷◌, cond, Option, None, Result, Ok, Err, if◌then◌else◌}
-use Rattle.std.specs.BTreeMap.{insert_entry}
+use Rattle.std.specs.Prelude.{ℕ, List, [], ◌∷◌, Option, None, Result, Ok, Err, if◌then◌else◌}
 use Rattle.std.specs.Option.{option_map}
-use Rattle.std.specs.declared.cmp.Ordering.{Ordering}
 use Rattle.buffa_bytes.specs.declared.error.DecodeError.{DecodeError}
 use Rattle.buffa_bytes.specs.declared.wire_type.WireType.TheVariants.{LengthDelimited}
-use Rattle.buffa_wire.specs.BudgetLeft.{BudgetLeft, need_by, nothing, plus, unknown_fields}
+use Rattle.buffa_wire.specs.BudgetLeft.{BudgetLeft, need_by, nothing}
 use Rattle.buffa_bytes.specs.Front.{delimited_at}
 use Rattle.buffa_bytes.specs.WireType.{same_wire}
 use Rattle.buffa_map.specs.Codec.{Reading}
-use Rattle.buffa_map.specs.Entry.{entry_of, need_of}
+use Rattle.buffa_map.specs.Entry.{entry_of}
 use Rattle.buffa_map.specs.declared.map_entry.MapEntry.{MapEntry}
 use Rattle.buffa_wire.specs.ByField.{value_of}
 use Rattle.buffa_wire.specs.Takes.{Need, Taker}
-use Rattle.buffa_fields.specs.MapFields.{stepped}
-
--- a declared pair is put into pairs that stand in the order of their keys
-abbrev pub put_in : {K V : Type 0} → (K → K → Ordering) → List (K × V) → MapEntry K V → List (K × V)
-put_in cmp = stepped (insert_entry cmp)
-
--- what one that is undeclared takes, where each takes so many unknown fields
-abbrev pub extra_of : {K V : Type 0} → ℕ → Result (MapEntry K V) DecodeError → BudgetLeft
-extra_of extra (Ok s) = unknown_fields (cond s.known 0 extra)
-extra_of extra (Err e) = nothing
 
 module _ {K V : Type 0} (key : Reading K) (val : Reading V) where
   -- the entry that a whole payload holds: its bytes, and what they say
@@ -36,7 +24,6 @@ module _ {K V : Type 0} (key : Reading K) (val : Reading V) where
   unfoldable pub entry_taken : {X : Type 0} → (X → List ℕ → MapEntry K V → X) → Taker X
   entry_taken does d v n w p = if same_wire LengthDelimited w then option_map (λ x. does v x.0 x.1) (entry_in d (delimited_at p)) else None
 
-  -- an entry costs so many units, what the messages in it cost, by paid, and its unknown fields
-  unfoldable pub entry_cost : Reading V → ℕ → ℕ → Need
-  entry_cost paid cost extra d n w bs =
-      if same_wire LengthDelimited w then need_by (delimited_at bs) (λ e. plus (need_of key paid d cost e.0) (extra_of extra (entry_of key val d e.0))) else nothing
+-- where a length and so many bytes are there, these cost so much, at a depth
+unfoldable pub entry_cost : (ℕ → List ℕ → BudgetLeft) → Need
+entry_cost costs d n w bs = if same_wire LengthDelimited w then need_by (delimited_at bs) (λ e. costs d e.0) else nothing
