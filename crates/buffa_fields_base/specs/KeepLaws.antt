@@ -26,7 +26,7 @@ use Rattle.buffa_fields_base.specs.PairLaws.{both_true}
 use Rattle.buffa_wire.specs.Takes.{IsTaken, Leads, Piece, ReadsBack, Untaken, joined}
 use Rattle.buffa_wire.proofs.SequenceLemmas.{err_same}
 use Rattle.buffa_wire.proofs.SpentLemmas.{is_there}
-use Rattle.buffa_fields_base.specs.Layout.{RefusesField}
+use Rattle.buffa_fields_base.specs.Layout.{FieldIsRefused}
 use Rattle.buffa_bytes.specs.Gives.{FullOnlyIf}
 use Rattle.std.proofs.lemmas.Bool.{cases_lt}
 
@@ -118,7 +118,7 @@ module _ (d s n : ℕ) (w : WireType) (bs : List ℕ) (v : List (ℕ × Datum)) 
   -- what is told and left of a field that is refused
   pub keep_refused : (r : Result (Unit {0}) DecodeError) (e f : DecodeError) → r ≡ Err f → f ≡ e → (rest : List ℕ) → (e ≢ error.OutOfMemory → field_at d s n w bs ≡ Err e) →
       (s ≡ 0 → rest ≡ bs) → (w ≡ wire.StartGroup → d ≡ 0 → rest ≡ bs) → (w ≢ wire.StartGroup → 0 < s → (e ≢ error.OutOfMemory → rest ≡ past_no_payload w bs) × IsTailOf (past_no_payload w bs) rest) →
-      (g : DecodeError) → r ≡ Err g → g ≢ error.OutOfMemory → RefusesField d before.unknown n w bs g rest
+      (g : DecodeError) → r ≡ Err g → g ≢ error.OutOfMemory → FieldIsRefused d before.unknown n w bs g rest
   keep_refused r e f is same rest reads none level left g told ne =
       let one : g ≡ e = err_same (sym told ∙ is) ∙ same in
       let some : e ≢ error.OutOfMemory = λ full. ne (one ∙ full) in (

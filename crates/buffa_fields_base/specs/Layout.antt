@@ -56,8 +56,8 @@ Took s d old n w bs before r new after rest =
 
 -- a field is refused by the fault of its bytes, or as one too many; unread is what stands where no payload does, and all
 -- of it where none may be kept, or no level is left for a group
-abbrev pub RefusesField : ℕ → ℕ → ℕ → WireType → List ℕ → DecodeError → List ℕ → Type 0
-RefusesField d s n w bs e rest =
+abbrev pub FieldIsRefused : ℕ → ℕ → ℕ → WireType → List ℕ → DecodeError → List ℕ → Type 0
+FieldIsRefused d s n w bs e rest =
     (field_at d s n w bs ≡ Err e) × (s ≡ 0 → rest ≡ bs) × (w ≡ StartGroup → d ≡ 0 → rest ≡ bs) × (w ≢ StartGroup → 0 < s → rest ≡ past_no_payload w bs)
 
 -- a field that isn't declared is kept; one that is refused changes and spends nothing
@@ -65,7 +65,7 @@ unfoldable pub Kept : ℕ → List (ℕ × Datum) → ℕ → WireType → List 
 Kept d old n w bs before r new after rest =
     IsTaken keep_takes keep_need d old n w bs before r new after rest × MatchResult r (λ _. Unit {0}) (λ _. old ≡ new)
     × FullOnlyIf r (KeepTakesMemory before.unknown d n w bs) × MatchResult r (λ _. Unit {0}) (λ _. before ≡ after)
-    × ((e : DecodeError) → r ≡ Err e → e ≢ OutOfMemory → RefusesField d before.unknown n w bs e rest)
+    × ((e : DecodeError) → r ≡ Err e → e ≢ OutOfMemory → FieldIsRefused d before.unknown n w bs e rest)
 
 abbrev pub passes : Taker (Unit {0})
 passes d v n w p = Some v
