@@ -34,7 +34,6 @@ use Rattle.buffa_bytes.proofs.FieldLemmas.{is_tag}
 use Rattle.buffa_map.proofs.EntryLemmas.{same_false}
 use Rattle.buffa_fields.specs.Groups.{body_behind, body_step, group_body, group_cost, group_in, group_records, group_taken}
 use Rattle.buffa_fields.specs.Nested.{message_levels, message_slots, or_blank}
-use Rattle.buffa_fields.specs.Refusals.{RefusesGroup, RefusesInGroup}
 use Rattle.buffa_wire.specs.Takes.{IsTaken, Need, Piece, ReadsBack, Stays, Untaken, front_of, Taker}
 use Rattle.buffa_fields_base.specs.Values.{IfThere}
 
@@ -290,22 +289,6 @@ group_wire_err merged cost d n w old new bs rest before after e other is still =
       λ ne. inr ((λ p more payload split. rw off refl), as_no_limit e (WireTypeMismatch n StartGroup w) is (λ l. l)),
       λ full end. let two = sym full ∙ is in cc,
     )
-
--- it goes into the message that stands
-pub group_there : {X : Type 0} (blank : X) (merged : ℕ → X → List ℕ → Option X) (need : Need) (d n : ℕ) (w : WireType) (old : Option X) (a new : X) (bs rest : List ℕ) (before after : BudgetLeft) (r : Result (Unit {0}) DecodeError) → a ≡ or_blank blank old →
-    IsTaken (group_in merged) need d a n w bs before r new after rest → IsTaken (group_taken blank merged) need d old n w bs before r (Some new) after rest
-group_there blank merged need d n w old a new bs rest before after (Ok x) is (p, payload, split, h, pays) = (p, payload, split, ap (option_map (λ x. Some x)) (ap (λ z. group_in merged d z n w p) (sym is) ∙ h), pays)
-group_there blank merged need d n w old a new bs rest before after (Err e) is (pays, why, full) = (
-  pays,
-  λ ne. elim (why ne) [
-    | inl few ↦ inl few
-    | inr bad ↦ inr ((λ p more payload split. ap (option_map (λ x. Some x)) (ap (λ z. group_in merged d z n w p) (sym is) ∙ bad.0 p more payload split)), bad.1)
-  ],
-  full,
-)
-
-pub group_refused : {X : Type 0} (d n : ℕ) (w : WireType) (bs : List ℕ) (e : DecodeError) (old new : X) → RefusesInGroup d old n w bs e new → RefusesGroup d (Some old) n w bs e (Some new)
-group_refused d n w bs e old new k = ((λ none. cc), ((λ other. ap (λ z. Some z) (k.0 other)), (λ none. ap (λ z. Some z) (k.1 none)), (λ no. ap (λ z. Some z) (k.2 no))))
 
 -- ---- the encoding
 module _ (n : ℕ) (rs : List (ℕ × Datum)) where

@@ -12,7 +12,7 @@ use Rattle.buffa_wire.specs.BudgetLeft.{BudgetLeft, nothing}
 use Rattle.buffa_wire.specs.Message.{BeginsField, cost_in, merged_in}
 use Rattle.buffa_wire.specs.Records.{Datum, group, records_of}
 use Rattle.buffa_wire.specs.Encoding.{records_encoding}
-use Rattle.buffa_fields.specs.Nested.{or_blank}
+use Rattle.buffa_fields.specs.Nested.{taken_there}
 use Rattle.buffa_wire.specs.Takes.{Asks, Need, Taker, front_of}
 
 -- the field up to what follows it, and then the fields in that
@@ -43,7 +43,7 @@ GroupTakesMemory d n w bs = (w ≡ StartGroup) × (0 < d) × BeginsField bs
 
 -- each group is merged into the message that stands
 abbrev pub group_taken : {X : Type 0} → X → (ℕ → X → List ℕ → Option X) → Taker (Option X)
-group_taken blank merged d v n w p = option_map (λ x. Some x) (group_in merged d (or_blank blank v) n w p)
+group_taken blank merged = taken_there blank (group_in merged)
 
 module _ {X : Type 0} (records : X → List (ℕ × Datum)) where
   -- the group of a message

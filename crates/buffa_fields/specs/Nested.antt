@@ -37,9 +37,13 @@ module _ {X : Type 0} (blank : X) where
   or_blank None = blank
   or_blank (Some v) = v
 
-  -- each payload is merged into the message that stands
+  -- it takes each payload
+  abbrev pub taken_there : Taker X → Taker (Option X)
+  taken_there takes d v n w p = option_map (λ x. Some x) (takes d (or_blank v) n w p)
+
+  -- each payload is merged into it
   abbrev pub message_taken : (ℕ → X → List ℕ → Option X) → Taker (Option X)
-  message_taken merged d v n w p = option_map (λ x. Some x) (message_in merged d (or_blank v) n w p)
+  message_taken merged = taken_there (message_in merged)
 
 module _ {X : Type 0} (encoding : X → List ℕ) where
   unfoldable pub message_records : ℕ → Option X → List (ℕ × Datum)

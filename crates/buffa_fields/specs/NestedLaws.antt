@@ -31,9 +31,9 @@ use Rattle.buffa_bytes.specs.Values.{delimited_encoding, tag_encoding}
 use Rattle.buffa_bytes.specs.Varint.{varint_encoding}
 use Rattle.buffa_bytes.proofs.FieldLemmas.{is_tag}
 use Rattle.buffa_map.proofs.EntryLemmas.{same_false}
-use Rattle.buffa_fields.specs.Nested.{MessageTakesMemory, inside, message_cost, message_in, message_levels, message_records, message_slots, message_taken, or_blank}
-use Rattle.buffa_fields.specs.Refusals.{RefusesInside, RefusesMessage}
-use Rattle.buffa_wire.specs.Takes.{IsTaken, Need, ReadsBack, Stays, Untaken}
+use Rattle.buffa_fields.specs.Nested.{MessageTakesMemory, inside, message_cost, message_in, message_levels, message_records, message_slots, message_taken, or_blank, taken_there}
+use Rattle.buffa_fields.specs.Refusals.{LeavesUnless, RefusesThere}
+use Rattle.buffa_wire.specs.Takes.{IsTaken, Need, ReadsBack, Stays, Taker, Untaken}
 use Rattle.buffa_fields_base.specs.Values.{IfThere}
 
 -- ---- a payload that is a length and so many bytes
@@ -111,21 +111,36 @@ inside_full d n w bs wire (Err e) full free = λ is.
     (wire, may.0, some.0, some.1, some.2, some.3)
 
 -- ---- it goes into the message that stands
-pub there : {X : Type 0} (blank : X) (merged : ℕ → X → List ℕ → Option X) (need : Need) (d n : ℕ) (w : WireType) (old : Option X) (a new : X) (bs rest : List ℕ) (before after : BudgetLeft) (r : Result (Unit {0}) DecodeError) → a ≡ or_blank blank old →
-    IsTaken (message_in merged) need d a n w bs before r new after rest → IsTaken (message_taken blank merged) need d old n w bs before r (Some new) after rest
-there blank merged need d n w old a new bs rest before after (Ok x) is (p, payload, split, h, pays) = (p, payload, split, ap (option_map (λ x. Some x)) (ap (λ z. message_in merged d z n w p) (sym is) ∙ h), pays)
-there blank merged need d n w old a new bs rest before after (Err e) is (pays, why, full) = (
+pub there : {X : Type 0} (blank : X) (takes : Taker X) (need : Need) (d n : ℕ) (w : WireType) (old : Option X) (a new : X) (bs rest : List ℕ) (before after : BudgetLeft) (r : Result (Unit {0}) DecodeError) → a ≡ or_blank blank old →
+    IsTaken takes need d a n w bs before r new after rest → IsTaken (taken_there blank takes) need d old n w bs before r (Some new) after rest
+there blank takes need d n w old a new bs rest before after (Ok x) is (p, payload, split, h, pays) = (p, payload, split, ap (option_map (λ x. Some x)) (ap (λ z. takes d z n w p) (sym is) ∙ h), pays)
+there blank takes need d n w old a new bs rest before after (Err e) is (pays, why, full) = (
   pays,
   λ ne. elim (why ne) [
     | inl few ↦ inl few
-    | inr bad ↦ inr ((λ p more payload split. ap (option_map (λ x. Some x)) (ap (λ z. message_in merged d z n w p) (sym is) ∙ bad.0 p more payload split)), bad.1)
+    | inr bad ↦ inr ((λ p more payload split. ap (option_map (λ x. Some x)) (ap (λ z. takes d z n w p) (sym is) ∙ bad.0 p more payload split)), bad.1)
   ],
   full,
 )
 
--- ---- a refused field
-pub refused_there : {X : Type 0} (d n : ℕ) (w : WireType) (bs : List ℕ) (e : DecodeError) (old new : X) → RefusesInside d old n w bs e new → RefusesMessage d (Some old) n w bs e (Some new)
-refused_there d n w bs e old new k = ((λ none. cc), ((λ other. ap (λ z. Some z) (k.0 other)), (λ none. ap (λ z. Some z) (k.1 none)), (λ broken. ap (λ z. Some z) (k.2 broken))))
+-- ---- the answer where a field goes into a message, for messages as payloads and as groups
+module _ {X : Type 0} (blank : X) (takes : Taker X) (need : Need) (wire : WireType) (There : List ℕ → Type 0) (d n : ℕ) (w : WireType) (bs rest : List ℕ) (before after : BudgetLeft) (old : Option X) (stood new : X) where
+  -- the message stood there
+  pub took_there : (r : Result (Unit {0}) DecodeError) (told : Result (Unit {0}) DecodeError) (Asks : Type 0) → old ≡ Some stood → IsTaken takes need d stood n w bs before r new after rest → FullOnlyIf r Asks →
+      ((e : DecodeError) → told ≡ Err e → (r ≡ Err e) × (stood ≡ new) × (bs ≡ rest)) → ((e : DecodeError) → r ≡ Err e → LeavesUnless wire There d stood n w bs e new) →
+      IsTaken (taken_there blank takes) need d old n w bs before r (Some new) after rest × FullOnlyIf r Asks
+      × ((e : DecodeError) → told ≡ Err e → (r ≡ Err e) × (old ≡ Some new) × (bs ≡ rest)) × ((e : DecodeError) → r ≡ Err e → RefusesThere wire There d old n w bs e (Some new))
+  took_there r told Asks was taken full wrong refused =
+      let put = λ (same : stood ≡ new). was ∙ ap (λ z. Some z) same in (
+        there blank takes need d n w old stood new bs rest before after r (sym (ap (or_blank blank) was)) taken,
+        full,
+        λ e is. let k = wrong e is in (k.0, put k.1, k.2),
+        λ e bad. let k = refused e bad in ((λ none. let two = sym was ∙ none in cc), ((λ other. put (k.0 other)), (λ low. put (k.1 low)), (λ no. put (k.2 no)))),
+      )
+
+  -- none did, and a default one took it
+  pub came_there : old ≡ None → stood ≡ blank → (r : Result (Unit {0}) DecodeError) → IsTaken takes need d stood n w bs before r new after rest → IsTaken (taken_there blank takes) need d old n w bs before r (Some new) after rest
+  came_there was fresh r taken = there blank takes need d n w old stood new bs rest before after r (fresh ∙ sym (ap (or_blank blank) was)) taken
 
 -- ---- the encoding
 -- what stands before a message's encoding

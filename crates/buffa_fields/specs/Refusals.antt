@@ -73,18 +73,28 @@ pub record ElementsRead {V : Type 0} (codec : Reading V) (d : ℕ) (old : List V
 abbrev pub RefusesNew : {X : Type 0} → Refusal (List X)
 RefusesNew d old n w bs e new = old ≡ new
 
--- a message is as it was where the field is of another wire type, no level is left, or no length and so many bytes are there
+-- a value is as it was where the field is of another wire type, no level is left, or the bytes aren't so
+abbrev pub LeavesUnless : {X : Type 0} → WireType → (List ℕ → Type 0) → Refusal X
+LeavesUnless wire There d old n w bs e new = (w ≢ wire → old ≡ new) × (d ≡ 0 → old ≡ new) × ((There bs → ⊥) → old ≡ new)
+
+-- a message: where no length and so many bytes are there
+abbrev pub IsDelimited : List ℕ → Type 0
+IsDelimited bs = IsOk (delimited_at bs)
+
 abbrev pub RefusesInside : {X : Type 0} → Refusal X
-RefusesInside d old n w bs e new = (w ≢ LengthDelimited → old ≡ new) × (d ≡ 0 → old ≡ new) × ((IsOk (delimited_at bs) → ⊥) → old ≡ new)
+RefusesInside = LeavesUnless LengthDelimited IsDelimited
 
 -- the same in a group: where no field begins it
 abbrev pub RefusesInGroup : {X : Type 0} → Refusal X
-RefusesInGroup d old n w bs e new = (w ≢ StartGroup → old ≡ new) × (d ≡ 0 → old ≡ new) × ((BeginsField bs → ⊥) → old ≡ new)
+RefusesInGroup = LeavesUnless StartGroup BeginsField
 
 -- A refused message that wasn't there isn't there afterwards. One that was is as it was in these cases; in all others what stands in
 -- it is its own affair.
+abbrev pub RefusesThere : {X : Type 0} → WireType → (List ℕ → Type 0) → Refusal (Option X)
+RefusesThere wire There d old n w bs e new = (old ≡ None → new ≡ None) × LeavesUnless wire There d old n w bs e new
+
 abbrev pub RefusesMessage : {X : Type 0} → Refusal (Option X)
-RefusesMessage d old n w bs e new = (old ≡ None → new ≡ None) × RefusesInside d old n w bs e new
+RefusesMessage = RefusesThere LengthDelimited IsDelimited
 
 abbrev pub RefusesGroup : {X : Type 0} → Refusal (Option X)
-RefusesGroup d old n w bs e new = (old ≡ None → new ≡ None) × RefusesInGroup d old n w bs e new
+RefusesGroup = RefusesThere StartGroup BeginsField

@@ -26,7 +26,7 @@ ghost use Rattle.buffa_fields_base.specs.Keep.{IsFieldThere};
 ghost use Rattle.buffa_fields_base.specs.KindLaws.{is_none, is_nought, is_zero};
 ghost use Rattle.buffa_fields.specs.Lists.{ElementsTakeMemory, check_list_wire, element_records, elements_taken, packed_records};
 ghost use Rattle.buffa_fields.specs.MapFields.{PairTakesMemory, pair_cost, pair_taken};
-ghost use Rattle.buffa_fields_base.specs.Layout.{Choice, Kept, Passed, Took, both_need, both_take, is_number};
+ghost use Rattle.buffa_fields_base.specs.Layout.{Choice, both_need, both_take, is_number};
 ghost use Rattle.buffa_fields_base.specs.Members.{field, keep, skip};
 ghost use Rattle.buffa_fields.specs.Groups.{GroupTakesMemory, group_cost, group_datum, group_records, group_taken};
 ghost use Rattle.buffa_fields.specs.Nested.{FitsInside, MessageTakesMemory, message_cost, message_levels, message_records, message_slots, message_taken};
@@ -38,6 +38,7 @@ ghost use Rattle.buffa_fields.specs.Refusals.{RefusesAs, RefusesElements, Refuse
 ghost use Rattle.buffa_fields_base.specs.MemberRecords.{optional_records, plain_records};
 ghost use Rattle.buffa_fields.specs.MapFields.{entry_records};
 ghost use Rattle.buffa_wire.specs.Takes.{cost_of, merged_of};
+ghost use Rattle.buffa_fields_laws.specs.Pinned.{AmongKept, MemberOrOthers, PassedOver, TakeAlike};
 ghost use Rattle.buffa_fields_base.specs.Values.{IfThere, RefusesAlone, ValueTakesMemory, free, some_taken, value_taken};
 
 use buffa_fields::fields::Fields;
@@ -375,8 +376,7 @@ pub fn kept_fields_are_these<M>()
     ensures slots { (get : M → List (ℕ × Datum)) (v : List (ℕ × Datum)) → (keep get).slots v ≡ [] }
     ensures levels { (get : M → List (ℕ × Datum)) (v : List (ℕ × Datum)) → (keep get).levels v ≡ height v }
     ensures normal { (get : M → List (ℕ × Datum)) (v : List (ℕ × Datum)) → (keep get).normal v }
-    ensures taken { (get : M → List (ℕ × Datum)) (d n : ℕ) (old new : M) (w : _) (bs rest : List ℕ) (a b : _) (r : _) →
-        (keep get).Taken d old n w bs a r new b rest ↔ Kept d (get old) n w bs a r (get new) b rest }
+    ensures taken { (get : M → List (ℕ × Datum)) → TakeAlike (keep get).Taken (AmongKept get) }
 {}
 
 /// Fields that aren't declared, where they are passed over: for nothing, and nothing is said of them.
@@ -386,8 +386,7 @@ pub fn passed_fields_are_these<M>()
     ensures need { (skip {M = M}).need ≡ free }
     ensures records { (v : _) → ((skip {M = M}).records v ≡ []) × ((skip {M = M}).slots v ≡ []) }
     ensures normal { (v : _) → ((skip {M = M}).levels v ≡ 0) × (skip {M = M}).normal v }
-    ensures taken { (d n : ℕ) (old new : M) (w : _) (bs rest : List ℕ) (a b : _) (r : _) →
-        (skip {M = M}).Taken d old n w bs a r new b rest ↔ Passed d n w bs a r b rest }
+    ensures taken { TakeAlike (skip {M = M}).Taken PassedOver }
 {}
 
 /// A member in front of others: it takes the fields of its number, and they stay then; all other fields are theirs. What
@@ -413,10 +412,8 @@ pub fn members_are_these<M: Fields, N: Member>()
         (field k get N.shape M.layout).sound ≡ (is_number k && not (M.layout.declares k) && M.layout.sound) }
     ensures declares { (k : ℕ) (get : M → N.Part) (n : ℕ) →
         (field k get N.shape M.layout).declares n ≡ (n == k || M.layout.declares n) }
-    ensures taken { (k : ℕ) (get : M → N.Part) (d n : ℕ) (old new : M) (w : _) (bs rest : List ℕ) (a b : _) (r : _) →
-        (field k get N.shape M.layout).Taken d old n w bs a r new b rest
-        ↔ Choice (n == k) (Took N.shape d (get old) n w bs a r (get new) b rest × M.layout.Same old new)
-        ((get new ≡ get old) × M.layout.Taken d old n w bs a r new b rest) }
+    ensures taken { (k : ℕ) (get : M → N.Part) →
+        TakeAlike (field k get N.shape M.layout).Taken (MemberOrOthers k get N.shape M.layout) }
     ensures apart { (k : ℕ) (get : M → N.Part) (n : ℕ) (v u : _) → (field k get N.shape M.layout).Apart n v u
         ↔ Choice (n == k) (v.1 ≡ u.1) ((v.0 ≡ u.0) × M.layout.Apart n v.1 u.1) }
     ensures same { (k : ℕ) (get : M → N.Part) (a b : M) →
@@ -437,6 +434,5 @@ pub fn messages_are_these<M: Listing>()
     ensures takes { (⟦<Listed as MessageForm<M>>⟧.takes ≡ M.layout.takes) × (⟦<Listed as MessageForm<M>>⟧.need ≡ M.layout.need) }
     ensures normal { (v : _) → ⟦<Listed as MessageForm<M>>⟧.normal v ↔ (M.layout.Owes × M.layout.normal v) }
     ensures sure { (v : _) → ⟦<Listed as MessageForm<M>>⟧.sure v ↔ (M.layout.slots v ≡ []) }
-    ensures taken { (d n : ℕ) (old new : M) (w : _) (bs rest : List ℕ) (a b : _) (r : _) →
-        ⟦<Listed as MessageForm<M>>⟧.Taken d old n w bs a r new b rest ↔ M.layout.Taken d old n w bs a r new b rest }
+    ensures taken { TakeAlike ⟦<Listed as MessageForm<M>>⟧.Taken M.layout.Taken }
 {}
