@@ -36,7 +36,7 @@ PROGRAMS = {
     "conformance_of_members": "",
 }
 MESSAGES = "flat two count keep tree".split()
-MEMBERS = "assorted depot explicit implicit inventory joined ledger load order pallet parcel separate store wagon".split()
+MEMBERS = "assorted depot explicit implicit inventory joined ledger load order pallet parcel separate store train wagon".split()
 
 
 def program_of(row):

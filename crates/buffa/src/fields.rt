@@ -13,6 +13,9 @@ pub use buffa_fields::kept::{self, KeptFields};
 pub use buffa_fields::kind::Kind;
 pub use buffa_fields::map_member::MapOf;
 pub use buffa_fields::map_nested::MapOfNested;
+pub use buffa_fields::meaning::{
+    And, And3, And4, And5, And6, And7, And8, And9, And10, And11, And12, And13, And14, And15, And16,
+};
 pub use buffa_fields::member::Member;
 pub use buffa_fields::message::{Listed, Listing};
 pub use buffa_fields::nested::Nested;

@@ -16,5 +16,6 @@ pub mod repeated_group;
 pub mod repeated_nested;
 
 pub use buffa_fields_base::{
-    fields, kept, kind, kinds, member, merge, message, optional, plain, sizer, visitor, writer,
+    fields, kept, kind, kinds, meaning, member, merge, message, optional, plain, sizer, visitor,
+    writer,
 };

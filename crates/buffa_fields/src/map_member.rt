@@ -15,6 +15,7 @@ ghost use Rattle.buffa_fields.specs.MapFields.{entry_records};
 ghost use Rattle.buffa_fields.specs.Refusals.{RefusesPair};
 
 use crate::map::{map_len, take_entry, write_map};
+use buffa_fields_base::meaning::And;
 use buffa_fields_base::member::Member;
 use buffa_map::map_codec::{Map, MapCodec, MapValueDecode};
 use buffa_wire::{
@@ -40,7 +41,7 @@ where
 {
     type Part = Map<KC::Value, VC::Value>;
 
-    type Meaning = [(<KC::Value as Blank>::Meaning, <VC::Value as Blank>::Meaning); 0];
+    type Meaning = [And<<KC::Value as Blank>::Meaning, <VC::Value as Blank>::Meaning>; 0];
 
     ghost shape = { record {
       meaning = λ m. means KC.Value.meaning VC.Value.meaning m.entries;

@@ -21,6 +21,7 @@ ghost use Rattle.buffa_fields.specs.NestedMaps.{pair_levels, pair_records, pair_
 ghost use Rattle.buffa_fields.specs.Refusals.{RefusesPair};
 
 use crate::map::take_entry;
+use buffa_fields_base::meaning::And;
 use buffa_fields_base::member::Member;
 use buffa_map::map_codec::{
     Map, MapCodec, MapStorage, MapValueDecode, Msg, StableWalk, message_field_len,
@@ -90,7 +91,7 @@ where
 {
     type Part = Map<KC::Value, N>;
 
-    type Meaning = [(<KC::Value as Blank>::Meaning, <N as Blank>::Meaning); 0];
+    type Meaning = [And<<KC::Value as Blank>::Meaning, <N as Blank>::Meaning>; 0];
 
     ghost shape = { record {
       meaning = λ m. means KC.Value.meaning N.meaning m.entries;

@@ -20,6 +20,7 @@ ghost use Rattle.buffa_fields.specs.Refusals.{RefusesPair, RefusesPairIn};
 
 use crate::map::{map_len, write_map};
 use crate::ordered_key::OrderedKey;
+use buffa_fields_base::meaning::And;
 use buffa_fields_base::member::Member;
 use buffa_map::laws::limits_are_told_where_needs_are_not_left;
 use buffa_map::map_codec::{MapCodec, MapValueDecode, merge_entry};
@@ -82,7 +83,7 @@ where
 {
     type Part = BTreeMap<KC::Value, VC::Value>;
 
-    type Meaning = [(<KC::Value as Blank>::Meaning, <VC::Value as Blank>::Meaning); 0];
+    type Meaning = [And<<KC::Value as Blank>::Meaning, <VC::Value as Blank>::Meaning>; 0];
 
     ghost shape = { record {
       meaning = λ m. means KC.Value.meaning VC.Value.meaning m.entries;

@@ -21,6 +21,7 @@ ghost use Rattle.buffa_fields.specs.Refusals.{RefusesPair};
 use crate::map_nested::{pairs_len, write_pairs};
 use crate::ordered_key::OrderedKey;
 use crate::ordered_map::take_ordered;
+use buffa_fields_base::meaning::And;
 use buffa_fields_base::member::Member;
 use buffa_map::map_codec::{MapCodec, MapValueDecode, Msg};
 use buffa_wire::{
@@ -47,7 +48,7 @@ where
 {
     type Part = BTreeMap<KC::Value, N>;
 
-    type Meaning = [(<KC::Value as Blank>::Meaning, <N as Blank>::Meaning); 0];
+    type Meaning = [And<<KC::Value as Blank>::Meaning, <N as Blank>::Meaning>; 0];
 
     ghost shape = { record {
       meaning = λ m. means KC.Value.meaning N.meaning m.entries;

@@ -5,6 +5,7 @@ pub mod fields;
 pub mod kept;
 pub mod kind;
 pub mod kinds;
+pub mod meaning;
 pub mod member;
 pub mod merge;
 pub mod message;

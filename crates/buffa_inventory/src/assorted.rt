@@ -7,6 +7,7 @@ use crate::state::State;
 use buffa_fields::fields::Fields;
 use buffa_fields::kept::{self, KeptFields};
 use buffa_fields::map_member::MapOf;
+use buffa_fields::meaning::{And, And9};
 use buffa_fields::member::Member;
 use buffa_fields::message::{Listed, Listing};
 use buffa_fields::optional::Optional;
@@ -46,22 +47,18 @@ pub struct Assorted {
     pub rest: UnknownFields,
 }
 
-type Second = (
-    [(bool, i32); 0],
-    (
-        [(bool, [u8; 0]); 0],
-        ([(i64, (bool, i32)); 0], ([u8; 0], KeptFields)),
-    ),
-);
-
 impl Fields for Assorted {
-    type Meaning = (
+    type Meaning = And9<
         Option<[u8; 0]>,
-        (
-            Option<(bool, i32)>,
-            ([[u8; 0]; 0], ([(bool, i32); 0], Second)),
-        ),
-    );
+        Option<(bool, i32)>,
+        [[u8; 0]; 0],
+        [(bool, i32); 0],
+        [(bool, i32); 0],
+        [And<bool, [u8; 0]>; 0],
+        [And<i64, (bool, i32)>; 0],
+        [u8; 0],
+        KeptFields,
+    >;
 
     const COST: usize = 216;
 

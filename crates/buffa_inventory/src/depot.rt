@@ -6,6 +6,7 @@ ghost use Rattle.buffa_fields_base.specs.Members.{field, skip};
 use crate::parcel::Parcel;
 use buffa_fields::fields::Fields;
 use buffa_fields::kept;
+use buffa_fields::meaning::And3;
 use buffa_fields::member::Member;
 use buffa_fields::message::{Listed, Listing};
 use buffa_fields::plain::Plain;
@@ -31,7 +32,7 @@ pub struct Depot {
 }
 
 impl Fields for Depot {
-    type Meaning = ([u8; 0], ([<Parcel as Blank>::Meaning; 0], ()));
+    type Meaning = And3<[u8; 0], [<Parcel as Blank>::Meaning; 0], ()>;
 
     const COST: usize = 56;
 

@@ -6,6 +6,7 @@ ghost use Rattle.buffa_fields_base.specs.Members.{field, keep};
 use buffa_fields::fields::Fields;
 use buffa_fields::kept::{self, KeptFields};
 use buffa_fields::map_member::MapOf;
+use buffa_fields::meaning::{And, And5};
 use buffa_fields::member::Member;
 use buffa_fields::message::{Listed, Listing};
 use buffa_fields::optional::Optional;
@@ -36,10 +37,7 @@ pub struct Inventory {
 }
 
 impl Fields for Inventory {
-    type Meaning = (
-        i32,
-        ([u8; 0], (Option<bool>, ([([u8; 0], i32); 0], KeptFields))),
-    );
+    type Meaning = And5<i32, [u8; 0], Option<bool>, [And<[u8; 0], i32>; 0], KeptFields>;
 
     const COST: usize = 96;
 

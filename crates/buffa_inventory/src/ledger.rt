@@ -6,6 +6,7 @@ ghost use Rattle.buffa_fields_base.specs.Members.{field, keep};
 use crate::inventory::Inventory;
 use buffa_fields::fields::Fields;
 use buffa_fields::kept::{self, KeptFields};
+use buffa_fields::meaning::{And, And4};
 use buffa_fields::member::Member;
 use buffa_fields::message::{Listed, Listing};
 use buffa_fields::ordered_map::OrderedMapOf;
@@ -31,13 +32,12 @@ pub struct Ledger {
 }
 
 impl Fields for Ledger {
-    type Meaning = (
-        [([u8; 0], i32); 0],
-        (
-            [(i32, <Inventory as Blank>::Meaning); 0],
-            ([(bool, [u8; 0]); 0], KeptFields),
-        ),
-    );
+    type Meaning = And4<
+        [And<[u8; 0], i32>; 0],
+        [And<i32, <Inventory as Blank>::Meaning>; 0],
+        [And<bool, [u8; 0]>; 0],
+        KeptFields,
+    >;
 
     const COST: usize = 96;
 

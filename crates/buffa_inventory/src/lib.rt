@@ -13,4 +13,5 @@ pub mod pallet;
 pub mod parcel;
 pub mod state;
 pub mod store;
+pub mod train;
 pub mod wagon;

@@ -5,6 +5,7 @@ ghost use Rattle.buffa_fields_base.specs.Members.{field, keep};
 
 use buffa_fields::fields::Fields;
 use buffa_fields::kept::{self, KeptFields};
+use buffa_fields::meaning::And3;
 use buffa_fields::member::Member;
 use buffa_fields::message::{Listed, Listing};
 use buffa_fields::optional::Optional;
@@ -30,7 +31,7 @@ pub struct Load {
 }
 
 impl Fields for Load {
-    type Meaning = (Option<i32>, (Option<[u8; 0]>, KeptFields));
+    type Meaning = And3<Option<i32>, Option<[u8; 0]>, KeptFields>;
 
     const COST: usize = 56;
 

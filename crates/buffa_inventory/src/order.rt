@@ -7,6 +7,7 @@ use crate::state::State;
 use buffa_fields::fields::Fields;
 use buffa_fields::kept;
 use buffa_fields::map_member::MapOf;
+use buffa_fields::meaning::{And, And13};
 use buffa_fields::member::Member;
 use buffa_fields::message::{Listed, Listing};
 use buffa_fields::optional::Optional;
@@ -53,14 +54,22 @@ pub struct Order {
     pub floor: Option<i32>,
 }
 
-type Fourth = ([(i32, [u8; 0]); 0], ([[u8; 0]; 0], (Option<i32>, ())));
-
-type Third = ([i32; 0], (Option<[u8; 0]>, (Option<u64>, Fourth)));
-
-type Second = ((bool, i32), ([([u8; 0], i32); 0], ([u8; 0], Third)));
-
 impl Fields for Order {
-    type Meaning = (i64, ([u8; 0], (Option<bool>, Second)));
+    type Meaning = And13<
+        i64,
+        [u8; 0],
+        Option<bool>,
+        (bool, i32),
+        [And<[u8; 0], i32>; 0],
+        [u8; 0],
+        [i32; 0],
+        Option<[u8; 0]>,
+        Option<u64>,
+        [And<i32, [u8; 0]>; 0],
+        [[u8; 0]; 0],
+        Option<i32>,
+        (),
+    >;
 
     const COST: usize = 256;
 

@@ -7,6 +7,7 @@ use crate::inventory::Inventory;
 use buffa_fields::fields::Fields;
 use buffa_fields::group::Group;
 use buffa_fields::kept;
+use buffa_fields::meaning::And4;
 use buffa_fields::member::Member;
 use buffa_fields::message::{Listed, Listing};
 use buffa_fields::plain::Plain;
@@ -34,13 +35,12 @@ pub struct Pallet {
 }
 
 impl Fields for Pallet {
-    type Meaning = (
+    type Meaning = And4<
         [u8; 0],
-        (
-            Option<<Inventory as Blank>::Meaning>,
-            ([<Inventory as Blank>::Meaning; 0], ()),
-        ),
-    );
+        Option<<Inventory as Blank>::Meaning>,
+        [<Inventory as Blank>::Meaning; 0],
+        (),
+    >;
 
     const COST: usize = 160;
 

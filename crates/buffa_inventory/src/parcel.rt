@@ -6,6 +6,7 @@ ghost use Rattle.buffa_fields_base.specs.Members.{field, skip};
 use crate::inventory::Inventory;
 use buffa_fields::fields::Fields;
 use buffa_fields::kept;
+use buffa_fields::meaning::And3;
 use buffa_fields::member::Member;
 use buffa_fields::message::{Listed, Listing};
 use buffa_fields::nested::Nested;
@@ -30,7 +31,7 @@ pub struct Parcel {
 }
 
 impl Fields for Parcel {
-    type Meaning = (i64, (Option<<Inventory as Blank>::Meaning>, ()));
+    type Meaning = And3<i64, Option<<Inventory as Blank>::Meaning>, ()>;
 
     const COST: usize = 112;
 

@@ -7,6 +7,7 @@ use crate::inventory::Inventory;
 use buffa_fields::fields::Fields;
 use buffa_fields::kept;
 use buffa_fields::map_nested::MapOfNested;
+use buffa_fields::meaning::{And, And3};
 use buffa_fields::member::Member;
 use buffa_fields::message::{Listed, Listing};
 use buffa_fields::plain::Plain;
@@ -27,7 +28,7 @@ pub struct Store {
 }
 
 impl Fields for Store {
-    type Meaning = ([u8; 0], ([([u8; 0], <Inventory as Blank>::Meaning); 0], ()));
+    type Meaning = And3<[u8; 0], [And<[u8; 0], <Inventory as Blank>::Meaning>; 0], ()>;
 
     const COST: usize = 72;
 

@@ -10,6 +10,7 @@ use buffa_fields::group::Group;
 use buffa_fields::kept::{self, KeptFields};
 use buffa_fields::map_member::MapOf;
 use buffa_fields::map_nested::MapOfNested;
+use buffa_fields::meaning::{And, And14};
 use buffa_fields::member::Member;
 use buffa_fields::message::{Listed, Listing};
 use buffa_fields::nested::Nested;
@@ -67,23 +68,23 @@ pub struct Wagon {
 
 type Carried = <Load as Blank>::Meaning;
 
-type Fourth = ([(i32, i32); 0], KeptFields);
-
-type Third = (
-    Option<(bool, i32)>,
-    ([i32; 0], ([[u8; 0]; 0], ([([u8; 0], i32); 0], Fourth))),
-);
-
-type Second = (
-    [([u8; 0], Carried); 0],
-    ([(i32, Carried); 0], (i64, (Option<[u8; 0]>, Third))),
-);
-
 impl Fields for Wagon {
-    type Meaning = (
+    type Meaning = And14<
         Option<Carried>,
-        ([Carried; 0], (Option<Carried>, ([Carried; 0], Second))),
-    );
+        [Carried; 0],
+        Option<Carried>,
+        [Carried; 0],
+        [And<[u8; 0], Carried>; 0],
+        [And<i32, Carried>; 0],
+        i64,
+        Option<[u8; 0]>,
+        Option<(bool, i32)>,
+        [i32; 0],
+        [[u8; 0]; 0],
+        [And<[u8; 0], i32>; 0],
+        [And<i32, i32>; 0],
+        KeptFields,
+    >;
 
     const COST: usize = 392;
 

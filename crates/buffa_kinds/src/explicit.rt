@@ -5,6 +5,7 @@ ghost use Rattle.buffa_fields_base.specs.Members.{field, keep};
 
 use buffa_fields::fields::Fields;
 use buffa_fields::kept::{self, KeptFields};
+use buffa_fields::meaning::And12;
 use buffa_fields::member::Member;
 use buffa_fields::message::{Listed, Listing};
 use buffa_fields::optional::Optional;
@@ -48,18 +49,21 @@ pub struct Explicit {
     pub rest: UnknownFields,
 }
 
-type Third = (Option<u64>, (Option<i32>, (Option<i64>, KeptFields)));
-
-type Second = (
-    Option<i32>,
-    (Option<i64>, (Option<bool>, (Option<u32>, Third))),
-);
-
 impl Fields for Explicit {
-    type Meaning = (
+    type Meaning = And12<
         Option<i32>,
-        (Option<i64>, (Option<u32>, (Option<u64>, Second))),
-    );
+        Option<i64>,
+        Option<u32>,
+        Option<u64>,
+        Option<i32>,
+        Option<i64>,
+        Option<bool>,
+        Option<u32>,
+        Option<u64>,
+        Option<i32>,
+        Option<i64>,
+        KeptFields,
+    >;
 
     const COST: usize = 160;
 

@@ -5,6 +5,7 @@ ghost use Rattle.buffa_fields_base.specs.Members.{field, skip};
 
 use buffa_fields::fields::Fields;
 use buffa_fields::kept;
+use buffa_fields::meaning::And12;
 use buffa_fields::member::Member;
 use buffa_fields::message::{Listed, Listing};
 use buffa_fields::plain::Plain;
@@ -47,12 +48,8 @@ pub struct Implicit {
     pub sfixed64: i64,
 }
 
-type Third = (u64, (i32, (i64, ())));
-
-type Second = (i32, (i64, (bool, (u32, Third))));
-
 impl Fields for Implicit {
-    type Meaning = (i32, (i64, (u32, (u64, Second))));
+    type Meaning = And12<i32, i64, u32, u64, i32, i64, bool, u32, u64, i32, i64, ()>;
 
     const COST: usize = 80;
 

@@ -5,6 +5,7 @@ ghost use Rattle.buffa_fields_base.specs.Members.{field, keep};
 
 use buffa_fields::fields::Fields;
 use buffa_fields::kept::{self, KeptFields};
+use buffa_fields::meaning::And12;
 use buffa_fields::member::Member;
 use buffa_fields::message::{Listed, Listing};
 use buffa_fields::packed::Packed;
@@ -48,12 +49,21 @@ pub struct Joined {
     pub rest: UnknownFields,
 }
 
-type Third = ([u64; 0], ([i32; 0], ([i64; 0], KeptFields)));
-
-type Second = ([i32; 0], ([i64; 0], ([bool; 0], ([u32; 0], Third))));
-
 impl Fields for Joined {
-    type Meaning = ([i32; 0], ([i64; 0], ([u32; 0], ([u64; 0], Second))));
+    type Meaning = And12<
+        [i32; 0],
+        [i64; 0],
+        [u32; 0],
+        [u64; 0],
+        [i32; 0],
+        [i64; 0],
+        [bool; 0],
+        [u32; 0],
+        [u64; 0],
+        [i32; 0],
+        [i64; 0],
+        KeptFields,
+    >;
 
     const COST: usize = 288;
 

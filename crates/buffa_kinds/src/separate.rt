@@ -5,6 +5,7 @@ ghost use Rattle.buffa_fields_base.specs.Members.{field, skip};
 
 use buffa_fields::fields::Fields;
 use buffa_fields::kept;
+use buffa_fields::meaning::And12;
 use buffa_fields::member::Member;
 use buffa_fields::message::{Listed, Listing};
 use buffa_fields::repeated::Repeated;
@@ -47,12 +48,21 @@ pub struct Separate {
     pub sfixed64: Vec<i64>,
 }
 
-type Third = ([u64; 0], ([i32; 0], ([i64; 0], ())));
-
-type Second = ([i32; 0], ([i64; 0], ([bool; 0], ([u32; 0], Third))));
-
 impl Fields for Separate {
-    type Meaning = ([i32; 0], ([i64; 0], ([u32; 0], ([u64; 0], Second))));
+    type Meaning = And12<
+        [i32; 0],
+        [i64; 0],
+        [u32; 0],
+        [u64; 0],
+        [i32; 0],
+        [i64; 0],
+        [bool; 0],
+        [u32; 0],
+        [u64; 0],
+        [i32; 0],
+        [i64; 0],
+        (),
+    >;
 
     const COST: usize = 264;
 

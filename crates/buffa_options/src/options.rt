@@ -12,6 +12,7 @@ use buffa_codec::{Repeated, StringCodec};
 use buffa_ext::{Extension, ExtensionSet};
 use buffa_fields_base::fields::Fields;
 use buffa_fields_base::kept::{self, KeptFields};
+use buffa_fields_base::meaning::And;
 use buffa_fields_base::member::Member;
 use buffa_fields_base::message::{Listed, Listing};
 use buffa_fields_base::optional::Optional;
@@ -37,7 +38,7 @@ pub struct FieldOptions {
 }
 
 impl Fields for FieldOptions {
-    type Meaning = (Option<bool>, KeptFields);
+    type Meaning = And<Option<bool>, KeptFields>;
 
     const COST: usize = 32;
 

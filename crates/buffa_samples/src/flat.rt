@@ -5,6 +5,7 @@ ghost use Rattle.buffa_fields_base.specs.Members.{field, skip};
 
 use buffa_fields_base::fields::Fields;
 use buffa_fields_base::kept;
+use buffa_fields_base::meaning::And;
 use buffa_fields_base::member::Member;
 use buffa_fields_base::message::{Listed, Listing};
 use buffa_fields_base::plain::Plain;
@@ -25,7 +26,7 @@ pub struct FlatMsg {
 }
 
 impl Fields for FlatMsg {
-    type Meaning = (i32, ());
+    type Meaning = And<i32, ()>;
 
     const COST: usize = 4;
 

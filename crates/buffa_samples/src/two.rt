@@ -5,6 +5,7 @@ ghost use Rattle.buffa_fields_base.specs.Members.{field, skip};
 
 use buffa_fields_base::fields::Fields;
 use buffa_fields_base::kept;
+use buffa_fields_base::meaning::And3;
 use buffa_fields_base::member::Member;
 use buffa_fields_base::message::{Listed, Listing};
 use buffa_fields_base::plain::Plain;
@@ -27,7 +28,7 @@ pub struct TestMsg {
 }
 
 impl Fields for TestMsg {
-    type Meaning = (i32, (i32, ()));
+    type Meaning = And3<i32, i32, ()>;
 
     const COST: usize = 32;
 

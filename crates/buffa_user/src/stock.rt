@@ -4,7 +4,7 @@ ghost use Rattle.std.proofs.Common.{lit<, refl};
 ghost use Rattle.buffa.specs.Members.{field, keep};
 
 use buffa::fields::{
-    Fields, Formed, KeptFields, Listed, Listing, MapOf, Member, Plain, Visitor, kept,
+    And, And3, Fields, Formed, KeptFields, Listed, Listing, MapOf, Member, Plain, Visitor, kept,
 };
 use buffa::map_codec::{Int32, Str};
 use buffa::{Blank, DecodeContext, DecodeError, Map, Tag, UnknownFields};
@@ -23,7 +23,7 @@ pub struct Stock {
 }
 
 impl Fields for Stock {
-    type Meaning = ([u8; 0], ([([u8; 0], i32); 0], KeptFields));
+    type Meaning = And3<[u8; 0], [And<[u8; 0], i32>; 0], KeptFields>;
 
     const COST: usize = 96;
 

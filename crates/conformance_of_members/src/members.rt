@@ -11,6 +11,7 @@ use buffa_inventory::order::Order;
 use buffa_inventory::pallet::Pallet;
 use buffa_inventory::parcel::Parcel;
 use buffa_inventory::store::Store;
+use buffa_inventory::train::Train;
 use buffa_inventory::wagon::Wagon;
 use conformance_messages::parted;
 use conformance_rows::calls::Kind;
@@ -41,6 +42,7 @@ pub fn on_members(
         "pallet" => parted::<Members, Pallet>(alloc, case, kind, mark, bytes),
         "parcel" => parted::<Members, Parcel>(alloc, case, kind, mark, bytes),
         "store" => parted::<Members, Store>(alloc, case, kind, mark, bytes),
+        "train" => parted::<Members, Train>(alloc, case, kind, mark, bytes),
         "wagon" => parted::<Members, Wagon>(alloc, case, kind, mark, bytes),
         _ => Err(Fault::Form),
     }

@@ -11,6 +11,7 @@ use buffa_inventory::pallet::Pallet;
 use buffa_inventory::parcel::Parcel;
 use buffa_inventory::state::State;
 use buffa_inventory::store::Store;
+use buffa_inventory::train::Train;
 use buffa_inventory::wagon::Wagon;
 use buffa_wire::EnumValue;
 use conformance_messages::{Parted, Parts, parted_word};
@@ -206,6 +207,24 @@ impl Worded<Members> for Store {
     }
 
     fn of_word(_alloc: Global, _word: &str) -> Result<Store, Fault> {
+        Err(Fault::Form)
+    }
+}
+
+impl Parted<Members> for Train {
+    fn parts(&self, parts: &mut Parts<Members>) {
+        parts.map(1, &self.wagons);
+        parts.map(2, &self.orders);
+        parts.list(3, self.spares.as_slice());
+    }
+}
+
+impl Worded<Members> for Train {
+    fn word(&self, alloc: Global) -> Result<String, Fault> {
+        parted_word::<Members, _>(alloc, self)
+    }
+
+    fn of_word(_alloc: Global, _word: &str) -> Result<Train, Fault> {
         Err(Fault::Form)
     }
 }

@@ -1,0 +1,79 @@
+//! What a message means: a pair for each member, of what it means and of what those after it do.
+
+use std::marker::Model;
+
+/// What a member means, and what those after it do: the pair, in a type by which a check of twelve members takes no
+/// longer than one of four. It is never made.
+///
+/// ```ignore
+/// type Meaning = And5<i32, [u8; 0], Option<bool>, [And<[u8; 0], i32>; 0], KeptFields>;
+/// ```
+#[derive(Drop)]
+pub struct And<A, B> {
+    first: A,
+    others: B,
+}
+
+impl<A, B> Model for And<A, B> {
+    ghost use Rattle.std.specs.Coded.{coded×};
+
+    ghost Value = { A × B };
+
+    ghost coded = { coded× A.code B.code };
+
+    ghost view = { λ m. (m.first, m.others) };
+}
+
+/// Three, one after the other.
+pub type And3<A, B, C> = And<A, And<B, C>>;
+
+/// Four, one after the other.
+pub type And4<A, B, C, D> = And<A, And3<B, C, D>>;
+
+/// Five, one after the other.
+pub type And5<A, B, C, D, E> = And<A, And4<B, C, D, E>>;
+
+/// Six, one after the other.
+pub type And6<A, B, C, D, E, F> = And<A, And5<B, C, D, E, F>>;
+
+/// Seven, one after the other.
+pub type And7<A, B, C, D, E, F, G> = And<A, And6<B, C, D, E, F, G>>;
+
+/// Eight, one after the other.
+pub type And8<A, B, C, D, E, F, G, H> = And<A, And7<B, C, D, E, F, G, H>>;
+
+/// Nine, one after the other.
+pub type And9<A, B, C, D, E, F, G, H, I> = And<A, And8<B, C, D, E, F, G, H, I>>;
+
+/// Ten, one after the other.
+pub type And10<A, B, C, D, E, F, G, H, I, J> = And<A, And9<B, C, D, E, F, G, H, I, J>>;
+
+/// Eleven, one after the other.
+pub type And11<A, B, C, D, E, F, G, H, I, J, K> = And<A, And10<B, C, D, E, F, G, H, I, J, K>>;
+
+/// Twelve, one after the other.
+pub type And12<A, B, C, D, E, F, G, H, I, J, K, L> = And<A, And11<B, C, D, E, F, G, H, I, J, K, L>>;
+
+/// Thirteen, one after the other.
+pub type And13<A, B, C, D, E, F, G, H, I, J, K, L, M> = And<
+    A,
+    And12<B, C, D, E, F, G, H, I, J, K, L, M>,
+>;
+
+/// Fourteen, one after the other.
+pub type And14<A, B, C, D, E, F, G, H, I, J, K, L, M, N> = And<
+    A,
+    And13<B, C, D, E, F, G, H, I, J, K, L, M, N>,
+>;
+
+/// Fifteen, one after the other.
+pub type And15<A, B, C, D, E, F, G, H, I, J, K, L, M, N, O> = And<
+    A,
+    And14<B, C, D, E, F, G, H, I, J, K, L, M, N, O>,
+>;
+
+/// Sixteen, one after the other.
+pub type And16<A, B, C, D, E, F, G, H, I, J, K, L, M, N, O, P> = And<
+    A,
+    And15<B, C, D, E, F, G, H, I, J, K, L, M, N, O, P>,
+>;
