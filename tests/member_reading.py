@@ -159,7 +159,7 @@ declare("order", 256, [
     (5, "map", ("string", "int32")), (6, "plain", "bytes"), (7, "packed", "sint32"), (8, "optional", "string"),
     (9, "optional", "fixed64"), (10, "map", ("int32", "string")), (11, "repeated", "string"), (12, "optional", "int32"),
 ])
-declare("train", 120, [(1, "map", ("int32", "wagon")), (2, "map", ("string", "order")), (3, "repeated", "wagon")])
+declare("train", 72, [(1, "map", ("int32", "wagon")), (2, "repeated", "wagon")])
 declare("implicit", 80, numbers("plain", range(1, 12)))
 declare("explicit", 160, numbers("optional", [1, 2, 3, 4, 5, 6, 7, 8, 15, 16, 2**29 - 1]), True)
 declare("separate", 264, numbers("repeated", range(1, 12)))

@@ -1,27 +1,24 @@
-//! A train: messages of thirteen and of twelve members in maps and a list.
+//! A train: messages of thirteen members in a map and in a list.
 
 ghost use Rattle.std.proofs.Common.{lit<, refl};
 ghost use Rattle.buffa_fields_base.specs.Members.{field, skip};
 
-use crate::order::Order;
 use crate::wagon::Wagon;
 use buffa_fields::fields::Fields;
 use buffa_fields::kept;
 use buffa_fields::map_nested::MapOfNested;
-use buffa_fields::meaning::{And, And4};
+use buffa_fields::meaning::{And, And3};
 use buffa_fields::member::Member;
 use buffa_fields::message::{Listed, Listing};
 use buffa_fields::repeated_nested::RepeatedNested;
 use buffa_fields::visitor::Visitor;
-use buffa_map::map_codec::{Int32, Map, Str};
+use buffa_map::map_codec::{Int32, Map};
 use buffa_wire::{Blank, DecodeContext, DecodeError, Formed, Tag};
 use std::alloc::Global;
-use std::string::String;
 
 /// message Train {
 ///     map<int32, Wagon> wagons = 1;
-///     map<string, Order> orders = 2;
-///     repeated Wagon spares = 3;
+///     repeated Wagon spares = 2;
 /// }
 ///
 /// ```ignore
@@ -30,35 +27,31 @@ use std::string::String;
 #[derive(Drop)]
 pub struct Train {
     pub wagons: Map<i32, Wagon>,
-    pub orders: Map<String, Order>,
     pub spares: Vec<Wagon>,
 }
 
 impl Fields for Train {
-    type Meaning = And4<
+    type Meaning = And3<
         [And<i32, <Wagon as Blank>::Meaning>; 0],
-        [And<[u8; 0], <Order as Blank>::Meaning>; 0],
         [<Wagon as Blank>::Meaning; 0],
         (),
     >;
 
-    const COST: usize = 120;
+    const COST: usize = 72;
 
-    ghost COST = { 120 };
+    ghost COST = { 72 };
 
     ghost positive = { lit< tt };
 
     ghost layout = { field 1 (λ m. m.wagons) ⟦<MapOfNested<Int32, Wagon> as Member>⟧.shape (
-        field 2 (λ m. m.orders) ⟦<MapOfNested<Str, Order> as Member>⟧.shape (
-        field 3 (λ m. m.spares) ⟦<RepeatedNested<Wagon> as Member>⟧.shape (
-        skip))) };
+        field 2 (λ m. m.spares) ⟦<RepeatedNested<Wagon> as Member>⟧.shape (
+        skip)) };
 
     ghost sound = { refl };
 
     fn visit<V: Visitor>(&self, visitor: &mut V) {
         visitor.visit::<MapOfNested<Int32, Wagon>>(1, &self.wagons);
-        visitor.visit::<MapOfNested<Str, Order>>(2, &self.orders);
-        visitor.visit::<RepeatedNested<Wagon>>(3, &self.spares);
+        visitor.visit::<RepeatedNested<Wagon>>(2, &self.spares);
     }
 
     fn take(
@@ -70,8 +63,7 @@ impl Fields for Train {
     ) -> Result<(), DecodeError> {
         match tag.field_number() {
             1 => MapOfNested::<Int32, Wagon>::merge(&mut self.wagons, alloc, tag, buf, ctx),
-            2 => MapOfNested::<Str, Order>::merge(&mut self.orders, alloc, tag, buf, ctx),
-            3 => RepeatedNested::<Wagon>::merge(&mut self.spares, alloc, tag, buf, ctx),
+            2 => RepeatedNested::<Wagon>::merge(&mut self.spares, alloc, tag, buf, ctx),
             _ => kept::pass(tag, buf, ctx),
         }
     }
@@ -87,7 +79,6 @@ impl Blank for Train {
     fn blank(alloc: Global) -> Train {
         Train {
             wagons: Map::new(alloc),
-            orders: Map::new(alloc),
             spares: Vec::new(alloc),
         }
     }

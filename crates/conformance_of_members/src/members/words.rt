@@ -214,8 +214,7 @@ impl Worded<Members> for Store {
 impl Parted<Members> for Train {
     fn parts(&self, parts: &mut Parts<Members>) {
         parts.map(1, &self.wagons);
-        parts.map(2, &self.orders);
-        parts.list(3, self.spares.as_slice());
+        parts.list(2, self.spares.as_slice());
     }
 }
 
