@@ -37,24 +37,11 @@ pub fn on_members(
         "depot" => parted::<Members, Depot>(alloc, case, kind, mark, bytes),
         "inventory" => parted::<Members, Inventory>(alloc, case, kind, mark, bytes),
         "ledger" => parted::<Members, Ledger>(alloc, case, kind, mark, bytes),
+        "load" => parted::<Members, Load>(alloc, case, kind, mark, bytes),
+        "order" => parted::<Members, Order>(alloc, case, kind, mark, bytes),
         "pallet" => parted::<Members, Pallet>(alloc, case, kind, mark, bytes),
         "parcel" => parted::<Members, Parcel>(alloc, case, kind, mark, bytes),
         "store" => parted::<Members, Store>(alloc, case, kind, mark, bytes),
-        _ => on_trains(alloc, case, kind, mark, bytes),
-    }
-}
-
-// The same on a train and what it is made of.
-fn on_trains(
-    alloc: Global,
-    case: &Case<'_>,
-    kind: Kind,
-    mark: &mut Mark,
-    bytes: &[u8],
-) -> Result<Outcome, Fault> {
-    match case.types {
-        "load" => parted::<Members, Load>(alloc, case, kind, mark, bytes),
-        "order" => parted::<Members, Order>(alloc, case, kind, mark, bytes),
         "train" => parted::<Members, Train>(alloc, case, kind, mark, bytes),
         "wagon" => parted::<Members, Wagon>(alloc, case, kind, mark, bytes),
         _ => Err(Fault::Form),
