@@ -60,7 +60,7 @@ def of_encode(row, found):
 
 
 def on_set(row):
-    """An extension of a MessageSet, of the codec behind `set,`: the records are read of its bytes, its text is told."""
+    """An extension of a MessageSet, of the codec behind `set,`: the records are read of its bytes, its encoding is told."""
     row.types = row.types.removeprefix("set,")
     found = list(merge("set", blank("set"), bytes.fromhex(row.before), MOST_LEVELS, Budget()))
     return on_records(row, found, lambda it: f"text {message_text('set', it).hex() or '-'}")
@@ -116,7 +116,7 @@ def on_packed(row):
 
 
 def on_messages(row):
-    """A text in a record, or what the texts in records make of a message."""
+    """An encoding in a record, or what the encodings in records make of a message."""
     kind, is_group = plain(row.types), row.types.endswith("-group")
     if row.call == "hold":
         text = bytes.fromhex(row.given)
@@ -138,7 +138,7 @@ def on_messages(row):
 
 
 def renumbered(number, text):
-    """The text of a record under another number."""
+    """The encoding of a record under another number."""
     buf = Bytes(text)
     tag = buf.varint()
     rest = text[buf.at :]

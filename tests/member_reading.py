@@ -85,7 +85,7 @@ class ByMembers:
         return (*old, found) if how in ("repeated", "groups") else found
 
     def texts(self, message):
-        """The text of each member's fields."""
+        """The encoding of each member's fields."""
         for (number, how, kind), part in zip(self.members, message):
             if how in MAPS:
                 yield field_encoding(kind, number, walked(how, part))
@@ -105,7 +105,7 @@ class ByMembers:
         return b"".join(self.texts(message)) + message[-1]
 
     def slots(self, message):
-        """The slots of the messages in a message: of each the length of its text, then its own slots."""
+        """The slots of the messages in a message: of each the length of its encoding, then its own slots."""
         found = []
         for (_, how, kind), part in zip(self.members, message):
             inner = kind[1] if how in MAPS else kind

@@ -33,7 +33,7 @@ class Call:
 
 def calls_of(crate, file):
     """The functions of a file."""
-    found, owners, in_trait, is_of_trait = [], [], False, False
+    found, owners, in_trait, is_of_trait, in_body = [], [], False, False, False
     with open(file, encoding="utf-8") as it:
         lines = it.read().split("\n")
     for at, line in enumerate(lines):
@@ -58,12 +58,16 @@ def calls_of(crate, file):
         if line == "}":
             owners, in_trait, is_of_trait = [], False, False
         call = CALL.match(text)
+        if text == "{":
+            # what a closure of the body states is no clause of the call
+            in_body = True
         if call:
+            in_body = line.endswith("{")
             is_public = in_trait or bool(call[1]) and not is_of_trait
             found.append(Call(crate, file, call[2], set(owners), is_public))
             continue
         clause = CLAUSE.match(text)
-        if clause and found:
+        if clause and found and not in_body:
             (found[-1].requires if clause[1] == "requires" else found[-1].ensures).add(clause[2] or "only")
     return found
 

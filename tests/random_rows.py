@@ -189,7 +189,7 @@ class Maker:
 
     def settings(self):
         said = [f"depth={self.pick(0, 1, 2, 3, 4, 10, 10, 10)}"]
-        said += [f"slots={self.pick(0, 1, 2, 3, 9)}"] if self.is_one_in(3) else []
+        said += [f"unknown={self.pick(0, 1, 2, 3, 9)}"] if self.is_one_in(3) else []
         said += [f"units={self.pick(0, 7, 8, 27, 28, 35, 36, 56, 57, 72, 100, 1000)}"] if self.is_one_in(3) else []
         return said
 
@@ -225,7 +225,7 @@ class Maker:
         text = b"".join(self.record(codec) for _ in range(self.any.randint(1, 4)))
         before = "".join(it[2].hex() for it in records(text)) or "-"
         if call == "one":
-            return "decode-one-ctx", codec, [f"depth={self.pick(0, 1, 2)}", f"slots={self.pick(0, 1, 2, 9)}"], before
+            return "decode-one-ctx", codec, [f"depth={self.pick(0, 1, 2)}", f"unknown={self.pick(0, 1, 2, 9)}"], before
         how = self.pick("", "how=all", "how=packed" if codec in NUMBERS else "how=all")
         return self.pick(call, "decode-of"), codec, ["number=1", how], before
 

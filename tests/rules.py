@@ -26,7 +26,7 @@ BY_MEMBERS = {}
 DECLARED = {"old": (0, 1), "open": (0, 1), "new": (0, 1, 2)}
 # The map fields of a node; shades are declared as the values of the kind `old` are.
 NODE_MAPS = {1: ("string", "int32"), 2: ("int32", "node"), 3: ("int32", "old")}
-MOST_SLOTS, MOST_UNITS, MOST_BYTES, MOST_LEVELS = 1_000_000, 268_435_456, 2**31 - 1, 100
+MOST_UNKNOWN, MOST_UNITS, MOST_BYTES, MOST_LEVELS = 1_000_000, 268_435_456, 2**31 - 1, 100
 
 
 class Fault(Exception):
@@ -94,15 +94,15 @@ class Bytes:
 
 
 class Budget:
-    """Slots for fields that are kept, and units of element memory."""
+    """Unknown fields that may still be kept, and units of element memory."""
 
-    def __init__(self, slots=MOST_SLOTS, units=MOST_UNITS):
-        self.slots, self.units = slots, units
+    def __init__(self, unknown=MOST_UNKNOWN, units=MOST_UNITS):
+        self.unknown, self.units = unknown, units
 
     def take_unknown(self):
-        if self.slots == 0:
+        if self.unknown == 0:
             raise Fault("UnknownFieldLimitExceeded")
-        self.slots -= 1
+        self.unknown -= 1
 
     def take_units(self, count):
         if count > self.units:
@@ -127,7 +127,7 @@ def skip(buf, number, wire, depth):
 
 
 def keep(buf, number, wire, depth, budget):
-    """The text of a field that is kept, in shortest spellings."""
+    """The encoding of a field that is kept, in shortest spellings."""
     if wire == END:
         raise Fault(f"InvalidEndGroup {number}")
     budget.take_unknown()
@@ -147,7 +147,7 @@ def keep(buf, number, wire, depth, budget):
 
 
 def records(text, depth=MOST_LEVELS):
-    """The records that bytes are: number, wire type, text."""
+    """The records that bytes are: number, wire type, encoding."""
     buf, budget, found = Bytes(text), Budget(), []
     while buf.unread():
         number, wire = buf.tag()
@@ -211,10 +211,10 @@ def int32_member(buf, number, wire):
 
 
 def kept_field(buf, number, wire, depth, budget):
-    """What is refused spends no slot."""
-    own = Budget(budget.slots)
+    """What is refused spends no unknown field."""
+    own = Budget(budget.unknown)
     text = keep(buf, number, wire, depth, own)
-    budget.slots = own.slots
+    budget.unknown = own.unknown
     return text
 
 
@@ -233,8 +233,8 @@ def node_field(node, buf, number, wire, depth, budget):
 
 def set_field(found, buf, number, wire, depth, budget):
     """What one field makes of the records of a MessageSet: an Item, a level deeper, is one of its type id. What is
-    refused spends no slot."""
-    own = Budget(budget.slots)
+    refused spends no unknown field."""
+    own = Budget(budget.unknown)
     if (number, wire) == (1, START):
         if depth == 0:
             raise Fault("RecursionLimitExceeded")
@@ -242,7 +242,7 @@ def set_field(found, buf, number, wire, depth, budget):
         wire, text = DELIMITED, tag_encoding(number, DELIMITED) + delimited(message)
     else:
         text = keep(buf, number, wire, depth, own)
-    budget.slots = own.slots
+    budget.unknown = own.unknown
     return *found, (number, wire, text)
 
 
@@ -285,7 +285,7 @@ def merge(kind, message, text, depth, budget):
 
 
 def item_encoding(record):
-    """The text of a record of a MessageSet: of a delimited one whose number is a type id an Item, of any other the record."""
+    """The encoding of a record of a MessageSet: of a delimited one whose number is a type id an Item, of any other the record."""
     number, wire, text = record
     if wire != DELIMITED or not 0 < number < 2**31:
         return text
@@ -310,7 +310,7 @@ def message_text(kind, message):
 
 
 def field_encoding(kinds, number, pairs):
-    """The text of a map field of these pairs."""
+    """The encoding of a map field of these pairs."""
     text = b""
     for key, held in pairs:
         is_message = kinds[1] in MESSAGES
@@ -436,7 +436,7 @@ def plain(codec):
 
 
 def inside(record):
-    """The bytes of a delimited record, or the text of a group's records."""
+    """The bytes of a delimited record, or the encoding of a group's records."""
     number, wire, text = record
     buf = Bytes(text)
     buf.varint()

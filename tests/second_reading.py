@@ -15,7 +15,7 @@ sys.dont_write_bytecode = True
 import extension_reading
 from member_reading import BY_MEMBERS
 from rules import (
-    EIGHT, FOUR, KINDS, MESSAGES, MOST_BYTES, MOST_LEVELS, MOST_SLOTS, MOST_UNITS, Budget, Bytes, Fault, blank, delimited,
+    EIGHT, FOUR, KINDS, MESSAGES, MOST_BYTES, MOST_LEVELS, MOST_UNITS, MOST_UNKNOWN, Budget, Bytes, Fault, blank, delimited,
     field_encoding, keep, merge, merge_entry, merge_field, message_text, mismatch, of_word, payload, put, read_item,
     read_run, records, skip, tag_encoding, value, varint_encoding, word,
 )
@@ -23,14 +23,14 @@ from rules import (
 TOP = os.path.dirname(os.path.dirname(os.path.abspath(__file__)))
 # Limits: what one more is refused with, and the limit.
 LIMITS = {
-    "depth": ("RecursionLimitExceeded", str(MOST_LEVELS)), "slots": ("UnknownFieldLimitExceeded", str(MOST_SLOTS)),
+    "depth": ("RecursionLimitExceeded", str(MOST_LEVELS)), "unknown": ("UnknownFieldLimitExceeded", str(MOST_UNKNOWN)),
     "units": ("ElementMemoryLimitExceeded", str(MOST_UNITS)), "number": ("ok", str(2**29 - 1)),
     "bytes": ("ok", str(MOST_BYTES)),
 }
 
 
 def slots_of(kind, message):
-    """The slots of a message: of each child the length of its text, then its own slots."""
+    """The slots of a message: of each child the length of its encoding, then its own slots."""
     if kind in BY_MEMBERS:
         return BY_MEMBERS[kind].slots(message)
     children = sorted(message[1].items()) if kind in ("tree", "node") else []
@@ -52,14 +52,14 @@ class Row:
         self.before, self.given = before.strip() if before != "-" else "", given if given != "-" else ""
         self.kinds = tuple(self.types.split(","))
         self.number, self.depth = self.setting("number", 5), self.setting("depth", 10)
-        self.budget = Budget(self.setting("slots", MOST_SLOTS), self.setting("units", MOST_UNITS))
+        self.budget = Budget(self.setting("unknown", MOST_UNKNOWN), self.setting("units", MOST_UNITS))
 
     def setting(self, name, other):
         return int(self.settings.get(name, other))
 
     def told(self, *parts, unread=0):
-        """The state in words, with what is left of slots, units and bytes, where the settings or bytes ask for it."""
-        left = [f"{self.budget.slots} slots"] if "slots" in self.settings else []
+        """The state in words, with what is left of unknown fields, units and bytes, where the settings or bytes ask for it."""
+        left = [f"{self.budget.unknown} unknown"] if "unknown" in self.settings else []
         left += [f"{self.budget.units} units"] if "units" in self.settings else []
         left += [f"{unread} unread"] if unread else []
         return "; ".join([*parts, *left])
@@ -78,7 +78,7 @@ class Row:
         kept = [] if old is not None or self.call == "rewrite" else None
         answer = "ok"
         if self.call == "field":
-            self.depth, self.budget = self.setting("depth", 0), Budget(self.setting("slots", 0), self.budget.units)
+            self.depth, self.budget = self.setting("depth", 0), Budget(self.setting("unknown", 0), self.budget.units)
         try:
             reads = merge_entry if self.call in ("entry", "unlisted") else read_run
             reads(self.kinds, pairs, buf, self.depth, self.budget, self.number, kept)
@@ -149,7 +149,7 @@ class Row:
             slots = [it for _, held in order for it in [len(message_text(kind, held)), *slots_of(kind, held)]]
             written = [f"text {text.hex() or '-'}"] if self.call == "write-messages" else []
             return "ok", "; ".join([str(len(text)), *self.cache(slots), *written])
-        message = merge(kind, blank(kind), before, MOST_LEVELS, Budget(MOST_SLOTS * 10))
+        message = merge(kind, blank(kind), before, MOST_LEVELS, Budget(MOST_UNKNOWN * 10))
         if self.call == "message-clear":
             return "ok", word(kind, blank(kind))
         text = message_text(kind, message)
@@ -295,7 +295,7 @@ class Row:
 
     def of_context(self, step):
         try:
-            if step == "slot":
+            if step == "unknown":
                 self.budget.take_unknown()
             elif step.startswith("units:"):
                 self.budget.take_units(int(step[6:]))
@@ -334,7 +334,7 @@ class Row:
 
 
 def spelled(kind, said):
-    """The text of a value, or of a tag: `number:wire type`."""
+    """The encoding of a value, or of a tag: `number:wire type`."""
     if kind == "tag":
         return tag_encoding(*map(int, said.split(":")))
     return varint_encoding(int(said)) if kind in ("varint", "length") else payload(kind, of_word(kind, said))

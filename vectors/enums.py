@@ -79,7 +79,7 @@ def main():
         "# Runs of map<int32, Old> and map<int32, New>, closed enums, as C++ classes of protobuf 3.21.12 read and write them.\n"
         "# They encode an entry with an undeclared value again; so a rewrite is theirs byte for byte only where each entry\n"
         "# was written as they write it (same), else the kept entries have our own spelling, which is the run's (own).\n"
-        "# run in hex, same or own, pairs to the older, pairs to the newer, the older's text, that text to the newer\n"
+        "# run in hex, same or own, pairs to the older, pairs to the newer, the older's encoding, that encoding to the newer\n"
         + "".join(line + "\n" for line in lines),
         encoding="ascii",
     )

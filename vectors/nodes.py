@@ -35,7 +35,7 @@ OWN = {
         a child that is refused
         a child of a child that is refused
         a child that is refused spends units
-        what a refused child keeps spends slots""",
+        what a refused child keeps spends unknown fields""",
     "text": "a score whose key is no text",
     "levels": """alone, a hundred children in one another
         alone, an undeclared shade in a hundred groups
@@ -52,14 +52,14 @@ OWN = {
         an Item of no message has an empty one
         no type id, between records
         nothing in an Item, between records
-        a refused Item spends no slot""",
+        a refused Item spends no unknown field""",
     "inside": """an Item in long spellings
         fields of an Item that are passed over
         type id and message of other wire types are passed over
         an Item in an Item is passed over
         a group in an Item at the last level
         alone, an Item with 99 groups in one another
-        fields of an Item that are passed over take no slots""",
+        fields of an Item that are passed over cost no unknown fields""",
 }
 WHY = {name.strip(): why for why, names in OWN.items() for name in names.split("\n")}
 
@@ -225,7 +225,7 @@ NODES = """\
 SETS = """\
 # MessageSets as C++ classes of protobuf 3.21.12 read and write them, in deterministic order.
 # bytes in hex (- for none), a mark, what the set then holds, what it is written as, and, of what a class that declares
-# the extension 5 wrote, the bytes of that. Marks: same; held, whose text has no records but Items; refused; own and why:
+# the extension 5 wrote, the bytes of that. Marks: same; held, whose encoding has no records but Items; refused; own and why:
 # number  a type id is cut to 32 bits, and isn't refused
 # first   the first type id of an Item counts, and its first message alone
 # part    an Item without a type id or without a message is passed over

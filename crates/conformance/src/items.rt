@@ -31,7 +31,7 @@ pub fn item<B: Buf>(
     mark: &mut Mark,
     buf: &mut B,
 ) -> Result<Outcome, Fault> {
-    let mut budget = Budget::new(case.slots()?).with_element_memory(case.units()?);
+    let mut budget = Budget::new(case.unknown()?).with_element_memory(case.units()?);
     let ctx = DecodeContext::new(case.depth()?, &mut budget);
     mark.begin(alloc);
     let read = merge_item(alloc, buf, ctx);

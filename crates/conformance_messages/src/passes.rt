@@ -164,11 +164,11 @@ fn read<KC: MapCodec, M: Message, C: MapStorage<Key = KC::Value, Value = M>>(
 fn fill_of<KC: MapCodec, M: Message, C: MapStorage<Key = KC::Value, Value = M>>(
     alloc: Global,
     number: u32,
-    slots: usize,
+    unknown: usize,
     bytes: &[u8],
     map: &mut C,
 ) -> Result<(), Fault> {
-    let mut budget = Budget::new(slots);
+    let mut budget = Budget::new(unknown);
     let ctx = DecodeContext::new(RECURSION_LIMIT, &mut budget);
     match read::<KC, M, C>(alloc, map, number, bytes, ctx) {
         Ok(()) => Ok(()),
@@ -183,9 +183,9 @@ fn fill<KC: MapCodec, M: Message, C: MapStorage<Key = KC::Value, Value = M>>(
     map: &mut C,
 ) -> Result<(), Fault> {
     let number = case.number()?;
-    let slots = case.slots()?;
+    let unknown = case.unknown()?;
     let bytes = hex::decode(alloc, case.before())?;
-    fill_of::<KC, M, C>(alloc, number, slots, bytes.as_slice(), map)
+    fill_of::<KC, M, C>(alloc, number, unknown, bytes.as_slice(), map)
 }
 
 // The length of a map of messages, and the slots of the cache, where the row tells them.

@@ -12,12 +12,12 @@ pub mod runs;
 pub mod words;
 
 use buffa_wire::{DEFAULT_ELEMENT_MEMORY_LIMIT, DEFAULT_UNKNOWN_FIELD_LIMIT, MAX_FIELD_NUMBER};
-use conformance_tables::case::{MAX_NUMBER, SLOTS, UNITS};
+use conformance_tables::case::{MAX_NUMBER, UNITS, UNKNOWN};
 pub use conformance_tables::{calls, case, fault, mark, tally};
 
 // What a row may say, and what it means where it says nothing, is what the library has.
 const _: () = prove!(MAX_NUMBER == MAX_FIELD_NUMBER);
 
-const _: () = prove!(SLOTS == DEFAULT_UNKNOWN_FIELD_LIMIT as u64);
+const _: () = prove!(UNKNOWN == DEFAULT_UNKNOWN_FIELD_LIMIT as u64);
 
 const _: () = prove!(UNITS == DEFAULT_ELEMENT_MEMORY_LIMIT as u64);

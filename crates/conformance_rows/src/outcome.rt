@@ -58,9 +58,9 @@ pub fn left(
 
 /// The budget that a row's settings give.
 pub fn budget_of(case: &Case<'_>) -> Result<Budget, Fault> {
-    let slots = case.slots()?;
+    let unknown = case.unknown()?;
     let units = case.units()?;
-    Ok(Budget::new(slots).with_element_memory(units))
+    Ok(Budget::new(unknown).with_element_memory(units))
 }
 
 /// An outcome with what is left of a budget and of the buffer, and how many bytes are unread.

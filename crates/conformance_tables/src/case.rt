@@ -10,7 +10,7 @@ use std::str::Split;
 pub const MAX_NUMBER: u32 = 536_870_911;
 
 /// The unknown fields left in a budget of which a row says nothing.
-pub const SLOTS: u64 = 1_000_000;
+pub const UNKNOWN: u64 = 1_000_000;
 
 /// The units of a budget of which a row says nothing.
 pub const UNITS: u64 = 268_435_456;
@@ -166,8 +166,8 @@ impl<'a> Case<'a> {
     }
 
     /// The unknown fields left in the budget.
-    pub fn slots(&self) -> Result<usize, Fault> {
-        count(self.number_or("slots", SLOTS))
+    pub fn unknown(&self) -> Result<usize, Fault> {
+        count(self.number_or("unknown", UNKNOWN))
     }
 
     /// The units of the budget.

@@ -155,12 +155,12 @@ fn both(
 pub fn left_told(
     alloc: Global,
     case: &Case<'_>,
-    slots: usize,
+    unknown: usize,
     units: usize,
     unread: usize,
 ) -> Result<String, Fault> {
-    let slots = part(alloc, case.says_of("slots"), slots, "slots");
+    let unknown = part(alloc, case.says_of("unknown"), unknown, "unknown");
     let units = part(alloc, case.says_of("units"), units, "units");
     let unread = part(alloc, unread > 0, unread, "unread");
-    both(alloc, both(alloc, slots, units), unread)
+    both(alloc, both(alloc, unknown, units), unread)
 }

@@ -51,7 +51,7 @@ pub fn payload<By, VC: MapValueDecode, B: Buf>(
 where
     VC::Value: Worded<By>,
 {
-    let mut budget = Budget::new(case.slots()?).with_element_memory(case.units()?);
+    let mut budget = Budget::new(case.unknown()?).with_element_memory(case.units()?);
     let ctx = DecodeContext::new(case.depth()?, &mut budget);
     let mut value = standing::<By, VC::Value>(alloc, case)?;
     mark.begin(alloc);

@@ -12,7 +12,7 @@ use std::alloc::Global;
 #[derive(Clone, Copy)]
 enum Deed {
     // An unknown field is spent.
-    Slot,
+    Unknown,
     // Units are spent.
     Units(usize),
     // The steps behind are done one level down.
@@ -26,11 +26,11 @@ struct Step {
     answer: Option<Result<(), DecodeError>>,
 }
 
-// The deed of a word: `slot`, `units:28`, `descend`.
+// The deed of a word: `unknown`, `units:28`, `descend`.
 fn deed_of(word: &str) -> Result<Deed, Fault> {
     match word.split_once(':') {
         Some(("units", count)) => Ok(Deed::Units(count.parse::<u64>()? as usize)),
-        None if word == "slot" => Ok(Deed::Slot),
+        None if word == "unknown" => Ok(Deed::Unknown),
         None if word == "descend" => Ok(Deed::Descend),
         _ => Err(Fault::Form),
     }
@@ -51,7 +51,7 @@ fn do_all(ctx: DecodeContext<'_>, steps: &mut [Step]) -> u32 {
     let mut ctx = ctx;
     for step in steps.iter_mut() {
         match step.deed {
-            Deed::Slot => step.answer = Some(ctx.register_unknown_field()),
+            Deed::Unknown => step.answer = Some(ctx.register_unknown_field()),
             Deed::Units(count) => step.answer = Some(ctx.register_element_memory(count)),
             Deed::Descend => match ctx.descend() {
                 Ok(inner) => {

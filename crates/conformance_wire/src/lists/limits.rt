@@ -28,11 +28,11 @@ fn levels() -> Limit {
 }
 
 // How many unknown fields there are, and what is told of one more.
-fn slots() -> Limit {
+fn unknown() -> Limit {
     let mut budget = Budget::new(DEFAULT_UNKNOWN_FIELD_LIMIT);
-    for slot in 0..10_000_000u64 {
+    for taken in 0..10_000_000u64 {
         if let Err(fault) = budget.take_unknown() {
-            return (slot, Err(fault));
+            return (taken, Err(fault));
         }
     }
     (10_000_000, Ok(()))
@@ -52,7 +52,7 @@ fn units() -> Limit {
 fn limit_of(name: &str) -> Option<Limit> {
     match name {
         "depth" => Some(levels()),
-        "slots" => Some(slots()),
+        "unknown" => Some(unknown()),
         "units" => Some(units()),
         "number" => Some((u64::from(MAX_FIELD_NUMBER), Ok(()))),
         "bytes" => Some((u64::from(MAX_MESSAGE_BYTES), Ok(()))),
