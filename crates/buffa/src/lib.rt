@@ -2,7 +2,7 @@
 //!
 //! This crate is the one that a user names. [`fields`] has messages by their fields, [`map_codec`] map fields,
 //! [`extension`] typed extensions, [`message_set`] Items, and [`laws`] what is proved of them together, one function a
-//! law. [`samples`] has two messages that stand on it. The items of the wire stand at the top.
+//! law. [`samples`] has two messages. The items of the wire stand at the top.
 #![tactic(auto)]
 
 pub mod extension;
@@ -21,6 +21,6 @@ pub use buffa_wire::{
     DecodeContext, DecodeError, EncodeError, EncodeSink, EnumValue, Enumeration, Form, Limited,
     MAX_FIELD_NUMBER, MapKey, Message, MessageSetFault, MessageSpec, Pieces, PlainKey, ProtoBytes,
     ProtoString, RECURSION_LIMIT, Scalar, SizeCache, Tag, UnknownField, UnknownFieldData,
-    UnknownFields, WireType, check_wire_type, decode_unknown_field, decode_varint, encode_varint,
-    skip_field_depth, types, varint_len,
+    UnknownFields, WireType, capped, check_wire_type, decode_unknown_field, decode_varint,
+    encode_varint, skip_field_depth, types, varint_len,
 };

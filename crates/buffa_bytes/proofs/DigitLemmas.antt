@@ -1,12 +1,7 @@
 -- Laws of varints.
-use Rattle.std.proofs.Common.{◌≡◌, ℕ, zero, suc, ◌+◌, ◌-◌, ◌*◌, ◌%◌, ◌^◌, ◌<◌, ◌≤◌, List, [], ◌∷◌, ◌++◌, length, refl, ◌∙◌, ap, arith, add-one, add-zero, ◌⊎◌, inl, inr, ◌≢◌}
+use Rattle.std.proofs.Common.{◌≡◌, ℕ, zero, suc, ◌+◌, ◌-◌, ◌*◌, ◌%◌, ◌^◌, ◌<◌, ◌≤◌, List, [], ◌∷◌, length, refl, ◌∙◌, ap, arith, add-one, add-zero, ◌⊎◌, inl, inr, ◌≢◌}
 use Rattle.std.proofs.Math.Nat.{pow-suc, mul-le-mul_right, le_refl}
 use Rattle.buffa_bytes.specs.Varint.{base128}
-
--- one byte more at the end
-pub base128-snoc : (xs : List ℕ) (b : ℕ) → base128 (xs ++ b ∷ []) ≡ base128 xs + b % 128 * 128 ^ length xs
-base128-snoc [] b = omega arith
-base128-snoc (x ∷ xs) b = rw pow-suc (omega (arith, base128-snoc xs b))
 
 pub base128-lt : (xs : List ℕ) → base128 xs < 128 ^ length xs
 base128-lt [] = omega arith

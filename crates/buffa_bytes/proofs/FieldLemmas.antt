@@ -173,6 +173,10 @@ not_end LengthDelimited h = refl
 not_end StartGroup h = refl
 not_end Fixed32 h = refl
 
+-- a tag, a payload and what was read behind them begin the bytes
+pub one_more : (bs t p after mid body rest : List ℕ) → bs ≡ t ++ after → after ≡ p ++ mid → mid ≡ body ++ rest → bs ≡ ((t ++ p) ++ body) ++ rest
+one_more bs t p after mid body rest e f g = e ∙ ap (λ z. t ++ z) (f ∙ ap (λ z. p ++ z) g) ∙ simp append_assoc
+
 module _ (inner : Inner) (G : ℕ → List ℕ → Type 0) (F : ℕ → List ℕ → DecodeError → Type 0) where
   -- a reader of groups answers as the grammar says
   abbrev pub Sound : Type 0
@@ -219,9 +223,6 @@ module _ (inner : Inner) (G : ℕ → List ℕ → Type 0) (F : ℕ → List ℕ
   abbrev pub FieldsFault : ℕ → List ℕ → DecodeError → Type 0
   FieldsFault f bs e = (body : List ℕ) × (rest : List ℕ) × Join (SomeFieldOver G) body × (bs ≡ body ++ rest) × FieldFaultOver F f rest e
 
-  one_more : (bs t p mid : List ℕ) (after body x : List ℕ) → bs ≡ t ++ after → after ≡ p ++ mid → mid ≡ body ++ x → bs ≡ ((t ++ p) ++ body) ++ x
-  one_more bs t p mid after body x a b c = a ∙ ap (λ z. t ++ z) (b ∙ ap (λ z. p ++ z) c) ∙ simp append_assoc
-
   module _ (s : Sound) where
     -- ---- each step takes a byte
     passed_short : (bs : List ℕ) (t : ℕ × WireType × List ℕ) → tag_at bs ≡ Ok t → (r : Result (List ℕ) DecodeError) → skip_by inner t.0 t.1 t.2 ≡ r → Shortens (passed r) bs
@@ -250,8 +251,8 @@ module _ (inner : Inner) (G : ℕ → List ℕ → Type 0) (F : ℕ → List ℕ
         let u = agree_ok (tag_at bs) t (tag_sound bs) e in
         let p = agree_ok (skip_by inner t.0 t.1 t.2) mid (skip_sound s t.0 t.1 t.2) h in
         agree_weaker q
-        (λ rest x. ((u.0 ++ p.0) ++ x.0, x.1, more (u.0 ++ p.0) x.0 (t.0, t.1, (u.0, p.0, u.1, p.1, refl)) x.2, x.3, one_more bs u.0 p.0 mid t.2 x.0 (x.1 ++ rest) u.2 p.2 x.4))
-        (λ d x. ((u.0 ++ p.0) ++ x.0, x.1, more (u.0 ++ p.0) x.0 (t.0, t.1, (u.0, p.0, u.1, p.1, refl)) x.2, one_more bs u.0 p.0 mid t.2 x.0 x.1 u.2 p.2 x.3, x.4))
+        (λ rest x. ((u.0 ++ p.0) ++ x.0, x.1, more (u.0 ++ p.0) x.0 (t.0, t.1, (u.0, p.0, u.1, p.1, refl)) x.2, x.3, one_more bs u.0 p.0 t.2 mid x.0 (x.1 ++ rest) u.2 p.2 x.4))
+        (λ d x. ((u.0 ++ p.0) ++ x.0, x.1, more (u.0 ++ p.0) x.0 (t.0, t.1, (u.0, p.0, u.1, p.1, refl)) x.2, one_more bs u.0 p.0 t.2 mid x.0 x.1 u.2 p.2 x.3, x.4))
     passed_leads f bs t e other (Err d) h =
         let u = agree_ok (tag_at bs) t (tag_sound bs) e in
         let x = agree_err (skip_by inner t.0 t.1 t.2) d (skip_sound s t.0 t.1 t.2) h in

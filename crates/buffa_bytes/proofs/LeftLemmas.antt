@@ -52,9 +52,9 @@ abbrev refused : DecodeError → Result (List ℕ) DecodeError
 refused e = Err e
 
 -- the length stands there, and passes the end
-delimited_cut : (n : ℕ) (bs mid : List ℕ) → varint_at bs ≡ Ok (n, mid) → length mid < n → past_no_delimited bs ≡ mid
+pub past_cut : (n : ℕ) (bs mid : List ℕ) → varint_at bs ≡ Ok (n, mid) → length mid < n → mid ≡ past_no_delimited bs
 unfolding past_no_delimited
-delimited_cut n bs mid v h = rw (past_no_delimited, v, lt-ltb (length mid) n h) refl
+past_cut n bs mid v h = rw (past_no_delimited, v, lt-ltb (length mid) n h) refl
 
 -- the bytes stand there
 delimited_whole : (n : ℕ) (bs mid : List ℕ) → varint_at bs ≡ Ok (n, mid) → n ≤ length mid → past_no_delimited bs ≡ drop n mid
@@ -96,7 +96,7 @@ left_err : (d : DecodeError) (n : ℕ) (bs mid new : List ℕ) → varint_at bs 
     (d ≢ OutOfMemory → new ≡ past_no_delimited bs) × IsTailOf (past_no_delimited bs) new
 unfolding taken
 left_err d n bs mid new v t short within = elim (cases_lt (length mid) n) [
-  | inl cut ↦ (let e : new ≡ past_no_delimited bs = short cut ∙ sym (delimited_cut n bs mid v cut) in (λ _. e, subst (λ z. IsTailOf z new) e (tail_whole new)))
+  | inl cut ↦ (let e : new ≡ past_no_delimited bs = short cut ∙ past_cut n bs mid v cut in (λ _. e, subst (λ z. IsTailOf z new) e (tail_whole new)))
   | inr whole ↦ (
     λ no. absurd (let k : good (take n mid, drop n mid) ≡ bad d = sym (rw (le-ltb (length mid) n whole) refl) ∙ t no in cc),
     subst (λ z. IsTailOf z new) (sym (delimited_whole n bs mid v whole)) within,
@@ -137,7 +137,7 @@ pub left_behind_length : (r : Result (Unit {0}) DecodeError) (n : ℕ) (bs mid n
 unfolding past
 left_behind_length (Ok x) n bs mid new v h short = tt
 left_behind_length (Err d) n bs mid new v h short = elim (cases_lt (length mid) n) [
-  | inl cut ↦ short cut ∙ sym (delimited_cut n bs mid v cut)
+  | inl cut ↦ short cut ∙ past_cut n bs mid v cut
   | inr whole ↦ absurd (let k : passed (drop n mid) ≡ refused d = sym (rw (le-ltb (length mid) n whole) refl) ∙ h in cc)
 ]
 
@@ -186,7 +186,7 @@ unfolding past_no_tag
 no_tag bs n rest h = rw (past_no_tag, varint_taken bs n rest h) refl
 
 pub no_delimited_cut : (bs : List ℕ) (n : ℕ) (rest : List ℕ) → TakesVarint bs n rest → length rest < n → past_no_delimited bs ≡ rest
-no_delimited_cut bs n rest h few = delimited_cut n bs rest (varint_taken bs n rest h) few
+no_delimited_cut bs n rest h few = sym (past_cut n bs rest (varint_taken bs n rest h) few)
 
 pub no_delimited_whole : (bs : List ℕ) (n : ℕ) (rest : List ℕ) → TakesVarint bs n rest → n ≤ length rest → past_no_delimited bs ≡ drop n rest
 no_delimited_whole bs n rest h some = delimited_whole n bs rest (varint_taken bs n rest h) some

@@ -10,6 +10,7 @@ pub mod ContentLemmas
 pub mod BufLemmas
 pub mod SinkLemmas
 pub mod IntLemmas
+pub mod LendLemmas
 pub mod LimitLemmas
 pub mod PieceLemmas
 pub mod AdaptedLemmas

@@ -1,10 +1,9 @@
 -- Strings and bytes in a type of one's own: they are read where they lie, and read back.
 use Rattle.std.proofs.Common.{◌≡◌, ◌∙◌, ℕ, ◌^◌, ◌<◌, List, [], ◌++◌, length, drop, true, Result, Ok, Err, refl, sym, ap}
-use Rattle.std.specs.Prelude.{IsOk, MatchResult}
+use Rattle.std.specs.Prelude.{IsOk}
 use Rattle.std.proofs.lemmas.Bool.{le-ltb}
 use Rattle.std.specs.Str.{is_utf8}
 use Rattle.buffa_bytes.specs.declared.error.DecodeError.{DecodeError}
-use Rattle.buffa_bytes.specs.declared.error.DecodeError.TheVariants.{OutOfMemory}
 use Rattle.buffa_bytes.specs.Gives.{FullOnlyIf, GivesUnlessFull}
 use Rattle.buffa_bytes.specs.Front.{varint_at, taken, delimited_at}
 use Rattle.buffa_bytes.specs.Unread.{IsFrontOf}
@@ -12,6 +11,7 @@ use Rattle.buffa_bytes.specs.Values.{delimited_encoding}
 use Rattle.buffa_bytes.specs.Delimited.{text_as, string_as, bytes_as}
 use Rattle.buffa_bytes.proofs.DelimitedLemmas.{after_length, delimited_back, taken_sound}
 use Rattle.buffa_bytes.proofs.FullLemmas.{varint_no_full}
+use Rattle.buffa_bytes.proofs.LeftLemmas.{bytes_of}
 use Rattle.buffa_bytes.proofs.StepLemmas.{agree_ok}
 
 -- a text that means v by of
@@ -23,7 +23,7 @@ pub own_bytes_back : {A : Type 0} (of : List ℕ → A) (bytes : List ℕ) (v : 
 own_bytes_back of bytes v rest h e = rw (delimited_back bytes rest h, e) refl
 
 -- the front of the bytes is what is taken of them
-front_taken : (n : ℕ) (part all : List ℕ) → IsFrontOf part n all → taken n all ≡ Ok (part, drop n all)
+pub front_taken : (n : ℕ) (part all : List ℕ) → IsFrontOf part n all → taken n all ≡ Ok (part, drop n all)
 unfolding taken
 front_taken n part all f = rw (le-ltb (length all) n f.fits) (ap (λ z. Ok (z, drop n all)) (sym f.is))
 
@@ -32,12 +32,6 @@ pub string_in_place : {S A : Type 0} (meaning : S → A) (of : List ℕ → A) (
     GivesUnlessFull meaning r (text_as of part) → GivesUnlessFull (λ s. (meaning s, new)) r (string_as of bs)
 string_in_place meaning of (Ok s) n bs mid part new v f e h = rw (v, front_taken n part mid f, h, e) refl
 string_in_place meaning of (Err d) n bs mid part new v f e h = λ ne. rw (v, front_taken n part mid f, h ne) refl
-
--- the same of bytes
-pub bytes_in_place : {S A : Type 0} (meaning : S → A) (of : List ℕ → A) (r : Result S DecodeError) (n : ℕ) (bs mid part new : List ℕ) → varint_at bs ≡ Ok (n, mid) → IsFrontOf part n mid → new ≡ drop n mid →
-    MatchResult r (λ value. meaning value ≡ of part) (λ d. d ≡ OutOfMemory) → GivesUnlessFull (λ s. (meaning s, new)) r (bytes_as of bs)
-bytes_in_place meaning of (Ok s) n bs mid part new v f e h = rw (v, front_taken n part mid f, h, e) refl
-bytes_in_place meaning of (Err d) n bs mid part new v f e h = λ ne. absurd (ne h)
 
 -- such bytes are whole
 pub whole_in_place : {S : Type 0} (r : Result S DecodeError) (n : ℕ) (bs mid part : List ℕ) → varint_at bs ≡ Ok (n, mid) → IsFrontOf part n mid → FullOnlyIf r (IsOk (delimited_at bs))
@@ -49,9 +43,6 @@ pub length_no_full : {S : Type 0} {r : Result S DecodeError} {e d : DecodeError}
 length_no_full is same bs h = rw (is, same) (varint_no_full bs _ h)
 
 -- ---- no bytes
-abbrev bytes_of : Result (List ℕ × List ℕ) DecodeError → List ℕ
-bytes_of (Ok p) = p.0
-bytes_of (Err e) = []
 
 -- the bytes at the front, behind their length, are none
 pub none_in_place : (n : ℕ) (bs mid part rest : List ℕ) → varint_at bs ≡ Ok (n, mid) → IsFrontOf part n mid → delimited_at bs ≡ Ok ([], rest) → part ≡ []

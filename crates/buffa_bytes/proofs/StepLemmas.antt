@@ -8,13 +8,6 @@ use Rattle.buffa_bytes.specs.declared.error.DecodeError.{DecodeError}
 use Rattle.buffa_bytes.specs.declared.error.DecodeError.TheVariants.{UnexpectedEof, VarintTooLong}
 use Rattle.buffa_bytes.specs.Front.{varint_within}
 
-bind_same_at : {A B : Type 0} (r q : Result A DecodeError) (f g : A → Result B DecodeError) → q ≡ r → ((x : A) → q ≡ Ok x → f x ≡ g x) → (r >>= f) ≡ (r >>= g)
-bind_same_at (Ok x) q f g e h = h x e
-bind_same_at (Err d) q f g e h = refl
-
-pub bind_same : {A B : Type 0} (r : Result A DecodeError) (f g : A → Result B DecodeError) → ((x : A) → r ≡ Ok x → f x ≡ g x) → (r >>= f) ≡ (r >>= g)
-bind_same r f g h = bind_same_at r r f g refl h
-
 -- what holds of each answer, and of each fault
 pub record Agrees {A : Type 0} (r : Result A DecodeError) (P : A → Type 0) (F : DecodeError → Type 0) : Type 0 where
   pub holds : MatchResult r P F
@@ -39,11 +32,6 @@ pub agree_weaker : {A : Type 0} {r : Result A DecodeError} {P Q : A → Type 0} 
     Agrees r P F → ((x : A) → P x → Q x) → ((e : DecodeError) → F e → E e) → Agrees r Q E
 agree_weaker {r = Ok x} h k l = record { holds = k x h.holds }
 agree_weaker {r = Err e} h k l = record { holds = l e h.holds }
-
--- two answers agree, where the one takes over what holds of the other
-pub same_answer : {A : Type 0} {P : A → Type 0} {F : DecodeError → Type 0} (r q : Result A DecodeError) → Agrees r P F → ((x : A) → P x → q ≡ Ok x) → ((e : DecodeError) → F e → q ≡ Err e) → r ≡ q
-same_answer (Ok x) q h k l = sym (k x h.holds)
-same_answer (Err e) q h k l = sym (l e h.holds)
 
 -- what is read behind digits that were read before: v, at the scale s
 abbrev pub behind : ℕ → ℕ → Result (ℕ × List ℕ) DecodeError → Result (ℕ × List ℕ) DecodeError

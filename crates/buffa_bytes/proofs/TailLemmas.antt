@@ -1,5 +1,5 @@
 -- What readers leave of the bytes.
-use Rattle.std.proofs.Common.{◌≡◌, ℕ, ◌+◌, ◌≤◌, List, ◌∷◌, length, drop, length-drop, drop-drop, refl, sym, ap, ◌∙◌, arith}
+use Rattle.std.proofs.Common.{◌≡◌, ℕ, ◌+◌, ◌≤◌, List, length, drop, length-drop, drop-drop, refl, ap, ◌∙◌, arith}
 use Rattle.buffa_bytes.specs.Unread.{IsTailOf}
 
 pub tail_whole : (all : List ℕ) → IsTailOf all all
@@ -10,9 +10,6 @@ tail_rest n all = record { past = n; follows = refl }
 
 pub tail_dropped : (n : ℕ) (all tail : List ℕ) → tail ≡ drop n all → IsTailOf tail all
 tail_dropped n all tail e = record { past = n; follows = e }
-
-pub tail_byte : (byte : ℕ) (all tail : List ℕ) → all ≡ byte ∷ tail → IsTailOf tail all
-tail_byte byte all tail e = record { past = 1; follows = sym (ap (drop 1) e) }
 
 pub tail_more : (all mid tail : List ℕ) → IsTailOf tail mid → IsTailOf mid all → IsTailOf tail all
 tail_more all mid tail t m = record { past = t.past + m.past; follows = t.follows ∙ ap (drop t.past) m.follows ∙ drop-drop t.past m.past all ∙ ap (λ n. drop n all) plus }

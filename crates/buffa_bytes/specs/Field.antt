@@ -99,10 +99,6 @@ GroupFault (suc d) f bytes e =
 abbrev pub PayloadFault : ℕ → ℕ → WireType → List ℕ → DecodeError → Type 0
 PayloadFault d = PayloadFaultOver (GroupFault d)
 
--- what follows the start of a group begins old, and new is what follows that
-abbrev pub TakesGroup : ℕ → ℕ → List ℕ → List ℕ → Type 0
-TakesGroup d f old new = (p : List ℕ) × Group d f p × (old ≡ p ++ new)
-
 -- new is what follows the first n bytes of old
 abbrev pub TakesBytes : ℕ → List ℕ → List ℕ → Type 0
 TakesBytes n old new = (p : List ℕ) × (length p ≡ n) × (old ≡ p ++ new)

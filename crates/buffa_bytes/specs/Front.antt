@@ -20,10 +20,6 @@ varint_within (suc k) (b ∷ bs) = if nat_lt b 128 then Ok (b, bs) else (do
 unfoldable pub varint_at : List ℕ → Result (ℕ × List ℕ) DecodeError
 varint_at bs = varint_within 9 bs
 
--- the varint alone
-abbrev pub number_at : List ℕ → Result ℕ DecodeError
-number_at bs = varint_at bs >>= (λ n. Ok n.0)
-
 -- the number and the wire type in the value of a tag
 unfoldable pub tag_of : ℕ → Result (ℕ × WireType) DecodeError
 tag_of n = if nat_lt n (2 ^ 32) then (if nat_lt n 8 then Err InvalidFieldNumber else

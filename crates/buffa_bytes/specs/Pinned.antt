@@ -1,6 +1,9 @@
 -- What a contract leaves open: nothing, but for what is said here.
-use Rattle.std.specs.Prelude.{◌≡◌, ◌≢◌, ◌↔◌, ℕ, ◌+◌, ◌<◌, ◌≤◌, Bool, true, List, [], ◌∷◌, length, take, drop, Result, Ok, Err, IsOk, OnErr}
-use denote.Ref.{MutBor}
+use Rattle.std.specs.Prelude.{◌≡◌, ◌≢◌, ◌↔◌, ℕ, ◌+◌, ◌<◌, ◌≤◌, Bool, true, List, [], ◌∷◌, length, take, drop, Result, Ok, Err, IsOk, OnErr, ◌⊎◌}
+use denote.Param.Members.{Mut}
+use denote.Ref.{Bor, MutBor}
+use Rattle.std.specs.Fn.{CalledAt}
+use Rattle.buffa_bytes.specs.Delimited.{Lends}
 use Rattle.buffa_bytes.specs.Gives.{FullOnlyIf, Gives, GivesUnlessFull}
 use Rattle.buffa_bytes.specs.Left.{LeavesUnlessFull}
 use Rattle.buffa_bytes.specs.Unread.{IsChunkOf, IsFrontOf, MovesUnlessFull}
@@ -26,6 +29,14 @@ pub record AnswerIsPinnedUnlessFull (X Y Z : Type 0) : Type 0 where
   pub full : (f : X → Y) (d e : DecodeError) (read : Result Y DecodeError) (whole : Result Z DecodeError) → whole ≡ Err e → FullOnlyIf {X = X} (Err d) (IsOk whole) → GivesUnlessFull f (Err d) read → read ≡ Err d
   pub sure : (f : X → Y) (r : Result X DecodeError) (read : Result Y DecodeError) → IsOk r → GivesUnlessFull f r read → Gives f r read
   pub left : (e : DecodeError) (rest a b : List ℕ) → e ≢ OutOfMemory → LeavesUnlessFull {X = X} (Err e) rest a → LeavesUnlessFull {X = X} (Err e) rest b → a ≡ b
+
+-- Bytes that are there are given to f, once, and what follows them is left, unless memory ran out, as it never does of no
+-- bytes; f is as it was where it was given none; and where no bytes are there their fault is told.
+pub record LentIsPinned {F T : Type 0} (g : Mut F (Bor (List ℕ) × Unit {0}) (Result T DecodeError)) : Type 0 where
+  pub given : (f h : F) (r : Result T DecodeError) (p rest left : List ℕ) → r ≢ Err OutOfMemory → Lends g f (Ok (p, rest)) r h left → CalledAt g f p r h × (left ≡ rest)
+  pub none : (f h : F) (r : Result T DecodeError) (rest left : List ℕ) → Lends g f (Ok ([], rest)) r h left → CalledAt g f [] r h × (left ≡ rest)
+  pub full : (f h : F) (r : Result T DecodeError) (p rest left : List ℕ) → Lends g f (Ok (p, rest)) r h left → CalledAt g f p r h ⊎ (h ≡ f)
+  pub fault : (f h : F) (r : Result T DecodeError) (e : DecodeError) (left : List ℕ) → Lends g f (Err e) r h left → (r ≡ Err e) × (h ≡ f)
 
 -- Of an encoding that is written one encoding stands in the sink; an encoding that fits is not refused; of a refused
 -- one not all stands, and of two refused writes the one begins the other.

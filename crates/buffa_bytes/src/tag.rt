@@ -1,11 +1,11 @@
 //! Tags: the number and the wire type of a field.
 
-ghost use Rattle.std.specs.Prelude.{◌<◌, ◌≤◌};
+ghost use Rattle.std.specs.Prelude.{◌<◌, ◌≤◌, length};
 
 use crate::buf::Buf;
 use crate::error::{DecodeError, EncodeError};
 use crate::sink::EncodeSink;
-use crate::varint::{decode_varint, encode_varint};
+use crate::varint::{decode_varint, encode_varint, varint_len};
 use crate::wire_type::WireType;
 
 /// The largest number that a field may have. Source: the protobuf language guide, "Assigning Field Numbers".
@@ -75,6 +75,18 @@ impl Tag {
         ensures { result ≡ self.wire_type }
     {
         self.wire_type
+    }
+
+    /// The length of the shortest spelling of the tag, 1 to 5 bytes.
+    ///
+    /// ```ignore
+    /// let len = Tag::new(number, WireType::LengthDelimited).encoded_len(); // 1 for 5
+    /// ```
+    #[inline(always)]
+    pub fn encoded_len(self) -> usize
+        ensures { result ≡ length (tag_encoding self.number self.wire_type) }
+    {
+        varint_len(u64::from(self.number) * 8 + u64::from(self.wire_type.number()))
     }
 
     /// Writes the shortest spelling of the tag, 1 to 5 bytes.

@@ -7,7 +7,7 @@ mod zigzag;
 
 pub use delimited::{
     bytes_encoded_len, decode_bytes, decode_bytes_to, decode_bytes_to_bytes, decode_string,
-    decode_string_to, encode_bytes, encode_string, string_encoded_len,
+    decode_string_to, encode_bytes, encode_string, string_encoded_len, with_delimited,
 };
 pub use fixed::{
     FIXED32_ENCODED_LEN, FIXED64_ENCODED_LEN, decode_fixed32, decode_fixed64, decode_sfixed32,

@@ -18,9 +18,6 @@ use Rattle.buffa_ext.specs.Messages.{IsAllMerged, StopsAt, encodings_in}
 use Rattle.buffa_ext.specs.MessageFacts.{merged_more, encoding_refused}
 
 module _ (held : Datum → Option (List ℕ)) (n : ℕ) (xs : List UnknownField) (i : ℕ) (x : UnknownField) (lt : i < length xs) (e : x ≡ get_or xs i x) where
-  so_far : List (List ℕ)
-  so_far = encodings_in held (sub n (records_in (take i xs)))
-
   encodings_more : x.number ≡ n → encodings_in held (sub n (records_in (take (i + 1) xs))) ≡ encodings_in held (sub n (records_in (take i xs))) ++ encodings_in held (datum_of x.payload ∷ [])
   encodings_more same =
       ap (encodings_in held) (sub-take_more n xs i x lt e ∙ ap (λ l. sub n (records_in (take i xs)) ++ l) (sub-one_same n x same))

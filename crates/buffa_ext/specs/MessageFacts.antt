@@ -17,6 +17,7 @@ use Rattle.buffa_wire.specs.Parse.{Fits}
 use Rattle.buffa_wire.specs.RecordReading.{list_at}
 use Rattle.buffa_wire.specs.Records.{Datum, group, records_of, records_height}
 use Rattle.buffa_wire.specs.Encoding.{records_encoding, fields_encoding}
+use Rattle.buffa_wire.proofs.ByPayloadLemmas.{nothing_plus, plus_assoc}
 use Rattle.buffa_wire.proofs.LoopLemmas.{list_is_read}
 use Rattle.buffa_wire.proofs.ParseLemmas.{one_reading, encoding_parses}
 use Rattle.buffa_ext.specs.Messages.{LeavesOf, IsAllMerged, IsAnswer, IsEncodingRefused, MergesRecords, cost_all, group_held, group_of, group_refusal, is_left, merged_all, message_of, or_none, some_there, encoding_refusal, encodings_in, why_refused}
@@ -63,18 +64,6 @@ none_either : {X : Type 0} (b : Bool) (o : Option X) → o ≡ None → (if b th
 none_either true o h = h
 none_either false o h = refl
 
-plus_assoc : (a b c : BudgetLeft) → plus a (plus b c) ≡ plus (plus a b) c
-plus_assoc a b c =
-    let unknown : a.unknown + (b.unknown + c.unknown) ≡ (a.unknown + b.unknown) + c.unknown = omega arith in
-    let units : a.memory + (b.memory + c.memory) ≡ (a.memory + b.memory) + c.memory = omega arith in
-    rw (unknown, units) refl
-
-nothing_plus : (a : BudgetLeft) → a ≡ plus nothing a
-nothing_plus a =
-    let unknown : 0 + a.unknown ≡ a.unknown = omega arith in
-    let units : 0 + a.memory ≡ a.memory = omega arith in
-    rw (unknown, units) refl
-
 there-append : (xs ys : List (List ℕ)) → some_there (xs ++ ys) ≡ (some_there xs || some_there ys)
 there-append [] ys = refl
 there-append (x ∷ xs) ys = refl
@@ -100,12 +89,6 @@ module _ {X : Type 0} (merged : X → List ℕ → Option X) (cost : List ℕ �
   answers blank new left after bs (Ok true) o m a = a ∙ sym (message_some blank new left after bs (sym m.0) m.1 m.2)
   answers blank new left after bs (Ok false) o m a = a ∙ sym (no_encoding blank left bs m.0)
   answers blank new left after bs (Err e) o m a = a.0 ∙ sym (message_none blank left bs e (m.1 a.1))
-
-  pub leaves : (blank new : X) (left after : BudgetLeft) (bs : List (List ℕ)) (r : Result Bool DecodeError) (o : Option X)
-      → IsAllMerged merged cost bs blank left r new after → IsAnswer r new o → LeavesOf (message_of merged cost blank left bs) left (cost_all cost bs) after
-  leaves blank new left after bs (Ok true) o m a = subst (λ x. LeavesOf x left (cost_all cost bs) after) (sym (message_some blank new left after bs (sym m.0) m.1 m.2)) m.2
-  leaves blank new left after bs (Ok false) o m a = subst (λ x. LeavesOf x left (cost_all cost bs) after) (sym (no_encoding blank left bs m.0)) (omega (arith, m.2), omega (arith, m.2), omega (arith, m.2), omega (arith, m.2))
-  leaves blank new left after bs (Err e) o m a = subst (λ x. LeavesOf x left (cost_all cost bs) after) (sym (message_none blank left bs e (m.1 a.1))) m.0
 
   spent_by : (o : Option X) (b need left : BudgetLeft) → LeavesOf o b need left → Covers b left
   spent_by (Some v) b need left h = (omega (arith, h), omega (arith, h))
@@ -135,7 +118,7 @@ module _ {X : Type 0} (merged : X → List ℕ → Option X) (cost : List ℕ �
   merged-append (x ∷ xs) ys old = then_merged ys xs (merged old x) (merged-append xs ys)
 
   pub cost-append : (xs ys : List (List ℕ)) → cost_all cost (xs ++ ys) ≡ plus (cost_all cost xs) (cost_all cost ys)
-  cost-append [] ys = nothing_plus (cost_all cost ys)
+  cost-append [] ys = sym (nothing_plus (cost_all cost ys))
   cost-append (x ∷ xs) ys = ap (plus (cost x)) (cost-append xs ys) ∙ plus_assoc (cost x) (cost_all cost xs) (cost_all cost ys)
 
   merged_both : (xs ys : List (List ℕ)) (old mid : X) → merged_all merged old xs ≡ Some mid → merged_all merged old (xs ++ ys) ≡ merged_all merged mid ys

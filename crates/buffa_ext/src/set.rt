@@ -88,8 +88,8 @@ pub trait ExtensionSet {
         C::decode(alloc, ext.number(), self.unknown_fields())
     }
 
-    /// Puts the value's records behind the others, in the place of those of its number. No other record is
-    /// copied.
+    /// Drops the records of the extension's number, and puts the value's behind the others. No other record is
+    /// copied. `ext` has to extend this message.
     ///
     /// # Errors
     /// What is wrong with the value, or out of memory; never for a value that has no records, as an empty

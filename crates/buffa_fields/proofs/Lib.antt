@@ -1,2 +1,3 @@
 pub use Rattle.buffa_map_base.proofs.SortedLemmas
 pub mod OrderedLemmas
+pub mod PackedLemmas

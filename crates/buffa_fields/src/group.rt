@@ -13,7 +13,7 @@ ghost use Rattle.buffa_bytes.specs.Front.{check_wire};
 ghost use Rattle.buffa_fields_base.specs.Calls.{ChecksWire, TakesIn};
 ghost use Rattle.buffa_fields.specs.GroupCalls.{MergesGroup, WritesGroup};
 ghost use Rattle.buffa_fields.specs.Groups.{GroupTakesMemory, group_cost, group_encoding, group_in, group_records, group_taken};
-ghost use Rattle.buffa_fields.specs.GroupLaws.{group_back, group_stays};
+ghost use Rattle.buffa_fields.specs.GroupFacts.{group_back, group_stays};
 ghost use Rattle.buffa_wire.proofs.ByPayloadLemmas.{by_payload, merged_fields};
 ghost use Rattle.buffa_fields.specs.Nested.{message_levels, message_slots};
 ghost use Rattle.buffa_wire.specs.Takes.{IsTaken};
@@ -23,7 +23,7 @@ ghost use Rattle.buffa_fields_base.specs.Values.{IfThere};
 use buffa_fields_base::member::Member;
 use buffa_wire::{
     Blank, DecodeContext, DecodeError, EncodeError, EncodeSink, Message, MessageSpec, SizeCache,
-    Tag, WireType, check_wire_type, varint_len,
+    Tag, WireType, capped, check_wire_type,
 };
 use std::alloc::Global;
 use std::marker::PhantomData;
@@ -33,14 +33,10 @@ fn tagged_len(number: u32, inner: u32) -> u32
     requires { IsNumber number }
     ensures { result ≡ cap (length (tag_encoding number StartGroup) + (inner + length (tag_encoding number EndGroup))) }
 {
-    let start = varint_len(u64::from(number) * 8 + 3) as u64;
-    let end = varint_len(u64::from(number) * 8 + 4) as u64;
+    let start = Tag::new(number, WireType::StartGroup).encoded_len() as u64;
+    let end = Tag::new(number, WireType::EndGroup).encoded_len() as u64;
     let total = start.saturating_add(u64::from(inner)).saturating_add(end);
-    if total < 4_294_967_295 {
-        total as u32
-    } else {
-        4_294_967_295
-    }
+    capped(total)
 }
 
 // The length of a message's group. The length of the message, and then its slots, are appended. It isn't written, but a
@@ -182,7 +178,7 @@ impl<N: Message> Member for Group<N> {
       stays = group_stays N.cost;
     } };
 
-    #[tactic(auto, using(buffa_fields_base::specs::LayoutLaws::sized_free), unfolding(crate::specs::Groups::group_records, crate::specs::Nested::message_slots))]
+    #[tactic(auto, using(buffa_fields_base::specs::LayoutFacts::sized_free), unfolding(crate::specs::Groups::group_records, crate::specs::Nested::message_slots))]
     fn len(number: u32, part: &Option<N>, cache: &mut SizeCache) -> Result<u32, EncodeError> {
         match part {
             None => Ok(0),

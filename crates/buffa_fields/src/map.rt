@@ -18,8 +18,8 @@ use buffa_map::map_codec::{
     Map, MapCodec, MapStorage, MapValueDecode, StableWalk, field_len, merge_entry, write_field,
 };
 use buffa_wire::{
-    DecodeContext, DecodeError, EncodeError, EncodeSink, MapKey, Tag, WireType, check_wire_type,
-    varint_len,
+    DecodeContext, DecodeError, EncodeError, EncodeSink, MapKey, Tag, WireType, capped,
+    check_wire_type,
 };
 use std::alloc::Global;
 use std::hash::Hash;
@@ -38,13 +38,9 @@ where
     ensures { result ≡ cap (length (records_encoding (map_records KC.writing VC.writing number (C.walk map.now)))) }
 {
     size_is_length::<KC, VC>();
-    let tag = varint_len(u64::from(number) * 8 + 2) as u64;
+    let tag = Tag::new(number, WireType::LengthDelimited).encoded_len() as u64;
     let total = field_len::<KC, VC, C>(map, tag);
-    if total < 4_294_967_295 {
-        total as u32
-    } else {
-        4_294_967_295
-    }
+    capped(total)
 }
 
 // Merges the entry of the field whose tag was read.

@@ -10,7 +10,7 @@ ghost use Rattle.buffa_map.proofs.BackLemmas.{plain_back};
 ghost use Rattle.buffa_map.specs.Pairs.{means, put};
 ghost use Rattle.buffa_map.specs.Encoding.{AllHold};
 ghost use Rattle.buffa_fields.specs.MapFields.{PairTakesMemory, pair_cost, pair_taken};
-ghost use Rattle.buffa_fields.specs.MapLaws.{distinct_put, map_back, map_stays};
+ghost use Rattle.buffa_fields.specs.MapFacts.{distinct_put, map_back, map_stays};
 ghost use Rattle.buffa_fields.specs.MapFields.{entry_records};
 ghost use Rattle.buffa_fields.specs.Refusals.{RefusesPair};
 
@@ -59,7 +59,7 @@ where
       stays = map_stays KC.reading VC.reading (KC.COST + VC.COST);
     } };
 
-    #[tactic(auto, using(buffa_fields_base::specs::LayoutLaws::sized_free), unfolding(crate::specs::MapFields::entry_records))]
+    #[tactic(auto, using(buffa_fields_base::specs::LayoutFacts::sized_free), unfolding(crate::specs::MapFields::entry_records))]
     fn len(
         number: u32,
         part: &Map<KC::Value, VC::Value>,
@@ -68,7 +68,7 @@ where
         Ok(map_len::<KC, VC, Map<KC::Value, VC::Value>>(number, part))
     }
 
-    #[tactic(auto, using(crate::specs::MapLaws::map_alone), unfolding(crate::specs::MapFields::entry_records))]
+    #[tactic(auto, using(crate::specs::MapFacts::map_alone), unfolding(crate::specs::MapFields::entry_records))]
     fn write_to<S: EncodeSink>(
         number: u32,
         part: &Map<KC::Value, VC::Value>,

@@ -14,9 +14,9 @@ ghost use Rattle.buffa_map.specs.Pairs.{means, put};
 ghost use Rattle.buffa_map.specs.Encoding.{AllHold};
 ghost use Rattle.buffa_fields.specs.KindCalls.{SizesPairs, WritesPairs};
 ghost use Rattle.buffa_fields.specs.MapFields.{PairTakesMemory, pair_cost, pair_taken};
-ghost use Rattle.buffa_fields.specs.MapLaws.{distinct_put, map_stays};
+ghost use Rattle.buffa_fields.specs.MapFacts.{distinct_put, map_stays};
 ghost use Rattle.buffa_fields.specs.Nested.{FitsInside};
-ghost use Rattle.buffa_fields.specs.NestedMapLaws.{pairs_back};
+ghost use Rattle.buffa_fields.specs.NestedMapFacts.{pairs_back};
 ghost use Rattle.buffa_fields.specs.NestedMaps.{pair_levels, pair_records, pair_slots};
 ghost use Rattle.buffa_fields.specs.Refusals.{RefusesPair};
 
@@ -29,7 +29,7 @@ use buffa_map::map_codec::{
 };
 use buffa_wire::{
     Blank, DecodeContext, DecodeError, EncodeError, EncodeSink, MapKey, Message, MessageSpec,
-    SizeCache, Tag, varint_len,
+    SizeCache, Tag, WireType, capped,
 };
 use std::alloc::Global;
 use std::hash::Hash;
@@ -48,9 +48,9 @@ where
     ensures sized { SizesPairs N.encoding N.slots number KC.writing (C.walk map.now) cache.old result cache.new }
     ensures some { OnErr result (C.pairs map.now ≢ []) }
 {
-    let tag = varint_len(u64::from(number) * 8 + 2) as u64;
+    let tag = Tag::new(number, WireType::LengthDelimited).encoded_len() as u64;
     match message_field_len::<KC, N, C>(map, tag, cache) {
-        Ok(total) => Ok(total.min(4_294_967_295) as u32),
+        Ok(total) => Ok(capped(total)),
         Err(error) => Err(error),
     }
 }

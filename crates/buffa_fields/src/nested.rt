@@ -14,7 +14,7 @@ ghost use Rattle.buffa_bytes.specs.Written.{Writes};
 ghost use Rattle.buffa_fields_base.specs.Calls.{ChecksWire, TakesIn};
 ghost use Rattle.buffa_fields.specs.KindCalls.{WritesMessage};
 ghost use Rattle.buffa_fields.specs.Nested.{FitsInside, MessageTakesMemory, message_cost, message_in, message_levels, message_records, message_slots, message_taken};
-ghost use Rattle.buffa_fields.specs.NestedLaws.{Tells, head, message_back, message_stays};
+ghost use Rattle.buffa_fields.specs.NestedFacts.{Tells, head, message_back, message_stays};
 ghost use Rattle.buffa_wire.specs.Takes.{IsTaken};
 ghost use Rattle.buffa_fields.specs.Refusals.{RefusesField, RefusesInside, RefusesMessage};
 ghost use Rattle.buffa_fields_base.specs.Values.{IfThere};
@@ -22,25 +22,21 @@ ghost use Rattle.buffa_fields_base.specs.Values.{IfThere};
 use buffa_fields_base::member::Member;
 use buffa_wire::{
     Blank, DecodeContext, DecodeError, EncodeError, EncodeSink, Message, MessageSpec, SizeCache,
-    Tag, WireType, check_wire_type, encode_varint, prefix_len, varint_len,
+    Tag, WireType, capped, check_wire_type, encode_varint, prefix_len,
 };
 use std::alloc::Global;
 use std::marker::PhantomData;
 
 // The length of a record whose message has so many bytes, or 2^32 - 1 where it is more.
-#[tactic(auto, using(crate::specs::NestedLaws::record_size))]
+#[tactic(auto, using(crate::specs::NestedFacts::record_size))]
 pub(crate) fn record_len(number: u32, inner: u64) -> u32
     requires { IsNumber number }
     ensures { (encoding : List ℕ) → Tells inner encoding → result ≡ cap (length (records_encoding ((number, bytes encoding) ∷ []))) }
 {
-    let tag = varint_len(u64::from(number) * 8 + 2) as u64;
+    let tag = Tag::new(number, WireType::LengthDelimited).encoded_len() as u64;
     let len = prefix_len(inner) as u64;
     let total = tag.saturating_add(len).saturating_add(inner);
-    if total < 4_294_967_295 {
-        total as u32
-    } else {
-        4_294_967_295
-    }
+    capped(total)
 }
 
 // The length of a message's record. Its own length, and then its slots, are appended.
@@ -151,7 +147,7 @@ impl<N: Message> Member for Nested<N> {
       stays = message_stays N.merged N.cost;
     } };
 
-    #[tactic(auto, using(buffa_fields_base::specs::LayoutLaws::sized_free), unfolding(crate::specs::Nested::message_records, crate::specs::Nested::message_slots))]
+    #[tactic(auto, using(buffa_fields_base::specs::LayoutFacts::sized_free), unfolding(crate::specs::Nested::message_records, crate::specs::Nested::message_slots))]
     fn len(number: u32, part: &Option<N>, cache: &mut SizeCache) -> Result<u32, EncodeError> {
         match part {
             None => Ok(0),

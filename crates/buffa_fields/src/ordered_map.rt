@@ -12,9 +12,9 @@ ghost use Rattle.buffa_map.specs.Pairs.{means};
 ghost use Rattle.buffa_fields_base.specs.Calls.{ChecksWire};
 ghost use Rattle.buffa_fields.specs.KindCalls.{TakesOrderedEntry};
 ghost use Rattle.buffa_fields.specs.MapFields.{PairTakesMemory, pair_cost, pair_taken};
-ghost use Rattle.buffa_fields.specs.MapLaws.{map_back, map_stays};
+ghost use Rattle.buffa_fields.specs.MapFacts.{map_back, map_stays};
 ghost use Rattle.buffa_fields.specs.MapFields.{entry_records};
-ghost use Rattle.buffa_fields.specs.OrderedLaws.{ascending_put};
+ghost use Rattle.buffa_fields.specs.OrderedFacts.{ascending_put};
 ghost use Rattle.buffa_fields.specs.OrderedMaps.{KeysAscend};
 ghost use Rattle.buffa_fields.specs.Refusals.{RefusesPair, RefusesPairIn};
 
@@ -101,7 +101,7 @@ where
       stays = map_stays KC.reading VC.reading (KC.COST + VC.COST);
     } };
 
-    #[tactic(auto, using(buffa_fields_base::specs::LayoutLaws::sized_free), unfolding(crate::specs::MapFields::entry_records))]
+    #[tactic(auto, using(buffa_fields_base::specs::LayoutFacts::sized_free), unfolding(crate::specs::MapFields::entry_records))]
     fn len(
         number: u32,
         part: &BTreeMap<KC::Value, VC::Value>,
@@ -110,7 +110,7 @@ where
         Ok(map_len::<KC, VC, BTreeMap<KC::Value, VC::Value>>(number, part))
     }
 
-    #[tactic(auto, using(crate::specs::MapLaws::map_alone), unfolding(crate::specs::MapFields::entry_records))]
+    #[tactic(auto, using(crate::specs::MapFacts::map_alone), unfolding(crate::specs::MapFields::entry_records))]
     fn write_to<S: EncodeSink>(
         number: u32,
         part: &BTreeMap<KC::Value, VC::Value>,

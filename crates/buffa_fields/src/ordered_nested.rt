@@ -10,11 +10,11 @@ ghost use Rattle.buffa_map.specs.Encoding.{AllHold};
 ghost use Rattle.buffa_map.specs.Message.{message_reading};
 ghost use Rattle.buffa_map.specs.Pairs.{means};
 ghost use Rattle.buffa_fields.specs.MapFields.{PairTakesMemory, pair_cost, pair_taken};
-ghost use Rattle.buffa_fields.specs.MapLaws.{map_stays};
+ghost use Rattle.buffa_fields.specs.MapFacts.{map_stays};
 ghost use Rattle.buffa_fields.specs.Nested.{FitsInside};
-ghost use Rattle.buffa_fields.specs.NestedMapLaws.{pairs_back};
+ghost use Rattle.buffa_fields.specs.NestedMapFacts.{pairs_back};
 ghost use Rattle.buffa_fields.specs.NestedMaps.{pair_levels, pair_records, pair_slots};
-ghost use Rattle.buffa_fields.specs.OrderedLaws.{ascending_put};
+ghost use Rattle.buffa_fields.specs.OrderedFacts.{ascending_put};
 ghost use Rattle.buffa_fields.specs.OrderedMaps.{KeysAscend};
 ghost use Rattle.buffa_fields.specs.Refusals.{RefusesPair};
 

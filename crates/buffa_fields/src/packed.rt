@@ -10,7 +10,7 @@ ghost use Rattle.buffa_bytes.specs.WireType.{same_wire};
 ghost use Rattle.buffa_bytes.specs.Written.{Writes};
 ghost use Rattle.buffa_map.specs.Encoding.{saturated};
 ghost use Rattle.buffa_fields.specs.Lists.{ElementsTakeMemory, check_list_wire, elements_taken, packed_records};
-ghost use Rattle.buffa_fields.specs.ListLaws.{packed_back};
+ghost use Rattle.buffa_fields.specs.ListFacts.{packed_back};
 ghost use Rattle.buffa_fields.specs.Refusals.{RefusesElements};
 ghost use Rattle.buffa_fields_base.specs.Values.{free};
 
@@ -175,7 +175,7 @@ impl<C: Packable> Member for Packed<C> {
       stays = λ d n w p x h. refl;
     } };
 
-    #[tactic(auto, using(buffa_fields_base::specs::LayoutLaws::sized_free))]
+    #[tactic(auto, using(buffa_fields_base::specs::LayoutFacts::sized_free))]
     fn len(number: u32, part: &Vec<C::Value>, _cache: &mut SizeCache) -> Result<u32, EncodeError> {
         Ok(packed_len::<C>(number, part.as_slice()))
     }

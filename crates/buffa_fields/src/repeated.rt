@@ -3,7 +3,7 @@
 ghost use Rattle.std.specs.Prelude.{[], map, refl, ◌==◌};
 ghost use Rattle.std.specs.List.{AllByRecursion};
 ghost use Rattle.buffa_fields.specs.Lists.{ElementsTakeMemory, check_list_wire, element_records, elements_taken};
-ghost use Rattle.buffa_fields.specs.ListLaws.{elements_back};
+ghost use Rattle.buffa_fields.specs.ListFacts.{elements_back};
 ghost use Rattle.buffa_fields.specs.Refusals.{RefusesElements};
 ghost use Rattle.buffa_fields_base.specs.Values.{free};
 
@@ -44,7 +44,7 @@ impl<C: Kind> Member for Repeated<C> {
       stays = λ d n w p x h. refl;
     } };
 
-    #[tactic(auto, using(buffa_fields_base::specs::LayoutLaws::sized_free))]
+    #[tactic(auto, using(buffa_fields_base::specs::LayoutFacts::sized_free))]
     fn len(number: u32, part: &Vec<C::Value>, _cache: &mut SizeCache) -> Result<u32, EncodeError> {
         Ok(elements_len::<C>(number, part.as_slice()))
     }

@@ -14,7 +14,7 @@ ghost use Rattle.buffa_fields.specs.GroupCalls.{WritesGroups};
 ghost use Rattle.buffa_fields.specs.Groups.{GroupTakesMemory, group_datum, group_in};
 ghost use Rattle.buffa_fields.specs.Lists.{element_records};
 ghost use Rattle.buffa_fields.specs.RepeatedGroups.{GroupsTakeMemory, groups_cost, groups_taken};
-ghost use Rattle.buffa_fields.specs.RepeatedGroupLaws.{groups_back, groups_stay};
+ghost use Rattle.buffa_fields.specs.RepeatedGroupFacts.{groups_back, groups_stay};
 ghost use Rattle.buffa_fields.specs.RepeatedNested.{messages_levels, messages_slots};
 ghost use Rattle.buffa_wire.proofs.ByPayloadLemmas.{by_payload, merged_fields};
 ghost use Rattle.buffa_wire.specs.Takes.{IsTaken};

@@ -13,7 +13,7 @@ ghost use Rattle.buffa_fields_base.specs.Calls.{ChecksWire, TakesIn};
 ghost use Rattle.buffa_fields.specs.KindCalls.{WritesMessages};
 ghost use Rattle.buffa_fields.specs.Nested.{FitsInside, MessageTakesMemory, message_in};
 ghost use Rattle.buffa_fields.specs.RepeatedNested.{MessagesTakeMemory, messages_cost, messages_levels, messages_records, messages_slots, messages_taken};
-ghost use Rattle.buffa_fields.specs.RepeatedNestedLaws.{messages_back, messages_stay};
+ghost use Rattle.buffa_fields.specs.RepeatedNestedFacts.{messages_back, messages_stay};
 ghost use Rattle.buffa_wire.specs.Takes.{IsTaken};
 ghost use Rattle.buffa_fields.specs.Refusals.{RefusesField, RefusesNew};
 

@@ -6,11 +6,11 @@ use Rattle.buffa_wire.specs.Records.{Datum, height}
 use Rattle.buffa_wire.specs.Kept.{keep_need}
 use Rattle.buffa_fields_base.specs.Keep.{AllNumbers, KeepTakesMemory, keep_takes}
 use Rattle.buffa_wire.proofs.KeepLemmas.{keep_stays}
-use Rattle.buffa_fields_base.specs.KeepLaws.{all_numbers, both_numbers, keep_back}
+use Rattle.buffa_fields_base.specs.KeepFacts.{all_numbers, both_numbers, keep_back}
 use Rattle.buffa_wire.specs.Takes.{costs_nothing}
 use Rattle.buffa_fields_base.specs.Layout.{Choice, Kept, Layout, Passed, ReadsBackTo, Shape, Took, both_need, both_take, is_number, more, passes, visited}
-use Rattle.buffa_fields_base.specs.LayoutLaws.{field_apart, field_asks, field_taken, is_kept, kept_asks, kept_stays, is_passed, passed_asks, more_none, seen_field}
-use Rattle.buffa_fields_base.specs.PairLaws.{both_back, both_stay, both_true, no_pieces}
+use Rattle.buffa_fields_base.specs.LayoutFacts.{field_apart, field_asks, field_taken, is_kept, kept_asks, kept_stays, is_passed, passed_asks, more_none, seen_field}
+use Rattle.buffa_fields_base.specs.PairFacts.{both_back, both_stay, both_true, no_pieces}
 
 -- a member under a number, and the others
 abbrev pub field : {M P A B : Type 0} → ℕ → (M → P) → Shape P A → Layout M B → Layout M (A × B)

@@ -1,6 +1,6 @@
 -- Fields of one value, which a codec reads and writes.
 -- Source: the protobuf encoding guide, "Message Structure".
-use Rattle.std.specs.Prelude.{◌≡◌, ◌≢◌, ℕ, List, [], ◌∷◌, ◌++◌, Bool, true, false, Option, Some, None, Result, Ok, Err, if◌then◌else◌}
+use Rattle.std.specs.Prelude.{◌≡◌, ◌≢◌, ℕ, List, [], ◌∷◌, Bool, true, false, Option, Some, None, Result, Ok, Err, if◌then◌else◌}
 use Rattle.std.specs.Option.{option_map}
 use Rattle.buffa_bytes.specs.declared.error.DecodeError.{DecodeError}
 use Rattle.buffa_bytes.specs.declared.error.DecodeError.TheVariants.{OutOfMemory}
@@ -9,9 +9,8 @@ use Rattle.buffa_bytes.specs.Gives.{◌>>=◌}
 use Rattle.buffa_bytes.specs.Front.{check_wire}
 use Rattle.buffa_wire.specs.BudgetLeft.{nothing}
 use Rattle.buffa_wire.specs.Records.{Datum}
-use Rattle.buffa_bytes.specs.Values.{tag_encoding}
 use Rattle.buffa_bytes.specs.WireType.{same_wire}
-use Rattle.buffa_map_base.specs.Codec.{HoldsNothing, Reading, ReadingTakesMemory, Writing, value_at}
+use Rattle.buffa_map_base.specs.Codec.{HoldsNothing, Reading, ReadingTakesMemory, value_at}
 use Rattle.buffa_wire.specs.Takes.{Asks, Need, Taker}
 
 -- what is read of a whole payload
@@ -44,23 +43,9 @@ free d n w bs = nothing
 abbrev pub ValueTakesMemory : {V : Type 0} → Reading V → Asks
 ValueTakesMemory codec d n w bs = (w ≡ codec.wire) × ReadingTakesMemory codec d bs × (HoldsNothing codec d bs → ⊥)
 
--- the field of a value
-abbrev pub value_encoding : {V : Type 0} → Writing V → ℕ → V → List ℕ
-value_encoding codec n v = tag_encoding n codec.wire ++ codec.encoding v
-
--- that of a value which may be absent
-abbrev pub some_encoding : {V : Type 0} → Writing V → ℕ → Option V → List ℕ
-some_encoding codec n None = []
-some_encoding codec n (Some v) = value_encoding codec n v
-
 abbrev pub some_records : {V : Type 0} → (V → Datum) → ℕ → Option V → List (ℕ × Datum)
 some_records datum n None = []
 some_records datum n (Some v) = (n, datum v) ∷ []
-
--- a value that isn't written where it is the default
-abbrev pub unless : Bool → List ℕ → List ℕ
-unless true encoding = []
-unless false encoding = encoding
 
 abbrev pub records_unless : Bool → List (ℕ × Datum) → List (ℕ × Datum)
 records_unless true rs = []

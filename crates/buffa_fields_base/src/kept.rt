@@ -12,8 +12,8 @@ ghost use Rattle.buffa_wire.specs.View.{datum_of};
 ghost use Rattle.buffa_fields_base.specs.Layout.{Kept, Passed};
 
 use buffa_wire::{
-    Budget, DecodeContext, DecodeError, Tag, UnknownField, UnknownFields, decode_unknown_field,
-    skip_field_depth,
+    Budget, DecodeContext, DecodeError, Tag, UnknownField, UnknownFields, capped,
+    decode_unknown_field, skip_field_depth,
 };
 use std::alloc::Global;
 use std::marker::Model;
@@ -105,11 +105,7 @@ pub(crate) fn kept_len(fields: &UnknownFields) -> u32
     ensures { result ≡ cap (length (records_encoding fields.now.records)) }
 {
     let total = fields.encoded_len();
-    if total < 4_294_967_295 {
-        total as u32
-    } else {
-        4_294_967_295
-    }
+    capped(total)
 }
 
 /// Passes over the field whose tag was read.

@@ -30,6 +30,6 @@ pub trait Kind: MapCodec {
     /// The encoding of a field is that of its record.
     ghost datum_encoding: { (n : ℕ) (v : Self.Value.Meaning) → tag_encoding n Self.writing.wire ++ Self.writing.encoding v ≡ tagged_encoding n (datum v) };
 
-    /// No other value is, of those that are read.
+    /// Of the values that are read, none but the default is left out.
     ghost blank_only: { (v : Self.Value.Meaning) → Self.normal v → is_blank v ≡ true → v ≡ Self.Value.blank_is };
 }

@@ -5,7 +5,7 @@ ghost use Rattle.std.specs.Int.{cast_unsigned, w64};
 ghost use Rattle.std.proofs.Common.{ap, sym, ◌∙◌};
 ghost use Rattle.buffa_wire.specs.Enums.{open_number};
 ghost use Rattle.buffa_wire.specs.Records.Datum.{varint, fixed32, fixed64, bytes};
-ghost use Rattle.buffa_fields_base.specs.KindLaws.{zero_only, is_nought, is_zero, none_only, nought_only, is_none, same_false_only};
+ghost use Rattle.buffa_fields_base.specs.KindFacts.{zero_only, is_nought, is_zero, none_only, nought_only, is_none, same_false_only};
 ghost use Rattle.std.specs.Prelude.{not};
 
 use crate::kind::Kind;

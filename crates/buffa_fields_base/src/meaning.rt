@@ -2,8 +2,8 @@
 
 use std::marker::Model;
 
-/// What a member means, and what those after it do: the pair, in a type by which a check of twelve members takes no
-/// longer than one of four. It is never made.
+/// What a member means, and what those after it do: the pair, as a type with a name: each member adds to the time of
+/// a check, and none doubles it. It is never made.
 ///
 /// ```ignore
 /// type Meaning = And5<i32, [u8; 0], Option<bool>, [And<[u8; 0], i32>; 0], KeptFields>;

@@ -8,7 +8,7 @@ ghost use Rattle.buffa_wire.specs.Passes.{IsNext, IsSized, IsWritten};
 ghost use Rattle.buffa_wire.specs.Records.{records_of};
 ghost use Rattle.buffa_wire.specs.Encoding.{records_encoding};
 ghost use Rattle.buffa_fields_base.specs.Calls.{MemberTakes, MembersReadBack, MergesIn, WritesMembers};
-ghost use Rattle.buffa_fields_base.specs.LayoutLaws.{comes_free, reads_back};
+ghost use Rattle.buffa_fields_base.specs.LayoutFacts.{comes_free, reads_back};
 ghost use Rattle.buffa_wire.specs.Takes.{cost_of, merged_of};
 
 use crate::fields::Fields;

@@ -4,7 +4,7 @@ ghost use Rattle.std.specs.Prelude.{[], None, refl, ◌==◌};
 ghost use Rattle.std.specs.Option.{option_map};
 ghost use Rattle.buffa_bytes.specs.Front.{check_wire};
 ghost use Rattle.buffa_fields_base.specs.Values.{IfThere, RefusesAlone, ValueTakesMemory, free, some_taken};
-ghost use Rattle.buffa_fields_base.specs.ValueLaws.{some_back};
+ghost use Rattle.buffa_fields_base.specs.ValueFacts.{some_back};
 ghost use Rattle.buffa_fields_base.specs.MemberRecords.{optional_records};
 
 use crate::kind::Kind;
@@ -44,7 +44,7 @@ impl<C: Kind> Member for Optional<C> {
     } };
 
     #[inline(always)]
-    #[tactic(auto, using(crate::specs::LayoutLaws::sized_free), unfolding(crate::specs::MemberRecords::optional_records))]
+    #[tactic(auto, using(crate::specs::LayoutFacts::sized_free), unfolding(crate::specs::MemberRecords::optional_records))]
     fn len(
         number: u32,
         part: &Option<C::Value>,

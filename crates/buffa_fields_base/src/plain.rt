@@ -3,7 +3,7 @@
 ghost use Rattle.std.specs.Prelude.{[], ◌∷◌, refl, ◌==◌};
 ghost use Rattle.buffa_bytes.specs.Front.{check_wire};
 ghost use Rattle.buffa_fields_base.specs.Values.{RefusesAlone, ValueTakesMemory, free, value_taken};
-ghost use Rattle.buffa_fields_base.specs.ValueLaws.{plain_back};
+ghost use Rattle.buffa_fields_base.specs.ValueFacts.{plain_back};
 ghost use Rattle.buffa_fields_base.specs.MemberRecords.{plain_records};
 
 use crate::kind::Kind;
@@ -43,7 +43,7 @@ impl<C: Kind> Member for Plain<C> {
     } };
 
     #[inline(always)]
-    #[tactic(auto, using(crate::specs::LayoutLaws::sized_free), unfolding(crate::specs::MemberRecords::plain_records))]
+    #[tactic(auto, using(crate::specs::LayoutFacts::sized_free), unfolding(crate::specs::MemberRecords::plain_records))]
     fn len(number: u32, part: &C::Value, _cache: &mut SizeCache) -> Result<u32, EncodeError> {
         if C::is_blank(part) {
             Ok(0)

@@ -16,7 +16,7 @@ ghost use Rattle.buffa_fields_base.specs.Values.{RefusesAlone, ValueTakesMemory,
 use crate::kind::Kind;
 use buffa_map_base::codec::{MapCodec, MapValueDecode};
 use buffa_wire::{
-    DecodeContext, DecodeError, EncodeError, EncodeSink, Tag, check_wire_type, varint_len,
+    DecodeContext, DecodeError, EncodeError, EncodeSink, Tag, capped, check_wire_type,
 };
 use std::alloc::Global;
 
@@ -65,13 +65,9 @@ pub fn value_len<C: Kind>(number: u32, value: &C::Value) -> u32
     requires { IsNumber number }
     ensures { result ≡ cap (length (records_encoding ((number, C.datum (C.Value.meaning value.now)) ∷ []))) }
 {
-    let tag = varint_len(u64::from(number) * 8 + u64::from(C::WIRE_TYPE.number())) as u64;
+    let tag = Tag::new(number, C::WIRE_TYPE).encoded_len() as u64;
     let total = C::encoded_len(value).saturating_add(tag);
-    if total < 4_294_967_295 {
-        total as u32
-    } else {
-        4_294_967_295
-    }
+    capped(total)
 }
 
 // Writes a tag and a payload.

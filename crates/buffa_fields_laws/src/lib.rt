@@ -23,7 +23,7 @@ ghost use Rattle.buffa_map.specs.Message.{message_reading};
 ghost use Rattle.buffa_map.specs.Pairs.{means, put};
 ghost use Rattle.buffa_map.specs.Encoding.{AllHold};
 ghost use Rattle.buffa_fields_base.specs.Keep.{IsFieldThere};
-ghost use Rattle.buffa_fields_base.specs.KindLaws.{is_none, is_nought, is_zero};
+ghost use Rattle.buffa_fields_base.specs.KindFacts.{is_none, is_nought, is_zero};
 ghost use Rattle.buffa_fields.specs.Lists.{ElementsTakeMemory, check_list_wire, element_records, elements_taken, packed_records};
 ghost use Rattle.buffa_fields.specs.MapFields.{PairTakesMemory, pair_cost, pair_taken};
 ghost use Rattle.buffa_fields_base.specs.Layout.{Choice, both_need, both_take, is_number};

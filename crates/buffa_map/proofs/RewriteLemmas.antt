@@ -19,7 +19,7 @@ use Rattle.buffa_bytes.proofs.VarintLemmas.{IsVarint-varint_encoding}
 use Rattle.buffa_wire.specs.Sequence.{ParsesEach}
 use Rattle.buffa_map_base.specs.Codec.{Reading, Writing}
 use Rattle.buffa_map_base.specs.Entry.{IsEntry, IsEntryField, blanks}
-use Rattle.buffa_map_base.specs.EnumLaws.{closed_reads_back}
+use Rattle.buffa_map_base.specs.EnumFacts.{closed_reads_back}
 use Rattle.buffa_map_base.specs.Enums.{ClosedFits, closed_reading, closed_writing}
 use Rattle.buffa_map_base.specs.Pairs.{ListsOnce, SamePairs, put}
 use Rattle.buffa_map_base.specs.Rewrite.{IsOrderedClass, IsRewrite, KeepsMeaning, Ordered, Seen, first, is_new, last, seen}

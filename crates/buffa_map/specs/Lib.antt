@@ -1,7 +1,7 @@
 pub use Rattle.buffa_map_base.specs.Pairs
 pub use Rattle.buffa_map_base.specs.Codec
 pub use Rattle.buffa_map_base.specs.Scalars
-pub use Rattle.buffa_map_base.specs.ScalarLaws
+pub use Rattle.buffa_map_base.specs.ScalarFacts
 pub use Rattle.buffa_map_base.specs.Entry
 pub use Rattle.buffa_map_base.specs.Fields
 pub use Rattle.buffa_map_base.specs.Run
@@ -10,11 +10,11 @@ pub use Rattle.buffa_map_base.specs.Parts
 pub use Rattle.buffa_map_base.specs.Lent
 pub use Rattle.buffa_map_base.specs.Encoding
 pub use Rattle.buffa_map_base.specs.Message
-pub use Rattle.buffa_map_base.specs.MessageLaws
+pub use Rattle.buffa_map_base.specs.MessageFacts
 pub use Rattle.buffa_map_base.specs.MessageField
 pub mod Plain
 pub use Rattle.buffa_map_base.specs.Enums
-pub use Rattle.buffa_map_base.specs.EnumLaws
+pub use Rattle.buffa_map_base.specs.EnumFacts
 pub mod Laws
 pub mod Pinned
 pub mod PinnedEncodings

@@ -58,7 +58,7 @@ fn read_anew<KC: MapCodec, VC: MapCodec, C: MapStorage<Key = KC::Value, Value = 
         B.unread buf.old buf.new ctx.entry ctx.exit kept.old kept.new) }
     ensures err { IfErr result (StopsAnew ⟦<Field<KC, VC, C> as Rewrites>⟧.rewriter number map.new
         B.unread buf.old buf.new ctx.entry ctx.exit kept.old kept.new) }
-    ensures buffer { B.beyond buf.new ≡ B.beyond buf.old }
+    ensures kept { B.beyond buf.new ≡ B.beyond buf.old }
 {
     map.storage_clear();
     read_run_by::<KC, VC, C, B, UnknownFields>(alloc, map, number, buf, ctx, kept)

@@ -204,6 +204,3 @@ module _ {K V : Type 0} (key : Reading K) (val : Reading V) (d : ℕ) where
   field_shorter s t r x k =
       let u = agree_ok (entry_field_at key val d s r) (t, x) (field_sound s r) k in
       omega (arith, field_some s t u.0 u.1, ap length u.2, length-append u.0 x)
-
-  pub field_stops : (e : List ℕ) (s : MapEntry K V) (r : List ℕ) (f : DecodeError) → ParsesTo (IsEntryField key val d) (blanks key val d) e s r → 0 < length r → entry_field_at key val d s r ≡ Err f → FaultOf key val d e f
-  field_stops e s r f h n k = (s, r, h, (λ z. absurd (omega (arith, ap length z))), agree_err (entry_field_at key val d s r) f (field_sound s r) k)

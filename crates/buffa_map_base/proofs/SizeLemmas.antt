@@ -1,6 +1,6 @@
 -- Lengths as numbers of 64 bits.
 use Rattle.std.proofs.Common.{◌≡◌, ℕ, ◌+◌, ◌*◌, ◌^◌, ◌<◌, ◌≤◌, nat_lt, Bool, true, false, List, [], ◌∷◌, ◌++◌, length, Option, None, Some, refl, sym, ap, ◌∙◌, arith, length-append, inl, inr, if◌then◌else◌, suc-mul, zero-mul}
-use Rattle.std.proofs.lemmas.Bool.{lt-ltb, le-ltb, ltb-true, ltb-false, cases_lt}
+use Rattle.std.proofs.lemmas.Bool.{lt-ltb, le-ltb, ltb-true, cases_lt}
 use Rattle.std.specs.Option.{SomeIff, IfSome}
 use Rattle.buffa_bytes.specs.Varint.{varint_encoding}
 use Rattle.buffa_bytes.specs.Values.{delimited_encoding, tag_encoding}
@@ -11,13 +11,6 @@ use Rattle.buffa_bytes.proofs.FieldLemmas.{wire_small}
 use Rattle.buffa_bytes.proofs.ShortestLemmas.{varint_encoding-last}
 use Rattle.buffa_map_base.specs.Codec.{Writing}
 use Rattle.buffa_map_base.specs.Encoding.{entry_encoding, record_encoding, field_encoding, field_size, as_u64, saturated}
-
-none_in : (n : ℕ) (b : Bool) → nat_lt n (2 ^ 64) ≡ b → None ≡ (if b then Some n else None) → 2 ^ 64 ≤ n
-none_in n true h e = cc
-none_in n false h e = ltb-false n (2 ^ 64) h
-
-pub as_u64-none : (n : ℕ) → None ≡ as_u64 n → 2 ^ 64 ≤ n
-as_u64-none n h = none_in n (nat_lt n (2 ^ 64)) refl h
 
 some_in : (n k : ℕ) (b : Bool) → nat_lt n (2 ^ 64) ≡ b → Some k ≡ (if b then Some n else None) → (k ≡ n) × (n < 2 ^ 64)
 some_in n k true h e = (cc, ltb-true n (2 ^ 64) h)

@@ -1,5 +1,5 @@
 -- Pairs in the order of their keys: an insertion keeps it, and what their look-ups answer says which they are.
-use Rattle.std.proofs.Common.{◌≡◌, refl, sym, ap, ◌∙◌, Bool, true, false, cond, List, [], ◌∷◌, Option, Some, None}
+use Rattle.std.proofs.Common.{◌≡◌, refl, sym, ap, ◌∙◌, Bool, true, false, cond, List, [], ◌∷◌, ◌++◌, Option, Some, None}
 use Rattle.std.specs.Cmp.{IsTotalOrder, eq_by_cmp_equiv}
 use Rattle.std.specs.List.{AllByRecursion}
 use Rattle.std.specs.List.Sorted.{IsStrictlySortedBy}
@@ -45,6 +45,18 @@ module _ {K V : Type 0} {R : K → K → Ordering} (o : IsTotalOrder R) where
       by Less p i = ((p, below_all o k e.0 (keys_of es) p s.0), s)
       by Equal p i = s
       by Greater p i = (below_put e.0 k v es s.0 (o.antisymm e.0 k ∙ ap ordering_reverse p), i)
+
+  -- the last key goes to the end
+  all_before : (P : K → Type 0) (es : List (K × V)) (k : K) (v : V) (more : List (K × V)) → AllByRecursion P (keys_of (es ++ (k, v) ∷ more)) → P k
+  all_before P [] k v more a = a.0
+  all_before P (e ∷ es) k v more a = all_before P es k v more a.1
+
+  pub put_last : (es : List (K × V)) (k : K) (v : V) (more : List (K × V)) → IsStrictlySortedBy R (keys_of (es ++ (k, v) ∷ more)) → insert_entry R es k v ≡ es ++ (k, v) ∷ []
+  unfolding IsStrictlySortedBy
+  put_last [] k v more s = refl
+  put_last (e ∷ es) k v more s =
+      let greater : R k e.0 ≡ Greater = o.antisymm k e.0 ∙ ap ordering_reverse (all_before (λ y. R e.0 y ≡ Less) es k v more s.0) in
+      ap (λ r. match_ordering r ((k, v) ∷ e ∷ es) ((e.0, v) ∷ es) (e ∷ insert_entry R es k v)) greater ∙ ap (λ xs. e ∷ xs) (put_last es k v more s.1)
 
   -- ---- look-ups
   abbrev find : List (K × V) → K → Option (K × V)

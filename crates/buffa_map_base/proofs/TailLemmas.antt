@@ -4,13 +4,14 @@ use Rattle.std.proofs.lemmas.Bool.{lt-ltb}
 use Rattle.std.proofs.Math.Seq.{drop-append_seam}
 use Rattle.buffa_bytes.proofs.DelimitedLemmas.{delimited_sound, delimited_taken, taken_sound}
 use Rattle.buffa_bytes.proofs.FieldLemmas.{tag_sound}
+use Rattle.buffa_bytes.proofs.LeftLemmas.{past_cut}
 use Rattle.buffa_bytes.proofs.StepLemmas.{agree_err, agree_ok}
 use Rattle.buffa_bytes.proofs.TailLemmas.{tail_dropped}
 use Rattle.buffa_bytes.specs.Left.{past_no_delimited, past_no_varint}
 use Rattle.buffa_bytes.specs.Unread.{IsTailOf}
 use Rattle.buffa_bytes.specs.declared.error.DecodeError.{DecodeError}
 use Rattle.buffa_bytes.specs.declared.error.DecodeError.TheVariants.{UnexpectedEof}
-use Rattle.buffa_wire.proofs.InsideLemmas.{delimited_front}
+use Rattle.buffa_bytes.proofs.LendLemmas.{delimited_front}
 use Rattle.buffa_bytes.specs.declared.wire_type.WireType.{WireType}
 use Rattle.buffa_bytes.specs.Field.{TakesDelimited}
 use Rattle.buffa_bytes.specs.Front.{taken, varint_at, delimited_at, tag_at}
@@ -34,11 +35,7 @@ pub cut_short : (n : ℕ) (bs mid : List ℕ) → varint_at bs ≡ Ok (n, mid) �
 unfolding taken
 cut_short n bs mid v few = rw (v, lt-ltb (length mid) n few) refl
 
--- what follows the length that passes the end; what follows no length
-pub past_cut : (n : ℕ) (bs mid : List ℕ) → varint_at bs ≡ Ok (n, mid) → length mid < n → mid ≡ past_no_delimited bs
-unfolding past_no_delimited
-past_cut n bs mid v few = rw (past_no_delimited, v, lt-ltb (length mid) n few) refl
-
+-- what follows no length
 pub past_short : (bs unread : List ℕ) (f : DecodeError) → varint_at bs ≡ Err f → unread ≡ past_no_varint bs → unread ≡ past_no_delimited bs
 unfolding past_no_delimited
 past_short bs unread f v h = h ∙ sym (rw (past_no_delimited, v) refl)

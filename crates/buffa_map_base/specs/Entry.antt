@@ -75,9 +75,6 @@ module _ {K V : Type 0} (key : Reading K) (val : Reading V) (d : ℕ) where
   abbrev pub EntryOf : List ℕ → List ℕ → MapEntry K V → List ℕ → Type 0
   EntryOf bs e s rest = (t : List ℕ) × IsVarint t (length e) × (bs ≡ t ++ (e ++ rest)) × IsEntry e s
 
-  abbrev pub EntryAt : List ℕ → MapEntry K V → List ℕ → Type 0
-  EntryAt bs s rest = (e : List ℕ) × EntryOf bs e s rest
-
   -- the readings: of the field at the front, and of a whole entry
   abbrev pub entry_field_at : MapEntry K V → List ℕ → Result (MapEntry K V × List ℕ) DecodeError
   entry_field_at s bs = do

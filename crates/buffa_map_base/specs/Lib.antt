@@ -1,7 +1,7 @@
 pub mod Pairs
 pub mod Codec
 pub mod Scalars
-pub mod ScalarLaws
+pub mod ScalarFacts
 pub mod Entry
 pub mod Fields
 pub mod Run
@@ -10,9 +10,9 @@ pub mod Parts
 pub mod Lent
 pub mod Encoding
 pub mod Message
-pub mod MessageLaws
+pub mod MessageFacts
 pub mod MessageField
 pub mod Enums
 pub mod Rewrite
 pub mod Calls
-pub mod EnumLaws
+pub mod EnumFacts

@@ -4,7 +4,7 @@ ghost use Rattle.std.specs.Prelude.{false, refl, true};
 ghost use Rattle.std.proofs.Common.{Ok, ap};
 ghost use Rattle.buffa_bytes.specs.Content.Content.{number};
 ghost use Rattle.buffa_map_base.specs.Scalars.{number_reading, number_writing};
-ghost use Rattle.buffa_map_base.specs.ScalarLaws.{always_known, never_faulty};
+ghost use Rattle.buffa_map_base.specs.ScalarFacts.{always_known, never_faulty};
 
 use crate::codec::sealed::Sealed;
 use crate::codec::{MapCodec, MapValueDecode, MapValueDecodeStatus};

@@ -5,7 +5,7 @@ ghost use Rattle.buffa_bytes.specs.declared.wire_type.WireType.TheVariants.{Leng
 ghost use Rattle.buffa_wire.specs.Message.{merged_in};
 ghost use Rattle.buffa_bytes.specs.Content.{bytes_in};
 ghost use Rattle.buffa_map_base.specs.Message.{message_reading};
-ghost use Rattle.buffa_map_base.specs.MessageLaws.{meant_known, meant_no_limit};
+ghost use Rattle.buffa_map_base.specs.MessageFacts.{meant_known, meant_no_limit};
 
 use buffa_map_base::codec::sealed::Sealed;
 use buffa_map_base::codec::{MapValueDecode, MapValueDecodeStatus};

@@ -12,20 +12,18 @@ use Rattle.buffa_bytes.proofs.StepLemmas.{agree_ok}
 use Rattle.buffa_wire.specs.Records.{Datum}
 use Rattle.buffa_map_base.specs.Entry.{EntryFault, FaultOf, IsEntry, blanks, inner_need, need_at, need_of}
 use Rattle.buffa_map_base.specs.Fields.{EntryFieldsTakeMemory}
-use Rattle.buffa_map_base.specs.Merge.{EntryTakesMemory, MergesEntry, RefusesEntry, Rules, State, state}
+use Rattle.buffa_map_base.specs.Merge.{EntryTakesMemory, MergesEntry, RefusesEntry, Rules, state}
 use Rattle.buffa_map_base.specs.Parts.{ReadsParts, RefusesCut, RefusesParts}
 use Rattle.buffa_map_base.specs.Pairs.{InOrder, SamePairs, put}
 use Rattle.buffa_map_base.specs.declared.map_entry.MapEntry.{MapEntry}
-use Rattle.buffa_map_base.proofs.TailLemmas.{cut_front, cut_short, past_cut, delimited_tail, one_rest}
+use Rattle.buffa_bytes.proofs.LeftLemmas.{past_cut}
+use Rattle.buffa_map_base.proofs.TailLemmas.{cut_front, cut_short, delimited_tail, one_rest}
 use Rattle.buffa_bytes.specs.Unread.{IsTailOf}
 use Rattle.buffa_bytes.proofs.TailLemmas.{tail_whole}
 use Rattle.buffa_bytes.specs.Field.{TakesDelimited}
 use Rattle.buffa_map_base.proofs.NeedLemmas.{entry_charged, entry_found, entry_refused, entry_short, entry_without, no_length}
 
 module _ {K V : Type 0} (r : Rules K V) (pairs : List (K × V)) (records : List (ℕ × Datum)) (left : BudgetLeft) (bs : List ℕ) where
-  abbrev old : State K V
-  old = state pairs records left
-
   abbrev fields_need : List ℕ → BudgetLeft
   fields_need e = need_at r.key r.val r.depth (blanks r.key r.val r.depth) e
 

@@ -11,7 +11,7 @@ ghost use Rattle.buffa_wire.specs.Message.{merged_in};
 ghost use Rattle.buffa_map_base.specs.Calls.{MergesMessages};
 ghost use Rattle.buffa_map_base.specs.Codec.{AlwaysDeclared, Reading, RefusesValue, Spends, ReadingTakesMemory, is_known, value_at, value_need};
 ghost use Rattle.buffa_map_base.specs.Message.{message_reading};
-ghost use Rattle.buffa_map_base.specs.MessageLaws.{meant_known};
+ghost use Rattle.buffa_map_base.specs.MessageFacts.{meant_known};
 
 use crate::message_merge::merge_value_by;
 use buffa_map_base::codec::{MapValueDecode, MapValueDecodeStatus};

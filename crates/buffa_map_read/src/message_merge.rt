@@ -5,7 +5,7 @@ ghost use Rattle.buffa_bytes.specs.Gives.{FullOnlyIf};
 ghost use Rattle.buffa_bytes.specs.Front.{delimited_at};
 ghost use Rattle.buffa_bytes.specs.declared.error.DecodeError.TheVariants.{OutOfMemory};
 ghost use Rattle.buffa_wire.specs.BudgetLeft.{PaysAtMost, budget_left};
-ghost use Rattle.buffa_wire.specs.Message.{MergesInside, MessageFault, cost_of_payload};
+ghost use Rattle.buffa_wire.specs.Message.{MergesBytes, MergesInside, MessageFault, cost_of_payload};
 ghost use Rattle.buffa_map_base.specs.Calls.{MergesEntryIn, MergesMessages, RefusesEntryIn};
 ghost use Rattle.buffa_map_base.specs.Codec.{RefusesValue, Spends, ReadingTakesMemory, value_at, value_need};
 ghost use Rattle.buffa_map_base.specs.Message.{message_reading};
@@ -13,15 +13,32 @@ ghost use Rattle.buffa_map_base.specs.Message.{message_reading};
 use crate::entry::merge_entry_by;
 use crate::keep::Dropped;
 use crate::merge_value::ByFunction;
-use buffa_bytes::buf::{copy_bytes, front};
 use buffa_map_base::codec::MapCodec;
 use buffa_map_base::field::{Messages, Reads};
 use buffa_map_base::storage::MapStorage;
-use buffa_wire::{Budget, Buf, DecodeContext, DecodeError, MessageSpec, decode_varint};
+use buffa_wire::types::with_delimited;
+use buffa_wire::{Budget, Buf, DecodeContext, DecodeError, MessageSpec};
 use std::alloc::Global;
 
-// Merges the length and so many bytes at the front, one level down, by a function. Bytes that lie together are
-// merged where they lie; others are put together first.
+// Merges bytes by a function.
+fn merge_bytes_by<M: MessageSpec, F>(
+    value: &mut M,
+    bytes: &[u8],
+    depth: u32,
+    budget: &mut Budget,
+    merge: &F,
+) -> Result<(), DecodeError>
+where
+    F: Fn(&mut M, &[u8], u32, &mut Budget) -> Result<(), DecodeError>,
+    requires may { (x : _) (b : _) (w : _) → F.pre merge.now x b depth w }
+    requires keeps { MergesMessages (F.post merge.now) M.meaning M.merged M.cost (depth + 1) }
+    ensures { MergesBytes M.merged M.cost depth (M.meaning value.old) bytes.now budget.old result (M.meaning value.new)
+        budget.new }
+{
+    merge(value, bytes, depth, budget)
+}
+
+// Merges the length and so many bytes at the front, one level down, by a function.
 fn merge_payload_by<M: MessageSpec, B: Buf, F>(
     alloc: Global,
     value: &mut M,
@@ -47,14 +64,17 @@ where
     if depth == 0 {
         return Err(DecodeError::RecursionLimitExceeded);
     }
-    let len = decode_varint(buf)?;
-    if let Some(part) = front(buf, len) {
-        let merged = merge(value, part, depth - 1, &mut *budget);
-        buf.advance(len as usize);
-        return merged;
-    }
-    let payload = copy_bytes(alloc, buf, len)?;
-    merge(value, &payload, depth - 1, &mut *budget)
+    let inside = depth - 1;
+    with_delimited(
+        alloc,
+        buf,
+        &mut |payload: &[u8]|
+            requires may { (x : _) (b : _) (w : _) → F.pre merge.now x b inside w }
+            requires keeps { MergesMessages (F.post merge.now) M.meaning M.merged M.cost (inside + 1) }
+            ensures { MergesBytes M.merged M.cost inside (M.meaning value.entry.now) payload.now budget.entry.now result
+                (M.meaning value.exit.now) budget.exit.now }
+        { merge_bytes_by(value, payload, inside, &mut *budget, merge) },
+    )
 }
 
 // The same, said as merging by the codec of messages is.

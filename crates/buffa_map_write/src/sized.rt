@@ -8,7 +8,7 @@ use crate::size::field_len;
 use crate::write::write_field;
 use buffa_map_base::codec::MapCodec;
 use buffa_map_base::storage::{MapStorage, MapWalk};
-use buffa_wire::{EncodeError, varint_len};
+use buffa_wire::{EncodeError, Tag, WireType};
 
 /// Sizes a map field, and writes it behind what the vector has: the size is the number of bytes written, for
 /// any storage, also one whose walks differ.
@@ -35,7 +35,7 @@ where
     ensures encoding { WritesMapField C.equal C.walks C.pairs map.now KC.writing VC.writing KC.fits VC.fits number
         (λ t. t.items) (λ t. vec_capacity t - vec_len t) sink.old sink.new result }
 {
-    let tag_len = varint_len(u64::from(number) * 8 + 2) as u64;
+    let tag_len = Tag::new(number, WireType::LengthDelimited).encoded_len() as u64;
     let size = field_len::<KC, VC, C>(map, tag_len);
     write_field::<KC, VC, C, Vec<u8>>(map, number, sink)?;
     // A vector has fewer than 2^64 bytes, so that the size isn't capped.

@@ -23,7 +23,7 @@ use Rattle.buffa_bytes.proofs.ScanLemmas.{Leads, Shortens, if_leads, if_short, p
 use Rattle.buffa_bytes.specs.Gives.{FullOnlyIf, Gives}
 use Rattle.buffa_bytes.specs.Unread.{IsFrontOf}
 use Rattle.buffa_wire.specs.Sequence.{ParsesEach, ParsesTo, join}
-use Rattle.buffa_wire.proofs.InsideLemmas.{delimited_front}
+use Rattle.buffa_bytes.proofs.LendLemmas.{delimited_front}
 use Rattle.buffa_wire.proofs.SequenceLemmas.{ParsesTo-first, ParsesTo-more, ok_same}
 use Rattle.buffa_message_set.specs.Item.{BytesAt, EndFault, ItemFieldFault, HasMessage, IsItemField, IsMessageAt, IsOther, IsOutOfRange, IsTypeId, Item, ItemFault, Reaches, Said, TakesItem, TypeIdFault, appended_at, body_encoding, ends_item, ended, item_field_at, item_at, item_from, item_step, said, says, type_id_at, unsaid}
 

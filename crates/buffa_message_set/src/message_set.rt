@@ -7,7 +7,7 @@
 //! use buffa::message_set::{ITEM_START_TAG, merge_item, write_item};
 //!
 //! write_item(1000, b"hello", &mut sink)?; // 0B 10 E8 07 1A 05 68 65 6C 6C 6F 0C
-//! let (number, payload) = merge_item(alloc, &mut rest, ctx.descend()?)?;
+//! let (number, payload) = merge_item(alloc, &mut rest, ctx.descend()?)?; // `rest` is past the start tag
 //! ```
 
 ghost use Rattle.std.specs.Prelude.{◌≡◌, ◌≢◌, ◌^◌, ◌<◌, ◌++◌, ◌==◌, ◌&&◌, ℕ, List, length, Ok, Err, IfErr, IfOk, IsOk, MatchResult};

@@ -24,21 +24,21 @@ use Rattle.buffa_map.specs.Entry.{need_at}
 use Rattle.buffa_map.specs.Laws.{LimitsAreTrue}
 use Rattle.buffa_map.specs.Merge.{MergesEntry, RefusesEntry, Rules, dropping, keeping, state}
 use Rattle.buffa_map.specs.Message.{message_reading}
-use Rattle.buffa_map.specs.MessageLaws.{meant_no_limit}
+use Rattle.buffa_map.specs.MessageFacts.{meant_no_limit}
 use Rattle.buffa_map.specs.Pairs.{SamePairs, means}
 use Rattle.buffa_map.specs.Run.{step}
-use Rattle.buffa_map.specs.ScalarLaws.{never_faulty, string_no_limit}
+use Rattle.buffa_map.specs.ScalarFacts.{never_faulty, string_no_limit}
 use Rattle.buffa_map.specs.declared.map_entry.MapEntry.{MapEntry}
 use Rattle.buffa_wire.specs.Kept.{keep_need}
 use Rattle.buffa_fields_base.specs.Keep.{keep_takes}
 use Rattle.buffa_wire.specs.Takes.{IsTaken}
 use Rattle.buffa_wire.proofs.ByPayloadLemmas.{merges_taken}
-use Rattle.buffa_fields_base.specs.PairLaws.{part_taken}
+use Rattle.buffa_fields_base.specs.PairFacts.{part_taken}
 use Rattle.buffa_fields.proofs.OrderedLemmas.{is_put, sorted_means}
 use Rattle.buffa_fields.specs.Entries.{entry_cost, entry_taken}
-use Rattle.buffa_fields.specs.EntriesLaws.{IsCost, entry_err, entry_ok, entry_wire_err}
+use Rattle.buffa_fields.specs.EntriesFacts.{IsCost, entry_err, entry_ok, entry_wire_err}
 use Rattle.buffa_fields.specs.MapFields.{stepped}
-use Rattle.buffa_fields.specs.MapLaws.{map_err, map_ok}
+use Rattle.buffa_fields.specs.MapFacts.{map_err, map_ok}
 use Rattle.buffa_node.specs.Branch.{Branch, Kept, Scores, Shades, bare, branch, kids, listed-kids, shade_number}
 use Rattle.buffa_node.specs.declared.shade.Shade.{Shade}
 use Rattle.buffa_node.proofs.LoopLemmas.{by_payloads}

@@ -12,7 +12,7 @@ use Rattle.buffa_bytes.specs.Front.{tag_at}
 use Rattle.buffa_node.specs.Branch.{Branch}
 use Rattle.buffa_wire.proofs.ByPayloadLemmas.{ByPayload, by_payload, cost_empty, cost_join, merged_empty, merged_join}
 use Rattle.buffa_wire.proofs.MessageLemmas.{join_more}
-use Rattle.buffa_node.specs.NodeLaws.{cost_is, merged_is, stays}
+use Rattle.buffa_node.specs.NodeFacts.{cost_is, merged_is, stays}
 use Rattle.buffa_node.specs.NodeMeaning.{cost, merged, need, takes}
 use Rattle.buffa_node.specs.Stops.{Stops, refusal}
 

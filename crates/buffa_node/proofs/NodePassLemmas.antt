@@ -40,12 +40,6 @@ cap_sum a b x y s h k e = omega (arith, h, k, e)
 cap_saturated : (a x : ℕ) → x ≡ saturated a → cap x ≡ cap a
 cap_saturated a x h = omega (arith, h)
 
-cap_low : (a s : ℕ) → cap s ≡ cap a → s < 4294967295 → s ≡ cap a
-cap_low a s h l = omega (arith, h, l)
-
-cap_high : (a s : ℕ) → cap s ≡ cap a → 4294967295 ≤ s → 4294967295 ≡ cap a
-cap_high a s h l = omega (arith, h, l)
-
 size_is : {K V : Type 0} (kw : Writing K) (vw : Writing V) (n : ℕ) (l : List (K × V)) → length (tag_encoding n LengthDelimited) ≡ 1 → length (field_encoding kw vw n l) ≡ field_size kw vw 1 l
 size_is kw vw n l one = length-field_encoding kw vw n l ∙ ap (λ (k : ℕ). field_size kw vw k l) one
 
@@ -84,8 +78,8 @@ module _ (t : Branch) (a : Scores) (es : List (ℤ × Branch)) (h : Shades) (r :
   -- ---- the size
   module _ (x y z u p q s : ℕ) (l : Scores) (m : Shades) (scores_walk : l ≡ a) (shades_walk : m ≡ h) (scores_sized : x ≡ saturated (field_size text_writing number_writing 1 l)) (kids_sized : cap y ≡ cap (field_size number_writing (delimited_writing encoding) 1 (meant es)))
       (shades_sized : z ≡ saturated (field_size number_writing closed_writing 1 m)) (rest_sized : u ≡ min (length (records_encoding r)) top) (first : p ≡ min (x + y) top) (second : q ≡ min (p + z) top) (third : s ≡ min (q + u) top) where
-    total : cap s ≡ cap (length (encoding t))
-    total =
+    pub total_capped : cap s ≡ cap (length (encoding t))
+    total_capped =
         let one : length (scores_encoding a) ≡ field_size text_writing number_writing 1 a = size_is text_writing number_writing 1 a (ap length (varint_encoding-last 10 (omega arith))) in
         let two : length Children ≡ field_size number_writing (delimited_writing encoding) 1 (meant es) = size_is number_writing (delimited_writing encoding) 2 (meant es) (ap length (varint_encoding-last 18 (omega arith))) in
         let three : length (shades_encoding h) ≡ field_size number_writing closed_writing 1 h = size_is number_writing closed_writing 3 h (ap length (varint_encoding-last 26 (omega arith))) in
@@ -98,12 +92,6 @@ module _ (t : Branch) (a : Scores) (es : List (ℤ × Branch)) (h : Shades) (r :
         let s_is = cap_sum ((length (scores_encoding a) + length Children) + length (shades_encoding h)) (length (records_encoding r)) q u s q_is u_is third in
         let all : ((length (scores_encoding a) + length Children) + length (shades_encoding h)) + length (records_encoding r) ≡ length (encoding t) = omega (arith, length_is) in
         s_is ∙ ap cap all
-
-    pub small_total : s < 4294967295 → s ≡ cap (length (encoding t))
-    small_total low = cap_low (length (encoding t)) s total low
-
-    pub large_total : 4294967295 ≤ s → 4294967295 ≡ cap (length (encoding t))
-    large_total high = cap_high (length (encoding t)) s total high
 
   -- ---- the encoding
   module _ (c d : Cache) (b0 b1 b2 b3 b4 : List ℕ) where

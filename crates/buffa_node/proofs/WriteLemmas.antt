@@ -1,16 +1,13 @@
 -- Writing a map field in a message.
-use Rattle.std.proofs.Common.{◌≡◌, ℕ, ◌≤◌, List, [], ◌∷◌, ◌++◌, length, length-append, Result, Ok, Err, sym, ap, subst, arith}
+use Rattle.std.proofs.Common.{◌≡◌, ℕ, List, [], ◌++◌, length, Result, Ok, Err, sym, ap, subst, arith}
 use Rattle.buffa_bytes.specs.declared.error.EncodeError.{EncodeError}
 use Rattle.buffa_bytes.specs.declared.error.EncodeError.TheVariants as error
-use Rattle.buffa_bytes.specs.declared.wire_type.WireType.TheVariants.{LengthDelimited}
 use Rattle.buffa_wire.proofs.PassLemmas.{consumes_none, written_none}
 use Rattle.buffa_wire.specs.Cache.{Cache}
 use Rattle.buffa_wire.specs.Passes.{IsSmall, WritesIf}
-use Rattle.buffa_bytes.specs.Values.{delimited_encoding, tag_encoding}
-use Rattle.buffa_bytes.specs.Varint.{varint_encoding}
 use Rattle.buffa_map.specs.Codec.{Writing}
-use Rattle.buffa_map.specs.Encoding.{RefusesField, entry_encoding, field_encoding, record_encoding}
-use Rattle.buffa_fields.specs.MapLaws.{map_encoding, map_unwritten}
+use Rattle.buffa_map.specs.Encoding.{RefusesField, field_encoding}
+use Rattle.buffa_fields.specs.MapFacts.{long_in, map_encoding, map_unwritten}
 use Rattle.buffa_node.specs.Writes.{WritesSmall, only_memory}
 
 abbrev good : Result (Unit {0}) EncodeError
@@ -23,14 +20,10 @@ module _ {K V : Type 0} (kw : Writing K) (vw : Writing V) (n : ℕ) (l m : List 
   pub map_put : new ≡ old ++ field_encoding kw vw n l → WritesSmall (field_encoding kw vw n m) old good new
   map_put h = (field_encoding kw vw n l, h, λ small. ap (field_encoding kw vw n) walk)
 
-  long_in : (done : List (K × V)) (p : K × V) (rest : List (K × V)) → length (entry_encoding kw vw p) ≤ length (field_encoding kw vw n (done ++ p ∷ rest))
-  long_in [] p rest = omega (arith, length-append (record_encoding kw vw n p) (field_encoding kw vw n rest), length-append (tag_encoding n LengthDelimited) (delimited_encoding (entry_encoding kw vw p)), length-append (varint_encoding (length (entry_encoding kw vw p))) (entry_encoding kw vw p))
-  long_in (q ∷ qs) p rest = omega (arith, long_in qs p rest, length-append (record_encoding kw vw n q) (field_encoding kw vw n (qs ++ p ∷ rest)))
-
   by_error : (e : EncodeError) → RefusesField kw vw n old new l e → WritesSmall (field_encoding kw vw n m) old (only_memory e) new
   by_error error.OutOfMemory h = subst (λ t. WritesSmall t old (bad error.OutOfMemory) new) (map_encoding kw vw n m) (map_unwritten kw vw n l m old new walk error.OutOfMemory h)
   by_error error.MessageTooLarge (done, p, rest, split, has, long, h) =
-      (field_encoding kw vw n done, h, λ small. absurd (omega (arith, small, long, long_in done p rest, ap (λ (z : List (K × V)). length (field_encoding kw vw n z)) split, ap (λ (z : List (K × V)). length (field_encoding kw vw n z)) walk)))
+      (field_encoding kw vw n done, h, λ small. absurd (omega (arith, small, long, long_in kw vw n done p rest, ap (λ (z : List (K × V)). length (field_encoding kw vw n z)) split, ap (λ (z : List (K × V)). length (field_encoding kw vw n z)) walk)))
   by_error (error.GroupRefused e) h = absurd h
 
   pub map_unput : (e : EncodeError) (r : Result (Unit {0}) EncodeError) → r ≡ only_memory e → RefusesField kw vw n old new l e → WritesSmall (field_encoding kw vw n m) old r new

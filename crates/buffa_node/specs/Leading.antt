@@ -13,7 +13,7 @@ use Rattle.buffa_bytes.specs.Values.{delimited_encoding, tag_encoding}
 use Rattle.buffa_bytes.specs.Varint.{varint_encoding}
 use Rattle.buffa_bytes.proofs.FieldLemmas.{is_tag}
 use Rattle.buffa_wire.specs.Takes.{Leads, Piece, Taker}
-use Rattle.buffa_fields.specs.OrderedLaws.{put_last}
+use Rattle.buffa_map_base.proofs.SortedLemmas.{put_last}
 
 -- any number may be a field's
 abbrev pub any : ℕ → Bool

@@ -2,7 +2,7 @@ pub mod Branch
 pub mod BranchFacts
 pub mod NodeMeaning
 pub mod NodeEncoding
-pub mod NodeLaws
+pub mod NodeFacts
 pub mod Nesting
 pub mod Leading
 pub mod NodeBackFacts

@@ -26,18 +26,18 @@ use Rattle.buffa_bytes.specs.Varint.{varint_encoding}
 use Rattle.buffa_map.proofs.BackLemmas.{IsReadBack, entry_back}
 use Rattle.buffa_map.proofs.EntryLemmas.{entry_complete}
 use Rattle.buffa_map.specs.Codec.{Writing, level}
-use Rattle.buffa_map.specs.EnumLaws.{closed_reads_back}
+use Rattle.buffa_map.specs.EnumFacts.{closed_reads_back}
 use Rattle.buffa_map.specs.Enums.{ClosedFits, closed_writing}
 use Rattle.buffa_map.specs.Message.{meant}
 use Rattle.buffa_map.specs.Run.{pair_entry}
-use Rattle.buffa_map.specs.ScalarLaws.{string_reads_back}
+use Rattle.buffa_map.specs.ScalarFacts.{string_reads_back}
 use Rattle.buffa_map.specs.Scalars.{IsText, delimited_writing}
 use Rattle.buffa_map.specs.Encoding.{AllHold, HasEncoding, entry_encoding, field_encoding, record_encoding}
 use Rattle.buffa_fields.specs.Entries.{entry_taken}
-use Rattle.buffa_fields.specs.EntriesLaws.{read_entry}
+use Rattle.buffa_fields.specs.EntriesFacts.{read_entry}
 use Rattle.buffa_fields.specs.MapFields.{map_records, stepped}
-use Rattle.buffa_fields.specs.MapLaws.{map_has_encoding}
-use Rattle.buffa_fields_base.specs.PairLaws.{fits_both, joined-append, leads_both}
+use Rattle.buffa_fields.specs.MapFacts.{map_has_encoding}
+use Rattle.buffa_fields_base.specs.PairFacts.{fits_both, joined-append, leads_both}
 use Rattle.buffa_fields_base.specs.Keep.{keep_takes, record_in}
 use Rattle.buffa_wire.specs.Takes.{Leads, Piece, Taker, joined, merged_of}
 use Rattle.buffa_wire.proofs.TakesLemmas.{back as leads_back}

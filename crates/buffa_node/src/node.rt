@@ -22,7 +22,7 @@ use buffa_map::map_codec::{
 };
 use buffa_wire::{
     Blank, Budget, Buf, DecodeContext, DecodeError, EncodeError, EncodeSink, Message, MessageSpec,
-    SizeCache, Tag, UnknownFields, WireType, check_wire_type,
+    SizeCache, Tag, UnknownFields, WireType, capped, check_wire_type,
 };
 use std::alloc::Global;
 use std::collections::BTreeMap;
@@ -89,7 +89,7 @@ impl MessageSpec for Node {
     ghost use Rattle.std.proofs.Common.{arith};
     ghost use Rattle.buffa_node.specs.NodeEncoding.{IsNormal, levels, records};
     ghost use Rattle.buffa_node.specs.NodeBackFacts.{back};
-    ghost use Rattle.buffa_node.specs.NodeLaws.{cost_is, encoding_records, merged_is, stays};
+    ghost use Rattle.buffa_node.specs.NodeFacts.{cost_is, encoding_records, merged_is, stays};
     ghost use Rattle.buffa_node.specs.NodeMeaning.{need, takes};
 
     const COST: usize = 96;
@@ -184,11 +184,7 @@ pub fn size_node(node: &Node, cache: &mut SizeCache) -> Result<u32, EncodeError>
     let shades = field_len::<Int32, ClosedEnum<Shade>, BTreeMap<i32, Shade>>(&node.shades, 1);
     let maps = scores.saturating_add(children).saturating_add(shades);
     let total = maps.saturating_add(node.rest.encoded_len());
-    if total < 4_294_967_295 {
-        Ok(total as u32)
-    } else {
-        Ok(4_294_967_295)
-    }
+    Ok(capped(total))
 }
 
 // The write pass of the children, by a function that writes a child. Its contract names no trait, so that the goals of

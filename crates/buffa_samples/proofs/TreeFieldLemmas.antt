@@ -21,9 +21,9 @@ use Rattle.buffa_map.specs.declared.map_entry.MapEntry.{MapEntry}
 use Rattle.buffa_wire.proofs.CostLemmas.{paid}
 use Rattle.buffa_wire.proofs.ByPayloadLemmas.{ByPayload, by_payload}
 use Rattle.buffa_samples.specs.Fields.{int32_field, skipped_field, value_field}
-use Rattle.buffa_samples.specs.FieldsLaws.{value_sound}
+use Rattle.buffa_samples.specs.FieldsFacts.{value_sound}
 use Rattle.buffa_samples.specs.Grown.{Grown, Kids, grown, kids, listed-kids}
-use Rattle.buffa_samples.specs.TreeLaws.{cost_is, merged_is, stays, tree_same, tree_sound, tree_stays}
+use Rattle.buffa_samples.specs.TreeFacts.{cost_is, merged_is, stays, tree_same, tree_sound, tree_stays}
 use Rattle.buffa_samples.specs.TreeMeaning.{ChildCost, ChildMeaning, IsChildMerged, child_at, cost, entry_need, merged, need, takes, tree_field, tree_need, with_child, with_label}
 
 abbrev pub done : Result (Unit {0}) DecodeError

@@ -18,14 +18,14 @@ use Rattle.buffa_map.proofs.PutLemmas.{SamePairs-insert_entry}
 use Rattle.buffa_map.specs.Entry.{EntryFault, EntryOf, IsEntry, IsEntryField, blanks, inner_need, need_at, need_of}
 use Rattle.buffa_map.specs.Merge.{MergesEntry, RefusesEntry, dropping, state}
 use Rattle.buffa_map.specs.Message.{message_reading}
-use Rattle.buffa_map.specs.MessageLaws.{meant_known}
+use Rattle.buffa_map.specs.MessageFacts.{meant_known}
 use Rattle.buffa_map.specs.Pairs.{SamePairs, put}
 use Rattle.buffa_wire.specs.Sequence.{ParsesEach}
 use Rattle.buffa_map.specs.Run.{step}
 use Rattle.buffa_map.specs.declared.map_entry.MapEntry.{MapEntry}
 use Rattle.buffa_map_base.proofs.SortedLemmas.{same_sorted, sorted_put}
 use Rattle.buffa_samples.specs.Grown.{Grown, grown, no_kids}
-use Rattle.buffa_samples.specs.TreeLaws.{entry_no_limit}
+use Rattle.buffa_samples.specs.TreeFacts.{entry_no_limit}
 use Rattle.buffa_samples.specs.TreeMeaning.{ChildCost, ChildMeaning, IsChildMerged, child_at, child_reading, cost, entry_need, key_reading, merged}
 use Rattle.buffa_samples.specs.TreeEncoding.{meant, meant-is}
 

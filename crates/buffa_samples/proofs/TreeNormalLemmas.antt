@@ -28,7 +28,7 @@ use Rattle.buffa_map.specs.Entry.{IsEntry, IsEntryField, blanks}
 use Rattle.buffa_map.specs.declared.map_entry.MapEntry.{MapEntry}
 use Rattle.buffa_map_base.proofs.SortedLemmas.{sorted_put}
 use Rattle.buffa_samples.specs.Fields.{int32_field, skipped_field}
-use Rattle.buffa_samples.specs.FieldsLaws.{Keeps, merged_keeps}
+use Rattle.buffa_samples.specs.FieldsFacts.{Keeps, merged_keeps}
 use Rattle.buffa_samples.specs.Grown.{Grown, grown, kids, kids-listed, listed, listed-kids, no_kids}
 use Rattle.buffa_samples.specs.TreeMeaning.{ChildMeaning, child_at, child_field, child_reading, key_reading, merged, tree_field, with_child, with_label}
 use Rattle.buffa_samples.specs.TreeEncoding.{AreNormal, IsNormal}
@@ -57,9 +57,9 @@ kids_listed_normal (grown l ks) h k u f n = (
 label_normal : (t : Grown) → IsNormal t → (l : ℤ) → FitsSigned w32 l → IsNormal (with_label t l)
 label_normal (grown l ks) h m f = (f, h.1, h.2)
 
-blank_normal : IsNormal (grown (pos 0) no_kids)
+pub blank_is_normal : IsNormal (grown (pos 0) no_kids)
 unfolding IsStrictlySortedBy
-blank_normal = (int32_fits 0, tt, tt)
+blank_is_normal = (int32_fits 0, tt, tt)
 
 -- ---- an entry, where what a level below makes of a normal tree is one
 abbrev Stays : ChildMeaning → Type 0
@@ -90,7 +90,7 @@ module _ (m : ChildMeaning) (stays : Stays m) where
   each d (p ∷ ps) s t (u, h, k) said = each d ps u t k (one d s u p h said)
 
   entry : (d : ℕ) (e : List ℕ) (s : MapEntry ℤ Grown) → IsEntry key_reading (child_reading m (λ _. nothing)) d e s → Said s
-  entry d e s (ps, is, h) = each d ps (blanks key_reading (child_reading m (λ _. nothing)) d) s h (int32_fits 0, blank_normal)
+  entry d e s (ps, is, h) = each d ps (blanks key_reading (child_reading m (λ _. nothing)) d) s h (int32_fits 0, blank_is_normal)
 
   -- ---- a field
   abbrev Any : DecodeError → Type 0
@@ -132,6 +132,3 @@ none_stays t u bs n h = cc
 pub stays : (d : ℕ) → Stays (merged d)
 stays zero t u bs n h = merged_keeps (tree_field zero (λ _ _. None)) IsNormal (field_keeps (λ _ _. None) none_stays zero) t bs u n h
 stays (suc d) t u bs n h = merged_keeps (tree_field (suc d) (merged d)) IsNormal (field_keeps (merged d) (stays d) (suc d)) t bs u n h
-
-pub blank_is_normal : IsNormal (grown (pos 0) no_kids)
-blank_is_normal = blank_normal

@@ -46,11 +46,8 @@ module _ (t : Grown) (l : ℤ) (es : List (ℤ × Grown)) (is : grown l (kids es
   small_kids h = small_field key_writing encoding 1 (meant es) (omega (arith, length_is, h))
 
   module _ (n label total : ℕ) (sized : cap n ≡ cap (field_size key_writing (delimited_writing encoding) 1 (meant es))) (labelled : label ≡ length (value_encoding l)) (summed : total ≡ min (n + label) 18446744073709551615) where
-    pub small_total : total < 4294967295 → total ≡ cap (length (encoding t))
-    small_total h = omega (arith, length_is, sized, labelled, summed)
-
-    pub large_total : 4294967295 ≤ total → 4294967295 ≡ cap (length (encoding t))
-    large_total h = omega (arith, length_is, sized, labelled, summed)
+    pub total_capped : cap total ≡ cap (length (encoding t))
+    total_capped = omega (arith, length_is, sized, labelled, summed)
 
 -- a child is smaller than the tree
 low_in : (es : List (ℤ × Grown)) (x : Grown) → Contains (values_of (meant es)) x → height x ≤ heights (kids es)

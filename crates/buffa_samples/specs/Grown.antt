@@ -12,9 +12,6 @@ mutual
     no_kids : Kids
     kid : ℤ → Grown → Kids → Kids
 
-abbrev pub label_of : Grown → ℤ
-label_of (grown l ks) = l
-
 abbrev pub kids_of : Grown → Kids
 kids_of (grown l ks) = ks
 

@@ -2,12 +2,10 @@
 use Rattle.std.proofs.Common.{◌≡◌, inl, inr, refl, sym, ap, subst, ◌∙◌, arith, ℕ, zero, suc, ℤ, pos, negsuc, FitsSigned, ◌^◌, ◌<◌, ◌≤◌, ◌++◌, true, List, [], ◌∷◌, length, length-append, append_assoc, append-nil, Some, None, Ok}
 use Rattle.std.specs.Cmp.{int_cmp_total}
 use Rattle.std.specs.Int.{cast_unsigned, w32, w64}
-use Rattle.std.specs.List.{AllByRecursion}
 use Rattle.std.specs.List.Sorted.{IsStrictlySortedBy}
 use Rattle.std.specs.Map.{keys_of}
 use Rattle.std.specs.BTreeMap.{insert_entry}
-use Rattle.std.specs.Ordering.{int_cmp, match_ordering, ordering_reverse}
-use Rattle.std.specs.declared.cmp.Ordering.TheVariants.{Less, Greater}
+use Rattle.std.specs.Ordering.{int_cmp}
 use Rattle.buffa_bytes.proofs.DelimitedLemmas.{delimited_back}
 use Rattle.buffa_bytes.proofs.IntLemmas.{int32_back, int32_below, int32_means}
 use Rattle.buffa_bytes.proofs.VarintLemmas.{IsVarint-varint_encoding}
@@ -20,30 +18,19 @@ use Rattle.buffa_wire.specs.Records.{records_of}
 use Rattle.buffa_bytes.specs.Values.{delimited_encoding, int32_encoding, tag_encoding}
 use Rattle.buffa_bytes.specs.Varint.{varint_encoding}
 use Rattle.buffa_bytes.proofs.FieldLemmas.{is_tag}
+use Rattle.buffa_map_base.proofs.SortedLemmas.{put_last}
 use Rattle.buffa_map.proofs.EntryLemmas.{entry_complete}
 use Rattle.buffa_map.specs.Codec.{level}
 use Rattle.buffa_map.specs.Entry.{IsEntry, IsEntryField, blanks}
 use Rattle.buffa_map.specs.declared.map_entry.MapEntry.{MapEntry}
 use Rattle.buffa_wire.specs.ByField.{merged_by}
 use Rattle.buffa_wire.proofs.ByFieldLemmas.{empty, read}
-use Rattle.buffa_samples.specs.FieldsLaws.{number_read}
+use Rattle.buffa_samples.specs.FieldsFacts.{number_read}
 use Rattle.buffa_samples.specs.Fields.{value_encoding}
 use Rattle.buffa_samples.specs.Grown.{Grown, grown, Kids, no_kids, kid, kids, kids_of, kids-listed, listed, listed-kids}
-use Rattle.buffa_samples.specs.TreeLaws.{tree_same, tree_sound}
+use Rattle.buffa_samples.specs.TreeFacts.{tree_same, tree_sound}
 use Rattle.buffa_samples.specs.TreeMeaning.{ChildMeaning, child_at, child_reading, key_reading, merged, tree_field}
 use Rattle.buffa_samples.specs.TreeEncoding.{AreNormal, IsNormal, kid_entry, kid_record, kids_records, levels, levels_below, records, encoding, kids_encoding}
-
--- ---- the last child goes to the end
-all_before : (P : ℤ → Type 0) (es : List (ℤ × Grown)) (k : ℤ) (t : Grown) (more : List (ℤ × Grown)) → AllByRecursion P (keys_of (es ++ (k, t) ∷ more)) → P k
-all_before P [] k t more a = a.0
-all_before P (e ∷ es) k t more a = all_before P es k t more a.1
-
-put_last : (es : List (ℤ × Grown)) (k : ℤ) (t : Grown) (more : List (ℤ × Grown)) → IsStrictlySortedBy int_cmp (keys_of (es ++ (k, t) ∷ more)) → insert_entry int_cmp es k t ≡ es ++ (k, t) ∷ []
-unfolding IsStrictlySortedBy
-put_last [] k t more s = refl
-put_last (e ∷ es) k t more s =
-    let greater : int_cmp k e.0 ≡ Greater = int_cmp_total.antisymm k e.0 ∙ ap ordering_reverse (all_before (λ y. int_cmp e.0 y ≡ Less) es k t more s.0) in
-    ap (λ r. match_ordering r ((k, t) ∷ e ∷ es) ((e.0, t) ∷ es) (e ∷ insert_entry int_cmp es k t)) greater ∙ ap (λ xs. e ∷ xs) (put_last es k t more s.1)
 
 -- ---- a child's encoding is shorter than its entry, and that than its record
 shorter : (k : ℤ) (b : List ℕ) → length (kid_entry k b) < 2 ^ 64 → length b < 2 ^ 64
@@ -96,7 +83,7 @@ module _ (d : ℕ) (m : ChildMeaning) where
       let all : (done ++ (k, t) ∷ []) ++ listed ks ≡ done ++ (k, t) ∷ listed ks = append_assoc done ((k, t) ∷ []) (listed ks) in
       ap (merged_by (tree_field d m) (grown l (kids done))) (append_assoc (tag_encoding 2 LengthDelimited) entry (kids_encoding ks))
       ∙ read d (tree_field d m) (tree_sound d m) (tree_same d m) (grown l (kids done)) 2 LengthDelimited (tag_encoding 2 LengthDelimited) (is_tag 2 LengthDelimited (omega arith, omega arith))
-      (grown l (kids (done ++ (k, t) ∷ []))) (entry ++ kids_encoding ks) (kids_encoding ks) (child_read l k t done (kids_encoding ks) h.0 (shorter k (encoding t) h.0.1) (put_last done k t (listed ks) s))
+      (grown l (kids (done ++ (k, t) ∷ []))) (entry ++ kids_encoding ks) (kids_encoding ks) (child_read l k t done (kids_encoding ks) h.0 (shorter k (encoding t) h.0.1) (put_last int_cmp_total done k t (listed ks) s))
       ∙ kids_read ks l (done ++ (k, t) ∷ []) h.1 (subst (λ xs. IsStrictlySortedBy int_cmp (keys_of xs)) (sym all) s)
       ∙ ap (λ xs. Some (grown l (kids xs))) all
 

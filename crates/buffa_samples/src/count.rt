@@ -10,11 +10,12 @@ ghost use Rattle.buffa_bytes.specs.Written.{Writes};
 ghost use Rattle.buffa_wire.specs.Takes.{costs_nothing, taken_by};
 ghost use Rattle.buffa_wire.proofs.TakesLemmas.{merged_by_is, nothing_is};
 ghost use Rattle.buffa_samples.specs.Count.{count_cost, count_field, count_merged, count_records, count_encoding, one_encoding};
-ghost use Rattle.buffa_samples.specs.CountLaws.{count_back, count_cost_some, count_same, count_sound, count_encoding_records};
+ghost use Rattle.buffa_samples.specs.CountFacts.{count_back, count_cost_some, count_same, count_sound, count_encoding_records};
 
 use buffa_wire::{
     Blank, Buf, DecodeContext, DecodeError, EncodeError, EncodeSink, Message, MessageSpec,
-    SizeCache, Tag, WireType, check_wire_type, decode_varint, encode_varint, skip_field_depth,
+    SizeCache, Tag, WireType, capped, check_wire_type, decode_varint, encode_varint,
+    skip_field_depth,
 };
 use std::alloc::Global;
 
@@ -120,11 +121,7 @@ impl Message for CountMsg {
         ensures always { IsOk result }
     {
         let total = self.count.saturating_mul(2);
-        if total < 4_294_967_295 {
-            Ok(total as u32)
-        } else {
-            Ok(4_294_967_295)
-        }
+        Ok(capped(total))
     }
 
     fn write_to<S: EncodeSink>(

@@ -45,7 +45,7 @@ fn len_at(number: u32, value: i32) -> u32
 
 // The length of a field of a number below 16.
 #[inline(always)]
-#[tactic(auto, using(crate::specs::FieldsLaws::zero_encoding, crate::specs::FieldsLaws::some_encoding))]
+#[tactic(auto, using(crate::specs::FieldsFacts::zero_encoding, crate::specs::FieldsFacts::some_encoding))]
 pub(crate) fn number_len(number: u32, value: &i32) -> u32
     requires { number < 16 }
     ensures len { result ≡ length (number_encoding number value.now) }
@@ -71,7 +71,7 @@ fn write_at<S: EncodeSink>(number: u32, value: i32, sink: &mut S) -> Result<(), 
 
 // Writes a field.
 #[inline(always)]
-#[tactic(auto, using(crate::specs::FieldsLaws::zero_encoding, crate::specs::FieldsLaws::some_encoding))]
+#[tactic(auto, using(crate::specs::FieldsFacts::zero_encoding, crate::specs::FieldsFacts::some_encoding))]
 pub(crate) fn write_number<S: EncodeSink>(
     number: u32,
     value: &i32,

@@ -16,7 +16,7 @@ use buffa_map::map_codec::{
 };
 use buffa_wire::{
     Blank, Budget, Buf, DecodeContext, DecodeError, EncodeError, EncodeSink, Message, MessageSpec,
-    SizeCache, Tag, WireType, check_wire_type,
+    SizeCache, Tag, WireType, capped, check_wire_type,
 };
 use std::alloc::Global;
 use std::collections::BTreeMap;
@@ -73,7 +73,7 @@ impl MessageSpec for Tree {
     ghost use Rattle.std.proofs.Common.{arith};
     ghost use Rattle.buffa_samples.specs.TreeEncoding.{IsNormal, levels, records};
     ghost use Rattle.buffa_samples.specs.TreeBackFacts.{back};
-    ghost use Rattle.buffa_samples.specs.TreeLaws.{cost_is, encoding_records, merged_is, stays};
+    ghost use Rattle.buffa_samples.specs.TreeFacts.{cost_is, encoding_records, merged_is, stays};
     ghost use Rattle.buffa_samples.specs.TreeMeaning.{need, takes};
 
     const COST: usize = 32;
@@ -160,11 +160,7 @@ pub fn size_tree(tree: &Tree, cache: &mut SizeCache) -> Result<u32, EncodeError>
         { size_tree(child, cache) },
     )?;
     let total = children.saturating_add(u64::from(number_len(1, &tree.label)));
-    if total < 4_294_967_295 {
-        Ok(total as u32)
-    } else {
-        Ok(4_294_967_295)
-    }
+    Ok(capped(total))
 }
 
 // The write pass of the children, by a function that writes a child. Its contract names no trait, so that the goals of

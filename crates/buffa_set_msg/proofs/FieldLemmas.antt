@@ -2,7 +2,6 @@
 use Rattle.std.proofs.Common.{◌≡◌, ◌≢◌, ◌⊎◌, inl, inr, ℕ, zero, suc, ◌+◌, ◌-◌, ◌==◌, Bool, true, false, List, [], ◌∷◌, ◌++◌, Result, Ok, Err, refl, sym, ap, subst, ◌∙◌, arith}
 use Rattle.std.proofs.lemmas.Bool.{eqb-false, eqb-true}
 use Rattle.buffa_bytes.proofs.StepLemmas.{agree_err}
-use Rattle.buffa_bytes.specs.Gives.{◌>>=◌}
 use Rattle.buffa_bytes.specs.declared.wire_type.WireType.{WireType}
 use Rattle.buffa_bytes.specs.declared.wire_type.WireType.TheVariants.{EndGroup, StartGroup}
 use Rattle.buffa_bytes.specs.declared.error.DecodeError.{DecodeError}
@@ -19,7 +18,7 @@ use Rattle.buffa_message_set.proofs.GroupLemmas.{item_no_limit}
 use Rattle.buffa_wire.proofs.CostLemmas.{paid}
 use Rattle.buffa_wire.specs.ByField.{value_of}
 use Rattle.buffa_fields_base.specs.Keep.{keep_takes}
-use Rattle.buffa_fields_base.specs.KeepLaws.{keep_ok, none_there}
+use Rattle.buffa_fields_base.specs.KeepFacts.{keep_ok, none_there}
 use Rattle.buffa_wire.specs.Takes.{answer, framed}
 use Rattle.buffa_wire.proofs.TakesLemmas.{framed_at, framed_err}
 use Rattle.buffa_wire.proofs.LoopLemmas.{field_end}
@@ -100,9 +99,6 @@ module _ (s : ℕ) (bs : List ℕ) where
 module _ (d s n : ℕ) (w : WireType) (bs : List ℕ) where
   as_item : starts n w ≡ true → record_of_field d s n w bs ≡ item_of d s bs
   as_item is_start = rw is_start refl
-
-  as_other : starts n w ≡ false → record_of_field d s n w bs ≡ (field_at d s n w bs >>= (λ x. Ok ((n, x.0), x.1, x.2)))
-  as_other differs = rw differs refl
 
   other_takes : (r : ℕ × Datum) (left : ℕ) (rest : List ℕ) (v : List (ℕ × Datum)) (q : Result (Datum × ℕ × List ℕ) DecodeError) → field_at d s n w bs ≡ q → starts n w ≡ false →
       record_of_field d s n w bs ≡ Ok (r, left, rest) → Takes d s n w bs r left rest v

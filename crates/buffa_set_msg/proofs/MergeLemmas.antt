@@ -1,5 +1,5 @@
 -- Merging fields into a MessageSet, one after another, up to a refused one.
-use Rattle.std.proofs.Common.{◌≡◌, ◌≢◌, inl, inr, ℕ, ◌+◌, ◌<◌, List, [], ◌∷◌, ◌++◌, length, Option, Some, None, Result, Ok, Err, refl, sym, ap, subst, ◌∙◌, arith, append_assoc, append-nil, length-append}
+use Rattle.std.proofs.Common.{◌≡◌, ◌≢◌, inl, inr, ℕ, ◌+◌, ◌<◌, List, [], ◌++◌, length, Option, Some, None, Result, Ok, Err, refl, sym, ap, subst, ◌∙◌, arith, append_assoc, length-append}
 use Rattle.std.specs.Option.{option_and_then}
 use Rattle.buffa_bytes.proofs.FieldLemmas.{tag_some, tag_sound}
 use Rattle.buffa_bytes.proofs.StepLemmas.{agree_ok}
@@ -140,12 +140,3 @@ module _ (d : ℕ) where
           subst (λ z. StopsBehind d old all before e z left) (sym same) (subst (λ z. StopsBehind d old all before e v z) (sym kept) (stops e some next (λ h. (n, w, rest, tag, full h)))),
           subst (λ z. PaysAtMost before (set_cost d all) z × (e ≢ OutOfMemory → MergeFault (set_merged d old all) (set_cost d all) before e)) (sym kept) (stops_merged e some next),
         )
-
-    no_more : (xs : List ℕ) → length xs ≡ 0 → xs ≡ []
-    no_more [] h = refl
-    no_more (x ∷ xs) h = absurd (omega (arith, h))
-
-    pub ends : length bs ≡ 0 → (set_merged d old all ≡ Some v) × Pays before (set_cost d all) now
-    ends none_left =
-        let whole : all ≡ came.front = came.split ∙ ap (λ z. came.front ++ z) (no_more bs none_left) ∙ append-nil came.front in
-        (ap (set_merged d old) whole ∙ came.means, subst (λ z. Pays before (set_cost d z) now) (sym whole) came.pays)

@@ -1,12 +1,9 @@
 // One record of a MessageSet: read, sized and written.
 
-ghost use Rattle.std.specs.Prelude.{◌≡◌, ◌≢◌, ◌≤◌, length, min, ◌+◌, ◌*◌};
+ghost use Rattle.std.specs.Prelude.{◌≡◌, ◌≢◌, length, min};
 ghost use Rattle.buffa_bytes.specs.declared.wire_type.WireType.TheVariants.{EndGroup};
 ghost use Rattle.buffa_bytes.specs.Gives.{FullOnlyIf, GivesUnlessFull};
-ghost use Rattle.buffa_wire.specs.Encoding.{payload_encoding, tagged_encoding};
-ghost use Rattle.buffa_bytes.specs.Varint.{varint_encoding};
 ghost use Rattle.buffa_wire.specs.View.{datum_of, record_of};
-ghost use Rattle.buffa_bytes.specs.WireType.{wire_number};
 ghost use Rattle.buffa_bytes.specs.Written.{UsesRoom, Writes};
 ghost use Rattle.buffa_set_msg.specs.Set.{is_type_id, record_of_field, record_encoding, starts};
 
@@ -14,7 +11,7 @@ use buffa_fields_base::kept::read_alone;
 use buffa_message_set::message_set::{item_encoded_len, merge_item, write_item};
 use buffa_wire::{
     Budget, DecodeContext, DecodeError, EncodeError, EncodeSink, Tag, UnknownField,
-    UnknownFieldData, WireType, encode_varint, types, varint_len,
+    UnknownFieldData, WireType,
 };
 use std::alloc::Global;
 
@@ -68,49 +65,6 @@ pub(crate) fn read_record(
     Ok((item, own.unknown_left()))
 }
 
-// The value of the varint that is a tag, of any number.
-fn tag_value(number: u32, wire_type: WireType) -> u64
-    ensures { result ≡ 8 * number + wire_number wire_type }
-{
-    8 * u64::from(number) + u64::from(wire_type.number())
-}
-
-// The length of a varint.
-#[tactic(auto, using(buffa_bytes::proofs::ShortestLemmas::ten_at_most))]
-fn number_len(n: u64) -> u64
-    ensures len { result ≡ length (varint_encoding n) }
-    ensures short { result ≤ 10 }
-{
-    varint_len(n) as u64
-}
-
-// The length of a field's encoding, or 2^64 - 1 where it is longer.
-fn field_len(number: u32, payload: &UnknownFieldData) -> u64
-    ensures { result ≡ min (length (tagged_encoding number (datum_of payload.now))) 18446744073709551615 }
-{
-    let tag = number_len(tag_value(number, payload.wire_type()));
-    tag.saturating_add(payload_len(number, payload))
-}
-
-// The length of what follows the tag, or 2^64 - 1 where it is longer.
-fn payload_len(number: u32, payload: &UnknownFieldData) -> u64
-    ensures { result ≡ min (length (payload_encoding number (datum_of payload.now))) 18446744073709551615 }
-{
-    match payload {
-        UnknownFieldData::Varint(v) => number_len(*v),
-        UnknownFieldData::Fixed32(_) => 4,
-        UnknownFieldData::Fixed64(_) => 8,
-        UnknownFieldData::LengthDelimited(b) => {
-            let len = b.len() as u64;
-            len.saturating_add(number_len(len))
-        }
-        UnknownFieldData::Group(g) => {
-            let end = number_len(tag_value(number, WireType::EndGroup));
-            end.saturating_add(g.encoded_len())
-        }
-    }
-}
-
 // The length of a record's encoding, or 2^64 - 1 where it is longer.
 pub(crate) fn record_len(field: &UnknownField) -> u64
     ensures { result ≡ min (length (record_encoding field.now.number (datum_of field.now.payload)))
@@ -121,50 +75,12 @@ pub(crate) fn record_len(field: &UnknownField) -> u64
             if is_type_id(field.number) {
                 return item_encoded_len(field.number, message.len()) as u64;
             }
-            field_len(field.number, &field.payload)
+            field.encoded_len()
         }
         UnknownFieldData::Varint(_)
         | UnknownFieldData::Fixed32(_)
         | UnknownFieldData::Fixed64(_)
-        | UnknownFieldData::Group(_) => field_len(field.number, &field.payload),
-    }
-}
-
-// Writes a field.
-#[tactic(auto, using(buffa_bytes::proofs::SinkLemmas::writes_then, buffa_bytes::proofs::SinkLemmas::front_first, buffa_bytes::proofs::SinkLemmas::room_then))]
-fn write_field<S: EncodeSink>(
-    number: u32,
-    payload: &UnknownFieldData,
-    sink: &mut S,
-) -> Result<(), EncodeError>
-    ensures writes { Writes result (S.written sink.old) (tagged_encoding number (datum_of payload.now))
-        (S.written sink.new) }
-    ensures room { UsesRoom result (S.room sink.old) (tagged_encoding number (datum_of payload.now)) (S.room sink.new) }
-{
-    encode_varint(tag_value(number, payload.wire_type()), sink)?;
-    write_payload(number, payload, sink)
-}
-
-// Writes what follows the tag.
-#[tactic(auto, using(buffa_bytes::proofs::SinkLemmas::writes_then, buffa_bytes::proofs::SinkLemmas::front_first, buffa_bytes::proofs::SinkLemmas::room_then))]
-fn write_payload<S: EncodeSink>(
-    number: u32,
-    payload: &UnknownFieldData,
-    sink: &mut S,
-) -> Result<(), EncodeError>
-    ensures writes { Writes result (S.written sink.old) (payload_encoding number (datum_of payload.now))
-        (S.written sink.new) }
-    ensures room { UsesRoom result (S.room sink.old) (payload_encoding number (datum_of payload.now)) (S.room sink.new) }
-{
-    match payload {
-        UnknownFieldData::Varint(v) => encode_varint(*v, sink),
-        UnknownFieldData::Fixed32(v) => types::encode_fixed32(*v, sink),
-        UnknownFieldData::Fixed64(v) => types::encode_fixed64(*v, sink),
-        UnknownFieldData::LengthDelimited(b) => types::encode_bytes(b.as_slice(), sink),
-        UnknownFieldData::Group(g) => {
-            g.write_to(sink)?;
-            encode_varint(tag_value(number, WireType::EndGroup), sink)
-        }
+        | UnknownFieldData::Group(_) => field.encoded_len(),
     }
 }
 
@@ -183,11 +99,11 @@ pub(crate) fn write_record<S: EncodeSink>(
             if is_type_id(field.number) {
                 return write_item(field.number, message.as_slice(), sink);
             }
-            write_field(field.number, &field.payload, sink)
+            field.write_to(sink)
         }
         UnknownFieldData::Varint(_)
         | UnknownFieldData::Fixed32(_)
         | UnknownFieldData::Fixed64(_)
-        | UnknownFieldData::Group(_) => write_field(field.number, &field.payload, sink),
+        | UnknownFieldData::Group(_) => field.write_to(sink),
     }
 }

@@ -19,7 +19,7 @@ use buffa_ext::ExtensionSet;
 use buffa_fields_base::kept::KeptFields;
 use buffa_wire::{
     Blank, Budget, Buf, DecodeContext, DecodeError, EncodeError, EncodeSink, Message, MessageSpec,
-    SizeCache, Tag, UnknownFields,
+    SizeCache, Tag, UnknownFields, capped,
 };
 use std::alloc::Global;
 
@@ -145,11 +145,7 @@ impl Message for SetMsg {
         ensures always { IsOk result }
     {
         let total = set_len(&self.fields);
-        if total < 4_294_967_295 {
-            Ok(total as u32)
-        } else {
-            Ok(4_294_967_295)
-        }
+        Ok(capped(total))
     }
 
     fn write_to<S: EncodeSink>(

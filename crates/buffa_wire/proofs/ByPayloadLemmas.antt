@@ -29,13 +29,13 @@ by_payload stays merged_is cost_is = record { stays = stays; merged_is = merged_
 pub plainly : {X : Type 0} (takes : Taker X) (need : Need) → Stays need → ByPayload takes need (merged_of takes) (cost_of need)
 plainly takes need stays = record { stays = stays; merged_is = λ d v b. refl; cost_is = λ d b. refl }
 
-nothing_plus : (c : BudgetLeft) → plus nothing c ≡ c
+pub nothing_plus : (c : BudgetLeft) → plus nothing c ≡ c
 nothing_plus c =
     let u : 0 + c.unknown ≡ c.unknown = omega arith in
     let m : 0 + c.memory ≡ c.memory = omega arith in
     λ i. record { unknown = u i; memory = m i }
 
-plus_assoc : (a b c : BudgetLeft) → plus a (plus b c) ≡ plus (plus a b) c
+pub plus_assoc : (a b c : BudgetLeft) → plus a (plus b c) ≡ plus (plus a b) c
 plus_assoc a b c =
     let u : a.unknown + (b.unknown + c.unknown) ≡ (a.unknown + b.unknown) + c.unknown = omega arith in
     let m : a.memory + (b.memory + c.memory) ≡ (a.memory + b.memory) + c.memory = omega arith in

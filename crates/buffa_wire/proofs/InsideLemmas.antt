@@ -1,51 +1,83 @@
--- A message inside a field, whose bytes are read where they lie.
-use Rattle.std.proofs.Common.{◌≡◌, ◌≢◌, inl, inr, ℕ, zero, suc, ◌-◌, ◌<◌, List, [], length, drop, Option, Some, Result, Ok, Err, refl, sym, ap, subst, ◌∙◌, arith, IsOk}
+-- A message inside a field, whose bytes are given to a function.
+use Rattle.std.proofs.Common.{◌≡◌, ◌≢◌, inl, inr, ℕ, zero, suc, ◌-◌, ◌<◌, List, [], Option, Some, Result, Ok, Err, refl, sym, ap, subst, ◌∙◌, arith, IsOk}
+use denote.Param.Members.{Mut}
+use denote.Ref.{Bor}
+use Rattle.std.specs.Fn.{Called}
 use Rattle.std.specs.Prelude.{IfErr, OnErr, OnOk}
-use Rattle.std.proofs.lemmas.Bool.{le-ltb}
 use Rattle.buffa_bytes.specs.declared.error.DecodeError.{DecodeError}
 use Rattle.buffa_bytes.specs.declared.error.DecodeError.TheVariants as error
 use Rattle.buffa_bytes.specs.Gives.{FullOnlyIf}
-use Rattle.buffa_bytes.specs.Front.{delimited_at, taken, varint_at}
-use Rattle.buffa_bytes.specs.Unread.{IsFrontOf}
+use Rattle.buffa_bytes.specs.Front.{delimited_at}
+use Rattle.buffa_bytes.specs.Delimited.{Lends}
+use Rattle.buffa_bytes.proofs.LendLemmas.{lent_full}
 use Rattle.buffa_bytes.proofs.FieldLemmas.{tag_falls}
-use Rattle.buffa_wire.proofs.SequenceLemmas.{ok_same}
 use Rattle.buffa_wire.proofs.ByPayloadLemmas.{ByPayload, cost_empty, merged_empty}
 use Rattle.buffa_wire.specs.BudgetLeft.{BudgetLeft, Pays, PaysAtMost, nothing}
 use Rattle.buffa_wire.specs.Takes.{Need, Taker}
-use Rattle.buffa_wire.specs.Message.{BeginsField, IsMerged, MergeFault, MessageFault, cost_in, cost_of_payload, merged_in}
+use Rattle.buffa_wire.specs.Message.{BeginsField, IsInside, IsMerged, MergeFault, MessageFault, cost_in, cost_of_payload, merged_in}
 
--- a length, and so many bytes at the front of what follows it
-pub delimited_front : (n : ℕ) (bs mid part : List ℕ) → varint_at bs ≡ Ok (n, mid) → IsFrontOf part n mid → delimited_at bs ≡ Ok (part, drop n mid)
-unfolding taken
-delimited_front n bs mid part v f = rw (v, le-ltb (length mid) n f.fits, f.is) refl
+-- nothing was spent
+stayed : (before need after : BudgetLeft) → after ≡ before → PaysAtMost before need after
+stayed before need after is =
+    let u = ap (λ z. z.unknown) is in
+    let m = ap (λ z. z.memory) is in
+    (omega (arith, u), omega (arith, u), omega (arith, m), omega (arith, m))
 
-module _ {X T : Type 0} (merged : ℕ → X → List ℕ → Option X) (cost : ℕ → List ℕ → BudgetLeft) where
-  -- at a depth of one or more the bytes are merged one level down
-  abbrev Inside : ℕ → X → List ℕ → BudgetLeft → Result T DecodeError → X → BudgetLeft → Type 0
-  Inside d old b before r new after = IsMerged (merged (d - 1) old b) (cost (d - 1) b) before r new after
+module _ {F X T : Type 0} (g : Mut F (Bor (List ℕ) × Unit {0}) (Result T DecodeError)) (merged : ℕ → X → List ℕ → Option X) (cost : ℕ → List ℕ → BudgetLeft) where
+  -- a call of f merges the bytes that it is given, one level down
+  abbrev Merges : ℕ → F → X → BudgetLeft → Result T DecodeError → F → X → BudgetLeft → Type 0
+  Merges d f old before r f' new after = (p : Bor (List ℕ)) → Called g f (p, tt) r f' → IsMerged (merged (d - 1) old p.now) (cost (d - 1) p.now) before r new after
 
-  pub inside_ok : (d : ℕ) (old new : X) (bs b rest : List ℕ) (before after : BudgetLeft) (r : Result T DecodeError) → d ≢ 0 → delimited_at bs ≡ Ok (b, rest) → Inside d old b before r new after →
-      OnOk r ((p : List ℕ) × (delimited_at bs ≡ Ok (p, rest)) × (merged_in merged d old p ≡ Some new) × Pays before (cost_in cost d p) after)
-  inside_ok zero old new bs b rest before after r deep e h = absurd (deep refl)
-  inside_ok (suc d) old new bs b rest before after (Ok x) deep e h = let k : suc d - 1 ≡ d = omega arith in (b, e, (rw k at h).0, (rw k at h).1)
-  inside_ok (suc d) old new bs b rest before after (Err x) deep e h = tt
+  ok_by : (d : ℕ) (f f' : F) (old new : X) (left : List ℕ) (before after : BudgetLeft) (t : Result (List ℕ × List ℕ) DecodeError) (r : Result T DecodeError) → d ≢ 0 → Lends g f t r f' left → Merges d f old before r f' new after →
+      OnOk r ((p : List ℕ) × (t ≡ Ok (p, left)) × (merged_in merged d old p ≡ Some new) × Pays before (cost_in cost d p) after)
+  ok_by zero f f' old new left before after t r deep h asks = absurd (deep refl)
+  ok_by (suc d) f f' old new left before after (Ok p) (Ok x) deep (inl c) asks =
+      let k : suc d - 1 ≡ d = omega arith in
+      let m = rw (k, c.0.shows) at (asks c.0.shown c.0.called) in
+      (p.0, ap (λ z. Ok (p.0, z)) (sym c.1), m.0, m.1)
+  ok_by (suc d) f f' old new left before after (Ok p) (Ok x) deep (inr n) asks = absurd (let q = n.0 in cc)
+  ok_by (suc d) f f' old new left before after (Err e) (Ok x) deep h asks = absurd (let q = h.0 in cc)
+  ok_by (suc d) f f' old new left before after t (Err x) deep h asks = tt
 
-  pub inside_fault : (d : ℕ) (old new : X) (bs b rest : List ℕ) (before after : BudgetLeft) (r : Result T DecodeError) → d ≢ 0 → delimited_at bs ≡ Ok (b, rest) → Inside d old b before r new after →
+  pub inside_ok : (d : ℕ) (f f' : F) (old new : X) (bs left : List ℕ) (before after : BudgetLeft) (r : Result T DecodeError) → d ≢ 0 → Lends g f (delimited_at bs) r f' left → Merges d f old before r f' new after →
+      OnOk r (IsInside merged cost d old bs before new after left)
+  inside_ok d f f' old new bs left before after r deep h asks = ok_by d f f' old new left before after (delimited_at bs) r deep h asks
+
+  -- a call that is refused tells why those bytes aren't merged
+  abbrev Tells : ℕ → F → X → BudgetLeft → Result T DecodeError → F → Type 0
+  Tells d f old before r f' = (p : Bor (List ℕ)) → Called g f (p, tt) r f' → IfErr r (λ x. x ≢ error.OutOfMemory → MergeFault (merged (d - 1) old p.now) (cost (d - 1) p.now) before x)
+
+  fault_by : (d : ℕ) (f f' : F) (old : X) (bs left : List ℕ) (before : BudgetLeft) (t : Result (List ℕ × List ℕ) DecodeError) (r : Result T DecodeError) → delimited_at bs ≡ t → d ≢ 0 → Lends g f t r f' left → Tells d f old before r f' →
       IfErr r (λ x. x ≢ error.OutOfMemory → MessageFault merged cost d old bs before x)
-  inside_fault zero old new bs b rest before after r deep e h = absurd (deep refl)
-  inside_fault (suc d) old new bs b rest before after (Ok x) deep e h = tt
-  inside_fault (suc d) old new bs b rest before after (Err x) deep e h = let k : suc d - 1 ≡ d = omega arith in λ ne. inr (b, rest, e, (rw k at h).1 ne)
+  fault_by zero f f' old bs left before t r at deep h tells = absurd (deep refl)
+  fault_by (suc d) f f' old bs left before (Ok p) (Err x) at deep (inl c) tells =
+      let k : suc d - 1 ≡ d = omega arith in
+      λ ne. inr (p.0, p.1, at, rw (k, c.0.shows) at (tells c.0.shown c.0.called ne))
+  fault_by (suc d) f f' old bs left before (Ok p) (Err x) at deep (inr n) tells = λ ne. absurd (ne (let q = n.0 in cc))
+  fault_by (suc d) f f' old bs left before (Err e) (Err x) at deep h tells = λ ne. inl (at ∙ (let q = h.0 in cc))
+  fault_by (suc d) f f' old bs left before t (Ok x) at deep h tells = tt
 
-  pub inside_spent : (d : ℕ) (old new : X) (bs b rest : List ℕ) (before after : BudgetLeft) (r : Result T DecodeError) → d ≢ 0 → delimited_at bs ≡ Ok (b, rest) → Inside d old b before r new after →
-      OnErr r (PaysAtMost before (cost_of_payload cost d (delimited_at bs)) after)
-  inside_spent zero old new bs b rest before after r deep e h = absurd (deep refl)
-  inside_spent (suc d) old new bs b rest before after (Ok x) deep e h = tt
-  inside_spent (suc d) old new bs b rest before after (Err x) deep e h = let k : suc d - 1 ≡ d = omega arith in rw e ((rw k at h).0)
+  pub inside_fault : (d : ℕ) (f f' : F) (old : X) (bs left : List ℕ) (before : BudgetLeft) (r : Result T DecodeError) → d ≢ 0 → Lends g f (delimited_at bs) r f' left → Tells d f old before r f' →
+      IfErr r (λ x. x ≢ error.OutOfMemory → MessageFault merged cost d old bs before x)
+  inside_fault d f f' old bs left before r deep h tells = fault_by d f f' old bs left before (delimited_at bs) r refl deep h tells
 
--- a level and the bytes are there
-pub inside_full : {T : Type 0} (d : ℕ) (bs b rest : List ℕ) (r : Result T DecodeError) → d ≢ 0 → delimited_at bs ≡ Ok (b, rest) → FullOnlyIf r ((0 < d) × IsOk (delimited_at bs))
-inside_full d bs b rest (Ok x) deep e = tt
-inside_full d bs b rest (Err x) deep e = λ full. (omega arith, rw e refl)
+  pub inside_spent : (d : ℕ) (f f' : F) (old new : X) (left : List ℕ) (before after : BudgetLeft) (t : Result (List ℕ × List ℕ) DecodeError) (r : Result T DecodeError) → d ≢ 0 → Lends g f t r f' left → Merges d f old before r f' new after →
+      (f' ≡ f → after ≡ before) → OnErr r (PaysAtMost before (cost_of_payload cost d t) after)
+  inside_spent zero f f' old new left before after t r deep h asks same = absurd (deep refl)
+  inside_spent (suc d) f f' old new left before after (Ok p) (Err x) deep (inl c) asks same = let k : suc d - 1 ≡ d = omega arith in (rw (k, c.0.shows) at (asks c.0.shown c.0.called)).0
+  inside_spent (suc d) f f' old new left before after (Ok p) (Err x) deep (inr n) asks same = stayed before (cost d p.0) after (same n.1)
+  inside_spent (suc d) f f' old new left before after (Err e) (Err x) deep h asks same = stayed before nothing after (same h.1)
+  inside_spent (suc d) f f' old new left before after t (Ok x) deep h asks same = tt
+
+  -- memory ran out only where a level and the bytes are there
+  pub inside_full : (d : ℕ) (f f' : F) (bs left : List ℕ) (r : Result T DecodeError) → d ≢ 0 → Lends g f (delimited_at bs) r f' left → FullOnlyIf r ((0 < d) × IsOk (delimited_at bs))
+  inside_full d f f' bs left (Ok x) deep h = tt
+  inside_full d f f' bs left (Err x) deep h = λ full. (omega (arith, deep), lent_full g f f' (Err x) bs left h full)
+
+-- what merging promises of a refusal
+pub merged_tells : {X T : Type 0} (meant : Option X) (need before after : BudgetLeft) (new : X) (r : Result T DecodeError) → IsMerged meant need before r new after → IfErr r (λ x. x ≢ error.OutOfMemory → MergeFault meant need before x)
+merged_tells meant need before after new (Ok x) h = tt
+merged_tells meant need before after new (Err x) h = h.1
 
 -- ---- a message of no bytes
 no_tag : BeginsField [] → ⊥
@@ -64,9 +96,3 @@ module _ {X T : Type 0} {takes : Taker X} {need : Need} {merged : ℕ → X → 
   none_merges d old new b before after (Ok x) is h full = refl
   none_merges d old new b before after (Err e) is h full =
       absurd (none_told d old (merged d old b) (cost d b) before e (ap (merged d old) is ∙ merged_empty by d old) (ap (cost d) is ∙ cost_empty by d) h.1 (λ q. subst BeginsField is (full q)))
-
-pub same_front : (bs p x rest : List ℕ) → delimited_at bs ≡ Ok (p, x) → delimited_at bs ≡ Ok ([], rest) → p ≡ []
-same_front bs p x rest h k = ap (λ z. z.0) (ok_same (sym h ∙ k))
-
-pub delimited_by : (n : ℕ) (bs mid : List ℕ) (r : Result (List ℕ × List ℕ) DecodeError) → varint_at bs ≡ Ok (n, mid) → taken n mid ≡ r → delimited_at bs ≡ r
-delimited_by n bs mid r v h = rw v h

@@ -15,7 +15,7 @@ use Rattle.buffa_bytes.proofs.StepLemmas.{Agrees, agree_bind, agree_err, agree_i
 use Rattle.buffa_bytes.proofs.ScanLemmas.{Leads, Shortens, if_leads, if_short, scan_leads, scan_step}
 use Rattle.buffa_bytes.proofs.VarintLemmas.{varint_sound, varint_complete, varint_faulty}
 use Rattle.buffa_bytes.proofs.DelimitedLemmas.{taken_sound, taken_complete, taken_faulty, delimited_sound, delimited_complete, delimited_faulty}
-use Rattle.buffa_bytes.proofs.FieldLemmas.{tag_sound, tag_complete, tag_faulty, tag_some, not_end, end_false, end_true}
+use Rattle.buffa_bytes.proofs.FieldLemmas.{tag_sound, tag_complete, tag_faulty, tag_some, not_end, end_false, end_true, one_more}
 use Rattle.buffa_wire.specs.Records.{Datum, varint, fixed32, fixed64, bytes, group, Records, no_records, one}
 use Rattle.buffa_wire.specs.Encoding.{wire_of}
 use Rattle.buffa_wire.specs.Parse.{Parse, IsPayload, field_count, fields_inside, TakesField, TakesRecords, InsideFault, FieldFaultOf, NextFault, GroupFault}
@@ -77,9 +77,6 @@ behind_none (Err e) = refl
 pub behind_one : (n : ℕ) (x : Datum) (rs : Records) (r : Result Group DecodeError) → then_one n x (behind rs r) ≡ behind (one n x rs) r
 behind_one n x rs (Ok y) = refl
 behind_one n x rs (Err e) = refl
-
-one_more : (bs t p : List ℕ) (after mid b rest : List ℕ) → bs ≡ t ++ after → after ≡ p ++ mid → mid ≡ b ++ rest → bs ≡ ((t ++ p) ++ b) ++ rest
-one_more bs t p after mid b rest e f g = e ∙ ap (λ z. t ++ z) (f ∙ ap (λ z. p ++ z) g) ∙ simp append_assoc
 
 parted : (b f rest t p x : List ℕ) → b ≡ f ++ rest → f ≡ t ++ p → b ++ x ≡ t ++ (p ++ (rest ++ x))
 parted b f rest t p x e h = rw (e, h) (simp append_assoc)

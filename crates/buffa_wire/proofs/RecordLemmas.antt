@@ -23,11 +23,6 @@ pub length-records_in : (fs : List UnknownField) → length (records_in fs) ≡ 
 length-records_in [] = refl
 length-records_in (f ∷ fs) = ap (λ n. suc n) (length-records_in fs)
 
-pub lengths_differ : (xs ys : List UnknownField) (a b : Held) → a.records ≡ records_in xs → b.records ≡ records_in ys → length xs ≢ length ys → false ≡ held_eq a b
-lengths_differ xs ys a b p q other =
-    sym (false_from_ne_true (held_eq a b)
-    (λ h. other (sym (length-records_in xs) ∙ ap length (sym p) ∙ ap length (sym (list-records a.records) ∙ ap list_of ((records_eq-Decides (records_of a.records) (records_of b.records)).0 h) ∙ list-records b.records) ∙ ap length q ∙ length-records_in ys)))
-
 step : (b : Bool) (f : UnknownField) (fs : List UnknownField) {q : List (ℕ × Datum)} → records_in fs ≡ q → records_in (cond b (f ∷ fs) fs) ≡ cond b (record_of f ∷ q) q
 step true f fs e = ap (λ l. record_of f ∷ l) e
 step false f fs e = e

@@ -91,12 +91,6 @@ module _ {X : Type 0} (takes : Taker X) (d : ℕ) where
     taken_merges r old new n w bs rest before after h =
         paid (need d) d (stays d) (framed takes d) framed_sound framed_same r old new n w bs rest before after (paid_of r old new n w bs rest before after h)
 
-    -- the same, where what is left is known by an equation
-    pub taken_merges_as : (r : Result (Unit {0}) DecodeError) (old new x : X) (n : ℕ) (w : WireType) (bs rest : List ℕ) (before after : BudgetLeft) → x ≡ new →
-        IsTaken takes need d old n w bs before r x after rest → IsFieldMerged (merged_of takes) (cost_of need) d old n w bs before r new after rest
-    taken_merges_as r old new x n w bs rest before after same h =
-        taken_merges r old new n w bs rest before after (subst (λ z. IsTaken takes need d old n w bs before r z after rest) same h)
-
 pub cost_of_none : (need : Need) (d : ℕ) → cost_of need d [] ≡ nothing
 unfolding cost_of
 cost_of_none need d = cost_empty (need d) d

@@ -32,10 +32,6 @@ abbrev mutual
   IsPayload d n (bytes v) p = (t : List ℕ) × IsVarint t (length v) × (p ≡ t ++ v)
   IsPayload d n (group rs) p = (0 < d) × (b : List ℕ) × (t : List ℕ) × Parse (d - 1) b rs × IsTag t n wire.EndGroup × (p ≡ b ++ t)
 
--- f is the field of a record
-abbrev pub IsField : ℕ → ℕ → Datum → List ℕ → Type 0
-IsField d n x f = FieldOf (IsPayload d n x) n (wire_of x) f
-
 -- records whose encoding is read back: numbers that a field may have, data in range, no length of 2^64 or more
 abbrev mutual
   pub Fits : Records → Type 0

@@ -1,5 +1,5 @@
-//! The wire layer: the ground floor of `buffa_bytes`, the budgets and contexts that reading lends on, and
-//! the unknown fields that it keeps.
+//! The wire layer: the ground floor of `buffa_bytes`, the budgets and contexts that reading lends on, the
+//! unknown fields that it keeps, scalars, enums and messages.
 //!
 //! It re-exports the types of `buffa_bytes`, its readers and writers, and the module of the encodings of
 //! scalars.
@@ -33,7 +33,7 @@ pub use context::{DecodeContext, RECURSION_LIMIT};
 pub use enumeration::{EnumValue, Enumeration};
 pub use form::Form;
 pub use formed::{Formed, MessageForm};
-pub use message::{Message, MessageSpec};
+pub use message::{Message, MessageSpec, capped};
 pub use scalar::Scalar;
 pub use unknown_fields::read::decode_unknown_field;
 pub use unknown_fields::{UnknownField, UnknownFieldData, UnknownFields};

@@ -10,7 +10,7 @@ ghost use Rattle.buffa_bytes.specs.Unread.{IsTailOf};
 ghost use Rattle.buffa_wire.specs.BudgetLeft.{BudgetLeft, PaysAtMost, budget_left};
 ghost use Rattle.buffa_bytes.specs.declared.error.EncodeError.TheVariants as error;
 ghost use Rattle.buffa_wire.specs.Parse.{Fits};
-ghost use Rattle.buffa_wire.specs.Passes.{IsNext, IsSized, IsWritten};
+ghost use Rattle.buffa_wire.specs.Passes.{IsNext, IsSized, IsWritten, cap};
 ghost use Rattle.buffa_wire.specs.Records.{Datum, records_of};
 ghost use Rattle.buffa_wire.specs.Encoding.{records_encoding};
 ghost use Rattle.buffa_wire.specs.Message.{BeginsField, IsMergedAlone, MergesBytes, MergesField, MergesInside};
@@ -20,8 +20,8 @@ ghost use Rattle.buffa_wire.specs.Takes.{Need, Stays, Taker, cost_of, merged_of}
 use crate::budget::{Budget, DEFAULT_UNKNOWN_FIELD_LIMIT};
 use crate::cache::SizeCache;
 use crate::context::{DecodeContext, RECURSION_LIMIT};
-use buffa_bytes::buf::{copy_bytes, front};
-use buffa_bytes::{Blank, Buf, DecodeError, EncodeError, EncodeSink, Tag, WireType, decode_varint};
+use buffa_bytes::types::with_delimited;
+use buffa_bytes::{Blank, Buf, DecodeError, EncodeError, EncodeSink, Tag, WireType};
 use std::alloc::Global;
 
 /// The most bytes that a message's encoding may have: 2^31 - 1.
@@ -30,6 +30,18 @@ use std::alloc::Global;
 /// if len > MAX_MESSAGE_BYTES { .. }
 /// ```
 pub const MAX_MESSAGE_BYTES: u32 = 2_147_483_647;
+
+/// The size of a message whose encoding has so many bytes: as many, or 2^32 - 1 where they are more.
+///
+/// ```ignore
+/// Ok(capped(total))
+/// ```
+#[inline(always)]
+pub fn capped(len: u64) -> u32
+    ensures { result ≡ cap len }
+{
+    len.min(4_294_967_295) as u32
+}
 
 /// What the bytes of a type of messages mean.
 ///
@@ -277,17 +289,15 @@ pub trait Message: MessageSpec {
         if depth == 0 {
             return Err(DecodeError::RecursionLimitExceeded);
         }
-        let len = decode_varint(buf)?;
-        let inner = DecodeContext {
-            depth: depth - 1,
-            budget: &mut *budget,
-        };
-        if let Some(part) = front(buf, len) {
-            let merged = self.merge(alloc, part, inner);
-            buf.advance(len as usize);
-            return merged;
-        }
-        let payload = copy_bytes(alloc, buf, len)?;
-        self.merge(alloc, &payload, inner)
+        let inside = depth - 1;
+        with_delimited(
+            alloc,
+            buf,
+            &mut |payload: &[u8]|
+                ensures merged { MergesBytes Self.merged Self.cost inside (Self.meaning self.entry.now) payload.now
+                    budget.entry.now result (Self.meaning self.exit.now) budget.exit.now }
+                ensures full { FullOnlyIf result (BeginsField payload.now) }
+            { self.merge(alloc, payload, DecodeContext::new(inside, &mut *budget)) },
+        )
     }
 }

@@ -33,7 +33,7 @@ ghost use Rattle.buffa_bytes.specs.Scalars.{uint64_encoding, unzigzag, varint_as
 ghost use Rattle.bytes.specs.Filled.{Filled};
 ghost use Rattle.buffa_bytes.specs.Adapted.{ShowsInner, kept_beyond};
 ghost use Rattle.buffa_bytes.specs.Pinned.{AnswerIsPinned, AnswerIsPinnedUnlessFull, ChunkIsPinned, IsItsBytes};
-ghost use Rattle.buffa_bytes.specs.Pinned.{IsCopied, Means, SameIsOne, ShowsBytes, ShowsFront, WriteIsPinned};
+ghost use Rattle.buffa_bytes.specs.Pinned.{IsCopied, LentIsPinned, Means, SameIsOne, ShowsBytes, ShowsFront, WriteIsPinned};
 ghost use Rattle.buffa_bytes.specs.Front.{check_wire};
 ghost use Rattle.buffa_bytes.specs.WireType.{wire_kind, wire_number};
 ghost use Rattle.buffa_bytes.specs.Delimited.{bytes_as, string_as, text_as};
@@ -276,6 +276,12 @@ pub fn rests_are_these()
 /// much of the whole is unread then.
 pub fn answers_are_pinned_unless_full<X, Y, Z>()
     ensures { AnswerIsPinnedUnlessFull X Y Z }
+{}
+
+/// The bytes that are lent to a function are those at the front, and it is called once, or not at all. It leaves open which
+/// of the function's answers is given, and whether memory is told of a byte or more, and how many are unread then.
+pub fn lent_bytes_are_pinned<T, F: FnMut(&[u8]) -> Result<T, DecodeError>>()
+    ensures { LentIsPinned F.FnMut }
 {}
 
 /// An encoding is written in one way. It leaves open whether an encoding is refused that doesn't fit for

@@ -1,12 +1,11 @@
 -- What is answered of pairs that a field was written of.
-use Rattle.std.proofs.Common.{◌≡◌, ℕ, ◌^◌, ◌≤◌, nat_lt, true, false, List, [], ◌∷◌, ◌++◌, length, refl, sym, ◌∙◌}
-use Rattle.std.specs.Prelude.{codes}
-use Rattle.std.proofs.lemmas.Bool.{lt-ltb, le-ltb, and_right}
+use Rattle.std.proofs.Common.{◌≡◌, ℕ, ◌^◌, true, List, [], ◌∷◌, length, refl, sym}
+use Rattle.std.proofs.lemmas.Bool.{lt-ltb}
 use Rattle.buffa_map.specs.Codec.{Writing}
 use Rattle.buffa_map.specs.Encoding.{HasEncoding, entry_encoding, field_encoding}
 use Rattle.buffamap.specs.Codecs.{int32_writing, string_writing}
 use Rattle.buffamap.specs.Lines.{Pair}
-use Rattle.buffamap.specs.Reply.{done, fault, hex_line}
+use Rattle.buffamap.specs.Reply.{done, hex_line}
 use Rattle.buffamap.specs.Write.{field_reply, has_field}
 
 module _ {K V : Type 0} (key : Writing K) (val : Writing V) where
@@ -17,12 +16,5 @@ module _ {K V : Type 0} (key : Writing K) (val : Writing V) where
   has [] h = refl
   has (p ∷ ps) h = rw (lt-ltb (size p) (2 ^ 64) h.0, has ps h.1) refl
 
-  pub lacks : (done : List (K × V)) (p : K × V) (rest : List (K × V)) → 2 ^ 64 ≤ size p → has_field key val (done ++ p ∷ rest) ≡ false
-  lacks [] p rest h = rw (le-ltb (size p) (2 ^ 64) h) refl
-  lacks (q ∷ done) p rest h = rw (lacks done p rest h) (and_right (nat_lt (size q) (2 ^ 64)) false refl)
-
 pub written : (n : ℕ) (ps l : List Pair) → l ≡ ps → HasEncoding string_writing int32_writing l → field_reply n ps ≡ done (hex_line (field_encoding string_writing int32_writing n l))
 written n ps l e h = rw (sym e) (rw (has string_writing int32_writing l h) refl)
-
-pub too_large : (n : ℕ) (ps l done : List Pair) (p : Pair) (rest : List Pair) → l ≡ ps → l ≡ done ++ p ∷ rest → 2 ^ 64 ≤ length (entry_encoding string_writing int32_writing p) → field_reply n ps ≡ fault (codes "MessageTooLarge")
-too_large n ps l done p rest e s h = rw (sym e ∙ s, lacks string_writing int32_writing done p rest h) refl

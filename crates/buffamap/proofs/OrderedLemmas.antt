@@ -14,7 +14,7 @@ use Rattle.buffa_map.specs.Pairs.{SamePairs}
 use Rattle.buffa_map.specs.Pairs as maps
 use Rattle.buffa_map.proofs.PutLemmas.{SamePairs-insert_entry, SamePairs-put}
 use Rattle.buffamap.specs.Lines.{ListedInOrder, Pair, pairs_of, put, same_key}
-use Rattle.buffamap.proofs.SortingLemmas.{same_sorted}
+use Rattle.buffa_map_base.proofs.SortedLemmas.{same_sorted}
 
 abbrev text_cmp : List ℕ → List ℕ → Ordering
 text_cmp = slice_cmp nat_cmp

@@ -21,7 +21,7 @@ use Rattle.buffa.specs.NodeEncoding as node_encoding
 use Rattle.buffa.specs.Set.{set_cost, set_merged, set_encoding}
 use Rattle.buffamap.specs.Again.{IsEncoded, IsReadAgainIn, IsRefused, RepliesToAgain, encoding_reply}
 use Rattle.buffamap.specs.Codecs.{int32_writing}
-use Rattle.buffamap.proofs.SortingLemmas.{same_sorted}
+use Rattle.buffa_map_base.proofs.SortedLemmas.{same_sorted}
 use Rattle.buffamap.specs.declared.command.Command.{Command}
 use Rattle.buffamap.specs.declared.command.Command.TheVariants.{AgainNode, AgainSet, Ext, Item, Read, Rewrite, Write}
 use Rattle.buffamap.specs.Command.{command_of, texts}

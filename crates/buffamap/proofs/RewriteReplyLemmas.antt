@@ -1,6 +1,6 @@
 -- What is answered of a run that is rewritten.
-use Rattle.std.proofs.Common.{◌≡◌, ◌≢◌, inl, inr, ℕ, ◌^◌, ◌≤◌, ℤ, List, [], ◌∷◌, ◌++◌, Result, Ok, Err, false, refl, sym, ap, ◌∙◌, subst, length, arith}
-use Rattle.std.specs.Prelude.{FitsSigned, OnOk, IfErr, codes}
+use Rattle.std.proofs.Common.{◌≡◌, inl, ℕ, ◌^◌, ◌≤◌, ℤ, List, [], ◌∷◌, ◌++◌, Result, Ok, Err, false, refl, sym, ap, ◌∙◌, subst, length, arith}
+use Rattle.std.specs.Prelude.{FitsSigned, OnOk, IfErr}
 use Rattle.std.specs.Int.{w32}
 use Rattle.std.specs.List.Sorted.{IsStrictlySortedBy}
 use Rattle.std.specs.Map.{keys_of}
@@ -20,14 +20,10 @@ use Rattle.buffa_map.specs.declared.rewrite.RewriteError.TheVariants.{Decode, En
 use Rattle.buffa_map.proofs.RunLemmas.{run_complete}
 use Rattle.buffa_map.proofs.ResultLemmas.{IfErr-map}
 use Rattle.buffamap.specs.declared.choice.Choice.{Choice}
-use Rattle.buffamap.specs.declared.fault.Fault.{Fault}
-use Rattle.buffamap.specs.declared.fault.Fault.TheVariants as faults
 use Rattle.buffamap.specs.Choice.{two_numbers}
 use Rattle.buffamap.specs.Codecs.{int32_reading, int32_writing}
-use Rattle.buffamap.specs.Fault.{IsOfRewrite, Tells, told}
-use Rattle.buffamap.specs.Reply.{done, fault, hex_line}
+use Rattle.buffamap.specs.Reply.{done, hex_line}
 use Rattle.buffamap.specs.Rewrite.{Entry, IsRewritten, ChoicePair, RefusesRun, RunHasNoRewrite, RunRewritesTo, choice_reading, choices_of, choice_run}
-use Rattle.buffamap.proofs.FaultLemmas.{tells_bytes}
 use Rattle.buffamap.proofs.RunReplyLemmas.{stops}
 
 keys_seen : (es : List (ℤ × Choice)) → keys_of (choices_of es) ≡ keys_of es
@@ -89,15 +85,3 @@ module _ (d n : ℕ) (left over : BudgetLeft) (bs rest old new : List ℕ) (befo
 pub replied : (n : ℕ) (run : Result (List Entry × BudgetLeft) DecodeError) (out text : List ℕ) → RunRewritesTo n run out → text ≡ hex_line out → IsRewritten n run (done text)
 replied n (Ok r) out text h e = inl (out, h, ap done e)
 replied n (Err f) out text h e = absurd h
-
--- what is told of a run that wasn't rewritten
-pub told_rewrite : (n : ℕ) (run : Result (List Entry × BudgetLeft) DecodeError) (r : RewriteError) (f : Fault) → IsOfRewrite r f → RefusesRun run r → Tells (IsRewritten n run) f
-told_rewrite n run (Decode e) f is says real = tells_bytes (IsRewritten n) (λ e. refl) run e f is says real
-told_rewrite n run (Encode e) f is says real =
-    let no_memory : e ≢ OutOfMemory = λ h. real (is.0 h) in
-    let said = says no_memory in
-    subst (λ z. IsRewritten n run (told z)) (sym (is.1 no_memory ∙ ap (λ z. faults.RefusedEncoding z) said.0)) (none run said.1)
-  where
-    none : (run : Result (List Entry × BudgetLeft) DecodeError) → RunHasNoRewrite run → IsRewritten n run (fault (codes "MessageTooLarge"))
-    none (Ok r) h = inr (h, refl)
-    none (Err f) h = absurd h

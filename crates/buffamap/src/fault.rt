@@ -28,7 +28,7 @@ pub enum Fault {
     #[error("the bytes are refused: {0}")]
     RefusedBytes(DecodeError),
     /// The bytes that were to be written are refused.
-    #[error("the text is refused: {0}")]
+    #[error("the encoding is refused: {0}")]
     RefusedEncoding(EncodeError),
 }
 

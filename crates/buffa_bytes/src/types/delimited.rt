@@ -1,10 +1,11 @@
 //! Strings and bytes: a length and so many bytes.
 
 ghost use Rattle.std.specs.Prelude.{◌≡◌, ℕ, List, [], Ok, length, string_bytes, IsOk};
+ghost use Rattle.std.specs.Fn.{TakesAt};
 ghost use Rattle.buffa_bytes.specs.Gives.{FullOnlyIf, GivesUnlessFull};
 ghost use Rattle.buffa_bytes.specs.Left.{LeavesUnlessFull, past_no_delimited};
 ghost use Rattle.buffa_bytes.specs.Front.{delimited_at};
-ghost use Rattle.buffa_bytes.specs.Delimited.{bytes_as, string_as};
+ghost use Rattle.buffa_bytes.specs.Delimited.{Lends, bytes_as, string_as};
 ghost use Rattle.buffa_bytes.specs.Values.{delimited_encoding, string_at};
 ghost use Rattle.buffa_bytes.specs.Written.{UsesRoom, Writes};
 ghost use Rattle.buffa_bytes.specs.Unread.{IsTailOf};
@@ -152,10 +153,41 @@ pub fn decode_bytes_to_bytes<B: Buf>(alloc: Global, buf: &mut B) -> Result<Bytes
     Ok(shared)
 }
 
-/// Reads a string into a type of one's own.
+/// Reads a length varint, and gives so many bytes to a function: where they lie, or else put together first.
 ///
-/// Bytes that lie together are handed to [`ProtoString::from_wire`] where they lie; others are put together
-/// first.
+/// The function is called once where the bytes are there. Where they aren't, or memory ran out before, it isn't called.
+///
+/// # Errors
+/// In this order: those of a varint, [`DecodeError::UnexpectedEof`] where the length passes what is left;
+/// [`DecodeError::OutOfMemory`], where a byte or more had to be put together; or the function's. What follows a length
+/// that passes the end stays unread then, and what follows the bytes.
+///
+/// ```ignore
+/// with_delimited(alloc, buf, &mut |bytes: &[u8]| P::from_wire(alloc, bytes)) // of 02 DE AD: what P makes of DE AD
+/// ```
+#[inline(always)]
+pub fn with_delimited<B: Buf, T, F: FnMut(&[u8]) -> Result<T, DecodeError>>(
+    alloc: Global,
+    buf: &mut B,
+    read: &mut F,
+) -> Result<T, DecodeError>
+    requires { (p rest : List ℕ) → delimited_at (B.unread buf.old) ≡ Ok (p, rest) → TakesAt F.FnMut read.old p }
+    ensures lends { Lends F.FnMut read.old (delimited_at (B.unread buf.old)) result read.new (B.unread buf.new) }
+    ensures kept { B.beyond buf.new ≡ B.beyond buf.old }
+    ensures left { LeavesUnlessFull result (past_no_delimited (B.unread buf.old)) (B.unread buf.new) }
+    ensures tail { IsTailOf (B.unread buf.new) (B.unread buf.old) }
+{
+    let len = decode_varint(buf)?;
+    if let Some(bytes) = front(buf, len) {
+        let answer = read(bytes);
+        buf.advance(len as usize);
+        return answer;
+    }
+    let bytes = copy_bytes(alloc, buf, len)?;
+    read(&bytes)
+}
+
+/// Reads a string into a type of one's own, by [`with_delimited`] and [`ProtoString::from_wire`].
 ///
 /// # Errors
 /// As [`decode_string`].
@@ -175,20 +207,10 @@ pub fn decode_string_to<S: ProtoString, B: Buf>(
     ensures left { LeavesUnlessFull result (past_no_delimited (B.unread buf.old)) (B.unread buf.new) }
     ensures tail { IsTailOf (B.unread buf.new) (B.unread buf.old) }
 {
-    let len = decode_varint(buf)?;
-    if let Some(part) = front(buf, len) {
-        let read = S::from_wire(alloc, part);
-        buf.advance(len as usize);
-        return read;
-    }
-    let bytes = copy_bytes(alloc, buf, len)?;
-    S::from_wire(alloc, &bytes)
+    with_delimited(alloc, buf, &mut |bytes: &[u8]| S::from_wire(alloc, bytes))
 }
 
-/// Reads bytes into a type of one's own.
-///
-/// Bytes that lie together are handed to [`ProtoBytes::from_wire`] where they lie; others are put together
-/// first.
+/// Reads bytes into a type of one's own, by [`with_delimited`] and [`ProtoBytes::from_wire`].
 ///
 /// # Errors
 /// As [`decode_bytes`].
@@ -205,12 +227,5 @@ pub fn decode_bytes_to<P: ProtoBytes, B: Buf>(alloc: Global, buf: &mut B) -> Res
     ensures left { LeavesUnlessFull result (past_no_delimited (B.unread buf.old)) (B.unread buf.new) }
     ensures tail { IsTailOf (B.unread buf.new) (B.unread buf.old) }
 {
-    let len = decode_varint(buf)?;
-    if let Some(part) = front(buf, len) {
-        let read = P::from_wire(alloc, part);
-        buf.advance(len as usize);
-        return read;
-    }
-    let bytes = copy_bytes(alloc, buf, len)?;
-    P::from_wire(alloc, &bytes)
+    with_delimited(alloc, buf, &mut |bytes: &[u8]| P::from_wire(alloc, bytes))
 }

@@ -1,4 +1,4 @@
-use Rattle.buffa_fields_base.specs.KeepLaws.{asks_kept, kept_asks_for, kept_costs, kept_record}
+use Rattle.buffa_fields_base.specs.KeepFacts.{asks_kept, kept_asks_for, kept_costs, kept_record}
 use Rattle.buffa_fields_laws.proofs.kept_fields_are_these.Goals as goal
 
 pub returns-clause-takes : goal.returns-clause-takes

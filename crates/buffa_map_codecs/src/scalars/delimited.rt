@@ -3,8 +3,8 @@
 ghost use Rattle.std.specs.Prelude.{◌≡◌, [], None, false, refl, true};
 ghost use Rattle.buffa_bytes.specs.declared.wire_type.WireType.TheVariants.{LengthDelimited};
 ghost use Rattle.buffa_map_base.specs.Scalars.{IsLengthy, IsText, bytes_reading, delimited_writing, string_reading};
-ghost use Rattle.buffa_map_base.specs.ScalarLaws.{always_known, bytes_read_back, never_faulty, no_fixed_length};
-ghost use Rattle.buffa_map_base.specs.ScalarLaws.{string_known, string_no_limit, string_reads_back};
+ghost use Rattle.buffa_map_base.specs.ScalarFacts.{always_known, bytes_read_back, never_faulty, no_fixed_length};
+ghost use Rattle.buffa_map_base.specs.ScalarFacts.{string_known, string_no_limit, string_reads_back};
 
 use buffa_bytes::{ProtoBytes, ProtoString};
 use buffa_map_base::codec::sealed::Sealed;

@@ -5,8 +5,8 @@ ghost use Rattle.buffa_bytes.specs.declared.wire_type.WireType.TheVariants.{Vari
 ghost use Rattle.buffa_wire.specs.Enums.{numbers};
 ghost use Rattle.buffa_map_base.specs.Enums.{ClosedFits, OpenFits, OpenNormal, closed_reading, closed_writing};
 ghost use Rattle.buffa_map_base.specs.Enums.{open_reading, open_writing};
-ghost use Rattle.buffa_map_base.specs.EnumLaws.{closed_reads_back, open_reads_back, open_stays_normal};
-ghost use Rattle.buffa_map_base.specs.ScalarLaws.{always_known, never_faulty, no_fixed_length};
+ghost use Rattle.buffa_map_base.specs.EnumFacts.{closed_reads_back, open_reads_back, open_stays_normal};
+ghost use Rattle.buffa_map_base.specs.ScalarFacts.{always_known, never_faulty, no_fixed_length};
 
 use buffa_map_base::codec::sealed::Sealed;
 use buffa_map_base::codec::{MapCodec, MapValueDecode, MapValueDecodeStatus};

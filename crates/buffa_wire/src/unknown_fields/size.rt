@@ -7,8 +7,22 @@ ghost use Rattle.buffa_bytes.specs.Values.{tag_encoding};
 ghost use Rattle.buffa_bytes.specs.Varint.{varint_encoding};
 
 use crate::unknown_fields::tag::tag_value;
-use crate::unknown_fields::{UnknownFieldData, UnknownFields};
+use crate::unknown_fields::{UnknownField, UnknownFieldData, UnknownFields};
 use buffa_bytes::{WireType, prefix_len, varint_len};
+
+impl UnknownField {
+    /// The length of the encoding that [`UnknownField::write_to`] writes, in bytes, or 2^64 - 1 where it is
+    /// longer. It takes no memory.
+    ///
+    /// ```ignore
+    /// let len = field.encoded_len(); // 3 for 38 96 01
+    /// ```
+    pub fn encoded_len(&self) -> u64
+        ensures { result ≡ min (length (tagged_encoding self.now.number (datum_of self.now.payload))) 18446744073709551615 }
+    {
+        field_len(self.number, &self.payload)
+    }
+}
 
 impl UnknownFields {
     /// The length of the encoding that [`UnknownFields::write_to`] writes, in bytes, or 2^64 - 1 where it is

@@ -6,8 +6,31 @@ ghost use Rattle.buffa_bytes.specs.Written.{UsesRoom, Writes};
 
 use crate::short::write_two;
 use crate::unknown_fields::tag::tag_value;
-use crate::unknown_fields::{UnknownFieldData, UnknownFields};
+use crate::unknown_fields::{UnknownField, UnknownFieldData, UnknownFields};
 use buffa_bytes::{EncodeError, EncodeSink, WireType, encode_varint, types};
+
+impl UnknownField {
+    /// Writes the field, with the shortest tag and lengths, whatever its number.
+    ///
+    /// # Errors
+    /// [`EncodeError::OutOfMemory`] alone, after a beginning of the encoding.
+    ///
+    /// ```ignore
+    /// field.write_to(sink)?; // 38 96 01
+    /// ```
+    #[tactic(auto, using(crate::proofs::EncodingLemmas::told_of, crate::proofs::EncodingLemmas::told_room))]
+    pub fn write_to<S: EncodeSink>(&self, sink: &mut S) -> Result<(), EncodeError>
+        ensures writes { Writes result (S.written sink.old)
+            (tagged_encoding self.now.number (datum_of self.now.payload)) (S.written sink.new) }
+        ensures room { UsesRoom result (S.room sink.old)
+            (tagged_encoding self.now.number (datum_of self.now.payload)) (S.room sink.new) }
+    {
+        if !write_field(self.number, &self.payload, sink) {
+            return Err(EncodeError::OutOfMemory);
+        }
+        Ok(())
+    }
+}
 
 impl UnknownFields {
     /// Writes the fields, one after another, with the shortest tags and lengths.

@@ -3,7 +3,7 @@ use Rattle.buffa_bytes.proofs.StepLemmas.{agree_err, agree_ok}
 use Rattle.buffa_bytes.specs.declared.wire_type.WireType.TheVariants.{StartGroup}
 use Rattle.buffa_bytes.specs.Front.{check_wire}
 use Rattle.buffa_map.proofs.EntryLemmas.{check_sound}
-use Rattle.buffa_fields.specs.GroupLaws.{group_wire_err}
+use Rattle.buffa_fields.specs.GroupFacts.{group_wire_err}
 use Rattle.buffa_fields.proofs.group.take_group.Goals as goal
 
 pub returns-in-Err-clause-taken : goal.returns-in-Err-clause-taken

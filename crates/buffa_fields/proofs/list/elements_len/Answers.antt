@@ -1,4 +1,4 @@
-use Rattle.buffa_fields.specs.ListLaws.{count_none, len_more}
+use Rattle.buffa_fields.specs.ListFacts.{count_none, len_more}
 use Rattle.buffa_fields.proofs.list.elements_len.Goals as goal
 
 pub loop-value-init : goal.loop-value-init

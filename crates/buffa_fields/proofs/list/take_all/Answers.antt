@@ -1,7 +1,7 @@
 use Rattle.std.proofs.Common.{◌≡◌, ◌∙◌, ◌⊎◌, inl, inr, IsOk, ℕ, List, map, arith, refl, subst}
 use Rattle.buffa_bytes.specs.Content.{content_at}
 use Rattle.buffa_bytes.specs.declared.wire_type.WireType.{WireType}
-use Rattle.buffa_fields.specs.ListLaws.{element_falls, element_there, elements_done, elements_err, none_read, one_read, read_means, read_stops}
+use Rattle.buffa_fields.specs.ListFacts.{element_falls, element_there, elements_done, elements_err, none_read, one_read, read_means, read_stops}
 use Rattle.buffa_fields.proofs.list.take_all.Goals as goal
 
 -- where a payload begins what is left, one begins all

@@ -1,4 +1,4 @@
-use Rattle.buffa_fields.specs.ListLaws.{encoding_none, write_more, write_stops}
+use Rattle.buffa_fields.specs.ListFacts.{encoding_none, write_more, write_stops}
 use Rattle.buffa_fields.proofs.list.write_elements.Goals as goal
 
 pub loop-value-init : goal.loop-value-init

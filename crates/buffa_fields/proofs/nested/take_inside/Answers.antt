@@ -3,7 +3,7 @@ use Rattle.buffa_bytes.proofs.StepLemmas.{agree_err, agree_ok}
 use Rattle.buffa_bytes.specs.declared.wire_type.WireType.TheVariants.{LengthDelimited}
 use Rattle.buffa_bytes.specs.Front.{check_wire}
 use Rattle.buffa_map.proofs.EntryLemmas.{check_sound}
-use Rattle.buffa_fields.specs.NestedLaws.{inside_full, inside_taken, message_wire_err}
+use Rattle.buffa_fields.specs.NestedFacts.{inside_full, inside_taken, message_wire_err}
 use Rattle.buffa_fields.proofs.nested.take_inside.Goals as goal
 
 pub returns-in-Ok-clause-taken : goal.returns-in-Ok-clause-taken

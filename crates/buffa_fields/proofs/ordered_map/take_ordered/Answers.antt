@@ -7,7 +7,7 @@ use Rattle.buffa_map.proofs.EntryLemmas.{check_sound}
 use Rattle.buffa_wire.proofs.SequenceLemmas.{err_same}
 use Rattle.buffa_map.specs.Pairs.{means}
 use Rattle.buffa_fields.proofs.OrderedLemmas.{is_put_by, means_ascend}
-use Rattle.buffa_fields.specs.MapLaws.{map_err, map_full, map_ok, map_refused}
+use Rattle.buffa_fields.specs.MapFacts.{map_err, map_full, map_ok, map_refused}
 use Rattle.buffa_fields.proofs.ordered_map.take_ordered.Goals as goal
 
 pub returns-in-Ok-answer-clause-taken : goal.returns-in-Ok-answer-clause-taken

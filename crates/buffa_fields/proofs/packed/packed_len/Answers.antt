@@ -1,5 +1,5 @@
 use Rattle.std.proofs.Common.{arith}
-use Rattle.buffa_fields.specs.PackedLaws.{packed_nothing, packed_sized}
+use Rattle.buffa_fields.proofs.PackedLemmas.{packed_nothing, packed_sized}
 use Rattle.buffa_fields.proofs.packed.packed_len.Goals as goal
 
 pub returns-then-values-eq0 : goal.returns-then-values-eq0

@@ -1,4 +1,4 @@
-use Rattle.buffa_fields.specs.PackedLaws.{payloads_more}
+use Rattle.buffa_fields.proofs.PackedLemmas.{payloads_more}
 use Rattle.buffa_fields.proofs.packed.payloads_len.Goals as goal
 
 pub loop-value-preserved : goal.loop-value-preserved

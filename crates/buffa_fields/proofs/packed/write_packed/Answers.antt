@@ -1,5 +1,5 @@
 use Rattle.std.proofs.Common.{arith}
-use Rattle.buffa_fields.specs.PackedLaws.{packed_cut, packed_unwritten, packed_written}
+use Rattle.buffa_fields.proofs.PackedLemmas.{packed_cut, packed_unwritten, packed_written}
 use Rattle.buffa_fields.proofs.packed.write_packed.Goals as goal
 
 pub returns-then-values-eq0 : goal.returns-then-values-eq0

@@ -1,5 +1,5 @@
 use Rattle.std.proofs.Common.{append-nil, sym}
-use Rattle.buffa_fields.specs.PackedLaws.{payload_more, payload_stops}
+use Rattle.buffa_fields.proofs.PackedLemmas.{payload_more, payload_stops}
 use Rattle.buffa_fields.proofs.packed.write_payloads.Goals as goal
 
 pub loop-value-init : goal.loop-value-init

@@ -5,8 +5,8 @@ use Rattle.buffa_bytes.specs.Front.{check_wire}
 use Rattle.buffa_map.proofs.EntryLemmas.{check_sound}
 use Rattle.buffa_fields.specs.Groups.{group_cost, group_in}
 use Rattle.buffa_fields.specs.RepeatedGroups.{groups_cost}
-use Rattle.buffa_fields.specs.RepeatedGroupLaws.{group_costs, groups_wire_err}
-use Rattle.buffa_fields.specs.RepeatedNestedLaws.{charged, uncharged}
+use Rattle.buffa_fields.specs.RepeatedGroupFacts.{group_costs, groups_wire_err}
+use Rattle.buffa_fields.specs.RepeatedNestedFacts.{charged, uncharged}
 use Rattle.buffa_fields.proofs.repeated_group.take_charged.Goals as goal
 
 pub returns-in-Err-clause-taken : goal.returns-in-Err-clause-taken

@@ -2,7 +2,7 @@ use Rattle.std.proofs.Common.{inl, inr, [], ◌∷◌, ◌++◌, map, sym, ap, S
 use Rattle.std.proofs.lemmas.List.{map-append}
 use Rattle.std.specs.Option.{option_map}
 use Rattle.buffa_fields.specs.Groups.{group_in}
-use Rattle.buffa_fields.specs.RepeatedGroupLaws.{group_whole}
+use Rattle.buffa_fields.specs.RepeatedGroupFacts.{group_whole}
 use Rattle.buffa_fields.proofs.repeated_group.take_element.Goals as goal
 
 pub returns-in-Err-clause-taken : goal.returns-in-Err-clause-taken

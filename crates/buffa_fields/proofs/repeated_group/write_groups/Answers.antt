@@ -1,5 +1,5 @@
 use Rattle.buffa_fields.specs.Groups.{group_datum}
-use Rattle.buffa_fields.specs.RepeatedNestedLaws.{next_of, write_on, write_stops, written_no}
+use Rattle.buffa_fields.specs.RepeatedNestedFacts.{next_of, write_on, write_stops, written_no}
 use Rattle.buffa_fields.proofs.repeated_group.write_groups.Goals as goal
 
 pub loop-message-init : goal.loop-message-init

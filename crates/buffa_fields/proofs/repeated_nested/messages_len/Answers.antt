@@ -1,5 +1,5 @@
 use Rattle.buffa_wire.specs.Records.{bytes}
-use Rattle.buffa_fields.specs.RepeatedNestedLaws.{messages_have_slots, size_on, size_stops, sized_none}
+use Rattle.buffa_fields.specs.RepeatedNestedFacts.{messages_have_slots, size_on, size_stops, sized_none}
 use Rattle.buffa_fields.proofs.repeated_nested.messages_len.Goals as goal
 
 pub loop-message-init : goal.loop-message-init

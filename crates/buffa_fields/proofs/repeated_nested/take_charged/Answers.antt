@@ -4,9 +4,9 @@ use Rattle.buffa_bytes.specs.declared.wire_type.WireType.TheVariants.{LengthDeli
 use Rattle.buffa_bytes.specs.Front.{check_wire}
 use Rattle.buffa_map.proofs.EntryLemmas.{check_sound}
 use Rattle.buffa_fields.specs.Nested.{message_cost, message_in}
-use Rattle.buffa_fields.specs.NestedLaws.{inside_full, inside_taken}
+use Rattle.buffa_fields.specs.NestedFacts.{inside_full, inside_taken}
 use Rattle.buffa_fields.specs.RepeatedNested.{messages_cost}
-use Rattle.buffa_fields.specs.RepeatedNestedLaws.{charged, message_costs, uncharged, uncharged_wire}
+use Rattle.buffa_fields.specs.RepeatedNestedFacts.{charged, message_costs, uncharged, uncharged_wire}
 use Rattle.buffa_fields.proofs.repeated_nested.take_charged.Goals as goal
 
 pub returns-in-Err-clause-taken : goal.returns-in-Err-clause-taken

@@ -4,7 +4,7 @@ use Rattle.std.specs.Option.{option_map}
 use Rattle.buffa_wire.proofs.SpentLemmas.{is_there}
 use Rattle.buffa_bytes.specs.Front.{delimited_at}
 use Rattle.buffa_fields.specs.Nested.{message_in}
-use Rattle.buffa_fields.specs.RepeatedNestedLaws.{message_there}
+use Rattle.buffa_fields.specs.RepeatedNestedFacts.{message_there}
 use Rattle.buffa_fields.proofs.repeated_nested.take_message.Goals as goal
 
 pub returns-in-Err-clause-taken : goal.returns-in-Err-clause-taken

@@ -1,6 +1,6 @@
 use Rattle.std.proofs.Common.{arith}
 use Rattle.buffa_bytes.proofs.FullLemmas.{tag_no_full}
-use Rattle.buffa_fields_base.specs.StandsLaws.{all_paid, asked, falls, field_paid, field_refused, nothing_paid, spends, stands, stands_apart, starts, steps, tag_refused}
+use Rattle.buffa_fields_base.proofs.StandsLemmas.{all_paid, asked, falls, field_paid, field_refused, nothing_paid, spends, stands, stands_apart, starts, steps, tag_refused}
 use Rattle.buffa_fields_base.proofs.merge.merge_fields.Goals as goal
 
 pub loop-rest-init : goal.loop-rest-init

@@ -1,4 +1,4 @@
-use Rattle.buffa_fields_base.specs.LayoutLaws.{full_of, merges}
+use Rattle.buffa_fields_base.specs.LayoutFacts.{full_of, merges}
 use Rattle.buffa_fields_base.proofs.message.merge.Goals as goal
 
 pub returns : goal.returns

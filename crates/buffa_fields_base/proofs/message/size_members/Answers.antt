@@ -1,6 +1,6 @@
 use Rattle.std.proofs.Common.{[], subst, sym}
 use Rattle.buffa_fields_base.specs.Layout.{IsCounted}
-use Rattle.buffa_fields_base.specs.LayoutLaws.{counts_none, sizes, start}
+use Rattle.buffa_fields_base.specs.LayoutFacts.{counts_none, sizes, start}
 use Rattle.buffa_fields_base.proofs.message.size_members.Goals as goal
 
 pub returns : goal.returns

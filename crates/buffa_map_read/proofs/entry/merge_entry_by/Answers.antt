@@ -2,7 +2,7 @@ use Rattle.std.proofs.Common.{sym, ◌≡◌, ◌∙◌, Bool, true, false}
 use Rattle.std.proofs.lemmas.Result.{err_from_is_err_and, on_ok_weaker}
 use Rattle.buffa_bytes.proofs.FullLemmas.{varint_no_full}
 use Rattle.buffa_bytes.proofs.TailLemmas.{tail_more}
-use Rattle.buffa_wire.proofs.InsideLemmas.{delimited_front}
+use Rattle.buffa_bytes.proofs.LendLemmas.{delimited_front}
 use Rattle.buffa_map_read.proofs.MergeLemmas.{bad_cut, is_dropped, is_put, no_copy, no_entry, not_put}
 use Rattle.buffa_map_read.proofs.PartsLemmas.{entry_declared}
 use Rattle.buffa_map_base.proofs.ResultLemmas.{IfErr-map, IfErr-with, OnOk-both}

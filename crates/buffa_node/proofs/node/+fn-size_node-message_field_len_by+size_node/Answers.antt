@@ -1,25 +1,17 @@
 use Rattle.std.proofs.Common.{arith, refl, ap, ◌∙◌}
 use Rattle.std.proofs.lemmas.Result.{err_from_is_err_and}
 use Rattle.buffa_wire.specs.Cache.{appended}
-use Rattle.buffa_node.proofs.NodePassLemmas.{low_child, large_total, slots_are, slots_there, small_total}
+use Rattle.buffa_node.proofs.NodePassLemmas.{low_child, slots_are, slots_there, total_capped}
 use Rattle.buffa_node.proofs.node.+fn-size_node-message_field_len_by+size_node.Goals as goal
 
 pub message_field_len_by-requires : goal.message_field_len_by-requires
 message_field_len_by-requires t c κs = ((refl, tt), ((λ x d h. (omega (arith, low_child c.args.node.now _ c.node.inside.children.entries _ _ c.node.view_is x.now h, c.decreases), tt)), (λ x d r e h s. s)))
 
-pub returns-then-total-lt4294967295-clause-sized : goal.returns-then-total-lt4294967295-clause-sized
-returns-then-total-lt4294967295-clause-sized t c =
+pub returns-clause-sized : goal.returns-clause-sized
+returns-clause-sized t c =
     let scores = c.field_len-scores.ensures in
     let shades = c.field_len-shades.ensures in (
-      small_total _ _ c.node.inside.children.entries _ _ c.node.view_is _ _ _ _ _ _ _ scores.0 shades.0 scores.1 shades.1 scores.3 c.in_ok-children.ensures.sized.0 shades.3 c.encoded_len.ensures c.saturating_add.ensures c.saturating_add-maps.ensures c.saturating_add-total.ensures c.if-total-lt4294967295.true,
-      c.in_ok-children.ensures.sized.2 ∙ ap (λ xs. appended xs c.args.cache.now) (slots_are _ _ c.node.inside.children.entries _ _ c.node.view_is),
-    )
-
-pub returns-else-total-lt4294967295-clause-sized : goal.returns-else-total-lt4294967295-clause-sized
-returns-else-total-lt4294967295-clause-sized t c =
-    let scores = c.field_len-scores.ensures in
-    let shades = c.field_len-shades.ensures in (
-      large_total _ _ c.node.inside.children.entries _ _ c.node.view_is _ _ _ _ _ _ _ scores.0 shades.0 scores.1 shades.1 scores.3 c.in_ok-children.ensures.sized.0 shades.3 c.encoded_len.ensures c.saturating_add.ensures c.saturating_add-maps.ensures c.saturating_add-total.ensures c.if-total-lt4294967295.false,
+      c.capped.ensures ∙ total_capped _ _ c.node.inside.children.entries _ _ c.node.view_is _ _ _ _ _ _ _ scores.0 shades.0 scores.1 shades.1 scores.3 c.in_ok-children.ensures.sized.0 shades.3 c.encoded_len.ensures c.saturating_add.ensures c.saturating_add-maps.ensures c.saturating_add-total.ensures,
       c.in_ok-children.ensures.sized.2 ∙ ap (λ xs. appended xs c.args.cache.now) (slots_are _ _ c.node.inside.children.entries _ _ c.node.view_is),
     )
 

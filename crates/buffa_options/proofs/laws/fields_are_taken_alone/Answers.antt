@@ -1,6 +1,6 @@
 use Rattle.std.proofs.Common.{◌==◌}
 use Rattle.buffa_fields_base.specs.Layout.{Took}
-use Rattle.buffa_fields_base.specs.LayoutLaws.{choose}
+use Rattle.buffa_fields_base.specs.LayoutFacts.{choose}
 use Rattle.buffa_options.proofs.PinLemmas.{declared_read}
 use Rattle.buffa_options.proofs.laws.fields_are_taken_alone.Goals as goal
 

@@ -4,7 +4,7 @@ use Rattle.std.specs.Int.{cast_unsigned, w32, w64}
 use Rattle.buffa_bytes.proofs.IntLemmas.{int32_below}
 use Rattle.buffa_bytes.proofs.ShortestLemmas.{ten_at_most}
 use Rattle.buffa_bytes.specs.Values.{int32_encoding}
-use Rattle.buffa_samples.specs.FieldsLaws.{length_tag}
+use Rattle.buffa_samples.specs.FieldsFacts.{length_tag}
 use Rattle.buffa_samples.proofs.int32_field.len_at.Goals as goal
 
 pub overflow_cast-result : goal.overflow_cast-result

@@ -1,6 +1,6 @@
 use Rattle.std.proofs.Common.{ap, sym, ◌∙◌}
 use Rattle.buffa_samples.proofs.NumberLemmas.{flat_free, flat_written, two_free, two_written}
-use Rattle.buffa_samples.specs.FieldsLaws.{both_records, number_encoding_records}
+use Rattle.buffa_samples.specs.FieldsFacts.{both_records, number_encoding_records}
 use Rattle.buffa_samples.specs.Fields.{number_encoding, number_records}
 use Rattle.buffa_wire.specs.Encoding.{records_encoding}
 use Rattle.buffa_samples.proofs.laws.messages_are_these.Goals as goal

@@ -13,7 +13,7 @@ use Rattle.buffa_wire.proofs.MessageLemmas.{front_more, loop_fault, reaches_tag}
 use Rattle.buffa_wire.proofs.ByPayloadLemmas.{all_merged, field_costs, field_means, judged_all, untagged}
 use Rattle.buffa_samples.proofs.TreeFieldLemmas.{by_payloads, child_full, child_merged, label_merged, mismatch_full, wire_merged}
 use Rattle.buffa_samples.specs.Fields.{value_field}
-use Rattle.buffa_samples.specs.FieldsLaws.{full_not_at_end, value_ends}
+use Rattle.buffa_samples.specs.FieldsFacts.{full_not_at_end, value_ends}
 use Rattle.buffa_samples.specs.TreeMeaning.{cost, merged}
 use Rattle.buffa_samples.proofs.tree.+merge.Goals as goal
 

@@ -15,4 +15,4 @@ returns-in_err-merge_from_slice-clause-fault g c =
     let says : e ≢ OutOfMemory → MergeFault (m.merged 100 g.M.Blank.blank_is bytes) (m.cost 100 bytes) defaults e
     = subst (λ v. e ≢ OutOfMemory → MergeFault (m.merged 100 v bytes) (m.cost 100 bytes) defaults e) c.blank-message.ensures c.in_err-merge_from_slice.ensures.merged in
     passed_on (IsReadAgain m.merged m.cost m.encoding g.M.Blank.blank_is bytes) (IsOfBytes e) c.from_residual.result c.from_residual.ensures.1
-    (λ f is real. inr (refused m.encoding (m.merged 100 g.M.Blank.blank_is bytes) (m.cost 100 bytes) e f is says real))
+    (λ f is real. inr (refused (m.merged 100 g.M.Blank.blank_is bytes) (m.cost 100 bytes) e f is says real))

@@ -1,10 +1,10 @@
-use Rattle.std.proofs.Common.{◌≡◌, Some, None, Ok, Err, ap, refl}
+use Rattle.std.proofs.Common.{Ok, Err, ap, refl}
 use Rattle.std.specs.Option.{option_map}
 use Rattle.buffa_fields_base.specs.Layout.{Took}
 use Rattle.buffa_bytes.specs.declared.wire_type.WireType.TheVariants.{StartGroup}
 use Rattle.buffa_wire.specs.Message.{BeginsField}
 use Rattle.buffa_fields.specs.Groups.{group_cost, group_in}
-use Rattle.buffa_fields.specs.NestedLaws.{came_there, took_there}
+use Rattle.buffa_fields.specs.NestedFacts.{came_there, took_there}
 use Rattle.buffa_fields.proofs.group.GroupMember.merge.Goals as goal
 
 pub returns-in-Some : goal.returns-in-Some

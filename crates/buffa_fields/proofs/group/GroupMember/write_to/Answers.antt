@@ -1,6 +1,6 @@
 use Rattle.std.proofs.Common.{ap}
 use Rattle.std.specs.Option.{option_map}
-use Rattle.buffa_fields.specs.GroupLaws.{unwritten_group}
+use Rattle.buffa_fields.specs.GroupFacts.{unwritten_group}
 use Rattle.buffa_fields.proofs.group.GroupMember.write_to.Goals as goal
 
 pub returns-in-None : goal.returns-in-None

@@ -1,10 +1,10 @@
-use Rattle.std.proofs.Common.{◌≡◌, Some, None, Ok, Err, ap, refl}
+use Rattle.std.proofs.Common.{Ok, Err, ap, refl}
 use Rattle.std.specs.Option.{option_map}
 use Rattle.buffa_fields_base.specs.Layout.{Took}
 use Rattle.buffa_bytes.specs.declared.wire_type.WireType.TheVariants.{LengthDelimited}
 use Rattle.buffa_fields.specs.Nested.{message_cost, message_in}
 use Rattle.buffa_fields.specs.Refusals.{IsDelimited}
-use Rattle.buffa_fields.specs.NestedLaws.{came_there, took_there}
+use Rattle.buffa_fields.specs.NestedFacts.{came_there, took_there}
 use Rattle.buffa_fields.proofs.nested.NestedMember.merge.Goals as goal
 
 pub returns-in-Some : goal.returns-in-Some

@@ -1,6 +1,6 @@
 use Rattle.std.proofs.Common.{ap}
 use Rattle.std.specs.Option.{option_map}
-use Rattle.buffa_fields.specs.NestedLaws.{unwritten_message}
+use Rattle.buffa_fields.specs.NestedFacts.{unwritten_message}
 use Rattle.buffa_fields.proofs.nested.NestedMember.write_to.Goals as goal
 
 pub returns-in-None : goal.returns-in-None

@@ -1,5 +1,5 @@
 use Rattle.buffa_map.specs.Pairs.{means}
-use Rattle.buffa_fields.specs.NestedMapLaws.{all_sized, no_pairs}
+use Rattle.buffa_fields.specs.NestedMapFacts.{all_sized, no_pairs}
 use Rattle.buffa_fields.proofs.ordered_nested.OrderedMapOfNestedMember.len.Goals as goal
 
 pub returns-clause-always : goal.returns-clause-always

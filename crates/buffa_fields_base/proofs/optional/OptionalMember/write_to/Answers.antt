@@ -1,6 +1,6 @@
 use Rattle.std.proofs.Common.{ap}
 use Rattle.std.specs.Option.{option_map}
-use Rattle.buffa_fields_base.specs.LayoutLaws.{unwritten}
+use Rattle.buffa_fields_base.specs.LayoutFacts.{unwritten}
 use Rattle.buffa_fields_base.specs.MemberRecords.{optional_records}
 use Rattle.buffa_fields_base.proofs.optional.OptionalMember.write_to.Goals as goal
 

@@ -1,5 +1,5 @@
 use Rattle.std.proofs.Common.{◌∙◌, ◌∷◌, [], ap, sym}
-use Rattle.buffa_fields_base.specs.LayoutLaws.{unwritten}
+use Rattle.buffa_fields_base.specs.LayoutFacts.{unwritten}
 use Rattle.buffa_fields_base.specs.MemberRecords.{plain_records}
 use Rattle.buffa_fields_base.specs.Values.{records_unless}
 use Rattle.buffa_fields_base.proofs.plain.PlainMember.write_to.Goals as goal

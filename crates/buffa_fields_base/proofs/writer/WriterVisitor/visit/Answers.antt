@@ -1,6 +1,6 @@
 use Rattle.std.proofs.Common.{rules, IsOk}
 use Rattle.buffa_wire.specs.Encoding.{records_encoding}
-use Rattle.buffa_fields_base.specs.LayoutLaws.{came, follow_on}
+use Rattle.buffa_fields_base.specs.LayoutFacts.{came, follow_on}
 use Rattle.buffa_fields_base.proofs.writer.WriterVisitor.visit.Goals as goal
 
 pub returns-then-is_ok-clause-waits : goal.returns-then-is_ok-clause-waits

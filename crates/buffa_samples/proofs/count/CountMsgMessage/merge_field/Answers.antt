@@ -1,7 +1,7 @@
 use Rattle.buffa_wire.proofs.ByFieldLemmas.{free}
-use Rattle.buffa_samples.specs.FieldsLaws.{full_not_at_end}
+use Rattle.buffa_samples.specs.FieldsFacts.{full_not_at_end}
 use Rattle.buffa_samples.specs.Count.{count_field}
-use Rattle.buffa_samples.specs.CountLaws.{count_ends, count_same, count_sound}
+use Rattle.buffa_samples.specs.CountFacts.{count_ends, count_same, count_sound}
 use Rattle.buffa_samples.proofs.count.CountMsgMessage.merge_field.Goals as goal
 
 pub returns-clause-merged : goal.returns-clause-merged
