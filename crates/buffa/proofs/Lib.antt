@@ -1,2 +1,3 @@
+-- The lemmas that this crate hands out.
 pub mod KeyLemmas
 pub mod SlotLemmas

@@ -4,4 +4,4 @@ pub use Rattle.buffa_codec.specs.Sub.{sub, tagged, without}
 pub use Rattle.buffa_ext.specs.Changes.{change_of}
 pub use Rattle.buffa_ext.specs.Defaults.{IsDefaulted, IsRefused, ReadsNumber}
 pub use Rattle.buffa_ext.specs.Messages.{MergesOne, MergesRecords, encodings_in}
-pub use Rattle.buffa_ext.specs.Steps.{HasRecord, IsCleared, IsSet, IsSetUnread, KeepsRoom, RefusedAt, after}
+pub use Rattle.buffa_ext.specs.Steps.{HoldsRecord, IsCleared, IsSet, IsSetUnread, KeepsRoom, RefusedAt, after}

@@ -8,7 +8,7 @@ ghost use Rattle.buffa_codec.specs.Through.{ListsThrough, ReadsThrough, WritesTh
 ghost use Rattle.buffa_ext.specs.Steps.{ClearsAreOne, IsExactlySet, KeepsTheRest, LeavesOthers, SecondCounts};
 ghost use Rattle.buffa_ext.specs.Steps.{StandsLast, TakesOut, TakesThePlace};
 ghost use Rattle.buffa_map.specs.Laws.{RewriteMeans, RunsJoin, SizeIsLength};
-ghost use Rattle.buffa_map.specs.Scalars.{delimited_writing};
+ghost use Rattle.buffa_map_base.specs.Scalars.{delimited_writing};
 ghost use Rattle.buffa_message_set.specs.Item.{NoOtherFront, WrittenIsItem, body_encoding, item_encoding};
 ghost use Rattle.buffa.specs.Keys.{KeepsStoredKeys};
 ghost use Rattle.buffa.specs.Slots.{SlotsAreLengths};

@@ -11,9 +11,9 @@ ghost use Rattle.buffa_wire.specs.Found.{fixed32_in, fixed64_in, varint_in};
 ghost use Rattle.buffa_wire.specs.Records.{Datum, bytes as held_bytes};
 ghost use Rattle.buffa_codec.specs.Decoded.{bytes_held, last_read, packed_record, string_held};
 ghost use Rattle.buffa_ext.specs.Messages.{group_of};
-ghost use Rattle.buffa_map.specs.Enums.{closed_reading, open_reading};
-ghost use Rattle.buffa_map.specs.Message.{message_reading};
-ghost use Rattle.buffa_map.specs.Scalars.{bytes_reading, number_reading, string_reading};
+ghost use Rattle.buffa_map_base.specs.Enums.{closed_reading, open_reading};
+ghost use Rattle.buffa_map_base.specs.Message.{message_reading};
+ghost use Rattle.buffa_map_base.specs.Scalars.{bytes_reading, number_reading, string_reading};
 
 use crate::extension::{ExtensionCodec, PackableCodec, SingularCodec, codecs};
 use crate::map_codec::{MapStorage, MapValueDecode};
@@ -66,7 +66,7 @@ pub fn extension_codecs_are_these<M: Message, P: PackableCodec>()
     ensures group { (v : M.Meaning) → ⟦<codecs::GroupCodec<M> as ExtensionCodec>⟧.recs v ≡ group_of (M.encoding v) ∷ [] }
 {}
 
-/// How each codec of map fields reads a payload, and how the map to take where nothing speaks for another one is walked.
+/// How each codec of map fields reads a payload, and how the usual map, [`Map`](crate::Map), is walked.
 pub fn map_codecs_are_these<E: Enumeration, M: Message, K: MapKey + Hash, V: Blank>()
     ensures int32 { ⟦<map_codec::Int32 as MapValueDecode>⟧.reading ≡ number_reading wire.Varint (pos 0) int32_of }
     ensures int64 { ⟦<map_codec::Int64 as MapValueDecode>⟧.reading ≡ number_reading wire.Varint (pos 0) int64_of }

@@ -1,3 +1,4 @@
+-- The lemmas that this crate hands out.
 pub mod DigitLemmas
 pub mod ShortestLemmas
 pub mod StepLemmas

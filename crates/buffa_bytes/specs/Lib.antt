@@ -1,3 +1,4 @@
+-- The words that this crate hands out.
 pub mod Gives
 pub mod WireType
 pub mod ErrorText

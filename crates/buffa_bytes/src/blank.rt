@@ -1,4 +1,4 @@
-//! The value that a field starts with.
+//! What a value means, and the value that a field starts with.
 
 ghost use Rattle.std.specs.Prelude.{◌≡◌, [], false, pos, string_bytes, vec_capacity};
 
@@ -14,8 +14,12 @@ use std::alloc::Global;
 /// let mut message: Inventory = Blank::blank(alloc);
 /// ```
 pub trait Blank: Drop {
-    /// What two values have in common that mean the same. No value of it is made; `[u8; 0]` stands for a
-    /// list of bytes.
+    /// What two values that mean the same have in common: of a number the number itself. It is a type for contracts, of
+    /// which no value is made; `[u8; 0]` stands for a list of bytes.
+    ///
+    /// ```ignore
+    /// type Meaning = [u8; 0];
+    /// ```
     type Meaning;
 
     /// What a value means.

@@ -23,10 +23,10 @@ pub trait MapKey: Blank + Eq {
     /// Whether two meanings are one key.
     ghost same: { Self.Meaning → Self.Meaning → Bool };
 
-    /// That is an equivalence.
+    /// `same` is an equivalence: each key is one with itself, either way round, and along a chain.
     ghost equivalence: { IsEquivalence same };
 
-    /// `==` on keys is that.
+    /// `==` on keys says what `same` says of their meanings.
     ghost respects: { (a b : Self) → Self.eq a b ≡ same (Self.meaning a) (Self.meaning b) };
 }
 

@@ -1,7 +1,7 @@
-//! The ground floor of the wire: bytes come in through a [`Buf`] and go out through an [`EncodeSink`].
+//! The lowest layer: varints, tags and payloads are read from a buffer, a [`Buf`], and written to a sink, an
+//! [`EncodeSink`].
 //!
-//! A byte flows from a buffer into a varint, a tag and a payload, or from a value into its encoding and a
-//! sink. What each call answers is a definition of `specs/`, in the words of the protobuf encoding guide.
+//! What each call answers is a definition of `specs/`, in the words of the protobuf encoding guide.
 #![tactic(auto)]
 
 pub mod adapted;

@@ -21,7 +21,8 @@ pub trait EncodeSink {
     /// Appends `b`.
     ///
     /// # Errors
-    /// [`EncodeError::OutOfMemory`] alone, where `b` doesn't fit for sure; a beginning of `b`, and not all, stands then.
+    /// [`EncodeError::OutOfMemory`] alone, where `b` doesn't fit for sure. A beginning of `b` stands then, but not all
+    /// of it.
     ///
     /// ```ignore
     /// sink.put_slice(value)?;

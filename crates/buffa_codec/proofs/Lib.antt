@@ -1,3 +1,4 @@
+-- The lemmas that this crate hands out.
 pub mod FilteredLemmas
 pub mod ListLemmas
 pub mod HeldLemmas

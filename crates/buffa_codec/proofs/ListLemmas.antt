@@ -1,13 +1,11 @@
 -- Lists of values, one more at a time.
-use Rattle.std.proofs.Common.{◌≡◌, ℕ, ◌+◌, ◌<◌, List, [], ◌∷◌, ◌++◌, Option, Some, None, refl, sym, ◌∙◌, ap, map, take, drop, length, get_or, append_assoc, arith, subst, ◌⊎◌, inl, inr}
+use Rattle.std.proofs.Common.{◌≡◌, ℕ, ◌+◌, ◌<◌, List, [], ◌∷◌, ◌++◌, Option, Some, None, refl, ◌∙◌, ap, map, take, drop, length, get_or, arith, subst, ◌⊎◌, inl, inr}
 use Rattle.std.specs.List.{AllByRecursion}
-use Rattle.std.proofs.lemmas.List.{append-nil}
 use Rattle.buffa_bytes.specs.declared.error.EncodeError.{EncodeError}
 use Rattle.buffa_bytes.specs.declared.error.EncodeError.TheVariants.{OutOfMemory}
 use Rattle.buffa_codec.specs.Decoded.{first_refusal, packed_record}
 use Rattle.buffa_codec.specs.Sub.{tagged}
 use Rattle.buffa_bytes.proofs.ListLemmas.{means_cut}
-use Rattle.buffa_wire.specs.Encoding.{encodings}
 
 pub AllByRecursion-append : {M : Type 0} (P : M → Type 0) (ms : List M) (m : M) → AllByRecursion P ms → P m → AllByRecursion P (ms ++ m ∷ [])
 AllByRecursion-append P [] m h k = (k, tt)
@@ -41,10 +39,6 @@ first_refusal-one refusal m ks e h = ap (refused_by refusal ks) h
 
 pub first_refusal-pass : {M : Type 0} (refusal : M → Option EncodeError) (m : M) (ks : List M) → refusal m ≡ None → first_refusal refusal (m ∷ ks) ≡ first_refusal refusal ks
 first_refusal-pass refusal m ks h = ap (refused_by refusal ks) h
-
-pub encodings-append : {M : Type 0} (encoding : M → List ℕ) (ms : List M) (m : M) → encodings encoding (ms ++ m ∷ []) ≡ encodings encoding ms ++ encoding m
-encodings-append encoding [] m = append-nil (encoding m)
-encodings-append encoding (x ∷ ms) m = ap (λ l. encoding x ++ l) (encodings-append encoding ms m) ∙ sym (append_assoc (encoding x) (encodings encoding ms) (encoding m))
 
 -- a packed list that has a value has a record
 pub packed_some : {V M : Type 0} (encoding : M → List ℕ) (meaning : V → M) (n : ℕ) (vs : List V) → 0 < length vs → 0 < length (tagged n (packed_record encoding (map meaning vs)))

@@ -132,7 +132,7 @@ abbrev pub first_refusal : {V : Type 0} → (V → Option EncodeError) → List 
 first_refusal refusal [] = None
 first_refusal refusal (v ∷ vs) = elim (refusal v) [ Some e ↦ Some e | None ↦ first_refusal refusal vs ]
 
--- nothing is refused, or that is told, unless memory ran out
+-- an error is out of memory or the stated refusal; a success has none
 abbrev pub Refuses : {T : Type 0} → Result T EncodeError → Option EncodeError → Type 0
 Refuses (Ok x) refusal = refusal ≡ None
 Refuses (Err e) refusal = (e ≡ OutOfMemory) ⊎ (refusal ≡ Some e)

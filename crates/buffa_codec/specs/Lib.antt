@@ -1,3 +1,4 @@
+-- The words that this crate hands out.
 pub mod Sub
 pub mod Packed
 pub mod Decoded

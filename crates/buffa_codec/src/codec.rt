@@ -1,4 +1,4 @@
-//! What the codecs of extensions owe.
+//! The traits of codecs of extensions: what they do, and what each of them proves.
 
 ghost use Rattle.std.specs.Prelude.{◌≡◌, ◌≢◌, ℕ, List, [], ◌∷◌, ◌++◌, Option, Some, None, option_map};
 ghost use Rattle.std.specs.Prelude.{OnOk, OnErr, IfOk};
@@ -17,7 +17,7 @@ use buffa_wire::{
 };
 use std::alloc::{AllocError, Global};
 
-/// How the value of an extension is read of the records of its number, and written as such records.
+/// How the value of an extension is read from the records of its number, and written as such records.
 ///
 /// ```ignore
 /// let value = Int32::decode(alloc, 7, &fields)?;
@@ -25,15 +25,23 @@ use std::alloc::{AllocError, Global};
 /// ```
 pub trait ExtensionCodec {
     /// The Rust type of the values that are written.
+    ///
+    /// ```ignore
+    /// type Value = Vec<C::Value>;
+    /// ```
     type Value;
 
-    /// The Rust type of what is read.
+    /// The Rust type of what is read: an option for one value, a `Vec` for a list.
+    ///
+    /// ```ignore
+    /// type Output = Option<C::Value>;
+    /// ```
     type Output;
 
     /// What two values have in common that mean the same.
     ghost Meaning: { Type 0 };
 
-    /// What is read means one of these.
+    /// The meanings of what is read.
     ghost Answer: { Type 0 };
 
     /// What a value means.
@@ -146,6 +154,10 @@ pub trait ExtensionCodec {
 /// ```
 pub trait SingularCodec {
     /// The Rust type of the values.
+    ///
+    /// ```ignore
+    /// type Value = String;
+    /// ```
     type Value: Blank;
 
     /// What a record is read as, at a depth and of what is left of a budget.

@@ -1,9 +1,8 @@
 //! Codecs of extensions: how the unknown fields of one number are read as a value, and a value is written
 //! as unknown fields.
 //!
-//! A value flows from the records of its number by way of an [`ExtensionCodec`]: of a scalar, a string or
-//! bytes the last record that is read at all, of [`Repeated`] and [`PackedRepeated`] all records in order,
-//! each of them by way of a [`SingularCodec`].
+//! An [`ExtensionCodec`] reads the records of a number: of a scalar, a string or bytes the last one that can be read
+//! counts; [`Repeated`] and [`PackedRepeated`] read all in order, each by a [`SingularCodec`].
 #![tactic(auto)]
 
 pub mod codec;

@@ -19,9 +19,17 @@ use std::alloc::{AllocError, Global};
 /// ```
 pub trait Numbered {
     /// The Rust type of the values.
+    ///
+    /// ```ignore
+    /// type Value = Price;
+    /// ```
     type Value: Blank;
 
     /// How the numbers are spelled.
+    ///
+    /// ```ignore
+    /// type Form = <Sint64 as Scalar>::Form;
+    /// ```
     type Form: Form;
 
     /// The value that a number means.

@@ -1,4 +1,4 @@
-//! Codecs of lists, all elements in one record.
+//! Codecs of lists, all elements in one record: they are written here, and read by [`repeated`](crate::repeated).
 
 ghost use Rattle.std.specs.Prelude.{◌≡◌, IfOk, List, None, OnOk, map};
 ghost use Rattle.std.specs.List.{AllByRecursion};

@@ -1,4 +1,4 @@
-//! Codecs of lists, one record an element.
+//! Codecs of lists, one record an element; packed records are read here too.
 
 ghost use Rattle.std.specs.Prelude.{◌≡◌, List, map, OnErr, OnOk, IfErr};
 ghost use Rattle.std.specs.List.{AllByRecursion};

@@ -1,3 +1,4 @@
+-- The lemmas that this crate hands out.
 pub mod HistoryLemmas
 pub mod ReplayLemmas
 pub mod MergeLemmas

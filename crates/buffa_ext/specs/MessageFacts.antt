@@ -209,9 +209,9 @@ module _ {X : Type 0} (merged : X → List ℕ → Option X) (cost : List ℕ �
   records_answer held takes ds old blank new before left after r (Err e) f s b m a = tt
 
   -- one record, read back
-  pub one_back : (held : Datum → Option (List ℕ)) (blank v : X) (b : BudgetLeft) (d : Datum) (t : List ℕ) → held d ≡ Some t → merged blank t ≡ Some v
+  pub one_message_back : (held : Datum → Option (List ℕ)) (blank v : X) (b : BudgetLeft) (d : Datum) (t : List ℕ) → held d ≡ Some t → merged blank t ≡ Some v
       → Covers b (cost_all cost (encodings_in held (d ∷ []))) → message_of merged cost blank b (encodings_in held (d ∷ [])) ≡ Some v
-  one_back held blank v b d t h e k =
+  one_message_back held blank v b d t h e k =
       let same : encodings_in held (d ∷ []) ≡ t ∷ [] = ap (λ o. cons_option o []) h in
       ap (message_of merged cost blank b) same
       ∙ ap (λ c. if c then merged_all merged blank (t ∷ []) else None) (left_yes b (cost_all cost (t ∷ [])) (subst (λ l. Covers b (cost_all cost l)) same k))
@@ -256,6 +256,6 @@ pub message_back : {X : Type 0} (merged : ℕ → X → List ℕ → Option X) (
     → Covers b (cost_all (cost 100) (encodings_in held (holder (encoding v) ∷ []))) → message_of (merged 100) (cost 100) blank b (encodings_in held (holder (encoding v) ∷ [])) ≡ Some v
 message_back merged cost held holder refusal blank encoding records levels normal is_text back kept v b f n k =
     let same = is_text v in
-    one_back (merged 100) (cost 100) held blank v b (holder (encoding v)) (encoding v)
+    one_message_back (merged 100) (cost 100) held blank v b (holder (encoding v)) (encoding v)
     (subst (λ t. held (holder t) ≡ Some t) (sym same) (kept (records v) n.2 (subst (λ t. refusal t ≡ None) same (held_too refusal (encoding v) f))))
     (back 100 v n.2 n.0 n.1) k

@@ -44,13 +44,13 @@ abbrev pub RefusedAt : ℕ → List Change → Type 0
 RefusedAt k cs = (c : Change) × (rest : List Change) × (drop k cs ≡ c ∷ rest) × ChangeTakesMemory c
 
 -- what a change says of a number, where it says something
-abbrev pub says : ℕ → Change → Option (List Datum)
-says n (set m ds) = (if m == n then Some ds else None)
-says n (clear m) = (if m == n then Some [] else None)
+abbrev pub change_says : ℕ → Change → Option (List Datum)
+change_says n (set m ds) = (if m == n then Some ds else None)
+change_says n (clear m) = (if m == n then Some [] else None)
 
 -- what the last change of a number leaves there, or else what was there
 abbrev pub history : ℕ → List (ℕ × Datum) → List Change → List Datum
-history n rs cs = unwrap_or (last_or None (filter_map (says n) cs)) (sub n rs)
+history n rs cs = unwrap_or (last_or None (filter_map (change_says n) cs)) (sub n rs)
 
 -- a list of records after a set of a number, or a clear
 abbrev pub IsSet : ℕ → List Datum → Held → Held → Type 0
@@ -64,8 +64,8 @@ abbrev pub IsSetUnread : ℕ → List Datum → Option EncodeError → (List Dat
 IsSetUnread n ds refusal takes old new = IsSet n ds old new × (refusal ≡ None) × takes ds
 
 -- a record of the number is there
-abbrev pub HasRecord : ℕ → Held → Type 0
-HasRecord n held = sub n held.records ≢ []
+abbrev pub HoldsRecord : ℕ → Held → Type 0
+HoldsRecord n held = sub n held.records ≢ []
 
 -- after a set the records of the number hold what was set, and those of other numbers stand as they were
 abbrev pub TakesThePlace : Type 0

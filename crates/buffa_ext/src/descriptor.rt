@@ -13,13 +13,13 @@ use std::marker::PhantomData;
 /// let default = ext.declared(alloc)?;
 /// ```
 pub trait Declared<V> {
-    /// The default may be asked for.
+    /// Where the default may be asked for.
     ghost can_declare: { Self → Type 0 };
 
     /// Holds of what the default may be.
     ghost may_declare: { Self → Option V → Type 0 };
 
-    /// Making the default may be refused.
+    /// Where making the default may be refused.
     ghost may_refuse: { Self → Type 0 };
 
     /// The default, made anew, or none.

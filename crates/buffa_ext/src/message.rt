@@ -44,7 +44,7 @@ pub struct MessageIn<K, M> {
     of: PhantomData<M>,
 }
 
-// The message, where an encoding was there; none after a fault, but since memory ran out.
+// The message, where an encoding was there; none where none was, or one was refused; an error where memory ran out.
 fn answer<M: Message>(
     merged: Result<bool, DecodeError>,
     message: M,

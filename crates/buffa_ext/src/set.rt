@@ -1,4 +1,4 @@
-//! Messages that keep extensions.
+//! The trait of messages that keep extensions; its calls change records by [`stage`](crate::stage).
 
 ghost use Rattle.std.specs.Prelude.{◌≡◌, ◌≢◌, ◌↔◌, ◌≤◌, ◌+◌, IsTrue, ℕ, List, [], length, Option, None};
 ghost use Rattle.std.specs.Prelude.{OnOk, OnErr, IfOk, IsOk};
@@ -8,7 +8,7 @@ ghost use Rattle.buffa_wire.specs.contracts.unknown_fields.UnknownFields.{the_ro
 ghost use Rattle.buffa_codec.specs.Sub.{sub};
 ghost use Rattle.buffa_codec.specs.Decoded.{Refuses};
 ghost use Rattle.buffa_ext.specs.Defaults.{IsDefaulted, IsRefused, ReadsNumber};
-ghost use Rattle.buffa_ext.specs.Steps.{HasRecord, IsCleared, IsSet};
+ghost use Rattle.buffa_ext.specs.Steps.{HoldsRecord, IsCleared, IsSet};
 
 use crate::descriptor::{Declared, Extension};
 use crate::stage::{has_number, remove, replace};
@@ -28,7 +28,11 @@ use std::alloc::{AllocError, Global};
 /// }
 /// ```
 pub trait ExtensionSet {
-    /// The full name of the message's type, as `google.protobuf.MethodOptions`.
+    /// The full name of the message's type.
+    ///
+    /// ```ignore
+    /// const PROTO_FQN: &'static str = "google.protobuf.FieldOptions";
+    /// ```
     const PROTO_FQN: &'static str;
 
     /// The same as bytes.
@@ -173,7 +177,7 @@ pub trait ExtensionSet {
     /// let is_there = carrier.has_extension(&ext);
     /// ```
     final fn has_extension<C: ExtensionCodec, D>(&self, ext: &Extension<C, D>) -> bool
-        ensures { IsTrue result ↔ ((ext.now.extendee.now ≡ fqn) × HasRecord ext.now.number (fields_of self.now)) }
+        ensures { IsTrue result ↔ ((ext.now.extendee.now ≡ fqn) × HoldsRecord ext.now.number (fields_of self.now)) }
     {
         ext.extendee() == Self::extendee_name() && has_number(self.unknown_fields(), ext.number())
     }

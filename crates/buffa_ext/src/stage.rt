@@ -1,4 +1,4 @@
-//! Changes in place of the records of one number.
+//! Changes in place of the records of one number, by which an extension is set or cleared.
 
 ghost use Rattle.std.specs.Prelude.{◌≡◌, ◌≢◌, ◌↔◌, ◌++◌, ◌==◌, ◌≤◌, ◌+◌, IsTrue, IsOk, [], length, not, OnOk, OnErr};
 ghost use Rattle.buffa_wire.specs.View.{record_of};

@@ -1,4 +1,4 @@
-//! Sets and clears, one after the other.
+//! Sets and clears, one after the other: what contracts call a `Change` is a [`Step`].
 
 ghost use Rattle.std.specs.Prelude.{◌≡◌, ◌≢◌, ◌<◌, [], length, map, take, OnOk, OnErr, IfErr, IfOk};
 ghost use Rattle.buffa_wire.specs.View.{datum_of};

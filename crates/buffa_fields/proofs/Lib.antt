@@ -1,3 +1,9 @@
-pub use Rattle.buffa_map_base.proofs.SortedLemmas
+-- The lemmas that this crate hands out.
+pub mod InsideLemmas
+pub mod NestedLemmas
+pub mod GroupLemmas
+pub mod ListLemmas
+pub mod EntriesLemmas
+pub mod MapLemmas
 pub mod OrderedLemmas
 pub mod PackedLemmas

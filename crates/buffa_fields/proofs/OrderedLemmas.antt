@@ -8,9 +8,9 @@ use Rattle.std.specs.Map.{keys_of}
 use Rattle.std.specs.Ordering.{eq_by_cmp}
 use Rattle.std.specs.declared.cmp.Ordering.{Ordering}
 use Rattle.std.specs.declared.cmp.Ordering.TheVariants.{Less}
-use Rattle.buffa_map.proofs.PutLemmas.{SamePairs-insert_entry}
-use Rattle.buffa_map.specs.Pairs.{SamePairs, means, put}
-use Rattle.buffa_map.specs.Run.{step}
+use Rattle.buffa_map_base.proofs.PutLemmas.{SamePairs-insert_entry}
+use Rattle.buffa_map_base.specs.Pairs.{SamePairs, means, put}
+use Rattle.buffa_map_base.specs.Run.{step}
 use Rattle.buffa_map.specs.declared.map_entry.MapEntry.{MapEntry}
 use Rattle.buffa_map_base.proofs.SortedLemmas.{same_sorted, sorted_put}
 use Rattle.buffa_fields.specs.MapFields.{stepped}

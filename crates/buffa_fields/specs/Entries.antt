@@ -7,22 +7,22 @@ use Rattle.buffa_bytes.specs.declared.wire_type.WireType.TheVariants.{LengthDeli
 use Rattle.buffa_wire.specs.BudgetLeft.{BudgetLeft, need_by, nothing}
 use Rattle.buffa_bytes.specs.Front.{delimited_at}
 use Rattle.buffa_bytes.specs.WireType.{same_wire}
-use Rattle.buffa_map.specs.Codec.{Reading}
-use Rattle.buffa_map.specs.Entry.{entry_of}
+use Rattle.buffa_map_base.specs.Codec.{Reading}
+use Rattle.buffa_map_base.specs.Entry.{entry_of}
 use Rattle.buffa_map.specs.declared.map_entry.MapEntry.{MapEntry}
 use Rattle.buffa_wire.specs.ByField.{value_of}
 use Rattle.buffa_wire.specs.Takes.{Need, Taker}
 
 module _ {K V : Type 0} (key : Reading K) (val : Reading V) where
   -- the entry that a whole payload holds: its bytes, and what they say
-  abbrev pub entry_in : ℕ → Result (List ℕ × List ℕ) DecodeError → Option (List ℕ × MapEntry K V)
-  entry_in d (Ok (e, [])) = option_map (λ s. (e, s)) (value_of (entry_of key val d e))
-  entry_in d (Ok (e, b ∷ bs)) = None
-  entry_in d (Err f) = None
+  abbrev pub whole_entry_in : ℕ → Result (List ℕ × List ℕ) DecodeError → Option (List ℕ × MapEntry K V)
+  whole_entry_in d (Ok (e, [])) = option_map (λ s. (e, s)) (value_of (entry_of key val d e))
+  whole_entry_in d (Ok (e, b ∷ bs)) = None
+  whole_entry_in d (Err f) = None
 
   -- each payload is an entry, which does so to the value
   unfoldable pub entry_taken : {X : Type 0} → (X → List ℕ → MapEntry K V → X) → Taker X
-  entry_taken does d v n w p = if same_wire LengthDelimited w then option_map (λ x. does v x.0 x.1) (entry_in d (delimited_at p)) else None
+  entry_taken does d v n w p = if same_wire LengthDelimited w then option_map (λ x. does v x.0 x.1) (whole_entry_in d (delimited_at p)) else None
 
 -- where a length and so many bytes are there, these cost so much, at a depth
 unfoldable pub entry_cost : (ℕ → List ℕ → BudgetLeft) → Need

@@ -1,149 +1,23 @@
 -- What is proved of entries of map fields in a message.
-use Rattle.std.proofs.Common.{◌≡◌, ◌≢◌, ◌⊎◌, inl, inr, ℕ, ◌+◌, ◌^◌, ◌<◌, ◌≤◌, false, cond, List, [], ◌++◌, length, Some, Result, Ok, Err, refl, sym, ap, subst, ◌∙◌, arith, append_assoc, append-nil}
-use Rattle.buffa_bytes.proofs.DelimitedLemmas.{delimited_back, delimited_complete, delimited_faulty, delimited_taken}
-use Rattle.buffa_bytes.specs.declared.error.DecodeError.{DecodeError}
-use Rattle.buffa_bytes.specs.declared.error.DecodeError.TheVariants as error
-use Rattle.buffa_bytes.specs.declared.error.DecodeError.TheVariants.{WireTypeMismatch}
-use Rattle.buffa_bytes.specs.declared.wire_type.WireType.{WireType}
-use Rattle.buffa_bytes.specs.declared.wire_type.WireType.TheVariants.{Varint, Fixed64, LengthDelimited, StartGroup, EndGroup, Fixed32}
-use Rattle.buffa_bytes.specs.Field.{Payload}
-use Rattle.buffa_bytes.specs.Front.{delimited_at}
+use Rattle.std.proofs.Common.{◌≡◌, ℕ, ◌^◌, ◌<◌, List, length, Some, refl}
+use Rattle.buffa_bytes.specs.declared.wire_type.WireType.TheVariants.{LengthDelimited}
 use Rattle.buffa_bytes.specs.Values.{delimited_encoding}
-use Rattle.buffa_wire.proofs.MessageLemmas.{NoLimit}
-use Rattle.buffa_wire.specs.BudgetLeft.{BudgetLeft, Covers, Lacks, PaysAtMost, plus, unknown_fields}
-use Rattle.buffa_wire.specs.Message.{IsLimit}
-use Rattle.buffa_wire.specs.Takes.{IsTaken, Stays, Untaken}
-use Rattle.buffa_map.proofs.EntryLemmas.{entry_complete, entry_faulty, same_false}
-use Rattle.buffa_map.specs.Codec.{Reading}
-use Rattle.buffa_map.specs.Entry.{EntryFault, FaultOf, IsEntry, inner_need, need_of}
-use Rattle.buffa_map.specs.Laws.{LimitsAreTrue}
-use Rattle.buffa_map.specs.Merge.{MergesEntry, RefusesEntry, Rules, State}
+use Rattle.buffa_wire.specs.BudgetLeft.{BudgetLeft, need_by}
+use Rattle.buffa_wire.specs.Takes.{Stays}
+use Rattle.buffa_map_base.proofs.EntryLemmas.{entry_complete}
+use Rattle.buffa_map_base.specs.Codec.{Reading}
+use Rattle.buffa_map_base.specs.Entry.{IsEntry}
 use Rattle.buffa_map.specs.declared.map_entry.MapEntry.{MapEntry}
 use Rattle.buffa_fields.specs.Entries.{entry_cost, entry_taken}
-use Rattle.buffa_fields.specs.NestedFacts.{delimited_alone, first_same}
-
-abbrev good : Result (Unit {0}) DecodeError
-good = Ok tt
-
-abbrev bad : DecodeError → Result (Unit {0}) DecodeError
-bad e = Err e
-
-is_limit : (f : DecodeError) → IsLimit f ⊎ NoLimit f
-is_limit error.UnknownFieldLimitExceeded = inl tt
-is_limit error.ElementMemoryLimitExceeded = inl tt
-is_limit _ = inr (λ h. h)
+use Rattle.buffa_fields.specs.InsideFacts.{delimited_stays}
+use Rattle.buffa_fields_base.specs.ValueFacts.{delimited_whole}
 
 -- what an entry costs is known by the payload
 pub entry_stays : (costs : ℕ → List ℕ → BudgetLeft) → Stays (entry_cost costs)
 unfolding entry_cost
-entry_stays costs d n Varint p x h = refl
-entry_stays costs d n Fixed64 p x h = refl
-entry_stays costs d n StartGroup p x h = refl
-entry_stays costs d n EndGroup p x h = refl
-entry_stays costs d n Fixed32 p x h = refl
-entry_stays costs d n LengthDelimited p x h = let u = delimited_alone d n LengthDelimited p x (p ++ x) refl h refl in rw (u.1, u.2) refl
+entry_stays costs = delimited_stays (λ d r. need_by r (λ e. costs d e.0)) (λ d b x y. refl)
 
--- bytes cost at least what they need as an entry of so many units; if they are one, just that, and so many unknown fields if it is undeclared
-abbrev pub IsCost : {K V : Type 0} → Reading K → Reading V → ℕ → ℕ → ℕ → (List ℕ → BudgetLeft) → Type 0
-IsCost {K} {V} key val d cost extra costs =
-    (e : List ℕ) → Covers (costs e) (need_of key val d cost e)
-    × ((s : MapEntry K V) → IsEntry key val d e s → costs e ≡ plus (need_of key val d cost e) (unknown_fields (cond s.known 0 extra)))
-
--- ---- an entry is read by rules, and does so
-module _ {K V X : Type 0} (r : Rules K V) (does : X → List ℕ → MapEntry K V → X) (costs : ℕ → List ℕ → BudgetLeft) (is_cost : IsCost r.key r.val r.depth r.cost r.extra (costs r.depth))
-    (n : ℕ) (w : WireType) (old new : X) (bs rest : List ℕ) (s t : State K V) (wire : w ≡ LengthDelimited) where
-  -- it is taken
-  pub entry_ok : (m : MergesEntry r s bs t rest) → new ≡ does old m.entry m.says → IsTaken (entry_taken r.key r.val does) (entry_cost costs) r.depth old n w bs s.left good new t.left rest
-  unfolding entry_taken entry_cost
-  entry_ok m done =
-      let v = m.read.0 in
-      let e = m.entry in
-      let alone : delimited_at (v ++ e) ≡ Ok (e, []) = ap delimited_at (ap (λ (z : List ℕ). v ++ z) (sym (append-nil e))) ∙ delimited_complete v e [] m.read.1 in
-      let whole : delimited_at bs ≡ Ok (e, rest) = ap delimited_at m.read.2 ∙ delimited_complete v e rest m.read.1 in (
-        v ++ e,
-        subst (λ z. Payload r.depth n z (v ++ e)) (sym wire) (v, e, m.read.1, refl),
-        m.read.2 ∙ sym (append_assoc v e rest),
-        rw (wire, alone, entry_complete r.key r.val r.depth e m.says m.read.3) (ap (λ z. Some z) (sym done)),
-        rw (wire, whole, (is_cost e).1 m.says m.read.3) m.pays,
-      )
-
-  -- or refused
-  module _ (limits : LimitsAreTrue r.key r.val) where
-    refused_at : (e : List ℕ) (f : DecodeError) → FaultOf r.key r.val r.depth e f → (more : List ℕ) → delimited_at bs ≡ Ok (e, more) → Untaken (entry_taken r.key r.val does) r.depth old n w bs
-    unfolding entry_taken
-    refused_at e f h more is p after_p payload split =
-        let u = delimited_alone r.depth n w p after_p bs wire payload split in
-        let one : u.0 ≡ e = first_same u.0 e after_p more (sym u.1 ∙ is) in
-        let told = entry_faulty r.key r.val r.depth e f h in
-        rw (wire, u.2, one, told.1) refl
-
-    no_payload : (x : DecodeError) → delimited_at bs ≡ Err x → Untaken (entry_taken r.key r.val does) r.depth old n w bs
-    no_payload x is p more payload split = let u = delimited_alone r.depth n w p more bs wire payload split in let k = sym u.1 ∙ is in cc
-
-    more_lacked : (a b : BudgetLeft) → Covers b a → Lacks s.left a → Lacks s.left b
-    more_lacked a b c (inl x) = inl (omega (arith, x, c.0))
-    more_lacked a b c (inr x) = inr (omega (arith, x, c.1))
-
-    lacked : (e : List ℕ) → Lacks s.left (need_of r.key r.val r.depth r.cost e)
-        ⊎ ((m : MapEntry K V) × IsEntry r.key r.val r.depth e m × (m.known ≡ false) × Lacks s.left (plus (need_of r.key r.val r.depth r.cost e) (unknown_fields r.extra))) →
-        Lacks s.left (costs r.depth e)
-    lacked e (inl h) = more_lacked (need_of r.key r.val r.depth r.cost e) (costs r.depth e) (is_cost e).0 h
-    lacked e (inr (m, entry, known, h)) = rw ((is_cost e).1 m entry, known) h
-
-    why : (f : DecodeError) → EntryFault r.key r.val r.depth r.cost r.extra s.left bs f →
-        Lacks s.left (entry_cost costs r.depth n w bs) ⊎ (Untaken (entry_taken r.key r.val does) r.depth old n w bs × NoLimit f)
-    unfolding entry_cost
-    why f h = elim (is_limit f) [
-      | inl limit ↦
-          let q = limits r.depth r.cost r.extra s.left bs f h limit in
-          inl (rw (wire, delimited_taken bs q.0 q.1 q.2) (lacked q.0 q.3))
-      | inr unlimited ↦ at unlimited h
-    ]
-      where
-        at : NoLimit f → EntryFault r.key r.val r.depth r.cost r.extra s.left bs f →
-            Lacks s.left (entry_cost costs r.depth n w bs) ⊎ (Untaken (entry_taken r.key r.val does) r.depth old n w bs × NoLimit f)
-        at unlimited (inl len) = inr (no_payload f (delimited_faulty bs f len), unlimited)
-        at unlimited (inr (v, e, more, varint, split, inl (few, is))) = absurd (unlimited (subst (λ z. IsLimit z) (sym is) tt))
-        at unlimited (inr (v, e, more, varint, split, inr (enough, inl lack))) = inl (rw (wire, delimited_taken bs e more (v, varint, split)) (lacked e (inl lack)))
-        at unlimited (inr (v, e, more, varint, split, inr (enough, inr (inl fault)))) = inr (refused_at e f fault more (delimited_taken bs e more (v, varint, split)), unlimited)
-        at unlimited (inr (v, e, more, varint, split, inr (enough, inr (inr (m, entry, known, few, is))))) = absurd (unlimited (subst (λ z. IsLimit z) (sym is) tt))
-
-    -- what is left then is what the rules say; or the unknown field is given back
-    module _ (f : DecodeError) (after : BudgetLeft) (k : RefusesEntry r s bs t rest f) (units : after.memory ≡ t.left.memory) (most : after.unknown ≤ s.left.unknown)
-        (least : s.left.unknown ≤ after.unknown + (inner_need r.key r.val r.depth bs).unknown) where
-      spent : (q : Result (List ℕ × List ℕ) DecodeError) → delimited_at bs ≡ q → PaysAtMost s.left (entry_cost costs r.depth n LengthDelimited bs) after
-      unfolding entry_cost
-      spent (Err x) is =
-          let b = ap (λ (z : BudgetLeft). z.memory) (k.unspent (rw is (λ h. cc))) in
-          let c = rw is at least in
-          rw is (omega (arith, most), omega (arith, c), omega (arith, b, units), omega (arith, b, units))
-      spent (Ok (e, more)) is =
-          let c = rw is at least in
-          let covers = (is_cost e).0 in
-          elim (rw is at k.units) [
-            | inl same ↦ rw is (omega (arith, most), omega (arith, c, covers.0), omega (arith, same, units), omega (arith, same, units))
-            | inr some ↦ rw is (omega (arith, most), omega (arith, c, covers.0), omega (arith, some.0, units), omega (arith, some.1, units, covers.1))
-          ]
-
-      pub entry_err : IsTaken (entry_taken r.key r.val does) (entry_cost costs) r.depth old n w bs s.left (bad f) new after rest
-      unfolding entry_taken entry_cost
-      entry_err = (rw wire (spent (delimited_at bs) refl), λ ne. why f (k.fault ne), λ full end. let two = sym wire ∙ end in cc)
-
-module _ {K V X : Type 0} (key : Reading K) (val : Reading V) (does : X → List ℕ → MapEntry K V → X) (d n : ℕ) where
-  -- a field of another wire type is refused
-  pub entry_wire_err : (costs : ℕ → List ℕ → BudgetLeft) (w : WireType) (old new : X) (bs rest : List ℕ) (before : BudgetLeft) (f : DecodeError) →
-      w ≢ LengthDelimited → f ≡ WireTypeMismatch n LengthDelimited w → IsTaken (entry_taken key val does) (entry_cost costs) d old n w bs before (bad f) new before rest
-  unfolding entry_taken entry_cost
-  entry_wire_err costs w old new bs rest before f other is =
-      let off = same_false LengthDelimited w other in (
-        rw off (omega arith, omega arith, omega arith, omega arith),
-        λ ne. inr ((λ p more payload split. rw off refl), subst (λ z. NoLimit z) (sym is) (λ l. l)),
-        λ full end. let two = sym full ∙ is in cc,
-      )
-
-  -- an entry that is read does what it does
-  pub read_entry : (v : X) (e : List ℕ) (s : MapEntry K V) → length e < 2 ^ 64 → IsEntry key val d e s → entry_taken key val does d v n LengthDelimited (delimited_encoding e) ≡ Some (does v e s)
-  unfolding entry_taken
-  read_entry v e s short h =
-      let alone : delimited_at (delimited_encoding e) ≡ Ok (e, []) = ap delimited_at (sym (append-nil (delimited_encoding e))) ∙ delimited_back e [] short in
-      rw (alone, entry_complete key val d e s h) refl
+-- an entry that is read does what it does
+pub read_entry : {K V X : Type 0} (key : Reading K) (val : Reading V) (does : X → List ℕ → MapEntry K V → X) (d n : ℕ) (v : X) (e : List ℕ) (s : MapEntry K V) → length e < 2 ^ 64 → IsEntry key val d e s → entry_taken key val does d v n LengthDelimited (delimited_encoding e) ≡ Some (does v e s)
+unfolding entry_taken
+read_entry key val does d n v e s short h = rw (delimited_whole e short, entry_complete key val d e s h) refl

@@ -10,7 +10,7 @@ use Rattle.buffa_wire.specs.Passes.{IsWritten, cap}
 use Rattle.buffa_wire.specs.Records.{Datum}
 use Rattle.buffa_wire.specs.declared.context.DecodeContext.{DecodeContext}
 use Rattle.buffa_map.specs.Calls.{Exit}
-use Rattle.buffa_fields.specs.Groups.{group_cost, group_datum, group_encoding, group_in}
+use Rattle.buffa_fields.specs.Groups.{group_cost, group_datum, group_encoding, group_merged}
 use Rattle.buffa_fields.specs.Lists.{element_records}
 use Rattle.buffa_fields.specs.RepeatedNested.{messages_slots}
 use Rattle.buffa_wire.specs.Takes.{IsTaken}
@@ -19,7 +19,7 @@ use denote.Ref.{Bor}
 -- a message merged the group of a number whose start tag was read, and paid for it
 abbrev pub MergesGroup : {P X D T : Type 0} → ℕ → DecodeContext → Exit D → P → P → Bor (List ℕ) → Bor (List ℕ) → Result T DecodeError → (ℕ → X → List ℕ → Option X) → (ℕ → List ℕ → BudgetLeft) → (P → X) → Type 0
 MergesGroup n ctx left old new before after r merged cost says =
-    IsTaken (group_in merged) (group_cost cost) ctx.depth (says old) n StartGroup before.now ctx.budget.now r (says new) (budget_left left) after.now
+    IsTaken (group_merged merged) (group_cost cost) ctx.depth (says old) n StartGroup before.now ctx.budget.now r (says new) (budget_left left) after.now
 
 -- ---- encodings: what stands in a sink before and after
 module _ {T : Type 0} (before : Cache) (put : List ℕ) (r : Result T EncodeError) (after : Cache) (puts : List ℕ) where

@@ -29,8 +29,8 @@ unfoldable pub group_body : ℕ → List ℕ → List ℕ
 group_body d bs = scan (λ _ rest. body_step d rest (tag_at rest)) [] tt bs
 
 -- what the body of a group makes of the message that stands, one level down
-unfoldable pub group_in : {X : Type 0} → (ℕ → X → List ℕ → Option X) → Taker X
-group_in merged d v n w p = if same_wire StartGroup w then merged_in merged d v (group_body (d - 1) p) else None
+unfoldable pub group_merged : {X : Type 0} → (ℕ → X → List ℕ → Option X) → Taker X
+group_merged merged d v n w p = if same_wire StartGroup w then merged_in merged d v (group_body (d - 1) p) else None
 
 -- at a depth, what it costs
 unfoldable pub group_cost : (ℕ → List ℕ → BudgetLeft) → Need
@@ -42,7 +42,7 @@ GroupTakesMemory d n w bs = (w ≡ StartGroup) × (0 < d) × BeginsField bs
 
 -- each group is merged into the message that stands
 abbrev pub group_taken : {X : Type 0} → X → (ℕ → X → List ℕ → Option X) → Taker (Option X)
-group_taken blank merged = taken_there blank (group_in merged)
+group_taken blank merged = taken_there blank (group_merged merged)
 
 module _ {X : Type 0} (records : X → List (ℕ × Datum)) where
   -- the group of a message

@@ -14,8 +14,8 @@ use Rattle.buffa_wire.specs.Records.{bytes}
 use Rattle.buffa_wire.specs.Encoding.{records_encoding}
 use Rattle.buffa_wire.specs.declared.context.DecodeContext.{DecodeContext}
 use Rattle.buffa_map.specs.Calls.{Exit}
-use Rattle.buffa_map.specs.Codec.{Reading, Writing}
-use Rattle.buffa_map.specs.Pairs.{means}
+use Rattle.buffa_map_base.specs.Codec.{Reading, Writing}
+use Rattle.buffa_map_base.specs.Pairs.{means}
 use Rattle.buffa_fields.specs.Lists.{check_list_wire, elements_taken}
 use Rattle.buffa_fields.specs.MapFields.{pair_cost, pair_taken}
 use Rattle.buffa_fields.specs.NestedMaps.{pair_records, pair_slots}
@@ -59,8 +59,8 @@ module _ {T : Type 0} (before : Cache) (put : List ℕ) (r : Result T EncodeErro
     WritesMessage v = IsWritten (records_encoding ((n, bytes (encoding v)) ∷ [])) (cap (length (encoding v)) ∷ slots v) before put r after puts
 
     -- a list of them
-    abbrev pub WritesMessages : List X → Type 0
-    WritesMessages vs = IsWritten (records_encoding (messages_records encoding n vs)) (messages_slots encoding slots vs) before put r after puts
+    abbrev pub WritesMessageList : List X → Type 0
+    WritesMessageList vs = IsWritten (records_encoding (messages_records encoding n vs)) (messages_slots encoding slots vs) before put r after puts
 
     -- a map of them
     abbrev pub WritesPairs : {K : Type 0} → Writing K → List (K × X) → Type 0

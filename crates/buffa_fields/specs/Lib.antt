@@ -1,7 +1,4 @@
-pub use Rattle.buffa_fields_base.specs.PairFacts
-pub use Rattle.buffa_fields_base.specs.Values
-pub use Rattle.buffa_fields_base.specs.ValueFacts
-pub use Rattle.buffa_fields_base.specs.KindFacts
+-- The words that this crate hands out.
 pub mod Refusals
 pub mod Entries
 pub mod EntriesFacts
@@ -9,17 +6,12 @@ pub mod MapFields
 pub mod MapFacts
 pub mod OrderedMaps
 pub mod OrderedFacts
-pub use Rattle.buffa_fields_base.specs.Keep
-pub use Rattle.buffa_fields_base.specs.KeepFacts
-pub use Rattle.buffa_fields_base.specs.Layout
-pub use Rattle.buffa_fields_base.specs.LayoutFacts
-pub use Rattle.buffa_fields_base.specs.Members
-pub use Rattle.buffa_fields_base.specs.MemberRecords
 pub mod Nested
 pub mod NestedFacts
 pub mod Lists
 pub mod ListFacts
 pub mod RepeatedNested
+pub mod InsideFacts
 pub mod RepeatedNestedFacts
 pub mod NestedMaps
 pub mod NestedMapFacts
@@ -28,6 +20,4 @@ pub mod GroupFacts
 pub mod RepeatedGroups
 pub mod RepeatedGroupFacts
 pub mod GroupCalls
-pub use Rattle.buffa_fields_base.specs.Stands
-pub use Rattle.buffa_fields_base.specs.Calls
 pub mod KindCalls

@@ -1,5 +1,5 @@
 -- Messages as members. Source: the protobuf encoding guide, "Submessages".
-use Rattle.std.specs.Prelude.{◌≡◌, ◌≢◌, ◌<◌, ℕ, suc, List, [], ◌∷◌, length, Option, Some, None, Result, Ok, Err, if◌then◌else◌}
+use Rattle.std.specs.Prelude.{◌≡◌, ◌≢◌, ◌<◌, ℕ, suc, List, [], ◌∷◌, ◌++◌, length, Option, Some, None, Result, Ok, Err, if◌then◌else◌}
 use Rattle.std.specs.Option.{option_map}
 use Rattle.buffa_bytes.specs.declared.error.DecodeError.{DecodeError}
 use Rattle.buffa_bytes.specs.declared.wire_type.WireType.TheVariants.{LengthDelimited}
@@ -19,8 +19,8 @@ module _ {X : Type 0} (merged : ℕ → X → List ℕ → Option X) where
   inside d v (Ok (b, x ∷ xs)) = None
   inside d v (Err e) = None
 
-  unfoldable pub message_in : Taker X
-  message_in d v n w p = if same_wire LengthDelimited w then inside d v (delimited_at p) else None
+  unfoldable pub message_merged : Taker X
+  message_merged d v n w p = if same_wire LengthDelimited w then inside d v (delimited_at p) else None
 
 -- at a depth, what it costs
 unfoldable pub message_cost : (ℕ → List ℕ → BudgetLeft) → Need
@@ -41,9 +41,13 @@ module _ {X : Type 0} (blank : X) where
   abbrev pub taken_there : Taker X → Taker (Option X)
   taken_there takes d v n w p = option_map (λ x. Some x) (takes d (or_blank v) n w p)
 
+  -- each payload makes a new value of the default one; it goes behind the others
+  abbrev pub taken_behind : Taker X → Taker (List X)
+  taken_behind takes d vs n w p = option_map (λ x. vs ++ x ∷ []) (takes d blank n w p)
+
   -- each payload is merged into it
   abbrev pub message_taken : (ℕ → X → List ℕ → Option X) → Taker (Option X)
-  message_taken merged = taken_there (message_in merged)
+  message_taken merged = taken_there (message_merged merged)
 
 module _ {X : Type 0} (encoding : X → List ℕ) where
   unfoldable pub message_records : ℕ → Option X → List (ℕ × Datum)

@@ -16,13 +16,13 @@ use Rattle.buffa_wire.specs.Encoding.{records_encoding}
 use Rattle.buffa_bytes.specs.Values.{tag_encoding}
 use Rattle.buffa_bytes.specs.Varint.{varint_encoding}
 use Rattle.buffa_map.proofs.BackLemmas.{IsReadBack}
-use Rattle.buffa_map.proofs.MessageFieldLemmas.{small_field}
-use Rattle.buffa_map.proofs.SizeLemmas.{length-entry_encoding, length-field_encoding}
-use Rattle.buffa_map.specs.Codec.{Reading, Writing}
-use Rattle.buffa_map.specs.Message.{meant, message_reading}
-use Rattle.buffa_map.specs.MessageField.{IsFieldSized, IsFieldWritten, IsSmallField, field_slots}
-use Rattle.buffa_map.specs.Scalars.{delimited_writing}
-use Rattle.buffa_map.specs.Encoding.{AllHold, field_size, field_encoding}
+use Rattle.buffa_map_write.proofs.MessageFieldLemmas.{small_field}
+use Rattle.buffa_map_base.proofs.SizeLemmas.{length-entry_encoding, length-field_encoding}
+use Rattle.buffa_map_base.specs.Codec.{Reading, Writing}
+use Rattle.buffa_map_base.specs.Message.{meant, message_reading}
+use Rattle.buffa_map_base.specs.MessageField.{IsFieldSized, IsFieldWritten, IsSmallField, field_slots}
+use Rattle.buffa_map_base.specs.Scalars.{delimited_writing}
+use Rattle.buffa_map_base.specs.Encoding.{AllHold, field_size, field_encoding}
 use Rattle.buffa_fields_base.specs.LayoutFacts.{failed, sum}
 use Rattle.buffa_fields.specs.MapFields.{map_records, pair_taken, put_all}
 use Rattle.buffa_fields.specs.MapFacts.{map_back, map_encoding}

@@ -8,9 +8,9 @@ use Rattle.buffa_bytes.specs.declared.wire_type.WireType.TheVariants.{LengthDeli
 use Rattle.buffa_bytes.specs.Front.{check_wire, delimited_at}
 use Rattle.buffa_wire.specs.BudgetLeft.{BudgetLeft}
 use Rattle.buffa_wire.specs.Message.{BeginsField}
-use Rattle.buffa_map.specs.Codec.{Reading}
-use Rattle.buffa_map.specs.Entry.{EntryFault}
-use Rattle.buffa_map.specs.Pairs.{means}
+use Rattle.buffa_map_base.specs.Codec.{Reading}
+use Rattle.buffa_map_base.specs.Entry.{EntryFault}
+use Rattle.buffa_map_base.specs.Pairs.{means}
 use Rattle.buffa_fields_base.specs.Layout.{Shape}
 use Rattle.buffa_fields_base.specs.Values.{RefusesAlone}
 use Rattle.buffa_fields.specs.Lists.{element_at, elements_in}
@@ -27,8 +27,8 @@ RefusesAs {X = X} s refuses =
     (d : ℕ) (old : X) (n : ℕ) (w : WireType) (bs : List ℕ) (e : DecodeError) (new : X) → s.refuses d old n w bs e new ↔ refuses d old n w bs e new
 
 -- a call that took the field whose tag was read, where it was refused
-abbrev pub RefusesField : {X T : Type 0} → Refusal X → Tag → ℕ → X → X → Bor (List ℕ) → Result T DecodeError → Type 0
-RefusesField refuses tag d old new before r = (e : DecodeError) → r ≡ Err e → refuses d old tag.number tag.wire_type before.now e new
+abbrev pub RefusesTaggedField : {X T : Type 0} → Refusal X → Tag → ℕ → X → X → Bor (List ℕ) → Result T DecodeError → Type 0
+RefusesTaggedField refuses tag d old new before r = (e : DecodeError) → r ≡ Err e → refuses d old tag.number tag.wire_type before.now e new
 
 -- A refused entry isn't put: the pairs are as they were. Unless memory ran out, the wire type is told, or the fault that the
 -- entry has at some budget: of its length, of the units left, or the first of its fields; any, where a message in it lacks some.
@@ -40,20 +40,20 @@ RefusesPair key val cost d old n w bs e new =
 -- the same of a call, where keys and values mean so, and a pair costs so many units
 abbrev pub RefusesPairIn : {A B T K V : Type 0} → Tag → ℕ → List (A × B) → List (A × B) → Bor (List ℕ) → Result T DecodeError → (A → K) → (B → V) → Reading K → Reading V → ℕ → Type 0
 RefusesPairIn tag d old new before r key_means val_means key val cost =
-    RefusesField (RefusesPair key val cost) tag d (means key_means val_means old) (means key_means val_means new) before r
+    RefusesTaggedField (RefusesPair key val cost) tag d (means key_means val_means old) (means key_means val_means new) before r
 
 -- ---- lists
 module _ {V : Type 0} (codec : Reading V) where
   -- the elements that a front of these bytes is stand behind those that stood, and the next one has the fault, unless memory ran out
-  abbrev pub StopsAt : ℕ → List V → List ℕ → DecodeError → List V → Type 0
-  StopsAt d old b e new =
+  abbrev pub StopsAtElement : ℕ → List V → List ℕ → DecodeError → List V → Type 0
+  StopsAtElement d old b e new =
       (front : List ℕ) × (rest : List ℕ) × (b ≡ front ++ rest) × (elements_in codec d old front ≡ Ok new)
       × (e ≢ OutOfMemory → element_at codec d new rest ≡ Err e)
 
   -- packed elements were refused: no length and so many bytes are there, and the list is as it was; or one of them was
   abbrev pub RefusesPacked : ℕ → List V → List ℕ → DecodeError → List V → Type 0
   RefusesPacked d old bs e new =
-      ((delimited_at bs ≡ Err e) × (old ≡ new)) ⊎ ((b : List ℕ) × (after : List ℕ) × (delimited_at bs ≡ Ok (b, after)) × StopsAt d old b e new)
+      ((delimited_at bs ≡ Err e) × (old ≡ new)) ⊎ ((b : List ℕ) × (after : List ℕ) × (delimited_at bs ≡ Ok (b, after)) × StopsAtElement d old b e new)
 
   -- A refused element isn't put, nor a field that is of no wire type of a list: the list is as it was, and the fault is told, unless
   -- memory ran out. Of packed elements those before the one that is refused are.

@@ -1,6 +1,5 @@
 -- Lists of messages. Source: the protobuf encoding guide, "Repeated Elements" and "Submessages".
 use Rattle.std.specs.Prelude.{◌≡◌, ◌<◌, ℕ, suc, max, List, [], ◌∷◌, ◌++◌, length, Option, IsOk, if◌then◌else◌}
-use Rattle.std.specs.Option.{option_map}
 use Rattle.buffa_bytes.specs.declared.wire_type.WireType.TheVariants.{LengthDelimited}
 use Rattle.buffa_wire.specs.BudgetLeft.{BudgetLeft, nothing, plus, units}
 use Rattle.buffa_wire.specs.Message.{cost_of_payload}
@@ -9,12 +8,12 @@ use Rattle.buffa_bytes.specs.Front.{delimited_at}
 use Rattle.buffa_wire.specs.Records.{Datum, bytes}
 use Rattle.buffa_bytes.specs.WireType.{same_wire}
 use Rattle.buffa_fields.specs.Lists.{element_records}
-use Rattle.buffa_fields.specs.Nested.{message_in}
+use Rattle.buffa_fields.specs.Nested.{message_merged, taken_behind}
 use Rattle.buffa_wire.specs.Takes.{Asks, Need, Taker}
 
 -- each payload is merged into a default message, which goes behind the others
 abbrev pub messages_taken : {X : Type 0} → X → (ℕ → X → List ℕ → Option X) → Taker (List X)
-messages_taken blank merged d vs n w p = option_map (λ x. vs ++ x ∷ []) (message_in merged d blank n w p)
+messages_taken blank merged = taken_behind blank (message_merged merged)
 
 -- at a depth, what it costs: so many units for a message, and what is in it
 unfoldable pub messages_cost : ℕ → (ℕ → List ℕ → BudgetLeft) → Need

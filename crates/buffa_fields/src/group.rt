@@ -12,12 +12,12 @@ ghost use Rattle.buffa_wire.specs.Passes.{IsNext, IsSized, cap};
 ghost use Rattle.buffa_bytes.specs.Front.{check_wire};
 ghost use Rattle.buffa_fields_base.specs.Calls.{ChecksWire, TakesIn};
 ghost use Rattle.buffa_fields.specs.GroupCalls.{MergesGroup, WritesGroup};
-ghost use Rattle.buffa_fields.specs.Groups.{GroupTakesMemory, group_cost, group_encoding, group_in, group_records, group_taken};
-ghost use Rattle.buffa_fields.specs.GroupFacts.{group_back, group_stays};
+ghost use Rattle.buffa_fields.specs.Groups.{GroupTakesMemory, group_cost, group_encoding, group_merged, group_records, group_taken};
+ghost use Rattle.buffa_fields.specs.GroupFacts.{group_member_back, group_stays};
 ghost use Rattle.buffa_wire.proofs.ByPayloadLemmas.{by_payload, merged_fields};
 ghost use Rattle.buffa_fields.specs.Nested.{message_levels, message_slots};
 ghost use Rattle.buffa_wire.specs.Takes.{IsTaken};
-ghost use Rattle.buffa_fields.specs.Refusals.{RefusesField, RefusesGroup, RefusesInGroup};
+ghost use Rattle.buffa_fields.specs.Refusals.{RefusesTaggedField, RefusesGroup, RefusesInGroup};
 ghost use Rattle.buffa_fields_base.specs.Values.{IfThere};
 
 use buffa_fields_base::member::Member;
@@ -134,12 +134,12 @@ pub(crate) fn take_group<N: Message>(
     buf: &mut &[u8],
     ctx: DecodeContext<'_>,
 ) -> Result<(), DecodeError>
-    ensures taken { TakesIn tag ctx.entry ctx.exit message.old message.new buf.old buf.new result (group_in N.merged)
+    ensures taken { TakesIn tag ctx.entry ctx.exit message.old message.new buf.old buf.new result (group_merged N.merged)
         (group_cost N.cost) N.meaning }
     ensures full { FullOnlyIf result (GroupTakesMemory ctx.entry.depth tag.number tag.wire_type buf.old.now) }
     ensures wire { ChecksWire tag WireType.StartGroup result (N.meaning message.old) (N.meaning message.new) buf.old
         buf.new }
-    ensures refused { RefusesField RefusesInGroup tag ctx.entry.depth (N.meaning message.old) (N.meaning message.new)
+    ensures refused { RefusesTaggedField RefusesInGroup tag ctx.entry.depth (N.meaning message.old) (N.meaning message.new)
         buf.old result }
 {
     match check_wire_type(tag, WireType::StartGroup) {
@@ -222,7 +222,7 @@ impl<N: Message> Member for Group<N> {
     }
 
     ghost back = { record {
-      back = λ n number d v fits normal low. group_back N.merged N.blank_is N.encoding N.records N.levels N.normal
+      back = λ n number d v fits normal low. group_member_back N.merged N.blank_is N.encoding N.records N.levels N.normal
           N.MessageSpec.encoding_records
           (merged_fields (by_payload N.MessageSpec.stays N.MessageSpec.merged_is N.MessageSpec.cost_is))
           N.MessageSpec.merged_encoding n number d v fits normal low;

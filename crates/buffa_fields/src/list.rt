@@ -11,7 +11,7 @@ ghost use Rattle.buffa_wire.specs.Encoding.{records_encoding};
 ghost use Rattle.buffa_bytes.specs.Written.{Writes};
 ghost use Rattle.buffa_fields.specs.KindCalls.{ChecksListWire, TakesElements};
 ghost use Rattle.buffa_fields.specs.Lists.{ElementsTakeMemory, PackedTakeMemory, TakesPacked, element_at, element_records, elements_in, elements_taken};
-ghost use Rattle.buffa_fields.specs.Refusals.{RefusesElements, RefusesField, RefusesPacked, StopsAt};
+ghost use Rattle.buffa_fields.specs.Refusals.{RefusesElements, RefusesTaggedField, RefusesPacked, StopsAtElement};
 ghost use Rattle.buffa_wire.specs.Takes.{IsTaken};
 ghost use Rattle.buffa_fields_base.specs.Values.{free};
 
@@ -63,7 +63,7 @@ fn take_all<C: MapCodec>(
     ensures reads { GivesUnlessFull (λ _. map C.Value.meaning values.new.items) result
         (elements_in C.reading depth (map C.Value.meaning values.old.items) body.now) }
     ensures full { FullOnlyIf result (IsOk (content_at C.reading.wire body.now)) }
-    ensures stops { IfErr result (λ e. StopsAt C.reading depth (map C.Value.meaning values.old.items) body.now e
+    ensures stops { IfErr result (λ e. StopsAtElement C.reading depth (map C.Value.meaning values.old.items) body.now e
         (map C.Value.meaning values.new.items)) }
 {
     let mut rest = body;
@@ -125,7 +125,7 @@ pub(crate) fn take_elements<C: MapCodec>(
     ensures full { FullOnlyIf result (ElementsTakeMemory C.reading depth tag.number tag.wire_type buf.old.now) }
     ensures wire { ChecksListWire tag C.WIRE_TYPE result (map C.Value.meaning values.old.items)
         (map C.Value.meaning values.new.items) buf.old buf.new }
-    ensures refused { RefusesField (RefusesElements C.reading) tag depth (map C.Value.meaning values.old.items)
+    ensures refused { RefusesTaggedField (RefusesElements C.reading) tag depth (map C.Value.meaning values.old.items)
         (map C.Value.meaning values.new.items) buf.old result }
 {
     match check_wire_type(tag, C::WIRE_TYPE) {

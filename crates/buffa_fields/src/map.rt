@@ -6,7 +6,7 @@ ghost use Rattle.buffa_bytes.specs.Gives.{FullOnlyIf};
 ghost use Rattle.buffa_bytes.specs.Number.{IsNumber};
 ghost use Rattle.buffa_wire.specs.Passes.{cap};
 ghost use Rattle.buffa_wire.specs.Encoding.{records_encoding};
-ghost use Rattle.buffa_map.specs.Pairs.{means, put};
+ghost use Rattle.buffa_map_base.specs.Pairs.{means, put};
 ghost use Rattle.buffa_fields_base.specs.Calls.{ChecksWire};
 ghost use Rattle.buffa_fields.specs.KindCalls.{TakesEntry};
 ghost use Rattle.buffa_fields.specs.MapFields.{PairTakesMemory, WritesMap, map_records, pair_cost, pair_taken};

@@ -7,11 +7,10 @@ ghost use Rattle.std.specs.Map.{keys_of};
 ghost use Rattle.buffa_bytes.specs.declared.wire_type.WireType.TheVariants.{LengthDelimited};
 ghost use Rattle.buffa_bytes.specs.Front.{check_wire};
 ghost use Rattle.buffa_map.proofs.BackLemmas.{plain_back};
-ghost use Rattle.buffa_map.specs.Pairs.{means, put};
-ghost use Rattle.buffa_map.specs.Encoding.{AllHold};
-ghost use Rattle.buffa_fields.specs.MapFields.{PairTakesMemory, pair_cost, pair_taken};
+ghost use Rattle.buffa_map_base.specs.Pairs.{means, put};
+ghost use Rattle.buffa_map_base.specs.Encoding.{AllHold};
+ghost use Rattle.buffa_fields.specs.MapFields.{PairTakesMemory, pair_cost, pair_taken, entry_records};
 ghost use Rattle.buffa_fields.specs.MapFacts.{distinct_put, map_back, map_stays};
-ghost use Rattle.buffa_fields.specs.MapFields.{entry_records};
 ghost use Rattle.buffa_fields.specs.Refusals.{RefusesPair};
 
 use crate::map::{map_len, take_entry, write_map};

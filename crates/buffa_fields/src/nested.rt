@@ -13,10 +13,10 @@ ghost use Rattle.buffa_wire.specs.Encoding.{records_encoding};
 ghost use Rattle.buffa_bytes.specs.Written.{Writes};
 ghost use Rattle.buffa_fields_base.specs.Calls.{ChecksWire, TakesIn};
 ghost use Rattle.buffa_fields.specs.KindCalls.{WritesMessage};
-ghost use Rattle.buffa_fields.specs.Nested.{FitsInside, MessageTakesMemory, message_cost, message_in, message_levels, message_records, message_slots, message_taken};
-ghost use Rattle.buffa_fields.specs.NestedFacts.{Tells, head, message_back, message_stays};
+ghost use Rattle.buffa_fields.specs.Nested.{FitsInside, MessageTakesMemory, message_cost, message_merged, message_levels, message_records, message_slots, message_taken};
+ghost use Rattle.buffa_fields.specs.NestedFacts.{TellsLength, head, nested_back, message_stays};
 ghost use Rattle.buffa_wire.specs.Takes.{IsTaken};
-ghost use Rattle.buffa_fields.specs.Refusals.{RefusesField, RefusesInside, RefusesMessage};
+ghost use Rattle.buffa_fields.specs.Refusals.{RefusesTaggedField, RefusesInside, RefusesMessage};
 ghost use Rattle.buffa_fields_base.specs.Values.{IfThere};
 
 use buffa_fields_base::member::Member;
@@ -31,7 +31,7 @@ use std::marker::PhantomData;
 #[tactic(auto, using(crate::specs::NestedFacts::record_size))]
 pub(crate) fn record_len(number: u32, inner: u64) -> u32
     requires { IsNumber number }
-    ensures { (encoding : List ℕ) → Tells inner encoding → result ≡ cap (length (records_encoding ((number, bytes encoding) ∷ []))) }
+    ensures { (encoding : List ℕ) → TellsLength inner encoding → result ≡ cap (length (records_encoding ((number, bytes encoding) ∷ []))) }
 {
     let tag = Tag::new(number, WireType::LengthDelimited).encoded_len() as u64;
     let len = prefix_len(inner) as u64;
@@ -103,12 +103,12 @@ pub(crate) fn take_inside<N: Message>(
     buf: &mut &[u8],
     ctx: DecodeContext<'_>,
 ) -> Result<(), DecodeError>
-    ensures taken { TakesIn tag ctx.entry ctx.exit message.old message.new buf.old buf.new result (message_in N.merged)
+    ensures taken { TakesIn tag ctx.entry ctx.exit message.old message.new buf.old buf.new result (message_merged N.merged)
         (message_cost N.cost) N.meaning }
     ensures full { FullOnlyIf result (MessageTakesMemory ctx.entry.depth tag.number tag.wire_type buf.old.now) }
     ensures wire { ChecksWire tag WireType.LengthDelimited result (N.meaning message.old) (N.meaning message.new)
         buf.old buf.new }
-    ensures refused { RefusesField RefusesInside tag ctx.entry.depth (N.meaning message.old) (N.meaning message.new)
+    ensures refused { RefusesTaggedField RefusesInside tag ctx.entry.depth (N.meaning message.old) (N.meaning message.new)
         buf.old result }
 {
     match check_wire_type(tag, WireType::LengthDelimited) {
@@ -191,7 +191,7 @@ impl<N: Message> Member for Nested<N> {
     }
 
     ghost back = { record {
-      back = λ n number d v fits normal low. message_back N.merged N.blank_is N.encoding N.levels
+      back = λ n number d v fits normal low. nested_back N.merged N.blank_is N.encoding N.levels
           (FitsInside N.normal N.records)
           (λ d v ok low. N.MessageSpec.merged_encoding d v ok.1 ok.0 low) n number d v fits normal low;
     } };

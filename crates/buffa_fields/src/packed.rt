@@ -8,9 +8,9 @@ ghost use Rattle.buffa_wire.specs.Passes.{IsWritten, cap};
 ghost use Rattle.buffa_wire.specs.Encoding.{records_encoding, encodings};
 ghost use Rattle.buffa_bytes.specs.WireType.{same_wire};
 ghost use Rattle.buffa_bytes.specs.Written.{Writes};
-ghost use Rattle.buffa_map.specs.Encoding.{saturated};
+ghost use Rattle.buffa_map_base.specs.Encoding.{saturated};
 ghost use Rattle.buffa_fields.specs.Lists.{ElementsTakeMemory, check_list_wire, elements_taken, packed_records};
-ghost use Rattle.buffa_fields.specs.ListFacts.{packed_back};
+ghost use Rattle.buffa_fields.specs.ListFacts.{packed_field_back};
 ghost use Rattle.buffa_fields.specs.Refusals.{RefusesElements};
 ghost use Rattle.buffa_fields_base.specs.Values.{free};
 
@@ -201,8 +201,8 @@ impl<C: Packable> Member for Packed<C> {
     }
 
     ghost back = { record {
-      back = λ k number d v fits normal low. packed_back C.reading C.writing C.datum k number d C.MapCodec.plain
-          C.MapValueDecode.no_limit C.WIRE_TYPE C.MapValueDecode.wire C.MapCodec.written_wire C.fits C.normal
+      back = λ k number d v fits normal low. packed_field_back C.reading C.writing C.datum k number d C.MapCodec.plain
+          C.WIRE_TYPE C.MapValueDecode.wire C.MapCodec.written_wire C.fits C.normal
           C.MapCodec.reads_back C.Kind.datum_encoding C.Packable.apart v fits normal;
     } };
 }

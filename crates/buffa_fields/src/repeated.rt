@@ -72,7 +72,7 @@ impl<C: Kind> Member for Repeated<C> {
 
     ghost back = { record {
       back = λ k number d v fits normal low. elements_back C.reading C.writing C.datum k number d C.MapCodec.plain
-          C.MapValueDecode.no_limit C.WIRE_TYPE C.MapValueDecode.wire C.MapCodec.written_wire C.fits C.normal
+          C.WIRE_TYPE C.MapValueDecode.wire C.MapCodec.written_wire C.fits C.normal
           C.MapCodec.reads_back C.Kind.datum_encoding v normal;
     } };
 }

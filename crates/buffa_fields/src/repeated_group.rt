@@ -11,14 +11,14 @@ ghost use Rattle.buffa_bytes.specs.Front.{check_wire};
 ghost use Rattle.buffa_wire.specs.Encoding.{records_encoding};
 ghost use Rattle.buffa_fields_base.specs.Calls.{ChecksWire, TakesIn};
 ghost use Rattle.buffa_fields.specs.GroupCalls.{WritesGroups};
-ghost use Rattle.buffa_fields.specs.Groups.{GroupTakesMemory, group_datum, group_in};
+ghost use Rattle.buffa_fields.specs.Groups.{GroupTakesMemory, group_datum, group_merged};
 ghost use Rattle.buffa_fields.specs.Lists.{element_records};
 ghost use Rattle.buffa_fields.specs.RepeatedGroups.{GroupsTakeMemory, groups_cost, groups_taken};
 ghost use Rattle.buffa_fields.specs.RepeatedGroupFacts.{groups_back, groups_stay};
 ghost use Rattle.buffa_fields.specs.RepeatedNested.{messages_levels, messages_slots};
 ghost use Rattle.buffa_wire.proofs.ByPayloadLemmas.{by_payload, merged_fields};
 ghost use Rattle.buffa_wire.specs.Takes.{IsTaken};
-ghost use Rattle.buffa_fields.specs.Refusals.{RefusesField, RefusesNew};
+ghost use Rattle.buffa_fields.specs.Refusals.{RefusesTaggedField, RefusesNew};
 
 use crate::group::{group_len, take_group, write_group};
 use buffa_fields_base::member::Member;
@@ -37,7 +37,7 @@ fn take_charged<N: Message>(
     buf: &mut &[u8],
     ctx: DecodeContext<'_>,
 ) -> Result<(), DecodeError>
-    ensures taken { TakesIn tag ctx.entry ctx.exit message.old message.new buf.old buf.new result (group_in N.merged)
+    ensures taken { TakesIn tag ctx.entry ctx.exit message.old message.new buf.old buf.new result (group_merged N.merged)
         (groups_cost N.COST N.cost) N.meaning }
     ensures full { FullOnlyIf result (GroupTakesMemory ctx.entry.depth tag.number tag.wire_type buf.old.now) }
     ensures wire { ChecksWire tag WireType.StartGroup result (N.meaning message.old) (N.meaning message.new) buf.old
@@ -72,7 +72,7 @@ fn take_element<N: Message>(
     ensures full { FullOnlyIf result (GroupsTakeMemory ctx.entry.depth tag.number tag.wire_type buf.old.now) }
     ensures wire { ChecksWire tag WireType.StartGroup result (map N.meaning messages.old.items)
         (map N.meaning messages.new.items) buf.old buf.new }
-    ensures refused { RefusesField RefusesNew tag ctx.entry.depth (map N.meaning messages.old.items)
+    ensures refused { RefusesTaggedField RefusesNew tag ctx.entry.depth (map N.meaning messages.old.items)
         (map N.meaning messages.new.items) buf.old result }
 {
     let mut message = N::blank(alloc);

@@ -10,12 +10,12 @@ ghost use Rattle.buffa_wire.specs.Passes.{IsNext, IsSized, IsWritten};
 ghost use Rattle.buffa_bytes.specs.Front.{check_wire};
 ghost use Rattle.buffa_wire.specs.Encoding.{records_encoding};
 ghost use Rattle.buffa_fields_base.specs.Calls.{ChecksWire, TakesIn};
-ghost use Rattle.buffa_fields.specs.KindCalls.{WritesMessages};
-ghost use Rattle.buffa_fields.specs.Nested.{FitsInside, MessageTakesMemory, message_in};
+ghost use Rattle.buffa_fields.specs.KindCalls.{WritesMessageList};
+ghost use Rattle.buffa_fields.specs.Nested.{FitsInside, MessageTakesMemory, message_merged};
 ghost use Rattle.buffa_fields.specs.RepeatedNested.{MessagesTakeMemory, messages_cost, messages_levels, messages_records, messages_slots, messages_taken};
 ghost use Rattle.buffa_fields.specs.RepeatedNestedFacts.{messages_back, messages_stay};
 ghost use Rattle.buffa_wire.specs.Takes.{IsTaken};
-ghost use Rattle.buffa_fields.specs.Refusals.{RefusesField, RefusesNew};
+ghost use Rattle.buffa_fields.specs.Refusals.{RefusesTaggedField, RefusesNew};
 
 use crate::nested::{message_len, write_message};
 use buffa_fields_base::member::Member;
@@ -34,7 +34,7 @@ fn take_charged<N: Message>(
     buf: &mut &[u8],
     ctx: DecodeContext<'_>,
 ) -> Result<(), DecodeError>
-    ensures taken { TakesIn tag ctx.entry ctx.exit message.old message.new buf.old buf.new result (message_in N.merged)
+    ensures taken { TakesIn tag ctx.entry ctx.exit message.old message.new buf.old buf.new result (message_merged N.merged)
         (messages_cost N.COST N.cost) N.meaning }
     ensures full { FullOnlyIf result (MessageTakesMemory ctx.entry.depth tag.number tag.wire_type buf.old.now) }
     ensures wire { ChecksWire tag WireType.LengthDelimited result (N.meaning message.old) (N.meaning message.new)
@@ -69,7 +69,7 @@ fn take_message<N: Message>(
     ensures full { FullOnlyIf result (MessagesTakeMemory ctx.entry.depth tag.number tag.wire_type buf.old.now) }
     ensures wire { ChecksWire tag WireType.LengthDelimited result (map N.meaning messages.old.items)
         (map N.meaning messages.new.items) buf.old buf.new }
-    ensures refused { RefusesField RefusesNew tag ctx.entry.depth (map N.meaning messages.old.items)
+    ensures refused { RefusesTaggedField RefusesNew tag ctx.entry.depth (map N.meaning messages.old.items)
         (map N.meaning messages.new.items) buf.old result }
 {
     let mut message = N::blank(alloc);
@@ -113,7 +113,7 @@ fn write_messages<N: Message, S: EncodeSink>(
 ) -> Result<(), EncodeError>
     requires number { IsNumber number }
     requires next { IsNext (messages_slots N.encoding N.slots (map N.meaning messages.now)) cache.old }
-    ensures { WritesMessages cache.old (S.written sink.old) result cache.new (S.written sink.new) N.encoding N.slots number
+    ensures { WritesMessageList cache.old (S.written sink.old) result cache.new (S.written sink.new) N.encoding N.slots number
         (map N.meaning messages.now) }
 {
     for message in messages {

@@ -15,7 +15,7 @@ use Rattle.buffa_wire.specs.Encoding.{records_encoding}
 use Rattle.buffa_wire.specs.declared.context.DecodeContext.{DecodeContext}
 use Rattle.buffa_map_base.specs.Calls.{Exit}
 use Rattle.buffa_map_base.specs.Codec.{Reading}
-use Rattle.buffa_fields_base.specs.Layout.{Kept, Layout}
+use Rattle.buffa_fields_base.specs.Layout.{IsFieldKept, Layout}
 use Rattle.buffa_wire.specs.Takes.{IsTaken, Need, Taker, cost_of, merged_of}
 use Rattle.buffa_fields_base.specs.Values.{free, value_taken}
 use denote.Ref.{Bor}
@@ -50,7 +50,7 @@ MemberTakes tag ctx left old new before after r l =
 -- a message keeps each field, behind those that it has
 abbrev pub KeepsFields : {M : Type 0} → FieldTaken M → (M → List (ℕ × Datum)) → Type 0
 KeepsFields {M} taken says =
-    (d n : ℕ) (old new : M) (w : WireType) (bs rest : List ℕ) (a b : BudgetLeft) (r : Result (Unit {0}) DecodeError) → taken d old n w bs a r new b rest → Kept d (says old) n w bs a r (says new) b rest
+    (d n : ℕ) (old new : M) (w : WireType) (bs rest : List ℕ) (a b : BudgetLeft) (r : Result (Unit {0}) DecodeError) → taken d old n w bs a r new b rest → IsFieldKept d (says old) n w bs a r (says new) b rest
 
 -- a message of such members merged all the fields that the bytes are, and paid for them
 abbrev pub MergesAll : {M X D T : Type 0} → DecodeContext → Exit D → M → M → List ℕ → Result T DecodeError → Taker X → Need → (M → X) → Type 0

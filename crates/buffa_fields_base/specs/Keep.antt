@@ -1,4 +1,4 @@
--- Fields that are kept as records. Source: the protobuf encoding guide, "Message Structure".
+-- What a field does that a message doesn't declare and keeps. Source: the protobuf encoding guide, "Message Structure".
 use Rattle.std.specs.Prelude.{◌≡◌, ◌⊎◌, ℕ, Bool, true, List, [], ◌∷◌, ◌++◌, Option, Some, None, Result, Ok, Err, IsOk}
 use Rattle.std.specs.Option.{option_map}
 use Rattle.buffa_bytes.specs.declared.wire_type.WireType.{WireType}

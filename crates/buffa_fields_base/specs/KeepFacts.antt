@@ -1,4 +1,4 @@
--- What is proved of fields that are kept.
+-- What is proved of fields that a message doesn't declare and keeps.
 use Rattle.std.proofs.Common.{◌≡◌, ◌≢◌, ◌⊎◌, inl, inr, ℕ, suc, ◌+◌, ◌<◌, ◌≤◌, List, [], ◌∷◌, ◌++◌, length, Some, Result, Ok, Err, IsOk, refl, ap, sym, subst, ◌∙◌, arith, append_assoc, append-nil}
 use Rattle.buffa_bytes.proofs.StepLemmas.{agree_err, agree_ok}
 use Rattle.buffa_bytes.specs.Field.{Group, PayloadOver}
@@ -23,7 +23,7 @@ use Rattle.buffa_wire.proofs.JoinLemmas.{payload_of_record, record_of_payload}
 use Rattle.buffa_wire.specs.Kept.{keep_need, kept_record_at, spent_of}
 use Rattle.buffa_fields_base.specs.Keep.{AllNumbers, IsFieldThere, KeepTakesMemory, keep_takes}
 use Rattle.buffa_fields_base.specs.PairFacts.{both_true}
-use Rattle.buffa_wire.specs.Takes.{IsTaken, Leads, Piece, ReadsBack, Untaken, joined}
+use Rattle.buffa_wire.specs.Takes.{IsTaken, Leads, Piece, ReadsBack, Untaken, joined_fields}
 use Rattle.buffa_wire.proofs.SequenceLemmas.{err_same}
 use Rattle.buffa_wire.proofs.SpentLemmas.{is_there}
 use Rattle.buffa_fields_base.specs.Layout.{FieldIsRefused}
@@ -36,7 +36,7 @@ takes_record d n w p x payload same v = rw (all_fields d n w p p [] x payload sa
 
 -- ---- the encoding reads back
 kept_pieces : (P : ℕ → Bool) (ys : List (ℕ × Datum)) (d : ℕ) (v : List (ℕ × Datum)) (b : List ℕ) → AllNumbers P ys → Parse d b (records_of ys) →
-    (fs : List Piece) × (b ≡ joined fs) × Leads keep_takes P d v fs (v ++ ys)
+    (fs : List Piece) × (b ≡ joined_fields fs) × Leads keep_takes P d v fs (v ++ ys)
 kept_pieces P [] d v b ok h = ([], h, sym (append-nil v))
 kept_pieces P (y ∷ ys) d v b ok (f, r, (t, p, tag, payload, is), next, all) =
     let more = kept_pieces P ys d (v ++ (y.0, y.1) ∷ []) r ok.1 next in

@@ -61,8 +61,8 @@ FieldIsRefused d s n w bs e rest =
     (field_at d s n w bs ≡ Err e) × (s ≡ 0 → rest ≡ bs) × (w ≡ StartGroup → d ≡ 0 → rest ≡ bs) × (w ≢ StartGroup → 0 < s → rest ≡ past_no_payload w bs)
 
 -- a field that isn't declared is kept; one that is refused changes and spends nothing
-unfoldable pub Kept : ℕ → List (ℕ × Datum) → ℕ → WireType → List ℕ → BudgetLeft → Result (Unit {0}) DecodeError → List (ℕ × Datum) → BudgetLeft → List ℕ → Type 0
-Kept d old n w bs before r new after rest =
+unfoldable pub IsFieldKept : ℕ → List (ℕ × Datum) → ℕ → WireType → List ℕ → BudgetLeft → Result (Unit {0}) DecodeError → List (ℕ × Datum) → BudgetLeft → List ℕ → Type 0
+IsFieldKept d old n w bs before r new after rest =
     IsTaken keep_takes keep_need d old n w bs before r new after rest × MatchResult r (λ _. Unit {0}) (λ _. old ≡ new)
     × FullOnlyIf r (KeepTakesMemory before.unknown d n w bs) × MatchResult r (λ _. Unit {0}) (λ _. before ≡ after)
     × ((e : DecodeError) → r ≡ Err e → e ≢ OutOfMemory → FieldIsRefused d before.unknown n w bs e rest)

@@ -14,7 +14,7 @@ use Rattle.buffa_wire.specs.Cache.{Cache, left}
 use Rattle.buffa_wire.proofs.PassLemmas.{appended_none, appended_twice, done, next_front, next_past, refused, written_none, written_short, written_then}
 use Rattle.buffa_wire.specs.Records.{Datum, records_of}
 use Rattle.buffa_wire.specs.Encoding.{records_encoding}
-use Rattle.buffa_fields_base.specs.Layout.{Choice, Comes, Follow, IsCounted, IsPut, Kept, Layout, Passed, Seen, Shape, Took, both_need, both_take, more, passes, visited}
+use Rattle.buffa_fields_base.specs.Layout.{Choice, Comes, Follow, IsCounted, IsPut, IsFieldKept, Layout, Passed, Seen, Shape, Took, both_need, both_take, more, passes, visited}
 use Rattle.buffa_wire.specs.Kept.{keep_need}
 use Rattle.buffa_fields_base.specs.Keep.{KeepTakesMemory, keep_takes}
 use Rattle.buffa_fields_base.specs.PairFacts.{first_taken, other_taken}
@@ -63,18 +63,18 @@ field_apart s k Apart p q b c n T S R same apart h = at (n == k) h
 
 -- ---- fields that aren't declared
 pub is_kept : (d : ℕ) (old : List (ℕ × Datum)) (n : ℕ) (w : WireType) (bs : List ℕ) (before : BudgetLeft) (r : Result (Unit {0}) DecodeError) (new : List (ℕ × Datum)) (after : BudgetLeft) (rest : List ℕ) →
-    Kept d old n w bs before r new after rest → IsTaken keep_takes keep_need d old n w bs before r new after rest
-unfolding Kept
+    IsFieldKept d old n w bs before r new after rest → IsTaken keep_takes keep_need d old n w bs before r new after rest
+unfolding IsFieldKept
 is_kept d old n w bs before r new after rest h = h.0
 
 pub kept_stays : (d : ℕ) (old : List (ℕ × Datum)) (n : ℕ) (w : WireType) (bs : List ℕ) (before : BudgetLeft) (e : DecodeError) (new : List (ℕ × Datum)) (after : BudgetLeft) (rest : List ℕ) →
-    Kept d old n w bs before (let r : Result (Unit {0}) DecodeError = Err e in r) new after rest → old ≡ new
-unfolding Kept
+    IsFieldKept d old n w bs before (let r : Result (Unit {0}) DecodeError = Err e in r) new after rest → old ≡ new
+unfolding IsFieldKept
 kept_stays d old n w bs before e new after rest h = h.1
 
 pub kept_asks : (d : ℕ) (old : List (ℕ × Datum)) (n : ℕ) (w : WireType) (bs : List ℕ) (before : BudgetLeft) (r : Result (Unit {0}) DecodeError) (new : List (ℕ × Datum)) (after : BudgetLeft) (rest : List ℕ) →
-    Kept d old n w bs before r new after rest → FullOnlyIf r (KeepTakesMemory before.unknown d n w bs)
-unfolding Kept
+    IsFieldKept d old n w bs before r new after rest → FullOnlyIf r (KeepTakesMemory before.unknown d n w bs)
+unfolding IsFieldKept
 kept_asks d old n w bs before r new after rest h = h.2
 
 pub is_passed : (d n : ℕ) (w : WireType) (bs : List ℕ) (before : BudgetLeft) (r : Result (Unit {0}) DecodeError) (after : BudgetLeft) (rest : List ℕ) →
@@ -119,10 +119,10 @@ pub sized_more : (t u s x : List ℕ) (c0 c1 c2 : Cache) (total len new : ℕ) �
 sized_more t u s x c0 c1 c2 total len new h k e =
     (cap_more (length t) (length u) total len new h.0 k.0 e ∙ ap cap (sym (length-append t u)), k.1 ∙ appended_twice s x c0 c1 h.1)
 
-pub counted : (rs : List (ℕ × Datum)) (ss : List ℕ) (z : Seen) (cache : ℕ) (c1 c2 : Cache) (total len new : ℕ) → IsCounted cache (sum total) c1 z →
+pub is_counted : (rs : List (ℕ × Datum)) (ss : List ℕ) (z : Seen) (cache : ℕ) (c1 c2 : Cache) (total len new : ℕ) → IsCounted cache (sum total) c1 z →
     IsSized (records_encoding rs) ss c1 (sum len) c2 → new ≡ min (total + len) 4294967295 → IsCounted cache (sum new) c2 (more rs ss z)
 unfolding IsCounted more
-counted rs ss z cache c1 c2 total len new (is, h, _) k e = (
+is_counted rs ss z cache c1 c2 total len new (is, h, _) k e = (
   is,
   subst (λ (l : List ℕ). IsSized l (z.slots ++ ss) z.first (sum new) c2) (sym (records_encoding-append z.records rs)) (sized_more (records_encoding z.records) (records_encoding rs) z.slots ss z.first c1 c2 total len new h k e),
   λ none. refl,
@@ -153,10 +153,10 @@ pub small_both : (t u : List ℕ) → IsSmall (t ++ u) → IsSmall t × IsSmall 
 small_both t u h = (omega (arith, h, length-append t u), omega (arith, h, length-append t u))
 
 -- the next records are written behind the others
-pub put : (rs : List (ℕ × Datum)) (ss : List ℕ) (z : Seen) (sink cache : ℕ) (old new : List ℕ) (c1 c2 : Cache) (r : Result (Unit {0}) EncodeError) → IsPut sink cache old c1 done z →
+pub is_put : (rs : List (ℕ × Datum)) (ss : List ℕ) (z : Seen) (sink cache : ℕ) (old new : List ℕ) (c1 c2 : Cache) (r : Result (Unit {0}) EncodeError) → IsPut sink cache old c1 done z →
     IsWritten (records_encoding rs) ss c1 old r c2 new → IsPut sink cache new c2 r (more rs ss z)
 unfolding IsPut more
-put rs ss z sink cache old new c1 c2 r (is, same, h) k = (
+is_put rs ss z sink cache old new c1 c2 r (is, same, h) k = (
   is,
   same,
   subst (λ (l : List ℕ). IsWritten l (z.slots ++ ss) z.first z.before r c2 new) (sym (records_encoding-append z.records rs))

@@ -1,5 +1,7 @@
+-- The words that this crate hands out.
 pub mod PairFacts
 pub mod Values
+pub mod BackFacts
 pub mod ValueFacts
 pub mod KindFacts
 pub mod Keep

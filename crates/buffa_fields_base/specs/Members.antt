@@ -8,9 +8,10 @@ use Rattle.buffa_fields_base.specs.Keep.{AllNumbers, KeepTakesMemory, keep_takes
 use Rattle.buffa_wire.proofs.KeepLemmas.{keep_stays}
 use Rattle.buffa_fields_base.specs.KeepFacts.{all_numbers, both_numbers, keep_back}
 use Rattle.buffa_wire.specs.Takes.{costs_nothing}
-use Rattle.buffa_fields_base.specs.Layout.{Choice, Kept, Layout, Passed, ReadsBackTo, Shape, Took, both_need, both_take, is_number, more, passes, visited}
+use Rattle.buffa_fields_base.specs.Layout.{Choice, IsFieldKept, Layout, Passed, ReadsBackTo, Shape, Took, both_need, both_take, is_number, more, passes, visited}
 use Rattle.buffa_fields_base.specs.LayoutFacts.{field_apart, field_asks, field_taken, is_kept, kept_asks, kept_stays, is_passed, passed_asks, more_none, seen_field}
-use Rattle.buffa_fields_base.specs.PairFacts.{both_back, both_stay, both_true, no_pieces}
+use Rattle.buffa_fields_base.specs.BackFacts.{no_pieces}
+use Rattle.buffa_fields_base.specs.PairFacts.{both_back, both_stay, both_true}
 
 -- a member under a number, and the others
 abbrev pub field : {M P A B : Type 0} → ℕ → (M → P) → Shape P A → Layout M B → Layout M (A × B)
@@ -62,7 +63,7 @@ keep get = record {
   sound = true;
   within = AllNumbers;
   Same = λ a b. get b ≡ get a;
-  Taken = λ d old n w bs before r new after rest. Kept d (get old) n w bs before r (get new) after rest;
+  Taken = λ d old n w bs before r new after rest. IsFieldKept d (get old) n w bs before r (get new) after rest;
   Apart = λ n v u. v ≡ u;
   apart = λ d old n w bs before e new after rest h. kept_stays d (get old) n w bs before e (get new) after rest h;
   seen = λ m z. more (get m) [] z;
@@ -105,5 +106,5 @@ skip = record {
   within_all = λ v. tt;
   within_both = λ P Q v h k. tt;
   Owes = Unit {0};
-  back = λ _ _ P d v within f h l. no_pieces P d v;
+  back = λ _ _ P d v within f h l. no_pieces passes P d v;
 }

@@ -1,5 +1,5 @@
 -- What a field and the others owe together.
-use Rattle.std.proofs.Common.{◌≡◌, ◌≢◌, inl, inr, ℕ, ◌==◌, ◌≤◌, max, Bool, true, false, not, ◌&&◌, List, [], ◌∷◌, ◌++◌, Some, Result, Ok, Err, refl, sym, ap, subst, ◌∙◌, arith, append_assoc, if◌then◌else◌}
+use Rattle.std.proofs.Common.{◌≡◌, ◌≢◌, inl, inr, ℕ, ◌==◌, ◌≤◌, max, Bool, true, false, not, ◌&&◌, List, [], ◌∷◌, ◌++◌, Result, Ok, Err, refl, sym, ap, subst, ◌∙◌, arith, append_assoc, if◌then◌else◌}
 use Rattle.std.proofs.lemmas.Bool.{eq-eqb, eqb-true, ltb-true, ne_eqb}
 use Rattle.std.specs.Option.{option_map}
 use Rattle.std.specs.Prelude.{nat_lt}
@@ -10,7 +10,7 @@ use Rattle.buffa_bytes.specs.Number.{IsNumber}
 use Rattle.buffa_wire.specs.Parse.{Fits}
 use Rattle.buffa_wire.specs.Records.{Datum, records_of}
 use Rattle.buffa_wire.specs.Encoding.{records_encoding}
-use Rattle.buffa_wire.specs.Takes.{IsTaken, Leads, Need, Piece, ReadsBack, Stays, Taker, joined}
+use Rattle.buffa_wire.specs.Takes.{IsTaken, Leads, Need, Piece, ReadsBack, Stays, Taker, joined_fields}
 use Rattle.buffa_fields_base.specs.KindFacts.{same_false_only}
 use Rattle.buffa_fields_base.specs.Layout.{both_need, both_take, is_number}
 use Rattle.buffa_wire.proofs.EncodingLemmas.{records_encoding-append}
@@ -29,12 +29,9 @@ both_stay k f g h j d n w p x payload = at (n == k)
     at false = j d n w p x payload
 
 -- ---- encodings that read back
-pub no_pieces : (P : ℕ → Bool) (d : ℕ) (v : Unit {0}) → ReadsBack (λ d v n w p. Some v) P d tt [] v
-no_pieces P d v = record { pieces = []; spelled = refl; leads = refl }
-
-pub joined-append : (xs ys : List Piece) → joined (xs ++ ys) ≡ joined xs ++ joined ys
+pub joined-append : (xs ys : List Piece) → joined_fields (xs ++ ys) ≡ joined_fields xs ++ joined_fields ys
 joined-append [] ys = refl
-joined-append (x ∷ xs) ys = ap (λ (z : List ℕ). (x.tag ++ x.payload) ++ z) (joined-append xs ys) ∙ sym (append_assoc (x.tag ++ x.payload) (joined xs) (joined ys))
+joined-append (x ∷ xs) ys = ap (λ (z : List ℕ). (x.tag ++ x.payload) ++ z) (joined-append xs ys) ∙ sym (append_assoc (x.tag ++ x.payload) (joined_fields xs) (joined_fields ys))
 
 pub leads_both : {X : Type 0} (T : Taker X) (P : ℕ → Bool) (d : ℕ) (s t u : X) (fs gs : List Piece) → Leads T P d s fs t → Leads T P d t gs u → Leads T P d s (fs ++ gs) u
 leads_both T P d s t u [] gs h l = subst (λ z. Leads T P d z gs u) (sym h) l

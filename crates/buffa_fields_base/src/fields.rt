@@ -14,10 +14,20 @@ use std::alloc::Global;
 /// impl Fields for Inventory { .. }
 /// ```
 pub trait Fields: Drop {
-    /// What it means: what its members mean, in pairs; `[T; 0]` stands for a list, as in `Blank`.
+    /// What it means: of each member what that means, one after the other ([`And`](crate::meaning::And)); `[T; 0]`
+    /// stands for a list.
+    ///
+    /// ```ignore
+    /// type Meaning = And5<i32, [u8; 0], Option<bool>, [And<[u8; 0], i32>; 0], KeptFields>;
+    /// ```
     type Meaning;
 
-    /// The units of element memory that a message costs where it is an element.
+    /// The units of element memory that a message costs where it is the value of a map or an element of a list: 1 or
+    /// more.
+    ///
+    /// ```ignore
+    /// const COST: usize = 96;
+    /// ```
     const COST: usize;
 
     ghost COST: { ℕ };

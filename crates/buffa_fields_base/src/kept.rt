@@ -1,4 +1,4 @@
-//! Fields that aren't declared.
+//! Fields that a message doesn't declare: kept as records, or passed over.
 
 ghost use Rattle.std.specs.Prelude.{◌≡◌, ◌≢◌, ◌<◌, IfOk, length};
 ghost use Rattle.buffa_wire.specs.BudgetLeft.{budget_left};
@@ -9,7 +9,7 @@ ghost use Rattle.buffa_wire.specs.Passes.{cap};
 ghost use Rattle.buffa_wire.specs.RecordReading.{RecordTakesMemory, field_at};
 ghost use Rattle.buffa_wire.specs.Encoding.{records_encoding};
 ghost use Rattle.buffa_wire.specs.View.{datum_of};
-ghost use Rattle.buffa_fields_base.specs.Layout.{Kept, Passed};
+ghost use Rattle.buffa_fields_base.specs.Layout.{IsFieldKept, Passed};
 
 use buffa_wire::{
     Budget, DecodeContext, DecodeError, Tag, UnknownField, UnknownFields, capped,
@@ -18,7 +18,11 @@ use buffa_wire::{
 use std::alloc::Global;
 use std::marker::Model;
 
-/// What kept fields mean: their records.
+/// What kept fields mean: their records. It is never made.
+///
+/// ```ignore
+/// type Meaning = And3<[u8; 0], [And<[u8; 0], i32>; 0], KeptFields>;
+/// ```
 #[derive(Drop)]
 pub struct KeptFields {
     fields: UnknownFields,
@@ -79,7 +83,7 @@ pub fn read_alone(
 /// ```ignore
 /// let answer = kept::keep(alloc, &mut self.rest, tag, buf, ctx);
 /// ```
-#[tactic(auto, unfolding(crate::specs::Layout::Kept))]
+#[tactic(auto, unfolding(crate::specs::Layout::IsFieldKept))]
 pub fn keep(
     alloc: Global,
     fields: &mut UnknownFields,
@@ -87,7 +91,7 @@ pub fn keep(
     buf: &mut &[u8],
     ctx: DecodeContext<'_>,
 ) -> Result<(), DecodeError>
-    ensures { Kept ctx.entry.depth fields.old.records tag.number tag.wire_type buf.old.now ctx.entry.budget.now result
+    ensures { IsFieldKept ctx.entry.depth fields.old.records tag.number tag.wire_type buf.old.now ctx.entry.budget.now result
         fields.new.records (budget_left ctx.exit) buf.new.now }
 {
     let DecodeContext { depth, budget } = ctx;

@@ -24,55 +24,83 @@ impl<A, B> Model for And<A, B> {
     ghost view = { λ m. (m.first, m.others) };
 }
 
-/// Three, one after the other.
+/// What three members mean, one after the other; those below are of more.
+///
+/// ```ignore
+/// type Meaning = And3<i64, Option<<Inventory as Blank>::Meaning>, ()>;
+/// ```
 pub type And3<A, B, C> = And<A, And<B, C>>;
 
 /// Four, one after the other.
+///
+/// ```ignore
+/// type Meaning = And4<[And<[u8; 0], i32>; 0], [And<i32, <Inventory as Blank>::Meaning>; 0], .., KeptFields>;
+/// ```
 pub type And4<A, B, C, D> = And<A, And3<B, C, D>>;
 
 /// Five, one after the other.
+///
+/// ```ignore
+/// type Meaning = And5<i32, [u8; 0], Option<bool>, [And<[u8; 0], i32>; 0], KeptFields>;
+/// ```
 pub type And5<A, B, C, D, E> = And<A, And4<B, C, D, E>>;
 
-/// Six, one after the other.
+/// Six, one after the other: [`And5`] shows how.
 pub type And6<A, B, C, D, E, F> = And<A, And5<B, C, D, E, F>>;
 
-/// Seven, one after the other.
+/// Seven, one after the other: [`And5`] shows how.
 pub type And7<A, B, C, D, E, F, G> = And<A, And6<B, C, D, E, F, G>>;
 
-/// Eight, one after the other.
+/// Eight, one after the other: [`And5`] shows how.
 pub type And8<A, B, C, D, E, F, G, H> = And<A, And7<B, C, D, E, F, G, H>>;
 
 /// Nine, one after the other.
+///
+/// ```ignore
+/// type Meaning = And9<Option<[u8; 0]>, Option<(bool, i32)>, .., KeptFields>;
+/// ```
 pub type And9<A, B, C, D, E, F, G, H, I> = And<A, And8<B, C, D, E, F, G, H, I>>;
 
-/// Ten, one after the other.
+/// Ten, one after the other: [`And5`] shows how.
 pub type And10<A, B, C, D, E, F, G, H, I, J> = And<A, And9<B, C, D, E, F, G, H, I, J>>;
 
-/// Eleven, one after the other.
+/// Eleven, one after the other: [`And5`] shows how.
 pub type And11<A, B, C, D, E, F, G, H, I, J, K> = And<A, And10<B, C, D, E, F, G, H, I, J, K>>;
 
 /// Twelve, one after the other.
+///
+/// ```ignore
+/// type Meaning = And12<Option<i32>, Option<i64>, .., KeptFields>;
+/// ```
 pub type And12<A, B, C, D, E, F, G, H, I, J, K, L> = And<A, And11<B, C, D, E, F, G, H, I, J, K, L>>;
 
 /// Thirteen, one after the other.
+///
+/// ```ignore
+/// type Meaning = And13<i64, [u8; 0], Option<bool>, .., Option<i32>, ()>;
+/// ```
 pub type And13<A, B, C, D, E, F, G, H, I, J, K, L, M> = And<
     A,
     And12<B, C, D, E, F, G, H, I, J, K, L, M>,
 >;
 
 /// Fourteen, one after the other.
+///
+/// ```ignore
+/// type Meaning = And14<Option<Carried>, [Carried; 0], .., KeptFields>;
+/// ```
 pub type And14<A, B, C, D, E, F, G, H, I, J, K, L, M, N> = And<
     A,
     And13<B, C, D, E, F, G, H, I, J, K, L, M, N>,
 >;
 
-/// Fifteen, one after the other.
+/// Fifteen, one after the other: [`And5`] shows how.
 pub type And15<A, B, C, D, E, F, G, H, I, J, K, L, M, N, O> = And<
     A,
     And14<B, C, D, E, F, G, H, I, J, K, L, M, N, O>,
 >;
 
-/// Sixteen, one after the other.
+/// Sixteen, one after the other: [`And5`] shows how.
 pub type And16<A, B, C, D, E, F, G, H, I, J, K, L, M, N, O, P> = And<
     A,
     And15<B, C, D, E, F, G, H, I, J, K, L, M, N, O, P>,

@@ -16,13 +16,21 @@ use std::alloc::Global;
 /// visitor.visit::<Plain<Int32>>(1, &self.total);
 /// ```
 pub trait Member {
-    /// The member's type.
+    /// The Rust type of the member.
+    ///
+    /// ```ignore
+    /// type Part = Vec<C::Value>;
+    /// ```
     type Part: Drop;
 
-    /// What its value means.
+    /// What its value means, a type for contracts.
+    ///
+    /// ```ignore
+    /// type Meaning = [And<<KC::Value as Blank>::Meaning, <VC::Value as Blank>::Meaning>; 0];
+    /// ```
     type Meaning;
 
-    /// What it is, and what it owes.
+    /// How it is read and written, by the words of `Shape` in `specs/Layout.antt`.
     ghost shape: { Shape Self.Part Self.Meaning };
 
     /// The length of its encoding under a number, or 2^32 - 1 where it is more. The value's slots are

@@ -67,7 +67,7 @@ impl Visitor for Sizer<'_> {
     ghost begins = { λ ss rest s h. comes_free ss s };
 
     #[inline(always)]
-    #[tactic(auto, using(crate::specs::LayoutFacts::counted, crate::specs::LayoutFacts::counted_err, crate::specs::LayoutFacts::counted_none))]
+    #[tactic(auto, using(crate::specs::LayoutFacts::is_counted, crate::specs::LayoutFacts::counted_err, crate::specs::LayoutFacts::counted_none))]
     fn visit<M: Member>(&mut self, number: u32, part: &M::Part) {
         if let Ok(total) = self.total {
             self.total = match M::len(number, part, self.cache) {
@@ -78,7 +78,7 @@ impl Visitor for Sizer<'_> {
     }
 
     #[inline(always)]
-    #[tactic(auto, using(crate::specs::LayoutFacts::counted, crate::specs::LayoutFacts::sized_free, crate::specs::LayoutFacts::counted_none))]
+    #[tactic(auto, using(crate::specs::LayoutFacts::is_counted, crate::specs::LayoutFacts::sized_free, crate::specs::LayoutFacts::counted_none))]
     fn visit_kept(&mut self, fields: &UnknownFields) {
         if let Ok(total) = self.total {
             self.total = Ok(total.saturating_add(kept_len(fields)));

@@ -75,7 +75,7 @@ impl<S: EncodeSink> Visitor for Writer<'_, S> {
     ghost begins = { comes_front (λ w. w.result) (λ w. w.cache.now) };
 
     #[inline(always)]
-    #[tactic(auto, using(crate::specs::LayoutFacts::put, crate::specs::LayoutFacts::put_none, crate::specs::LayoutFacts::follow_first, crate::specs::LayoutFacts::follow_rest, crate::specs::LayoutFacts::follow_none))]
+    #[tactic(auto, using(crate::specs::LayoutFacts::is_put, crate::specs::LayoutFacts::put_none, crate::specs::LayoutFacts::follow_first, crate::specs::LayoutFacts::follow_rest, crate::specs::LayoutFacts::follow_none))]
     fn visit<M: Member>(&mut self, number: u32, part: &M::Part) {
         if self.result.is_ok() {
             self.result = M::write_to(number, part, self.cache, self.sink);
@@ -83,7 +83,7 @@ impl<S: EncodeSink> Visitor for Writer<'_, S> {
     }
 
     #[inline(always)]
-    #[tactic(auto, using(crate::specs::LayoutFacts::put, crate::specs::LayoutFacts::put_none, buffa_wire::proofs::PassLemmas::written_put, crate::specs::LayoutFacts::follow_rest, crate::specs::LayoutFacts::follow_none))]
+    #[tactic(auto, using(crate::specs::LayoutFacts::is_put, crate::specs::LayoutFacts::put_none, buffa_wire::proofs::PassLemmas::written_put, crate::specs::LayoutFacts::follow_rest, crate::specs::LayoutFacts::follow_none))]
     fn visit_kept(&mut self, fields: &UnknownFields) {
         if self.result.is_ok() {
             self.result = fields.write_to(self.sink);

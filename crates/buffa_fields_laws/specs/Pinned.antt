@@ -5,7 +5,7 @@ use Rattle.buffa_bytes.specs.declared.error.DecodeError.{DecodeError}
 use Rattle.buffa_wire.specs.BudgetLeft.{BudgetLeft}
 use Rattle.buffa_wire.specs.Message.{FieldTaken}
 use Rattle.buffa_wire.specs.Records.{Datum}
-use Rattle.buffa_fields_base.specs.Layout.{Choice, Kept, Layout, Passed, Shape, Took}
+use Rattle.buffa_fields_base.specs.Layout.{Choice, IsFieldKept, Layout, Passed, Shape, Took}
 
 -- two say the same of each field
 abbrev pub TakeAlike : {M : Type 0} → FieldTaken M → FieldTaken M → Type 0
@@ -15,7 +15,7 @@ TakeAlike {M = M} says tells =
 
 -- it is kept, among these
 abbrev pub AmongKept : {M : Type 0} → (M → List (ℕ × Datum)) → FieldTaken M
-AmongKept get d old n w bs before r new after rest = Kept d (get old) n w bs before r (get new) after rest
+AmongKept get d old n w bs before r new after rest = IsFieldKept d (get old) n w bs before r (get new) after rest
 
 -- it is passed over
 abbrev pub PassedOver : {M : Type 0} → FieldTaken M

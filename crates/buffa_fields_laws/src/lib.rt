@@ -4,11 +4,10 @@
 #![tactic(auto)]
 
 ghost use Rattle.std.specs.Prelude.{◌≡◌, ◌↔◌, ◌⊎◌, ◌+◌, ◌==◌, ◌&&◌, ◌||◌, ℕ, ℤ, List, [], ◌∷◌, ◌++◌, None, Some, map, max, not};
-ghost use Rattle.std.specs.List.{AllByRecursion};
+ghost use Rattle.std.specs.List.{AllByRecursion, IsDistinct};
 ghost use Rattle.std.specs.Cmp.Lexicographic.{slice_cmp};
 ghost use Rattle.std.specs.Int.{cast_unsigned, w64};
 ghost use Rattle.std.specs.BTreeMap.{insert_entry};
-ghost use Rattle.std.specs.List.{IsDistinct};
 ghost use Rattle.std.specs.Map.{keys_of};
 ghost use Rattle.std.specs.Option.{option_map};
 ghost use Rattle.std.specs.Ordering.{bool_cmp, int_cmp, nat_cmp};
@@ -19,13 +18,13 @@ ghost use Rattle.buffa_wire.specs.Records.{Datum, height};
 ghost use Rattle.buffa_wire.specs.Records.Datum.{varint, fixed32, fixed64, bytes};
 ghost use Rattle.buffa_bytes.specs.Front.{check_wire};
 ghost use Rattle.buffa_wire.specs.Encoding.{wire_of};
-ghost use Rattle.buffa_map.specs.Message.{message_reading};
-ghost use Rattle.buffa_map.specs.Pairs.{means, put};
-ghost use Rattle.buffa_map.specs.Encoding.{AllHold};
+ghost use Rattle.buffa_map_base.specs.Message.{message_reading};
+ghost use Rattle.buffa_map_base.specs.Pairs.{means, put};
+ghost use Rattle.buffa_map_base.specs.Encoding.{AllHold};
 ghost use Rattle.buffa_fields_base.specs.Keep.{IsFieldThere};
 ghost use Rattle.buffa_fields_base.specs.KindFacts.{is_none, is_nought, is_zero};
 ghost use Rattle.buffa_fields.specs.Lists.{ElementsTakeMemory, check_list_wire, element_records, elements_taken, packed_records};
-ghost use Rattle.buffa_fields.specs.MapFields.{PairTakesMemory, pair_cost, pair_taken};
+ghost use Rattle.buffa_fields.specs.MapFields.{PairTakesMemory, pair_cost, pair_taken, entry_records};
 ghost use Rattle.buffa_fields_base.specs.Layout.{Choice, both_need, both_take, is_number};
 ghost use Rattle.buffa_fields_base.specs.Members.{field, keep, skip};
 ghost use Rattle.buffa_fields.specs.Groups.{GroupTakesMemory, group_cost, group_datum, group_records, group_taken};
@@ -36,7 +35,6 @@ ghost use Rattle.buffa_fields.specs.OrderedMaps.{KeysAscend};
 ghost use Rattle.buffa_fields.specs.RepeatedGroups.{GroupsTakeMemory, groups_cost, groups_taken};
 ghost use Rattle.buffa_fields.specs.Refusals.{RefusesAs, RefusesElements, RefusesGroup, RefusesMessage, RefusesNew, RefusesPair};
 ghost use Rattle.buffa_fields_base.specs.MemberRecords.{optional_records, plain_records};
-ghost use Rattle.buffa_fields.specs.MapFields.{entry_records};
 ghost use Rattle.buffa_wire.specs.Takes.{cost_of, merged_of};
 ghost use Rattle.buffa_fields_laws.specs.Pinned.{AmongKept, MemberOrOthers, PassedOver, TakeAlike};
 ghost use Rattle.buffa_fields_base.specs.Values.{IfThere, RefusesAlone, ValueTakesMemory, free, some_taken, value_taken};
@@ -389,8 +387,8 @@ pub fn passed_fields_are_these<M>()
     ensures taken { TakeAlike (skip {M = M}).Taken PassedOver }
 {}
 
-/// A member in front of others: it takes the fields of its number, and they stay then; all other fields are theirs. What
-/// it is written as comes before what they are.
+/// A member in front of others: it takes the fields of its number, and they stay then; all other fields are theirs.
+/// What it is written as comes before what they are.
 pub fn members_are_these<M: Fields, N: Member>()
     ensures meaning { (k : ℕ) (get : M → N.Part) (m : M) →
         (field k get N.shape M.layout).meaning m ≡ (N.shape.meaning (get m), M.layout.meaning m) }

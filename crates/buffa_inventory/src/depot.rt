@@ -1,4 +1,4 @@
-//! A depot.
+//! A depot: a list of messages.
 
 ghost use Rattle.std.proofs.Common.{lit<, refl};
 ghost use Rattle.buffa_fields_base.specs.Members.{field, skip};

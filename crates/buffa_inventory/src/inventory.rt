@@ -1,4 +1,4 @@
-//! An inventory.
+//! An inventory, the example of docs/GUIDE.md: values, an optional one, a map, and kept fields.
 
 ghost use Rattle.std.proofs.Common.{lit<, refl};
 ghost use Rattle.buffa_fields_base.specs.Members.{field, keep};

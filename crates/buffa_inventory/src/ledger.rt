@@ -23,6 +23,10 @@ use std::string::String;
 ///     map<int32, Inventory> pages = 2;
 ///     map<bool, bytes> seals = 3;
 /// }
+///
+/// ```ignore
+/// visitor.visit::<OrderedMapOf<Str, Int32>>(1, &self.balances);
+/// ```
 #[derive(Drop)]
 pub struct Ledger {
     pub balances: BTreeMap<String, i32>,

@@ -1,4 +1,4 @@
-//! A load.
+//! A load: optional values, and kept fields.
 
 ghost use Rattle.std.proofs.Common.{lit<, refl};
 ghost use Rattle.buffa_fields_base.specs.Members.{field, keep};

@@ -1,4 +1,4 @@
-//! An order.
+//! An order: values, optional ones, lists and maps, in twelve members.
 
 ghost use Rattle.std.proofs.Common.{lit<, refl};
 ghost use Rattle.buffa_fields_base.specs.Members.{field, skip};

@@ -1,4 +1,4 @@
-//! A pallet.
+//! A pallet: a group, and a list of groups.
 
 ghost use Rattle.std.proofs.Common.{lit<, refl};
 ghost use Rattle.buffa_fields_base.specs.Members.{field, skip};

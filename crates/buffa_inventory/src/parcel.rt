@@ -1,4 +1,4 @@
-//! A parcel.
+//! A parcel: a member that is a message.
 
 ghost use Rattle.std.proofs.Common.{lit<, refl};
 ghost use Rattle.buffa_fields_base.specs.Members.{field, skip};

@@ -1,4 +1,4 @@
-//! A store.
+//! A store: a map of messages.
 
 ghost use Rattle.std.proofs.Common.{lit<, refl};
 ghost use Rattle.buffa_fields_base.specs.Members.{field, skip};
@@ -21,6 +21,10 @@ use std::string::String;
 ///     string name = 1;
 ///     map<string, Inventory> shelves = 2;
 /// }
+///
+/// ```ignore
+/// visitor.visit::<MapOfNested<Str, Inventory>>(2, &self.shelves);
+/// ```
 #[derive(Drop)]
 pub struct Store {
     pub name: String,

@@ -17,10 +17,10 @@ use Rattle.buffa_bytes.specs.Field.{TakesDelimited}
 use Rattle.buffa_bytes.specs.Front.{delimited_at, tag_at}
 use Rattle.buffa_map_base.specs.Codec.{Reading, RefusesValue, Spends, value_at, value_need}
 use Rattle.buffa_map_base.specs.Entry.{EntryFault, inner_need, need_at, need_of, blanks}
-use Rattle.buffa_map_base.specs.Merge.{HasRecord, RefusesEntry, Rules, State, StopsRun}
+use Rattle.buffa_map_base.specs.Merge.{HasWholeRecord, RefusesEntry, Rules, State, StopsRun}
 use Rattle.buffa_map_base.specs.Pairs.{SamePairs}
 use Rattle.buffa_map.specs.Pinned.{SameState, EntryIsPinned, RunIsPinned, ValueIsPinned}
-use Rattle.buffa_map_base.specs.Run.{EntryRecord, Paid, RecordFault, Run, RunFault, added, fold_entries, inner_needs, record_at, record_need, step, undeclared}
+use Rattle.buffa_map_base.specs.Run.{EntryRecord, ArePaid, RecordFault, Run, RunFault, added, fold_entries, inner_needs, record_at, record_need, step, undeclared}
 use Rattle.buffa_map_base.proofs.EntryLemmas.{Plain, need_by-nothing, value_faulty}
 use Rattle.buffa_map.proofs.FrontLemmas.{paid_no_fault, same_front, same_taken}
 use Rattle.buffa_map_base.proofs.NeedLemmas.{need_free}
@@ -84,13 +84,13 @@ module _ {K V : Type 0} (key : Reading K) (val : Reading V) (d n cost extra : �
       let both : BudgetLeft = plus a b in
       ap (λ z. z.0) (ok_same (sym (run_complete key val d n 0 0 key_free val_free both bs es b h (omega arith, omega arith)) ∙ run_complete key val d n 0 0 key_free val_free both bs fs a k (omega arith, omega arith)))
 
-  pub one_over : (left a b : BudgetLeft) (es fs : List (EntryRecord K V)) → es ≡ fs → Paid key val d cost extra left es a → Paid key val d cost extra left fs b → a ≡ b
+  pub one_over : (left a b : BudgetLeft) (es fs : List (EntryRecord K V)) → es ≡ fs → ArePaid key val d cost extra left es a → ArePaid key val d cost extra left fs b → a ≡ b
   one_over left a b es fs e h k =
-      let paid = subst (λ z. Paid key val d cost extra left z b) (sym e) k in
+      let paid = subst (λ z. ArePaid key val d cost extra left z b) (sym e) k in
       same_left a b (omega (arith, h.1, paid.1)) (omega (arith, h.0, paid.0))
 
   -- the record of the first entry of a run
-  first_record : (x : EntryRecord K V) (es : List (EntryRecord K V)) (left over : BudgetLeft) (bs a rest : List ℕ) → bs ≡ a ++ rest → Run key val d n a (x ∷ es) → Paid key val d cost extra left (x ∷ es) over →
+  first_record : (x : EntryRecord K V) (es : List (EntryRecord K V)) (left over : BudgetLeft) (bs a rest : List ℕ) → bs ≡ a ++ rest → Run key val d n a (x ∷ es) → ArePaid key val d cost extra left (x ∷ es) over →
       (more : List ℕ) × (record_at key val d n cost extra left bs ≡ Ok (x, more ++ rest)) × Run key val d n more es
   first_record x es left over bs a rest split (r, more, m, e, run) paid =
       let whole : bs ≡ r ++ (more ++ rest) = split ∙ ap (λ z. z ++ rest) e ∙ append_assoc r more rest in
@@ -100,7 +100,7 @@ module _ {K V : Type 0} (key : Reading K) (val : Reading V) (d n cost extra : �
       one_unknown h = omega (arith, h, extra_kept x.parts.known x.bytes (undeclared es) extra)
 
   -- no record begins bytes that have a fault
-  no_record : (left over : BudgetLeft) (bs a rest : List ℕ) (f : DecodeError) → bs ≡ a ++ rest → a ≡ [] → Paid key val d cost extra left [] over → RecordFault key val d n cost extra over rest f →
+  no_record : (left over : BudgetLeft) (bs a rest : List ℕ) (f : DecodeError) → bs ≡ a ++ rest → a ≡ [] → ArePaid key val d cost extra left [] over → RecordFault key val d n cost extra over rest f →
       (x : DecodeError) × (record_at key val d n cost extra left bs ≡ Err x)
   no_record left over bs a rest f split none paid bad =
       let p = said_faulty key val d n cost extra over key_free val_free rest f bad in
@@ -110,8 +110,8 @@ module _ {K V : Type 0} (key : Reading K) (val : Reading V) (d n cost extra : �
 
   -- two faults come after the same entries
   stop_one : (es fs : List (EntryRecord K V)) (left over last : BudgetLeft) (bs a rest b more : List ℕ) (f g : DecodeError) →
-      bs ≡ a ++ rest → Run key val d n a es → Paid key val d cost extra left es over → RecordFault key val d n cost extra over rest f →
-      bs ≡ b ++ more → Run key val d n b fs → Paid key val d cost extra left fs last → RecordFault key val d n cost extra last more g → (es ≡ fs) × (rest ≡ more)
+      bs ≡ a ++ rest → Run key val d n a es → ArePaid key val d cost extra left es over → RecordFault key val d n cost extra over rest f →
+      bs ≡ b ++ more → Run key val d n b fs → ArePaid key val d cost extra left fs last → RecordFault key val d n cost extra last more g → (es ≡ fs) × (rest ≡ more)
   stop_one [] [] left over last bs a rest b more f g s run paid bad t ran spent worse =
       (refl, sym (s ∙ ap (λ z. z ++ rest) run) ∙ t ∙ ap (λ z. z ++ more) ran)
   stop_one [] (y ∷ fs) left over last bs a rest b more f g s run paid bad t ran spent worse =
@@ -128,14 +128,14 @@ module _ {K V : Type 0} (key : Reading K) (val : Reading V) (d n cost extra : �
       let same = ok_same (sym p.1 ∙ q.1) in
       let one : x ≡ y = ap (λ z. z.0) same in
       let u : BudgetLeft = record { unknown = over.unknown + (length (undeclared es) * extra + (inner_needs key val d es).unknown); memory = over.memory + (length es * cost + (inner_needs key val d es).memory) } in
-      let again = subst (λ z. Paid key val d cost extra left (z ∷ fs) last) (sym one) spent in
+      let again = subst (λ z. ArePaid key val d cost extra left (z ∷ fs) last) (sym one) spent in
       let i = stop_one es fs u over last (p.0 ++ rest) p.0 rest q.0 more f g refl p.2 (refl, refl) bad (ap (λ z. z.1) same) q.2
       (omega (arith, paid.0, again.0), omega (arith, paid.1, again.1, extra_kept x.parts.known x.bytes (undeclared es) extra, extra_kept x.parts.known x.bytes (undeclared fs) extra)) worse in
       ((λ j. one j ∷ i.0 j), i.1)
 
   -- where a record has a fault, it is there, or it isn't
   record_there : (over : BudgetLeft) (rest : List ℕ) (f : DecodeError) → RecordFault key val d n cost extra over rest f →
-      (HasRecord n rest → ⊥) ⊎ ((mid : List ℕ) × (e : List ℕ) × (after : List ℕ) × (tag_at rest ≡ Ok (n, LengthDelimited, mid)) × TakesDelimited mid e after)
+      (HasWholeRecord n rest → ⊥) ⊎ ((mid : List ℕ) × (e : List ℕ) × (after : List ℕ) × (tag_at rest ≡ Ok (n, LengthDelimited, mid)) × TakesDelimited mid e after)
   record_there over rest f (inl h) = inl (λ (mid, is, ok). no_tag rest f (tag_faulty rest f h) n LengthDelimited mid is)
   record_there over rest f (inr (inl (g, w, m, t, other, which))) = inl (λ (mid, is, ok). other (one_number rest m mid g n w LengthDelimited (tag_read rest m g w t) is))
   record_there over rest f (inr (inr (inl (w, m, t, other, which)))) = inl (λ (mid, is, ok). other (one_wire rest m mid n n w LengthDelimited (tag_read rest m n w t) is))
@@ -250,7 +250,7 @@ module _ {K V : Type 0} (r : Rules K V)
           let nil = record_none r.key r.val r.depth r.number r.cost r.extra key_free val_free plain k.rest in
           let rest = stopped_same.1 in
           elim (record_there r.key r.val r.depth r.number r.cost r.extra key_free val_free h.over h.rest f (h.fault ne)) [
-            | inl away ↦ h.unspent away ∙ stopped_over ∙ sym (k.unspent (λ z. away (subst (HasRecord r.number) (sym rest) z)))
+            | inl away ↦ h.unspent away ∙ stopped_over ∙ sym (k.unspent (λ z. away (subst (HasWholeRecord r.number) (sym rest) z)))
             | inr (mid, e, after, tag, t) ↦
                 let one = ap (λ (z : BudgetLeft). z.memory) stopped_over in
                 let two = ap (λ (z : BudgetLeft). z.unknown) stopped_over in

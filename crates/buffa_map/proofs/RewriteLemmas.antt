@@ -22,7 +22,7 @@ use Rattle.buffa_map_base.specs.Entry.{IsEntry, IsEntryField, blanks}
 use Rattle.buffa_map_base.specs.EnumFacts.{closed_reads_back}
 use Rattle.buffa_map_base.specs.Enums.{ClosedFits, closed_reading, closed_writing}
 use Rattle.buffa_map_base.specs.Pairs.{ListsOnce, SamePairs, put}
-use Rattle.buffa_map_base.specs.Rewrite.{IsOrderedClass, IsRewrite, KeepsMeaning, Ordered, Seen, first, is_new, last, seen}
+use Rattle.buffa_map_base.specs.Rewrite.{IsOrderedClass, IsRewrite, KeepsMeaning, Ordered, SeenByTwo, first, is_new, last, seen}
 use Rattle.buffa_map_base.specs.Run.{fold_entries, undeclared, Run, EntryRecord, inner_needs, undeclared_records}
 use Rattle.buffa_map_base.specs.Encoding.{AllHold, field_encoding}
 use Rattle.buffa_map_base.specs.declared.map_entry.MapEntry.{MapEntry}
@@ -261,8 +261,8 @@ module _ {K : Type 0} (key : Reading K) (Normal : K → Type 0) (e f : Numbers) 
 
 -- ---- the order condition, of kinds
 module _ {K : Type 0} where
-  abbrev as_seen : K × Kind ℤ → Seen K
-  as_seen x = elim x.1 as (λ _. Seen K) [ Both v ↦ record { key = x.0; ignorant = true; informed = true } | Later w ↦ record { key = x.0; ignorant = false; informed = true } | Neither ↦ record { key = x.0; ignorant = false; informed = false } ]
+  abbrev as_seen : K × Kind ℤ → SeenByTwo K
+  as_seen x = elim x.1 as (λ _. SeenByTwo K) [ Both v ↦ record { key = x.0; ignorant = true; informed = true } | Later w ↦ record { key = x.0; ignorant = false; informed = true } | Neither ↦ record { key = x.0; ignorant = false; informed = false } ]
 
   filter-seen : (t : K → Bool) (xs : List (K × Kind ℤ)) → filter (λ x. t x.key) (map as_seen xs) ≡ map as_seen (filter (λ x. t x.0) xs)
   filter-seen t [] = refl
@@ -283,12 +283,12 @@ module _ {K : Type 0} where
   none_later ((k, Neither) ∷ c) h = none_later c h
 
   -- the last that the second reader knows
-  abbrev LastSeen : Kind ℤ → Option (Seen K) → Type 0
-  LastSeen (Both v) o = (x : Seen K) × (o ≡ Some x) × (is_new x ≡ false)
-  LastSeen (Later w) o = (x : Seen K) × (o ≡ Some x) × (is_new x ≡ true)
+  abbrev LastSeen : Kind ℤ → Option (SeenByTwo K) → Type 0
+  LastSeen (Both v) o = (x : SeenByTwo K) × (o ≡ Some x) × (is_new x ≡ false)
+  LastSeen (Later w) o = (x : SeenByTwo K) × (o ≡ Some x) × (is_new x ≡ true)
   LastSeen Neither o = o ≡ None
 
-  abbrev last_known : List (K × Kind ℤ) → Option (Seen K)
+  abbrev last_known : List (K × Kind ℤ) → Option (SeenByTwo K)
   last_known c = last (filter (λ x. x.informed) (map as_seen c))
 
   last_seen-cons : (k : K) (x : Kind ℤ) (c : List (K × Kind ℤ)) (r : Kind ℤ) → LastSeen r (last_known c) → LastSeen (elim r as (λ _. Kind ℤ) [ Both v ↦ Both v | Later w ↦ Later w | Neither ↦ x ]) (last_known ((k, x) ∷ c))
@@ -336,12 +336,12 @@ module _ {K : Type 0} where
   kind_first ((j, Later w) ∷ c) h = seen_first c j h
   kind_first ((j, Neither) ∷ c) h = kind_first c h
 
-  last_later : (c : List (K × Kind ℤ)) (r : Kind ℤ) (o : Option (Seen K)) → last_kind c ≡ r → later c ≢ [] → LastSeen r o → IfSome o (λ x. is_new x ≡ true) → IsLater r
+  last_later : (c : List (K × Kind ℤ)) (r : Kind ℤ) (o : Option (SeenByTwo K)) → last_kind c ≡ r → later c ≢ [] → LastSeen r o → IfSome o (λ x. is_new x ≡ true) → IsLater r
   last_later c (Both v) o e some h i = let m : is_new h.0 ≡ true = subst (λ z. IfSome z (λ x. is_new x ≡ true)) h.1 i in let n = h.2 in cc
   last_later c (Later w) o e some h i = tt
   last_later c Neither o e some h i = absurd (some (nothing_known c e))
 
-  later_last : (r : Kind ℤ) (o : Option (Seen K)) → LastSeen r o → IsLater r → IfSome o (λ x. is_new x ≡ true)
+  later_last : (r : Kind ℤ) (o : Option (SeenByTwo K)) → LastSeen r o → IsLater r → IfSome o (λ x. is_new x ≡ true)
   later_last (Both v) o h i = absurd i
   later_last (Later w) o h i = subst (λ z. IfSome z (λ x. is_new x ≡ true)) (sym h.1) h.2
   later_last Neither o h i = absurd i

@@ -1,11 +1,10 @@
--- What a call of a reader, or of a writer, did: from what it was passed to what it left. Words of rewrites that are refused;
--- the others are handed on.
+-- What a refused rewrite did: from what it was passed to what it left. The words of other calls are handed on.
 use Rattle.std.specs.Prelude.{ℕ, List}
 use Rattle.buffa_wire.specs.BudgetLeft.{budget_left}
 use Rattle.buffa_wire.specs.declared.context.DecodeContext.{DecodeContext}
 use Rattle.buffa_map.specs.Rewrite.{MatchRefusal, RefusesBytes, RefusesOutput}
 use Rattle.buffa_map.specs.declared.rewrite.RewriteError.{RewriteError}
-pub use Rattle.buffa_map_base.specs.Calls.{Exit, MergesEntryIn, MergesEntryLent, MergesMessages, ReadsAnew, ReadsRunIn, ReadsRunLent, Reader, RefusesEntryIn, RefusesEntryLent, Rewriter, RewritesIn, SizesMessages, StopsAnew, StopsRunIn, StopsRunLent, WritesMapField, WritesMessages, WritesWithKept}
+pub use Rattle.buffa_map_base.specs.Calls.{Exit, MergesEntryIn, MergesEntryLent, MergesMessages, ReadsAnew, ReadsRunIn, ReadsRunLent, Reader, RefusesEntryIn, RefusesEntryLent, Rewriter, RewritesIn, SizesMessages, StopsAnew, StopsRunIn, StopsRunLent, WritesMapField, WritesMessages, WritesWalkIn}
 
 module _ {K V M B D : Type 0} (w : Rewriter K V M) (n : ℕ) (map : M) (unread : B → List ℕ) (before after : B) (ctx : DecodeContext) (left : Exit D) where
   -- the bytes of a run or its encoding were refused

@@ -1,4 +1,4 @@
--- What the definitions say together.
+-- What the laws of entries, runs, sizes and rewrites say.
 use Rattle.std.specs.Prelude.{◌≡◌, ◌<◌, ◌≤◌, ◌+◌, ◌↔◌, ◌⊎◌, ℕ, ℤ, Bool, false, List, [], ◌++◌, length, Ok, Err, cond}
 use Rattle.std.specs.Cmp.{IsEquivalence}
 use Rattle.std.specs.List.{IsDistinct}
@@ -20,7 +20,7 @@ use Rattle.buffa_map_base.specs.MessageField.{IsSmallField}
 use Rattle.buffa_map_base.specs.Scalars.{delimited_writing}
 use Rattle.buffa_map_base.specs.Pairs.{ListsOnce}
 use Rattle.buffa_map_base.specs.Rewrite.{IsRewrite, KeepsMeaning}
-use Rattle.buffa_map_base.specs.Run.{fold_entries, undeclared, Paid, Run, RunFault, EntryRecord, inner_needs, record_need, run_of}
+use Rattle.buffa_map_base.specs.Run.{fold_entries, undeclared, ArePaid, Run, RunFault, EntryRecord, inner_needs, record_need, run_of}
 use Rattle.buffa_map_base.specs.Encoding.{AllHold, HasEncoding, field_size, field_encoding}
 use Rattle.buffa_map_base.specs.declared.map_entry.MapEntry.{MapEntry}
 
@@ -47,7 +47,7 @@ module _ {K V : Type 0} (key : Reading K) (val : Reading V) where
   -- the same of a run of records, of which each is paid
   pub record RunsAreRead : Type 0 where
     pub ok : (d n cost extra : ℕ) (left : BudgetLeft) (bs : List ℕ) (es : List (EntryRecord K V)) (over : BudgetLeft) →
-        (run_of key val d n cost extra left bs ≡ Ok (es, over)) ↔ (Run key val d n bs es × Paid key val d cost extra left es over)
+        (run_of key val d n cost extra left bs ≡ Ok (es, over)) ↔ (Run key val d n bs es × ArePaid key val d cost extra left es over)
     pub err : ArePlain → (d n cost extra : ℕ) (left : BudgetLeft) (bs : List ℕ) (f : DecodeError) →
         (run_of key val d n cost extra left bs ≡ Err f) ↔ RunFault key val d n cost extra left bs f
     pub refused : (d n cost extra : ℕ) (left : BudgetLeft) (bs : List ℕ) (f : DecodeError) →
@@ -81,7 +81,7 @@ module _ {K V : Type 0} (key : Reading K) (val : Reading V) where
     pub run : (d n : ℕ) (bs : List ℕ) (es fs : List (EntryRecord K V)) → Run key val d n bs es → Run key val d n bs fs → es ≡ fs
     -- a run that is paid has no fault
     pub run_or_fault : (d n cost extra : ℕ) (left over : BudgetLeft) (bs : List ℕ) (es : List (EntryRecord K V)) (f : DecodeError) →
-        Run key val d n bs es → Paid key val d cost extra left es over → RunFault key val d n cost extra left bs f → ⊥
+        Run key val d n bs es → ArePaid key val d cost extra left es over → RunFault key val d n cost extra left bs f → ⊥
 
   -- Two runs, one after the other, are a run of the entries of both; it makes of a map what the second one makes of
   -- what the first one makes of it, and keeps what both keep, in order.
@@ -103,7 +103,7 @@ pub record WalksAgree {K V : Type 0} (key : Writing K) (val : Writing V) (eq : K
 -- and has an entry for each pair.
 module _ {K V : Type 0} (key : Reading K) (val : Reading V) (kw : Writing K) (vw : Writing V) (eq : K → K → Bool)
     (KeyFits KeyNormal : K → Type 0) (ValFits ValNormal : V → Type 0) where
-  pub record ReadsBack (d n : ℕ) (l : List (K × V)) : Type 0 where
+  pub record FieldReadsBack (d n : ℕ) (l : List (K × V)) : Type 0 where
     pub entries : List (EntryRecord K V)
     pub run : Run key val d n (field_encoding kw vw n l) entries
     pub folded : fold_entries eq [] entries ≡ l
@@ -112,7 +112,7 @@ module _ {K V : Type 0} (key : Reading K) (val : Reading V) (kw : Writing K) (vw
 
   abbrev pub WrittenIsRead : Type 0
   WrittenIsRead =
-      (d n : ℕ) (l : List (K × V)) → IsNumber n → HasEncoding kw vw l → AllHold KeyFits ValFits l → AllHold KeyNormal ValNormal l → IsDistinct eq (keys_of l) → ReadsBack d n l
+      (d n : ℕ) (l : List (K × V)) → IsNumber n → HasEncoding kw vw l → AllHold KeyFits ValFits l → AllHold KeyNormal ValNormal l → IsDistinct eq (keys_of l) → FieldReadsBack d n l
 
 -- The same of normal messages, where they are small enough to be written, and a level is left for each of theirs.
 module _ {K M : Type 0} (key : Reading K) (val : Reading M) (kw : Writing K) (encoding : M → List ℕ) (eq : K → K → Bool)
@@ -120,7 +120,7 @@ module _ {K M : Type 0} (key : Reading K) (val : Reading M) (kw : Writing K) (en
   abbrev pub MessagesAreRead : Type 0
   MessagesAreRead =
       (d n : ℕ) (l : List (K × M)) → IsNumber n → IsSmallField kw encoding l → AllHold KeyFits ValFits l → AllHold KeyNormal ValNormal l →
-      AllHold (λ k. Unit {0}) (λ v. levels v < d) l → IsDistinct eq (keys_of l) → ReadsBack key val kw (delimited_writing encoding) eq KeyFits KeyNormal ValFits ValNormal d n l
+      AllHold (λ k. Unit {0}) (λ v. levels v < d) l → IsDistinct eq (keys_of l) → FieldReadsBack key val kw (delimited_writing encoding) eq KeyFits KeyNormal ValFits ValNormal d n l
 
 -- A run that a reader of the enum e takes is taken by a reader of an enum f that declares all that e declares.
 abbrev pub NewerTakes : {K : Type 0} → Reading K → Type 0

@@ -1,22 +1,9 @@
-pub use Rattle.buffa_map_base.specs.Pairs
-pub use Rattle.buffa_map_base.specs.Codec
-pub use Rattle.buffa_map_base.specs.Scalars
-pub use Rattle.buffa_map_base.specs.ScalarFacts
-pub use Rattle.buffa_map_base.specs.Entry
-pub use Rattle.buffa_map_base.specs.Fields
-pub use Rattle.buffa_map_base.specs.Run
-pub use Rattle.buffa_map_base.specs.Merge
-pub use Rattle.buffa_map_base.specs.Parts
-pub use Rattle.buffa_map_base.specs.Lent
-pub use Rattle.buffa_map_base.specs.Encoding
-pub use Rattle.buffa_map_base.specs.Message
-pub use Rattle.buffa_map_base.specs.MessageFacts
-pub use Rattle.buffa_map_base.specs.MessageField
+-- The words that this crate hands out.
 pub mod Plain
-pub use Rattle.buffa_map_base.specs.Enums
-pub use Rattle.buffa_map_base.specs.EnumFacts
 pub mod Laws
 pub mod Pinned
 pub mod PinnedEncodings
 pub mod Rewrite
 pub mod Calls
+pub mod Children
+pub mod ChildrenFacts

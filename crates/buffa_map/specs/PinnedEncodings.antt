@@ -21,7 +21,7 @@ NoneIsFull r s = (r ≢ Err OutOfMemory) × (s ≢ Err OutOfMemory)
 
 module _ {K V : Type 0} (key : Writing K) (val : Writing V) (eq : K → K → Bool) where
   -- A map has one size, however it is walked. One walk is written in one way only, or refused at one entry, memory aside.
-  pub record FieldIsPinned : Type 0 where
+  pub record MapFieldIsPinned : Type 0 where
     pub size : (t : ℕ) (m a b : List (K × V)) → ListsOnce eq m a → ListsOnce eq m b → saturated (field_size key val t a) ≡ saturated (field_size key val t b)
     pub written : (n : ℕ) (old a b : List ℕ) (l : List (K × V)) (r s : Result (Unit {0}) EncodeError) →
         WritesField key val n old a r l → WritesField key val n old b s l → NoneIsFull r s → (r ≡ s) × (a ≡ b)

@@ -1,4 +1,4 @@
-//! Which codec each of them is.
+//! Which codec each public name is: of scalars, strings, bytes, enums and messages.
 
 ghost use Rattle.std.specs.Prelude.{◌≡◌, ◌↔◌, ℕ, ℤ, List, [], None, Some, false, true};
 ghost use Rattle.buffa_map_base.specs.Scalars.{IsLengthy, IsText};

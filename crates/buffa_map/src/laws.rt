@@ -1,4 +1,4 @@
-//! What the definitions say together: each law is a function with nothing to do, whose contract is the law.
+//! All laws of map fields, handed on; those of entries, runs, sizes and rewrites stand in `map_laws.rt`.
 
 ghost use Rattle.std.specs.Prelude.{◌≡◌, ◌↔◌, List, Some, true};
 ghost use Rattle.buffa_bytes.specs.Pinned.{IsCopied, SameIsOne};
@@ -48,8 +48,8 @@ pub fn clones_are_these()
         ⟦<MapValueDecodeStatus as Clone>⟧.is_infallible }
 {}
 
-/// A [`Map`], the storage to take where nothing speaks for another one, is an `IndexMap`: its entries, walked in the
-/// order in which the keys came, which it keeps.
+/// A [`Map`], the usual storage, is an `IndexMap`: its entries, walked in the order in which the keys came, which it
+/// keeps.
 pub fn the_map_is_this<K: MapKey + Hash, V: Blank>()
     ensures pairs { (m : _) → ⟦<Map<K, V> as MapStorage>⟧.pairs m ≡ means K.meaning V.meaning m.entries }
     ensures keys { (a b : K) → ⟦<Map<K, V> as MapStorage>⟧.equal (K.meaning a) (K.meaning b) ≡ K.eq a b }

@@ -1,4 +1,5 @@
-//! What the definitions say together: each law is a function with nothing to do, whose contract is the law.
+//! Laws of entries, runs, sizes and rewrites: each is a function with nothing to do, whose contract is the law. A body
+//! that calls it may rest on it.
 
 ghost use Rattle.buffa_wire.specs.Parse.{Fits};
 ghost use Rattle.buffa_wire.specs.Records.{records_of};
@@ -17,20 +18,24 @@ pub fn values_are_read<VC: MapValueDecode>()
     ensures { ValuesAreRead VC.reading }
 {}
 
-/// A whole entry is read exactly where the grammar has it, and a fault is told only where the grammar has
-/// one; where no payload is a message, which fault it is is one too.
+/// A whole entry is read exactly where the grammar has it, and refused where the grammar has a fault; where no payload
+/// is a message, with that fault and no other.
 pub fn entries_are_read<KC: MapValueDecode, VC: MapValueDecode>()
     ensures { EntriesAreRead KC.reading VC.reading }
 {}
 
-/// The same of a whole run of records, where some units and unknown fields are left, each entry costs units
-/// of element memory and what the messages in it cost, and each one with an undeclared value costs unknown
-/// fields: what is read is the entries, and what is over.
+/// The same of a whole run of records under a budget: what is read is its entries, and what is left of the budget.
+/// Each entry costs units of element memory and what the messages in it cost; one with an undeclared value that is kept
+/// costs unknown fields.
 pub fn runs_are_read<KC: MapValueDecode, VC: MapValueDecode>()
     ensures { RunsAreRead KC.reading VC.reading }
 {}
 
 /// Where no payload is a message, an entry needs its units and nothing more.
+///
+/// ```ignore
+/// plain_entries_need_units::<KC, VC>();
+/// ```
 pub fn plain_entries_need_units<KC: MapValueDecode, VC: MapValueDecode>()
     ensures { NeedsUnits KC.reading VC.reading }
 {}
@@ -44,11 +49,19 @@ pub fn plain_entries_are_exact<KC: MapCodec, VC: MapCodec>()
 
 /// A budget's error is told of an entry only where what it needs isn't left: its units, what the messages in
 /// it cost, and the unknown field of one with an undeclared value, where it is kept.
+///
+/// ```ignore
+/// limits_are_told_where_needs_are_not_left::<KC, VC>();
+/// ```
 pub fn limits_are_told_where_needs_are_not_left<KC: MapValueDecode, VC: MapValueDecode>()
     ensures { LimitsAreTrue KC.reading VC.reading }
 {}
 
-/// Bytes are an entry, or a run, in one way only, and not while they have a fault.
+/// Bytes are an entry, or a run, in one way at most, and in none where they have a fault.
+///
+/// ```ignore
+/// one_reading::<KC, VC>();
+/// ```
 pub fn one_reading<KC: MapValueDecode, VC: MapValueDecode>()
     ensures { OneReading KC.reading VC.reading }
 {}
@@ -64,6 +77,10 @@ pub fn runs_join<
 {}
 
 /// The size of a field is the length of its encoding, where its tag is the field's.
+///
+/// ```ignore
+/// size_is_length::<KC, VC>();
+/// ```
 pub fn size_is_length<KC: MapCodec, VC: MapCodec>()
     ensures { SizeIsLength KC.writing VC.writing }
 {}
@@ -77,6 +94,10 @@ pub fn walks_agree<KC: MapCodec, VC: MapCodec, C: MapStorage<Key = KC::Value, Va
 /// The encoding of pairs is a run that says these pairs, so that a map that is written and then read into an
 /// empty one is that map, stored keys too, in whatever order it was walked. Each entry is declared, and there
 /// are as many as there are pairs.
+///
+/// ```ignore
+/// written_is_read::<KC, VC, C>();
+/// ```
 pub fn written_is_read<
     KC: MapCodec,
     VC: MapCodec,
@@ -96,16 +117,25 @@ pub fn written_messages_are_read<
         KC.normal (λ v. Fits (records_of (M.records v))) M.normal M.levels }
 {}
 
-/// A run that a reader of an enum takes, a reader of a newer one takes, which declares more.
+/// A run that the reader of an enum accepts is accepted by the reader of a newer enum, which declares more.
+///
+/// ```ignore
+/// newer_enums_take_it_too::<KC>();
+/// ```
 pub fn newer_enums_take_it_too<KC: MapCodec>()
     ensures { NewerTakes KC.reading }
 {}
 
-/// A rewrite means to a reader who knows more what the run means, where the run is ordered, and only there.
+/// A rewrite means to a reader of a newer enum what the run means, exactly where the run is *ordered*: see
+/// docs/DEFINITIONS.md.
 ///
 /// A reader of the enum `e` reads a run, and writes the map and the entries that `e` doesn't declare. The
 /// enum `f` declares all that `e` declares, and has the same default. Its reader reads the rewrite as it
 /// reads the run itself: it keeps the same entries, and makes the same map of any old one, stored keys too.
+///
+/// ```ignore
+/// rewrite_means::<KC>();
+/// ```
 pub fn rewrite_means<KC: MapCodec>()
     ensures { RewriteMeans KC.reading KC.writing KC.fits }
 {}

@@ -2,7 +2,7 @@
 //! said beside each law.
 
 ghost use Rattle.buffa_map.specs.Pinned.{EntriesArePinned, RunsArePinned, ValueIsPinned};
-ghost use Rattle.buffa_map.specs.PinnedEncodings.{FieldIsPinned, MessagesArePinned, PutIsPinned, RewritesArePinned};
+ghost use Rattle.buffa_map.specs.PinnedEncodings.{MapFieldIsPinned, MessagesArePinned, PutIsPinned, RewritesArePinned};
 
 use buffa_map_base::codec::{MapCodec, MapValueDecode};
 use buffa_map_base::storage::MapStorage;
@@ -13,13 +13,14 @@ pub fn values_are_pinned<VC: MapValueDecode>()
     ensures { ValueIsPinned VC.reading }
 {}
 
-/// An entry is merged in one way only, and a fault is one, and leaves one budget. Open is where memory runs out; and
-/// where a payload is a message, which of its faults is told, and what is spent for it.
+/// An entry is merged in one way only; where it is refused, there is one fault, and one budget is left. Open is where
+/// memory runs out; and where a payload is a message, which of its faults is told, and what is spent for it.
 pub fn entries_are_pinned<KC: MapValueDecode, VC: MapValueDecode>()
     ensures { EntriesArePinned KC.reading VC.reading }
 {}
 
-/// A run is read in one way only, and a fault comes after the same entries, and is one. Open is what is open of an entry.
+/// A run is read in one way only; where it is refused, there is one fault, after the same entries. Open is what is open
+/// of an entry.
 pub fn runs_are_pinned<KC: MapValueDecode, VC: MapValueDecode>()
     ensures { RunsArePinned KC.reading VC.reading }
 {}
@@ -31,7 +32,7 @@ pub fn map_fields_are_pinned<
     VC: MapCodec,
     C: MapStorage<Key = KC::Value, Value = VC::Value>,
 >()
-    ensures { FieldIsPinned KC.writing VC.writing C.equal }
+    ensures { MapFieldIsPinned KC.writing VC.writing C.equal }
 {}
 
 /// A map field of small messages has one size, one encoding and one cache behind it. Open is what is
@@ -50,8 +51,8 @@ pub fn rewrites_are_pinned<
     ensures { RewritesArePinned KC.reading VC.reading C.equal C.keeps_order C.walks KC.writing VC.writing KC.fits VC.fits }
 {}
 
-/// A put keeps a stored key, and changes no other pair; where the order is kept, it leaves one list. Open is, elsewhere,
-/// the order of the pairs.
+/// A put keeps a stored key, and changes no other pair; where the order is kept, it leaves one list. Where it isn't,
+/// the order of the pairs is open.
 pub fn puts_are_pinned<C: MapStorage>()
     ensures { PutIsPinned C.Value.Meaning C.equal C.keeps_order }
 {}

@@ -2,7 +2,7 @@
 
 ghost use Rattle.std.specs.Prelude.{◌≡◌, IfErr, OnOk};
 ghost use Rattle.buffa_bytes.specs.Number.{IsNumber};
-ghost use Rattle.buffa_map.specs.Calls.{ReadsAnew, RefusesRewriteIn, RewritesIn, StopsAnew, WritesWithKept};
+ghost use Rattle.buffa_map.specs.Calls.{ReadsAnew, RefusesRewriteIn, RewritesIn, StopsAnew, WritesWalkIn};
 ghost use Rattle.buffa_map.specs.Rewrite.{rewrite_error_text};
 
 use buffa_map_base::codec::MapCodec;
@@ -72,7 +72,7 @@ fn write_with<
     S: EncodeSink,
 >(map: &C, number: u32, kept: &UnknownFields, sink: &mut S) -> Result<(), EncodeError>
     requires { IsNumber number }
-    ensures { WritesWithKept C.equal C.walks C.pairs map.now KC.writing VC.writing KC.fits VC.fits number
+    ensures { WritesWalkIn C.equal C.walks C.pairs map.now KC.writing VC.writing KC.fits VC.fits number
         kept.now.records S.written S.room sink.old sink.new result }
 {
     map.storage_write::<KC, VC, S>(number, sink)?;
@@ -83,8 +83,8 @@ fn write_with<
 /// the map and behind it, in order, the entries with a value that is undeclared, byte for byte.
 ///
 /// `number` is 1 to [`MAX_FIELD_NUMBER`](buffa_wire::MAX_FIELD_NUMBER). A reader whose enum declares more
-/// numbers reads the same map from what was written as from what was read, if the run is ordered, and only
-/// then: [`crate::laws::rewrite_means`].
+/// numbers, and has the same default, reads the same map from what was written as from what was read, if the run
+/// is ordered; into an empty map only then: [`crate::laws::rewrite_means`], in `map_laws.rt`.
 ///
 /// # Errors
 /// [`RewriteError::Decode`] with the faults of [`crate::map_codec::read_map_field`] where a list is passed;

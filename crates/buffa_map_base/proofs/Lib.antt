@@ -1,3 +1,4 @@
+-- The lemmas that this crate hands out.
 pub mod PutLemmas
 pub mod MeaningLemmas
 pub mod HashedLemmas

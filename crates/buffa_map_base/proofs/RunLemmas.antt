@@ -18,7 +18,7 @@ use Rattle.buffa_wire.specs.Sequence.{join, ParsesEach}
 use Rattle.buffa_map_base.specs.Codec.{Reading}
 use Rattle.buffa_map_base.specs.Entry.{IsEntry, FaultOf, EntryOf, EntryFault, blanks, inner_need, need_at, need_of}
 use Rattle.buffa_map_base.specs.Pairs.{InOrder, put, SamePairs}
-use Rattle.buffa_map_base.specs.Run.{EntryRecord, IsRecord, Run, Paid, RecordFault, RunFault, entry_in, inner_needs, lacks, record_need, record_at, after_entry, next_record, run_of, step, fold_entries, undeclared, added, undeclared_record, undeclared_records}
+use Rattle.buffa_map_base.specs.Run.{EntryRecord, IsRecord, Run, ArePaid, RecordFault, RunFault, entry_in, inner_needs, lacks, record_need, record_at, after_entry, next_record, run_of, step, fold_entries, undeclared, added, undeclared_record, undeclared_records}
 use Rattle.buffa_map_base.specs.declared.map_entry.MapEntry.{MapEntry}
 use Rattle.buffa_wire.proofs.SequenceLemmas.{Answers, answer, answers_as, along_sound, along_complete, along_faulty}
 use Rattle.buffa_map_base.proofs.EntryLemmas.{Plain, check_sound, check_differs, entry_sound, entry_complete, entry_faulty}
@@ -234,7 +234,7 @@ module _ {K V : Type 0} (key : Reading K) (val : Reading V) (d n : ℕ) where
     next_some s t r (x, h, e, paid, slots) = record_some r x h
 
     -- pieces that lead from one list to another are a run of what was added
-    run_of_pieces : (ps : List (List ℕ)) (s t : Paying) → ParsesEach Longer s ps t → (xs : List (EntryRecord K V)) × Run key val d n (join ps) xs × (t.0 ≡ s.0 ++ xs) × Paid key val d cost extra s.1 xs t.1
+    run_of_pieces : (ps : List (List ℕ)) (s t : Paying) → ParsesEach Longer s ps t → (xs : List (EntryRecord K V)) × Run key val d n (join ps) xs × (t.0 ≡ s.0 ++ xs) × ArePaid key val d cost extra s.1 xs t.1
     run_of_pieces [] s t h = ([], refl, sym (ap (λ z. z.0) h) ∙ sym (append-nil s.0), (omega (arith, ap (λ z. z.1.memory) h), omega (arith, ap (λ z. z.1.unknown) h)))
     run_of_pieces (p ∷ ps) s t (u, (x, m, e, paid, slots), h) =
         let i = run_of_pieces ps u t h in (
@@ -244,7 +244,7 @@ module _ {K V : Type 0} (key : Reading K) (val : Reading V) (d n : ℕ) where
           (omega (arith, i.3.0, paid), omega (arith, i.3.1, slots, extra_kept x.parts.known x.bytes (undeclared i.0) extra)),
         )
 
-    pieces_of_run : (b : List ℕ) (s : Paying) (xs : List (EntryRecord K V)) (over : BudgetLeft) → Run key val d n b xs → Paid key val d cost extra s.1 xs over → (ps : List (List ℕ)) × (b ≡ join ps) × ParsesEach Longer s ps (s.0 ++ xs, over)
+    pieces_of_run : (b : List ℕ) (s : Paying) (xs : List (EntryRecord K V)) (over : BudgetLeft) → Run key val d n b xs → ArePaid key val d cost extra s.1 xs over → (ps : List (List ℕ)) × (b ≡ join ps) × ParsesEach Longer s ps (s.0 ++ xs, over)
     pieces_of_run b s [] over h paid =
         let memory : s.1.memory ≡ over.memory = omega (arith, paid.0) in
         let unknown : s.1.unknown ≡ over.unknown = omega (arith, paid.1) in
@@ -259,7 +259,7 @@ module _ {K V : Type 0} (key : Reading K) (val : Reading V) (d n : ℕ) where
 
     -- what a whole run says, and what is over
     abbrev pub WholeRun : BudgetLeft → List ℕ → Paying → Type 0
-    WholeRun left bs t = Run key val d n bs t.0 × Paid key val d cost extra left t.0 t.1
+    WholeRun left bs t = Run key val d n bs t.0 × ArePaid key val d cost extra left t.0 t.1
 
     module _ (key_free : key.nested ≡ false → (d : ℕ) (c : Content) → key.cost d c ≡ nothing) (val_free : val.nested ≡ false → (d : ℕ) (c : Content) → val.cost d c ≡ nothing) where
       next_faulty : (s : Paying) (bs : List ℕ) (f : DecodeError) → Broken s bs f → Answers (Plain key val d) (next_record key val d n cost extra s bs) f
@@ -268,11 +268,11 @@ module _ {K V : Type 0} (key : Reading K) (val : Reading V) (d n : ℕ) where
       pub run_sound : (left : BudgetLeft) (bs : List ℕ) → Agrees (run_of key val d n cost extra left bs) (WholeRun left bs) (RunFault key val d n cost extra left bs)
       run_sound left bs = agree_weaker (along_sound Longer (next_record key val d n cost extra) Broken next_sound next_complete (Plain key val d) next_faulty next_some ([], left) bs)
           (λ t h. let i = run_of_pieces h.0 ([], left) t h.2 in
-          (subst (λ z. Run key val d n bs z) (sym i.2) (subst (λ z. Run key val d n z i.0) (sym (h.1 ∙ append-nil (join h.0))) i.1), subst (λ z. Paid key val d cost extra left z t.1) (sym i.2) i.3))
+          (subst (λ z. Run key val d n bs z) (sym i.2) (subst (λ z. Run key val d n z i.0) (sym (h.1 ∙ append-nil (join h.0))) i.1), subst (λ z. ArePaid key val d cost extra left z t.1) (sym i.2) i.3))
           (λ f h. let i = run_of_pieces h.2.0 ([], left) h.0 h.2.2 in
           (i.0, h.1, h.0.1, (join h.2.0, h.2.1, i.1, i.3), h.3, h.4))
 
-      pub run_complete : (left : BudgetLeft) (bs : List ℕ) (es : List (EntryRecord K V)) (over : BudgetLeft) → Run key val d n bs es → Paid key val d cost extra left es over → run_of key val d n cost extra left bs ≡ Ok (es, over)
+      pub run_complete : (left : BudgetLeft) (bs : List ℕ) (es : List (EntryRecord K V)) (over : BudgetLeft) → Run key val d n bs es → ArePaid key val d cost extra left es over → run_of key val d n cost extra left bs ≡ Ok (es, over)
       run_complete left bs es over h paid =
           let i = pieces_of_run bs ([], left) es over h paid in
           along_complete Longer (next_record key val d n cost extra) Broken next_sound next_complete (Plain key val d) next_faulty next_some ([], left) (es, over) bs (i.0, i.1 ∙ sym (append-nil (join i.0)), i.2)
@@ -344,8 +344,8 @@ inner_needs-last : {K V : Type 0} (key : Reading K) (val : Reading V) (d : ℕ) 
 inner_needs-last key val d [] x = (omega arith, omega arith)
 inner_needs-last key val d (y ∷ xs) x = let i = inner_needs-last key val d xs x in (omega (arith, i.0), omega (arith, i.1))
 
-pub Paid-more : {K V : Type 0} (key : Reading K) (val : Reading V) (d cost extra : ℕ) (a b c : BudgetLeft) (xs : List (EntryRecord K V)) (x : EntryRecord K V) → Paid key val d cost extra a xs b →
-    Pays b (plus (need_of key val d cost x.bytes) (unknown_fields (cond x.parts.known 0 extra))) c → Paid key val d cost extra a (xs ++ x ∷ []) c
+pub Paid-more : {K V : Type 0} (key : Reading K) (val : Reading V) (d cost extra : ℕ) (a b c : BudgetLeft) (xs : List (EntryRecord K V)) (x : EntryRecord K V) → ArePaid key val d cost extra a xs b →
+    Pays b (plus (need_of key val d cost x.bytes) (unknown_fields (cond x.parts.known 0 extra))) c → ArePaid key val d cost extra a (xs ++ x ∷ []) c
 Paid-more key val d cost extra a b c xs x h k =
     let i = inner_needs-last key val d xs x in (
       rw (length-append xs (x ∷ [])) (omega (arith, h.0, k.1, i.0)),

@@ -1,4 +1,4 @@
--- What a call of a reader, or of a writer, did: from what it was passed to what it left.
+-- What a call that reads, writes or rewrites a map field did: from what it was passed to what it left.
 use Rattle.std.specs.Prelude.{◌≡◌, ◌+◌, ◌⊎◌, ℕ, Bool, List, [], OnOk, Option, Result}
 use Rattle.buffa_bytes.specs.declared.error.DecodeError.{DecodeError}
 use Rattle.buffa_bytes.specs.declared.error.EncodeError.{EncodeError}
@@ -27,12 +27,12 @@ Exit D = D × (MutBor BudgetLeft × Unit {0})
 -- ---- the fields of an entry: says is what its parts mean, unread what a buffer has left
 
 module _ {K V P B D : Type 0} (key : Reading K) (val : Reading V) (ctx : DecodeContext) (left : Exit D) (says : P → MapEntry K V) (unread : B → List ℕ) where
-  abbrev pub MergesFieldIn : P → P → B → B → Type 0
-  MergesFieldIn old new before after =
+  abbrev pub MergesEntryFieldIn : P → P → B → B → Type 0
+  MergesEntryFieldIn old new before after =
       MergesEntryField key val ctx.depth (says old) ctx.budget.now (unread before) (says new) (budget_left left) (unread after)
 
-  abbrev pub RefusesFieldIn : P → B → DecodeError → Type 0
-  RefusesFieldIn old before = RefusesEntryField key val ctx.depth (says old) ctx.budget.now (unread before) (budget_left left)
+  abbrev pub RefusesEntryFieldIn : P → B → DecodeError → Type 0
+  RefusesEntryFieldIn old before = RefusesEntryField key val ctx.depth (says old) ctx.budget.now (unread before) (budget_left left)
 
   abbrev pub MergesFieldsIn : B → P → Type 0
   MergesFieldsIn before parts = MergesFields key val ctx.depth (unread before) ctx.budget.now (says parts) (budget_left left)
@@ -110,7 +110,7 @@ WritesMessages {M} {V} {S} Gives P meaning encoding slots written =
     (x : Bor M) (c : MutBor Cache) (s : MutBor S) (r : Result (Unit {0}) EncodeError) (d : MutBor Cache) (t : MutBor S) → P x.now → Gives x c s r d t →
     IsWritten (encoding (meaning x.now)) (slots (meaning x.now)) c.now (written s.now) r d.now (written t.now)
 
--- where such a function keeps room, so does the record of the pair
+-- where the function writes each message that fits, a record that fits is written
 abbrev pub KeepsRecordRoom : {K M V S : Type 0} → (Bor M → MutBor Cache → MutBor S → Result (Unit {0}) EncodeError → MutBor Cache → MutBor S → Type 0) → (M → V) → (S → ℕ) → Writing K → (V → List ℕ) → ℕ → K × V → Result (Unit {0}) EncodeError → S → S → Type 0
 KeepsRecordRoom Gives meaning room key encoding n p r old new =
     KeepsMessageRoom Gives (λ v. encoding (meaning v)) room → UsesRecordRoom key encoding n p r (room old) (room new)
@@ -126,8 +126,8 @@ module _ {K V M : Type 0} (eq : K → K → Bool) (Walks : M → List (K × V) �
       × OnOk r (AllHold KeyFits ValFits l) × UsesRoomOf r (room old) (field_encoding key val n l) (room new)
 
   -- the same with the records of a list behind it
-  abbrev pub WritesWithKept : {S T : Type 0} → List (ℕ × Datum) → (S → List ℕ) → (S → ℕ) → S → S → Result T EncodeError → Type 0
-  WritesWithKept kept written room old new r =
+  abbrev pub WritesWalkIn : {S T : Type 0} → List (ℕ × Datum) → (S → List ℕ) → (S → ℕ) → S → S → Result T EncodeError → Type 0
+  WritesWalkIn kept written room old new r =
       WritesWalk eq (Walks map) key val KeyFits ValFits n (pairs map) kept (written old) (room old) r (written new) (room new)
 
 -- ---- rewrites

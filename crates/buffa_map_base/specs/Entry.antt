@@ -34,7 +34,7 @@ module _ {V : Type 0} (codec : Reading V) (d n : ℕ) (old : V) where
       ((w ≢ codec.wire) × (e ≡ WireTypeMismatch n codec.wire w))
       ⊎ ((w ≡ codec.wire) × ValueFault codec d old bs e)
 
-  -- the reading of both
+  -- the reading: what the codec makes of the payload at the front, or its fault
   abbrev pub codec_at : WireType → List ℕ → Result ((V × Bool) × List ℕ) DecodeError
   codec_at w bs = check_wire n codec.wire w >>= (λ _. value_at codec d old bs)
 

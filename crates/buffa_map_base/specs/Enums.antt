@@ -7,7 +7,7 @@ use Rattle.buffa_wire.specs.Enums.{Numbers, open_number}
 use Rattle.buffa_bytes.specs.Values.{int32_of}
 use Rattle.buffa_bytes.specs.declared.wire_type.WireType.TheVariants.{Varint}
 use Rattle.buffa_map_base.specs.Codec.{Reading, Writing}
-use Rattle.buffa_map_base.specs.Scalars.{number_reading, varint_writing}
+use Rattle.buffa_map_base.specs.Scalars.{int32_writing, number_reading, varint_writing}
 
 -- ---- closed enums: a value means its number
 
@@ -16,7 +16,7 @@ abbrev pub closed_reading : Numbers → Reading ℤ
 closed_reading e = record { blank = e.blank; wire = Varint; reads = λ d old c. let n : ℤ = int32_of (number_in c) in Ok (cond (e.declares n) (n, true) (old, false)); nested = false; undeclared = true; takes_memory = false; cost = λ d c. nothing }
 
 abbrev pub closed_writing : Writing ℤ
-closed_writing = varint_writing (cast_unsigned w64)
+closed_writing = int32_writing
 
 -- the numbers of values
 abbrev pub ClosedFits : Numbers → ℤ → Type 0

@@ -1,3 +1,4 @@
+-- The words that this crate hands out.
 pub mod Pairs
 pub mod Codec
 pub mod Scalars

@@ -14,7 +14,7 @@ use Rattle.buffa_map_base.specs.Codec.{Reading}
 use Rattle.buffa_map_base.specs.Entry.{EntryFault, EntryOf, IsEntry, inner_need, need_of}
 use Rattle.buffa_map_base.specs.Fields.{EntryFieldsTakeMemory}
 use Rattle.buffa_map_base.specs.Pairs.{InOrder, SamePairs}
-use Rattle.buffa_map_base.specs.Run.{fold_entries, Paid, RecordFault, Run, RunBegins, EntryRecord, added, record_need, step}
+use Rattle.buffa_map_base.specs.Run.{fold_entries, ArePaid, RecordFault, Run, RunBegins, EntryRecord, added, record_need, step}
 use Rattle.buffa_map_base.specs.declared.map_entry.MapEntry.{MapEntry}
 
 -- the pairs of the map, the records that are kept, and what is left of the budget
@@ -111,8 +111,8 @@ abbrev pub RefusesWhole : {K V : Type 0} → Rules K V → State K V → List �
 RefusesWhole r old e new f = (bytes rest : List ℕ) → delimited_at bytes ≡ Ok (e, rest) → RefusesEntry r old bytes new rest f
 
 -- a tag of this number, a length and so many bytes begin the bytes
-abbrev pub HasRecord : ℕ → List ℕ → Type 0
-HasRecord n bs = (mid : List ℕ) × (tag_at bs ≡ Ok (n, LengthDelimited, mid)) × IsOk (delimited_at mid)
+abbrev pub HasWholeRecord : ℕ → List ℕ → Type 0
+HasWholeRecord n bs = (mid : List ℕ) × (tag_at bs ≡ Ok (n, LengthDelimited, mid)) × IsOk (delimited_at mid)
 
 -- the records of some entries are all of the bytes, and were read
 pub record ReadsRun {K V : Type 0} (r : Rules K V) (old : State K V) (bytes : List ℕ) (new : State K V) (rest : List ℕ) : Type 0 where
@@ -121,7 +121,7 @@ pub record ReadsRun {K V : Type 0} (r : Rules K V) (old : State K V) (bytes : Li
   pub folded : SamePairs r.same (fold_entries r.same old.pairs entries) new.pairs
   pub order : InOrder r.keeps_order (fold_entries r.same old.pairs entries) new.pairs
   pub keeps : new.records ≡ old.records ++ added r.adds r.number entries
-  pub paid : Paid r.key r.val r.depth r.cost r.extra old.left entries new.left
+  pub paid : ArePaid r.key r.val r.depth r.cost r.extra old.left entries new.left
   pub whole : rest ≡ []
 
 -- The records of some entries begin the bytes, and were read; f is why what follows them wasn't, and out of memory only
@@ -146,7 +146,7 @@ pub record StopsRun {K V : Type 0} (r : Rules K V) (old : State K V) (bytes : Li
   pub one_unknown : over.unknown ≤ new.left.unknown + (r.extra + (record_need r.key r.val r.depth rest).unknown)
   pub fault : f ≢ OutOfMemory → RecordFault r.key r.val r.depth r.number r.cost r.extra over rest f
   pub memory : f ≡ OutOfMemory → (mid : List ℕ) × (tag_at rest ≡ Ok (r.number, LengthDelimited, mid)) × EntryTakesMemory r over mid f
-  pub unspent : (HasRecord r.number rest → ⊥) → new.left ≡ over
+  pub unspent : (HasWholeRecord r.number rest → ⊥) → new.left ≡ over
   pub charged : f ≢ OutOfMemory → (mid e after : List ℕ) → tag_at rest ≡ Ok (r.number, LengthDelimited, mid) → TakesDelimited mid e after → r.cost ≤ over.memory → new.left.memory + r.cost ≤ over.memory
   pub tail : IsTailOf unread rest
   pub past_tag : (g : ℕ) (w : WireType) (mid : List ℕ) → tag_at rest ≡ Ok (g, w, mid) → (g ≢ r.number) ⊎ (w ≢ LengthDelimited) → unread ≡ mid

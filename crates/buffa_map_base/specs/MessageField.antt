@@ -14,9 +14,8 @@ use Rattle.buffa_map_base.specs.Scalars.{delimited_writing}
 use Rattle.buffa_map_base.specs.Encoding.{entry_encoding, field_size, field_encoding, record_encoding, saturated}
 use denote.Ref.{Bor, MutBor}
 
--- a message whose length is known: the entry's length, and what stands before the message's encoding in its record of
--- number n
 module _ {K : Type 0} (key : Writing K) where
+  -- the length of an entry whose message has so many bytes
   abbrev pub entry_size : K → ℕ → ℕ
   entry_size k inner = 2 + (length (key.encoding k) + (length (varint_encoding inner) + inner))
 
@@ -24,6 +23,7 @@ module _ {K : Type 0} (key : Writing K) where
   abbrev pub key_and_length : K → ℕ → List ℕ
   key_and_length k inner = (tag_encoding 1 key.wire ++ key.encoding k) ++ (tag_encoding 2 LengthDelimited ++ varint_encoding inner)
 
+  -- what stands before the message's encoding in its record of number n
   abbrev pub head_encoding : ℕ → K → ℕ → List ℕ
   head_encoding n k inner = (tag_encoding n LengthDelimited ++ varint_encoding (saturated (entry_size k inner))) ++ key_and_length k inner
 

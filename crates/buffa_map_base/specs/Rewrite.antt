@@ -12,7 +12,7 @@ use Rattle.buffa_bytes.specs.declared.error.EncodeError.TheVariants.{GroupRefuse
 use Rattle.buffa_map_base.specs.Codec.{Writing}
 use Rattle.buffa_map_base.specs.Pairs.{InOrder, ListsOnce, SamePairs}
 use Rattle.buffa_map_base.specs.Merge.{Rules, StopsRun, state}
-use Rattle.buffa_map_base.specs.Run.{EntryRecord, fold_entries, undeclared, Paid, Run, undeclared_records}
+use Rattle.buffa_map_base.specs.Run.{EntryRecord, fold_entries, undeclared, ArePaid, Run, undeclared_records}
 use Rattle.buffa_map_base.specs.Encoding.{AllHold, HasEncoding, RefusesField, UsesRoomOf, field_encoding}
 
 -- out is an encoding of the map that the entries es make of the empty one, its pairs in any order, and behind it a
@@ -22,19 +22,19 @@ IsRewrite {K} {V} eq key val KeyFits ValFits n es out =
     (l : List (K × V)) × ListsOnce eq (fold_entries eq [] es) l × HasEncoding key val l × AllHold KeyFits ValFits l × (out ≡ field_encoding key val n l ++ records_encoding (undeclared_records n es))
 
 -- an entry to two readers of one run: its key, and whether its value is one that the first, and that the second reader's enum declares
-pub record Seen (K : Type 0) : Type 0 where
+pub record SeenByTwo (K : Type 0) : Type 0 where
   pub key : K
   pub ignorant : Bool
   pub informed : Bool
 
 -- the entries of one run, read by two readers
-abbrev pub seen : {K V : Type 0} → List (EntryRecord K V) → List (EntryRecord K V) → List (Seen K)
+abbrev pub seen : {K V : Type 0} → List (EntryRecord K V) → List (EntryRecord K V) → List (SeenByTwo K)
 seen [] fs = []
 seen (x ∷ es) [] = []
 seen (x ∷ es) (y ∷ fs) = record { key = y.parts.key; ignorant = x.parts.known; informed = y.parts.known } ∷ seen es fs
 
 -- only the informed reader's enum declares it
-abbrev pub is_new : {K : Type 0} → Seen K → Bool
+abbrev pub is_new : {K : Type 0} → SeenByTwo K → Bool
 is_new x = x.informed && not x.ignorant
 
 abbrev pub first : {A : Type 0} → List A → Option A
@@ -47,7 +47,7 @@ last {A} (x ∷ xs) = elim (last xs) as (λ _. Option A) [ None ↦ Some x | Som
 
 -- Of the entries with one key: if one is new, then the last that the informed reader knows is new, and the
 -- first that it knows has the very key of the first that the ignorant one knows, if that knows any.
-abbrev pub IsOrderedClass : {K : Type 0} → List (Seen K) → Type 0
+abbrev pub IsOrderedClass : {K : Type 0} → List (SeenByTwo K) → Type 0
 IsOrderedClass xs =
     filter is_new xs ≢ [] →
     IfSome (last (filter (λ x. x.informed) xs)) (λ x. is_new x ≡ true)
@@ -71,18 +71,19 @@ KeepsMeaning {K} {V} eq es fs gs =
 module _ {K V : Type 0} (key : Writing K) (val : Writing V) (n : ℕ) (kept : List (ℕ × Datum)) (old new : List ℕ) where
   -- Memory ran out in the encoding of l, or behind it, after a beginning of the kept records; or an entry of l is too
   -- long, and the records of the pairs before it were written.
-  abbrev pub RefusesRewrite : List (K × V) → EncodeError → Type 0
-  RefusesRewrite l OutOfMemory =
+  abbrev pub RefusesOutputBytes : List (K × V) → EncodeError → Type 0
+  RefusesOutputBytes l OutOfMemory =
       RefusesField key val n old new l OutOfMemory
       ⊎ (HasEncoding key val l × WritesFront (old ++ field_encoding key val n l) (records_encoding kept) new)
-  RefusesRewrite l MessageTooLarge = RefusesField key val n old new l MessageTooLarge
-  RefusesRewrite l (GroupRefused e) = ⊥
+  RefusesOutputBytes l MessageTooLarge = RefusesField key val n old new l MessageTooLarge
+  RefusesOutputBytes l (GroupRefused e) = ⊥
 
   -- the encoding of l and of the kept records was written, or refused
   abbrev pub WritesRewrite : {T : Type 0} → Result T EncodeError → List (K × V) → Type 0
-  WritesRewrite r l = MatchResult r (λ _. HasEncoding key val l × (new ≡ old ++ (field_encoding key val n l ++ records_encoding kept))) (RefusesRewrite l)
+  WritesRewrite r l = MatchResult r (λ _. HasEncoding key val l × (new ≡ old ++ (field_encoding key val n l ++ records_encoding kept))) (RefusesOutputBytes l)
 
 -- a map was walked once, and its encoding and the kept records' were written, or refused; what had room wasn't
+-- refused
 pub record WritesWalk {K V : Type 0} (eq : K → K → Bool) (Walks : List (K × V) → Type 0) (key : Writing K) (val : Writing V) (KeyFits : K → Type 0) (ValFits : V → Type 0) (n : ℕ) (pairs : List (K × V)) (kept : List (ℕ × Datum)) (old : List ℕ) (before : ℕ) {T : Type 0} (r : Result T EncodeError) (new : List ℕ) (after : ℕ) : Type 0 where
   pub walk : List (K × V)
   pub once : ListsOnce eq pairs walk
@@ -105,7 +106,7 @@ pub record RewritesRun {K V : Type 0} (r : Rules K V) (key : Writing K) (val : W
   pub encoding : written ≡ old ++ out
   pub ordered : r.keeps_order ≡ true → out ≡ field_encoding key val r.number (fold_entries r.same [] entries) ++ records_encoding (undeclared_records r.number entries)
   pub room : before ≤ after + length out
-  pub paid : Paid r.key r.val r.depth r.cost r.extra left entries over
+  pub paid : ArePaid r.key r.val r.depth r.cost r.extra left entries over
   pub whole : rest ≡ []
 
 -- f is why the bytes were refused; the entries before it stand in the map, and nothing was written
@@ -123,7 +124,7 @@ pub record RefusesOutput {K V : Type 0} (r : Rules K V) (key : Writing K) (val :
   pub once : ListsOnce r.same (fold_entries r.same [] entries) walk
   pub walked : InOrder r.keeps_order (fold_entries r.same [] entries) walk
   pub walks : Walks walk
-  pub encoding : RefusesRewrite key val r.number (undeclared_records r.number entries) old written walk e
+  pub encoding : RefusesOutputBytes key val r.number (undeclared_records r.number entries) old written walk e
   pub room : e ≡ OutOfMemory → before < length (field_encoding key val r.number walk ++ records_encoding (undeclared_records r.number entries))
-  pub paid : Paid r.key r.val r.depth r.cost r.extra left entries over
+  pub paid : ArePaid r.key r.val r.depth r.cost r.extra left entries over
   pub whole : rest ≡ []

@@ -30,12 +30,12 @@ undeclared (x ∷ xs) = cond x.parts.known (undeclared xs) (x.bytes ∷ undeclar
 abbrev pub undeclared_record : ℕ → List ℕ → Bool → List (ℕ × Datum)
 undeclared_record n e known = cond known [] ((n, bytes e) ∷ [])
 
--- what the entries that are undeclared add, in order, where one of bytes e adds so
+-- what is added for the undeclared entries, in order: for one of bytes e, `adds n e`
 abbrev pub added : {K V X : Type 0} → (ℕ → List ℕ → List X) → ℕ → List (EntryRecord K V) → List X
 added adds n [] = []
 added adds n (x ∷ xs) = cond x.parts.known [] (adds n x.bytes) ++ added adds n xs
 
--- the same as records of number n, length-delimited
+-- the undeclared entries as length-delimited records of number n
 abbrev pub undeclared_records : {K V : Type 0} → ℕ → List (EntryRecord K V) → List (ℕ × Datum)
 undeclared_records n es = map (λ e. (n, bytes e)) (undeclared es)
 
@@ -55,8 +55,8 @@ module _ {K V : Type 0} (key : Reading K) (val : Reading V) (d : ℕ) where
 
   -- over is over of left after these entries, each of which costs some units of element memory and what the
   -- messages in it cost, and each one that is undeclared some of the unknown fields left
-  abbrev pub Paid : ℕ → ℕ → BudgetLeft → List (EntryRecord K V) → BudgetLeft → Type 0
-  Paid cost extra left es over =
+  abbrev pub ArePaid : ℕ → ℕ → BudgetLeft → List (EntryRecord K V) → BudgetLeft → Type 0
+  ArePaid cost extra left es over =
       (over.memory + (length es * cost + (inner_needs es).memory) ≡ left.memory)
       × (over.unknown + (length (undeclared es) * extra + (inner_needs es).unknown) ≡ left.unknown)
 
@@ -64,8 +64,8 @@ module _ {K V : Type 0} (key : Reading K) (val : Reading V) (d : ℕ) where
   abbrev pub record_need : List ℕ → BudgetLeft
   record_need bs = need_by (tag_at bs) (λ t. inner_need key val d t.2)
 
-  -- What an entry that is paid says. Where a fault inside a message isn't named, or what the messages cost isn't left,
-  -- the error stands for any that may be told.
+  -- What the entry e says, if left pays for it. Where a fault inside a message isn't named, or what the messages cost
+  -- isn't left, the error stands for any that may be told.
   abbrev pub entry_in : ℕ → ℕ → BudgetLeft → List ℕ → Result (MapEntry K V) DecodeError
   entry_in cost extra left e =
       let need : BudgetLeft = need_of key val d cost e in
@@ -73,7 +73,7 @@ module _ {K V : Type 0} (key : Reading K) (val : Reading V) (d : ℕ) where
         s ← entry_of key val d e
         if not s.known && nat_lt left.unknown (need.unknown + extra) then Err UnknownFieldLimitExceeded else Ok s)
 
-  -- what is left after it
+  -- what is left of the budget after an entry
   abbrev pub after_entry : ℕ → ℕ → BudgetLeft → EntryRecord K V → BudgetLeft
   after_entry cost extra left x =
       let need : BudgetLeft = need_of key val d cost x.bytes in
@@ -102,7 +102,7 @@ module _ {K V : Type 0} (key : Reading K) (val : Reading V) (d n : ℕ) where
 
   -- records of the entries es begin the bytes, rest follows, and they are paid
   abbrev pub RunBegins : ℕ → ℕ → BudgetLeft → List ℕ → List (EntryRecord K V) → List ℕ → BudgetLeft → Type 0
-  RunBegins cost extra left bs es rest over = (front : List ℕ) × (bs ≡ front ++ rest) × Run front es × Paid key val d cost extra left es over
+  RunBegins cost extra left bs es rest over = (front : List ℕ) × (bs ≡ front ++ rest) × Run front es × ArePaid key val d cost extra left es over
 
   -- after the records of some entries, f is the first fault of what is left
   abbrev pub RunFault : ℕ → ℕ → BudgetLeft → List ℕ → DecodeError → Type 0

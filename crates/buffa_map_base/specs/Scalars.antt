@@ -1,13 +1,13 @@
 -- How scalars, strings and bytes are read and written: a number, a string or bytes in a payload, which
 -- means a value and takes the place of what stood.
 -- Source: the protobuf encoding guide, "Message Structure" and "Length-Delimited Records".
-use Rattle.std.specs.Prelude.{◌≡◌, ℕ, ◌<◌, ◌^◌, true, false, List, length, Ok}
-use Rattle.std.specs.Int.{to_le_bytes, w32, w64}
+use Rattle.std.specs.Prelude.{◌≡◌, ℕ, ℤ, pos, ◌<◌, ◌^◌, true, false, List, [], length, Ok}
+use Rattle.std.specs.Int.{cast_unsigned, to_le_bytes, w32, w64}
 use Rattle.std.specs.Str.{is_utf8}
 use Rattle.buffa_bytes.specs.Gives.{◌>>=◌}
 use Rattle.buffa_bytes.specs.Content.{number_in, bytes_in}
 use Rattle.buffa_wire.specs.BudgetLeft.{nothing}
-use Rattle.buffa_bytes.specs.Values.{delimited_encoding}
+use Rattle.buffa_bytes.specs.Values.{delimited_encoding, int32_of}
 use Rattle.buffa_bytes.specs.Varint.{varint_encoding}
 use Rattle.buffa_bytes.specs.Delimited.{text_as}
 use Rattle.buffa_bytes.specs.declared.wire_type.WireType.{WireType}
@@ -47,6 +47,20 @@ eight_writing num = record { wire = Fixed64; encoding = λ v. to_le_bytes w64 (n
 -- a length and the bytes
 abbrev pub delimited_writing : {V : Type 0} → (V → List ℕ) → Writing V
 delimited_writing bytes = record { wire = LengthDelimited; encoding = λ v. delimited_encoding (bytes v) }
+
+-- ---- int32, and strings as their bytes
+
+abbrev pub int32_reading : Reading ℤ
+int32_reading = number_reading Varint (pos 0) int32_of
+
+abbrev pub int32_writing : Writing ℤ
+int32_writing = varint_writing (cast_unsigned w64)
+
+abbrev pub text_reading : Reading (List ℕ)
+text_reading = string_reading [] (λ text. text)
+
+abbrev pub text_writing : Writing (List ℕ)
+text_writing = delimited_writing (λ text. text)
 
 -- ---- what a type holds
 

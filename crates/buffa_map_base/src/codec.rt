@@ -17,7 +17,8 @@ use buffa_wire::{Blank, Buf, DecodeContext, DecodeError, EncodeError, EncodeSink
 use std::alloc::Global;
 
 pub mod sealed {
-    /// Codecs are those of this crate and of `buffa_map_codecs`: the rules of the wire can't be said by a type.
+    /// Only types of this crate and of `buffa_map_codecs` are codecs of maps: how the wire spells them is nothing that
+    /// a type of one's own can choose.
     pub trait Sealed {}
 }
 
@@ -43,15 +44,31 @@ pub enum MapValueDecodeStatus {
 /// ```
 pub trait MapValueDecode: sealed::Sealed {
     /// The Rust type of the values.
+    ///
+    /// ```ignore
+    /// type Value = Bytes;
+    /// ```
     type Value: Blank;
 
     /// The wire type of the payloads.
+    ///
+    /// ```ignore
+    /// check_wire_type(tag, KC::WIRE_TYPE)?;
+    /// ```
     const WIRE_TYPE: WireType;
 
-    /// Whether a payload may hold a value that is undeclared.
+    /// Whether a payload may hold a value that is undeclared: of closed enums alone.
+    ///
+    /// ```ignore
+    /// const MAY_RETURN_UNKNOWN: bool = false;
+    /// ```
     const MAY_RETURN_UNKNOWN: bool;
 
-    /// The units of element memory that a value costs.
+    /// The units of element memory that a value costs, besides what is inside a message.
+    ///
+    /// ```ignore
+    /// charge(&mut *budget, KC::COST, W::COST)?;
+    /// ```
     const COST: usize;
 
     ghost WIRE_TYPE: { WireType };
@@ -66,9 +83,11 @@ pub trait MapValueDecode: sealed::Sealed {
     /// Reads the payload at the front into the value.
     ///
     /// # Errors
-    /// The first fault of the payload, or out of memory, where the codec takes memory and the payload is whole and not
-    /// empty; the value is as it was then, and nothing is spent. What follows the tenth byte of a varint stays unread, and all of
-    /// four or eight bytes; of a length and bytes, what follows them, or a length that passes the end.
+    /// The first fault of the payload; or out of memory, where the codec takes memory and the payload is whole and not
+    /// empty. The value is as it was then, and nothing is spent. Unread is what follows the tenth byte of a varint, or
+    /// all where four or eight bytes were asked for; of a length and bytes what follows the bytes, or the length where
+    /// it passes the end.
+    ///
     /// Inside a message any error may be told, but a limit's only where the message's cost isn't left; at most
     /// that cost is spent then, and the value is some value of its type.
     ///
@@ -106,11 +125,11 @@ pub trait MapValueDecode: sealed::Sealed {
     /// Plain payloads cost nothing.
     ghost free: { reading.nested ≡ false → (d : ℕ) (c : Content) → reading.cost d c ≡ nothing };
 
-    /// No fault that the reading has is a limit's.
+    /// No fault that the reading has is a budget's.
     ghost no_limit: { (d : ℕ) (old : Self.Value.Meaning) (c : Content) (x : DecodeError) → reading.reads d old c
         ≡ Err x → IsLimit x → ⊥ };
 
-    /// The reading cuts payloads of the wire type.
+    /// The reading is of payloads of that wire type.
     ghost wire: { reading.wire ≡ WIRE_TYPE };
 
     /// The reading starts with the default of the values.
@@ -119,7 +138,7 @@ pub trait MapValueDecode: sealed::Sealed {
     /// Undeclared values come only where that is said.
     ghost declared: { MAY_RETURN_UNKNOWN ≡ false → AlwaysDeclared reading };
 
-    /// The reading says so too.
+    /// The reading says the same of undeclared values.
     ghost undeclared: { reading.undeclared ≡ MAY_RETURN_UNKNOWN };
 }
 
@@ -131,6 +150,10 @@ pub trait MapValueDecode: sealed::Sealed {
 /// ```
 pub trait MapCodec: MapValueDecode {
     /// The length of every encoding in bytes, where they have one length.
+    ///
+    /// ```ignore
+    /// const FIXED_LEN: Option<u64> = N::LEN;
+    /// ```
     const FIXED_LEN: Option<u64>;
 
     ghost FIXED_LEN: { Option ℕ };

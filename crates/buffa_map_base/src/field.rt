@@ -13,39 +13,71 @@ use crate::storage::MapStorage;
 use buffa_wire::{Blank, MessageSpec};
 use std::marker::PhantomData;
 
-/// What reads a map field.
+/// Names what reads a map field. [`Field`] and [`Messages`] do; no value of them is made, and contracts cite the ghost:
+///
+/// ```ignore
+/// ensures ok { OnOk result (MergesEntryIn ⟦<Field<KC, VC, C> as Reads>⟧.reader 0 map.old map.new ..
+/// ```
 pub trait Reads {
     /// The type of the keys.
+    ///
+    /// ```ignore
+    /// type Key = KC::Value;
+    /// ```
     type Key: Blank;
 
     /// The type of the values.
+    ///
+    /// ```ignore
+    /// type Value = VC::Value;
+    /// ```
     type Value: Blank;
 
     /// The storage.
+    ///
+    /// ```ignore
+    /// type Map = C;
+    /// ```
     type Map;
 
     /// The rules at a depth and of a number, and what the storage holds.
     ghost reader: { Reader Self.Key.Meaning Self.Value.Meaning Self.Map };
 }
 
-/// What reads a map field where a list may be lent.
+/// Names what reads a map field where a list of unknown fields may be passed.
+///
+/// ```ignore
+/// ensures ok { OnOk result (MergesEntryLent ⟦<Field<KC, VC, C> as Lends>⟧.lender number map.old map.new ..
+/// ```
 pub trait Lends: Reads {
-    /// By whether one was.
+    /// What reads it, by the list that was passed, or none.
     ghost lender: { Option (MutBor Held) → Reader Self.Key.Meaning Self.Value.Meaning Self.Map };
 }
 
-/// What rewrites a map field.
+/// Names what rewrites a map field.
+///
+/// ```ignore
+/// ensures ok { OnOk result (RewritesIn ⟦<Field<KC, VC, C> as Rewrites>⟧.rewriter number map.new ..
+/// ```
 pub trait Rewrites: Reads {
     /// What reads it, and how its encoding is written.
     ghost rewriter: { Rewriter Self.Key.Meaning Self.Value.Meaning Self.Map };
 }
 
 /// A field of these codecs in this storage; entries with an undeclared value are dropped, where nothing else is said.
+///
+/// ```ignore
+/// ensures ok { OnOk result (MergesEntryIn ⟦<Field<KC, VC, C> as Reads>⟧.reader 0 map.old map.new ..
+/// ```
 pub struct Field<KC, VC, C> {
     of: PhantomData<(KC, VC, C)>,
 }
 
 /// A field of messages, which a function merges.
+///
+/// ```ignore
+/// ensures ok { OnOk result (MergesEntryIn ⟦<Messages<KC, M, C> as Reads>⟧.reader 0 map.old map.new ..
+/// ```
 pub struct Messages<KC, M, C> {
     of: PhantomData<(KC, M, C)>,
 }

@@ -1,4 +1,4 @@
-//! What contracts call a field.
+//! What contracts call a map field: its readers and its writer, by its codecs and its storage.
 
 ghost use Rattle.std.specs.Prelude.{◌≡◌, ◌↔◌, ◌+◌, ℕ, List, Option};
 ghost use Rattle.buffa_wire.specs.Records.{Held};

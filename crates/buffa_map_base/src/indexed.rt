@@ -10,7 +10,7 @@ use indexmap::IndexMap;
 use std::alloc::AllocError;
 use std::hash::{BuildHasher, Hash};
 
-/// The map to take where nothing speaks for another one: it is walked in the order in which its keys came.
+/// The usual map: it is walked in the order in which its keys came.
 ///
 /// ```ignore
 /// let mut map: Map<String, i32> = Map::new(alloc);

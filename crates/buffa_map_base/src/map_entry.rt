@@ -1,4 +1,4 @@
-//! What an entry says.
+//! The parts of an entry, as they are read.
 
 /// What the fields of an entry have said: the key, the value, and whether the value is a declared one.
 ///

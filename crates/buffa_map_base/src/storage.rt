@@ -20,9 +20,17 @@ use std::alloc::AllocError;
 /// ```
 pub trait MapStorage {
     /// The type of the keys.
+    ///
+    /// ```ignore
+    /// type Key = K;
+    /// ```
     type Key: Blank;
 
     /// The type of the values.
+    ///
+    /// ```ignore
+    /// type Value = V;
+    /// ```
     type Value: Blank;
 
     /// Whether two keys are one key of the map.
@@ -31,7 +39,7 @@ pub trait MapStorage {
     /// What the pairs mean, in some order.
     ghost pairs: { Self → List (Self.Key.Meaning × Self.Value.Meaning) };
 
-    /// Holds of a map and what one walk of it may give.
+    /// Holds of a map and the pairs, in order, that one walk of it may give.
     ghost walks: { Self → List (Self.Key.Meaning × Self.Value.Meaning) → Type 0 };
 
     /// Whether the pairs stand in the order in which their keys came.
@@ -89,6 +97,10 @@ where
     Self::Value: 'a,
 {
     /// The iterator over the pairs.
+    ///
+    /// ```ignore
+    /// type Iter = btree_map::Iter<'a, K, V>;
+    /// ```
     type Iter: Iterator<Item = (&'a Self::Key, &'a Self::Value)>;
 
     /// What an iterator has left.

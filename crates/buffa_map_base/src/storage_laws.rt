@@ -1,4 +1,4 @@
-//! Which storage each of them is.
+//! Which storages `BTreeMap`, `HashMap` and `IndexMap` are.
 
 ghost use Rattle.std.specs.Prelude.{◌≡◌, ◌↔◌, List, false, true};
 ghost use Rattle.std.specs.BTreeMap.{IsOrdered};

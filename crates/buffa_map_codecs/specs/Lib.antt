@@ -1,0 +1,1 @@
+-- This crate hands out no words.

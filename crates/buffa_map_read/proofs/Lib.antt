@@ -1,3 +1,4 @@
+-- The lemmas that this crate hands out.
 pub mod FieldsLemmas
 pub mod PartsLemmas
 pub mod MergeLemmas

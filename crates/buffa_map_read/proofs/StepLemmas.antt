@@ -15,7 +15,7 @@ use Rattle.buffa_wire.specs.BudgetLeft.{BudgetLeft}
 use Rattle.buffa_bytes.specs.Front.{check_wire, delimited_at, tag_at}
 use Rattle.buffa_map_base.specs.Merge.{MergesEntry, ReadsRun, RefusesEntry, Rules, State, StopsRun}
 use Rattle.buffa_map_base.specs.Pairs.{InOrder, SamePairs}
-use Rattle.buffa_map_base.specs.Run.{fold_entries, Paid, RecordFault, Run, EntryRecord, added}
+use Rattle.buffa_map_base.specs.Run.{fold_entries, ArePaid, RecordFault, Run, EntryRecord, added}
 use Rattle.buffa_map_base.proofs.EntryLemmas.{check_sound}
 use Rattle.buffa_bytes.proofs.TailLemmas.{tail_more}
 use Rattle.buffa_bytes.specs.Unread.{IsTailOf}
@@ -34,7 +34,7 @@ module _ {K V : Type 0} (r : Rules K V) (old : State K V) (bs : List ℕ) where
     pub folded : SamePairs r.same (fold_entries r.same old.pairs entries) now.pairs
     pub order : InOrder r.keeps_order (fold_entries r.same old.pairs entries) now.pairs
     pub keeps : now.records ≡ old.records ++ added r.adds r.number entries
-    pub paid : Paid r.key r.val r.depth r.cost r.extra old.left entries now.left
+    pub paid : ArePaid r.key r.val r.depth r.cost r.extra old.left entries now.left
 
   pub none_reached : Reached old bs
   none_reached = record { front = []; entries = []; split = refl; run = refl; folded = λ q. refl; order = λ keeps. refl; keeps = sym (append-nil old.records); paid = (omega arith, omega arith) }

@@ -12,7 +12,12 @@ use buffa_map_base::field::Reads;
 use buffa_map_base::storage::MapStorage;
 use std::marker::PhantomData;
 
-/// A field whose values are merged so, and whose entries with an undeclared value go to this keeper.
+/// The field whose keys `KC` reads, whose values `W` merges, which the storage `C` holds, and whose undeclared entries
+/// go to the keeper `L`.
+///
+/// ```ignore
+/// ensures ok { OnOk result (MergesEntryIn ⟦<By<KC, W, C, L> as Reads>⟧.reader number map.old map.new ..
+/// ```
 pub struct By<KC, W, C, L> {
     of: PhantomData<(KC, W, C, L)>,
 }

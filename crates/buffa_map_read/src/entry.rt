@@ -22,14 +22,14 @@ use buffa_map_base::storage::MapStorage;
 use buffa_wire::{Budget, Buf, DecodeContext, DecodeError, Limited, UnknownFields, decode_varint};
 use std::alloc::Global;
 
-// Spends the cost of a pair. A sum past what a number of units can be is more than any budget has.
+// Spends the cost of a pair. A sum of 2^64 or more is more than any budget has.
 fn charge(budget: &mut Budget, key: usize, value: usize) -> Result<(), DecodeError>
     ensures ok { OnOk result ((budget.new.memory + (key + value) ≡ budget.old.memory)
         × (budget.new.unknown ≡ budget.old.unknown)) }
     ensures err { OnErr result ((budget.old.memory < key + value) × (budget.new ≡ budget.old)) }
     ensures which { IfErr result (λ e. e ≡ ElementMemoryLimitExceeded) }
 {
-    // for the proof: what is left is a `usize`, which is less than a sum past that
+    // for the proof: what is left is a `usize`, so it is less than a sum that isn't one
     let _left = budget.memory_left();
     match key.checked_add(value) {
         Some(cost) => budget.take_memory(cost),

@@ -2,7 +2,7 @@
 
 ghost use Rattle.std.specs.Prelude.{◌≡◌, IfErr, IfOk, OnOk};
 ghost use Rattle.buffa_wire.specs.BudgetLeft.{budget_left};
-ghost use Rattle.buffa_map_base.specs.Calls.{MergesFieldIn, MergesFieldsIn, RefusesFieldIn};
+ghost use Rattle.buffa_map_base.specs.Calls.{MergesEntryFieldIn, MergesFieldsIn, RefusesEntryFieldIn};
 ghost use Rattle.buffa_map_base.specs.Entry.{meant_entry};
 ghost use Rattle.buffa_map_base.specs.Fields.{RefusesFields};
 
@@ -21,9 +21,9 @@ fn merge_field<KC: MapValueDecode, W: MergeValue, B: Buf>(
     how: &W,
 ) -> Result<(), DecodeError>
     requires { W.may how.now ctx.depth }
-    ensures ok { OnOk result (MergesFieldIn KC.reading W.reading ctx.entry ctx.exit
+    ensures ok { OnOk result (MergesEntryFieldIn KC.reading W.reading ctx.entry ctx.exit
         (meant_entry KC.Value.meaning W.Value.meaning) B.unread parts.old parts.new buf.old buf.new) }
-    ensures err { IfErr result (RefusesFieldIn KC.reading W.reading ctx.entry ctx.exit
+    ensures err { IfErr result (RefusesEntryFieldIn KC.reading W.reading ctx.entry ctx.exit
         (meant_entry KC.Value.meaning W.Value.meaning) B.unread parts.old buf.old) }
     ensures kept { B.beyond buf.new ≡ B.beyond buf.old }
 {

@@ -1,4 +1,4 @@
-//! What becomes of an entry whose value is undeclared.
+//! Keepers: what becomes of a map entry whose value is undeclared.
 
 ghost use Rattle.std.specs.Prelude.{◌≡◌, ◌≢◌, ◌+◌, ◌<◌, ◌≤◌, ◌++◌, ◌∷◌, ℕ, Bool, List, [], true, false};
 ghost use Rattle.std.specs.Prelude.{IfErr, OnErr, OnOk, refl};
@@ -9,9 +9,18 @@ ghost use Rattle.buffa_map_base.specs.Lent.{room_of};
 use buffa_wire::{Budget, DecodeError, UnknownField, UnknownFieldData, UnknownFields};
 use std::alloc::Global;
 
-/// What becomes of an entry whose value is undeclared: it is kept whole, or dropped.
+/// What becomes of an entry whose value a closed enum doesn't declare: it is kept whole, in a list of unknown fields,
+/// or dropped.
+///
+/// ```ignore
+/// read_run_by::<KC, VC, C, B, Dropped>(alloc, map, number, buf, ctx, &mut Dropped)
+/// ```
 pub trait Keeper {
-    /// Whether it keeps any.
+    /// Whether it keeps such entries.
+    ///
+    /// ```ignore
+    /// if L::KEEPS && W::MAY_RETURN_UNKNOWN { .. }
+    /// ```
     const KEEPS: bool;
 
     ghost KEEPS: { Bool };
@@ -19,16 +28,24 @@ pub trait Keeper {
     /// The records so far.
     ghost records: { Self → List (ℕ × Datum) };
 
-    /// How many records there are and have room.
+    /// How many records fit without new memory, those that are there included.
     ghost room: { Self → ℕ };
 
-    /// How many of the unknown fields left one entry takes.
+    /// How many of the budget's unknown fields one entry takes.
     ghost extra: { ℕ };
 
-    /// What the bytes of an entry of a field of this number add.
+    /// The records that are added for the bytes of an entry of the field of this number.
     ghost adds: { ℕ → List ℕ → List (ℕ × Datum) };
 
-    /// Takes a copy of the bytes of an entry, if it keeps them.
+    /// Takes a copy of the bytes of an entry, if it keeps them, as a record of the field's `number`, 1 to 536,870,911.
+    ///
+    /// # Errors
+    /// Only where it keeps some: [`DecodeError::UnknownFieldLimitExceeded`] where no unknown field is left, or
+    /// [`DecodeError::OutOfMemory`]. The records stay as they were.
+    ///
+    /// ```ignore
+    /// return keeper.keep(alloc, number, entry, budget);
+    /// ```
     fn keep(
         &mut self,
         alloc: Global,
@@ -54,6 +71,10 @@ pub trait Keeper {
 }
 
 /// Entries are dropped, and take none of the unknown fields left.
+///
+/// ```ignore
+/// read_run_by::<KC, VC, C, B, Dropped>(alloc, map, number, buf, ctx, &mut Dropped)
+/// ```
 #[derive(Drop)]
 pub struct Dropped;
 

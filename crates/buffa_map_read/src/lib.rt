@@ -1,5 +1,5 @@
-//! Map fields, read: a byte flows from the buffer through a record ([`run`]), its entry ([`entry`]) and the entry's fields
-//! ([`fields`]) by way of a codec into a storage.
+//! Map fields, read: records from the buffer ([`run`]), of each its entry ([`entry`]), of that its fields ([`fields`]),
+//! by the codecs of key and value; and the pair is put into a storage.
 #![tactic(auto)]
 
 pub mod by_field;

@@ -19,18 +19,39 @@ use buffa_wire::{Blank, Budget, Buf, DecodeContext, DecodeError, MessageSpec, Wi
 use std::alloc::Global;
 use std::marker::PhantomData;
 
-/// How the value of an entry is merged.
+/// How the value of an entry is merged: [`ByCodec`], or [`ByFunction`] for messages whose type holds itself.
+///
+/// ```ignore
+/// let how = ByCodec::<VC>::new();
+/// let status = how.merge(alloc, &mut parts.value, buf, ctx)?;
+/// ```
 pub trait MergeValue {
     /// The Rust type of the values.
+    ///
+    /// ```ignore
+    /// type Value = VC::Value;
+    /// ```
     type Value: Blank;
 
     /// The wire type of the payloads.
+    ///
+    /// ```ignore
+    /// check_wire_type(tag, W::WIRE_TYPE)?;
+    /// ```
     const WIRE_TYPE: WireType;
 
-    /// Whether a payload may hold a value that is undeclared.
+    /// Whether a payload may hold a value that a closed enum doesn't declare.
+    ///
+    /// ```ignore
+    /// if L::KEEPS && W::MAY_RETURN_UNKNOWN { .. }
+    /// ```
     const MAY_RETURN_UNKNOWN: bool;
 
-    /// The units of element memory that a value costs.
+    /// The units of element memory that a value costs, besides what is inside a message.
+    ///
+    /// ```ignore
+    /// charge(&mut *budget, KC::COST, W::COST)?;
+    /// ```
     const COST: usize;
 
     ghost WIRE_TYPE: { WireType };
@@ -45,7 +66,15 @@ pub trait MergeValue {
     /// At which depths payloads may be merged.
     ghost may: { Self → ℕ → Type 0 };
 
-    /// Merges the payload at the front into the value.
+    /// Merges the payload at the front into the value, at the depth of the context.
+    ///
+    /// # Errors
+    /// Those of [`MapValueDecode::merge`]. Of a message's payload any fault may be told, a limit's only where its cost
+    /// isn't left.
+    ///
+    /// ```ignore
+    /// let status = how.merge(alloc, &mut parts.value, buf, ctx)?;
+    /// ```
     fn merge<B: Buf>(
         &self,
         alloc: Global,
@@ -68,7 +97,7 @@ pub trait MergeValue {
     /// Plain payloads cost nothing.
     ghost free: { reading.nested ≡ false → (d : ℕ) (c : Content) → reading.cost d c ≡ nothing };
 
-    /// The reading cuts payloads of the wire type.
+    /// The reading is of payloads of that wire type.
     ghost wire: { reading.wire ≡ WIRE_TYPE };
 
     /// The reading starts with the default of the values.
@@ -77,17 +106,26 @@ pub trait MergeValue {
     /// Undeclared values come only where that is said.
     ghost declared: { MAY_RETURN_UNKNOWN ≡ false → AlwaysDeclared reading };
 
-    /// The reading says so too.
+    /// The reading says the same of undeclared values.
     ghost undeclared: { reading.undeclared ≡ MAY_RETURN_UNKNOWN };
 }
 
-/// By its codec.
+/// The merge by a codec: [`MapValueDecode::merge`].
+///
+/// ```ignore
+/// let how = ByCodec::<VC>::new();
+/// ```
 #[derive(Drop)]
 pub struct ByCodec<VC> {
     of: PhantomData<VC>,
 }
 
 impl<VC> ByCodec<VC> {
+    /// The merge by the codec `VC`. It takes no memory.
+    ///
+    /// ```ignore
+    /// let how = ByCodec::<VC>::new();
+    /// ```
     pub fn new() -> ByCodec<VC> {
         ByCodec { of: PhantomData }
     }
@@ -133,7 +171,12 @@ impl<VC: MapValueDecode> MergeValue for ByCodec<VC> {
     ghost undeclared = { VC.MapValueDecode.undeclared };
 }
 
-/// By a function that merges the bytes of a message one level down.
+/// The merge by a function: it is passed the message, its bytes, the depth inside it, one less than the context's, and
+/// the budget.
+///
+/// ```ignore
+/// let how = ByFunction::new(merge);
+/// ```
 #[derive(Drop)]
 pub struct ByFunction<M, F> {
     pub merge: F,
@@ -141,6 +184,11 @@ pub struct ByFunction<M, F> {
 }
 
 impl<M, F> ByFunction<M, F> {
+    /// The merge by this function. It takes no memory.
+    ///
+    /// ```ignore
+    /// let how = ByFunction::new(merge);
+    /// ```
     pub fn new(merge: F) -> ByFunction<M, F>
         ensures { result.merge ≡ merge }
     {

@@ -109,7 +109,8 @@ where
 ///
 /// The function is passed the value, the message's bytes, the depth inside it, one less than the context's, and
 /// the budget. It is asked for nothing at other depths; so a type that holds itself is merged by a function that
-/// recurs through this one. An entry costs `KC::COST + M::COST` units, and what its messages cost.
+/// recurs through this one. An entry costs `KC::COST + M::COST` units, and what its messages cost. By the type's own
+/// calls it is `merge_entry::<KC, Msg<M>, _, _>`.
 ///
 /// # Errors
 /// Those of [`merge_entry`](crate::entry::merge_entry).

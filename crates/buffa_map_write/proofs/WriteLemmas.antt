@@ -12,7 +12,7 @@ use Rattle.buffa_wire.specs.Records.{Datum}
 use Rattle.buffa_wire.specs.Encoding as records
 use Rattle.buffa_map_base.specs.Codec.{Writing}
 use Rattle.buffa_map_base.specs.Pairs.{means}
-use Rattle.buffa_map_base.specs.Rewrite.{RefusesRewrite, WritesRewrite}
+use Rattle.buffa_map_base.specs.Rewrite.{RefusesOutputBytes, WritesRewrite}
 use Rattle.buffa_map_base.specs.Encoding.{entry_encoding, record_encoding, field_encoding, AllHold, HasEncoding, RefusesRecord, WritesRecord, RefusesField, UsesRoomOf, WritesField}
 
 -- the room of two encodings, of which the first was written
@@ -138,7 +138,7 @@ module _ {K W A B : Type 0} (mk : A → K) (mv : B → W) (key : Writing K) (val
 
 -- ---- a map, and kept records behind it
 module _ {K W : Type 0} (key : Writing K) (val : Writing W) (n : ℕ) (kept : List (ℕ × Datum)) where
-  rewrite_stops : (old new : List ℕ) (l : List (K × W)) (e : EncodeError) → RefusesField key val n old new l e → RefusesRewrite key val n kept old new l e
+  rewrite_stops : (old new : List ℕ) (l : List (K × W)) (e : EncodeError) → RefusesField key val n old new l e → RefusesOutputBytes key val n kept old new l e
   rewrite_stops old new l OutOfMemory w = inl w
   rewrite_stops old new l MessageTooLarge w = w
   rewrite_stops old new l (GroupRefused e) w = absurd w
@@ -151,4 +151,4 @@ module _ {K W : Type 0} (key : Writing K) (val : Writing W) (n : ℕ) (kept : Li
   pub rewrite_written : {T : Type 0} (r : Result T EncodeError) (old mid new : List ℕ) (l : List (K × W)) → HasEncoding key val l → mid ≡ old ++ field_encoding key val n l → Writes r mid (records.records_encoding kept) new → WritesRewrite key val n kept old new r l
   rewrite_written r old mid new l has m h = MatchResult-weaker r h
       (λ x w. (has, w ∙ ap (λ z. z ++ records.records_encoding kept) m ∙ append_assoc old (field_encoding key val n l) (records.records_encoding kept)))
-      (λ e w. subst (RefusesRewrite key val n kept old new l) (sym w.0) (inr (has, subst (λ z. WritesFront z (records.records_encoding kept) new) m w.1)))
+      (λ e w. subst (RefusesOutputBytes key val n kept old new l) (sym w.0) (inr (has, subst (λ z. WritesFront z (records.records_encoding kept) new) m w.1)))

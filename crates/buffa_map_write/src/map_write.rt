@@ -1,4 +1,4 @@
-//! Storages that can be written while they are lent for as long as a call.
+//! Storages that can be written by a function that fills them too.
 
 ghost use Rattle.buffa_map_base.specs.Calls.{WritesMapField};
 ghost use Rattle.buffa_bytes.specs.Number.{IsNumber};
@@ -11,8 +11,10 @@ use indexmap::IndexMap;
 use std::collections::{BTreeMap, HashMap};
 use std::hash::{BuildHasher, Hash};
 
-/// A map that can be written while it is lent for as long as a call, as [`write_field`] does.
-/// A function that both fills and writes a map asks for it, since it can't ask for a walk of every lifetime.
+/// A map that can be written by a method of its own, as [`write_field`] writes it.
+///
+/// A function that both fills and writes a map asks for it: [`write_field`] walks the map (`MapWalk<'a>`), and a
+/// function can't ask for a walk of every lifetime `'a`.
 ///
 /// ```ignore
 /// map.storage_write::<KC, VC, S>(number, sink)?;

@@ -1,4 +1,4 @@
-//! The size of a map field of messages.
+//! The size pass of a map field of messages, which fills the size cache.
 
 ghost use Rattle.std.specs.Prelude.{◌≡◌, ◌≢◌, ◌+◌, [], length, OnErr};
 ghost use Rattle.std.specs.List.{Contains};

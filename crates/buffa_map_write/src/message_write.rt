@@ -1,4 +1,4 @@
-//! The encoding of a map field of messages.
+//! The write pass of a map field of messages, which consumes the slots of the size cache.
 
 ghost use Rattle.std.specs.Prelude.{◌≡◌, ◌≢◌, ◌∷◌, [], length, OnErr};
 ghost use Rattle.std.specs.List.{Contains};

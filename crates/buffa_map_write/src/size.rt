@@ -1,4 +1,4 @@
-//! The size of a map field.
+//! The size of a map field whose values are no messages, which takes no cache.
 
 ghost use Rattle.std.specs.Prelude.{◌≡◌, ◌+◌, ◌∷◌, List, [], IfSome, length};
 ghost use Rattle.buffa_bytes.specs.Varint.{varint_encoding};

@@ -1,4 +1,4 @@
-//! A map field, sized and written.
+//! A map field, sized and written by one call.
 
 ghost use Rattle.std.specs.Prelude.{◌≡◌, ◌+◌, ◌-◌, IfOk, length, vec_capacity, vec_len};
 ghost use Rattle.buffa_bytes.specs.Number.{IsNumber};

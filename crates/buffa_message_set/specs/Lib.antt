@@ -1,2 +1,3 @@
+-- The words that this crate hands out.
 pub mod Item
 pub mod Pinned

@@ -36,8 +36,8 @@ pub fn no_item_begins_another()
     ensures { OneItem }
 {}
 
-/// An Item is a group of number 1, one level deeper than its fields are passed over, and whether such a group is an Item
-/// doesn't depend on what follows it. No fault of an Item is a budget's.
+/// An Item is a group of number 1, one level deeper than its fields are passed over, and whether such a group is an
+/// Item doesn't depend on what follows it. No fault of an Item is a budget's.
 pub fn items_are_groups()
     ensures group { ItemsAreGroups }
     ensures alike { GroupsAreReadAlike }

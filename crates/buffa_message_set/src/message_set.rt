@@ -56,7 +56,7 @@ pub const TYPE_ID_TAG: u64 = 0x10;
 /// ```
 pub const MESSAGE_TAG: u64 = 0x1A;
 
-// The greatest type id. Source: a type id is an int32, and positive.
+// The greatest type id: an int32, and positive.
 const MAX_TYPE_ID: u64 = 2_147_483_647;
 
 /// The length of an Item's encoding in bytes, start tag and end tag too, where the message has `payload_len`

@@ -14,20 +14,20 @@ use Rattle.buffa_bytes.specs.declared.error.DecodeError.{DecodeError}
 use Rattle.buffa_bytes.specs.declared.wire_type.WireType.{WireType}
 use Rattle.buffa_bytes.specs.declared.wire_type.WireType.TheVariants.{LengthDelimited}
 use Rattle.buffa_wire.specs.BudgetLeft.{BudgetLeft}
-use Rattle.buffa_bytes.specs.Content.{bytes_in}
 use Rattle.buffa_wire.specs.Message.{IsFieldMerged, cost_in, merged_in}
 use Rattle.buffa_bytes.specs.Front.{check_wire}
-use Rattle.buffa_map.proofs.EntryLemmas.{check_sound, entry_complete}
-use Rattle.buffa_map.proofs.NeedLemmas.{entry_limited}
-use Rattle.buffa_map.specs.Codec.{Reading}
-use Rattle.buffa_map.specs.Entry.{need_at}
-use Rattle.buffa_map.specs.Laws.{LimitsAreTrue}
-use Rattle.buffa_map.specs.Merge.{MergesEntry, RefusesEntry, Rules, dropping, keeping, state}
-use Rattle.buffa_map.specs.Message.{message_reading}
-use Rattle.buffa_map.specs.MessageFacts.{meant_no_limit}
-use Rattle.buffa_map.specs.Pairs.{SamePairs, means}
-use Rattle.buffa_map.specs.Run.{step}
-use Rattle.buffa_map.specs.ScalarFacts.{never_faulty, string_no_limit}
+use Rattle.buffa_map_base.proofs.EntryLemmas.{check_sound, entry_complete}
+use Rattle.buffa_map_base.proofs.NeedLemmas.{entry_limited}
+use Rattle.buffa_map_base.specs.Codec.{Reading}
+use Rattle.buffa_map_base.specs.Entry.{need_at}
+use Rattle.buffa_map.proofs.ChildrenLemmas.{ChildPut, ChildRefused, child_limits, meant_step}
+use Rattle.buffa_map_base.specs.Scalars.{int32_reading, text_reading}
+use Rattle.buffa_map.specs.Children.{ChildCost, ChildMeaning, children_in, listed-children_in, meant_children, meant_children-is}
+use Rattle.buffa_map_base.specs.Merge.{MergesEntry, RefusesEntry, Rules, dropping, keeping, state}
+use Rattle.buffa_map_base.specs.Message.{message_reading}
+use Rattle.buffa_map_base.specs.Pairs.{SamePairs, means}
+use Rattle.buffa_map_base.specs.Run.{step}
+use Rattle.buffa_map_base.specs.ScalarFacts.{never_faulty, string_no_limit}
 use Rattle.buffa_map.specs.declared.map_entry.MapEntry.{MapEntry}
 use Rattle.buffa_wire.specs.Kept.{keep_need}
 use Rattle.buffa_fields_base.specs.Keep.{keep_takes}
@@ -36,14 +36,14 @@ use Rattle.buffa_wire.proofs.ByPayloadLemmas.{merges_taken}
 use Rattle.buffa_fields_base.specs.PairFacts.{part_taken}
 use Rattle.buffa_fields.proofs.OrderedLemmas.{is_put, sorted_means}
 use Rattle.buffa_fields.specs.Entries.{entry_cost, entry_taken}
-use Rattle.buffa_fields.specs.EntriesFacts.{IsCost, entry_err, entry_ok, entry_wire_err}
+use Rattle.buffa_fields.proofs.EntriesLemmas.{IsCost, entry_err, entry_ok, entry_wire_err}
 use Rattle.buffa_fields.specs.MapFields.{stepped}
-use Rattle.buffa_fields.specs.MapFacts.{map_err, map_ok}
-use Rattle.buffa_node.specs.Branch.{Branch, Kept, Scores, Shades, bare, branch, kids, listed-kids, shade_number}
+use Rattle.buffa_fields.proofs.MapLemmas.{map_err, map_ok}
+use Rattle.buffa_node.specs.Branch.{Branch, NodeKept, Scores, Shades, blank_node, branch, shade_number}
 use Rattle.buffa_node.specs.declared.shade.Shade.{Shade}
-use Rattle.buffa_node.proofs.LoopLemmas.{by_payloads}
-use Rattle.buffa_node.specs.NodeMeaning.{ChildCost, ChildMeaning, children_cost, children_take, cost, merged, node_need, node_takes, numbers, put_shade, scores_cost, scores_take, shade_cost, shades, shades_cost, shades_take, text_cmp, texts}
-use Rattle.buffa_node.specs.NodeEncoding.{meant, meant-is}
+use Rattle.buffa_node.proofs.LoopLemmas.{node_by_payloads}
+use Rattle.buffa_wire.specs.Pinned.{refusal}
+use Rattle.buffa_node.specs.NodeMeaning.{children_cost, children_take, node_cost, node_field_need, node_field_takes, node_merged, put_shade, scores_cost, scores_take, shade_cost, shade_reading, shades_cost, shades_take, text_cmp}
 
 abbrev Answer : Type 0
 Answer = Result (Unit {0}) DecodeError
@@ -51,14 +51,11 @@ Answer = Result (Unit {0}) DecodeError
 abbrev good : Answer
 good = Ok tt
 
-abbrev bad : DecodeError → Answer
-bad e = Err e
-
 pub on_err : {P Q : Type 0} (r : Answer) → (P → Q) → OnErr r P → OnErr r Q
 on_err (Ok x) f h = tt
 on_err (Err e) f h = f h
 
-pub both_stay : (r : Answer) (made : Shades → Kept → Branch) (old : Branch) (h g : Shades) (q s : Kept) → made h q ≡ old → OnErr r (g ≡ h) → OnErr r (s ≡ q) → OnErr r (made g s ≡ old)
+pub both_stay : (r : Answer) (made : Shades → NodeKept → Branch) (old : Branch) (h g : Shades) (q s : NodeKept) → made h q ≡ old → OnErr r (g ≡ h) → OnErr r (s ≡ q) → OnErr r (made g s ≡ old)
 both_stay (Ok x) made old h g q s is a b = tt
 both_stay (Err e) made old h g q s is a b = (λ i. made (a i) (b i)) ∙ is
 
@@ -78,19 +75,19 @@ module _ {K : Type 0} (f : K → List ℕ) (d n : ℕ) (w : WireType) (es fs : L
   as_scores xs = means f (λ v. v) xs
 
   abbrev scores_rules : Rules (List ℕ) ℤ
-  scores_rules = dropping texts numbers (pointwise nat_eq) false d 0 28
+  scores_rules = dropping text_reading int32_reading (pointwise nat_eq) false d 0 28
 
   score_ok : IsStrictlySortedBy (λ x y. text_cmp (f x) (f y)) (keys_of es) → IsStrictlySortedBy (λ x y. text_cmp (f x) (f y)) (keys_of fs) → w ≡ LengthDelimited →
       MergesEntry scores_rules (state (as_scores es) [] before) bs (state (as_scores fs) [] after) rest → IsTaken scores_take scores_cost d (as_scores es) n w bs before good (as_scores fs) after rest
   score_ok s t wire m =
       let put = is_put nat_list_cmp_total (as_scores es) (as_scores fs) m.says (sorted_means text_cmp f (λ v. v) es s) (sorted_means text_cmp f (λ v. v) fs t)
       (subst (λ eq. SamePairs eq (step eq (as_scores es) m.says) (as_scores fs)) (λ i a b. texts_ties a b i) m.put) in
-      map_ok texts numbers (pointwise nat_eq) false (insert_entry text_cmp) 28 d n w bs rest _ _ wire (as_scores es) (as_scores fs) m put
+      map_ok text_reading int32_reading (pointwise nat_eq) false (insert_entry text_cmp) 28 d n w bs rest _ _ wire (as_scores es) (as_scores fs) m put
 
-  score_err : (e : DecodeError) → w ≡ LengthDelimited → RefusesEntry scores_rules (state (as_scores es) [] before) bs (state (as_scores fs) [] after) rest e → IsTaken scores_take scores_cost d (as_scores es) n w bs before (bad e) (as_scores fs) after rest
+  score_err : (e : DecodeError) → w ≡ LengthDelimited → RefusesEntry scores_rules (state (as_scores es) [] before) bs (state (as_scores fs) [] after) rest e → IsTaken scores_take scores_cost d (as_scores es) n w bs before (refusal e) (as_scores fs) after rest
   score_err e wire k =
-      map_err texts numbers (pointwise nat_eq) false (insert_entry text_cmp) 28 d n w bs rest _ _ wire (as_scores es) (as_scores fs)
-      (λ d. entry_limited texts numbers d (λ d old c x h. string_no_limit (λ t. t) c x h) (λ d old c x h. never_faulty x h)) e k
+      map_err text_reading int32_reading (pointwise nat_eq) false (insert_entry text_cmp) 28 d n w bs rest _ _ wire (as_scores es) (as_scores fs)
+      (λ d. entry_limited text_reading int32_reading d (λ d old c x h. string_no_limit (λ t. t) c x h) (λ d old c x h. never_faulty x h)) e k
 
   pub score_answer : (r : Answer) → IsStrictlySortedBy (λ x y. text_cmp (f x) (f y)) (keys_of es) → IsStrictlySortedBy (λ x y. text_cmp (f x) (f y)) (keys_of fs) → check_wire n LengthDelimited w ≡ Ok tt →
       OnOk r (MergesEntry scores_rules (state (as_scores es) [] before) bs (state (as_scores fs) [] after) rest) → IfErr r (RefusesEntry scores_rules (state (as_scores es) [] before) bs (state (as_scores fs) [] after) rest) →
@@ -100,51 +97,47 @@ module _ {K : Type 0} (f : K → List ℕ) (d n : ℕ) (w : WireType) (es fs : L
 
 -- ---- a child
 module _ (n : ℕ) (w : WireType) (es fs : List (ℤ × Branch)) (bs rest : List ℕ) (before after : BudgetLeft) where
-  abbrev child_rules : ℕ → Rules ℤ Branch
-  child_rules d = dropping numbers (message_reading bare merged cost) int_eq false d 0 100
+  abbrev NodePut : ℕ → Type 0
+  NodePut d = ChildPut blank_node node_merged node_cost 100 es fs bs rest before after d
 
-  abbrev ChildPut : ℕ → Type 0
-  ChildPut d = MergesEntry (child_rules d) (state (meant es) [] before) bs (state (meant fs) [] after) rest
+  abbrev NodeRefused : ℕ → DecodeError → Type 0
+  NodeRefused d e = ChildRefused blank_node node_merged node_cost 100 es fs bs rest before after d e
 
-  abbrev ChildRefused : ℕ → DecodeError → Type 0
-  ChildRefused d e = RefusesEntry (child_rules d) (state (meant es) [] before) bs (state (meant fs) [] after) rest e
+  -- the child's field was taken
+  abbrev ChildTaken : ℕ → Answer → Type 0
+  ChildTaken d r = IsTaken (children_take (merged_in node_merged d)) (children_cost (merged_in node_merged d) (cost_in node_cost d)) d es n w bs before r fs after rest
 
-  child_is : (s : MapEntry ℤ Branch) → IsStrictlySortedBy int_cmp (keys_of es) → IsStrictlySortedBy int_cmp (keys_of fs) → SamePairs int_eq (step int_eq (meant es) s) (meant fs) → fs ≡ stepped (insert_entry int_cmp) es s
-  child_is s a b h =
-      is_put int_cmp_total es fs s a b (subst (λ xs. SamePairs int_eq (step int_eq es s) xs) (meant-is fs) (subst (λ xs. SamePairs int_eq (step int_eq xs s) (meant fs)) (meant-is es) h))
+  child_is : (s : MapEntry ℤ Branch) → IsStrictlySortedBy int_cmp (keys_of es) → IsStrictlySortedBy int_cmp (keys_of fs) → SamePairs int_eq (step int_eq (meant_children es) s) (meant_children fs) → fs ≡ stepped (insert_entry int_cmp) es s
+  child_is s a b h = is_put int_cmp_total es fs s a b (meant_step es fs s h)
 
-  child_ok : (d : ℕ) → IsStrictlySortedBy int_cmp (keys_of es) → IsStrictlySortedBy int_cmp (keys_of fs) → w ≡ LengthDelimited → ChildPut d → IsTaken (children_take (merged_in merged d)) (children_cost (merged_in merged d) (cost_in cost d)) d es n w bs before good fs after rest
+  child_ok : (d : ℕ) → IsStrictlySortedBy int_cmp (keys_of es) → IsStrictlySortedBy int_cmp (keys_of fs) → w ≡ LengthDelimited → NodePut d → ChildTaken d good
   unfolding entry_taken entry_cost need_at
-  child_ok zero a b wire h = map_ok numbers (message_reading bare merged cost) int_eq false (insert_entry int_cmp) 100 zero n w bs rest _ _ wire es fs h (child_is h.says a b h.put)
-  child_ok (suc d) a b wire h = map_ok numbers (message_reading bare merged cost) int_eq false (insert_entry int_cmp) 100 (suc d) n w bs rest _ _ wire es fs h (child_is h.says a b h.put)
+  child_ok zero a b wire h = map_ok int32_reading (message_reading blank_node node_merged node_cost) int_eq false (insert_entry int_cmp) 100 zero n w bs rest _ _ wire es fs h (child_is h.says a b h.put)
+  child_ok (suc d) a b wire h = map_ok int32_reading (message_reading blank_node node_merged node_cost) int_eq false (insert_entry int_cmp) 100 (suc d) n w bs rest _ _ wire es fs h (child_is h.says a b h.put)
 
-  child_limits : LimitsAreTrue numbers (message_reading bare merged cost)
-  child_limits d = entry_limited numbers (message_reading bare merged cost) d (λ d old c x h. never_faulty x h) (λ k old c x q. meant_no_limit (merged_in merged k old (bytes_in c)) x q)
-
-  child_err : (d : ℕ) (e : DecodeError) → w ≡ LengthDelimited → ChildRefused d e → IsTaken (children_take (merged_in merged d)) (children_cost (merged_in merged d) (cost_in cost d)) d es n w bs before (bad e) fs after rest
+  child_err : (d : ℕ) (e : DecodeError) → w ≡ LengthDelimited → NodeRefused d e → ChildTaken d (refusal e)
   unfolding entry_taken entry_cost need_at
-  child_err zero e wire h = map_err numbers (message_reading bare merged cost) int_eq false (insert_entry int_cmp) 100 zero n w bs rest _ _ wire es fs child_limits e h
-  child_err (suc d) e wire h = map_err numbers (message_reading bare merged cost) int_eq false (insert_entry int_cmp) 100 (suc d) n w bs rest _ _ wire es fs child_limits e h
+  child_err zero e wire h = map_err int32_reading (message_reading blank_node node_merged node_cost) int_eq false (insert_entry int_cmp) 100 zero n w bs rest _ _ wire es fs (child_limits blank_node node_merged node_cost) e h
+  child_err (suc d) e wire h = map_err int32_reading (message_reading blank_node node_merged node_cost) int_eq false (insert_entry int_cmp) 100 (suc d) n w bs rest _ _ wire es fs (child_limits blank_node node_merged node_cost) e h
 
-  pub child_answer : (d : ℕ) (r : Answer) → IsStrictlySortedBy int_cmp (keys_of es) → IsStrictlySortedBy int_cmp (keys_of fs) → check_wire n LengthDelimited w ≡ Ok tt → OnOk r (ChildPut d) → IfErr r (ChildRefused d) →
-      IsTaken (children_take (merged_in merged d)) (children_cost (merged_in merged d) (cost_in cost d)) d es n w bs before r fs after rest
+  pub child_answer : (d : ℕ) (r : Answer) → IsStrictlySortedBy int_cmp (keys_of es) → IsStrictlySortedBy int_cmp (keys_of fs) → check_wire n LengthDelimited w ≡ Ok tt → OnOk r (NodePut d) → IfErr r (NodeRefused d) → ChildTaken d r
   child_answer d (Ok x) a b wire ok err = child_ok d a b (agree_ok (check_wire n LengthDelimited w) tt (check_sound n LengthDelimited w) wire) ok
   child_answer d (Err e) a b wire ok err = child_err d e (agree_ok (check_wire n LengthDelimited w) tt (check_sound n LengthDelimited w) wire) err
 
-  pub child_stays : (d : ℕ) (r : Answer) → IfErr r (ChildRefused d) → OnErr r (fs ≡ es)
+  pub child_stays : (d : ℕ) (r : Answer) → IfErr r (NodeRefused d) → OnErr r (fs ≡ es)
   child_stays d (Ok x) err = tt
-  child_stays d (Err e) err = sym (meant-is fs) ∙ err.pairs ∙ meant-is es
+  child_stays d (Err e) err = sym (meant_children-is fs) ∙ err.pairs ∙ meant_children-is es
 
 -- ---- a shade
-module _ (d n : ℕ) (w : WireType) (es fs : List (ℤ × Shade)) (rs ss : Kept) (bs rest : List ℕ) (before after : BudgetLeft) where
+module _ (d n : ℕ) (w : WireType) (es fs : List (ℤ × Shade)) (rs ss : NodeKept) (bs rest : List ℕ) (before after : BudgetLeft) where
   abbrev as_shades : List (ℤ × Shade) → Shades
   as_shades xs = means (λ k. k) shade_number xs
 
   abbrev shades_rules : Rules ℤ ℤ
-  shades_rules = keeping numbers shades int_eq false d 3 8
+  shades_rules = keeping int32_reading shade_reading int_eq false d 3 8
 
-  is_cost : IsCost numbers shades d 8 1 (shade_cost d)
-  is_cost e = ((omega arith, omega arith), λ s entry. rw (entry_complete numbers shades d e s entry) refl)
+  is_cost : IsCost int32_reading shade_reading d 8 1 (shade_cost d)
+  is_cost e = ((omega arith, omega arith), λ s entry. rw (entry_complete int32_reading shade_reading d e s entry) refl)
 
   pub shade_ok : IsStrictlySortedBy int_cmp (keys_of es) → IsStrictlySortedBy int_cmp (keys_of fs) → check_wire n LengthDelimited w ≡ Ok tt →
       MergesEntry shades_rules (state (as_shades es) rs before) bs (state (as_shades fs) ss after) rest → IsTaken shades_take shades_cost d (as_shades es, rs) n w bs before good (as_shades fs, ss) after rest
@@ -154,50 +147,50 @@ module _ (d n : ℕ) (w : WireType) (es fs : List (ℤ × Shade)) (rs ss : Kept)
       entry_ok shades_rules put_shade shade_cost is_cost n w (as_shades es, rs) (as_shades fs, ss) bs rest _ _ wire m (λ i. (put i, m.keeps i))
 
   pub shade_err : (e : DecodeError) (over : BudgetLeft) → check_wire n LengthDelimited w ≡ Ok tt → RefusesEntry shades_rules (state (as_shades es) rs before) bs (state (as_shades fs) ss after) rest e → over.unknown ≡ before.unknown → over.memory ≡ after.memory →
-      IsTaken shades_take shades_cost d (as_shades es, rs) n w bs before (bad e) (as_shades fs, ss) over rest
+      IsTaken shades_take shades_cost d (as_shades es, rs) n w bs before (refusal e) (as_shades fs, ss) over rest
   shade_err e over checked k unknown_back units_same =
       let wire = agree_ok (check_wire n LengthDelimited w) tt (check_sound n LengthDelimited w) checked in
       entry_err shades_rules put_shade shade_cost is_cost n w (as_shades es, rs) (as_shades fs, ss) bs rest _ _ wire
-      (λ d. entry_limited numbers shades d (λ d old c x h. never_faulty x h) (λ d old c x h. never_faulty x h))
+      (λ d. entry_limited int32_reading shade_reading d (λ d old c x h. never_faulty x h) (λ d old c x h. never_faulty x h))
       e over k units_same (omega (arith, unknown_back)) (omega (arith, unknown_back))
 
 -- ---- a field of a node
 module _ (d n : ℕ) (w : WireType) (bs rest : List ℕ) (before after : BudgetLeft) (r : Answer) where
-  as_merged : (k : ℕ) (old new : Branch) → IsTaken (node_takes (merged_in merged k)) (node_need (merged_in merged k) (cost_in cost k)) k old n w bs before r new after rest → IsFieldMerged merged cost k old n w bs before r new after rest
-  as_merged k old new h = merges_taken by_payloads r k old new n w bs rest before after h
+  as_merged : (k : ℕ) (old new : Branch) → IsTaken (node_field_takes (merged_in node_merged k)) (node_field_need (merged_in node_merged k) (cost_in node_cost k)) k old n w bs before r new after rest → IsFieldMerged node_merged node_cost k old n w bs before r new after rest
+  as_merged k old new h = merges_taken node_by_payloads r k old new n w bs rest before after h
 
-  module _ (a : Scores) (es : List (ℤ × Branch)) (h : Shades) (q : Kept) (old : Branch) (is : branch a (kids es) h q ≡ old) where
-    abbrev M : ChildMeaning
-    M = merged_in merged d
+  module _ (a : Scores) (es : List (ℤ × Branch)) (h : Shades) (q : NodeKept) (old : Branch) (is : branch a (children_in es) h q ≡ old) where
+    abbrev child_means : ChildMeaning Branch
+    child_means = merged_in node_merged d
 
-    abbrev C : ChildCost
-    C = cost_in cost d
+    abbrev child_costs : ChildCost
+    child_costs = cost_in node_cost d
 
-    of_old : (new : Branch) → IsTaken (node_takes M) (node_need M C) d (branch a (kids es) h q) n w bs before r new after rest → IsFieldMerged merged cost d old n w bs before r new after rest
-    of_old new x = subst (λ z. IsFieldMerged merged cost d z n w bs before r new after rest) is (as_merged d (branch a (kids es) h q) new x)
+    of_old : (new : Branch) → IsTaken (node_field_takes child_means) (node_field_need child_means child_costs) d (branch a (children_in es) h q) n w bs before r new after rest → IsFieldMerged node_merged node_cost d old n w bs before r new after rest
+    of_old new x = subst (λ z. IsFieldMerged node_merged node_cost d z n w bs before r new after rest) is (as_merged d (branch a (children_in es) h q) new x)
 
-    pub score_merged : (b : Scores) → n ≡ 1 → IsTaken scores_take scores_cost d a n w bs before r b after rest → IsFieldMerged merged cost d old n w bs before r (branch b (kids es) h q) after rest
-    score_merged b one x = of_old (branch b (kids es) h q)
-        (part_taken scores_take scores_cost (node_takes M) (node_need M C) d n w a (branch a (kids es) h q) (λ (z : Scores). branch z (kids es) h q) (λ p. rw (eq-eqb n 1 one) refl) (λ x. rw (eq-eqb n 1 one) refl) bs rest before after r b x)
+    pub score_merged : (b : Scores) → n ≡ 1 → IsTaken scores_take scores_cost d a n w bs before r b after rest → IsFieldMerged node_merged node_cost d old n w bs before r (branch b (children_in es) h q) after rest
+    score_merged b one x = of_old (branch b (children_in es) h q)
+        (part_taken scores_take scores_cost (node_field_takes child_means) (node_field_need child_means child_costs) d n w a (branch a (children_in es) h q) (λ (z : Scores). branch z (children_in es) h q) (λ p. rw (eq-eqb n 1 one) refl) (λ x. rw (eq-eqb n 1 one) refl) bs rest before after r b x)
 
-    pub child_merged : (fs : List (ℤ × Branch)) → n ≡ 2 → IsTaken (children_take M) (children_cost M C) d es n w bs before r fs after rest → IsFieldMerged merged cost d old n w bs before r (branch a (kids fs) h q) after rest
+    pub child_merged : (fs : List (ℤ × Branch)) → n ≡ 2 → IsTaken (children_take child_means) (children_cost child_means child_costs) d es n w bs before r fs after rest → IsFieldMerged node_merged node_cost d old n w bs before r (branch a (children_in fs) h q) after rest
     child_merged fs two x =
         let not_one = ne_eqb n 1 (λ e. absurd (omega (arith, two, e))) in
-        of_old (branch a (kids fs) h q)
-        (part_taken (children_take M) (children_cost M C) (node_takes M) (node_need M C) d n w es (branch a (kids es) h q) (λ (z : List (ℤ × Branch)). branch a (kids z) h q)
-        (λ p. rw (not_one, eq-eqb n 2 two) (ap (λ (z : List (ℤ × Branch)). option_map (λ (u : List (ℤ × Branch)). branch a (kids u) h q) (children_take M d z n w p)) (listed-kids es))) (λ x. rw (not_one, eq-eqb n 2 two) refl) bs rest before after r fs x)
+        of_old (branch a (children_in fs) h q)
+        (part_taken (children_take child_means) (children_cost child_means child_costs) (node_field_takes child_means) (node_field_need child_means child_costs) d n w es (branch a (children_in es) h q) (λ (z : List (ℤ × Branch)). branch a (children_in z) h q)
+        (λ p. rw (not_one, eq-eqb n 2 two) (ap (λ (z : List (ℤ × Branch)). option_map (λ (u : List (ℤ × Branch)). branch a (children_in u) h q) (children_take child_means d z n w p)) (listed-children_in es))) (λ x. rw (not_one, eq-eqb n 2 two) refl) bs rest before after r fs x)
 
-    pub shade_merged : (g : Shades) (s : Kept) → n ≡ 3 → IsTaken shades_take shades_cost d (h, q) n w bs before r (g, s) after rest → IsFieldMerged merged cost d old n w bs before r (branch a (kids es) g s) after rest
+    pub shade_merged : (g : Shades) (s : NodeKept) → n ≡ 3 → IsTaken shades_take shades_cost d (h, q) n w bs before r (g, s) after rest → IsFieldMerged node_merged node_cost d old n w bs before r (branch a (children_in es) g s) after rest
     shade_merged g s three x =
         let not_one = ne_eqb n 1 (λ e. absurd (omega (arith, three, e))) in
         let not_two = ne_eqb n 2 (λ e. absurd (omega (arith, three, e))) in
-        of_old (branch a (kids es) g s)
-        (part_taken shades_take shades_cost (node_takes M) (node_need M C) d n w (h, q) (branch a (kids es) h q) (λ (z : Shades × Kept). branch a (kids es) z.0 z.1) (λ p. rw (not_one, not_two, eq-eqb n 3 three) refl) (λ x. rw (not_one, not_two, eq-eqb n 3 three) refl) bs rest before after r (g, s) x)
+        of_old (branch a (children_in es) g s)
+        (part_taken shades_take shades_cost (node_field_takes child_means) (node_field_need child_means child_costs) d n w (h, q) (branch a (children_in es) h q) (λ (z : Shades × NodeKept). branch a (children_in es) z.0 z.1) (λ p. rw (not_one, not_two, eq-eqb n 3 three) refl) (λ x. rw (not_one, not_two, eq-eqb n 3 three) refl) bs rest before after r (g, s) x)
 
-    pub kept_merged : (s : Kept) → n ≢ 1 → n ≢ 2 → n ≢ 3 → IsTaken keep_takes keep_need d q n w bs before r s after rest → IsFieldMerged merged cost d old n w bs before r (branch a (kids es) h s) after rest
+    pub kept_merged : (s : NodeKept) → n ≢ 1 → n ≢ 2 → n ≢ 3 → IsTaken keep_takes keep_need d q n w bs before r s after rest → IsFieldMerged node_merged node_cost d old n w bs before r (branch a (children_in es) h s) after rest
     kept_merged s one two three x =
         let not_one = ne_eqb n 1 one in
         let not_two = ne_eqb n 2 two in
         let not_three = ne_eqb n 3 three in
-        of_old (branch a (kids es) h s)
-        (part_taken keep_takes keep_need (node_takes M) (node_need M C) d n w q (branch a (kids es) h q) (λ (z : Kept). branch a (kids es) h z) (λ p. rw (not_one, not_two, not_three) refl) (λ x. rw (not_one, not_two, not_three) refl) bs rest before after r s x)
+        of_old (branch a (children_in es) h s)
+        (part_taken keep_takes keep_need (node_field_takes child_means) (node_field_need child_means child_costs) d n w q (branch a (children_in es) h q) (λ (z : NodeKept). branch a (children_in es) h z) (λ p. rw (not_one, not_two, not_three) refl) (λ x. rw (not_one, not_two, not_three) refl) bs rest before after r s x)

@@ -1,3 +1,4 @@
+-- The lemmas that this crate hands out.
 pub mod FieldMergeLemmas
 pub mod LoopLemmas
 pub mod NodePassLemmas

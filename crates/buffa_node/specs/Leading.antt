@@ -24,12 +24,12 @@ abbrev pub piece : {A : Type 0} → ℕ → (A → List ℕ) → A → Piece
 piece n entry p = record { tag = tag_encoding n LengthDelimited; number = n; wire = LengthDelimited; payload = delimited_encoding (entry p) }
 
 -- ---- the records of pairs in the order of their keys, behind those that were
-module _ {K V X : Type 0} {cmp : K → K → Ordering} (o : IsTotalOrder cmp) (T : Taker X) (d n : ℕ) (number : IsNumber n) (set : List (K × V) → X) (entry : K × V → List ℕ) where
+module _ {K V X : Type 0} {cmp : K → K → Ordering} (o : IsTotalOrder cmp) (takes : Taker X) (d n : ℕ) (number : IsNumber n) (set : List (K × V) → X) (entry : K × V → List ℕ) where
   -- an entry that isn't too long is put behind those before it
-  abbrev pub IsPut : K × V → Type 0
-  IsPut p = (length (entry p) < 2 ^ 64) × ((done : List (K × V)) → T d (set done) n LengthDelimited (delimited_encoding (entry p)) ≡ Some (set (insert_entry cmp done p.0 p.1)))
+  abbrev pub IsInserted : K × V → Type 0
+  IsInserted p = (length (entry p) < 2 ^ 64) × ((done : List (K × V)) → takes d (set done) n LengthDelimited (delimited_encoding (entry p)) ≡ Some (set (insert_entry cmp done p.0 p.1)))
 
-  pub entries_lead : (done l : List (K × V)) → AllByRecursion IsPut l → IsStrictlySortedBy cmp (keys_of (done ++ l)) → Leads T any d (set done) (map (piece n entry) l) (set (done ++ l))
+  pub entries_lead : (done l : List (K × V)) → AllByRecursion IsInserted l → IsStrictlySortedBy cmp (keys_of (done ++ l)) → Leads takes any d (set done) (map (piece n entry) l) (set (done ++ l))
   entries_lead done [] h s = ap set (sym (append-nil done))
   entries_lead done (p ∷ ps) h s =
       let all : (done ++ p ∷ []) ++ ps ≡ done ++ p ∷ ps = append_assoc done (p ∷ []) ps in (
@@ -38,5 +38,5 @@ module _ {K V X : Type 0} {cmp : K → K → Ordering} (o : IsTotalOrder cmp) (T
         (varint_encoding (length (entry p)), entry p, IsVarint-varint_encoding (length (entry p)) h.0.0, refl),
         set (done ++ p ∷ []),
         h.0.1 done ∙ ap (λ z. Some (set z)) (put_last o done p.0 p.1 ps s),
-        subst (λ z. Leads T any d (set (done ++ p ∷ [])) (map (piece n entry) ps) (set z)) all (entries_lead (done ++ p ∷ []) ps h.1 (subst (λ z. IsStrictlySortedBy cmp (keys_of z)) (sym all) s)),
+        subst (λ z. Leads takes any d (set (done ++ p ∷ [])) (map (piece n entry) ps) (set z)) all (entries_lead (done ++ p ∷ []) ps h.1 (subst (λ z. IsStrictlySortedBy cmp (keys_of z)) (sym all) s)),
       )

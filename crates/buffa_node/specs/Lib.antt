@@ -1,5 +1,5 @@
+-- The words that this crate hands out.
 pub mod Branch
-pub mod BranchFacts
 pub mod NodeMeaning
 pub mod NodeEncoding
 pub mod NodeFacts

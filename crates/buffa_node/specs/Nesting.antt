@@ -11,11 +11,12 @@ use Rattle.buffa_wire.proofs.SequenceLemmas.{ok_same}
 use Rattle.buffa_bytes.specs.Join.{Join}
 use Rattle.buffa_bytes.specs.Join.Join.{none, more}
 use Rattle.buffa_wire.specs.Sequence.{ParsesEach, join}
-use Rattle.buffa_map.proofs.EntryLemmas.{entry_complete, entry_sound}
-use Rattle.buffa_map.specs.Entry.{IsEntry, IsEntryField, blanks, entry_of}
+use Rattle.buffa_map_base.proofs.EntryLemmas.{entry_complete, entry_sound}
+use Rattle.buffa_map_base.specs.Entry.{IsEntry, IsEntryField, blanks, entry_of}
 use Rattle.buffa_map.specs.declared.map_entry.MapEntry.{MapEntry}
 use Rattle.buffa_wire.specs.ByField.{value_of}
-use Rattle.buffa_node.specs.NodeMeaning.{numbers, shades}
+use Rattle.buffa_map_base.specs.Scalars.{int32_reading}
+use Rattle.buffa_node.specs.NodeMeaning.{shade_reading}
 use Rattle.buffa_node.specs.NodeEncoding.{IsUndeclared, entry_levels, first_depth}
 
 -- ---- fields at another depth
@@ -49,7 +50,7 @@ group_at (suc k) (suc d) n p (inr s) (b, t, j, tag, is) =
     (b, t, shift_join (SomeFieldOver (Group d)) (SomeFieldOver (Group k)) (length b) (λ f l h. some_field (Group d) (Group k) f (λ m q short g. group_at k d m q (inr (omega (arith, s, few, all, both, l, short))) g) h) b j (omega arith), tag, is)
 
 -- ---- so are entries
-one_at : (k d : ℕ) (s t : MapEntry ℤ ℤ) (f : List ℕ) → (d ≤ k) ⊎ (length f ≤ k) → IsEntryField numbers shades d s f t → IsEntryField numbers shades k s f t
+one_at : (k d : ℕ) (s t : MapEntry ℤ ℤ) (f : List ℕ) → (d ≤ k) ⊎ (length f ≤ k) → IsEntryField int32_reading shade_reading d s f t → IsEntryField int32_reading shade_reading k s f t
 one_at k d s t f h (inl x) = inl x
 one_at k d s t f h (inr (inl x)) = inr (inl x)
 one_at k d s t f h (inr (inr (n, w, one, two, (tg, p, tag, payload, is), st))) = inr (inr (n, w, one, two, (tg, p, tag, payload_over (Group d) (Group k) n w p (group_at k d n p (fewer h)) payload, is), st))
@@ -58,27 +59,27 @@ one_at k d s t f h (inr (inr (n, w, one, two, (tg, p, tag, payload, is), st))) =
     fewer (inl x) = inl x
     fewer (inr x) = inr (omega (arith, x, ap length is, length-append tg p))
 
-each_at : (k d : ℕ) (ps : List (List ℕ)) (s t : MapEntry ℤ ℤ) → (d ≤ k) ⊎ (length (join ps) ≤ k) → ParsesEach (IsEntryField numbers shades d) s ps t → ParsesEach (IsEntryField numbers shades k) s ps t
+each_at : (k d : ℕ) (ps : List (List ℕ)) (s t : MapEntry ℤ ℤ) → (d ≤ k) ⊎ (length (join ps) ≤ k) → ParsesEach (IsEntryField int32_reading shade_reading d) s ps t → ParsesEach (IsEntryField int32_reading shade_reading k) s ps t
 each_at k d [] s t h x = x
 each_at k d (p ∷ ps) s t (inl h) (u, x, y) = (u, one_at k d s u p (inl h) x, each_at k d ps u t (inl h) y)
 each_at k d (p ∷ ps) s t (inr h) (u, x, y) =
     let n = length-append p (join ps) in
     (u, one_at k d s u p (inr (omega (arith, h, n))) x, each_at k d ps u t (inr (omega (arith, h, n))) y)
 
-entry_at : (k d : ℕ) (e : List ℕ) (s : MapEntry ℤ ℤ) → (d ≤ k) ⊎ (length e ≤ k) → IsEntry numbers shades d e s → IsEntry numbers shades k e s
-entry_at k d e s (inl h) (ps, is, x) = (ps, is, each_at k d ps (blanks numbers shades d) s (inl h) x)
-entry_at k d e s (inr h) (ps, is, x) = (ps, is, each_at k d ps (blanks numbers shades d) s (inr (omega (arith, h, ap length is, length-append (join ps) []))) x)
+entry_at : (k d : ℕ) (e : List ℕ) (s : MapEntry ℤ ℤ) → (d ≤ k) ⊎ (length e ≤ k) → IsEntry int32_reading shade_reading d e s → IsEntry int32_reading shade_reading k e s
+entry_at k d e s (inl h) (ps, is, x) = (ps, is, each_at k d ps (blanks int32_reading shade_reading d) s (inl h) x)
+entry_at k d e s (inr h) (ps, is, x) = (ps, is, each_at k d ps (blanks int32_reading shade_reading d) s (inr (omega (arith, h, ap length is, length-append (join ps) []))) x)
 
 -- ---- the least depth
-found : (k d : ℕ) (e : List ℕ) (s : MapEntry ℤ ℤ) → entry_of numbers shades (d + k) e ≡ Ok s → is_some (value_of (entry_of numbers shades (first_depth k d e) e)) ≡ true
+found : (k d : ℕ) (e : List ℕ) (s : MapEntry ℤ ℤ) → entry_of int32_reading shade_reading (d + k) e ≡ Ok s → is_some (value_of (entry_of int32_reading shade_reading (first_depth k d e) e)) ≡ true
 found zero d e s h =
     let here : d + 0 ≡ d = omega arith in
-    ap (λ r. is_some (value_of r)) (ap (λ z. entry_of numbers shades z e) (sym here) ∙ h)
+    ap (λ r. is_some (value_of r)) (ap (λ z. entry_of int32_reading shade_reading z e) (sym here) ∙ h)
 found (suc k) d e s h =
     let next : d + suc k ≡ suc d + k = omega arith in
-    by (is_some (value_of (entry_of numbers shades d e))) refl (found k (suc d) e s (subst (λ z. entry_of numbers shades z e ≡ Ok s) next h))
+    by (is_some (value_of (entry_of int32_reading shade_reading d e))) refl (found k (suc d) e s (subst (λ z. entry_of int32_reading shade_reading z e ≡ Ok s) next h))
   where
-    by : (b : Bool) → is_some (value_of (entry_of numbers shades d e)) ≡ b → is_some (value_of (entry_of numbers shades (first_depth k (suc d) e) e)) ≡ true → is_some (value_of (entry_of numbers shades (if b then d else first_depth k (suc d) e) e)) ≡ true
+    by : (b : Bool) → is_some (value_of (entry_of int32_reading shade_reading d e)) ≡ b → is_some (value_of (entry_of int32_reading shade_reading (first_depth k (suc d) e) e)) ≡ true → is_some (value_of (entry_of int32_reading shade_reading (if b then d else first_depth k (suc d) e) e)) ≡ true
     by true is again = is
     by false is again = again
 
@@ -90,12 +91,12 @@ one_answer : (a b : MapEntry ℤ ℤ) → (let r : Result (MapEntry ℤ ℤ) Dec
 one_answer a b h = ok_same h
 
 -- an undeclared entry is one at its levels, and above
-pub undeclared_at : (e : List ℕ) (d : ℕ) → IsUndeclared e → entry_levels e ≤ d → (s : MapEntry ℤ ℤ) × IsEntry numbers shades d e s × (s.known ≡ false)
+pub undeclared_at : (e : List ℕ) (d : ℕ) → IsUndeclared e → entry_levels e ≤ d → (s : MapEntry ℤ ℤ) × IsEntry int32_reading shade_reading d e s × (s.known ≡ false)
 undeclared_at e d (c, s, entry, known) low =
-    let all = entry_complete numbers shades (length e) e s (entry_at (length e) c e s (inr (omega arith)) entry) in
+    let all = entry_complete int32_reading shade_reading (length e) e s (entry_at (length e) c e s (inr (omega arith)) entry) in
     let none : length e ≡ 0 + length e = omega arith in
-    let least = said_by (entry_of numbers shades (entry_levels e) e) (found (length e) 0 e s (subst (λ z. entry_of numbers shades z e ≡ Ok s) none all)) in
-    let there = agree_ok (entry_of numbers shades (entry_levels e) e) least.0 (entry_sound numbers shades (entry_levels e) e) least.1 in
-    let again = entry_complete numbers shades (length e) e least.0 (entry_at (length e) (entry_levels e) e least.0 (inr (omega arith)) there) in
+    let least = said_by (entry_of int32_reading shade_reading (entry_levels e) e) (found (length e) 0 e s (subst (λ z. entry_of int32_reading shade_reading z e ≡ Ok s) none all)) in
+    let there = agree_ok (entry_of int32_reading shade_reading (entry_levels e) e) least.0 (entry_sound int32_reading shade_reading (entry_levels e) e) least.1 in
+    let again = entry_complete int32_reading shade_reading (length e) e least.0 (entry_at (length e) (entry_levels e) e least.0 (inr (omega arith)) there) in
     let same : s ≡ least.0 = one_answer s least.0 (sym all ∙ again) in
     (least.0, entry_at d (entry_levels e) e least.0 (inl low) there, ap (λ (z : MapEntry ℤ ℤ). z.known) (sym same) ∙ known)

@@ -2,8 +2,8 @@
 
 ghost use Rattle.std.specs.Prelude.{◌≡◌, OnErr, string_bytes};
 ghost use Rattle.buffa_bytes.specs.Number.{IsNumber};
-ghost use Rattle.buffa_map.specs.Pairs.{means};
-ghost use Rattle.buffa_map.specs.Encoding.{field_encoding};
+ghost use Rattle.buffa_map_base.specs.Pairs.{means};
+ghost use Rattle.buffa_map_base.specs.Encoding.{field_encoding};
 ghost use Rattle.buffa_node.specs.Branch.{shade_number};
 ghost use Rattle.buffa_node.specs.Calls.{TakesScore, TakesShade, shades_and};
 ghost use Rattle.buffa_node.specs.Writes.{WritesSmall, only_memory};

@@ -4,13 +4,15 @@ ghost use Rattle.std.specs.Prelude.{OnErr, [], pos, IfErr, ◌≡◌, ◌≢◌,
 ghost use Rattle.buffa_wire.specs.Passes.{IsNext, IsSized};
 ghost use Rattle.std.specs.BTreeMap.{values};
 ghost use Rattle.std.specs.List.{Contains};
-ghost use Rattle.buffa_map.specs.MessageField.{IsFieldWritten, field_slots};
+ghost use Rattle.buffa_map_base.specs.MessageField.{IsFieldWritten, field_slots};
 ghost use Rattle.buffa_wire.specs.BudgetLeft.{budget_left};
 ghost use Rattle.buffa_bytes.specs.Gives.{FullOnlyIf};
 ghost use Rattle.buffa_wire.specs.Message.{BeginsField, IsFieldMerged, IsMerged};
 ghost use Rattle.buffa_node.specs.Calls.{TakesChild};
-ghost use Rattle.buffa_node.specs.NodeMeaning.{cost, merged};
-ghost use Rattle.buffa_node.specs.NodeEncoding.{IsNodeWritten, encoding, meant, number_writing, slots};
+ghost use Rattle.buffa_map_base.specs.Scalars.{int32_writing};
+ghost use Rattle.buffa_map.specs.Children.{meant_children};
+ghost use Rattle.buffa_node.specs.NodeMeaning.{node_cost, node_merged};
+ghost use Rattle.buffa_node.specs.NodeEncoding.{IsNodeWritten, node_encoding, node_slots};
 ghost use Rattle.buffa_node.specs.Stops.{Stops};
 
 use crate::maps::{merge_score, merge_shade, write_map};
@@ -28,8 +30,8 @@ use std::alloc::Global;
 use std::collections::BTreeMap;
 use std::marker::Model;
 
-/// Field 1 is a map of scores, field 2 one of nodes, field 3 one of shades. An entry of field 3 with an undeclared shade is
-/// kept as a record under 3, and so is every other field under its number.
+/// Field 1 is a map of scores, field 2 one of nodes, field 3 one of shades. An entry of field 3 with an undeclared
+/// shade is kept as an unknown field of number 3, and so is every other field under its own.
 ///
 /// ```ignore
 /// let mut node: Node = Blank::blank(alloc);
@@ -48,32 +50,33 @@ pub struct Node {
 
 impl Model for Node {
     ghost use Rattle.std.specs.Prelude.{string_bytes};
-    ghost use Rattle.buffa_map.specs.Pairs.{means};
-    ghost use Rattle.buffa_node.specs.Branch.{Branch, branch, branch_code, height, kids, shade_number};
+    ghost use Rattle.buffa_map_base.specs.Pairs.{means};
+    ghost use Rattle.buffa_map.specs.Children.{children_in, family_height};
+    ghost use Rattle.buffa_node.specs.Branch.{Branch, branch, branch_code, shade_number};
 
     ghost Value = { Branch };
 
     ghost coded = { branch_code };
 
-    ghost view = { λ t. branch (means string_bytes (λ v. v) t.scores.entries) (kids t.children.entries)
+    ghost view = { λ t. branch (means string_bytes (λ v. v) t.scores.entries) (children_in t.children.entries)
         (means (λ k. k) shade_number t.shades.entries) t.rest.records };
 
-    ghost size = { height };
+    ghost size = { family_height };
 
-    ghost use Rattle.buffa_node.specs.BranchFacts.{most-heights};
+    ghost use Rattle.buffa_map.specs.ChildrenFacts.{most-heights};
     ghost use Rattle.std.proofs.Common.{arith};
 
     ghost size_decreases = { λ t h. omega (arith, most-heights t.children.entries) };
 }
 
 impl Blank for Node {
-    ghost use Rattle.buffa_node.specs.Branch.{bare};
+    ghost use Rattle.buffa_node.specs.Branch.{blank_node};
 
     type Meaning = Node;
 
     ghost meaning = { λ t. t };
 
-    ghost blank_is = { bare };
+    ghost blank_is = { blank_node };
 
     fn blank(alloc: Global) -> Node {
         Node {
@@ -87,50 +90,50 @@ impl Blank for Node {
 
 impl MessageSpec for Node {
     ghost use Rattle.std.proofs.Common.{arith};
-    ghost use Rattle.buffa_node.specs.NodeEncoding.{IsNormal, levels, records};
-    ghost use Rattle.buffa_node.specs.NodeBackFacts.{back};
-    ghost use Rattle.buffa_node.specs.NodeFacts.{cost_is, encoding_records, merged_is, stays};
-    ghost use Rattle.buffa_node.specs.NodeMeaning.{need, takes};
+    ghost use Rattle.buffa_node.specs.NodeEncoding.{IsNormalNode, node_levels, node_records};
+    ghost use Rattle.buffa_node.specs.NodeBackFacts.{node_back};
+    ghost use Rattle.buffa_node.specs.NodeFacts.{node_cost_is, node_encoding_records, node_merged_is, node_need_stays};
+    ghost use Rattle.buffa_node.specs.NodeMeaning.{node_need, node_takes};
 
     const COST: usize = 96;
 
     ghost COST = { 96 };
 
-    ghost takes = { takes };
+    ghost takes = { node_takes };
 
-    ghost need = { need };
+    ghost need = { node_need };
 
-    ghost merged = { merged };
+    ghost merged = { node_merged };
 
-    ghost cost = { cost };
+    ghost cost = { node_cost };
 
-    ghost encoding = { encoding };
+    ghost encoding = { node_encoding };
 
-    ghost records = { records };
+    ghost records = { node_records };
 
-    ghost slots = { slots };
+    ghost slots = { node_slots };
 
-    ghost levels = { levels };
+    ghost levels = { node_levels };
 
-    ghost normal = { IsNormal };
+    ghost normal = { IsNormalNode };
 
-    ghost encoding_records = { encoding_records };
+    ghost encoding_records = { node_encoding_records };
 
-    ghost merged_encoding = { back };
+    ghost merged_encoding = { node_back };
 
     ghost positive = { omega arith };
 
-    ghost stays = { stays };
+    ghost stays = { node_need_stays };
 
-    ghost merged_is = { merged_is };
+    ghost merged_is = { node_merged_is };
 
-    ghost cost_is = { cost_is };
+    ghost cost_is = { node_cost_is };
 }
 
 impl Message for Node {
     fn compute_size(&self, cache: &mut SizeCache) -> Result<u32, EncodeError>
-        ensures sized { IsSized (encoding self.now) (slots self.now) cache.old result cache.new }
-        ensures some { OnErr result (slots self.now ≢ []) }
+        ensures sized { IsSized (node_encoding self.now) (node_slots self.now) cache.old result cache.new }
+        ensures some { OnErr result (node_slots self.now ≢ []) }
     {
         size_node(self, cache)
     }
@@ -150,7 +153,7 @@ impl Message for Node {
         buf: &mut &[u8],
         ctx: DecodeContext<'_>,
     ) -> Result<(), DecodeError>
-        ensures merged { IsFieldMerged merged cost ctx.entry.depth self.old tag.number tag.wire_type buf.old.now
+        ensures merged { IsFieldMerged node_merged node_cost ctx.entry.depth self.old tag.number tag.wire_type buf.old.now
             ctx.entry.budget.now result self.new (budget_left ctx.exit) buf.new.now }
         ensures full { FullOnlyIf result (tag.wire_type ≢ WireType.EndGroup) }
         ensures stays { OnErr result (self.new ≡ self.old) }
@@ -169,15 +172,15 @@ impl Message for Node {
 /// let size = size_node(child, cache);
 /// ```
 pub fn size_node(node: &Node, cache: &mut SizeCache) -> Result<u32, EncodeError>
-    ensures sized { IsSized (encoding node.now) (slots node.now) cache.old result cache.new }
-    ensures some { OnErr result (slots node.now ≢ []) }
+    ensures sized { IsSized (node_encoding node.now) (node_slots node.now) cache.old result cache.new }
+    ensures some { OnErr result (node_slots node.now ≢ []) }
 {
     let children = message_field_len_by::<Int32, Node, BTreeMap<i32, Node>, _>(
         &node.children,
         1,
         cache,
         |child: &Node, cache: &mut SizeCache| -> Result<u32, EncodeError>
-            ensures { IsSized (encoding child.now) (slots child.now) cache.old result cache.new }
+            ensures { IsSized (node_encoding child.now) (node_slots child.now) cache.old result cache.new }
         { size_node(child, cache) },
     )?;
     let scores = field_len::<Str, Int32, BTreeMap<String, i32>>(&node.scores, 1);
@@ -189,7 +192,7 @@ pub fn size_node(node: &Node, cache: &mut SizeCache) -> Result<u32, EncodeError>
 
 // The write pass of the children, by a function that writes a child. Its contract names no trait, so that the goals of
 // the recursion stay small.
-#[tactic(auto, using(crate::proofs::NodePassLemmas::meant_values))]
+#[tactic(auto, using(buffa_map::proofs::ChildrenLemmas::meant_values))]
 fn write_children_by<S: EncodeSink, F>(
     children: &BTreeMap<i32, Node>,
     cache: &mut SizeCache,
@@ -198,13 +201,13 @@ fn write_children_by<S: EncodeSink, F>(
 ) -> Result<(), EncodeError>
 where
     F: Fn(&Node, &mut SizeCache, &mut S) -> Result<(), EncodeError>,
-    requires next { IsNext (field_slots encoding slots (meant children.now.entries)) cache.old }
-    requires may { (x c s : _) → Contains (values children.now) x.now → IsNext (slots x.now) c.now →
+    requires next { IsNext (field_slots node_encoding node_slots (meant_children children.now.entries)) cache.old }
+    requires may { (x c s : _) → Contains (values children.now) x.now → IsNext (node_slots x.now) c.now →
         F.pre write x c s }
     requires keeps { (x c s r d t : _) → Contains (values children.now) x.now →
         F.post write x c s r d t → IsNodeWritten x.now c.now (S.written s.now) r d.now (S.written t.now) }
-    ensures { IsFieldWritten number_writing encoding slots 2 (meant children.now.entries) cache.old (S.written sink.old)
-        result cache.new (S.written sink.new) }
+    ensures { IsFieldWritten int32_writing node_encoding node_slots 2 (meant_children children.now.entries) cache.old
+        (S.written sink.old) result cache.new (S.written sink.new) }
 {
     write_message_field_by::<Int32, Node, BTreeMap<i32, Node>, S, F>(
         children, 2, cache, sink, write,
@@ -224,7 +227,7 @@ pub fn write_node<S: EncodeSink>(
     cache: &mut SizeCache,
     sink: &mut S,
 ) -> Result<(), EncodeError>
-    requires { IsNext (slots node.now) cache.old }
+    requires { IsNext (node_slots node.now) cache.old }
     ensures { IsNodeWritten node.now cache.old (S.written sink.old) result cache.new (S.written sink.new) }
 {
     write_map::<Str, Int32, S>(1, &node.scores, sink)?;
@@ -233,7 +236,7 @@ pub fn write_node<S: EncodeSink>(
         cache,
         sink,
         |child: &Node, cache: &mut SizeCache, sink: &mut S| -> Result<(), EncodeError>
-            requires { IsNext (slots child.now) cache.old }
+            requires { IsNext (node_slots child.now) cache.old }
             ensures { IsNodeWritten child.now cache.old (S.written sink.old) result cache.new (S.written sink.new) }
         { write_node(child, cache, sink) },
     )?;
@@ -256,7 +259,7 @@ where
     F: Fn(&mut Node, &[u8], u32, &mut Budget) -> Result<(), DecodeError>,
     requires may { (x : _) (b : _) (d : _) (w : _) → d + 1 ≡ depth → F.pre merge x b d w }
     requires keeps { (x : _) (b : _) (d : _) (w : _) (r : _) (y : _) (v : _) → d + 1 ≡ depth →
-        F.post merge x b d w r y v → IsMerged (merged d x.now b.now) (cost d b.now) w.now r y.now v.now }
+        F.post merge x b d w r y v → IsMerged (node_merged d x.now b.now) (node_cost d b.now) w.now r y.now v.now }
     ensures taken { TakesChild tag depth children.old budget.old buf.old children.new budget.new buf.new result
         (λ m. m.entries) }
     ensures stays { OnErr result (children.new.entries ≡ children.old.entries) }
@@ -284,7 +287,7 @@ fn merge_node_field(
     depth: u32,
     budget: &mut Budget,
 ) -> Result<(), DecodeError>
-    ensures merged { IsFieldMerged merged cost depth node.old tag.number tag.wire_type buf.old.now budget.old result
+    ensures merged { IsFieldMerged node_merged node_cost depth node.old tag.number tag.wire_type buf.old.now budget.old result
         node.new budget.new buf.new.now }
     ensures full { FullOnlyIf result (tag.wire_type ≢ WireType.EndGroup) }
     ensures stays { OnErr result (node.new ≡ node.old) }
@@ -305,7 +308,7 @@ fn merge_node_field(
                 (),
                 DecodeError,
             >
-                ensures { IsMerged (merged depth child.old bytes.now) (cost depth bytes.now) budget.old result child.new
+                ensures { IsMerged (node_merged depth child.old bytes.now) (node_cost depth bytes.now) budget.old result child.new
                     budget.new }
             { merge_node(alloc, child, bytes, depth, budget) },
         );
@@ -342,10 +345,10 @@ pub fn merge_node(
     depth: u32,
     budget: &mut Budget,
 ) -> Result<(), DecodeError>
-    ensures merged { IsMerged (merged depth node.old bytes.now) (cost depth bytes.now) budget.old result node.new
+    ensures merged { IsMerged (node_merged depth node.old bytes.now) (node_cost depth bytes.now) budget.old result node.new
         budget.new }
     ensures full { FullOnlyIf result (BeginsField bytes.now) }
-    ensures stops { IfErr result (Stops merged cost depth node.old bytes.now budget.old node.new budget.new) }
+    ensures stops { IfErr result (Stops node_merged node_cost depth node.old bytes.now budget.old node.new budget.new) }
 {
     let mut rest = bytes;
     while rest.remaining() > 0 {

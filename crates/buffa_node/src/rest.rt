@@ -10,7 +10,7 @@ use buffa_wire::{Budget, DecodeContext, DecodeError, Tag, UnknownFields};
 use std::alloc::Global;
 
 // Keeps the field whose tag was read, behind the others. What is refused spends nothing, and leaves the list as it was.
-#[tactic(auto, unfolding(buffa_fields_base::specs::Layout::Kept))]
+#[tactic(auto, unfolding(buffa_fields_base::specs::Layout::IsFieldKept))]
 pub(crate) fn keep_field(
     alloc: Global,
     fields: &mut UnknownFields,

@@ -18,8 +18,8 @@ use Rattle.buffa_options.specs.Meaning.{ReadsDeprecated, bool_reading}
 use Rattle.std.proofs.lemmas.Bool.Decides.{Decides-and, Decides-int_eq, Decides-like}
 use Rattle.std.specs.Int.Signed.{◌≤ℤ◌, ◌<ℤ◌, clash_ℤ}
 use Rattle.std.proofs.lemmas.Int.{by_lt_z}
-use Rattle.buffa_options.specs.Rules.{Accepts, Breaks}
-use Rattle.buffa_options.specs.Pinned.{IsJudged, NotBoth, OneViolation}
+use Rattle.buffa_options.specs.Rules.{Accepts, BreaksRule}
+use Rattle.buffa_options.specs.Pinned.{AcceptsOrBreaks, NotBoth, OneViolation}
 use Rattle.buffa_options.specs.declared.rules.Rules.{Rules}
 use Rattle.buffa_options.specs.declared.rules.Violation.{Violation}
 use Rattle.buffa_options.specs.declared.rules.Violation.TheVariants.{Missing, TooSmall, TooGreat}
@@ -48,16 +48,16 @@ most_or (Some most) v = by_lt_z most v (λ lt. inr (most, refl, lt)) (λ le. inl
 
 some_judged : (rules : Rules) (v : ℤ) → IfSome rules.min (λ least. least ≤ℤ v) ⊎ ((least : ℤ) × (rules.min ≡ Some least) × (v <ℤ least))
     → IfSome rules.max (λ most. v ≤ℤ most) ⊎ ((most : ℤ) × (rules.max ≡ Some most) × (most <ℤ v))
-    → Accepts rules (Some v) ⊎ ((w : Violation) × Breaks rules (Some v) w)
+    → Accepts rules (Some v) ⊎ ((w : Violation) × BreaksRule rules (Some v) w)
 some_judged rules v (inr h) k = inr (TooSmall, (v, h.0, refl, h.1, h.2))
 some_judged rules v (inl h) (inr k) = inr (TooGreat, (v, k.0, refl, k.1, k.2, h))
 some_judged rules v (inl h) (inl k) = inl (h, k)
 
-none_judged : (rules : Rules) (asked : Bool) → rules.required ≡ asked → Accepts rules None ⊎ ((w : Violation) × Breaks rules None w)
+none_judged : (rules : Rules) (asked : Bool) → rules.required ≡ asked → Accepts rules None ⊎ ((w : Violation) × BreaksRule rules None w)
 none_judged rules false e = inl e
 none_judged rules true e = inr (Missing, (refl, e))
 
-pub is_judged : IsJudged
+pub is_judged : AcceptsOrBreaks
 is_judged rules None = none_judged rules rules.required refl
 is_judged rules (Some v) = some_judged rules v (least_or rules.min v) (most_or rules.max v)
 

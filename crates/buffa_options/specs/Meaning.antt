@@ -14,7 +14,7 @@ use Rattle.buffa_wire.specs.Takes.{Need, Taker}
 use Rattle.buffa_map_base.specs.Codec.{Reading}
 use Rattle.buffa_map_base.specs.Scalars.{number_reading}
 use Rattle.buffa_fields_base.specs.Keep.{AllNumbers, keep_takes}
-use Rattle.buffa_fields_base.specs.Layout.{Choice, Kept, both_need, both_take}
+use Rattle.buffa_fields_base.specs.Layout.{Choice, IsFieldKept, both_need, both_take}
 use Rattle.buffa_options.specs.declared.options.FieldOptions.{FieldOptions}
 use Rattle.buffa_fields_base.specs.Values.{field_value_at, free, some_records, some_taken}
 
@@ -46,4 +46,4 @@ abbrev pub TakesOptions : FieldTaken FieldOptions → Type 0
 TakesOptions taken =
     (d n : ℕ) (old new : FieldOptions) (w : WireType) (bs rest : List ℕ) (a b : BudgetLeft) (r : Result (Unit {0}) DecodeError) → taken d old n w bs a r new b rest →
     Choice (n == 3) (ReadsDeprecated d n old.deprecated w bs r new.deprecated rest × (new.fields.records ≡ old.fields.records) × (b ≡ a))
-    (Kept d old.fields.records n w bs a r new.fields.records b rest × (new.deprecated ≡ old.deprecated))
+    (IsFieldKept d old.fields.records n w bs a r new.fields.records b rest × (new.deprecated ≡ old.deprecated))

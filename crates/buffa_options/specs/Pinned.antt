@@ -1,20 +1,20 @@
 -- What a judgement leaves open: nothing.
 use Rattle.std.specs.Prelude.{◌≡◌, ◌↔◌, ◌⊎◌, ℤ, Bool, true, Option}
-use Rattle.buffa_options.specs.Rules.{Accepts, Breaks}
+use Rattle.buffa_options.specs.Rules.{Accepts, BreaksRule}
 use Rattle.buffa_options.specs.declared.rules.Rules.{Rules}
 use Rattle.buffa_options.specs.declared.rules.Violation.{Violation}
 
 -- a value is accepted, or it breaks a rule
-abbrev pub IsJudged : Type 0
-IsJudged = (rules : Rules) (o : Option ℤ) → Accepts rules o ⊎ ((v : Violation) × Breaks rules o v)
+abbrev pub AcceptsOrBreaks : Type 0
+AcceptsOrBreaks = (rules : Rules) (o : Option ℤ) → Accepts rules o ⊎ ((v : Violation) × BreaksRule rules o v)
 
 -- and not both
 abbrev pub NotBoth : Type 0
-NotBoth = (rules : Rules) (o : Option ℤ) (v : Violation) → Accepts rules o → Breaks rules o v → ⊥
+NotBoth = (rules : Rules) (o : Option ℤ) (v : Violation) → Accepts rules o → BreaksRule rules o v → ⊥
 
 -- the rule that is told is one
 abbrev pub OneViolation : Type 0
-OneViolation = (rules : Rules) (o : Option ℤ) (v w : Violation) → Breaks rules o v → Breaks rules o w → v ≡ w
+OneViolation = (rules : Rules) (o : Option ℤ) (v w : Violation) → BreaksRule rules o v → BreaksRule rules o w → v ≡ w
 
 -- values are equal where they mean the same
 abbrev pub EqualByMeaning : {A M : Type 0} → (A → A → Bool) → (A → M) → Type 0

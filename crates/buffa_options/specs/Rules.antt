@@ -13,10 +13,10 @@ Accepts rules None = rules.required ≡ false
 Accepts rules (Some v) = IfSome rules.min (λ least. least ≤ℤ v) × IfSome rules.max (λ most. v ≤ℤ most)
 
 -- the first rule that a value breaks: the greatest value counts only where it isn't below the least
-abbrev pub Breaks : Rules → Option ℤ → Violation → Type 0
-Breaks rules o Missing = (o ≡ None) × (rules.required ≡ true)
-Breaks rules o TooSmall = (v : ℤ) × (least : ℤ) × (o ≡ Some v) × (rules.min ≡ Some least) × (v <ℤ least)
-Breaks rules o TooGreat =
+abbrev pub BreaksRule : Rules → Option ℤ → Violation → Type 0
+BreaksRule rules o Missing = (o ≡ None) × (rules.required ≡ true)
+BreaksRule rules o TooSmall = (v : ℤ) × (least : ℤ) × (o ≡ Some v) × (rules.min ≡ Some least) × (v <ℤ least)
+BreaksRule rules o TooGreat =
     (v : ℤ) × (most : ℤ) × (o ≡ Some v) × (rules.max ≡ Some most) × (most <ℤ v)
     × IfSome rules.min (λ least. least ≤ℤ v)
 

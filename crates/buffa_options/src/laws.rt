@@ -18,7 +18,7 @@ ghost use Rattle.buffa_codec.specs.Decoded.{last_read};
 ghost use Rattle.buffa_fields_base.specs.Calls.{KeepsFields};
 ghost use Rattle.buffa_fields_base.specs.Keep.{keep_takes};
 ghost use Rattle.buffa_options.specs.Meaning.{OthersAreKept, TakesOptions, options_need, options_records, options_takes};
-ghost use Rattle.buffa_options.specs.Pinned.{EqualByMeaning, IsJudged, OneViolation, NotBoth};
+ghost use Rattle.buffa_options.specs.Pinned.{EqualByMeaning, AcceptsOrBreaks, OneViolation, NotBoth};
 ghost use Rattle.buffa_options.specs.declared.carrier.Carrier.{Carrier};
 ghost use Rattle.buffa_options.specs.declared.options.FieldOptions.{FieldOptions};
 ghost use Rattle.buffa_options.specs.declared.price.Price.{Price};
@@ -37,7 +37,7 @@ use buffa_wire::{Blank, MessageSpec};
 ///
 /// Nothing is left open.
 pub fn judgements_are_pinned()
-    ensures judged { IsJudged }
+    ensures judged { AcceptsOrBreaks }
     ensures either { NotBoth }
     ensures told { OneViolation }
 {}

@@ -1,7 +1,7 @@
 //! A validator that the options of a field drive.
 
 ghost use Rattle.std.specs.Prelude.{◌≡◌, ◌↔◌, IfOk, IfErr, IsOk};
-ghost use Rattle.buffa_options.specs.Rules.{Accepts, Breaks, rules_in};
+ghost use Rattle.buffa_options.specs.Rules.{Accepts, BreaksRule, rules_in};
 
 use crate::options::{FieldOptions, read_bool, read_int32};
 use std::alloc::{AllocError, Global};
@@ -65,7 +65,7 @@ pub fn read_rules(alloc: Global, options: &FieldOptions) -> Result<Rules, AllocE
 /// ```
 pub fn judge(rules: &Rules, value: Option<i32>) -> Result<(), Violation>
     ensures accepts { IsOk result ↔ Accepts rules.now value }
-    ensures why { IfErr result (Breaks rules.now value) }
+    ensures why { IfErr result (BreaksRule rules.now value) }
 {
     let Some(number) = value else {
         return if rules.required {
@@ -101,7 +101,7 @@ pub fn validate(
     value: Option<i32>,
 ) -> Result<Result<(), Violation>, AllocError>
     ensures judged { IfOk result (λ judged. IsOk judged ↔ Accepts (rules_in options.now.fields.records) value) }
-    ensures why { IfOk result (λ judged. IfErr judged (Breaks (rules_in options.now.fields.records) value)) }
+    ensures why { IfOk result (λ judged. IfErr judged (BreaksRule (rules_in options.now.fields.records) value)) }
     ensures always { IsOk result }
 {
     let rules = read_rules(alloc, options)?;

@@ -1,3 +1,4 @@
+-- The lemmas that this crate hands out.
 pub mod NormalLemmas
 mod NumberLemmas
 pub mod PassedLemmas

@@ -22,7 +22,8 @@ use Rattle.buffa_fields_base.specs.Layout.{both_need}
 use Rattle.buffa_wire.proofs.TakesLemmas.{cost_of_free}
 use Rattle.buffa_fields_base.specs.Values.{RefusesAlone, ValueTakesMemory, free, value_taken}
 use Rattle.buffa_samples.specs.Fields.{int32_field, number_records}
-use Rattle.buffa_samples.specs.Numbers.{IsReadAlone, int32_reading}
+use Rattle.buffa_samples.specs.Numbers.{IsReadAlone}
+use Rattle.buffa_map_base.specs.Scalars.{int32_reading}
 
 -- ---- an int32 field, read as a member reads it
 module _ {X : Type 0} (put : ℤ → X) (d n : ℕ) (v : ℤ) where

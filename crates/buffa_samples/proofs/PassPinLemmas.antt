@@ -5,14 +5,14 @@ use Rattle.buffa_bytes.specs.declared.error.DecodeError.TheVariants as decode
 use Rattle.buffa_bytes.specs.declared.error.EncodeError.TheVariants as encode
 use Rattle.buffa_wire.specs.BudgetLeft.{defaults, nothing}
 use Rattle.buffa_bytes.specs.Content.{Content}
-use Rattle.buffa_map.specs.Enums.{ClosedFits, closed_writing}
-use Rattle.buffa_map.specs.Merge.{ReadsRun, state}
-use Rattle.buffa_map.specs.Pairs.{SamePairs}
+use Rattle.buffa_map_base.specs.Enums.{ClosedFits, closed_writing}
+use Rattle.buffa_map_base.specs.Merge.{ReadsRun, state}
+use Rattle.buffa_map_base.specs.Pairs.{SamePairs}
 use Rattle.buffa_map.specs.declared.rewrite.RewriteError.{RewriteError}
 use Rattle.buffa_map.specs.declared.rewrite.RewriteError.TheVariants as rewriting
 use Rattle.buffa_map.proofs.PinLemmas.{run_is_pinned}
 use Rattle.buffa_map.proofs.PinEncodingLemmas.{rewrite_is_pinned}
-use Rattle.buffa_samples.specs.Passed.{IsRewritten, NotRewritten, Proxy}
+use Rattle.buffa_samples.specs.Passed.{IsRewrittenByOlder, NotRewritten, Proxy}
 use Rattle.buffa_samples.specs.Pinned.{IsFullRewrite, PassIsPinned}
 
 module _ {K : Type 0} (p : Proxy K) (KeyFits : K → Type 0) (walks : List (K × ℤ) → Type 0) (d n : ℕ) (bytes : List ℕ) (laws : IsEquivalence (p.older d n).same)
@@ -21,13 +21,13 @@ module _ {K : Type 0} (p : Proxy K) (KeyFits : K → Type 0) (walks : List (K ×
     (new_key_free : (p.newer d n).key.nested ≡ false → (e : ℕ) (c : Content) → (p.newer d n).key.cost e c ≡ nothing)
     (new_val_free : (p.newer d n).val.nested ≡ false → (e : ℕ) (c : Content) → (p.newer d n).val.cost e c ≡ nothing) where
   -- two rewrites fill the same map, and are one encoding where one walk was written
-  one : (x y : List (K × ℤ)) (v w : List ℕ) (h : IsRewritten p KeyFits d n bytes x v) (k : IsRewritten p KeyFits d n bytes y w) →
+  one : (x y : List (K × ℤ)) (v w : List ℕ) (h : IsRewrittenByOlder p KeyFits d n bytes x v) (k : IsRewrittenByOlder p KeyFits d n bytes y w) →
       SamePairs (p.older d n).same x y × (h.rewrites.rewrite.0 ≡ k.rewrites.rewrite.0 → v ≡ w)
   one x y v w h k =
       let pins = (rewrite_is_pinned (p.older d n) laws key_free val_free p.key closed_writing KeyFits (ClosedFits p.numbers) (λ _. Unit {0}) (λ _. Unit {0}) defaults bytes x y h.left k.left [] [] [] v w 0).rewritten 0 0 h.rewrites k.rewrites in
       (pins.0, pins.4)
 
-  no_refusal : (x y : List (K × ℤ)) (v : List ℕ) (e : RewriteError) → IsRewritten p KeyFits d n bytes x v → NotRewritten p KeyFits d n bytes walks y e → IsFullRewrite e
+  no_refusal : (x y : List (K × ℤ)) (v : List ℕ) (e : RewriteError) → IsRewrittenByOlder p KeyFits d n bytes x v → NotRewritten p KeyFits d n bytes walks y e → IsFullRewrite e
   no_refusal x y v (rewriting.Decode decode.OutOfMemory) h k = tt
   no_refusal x y v (rewriting.Encode encode.OutOfMemory) h k = tt
   no_refusal x y v (rewriting.Decode f) h k =

@@ -5,13 +5,13 @@ use Rattle.buffa_bytes.specs.declared.error.DecodeError.TheVariants.{ElementMemo
 use Rattle.buffa_wire.specs.BudgetLeft.{BudgetLeft, Lacks, plus, units}
 use Rattle.buffa_wire.specs.Message.{IsLimit}
 use Rattle.buffa_wire.specs.Records.{Datum}
-use Rattle.buffa_map.specs.Codec.{Reading, Writing}
-use Rattle.buffa_map.specs.Entry.{EntryFault, need_of}
-use Rattle.buffa_map.specs.Enums.{closed_writing}
+use Rattle.buffa_map_base.specs.Codec.{Reading, Writing}
+use Rattle.buffa_map_base.specs.Entry.{EntryFault, need_of}
+use Rattle.buffa_map_base.specs.Enums.{closed_writing}
 use Rattle.buffa_map.specs.Laws.{OneReading}
-use Rattle.buffa_map.specs.Merge.{ReadsRun, State, StopsRun, keeping, state}
+use Rattle.buffa_map_base.specs.Merge.{ReadsRun, State, StopsRun, keeping, state}
 use Rattle.buffa_map.specs.Rewrite.{MatchRefusal, RefusesBytes, RefusesOutput, RewritesRun}
-use Rattle.buffa_map.specs.Run.{EntryRecord, Paid, RecordFault, Run, RunBegins, inner_needs}
+use Rattle.buffa_map_base.specs.Run.{EntryRecord, ArePaid, RecordFault, Run, RunBegins, inner_needs}
 use Rattle.buffa_map.specs.declared.rewrite.RewriteError.{RewriteError}
 use Rattle.buffa_map.specs.declared.rewrite.RewriteError.TheVariants.{Decode, Encode}
 use Rattle.buffa_samples.specs.Passed.{IsShortage}
@@ -71,7 +71,7 @@ rewritten rk rv key KeyFits ValFits eq keeps n cost bs pairs walks d e left give
   encoding = refl;
   ordered = h.ordered;
   room = omega arith;
-  paid = subst (λ (z : BudgetLeft). Paid rk rv e cost 1 z h.entries over) is (subst (λ (z : ℕ). Paid rk rv z cost 1 left h.entries over) same h.paid);
+  paid = subst (λ (z : BudgetLeft). ArePaid rk rv e cost 1 z h.entries over) is (subst (λ (z : ℕ). ArePaid rk rv z cost 1 left h.entries over) same h.paid);
   whole = refl;
 }
 

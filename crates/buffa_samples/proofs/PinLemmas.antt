@@ -6,10 +6,10 @@ use Rattle.std.specs.List.Sorted.{IsPermutation}
 use Rattle.std.proofs.lemmas.List.Sorted.{All-permutation, length_permutation}
 use Rattle.buffa_bytes.specs.declared.error.DecodeError.TheVariants as decode
 use Rattle.buffa_bytes.specs.declared.error.EncodeError.TheVariants as encode
-use Rattle.buffa_map.specs.Codec.{Writing}
-use Rattle.buffa_map.specs.Pairs.{InOrder}
-use Rattle.buffa_map.specs.Encoding.{HasEncoding, entry_encoding}
-use Rattle.buffa_map.proofs.WalkLemmas.{permuted}
+use Rattle.buffa_map_base.specs.Codec.{Writing}
+use Rattle.buffa_map_base.specs.Pairs.{InOrder}
+use Rattle.buffa_map_base.specs.Encoding.{HasEncoding, entry_encoding}
+use Rattle.buffa_map_base.proofs.WalkLemmas.{permuted}
 use Rattle.buffa_samples.specs.Pinned.{IsFull, TripIsPinned}
 use Rattle.buffa_samples.specs.RoundTrip.{RefusesPairs}
 use Rattle.buffa_samples.specs.declared.round_trip.TripFault.{TripFault}

@@ -1,5 +1,5 @@
 -- Merging the entry of a child: what the call for any map of messages promises, said of trees.
-use Rattle.std.proofs.Common.{◌≡◌, ◌⊎◌, inl, inr, refl, sym, ap, subst, ◌∙◌, arith, ℕ, zero, suc, ℤ, pos, ◌+◌, ◌≤◌, ◌++◌, true, false, cond, List, [], ◌∷◌, length, None, Result, Ok, Err, OnOk, IfErr}
+use Rattle.std.proofs.Common.{◌≡◌, ◌⊎◌, inl, inr, refl, sym, ap, subst, ◌∙◌, arith, ℕ, zero, suc, ℤ, ◌+◌, ◌≤◌, ◌++◌, true, cond, List, [], ◌∷◌, length, None, Result, Ok, Err, OnOk, IfErr}
 use Rattle.std.specs.Cmp.{int_cmp_total}
 use Rattle.std.specs.List.Sorted.{IsStrictlySortedBy}
 use Rattle.std.specs.Map.{keys_of}
@@ -12,107 +12,101 @@ use Rattle.buffa_wire.specs.BudgetLeft.{BudgetLeft, Lacks, Pays, PaysAtMost, not
 use Rattle.buffa_bytes.specs.Content.{bytes_in}
 use Rattle.buffa_bytes.specs.Varint.{IsVarint}
 use Rattle.buffa_wire.specs.Message.{merged_in}
-use Rattle.buffa_map.proofs.EntryLemmas.{entry_complete, entry_faulty}
-use Rattle.buffa_map.proofs.NeedLemmas.{inner_is}
-use Rattle.buffa_map.proofs.PutLemmas.{SamePairs-insert_entry}
-use Rattle.buffa_map.specs.Entry.{EntryFault, EntryOf, IsEntry, IsEntryField, blanks, inner_need, need_at, need_of}
-use Rattle.buffa_map.specs.Merge.{MergesEntry, RefusesEntry, dropping, state}
-use Rattle.buffa_map.specs.Message.{message_reading}
-use Rattle.buffa_map.specs.MessageFacts.{meant_known}
-use Rattle.buffa_map.specs.Pairs.{SamePairs, put}
+use Rattle.buffa_map_base.proofs.EntryLemmas.{entry_complete, entry_faulty}
+use Rattle.buffa_map_base.proofs.NeedLemmas.{inner_is}
+use Rattle.buffa_map_base.proofs.PutLemmas.{SamePairs-insert_entry}
+use Rattle.buffa_map_base.specs.Entry.{EntryFault, EntryOf, IsEntry, IsEntryField, blanks, inner_need, need_at, need_of}
+use Rattle.buffa_map.proofs.ChildrenLemmas.{ChildPut, ChildRefused, meant_step}
+use Rattle.buffa_map_base.specs.Scalars.{int32_reading}
+use Rattle.buffa_map.specs.Children.{ChildCost, ChildMeaning, child_reading, meant_children}
+use Rattle.buffa_map_base.specs.MessageFacts.{meant_known}
+use Rattle.buffa_map_base.specs.Pairs.{SamePairs, put}
 use Rattle.buffa_wire.specs.Sequence.{ParsesEach}
-use Rattle.buffa_map.specs.Run.{step}
+use Rattle.buffa_map_base.specs.Run.{step}
 use Rattle.buffa_map.specs.declared.map_entry.MapEntry.{MapEntry}
 use Rattle.buffa_map_base.proofs.SortedLemmas.{same_sorted, sorted_put}
-use Rattle.buffa_samples.specs.Grown.{Grown, grown, no_kids}
+use Rattle.buffa_samples.specs.Grown.{Grown, blank_tree}
+use Rattle.buffa_samples.proofs.TreeFieldLemmas.{done, refused}
 use Rattle.buffa_samples.specs.TreeFacts.{entry_no_limit}
-use Rattle.buffa_samples.specs.TreeMeaning.{ChildCost, ChildMeaning, IsChildMerged, child_at, child_reading, cost, entry_need, key_reading, merged}
-use Rattle.buffa_samples.specs.TreeEncoding.{meant, meant-is}
-
-abbrev done : Result (Unit {0}) DecodeError
-done = Ok tt
-
-abbrev refused : DecodeError → Result (Unit {0}) DecodeError
-refused f = Err f
+use Rattle.buffa_samples.specs.TreeMeaning.{IsChildMerged, child_at, entry_need, tree_cost, tree_merged}
 
 -- ---- the map, as a list in order
 is_put : (old new : List (ℤ × Grown)) (s : MapEntry ℤ Grown) → IsStrictlySortedBy int_cmp (keys_of old) → IsStrictlySortedBy int_cmp (keys_of new) → s.known ≡ true →
-    SamePairs int_eq (step int_eq (meant old) s) (meant new) → new ≡ insert_entry int_cmp old s.key s.value
+    SamePairs int_eq (step int_eq (meant_children old) s) (meant_children new) → new ≡ insert_entry int_cmp old s.key s.value
 is_put old new s ordered now known h =
-    let one : SamePairs int_eq (step int_eq old s) new = subst (λ xs. SamePairs int_eq (step int_eq old s) xs) (meant-is new) (subst (λ xs. SamePairs int_eq (step int_eq xs s) (meant new)) (meant-is old) h) in
-    let two : SamePairs int_eq (put int_eq old s.key s.value) new = subst (λ b. SamePairs int_eq (cond b (put int_eq old s.key s.value) old) new) known one in
+    let same : SamePairs int_eq (put int_eq old s.key s.value) new = subst (λ b. SamePairs int_eq (cond b (put int_eq old s.key s.value) old) new) known (meant_step old new s h) in
     same_sorted int_cmp_total new (insert_entry int_cmp old s.key s.value) now (sorted_put int_cmp_total old s.key s.value ordered)
-    (λ q. sym (two q) ∙ SamePairs-insert_entry int_cmp_total old s.key s.value ordered q)
+    (λ q. sym (same q) ∙ SamePairs-insert_entry int_cmp_total old s.key s.value ordered q)
 
 -- ---- what an entry says, at a level
-module _ (d : ℕ) (m : ChildMeaning) (c : ChildCost) where
-  one_known : (s t : MapEntry ℤ Grown) (f : List ℕ) → IsEntryField key_reading (child_reading m c) d s f t → s.known ≡ true → t.known ≡ true
+module _ (d : ℕ) (m : ChildMeaning Grown) (c : ChildCost) where
+  one_known : (s t : MapEntry ℤ Grown) (f : List ℕ) → IsEntryField int32_reading (child_reading blank_tree m c) d s f t → s.known ≡ true → t.known ≡ true
   one_known s t f (inl (k, known, h, is)) was = ap (λ z. z.known) is ∙ was
   one_known s t f (inr (inl (v, known, (tag, p, x, is_tag, l, has, reads, split), is))) was = ap (λ z. z.known) is ∙ meant_known (merged_in (λ _. m) d s.value (bytes_in x)) v known reads
   one_known s t f (inr (inr (n, w, h, k, field, is))) was = ap (λ z. z.known) is ∙ was
 
-  each_known : (ps : List (List ℕ)) (s t : MapEntry ℤ Grown) → ParsesEach (IsEntryField key_reading (child_reading m c) d) s ps t → s.known ≡ true → t.known ≡ true
+  each_known : (ps : List (List ℕ)) (s t : MapEntry ℤ Grown) → ParsesEach (IsEntryField int32_reading (child_reading blank_tree m c) d) s ps t → s.known ≡ true → t.known ≡ true
   each_known [] s t h was = ap (λ z. z.known) (sym h) ∙ was
   each_known (p ∷ ps) s t (u, h, k) was = each_known ps u t k (one_known s u p h was)
 
-  known : (e : List ℕ) (s : MapEntry ℤ Grown) → IsEntry key_reading (child_reading m c) d e s → s.known ≡ true
-  known e s (ps, is, h) = each_known ps (blanks key_reading (child_reading m c) d) s h refl
+  known : (e : List ℕ) (s : MapEntry ℤ Grown) → IsEntry int32_reading (child_reading blank_tree m c) d e s → s.known ≡ true
+  known e s (ps, is, h) = each_known ps (blanks int32_reading (child_reading blank_tree m c) d) s h refl
 
-  pub said : (bs e rest : List ℕ) (s : MapEntry ℤ Grown) → EntryOf key_reading (child_reading m c) d bs e s rest → (child_at d m bs ≡ Ok (s, rest)) × (s.known ≡ true)
-  said bs e rest s (t, v, is, h) = (rw (delimited_taken bs e rest (t, v, is), entry_complete key_reading (child_reading m (λ _. nothing)) d e s h) refl, known e s h)
+  pub said : (bs e rest : List ℕ) (s : MapEntry ℤ Grown) → EntryOf int32_reading (child_reading blank_tree m c) d bs e s rest → (child_at d m bs ≡ Ok (s, rest)) × (s.known ≡ true)
+  said bs e rest s (t, v, is, h) = (rw (delimited_taken bs e rest (t, v, is), entry_complete int32_reading (child_reading blank_tree m (λ _. nothing)) d e s h) refl, known e s h)
 
-  needed : (bs e rest : List ℕ) (s : MapEntry ℤ Grown) → EntryOf key_reading (child_reading m c) d bs e s rest → entry_need d m c bs ≡ need_of key_reading (child_reading m c) d 36 e
-  needed bs e rest s (u, v, is, h) = ap (plus (units 36)) (inner_is key_reading (child_reading m c) d bs e rest (delimited_taken bs e rest (u, v, is)))
+  needed : (bs e rest : List ℕ) (s : MapEntry ℤ Grown) → EntryOf int32_reading (child_reading blank_tree m c) d bs e s rest → entry_need d m c bs ≡ need_of int32_reading (child_reading blank_tree m c) d 36 e
+  needed bs e rest s (u, v, is, h) = ap (plus (units 36)) (inner_is int32_reading (child_reading blank_tree m c) d bs e rest (delimited_taken bs e rest (u, v, is)))
 
   -- its need is that of the payload
-  pub paid : (bs e rest : List ℕ) (s : MapEntry ℤ Grown) (before after : BudgetLeft) → EntryOf key_reading (child_reading m c) d bs e s rest →
-      Pays before (plus (need_of key_reading (child_reading m c) d 36 e) (unknown_fields (cond s.known 0 0))) after → Pays before (entry_need d m c bs) after
+  pub paid : (bs e rest : List ℕ) (s : MapEntry ℤ Grown) (before after : BudgetLeft) → EntryOf int32_reading (child_reading blank_tree m c) d bs e s rest →
+      Pays before (plus (need_of int32_reading (child_reading blank_tree m c) d 36 e) (unknown_fields (cond s.known 0 0))) after → Pays before (entry_need d m c bs) after
   paid bs e rest s before after h p =
-      let q : Pays before (plus (need_of key_reading (child_reading m c) d 36 e) (unknown_fields 0)) after = subst (λ b. Pays before (plus (need_of key_reading (child_reading m c) d 36 e) (unknown_fields (cond b 0 0))) after) (said bs e rest s h).1 p in
+      let q : Pays before (plus (need_of int32_reading (child_reading blank_tree m c) d 36 e) (unknown_fields 0)) after = subst (λ b. Pays before (plus (need_of int32_reading (child_reading blank_tree m c) d 36 e) (unknown_fields (cond b 0 0))) after) (said bs e rest s h).1 p in
       let need = needed bs e rest s h in
       (omega (arith, q.0, ap (λ z. z.unknown) need), omega (arith, q.1, ap (λ z. z.memory) need))
 
-  lacking : (bs e rest t : List ℕ) (left : BudgetLeft) → IsVarint t (length e) → bs ≡ t ++ (e ++ rest) → Lacks left (need_of key_reading (child_reading m c) d 36 e) → Lacks left (entry_need d m c bs)
-  lacking bs e rest t left v is h = subst (λ z. Lacks left z) (sym (ap (plus (units 36)) (inner_is key_reading (child_reading m c) d bs e rest (delimited_taken bs e rest (t, v, is))))) h
+  lacking : (bs e rest t : List ℕ) (left : BudgetLeft) → IsVarint t (length e) → bs ≡ t ++ (e ++ rest) → Lacks left (need_of int32_reading (child_reading blank_tree m c) d 36 e) → Lacks left (entry_need d m c bs)
+  lacking bs e rest t left v is h = subst (λ z. Lacks left z) (sym (ap (plus (units 36)) (inner_is int32_reading (child_reading blank_tree m c) d bs e rest (delimited_taken bs e rest (t, v, is))))) h
 
   -- why it is refused
-  pub told : (bs : List ℕ) (left : BudgetLeft) (f : DecodeError) → EntryFault key_reading (child_reading m c) d 36 0 left bs f →
+  pub told : (bs : List ℕ) (left : BudgetLeft) (f : DecodeError) → EntryFault int32_reading (child_reading blank_tree m c) d 36 0 left bs f →
       Lacks left (entry_need d m c bs) ⊎ ((x : DecodeError) × (child_at d m bs ≡ Err x) × NoLimit f)
   told bs left f (inl bad) = inr (f, rw (delimited_faulty bs f bad) refl, length_no_limit bs f bad)
   told bs left f (inr (t, e, rest, v, is, inl few)) = inl (inr (omega (arith, few.0)))
   told bs left f (inr (t, e, rest, v, is, inr (many, inl few))) = inl (lacking bs e rest t left v is few)
   told bs left f (inr (t, e, rest, v, is, inr (many, inr (inl bad)))) =
-      let q = entry_faulty key_reading (child_reading m (λ _. nothing)) d e f bad in
+      let q = entry_faulty int32_reading (child_reading blank_tree m (λ _. nothing)) d e f bad in
       inr (q.0, rw (delimited_taken bs e rest (t, v, is), q.1) refl, entry_no_limit d m bs e rest (t, v, is) f bad)
   told bs left f (inr (t, e, rest, v, is, inr (many, inr (inr (s, h, no_value, few, which))))) = let k = sym (known e s h) ∙ no_value in cc
 
-  spent : (left now : BudgetLeft) (bs : List ℕ) → (now.memory ≡ left.memory) ⊎ ((now.memory + 36 ≤ left.memory) × (left.memory ≤ now.memory + (36 + (inner_need key_reading (child_reading m c) d bs).memory))) →
-      now.unknown ≤ left.unknown → left.unknown ≤ now.unknown + (0 + (inner_need key_reading (child_reading m c) d bs).unknown) → PaysAtMost left (entry_need d m c bs) now
+  spent : (left now : BudgetLeft) (bs : List ℕ) → (now.memory ≡ left.memory) ⊎ ((now.memory + 36 ≤ left.memory) × (left.memory ≤ now.memory + (36 + (inner_need int32_reading (child_reading blank_tree m c) d bs).memory))) →
+      now.unknown ≤ left.unknown → left.unknown ≤ now.unknown + (0 + (inner_need int32_reading (child_reading blank_tree m c) d bs).unknown) → PaysAtMost left (entry_need d m c bs) now
   spent left now bs (inl same) most least = (omega (arith, most), omega (arith, least), omega (arith, same), omega (arith, same))
   spent left now bs (inr some) most least = (omega (arith, most), omega (arith, least), omega (arith, some.0), omega (arith, some.1))
 
 -- ---- the call
 module _ (old new : List (ℤ × Grown)) (before after : BudgetLeft) (bs rest : List ℕ) where
-  abbrev merges : ℕ → Type 0
-  merges d = MergesEntry (dropping key_reading (message_reading (grown (pos 0) no_kids) merged cost) int_eq false d 0 36) (state (meant old) [] before) bs (state (meant new) [] after) rest
+  abbrev TreePut : ℕ → Type 0
+  TreePut d = ChildPut blank_tree tree_merged tree_cost 36 old new bs rest before after d
 
-  abbrev refuses : ℕ → DecodeError → Type 0
-  refuses d f = RefusesEntry (dropping key_reading (message_reading (grown (pos 0) no_kids) merged cost) int_eq false d 0 36) (state (meant old) [] before) bs (state (meant new) [] after) rest f
+  abbrev TreeRefused : ℕ → DecodeError → Type 0
+  TreeRefused d f = ChildRefused blank_tree tree_merged tree_cost 36 old new bs rest before after d f
 
-  child_merged : (d : ℕ) → IsStrictlySortedBy int_cmp (keys_of old) → IsStrictlySortedBy int_cmp (keys_of new) → merges d → IsChildMerged d old bs before done new after rest
+  child_merged : (d : ℕ) → IsStrictlySortedBy int_cmp (keys_of old) → IsStrictlySortedBy int_cmp (keys_of new) → TreePut d → IsChildMerged d old bs before done new after rest
   unfolding need_at
   child_merged zero s t h =
       let q = said zero (λ _ _. None) (λ _. nothing) bs h.entry rest h.says h.read in
       (h.says, q.0, is_put old new h.says s t q.1 h.put, paid zero (λ _ _. None) (λ _. nothing) bs h.entry rest h.says before after h.read h.pays)
   child_merged (suc d) s t h =
-      let q = said (suc d) (merged d) (cost d) bs h.entry rest h.says h.read in
-      (h.says, q.0, is_put old new h.says s t q.1 h.put, paid (suc d) (merged d) (cost d) bs h.entry rest h.says before after h.read h.pays)
+      let q = said (suc d) (tree_merged d) (tree_cost d) bs h.entry rest h.says h.read in
+      (h.says, q.0, is_put old new h.says s t q.1 h.put, paid (suc d) (tree_merged d) (tree_cost d) bs h.entry rest h.says before after h.read h.pays)
 
-  child_refused : (d : ℕ) (f : DecodeError) → refuses d f → IsChildMerged d old bs before (refused f) new after rest
+  child_refused : (d : ℕ) (f : DecodeError) → TreeRefused d f → IsChildMerged d old bs before (refused f) new after rest
   unfolding need_at
   child_refused zero f h = (spent zero (λ _ _. None) (λ _. nothing) before after bs h.units h.most h.least, λ ne. told zero (λ _ _. None) (λ _. nothing) bs before f (h.fault ne))
-  child_refused (suc d) f h = (spent (suc d) (merged d) (cost d) before after bs h.units h.most h.least, λ ne. told (suc d) (merged d) (cost d) bs before f (h.fault ne))
+  child_refused (suc d) f h = (spent (suc d) (tree_merged d) (tree_cost d) before after bs h.units h.most h.least, λ ne. told (suc d) (tree_merged d) (tree_cost d) bs before f (h.fault ne))
 
-  pub child_answer : (d : ℕ) (r : Result (Unit {0}) DecodeError) → IsStrictlySortedBy int_cmp (keys_of old) → IsStrictlySortedBy int_cmp (keys_of new) → OnOk r (merges d) → IfErr r (refuses d) → IsChildMerged d old bs before r new after rest
+  pub child_answer : (d : ℕ) (r : Result (Unit {0}) DecodeError) → IsStrictlySortedBy int_cmp (keys_of old) → IsStrictlySortedBy int_cmp (keys_of new) → OnOk r (TreePut d) → IfErr r (TreeRefused d) → IsChildMerged d old bs before r new after rest
   child_answer d (Ok x) s t ok err = child_merged d s t ok
   child_answer d (Err f) s t ok err = child_refused d f err

@@ -7,11 +7,11 @@ use Rattle.buffa_bytes.specs.declared.error.DecodeError.TheVariants.{ElementMemo
 use Rattle.buffa_bytes.specs.declared.error.EncodeError.{EncodeError}
 use Rattle.buffa_bytes.specs.declared.error.EncodeError.TheVariants.{MessageTooLarge, GroupRefused, OutOfMemory}
 use Rattle.buffa_wire.specs.BudgetLeft.{BudgetLeft, nothing, units}
-use Rattle.buffa_map.specs.Entry.{need_of}
-use Rattle.buffa_map.specs.Codec.{Reading, Writing}
-use Rattle.buffa_map.specs.Merge.{State, StopsRun, dropping, state}
-use Rattle.buffa_map.specs.Run.{Paid, RecordFault, Run, RunFault, EntryRecord, inner_needs}
-use Rattle.buffa_map.specs.Encoding.{RefusesField, field_encoding}
+use Rattle.buffa_map_base.specs.Entry.{need_of}
+use Rattle.buffa_map_base.specs.Codec.{Reading, Writing}
+use Rattle.buffa_map_base.specs.Merge.{State, StopsRun, dropping, state}
+use Rattle.buffa_map_base.specs.Run.{ArePaid, RecordFault, Run, RunFault, EntryRecord, inner_needs}
+use Rattle.buffa_map_base.specs.Encoding.{RefusesField, field_encoding}
 use Rattle.buffa_samples.specs.RoundTrip.{RefusesPairs}
 use Rattle.buffa_samples.specs.declared.round_trip.TripFault.TheVariants.{Encode}
 
@@ -24,7 +24,7 @@ unwritten key val cost n old new l (GroupRefused e) room h few = h
 
 module _ {K V : Type 0} (key : Reading K) (val : Reading V) (d n : ℕ)
     (needs : (cost : ℕ) (e : List ℕ) → need_of key val d cost e ≡ units cost) (inner : (es : List (EntryRecord K V)) → inner_needs key val d es ≡ nothing)
-    (no_fault : (cost extra : ℕ) (left over : BudgetLeft) (bs : List ℕ) (es : List (EntryRecord K V)) (f : DecodeError) → Run key val d n bs es → Paid key val d cost extra left es over → RunFault key val d n cost extra left bs f → ⊥) where
+    (no_fault : (cost extra : ℕ) (left over : BudgetLeft) (bs : List ℕ) (es : List (EntryRecord K V)) (f : DecodeError) → Run key val d n bs es → ArePaid key val d cost extra left es over → RunFault key val d n cost extra left bs f → ⊥) where
   -- where no unknown field is asked for, the fault of a record is that of the budget, or one that it has at no cost
   at_no_cost : (cost : ℕ) (left : BudgetLeft) (bs : List ℕ) (f : DecodeError) → RecordFault key val d n cost 0 left bs f → (f ≡ ElementMemoryLimitExceeded) ⊎ RecordFault key val d n 0 0 left bs f
   at_no_cost cost left bs f (inl h) = inr (inl h)
@@ -38,7 +38,7 @@ module _ {K V : Type 0} (key : Reading K) (val : Reading V) (d n : ℕ)
       inr (inr (inr (inr (r, t, inr (v, e, rest, len, is, inr (omega arith, inr (inl h)))))))
   at_no_cost cost left bs f (inr (inr (inr (r, t, inr (v, e, rest, len, is, inr (enough, inr (inr h))))))) = absurd (omega (arith, h.3, ap (λ (z : BudgetLeft). z.unknown) (needs cost e)))
 
-  paid_at : (cost : ℕ) (es : List (EntryRecord K V)) (left over : BudgetLeft) → over.memory + length es * cost ≡ left.memory → over.unknown ≡ left.unknown → Paid key val d cost 0 left es over
+  paid_at : (cost : ℕ) (es : List (EntryRecord K V)) (left over : BudgetLeft) → over.memory + length es * cost ≡ left.memory → over.unknown ≡ left.unknown → ArePaid key val d cost 0 left es over
   paid_at cost es left over m u = (omega (arith, m, ap (λ (z : BudgetLeft). z.memory) (inner es)), omega (arith, u, ap (λ (z : BudgetLeft). z.unknown) (inner es)))
 
   -- bytes that are a run have no fault but the budget's, and that only where the entries cost more than is left
@@ -67,5 +67,5 @@ as_units b n u m = ap (λ (z : ℕ). record { unknown = z; memory = b.memory }) 
 
 -- what is paid costs no more than was left
 pub paid_for : {K V : Type 0} (rk : Reading K) (rv : Reading V) (d cost extra : ℕ) (left over : BudgetLeft) (es : List (EntryRecord K V)) (all many : ℕ) →
-    left.memory ≡ all → length es ≡ many → Paid rk rv d cost extra left es over → many * cost ≤ all
+    left.memory ≡ all → length es ≡ many → ArePaid rk rv d cost extra left es over → many * cost ≤ all
 paid_for rk rv d cost extra left over es all many is count paid = subst (λ z. z * cost ≤ all) count (omega (arith, is, paid.0))

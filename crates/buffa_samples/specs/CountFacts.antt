@@ -62,8 +62,8 @@ count_back d n h = let e : 0 + n ≡ n = omega arith in counted d 0 n (omega (ar
 pub count_turn : {T : Type 0} (r : Result T EncodeError) (old mid new : List ℕ) (left less : ℕ) → left ≡ suc less → mid ≡ old ++ one_encoding → Writes r mid (count_encoding less) new → Writes r old (count_encoding left) new
 count_turn r old mid new left less is e h = subst (λ z. Writes r old (count_encoding z) new) (sym is) (writes_then r old one_encoding (count_encoding less) mid new e h)
 
-pub count_none : (old : List ℕ) (left : ℕ) → left ≡ 0 → old ≡ old ++ count_encoding left
-count_none old left is = sym (append-nil old) ∙ ap (λ z. old ++ count_encoding z) (sym is)
+pub nothing_counted : (old : List ℕ) (left : ℕ) → left ≡ 0 → old ≡ old ++ count_encoding left
+nothing_counted old left is = sym (append-nil old) ∙ ap (λ z. old ++ count_encoding z) (sym is)
 
 pub count_short : {T : Type 0} {r : Result T EncodeError} {e f : EncodeError} → r ≡ Err e → e ≡ f → (old new : List ℕ) (left less : ℕ) → left ≡ suc less → (f ≡ OutOfMemory) × WritesFront old one_encoding new → Writes r old (count_encoding left) new
 count_short {r = r} is same old new left less more h = subst (λ z. Writes r old (count_encoding z) new) (sym more) (exits_first is same old one_encoding (count_encoding less) new h)

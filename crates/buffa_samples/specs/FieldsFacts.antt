@@ -19,7 +19,7 @@ use Rattle.buffa_bytes.proofs.VarintLemmas.{IsVarint-varint_encoding, varint_com
 use Rattle.buffa_wire.proofs.MessageLemmas.{NoLimit, payload_no_limit, var_no_limit}
 use Rattle.buffa_wire.specs.Sequence.{parse_all}
 use Rattle.buffa_wire.proofs.SequenceLemmas.{ok_same, parse_keeps}
-use Rattle.buffa_map.proofs.EntryLemmas.{check_sound}
+use Rattle.buffa_map_base.proofs.EntryLemmas.{check_sound}
 use Rattle.buffa_wire.specs.ByField.{FieldReader, merged_by, next_at}
 use Rattle.buffa_wire.proofs.ByFieldLemmas.{IsSame, IsSound, Same, read, some_of}
 use Rattle.buffa_samples.specs.Fields.{int32_field, number_records, number_encoding, skipped_field, value_field, varint_field}

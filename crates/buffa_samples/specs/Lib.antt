@@ -1,3 +1,4 @@
+-- The words that this crate hands out.
 pub mod Letters
 pub mod Fields
 pub mod FieldsFacts
@@ -6,7 +7,6 @@ pub mod Count
 pub mod CountFacts
 pub mod Passed
 pub mod Grown
-pub mod GrownFacts
 pub mod TreeEncoding
 pub mod TreeMeaning
 pub mod RoundTrip

@@ -1,23 +1,17 @@
 -- What bytes mean to the messages of one int32 and of two: fields of number 1, and of number 2, are the values, others are
 -- passed over. Source: the protobuf encoding guide, "Message Structure".
-use Rattle.std.specs.Prelude.{◌≡◌, ℕ, ◌==◌, ℤ, pos, List, Result, OnErr, if◌then◌else◌}
+use Rattle.std.specs.Prelude.{◌≡◌, ℕ, ◌==◌, ℤ, List, Result, OnErr, if◌then◌else◌}
 use Rattle.buffa_bytes.specs.declared.error.DecodeError.{DecodeError}
 use Rattle.buffa_bytes.specs.declared.wire_type.WireType.{WireType}
-use Rattle.buffa_bytes.specs.declared.wire_type.WireType.TheVariants.{Varint}
 use Rattle.buffa_bytes.specs.Gives.{Gives}
-use Rattle.buffa_bytes.specs.Values.{int32_of}
 use Rattle.buffa_wire.specs.BudgetLeft.{BudgetLeft}
 use Rattle.buffa_wire.specs.ByField.{FieldReader}
-use Rattle.buffa_map.specs.Codec.{Reading}
-use Rattle.buffa_map.specs.Scalars.{number_reading}
+use Rattle.buffa_map_base.specs.Scalars.{int32_reading}
 use Rattle.buffa_wire.specs.Message.{FieldTaken}
 use Rattle.buffa_wire.specs.Takes.{Taker}
 use Rattle.buffa_fields_base.specs.Layout.{both_take, passes}
 use Rattle.buffa_fields_base.specs.Values.{value_taken}
 use Rattle.buffa_samples.specs.Fields.{int32_field, skipped_field}
-
-abbrev pub int32_reading : Reading ℤ
-int32_reading = number_reading Varint (pos 0) int32_of
 
 abbrev pub flat_takes : Taker (ℤ × Unit {0})
 flat_takes = both_take 1 (value_taken int32_reading) passes

@@ -5,12 +5,12 @@ use Rattle.buffa_bytes.specs.declared.error.DecodeError.TheVariants.{ElementMemo
 use Rattle.buffa_wire.specs.BudgetLeft.{BudgetLeft, defaults}
 use Rattle.buffa_wire.specs.Enums.{Numbers}
 use Rattle.buffa_wire.specs.Records.{Held}
-use Rattle.buffa_map.specs.Codec.{Reading, Writing}
-use Rattle.buffa_map.specs.Enums.{ClosedFits, closed_reading, closed_writing}
-use Rattle.buffa_map.specs.Merge.{ReadsRun, Rules, StopsRun, keeping, state}
-use Rattle.buffa_map.specs.Pairs.{SamePairs}
+use Rattle.buffa_map_base.specs.Codec.{Reading, Writing}
+use Rattle.buffa_map_base.specs.Enums.{ClosedFits, closed_reading, closed_writing}
+use Rattle.buffa_map_base.specs.Merge.{ReadsRun, Rules, StopsRun, keeping, state}
+use Rattle.buffa_map_base.specs.Pairs.{SamePairs}
 use Rattle.buffa_map.specs.Rewrite.{MatchRefusal, Ordered, RefusesBytes, RefusesOutput, RewritesRun}
-use Rattle.buffa_map.specs.Run.{EntryRecord, Run, fold_entries, undeclared_records}
+use Rattle.buffa_map_base.specs.Run.{EntryRecord, Run, fold_entries, undeclared_records}
 use Rattle.buffa_map.specs.declared.rewrite.RewriteError.{RewriteError}
 use Rattle.buffa_samples.specs.declared.passed_on.PassFault.{PassFault}
 use Rattle.buffa_samples.specs.declared.passed_on.PassFault.TheVariants.{Decode, Rewrite}
@@ -81,7 +81,7 @@ module _ {K : Type 0} (p : Proxy K) (KeyFits : K → Type 0) (d n : ℕ) (bytes 
 
   -- the older reader read the bytes from the default budget, filled are the pairs that they make of the empty map, and out is
   -- a rewrite of the run
-  pub record IsRewritten (filled : List (K × ℤ)) (out : List ℕ) : Type 0 where
+  pub record IsRewrittenByOlder (filled : List (K × ℤ)) (out : List ℕ) : Type 0 where
     pub left : BudgetLeft
     pub rewrites : RewritesRun (p.older d n) p.key closed_writing KeyFits (ClosedFits p.numbers) (λ _. Unit {0}) defaults bytes filled left [] [] out 0 0
 
@@ -89,7 +89,7 @@ module _ {K : Type 0} (p : Proxy K) (KeyFits : K → Type 0) (d n : ℕ) (bytes 
   pub record ReadsRewrite (filled old : List (K × ℤ)) (before : Held) (new : List (K × ℤ)) (after : Held) : Type 0 where
     pub out : List ℕ
     pub over : BudgetLeft
-    pub rewritten : IsRewritten filled out
+    pub rewritten : IsRewrittenByOlder filled out
     pub reads : ReadsRun (p.newer d n) (state old before.records defaults) out (state new after.records over) []
 
   -- The bytes are a run to both readers, and the older one rewrote them. The newer one read the entries that begin the
@@ -100,6 +100,6 @@ module _ {K : Type 0} (p : Proxy K) (KeyFits : K → Type 0) (d n : ℕ) (bytes 
     pub over : BudgetLeft
     pub unread : List ℕ
     pub run : IsRun
-    pub rewritten : IsRewritten filled out
+    pub rewritten : IsRewrittenByOlder filled out
     pub stops : StopsRun (p.newer d n) (state old before.records defaults) out (state new after.records over) unread f
     pub short : IsShortage f

@@ -4,11 +4,11 @@ use Rattle.std.specs.Prelude.{◌≡◌, ◌≢◌, ℕ, ℤ, Bool, List}
 use Rattle.buffa_bytes.specs.declared.error.DecodeError.{DecodeError}
 use Rattle.buffa_bytes.specs.declared.error.DecodeError.TheVariants as decode
 use Rattle.buffa_bytes.specs.declared.error.EncodeError.TheVariants as encode
-use Rattle.buffa_map.specs.Codec.{Writing}
-use Rattle.buffa_map.specs.Pairs.{InOrder, SamePairs}
+use Rattle.buffa_map_base.specs.Codec.{Writing}
+use Rattle.buffa_map_base.specs.Pairs.{InOrder, SamePairs}
 use Rattle.buffa_wire.specs.Records.{Held}
 use Rattle.buffa_map.specs.Rewrite.{Ordered}
-use Rattle.buffa_map.specs.Run.{EntryRecord}
+use Rattle.buffa_map_base.specs.Run.{EntryRecord}
 use Rattle.buffa_map.specs.declared.rewrite.RewriteError.{RewriteError}
 use Rattle.buffa_map.specs.declared.rewrite.RewriteError.TheVariants as rewriting
 use Rattle.buffa_samples.specs.Passed.{IsRun, KeepsRun, MeansRun, NotRewritten, Proxy, ReadsRewrite, RunTo, Stopped}

@@ -5,11 +5,11 @@ use Rattle.buffa_bytes.specs.Scalars.{bool_of}
 use Rattle.buffa_bytes.specs.declared.wire_type.WireType.TheVariants.{Varint}
 use Rattle.buffa_bytes.specs.declared.error.DecodeError.TheVariants as decode
 use Rattle.buffa_bytes.specs.declared.error.EncodeError.TheVariants as encode
-use Rattle.buffa_map.specs.Codec.{Writing}
-use Rattle.buffa_map.specs.Scalars.{delimited_writing, number_reading, string_reading, varint_writing}
-use Rattle.buffa_map.specs.Pairs.{InOrder, ListsOnce}
-use Rattle.buffa_map.specs.Merge.{Rules, StopsRun, dropping, state}
-use Rattle.buffa_map.specs.Encoding.{HasEncoding, entry_encoding, field_encoding}
+use Rattle.buffa_map_base.specs.Codec.{Writing}
+use Rattle.buffa_map_base.specs.Scalars.{number_reading, text_reading, varint_writing}
+use Rattle.buffa_map_base.specs.Pairs.{InOrder, ListsOnce}
+use Rattle.buffa_map_base.specs.Merge.{Rules, StopsRun, dropping, state}
+use Rattle.buffa_map_base.specs.Encoding.{HasEncoding, entry_encoding, field_encoding}
 use Rattle.buffa_bytes.specs.declared.error.DecodeError.{DecodeError}
 use Rattle.buffa_wire.specs.BudgetLeft.{BudgetLeft, units}
 use Rattle.buffa_samples.specs.Letters.{same_letters}
@@ -48,9 +48,9 @@ IfUnwritten (Encode e) P = P
 IfUnwritten (Decode f) P = Unit {0}
 
 -- Q of the fault, if they couldn't be read
-abbrev pub IfUnread : TripFault → (DecodeError → Type 0) → Type 0
-IfUnread (Encode e) Q = Unit {0}
-IfUnread (Decode f) Q = Q f
+abbrev pub IfNotReadBack : TripFault → (DecodeError → Type 0) → Type 0
+IfNotReadBack (Encode e) Q = Unit {0}
+IfNotReadBack (Decode f) Q = Q f
 
 -- reading the field of the pairs of some walk into an empty map stopped at f, and left these pairs: those that the
 -- entries before it say
@@ -61,7 +61,7 @@ StopsInField {K} {V} r key val Walk left pairs f =
 
 -- the same, where the map was written, from the units that a budget starts with
 abbrev pub StopsTrip : {K V : Type 0} → Rules K V → Writing K → Writing V → (List (K × V) → Type 0) → List (K × V) → TripFault → Type 0
-StopsTrip r key val Walk pairs f = IfUnread f (StopsInField r key val Walk (units 268435456) pairs)
+StopsTrip r key val Walk pairs f = IfNotReadBack f (StopsInField r key val Walk (units 268435456) pairs)
 
 -- where the order is kept, these are the pairs of some walk, in its order
 abbrev pub InWalkOrder : {X : Type 0} → Bool → (List X → Type 0) → List X → Type 0
@@ -69,10 +69,7 @@ InWalkOrder {X} keeps Walk pairs = (l : List X) × Walk l × InOrder keeps l pai
 
 -- words as keys of flags, in a map whose order is open: how both are read in field 1, and how each is written
 abbrev pub word_rules : Rules (List ℕ) Bool
-word_rules = dropping (string_reading [] (λ text. text)) (number_reading Varint false bool_of) same_letters false 0 1 25
-
-abbrev pub word_writing : Writing (List ℕ)
-word_writing = delimited_writing (λ text. text)
+word_rules = dropping text_reading (number_reading Varint false bool_of) same_letters false 0 1 25
 
 abbrev pub flag_writing : Writing Bool
 flag_writing = varint_writing from_bool

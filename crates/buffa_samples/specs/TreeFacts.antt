@@ -8,16 +8,16 @@ use Rattle.buffa_bytes.specs.declared.error.DecodeError.TheVariants.{WireTypeMis
 use Rattle.buffa_bytes.specs.declared.wire_type.WireType.{WireType}
 use Rattle.buffa_bytes.specs.declared.wire_type.WireType.TheVariants.{Varint, Fixed64, LengthDelimited, StartGroup, EndGroup, Fixed32}
 use Rattle.buffa_wire.proofs.MessageLemmas.{NoLimit, length_no_limit}
-use Rattle.buffa_bytes.specs.Content.{bytes_in}
 use Rattle.buffa_wire.specs.BudgetLeft.{BudgetLeft, Lacks, nothing, plus, unknown_fields}
 use Rattle.buffa_wire.specs.Message.{cost_in, merged_in}
 use Rattle.buffa_wire.specs.Encoding.{records_encoding}
+use Rattle.buffa_map.proofs.ChildrenLemmas.{child_limits, children_encoding_records}
+use Rattle.buffa_map_base.specs.Scalars.{int32_reading}
+use Rattle.buffa_map.specs.Children.{ChildCost, ChildMeaning, child_reading, children_encoding, children_records}
 use Rattle.buffa_bytes.specs.Varint.{IsVarint}
 use Rattle.buffa_wire.proofs.SequenceLemmas.{ok_same}
-use Rattle.buffa_map.proofs.EntryLemmas.{check_sound, entry_sound}
-use Rattle.buffa_map.proofs.NeedLemmas.{entry_limited}
-use Rattle.buffa_map.specs.Entry.{FaultOf, entry_of, need_of}
-use Rattle.buffa_map.specs.MessageFacts.{meant_no_limit}
+use Rattle.buffa_map_base.proofs.EntryLemmas.{check_sound, entry_sound}
+use Rattle.buffa_map_base.specs.Entry.{FaultOf, entry_of, need_of}
 use Rattle.buffa_map.specs.declared.map_entry.MapEntry.{MapEntry}
 use Rattle.buffa_wire.proofs.TakesLemmas.{cost_by_is, merged_by_is}
 use Rattle.buffa_wire.specs.ByField.{FieldReader}
@@ -25,9 +25,9 @@ use Rattle.buffa_wire.specs.Takes.{Stays, cost_of, merged_of}
 use Rattle.buffa_samples.specs.Fields.{int32_field, skipped_field, value_encoding, value_records}
 use Rattle.buffa_wire.proofs.ByFieldLemmas.{IsSame, IsSound, Same}
 use Rattle.buffa_samples.specs.FieldsFacts.{both_records, int32_same, int32_sound, number_encoding_records, same_if, skipped_same, skipped_sound}
-use Rattle.buffa_samples.specs.Grown.{Grown, grown, Kids, no_kids, kid}
-use Rattle.buffa_samples.specs.TreeMeaning.{ChildCost, ChildMeaning, child_at, child_field, child_need, child_reading, cost, key_reading, merged, need, takes, tree_field, tree_need, with_child, with_label}
-use Rattle.buffa_samples.specs.TreeEncoding.{kid_record, kids_records, records, encoding, kids_encoding}
+use Rattle.buffa_samples.specs.Grown.{Grown, blank_tree, grown}
+use Rattle.buffa_samples.specs.TreeMeaning.{child_at, child_field, child_need, tree_cost, tree_merged, tree_need, tree_takes, tree_field, tree_field_need, with_child, with_label}
+use Rattle.buffa_samples.specs.TreeEncoding.{tree_encoding, tree_records, tree_around}
 
 lacks_itself : (a : BudgetLeft) → Lacks a a → ⊥
 lacks_itself a (inl h) = omega (arith, h)
@@ -38,17 +38,16 @@ lacks_not a (inl h) = omega (arith, h)
 lacks_not a (inr h) = omega (arith, h)
 
 -- ---- a child's field
-module _ (d : ℕ) (m : ChildMeaning) where
+module _ (d : ℕ) (m : ChildMeaning Grown) where
   -- the fault of an entry is no limit's
-  pub entry_no_limit : (bs e rest : List ℕ) → TakesDelimited bs e rest → (f : DecodeError) → FaultOf key_reading (child_reading m (λ _. nothing)) d e f → NoLimit f
+  pub entry_no_limit : (bs e rest : List ℕ) → TakesDelimited bs e rest → (f : DecodeError) → FaultOf int32_reading (child_reading blank_tree m (λ _. nothing)) d e f → NoLimit f
   entry_no_limit bs e rest (t, v, is) f h l =
-      let need = need_of key_reading (child_reading m (λ _. nothing)) d 0 e in
-      let u = entry_limited key_reading (child_reading m (λ _. nothing)) d (λ k old c x q. cc) (λ k old c x q. meant_no_limit (merged_in (λ _. m) k old (bytes_in c)) x q)
-      0 0 need bs f (inr (t, e, rest, v, is, inr (omega arith, inr (inl h)))) l in
+      let needed = need_of int32_reading (child_reading blank_tree m (λ _. nothing)) d 0 e in
+      let u = child_limits blank_tree (λ _. m) (λ _ _. nothing) d 0 0 needed bs f (inr (t, e, rest, v, is, inr (omega arith, inr (inl h)))) l in
       let same : u.0 ≡ e = ap (λ z. z.0) (ok_same (sym (delimited_taken bs u.0 u.1 u.2) ∙ delimited_taken bs e rest (t, v, is))) in
       elim u.3 [
-        | inl k ↦ lacks_itself need (subst (λ z. Lacks need (need_of key_reading (child_reading m (λ _. nothing)) d 0 z)) same k)
-        | inr k ↦ lacks_not need (subst (λ z. Lacks need (plus (need_of key_reading (child_reading m (λ _. nothing)) d 0 z) (unknown_fields 0))) same k.3)
+        | inl k ↦ lacks_itself needed (subst (λ z. Lacks needed (need_of int32_reading (child_reading blank_tree m (λ _. nothing)) d 0 z)) same k)
+        | inr k ↦ lacks_not needed (subst (λ z. Lacks needed (plus (need_of int32_reading (child_reading blank_tree m (λ _. nothing)) d 0 z) (unknown_fields 0))) same k.3)
       ]
 
   mismatch : (w : WireType) (e : DecodeError) → e ≡ WireTypeMismatch 2 LengthDelimited w → NoLimit e
@@ -56,7 +55,7 @@ module _ (d : ℕ) (m : ChildMeaning) where
 
   pub said_sound : (n : ℕ) (bs : List ℕ) → Agrees (child_at d m bs) (λ x. (p : List ℕ) × Payload d n LengthDelimited p × (bs ≡ p ++ x.1)) NoLimit
   said_sound n bs = agree_bind (delimited_sound bs)
-      (λ e u. agree_bind (entry_sound key_reading (child_reading m (λ _. nothing)) d e.0)
+      (λ e u. agree_bind (entry_sound int32_reading (child_reading blank_tree m (λ _. nothing)) d e.0)
       (λ s _. record { holds = (u.0 ++ e.0, (u.0, e.0, u.1, refl), u.2 ∙ sym (append_assoc u.0 e.0 e.1)) })
       (λ f h. entry_no_limit bs e.0 e.1 u f h))
       (λ e h. length_no_limit bs e h)
@@ -68,12 +67,12 @@ module _ (d : ℕ) (m : ChildMeaning) where
       (λ e h. h))
       (λ e h. mismatch w e h.1)
 
-  read_by : (t : Grown) (p v body : List ℕ) → IsVarint v (length body) → p ≡ v ++ body → (r : Result (MapEntry _ Grown) DecodeError) → entry_of key_reading (child_reading m (λ _. nothing)) d body ≡ r → Same (child_field d m t LengthDelimited) p
+  read_by : (t : Grown) (p v body : List ℕ) → IsVarint v (length body) → p ≡ v ++ body → (r : Result (MapEntry _ Grown) DecodeError) → entry_of int32_reading (child_reading blank_tree m (λ _. nothing)) d body ≡ r → Same (child_field d m t LengthDelimited) p
   read_by t p v body h is (Ok s) k = inl (with_child t s.key s.value, λ x. rw (delimited_taken (p ++ x) body x (v, h, ap (λ z. z ++ x) is ∙ append_assoc v body x), k) refl)
   read_by t p v body h is (Err e) k = inr (e, λ x. rw (delimited_taken (p ++ x) body x (v, h, ap (λ z. z ++ x) is ∙ append_assoc v body x), k) refl)
 
   child_same : (t : Grown) (n : ℕ) (w : WireType) (p : List ℕ) → Payload d n w p → Same (child_field d m t w) p
-  child_same t n LengthDelimited p (v, body, h, is) = read_by t p v body h is (entry_of key_reading (child_reading m (λ _. nothing)) d body) refl
+  child_same t n LengthDelimited p (v, body, h, is) = read_by t p v body h is (entry_of int32_reading (child_reading blank_tree m (λ _. nothing)) d body) refl
   child_same t n Varint p h = inr (WireTypeMismatch 2 LengthDelimited Varint, λ x. refl)
   child_same t n Fixed64 p h = inr (WireTypeMismatch 2 LengthDelimited Fixed64, λ x. refl)
   child_same t n StartGroup p h = inr (WireTypeMismatch 2 LengthDelimited StartGroup, λ x. refl)
@@ -103,28 +102,25 @@ module _ (d : ℕ) (m : ChildMeaning) where
     if_same : (b : Bool) (x y : BudgetLeft) → x ≡ y → (if b then x else nothing) ≡ (if b then y else nothing)
     if_same b x y h = ap (λ z. if b then z else nothing) h
 
-    pub tree_stays : (n : ℕ) (w : WireType) (p x : List ℕ) → Payload d n w p → tree_need d m c n w (p ++ x) ≡ tree_need d m c n w p
-    tree_stays n w p x h = if_same (n == 2) (child_need d m c w (p ++ x)) (child_need d m c w p) (child_stays n w p x h)
+    pub tree_field_stays : (n : ℕ) (w : WireType) (p x : List ℕ) → Payload d n w p → tree_field_need d m c n w (p ++ x) ≡ tree_field_need d m c n w p
+    tree_field_stays n w p x h = if_same (n == 2) (child_need d m c w (p ++ x)) (child_need d m c w p) (child_stays n w p x h)
 
 -- ---- all bytes mean, and cost, what payloads do
 abbrev reader : ℕ → FieldReader Grown
-reader d = tree_field d (merged_in merged d)
+reader d = tree_field d (merged_in tree_merged d)
 
-pub stays : Stays need
-stays d = tree_stays d (merged_in merged d) (cost_in cost d)
+pub tree_need_stays : Stays tree_need
+tree_need_stays d = tree_field_stays d (merged_in tree_merged d) (cost_in tree_cost d)
 
-pub merged_is : (d : ℕ) (v : Grown) (b : List ℕ) → merged d v b ≡ merged_of takes d v b
-merged_is zero = merged_by_is reader (λ d. tree_sound d (merged_in merged d)) (λ d. tree_same d (merged_in merged d)) zero
-merged_is (suc d) = merged_by_is reader (λ d. tree_sound d (merged_in merged d)) (λ d. tree_same d (merged_in merged d)) (suc d)
+pub tree_merged_is : (d : ℕ) (v : Grown) (b : List ℕ) → tree_merged d v b ≡ merged_of tree_takes d v b
+tree_merged_is zero = merged_by_is reader (λ d. tree_sound d (merged_in tree_merged d)) (λ d. tree_same d (merged_in tree_merged d)) zero
+tree_merged_is (suc d) = merged_by_is reader (λ d. tree_sound d (merged_in tree_merged d)) (λ d. tree_same d (merged_in tree_merged d)) (suc d)
 
-pub cost_is : (d : ℕ) (b : List ℕ) → cost d b ≡ cost_of need d b
-cost_is zero = cost_by_is need zero
-cost_is (suc d) = cost_by_is need (suc d)
+pub tree_cost_is : (d : ℕ) (b : List ℕ) → tree_cost d b ≡ cost_of tree_need d b
+tree_cost_is zero = cost_by_is tree_need zero
+tree_cost_is (suc d) = cost_by_is tree_need (suc d)
 
 -- ---- the encoding is that of records
-kids_encoding_records : (ks : Kids) → kids_encoding ks ≡ records_encoding (kids_records ks)
-kids_encoding_records no_kids = refl
-kids_encoding_records (kid k t ks) = ap (λ (z : List ℕ). kid_record k (encoding t) ++ z) (kids_encoding_records ks)
-
-pub encoding_records : (t : Grown) → encoding t ≡ records_encoding (records t)
-encoding_records (grown l ks) = both_records (value_encoding l) (kids_encoding ks) (value_records l) (kids_records ks) (number_encoding_records 1 l) (kids_encoding_records ks)
+pub tree_encoding_records : (t : Grown) → tree_encoding t ≡ records_encoding (tree_records t)
+tree_encoding_records (grown l cs) =
+    both_records (value_encoding l) (children_encoding 2 tree_around cs) (value_records l) (children_records tree_encoding 2 cs) (number_encoding_records 1 l) (children_encoding_records 2 tree_around cs)

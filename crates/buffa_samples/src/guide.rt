@@ -1,8 +1,9 @@
 //! The worked example of docs/GUIDE.md: a message type with a map field.
 
 ghost use Rattle.std.specs.Prelude.{◌≡◌, []};
-ghost use Rattle.buffa_map.specs.Encoding.{UsesRoomOf, WritesField, field_size, field_encoding, saturated};
-ghost use Rattle.buffa_samples.specs.Inventory.{counted, name_writing, number_writing};
+ghost use Rattle.buffa_map_base.specs.Encoding.{UsesRoomOf, WritesField, field_size, field_encoding, saturated};
+ghost use Rattle.buffa_samples.specs.Inventory.{counts_by_name};
+ghost use Rattle.buffa_map_base.specs.Scalars.{int32_writing, text_writing};
 
 use buffa_map::map_codec::{Int32, Map, Str, field_len, merge_entry, write_field};
 use buffa_wire::{
@@ -42,7 +43,7 @@ impl Inventory {
     /// assert_eq!(rt; inventory.encoded_len(), 14);
     /// ```
     pub fn encoded_len(&self) -> u64
-        ensures { result ≡ saturated (field_size name_writing number_writing 1 (counted self.now.counts.entries)) }
+        ensures { result ≡ saturated (field_size text_writing int32_writing 1 (counts_by_name self.now.counts.entries)) }
     {
         field_len::<Str, Int32, _>(&self.counts, 1)
     }
@@ -53,10 +54,10 @@ impl Inventory {
     /// inventory.write(&mut sink)?;
     /// ```
     pub fn write<S: EncodeSink>(&self, sink: &mut S) -> Result<(), EncodeError>
-        ensures writes { WritesField name_writing number_writing 5 (S.written sink.old) (S.written sink.new) result
-            (counted self.now.counts.entries) }
+        ensures writes { WritesField text_writing int32_writing 5 (S.written sink.old) (S.written sink.new) result
+            (counts_by_name self.now.counts.entries) }
         ensures room { UsesRoomOf result (S.room sink.old)
-            (field_encoding name_writing number_writing 5 (counted self.now.counts.entries)) (S.room sink.new) }
+            (field_encoding text_writing int32_writing 5 (counts_by_name self.now.counts.entries)) (S.room sink.new) }
     {
         write_field::<Str, Int32, _, _>(&self.counts, 5, sink)
     }

@@ -1,4 +1,4 @@
-//! A message that keeps every field.
+//! `BudgetMsg`, a message that declares no field and keeps each.
 
 ghost use Rattle.std.proofs.Common.{lit<, refl};
 ghost use Rattle.buffa_fields_base.specs.Members.{keep};

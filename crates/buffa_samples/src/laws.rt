@@ -1,4 +1,5 @@
-//! What the definitions of the samples say together: laws, as in [`laws`](buffa_wire).
+//! What the definitions of the samples say together: each law is a function with nothing to do, whose contract is the
+//! law.
 
 ghost use Rattle.std.specs.Prelude.{◌≡◌, ◌↔◌, ◌<◌, ◌+◌, ◌^◌, ℕ, FitsSigned, List, [], ◌∷◌, ◌++◌, None, Some, map, pos, string_bytes};
 ghost use Rattle.std.specs.Hash as fed;
@@ -15,14 +16,15 @@ ghost use Rattle.buffa_wire.specs.Records.{Datum, height};
 ghost use Rattle.buffa_wire.specs.Encoding.{records_encoding};
 ghost use Rattle.buffa_samples.specs.Count.{count_cost, count_merged, count_records, count_encoding};
 ghost use Rattle.buffa_samples.specs.Fields.{number_encoding, number_records, value_encoding, value_field, value_records};
-ghost use Rattle.buffa_samples.specs.Grown.{Grown, grown, kids, no_kids};
+ghost use Rattle.buffa_map.specs.Children.{children_in, no_child};
+ghost use Rattle.buffa_samples.specs.Grown.{Grown, grown};
 ghost use Rattle.buffa_samples.specs.Hues.{first_numbers};
 ghost use Rattle.buffa_samples.specs.Letters.{lower, same_letters};
 ghost use Rattle.buffa_samples.specs.Numbers.{ReadsAlone, flat_takes, two_field, two_takes};
 ghost use Rattle.buffa_samples.specs.Passed.{proxy};
 ghost use Rattle.buffa_samples.specs.Pinned.{PassIsPinned, TripIsPinned};
-ghost use Rattle.buffa_samples.specs.TreeMeaning.{cost, merged};
-ghost use Rattle.buffa_samples.specs.TreeEncoding.{IsNormal, encoding, levels, records, slots};
+ghost use Rattle.buffa_samples.specs.TreeMeaning.{tree_cost, tree_merged};
+ghost use Rattle.buffa_samples.specs.TreeEncoding.{IsNormalTree, tree_encoding, tree_levels, tree_records, tree_slots};
 
 use crate::count::CountMsg;
 use crate::flat::FlatMsg;
@@ -42,8 +44,9 @@ use std::hash::Hash;
 /// What bytes make of a normal tree is normal, and so is the blank one: in every map the keys ascend, and labels and
 /// keys are int32.
 pub fn trees_stay_normal()
-    ensures merged { (d : ℕ) (t u : Grown) (bs : List ℕ) → IsNormal t → merged d t bs ≡ Some u → IsNormal u }
-    ensures blank { IsNormal ⟦<Tree as Blank>⟧.blank_is }
+    ensures merged { (d : ℕ) (t u : Grown) (bs : List ℕ) → IsNormalTree t → tree_merged d t bs ≡ Some u →
+        IsNormalTree u }
+    ensures blank { IsNormalTree ⟦<Tree as Blank>⟧.blank_is }
 {}
 
 /// Which message each sample is: what bytes make of it, what they cost, and its encoding. Nothing is open.
@@ -60,9 +63,9 @@ pub fn messages_are_these()
     ensures keep { (⟦<BudgetMsg as MessageSpec>⟧.merged ≡ merged_of keep_takes)
         × (⟦<BudgetMsg as MessageSpec>⟧.cost ≡ cost_of keep_need) }
     ensures keep_encoding { ⟦<BudgetMsg as MessageSpec>⟧.encoding ≡ records_encoding }
-    ensures tree { (⟦<Tree as MessageSpec>⟧.merged ≡ merged) × (⟦<Tree as MessageSpec>⟧.cost ≡ cost) }
-    ensures tree_encoding { ⟦<Tree as MessageSpec>⟧.encoding ≡ encoding }
-    ensures tree_slots { ⟦<Tree as MessageSpec>⟧.slots ≡ slots }
+    ensures tree { (⟦<Tree as MessageSpec>⟧.merged ≡ tree_merged) × (⟦<Tree as MessageSpec>⟧.cost ≡ tree_cost) }
+    ensures tree_encoding { ⟦<Tree as MessageSpec>⟧.encoding ≡ tree_encoding }
+    ensures tree_slots { ⟦<Tree as MessageSpec>⟧.slots ≡ tree_slots }
     ensures numbers_slots { (⟦<FlatMsg as MessageSpec>⟧.slots ≡ (λ _. [])) × (⟦<TestMsg as MessageSpec>⟧.slots ≡ (λ _. [])) }
     ensures lists_slots { (⟦<CountMsg as MessageSpec>⟧.slots ≡ (λ _. [])) × (⟦<BudgetMsg as MessageSpec>⟧.slots ≡ (λ _. [])) }
     ensures numbers_cost { (⟦<FlatMsg as MessageSpec>⟧.COST ≡ 4) × (⟦<TestMsg as MessageSpec>⟧.COST ≡ 32) }
@@ -73,7 +76,7 @@ pub fn messages_are_these()
         ≡ number_records 1 v.0 ++ number_records 2 v.1.0 }
     ensures lists_records { (⟦<CountMsg as MessageSpec>⟧.records ≡ count_records)
         × (⟦<BudgetMsg as MessageSpec>⟧.records ≡ (λ rs. rs)) }
-    ensures tree_records { ⟦<Tree as MessageSpec>⟧.records ≡ records }
+    ensures tree_records { ⟦<Tree as MessageSpec>⟧.records ≡ tree_records }
 {}
 
 /// What the values of the samples of numbers mean: their fields. Nothing is open.
@@ -87,14 +90,14 @@ pub fn messages_mean_these()
 
 /// What a tree means is what its fields hold: its label, and its children by their keys. Nothing is open.
 pub fn trees_hold_these(tree: &Tree) -> (&i32, &BTreeMap<i32, Tree>)
-    ensures { tree.now ≡ grown result.0.now (kids result.1.now.entries) }
+    ensures { tree.now ≡ grown result.0.now (children_in result.1.now.entries) }
 {
     (&tree.label, &tree.children)
 }
 
-/// A field of the samples of numbers is merged as its bytes say, or refused by its fault, and changes nothing then; nothing
-/// is spent. Where fields are kept, each is, or is refused so. Open is what stands unread of a number that is refused, and
-/// where memory runs out.
+/// A field of the samples of numbers is merged as its bytes say, or refused by its fault, and changes nothing then;
+/// nothing is spent. Where fields are kept, each is, or is refused so. Open is what is unread of a number that is
+/// refused, and where memory runs out.
 pub fn fields_are_read_alone()
     ensures flat { ReadsAlone ⟦<FlatMsg as Fields>⟧.layout.Taken value_field (λ m. m.value) }
     ensures two { ReadsAlone ⟦<TestMsg as Fields>⟧.layout.Taken two_field (λ m. (m.a, m.b)) }
@@ -107,14 +110,14 @@ pub fn messages_are_read_back(flat: &FlatMsg, two: &TestMsg)
     ensures two { (v : _) → ⟦<TestMsg as MessageSpec>⟧.normal v ↔ (FitsSigned w32 v.0 × FitsSigned w32 v.1.0) }
     ensures count { (n : ℕ) → ⟦<CountMsg as MessageSpec>⟧.normal n ↔ (n < 2 ^ 64) }
     ensures keep { (rs : List (ℕ × Datum)) → ⟦<BudgetMsg as MessageSpec>⟧.normal rs }
-    ensures tree { (t : Grown) → ⟦<Tree as MessageSpec>⟧.normal t ↔ IsNormal t }
-    ensures deep { (⟦<BudgetMsg as MessageSpec>⟧.levels ≡ height) × (⟦<Tree as MessageSpec>⟧.levels ≡ levels) }
+    ensures tree { (t : Grown) → ⟦<Tree as MessageSpec>⟧.normal t ↔ IsNormalTree t }
+    ensures deep { (⟦<BudgetMsg as MessageSpec>⟧.levels ≡ height) × (⟦<Tree as MessageSpec>⟧.levels ≡ tree_levels) }
     ensures flat_levels { (⟦<FlatMsg as MessageSpec>⟧.levels ≡ (λ _. 0)) × (⟦<TestMsg as MessageSpec>⟧.levels ≡ (λ _. 0))
         × (⟦<CountMsg as MessageSpec>⟧.levels ≡ (λ _. 0)) }
     ensures blank { (⟦<FlatMsg as Blank>⟧.blank_is ≡ (pos 0, tt))
         × (⟦<TestMsg as Blank>⟧.blank_is ≡ (pos 0, (pos 0, tt))) }
     ensures blank_lists { (⟦<CountMsg as Blank>⟧.blank_is ≡ 0) × (⟦<BudgetMsg as Blank>⟧.blank_is ≡ []) }
-    ensures blank_tree { ⟦<Tree as Blank>⟧.blank_is ≡ grown (pos 0) no_kids }
+    ensures blank_tree { ⟦<Tree as Blank>⟧.blank_is ≡ grown (pos 0) no_child }
 {
     members_read_back(flat);
     members_read_back(two);
@@ -143,9 +146,9 @@ pub fn words_are_these()
     ensures text { (t : List ℕ) → (⟦<Word as ProtoString>⟧.text t ≡ t) × (⟦<Word as ProtoString>⟧.of_text t ≡ t) }
 {}
 
-/// A map comes through its bytes in one way only: two copies hold the same pairs, and where an order is kept they are one
-/// list; what came back can't have been refused, memory aside, and there is one fault. Open is where memory runs out; after
-/// a refused read, which walk was written; and which equal pairs stand first where no order is kept.
+/// A map comes through its bytes in one way only: two copies hold the same pairs, and where an order is kept they are
+/// one list; what came back can't have been refused, memory aside, and there is one fault. Open is where memory runs
+/// out; after a refused read, which walk was written; and where no order is kept, the order of the pairs.
 pub fn trips_are_pinned<
     KC: MapCodec,
     VC: MapCodec,
@@ -168,9 +171,9 @@ pub fn ways_are_these<
         C.equal C.keeps_order D.equal D.keeps_order }
 {}
 
-/// A map field is passed on in one way only: the same entries are kept; where the run is ordered, or one walk was written,
-/// the map has the same pairs; and what was passed on can't have been refused, memory aside. Open is where memory runs
-/// out; and what a reading makes of another walk's encoding, and whether the budget lasts for it.
+/// A map field is passed on in one way only: the same entries are kept; where the run is ordered, or one walk was
+/// written, the map has the same pairs; and what was passed on can't have been refused, memory aside. Open is where
+/// memory runs out; and what a reading makes of another walk's encoding, and whether the budget lasts for it.
 pub fn passes_are_pinned<
     KC: MapCodec,
     E: Enumeration,

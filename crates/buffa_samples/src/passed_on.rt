@@ -3,7 +3,7 @@
 ghost use Rattle.std.specs.Prelude.{◌≡◌, ◌≤◌, IfErr, OnOk};
 ghost use Rattle.buffa_wire.specs.Enums.{Refines, numbers};
 ghost use Rattle.buffa_bytes.specs.Number.{IsNumber};
-ghost use Rattle.buffa_map.specs.Lent.{room_of};
+ghost use Rattle.buffa_map_base.specs.Lent.{room_of};
 ghost use Rattle.buffa_samples.specs.Passed.{IfRefused, IfUnread, IsRun, KeepsRun, MeansRun, NotRewritten, Proxy, ReadsRewrite, Stopped, proxy};
 
 use buffa_map::laws::{
@@ -32,15 +32,27 @@ pub enum PassFault {
     Decode(DecodeError),
 }
 
-/// Names the two readers of a proxy, for the contract of [`passed_on`] alone: the codec of keys, the enums of the older one
-/// and of the newer one, and the maps of both.
+/// Names the two readers of a proxy, for the contract of [`passed_on`] alone: the codec of keys, the enums of the older
+/// one and of the newer one, and the maps of both.
+///
+/// ```ignore
+/// ensures runs { OnOk result (IsRun ⟦<Pass<KC, E, F, C, D> as Way>⟧.way KC.fits depth number bytes.now) }
+/// ```
 pub struct Pass<KC, E, F, C, D> {
     of: PhantomData<(KC, E, F, C, D)>,
 }
 
 /// What a proxy is: a word of contracts, with nothing to call.
+///
+/// ```ignore
+/// ensures runs { OnOk result (IsRun ⟦<Pass<KC, E, F, C, D> as Way>⟧.way KC.fits depth number bytes.now) }
+/// ```
 pub trait Way {
     /// The type of the keys.
+    ///
+    /// ```ignore
+    /// type Key = KC::Value;
+    /// ```
     type Key: Blank;
 
     /// How both readers read, and how keys are written.

@@ -2,11 +2,12 @@
 
 ghost use Rattle.std.specs.Prelude.{◌≡◌, ◌+◌, [], IfErr, OnOk, IsPermutation};
 ghost use Rattle.buffa_bytes.specs.Number.{IsNumber};
-ghost use Rattle.buffa_map.specs.Merge.{dropping};
-ghost use Rattle.buffa_map.specs.Pairs.{SamePairs};
-ghost use Rattle.buffa_map.specs.Encoding.{AllHold};
+ghost use Rattle.buffa_map_base.specs.Merge.{dropping};
+ghost use Rattle.buffa_map_base.specs.Pairs.{SamePairs};
+ghost use Rattle.buffa_map_base.specs.Encoding.{AllHold};
 ghost use Rattle.buffa_samples.specs.Letters.{same_letters, spelled};
-ghost use Rattle.buffa_samples.specs.RoundTrip.{EachWalk, FitsTrip, IfUnwritten, InWalkOrder, RefusesTrip, StopsTrip, flag_writing, word_rules, word_writing};
+ghost use Rattle.buffa_samples.specs.RoundTrip.{EachWalk, FitsTrip, IfUnwritten, InWalkOrder, RefusesTrip, StopsTrip, flag_writing, word_rules};
+ghost use Rattle.buffa_map_base.specs.Scalars.{text_writing};
 
 use crate::word::Word;
 use buffa_map::laws::{one_reading, plain_entries_need_units, written_is_read};
@@ -98,12 +99,12 @@ pub fn words_through_bytes(
 ) -> Result<(), TripFault>
     requires { copy.old.entries ≡ [] }
     ensures ok { OnOk result (SamePairs same_letters (spelled words.now.entries) (spelled copy.new.entries)) }
-    ensures fits { OnOk result (FitsTrip word_writing flag_writing 25 same_letters (spelled words.now.entries)
+    ensures fits { OnOk result (FitsTrip text_writing flag_writing 25 same_letters (spelled words.now.entries)
         (IsPermutation (spelled words.now.entries))) }
-    ensures err { IfErr result (RefusesTrip word_writing flag_writing 25 same_letters (spelled words.now.entries)
+    ensures err { IfErr result (RefusesTrip text_writing flag_writing 25 same_letters (spelled words.now.entries)
         (IsPermutation (spelled words.now.entries))) }
     ensures kept { IfErr result (λ fault. IfUnwritten fault (copy.new ≡ copy.old)) }
-    ensures stops { IfErr result (StopsTrip word_rules word_writing flag_writing
+    ensures stops { IfErr result (StopsTrip word_rules text_writing flag_writing
         (IsPermutation (spelled words.now.entries)) (spelled copy.new.entries)) }
 {
     through_bytes::<ProtoStringMap<Word>, Bool, HashMap<Word, bool>>(alloc, 1, words, copy)

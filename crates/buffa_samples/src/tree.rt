@@ -4,11 +4,13 @@ ghost use Rattle.std.specs.Prelude.{OnErr, [], pos, ◌≡◌, ◌≢◌, ◌+�
 ghost use Rattle.buffa_wire.specs.Passes.{IsNext, IsSized};
 ghost use Rattle.std.specs.BTreeMap.{values};
 ghost use Rattle.std.specs.List.{Contains};
-ghost use Rattle.buffa_map.specs.MessageField.{IsFieldWritten, field_slots};
+ghost use Rattle.buffa_map_base.specs.MessageField.{IsFieldWritten, field_slots};
 ghost use Rattle.buffa_bytes.specs.Gives.{FullOnlyIf};
 ghost use Rattle.buffa_wire.specs.Message.{BeginsField, IsFieldMerged, IsMerged};
-ghost use Rattle.buffa_samples.specs.TreeMeaning.{IsChildMerged, cost, merged};
-ghost use Rattle.buffa_samples.specs.TreeEncoding.{IsTreeWritten, encoding, key_writing, meant, slots};
+ghost use Rattle.buffa_map_base.specs.Scalars.{int32_writing};
+ghost use Rattle.buffa_map.specs.Children.{meant_children};
+ghost use Rattle.buffa_samples.specs.TreeMeaning.{IsChildMerged, tree_cost, tree_merged};
+ghost use Rattle.buffa_samples.specs.TreeEncoding.{IsTreeWritten, tree_encoding, tree_slots};
 
 use crate::int32_field::{merge_value, number_len, write_number};
 use buffa_map::map_codec::{
@@ -36,30 +38,32 @@ pub struct Tree {
 }
 
 impl Model for Tree {
-    ghost use Rattle.buffa_samples.specs.Grown.{Grown, grown, grown_code, height, kids};
+    ghost use Rattle.buffa_map.specs.Children.{children_in, family_height};
+    ghost use Rattle.buffa_samples.specs.Grown.{Grown, grown, grown_code};
 
     ghost Value = { Grown };
 
     ghost coded = { grown_code };
 
-    ghost view = { λ t. grown t.label (kids t.children.entries) };
+    ghost view = { λ t. grown t.label (children_in t.children.entries) };
 
-    ghost size = { height };
+    ghost size = { family_height };
 
-    ghost use Rattle.buffa_samples.specs.GrownFacts.{most-heights};
+    ghost use Rattle.buffa_map.specs.ChildrenFacts.{most-heights};
     ghost use Rattle.std.proofs.Common.{arith};
 
     ghost size_decreases = { λ t h. omega (arith, most-heights t.children.entries) };
 }
 
 impl Blank for Tree {
-    ghost use Rattle.buffa_samples.specs.Grown.{grown, no_kids};
+    ghost use Rattle.buffa_map.specs.Children.{no_child};
+    ghost use Rattle.buffa_samples.specs.Grown.{grown};
 
     type Meaning = Tree;
 
     ghost meaning = { λ t. t };
 
-    ghost blank_is = { grown (pos 0) no_kids };
+    ghost blank_is = { grown (pos 0) no_child };
 
     fn blank(alloc: Global) -> Tree {
         Tree {
@@ -71,50 +75,50 @@ impl Blank for Tree {
 
 impl MessageSpec for Tree {
     ghost use Rattle.std.proofs.Common.{arith};
-    ghost use Rattle.buffa_samples.specs.TreeEncoding.{IsNormal, levels, records};
-    ghost use Rattle.buffa_samples.specs.TreeBackFacts.{back};
-    ghost use Rattle.buffa_samples.specs.TreeFacts.{cost_is, encoding_records, merged_is, stays};
-    ghost use Rattle.buffa_samples.specs.TreeMeaning.{need, takes};
+    ghost use Rattle.buffa_samples.specs.TreeEncoding.{IsNormalTree, tree_levels, tree_records};
+    ghost use Rattle.buffa_samples.specs.TreeBackFacts.{tree_back};
+    ghost use Rattle.buffa_samples.specs.TreeFacts.{tree_cost_is, tree_encoding_records, tree_merged_is, tree_need_stays};
+    ghost use Rattle.buffa_samples.specs.TreeMeaning.{tree_need, tree_takes};
 
     const COST: usize = 32;
 
     ghost COST = { 32 };
 
-    ghost takes = { takes };
+    ghost takes = { tree_takes };
 
-    ghost need = { need };
+    ghost need = { tree_need };
 
-    ghost merged = { merged };
+    ghost merged = { tree_merged };
 
-    ghost cost = { cost };
+    ghost cost = { tree_cost };
 
-    ghost encoding = { encoding };
+    ghost encoding = { tree_encoding };
 
-    ghost records = { records };
+    ghost records = { tree_records };
 
-    ghost slots = { slots };
+    ghost slots = { tree_slots };
 
-    ghost levels = { levels };
+    ghost levels = { tree_levels };
 
-    ghost normal = { IsNormal };
+    ghost normal = { IsNormalTree };
 
-    ghost encoding_records = { encoding_records };
+    ghost encoding_records = { tree_encoding_records };
 
-    ghost merged_encoding = { back };
+    ghost merged_encoding = { tree_back };
 
     ghost positive = { omega arith };
 
-    ghost stays = { stays };
+    ghost stays = { tree_need_stays };
 
-    ghost merged_is = { merged_is };
+    ghost merged_is = { tree_merged_is };
 
-    ghost cost_is = { cost_is };
+    ghost cost_is = { tree_cost_is };
 }
 
 impl Message for Tree {
     fn compute_size(&self, cache: &mut SizeCache) -> Result<u32, EncodeError>
-        ensures sized { IsSized (encoding self.now) (slots self.now) cache.old result cache.new }
-        ensures some { OnErr result (slots self.now ≢ []) }
+        ensures sized { IsSized (tree_encoding self.now) (tree_slots self.now) cache.old result cache.new }
+        ensures some { OnErr result (tree_slots self.now ≢ []) }
     {
         size_tree(self, cache)
     }
@@ -148,15 +152,15 @@ impl Message for Tree {
 /// let size = size_tree(child, cache);
 /// ```
 pub fn size_tree(tree: &Tree, cache: &mut SizeCache) -> Result<u32, EncodeError>
-    ensures sized { IsSized (encoding tree.now) (slots tree.now) cache.old result cache.new }
-    ensures some { OnErr result (slots tree.now ≢ []) }
+    ensures sized { IsSized (tree_encoding tree.now) (tree_slots tree.now) cache.old result cache.new }
+    ensures some { OnErr result (tree_slots tree.now ≢ []) }
 {
     let children = message_field_len_by::<Int32, Tree, BTreeMap<i32, Tree>, _>(
         &tree.children,
         1,
         cache,
         |child: &Tree, cache: &mut SizeCache| -> Result<u32, EncodeError>
-            ensures { IsSized (encoding child.now) (slots child.now) cache.old result cache.new }
+            ensures { IsSized (tree_encoding child.now) (tree_slots child.now) cache.old result cache.new }
         { size_tree(child, cache) },
     )?;
     let total = children.saturating_add(u64::from(number_len(1, &tree.label)));
@@ -165,7 +169,7 @@ pub fn size_tree(tree: &Tree, cache: &mut SizeCache) -> Result<u32, EncodeError>
 
 // The write pass of the children, by a function that writes a child. Its contract names no trait, so that the goals of
 // the recursion stay small.
-#[tactic(auto, using(crate::proofs::TreeSizeLemmas::meant_values))]
+#[tactic(auto, using(buffa_map::proofs::ChildrenLemmas::meant_values))]
 fn write_children_by<S: EncodeSink, F>(
     children: &BTreeMap<i32, Tree>,
     cache: &mut SizeCache,
@@ -174,13 +178,13 @@ fn write_children_by<S: EncodeSink, F>(
 ) -> Result<(), EncodeError>
 where
     F: Fn(&Tree, &mut SizeCache, &mut S) -> Result<(), EncodeError>,
-    requires next { IsNext (field_slots encoding slots (meant children.now.entries)) cache.old }
-    requires may { (x c s : _) → Contains (values children.now) x.now → IsNext (slots x.now) c.now →
+    requires next { IsNext (field_slots tree_encoding tree_slots (meant_children children.now.entries)) cache.old }
+    requires may { (x c s : _) → Contains (values children.now) x.now → IsNext (tree_slots x.now) c.now →
         F.pre write x c s }
     requires keeps { (x c s r d t : _) → Contains (values children.now) x.now →
         F.post write x c s r d t → IsTreeWritten x.now c.now (S.written s.now) r d.now (S.written t.now) }
-    ensures { IsFieldWritten key_writing encoding slots 2 (meant children.now.entries) cache.old (S.written sink.old)
-        result cache.new (S.written sink.new) }
+    ensures { IsFieldWritten int32_writing tree_encoding tree_slots 2 (meant_children children.now.entries) cache.old
+        (S.written sink.old) result cache.new (S.written sink.new) }
 {
     write_message_field_by::<Int32, Tree, BTreeMap<i32, Tree>, S, F>(
         children, 2, cache, sink, write,
@@ -197,7 +201,7 @@ pub fn write_tree<S: EncodeSink>(
     cache: &mut SizeCache,
     sink: &mut S,
 ) -> Result<(), EncodeError>
-    requires { IsNext (slots tree.now) cache.old }
+    requires { IsNext (tree_slots tree.now) cache.old }
     ensures { IsTreeWritten tree.now cache.old (S.written sink.old) result cache.new (S.written sink.new) }
 {
     write_number(1, &tree.label, sink)?;
@@ -206,7 +210,7 @@ pub fn write_tree<S: EncodeSink>(
         cache,
         sink,
         |child: &Tree, cache: &mut SizeCache, sink: &mut S| -> Result<(), EncodeError>
-            requires { IsNext (slots child.now) cache.old }
+            requires { IsNext (tree_slots child.now) cache.old }
             ensures { IsTreeWritten child.now cache.old (S.written sink.old) result cache.new (S.written sink.new) }
         { write_tree(child, cache, sink) },
     )
@@ -226,7 +230,7 @@ where
     F: Fn(&mut Tree, &[u8], u32, &mut Budget) -> Result<(), DecodeError>,
     requires may { (x : _) (b : _) (d : _) (w : _) → d + 1 ≡ depth → F.pre merge x b d w }
     requires keeps { (x : _) (b : _) (d : _) (w : _) (r : _) (y : _) (v : _) → d + 1 ≡ depth →
-        F.post merge x b d w r y v → IsMerged (merged d x.now b.now) (cost d b.now) w.now r y.now v.now }
+        F.post merge x b d w r y v → IsMerged (tree_merged d x.now b.now) (tree_cost d b.now) w.now r y.now v.now }
     ensures { IsChildMerged depth children.old.entries buf.old.now budget.old result children.new.entries budget.new
         buf.new.now }
 {
@@ -252,7 +256,7 @@ fn merge_tree_field(
     depth: u32,
     budget: &mut Budget,
 ) -> Result<(), DecodeError>
-    ensures merged { IsFieldMerged merged cost depth tree.old tag.number tag.wire_type buf.old.now budget.old result
+    ensures merged { IsFieldMerged tree_merged tree_cost depth tree.old tag.number tag.wire_type buf.old.now budget.old result
         tree.new budget.new buf.new.now }
     ensures full { FullOnlyIf result (tag.wire_type ≢ WireType.EndGroup) }
 {
@@ -267,7 +271,7 @@ fn merge_tree_field(
         depth,
         budget,
         |child: &mut Tree, bytes: &[u8], depth: u32, budget: &mut Budget| -> Result<(), DecodeError>
-            ensures { IsMerged (merged depth child.old bytes.now) (cost depth bytes.now) budget.old result child.new
+            ensures { IsMerged (tree_merged depth child.old bytes.now) (tree_cost depth bytes.now) budget.old result child.new
                 budget.new }
         { merge_tree(alloc, child, bytes, depth, budget) },
     )
@@ -290,7 +294,7 @@ pub fn merge_tree(
     depth: u32,
     budget: &mut Budget,
 ) -> Result<(), DecodeError>
-    ensures merged { IsMerged (merged depth tree.old bytes.now) (cost depth bytes.now) budget.old result tree.new
+    ensures merged { IsMerged (tree_merged depth tree.old bytes.now) (tree_cost depth bytes.now) budget.old result tree.new
         budget.new }
     ensures full { FullOnlyIf result (BeginsField bytes.now) }
 {

@@ -24,7 +24,7 @@ use Rattle.buffa_wire.proofs.TakesLemmas.{framed_at, framed_err}
 use Rattle.buffa_wire.proofs.LoopLemmas.{field_end}
 use Rattle.buffa_wire.specs.Kept.{keep_need, kept_record_at}
 use Rattle.buffa_bytes.specs.Front.{skip_at}
-use Rattle.buffa_set_msg.specs.Set.{IsRefused, TakesSetField, item_field, item_of, record_of_field, set_cost, set_field, set_merged, set_need, starts}
+use Rattle.buffa_set_msg.specs.Set.{IsSetFieldRefused, TakesSetField, item_field, item_of, record_of_field, set_cost, set_field, set_merged, set_need, starts}
 use Rattle.buffa_set_msg.specs.SetFacts.{set_same, set_sound, set_stays}
 
 start_no_end : (n : ℕ) (w : WireType) → starts n w ≡ true → w ≢ EndGroup
@@ -50,7 +50,7 @@ module _ (d s n : ℕ) (w : WireType) (bs : List ℕ) where
 
 -- ---- what it means for the records that there are
 
--- r is put behind the others, and of s unknown fields left are left
+-- r is put behind the others, and of s unknown fields left so many are left then
 abbrev Takes : ℕ → ℕ → ℕ → WireType → List ℕ → ℕ × Datum → ℕ → List ℕ → List (ℕ × Datum) → Type 0
 Takes d s n w bs r left rest v =
     (set_field d v n w bs ≡ Ok (v ++ r ∷ [], rest)) × (left + (set_need d n w bs).unknown ≡ s) × ((set_need d n w bs).memory ≡ 0)
@@ -135,7 +135,7 @@ module _ (d s n : ℕ) (w : WireType) (bs : List ℕ) where
   pub record_no_end : (x : (ℕ × Datum) × ℕ × List ℕ) → record_of_field d s n w bs ≡ Ok x → w ≢ EndGroup
   record_no_end x h = not_at_end_by (starts n w) refl (field_at d s n w bs) refl x h
 
-refusal : (d n : ℕ) (w : WireType) (bs : List ℕ) (v : List (ℕ × Datum)) (left : BudgetLeft) (e : DecodeError) → Refuses d n w bs v left e → record_of_field d left.unknown n w bs ≡ Err e → IsRefused d v n w bs left e
+refusal : (d n : ℕ) (w : WireType) (bs : List ℕ) (v : List (ℕ × Datum)) (left : BudgetLeft) (e : DecodeError) → Refuses d n w bs v left e → record_of_field d left.unknown n w bs ≡ Err e → IsSetFieldRefused d v n w bs left e
 refusal d n w bs v left e (inl few) read = (inl few, read)
 refusal d n w bs v left e (inr (x, bad, limit)) read = (inr (ap value_of bad, limit), read)
 

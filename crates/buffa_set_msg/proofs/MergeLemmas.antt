@@ -1,5 +1,5 @@
 -- Merging fields into a MessageSet, one after another, up to a refused one.
-use Rattle.std.proofs.Common.{◌≡◌, ◌≢◌, inl, inr, ℕ, ◌+◌, ◌<◌, List, [], ◌++◌, length, Option, Some, None, Result, Ok, Err, refl, sym, ap, subst, ◌∙◌, arith, append_assoc, length-append}
+use Rattle.std.proofs.Common.{◌≡◌, ◌≢◌, inl, inr, ℕ, ◌<◌, List, [], ◌++◌, length, Option, Some, None, Result, Ok, Err, refl, sym, ap, subst, ◌∙◌, arith, append_assoc, length-append}
 use Rattle.std.specs.Option.{option_and_then}
 use Rattle.buffa_bytes.proofs.FieldLemmas.{tag_some, tag_sound}
 use Rattle.buffa_bytes.proofs.StepLemmas.{agree_ok}
@@ -21,7 +21,7 @@ use Rattle.buffa_wire.specs.Records.{Datum}
 use Rattle.buffa_wire.proofs.CostLemmas.{cost_tagged, field_alone}
 use Rattle.buffa_wire.specs.ByField.{value_of}
 use Rattle.buffa_wire.proofs.ByFieldLemmas.{refused, taken}
-use Rattle.buffa_set_msg.specs.Set.{IsRefused, NextIsRefused, StopsBehind, set_cost, set_field, set_merged, set_need}
+use Rattle.buffa_set_msg.specs.Set.{IsSetFieldRefused, NextIsRefused, StopsBehind, set_cost, set_field, set_merged, set_need}
 use Rattle.buffa_set_msg.specs.SetFacts.{set_same, set_sound, set_stays}
 
 abbrev Values : Type 0
@@ -98,7 +98,7 @@ module _ (d : ℕ) where
       few c is (inl h) = inl (omega (arith, h, came.pays.0, ap (λ z. z.unknown) costs, ap (λ z. z.unknown) is))
       few c is (inr h) = inr (omega (arith, h, came.pays.1, ap (λ z. z.memory) costs, ap (λ z. z.memory) is))
 
-      refused_field : (e : DecodeError) → IsRefused d v n w rest now e → MergeFault (set_merged d old all) (set_cost d all) before e
+      refused_field : (e : DecodeError) → IsSetFieldRefused d v n w rest now e → MergeFault (set_merged d old all) (set_cost d all) before e
       refused_field e (inl h, read) = inl (few (need_by (skip_at d n w rest) (set_cost d)) cost_tag h)
       refused_field e (inr (means_none, limit), read) = inr (on ∙ none_after (set_field d v n w rest) refl means_none, limit)
 
@@ -134,7 +134,7 @@ module _ (d : ℕ) where
 
     -- a field that was refused, and changed nothing
     pub refused_next : (u : Values) (left : BudgetLeft) (n : ℕ) (w : WireType) (rest : List ℕ) (e : DecodeError) → tag_at bs ≡ Ok (n, w, rest) → 0 < length bs → u ≡ v → left ≡ now →
-        (e ≢ OutOfMemory → IsRefused d v n w rest now e) → (e ≡ OutOfMemory → w ≢ EndGroup) → StopsBehind d old all before e u left × (PaysAtMost before (set_cost d all) left × (e ≢ OutOfMemory → MergeFault (set_merged d old all) (set_cost d all) before e))
+        (e ≢ OutOfMemory → IsSetFieldRefused d v n w rest now e) → (e ≡ OutOfMemory → w ≢ EndGroup) → StopsBehind d old all before e u left × (PaysAtMost before (set_cost d all) left × (e ≢ OutOfMemory → MergeFault (set_merged d old all) (set_cost d all) before e))
     refused_next u left n w rest e tag some same kept why full =
         let next : e ≢ OutOfMemory → NextIsRefused d v bs now e = λ ne. inr (n, w, rest, tag, why ne) in (
           subst (λ z. StopsBehind d old all before e z left) (sym same) (subst (λ z. StopsBehind d old all before e v z) (sym kept) (stops e some next (λ h. (n, w, rest, tag, full h)))),

@@ -15,7 +15,7 @@ use Rattle.buffa_wire.specs.Records.{Datum}
 use Rattle.buffa_wire.proofs.CostLemmas.{field_alone}
 use Rattle.buffa_wire.specs.ByField.{value_of}
 use Rattle.buffa_wire.proofs.ByFieldLemmas.{Same, refused}
-use Rattle.buffa_set_msg.specs.Set.{IsRefused, NextIsRefused, StopIsPinned, record_of_field, set_cost, set_field, set_merged, set_need}
+use Rattle.buffa_set_msg.specs.Set.{IsSetFieldRefused, NextIsRefused, StopIsPinned, record_of_field, set_cost, set_field, set_merged, set_need}
 use Rattle.buffa_set_msg.specs.SetFacts.{set_same, set_sound, set_stays}
 use Rattle.buffa_set_msg.proofs.MergeLemmas.{by_payloads, then_merged}
 use Rattle.buffa_wire.proofs.ByPayloadLemmas.{cost_empty, cost_next, merged_empty, merged_next}
@@ -47,7 +47,7 @@ module _ (d : ℕ) where
         let bad : set_merged d v ((t ++ p) ++ q) ≡ None = ap (set_merged d v) (append_assoc t p q) ∙ refused d (set_field d) (set_sound d) (set_same d) v n w t tag (p ++ q) f (k q) in
         let both = sym bad ∙ means in cc
 
-    taken_is : IsRefused d v n w rest left e → ⊥
+    taken_is : IsSetFieldRefused d v n w rest left e → ⊥
     taken_is (inl few, read) = enough few
     taken_is (inr (nothing_is, limit), read) = means_some (set_same d v n w p payload) nothing_is
 
@@ -57,7 +57,7 @@ module _ (d : ℕ) where
         let there : tag_at bs ≡ Ok (n, w, rest) = ap tag_at split ∙ tag_complete t n w rest tag in
         elim next [
           | inl none_there ↦ (let bad = sym there ∙ none_there in cc)
-          | inr other ↦ taken_is (subst (λ z. IsRefused d v z.0 z.1 z.2 left e) (ok_same (sym other.3 ∙ there)) other.4)
+          | inr other ↦ taken_is (subst (λ z. IsSetFieldRefused d v z.0 z.1 z.2 left e) (ok_same (sym other.3 ∙ there)) other.4)
         ]
 
   -- a front of no fields, which leaves v, and one of a field and more

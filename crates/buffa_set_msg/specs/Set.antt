@@ -52,13 +52,13 @@ abbrev pub is_type_id : ℕ → Bool
 is_type_id n = nat_lt 0 n && nat_lt n (2 ^ 31)
 
 -- bytes under a type id are an Item, any other record is a field
-abbrev pub record_encoding : ℕ → Datum → List ℕ
-record_encoding n (bytes b) = if is_type_id n then item_encoding n b else tagged_encoding n (bytes b)
-record_encoding n x = tagged_encoding n x
+abbrev pub set_record_encoding : ℕ → Datum → List ℕ
+set_record_encoding n (bytes b) = if is_type_id n then item_encoding n b else tagged_encoding n (bytes b)
+set_record_encoding n x = tagged_encoding n x
 
 abbrev pub set_encoding : List (ℕ × Datum) → List ℕ
 set_encoding [] = []
-set_encoding (r ∷ rs) = record_encoding r.0 r.1 ++ set_encoding rs
+set_encoding (r ∷ rs) = set_record_encoding r.0 r.1 ++ set_encoding rs
 
 -- the records of that encoding: an Item is a group of number 1, of its type id and its message
 abbrev pub item_record : ℕ → List ℕ → ℕ × Datum
@@ -102,8 +102,8 @@ record_of_field d s n w bs = if starts n w then item_of d s bs else (field_at d 
 
 -- why the field whose tag was read isn't merged into v: its cost isn't left; or it means nothing, and no limit is told;
 -- and what is told is the fault of reading its record with the unknown fields that are left
-abbrev pub IsRefused : ℕ → List (ℕ × Datum) → ℕ → WireType → List ℕ → BudgetLeft → DecodeError → Type 0
-IsRefused d v n w bs left e =
+abbrev pub IsSetFieldRefused : ℕ → List (ℕ × Datum) → ℕ → WireType → List ℕ → BudgetLeft → DecodeError → Type 0
+IsSetFieldRefused d v n w bs left e =
     MergeFault (value_of (set_field d v n w bs)) (set_need d n w bs) left e × (record_of_field d left.unknown n w bs ≡ Err e)
 
 -- that field is merged, and exactly its cost is spent; or it is refused, and nothing is changed or spent
@@ -111,12 +111,12 @@ abbrev pub TakesSetField : {T : Type 0} → ℕ → List (ℕ × Datum) → ℕ 
 TakesSetField d old n w bs before r new after rest =
     MatchResult r
     (λ _. (set_field d old n w bs ≡ Ok (new, rest)) × Pays before (set_need d n w bs) after)
-    (λ e. (new ≡ old) × (after ≡ before) × (e ≢ OutOfMemory → IsRefused d old n w bs before e))
+    (λ e. (new ≡ old) × (after ≡ before) × (e ≢ OutOfMemory → IsSetFieldRefused d old n w bs before e))
 
 -- why the field at the front of bytes isn't merged: they have no tag, or it is refused
 abbrev pub NextIsRefused : ℕ → List (ℕ × Datum) → List ℕ → BudgetLeft → DecodeError → Type 0
 NextIsRefused d v bs left e =
-    (tag_at bs ≡ Err e) ⊎ ((n : ℕ) × (w : WireType) × (rest : List ℕ) × (tag_at bs ≡ Ok (n, w, rest)) × IsRefused d v n w rest left e)
+    (tag_at bs ≡ Err e) ⊎ ((n : ℕ) × (w : WireType) × (rest : List ℕ) × (tag_at bs ≡ Ok (n, w, rest)) × IsSetFieldRefused d v n w rest left e)
 
 -- after a refusal: some fields begin the bytes, the new value is what they make of the old one, exactly their cost is
 -- spent, and the field behind them is the one that is refused, unless memory ran out, at a tag that is no end tag

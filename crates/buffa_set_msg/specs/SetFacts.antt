@@ -20,7 +20,7 @@ use Rattle.buffa_wire.proofs.TakesLemmas.{framed_same, framed_sound}
 use Rattle.buffa_wire.proofs.ByFieldLemmas.{IsSame, IsSound, Same, empty, read}
 use Rattle.buffa_fields_base.specs.Keep.{keep_takes}
 use Rattle.buffa_wire.proofs.KeepLemmas.{keep_stays}
-use Rattle.buffa_set_msg.specs.Set.{AreItems, NestOneDeep, encoded_record, is_type_id, item_field, item_record, record_encoding, set_field, set_levels, set_merged, set_need, set_records, set_encoding, starts}
+use Rattle.buffa_set_msg.specs.Set.{AreItems, NestOneDeep, encoded_record, is_type_id, item_field, item_record, set_record_encoding, set_field, set_levels, set_merged, set_need, set_records, set_encoding, starts}
 
 -- ---- one field
 item_sound : (d : ℕ) (v : List (ℕ × Datum)) (bs : List ℕ) → Agrees (item_field d v bs) (λ x. (p : List ℕ) × Payload d 1 StartGroup p × (bs ≡ p ++ x.1)) NoLimit
@@ -68,7 +68,7 @@ bytes_encoding : (k : Bool) (n : ℕ) (b : List ℕ) → (if k then item_encodin
 bytes_encoding true n b = item_encoding_record n b
 bytes_encoding false n b = refl
 
-one_encoding : (n : ℕ) (x : Datum) → record_encoding n x ≡ tagged_encoding (encoded_record n x).0 (encoded_record n x).1
+one_encoding : (n : ℕ) (x : Datum) → set_record_encoding n x ≡ tagged_encoding (encoded_record n x).0 (encoded_record n x).1
 one_encoding n (bytes b) = bytes_encoding (is_type_id n) n b
 one_encoding n (varint v) = refl
 one_encoding n (fixed32 v) = refl
@@ -83,7 +83,7 @@ set_encoding_records (r ∷ rs) = λ i. one_encoding r.0 r.1 i ++ set_encoding_r
 encoded_item : (n : ℕ) (b : List ℕ) → IsTypeId n → encoded_record n (bytes b) ≡ item_record n b
 encoded_item n b h = rw (in_range n h) refl
 
-encoding_item : (n : ℕ) (b : List ℕ) → IsTypeId n → record_encoding n (bytes b) ≡ item_encoding n b
+encoding_item : (n : ℕ) (b : List ℕ) → IsTypeId n → set_record_encoding n (bytes b) ≡ item_encoding n b
 encoding_item n b h = rw (in_range n h) refl
 
 start_tag : IsTag (tag_encoding 1 StartGroup) 1 StartGroup

@@ -1,5 +1,5 @@
-//! Examples of README, of docs/GUIDE.md and of comments, run, but for those on map fields: calls that no other proved function
-//! makes in this way.
+//! Examples of README, of docs/GUIDE.md and of comments, run, but for those on map fields: calls that no other proved
+//! function makes in this way.
 
 use buffa::extension::codecs::{
     BytesCodec, EnumCodec, MessageCodec, PackedRepeated, Repeated, StringCodec,

@@ -1,10 +1,10 @@
 //! Tests of what crosses crates, by the names of the facade, and of what is no case of a table: the cases stand in
-//! `vectors`, and the crate `conformance` runs them. Then the examples of the documentation, run: each line of them stands in
-//! a function here, or in another proved one. Nothing stands on this crate.
+//! `vectors`, and the programs `conformance..` run them. Then the examples of the documentation, run: each line of them
+//! stands in a function here, or in another proved one. Nothing stands on this crate.
 //!
 //! Expected values come from outside: from the protobuf encoding guide, worked out by hand, or from a table. The
-//! messages, enums and keys stand in `buffa_samples`, an extendee and the options in `buffa_options`. Tests compare with
-//! `==` in `assert!`: of `assert_eq!` it is proved too how both sides print, which takes a fifth of a test's time.
+//! messages, enums and keys stand in `buffa_samples`, an extendee and the options in `buffa_options`. Tests compare
+//! with `==` in `assert!`: of `assert_eq!` it is proved too how both sides print, which takes a fifth of a test's time.
 #![tactic(auto)]
 
 #[cfg(test)]

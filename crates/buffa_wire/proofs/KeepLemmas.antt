@@ -14,7 +14,7 @@ use Rattle.buffa_wire.proofs.MessageLemmas.{NoLimit, length_no_limit, tag_no_lim
 use Rattle.buffa_wire.specs.BudgetLeft.{unknown_fields}
 use Rattle.buffa_wire.specs.Kept.{keep_need, kept_record_at, spent_of}
 use Rattle.buffa_wire.specs.Message.{IsLimit}
-use Rattle.buffa_wire.specs.Parse.{FieldFault, FieldFaultOf, GroupFault, InsideFault, IsPayload, Parse, field_count, fields_inside}
+use Rattle.buffa_wire.specs.Parse.{FieldFault, FieldFaultOf, GroupRecordsFault, InsideFault, IsPayload, Parse, field_count, fields_inside}
 use Rattle.buffa_wire.specs.RecordReading.{field_at}
 use Rattle.buffa_wire.specs.Records.{Datum, Records, bytes, fixed32, fixed64, group, no_records, one, varint}
 use Rattle.buffa_wire.specs.Encoding.{wire_of}
@@ -56,15 +56,15 @@ module _ (G : ℕ → ℕ → List ℕ → DecodeError → Type 0) (g : (s n : �
   in_field s n w bs e (inr (inl (_, none, _))) l = omega (arith, none)
   in_field s n w bs e (inr (inr (_, some, h))) l = omega (arith, some, in_group (s - 1) n w bs e h l)
 
-group_short : (d s n : ℕ) (bs : List ℕ) (e : DecodeError) → GroupFault d s n bs e → IsLimit e → s < length bs
-unfolding GroupFault
+group_short : (d s n : ℕ) (bs : List ℕ) (e : DecodeError) → GroupRecordsFault d s n bs e → IsLimit e → s < length bs
+unfolding GroupRecordsFault
 group_short zero s n bs e h l = absurd (as_no_limit e error.RecursionLimitExceeded h (λ k. k) l)
 group_short (suc d) s n bs e (rs, left, rest, (b, parse, sum, split), inl bad) l = absurd (tag_no_limit rest e bad l)
 group_short (suc d) s n bs e (rs, left, rest, (b, parse, sum, split), inr (m, w, after, (t, tag, cut), _, bad)) l =
-    omega (arith, in_field (GroupFault d) (group_short d) left m w after e bad l, records_short rs d b parse, sum, ap length split, length-append b rest, ap length cut, length-append t after, tag_some t m w tag)
+    omega (arith, in_field (GroupRecordsFault d) (group_short d) left m w after e bad l, records_short rs d b parse, sum, ap length split, length-append b rest, ap length cut, length-append t after, tag_some t m w tag)
 
 pub field_short : (d s n : ℕ) (w : WireType) (bs : List ℕ) (e : DecodeError) → FieldFault d s n w bs e → IsLimit e → s ≤ length bs
-field_short d s n w bs e h l = in_field (GroupFault d) (group_short d) s n w bs e h l
+field_short d s n w bs e h l = in_field (GroupRecordsFault d) (group_short d) s n w bs e h l
 
 -- ---- one field
 -- a field whose record is x is read where enough unknown fields are left

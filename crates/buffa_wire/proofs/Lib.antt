@@ -1,4 +1,6 @@
+-- The lemmas that this crate hands out.
 pub mod RecordLemmas
+pub mod ByValueLemmas
 pub mod EncodingLemmas
 pub mod ReadLemmas
 pub mod LoopLemmas

@@ -11,7 +11,7 @@ use Rattle.buffa_bytes.specs.Scan.Scanned.{ends}
 use Rattle.buffa_bytes.proofs.StepLemmas.{Agrees, agree_ok, agree_bind}
 use Rattle.buffa_wire.specs.Records.{Datum, group, Records, no_records, one, records_of, list_of}
 use Rattle.buffa_wire.specs.Encoding.{wire_of}
-use Rattle.buffa_wire.specs.Parse.{Parse, GroupFault, TakesField, FieldFault, RecordsFault, field_count}
+use Rattle.buffa_wire.specs.Parse.{Parse, GroupRecordsFault, TakesField, FieldFault, RecordsFault, field_count}
 use Rattle.buffa_wire.specs.RecordReading.{GroupReader, field_at, field_by, group_records_at, group_records_by, kept_step, list_at, payload_by, plain_at, records_at, then_one}
 use Rattle.buffa_wire.proofs.ReadLemmas.{Group, also, also-none, behind, behind_none, closes_no, closes_yes, group_sound, group_complete, group_faulty, group_turn, records_end, records_turn, records_sound_in, records_complete_in, records_faulty_in, field_sound, field_complete, field_faulty}
 use Rattle.buffa_bytes.proofs.FieldLemmas.{not_end}
@@ -20,7 +20,7 @@ use Rattle.buffa_wire.proofs.RecordLemmas.{list-records, records-list}
 
 -- ---- a field
 pub field_is_read : (d s n : ℕ) (w : WireType) (bs : List ℕ) → Agrees (field_at d s n w bs) (λ v. TakesField d s n w bs v.0 v.1 v.2) (FieldFault d s n w bs)
-field_is_read d = field_sound d (group_records_at d) (GroupFault d) (group_sound d)
+field_is_read d = field_sound d (group_records_at d) (GroupRecordsFault d) (group_sound d)
 
 pub field_falls : (d s n : ℕ) (w : WireType) (bs : List ℕ) (x : Datum × ℕ × List ℕ) → field_at d s n w bs ≡ Ok x → length x.2 ≤ length bs
 field_falls d s n w bs x e = let a = agree_ok (field_at d s n w bs) x (field_is_read d s n w bs) e in omega (arith, ap length a.4, length-append a.0 x.2)
@@ -42,9 +42,9 @@ step_is more false x n (Err e) = refl
 group_by : (d s n : ℕ) (bs : List ℕ) (r : Result (ℕ × WireType × List ℕ) DecodeError) → tag_at bs ≡ r → group_records_at (suc d) s n bs ≡ (r >>= after_tag d s n)
 unfolding group_records_at after_tag
 group_by d s n bs (Ok t) e =
-    group_turn d (group_records_at d) (GroupFault d) (group_sound d) n s bs (Ok t) e
+    group_turn d (group_records_at d) (GroupRecordsFault d) (group_sound d) n s bs (Ok t) e
     ∙ step_is (λ left rest. group_records_by (group_records_at d) left n rest) (is_end t.1 && (t.0 == n)) (Ok (no_records, s, t.2)) t.0 (field_at d s t.0 t.1 t.2)
-group_by d s n bs (Err x) e = group_turn d (group_records_at d) (GroupFault d) (group_sound d) n s bs (Err x) e
+group_by d s n bs (Err x) e = group_turn d (group_records_at d) (GroupRecordsFault d) (group_sound d) n s bs (Err x) e
 
 group_is : (d s n : ℕ) (bs : List ℕ) → group_records_at (suc d) s n bs ≡ (tag_at bs >>= after_tag d s n)
 group_is d s n bs = group_by d s n bs (tag_at bs) refl
@@ -141,12 +141,12 @@ field_plain_err d s left n w bs x o g e f = field_paid d s left n w bs o e ∙ p
 
 -- ---- fields to the end of the bytes
 records_none : (d s : ℕ) → records_at d s [] ≡ Ok (no_records, s, [])
-records_none d s = records_end d (group_records_at d) (GroupFault d) (group_sound d) s
+records_none d s = records_end d (group_records_at d) (GroupRecordsFault d) (group_sound d) s
 
 records_tagged : (d s b : ℕ) (bs : List ℕ) (r : Result (ℕ × WireType × List ℕ) DecodeError) → tag_at (b ∷ bs) ≡ r → records_at d s (b ∷ bs) ≡ (r >>= field_then (group_records_at d) (records_at d) s)
 records_tagged d s b bs (Ok t) e =
-    records_turn d (group_records_at d) (GroupFault d) (group_sound d) s b bs (Ok t) e ∙ step_is (records_at d) false (Ok (no_records, s, t.2)) t.0 (field_at d s t.0 t.1 t.2)
-records_tagged d s b bs (Err x) e = records_turn d (group_records_at d) (GroupFault d) (group_sound d) s b bs (Err x) e
+    records_turn d (group_records_at d) (GroupRecordsFault d) (group_sound d) s b bs (Ok t) e ∙ step_is (records_at d) false (Ok (no_records, s, t.2)) t.0 (field_at d s t.0 t.1 t.2)
+records_tagged d s b bs (Err x) e = records_turn d (group_records_at d) (GroupRecordsFault d) (group_sound d) s b bs (Err x) e
 
 records_is : (d s : ℕ) (bs : List ℕ) → 0 < length bs → records_at d s bs ≡ (tag_at bs >>= field_then (group_records_at d) (records_at d) s)
 records_is d s [] o = absurd (omega arith)
@@ -179,13 +179,13 @@ module _ (d s left : ℕ) (all bs : List ℕ) (rs : List (ℕ × Datum)) (read :
 pub field_taken : (d s n : ℕ) (w : WireType) (bs : List ℕ) (x : Datum) (left : ℕ) (rest : List ℕ) → TakesField d s n w bs x left rest → field_at d s n w bs ≡ Ok (x, left, rest)
 field_taken d s n w bs x left rest (p, payload, same, e, is) =
     subst (λ v. field_at d s n v bs ≡ Ok (x, left, rest)) same
-    (ap (field_at d s n (wire_of x)) is ∙ field_complete d (group_records_at d) (GroupFault d) (group_complete d) s n x left p rest payload e)
+    (ap (field_at d s n (wire_of x)) is ∙ field_complete d (group_records_at d) (GroupRecordsFault d) (group_complete d) s n x left p rest payload e)
 
 pub field_refused : (d s n : ℕ) (w : WireType) (bs : List ℕ) (e : DecodeError) → FieldFault d s n w bs e → field_at d s n w bs ≡ Err e
-field_refused d = field_faulty d (group_records_at d) (GroupFault d) (group_faulty d)
+field_refused d = field_faulty d (group_records_at d) (GroupRecordsFault d) (group_faulty d)
 
 pub list_is_read : (d s : ℕ) (bs : List ℕ) → Agrees (list_at d s bs) (λ rs. Parse d bs (records_of rs) × (field_count (records_of rs) ≤ s)) (RecordsFault d s bs)
-list_is_read d s bs = agree_bind (records_sound_in d (group_records_at d) (GroupFault d) (group_sound d) s bs)
+list_is_read d s bs = agree_bind (records_sound_in d (group_records_at d) (GroupRecordsFault d) (group_sound d) s bs)
     (λ v x. let is : x.0.0 ≡ bs = sym (x.0.3 ∙ ap (λ z. x.0.0 ++ z) x.1 ∙ append-nil x.0.0) in
     let back = records-list v.0 in
     record { holds = (subst (λ z. Parse d bs z) (sym back) (subst (λ z. Parse d z v.0) is x.0.1), subst (λ z. field_count z ≤ s) (sym back) (omega (arith, x.0.2))) })
@@ -193,8 +193,8 @@ list_is_read d s bs = agree_bind (records_sound_in d (group_records_at d) (Group
 
 pub list_taken : (d s : ℕ) (bs : List ℕ) (rs : List (ℕ × Datum)) → Parse d bs (records_of rs) → field_count (records_of rs) ≤ s → list_at d s bs ≡ Ok rs
 list_taken d s bs rs h l =
-    rw (records_complete_in d (group_records_at d) (GroupFault d) (group_sound d) (group_complete d) s (s - field_count (records_of rs)) (records_of rs) bs h (omega arith)) (ap (λ z. Ok z) (list-records rs))
+    rw (records_complete_in d (group_records_at d) (GroupRecordsFault d) (group_sound d) (group_complete d) s (s - field_count (records_of rs)) (records_of rs) bs h (omega arith)) (ap (λ z. Ok z) (list-records rs))
 
 pub list_refused : (d s : ℕ) (bs : List ℕ) (e : DecodeError) → RecordsFault d s bs e → list_at d s bs ≡ Err e
 list_refused d s bs e (rs, left, rest, h, o, x) =
-    rw (records_faulty_in d (group_records_at d) (GroupFault d) (group_sound d) (group_complete d) (group_faulty d) s left rs bs rest e h o x) refl
+    rw (records_faulty_in d (group_records_at d) (GroupRecordsFault d) (group_sound d) (group_complete d) (group_faulty d) s left rs bs rest e h o x) refl

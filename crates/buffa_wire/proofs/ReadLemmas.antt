@@ -18,7 +18,7 @@ use Rattle.buffa_bytes.proofs.DelimitedLemmas.{taken_sound, taken_complete, take
 use Rattle.buffa_bytes.proofs.FieldLemmas.{tag_sound, tag_complete, tag_faulty, tag_some, not_end, end_false, end_true, one_more}
 use Rattle.buffa_wire.specs.Records.{Datum, varint, fixed32, fixed64, bytes, group, Records, no_records, one}
 use Rattle.buffa_wire.specs.Encoding.{wire_of}
-use Rattle.buffa_wire.specs.Parse.{Parse, IsPayload, field_count, fields_inside, TakesField, TakesRecords, InsideFault, FieldFaultOf, NextFault, GroupFault}
+use Rattle.buffa_wire.specs.Parse.{Parse, IsPayload, field_count, fields_inside, TakesField, TakesRecords, InsideFault, FieldFaultOf, NextFault, GroupRecordsFault}
 use Rattle.buffa_wire.specs.RecordReading.{GroupReader, plain_at, ends_group, field_by, group_records_by, group_records_at, kept_step, payload_by, record_step, records_by, records_step, then_one}
 use Rattle.buffa_wire.proofs.JoinLemmas.{one_deeper}
 
@@ -339,21 +339,21 @@ module _ (d : ℕ) (inner : GroupReader) (F : ℕ → ℕ → List ℕ → Decod
         ap (records_by inner s) is ∙ pass (records_by inner) one_record rs s left b rest y q ∙ ap (behind rs) (records_fault k left rest e x o)
 
 -- ---- groups nested at most d deep
-pub group_sound : (d : ℕ) → Sound d (group_records_at d) (GroupFault d)
-unfolding group_records_at GroupFault
+pub group_sound : (d : ℕ) → Sound d (group_records_at d) (GroupRecordsFault d)
+unfolding group_records_at GroupRecordsFault
 group_sound zero s n bs = record { holds = refl }
-group_sound (suc d) s n bs = agree_weaker (group_sound_in d (group_records_at d) (GroupFault d) (group_sound d) s n bs)
+group_sound (suc d) s n bs = agree_weaker (group_sound_in d (group_records_at d) (GroupRecordsFault d) (group_sound d) s n bs)
     (λ v a. (a.0 ++ a.1, (omega arith, a.0, a.1, subst (λ k. Parse k a.0 v.0) (sym (one_deeper d)) a.2, a.3, refl), a.4, a.5 ∙ sym (append_assoc a.0 a.1 v.2)))
     (λ e f. f)
 
-pub group_complete : (d : ℕ) → Complete d (group_records_at d) (GroupFault d)
+pub group_complete : (d : ℕ) → Complete d (group_records_at d) (GroupRecordsFault d)
 unfolding group_records_at
 group_complete zero s n rs left p rest (o, b, t, h, tag, is) e = absurd (omega arith)
 group_complete (suc d) s n rs left p rest (o, b, t, h, tag, is) e =
-    group_complete_in d (group_records_at d) (GroupFault d) (group_sound d) (group_complete d) s n (rs, left, rest) (p ++ rest)
+    group_complete_in d (group_records_at d) (GroupRecordsFault d) (group_sound d) (group_complete d) s n (rs, left, rest) (p ++ rest)
     (b, t, subst (λ k. Parse k b rs) (one_deeper d) h, tag, e, ap (λ z. z ++ rest) is ∙ append_assoc b t rest)
 
-pub group_faulty : (d : ℕ) → Faults d (group_records_at d) (GroupFault d)
-unfolding group_records_at GroupFault
+pub group_faulty : (d : ℕ) → Faults d (group_records_at d) (GroupRecordsFault d)
+unfolding group_records_at GroupRecordsFault
 group_faulty zero s n bs e h = ap (λ x. Err x) (sym h)
-group_faulty (suc d) s n bs e h = group_faulty_in d (group_records_at d) (GroupFault d) (group_sound d) (group_complete d) (group_faulty d) s n bs e h
+group_faulty (suc d) s n bs e h = group_faulty_in d (group_records_at d) (GroupRecordsFault d) (group_sound d) (group_complete d) (group_faulty d) s n bs e h

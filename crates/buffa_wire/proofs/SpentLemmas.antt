@@ -4,7 +4,7 @@ use Rattle.std.specs.Prelude.{IsOk}
 use Rattle.buffa_bytes.specs.declared.wire_type.WireType.{WireType}
 use Rattle.buffa_bytes.specs.declared.wire_type.WireType.TheVariants as wire
 use Rattle.buffa_bytes.specs.declared.error.DecodeError.{DecodeError}
-use Rattle.buffa_wire.specs.RecordReading.{GroupTakesMemory, ListTakesMemory, PayloadTakesMemory, RecordTakesMemory, field_at}
+use Rattle.buffa_wire.specs.RecordReading.{GroupRecordsTakeMemory, ListTakesMemory, PayloadTakesMemory, RecordTakesMemory, field_at}
 use Rattle.buffa_wire.specs.Records.{Datum}
 use Rattle.buffa_bytes.specs.Front.{delimited_at, tag_at}
 use Rattle.buffa_bytes.specs.Unread.{IsTailOf, bytes_read}
@@ -64,12 +64,12 @@ plain_takes G s k _ bs o h = absurd h
 
 -- a field for which one of the unknown fields left was spent
 pub takes_plain : (d s left : ℕ) (w : WireType) (bs : List ℕ) → left + 1 ≡ s → w ≢ wire.StartGroup → PayloadTakesMemory (λ s bs. ⊥) 0 w bs → RecordTakesMemory d s w bs
-takes_plain d s left w bs e o h = (omega arith, plain_takes (GroupTakesMemory d) (s - 1) 0 w bs o h)
+takes_plain d s left w bs e o h = (omega arith, plain_takes (GroupRecordsTakeMemory d) (s - 1) 0 w bs o h)
 
-pub takes_group : (d s left : ℕ) (w : WireType) (bs : List ℕ) → left + 1 ≡ s → w ≡ wire.StartGroup → GroupTakesMemory d left bs → RecordTakesMemory d s w bs
+pub takes_group : (d s left : ℕ) (w : WireType) (bs : List ℕ) → left + 1 ≡ s → w ≡ wire.StartGroup → GroupRecordsTakeMemory d left bs → RecordTakesMemory d s w bs
 takes_group d s left w bs e o h =
     let k : left ≡ s - 1 = omega arith in
-    (omega arith, rw o (subst (λ z. GroupTakesMemory d z bs) k h))
+    (omega arith, rw o (subst (λ z. GroupRecordsTakeMemory d z bs) k h))
 
 -- nothing of all was read and none of the unknown fields left was spent, or all takes memory
 abbrev pub IsBegun : ℕ → ℕ → List ℕ → ℕ → List ℕ → Type 0
@@ -87,7 +87,7 @@ module _ (d s left : ℕ) (all now : List ℕ) (begun : IsBegun d s all left now
   begins_reading x h = begins begun (inl (is_there (field_at d left t.0 t.1 t.2) x h))
 
 -- the fields of a group
-pub takes_inside : (d s : ℕ) (bs : List ℕ) → d ≢ 0 → ListTakesMemory (d - 1) s bs → GroupTakesMemory d s bs
-unfolding GroupTakesMemory
+pub takes_inside : (d s : ℕ) (bs : List ℕ) → d ≢ 0 → ListTakesMemory (d - 1) s bs → GroupRecordsTakeMemory d s bs
+unfolding GroupRecordsTakeMemory
 takes_inside zero s bs o h = absurd (o refl)
 takes_inside (suc d) s bs o h = let k : suc d - 1 ≡ d = omega arith in subst (λ z. ListTakesMemory z s bs) k h

@@ -18,7 +18,7 @@ use Rattle.buffa_bytes.specs.Front.{skip_at}
 use Rattle.buffa_wire.proofs.CostLemmas.{IsPaid, cost_empty, cost_free, cost_next as costs_next, paid}
 use Rattle.buffa_wire.proofs.ByFieldLemmas.{IsSame, IsSound, Same, empty, fields, merged_alike, next, read}
 use Rattle.buffa_wire.specs.ByField.{FieldNeed, FieldReader, cost_by, merged_by, value_of}
-use Rattle.buffa_wire.specs.Takes.{IsTaken, Leads, Need, Piece, ReadsBack, Stays, Taker, Untaken, answer, cost_of, costs_nothing, framed, front_of, joined, merged_of, taken_by}
+use Rattle.buffa_wire.specs.Takes.{IsTaken, Leads, Need, Piece, ReadsBack, Stays, Taker, Untaken, answer, cost_of, costs_nothing, framed, front_of, joined_fields, merged_of, taken_by}
 
 -- ---- the payload is cut
 take_all : (p x : List ℕ) → take (length p) (p ++ x) ≡ p
@@ -137,13 +137,13 @@ skipped_full d n w bs rest (Err e) h = λ full. payload_full d n w bs (h ∙ ap 
 
 -- ---- an encoding of fields reads back
 module _ {X : Type 0} (takes : Taker X) (d : ℕ) (P : ℕ → Bool) where
-  led : (s : X) (fs : List Piece) (t : X) → Leads takes P d s fs t → merged_of takes d s (joined fs) ≡ Some t
+  led : (s : X) (fs : List Piece) (t : X) → Leads takes P d s fs t → merged_of takes d s (joined_fields fs) ≡ Some t
   unfolding merged_of
   led s [] t h = merged_of_none takes d s ∙ ap (λ x. Some x) h
   led s (f ∷ fs) t (is, tag, payload, u, h, l) =
-      ap (merged_of takes d s) (append_assoc f.tag f.payload (joined fs))
-      ∙ read d (framed takes d) (framed_sound takes d) (framed_same takes d) s f.number f.wire f.tag tag u (f.payload ++ joined fs) (joined fs)
-      (framed_at takes d s f.number f.wire f.payload (joined fs) payload ∙ ap (answer (joined fs)) h)
+      ap (merged_of takes d s) (append_assoc f.tag f.payload (joined_fields fs))
+      ∙ read d (framed takes d) (framed_sound takes d) (framed_same takes d) s f.number f.wire f.tag tag u (f.payload ++ joined_fields fs) (joined_fields fs)
+      (framed_at takes d s f.number f.wire f.payload (joined_fields fs) payload ∙ ap (answer (joined_fields fs)) h)
       ∙ led u fs t l
 
   pub back : (s : X) (encoding : List ℕ) (t : X) → ReadsBack takes P d s encoding t → merged_of takes d s encoding ≡ Some t

@@ -36,11 +36,11 @@ abbrev pub costs : {S : Type 0} → BudgetLeft → Result (S × List ℕ) Decode
 costs need (Ok x) = goes x.0 x.1 (plus need)
 costs need (Err e) = ends need
 
--- bytes alone, with no state
+-- a reading that carries no state
 abbrev pub stateless : Result (List ℕ) DecodeError → Result (Unit {0} × List ℕ) DecodeError
 stateless r = r >>= (λ rest. Ok (tt, rest))
 
--- the same of a field, where a tag was read; nothing where none was
+-- what the field at the front costs, and then those behind it; nothing where no tag was read
 abbrev pub field_costs : FieldNeed → ℕ → Result (ℕ × WireType × List ℕ) DecodeError → Scanned (Unit {0}) BudgetLeft
 field_costs need d (Ok t) = costs (need t.0 t.1 t.2) (stateless (skip_at d t.0 t.1 t.2))
 field_costs need d (Err e) = ends nothing

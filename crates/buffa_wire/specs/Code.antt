@@ -4,15 +4,16 @@ use Rattle.std.specs.Coded.{Coded, code_by, coded×, coded_ℕ, coded_list}
 use base.Stored.{Gv, gnil, gnum, gcons}
 use Rattle.buffa_wire.specs.Records.{Datum, varint, fixed32, fixed64, bytes, group, Records, no_records, one, Held}
 
-abbrev head : Gv → Gv
-head gnil = gnil
-head (gnum n) = gnil
-head (gcons a b) = a
+-- the parts of a stored pair
+abbrev pub stored_head : Gv → Gv
+stored_head gnil = gnil
+stored_head (gnum n) = gnil
+stored_head (gcons a b) = a
 
-abbrev tail : Gv → Gv
-tail gnil = gnil
-tail (gnum n) = gnil
-tail (gcons a b) = b
+abbrev pub stored_tail : Gv → Gv
+stored_tail gnil = gnil
+stored_tail (gnum n) = gnil
+stored_tail (gcons a b) = b
 
 abbrev mutual
   pub datum_code : Datum → Gv
@@ -28,11 +29,11 @@ abbrev mutual
 
 mutual
   pub datum_inj : (x y : Datum) → datum_code x ≡ datum_code y → x ≡ y
-  datum_inj (varint a) (varint b) p = ap varint (coded_ℕ.inj a b (ap (λ g. tail g) p))
-  datum_inj (fixed32 a) (fixed32 b) p = ap fixed32 (coded_ℕ.inj a b (ap (λ g. tail g) p))
-  datum_inj (fixed64 a) (fixed64 b) p = ap fixed64 (coded_ℕ.inj a b (ap (λ g. tail g) p))
-  datum_inj (bytes a) (bytes b) p = ap bytes ((coded_list coded_ℕ).inj a b (ap (λ g. tail g) p))
-  datum_inj (group a) (group b) p = ap group (records_inj a b (ap (λ g. tail g) p))
+  datum_inj (varint a) (varint b) p = ap varint (coded_ℕ.inj a b (ap (λ g. stored_tail g) p))
+  datum_inj (fixed32 a) (fixed32 b) p = ap fixed32 (coded_ℕ.inj a b (ap (λ g. stored_tail g) p))
+  datum_inj (fixed64 a) (fixed64 b) p = ap fixed64 (coded_ℕ.inj a b (ap (λ g. stored_tail g) p))
+  datum_inj (bytes a) (bytes b) p = ap bytes ((coded_list coded_ℕ).inj a b (ap (λ g. stored_tail g) p))
+  datum_inj (group a) (group b) p = ap group (records_inj a b (ap (λ g. stored_tail g) p))
   datum_inj _ _ p = absurd (cc)
 
   pub records_inj : (x y : Records) → records_code x ≡ records_code y → x ≡ y
@@ -40,7 +41,7 @@ mutual
   records_inj no_records (one n d rs) p = cc
   records_inj (one n d rs) no_records p = cc
   records_inj (one n d rs) (one m e qs) p =
-      λ i. one (coded_ℕ.inj n m (ap (λ g. head g) p) i) (datum_inj d e (ap (λ g. head (tail g)) p) i) (records_inj rs qs (ap (λ g. tail (tail g)) p) i)
+      λ i. one (coded_ℕ.inj n m (ap (λ g. stored_head g) p) i) (datum_inj d e (ap (λ g. stored_head (stored_tail g)) p) i) (records_inj rs qs (ap (λ g. stored_tail (stored_tail g)) p) i)
 
 abbrev pub coded_datum : Coded Datum
 coded_datum = record { code = datum_code; inj = datum_inj }

@@ -44,7 +44,7 @@ abbrev pub encodings : {V : Type 0} → (V → List ℕ) → List V → List ℕ
 encodings encoding [] = []
 encodings encoding (v ∷ vs) = encoding v ++ encodings encoding vs
 
--- what is told of a write that says only whether all was written
-abbrev pub told : Bool → Result (Unit {0}) EncodeError
-told true = Ok tt
-told false = Err OutOfMemory
+-- the answer of a write that says only whether all was written
+abbrev pub write_outcome : Bool → Result (Unit {0}) EncodeError
+write_outcome true = Ok tt
+write_outcome false = Err OutOfMemory

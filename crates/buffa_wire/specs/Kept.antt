@@ -1,4 +1,4 @@
--- What keeping a field as a record costs. Source: the protobuf encoding guide, "Message Structure".
+-- The record that a field is kept as, and what that costs. Source: the protobuf encoding guide, "Message Structure".
 use Rattle.std.specs.Prelude.{ℕ, suc, ◌-◌, List, length, Result, Ok, Err}
 use Rattle.buffa_bytes.specs.declared.wire_type.WireType.{WireType}
 use Rattle.buffa_bytes.specs.declared.error.DecodeError.{DecodeError}

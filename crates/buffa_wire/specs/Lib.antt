@@ -1,3 +1,4 @@
+-- The words that this crate hands out.
 pub mod BudgetLeft
 pub mod Cache
 pub mod Passes

@@ -101,16 +101,16 @@ NextFault Ends G s bs e =
     ⊎ ((n : ℕ) × (w : WireType) × (rest : List ℕ) × TakesTag bs n w rest × (w ≡ wire.EndGroup → Ends n → ⊥) × FieldFaultOf G s n w rest e)
 
 -- why no rest of a group of number n begins these bytes: its depth, or fields and then the fault of the next one
-unfoldable pub GroupFault : ℕ → ℕ → ℕ → List ℕ → DecodeError → Type 0
-GroupFault zero s n bs e = e ≡ RecursionLimitExceeded
-GroupFault (suc d) s n bs e =
-    (rs : Records) × (left : ℕ) × (rest : List ℕ) × TakesRecords d s bs rs left rest × NextFault (λ m. m ≡ n) (GroupFault d) left rest e
+unfoldable pub GroupRecordsFault : ℕ → ℕ → ℕ → List ℕ → DecodeError → Type 0
+GroupRecordsFault zero s n bs e = e ≡ RecursionLimitExceeded
+GroupRecordsFault (suc d) s n bs e =
+    (rs : Records) × (left : ℕ) × (rest : List ℕ) × TakesRecords d s bs rs left rest × NextFault (λ m. m ≡ n) (GroupRecordsFault d) left rest e
 
 -- why no field is read after its tag
 abbrev pub FieldFault : ℕ → ℕ → ℕ → WireType → List ℕ → DecodeError → Type 0
-FieldFault d = FieldFaultOf (GroupFault d)
+FieldFault d = FieldFaultOf (GroupRecordsFault d)
 
 -- why these bytes are no join of fields: some fields, and then the fault of the next one
 abbrev pub RecordsFault : ℕ → ℕ → List ℕ → DecodeError → Type 0
 RecordsFault d s bs e =
-    (rs : Records) × (left : ℕ) × (rest : List ℕ) × TakesRecords d s bs rs left rest × (0 < length rest) × NextFault (λ m. ⊥) (GroupFault d) left rest e
+    (rs : Records) × (left : ℕ) × (rest : List ℕ) × TakesRecords d s bs rs left rest × (0 < length rest) × NextFault (λ m. ⊥) (GroupRecordsFault d) left rest e

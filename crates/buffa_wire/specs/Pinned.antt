@@ -16,8 +16,8 @@ use Rattle.buffa_wire.specs.Records.{Datum, records_of}
 abbrev pub done : {E : Type 0} → Result (Unit {0}) E
 done = Ok tt
 
-abbrev pub told : {E : Type 0} → E → Result (Unit {0}) E
-told e = Err e
+abbrev pub refusal : {E : Type 0} → E → Result (Unit {0}) E
+refusal e = Err e
 
 -- what is left of refused bytes: of a length and so many bytes, and of a payload
 abbrev pub LeavesDelimited : Result (Unit {0}) DecodeError → List ℕ → List ℕ → Type 0
@@ -30,17 +30,17 @@ LeavesPayload r w bs left = LeavesUnlessFull r (past_no_payload w bs) left
 pub record MergeIsPinned {X : Type 0} (meant : Option X) (need before : BudgetLeft) : Type 0 where
   pub merged : (a b : X) (x y : BudgetLeft) → IsMerged meant need before done a x → IsMerged meant need before done b y → (a ≡ b) × (x ≡ y)
   pub refused : (a b : X) (x y : BudgetLeft) (f : DecodeError) →
-      IsMerged meant need before done a x → IsMerged meant need before (told f) b y → (f ≢ OutOfMemory) → ⊥
+      IsMerged meant need before done a x → IsMerged meant need before (refusal f) b y → (f ≢ OutOfMemory) → ⊥
   -- from a default budget of their own
   pub alone : (a b : X) → IsMergedAlone meant need done a → IsMergedAlone meant need done b → a ≡ b
-  pub not_alone : (a b : X) (f : DecodeError) → IsMergedAlone meant need done a → IsMergedAlone meant need (told f) b → (f ≢ OutOfMemory) → ⊥
+  pub not_alone : (a b : X) (f : DecodeError) → IsMergedAlone meant need done a → IsMergedAlone meant need (refusal f) b → (f ≢ OutOfMemory) → ⊥
 
 -- The same of the field whose tag t was read, and of what follows it.
 pub record FieldMergeIsPinned {X : Type 0} (merged : ℕ → X → List ℕ → Option X) (cost : ℕ → List ℕ → BudgetLeft) (d n : ℕ) (w : WireType) (t : List ℕ) (tag : IsTag t n w) (old : X) (bs : List ℕ) (before : BudgetLeft) : Type 0 where
   pub merges : (a b : X) (x y : BudgetLeft) (r s : List ℕ) →
       IsFieldMerged merged cost d old n w bs before done a x r → IsFieldMerged merged cost d old n w bs before done b y s → (a ≡ b) × (x ≡ y) × (r ≡ s)
   pub refuses : (a b : X) (x y : BudgetLeft) (r s : List ℕ) (f : DecodeError) →
-      IsFieldMerged merged cost d old n w bs before done a x r → IsFieldMerged merged cost d old n w bs before (told f) b y s → (f ≢ OutOfMemory) → ⊥
+      IsFieldMerged merged cost d old n w bs before done a x r → IsFieldMerged merged cost d old n w bs before (refusal f) b y s → (f ≢ OutOfMemory) → ⊥
 
 -- The same of a message inside a field; and refused bytes leave one rest, memory aside.
 pub record InsideIsPinned {X : Type 0} (merged : ℕ → X → List ℕ → Option X) (cost : ℕ → List ℕ → BudgetLeft) (d : ℕ) (old : X) (bs : List ℕ) (before : BudgetLeft) : Type 0 where
@@ -48,7 +48,7 @@ pub record InsideIsPinned {X : Type 0} (merged : ℕ → X → List ℕ → Opti
       IsInside merged cost d old bs before a x r → IsInside merged cost d old bs before b y s → (a ≡ b) × (x ≡ y) × (r ≡ s)
   pub refuses : (a : X) (x : BudgetLeft) (r : List ℕ) (e : DecodeError) →
       IsInside merged cost d old bs before a x r → MessageFault merged cost d old bs before e → ⊥
-  pub left : (e : DecodeError) (r s : List ℕ) → e ≢ OutOfMemory → LeavesDelimited (told e) bs r → LeavesDelimited (told e) bs s → r ≡ s
+  pub left : (e : DecodeError) (r s : List ℕ) → e ≢ OutOfMemory → LeavesDelimited (refusal e) bs r → LeavesDelimited (refusal e) bs s → r ≡ s
 
 -- A value is sized in one way only; its encoding, where it is small, is written in one way only.
 pub record PassesArePinned (encoding slots : List ℕ) (old : Cache) : Type 0 where
@@ -67,7 +67,7 @@ pub record FieldIsPinned (d s n : ℕ) (w : WireType) (bs : List ℕ) : Type 0 w
   pub refused : (x : Datum) (k : ℕ) (r : List ℕ) (e : DecodeError) → TakesField d s n w bs x k r → FieldFault d s n w bs e → ⊥
   pub fault : (e f : DecodeError) → FieldFault d s n w bs e → FieldFault d s n w bs f → e ≡ f
   -- of a field that is no group, what is left of the bytes after a refusal, and how many unknown fields are left
-  pub left : (e : DecodeError) (r q : List ℕ) → e ≢ OutOfMemory → LeavesPayload (told e) w bs r → LeavesPayload (told e) w bs q → r ≡ q
+  pub left : (e : DecodeError) (r q : List ℕ) → e ≢ OutOfMemory → LeavesPayload (refusal e) w bs r → LeavesPayload (refusal e) w bs q → r ≡ q
   pub counted : (k m : ℕ) → UnknownTaken s k → UnknownTaken s m → k ≡ m
 
 -- The same of whole bytes.

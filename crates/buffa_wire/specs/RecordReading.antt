@@ -107,14 +107,14 @@ FieldsTakeMemory inner G s bs =
     × (IsOk (field_by inner s t.0 t.1 t.2) ⊎ ((0 < s) × PayloadTakesMemory G (s - 1) t.1 t.2))
 
 -- the same of fields in a group, nested at most d deep
-unfoldable pub GroupTakesMemory : ℕ → ℕ → List ℕ → Type 0
-GroupTakesMemory zero s bs = ⊥
-GroupTakesMemory (suc d) s bs = FieldsTakeMemory (group_records_at d) (GroupTakesMemory d) s bs
+unfoldable pub GroupRecordsTakeMemory : ℕ → ℕ → List ℕ → Type 0
+GroupRecordsTakeMemory zero s bs = ⊥
+GroupRecordsTakeMemory (suc d) s bs = FieldsTakeMemory (group_records_at d) (GroupRecordsTakeMemory d) s bs
 
 -- a field after its tag takes memory
 abbrev pub RecordTakesMemory : ℕ → ℕ → WireType → List ℕ → Type 0
-RecordTakesMemory d s w bs = (0 < s) × PayloadTakesMemory (GroupTakesMemory d) (s - 1) w bs
+RecordTakesMemory d s w bs = (0 < s) × PayloadTakesMemory (GroupRecordsTakeMemory d) (s - 1) w bs
 
 -- whole bytes take memory
 abbrev pub ListTakesMemory : ℕ → ℕ → List ℕ → Type 0
-ListTakesMemory d s bs = FieldsTakeMemory (group_records_at d) (GroupTakesMemory d) s bs
+ListTakesMemory d s bs = FieldsTakeMemory (group_records_at d) (GroupRecordsTakeMemory d) s bs

@@ -80,9 +80,9 @@ pub record Piece : Type 0 where
   pub wire : WireType
   pub payload : List ℕ
 
-abbrev pub joined : List Piece → List ℕ
-joined [] = []
-joined (f ∷ fs) = (f.tag ++ f.payload) ++ joined fs
+abbrev pub joined_fields : List Piece → List ℕ
+joined_fields [] = []
+joined_fields (f ∷ fs) = (f.tag ++ f.payload) ++ joined_fields fs
 
 -- the fields, all of numbers of P, lead from s to t
 abbrev pub Leads : {X : Type 0} → Taker X → (ℕ → Bool) → ℕ → X → List Piece → X → Type 0
@@ -94,5 +94,5 @@ Leads {X} takes P d s (f ∷ fs) t =
 -- the encoding is such fields
 pub record ReadsBack {X : Type 0} (takes : Taker X) (P : ℕ → Bool) (d : ℕ) (s : X) (encoding : List ℕ) (t : X) : Type 0 where
   pub pieces : List Piece
-  pub spelled : encoding ≡ joined pieces
+  pub spelled : encoding ≡ joined_fields pieces
   pub leads : Leads takes P d s pieces t

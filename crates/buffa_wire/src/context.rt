@@ -15,8 +15,8 @@ pub const RECURSION_LIMIT: u32 = 100;
 
 /// How deep reading may still go, and the one budget that all of it spends.
 ///
-/// It is handed on by value. A call that goes on afterwards lends it as a literal, with a reborrow of the
-/// budget, so that what is spent below is spent above.
+/// It is passed by value. A function that goes on reading passes a new one, which lends its own budget anew; so what
+/// the function that is called spends, is spent for both.
 ///
 /// ```ignore
 /// let lent = DecodeContext { depth: ctx.depth, budget: &mut *ctx.budget };

@@ -26,6 +26,10 @@ use buffa_bytes::{Buf, DecodeError, EncodeError, EncodeSink, WireType, varint_le
 /// ```
 pub trait Form: Sealed {
     /// The wire type of the payloads.
+    ///
+    /// ```ignore
+    /// const WIRE_TYPE: WireType = <N::Form as Form>::WIRE_TYPE;
+    /// ```
     const WIRE_TYPE: WireType;
 
     ghost WIRE_TYPE: { WireType };

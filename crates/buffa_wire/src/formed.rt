@@ -23,7 +23,11 @@ use std::alloc::Global;
 /// impl<M: Listing> MessageForm<M> for Listed { .. }
 /// ```
 pub trait MessageForm<M: Blank> {
-    /// The units of element memory that a message costs where it is an element.
+    /// The units of element memory that a message costs where it is the value of a map or an element of a list.
+    ///
+    /// ```ignore
+    /// const COST: usize = <M::Form as MessageForm<M>>::COST;
+    /// ```
     const COST: usize;
 
     ghost COST: { ℕ };
@@ -135,6 +139,10 @@ pub trait MessageForm<M: Blank> {
 /// ```
 pub trait Formed: Blank {
     /// How: a [`MessageForm`] of it.
+    ///
+    /// ```ignore
+    /// type Form = Listed;
+    /// ```
     type Form;
 }
 

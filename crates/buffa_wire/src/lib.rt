@@ -1,8 +1,5 @@
-//! The wire layer: the ground floor of `buffa_bytes`, the budgets and contexts that reading lends on, the
-//! unknown fields that it keeps, scalars, enums and messages.
-//!
-//! It re-exports the types of `buffa_bytes`, its readers and writers, and the module of the encodings of
-//! scalars.
+//! The wire layer, on `buffa_bytes`, which it re-exports: the budgets and contexts that a reader hands on to what it
+//! calls, the unknown fields that are kept, scalars, enums and messages.
 #![tactic(auto)]
 
 pub mod budget;
@@ -18,7 +15,7 @@ mod short;
 pub mod unknown_fields;
 
 pub(crate) mod sealed {
-    /// Scalars are those of this crate: the rules of the wire can't be said by a type.
+    /// Only types of this crate are scalars: how the wire spells them is nothing that a type of one's own can choose.
     pub trait Sealed {}
 }
 

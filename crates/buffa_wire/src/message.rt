@@ -49,7 +49,12 @@ pub fn capped(len: u64) -> u32
 /// impl MessageSpec for Tree { .. }
 /// ```
 pub trait MessageSpec: Blank {
-    /// The units of element memory that a message costs where it is an element.
+    /// The units of element memory that a message costs where it is the value of a map or an element of a list: 1 or
+    /// more.
+    ///
+    /// ```ignore
+    /// const COST: usize = M::COST;
+    /// ```
     const COST: usize;
 
     ghost COST: { ℕ };
@@ -140,7 +145,7 @@ pub trait Message: MessageSpec {
         ensures { IsWritten (Self.encoding (Self.meaning self.now)) (Self.slots (Self.meaning self.now)) cache.old
             (S.written sink.old) result cache.new (S.written sink.new) };
 
-    /// Leaves the default.
+    /// Makes the message the default of its type.
     ///
     /// ```ignore
     /// message.clear(alloc);
@@ -199,9 +204,10 @@ pub trait Message: MessageSpec {
     /// Merges the fields that the bytes are, all of them.
     ///
     /// # Errors
-    /// Any but a limit's where the bytes mean no value; any where their cost isn't left; or
-    /// [`DecodeError::OutOfMemory`], only where a tag that is no end tag begins the bytes. The value is then some value of
-    /// its type.
+    /// Where the bytes mean no value, any error but those of a budget, [`DecodeError::UnknownFieldLimitExceeded`] and
+    /// [`DecodeError::ElementMemoryLimitExceeded`]; where what they cost isn't left, any error. And
+    /// [`DecodeError::OutOfMemory`], only where a tag that is no end tag begins the bytes. The value is then some value
+    /// of its type.
     ///
     /// ```ignore
     /// let answer = message.merge(alloc, bytes, DecodeContext::new(1, &mut budget));

@@ -13,15 +13,31 @@ use buffa_bytes::Blank;
 /// ```
 pub trait Scalar: Sealed {
     /// The Rust type of the values.
+    ///
+    /// ```ignore
+    /// type Value = N::Value;
+    /// ```
     type Value: Blank;
 
     /// How the numbers are spelled.
+    ///
+    /// ```ignore
+    /// type Form = <Int32 as Scalar>::Form;
+    /// ```
     type Form: Form;
 
     /// The units of element memory that a value costs.
+    ///
+    /// ```ignore
+    /// const COST: usize = N::UNITS;
+    /// ```
     const UNITS: usize;
 
-    /// The length of every encoding, where they have one length.
+    /// The length of every encoding in bytes, where they have one length.
+    ///
+    /// ```ignore
+    /// const FIXED_LEN: Option<u64> = N::LEN;
+    /// ```
     const LEN: Option<u64>;
 
     ghost UNITS: { ℕ };

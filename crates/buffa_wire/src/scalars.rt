@@ -1,12 +1,12 @@
 //! The scalars, each with the numbers that stand for its values.
 //!
-//! | Scalar | Value | Form |
-//! |---|---|---|
-//! | [`Int32`], [`Sint32`], [`Uint32`] | `i32`, `i32`, `u32` | varint |
-//! | [`Int64`], [`Sint64`], [`Uint64`] | `i64`, `i64`, `u64` | varint |
-//! | [`Bool`] | `bool` | varint |
-//! | [`Fixed32`], [`Sfixed32`] | `u32`, `i32` | four bytes |
-//! | [`Fixed64`], [`Sfixed64`] | `u64`, `i64` | eight bytes |
+//! | Scalar | Form |
+//! |---|---|
+//! | [`Int32`], [`Sint32`], [`Uint32`] | varint of 1 to 5 bytes, of 10 for a negative `Int32` |
+//! | [`Int64`], [`Sint64`], [`Uint64`] | varint of 1 to 10 bytes |
+//! | [`Bool`] | varint of 1 byte |
+//! | [`Fixed32`], [`Sfixed32`] | four bytes |
+//! | [`Fixed64`], [`Sfixed64`] | eight bytes |
 //!
 //! Source: the protobuf encoding guide, "Message Structure".
 

@@ -1,2 +1,3 @@
+-- The lemmas that this crate hands out.
 pub mod PinLemmas
 pub mod FaultLemmas

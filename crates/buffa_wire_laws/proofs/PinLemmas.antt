@@ -14,7 +14,7 @@ use Rattle.buffa_wire.specs.Message.{IsFieldMerged, MergeFault, IsInside, Messag
 use Rattle.buffa_bytes.specs.declared.error.DecodeError.TheVariants.{OutOfMemory}
 use Rattle.std.proofs.lemmas.List.{append_cancel_right}
 use Rattle.buffa_wire.proofs.ParseLemmas as parse
-use Rattle.buffa_wire.specs.Pinned.{done, told, BudgetIsPinned, FieldIsPinned, FieldMergeIsPinned, InsideIsPinned, MergeIsPinned, PassesArePinned, RecordsArePinned}
+use Rattle.buffa_wire.specs.Pinned.{done, refusal, BudgetIsPinned, FieldIsPinned, FieldMergeIsPinned, InsideIsPinned, MergeIsPinned, PassesArePinned, RecordsArePinned}
 use Rattle.buffa_wire.specs.Records.{list_of, records_of}
 use Rattle.buffa_wire.proofs.LoopLemmas.{field_refused, field_taken, list_refused, list_taken}
 use Rattle.buffa_wire.proofs.RecordLemmas.{list-records}
@@ -69,7 +69,7 @@ module _ {X : Type 0} (merged : ℕ → X → List ℕ → Option X) (cost : ℕ
       (some_same (merged d old (t ++ p)) a b one.0 two.0, one_left before (cost d (t ++ p)) x y one.1 two.1, rest)
 
   field_refuses : (a b : X) (x y : BudgetLeft) (r s : List ℕ) (f : DecodeError) →
-      IsFieldMerged merged cost d old n w bs before done a x r → IsFieldMerged merged cost d old n w bs before (told f) b y s → (f ≢ OutOfMemory) → ⊥
+      IsFieldMerged merged cost d old n w bs before done a x r → IsFieldMerged merged cost d old n w bs before (refusal f) b y s → (f ≢ OutOfMemory) → ⊥
   field_refuses a b x y r s f (p, payload, is, h) k other =
       let one = h t tag in
       elim ((k t p tag (inl (r, payload, is))).1 other) [ inl few ↦ not_lacked before (cost d (t ++ p)) x one.1 few | inr bad ↦ (let e = sym one.0 ∙ bad.0 in cc) ]

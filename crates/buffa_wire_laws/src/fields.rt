@@ -272,14 +272,15 @@ pub fn rests_are_these()
     ensures fixed { (bs : List ℕ) → (past_no_payload Fixed32 bs ≡ bs) × (past_no_payload Fixed64 bs ≡ bs) }
 {}
 
-/// The same of what takes memory. It leaves open whether memory is told where the whole is there and isn't empty, and how
-/// much of the whole is unread then.
+/// The same of what takes memory. It leaves open whether out of memory is told where the whole is there and isn't
+/// empty, and how much of the whole is unread then.
 pub fn answers_are_pinned_unless_full<X, Y, Z>()
     ensures { AnswerIsPinnedUnlessFull X Y Z }
 {}
 
-/// The bytes that are lent to a function are those at the front, and it is called once, or not at all. It leaves open which
-/// of the function's answers is given, and whether memory is told of a byte or more, and how many are unread then.
+/// The bytes that are lent to a function are those at the front, and it is called once, or not at all. It leaves open
+/// which of the function's answers is given, whether out of memory is told where there is a byte or more, and how many
+/// are unread then.
 pub fn lent_bytes_are_pinned<T, F: FnMut(&[u8]) -> Result<T, DecodeError>>()
     ensures { LentIsPinned F.FnMut }
 {}
@@ -372,7 +373,8 @@ pub fn own_bytes_are_pinned<P: ProtoBytes, Q: ProtoBytes>()
     ensures meaning { (a b : P.Meaning) → P.bytes a ≡ P.bytes b → a ≡ b }
 {}
 
-/// `==` on plain keys says exactly whether they mean the same; on other keys it says what `same` does of their meanings.
+/// `==` on plain keys says exactly whether they mean the same; on other keys it says what `same` says of their
+/// meanings.
 pub fn own_keys_are_pinned<K: MapKey, P: PlainKey>()
     ensures key { (a b : K) → K.eq a b ≡ K.same (K.meaning a) (K.meaning b) }
     ensures plain { (a b : P) → (P.eq a b ≡ true) ↔ (P.meaning a ≡ P.meaning b) }

@@ -167,9 +167,9 @@ pub fn open_enums_are_these<E: Enumeration>()
     ensures read { (v : E) → open_number E.of_number (E.meaning v) ≡ (true, E.meaning v) }
 {}
 
-/// `==` of values of an open enum: declared ones are compared by their type, numbers as numbers, and the two are never
-/// equal; and `clone` makes a clone of a declared one, and the same number, and fails only where that of a declared one may.
-/// Nothing else is open.
+/// `==` of values of an open enum: declared ones are compared by their type, numbers as numbers, and a declared one
+/// never equals a number. `clone` clones a declared one by its type, and fails only where that may fail; a number is
+/// the same. Nothing else is open.
 pub fn open_enums_are_compared<E: Enumeration + Clone + PartialEq>()
     ensures known { (a b : E) → ⟦<EnumValue<E> as PartialEq>⟧.eq (EnumValue.Known a) (EnumValue.Known b) ≡ E.eq a b }
     ensures number { (m n : ℤ) → (⟦<EnumValue<E> as PartialEq>⟧.eq (EnumValue.Unknown m) (EnumValue.Unknown n) ≡ true)

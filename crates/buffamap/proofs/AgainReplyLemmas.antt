@@ -7,22 +7,22 @@ use Rattle.buffa_bytes.specs.declared.error.DecodeError.TheVariants as of_bytes
 use Rattle.buffa_wire.specs.BudgetLeft.{BudgetLeft, defaults}
 use Rattle.buffa_wire.specs.Message.{MergeFault}
 use Rattle.buffamap.specs.declared.fault.Fault.{Fault}
-use Rattle.buffamap.specs.Again.{IsReadAgain, IsReadAgainIn, IsRefused}
-use Rattle.buffamap.specs.Fault.{IsOfBytes, Tells, told}
+use Rattle.buffamap.specs.Again.{IsReadAgain, IsReadAgainIn, RefusesMessageBytes}
+use Rattle.buffamap.specs.Fault.{IsOfBytes, TellsReply, fault_reply}
 use Rattle.buffamap.specs.Reply.{Reply}
 
 -- what is told of an error that was passed on
-pub passed_on : {T : Type 0} (P : Reply → Type 0) (IsOf : Fault → Type 0) (r : Result T Fault) → IsErrAnd r IsOf → ((f : Fault) → IsOf f → Tells P f) → IfErr r (Tells P)
+pub passed_on : {T : Type 0} (P : Reply → Type 0) (IsOf : Fault → Type 0) (r : Result T Fault) → IsErrAnd r IsOf → ((f : Fault) → IsOf f → TellsReply P f) → IfErr r (TellsReply P)
 passed_on P IsOf (Ok x) h tells = absurd h
 passed_on P IsOf (Err f) h tells = tells f h
 
 -- bytes that weren't merged
-pub refused : {X : Type 0} (meant : Option X) (cost : BudgetLeft) (e : DecodeError) (f : Fault) → IsOfBytes e f → (e ≢ of_bytes.OutOfMemory → MergeFault meant cost defaults e) → Tells (IsRefused meant cost) f
+pub refused : {X : Type 0} (meant : Option X) (cost : BudgetLeft) (e : DecodeError) (f : Fault) → IsOfBytes e f → (e ≢ of_bytes.OutOfMemory → MergeFault meant cost defaults e) → TellsReply (RefusesMessageBytes meant cost) f
 refused meant cost e f is says real_fault =
     let real : e ≢ of_bytes.OutOfMemory = λ h. real_fault (is.0 h) in
-    subst (λ z. IsRefused meant cost (told z)) (sym (is.1 real)) (e, real, says real, refl)
+    subst (λ z. RefusesMessageBytes meant cost (fault_reply z)) (sym (is.1 real)) (e, real, says real, refl)
 
 -- what is told of bytes, of an input that spells them
 module _ {X : Type 0} (merged : ℕ → X → List ℕ → Option X) (cost : ℕ → List ℕ → BudgetLeft) (encoding : X → List ℕ) (blank : X) where
-  pub spelled : {T : Type 0} (r : Result T Fault) (o : Option (List ℕ)) (bytes : List ℕ) → o ≡ Some bytes → IfErr r (Tells (IsReadAgain merged cost encoding blank bytes)) → IfErr r (Tells (IsReadAgainIn merged cost encoding blank o))
-  spelled r o bytes is h = subst (λ z. IfErr r (Tells (IsReadAgainIn merged cost encoding blank z))) (sym is) h
+  pub spelled : {T : Type 0} (r : Result T Fault) (o : Option (List ℕ)) (bytes : List ℕ) → o ≡ Some bytes → IfErr r (TellsReply (IsReadAgain merged cost encoding blank bytes)) → IfErr r (TellsReply (IsReadAgainIn merged cost encoding blank o))
+  spelled r o bytes is h = subst (λ z. IfErr r (TellsReply (IsReadAgainIn merged cost encoding blank z))) (sym is) h

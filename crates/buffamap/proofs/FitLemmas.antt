@@ -7,14 +7,14 @@ use Rattle.buffa_bytes.specs.declared.error.DecodeError.{DecodeError}
 use Rattle.buffa_bytes.specs.Content.{number_in}
 use Rattle.buffa_wire.specs.Sequence.{ParsesEach}
 use Rattle.buffa_bytes.specs.Values.{int32_of}
-use Rattle.buffa_map.specs.Entry.{IsEntryField, blanks}
-use Rattle.buffa_map.specs.Enums.{ClosedFits}
-use Rattle.buffa_map.specs.Pairs.{put}
-use Rattle.buffa_map.specs.Run.{Run, fold_entries}
-use Rattle.buffa_map.specs.Encoding.{AllHold}
+use Rattle.buffa_map_base.specs.Entry.{IsEntryField, blanks}
+use Rattle.buffa_map_base.specs.Enums.{ClosedFits}
+use Rattle.buffa_map_base.specs.Pairs.{put}
+use Rattle.buffa_map_base.specs.Run.{Run, fold_entries}
+use Rattle.buffa_map_base.specs.Encoding.{AllHold}
 use Rattle.buffa_map.specs.declared.map_entry.MapEntry.{MapEntry}
 use Rattle.buffamap.specs.Choice.{two_numbers}
-use Rattle.buffamap.specs.Codecs.{int32_reading}
+use Rattle.buffa_map_base.specs.Scalars.{int32_reading}
 use Rattle.buffamap.specs.Rewrite.{Entry, ChoicePair, choice_reading}
 
 int32_fits : (n : ℕ) → FitsSigned w32 (int32_of n)

@@ -9,13 +9,13 @@ use Rattle.buffa_bytes.specs.declared.error.DecodeError.{DecodeError}
 use Rattle.buffa_wire.specs.BudgetLeft.{BudgetLeft, defaults}
 use Rattle.buffa_wire.specs.Enums.{Numbers, Refines}
 use Rattle.buffa_bytes.specs.Number.{IsNumber}
-use Rattle.buffa_map.specs.Enums.{ClosedFits, closed_reading, closed_writing}
+use Rattle.buffa_map_base.specs.Enums.{ClosedFits, closed_reading, closed_writing}
 use Rattle.buffa_map.specs.Laws.{OneReading, RewriteMeans, RunsAreRead}
 use Rattle.buffa_map.specs.Rewrite.{IsRewrite, KeepsMeaning}
-use Rattle.buffa_map.specs.Run.{Run}
+use Rattle.buffa_map_base.specs.Run.{Run}
 use Rattle.buffamap.specs.Choice.{two_numbers}
-use Rattle.buffamap.specs.Codecs.{int32_reading, int32_writing}
-use Rattle.buffamap.specs.Reply.{Reply, done, hex_line}
+use Rattle.buffa_map_base.specs.Scalars.{int32_reading, int32_writing}
+use Rattle.buffamap.specs.Reply.{Reply, success, hex_line}
 use Rattle.buffamap.specs.Rewrite.{Entry, IsRewritten, IsRewrittenOf, RewriteKeepsMeaning, choice_reading, choice_run}
 
 module _ (n : ℕ) (means : RewriteMeans int32_reading int32_writing (FitsSigned w32)) (read : RunsAreRead int32_reading choice_reading) (one : OneReading int32_reading choice_reading) (number : IsNumber n)
@@ -24,7 +24,7 @@ module _ (n : ℕ) (means : RewriteMeans int32_reading int32_writing (FitsSigned
   abbrev pub Kept : Type 0
   Kept = (out : List ℕ) × (gs : List Entry) × (text ≡ hex_line out) × Run int32_reading (closed_reading f) 100 n out gs × KeepsMeaning int_eq es fs gs
 
-  kept_by : (r : Result (List Entry × BudgetLeft) DecodeError) → choice_run n bytes ≡ r → IsRewritten n r (done text) → Kept
+  kept_by : (r : Result (List Entry × BudgetLeft) DecodeError) → choice_run n bytes ≡ r → IsRewritten n r (success text) → Kept
   kept_by (Err e) is k = let other : ◌≡◌ {A = ℕ} 0 1 = ap (λ (x : Reply). x.status) k in absurd (omega (arith, other))
   kept_by (Ok r) is (inr k) = let other : ◌≡◌ {A = ℕ} 0 1 = ap (λ (x : Reply). x.status) k.1 in absurd (omega (arith, other))
   kept_by (Ok r) is (inl k) =
@@ -37,4 +37,4 @@ module _ (n : ℕ) (means : RewriteMeans int32_reading int32_writing (FitsSigned
 -- the reply to a run is read as a run of the same meaning
 pub keeps_meaning : (n : ℕ) → RewriteMeans int32_reading int32_writing (FitsSigned w32) → RunsAreRead int32_reading choice_reading → OneReading int32_reading choice_reading → IsNumber n → RewriteKeepsMeaning n
 keeps_meaning n means read one number f finer input bytes text digits reply es fs run newer =
-    kept_by n means read one number f finer bytes text es fs run newer (choice_run n bytes) refl (subst (λ z. IsRewrittenOf n z (done text)) digits reply)
+    kept_by n means read one number f finer bytes text es fs run newer (choice_run n bytes) refl (subst (λ z. IsRewrittenOf n z (success text)) digits reply)

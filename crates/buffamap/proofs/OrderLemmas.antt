@@ -8,8 +8,8 @@ use Rattle.std.specs.Ordering.{eq_by_cmp, is_eq, match_ordering, ordering_revers
 use Rattle.std.specs.declared.cmp.Ordering.{Ordering}
 use Rattle.std.specs.declared.cmp.Ordering.TheVariants.{Less, Equal, Greater}
 use Rattle.std.proofs.lemmas.Map.Keys.{IsDistinct-from_sorted}
-use Rattle.buffa_map.specs.Pairs.{ListsOnce}
-use Rattle.buffa_map.specs.Encoding.{AllHold}
+use Rattle.buffa_map_base.specs.Pairs.{ListsOnce}
+use Rattle.buffa_map_base.specs.Encoding.{AllHold}
 
 after : {K : Type 0} {P Q : K → Type 0} → ((y : K) → P y → Q y) → (ks : List K) → AllByRecursion P ks → AllByRecursion Q ks
 after f [] h = tt

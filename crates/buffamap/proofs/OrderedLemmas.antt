@@ -10,10 +10,10 @@ use Rattle.std.specs.List.Sorted.{IsStrictlySortedBy}
 use Rattle.std.specs.BTreeMap.{insert_entry}
 use Rattle.std.specs.declared.cmp.Ordering.TheVariants.{Less, Equal, Greater}
 use Rattle.std.proofs.lemmas.Map.Keys.{IsDistinct-from_sorted}
-use Rattle.buffa_map.specs.Pairs.{SamePairs}
-use Rattle.buffa_map.specs.Pairs as maps
-use Rattle.buffa_map.proofs.PutLemmas.{SamePairs-insert_entry, SamePairs-put}
-use Rattle.buffamap.specs.Lines.{ListedInOrder, Pair, pairs_of, put, same_key}
+use Rattle.buffa_map_base.specs.Pairs.{SamePairs}
+use Rattle.buffa_map_base.specs.Pairs as maps
+use Rattle.buffa_map_base.proofs.PutLemmas.{SamePairs-insert_entry, SamePairs-put}
+use Rattle.buffamap.specs.Lines.{ListedInOrder, Pair, pairs_of, with_pair, same_key}
 use Rattle.buffa_map_base.proofs.SortedLemmas.{same_sorted}
 
 abbrev text_cmp : List ℕ → List ℕ → Ordering
@@ -48,7 +48,7 @@ pairs_of-insert {Z} (e ∷ es) k v =
 
 -- an insert puts
 pub put_insert : {Z : Type 0} (m : List Pair) (es : List (String Z × ℤ)) (k : String Z) (v : ℤ) → IsStrictlySortedBy string_cmp (keys_of es) → SamePairs same_key m (pairs_of es) →
-    SamePairs same_key (put m (string_bytes k, v)) (pairs_of (insert_entry string_cmp es k v))
+    SamePairs same_key (with_pair m (string_bytes k, v)) (pairs_of (insert_entry string_cmp es k v))
 put_insert m es k v h =
     rw (pairs_of-insert es k v) (subst (λ eq. SamePairs eq m (pairs_of es) → SamePairs eq (maps.put eq m (string_bytes k) v) (insert_entry text_cmp (pairs_of es) (string_bytes k) v)) same_test
     (λ s q. SamePairs-put (eq_by_cmp_equiv nat_list_cmp_total) m (pairs_of es) (string_bytes k) v s q ∙ SamePairs-insert_entry nat_list_cmp_total (pairs_of es) (string_bytes k) v (sorted_texts es h) q))

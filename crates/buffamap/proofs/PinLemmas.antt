@@ -11,16 +11,16 @@ use Rattle.buffa_wire.specs.BudgetLeft.{BudgetLeft, defaults}
 use Rattle.buffa_wire.specs.Message.{MergeFault}
 use Rattle.buffa_wire.specs.Records.{Datum}
 use Rattle.buffa_wire.specs.Encoding.{records_encoding}
-use Rattle.buffa_map.specs.Enums.{closed_writing}
-use Rattle.buffa_map.specs.Pairs.{ListsOnce}
-use Rattle.buffa_map.specs.Run.{EntryRecord, fold_entries, undeclared_records}
-use Rattle.buffa_map.specs.Encoding.{HasEncoding, field_encoding}
-use Rattle.buffa.specs.Branch.{bare}
-use Rattle.buffa.specs.NodeMeaning as node
-use Rattle.buffa.specs.NodeEncoding as node_encoding
+use Rattle.buffa_map_base.specs.Enums.{closed_writing}
+use Rattle.buffa_map_base.specs.Pairs.{ListsOnce}
+use Rattle.buffa_map_base.specs.Run.{EntryRecord, fold_entries, undeclared_records}
+use Rattle.buffa_map_base.specs.Encoding.{HasEncoding, field_encoding}
+use Rattle.buffa.specs.Branch.{blank_node}
+use Rattle.buffa.specs.NodeMeaning.{node_cost, node_merged}
+use Rattle.buffa.specs.NodeEncoding.{node_encoding}
 use Rattle.buffa.specs.Set.{set_cost, set_merged, set_encoding}
-use Rattle.buffamap.specs.Again.{IsEncoded, IsReadAgainIn, IsRefused, RepliesToAgain, encoding_reply}
-use Rattle.buffamap.specs.Codecs.{int32_writing}
+use Rattle.buffamap.specs.Again.{IsEncoded, IsReadAgainIn, RefusesMessageBytes, RepliesToAgain, encoding_reply}
+use Rattle.buffa_map_base.specs.Scalars.{int32_writing}
 use Rattle.buffa_map_base.proofs.SortedLemmas.{same_sorted}
 use Rattle.buffamap.specs.declared.command.Command.{Command}
 use Rattle.buffamap.specs.declared.command.Command.TheVariants.{AgainNode, AgainSet, Ext, Item, Read, Rewrite, Write}
@@ -28,26 +28,25 @@ use Rattle.buffamap.specs.Command.{command_of, texts}
 use Rattle.buffamap.specs.Engine.{Answers, GivesReply, RepliesTo}
 use Rattle.buffamap.specs.Ext.{IsShown, IsShownOf, RepliesToExt, records_from}
 use Rattle.buffamap.specs.Forms.{hex_bytes, without_newline}
-use Rattle.buffamap.specs.Item.{IsFound, IsFoundIn, RepliesToItem, item_from}
+use Rattle.buffamap.specs.Item.{IsFound, IsFoundIn, RepliesToItem, item_of_input}
 use Rattle.buffamap.specs.Lines.{Pair, lines_of, map_in, same_key}
 use Rattle.buffamap.specs.Pinned.{AnyCallIsPinned, CallIsPinned, HasFaultLine, LeavesFaultOpen, MayDiffer, NamesFault, ReplyIsPinned, ReplyIsPinnedButForFaults, SureCallIsPinned, having, holding}
 use Rattle.buffamap.specs.Read.{RepliesToBytes, RepliesToRead, RepliesToRun, run_from}
-use Rattle.buffamap.specs.Reply.{Reply, broken, done, hex_line}
-use Rattle.buffamap.specs.Rewrite.{Entry, IsRewritten, IsRewrittenOf, RepliesToRewrite}
-use Rattle.buffamap.specs.Rewrite.{ChoicePair, choice_run}
-use Rattle.buffamap.specs.Streams.{Change, Known, WritesOrBreaks, WritesAll}
+use Rattle.buffamap.specs.Reply.{Reply, broken, success, hex_line}
+use Rattle.buffamap.specs.Rewrite.{Entry, IsRewritten, IsRewrittenOf, RepliesToRewrite, ChoicePair, choice_run}
+use Rattle.buffamap.specs.Streams.{StreamChange, Known, WritesOrBreaks, WritesAll}
 use Rattle.buffamap.specs.Write.{RepliesToMap, RepliesToWrite, field_reply}
 use Rattle.buffamap.proofs.OrderedLemmas.{one_order}
 use denote.Ref.{Bor}
 
 -- where one input has one reply, what is accepted isn't refused
 pinned : (R : List ℕ → Reply → Type 0) → ((input : List ℕ) (a b : Reply) → R input a → R input b → a ≡ b) → ReplyIsPinned R
-pinned R one = record { one = one; refused = λ input text b h k. ap (λ (r : Reply). r.status) (sym (one input (done text) b h k)) }
+pinned R one = record { one = one; refused = λ input text b h k. ap (λ (r : Reply). r.status) (sym (one input (success text) b h k)) }
 
 -- ---- the commands
 
 run_one : (r : Result (List (EntryRecord (List ℕ) ℤ) × BudgetLeft) DecodeError) (a b : Reply) → RepliesToRun r a → RepliesToRun r b → a ≡ b
-run_one (Ok r) a b h k = h.2 ∙ ap (λ z. done (lines_of z)) (one_order (fold_entries same_key [] r.0) h.0 k.0 h.1 k.1) ∙ sym k.2
+run_one (Ok r) a b h k = h.2 ∙ ap (λ z. success (lines_of z)) (one_order (fold_entries same_key [] r.0) h.0 k.0 h.1 k.1) ∙ sym k.2
 run_one (Err f) a b h k = h ∙ sym k
 
 bytes_one : (n : ℕ) (o : Option (List ℕ)) (a b : Reply) → RepliesToBytes n o a → RepliesToBytes n o b → a ≡ b
@@ -73,7 +72,7 @@ rewrite_one n (Ok r) a b (inl h) (inl k) =
     let v = h.1.0 in
     let w = k.1.0 in
     let same = one_list (fold_entries int_eq [] r.0) v.0 w.0 v.1 w.1 h.1.1 k.1.1 in
-    h.2 ∙ ap (λ z. done (hex_line z)) (v.4 ∙ ap (λ z. field_encoding int32_writing closed_writing n z ++ records_encoding (undeclared_records n r.0)) same ∙ sym w.4) ∙ sym k.2
+    h.2 ∙ ap (λ z. success (hex_line z)) (v.4 ∙ ap (λ z. field_encoding int32_writing closed_writing n z ++ records_encoding (undeclared_records n r.0)) same ∙ sym w.4) ∙ sym k.2
 rewrite_one n (Ok r) a b (inl h) (inr k) =
     let v = h.1.0 in
     let same = one_list (fold_entries int_eq [] r.0) v.0 k.0.0 v.1 k.0.1 h.1.1 k.0.2 in
@@ -109,7 +108,7 @@ found_one (Err f) a b h k = h ∙ sym k
 
 found_in_one : (o : Option (List ℕ)) (a b : Reply) → IsFoundIn o a → IsFoundIn o b → a ≡ b
 found_in_one None a b h k = h ∙ sym k
-found_in_one (Some bytes) a b h k = found_one (item_from bytes) a b h k
+found_in_one (Some bytes) a b h k = found_one (item_of_input bytes) a b h k
 
 pub item_pinned : ReplyIsPinned RepliesToItem
 item_pinned = pinned RepliesToItem (λ input a b h k. found_in_one (hex_bytes (without_newline input)) a b h k)
@@ -124,17 +123,17 @@ module _ {X : Type 0} (text : X → List ℕ) (meant : Option X) (cost : BudgetL
       h.3 ∙ ap (λ v. encoding_reply (text v)) same ∙ sym k.3
 
   -- bytes that are encoded aren't refused
-  not_both : (a b : Reply) → IsEncoded meant cost text a → IsRefused meant cost b → ⊥
+  not_both : (a b : Reply) → IsEncoded meant cost text a → RefusesMessageBytes meant cost b → ⊥
   not_both a b h k = by k.2
     where
       by : MergeFault meant cost defaults k.0 → ⊥
       by (inl lacks) = h.2 lacks
       by (inr none) = let no : None ≡ Some h.0 = sym none.0 ∙ h.1 in cc
 
-  names_fault : (a : Reply) → IsRefused meant cost a → NamesFault a
+  names_fault : (a : Reply) → RefusesMessageBytes meant cost a → NamesFault a
   names_fault a h = (h.0, h.3)
 
-  again_one : (a b : Reply) → IsEncoded meant cost text a ⊎ IsRefused meant cost a → IsEncoded meant cost text b ⊎ IsRefused meant cost b → (a ≡ b) ⊎ (NamesFault a × NamesFault b)
+  again_one : (a b : Reply) → IsEncoded meant cost text a ⊎ RefusesMessageBytes meant cost a → IsEncoded meant cost text b ⊎ RefusesMessageBytes meant cost b → (a ≡ b) ⊎ (NamesFault a × NamesFault b)
   again_one a b (inl h) (inl k) = inl (encoded_one a b h k)
   again_one a b (inl h) (inr k) = absurd (not_both a b h k)
   again_one a b (inr h) (inl k) = absurd (not_both b a k h)
@@ -144,10 +143,10 @@ module _ {X : Type 0} (text : X → List ℕ) (meant : Option X) (cost : BudgetL
 fault_status : (a : Reply) → NamesFault a → a.status ≡ 1
 fault_status a h = ap (λ (r : Reply). r.status) h.1
 
-not_done : {A : Type 0} (text : List ℕ) → NamesFault (done text) → A
-not_done text h = absurd (let no : 0 ≡ 1 = fault_status (done text) h in cc)
+not_done : {A : Type 0} (text : List ℕ) → NamesFault (success text) → A
+not_done text h = absurd (let no : 0 ≡ 1 = fault_status (success text) h in cc)
 
-accepted : (text : List ℕ) (b : Reply) → (done text ≡ b) ⊎ (NamesFault (done text) × NamesFault b) → b ≡ done text
+accepted : (text : List ℕ) (b : Reply) → (success text ≡ b) ⊎ (NamesFault (success text) × NamesFault b) → b ≡ success text
 accepted text b (inl e) = sym e
 accepted text b (inr h) = not_done text h.0
 
@@ -163,7 +162,7 @@ module _ {X : Type 0} (merged : ℕ → X → List ℕ → Option X) (cost : ℕ
   again_of_one input a b h k = again_in_one (hex_bytes (without_newline input)) a b h k
 
   pub again_pinned : ReplyIsPinnedButForFaults Again
-  again_pinned = record { one = again_of_one; accepted = λ input out b h k. accepted out b (again_of_one input (done out) b h k) }
+  again_pinned = record { one = again_of_one; accepted = λ input out b h k. accepted out b (again_of_one input (success out) b h k) }
 
 -- ---- a call
 
@@ -181,7 +180,7 @@ command_one (Write n) input a b h k = inl ((write_pinned n).one input a b h k)
 command_one (Rewrite n) input a b h k = inl ((rewrite_pinned n).one input a b h k)
 command_one (Ext n) input a b h k = inl ((ext_pinned n).one input a b h k)
 command_one Item input a b h k = inl (item_pinned.one input a b h k)
-command_one AgainNode input a b h k = or_open (Some AgainNode) a b tt (again_of_one node.merged node.cost node_encoding.encoding bare input a b h k)
+command_one AgainNode input a b h k = or_open (Some AgainNode) a b tt (again_of_one node_merged node_cost node_encoding blank_node input a b h k)
 command_one AgainSet input a b h k = or_open (Some AgainSet) a b tt (again_of_one set_merged set_cost set_encoding [] input a b h k)
 
 module _ (o : Option Command) (a b : Reply) where
@@ -209,7 +208,7 @@ grown old text None h = absurd h
 grown old text (Some ys) h = ap Some h
 
 -- what is given of a reply where no output has failed, and what where nothing fails
-given : (r : Reply) (out err : Change) (s : ℕ) → GivesReply r out err s → (s ≡ 3 → out.may_fail ≡ true → ⊥) → (s ≡ r.status) × WritesAll out r.text × WritesOrBreaks err r.complaint
+given : (r : Reply) (out err : StreamChange) (s : ℕ) → GivesReply r out err s → (s ≡ 3 → out.may_fail ≡ true → ⊥) → (s ≡ r.status) × WritesAll out r.text × WritesOrBreaks err r.complaint
 given r out err s (inl h) whole = h
 given r out err s (inr h) whole = absurd (whole h.0 h.1.1)
 

@@ -8,7 +8,7 @@ use Rattle.std.proofs.lemmas.Bool.{false_from_ne_true}
 use Rattle.std.proofs.lemmas.List.{drop_all, length-map}
 use Rattle.std.proofs.lemmas.Str.{is_utf8-from_IsUtf8, IsUtf8-from_is_utf8}
 use Rattle.buffamap.specs.Forms.{hex_bytes}
-use Rattle.buffamap.specs.Lines.{Pair, key_of, pair_of, pair_of_parts, put, put_line, put_lines}
+use Rattle.buffamap.specs.Lines.{Pair, key_of, pair_of, pair_of_parts, with_pair, put_line, put_lines}
 
 -- lines after one that is no pair change nothing
 put_none : (lines : List (List ℕ)) → put_lines lines None ≡ None
@@ -29,7 +29,7 @@ put_refused lines i d m h none =
 
 -- the pair of a line is put
 pub put_done : (lines : List (Bor (List ℕ))) (i : ℕ) (d : Bor (List ℕ)) (m : List Pair) (p : Pair) → i < length lines → Some p ≡ pair_of (get_or lines i d).now →
-    put_lines (map (λ l. l.now) (drop (i + 1) lines)) (Some (put m p)) ≡ put_lines (map (λ l. l.now) (drop i lines)) (Some m)
+    put_lines (map (λ l. l.now) (drop (i + 1) lines)) (Some (with_pair m p)) ≡ put_lines (map (λ l. l.now) (drop i lines)) (Some m)
 put_done lines i d m p h some = sym (put_turn lines i d (Some m) h ∙ ap (λ (p : Option Pair). put_lines (map (λ l. l.now) (drop (i + 1) lines)) (put_line (Some m) p)) (sym some))
 
 -- no line is left

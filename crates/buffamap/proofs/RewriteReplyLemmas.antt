@@ -10,19 +10,19 @@ use Rattle.buffa_bytes.specs.declared.error.DecodeError.{DecodeError}
 use Rattle.buffa_bytes.specs.declared.error.EncodeError.TheVariants.{GroupRefused, MessageTooLarge, OutOfMemory}
 use Rattle.buffa_wire.specs.BudgetLeft.{BudgetLeft, defaults}
 use Rattle.buffa_wire.specs.Records.{bytes}
-use Rattle.buffa_map.specs.Enums.{ClosedFits, closed_writing}
-use Rattle.buffa_map.specs.Merge.{keeping}
+use Rattle.buffa_map_base.specs.Enums.{ClosedFits, closed_writing}
+use Rattle.buffa_map_base.specs.Merge.{keeping}
 use Rattle.buffa_map.specs.Rewrite.{MatchRefusal, RefusesBytes, RefusesOutput, RewritesRun}
-use Rattle.buffa_map.specs.Run.{Paid, Run}
-use Rattle.buffa_map.specs.Encoding.{HasEncoding, entry_encoding}
+use Rattle.buffa_map_base.specs.Run.{ArePaid, Run}
+use Rattle.buffa_map_base.specs.Encoding.{HasEncoding, entry_encoding}
 use Rattle.buffa_map.specs.declared.rewrite.RewriteError.{RewriteError}
 use Rattle.buffa_map.specs.declared.rewrite.RewriteError.TheVariants.{Decode, Encode}
-use Rattle.buffa_map.proofs.RunLemmas.{run_complete}
-use Rattle.buffa_map.proofs.ResultLemmas.{IfErr-map}
+use Rattle.buffa_map_base.proofs.RunLemmas.{run_complete}
+use Rattle.buffa_map_base.proofs.ResultLemmas.{IfErr-map}
 use Rattle.buffamap.specs.declared.choice.Choice.{Choice}
 use Rattle.buffamap.specs.Choice.{two_numbers}
-use Rattle.buffamap.specs.Codecs.{int32_reading, int32_writing}
-use Rattle.buffamap.specs.Reply.{done, hex_line}
+use Rattle.buffa_map_base.specs.Scalars.{int32_reading, int32_writing}
+use Rattle.buffamap.specs.Reply.{success, hex_line}
 use Rattle.buffamap.specs.Rewrite.{Entry, IsRewritten, ChoicePair, RefusesRun, RunHasNoRewrite, RunRewritesTo, choice_reading, choices_of, choice_run}
 use Rattle.buffamap.proofs.RunReplyLemmas.{stops}
 
@@ -55,10 +55,10 @@ module _ (d n : ℕ) (left over : BudgetLeft) (bs rest old new : List ℕ) (befo
   Refuses r = MatchRefusal r (RefusesBytes (keeping int32_reading choice_reading int_eq false d n 8) left bs pairs over rest old new)
       (RefusesOutput (keeping int32_reading choice_reading int_eq false d n 8) int32_writing closed_writing Walks left bs pairs over rest old new before)
 
-  is_run : (xs : List Entry) → Run int32_reading choice_reading d n bs xs → Paid int32_reading choice_reading d 8 1 left xs over → choice_run n bs ≡ Ok (xs, over)
+  is_run : (xs : List Entry) → Run int32_reading choice_reading d n bs xs → ArePaid int32_reading choice_reading d 8 1 left xs over → choice_run n bs ≡ Ok (xs, over)
   is_run xs run paid =
       run_complete int32_reading choice_reading 100 n 8 1 (λ _ d c. refl) (λ _ d c. refl) defaults bs xs over (subst (λ z. Run int32_reading choice_reading z n bs xs) is_d run)
-      (subst (λ z. Paid int32_reading choice_reading z 8 1 defaults xs over) is_d (subst (λ z. Paid int32_reading choice_reading d 8 1 z xs over) is_left paid))
+      (subst (λ z. ArePaid int32_reading choice_reading z 8 1 defaults xs over) is_d (subst (λ z. ArePaid int32_reading choice_reading d 8 1 z xs over) is_left paid))
 
   -- what was written is a rewrite
   pub rewritten : {T E : Type 0} (r : Result T E) → OnOk r Rewrites → OnOk r (RunRewritesTo n (choice_run n bs) new)
@@ -82,6 +82,6 @@ module _ (d n : ℕ) (left over : BudgetLeft) (bs rest old new : List ℕ) (befo
   refused r h = IfErr-map r why h
 
 -- what was written, in hexadecimal, is the reply
-pub replied : (n : ℕ) (run : Result (List Entry × BudgetLeft) DecodeError) (out text : List ℕ) → RunRewritesTo n run out → text ≡ hex_line out → IsRewritten n run (done text)
-replied n (Ok r) out text h e = inl (out, h, ap done e)
+pub replied : (n : ℕ) (run : Result (List Entry × BudgetLeft) DecodeError) (out text : List ℕ) → RunRewritesTo n run out → text ≡ hex_line out → IsRewritten n run (success text)
+replied n (Ok r) out text h e = inl (out, h, ap success e)
 replied n (Err f) out text h e = absurd h

@@ -7,12 +7,12 @@ use Rattle.buffa_bytes.specs.declared.error.DecodeError.TheVariants.{OutOfMemory
 use Rattle.buffa_wire.specs.BudgetLeft.{BudgetLeft, defaults, nothing}
 use Rattle.buffa_bytes.specs.Content.{Content}
 use Rattle.buffa_wire.specs.Records.{Datum}
-use Rattle.buffa_map.specs.Codec.{Reading}
-use Rattle.buffa_map.specs.Pairs.{SamePairs}
-use Rattle.buffa_map.specs.Merge.{ReadsRun, StopsRun, rules, state}
-use Rattle.buffa_map.specs.Run.{fold_entries, Paid, Run, EntryRecord, added, run_of}
-use Rattle.buffa_map.proofs.RunLemmas.{run_complete, run_faulty}
-use Rattle.buffa_map.proofs.ResultLemmas.{IfErr-map}
+use Rattle.buffa_map_base.specs.Codec.{Reading}
+use Rattle.buffa_map_base.specs.Pairs.{SamePairs}
+use Rattle.buffa_map_base.specs.Merge.{ReadsRun, StopsRun, rules, state}
+use Rattle.buffa_map_base.specs.Run.{fold_entries, ArePaid, Run, EntryRecord, added, run_of}
+use Rattle.buffa_map_base.proofs.RunLemmas.{run_complete, run_faulty}
+use Rattle.buffa_map_base.proofs.ResultLemmas.{IfErr-map}
 
 module _ {K V : Type 0} (key : Reading K) (val : Reading V) (eq : K → K → Bool) (cost slot : ℕ) (adds : ℕ → List ℕ → List (ℕ × Datum))
     (key_free : key.nested ≡ false → (d : ℕ) (c : Content) → key.cost d c ≡ nothing) (val_free : val.nested ≡ false → (d : ℕ) (c : Content) → val.cost d c ≡ nothing)
@@ -29,7 +29,7 @@ module _ {K V : Type 0} (key : Reading K) (val : Reading V) (eq : K → K → Bo
     k.entries,
     over,
     run_complete key val 100 n cost slot key_free val_free defaults bs k.entries over (subst (λ z. Run key val z n bs k.entries) is_d k.run)
-        (subst (λ z. Paid key val z cost slot defaults k.entries over) is_d (subst (λ z. Paid key val d cost slot z k.entries over) is_left k.paid)),
+        (subst (λ z. ArePaid key val z cost slot defaults k.entries over) is_d (subst (λ z. ArePaid key val d cost slot z k.entries over) is_left k.paid)),
     subst (λ z. SamePairs eq (fold_entries eq z k.entries) new) is_old k.folded,
     k.keeps,
   )) h

@@ -11,21 +11,21 @@ use Rattle.buffa_wire.specs.BudgetLeft.{BudgetLeft, Lacks, defaults}
 use Rattle.buffa_bytes.specs.ErrorText.{decode_error_text}
 use Rattle.buffa_wire.specs.Records.{Datum}
 use Rattle.buffa_wire.specs.Encoding.{records_encoding}
-use Rattle.buffa_map.specs.Enums.{ClosedFits, closed_writing}
+use Rattle.buffa_map_base.specs.Enums.{ClosedFits, closed_writing}
 use Rattle.buffa_map.specs.Laws.{RunsAreRead}
-use Rattle.buffa_map.specs.Pairs.{ListsOnce}
-use Rattle.buffa_map.specs.Run.{EntryRecord, fold_entries, undeclared_records}
-use Rattle.buffa_map.specs.Encoding.{AllHold, HasEncoding, entry_encoding, field_encoding}
-use Rattle.buffamap.specs.Again.{IsEncoded, IsReadAgainIn, IsRefused, RepliesToAgain, encoding_reply}
+use Rattle.buffa_map_base.specs.Pairs.{ListsOnce}
+use Rattle.buffa_map_base.specs.Run.{EntryRecord, fold_entries, undeclared_records}
+use Rattle.buffa_map_base.specs.Encoding.{AllHold, HasEncoding, entry_encoding, field_encoding}
+use Rattle.buffamap.specs.Again.{IsEncoded, IsReadAgainIn, RefusesMessageBytes, RepliesToAgain, encoding_reply}
 use Rattle.buffamap.specs.Choice.{two_numbers}
-use Rattle.buffamap.specs.Codecs.{int32_reading, int32_writing}
+use Rattle.buffa_map_base.specs.Scalars.{int32_reading, int32_writing}
 use Rattle.buffamap.specs.Ext.{IsShown, IsShownOf, RepliesToExt, ext_text, records_from}
 use Rattle.buffamap.specs.Forms.{hex_bytes, without_newline}
-use Rattle.buffamap.specs.Item.{IsFound, IsFoundIn, RepliesToItem, item_from, item_lines}
+use Rattle.buffamap.specs.Item.{IsFound, IsFoundIn, RepliesToItem, item_of_input, item_lines}
 use Rattle.buffamap.specs.Lines.{ListedInOrder, Pair, lines_of, map_in, same_key}
 use Rattle.buffamap.specs.Pinned.{HasReply}
 use Rattle.buffamap.specs.Read.{RepliesToBytes, RepliesToRead, RepliesToRun, run_from}
-use Rattle.buffamap.specs.Reply.{Reply, bad_input, done, fault, hex_line}
+use Rattle.buffamap.specs.Reply.{Reply, bad_input, success, fault, hex_line}
 use Rattle.buffamap.specs.Rewrite.{Entry, IsRewritten, IsRewrittenOf, RepliesToRewrite, choice_reading, ChoicePair, choice_run}
 use Rattle.buffamap.specs.Write.{RepliesToMap, RepliesToWrite, field_reply}
 use Rattle.buffa_codec.specs.Sub.{sub}
@@ -38,7 +38,7 @@ listed : (m : List Pair) → (ps : List Pair) × ListedInOrder m ps
 listed m = (ordered (slice_cmp nat_cmp) m, (subst (λ eq. ListsOnce eq m (ordered (slice_cmp nat_cmp) m)) same_test (ordered_once nat_list_cmp_total m), ordered_sorted nat_list_cmp_total m))
 
 run_there : (r : Result (List (EntryRecord (List ℕ) ℤ) × BudgetLeft) DecodeError) → (reply : Reply) × RepliesToRun r reply
-run_there (Ok r) = let l = listed (fold_entries same_key [] r.0) in (done (lines_of l.0), (l.0, l.1, refl))
+run_there (Ok r) = let l = listed (fold_entries same_key [] r.0) in (success (lines_of l.0), (l.0, l.1, refl))
 run_there (Err f) = (fault (decode_error_text f), refl)
 
 bytes_there : (n : ℕ) (o : Option (List ℕ)) → (reply : Reply) × RepliesToBytes n o reply
@@ -56,7 +56,7 @@ pub write_there : (n : ℕ) → HasReply (RepliesToWrite n)
 write_there n input = map_there n (map_in input)
 
 shown_there : (n : ℕ) (r : Result (List (ℕ × Datum)) DecodeError) → (reply : Reply) × IsShown n r reply
-shown_there n (Ok records) = (done (ext_text (sub n records)), refl)
+shown_there n (Ok records) = (success (ext_text (sub n records)), refl)
 shown_there n (Err f) = (fault (decode_error_text f), refl)
 
 shown_of_there : (n : ℕ) (o : Option (List ℕ)) → (reply : Reply) × IsShownOf n o reply
@@ -67,12 +67,12 @@ pub ext_there : (n : ℕ) → HasReply (RepliesToExt n)
 ext_there n input = shown_of_there n (hex_bytes (without_newline input))
 
 found_there : (r : Result (ℕ × List ℕ × List ℕ) DecodeError) → (reply : Reply) × IsFound r reply
-found_there (Ok item) = (done (item_lines item.0 item.1 item.2), refl)
+found_there (Ok item) = (success (item_lines item.0 item.1 item.2), refl)
 found_there (Err f) = (fault (decode_error_text f), refl)
 
 found_in_there : (o : Option (List ℕ)) → (reply : Reply) × IsFoundIn o reply
 found_in_there None = (bad_input, refl)
-found_in_there (Some bytes) = found_there (item_from bytes)
+found_in_there (Some bytes) = found_there (item_of_input bytes)
 
 pub item_there : HasReply RepliesToItem
 item_there input = found_in_there (hex_bytes (without_newline input))
@@ -94,7 +94,7 @@ affords cost = both (cases_lt defaults.unknown cost.unknown) (cases_lt defaults.
 
 module _ {X : Type 0} (text : X → List ℕ) (cost : BudgetLeft) where
   abbrev Told : Option X → Type 0
-  Told meant = (reply : Reply) × (IsEncoded meant cost text reply ⊎ IsRefused meant cost reply)
+  Told meant = (reply : Reply) × (IsEncoded meant cost text reply ⊎ RefusesMessageBytes meant cost reply)
 
   again_there_of : (meant : Option X) → Lacks defaults cost ⊎ (Lacks defaults cost → ⊥) → Told meant
   again_there_of None b = (fault (decode_error_text UnexpectedEof), inr (UnexpectedEof, λ e. cc, inr (refl, λ h. h), refl))
@@ -140,7 +140,7 @@ module _ (n : ℕ) (read : RunsAreRead int32_reading choice_reading) where
       out = field_encoding int32_writing closed_writing n l ++ records_encoding (undeclared_records n r.0)
 
       told : HasEncoding int32_writing closed_writing l ⊎ (HasEncoding int32_writing closed_writing l → ⊥) → (reply : Reply) × IsRewritten n (Ok r) reply
-      told (inl h) = (done (hex_line out), inl (out, ((l, ordered_once int_cmp_total m, h, fits, refl), ordered_sorted int_cmp_total m), refl))
+      told (inl h) = (success (hex_line out), inl (out, ((l, ordered_once int_cmp_total m, h, fits, refl), ordered_sorted int_cmp_total m), refl))
       told (inr h) = (fault (codes "MessageTooLarge"), inr ((l, ordered_once int_cmp_total m, ordered_sorted int_cmp_total m, h), refl))
 
   rewritten_of_there : (o : Option (List ℕ)) → (reply : Reply) × IsRewrittenOf n o reply

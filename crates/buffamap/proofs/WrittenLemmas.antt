@@ -1,4 +1,4 @@
--- WritesOrBreaks one after another, on known bytes.
+-- Writes one after another, on known bytes.
 use Rattle.std.proofs.Common.{◌≡◌, ◌+◌, ℕ, List, [], ◌++◌, Option, Some, None, Bool, true, ◌⊎◌, inl, inr, sym, ap, ◌∙◌, take, drop, length, ◌-◌, arith}
 use Rattle.std.specs.Prelude.{IfSome}
 use Rattle.std.proofs.Math.Seq.{take-add}

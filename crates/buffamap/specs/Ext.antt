@@ -14,7 +14,7 @@ use Rattle.buffa_codec.specs.Packed.{numbers_in}
 use Rattle.buffa_codec.specs.Decoded.{elements, last_read, string_held}
 use Rattle.buffa_codec.specs.Sub.{sub}
 use Rattle.buffamap.specs.Forms.{hex_bytes, without_newline}
-use Rattle.buffamap.specs.Reply.{Reply, bad_input, done, fault, line}
+use Rattle.buffamap.specs.Reply.{Reply, bad_input, success, fault, line}
 
 -- the records of a message, or the first fault: groups nested at most 100 deep, and a million records
 abbrev pub records_from : List ℕ → Result (List (ℕ × Datum)) DecodeError
@@ -68,7 +68,7 @@ ext_text ds =
     ++ string_line (string_of_last ds)) ++ ints_line (int32s_of_each ds)
 
 abbrev pub IsShown : ℕ → Result (List (ℕ × Datum)) DecodeError → Reply → Type 0
-IsShown n (Ok records) reply = reply ≡ done (ext_text (sub n records))
+IsShown n (Ok records) reply = reply ≡ success (ext_text (sub n records))
 IsShown n (Err f) reply = reply ≡ fault (decode_error_text f)
 
 abbrev pub IsShownOf : ℕ → Option (List ℕ) → Reply → Type 0

@@ -28,21 +28,21 @@ IsOfRewrite (Decode e) f = IsOfBytes e f
 IsOfRewrite (Encode e) f = IsOfEncoding e f
 
 -- what is told of a fault
-abbrev pub told : Fault → Reply
-told Words = wrong_words
-told Form = bad_input
-told Stream = broken
-told OutOfMemory = no_memory
-told (RefusedBytes e) = fault (decode_error_text e)
-told (RefusedEncoding e) = fault (encode_error_text e)
+abbrev pub fault_reply : Fault → Reply
+fault_reply Words = wrong_words
+fault_reply Form = bad_input
+fault_reply Stream = broken
+fault_reply OutOfMemory = no_memory
+fault_reply (RefusedBytes e) = fault (decode_error_text e)
+fault_reply (RefusedEncoding e) = fault (encode_error_text e)
 
 -- why a reader wasn't read to its end: memory, or a call that failed
 abbrev pub StopsReading : Bool → Fault → Type 0
 StopsReading may_fail f = (f ≡ OutOfMemory) ⊎ ((f ≡ Stream) × (may_fail ≡ true))
 
--- what is told of the fault is a P, memory aside
-abbrev pub Tells : (Reply → Type 0) → Fault → Type 0
-Tells P f = f ≢ OutOfMemory → P (told f)
+-- memory aside, what is told of the fault is a P
+abbrev pub TellsReply : (Reply → Type 0) → Fault → Type 0
+TellsReply P f = f ≢ OutOfMemory → P (fault_reply f)
 
 -- what was given isn't in the stated form, so that it says nothing, memory aside
 abbrev pub SaysNone : {A : Type 0} → Option A → Fault → Type 0

@@ -6,14 +6,14 @@ use Rattle.buffamap.specs.declared.command.Command.{Command}
 use Rattle.buffamap.specs.declared.command.Command.TheVariants.{AgainNode, AgainSet}
 use Rattle.buffamap.specs.Command.{command_of, texts}
 use Rattle.buffamap.specs.Engine.{AnswersCall}
-use Rattle.buffamap.specs.Reply.{Reply, done, fault}
-use Rattle.buffamap.specs.Streams.{Change, Known, Source}
+use Rattle.buffamap.specs.Reply.{Reply, success, fault}
+use Rattle.buffamap.specs.Streams.{StreamChange, Known, Source}
 use denote.Ref.{Bor}
 
 -- one input has one reply, and what is accepted isn't refused
 pub record ReplyIsPinned (R : List ℕ → Reply → Type 0) : Type 0 where
   pub one : (input : List ℕ) (a b : Reply) → R input a → R input b → a ≡ b
-  pub refused : (input text : List ℕ) (b : Reply) → R input (done text) → R input b → b.status ≡ 0
+  pub refused : (input text : List ℕ) (b : Reply) → R input (success text) → R input b → b.status ≡ 0
 
 -- bytes are refused, and why is told
 abbrev pub NamesFault : Reply → Type 0
@@ -22,7 +22,7 @@ NamesFault reply = (e : DecodeError) × (reply ≡ fault (decode_error_text e))
 -- one input has one reply, but that why its bytes are refused may be told in two ways; what is accepted has one
 pub record ReplyIsPinnedButForFaults (R : List ℕ → Reply → Type 0) : Type 0 where
   pub one : (input : List ℕ) (a b : Reply) → R input a → R input b → (a ≡ b) ⊎ (NamesFault a × NamesFault b)
-  pub accepted : (input text : List ℕ) (b : Reply) → R input (done text) → R input b → b ≡ done text
+  pub accepted : (input text : List ℕ) (b : Reply) → R input (success text) → R input b → b ≡ success text
 
 -- every input has a reply
 abbrev pub HasReply : (List ℕ → Reply → Type 0) → Type 0
@@ -32,7 +32,7 @@ HasReply R = (input : List ℕ) → (reply : Reply) × R input reply
 abbrev pub having : Bool → List ℕ → Source
 having may_fail input = record { bytes = Some input; may_fail = may_fail }
 
-abbrev pub holding : Bool → List ℕ → Known → Change
+abbrev pub holding : Bool → List ℕ → Known → StreamChange
 holding may_fail old new = record { old = Some old; new = new; may_fail = may_fail }
 
 -- which fault is told of bytes that are refused is open, of these commands alone

@@ -3,26 +3,26 @@ use Rattle.std.specs.Prelude.{◌≡◌, ℕ, ℤ, List, [], Option, Some, None,
 use Rattle.buffa_bytes.specs.declared.error.DecodeError.{DecodeError}
 use Rattle.buffa_bytes.specs.ErrorText.{decode_error_text}
 use Rattle.buffa_wire.specs.BudgetLeft.{BudgetLeft, defaults}
-use Rattle.buffa_map.specs.Pairs.{SamePairs}
-use Rattle.buffa_map.specs.Run.{fold_entries, EntryRecord, run_of}
-use Rattle.buffamap.specs.Codecs.{int32_reading, string_reading}
+use Rattle.buffa_map_base.specs.Pairs.{SamePairs}
+use Rattle.buffa_map_base.specs.Run.{fold_entries, EntryRecord, run_of}
+use Rattle.buffa_map_base.specs.Scalars.{int32_reading, text_reading}
 use Rattle.buffamap.specs.Forms.{hex_bytes, without_newline}
 use Rattle.buffamap.specs.Lines.{ListedInOrder, Pair, lines_of, same_key}
-use Rattle.buffamap.specs.Reply.{Reply, bad_input, done, fault}
+use Rattle.buffamap.specs.Reply.{Reply, bad_input, success, fault}
 
 -- the entries of a run and what is over, or the first fault: map<string, int32>, 100 levels deep, an entry of
 -- 24 + 4 units, where none is kept
 abbrev pub run_from : ℕ → List ℕ → Result (List (EntryRecord (List ℕ) ℤ) × BudgetLeft) DecodeError
-run_from n bytes = run_of string_reading int32_reading 100 n 28 0 defaults bytes
+run_from n bytes = run_of text_reading int32_reading 100 n 28 0 defaults bytes
 
 -- these are the pairs of what the run means
-abbrev pub MeansRun : Result (List (EntryRecord (List ℕ) ℤ) × BudgetLeft) DecodeError → List Pair → Type 0
-MeansRun (Ok r) ps = SamePairs same_key (fold_entries same_key [] r.0) ps
-MeansRun (Err f) ps = ⊥
+abbrev pub ArePairsOfRun : Result (List (EntryRecord (List ℕ) ℤ) × BudgetLeft) DecodeError → List Pair → Type 0
+ArePairsOfRun (Ok r) ps = SamePairs same_key (fold_entries same_key [] r.0) ps
+ArePairsOfRun (Err f) ps = ⊥
 
 -- the lines of what a run means, in the order of the keys' bytes; or the fault
 abbrev pub RepliesToRun : Result (List (EntryRecord (List ℕ) ℤ) × BudgetLeft) DecodeError → Reply → Type 0
-RepliesToRun (Ok r) reply = (ps : List Pair) × ListedInOrder (fold_entries same_key [] r.0) ps × (reply ≡ done (lines_of ps))
+RepliesToRun (Ok r) reply = (ps : List Pair) × ListedInOrder (fold_entries same_key [] r.0) ps × (reply ≡ success (lines_of ps))
 RepliesToRun (Err f) reply = reply ≡ fault (decode_error_text f)
 
 abbrev pub RepliesToBytes : ℕ → Option (List ℕ) → Reply → Type 0

@@ -11,18 +11,18 @@ use Rattle.buffa_bytes.specs.declared.error.EncodeError.TheVariants as of_encodi
 use Rattle.buffa_wire.specs.BudgetLeft.{BudgetLeft, defaults}
 use Rattle.buffa_wire.specs.Enums.{Numbers, Refines}
 use Rattle.buffa_bytes.specs.ErrorText.{decode_error_text}
-use Rattle.buffa_map.specs.Codec.{Reading}
-use Rattle.buffa_map.specs.Enums.{ClosedFits, closed_reading, closed_writing}
-use Rattle.buffa_map.specs.Pairs.{ListsOnce, means}
+use Rattle.buffa_map_base.specs.Codec.{Reading}
+use Rattle.buffa_map_base.specs.Enums.{ClosedFits, closed_reading, closed_writing}
+use Rattle.buffa_map_base.specs.Pairs.{ListsOnce, means}
 use Rattle.buffa_map.specs.Rewrite.{IsRewrite, KeepsMeaning}
-use Rattle.buffa_map.specs.Run.{EntryRecord, Run, fold_entries, run_of}
-use Rattle.buffa_map.specs.Encoding.{HasEncoding}
+use Rattle.buffa_map_base.specs.Run.{EntryRecord, Run, fold_entries, run_of}
+use Rattle.buffa_map_base.specs.Encoding.{HasEncoding}
 use Rattle.buffa_map.specs.declared.rewrite.RewriteError.{RewriteError}
 use Rattle.buffa_map.specs.declared.rewrite.RewriteError.TheVariants.{Decode, Encode}
 use Rattle.buffamap.specs.Choice.{number_of, two_numbers}
-use Rattle.buffamap.specs.Codecs.{int32_reading, int32_writing}
+use Rattle.buffa_map_base.specs.Scalars.{int32_reading, int32_writing}
 use Rattle.buffamap.specs.Forms.{hex_bytes, without_newline}
-use Rattle.buffamap.specs.Reply.{Reply, bad_input, done, fault, hex_line}
+use Rattle.buffamap.specs.Reply.{Reply, bad_input, success, fault, hex_line}
 use Rattle.buffamap.specs.declared.choice.Choice.{Choice}
 
 -- a key and the number of a value
@@ -74,7 +74,7 @@ RefusesRun run (Encode e) = e ≢ of_encoding.OutOfMemory → (e ≡ of_encoding
 -- the rewrite in hexadecimal; or the fault
 abbrev pub IsRewritten : ℕ → Result (List Entry × BudgetLeft) DecodeError → Reply → Type 0
 IsRewritten n (Ok r) reply =
-    ((out : List ℕ) × RewritesTo n r.0 out × (reply ≡ done (hex_line out)))
+    ((out : List ℕ) × RewritesTo n r.0 out × (reply ≡ success (hex_line out)))
     ⊎ (HasNoRewrite r.0 × (reply ≡ fault (codes "MessageTooLarge")))
 IsRewritten n (Err f) reply = reply ≡ fault (decode_error_text f)
 
@@ -91,6 +91,6 @@ RepliesToRewrite n input = IsRewrittenOf n (hex_bytes (without_newline input))
 abbrev pub RewriteKeepsMeaning : ℕ → Type 0
 RewriteKeepsMeaning n =
     (f : Numbers) → Refines two_numbers f → (input bytes text : List ℕ) → hex_bytes (without_newline input) ≡ Some bytes →
-    RepliesToRewrite n input (done text) → (es fs : List Entry) →
+    RepliesToRewrite n input (success text) → (es fs : List Entry) →
     Run int32_reading choice_reading 100 n bytes es → Run int32_reading (closed_reading f) 100 n bytes fs →
     (out : List ℕ) × (gs : List Entry) × (text ≡ hex_line out) × Run int32_reading (closed_reading f) 100 n out gs × KeepsMeaning int_eq es fs gs

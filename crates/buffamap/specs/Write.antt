@@ -1,11 +1,11 @@
 -- What `write N` answers: the field of a map whose pairs are given in lines.
 use Rattle.std.specs.Prelude.{◌≡◌, ℕ, nat_lt, Bool, List, length, ◌^◌, codes, Option, Some, None, if◌then◌else◌}
 use Rattle.std.specs.List.{list_all}
-use Rattle.buffa_map.specs.Codec.{Writing}
-use Rattle.buffa_map.specs.Encoding.{entry_encoding, field_encoding}
-use Rattle.buffamap.specs.Codecs.{int32_writing, string_writing}
+use Rattle.buffa_map_base.specs.Codec.{Writing}
+use Rattle.buffa_map_base.specs.Encoding.{entry_encoding, field_encoding}
+use Rattle.buffa_map_base.specs.Scalars.{int32_writing, text_writing}
 use Rattle.buffamap.specs.Lines.{ListedInOrder, Pair, map_in}
-use Rattle.buffamap.specs.Reply.{Reply, bad_input, done, fault, hex_line}
+use Rattle.buffamap.specs.Reply.{Reply, bad_input, success, fault, hex_line}
 
 -- no entry is too long for its length to be a varint
 abbrev pub has_field : {K V : Type 0} → Writing K → Writing V → List (K × V) → Bool
@@ -14,7 +14,7 @@ has_field key val ps = list_all (λ p. nat_lt (length (entry_encoding key val p)
 -- the field of pairs in hexadecimal
 abbrev pub field_reply : ℕ → List Pair → Reply
 field_reply n ps =
-    if has_field string_writing int32_writing ps then done (hex_line (field_encoding string_writing int32_writing n ps))
+    if has_field text_writing int32_writing ps then success (hex_line (field_encoding text_writing int32_writing n ps))
     else fault (codes "MessageTooLarge")
 
 abbrev pub IsFieldReply : ℕ → List Pair → Reply → Type 0

@@ -4,8 +4,8 @@ ghost use Rattle.buffa_wire.specs.Records.{Held};
 ghost use Rattle.buffa_codec.specs.Sub.{sub};
 ghost use Rattle.buffamap.specs.Ext.{IsShown, RepliesToExt, ext_text, has_line, int32_line, int32_of_last};
 ghost use Rattle.buffamap.specs.Ext.{int32s_of_each, ints_line, records_from, string_line, string_of_last, words_of};
-ghost use Rattle.buffamap.specs.Fault.{Tells};
-ghost use Rattle.buffamap.specs.Reply.{done};
+ghost use Rattle.buffamap.specs.Fault.{TellsReply};
+ghost use Rattle.buffamap.specs.Reply.{success};
 
 use crate::fault::Fault;
 use crate::forms::{hex_bytes, without_newline};
@@ -139,8 +139,8 @@ fn lines_of(alloc: Global, message: &Extendee, number: u32) -> Result<Vec<u8>, A
 
 // The answer to a message.
 fn ext_message(alloc: Global, number: u32, bytes: &[u8]) -> Result<Vec<u8>, Fault>
-    ensures text { IfOk result (λ text. IsShown number (records_from bytes.now) (done text.items)) }
-    ensures fault { IfErr result (Tells (IsShown number (records_from bytes.now))) }
+    ensures text { IfOk result (λ text. IsShown number (records_from bytes.now) (success text.items)) }
+    ensures fault { IfErr result (TellsReply (IsShown number (records_from bytes.now))) }
 {
     let fields = UnknownFields::decode_from_slice(alloc, bytes)?;
     Ok(lines_of(alloc, &Extendee { fields }, number)?)
@@ -149,8 +149,8 @@ fn ext_message(alloc: Global, number: u32, bytes: &[u8]) -> Result<Vec<u8>, Faul
 /// Four lines on the records of number `number` in a message, which the input gives in hexadecimal: whether
 /// there are any; the value of an int32; of a string; and those of int32s, packed or not.
 pub fn ext_reply(alloc: Global, number: u32, input: &[u8]) -> Result<Vec<u8>, Fault>
-    ensures text { IfOk result (λ text. RepliesToExt number input.now (done text.items)) }
-    ensures fault { IfErr result (Tells (RepliesToExt number input.now)) }
+    ensures text { IfOk result (λ text. RepliesToExt number input.now (success text.items)) }
+    ensures fault { IfErr result (TellsReply (RepliesToExt number input.now)) }
 {
     let bytes = hex_bytes(alloc, without_newline(input))?;
     ext_message(alloc, number, bytes.as_slice())

@@ -1,8 +1,8 @@
 // `item`: the number, the message bytes and the rest of a MessageSet's Item.
 ghost use Rattle.std.specs.Prelude.{◌≡◌, IfErr, IfOk};
-ghost use Rattle.buffamap.specs.Fault.{Tells};
-ghost use Rattle.buffamap.specs.Item.{IsFound, RepliesToItem, item_from, item_lines};
-ghost use Rattle.buffamap.specs.Reply.{done};
+ghost use Rattle.buffamap.specs.Fault.{TellsReply};
+ghost use Rattle.buffamap.specs.Item.{IsFound, RepliesToItem, item_of_input, item_lines};
+ghost use Rattle.buffamap.specs.Reply.{success};
 
 use crate::fault::Fault;
 use crate::forms::{hex_bytes, without_newline};
@@ -30,8 +30,8 @@ fn item_lines(
 
 // The answer to an Item.
 fn item_bytes(alloc: Global, bytes: &[u8]) -> Result<Vec<u8>, Fault>
-    ensures text { IfOk result (λ text. IsFound (item_from bytes.now) (done text.items)) }
-    ensures fault { IfErr result (Tells (IsFound (item_from bytes.now))) }
+    ensures text { IfOk result (λ text. IsFound (item_of_input bytes.now) (success text.items)) }
+    ensures fault { IfErr result (TellsReply (IsFound (item_of_input bytes.now))) }
 {
     let mut budget = Budget::new(DEFAULT_UNKNOWN_FIELD_LIMIT);
     let ctx = DecodeContext::new(DEPTH, &mut budget);
@@ -43,8 +43,8 @@ fn item_bytes(alloc: Global, bytes: &[u8]) -> Result<Vec<u8>, Fault>
 /// Three lines on an Item, of which the input gives in hexadecimal what follows the start tag: the number, the
 /// message bytes, and what follows the Item, both in hexadecimal.
 pub fn item_reply(alloc: Global, input: &[u8]) -> Result<Vec<u8>, Fault>
-    ensures text { IfOk result (λ text. RepliesToItem input.now (done text.items)) }
-    ensures fault { IfErr result (Tells (RepliesToItem input.now)) }
+    ensures text { IfOk result (λ text. RepliesToItem input.now (success text.items)) }
+    ensures fault { IfErr result (TellsReply (RepliesToItem input.now)) }
 {
     let bytes = hex_bytes(alloc, without_newline(input))?;
     item_bytes(alloc, bytes.as_slice())

@@ -42,7 +42,8 @@ pub fn one_reply_to_rewrite(number: u32)
 }
 
 /// What `rewrite N` writes keeps the meaning of what it reads: `law_12` of [`buffa::laws`], of the program's reply. A
-/// reader of an enum that declares more reads from both the same map, if the run is ordered, and keeps the same entries.
+/// reader of an enum that declares more reads from both the same map, if the run is ordered, and keeps the same
+/// entries.
 pub fn rewrites_keep_their_meaning(number: u32)
     requires { IsNumber number }
     ensures { RewriteKeepsMeaning number }
@@ -88,10 +89,10 @@ pub fn sure_calls_never_fail()
     ensures writer { ⟦<SureCalls as WriteCalls<Sink>>⟧.may_fail ≡ false }
 {}
 
-/// One call of the program has one status, and leaves its output and its errors in one way, where no call of its streams
-/// may fail; where one may, it has one output still, if its status is neither 3 nor 4. Left open: that memory ran out;
-/// which fault `again` tells of bytes that it refuses; whether a stream that may fail did, and what of a line stands
-/// then, which is a beginning of it; and a reader or a writer that doesn't tell its bytes.
+/// One call of the program has one status, and leaves its output and its errors in one way, where no call of its
+/// streams may fail; where one may, it has one output still, if its status is neither 3 nor 4. Left open: that memory
+/// ran out; which fault `again` tells of bytes that it refuses; whether a stream that may fail did, and what of a line
+/// stands then, which is a beginning of it; and a reader or a writer that doesn't tell its bytes.
 pub fn one_answer_to_a_call(words: &[&str])
     ensures { CallIsPinned words.now }
 {}

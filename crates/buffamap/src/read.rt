@@ -3,12 +3,12 @@ ghost use Rattle.std.specs.Prelude.{◌≡◌, ◌≢◌, ℕ, ℤ, List, [], na
 ghost use Rattle.std.specs.Cmp.Lexicographic.{pointwise};
 ghost use Rattle.buffa_bytes.specs.declared.error.DecodeError.TheVariants.{OutOfMemory};
 ghost use Rattle.buffa_wire.specs.BudgetLeft.{BudgetLeft};
-ghost use Rattle.buffa_map.specs.Pairs.{SamePairs};
-ghost use Rattle.buffa_map.specs.Run.{fold_entries, EntryRecord};
+ghost use Rattle.buffa_map_base.specs.Pairs.{SamePairs};
+ghost use Rattle.buffa_map_base.specs.Run.{fold_entries, EntryRecord};
 ghost use Rattle.buffamap.specs.Lines.{pairs_of, same_key};
-ghost use Rattle.buffamap.specs.Read.{MeansRun, RepliesToRead, RepliesToRun, run_from};
-ghost use Rattle.buffamap.specs.Fault.{Tells};
-ghost use Rattle.buffamap.specs.Reply.{done};
+ghost use Rattle.buffamap.specs.Read.{ArePairsOfRun, RepliesToRead, RepliesToRun, run_from};
+ghost use Rattle.buffamap.specs.Fault.{TellsReply};
+ghost use Rattle.buffamap.specs.Reply.{success};
 
 use crate::fault::Fault;
 use crate::forms::{hex_bytes, without_newline};
@@ -26,7 +26,7 @@ fn read_pairs(
     pairs: &mut BTreeMap<String, i32>,
 ) -> Result<(), DecodeError>
     requires { pairs.old.entries ≡ [] }
-    ensures ok { OnOk result (MeansRun (run_from number bytes.now) (pairs_of pairs.new.entries)) }
+    ensures ok { OnOk result (ArePairsOfRun (run_from number bytes.now) (pairs_of pairs.new.entries)) }
     ensures fault { IfErr result (λ f. f ≢ OutOfMemory → run_from number bytes.now ≡ Err f) }
 {
     let mut budget = Budget::new(DEFAULT_UNKNOWN_FIELD_LIMIT);
@@ -39,8 +39,8 @@ fn read_pairs(
 
 // The answer to a run.
 fn read_run(alloc: Global, number: u32, bytes: &[u8]) -> Result<Vec<u8>, Fault>
-    ensures text { IfOk result (λ text. RepliesToRun (run_from number bytes.now) (done text.items)) }
-    ensures fault { IfErr result (Tells (RepliesToRun (run_from number bytes.now))) }
+    ensures text { IfOk result (λ text. RepliesToRun (run_from number bytes.now) (success text.items)) }
+    ensures fault { IfErr result (TellsReply (RepliesToRun (run_from number bytes.now))) }
 {
     let mut pairs = BTreeMap::new(alloc);
     read_pairs(alloc, number, bytes, &mut pairs)?;
@@ -49,8 +49,8 @@ fn read_run(alloc: Global, number: u32, bytes: &[u8]) -> Result<Vec<u8>, Fault>
 
 /// The lines of the pairs of a run of field `number`, which the input gives in hexadecimal.
 pub fn read_reply(alloc: Global, number: u32, input: &[u8]) -> Result<Vec<u8>, Fault>
-    ensures text { IfOk result (λ text. RepliesToRead number input.now (done text.items)) }
-    ensures fault { IfErr result (Tells (RepliesToRead number input.now)) }
+    ensures text { IfOk result (λ text. RepliesToRead number input.now (success text.items)) }
+    ensures fault { IfErr result (TellsReply (RepliesToRead number input.now)) }
 {
     let bytes = hex_bytes(alloc, without_newline(input))?;
     read_run(alloc, number, bytes.as_slice())

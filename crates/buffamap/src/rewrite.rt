@@ -1,8 +1,8 @@
 // `rewrite N`: a run as a reader of two values writes it.
 ghost use Rattle.std.specs.Prelude.{◌≡◌, [], IfErr, IfOk, OnOk};
 ghost use Rattle.buffa_bytes.specs.Number.{IsNumber};
-ghost use Rattle.buffamap.specs.Fault.{Tells};
-ghost use Rattle.buffamap.specs.Reply.{done};
+ghost use Rattle.buffamap.specs.Fault.{TellsReply};
+ghost use Rattle.buffamap.specs.Reply.{success};
 ghost use Rattle.buffamap.specs.Rewrite.{IsRewritten, RefusesRun, RepliesToRewrite, RunRewritesTo, choice_run};
 
 use crate::choice::Choice;
@@ -44,8 +44,8 @@ fn rewrite_into(
 // The answer to a run.
 fn rewrite_run(alloc: Global, number: u32, bytes: &[u8]) -> Result<Vec<u8>, Fault>
     requires { IsNumber number }
-    ensures text { IfOk result (λ text. IsRewritten number (choice_run number bytes.now) (done text.items)) }
-    ensures fault { IfErr result (Tells (IsRewritten number (choice_run number bytes.now))) }
+    ensures text { IfOk result (λ text. IsRewritten number (choice_run number bytes.now) (success text.items)) }
+    ensures fault { IfErr result (TellsReply (IsRewritten number (choice_run number bytes.now))) }
 {
     let mut run = Vec::new(alloc);
     rewrite_into(alloc, number, bytes, &mut run)?;
@@ -56,8 +56,8 @@ fn rewrite_run(alloc: Global, number: u32, bytes: &[u8]) -> Result<Vec<u8>, Faul
 /// of its map in the order of their keys, and behind them the entries with a value that is undeclared.
 pub fn rewrite_reply(alloc: Global, number: u32, input: &[u8]) -> Result<Vec<u8>, Fault>
     requires { IsNumber number }
-    ensures text { IfOk result (λ text. RepliesToRewrite number input.now (done text.items)) }
-    ensures fault { IfErr result (Tells (RepliesToRewrite number input.now)) }
+    ensures text { IfOk result (λ text. RepliesToRewrite number input.now (success text.items)) }
+    ensures fault { IfErr result (TellsReply (RepliesToRewrite number input.now)) }
 {
     let bytes = hex_bytes(alloc, without_newline(input))?;
     rewrite_run(alloc, number, bytes.as_slice())

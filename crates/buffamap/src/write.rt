@@ -2,8 +2,8 @@
 ghost use Rattle.std.specs.Prelude.{◌≡◌, IfErr, IfOk};
 ghost use Rattle.buffa_bytes.specs.Number.{IsNumber};
 ghost use Rattle.buffamap.specs.Lines.{pairs_of};
-ghost use Rattle.buffamap.specs.Fault.{Tells};
-ghost use Rattle.buffamap.specs.Reply.{done};
+ghost use Rattle.buffamap.specs.Fault.{TellsReply};
+ghost use Rattle.buffamap.specs.Reply.{success};
 ghost use Rattle.buffamap.specs.Write.{IsFieldReply, RepliesToWrite};
 
 use crate::fault::Fault;
@@ -16,8 +16,8 @@ use std::collections::BTreeMap;
 // The field of a map.
 fn write_pairs(alloc: Global, number: u32, pairs: &BTreeMap<String, i32>) -> Result<Vec<u8>, Fault>
     requires { IsNumber number }
-    ensures text { IfOk result (λ text. IsFieldReply number (pairs_of pairs.now.entries) (done text.items)) }
-    ensures fault { IfErr result (Tells (IsFieldReply number (pairs_of pairs.now.entries))) }
+    ensures text { IfOk result (λ text. IsFieldReply number (pairs_of pairs.now.entries) (success text.items)) }
+    ensures fault { IfErr result (TellsReply (IsFieldReply number (pairs_of pairs.now.entries))) }
 {
     let mut field = Vec::new(alloc);
     write_field::<Str, Int32, BTreeMap<String, i32>, Vec<u8>>(pairs, number, &mut field)?;
@@ -27,8 +27,8 @@ fn write_pairs(alloc: Global, number: u32, pairs: &BTreeMap<String, i32>) -> Res
 /// The field `number`, in hexadecimal, of the map whose pairs the input gives in lines.
 pub fn write_reply(alloc: Global, number: u32, input: &[u8]) -> Result<Vec<u8>, Fault>
     requires { IsNumber number }
-    ensures text { IfOk result (λ text. RepliesToWrite number input.now (done text.items)) }
-    ensures fault { IfErr result (Tells (RepliesToWrite number input.now)) }
+    ensures text { IfOk result (λ text. RepliesToWrite number input.now (success text.items)) }
+    ensures fault { IfErr result (TellsReply (RepliesToWrite number input.now)) }
 {
     let pairs = map_in(alloc, input)?;
     write_pairs(alloc, number, &pairs)

@@ -1,1 +1,2 @@
+-- The words that this crate hands out.
 pub mod Normal

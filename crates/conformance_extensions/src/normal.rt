@@ -21,8 +21,8 @@ use conformance_rows::outcome::Outcome;
 use conformance_rows::words::Worded;
 use std::alloc::Global;
 
-/// A message that tells whether it is read back. `Back` is a type of the crate that says how, so that a crate can say it
-/// of types that are not its own.
+/// A message that tells whether it is read back. `Back` is a type of the crate that says how, so that a crate can say
+/// it of types that are not its own.
 pub trait Normal<Back>: Message {
     /// Whether the message is read back of its encoding, where its cost is left.
     fn is_normal(&self) -> bool

@@ -42,8 +42,8 @@ fn is_payload_written(payload: &UnknownFieldData, levels: u32) -> bool
     }
 }
 
-/// Whether records can be written, and nest at most so many levels deep: each has a number that a field may have, and so
-/// have those in its groups.
+/// Whether records can be written, and nest at most so many levels deep: each has a number that a field may have, and
+/// so have those in its groups.
 #[cycle(walk)]
 pub fn are_written(fields: &UnknownFields, levels: u32) -> bool
     ensures { IsTrue result → AreWritten levels fields.now.records }

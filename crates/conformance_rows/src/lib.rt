@@ -1,8 +1,8 @@
 //! Rows of tables on the library: what comes of a call in words, values as words, and buffers.
 //!
 //! A row is a [`case::Case`], and what its call does an [`outcome::Outcome`]; [`words`] has values as words, [`calls`]
-//! what a call is given, and [`mark`] the lines before and after a call, between which memory may be refused. [`any_buf`] is
-//! the one type of buffers, and [`runs`] runs rows, each of whose calls reads one.
+//! what a call is given, and [`mark`] the lines before and after a call, between which memory may be refused.
+//! [`any_buf`] is the one type of buffers, and [`runs`] runs rows, each of whose calls reads one.
 #![tactic(auto)]
 
 pub mod any_buf;

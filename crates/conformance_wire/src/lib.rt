@@ -1,5 +1,5 @@
-//! Rows on what `buffa_wire` has by itself: [`scalars`], strings, bytes and tags; [`records`], which are kept or passed over;
-//! [`lists`] of records, caches of sizes, contexts and limits.
+//! Rows on what `buffa_wire` has by itself: [`scalars`], strings, bytes and tags; [`records`], which are kept or passed
+//! over; [`lists`] of records, caches of sizes, contexts and limits.
 #![tactic(auto)]
 
 pub mod lists;

@@ -1,5 +1,5 @@
-// Rows on scalars, strings and bytes by themselves, and on tags: what is read of a buffer, and how a value is spelled. A
-// `Payload` is a type with its public functions; `numbers` and `texts` have one for each.
+// Rows on scalars, strings and bytes by themselves, and on tags: what is read of a buffer, and how a value is spelled.
+// A `Payload` is a type with its public functions; `numbers` and `texts` have one for each.
 
 pub mod numbers;
 pub mod payload;

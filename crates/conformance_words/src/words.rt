@@ -34,10 +34,7 @@ impl Worded<Samples> for Old {
     }
 
     fn of_word(_alloc: Global, word: &str) -> Result<Old, Fault> {
-        match Old::from_i32(word.parse::<i32>()?) {
-            Some(value) => Ok(value),
-            None => Err(Fault::Form),
-        }
+        Old::from_i32(word.parse::<i32>()?).ok_or(Fault::Form)
     }
 }
 
@@ -47,10 +44,7 @@ impl Worded<Samples> for New {
     }
 
     fn of_word(_alloc: Global, word: &str) -> Result<New, Fault> {
-        match New::from_i32(word.parse::<i32>()?) {
-            Some(value) => Ok(value),
-            None => Err(Fault::Form),
-        }
+        New::from_i32(word.parse::<i32>()?).ok_or(Fault::Form)
     }
 }
 

@@ -13,9 +13,17 @@ use crate::error::{DecodeError, EncodeError};
 use crate::sink::EncodeSink;
 
 /// The length of a fixed32's and an sfixed32's encoding, in bytes.
+///
+/// ```ignore
+/// ensures fixed32 { FIXED32_ENCODED_LEN ≡ 4 }
+/// ```
 pub const FIXED32_ENCODED_LEN: usize = 4;
 
 /// The length of a fixed64's and an sfixed64's encoding, in bytes.
+///
+/// ```ignore
+/// ensures fixed64 { FIXED64_ENCODED_LEN ≡ 8 }
+/// ```
 pub const FIXED64_ENCODED_LEN: usize = 8;
 
 // Fills `bytes` with the first bytes of the buffer.

@@ -283,6 +283,10 @@ pub fn decode_sint64<B: Buf>(buf: &mut B) -> Result<i64, DecodeError>
 }
 
 /// The length of a bool's encoding, in bytes.
+///
+/// ```ignore
+/// ensures bool { BOOL_ENCODED_LEN ≡ 1 }
+/// ```
 pub const BOOL_ENCODED_LEN: usize = 1;
 
 /// Writes a bool: 1 for true, 0 for false. Source: the protobuf encoding guide, "Bools and Enums".

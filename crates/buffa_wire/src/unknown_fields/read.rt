@@ -5,7 +5,7 @@ ghost use Rattle.buffa_bytes.specs.Left.{LeavesUnlessFull, past_no_payload};
 ghost use Rattle.buffa_bytes.specs.Gives.{FullOnlyIf, GivesUnlessFull};
 ghost use Rattle.buffa_wire.specs.BudgetLeft.{UnknownTaken, UnknownsSpent, budget_left};
 ghost use Rattle.buffa_wire.specs.Records.{records_of};
-ghost use Rattle.buffa_wire.specs.RecordReading.{GroupTakesMemory, ListTakesMemory, PayloadTakesMemory, RecordTakesMemory, field_in, group_in, list_at, plain_at};
+ghost use Rattle.buffa_wire.specs.RecordReading.{GroupRecordsTakeMemory, ListTakesMemory, PayloadTakesMemory, RecordTakesMemory, field_in, group_in, list_at, plain_at};
 ghost use Rattle.buffa_bytes.specs.Unread.{IsTailOf, bytes_read};
 ghost use Rattle.buffa_wire.specs.View.{datum_of};
 
@@ -56,11 +56,10 @@ fn decode_plain<B: Buf>(
 
 /// Reads the field whose tag was read, and keeps it.
 ///
-/// Of the unknown fields left it spends one for the field, and one for each field in its groups, and it
-/// spends no element memory. After an error no more unknown fields are spent than one and the bytes that were
-/// read, and one, where one was left, of a field that is no group and of a group at depth 0. Memory is asked
-/// for only where an unknown field was left, for bytes, one at least, that are there, and for a group's
-/// fields once the first is read.
+/// It spends one of the unknown fields left for the field, one for each field in its groups, and no element memory.
+/// After an error at most one more is spent than bytes were read; exactly one, if one was left, of a field that is no
+/// group and of a group at depth 0. Memory is asked for only where an unknown field was left: for bytes that are there,
+/// and for the fields of a group once the first is read.
 ///
 /// # Errors
 /// The first fault, in this order: [`DecodeError::InvalidEndGroup`] for an end tag, which spends nothing;
@@ -135,7 +134,7 @@ fn decode_group<B: Buf>(
 ) -> Result<UnknownFields, DecodeError>
     ensures reads { GivesUnlessFull (λ f. (records_of f.records, (budget_left ctx.exit).unknown, B.unread buf.new))
         result (group_in ctx.entry number (B.unread buf.old)) }
-    ensures full { FullOnlyIf result (GroupTakesMemory ctx.entry.depth ctx.entry.budget.now.unknown
+    ensures full { FullOnlyIf result (GroupRecordsTakeMemory ctx.entry.depth ctx.entry.budget.now.unknown
         (B.unread buf.old)) }
     ensures level { ctx.entry.depth ≡ 0 → B.unread buf.new ≡ B.unread buf.old }
     ensures deep { ctx.entry.depth ≡ 0 → budget_left ctx.exit ≡ ctx.entry.budget.now }

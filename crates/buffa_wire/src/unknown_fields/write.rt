@@ -1,6 +1,6 @@
 //! The encodings of unknown fields.
 
-ghost use Rattle.buffa_wire.specs.Encoding.{records_encoding, tagged_encoding, payload_encoding, told};
+ghost use Rattle.buffa_wire.specs.Encoding.{records_encoding, tagged_encoding, payload_encoding, write_outcome};
 ghost use Rattle.buffa_wire.specs.View.{datum_of};
 ghost use Rattle.buffa_bytes.specs.Written.{UsesRoom, Writes};
 
@@ -61,14 +61,14 @@ impl UnknownFields {
     }
 }
 
-// Writes a field; whether all of it was written. The answer is one bit, since a `Result` is put together in memory.
+// Writes a field, and answers whether all of it was written: by a `bool`, since a `Result` is made in memory.
 #[cycle(write)]
 #[inline(always)]
 #[tactic(auto, using(buffa_bytes::proofs::SinkLemmas::writes_then, buffa_bytes::proofs::SinkLemmas::front_first, buffa_bytes::proofs::SinkLemmas::room_then, crate::proofs::EncodingLemmas::told_of, crate::proofs::EncodingLemmas::told_room))]
 fn write_field<S: EncodeSink>(number: u32, payload: &UnknownFieldData, sink: &mut S) -> bool
-    ensures writes { Writes (told result) (S.written sink.old) (tagged_encoding number (datum_of payload.now))
+    ensures writes { Writes (write_outcome result) (S.written sink.old) (tagged_encoding number (datum_of payload.now))
         (S.written sink.new) }
-    ensures room { UsesRoom (told result) (S.room sink.old) (tagged_encoding number (datum_of payload.now))
+    ensures room { UsesRoom (write_outcome result) (S.room sink.old) (tagged_encoding number (datum_of payload.now))
         (S.room sink.new) }
 {
     if let UnknownFieldData::Varint(v) = payload {
@@ -80,14 +80,14 @@ fn write_field<S: EncodeSink>(number: u32, payload: &UnknownFieldData, sink: &mu
     write_payload(number, payload, sink)
 }
 
-// Writes what follows the tag; whether all of it was written.
+// Writes what follows the tag, and answers whether all of it was written.
 #[cycle(write)]
 #[inline(always)]
 #[tactic(auto, using(buffa_bytes::proofs::SinkLemmas::writes_then, buffa_bytes::proofs::SinkLemmas::front_first, buffa_bytes::proofs::SinkLemmas::room_then, crate::proofs::EncodingLemmas::told_of, crate::proofs::EncodingLemmas::told_room))]
 fn write_payload<S: EncodeSink>(number: u32, payload: &UnknownFieldData, sink: &mut S) -> bool
-    ensures writes { Writes (told result) (S.written sink.old) (payload_encoding number (datum_of payload.now))
+    ensures writes { Writes (write_outcome result) (S.written sink.old) (payload_encoding number (datum_of payload.now))
         (S.written sink.new) }
-    ensures room { UsesRoom (told result) (S.room sink.old) (payload_encoding number (datum_of payload.now))
+    ensures room { UsesRoom (write_outcome result) (S.room sink.old) (payload_encoding number (datum_of payload.now))
         (S.room sink.new) }
 {
     match payload {

@@ -38,10 +38,8 @@ fn list_told(
 // The first record of digits.
 fn first_of(alloc: Global, digits: &str) -> Result<UnknownField, Fault> {
     let fields = records_of(alloc, digits)?;
-    match fields.iter().next() {
-        Some(field) => Ok(field.copy()?),
-        None => Err(Fault::Form),
-    }
+    let field = fields.iter().next().ok_or(Fault::Form)?;
+    Ok(field.copy()?)
 }
 
 // Puts a record behind others; whether there was memory for it.

@@ -11,10 +11,7 @@ use std::alloc::Global;
 
 // The wire type of a number in digits.
 fn wire_type_of(digits: &str) -> Result<WireType, Fault> {
-    match WireType::from_number(digits.parse::<u64>()?) {
-        Some(wire_type) => Ok(wire_type),
-        None => Err(Fault::Form),
-    }
+    WireType::from_number(digits.parse::<u64>()?).ok_or(Fault::Form)
 }
 
 // Reads a tag, of an expected wire type where one is expected.

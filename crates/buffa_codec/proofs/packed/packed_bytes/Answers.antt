@@ -1,10 +1,11 @@
-use Rattle.std.proofs.Common.{sym, ap, ◌∙◌, map, take, ◌++◌, subst}
+use Rattle.std.proofs.Common.{[], sym, ap, ◌∙◌, map, take, subst}
 use Rattle.std.specs.List.{AllByRecursion}
 use Rattle.std.proofs.lemmas.List.{take_all}
 use Rattle.std.proofs.lemmas.Result.{err_from_is_err_and}
-use Rattle.buffa_codec.proofs.ListLemmas.{AllByRecursion-append, encodings-append}
+use Rattle.buffa_codec.proofs.ListLemmas.{AllByRecursion-append}
 use Rattle.buffa_codec.proofs.packed.packed_bytes.Goals as goal
 use Rattle.buffa_bytes.proofs.ListLemmas.{means_more}
+use Rattle.buffa_wire.proofs.ByValueLemmas.{encodings_by_value, write_more}
 use Rattle.buffa_wire.specs.Encoding.{encodings}
 
 pub loop-v-preserved : goal.loop-v-preserved
@@ -15,7 +16,7 @@ loop-v-preserved g c =
     let front = map m (take c.loop-v.v-index xs) in
     let more = means_more m xs c.loop-v.v-index c.v-item.result c.loop-v-test.true c.v-item.is in
     record {
-      written = c.in_ok-encode_packed.ensures.ok ∙ ap (λ l. l ++ encoding (m c.v-item.result)) c.loop-v.invariant.written ∙ sym (ap (encodings encoding) more ∙ encodings-append encoding front (m c.v-item.result));
+      written = write_more (encodings_by_value encoding) m xs c.loop-v.v-index c.v-item.result c.loop-v-test.true c.v-item.is [] c.loop-v.bytes.items _ c.loop-v.invariant.written c.in_ok-encode_packed.ensures.ok;
       fit = subst (AllByRecursion g.C.SingularCodec.fits) (sym more) (AllByRecursion-append g.C.SingularCodec.fits front (m c.v-item.result) c.loop-v.invariant.fit c.in_ok-encode_packed.ensures.fits);
     }
 

@@ -3,7 +3,7 @@ use Rattle.std.specs.Prelude.{length}
 use Rattle.buffa_wire.proofs.PassLemmas.{slots_step}
 use Rattle.buffa_wire.specs.Cache.{appended}
 use Rattle.buffa_wire.specs.Passes.{cap}
-use Rattle.buffa_fields.specs.GroupFacts.{group_size}
+use Rattle.buffa_fields.proofs.GroupLemmas.{group_size}
 use Rattle.buffa_fields.proofs.group.group_len.Goals as goal
 
 pub returns-in-Ok-compute_size : goal.returns-in-Ok-compute_size

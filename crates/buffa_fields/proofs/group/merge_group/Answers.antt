@@ -7,7 +7,7 @@ use Rattle.buffa_bytes.specs.declared.wire_type.WireType.TheVariants.{EndGroup}
 use Rattle.buffa_bytes.specs.Front.{tag_at}
 use Rattle.buffa_wire.proofs.ByPayloadLemmas.{by_payload, cost_empty, merged_empty}
 use Rattle.buffa_wire.proofs.MessageLemmas.{reaches_tag}
-use Rattle.buffa_fields.specs.GroupFacts.{begun, ended, merged_on, no_level, no_tag, one_up, other_end, refused_on}
+use Rattle.buffa_fields.proofs.GroupLemmas.{begun, ended, merged_on, no_level, no_tag, one_up, other_end, refused_on}
 use Rattle.buffa_fields.proofs.group.merge_group.Goals as goal
 
 pub returns-then-depth-eq0-clause-taken : goal.returns-then-depth-eq0-clause-taken

@@ -1,5 +1,5 @@
 use Rattle.std.proofs.Common.{◌-◌, length}
-use Rattle.buffa_fields.specs.GroupFacts.{Underway}
+use Rattle.buffa_fields.proofs.GroupLemmas.{Underway}
 use Rattle.buffa_fields.proofs.group.merge_group.Given as goal
 
 -- fields of the group were merged and paid for

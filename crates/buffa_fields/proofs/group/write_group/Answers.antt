@@ -5,7 +5,7 @@ use Rattle.buffa_bytes.specs.Values.{tag_encoding}
 use Rattle.buffa_bytes.specs.Written.{Writes}
 use Rattle.buffa_wire.proofs.PassLemmas.{done, refused}
 use Rattle.buffa_wire.specs.Passes.{IsWritten, cap}
-use Rattle.buffa_fields.specs.GroupFacts.{group_written, inner_short}
+use Rattle.buffa_fields.proofs.GroupLemmas.{group_written, inner_short}
 use Rattle.buffa_fields.proofs.group.write_group.Goals as goal
 
 pub returns-in-Ok-write_to : goal.returns-in-Ok-write_to

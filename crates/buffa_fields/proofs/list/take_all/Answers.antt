@@ -1,7 +1,8 @@
 use Rattle.std.proofs.Common.{◌≡◌, ◌∙◌, ◌⊎◌, inl, inr, IsOk, ℕ, List, map, arith, refl, subst}
 use Rattle.buffa_bytes.specs.Content.{content_at}
 use Rattle.buffa_bytes.specs.declared.wire_type.WireType.{WireType}
-use Rattle.buffa_fields.specs.ListFacts.{element_falls, element_there, elements_done, elements_err, none_read, one_read, read_means, read_stops}
+use Rattle.buffa_fields.specs.ListFacts.{element_falls}
+use Rattle.buffa_fields.proofs.ListLemmas.{element_there, elements_done, elements_err, none_read, one_read, read_means, read_stops}
 use Rattle.buffa_fields.proofs.list.take_all.Goals as goal
 
 -- where a payload begins what is left, one begins all
@@ -29,7 +30,7 @@ loop-rest-preserved g c =
 pub loop-rest-smaller : goal.loop-rest-smaller
 loop-rest-smaller g c =
     let m = g.C.Value.Blank.meaning in
-    element_falls g.C.MapValueDecode.reading g.met.C.MapCodec.plain g.met.C.MapValueDecode.no_limit c.args.depth (map m c.loop-rest.values.items) c.loop-rest.rest.now (map m c.take_element.new.values.items) c.take_element.new.buf.now c.in-Ok.ensures.reads
+    element_falls g.C.MapValueDecode.reading c.args.depth (map m c.loop-rest.values.items) c.loop-rest.rest.now (map m c.take_element.new.values.items, c.take_element.new.buf.now) c.in-Ok.ensures.reads
 
 pub returns-in-Err-clause-reads : goal.returns-in-Err-clause-reads
 returns-in-Err-clause-reads g c =

@@ -1,6 +1,7 @@
 use Rattle.std.proofs.Common.{◌∙◌, map, sym}
-use Rattle.buffa_fields.specs.ListFacts.{content_there, element_from_err, element_pushed}
-use Rattle.buffa_fields_base.specs.ValueFacts.{refused_plain}
+use Rattle.buffa_fields.specs.ListFacts.{content_there, element_pushed}
+use Rattle.buffa_fields.proofs.ListLemmas.{element_from_err}
+use Rattle.buffa_fields_base.proofs.ValueLemmas.{refused_plain}
 use Rattle.buffa_fields.proofs.list.take_element.Goals as goal
 
 pub returns-in-Err-clause-reads : goal.returns-in-Err-clause-reads

@@ -4,8 +4,8 @@ use Rattle.buffa_bytes.specs.Content.{content_at}
 use Rattle.buffa_bytes.specs.declared.error.DecodeError.TheVariants.{WireTypeMismatch}
 use Rattle.buffa_bytes.specs.declared.wire_type.WireType.TheVariants.{LengthDelimited}
 use Rattle.buffa_bytes.specs.Front.{check_wire}
-use Rattle.buffa_map.proofs.EntryLemmas.{check_sound}
-use Rattle.buffa_fields.specs.ListFacts.{element_refused, element_taken, neither_err, neither_refused, other_wire, own_wire, packed_refused, packed_taken, packed_wire}
+use Rattle.buffa_map_base.proofs.EntryLemmas.{check_sound}
+use Rattle.buffa_fields.proofs.ListLemmas.{element_refused, element_taken, neither_err, neither_refused, other_wire, own_wire, packed_refused, packed_taken, packed_wire}
 use Rattle.buffa_fields.specs.Lists.{ElementsTakeMemory, PackedTakeMemory}
 use Rattle.buffa_wire.proofs.SequenceLemmas.{err_same}
 use Rattle.buffa_wire.specs.BudgetLeft.{nothing}

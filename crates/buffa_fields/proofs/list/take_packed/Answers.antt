@@ -1,7 +1,7 @@
 use Rattle.std.proofs.Common.{◌∙◌, inl, IsOk, Err, ap, map, refl}
 use Rattle.buffa_bytes.proofs.FullLemmas.{delimited_full}
 use Rattle.buffa_bytes.specs.Content.{content_at}
-use Rattle.buffa_fields.specs.ListFacts.{packed_stops}
+use Rattle.buffa_fields.proofs.ListLemmas.{packed_stops}
 use Rattle.buffa_fields.specs.Lists.{PackedTakeMemory}
 use Rattle.buffa_wire.proofs.TakesLemmas.{full_weaker}
 use Rattle.buffa_fields.proofs.list.take_packed.Goals as goal

@@ -1,5 +1,5 @@
 use Rattle.std.proofs.Common.{◌∙◌}
-use Rattle.buffa_fields.specs.MapFacts.{map_capped}
+use Rattle.buffa_fields.proofs.MapLemmas.{map_capped}
 use Rattle.buffa_fields.proofs.map.map_len.Goals as goal
 
 pub returns : goal.returns

@@ -2,10 +2,10 @@ use Rattle.std.proofs.Common.{◌+◌, ◌∙◌, inl, Err, ap, refl, true}
 use Rattle.buffa_bytes.proofs.StepLemmas.{agree_ok}
 use Rattle.buffa_bytes.specs.declared.wire_type.WireType.TheVariants.{LengthDelimited}
 use Rattle.buffa_bytes.specs.Front.{check_wire}
-use Rattle.buffa_map.proofs.EntryLemmas.{check_sound}
+use Rattle.buffa_map_base.proofs.EntryLemmas.{check_sound}
 use Rattle.buffa_wire.proofs.SequenceLemmas.{err_same}
-use Rattle.buffa_map.specs.Pairs.{means, put}
-use Rattle.buffa_fields.specs.MapFacts.{map_err, map_full, map_ok, map_refused}
+use Rattle.buffa_map_base.specs.Pairs.{means, put}
+use Rattle.buffa_fields.proofs.MapLemmas.{map_err, map_full, map_ok, map_refused}
 use Rattle.buffa_fields.proofs.map.take_entry.Goals as goal
 
 pub returns-in-Ok-merge_entry-clause-taken : goal.returns-in-Ok-merge_entry-clause-taken

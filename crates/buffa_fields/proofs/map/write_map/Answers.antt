@@ -1,4 +1,4 @@
-use Rattle.buffa_fields.specs.MapFacts.{map_unwritten, map_written}
+use Rattle.buffa_fields.proofs.MapLemmas.{map_unwritten, map_written}
 use Rattle.buffa_fields.proofs.map.write_map.Goals as goal
 
 pub returns-in-Ok : goal.returns-in-Ok

@@ -1,7 +1,7 @@
 use Rattle.std.proofs.Common.{◌∙◌, ◌∷◌}
 use Rattle.buffa_wire.proofs.PassLemmas.{slots_step}
 use Rattle.buffa_wire.specs.Cache.{appended}
-use Rattle.buffa_fields.specs.NestedFacts.{cap_tells}
+use Rattle.buffa_fields.proofs.NestedLemmas.{cap_tells}
 use Rattle.buffa_fields.proofs.nested.message_len.Goals as goal
 
 pub returns-in-Ok-compute_size : goal.returns-in-Ok-compute_size

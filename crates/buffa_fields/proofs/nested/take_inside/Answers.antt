@@ -2,8 +2,9 @@ use Rattle.std.proofs.Common.{◌∙◌, refl, sym}
 use Rattle.buffa_bytes.proofs.StepLemmas.{agree_err, agree_ok}
 use Rattle.buffa_bytes.specs.declared.wire_type.WireType.TheVariants.{LengthDelimited}
 use Rattle.buffa_bytes.specs.Front.{check_wire}
-use Rattle.buffa_map.proofs.EntryLemmas.{check_sound}
-use Rattle.buffa_fields.specs.NestedFacts.{inside_full, inside_taken, message_wire_err}
+use Rattle.buffa_fields.specs.Nested.{message_cost}
+use Rattle.buffa_map_base.proofs.EntryLemmas.{check_sound}
+use Rattle.buffa_fields.proofs.NestedLemmas.{inside_full, inside_taken, message_wire_err}
 use Rattle.buffa_fields.proofs.nested.take_inside.Goals as goal
 
 pub returns-in-Ok-clause-taken : goal.returns-in-Ok-clause-taken
@@ -20,7 +21,7 @@ returns-in-Err-clause-taken g c =
     let w = c.args.tag.wire_type in
     let old = g.N.Blank.meaning c.args.message.now in
     let bad = agree_err (check_wire n LengthDelimited w) c.in-Err.error (check_sound n LengthDelimited w) c.in-Err.ensures in
-    message_wire_err g.N.MessageSpec.merged g.N.MessageSpec.cost c.args.ctx.depth n w old old c.args.buf.now.now c.args.buf.now.now c.args.ctx.budget.now c.args.ctx.budget.now c.in-Err.error bad.0 bad.1 refl
+    message_wire_err g.N.MessageSpec.merged (message_cost g.N.MessageSpec.cost) c.args.ctx.depth n w old old c.args.buf.now.now c.args.buf.now.now c.args.ctx.budget.now c.args.ctx.budget.now c.in-Err.error bad.0 bad.1 refl
 
 pub returns-in-Ok-clause-full : goal.returns-in-Ok-clause-full
 returns-in-Ok-clause-full g c =

@@ -3,7 +3,7 @@ use Rattle.buffa_wire.proofs.PassLemmas.{next_ok, refused}
 use Rattle.buffa_wire.specs.Passes.{IsWritten, cap}
 use Rattle.buffa_wire.specs.Records.{bytes}
 use Rattle.buffa_wire.specs.Encoding.{records_encoding}
-use Rattle.buffa_fields.specs.NestedFacts.{cap_tells, head_short, record_written}
+use Rattle.buffa_fields.proofs.NestedLemmas.{cap_tells, head_short, record_written}
 use Rattle.buffa_fields.proofs.nested.write_message.Goals as goal
 
 pub returns-in-Ok : goal.returns-in-Ok

@@ -3,11 +3,11 @@ use Rattle.std.specs.BTreeMap.{insert_entry}
 use Rattle.buffa_bytes.proofs.StepLemmas.{agree_ok}
 use Rattle.buffa_bytes.specs.declared.wire_type.WireType.TheVariants.{LengthDelimited}
 use Rattle.buffa_bytes.specs.Front.{check_wire}
-use Rattle.buffa_map.proofs.EntryLemmas.{check_sound}
+use Rattle.buffa_map_base.proofs.EntryLemmas.{check_sound}
 use Rattle.buffa_wire.proofs.SequenceLemmas.{err_same}
-use Rattle.buffa_map.specs.Pairs.{means}
+use Rattle.buffa_map_base.specs.Pairs.{means}
 use Rattle.buffa_fields.proofs.OrderedLemmas.{is_put_by, means_ascend}
-use Rattle.buffa_fields.specs.MapFacts.{map_err, map_full, map_ok, map_refused}
+use Rattle.buffa_fields.proofs.MapLemmas.{map_err, map_full, map_ok, map_refused}
 use Rattle.buffa_fields.proofs.ordered_map.take_ordered.Goals as goal
 
 pub returns-in-Ok-answer-clause-taken : goal.returns-in-Ok-answer-clause-taken

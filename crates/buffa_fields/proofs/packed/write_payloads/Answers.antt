@@ -1,5 +1,5 @@
 use Rattle.std.proofs.Common.{append-nil, sym}
-use Rattle.buffa_fields.proofs.PackedLemmas.{payload_more, payload_stops}
+use Rattle.buffa_wire.proofs.ByValueLemmas.{encodings_by_value, write_more, write_stops}
 use Rattle.buffa_fields.proofs.packed.write_payloads.Goals as goal
 
 pub loop-value-init : goal.loop-value-init
@@ -7,12 +7,12 @@ loop-value-init g c = sym (append-nil (g.S.EncodeSink.written c.args.sink.now))
 
 pub loop-value-preserved : goal.loop-value-preserved
 loop-value-preserved g c =
-    payload_more g.C.MapCodec.writing.encoding g.C.Value.Blank.meaning c.args.values.now c.loop-value.value-index c.value-item.result c.loop-value-test.true c.value-item.is
+    write_more (encodings_by_value g.C.MapCodec.writing.encoding) g.C.Value.Blank.meaning c.args.values.now c.loop-value.value-index c.value-item.result c.loop-value-test.true c.value-item.is
     (g.S.EncodeSink.written c.args.sink.now) (g.S.EncodeSink.written c.loop-value.sink) (g.S.EncodeSink.written c.encode.new.sink) c.loop-value.invariant c.in-Ok.ensures.writes
 
 pub returns-in-Err : goal.returns-in-Err
 returns-in-Err g c = (
   c.in-Err.ensures.writes.0,
-  payload_stops g.C.MapCodec.writing.encoding g.C.Value.Blank.meaning c.args.values.now c.loop-value.value-index c.value-item.result c.loop-value-test.true c.value-item.is
+  write_stops (encodings_by_value g.C.MapCodec.writing.encoding) g.C.Value.Blank.meaning c.args.values.now c.loop-value.value-index c.value-item.result c.loop-value-test.true c.value-item.is
       (g.S.EncodeSink.written c.args.sink.now) (g.S.EncodeSink.written c.loop-value.sink) (g.S.EncodeSink.written c.encode.new.sink) c.loop-value.invariant c.in-Err.ensures.writes.1,
 )

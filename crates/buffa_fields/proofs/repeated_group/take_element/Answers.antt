@@ -1,40 +1,24 @@
-use Rattle.std.proofs.Common.{inl, inr, [], ◌∷◌, ◌++◌, map, sym, ap, Some, ◌∙◌}
+use Rattle.std.proofs.Common.{inl, [], ◌∷◌, map, ap, Ok, Err, ◌∙◌}
 use Rattle.std.proofs.lemmas.List.{map-append}
-use Rattle.std.specs.Option.{option_map}
-use Rattle.buffa_fields.specs.Groups.{group_in}
-use Rattle.buffa_fields.specs.RepeatedGroupFacts.{group_whole}
+use Rattle.buffa_fields.specs.Groups.{group_merged}
+use Rattle.buffa_fields.specs.RepeatedGroups.{groups_cost}
+use Rattle.buffa_fields.proofs.InsideLemmas.{put_behind}
+use Rattle.buffa_fields.proofs.GroupLemmas.{group_whole}
 use Rattle.buffa_fields.proofs.repeated_group.take_element.Goals as goal
 
 pub returns-in-Err-clause-taken : goal.returns-in-Err-clause-taken
 returns-in-Err-clause-taken g c =
-    let d = c.args.ctx.depth in
-    let n = c.args.tag.number in
-    let w = c.args.tag.wire_type in
-    let olds = map g.N.Blank.meaning c.args.messages.now.items in
-    let e = c.in-Err.ensures.taken in (
-      e.0,
-      λ ne. elim (e.1 ne) [
-        | inl few ↦ inl few
-        | inr bad ↦ inr ((λ p more payload split. ap (option_map (λ x. olds ++ x ∷ [])) (ap (λ z. group_in g.N.MessageSpec.merged d z n w p) (sym c.blank-message.ensures) ∙ bad.0 p more payload split)), bad.1)
-      ],
-      e.2,
-    )
+    let says = g.N.Blank.meaning in
+    let olds = map says c.args.messages.now.items in
+    put_behind g.N.Blank.blank_is (group_merged g.N.MessageSpec.merged) (groups_cost g.N.MessageSpec.COST g.N.MessageSpec.cost) c.args.ctx.depth c.args.tag.number c.args.tag.wire_type olds olds (says c.blank-message.result) (says c.take_charged.new.message) c.args.buf.now.now c.take_charged.new.buf.now
+    c.args.ctx.budget.now _ (Err c.in-Err.error) c.blank-message.ensures c.in-Err.ensures.taken tt
 
 pub returns-clause-taken : goal.returns-clause-taken
 returns-clause-taken g c =
     let says = g.N.Blank.meaning in
-    let d = c.args.ctx.depth in
-    let n = c.args.tag.number in
-    let w = c.args.tag.wire_type in
     let xs = c.args.messages.now.items in
-    let t = c.in-Ok.ensures.taken in (
-      t.0,
-      t.1,
-      t.2,
-      ap (option_map (λ x. map says xs ++ x ∷ [])) (ap (λ z. group_in g.N.MessageSpec.merged d z n w t.0) (sym c.blank-message.ensures) ∙ t.3)
-          ∙ ap (λ l. Some l) (sym (ap (map says) c.in-Ok-push.ensures.items ∙ map-append says xs (c.take_charged.new.message ∷ []))),
-      t.4,
-    )
+    put_behind g.N.Blank.blank_is (group_merged g.N.MessageSpec.merged) (groups_cost g.N.MessageSpec.COST g.N.MessageSpec.cost) c.args.ctx.depth c.args.tag.number c.args.tag.wire_type (map says xs) (map says c.push.new.self.items) (says c.blank-message.result) (says c.take_charged.new.message) c.args.buf.now.now c.take_charged.new.buf.now
+    c.args.ctx.budget.now _ (Ok tt) c.blank-message.ensures c.in-Ok.ensures.taken (ap (map says) c.in-Ok-push.ensures.items ∙ map-append says xs (c.take_charged.new.message ∷ []))
 
 pub returns-in-Err-clause-full : goal.returns-in-Err-clause-full
 returns-in-Err-clause-full g c = λ full.

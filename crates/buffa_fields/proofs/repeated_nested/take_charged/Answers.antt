@@ -2,11 +2,11 @@ use Rattle.std.proofs.Common.{◌≡◌, ◌+◌, ◌∙◌, refl, sym, arith}
 use Rattle.buffa_bytes.proofs.StepLemmas.{agree_err, agree_ok}
 use Rattle.buffa_bytes.specs.declared.wire_type.WireType.TheVariants.{LengthDelimited}
 use Rattle.buffa_bytes.specs.Front.{check_wire}
-use Rattle.buffa_map.proofs.EntryLemmas.{check_sound}
-use Rattle.buffa_fields.specs.Nested.{message_cost, message_in}
-use Rattle.buffa_fields.specs.NestedFacts.{inside_full, inside_taken}
+use Rattle.buffa_map_base.proofs.EntryLemmas.{check_sound}
+use Rattle.buffa_fields.specs.Nested.{message_cost, message_merged}
+use Rattle.buffa_fields.proofs.NestedLemmas.{inside_full, inside_taken, message_costs, message_wire_err}
 use Rattle.buffa_fields.specs.RepeatedNested.{messages_cost}
-use Rattle.buffa_fields.specs.RepeatedNestedFacts.{charged, message_costs, uncharged, uncharged_wire}
+use Rattle.buffa_fields.proofs.InsideLemmas.{charged, uncharged}
 use Rattle.buffa_fields.proofs.repeated_nested.take_charged.Goals as goal
 
 pub returns-in-Err-clause-taken : goal.returns-in-Err-clause-taken
@@ -17,7 +17,7 @@ returns-in-Err-clause-taken g c =
     let bs = c.args.buf.now.now in
     let before = c.args.ctx.budget.now in
     let bad = agree_err (check_wire n LengthDelimited w) c.in-Err.error (check_sound n LengthDelimited w) c.in-Err.ensures in
-    uncharged_wire g.N.MessageSpec.merged g.N.MessageSpec.COST g.N.MessageSpec.cost c.args.ctx.depth n w bs old old bs before before bad.0 c.in-Err.error bad.1 refl
+    message_wire_err g.N.MessageSpec.merged (messages_cost g.N.MessageSpec.COST g.N.MessageSpec.cost) c.args.ctx.depth n w old old bs bs before before c.in-Err.error bad.0 bad.1 refl
 
 pub returns-in-Err-take_memory-clause-taken : goal.returns-in-Err-take_memory-clause-taken
 returns-in-Err-take_memory-clause-taken g c =
@@ -30,7 +30,7 @@ returns-in-Err-take_memory-clause-taken g c =
     let bs = c.args.buf.now.now in
     let wire = agree_ok (check_wire n LengthDelimited w) tt (check_sound n LengthDelimited w) c.in-Ok.ensures in
     let e = c.in-Err-take_memory.ensures in
-    uncharged (message_in g.N.MessageSpec.merged) each (message_cost cost) (messages_cost each cost) d n w old old bs bs c.args.ctx.budget.now c.take_memory.new.self (message_costs g.N.MessageSpec.merged each cost d n w bs wire)
+    uncharged (message_merged g.N.MessageSpec.merged) each (message_cost cost) (messages_cost each cost) d n w old old bs bs c.args.ctx.budget.now c.take_memory.new.self (message_costs each cost d n w bs wire)
     (omega (arith, e.err.0, c.COST.ensures)) e.err.1 c.in-Err-take_memory.error e.which
 
 pub returns-clause-taken : goal.returns-clause-taken
@@ -47,7 +47,7 @@ returns-clause-taken g c =
     let mid = c.take_memory.new.self in
     let wire = agree_ok (check_wire n LengthDelimited w) tt (check_sound n LengthDelimited w) c.in-Ok.ensures in
     let paid : mid.memory + g.N.MessageSpec.COST ≡ c.args.ctx.budget.now.memory = omega (arith, c.in-Ok-take_memory.ensures.ok.0, c.COST.ensures) in
-    charged (message_in merged) g.N.MessageSpec.COST (message_cost cost) (messages_cost g.N.MessageSpec.COST cost) d n w old new bs m.new.buf.now c.args.ctx.budget.now _ (message_costs merged g.N.MessageSpec.COST cost d n w bs wire)
+    charged (message_merged merged) g.N.MessageSpec.COST (message_cost cost) (messages_cost g.N.MessageSpec.COST cost) d n w old new bs m.new.buf.now c.args.ctx.budget.now _ (message_costs g.N.MessageSpec.COST cost d n w bs wire)
     mid paid c.in-Ok-take_memory.ensures.ok.1 m.result
     (inside_taken merged cost n w wire old new bs m.new.buf.now mid _ d m.result m.ensures.ok m.ensures.fault m.ensures.spent)
 

@@ -4,7 +4,7 @@ use Rattle.buffa_bytes.specs.declared.error.DecodeError.{DecodeError}
 use Rattle.std.proofs.lemmas.Result.{err_from_is_err_and}
 use Rattle.buffa_wire.proofs.SequenceLemmas.{err_same}
 use Rattle.buffa_wire.specs.View.{datum_of}
-use Rattle.buffa_fields_base.specs.Layout.{Kept}
+use Rattle.buffa_fields_base.specs.Layout.{IsFieldKept}
 use Rattle.buffa_fields_base.specs.KeepFacts.{keep_asks, keep_asks_put, keep_err_as, keep_full, keep_ok, keep_refused, takes_no_end}
 use Rattle.buffa_fields_base.proofs.kept.keep.Goals as goal
 
@@ -13,7 +13,7 @@ still (Ok x) a = tt
 still (Err e) a = refl
 
 pub returns-in_err-field : goal.returns-in_err-field
-unfolding Kept
+unfolding IsFieldKept
 returns-in_err-field c = (
   let p = err_from_is_err_and c.from_residual.result c.from_residual.ensures.1 in
       keep_err_as c.args.ctx.depth c.unknown_left.result c.args.tag.number c.args.tag.wire_type c.args.buf.now.now c.args.fields.now.records c.args.ctx.budget.now c.unknown_left.ensures
@@ -29,7 +29,7 @@ returns-in_err-field c = (
 )
 
 pub returns-in-Err : goal.returns-in-Err
-unfolding Kept
+unfolding IsFieldKept
 returns-in-Err c = (
   keep_full c.args.ctx.depth c.unknown_left.result c.args.tag.number c.args.tag.wire_type c.args.buf.now.now c.args.fields.now.records c.args.ctx.budget.now c.unknown_left.ensures
       (datum_of c.in_ok-field.field.payload) c.in_ok-field.left c.read_alone.new.buf.now c.read_alone.new.buf.now c.in_ok-field.ensures.reads,
@@ -40,7 +40,7 @@ returns-in-Err c = (
 )
 
 pub returns : goal.returns
-unfolding Kept
+unfolding IsFieldKept
 returns c =
     let is = c.in-Ok.ensures.ok ∙ ap (λ z. c.args.fields.now.records ++ (z, datum_of c.in_ok-field.field.payload) ∷ []) c.in_ok-field.ensures.number in (
       keep_ok c.args.ctx.depth c.unknown_left.result c.args.tag.number c.args.tag.wire_type c.args.buf.now.now c.args.fields.now.records c.args.ctx.budget.now c.unknown_left.ensures

@@ -5,7 +5,7 @@ use Rattle.buffa_bytes.specs.Front.{check_wire}
 use Rattle.buffa_map_base.proofs.EntryLemmas.{check_sound}
 use Rattle.buffa_map_base.specs.Codec.{value_need}
 use Rattle.buffa_wire.proofs.SequenceLemmas.{err_same}
-use Rattle.buffa_fields_base.specs.ValueFacts.{kept_by, refused_plain, value_err, value_ok, value_told, wire_err, wire_told}
+use Rattle.buffa_fields_base.proofs.ValueLemmas.{kept_by, refused_plain, value_err, value_ok, value_told, wire_err, wire_told}
 use Rattle.buffa_fields_base.proofs.value.take_value.Goals as goal
 
 pub returns-in-Err-clause-taken : goal.returns-in-Err-clause-taken

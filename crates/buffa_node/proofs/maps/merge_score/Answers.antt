@@ -1,6 +1,6 @@
 use Rattle.std.specs.Prelude.{string_bytes}
 use Rattle.std.proofs.lemmas.Result.{err_from_is_err_and}
-use Rattle.buffa_map.specs.Pairs.{means}
+use Rattle.buffa_map_base.specs.Pairs.{means}
 use Rattle.buffa_node.proofs.FieldMergeLemmas.{score_answer, wire_answer}
 use Rattle.buffa_node.proofs.maps.merge_score.Goals as goal
 

@@ -1,6 +1,6 @@
 use Rattle.std.proofs.Common.{◌∙◌, ap}
 use Rattle.std.proofs.lemmas.Result.{err_from_is_err_and}
-use Rattle.buffa_map.specs.Pairs.{means}
+use Rattle.buffa_map_base.specs.Pairs.{means}
 use Rattle.buffa_node.proofs.FieldMergeLemmas.{shade_err, shade_ok, wire_answer}
 use Rattle.buffa_node.specs.Branch.{shade_number}
 use Rattle.buffa_node.proofs.maps.merge_shade.Goals as goal

@@ -1,4 +1,4 @@
-use Rattle.buffa_map.specs.Pairs.{means}
+use Rattle.buffa_map_base.specs.Pairs.{means}
 use Rattle.buffa_node.proofs.WriteLemmas.{map_put, map_unput}
 use Rattle.buffa_node.proofs.maps.write_map.Goals as goal
 

@@ -2,13 +2,15 @@ use Rattle.std.proofs.Common.{sym, subst}
 use Rattle.std.specs.Prelude.{string_bytes}
 use Rattle.std.proofs.lemmas.Result.{err_from_is_err_and}
 use Rattle.buffa_wire.specs.Passes.{IsNext}
-use Rattle.buffa_map.specs.Pairs.{means}
+use Rattle.buffa_map_base.specs.Pairs.{means}
 use Rattle.buffa_node.specs.Branch.{shade_number}
-use Rattle.buffa_node.proofs.NodePassLemmas.{all_written, kids_stop, scores_stop, shades_stop, slots_are}
+use Rattle.buffa_map.proofs.ChildrenLemmas.{slots_are}
+use Rattle.buffa_node.proofs.NodePassLemmas.{all_written, children_stop, scores_stop, shades_stop}
+use Rattle.buffa_node.specs.NodeEncoding.{node_encoding}
 use Rattle.buffa_node.proofs.node.+fn-write_node-write_children_by+write_node.Goals as goal
 
 pub write_children_by-requires-clause-next : goal.write_children_by-requires-clause-next
-write_children_by-requires-clause-next g t c = subst (λ ss. IsNext ss c.args.cache.now) (sym (slots_are _ _ c.node.inside.children.entries _ _ c.node.view_is)) c.requires
+write_children_by-requires-clause-next g t c = subst (λ ss. IsNext ss c.args.cache.now) (sym (slots_are node_encoding _ _ c.node.inside.children.entries c.node.view_is)) c.requires
 
 pub returns-in_err-write_map : goal.returns-in_err-write_map
 returns-in_err-write_map g t c =
@@ -24,7 +26,7 @@ returns-in_err-write_children_by g t c =
     let n = c.node.inside in
     let w = rw c.in_ok-write_map.was at c.write_map.ensures in
     let p = err_from_is_err_and c.from_residual-in_err-write_children_by.result c.from_residual-in_err-write_children_by.ensures.1 in
-    kids_stop c.args.node.now (means string_bytes (λ v. v) n.scores.entries) n.children.entries (means (λ k. k) shade_number n.shades.entries) n.rest.records c.node.view_is c.args.cache.now c.write_children_by.new.cache
+    children_stop c.args.node.now (means string_bytes (λ v. v) n.scores.entries) n.children.entries (means (λ k. k) shade_number n.shades.entries) n.rest.records c.node.view_is c.args.cache.now c.write_children_by.new.cache
     (written c.args.sink.now) (written c.write_map.new.sink) (written c.write_children_by.new.sink) (written c.write_children_by.new.sink) (written c.write_children_by.new.sink)
     c.from_residual-in_err-write_children_by.result c.in_err-write_children_by.field-0.0 _ p.1 p.2 w c.in_err-write_children_by.ensures
 

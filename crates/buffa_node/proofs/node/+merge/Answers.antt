@@ -11,14 +11,15 @@ use Rattle.buffa_wire.specs.BudgetLeft.{BudgetLeft, PaysAtMost}
 use Rattle.buffa_wire.specs.Message.{MergeFault, cost_in, merged_in}
 use Rattle.buffa_wire.proofs.MessageLemmas.{loop_fault, reaches_tag}
 use Rattle.buffa_wire.proofs.ByPayloadLemmas.{field_costs, field_means, judged_all, untagged}
-use Rattle.buffa_map.specs.Pairs.{means}
+use Rattle.buffa_map_base.specs.Pairs.{means}
 use Rattle.buffa_wire.specs.Kept.{keep_need}
 use Rattle.buffa_fields_base.specs.Keep.{keep_takes}
 use Rattle.buffa_wire.proofs.TakesLemmas.{taken_full}
 use Rattle.buffa_node.proofs.FieldMergeLemmas.{both_stay, child_merged, kept_merged, on_err, score_merged, shade_merged}
-use Rattle.buffa_node.proofs.LoopLemmas.{all_merged, by_payloads, front_next, front_none, stops_at, stops_untagged}
-use Rattle.buffa_node.specs.Branch.{branch, kids, shade_number}
-use Rattle.buffa_node.specs.NodeMeaning.{children_cost, children_take, cost, merged, scores_cost, scores_take, shades_cost, shades_take}
+use Rattle.buffa_node.proofs.LoopLemmas.{all_merged, node_by_payloads, front_next, front_none, stops_at, stops_untagged}
+use Rattle.buffa_map.specs.Children.{children_in}
+use Rattle.buffa_node.specs.Branch.{branch, shade_number}
+use Rattle.buffa_node.specs.NodeMeaning.{children_cost, children_take, node_cost, node_merged, scores_cost, scores_take, shades_cost, shades_take}
 use Rattle.buffa_node.proofs.node.+merge.Goals as goal
 
 pub merge_node-returns-in_err-tag-clause-merged : goal.merge_node-returns-in_err-tag-clause-merged
@@ -29,9 +30,9 @@ merge_node-returns-in_err-tag-clause-merged t c =
     let v = c.loop-rest.node in
     let rest = c.loop-rest.rest.now in
     let some : 0 < length rest = omega (arith, c.remaining.ensures, c.loop-rest-test.true) in
-    rw (p.1, p.2) (loop_fault (merged d c.args.node.now c.args.bytes.now) (merged d v rest) c.args.budget.now c.loop-rest.budget c.loop-rest.budget
-    (cost d c.args.bytes.now) (cost d rest) c.in_err-tag.field-0.0 inv.means inv.unknown inv.memory inv.no_unknown inv.no_unit
-    ((omega arith, omega arith, omega arith, omega arith), λ ne. untagged by_payloads d v rest c.loop-rest.budget c.in_err-tag.field-0.0 some c.in_err-tag.ensures.reads))
+    rw (p.1, p.2) (loop_fault (node_merged d c.args.node.now c.args.bytes.now) (node_merged d v rest) c.args.budget.now c.loop-rest.budget c.loop-rest.budget
+    (node_cost d c.args.bytes.now) (node_cost d rest) c.in_err-tag.field-0.0 inv.means inv.unknown inv.memory inv.no_unknown inv.no_unit
+    ((omega arith, omega arith, omega arith, omega arith), λ ne. untagged node_by_payloads d v rest c.loop-rest.budget c.in_err-tag.field-0.0 some c.in_err-tag.ensures.reads))
 
 pub merge_node-returns-in_err-tag-clause-full : goal.merge_node-returns-in_err-tag-clause-full
 merge_node-returns-in_err-tag-clause-full t c =
@@ -84,9 +85,9 @@ merge_node-loop-rest-preserved t c =
     let m = c.in_ok-merge_node_field.ensures.merged in
     let split : rest ≡ u.0 ++ (m.0 ++ x) = u.2 ∙ ap (λ z. u.0 ++ z) m.2 in
     let one = m.3 u.0 u.1 in
-    let costs = field_costs by_payloads d rest u.0 m.0 x n w u.1 m.1 split in
+    let costs = field_costs node_by_payloads d rest u.0 m.0 x n w u.1 m.1 split in
     record {
-      means = inv.means ∙ field_means by_payloads d c.loop-rest.node c.merge_node_field.new.node rest u.0 m.0 x n w u.1 m.1 split one.0;
+      means = inv.means ∙ field_means node_by_payloads d c.loop-rest.node c.merge_node_field.new.node rest u.0 m.0 x n w u.1 m.1 split one.0;
       unknown = omega (arith, inv.unknown, one.1.0, ap (λ (z : BudgetLeft). z.unknown) costs);
       memory = omega (arith, inv.memory, one.1.1, ap (λ (z : BudgetLeft). z.memory) costs);
       no_unknown = omega (arith, inv.no_unknown, one.1.0);
@@ -106,10 +107,10 @@ merge_node-returns-in_err-merge_node_field-clause-merged t c =
     let e = c.in_err-merge_node_field.field-0.0 in
     let u : TakesTag rest n w c.decode.new.buf.now = agree_ok (tag_at rest) (n, w, c.decode.new.buf.now) (tag_sound rest) c.in_ok-tag.ensures.reads in
     let over = c.merge_node_field.new.budget in
-    let why : PaysAtMost c.loop-rest.budget (cost d rest) over × (e ≢ OutOfMemory → MergeFault (merged d v rest) (cost d rest) c.loop-rest.budget e) =
-    subst (λ (z : List ℕ). PaysAtMost c.loop-rest.budget (cost d z) over × (e ≢ OutOfMemory → MergeFault (merged d v z) (cost d z) c.loop-rest.budget e)) (sym u.2) (judged_all by_payloads d v n w c.decode.new.buf.now c.loop-rest.budget over e c.in_err-merge_node_field.ensures.merged u.0 u.1) in
-    rw (p.1, p.2) (loop_fault (merged d c.args.node.now c.args.bytes.now) (merged d v rest) c.args.budget.now c.loop-rest.budget over
-    (cost d c.args.bytes.now) (cost d rest) e inv.means inv.unknown inv.memory inv.no_unknown inv.no_unit why)
+    let why : PaysAtMost c.loop-rest.budget (node_cost d rest) over × (e ≢ OutOfMemory → MergeFault (node_merged d v rest) (node_cost d rest) c.loop-rest.budget e) =
+    subst (λ (z : List ℕ). PaysAtMost c.loop-rest.budget (node_cost d z) over × (e ≢ OutOfMemory → MergeFault (node_merged d v z) (node_cost d z) c.loop-rest.budget e)) (sym u.2) (judged_all node_by_payloads d v n w c.decode.new.buf.now c.loop-rest.budget over e c.in_err-merge_node_field.ensures.merged u.0 u.1) in
+    rw (p.1, p.2) (loop_fault (node_merged d c.args.node.now c.args.bytes.now) (node_merged d v rest) c.args.budget.now c.loop-rest.budget over
+    (node_cost d c.args.bytes.now) (node_cost d rest) e inv.means inv.unknown inv.memory inv.no_unknown inv.no_unit why)
 
 pub merge_node-returns-clause-merged : goal.merge_node-returns-clause-merged
 merge_node-returns-clause-merged t c =
@@ -125,7 +126,7 @@ merge_node_field-returns-then-number-eq1 t c =
       merged = score_merged c.args.depth c.args.tag.number c.args.tag.wire_type c.args.buf.now.now call.new.buf.now c.args.budget.now call.new.budget call.result (means string_bytes (λ v. v) n.scores.entries) n.children.entries (means (λ k. k) shade_number n.shades.entries) n.rest.records c.args.node.now c.node.view_is
           (means string_bytes (λ v. v) call.new.scores.entries) one call.ensures.taken;
       full = taken_full scores_take scores_cost c.args.depth (means string_bytes (λ v. v) n.scores.entries) (means string_bytes (λ v. v) call.new.scores.entries) c.args.tag.number c.args.tag.wire_type c.args.buf.now.now call.new.buf.now c.args.budget.now call.new.budget call.result call.ensures.taken;
-      stays = on_err call.result (λ h. ap (λ z. branch z (kids n.children.entries) (means (λ k. k) shade_number n.shades.entries) n.rest.records) h ∙ c.node.view_is) call.ensures.stays;
+      stays = on_err call.result (λ h. ap (λ z. branch z (children_in n.children.entries) (means (λ k. k) shade_number n.shades.entries) n.rest.records) h ∙ c.node.view_is) call.ensures.stays;
     }
 
 pub merge_node_field-returns-then-number-eq2 : goal.merge_node_field-returns-then-number-eq2
@@ -133,12 +134,12 @@ merge_node_field-returns-then-number-eq2 t c =
     let n = c.node.inside in
     let two : c.args.tag.number ≡ 2 = omega (arith, c.field_number-number.ensures, c.if-number-eq2.true) in
     let call = c.merge_child_by in
-    let m = merged_in merged c.args.depth in
+    let m = merged_in node_merged c.args.depth in
     record {
       merged = child_merged c.args.depth c.args.tag.number c.args.tag.wire_type c.args.buf.now.now call.new.buf.now c.args.budget.now call.new.budget call.result (means string_bytes (λ v. v) n.scores.entries) n.children.entries (means (λ k. k) shade_number n.shades.entries) n.rest.records c.args.node.now c.node.view_is
           call.new.children.entries two call.ensures.taken;
-      full = taken_full (children_take m) (children_cost m (cost_in cost c.args.depth)) c.args.depth n.children.entries call.new.children.entries c.args.tag.number c.args.tag.wire_type c.args.buf.now.now call.new.buf.now c.args.budget.now call.new.budget call.result call.ensures.taken;
-      stays = on_err call.result (λ h. ap (λ z. branch (means string_bytes (λ v. v) n.scores.entries) (kids z) (means (λ k. k) shade_number n.shades.entries) n.rest.records) h ∙ c.node.view_is) call.ensures.stays;
+      full = taken_full (children_take m) (children_cost m (cost_in node_cost c.args.depth)) c.args.depth n.children.entries call.new.children.entries c.args.tag.number c.args.tag.wire_type c.args.buf.now.now call.new.buf.now c.args.budget.now call.new.budget call.result call.ensures.taken;
+      stays = on_err call.result (λ h. ap (λ z. branch (means string_bytes (λ v. v) n.scores.entries) (children_in z) (means (λ k. k) shade_number n.shades.entries) n.rest.records) h ∙ c.node.view_is) call.ensures.stays;
     }
 
 pub merge_node_field-returns-then-number-eq3 : goal.merge_node_field-returns-then-number-eq3
@@ -150,7 +151,7 @@ merge_node_field-returns-then-number-eq3 t c =
       merged = shade_merged c.args.depth c.args.tag.number c.args.tag.wire_type c.args.buf.now.now call.new.buf.now c.args.budget.now call.new.budget call.result (means string_bytes (λ v. v) n.scores.entries) n.children.entries (means (λ k. k) shade_number n.shades.entries) n.rest.records c.args.node.now c.node.view_is
           (means (λ k. k) shade_number call.new.shades.entries) call.new.rest.records three call.ensures.taken;
       full = taken_full shades_take shades_cost c.args.depth (means (λ k. k) shade_number n.shades.entries, n.rest.records) (means (λ k. k) shade_number call.new.shades.entries, call.new.rest.records) c.args.tag.number c.args.tag.wire_type c.args.buf.now.now call.new.buf.now c.args.budget.now call.new.budget call.result call.ensures.taken;
-      stays = both_stay call.result (branch (means string_bytes (λ v. v) n.scores.entries) (kids n.children.entries)) c.args.node.now (means (λ k. k) shade_number n.shades.entries) (means (λ k. k) shade_number call.new.shades.entries) n.rest.records call.new.rest.records c.node.view_is call.ensures.stays call.ensures.kept;
+      stays = both_stay call.result (branch (means string_bytes (λ v. v) n.scores.entries) (children_in n.children.entries)) c.args.node.now (means (λ k. k) shade_number n.shades.entries) (means (λ k. k) shade_number call.new.shades.entries) n.rest.records call.new.rest.records c.node.view_is call.ensures.stays call.ensures.kept;
     }
 
 pub merge_node_field-returns : goal.merge_node_field-returns
@@ -164,5 +165,5 @@ merge_node_field-returns t c =
       merged = kept_merged c.args.depth c.args.tag.number c.args.tag.wire_type c.args.buf.now.now call.new.buf.now c.args.budget.now call.new.budget call.result (means string_bytes (λ v. v) n.scores.entries) n.children.entries (means (λ k. k) shade_number n.shades.entries) n.rest.records c.args.node.now c.node.view_is
           call.new.fields.records one two three call.ensures.taken;
       full = taken_full keep_takes keep_need c.args.depth n.rest.records call.new.fields.records c.args.tag.number c.args.tag.wire_type c.args.buf.now.now call.new.buf.now c.args.budget.now call.new.budget call.result call.ensures.taken;
-      stays = on_err call.result (λ h. ap (λ z. branch (means string_bytes (λ v. v) n.scores.entries) (kids n.children.entries) (means (λ k. k) shade_number n.shades.entries) z) h ∙ c.node.view_is) call.ensures.stays;
+      stays = on_err call.result (λ h. ap (λ z. branch (means string_bytes (λ v. v) n.scores.entries) (children_in n.children.entries) (means (λ k. k) shade_number n.shades.entries) z) h ∙ c.node.view_is) call.ensures.stays;
     }

@@ -1,7 +1,7 @@
 use Rattle.std.proofs.Common.{◌-◌, arith}
 use Rattle.std.proofs.lemmas.Result.{err_from_is_err_and}
 use Rattle.buffa_wire.proofs.PassLemmas.{done}
-use Rattle.buffa_samples.specs.CountFacts.{count_none, count_short, count_turn}
+use Rattle.buffa_samples.specs.CountFacts.{nothing_counted, count_short, count_turn}
 use Rattle.buffa_samples.proofs.count.write_count.Goals as goal
 
 pub returns-in_err-write_one : goal.returns-in_err-write_one
@@ -22,4 +22,4 @@ fields-preserved g c =
 pub returns : goal.returns
 returns g c =
     let now = g.S.EncodeSink.written c.fields.sink in
-    c.fields.invariant.whole done now (count_none now c.fields.left (omega (arith, c.fields-test.false)))
+    c.fields.invariant.whole done now (nothing_counted now c.fields.left (omega (arith, c.fields-test.false)))

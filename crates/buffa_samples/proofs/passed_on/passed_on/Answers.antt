@@ -2,11 +2,11 @@ use Rattle.std.proofs.Common.{◌≡◌, ◌∙◌, ◌++◌, ◌+◌, ap, map, 
 use Rattle.std.specs.Map.{lookup_entry}
 use Rattle.buffa_wire.specs.Enums.{numbers}
 use Rattle.buffa_wire.specs.Records.{bytes}
-use Rattle.buffa_map.specs.Enums.{ClosedFits, closed_reading, closed_writing}
-use Rattle.buffa_map.specs.Pairs.{SamePairs}
+use Rattle.buffa_map_base.specs.Enums.{ClosedFits, closed_reading, closed_writing}
+use Rattle.buffa_map_base.specs.Pairs.{SamePairs}
 use Rattle.buffa_map.specs.Rewrite.{IsRewrite, Ordered}
-use Rattle.buffa_map.specs.Run.{fold_entries, undeclared, Run}
-use Rattle.buffa_map.proofs.RunLemmas.{added_records}
+use Rattle.buffa_map_base.specs.Run.{fold_entries, undeclared, Run}
+use Rattle.buffa_map_base.proofs.RunLemmas.{added_records}
 use Rattle.buffa_samples.proofs.PassedLemmas.{left_is, not_rewritten, read_whole, rewritten, stop_is_shortage, stopped}
 use Rattle.buffa_samples.proofs.passed_on.passed_on.Goals as goal
 

@@ -1,10 +1,9 @@
-use Rattle.std.proofs.Common.{◌≡◌, ◌∙◌, ◌+◌, ◌*◌, ◌<◌, ◌++◌, ap, sym, subst, length, List, [], ℕ}
+use Rattle.std.proofs.Common.{◌≡◌, ◌∙◌, ◌+◌, ◌*◌, ◌<◌, ◌++◌, ap, sym, subst, length, List, [], ℕ, arith, length-append}
 use Rattle.std.specs.Map.{lookup_entry}
-use Rattle.std.proofs.Common.{arith, length-append}
 use Rattle.std.proofs.lemmas.List.{nil_from_length}
 use Rattle.buffa_wire.specs.BudgetLeft.{BudgetLeft}
-use Rattle.buffa_map.specs.Run.{fold_entries, Run}
-use Rattle.buffa_map.specs.Encoding.{field_encoding}
+use Rattle.buffa_map_base.specs.Run.{fold_entries, Run}
+use Rattle.buffa_map_base.specs.Encoding.{field_encoding}
 use Rattle.buffa_samples.proofs.TripLemmas.{as_units, costs_more, paid_for, stopped, unwritten}
 use Rattle.buffa_samples.proofs.round_trip.through_bytes.Goals as goal
 

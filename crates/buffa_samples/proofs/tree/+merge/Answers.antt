@@ -11,10 +11,10 @@ use Rattle.buffa_wire.specs.BudgetLeft.{BudgetLeft, PaysAtMost}
 use Rattle.buffa_wire.specs.Message.{MergeFault}
 use Rattle.buffa_wire.proofs.MessageLemmas.{front_more, loop_fault, reaches_tag}
 use Rattle.buffa_wire.proofs.ByPayloadLemmas.{all_merged, field_costs, field_means, judged_all, untagged}
-use Rattle.buffa_samples.proofs.TreeFieldLemmas.{by_payloads, child_full, child_merged, label_merged, mismatch_full, wire_merged}
+use Rattle.buffa_samples.proofs.TreeFieldLemmas.{child_full, child_merged, label_merged, mismatch_full, tree_by_payloads, wire_merged}
 use Rattle.buffa_samples.specs.Fields.{value_field}
 use Rattle.buffa_samples.specs.FieldsFacts.{full_not_at_end, value_ends}
-use Rattle.buffa_samples.specs.TreeMeaning.{cost, merged}
+use Rattle.buffa_samples.specs.TreeMeaning.{tree_cost, tree_merged}
 use Rattle.buffa_samples.proofs.tree.+merge.Goals as goal
 
 pub merge_tree-returns-in_err-tag-clause-merged : goal.merge_tree-returns-in_err-tag-clause-merged
@@ -25,9 +25,9 @@ merge_tree-returns-in_err-tag-clause-merged t c =
     let v = c.loop-rest.tree in
     let rest = c.loop-rest.rest.now in
     let some : 0 < length rest = omega (arith, c.remaining.ensures, c.loop-rest-test.true) in
-    rw (p.1, p.2) (loop_fault (merged d c.args.tree.now c.args.bytes.now) (merged d v rest) c.args.budget.now c.loop-rest.budget c.loop-rest.budget
-    (cost d c.args.bytes.now) (cost d rest) c.in_err-tag.field-0.0 inv.means inv.unknown inv.memory inv.no_unknown inv.no_unit
-    ((omega arith, omega arith, omega arith, omega arith), λ ne. untagged by_payloads d v rest c.loop-rest.budget c.in_err-tag.field-0.0 some c.in_err-tag.ensures.reads))
+    rw (p.1, p.2) (loop_fault (tree_merged d c.args.tree.now c.args.bytes.now) (tree_merged d v rest) c.args.budget.now c.loop-rest.budget c.loop-rest.budget
+    (tree_cost d c.args.bytes.now) (tree_cost d rest) c.in_err-tag.field-0.0 inv.means inv.unknown inv.memory inv.no_unknown inv.no_unit
+    ((omega arith, omega arith, omega arith, omega arith), λ ne. untagged tree_by_payloads d v rest c.loop-rest.budget c.in_err-tag.field-0.0 some c.in_err-tag.ensures.reads))
 
 pub merge_tree-returns-in_err-tag-clause-full : goal.merge_tree-returns-in_err-tag-clause-full
 merge_tree-returns-in_err-tag-clause-full t c =
@@ -69,9 +69,9 @@ merge_tree-loop-rest-preserved t c =
     let m = c.in_ok-merge_tree_field.ensures.merged in
     let split : rest ≡ u.0 ++ (m.0 ++ x) = u.2 ∙ ap (λ z. u.0 ++ z) m.2 in
     let one = m.3 u.0 u.1 in
-    let costs = field_costs by_payloads d rest u.0 m.0 x n w u.1 m.1 split in
+    let costs = field_costs tree_by_payloads d rest u.0 m.0 x n w u.1 m.1 split in
     record {
-      means = inv.means ∙ field_means by_payloads d c.loop-rest.tree c.merge_tree_field.new.tree rest u.0 m.0 x n w u.1 m.1 split one.0;
+      means = inv.means ∙ field_means tree_by_payloads d c.loop-rest.tree c.merge_tree_field.new.tree rest u.0 m.0 x n w u.1 m.1 split one.0;
       unknown = omega (arith, inv.unknown, one.1.0, ap (λ (z : BudgetLeft). z.unknown) costs);
       memory = omega (arith, inv.memory, one.1.1, ap (λ (z : BudgetLeft). z.memory) costs);
       no_unknown = omega (arith, inv.no_unknown, one.1.0);
@@ -91,16 +91,16 @@ merge_tree-returns-in_err-merge_tree_field-clause-merged t c =
     let e = c.in_err-merge_tree_field.field-0.0 in
     let u : TakesTag rest n w c.decode.new.buf.now = agree_ok (tag_at rest) (n, w, c.decode.new.buf.now) (tag_sound rest) c.in_ok-tag.ensures.reads in
     let over = c.merge_tree_field.new.budget in
-    let why : PaysAtMost c.loop-rest.budget (cost d rest) over × (e ≢ OutOfMemory → MergeFault (merged d v rest) (cost d rest) c.loop-rest.budget e) =
-    subst (λ (z : List ℕ). PaysAtMost c.loop-rest.budget (cost d z) over × (e ≢ OutOfMemory → MergeFault (merged d v z) (cost d z) c.loop-rest.budget e)) (sym u.2) (judged_all by_payloads d v n w c.decode.new.buf.now c.loop-rest.budget over e c.in_err-merge_tree_field.ensures.merged u.0 u.1) in
-    rw (p.1, p.2) (loop_fault (merged d c.args.tree.now c.args.bytes.now) (merged d v rest) c.args.budget.now c.loop-rest.budget over
-    (cost d c.args.bytes.now) (cost d rest) e inv.means inv.unknown inv.memory inv.no_unknown inv.no_unit why)
+    let why : PaysAtMost c.loop-rest.budget (tree_cost d rest) over × (e ≢ OutOfMemory → MergeFault (tree_merged d v rest) (tree_cost d rest) c.loop-rest.budget e) =
+    subst (λ (z : List ℕ). PaysAtMost c.loop-rest.budget (tree_cost d z) over × (e ≢ OutOfMemory → MergeFault (tree_merged d v z) (tree_cost d z) c.loop-rest.budget e)) (sym u.2) (judged_all tree_by_payloads d v n w c.decode.new.buf.now c.loop-rest.budget over e c.in_err-merge_tree_field.ensures.merged u.0 u.1) in
+    rw (p.1, p.2) (loop_fault (tree_merged d c.args.tree.now c.args.bytes.now) (tree_merged d v rest) c.args.budget.now c.loop-rest.budget over
+    (tree_cost d c.args.bytes.now) (tree_cost d rest) e inv.means inv.unknown inv.memory inv.no_unknown inv.no_unit why)
 
 pub merge_tree-returns-clause-merged : goal.merge_tree-returns-clause-merged
 merge_tree-returns-clause-merged t c =
     let inv = c.loop-rest.invariant in
     let empty : length c.loop-rest.rest.now ≡ 0 = omega (arith, c.remaining.ensures, c.loop-rest-test.false) in
-    all_merged by_payloads c.args.depth c.args.tree.now c.loop-rest.tree c.args.bytes.now c.loop-rest.rest.now c.args.budget.now c.loop-rest.budget empty inv.means inv.unknown inv.memory
+    all_merged tree_by_payloads c.args.depth c.args.tree.now c.loop-rest.tree c.args.bytes.now c.loop-rest.rest.now c.args.budget.now c.loop-rest.budget empty inv.means inv.unknown inv.memory
 
 pub merge_tree_field-returns-then-field_number-ne2 : goal.merge_tree_field-returns-then-field_number-ne2
 merge_tree_field-returns-then-field_number-ne2 t c =

@@ -1,7 +1,7 @@
 use Rattle.std.proofs.Common.{◌≡◌, ◌+◌, ◌*◌, ◌≤◌, ◌++◌, ℕ, List, length}
 use Rattle.buffa_bytes.specs.Field.{SomeField}
 use Rattle.buffa_bytes.specs.Join.{Join}
-use Rattle.buffa_samples.specs.TreeMeaning.{cost, merged}
+use Rattle.buffa_samples.specs.TreeMeaning.{tree_cost, tree_merged}
 use Rattle.buffa_samples.proofs.tree.+merge.Given as goal
 
 -- a level holds the function that is passed on, then the loop over the fields, and then one field
@@ -17,10 +17,10 @@ decreases-merge_tree_field l = 3 * l.depth
 -- what is left means in the tree what all bytes meant in the old one, and what the fields so far cost was spent
 abbrev pub invariant-merge_tree-loop-rest : goal.invariant-merge_tree-loop-rest
 invariant-merge_tree-loop-rest l =
-    let all = cost l.fn.depth l.fn.bytes in
-    let more = cost l.fn.depth l.rest in
+    let all = tree_cost l.fn.depth l.fn.bytes in
+    let more = tree_cost l.fn.depth l.rest in
     record {
-      means : merged l.fn.depth l.fn.tree l.fn.bytes ≡ merged l.fn.depth l.tree l.rest;
+      means : tree_merged l.fn.depth l.fn.tree l.fn.bytes ≡ tree_merged l.fn.depth l.tree l.rest;
       unknown : l.budget.unknown + all.unknown ≡ l.fn.budget.unknown + more.unknown;
       memory : l.budget.memory + all.memory ≡ l.fn.budget.memory + more.memory;
       no_unknown : l.budget.unknown ≤ l.fn.budget.unknown;

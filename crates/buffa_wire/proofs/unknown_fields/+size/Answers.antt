@@ -1,14 +1,21 @@
-use Rattle.std.proofs.Common.{◌≡◌, ◌+◌, min, length, ap, ◌∙◌, arith}
+use Rattle.std.proofs.Common.{length, ap, ◌∙◌, arith}
 use Rattle.buffa_wire.specs.Records.{Held}
 use Rattle.buffa_wire.specs.Encoding.{records_encoding}
-use Rattle.buffa_wire.specs.View.{records_in}
-use Rattle.buffa_wire.proofs.EncodingLemmas.{len_more, length-W_parts}
+use Rattle.buffa_wire.specs.View.{record_of, records_in}
+use Rattle.buffa_wire.proofs.ByValueLemmas.{length_more, length_parts}
+use Rattle.buffa_wire.proofs.EncodingLemmas.{records_by_value}
 use Rattle.buffa_wire.proofs.unknown_fields.+size.Goals as goal
 
 pub UnknownFields::encoded_len-loop-field-preserved : goal.UnknownFields::encoded_len-loop-field-preserved
 UnknownFields::encoded_len-loop-field-preserved t c =
-    let sum : c.in-Some.more ≡ min (c.loop-field.total + c.field_len-len.result) 18446744073709551615 = omega (arith, c.in-Some.ensures.0, c.in-Some.ensures.1) in
-    len_more c.deref-field-items.result.now c.loop-field.field-index c.field-item.result _ c.loop-field.total c.field_len-len.result c.in-Some.more c.loop-field-test.true c.field-item.is c.loop-field.invariant c.field_len-len.ensures sum
+    omega (
+      arith,
+      c.in-Some.ensures.0,
+      c.in-Some.ensures.1,
+      c.loop-field.invariant,
+      c.field_len-len.ensures,
+      length_more records_by_value record_of c.deref-field-items.result.now c.loop-field.field-index c.field-item.result c.loop-field-test.true c.field-item.is,
+    )
 
 pub UnknownFields::encoded_len-returns-in_default : goal.UnknownFields::encoded_len-returns-in_default
 UnknownFields::encoded_len-returns-in_default t c =
@@ -19,5 +26,5 @@ UnknownFields::encoded_len-returns-in_default t c =
       c.loop-field.invariant,
       c.field_len-len.ensures,
       ap (λ z. length (records_encoding z)) all,
-      length-W_parts c.deref-field-items.result.now c.loop-field.field-index c.field-item.result _ c.loop-field-test.true c.field-item.is,
+      length_parts records_by_value record_of c.deref-field-items.result.now c.loop-field.field-index c.field-item.result c.loop-field-test.true c.field-item.is,
     )

@@ -1,4 +1,4 @@
-use Rattle.buffa_map.specs.Pairs.{means}
+use Rattle.buffa_map_base.specs.Pairs.{means}
 use Rattle.buffa_fields.specs.NestedMapFacts.{all_sized, no_pairs}
 use Rattle.buffa_fields.proofs.map_nested.MapOfNestedMember.len.Goals as goal
 

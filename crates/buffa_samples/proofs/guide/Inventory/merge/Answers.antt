@@ -1,15 +1,13 @@
-use Rattle.std.proofs.Common.{arith, [], pos}
-use Rattle.buffa_bytes.specs.Scalars.{int32_of}
-use Rattle.buffa_bytes.specs.declared.wire_type.WireType.TheVariants.{Varint}
+use Rattle.std.proofs.Common.{arith, []}
 use Rattle.buffa_bytes.proofs.FieldLemmas.{skip_falls, tag_falls}
-use Rattle.buffa_map.specs.Scalars.{number_reading, string_reading}
-use Rattle.buffa_map.proofs.RunLemmas.{entry_falls}
+use Rattle.buffa_map_base.specs.Scalars.{int32_reading, string_reading}
+use Rattle.buffa_map_base.proofs.RunLemmas.{entry_falls}
 use Rattle.buffa_samples.proofs.guide.Inventory.merge.Goals as goal
 
 pub fields-smaller-in-Continue-branch-3 : goal.fields-smaller-in-Continue-branch-3
 fields-smaller-in-Continue-branch-3 g c =
     let ok = c.in_ok-merge_entry.ensures.ok in
-    let entry = entry_falls (string_reading [] (λ text. text)) (number_reading Varint (pos 0) int32_of) c.args.ctx.depth 5 (g.B.Buf.unread c.decode.new.buf) ok.entry ok.says (g.B.Buf.unread c.merge_entry.new.buf) ok.read in
+    let entry = entry_falls (string_reading [] (λ text. text)) int32_reading c.args.ctx.depth 5 (g.B.Buf.unread c.decode.new.buf) ok.entry ok.says (g.B.Buf.unread c.merge_entry.new.buf) ok.read in
     omega (arith, tag_falls _ _ c.in_ok-tag.ensures.reads, entry)
 
 pub fields-smaller : goal.fields-smaller
