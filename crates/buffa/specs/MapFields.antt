@@ -1,5 +1,5 @@
 -- Words that contracts of map fields cite, under one name.
-pub use Rattle.buffa_map.specs.Calls.{MergesEntryIn, MergesEntryLent, MergesMessages, ReadsRunLent, RefusesEntryIn, RefusesEntryLent, RefusesRewriteIn, RewritesIn, SizesMessages, StopsRunLent, WritesMapField, WritesMessages}
+pub use Rattle.buffa_map.specs.Calls.{MergesEntryIn, MergesEntryLent, MergesMessages, ReadsRunLent, RefusesEntryIn, RefusesEntryLent, RefusesRunRewriteIn, RewritesRunIn, SizesMessages, StopsRunLent, WritesMapField, WritesMessages}
 pub use Rattle.buffa_map_base.specs.Codec.{AlwaysDeclared, HoldsNothing, IsWhole, Reading, RefusesValue, Spends, ReadingTakesMemory, Writing, is_known, level, value_at}
 pub use Rattle.buffa_map_base.specs.Lent.{room_in, room_left}
 pub use Rattle.buffa_map_base.specs.MessageField.{IsFieldSized, IsFieldWritten, KeepsMessageRoom, UsesFieldRoom, field_slots}

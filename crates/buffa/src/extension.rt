@@ -10,7 +10,7 @@
 //! ```
 
 pub use buffa_ext::{
-    Declared, Extension, ExtensionCodec, ExtensionSet, LastWins, Make, MessageIn, MessageRecord,
-    NoDefault, Numbered, PackableCodec, ReplayFault, SingularCodec, Step, codecs, replay,
+    Change, Declared, Extension, ExtensionCodec, ExtensionSet, LastWins, Make, MessageIn,
+    MessageRecord, NoDefault, Numbered, PackableCodec, ReplayFault, SingularCodec, codecs, replay,
     set_then_read,
 };

@@ -62,8 +62,8 @@ pub fn extension_codecs_are_these<M: Message, P: PackableCodec>()
     ensures lists { (vs : List P.Value.Meaning) → ⟦<codecs::Repeated<P> as ExtensionCodec>⟧.recs vs ≡ map P.datum vs }
     ensures packed { (vs : List P.Value.Meaning) → ⟦<codecs::PackedRepeated<P> as ExtensionCodec>⟧.recs vs
         ≡ packed_record P.packed_encoding vs }
-    ensures message { (v : M.Meaning) → ⟦<codecs::MessageCodec<M> as ExtensionCodec>⟧.recs v ≡ held_bytes (M.encoding v) ∷ [] }
-    ensures group { (v : M.Meaning) → ⟦<codecs::GroupCodec<M> as ExtensionCodec>⟧.recs v ≡ group_of (M.encoding v) ∷ [] }
+    ensures message { (v : _) → ⟦<codecs::MessageCodec<M> as ExtensionCodec>⟧.recs v ≡ held_bytes (M.encoding v) ∷ [] }
+    ensures group { (v : _) → ⟦<codecs::GroupCodec<M> as ExtensionCodec>⟧.recs v ≡ group_of (M.encoding v) ∷ [] }
 {}
 
 /// How each codec of map fields reads a payload, and how the usual map, [`Map`](crate::Map), is walked.

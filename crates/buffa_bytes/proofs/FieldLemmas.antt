@@ -1,5 +1,5 @@
 -- What is read of tags, payloads and groups, and their grammar.
-use Rattle.std.proofs.Common.{◌≡◌, ◌≢◌, inl, inr, ℕ, zero, suc, ◌+◌, ◌-◌, ◌*◌, ◌/◌, ◌%◌, ◌^◌, ◌==◌, nat_lt, nat_eq, ◌<◌, ◌≤◌, Bool, true, false, List, [], ◌++◌, length, take, Option, None, Some, Result, Ok, Err, refl, sym, ap, subst, ◌∙◌, arith, append_assoc, length-append, length-take, if◌then◌else◌}
+use Rattle.std.proofs.Common.{◌≡◌, ◌≢◌, inl, inr, ℕ, zero, suc, ◌+◌, ◌-◌, ◌*◌, ◌/◌, ◌%◌, ◌^◌, ◌==◌, nat_lt, nat_eq, ◌<◌, ◌≤◌, Bool, true, false, List, [], ◌++◌, length, take, Option, None, Some, Result, Ok, Err, IsOk, refl, sym, ap, subst, ◌∙◌, arith, append_assoc, length-append, length-take, if◌then◌else◌}
 use Rattle.std.proofs.lemmas.Bool.{lt-ltb, le-ltb, ltb-true, ltb-false, cond_both, eqb-true, eqb-false, eq-eqb, ne_eqb}
 use Rattle.std.proofs.lemmas.List.{take-append-drop, append_cancel_right}
 use Rattle.std.proofs.Math.Seq.{drop-append_seam}
@@ -125,6 +125,16 @@ is_tag f w h = (h, IsVarint-varint_encoding (8 * f + wire_number w) (omega (arit
 
 pub tag_some : (t : List ℕ) (f : ℕ) (w : WireType) → IsTag t f w → 0 < length t
 tag_some t f w h = varint_falls t (8 * f + wire_number w) h.1
+
+-- by an equal number and an equal wire type it is the same tag
+pub tag_as : (t : List ℕ) (f g : ℕ) (w v : WireType) → IsTag t f w → f ≡ g → w ≡ v → IsTag t g v
+tag_as t f g w v h a b = subst (λ z. IsTag t z v) a (subst (λ z. IsTag t f z) b h)
+
+pub takes_tag_as : (bs rest : List ℕ) (f g : ℕ) (w v : WireType) → TakesTag bs f w rest → f ≡ g → w ≡ v → TakesTag bs g v rest
+takes_tag_as bs rest f g w v h a b = (h.0, tag_as h.0 f g w v h.1 a b, h.2)
+
+pub tag_at_as : (bs rest : List ℕ) (f g : ℕ) (w v : WireType) → tag_at bs ≡ Ok (f, w, rest) → f ≡ g → w ≡ v → tag_at bs ≡ Ok (g, v, rest)
+tag_at_as bs rest f g w v h a b = h ∙ ap (λ z. Ok (z, w, rest)) a ∙ ap (λ z. Ok (g, z, rest)) b
 
 -- ---- payloads
 pub tag_read : (bs rest : List ℕ) (n : ℕ) (w : WireType) → TakesTag bs n w rest → tag_at bs ≡ Ok (n, w, rest)
@@ -388,6 +398,10 @@ onward bs t rest x e = ap (λ z. z ++ x) e ∙ append_assoc t rest x
 
 pub varint_less : (bs : List ℕ) (n : ℕ) (rest : List ℕ) → varint_at bs ≡ Ok (n, rest) → length rest < length bs
 varint_less bs n rest e = let t = agree_ok (varint_at bs) (n, rest) (varint_sound bs) e in omega (arith, varint_falls t.0 n t.1, ap length t.2, length-append t.0 rest)
+
+pub ok_there : {A E : Type 0} (r : Result A E) → IsOk r → (x : A) × (r ≡ Ok x)
+ok_there (Ok x) h = (x, refl)
+ok_there (Err e) h = cc
 
 pub ok_same : {A : Type 0} {x y : A} → (let r : Result A DecodeError = Ok x in r ≡ Ok y) → x ≡ y
 ok_same e = cc

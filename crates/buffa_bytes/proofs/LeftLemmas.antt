@@ -66,11 +66,6 @@ taken_whole n mid p new e =
     let t = agree_ok (taken n mid) (p, new) (taken_sound n mid) e in
     (omega (arith, t.0, ap length t.1, length-append p new), sym (ap (λ k. drop k mid) (sym t.0) ∙ ap (drop (length p)) t.1 ∙ drop-append_seam p new))
 
--- the bytes that were read
-abbrev pub bytes_of : Taken → List ℕ
-bytes_of (Ok p) = p.0
-bytes_of (Err e) = []
-
 -- a fault of the length, as `?` hands it on
 pub left_no_length : {X : Type 0} {r : Result X DecodeError} {e d : DecodeError} → r ≡ Err e → e ≡ d → (bs new : List ℕ) → varint_at bs ≡ Err d → new ≡ past_no_varint bs → LeavesUnlessFull r (past_no_delimited bs) new
 unfolding past_no_delimited

@@ -19,4 +19,5 @@ pub mod ScalarLemmas
 pub mod OwnLemmas
 pub mod TailLemmas
 pub mod LeftLemmas
+pub mod FaultLemmas
 pub mod FullLemmas

@@ -1,5 +1,6 @@
 -- Pieces of lists; lists of values and what they mean, one more at a time.
-use Rattle.std.proofs.Common.{◌≡◌, ℕ, ◌+◌, ◌<◌, List, [], ◌∷◌, ◌++◌, append_assoc, sym, ◌∙◌, ap, map, take, drop, length, get_or}
+use Rattle.std.proofs.Common.{◌≡◌, ℕ, ◌+◌, ◌<◌, List, [], ◌∷◌, ◌++◌, append_assoc, refl, sym, ◌∙◌, ap, map, take, drop, length, get_or}
+use Rattle.std.specs.List.{AllByRecursion}
 use Rattle.std.proofs.lemmas.List.{map-append, take_more, drop_more, take-append-drop}
 
 -- one piece after the other, both at the front
@@ -17,3 +18,26 @@ pub means_cut : {V M : Type 0} (meaning : V → M) (xs : List V) (i : ℕ) (x : 
 means_cut meaning xs i x lt e =
     ap (map meaning) (sym (take-append-drop i xs)) ∙ map-append meaning (take i xs) (drop i xs)
     ∙ ap (λ l. map meaning (take i xs) ++ map meaning l) (drop_more xs i x lt) ∙ ap (λ y. map meaning (take i xs) ++ meaning y ∷ map meaning (drop (i + 1) xs)) (sym e)
+
+-- what holds of each value, and of one more
+pub AllByRecursion-last : {M : Type 0} (P : M → Type 0) (ms : List M) (m : M) → AllByRecursion P ms → P m → AllByRecursion P (ms ++ m ∷ [])
+AllByRecursion-last P [] m h k = (k, tt)
+AllByRecursion-last P (x ∷ ms) m h k = (h.0, AllByRecursion-last P ms m h.1 k)
+
+-- what holds of each holds of the one in the middle
+pub AllByRecursion-middle : {M : Type 0} (P : M → Type 0) (front : List M) (m : M) (back : List M) → AllByRecursion P (front ++ m ∷ back) → P m
+AllByRecursion-middle P [] m back h = h.0
+AllByRecursion-middle P (x ∷ front) m back h = AllByRecursion-middle P front m back h.1
+
+pub AllByRecursion-weaker : {M : Type 0} (P Q : M → Type 0) → ((m : M) → P m → Q m) → (ms : List M) → AllByRecursion P ms → AllByRecursion Q ms
+AllByRecursion-weaker P Q f [] h = tt
+AllByRecursion-weaker P Q f (m ∷ ms) h = (f m h.0, AllByRecursion-weaker P Q f ms h.1)
+
+-- where nothing is joined, neither has anything
+pub nil_first : {A : Type 0} (xs ys : List A) → xs ++ ys ≡ [] → xs ≡ []
+nil_first [] ys e = refl
+nil_first (x ∷ xs) ys e = cc
+
+pub nil_second : {A : Type 0} (xs ys : List A) → xs ++ ys ≡ [] → ys ≡ []
+nil_second [] ys e = e
+nil_second (x ∷ xs) ys e = cc

@@ -11,7 +11,7 @@ use Rattle.buffa_bytes.specs.Values.{delimited_encoding}
 use Rattle.buffa_bytes.specs.Delimited.{text_as, string_as, bytes_as}
 use Rattle.buffa_bytes.proofs.DelimitedLemmas.{after_length, delimited_back, taken_sound}
 use Rattle.buffa_bytes.proofs.FullLemmas.{varint_no_full}
-use Rattle.buffa_bytes.proofs.LeftLemmas.{bytes_of}
+use Rattle.buffa_bytes.proofs.FieldLemmas.{ok_same}
 use Rattle.buffa_bytes.proofs.StepLemmas.{agree_ok}
 
 -- a text that means v by of
@@ -46,7 +46,7 @@ length_no_full is same bs h = rw (is, same) (varint_no_full bs _ h)
 
 -- the bytes at the front, behind their length, are none
 pub none_in_place : (n : ℕ) (bs mid part rest : List ℕ) → varint_at bs ≡ Ok (n, mid) → IsFrontOf part n mid → delimited_at bs ≡ Ok ([], rest) → part ≡ []
-none_in_place n bs mid part rest v f e = ap bytes_of (sym (front_taken n part mid f) ∙ (sym (after_length n bs mid v) ∙ e))
+none_in_place n bs mid part rest v f e = ap (λ (p : List ℕ × List ℕ). p.0) (ok_same (sym (front_taken n part mid f) ∙ (sym (after_length n bs mid v) ∙ e)))
 
 -- their length is 0
 pub none_taken : (n : ℕ) (bs mid rest : List ℕ) → varint_at bs ≡ Ok (n, mid) → delimited_at bs ≡ Ok ([], rest) → n ≡ 0

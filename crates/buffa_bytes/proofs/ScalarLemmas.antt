@@ -1,12 +1,13 @@
 -- Scalars: what the numbers in their encodings mean, and that they are read back.
 use Rattle.std.proofs.Common.{◌≡◌, ℕ, ◌+◌, ◌*◌, ◌/◌, ◌%◌, ◌^◌, ◌<◌, Bool, true, false, List, ◌++◌, length, Ok, refl, ap, ◌∙◌, arith, ℤ, pos, negsuc, inl, inr}
 use Rattle.std.specs.Prelude.{FitsSigned}
-use Rattle.std.specs.Int.{cast_unsigned, from_bool, to_le_bytes, w32, w64}
-use Rattle.std.proofs.lemmas.Int.{to_z-of_z}
+use Rattle.std.specs.Int.{cast_unsigned, from_bool, int_wrap, to_le_bytes, w32, w64}
+use Rattle.std.proofs.lemmas.Int.{SFits-int_wrap, to_z-of_z}
 use Rattle.std.proofs.lemmas.Nat.{from_le_bytes-to_le_bytes_4, from_le_bytes-to_le_bytes_8}
 use Rattle.std.proofs.lemmas.Bool.{cases_lt}
 use Rattle.buffa_bytes.specs.Varint.{varint_encoding, shortest}
 use Rattle.buffa_bytes.specs.Scalars.{zigzag, unzigzag, varint_as, four_as, eight_as, int64_of, uint32_of, sint32_of, sint64_of, bool_of, bool_encoding, sfixed32_of, sfixed64_of}
+use Rattle.buffa_bytes.specs.Values.{int32_of}
 use Rattle.buffa_bytes.proofs.VarintLemmas.{varint_complete, IsVarint-varint_encoding}
 use Rattle.buffa_bytes.proofs.DelimitedLemmas.{taken_complete}
 
@@ -96,3 +97,8 @@ pub bool_length : (b : Bool) → length (bool_encoding b) ≡ 1
 unfolding varint_encoding shortest
 bool_length true = refl
 bool_length false = refl
+
+-- every number is read as an int32
+pub int32_fits : (n : ℕ) → FitsSigned w32 (int32_of n)
+unfolding int_wrap
+int32_fits n = SFits-int_wrap w32 (pos n)

@@ -105,9 +105,7 @@ fn move_bytes<B: Buf>(buf: &mut B, len: usize, bytes: &mut Vec<u8>) -> Result<()
     while left > 0 {
         let chunk = buf.chunk();
         let part = chunk.len().min(left);
-        if bytes.extend_from_slice(&chunk[..part]).is_err() {
-            return Err(DecodeError::OutOfMemory);
-        }
+        bytes.extend_from_slice(&chunk[..part])?;
         buf.advance(part);
         left -= part;
     }
@@ -154,9 +152,7 @@ pub fn copy_bytes<B: Buf>(alloc: Global, buf: &mut B, len: u64) -> Result<Vec<u8
     if len > buf.remaining() as u64 {
         return Err(DecodeError::UnexpectedEof);
     }
-    let Ok(mut bytes) = Vec::with_capacity(alloc, len as usize) else {
-        return Err(DecodeError::OutOfMemory);
-    };
+    let mut bytes = Vec::with_capacity(alloc, len as usize)?;
     move_bytes(buf, len as usize, &mut bytes)?;
     Ok(bytes)
 }

@@ -1,9 +1,12 @@
 //! Why bytes were refused, and why an encoding was not written.
 
 ghost use Rattle.std.specs.Prelude.{◌≡◌, Some};
+ghost use Rattle.buffa_bytes.specs.declared.error.DecodeError.TheVariants as decoding;
+ghost use Rattle.buffa_bytes.specs.declared.error.EncodeError.TheVariants as encoding;
 ghost use Rattle.buffa_bytes.specs.ErrorText.{decode_error_text, encode_error_text, message_set_fault_text};
 
 use crate::wire_type::WireType;
+use std::alloc::{AllocError, AllocFailed};
 use std::error::Error;
 use std::fmt;
 
@@ -116,6 +119,24 @@ impl fmt::Display for DecodeError {
 
 impl Error for DecodeError {}
 
+impl From<AllocError> for DecodeError {
+    ghost from_gives = { λ _ e. e ≡ decoding.OutOfMemory };
+
+    #[inline]
+    fn from(_error: AllocError) -> DecodeError {
+        DecodeError::OutOfMemory
+    }
+}
+
+impl<T: Drop> From<AllocFailed<T>> for DecodeError {
+    ghost from_gives = { λ _ e. e ≡ decoding.OutOfMemory };
+
+    #[inline]
+    fn from(_error: AllocFailed<T>) -> DecodeError {
+        DecodeError::OutOfMemory
+    }
+}
+
 /// Why an encoding was not written.
 ///
 /// `Display` prints the variant's name, and after `GroupRefused` a space and the text of what it holds.
@@ -146,3 +167,21 @@ impl fmt::Display for EncodeError {
 }
 
 impl Error for EncodeError {}
+
+impl From<AllocError> for EncodeError {
+    ghost from_gives = { λ _ e. e ≡ encoding.OutOfMemory };
+
+    #[inline]
+    fn from(_error: AllocError) -> EncodeError {
+        EncodeError::OutOfMemory
+    }
+}
+
+impl<T: Drop> From<AllocFailed<T>> for EncodeError {
+    ghost from_gives = { λ _ e. e ≡ encoding.OutOfMemory };
+
+    #[inline]
+    fn from(_error: AllocFailed<T>) -> EncodeError {
+        EncodeError::OutOfMemory
+    }
+}

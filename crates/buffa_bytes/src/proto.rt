@@ -113,12 +113,8 @@ impl ProtoString for String {
         let Ok(text) = str::from_utf8(bytes) else {
             return Err(DecodeError::InvalidUtf8);
         };
-        let Ok(mut owned) = String::with_capacity(alloc, text.len()) else {
-            return Err(DecodeError::OutOfMemory);
-        };
-        if owned.push_str(text).is_err() {
-            return Err(DecodeError::OutOfMemory);
-        }
+        let mut owned = String::with_capacity(alloc, text.len())?;
+        owned.push_str(text)?;
         Ok(owned)
     }
 
@@ -141,12 +137,8 @@ impl ProtoBytes for Vec<u8> {
     ghost of_bytes = { λ bytes. bytes };
 
     fn from_wire(alloc: Global, source: &[u8]) -> Result<Vec<u8>, DecodeError> {
-        let Ok(mut owned) = Vec::with_capacity(alloc, source.len()) else {
-            return Err(DecodeError::OutOfMemory);
-        };
-        if owned.extend_from_slice(source).is_err() {
-            return Err(DecodeError::OutOfMemory);
-        }
+        let mut owned = Vec::with_capacity(alloc, source.len())?;
+        owned.extend_from_slice(source)?;
         Ok(owned)
     }
 

@@ -2,7 +2,7 @@
 use Rattle.std.proofs.Common.{◌≡◌, ◌≢◌, ℕ, ◌+◌, ◌-◌, ◌<◌, ◌≤◌, List, [], ◌∷◌, ◌++◌, Option, Some, None, Result, Ok, Err, refl, sym, ◌∙◌, ap, take, drop, length, get_or, arith}
 use Rattle.std.specs.Result.{OnErr}
 use Rattle.std.specs.List.{filter_map, last_or, cons_option}
-use Rattle.std.proofs.lemmas.List.{map-append, drop_more, take-append-drop}
+use Rattle.std.proofs.lemmas.List.{drop_more}
 use Rattle.std.proofs.lemmas.List.Elements.{filter_map-append}
 use Rattle.buffa_wire.specs.Records.{Datum}
 use Rattle.buffa_wire.specs.View.{record_of, records_in, datum_of}
@@ -10,7 +10,7 @@ use Rattle.buffa_wire.specs.declared.unknown_fields.UnknownField.{UnknownField}
 use Rattle.buffa_codec.specs.Sub.{sub}
 use Rattle.buffa_codec.specs.Decoded.{HasLast, last_read}
 use Rattle.buffa_codec.proofs.FilteredLemmas.{sub-append}
-use Rattle.buffa_codec.proofs.TurnLemmas.{sub-one_same, sub-one_other}
+use Rattle.buffa_codec.proofs.TurnLemmas.{sub-cut, sub-one_same, sub-one_other}
 
 step_down : (i : ℕ) → 0 < i → (i - 1) + 1 ≡ i
 step_down i h = omega arith
@@ -44,10 +44,8 @@ last_or-snoc o (y ∷ xs) x = last_or-snoc (Some y) xs x
 last_cut : (n : ℕ) (xs : List UnknownField) (i : ℕ) (x : UnknownField) → 0 < i → i ≤ length xs → x ≡ get_or xs (i - 1) x → x.number ≡ n
     → sub n (records_in xs) ≡ sub n (records_in (take (i - 1) xs)) ++ (datum_of x.payload ∷ sub n (records_in (drop i xs)))
 last_cut n xs i x pos le e same =
-    ap (λ l. sub n (records_in l)) (sym (take-append-drop (i - 1) xs))
-    ∙ ap (sub n) (map-append record_of (take (i - 1) xs) (drop (i - 1) xs))
-    ∙ sub-append n (records_in (take (i - 1) xs)) (records_in (drop (i - 1) xs))
-    ∙ ap (λ l. sub n (records_in (take (i - 1) xs)) ++ l) (sub-drop_less n xs i x pos le e ∙ ap (λ l. l ++ sub n (records_in (drop i xs))) (sub-one_same n x same))
+    sub-cut n xs (i - 1) x (below i (length xs) pos le) e same
+    ∙ ap (λ k. sub n (records_in (take (i - 1) xs)) ++ (datum_of x.payload ∷ sub n (records_in (drop k xs)))) (step_down i pos)
 
 -- such a record, and none behind it that is read
 pub last_there : {M T E : Type 0} (r : Result T E) (P : Datum → Type 0) (one : Datum → Option M) (n : ℕ) (xs : List UnknownField) (i : ℕ) (x : UnknownField) (rs : List (ℕ × Datum)) → 0 < i → i ≤ length xs → x ≡ get_or xs (i - 1) x → x.number ≡ n

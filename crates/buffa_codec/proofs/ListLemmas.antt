@@ -1,23 +1,24 @@
 -- Lists of values, one more at a time.
-use Rattle.std.proofs.Common.{◌≡◌, ℕ, ◌+◌, ◌<◌, List, [], ◌∷◌, ◌++◌, Option, Some, None, refl, ◌∙◌, ap, map, take, drop, length, get_or, arith, subst, ◌⊎◌, inl, inr}
+use Rattle.std.proofs.Common.{◌≡◌, ℕ, ◌+◌, ◌<◌, List, [], ◌∷◌, ◌++◌, Option, Some, None, refl, sym, ◌∙◌, ap, map, take, drop, length, get_or, arith, subst, ◌⊎◌, inl, inr}
 use Rattle.std.specs.List.{AllByRecursion}
 use Rattle.buffa_bytes.specs.declared.error.EncodeError.{EncodeError}
 use Rattle.buffa_bytes.specs.declared.error.EncodeError.TheVariants.{OutOfMemory}
 use Rattle.buffa_codec.specs.Decoded.{first_refusal, packed_record}
 use Rattle.buffa_codec.specs.Sub.{tagged}
-use Rattle.buffa_bytes.proofs.ListLemmas.{means_cut}
+use Rattle.buffa_bytes.proofs.ListLemmas.{AllByRecursion-last, AllByRecursion-middle, means_cut, means_more}
 
-pub AllByRecursion-append : {M : Type 0} (P : M → Type 0) (ms : List M) (m : M) → AllByRecursion P ms → P m → AllByRecursion P (ms ++ m ∷ [])
-AllByRecursion-append P [] m h k = (k, tt)
-AllByRecursion-append P (x ∷ ms) m h k = (h.0, AllByRecursion-append P ms m h.1 k)
-
--- a fact that holds of each value holds of one of them
-AllByRecursion-middle : {M : Type 0} (P : M → Type 0) (front : List M) (m : M) (back : List M) → AllByRecursion P (front ++ m ∷ back) → P m
-AllByRecursion-middle P [] m back h = h.0
-AllByRecursion-middle P (x ∷ front) m back h = AllByRecursion-middle P front m back h.1
+-- what holds of each value, and of one more; and of one of them
+pub AllByRecursion-more : {V M : Type 0} (P : M → Type 0) (meaning : V → M) (xs : List V) (i : ℕ) (x : V) → i < length xs → x ≡ get_or xs i x
+    → AllByRecursion P (map meaning (take i xs)) → P (meaning x) → AllByRecursion P (map meaning (take (i + 1) xs))
+AllByRecursion-more P meaning xs i x lt e h k = subst (AllByRecursion P) (sym (means_more meaning xs i x lt e)) (AllByRecursion-last P (map meaning (take i xs)) (meaning x) h k)
 
 pub AllByRecursion-at : {V M : Type 0} (P : M → Type 0) (meaning : V → M) (xs : List V) (i : ℕ) (x : V) → i < length xs → x ≡ get_or xs i x → AllByRecursion P (map meaning xs) → P (meaning x)
 AllByRecursion-at P meaning xs i x lt e h = AllByRecursion-middle P (map meaning (take i xs)) (meaning x) (map meaning (drop (i + 1) xs)) (subst (AllByRecursion P) (means_cut meaning xs i x lt e) h)
+
+-- a list that has a value isn't empty
+pub some_there : {A : Type 0} (xs ys : List A) (y : A) → xs ++ y ∷ ys ≡ [] → ⊥
+some_there [] ys y e = cc
+some_there (x ∷ xs) ys y e = cc
 
 -- no refusal before, and then that of the next, or of what follows
 abbrev refused_by : {M : Type 0} → (M → Option EncodeError) → List M → Option EncodeError → Option EncodeError

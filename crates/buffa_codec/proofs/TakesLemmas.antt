@@ -1,20 +1,20 @@
 -- Records whose reading takes memory.
-use Rattle.std.proofs.Common.{◌≡◌, ◌≢◌, ℕ, ◌+◌, ◌<◌, List, [], ◌∷◌, ◌++◌, Option, Some, None, Result, Ok, Err, inl, inr, sym, ◌∙◌, ap, map, take, drop, length, get_or, append_assoc, subst}
+use Rattle.std.proofs.Common.{◌≡◌, ◌≢◌, ℕ, ◌+◌, ◌<◌, List, [], ◌∷◌, ◌++◌, Option, Some, None, Result, Ok, Err, inl, inr, sym, ◌∙◌, ap, map, take, drop, length, get_or, subst}
 use Rattle.std.specs.Result.{OnErr}
-use Rattle.std.proofs.lemmas.List.{map-append, take-append-drop}
+use Rattle.std.proofs.lemmas.List.{map-append}
 use Rattle.buffa_bytes.specs.declared.wire_type.WireType.{WireType}
 use Rattle.buffa_wire.specs.BudgetLeft.{BudgetLeft}
 use Rattle.buffa_bytes.specs.Content.{content_at}
 use Rattle.buffa_bytes.specs.Content.Content.{number}
 use Rattle.buffa_wire.specs.Records.{Datum, bytes}
-use Rattle.buffa_wire.specs.View.{record_of, records_in, datum_of}
+use Rattle.buffa_wire.specs.View.{records_in, datum_of}
 use Rattle.buffa_wire.specs.declared.unknown_fields.UnknownField.{UnknownField}
 use Rattle.buffa_codec.specs.Packed.{numbers_in}
 use Rattle.buffa_codec.specs.PackedFacts.{numbers_step}
-use Rattle.buffa_codec.specs.Decoded.{Has, HasByte, TakesElement, elements, string_held, unpacked}
+use Rattle.buffa_codec.specs.Decoded.{AsksInList, Has, HasByte, elements, string_held, unpacked}
 use Rattle.buffa_codec.specs.Sub.{sub}
-use Rattle.buffa_codec.proofs.FilteredLemmas.{sub-append}
-use Rattle.buffa_codec.proofs.TurnLemmas.{sub-take_more, sub-one_same}
+use Rattle.buffa_codec.proofs.ListLemmas.{some_there}
+use Rattle.buffa_codec.proofs.TurnLemmas.{sub-cut}
 
 on_err : {T E : Type 0} {P : Type 0} (r : Result T E) → P → OnErr r P
 on_err (Ok x) p = tt
@@ -24,25 +24,12 @@ on_err (Err e) p = p
 pub has_record : {T E : Type 0} (r : Result T E) (P : Datum → Type 0) (n : ℕ) (xs : List UnknownField) (i : ℕ) (x : UnknownField) (rs : List (ℕ × Datum)) → i < length xs → x ≡ get_or xs i x → x.number ≡ n
     → records_in xs ≡ rs → P (datum_of x.payload) → OnErr r (Has P (sub n rs))
 has_record r P n xs i x rs lt e same whole p =
-    let front = sub n (records_in (take i xs)) in
-    let back = sub n (records_in (drop (i + 1) xs)) in
-    on_err r (
-      front,
-      datum_of x.payload,
-      back,
-      p,
-      ap (sub n) (sym whole)
-          ∙ ap (λ l. sub n (records_in l)) (sym (take-append-drop (i + 1) xs))
-          ∙ ap (sub n) (map-append record_of (take (i + 1) xs) (drop (i + 1) xs))
-          ∙ sub-append n (records_in (take (i + 1) xs)) (records_in (drop (i + 1) xs))
-          ∙ ap (λ l. l ++ back) (sub-take_more n xs i x lt e ∙ ap (λ l. front ++ l) (sub-one_same n x same))
-          ∙ append_assoc front (datum_of x.payload ∷ []) back,
-    )
+    on_err r (sub n (records_in (take i xs)), datum_of x.payload, sub n (records_in (drop (i + 1) xs)), p, ap (sub n) (sym whole) ∙ sub-cut n xs i x lt e same)
 
 -- ---- elements of lists
 
-module _ {M T E : Type 0} (r : Result T E) (takes : Datum → Type 0) (one : BudgetLeft → Datum → Option M) (packed : List ℕ → List M) (d : Datum) where
-  pub takes_own : takes d → OnErr r (TakesElement takes one packed d)
+module _ {M T E : Type 0} (r : Result T E) (asks : Datum → Type 0) (one : BudgetLeft → Datum → Option M) (packed : List ℕ → List M) (d : Datum) where
+  pub takes_own : asks d → OnErr r (AsksInList asks one packed d)
   takes_own h = on_err r (inl h)
 
   one_element : (b : BudgetLeft) (v : M) → one b d ≡ Some v → elements packed d (one b d) ≢ []
@@ -51,17 +38,13 @@ module _ {M T E : Type 0} (r : Result T E) (takes : Datum → Type 0) (one : Bud
       some_left : (w : M) → w ∷ [] ≡ [] → ⊥
       some_left w k = cc
 
-  pub takes_value : (b : BudgetLeft) (v : M) → one b d ≡ Some v → OnErr r (TakesElement takes one packed d)
+  pub takes_value : (b : BudgetLeft) (v : M) → one b d ≡ Some v → OnErr r (AsksInList asks one packed d)
   takes_value b v e = on_err r (inr (b, one_element b v e))
 
-  pub takes_packed : (b : BudgetLeft) (bs : List ℕ) → d ≡ bytes bs → one b d ≡ None → packed bs ≢ [] → OnErr r (TakesElement takes one packed d)
+  pub takes_packed : (b : BudgetLeft) (bs : List ℕ) → d ≡ bytes bs → one b d ≡ None → packed bs ≢ [] → OnErr r (AsksInList asks one packed d)
   takes_packed b bs same e k = on_err r (inr (b, λ h. k (sym (ap (unpacked packed) same) ∙ sym (ap (elements packed d) e) ∙ h)))
 
 -- ---- packed numbers
-
-some_there : {A : Type 0} (xs ys : List A) (y : A) → xs ++ y ∷ ys ≡ [] → ⊥
-some_there [] ys y e = cc
-some_there (x ∷ xs) ys y e = cc
 
 pub packs_some : {M T E : Type 0} (r : Result T E) (w : WireType) (of : ℕ → M) (all rest left : List ℕ) (n : ℕ) (done : List ℕ) → content_at w rest ≡ Ok (number n, left)
     → numbers_in w all ≡ done ++ numbers_in w rest → OnErr r (map of (numbers_in w all) ≢ [])

@@ -1,7 +1,7 @@
 -- One turn of a loop over the records.
-use Rattle.std.proofs.Common.{◌≡◌, ◌≢◌, ℕ, ◌+◌, ◌<◌, List, [], ◌∷◌, ◌++◌, Option, true, false, cond, refl, sym, ◌∙◌, ap, map, take, drop, length, get_or, ◌==◌, arith, append_assoc, subst, Result, Ok, Err}
-use Rattle.std.proofs.lemmas.Grind.{common_steps}
-use Rattle.std.proofs.lemmas.List.{length-map, map-append, append-nil, take_more, take-map, take-append-drop}
+use Rattle.std.proofs.Common.{◌≡◌, ◌≢◌, ℕ, ◌+◌, ◌<◌, List, [], ◌∷◌, ◌++◌, Option, cond, refl, sym, ◌∙◌, ap, map, take, drop, length, get_or, arith, append_assoc, subst, Result, Ok, Err}
+use Rattle.std.proofs.lemmas.Bool.{eq-eqb, ne_eqb}
+use Rattle.std.proofs.lemmas.List.{length-map, map-append, append-nil, take-map}
 use Rattle.std.specs.Result.{OnErr}
 use Rattle.buffa_wire.specs.Records.{Datum}
 use Rattle.buffa_wire.specs.View.{record_of, records_in, datum_of}
@@ -10,7 +10,8 @@ use Rattle.buffa_wire.specs.declared.unknown_fields.UnknownField.{UnknownField}
 use Rattle.buffa_codec.specs.Sub.{sub, tagged}
 use Rattle.buffa_codec.specs.Decoded.{AddsSome, ReadsAll, elements}
 use Rattle.buffa_codec.proofs.FilteredLemmas.{sub-append, sub-cons}
-use Rattle.buffa_bytes.proofs.ListLemmas.{means_more}
+use Rattle.buffa_bytes.proofs.ListLemmas.{means_cut, means_more}
+use Rattle.buffa_codec.proofs.ListLemmas.{some_there}
 
 -- one more record is read
 pub ReadsAll-snoc : {M : Type 0} (one : BudgetLeft → Datum → Option M) (leaves : BudgetLeft → Datum → BudgetLeft → Type 0) (packed : List ℕ → List M) (ds : List Datum) (d : Datum) (b : BudgetLeft) (vs : List M) (mid left : BudgetLeft)
@@ -20,29 +21,35 @@ ReadsAll-snoc one leaves packed [] d b vs mid left h s =
 ReadsAll-snoc one leaves packed (e ∷ ds) d b vs mid left h s =
     (h.0, h.1 ++ elements packed d (one mid d), h.2, ReadsAll-snoc one leaves packed ds d h.0 h.1 mid left h.3 s, ap (λ l. l ++ elements packed d (one mid d)) h.4 ∙ append_assoc (elements packed e (one b e)) h.1 (elements packed d (one mid d)))
 
-test_same : (m n : ℕ) → m ≡ n → (m == n) ≡ true
-test_same m n e = grind (arith, common_steps)
-
-test_other : (m n : ℕ) → m ≢ n → (m == n) ≡ false
-test_other m n e = grind (arith, common_steps)
-
 -- the records of one number, with one more field
 pub sub-take_more : (n : ℕ) (xs : List UnknownField) (i : ℕ) (x : UnknownField) → i < length xs → x ≡ get_or xs i x → sub n (records_in (take (i + 1) xs)) ≡ sub n (records_in (take i xs)) ++ sub n (record_of x ∷ [])
-sub-take_more n xs i x lt e =
-    ap (λ l. sub n (records_in l)) (take_more xs i x lt)
-    ∙ ap (sub n) (map-append record_of (take i xs) (get_or xs i x ∷ []))
-    ∙ sub-append n (records_in (take i xs)) (record_of (get_or xs i x) ∷ [])
-    ∙ ap (λ y. sub n (records_in (take i xs)) ++ sub n (record_of y ∷ [])) (sym e)
+sub-take_more n xs i x lt e = ap (sub n) (means_more record_of xs i x lt e) ∙ sub-append n (records_in (take i xs)) (record_of x ∷ [])
 
 pub sub-one_same : (n : ℕ) (x : UnknownField) → x.number ≡ n → sub n (record_of x ∷ []) ≡ datum_of x.payload ∷ []
 sub-one_same n x same =
     sub-cons n _ []
-    ∙ ap (λ b. cond b (datum_of x.payload ∷ []) []) (test_same _ n same)
+    ∙ ap (λ b. cond b (datum_of x.payload ∷ []) []) (eq-eqb _ n same)
 
 pub sub-one_other : (n : ℕ) (x : UnknownField) → x.number ≢ n → sub n (record_of x ∷ []) ≡ []
 sub-one_other n x other =
     sub-cons n _ []
-    ∙ ap (λ b. cond b (datum_of x.payload ∷ []) []) (test_other _ n other)
+    ∙ ap (λ b. cond b (datum_of x.payload ∷ []) []) (ne_eqb _ n other)
+
+pub sub-take_same : (n : ℕ) (xs : List UnknownField) (i : ℕ) (x : UnknownField) → i < length xs → x ≡ get_or xs i x → x.number ≡ n
+    → sub n (records_in (take (i + 1) xs)) ≡ sub n (records_in (take i xs)) ++ datum_of x.payload ∷ []
+sub-take_same n xs i x lt e same = sub-take_more n xs i x lt e ∙ ap (λ l. sub n (records_in (take i xs)) ++ l) (sub-one_same n x same)
+
+pub sub-take_other : (n : ℕ) (xs : List UnknownField) (i : ℕ) (x : UnknownField) → i < length xs → x ≡ get_or xs i x → x.number ≢ n
+    → sub n (records_in (take (i + 1) xs)) ≡ sub n (records_in (take i xs))
+sub-take_other n xs i x lt e other = sub-take_more n xs i x lt e ∙ ap (λ l. sub n (records_in (take i xs)) ++ l) (sub-one_other n x other) ∙ append-nil (sub n (records_in (take i xs)))
+
+-- those of all fields, cut at one
+pub sub-cut : (n : ℕ) (xs : List UnknownField) (i : ℕ) (x : UnknownField) → i < length xs → x ≡ get_or xs i x → x.number ≡ n
+    → sub n (records_in xs) ≡ sub n (records_in (take i xs)) ++ datum_of x.payload ∷ sub n (records_in (drop (i + 1) xs))
+sub-cut n xs i x lt e same =
+    let back = records_in (drop (i + 1) xs) in
+    ap (sub n) (means_cut record_of xs i x lt e) ∙ sub-append n (records_in (take i xs)) (record_of x ∷ back)
+    ∙ ap (λ l. sub n (records_in (take i xs)) ++ l) (sub-append n (record_of x ∷ []) back ∙ ap (λ l. l ++ sub n back) (sub-one_same n x same))
 
 -- a turn at a record of the number
 pub reads_one_more : {M : Type 0} (one : BudgetLeft → Datum → Option M) (leaves : BudgetLeft → Datum → BudgetLeft → Type 0) (packed : List ℕ → List M) (b : BudgetLeft) (n : ℕ) (xs : List UnknownField) (i : ℕ) (x : UnknownField) (vs vs' : List M) (mid left : BudgetLeft)
@@ -51,7 +58,7 @@ pub reads_one_more : {M : Type 0} (one : BudgetLeft → Datum → Option M) (lea
     → vs' ≡ vs ++ elements packed (datum_of x.payload) (one mid (datum_of x.payload))
     → ReadsAll one leaves packed b (sub n (records_in (take (i + 1) xs))) vs' left
 reads_one_more one leaves packed b n xs i x vs vs' mid left lt e same h s more =
-    subst (λ ds. ReadsAll one leaves packed b ds vs' left) (sym (sub-take_more n xs i x lt e ∙ ap (λ l. sub n (records_in (take i xs)) ++ l) (sub-one_same n x same)))
+    subst (λ ds. ReadsAll one leaves packed b ds vs' left) (sym (sub-take_same n xs i x lt e same))
     (subst (λ l. ReadsAll one leaves packed b (sub n (records_in (take i xs)) ++ datum_of x.payload ∷ []) l left) (sym more)
     (ReadsAll-snoc one leaves packed (sub n (records_in (take i xs))) (datum_of x.payload) b vs mid left h s))
 
@@ -61,7 +68,7 @@ pub passes_one_over : {M : Type 0} (one : BudgetLeft → Datum → Option M) (le
     → ReadsAll one leaves packed b (sub n (records_in (take i xs))) vs left
     → ReadsAll one leaves packed b (sub n (records_in (take (i + 1) xs))) vs' left'
 passes_one_over one leaves packed b n xs i x vs vs' left left' lt e other ev el h =
-    subst (λ ds. ReadsAll one leaves packed b ds vs' left') (sym (sub-take_more n xs i x lt e ∙ ap (λ l. sub n (records_in (take i xs)) ++ l) (sub-one_other n x other) ∙ append-nil (sub n (records_in (take i xs)))))
+    subst (λ ds. ReadsAll one leaves packed b ds vs' left') (sym (sub-take_other n xs i x lt e other))
     (subst (λ l. ReadsAll one leaves packed b (sub n (records_in (take i xs))) l left') (sym ev) (subst (λ m. ReadsAll one leaves packed b (sub n (records_in (take i xs))) vs m) (sym el) h))
 
 -- one more record is written
@@ -104,18 +111,9 @@ writes_none (Err u) start ds some = (0, some, sym (append-nil start))
 
 pub none_so_far : (n : ℕ) (xs : List UnknownField) (i : ℕ) (x : UnknownField) → i < length xs → x ≡ get_or xs i x → x.number ≢ n
     → sub n (records_in (take i xs)) ≡ [] → sub n (records_in (take (i + 1) xs)) ≡ []
-none_so_far n xs i x lt e other h = sub-take_more n xs i x lt e ∙ ap (λ l. sub n (records_in (take i xs)) ++ l) (sub-one_other n x other) ∙ append-nil (sub n (records_in (take i xs))) ∙ h
-
-no_append : {A : Type 0} (xs ys : List A) (y : A) → (xs ++ y ∷ []) ++ ys ≡ [] → ⊥
-no_append [] ys y e = cc
-no_append (x ∷ xs) ys y e = cc
+none_so_far n xs i x lt e other h = sub-take_other n xs i x lt e other ∙ h
 
 -- a record of the number that stands somewhere
 pub one_is_there : (n : ℕ) (xs : List UnknownField) (i : ℕ) (x : UnknownField) → i < length xs → x ≡ get_or xs i x → x.number ≡ n → sub n (records_in xs) ≢ []
 one_is_there n xs i x lt e same none =
-    no_append (sub n (records_in (take i xs))) (sub n (records_in (drop (i + 1) xs))) (datum_of x.payload)
-    (ap (λ l. l ++ sub n (records_in (drop (i + 1) xs))) (sym (sub-take_more n xs i x lt e ∙ ap (λ l. sub n (records_in (take i xs)) ++ l) (sub-one_same n x same)))
-    ∙ sym (sub-append n (records_in (take (i + 1) xs)) (records_in (drop (i + 1) xs)))
-    ∙ ap (sub n) (sym (map-append record_of (take (i + 1) xs) (drop (i + 1) xs)))
-    ∙ ap (λ l. sub n (records_in l)) (take-append-drop (i + 1) xs)
-    ∙ none)
+    some_there (sub n (records_in (take i xs))) (sub n (records_in (drop (i + 1) xs))) (datum_of x.payload) (sym (sub-cut n xs i x lt e same) ∙ none)

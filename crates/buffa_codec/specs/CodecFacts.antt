@@ -9,6 +9,7 @@ use Rattle.std.specs.Str.{is_utf8}
 use Rattle.buffa_wire.specs.BudgetLeft.{BudgetLeft, Covers, Pays, defaults, minus, nothing}
 use Rattle.buffa_codec.specs.Decoded.{ReadsAll, CoversAll, elements, last_read, packed_record, string_held}
 use Rattle.buffa_wire.specs.Encoding.{encodings}
+use Rattle.buffa_wire.proofs.SpentLemmas.{Pays_nothing}
 
 pub minus_nothing : (b : BudgetLeft) → b ≡ minus b nothing
 minus_nothing b = simp sub-zero
@@ -22,7 +23,7 @@ left_over b need left h =
 
 -- reading that spends nothing
 pub pays_nothing : (b left : BudgetLeft) → left ≡ b → Pays b nothing left
-pays_nothing b left e = rw e (omega arith, omega arith)
+pays_nothing b left e = Pays_nothing b left nothing refl e
 
 pub covers_nothing : (b : BudgetLeft) → Covers b nothing
 covers_nothing b = (omega arith, omega arith)

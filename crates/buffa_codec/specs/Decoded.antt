@@ -63,8 +63,8 @@ abbrev pub LastHasByte : (Datum → Option (List ℕ)) → List Datum → Type 0
 LastHasByte held ds = HasLast (λ d. HasByte (held d)) held ds
 
 -- a record of a list takes memory: its reading does, or it has a value, which is stored
-abbrev pub TakesElement : {M : Type 0} → (Datum → Type 0) → (BudgetLeft → Datum → Option M) → (List ℕ → List M) → Datum → Type 0
-TakesElement takes one packed d = takes d ⊎ ((b : BudgetLeft) × (elements packed d (one b d) ≢ []))
+abbrev pub AsksInList : {M : Type 0} → (Datum → Type 0) → (BudgetLeft → Datum → Option M) → (List ℕ → List M) → Datum → Type 0
+AsksInList asks one packed d = asks d ⊎ ((b : BudgetLeft) × (elements packed d (one b d) ≢ []))
 
 -- new is old with more behind it, or with a beginning of more that isn't all of it
 abbrev pub Adds : {A : Type 0} → List A → List A → List A → Type 0

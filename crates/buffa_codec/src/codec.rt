@@ -74,8 +74,8 @@ pub trait ExtensionCodec {
     /// The values that are written without memory where the list has room for their records.
     ghost in_room: { Meaning → Type 0 };
 
-    /// The records of the number whose reading takes memory. Of a codec of one value, only the record that counts does.
-    ghost takes: { List Datum → Type 0 };
+    /// Whether reading these records of the number takes memory. Of a codec of one value, only the record that counts does.
+    ghost asks: { List Datum → Type 0 };
 
     /// Reads the records of the number.
     ///
@@ -92,7 +92,7 @@ pub trait ExtensionCodec {
     ) -> Result<Self::Output, AllocError>
         ensures reads { IfOk result (λ o. reads (sub number fields.now.records) (answer o)) }
         ensures always { never_fails → IsOk result }
-        ensures full { OnErr result (takes (sub number fields.now.records)) };
+        ensures full { OnErr result (asks (sub number fields.now.records)) };
 
     /// Puts the records of the value behind the others.
     ///
@@ -196,8 +196,8 @@ pub trait SingularCodec {
     /// The values whose record is made without memory.
     ghost made_free: { Self.Value.Meaning → Type 0 };
 
-    /// A record whose reading takes memory.
-    ghost takes: { Datum → Type 0 };
+    /// Whether reading a record takes memory.
+    ghost asks: { Datum → Type 0 };
 
     /// Reads a record under a default budget, 100 levels deep.
     ///
@@ -213,7 +213,7 @@ pub trait SingularCodec {
     ) -> Result<Option<Self::Value>, AllocError>
         ensures reads { IfOk result (λ o. option_map Self.Value.meaning o ≡ one 100 defaults (datum_of payload.now)) }
         ensures always { never_fails → IsOk result }
-        ensures full { OnErr result (takes (datum_of payload.now)) };
+        ensures full { OnErr result (asks (datum_of payload.now)) };
 
     /// Reads a record at the context's depth, of what its budget has left.
     ///
@@ -231,16 +231,16 @@ pub trait SingularCodec {
     ) -> Result<Option<Self::Value>, AllocError>
         ensures reads { IfOk result (λ o. option_map Self.Value.meaning o
             ≡ one_in one ctx.entry (datum_of payload.now)) }
-        ensures left { IsOk result → LeavesIn leaves ctx.entry (datum_of payload.now) (budget_left ctx.exit) }
+        ensures leaves { IsOk result → LeavesIn leaves ctx.entry (datum_of payload.now) (budget_left ctx.exit) }
         ensures spent { OnErr result (Covers ctx.entry.budget.now (budget_left ctx.exit)) }
         ensures most { SpendsIn most ctx.entry (datum_of payload.now) (budget_left ctx.exit) }
         ensures always { never_fails → IsOk result }
-        ensures full { OnErr result (takes (datum_of payload.now)) };
+        ensures full { OnErr result (asks (datum_of payload.now)) };
 
     /// Puts the packed values behind the others.
     ///
     /// # Errors
-    /// Where memory runs out, if they don't fit in the vector's room, which gets no smaller; a beginning of the
+    /// Where memory runs out, if they don't fit in the vector, whose capacity gets no smaller; a beginning of the
     /// values stands then, and not all.
     ///
     /// ```ignore
@@ -251,7 +251,7 @@ pub trait SingularCodec {
         ensures err { OnErr result (AddsSomeValues Self.Value.meaning out.old.items (packed bytes.now) out.new.items) }
         ensures room { UsesPlaces result (vec_capacity out.old - vec_len out.old) (packed bytes.now)
             (vec_capacity out.new - vec_len out.new) }
-        ensures kept { vec_capacity out.old ≤ vec_capacity out.new }
+        ensures capacity { vec_capacity out.old ≤ vec_capacity out.new }
         ensures full { OnErr result (packed bytes.now ≢ []) };
 
     /// The record of a value.
@@ -351,8 +351,5 @@ pub(crate) fn push_record(
     ensures room { KeepsPlaces fields.old fields.new }
     ensures reserved { 0 < fields.old.spare → IsOk result }
 {
-    match fields.push(UnknownField { number, payload }) {
-        Ok(()) => Ok(()),
-        Err(_) => Err(EncodeError::OutOfMemory),
-    }
+    Ok(fields.push(UnknownField { number, payload })?)
 }

@@ -56,7 +56,7 @@ impl SingularCodec for StringCodec {
 
     ghost made_free = { λ v. v ≡ [] };
 
-    ghost takes = { λ d. HasByte (string_held d) };
+    ghost asks = { λ d. HasByte (string_held d) };
 
     fn decode_one(alloc: Global, payload: &UnknownFieldData) -> Result<Option<String>, AllocError> {
         let UnknownFieldData::LengthDelimited(held) = payload else {
@@ -83,10 +83,7 @@ impl SingularCodec for StringCodec {
     }
 
     fn try_encode_one(alloc: Global, value: &String) -> Result<UnknownFieldData, EncodeError> {
-        let Ok(held) = copied(alloc, value.as_bytes()) else {
-            return Err(EncodeError::OutOfMemory);
-        };
-        Ok(UnknownFieldData::LengthDelimited(held))
+        Ok(UnknownFieldData::LengthDelimited(copied(alloc, value.as_bytes())?))
     }
 
     ghost reads_datum = { λ v b f n h. string_back v f };
@@ -140,7 +137,7 @@ impl SingularCodec for BytesCodec {
 
     ghost made_free = { λ v. v ≡ [] };
 
-    ghost takes = { λ d. HasByte (bytes_held d) };
+    ghost asks = { λ d. HasByte (bytes_held d) };
 
     fn decode_one(
         alloc: Global,
@@ -166,10 +163,7 @@ impl SingularCodec for BytesCodec {
     }
 
     fn try_encode_one(alloc: Global, value: &Vec<u8>) -> Result<UnknownFieldData, EncodeError> {
-        let Ok(held) = copied(alloc, value.as_slice()) else {
-            return Err(EncodeError::OutOfMemory);
-        };
-        Ok(UnknownFieldData::LengthDelimited(held))
+        Ok(UnknownFieldData::LengthDelimited(copied(alloc, value.as_slice())?))
     }
 
     ghost reads_datum = { λ v b f n h. refl };

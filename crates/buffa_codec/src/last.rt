@@ -58,7 +58,7 @@ impl<C: LastWins> ExtensionCodec for C {
 
     ghost in_room = { C.made_free };
 
-    ghost takes = { HasLast C.takes (C.one 100 defaults) };
+    ghost asks = { HasLast C.asks (C.one 100 defaults) };
 
     fn decode(
         alloc: Global,

@@ -20,7 +20,7 @@ ghost use Rattle.buffa_wire.specs.Found.{fixed32_in, fixed64_in, varint_in};
 ghost use Rattle.buffa_wire.specs.Records.{Datum, bytes as held_bytes};
 ghost use Rattle.buffa_codec.specs.Costs.{StaysWithin};
 ghost use Rattle.buffa_codec.specs.Packed.{numbers_in};
-ghost use Rattle.buffa_codec.specs.Decoded.{Has, HasByte, HasLast, TakesElement};
+ghost use Rattle.buffa_codec.specs.Decoded.{AsksInList, Has, HasByte, HasLast};
 ghost use Rattle.std.specs.Int.{cast_unsigned, from_bool, w32, w64};
 ghost use Rattle.buffa_bytes.specs.Scalars.{zigzag};
 ghost use Rattle.buffa_wire.specs.Records.{varint, fixed32, fixed64};
@@ -52,7 +52,7 @@ pub fn the_last_record_is_read<C: LastWins>()
     ensures reads { (ds : List Datum) (o : Option C.Value.Meaning) → ⟦<C as ExtensionCodec>⟧.reads ds o
         ↔ (o ≡ last_read (C.one 100 defaults) ds) }
     ensures records { (v : C.Value.Meaning) → ⟦<C as ExtensionCodec>⟧.recs v ≡ C.datum v ∷ [] }
-    ensures memory { (ds : List Datum) → ⟦<C as ExtensionCodec>⟧.takes ds ↔ HasLast C.takes (C.one 100 defaults) ds }
+    ensures memory { (ds : List Datum) → ⟦<C as ExtensionCodec>⟧.asks ds ↔ HasLast C.asks (C.one 100 defaults) ds }
     ensures in_room { (v : C.Value.Meaning) → ⟦<C as ExtensionCodec>⟧.in_room v ↔ C.made_free v }
     ensures holds { (v : C.Value.Meaning) (o : Option C.Value.Meaning) → ⟦<C as ExtensionCodec>⟧.holds v o
         ↔ (o ≡ Some (C.back v)) }
@@ -221,7 +221,7 @@ pub fn numbers_are_read<N: Numbered>()
     ensures costs { (n : ℕ) (d : Datum) → (⟦<N as SingularCodec>⟧.cost d ≡ nothing)
         × (⟦<N as SingularCodec>⟧.most n d ≡ nothing) }
     ensures free { ⟦<N as SingularCodec>⟧.never_fails × ((v : N.Value.Meaning) → ⟦<N as SingularCodec>⟧.made_free v) }
-    ensures takes { (d : Datum) → ⟦<N as SingularCodec>⟧.takes d → ⊥ }
+    ensures asks { (d : Datum) → ⟦<N as SingularCodec>⟧.asks d → ⊥ }
 {}
 
 /// Which values each scalar reads in a record, also of numbers that its values don't have.
@@ -266,10 +266,10 @@ pub fn strings_and_bytes_are_read()
         × ⟦<BytesCodec as ExtensionCodec>⟧.normal v }
     ensures packed { (bs : List ℕ) → (⟦<StringCodec as SingularCodec>⟧.packed bs ≡ [])
         × (⟦<BytesCodec as SingularCodec>⟧.packed bs ≡ []) }
-    ensures memory { (d : Datum) → (⟦<StringCodec as SingularCodec>⟧.takes d ↔ HasByte (string_held d))
-        × (⟦<BytesCodec as SingularCodec>⟧.takes d ↔ HasByte (bytes_held d)) }
-    ensures counts { (ds : List Datum) → (⟦<StringCodec as ExtensionCodec>⟧.takes ds ↔ LastHasByte string_held ds)
-        × (⟦<BytesCodec as ExtensionCodec>⟧.takes ds ↔ LastHasByte bytes_held ds) }
+    ensures memory { (d : Datum) → (⟦<StringCodec as SingularCodec>⟧.asks d ↔ HasByte (string_held d))
+        × (⟦<BytesCodec as SingularCodec>⟧.asks d ↔ HasByte (bytes_held d)) }
+    ensures counts { (ds : List Datum) → (⟦<StringCodec as ExtensionCodec>⟧.asks ds ↔ LastHasByte string_held ds)
+        × (⟦<BytesCodec as ExtensionCodec>⟧.asks ds ↔ LastHasByte bytes_held ds) }
     ensures in_room { (v : List ℕ) → (⟦<StringCodec as ExtensionCodec>⟧.in_room v ↔ (v ≡ []))
         × (⟦<BytesCodec as ExtensionCodec>⟧.in_room v ↔ (v ≡ [])) }
     ensures holds { (v : List ℕ) (o : Option (List ℕ)) → (⟦<StringCodec as ExtensionCodec>⟧.holds v o ↔ (o ≡ Some v))
@@ -311,18 +311,18 @@ pub fn lists_are_read<C: SingularCodec, P: PackableCodec>()
         ↔ (os ≡ map P.back vs) }
     ensures in_room { (vs : List C.Value.Meaning) → ⟦<Repeated<C> as ExtensionCodec>⟧.in_room vs ↔ AllByRecursion C.made_free vs }
     ensures packed_in_room { (vs : List P.Value.Meaning) → ⟦<PackedRepeated<P> as ExtensionCodec>⟧.in_room vs → ⊥ }
-    ensures memory { (ds : List Datum) → ⟦<Repeated<C> as ExtensionCodec>⟧.takes ds
-        ↔ Has (TakesElement C.takes (C.one 100) C.packed) ds }
+    ensures memory { (ds : List Datum) → ⟦<Repeated<C> as ExtensionCodec>⟧.asks ds
+        ↔ Has (AsksInList C.asks (C.one 100) C.packed) ds }
     ensures fits { (vs : List C.Value.Meaning) → ⟦<Repeated<C> as ExtensionCodec>⟧.fits vs ↔ AllByRecursion C.fits vs }
     ensures packed_fits { (vs : List P.Value.Meaning) → ⟦<PackedRepeated<P> as ExtensionCodec>⟧.fits vs
         ↔ AllByRecursion P.fits vs }
-    ensures packed_memory { (ds : List Datum) → ⟦<PackedRepeated<P> as ExtensionCodec>⟧.takes ds
-        ↔ Has (TakesElement P.takes (P.one 100) P.packed) ds }
+    ensures packed_memory { (ds : List Datum) → ⟦<PackedRepeated<P> as ExtensionCodec>⟧.asks ds
+        ↔ Has (AsksInList P.asks (P.one 100) P.packed) ds }
 {}
 
 /// Records are read as one value or none, and in lists as one list, by codecs whose reading spends nothing.
 ///
-/// Left open: whether memory runs out, where there is a record whose reading takes some (`takes`).
+/// Left open: whether memory runs out, where there is a record whose reading takes some (`asks`).
 pub fn answers_are_pinned<C: LastWins, P: LastWins + PackableCodec>()
     ensures one { OneAnswer ⟦<C as ExtensionCodec>⟧.reads }
     ensures there { HasAnswer ⟦<C as ExtensionCodec>⟧.reads }

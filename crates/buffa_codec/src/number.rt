@@ -123,7 +123,7 @@ impl<N: Numbered> SingularCodec for N {
 
     ghost made_free = { λ v. Unit {0} };
 
-    ghost takes = { λ d. ⊥ };
+    ghost asks = { λ d. ⊥ };
 
     fn decode_one(
         _alloc: Global,

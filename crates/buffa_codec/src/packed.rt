@@ -2,7 +2,7 @@
 
 ghost use Rattle.std.specs.Prelude.{◌≡◌, IfOk, List, None, OnOk, map};
 ghost use Rattle.std.specs.List.{AllByRecursion};
-ghost use Rattle.buffa_codec.specs.Decoded.{Has, ReadsList, Refuses, TakesElement, packed_record};
+ghost use Rattle.buffa_codec.specs.Decoded.{AsksInList, Has, ReadsList, Refuses, packed_record};
 ghost use Rattle.buffa_codec.specs.CodecFacts.{packed_back};
 ghost use Rattle.buffa_wire.specs.Encoding.{encodings};
 
@@ -50,7 +50,7 @@ impl<C: PackableCodec> ExtensionCodec for PackedRepeated<C> {
 
     ghost in_room = { λ vs. ⊥ };
 
-    ghost takes = { Has (TakesElement C.takes (C.one 100) C.packed) };
+    ghost asks = { Has (AsksInList C.asks (C.one 100) C.packed) };
 
     fn decode(
         alloc: Global,
@@ -90,9 +90,7 @@ fn packed_bytes<C: PackableCodec>(
 {
     let mut bytes = Vec::new(alloc);
     // Each value has a byte at least.
-    if bytes.reserve(values.len()).is_err() {
-        return Err(EncodeError::OutOfMemory);
-    }
+    bytes.reserve(values.len())?;
     for v in values {
         C::encode_packed(v, &mut bytes)?;
     }

@@ -4,7 +4,7 @@ ghost use Rattle.std.specs.Prelude.{◌≡◌, List, map, OnErr, OnOk, IfErr};
 ghost use Rattle.std.specs.List.{AllByRecursion};
 ghost use Rattle.buffa_wire.specs.Records.{Datum};
 ghost use Rattle.buffa_wire.specs.View.{datum_of};
-ghost use Rattle.buffa_codec.specs.Decoded.{AddsRecord, CoversAll, Has, ReadsList, TakesElement};
+ghost use Rattle.buffa_codec.specs.Decoded.{AddsRecord, AsksInList, CoversAll, Has, ReadsList};
 ghost use Rattle.buffa_codec.specs.Decoded.{first_refusal};
 ghost use Rattle.buffa_wire.specs.BudgetLeft.{defaults};
 ghost use Rattle.buffa_codec.specs.CodecFacts.{list_back};
@@ -55,7 +55,7 @@ impl<C: SingularCodec> ExtensionCodec for Repeated<C> {
 
     ghost in_room = { AllByRecursion C.made_free };
 
-    ghost takes = { Has (TakesElement C.takes (C.one 100) C.packed) };
+    ghost asks = { Has (AsksInList C.asks (C.one 100) C.packed) };
 
     fn decode(
         alloc: Global,
@@ -80,9 +80,7 @@ impl<C: SingularCodec> ExtensionCodec for Repeated<C> {
     ) -> Result<(), EncodeError> {
         for v in value.as_slice() {
             let payload = C::encode_one(alloc, v)?;
-            let Ok(()) = fields.push(UnknownField { number, payload }) else {
-                return Err(EncodeError::OutOfMemory);
-            };
+            fields.push(UnknownField { number, payload })?;
         }
         Ok(())
     }
@@ -99,10 +97,10 @@ fn read_one<C: SingularCodec>(
     budget: &mut Budget,
     out: &mut Vec<C::Value>,
 ) -> Result<(), AllocError>
-    ensures left { OnOk result (C.leaves 100 budget.old (datum_of payload.now) budget.new) }
+    ensures leaves { OnOk result (C.leaves 100 budget.old (datum_of payload.now) budget.new) }
     ensures values { OnOk result (AddsRecord C.Value.meaning C.packed (C.one 100 budget.old) out.old.items
         (datum_of payload.now) out.new.items) }
-    ensures full { OnErr result (TakesElement C.takes (C.one 100) C.packed (datum_of payload.now)) }
+    ensures full { OnErr result (AsksInList C.asks (C.one 100) C.packed (datum_of payload.now)) }
 {
     let ctx = DecodeContext {
         depth: RECURSION_LIMIT,

@@ -1,39 +1,25 @@
 -- One turn of a loop that merges the records of a number.
-use Rattle.std.proofs.Common.{◌≡◌, ◌≢◌, ℕ, ◌+◌, ◌<◌, Bool, List, [], ◌∷◌, ◌++◌, ◌||◌, Option, Ok, Err, refl, sym, ◌∙◌, ap, take, drop, length, get_or, append_assoc, subst}
-use Rattle.std.proofs.lemmas.List.{map-append, append-nil, take-append-drop}
+use Rattle.std.proofs.Common.{◌≡◌, ◌≢◌, ℕ, ◌+◌, ◌<◌, Bool, List, [], ◌∷◌, ◌++◌, ◌||◌, Option, Ok, Err, refl, sym, ◌∙◌, ap, take, drop, length, get_or, arith, subst}
 use Rattle.std.proofs.lemmas.List.Elements.{filter_map-append}
 use Rattle.buffa_bytes.specs.declared.error.DecodeError.{DecodeError}
-use Rattle.buffa_bytes.specs.declared.error.DecodeError.TheVariants.{OutOfMemory, UnexpectedEof}
-use Rattle.buffa_bytes.specs.Front.{tag_at, varint_at, varint_within}
-use Rattle.buffa_wire.specs.Message.{BeginsField}
+use Rattle.buffa_bytes.specs.declared.error.DecodeError.TheVariants.{OutOfMemory}
+use Rattle.buffa_bytes.proofs.FieldLemmas.{tag_falls}
 use Rattle.buffa_wire.specs.RecordReading.{ListTakesMemory}
 use Rattle.buffa_wire.specs.BudgetLeft.{BudgetLeft}
 use Rattle.buffa_wire.specs.Records.{Datum}
-use Rattle.buffa_wire.specs.View.{record_of, records_in, datum_of}
+use Rattle.buffa_wire.specs.View.{records_in, datum_of}
 use Rattle.buffa_wire.specs.declared.unknown_fields.UnknownField.{UnknownField}
 use Rattle.buffa_codec.specs.Sub.{sub}
-use Rattle.buffa_codec.proofs.FilteredLemmas.{sub-append}
-use Rattle.buffa_codec.proofs.TurnLemmas.{sub-take_more, sub-one_same, sub-one_other}
+use Rattle.buffa_codec.proofs.TurnLemmas.{sub-cut, sub-take_other, sub-take_same}
 use Rattle.buffa_ext.specs.Messages.{IsAllMerged, StopsAt, encodings_in}
 use Rattle.buffa_ext.specs.MessageFacts.{merged_more, encoding_refused}
 
 module _ (held : Datum → Option (List ℕ)) (n : ℕ) (xs : List UnknownField) (i : ℕ) (x : UnknownField) (lt : i < length xs) (e : x ≡ get_or xs i x) where
   encodings_more : x.number ≡ n → encodings_in held (sub n (records_in (take (i + 1) xs))) ≡ encodings_in held (sub n (records_in (take i xs))) ++ encodings_in held (datum_of x.payload ∷ [])
-  encodings_more same =
-      ap (encodings_in held) (sub-take_more n xs i x lt e ∙ ap (λ l. sub n (records_in (take i xs)) ++ l) (sub-one_same n x same))
-      ∙ filter_map-append held (sub n (records_in (take i xs))) (datum_of x.payload ∷ [])
+  encodings_more same = ap (encodings_in held) (sub-take_same n xs i x lt e same) ∙ filter_map-append held (sub n (records_in (take i xs))) (datum_of x.payload ∷ [])
 
   encodings_same : x.number ≢ n → encodings_in held (sub n (records_in (take (i + 1) xs))) ≡ encodings_in held (sub n (records_in (take i xs)))
-  encodings_same other =
-      ap (encodings_in held) (sub-take_more n xs i x lt e ∙ ap (λ l. sub n (records_in (take i xs)) ++ l) (sub-one_other n x other) ∙ append-nil (sub n (records_in (take i xs))))
-
-  records_cut : x.number ≡ n → sub n (records_in xs) ≡ sub n (records_in (take i xs)) ++ datum_of x.payload ∷ sub n (records_in (drop (i + 1) xs))
-  records_cut same =
-      ap (λ l. sub n (records_in l)) (sym (take-append-drop (i + 1) xs))
-      ∙ ap (sub n) (map-append record_of (take (i + 1) xs) (drop (i + 1) xs))
-      ∙ sub-append n (records_in (take (i + 1) xs)) (records_in (drop (i + 1) xs))
-      ∙ ap (λ l. l ++ sub n (records_in (drop (i + 1) xs))) (sub-take_more n xs i x lt e ∙ ap (λ l. sub n (records_in (take i xs)) ++ l) (sub-one_same n x same))
-      ∙ append_assoc (sub n (records_in (take i xs))) (datum_of x.payload ∷ []) (sub n (records_in (drop (i + 1) xs)))
+  encodings_same other = ap (encodings_in held) (sub-take_other n xs i x lt e other)
 
   module _ {X : Type 0} (merged : X → List ℕ → Option X) (cost : List ℕ → BudgetLeft) (old mid : X) (b m : BudgetLeft) (f : Bool)
       (h : IsAllMerged merged cost (encodings_in held (sub n (records_in (take i xs)))) old b (Ok f) mid m) where
@@ -57,30 +43,22 @@ module _ (held : Datum → Option (List ℕ)) (n : ℕ) (xs : List UnknownField)
         (subst (λ y. IsAllMerged merged cost (encodings_in held (sub n (records_in (take i xs)))) old b (Ok y) mid m) (sym ef) h)))
 
     -- the encoding in a record of the number is refused
-    pub stops_here : (takes : Datum → Type 0) (new : X) (a : BudgetLeft) (err : DecodeError) (all : List (ℕ × Datum)) → x.number ≡ n → records_in xs ≡ all
-        → IsAllMerged merged cost (encodings_in held (datum_of x.payload ∷ [])) mid m (Err err) new a → encodings_in held (datum_of x.payload ∷ []) ≢ [] → (err ≡ OutOfMemory → takes (datum_of x.payload))
-        → StopsAt merged cost held takes (sub n all) old b err a
-    stops_here takes new a err all same whole k some full = (
+    pub stops_here : (asks : Datum → Type 0) (new : X) (a : BudgetLeft) (err : DecodeError) (all : List (ℕ × Datum)) → x.number ≡ n → records_in xs ≡ all
+        → IsAllMerged merged cost (encodings_in held (datum_of x.payload ∷ [])) mid m (Err err) new a → encodings_in held (datum_of x.payload ∷ []) ≢ [] → (err ≡ OutOfMemory → asks (datum_of x.payload))
+        → StopsAt merged cost held asks (sub n all) old b err a
+    stops_here asks new a err all same whole k some full = (
       sub n (records_in (take i xs)),
       datum_of x.payload,
       sub n (records_in (drop (i + 1) xs)),
       mid,
       m,
-      ap (sub n) (sym whole) ∙ records_cut same,
+      ap (sub n) (sym whole) ∙ sub-cut n xs i x lt e same,
       (h.1, h.2),
-      encoding_refused merged cost held takes (datum_of x.payload) (held (datum_of x.payload)) mid new m a err refl some full k,
+      encoding_refused merged cost held asks (datum_of x.payload) (held (datum_of x.payload)) mid new m a err refl some full k,
     )
 
 -- ---- memory
 
-tag_of_none : tag_at [] ≡ Err UnexpectedEof
-unfolding tag_at varint_at varint_within
-tag_of_none = refl
-
--- bytes that a field begins are some
-pub tag_has_byte : (bs : List ℕ) → BeginsField bs → bs ≢ []
-tag_has_byte bs (n, w, rest, is, other) none = let k = sym (ap tag_at none ∙ tag_of_none) ∙ is in cc
-
 -- bytes that take memory where they are read as records are some
 pub list_has_byte : (d s : ℕ) (bs : List ℕ) → ListTakesMemory d s bs → bs ≢ []
-list_has_byte d s bs h none = let k = sym (ap tag_at none ∙ tag_of_none) ∙ h.1 in cc
+list_has_byte d s bs h none = omega (arith, tag_falls bs h.0 h.1, ap length none)

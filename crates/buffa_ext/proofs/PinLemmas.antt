@@ -1,5 +1,5 @@
 -- What is read, merged and changed in one way.
-use Rattle.std.proofs.Common.{◌≡◌, ◌≢◌, ◌⊎◌, inl, inr, ℕ, false, true, List, [], ◌∷◌, ◌++◌, Option, Some, None, Ok, Err, refl, sym, ap, subst, ◌∙◌, option_map, arith, if◌then◌else◌}
+use Rattle.std.proofs.Common.{◌≡◌, ◌≢◌, ◌⊎◌, inl, inr, ℕ, List, [], ◌∷◌, ◌++◌, Option, Some, None, Ok, Err, refl, sym, ap, subst, ◌∙◌, option_map, arith, if◌then◌else◌}
 use Rattle.std.specs.Option.{option_and_then}
 use Rattle.std.specs.List.{cons_option, filter_map}
 use Rattle.buffa_bytes.specs.declared.error.DecodeError.{DecodeError}
@@ -16,24 +16,18 @@ use Rattle.buffa_ext.specs.Pinned.{ListIsExact, MergingIsPinned, RecordMergeIsPi
 use Rattle.std.proofs.lemmas.Option.{none-some, same_Some}
 use Rattle.std.proofs.lemmas.Bool.{false≢true}
 use Rattle.buffa_wire.proofs.SequenceLemmas.{heads, tails}
-
-not_both : {A P : Type 0} (x : A) (o : Option A) → o ≡ Some x → o ≡ None → P
-not_both x o h k = absurd (none-some x (sym k ∙ h))
+use Rattle.buffa_wire.proofs.SpentLemmas.{not_lacked}
 
 -- ---- records that are merged
 
-module _ {X : Type 0} (merged : X → List ℕ → Option X) (cost : List ℕ → BudgetLeft) (held : Datum → Option (List ℕ)) (takes : Datum → Type 0) where
-  paid_not_lacked : (before need left : BudgetLeft) → Pays before need left → Lacks before need → ⊥
-  paid_not_lacked before need left p (inl h) = omega (arith, p, h)
-  paid_not_lacked before need left p (inr h) = omega (arith, p, h)
-
+module _ {X : Type 0} (merged : X → List ℕ → Option X) (cost : List ℕ → BudgetLeft) (held : Datum → Option (List ℕ)) (asks : Datum → Type 0) where
   paid_all_not_lacked : (before need more left : BudgetLeft) → Pays before (plus need more) left → Lacks before need → ⊥
   paid_all_not_lacked before need more left p (inl h) = omega (arith, p, h)
   paid_all_not_lacked before need more left p (inr h) = omega (arith, p, h)
 
   no_fault : (o : Option X) (need before left : BudgetLeft) (new : X) (e : DecodeError) → o ≡ Some new → Pays before need left → MergeFault o need before e → ⊥
-  no_fault o need before left new e h p (inl k) = paid_not_lacked before need left p k
-  no_fault o need before left new e h p (inr k) = not_both new o h k.0
+  no_fault o need before left new e h p (inl k) = not_lacked before need left p k
+  no_fault o need before left new e h p (inr k) = absurd (none-some new (sym k.0 ∙ h))
 
   -- the encoding in a record means no value, or isn't covered
   abbrev Stuck : Datum → X → BudgetLeft → Type 0
@@ -45,7 +39,7 @@ module _ {X : Type 0} (merged : X → List ℕ → Option X) (cost : List ℕ �
   not_then : (o : Option X) (ts : List (List ℕ)) (mid : X) (need before left : BudgetLeft) (e : DecodeError) → option_and_then (λ w. merged_all merged w ts) o ≡ Some mid
       → Pays before (plus need (cost_all cost ts)) left → MergeFault o need before e → ⊥
   not_then o ts mid need before left e h p (inl k) = paid_all_not_lacked before need (cost_all cost ts) left p k
-  not_then o ts mid need before left e h p (inr k) = not_both mid _ h (ap (option_and_then (λ w. merged_all merged w ts)) k.0)
+  not_then o ts mid need before left e h p (inr k) = absurd (none-some mid (sym (ap (option_and_then (λ w. merged_all merged w ts)) k.0) ∙ h))
 
   encodings_on : (d : Datum) (ds : List Datum) (o : Option (List ℕ)) → held d ≡ o → encodings_in held (d ∷ ds) ≡ cons_option o (encodings_in held ds)
   encodings_on d ds o h = ap (λ z. cons_option z (encodings_in held ds)) h
@@ -91,7 +85,7 @@ module _ {X : Type 0} (merged : X → List ℕ → Option X) (cost : List ℕ �
       x (held x) old before refl h (subst (λ z. Done (z ∷ g) old before mid' left') (sym head) k) in
       ap (λ z. z ∷ f) head ∙ ap (λ l. y ∷ l) rest
 
-  stuck_by : (d : Datum) (mid : X) (left after : BudgetLeft) (e : DecodeError) → e ≢ OutOfMemory → IsEncodingRefused merged cost held takes d mid left e after → Stuck d mid left
+  stuck_by : (d : Datum) (mid : X) (left after : BudgetLeft) (e : DecodeError) → e ≢ OutOfMemory → IsEncodingRefused merged cost held asks d mid left e after → Stuck d mid left
   stuck_by d mid left after e ne r = (r.0, e, r.1, r.4 ne)
 
   pub record_merge_is_pinned : RecordMergeIsPinned merged cost held
@@ -103,7 +97,7 @@ module _ {X : Type 0} (merged : X → List ℕ → Option X) (cost : List ℕ �
         no_fault (merged_all merged old (encodings_in held (d ∷ []))) (cost_all cost (encodings_in held (d ∷ []))) before left new e h.1 h.2 (k.1 ne);
   }
 
-  pub merging_is_pinned : MergingIsPinned merged cost held takes
+  pub merging_is_pinned : MergingIsPinned merged cost held asks
   merging_is_pinned = record {
     alike = λ ds old new newer before left over f g h k. (
       h.0 ∙ sym k.0,
@@ -111,15 +105,15 @@ module _ {X : Type 0} (merged : X → List ℕ → Option X) (cost : List ℕ �
       left_over before (cost_all cost (encodings_in held ds)) left h.1.1 ∙ sym (left_over before (cost_all cost (encodings_in held ds)) over k.1.1),
     );
     refused = λ ds old new newer before left over f e h k kept.
-        no_fault (merged_all merged old (encodings_in held ds)) (cost_all cost (encodings_in held ds)) before left new e h.1.0 h.1.1 ((all_merged merged cost held takes ds old newer before over (Err e) k).1 kept);
+        no_fault (merged_all merged old (encodings_in held ds)) (cost_all cost (encodings_in held ds)) before left new e h.1.0 h.1.1 ((all_merged merged cost held asks ds old newer before over (Err e) k).1 kept);
     stopped = λ ds old before left over e f h k kept also.
         one_stop h.0 k.0 h.1 k.1 h.2 k.2 old h.3 k.3 before h.4 k.4 (sym h.5 ∙ k.5) h.6 (stuck_by h.1 h.3 h.4 left e kept h.7) k.6 (stuck_by k.1 k.3 k.4 over f also k.7);
   }
 
   -- and spends no more than there is to spend
-  pub merging_stays_within : MergingStaysWithin merged cost held takes
+  pub merging_stays_within : MergingStaysWithin merged cost held asks
   merging_stays_within ds old new before after (Ok f) h = ((omega (arith, h.1.1), omega (arith, h.1.1), omega (arith, h.1.1), omega (arith, h.1.1)), λ t. (omega (arith, h.1.1), omega (arith, h.1.1)))
-  merging_stays_within ds old new before after (Err e) h = ((all_merged merged cost held takes ds old new before after (Err e) h).0, λ f. absurd (false≢true f))
+  merging_stays_within ds old new before after (Err e) h = ((all_merged merged cost held asks ds old new before after (Err e) h).0, λ f. absurd (false≢true f))
 
 -- ---- lists of messages
 
@@ -199,13 +193,13 @@ module _ {V M : Type 0} (read : Option M) (meaning : V → M) (blank : M) (decla
     (one : (o p : Option V) → declared o → declared p → option_map meaning o ≡ option_map meaning p) (v w : V) where
   two_defaults : (declared (Some v) ⊎ (declared None × (meaning v ≡ blank))) → (declared (Some w) ⊎ (declared None × (meaning w ≡ blank))) → meaning v ≡ meaning w
   two_defaults (inl h) (inl k) = same_Some (meaning v) (meaning w) (one (Some v) (Some w) h k)
-  two_defaults (inl h) (inr k) = not_both (meaning v) (Some (meaning v)) refl (one (Some v) None h k.0)
-  two_defaults (inr h) (inl k) = not_both (meaning w) (Some (meaning w)) refl (one (Some w) None k h.0)
+  two_defaults (inl h) (inr k) = absurd (none-some (meaning v) (sym (one (Some v) None h k.0)))
+  two_defaults (inr h) (inl k) = absurd (none-some (meaning w) (sym (one (Some w) None k h.0)))
   two_defaults (inr h) (inr k) = h.1 ∙ sym k.1
 
   pub one_default : IsDefaulted (λ o. option_map meaning o ≡ read) declared (meaning v ≡ blank) v
       → IsDefaulted (λ o. option_map meaning o ≡ read) declared (meaning w ≡ blank) w → meaning v ≡ meaning w
   one_default (inl h) (inl k) = same_Some (meaning v) (meaning w) (h ∙ sym k)
-  one_default (inl h) (inr k) = not_both (meaning v) read (sym h) (sym k.0)
-  one_default (inr h) (inl k) = not_both (meaning w) read (sym k) (sym h.0)
+  one_default (inl h) (inr k) = absurd (none-some (meaning v) (k.0 ∙ sym h))
+  one_default (inr h) (inl k) = absurd (none-some (meaning w) (h.0 ∙ sym k))
   one_default (inr h) (inr k) = two_defaults h.1 k.1

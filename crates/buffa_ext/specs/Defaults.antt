@@ -13,4 +13,4 @@ IsDefaulted reads declared blank v = reads (Some v) ⊎ (reads None × (declared
 
 -- the reading takes memory; or no value is read, and making the declared one may be refused
 abbrev pub IsRefused : {V : Type 0} → Type 0 → (Option V → Type 0) → Type 0 → Type 0
-IsRefused takes reads refuses = takes ⊎ (reads None × refuses)
+IsRefused asks reads refuses = asks ⊎ (reads None × refuses)

@@ -1,5 +1,4 @@
 -- The words that this crate hands out.
-pub mod Steps
 pub mod Changes
 pub mod Defaults
 pub mod Messages

@@ -1,10 +1,9 @@
 -- What merging the encodings in records comes to.
-use Rattle.std.proofs.Common.{◌≡◌, ◌≢◌, ℕ, ◌+◌, ◌<◌, ◌≤◌, ◌^◌, Bool, true, false, List, [], ◌∷◌, ◌++◌, ◌||◌, nat_le, nat_lt, length, Option, Some, None, Result, Ok, Err, IfOk, inl, inr, refl, sym, ap, subst, ◌∙◌, arith, if◌then◌else◌}
-use Rattle.std.proofs.lemmas.Grind.{common_steps}
+use Rattle.std.proofs.Common.{◌≡◌, ◌≢◌, ℕ, ◌<◌, ◌≤◌, ◌^◌, Bool, true, false, List, [], ◌∷◌, ◌++◌, ◌||◌, nat_le, nat_lt, length, Option, Some, None, Result, Ok, Err, IfOk, inl, inr, refl, sym, ap, subst, ◌∙◌, arith, if◌then◌else◌}
 use Rattle.std.specs.Option.{option_and_then}
 use Rattle.std.specs.List.{cons_option}
 use Rattle.std.proofs.lemmas.List.Elements.{filter_map-append}
-use Rattle.std.proofs.lemmas.Bool.{and_parts, and_right}
+use Rattle.std.proofs.lemmas.Bool.{and_parts, and_right, le-leb, le-ltb, leb-true, lt-leb, lt-ltb}
 use Rattle.std.proofs.lemmas.Option.{none-some}
 use Rattle.buffa_bytes.specs.declared.error.DecodeError.{DecodeError}
 use Rattle.buffa_bytes.specs.declared.error.DecodeError.TheVariants.{OutOfMemory}
@@ -22,32 +21,17 @@ use Rattle.buffa_wire.proofs.LoopLemmas.{list_is_read}
 use Rattle.buffa_wire.proofs.ParseLemmas.{one_reading, encoding_parses}
 use Rattle.buffa_ext.specs.Messages.{LeavesOf, IsAllMerged, IsAnswer, IsEncodingRefused, MergesRecords, cost_all, group_held, group_of, group_refusal, is_left, merged_all, message_of, or_none, some_there, encoding_refusal, encodings_in, why_refused}
 
-le_yes : (m n : ℕ) → m ≤ n → nat_le m n ≡ true
-le_yes m n h = grind (arith, common_steps)
-
-le_no : (m n : ℕ) → n < m → nat_le m n ≡ false
-le_no m n h = grind (arith, common_steps)
-
-lt_no : (m n : ℕ) → n ≤ m → nat_lt m n ≡ false
-lt_no m n h = grind (arith, common_steps)
-
-lt_yes : (m n : ℕ) → m < n → nat_lt m n ≡ true
-lt_yes m n h = grind (arith, common_steps)
-
 pub left_yes : (b need : BudgetLeft) → Covers b need → is_left b need ≡ true
-left_yes b need h = rw (le_yes need.unknown b.unknown h.0, le_yes need.memory b.memory h.1) refl
+left_yes b need h = rw (le-leb need.unknown b.unknown h.0, le-leb need.memory b.memory h.1) refl
 
 left_no : (b need : BudgetLeft) → Lacks b need → is_left b need ≡ false
-left_no b need (inl h) = rw (le_no need.unknown b.unknown h) refl
-left_no b need (inr h) = rw (le_no need.memory b.memory h) (and_right (nat_le need.unknown b.unknown) false refl)
-
-true_le : (m n : ℕ) → nat_le m n ≡ true → m ≤ n
-true_le m n h = grind (arith, common_steps)
+left_no b need (inl h) = rw (lt-leb need.unknown b.unknown h) refl
+left_no b need (inr h) = rw (lt-leb need.memory b.memory h) (and_right (nat_le need.unknown b.unknown) false refl)
 
 left_true : (b need : BudgetLeft) → is_left b need ≡ true → Covers b need
 left_true b need h =
     let t = and_parts (nat_le need.unknown b.unknown) (nat_le need.memory b.memory) h in
-    (true_le need.unknown b.unknown t.0, true_le need.memory b.memory t.1)
+    (leb-true need.unknown b.unknown t.0, leb-true need.memory b.memory t.1)
 
 -- the default budget
 pub is_full : (b : BudgetLeft) → b.unknown ≡ 1000000 → b.memory ≡ 268435456 → b ≡ defaults
@@ -176,37 +160,37 @@ module _ {X : Type 0} (merged : X → List ℕ → Option X) (cost : List ℕ �
   fault_of_one t mid m err (inr h) = inr (alone_too (merged mid t) h.0, h.1)
 
   -- the encoding in one record is refused
-  pub encoding_refused : (held : Datum → Option (List ℕ)) (takes : Datum → Type 0) (d : Datum) (o : Option (List ℕ)) (mid new : X) (m a : BudgetLeft) (err : DecodeError) → held d ≡ o → encodings_in held (d ∷ []) ≢ []
-      → (err ≡ OutOfMemory → takes d) → IsAllMerged merged cost (encodings_in held (d ∷ [])) mid m (Err err) new a → IsEncodingRefused merged cost held takes d mid m err a
-  encoding_refused held takes d None mid new m a err e some full k = absurd (some (ap (λ z. cons_option z []) e))
-  encoding_refused held takes d (Some t) mid new m a err e some full k =
+  pub encoding_refused : (held : Datum → Option (List ℕ)) (asks : Datum → Type 0) (d : Datum) (o : Option (List ℕ)) (mid new : X) (m a : BudgetLeft) (err : DecodeError) → held d ≡ o → encodings_in held (d ∷ []) ≢ []
+      → (err ≡ OutOfMemory → asks d) → IsAllMerged merged cost (encodings_in held (d ∷ [])) mid m (Err err) new a → IsEncodingRefused merged cost held asks d mid m err a
+  encoding_refused held asks d None mid new m a err e some full k = absurd (some (ap (λ z. cons_option z []) e))
+  encoding_refused held asks d (Some t) mid new m a err e some full k =
       let same : encodings_in held (d ∷ []) ≡ t ∷ [] = ap (λ z. cons_option z []) e in
       let q = subst (λ l. IsAllMerged merged cost l mid m (Err err) new a) same k in
       (t, e, (omega (arith, q.0), omega (arith, q.0), omega (arith, q.0), omega (arith, q.0)), full, λ ne. fault_alone t mid m err (q.1 ne))
 
-  one_of_all : (held : Datum → Option (List ℕ)) (takes : Datum → Type 0) (d : Datum) (mid new : X) (m a : BudgetLeft) (err : DecodeError) → IsEncodingRefused merged cost held takes d mid m err a
+  one_of_all : (held : Datum → Option (List ℕ)) (asks : Datum → Type 0) (d : Datum) (mid new : X) (m a : BudgetLeft) (err : DecodeError) → IsEncodingRefused merged cost held asks d mid m err a
       → IsAllMerged merged cost (encodings_in held (d ∷ [])) mid m (Err err) new a
-  one_of_all held takes d mid new m a err h =
+  one_of_all held asks d mid new m a err h =
       subst (λ l. IsAllMerged merged cost l mid m (Err err) new a) (sym (ap (λ z. cons_option z []) h.1))
       ((omega (arith, h.2), omega (arith, h.2), omega (arith, h.2), omega (arith, h.2)), λ ne. fault_of_one h.0 mid m err (h.4 ne))
 
   -- so the encodings in all records are merged, or refused
-  pub all_merged : (held : Datum → Option (List ℕ)) (takes : Datum → Type 0) (ds : List Datum) (old new : X) (before after : BudgetLeft) (r : Result Bool DecodeError)
-      → MergesRecords merged cost held takes ds old before r new after → IsAllMerged merged cost (encodings_in held ds) old before r new after
-  all_merged held takes ds old new before after (Ok f) h = (h.0, h.1.0, h.1.1)
-  all_merged held takes ds old new before after (Err e) (front, d, back, mid, left, cut, done, refused) =
+  pub all_merged : (held : Datum → Option (List ℕ)) (asks : Datum → Type 0) (ds : List Datum) (old new : X) (before after : BudgetLeft) (r : Result Bool DecodeError)
+      → MergesRecords merged cost held asks ds old before r new after → IsAllMerged merged cost (encodings_in held ds) old before r new after
+  all_merged held asks ds old new before after (Ok f) h = (h.0, h.1.0, h.1.1)
+  all_merged held asks ds old new before after (Err e) (front, d, back, mid, left, cut, done, refused) =
       merged_fault (encodings_in held front) (encodings_in held (d ∷ [])) (encodings_in held back) (encodings_in held ds) old mid new (some_there (encodings_in held front)) e before left after
       (ap (encodings_in held) cut ∙ filter_map-append held front (d ∷ back) ∙ ap (λ l. encodings_in held front ++ l) (filter_map-append held (d ∷ []) back))
-      (refl, done.0, done.1) (one_of_all held takes d mid new left after e refused)
+      (refl, done.0, done.1) (one_of_all held asks d mid new left after e refused)
 
   -- the answer after merging records into a blank is the message of the encodings in them
-  pub records_answer : {V E : Type 0} (held : Datum → Option (List ℕ)) (takes : Datum → Type 0) (ds : List Datum) (old blank new : X) (before left after : BudgetLeft) (r : Result Bool DecodeError) (x : Result V E) (f : V → Option X)
-      → old ≡ blank → before ≡ left → MergesRecords merged cost held takes ds old before r new after → IfOk x (λ o. IsAnswer r new (f o)) → IfOk x (λ o. f o ≡ message_of merged cost blank left (encodings_in held ds))
-  records_answer held takes ds old blank new before left after r (Ok o) f s b m a =
-      let whole = all_merged held takes ds old new before after r m in
+  pub records_answer : {V E : Type 0} (held : Datum → Option (List ℕ)) (asks : Datum → Type 0) (ds : List Datum) (old blank new : X) (before left after : BudgetLeft) (r : Result Bool DecodeError) (x : Result V E) (f : V → Option X)
+      → old ≡ blank → before ≡ left → MergesRecords merged cost held asks ds old before r new after → IfOk x (λ o. IsAnswer r new (f o)) → IfOk x (λ o. f o ≡ message_of merged cost blank left (encodings_in held ds))
+  records_answer held asks ds old blank new before left after r (Ok o) f s b m a =
+      let whole = all_merged held asks ds old new before after r m in
       answers blank new left after (encodings_in held ds) r (f o)
       (subst (λ y. IsAllMerged merged cost (encodings_in held ds) blank y r new after) b (subst (λ y. IsAllMerged merged cost (encodings_in held ds) y before r new after) s whole)) a
-  records_answer held takes ds old blank new before left after r (Err e) f s b m a = tt
+  records_answer held asks ds old blank new before left after r (Err e) f s b m a = tt
 
   -- one record, read back
   pub one_message_back : (held : Datum → Option (List ℕ)) (blank v : X) (b : BudgetLeft) (d : Datum) (t : List ℕ) → held d ≡ Some t → merged blank t ≡ Some v
@@ -227,10 +211,10 @@ pub held_too : (refusal : List ℕ → Option EncodeError) (t : List ℕ) → en
 held_too refusal t h = refusal_by (nat_lt (length t) (2 ^ 31)) (refusal t) MessageTooLarge h
 
 pub small_refusal : (refusal : List ℕ → Option EncodeError) (t : List ℕ) → length t < 2 ^ 31 → encoding_refusal refusal t ≡ refusal t
-small_refusal refusal t h = ap (λ c. if c then refusal t else Some MessageTooLarge) (lt_yes (length t) (2 ^ 31) h)
+small_refusal refusal t h = ap (λ c. if c then refusal t else Some MessageTooLarge) (lt-ltb (length t) (2 ^ 31) h)
 
 pub large_refusal : (refusal : List ℕ → Option EncodeError) (t : List ℕ) → 2 ^ 31 ≤ length t → encoding_refusal refusal t ≡ Some MessageTooLarge
-large_refusal refusal t h = ap (λ c. if c then refusal t else Some MessageTooLarge) (lt_no (length t) (2 ^ 31) h)
+large_refusal refusal t h = ap (λ c. if c then refusal t else Some MessageTooLarge) (le-ltb (length t) (2 ^ 31) h)
 
 -- ---- groups
 

@@ -82,36 +82,36 @@ AreMerged merged cost bs old before new after = (merged_all merged old bs ≡ So
 -- the encoding in a record is refused: at most its own cost is spent, memory is told only of a record that takes some,
 -- and anything else tells why the encoding isn't merged
 abbrev pub IsEncodingRefused : {X : Type 0} → (X → List ℕ → Option X) → (List ℕ → BudgetLeft) → (Datum → Option (List ℕ)) → (Datum → Type 0) → Datum → X → BudgetLeft → DecodeError → BudgetLeft → Type 0
-IsEncodingRefused merged cost held takes d old before e after =
-    (t : List ℕ) × (held d ≡ Some t) × PaysAtMost before (cost t) after × (e ≡ OutOfMemory → takes d)
+IsEncodingRefused merged cost held asks d old before e after =
+    (t : List ℕ) × (held d ≡ Some t) × PaysAtMost before (cost t) after × (e ≡ OutOfMemory → asks d)
     × (e ≢ OutOfMemory → MergeFault (merged old t) (cost t) before e)
 
 -- merging records stops at one: all before it are merged and paid for, the encoding in it is refused with what they
 -- leave, and nothing is said of those behind it
 abbrev pub StopsAt : {X : Type 0} → (X → List ℕ → Option X) → (List ℕ → BudgetLeft) → (Datum → Option (List ℕ)) → (Datum → Type 0) → List Datum → X → BudgetLeft → DecodeError → BudgetLeft → Type 0
-StopsAt {X = X} merged cost held takes ds old before e after =
+StopsAt {X = X} merged cost held asks ds old before e after =
     (front : List Datum) × (d : Datum) × (back : List Datum) × (mid : X) × (left : BudgetLeft) × (ds ≡ front ++ d ∷ back)
-    × AreMerged merged cost (encodings_in held front) old before mid left × IsEncodingRefused merged cost held takes d mid left e after
+    × AreMerged merged cost (encodings_in held front) old before mid left × IsEncodingRefused merged cost held asks d mid left e after
 
 -- merging the encodings in records tells whether there was one; or it stops at a record
 abbrev pub MergesRecords : {X : Type 0} → (X → List ℕ → Option X) → (List ℕ → BudgetLeft) → (Datum → Option (List ℕ)) → (Datum → Type 0) → List Datum → X → BudgetLeft → Result Bool DecodeError → X → BudgetLeft → Type 0
-MergesRecords merged cost held takes ds old before r new after =
+MergesRecords merged cost held asks ds old before r new after =
     MatchResult r
     (λ some. (some ≡ some_there (encodings_in held ds)) × AreMerged merged cost (encodings_in held ds) old before new after)
-    (λ e. StopsAt merged cost held takes ds old before e after)
+    (λ e. StopsAt merged cost held asks ds old before e after)
 
 -- whatever merging records answers, at most what the encodings in them cost together is spent; and where they are
 -- merged that was there to be spent
 abbrev pub MergingStaysWithin : {X : Type 0} → (X → List ℕ → Option X) → (List ℕ → BudgetLeft) → (Datum → Option (List ℕ)) → (Datum → Type 0) → Type 0
-MergingStaysWithin {X = X} merged cost held takes =
-    (ds : List Datum) (old new : X) (before after : BudgetLeft) (r : Result Bool DecodeError) → MergesRecords merged cost held takes ds old before r new after
+MergingStaysWithin {X = X} merged cost held asks =
+    (ds : List Datum) (old new : X) (before after : BudgetLeft) (r : Result Bool DecodeError) → MergesRecords merged cost held asks ds old before r new after
     → PaysAtMost before (cost_all cost (encodings_in held ds)) after × (IsOk r → Covers before (cost_all cost (encodings_in held ds)))
 
 -- a record is such, and those before it are merged into a blank under a default budget
 abbrev pub ReachesRecord : {X : Type 0} → (X → List ℕ → Option X) → (List ℕ → BudgetLeft) → X → (Datum → Option (List ℕ)) → (Datum → Type 0) → List Datum → Type 0
-ReachesRecord {X = X} merged cost blank held takes ds =
+ReachesRecord {X = X} merged cost blank held asks ds =
     (front : List Datum) × (d : Datum) × (back : List Datum) × (mid : X) × (left : BudgetLeft) × (ds ≡ front ++ d ∷ back)
-    × AreMerged merged cost (encodings_in held front) blank defaults mid left × takes d
+    × AreMerged merged cost (encodings_in held front) blank defaults mid left × asks d
 
 -- what is answered after merging: the message where an encoding was there, and none after a fault
 abbrev pub IsAnswer : {X : Type 0} → Result Bool DecodeError → X → Option X → Type 0

@@ -7,19 +7,19 @@ use Rattle.buffa_wire.specs.BudgetLeft.{BudgetLeft, Covers, defaults}
 use Rattle.buffa_wire.specs.Records.{Datum, Held}
 use Rattle.buffa_ext.specs.Defaults.{IsDefaulted}
 use Rattle.buffa_ext.specs.Messages.{IsAllMerged, MergesRecords, StopsAt, cost_all, encodings_in}
-use Rattle.buffa_ext.specs.Steps.{IsCleared, IsSet}
+use Rattle.buffa_ext.specs.Changes.{IsCleared, IsSet}
 
 -- records that are merged leave one value and one budget, and tell in one way whether there was an encoding; what is
 -- merged isn't refused, memory aside; and what is refused stops at one record, memory aside
-pub record MergingIsPinned {X : Type 0} (merged : X → List ℕ → Option X) (cost : List ℕ → BudgetLeft) (held : Datum → Option (List ℕ)) (takes : Datum → Type 0) : Type 0 where
+pub record MergingIsPinned {X : Type 0} (merged : X → List ℕ → Option X) (cost : List ℕ → BudgetLeft) (held : Datum → Option (List ℕ)) (asks : Datum → Type 0) : Type 0 where
   pub alike : (ds : List Datum) (old new newer : X) (before left over : BudgetLeft) (f g : Bool)
-      → MergesRecords merged cost held takes ds old before (Ok f) new left → MergesRecords merged cost held takes ds old before (Ok g) newer over
+      → MergesRecords merged cost held asks ds old before (Ok f) new left → MergesRecords merged cost held asks ds old before (Ok g) newer over
       → (f ≡ g) × (new ≡ newer) × (left ≡ over)
   pub refused : (ds : List Datum) (old new newer : X) (before left over : BudgetLeft) (f : Bool) (e : DecodeError)
-      → MergesRecords merged cost held takes ds old before (Ok f) new left → MergesRecords merged cost held takes ds old before (Err e) newer over
+      → MergesRecords merged cost held asks ds old before (Ok f) new left → MergesRecords merged cost held asks ds old before (Err e) newer over
       → (e ≢ OutOfMemory) → ⊥
   pub stopped : (ds : List Datum) (old : X) (before left over : BudgetLeft) (e f : DecodeError)
-      → (h : StopsAt merged cost held takes ds old before e left) (k : StopsAt merged cost held takes ds old before f over)
+      → (h : StopsAt merged cost held asks ds old before e left) (k : StopsAt merged cost held asks ds old before f over)
       → e ≢ OutOfMemory → f ≢ OutOfMemory → h.0 ≡ k.0
 
 -- merging the encoding in one record leaves one value and one budget, and tells in one way whether there was an

@@ -3,7 +3,7 @@
 ghost use Rattle.std.specs.Prelude.{◌≡◌, ◌≢◌, ◌≤◌, ◌+◌, ◌⊎◌, [], length, IfOk, OnOk, OnErr};
 ghost use Rattle.buffa_wire.specs.Records.{Held};
 ghost use Rattle.buffa_codec.specs.Decoded.{Refuses};
-ghost use Rattle.buffa_ext.specs.Steps.{IsSet, IsSetUnread};
+ghost use Rattle.buffa_ext.specs.Changes.{IsSet, IsSetUnread};
 
 use crate::descriptor::Extension;
 use crate::set::ExtensionSet;
@@ -33,9 +33,9 @@ pub fn set_then_read<M: ExtensionSet, C: ExtensionCodec, D>(
     ensures ok { OnOk result (IsSet ext.now.number (C.recs (C.meaning value)) (M.fields_of message.old)
         (M.fields_of message.new)) }
     ensures err { OnErr result (let v = C.meaning value in (message.new ≡ message.old)
-        ⊎ IsSetUnread ext.now.number (C.recs v) (C.refusal v) C.takes (M.fields_of message.old)
+        ⊎ IsSetUnread ext.now.number (C.recs v) (C.refusal v) C.asks (M.fields_of message.old)
         (M.fields_of message.new)) }
-    ensures full { OnErr result ((C.recs (C.meaning value) ≢ []) ⊎ C.takes (C.recs (C.meaning value))) }
+    ensures full { OnErr result ((C.recs (C.meaning value) ≢ []) ⊎ C.asks (C.recs (C.meaning value))) }
     ensures room { (M.fields_of message.old).spare ≤ (M.fields_of message.new).spare
         + length (C.recs (C.meaning value)) }
     ensures unchanged { C.never_fails → OnErr result (message.new ≡ message.old) }
@@ -44,8 +44,5 @@ pub fn set_then_read<M: ExtensionSet, C: ExtensionCodec, D>(
     ensures rest { (w : Held) × (message.new ≡ M.with_fields message.old w) }
 {
     message.set_extension(alloc, ext, value)?;
-    let Ok(answer) = message.extension(alloc, ext) else {
-        return Err(EncodeError::OutOfMemory);
-    };
-    Ok(answer)
+    Ok(message.extension(alloc, ext)?)
 }

@@ -61,8 +61,8 @@ pub fn other_names_are_these<E: Enumeration, C: SingularCodec, P: PackableCodec,
         ≡ packed_record P.packed_encoding vs }
     ensures messages { ReadsMessages ⟦<MessageCodec<M> as ExtensionCodec>⟧.reads (M.merged 100) (M.cost 100) M.blank_is
         bytes_held }
-    ensures message_records { (v : M.Meaning) → ⟦<MessageCodec<M> as ExtensionCodec>⟧.recs v ≡ bytes (M.encoding v) ∷ [] }
+    ensures message_records { (v : _) → ⟦<MessageCodec<M> as ExtensionCodec>⟧.recs v ≡ bytes (M.encoding v) ∷ [] }
     ensures groups { ReadsMessages ⟦<GroupCodec<M> as ExtensionCodec>⟧.reads (M.merged 100) (M.cost 100) M.blank_is
         group_held }
-    ensures group_records { (v : M.Meaning) → ⟦<GroupCodec<M> as ExtensionCodec>⟧.recs v ≡ group_of (M.encoding v) ∷ [] }
+    ensures group_records { (v : _) → ⟦<GroupCodec<M> as ExtensionCodec>⟧.recs v ≡ group_of (M.encoding v) ∷ [] }
 {}

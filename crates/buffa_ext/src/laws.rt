@@ -20,21 +20,21 @@ ghost use Rattle.buffa_ext.specs.Messages.{ReachesRecord, ReadsMessages, cost_al
 ghost use Rattle.buffa_ext.specs.Messages.{group_refusal, group_encodings, message_of, encoding_refusal, encodings_in};
 ghost use Rattle.buffa_ext.specs.Pinned.{ClearIsPinned, DefaultIsPinned, ListIsExact, MergingIsPinned};
 ghost use Rattle.buffa_ext.specs.Pinned.{RecordMergeIsPinned, SetIsPinned};
-ghost use Rattle.buffa_ext.specs.Steps.{Change, ClearsAreOne, IsExactlySet, KeepsTheRest, LeavesOthers};
-ghost use Rattle.buffa_ext.specs.Steps.{ReadsHistory, SecondCounts, StandsLast, TakesOut, TakesThePlace, after, history};
+ghost use Rattle.buffa_ext.specs.Changes.{ClearsAreOne, IsExactlySet, KeepsTheRest, LeavesOthers, NumberChange};
+ghost use Rattle.buffa_ext.specs.Changes.{ReadsHistory, SecondCounts, StandsLast, TakesOut, TakesThePlace, after, history};
 
+use crate::changes::{Change, ReplayFault};
 pub use crate::codec_laws::{number_names_are_these, other_names_are_these};
 use crate::descriptor::{Declared, Make, NoDefault};
 use crate::message::{GroupCodec, MessageCodec, MessageIn};
 use crate::record::{Delimited, Grouped, MessageRecord};
-use crate::steps::{ReplayFault, Step};
 use buffa_codec::{ExtensionCodec, LastWins, Repeated, SingularCodec};
 use buffa_wire::{Message, MessageSpec};
 use std::alloc::{AllocError, Global};
 
-/// `==` of steps says whether they change the same, and of faults whether they are one. It leaves nothing open.
-pub fn equal_steps_change_the_same()
-    ensures step { SameIsOneChange ⟦<Step as PartialEq>⟧.eq }
+/// `==` of changes says whether they are one change, and of faults whether they are one. It leaves nothing open.
+pub fn equal_changes_are_one()
+    ensures change { SameIsOneChange ⟦<Change as PartialEq>⟧.eq }
     ensures fault { SameIsOne ⟦<ReplayFault as PartialEq>⟧.eq }
 {}
 
@@ -45,7 +45,7 @@ pub fn clones_are_these()
 
 /// The records of a number after changes are what its last change says.
 pub fn last_change_counts()
-    ensures { (n : ℕ) (rs : List (ℕ × Datum)) (cs : List Change) → sub n (after rs cs) ≡ history n rs cs }
+    ensures { (n : ℕ) (rs : List (ℕ × Datum)) (cs : List NumberChange) → sub n (after rs cs) ≡ history n rs cs }
 {}
 
 /// A set leaves the other numbers, and its records stand last.
@@ -74,7 +74,7 @@ pub fn reads_after_changes<C: ExtensionCodec>()
 
 /// A value that was set is what is read, also after changes of other numbers.
 pub fn set_values_are_read<C: ExtensionCodec>()
-    ensures { (n : ℕ) (rs : List (ℕ × Datum)) (cs : List Change) (v : C.Meaning) (o : C.Answer) → C.fits v →
+    ensures { (n : ℕ) (rs : List (ℕ × Datum)) (cs : List NumberChange) (v : C.Meaning) (o : C.Answer) → C.fits v →
         C.normal v → history n rs cs ≡ C.recs v → C.reads (sub n (after rs cs)) o → C.holds v o }
 {}
 
@@ -90,7 +90,7 @@ pub fn last_set_counts()
 pub fn messages_stay_within_a_budget<K: MessageRecord, M: Message>()
     ensures read { (ds : List Datum) (v : M.Meaning) → ⟦<MessageIn<K, M> as ExtensionCodec>⟧.reads ds (Some v)
         → Covers defaults (cost_all (M.cost 100) (encodings_in K.held ds)) }
-    ensures merged { MergingStaysWithin (M.merged 100) (M.cost 100) K.held (K.takes 100) }
+    ensures merged { MergingStaysWithin (M.merged 100) (M.cost 100) K.held (K.asks 100) }
 {}
 
 /// A message is read of the bytes of all records of bytes of its number, or of the records in all its
@@ -111,9 +111,9 @@ pub fn messages_are_read<M: Message>()
         ↔ (o ≡ Some v) }
     ensures group_holds { (v : M.Meaning) (o : Option M.Meaning) → ⟦<GroupCodec<M> as ExtensionCodec>⟧.holds v o
         ↔ (o ≡ Some v) }
-    ensures takes { (ds : List Datum) → ⟦<MessageCodec<M> as ExtensionCodec>⟧.takes ds
+    ensures asks { (ds : List Datum) → ⟦<MessageCodec<M> as ExtensionCodec>⟧.asks ds
         ↔ ReachesRecord (M.merged 100) (M.cost 100) M.blank_is bytes_held (BeginsFieldIn bytes_held) ds }
-    ensures group_takes { (ds : List Datum) → ⟦<GroupCodec<M> as ExtensionCodec>⟧.takes ds
+    ensures group_asks { (ds : List Datum) → ⟦<GroupCodec<M> as ExtensionCodec>⟧.asks ds
         ↔ ReachesRecord (M.merged 100) (M.cost 100) M.blank_is group_held (λ d. HasByte (group_held d)) ds }
     ensures too_large { (v : M.Meaning) → 2 ^ 31 ≤ length (M.encoding v) → ⟦<MessageCodec<M> as ExtensionCodec>⟧.refusal v
         ≡ Some MessageTooLarge }
@@ -148,7 +148,7 @@ pub fn message_records_are_read<M: Message>()
     ensures normal { (v : M.Meaning) → ⟦<MessageCodec<M> as SingularCodec>⟧.normal v
         ↔ (M.normal v × (M.levels v ≤ 100) × Fits (records_of (M.records v))) }
     ensures back { (v : M.Meaning) → ⟦<MessageCodec<M> as SingularCodec>⟧.back v ≡ v }
-    ensures takes { (d : Datum) → ⟦<MessageCodec<M> as SingularCodec>⟧.takes d ↔ BeginsFieldIn bytes_held d }
+    ensures asks { (d : Datum) → ⟦<MessageCodec<M> as SingularCodec>⟧.asks d ↔ BeginsFieldIn bytes_held d }
     ensures packed { (bs : List ℕ) → ⟦<MessageCodec<M> as SingularCodec>⟧.packed bs ≡ [] }
 {}
 
@@ -170,7 +170,7 @@ pub fn group_records_are_read<M: Message>()
     ensures normal { (v : M.Meaning) → ⟦<GroupCodec<M> as SingularCodec>⟧.normal v
         ↔ (M.normal v × (M.levels v ≤ 100) × Fits (records_of (M.records v))) }
     ensures back { (v : M.Meaning) → ⟦<GroupCodec<M> as SingularCodec>⟧.back v ≡ v }
-    ensures takes { (d : Datum) → ⟦<GroupCodec<M> as SingularCodec>⟧.takes d ↔ ((n : ℕ) × HasByte (group_held d)) }
+    ensures asks { (d : Datum) → ⟦<GroupCodec<M> as SingularCodec>⟧.asks d ↔ ((n : ℕ) × HasByte (group_held d)) }
     ensures packed { (bs : List ℕ) → ⟦<GroupCodec<M> as SingularCodec>⟧.packed bs ≡ [] }
 {}
 
@@ -189,8 +189,8 @@ pub fn held_encodings_are_these()
         × (⟦<Grouped as MessageRecord>⟧.held d ≡ group_held d) }
     ensures holder { (t : List ℕ) → (⟦<Delimited as MessageRecord>⟧.holder t ≡ held_bytes t)
         × (⟦<Grouped as MessageRecord>⟧.holder t ≡ group_of t) }
-    ensures takes { (n : ℕ) (d : Datum) → (⟦<Delimited as MessageRecord>⟧.takes n d ↔ BeginsFieldIn bytes_held d)
-        × (⟦<Grouped as MessageRecord>⟧.takes n d ↔ HasByte (group_held d)) }
+    ensures asks { (n : ℕ) (d : Datum) → (⟦<Delimited as MessageRecord>⟧.asks n d ↔ BeginsFieldIn bytes_held d)
+        × (⟦<Grouped as MessageRecord>⟧.asks n d ↔ HasByte (group_held d)) }
     ensures refusal { (t : List ℕ) → (⟦<Delimited as MessageRecord>⟧.refusal t ≡ None)
         × (⟦<Grouped as MessageRecord>⟧.refusal t ≡ group_refusal t) }
 {}
@@ -212,10 +212,10 @@ pub fn defaults_are_these<V, F: Fn(Global) -> Result<V, AllocError>>()
 /// memory aside: it stops at the first encoding that is refused, or at none.
 ///
 /// Left open: where memory runs out, of those records up to the first refused encoding for which merging may
-/// take some (`takes`); which fault is told of that encoding, and how much of its own cost is spent.
+/// take some (`asks`); which fault is told of that encoding, and how much of its own cost is spent.
 pub fn messages_are_pinned<K: MessageRecord, M: Message>()
     ensures read { OneAnswer ⟦<MessageIn<K, M> as ExtensionCodec>⟧.reads }
-    ensures merged { MergingIsPinned (M.merged 100) (M.cost 100) K.held (K.takes 100) }
+    ensures merged { MergingIsPinned (M.merged 100) (M.cost 100) K.held (K.asks 100) }
     ensures record { (n : ℕ) → RecordMergeIsPinned (M.merged n) (M.cost n) K.held }
 {}
 

@@ -87,7 +87,7 @@ impl<K: MessageRecord, M: Message> SingularCodec for MessageIn<K, M> {
 
     ghost made_free = { λ v. ⊥ };
 
-    ghost takes = { λ d. (n : ℕ) × K.takes n d };
+    ghost asks = { λ d. (n : ℕ) × K.asks n d };
 
     fn decode_one(alloc: Global, payload: &UnknownFieldData) -> Result<Option<M>, AllocError> {
         let mut budget = Budget::new(DEFAULT_UNKNOWN_FIELD_LIMIT);
@@ -149,7 +149,7 @@ pub fn merge_number<K: MessageRecord, M: Message>(
     budget: &mut Budget,
     message: &mut M,
 ) -> Result<bool, DecodeError>
-    ensures { MergesRecords (M.merged 100) (M.cost 100) K.held (K.takes 100) (sub number fields.now.records)
+    ensures { MergesRecords (M.merged 100) (M.cost 100) K.held (K.asks 100) (sub number fields.now.records)
         (M.meaning message.old) budget.old result (M.meaning message.new) budget.new }
 {
     let mut found = false;
@@ -198,7 +198,7 @@ impl<K: MessageRecord, M: Message> ExtensionCodec for MessageIn<K, M> {
 
     ghost in_room = { λ v. ⊥ };
 
-    ghost takes = { ReachesRecord (M.merged 100) (M.cost 100) M.blank_is K.held (K.takes 100) };
+    ghost asks = { ReachesRecord (M.merged 100) (M.cost 100) M.blank_is K.held (K.asks 100) };
 
     fn decode(alloc: Global, number: u32, fields: &UnknownFields) -> Result<Option<M>, AllocError> {
         let mut budget = Budget::new(DEFAULT_UNKNOWN_FIELD_LIMIT);
@@ -214,10 +214,7 @@ impl<K: MessageRecord, M: Message> ExtensionCodec for MessageIn<K, M> {
         fields: &mut UnknownFields,
     ) -> Result<(), EncodeError> {
         let payload = <Self as SingularCodec>::encode_one(alloc, &value)?;
-        let Ok(()) = fields.push(UnknownField { number, payload }) else {
-            return Err(EncodeError::OutOfMemory);
-        };
-        Ok(())
+        Ok(fields.push(UnknownField { number, payload })?)
     }
 
     ghost reads_back = { λ v o f n h.

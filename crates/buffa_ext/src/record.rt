@@ -31,7 +31,7 @@ pub trait MessageRecord {
     ghost holder: { List ℕ → Datum };
 
     /// The records that hold an encoding which may take memory to be merged, at a depth.
-    ghost takes: { ℕ → Datum → Type 0 };
+    ghost asks: { ℕ → Datum → Type 0 };
 
     /// Why no record holds an encoding, memory aside.
     ghost refusal: { List ℕ → Option EncodeError };
@@ -56,7 +56,7 @@ pub trait MessageRecord {
         ensures merged { MergesOne M.merged M.cost held ctx.entry (datum_of payload.now) (M.meaning message.old) result
             (M.meaning message.new) (budget_left ctx.exit) }
         ensures encoding { OnErr result (encodings_in held (datum_of payload.now ∷ []) ≢ []) }
-        ensures full { FullOnlyIf result (takes ctx.entry.depth (datum_of payload.now)) };
+        ensures full { FullOnlyIf result (asks ctx.entry.depth (datum_of payload.now)) };
 
     /// The record that holds an encoding.
     ///
@@ -90,7 +90,7 @@ impl MessageRecord for Delimited {
 
     ghost holder = { bytes };
 
-    ghost takes = { λ n. BeginsFieldIn bytes_held };
+    ghost asks = { λ n. BeginsFieldIn bytes_held };
 
     ghost refusal = { λ t. None };
 
@@ -135,7 +135,7 @@ impl MessageRecord for Grouped {
 
     ghost holder = { group_of };
 
-    ghost takes = { λ n d. HasByte (group_held d) };
+    ghost asks = { λ n d. HasByte (group_held d) };
 
     ghost refusal = { group_refusal };
 

@@ -8,7 +8,7 @@ ghost use Rattle.buffa_wire.specs.contracts.unknown_fields.UnknownFields.{the_ro
 ghost use Rattle.buffa_codec.specs.Sub.{sub};
 ghost use Rattle.buffa_codec.specs.Decoded.{Refuses};
 ghost use Rattle.buffa_ext.specs.Defaults.{IsDefaulted, IsRefused, ReadsNumber};
-ghost use Rattle.buffa_ext.specs.Steps.{HoldsRecord, IsCleared, IsSet};
+ghost use Rattle.buffa_ext.specs.Changes.{HoldsRecord, IsCleared, IsSet};
 
 use crate::descriptor::{Declared, Extension};
 use crate::stage::{has_number, remove, replace};
@@ -87,7 +87,7 @@ pub trait ExtensionSet {
         requires { ext.now.extendee.now ≡ fqn }
         ensures value { IfOk result (λ o. C.reads (sub ext.now.number (fields_of self.now).records) (C.answer o)) }
         ensures always { C.never_fails → IsOk result }
-        ensures full { OnErr result (C.takes (sub ext.now.number (fields_of self.now).records)) }
+        ensures full { OnErr result (C.asks (sub ext.now.number (fields_of self.now).records)) }
     {
         C::decode(alloc, ext.number(), self.unknown_fields())
     }
@@ -121,10 +121,7 @@ pub trait ExtensionSet {
         let number = ext.number();
         let mut staged = UnknownFields::new(alloc);
         C::try_encode(alloc, number, value, &mut staged)?;
-        let Ok(()) = replace(self.unknown_fields_mut(), number, staged) else {
-            return Err(EncodeError::OutOfMemory);
-        };
-        Ok(())
+        Ok(replace(self.unknown_fields_mut(), number, staged)?)
     }
 
     /// The same as [`ExtensionSet::try_set_extension`].
@@ -202,7 +199,7 @@ pub trait ExtensionSet {
             D.can_declare ext.now.default }
         ensures value { IfOk result (λ v. IsDefaulted (ReadsNumber C.reads C.answer ext.now.number (fields_of self.now))
             (D.may_declare ext.now.default) (V.meaning v ≡ V.blank_is) v) }
-        ensures full { OnErr result (IsRefused (C.takes (sub ext.now.number (fields_of self.now).records))
+        ensures full { OnErr result (IsRefused (C.asks (sub ext.now.number (fields_of self.now).records))
             (ReadsNumber C.reads C.answer ext.now.number (fields_of self.now)) (D.may_refuse ext.now.default)) }
     {
         if let Some(value) = self.extension(alloc, ext)? {

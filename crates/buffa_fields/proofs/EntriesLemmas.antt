@@ -1,13 +1,12 @@
 -- What is proved of entries of map fields in a message that are taken or refused.
-use Rattle.std.proofs.Common.{◌≡◌, ◌≢◌, ◌⊎◌, inl, inr, ℕ, ◌+◌, ◌≤◌, true, false, cond, List, Some, Result, Ok, Err, refl, sym, ap, subst, ◌∙◌, arith}
+use Rattle.std.proofs.Common.{◌≡◌, ◌⊎◌, inl, inr, ℕ, ◌+◌, ◌≤◌, true, false, cond, List, Some, Result, Ok, Err, refl, sym, ap, subst, ◌∙◌, arith}
 use Rattle.buffa_bytes.proofs.DelimitedLemmas.{delimited_faulty, delimited_taken}
 use Rattle.buffa_bytes.specs.declared.error.DecodeError.{DecodeError}
 use Rattle.buffa_bytes.specs.declared.error.DecodeError.TheVariants as error
-use Rattle.buffa_bytes.specs.declared.error.DecodeError.TheVariants.{WireTypeMismatch}
 use Rattle.buffa_bytes.specs.declared.wire_type.WireType.{WireType}
 use Rattle.buffa_bytes.specs.declared.wire_type.WireType.TheVariants.{LengthDelimited}
 use Rattle.buffa_bytes.specs.WireType.{same_wire}
-use Rattle.buffa_bytes.specs.Front.{delimited_at}
+use Rattle.buffa_bytes.specs.Front.{check_wire, delimited_at}
 use Rattle.buffa_wire.proofs.MessageLemmas.{NoLimit}
 use Rattle.buffa_wire.specs.BudgetLeft.{BudgetLeft, Covers, Lacks, PaysAtMost, plus, unknown_fields}
 use Rattle.buffa_wire.specs.Message.{IsLimit}
@@ -20,6 +19,7 @@ use Rattle.buffa_map_base.specs.Merge.{MergesEntry, RefusesEntry, Rules, State}
 use Rattle.buffa_map.specs.declared.map_entry.MapEntry.{MapEntry}
 use Rattle.buffa_fields.specs.Entries.{entry_cost, entry_taken}
 use Rattle.buffa_fields_base.proofs.ValueLemmas.{wire_refused}
+use Rattle.buffa_fields_base.proofs.WireLemmas.{checked_same}
 use Rattle.buffa_fields.proofs.InsideLemmas.{alone_is, delimited_front, no_payload}
 
 abbrev good : Result (Unit {0}) DecodeError
@@ -41,7 +41,10 @@ IsCost {K} {V} key val d cost extra costs =
 
 -- ---- an entry is read by rules, and does so
 module _ {K V X : Type 0} (r : Rules K V) (does : X → List ℕ → MapEntry K V → X) (costs : ℕ → List ℕ → BudgetLeft) (is_cost : IsCost r.key r.val r.depth r.cost r.extra (costs r.depth))
-    (n : ℕ) (w : WireType) (old new : X) (bs rest : List ℕ) (s t : State K V) (wire : w ≡ LengthDelimited) where
+    (n : ℕ) (w : WireType) (old new : X) (bs rest : List ℕ) (s t : State K V) (checked : check_wire n LengthDelimited w ≡ Ok tt) where
+  wire : w ≡ LengthDelimited
+  wire = checked_same n LengthDelimited w checked
+
   -- it is taken
   pub entry_ok : (m : MergesEntry r s bs t rest) → new ≡ does old m.entry m.says → IsTaken (entry_taken r.key r.val does) (entry_cost costs) r.depth old n w bs s.left good new t.left rest
   unfolding entry_taken entry_cost
@@ -114,8 +117,8 @@ module _ {K V X : Type 0} (r : Rules K V) (does : X → List ℕ → MapEntry K 
 
 module _ {K V X : Type 0} (key : Reading K) (val : Reading V) (does : X → List ℕ → MapEntry K V → X) (d n : ℕ) where
   -- a field of another wire type is refused
-  pub entry_wire_err : (costs : ℕ → List ℕ → BudgetLeft) (w : WireType) (old new : X) (bs rest : List ℕ) (before : BudgetLeft) (f : DecodeError) →
-      w ≢ LengthDelimited → f ≡ WireTypeMismatch n LengthDelimited w → IsTaken (entry_taken key val does) (entry_cost costs) d old n w bs before (bad f) new before rest
+  pub entry_wire_err : (costs : ℕ → List ℕ → BudgetLeft) (w : WireType) (old : X) (bs rest : List ℕ) (before : BudgetLeft) (f : DecodeError) →
+      check_wire n LengthDelimited w ≡ Err f → IsTaken (entry_taken key val does) (entry_cost costs) d old n w bs before (bad f) old before rest
   unfolding entry_taken
-  entry_wire_err costs w old new bs rest before f other is =
-      wire_refused (entry_taken key val does) (entry_cost costs) d n w old new bs rest before before f LengthDelimited is refl (λ p. rw (same_false LengthDelimited w other) refl)
+  entry_wire_err costs w old bs rest before f told =
+      wire_refused (entry_taken key val does) (entry_cost costs) d n w old old bs rest before before f LengthDelimited told refl (λ other p. rw (same_false LengthDelimited w other) refl)

@@ -1,36 +1,37 @@
 -- What is proved of messages as groups: of what is taken, and of sizes and encodings.
-use Rattle.std.proofs.Common.{◌≡◌, ◌≢◌, inl, inr, ℕ, suc, ◌+◌, ◌-◌, ◌≤◌, List, [], ◌∷◌, ◌++◌, length, Option, Some, None, Result, Ok, Err, refl, sym, ap, subst, ◌∙◌, arith, append_assoc, append-nil, length-append}
+use Rattle.std.proofs.Common.{◌≡◌, ◌≢◌, inl, inr, ℕ, suc, ◌+◌, ◌-◌, List, [], ◌∷◌, ◌++◌, length, Option, Some, None, Result, Ok, Err, refl, sym, ap, subst, ◌∙◌, arith, append_assoc, append-nil, length-append}
 use Rattle.std.proofs.lemmas.Bool.{ne_eqb}
 use Rattle.std.proofs.lemmas.List.{append_cancel_right}
 use Rattle.buffa_bytes.proofs.FieldLemmas.{group_is, not_end, one_payload, payload_complete, payload_sound, tag_complete, tag_sound, payload_taken}
 use Rattle.buffa_bytes.proofs.StepLemmas.{agree_err, agree_ok}
 use Rattle.buffa_bytes.specs.declared.error.DecodeError.{DecodeError}
-use Rattle.buffa_bytes.specs.declared.error.DecodeError.TheVariants.{InvalidEndGroup, OutOfMemory, RecursionLimitExceeded, WireTypeMismatch}
+use Rattle.buffa_bytes.specs.declared.error.DecodeError.TheVariants.{InvalidEndGroup, OutOfMemory, RecursionLimitExceeded}
 use Rattle.buffa_bytes.specs.declared.error.EncodeError.{EncodeError}
 use Rattle.buffa_bytes.specs.declared.wire_type.WireType.{WireType}
 use Rattle.buffa_bytes.specs.declared.wire_type.WireType.TheVariants.{StartGroup, EndGroup}
 use Rattle.buffa_bytes.specs.Field.{Group, IsTag, Payload, SomeField}
 use Rattle.buffa_bytes.specs.Join.{Join}
 use Rattle.buffa_bytes.specs.Join.Join.{none, more}
-use Rattle.buffa_bytes.specs.Front.{group_at, skip_at, tag_at}
+use Rattle.buffa_bytes.specs.Front.{check_wire, group_at, skip_at, tag_at}
 use Rattle.buffa_bytes.specs.Values.{tag_encoding}
 use Rattle.buffa_bytes.specs.Written.{Writes}
 use Rattle.buffa_wire.proofs.PassLemmas.{done, refused, written_put, written_same, written_short, written_then}
-use Rattle.buffa_wire.proofs.MessageLemmas.{NoLimit, as_no_limit, front_more, loop_fault, reaches_tag, tag_no_limit}
-use Rattle.buffa_wire.proofs.ByPayloadLemmas.{ByPayload, field_costs, field_means, judged_all}
-use Rattle.buffa_wire.specs.BudgetLeft.{BudgetLeft, Lacks, Pays, PaysAtMost, nothing, plus, units}
+use Rattle.buffa_wire.proofs.MessageLemmas.{NoLimit, as_no_limit, tag_no_limit}
+use Rattle.buffa_wire.proofs.ByPayloadLemmas.{ByPayload, judged_all}
+use Rattle.buffa_wire.specs.BudgetLeft.{BudgetLeft, Lacks, Pays, PaysAtMost}
 use Rattle.buffa_wire.specs.Cache.{Cache, advanced}
 use Rattle.buffa_wire.specs.Encoding.{records_encoding}
-use Rattle.buffa_wire.specs.Message.{BeginsField, IsFieldMerged, IsJudged, MergeFault, merged_in}
+use Rattle.buffa_wire.specs.Message.{IsFieldMerged, IsJudged, MergeFault, merged_in}
 use Rattle.buffa_wire.specs.Passes.{IsSmall, IsWritten, WritesIf, cap}
 use Rattle.buffa_wire.specs.Records.{Datum, group, records_of}
 use Rattle.buffa_map_base.proofs.EntryLemmas.{same_false}
 use Rattle.buffa_fields.specs.Groups.{group_body, group_cost, group_merged}
 use Rattle.buffa_wire.specs.Takes.{IsTaken, Need, Untaken, Taker}
-use Rattle.buffa_fields.specs.GroupFacts.{body_end, body_field, body_is, body_stays, body_whole, turn}
+use Rattle.buffa_fields.specs.GroupFacts.{body_field, body_is, body_past, body_stays, body_whole, turn}
+use Rattle.buffa_wire.proofs.MergeLoopLemmas.{CameTo, costs, stopped}
 use Rattle.buffa_fields_base.proofs.ValueLemmas.{refused_free, wire_refused}
 use Rattle.buffa_wire.proofs.SpentLemmas.{is_there}
-use Rattle.buffa_fields.specs.RepeatedGroups.{GroupsTakeMemory, groups_cost}
+use Rattle.buffa_fields.specs.RepeatedGroups.{GroupsTakeMemory}
 use Rattle.buffa_fields.proofs.InsideLemmas.{behind_slot, level_there, wire_taken}
 
 -- ---- the body of a group
@@ -48,154 +49,119 @@ module _ (d : ℕ) where
       ∙ rw (tag_complete t m w (p ++ (r ++ x)) tag, not_end w (λ end. subst (λ v. Payload d m v p) end payload), payload_complete d m w p (r ++ x) payload) refl
       ∙ group_past n r x j
 
--- ---- the loop over its fields
--- fields of a group were merged: what is left means to the new value what all meant to the old one, and what they cost
--- was spent
-pub record Underway {X : Type 0} (merged : ℕ → X → List ℕ → Option X) (cost : ℕ → List ℕ → BudgetLeft) (d : ℕ) (old : X) (bs : List ℕ) (start : BudgetLeft) (now : X) (rest : List ℕ) (left : BudgetLeft) : Type 0 where
-  pub means : merged d old (group_body d bs) ≡ merged d now (group_body d rest)
-  pub unknown : left.unknown + (cost d (group_body d bs)).unknown ≡ start.unknown + (cost d (group_body d rest)).unknown
-  pub memory : left.memory + (cost d (group_body d bs)).memory ≡ start.memory + (cost d (group_body d rest)).memory
-  pub no_unknown : left.unknown ≤ start.unknown
-  pub no_unit : left.memory ≤ start.memory
-  pub front : List ℕ
-  pub fields : Join (SomeField d) front
-  pub split : bs ≡ front ++ rest
-  pub untouched : (BeginsField bs → ⊥) → old ≡ now
+-- ---- the loop over its fields, one level down
+module _ {X : Type 0} {T : Taker X} {N : Need} {merged : ℕ → X → List ℕ → Option X} {cost : ℕ → List ℕ → BudgetLeft} (by : ByPayload T N merged cost) {k : ℕ} (n : ℕ) (some : k ≢ 0)
+    {old : X} {bs : List ℕ} {start : BudgetLeft} {now : X} {rest : List ℕ} {left : BudgetLeft} (came : CameTo merged cost (k - 1) old bs start now rest left) where
+  abbrev d : ℕ
+  d = k - 1
 
-module _ {X : Type 0} (merged : ℕ → X → List ℕ → Option X) (cost : ℕ → List ℕ → BudgetLeft) (d n : ℕ) (old : X) (bs : List ℕ) (start : BudgetLeft) where
-  pub begun : Underway merged cost d old bs start old bs start
-  begun = record { means = refl; unknown = refl; memory = refl; no_unknown = omega arith; no_unit = omega arith; front = []; fields = none; split = refl; untouched = λ _. refl }
+  abbrev TakenAt : ℕ → Result (Unit {0}) DecodeError → X → BudgetLeft → List ℕ → Type 0
+  TakenAt z r new after more_bs = IsTaken (group_merged merged) (group_cost cost) z old n StartGroup bs start r new after more_bs
 
   abbrev TakenAs : Result (Unit {0}) DecodeError → X → BudgetLeft → List ℕ → Type 0
-  TakenAs r new after rest = IsTaken (group_merged merged) (group_cost cost) (suc d) old n StartGroup bs start r new after rest
+  TakenAs = TakenAt k
 
-  -- at a depth that is one more
-  pub one_up : (k : ℕ) → k ≢ 0 → d ≡ k - 1 → (r : Result (Unit {0}) DecodeError) (new : X) (after : BudgetLeft) (rest : List ℕ) → TakenAs r new after rest →
-      IsTaken (group_merged merged) (group_cost cost) k old n StartGroup bs start r new after rest
-  one_up k some is r new after rest h =
-      let e : suc d ≡ k = omega arith in subst (λ z. IsTaken (group_merged merged) (group_cost cost) z old n StartGroup bs start r new after rest) e h
+  one_up : (r : Result (Unit {0}) DecodeError) (new : X) (after : BudgetLeft) (more_bs : List ℕ) → TakenAt (suc d) r new after more_bs → TakenAs r new after more_bs
+  one_up r new after more_bs h = let e : suc d ≡ k = omega (arith, some) in subst (λ z. TakenAt z r new after more_bs) e h
 
-  costs : group_cost cost (suc d) n StartGroup bs ≡ cost d (group_body d bs)
+  need_is : group_cost cost (suc d) n StartGroup bs ≡ cost d (group_body d bs)
   unfolding group_cost
-  costs = let e : suc d - 1 ≡ d = omega arith in rw e refl
+  need_is = let e : suc d - 1 ≡ d = omega arith in rw e refl
 
   takes : (p : List ℕ) → group_merged merged (suc d) old n StartGroup p ≡ merged d old (group_body d p)
   unfolding group_merged
   takes p = let e : suc d - 1 ≡ d = omega arith in rw e refl
 
+  -- as far it came in the body
+  in_body : CameTo merged cost d old (group_body d bs) start now (group_body d rest) left
+  in_body = record { front = came.front; fields = came.fields; split = ap (group_body d) came.split ∙ body_past d came.front rest came.fields; means = came.means; pays = came.pays }
+
   -- the body means nothing
   untaken : merged d old (group_body d bs) ≡ None → Untaken (group_merged merged) (suc d) old n StartGroup bs
-  untaken nothing_meant p rest payload split =
-      takes p ∙ ap (merged d old) (sym (body_stays d n p rest payload) ∙ ap (group_body d) (sym split)) ∙ nothing_meant
+  untaken nothing_meant p more_bs payload split =
+      takes p ∙ ap (merged d old) (sym (body_stays d n p more_bs payload) ∙ ap (group_body d) (sym split)) ∙ nothing_meant
 
   -- there is no such group
   unread : (e : DecodeError) → group_at (suc d) n bs ≡ Err e → Untaken (group_merged merged) (suc d) old n StartGroup bs
-  unread e h p rest payload split = let two = sym (payload_complete (suc d) n StartGroup p rest payload) ∙ ap (group_at (suc d) n) (sym split) ∙ h in cc
+  unread e h p more_bs payload split = let two = sym (payload_complete (suc d) n StartGroup p more_bs payload) ∙ ap (group_at (suc d) n) (sym split) ∙ h in cc
 
-  module _ (now : X) (rest : List ℕ) (left : BudgetLeft) (u : Underway merged cost d old bs start now rest left) where
-    -- the end tag is reached
-    pub ended : merged d now [] ≡ Some now → cost d [] ≡ nothing → (m : ℕ) (w : WireType) (x : List ℕ) → tag_at rest ≡ Ok (m, w, x) → w ≡ EndGroup → m ≡ n → TakenAs (Ok tt) now left x
-    unfolding Group
-    ended empty free m w x tag end same =
-        let t = agree_ok (tag_at rest) (n, EndGroup, x) (tag_sound rest) (tag ∙ (λ i. Ok (same i, end i, x))) in
-        let last : group_body d rest ≡ [] = ap (group_body d) t.2 ∙ body_end d t.0 x n t.1 in
-        let alone : group_body d (u.front ++ t.0) ≡ u.front = body_is d u.front t.0 n u.fields t.1 in
-        let whole : bs ≡ u.front ++ (t.0 ++ x) = u.split ∙ ap (λ (z : List ℕ). u.front ++ z) t.2 in
-        let all : group_body d bs ≡ u.front = ap (group_body d) whole ∙ body_whole d u.front t.0 x n u.fields t.1 in
-        let left_over = ap (cost d) last ∙ free in
-        let a = ap (λ (z : BudgetLeft). z.unknown) left_over in
-        let b = ap (λ (z : BudgetLeft). z.memory) left_over in (
-          u.front ++ t.0,
-          (u.front, t.0, u.fields, t.1, refl),
-          whole ∙ sym (append_assoc u.front t.0 x),
-          takes (u.front ++ t.0) ∙ ap (merged d old) (alone ∙ sym all) ∙ u.means ∙ ap (merged d now) last ∙ empty,
-          subst (λ z. Pays start z left) (sym costs) (omega (arith, u.unknown, a), omega (arith, u.memory, b)),
+  -- the end tag is reached
+  pub ended : (m : ℕ) (w : WireType) (x : List ℕ) → tag_at rest ≡ Ok (m, w, x) → w ≡ EndGroup → m ≡ n → TakenAs (Ok tt) now left x
+  unfolding Group
+  ended m w x tag end same =
+      let t = agree_ok (tag_at rest) (n, EndGroup, x) (tag_sound rest) (tag ∙ (λ i. Ok (same i, end i, x))) in
+      let f = came.front in
+      let whole : bs ≡ f ++ (t.0 ++ x) = came.split ∙ ap (λ (z : List ℕ). f ++ z) t.2 in
+      let all : group_body d bs ≡ f = ap (group_body d) whole ∙ body_whole d f t.0 x n came.fields t.1 in
+      one_up (Ok tt) now left x (
+        f ++ t.0,
+        (f, t.0, came.fields, t.1, refl),
+        whole ∙ sym (append_assoc f t.0 x),
+        takes (f ++ t.0) ∙ ap (merged d old) (body_is d f t.0 n came.fields t.1) ∙ came.means,
+        subst (λ z. Pays start z left) (sym (need_is ∙ ap (cost d) all)) came.pays,
+      )
+
+  -- the bytes are no group
+  no_group : (e : DecodeError) → NoLimit e → group_at (suc d) n rest ≡ Err e → (new : X) (x : List ℕ) → TakenAs (Err e) new left x
+  no_group e unlimited h new x =
+      let all = costs by in_body in
+      let unknown = ap (λ (z : BudgetLeft). z.unknown) all in
+      let memory = ap (λ (z : BudgetLeft). z.memory) all in
+      one_up (Err e) new left x (
+        subst (λ z. PaysAtMost start z left) (sym need_is) (omega (arith, in_body.pays.0), omega (arith, in_body.pays.0, unknown), omega (arith, in_body.pays.1), omega (arith, in_body.pays.1, memory)),
+        λ ne. inr (unread e (ap (group_at (suc d) n) came.split ∙ group_past d n came.front rest came.fields ∙ h), unlimited),
+        λ full end. cc,
+      )
+
+  -- no tag comes next
+  pub no_group_tag : (e : DecodeError) → tag_at rest ≡ Err e → (new : X) (x : List ℕ) → TakenAs (Err e) new left x
+  no_group_tag e h new x = no_group e (tag_no_limit rest e (agree_err (tag_at rest) e (tag_sound rest) h)) (group_is d n rest ∙ rw h refl) new x
+
+  -- another group's end tag does
+  pub other_end : (e : DecodeError) (m : ℕ) (w : WireType) (y : List ℕ) → tag_at rest ≡ Ok (m, w, y) → w ≡ EndGroup → m ≢ n → e ≡ InvalidEndGroup m → (new : X) (x : List ℕ) → TakenAs (Err e) new left x
+  other_end e m w y tag end other is new x =
+      no_group e (as_no_limit e (InvalidEndGroup m) is (λ l. l)) (group_is d n rest ∙ rw (tag, end, ne_eqb m n other) (ap (λ z. Err z) (sym is))) new x
+
+  module _ (m : ℕ) (w : WireType) (x : List ℕ) (tag : tag_at rest ≡ Ok (m, w, x)) (other : w ≢ EndGroup) where
+    -- what of the body follows the tag: a refusal that speaks of it speaks of all that follows
+    abbrev Within : List ℕ → List ℕ → Type 0
+    Within t z = (group_body d rest ≡ t ++ z) × ((q : List ℕ) → IsJudged d m w z q → IsJudged d m w x q)
+
+    within : (t : List ℕ) → IsTag t m w → rest ≡ t ++ x → (r : Result (List ℕ) DecodeError) → skip_at d m w x ≡ r → (z : List ℕ) × Within t z
+    within t at cut (Err e) h = (x, (body_cut d rest (m, w, x) e tag other h ∙ cut, λ q j. j))
+    within t at cut (Ok y) h =
+        let p = agree_ok (skip_at d m w x) y (payload_sound d m w x) h in (
+          p.0 ++ group_body d y,
+          (
+            ap (group_body d) (cut ∙ ap (λ (z : List ℕ). t ++ z) p.2) ∙ body_field d t p.0 y m w at p.1,
+            λ q j. elim j [
+              | inl (r, payload, is) ↦
+                  let same = one_payload d m w (p.0 ++ group_body d y) r (group_body d y) (q, payload, is) (p.0, p.1, refl) in
+                  let one : q ≡ p.0 = append_cancel_right q p.0 (group_body d y) (ap (λ (z : List ℕ). q ++ z) (sym same) ∙ sym is) in
+                  inl (y, payload, p.2 ∙ ap (λ (z : List ℕ). z ++ y) (sym one))
+              | inr (is, off) ↦ absurd (off (group_body d y) (p.0, p.1, refl))
+            ],
+          ),
         )
 
-    spent : PaysAtMost start (group_cost cost (suc d) n StartGroup bs) left
-    spent = subst (λ z. PaysAtMost start z left) (sym costs) (u.no_unknown, omega (arith, u.unknown), u.no_unit, omega (arith, u.memory))
-
-    -- the bytes are no group
-    stopped : (e : DecodeError) → NoLimit e → group_at (suc d) n rest ≡ Err e → (new : X) (x : List ℕ) → TakenAs (Err e) new left x
-    stopped e unlimited h new x = (
-      spent,
-      λ ne. inr (unread e (ap (group_at (suc d) n) u.split ∙ group_past d n u.front rest u.fields ∙ h), unlimited),
-      λ full end. cc,
-    )
-
-    -- no tag comes next
-    pub no_tag : (e : DecodeError) → tag_at rest ≡ Err e → (new : X) (x : List ℕ) → TakenAs (Err e) new left x
-    no_tag e h new x = stopped e (tag_no_limit rest e (agree_err (tag_at rest) e (tag_sound rest) h)) (group_is d n rest ∙ rw h refl) new x
-
-    -- another group's end tag does
-    pub other_end : (e : DecodeError) (m : ℕ) (w : WireType) (y : List ℕ) → tag_at rest ≡ Ok (m, w, y) → w ≡ EndGroup → m ≢ n → e ≡ InvalidEndGroup m → (new : X) (x : List ℕ) → TakenAs (Err e) new left x
-    other_end e m w y tag end other is new x =
-        stopped e (as_no_limit e (InvalidEndGroup m) is (λ l. l)) (group_is d n rest ∙ rw (tag, end, ne_eqb m n other) (ap (λ z. Err z) (sym is))) new x
-
-    module _ (m : ℕ) (w : WireType) (x : List ℕ) (tag : tag_at rest ≡ Ok (m, w, x)) (other : w ≢ EndGroup)
-        {T : Taker X} {N : Need} (by : ByPayload T N merged cost) where
-      -- a field was merged
-      pub merged_on : (new : X) (y : List ℕ) (over : BudgetLeft) → IsFieldMerged merged cost d now m w x left (let r : Result (Unit {0}) DecodeError = Ok tt in r) new over y →
-          Underway merged cost d old bs start new y over
-      merged_on new y over (p, payload, is, one) =
-          let t = agree_ok (tag_at rest) (m, w, x) (tag_sound rest) tag in
-          let cut : rest ≡ t.0 ++ (p ++ y) = t.2 ∙ ap (λ (z : List ℕ). t.0 ++ z) is in
-          let body : group_body d rest ≡ t.0 ++ (p ++ group_body d y) = ap (group_body d) cut ∙ body_field d t.0 p y m w t.1 payload in
-          let paid = (one t.0 t.1).1 in
-          let all = field_costs by d (group_body d rest) t.0 p (group_body d y) m w t.1 payload body in
-          let a = ap (λ (z : BudgetLeft). z.unknown) all in
-          let b = ap (λ (z : BudgetLeft). z.memory) all in
-          let g = front_more d u.front bs rest t.0 p y m w u.fields u.split t.1 payload cut in
-          record {
-            means = u.means ∙ field_means by d now new (group_body d rest) t.0 p (group_body d y) m w t.1 payload body (one t.0 t.1).0;
-            unknown = omega (arith, u.unknown, paid.0, a);
-            memory = omega (arith, u.memory, paid.1, b);
-            no_unknown = omega (arith, u.no_unknown, paid.0);
-            no_unit = omega (arith, u.no_unit, paid.1);
-            front = g.0;
-            fields = g.1;
-            split = g.2;
-            untouched = λ no. absurd (no (reaches_tag d u.front bs rest (m, w, x) u.fields u.split tag other));
-          }
-
-      -- what of the body follows the tag: a refusal that speaks of it speaks of all that follows
-      abbrev Within : List ℕ → List ℕ → Type 0
-      Within t z = (group_body d rest ≡ t ++ z) × ((q : List ℕ) → IsJudged d m w z q → IsJudged d m w x q)
-
-      within : (t : List ℕ) → IsTag t m w → rest ≡ t ++ x → (r : Result (List ℕ) DecodeError) → skip_at d m w x ≡ r → (z : List ℕ) × Within t z
-      within t at cut (Err e) h = (x, (body_cut d rest (m, w, x) e tag other h ∙ cut, λ q j. j))
-      within t at cut (Ok y) h =
-          let p = agree_ok (skip_at d m w x) y (payload_sound d m w x) h in (
-            p.0 ++ group_body d y,
-            (
-              ap (group_body d) (cut ∙ ap (λ (z : List ℕ). t ++ z) p.2) ∙ body_field d t p.0 y m w at p.1,
-              λ q j. elim j [
-                | inl (r, payload, is) ↦
-                    let same = one_payload d m w (p.0 ++ group_body d y) r (group_body d y) (q, payload, is) (p.0, p.1, refl) in
-                    let one : q ≡ p.0 = append_cancel_right q p.0 (group_body d y) (ap (λ (z : List ℕ). q ++ z) (sym same) ∙ sym is) in
-                    inl (y, payload, p.2 ∙ ap (λ (z : List ℕ). z ++ y) (sym one))
-                | inr (is, off) ↦ absurd (off (group_body d y) (p.0, p.1, refl))
-              ],
-            ),
-          )
-
-      -- a field was refused
-      pub refused_on : (e : DecodeError) (new : X) (y : List ℕ) (over : BudgetLeft) → IsFieldMerged merged cost d now m w x left (let r : Result (Unit {0}) DecodeError = Err e in r) new over y →
-          TakenAs (Err e) new over y
-      refused_on e new y over h =
-          let t = agree_ok (tag_at rest) (m, w, x) (tag_sound rest) tag in
-          let z = within t.0 t.1 t.2 (skip_at d m w x) refl in
-          let judged = judged_all by d now m w z.0 left over e (λ s q is j. h s q is (z.1.1 q j)) t.0 t.1 in
-          let here : PaysAtMost left (cost d (group_body d rest)) over × (e ≢ OutOfMemory → MergeFault (merged d now (group_body d rest)) (cost d (group_body d rest)) left e) =
-          subst (λ (b : List ℕ). PaysAtMost left (cost d b) over × (e ≢ OutOfMemory → MergeFault (merged d now b) (cost d b) left e)) (sym z.1.0) judged in
-          let all = loop_fault (merged d old (group_body d bs)) (merged d now (group_body d rest)) start left over (cost d (group_body d bs)) (cost d (group_body d rest)) e u.means u.unknown u.memory u.no_unknown u.no_unit here in (
-            subst (λ c. PaysAtMost start c over) (sym costs) all.0,
-            λ ne. elim (all.1 ne) [
-              | inl few ↦ inl (subst (λ c. Lacks start c) (sym costs) few)
-              | inr bad ↦ inr (untaken bad.0, bad.1)
-            ],
-            λ full end. cc,
-          )
+    -- a field was refused
+    pub field_refused : (e : DecodeError) (new : X) (y : List ℕ) (over : BudgetLeft) → IsFieldMerged merged cost d now m w x left (let r : Result (Unit {0}) DecodeError = Err e in r) new over y →
+        TakenAs (Err e) new over y
+    field_refused e new y over h =
+        let t = agree_ok (tag_at rest) (m, w, x) (tag_sound rest) tag in
+        let z = within t.0 t.1 t.2 (skip_at d m w x) refl in
+        let judged = judged_all by d now m w z.0 left over e (λ s q is j. h s q is (z.1.1 q j)) t.0 t.1 in
+        let here : PaysAtMost left (cost d (group_body d rest)) over × (e ≢ OutOfMemory → MergeFault (merged d now (group_body d rest)) (cost d (group_body d rest)) left e) =
+        subst (λ (b : List ℕ). PaysAtMost left (cost d b) over × (e ≢ OutOfMemory → MergeFault (merged d now b) (cost d b) left e)) (sym z.1.0) judged in
+        let all = stopped by in_body e over here in
+        one_up (Err e) new over y (
+          subst (λ c. PaysAtMost start c over) (sym need_is) all.0,
+          λ ne. elim (all.1 ne) [
+            | inl few ↦ inl (subst (λ c. Lacks start c) (sym need_is) few)
+            | inr bad ↦ inr (untaken bad.0, bad.1)
+          ],
+          λ full end. cc,
+        )
 
 -- no level is left
 pub no_level : {X : Type 0} (merged : ℕ → X → List ℕ → Option X) (cost : ℕ → List ℕ → BudgetLeft) (k n : ℕ) (old new : X) (bs rest : List ℕ) (start after : BudgetLeft) (e : DecodeError) → k ≡ 0 → e ≡ RecursionLimitExceeded → after ≡ start →
@@ -205,10 +171,10 @@ no_level merged cost k n old new bs rest start after e bottom is kept =
     refused_free (group_merged merged) (group_cost cost) k n StartGroup old new bs rest start after e RecursionLimitExceeded is (λ l. l) (λ full. cc) kept (λ p more payload split. rw bottom refl)
 
 -- ---- a field of another wire type is none, whatever it costs
-pub group_wire_err : {X : Type 0} (merged : ℕ → X → List ℕ → Option X) (need : Need) (d n : ℕ) (w : WireType) (old new : X) (bs rest : List ℕ) (before after : BudgetLeft) (e : DecodeError) → w ≢ StartGroup → e ≡ WireTypeMismatch n StartGroup w → after ≡ before →
-    IsTaken (group_merged merged) need d old n w bs before (let r : Result (Unit {0}) DecodeError = Err e in r) new after rest
+pub group_wire_err : {X : Type 0} (merged : ℕ → X → List ℕ → Option X) (need : Need) (d n : ℕ) (w : WireType) (old : X) (bs : List ℕ) (before : BudgetLeft) (e : DecodeError) → check_wire n StartGroup w ≡ Err e →
+    IsTaken (group_merged merged) need d old n w bs before (let r : Result (Unit {0}) DecodeError = Err e in r) old before bs
 unfolding group_merged
-group_wire_err merged need d n w old new bs rest before after e other is kept = wire_refused (group_merged merged) need d n w old new bs rest before after e StartGroup is kept (λ p. rw (same_false StartGroup w other) refl)
+group_wire_err merged need d n w old bs before e told = wire_refused (group_merged merged) need d n w old old bs bs before before e StartGroup told refl (λ other p. rw (same_false StartGroup w other) refl)
 
 -- ---- the encoding
 module _ (n : ℕ) (rs : List (ℕ × Datum)) where
@@ -259,11 +225,6 @@ module _ (n : ℕ) (rs : List (ℕ × Datum)) where
           as_parts r c b3 (written_then P P P (start_tag ++ records_encoding rs) end_tag slots [] c1 c c b0 b2 b3 (λ s. (s, s)) r (inner_after done c b2 w) (written_put P end_tag c b2 b3 r v))
 
 -- ---- lists of them
--- what a group costs that is merged, with the message's own units
-pub group_costs : (each : ℕ) (cost : ℕ → List ℕ → BudgetLeft) (d n : ℕ) (w : WireType) (bs : List ℕ) → w ≡ StartGroup → groups_cost each cost d n w bs ≡ plus (units each) (group_cost cost d n w bs)
-unfolding groups_cost group_cost
-group_costs each cost d n w bs wire = rw wire refl
-
 -- a group that was read had a level, and is whole
 pub group_whole : {X : Type 0} (merged : ℕ → X → List ℕ → Option X) (d : ℕ) (old new : X) (n : ℕ) (w : WireType) (bs p rest : List ℕ) → Payload d n w p → bs ≡ p ++ rest → group_merged merged d old n w p ≡ Some new → GroupsTakeMemory d n w bs
 unfolding group_merged

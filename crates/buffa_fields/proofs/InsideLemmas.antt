@@ -2,10 +2,10 @@
 use Rattle.std.proofs.Common.{◌≡◌, ◌⊎◌, inl, inr, ℕ, zero, suc, ◌+◌, ◌<◌, Bool, true, false, List, [], ◌∷◌, ◌++◌, Option, Some, None, Result, Ok, Err, OnOk, refl, sym, ap, subst, ◌∙◌, arith, append_assoc, append-nil, if◌then◌else◌}
 use Rattle.std.specs.Option.{option_map}
 use Rattle.buffa_bytes.proofs.DelimitedLemmas.{delimited_complete, delimited_sound}
-use Rattle.buffa_bytes.proofs.FieldLemmas.{same_true}
+use Rattle.buffa_bytes.proofs.FieldLemmas.{same_refl, same_true}
 use Rattle.buffa_bytes.proofs.StepLemmas.{agree_ok}
 use Rattle.buffa_bytes.specs.Field.{Payload}
-use Rattle.buffa_bytes.specs.Front.{delimited_at}
+use Rattle.buffa_bytes.specs.Front.{check_wire, delimited_at}
 use Rattle.buffa_bytes.specs.Gives.{FullOnlyIf}
 use Rattle.buffa_bytes.specs.WireType.{same_wire}
 use Rattle.buffa_bytes.specs.declared.error.DecodeError.{DecodeError}
@@ -16,14 +16,15 @@ use Rattle.buffa_bytes.specs.declared.wire_type.WireType.TheVariants.{LengthDeli
 use Rattle.buffa_wire.proofs.MessageLemmas.{NoLimit}
 use Rattle.buffa_wire.proofs.PassLemmas.{done, written_behind, written_none}
 use Rattle.buffa_wire.proofs.SequenceLemmas.{ok_same}
-use Rattle.buffa_wire.specs.BudgetLeft.{BudgetLeft, Lacks, plus, units}
+use Rattle.buffa_wire.specs.BudgetLeft.{BudgetLeft, Lacks, nothing, plus, units}
 use Rattle.buffa_wire.specs.Cache.{Cache, advanced}
 use Rattle.buffa_wire.specs.Encoding.{records_encoding}
 use Rattle.buffa_wire.specs.Message.{merged_in}
 use Rattle.buffa_wire.specs.Passes.{IsSmall, IsWritten}
 use Rattle.buffa_wire.specs.Records.{Datum}
 use Rattle.buffa_wire.specs.Takes.{IsTaken, Need, Taker, Untaken}
-use Rattle.buffa_map_base.proofs.EntryLemmas.{PaysAtMost_nothing}
+use Rattle.buffa_wire.proofs.SpentLemmas.{PaysAtMost_nothing}
+use Rattle.buffa_fields_base.proofs.WireLemmas.{checked_same}
 use Rattle.buffa_fields_base.specs.PairFacts.{part_taken}
 use Rattle.buffa_fields.specs.InsideFacts.{delimited_alone}
 use Rattle.buffa_fields.specs.Nested.{or_blank, taken_behind, taken_there}
@@ -67,31 +68,41 @@ pub level_there : {X : Type 0} (merged : ℕ → X → List ℕ → Option X) (d
 level_there merged zero old new b is = cc
 level_there merged (suc d) old new b is = omega arith
 
--- an element of some units, taken as a field is that costs less by these
-module _ {X : Type 0} (takes : Taker X) (each : ℕ) (need whole : Need) (d n : ℕ) (w : WireType) (old new : X) (bs rest : List ℕ) (before after : BudgetLeft) (costs : whole d n w bs ≡ plus (units each) (need d n w bs)) where
+-- what fields of one wire type cost
+abbrev of_wire : WireType → (ℕ → List ℕ → BudgetLeft) → Need
+of_wire WIRE cost d n w bs = if same_wire WIRE w then cost d bs else nothing
+
+-- An element of some units, taken as a field is that costs less by these: both are of one wire type, and what is in them costs the same.
+module _ {X : Type 0} (WIRE : WireType) (takes : Taker X) (each : ℕ) (cost : ℕ → List ℕ → BudgetLeft) (d n : ℕ) (w : WireType) (old new : X) (bs rest : List ℕ) (before after : BudgetLeft) (checked : check_wire n WIRE w ≡ Ok tt) (asked : ℕ) (is_each : asked ≡ each) where
+  abbrev whole : Need
+  whole d n w bs = if same_wire WIRE w then plus (units each) (cost d bs) else nothing
+
+  costs : plus (units each) (of_wire WIRE cost d n w bs) ≡ whole d n w bs
+  costs = rw (ap (same_wire WIRE) (checked_same n WIRE w checked) ∙ same_refl WIRE) refl
+
   abbrev TakenFor : BudgetLeft → Result (Unit {0}) DecodeError → Type 0
   TakenFor need r = IsTaken takes (λ d n w bs. need) d old n w bs before r new after rest
 
-  pub charged : (mid : BudgetLeft) → mid.memory + each ≡ before.memory → mid.unknown ≡ before.unknown → (r : Result (Unit {0}) DecodeError) →
-      IsTaken takes need d old n w bs mid r new after rest → IsTaken takes whole d old n w bs before r new after rest
-  charged mid paid same (Ok _) (p, payload, split, m, pays) =
-      subst (λ z. TakenFor z (Ok tt)) (sym costs) (p, payload, split, m, (omega (arith, pays.0, same), omega (arith, pays.1, paid)))
-  charged mid paid same (Err e) (pays, why, full) =
-      subst (λ z. TakenFor z (Err e)) (sym costs) (
-        (omega (arith, pays.0, same), omega (arith, pays.1, same), omega (arith, pays.2, paid), omega (arith, pays.3, paid)),
+  pub charged : (mid : BudgetLeft) → (mid.memory + asked ≡ before.memory) × (mid.unknown ≡ before.unknown) → (r : Result (Unit {0}) DecodeError) →
+      IsTaken takes (of_wire WIRE cost) d old n w bs mid r new after rest → IsTaken takes whole d old n w bs before r new after rest
+  charged mid paid (Ok _) (p, payload, split, m, pays) =
+      subst (λ z. TakenFor z (Ok tt)) costs (p, payload, split, m, (omega (arith, pays.0, paid.1), omega (arith, pays.1, paid.0, is_each)))
+  charged mid paid (Err e) (pays, why, full) =
+      subst (λ z. TakenFor z (Err e)) costs (
+        (omega (arith, pays.0, paid.1), omega (arith, pays.1, paid.1), omega (arith, pays.2, paid.0, is_each), omega (arith, pays.3, paid.0, is_each)),
         λ ne. elim (why ne) [
-          | inl (inl few) ↦ inl (inl (omega (arith, few, same)))
-          | inl (inr few) ↦ inl (inr (omega (arith, few, paid)))
+          | inl (inl few) ↦ inl (inl (omega (arith, few, paid.1)))
+          | inl (inr few) ↦ inl (inr (omega (arith, few, paid.0, is_each)))
           | inr bad ↦ inr bad
         ],
         full,
       )
 
   -- the units aren't left
-  pub uncharged : before.memory < each → after ≡ before → (e : DecodeError) → e ≡ ElementMemoryLimitExceeded → IsTaken takes whole d old n w bs before (let r : Result (Unit {0}) DecodeError = Err e in r) new after rest
-  uncharged few kept e is = (
+  pub uncharged : (before.memory < asked) × (after ≡ before) → (e : DecodeError) → e ≡ ElementMemoryLimitExceeded → IsTaken takes whole d old n w bs before (let r : Result (Unit {0}) DecodeError = Err e in r) new after rest
+  uncharged (few, kept) e is = (
     PaysAtMost_nothing before after (whole d n w bs) kept,
-    λ ne. subst (λ z. Lacks before z ⊎ (Untaken takes d old n w bs × NoLimit e)) (sym costs) (inl (inr (omega (arith, few)))),
+    λ ne. subst (λ z. Lacks before z ⊎ (Untaken takes d old n w bs × NoLimit e)) costs (inl (inr (omega (arith, few, is_each)))),
     λ full end. let two = sym full ∙ is in cc,
   )
 
@@ -102,13 +113,20 @@ there blank takes need d n w old a new bs rest before after r is taken =
     part_taken takes need (taken_there blank takes) need d n w a old (λ x. Some x) (λ p. ap (λ z. option_map (λ x. Some x) (takes d z n w p)) (sym is)) (λ bs. refl) bs rest before after r new taken
 
 -- the answer where a field goes into a message
-module _ {X : Type 0} (blank : X) (takes : Taker X) (need : Need) (wire : WireType) (There : List ℕ → Type 0) (d n : ℕ) (w : WireType) (bs rest : List ℕ) (before after : BudgetLeft) (old : Option X) (stood new : X) where
+module _ {X : Type 0} (blank : X) (takes : Taker X) (need : Need) (wire : WireType) (There : List ℕ → Type 0) (d n : ℕ) (w : WireType) (bs rest : List ℕ) (before after : BudgetLeft) (old : Option X) (stood new : X) (told : Result (Unit {0}) DecodeError) (Asks : Type 0) where
+  abbrev Answers : Result (Unit {0}) DecodeError → Option X → Type 0
+  Answers r put =
+      IsTaken (taken_there blank takes) need d old n w bs before r put after rest × FullOnlyIf r Asks
+      × ((e : DecodeError) → told ≡ Err e → (r ≡ Err e) × (old ≡ put) × (bs ≡ rest)) × ((e : DecodeError) → r ≡ Err e → RefusesThere wire There d old n w bs e put)
+
+  -- another wire type is told, the message as it was and the field unread
+  abbrev Checks : Result (Unit {0}) DecodeError → Type 0
+  Checks r = (e : DecodeError) → told ≡ Err e → (r ≡ Err e) × (stood ≡ new) × (bs ≡ rest)
+
   -- the message stood there
-  pub took_there : (r : Result (Unit {0}) DecodeError) (told : Result (Unit {0}) DecodeError) (Asks : Type 0) → old ≡ Some stood → IsTaken takes need d stood n w bs before r new after rest → FullOnlyIf r Asks →
-      ((e : DecodeError) → told ≡ Err e → (r ≡ Err e) × (stood ≡ new) × (bs ≡ rest)) → ((e : DecodeError) → r ≡ Err e → LeavesUnless wire There d stood n w bs e new) →
-      IsTaken (taken_there blank takes) need d old n w bs before r (Some new) after rest × FullOnlyIf r Asks
-      × ((e : DecodeError) → told ≡ Err e → (r ≡ Err e) × (old ≡ Some new) × (bs ≡ rest)) × ((e : DecodeError) → r ≡ Err e → RefusesThere wire There d old n w bs e (Some new))
-  took_there r told Asks was taken full wrong refused =
+  pub took_there : (r : Result (Unit {0}) DecodeError) → old ≡ Some stood → IsTaken takes need d stood n w bs before r new after rest → FullOnlyIf r Asks → Checks r →
+      ((e : DecodeError) → r ≡ Err e → LeavesUnless wire There d stood n w bs e new) → Answers r (Some new)
+  took_there r was taken full wrong refused =
       let put = λ (same : stood ≡ new). was ∙ ap (λ z. Some z) same in (
         there blank takes need d n w old stood new bs rest before after r (sym (ap (or_blank blank) was)) taken,
         full,
@@ -116,9 +134,18 @@ module _ {X : Type 0} (blank : X) (takes : Taker X) (need : Need) (wire : WireTy
         λ e bad. let k = refused e bad in ((λ none. let two = sym was ∙ none in cc), ((λ other. put (k.0 other)), (λ low. put (k.1 low)), (λ no. put (k.2 no)))),
       )
 
-  -- none did, and a default one took it
-  pub came_there : old ≡ None → stood ≡ blank → (r : Result (Unit {0}) DecodeError) → IsTaken takes need d stood n w bs before r new after rest → IsTaken (taken_there blank takes) need d old n w bs before r (Some new) after rest
-  came_there was fresh r taken = there blank takes need d n w old stood new bs rest before after r (fresh ∙ sym (ap (or_blank blank) was)) taken
+  -- none did
+  module _ (was : old ≡ None) (fresh : stood ≡ blank) where
+    came : (r : Result (Unit {0}) DecodeError) → IsTaken takes need d stood n w bs before r new after rest → IsTaken (taken_there blank takes) need d old n w bs before r (Some new) after rest
+    came r taken = there blank takes need d n w old stood new bs rest before after r (fresh ∙ sym (ap (or_blank blank) was)) taken
+
+    -- a default one took it
+    pub came_there : IsTaken takes need d stood n w bs before (let r : Result (Unit {0}) DecodeError = Ok tt in r) new after rest → Checks (Ok tt) → Answers (Ok tt) (Some new)
+    came_there taken wrong = (came (Ok tt) taken, tt, (λ e is. let k = (wrong e is).0 in cc), (λ e bad. cc))
+
+    -- or refused it, and none does
+    pub none_came : (e : DecodeError) → IsTaken takes need d stood n w bs before (let r : Result (Unit {0}) DecodeError = Err e in r) new after rest → FullOnlyIf (let r : Result (Unit {0}) DecodeError = Err e in r) Asks → Checks (Err e) → Answers (Err e) old
+    none_came e taken full wrong = (came (Err e) taken, full, (λ f is. let k = wrong f is in (k.0, refl, k.2)), (λ f bad. ((λ none. none), ((λ _. refl), (λ _. refl), (λ _. refl)))))
 
 -- ---- it goes behind the others
 pub put_behind : {X : Type 0} (blank : X) (takes : Taker X) (need : Need) (d n : ℕ) (w : WireType) (olds news : List X) (a new : X) (bs rest : List ℕ) (before after : BudgetLeft) (r : Result (Unit {0}) DecodeError) → a ≡ blank →

@@ -5,5 +5,6 @@ pub mod GroupLemmas
 pub mod ListLemmas
 pub mod EntriesLemmas
 pub mod MapLemmas
+pub mod NestedMapLemmas
 pub mod OrderedLemmas
 pub mod PackedLemmas

@@ -7,16 +7,17 @@ use Rattle.buffa_bytes.proofs.StepLemmas.{agree_err, agree_ok}
 use Rattle.buffa_bytes.specs.Content.{Content, content_at}
 use Rattle.buffa_bytes.specs.WireType.{same_wire}
 use Rattle.buffa_bytes.specs.declared.error.DecodeError.{DecodeError}
-use Rattle.buffa_bytes.specs.declared.error.DecodeError.TheVariants.{OutOfMemory, UnexpectedEof, WireTypeMismatch}
+use Rattle.buffa_bytes.specs.declared.error.DecodeError.TheVariants.{OutOfMemory, UnexpectedEof}
 use Rattle.buffa_bytes.specs.declared.wire_type.WireType.{WireType}
 use Rattle.buffa_bytes.specs.declared.wire_type.WireType.TheVariants.{LengthDelimited}
 use Rattle.buffa_wire.proofs.MessageLemmas.{NoLimit, length_no_limit, as_no_limit}
+use Rattle.buffa_wire.proofs.SpentLemmas.{PaysAtMost_nothing}
 use Rattle.buffa_wire.proofs.SequenceLemmas.{along_err, err_same, parse_keeps}
 use Rattle.buffa_wire.specs.BudgetLeft.{BudgetLeft, nothing}
 use Rattle.buffa_bytes.specs.Gives.{◌>>=◌, FullOnlyIf, GivesUnlessFull}
 use Rattle.buffa_wire.specs.Message.{IsLimit}
 use Rattle.buffa_bytes.specs.Front.{check_wire, delimited_at}
-use Rattle.buffa_map_base.proofs.EntryLemmas.{PaysAtMost_nothing, same_false, value_complete}
+use Rattle.buffa_map_base.proofs.EntryLemmas.{same_false, value_complete}
 use Rattle.buffa_map_base.specs.Codec.{Reading, value_at}
 use Rattle.buffa_fields.specs.Lists.{TakesPacked, check_list_wire, element_at, elements_in, elements_taken}
 use Rattle.buffa_wire.specs.Takes.{IsTaken}
@@ -108,11 +109,11 @@ module _ {V : Type 0} (codec : Reading V) (plain : codec.nested ≡ false)
         (value_err codec plain no_limit d codec.blank n w bs before e codec.blank rest before wire refl (λ ne. value_err_of vs bs e (value_at codec d codec.blank bs) refl (h ne)) full)
 
     -- of neither that nor a length and so many bytes
-    pub neither_err : (e : DecodeError) (new : List V) (rest : List ℕ) → w ≢ codec.wire → w ≢ LengthDelimited → e ≡ WireTypeMismatch n codec.wire w →
-        IsTaken (elements_taken codec) free d vs n w bs before (let r : Result (Unit {0}) DecodeError = Err e in r) new before rest
+    pub neither_err : (e : DecodeError) → check_wire n codec.wire w ≡ Err e → w ≢ LengthDelimited →
+        IsTaken (elements_taken codec) free d vs n w bs before (let r : Result (Unit {0}) DecodeError = Err e in r) vs before bs
     unfolding elements_taken
-    neither_err e new rest other others is =
-        wire_refused (elements_taken codec) free d n w vs new bs rest before before e codec.wire is refl (λ p. rw (same_false codec.wire w other, same_false LengthDelimited w others) refl)
+    neither_err e told others =
+        wire_refused (elements_taken codec) free d n w vs vs bs bs before before e codec.wire told refl (λ other p. rw (same_false codec.wire w other, same_false LengthDelimited w others) refl)
 
     -- ---- packed elements
     module _ (other : w ≢ codec.wire) (wire : w ≡ LengthDelimited) where

@@ -3,7 +3,7 @@ use Rattle.std.proofs.Common.{◌≡◌, ◌≢◌, ◌⊎◌, inl, inr, ℕ, ze
 use Rattle.buffa_bytes.proofs.DelimitedLemmas.{delimited_sound}
 use Rattle.buffa_bytes.proofs.StepLemmas.{agree_err}
 use Rattle.buffa_bytes.specs.declared.error.DecodeError.{DecodeError}
-use Rattle.buffa_bytes.specs.declared.error.DecodeError.TheVariants.{OutOfMemory, WireTypeMismatch}
+use Rattle.buffa_bytes.specs.declared.error.DecodeError.TheVariants.{OutOfMemory}
 use Rattle.buffa_bytes.specs.declared.error.EncodeError.{EncodeError}
 use Rattle.buffa_bytes.specs.declared.error.EncodeError.TheVariants as encode
 use Rattle.buffa_bytes.specs.declared.wire_type.WireType.{WireType}
@@ -12,13 +12,13 @@ use Rattle.buffa_bytes.specs.Written.{WritesFront}
 use Rattle.buffa_wire.proofs.MessageLemmas.{NoLimit, length_no_limit}
 use Rattle.buffa_wire.proofs.PassLemmas.{refused}
 use Rattle.buffa_wire.proofs.SpentLemmas.{takes_bytes, is_there}
-use Rattle.buffa_wire.specs.BudgetLeft.{BudgetLeft, Lacks, PaysAtMost, plus, units}
+use Rattle.buffa_wire.specs.BudgetLeft.{BudgetLeft, Lacks, PaysAtMost}
 use Rattle.buffa_wire.specs.Cache.{Cache, advanced}
 use Rattle.buffa_bytes.specs.Gives.{FullOnlyIf}
 use Rattle.buffa_wire.specs.Message.{IsInside, MessageFault, cost_of_payload}
 use Rattle.buffa_wire.specs.Passes.{IsWritten, cap}
 use Rattle.buffa_bytes.specs.WireType.{same_wire}
-use Rattle.buffa_bytes.specs.Front.{delimited_at}
+use Rattle.buffa_bytes.specs.Front.{check_wire, delimited_at}
 use Rattle.buffa_wire.specs.Records.{bytes}
 use Rattle.buffa_wire.specs.Encoding.{records_encoding}
 use Rattle.buffa_map_base.proofs.EntryLemmas.{same_false}
@@ -27,13 +27,17 @@ use Rattle.buffa_wire.specs.Takes.{IsTaken, Need, Untaken}
 use Rattle.buffa_fields.specs.NestedFacts.{TellsLength, head, head_cut, record_after}
 use Rattle.buffa_fields.specs.InsideFacts.{delimited_alone}
 use Rattle.buffa_fields_base.proofs.ValueLemmas.{wire_refused}
+use Rattle.buffa_fields_base.proofs.WireLemmas.{checked_same}
 use Rattle.buffa_fields.proofs.InsideLemmas.{alone_is, behind_slot, delimited_front, level_there, no_payload, wire_taken}
 use Rattle.buffa_bytes.specs.Field.{Payload}
-use Rattle.buffa_fields.specs.RepeatedNested.{MessagesTakeMemory, messages_cost}
+use Rattle.buffa_fields.specs.RepeatedNested.{MessagesTakeMemory}
 
 -- ---- the message of a whole payload
 module _ {X : Type 0} (merged : ℕ → X → List ℕ → Option X) (cost : ℕ → List ℕ → BudgetLeft) where
-  module _ (n : ℕ) (w : WireType) (wire : w ≡ LengthDelimited) (old new : X) (bs rest : List ℕ) (before after : BudgetLeft) where
+  module _ (n : ℕ) (w : WireType) (checked : check_wire n LengthDelimited w ≡ Ok tt) (old new : X) (bs rest : List ℕ) (before after : BudgetLeft) where
+    wire : w ≡ LengthDelimited
+    wire = checked_same n LengthDelimited w checked
+
     inside_ok : (d : ℕ) → IsInside merged cost d old bs before new after rest → IsTaken (message_merged merged) (message_cost cost) d old n w bs before (let r : Result (Unit {0}) DecodeError = Ok tt in r) new after rest
     unfolding message_merged message_cost
     inside_ok d (b, is, m, pays) =
@@ -55,40 +59,35 @@ module _ {X : Type 0} (merged : ℕ → X → List ℕ → Option X) (cost : ℕ
     inside_taken d (Err e) ok fault spent = (rw wire spent, λ ne. why d e (fault ne), λ full end. let two = sym wire ∙ end in cc)
 
 -- a field of another wire type is none, whatever it costs
-pub message_wire_err : {X : Type 0} (merged : ℕ → X → List ℕ → Option X) (need : Need) (d n : ℕ) (w : WireType) (old new : X) (bs rest : List ℕ) (before after : BudgetLeft) (e : DecodeError) → w ≢ LengthDelimited → e ≡ WireTypeMismatch n LengthDelimited w → after ≡ before →
-    IsTaken (message_merged merged) need d old n w bs before (let r : Result (Unit {0}) DecodeError = Err e in r) new after rest
+pub message_wire_err : {X : Type 0} (merged : ℕ → X → List ℕ → Option X) (need : Need) (d n : ℕ) (w : WireType) (old : X) (bs : List ℕ) (before : BudgetLeft) (e : DecodeError) → check_wire n LengthDelimited w ≡ Err e →
+    IsTaken (message_merged merged) need d old n w bs before (let r : Result (Unit {0}) DecodeError = Err e in r) old before bs
 unfolding message_merged
-message_wire_err merged need d n w old new bs rest before after e other is kept = wire_refused (message_merged merged) need d n w old new bs rest before after e LengthDelimited is kept (λ p. rw (same_false LengthDelimited w other) refl)
+message_wire_err merged need d n w old bs before e told = wire_refused (message_merged merged) need d n w old old bs bs before before e LengthDelimited told refl (λ other p. rw (same_false LengthDelimited w other) refl)
 
 -- ---- where it takes memory
-pub inside_full : (d n : ℕ) (w : WireType) (bs : List ℕ) → w ≡ LengthDelimited → (r : Result (Unit {0}) DecodeError) → FullOnlyIf r ((0 < d) × IsOk (delimited_at bs)) →
+pub inside_full : (d n : ℕ) (w : WireType) (bs : List ℕ) → check_wire n LengthDelimited w ≡ Ok tt → (r : Result (Unit {0}) DecodeError) → FullOnlyIf r ((0 < d) × IsOk (delimited_at bs)) →
     ((rest : List ℕ) → 0 < d → delimited_at bs ≡ Ok ([], rest) → IsOk r) → FullOnlyIf r (MessageTakesMemory d n w bs)
-inside_full d n w bs wire (Ok x) full free = tt
-inside_full d n w bs wire (Err e) full free = λ is.
+inside_full d n w bs checked (Ok x) full free = tt
+inside_full d n w bs checked (Err e) full free = λ is.
     let may = full is in
     let some = takes_bytes bs (λ rest none. free rest may.0 none) may.1 in
-    (wire, may.0, some.0, some.1, some.2, some.3)
+    (checked_same n LengthDelimited w checked, may.0, some.0, some.1, some.2, some.3)
 
 -- ---- the encoding, behind a slot
 pub cap_tells : (inner : ℕ) (encoding : List ℕ) → inner ≡ cap (length encoding) → TellsLength inner encoding
 cap_tells inner encoding is = ((λ h. omega (arith, is, h)), (λ h. omega (arith, is, h)))
 
-module _ (n inner : ℕ) (encoding : List ℕ) (is : TellsLength inner encoding) (slots : List ℕ) (c0 c1 c2 : Cache) (b0 b1 b2 : List ℕ) (on : c1 ≡ advanced 1 c0) where
+module _ (n inner : ℕ) (encoding : List ℕ) (is : inner ≡ cap (length encoding)) (slots : List ℕ) (c0 c1 c2 : Cache) (b0 b1 b2 : List ℕ) (on : c1 ≡ advanced 1 c0) where
   abbrev spelled : List ℕ
   spelled = records_encoding ((n, bytes encoding) ∷ [])
 
-  pub record_written : (r : Result (Unit {0}) EncodeError) → b1 ≡ b0 ++ head n inner → IsWritten encoding slots c1 b1 r c2 b2 → IsWritten spelled (inner ∷ slots) c0 b0 r c2 b2
-  record_written r h w = behind_slot spelled slots inner c0 c1 c2 b0 b2 on r (record_after n inner encoding is slots c1 c2 b0 b1 b2 r h w)
+  pub record_written : (r : Result (Unit {0}) EncodeError) → b1 ≡ b0 ++ head n inner → IsWritten encoding slots c1 b1 r c2 b2 → IsWritten spelled (cap (length encoding) ∷ slots) c0 b0 r c2 b2
+  record_written r h w = behind_slot spelled slots (cap (length encoding)) c0 c1 c2 b0 b2 on r (record_after n inner encoding (cap_tells inner encoding is) slots c1 c2 b0 b1 b2 r h w)
 
-  pub head_short : (e : EncodeError) → (e ≡ encode.OutOfMemory) × WritesFront b0 (head n inner) b1 → IsWritten spelled (inner ∷ slots) c0 b0 (refused e) c1 b1
-  head_short e h = behind_slot spelled slots inner c0 c1 c1 b0 b1 on (refused e) (head_cut n inner encoding is slots c1 c1 b0 b1 b1 e h)
+  pub head_short : (e : EncodeError) → (e ≡ encode.OutOfMemory) × WritesFront b0 (head n inner) b1 → IsWritten spelled (cap (length encoding) ∷ slots) c0 b0 (refused e) c1 b1
+  head_short e h = behind_slot spelled slots (cap (length encoding)) c0 c1 c1 b0 b1 on (refused e) (head_cut n inner encoding (cap_tells inner encoding is) slots c1 c1 b0 b1 b1 e h)
 
 -- ---- lists of them
--- what a message costs that is merged, with its own units
-pub message_costs : (each : ℕ) (cost : ℕ → List ℕ → BudgetLeft) (d n : ℕ) (w : WireType) (bs : List ℕ) → w ≡ LengthDelimited → messages_cost each cost d n w bs ≡ plus (units each) (message_cost cost d n w bs)
-unfolding messages_cost message_cost
-message_costs each cost d n w bs wire = rw wire refl
-
 -- a message that was read had a level, and a length and so many bytes
 pub message_there : {X : Type 0} (merged : ℕ → X → List ℕ → Option X) (d : ℕ) (old new : X) (n : ℕ) (w : WireType) (bs p rest : List ℕ) → Payload d n w p → bs ≡ p ++ rest → message_merged merged d old n w p ≡ Some new → MessagesTakeMemory d n w bs
 unfolding message_merged

@@ -58,7 +58,7 @@ module _ (d : ℕ) where
       ∙ ap (λ (z : List ℕ). z ++ group_body d x) (front_is t p x) ∙ append_assoc t p (group_body d x)
 
   -- fields, and then more
-  body_past : (f x : List ℕ) → Join (SomeField d) f → group_body d (f ++ x) ≡ f ++ group_body d x
+  pub body_past : (f x : List ℕ) → Join (SomeField d) f → group_body d (f ++ x) ≡ f ++ group_body d x
   body_past _ x none = refl
   body_past _ x (more f r (n, w, (t, p, tag, payload, is)) j) =
       ap (group_body d) (ap (λ (z : List ℕ). (z ++ r) ++ x) is ∙ simp append_assoc) ∙ body_field t p (r ++ x) n w tag payload

@@ -1,5 +1,5 @@
 -- What is proved of repeated fields.
-use Rattle.std.proofs.Common.{◌≡◌, ℕ, ◌+◌, ◌^◌, ◌==◌, ◌<◌, Bool, true, false, List, [], ◌∷◌, ◌++◌, length, map, Some, Ok, IsOk, refl, sym, ap, subst, ◌∙◌, arith, append_assoc, append-nil, length-append}
+use Rattle.std.proofs.Common.{◌≡◌, ℕ, ◌^◌, ◌==◌, ◌<◌, Bool, true, false, List, [], ◌∷◌, ◌++◌, length, map, Some, Ok, IsOk, refl, sym, ap, subst, ◌∙◌, arith, append_assoc, append-nil, length-append}
 use Rattle.std.specs.List.{AllByRecursion}
 use Rattle.std.proofs.lemmas.List.{map-append}
 use Rattle.buffa_bytes.proofs.ContentLemmas.{content_complete, has_byte}
@@ -119,13 +119,16 @@ content_there codec d v bs x h =
 
 -- ---- sizes and encodings, element by element
 module _ {V : Type 0} (datum : V → Datum) (n : ℕ) where
-  pub element_encodings : (vs : List V) → records_encoding (element_records datum n vs) ≡ encodings (λ v. records_encoding ((n, datum v) ∷ [])) vs
+  pub elements_none : records_encoding (element_records datum n []) ≡ []
   unfolding element_records
-  element_encodings [] = refl
-  element_encodings (v ∷ vs) = λ k. sym (append-nil (tagged_encoding n (datum v))) k ++ element_encodings vs k
+  elements_none = refl
+
+  pub elements_more : (v : V) (vs : List V) → records_encoding (element_records datum n (v ∷ vs)) ≡ records_encoding ((n, datum v) ∷ []) ++ records_encoding (element_records datum n vs)
+  unfolding element_records
+  elements_more v vs = ap (λ z. z ++ records_encoding (element_records datum n vs)) (sym (append-nil (tagged_encoding n (datum v))))
 
   abbrev pub elements_by_value : ByValue V
-  elements_by_value = record { list = λ vs. records_encoding (element_records datum n vs); value = λ v. records_encoding ((n, datum v) ∷ []); is = element_encodings }
+  elements_by_value = record { list = λ vs. records_encoding (element_records datum n vs); value = λ v. records_encoding ((n, datum v) ∷ []); none = elements_none; next = elements_more }
 
   pub encoding_none : (old : List ℕ) → old ≡ old ++ records_encoding (element_records datum n [])
   unfolding element_records

@@ -25,9 +25,9 @@ use Rattle.buffa_fields_base.specs.BackFacts.{no_pieces}
 use Rattle.buffa_fields_base.specs.ValueFacts.{delimited_payload, delimited_whole}
 
 -- ---- costs
-pub message_stays : {X : Type 0} (merged : ℕ → X → List ℕ → Option X) (cost : ℕ → List ℕ → BudgetLeft) → Stays (message_cost cost)
+pub message_stays : (cost : ℕ → List ℕ → BudgetLeft) → Stays (message_cost cost)
 unfolding message_cost
-message_stays merged cost = delimited_stays (cost_of_payload cost) (λ d b x y. refl)
+message_stays cost = delimited_stays (cost_of_payload cost) (λ d b x y. refl)
 
 -- ---- the encoding
 -- what stands before a message's encoding

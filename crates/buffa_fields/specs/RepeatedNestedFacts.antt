@@ -11,7 +11,7 @@ use Rattle.buffa_wire.specs.Parse.{Fits}
 use Rattle.buffa_wire.specs.Passes.{IsNext, IsSized, IsSmall, IsWritten, cap}
 use Rattle.buffa_wire.specs.Records.{Datum, records_of, bytes}
 use Rattle.buffa_wire.proofs.ByValueLemmas.{ByValue, length_parts, one_more, parts}
-use Rattle.buffa_wire.specs.Encoding.{encodings, records_encoding}
+use Rattle.buffa_wire.specs.Encoding.{records_encoding}
 use Rattle.buffa_bytes.specs.Values.{delimited_encoding}
 use Rattle.buffa_fields_base.specs.LayoutFacts.{failed, sized_more, small_both, sum}
 use Rattle.buffa_fields.specs.ListFacts.{elements_by_value}
@@ -33,13 +33,16 @@ module _ {X : Type 0} (datum : X → Datum) (encoding slots : X → List ℕ) wh
   abbrev own : X → List ℕ
   own v = cap (length (encoding v)) ∷ slots v
 
-  slots_encodings : (vs : List X) → messages_slots encoding slots vs ≡ encodings own vs
+  slots_none : messages_slots encoding slots [] ≡ []
   unfolding messages_slots
-  slots_encodings [] = refl
-  slots_encodings (v ∷ vs) = ap (λ (z : List ℕ). own v ++ z) (slots_encodings vs)
+  slots_none = refl
+
+  slots_more : (v : X) (vs : List X) → messages_slots encoding slots (v ∷ vs) ≡ own v ++ messages_slots encoding slots vs
+  unfolding messages_slots
+  slots_more v vs = refl
 
   abbrev slots_by_value : ByValue X
-  slots_by_value = record { list = messages_slots encoding slots; value = own; is = slots_encodings }
+  slots_by_value = record { list = messages_slots encoding slots; value = own; none = slots_none; next = slots_more }
 
   module _ (n : ℕ) where
     -- no messages

@@ -47,10 +47,7 @@ fn take_element<C: MapCodec>(
         Ok(_) => {}
         Err(error) => return Err(error),
     }
-    let Ok(()) = values.push(value) else {
-        return Err(DecodeError::OutOfMemory);
-    };
-    Ok(())
+    Ok(values.push(value)?)
 }
 
 // Reads elements to the end of the bytes.

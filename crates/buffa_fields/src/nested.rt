@@ -31,7 +31,7 @@ use std::marker::PhantomData;
 #[tactic(auto, using(crate::specs::NestedFacts::record_size))]
 pub(crate) fn record_len(number: u32, inner: u64) -> u32
     requires { IsNumber number }
-    ensures { (encoding : List ℕ) → TellsLength inner encoding → result ≡ cap (length (records_encoding ((number, bytes encoding) ∷ []))) }
+    ensures { (e : List ℕ) → TellsLength inner e → result ≡ cap (length (records_encoding ((number, bytes e) ∷ []))) }
 {
     let tag = Tag::new(number, WireType::LengthDelimited).encoded_len() as u64;
     let len = prefix_len(inner) as u64;
@@ -144,7 +144,7 @@ impl<N: Message> Member for Nested<N> {
       slots = message_slots N.encoding N.slots;
       levels = message_levels N.levels;
       normal = λ v. IfThere (FitsInside N.normal N.records) v;
-      stays = message_stays N.merged N.cost;
+      stays = message_stays N.cost;
     } };
 
     #[tactic(auto, using(buffa_fields_base::specs::LayoutFacts::sized_free), unfolding(crate::specs::Nested::message_records, crate::specs::Nested::message_slots))]

@@ -80,10 +80,7 @@ fn take_element<N: Message>(
         Ok(()) => {}
         Err(error) => return Err(error),
     }
-    let Ok(()) = messages.push(message) else {
-        return Err(DecodeError::OutOfMemory);
-    };
-    Ok(())
+    Ok(messages.push(message)?)
 }
 
 // The length of the groups of messages, or 2^32 - 1 where it is more. The slots of each are appended.

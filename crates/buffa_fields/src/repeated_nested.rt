@@ -77,10 +77,7 @@ fn take_message<N: Message>(
         Ok(()) => {}
         Err(error) => return Err(error),
     }
-    let Ok(()) = messages.push(message) else {
-        return Err(DecodeError::OutOfMemory);
-    };
-    Ok(())
+    Ok(messages.push(message)?)
 }
 
 // The length of the records of messages, or 2^32 - 1 where it is more. The slots of each are appended.

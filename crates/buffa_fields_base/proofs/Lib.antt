@@ -1,3 +1,4 @@
 -- The lemmas that this crate hands out.
 pub mod StandsLemmas
+pub mod WireLemmas
 pub mod ValueLemmas

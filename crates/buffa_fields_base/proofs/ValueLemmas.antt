@@ -9,13 +9,15 @@ use Rattle.buffa_bytes.specs.WireType.{same_wire}
 use Rattle.buffa_bytes.specs.declared.error.DecodeError.{DecodeError}
 use Rattle.buffa_bytes.specs.declared.error.DecodeError.TheVariants.{OutOfMemory, WireTypeMismatch}
 use Rattle.buffa_bytes.specs.declared.wire_type.WireType.{WireType}
-use Rattle.buffa_map_base.proofs.EntryLemmas.{PaysAtMost_nothing, same_false, value_complete, value_sound}
+use Rattle.buffa_map_base.proofs.EntryLemmas.{same_false, value_complete, value_sound}
 use Rattle.buffa_map_base.specs.Codec.{Reading, RefusesValue, Spends, Tells, ValueFault, value_at}
 use Rattle.buffa_wire.proofs.KeepLemmas.{content_no_limit}
 use Rattle.buffa_wire.proofs.MessageLemmas.{NoLimit, as_no_limit}
+use Rattle.buffa_wire.proofs.SpentLemmas.{PaysAtMost_nothing}
 use Rattle.buffa_wire.specs.BudgetLeft.{BudgetLeft, nothing}
 use Rattle.buffa_wire.specs.Message.{IsLimit}
 use Rattle.buffa_wire.specs.Takes.{IsTaken, Need, Taker, Untaken}
+use Rattle.buffa_fields_base.proofs.WireLemmas.{checked_other}
 use Rattle.buffa_fields_base.specs.ValueFacts.{content_payload, open_level}
 use Rattle.buffa_fields_base.specs.Values.{all_of, field_value_at, free, value_taken}
 
@@ -26,9 +28,11 @@ module _ {X : Type 0} (takes : Taker X) (need : Need) (d n : ℕ) (w : WireType)
   refused_free f is unlimited some kept none = (PaysAtMost_nothing before after (need d n w bs) kept, λ ne. inr (none, as_no_limit e f is unlimited), λ full end. some (sym is ∙ full))
 
   -- it is of another wire type
-  pub wire_refused : (WIRE : WireType) → e ≡ WireTypeMismatch n WIRE w → after ≡ before → ((p : List ℕ) → takes d old n w p ≡ None) →
+  pub wire_refused : (WIRE : WireType) → check_wire n WIRE w ≡ Err e → after ≡ before → (w ≢ WIRE → (p : List ℕ) → takes d old n w p ≡ None) →
       IsTaken takes need d old n w bs before (let r : Result (Unit {0}) DecodeError = Err e in r) new after rest
-  wire_refused WIRE is kept none = refused_free (WireTypeMismatch n WIRE w) is (λ l. l) (λ full. cc) kept (λ p more payload split. none p)
+  wire_refused WIRE told kept none =
+      let other = checked_other n WIRE w e told in
+      refused_free (WireTypeMismatch n WIRE w) other.1 (λ l. l) (λ full. cc) kept (λ p more payload split. none other.0 p)
 
 module _ {V : Type 0} (codec : Reading V) (plain : codec.nested ≡ false)
     (no_limit : (d : ℕ) (old : V) (c : Content) (x : DecodeError) → codec.reads d old c ≡ Err x → IsLimit x → ⊥)
@@ -48,9 +52,8 @@ module _ {V : Type 0} (codec : Reading V) (plain : codec.nested ≡ false)
       (u.1, subst (λ z. Payload d n z u.1) (sym wire) (content_payload d n codec.wire u.1 u.2 u.3), u.5, rw (same, is) refl, (omega (arith, b), omega (arith, m)))
 
   -- ---- or refused
-  pub wire_err : (e : DecodeError) (x : V) (rest : List ℕ) (after : BudgetLeft) → w ≢ codec.wire → e ≡ WireTypeMismatch n codec.wire w → after ≡ before →
-      IsTaken (value_taken codec) free d v n w bs before (let r : Result (Unit {0}) DecodeError = Err e in r) x after rest
-  wire_err e x rest after other is kept = wire_refused (value_taken codec) free d n w v x bs rest before after e codec.wire is kept (λ p. rw (same_false codec.wire w other) refl)
+  pub wire_err : (e : DecodeError) → check_wire n codec.wire w ≡ Err e → IsTaken (value_taken codec) free d v n w bs before (let r : Result (Unit {0}) DecodeError = Err e in r) v before bs
+  wire_err e told = wire_refused (value_taken codec) free d n w v v bs bs before before e codec.wire told refl (λ other p. rw (same_false codec.wire w other) refl)
 
   pub none_of : (e : DecodeError) (p more : List ℕ) → bs ≡ p ++ more → value_at codec d v bs ≡ Err e → (r : Result ((V × Bool) × List ℕ) DecodeError) → value_at codec d v p ≡ r → all_of r ≡ None
   none_of e p more split h (Ok (x, [])) is =

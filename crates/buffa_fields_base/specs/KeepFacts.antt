@@ -1,5 +1,6 @@
 -- What is proved of fields that a message doesn't declare and keeps.
-use Rattle.std.proofs.Common.{◌≡◌, ◌≢◌, ◌⊎◌, inl, inr, ℕ, suc, ◌+◌, ◌<◌, ◌≤◌, List, [], ◌∷◌, ◌++◌, length, Some, Result, Ok, Err, IsOk, refl, ap, sym, subst, ◌∙◌, arith, append_assoc, append-nil}
+use Rattle.std.proofs.Common.{◌≡◌, ◌≢◌, ◌⊎◌, inl, inr, ℕ, suc, ◌+◌, ◌<◌, ◌≤◌, List, [], ◌∷◌, ◌++◌, length, Some, Result, Ok, Err, refl, ap, sym, subst, ◌∙◌, arith, append_assoc, append-nil}
+use Rattle.buffa_bytes.proofs.FieldLemmas.{ok_there}
 use Rattle.buffa_bytes.proofs.StepLemmas.{agree_err, agree_ok}
 use Rattle.buffa_bytes.specs.Field.{Group, PayloadOver}
 use Rattle.buffa_bytes.specs.Left.{past_no_payload}
@@ -23,7 +24,7 @@ use Rattle.buffa_wire.proofs.JoinLemmas.{payload_of_record, record_of_payload}
 use Rattle.buffa_wire.specs.Kept.{keep_need, kept_record_at, spent_of}
 use Rattle.buffa_fields_base.specs.Keep.{AllNumbers, IsFieldThere, KeepTakesMemory, keep_takes}
 use Rattle.buffa_fields_base.specs.PairFacts.{both_true}
-use Rattle.buffa_wire.specs.Takes.{IsTaken, Leads, Piece, ReadsBack, Untaken, joined_fields}
+use Rattle.buffa_wire.specs.Takes.{IsTaken, Leads, Piece, ReadsBack, Taker, Untaken, joined_fields}
 use Rattle.buffa_wire.proofs.SequenceLemmas.{err_same}
 use Rattle.buffa_wire.proofs.SpentLemmas.{is_there}
 use Rattle.buffa_fields_base.specs.Layout.{FieldIsRefused}
@@ -35,20 +36,30 @@ takes_record : (d n : ℕ) (w : WireType) (p : List ℕ) (x : Datum) → IsPaylo
 takes_record d n w p x payload same v = rw (all_fields d n w p p [] x payload same (sym (append-nil p))) refl
 
 -- ---- the encoding reads back
-kept_pieces : (P : ℕ → Bool) (ys : List (ℕ × Datum)) (d : ℕ) (v : List (ℕ × Datum)) (b : List ℕ) → AllNumbers P ys → Parse d b (records_of ys) →
-    (fs : List Piece) × (b ≡ joined_fields fs) × Leads keep_takes P d v fs (v ++ ys)
-kept_pieces P [] d v b ok h = ([], h, sym (append-nil v))
-kept_pieces P (y ∷ ys) d v b ok (f, r, (t, p, tag, payload, is), next, all) =
-    let more = kept_pieces P ys d (v ++ (y.0, y.1) ∷ []) r ok.1 next in
-    let one : Piece = record { tag = t; number = y.0; wire = wire_of y.1; payload = p } in (
-      one ∷ more.0,
-      all ∙ (λ i. is i ++ more.1 i),
-      (ok.0, tag, payload_of_record y.1 d y.0 p payload, v ++ (y.0, y.1) ∷ [], takes_record d y.0 (wire_of y.1) p y.1 payload refl v, subst (λ z. Leads keep_takes P d (v ++ (y.0, y.1) ∷ []) more.0 z) (append_assoc v (y ∷ []) ys) more.2),
-    )
+-- records that hold so are taken one after the other, behind those that were, by what holds them
+module _ {X : Type 0} (takes : Taker X) (P : ℕ → Bool) (d : ℕ) (set : List (ℕ × Datum) → X) (Hold : List (ℕ × Datum) → Type 0)
+    (more_hold : (y : ℕ × Datum) (ys : List (ℕ × Datum)) → Hold (y ∷ ys) → Hold ys) (has : (y : ℕ × Datum) (ys : List (ℕ × Datum)) → Hold (y ∷ ys) → P y.0 ≡ true)
+    (one : (done : List (ℕ × Datum)) (y : ℕ × Datum) (ys : List (ℕ × Datum)) (p : List ℕ) → Hold (y ∷ ys) → IsPayload d y.0 y.1 p → takes d (set done) y.0 (wire_of y.1) p ≡ Some (set (done ++ y ∷ []))) where
+  pub records_lead : (ys done : List (ℕ × Datum)) (b : List ℕ) → Hold ys → Parse d b (records_of ys) → (fs : List Piece) × (b ≡ joined_fields fs) × Leads takes P d (set done) fs (set (done ++ ys))
+  records_lead [] done b hold h = ([], h, ap set (sym (append-nil done)))
+  records_lead (y ∷ ys) done b hold (f, r, (t, p, tag, payload, is), next, all) =
+      let more = records_lead ys (done ++ y ∷ []) r (more_hold y ys hold) next in
+      let first : Piece = record { tag = t; number = y.0; wire = wire_of y.1; payload = p } in (
+        first ∷ more.0,
+        all ∙ (λ i. is i ++ more.1 i),
+        (
+          has y ys hold,
+          tag,
+          payload_of_record y.1 d y.0 p payload,
+          set (done ++ y ∷ []),
+          one done y ys p hold payload,
+          subst (λ z. Leads takes P d (set (done ++ y ∷ [])) more.0 (set z)) (append_assoc done (y ∷ []) ys) more.2,
+        ),
+      )
 
 pub keep_back : (P : ℕ → Bool) (d : ℕ) (v : List (ℕ × Datum)) → AllNumbers P v → Fits (records_of v) → height v ≤ d → ReadsBack keep_takes P d [] (records_encoding v) v
 keep_back P d v ok fits low =
-    let k = kept_pieces P v d [] (records_encoding v) ok (encoding_parses (records_of v) d fits (subst (λ k. k ≤ d) (sym (height-records v)) low)) in
+    let k = records_lead keep_takes P d (λ s. s) (AllNumbers P) (λ y ys ok. ok.1) (λ y ys ok. ok.0) (λ done y ys p ok payload. takes_record d y.0 (wire_of y.1) p y.1 payload refl done) v [] (records_encoding v) ok (encoding_parses (records_of v) d fits (subst (λ k. k ≤ d) (sym (height-records v)) low)) in
     record { pieces = k.0; spelled = k.1; leads = k.2 }
 
 pub all_numbers : (v : List (ℕ × Datum)) → AllNumbers (λ n. true) v
@@ -135,13 +146,9 @@ kept_record d n x p v h = takes_record d n (wire_of x) p x h refl v
 pub kept_costs : (d n : ℕ) (x : Datum) (p more : List ℕ) → IsPayload d n x p → keep_need d n (wire_of x) (p ++ more) ≡ unknown_fields (1 + fields_inside x)
 kept_costs d n x p more h = needed d n (wire_of x) (p ++ more) p more x h refl refl
 
-value_there : {A E : Type 0} (r : Result A E) → IsOk r → (x : A) × (r ≡ Ok x)
-value_there (Ok x) h = (x, refl)
-value_there (Err e) h = cc
-
 pub asks_kept : (s d n : ℕ) (w : WireType) (bs : List ℕ) → KeepTakesMemory s d n w bs → RecordTakesMemory d s w bs ⊎ IsFieldThere d s n w bs
 asks_kept s d n w bs (inl h) = inl h
-asks_kept s d n w bs (inr h) = let x = value_there (field_at d s n w bs) h in inr (x.0.0, x.0.1, x.0.2, agree_ok (field_at d s n w bs) x.0 (field_is_read d s n w bs) x.1)
+asks_kept s d n w bs (inr h) = let x = ok_there (field_at d s n w bs) h in inr (x.0.0, x.0.1, x.0.2, agree_ok (field_at d s n w bs) x.0 (field_is_read d s n w bs) x.1)
 
 pub kept_asks_for : (s d n : ℕ) (w : WireType) (bs : List ℕ) → RecordTakesMemory d s w bs ⊎ IsFieldThere d s n w bs → KeepTakesMemory s d n w bs
 kept_asks_for s d n w bs (inl h) = inl h

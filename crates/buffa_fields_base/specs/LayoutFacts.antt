@@ -1,6 +1,7 @@
 -- What is proved of lists of members, whatever the members.
 use Rattle.std.proofs.Common.{◌≡◌, ◌≢◌, ℕ, ◌+◌, ◌==◌, ◌≤◌, min, Bool, true, false, List, [], ◌∷◌, ◌++◌, length, Some, Result, Ok, Err, IsOk, refl, sym, ap, subst, ◌∙◌, arith, append_assoc, append-nil, length-append}
 use Rattle.std.proofs.lemmas.Bool.{eqb-true, eqb-false}
+use Rattle.buffa_bytes.proofs.ListLemmas.{nil_first, nil_second}
 use Rattle.buffa_bytes.specs.declared.wire_type.WireType.{WireType}
 use Rattle.buffa_bytes.specs.declared.wire_type.WireType.TheVariants.{EndGroup}
 use Rattle.buffa_bytes.specs.declared.error.DecodeError.{DecodeError}
@@ -128,25 +129,16 @@ is_counted rs ss z cache c1 c2 total len new (is, h, _) k e = (
   λ none. refl,
 )
 
--- where both have no slots, each has none
-first_none : (a b : List ℕ) → a ++ b ≡ [] → a ≡ []
-first_none [] b h = refl
-first_none (x ∷ a) b h = cc
-
-second_none : (a b : List ℕ) → a ++ b ≡ [] → b ≡ []
-second_none [] b h = h
-second_none (x ∷ a) b h = cc
-
 pub counted_err : (rs : List (ℕ × Datum)) (ss : List ℕ) (z : Seen) (cache : ℕ) (c1 c2 : Cache) (total : ℕ) (e : EncodeError) → IsCounted cache (sum total) c1 z →
     IsSized (records_encoding rs) ss c1 (failed e) c2 → (ss ≡ [] → IsOk (failed e)) → IsCounted cache (failed e) c2 (more rs ss z)
 unfolding IsCounted more
 counted_err rs ss z cache c1 c2 total e (is, h, _) (which, longer) always =
-    (is, (which, (z.slots ++ longer.0, longer.1 ∙ appended_twice z.slots longer.0 z.first c1 h.1)), λ none. always (second_none z.slots ss none))
+    (is, (which, (z.slots ++ longer.0, longer.1 ∙ appended_twice z.slots longer.0 z.first c1 h.1)), λ none. always (nil_second z.slots ss none))
 
 -- nothing is counted, once memory ran out
 pub counted_none : (rs : List (ℕ × Datum)) (ss : List ℕ) (z : Seen) (cache : ℕ) (c : Cache) (e : EncodeError) → IsCounted cache (failed e) c z → IsCounted cache (failed e) c (more rs ss z)
 unfolding IsCounted more
-counted_none rs ss z cache c e (is, h, always) = (is, h, λ none. always (first_none z.slots ss none))
+counted_none rs ss z cache c e (is, h, always) = (is, h, λ none. always (nil_first z.slots ss none))
 
 -- ---- encodings
 pub small_both : (t u : List ℕ) → IsSmall (t ++ u) → IsSmall t × IsSmall u

@@ -96,10 +96,7 @@ pub fn keep(
 {
     let DecodeContext { depth, budget } = ctx;
     let (field, left) = read_alone(alloc, tag, buf, depth, budget.unknown_left())?;
-    match fields.push(field) {
-        Ok(()) => {}
-        Err(_) => return Err(DecodeError::OutOfMemory),
-    }
+    fields.push(field)?;
     *budget = Budget::new(left).with_element_memory(budget.memory_left());
     Ok(())
 }

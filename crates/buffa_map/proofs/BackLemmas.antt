@@ -1,8 +1,9 @@
 -- What was written is read back.
-use Rattle.std.proofs.Common.{◌≡◌, inl, inr, ℕ, zero, suc, Option, Some, ◌+◌, ◌^◌, ◌<◌, Bool, true, false, List, [], ◌∷◌, ◌++◌, length, Ok, refl, sym, ap, subst, ◌∙◌, arith, append_assoc, append-nil, map}
+use Rattle.std.proofs.Common.{◌≡◌, inl, inr, ℕ, zero, suc, Option, Some, ◌^◌, ◌<◌, Bool, true, false, List, [], ◌∷◌, ◌++◌, length, Ok, refl, sym, ap, subst, ◌∙◌, arith, append_assoc, append-nil, map}
 use Rattle.std.specs.Cmp.{IsEquivalence}
 use Rattle.std.specs.List.{IsDistinct, AllByRecursion}
 use Rattle.std.specs.Map.{keys_of}
+use Rattle.std.proofs.lemmas.List.{map-append}
 use Rattle.buffa_bytes.specs.Content.{Content, HasContent}
 use Rattle.buffa_bytes.specs.Field.{IsTag}
 use Rattle.buffa_bytes.specs.Number.{IsNumber}
@@ -10,6 +11,7 @@ use Rattle.buffa_bytes.specs.Values.{tag_encoding}
 use Rattle.buffa_bytes.specs.Varint.{varint_encoding}
 use Rattle.buffa_bytes.specs.declared.wire_type.WireType.TheVariants.{LengthDelimited}
 use Rattle.buffa_bytes.proofs.FieldLemmas.{is_tag}
+use Rattle.buffa_bytes.proofs.ListLemmas.{AllByRecursion-last}
 use Rattle.buffa_bytes.proofs.VarintLemmas.{IsVarint-varint_encoding}
 use Rattle.buffa_map_base.specs.Codec.{Reading, Writing, level}
 use Rattle.buffa_wire.specs.BudgetLeft.{BudgetLeft}
@@ -68,8 +70,7 @@ module _ {K W : Type 0} {eq : K → K → Bool} (laws : IsEquivalence eq) where
   put-absent (e ∷ es) k v h = rw h.0 (ap (λ z. e ∷ z) (put-absent es k v h.1))
 
   apart-last : (y k : K) (m : List (K × W)) (v : W) → AllByRecursion (λ x. eq y x ≡ false) (keys_of m) → eq y k ≡ false → AllByRecursion (λ x. eq y x ≡ false) (keys_of (m ++ (k, v) ∷ []))
-  apart-last y k [] v h n = (n, tt)
-  apart-last y k (e ∷ es) v h n = (h.0, apart-last y k es v h.1 n)
+  apart-last y k m v h n = subst (AllByRecursion (λ x. eq y x ≡ false)) (sym (map-append (λ (e : K × W). e.0) m ((k, v) ∷ []))) (AllByRecursion-last (λ x. eq y x ≡ false) (keys_of m) k h n)
 
   all-apart-last : (ys : List K) (k : K) (m : List (K × W)) (v : W) → AllByRecursion (λ y. AllByRecursion (λ x. eq y x ≡ false) (keys_of m)) ys → AllByRecursion (λ y. eq k y ≡ false) ys →
       AllByRecursion (λ y. AllByRecursion (λ x. eq y x ≡ false) (keys_of (m ++ (k, v) ∷ []))) ys

@@ -1,10 +1,13 @@
 -- Messages that hold a map of their own type: their heights, slots and records, what merging a child's entry promises, and
 -- how the children are read back.
-use Rattle.std.proofs.Common.{◌≡◌, ◌≢◌, ◌^◌, ◌<◌, ◌≤◌, ℕ, zero, suc, ℤ, FitsSigned, false, true, List, [], ◌∷◌, ◌++◌, length, length-append, Option, Some, Ok, refl, sym, ap, subst, ◌∙◌, arith}
+use Rattle.std.proofs.Common.{◌≡◌, ◌≢◌, ◌^◌, ◌<◌, ◌≤◌, ℕ, zero, suc, ℤ, FitsSigned, false, true, cond, List, [], ◌∷◌, ◌++◌, length, length-append, Option, Some, Ok, refl, sym, ap, subst, ◌∙◌, arith}
+use Rattle.std.specs.BTreeMap.{insert_entry}
+use Rattle.std.specs.Cmp.{int_cmp_total}
 use Rattle.std.specs.Int.{cast_unsigned, w32, w64}
 use Rattle.std.specs.List.{Contains}
-use Rattle.std.specs.Map.{values_of}
-use Rattle.std.specs.Ordering.{int_eq}
+use Rattle.std.specs.List.Sorted.{IsStrictlySortedBy}
+use Rattle.std.specs.Map.{keys_of, values_of}
+use Rattle.std.specs.Ordering.{int_cmp, int_eq}
 use Rattle.buffa_bytes.proofs.IntLemmas.{int32_below, int32_means}
 use Rattle.buffa_bytes.proofs.VarintLemmas.{IsVarint-varint_encoding}
 use Rattle.buffa_bytes.specs.Content.{bytes, bytes_in, number}
@@ -32,6 +35,7 @@ use Rattle.buffa_map_base.specs.ScalarFacts.{never_faulty}
 use Rattle.buffa_map_base.specs.Scalars.{delimited_writing, int32_reading, int32_writing}
 use Rattle.buffa_map_base.specs.declared.map_entry.MapEntry.{MapEntry}
 use Rattle.buffa_map.proofs.BackLemmas.{IsReadBack, entry_back}
+use Rattle.buffa_map.proofs.InsertLemmas.{is_put}
 use Rattle.buffa_map.specs.Children.{AreNormalChildren, AreShort, ChildMeaning, Children, Family, IsNormalFamily, child, child_entry, child_reading, child_record_encoding, children_in, children_encoding, children_of, children_records, family, family_encoding, family_levels, family_slots, family_height, heights, levels_below, meant_children, meant_children-is, no_child, slots_below-field}
 use Rattle.buffa_map.specs.Laws.{LimitsAreTrue}
 
@@ -109,8 +113,12 @@ module _ {V : Type 0} (blank : V) (merged : ℕ → V → List ℕ → Option V)
     abbrev pub ChildRefused : DecodeError → Type 0
     ChildRefused e = RefusesEntry child_rules (state (meant_children old) [] before) bs (state (meant_children new) [] after) rest e
 
-pub meant_step : {V : Type 0} (old new : List (ℤ × V)) (s : MapEntry ℤ V) → SamePairs int_eq (step int_eq (meant_children old) s) (meant_children new) → SamePairs int_eq (step int_eq old s) new
+meant_step : {V : Type 0} (old new : List (ℤ × V)) (s : MapEntry ℤ V) → SamePairs int_eq (step int_eq (meant_children old) s) (meant_children new) → SamePairs int_eq (step int_eq old s) new
 meant_step old new s h = subst (λ xs. SamePairs int_eq (step int_eq old s) xs) (meant_children-is new) (subst (λ xs. SamePairs int_eq (step int_eq xs s) (meant_children new)) (meant_children-is old) h)
+
+pub child_put : {V : Type 0} (old new : List (ℤ × V)) (s : MapEntry ℤ V) → IsStrictlySortedBy int_cmp (keys_of old) → IsStrictlySortedBy int_cmp (keys_of new) → SamePairs int_eq (step int_eq (meant_children old) s) (meant_children new) →
+    new ≡ cond s.known (insert_entry int_cmp old s.key s.value) old
+child_put old new s a b h = is_put int_cmp_total old new s a b (meant_step old new s h)
 
 -- ---- what was written is read back
 pub int32_reads_back : (d : ℕ) (v : ℤ) → FitsSigned w32 v → IsReadBack int32_reading int32_writing d v

@@ -14,7 +14,7 @@ use Rattle.buffa_map_base.proofs.PutLemmas.{key_or, lookup_entry-put}
 
 -- ---- a run to two readers
 
--- a value to two readers: both have it, only the informed one has it, or neither
+-- a value to two readers: both have it, only the newer one has it, or neither
 pub data Kind (V : Type 0) : Type 0 where
   Both : V → Kind V
   Later : V → Kind V
@@ -35,31 +35,31 @@ put_all eq m [] = m
 put_all eq m (p ∷ ps) = put_all eq (put eq m p.0 p.1) ps
 
 module _ {K V : Type 0} where
-  -- the pairs that the ignorant reader knows
-  abbrev pub ignorant : List (K × Kind V) → List (K × V)
-  ignorant [] = []
-  ignorant (x ∷ xs) = elim x.1 as (λ _. List (K × V)) [ Both v ↦ (x.0, v) ∷ ignorant xs | Later w ↦ ignorant xs | Neither ↦ ignorant xs ]
+  -- the pairs that the older reader knows
+  abbrev pub older : List (K × Kind V) → List (K × V)
+  older [] = []
+  older (x ∷ xs) = elim x.1 as (λ _. List (K × V)) [ Both v ↦ (x.0, v) ∷ older xs | Later w ↦ older xs | Neither ↦ older xs ]
 
-  -- those that only the informed reader knows
+  -- those that only the newer reader knows
   abbrev pub later : List (K × Kind V) → List (K × V)
   later [] = []
   later (x ∷ xs) = elim x.1 as (λ _. List (K × V)) [ Both v ↦ later xs | Later w ↦ (x.0, w) ∷ later xs | Neither ↦ later xs ]
 
-  -- the last that the informed reader knows
+  -- the last that the newer reader knows
   abbrev pub last_kind : List (K × Kind V) → Kind V
   last_kind [] = Neither
   last_kind (x ∷ xs) = elim (last_kind xs) as (λ _. Kind V) [ Both v ↦ Both v | Later w ↦ Later w | Neither ↦ x.1 ]
 
-  -- the pairs that the informed reader knows
-  abbrev pub informed : List (K × Kind V) → List (K × V)
-  informed [] = []
-  informed (x ∷ xs) = elim x.1 as (λ _. List (K × V)) [ Both v ↦ (x.0, v) ∷ informed xs | Later w ↦ (x.0, w) ∷ informed xs | Neither ↦ informed xs ]
+  -- the pairs that the newer reader knows
+  abbrev pub newer : List (K × Kind V) → List (K × V)
+  newer [] = []
+  newer (x ∷ xs) = elim x.1 as (λ _. List (K × V)) [ Both v ↦ (x.0, v) ∷ newer xs | Later w ↦ (x.0, w) ∷ newer xs | Neither ↦ newer xs ]
 
   -- the order condition for the entries of one class
   abbrev pub IsOrderedKinds : List (K × Kind V) → Type 0
-  IsOrderedKinds c = later c ≢ [] → IsLater (last_kind c) × IfSome (first_key (ignorant c)) (λ k. first_key (informed c) ≡ Some k)
+  IsOrderedKinds c = later c ≢ [] → IsLater (last_kind c) × IfSome (first_key (older c)) (λ k. first_key (newer c) ≡ Some k)
 
-  -- what only the informed reader knows is nothing that the ignorant one knows
+  -- what only the newer reader knows is nothing that the older one knows
   abbrev pub AreNew : (V → Type 0) → List (K × Kind V) → Type 0
   AreNew P [] = Unit {0}
   AreNew P (x ∷ c) = elim x.1 as (λ _. Type 0) [ Both v ↦ P v × AreNew P c | Later w ↦ ((v : V) → P v → v ≢ w) × AreNew P c | Neither ↦ AreNew P c ]
@@ -128,17 +128,17 @@ module _ {K : Type 0} {eq : K → K → Bool} (laws : IsEquivalence eq) where
   ends-distinct q (p ∷ l) d = distinct q p l d (eq q p.0) refl (ends-distinct q l (IsDistinct-tail eq p.0 (keys_of l) d))
 
 module _ {K V : Type 0} (t : K → Bool) where
-  filter-informed : (xs : List (K × Kind V)) → filter (λ p. t p.0) (informed xs) ≡ informed (filter (λ x. t x.0) xs)
-  filter-informed [] = refl
-  filter-informed ((k, Both v) ∷ xs) = grind (arith, filter-informed xs)
-  filter-informed ((k, Later w) ∷ xs) = grind (arith, filter-informed xs)
-  filter-informed ((k, Neither) ∷ xs) = grind (arith, filter-informed xs)
+  filter-newer : (xs : List (K × Kind V)) → filter (λ p. t p.0) (newer xs) ≡ newer (filter (λ x. t x.0) xs)
+  filter-newer [] = refl
+  filter-newer ((k, Both v) ∷ xs) = grind (arith, filter-newer xs)
+  filter-newer ((k, Later w) ∷ xs) = grind (arith, filter-newer xs)
+  filter-newer ((k, Neither) ∷ xs) = grind (arith, filter-newer xs)
 
-  filter-ignorant : (xs : List (K × Kind V)) → filter (λ p. t p.0) (ignorant xs) ≡ ignorant (filter (λ x. t x.0) xs)
-  filter-ignorant [] = refl
-  filter-ignorant ((k, Both v) ∷ xs) = grind (arith, filter-ignorant xs)
-  filter-ignorant ((k, Later w) ∷ xs) = grind (arith, filter-ignorant xs)
-  filter-ignorant ((k, Neither) ∷ xs) = grind (arith, filter-ignorant xs)
+  filter-older : (xs : List (K × Kind V)) → filter (λ p. t p.0) (older xs) ≡ older (filter (λ x. t x.0) xs)
+  filter-older [] = refl
+  filter-older ((k, Both v) ∷ xs) = grind (arith, filter-older xs)
+  filter-older ((k, Later w) ∷ xs) = grind (arith, filter-older xs)
+  filter-older ((k, Neither) ∷ xs) = grind (arith, filter-older xs)
 
   filter-later : (xs : List (K × Kind V)) → filter (λ p. t p.0) (later xs) ≡ later (filter (λ x. t x.0) xs)
   filter-later [] = refl
@@ -159,11 +159,11 @@ LastHas P (Later w) = Unit {0}
 LastHas P Neither = Unit {0}
 
 module _ {K V : Type 0} where
-  -- what is known where the informed reader's last is known
+  -- what is known where the newer reader's last is known
   abbrev LastIs : List (K × Kind V) → Kind V → Type 0
-  LastIs c (Both u) = ((b : V) → last_of b (informed c) ≡ u) × ((a : V) → last_of a (ignorant c) ≡ u)
-  LastIs c (Later w) = ((b : V) → last_of b (informed c) ≡ w) × ((b : V) → last_of b (later c) ≡ w) × ((k : K) × (ends (later c) ≡ Some (k, w)))
-  LastIs c Neither = (informed c ≡ []) × (later c ≡ []) × (ignorant c ≡ [])
+  LastIs c (Both u) = ((b : V) → last_of b (newer c) ≡ u) × ((a : V) → last_of a (older c) ≡ u)
+  LastIs c (Later w) = ((b : V) → last_of b (newer c) ≡ w) × ((b : V) → last_of b (later c) ≡ w) × ((k : K) × (ends (later c) ≡ Some (k, w)))
+  LastIs c Neither = (newer c ≡ []) × (later c ≡ []) × (older c ≡ [])
 
   lasts-cons : (k : K) (x : Kind V) (c : List (K × Kind V)) (r : Kind V) → LastIs c r → LastIs ((k, x) ∷ c) (elim r as (λ _. Kind V) [ Both v ↦ Both v | Later w ↦ Later w | Neither ↦ x ])
   lasts-cons k (Both v) c (Both u) h = (λ b. h.0 v, λ a. h.1 v)
@@ -180,13 +180,13 @@ module _ {K V : Type 0} where
   lasts [] = (refl, refl, refl)
   lasts ((k, x) ∷ c) = lasts-cons k x c (last_kind c) (lasts c)
 
-  -- where the informed reader knows none, none is known to it alone
+  -- where the newer reader knows none, none is known to it alone
   pub nothing_known : (c : List (K × Kind V)) → last_kind c ≡ Neither → later c ≡ []
   nothing_known c h = let p : LastIs c Neither = subst (LastIs c) h (lasts c) in p.1
 
   -- the class after the rewrite, and the class as it was
   abbrev Agrees : List (K × Kind V) → Type 0
-  Agrees c = combine (ends (ignorant c)) (ends (later c)) ≡ ends (informed c)
+  Agrees c = combine (ends (older c)) (ends (later c)) ≡ ends (newer c)
 
   not_later : (k : K) (x : Kind V) (c : List (K × Kind V)) (u : V) → last_kind c ≡ Both u → IsLater (last_kind ((k, x) ∷ c)) → ⊥
   not_later k x c u e i = let P : Kind V → Type 0 = λ z. IsLater (elim z as (λ _. Kind V) [ Both v ↦ Both v | Later w ↦ Later w | Neither ↦ x ]) in subst P e i
@@ -205,7 +205,7 @@ module _ {K V : Type 0} where
   agrees-both k v c (Later w) e h o = rw (h.2.1, h.0 v) refl
   agrees-both k v c Neither e h o = rw (h.0, h.1, h.2) refl
 
-  later-values : (k : K) (w : V) (c : List (K × Kind V)) (r : Kind V) → last_kind c ≡ r → LastIs c r → IsLater (last_kind ((k, Later w) ∷ c)) → last_of w (later c) ≡ last_of w (informed c)
+  later-values : (k : K) (w : V) (c : List (K × Kind V)) (r : Kind V) → last_kind c ≡ r → LastIs c r → IsLater (last_kind ((k, Later w) ∷ c)) → last_of w (later c) ≡ last_of w (newer c)
   later-values k w c (Both u) e h o = absurd (not_later k (Later w) c u e o)
   later-values k w c (Later x) e h o = h.1 w ∙ sym (h.0 w)
   later-values k w c Neither e h o = rw (h.0, h.1) refl
@@ -220,7 +220,7 @@ module _ {K V : Type 0} where
   ordered_agrees ((k, Later w) ∷ c) o =
       let some : later ((k, Later w) ∷ c) ≢ [] = λ z. cc in
       let p = o some in
-      rw (later-keys k (ignorant c) p.1, later-values k w c (last_kind c) refl (lasts c) p.0) refl
+      rw (later-keys k (older c) p.1, later-values k w c (last_kind c) refl (lasts c) p.0) refl
   ordered_agrees ((k, Neither) ∷ c) o = ordered_agrees c (λ some. (subst IsLater (same_kind (last_kind c)) (o some).0, (o some).1))
 
   same_value : (p q : K × V) → Some p ≡ Some q → p.1 ≡ q.1
@@ -264,14 +264,14 @@ module _ {K V : Type 0} where
     ordered-both : (k : K) (v : V) (c : List (K × Kind V)) (p : K × V) (l : List (K × V)) (r : Kind V) → later c ≡ p ∷ l → last_kind c ≡ r → LastIs c r → LastHas P r → AreNew P c → Agrees ((k, Both v) ∷ c) → IsLater (last_kind ((k, Both v) ∷ c))
     ordered-both k v c p l (Both u) n e h has new a =
         let one : K × V = (k, last_of p.1 l) in
-        let two : K × V = (k, last_of v (informed c)) in
-        let Q : List (K × V) → Type 0 = λ z. combine (Some (k, last_of v (ignorant c))) (ends z) ≡ Some two in
+        let two : K × V = (k, last_of v (newer c)) in
+        let Q : List (K × V) → Type 0 = λ z. combine (Some (k, last_of v (older c))) (ends z) ≡ Some two in
         let b : Some one ≡ Some two = subst Q n a in
         absurd (new-ends c new p l n u has (sym (same_value one two b ∙ h.0 v)))
     ordered-both k v c p l (Later w) n e h has new a = is_later k (Both v) c w e
     ordered-both k v c p l Neither n e h has new a = let f : p ∷ l ≡ [] = sym n ∙ h.1 in cc
 
-    ordered-later : (k : K) (w : V) (c : List (K × Kind V)) (r : Kind V) → last_kind c ≡ r → LastIs c r → LastHas P r → AreNew P ((k, Later w) ∷ c) → last_of w (later c) ≡ last_of w (informed c) → IsLater (last_kind ((k, Later w) ∷ c))
+    ordered-later : (k : K) (w : V) (c : List (K × Kind V)) (r : Kind V) → last_kind c ≡ r → LastIs c r → LastHas P r → AreNew P ((k, Later w) ∷ c) → last_of w (later c) ≡ last_of w (newer c) → IsLater (last_kind ((k, Later w) ∷ c))
     ordered-later k w c (Both u) e h has new a = absurd (new-last c new.1 w new.0 u has (sym (a ∙ h.0 w)))
     ordered-later k w c (Later x) e h has new a = is_later k (Later w) c x e
     ordered-later k w c Neither e h has new a =
@@ -290,9 +290,9 @@ module _ {K V : Type 0} where
     agrees_ordered [] n a some = absurd (some refl)
     agrees_ordered ((k, Both v) ∷ c) n a some = (some_both k v c (later c) refl n.1 a some, refl)
     agrees_ordered ((k, Later w) ∷ c) n a some =
-        let one : K × V = (key_or k (ends (ignorant c)), last_of w (later c)) in
-        let two : K × V = (k, last_of w (informed c)) in
-        (ordered-later k w c (last_kind c) refl (lasts c) (last_has c n.1) n (same_value one two a), keys-later k (ignorant c) (same_key one two a))
+        let one : K × V = (key_or k (ends (older c)), last_of w (later c)) in
+        let two : K × V = (k, last_of w (newer c)) in
+        (ordered-later k w c (last_kind c) refl (lasts c) (last_has c n.1) n (same_value one two a), keys-later k (older c) (same_key one two a))
     agrees_ordered ((k, Neither) ∷ c) n a some = let p = agrees_ordered c n a some in (subst IsLater (sym (same_kind (last_kind c))) p.0, p.1)
 
     new_onto : (y : K × Kind V) (ys zs : List (K × Kind V)) → AreNew P (y ∷ ys) → AreNew P zs → AreNew P (y ∷ zs)
@@ -309,24 +309,24 @@ module _ {K V : Type 0} where
     new_class t (y ∷ ys) n = new_chosen (t y.0) y ys (filter (λ x. t x.0) ys) n (new_class t ys (new_tail y ys n))
 
 -- ---- whole lists
-module _ {K V : Type 0} {eq : K → K → Bool} (laws : IsEquivalence eq) (xs : List (K × Kind V)) (l : List (K × V)) (e : ListsOnce eq (put_all eq [] (ignorant xs)) l) where
+module _ {K V : Type 0} {eq : K → K → Bool} (laws : IsEquivalence eq) (xs : List (K × Kind V)) (l : List (K × V)) (e : ListsOnce eq (put_all eq [] (older xs)) l) where
   -- what the rewrite's pairs leave of a class
-  walked : (q : K) → ends (filter (λ p. eq q p.0) l) ≡ ends (ignorant (filter (λ x. eq q x.0) xs))
-  walked q = ends-distinct laws q l e.0 ∙ sym (e.1 q) ∙ lookup_entry-put_all laws q [] (ignorant xs) ∙ combine-none (ends (filter (λ p. eq q p.0) (ignorant xs))) ∙ ap ends (filter-ignorant (eq q) xs)
+  walked : (q : K) → ends (filter (λ p. eq q p.0) l) ≡ ends (older (filter (λ x. eq q x.0) xs))
+  walked q = ends-distinct laws q l e.0 ∙ sym (e.1 q) ∙ lookup_entry-put_all laws q [] (older xs) ∙ combine-none (ends (filter (λ p. eq q p.0) (older xs))) ∙ ap ends (filter-older (eq q) xs)
 
   rewritten : (m : List (K × V)) (q : K) → lookup_entry (eq q) (put_all eq m (l ++ later xs)) ≡
-      combine (lookup_entry (eq q) m) (combine (ends (ignorant (filter (λ x. eq q x.0) xs))) (ends (later (filter (λ x. eq q x.0) xs))))
+      combine (lookup_entry (eq q) m) (combine (ends (older (filter (λ x. eq q x.0) xs))) (ends (later (filter (λ x. eq q x.0) xs))))
   rewritten m q =
       lookup_entry-put_all laws q m (l ++ later xs) ∙ ap (combine (lookup_entry (eq q) m))
       (ap ends (filter-append (λ p. eq q p.0) l (later xs)) ∙ ends-append (filter (λ p. eq q p.0) l) (filter (λ p. eq q p.0) (later xs))
       ∙ ap (λ z. combine z (ends (filter (λ p. eq q p.0) (later xs)))) (walked q)
-      ∙ ap (λ z. combine (ends (ignorant (filter (λ x. eq q x.0) xs))) (ends z)) (filter-later (eq q) xs))
+      ∙ ap (λ z. combine (ends (older (filter (λ x. eq q x.0) xs))) (ends z)) (filter-later (eq q) xs))
 
-  original : (m : List (K × V)) (q : K) → lookup_entry (eq q) (put_all eq m (informed xs)) ≡ combine (lookup_entry (eq q) m) (ends (informed (filter (λ x. eq q x.0) xs)))
-  original m q = lookup_entry-put_all laws q m (informed xs) ∙ ap (λ z. combine (lookup_entry (eq q) m) (ends z)) (filter-informed (eq q) xs)
+  original : (m : List (K × V)) (q : K) → lookup_entry (eq q) (put_all eq m (newer xs)) ≡ combine (lookup_entry (eq q) m) (ends (newer (filter (λ x. eq q x.0) xs)))
+  original m q = lookup_entry-put_all laws q m (newer xs) ∙ ap (λ z. combine (lookup_entry (eq q) m) (ends z)) (filter-newer (eq q) xs)
 
-  pub kept_meaning : ((q : K) → IsOrderedKinds (filter (λ x. eq q x.0) xs)) → (m : List (K × V)) → SamePairs eq (put_all eq m (l ++ later xs)) (put_all eq m (informed xs))
+  pub kept_meaning : ((q : K) → IsOrderedKinds (filter (λ x. eq q x.0) xs)) → (m : List (K × V)) → SamePairs eq (put_all eq m (l ++ later xs)) (put_all eq m (newer xs))
   kept_meaning o m q = rewritten m q ∙ ap (combine (lookup_entry (eq q) m)) (ordered_agrees (filter (λ x. eq q x.0) xs) (o q)) ∙ sym (original m q)
 
-  pub exact : (P : V → Type 0) → AreNew P xs → SamePairs eq (put_all eq [] (l ++ later xs)) (put_all eq [] (informed xs)) → (q : K) → IsOrderedKinds (filter (λ x. eq q x.0) xs)
+  pub exact : (P : V → Type 0) → AreNew P xs → SamePairs eq (put_all eq [] (l ++ later xs)) (put_all eq [] (newer xs)) → (q : K) → IsOrderedKinds (filter (λ x. eq q x.0) xs)
   exact P n same q = agrees_ordered P (filter (λ x. eq q x.0) xs) (new_class P (eq q) xs n) (sym (combine-none _) ∙ sym (rewritten [] q) ∙ same q ∙ original [] q ∙ combine-none _)

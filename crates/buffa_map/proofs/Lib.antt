@@ -7,4 +7,5 @@ pub mod RewriteCallLemmas
 pub mod PlainLemmas
 pub mod PinLemmas
 pub mod PinEncodingLemmas
+pub mod InsertLemmas
 pub mod ChildrenLemmas

@@ -22,7 +22,7 @@ use Rattle.buffa_map_base.specs.MessageField.{IsFieldSized, IsFieldWritten, IsSm
 use Rattle.buffa_map_base.specs.Merge.{Rules, state}
 use Rattle.buffa_map_base.specs.Pairs.{ListsOnce, SamePairs, put}
 use Rattle.buffa_map.specs.PinnedEncodings.{MapFieldIsPinned, MessagesArePinned, NoneIsFull, PutIsPinned, RewriteIsPinned}
-use Rattle.buffa_map_base.specs.Rewrite.{RefusesBytes, RefusesOutput, RefusesOutputBytes, RewritesRun}
+use Rattle.buffa_map_base.specs.Rewrite.{RefusesDecoding, RefusesEncoding, RefusesRewrite, RewritesRun}
 use Rattle.buffa_map_base.specs.Run.{EntryRecord, ArePaid, Run, fold_entries, undeclared_records}
 use Rattle.buffa_map_base.specs.Encoding.{HasEncoding, RefusesField, WritesField, entry_encoding, field_encoding, saturated}
 use Rattle.buffa_map.proofs.PinLemmas.{fault_of, one_over, run_is_pinned, run_one}
@@ -108,7 +108,7 @@ module _ {K V : Type 0} (r : Rules K V) (laws : IsEquivalence r.same)
   abbrev Rewritten : ℕ → Type 0
   Rewritten m = RewritesRun r key val KeyFits ValFits A left bytes a over x old v room m
 
-  read_no_fault : (es : List (EntryRecord K V)) (f : DecodeError) → Run r.key r.val r.depth r.number bytes es → ArePaid r.key r.val r.depth r.cost r.extra left es over → RefusesBytes r left bytes b last y old w f → f ≢ decoding.OutOfMemory → ⊥
+  read_no_fault : (es : List (EntryRecord K V)) (f : DecodeError) → Run r.key r.val r.depth r.number bytes es → ArePaid r.key r.val r.depth r.cost r.extra left es over → RefusesDecoding r left bytes b last y old w f → f ≢ decoding.OutOfMemory → ⊥
   read_no_fault es f run paid k ne =
       ok_no_err (sym (run_complete r.key r.val r.depth r.number r.cost r.extra key_free val_free left bytes es over run paid)
       ∙ (run_faulty r.key r.val r.depth r.number r.cost r.extra key_free val_free left bytes f (fault_of r key_free val_free (state [] [] left) bytes (state b k.0 last) y f k.1 ne)).1)
@@ -148,7 +148,7 @@ module _ {K V : Type 0} (r : Rules K V) (laws : IsEquivalence r.same)
             ∙ ap (λ z. field_encoding key val r.number k.rewrite.0 ++ records_encoding (undeclared_records r.number z)) e ∙ sym k.rewrite.4) ∙ sym k.encoding,
       )
 
-  written_no_refusal : (m : ℕ) (h : Rewritten m) (e : EncodeError) (k : RefusesOutput r key val B left bytes b last y old w room e) → RefusesOutputBytes key val r.number (undeclared_records r.number k.entries) old w k.walk e → e ≢ OutOfMemory → ⊥
+  written_no_refusal : (m : ℕ) (h : Rewritten m) (e : EncodeError) (k : RefusesEncoding r key val B left bytes b last y old w room e) → RefusesRewrite key val r.number (undeclared_records r.number k.entries) old w k.walk e → e ≢ OutOfMemory → ⊥
   written_no_refusal m h OutOfMemory k encoding ne = ne refl
   written_no_refusal m h (GroupRefused e) k encoding ne = encoding
   written_no_refusal m h MessageTooLarge k (done, p, rest, is, has, long, whole) ne =
@@ -157,7 +157,7 @@ module _ {K V : Type 0} (r : Rules K V) (laws : IsEquivalence r.same)
       no_long key val h.rewrite.0 k.walk done p rest h.rewrite.2 (all_short key val h.rewrite.0 h.rewrite.2) is (All-permutation (IsShort key val) h.rewrite.0 k.walk turned) long
 
   -- two refused encodings
-  one_error : (d e : EncodeError) (kept more : List (ℕ × Datum)) (l m : List (K × V)) → RefusesOutputBytes key val r.number kept old v l d → RefusesOutputBytes key val r.number more old w m e →
+  one_error : (d e : EncodeError) (kept more : List (ℕ × Datum)) (l m : List (K × V)) → RefusesRewrite key val r.number kept old v l d → RefusesRewrite key val r.number more old w m e →
       d ≢ OutOfMemory → e ≢ OutOfMemory → (d ≡ e) × (l ≡ m → v ≡ w)
   one_error OutOfMemory e kept more l m h k ne nf = absurd (ne refl)
   one_error d OutOfMemory kept more l m h k ne nf = absurd (nf refl)
@@ -166,7 +166,7 @@ module _ {K V : Type 0} (r : Rules K V) (laws : IsEquivalence r.same)
   one_error MessageTooLarge MessageTooLarge kept more l m h k ne nf =
       (refl, λ same. one_refusal key val r.number old v w m (subst (λ z. RefusesField key val r.number old v z MessageTooLarge) same h) k)
 
-  two_encodings : (d e : EncodeError) (h : RefusesOutput r key val A left bytes a over x old v room d) (k : RefusesOutput r key val B left bytes b last y old w room e) →
+  two_encodings : (d e : EncodeError) (h : RefusesEncoding r key val A left bytes a over x old v room d) (k : RefusesEncoding r key val B left bytes b last y old w room e) →
       SamePairs r.same a b × (over ≡ last) × (x ≡ y) × (d ≢ OutOfMemory → e ≢ OutOfMemory → (d ≡ e) × (h.walk ≡ k.walk → v ≡ w))
   two_encodings d e h k =
       let same = same_runs h.entries k.entries h.run k.run in (

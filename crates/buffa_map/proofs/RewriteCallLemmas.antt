@@ -10,7 +10,7 @@ use Rattle.buffa_wire.specs.Encoding.{records_encoding}
 use Rattle.buffa_map_base.specs.Codec.{Reading, Writing}
 use Rattle.buffa_map_base.specs.Merge.{ReadsRun, Rules, State, StopsRun, keeping, state}
 use Rattle.buffa_map_base.specs.Pairs.{InOrder}
-use Rattle.buffa_map_base.specs.Rewrite.{RefusesOutput, RefusesOutputBytes, RewritesRun, WritesWalk}
+use Rattle.buffa_map_base.specs.Rewrite.{RefusesEncoding, RefusesRewrite, RewritesRun, WritesWalk}
 use Rattle.buffa_map_base.specs.Run.{added, undeclared_records}
 use Rattle.buffa_map_base.specs.Encoding.{field_encoding}
 use Rattle.buffa_map_base.proofs.RunLemmas.{added_records}
@@ -47,7 +47,7 @@ module _ {K V : Type 0} (rk : Reading K) (rv : Reading V) (key : Writing K) (val
   }
 
   pub refuses : (e : EncodeError) → WritesWalk eq Walks key val KeyFits ValFits n pairs kept old before {T = Unit {0}} (Err e) new after →
-      RefusesOutput (keeping rk rv eq keeps d n cost) key val Walks left bs pairs over rest old new before e
+      RefusesEncoding (keeping rk rv eq keeps d n cost) key val Walks left bs pairs over rest old new before e
   refuses e w = record {
     entries = read.entries;
     walk = w.walk;
@@ -57,7 +57,7 @@ module _ {K V : Type 0} (rk : Reading K) (rv : Reading V) (key : Writing K) (val
     once = (w.once.0, λ q. read.folded q ∙ w.once.1 q);
     walked = λ k. ordered w.walk w.walks k ∙ read.order k;
     walks = w.walks;
-    encoding = subst (λ (z : List (ℕ × Datum)). RefusesOutputBytes key val n z old new w.walk e) is_kept w.encoding;
+    encoding = subst (λ (z : List (ℕ × Datum)). RefusesRewrite key val n z old new w.walk e) is_kept w.encoding;
     room = subst (λ z. e ≡ OutOfMemory → before < length (field_encoding key val n w.walk ++ records_encoding z)) is_kept w.room;
     paid = read.paid;
     whole = read.whole;

@@ -29,7 +29,7 @@ use Rattle.buffa_map_base.specs.declared.map_entry.MapEntry.{MapEntry}
 use Rattle.buffa_wire.proofs.SequenceLemmas.{ok_same}
 use Rattle.buffa_map.proofs.BackLemmas.{as_record, plain_back, run_back}
 use Rattle.buffa_bytes.proofs.FieldLemmas.{is_tag}
-use Rattle.buffa_map.proofs.ClassLemmas.{AreNew, IsLater, IsOrderedKinds, Kind, exact, first_key, ignorant, informed, kept_meaning, last_kind, later, nothing_known, put_all}
+use Rattle.buffa_map.proofs.ClassLemmas.{AreNew, IsLater, IsOrderedKinds, Kind, exact, first_key, older, newer, kept_meaning, last_kind, later, nothing_known, put_all}
 use Rattle.buffa_map.proofs.ClassLemmas.Kind.{Both, Later, Neither}
 use Rattle.buffa_map_base.proofs.PutLemmas.{lookup_entry-none}
 use Rattle.buffa_map_base.proofs.RunLemmas.{undeclared-append, Run-join, run_complete}
@@ -192,21 +192,21 @@ unread (x ∷ es) [] = []
 unread (x ∷ es) (y ∷ fs) = cond x.parts.known (unread es fs) (y ∷ unread es fs)
 
 module _ {K : Type 0} (Normal : K → Type 0) (e : Numbers) where
-  pub ignorant-kinds : (es fs : List (EntryRecord K ℤ)) → Twins Normal e es fs → ignorant (kinds es fs) ≡ declared es
-  ignorant-kinds [] [] h = refl
-  ignorant-kinds [] (y ∷ fs) h = absurd h
-  ignorant-kinds (x ∷ es) [] h = absurd h
-  ignorant-kinds (x ∷ es) (y ∷ fs) (same, (k, n, inl (a, b, v, d)), h) = rw (a, k, v) (ap (λ z. (y.parts.key, y.parts.value) ∷ z) (ignorant-kinds es fs h))
-  ignorant-kinds (x ∷ es) (y ∷ fs) (same, (k, n, inr (inl (a, b, new))), h) = rw (a, b) (ignorant-kinds es fs h)
-  ignorant-kinds (x ∷ es) (y ∷ fs) (same, (k, n, inr (inr (a, b))), h) = rw (a, b) (ignorant-kinds es fs h)
+  pub older-kinds : (es fs : List (EntryRecord K ℤ)) → Twins Normal e es fs → older (kinds es fs) ≡ declared es
+  older-kinds [] [] h = refl
+  older-kinds [] (y ∷ fs) h = absurd h
+  older-kinds (x ∷ es) [] h = absurd h
+  older-kinds (x ∷ es) (y ∷ fs) (same, (k, n, inl (a, b, v, d)), h) = rw (a, k, v) (ap (λ z. (y.parts.key, y.parts.value) ∷ z) (older-kinds es fs h))
+  older-kinds (x ∷ es) (y ∷ fs) (same, (k, n, inr (inl (a, b, new))), h) = rw (a, b) (older-kinds es fs h)
+  older-kinds (x ∷ es) (y ∷ fs) (same, (k, n, inr (inr (a, b))), h) = rw (a, b) (older-kinds es fs h)
 
-  pub informed-kinds : (es fs : List (EntryRecord K ℤ)) → Twins Normal e es fs → informed (kinds es fs) ≡ declared fs
-  informed-kinds [] [] h = refl
-  informed-kinds [] (y ∷ fs) h = absurd h
-  informed-kinds (x ∷ es) [] h = absurd h
-  informed-kinds (x ∷ es) (y ∷ fs) (same, (k, n, inl (a, b, v, d)), h) = rw (a, b) (ap (λ z. (y.parts.key, y.parts.value) ∷ z) (informed-kinds es fs h))
-  informed-kinds (x ∷ es) (y ∷ fs) (same, (k, n, inr (inl (a, b, new))), h) = rw (a, b) (ap (λ z. (y.parts.key, y.parts.value) ∷ z) (informed-kinds es fs h))
-  informed-kinds (x ∷ es) (y ∷ fs) (same, (k, n, inr (inr (a, b))), h) = rw (a, b) (informed-kinds es fs h)
+  pub newer-kinds : (es fs : List (EntryRecord K ℤ)) → Twins Normal e es fs → newer (kinds es fs) ≡ declared fs
+  newer-kinds [] [] h = refl
+  newer-kinds [] (y ∷ fs) h = absurd h
+  newer-kinds (x ∷ es) [] h = absurd h
+  newer-kinds (x ∷ es) (y ∷ fs) (same, (k, n, inl (a, b, v, d)), h) = rw (a, b) (ap (λ z. (y.parts.key, y.parts.value) ∷ z) (newer-kinds es fs h))
+  newer-kinds (x ∷ es) (y ∷ fs) (same, (k, n, inr (inl (a, b, new))), h) = rw (a, b) (ap (λ z. (y.parts.key, y.parts.value) ∷ z) (newer-kinds es fs h))
+  newer-kinds (x ∷ es) (y ∷ fs) (same, (k, n, inr (inr (a, b))), h) = rw (a, b) (newer-kinds es fs h)
 
   pub later-kinds : (es fs : List (EntryRecord K ℤ)) → Twins Normal e es fs → declared (unread es fs) ≡ later (kinds es fs)
   later-kinds [] [] h = refl
@@ -262,7 +262,7 @@ module _ {K : Type 0} (key : Reading K) (Normal : K → Type 0) (e f : Numbers) 
 -- ---- the order condition, of kinds
 module _ {K : Type 0} where
   abbrev as_seen : K × Kind ℤ → SeenByTwo K
-  as_seen x = elim x.1 as (λ _. SeenByTwo K) [ Both v ↦ record { key = x.0; ignorant = true; informed = true } | Later w ↦ record { key = x.0; ignorant = false; informed = true } | Neither ↦ record { key = x.0; ignorant = false; informed = false } ]
+  as_seen x = elim x.1 as (λ _. SeenByTwo K) [ Both v ↦ record { key = x.0; known_to_older = true; known_to_newer = true } | Later w ↦ record { key = x.0; known_to_older = false; known_to_newer = true } | Neither ↦ record { key = x.0; known_to_older = false; known_to_newer = false } ]
 
   filter-seen : (t : K → Bool) (xs : List (K × Kind ℤ)) → filter (λ x. t x.key) (map as_seen xs) ≡ map as_seen (filter (λ x. t x.0) xs)
   filter-seen t [] = refl
@@ -289,7 +289,7 @@ module _ {K : Type 0} where
   LastSeen Neither o = o ≡ None
 
   abbrev last_known : List (K × Kind ℤ) → Option (SeenByTwo K)
-  last_known c = last (filter (λ x. x.informed) (map as_seen c))
+  last_known c = last (filter (λ x. x.known_to_newer) (map as_seen c))
 
   last_seen-cons : (k : K) (x : Kind ℤ) (c : List (K × Kind ℤ)) (r : Kind ℤ) → LastSeen r (last_known c) → LastSeen (elim r as (λ _. Kind ℤ) [ Both v ↦ Both v | Later w ↦ Later w | Neither ↦ x ]) (last_known ((k, x) ∷ c))
   last_seen-cons k (Both v) c (Both u) h = (h.0, rw h.1 refl, h.2)
@@ -306,23 +306,23 @@ module _ {K : Type 0} where
   last_seen [] = refl
   last_seen ((k, x) ∷ c) = last_seen-cons k x c (last_kind c) (last_seen c)
 
-  first_seen : (c : List (K × Kind ℤ)) (k : K) → IfSome (first (filter (λ x. x.ignorant) (map as_seen c))) (λ x. k ≡ x.key) → IfSome (first_key (ignorant c)) (λ (y : K). Some k ≡ Some y)
+  first_seen : (c : List (K × Kind ℤ)) (k : K) → IfSome (first (filter (λ x. x.known_to_older) (map as_seen c))) (λ x. k ≡ x.key) → IfSome (first_key (older c)) (λ (y : K). Some k ≡ Some y)
   first_seen [] k h = tt
   first_seen ((j, Both v) ∷ c) k h = ap (λ (z : K). Some z) h
   first_seen ((j, Later w) ∷ c) k h = first_seen c k h
   first_seen ((j, Neither) ∷ c) k h = first_seen c k h
 
-  seen_first : (c : List (K × Kind ℤ)) (k : K) → IfSome (first_key (ignorant c)) (λ (y : K). Some k ≡ Some y) → IfSome (first (filter (λ x. x.ignorant) (map as_seen c))) (λ x. k ≡ x.key)
+  seen_first : (c : List (K × Kind ℤ)) (k : K) → IfSome (first_key (older c)) (λ (y : K). Some k ≡ Some y) → IfSome (first (filter (λ x. x.known_to_older) (map as_seen c))) (λ x. k ≡ x.key)
   seen_first [] k h = tt
   seen_first ((j, Both v) ∷ c) k h = cc
   seen_first ((j, Later w) ∷ c) k h = seen_first c k h
   seen_first ((j, Neither) ∷ c) k h = seen_first c k h
 
   abbrev FirstSeen : List (K × Kind ℤ) → Type 0
-  FirstSeen c = IfSome (first (filter (λ x. x.ignorant) (map as_seen c))) (λ x. IfSome (first (filter (λ y. y.informed) (map as_seen c))) (λ y. y.key ≡ x.key))
+  FirstSeen c = IfSome (first (filter (λ x. x.known_to_older) (map as_seen c))) (λ x. IfSome (first (filter (λ y. y.known_to_newer) (map as_seen c))) (λ y. y.key ≡ x.key))
 
   abbrev FirstKind : List (K × Kind ℤ) → Type 0
-  FirstKind c = IfSome (first_key (ignorant c)) (λ k. first_key (informed c) ≡ Some k)
+  FirstKind c = IfSome (first_key (older c)) (λ k. first_key (newer c) ≡ Some k)
 
   first_kind : (c : List (K × Kind ℤ)) → FirstSeen c → FirstKind c
   first_kind [] h = tt
@@ -361,9 +361,9 @@ module _ {K : Type 0} (Normal : K → Type 0) (e : Numbers) where
   seen-kinds [] [] h = refl
   seen-kinds [] (y ∷ fs) h = absurd h
   seen-kinds (x ∷ es) [] h = absurd h
-  seen-kinds (x ∷ es) (y ∷ fs) (same, (k, n, inl (a, b, v, d)), h) = rw (a, b) (ap (λ z. record { key = y.parts.key; ignorant = true; informed = true } ∷ z) (seen-kinds es fs h))
-  seen-kinds (x ∷ es) (y ∷ fs) (same, (k, n, inr (inl (a, b, new))), h) = rw (a, b) (ap (λ z. record { key = y.parts.key; ignorant = false; informed = true } ∷ z) (seen-kinds es fs h))
-  seen-kinds (x ∷ es) (y ∷ fs) (same, (k, n, inr (inr (a, b))), h) = rw (a, b) (ap (λ z. record { key = y.parts.key; ignorant = false; informed = false } ∷ z) (seen-kinds es fs h))
+  seen-kinds (x ∷ es) (y ∷ fs) (same, (k, n, inl (a, b, v, d)), h) = rw (a, b) (ap (λ z. record { key = y.parts.key; known_to_older = true; known_to_newer = true } ∷ z) (seen-kinds es fs h))
+  seen-kinds (x ∷ es) (y ∷ fs) (same, (k, n, inr (inl (a, b, new))), h) = rw (a, b) (ap (λ z. record { key = y.parts.key; known_to_older = false; known_to_newer = true } ∷ z) (seen-kinds es fs h))
+  seen-kinds (x ∷ es) (y ∷ fs) (same, (k, n, inr (inr (a, b))), h) = rw (a, b) (ap (λ z. record { key = y.parts.key; known_to_older = false; known_to_newer = false } ∷ z) (seen-kinds es fs h))
 
   pub ordered_kinds : (eq : K → K → Bool) (es fs : List (EntryRecord K ℤ)) → Twins Normal e es fs → Ordered eq es fs → (q : K) → IsOrderedKinds (filter (λ x. eq q x.0) (kinds es fs))
   ordered_kinds eq es fs h o q = class_kinds (filter (λ x. eq q x.0) (kinds es fs)) (subst IsOrderedClass (ap (filter (λ x. eq q x.key)) (seen-kinds es fs h) ∙ filter-seen (eq q) (kinds es fs)) (o q))
@@ -418,11 +418,11 @@ module _ {K : Type 0} (key : Reading K) (write : Writing K) (same_wire : write.w
     again_folds : (m : List (K × ℤ)) → fold_entries eq m said_again ≡ put_all eq m (l ++ later (kinds es fs))
     again_folds m = fold_entries-declared eq m said_again ∙ ap (put_all eq m) again_declared
 
-    run_folds : (m : List (K × ℤ)) → fold_entries eq m fs ≡ put_all eq m (informed (kinds es fs))
-    run_folds m = fold_entries-declared eq m fs ∙ ap (put_all eq m) (sym (informed-kinds Normal e es fs t))
+    run_folds : (m : List (K × ℤ)) → fold_entries eq m fs ≡ put_all eq m (newer (kinds es fs))
+    run_folds m = fold_entries-declared eq m fs ∙ ap (put_all eq m) (sym (newer-kinds Normal e es fs t))
 
-    walks : ListsOnce eq (put_all eq [] (ignorant (kinds es fs))) l
-    walks = subst (λ z. ListsOnce eq z l) (fold_entries-declared eq [] es ∙ ap (put_all eq []) (sym (ignorant-kinds Normal e es fs t))) enum
+    walks : ListsOnce eq (put_all eq [] (older (kinds es fs))) l
+    walks = subst (λ z. ListsOnce eq z l) (fold_entries-declared eq [] es ∙ ap (put_all eq []) (sym (older-kinds Normal e es fs t))) enum
 
     again_same : Ordered eq es fs → (m : List (K × ℤ)) → SamePairs eq (fold_entries eq m said_again) (fold_entries eq m fs)
     again_same o m q =

@@ -17,7 +17,7 @@ use Rattle.buffa_map_base.specs.Message.{message_reading}
 use Rattle.buffa_map_base.specs.MessageField.{field_slots}
 use Rattle.buffa_map_base.specs.Pairs.{means}
 use Rattle.buffa_map_base.specs.Scalars.{delimited_writing, int32_writing}
-use base.Stored.{Gv, gnil, gnum, gcons}
+use base.Stored.{Gv, gnil, gcons}
 
 mutual
   pub data Family (O : Type 0) : Type 0 where

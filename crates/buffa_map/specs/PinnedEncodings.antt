@@ -12,7 +12,7 @@ use Rattle.buffa_map.specs.Laws.{ArePlain}
 use Rattle.buffa_map_base.specs.MessageField.{IsFieldSized, IsFieldWritten, IsSmallField}
 use Rattle.buffa_map_base.specs.Merge.{Rules, keeping}
 use Rattle.buffa_map_base.specs.Pairs.{InOrder, ListsOnce, SamePairs, put}
-use Rattle.buffa_map_base.specs.Rewrite.{RefusesBytes, RefusesOutput, RewritesRun}
+use Rattle.buffa_map_base.specs.Rewrite.{RefusesDecoding, RefusesEncoding, RewritesRun}
 use Rattle.buffa_map_base.specs.Encoding.{WritesField, field_size, saturated}
 
 -- two answers, of which none is told as out of memory
@@ -41,12 +41,12 @@ module _ {K V : Type 0} (r : Rules K V) (key : Writing K) (val : Writing V) (Key
   pub record RewriteIsPinned : Type 0 where
     pub rewritten : (m n : ℕ) (h : RewritesRun r key val KeyFits ValFits A left bytes a over x old v room m) (k : RewritesRun r key val KeyFits ValFits B left bytes b last y old w room n) →
         SamePairs r.same a b × (over ≡ last) × (x ≡ y) × (length v ≡ length w) × (h.rewrite.0 ≡ k.rewrite.0 → v ≡ w)
-    pub read : (m : ℕ) (f : DecodeError) → RewritesRun r key val KeyFits ValFits A left bytes a over x old v room m → RefusesBytes r left bytes b last y old w f → f ≢ decoding.OutOfMemory → ⊥
-    pub written : (m : ℕ) (e : EncodeError) → RewritesRun r key val KeyFits ValFits A left bytes a over x old v room m → RefusesOutput r key val B left bytes b last y old w room e → e ≢ OutOfMemory → ⊥
-    pub either : (f : DecodeError) (e : EncodeError) → RefusesBytes r left bytes a over x old v f → RefusesOutput r key val B left bytes b last y old w room e → f ≢ decoding.OutOfMemory → ⊥
-    pub faults : ArePlain r.key r.val → (f g : DecodeError) → RefusesBytes r left bytes a over x old v f → RefusesBytes r left bytes b last y old w g → f ≢ decoding.OutOfMemory → g ≢ decoding.OutOfMemory →
+    pub read : (m : ℕ) (f : DecodeError) → RewritesRun r key val KeyFits ValFits A left bytes a over x old v room m → RefusesDecoding r left bytes b last y old w f → f ≢ decoding.OutOfMemory → ⊥
+    pub written : (m : ℕ) (e : EncodeError) → RewritesRun r key val KeyFits ValFits A left bytes a over x old v room m → RefusesEncoding r key val B left bytes b last y old w room e → e ≢ OutOfMemory → ⊥
+    pub either : (f : DecodeError) (e : EncodeError) → RefusesDecoding r left bytes a over x old v f → RefusesEncoding r key val B left bytes b last y old w room e → f ≢ decoding.OutOfMemory → ⊥
+    pub faults : ArePlain r.key r.val → (f g : DecodeError) → RefusesDecoding r left bytes a over x old v f → RefusesDecoding r left bytes b last y old w g → f ≢ decoding.OutOfMemory → g ≢ decoding.OutOfMemory →
         (f ≡ g) × SamePairs r.same a b × (over ≡ last) × (x ≡ y) × (v ≡ w)
-    pub encodings : (d e : EncodeError) (h : RefusesOutput r key val A left bytes a over x old v room d) (k : RefusesOutput r key val B left bytes b last y old w room e) →
+    pub encodings : (d e : EncodeError) (h : RefusesEncoding r key val A left bytes a over x old v room d) (k : RefusesEncoding r key val B left bytes b last y old w room e) →
         SamePairs r.same a b × (over ≡ last) × (x ≡ y) × (d ≢ OutOfMemory → e ≢ OutOfMemory → (d ≡ e) × (h.walk ≡ k.walk → v ≡ w))
 
 -- the same by these codecs and a storage that is walked so, whatever the rules beside them

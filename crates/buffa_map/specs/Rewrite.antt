@@ -5,7 +5,7 @@ use Rattle.buffa_bytes.specs.declared.error.DecodeError.{DecodeError}
 use Rattle.buffa_bytes.specs.declared.error.EncodeError.{EncodeError}
 use Rattle.buffa_map.specs.declared.rewrite.RewriteError.{RewriteError}
 use Rattle.buffa_map.specs.declared.rewrite.RewriteError.TheVariants.{Decode, Encode}
-pub use Rattle.buffa_map_base.specs.Rewrite.{IsOrderedClass, IsRewrite, KeepsMeaning, Ordered, RefusesBytes, RefusesOutput, RefusesOutputBytes, RewritesRun, WritesRewrite, WritesWalk}
+pub use Rattle.buffa_map_base.specs.Rewrite.{IsOrderedClass, IsRewrite, KeepsMeaning, Ordered, RefusesDecoding, RefusesEncoding, RefusesRewrite, RewritesRun, WritesRewrite, WritesWalk}
 
 -- P of the fault, if the bytes were refused; and Q of the error, if the writing was
 abbrev pub MatchRefusal : RewriteError → (DecodeError → Type 0) → (EncodeError → Type 0) → Type 0

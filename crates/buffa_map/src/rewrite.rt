@@ -2,7 +2,7 @@
 
 ghost use Rattle.std.specs.Prelude.{◌≡◌, IfErr, OnOk};
 ghost use Rattle.buffa_bytes.specs.Number.{IsNumber};
-ghost use Rattle.buffa_map.specs.Calls.{ReadsAnew, RefusesRewriteIn, RewritesIn, StopsAnew, WritesWalkIn};
+ghost use Rattle.buffa_map.specs.Calls.{ReadsAnew, RefusesRunRewriteIn, RewritesRunIn, StopsAnew, WritesWalkIn};
 ghost use Rattle.buffa_map.specs.Rewrite.{rewrite_error_text};
 
 use buffa_map_base::codec::MapCodec;
@@ -112,9 +112,9 @@ pub fn rewrite_map_field<
     sink: &mut S,
 ) -> Result<(), RewriteError>
     requires { IsNumber number }
-    ensures ok { OnOk result (RewritesIn ⟦<Field<KC, VC, C> as Rewrites>⟧.rewriter number map.new
+    ensures ok { OnOk result (RewritesRunIn ⟦<Field<KC, VC, C> as Rewrites>⟧.rewriter number map.new
         B.unread buf.old buf.new ctx.entry ctx.exit S.written S.room sink.old sink.new) }
-    ensures refused { IfErr result (RefusesRewriteIn ⟦<Field<KC, VC, C> as Rewrites>⟧.rewriter number map.new
+    ensures refused { IfErr result (RefusesRunRewriteIn ⟦<Field<KC, VC, C> as Rewrites>⟧.rewriter number map.new
         B.unread buf.old buf.new ctx.entry ctx.exit S.written S.room sink.old sink.new) }
     ensures kept { B.beyond buf.new ≡ B.beyond buf.old }
 {

@@ -11,12 +11,13 @@ use Rattle.buffa_bytes.specs.declared.wire_type.WireType.{WireType}
 use Rattle.buffa_bytes.specs.declared.error.DecodeError.{DecodeError}
 use Rattle.buffa_bytes.specs.declared.error.DecodeError.TheVariants.{WireTypeMismatch}
 use Rattle.buffa_bytes.proofs.StepLemmas.{Agrees, agree_bind, agree_if, agree_ok, agree_err, agree_weaker}
-use Rattle.buffa_bytes.proofs.FieldLemmas.{tag_sound, tag_complete, tag_faulty, tag_some, payload_sound, payload_complete, payload_faulty, same_refl, same_true, tag_read}
+use Rattle.buffa_bytes.proofs.FieldLemmas.{tag_as, tag_sound, tag_complete, tag_faulty, tag_some, payload_sound, payload_complete, payload_faulty, same_refl, same_true, tag_read}
 use Rattle.buffa_bytes.proofs.ContentLemmas.{content_sound, content_complete, content_taken, content_faulty}
-use Rattle.buffa_wire.specs.BudgetLeft.{BudgetLeft, Lacks, Pays, PaysAtMost, need_by, nothing}
+use Rattle.buffa_wire.specs.BudgetLeft.{BudgetLeft, Lacks, need_by, nothing}
+use Rattle.buffa_wire.proofs.SpentLemmas.{PaysAtMost_nothing, Pays_nothing}
 use Rattle.buffa_wire.specs.Sequence.{ParsesTo}
 use Rattle.buffa_map_base.specs.Codec.{Reading, RefusesValue, Spends, Tells, ValueFault, level, value_at, value_need}
-use Rattle.buffa_map_base.specs.Entry.{CodecFault, codec_at, blanks, IsEntryField, EntryFieldFault, IsEntry, FaultOf, entry_field_at, entry_of}
+use Rattle.buffa_map_base.specs.Entry.{CodecFault, IsCodecField, codec_at, blanks, IsEntryField, EntryFieldFault, IsEntry, FaultOf, entry_field_at, entry_of}
 use Rattle.buffa_map_base.specs.declared.map_entry.MapEntry.{MapEntry}
 use Rattle.buffa_wire.proofs.SequenceLemmas.{Answers, answer, answers_as, along_sound, along_complete, along_faulty, ParsesTo-more}
 
@@ -37,12 +38,6 @@ pub check_differs : (f : ℕ) (v w : WireType) → w ≢ v → check_wire f v w 
 check_differs f v w n = rw (same_false v w n) refl
 
 -- ---- budgets
-pub Pays_nothing : (left over : BudgetLeft) (need : BudgetLeft) → need ≡ nothing → over ≡ left → Pays left need over
-Pays_nothing left over need h k = rw (h, k) (omega arith, omega arith)
-
-pub PaysAtMost_nothing : (left over : BudgetLeft) (need : BudgetLeft) → over ≡ left → PaysAtMost left need over
-PaysAtMost_nothing left over need k = rw k (omega arith, omega arith, omega arith, omega arith)
-
 -- what a codec spends, whether its payloads are nested or not
 pub spent_in : {T : Type 0} (b : Bool) (r : Result T DecodeError) (left need over : BudgetLeft) → (b ≡ false → need ≡ nothing) → Spends b r left need over → Spends true r left need over
 spent_in false (Ok x) left need over free h = Pays_nothing left over need (free refl) h
@@ -112,6 +107,11 @@ module _ {V : Type 0} (codec : Reading V) (d n : ℕ) (old : V) where
       (λ _ same. agree_weaker (value_sound codec d old bs) (λ x m. (same, m.0, m.1, m.2, m.3, m.4, m.5)) (λ e h. inr (same, h)))
       (λ e h. inl h)
 
+  -- behind a tag of the field's number that is such a field
+  codec_field : (tag bs : List ℕ) (m : ℕ) (w : WireType) (x : (V × Bool) × List ℕ) (made : MakesAt w bs x) → IsTag tag m w → m ≡ n → IsCodecField codec d n old (tag ++ made.2) x.0.0 x.0.1
+  codec_field tag bs m w x made is_tag same =
+      (tag, made.2, made.3, tag_as tag m n w codec.wire is_tag same made.0, made.1, made.4, made.5, refl)
+
   pub codec_complete : (w : WireType) (p rest : List ℕ) (c : Content) (x : V × Bool) → w ≡ codec.wire → level codec.nested d ≡ Ok tt → HasContent codec.wire p c → codec.reads d old c ≡ Ok x → codec_at codec d n old w (p ++ rest) ≡ Ok (x, rest)
   codec_complete w p rest c x same open_level h k = rw (check_same n codec.wire w same) (value_complete codec d old p rest c x open_level h k)
 
@@ -132,7 +132,7 @@ module _ {K V : Type 0} (key : Reading K) (val : Reading V) (d : ℕ) where
       (λ x m. record {
         holds = (
           u.0 ++ m.2,
-          inl (x.0.0, x.0.1, (u.0, m.2, m.3, (let tag : IsTag u.0 t.0 t.1 = u.1 in subst (λ f. IsTag u.0 f key.wire) is (subst (λ w. IsTag u.0 t.0 w) m.0 tag)), m.1, m.4, m.5, refl), refl),
+          inl (x.0.0, x.0.1, codec_field key d 1 s.key u.0 t.2 t.0 t.1 x m u.1 is, refl),
           cut_twice bs u.0 m.2 t.2 x.1 u.2 m.6,
         );
       })
@@ -143,7 +143,7 @@ module _ {K V : Type 0} (key : Reading K) (val : Reading V) (d : ℕ) where
       (λ x m. record {
         holds = (
           u.0 ++ m.2,
-          inr (inl (x.0.0, x.0.1, (u.0, m.2, m.3, (let tag : IsTag u.0 t.0 t.1 = u.1 in subst (λ f. IsTag u.0 f val.wire) is (subst (λ w. IsTag u.0 t.0 w) m.0 tag)), m.1, m.4, m.5, refl), refl)),
+          inr (inl (x.0.0, x.0.1, codec_field val d 2 s.value u.0 t.2 t.0 t.1 x m u.1 is, refl)),
           cut_twice bs u.0 m.2 t.2 x.1 u.2 m.6,
         );
       })

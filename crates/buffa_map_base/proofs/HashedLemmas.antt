@@ -24,6 +24,10 @@ pub keys-beside : {K V : Type 0} (es : List (K × V)) → keys_of (map beside es
 keys-beside [] = refl
 keys-beside (e ∷ es) = ap (λ z. e.0 ∷ z) (keys-beside es)
 
+pub values-beside : {K V : Type 0} (es : List (K × V)) → map (λ (z : K × (K × V)). z.1) (map beside es) ≡ es
+values-beside [] = refl
+values-beside (e ∷ es) = ap (λ z. e ∷ z) (values-beside es)
+
 module _ {K V : Type 0} {eq : K → K → Bool} (laws : IsEquivalence eq) where
   pub SamePairs-permutation : (es fs : List (K × V)) → IsPermutation es fs → IsDistinct eq (keys_of fs) → SamePairs eq es fs
   SamePairs-permutation es fs p d q =

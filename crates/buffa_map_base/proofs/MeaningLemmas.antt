@@ -4,7 +4,13 @@ use Rattle.std.specs.Prelude.{option_map}
 use Rattle.std.specs.Cmp.{IsEquivalence}
 use Rattle.std.specs.Map.{lookup_entry, keys_of}
 use Rattle.std.specs.List.{IsDistinct, AllByRecursion}
+use Rattle.buffa_bytes.proofs.ListLemmas.{AllByRecursion-weaker}
 use Rattle.buffa_map_base.specs.Pairs.{put, mean, SamePairs}
+
+-- what holds of what each key means
+pub means-all : {K V A B : Type 0} (f : K → A) (g : V → B) (P : A → Type 0) (es : List (K × V)) → AllByRecursion (λ k. P (f k)) (keys_of es) → AllByRecursion P (keys_of (map (mean f g) es))
+means-all f g P [] h = tt
+means-all f g P (e ∷ es) h = (h.0, means-all f g P es h.1)
 
 lookup_entry-alike : {A B : Type 0} {same : A → A → Bool} → IsEquivalence same → (q r : A) → same q r ≡ true → (es : List (A × B)) → lookup_entry (same q) es ≡ lookup_entry (same r) es
 lookup_entry-alike laws q r h [] = refl
@@ -46,8 +52,7 @@ module _ {K V A B : Type 0} (f : K → A) (g : V → B) {eq : K → K → Bool} 
   SamePairs-put_mean m n k v h q = rw (sym (put-mean m k v)) (SamePairs-mean (put eq m k v) n h q)
 
   all-mean : (x : K) (es : List (K × V)) → AllByRecursion (λ y. eq x y ≡ false) (keys_of es) → AllByRecursion (λ y. same (f x) y ≡ false) (keys_of (map (mean f g) es))
-  all-mean x [] h = h
-  all-mean x (e ∷ es) h = (sym (respects x e.0) ∙ h.0, all-mean x es h.1)
+  all-mean x es h = means-all f g (λ y. same (f x) y ≡ false) es (AllByRecursion-weaker (λ y. eq x y ≡ false) (λ y. same (f x) (f y) ≡ false) (λ y n. sym (respects x y) ∙ n) (keys_of es) h)
 
   pub IsDistinct-mean : (es : List (K × V)) → IsDistinct eq (keys_of es) → IsDistinct same (keys_of (map (mean f g) es))
   unfolding IsDistinct

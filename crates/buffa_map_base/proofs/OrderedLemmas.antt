@@ -46,7 +46,7 @@ module _ {K X : Type 0} {cmp : K → K → Ordering} (order : IsTotalOrder cmp) 
   abbrev values : List (K × X) → List X
   values es = map (λ e. e.1) es
 
-  one_order : (es fs : List (K × X)) → IsStrictlySortedBy cmp (keys_of es) → IsStrictlySortedBy cmp (keys_of fs) → ((q : K) → find es q ≡ find fs q) → values es ≡ values fs
+  pub one_order : (es fs : List (K × X)) → IsStrictlySortedBy cmp (keys_of es) → IsStrictlySortedBy cmp (keys_of fs) → ((q : K) → find es q ≡ find fs q) → values es ≡ values fs
   one_order [] [] s t h = refl
   one_order [] (y ∷ ys) s t h = absurd (none-some y.1 (h y.0 ∙ at_head y ys))
   one_order (x ∷ xs) [] s t h = absurd (none-some x.1 (sym (h x.0) ∙ at_head x xs))

@@ -9,7 +9,7 @@ use Rattle.buffa_bytes.specs.declared.wire_type.WireType.TheVariants.{LengthDeli
 use Rattle.buffa_bytes.specs.declared.error.DecodeError.{DecodeError}
 use Rattle.buffa_bytes.specs.declared.error.DecodeError.TheVariants.{ElementMemoryLimitExceeded, UnexpectedField, UnknownFieldLimitExceeded}
 use Rattle.buffa_bytes.proofs.StepLemmas.{Agrees, agree_bind, agree_if, agree_ok, agree_err, agree_weaker}
-use Rattle.buffa_bytes.proofs.FieldLemmas.{tag_sound, tag_complete, tag_faulty, tag_some, tag_read}
+use Rattle.buffa_bytes.proofs.FieldLemmas.{tag_as, tag_sound, tag_complete, takes_tag_as, tag_faulty, tag_some, tag_read}
 use Rattle.buffa_bytes.proofs.DelimitedLemmas.{delimited_sound, delimited_complete, delimited_faulty}
 use Rattle.buffa_wire.specs.BudgetLeft.{BudgetLeft, Lacks, Pays, nothing, plus, unknown_fields}
 use Rattle.buffa_bytes.specs.Content.{Content}
@@ -81,7 +81,7 @@ module _ {K V : Type 0} (key : Reading K) (val : Reading V) (d n : ℕ) where
   record_found bs mid rest g w s h same checked e (l, v, is, entry) =
       let u : TakesTag bs g w mid = agree_ok (tag_at bs) (g, w, mid) (tag_sound bs) h in
       let wire : w ≡ LengthDelimited = agree_ok (check_wire g LengthDelimited w) tt (check_sound g LengthDelimited w) checked in
-      let tag : IsTag u.0 n LengthDelimited = subst (λ f. IsTag u.0 f LengthDelimited) same (subst (λ z. IsTag u.0 g z) wire u.1) in (
+      let tag : IsTag u.0 n LengthDelimited = tag_as u.0 g n w LengthDelimited u.1 same wire in (
         u.0 ++ (l ++ e),
         (u.0, l, tag, v, refl, entry),
         u.2 ∙ ap (λ z. u.0 ++ z) (is ∙ sym (append_assoc l e rest)) ∙ sym (append_assoc u.0 (l ++ e) rest),
@@ -103,7 +103,7 @@ module _ {K V : Type 0} (key : Reading K) (val : Reading V) (d n : ℕ) where
   record_entry cost extra left bs mid g w f h same checked k =
       let u : TakesTag bs g w mid = agree_ok (tag_at bs) (g, w, mid) (tag_sound bs) h in
       let wire : w ≡ LengthDelimited = agree_ok (check_wire g LengthDelimited w) tt (check_sound g LengthDelimited w) checked in
-      inr (inr (inr (mid, subst (λ z. TakesTag bs z LengthDelimited mid) same (subst (λ z. TakesTag bs g z mid) wire u), k)))
+      inr (inr (inr (mid, takes_tag_as bs mid g n w LengthDelimited u same wire, k)))
 
   -- what is needed in a record, once its tag is read
   pub record_needs : (bs mid : List ℕ) (g : ℕ) (w : WireType) → tag_at bs ≡ Ok (g, w, mid) → record_need key val d bs ≡ inner_need key val d mid
@@ -120,9 +120,6 @@ module _ {K V : Type 0} (key : Reading K) (val : Reading V) (d n : ℕ) where
     SaidAt bs x =
         (r : List ℕ) × IsRecord key val d n r x.0 × (bs ≡ r ++ x.1)
         × ((need_of key val d cost x.0.bytes).memory ≤ left.memory) × ((need_of key val d cost x.0.bytes).unknown + cond x.0.parts.known 0 extra ≤ left.unknown)
-
-    retag : (bs rest : List ℕ) (g : ℕ) (w : WireType) → TakesTag bs g w rest → g ≡ n → w ≡ LengthDelimited → TakesTag bs n LengthDelimited rest
-    retag bs rest g w u is wire = subst (λ z. TakesTag bs z LengthDelimited rest) is (subst (λ z. TakesTag bs g z rest) wire u)
 
     -- the entry of a length
     abbrev InEntry : List ℕ → MapEntry K V → Type 0
@@ -153,7 +150,7 @@ module _ {K V : Type 0} (key : Reading K) (val : Reading V) (d n : ℕ) where
         (λ same. let is : t.0 ≡ n = eqb-true t.0 n same in
         agree_bind (check_sound n LengthDelimited t.1)
         (λ _ wire. agree_bind (delimited_sound t.2)
-        (λ e b. let tag = retag bs t.2 t.0 t.1 u is wire in agree_bind (in_sound e.0)
+        (λ e b. let tag = takes_tag_as bs t.2 t.0 n t.1 LengthDelimited u is wire in agree_bind (in_sound e.0)
         (λ s h. record {
           holds = (
             tag.0 ++ (b.0 ++ e.0),
@@ -164,7 +161,7 @@ module _ {K V : Type 0} (key : Reading K) (val : Reading V) (d n : ℕ) where
           );
         })
         (λ f h. inr (inr (inr (t.2, tag, inr (b.0, e.0, e.1, b.1, b.2, h))))))
-        (λ f short. inr (inr (inr (t.2, retag bs t.2 t.0 t.1 u is wire, inl short)))))
+        (λ f short. inr (inr (inr (t.2, takes_tag_as bs t.2 t.0 n t.1 LengthDelimited u is wire, inl short)))))
         (λ f bad. inr (inr (inl (t.1, t.2, subst (λ z. TakesTag bs z t.1 t.2) is u, bad.0, bad.1)))))
         (λ other. record { holds = inr (inl (t.0, t.1, t.2, u, eqb-false t.0 n other, refl)) }))
         (λ f h. inl h)

@@ -1,9 +1,9 @@
 -- Where readers leave what is unread.
-use Rattle.std.proofs.Common.{◌≡◌, ℕ, List, [], ◌++◌, Result, Ok, Err, length, take, drop, ap, append_assoc, refl, subst, sym, ◌∙◌, ◌<◌, ◌≤◌}
+use Rattle.std.proofs.Common.{◌≡◌, ℕ, List, ◌++◌, Ok, Err, length, take, drop, ap, append_assoc, refl, subst, sym, ◌∙◌, ◌<◌, ◌≤◌}
 use Rattle.std.proofs.lemmas.Bool.{lt-ltb}
 use Rattle.std.proofs.Math.Seq.{drop-append_seam}
 use Rattle.buffa_bytes.proofs.DelimitedLemmas.{delimited_sound, delimited_taken, taken_sound}
-use Rattle.buffa_bytes.proofs.FieldLemmas.{tag_sound}
+use Rattle.buffa_bytes.proofs.FieldLemmas.{ok_same, tag_sound}
 use Rattle.buffa_bytes.proofs.LeftLemmas.{past_cut}
 use Rattle.buffa_bytes.proofs.StepLemmas.{agree_err, agree_ok}
 use Rattle.buffa_bytes.proofs.TailLemmas.{tail_dropped}
@@ -51,14 +51,9 @@ delimited_tail bs e rest h =
     let t = agree_ok (delimited_at bs) (e, rest) (delimited_sound bs) h in
     tail_behind (t.0 ++ e) rest bs (t.2 ∙ sym (append_assoc t.0 e rest))
 
-rest_of : Result (List ℕ × List ℕ) DecodeError → List ℕ
-rest_of (Ok p) = p.1
-rest_of (Err e) = []
-
 -- one rest follows a length and so many bytes
 pub one_rest : (bs e rest x after : List ℕ) → delimited_at bs ≡ Ok (e, rest) → TakesDelimited bs x after → rest ≡ after
-unfolding rest_of
-one_rest bs e rest x after h t = ap rest_of (sym h ∙ delimited_taken bs x after t)
+one_rest bs e rest x after h t = ap (λ (p : List ℕ × List ℕ). p.1) (ok_same (sym h ∙ delimited_taken bs x after t))
 
 -- what follows so many bytes of what is unread, where a length and so many bytes were there
 pub near_rest : (n : ℕ) (bs mid unread e rest : List ℕ) → delimited_at bs ≡ taken n mid → TakesDelimited bs e rest → IsTailOf (drop n mid) unread → IsTailOf rest unread
@@ -66,31 +61,15 @@ near_rest n bs mid unread e rest same t near =
     let k = agree_ok (taken n mid) (e, rest) (taken_sound n mid) (sym same ∙ delimited_taken bs e rest t) in
     subst (λ z. IsTailOf z unread) (ap (λ z. drop z mid) (sym k.0) ∙ ap (drop (length e)) k.1 ∙ drop-append_seam e rest) near
 
-number_of : Result (ℕ × WireType × List ℕ) DecodeError → ℕ
-number_of (Ok t) = t.0
-number_of (Err e) = 0
-
-wire_of : WireType → Result (ℕ × WireType × List ℕ) DecodeError → WireType
-wire_of v (Ok t) = t.1
-wire_of v (Err e) = v
-
--- one number and one wire type
+-- one number, one wire type, and one rest follows a tag
 pub one_number : (bs a b : List ℕ) (m n : ℕ) (v w : WireType) → tag_at bs ≡ Ok (m, v, a) → tag_at bs ≡ Ok (n, w, b) → m ≡ n
-unfolding number_of
-one_number bs a b m n v w h k = ap number_of (sym h ∙ k)
+one_number bs a b m n v w h k = ap (λ (t : ℕ × WireType × List ℕ). t.0) (ok_same (sym h ∙ k))
 
 pub one_wire : (bs a b : List ℕ) (m n : ℕ) (v w : WireType) → tag_at bs ≡ Ok (m, v, a) → tag_at bs ≡ Ok (n, w, b) → v ≡ w
-unfolding wire_of
-one_wire bs a b m n v w h k = ap (wire_of v) (sym h ∙ k)
+one_wire bs a b m n v w h k = ap (λ (t : ℕ × WireType × List ℕ). t.1) (ok_same (sym h ∙ k))
 
-after_of : Result (ℕ × WireType × List ℕ) DecodeError → List ℕ
-after_of (Ok t) = t.2
-after_of (Err e) = []
-
--- one rest follows a tag
 pub one_after : (bs a b : List ℕ) (m n : ℕ) (v w : WireType) → tag_at bs ≡ Ok (m, v, a) → tag_at bs ≡ Ok (n, w, b) → a ≡ b
-unfolding after_of
-one_after bs a b m n v w h k = ap after_of (sym h ∙ k)
+one_after bs a b m n v w h k = ap (λ (t : ℕ × WireType × List ℕ). t.2) (ok_same (sym h ∙ k))
 
 -- where no tag begins them, none does
 pub no_tag : {P : Type 0} (bs : List ℕ) (f : DecodeError) → tag_at bs ≡ Err f → (n : ℕ) (w : WireType) (rest : List ℕ) → tag_at bs ≡ Ok (n, w, rest) → P

@@ -17,7 +17,7 @@ use Rattle.buffa_bytes.specs.declared.wire_type.WireType.TheVariants.{LengthDeli
 use Rattle.buffa_map_base.specs.Codec.{Writing}
 use Rattle.buffa_map_base.specs.Pairs.{ListsOnce}
 use Rattle.buffa_map_base.specs.Encoding.{entry_encoding, field_size, field_encoding, saturated}
-use Rattle.buffa_map_base.proofs.HashedLemmas.{beside, keys-beside, lookup-beside}
+use Rattle.buffa_map_base.proofs.HashedLemmas.{beside, keys-beside, lookup-beside, values-beside}
 use Rattle.buffa_map_base.proofs.SizeLemmas.{counted_size, length-field_encoding}
 
 -- ---- values under keys that differ: equal look-ups give equal values, in some order
@@ -65,16 +65,12 @@ module _ {K X : Type 0} {eq : K → K → Bool} (laws : IsEquivalence eq) where
 
 -- ---- two walks
 
-values_beside : {K V : Type 0} (l : List (K × V)) → map (λ (z : K × (K × V)). z.1) (map beside l) ≡ l
-values_beside [] = refl
-values_beside (p ∷ ps) = ap (λ z. p ∷ z) (values_beside ps)
-
 module _ {K V : Type 0} {eq : K → K → Bool} (laws : IsEquivalence eq) where
   pub permuted : (m a b : List (K × V)) → ListsOnce eq m a → ListsOnce eq m b → IsPermutation a b
   permuted m a b x y =
       let apart : (l : List (K × V)) → IsDistinct eq (keys_of l) → IsDistinct eq (keys_of (map beside l)) = λ l d. subst (λ z. IsDistinct eq z) (sym (keys-beside l)) d in
       let found = reordered laws (map beside a) (map beside b) (apart a x.0) (apart b y.0) (λ q. lookup-beside (eq q) a ∙ sym (x.1 q) ∙ y.1 q ∙ sym (lookup-beside (eq q) b)) in
-      subst (λ z. IsPermutation z b) (values_beside a) (subst (λ z. IsPermutation (map (λ e. e.1) (map beside a)) z) (values_beside b) found)
+      subst (λ z. IsPermutation z b) (values-beside a) (subst (λ z. IsPermutation (map (λ e. e.1) (map beside a)) z) (values-beside b) found)
 
   -- a walk has as many pairs as the map
   pub one_count : (m l : List (K × V)) → IsDistinct eq (keys_of m) → ListsOnce eq m l → length l ≡ length m

@@ -153,7 +153,7 @@ module _ {K V M B D : Type 0} (w : Rewriter K V M) (n : ℕ) (map : M) (unread :
 
   -- a run was rewritten
   module _ {S : Type 0} (written : S → List ℕ) (room : S → ℕ) (old new : S) where
-    abbrev pub RewritesIn : Type 0
-    RewritesIn =
+    abbrev pub RewritesRunIn : Type 0
+    RewritesRunIn =
         RewritesRun (w.reader.rules ctx.depth n) w.key w.val w.KeyFits w.ValFits (w.Walks map) ctx.budget.now (unread before) (w.reader.pairs map) (budget_left left) (unread after)
         (written old) (written new) (room old) (room new)

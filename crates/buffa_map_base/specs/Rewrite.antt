@@ -1,5 +1,5 @@
--- Rewrites: a reader of one enum reads a run, and writes the map and behind it the entries that it doesn't
--- know. And when that means to a reader of another enum, who knows more, what the run means.
+-- Rewrites: an older reader, of one enum, reads a run, and writes the map and behind it the entries that it doesn't
+-- know. And when that means to a newer reader, whose enum declares more, what the run means.
 use Rattle.std.specs.Prelude.{◌≡◌, ◌≢◌, ◌+◌, ◌<◌, ◌≤◌, length, ℕ, Bool, true, ◌&&◌, not, List, [], ◌∷◌, ◌++◌, ◌⊎◌, Option, None, Some, IfSome, OnOk, Result, MatchResult}
 use Rattle.std.specs.List.{filter}
 use Rattle.buffa_wire.specs.BudgetLeft.{BudgetLeft}
@@ -21,21 +21,21 @@ abbrev pub IsRewrite : {K V : Type 0} → (K → K → Bool) → Writing K → W
 IsRewrite {K} {V} eq key val KeyFits ValFits n es out =
     (l : List (K × V)) × ListsOnce eq (fold_entries eq [] es) l × HasEncoding key val l × AllHold KeyFits ValFits l × (out ≡ field_encoding key val n l ++ records_encoding (undeclared_records n es))
 
--- an entry to two readers of one run: its key, and whether its value is one that the first, and that the second reader's enum declares
+-- an entry to two readers of one run: its key, and whether the older reader's enum declares its value, and the newer's
 pub record SeenByTwo (K : Type 0) : Type 0 where
   pub key : K
-  pub ignorant : Bool
-  pub informed : Bool
+  pub known_to_older : Bool
+  pub known_to_newer : Bool
 
 -- the entries of one run, read by two readers
 abbrev pub seen : {K V : Type 0} → List (EntryRecord K V) → List (EntryRecord K V) → List (SeenByTwo K)
 seen [] fs = []
 seen (x ∷ es) [] = []
-seen (x ∷ es) (y ∷ fs) = record { key = y.parts.key; ignorant = x.parts.known; informed = y.parts.known } ∷ seen es fs
+seen (x ∷ es) (y ∷ fs) = record { key = y.parts.key; known_to_older = x.parts.known; known_to_newer = y.parts.known } ∷ seen es fs
 
--- only the informed reader's enum declares it
+-- only the newer reader's enum declares it
 abbrev pub is_new : {K : Type 0} → SeenByTwo K → Bool
-is_new x = x.informed && not x.ignorant
+is_new x = x.known_to_newer && not x.known_to_older
 
 abbrev pub first : {A : Type 0} → List A → Option A
 first [] = None
@@ -45,20 +45,20 @@ abbrev pub last : {A : Type 0} → List A → Option A
 last [] = None
 last {A} (x ∷ xs) = elim (last xs) as (λ _. Option A) [ None ↦ Some x | Some y ↦ Some y ]
 
--- Of the entries with one key: if one is new, then the last that the informed reader knows is new, and the
--- first that it knows has the very key of the first that the ignorant one knows, if that knows any.
+-- Of the entries with one key: if one is new, then the last that the newer reader knows is new, and the
+-- first that it knows has the very key of the first that the older one knows, if that knows any.
 abbrev pub IsOrderedClass : {K : Type 0} → List (SeenByTwo K) → Type 0
 IsOrderedClass xs =
     filter is_new xs ≢ [] →
-    IfSome (last (filter (λ x. x.informed) xs)) (λ x. is_new x ≡ true)
-    × IfSome (first (filter (λ x. x.ignorant) xs)) (λ x. IfSome (first (filter (λ y. y.informed) xs)) (λ y. y.key ≡ x.key))
+    IfSome (last (filter (λ x. x.known_to_newer) xs)) (λ x. is_new x ≡ true)
+    × IfSome (first (filter (λ x. x.known_to_older) xs)) (λ x. IfSome (first (filter (λ y. y.known_to_newer) xs)) (λ y. y.key ≡ x.key))
 
 -- the order condition, for each class of entries with equal keys
 abbrev pub Ordered : {K V : Type 0} → (K → K → Bool) → List (EntryRecord K V) → List (EntryRecord K V) → Type 0
 Ordered {K} eq es fs = (q : K) → IsOrderedClass (filter (λ x. eq q x.key) (seen es fs))
 
--- What the entries gs of a rewrite have to do with the entries fs of the run, both as the informed reader has
--- them, where es are the run's to the ignorant one. What the informed reader keeps is kept, in order; if the
+-- What the entries gs of a rewrite have to do with the entries fs of the run, both as the newer reader has
+-- them, where es are the run's to the older one. What the newer reader keeps is kept, in order; if the
 -- run is ordered, both make one map of any old map; and only then do both make one map of the empty one.
 abbrev pub KeepsMeaning : {K V : Type 0} → (K → K → Bool) → List (EntryRecord K V) → List (EntryRecord K V) → List (EntryRecord K V) → Type 0
 KeepsMeaning {K} {V} eq es fs gs =
@@ -71,16 +71,16 @@ KeepsMeaning {K} {V} eq es fs gs =
 module _ {K V : Type 0} (key : Writing K) (val : Writing V) (n : ℕ) (kept : List (ℕ × Datum)) (old new : List ℕ) where
   -- Memory ran out in the encoding of l, or behind it, after a beginning of the kept records; or an entry of l is too
   -- long, and the records of the pairs before it were written.
-  abbrev pub RefusesOutputBytes : List (K × V) → EncodeError → Type 0
-  RefusesOutputBytes l OutOfMemory =
+  abbrev pub RefusesRewrite : List (K × V) → EncodeError → Type 0
+  RefusesRewrite l OutOfMemory =
       RefusesField key val n old new l OutOfMemory
       ⊎ (HasEncoding key val l × WritesFront (old ++ field_encoding key val n l) (records_encoding kept) new)
-  RefusesOutputBytes l MessageTooLarge = RefusesField key val n old new l MessageTooLarge
-  RefusesOutputBytes l (GroupRefused e) = ⊥
+  RefusesRewrite l MessageTooLarge = RefusesField key val n old new l MessageTooLarge
+  RefusesRewrite l (GroupRefused e) = ⊥
 
   -- the encoding of l and of the kept records was written, or refused
   abbrev pub WritesRewrite : {T : Type 0} → Result T EncodeError → List (K × V) → Type 0
-  WritesRewrite r l = MatchResult r (λ _. HasEncoding key val l × (new ≡ old ++ (field_encoding key val n l ++ records_encoding kept))) (RefusesOutputBytes l)
+  WritesRewrite r l = MatchResult r (λ _. HasEncoding key val l × (new ≡ old ++ (field_encoding key val n l ++ records_encoding kept))) (RefusesRewrite l)
 
 -- a map was walked once, and its encoding and the kept records' were written, or refused; what had room wasn't
 -- refused
@@ -110,12 +110,12 @@ pub record RewritesRun {K V : Type 0} (r : Rules K V) (key : Writing K) (val : W
   pub whole : rest ≡ []
 
 -- f is why the bytes were refused; the entries before it stand in the map, and nothing was written
-abbrev pub RefusesBytes : {K V : Type 0} → Rules K V → BudgetLeft → List ℕ → List (K × V) → BudgetLeft → List ℕ → List ℕ → List ℕ → DecodeError → Type 0
-RefusesBytes r left bytes new over unread old written f =
+abbrev pub RefusesDecoding : {K V : Type 0} → Rules K V → BudgetLeft → List ℕ → List (K × V) → BudgetLeft → List ℕ → List ℕ → List ℕ → DecodeError → Type 0
+RefusesDecoding r left bytes new over unread old written f =
     (kept : List (ℕ × Datum)) × StopsRun r (state [] [] left) bytes (state new kept over) unread f × (written ≡ old)
 
 -- the records were read, and e is why the encoding wasn't written whole: out of memory only where it has no room
-pub record RefusesOutput {K V : Type 0} (r : Rules K V) (key : Writing K) (val : Writing V) (Walks : List (K × V) → Type 0) (left : BudgetLeft) (bytes : List ℕ) (new : List (K × V)) (over : BudgetLeft) (rest : List ℕ) (old written : List ℕ) (before : ℕ) (e : EncodeError) : Type 0 where
+pub record RefusesEncoding {K V : Type 0} (r : Rules K V) (key : Writing K) (val : Writing V) (Walks : List (K × V) → Type 0) (left : BudgetLeft) (bytes : List ℕ) (new : List (K × V)) (over : BudgetLeft) (rest : List ℕ) (old written : List ℕ) (before : ℕ) (e : EncodeError) : Type 0 where
   pub entries : List (EntryRecord K V)
   pub walk : List (K × V)
   pub run : Run r.key r.val r.depth r.number bytes entries
@@ -124,7 +124,7 @@ pub record RefusesOutput {K V : Type 0} (r : Rules K V) (key : Writing K) (val :
   pub once : ListsOnce r.same (fold_entries r.same [] entries) walk
   pub walked : InOrder r.keeps_order (fold_entries r.same [] entries) walk
   pub walks : Walks walk
-  pub encoding : RefusesOutputBytes key val r.number (undeclared_records r.number entries) old written walk e
+  pub encoding : RefusesRewrite key val r.number (undeclared_records r.number entries) old written walk e
   pub room : e ≡ OutOfMemory → before < length (field_encoding key val r.number walk ++ records_encoding (undeclared_records r.number entries))
   pub paid : ArePaid r.key r.val r.depth r.cost r.extra left entries over
   pub whole : rest ≡ []

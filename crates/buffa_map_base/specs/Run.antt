@@ -53,7 +53,7 @@ module _ {K V : Type 0} (key : Reading K) (val : Reading V) (d : ℕ) where
   inner_needs [] = nothing
   inner_needs (x ∷ xs) = plus (need_at key val d (blanks key val d) x.bytes) (inner_needs xs)
 
-  -- over is over of left after these entries, each of which costs some units of element memory and what the
+  -- over is what is left of left after these entries, each of which costs some units of element memory and what the
   -- messages in it cost, and each one that is undeclared some of the unknown fields left
   abbrev pub ArePaid : ℕ → ℕ → BudgetLeft → List (EntryRecord K V) → BudgetLeft → Type 0
   ArePaid cost extra left es over =

@@ -57,7 +57,7 @@ pub trait Lends: Reads {
 /// Names what rewrites a map field.
 ///
 /// ```ignore
-/// ensures ok { OnOk result (RewritesIn ⟦<Field<KC, VC, C> as Rewrites>⟧.rewriter number map.new ..
+/// ensures ok { OnOk result (RewritesRunIn ⟦<Field<KC, VC, C> as Rewrites>⟧.rewriter number map.new ..
 /// ```
 pub trait Rewrites: Reads {
     /// What reads it, and how its encoding is written.

@@ -2,6 +2,7 @@
 use Rattle.std.proofs.Common.{arith, ◌≡◌, ◌≢◌, ◌+◌, ◌<◌, ◌≤◌, inl, inr, ℕ, Bool, false, List, [], Ok, Err, length, ap, refl, subst, sym, ◌∙◌}
 use Rattle.std.proofs.lemmas.List.{nil_from_length}
 use Rattle.buffa_wire.proofs.SequenceLemmas.{not_nil}
+use Rattle.buffa_bytes.proofs.FieldLemmas.{tag_at_as}
 use Rattle.buffa_bytes.proofs.FullLemmas.{skip_no_full, tag_no_full}
 use Rattle.buffa_bytes.specs.declared.error.DecodeError.{DecodeError}
 use Rattle.buffa_bytes.specs.declared.error.DecodeError.TheVariants.{OutOfMemory}
@@ -29,9 +30,6 @@ module _ {K V : Type 0} (key : Reading K) (val : Reading V) (d : ℕ) (s : MapEn
   no_tag f h = refused f (tag_no_full bs f h) (λ ne. field_broken key val d s bs f (rw h refl))
 
   module _ (n : ℕ) (w : WireType) (rest : List ℕ) (tag : tag_at bs ≡ Ok (n, w, rest)) where
-    tag_as : (m : ℕ) (v : WireType) → n ≡ m → w ≡ v → tag_at bs ≡ Ok (m, v, rest)
-    tag_as m v same wire = subst (λ (z : WireType). tag_at bs ≡ Ok (m, z, rest)) wire (subst (λ (z : ℕ). tag_at bs ≡ Ok (z, w, rest)) same tag)
-
     module _ (one : n ≡ 1) (v : WireType) (is : v ≡ key.wire) where
       pub wrong_key : (f : DecodeError) → check_wire n v w ≡ Err f → RefusesEntryField key val d s left bs left f
       wrong_key f h = refused f (mismatch_no_full n v w f h) (λ ne. key_mismatch key val d s bs rest n v w f tag one is h)
@@ -43,7 +41,7 @@ module _ {K V : Type 0} (key : Reading K) (val : Reading V) (d : ℕ) (s : MapEn
           let paid : PaysAtMost left (value_need key d rest) over = spent_in {T = T} key.nested (Err f) left (value_need key d rest) over (λ plain. value_free key d s.key rest (free plain)) spent in
           record {
             fault = λ ne. key_refused key val d s bs rest n w left f tag one same (refused_in key d s.key key.nested rest left f (fault ne));
-            full = λ out. inl (rest, tag_as 1 key.wire one same, full out);
+            full = λ out. inl (rest, tag_at_as bs rest n 1 w key.wire tag one same, full out);
             pays = subst (λ z. PaysAtMost left z over) (sym (need-key key val d bs rest n w tag one same)) paid;
           }
 
@@ -59,7 +57,7 @@ module _ {K V : Type 0} (key : Reading K) (val : Reading V) (d : ℕ) (s : MapEn
             let paid : PaysAtMost left (value_need val d rest) over = spent_in {T = T} val.nested (Err f) left (value_need val d rest) over (λ plain. value_free val d s.value rest (free plain)) spent in
             record {
               fault = λ ne. value_refused key val d s bs rest n w left f tag not_one two same (refused_in val d s.value val.nested rest left f (fault ne));
-              full = λ out. inr (rest, tag_as 2 val.wire two same, full out);
+              full = λ out. inr (rest, tag_at_as bs rest n 2 w val.wire tag two same, full out);
               pays = subst (λ z. PaysAtMost left z over) (sym (need-value key val d bs rest n w tag not_one two same)) paid;
             }
 

@@ -2,7 +2,7 @@
 use Rattle.std.proofs.Common.{arith, ◌≡◌, ◌≢◌, ◌<◌, ◌++◌, ◌⊎◌, inl, inr, ℕ, List, [], ◌∷◌, Ok, Err, ap, append-nil, append_assoc, length, refl, subst, sym, ◌∙◌}
 use Rattle.std.specs.Cmp.{IsEquivalence}
 use Rattle.std.proofs.lemmas.List.{nil_from_length}
-use Rattle.buffa_bytes.proofs.FieldLemmas.{tag_falls}
+use Rattle.buffa_bytes.proofs.FieldLemmas.{tag_at_as, tag_falls}
 use Rattle.buffa_bytes.proofs.FullLemmas.{tag_no_full}
 use Rattle.buffa_bytes.proofs.StepLemmas.{agree_err, agree_ok}
 use Rattle.buffa_bytes.specs.declared.error.DecodeError.{DecodeError}
@@ -102,7 +102,7 @@ module _ {K V : Type 0} (r : Rules K V) (old : State K V) (bs : List ℕ) where
         pub stop_entry : (new : State K V) (unread : List ℕ) (f : DecodeError) → RefusesEntry r now mid new unread f → StopsRun r old bs new unread f
         stop_entry new unread f k =
             let is_wire : w ≡ LengthDelimited = agree_ok (check_wire g LengthDelimited w) tt (check_sound g LengthDelimited w) wire in
-            let found : tag_at rest ≡ Ok (r.number, LengthDelimited, mid) = subst (λ (z : WireType). tag_at rest ≡ Ok (r.number, z, mid)) is_wire (subst (λ (z : ℕ). tag_at rest ≡ Ok (z, w, mid)) same tag) in
+            let found = tag_at_as rest mid g r.number w LengthDelimited tag same is_wire in
             let need = record_needs r.key r.val r.depth r.number rest mid g w tag in
             let units = ap (λ (z : BudgetLeft). z.memory) need in
             let taken = ap (λ (z : BudgetLeft). z.unknown) need in

@@ -95,10 +95,7 @@ fn put_pair<C: MapStorage>(
     ensures err { OnErr result (C.pairs map.new ≡ C.pairs map.old) }
     ensures full { IfErr result (λ e. e ≡ OutOfMemory) }
 {
-    let Ok(()) = map.storage_insert(parts.key, parts.value) else {
-        return Err(DecodeError::OutOfMemory);
-    };
-    Ok(())
+    Ok(map.storage_insert(parts.key, parts.value)?)
 }
 
 // Merges an entry, all of the bytes: its pair is put, and one that is undeclared goes to the keeper.

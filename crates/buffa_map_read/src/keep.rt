@@ -128,17 +128,8 @@ impl Keeper for UnknownFields {
         budget: &mut Budget,
     ) -> Result<(), DecodeError> {
         budget.take_unknown()?;
-        let Ok(kept) = Vec::from_slice(alloc, entry) else {
-            return Err(DecodeError::OutOfMemory);
-        };
-        let field = UnknownField {
-            number,
-            payload: UnknownFieldData::LengthDelimited(kept),
-        };
-        match self.push(field) {
-            Ok(()) => Ok(()),
-            Err(_) => Err(DecodeError::OutOfMemory),
-        }
+        let payload = UnknownFieldData::LengthDelimited(Vec::from_slice(alloc, entry)?);
+        Ok(self.push(UnknownField { number, payload })?)
     }
 
     ghost drops = { λ none. cc };

@@ -1,5 +1,5 @@
 -- Records written one after another.
-use Rattle.std.proofs.Common.{◌≡◌, ℕ, ◌+◌, ◌^◌, ◌<◌, ◌≤◌, List, [], ◌∷◌, ◌++◌, length, arith, Result, Err, inl, inr, refl, sym, ap, subst, ◌∙◌, append_assoc, append-nil, length-append}
+use Rattle.std.proofs.Common.{◌≡◌, ℕ, ◌+◌, ◌^◌, ◌<◌, ◌≤◌, List, [], ◌∷◌, ◌++◌, length, arith, Result, Err, OnOk, inl, inr, refl, sym, ap, subst, ◌∙◌, append_assoc, append-nil, length-append}
 use Rattle.std.proofs.lemmas.Result.{MatchResult-weaker}
 use Rattle.buffa_bytes.specs.Varint.{varint_encoding}
 use Rattle.buffa_bytes.specs.Values.{tag_encoding}
@@ -7,19 +7,19 @@ use Rattle.buffa_bytes.specs.Written.{UsesRoom, Writes, WritesFront}
 use Rattle.buffa_bytes.specs.declared.wire_type.WireType.TheVariants.{LengthDelimited}
 use Rattle.buffa_bytes.specs.declared.error.EncodeError.{EncodeError}
 use Rattle.buffa_bytes.specs.declared.error.EncodeError.TheVariants.{MessageTooLarge, GroupRefused, OutOfMemory}
-use Rattle.buffa_bytes.proofs.SinkLemmas.{front_first, front_second}
+use Rattle.buffa_bytes.proofs.ListLemmas.{AllByRecursion-last}
+use Rattle.buffa_bytes.proofs.SinkLemmas.{front_first, front_second, room_then}
+use Rattle.buffa_wire.proofs.ByValueLemmas.{ByValue, length_cut, length_last, write_last}
 use Rattle.buffa_wire.specs.Records.{Datum}
 use Rattle.buffa_wire.specs.Encoding as records
 use Rattle.buffa_map_base.specs.Codec.{Writing}
 use Rattle.buffa_map_base.specs.Pairs.{means}
-use Rattle.buffa_map_base.specs.Rewrite.{RefusesOutputBytes, WritesRewrite}
+use Rattle.buffa_map_base.specs.Rewrite.{RefusesRewrite, WritesRewrite}
 use Rattle.buffa_map_base.specs.Encoding.{entry_encoding, record_encoding, field_encoding, AllHold, HasEncoding, RefusesRecord, WritesRecord, RefusesField, UsesRoomOf, WritesField}
 
 -- the room of two encodings, of which the first was written
 pub room_of_both : {T : Type 0} (r : Result T EncodeError) (room mid left : ℕ) (a b : List ℕ) → room ≤ mid + length a → UsesRoom r mid b left → UsesRoomOf r room (a ++ b) left
-room_of_both r room mid left a b wrote h = MatchResult-weaker r h
-    (λ x w. omega (arith, wrote, w, length-append a b))
-    (λ x w _. omega (arith, wrote, w, length-append a b))
+room_of_both r room mid left a b wrote h = MatchResult-weaker r (room_then r room mid left a b wrote h) (λ x w. w) (λ e w _. w)
 
 -- a refusal of the first of two encodings, as `?` hands it on
 pub no_room_for_both : {T : Type 0} {r : Result T EncodeError} {e d : EncodeError} → r ≡ Err e → e ≡ d → (room left : ℕ) (a b : List ℕ) → (d ≡ OutOfMemory → room < length a) → UsesRoomOf r room (a ++ b) left
@@ -54,36 +54,8 @@ module _ {K W : Type 0} (key : Writing K) (val : Writing W) (n : ℕ) where
       (λ x w. (fits, w ∙ ap (λ z. z ++ entry_encoding key val p) m ∙ append_assoc old (tag_encoding n LengthDelimited ++ varint_encoding len) (entry_encoding key val p) ∙ ap (λ z. old ++ z) (record_whole p len l)))
       (λ e w. subst (RefusesRecord key val n old new p) (sym w.0) (fits, subst (λ z. WritesFront old z new) (record_whole p len l) (front_second old (tag_encoding n LengthDelimited ++ varint_encoding len) (entry_encoding key val p) mid new m w.1)))
 
-  pub field_encoding-append : (ps rs : List (K × W)) → field_encoding key val n (ps ++ rs) ≡ field_encoding key val n ps ++ field_encoding key val n rs
-  field_encoding-append [] rs = refl
-  field_encoding-append (p ∷ ps) rs = ap (λ z. record_encoding key val n p ++ z) (field_encoding-append ps rs) ∙ sym (append_assoc (record_encoding key val n p) (field_encoding key val n ps) (field_encoding key val n rs))
-
-  pub field_encoding-last : (ps : List (K × W)) (p : K × W) → field_encoding key val n (ps ++ p ∷ []) ≡ field_encoding key val n ps ++ record_encoding key val n p
-  field_encoding-last ps p = field_encoding-append ps (p ∷ []) ∙ ap (λ z. field_encoding key val n ps ++ z) (append-nil (record_encoding key val n p))
-
-  -- the records of some pairs, and of one more, are no longer than those of all
-  pub field_encoding-parts : (all done : List (K × W)) (p : K × W) (rest : List (K × W)) → all ≡ done ++ p ∷ rest →
-      length (field_encoding key val n done) + length (record_encoding key val n p) ≤ length (field_encoding key val n all)
-  field_encoding-parts all done p rest is =
-      omega (
-        arith,
-        ap (λ z. length (field_encoding key val n z)) is,
-        ap length (field_encoding-append done (p ∷ rest)),
-        length-append (field_encoding key val n done) (record_encoding key val n p ++ field_encoding key val n rest),
-        length-append (record_encoding key val n p) (field_encoding key val n rest),
-      )
-
-  -- the room that some records took, and one more
-  pub room_more : (room mid left : ℕ) (done : List (K × W)) (p : K × W) → room ≤ mid + length (field_encoding key val n done) → mid ≤ left + length (record_encoding key val n p) → room ≤ left + length (field_encoding key val n (done ++ p ∷ []))
-  room_more room mid left done p h k = omega (arith, h, k, ap length (field_encoding-last done p), length-append (field_encoding key val n done) (record_encoding key val n p))
-
-  pub HasEncoding-last : (ps : List (K × W)) (p : K × W) → HasEncoding key val ps → length (entry_encoding key val p) < 2 ^ 64 → HasEncoding key val (ps ++ p ∷ [])
-  HasEncoding-last [] p h k = (k, tt)
-  HasEncoding-last (q ∷ ps) p h k = (h.0, HasEncoding-last ps p h.1 k)
-
-  pub AllHold-last : (P : K → Type 0) (Q : W → Type 0) (ps : List (K × W)) (p : K × W) → AllHold P Q ps → P p.0 → Q p.1 → AllHold P Q (ps ++ p ∷ [])
-  AllHold-last P Q [] p h a b = (a, b, tt)
-  AllHold-last P Q (q ∷ ps) p h a b = (h.0, h.1, AllHold-last P Q ps p h.2 a b)
+  abbrev pub field_by_value : ByValue (K × W)
+  field_by_value = record { list = field_encoding key val n; value = record_encoding key val n; none = refl; next = λ p ps. refl }
 
   refused : (old mid new : List ℕ) (all done : List (K × W)) (p : K × W) (rest : List (K × W)) → all ≡ done ++ p ∷ rest → HasEncoding key val done → mid ≡ old ++ field_encoding key val n done →
       (e : EncodeError) → RefusesRecord key val n mid new p e → RefusesField key val n old new all e
@@ -95,6 +67,10 @@ module _ {K W : Type 0} (key : Writing K) (val : Writing W) (n : ℕ) where
   pub field_refused : {T : Type 0} {r : Result T EncodeError} {e d : EncodeError} → r ≡ Err e → e ≡ d → (old mid new : List ℕ) (all done : List (K × W)) (p : K × W) (rest : List (K × W)) →
       all ≡ done ++ p ∷ rest → HasEncoding key val done → mid ≡ old ++ field_encoding key val n done → RefusesRecord key val n mid new p d → WritesField key val n old new r all
   field_refused {d = d} eq same old mid new all done p rest is has m w = rw (eq, same) (refused old mid new all done p rest is has m d w)
+
+AllHold-last : {K W : Type 0} (P : K → Type 0) (Q : W → Type 0) (ps : List (K × W)) (p : K × W) → AllHold P Q ps → P p.0 → Q p.1 → AllHold P Q (ps ++ p ∷ [])
+AllHold-last P Q [] p h a b = (a, b, tt)
+AllHold-last P Q (q ∷ ps) p h a b = (h.0, h.1, AllHold-last P Q ps p h.2 a b)
 
 -- ---- the pairs of a walk, one after another
 module _ {K W A B : Type 0} (mk : A → K) (mv : B → W) (key : Writing K) (val : Writing W) (n : ℕ) (P : K → Type 0) (Q : W → Type 0) (all : List (K × W)) (old : List ℕ) (room : ℕ) where
@@ -113,22 +89,24 @@ module _ {K W A B : Type 0} (mk : A → K) (mv : B → W) (key : Writing K) (val
       let m : K × W = (mk a, mv b) in (
         s.0 ++ m ∷ [],
         s.1 ∙ ap (λ (z : List (A × B)). s.0 ++ means mk mv z) e ∙ sym (append_assoc s.0 (m ∷ []) (means mk mv rest)),
-        HasEncoding-last key val n s.0 m s.2 fits,
-        AllHold-last key val n P Q s.0 m s.3 p q,
-        w ∙ ap (λ z. z ++ record_encoding key val n m) s.4 ∙ append_assoc old (field_encoding key val n s.0) (record_encoding key val n m) ∙ ap (λ z. old ++ z) (sym (field_encoding-last key val n s.0 m)),
-        omega (arith, k, s.5, ap length (field_encoding-last key val n s.0 m), length-append (field_encoding key val n s.0) (record_encoding key val n m)),
+        AllByRecursion-last (λ q. length (entry_encoding key val q) < 2 ^ 64) s.0 m s.2 fits,
+        AllHold-last P Q s.0 m s.3 p q,
+        write_last (field_by_value key val n) s.0 m old mid new s.4 w,
+        omega (arith, k, s.5, length_last (field_by_value key val n) s.0 m),
       )
 
-  -- a refusal of the next record, as `?` hands it on
-  pub sent_refused : {T : Type 0} {r : Result T EncodeError} {e d : EncodeError} → r ≡ Err e → e ≡ d → (l rest : List (A × B)) (a : A) (b : B) → l ≡ (a, b) ∷ rest → (mid new : List ℕ) (spare : ℕ) → IsSent l mid spare →
-      RefusesRecord key val n mid new (mk a, mv b) d → WritesField key val n old new r all
-  sent_refused is same l rest a b e mid new spare s w =
-      field_refused key val n is same old mid new all s.0 (mk a, mv b) (means mk mv rest) (s.1 ∙ ap (λ (z : List (A × B)). s.0 ++ means mk mv z) e) s.2 s.4 w
+  -- what a refusal of the next record, as `?` hands it on, says of all
+  module _ {T : Type 0} {r : Result T EncodeError} {e d : EncodeError} (is : r ≡ Err e) (same : e ≡ d) (l rest : List (A × B)) (a : A) (b : B) (next : l ≡ (a, b) ∷ rest) (mid new : List ℕ) (spare left : ℕ) (s : IsSent l mid spare) where
+    split : all ≡ s.0 ++ (mk a, mv b) ∷ means mk mv rest
+    split = s.1 ∙ ap (λ (z : List (A × B)). s.0 ++ means mk mv z) next
 
-  pub sent_no_room : {T : Type 0} {r : Result T EncodeError} {e d : EncodeError} → r ≡ Err e → e ≡ d → (l rest : List (A × B)) (a : A) (b : B) → l ≡ (a, b) ∷ rest → (mid : List ℕ) (spare left : ℕ) → IsSent l mid spare →
-      (d ≡ OutOfMemory → spare < length (record_encoding key val n (mk a, mv b))) → UsesRoomOf r room (field_encoding key val n all) left
-  sent_no_room is same l rest a b e mid spare left s w =
-      rw (is, same) (λ o. omega (arith, w o, s.5, field_encoding-parts key val n all s.0 (mk a, mv b) (means mk mv rest) (s.1 ∙ ap (λ (z : List (A × B)). s.0 ++ means mk mv z) e)))
+    pub sent_stops : RefusesRecord key val n mid new (mk a, mv b) d → (d ≡ OutOfMemory → spare < length (record_encoding key val n (mk a, mv b))) →
+        WritesField key val n old new r all × OnOk r (AllHold P Q all) × UsesRoomOf r room (field_encoding key val n all) left
+    sent_stops w k = (
+      field_refused key val n is same old mid new all s.0 (mk a, mv b) (means mk mv rest) split s.2 s.4 w,
+      rw is tt,
+      rw (is, same) (λ o. omega (arith, k o, s.5, length_cut (field_by_value key val n) s.0 (mk a, mv b) (means mk mv rest) all split)),
+    )
 
   pub sent_all : (l : List (A × B)) → l ≡ [] → (now : List ℕ) (spare : ℕ) → IsSent l now spare →
       (HasEncoding key val all × (now ≡ old ++ field_encoding key val n all)) × AllHold P Q all × (room ≤ spare + length (field_encoding key val n all))
@@ -138,7 +116,7 @@ module _ {K W A B : Type 0} (mk : A → K) (mv : B → W) (key : Writing K) (val
 
 -- ---- a map, and kept records behind it
 module _ {K W : Type 0} (key : Writing K) (val : Writing W) (n : ℕ) (kept : List (ℕ × Datum)) where
-  rewrite_stops : (old new : List ℕ) (l : List (K × W)) (e : EncodeError) → RefusesField key val n old new l e → RefusesOutputBytes key val n kept old new l e
+  rewrite_stops : (old new : List ℕ) (l : List (K × W)) (e : EncodeError) → RefusesField key val n old new l e → RefusesRewrite key val n kept old new l e
   rewrite_stops old new l OutOfMemory w = inl w
   rewrite_stops old new l MessageTooLarge w = w
   rewrite_stops old new l (GroupRefused e) w = absurd w
@@ -151,4 +129,4 @@ module _ {K W : Type 0} (key : Writing K) (val : Writing W) (n : ℕ) (kept : Li
   pub rewrite_written : {T : Type 0} (r : Result T EncodeError) (old mid new : List ℕ) (l : List (K × W)) → HasEncoding key val l → mid ≡ old ++ field_encoding key val n l → Writes r mid (records.records_encoding kept) new → WritesRewrite key val n kept old new r l
   rewrite_written r old mid new l has m h = MatchResult-weaker r h
       (λ x w. (has, w ∙ ap (λ z. z ++ records.records_encoding kept) m ∙ append_assoc old (field_encoding key val n l) (records.records_encoding kept)))
-      (λ e w. subst (RefusesOutputBytes key val n kept old new l) (sym w.0) (inr (has, subst (λ z. WritesFront z (records.records_encoding kept) new) m w.1)))
+      (λ e w. subst (RefusesRewrite key val n kept old new l) (sym w.0) (inr (has, subst (λ z. WritesFront z (records.records_encoding kept) new) m w.1)))

@@ -10,12 +10,13 @@ use Rattle.buffa_bytes.specs.declared.wire_type.WireType.TheVariants.{Varint, Le
 use Rattle.buffa_bytes.specs.declared.error.DecodeError.{DecodeError}
 use Rattle.buffa_bytes.specs.declared.error.DecodeError.TheVariants.{InvalidMessageSet}
 use Rattle.buffa_bytes.specs.declared.error.MessageSetFault.TheVariants.{MissingTypeId, TypeIdOutOfRange}
-use Rattle.buffa_wire.proofs.MessageLemmas.{NoLimit, as_no_limit, length_no_limit, payload_no_limit, tag_no_limit, var_no_limit}
+use Rattle.buffa_bytes.proofs.FieldLemmas.{tag_as}
+use Rattle.buffa_wire.proofs.MessageLemmas.{NoLimit, no_limit}
 use Rattle.buffa_wire.proofs.SequenceLemmas.{ParsesTo-first}
 use Rattle.buffa_wire.specs.Sequence.{ParsesEach, join}
 use Rattle.buffa_bytes.specs.WireType.{same_wire}
 use Rattle.buffa_message_set.specs.Item.{ItemFieldFault, IsItemField, IsReadAlike, IsTypeId, Item, ItemFault, Said, said, says, unsaid}
-use Rattle.buffa_message_set.proofs.ItemLemmas.{StopsFrom, TakesFrom, both_false, both_true, field_no_end, out_of, read_complete, read_faulty, tag_of, takes_item}
+use Rattle.buffa_message_set.proofs.ItemLemmas.{StopsFrom, TakesFrom, both_false, both_true, field_no_end, item_fault, out_of, read_complete, read_faulty, takes_item}
 
 -- ---- an Item is a group
 field_is : (d : ℕ) (s t : Said) (f : List ℕ) → IsItemField d s f t → SomeField d f
@@ -59,10 +60,10 @@ module _ (d : ℕ) where
   field_alike s f t p n w true b two three tag h is =
       let same = both_true n 2 Varint w two in
       let v : Payload d n Varint p = subst (λ z. Payload d n z p) (sym same.1) h in
-      id_alike s f t p v.0 (nat_lt 0 v.0 && nat_lt v.0 (2 ^ 31)) refl (tag_of d t n 2 Varint w tag same.0 same.1) v.1 is
+      id_alike s f t p v.0 (nat_lt 0 v.0 && nat_lt v.0 (2 ^ 31)) refl (tag_as t n 2 w Varint tag same.0 (sym same.1)) v.1 is
   field_alike s f t p n w false true two three tag h is =
       let same = both_true n 3 LengthDelimited w three in
-      message_alike s f t p (tag_of d t n 3 LengthDelimited w tag same.0 same.1) (subst (λ z. Payload d n z p) (sym same.1) h) is
+      message_alike s f t p (tag_as t n 3 w LengthDelimited tag same.0 (sym same.1)) (subst (λ z. Payload d n z p) (sym same.1) h) is
   field_alike s f t p n w false false two three tag h is =
       inl (s, inr (inr (n, w, (both_false n 2 Varint w two, both_false n 3 LengthDelimited w three, λ _. field_no_end d n w p h), (t, p, tag, h, is), refl)))
 
@@ -97,9 +98,4 @@ module _ (d : ℕ) where
 
 -- ---- no fault of an Item is a limit's
 pub item_no_limit : (d : ℕ) (bs : List ℕ) (e : DecodeError) → ItemFault d bs e → NoLimit e
-item_no_limit d bs e (s, rest, reached, inl (inl h)) = tag_no_limit rest e h
-item_no_limit d bs e (s, rest, reached, inl (inr (inl (after, t, inl h)))) = var_no_limit after e h
-item_no_limit d bs e (s, rest, reached, inl (inr (inl (after, t, inr (n, x, v, out, is))))) = as_no_limit e (InvalidMessageSet TypeIdOutOfRange) is (λ l. l)
-item_no_limit d bs e (s, rest, reached, inl (inr (inr (inl (after, t, h))))) = length_no_limit after e h
-item_no_limit d bs e (s, rest, reached, inl (inr (inr (inr (n, w, after, other, t, h))))) = payload_no_limit d n w after e h
-item_no_limit d bs e (s, rest, reached, inr (after, t, none_is, is)) = as_no_limit e (InvalidMessageSet MissingTypeId) is (λ l. l)
+item_no_limit d bs e h = no_limit e (item_fault d bs e h)

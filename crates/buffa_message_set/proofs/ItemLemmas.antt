@@ -12,12 +12,13 @@ use Rattle.buffa_bytes.specs.declared.wire_type.WireType.{WireType}
 use Rattle.buffa_bytes.specs.declared.wire_type.WireType.TheVariants.{Varint, LengthDelimited, EndGroup}
 use Rattle.buffa_bytes.specs.declared.error.DecodeError.{DecodeError}
 use Rattle.buffa_bytes.specs.declared.error.DecodeError.TheVariants.{InvalidMessageSet, OutOfMemory, UnexpectedEof}
-use Rattle.buffa_bytes.specs.declared.error.MessageSetFault.TheVariants.{MissingTypeId}
+use Rattle.buffa_bytes.specs.declared.error.MessageSetFault.TheVariants.{MissingTypeId, TypeIdOutOfRange}
 use Rattle.buffa_bytes.proofs.StepLemmas.{Agrees, agree_bind, agree_err, agree_if, agree_ok, agree_weaker}
 use Rattle.buffa_bytes.proofs.DelimitedLemmas.{delimited_complete, delimited_faulty, delimited_sound, taken_sound}
-use Rattle.buffa_bytes.proofs.FieldLemmas.{payload_complete, payload_faulty, payload_sound, tag_complete, tag_faulty, tag_some, tag_sound, same_refl, same_true, tag_read}
+use Rattle.buffa_bytes.proofs.FieldLemmas.{ok_there, payload_complete, payload_faulty, payload_sound, tag_as, tag_complete, tag_faulty, takes_tag_as, tag_some, tag_sound, same_refl, same_true, tag_read}
 use Rattle.buffa_bytes.proofs.ListLemmas.{cut_twice}
-use Rattle.buffa_bytes.proofs.FullLemmas.{delimited_full, payload_fault_full, skip_no_full, tag_fault_full}
+use Rattle.buffa_bytes.proofs.FaultLemmas.{IsOfBytes, as_of_bytes, length_fault, payload_fault, tag_fault, varint_fault}
+use Rattle.buffa_bytes.proofs.FullLemmas.{skip_no_full}
 use Rattle.buffa_bytes.proofs.VarintLemmas.{IsVarint-varint_encoding, varint_complete, varint_faulty, varint_sound}
 use Rattle.buffa_bytes.proofs.ScanLemmas.{Leads, Shortens, if_leads, if_short, parsed_leads, parsed_short, scan_leads, scan_step}
 use Rattle.buffa_bytes.specs.Gives.{FullOnlyIf, Gives}
@@ -79,18 +80,15 @@ module _ (d : ℕ) where
   abbrev pub FieldAt : Said → List ℕ → Said × List ℕ → Type 0
   FieldAt s all x = (f : List ℕ) × IsItemField d s f x.0 × (all ≡ f ++ x.1)
 
-  pub tag_of : (tag : List ℕ) (n m : ℕ) (v w : WireType) → IsTag tag n w → n ≡ m → v ≡ w → IsTag tag m v
-  tag_of tag n m v w h a b = subst (λ x. IsTag tag x v) a (subst (λ x. IsTag tag n x) (sym b) h)
-
   pub field_sound : (s : Said) (all tag bs : List ℕ) (n : ℕ) (w : WireType) → IsTag tag n w → all ≡ tag ++ bs → (n ≡ 1 → w ≢ EndGroup) →
       Agrees (item_field_at d s n w bs) (FieldAt s all) (ItemFieldFault d all)
   field_sound s all tag bs n w is_tag e open_tag = agree_if ((n == 2) && same_wire Varint w)
-      (λ two. let is = both_true n 2 Varint w two in let t = tag_of tag n 2 Varint w is_tag is.0 is.1 in
+      (λ two. let is = both_true n 2 Varint w two in let t = tag_as tag n 2 w Varint is_tag is.0 (sym is.1) in
       agree_bind (type_id_sound bs)
       (λ x m. record { holds = (tag ++ m.0, inl (tag, m.0, x.0, t, m.1, m.2, refl, refl), cut_twice all tag m.0 bs x.1 e m.3) })
       (λ f h. inr (inl (bs, (tag, t, e), h))))
       (λ not_two. agree_if ((n == 3) && same_wire LengthDelimited w)
-      (λ three. let is = both_true n 3 LengthDelimited w three in let t = tag_of tag n 3 LengthDelimited w is_tag is.0 is.1 in
+      (λ three. let is = both_true n 3 LengthDelimited w three in let t = tag_as tag n 3 w LengthDelimited is_tag is.0 (sym is.1) in
       agree_bind (agree_bind {Q = λ x. (b : List ℕ) × TakesDelimited bs b x.1 × (x.0 ≡ s.message ++ b)} {E = LengthFault bs} (delimited_sound bs) (λ x m. record { holds = (x.0, m, refl) }) (λ f h. h))
       (λ x m. record {
         holds = (
@@ -192,7 +190,7 @@ module _ (d : ℕ) where
   step_leads s bs (Ok t) e =
       let u = agree_ok (tag_at bs) t (tag_sound bs) e in
       if_leads Reads (ends_item t.0 t.1) (ended s.type_id s.message t.2) (parsed (item_field_at d s t.0 t.1 t.2)) s bs
-      (λ last. let is = both_true t.0 1 EndGroup t.1 last in ended_sound s s.type_id bs u.0 t.2 refl (tag_of u.0 t.0 1 EndGroup t.1 u.1 is.0 is.1) u.2)
+      (λ last. let is = both_true t.0 1 EndGroup t.1 last in ended_sound s s.type_id bs u.0 t.2 refl (tag_as u.0 t.0 1 t.1 EndGroup u.1 is.0 (sym is.1)) u.2)
       (λ other.
       let sound = field_sound s bs u.0 t.2 t.0 t.1 u.1 u.2 (both_false t.0 1 EndGroup t.1 other) in
       parsed_leads Reads (item_field_at d s t.0 t.1 t.2) s bs
@@ -255,34 +253,30 @@ module _ (d : ℕ) where
   unfolding item_at
   read_faulty bs e h = from_faulty unsaid bs e h
 
--- ---- memory is no fault
-type_id_fault_full : (bs : List ℕ) → TypeIdFault bs OutOfMemory → ⊥
-type_id_fault_full bs (inl h) = h
-type_id_fault_full bs (inr (n, rest, t, out, e)) = cc
+-- ---- no fault of an Item is a budget's, nor memory's
+type_id_fault : (bs : List ℕ) (e : DecodeError) → TypeIdFault bs e → IsOfBytes e
+type_id_fault bs e (inl h) = varint_fault bs e h
+type_id_fault bs e (inr (n, x, v, out, is)) = as_of_bytes e (InvalidMessageSet TypeIdOutOfRange) is tt
 
 pub type_id_no_full : {P : Type 0} (bs : List ℕ) (e : DecodeError) → type_id_at bs ≡ Err e → e ≡ OutOfMemory → P
-type_id_no_full bs e h k = absurd (type_id_fault_full bs (subst (λ x. TypeIdFault bs x) k (agree_err (type_id_at bs) e (type_id_sound bs) h)))
+type_id_no_full bs e h k = absurd (subst IsOfBytes k (type_id_fault bs e (agree_err (type_id_at bs) e (type_id_sound bs) h)))
 
 pub skipped_no_full : {X : Type 0} (P : Type 0) (r : Result X DecodeError) (d n : ℕ) (w : WireType) (bs rest : List ℕ) → Gives (λ _. rest) r (skip_at d n w bs) → FullOnlyIf r P
 skipped_no_full P (Ok x) d n w bs rest h = tt
 skipped_no_full P (Err e) d n w bs rest h = skip_no_full d n w bs e h
 
 module _ (d : ℕ) where
-  field_fault_full : (bs : List ℕ) → ItemFieldFault d bs OutOfMemory → ⊥
-  field_fault_full bs (inl h) = tag_fault_full bs h
-  field_fault_full bs (inr (inl (rest, t, h))) = type_id_fault_full rest h
-  field_fault_full bs (inr (inr (inl (rest, t, h)))) = delimited_full rest (delimited_faulty rest OutOfMemory h)
-  field_fault_full bs (inr (inr (inr (n, w, rest, other, t, h)))) = payload_fault_full d n w rest h
+  field_fault : (bs : List ℕ) (e : DecodeError) → ItemFieldFault d bs e → IsOfBytes e
+  field_fault bs e (inl h) = tag_fault bs e h
+  field_fault bs e (inr (inl (rest, t, h))) = type_id_fault rest e h
+  field_fault bs e (inr (inr (inl (rest, t, h)))) = length_fault rest e h
+  field_fault bs e (inr (inr (inr (n, w, rest, other, t, h)))) = payload_fault d n w rest e h
 
-  pub item_fault_full : (bs : List ℕ) → ItemFault d bs OutOfMemory → ⊥
-  item_fault_full bs (s, rest, reached, inl h) = field_fault_full rest h
-  item_fault_full bs (s, rest, reached, inr (after, t, no_id, e)) = cc
+  pub item_fault : (bs : List ℕ) (e : DecodeError) → ItemFault d bs e → IsOfBytes e
+  item_fault bs e (s, rest, reached, inl h) = field_fault rest e h
+  item_fault bs e (s, rest, reached, inr (after, t, none_is, is)) = as_of_bytes e (InvalidMessageSet MissingTypeId) is tt
 
 -- ---- message bytes
-ok_of : {A : Type 0} (r : Result A DecodeError) → IsOk r → (x : A) × (r ≡ Ok x)
-ok_of (Ok x) h = (x, refl)
-ok_of (Err e) h = cc
-
 -- no bytes change nothing
 pub no_bytes : (n : ℕ) (msg bs mid : List ℕ) → varint_at bs ≡ Ok (n, mid) → n ≡ 0 → appended_at msg bs ≡ Ok (msg, mid)
 unfolding taken
@@ -295,7 +289,7 @@ part_appended n msg bs mid part rest v f e = rw (delimited_front n bs mid part v
 -- after a length that isn't 0 there are bytes, where so many are left
 some_bytes : (n : ℕ) (bs mid : List ℕ) → varint_at bs ≡ Ok (n, mid) → n ≢ 0 → IsOk (taken n mid) → BytesAt bs
 some_bytes n bs mid v some there =
-    let x = ok_of (taken n mid) there in
+    let x = ok_there (taken n mid) there in
     let t = agree_ok (taken n mid) x.0 (taken_sound n mid) x.1 in
     (x.0.0, x.0.1, rw v x.1, λ e. some (sym t.0 ∙ ap length e))
 
@@ -317,7 +311,7 @@ module _ (d : ℕ) (all : List ℕ) (s : Said) (bs : List ℕ) (reached : Reache
     took = agree_ok (tag_at bs) (n, w, rest) (tag_sound bs) tag
 
     took_end : ends_item n w ≡ true → TakesTag bs 1 EndGroup rest
-    took_end h = let is = both_true n 1 EndGroup w h in (took.0, tag_of d took.0 n 1 EndGroup w took.1 is.0 is.1, took.2)
+    took_end h = let is = both_true n 1 EndGroup w h in takes_tag_as bs rest n 1 w EndGroup took is.0 (sym is.1)
 
     pub whole_item : ends_item n w ≡ true → (id : ℕ) → s.type_id ≡ Some id → item_at d all ≡ Ok (id, s.message, rest)
     whole_item h id is =
@@ -359,7 +353,7 @@ module _ (d : ℕ) (all : List ℕ) (s : Said) (bs : List ℕ) (reached : Reache
     pub found_message : IsMessageAt n w rest → HasMessage d all
     found_message (three, delimited, (b, after, e, some)) =
         let t = agree_ok (delimited_at rest) (b, after) (delimited_sound rest) e in
-        (s, bs, rest, b, after, reached, (took.0, tag_of d took.0 n 3 LengthDelimited w took.1 three (sym delimited), took.2), t, some)
+        (s, bs, rest, b, after, reached, takes_tag_as bs rest n 3 w LengthDelimited took three delimited, t, some)
 
 -- ---- laws
 module _ (d : ℕ) where

@@ -333,10 +333,7 @@ fn append_bytes<B: Buf>(
 fn extend(message: &mut Vec<u8>, part: &[u8]) -> Result<(), DecodeError>
     ensures { MatchResult result (λ _. message.new.items ≡ message.old.items ++ part.now) (λ e. e ≡ OutOfMemory) }
 {
-    match message.extend_from_slice(part) {
-        Ok(()) => Ok(()),
-        Err(_) => Err(DecodeError::OutOfMemory),
-    }
+    Ok(message.extend_from_slice(part)?)
 }
 
 // Puts bytes behind the others, and takes them as they are where there are no others.

@@ -9,24 +9,23 @@ use Rattle.std.specs.List.Sorted.{IsStrictlySortedBy}
 use Rattle.std.specs.Map.{keys_of}
 use Rattle.std.specs.Option.{option_map}
 use Rattle.std.specs.Ordering.{int_cmp, int_eq}
-use Rattle.buffa_bytes.proofs.StepLemmas.{agree_err, agree_ok}
 use Rattle.buffa_bytes.specs.declared.error.DecodeError.{DecodeError}
 use Rattle.buffa_bytes.specs.declared.wire_type.WireType.{WireType}
 use Rattle.buffa_bytes.specs.declared.wire_type.WireType.TheVariants.{LengthDelimited}
 use Rattle.buffa_wire.specs.BudgetLeft.{BudgetLeft}
 use Rattle.buffa_wire.specs.Message.{IsFieldMerged, cost_in, merged_in}
 use Rattle.buffa_bytes.specs.Front.{check_wire}
-use Rattle.buffa_map_base.proofs.EntryLemmas.{check_sound, entry_complete}
+use Rattle.buffa_map_base.proofs.EntryLemmas.{entry_complete}
 use Rattle.buffa_map_base.proofs.NeedLemmas.{entry_limited}
 use Rattle.buffa_map_base.specs.Codec.{Reading}
 use Rattle.buffa_map_base.specs.Entry.{need_at}
-use Rattle.buffa_map.proofs.ChildrenLemmas.{ChildPut, ChildRefused, child_limits, meant_step}
+use Rattle.buffa_map.proofs.InsertLemmas.{is_put, is_put_by}
+use Rattle.buffa_map.proofs.ChildrenLemmas.{ChildPut, ChildRefused, child_limits, child_put}
 use Rattle.buffa_map_base.specs.Scalars.{int32_reading, text_reading}
-use Rattle.buffa_map.specs.Children.{ChildCost, ChildMeaning, children_in, listed-children_in, meant_children, meant_children-is}
+use Rattle.buffa_map.specs.Children.{ChildCost, ChildMeaning, children_in, listed-children_in, meant_children-is}
 use Rattle.buffa_map_base.specs.Merge.{MergesEntry, RefusesEntry, Rules, dropping, keeping, state}
 use Rattle.buffa_map_base.specs.Message.{message_reading}
-use Rattle.buffa_map_base.specs.Pairs.{SamePairs, means}
-use Rattle.buffa_map_base.specs.Run.{step}
+use Rattle.buffa_map_base.specs.Pairs.{means}
 use Rattle.buffa_map_base.specs.ScalarFacts.{never_faulty, string_no_limit}
 use Rattle.buffa_map.specs.declared.map_entry.MapEntry.{MapEntry}
 use Rattle.buffa_wire.specs.Kept.{keep_need}
@@ -34,14 +33,13 @@ use Rattle.buffa_fields_base.specs.Keep.{keep_takes}
 use Rattle.buffa_wire.specs.Takes.{IsTaken}
 use Rattle.buffa_wire.proofs.ByPayloadLemmas.{merges_taken}
 use Rattle.buffa_fields_base.specs.PairFacts.{part_taken}
-use Rattle.buffa_fields.proofs.OrderedLemmas.{is_put, sorted_means}
+use Rattle.buffa_fields.proofs.OrderedLemmas.{sorted_means}
 use Rattle.buffa_fields.specs.Entries.{entry_cost, entry_taken}
 use Rattle.buffa_fields.proofs.EntriesLemmas.{IsCost, entry_err, entry_ok, entry_wire_err}
-use Rattle.buffa_fields.specs.MapFields.{stepped}
 use Rattle.buffa_fields.proofs.MapLemmas.{map_err, map_ok}
 use Rattle.buffa_node.specs.Branch.{Branch, NodeKept, Scores, Shades, blank_node, branch, shade_number}
 use Rattle.buffa_node.specs.declared.shade.Shade.{Shade}
-use Rattle.buffa_node.proofs.LoopLemmas.{node_by_payloads}
+use Rattle.buffa_node.proofs.StopLemmas.{node_by_payloads}
 use Rattle.buffa_wire.specs.Pinned.{refusal}
 use Rattle.buffa_node.specs.NodeMeaning.{children_cost, children_take, node_cost, node_field_need, node_field_takes, node_merged, put_shade, scores_cost, scores_take, shade_cost, shade_reading, shades_cost, shades_take, text_cmp}
 
@@ -65,9 +63,8 @@ module _ {K V X : Type 0} (key : Reading K) (val : Reading V) (does : X → List
   pub wire_answer : (r : Answer) (e f : DecodeError) → r ≡ Err f → f ≡ e → check_wire n LengthDelimited w ≡ Err e →
       IsTaken (entry_taken key val does) (entry_cost costs) d old n w bs before r old before rest
   wire_answer r e f is same h =
-      let k = agree_err (check_wire n LengthDelimited w) e (check_sound n LengthDelimited w) h in
       subst (λ z. IsTaken (entry_taken key val does) (entry_cost costs) d old n w bs before z old before rest) (sym (is ∙ ap (λ x. Err x) same))
-      (entry_wire_err key val does d n costs w old old bs rest before e k.0 k.1)
+      (entry_wire_err key val does d n costs w old bs rest before e h)
 
 -- ---- a score
 module _ {K : Type 0} (f : K → List ℕ) (d n : ℕ) (w : WireType) (es fs : List (K × ℤ)) (bs rest : List ℕ) (before after : BudgetLeft) where
@@ -77,23 +74,22 @@ module _ {K : Type 0} (f : K → List ℕ) (d n : ℕ) (w : WireType) (es fs : L
   abbrev scores_rules : Rules (List ℕ) ℤ
   scores_rules = dropping text_reading int32_reading (pointwise nat_eq) false d 0 28
 
-  score_ok : IsStrictlySortedBy (λ x y. text_cmp (f x) (f y)) (keys_of es) → IsStrictlySortedBy (λ x y. text_cmp (f x) (f y)) (keys_of fs) → w ≡ LengthDelimited →
+  score_ok : IsStrictlySortedBy (λ x y. text_cmp (f x) (f y)) (keys_of es) → IsStrictlySortedBy (λ x y. text_cmp (f x) (f y)) (keys_of fs) → check_wire n LengthDelimited w ≡ Ok tt →
       MergesEntry scores_rules (state (as_scores es) [] before) bs (state (as_scores fs) [] after) rest → IsTaken scores_take scores_cost d (as_scores es) n w bs before good (as_scores fs) after rest
-  score_ok s t wire m =
-      let put = is_put nat_list_cmp_total (as_scores es) (as_scores fs) m.says (sorted_means text_cmp f (λ v. v) es s) (sorted_means text_cmp f (λ v. v) fs t)
-      (subst (λ eq. SamePairs eq (step eq (as_scores es) m.says) (as_scores fs)) (λ i a b. texts_ties a b i) m.put) in
-      map_ok text_reading int32_reading (pointwise nat_eq) false (insert_entry text_cmp) 28 d n w bs rest _ _ wire (as_scores es) (as_scores fs) m put
+  score_ok s t checked m =
+      let put = is_put_by nat_list_cmp_total (as_scores es) (as_scores fs) m.says (sorted_means text_cmp f (λ v. v) es s) (sorted_means text_cmp f (λ v. v) fs t) (pointwise nat_eq) texts_ties m.put in
+      map_ok text_reading int32_reading (pointwise nat_eq) false (insert_entry text_cmp) 28 d n w bs rest _ _ checked (as_scores es) (as_scores fs) m put
 
-  score_err : (e : DecodeError) → w ≡ LengthDelimited → RefusesEntry scores_rules (state (as_scores es) [] before) bs (state (as_scores fs) [] after) rest e → IsTaken scores_take scores_cost d (as_scores es) n w bs before (refusal e) (as_scores fs) after rest
-  score_err e wire k =
-      map_err text_reading int32_reading (pointwise nat_eq) false (insert_entry text_cmp) 28 d n w bs rest _ _ wire (as_scores es) (as_scores fs)
+  score_err : (e : DecodeError) → check_wire n LengthDelimited w ≡ Ok tt → RefusesEntry scores_rules (state (as_scores es) [] before) bs (state (as_scores fs) [] after) rest e → IsTaken scores_take scores_cost d (as_scores es) n w bs before (refusal e) (as_scores fs) after rest
+  score_err e checked k =
+      map_err text_reading int32_reading (pointwise nat_eq) false (insert_entry text_cmp) 28 d n w bs rest _ _ checked (as_scores es) (as_scores fs)
       (λ d. entry_limited text_reading int32_reading d (λ d old c x h. string_no_limit (λ t. t) c x h) (λ d old c x h. never_faulty x h)) e k
 
   pub score_answer : (r : Answer) → IsStrictlySortedBy (λ x y. text_cmp (f x) (f y)) (keys_of es) → IsStrictlySortedBy (λ x y. text_cmp (f x) (f y)) (keys_of fs) → check_wire n LengthDelimited w ≡ Ok tt →
       OnOk r (MergesEntry scores_rules (state (as_scores es) [] before) bs (state (as_scores fs) [] after) rest) → IfErr r (RefusesEntry scores_rules (state (as_scores es) [] before) bs (state (as_scores fs) [] after) rest) →
       IsTaken scores_take scores_cost d (as_scores es) n w bs before r (as_scores fs) after rest
-  score_answer (Ok x) s t wire ok err = score_ok s t (agree_ok (check_wire n LengthDelimited w) tt (check_sound n LengthDelimited w) wire) ok
-  score_answer (Err e) s t wire ok err = score_err e (agree_ok (check_wire n LengthDelimited w) tt (check_sound n LengthDelimited w) wire) err
+  score_answer (Ok x) s t checked ok err = score_ok s t checked ok
+  score_answer (Err e) s t checked ok err = score_err e checked err
 
 -- ---- a child
 module _ (n : ℕ) (w : WireType) (es fs : List (ℤ × Branch)) (bs rest : List ℕ) (before after : BudgetLeft) where
@@ -107,22 +103,19 @@ module _ (n : ℕ) (w : WireType) (es fs : List (ℤ × Branch)) (bs rest : List
   abbrev ChildTaken : ℕ → Answer → Type 0
   ChildTaken d r = IsTaken (children_take (merged_in node_merged d)) (children_cost (merged_in node_merged d) (cost_in node_cost d)) d es n w bs before r fs after rest
 
-  child_is : (s : MapEntry ℤ Branch) → IsStrictlySortedBy int_cmp (keys_of es) → IsStrictlySortedBy int_cmp (keys_of fs) → SamePairs int_eq (step int_eq (meant_children es) s) (meant_children fs) → fs ≡ stepped (insert_entry int_cmp) es s
-  child_is s a b h = is_put int_cmp_total es fs s a b (meant_step es fs s h)
-
-  child_ok : (d : ℕ) → IsStrictlySortedBy int_cmp (keys_of es) → IsStrictlySortedBy int_cmp (keys_of fs) → w ≡ LengthDelimited → NodePut d → ChildTaken d good
+  child_ok : (d : ℕ) → IsStrictlySortedBy int_cmp (keys_of es) → IsStrictlySortedBy int_cmp (keys_of fs) → check_wire n LengthDelimited w ≡ Ok tt → NodePut d → ChildTaken d good
   unfolding entry_taken entry_cost need_at
-  child_ok zero a b wire h = map_ok int32_reading (message_reading blank_node node_merged node_cost) int_eq false (insert_entry int_cmp) 100 zero n w bs rest _ _ wire es fs h (child_is h.says a b h.put)
-  child_ok (suc d) a b wire h = map_ok int32_reading (message_reading blank_node node_merged node_cost) int_eq false (insert_entry int_cmp) 100 (suc d) n w bs rest _ _ wire es fs h (child_is h.says a b h.put)
+  child_ok zero a b checked h = map_ok int32_reading (message_reading blank_node node_merged node_cost) int_eq false (insert_entry int_cmp) 100 zero n w bs rest _ _ checked es fs h (child_put es fs h.says a b h.put)
+  child_ok (suc d) a b checked h = map_ok int32_reading (message_reading blank_node node_merged node_cost) int_eq false (insert_entry int_cmp) 100 (suc d) n w bs rest _ _ checked es fs h (child_put es fs h.says a b h.put)
 
-  child_err : (d : ℕ) (e : DecodeError) → w ≡ LengthDelimited → NodeRefused d e → ChildTaken d (refusal e)
+  child_err : (d : ℕ) (e : DecodeError) → check_wire n LengthDelimited w ≡ Ok tt → NodeRefused d e → ChildTaken d (refusal e)
   unfolding entry_taken entry_cost need_at
-  child_err zero e wire h = map_err int32_reading (message_reading blank_node node_merged node_cost) int_eq false (insert_entry int_cmp) 100 zero n w bs rest _ _ wire es fs (child_limits blank_node node_merged node_cost) e h
-  child_err (suc d) e wire h = map_err int32_reading (message_reading blank_node node_merged node_cost) int_eq false (insert_entry int_cmp) 100 (suc d) n w bs rest _ _ wire es fs (child_limits blank_node node_merged node_cost) e h
+  child_err zero e checked h = map_err int32_reading (message_reading blank_node node_merged node_cost) int_eq false (insert_entry int_cmp) 100 zero n w bs rest _ _ checked es fs (child_limits blank_node node_merged node_cost) e h
+  child_err (suc d) e checked h = map_err int32_reading (message_reading blank_node node_merged node_cost) int_eq false (insert_entry int_cmp) 100 (suc d) n w bs rest _ _ checked es fs (child_limits blank_node node_merged node_cost) e h
 
   pub child_answer : (d : ℕ) (r : Answer) → IsStrictlySortedBy int_cmp (keys_of es) → IsStrictlySortedBy int_cmp (keys_of fs) → check_wire n LengthDelimited w ≡ Ok tt → OnOk r (NodePut d) → IfErr r (NodeRefused d) → ChildTaken d r
-  child_answer d (Ok x) a b wire ok err = child_ok d a b (agree_ok (check_wire n LengthDelimited w) tt (check_sound n LengthDelimited w) wire) ok
-  child_answer d (Err e) a b wire ok err = child_err d e (agree_ok (check_wire n LengthDelimited w) tt (check_sound n LengthDelimited w) wire) err
+  child_answer d (Ok x) a b checked ok err = child_ok d a b checked ok
+  child_answer d (Err e) a b checked ok err = child_err d e checked err
 
   pub child_stays : (d : ℕ) (r : Answer) → IfErr r (NodeRefused d) → OnErr r (fs ≡ es)
   child_stays d (Ok x) err = tt
@@ -142,15 +135,13 @@ module _ (d n : ℕ) (w : WireType) (es fs : List (ℤ × Shade)) (rs ss : NodeK
   pub shade_ok : IsStrictlySortedBy int_cmp (keys_of es) → IsStrictlySortedBy int_cmp (keys_of fs) → check_wire n LengthDelimited w ≡ Ok tt →
       MergesEntry shades_rules (state (as_shades es) rs before) bs (state (as_shades fs) ss after) rest → IsTaken shades_take shades_cost d (as_shades es, rs) n w bs before good (as_shades fs, ss) after rest
   shade_ok s t checked m =
-      let wire = agree_ok (check_wire n LengthDelimited w) tt (check_sound n LengthDelimited w) checked in
       let put = is_put int_cmp_total (as_shades es) (as_shades fs) m.says (sorted_means int_cmp (λ k. k) shade_number es s) (sorted_means int_cmp (λ k. k) shade_number fs t) m.put in
-      entry_ok shades_rules put_shade shade_cost is_cost n w (as_shades es, rs) (as_shades fs, ss) bs rest _ _ wire m (λ i. (put i, m.keeps i))
+      entry_ok shades_rules put_shade shade_cost is_cost n w (as_shades es, rs) (as_shades fs, ss) bs rest _ _ checked m (λ i. (put i, m.keeps i))
 
   pub shade_err : (e : DecodeError) (over : BudgetLeft) → check_wire n LengthDelimited w ≡ Ok tt → RefusesEntry shades_rules (state (as_shades es) rs before) bs (state (as_shades fs) ss after) rest e → over.unknown ≡ before.unknown → over.memory ≡ after.memory →
       IsTaken shades_take shades_cost d (as_shades es, rs) n w bs before (refusal e) (as_shades fs, ss) over rest
   shade_err e over checked k unknown_back units_same =
-      let wire = agree_ok (check_wire n LengthDelimited w) tt (check_sound n LengthDelimited w) checked in
-      entry_err shades_rules put_shade shade_cost is_cost n w (as_shades es, rs) (as_shades fs, ss) bs rest _ _ wire
+      entry_err shades_rules put_shade shade_cost is_cost n w (as_shades es, rs) (as_shades fs, ss) bs rest _ _ checked
       (λ d. entry_limited int32_reading shade_reading d (λ d old c x h. never_faulty x h) (λ d old c x h. never_faulty x h))
       e over k units_same (omega (arith, unknown_back)) (omega (arith, unknown_back))
 

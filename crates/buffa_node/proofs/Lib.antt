@@ -1,5 +1,5 @@
 -- The lemmas that this crate hands out.
 pub mod FieldMergeLemmas
-pub mod LoopLemmas
+pub mod StopLemmas
 pub mod NodePassLemmas
 pub mod WriteLemmas

@@ -18,7 +18,7 @@ module _ {K V : Type 0} (kw : Writing K) (vw : Writing V) (n : ℕ) (l m : List 
   by_error : (e : EncodeError) → RefusesField kw vw n old new l e → WritesSmall (field_encoding kw vw n m) old (only_memory e) new
   by_error error.OutOfMemory h = subst (λ t. WritesSmall t old (refused error.OutOfMemory) new) (map_encoding kw vw n m) (map_unwritten kw vw n l m old new walk error.OutOfMemory h)
   by_error error.MessageTooLarge (done, p, rest, split, has, long, h) =
-      (field_encoding kw vw n done, h, λ small. absurd (omega (arith, small, long, long_in kw vw n done p rest, ap (λ (z : List (K × V)). length (field_encoding kw vw n z)) split, ap (λ (z : List (K × V)). length (field_encoding kw vw n z)) walk)))
+      (field_encoding kw vw n done, h, λ small. absurd (omega (arith, small, long, long_in kw vw n done p rest l split, ap (λ (z : List (K × V)). length (field_encoding kw vw n z)) walk)))
   by_error (error.GroupRefused e) h = absurd h
 
   pub map_unput : (e : EncodeError) (r : Result (Unit {0}) EncodeError) → r ≡ only_memory e → RefusesField kw vw n old new l e → WritesSmall (field_encoding kw vw n m) old r new

@@ -1,5 +1,5 @@
 -- The encoding of a node reads back.
-use Rattle.std.proofs.Common.{◌≡◌, inl, inr, ◌==◌, ◌^◌, ◌<◌, ◌≤◌, ℕ, ℤ, zero, suc, pos, FitsSigned, Bool, false, true, List, [], ◌∷◌, ◌++◌, length, length-append, None, Some, Ok, refl, sym, ap, subst, ◌∙◌, arith, append_assoc, append-nil, map, if◌then◌else◌}
+use Rattle.std.proofs.Common.{◌≡◌, inl, inr, ◌==◌, ◌^◌, ◌<◌, ◌≤◌, ℕ, ℤ, zero, suc, pos, FitsSigned, Bool, false, true, List, [], ◌∷◌, ◌++◌, length, length-append, None, Some, Ok, refl, sym, ap, subst, ◌∙◌, arith, append-nil, if◌then◌else◌}
 use Rattle.std.specs.List.{AllByRecursion}
 use Rattle.std.proofs.lemmas.Bool.{ne_eqb}
 use Rattle.std.specs.BTreeMap.{insert_entry}
@@ -34,14 +34,15 @@ use Rattle.buffa_fields.specs.Entries.{entry_taken}
 use Rattle.buffa_fields.specs.EntriesFacts.{read_entry}
 use Rattle.buffa_fields.specs.MapFields.{map_records, stepped}
 use Rattle.buffa_fields.specs.MapFacts.{map_has_encoding}
+use Rattle.buffa_fields_base.specs.BackFacts.{pieces_of}
+use Rattle.buffa_fields_base.specs.KeepFacts.{records_lead}
 use Rattle.buffa_fields_base.specs.PairFacts.{fits_both, joined-append, leads_both}
 use Rattle.buffa_fields_base.specs.Keep.{keep_takes, record_in}
 use Rattle.buffa_wire.specs.Takes.{Leads, Piece, Taker, joined_fields, merged_of}
 use Rattle.buffa_wire.proofs.TakesLemmas.{back as leads_back}
 use Rattle.buffa_wire.proofs.KeepLemmas.{all_fields}
-use Rattle.buffa_wire.proofs.JoinLemmas.{payload_of_record}
 use Rattle.buffa_node.specs.Branch.{Branch, NodeOwn, NodeKept, Scores, Shades, blank_node, branch, kept_of, scores_of, shade_numbers, shades_of}
-use Rattle.buffa_node.specs.Leading.{IsInserted, any, entries_lead, piece}
+use Rattle.buffa_node.specs.Leading.{IsInserted, any, entries_lead}
 use Rattle.buffa_node.specs.Nesting.{undeclared_at}
 use Rattle.buffa_node.specs.NodeMeaning.{children_take, node_field_takes, node_merged, put_shade, shade_reading, shades_take, text_cmp}
 use Rattle.buffa_node.specs.NodeEncoding.{AreKept, IsNormalOwn, IsKept, IsNormalNode, IsUndeclared, entry_levels, kept_levels, kept_under, node_levels_over, node_encoding, node_levels, node_records, node_around, scores_encoding, shades_encoding}
@@ -203,29 +204,20 @@ module _ (d : ℕ) (m : ChildMeaning Branch) where
             (subst (λ z. taker d (branch a cs h done) 3 (wire_of z) p ≡ Some (branch a cs h (done ++ (3, z) ∷ []))) (sym is)
             (ap (option_map (λ (y : Shades × NodeKept). branch a cs y.0 y.1)) (kept_entry done e p here fits undeclared)))
 
-        kept_lead : (ys done : NodeKept) (b : List ℕ) → AreKept ys → kept_levels ys ≤ d → Parse d b (records_of ys) → (fs : List Piece) × (b ≡ joined_fields fs) × Leads taker any d (branch a cs h done) fs (branch a cs h (done ++ ys))
-        kept_lead [] done b n low p = ([], p, ap (branch a cs h) (sym (append-nil done)))
-        kept_lead (y ∷ ys) done b n low (f, r, (t, p, tag, payload, is), next, all) =
-            let more = kept_lead ys (done ++ (y.0, y.1) ∷ []) r n.1 (omega (arith, low)) next in
-            let one : Piece = record { tag = t; number = y.0; wire = wire_of y.1; payload = p } in (
-              one ∷ more.0,
-              all ∙ (λ i. is i ++ more.1 i),
-              (
-                refl,
-                tag,
-                payload_of_record y.1 d y.0 p payload,
-                branch a cs h (done ++ (y.0, y.1) ∷ []),
-                kept_one done y.0 y.1 p n.0 (omega (arith, low)) payload,
-                subst (λ z. Leads taker any d (branch a cs h (done ++ (y.0, y.1) ∷ [])) more.0 (branch a cs h z)) (append_assoc done (y ∷ []) ys) more.2,
-              ),
-            )
+        -- records that are kept, and not too deep
+        abbrev AreLow : NodeKept → Type 0
+        AreLow ys = AreKept ys × (kept_levels ys ≤ d)
+
+        kept_lead : (ys : NodeKept) (b : List ℕ) → AreLow ys → Parse d b (records_of ys) → (fs : List Piece) × (b ≡ joined_fields fs) × Leads taker any d (branch a cs h []) fs (branch a cs h ys)
+        kept_lead ys b low parse =
+            records_lead taker any d (branch a cs h) AreLow (λ y ys l. (l.0.1, omega (arith, l.1))) (λ y ys l. refl) (λ done y ys p l payload. kept_one done y.0 y.1 p l.0.0 (omega (arith, l.1)) payload) ys [] b low parse
 
   -- ---- all
-  pairs_encoding : {K V : Type 0} (kw : Writing K) (vw : Writing V) (n : ℕ) (l : List (K × V)) → field_encoding kw vw n l ≡ joined_fields (map (piece n (entry_encoding kw vw)) l)
+  pairs_encoding : {K V : Type 0} (kw : Writing K) (vw : Writing V) (n : ℕ) (l : List (K × V)) → field_encoding kw vw n l ≡ joined_fields (pieces_of n LengthDelimited (λ p. delimited_encoding (entry_encoding kw vw p)) l)
   pairs_encoding kw vw n [] = refl
   pairs_encoding kw vw n (p ∷ ps) = ap (λ (z : List ℕ). record_encoding kw vw n p ++ z) (pairs_encoding kw vw n ps)
 
-  children_pieces : (cs : Children NodeOwn) → children_encoding 2 node_around cs ≡ joined_fields (map (piece 2 entry_of_child) (listed cs))
+  children_pieces : (cs : Children NodeOwn) → children_encoding 2 node_around cs ≡ joined_fields (pieces_of 2 LengthDelimited (λ p. delimited_encoding (entry_of_child p)) (listed cs))
   children_pieces no_child = refl
   children_pieces (child k t cs) = ap (λ (z : List ℕ). child_record_encoding 2 k (node_encoding t) ++ z) (children_pieces cs)
 
@@ -246,10 +238,10 @@ module _ (d : ℕ) (m : ChildMeaning Branch) where
 
   pub node_read : (a : Scores) (cs : Children NodeOwn) (h : Shades) (r : NodeKept) → IsShortNode (branch a cs h r) → IsNormalNode (branch a cs h r) → AreNodesRead cs → kept_levels r ≤ d → merged_of taker d blank_node (node_encoding (branch a cs h r)) ≡ Some (branch a cs h r)
   node_read a cs h r short n read low =
-      let one = map (piece 1 score_entry) a in
-      let two = map (piece 2 entry_of_child) (listed cs) in
-      let three = map (piece 3 (entry_encoding int32_writing closed_writing)) h in
-      let kept = kept_lead a cs h r [] (records_encoding r) n.0.2 low (kept_parses r short.kept low) in
+      let one = pieces_of 1 LengthDelimited (λ p. delimited_encoding (score_entry p)) a in
+      let two = pieces_of 2 LengthDelimited (λ p. delimited_encoding (entry_of_child p)) (listed cs) in
+      let three = pieces_of 3 LengthDelimited (λ p. delimited_encoding (entry_encoding int32_writing closed_writing p)) h in
+      let kept = kept_lead a cs h r (records_encoding r) (n.0.2, low) (kept_parses r short.kept low) in
       let mid : Branch = branch a no_child [] [] in
       let low_mid : Branch = branch a cs [] [] in
       let end : Branch = branch a cs h [] in
@@ -258,11 +250,11 @@ module _ (d : ℕ) (m : ChildMeaning Branch) where
         spelled = (λ i. pairs_encoding text_writing int32_writing 1 a i ++ (children_pieces cs i ++ (pairs_encoding int32_writing closed_writing 3 h i ++ kept.1 i)))
             ∙ sym (joined-append one (two ++ (three ++ kept.0)) ∙ ap (λ z. joined_fields one ++ z) (joined-append two (three ++ kept.0) ∙ ap (λ z. joined_fields two ++ z) (joined-append three kept.0)));
         leads = leads_both taker any d blank_node mid (branch a cs h r) one (two ++ (three ++ kept.0))
-            (entries_lead nat_list_cmp_total taker d 1 (omega arith, omega arith) with_scores score_entry [] a (scores_put a n.0.0.0 short.scores) n.0.0.1)
+            (entries_lead nat_list_cmp_total taker d 1 (omega arith, omega arith) with_scores score_entry a (scores_put a n.0.0.0 short.scores) n.0.0.1)
             (leads_both taker any d mid low_mid (branch a cs h r) two (three ++ kept.0)
-            (subst (λ z. Leads taker any d mid two (branch a z [] [])) (children_in-listed cs) (entries_lead int_cmp_total taker d 2 (omega arith, omega arith) (with_children a) entry_of_child [] (listed cs) (children_put a cs read) n.1))
+            (subst (λ z. Leads taker any d mid two (branch a z [] [])) (children_in-listed cs) (entries_lead int_cmp_total taker d 2 (omega arith, omega arith) (with_children a) entry_of_child (listed cs) (children_put a cs read) n.1))
             (leads_both taker any d low_mid end (branch a cs h r) three kept.0
-            (entries_lead int_cmp_total taker d 3 (omega arith, omega arith) (with_shades a cs) (shade_entry a cs) [] h (shades_put a cs h n.0.1.0 short.shades) n.0.1.1)
+            (entries_lead int_cmp_total taker d 3 (omega arith, omega arith) (with_shades a cs) (shade_entry a cs) h (shades_put a cs h n.0.1.0 short.shades) n.0.1.1)
             kept.2));
       })
 

@@ -59,7 +59,7 @@ pub(crate) fn merge_shade(
         (shades_and shades.new.entries rest.new.records) budget.new buf.new result }
     ensures stays { OnErr result (means (λ k. k) shade_number shades.new.entries
         ≡ means (λ k. k) shade_number shades.old.entries) }
-    ensures kept { OnErr result (rest.new.records ≡ rest.old.records) }
+    ensures unchanged { OnErr result (rest.new.records ≡ rest.old.records) }
 {
     check_wire_type(tag, WireType::LengthDelimited)?;
     let _old = shades.len();

@@ -1,13 +1,14 @@
 -- What a repeated option is read as.
 use Rattle.std.proofs.Common.{◌≡◌, ◌≢◌, inl, inr, ℕ, ℤ, List, [], ◌∷◌, ◌++◌, map, Option, option_map, refl, sym, ◌∙◌, ap}
 use Rattle.std.specs.List.{flat_map}
+use Rattle.buffa_bytes.proofs.ListLemmas.{nil_first, nil_second}
 use Rattle.buffa_bytes.specs.Values.{int32_of}
 use Rattle.buffa_bytes.specs.declared.wire_type.WireType.TheVariants.{Varint}
 use Rattle.buffa_wire.specs.BudgetLeft.{BudgetLeft, defaults}
 use Rattle.buffa_wire.specs.Found.{varint_in}
 use Rattle.buffa_wire.specs.Records.{Datum, varint, fixed32, fixed64, bytes, group}
 use Rattle.buffa_codec.specs.Packed.{numbers_in}
-use Rattle.buffa_codec.specs.Decoded.{Has, ReadsAll, ReadsList, TakesElement, elements}
+use Rattle.buffa_codec.specs.Decoded.{AsksInList, Has, ReadsAll, ReadsList, elements}
 use Rattle.buffa_options.specs.Options.{int32s_in}
 
 abbrev one : BudgetLeft → Datum → Option ℤ
@@ -35,19 +36,11 @@ in_list ds vs h = in_records defaults h.0 ds vs h.1
 
 -- ---- a record that has a number
 
-nil_left : {A : Type 0} (xs ys : List A) → xs ++ ys ≡ [] → xs ≡ []
-nil_left [] ys e = refl
-nil_left (x ∷ xs) ys e = cc
-
-nil_right : {A : Type 0} (xs ys : List A) → xs ++ ys ≡ [] → ys ≡ []
-nil_right [] ys e = e
-nil_right (x ∷ xs) ys e = cc
-
 some_there : {X A : Type 0} (f : X → List A) (front : List X) (d : X) (back : List X) → f d ≢ [] → flat_map f (front ++ d ∷ back) ≢ []
-some_there f [] d back n e = n (nil_left (f d) (flat_map f back) e)
-some_there f (x ∷ front) d back n e = some_there f front d back n (nil_right (f x) (flat_map f (front ++ d ∷ back)) e)
+some_there f [] d back n e = n (nil_first (f d) (flat_map f back) e)
+some_there f (x ∷ front) d back n e = some_there f front d back n (nil_second (f x) (flat_map f (front ++ d ∷ back)) e)
 
-pub has_number : (ds : List Datum) → Has (TakesElement (λ d. ⊥) one packed) ds → flat_map int32s_in ds ≢ []
+pub has_number : (ds : List Datum) → Has (AsksInList (λ d. ⊥) one packed) ds → flat_map int32s_in ds ≢ []
 has_number ds (front, d, back, inl h, e) none = absurd h
 has_number ds (front, d, back, inr (b, n), e) none =
     some_there int32s_in front d back (λ k. n (in_record b d ∙ k)) (ap (flat_map int32s_in) (sym e) ∙ none)

@@ -18,23 +18,12 @@ use Rattle.buffa_options.specs.Meaning.{ReadsDeprecated, bool_reading}
 use Rattle.std.proofs.lemmas.Bool.Decides.{Decides-and, Decides-int_eq, Decides-like}
 use Rattle.std.specs.Int.Signed.{◌≤ℤ◌, ◌<ℤ◌, clash_ℤ}
 use Rattle.std.proofs.lemmas.Int.{by_lt_z}
+use Rattle.std.proofs.lemmas.Option.{none-some, same_Some}
 use Rattle.buffa_options.specs.Rules.{Accepts, BreaksRule}
 use Rattle.buffa_options.specs.Pinned.{AcceptsOrBreaks, NotBoth, OneViolation}
 use Rattle.buffa_options.specs.declared.rules.Rules.{Rules}
 use Rattle.buffa_options.specs.declared.rules.Violation.{Violation}
 use Rattle.buffa_options.specs.declared.rules.Violation.TheVariants.{Missing, TooSmall, TooGreat}
-
-same_some : (a b : ℤ) (o : Option ℤ) → o ≡ Some a → o ≡ Some b → a ≡ b
-same_some a b o h k = by (sym h ∙ k)
-  where
-    by : Some a ≡ Some b → a ≡ b
-    by e = cc
-
-no_value : {P : Type 0} (a : ℤ) → Some a ≡ None → P
-no_value a e = cc
-
-some_none : {P : Type 0} (a : ℤ) (o : Option ℤ) → o ≡ Some a → o ≡ None → P
-some_none a o h k = no_value a (sym h ∙ k)
 
 -- ---- a value is judged
 
@@ -77,21 +66,21 @@ too_great m v w most a e same lt = clash_ℤ lt (subst (λ x. x ≤ℤ most) sam
 
 pub not_both : NotBoth
 not_both rules None Missing a h = not_both_of rules.required a h.1
-not_both rules None TooSmall a h = some_none h.0 None h.2 refl
-not_both rules None TooGreat a h = some_none h.0 None h.2 refl
-not_both rules (Some v) Missing a h = some_none v (Some v) refl h.0
-not_both rules (Some v) TooSmall a h = too_small rules.min v h.0 h.1 a.0 h.3 (same_some v h.0 (Some v) refl h.2) h.4
-not_both rules (Some v) TooGreat a h = too_great rules.max v h.0 h.1 a.1 h.3 (same_some v h.0 (Some v) refl h.2) h.4
+not_both rules None TooSmall a h = absurd (none-some h.0 h.2)
+not_both rules None TooGreat a h = absurd (none-some h.0 h.2)
+not_both rules (Some v) Missing a h = absurd (none-some v (sym h.0))
+not_both rules (Some v) TooSmall a h = too_small rules.min v h.0 h.1 a.0 h.3 (same_Some v h.0 h.2) h.4
+not_both rules (Some v) TooGreat a h = too_great rules.max v h.0 h.1 a.1 h.3 (same_Some v h.0 h.2) h.4
 
 pub one_violation : OneViolation
 one_violation rules o Missing Missing h k = refl
-one_violation rules o Missing TooSmall h k = some_none k.0 o k.2 h.0
-one_violation rules o Missing TooGreat h k = some_none k.0 o k.2 h.0
-one_violation rules o TooSmall Missing h k = some_none h.0 o h.2 k.0
+one_violation rules o Missing TooSmall h k = absurd (none-some k.0 (sym h.0 ∙ k.2))
+one_violation rules o Missing TooGreat h k = absurd (none-some k.0 (sym h.0 ∙ k.2))
+one_violation rules o TooSmall Missing h k = absurd (none-some h.0 (sym k.0 ∙ h.2))
 one_violation rules o TooSmall TooSmall h k = refl
-one_violation rules o TooSmall TooGreat h k = elim (too_small rules.min k.0 h.0 h.1 k.5 h.3 (same_some k.0 h.0 o k.2 h.2) h.4) [ ]
-one_violation rules o TooGreat Missing h k = some_none h.0 o h.2 k.0
-one_violation rules o TooGreat TooSmall h k = elim (too_small rules.min h.0 k.0 k.1 h.5 k.3 (same_some h.0 k.0 o h.2 k.2) k.4) [ ]
+one_violation rules o TooSmall TooGreat h k = elim (too_small rules.min k.0 h.0 h.1 k.5 h.3 (same_Some k.0 h.0 (sym k.2 ∙ h.2)) h.4) [ ]
+one_violation rules o TooGreat Missing h k = absurd (none-some h.0 (sym k.0 ∙ h.2))
+one_violation rules o TooGreat TooSmall h k = elim (too_small rules.min h.0 k.0 k.1 h.5 k.3 (same_Some h.0 k.0 (sym h.2 ∙ k.2)) k.4) [ ]
 one_violation rules o TooGreat TooGreat h k = refl
 
 -- ---- rules that `==` says are equal are one
@@ -103,12 +92,12 @@ bits true false = (λ h. absurd (true≢false (sym h)), λ h. absurd (true≢fal
 bits false true = (λ h. absurd (true≢false (sym h)), λ h. absurd (true≢false (sym h)))
 
 some_is : (a b : ℤ) → Some a ≡ Some b → a ≡ b
-some_is a b e = same_some a b (Some a) refl e
+some_is a b e = same_Some a b e
 
 bounds : (a b : Option ℤ) → Decides (option_eq int_eq a b) (a ≡ b)
 bounds None None = (λ _. refl, λ _. refl)
-bounds None (Some b) = (λ h. absurd (true≢false (sym h)), λ h. no_value b (sym h))
-bounds (Some a) None = (λ h. absurd (true≢false (sym h)), λ h. no_value a h)
+bounds None (Some b) = (λ h. absurd (true≢false (sym h)), λ h. absurd (none-some b h))
+bounds (Some a) None = (λ h. absurd (true≢false (sym h)), λ h. absurd (none-some a (sym h)))
 bounds (Some a) (Some b) = Decides-like (int_eq a b) (λ e. ap Some e) (some_is a b) (Decides-int_eq a b)
 
 pub rules_decide : (a b : Rules) → Decides (option_eq int_eq a.min b.min && (option_eq int_eq a.max b.max && beq a.required b.required)) (a ≡ b)

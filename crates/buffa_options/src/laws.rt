@@ -62,7 +62,7 @@ pub fn prices_are_sint64()
     ensures normal { (v : ℤ) → ⟦<PriceCodec as SingularCodec>⟧.normal v }
     ensures accepted { (v : ℤ) → ⟦<PriceCodec as SingularCodec>⟧.refusal v ≡ None }
     ensures free { ⟦<PriceCodec as SingularCodec>⟧.never_fails }
-    ensures takes { (d : Datum) → ⟦<PriceCodec as SingularCodec>⟧.takes d → ⊥ }
+    ensures asks { (d : Datum) → ⟦<PriceCodec as SingularCodec>⟧.asks d → ⊥ }
     ensures cost { (d : Datum) → ⟦<PriceCodec as SingularCodec>⟧.cost d ≡ nothing }
     ensures unspent { (n : ℕ) (b left : BudgetLeft) (d : Datum) → ⟦<PriceCodec as SingularCodec>⟧.leaves n b d left
         → left ≡ b }

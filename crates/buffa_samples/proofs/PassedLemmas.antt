@@ -10,7 +10,7 @@ use Rattle.buffa_map_base.specs.Entry.{EntryFault, need_of}
 use Rattle.buffa_map_base.specs.Enums.{closed_writing}
 use Rattle.buffa_map.specs.Laws.{OneReading}
 use Rattle.buffa_map_base.specs.Merge.{ReadsRun, State, StopsRun, keeping, state}
-use Rattle.buffa_map.specs.Rewrite.{MatchRefusal, RefusesBytes, RefusesOutput, RewritesRun}
+use Rattle.buffa_map.specs.Rewrite.{MatchRefusal, RefusesDecoding, RefusesEncoding, RewritesRun}
 use Rattle.buffa_map_base.specs.Run.{EntryRecord, ArePaid, RecordFault, Run, RunBegins, inner_needs}
 use Rattle.buffa_map.specs.declared.rewrite.RewriteError.{RewriteError}
 use Rattle.buffa_map.specs.declared.rewrite.RewriteError.TheVariants.{Decode, Encode}
@@ -24,8 +24,8 @@ left_is b u m h k = subst (λ (z : ℕ). b ≡ record { unknown = u; memory = z 
 module _ {K : Type 0} (rk : Reading K) (rv : Reading ℤ) (key : Writing K) (eq : K → K → Bool) (keeps : Bool) (n cost : ℕ) (bs : List ℕ) (pairs : List (K × ℤ)) (walks : List (K × ℤ) → Type 0) where
   abbrev Refused : ℕ → ℕ → BudgetLeft → List ℕ → BudgetLeft → List ℕ → List ℕ → RewriteError → Type 0
   Refused room d left old over rest written x = MatchRefusal x
-      (RefusesBytes (keeping rk rv eq keeps d n cost) left bs pairs over rest old written)
-      (RefusesOutput (keeping rk rv eq keeps d n cost) key closed_writing walks left bs pairs over rest old written room)
+      (RefusesDecoding (keeping rk rv eq keeps d n cost) left bs pairs over rest old written)
+      (RefusesEncoding (keeping rk rv eq keeps d n cost) key closed_writing walks left bs pairs over rest old written room)
 
   -- what didn't fit in some room doesn't fit in none
   with_no_room : (room d : ℕ) (left : BudgetLeft) (old : List ℕ) (over : BudgetLeft) (rest written : List ℕ) (x : RewriteError) → Refused room d left old over rest written x → Refused 0 d left old over rest written x

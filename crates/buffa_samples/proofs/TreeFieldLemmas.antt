@@ -4,7 +4,7 @@ use Rattle.std.proofs.lemmas.Bool.{ne_eqb}
 use Rattle.std.specs.BTreeMap.{insert_entry}
 use Rattle.std.specs.Ordering.{int_cmp}
 use Rattle.std.specs.Prelude.{MatchResult}
-use Rattle.buffa_bytes.proofs.StepLemmas.{agree_err, agree_ok}
+use Rattle.buffa_bytes.proofs.StepLemmas.{agree_err}
 use Rattle.buffa_bytes.specs.declared.error.DecodeError.{DecodeError}
 use Rattle.buffa_bytes.specs.declared.error.DecodeError.TheVariants.{OutOfMemory}
 use Rattle.buffa_bytes.specs.declared.wire_type.WireType.{WireType}
@@ -15,7 +15,7 @@ use Rattle.buffa_bytes.specs.Gives.{◌>>=◌, FullOnlyIf, Gives}
 use Rattle.buffa_wire.specs.Message.{IsFieldMerged, cost_in, merged_in}
 use Rattle.buffa_bytes.specs.Front.{check_wire, skip_at}
 use Rattle.buffa_bytes.specs.Values.{int32_at}
-use Rattle.buffa_map_base.proofs.EntryLemmas.{check_sound}
+use Rattle.buffa_fields_base.proofs.WireLemmas.{checked_same, checked_other}
 use Rattle.buffa_map_base.proofs.NeedLemmas.{checked}
 use Rattle.buffa_map.specs.Children.{ChildCost, ChildMeaning, Children, children_in, listed-children_in}
 use Rattle.buffa_map.specs.declared.map_entry.MapEntry.{MapEntry}
@@ -89,7 +89,7 @@ module _ (d : ℕ) (m : ChildMeaning Grown) (c : ChildCost) where
 
   -- a field of number 2 and another wire type
   no_mismatch : (w : WireType) (e : DecodeError) → check_wire 2 LengthDelimited w ≡ Err e → NoLimit e
-  no_mismatch w e h = subst (λ z. NoLimit z) (sym (agree_err (check_wire 2 LengthDelimited w) e (check_sound 2 LengthDelimited w) h).1) (λ l. l)
+  no_mismatch w e h = subst (λ z. NoLimit z) (sym (checked_other 2 LengthDelimited w e h).1) (λ l. l)
 
   pub wire_paid : (e : DecodeError) (old : Grown) (n : ℕ) (w : WireType) (bs : List ℕ) (left : BudgetLeft) → n ≡ 2 → check_wire n LengthDelimited w ≡ Err e →
       TreePaid (refused e) old old n w bs bs left left
@@ -163,9 +163,6 @@ pub tree_by_payloads : ByPayload tree_takes tree_need tree_merged tree_cost
 tree_by_payloads = by_payload tree_need_stays tree_merged_is tree_cost_is
 
 -- ---- what isn't told as out of memory
-pub mismatch_full : (n : ℕ) (w : WireType) (e : DecodeError) → check_wire n LengthDelimited w ≡ Err e → e ≢ OutOfMemory
-mismatch_full n w e h full = let k = sym (agree_err (check_wire n LengthDelimited w) e (check_sound n LengthDelimited w) h).1 ∙ full in cc
-
 pub child_full : {T : Type 0} (n : ℕ) (w : WireType) (r : Result T DecodeError) → check_wire n LengthDelimited w ≡ Ok tt → FullOnlyIf r (w ≢ EndGroup)
 child_full n w (Ok x) h = tt
-child_full n w (Err e) h = λ full is. let k = sym (agree_ok (check_wire n LengthDelimited w) tt (check_sound n LengthDelimited w) h) ∙ is in cc
+child_full n w (Err e) h = λ full is. let k = sym (checked_same n LengthDelimited w h) ∙ is in cc

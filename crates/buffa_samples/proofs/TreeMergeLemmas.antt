@@ -1,6 +1,5 @@
 -- Merging the entry of a child: what the call for any map of messages promises, said of trees.
 use Rattle.std.proofs.Common.{◌≡◌, ◌⊎◌, inl, inr, refl, sym, ap, subst, ◌∙◌, arith, ℕ, zero, suc, ℤ, ◌+◌, ◌≤◌, ◌++◌, true, cond, List, [], ◌∷◌, length, None, Result, Ok, Err, OnOk, IfErr}
-use Rattle.std.specs.Cmp.{int_cmp_total}
 use Rattle.std.specs.List.Sorted.{IsStrictlySortedBy}
 use Rattle.std.specs.Map.{keys_of}
 use Rattle.std.specs.Ordering.{int_cmp, int_eq}
@@ -14,17 +13,15 @@ use Rattle.buffa_bytes.specs.Varint.{IsVarint}
 use Rattle.buffa_wire.specs.Message.{merged_in}
 use Rattle.buffa_map_base.proofs.EntryLemmas.{entry_complete, entry_faulty}
 use Rattle.buffa_map_base.proofs.NeedLemmas.{inner_is}
-use Rattle.buffa_map_base.proofs.PutLemmas.{SamePairs-insert_entry}
 use Rattle.buffa_map_base.specs.Entry.{EntryFault, EntryOf, IsEntry, IsEntryField, blanks, inner_need, need_at, need_of}
-use Rattle.buffa_map.proofs.ChildrenLemmas.{ChildPut, ChildRefused, meant_step}
+use Rattle.buffa_map.proofs.ChildrenLemmas.{ChildPut, ChildRefused, child_put}
 use Rattle.buffa_map_base.specs.Scalars.{int32_reading}
 use Rattle.buffa_map.specs.Children.{ChildCost, ChildMeaning, child_reading, meant_children}
 use Rattle.buffa_map_base.specs.MessageFacts.{meant_known}
-use Rattle.buffa_map_base.specs.Pairs.{SamePairs, put}
+use Rattle.buffa_map_base.specs.Pairs.{SamePairs}
 use Rattle.buffa_wire.specs.Sequence.{ParsesEach}
 use Rattle.buffa_map_base.specs.Run.{step}
 use Rattle.buffa_map.specs.declared.map_entry.MapEntry.{MapEntry}
-use Rattle.buffa_map_base.proofs.SortedLemmas.{same_sorted, sorted_put}
 use Rattle.buffa_samples.specs.Grown.{Grown, blank_tree}
 use Rattle.buffa_samples.proofs.TreeFieldLemmas.{done, refused}
 use Rattle.buffa_samples.specs.TreeFacts.{entry_no_limit}
@@ -33,10 +30,7 @@ use Rattle.buffa_samples.specs.TreeMeaning.{IsChildMerged, child_at, entry_need,
 -- ---- the map, as a list in order
 is_put : (old new : List (ℤ × Grown)) (s : MapEntry ℤ Grown) → IsStrictlySortedBy int_cmp (keys_of old) → IsStrictlySortedBy int_cmp (keys_of new) → s.known ≡ true →
     SamePairs int_eq (step int_eq (meant_children old) s) (meant_children new) → new ≡ insert_entry int_cmp old s.key s.value
-is_put old new s ordered now known h =
-    let same : SamePairs int_eq (put int_eq old s.key s.value) new = subst (λ b. SamePairs int_eq (cond b (put int_eq old s.key s.value) old) new) known (meant_step old new s h) in
-    same_sorted int_cmp_total new (insert_entry int_cmp old s.key s.value) now (sorted_put int_cmp_total old s.key s.value ordered)
-    (λ q. sym (same q) ∙ SamePairs-insert_entry int_cmp_total old s.key s.value ordered q)
+is_put old new s ordered now known h = subst (λ b. new ≡ cond b (insert_entry int_cmp old s.key s.value) old) known (child_put old new s ordered now h)
 
 -- ---- what an entry says, at a level
 module _ (d : ℕ) (m : ChildMeaning Grown) (c : ChildCost) where

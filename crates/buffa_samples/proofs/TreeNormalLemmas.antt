@@ -1,9 +1,8 @@
 -- What bytes make of a normal tree is one.
-use Rattle.std.proofs.Common.{◌≡◌, inl, inr, ℕ, zero, suc, ℤ, pos, ◌==◌, FitsSigned, Bool, List, [], ◌∷◌, Option, None, Some, Ok, refl, sym, ap, subst}
-use Rattle.std.proofs.lemmas.Int.{SFits-int_wrap}
+use Rattle.std.proofs.Common.{◌≡◌, inl, inr, ℕ, zero, suc, ℤ, ◌==◌, FitsSigned, Bool, List, [], ◌∷◌, Option, None, Some, Ok, refl, sym, ap, subst}
 use Rattle.std.specs.BTreeMap.{insert_entry}
 use Rattle.std.specs.Cmp.{int_cmp_total}
-use Rattle.std.specs.Int.{int_wrap, w32}
+use Rattle.std.specs.Int.{w32}
 use Rattle.std.specs.List.Sorted.{IsStrictlySortedBy}
 use Rattle.std.specs.Map.{keys_of}
 use Rattle.std.specs.Ordering.{int_cmp, match_ordering}
@@ -24,6 +23,7 @@ use Rattle.buffa_bytes.specs.Content.{bytes_in, number_in}
 use Rattle.buffa_wire.specs.Message.{merged_in}
 use Rattle.buffa_wire.specs.BudgetLeft.{nothing}
 use Rattle.buffa_wire.specs.Sequence.{ParsesEach}
+use Rattle.buffa_bytes.proofs.ScalarLemmas.{int32_fits}
 use Rattle.buffa_bytes.specs.Values.{int32_at, int32_of}
 use Rattle.buffa_map_base.proofs.EntryLemmas.{check_sound, entry_sound}
 use Rattle.buffa_map_base.specs.Entry.{IsEntry, IsEntryField, blanks}
@@ -34,10 +34,6 @@ use Rattle.buffa_samples.specs.FieldsFacts.{Keeps, merged_keeps}
 use Rattle.buffa_samples.specs.Grown.{Grown, blank_tree, grown}
 use Rattle.buffa_samples.specs.TreeMeaning.{child_at, child_field, tree_field, tree_merged, with_child, with_label}
 use Rattle.buffa_samples.specs.TreeEncoding.{IsNormalTree}
-
-int32_fits : (n : ℕ) → FitsSigned w32 (int32_of n)
-unfolding int_wrap
-int32_fits n = SFits-int_wrap w32 (pos n)
 
 -- ---- a child is put
 abbrev AreNormalTrees : Children ℤ → Type 0

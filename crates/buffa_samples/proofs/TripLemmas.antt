@@ -1,5 +1,6 @@
 -- Why a map may not come back: what is read is a run, so only the budget has a fault.
-use Rattle.std.proofs.Common.{◌≡◌, ◌∙◌, ◌+◌, ap, subst, ◌-◌, ◌*◌, ◌<◌, ◌≤◌, ℕ, Bool, List, [], length, inl, inr, refl, arith}
+use Rattle.std.proofs.Common.{◌≡◌, ◌∙◌, ◌+◌, ◌++◌, ap, subst, sym, ◌-◌, ◌*◌, ◌<◌, ◌≤◌, ℕ, Bool, List, [], length, inl, inr, refl, arith}
+use Rattle.std.specs.Map.{lookup_entry}
 use Rattle.std.specs.Prelude.{◌⊎◌}
 use Rattle.std.proofs.Math.Nat.{lt_of_not-le}
 use Rattle.buffa_bytes.specs.declared.error.DecodeError.{DecodeError}
@@ -9,9 +10,11 @@ use Rattle.buffa_bytes.specs.declared.error.EncodeError.TheVariants.{MessageTooL
 use Rattle.buffa_wire.specs.BudgetLeft.{BudgetLeft, nothing, units}
 use Rattle.buffa_map_base.specs.Entry.{need_of}
 use Rattle.buffa_map_base.specs.Codec.{Reading, Writing}
-use Rattle.buffa_map_base.specs.Merge.{State, StopsRun, dropping, state}
-use Rattle.buffa_map_base.specs.Run.{ArePaid, RecordFault, Run, RunFault, EntryRecord, inner_needs}
+use Rattle.buffa_map_base.specs.Merge.{ReadsRun, Rules, State, StopsRun, dropping, state}
+use Rattle.buffa_map_base.specs.Run.{ArePaid, RecordFault, Run, RunFault, EntryRecord, fold_entries, inner_needs}
 use Rattle.buffa_map_base.specs.Encoding.{RefusesField, field_encoding}
+use Rattle.buffa_map_base.specs.Pairs.{InOrder, SamePairs}
+use Rattle.buffa_map.specs.Laws.{FieldReadsBack, OneReading}
 use Rattle.buffa_samples.specs.RoundTrip.{RefusesPairs}
 use Rattle.buffa_samples.specs.declared.round_trip.TripFault.TheVariants.{Encode}
 
@@ -66,6 +69,35 @@ pub as_units : (b : BudgetLeft) (n : ℕ) → b.unknown ≡ 0 → b.memory ≡ n
 as_units b n u m = ap (λ (z : ℕ). record { unknown = z; memory = b.memory }) u ∙ ap (λ (z : ℕ). record { unknown = 0; memory = z }) m
 
 -- what is paid costs no more than was left
-pub paid_for : {K V : Type 0} (rk : Reading K) (rv : Reading V) (d cost extra : ℕ) (left over : BudgetLeft) (es : List (EntryRecord K V)) (all many : ℕ) →
+paid_for : {K V : Type 0} (rk : Reading K) (rv : Reading V) (d cost extra : ℕ) (left over : BudgetLeft) (es : List (EntryRecord K V)) (all many : ℕ) →
     left.memory ≡ all → length es ≡ many → ArePaid rk rv d cost extra left es over → many * cost ≤ all
 paid_for rk rv d cost extra left over es all many is count paid = subst (λ z. z * cost ≤ all) count (omega (arith, is, paid.0))
+
+-- an empty sink holds what was written
+pub wrote : {bytes now old : List ℕ} (put : List ℕ) → old ≡ [] → now ≡ old ++ put → bytes ≡ now → bytes ≡ put
+wrote put empty put_is is = is ∙ put_is ∙ ap (λ (z : List ℕ). z ++ put) empty
+
+-- a run that is read at the same depth, of the same bytes, has the same entries
+pub one_run : {K V : Type 0} {key : Reading K} {val : Reading V} → OneReading key val → (d e n : ℕ) (bytes field : List ℕ) (es fs : List (EntryRecord K V)) → d ≡ e → bytes ≡ field → Run key val d n bytes es → Run key val e n field fs → es ≡ fs
+one_run {key = key} {val = val} one d e n bytes field es fs depth is run other = one.run e n field es fs (subst (λ (b : List ℕ). Run key val e n b es) is (subst (λ (z : ℕ). Run key val z n bytes es) depth run)) other
+
+-- ---- the field that was written was read, into an empty map
+module _ {K V : Type 0} {rules : Rules K V} {old new : State K V} {bytes rest : List ℕ} (r : ReadsRun rules old bytes new rest) (one : OneReading rules.key rules.val)
+    {kw : Writing K} {vw : Writing V} {KeyFits KeyNormal : K → Type 0} {ValFits ValNormal : V → Type 0} {l : List (K × V)} (back : FieldReadsBack rules.key rules.val kw vw rules.same KeyFits KeyNormal ValFits ValNormal rules.depth rules.number l)
+    (is : bytes ≡ field_encoding kw vw rules.number l) (empty : old.pairs ≡ []) where
+  -- its entries are those of the walk
+  same : r.entries ≡ back.entries
+  same = one_run one rules.depth rules.depth rules.number bytes (field_encoding kw vw rules.number l) r.entries back.entries refl is r.run back.run
+
+  folds : fold_entries rules.same old.pairs r.entries ≡ l
+  folds = ap (λ m. fold_entries rules.same m r.entries) empty ∙ ap (fold_entries rules.same []) same ∙ back.folded
+
+  -- so the same pairs came back, in the same order, and cost no more than was left
+  pub pairs_came : (m : List (K × V)) → SamePairs rules.same m l → SamePairs rules.same m new.pairs
+  pairs_came m walk q = walk q ∙ ap (lookup_entry (rules.same q)) (sym folds) ∙ r.folded q
+
+  pub order_came : InOrder rules.keeps_order l new.pairs
+  order_came keeps = r.order keeps ∙ folds
+
+  pub cost_came : (all : ℕ) → old.left.memory ≡ all → length l * rules.cost ≤ all
+  cost_came all memory = paid_for rules.key rules.val rules.depth rules.cost rules.extra old.left new.left r.entries all (length l) memory (ap length same ∙ back.many) r.paid

@@ -4,6 +4,7 @@ use Rattle.buffa_bytes.proofs.ShortestLemmas.{varint_encoding-last}
 use Rattle.buffa_bytes.proofs.SinkLemmas.{exits_first, writes_then}
 use Rattle.buffa_bytes.proofs.StepLemmas.{agree_if}
 use Rattle.buffa_bytes.proofs.VarintLemmas.{IsVarint-varint_encoding, varint_complete}
+use Rattle.buffa_bytes.specs.Front.{varint_at}
 use Rattle.buffa_bytes.specs.Written.{Writes, WritesFront}
 use Rattle.buffa_bytes.specs.declared.error.EncodeError.{EncodeError}
 use Rattle.buffa_bytes.specs.declared.error.EncodeError.TheVariants.{OutOfMemory}
@@ -15,14 +16,14 @@ use Rattle.buffa_bytes.specs.Varint.{varint_encoding}
 use Rattle.buffa_wire.specs.ByField.{merged_by}
 use Rattle.buffa_samples.specs.Fields.{skipped_field, varint_field}
 use Rattle.buffa_wire.proofs.ByFieldLemmas.{IsSame, IsSound, empty, read}
-use Rattle.buffa_samples.specs.FieldsFacts.{Ends, ends_if, number_tag, same_if, skipped_ends, skipped_same, skipped_sound, tag_one, varint_same, varint_sound}
+use Rattle.buffa_samples.specs.FieldsFacts.{Ends, ends_if, number_tag, one_same, one_sound, same_if, skipped_ends, skipped_same, skipped_sound, tag_one, varint_takes}
 use Rattle.buffa_samples.specs.Count.{count_field, count_merged, count_records, count_encoding, one_more, one_encoding}
 
 pub count_sound : (d : ℕ) → IsSound d (count_field d)
-count_sound d v n w bs = agree_if (n == 9) (λ _. varint_sound d n 9 (λ _. one_more v) w bs) (λ _. skipped_sound d v n w bs)
+count_sound d v n w bs = agree_if (n == 9) (λ _. one_sound d n 9 varint_at (λ _. one_more v) varint_takes w bs) (λ _. skipped_sound d v n w bs)
 
 pub count_same : (d : ℕ) → IsSame d (count_field d)
-count_same d v n w p h = same_if (varint_field 9 (λ _. one_more v) w) (skipped_field d v n w) p (n == 9) (varint_same d n 9 (λ _. one_more v) w p h) (skipped_same d v n w p h)
+count_same d v n w p h = same_if (varint_field 9 (λ _. one_more v) w) (skipped_field d v n w) p (n == 9) (one_same d n 9 varint_at (λ _. one_more v) (λ k. k) (λ q x k. varint_complete q k x) w p h) (skipped_same d v n w p h)
 
 varint_ends : (v : ℕ) (bs : List ℕ) → varint_field 9 (λ _. one_more v) EndGroup bs ≢ Err error.OutOfMemory
 varint_ends v bs h = cc

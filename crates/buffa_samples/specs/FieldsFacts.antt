@@ -3,26 +3,27 @@ use Rattle.std.proofs.Common.{◌≡◌, ◌≢◌, inl, inr, ℤ, pos, negsuc, 
 use Rattle.buffa_bytes.specs.Gives.{◌>>=◌, FullOnlyIf, Gives}
 use Rattle.buffa_bytes.specs.Field.{IsTag, Payload}
 use Rattle.buffa_bytes.specs.Number.{IsNumber}
-use Rattle.buffa_bytes.specs.Front.{tag_at}
+use Rattle.buffa_bytes.specs.Front.{check_wire, tag_at, varint_at}
 use Rattle.buffa_wire.specs.Records.{Datum}
 use Rattle.buffa_wire.specs.Encoding.{records_encoding}
 use Rattle.buffa_bytes.specs.Values.{int32_at, int32_of, int32_encoding, tag_encoding}
-use Rattle.buffa_bytes.specs.Varint.{TakesVarint, VarintFault}
+use Rattle.buffa_bytes.specs.Varint.{IsVarint, TakesVarint, VarintFault}
+use Rattle.buffa_bytes.specs.WireType.{same_wire}
 use Rattle.buffa_bytes.specs.declared.wire_type.WireType.{WireType}
-use Rattle.buffa_bytes.specs.declared.wire_type.WireType.TheVariants.{Varint, Fixed64, LengthDelimited, StartGroup, EndGroup, Fixed32}
+use Rattle.buffa_bytes.specs.declared.wire_type.WireType.TheVariants.{Varint, EndGroup}
 use Rattle.buffa_bytes.specs.declared.error.DecodeError.{DecodeError}
 use Rattle.buffa_bytes.specs.declared.error.DecodeError.TheVariants.{OutOfMemory, WireTypeMismatch}
-use Rattle.buffa_bytes.proofs.StepLemmas.{Agrees, agree_bind, agree_if}
-use Rattle.buffa_bytes.proofs.FieldLemmas.{payload_complete, payload_sound}
+use Rattle.buffa_bytes.proofs.StepLemmas.{Agrees, agree_bind, agree_if, agree_weaker}
+use Rattle.buffa_bytes.proofs.FieldLemmas.{payload_complete, payload_sound, same_true}
 use Rattle.buffa_bytes.proofs.ShortestLemmas.{varint_encoding-last}
-use Rattle.buffa_bytes.proofs.VarintLemmas.{IsVarint-varint_encoding, varint_complete, varint_sound as varint_is_sound}
+use Rattle.buffa_bytes.proofs.VarintLemmas.{IsVarint-varint_encoding, varint_complete, varint_sound}
 use Rattle.buffa_wire.proofs.MessageLemmas.{NoLimit, payload_no_limit, var_no_limit}
 use Rattle.buffa_wire.specs.Sequence.{parse_all}
 use Rattle.buffa_wire.proofs.SequenceLemmas.{ok_same, parse_keeps}
 use Rattle.buffa_map_base.proofs.EntryLemmas.{check_sound}
 use Rattle.buffa_wire.specs.ByField.{FieldReader, merged_by, next_at}
 use Rattle.buffa_wire.proofs.ByFieldLemmas.{IsSame, IsSound, Same, read, some_of}
-use Rattle.buffa_samples.specs.Fields.{int32_field, number_records, number_encoding, skipped_field, value_field, varint_field}
+use Rattle.buffa_samples.specs.Fields.{int32_field, number_records, number_encoding, skipped_field, value_field}
 use Rattle.buffa_wire.proofs.EncodingLemmas.{records_encoding-append}
 
 -- ---- fields that are passed over
@@ -33,45 +34,47 @@ module _ {X : Type 0} (d : ℕ) (v : X) (n : ℕ) (w : WireType) where
   pub skipped_same : (p : List ℕ) → Payload d n w p → Same (skipped_field d v n w) p
   skipped_same p h = inl (v, λ x. rw (payload_complete d n w p x h) refl)
 
--- ---- varint fields
+-- ---- fields of one wire type: of number m, in a field of number n, which is m
+module _ {X : Type 0} (d n m : ℕ) (v : WireType) (reads : List ℕ → Result (X × List ℕ) DecodeError) where
+  abbrev checked : WireType → List ℕ → Result (X × List ℕ) DecodeError
+  checked w bs = check_wire m v w >>= (λ _. reads bs)
 
--- the fault of another wire type is no limit
-other_wire : (m : ℕ) (w : WireType) (e : DecodeError) → e ≡ WireTypeMismatch m Varint w → NoLimit e
-other_wire m w e h = subst (λ z. NoLimit z) (sym h) (λ l. l)
+  pub checked_sound : ((bs : List ℕ) → Agrees (reads bs) (λ x. (p : List ℕ) × Payload d n v p × (bs ≡ p ++ x.1)) NoLimit) →
+      (w : WireType) (bs : List ℕ) → Agrees (checked w bs) (λ x. (p : List ℕ) × Payload d n w p × (bs ≡ p ++ x.1)) NoLimit
+  checked_sound sound w bs = agree_bind (check_sound m v w)
+      (λ _ wire. agree_weaker (sound bs) (λ x u. (u.0, subst (λ z. Payload d n z u.0) (sym wire) u.1, u.2)) (λ e h. h))
+      (λ e h. subst (λ z. NoLimit z) (sym h.1) (λ l. l))
 
--- of number m, in a field of number n, which is m
-module _ {X : Type 0} (d n m : ℕ) (put : ℕ → X) where
-  pub varint_sound : (w : WireType) (bs : List ℕ) → Agrees (varint_field m put w bs) (λ x. (p : List ℕ) × Payload d n w p × (bs ≡ p ++ x.1)) NoLimit
-  varint_sound w bs = agree_bind (check_sound m Varint w)
-      (λ _ wire. agree_bind (varint_is_sound bs) (λ k u. record { holds = (u.0, subst (λ z. Payload d n z u.0) (sym wire) (k.0, u.1), u.2) }) (λ e h. var_no_limit bs e h))
-      (λ e h. other_wire m w e h.1)
+  pub checked_alike : (w : WireType) (p : List ℕ) → Payload d n w p → (Payload d n v p → Same reads p) → Same (checked w) p
+  checked_alike w p h same = at (same_wire v w) refl
+    where
+      at : (b : Bool) → same_wire v w ≡ b → Same (λ bs. (let r : Result (Unit {0}) DecodeError = if b then Ok tt else Err (WireTypeMismatch m v w) in r) >>= (λ _. reads bs)) p
+      at true is = same (subst (λ z. Payload d n z p) (sym (same_true v w is)) h)
+      at false is = inr (WireTypeMismatch m v w, λ x. refl)
 
-  pub varint_same : (w : WireType) (p : List ℕ) → Payload d n w p → Same (varint_field m put w) p
-  varint_same Varint p (k, h) = inl (put k, λ x. rw (varint_complete p k x h) refl)
-  varint_same Fixed64 p h = inr (WireTypeMismatch m Varint Fixed64, λ x. refl)
-  varint_same LengthDelimited p h = inr (WireTypeMismatch m Varint LengthDelimited, λ x. refl)
-  varint_same StartGroup p h = inr (WireTypeMismatch m Varint StartGroup, λ x. refl)
-  varint_same EndGroup p h = inr (WireTypeMismatch m Varint EndGroup, λ x. refl)
-  varint_same Fixed32 p h = inr (WireTypeMismatch m Varint Fixed32, λ x. refl)
+-- where a varint is read, and put so
+module _ {A X : Type 0} (d n m : ℕ) (read : List ℕ → Result (A × List ℕ) DecodeError) (put : A → X) where
+  abbrev put_read : List ℕ → Result (X × List ℕ) DecodeError
+  put_read bs = read bs >>= (λ x. Ok (put x.0, x.1))
 
--- ---- int32 fields
-int32_takes : (bs : List ℕ) → Agrees (int32_at bs) (λ x. (k : ℕ) × TakesVarint bs k x.1) (VarintFault bs)
-int32_takes bs = agree_bind (varint_is_sound bs) (λ k u. record { holds = (k.0, u) }) (λ e h. h)
+  pub one_sound : ((bs : List ℕ) → Agrees (read bs) (λ x. (k : ℕ) × TakesVarint bs k x.1) (VarintFault bs)) →
+      (w : WireType) (bs : List ℕ) → Agrees (checked d n m Varint put_read w bs) (λ x. (p : List ℕ) × Payload d n w p × (bs ≡ p ++ x.1)) NoLimit
+  one_sound takes =
+      checked_sound d n m Varint put_read (λ bs. agree_bind (takes bs) (λ x u. record { holds = (u.1.0, (u.0, u.1.1), u.1.2) }) (λ e h. var_no_limit bs e h))
 
--- of number m, in a field of number n, which is m
-module _ {X : Type 0} (d n m : ℕ) (put : ℤ → X) where
-  pub int32_sound : (w : WireType) (bs : List ℕ) → Agrees (int32_field m put w bs) (λ x. (p : List ℕ) × Payload d n w p × (bs ≡ p ++ x.1)) NoLimit
-  int32_sound w bs = agree_bind (check_sound m Varint w)
-      (λ _ wire. agree_bind (int32_takes bs) (λ x u. record { holds = (u.1.0, subst (λ z. Payload d n z u.1.0) (sym wire) (u.0, u.1.1), u.1.2) }) (λ e h. var_no_limit bs e h))
-      (λ e h. other_wire m w e h.1)
+  pub one_same : (of : ℕ → A) → ((p x : List ℕ) (k : ℕ) → IsVarint p k → read (p ++ x) ≡ Ok (of k, x)) → (w : WireType) (p : List ℕ) → Payload d n w p → Same (checked d n m Varint put_read w) p
+  one_same of reads w p h = checked_alike d n m Varint put_read w p h (λ u. inl (put (of u.0), λ x. rw (reads p x u.0 u.1) refl))
 
-  pub int32_same : (w : WireType) (p : List ℕ) → Payload d n w p → Same (int32_field m put w) p
-  int32_same Varint p (k, h) = inl (put (int32_of k), λ x. rw (varint_complete p k x h) refl)
-  int32_same Fixed64 p h = inr (WireTypeMismatch m Varint Fixed64, λ x. refl)
-  int32_same LengthDelimited p h = inr (WireTypeMismatch m Varint LengthDelimited, λ x. refl)
-  int32_same StartGroup p h = inr (WireTypeMismatch m Varint StartGroup, λ x. refl)
-  int32_same EndGroup p h = inr (WireTypeMismatch m Varint EndGroup, λ x. refl)
-  int32_same Fixed32 p h = inr (WireTypeMismatch m Varint Fixed32, λ x. refl)
+-- what a varint says
+pub varint_takes : (bs : List ℕ) → Agrees (varint_at bs) (λ x. (k : ℕ) × TakesVarint bs k x.1) (VarintFault bs)
+varint_takes bs = agree_weaker (varint_sound bs) (λ k u. (k.0, u)) (λ e h. h)
+
+-- and an int32
+pub int32_takes : (bs : List ℕ) → Agrees (int32_at bs) (λ x. (k : ℕ) × TakesVarint bs k x.1) (VarintFault bs)
+int32_takes bs = agree_bind (varint_sound bs) (λ k u. record { holds = (k.0, u) }) (λ e h. h)
+
+pub int32_reads : (p x : List ℕ) (k : ℕ) → IsVarint p k → int32_at (p ++ x) ≡ Ok (int32_of k, x)
+int32_reads p x k h = rw (varint_complete p k x h) refl
 
 -- one of two fields
 pub same_if : {X : Type 0} (f g : List ℕ → Result (X × List ℕ) DecodeError) (p : List ℕ) (b : Bool) → Same f p → Same g p → Same (λ bs. if b then f bs else g bs) p
@@ -112,7 +115,7 @@ full_not_at_end field ends (Ok x) old new n w bs rest h = tt
 full_not_at_end field ends (Err e) old new n w bs rest h = λ full is. ends old n bs (ap (λ z. field old n z bs) (sym is) ∙ h ∙ ap (λ z. Err z) full)
 
 pub value_sound : (d : ℕ) → IsSound d (value_field d)
-value_sound d v n w bs = agree_if (n == 1) (λ _. int32_sound d n 1 (λ x. x) w bs) (λ _. skipped_sound d v n w bs)
+value_sound d v n w bs = agree_if (n == 1) (λ _. one_sound d n 1 int32_at (λ x. x) int32_takes w bs) (λ _. skipped_sound d v n w bs)
 
 pub value_ends : (d : ℕ) → Ends (value_field d)
 value_ends d v n bs = ends_if (n == 1) (int32_field 1 (λ x. x) EndGroup bs) (skipped_field d v n EndGroup bs) (int32_ends 1 (λ x. x) bs) (skipped_ends d v n bs)

@@ -9,7 +9,7 @@ use Rattle.buffa_map_base.specs.Codec.{Reading, Writing}
 use Rattle.buffa_map_base.specs.Enums.{ClosedFits, closed_reading, closed_writing}
 use Rattle.buffa_map_base.specs.Merge.{ReadsRun, Rules, StopsRun, keeping, state}
 use Rattle.buffa_map_base.specs.Pairs.{SamePairs}
-use Rattle.buffa_map.specs.Rewrite.{MatchRefusal, Ordered, RefusesBytes, RefusesOutput, RewritesRun}
+use Rattle.buffa_map.specs.Rewrite.{MatchRefusal, Ordered, RefusesDecoding, RefusesEncoding, RewritesRun}
 use Rattle.buffa_map_base.specs.Run.{EntryRecord, Run, fold_entries, undeclared_records}
 use Rattle.buffa_map.specs.declared.rewrite.RewriteError.{RewriteError}
 use Rattle.buffa_samples.specs.declared.passed_on.PassFault.{PassFault}
@@ -76,8 +76,8 @@ module _ {K : Type 0} (p : Proxy K) (KeyFits : K → Type 0) (d n : ℕ) (bytes 
   abbrev pub NotRewritten : (List (K × ℤ) → Type 0) → List (K × ℤ) → RewriteError → Type 0
   NotRewritten walks pairs e =
       (over : BudgetLeft) × (rest : List ℕ) × (written : List ℕ)
-      × MatchRefusal e (RefusesBytes (p.older d n) defaults bytes pairs over rest [] written)
-      (RefusesOutput (p.older d n) p.key closed_writing walks defaults bytes pairs over rest [] written 0)
+      × MatchRefusal e (RefusesDecoding (p.older d n) defaults bytes pairs over rest [] written)
+      (RefusesEncoding (p.older d n) p.key closed_writing walks defaults bytes pairs over rest [] written 0)
 
   -- the older reader read the bytes from the default budget, filled are the pairs that they make of the empty map, and out is
   -- a rewrite of the run

@@ -2,9 +2,10 @@
 use Rattle.std.proofs.Common.{◌≡◌, inl, inr, ℕ, zero, suc, ◌==◌, Bool, List, [], ◌++◌, length, Result, Ok, Err, refl, sym, ap, subst, ◌∙◌, arith, append_assoc, append-nil, if◌then◌else◌}
 use Rattle.buffa_bytes.proofs.DelimitedLemmas.{delimited_sound, delimited_taken}
 use Rattle.buffa_bytes.proofs.StepLemmas.{Agrees, agree_bind, agree_if}
+use Rattle.buffa_bytes.specs.Gives.{◌>>=◌}
+use Rattle.buffa_bytes.specs.Values.{int32_at, int32_of}
 use Rattle.buffa_bytes.specs.Field.{TakesDelimited, Payload}
 use Rattle.buffa_bytes.specs.declared.error.DecodeError.{DecodeError}
-use Rattle.buffa_bytes.specs.declared.error.DecodeError.TheVariants.{WireTypeMismatch}
 use Rattle.buffa_bytes.specs.declared.wire_type.WireType.{WireType}
 use Rattle.buffa_bytes.specs.declared.wire_type.WireType.TheVariants.{Varint, Fixed64, LengthDelimited, StartGroup, EndGroup, Fixed32}
 use Rattle.buffa_wire.proofs.MessageLemmas.{NoLimit, length_no_limit}
@@ -16,7 +17,7 @@ use Rattle.buffa_map_base.specs.Scalars.{int32_reading}
 use Rattle.buffa_map.specs.Children.{ChildCost, ChildMeaning, child_reading, children_encoding, children_records}
 use Rattle.buffa_bytes.specs.Varint.{IsVarint}
 use Rattle.buffa_wire.proofs.SequenceLemmas.{ok_same}
-use Rattle.buffa_map_base.proofs.EntryLemmas.{check_sound, entry_sound}
+use Rattle.buffa_map_base.proofs.EntryLemmas.{entry_sound}
 use Rattle.buffa_map_base.specs.Entry.{FaultOf, entry_of, need_of}
 use Rattle.buffa_map.specs.declared.map_entry.MapEntry.{MapEntry}
 use Rattle.buffa_wire.proofs.TakesLemmas.{cost_by_is, merged_by_is}
@@ -24,7 +25,7 @@ use Rattle.buffa_wire.specs.ByField.{FieldReader}
 use Rattle.buffa_wire.specs.Takes.{Stays, cost_of, merged_of}
 use Rattle.buffa_samples.specs.Fields.{int32_field, skipped_field, value_encoding, value_records}
 use Rattle.buffa_wire.proofs.ByFieldLemmas.{IsSame, IsSound, Same}
-use Rattle.buffa_samples.specs.FieldsFacts.{both_records, int32_same, int32_sound, number_encoding_records, same_if, skipped_same, skipped_sound}
+use Rattle.buffa_samples.specs.FieldsFacts.{both_records, checked_alike, checked_sound, int32_reads, int32_takes, number_encoding_records, one_same, one_sound, same_if, skipped_same, skipped_sound}
 use Rattle.buffa_samples.specs.Grown.{Grown, blank_tree, grown}
 use Rattle.buffa_samples.specs.TreeMeaning.{child_at, child_field, child_need, tree_cost, tree_merged, tree_need, tree_takes, tree_field, tree_field_need, with_child, with_label}
 use Rattle.buffa_samples.specs.TreeEncoding.{tree_encoding, tree_records, tree_around}
@@ -50,9 +51,6 @@ module _ (d : ℕ) (m : ChildMeaning Grown) where
         | inr k ↦ lacks_not needed (subst (λ z. Lacks needed (plus (need_of int32_reading (child_reading blank_tree m (λ _. nothing)) d 0 z) (unknown_fields 0))) same k.3)
       ]
 
-  mismatch : (w : WireType) (e : DecodeError) → e ≡ WireTypeMismatch 2 LengthDelimited w → NoLimit e
-  mismatch w e h = subst (λ z. NoLimit z) (sym h) (λ l. l)
-
   pub said_sound : (n : ℕ) (bs : List ℕ) → Agrees (child_at d m bs) (λ x. (p : List ℕ) × Payload d n LengthDelimited p × (bs ≡ p ++ x.1)) NoLimit
   said_sound n bs = agree_bind (delimited_sound bs)
       (λ e u. agree_bind (entry_sound int32_reading (child_reading blank_tree m (λ _. nothing)) d e.0)
@@ -61,32 +59,25 @@ module _ (d : ℕ) (m : ChildMeaning Grown) where
       (λ e h. length_no_limit bs e h)
 
   child_sound : (t : Grown) (n : ℕ) (w : WireType) (bs : List ℕ) → Agrees (child_field d m t w bs) (λ x. (p : List ℕ) × Payload d n w p × (bs ≡ p ++ x.1)) NoLimit
-  child_sound t n w bs = agree_bind (check_sound 2 LengthDelimited w)
-      (λ _ wire. agree_bind (said_sound n bs)
-      (λ s u. record { holds = (u.0, subst (λ z. Payload d n z u.0) (sym wire) u.1, u.2) })
-      (λ e h. h))
-      (λ e h. mismatch w e h.1)
+  child_sound t n = checked_sound {X = Grown} d n 2 LengthDelimited (λ bs. child_at d m bs >>= (λ s. Ok (with_child t s.0.key s.0.value, s.1)))
+      (λ bs. agree_bind (said_sound n bs) (λ s u. record { holds = u }) (λ e h. h))
 
   read_by : (t : Grown) (p v body : List ℕ) → IsVarint v (length body) → p ≡ v ++ body → (r : Result (MapEntry _ Grown) DecodeError) → entry_of int32_reading (child_reading blank_tree m (λ _. nothing)) d body ≡ r → Same (child_field d m t LengthDelimited) p
   read_by t p v body h is (Ok s) k = inl (with_child t s.key s.value, λ x. rw (delimited_taken (p ++ x) body x (v, h, ap (λ z. z ++ x) is ∙ append_assoc v body x), k) refl)
   read_by t p v body h is (Err e) k = inr (e, λ x. rw (delimited_taken (p ++ x) body x (v, h, ap (λ z. z ++ x) is ∙ append_assoc v body x), k) refl)
 
   child_same : (t : Grown) (n : ℕ) (w : WireType) (p : List ℕ) → Payload d n w p → Same (child_field d m t w) p
-  child_same t n LengthDelimited p (v, body, h, is) = read_by t p v body h is (entry_of int32_reading (child_reading blank_tree m (λ _. nothing)) d body) refl
-  child_same t n Varint p h = inr (WireTypeMismatch 2 LengthDelimited Varint, λ x. refl)
-  child_same t n Fixed64 p h = inr (WireTypeMismatch 2 LengthDelimited Fixed64, λ x. refl)
-  child_same t n StartGroup p h = inr (WireTypeMismatch 2 LengthDelimited StartGroup, λ x. refl)
-  child_same t n EndGroup p h = inr (WireTypeMismatch 2 LengthDelimited EndGroup, λ x. refl)
-  child_same t n Fixed32 p h = inr (WireTypeMismatch 2 LengthDelimited Fixed32, λ x. refl)
+  child_same t n w p h = checked_alike {X = Grown} d n 2 LengthDelimited (λ bs. child_at d m bs >>= (λ s. Ok (with_child t s.0.key s.0.value, s.1))) w p h
+      (λ u. read_by t p u.0 u.1 u.2 u.3 (entry_of int32_reading (child_reading blank_tree m (λ _. nothing)) d u.1) refl)
 
   pub tree_sound : IsSound d (tree_field d m)
-  tree_sound t n w bs = agree_if (n == 1) (λ _. int32_sound d n 1 (with_label t) w bs)
+  tree_sound t n w bs = agree_if (n == 1) (λ _. one_sound d n 1 int32_at (with_label t) int32_takes w bs)
       (λ _. agree_if (n == 2) (λ _. child_sound t n w bs) (λ _. skipped_sound d t n w bs))
 
   pub tree_same : IsSame d (tree_field d m)
   tree_same t n w p h =
       let other : List ℕ → Result (Grown × List ℕ) DecodeError = λ bs. if n == 2 then child_field d m t w bs else skipped_field d t n w bs in
-      same_if (int32_field 1 (with_label t) w) other p (n == 1) (int32_same d n 1 (with_label t) w p h)
+      same_if (int32_field 1 (with_label t) w) other p (n == 1) (one_same d n 1 int32_at (with_label t) int32_of int32_reads w p h)
       (same_if (child_field d m t w) (skipped_field d t n w) p (n == 2) (child_same t n w p h) (skipped_same d t n w p h))
 
   module _ (c : ChildCost) where

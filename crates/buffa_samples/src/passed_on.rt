@@ -113,7 +113,7 @@ pub fn passed_on<
         (C.pairs scratch.new) (D.pairs map.old) unknown.old (D.pairs map.new) unknown.new) }
     ensures refused { IfErr result (IfRefused (NotRewritten ⟦<Pass<KC, E, F, C, D> as Way>⟧.way KC.fits depth
         number bytes.now (C.walks scratch.new) (C.pairs scratch.new))) }
-    ensures kept { IfErr result (IfRefused (λ _. (map.new ≡ map.old) × (unknown.new ≡ unknown.old))) }
+    ensures unchanged { IfErr result (IfRefused (λ _. (map.new ≡ map.old) × (unknown.new ≡ unknown.old))) }
     ensures stops { IfErr result (IfUnread (Stopped ⟦<Pass<KC, E, F, C, D> as Way>⟧.way KC.fits depth
         number bytes.now (C.pairs scratch.new) (D.pairs map.old) unknown.old (D.pairs map.new) unknown.new)) }
     ensures room { room_of unknown.old ≤ room_of unknown.new }

@@ -61,7 +61,7 @@ where
         (C.walks map.now)) }
     ensures err { IfErr result (RefusesTrip KC.writing VC.writing (KC.COST + VC.COST) C.equal (C.pairs map.now)
         (C.walks map.now)) }
-    ensures kept { IfErr result (λ fault. IfUnwritten fault (copy.new ≡ copy.old)) }
+    ensures unchanged { IfErr result (λ fault. IfUnwritten fault (copy.new ≡ copy.old)) }
     ensures stops { IfErr result (StopsTrip
         (dropping KC.reading VC.reading C.equal C.keeps_order 0 number (KC.COST + VC.COST)) KC.writing VC.writing
         (C.walks map.now) (C.pairs copy.new)) }
@@ -103,7 +103,7 @@ pub fn words_through_bytes(
         (IsPermutation (spelled words.now.entries))) }
     ensures err { IfErr result (RefusesTrip text_writing flag_writing 25 same_letters (spelled words.now.entries)
         (IsPermutation (spelled words.now.entries))) }
-    ensures kept { IfErr result (λ fault. IfUnwritten fault (copy.new ≡ copy.old)) }
+    ensures unchanged { IfErr result (λ fault. IfUnwritten fault (copy.new ≡ copy.old)) }
     ensures stops { IfErr result (StopsTrip word_rules text_writing flag_writing
         (IsPermutation (spelled words.now.entries)) (spelled copy.new.entries)) }
 {

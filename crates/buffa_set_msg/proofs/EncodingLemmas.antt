@@ -1,8 +1,7 @@
 -- The encoding of a MessageSet, one record after another.
-use Rattle.std.proofs.Common.{◌≡◌, ℕ, ◌<◌, ◌^◌, nat_lt, true, List, [], ◌∷◌, ◌++◌, refl, ap, arith}
+use Rattle.std.proofs.Common.{◌≡◌, ℕ, ◌<◌, ◌^◌, nat_lt, true, refl, arith}
 use Rattle.std.proofs.lemmas.Bool.{and_parts, ltb-true}
 use Rattle.buffa_wire.specs.Records.{Datum}
-use Rattle.buffa_wire.specs.Encoding.{encodings}
 use Rattle.buffa_wire.proofs.ByValueLemmas.{ByValue}
 use Rattle.buffa_bytes.proofs.ShortestLemmas.{ten_at_most}
 use Rattle.buffa_message_set.specs.Item.{item_size}
@@ -19,9 +18,5 @@ item_fits n len h k =
     omega (arith, ten_at_most n (omega (arith, small)), ten_at_most len (omega (arith, k)), k)
 
 -- ---- records
-pub set_encodings : (rs : List (ℕ × Datum)) → set_encoding rs ≡ encodings (λ r. set_record_encoding r.0 r.1) rs
-set_encodings [] = refl
-set_encodings (r ∷ rs) = ap (λ z. set_record_encoding r.0 r.1 ++ z) (set_encodings rs)
-
 abbrev pub set_by_value : ByValue (ℕ × Datum)
-set_by_value = record { list = set_encoding; value = λ r. set_record_encoding r.0 r.1; is = set_encodings }
+set_by_value = record { list = set_encoding; value = λ r. set_record_encoding r.0 r.1; none = refl; next = λ r rs. refl }

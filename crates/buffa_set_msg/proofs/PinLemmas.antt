@@ -1,5 +1,6 @@
 -- A refused merge leaves one value and one budget, memory aside.
 use Rattle.std.proofs.Common.{◌≡◌, inl, inr, ℕ, List, [], ◌++◌, Option, Some, None, Ok, refl, sym, ap, subst, ◌∙◌, arith, append_assoc}
+use Rattle.std.specs.Option.{option_and_then}
 use Rattle.std.proofs.lemmas.List.{append_cancel_left}
 use Rattle.buffa_bytes.proofs.FieldLemmas.{one_field, tag_complete}
 use Rattle.buffa_bytes.specs.Field.{IsTag, Payload, SomeField}
@@ -17,7 +18,7 @@ use Rattle.buffa_wire.specs.ByField.{value_of}
 use Rattle.buffa_wire.proofs.ByFieldLemmas.{Same, refused}
 use Rattle.buffa_set_msg.specs.Set.{IsSetFieldRefused, NextIsRefused, StopIsPinned, record_of_field, set_cost, set_field, set_merged, set_need}
 use Rattle.buffa_set_msg.specs.SetFacts.{set_same, set_sound, set_stays}
-use Rattle.buffa_set_msg.proofs.MergeLemmas.{by_payloads, then_merged}
+use Rattle.buffa_set_msg.proofs.MergeLemmas.{by_payloads}
 use Rattle.buffa_wire.proofs.ByPayloadLemmas.{cost_empty, cost_next, merged_empty, merged_next}
 use Rattle.std.proofs.lemmas.Option.{same_Some}
 
@@ -77,7 +78,7 @@ module _ (d : ℕ) where
         not_refused a b one.0 one.1 f.0 f.1 q s f.2 f.3 x y e merged paid r (is ∙ ap (λ z. (z ++ q) ++ s) whole) next
 
   -- what is merged behind a field is merged into what the field makes
-  behind : (o : Option Values) (q : List ℕ) (a : Values) → then_merged d o q ≡ Some a → (u : Values) × (o ≡ Some u) × (set_merged d u q ≡ Some a)
+  behind : (o : Option Values) (q : List ℕ) (a : Values) → option_and_then (λ w. set_merged d w q) o ≡ Some a → (u : Values) × (o ≡ Some u) × (set_merged d u q ≡ Some a)
   behind None q a h = cc
   behind (Some u) q a h = (u, refl, h)
 

@@ -176,9 +176,7 @@ impl Message for SetMsg {
     {
         let DecodeContext { depth, budget } = ctx;
         let (field, left) = read_record(alloc, tag, buf, depth, budget.unknown_left())?;
-        let Ok(()) = self.fields.push(field) else {
-            return Err(DecodeError::OutOfMemory);
-        };
+        self.fields.push(field)?;
         *budget = Budget::new(left).with_element_memory(budget.memory_left());
         Ok(())
     }

@@ -61,10 +61,7 @@ pub fn set_then_read_number(
 {
     let ext = Extension::<Int32>::new(7, "test.Carrier");
     carrier.set_extension(alloc, &ext, value)?;
-    let Ok(answer) = carrier.extension(alloc, &ext) else {
-        return Err(EncodeError::OutOfMemory);
-    };
-    Ok(answer)
+    Ok(carrier.extension(alloc, &ext)?)
 }
 
 #[test]

@@ -1,5 +1,5 @@
 -- What a message owes follows from what payloads make of it.
-use Rattle.std.proofs.Common.{◌≡◌, ◌≢◌, inl, inr, ℕ, ◌+◌, ◌<◌, List, [], ◌∷◌, ◌++◌, length, Option, Some, None, Result, Ok, Err, refl, sym, ap, subst, ◌∙◌, arith, append_assoc}
+use Rattle.std.proofs.Common.{◌≡◌, ◌≢◌, inl, inr, ℕ, ◌+◌, ◌<◌, List, [], ◌++◌, length, Option, Some, None, Result, Ok, Err, refl, sym, ap, subst, ◌∙◌, arith, append_assoc}
 use Rattle.std.specs.Option.{option_and_then}
 use Rattle.buffa_bytes.specs.declared.wire_type.WireType.{WireType}
 use Rattle.buffa_bytes.specs.declared.error.DecodeError.{DecodeError}
@@ -10,7 +10,7 @@ use Rattle.buffa_bytes.specs.Join.Join.{none, more}
 use Rattle.buffa_bytes.specs.Front.{skip_at, tag_at}
 use Rattle.buffa_bytes.proofs.StepLemmas.{agree_err, agree_ok}
 use Rattle.buffa_bytes.proofs.FieldLemmas.{payload_complete, payload_sound, tag_complete, tag_sound}
-use Rattle.buffa_wire.specs.BudgetLeft.{BudgetLeft, Pays, PaysAtMost, nothing, plus}
+use Rattle.buffa_wire.specs.BudgetLeft.{BudgetLeft, PaysAtMost, nothing, plus}
 use Rattle.buffa_wire.specs.Message.{IsFieldMerged, IsJudged, MergeFault}
 use Rattle.buffa_wire.specs.Takes.{IsTaken, Need, Stays, Taker, cost_of, merged_of}
 use Rattle.buffa_wire.proofs.MessageLemmas.{tag_no_limit}
@@ -97,14 +97,6 @@ module _ {X : Type 0} {takes : Taker X} {need : Need} {merged : ℕ → X → Li
       (subst (λ z. IsFieldMerged (merged_of takes) z d old n w bs before r new after rest) (λ i d b. sym (by.cost_is d b) i)
       (taken_merges takes d need by.stays r old new n w bs rest before after h))
 
-  -- all fields were merged
-  pub all_merged : (d : ℕ) (old v : X) (bytes rest : List ℕ) (before now : BudgetLeft) → length rest ≡ 0 → merged d old bytes ≡ merged d v rest →
-      now.unknown + (cost d bytes).unknown ≡ before.unknown + (cost d rest).unknown → now.memory + (cost d bytes).memory ≡ before.memory + (cost d rest).memory →
-      (merged d old bytes ≡ Some v) × Pays before (cost d bytes) now
-  all_merged d old v bytes [] before now end means unknown memory =
-      (means ∙ merged_empty d v, (omega (arith, unknown, ap (λ z. z.unknown) (cost_empty d)), omega (arith, memory, ap (λ z. z.memory) (cost_empty d))))
-  all_merged d old v bytes (b ∷ bs) before now end means unknown memory = absurd (omega (arith, end))
-
   no_value : (d : ℕ) (v : X) (bs : List ℕ) (e : DecodeError) (o : Option X) → merged d v bs ≡ o → 0 < length bs → tag_at bs ≡ Err e → o ≡ None
   no_value d v bs e None is some h = refl
   no_value d v bs e (Some w) is some h = let j = join_front bs (merged_fields d v w bs is) some in absurd (tagged d bs j.0 j.1 e j.2 j.3 h)
@@ -112,11 +104,6 @@ module _ {X : Type 0} {takes : Taker X} {need : Need} {merged : ℕ → X → Li
   -- no tag begins what is left
   pub untagged : (d : ℕ) (v : X) (bs : List ℕ) (left : BudgetLeft) (e : DecodeError) → 0 < length bs → tag_at bs ≡ Err e → MergeFault (merged d v bs) (cost d bs) left e
   untagged d v bs left e some h = inr (no_value d v bs e (merged d v bs) refl some h, tag_no_limit bs e (agree_err (tag_at bs) e (tag_sound bs) h))
-
-  -- one field is merged
-  pub field_means : (d : ℕ) (v u : X) (bs t p x : List ℕ) (n : ℕ) (w : WireType) → IsTag t n w → Payload d n w p → bs ≡ t ++ (p ++ x) → merged d v (t ++ p) ≡ Some u → merged d v bs ≡ merged d u x
-  field_means d v u bs t p x n w tag payload is h =
-      ap (merged d v) (is ∙ sym (append_assoc t p x)) ∙ merged_next d v (t ++ p) x (n, w, (t, p, tag, payload, refl)) ∙ ap (option_and_then (λ z. merged d z x)) h
 
   pub field_costs : (d : ℕ) (bs t p x : List ℕ) (n : ℕ) (w : WireType) → IsTag t n w → Payload d n w p → bs ≡ t ++ (p ++ x) → cost d bs ≡ plus (cost d (t ++ p)) (cost d x)
   field_costs d bs t p x n w tag payload is = ap (cost d) (is ∙ sym (append_assoc t p x)) ∙ cost_next d (t ++ p) x (n, w, (t, p, tag, payload, refl))

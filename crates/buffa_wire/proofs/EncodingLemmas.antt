@@ -1,5 +1,5 @@
 -- The encoding of records, one after another.
-use Rattle.std.proofs.Common.{◌≡◌, ℕ, ◌+◌, ◌*◌, ◌<◌, ◌≤◌, Bool, true, false, is_ok, is_err, Ok, List, [], ◌∷◌, ◌++◌, length, refl, ap, subst, ◌∙◌, arith}
+use Rattle.std.proofs.Common.{◌≡◌, ℕ, ◌+◌, ◌*◌, ◌<◌, ◌≤◌, Bool, true, false, is_ok, is_err, Ok, List, ◌++◌, length, refl, ap, subst, ◌∙◌, arith}
 use Rattle.buffa_bytes.specs.Varint.{varint_encoding}
 use Rattle.std.specs.Prelude.{Result, Err}
 use Rattle.buffa_bytes.specs.declared.error.EncodeError.{EncodeError}
@@ -10,15 +10,11 @@ use Rattle.buffa_bytes.specs.Values.{tag_encoding}
 use Rattle.buffa_bytes.specs.Written.{UsesRoom, Writes, WritesFront}
 use Rattle.buffa_bytes.proofs.SinkLemmas.{exits_first, room_first}
 use Rattle.buffa_wire.specs.Records.{Datum}
-use Rattle.buffa_wire.specs.Encoding.{encodings, records_encoding, tagged_encoding, write_outcome}
+use Rattle.buffa_wire.specs.Encoding.{records_encoding, tagged_encoding, write_outcome}
 use Rattle.buffa_wire.proofs.ByValueLemmas.{ByValue, both}
 
-pub records_encodings : (rs : List (ℕ × Datum)) → records_encoding rs ≡ encodings (λ r. tagged_encoding r.0 r.1) rs
-records_encodings [] = refl
-records_encodings (r ∷ rs) = ap (λ z. tagged_encoding r.0 r.1 ++ z) (records_encodings rs)
-
 abbrev pub records_by_value : ByValue (ℕ × Datum)
-records_by_value = record { list = records_encoding; value = λ r. tagged_encoding r.0 r.1; is = records_encodings }
+records_by_value = record { list = records_encoding; value = λ r. tagged_encoding r.0 r.1; none = refl; next = λ r rs. refl }
 
 pub records_encoding-append : (rs qs : List (ℕ × Datum)) → records_encoding (rs ++ qs) ≡ records_encoding rs ++ records_encoding qs
 records_encoding-append rs qs = both records_by_value rs qs

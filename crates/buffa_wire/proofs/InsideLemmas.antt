@@ -1,5 +1,5 @@
 -- A message inside a field, whose bytes are given to a function.
-use Rattle.std.proofs.Common.{◌≡◌, ◌≢◌, inl, inr, ℕ, zero, suc, ◌-◌, ◌<◌, List, [], Option, Some, Result, Ok, Err, refl, sym, ap, subst, ◌∙◌, arith, IsOk}
+use Rattle.std.proofs.Common.{◌≡◌, ◌≢◌, inl, inr, ℕ, zero, suc, ◌-◌, ◌<◌, List, [], length, Option, Some, Result, Ok, Err, refl, sym, ap, subst, ◌∙◌, arith, IsOk}
 use denote.Param.Members.{Mut}
 use denote.Ref.{Bor}
 use Rattle.std.specs.Fn.{Called}
@@ -12,16 +12,10 @@ use Rattle.buffa_bytes.specs.Delimited.{Lends}
 use Rattle.buffa_bytes.proofs.LendLemmas.{lent_full}
 use Rattle.buffa_bytes.proofs.FieldLemmas.{tag_falls}
 use Rattle.buffa_wire.proofs.ByPayloadLemmas.{ByPayload, cost_empty, merged_empty}
+use Rattle.buffa_wire.proofs.SpentLemmas.{PaysAtMost_nothing}
 use Rattle.buffa_wire.specs.BudgetLeft.{BudgetLeft, Pays, PaysAtMost, nothing}
 use Rattle.buffa_wire.specs.Takes.{Need, Taker}
 use Rattle.buffa_wire.specs.Message.{BeginsField, IsInside, IsMerged, MergeFault, MessageFault, cost_in, cost_of_payload, merged_in}
-
--- nothing was spent
-stayed : (before need after : BudgetLeft) → after ≡ before → PaysAtMost before need after
-stayed before need after is =
-    let u = ap (λ z. z.unknown) is in
-    let m = ap (λ z. z.memory) is in
-    (omega (arith, u), omega (arith, u), omega (arith, m), omega (arith, m))
 
 module _ {F X T : Type 0} (g : Mut F (Bor (List ℕ) × Unit {0}) (Result T DecodeError)) (merged : ℕ → X → List ℕ → Option X) (cost : ℕ → List ℕ → BudgetLeft) where
   -- a call of f merges the bytes that it is given, one level down
@@ -65,8 +59,8 @@ module _ {F X T : Type 0} (g : Mut F (Bor (List ℕ) × Unit {0}) (Result T Deco
       (f' ≡ f → after ≡ before) → OnErr r (PaysAtMost before (cost_of_payload cost d t) after)
   inside_spent zero f f' old new left before after t r deep h asks same = absurd (deep refl)
   inside_spent (suc d) f f' old new left before after (Ok p) (Err x) deep (inl c) asks same = let k : suc d - 1 ≡ d = omega arith in (rw (k, c.0.shows) at (asks c.0.shown c.0.called)).0
-  inside_spent (suc d) f f' old new left before after (Ok p) (Err x) deep (inr n) asks same = stayed before (cost d p.0) after (same n.1)
-  inside_spent (suc d) f f' old new left before after (Err e) (Err x) deep h asks same = stayed before nothing after (same h.1)
+  inside_spent (suc d) f f' old new left before after (Ok p) (Err x) deep (inr n) asks same = PaysAtMost_nothing before after (cost d p.0) (same n.1)
+  inside_spent (suc d) f f' old new left before after (Err e) (Err x) deep h asks same = PaysAtMost_nothing before after nothing (same h.1)
   inside_spent (suc d) f f' old new left before after t (Ok x) deep h asks same = tt
 
   -- memory ran out only where a level and the bytes are there
@@ -79,13 +73,15 @@ pub merged_tells : {X T : Type 0} (meant : Option X) (need before after : Budget
 merged_tells meant need before after new (Ok x) h = tt
 merged_tells meant need before after new (Err x) h = h.1
 
+-- bytes that a field begins are some
+pub tag_has_byte : (bs : List ℕ) → BeginsField bs → bs ≢ []
+tag_has_byte bs (n, w, rest, tag, other) none = omega (arith, tag_falls bs (n, w, rest) tag, ap length none)
+
 -- ---- a message of no bytes
-no_tag : BeginsField [] → ⊥
-no_tag (n, w, x, tag, o) = omega (arith, tag_falls [] (n, w, x) tag)
 
 none_told : {X : Type 0} (d : ℕ) (v : X) (o : Option X) (need before : BudgetLeft) (e : DecodeError) → o ≡ Some v → need ≡ nothing →
     (e ≢ error.OutOfMemory → MergeFault o need before e) → (e ≡ error.OutOfMemory → BeginsField []) → ⊥
-none_told d v o need before error.OutOfMemory is free why full = no_tag (full refl)
+none_told d v o need before error.OutOfMemory is free why full = tag_has_byte [] (full refl) refl
 none_told d v o need before _ is free why full = elim (why (λ q. cc)) [
   | inl few ↦ elim few [ inl k ↦ omega (arith, k, ap (λ z. z.unknown) free) | inr k ↦ omega (arith, k, ap (λ z. z.memory) free) ]
   | inr bad ↦ let k = sym is ∙ bad.0 in cc

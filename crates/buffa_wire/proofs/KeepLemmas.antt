@@ -1,6 +1,7 @@
 -- A field whose payload is one of the grammar is kept as one record, and of the unknown fields left as many are spent
 -- as it has fields.
-use Rattle.std.proofs.Common.{◌≡◌, inl, inr, ℕ, zero, suc, ◌+◌, ◌-◌, ◌<◌, ◌≤◌, List, [], ◌++◌, length, Ok, refl, ap, sym, ◌∙◌, arith, append-nil, length-append}
+use Rattle.std.proofs.Common.{◌≡◌, ◌⊎◌, inl, inr, ℕ, zero, suc, ◌+◌, ◌-◌, ◌<◌, ◌≤◌, List, [], ◌++◌, length, Ok, refl, ap, sym, ◌∙◌, arith, append-nil, length-append}
+use Rattle.buffa_bytes.proofs.FaultLemmas.{IsOfBytes, as_of_bytes, content_fault, tag_fault}
 use Rattle.buffa_bytes.proofs.FieldLemmas.{tag_some}
 use Rattle.buffa_bytes.specs.Content.{ContentFault}
 use Rattle.buffa_bytes.specs.Field.{Payload}
@@ -10,11 +11,11 @@ use Rattle.buffa_bytes.specs.declared.error.DecodeError.{DecodeError}
 use Rattle.buffa_bytes.specs.declared.error.DecodeError.TheVariants as error
 use Rattle.buffa_wire.proofs.JoinLemmas.{record_of_payload}
 use Rattle.buffa_wire.proofs.LoopLemmas.{field_taken}
-use Rattle.buffa_wire.proofs.MessageLemmas.{NoLimit, length_no_limit, tag_no_limit, var_no_limit, as_no_limit}
+use Rattle.buffa_wire.proofs.MessageLemmas.{NoLimit, no_limit}
 use Rattle.buffa_wire.specs.BudgetLeft.{unknown_fields}
 use Rattle.buffa_wire.specs.Kept.{keep_need, kept_record_at, spent_of}
 use Rattle.buffa_wire.specs.Message.{IsLimit}
-use Rattle.buffa_wire.specs.Parse.{FieldFault, FieldFaultOf, GroupRecordsFault, InsideFault, IsPayload, Parse, field_count, fields_inside}
+use Rattle.buffa_wire.specs.Parse.{FieldFault, FieldFaultOf, GroupRecordsFault, InsideFault, IsPayload, NextFault, Parse, RecordsFault, TakesRecords, field_count, fields_inside}
 use Rattle.buffa_wire.specs.RecordReading.{field_at}
 use Rattle.buffa_wire.specs.Records.{Datum, Records, bytes, fixed32, fixed64, group, no_records, one, varint}
 use Rattle.buffa_wire.specs.Encoding.{wire_of}
@@ -33,38 +34,55 @@ mutual
   inside_short (bytes v) d n p h = omega arith
   inside_short (group rs) d n p (o, b, t, h, tag, is) = omega (arith, records_short rs (d - 1) b h, ap length is, length-append b t)
 
--- ---- a limit is told only where no more unknown fields are left than there are bytes
+-- ---- a fault is the bytes', or a limit's, and then no more unknown fields are left than there are bytes
 pub content_no_limit : (w : WireType) (bs : List ℕ) (e : DecodeError) → ContentFault w bs e → NoLimit e
-content_no_limit wire.Varint bs e h = var_no_limit bs e h
-content_no_limit wire.Fixed64 bs e h = as_no_limit e error.UnexpectedEof h.1 (λ l. l)
-content_no_limit wire.LengthDelimited bs e h = length_no_limit bs e h
-content_no_limit wire.StartGroup bs e h = as_no_limit e (error.InvalidWireType 3) h (λ l. l)
-content_no_limit wire.EndGroup bs e h = as_no_limit e (error.InvalidWireType 4) h (λ l. l)
-content_no_limit wire.Fixed32 bs e h = as_no_limit e error.UnexpectedEof h.1 (λ l. l)
+content_no_limit w bs e h = no_limit e (content_fault w bs e h)
 
-module _ (G : ℕ → ℕ → List ℕ → DecodeError → Type 0) (g : (s n : ℕ) (bs : List ℕ) (e : DecodeError) → G s n bs e → IsLimit e → s < length bs) where
-  in_group : (s n : ℕ) (w : WireType) (bs : List ℕ) (e : DecodeError) → InsideFault G s n w bs e → IsLimit e → s < length bs
-  in_group s n wire.StartGroup bs e h l = g s n bs e h l
-  in_group s n wire.Varint bs e h l = absurd (content_no_limit wire.Varint bs e h l)
-  in_group s n wire.Fixed64 bs e h l = absurd (content_no_limit wire.Fixed64 bs e h l)
-  in_group s n wire.LengthDelimited bs e h l = absurd (content_no_limit wire.LengthDelimited bs e h l)
-  in_group s n wire.EndGroup bs e h l = absurd (content_no_limit wire.EndGroup bs e h l)
-  in_group s n wire.Fixed32 bs e h l = absurd (content_no_limit wire.Fixed32 bs e h l)
+abbrev pub IsTold : DecodeError → Type 0 → Type 0
+IsTold e P = IsOfBytes e ⊎ ((e ≡ error.UnknownFieldLimitExceeded) × P)
 
-  in_field : (s n : ℕ) (w : WireType) (bs : List ℕ) (e : DecodeError) → FieldFaultOf G s n w bs e → IsLimit e → s ≤ length bs
-  in_field s n w bs e (inl (_, h)) l = absurd (as_no_limit e (error.InvalidEndGroup n) h (λ k. k) l)
-  in_field s n w bs e (inr (inl (_, none, _))) l = omega (arith, none)
-  in_field s n w bs e (inr (inr (_, some, h))) l = omega (arith, some, in_group (s - 1) n w bs e h l)
+told_so : (e : DecodeError) (P Q : Type 0) → IsTold e P → (P → Q) → IsTold e Q
+told_so e P Q (inl h) f = inl h
+told_so e P Q (inr h) f = inr (h.0, f h.1)
 
-group_short : (d s n : ℕ) (bs : List ℕ) (e : DecodeError) → GroupRecordsFault d s n bs e → IsLimit e → s < length bs
+module _ (G : ℕ → ℕ → List ℕ → DecodeError → Type 0) (g : (s n : ℕ) (bs : List ℕ) (e : DecodeError) → G s n bs e → IsTold e (s < length bs)) where
+  in_group : (s n : ℕ) (w : WireType) (bs : List ℕ) (e : DecodeError) → InsideFault G s n w bs e → IsTold e (s < length bs)
+  in_group s n wire.StartGroup bs e h = g s n bs e h
+  in_group s n wire.Varint bs e h = inl (content_fault wire.Varint bs e h)
+  in_group s n wire.Fixed64 bs e h = inl (content_fault wire.Fixed64 bs e h)
+  in_group s n wire.LengthDelimited bs e h = inl (content_fault wire.LengthDelimited bs e h)
+  in_group s n wire.EndGroup bs e h = inl (content_fault wire.EndGroup bs e h)
+  in_group s n wire.Fixed32 bs e h = inl (content_fault wire.Fixed32 bs e h)
+
+  in_field : (s n : ℕ) (w : WireType) (bs : List ℕ) (e : DecodeError) → FieldFaultOf G s n w bs e → IsTold e (s ≤ length bs)
+  in_field s n w bs e (inl (_, h)) = inl (as_of_bytes e (error.InvalidEndGroup n) h tt)
+  in_field s n w bs e (inr (inl (_, none, is))) = inr (is, omega (arith, none))
+  in_field s n w bs e (inr (inr (_, some, h))) = told_so e (s - 1 < length bs) (s ≤ length bs) (in_group (s - 1) n w bs e h) (λ few. omega (arith, some, few))
+
+  in_next : (Ends : ℕ → Type 0) (s : ℕ) (bs : List ℕ) (e : DecodeError) → NextFault Ends G s bs e → IsTold e (s < length bs)
+  in_next Ends s bs e (inl bad) = inl (tag_fault bs e bad)
+  in_next Ends s bs e (inr (m, w, after, (t, tag, cut), _, bad)) =
+      told_so e (s ≤ length after) (s < length bs) (in_field s m w after e bad) (λ few. omega (arith, few, ap length cut, length-append t after, tag_some t m w tag))
+
+-- it stands behind fields, each of which has a byte at least
+behind_fields : (d s left : ℕ) (bs rest : List ℕ) (rs : Records) → TakesRecords d s bs rs left rest → left < length rest → s < length bs
+behind_fields d s left bs rest rs (b, parse, sum, split) few = omega (arith, few, records_short rs d b parse, sum, ap length split, length-append b rest)
+
+group_told : (d s n : ℕ) (bs : List ℕ) (e : DecodeError) → GroupRecordsFault d s n bs e → IsTold e (s < length bs)
 unfolding GroupRecordsFault
-group_short zero s n bs e h l = absurd (as_no_limit e error.RecursionLimitExceeded h (λ k. k) l)
-group_short (suc d) s n bs e (rs, left, rest, (b, parse, sum, split), inl bad) l = absurd (tag_no_limit rest e bad l)
-group_short (suc d) s n bs e (rs, left, rest, (b, parse, sum, split), inr (m, w, after, (t, tag, cut), _, bad)) l =
-    omega (arith, in_field (GroupRecordsFault d) (group_short d) left m w after e bad l, records_short rs d b parse, sum, ap length split, length-append b rest, ap length cut, length-append t after, tag_some t m w tag)
+group_told zero s n bs e h = inl (as_of_bytes e error.RecursionLimitExceeded h tt)
+group_told (suc d) s n bs e (rs, left, rest, taken, h) =
+    told_so e (left < length rest) (s < length bs) (in_next (GroupRecordsFault d) (group_told d) (λ m. m ≡ n) left rest e h) (behind_fields d s left bs rest rs taken)
+
+pub field_told : (d s n : ℕ) (w : WireType) (bs : List ℕ) (e : DecodeError) → FieldFault d s n w bs e → IsTold e (s ≤ length bs)
+field_told d s n w bs e h = in_field (GroupRecordsFault d) (group_told d) s n w bs e h
+
+pub records_told : (d s : ℕ) (bs : List ℕ) (e : DecodeError) → RecordsFault d s bs e → IsTold e (s < length bs)
+records_told d s bs e (rs, left, rest, taken, some, h) =
+    told_so e (left < length rest) (s < length bs) (in_next (GroupRecordsFault d) (group_told d) (λ m. ⊥) left rest e h) (behind_fields d s left bs rest rs taken)
 
 pub field_short : (d s n : ℕ) (w : WireType) (bs : List ℕ) (e : DecodeError) → FieldFault d s n w bs e → IsLimit e → s ≤ length bs
-field_short d s n w bs e h l = in_field (GroupRecordsFault d) (group_short d) s n w bs e h l
+field_short d s n w bs e h l = elim (field_told d s n w bs e h) [ inl b ↦ absurd (no_limit e b l) | inr k ↦ k.1 ]
 
 -- ---- one field
 -- a field whose record is x is read where enough unknown fields are left

@@ -16,5 +16,6 @@ pub mod ByFieldLemmas
 pub mod CostLemmas
 pub mod TakesLemmas
 pub mod ByPayloadLemmas
+pub mod MergeLoopLemmas
 pub mod KeepLemmas
 mod ShortLemmas

@@ -1,14 +1,15 @@
 -- Messages field by field, and what reading bytes never answers.
-use Rattle.std.proofs.Common.{◌≡◌, ◌≢◌, inl, inr, ℕ, zero, suc, ◌+◌, ◌≤◌, List, [], ◌++◌, Option, Ok, refl, sym, ap, subst, ◌∙◌, arith, append-nil, append_assoc}
+use Rattle.std.proofs.Common.{◌≡◌, ◌≢◌, inl, inr, ℕ, ◌+◌, ◌≤◌, List, [], ◌++◌, Option, Ok, sym, ap, subst, ◌∙◌, arith, append-nil, append_assoc}
 use Rattle.buffa_bytes.specs.declared.wire_type.WireType.{WireType}
-use Rattle.buffa_bytes.specs.declared.wire_type.WireType.TheVariants.{Varint, Fixed64, LengthDelimited, StartGroup, EndGroup, Fixed32}
+use Rattle.buffa_bytes.specs.declared.wire_type.WireType.TheVariants.{EndGroup}
 use Rattle.buffa_bytes.specs.declared.error.DecodeError.{DecodeError}
 use Rattle.buffa_bytes.specs.declared.error.DecodeError.TheVariants as error
 use Rattle.buffa_bytes.specs.Varint.{VarintFault}
-use Rattle.buffa_bytes.specs.Field.{BadTag, FieldFaultOver, GroupFault, IsTag, LengthFault, Payload, PayloadFault, PayloadFaultOver, SomeField, TagFault}
+use Rattle.buffa_bytes.specs.Field.{LengthFault, Payload, PayloadFault, SomeField, TagFault}
 use Rattle.buffa_bytes.specs.Join.{Join}
 use Rattle.buffa_bytes.specs.Join.Join.{none, more}
 use Rattle.buffa_bytes.specs.Front.{tag_at}
+use Rattle.buffa_bytes.proofs.FaultLemmas.{IsOfBytes, length_fault, payload_fault, tag_fault, varint_fault}
 use Rattle.buffa_bytes.proofs.FieldLemmas.{tag_complete}
 use Rattle.buffa_wire.specs.BudgetLeft.{BudgetLeft, Lacks, PaysAtMost}
 use Rattle.buffa_wire.specs.Message.{BeginsField, IsLimit, MergeFault}
@@ -20,44 +21,22 @@ NoLimit e = IsLimit e → ⊥
 pub as_no_limit : (e f : DecodeError) → e ≡ f → NoLimit f → NoLimit e
 as_no_limit e f h k = subst (λ z. NoLimit z) (sym h) k
 
-pub var_no_limit : (bs : List ℕ) (e : DecodeError) → VarintFault bs e → NoLimit e
-var_no_limit bs error.UnexpectedEof h = λ l. l
-var_no_limit bs error.VarintTooLong h = λ l. l
-var_no_limit bs _ h = absurd h
+pub no_limit : (e : DecodeError) → IsOfBytes e → NoLimit e
+no_limit error.UnknownFieldLimitExceeded h l = h
+no_limit error.ElementMemoryLimitExceeded h l = h
+no_limit _ h l = l
 
-bad_no_limit : (n : ℕ) (e : DecodeError) → BadTag n e → NoLimit e
-bad_no_limit n error.InvalidFieldNumber h = λ l. l
-bad_no_limit n (error.InvalidWireType w) h = λ l. l
-bad_no_limit n _ h = absurd h
+pub var_no_limit : (bs : List ℕ) (e : DecodeError) → VarintFault bs e → NoLimit e
+var_no_limit bs e h = no_limit e (varint_fault bs e h)
 
 pub tag_no_limit : (bs : List ℕ) (e : DecodeError) → TagFault bs e → NoLimit e
-tag_no_limit bs e (inl h) = var_no_limit bs e h
-tag_no_limit bs e (inr (n, rest, t, h)) = bad_no_limit n e h
+tag_no_limit bs e h = no_limit e (tag_fault bs e h)
 
 pub length_no_limit : (bs : List ℕ) (e : DecodeError) → LengthFault bs e → NoLimit e
-length_no_limit bs e (inl h) = var_no_limit bs e h
-length_no_limit bs e (inr (n, rest, t, l, h)) = as_no_limit e error.UnexpectedEof h (λ l. l)
-
-over_no_limit : (G : ℕ → List ℕ → DecodeError → Type 0) → ((f : ℕ) (bs : List ℕ) (e : DecodeError) → G f bs e → NoLimit e) → (f : ℕ) (w : WireType) (bs : List ℕ) (e : DecodeError) → PayloadFaultOver G f w bs e → NoLimit e
-over_no_limit G g f Varint bs e h = var_no_limit bs e h
-over_no_limit G g f Fixed64 bs e h = as_no_limit e error.UnexpectedEof h.1 (λ l. l)
-over_no_limit G g f LengthDelimited bs e h = length_no_limit bs e h
-over_no_limit G g f StartGroup bs e h = g f bs e h
-over_no_limit G g f EndGroup bs e h = as_no_limit e (error.InvalidEndGroup f) h (λ l. l)
-over_no_limit G g f Fixed32 bs e h = as_no_limit e error.UnexpectedEof h.1 (λ l. l)
-
-field_no_limit : (G : ℕ → List ℕ → DecodeError → Type 0) → ((f : ℕ) (bs : List ℕ) (e : DecodeError) → G f bs e → NoLimit e) → (f : ℕ) (bs : List ℕ) (e : DecodeError) → FieldFaultOver G f bs e → NoLimit e
-field_no_limit G g f bs e (inl h) = tag_no_limit bs e h
-field_no_limit G g f bs e (inr (inl (n, rest, t, other, h))) = as_no_limit e (error.InvalidEndGroup n) h (λ l. l)
-field_no_limit G g f bs e (inr (inr (n, w, rest, t, other, h))) = over_no_limit G g n w rest e h
-
-group_no_limit : (d f : ℕ) (bs : List ℕ) (e : DecodeError) → GroupFault d f bs e → NoLimit e
-unfolding GroupFault
-group_no_limit zero f bs e h = as_no_limit e error.RecursionLimitExceeded h (λ l. l)
-group_no_limit (suc d) f bs e (body, rest, joined, split, h) = field_no_limit (GroupFault d) (group_no_limit d) f rest e h
+length_no_limit bs e h = no_limit e (length_fault bs e h)
 
 pub payload_no_limit : (d f : ℕ) (w : WireType) (bs : List ℕ) (e : DecodeError) → PayloadFault d f w bs e → NoLimit e
-payload_no_limit d f w bs e h = over_no_limit (GroupFault d) (group_no_limit d) f w bs e h
+payload_no_limit d f w bs e h = no_limit e (payload_fault d f w bs e h)
 
 -- ---- a message, field by field
 -- what is lacked of what is left is lacked of all
@@ -79,15 +58,6 @@ loop_fault o p start now over all rest e same u m no_unknown no_unit (spent, why
 pub join_more : {P : List ℕ → Type 0} (f x : List ℕ) → Join P f → P x → Join P (f ++ x)
 join_more {P = P} f x none h = subst (λ z. Join P z) (append-nil x) (more x [] h none)
 join_more {P = P} f x (more first rest a j) h = subst (λ z. Join P z) (sym (append_assoc first rest x)) (more first (rest ++ x) a (join_more rest x j h))
-
--- one more field stands in front of what is left
-pub front_more : (d : ℕ) (f bs rest t p x : List ℕ) (n : ℕ) (w : WireType) → Join (SomeField d) f → bs ≡ f ++ rest → IsTag t n w → Payload d n w p → rest ≡ t ++ (p ++ x)
-    → (g : List ℕ) × Join (SomeField d) g × (bs ≡ g ++ x)
-front_more d f bs rest t p x n w j whole tag payload is = (
-  f ++ (t ++ p),
-  join_more f (t ++ p) j (n, w, (t, p, tag, payload, refl)),
-  whole ∙ ap (λ z. f ++ z) (is ∙ sym (append_assoc t p x)) ∙ sym (append_assoc f (t ++ p) x),
-)
 
 -- bytes that fields begin, and then a tag, a field begins
 pub reaches_tag : (d : ℕ) (f bs rest : List ℕ) (tag : ℕ × WireType × List ℕ) → Join (SomeField d) f → bs ≡ f ++ rest → tag_at rest ≡ Ok tag → tag.1 ≢ EndGroup → BeginsField bs

@@ -15,7 +15,7 @@ use Rattle.buffa_bytes.proofs.StepLemmas.{Agrees, agree_bind, agree_err, agree_i
 use Rattle.buffa_bytes.proofs.ScanLemmas.{Leads, Shortens, if_leads, if_short, scan_leads, scan_step}
 use Rattle.buffa_bytes.proofs.VarintLemmas.{varint_sound, varint_complete, varint_faulty}
 use Rattle.buffa_bytes.proofs.DelimitedLemmas.{taken_sound, taken_complete, taken_faulty, delimited_sound, delimited_complete, delimited_faulty}
-use Rattle.buffa_bytes.proofs.FieldLemmas.{tag_sound, tag_complete, tag_faulty, tag_some, not_end, end_false, end_true, one_more}
+use Rattle.buffa_bytes.proofs.FieldLemmas.{tag_as, tag_sound, tag_complete, tag_faulty, tag_some, not_end, end_false, end_true, one_more}
 use Rattle.buffa_wire.specs.Records.{Datum, varint, fixed32, fixed64, bytes, group, Records, no_records, one}
 use Rattle.buffa_wire.specs.Encoding.{wire_of}
 use Rattle.buffa_wire.specs.Parse.{Parse, IsPayload, field_count, fields_inside, TakesField, TakesRecords, InsideFault, FieldFaultOf, NextFault, GroupRecordsFault}
@@ -243,7 +243,7 @@ module _ (d : ℕ) (inner : GroupReader) (F : ℕ → ℕ → List ℕ → Decod
     group_leads n s bs (Ok t) e =
         let u = agree_ok (tag_at bs) t (tag_sound bs) e in
         if_leads (ReadsGroup n) (ends_group n t) (Ok (no_records, s, t.2)) (kept_step t.0 (field_by inner s t.0 t.1 t.2)) s bs
-        (λ last. let c = closes_true t.1 t.0 n last in record { holds = ([], u.0, refl, subst (λ m. IsTag u.0 m wire.EndGroup) c.1 (subst (λ w. IsTag u.0 t.0 w) c.0 u.1), omega arith, u.2) })
+        (λ last. let c = closes_true t.1 t.0 n last in record { holds = ([], u.0, refl, tag_as u.0 t.0 n t.1 wire.EndGroup u.1 c.1 c.0, omega arith, u.2) })
         (λ other. kept_leads (ReadsGroup n) t.0 (field_by inner s t.0 t.1 t.2) s bs
         (λ x is y q. let a = agree_ok (field_by inner s t.0 t.1 t.2) x (field_sound h s t.0 t.1 t.2) is in agree_bind q
         (λ v r. let f = first_and s x.1 v.1 t.0 t.1 bs t.2 x.2 (r.1 ++ v.2) x.0 v.0 u a (r.0, r.2, r.4, r.5) in record { holds = (f.0, r.1, f.1, r.3, f.2, f.3) })

@@ -3,6 +3,7 @@ use Rattle.std.proofs.Common.{◌≡◌, ℕ, zero, suc, ◌+◌, ◌<◌, ◌�
 use Rattle.std.specs.List.{filter, items_where_true}
 use Rattle.std.specs.List.Retain.{IsFiltered, ReturnsInTurn}
 use Rattle.std.proofs.lemmas.Bool.{false_from_ne_true}
+use Rattle.std.proofs.lemmas.List.{take_all}
 use Rattle.buffa_wire.specs.Records.{Datum, Records, one, no_records, records_of, list_of, Held}
 use Rattle.buffa_wire.specs.Equal.{held_eq, records_eq-Decides, field_eq, field_eq-Decides}
 use Rattle.buffa_wire.specs.View.{CalledAtRecord, record_of, records_in}
@@ -46,12 +47,6 @@ records_where_true (false ∷ bs) (x ∷ xs) = records_where_true bs xs
 pub filtered_records : {F : Type 0} (R : F → UnknownField → Bool → F → Type 0) (f : F) (xs ys : List UnknownField) → IsFiltered R f xs ys → IsFiltered (CalledAtRecord R) f (records_in xs) (records_in ys)
 filtered_records R f xs ys h = (h.0, h.1, h.2 ∙ sym (length-records_in xs), called_in_turn R f h.1 h.0 xs h.3, ap records_in h.4 ∙ records_where_true h.0 xs)
 
-take_all : (xs : List UnknownField) (i : ℕ) → length xs ≤ i → take i xs ≡ xs
-take_all [] zero h = refl
-take_all [] (suc i) h = refl
-take_all (x ∷ xs) zero h = absurd (omega arith)
-take_all (x ∷ xs) (suc i) h = ap (λ z. x ∷ z) (take_all xs i (omega arith))
-
 -- ---- equality, field by field
 pub more_equal : (xs ys : List UnknownField) (i : ℕ) (f g d e : UnknownField) → i < length xs → i < length ys → f ≡ get_or xs i d → g ≡ get_or ys i e → record_of f ≡ record_of g
     → records_in (take i xs) ≡ records_in (take i ys) → records_in (take (i + 1) xs) ≡ records_in (take (i + 1) ys)
@@ -86,6 +81,6 @@ not_same s o xs ys i a b p q h k f g n =
 
 pub all_same : (s o : Held) (xs ys : List UnknownField) (i : ℕ) → records_in xs ≡ s.records → records_in ys ≡ o.records → length xs ≡ length ys → length xs ≤ i → records_in (take i xs) ≡ records_in (take i ys) → true ≡ held_eq s o
 all_same s o xs ys i p q l h e =
-    let a : take i xs ≡ xs = take_all xs i h in
-    let b : take i ys ≡ ys = take_all ys i (omega arith) in
+    let a : take i xs ≡ xs = take_all i xs h in
+    let b : take i ys ≡ ys = take_all i ys (omega arith) in
     sym (held_eq_yes s o (sym p ∙ ap records_in (sym a) ∙ e ∙ ap records_in b ∙ q))

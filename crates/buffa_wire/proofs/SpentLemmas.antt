@@ -9,7 +9,7 @@ use Rattle.buffa_wire.specs.Records.{Datum}
 use Rattle.buffa_bytes.specs.Front.{delimited_at, tag_at}
 use Rattle.buffa_bytes.specs.Unread.{IsTailOf, bytes_read}
 use Rattle.buffa_bytes.proofs.TailLemmas.{tail_shorter}
-use Rattle.buffa_wire.specs.BudgetLeft.{BudgetLeft, Pays, UnknownsSpent}
+use Rattle.buffa_wire.specs.BudgetLeft.{BudgetLeft, Lacks, Pays, PaysAtMost, UnknownsSpent, nothing}
 
 -- ---- two budgets
 pub same_left : (a b : BudgetLeft) → a.unknown ≡ b.unknown → a.memory ≡ b.memory → a ≡ b
@@ -18,6 +18,17 @@ same_left a b u m i = record { unknown = u i; memory = m i }
 -- what pays a need leaves one budget
 pub one_left : (left need a b : BudgetLeft) → Pays left need a → Pays left need b → a ≡ b
 one_left left need a b (u, m) (v, n) = same_left a b (omega (arith, u, v)) (omega (arith, m, n))
+
+pub Pays_nothing : (left over need : BudgetLeft) → need ≡ nothing → over ≡ left → Pays left need over
+Pays_nothing left over need h k = rw (h, k) (omega arith, omega arith)
+
+pub PaysAtMost_nothing : (left over need : BudgetLeft) → over ≡ left → PaysAtMost left need over
+PaysAtMost_nothing left over need k = rw k (omega arith, omega arith, omega arith, omega arith)
+
+-- what was paid was there
+pub not_lacked : (left need over : BudgetLeft) → Pays left need over → Lacks left need → ⊥
+not_lacked left need over (u, m) (inl few) = omega (arith, u, few)
+not_lacked left need over (u, m) (inr few) = omega (arith, m, few)
 
 -- ---- unknown fields left
 pub none_spent : (n s t : ℕ) → t ≡ s → UnknownsSpent n s t

@@ -1,6 +1,7 @@
 -- What is proved of any fields, taken payload by payload.
 use Rattle.std.proofs.Common.{◌≡◌, ◌≢◌, inl, inr, ℕ, ◌-◌, Bool, List, [], ◌∷◌, ◌++◌, length, take, Option, Some, None, Result, Ok, Err, refl, sym, ap, subst, ◌∙◌, arith, append_assoc, append-nil, length-append}
 use Rattle.std.specs.Option.{option_and_then, option_map}
+use Rattle.std.proofs.Math.Seq.{take-append_seam}
 use Rattle.buffa_bytes.proofs.FieldLemmas.{payload_complete, payload_sound}
 use Rattle.buffa_bytes.proofs.FullLemmas.{payload_full}
 use Rattle.buffa_bytes.proofs.StepLemmas.{Agrees, agree_bind, agree_err, agree_ok}
@@ -21,14 +22,10 @@ use Rattle.buffa_wire.specs.ByField.{FieldNeed, FieldReader, cost_by, merged_by,
 use Rattle.buffa_wire.specs.Takes.{IsTaken, Leads, Need, Piece, ReadsBack, Stays, Taker, Untaken, answer, cost_of, costs_nothing, framed, front_of, joined_fields, merged_of, taken_by}
 
 -- ---- the payload is cut
-take_all : (p x : List ℕ) → take (length p) (p ++ x) ≡ p
-take_all [] x = refl
-take_all (b ∷ p) x = ap (λ (z : List ℕ). b ∷ z) (take_all p x)
-
 front_is : (p x : List ℕ) → front_of (p ++ x) x ≡ p
 front_is p x =
     let e : length (p ++ x) - length x ≡ length p = omega (arith, length-append p x) in
-    ap (λ (k : ℕ). take k (p ++ x)) e ∙ take_all p x
+    ap (λ (k : ℕ). take k (p ++ x)) e ∙ take-append_seam p x
 
 module _ {X : Type 0} (takes : Taker X) (d : ℕ) where
   -- a whole payload at the front

@@ -45,15 +45,15 @@ Covers b c = (c.unknown ≤ b.unknown) × (c.memory ≤ b.memory)
 abbrev pub Lacks : BudgetLeft → BudgetLeft → Type 0
 Lacks left need = (left.unknown < need.unknown) ⊎ (left.memory < need.memory)
 
--- of left, need is spent, and over is over
+-- of before, need is spent, and after is left
 abbrev pub Pays : BudgetLeft → BudgetLeft → BudgetLeft → Type 0
-Pays left need over = (over.unknown + need.unknown ≡ left.unknown) × (over.memory + need.memory ≡ left.memory)
+Pays before need after = (after.unknown + need.unknown ≡ before.unknown) × (after.memory + need.memory ≡ before.memory)
 
--- of left, at most need is spent, and over is over
+-- of before, at most need is spent, and after is left
 abbrev pub PaysAtMost : BudgetLeft → BudgetLeft → BudgetLeft → Type 0
-PaysAtMost left need over =
-    (over.unknown ≤ left.unknown) × (left.unknown ≤ over.unknown + need.unknown)
-    × (over.memory ≤ left.memory) × (left.memory ≤ over.memory + need.memory)
+PaysAtMost before need after =
+    (after.unknown ≤ before.unknown) × (before.unknown ≤ after.unknown + need.unknown)
+    × (after.memory ≤ before.memory) × (before.memory ≤ after.memory + need.memory)
 
 -- of before unknown fields left, at most n were spent, and after are left
 abbrev pub UnknownsSpent : ℕ → ℕ → ℕ → Type 0

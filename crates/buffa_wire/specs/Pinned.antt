@@ -1,5 +1,5 @@
 -- What contracts leave open: nothing, but for what is said beside the laws.
-use Rattle.std.specs.Prelude.{◌≡◌, ◌≢◌, ◌+◌, ◌≤◌, ℕ, ◌⊎◌, List, length, Option, Result, Ok, Err}
+use Rattle.std.specs.Prelude.{◌≡◌, ◌≢◌, ◌+◌, ◌<◌, ◌↔◌, ◌≤◌, ℕ, ◌⊎◌, List, length, Option, Result, Ok, Err}
 use Rattle.buffa_bytes.specs.declared.wire_type.WireType.{WireType}
 use Rattle.buffa_bytes.specs.declared.error.DecodeError.{DecodeError}
 use Rattle.buffa_bytes.specs.declared.error.DecodeError.TheVariants.{OutOfMemory}
@@ -81,3 +81,15 @@ pub record BudgetIsPinned (left need : BudgetLeft) : Type 0 where
   pub paid : (a b : BudgetLeft) → Pays left need a → Pays left need b → a ≡ b
   pub lacked : (a : BudgetLeft) → Pays left need a → Lacks left need → ⊥
   pub either : ((a : BudgetLeft) × Pays left need a) ⊎ Lacks left need
+
+-- the encoding of a scalar's value is how its number is spelled
+abbrev pub IsSpelled : {V : Type 0} → (V → ℕ) → (ℕ → List ℕ) → (V → List ℕ) → Type 0
+IsSpelled number_of spelling encoding = (v : _) → spelling (number_of v) ≡ encoding v
+
+-- numbers are spelled so, those below a limit alone
+abbrev pub SpellsBelow : (ℕ → List ℕ) → (ℕ → Type 0) → (ℕ → List ℕ) → ℕ → Type 0
+SpellsBelow spelling Spells wanted limit = (n : ℕ) → (spelling n ≡ wanted n) × (Spells n ↔ (n < limit))
+
+-- the record of a number holds this, and it is found in one so
+abbrev pub IsRecordedAs : (ℕ → Datum) → (Datum → Option ℕ) → (ℕ → Datum) → (Datum → Option ℕ) → Type 0
+IsRecordedAs datum found wanted found_so = ((n : ℕ) → datum n ≡ wanted n) × (found ≡ found_so)

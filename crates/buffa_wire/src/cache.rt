@@ -61,10 +61,7 @@ impl SizeCache {
         ensures which { IfErr result (λ e. e ≡ error.OutOfMemory) }
         ensures none { slots ≡ 0 → IsOk result }
     {
-        match self.slots.reserve(slots) {
-            Ok(()) => Ok(()),
-            Err(_) => Err(EncodeError::OutOfMemory),
-        }
+        Ok(self.slots.reserve(slots)?)
     }
 
     /// Reserves the next slot, which holds 0 until it is set, and gives its place.
@@ -82,10 +79,8 @@ impl SizeCache {
         ensures which { IfErr result (λ e. e ≡ error.OutOfMemory) }
     {
         let slot = self.slots.len();
-        match self.slots.push(0) {
-            Ok(()) => Ok(slot),
-            Err(_) => Err(EncodeError::OutOfMemory),
-        }
+        self.slots.push(0)?;
+        Ok(slot)
     }
 
     /// Puts a size into a reserved slot. It takes no memory.

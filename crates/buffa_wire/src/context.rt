@@ -38,7 +38,7 @@ impl<'a> DecodeContext<'a> {
     /// ```
     pub fn new(depth: u32, budget: &'a mut Budget) -> DecodeContext<'a>
         ensures depth { result.depth ≡ depth }
-        ensures left { result.budget.now ≡ budget.old }
+        ensures budget { result.budget.now ≡ budget.old }
         ensures same { result.budget.ghost_name ≡ budget.entry.ghost_name }
     {
         DecodeContext { depth, budget }

@@ -19,14 +19,11 @@ use Rattle.buffa_wire.specs.Records.{list_of, records_of}
 use Rattle.buffa_wire.proofs.LoopLemmas.{field_refused, field_taken, list_refused, list_taken}
 use Rattle.buffa_wire.proofs.RecordLemmas.{list-records}
 use Rattle.buffa_wire.proofs.SequenceLemmas.{ok_same}
-use Rattle.buffa_wire.proofs.SpentLemmas.{one_left}
+use Rattle.buffa_wire.proofs.SpentLemmas.{not_lacked, one_left}
 use Rattle.std.proofs.lemmas.Bool.{cases_lt}
+use Rattle.std.proofs.lemmas.Option.{same_Some}
 
 -- ---- budgets
-not_lacked : (left need a : BudgetLeft) → Pays left need a → Lacks left need → ⊥
-not_lacked left need a (u, m) (inl few) = omega (arith, u, few)
-not_lacked left need a (u, m) (inr few) = omega (arith, m, few)
-
 paid_or_not : (left need : BudgetLeft) → ((a : BudgetLeft) × Pays left need a) ⊎ Lacks left need
 paid_or_not left need = elim (cases_lt left.unknown need.unknown) [
   | inl few ↦ inr (inl few)
@@ -40,14 +37,11 @@ pub budget_is_pinned : (left need : BudgetLeft) → BudgetIsPinned left need
 budget_is_pinned left need = record { paid = one_left left need; lacked = not_lacked left need; either = paid_or_not left need }
 
 -- ---- merging
-some_same : {X : Type 0} (o : Option X) (a b : X) → o ≡ Some a → o ≡ Some b → a ≡ b
-some_same o a b h k = let e = sym h ∙ k in cc
-
 pub merge_is_pinned : {X : Type 0} (meant : Option X) (need before : BudgetLeft) → MergeIsPinned meant need before
 merge_is_pinned meant need before = record {
-  merged = λ a b x y h k. (some_same meant a b h.0 k.0, one_left before need x y h.1 k.1);
+  merged = λ a b x y h k. (same_Some a b (sym h.0 ∙ k.0), one_left before need x y h.1 k.1);
   refused = λ a b x y f h k other. elim (k.1 other) [ inl few ↦ not_lacked before need x h.1 few | inr bad ↦ (let e = sym h.0 ∙ bad.0 in cc) ];
-  alone = λ a b h k. some_same meant a b h.0 k.0;
+  alone = λ a b h k. same_Some a b (sym h.0 ∙ k.0);
   not_alone = λ a b f h k other. elim (k other) [ inl few ↦ h.1 few | inr bad ↦ (let e = sym h.0 ∙ bad.0 in cc) ];
 }
 
@@ -66,7 +60,7 @@ module _ {X : Type 0} (merged : ℕ → X → List ℕ → Option X) (cost : ℕ
       let e : p ≡ q = same_front bs p q r s is also rest in
       let one = h t tag in
       let two = subst (λ z. (merged d old (t ++ z) ≡ Some b) × Pays before (cost d (t ++ z)) y) (sym e) (k t tag) in
-      (some_same (merged d old (t ++ p)) a b one.0 two.0, one_left before (cost d (t ++ p)) x y one.1 two.1, rest)
+      (same_Some a b (sym one.0 ∙ two.0), one_left before (cost d (t ++ p)) x y one.1 two.1, rest)
 
   field_refuses : (a b : X) (x y : BudgetLeft) (r s : List ℕ) (f : DecodeError) →
       IsFieldMerged merged cost d old n w bs before done a x r → IsFieldMerged merged cost d old n w bs before (refusal f) b y s → (f ≢ OutOfMemory) → ⊥
@@ -84,7 +78,7 @@ module _ {X : Type 0} (merged : ℕ → X → List ℕ → Option X) (cost : ℕ
       let e = ok_same (sym also ∙ is) in
       let same : q ≡ p = ap (λ z. z.0) e in
       let two : (merged_in merged d old p ≡ Some b) × Pays before (cost_in cost d p) y = subst (λ z. (merged_in merged d old z ≡ Some b) × Pays before (cost_in cost d z) y) same (meant, paid) in
-      (some_same (merged_in merged d old p) a b means two.0, one_left before (cost_in cost d p) x y pays two.1, sym (ap (λ z. z.1) e))
+      (same_Some a b (sym means ∙ two.0), one_left before (cost_in cost d p) x y pays two.1, sym (ap (λ z. z.1) e))
 
   inside_refuses : (d : ℕ) (old a : X) (bs : List ℕ) (before x : BudgetLeft) (r : List ℕ) (e : DecodeError) →
       IsInside merged cost d old bs before a x r → MessageFault merged cost d old bs before e → ⊥

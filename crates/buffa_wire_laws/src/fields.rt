@@ -14,6 +14,7 @@ ghost use Rattle.buffa_bytes.specs.declared.wire_type.WireType.TheVariants.{Vari
 ghost use Rattle.buffa_bytes.specs.declared.error.DecodeError.{DecodeError};
 ghost use Rattle.buffa_bytes.specs.declared.error.DecodeError.TheVariants.{OutOfMemory};
 ghost use Rattle.buffa_bytes.specs.declared.error.EncodeError.{EncodeError};
+ghost use Rattle.buffa_bytes.specs.declared.error.EncodeError.TheVariants as encoding;
 ghost use Rattle.buffa_bytes.specs.declared.error.MessageSetFault.{MessageSetFault};
 ghost use Rattle.buffa_bytes.specs.ErrorText.{decode_error_text, encode_error_text, message_set_fault_text};
 ghost use Rattle.buffa_bytes.specs.Varint.{IsByte, varint_encoding, IsVarint, TakesVarint, VarintFault};
@@ -52,6 +53,7 @@ use buffa_bytes::tag::{MAX_FIELD_NUMBER, Tag};
 use buffa_bytes::types::{BOOL_ENCODED_LEN, FIXED32_ENCODED_LEN, FIXED64_ENCODED_LEN};
 use buffa_bytes::wire_type::WireType;
 use bytes::{Bytes, BytesMut};
+use std::alloc::{AllocError, AllocFailed};
 use std::fmt;
 
 /// A varint is read exactly where a spelling begins the bytes, and a fault is told exactly where the
@@ -110,6 +112,16 @@ pub fn memory_is_no_fault()
     ensures content { (w : WireType) (bs : List ℕ) → content_at w bs ≢ Err OutOfMemory }
     ensures payload { (d f : ℕ) (w : WireType) (bs : List ℕ) → skip_at d f w bs ≢ Err OutOfMemory }
     ensures fault { (d f : ℕ) (w : WireType) (bs : List ℕ) → PayloadFault d f w bs OutOfMemory → ⊥ }
+{}
+
+/// Refused memory is out of memory, and nothing else, where `?` hands it on, with a value or with none. It leaves nothing
+/// open.
+pub fn refused_memory_is_out_of_memory<T: Drop>()
+    ensures decode { (e : _) (f : _) → ⟦<DecodeError as From<AllocError>>⟧.from_gives e f ↔ (f ≡ OutOfMemory) }
+    ensures decode_with_value { (e : _) (f : _) → ⟦<DecodeError as From<AllocFailed<T>>>⟧.from_gives e f ↔ (f ≡ OutOfMemory) }
+    ensures encode { (e : _) (f : _) → ⟦<EncodeError as From<AllocError>>⟧.from_gives e f ↔ (f ≡ encoding.OutOfMemory) }
+    ensures encode_with_value { (e : _) (f : _) → ⟦<EncodeError as From<AllocFailed<T>>>⟧.from_gives e f
+        ↔ (f ≡ encoding.OutOfMemory) }
 {}
 
 /// The constants: the largest field number, and the lengths of scalars of one length.

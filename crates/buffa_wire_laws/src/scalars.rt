@@ -1,6 +1,6 @@
 //! Which scalar each one is, in the words of the encoding guide: laws, as in [`records`](crate::records).
 
-ghost use Rattle.std.specs.Prelude.{◌≡◌, ◌<◌, ◌^◌, ◌↔◌, ℤ, ℕ, None, Some};
+ghost use Rattle.std.specs.Prelude.{◌≡◌, ◌^◌, ℕ, None, Some};
 ghost use Rattle.buffa_bytes.specs.Scalars.{bool_of, bool_encoding, fixed32_of, fixed32_encoding, fixed64_of, fixed64_encoding};
 ghost use Rattle.buffa_bytes.specs.Scalars.{int64_of, int64_encoding, sfixed32_of, sfixed32_encoding, sfixed64_of};
 ghost use Rattle.buffa_bytes.specs.Scalars.{sfixed64_encoding, sint32_of, sint32_encoding, sint64_of, sint64_encoding};
@@ -10,6 +10,7 @@ ghost use Rattle.buffa_bytes.specs.Values.{int32_of, int32_encoding};
 ghost use Rattle.buffa_bytes.specs.Varint.{varint_encoding};
 ghost use Rattle.buffa_bytes.specs.declared.wire_type.WireType.TheVariants as wire;
 ghost use Rattle.buffa_wire.specs.Found.{fixed32_in, fixed64_in, varint_in};
+ghost use Rattle.buffa_wire.specs.Pinned.{IsRecordedAs, IsSpelled, SpellsBelow};
 ghost use Rattle.buffa_wire.specs.Records.{fixed32, fixed64, varint};
 
 use buffa_wire::form::{EightBytes, Form, FourBytes, Varint};
@@ -20,17 +21,17 @@ use buffa_wire::scalars::{
 
 /// What is written of a value of each scalar. Nothing is open.
 pub fn scalars_are_written()
-    ensures int32 { (v : ℤ) → ⟦<<Int32 as Scalar>::Form as Form>⟧.encoding (⟦<Int32 as Scalar>⟧.number_of v) ≡ int32_encoding v }
-    ensures int64 { (v : ℤ) → ⟦<<Int64 as Scalar>::Form as Form>⟧.encoding (⟦<Int64 as Scalar>⟧.number_of v) ≡ int64_encoding v }
-    ensures uint32 { (v : ℕ) → ⟦<<Uint32 as Scalar>::Form as Form>⟧.encoding (⟦<Uint32 as Scalar>⟧.number_of v) ≡ uint32_encoding v }
-    ensures uint64 { (v : ℕ) → ⟦<<Uint64 as Scalar>::Form as Form>⟧.encoding (⟦<Uint64 as Scalar>⟧.number_of v) ≡ uint64_encoding v }
-    ensures sint32 { (v : ℤ) → ⟦<<Sint32 as Scalar>::Form as Form>⟧.encoding (⟦<Sint32 as Scalar>⟧.number_of v) ≡ sint32_encoding v }
-    ensures sint64 { (v : ℤ) → ⟦<<Sint64 as Scalar>::Form as Form>⟧.encoding (⟦<Sint64 as Scalar>⟧.number_of v) ≡ sint64_encoding v }
-    ensures bool { (v : _) → ⟦<<Bool as Scalar>::Form as Form>⟧.encoding (⟦<Bool as Scalar>⟧.number_of v) ≡ bool_encoding v }
-    ensures fixed32 { (v : ℕ) → ⟦<<Fixed32 as Scalar>::Form as Form>⟧.encoding (⟦<Fixed32 as Scalar>⟧.number_of v) ≡ fixed32_encoding v }
-    ensures fixed64 { (v : ℕ) → ⟦<<Fixed64 as Scalar>::Form as Form>⟧.encoding (⟦<Fixed64 as Scalar>⟧.number_of v) ≡ fixed64_encoding v }
-    ensures sfixed32 { (v : ℤ) → ⟦<<Sfixed32 as Scalar>::Form as Form>⟧.encoding (⟦<Sfixed32 as Scalar>⟧.number_of v) ≡ sfixed32_encoding v }
-    ensures sfixed64 { (v : ℤ) → ⟦<<Sfixed64 as Scalar>::Form as Form>⟧.encoding (⟦<Sfixed64 as Scalar>⟧.number_of v) ≡ sfixed64_encoding v }
+    ensures int32 { IsSpelled ⟦<Int32 as Scalar>⟧.number_of ⟦<<Int32 as Scalar>::Form as Form>⟧.encoding int32_encoding }
+    ensures int64 { IsSpelled ⟦<Int64 as Scalar>⟧.number_of ⟦<<Int64 as Scalar>::Form as Form>⟧.encoding int64_encoding }
+    ensures uint32 { IsSpelled ⟦<Uint32 as Scalar>⟧.number_of ⟦<<Uint32 as Scalar>::Form as Form>⟧.encoding uint32_encoding }
+    ensures uint64 { IsSpelled ⟦<Uint64 as Scalar>⟧.number_of ⟦<<Uint64 as Scalar>::Form as Form>⟧.encoding uint64_encoding }
+    ensures sint32 { IsSpelled ⟦<Sint32 as Scalar>⟧.number_of ⟦<<Sint32 as Scalar>::Form as Form>⟧.encoding sint32_encoding }
+    ensures sint64 { IsSpelled ⟦<Sint64 as Scalar>⟧.number_of ⟦<<Sint64 as Scalar>::Form as Form>⟧.encoding sint64_encoding }
+    ensures bool { IsSpelled ⟦<Bool as Scalar>⟧.number_of ⟦<<Bool as Scalar>::Form as Form>⟧.encoding bool_encoding }
+    ensures fixed32 { IsSpelled ⟦<Fixed32 as Scalar>⟧.number_of ⟦<<Fixed32 as Scalar>::Form as Form>⟧.encoding fixed32_encoding }
+    ensures fixed64 { IsSpelled ⟦<Fixed64 as Scalar>⟧.number_of ⟦<<Fixed64 as Scalar>::Form as Form>⟧.encoding fixed64_encoding }
+    ensures sfixed32 { IsSpelled ⟦<Sfixed32 as Scalar>⟧.number_of ⟦<<Sfixed32 as Scalar>::Form as Form>⟧.encoding sfixed32_encoding }
+    ensures sfixed64 { IsSpelled ⟦<Sfixed64 as Scalar>⟧.number_of ⟦<<Sfixed64 as Scalar>::Form as Form>⟧.encoding sfixed64_encoding }
 {}
 
 /// What the number in an encoding of each scalar means. Nothing is open.
@@ -95,13 +96,13 @@ pub fn scalars_have_lengths()
 
 /// How each form spells a number, which numbers it spells, and the record of one. Nothing is open.
 pub fn forms_are_these()
-    ensures varint { (n : ℕ) → (⟦<Varint as Form>⟧.encoding n ≡ varint_encoding n) × (⟦<Varint as Form>⟧.spells n ↔ (n < 2 ^ 64)) }
-    ensures varint_record { (n : ℕ) → (⟦<Varint as Form>⟧.datum n ≡ varint n) × (⟦<Varint as Form>⟧.found ≡ varint_in) }
+    ensures varint { SpellsBelow ⟦<Varint as Form>⟧.encoding ⟦<Varint as Form>⟧.spells varint_encoding (2 ^ 64) }
+    ensures varint_record { IsRecordedAs ⟦<Varint as Form>⟧.datum ⟦<Varint as Form>⟧.found varint varint_in }
     ensures varint_wire { ⟦<Varint as Form>⟧.WIRE_TYPE ≡ wire.Varint }
-    ensures four { (n : ℕ) → (⟦<FourBytes as Form>⟧.encoding n ≡ to_le_bytes w32 n) × (⟦<FourBytes as Form>⟧.spells n ↔ (n < 2 ^ 32)) }
-    ensures four_record { (n : ℕ) → (⟦<FourBytes as Form>⟧.datum n ≡ fixed32 n) × (⟦<FourBytes as Form>⟧.found ≡ fixed32_in) }
+    ensures four { SpellsBelow ⟦<FourBytes as Form>⟧.encoding ⟦<FourBytes as Form>⟧.spells (to_le_bytes w32) (2 ^ 32) }
+    ensures four_record { IsRecordedAs ⟦<FourBytes as Form>⟧.datum ⟦<FourBytes as Form>⟧.found fixed32 fixed32_in }
     ensures four_wire { ⟦<FourBytes as Form>⟧.WIRE_TYPE ≡ wire.Fixed32 }
-    ensures eight { (n : ℕ) → (⟦<EightBytes as Form>⟧.encoding n ≡ to_le_bytes w64 n) × (⟦<EightBytes as Form>⟧.spells n ↔ (n < 2 ^ 64)) }
-    ensures eight_record { (n : ℕ) → (⟦<EightBytes as Form>⟧.datum n ≡ fixed64 n) × (⟦<EightBytes as Form>⟧.found ≡ fixed64_in) }
+    ensures eight { SpellsBelow ⟦<EightBytes as Form>⟧.encoding ⟦<EightBytes as Form>⟧.spells (to_le_bytes w64) (2 ^ 64) }
+    ensures eight_record { IsRecordedAs ⟦<EightBytes as Form>⟧.datum ⟦<EightBytes as Form>⟧.found fixed64 fixed64_in }
     ensures eight_wire { ⟦<EightBytes as Form>⟧.WIRE_TYPE ≡ wire.Fixed64 }
 {}

@@ -3,9 +3,9 @@ use Rattle.std.proofs.Common.{◌≡◌, ◌⊎◌, inl, inr, ℕ, List, None, S
 use Rattle.std.specs.Prelude.{IfOk}
 use Rattle.buffamap.specs.declared.command.Command.{Command}
 use Rattle.buffamap.specs.declared.fault.Fault.{Fault}
-use Rattle.buffamap.specs.Engine.{Answers, GivesReply, GivesLine, TellsFault}
-use Rattle.buffamap.specs.Fault.{fault_reply}
-use Rattle.buffamap.specs.Reply.{Reply, no_memory, reply}
+use Rattle.buffamap.specs.Engine.{Answers}
+use Rattle.buffamap.specs.Fault.{TellsFault, fault_reply}
+use Rattle.buffamap.specs.Reply.{GivesLine, GivesReply, Reply, no_memory, reply}
 use Rattle.buffamap.specs.Streams.{StreamChange, Source}
 
 -- where there was memory for the line it was given, else that there was none

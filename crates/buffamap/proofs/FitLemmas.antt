@@ -1,11 +1,11 @@
 -- A writer takes the keys and the values of a run's pairs.
-use Rattle.std.proofs.Common.{◌≡◌, inl, inr, ℕ, ℤ, pos, Bool, true, false, List, [], ◌∷◌, cond, Result, Ok, Err, refl, sym, ap, subst, FitsSigned, ◌∙◌, true≢false}
-use Rattle.std.proofs.lemmas.Int.{SFits-int_wrap}
-use Rattle.std.specs.Int.{int_wrap, w32}
+use Rattle.std.proofs.Common.{◌≡◌, inl, inr, ℕ, ℤ, Bool, true, false, List, [], ◌∷◌, cond, Result, Ok, Err, refl, sym, ap, subst, FitsSigned, ◌∙◌, true≢false}
+use Rattle.std.specs.Int.{w32}
 use Rattle.std.specs.Ordering.{int_eq}
 use Rattle.buffa_bytes.specs.declared.error.DecodeError.{DecodeError}
 use Rattle.buffa_bytes.specs.Content.{number_in}
 use Rattle.buffa_wire.specs.Sequence.{ParsesEach}
+use Rattle.buffa_bytes.proofs.ScalarLemmas.{int32_fits}
 use Rattle.buffa_bytes.specs.Values.{int32_of}
 use Rattle.buffa_map_base.specs.Entry.{IsEntryField, blanks}
 use Rattle.buffa_map_base.specs.Enums.{ClosedFits}
@@ -16,10 +16,6 @@ use Rattle.buffa_map.specs.declared.map_entry.MapEntry.{MapEntry}
 use Rattle.buffamap.specs.Choice.{two_numbers}
 use Rattle.buffa_map_base.specs.Scalars.{int32_reading}
 use Rattle.buffamap.specs.Rewrite.{Entry, ChoicePair, choice_reading}
-
-int32_fits : (n : ℕ) → FitsSigned w32 (int32_of n)
-unfolding int_wrap
-int32_fits n = SFits-int_wrap w32 (pos n)
 
 -- the key of an entry is an int32, and its value one that is declared, if it is known
 abbrev pub Fits : MapEntry ℤ ℤ → Type 0

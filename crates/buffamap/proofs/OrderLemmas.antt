@@ -8,12 +8,9 @@ use Rattle.std.specs.Ordering.{eq_by_cmp, is_eq, match_ordering, ordering_revers
 use Rattle.std.specs.declared.cmp.Ordering.{Ordering}
 use Rattle.std.specs.declared.cmp.Ordering.TheVariants.{Less, Equal, Greater}
 use Rattle.std.proofs.lemmas.Map.Keys.{IsDistinct-from_sorted}
+use Rattle.buffa_bytes.proofs.ListLemmas.{AllByRecursion-weaker}
 use Rattle.buffa_map_base.specs.Pairs.{ListsOnce}
 use Rattle.buffa_map_base.specs.Encoding.{AllHold}
-
-after : {K : Type 0} {P Q : K → Type 0} → ((y : K) → P y → Q y) → (ks : List K) → AllByRecursion P ks → AllByRecursion Q ks
-after f [] h = tt
-after f (k ∷ ks) h = (f k h.0, after f ks h.1)
 
 cond_twice : {A : Type 0} (b c : Bool) (x y z : A) → b ≡ c → cond b x z ≡ cond b x (cond c y z)
 cond_twice true c x y z h = refl
@@ -45,8 +42,8 @@ module _ {K V : Type 0} {cmp : K → K → Ordering} (o : IsTotalOrder cmp) wher
   insert_sorted p (e ∷ es) s = by (cmp p.0 e.0) refl (insert_sorted p es s.1)
     where
       by : (r : Ordering) → cmp p.0 e.0 ≡ r → IsStrictlySortedBy cmp (keys_of (insert cmp p es)) → IsStrictlySortedBy cmp (keys_of (match_ordering r (p ∷ e ∷ es) (p ∷ es) (e ∷ insert cmp p es)))
-      by Less h i = ((h, after (λ y l. o.trans p.0 e.0 y h l) (keys_of es) s.0), s)
-      by Equal h i = (after (λ y l. o.congr p.0 e.0 y h ∙ l) (keys_of es) s.0, s.1)
+      by Less h i = ((h, AllByRecursion-weaker _ _ (λ y l. o.trans p.0 e.0 y h l) (keys_of es) s.0), s)
+      by Equal h i = (AllByRecursion-weaker _ _ (λ y l. o.congr p.0 e.0 y h ∙ l) (keys_of es) s.0, s.1)
       by Greater h i = (below_insert cmp e.0 p es (o.antisymm e.0 p.0 ∙ ap ordering_reverse h) s.0, i)
 
   found : (p : K × V) (es : List (K × V)) (q : K) → lookup_entry (eq_by_cmp cmp q) (insert cmp p es) ≡ cond (eq_by_cmp cmp q p.0) (Some p) (lookup_entry (eq_by_cmp cmp q) es)

@@ -5,7 +5,7 @@ use Rattle.std.specs.Cmp.{eq_by_cmp_equiv}
 use Rattle.std.specs.Ordering.{nat_cmp, eq_by_cmp, match_ordering}
 use Rattle.std.specs.String.{string_cmp}
 use Rattle.std.specs.Map.{keys_of}
-use Rattle.std.specs.List.{AllByRecursion, IsDistinct}
+use Rattle.std.specs.List.{IsDistinct}
 use Rattle.std.specs.List.Sorted.{IsStrictlySortedBy}
 use Rattle.std.specs.BTreeMap.{insert_entry}
 use Rattle.std.specs.declared.cmp.Ordering.TheVariants.{Less, Equal, Greater}
@@ -13,6 +13,7 @@ use Rattle.std.proofs.lemmas.Map.Keys.{IsDistinct-from_sorted}
 use Rattle.buffa_map_base.specs.Pairs.{SamePairs}
 use Rattle.buffa_map_base.specs.Pairs as maps
 use Rattle.buffa_map_base.proofs.PutLemmas.{SamePairs-insert_entry, SamePairs-put}
+use Rattle.buffa_fields.proofs.OrderedLemmas.{sorted_means}
 use Rattle.buffamap.specs.Lines.{ListedInOrder, Pair, pairs_of, with_pair, same_key}
 use Rattle.buffa_map_base.proofs.SortedLemmas.{same_sorted}
 
@@ -24,13 +25,7 @@ pub same_test : eq_by_cmp text_cmp ≡ same_key
 same_test = λ i a b. sym (texts_ties a b) i
 
 sorted_texts : {Z : Type 0} (es : List (String Z × ℤ)) → IsStrictlySortedBy string_cmp (keys_of es) → IsStrictlySortedBy text_cmp (keys_of (pairs_of es))
-unfolding IsStrictlySortedBy
-sorted_texts [] h = tt
-sorted_texts {Z} (e ∷ es) h = (below es h.0, sorted_texts es h.1)
-  where
-    below : (es : List (String Z × ℤ)) → AllByRecursion (λ y. string_cmp e.0 y ≡ Less) (keys_of es) → AllByRecursion (λ y. text_cmp (string_bytes e.0) y ≡ Less) (keys_of (pairs_of es))
-    below [] h = tt
-    below (x ∷ xs) h = (h.0, below xs h.1)
+sorted_texts es h = sorted_means text_cmp string_bytes (λ v. v) es h
 
 -- the entries of a map are a list of its pairs in order
 pub in_order : {Z : Type 0} (m : List Pair) (es : List (String Z × ℤ)) → IsStrictlySortedBy string_cmp (keys_of es) → SamePairs same_key m (pairs_of es) → ListedInOrder m (pairs_of es)

@@ -25,14 +25,14 @@ use Rattle.buffa_map_base.proofs.SortedLemmas.{same_sorted}
 use Rattle.buffamap.specs.declared.command.Command.{Command}
 use Rattle.buffamap.specs.declared.command.Command.TheVariants.{AgainNode, AgainSet, Ext, Item, Read, Rewrite, Write}
 use Rattle.buffamap.specs.Command.{command_of, texts}
-use Rattle.buffamap.specs.Engine.{Answers, GivesReply, RepliesTo}
+use Rattle.buffamap.specs.Engine.{Answers, RepliesTo}
 use Rattle.buffamap.specs.Ext.{IsShown, IsShownOf, RepliesToExt, records_from}
 use Rattle.buffamap.specs.Forms.{hex_bytes, without_newline}
 use Rattle.buffamap.specs.Item.{IsFound, IsFoundIn, RepliesToItem, item_of_input}
 use Rattle.buffamap.specs.Lines.{Pair, lines_of, map_in, same_key}
 use Rattle.buffamap.specs.Pinned.{AnyCallIsPinned, CallIsPinned, HasFaultLine, LeavesFaultOpen, MayDiffer, NamesFault, ReplyIsPinned, ReplyIsPinnedButForFaults, SureCallIsPinned, having, holding}
 use Rattle.buffamap.specs.Read.{RepliesToBytes, RepliesToRead, RepliesToRun, run_from}
-use Rattle.buffamap.specs.Reply.{Reply, broken, success, hex_line}
+use Rattle.buffamap.specs.Reply.{GivesReply, Reply, broken, success, hex_line}
 use Rattle.buffamap.specs.Rewrite.{Entry, IsRewritten, IsRewrittenOf, RepliesToRewrite, ChoicePair, choice_run}
 use Rattle.buffamap.specs.Streams.{StreamChange, Known, WritesOrBreaks, WritesAll}
 use Rattle.buffamap.specs.Write.{RepliesToMap, RepliesToWrite, field_reply}

@@ -12,7 +12,7 @@ use Rattle.buffa_wire.specs.BudgetLeft.{BudgetLeft, defaults}
 use Rattle.buffa_wire.specs.Records.{bytes}
 use Rattle.buffa_map_base.specs.Enums.{ClosedFits, closed_writing}
 use Rattle.buffa_map_base.specs.Merge.{keeping}
-use Rattle.buffa_map.specs.Rewrite.{MatchRefusal, RefusesBytes, RefusesOutput, RewritesRun}
+use Rattle.buffa_map.specs.Rewrite.{MatchRefusal, RefusesDecoding, RefusesEncoding, RewritesRun}
 use Rattle.buffa_map_base.specs.Run.{ArePaid, Run}
 use Rattle.buffa_map_base.specs.Encoding.{HasEncoding, entry_encoding}
 use Rattle.buffa_map.specs.declared.rewrite.RewriteError.{RewriteError}
@@ -23,7 +23,7 @@ use Rattle.buffamap.specs.declared.choice.Choice.{Choice}
 use Rattle.buffamap.specs.Choice.{two_numbers}
 use Rattle.buffa_map_base.specs.Scalars.{int32_reading, int32_writing}
 use Rattle.buffamap.specs.Reply.{success, hex_line}
-use Rattle.buffamap.specs.Rewrite.{Entry, IsRewritten, ChoicePair, RefusesRun, RunHasNoRewrite, RunRewritesTo, choice_reading, choices_of, choice_run}
+use Rattle.buffamap.specs.Rewrite.{Entry, IsRewritten, ChoicePair, IsRewriteError, RunHasNoRewrite, RunRewritesTo, choice_reading, choices_of, choice_run}
 use Rattle.buffamap.proofs.RunReplyLemmas.{stops}
 
 keys_seen : (es : List (ℤ × Choice)) → keys_of (choices_of es) ≡ keys_of es
@@ -52,8 +52,8 @@ module _ (d n : ℕ) (left over : BudgetLeft) (bs rest old new : List ℕ) (befo
   Rewrites = RewritesRun (keeping int32_reading choice_reading int_eq false d n 8) int32_writing closed_writing (FitsSigned w32) (ClosedFits two_numbers) Walks left bs pairs over rest old new before after
 
   abbrev pub Refuses : RewriteError → Type 0
-  Refuses r = MatchRefusal r (RefusesBytes (keeping int32_reading choice_reading int_eq false d n 8) left bs pairs over rest old new)
-      (RefusesOutput (keeping int32_reading choice_reading int_eq false d n 8) int32_writing closed_writing Walks left bs pairs over rest old new before)
+  Refuses r = MatchRefusal r (RefusesDecoding (keeping int32_reading choice_reading int_eq false d n 8) left bs pairs over rest old new)
+      (RefusesEncoding (keeping int32_reading choice_reading int_eq false d n 8) int32_writing closed_writing Walks left bs pairs over rest old new before)
 
   is_run : (xs : List Entry) → Run int32_reading choice_reading d n bs xs → ArePaid int32_reading choice_reading d 8 1 left xs over → choice_run n bs ≡ Ok (xs, over)
   is_run xs run paid =
@@ -70,7 +70,7 @@ module _ (d n : ℕ) (left over : BudgetLeft) (bs rest old new : List ℕ) (befo
           subst (λ z. RunRewritesTo n z new) (sym (is_run k.entries k.run k.paid))
           ((w.0, w.1, w.2, w.3, k.encoding ∙ ap (λ z. z ++ k.out) empty ∙ w.4), walked es w.0 sorted k.walks)
 
-  why : (r : RewriteError) → Refuses r → RefusesRun (choice_run n bs) r
+  why : (r : RewriteError) → Refuses r → IsRewriteError (choice_run n bs) r
   why (Decode f) k = λ real. stops int32_reading choice_reading int_eq 8 1 (λ n e. (n, bytes e) ∷ []) (λ _ d c. refl) (λ _ d c. refl) refl refl (refusal f) d n left over bs [] pairs [] k.0 is_d is_left rest f k.1 real
   why (Encode MessageTooLarge) k = λ real.
       let long = k.encoding in
@@ -78,7 +78,7 @@ module _ (d n : ℕ) (left over : BudgetLeft) (bs rest old new : List ℕ) (befo
   why (Encode OutOfMemory) k = λ real. absurd (real refl)
   why (Encode (GroupRefused e)) k = λ real. absurd k.encoding
 
-  pub refused : {T : Type 0} (r : Result T RewriteError) → IfErr r Refuses → IfErr r (RefusesRun (choice_run n bs))
+  pub refused : {T : Type 0} (r : Result T RewriteError) → IfErr r Refuses → IfErr r (IsRewriteError (choice_run n bs))
   refused r h = IfErr-map r why h
 
 -- what was written, in hexadecimal, is the reply

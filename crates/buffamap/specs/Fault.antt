@@ -1,5 +1,5 @@
 -- Why a call has no answer, and what is told of it.
-use Rattle.std.specs.Prelude.{◌≡◌, ◌≢◌, Bool, true, ◌⊎◌, Option, None}
+use Rattle.std.specs.Prelude.{◌≡◌, ◌≢◌, ℕ, Bool, true, ◌⊎◌, Option, None}
 use Rattle.hex.specs.declared.error.FromHexError.{FromHexError}
 use Rattle.hex.specs.declared.error.FromHexError.TheVariants as of_digits
 use Rattle.buffa_bytes.specs.declared.error.DecodeError.{DecodeError}
@@ -11,7 +11,8 @@ use Rattle.buffa_map.specs.declared.rewrite.RewriteError.TheVariants.{Decode, En
 use Rattle.buffa_bytes.specs.ErrorText.{decode_error_text, encode_error_text}
 use Rattle.buffamap.specs.declared.fault.Fault.{Fault}
 use Rattle.buffamap.specs.declared.fault.Fault.TheVariants.{Form, OutOfMemory, RefusedBytes, RefusedEncoding, Stream, Words}
-use Rattle.buffamap.specs.Reply.{Reply, bad_input, broken, fault, no_memory, wrong_words}
+use Rattle.buffamap.specs.Streams.{StreamChange}
+use Rattle.buffamap.specs.Reply.{GivesReply, Reply, bad_input, broken, fault, no_memory, wrong_words}
 
 -- the fault that an error of a layer below is: out of memory is out of memory
 abbrev pub IsOfDigits : FromHexError → Fault → Type 0
@@ -47,3 +48,7 @@ TellsReply P f = f ≢ OutOfMemory → P (fault_reply f)
 -- what was given isn't in the stated form, so that it says nothing, memory aside
 abbrev pub SaysNone : {A : Type 0} → Option A → Fault → Type 0
 SaysNone o f = f ≢ OutOfMemory → (f ≡ Form) × (o ≡ None)
+
+-- what is told of the fault was given; or, where naming the fault takes memory, that there is none
+abbrev pub TellsFault : Fault → StreamChange → StreamChange → ℕ → Type 0
+TellsFault f out err status = GivesReply (fault_reply f) out err status ⊎ (((fault_reply f).status ≡ 1) × GivesReply no_memory out err status)

@@ -16,10 +16,12 @@ item_of_input bytes = item_in 99 1000000 bytes
 abbrev pub item_lines : ℕ → List ℕ → List ℕ → List ℕ
 item_lines number payload rest = line (decimal number) ++ (hex_line payload ++ hex_line rest)
 
+-- the Item that was read, in lines; or the fault
 abbrev pub IsFound : Result (ℕ × List ℕ × List ℕ) DecodeError → Reply → Type 0
 IsFound (Ok item) reply = reply ≡ success (item_lines item.0 item.1 item.2)
 IsFound (Err f) reply = reply ≡ fault (decode_error_text f)
 
+-- the same of bytes, where the input has any
 abbrev pub IsFoundIn : Option (List ℕ) → Reply → Type 0
 IsFoundIn None reply = reply ≡ bad_input
 IsFoundIn (Some bytes) reply = IsFound (item_of_input bytes) reply

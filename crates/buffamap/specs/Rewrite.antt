@@ -67,9 +67,9 @@ RunHasNoRewrite (Ok r) = HasNoRewrite r.0
 RunHasNoRewrite (Err f) = ⊥
 
 -- why a run wasn't rewritten, memory aside
-abbrev pub RefusesRun : Result (List Entry × BudgetLeft) DecodeError → RewriteError → Type 0
-RefusesRun run (Decode f) = f ≢ of_bytes.OutOfMemory → run ≡ Err f
-RefusesRun run (Encode e) = e ≢ of_encoding.OutOfMemory → (e ≡ of_encoding.MessageTooLarge) × RunHasNoRewrite run
+abbrev pub IsRewriteError : Result (List Entry × BudgetLeft) DecodeError → RewriteError → Type 0
+IsRewriteError run (Decode f) = f ≢ of_bytes.OutOfMemory → run ≡ Err f
+IsRewriteError run (Encode e) = e ≢ of_encoding.OutOfMemory → (e ≡ of_encoding.MessageTooLarge) × RunHasNoRewrite run
 
 -- the rewrite in hexadecimal; or the fault
 abbrev pub IsRewritten : ℕ → Result (List Entry × BudgetLeft) DecodeError → Reply → Type 0

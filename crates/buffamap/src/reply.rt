@@ -1,8 +1,8 @@
 // What is told of a call: a line and an exit status.
 ghost use Rattle.std.specs.Prelude.{◌≡◌, ◌++◌, IfOk, codes, string_bytes};
 ghost use Rattle.buffa_bytes.specs.ErrorText.{decode_error_text, encode_error_text};
-ghost use Rattle.buffamap.specs.Engine.{GivesReply, GivesLine, TellsFault};
-ghost use Rattle.buffamap.specs.Reply.{line, reply};
+ghost use Rattle.buffamap.specs.Fault.{TellsFault};
+ghost use Rattle.buffamap.specs.Reply.{GivesLine, GivesReply, line, reply};
 ghost use Rattle.buffamap.specs.Streams.{WritesOrBreaks, change};
 
 use crate::calls::WriteCalls;

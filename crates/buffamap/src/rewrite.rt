@@ -3,7 +3,7 @@ ghost use Rattle.std.specs.Prelude.{◌≡◌, [], IfErr, IfOk, OnOk};
 ghost use Rattle.buffa_bytes.specs.Number.{IsNumber};
 ghost use Rattle.buffamap.specs.Fault.{TellsReply};
 ghost use Rattle.buffamap.specs.Reply.{success};
-ghost use Rattle.buffamap.specs.Rewrite.{IsRewritten, RefusesRun, RepliesToRewrite, RunRewritesTo, choice_run};
+ghost use Rattle.buffamap.specs.Rewrite.{IsRewriteError, IsRewritten, RepliesToRewrite, RunRewritesTo, choice_run};
 
 use crate::choice::Choice;
 use crate::fault::Fault;
@@ -23,7 +23,7 @@ fn rewrite_into(
     requires number { IsNumber number }
     requires empty { run.old.items ≡ [] }
     ensures run { OnOk result (RunRewritesTo number (choice_run number bytes.now) run.new.items) }
-    ensures refused { IfErr result (RefusesRun (choice_run number bytes.now)) }
+    ensures refused { IfErr result (IsRewriteError (choice_run number bytes.now)) }
 {
     let mut budget = Budget::new(DEFAULT_UNKNOWN_FIELD_LIMIT);
     let ctx = DecodeContext::new(RECURSION_LIMIT, &mut budget);

@@ -57,6 +57,7 @@ pub fn encode_string<S: EncodeSink>(value: &str, sink: &mut S) -> Result<(), Enc
 /// ```ignore
 /// let bee = decode_string(alloc, buf)?; // of 03 62 65 65: "bee"
 /// ```
+#[tactic(auto, using(crate::proofs::TailLemmas::tail_more))]
 pub fn decode_string<B: Buf>(alloc: Global, buf: &mut B) -> Result<String, DecodeError>
     ensures reads { GivesUnlessFull (λ s. (string_bytes s, B.unread buf.new)) result (string_at (B.unread buf.old)) }
     ensures free { (rest : List ℕ) → delimited_at (B.unread buf.old) ≡ Ok ([], rest) → IsOk result }
@@ -147,10 +148,7 @@ pub fn decode_bytes_to_bytes<B: Buf>(alloc: Global, buf: &mut B) -> Result<Bytes
     ensures tail { IsTailOf (B.unread buf.new) (B.unread buf.old) }
 {
     let bytes = decode_bytes(alloc, buf)?;
-    let Ok(shared) = Bytes::from_vec(bytes) else {
-        return Err(DecodeError::OutOfMemory);
-    };
-    Ok(shared)
+    Ok(Bytes::from_vec(bytes)?)
 }
 
 /// Reads a length varint, and gives so many bytes to a function: where they lie, or else put together first.
@@ -166,6 +164,7 @@ pub fn decode_bytes_to_bytes<B: Buf>(alloc: Global, buf: &mut B) -> Result<Bytes
 /// with_delimited(alloc, buf, &mut |bytes: &[u8]| P::from_wire(alloc, bytes)) // of 02 DE AD: what P makes of DE AD
 /// ```
 #[inline(always)]
+#[tactic(auto, using(crate::proofs::TailLemmas::tail_more))]
 pub fn with_delimited<B: Buf, T, F: FnMut(&[u8]) -> Result<T, DecodeError>>(
     alloc: Global,
     buf: &mut B,

@@ -162,9 +162,7 @@ fn decode_group<B: Buf>(
             budget: &mut *budget,
         };
         let field = decode_unknown_field(alloc, tag, buf, lent)?;
-        let Ok(_) = fields.push(field) else {
-            return Err(DecodeError::OutOfMemory);
-        };
+        fields.push(field)?;
     }
 }
 
@@ -195,9 +193,7 @@ impl UnknownFields {
                 budget: &mut budget,
             };
             let field = decode_unknown_field(alloc, tag, &mut rest, lent)?;
-            let Ok(_) = fields.push(field) else {
-                return Err(DecodeError::OutOfMemory);
-            };
+            fields.push(field)?;
         }
         Ok(fields)
     }

@@ -1,10 +1,9 @@
-use Rattle.std.proofs.Common.{[], sym, ap, ◌∙◌, map, take, subst}
+use Rattle.std.proofs.Common.{[], ap, ◌∙◌, map, subst}
 use Rattle.std.specs.List.{AllByRecursion}
 use Rattle.std.proofs.lemmas.List.{take_all}
 use Rattle.std.proofs.lemmas.Result.{err_from_is_err_and}
-use Rattle.buffa_codec.proofs.ListLemmas.{AllByRecursion-append}
+use Rattle.buffa_codec.proofs.ListLemmas.{AllByRecursion-more}
 use Rattle.buffa_codec.proofs.packed.packed_bytes.Goals as goal
-use Rattle.buffa_bytes.proofs.ListLemmas.{means_more}
 use Rattle.buffa_wire.proofs.ByValueLemmas.{encodings_by_value, write_more}
 use Rattle.buffa_wire.specs.Encoding.{encodings}
 
@@ -13,26 +12,24 @@ loop-v-preserved g c =
     let m = g.C.Value.Blank.meaning in
     let encoding = g.C.PackableCodec.packed_encoding in
     let xs = c.args.values.now in
-    let front = map m (take c.loop-v.v-index xs) in
-    let more = means_more m xs c.loop-v.v-index c.v-item.result c.loop-v-test.true c.v-item.is in
     record {
       written = write_more (encodings_by_value encoding) m xs c.loop-v.v-index c.v-item.result c.loop-v-test.true c.v-item.is [] c.loop-v.bytes.items _ c.loop-v.invariant.written c.in_ok-encode_packed.ensures.ok;
-      fit = subst (AllByRecursion g.C.SingularCodec.fits) (sym more) (AllByRecursion-append g.C.SingularCodec.fits front (m c.v-item.result) c.loop-v.invariant.fit c.in_ok-encode_packed.ensures.fits);
+      fit = AllByRecursion-more g.C.SingularCodec.fits m xs c.loop-v.v-index c.v-item.result c.loop-v-test.true c.v-item.is c.loop-v.invariant.fit c.in_ok-encode_packed.ensures.fits;
     }
 
 pub returns-in_err-encode_packed-clause-bytes : goal.returns-in_err-encode_packed-clause-bytes
 returns-in_err-encode_packed-clause-bytes g c =
-    let p = err_from_is_err_and c.from_residual.result c.from_residual.ensures.1 in
+    let p = err_from_is_err_and c.from_residual-in_err-encode_packed.result c.from_residual-in_err-encode_packed.ensures.1 in
     rw p.1 tt
 
 pub returns-in_err-encode_packed-clause-refused : goal.returns-in_err-encode_packed-clause-refused
 returns-in_err-encode_packed-clause-refused g c =
-    let p = err_from_is_err_and c.from_residual.result c.from_residual.ensures.1 in
+    let p = err_from_is_err_and c.from_residual-in_err-encode_packed.result c.from_residual-in_err-encode_packed.ensures.1 in
     rw (p.1, p.2) c.in_err-encode_packed.ensures.refused
 
 pub returns-in_err-encode_packed-clause-fits : goal.returns-in_err-encode_packed-clause-fits
 returns-in_err-encode_packed-clause-fits g c =
-    let p = err_from_is_err_and c.from_residual.result c.from_residual.ensures.1 in
+    let p = err_from_is_err_and c.from_residual-in_err-encode_packed.result c.from_residual-in_err-encode_packed.ensures.1 in
     rw p.1 tt
 
 pub returns-clause-bytes : goal.returns-clause-bytes

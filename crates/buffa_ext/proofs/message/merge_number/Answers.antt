@@ -8,7 +8,7 @@ pub returns-in-Err : goal.returns-in-Err
 returns-in-Err g c =
     stops_here g.K.MessageRecord.held c.args.number c.as_slice-field-items.result.now c.loop-field.field-index c.field-item.result c.loop-field-test.true c.field-item.is
     (g.M.MessageSpec.merged 100) (g.M.MessageSpec.cost 100) (g.M.Blank.meaning c.args.message.now) (g.M.Blank.meaning c.loop-field.message) c.args.budget.now c.loop-field.budget c.loop-field.found c.loop-field.invariant
-    (g.K.MessageRecord.takes 100) (g.M.Blank.meaning c.merge_in.new.message) c.merge_in.new.ctx.1.0 c.in-Err.error c.args.fields.now.records c.if-field-number.true
+    (g.K.MessageRecord.asks 100) (g.M.Blank.meaning c.merge_in.new.message) c.merge_in.new.ctx.1.0 c.in-Err.error c.args.fields.now.records c.if-field-number.true
     (ap records_in c.as_slice-field-items.ensures.value ∙ c.iter.ensures) c.in-Err.ensures.merged c.in-Err.ensures.encoding c.in-Err.ensures.full
 
 pub loop-field-preserved : goal.loop-field-preserved

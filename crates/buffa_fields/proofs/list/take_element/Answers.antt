@@ -1,4 +1,5 @@
 use Rattle.std.proofs.Common.{◌∙◌, map, sym}
+use Rattle.std.proofs.lemmas.Result.{err_from_is_err_and}
 use Rattle.buffa_fields.specs.ListFacts.{content_there, element_pushed}
 use Rattle.buffa_fields.proofs.ListLemmas.{element_from_err}
 use Rattle.buffa_fields_base.proofs.ValueLemmas.{refused_plain}
@@ -14,10 +15,12 @@ returns-in-Err-clause-reads g c =
 pub returns-in-Err-clause-full : goal.returns-in-Err-clause-full
 returns-in-Err-clause-full g c = λ full. (c.in-Err.ensures.full full).2
 
-pub returns-in_default-clause-full : goal.returns-in_default-clause-full
-returns-in_default-clause-full g c = λ full. content_there g.C.MapValueDecode.reading c.args.depth (g.C.Value.Blank.meaning c.blank-value.result) c.args.buf.now.now _ c.in-Ok.ensures.ok
+pub returns-in_err-push-clause-full : goal.returns-in_err-push-clause-full
+returns-in_err-push-clause-full g c =
+    let p = err_from_is_err_and c.from_residual.result c.from_residual.ensures.1 in
+    rw (p.1, p.2) (λ full. content_there g.C.MapValueDecode.reading c.args.depth (g.C.Value.Blank.meaning c.blank-value.result) c.args.buf.now.now _ c.in-Ok.ensures.ok)
 
 pub returns-clause-reads : goal.returns-clause-reads
 returns-clause-reads g c =
     element_pushed g.C.Value.Blank.meaning g.C.MapValueDecode.reading c.args.depth c.args.values.now.items c.push.new.self.items c.merge.new.value c.args.buf.now.now (g.C.Value.Blank.meaning c.blank-value.result)
-    (g.met.C.MapValueDecode.blank ∙ sym c.blank-value.ensures) _ c.merge.new.buf.now c.in-Ok.ensures.ok c.in-Ok-push.ensures.items
+    (g.met.C.MapValueDecode.blank ∙ sym c.blank-value.ensures) _ c.merge.new.buf.now c.in-Ok.ensures.ok c.in_ok-push.ensures.items

@@ -1,10 +1,8 @@
 use Rattle.std.proofs.Common.{◌≡◌, ◌∙◌, inl, inr, Err, IsOk, ap, map, refl, sym}
-use Rattle.buffa_bytes.proofs.StepLemmas.{agree_err, agree_ok}
 use Rattle.buffa_bytes.specs.Content.{content_at}
-use Rattle.buffa_bytes.specs.declared.error.DecodeError.TheVariants.{WireTypeMismatch}
 use Rattle.buffa_bytes.specs.declared.wire_type.WireType.TheVariants.{LengthDelimited}
 use Rattle.buffa_bytes.specs.Front.{check_wire}
-use Rattle.buffa_map_base.proofs.EntryLemmas.{check_sound}
+use Rattle.buffa_fields_base.proofs.WireLemmas.{checked_same, checked_other, other_not_full}
 use Rattle.buffa_fields.proofs.ListLemmas.{element_refused, element_taken, neither_err, neither_refused, other_wire, own_wire, packed_refused, packed_taken, packed_wire}
 use Rattle.buffa_fields.specs.Lists.{ElementsTakeMemory, PackedTakeMemory}
 use Rattle.buffa_wire.proofs.SequenceLemmas.{err_same}
@@ -18,7 +16,7 @@ returns-in-Ok-clause-taken g c = λ left.
     let wire_is : codec.wire ≡ c.WIRE_TYPE.result = g.met.C.MapValueDecode.wire ∙ sym c.WIRE_TYPE.ensures in
     let n = c.args.tag.number in
     let w = c.args.tag.wire_type in
-    let same = agree_ok (check_wire n c.WIRE_TYPE.result w) tt (check_sound n c.WIRE_TYPE.result w) c.in-Ok.ensures in
+    let same = checked_same n c.WIRE_TYPE.result w c.in-Ok.ensures in
     element_taken codec g.met.C.MapCodec.plain g.met.C.MapValueDecode.no_limit c.args.depth (map g.C.Value.Blank.meaning c.args.values.now.items) n w c.args.buf.now.now left c.take_element.result (map g.C.Value.Blank.meaning c.take_element.new.values.items) c.take_element.new.buf.now (same ∙ sym wire_is) c.take_element.ensures.reads c.take_element.ensures.full
 
 pub returns-in-Ok-check_wire_type-clause-taken : goal.returns-in-Ok-check_wire_type-clause-taken
@@ -27,8 +25,8 @@ returns-in-Ok-check_wire_type-clause-taken g c = λ left.
     let wire_is : codec.wire ≡ c.WIRE_TYPE.result = g.met.C.MapValueDecode.wire ∙ sym c.WIRE_TYPE.ensures in
     let n = c.args.tag.number in
     let w = c.args.tag.wire_type in
-    let bad = agree_err (check_wire n c.WIRE_TYPE.result w) c.in-Err.error (check_sound n c.WIRE_TYPE.result w) c.in-Err.ensures in
-    let held = agree_ok (check_wire n LengthDelimited w) tt (check_sound n LengthDelimited w) c.in-Ok-check_wire_type.ensures in
+    let bad = checked_other n c.WIRE_TYPE.result w c.in-Err.error c.in-Err.ensures in
+    let held = checked_same n LengthDelimited w c.in-Ok-check_wire_type.ensures in
     packed_taken codec g.met.C.MapCodec.plain g.met.C.MapValueDecode.no_limit c.args.depth (map g.C.Value.Blank.meaning c.args.values.now.items) n w c.args.buf.now.now left c.take_packed.result (map g.C.Value.Blank.meaning c.take_packed.new.values.items) c.take_packed.new.buf.now (λ h. bad.0 (h ∙ wire_is)) held c.take_packed.ensures.taken
 
 pub returns-in-Err-check_wire_type-clause-taken : goal.returns-in-Err-check_wire_type-clause-taken
@@ -37,9 +35,8 @@ returns-in-Err-check_wire_type-clause-taken g c = λ left.
     let wire_is : codec.wire ≡ c.WIRE_TYPE.result = g.met.C.MapValueDecode.wire ∙ sym c.WIRE_TYPE.ensures in
     let n = c.args.tag.number in
     let w = c.args.tag.wire_type in
-    let bad = agree_err (check_wire n c.WIRE_TYPE.result w) c.in-Err.error (check_sound n c.WIRE_TYPE.result w) c.in-Err.ensures in
-    let other = agree_err (check_wire n LengthDelimited w) c.in-Err-check_wire_type.field-0 (check_sound n LengthDelimited w) c.in-Err-check_wire_type.ensures in
-    neither_err codec g.met.C.MapCodec.plain g.met.C.MapValueDecode.no_limit c.args.depth (map g.C.Value.Blank.meaning c.args.values.now.items) n w c.args.buf.now.now left c.in-Err.error (map g.C.Value.Blank.meaning c.args.values.now.items) c.args.buf.now.now (λ h. bad.0 (h ∙ wire_is)) other.0 (bad.1 ∙ ap (λ z. WireTypeMismatch n z w) (sym wire_is))
+    let other = checked_other n LengthDelimited w c.in-Err-check_wire_type.field-0 c.in-Err-check_wire_type.ensures in
+    neither_err codec g.met.C.MapCodec.plain g.met.C.MapValueDecode.no_limit c.args.depth (map g.C.Value.Blank.meaning c.args.values.now.items) n w c.args.buf.now.now left c.in-Err.error (ap (λ z. check_wire n z w) wire_is ∙ c.in-Err.ensures) other.0
 
 pub returns-in-Ok-clause-full : goal.returns-in-Ok-clause-full
 returns-in-Ok-clause-full g c =
@@ -47,7 +44,7 @@ returns-in-Ok-clause-full g c =
     let n = c.args.tag.number in
     let w = c.args.tag.wire_type in
     let bs = c.args.buf.now.now in
-    let same = agree_ok (check_wire n c.WIRE_TYPE.result w) tt (check_sound n c.WIRE_TYPE.result w) c.in-Ok.ensures in
+    let same = checked_same n c.WIRE_TYPE.result w c.in-Ok.ensures in
     full_weaker (IsOk (content_at codec.wire bs)) (ElementsTakeMemory codec c.args.depth n w bs) c.take_element.result c.take_element.ensures.full
     (λ whole. inl (same ∙ (c.WIRE_TYPE.ensures ∙ sym g.met.C.MapValueDecode.wire), whole))
 
@@ -57,15 +54,11 @@ returns-in-Ok-check_wire_type-clause-full g c =
     let n = c.args.tag.number in
     let w = c.args.tag.wire_type in
     let bs = c.args.buf.now.now in
-    let held = agree_ok (check_wire n LengthDelimited w) tt (check_sound n LengthDelimited w) c.in-Ok-check_wire_type.ensures in
+    let held = checked_same n LengthDelimited w c.in-Ok-check_wire_type.ensures in
     full_weaker (PackedTakeMemory codec bs) (ElementsTakeMemory codec c.args.depth n w bs) c.take_packed.result c.take_packed.ensures.full (λ packed. inr (held, packed))
 
 pub returns-in-Err-check_wire_type-clause-full : goal.returns-in-Err-check_wire_type-clause-full
-returns-in-Err-check_wire_type-clause-full g c = λ full.
-    let n = c.args.tag.number in
-    let w = c.args.tag.wire_type in
-    let bad = agree_err (check_wire n c.WIRE_TYPE.result w) c.in-Err.error (check_sound n c.WIRE_TYPE.result w) c.in-Err.ensures in
-    let two = sym full ∙ bad.1 in cc
+returns-in-Err-check_wire_type-clause-full g c = other_not_full c.args.tag.number c.WIRE_TYPE.result c.args.tag.wire_type c.in-Err.error c.in-Err.ensures
 
 pub returns-in-Ok-clause-wire : goal.returns-in-Ok-clause-wire
 returns-in-Ok-clause-wire g c = λ e told.
@@ -77,13 +70,13 @@ pub returns-in-Ok-check_wire_type-clause-wire : goal.returns-in-Ok-check_wire_ty
 returns-in-Ok-check_wire_type-clause-wire g c = λ e told.
     let n = c.args.tag.number in
     let w = c.args.tag.wire_type in
-    absurd (packed_wire n g.C.MapValueDecode.WIRE_TYPE w e told (agree_ok (check_wire n LengthDelimited w) tt (check_sound n LengthDelimited w) c.in-Ok-check_wire_type.ensures))
+    absurd (packed_wire n g.C.MapValueDecode.WIRE_TYPE w e told (checked_same n LengthDelimited w c.in-Ok-check_wire_type.ensures))
 
 pub returns-in-Err-check_wire_type-clause-wire : goal.returns-in-Err-check_wire_type-clause-wire
 returns-in-Err-check_wire_type-clause-wire g c = λ e told.
     let n = c.args.tag.number in
     let w = c.args.tag.wire_type in
-    let other = agree_err (check_wire n LengthDelimited w) c.in-Err-check_wire_type.field-0 (check_sound n LengthDelimited w) c.in-Err-check_wire_type.ensures in
+    let other = checked_other n LengthDelimited w c.in-Err-check_wire_type.field-0 c.in-Err-check_wire_type.ensures in
     (sym c.in-Err.ensures ∙ (ap (λ z. check_wire n z w) c.WIRE_TYPE.ensures ∙ other_wire n g.C.MapValueDecode.WIRE_TYPE w e told other.0), refl, refl)
 
 pub returns-in-Ok-clause-refused : goal.returns-in-Ok-clause-refused
@@ -93,7 +86,7 @@ returns-in-Ok-clause-refused g c = λ e bad.
     let wire_is : codec.wire ≡ c.WIRE_TYPE.result = g.met.C.MapValueDecode.wire ∙ sym c.WIRE_TYPE.ensures in
     let n = c.args.tag.number in
     let w = c.args.tag.wire_type in
-    let same = agree_ok (check_wire n c.WIRE_TYPE.result w) tt (check_sound n c.WIRE_TYPE.result w) c.in-Ok.ensures in
+    let same = checked_same n c.WIRE_TYPE.result w c.in-Ok.ensures in
     element_refused codec g.met.C.MapCodec.plain g.met.C.MapValueDecode.no_limit c.args.depth (map m c.args.values.now.items) n w c.args.buf.now.now nothing c.take_element.result (map m c.take_element.new.values.items) c.take_element.new.buf.now e bad
     (same ∙ sym wire_is) (ap (λ z. check_wire n z w) wire_is ∙ c.in-Ok.ensures) c.take_element.ensures.stays c.take_element.ensures.reads
 
@@ -104,8 +97,8 @@ returns-in-Ok-check_wire_type-clause-refused g c = λ e bad.
     let wire_is : codec.wire ≡ c.WIRE_TYPE.result = g.met.C.MapValueDecode.wire ∙ sym c.WIRE_TYPE.ensures in
     let n = c.args.tag.number in
     let w = c.args.tag.wire_type in
-    let off = agree_err (check_wire n c.WIRE_TYPE.result w) c.in-Err.error (check_sound n c.WIRE_TYPE.result w) c.in-Err.ensures in
-    let held = agree_ok (check_wire n LengthDelimited w) tt (check_sound n LengthDelimited w) c.in-Ok-check_wire_type.ensures in
+    let off = checked_other n c.WIRE_TYPE.result w c.in-Err.error c.in-Err.ensures in
+    let held = checked_same n LengthDelimited w c.in-Ok-check_wire_type.ensures in
     packed_refused codec g.met.C.MapCodec.plain g.met.C.MapValueDecode.no_limit c.args.depth (map m c.args.values.now.items) n w c.args.buf.now.now nothing c.take_packed.result (map m c.take_packed.new.values.items) e bad
     (λ h. off.0 (h ∙ wire_is)) held c.take_packed.ensures.refused
 
@@ -115,6 +108,6 @@ returns-in-Err-check_wire_type-clause-refused g c = λ e same.
     let wire_is : codec.wire ≡ c.WIRE_TYPE.result = g.met.C.MapValueDecode.wire ∙ sym c.WIRE_TYPE.ensures in
     let n = c.args.tag.number in
     let w = c.args.tag.wire_type in
-    let other = agree_err (check_wire n LengthDelimited w) c.in-Err-check_wire_type.field-0 (check_sound n LengthDelimited w) c.in-Err-check_wire_type.ensures in
+    let other = checked_other n LengthDelimited w c.in-Err-check_wire_type.field-0 c.in-Err-check_wire_type.ensures in
     neither_refused codec g.met.C.MapCodec.plain g.met.C.MapValueDecode.no_limit c.args.depth (map g.C.Value.Blank.meaning c.args.values.now.items) n w c.args.buf.now.now nothing e other.0
     (ap (λ z. check_wire n z w) wire_is ∙ c.in-Err.ensures ∙ ap (λ z. Err z) (err_same same))

@@ -1,4 +1,4 @@
-use Rattle.buffa_fields.specs.NestedMapFacts.{pairs_sized, pairs_unsized}
+use Rattle.buffa_fields.proofs.NestedMapLemmas.{pairs_sized, pairs_unsized}
 use Rattle.buffa_fields.proofs.map_nested.pairs_len.Goals as goal
 
 pub returns-in-Ok-clause-sized : goal.returns-in-Ok-clause-sized

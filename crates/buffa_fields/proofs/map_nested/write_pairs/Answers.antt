@@ -1,4 +1,4 @@
-use Rattle.buffa_fields.specs.NestedMapFacts.{pairs_written}
+use Rattle.buffa_fields.proofs.NestedMapLemmas.{pairs_written}
 use Rattle.buffa_fields.proofs.map_nested.write_pairs.Goals as goal
 
 pub returns : goal.returns

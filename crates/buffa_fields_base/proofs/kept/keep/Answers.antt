@@ -28,21 +28,23 @@ returns-in_err-field c = (
       c.in_err-field.ensures.reads c.in_err-field.ensures.no_unknown_stays c.in_err-field.ensures.level c.in_err-field.ensures.left,
 )
 
-pub returns-in-Err : goal.returns-in-Err
+pub returns-in_err-push : goal.returns-in_err-push
 unfolding IsFieldKept
-returns-in-Err c = (
-  keep_full c.args.ctx.depth c.unknown_left.result c.args.tag.number c.args.tag.wire_type c.args.buf.now.now c.args.fields.now.records c.args.ctx.budget.now c.unknown_left.ensures
-      (datum_of c.in_ok-field.field.payload) c.in_ok-field.left c.read_alone.new.buf.now c.read_alone.new.buf.now c.in_ok-field.ensures.reads,
-  (let e = c.in-Err.ensures.err in cc),
-  λ full. keep_asks_put c.args.ctx.depth c.unknown_left.result c.args.tag.number c.args.tag.wire_type c.args.buf.now.now c.args.fields.now.records c.args.ctx.budget.now c.unknown_left.ensures (datum_of c.in_ok-field.field.payload, c.in_ok-field.left, c.read_alone.new.buf.now) c.in_ok-field.ensures.reads,
-  refl,
-  λ e is ne. absurd (ne (sym (err_same is))),
-)
+returns-in_err-push c =
+    let p = err_from_is_err_and c.from_residual-in_err-push.result c.from_residual-in_err-push.ensures.1 in
+    rw (p.1, p.2) (
+      keep_full c.args.ctx.depth c.unknown_left.result c.args.tag.number c.args.tag.wire_type c.args.buf.now.now c.args.fields.now.records c.args.ctx.budget.now c.unknown_left.ensures
+          (datum_of c.in_ok-field.field.payload) c.in_ok-field.left c.read_alone.new.buf.now c.read_alone.new.buf.now c.in_ok-field.ensures.reads,
+      (let e = c.in_err-push.ensures.err in cc),
+      λ full. keep_asks_put c.args.ctx.depth c.unknown_left.result c.args.tag.number c.args.tag.wire_type c.args.buf.now.now c.args.fields.now.records c.args.ctx.budget.now c.unknown_left.ensures (datum_of c.in_ok-field.field.payload, c.in_ok-field.left, c.read_alone.new.buf.now) c.in_ok-field.ensures.reads,
+      refl,
+      λ e is ne. absurd (ne (sym (err_same is))),
+    )
 
 pub returns : goal.returns
 unfolding IsFieldKept
 returns c =
-    let is = c.in-Ok.ensures.ok ∙ ap (λ z. c.args.fields.now.records ++ (z, datum_of c.in_ok-field.field.payload) ∷ []) c.in_ok-field.ensures.number in (
+    let is = c.in_ok-push.ensures.ok ∙ ap (λ z. c.args.fields.now.records ++ (z, datum_of c.in_ok-field.field.payload) ∷ []) c.in_ok-field.ensures.number in (
       keep_ok c.args.ctx.depth c.unknown_left.result c.args.tag.number c.args.tag.wire_type c.args.buf.now.now c.args.fields.now.records c.args.ctx.budget.now c.unknown_left.ensures
           (datum_of c.in_ok-field.field.payload) c.in_ok-field.left c.push.new.self.records _ c.read_alone.new.buf.now c.in_ok-field.ensures.reads is
           (ap (λ z. z.unknown) c.with_element_memory.ensures ∙ c.new.ensures.unknown) (ap (λ z. z.memory) c.with_element_memory.ensures ∙ c.memory_left.ensures),

@@ -2,6 +2,7 @@ use Rattle.std.proofs.Common.{◌≡◌, List, [], ◌∷◌, ◌++◌, length, 
 use Rattle.std.specs.List.{Contains}
 use Rattle.std.specs.Map.{values_of}
 use Rattle.std.proofs.lemmas.Result.{err_from_is_err_and}
+use Rattle.buffa_wire.proofs.ByValueLemmas.{length_cut, length_last}
 use Rattle.buffa_wire.specs.Passes.{IsNext, cap}
 use Rattle.buffa_wire.proofs.PassLemmas.{done, next_front, next_past, written_err, written_none, written_short, written_then}
 use Rattle.buffa_map_base.specs.MessageField.{IsFieldWritten, IsSmallField, IsSmallPair, field_slots}
@@ -9,7 +10,7 @@ use Rattle.buffa_map_base.specs.Pairs.{mean, means}
 use Rattle.buffa_map_base.specs.Scalars.{delimited_writing}
 use Rattle.buffa_map_base.specs.Encoding.{field_encoding, record_encoding}
 use Rattle.buffa_map_write.proofs.MessageFieldLemmas.{here, small_at}
-use Rattle.buffa_map_write.proofs.WriteLemmas.{field_encoding-parts, room_more}
+use Rattle.buffa_map_write.proofs.WriteLemmas.{field_by_value}
 use Rattle.buffa_map_write.proofs.message_write.write_message_field_by.Goals as goal
 
 pub loop-key-init : goal.loop-key-init
@@ -89,7 +90,7 @@ loop-key-preserved g c =
           c.loop-key.cache c.write_message_record_by.new.cache d (written c.loop-key.sink) (written c.write_message_record_by.new.sink) b (λ z. z) r w h));
       spare = λ keeps small.
           let one = c.in_ok-write_message_record_by.ensures.room keeps (small_at key encoding (g.C.StableOrder.walk c.args.map.now) i.within.0 m rest e small) in
-          room_more key (delimited_writing encoding) number _ _ _ i.within.0 m (i.spare keeps small) one;
+          omega (arith, i.spare keeps small, one, length_last (field_by_value key (delimited_writing encoding) number) i.within.0 m);
     }
 
 pub returns-in_err-write_message_record_by-clause-some : goal.returns-in_err-write_message_record_by-clause-some
@@ -155,7 +156,7 @@ returns-in_err-write_message_record_by-clause-room g c keeps small =
     let e = i.within.1 ∙ ap (λ (z : List (g.row.KC-Value.Denot × g.row.M.Denot)). i.within.0 ++ means g.KC.Value.Blank.meaning g.M.Blank.meaning z) step in
     let all = g.C.StableOrder.walk c.args.map.now in
     let one = c.in_err-write_message_record_by.ensures.room keeps (small_at key encoding all i.within.0 m rest e small) in
-    rw q.1 (omega (arith, i.spare keeps small, one, field_encoding-parts key (delimited_writing encoding) c.args.number all i.within.0 m rest e))
+    rw q.1 (omega (arith, i.spare keeps small, one, length_cut (field_by_value key (delimited_writing encoding) c.args.number) i.within.0 m rest all e))
 
 pub returns-clause-room : goal.returns-clause-room
 returns-clause-room g c keeps small =

@@ -1,7 +1,7 @@
 use Rattle.std.proofs.Common.{◌≡◌, ◌∷◌, [], ap, Some, None, sym}
 use Rattle.std.proofs.lemmas.Result.{err_from_is_err_and}
 use Rattle.buffa_map_base.specs.Pairs.{means}
-use Rattle.buffa_map_write.proofs.WriteLemmas.{sent_all, sent_more, sent_no_room, sent_none, sent_refused}
+use Rattle.buffa_map_write.proofs.WriteLemmas.{sent_all, sent_more, sent_none, sent_stops}
 use Rattle.buffa_map_write.proofs.write.write_field.Goals as goal
 
 pub loop-key-init : goal.loop-key-init
@@ -28,14 +28,10 @@ pub returns-in_err-write_record : goal.returns-in_err-write_record
 returns-in_err-write_record g c =
     let q = err_from_is_err_and c.from_residual.result c.from_residual.ensures.1 in
     let inv = c.loop-key.invariant in
-    let step : g.C.MapWalk.left c.loop-key.key-iterator ≡ (c.in-Some.key.now, c.in-Some.value.now) ∷ g.C.MapWalk.left c.next.new.self = c.storage_iter-key-items.ensures.steps c.loop-key.key-iterator (Some (c.in-Some.key, c.in-Some.value)) c.next.new.self c.in-Some.ensures.steps in (
-      inv.0,
-      inv.1,
-      inv.2,
-      sent_refused g.KC.Value.Blank.meaning g.VC.Value.Blank.meaning g.KC.MapCodec.writing g.VC.MapCodec.writing c.args.number g.KC.MapCodec.fits g.VC.MapCodec.fits _ _ _ q.1 q.2 _ _ _ _ step _ _ _ inv.3 c.in_err-write_record.ensures.written,
-      rw q.1 tt,
-      sent_no_room g.KC.Value.Blank.meaning g.VC.Value.Blank.meaning g.KC.MapCodec.writing g.VC.MapCodec.writing c.args.number g.KC.MapCodec.fits g.VC.MapCodec.fits _ _ _ q.1 q.2 _ _ _ _ step _ _ _ inv.3 c.in_err-write_record.ensures.room,
-    )
+    let step : g.C.MapWalk.left c.loop-key.key-iterator ≡ (c.in-Some.key.now, c.in-Some.value.now) ∷ g.C.MapWalk.left c.next.new.self = c.storage_iter-key-items.ensures.steps c.loop-key.key-iterator (Some (c.in-Some.key, c.in-Some.value)) c.next.new.self c.in-Some.ensures.steps in
+    let wrote = c.in_err-write_record.ensures in
+    let w = sent_stops g.KC.Value.Blank.meaning g.VC.Value.Blank.meaning g.KC.MapCodec.writing g.VC.MapCodec.writing c.args.number g.KC.MapCodec.fits g.VC.MapCodec.fits _ _ _ q.1 q.2 _ _ _ _ step _ (g.S.EncodeSink.written c.write_record.new.sink) _ (g.S.EncodeSink.room c.write_record.new.sink) inv.3 wrote.written wrote.room in
+    (inv.0, inv.1, inv.2, w.0, w.1, w.2)
 
 pub returns : goal.returns
 returns g c =

@@ -1,7 +1,7 @@
 use Rattle.buffa_bytes.proofs.StepLemmas.{agree_err, agree_ok}
 use Rattle.buffa_bytes.specs.declared.error.DecodeError.TheVariants.{OutOfMemory}
 use Rattle.buffa_message_set.specs.Item.{item_at}
-use Rattle.buffa_message_set.proofs.ItemLemmas.{item_fault_full, item_in_range, read_complete, read_faulty, read_sound}
+use Rattle.buffa_message_set.proofs.ItemLemmas.{item_fault, item_in_range, read_complete, read_faulty, read_sound}
 use Rattle.buffa_message_set.proofs.laws.items_are_read.Goals as goal
 
 pub returns-clause-ok : goal.returns-clause-ok
@@ -11,7 +11,7 @@ pub returns-clause-err : goal.returns-clause-err
 returns-clause-err c d bs e = (λ h. agree_err (item_at d bs) e (read_sound d bs) h, read_faulty d bs e)
 
 pub returns-clause-memory : goal.returns-clause-memory
-returns-clause-memory c d bs h = item_fault_full d bs (agree_err (item_at d bs) OutOfMemory (read_sound d bs) h)
+returns-clause-memory c d bs h = item_fault d bs OutOfMemory (agree_err (item_at d bs) OutOfMemory (read_sound d bs) h)
 
 pub returns-clause-range : goal.returns-clause-range
 returns-clause-range c d id bs msg h = item_in_range d bs msg id h

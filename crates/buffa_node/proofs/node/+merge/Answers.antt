@@ -1,22 +1,15 @@
-use Rattle.std.proofs.Common.{◌≡◌, ◌≢◌, refl, Err, ◌++◌, ◌<◌, ◌∙◌, ℕ, List, length, length-append, arith, ap, subst, sym}
+use Rattle.std.proofs.Common.{◌≡◌, ◌≢◌, Err, ◌∙◌, arith, ap}
 use Rattle.std.specs.Prelude.{string_bytes}
 use Rattle.std.proofs.lemmas.Result.{err_from_is_err_and}
-use Rattle.buffa_bytes.specs.declared.error.DecodeError.TheVariants.{OutOfMemory}
-use Rattle.buffa_bytes.specs.Field.{TakesTag}
-use Rattle.buffa_bytes.specs.Front.{tag_at}
-use Rattle.buffa_bytes.proofs.StepLemmas.{agree_ok}
-use Rattle.buffa_bytes.proofs.FieldLemmas.{tag_some, tag_sound}
 use Rattle.buffa_bytes.proofs.FullLemmas.{tag_full}
-use Rattle.buffa_wire.specs.BudgetLeft.{BudgetLeft, PaysAtMost}
-use Rattle.buffa_wire.specs.Message.{MergeFault, cost_in, merged_in}
-use Rattle.buffa_wire.proofs.MessageLemmas.{loop_fault, reaches_tag}
-use Rattle.buffa_wire.proofs.ByPayloadLemmas.{field_costs, field_means, judged_all, untagged}
+use Rattle.buffa_wire.specs.Message.{cost_in, merged_in}
 use Rattle.buffa_map_base.specs.Pairs.{means}
 use Rattle.buffa_wire.specs.Kept.{keep_need}
 use Rattle.buffa_fields_base.specs.Keep.{keep_takes}
 use Rattle.buffa_wire.proofs.TakesLemmas.{taken_full}
 use Rattle.buffa_node.proofs.FieldMergeLemmas.{both_stay, child_merged, kept_merged, on_err, score_merged, shade_merged}
-use Rattle.buffa_node.proofs.LoopLemmas.{all_merged, node_by_payloads, front_next, front_none, stops_at, stops_untagged}
+use Rattle.buffa_wire.proofs.MergeLoopLemmas.{begins, ended, goes_on, no_tag, reached, refused_next, shorter}
+use Rattle.buffa_node.proofs.StopLemmas.{node_by_payloads, stops_at, stops_untagged}
 use Rattle.buffa_map.specs.Children.{children_in}
 use Rattle.buffa_node.specs.Branch.{branch, shade_number}
 use Rattle.buffa_node.specs.NodeMeaning.{children_cost, children_take, node_cost, node_merged, scores_cost, scores_take, shades_cost, shades_take}
@@ -25,14 +18,7 @@ use Rattle.buffa_node.proofs.node.+merge.Goals as goal
 pub merge_node-returns-in_err-tag-clause-merged : goal.merge_node-returns-in_err-tag-clause-merged
 merge_node-returns-in_err-tag-clause-merged t c =
     let p = err_from_is_err_and c.from_residual.result c.from_residual.ensures.1 in
-    let inv = c.loop-rest.invariant in
-    let d = c.args.depth in
-    let v = c.loop-rest.node in
-    let rest = c.loop-rest.rest.now in
-    let some : 0 < length rest = omega (arith, c.remaining.ensures, c.loop-rest-test.true) in
-    rw (p.1, p.2) (loop_fault (node_merged d c.args.node.now c.args.bytes.now) (node_merged d v rest) c.args.budget.now c.loop-rest.budget c.loop-rest.budget
-    (node_cost d c.args.bytes.now) (node_cost d rest) c.in_err-tag.field-0.0 inv.means inv.unknown inv.memory inv.no_unknown inv.no_unit
-    ((omega arith, omega arith, omega arith, omega arith), λ ne. untagged node_by_payloads d v rest c.loop-rest.budget c.in_err-tag.field-0.0 some c.in_err-tag.ensures.reads))
+    rw (p.1, p.2) (no_tag node_by_payloads c.loop-rest.invariant c.in_err-tag.field-0.0 (omega (arith, c.remaining.ensures, c.loop-rest-test.true)) c.in_err-tag.ensures.reads)
 
 pub merge_node-returns-in_err-tag-clause-full : goal.merge_node-returns-in_err-tag-clause-full
 merge_node-returns-in_err-tag-clause-full t c =
@@ -42,80 +28,34 @@ merge_node-returns-in_err-tag-clause-full t c =
 pub merge_node-returns-in_err-tag-clause-stops : goal.merge_node-returns-in_err-tag-clause-stops
 merge_node-returns-in_err-tag-clause-stops t c =
     let p = err_from_is_err_and c.from_residual.result c.from_residual.ensures.1 in
-    rw (p.1, p.2) (stops_untagged c.args.depth c.args.node.now c.loop-rest.node c.args.bytes.now c.loop-rest.rest.now c.args.budget.now c.loop-rest.budget c.in_err-tag.field-0.0 c.loop-rest.invariant.front c.in_err-tag.ensures.reads)
+    rw (p.1, p.2) (stops_untagged c.loop-rest.invariant c.in_err-tag.field-0.0 c.in_err-tag.ensures.reads)
 
 pub merge_node-returns-in_err-merge_node_field-clause-full : goal.merge_node-returns-in_err-merge_node_field-clause-full
 merge_node-returns-in_err-merge_node_field-clause-full t c =
     let p = err_from_is_err_and c.from_residual-in_err-merge_node_field.result c.from_residual-in_err-merge_node_field.ensures.1 in
-    let f = c.loop-rest.invariant.front in
-    rw (p.1, p.2) (λ h. reaches_tag c.args.depth f.0 c.args.bytes.now c.loop-rest.rest.now (c.in_ok-tag.tag.number, c.in_ok-tag.tag.wire_type, c.decode.new.buf.now) f.1 f.2 c.in_ok-tag.ensures.reads (c.in_err-merge_node_field.ensures.full h))
+    rw (p.1, p.2) (λ h. reached node_by_payloads c.loop-rest.invariant c.in_ok-tag.tag.number c.in_ok-tag.tag.wire_type c.decode.new.buf.now c.in_ok-tag.ensures.reads (c.in_err-merge_node_field.ensures.full h))
 
 pub merge_node-returns-in_err-merge_node_field-clause-stops : goal.merge_node-returns-in_err-merge_node_field-clause-stops
 merge_node-returns-in_err-merge_node_field-clause-stops t c =
     let p = err_from_is_err_and c.from_residual-in_err-merge_node_field.result c.from_residual-in_err-merge_node_field.ensures.1 in
-    rw (p.1, p.2) (stops_at c.args.depth c.args.node.now c.loop-rest.node c.merge_node_field.new.node c.args.bytes.now c.loop-rest.rest.now c.decode.new.buf.now c.merge_node_field.new.buf.now c.in_ok-tag.tag.number c.in_ok-tag.tag.wire_type
-    c.args.budget.now c.loop-rest.budget c.merge_node_field.new.budget c.in_err-merge_node_field.field-0.0 c.loop-rest.invariant.front c.in_err-merge_node_field.ensures.stays c.in_ok-tag.ensures.reads c.in_err-merge_node_field.ensures.merged)
+    rw (p.1, p.2) (stops_at c.loop-rest.invariant c.merge_node_field.new.node c.in_ok-tag.tag.number c.in_ok-tag.tag.wire_type c.decode.new.buf.now c.in_ok-tag.ensures.reads c.merge_node_field.new.buf.now c.merge_node_field.new.budget c.in_err-merge_node_field.field-0.0 c.in_err-merge_node_field.ensures.stays c.in_err-merge_node_field.ensures.merged)
 
 pub merge_node-loop-rest-init : goal.merge_node-loop-rest-init
-merge_node-loop-rest-init t c = record {
-  means = refl;
-  unknown = refl;
-  memory = refl;
-  no_unknown = omega arith;
-  no_unit = omega arith;
-  front = front_none c.args.depth c.args.node.now c.args.bytes.now c.args.budget.now;
-}
+merge_node-loop-rest-init t c = begins node_by_payloads c.args.depth c.args.node.now c.args.bytes.now c.args.budget.now
 
 pub merge_node-loop-rest-smaller : goal.merge_node-loop-rest-smaller
-merge_node-loop-rest-smaller t c =
-    let rest = c.loop-rest.rest.now in
-    let u : TakesTag rest c.in_ok-tag.tag.number c.in_ok-tag.tag.wire_type c.decode.new.buf.now = agree_ok (tag_at rest) (c.in_ok-tag.tag.number, c.in_ok-tag.tag.wire_type, c.decode.new.buf.now) (tag_sound rest) c.in_ok-tag.ensures.reads in
-    let m = c.in_ok-merge_node_field.ensures.merged in
-    omega (arith, tag_some u.0 c.in_ok-tag.tag.number c.in_ok-tag.tag.wire_type u.1, ap length u.2, length-append u.0 c.decode.new.buf.now, ap length m.2, length-append m.0 c.merge_node_field.new.buf.now)
+merge_node-loop-rest-smaller t c = shorter node_by_payloads c.loop-rest.invariant c.in_ok-tag.tag.number c.in_ok-tag.tag.wire_type c.decode.new.buf.now c.in_ok-tag.ensures.reads _ _ _ c.in_ok-merge_node_field.ensures.merged
 
 pub merge_node-loop-rest-preserved : goal.merge_node-loop-rest-preserved
-merge_node-loop-rest-preserved t c =
-    let inv = c.loop-rest.invariant in
-    let d = c.args.depth in
-    let n = c.in_ok-tag.tag.number in
-    let w = c.in_ok-tag.tag.wire_type in
-    let rest = c.loop-rest.rest.now in
-    let x = c.merge_node_field.new.buf.now in
-    let u : TakesTag rest n w c.decode.new.buf.now = agree_ok (tag_at rest) (n, w, c.decode.new.buf.now) (tag_sound rest) c.in_ok-tag.ensures.reads in
-    let m = c.in_ok-merge_node_field.ensures.merged in
-    let split : rest ≡ u.0 ++ (m.0 ++ x) = u.2 ∙ ap (λ z. u.0 ++ z) m.2 in
-    let one = m.3 u.0 u.1 in
-    let costs = field_costs node_by_payloads d rest u.0 m.0 x n w u.1 m.1 split in
-    record {
-      means = inv.means ∙ field_means node_by_payloads d c.loop-rest.node c.merge_node_field.new.node rest u.0 m.0 x n w u.1 m.1 split one.0;
-      unknown = omega (arith, inv.unknown, one.1.0, ap (λ (z : BudgetLeft). z.unknown) costs);
-      memory = omega (arith, inv.memory, one.1.1, ap (λ (z : BudgetLeft). z.memory) costs);
-      no_unknown = omega (arith, inv.no_unknown, one.1.0);
-      no_unit = omega (arith, inv.no_unit, one.1.1);
-      front = front_next d c.args.node.now c.loop-rest.node c.merge_node_field.new.node c.args.bytes.now rest u.0 m.0 x n w c.args.budget.now c.loop-rest.budget c.merge_node_field.new.budget inv.front u.1 m.1 split one.0 one.1;
-    }
+merge_node-loop-rest-preserved t c = goes_on node_by_payloads c.loop-rest.invariant c.in_ok-tag.tag.number c.in_ok-tag.tag.wire_type c.decode.new.buf.now c.in_ok-tag.ensures.reads _ _ _ c.in_ok-merge_node_field.ensures.merged
 
 pub merge_node-returns-in_err-merge_node_field-clause-merged : goal.merge_node-returns-in_err-merge_node_field-clause-merged
 merge_node-returns-in_err-merge_node_field-clause-merged t c =
     let p = err_from_is_err_and c.from_residual-in_err-merge_node_field.result c.from_residual-in_err-merge_node_field.ensures.1 in
-    let inv = c.loop-rest.invariant in
-    let d = c.args.depth in
-    let n = c.in_ok-tag.tag.number in
-    let w = c.in_ok-tag.tag.wire_type in
-    let v = c.loop-rest.node in
-    let rest = c.loop-rest.rest.now in
-    let e = c.in_err-merge_node_field.field-0.0 in
-    let u : TakesTag rest n w c.decode.new.buf.now = agree_ok (tag_at rest) (n, w, c.decode.new.buf.now) (tag_sound rest) c.in_ok-tag.ensures.reads in
-    let over = c.merge_node_field.new.budget in
-    let why : PaysAtMost c.loop-rest.budget (node_cost d rest) over × (e ≢ OutOfMemory → MergeFault (node_merged d v rest) (node_cost d rest) c.loop-rest.budget e) =
-    subst (λ (z : List ℕ). PaysAtMost c.loop-rest.budget (node_cost d z) over × (e ≢ OutOfMemory → MergeFault (node_merged d v z) (node_cost d z) c.loop-rest.budget e)) (sym u.2) (judged_all node_by_payloads d v n w c.decode.new.buf.now c.loop-rest.budget over e c.in_err-merge_node_field.ensures.merged u.0 u.1) in
-    rw (p.1, p.2) (loop_fault (node_merged d c.args.node.now c.args.bytes.now) (node_merged d v rest) c.args.budget.now c.loop-rest.budget over
-    (node_cost d c.args.bytes.now) (node_cost d rest) e inv.means inv.unknown inv.memory inv.no_unknown inv.no_unit why)
+    rw (p.1, p.2) (refused_next node_by_payloads c.loop-rest.invariant c.in_ok-tag.tag.number c.in_ok-tag.tag.wire_type c.decode.new.buf.now c.in_ok-tag.ensures.reads c.in_err-merge_node_field.field-0.0 c.merge_node_field.new.node c.merge_node_field.new.buf.now _ c.in_err-merge_node_field.ensures.merged)
 
 pub merge_node-returns-clause-merged : goal.merge_node-returns-clause-merged
-merge_node-returns-clause-merged t c =
-    let empty : length c.loop-rest.rest.now ≡ 0 = omega (arith, c.remaining.ensures, c.loop-rest-test.false) in
-    all_merged c.args.depth c.args.node.now c.loop-rest.node c.args.bytes.now c.loop-rest.rest.now c.args.budget.now c.loop-rest.budget empty c.loop-rest.invariant.front
+merge_node-returns-clause-merged t c = ended node_by_payloads c.loop-rest.invariant (omega (arith, c.remaining.ensures, c.loop-rest-test.false))
 
 pub merge_node_field-returns-then-number-eq1 : goal.merge_node_field-returns-then-number-eq1
 merge_node_field-returns-then-number-eq1 t c =
@@ -151,7 +91,7 @@ merge_node_field-returns-then-number-eq3 t c =
       merged = shade_merged c.args.depth c.args.tag.number c.args.tag.wire_type c.args.buf.now.now call.new.buf.now c.args.budget.now call.new.budget call.result (means string_bytes (λ v. v) n.scores.entries) n.children.entries (means (λ k. k) shade_number n.shades.entries) n.rest.records c.args.node.now c.node.view_is
           (means (λ k. k) shade_number call.new.shades.entries) call.new.rest.records three call.ensures.taken;
       full = taken_full shades_take shades_cost c.args.depth (means (λ k. k) shade_number n.shades.entries, n.rest.records) (means (λ k. k) shade_number call.new.shades.entries, call.new.rest.records) c.args.tag.number c.args.tag.wire_type c.args.buf.now.now call.new.buf.now c.args.budget.now call.new.budget call.result call.ensures.taken;
-      stays = both_stay call.result (branch (means string_bytes (λ v. v) n.scores.entries) (children_in n.children.entries)) c.args.node.now (means (λ k. k) shade_number n.shades.entries) (means (λ k. k) shade_number call.new.shades.entries) n.rest.records call.new.rest.records c.node.view_is call.ensures.stays call.ensures.kept;
+      stays = both_stay call.result (branch (means string_bytes (λ v. v) n.scores.entries) (children_in n.children.entries)) c.args.node.now (means (λ k. k) shade_number n.shades.entries) (means (λ k. k) shade_number call.new.shades.entries) n.rest.records call.new.rest.records c.node.view_is call.ensures.stays call.ensures.unchanged;
     }
 
 pub merge_node_field-returns : goal.merge_node_field-returns

@@ -1,22 +1,15 @@
-use Rattle.std.proofs.Common.{◌≡◌, ◌↔◌, ◌∷◌, ◌&&◌, ℕ, Bool, true, false, List, [], Option, Some, None, refl, sym, ap, ◌∙◌}
+use Rattle.std.proofs.Common.{◌≡◌, ◌↔◌, ◌&&◌, ℕ, Bool, true, false, List, Option, Some, None, sym, ap, ◌∙◌}
 use Rattle.std.specs.Bool.{beq}
 use Rattle.std.specs.Option.{option_eq, option_map}
 use Rattle.std.proofs.lemmas.Bool.{false≢true}
+use Rattle.buffa_wire.proofs.RecordLemmas.{list-records}
 use Rattle.buffa_wire.specs.Equal.{held_eq, records_eq-Decides}
-use Rattle.buffa_wire.specs.Records.{Datum, Held, Records, no_records, one, records_of}
+use Rattle.buffa_wire.specs.Records.{Datum, Held, list_of, records_of}
 use Rattle.buffa_options.proofs.PinLemmas.{bit_is}
 use Rattle.buffa_options.proofs.laws.options_are_equal_by_meaning.Goals as goal
 
-abbrev list_of : Records → List (ℕ × Datum)
-list_of no_records = []
-list_of (one n d rs) = (n, d) ∷ list_of rs
-
-back : (rs : List (ℕ × Datum)) → list_of (records_of rs) ≡ rs
-back [] = refl
-back (r ∷ rs) = ap (λ z. r ∷ z) (back rs)
-
 same_records : (h k : Held) → held_eq h k ≡ true → h.records ≡ k.records
-same_records h k e = sym (back h.records) ∙ ap list_of ((records_eq-Decides (records_of h.records) (records_of k.records)).0 e) ∙ back k.records
+same_records h k e = sym (list-records h.records) ∙ ap list_of ((records_eq-Decides (records_of h.records) (records_of k.records)).0 e) ∙ list-records k.records
 
 records_same : (h k : Held) → h.records ≡ k.records → held_eq h k ≡ true
 records_same h k e = (records_eq-Decides (records_of h.records) (records_of k.records)).1 (ap records_of e)

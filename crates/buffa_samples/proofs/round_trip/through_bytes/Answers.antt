@@ -1,56 +1,31 @@
-use Rattle.std.proofs.Common.{◌≡◌, ◌∙◌, ◌+◌, ◌*◌, ◌<◌, ◌++◌, ap, sym, subst, length, List, [], ℕ, arith, length-append}
-use Rattle.std.specs.Map.{lookup_entry}
+use Rattle.std.proofs.Common.{◌≡◌, ◌∙◌, ◌+◌, ◌*◌, ◌<◌, ap, sym, subst, length, List, ℕ, arith, length-append}
 use Rattle.std.proofs.lemmas.List.{nil_from_length}
 use Rattle.buffa_wire.specs.BudgetLeft.{BudgetLeft}
-use Rattle.buffa_map_base.specs.Run.{fold_entries, Run}
+use Rattle.buffa_map_base.specs.Run.{Run}
 use Rattle.buffa_map_base.specs.Encoding.{field_encoding}
-use Rattle.buffa_samples.proofs.TripLemmas.{as_units, costs_more, paid_for, stopped, unwritten}
+use Rattle.buffa_samples.proofs.TripLemmas.{as_units, cost_came, costs_more, order_came, pairs_came, stopped, unwritten, wrote}
 use Rattle.buffa_samples.proofs.round_trip.through_bytes.Goals as goal
 
 pub returns-in-Ok-read_map_field-clause-ok : goal.returns-in-Ok-read_map_field-clause-ok
-returns-in-Ok-read_map_field-clause-ok g c q =
-    let key = g.KC.MapValueDecode.reading in
-    let val = g.VC.MapValueDecode.reading in
-    let eq = g.C.MapStorage.equal in
-    let depth = c.new-ctx.result.depth in
+returns-in-Ok-read_map_field-clause-ok g c =
     let w = c.in-Ok.ensures in
-    let r = c.in-Ok-read_map_field.ensures.ok in
-    let t = c.written_is_read.ensures depth c.args.number w.0 c.requires.number w.3.0 w.4 (c.requires.normal w.0 w.1) w.2.0 in
-    let field = field_encoding g.KC.MapCodec.writing g.VC.MapCodec.writing c.args.number w.0 in
-    let encoding : c.as_slice-rest.result.now ≡ field = c.as_slice-rest.ensures.value ∙ w.3.1 ∙ ap (λ z. z ++ field) c.new-encoding.ensures.items in
-    let run : Run key val depth c.args.number field r.entries = subst (λ (b : List ℕ). Run key val depth c.args.number b r.entries) encoding r.run in
-    let same : r.entries ≡ t.entries = c.one_reading.ensures.run depth c.args.number field r.entries t.entries run t.run in
-    w.2.1 q ∙ ap (lookup_entry (eq q)) (sym t.folded ∙ ap (fold_entries eq []) (sym same) ∙ ap (λ m. fold_entries eq m r.entries) (sym c.requires.empty)) ∙ r.folded q
+    pairs_came c.in-Ok-read_map_field.ensures.ok c.one_reading.ensures (c.written_is_read.ensures c.new-ctx.result.depth c.args.number w.0 c.requires.number w.3.0 w.4 (c.requires.normal w.0 w.1) w.2.0)
+    (wrote (field_encoding g.KC.MapCodec.writing g.VC.MapCodec.writing c.args.number w.0) c.new-encoding.ensures.items w.3.1 c.as_slice-rest.ensures.value) c.requires.empty (g.C.MapStorage.pairs c.args.map.now) w.2.1
 
 pub returns-in-Ok-read_map_field-clause-order : goal.returns-in-Ok-read_map_field-clause-order
 returns-in-Ok-read_map_field-clause-order g c =
-    let key = g.KC.MapValueDecode.reading in
-    let val = g.VC.MapValueDecode.reading in
-    let eq = g.C.MapStorage.equal in
-    let depth = c.new-ctx.result.depth in
     let w = c.in-Ok.ensures in
-    let r = c.in-Ok-read_map_field.ensures.ok in
-    let t = c.written_is_read.ensures depth c.args.number w.0 c.requires.number w.3.0 w.4 (c.requires.normal w.0 w.1) w.2.0 in
-    let field = field_encoding g.KC.MapCodec.writing g.VC.MapCodec.writing c.args.number w.0 in
-    let encoding : c.as_slice-rest.result.now ≡ field = c.as_slice-rest.ensures.value ∙ w.3.1 ∙ ap (λ z. z ++ field) c.new-encoding.ensures.items in
-    let run : Run key val depth c.args.number field r.entries = subst (λ (b : List ℕ). Run key val depth c.args.number b r.entries) encoding r.run in
-    let same : r.entries ≡ t.entries = c.one_reading.ensures.run depth c.args.number field r.entries t.entries run t.run in
-    (w.0, w.1, λ keeps. r.order keeps ∙ ap (λ m. fold_entries eq m r.entries) c.requires.empty ∙ ap (fold_entries eq []) same ∙ t.folded)
+    let order = order_came c.in-Ok-read_map_field.ensures.ok c.one_reading.ensures (c.written_is_read.ensures c.new-ctx.result.depth c.args.number w.0 c.requires.number w.3.0 w.4 (c.requires.normal w.0 w.1) w.2.0)
+    (wrote (field_encoding g.KC.MapCodec.writing g.VC.MapCodec.writing c.args.number w.0) c.new-encoding.ensures.items w.3.1 c.as_slice-rest.ensures.value) c.requires.empty in
+    (w.0, w.1, order)
 
 pub returns-in-Ok-read_map_field-clause-fits : goal.returns-in-Ok-read_map_field-clause-fits
 returns-in-Ok-read_map_field-clause-fits g c =
-    let key = g.KC.MapValueDecode.reading in
-    let val = g.VC.MapValueDecode.reading in
-    let depth = c.new-ctx.result.depth in
     let w = c.in-Ok.ensures in
-    let r = c.in-Ok-read_map_field.ensures.ok in
-    let t = c.written_is_read.ensures depth c.args.number w.0 c.requires.number w.3.0 w.4 (c.requires.normal w.0 w.1) w.2.0 in
-    let field = field_encoding g.KC.MapCodec.writing g.VC.MapCodec.writing c.args.number w.0 in
-    let encoding : c.as_slice-rest.result.now ≡ field = c.as_slice-rest.ensures.value ∙ w.3.1 ∙ ap (λ z. z ++ field) c.new-encoding.ensures.items in
-    let run : Run key val depth c.args.number field r.entries = subst (λ (b : List ℕ). Run key val depth c.args.number b r.entries) encoding r.run in
-    let same : r.entries ≡ t.entries = c.one_reading.ensures.run depth c.args.number field r.entries t.entries run t.run in
-    let memory : c.new-ctx.result.budget.now.memory ≡ 268435456 = ap (λ (b : BudgetLeft). b.memory) c.new-ctx.ensures.left ∙ c.new-budget.ensures.memory in
-    (w.0, w.1, w.2, w.3.0, paid_for key val depth (g.KC.MapValueDecode.COST + g.VC.MapValueDecode.COST) _ _ _ _ _ _ memory (ap length same ∙ t.many) r.paid)
+    let cost = cost_came c.in-Ok-read_map_field.ensures.ok c.one_reading.ensures (c.written_is_read.ensures c.new-ctx.result.depth c.args.number w.0 c.requires.number w.3.0 w.4 (c.requires.normal w.0 w.1) w.2.0)
+    (wrote (field_encoding g.KC.MapCodec.writing g.VC.MapCodec.writing c.args.number w.0) c.new-encoding.ensures.items w.3.1 c.as_slice-rest.ensures.value) c.requires.empty 268435456
+    (ap (λ (b : BudgetLeft). b.memory) c.new-ctx.ensures.budget ∙ c.new-budget.ensures.memory) in
+    (w.0, w.1, w.2, w.3.0, cost)
 
 pub returns-in-Err-clause-err : goal.returns-in-Err-clause-err
 returns-in-Err-clause-err g c =
@@ -67,9 +42,9 @@ returns-clause-err g c =
     let k = c.in-Err-read_map_field.ensures.err in
     let t = c.written_is_read.ensures depth c.args.number w.0 c.requires.number w.3.0 w.4 (c.requires.normal w.0 w.1) w.2.0 in
     let field = field_encoding g.KC.MapCodec.writing g.VC.MapCodec.writing c.args.number w.0 in
-    let encoding : c.as_slice-rest.result.now ≡ field = c.as_slice-rest.ensures.value ∙ w.3.1 ∙ ap (λ z. z ++ field) c.new-encoding.ensures.items in
+    let encoding : c.as_slice-rest.result.now ≡ field = wrote field c.new-encoding.ensures.items w.3.1 c.as_slice-rest.ensures.value in
     let run : Run key val depth c.args.number c.as_slice-rest.result.now t.entries = subst (λ (b : List ℕ). Run key val depth c.args.number b t.entries) (sym encoding) t.run in
-    let memory : c.new-ctx.result.budget.now.memory ≡ 268435456 = ap (λ (b : BudgetLeft). b.memory) c.new-ctx.ensures.left ∙ c.new-budget.ensures.memory in (
+    let memory : c.new-ctx.result.budget.now.memory ≡ 268435456 = ap (λ (b : BudgetLeft). b.memory) c.new-ctx.ensures.budget ∙ c.new-budget.ensures.memory in (
       w.0,
       w.1,
       w.2,
@@ -95,8 +70,8 @@ pub returns-clause-stops : goal.returns-clause-stops
 returns-clause-stops g c =
     let w = c.in-Ok.ensures in
     let field = field_encoding g.KC.MapCodec.writing g.VC.MapCodec.writing c.args.number w.0 in
-    let encoding : c.as_slice-rest.result.now ≡ field = c.as_slice-rest.ensures.value ∙ w.3.1 ∙ ap (λ z. z ++ field) c.new-encoding.ensures.items in
-    let left = c.new-ctx.ensures.left ∙ as_units c.new-budget.result 268435456 c.new-budget.ensures.unknown c.new-budget.ensures.memory in (
+    let encoding : c.as_slice-rest.result.now ≡ field = wrote field c.new-encoding.ensures.items w.3.1 c.as_slice-rest.ensures.value in
+    let left = c.new-ctx.ensures.budget ∙ as_units c.new-budget.result 268435456 c.new-budget.ensures.unknown c.new-budget.ensures.memory in (
       w.0,
       w.1,
       _,

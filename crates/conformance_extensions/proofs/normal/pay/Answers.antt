@@ -10,4 +10,4 @@ returns-in-Some g c =
     let left = c.decode_one_ctx.new.ctx.1.0 in
     subst (λ d. Pays c.args.budget.now (t.cost d) left) c.in_ok-payload.ensures
     (g.met.C.SingularCodec.spends_cost c.args.budget.now left (datum_of c.in_ok-payload.payload) (m c.in-Some.field-0)
-    (sym c.in_ok-found.ensures.reads ∙ ap (option_map m) c.in-Some.is) (c.in_ok-found.ensures.left (refl {a = true})))
+    (sym c.in_ok-found.ensures.reads ∙ ap (option_map m) c.in-Some.is) (c.in_ok-found.ensures.leaves (refl {a = true})))

@@ -1,13 +1,12 @@
 use Rattle.std.proofs.lemmas.Result.{err_from_is_err_and}
-use Rattle.buffa_bytes.proofs.FullLemmas.{varint_no_full}
 use Rattle.buffa_bytes.proofs.LeftLemmas.{left_copied, left_no_length}
-use Rattle.buffa_bytes.proofs.OwnLemmas.{none_taken}
+use Rattle.buffa_bytes.proofs.OwnLemmas.{length_no_full, none_taken}
 use Rattle.buffa_bytes.proofs.types.delimited.decode_bytes.Goals as goal
 
 pub returns-in_err-len-clause-full : goal.returns-in_err-len-clause-full
 returns-in_err-len-clause-full g c =
     let p = err_from_is_err_and c.from_residual.result c.from_residual.ensures.1 in
-    rw (p.1, p.2) (varint_no_full (g.B.Buf.unread c.args.buf.now) _ c.in_err-len.ensures.reads)
+    length_no_full p.1 p.2 (g.B.Buf.unread c.args.buf.now) c.in_err-len.ensures.reads
 
 pub returns-clause-free : goal.returns-clause-free
 returns-clause-free g c = λ rest is. c.copy_bytes.ensures.free (none_taken _ _ _ rest c.in_ok-len.ensures.reads is)

@@ -1,5 +1,5 @@
 use Rattle.buffa_bytes.specs.declared.error.DecodeError.TheVariants.{InvalidUtf8}
-use Rattle.std.proofs.Common.{◌≡◌, ◌∙◌, Err, ℕ, true, false, List, ap, refl, subst, Vec, Global}
+use Rattle.std.proofs.Common.{◌≡◌, Err, ℕ, true, false, List, ap, refl, subst, Vec, Global}
 use Rattle.std.specs.Prelude.{string_bytes}
 use Rattle.std.specs.Str.{is_utf8}
 use Rattle.std.proofs.lemmas.Bool.{false_from_ne_true}
@@ -7,7 +7,6 @@ use Rattle.std.proofs.lemmas.Str.{IsUtf8-from_is_utf8, is_utf8-from_IsUtf8, IsUt
 use Rattle.std.proofs.lemmas.Result.{err_from_is_err_and}
 use Rattle.buffa_bytes.proofs.OwnLemmas.{string_in_place, whole_in_place, length_no_full, none_in_place, none_taken}
 use Rattle.buffa_bytes.proofs.LeftLemmas.{left_no_length, left_passed, left_refused, left_taken}
-use Rattle.buffa_bytes.proofs.TailLemmas.{tail_more}
 use Rattle.buffa_bytes.proofs.types.delimited.decode_string.Goals as goal
 
 pub returns-in_err-len-clause-full : goal.returns-in_err-len-clause-full
@@ -57,30 +56,3 @@ returns-in-Some-clause-free g c = λ rest is. c.from_wire-read.ensures.free (non
 
 pub returns-in_err-bytes-clause-free : goal.returns-in_err-bytes-clause-free
 returns-in_err-bytes-clause-free g c = λ rest is. absurd (let e = c.in_err-bytes.ensures.free (none_taken _ _ _ rest c.in_ok-len.ensures.reads is) in cc)
-
-pub returns-in_err-len-clause-kept : goal.returns-in_err-len-clause-kept
-returns-in_err-len-clause-kept g c = c.in_err-len.ensures.kept
-
-pub returns-in_err-len-clause-tail : goal.returns-in_err-len-clause-tail
-returns-in_err-len-clause-tail g c = c.in_err-len.ensures.tail
-
-pub returns-in-Some-clause-kept : goal.returns-in-Some-clause-kept
-returns-in-Some-clause-kept g c = c.advance.ensures.kept ∙ c.in_ok-len.ensures.kept
-
-pub returns-in_err-bytes-clause-kept : goal.returns-in_err-bytes-clause-kept
-returns-in_err-bytes-clause-kept g c = c.in_err-bytes.ensures.kept ∙ c.in_ok-len.ensures.kept
-
-pub returns-in_err-bytes-clause-tail : goal.returns-in_err-bytes-clause-tail
-returns-in_err-bytes-clause-tail g c = tail_more _ _ _ c.in_err-bytes.ensures.tail c.in_ok-len.ensures.tail
-
-pub returns-clause-kept : goal.returns-clause-kept
-returns-clause-kept g c = c.in_ok-bytes.ensures.kept ∙ c.in_ok-len.ensures.kept
-
-pub returns-clause-tail : goal.returns-clause-tail
-returns-clause-tail g c = tail_more _ _ _ c.in_ok-bytes.ensures.tail c.in_ok-len.ensures.tail
-
-pub returns-in-Ok-clause-kept : goal.returns-in-Ok-clause-kept
-returns-in-Ok-clause-kept g c = c.in_ok-bytes.ensures.kept ∙ c.in_ok-len.ensures.kept
-
-pub returns-in-Ok-clause-tail : goal.returns-in-Ok-clause-tail
-returns-in-Ok-clause-tail g c = tail_more _ _ _ c.in_ok-bytes.ensures.tail c.in_ok-len.ensures.tail

@@ -3,7 +3,6 @@ use Rattle.std.proofs.lemmas.Result.{err_from_is_err_and}
 use Rattle.buffa_bytes.proofs.DelimitedLemmas.{after_length}
 use Rattle.buffa_bytes.proofs.LeftLemmas.{left_no_length, left_passed, left_refused, left_taken}
 use Rattle.buffa_bytes.proofs.LendLemmas.{delimited_front, lends_front, lends_refused}
-use Rattle.buffa_bytes.proofs.TailLemmas.{tail_more}
 use Rattle.buffa_bytes.proofs.types.delimited.with_delimited.Goals as goal
 
 pub read-answer-requires : goal.read-answer-requires
@@ -38,24 +37,3 @@ returns-in_err-bytes-clause-left g c =
 pub returns-clause-left : goal.returns-clause-left
 returns-clause-left g c =
     left_taken c.read.result _ (g.B.Buf.unread c.args.buf.now) _ _ _ c.in_ok-len.ensures.reads c.in_ok-bytes.ensures.reads
-
-pub returns-in_err-len-clause-kept : goal.returns-in_err-len-clause-kept
-returns-in_err-len-clause-kept g c = c.in_err-len.ensures.kept
-
-pub returns-in_err-len-clause-tail : goal.returns-in_err-len-clause-tail
-returns-in_err-len-clause-tail g c = c.in_err-len.ensures.tail
-
-pub returns-in-Some-clause-kept : goal.returns-in-Some-clause-kept
-returns-in-Some-clause-kept g c = c.advance.ensures.kept ∙ c.in_ok-len.ensures.kept
-
-pub returns-in_err-bytes-clause-kept : goal.returns-in_err-bytes-clause-kept
-returns-in_err-bytes-clause-kept g c = c.in_err-bytes.ensures.kept ∙ c.in_ok-len.ensures.kept
-
-pub returns-in_err-bytes-clause-tail : goal.returns-in_err-bytes-clause-tail
-returns-in_err-bytes-clause-tail g c = tail_more _ _ _ c.in_err-bytes.ensures.tail c.in_ok-len.ensures.tail
-
-pub returns-clause-kept : goal.returns-clause-kept
-returns-clause-kept g c = c.in_ok-bytes.ensures.kept ∙ c.in_ok-len.ensures.kept
-
-pub returns-clause-tail : goal.returns-clause-tail
-returns-clause-tail g c = tail_more _ _ _ c.in_ok-bytes.ensures.tail c.in_ok-len.ensures.tail

@@ -29,5 +29,5 @@ returns-in-Some-clause-reads g c =
 
 pub returns-in_err-value-clause-full : goal.returns-in_err-value-clause-full
 returns-in_err-value-clause-full g c =
-    last_there c.from_residual.result g.C.SingularCodec.takes (g.C.SingularCodec.one 100 defaults) c.args.number c.as_slice-all.result.now c.loop-i.i c.index-all-i.result c.args.fields.now.records
+    last_there c.from_residual.result g.C.SingularCodec.asks (g.C.SingularCodec.one 100 defaults) c.args.number c.as_slice-all.result.now c.loop-i.i c.index-all-i.result c.args.fields.now.records
     c.loop-i-test.true c.loop-i.invariant.in_range c.index-all-i.is c.if-field-number.true (ap records_in c.as_slice-all.ensures.value ∙ c.iter.ensures) c.loop-i.invariant.none_after c.in_err-value.ensures.full

@@ -6,7 +6,7 @@ use Rattle.buffa_wire.specs.View.{datum_of}
 use Rattle.buffa_codec.specs.Decoded.{KeepsPlaces, first_refusal}
 use Rattle.buffa_codec.proofs.PlaceLemmas.{places_more}
 use Rattle.buffa_codec.proofs.TurnLemmas.{values_length, writes_one_more, writes_front, writes_part}
-use Rattle.buffa_codec.proofs.ListLemmas.{AllByRecursion-at, AllByRecursion-append, first_refusal-append, first_refusal-pass, refused_whole}
+use Rattle.buffa_codec.proofs.ListLemmas.{AllByRecursion-at, AllByRecursion-more, first_refusal-append, first_refusal-pass, refused_whole}
 use Rattle.buffa_codec.proofs.repeated.RepeatedExtensionCodec.try_encode.Goals as goal
 use Rattle.buffa_bytes.proofs.ListLemmas.{means_cut, means_more}
 
@@ -23,22 +23,23 @@ returns-in_err-payload-clause-refused g c =
     (ap (map m) (sym c.as_slice-v-items.ensures.value) ∙ means_cut m xs c.loop-v.v-index c.v-item.result c.loop-v-test.true c.v-item.is)
     c.loop-v.invariant.allowed c.in_err-payload.ensures.refused)
 
-pub returns-in_default-clause-err : goal.returns-in_default-clause-err
-returns-in_default-clause-err g c =
-    writes_part g.C.SingularCodec.datum g.C.Value.Blank.meaning c.args.number c.args.value.items c.as_slice-v-items.result.now c.loop-v.v-index c.args.fields.now.records c.push.new.self.records c.as_slice-v-items.ensures.value c.loop-v-test.true (ap (λ f. f.records) c.in_default.ensures.err ∙ c.loop-v.invariant.written)
+pub returns-in_err-push-clause-err : goal.returns-in_err-push-clause-err
+returns-in_err-push-clause-err g c =
+    let p = err_from_is_err_and c.from_residual-in_err-push.result c.from_residual-in_err-push.ensures.1 in
+    rw p.1 (writes_part g.C.SingularCodec.datum g.C.Value.Blank.meaning c.args.number c.args.value.items c.as_slice-v-items.result.now c.loop-v.v-index c.args.fields.now.records c.push.new.self.records c.as_slice-v-items.ensures.value c.loop-v-test.true (ap (λ f. f.records) c.in_err-push.ensures.err ∙ c.loop-v.invariant.written))
 
 pub returns-in_err-payload-clause-reserved : goal.returns-in_err-payload-clause-reserved
 returns-in_err-payload-clause-reserved g c =
     λ free enough. absurd (false≢true (c.in_err-payload.ensures.free (AllByRecursion-at g.C.SingularCodec.made_free g.C.Value.Blank.meaning c.as_slice-v-items.result.now c.loop-v.v-index c.v-item.result c.loop-v-test.true c.v-item.is
     (subst (λ l. AllByRecursion g.C.SingularCodec.made_free (map g.C.Value.Blank.meaning l)) (sym c.as_slice-v-items.ensures.value) free))))
 
-pub returns-in_default-clause-room : goal.returns-in_default-clause-room
-returns-in_default-clause-room g c = subst (KeepsPlaces c.args.fields.now) (sym c.in_default.ensures.err) c.loop-v.invariant.places
+pub returns-in_err-push-clause-room : goal.returns-in_err-push-clause-room
+returns-in_err-push-clause-room g c = subst (KeepsPlaces c.args.fields.now) (sym c.in_err-push.ensures.err) c.loop-v.invariant.places
 
-pub returns-in_default-clause-reserved : goal.returns-in_default-clause-reserved
-returns-in_default-clause-reserved g c free enough =
+pub returns-in_err-push-clause-reserved : goal.returns-in_err-push-clause-reserved
+returns-in_err-push-clause-reserved g c free enough =
     let m = g.C.Value.Blank.meaning in
-    c.in_default.ensures.succeeds (omega (arith, enough, c.loop-v.invariant.room, c.loop-v-test.true, ap length c.as_slice-v-items.ensures.value, values_length g.C.SingularCodec.datum m c.args.value.items))
+    absurd (false≢true (c.in_err-push.ensures.succeeds (omega (arith, enough, c.loop-v.invariant.room, c.loop-v-test.true, ap length c.as_slice-v-items.ensures.value, values_length g.C.SingularCodec.datum m c.args.value.items))))
 
 pub loop-v-preserved : goal.loop-v-preserved
 loop-v-preserved g c =
@@ -47,9 +48,9 @@ loop-v-preserved g c =
     let more = means_more m xs c.loop-v.v-index c.v-item.result c.loop-v-test.true c.v-item.is in
     record {
       written = writes_one_more g.C.SingularCodec.datum m c.args.number xs c.loop-v.v-index c.v-item.result (datum_of c.in_ok-payload.payload) c.args.fields.now.records c.loop-v.fields.records c.push.new.self.records (c.args.number, datum_of c.in_ok-payload.payload)
-          c.loop-v-test.true c.v-item.is c.in_ok-payload.ensures.record refl c.loop-v.invariant.written c.in-Ok.ensures.ok;
+          c.loop-v-test.true c.v-item.is c.in_ok-payload.ensures.record refl c.loop-v.invariant.written c.in_ok-push.ensures.ok;
       allowed = ap (first_refusal g.C.SingularCodec.refusal) more ∙ first_refusal-append g.C.SingularCodec.refusal (map m (take c.loop-v.v-index xs)) (m c.v-item.result ∷ []) c.loop-v.invariant.allowed ∙ first_refusal-pass g.C.SingularCodec.refusal (m c.v-item.result) [] c.in_ok-payload.ensures.refused;
-      room = omega (arith, c.loop-v.invariant.room, c.in-Ok.ensures.room);
-      places = places_more c.args.fields.now c.loop-v.fields c.push.new.self (c.args.number, datum_of c.in_ok-payload.payload) c.loop-v.invariant.places c.in-Ok.ensures.ok c.in-Ok.ensures.room;
-      fit = subst (AllByRecursion g.C.SingularCodec.fits) (sym more) (AllByRecursion-append g.C.SingularCodec.fits (map m (take c.loop-v.v-index xs)) (m c.v-item.result) c.loop-v.invariant.fit c.in_ok-payload.ensures.fits);
+      room = omega (arith, c.loop-v.invariant.room, c.in_ok-push.ensures.room);
+      places = places_more c.args.fields.now c.loop-v.fields c.push.new.self (c.args.number, datum_of c.in_ok-payload.payload) c.loop-v.invariant.places c.in_ok-push.ensures.ok c.in_ok-push.ensures.room;
+      fit = AllByRecursion-more g.C.SingularCodec.fits m xs c.loop-v.v-index c.v-item.result c.loop-v-test.true c.v-item.is c.loop-v.invariant.fit c.in_ok-payload.ensures.fits;
     }

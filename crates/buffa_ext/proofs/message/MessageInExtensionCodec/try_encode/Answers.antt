@@ -5,7 +5,7 @@ use Rattle.buffa_codec.proofs.PlaceLemmas.{places_more, places_stay}
 use Rattle.buffa_ext.proofs.message.MessageInExtensionCodec.try_encode.Goals as goal
 
 pub returns-clause-room : goal.returns-clause-room
-returns-clause-room g c = places_more c.args.fields.now c.args.fields.now c.push.new.self (c.args.number, datum_of c.in_ok-payload.payload) (places_stay c.args.fields.now) c.in-Ok.ensures.ok c.in-Ok.ensures.room
+returns-clause-room g c = places_more c.args.fields.now c.args.fields.now c.push.new.self (c.args.number, datum_of c.in_ok-payload.payload) (places_stay c.args.fields.now) c.in_ok-push.ensures.ok c.in_ok-push.ensures.room
 
-pub returns-in_default-clause-room : goal.returns-in_default-clause-room
-returns-in_default-clause-room g c = subst (KeepsPlaces c.args.fields.now) (sym c.in_default.ensures.err) (places_stay c.args.fields.now)
+pub returns-in_err-push-clause-room : goal.returns-in_err-push-clause-room
+returns-in_err-push-clause-room g c = subst (KeepsPlaces c.args.fields.now) (sym c.in_err-push.ensures.err) (places_stay c.args.fields.now)

@@ -3,7 +3,7 @@ use Rattle.buffa_wire.specs.Encoding.{records_encoding}
 use Rattle.buffa_wire.specs.View.{datum_of}
 use Rattle.buffa_codec.specs.Decoded.{HasByte}
 use Rattle.buffa_ext.specs.Messages.{group_held}
-use Rattle.buffa_ext.proofs.MergeLemmas.{tag_has_byte}
+use Rattle.buffa_wire.proofs.InsideLemmas.{tag_has_byte}
 use Rattle.buffa_ext.proofs.record.GroupedMessageRecord.merge_in.Goals as goal
 
 pub returns-clause-full : goal.returns-clause-full

@@ -1,24 +1,22 @@
-use Rattle.std.proofs.Common.{◌<◌, ◌∙◌, inl, length, Err, arith, ap}
+use Rattle.std.proofs.Common.{◌∙◌, inl, Err, arith, ap}
 use Rattle.std.proofs.lemmas.Result.{err_from_is_err_and}
 use Rattle.buffa_bytes.proofs.FullLemmas.{tag_full}
-use Rattle.buffa_wire.proofs.MessageLemmas.{reaches_tag}
-use Rattle.buffa_set_msg.proofs.MergeLemmas.{begins, goes_on, refused_next, shorter, stops, stops_merged}
+use Rattle.buffa_wire.proofs.MergeLoopLemmas.{begins, ended, goes_on, no_tag, reached, refused_next, shorter}
+use Rattle.buffa_set_msg.proofs.MergeLemmas.{by_payloads, stops, stops_at}
 use Rattle.buffa_set_msg.proofs.set_msg.SetMsgMessage.merge.Goals as goal
 
 pub loop-rest-init : goal.loop-rest-init
-loop-rest-init c = begins c.args.ctx.depth c.args.self.now.fields.records c.args.bytes.now c.args.ctx.budget.now
+loop-rest-init c = begins by_payloads c.args.ctx.depth c.args.self.now.fields.records c.args.bytes.now c.args.ctx.budget.now
 
 pub returns-in_err-tag-clause-merged : goal.returns-in_err-tag-clause-merged
 returns-in_err-tag-clause-merged c =
     let p = err_from_is_err_and c.from_residual.result c.from_residual.ensures.1 in
-    let some : 0 < length c.loop-rest.rest.now = omega (arith, c.remaining.ensures, c.loop-rest-test.true) in
-    rw (p.1, p.2) (stops_merged _ _ _ _ _ _ _ c.loop-rest.invariant _ some (λ ne. inl c.in_err-tag.ensures.reads))
+    rw (p.1, p.2) (no_tag by_payloads c.loop-rest.invariant c.in_err-tag.field-0.0 (omega (arith, c.remaining.ensures, c.loop-rest-test.true)) c.in_err-tag.ensures.reads)
 
 pub returns-in_err-tag-clause-stops : goal.returns-in_err-tag-clause-stops
 returns-in_err-tag-clause-stops c =
     let p = err_from_is_err_and c.from_residual.result c.from_residual.ensures.1 in
-    let some : 0 < length c.loop-rest.rest.now = omega (arith, c.remaining.ensures, c.loop-rest-test.true) in
-    rw (p.1, p.2) (stops _ _ _ _ _ _ _ c.loop-rest.invariant _ some (λ ne. inl c.in_err-tag.ensures.reads)
+    rw (p.1, p.2) (stops c.loop-rest.invariant _ (omega (arith, c.remaining.ensures, c.loop-rest-test.true)) (λ ne. inl c.in_err-tag.ensures.reads)
     (λ h. absurd (tag_full c.loop-rest.rest.now (c.in_err-tag.ensures.reads ∙ ap (λ e. Err e) h))))
 
 pub returns-in_err-tag-clause-full : goal.returns-in_err-tag-clause-full
@@ -27,30 +25,26 @@ returns-in_err-tag-clause-full c =
     rw (p.1, p.2) (λ h. absurd (tag_full c.loop-rest.rest.now (c.in_err-tag.ensures.reads ∙ ap (λ e. Err e) h)))
 
 pub loop-rest-smaller : goal.loop-rest-smaller
-loop-rest-smaller c =
-    shorter _ _ _ _ _ _ _ c.loop-rest.invariant _ _ _ c.in_ok-tag.ensures.reads _ _ c.in_ok-merge_field.ensures.takes.0
+loop-rest-smaller c = shorter by_payloads c.loop-rest.invariant c.in_ok-tag.tag.number c.in_ok-tag.tag.wire_type c.decode.new.buf.now c.in_ok-tag.ensures.reads _ _ _ c.in_ok-merge_field.ensures.merged
 
 pub loop-rest-preserved : goal.loop-rest-preserved
-loop-rest-preserved c =
-    let t = c.in_ok-merge_field.ensures.takes in
-    goes_on _ _ _ _ _ _ _ c.loop-rest.invariant _ _ _ c.in_ok-tag.ensures.reads _ _ _ t.0 t.1
+loop-rest-preserved c = goes_on by_payloads c.loop-rest.invariant c.in_ok-tag.tag.number c.in_ok-tag.tag.wire_type c.decode.new.buf.now c.in_ok-tag.ensures.reads _ _ _ c.in_ok-merge_field.ensures.merged
 
 pub returns-in_err-merge_field-clause-merged : goal.returns-in_err-merge_field-clause-merged
 returns-in_err-merge_field-clause-merged c =
     let p = err_from_is_err_and c.from_residual-in_err-merge_field.result c.from_residual-in_err-merge_field.ensures.1 in
-    let some : 0 < length c.loop-rest.rest.now = omega (arith, c.remaining.ensures, c.loop-rest-test.true) in
-    let t = c.in_err-merge_field.ensures.takes in
-    rw (p.1, p.2) (refused_next _ _ _ _ _ _ _ c.loop-rest.invariant _ _ _ _ _ _ c.in_ok-tag.ensures.reads some t.0 t.1 t.2 c.in_err-merge_field.ensures.full).1
+    rw (p.1, p.2) (refused_next by_payloads c.loop-rest.invariant c.in_ok-tag.tag.number c.in_ok-tag.tag.wire_type c.decode.new.buf.now c.in_ok-tag.ensures.reads c.in_err-merge_field.field-0.0 c.merge_field.new.self.fields.records c.merge_field.new.buf.now _ c.in_err-merge_field.ensures.merged)
 
 pub returns-in_err-merge_field-clause-stops : goal.returns-in_err-merge_field-clause-stops
 returns-in_err-merge_field-clause-stops c =
     let p = err_from_is_err_and c.from_residual-in_err-merge_field.result c.from_residual-in_err-merge_field.ensures.1 in
-    let some : 0 < length c.loop-rest.rest.now = omega (arith, c.remaining.ensures, c.loop-rest-test.true) in
     let t = c.in_err-merge_field.ensures.takes in
-    rw (p.1, p.2) (refused_next _ _ _ _ _ _ _ c.loop-rest.invariant _ _ _ _ _ _ c.in_ok-tag.ensures.reads some t.0 t.1 t.2 c.in_err-merge_field.ensures.full).0
+    rw (p.1, p.2) (stops_at c.loop-rest.invariant _ (omega (arith, c.remaining.ensures, c.loop-rest-test.true)) c.in_ok-tag.tag.number c.in_ok-tag.tag.wire_type c.decode.new.buf.now c.in_ok-tag.ensures.reads _ _ t.0 t.1 t.2 c.in_err-merge_field.ensures.full)
 
 pub returns-in_err-merge_field-clause-full : goal.returns-in_err-merge_field-clause-full
 returns-in_err-merge_field-clause-full c =
     let p = err_from_is_err_and c.from_residual-in_err-merge_field.result c.from_residual-in_err-merge_field.ensures.1 in
-    let inv = c.loop-rest.invariant in
-    rw (p.1, p.2) (λ h. reaches_tag c.args.ctx.depth inv.front c.args.bytes.now c.loop-rest.rest.now (c.in_ok-tag.tag.number, c.in_ok-tag.tag.wire_type, c.decode.new.buf.now) inv.fields inv.split c.in_ok-tag.ensures.reads (c.in_err-merge_field.ensures.full h))
+    rw (p.1, p.2) (λ h. reached by_payloads c.loop-rest.invariant c.in_ok-tag.tag.number c.in_ok-tag.tag.wire_type c.decode.new.buf.now c.in_ok-tag.ensures.reads (c.in_err-merge_field.ensures.full h))
+
+pub returns-clause-merged : goal.returns-clause-merged
+returns-clause-merged c = ended by_payloads c.loop-rest.invariant (omega (arith, c.remaining.ensures, c.loop-rest-test.false))

@@ -24,14 +24,16 @@ returns-in_err-field-clause-full c =
 pub returns-clause-merged : goal.returns-clause-merged
 returns-clause-merged c =
     (set_ok c.args.ctx.depth c.args.tag.number c.args.tag.wire_type c.args.buf.now.now c.read_record.new.buf.now c.args.self.now.fields.records (record_of c.in_ok-field.field) c.in_ok-field.left
-    c.push.new.self.records c.args.ctx.budget.now _ c.unknown_left.result c.unknown_left.ensures c.in_ok-field.ensures.reads c.in-Ok.ensures.ok
+    c.push.new.self.records c.args.ctx.budget.now _ c.unknown_left.result c.unknown_left.ensures c.in_ok-field.ensures.reads c.in_ok-push.ensures.ok
     (ap (λ z. z.unknown) c.with_element_memory.ensures ∙ c.new.ensures.unknown) (ap (λ z. z.memory) c.with_element_memory.ensures ∙ c.memory_left.ensures)).0
 
 pub returns-clause-takes : goal.returns-clause-takes
 returns-clause-takes c =
     (set_ok c.args.ctx.depth c.args.tag.number c.args.tag.wire_type c.args.buf.now.now c.read_record.new.buf.now c.args.self.now.fields.records (record_of c.in_ok-field.field) c.in_ok-field.left
-    c.push.new.self.records c.args.ctx.budget.now _ c.unknown_left.result c.unknown_left.ensures c.in_ok-field.ensures.reads c.in-Ok.ensures.ok
+    c.push.new.self.records c.args.ctx.budget.now _ c.unknown_left.result c.unknown_left.ensures c.in_ok-field.ensures.reads c.in_ok-push.ensures.ok
     (ap (λ z. z.unknown) c.with_element_memory.ensures ∙ c.new.ensures.unknown) (ap (λ z. z.memory) c.with_element_memory.ensures ∙ c.memory_left.ensures)).1
 
-pub returns-in_default-clause-full : goal.returns-in_default-clause-full
-returns-in_default-clause-full c = λ full. record_no_end c.args.ctx.depth c.unknown_left.result c.args.tag.number c.args.tag.wire_type c.args.buf.now.now (record_of c.in_ok-field.field, c.in_ok-field.left, c.read_record.new.buf.now) c.in_ok-field.ensures.reads
+pub returns-in_err-push-clause-full : goal.returns-in_err-push-clause-full
+returns-in_err-push-clause-full c =
+    let p = err_from_is_err_and c.from_residual-in_err-push.result c.from_residual-in_err-push.ensures.1 in
+    rw (p.1, p.2) (λ full. record_no_end c.args.ctx.depth c.unknown_left.result c.args.tag.number c.args.tag.wire_type c.args.buf.now.now (record_of c.in_ok-field.field, c.in_ok-field.left, c.read_record.new.buf.now) c.in_ok-field.ensures.reads)

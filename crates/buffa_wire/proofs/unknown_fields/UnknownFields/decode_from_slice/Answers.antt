@@ -39,12 +39,14 @@ pub loop-rest-preserved : goal.loop-rest-preserved
 loop-rest-preserved c =
     let some : 0 < length c.loop-rest.rest.now = grind (arith, common_steps) in
     record {
-      read = list_next _ _ _ _ _ _ c.loop-rest.invariant.read some _ c.in_ok-tag.ensures.reads _ _ _ c.in_ok-field.ensures.reads c.in_ok-field.ensures.number c.in-Ok.ensures.ok;
+      read = list_next _ _ _ _ _ _ c.loop-rest.invariant.read some _ c.in_ok-tag.ensures.reads _ _ _ c.in_ok-field.ensures.reads c.in_ok-field.ensures.number c.in_ok-push.ensures.ok;
       begun = inr (begins_reading _ _ _ _ _ c.loop-rest.invariant.begun _ c.in_ok-tag.ensures.reads _ c.in_ok-field.ensures.reads);
     }
 
-pub returns-in_default-clause-full : goal.returns-in_default-clause-full
-returns-in_default-clause-full c = λ k. begins_reading _ _ _ _ _ c.loop-rest.invariant.begun _ c.in_ok-tag.ensures.reads _ c.in_ok-field.ensures.reads
+pub returns-in_err-push-clause-full : goal.returns-in_err-push-clause-full
+returns-in_err-push-clause-full c =
+    let p = err_from_is_err_and c.from_residual-in_err-push.result c.from_residual-in_err-push.ensures.1 in
+    rw (p.1, p.2) (λ k. begins_reading _ _ _ _ _ c.loop-rest.invariant.begun _ c.in_ok-tag.ensures.reads _ c.in_ok-field.ensures.reads)
 
 pub returns-clause-reads : goal.returns-clause-reads
 returns-clause-reads c =

@@ -69,21 +69,23 @@ decode_group-returns-in_err-field g t c =
       kept = c.in_err-field.ensures.kept ∙ c.in_ok-tag.ensures.kept ∙ c.loop-fields.invariant.kept;
     }
 
-pub decode_group-returns-in_default-push : goal.decode_group-returns-in_default-push
-decode_group-returns-in_default-push g t c = record {
-  reads = λ other. absurd (other refl);
-  full = λ k. takes_inside _ _ _ c.if-depth-eq0.false (begins_reading _ _ _ _ _ c.loop-fields.invariant.begun _ c.in_ok-tag.ensures.reads _ c.in_ok-field.ensures.reads);
-  level = λ z. absurd (c.if-depth-eq0.false z);
-  deep = λ z. absurd (c.if-depth-eq0.false z);
-  memory = c.in_ok-field.ensures.memory ∙ c.loop-fields.invariant.memory;
-  spent = next_spent _ _ _ _ _ _ _ c.loop-fields.invariant.tail c.in_ok-tag.ensures.tail c.in_ok-field.ensures.tail (tag_falls _ _ c.in_ok-tag.ensures.reads) c.loop-fields.invariant.spent c.in_ok-field.ensures.spent;
-  kept = c.in_ok-field.ensures.kept ∙ c.in_ok-tag.ensures.kept ∙ c.loop-fields.invariant.kept;
-  tail = tail_more _ _ _ c.in_ok-field.ensures.tail (tail_more _ _ _ c.in_ok-tag.ensures.tail c.loop-fields.invariant.tail);
-}
+pub decode_group-returns-in_err-push : goal.decode_group-returns-in_err-push
+decode_group-returns-in_err-push g t c =
+    let p = err_from_is_err_and c.from_residual-in_err-push.result c.from_residual-in_err-push.ensures.1 in
+    record {
+      reads = rw (p.1, p.2) (λ other. absurd (other refl));
+      full = rw (p.1, p.2) (λ k. takes_inside _ _ _ c.if-depth-eq0.false (begins_reading _ _ _ _ _ c.loop-fields.invariant.begun _ c.in_ok-tag.ensures.reads _ c.in_ok-field.ensures.reads));
+      level = λ z. absurd (c.if-depth-eq0.false z);
+      deep = λ z. absurd (c.if-depth-eq0.false z);
+      memory = c.in_ok-field.ensures.memory ∙ c.loop-fields.invariant.memory;
+      spent = next_spent _ _ _ _ _ _ _ c.loop-fields.invariant.tail c.in_ok-tag.ensures.tail c.in_ok-field.ensures.tail (tag_falls _ _ c.in_ok-tag.ensures.reads) c.loop-fields.invariant.spent c.in_ok-field.ensures.spent;
+      kept = c.in_ok-field.ensures.kept ∙ c.in_ok-tag.ensures.kept ∙ c.loop-fields.invariant.kept;
+      tail = tail_more _ _ _ c.in_ok-field.ensures.tail (tail_more _ _ _ c.in_ok-tag.ensures.tail c.loop-fields.invariant.tail);
+    }
 
 pub decode_group-loop-fields-preserved : goal.decode_group-loop-fields-preserved
 decode_group-loop-fields-preserved g t c = record {
-  read = group_next c.args.ctx.depth c.loop-fields.budget.unknown c.args.number (g.B.Buf.unread c.loop-fields.buf) c.loop-fields.fields.records (group_records_at c.args.ctx.depth c.args.ctx.budget.now.unknown c.args.number (g.B.Buf.unread c.args.buf.now)) c.if-depth-eq0.false c.loop-fields.invariant.read _ c.in_ok-tag.ensures.reads (λ e. c.in_default.not-EndGroup (c.wire_type.ensures ∙ e)) _ _ _ c.in_ok-field.ensures.reads c.in_ok-field.ensures.number c.in-Ok.ensures.ok;
+  read = group_next c.args.ctx.depth c.loop-fields.budget.unknown c.args.number (g.B.Buf.unread c.loop-fields.buf) c.loop-fields.fields.records (group_records_at c.args.ctx.depth c.args.ctx.budget.now.unknown c.args.number (g.B.Buf.unread c.args.buf.now)) c.if-depth-eq0.false c.loop-fields.invariant.read _ c.in_ok-tag.ensures.reads (λ e. c.in_default.not-EndGroup (c.wire_type.ensures ∙ e)) _ _ _ c.in_ok-field.ensures.reads c.in_ok-field.ensures.number c.in_ok-push.ensures.ok;
   memory = c.in_ok-field.ensures.memory ∙ c.loop-fields.invariant.memory;
   spent = next_spent _ _ _ _ _ _ _ c.loop-fields.invariant.tail c.in_ok-tag.ensures.tail c.in_ok-field.ensures.tail (tag_falls _ _ c.in_ok-tag.ensures.reads) c.loop-fields.invariant.spent c.in_ok-field.ensures.spent;
   tail = tail_more _ _ _ c.in_ok-field.ensures.tail (tail_more _ _ _ c.in_ok-tag.ensures.tail c.loop-fields.invariant.tail);

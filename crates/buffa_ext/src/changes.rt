@@ -1,11 +1,10 @@
-//! Sets and clears, one after the other: what contracts call a `Change` is a [`Step`].
+//! Sets and clears, one after the other.
 
 ghost use Rattle.std.specs.Prelude.{◌≡◌, ◌≢◌, ◌<◌, [], length, map, take, OnOk, OnErr, IfErr, IfOk};
 ghost use Rattle.buffa_wire.specs.View.{datum_of};
 ghost use Rattle.buffa_codec.specs.Sub.{tagged};
-ghost use Rattle.buffa_ext.specs.Steps.{KeepsRoom, RefusedAt, ChangeTakesMemory, after, after_one, put_in};
+ghost use Rattle.buffa_ext.specs.Changes.{ChangeTakesMemory, KeepsRoom, RefusedAt, after, after_one, change_of, put_in};
 ghost use Rattle.std.specs.Prelude.{◌≤◌, ◌+◌};
-ghost use Rattle.buffa_ext.specs.Changes.{change_of};
 
 use crate::stage::{remove, replace};
 use buffa_wire::{UnknownField, UnknownFieldData, UnknownFields};
@@ -14,16 +13,16 @@ use std::alloc::{AllocError, Global};
 /// A change of the records of one number.
 ///
 /// ```ignore
-/// let step = Step::Clear { number };
+/// let change = Change::Clear { number };
 /// ```
 #[derive(Debug, PartialEq, Eq, Drop)]
-pub enum Step {
+pub enum Change {
     /// Records that hold these take the place of the number's.
     Set {
         /// The number.
         number: u32,
         /// What its records are to hold, in order.
-        records: Vec<UnknownFieldData>,
+        payloads: Vec<UnknownFieldData>,
     },
     /// The number's records are taken out.
     Clear {
@@ -39,7 +38,7 @@ pub enum Step {
 /// ```
 #[derive(Clone, Copy, Debug, PartialEq, Eq)]
 pub struct ReplayFault {
-    /// How many steps stand; the next one changed nothing.
+    /// How many changes stand; the next one changed nothing.
     pub done: usize,
 }
 
@@ -59,48 +58,48 @@ fn staged(
     Ok(fields)
 }
 
-// Takes one step, or leaves everything as it was.
-fn replay_one(alloc: Global, fields: &mut UnknownFields, step: Step) -> Result<(), AllocError>
-    ensures ok { OnOk result (fields.new.records ≡ after_one fields.old.records (change_of step)) }
+// Takes one change, or leaves everything as it was.
+fn replay_one(alloc: Global, fields: &mut UnknownFields, change: Change) -> Result<(), AllocError>
+    ensures ok { OnOk result (fields.new.records ≡ after_one fields.old.records (change_of change)) }
     ensures err { OnErr result (fields.new ≡ fields.old) }
-    ensures room { fields.old.spare ≤ fields.new.spare + length (put_in (change_of step)) }
-    ensures memory { OnErr result (ChangeTakesMemory (change_of step)) }
+    ensures room { fields.old.spare ≤ fields.new.spare + length (put_in (change_of change)) }
+    ensures memory { OnErr result (ChangeTakesMemory (change_of change)) }
 {
-    match step {
-        Step::Set { number, records } => {
-            let list = staged(alloc, number, records)?;
+    match change {
+        Change::Set { number, payloads } => {
+            let list = staged(alloc, number, payloads)?;
             replace(fields, number, list)?;
         }
-        Step::Clear { number } => remove(fields, number),
+        Change::Clear { number } => remove(fields, number),
     }
     Ok(())
 }
 
-/// Takes the steps, or those before the first for which there is no memory.
+/// Takes the changes, or those before the first for which there is no memory.
 ///
 /// # Errors
-/// Where memory runs out: how many steps stand. It runs out at no clear, and at no set to no records. No more
-/// room is taken than the steps that stand put records in.
+/// Where memory runs out: how many changes stand. It runs out at no clear, and at no set to no records. No more
+/// room is taken than the changes that stand put records in.
 ///
 /// ```ignore
-/// let answer = replay(alloc, &mut fields, steps);
+/// let answer = replay(alloc, &mut fields, changes);
 /// ```
 pub fn replay(
     alloc: Global,
     fields: &mut UnknownFields,
-    steps: Vec<Step>,
+    changes: Vec<Change>,
 ) -> Result<(), ReplayFault>
-    ensures ok { OnOk result (fields.new.records ≡ after fields.old.records (map change_of steps.items)) }
-    ensures done { IfErr result (λ e. e.done < length steps.items) }
+    ensures ok { OnOk result (fields.new.records ≡ after fields.old.records (map change_of changes.items)) }
+    ensures done { IfErr result (λ e. e.done < length changes.items) }
     ensures err { IfErr result (λ e. fields.new.records
-        ≡ after fields.old.records (take e.done (map change_of steps.items))) }
-    ensures memory { IfErr result (λ e. RefusedAt e.done (map change_of steps.items)) }
-    ensures room { OnOk result (KeepsRoom (map change_of steps.items) fields.old fields.new) }
-    ensures err_room { IfErr result (λ e. KeepsRoom (take e.done (map change_of steps.items)) fields.old fields.new) }
+        ≡ after fields.old.records (take e.done (map change_of changes.items))) }
+    ensures memory { IfErr result (λ e. RefusedAt e.done (map change_of changes.items)) }
+    ensures room { OnOk result (KeepsRoom (map change_of changes.items) fields.old fields.new) }
+    ensures err_room { IfErr result (λ e. KeepsRoom (take e.done (map change_of changes.items)) fields.old fields.new) }
 {
     let mut done = 0usize;
-    for step in steps {
-        match replay_one(alloc, fields, step) {
+    for change in changes {
+        match replay_one(alloc, fields, change) {
             Ok(()) => done += 1,
             Err(_) => return Err(ReplayFault { done }),
         }

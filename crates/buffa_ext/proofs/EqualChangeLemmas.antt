@@ -1,4 +1,4 @@
--- Steps are told to be one exactly where they change the same.
+-- Changes are told to be equal exactly where they are one change.
 use Rattle.std.proofs.Common.{◌≡◌, Bool, true, false, ◌&&◌, List, [], ◌∷◌, map, refl, nat_eq}
 use Rattle.std.specs.Cmp.{first_so, second_so}
 use Rattle.std.specs.Cmp.Lexicographic.{pointwise}
@@ -7,10 +7,9 @@ use Rattle.std.proofs.lemmas.Bool.{and_from, false≢true}
 use Rattle.buffa_wire.specs.Equal.{datum_eq, datum_eq-Decides}
 use Rattle.buffa_wire.specs.View.{datum_of}
 use Rattle.buffa_wire.specs.declared.unknown_fields.UnknownFieldData.{UnknownFieldData}
-use Rattle.buffa_ext.specs.Changes.{change_of}
-use Rattle.buffa_ext.specs.Steps.{set, clear}
-use Rattle.buffa_ext.specs.declared.steps.Step.{Step}
-use Rattle.buffa_ext.specs.declared.steps.Step.TheVariants.{Set, Clear}
+use Rattle.buffa_ext.specs.Changes.{change_of, clear, set}
+use Rattle.buffa_ext.specs.declared.changes.Change.{Change}
+use Rattle.buffa_ext.specs.declared.changes.Change.TheVariants.{Set, Clear}
 
 -- two payloads hold the same
 abbrev hold_one : UnknownFieldData → UnknownFieldData → Bool
@@ -29,23 +28,23 @@ payloads_told [] (y ∷ ys) e = cc
 payloads_told (x ∷ xs) [] e = cc
 payloads_told (x ∷ xs) (y ∷ ys) e = and_from (hold_one x y) (pointwise hold_one xs ys) ((datum_eq-Decides (datum_of x) (datum_of y)).1 (cc)) (payloads_told xs ys (cc))
 
--- ---- steps
+-- ---- changes
 
-abbrev told : Step → Step → Bool
+abbrev told : Change → Change → Bool
 told (Set m xs) (Set n ys) = nat_eq m n && pointwise hold_one xs.items ys.items
 told (Clear m) (Clear n) = nat_eq m n
 told (Set m xs) (Clear n) = false
 told (Clear m) (Set n ys) = false
 
-pub steps_are : (a b : Step) → told a b ≡ true → change_of a ≡ change_of b
-steps_are (Set m xs) (Set n ys) h = λ i.
+pub changes_are : (a b : Change) → told a b ≡ true → change_of a ≡ change_of b
+changes_are (Set m xs) (Set n ys) h = λ i.
     set ((Decides-eqb m n).0 (first_so (nat_eq m n) (pointwise hold_one xs.items ys.items) h) i) (payloads_are xs.items ys.items (second_so (nat_eq m n) (pointwise hold_one xs.items ys.items) h) i)
-steps_are (Clear m) (Clear n) h = λ i. clear ((Decides-eqb m n).0 h i)
-steps_are (Set m xs) (Clear n) h = absurd (false≢true h)
-steps_are (Clear m) (Set n ys) h = absurd (false≢true h)
+changes_are (Clear m) (Clear n) h = λ i. clear ((Decides-eqb m n).0 h i)
+changes_are (Set m xs) (Clear n) h = absurd (false≢true h)
+changes_are (Clear m) (Set n ys) h = absurd (false≢true h)
 
-pub steps_told : (a b : Step) → change_of a ≡ change_of b → told a b ≡ true
-steps_told (Set m xs) (Set n ys) e = and_from (nat_eq m n) (pointwise hold_one xs.items ys.items) ((Decides-eqb m n).1 (cc)) (payloads_told xs.items ys.items (cc))
-steps_told (Clear m) (Clear n) e = (Decides-eqb m n).1 (cc)
-steps_told (Set m xs) (Clear n) e = cc
-steps_told (Clear m) (Set n ys) e = cc
+pub changes_told : (a b : Change) → change_of a ≡ change_of b → told a b ≡ true
+changes_told (Set m xs) (Set n ys) e = and_from (nat_eq m n) (pointwise hold_one xs.items ys.items) ((Decides-eqb m n).1 (cc)) (payloads_told xs.items ys.items (cc))
+changes_told (Clear m) (Clear n) e = (Decides-eqb m n).1 (cc)
+changes_told (Set m xs) (Clear n) e = cc
+changes_told (Clear m) (Set n ys) e = cc

@@ -1,8 +1,8 @@
-// Steps: sets and clears of any numbers, one after the other.
+// Changes: sets and clears of any numbers, one after the other.
 
 use crate::told::{are_same, got_told, stand_told};
 use buffa_ext::stage::replace;
-use buffa_ext::{ReplayFault, Step, replay};
+use buffa_ext::{Change, ReplayFault, replay};
 use buffa_wire::{UnknownField, UnknownFieldData, UnknownFields};
 use conformance_rows::case::Case;
 use conformance_rows::fault::Fault;
@@ -11,7 +11,7 @@ use conformance_rows::outcome::{Outcome, in_words, records_told};
 use conformance_rows::words::records_of;
 use std::alloc::Global;
 
-// The records then, and how many steps stand where a replay ended early.
+// The records then, and how many changes stand where a replay ended early.
 #[derive(Drop)]
 struct Replayed {
     fields: UnknownFields,
@@ -35,39 +35,39 @@ fn payloads_of(alloc: Global, digits: &str) -> Result<Vec<UnknownFieldData>, Fau
     Ok(payloads)
 }
 
-// The step of a word: `7` clears number 7, `7=0805` sets it to what the records behind the sign hold.
-fn step_of(alloc: Global, word: &str) -> Result<Step, Fault> {
+// The change of a word: `7` clears number 7, `7=0805` sets it to what the records behind the sign hold.
+fn change_of(alloc: Global, word: &str) -> Result<Change, Fault> {
     match word.split_once('=') {
         None => {
             let number = word.parse::<u32>()?;
-            Ok(Step::Clear { number })
+            Ok(Change::Clear { number })
         }
         Some((front, digits)) => {
             let number = front.parse::<u32>()?;
-            let records = payloads_of(alloc, digits)?;
-            Ok(Step::Set { number, records })
+            let payloads = payloads_of(alloc, digits)?;
+            Ok(Change::Set { number, payloads })
         }
     }
 }
 
-// The steps of the first words, at most so many.
-fn steps_of(alloc: Global, words: &str, most: usize) -> Result<Vec<Step>, Fault> {
-    let mut steps = Vec::new(alloc);
+// The changes of the first words, at most so many.
+fn changes_of(alloc: Global, words: &str, most: usize) -> Result<Vec<Change>, Fault> {
+    let mut changes = Vec::new(alloc);
     for word in words.split_ascii_whitespace() {
-        if steps.len() < most {
-            steps.push(step_of(alloc, word)?)?;
+        if changes.len() < most {
+            changes.push(change_of(alloc, word)?)?;
         }
     }
-    Ok(steps)
+    Ok(changes)
 }
 
-// Takes steps.
-fn take_steps(alloc: Global, mut fields: UnknownFields, steps: Vec<Step>) -> Replayed {
-    let answer = replay(alloc, &mut fields, steps);
+// Takes changes.
+fn take_changes(alloc: Global, mut fields: UnknownFields, changes: Vec<Change>) -> Replayed {
+    let answer = replay(alloc, &mut fields, changes);
     Replayed { fields, answer }
 }
 
-// What stands where memory ran out: what so many steps, fewer than there are, make of the old records.
+// What stands where memory ran out: what so many changes, fewer than there are, make of the old records.
 fn stopped_told(
     alloc: Global,
     case: &Case<'_>,
@@ -76,8 +76,8 @@ fn stopped_told(
     count: usize,
 ) -> Result<String, Fault> {
     let old = records_of(alloc, case.before())?;
-    let steps = steps_of(alloc, case.input(), done)?;
-    let wanted = take_steps(alloc, old, steps);
+    let changes = changes_of(alloc, case.input(), done)?;
+    let wanted = take_changes(alloc, old, changes);
     if wanted.answer.is_err() {
         return Err(Fault::Memory);
     }
@@ -85,7 +85,7 @@ fn stopped_told(
     stand_told(alloc, fields, may)
 }
 
-// How many steps stand, and the records.
+// How many changes stand, and the records.
 fn replayed_told(
     alloc: Global,
     case: &Case<'_>,
@@ -106,13 +106,13 @@ fn replayed_told(
     }
 }
 
-/// What steps make of records.
-pub fn steps(alloc: Global, case: &Case<'_>, mark: &mut Mark) -> Result<Outcome, Fault> {
+/// What changes make of records.
+pub fn changes(alloc: Global, case: &Case<'_>, mark: &mut Mark) -> Result<Outcome, Fault> {
     let fields = records_of(alloc, case.before())?;
-    let steps = steps_of(alloc, case.input(), usize::MAX)?;
-    let count = steps.len();
+    let changes = changes_of(alloc, case.input(), usize::MAX)?;
+    let count = changes.len();
     mark.begin(alloc);
-    let replayed = take_steps(alloc, fields, steps);
+    let replayed = take_changes(alloc, fields, changes);
     let refused = mark.end();
     replayed_told(alloc, case, &replayed, count, refused)
 }
