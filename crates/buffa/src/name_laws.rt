@@ -1,6 +1,6 @@
 //! What the names of this crate stand for: no two limits, codecs or samples can be exchanged while these laws hold.
 
-ghost use Rattle.std.specs.Prelude.{◌≡◌, ◌↔◌, ◌∷◌, ◌-◌, ◌^◌, [], ℕ, List, Option, false, map, option_map, pos, true};
+ghost use Rattle.std.specs.Prelude.{◌≡◌, ◌∷◌, ◌-◌, ◌^◌, [], ℕ, List, false, map, option_map, pos, true};
 ghost use Rattle.buffa_bytes.specs.Scalars.{bool_of, fixed32_of, fixed64_of, int64_of, sfixed32_of, sfixed64_of};
 ghost use Rattle.buffa_bytes.specs.Scalars.{sint32_of, sint64_of, uint32_of, uint64_of};
 ghost use Rattle.buffa_bytes.specs.Values.{int32_of};
@@ -9,7 +9,7 @@ ghost use Rattle.buffa_wire.specs.BudgetLeft.{BudgetLeft};
 ghost use Rattle.buffa_wire.specs.Enums.{numbers};
 ghost use Rattle.buffa_wire.specs.Found.{fixed32_in, fixed64_in, varint_in};
 ghost use Rattle.buffa_wire.specs.Records.{Datum, bytes as held_bytes};
-ghost use Rattle.buffa_codec.specs.Decoded.{bytes_held, last_read, packed_record, string_held};
+ghost use Rattle.buffa_codec.specs.Decoded.{packed_record};
 ghost use Rattle.buffa_ext.specs.Messages.{group_of};
 ghost use Rattle.buffa_map_base.specs.Enums.{closed_reading, open_reading};
 ghost use Rattle.buffa_map_base.specs.Message.{message_reading};

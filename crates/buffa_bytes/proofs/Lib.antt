@@ -21,3 +21,5 @@ pub mod TailLemmas
 pub mod LeftLemmas
 pub mod FaultLemmas
 pub mod FullLemmas
+pub mod WireLemmas
+pub mod ResultLemmas

@@ -1,7 +1,6 @@
 //! The front of a buffer, which is lent.
 
 ghost use Rattle.std.specs.Prelude.{◌≡◌, ◌≤◌, ◌∷◌, length, take, drop};
-ghost use Rattle.buffa_bytes.specs.Unread.{IsChunkOf};
 
 use crate::buf::Buf;
 

@@ -2,7 +2,6 @@
 
 ghost use Rattle.std.specs.Prelude.{◌≡◌, ℕ, List, ◌<◌, ◌≤◌, ◌+◌, ◌^◌, length, drop};
 ghost use Rattle.buffa_bytes.specs.Pieces.{joined, IsSettled};
-ghost use Rattle.buffa_bytes.specs.Unread.{IsChunkOf};
 
 use crate::buf::Buf;
 use std::marker::Model;

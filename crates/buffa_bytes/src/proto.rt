@@ -1,6 +1,6 @@
 //! Types of one's own for strings and bytes.
 
-ghost use Rattle.std.specs.Prelude.{◌≡◌, ℕ, IsOk, List, [], MatchResult, refl, string_bytes, true};
+ghost use Rattle.std.specs.Prelude.{◌≡◌, ℕ, IsOk, List, [], MatchResult, refl, true};
 ghost use Rattle.std.specs.Str.{is_utf8};
 ghost use Rattle.buffa_bytes.specs.Gives.{FullOnlyIf, GivesUnlessFull};
 ghost use Rattle.buffa_bytes.specs.Delimited.{string_is_text, text_as};

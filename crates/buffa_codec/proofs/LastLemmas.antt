@@ -9,7 +9,7 @@ use Rattle.buffa_wire.specs.View.{record_of, records_in, datum_of}
 use Rattle.buffa_wire.specs.declared.unknown_fields.UnknownField.{UnknownField}
 use Rattle.buffa_codec.specs.Sub.{sub}
 use Rattle.buffa_codec.specs.Decoded.{HasLast, last_read}
-use Rattle.buffa_codec.proofs.FilteredLemmas.{sub-append}
+use Rattle.buffa_codec.proofs.FilteredLemmas.{last_or-append, sub-append}
 use Rattle.buffa_codec.proofs.TurnLemmas.{sub-cut, sub-one_same, sub-one_other}
 
 step_down : (i : ℕ) → 0 < i → (i - 1) + 1 ≡ i
@@ -36,10 +36,6 @@ none_at_unread one n xs i x pos le e same none h =
     ap (filter_map one) (sub-drop_less n xs i x pos le e ∙ ap (λ l. l ++ sub n (records_in (drop i xs))) (sub-one_same n x same))
     ∙ ap (λ o. cons_option o (filter_map one (sub n (records_in (drop i xs))))) none ∙ h
 
-last_or-snoc : {M : Type 0} (o : Option M) (xs : List M) (x : M) → last_or o (xs ++ x ∷ []) ≡ Some x
-last_or-snoc o [] x = refl
-last_or-snoc o (y ∷ xs) x = last_or-snoc (Some y) xs x
-
 -- the records of one number, cut at one of them
 last_cut : (n : ℕ) (xs : List UnknownField) (i : ℕ) (x : UnknownField) → 0 < i → i ≤ length xs → x ≡ get_or xs (i - 1) x → x.number ≡ n
     → sub n (records_in xs) ≡ sub n (records_in (take (i - 1) xs)) ++ (datum_of x.payload ∷ sub n (records_in (drop i xs)))
@@ -65,4 +61,4 @@ found_last one n xs i x v pos le e same some h =
     ∙ ap (last_or None) (filter_map-append one front (d ∷ sub n (records_in (drop i xs)))
     ∙ ap (λ o. filter_map one front ++ cons_option o (filter_map one (sub n (records_in (drop i xs))))) (sym some)
     ∙ ap (λ l. filter_map one front ++ v ∷ l) h)
-    ∙ last_or-snoc None (filter_map one front) v)
+    ∙ last_or-append None (filter_map one front) (v ∷ []))

@@ -1,7 +1,6 @@
 -- The lemmas that this crate hands out.
 pub mod FilteredLemmas
 pub mod ListLemmas
-pub mod HeldLemmas
 pub mod PackLemmas
 pub mod JoinLemmas
 pub mod TurnLemmas

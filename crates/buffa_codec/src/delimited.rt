@@ -1,6 +1,6 @@
 //! Codecs of strings and bytes.
 
-ghost use Rattle.std.specs.Prelude.{◌≡◌, ◌≢◌, ℕ, List, [], None, IfOk, OnErr, refl, string_bytes, true};
+ghost use Rattle.std.specs.Prelude.{◌≡◌, ◌≢◌, [], None, IfOk, OnErr, refl, true};
 ghost use Rattle.std.specs.Str.{is_utf8};
 ghost use Rattle.buffa_wire.specs.Records.{bytes};
 ghost use Rattle.buffa_wire.specs.BudgetLeft.{defaults, nothing};

@@ -1,8 +1,7 @@
 //! Codecs of lists, one record an element; packed records are read here too.
 
-ghost use Rattle.std.specs.Prelude.{◌≡◌, List, map, OnErr, OnOk, IfErr};
+ghost use Rattle.std.specs.Prelude.{◌≡◌, List, map, OnErr, OnOk};
 ghost use Rattle.std.specs.List.{AllByRecursion};
-ghost use Rattle.buffa_wire.specs.Records.{Datum};
 ghost use Rattle.buffa_wire.specs.View.{datum_of};
 ghost use Rattle.buffa_codec.specs.Decoded.{AddsRecord, AsksInList, CoversAll, Has, ReadsList};
 ghost use Rattle.buffa_codec.specs.Decoded.{first_refusal};

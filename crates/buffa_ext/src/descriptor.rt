@@ -1,5 +1,5 @@
 //! What names an extension, and its declared default.
-ghost use Rattle.std.specs.Prelude.{◌≡◌, ℕ, List, Option, Some, None, Ok, Err, IfOk, OnErr};
+ghost use Rattle.std.specs.Prelude.{◌≡◌, Option, Some, None, Ok, Err, IfOk, OnErr};
 ghost use Rattle.std.specs.declared.alloc.Global.{Global};
 ghost use Rattle.std.specs.declared.alloc.AllocError.{AllocError};
 

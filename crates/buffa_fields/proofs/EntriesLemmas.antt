@@ -7,11 +7,13 @@ use Rattle.buffa_bytes.specs.declared.wire_type.WireType.{WireType}
 use Rattle.buffa_bytes.specs.declared.wire_type.WireType.TheVariants.{LengthDelimited}
 use Rattle.buffa_bytes.specs.WireType.{same_wire}
 use Rattle.buffa_bytes.specs.Front.{check_wire, delimited_at}
+use Rattle.buffa_bytes.proofs.WireLemmas.{same_false, checked_same}
 use Rattle.buffa_wire.proofs.MessageLemmas.{NoLimit}
 use Rattle.buffa_wire.specs.BudgetLeft.{BudgetLeft, Covers, Lacks, PaysAtMost, plus, unknown_fields}
 use Rattle.buffa_wire.specs.Message.{IsLimit}
 use Rattle.buffa_wire.specs.Takes.{IsTaken, Untaken}
-use Rattle.buffa_map_base.proofs.EntryLemmas.{entry_complete, entry_faulty, same_false}
+use Rattle.buffa_wire.specs.Pinned.{done, refusal}
+use Rattle.buffa_map_base.proofs.EntryLemmas.{entry_complete, entry_faulty}
 use Rattle.buffa_map_base.specs.Codec.{Reading}
 use Rattle.buffa_map_base.specs.Entry.{EntryFault, FaultOf, IsEntry, inner_need, need_of}
 use Rattle.buffa_map.specs.Laws.{LimitsAreTrue}
@@ -19,14 +21,7 @@ use Rattle.buffa_map_base.specs.Merge.{MergesEntry, RefusesEntry, Rules, State}
 use Rattle.buffa_map.specs.declared.map_entry.MapEntry.{MapEntry}
 use Rattle.buffa_fields.specs.Entries.{entry_cost, entry_taken}
 use Rattle.buffa_fields_base.proofs.ValueLemmas.{wire_refused}
-use Rattle.buffa_fields_base.proofs.WireLemmas.{checked_same}
 use Rattle.buffa_fields.proofs.InsideLemmas.{alone_is, delimited_front, no_payload}
-
-abbrev good : Result (Unit {0}) DecodeError
-good = Ok tt
-
-abbrev bad : DecodeError → Result (Unit {0}) DecodeError
-bad e = Err e
 
 is_limit : (f : DecodeError) → IsLimit f ⊎ NoLimit f
 is_limit error.UnknownFieldLimitExceeded = inl tt
@@ -46,7 +41,7 @@ module _ {K V X : Type 0} (r : Rules K V) (does : X → List ℕ → MapEntry K 
   wire = checked_same n LengthDelimited w checked
 
   -- it is taken
-  pub entry_ok : (m : MergesEntry r s bs t rest) → new ≡ does old m.entry m.says → IsTaken (entry_taken r.key r.val does) (entry_cost costs) r.depth old n w bs s.left good new t.left rest
+  pub entry_ok : (m : MergesEntry r s bs t rest) → new ≡ does old m.entry m.says → IsTaken (entry_taken r.key r.val does) (entry_cost costs) r.depth old n w bs s.left done new t.left rest
   unfolding entry_taken entry_cost
   entry_ok m done =
       let whole : delimited_at bs ≡ Ok (m.entry, rest) = delimited_taken bs m.entry rest (m.read.0, m.read.1, m.read.2) in
@@ -111,14 +106,14 @@ module _ {K V X : Type 0} (r : Rules K V) (does : X → List ℕ → MapEntry K 
             | inr some ↦ rw is (omega (arith, most), omega (arith, c, covers.0), omega (arith, some.0, units), omega (arith, some.1, units, covers.1))
           ]
 
-      pub entry_err : IsTaken (entry_taken r.key r.val does) (entry_cost costs) r.depth old n w bs s.left (bad f) new after rest
+      pub entry_err : IsTaken (entry_taken r.key r.val does) (entry_cost costs) r.depth old n w bs s.left (refusal f) new after rest
       unfolding entry_taken entry_cost
       entry_err = (rw wire (spent (delimited_at bs) refl), λ ne. why f (k.fault ne), λ full end. let two = sym wire ∙ end in cc)
 
 module _ {K V X : Type 0} (key : Reading K) (val : Reading V) (does : X → List ℕ → MapEntry K V → X) (d n : ℕ) where
   -- a field of another wire type is refused
   pub entry_wire_err : (costs : ℕ → List ℕ → BudgetLeft) (w : WireType) (old : X) (bs rest : List ℕ) (before : BudgetLeft) (f : DecodeError) →
-      check_wire n LengthDelimited w ≡ Err f → IsTaken (entry_taken key val does) (entry_cost costs) d old n w bs before (bad f) old before rest
+      check_wire n LengthDelimited w ≡ Err f → IsTaken (entry_taken key val does) (entry_cost costs) d old n w bs before (refusal f) old before rest
   unfolding entry_taken
   entry_wire_err costs w old bs rest before f told =
       wire_refused (entry_taken key val does) (entry_cost costs) d n w old old bs rest before before f LengthDelimited told refl (λ other p. rw (same_false LengthDelimited w other) refl)

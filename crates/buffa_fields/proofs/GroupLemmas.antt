@@ -15,7 +15,8 @@ use Rattle.buffa_bytes.specs.Join.Join.{none, more}
 use Rattle.buffa_bytes.specs.Front.{check_wire, group_at, skip_at, tag_at}
 use Rattle.buffa_bytes.specs.Values.{tag_encoding}
 use Rattle.buffa_bytes.specs.Written.{Writes}
-use Rattle.buffa_wire.proofs.PassLemmas.{done, refused, written_put, written_same, written_short, written_then}
+use Rattle.buffa_bytes.proofs.WireLemmas.{same_false}
+use Rattle.buffa_wire.proofs.PassLemmas.{written_put, written_same, written_short, written_then}
 use Rattle.buffa_wire.proofs.MessageLemmas.{NoLimit, as_no_limit, tag_no_limit}
 use Rattle.buffa_wire.proofs.ByPayloadLemmas.{ByPayload, judged_all}
 use Rattle.buffa_wire.specs.BudgetLeft.{BudgetLeft, Lacks, Pays, PaysAtMost}
@@ -24,13 +25,13 @@ use Rattle.buffa_wire.specs.Encoding.{records_encoding}
 use Rattle.buffa_wire.specs.Message.{IsFieldMerged, IsJudged, MergeFault, merged_in}
 use Rattle.buffa_wire.specs.Passes.{IsSmall, IsWritten, WritesIf, cap}
 use Rattle.buffa_wire.specs.Records.{Datum, group, records_of}
-use Rattle.buffa_map_base.proofs.EntryLemmas.{same_false}
 use Rattle.buffa_fields.specs.Groups.{group_body, group_cost, group_merged}
 use Rattle.buffa_wire.specs.Takes.{IsTaken, Need, Untaken, Taker}
 use Rattle.buffa_fields.specs.GroupFacts.{body_field, body_is, body_past, body_stays, body_whole, turn}
 use Rattle.buffa_wire.proofs.MergeLoopLemmas.{CameTo, costs, stopped}
 use Rattle.buffa_fields_base.proofs.ValueLemmas.{refused_free, wire_refused}
 use Rattle.buffa_wire.proofs.SpentLemmas.{is_there}
+use Rattle.buffa_wire.specs.Pinned.{done, refusal}
 use Rattle.buffa_fields.specs.RepeatedGroups.{GroupsTakeMemory}
 use Rattle.buffa_fields.proofs.InsideLemmas.{behind_slot, level_there, wire_taken}
 
@@ -213,10 +214,10 @@ module _ (n : ℕ) (rs : List (ℕ × Datum)) where
           written_then P (IsSmall (records_encoding rs)) P start_tag (records_encoding rs) [] slots c1 c1 c b0 b1 b (λ s. (s, small_inside s)) r (written_put P start_tag c1 b0 b1 done started) w
 
       -- the message is
-      pub inner_short : (e : EncodeError) (c : Cache) (b : List ℕ) → IsWritten (records_encoding rs) slots c1 b1 (refused e) c b → IsWritten spelled_group (slot ∷ slots) c0 b0 (refused e) c b
+      pub inner_short : (e : EncodeError) (c : Cache) (b : List ℕ) → IsWritten (records_encoding rs) slots c1 b1 (refusal e) c b → IsWritten spelled_group (slot ∷ slots) c0 b0 (refusal e) c b
       inner_short e c b w =
           let P = IsSmall spelled_group in
-          as_parts (refused e) c b (written_short P P P (start_tag ++ records_encoding rs) end_tag slots [] c1 c c b0 b b (λ s. s) e (inner_after (refused e) c b w))
+          as_parts (refusal e) c b (written_short P P P (start_tag ++ records_encoding rs) end_tag slots [] c1 c c b0 b b (λ s. s) e (inner_after (refusal e) c b w))
 
       -- the end tag is written last
       pub group_written : (r : Result (Unit {0}) EncodeError) (c : Cache) (b2 b3 : List ℕ) → IsWritten (records_encoding rs) slots c1 b1 done c b2 → Writes r b2 end_tag b3 → IsWritten spelled_group (slot ∷ slots) c0 b0 r c b3

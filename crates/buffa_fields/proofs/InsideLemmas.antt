@@ -13,8 +13,9 @@ use Rattle.buffa_bytes.specs.declared.error.DecodeError.TheVariants.{ElementMemo
 use Rattle.buffa_bytes.specs.declared.error.EncodeError.{EncodeError}
 use Rattle.buffa_bytes.specs.declared.wire_type.WireType.{WireType}
 use Rattle.buffa_bytes.specs.declared.wire_type.WireType.TheVariants.{LengthDelimited}
+use Rattle.buffa_bytes.proofs.WireLemmas.{checked_same}
 use Rattle.buffa_wire.proofs.MessageLemmas.{NoLimit}
-use Rattle.buffa_wire.proofs.PassLemmas.{done, written_behind, written_none}
+use Rattle.buffa_wire.proofs.PassLemmas.{written_behind, written_none}
 use Rattle.buffa_wire.proofs.SequenceLemmas.{ok_same}
 use Rattle.buffa_wire.specs.BudgetLeft.{BudgetLeft, Lacks, nothing, plus, units}
 use Rattle.buffa_wire.specs.Cache.{Cache, advanced}
@@ -24,7 +25,7 @@ use Rattle.buffa_wire.specs.Passes.{IsSmall, IsWritten}
 use Rattle.buffa_wire.specs.Records.{Datum}
 use Rattle.buffa_wire.specs.Takes.{IsTaken, Need, Taker, Untaken}
 use Rattle.buffa_wire.proofs.SpentLemmas.{PaysAtMost_nothing}
-use Rattle.buffa_fields_base.proofs.WireLemmas.{checked_same}
+use Rattle.buffa_wire.specs.Pinned.{done}
 use Rattle.buffa_fields_base.specs.PairFacts.{part_taken}
 use Rattle.buffa_fields.specs.InsideFacts.{delimited_alone}
 use Rattle.buffa_fields.specs.Nested.{or_blank, taken_behind, taken_there}

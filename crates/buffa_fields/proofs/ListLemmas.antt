@@ -17,7 +17,8 @@ use Rattle.buffa_wire.specs.BudgetLeft.{BudgetLeft, nothing}
 use Rattle.buffa_bytes.specs.Gives.{◌>>=◌, FullOnlyIf, GivesUnlessFull}
 use Rattle.buffa_wire.specs.Message.{IsLimit}
 use Rattle.buffa_bytes.specs.Front.{check_wire, delimited_at}
-use Rattle.buffa_map_base.proofs.EntryLemmas.{same_false, value_complete}
+use Rattle.buffa_bytes.proofs.WireLemmas.{same_false}
+use Rattle.buffa_map_base.proofs.EntryLemmas.{value_complete}
 use Rattle.buffa_map_base.specs.Codec.{Reading, value_at}
 use Rattle.buffa_fields.specs.Lists.{TakesPacked, check_list_wire, element_at, elements_in, elements_taken}
 use Rattle.buffa_wire.specs.Takes.{IsTaken}

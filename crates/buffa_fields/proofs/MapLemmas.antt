@@ -26,7 +26,7 @@ use Rattle.buffa_map_write.proofs.WriteLemmas.{field_by_value}
 use Rattle.buffa_bytes.specs.Values.{delimited_encoding, tag_encoding}
 use Rattle.buffa_bytes.specs.Written.{WritesFront}
 use Rattle.buffa_bytes.specs.Varint.{varint_encoding}
-use Rattle.buffa_fields_base.proofs.WireLemmas.{checked_same}
+use Rattle.buffa_bytes.proofs.WireLemmas.{checked_same}
 use Rattle.buffa_fields.proofs.EntriesLemmas.{IsCost, entry_err, entry_ok}
 use Rattle.buffa_fields.specs.MapFacts.{map_encoding}
 

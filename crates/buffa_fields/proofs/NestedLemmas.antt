@@ -10,7 +10,6 @@ use Rattle.buffa_bytes.specs.declared.wire_type.WireType.{WireType}
 use Rattle.buffa_bytes.specs.declared.wire_type.WireType.TheVariants.{LengthDelimited}
 use Rattle.buffa_bytes.specs.Written.{WritesFront}
 use Rattle.buffa_wire.proofs.MessageLemmas.{NoLimit, length_no_limit}
-use Rattle.buffa_wire.proofs.PassLemmas.{refused}
 use Rattle.buffa_wire.proofs.SpentLemmas.{takes_bytes, is_there}
 use Rattle.buffa_wire.specs.BudgetLeft.{BudgetLeft, Lacks, PaysAtMost}
 use Rattle.buffa_wire.specs.Cache.{Cache, advanced}
@@ -21,15 +20,15 @@ use Rattle.buffa_bytes.specs.WireType.{same_wire}
 use Rattle.buffa_bytes.specs.Front.{check_wire, delimited_at}
 use Rattle.buffa_wire.specs.Records.{bytes}
 use Rattle.buffa_wire.specs.Encoding.{records_encoding}
-use Rattle.buffa_map_base.proofs.EntryLemmas.{same_false}
 use Rattle.buffa_fields.specs.Nested.{MessageTakesMemory, message_cost, message_merged, inside}
 use Rattle.buffa_wire.specs.Takes.{IsTaken, Need, Untaken}
+use Rattle.buffa_wire.specs.Pinned.{refusal}
 use Rattle.buffa_fields.specs.NestedFacts.{TellsLength, head, head_cut, record_after}
 use Rattle.buffa_fields.specs.InsideFacts.{delimited_alone}
 use Rattle.buffa_fields_base.proofs.ValueLemmas.{wire_refused}
-use Rattle.buffa_fields_base.proofs.WireLemmas.{checked_same}
 use Rattle.buffa_fields.proofs.InsideLemmas.{alone_is, behind_slot, delimited_front, level_there, no_payload, wire_taken}
 use Rattle.buffa_bytes.specs.Field.{Payload}
+use Rattle.buffa_bytes.proofs.WireLemmas.{same_false, checked_same}
 use Rattle.buffa_fields.specs.RepeatedNested.{MessagesTakeMemory}
 
 -- ---- the message of a whole payload
@@ -84,8 +83,8 @@ module _ (n inner : ℕ) (encoding : List ℕ) (is : inner ≡ cap (length encod
   pub record_written : (r : Result (Unit {0}) EncodeError) → b1 ≡ b0 ++ head n inner → IsWritten encoding slots c1 b1 r c2 b2 → IsWritten spelled (cap (length encoding) ∷ slots) c0 b0 r c2 b2
   record_written r h w = behind_slot spelled slots (cap (length encoding)) c0 c1 c2 b0 b2 on r (record_after n inner encoding (cap_tells inner encoding is) slots c1 c2 b0 b1 b2 r h w)
 
-  pub head_short : (e : EncodeError) → (e ≡ encode.OutOfMemory) × WritesFront b0 (head n inner) b1 → IsWritten spelled (cap (length encoding) ∷ slots) c0 b0 (refused e) c1 b1
-  head_short e h = behind_slot spelled slots (cap (length encoding)) c0 c1 c1 b0 b1 on (refused e) (head_cut n inner encoding (cap_tells inner encoding is) slots c1 c1 b0 b1 b1 e h)
+  pub head_short : (e : EncodeError) → (e ≡ encode.OutOfMemory) × WritesFront b0 (head n inner) b1 → IsWritten spelled (cap (length encoding) ∷ slots) c0 b0 (refusal e) c1 b1
+  head_short e h = behind_slot spelled slots (cap (length encoding)) c0 c1 c1 b0 b1 on (refusal e) (head_cut n inner encoding (cap_tells inner encoding is) slots c1 c1 b0 b1 b1 e h)
 
 -- ---- lists of them
 -- a message that was read had a level, and a length and so many bytes

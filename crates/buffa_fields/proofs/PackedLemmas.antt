@@ -3,11 +3,12 @@ use Rattle.std.proofs.Common.{◌≡◌, ℕ, ◌<◌, ◌≤◌, List, [], ◌�
 use Rattle.buffa_bytes.specs.Written.{Writes, WritesFront}
 use Rattle.buffa_bytes.specs.declared.error.EncodeError.{EncodeError}
 use Rattle.buffa_bytes.specs.declared.error.EncodeError.TheVariants as encode
-use Rattle.buffa_wire.proofs.PassLemmas.{refused, written_none, written_put}
+use Rattle.buffa_wire.proofs.PassLemmas.{written_none, written_put}
 use Rattle.buffa_wire.specs.Cache.{Cache}
 use Rattle.buffa_wire.specs.Passes.{IsSmall, IsWritten, cap}
 use Rattle.buffa_wire.specs.Records.{bytes}
 use Rattle.buffa_wire.specs.Encoding.{records_encoding, encodings}
+use Rattle.buffa_wire.specs.Pinned.{refusal}
 use Rattle.buffa_map_base.specs.Encoding.{saturated}
 use Rattle.buffa_fields.specs.Lists.{packed_records}
 use Rattle.buffa_fields.specs.NestedFacts.{TellsLength, head, head_cut, record_after}
@@ -46,5 +47,5 @@ module _ {V : Type 0} (encoding : V → List ℕ) (n : ℕ) {P : Type 0} (meanin
     packed_written r h w =
         subst (λ z. IsWritten (records_encoding z) [] c b0 r c b2) (sym (is_one xs some)) (record_after n inner all (all_tells inner is) [] c c b0 b1 b2 r h (written_put (IsSmall all) all c b1 b2 r w))
 
-    pub packed_cut : (e : EncodeError) → (e ≡ encode.OutOfMemory) × WritesFront b0 (head n inner) b1 → IsWritten packed [] c b0 (refused e) c b1
-    packed_cut e h = subst (λ z. IsWritten (records_encoding z) [] c b0 (refused e) c b1) (sym (is_one xs some)) (head_cut n inner all (all_tells inner is) [] c c b0 b1 b1 e h)
+    pub packed_cut : (e : EncodeError) → (e ≡ encode.OutOfMemory) × WritesFront b0 (head n inner) b1 → IsWritten packed [] c b0 (refusal e) c b1
+    packed_cut e h = subst (λ z. IsWritten (records_encoding z) [] c b0 (refusal e) c b1) (sym (is_one xs some)) (head_cut n inner all (all_tells inner is) [] c c b0 b1 b1 e h)

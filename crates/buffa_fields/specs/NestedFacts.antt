@@ -5,7 +5,7 @@ use Rattle.buffa_bytes.specs.declared.error.EncodeError.{EncodeError}
 use Rattle.buffa_bytes.specs.declared.error.EncodeError.TheVariants as encode
 use Rattle.buffa_bytes.specs.declared.wire_type.WireType.TheVariants.{LengthDelimited}
 use Rattle.buffa_bytes.specs.Written.{WritesFront}
-use Rattle.buffa_wire.proofs.PassLemmas.{consumes_none, done, refused, written_put, written_same, written_then}
+use Rattle.buffa_wire.proofs.PassLemmas.{consumes_none, written_put, written_same, written_then}
 use Rattle.buffa_wire.specs.BudgetLeft.{BudgetLeft}
 use Rattle.buffa_wire.specs.Cache.{Cache}
 use Rattle.buffa_bytes.specs.Field.{Payload}
@@ -19,6 +19,7 @@ use Rattle.buffa_bytes.specs.Values.{delimited_encoding, tag_encoding}
 use Rattle.buffa_bytes.specs.Varint.{varint_encoding}
 use Rattle.buffa_fields.specs.Nested.{message_cost, message_merged, message_levels, message_records, message_taken}
 use Rattle.buffa_wire.specs.Takes.{ReadsBack, Stays}
+use Rattle.buffa_wire.specs.Pinned.{done, refusal}
 use Rattle.buffa_fields_base.specs.Values.{IfThere}
 use Rattle.buffa_fields.specs.InsideFacts.{delimited_stays, inside_back}
 use Rattle.buffa_fields_base.specs.BackFacts.{no_pieces}
@@ -72,7 +73,7 @@ module _ (n inner : ℕ) (encoding : List ℕ) (is : TellsLength inner encoding)
         let both = written_then (IsSmall spelled_one) (IsSmall encoding) (IsSmall spelled_one) (head n inner) encoding [] slots c1 c1 c2 b0 b1 b2 (λ s. (s, small_encoding s)) r put w in
         written_same (IsSmall spelled_one) (IsSmall spelled_one) (head n inner ++ encoding) spelled_one slots 0 c1 c2 c2 b0 b2 (λ s. s) (λ s. head_then (omega (arith, small_encoding s))) r both
 
-    pub head_cut : (e : EncodeError) → (e ≡ encode.OutOfMemory) × WritesFront b0 (head n inner) b1 → IsWritten spelled_one slots c1 b0 (refused e) c1 b1
+    pub head_cut : (e : EncodeError) → (e ≡ encode.OutOfMemory) × WritesFront b0 (head n inner) b1 → IsWritten spelled_one slots c1 b0 (refusal e) c1 b1
     head_cut e (m, (front, rest, split, is_new, more)) = (
       front,
       is_new,

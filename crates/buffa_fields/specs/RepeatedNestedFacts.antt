@@ -3,7 +3,7 @@ use Rattle.std.proofs.Common.{◌≡◌, ℕ, ◌+◌, ◌==◌, ◌<◌, ◌≤
 use Rattle.std.specs.List.{AllByRecursion}
 use Rattle.buffa_bytes.specs.declared.error.EncodeError.{EncodeError}
 use Rattle.buffa_bytes.specs.declared.wire_type.WireType.TheVariants.{LengthDelimited}
-use Rattle.buffa_wire.proofs.PassLemmas.{appended_twice, done, next_front, next_past, refused, written_none, written_short, written_then}
+use Rattle.buffa_wire.proofs.PassLemmas.{appended_twice, next_front, next_past, written_none, written_short, written_then}
 use Rattle.buffa_wire.specs.BudgetLeft.{BudgetLeft, plus, units}
 use Rattle.buffa_wire.specs.Cache.{Cache}
 use Rattle.buffa_bytes.specs.Number.{IsNumber}
@@ -22,6 +22,7 @@ use Rattle.buffa_fields.specs.RepeatedNested.{messages_cost, messages_levels, me
 use Rattle.buffa_wire.specs.Takes.{ReadsBack, Stays}
 use Rattle.buffa_fields.specs.InsideFacts.{all_inside_back, delimited_stays}
 use Rattle.buffa_wire.specs.Message.{cost_of_payload}
+use Rattle.buffa_wire.specs.Pinned.{done, refusal}
 
 -- ---- costs
 pub messages_stay : (each : ℕ) (cost : ℕ → List ℕ → BudgetLeft) → Stays (messages_cost each cost)
@@ -115,17 +116,17 @@ module _ {X : Type 0} (datum : X → Datum) (encoding slots : X → List ℕ) wh
           subst (λ (z : List ℕ). IsWritten z (slots_to (i + 1)) c0 b0 done c2 b2) (sym encoding_on)
           (subst (λ (z : List ℕ). IsWritten (encoding_to i ++ here) z c0 b0 done c2 b2) (sym slots_on) (with_this done c0 c1 c2 b0 b1 b2 h k))
 
-      pub write_stops : (c0 c1 c2 : Cache) (b0 b1 b2 : List ℕ) (e : EncodeError) → IsWritten (encoding_to i) (slots_to i) c0 b0 done c1 b1 → IsWritten here (own (meaning x)) c1 b1 (refused e) c2 b2 →
-          IsWritten all all_slots c0 b0 (refused e) c2 b2
+      pub write_stops : (c0 c1 c2 : Cache) (b0 b1 b2 : List ℕ) (e : EncodeError) → IsWritten (encoding_to i) (slots_to i) c0 b0 done c1 b1 → IsWritten here (own (meaning x)) c1 b1 (refusal e) c2 b2 →
+          IsWritten all all_slots c0 b0 (refusal e) c2 b2
       write_stops c0 c1 c2 b0 b1 b2 e h k =
           let rest = records_encoding (element_records datum n later) in
           let more = messages_slots encoding slots later in
           let both = encoding_to i ++ here in
           let slots = slots_to i ++ own (meaning x) in
-          subst (λ (z : List ℕ). IsWritten z all_slots c0 b0 (refused e) c2 b2) (append_assoc (encoding_to i) here rest ∙ sym (parts (elements_by_value datum n) meaning xs i x lt is))
-          (subst (λ (z : List ℕ). IsWritten (both ++ rest) z c0 b0 (refused e) c2 b2) (append_assoc (slots_to i) (own (meaning x)) more ∙ sym slots_cut)
+          subst (λ (z : List ℕ). IsWritten z all_slots c0 b0 (refusal e) c2 b2) (append_assoc (encoding_to i) here rest ∙ sym (parts (elements_by_value datum n) meaning xs i x lt is))
+          (subst (λ (z : List ℕ). IsWritten (both ++ rest) z c0 b0 (refusal e) c2 b2) (append_assoc (slots_to i) (own (meaning x)) more ∙ sym slots_cut)
           (written_short (IsSmall both) (IsSmall rest) (IsSmall (both ++ rest)) both rest slots more c0 c2 c2 b0 b2 b2
-          (λ s. (small_both both rest s).0) e (with_this (refused e) c0 c1 c2 b0 b1 b2 h k)))
+          (λ s. (small_both both rest s).0) e (with_this (refusal e) c0 c1 c2 b0 b1 b2 h k)))
 
 -- ---- the encoding reads back
 module _ {X : Type 0} (merged : ℕ → X → List ℕ → Option X) (blank : X) (encoding : X → List ℕ) (level : X → ℕ) (Normal : X → Type 0)

@@ -1,9 +1,8 @@
 //! Members that are messages, as groups.
 
-ghost use Rattle.std.specs.Prelude.{None, Some, ◌≡◌, ◌==◌, ◌+◌, ◌<◌, ◌∷◌, [], length};
+ghost use Rattle.std.specs.Prelude.{None, Some, ◌≡◌, ◌==◌, ◌+◌, ◌<◌, ◌∷◌, length};
 ghost use Rattle.std.specs.Option.{option_map};
 ghost use Rattle.buffa_bytes.specs.declared.wire_type.WireType.TheVariants.{EndGroup, StartGroup};
-ghost use Rattle.buffa_wire.specs.BudgetLeft.{budget_left};
 ghost use Rattle.buffa_wire.specs.Message.{BeginsField};
 ghost use Rattle.buffa_bytes.specs.Gives.{FullOnlyIf};
 ghost use Rattle.buffa_bytes.specs.Number.{IsNumber};
@@ -16,7 +15,6 @@ ghost use Rattle.buffa_fields.specs.Groups.{GroupTakesMemory, group_cost, group_
 ghost use Rattle.buffa_fields.specs.GroupFacts.{group_member_back, group_stays};
 ghost use Rattle.buffa_wire.proofs.ByPayloadLemmas.{by_payload, merged_fields};
 ghost use Rattle.buffa_fields.specs.Nested.{message_levels, message_slots};
-ghost use Rattle.buffa_wire.specs.Takes.{IsTaken};
 ghost use Rattle.buffa_fields.specs.Refusals.{RefusesTaggedField, RefusesGroup, RefusesInGroup};
 ghost use Rattle.buffa_fields_base.specs.Values.{IfThere};
 

@@ -1,7 +1,6 @@
 //! Calls of map fields, as a message makes them.
 
 ghost use Rattle.std.specs.Prelude.{◌≡◌, ◌+◌, length};
-ghost use Rattle.buffa_wire.specs.BudgetLeft.{budget_left};
 ghost use Rattle.buffa_bytes.specs.Gives.{FullOnlyIf};
 ghost use Rattle.buffa_bytes.specs.Number.{IsNumber};
 ghost use Rattle.buffa_wire.specs.Passes.{cap};
@@ -9,9 +8,8 @@ ghost use Rattle.buffa_wire.specs.Encoding.{records_encoding};
 ghost use Rattle.buffa_map_base.specs.Pairs.{means, put};
 ghost use Rattle.buffa_fields_base.specs.Calls.{ChecksWire};
 ghost use Rattle.buffa_fields.specs.KindCalls.{TakesEntry};
-ghost use Rattle.buffa_fields.specs.MapFields.{PairTakesMemory, WritesMap, map_records, pair_cost, pair_taken};
+ghost use Rattle.buffa_fields.specs.MapFields.{PairTakesMemory, WritesMap, map_records};
 ghost use Rattle.buffa_fields.specs.Refusals.{RefusesPairIn};
-ghost use Rattle.buffa_wire.specs.Takes.{IsTaken};
 
 use buffa_map::laws::{limits_are_told_where_needs_are_not_left, size_is_length};
 use buffa_map::map_codec::{

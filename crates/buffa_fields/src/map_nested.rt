@@ -1,6 +1,6 @@
 //! Map fields of messages as members.
 
-ghost use Rattle.std.specs.Prelude.{◌≡◌, ◌≢◌, ◌+◌, ◌==◌, [], OnErr};
+ghost use Rattle.std.specs.Prelude.{◌≢◌, ◌+◌, [], OnErr};
 ghost use Rattle.std.proofs.Common.{sym, ◌∙◌};
 ghost use Rattle.std.specs.List.{IsDistinct};
 ghost use Rattle.std.specs.Map.{keys_of};

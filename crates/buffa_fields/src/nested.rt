@@ -1,12 +1,11 @@
 //! Members that are messages.
 
-ghost use Rattle.std.specs.Prelude.{None, ◌≡◌, ◌==◌, ◌++◌, ◌∷◌, [], List, ℕ, length};
+ghost use Rattle.std.specs.Prelude.{None, ◌≡◌, ◌∷◌, [], List, ℕ, length};
 ghost use Rattle.std.specs.Option.{option_map};
 ghost use Rattle.buffa_bytes.specs.declared.wire_type.WireType.TheVariants.{LengthDelimited};
-ghost use Rattle.buffa_wire.specs.BudgetLeft.{budget_left};
 ghost use Rattle.buffa_bytes.specs.Gives.{FullOnlyIf};
 ghost use Rattle.buffa_bytes.specs.Number.{IsNumber};
-ghost use Rattle.buffa_wire.specs.Passes.{IsNext, IsSized, IsWritten, cap};
+ghost use Rattle.buffa_wire.specs.Passes.{IsNext, IsSized, cap};
 ghost use Rattle.buffa_bytes.specs.Front.{check_wire};
 ghost use Rattle.buffa_wire.specs.Records.{bytes};
 ghost use Rattle.buffa_wire.specs.Encoding.{records_encoding};
@@ -15,7 +14,6 @@ ghost use Rattle.buffa_fields_base.specs.Calls.{ChecksWire, TakesIn};
 ghost use Rattle.buffa_fields.specs.KindCalls.{WritesMessage};
 ghost use Rattle.buffa_fields.specs.Nested.{FitsInside, MessageTakesMemory, message_cost, message_merged, message_levels, message_records, message_slots, message_taken};
 ghost use Rattle.buffa_fields.specs.NestedFacts.{TellsLength, head, nested_back, message_stays};
-ghost use Rattle.buffa_wire.specs.Takes.{IsTaken};
 ghost use Rattle.buffa_fields.specs.Refusals.{RefusesTaggedField, RefusesInside, RefusesMessage};
 ghost use Rattle.buffa_fields_base.specs.Values.{IfThere};
 

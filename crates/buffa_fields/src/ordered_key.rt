@@ -1,7 +1,6 @@
 //! Keys of maps that are walked in the order of their keys.
 
-ghost use Rattle.std.specs.Prelude.{◌≡◌, refl, Bool, true, false};
-ghost use Rattle.std.specs.Bool.{beq};
+ghost use Rattle.std.specs.Prelude.{◌≡◌, refl};
 ghost use Rattle.std.specs.Cmp.{IsTotalOrder, bool_cmp_total, int_cmp_total, nat_cmp_total, unsigned_ties};
 ghost use Rattle.std.specs.Cmp.Lexicographic.{nat_list_cmp_total, slice_cmp, texts_ties};
 ghost use Rattle.std.specs.Ordering.{bool_cmp, eq_by_cmp, int_cmp, nat_cmp};

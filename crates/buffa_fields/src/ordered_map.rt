@@ -1,6 +1,6 @@
 //! Map fields as members that are written in the order of their keys.
 
-ghost use Rattle.std.specs.Prelude.{◌≡◌, ◌+◌, ◌==◌, []};
+ghost use Rattle.std.specs.Prelude.{◌+◌, []};
 ghost use Rattle.std.specs.BTreeMap.{insert_entry};
 ghost use Rattle.std.proofs.Common.{sym, ◌∙◌};
 ghost use Rattle.buffa_bytes.specs.Gives.{FullOnlyIf};

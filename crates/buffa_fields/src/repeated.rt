@@ -1,6 +1,6 @@
 //! Members that are lists.
 
-ghost use Rattle.std.specs.Prelude.{[], map, refl, ◌==◌};
+ghost use Rattle.std.specs.Prelude.{[], map, refl};
 ghost use Rattle.std.specs.List.{AllByRecursion};
 ghost use Rattle.buffa_fields.specs.Lists.{ElementsTakeMemory, check_list_wire, element_records, elements_taken};
 ghost use Rattle.buffa_fields.specs.ListFacts.{elements_back};

@@ -1,9 +1,8 @@
 //! Members that are lists of messages, as groups.
 
-ghost use Rattle.std.specs.Prelude.{[], ◌≡◌, ◌==◌, IsOk, map};
+ghost use Rattle.std.specs.Prelude.{[], ◌≡◌, IsOk, map};
 ghost use Rattle.std.specs.List.{AllByRecursion};
 ghost use Rattle.buffa_bytes.specs.declared.wire_type.WireType.TheVariants.{StartGroup};
-ghost use Rattle.buffa_wire.specs.BudgetLeft.{budget_left};
 ghost use Rattle.buffa_bytes.specs.Gives.{FullOnlyIf};
 ghost use Rattle.buffa_bytes.specs.Number.{IsNumber};
 ghost use Rattle.buffa_wire.specs.Passes.{IsNext, IsSized};
@@ -17,7 +16,6 @@ ghost use Rattle.buffa_fields.specs.RepeatedGroups.{GroupsTakeMemory, groups_cos
 ghost use Rattle.buffa_fields.specs.RepeatedGroupFacts.{groups_back, groups_stay};
 ghost use Rattle.buffa_fields.specs.RepeatedNested.{messages_levels, messages_slots};
 ghost use Rattle.buffa_wire.proofs.ByPayloadLemmas.{by_payload, merged_fields};
-ghost use Rattle.buffa_wire.specs.Takes.{IsTaken};
 ghost use Rattle.buffa_fields.specs.Refusals.{RefusesTaggedField, RefusesNew};
 
 use crate::group::{group_len, take_group, write_group};

@@ -1,12 +1,11 @@
 //! Members that are lists of messages.
 
-ghost use Rattle.std.specs.Prelude.{[], ◌≡◌, ◌==◌, IsOk, map};
+ghost use Rattle.std.specs.Prelude.{[], ◌≡◌, IsOk, map};
 ghost use Rattle.std.specs.List.{AllByRecursion};
 ghost use Rattle.buffa_bytes.specs.declared.wire_type.WireType.TheVariants.{LengthDelimited};
-ghost use Rattle.buffa_wire.specs.BudgetLeft.{budget_left};
 ghost use Rattle.buffa_bytes.specs.Gives.{FullOnlyIf};
 ghost use Rattle.buffa_bytes.specs.Number.{IsNumber};
-ghost use Rattle.buffa_wire.specs.Passes.{IsNext, IsSized, IsWritten};
+ghost use Rattle.buffa_wire.specs.Passes.{IsNext, IsSized};
 ghost use Rattle.buffa_bytes.specs.Front.{check_wire};
 ghost use Rattle.buffa_wire.specs.Encoding.{records_encoding};
 ghost use Rattle.buffa_fields_base.specs.Calls.{ChecksWire, TakesIn};
@@ -14,7 +13,6 @@ ghost use Rattle.buffa_fields.specs.KindCalls.{WritesMessageList};
 ghost use Rattle.buffa_fields.specs.Nested.{FitsInside, MessageTakesMemory, message_merged};
 ghost use Rattle.buffa_fields.specs.RepeatedNested.{MessagesTakeMemory, messages_cost, messages_levels, messages_records, messages_slots, messages_taken};
 ghost use Rattle.buffa_fields.specs.RepeatedNestedFacts.{messages_back, messages_stay};
-ghost use Rattle.buffa_wire.specs.Takes.{IsTaken};
 ghost use Rattle.buffa_fields.specs.Refusals.{RefusesTaggedField, RefusesNew};
 
 use crate::nested::{message_len, write_message};

@@ -1,4 +1,3 @@
 -- The lemmas that this crate hands out.
 pub mod StandsLemmas
-pub mod WireLemmas
 pub mod ValueLemmas

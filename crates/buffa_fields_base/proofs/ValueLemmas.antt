@@ -9,7 +9,8 @@ use Rattle.buffa_bytes.specs.WireType.{same_wire}
 use Rattle.buffa_bytes.specs.declared.error.DecodeError.{DecodeError}
 use Rattle.buffa_bytes.specs.declared.error.DecodeError.TheVariants.{OutOfMemory, WireTypeMismatch}
 use Rattle.buffa_bytes.specs.declared.wire_type.WireType.{WireType}
-use Rattle.buffa_map_base.proofs.EntryLemmas.{same_false, value_complete, value_sound}
+use Rattle.buffa_bytes.proofs.WireLemmas.{same_false, checked_other}
+use Rattle.buffa_map_base.proofs.EntryLemmas.{value_complete, value_sound}
 use Rattle.buffa_map_base.specs.Codec.{Reading, RefusesValue, Spends, Tells, ValueFault, value_at}
 use Rattle.buffa_wire.proofs.KeepLemmas.{content_no_limit}
 use Rattle.buffa_wire.proofs.MessageLemmas.{NoLimit, as_no_limit}
@@ -17,7 +18,6 @@ use Rattle.buffa_wire.proofs.SpentLemmas.{PaysAtMost_nothing}
 use Rattle.buffa_wire.specs.BudgetLeft.{BudgetLeft, nothing}
 use Rattle.buffa_wire.specs.Message.{IsLimit}
 use Rattle.buffa_wire.specs.Takes.{IsTaken, Need, Taker, Untaken}
-use Rattle.buffa_fields_base.proofs.WireLemmas.{checked_other}
 use Rattle.buffa_fields_base.specs.ValueFacts.{content_payload, open_level}
 use Rattle.buffa_fields_base.specs.Values.{all_of, field_value_at, free, value_taken}
 

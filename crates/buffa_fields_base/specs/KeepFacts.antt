@@ -23,13 +23,12 @@ use Rattle.buffa_wire.proofs.KeepLemmas.{all_fields, enough_unknown, field_short
 use Rattle.buffa_wire.proofs.JoinLemmas.{payload_of_record, record_of_payload}
 use Rattle.buffa_wire.specs.Kept.{keep_need, kept_record_at, spent_of}
 use Rattle.buffa_fields_base.specs.Keep.{AllNumbers, IsFieldThere, KeepTakesMemory, keep_takes}
-use Rattle.buffa_fields_base.specs.PairFacts.{both_true}
 use Rattle.buffa_wire.specs.Takes.{IsTaken, Leads, Piece, ReadsBack, Taker, Untaken, joined_fields}
 use Rattle.buffa_wire.proofs.SequenceLemmas.{err_same}
 use Rattle.buffa_wire.proofs.SpentLemmas.{is_there}
 use Rattle.buffa_fields_base.specs.Layout.{FieldIsRefused}
 use Rattle.buffa_bytes.specs.Gives.{FullOnlyIf}
-use Rattle.std.proofs.lemmas.Bool.{cases_lt}
+use Rattle.std.proofs.lemmas.Bool.{cases_lt, and_from}
 
 -- ---- a payload makes a record
 takes_record : (d n : ℕ) (w : WireType) (p : List ℕ) (x : Datum) → IsPayload d n x p → wire_of x ≡ w → (v : List (ℕ × Datum)) → keep_takes d v n w p ≡ Some (v ++ (n, x) ∷ [])
@@ -68,7 +67,7 @@ all_numbers (y ∷ ys) = (refl, all_numbers ys)
 
 pub both_numbers : (P Q : ℕ → Bool) (v : List (ℕ × Datum)) → AllNumbers P v → AllNumbers Q v → AllNumbers (λ n. P n && Q n) v
 both_numbers P Q [] h k = tt
-both_numbers P Q (y ∷ ys) h k = (both_true (P y.0) (Q y.0) h.0 k.0, both_numbers P Q ys h.1 k.1)
+both_numbers P Q (y ∷ ys) h k = (and_from (P y.0) (Q y.0) h.0 k.0, both_numbers P Q ys h.1 k.1)
 
 -- ---- an end tag takes no memory
 pub takes_no_end : (d s : ℕ) (w : WireType) (bs : List ℕ) → RecordTakesMemory d s w bs → w ≢ wire.EndGroup

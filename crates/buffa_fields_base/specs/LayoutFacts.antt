@@ -12,7 +12,7 @@ use Rattle.buffa_wire.specs.Message.{IsFieldMerged}
 use Rattle.buffa_wire.specs.Parse.{Fits}
 use Rattle.buffa_wire.specs.Passes.{IsNext, IsSized, IsSmall, IsWritten, cap}
 use Rattle.buffa_wire.specs.Cache.{Cache, left}
-use Rattle.buffa_wire.proofs.PassLemmas.{appended_none, appended_twice, done, next_front, next_past, refused, written_none, written_short, written_then}
+use Rattle.buffa_wire.proofs.PassLemmas.{appended_none, appended_twice, next_front, next_past, written_none, written_short, written_then}
 use Rattle.buffa_wire.specs.Records.{Datum, records_of}
 use Rattle.buffa_wire.specs.Encoding.{records_encoding}
 use Rattle.buffa_fields_base.specs.Layout.{Choice, Comes, Follow, IsCounted, IsPut, IsFieldKept, Layout, Passed, Seen, Shape, Took, both_need, both_take, more, passes, visited}
@@ -22,6 +22,7 @@ use Rattle.buffa_fields_base.specs.PairFacts.{first_taken, other_taken}
 use Rattle.buffa_wire.specs.Takes.{IsTaken, Need, Taker, cost_of, costs_nothing, merged_of}
 use Rattle.buffa_wire.proofs.TakesLemmas.{back as leads_back, skipped, skipped_full, taken_full, taken_merges}
 use Rattle.buffa_wire.proofs.EncodingLemmas.{records_encoding-append}
+use Rattle.buffa_wire.specs.Pinned.{done, refusal}
 
 -- ---- one of two
 pub choose : {A B C : Type 0} (t : Bool) → Choice t A B → (t ≡ true → A → C) → (t ≡ false → B → C) → C
@@ -157,12 +158,12 @@ is_put rs ss z sink cache old new c1 c2 r (is, same, h) k = (
 )
 
 -- nothing is, once memory ran out
-pub put_none : (rs : List (ℕ × Datum)) (ss : List ℕ) (z : Seen) (sink cache : ℕ) (new : List ℕ) (c : Cache) (e : EncodeError) → IsPut sink cache new c (refused e) z → IsPut sink cache new c (refused e) (more rs ss z)
+pub put_none : (rs : List (ℕ × Datum)) (ss : List ℕ) (z : Seen) (sink cache : ℕ) (new : List ℕ) (c : Cache) (e : EncodeError) → IsPut sink cache new c (refusal e) z → IsPut sink cache new c (refusal e) (more rs ss z)
 unfolding IsPut more
 put_none rs ss z sink cache new c e (is, same, h) = (
   is,
   same,
-  subst (λ (l : List ℕ). IsWritten l (z.slots ++ ss) z.first z.before (refused e) c new) (sym (records_encoding-append z.records rs))
+  subst (λ (l : List ℕ). IsWritten l (z.slots ++ ss) z.first z.before (refusal e) c new) (sym (records_encoding-append z.records rs))
       (written_short (IsSmall (records_encoding z.records)) (IsSmall (records_encoding rs)) (IsSmall (records_encoding z.records ++ records_encoding rs)) (records_encoding z.records) (records_encoding rs) z.slots ss z.first c c z.before new new
       (λ h. (small_both (records_encoding z.records) (records_encoding rs) h).0) e h),
 )
@@ -197,7 +198,7 @@ unfolding Follow
 follow_ok ss c (Ok _) ok h = h
 follow_ok ss c (Err e) ok h = cc
 
-pub follow_none : (ss rest : List ℕ) (c : Cache) (e : EncodeError) → Follow rest (refused e) c
+pub follow_none : (ss rest : List ℕ) (c : Cache) (e : EncodeError) → Follow rest (refusal e) c
 unfolding Follow
 follow_none ss rest c e = tt
 

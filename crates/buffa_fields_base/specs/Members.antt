@@ -1,6 +1,7 @@
 -- Lists of members. A message names its members by these, one after the other.
 use Rattle.std.specs.Prelude.{◌≡◌, ℕ, ◌==◌, ◌&&◌, ◌||◌, true, false, not, max, List, [], ◌++◌, Result, Err, refl}
 use Rattle.std.proofs.Common.{sym}
+use Rattle.std.proofs.lemmas.Bool.{and_from}
 use Rattle.buffa_bytes.specs.declared.error.DecodeError.{DecodeError}
 use Rattle.buffa_wire.specs.Records.{Datum, height}
 use Rattle.buffa_wire.specs.Kept.{keep_need}
@@ -11,7 +12,7 @@ use Rattle.buffa_wire.specs.Takes.{costs_nothing}
 use Rattle.buffa_fields_base.specs.Layout.{Choice, IsFieldKept, Layout, Passed, ReadsBackTo, Shape, Took, both_need, both_take, is_number, more, passes, visited}
 use Rattle.buffa_fields_base.specs.LayoutFacts.{field_apart, field_asks, field_taken, is_kept, kept_asks, kept_stays, is_passed, passed_asks, more_none, seen_field}
 use Rattle.buffa_fields_base.specs.BackFacts.{no_pieces}
-use Rattle.buffa_fields_base.specs.PairFacts.{both_back, both_stay, both_true}
+use Rattle.buffa_fields_base.specs.PairFacts.{both_back, both_stay}
 
 -- a member under a number, and the others
 abbrev pub field : {M P A B : Type 0} → ℕ → (M → P) → Shape P A → Layout M B → Layout M (A × B)
@@ -42,7 +43,7 @@ field k get s l = record {
       field_asks s k d (get old) (get new) n w bs before r after rest (l.asks before.unknown d n w bs) (l.Same old new) (l.Taken d old n w bs before r new after rest) (l.asks_is d old n w bs before r new after rest) h;
   seen_is = λ m z. seen_field s k (get m) (l.records (l.meaning m)) (l.slots (l.meaning m)) z (l.seen m (visited s k (get m) z)) (l.seen_is m (visited s k (get m) z));
   within_all = λ v. (refl, l.within_all v.1);
-  within_both = λ P Q v h j. (both_true (P k) (Q k) h.0 j.0, l.within_both P Q v.1 h.1 j.1);
+  within_both = λ P Q v h j. (and_from (P k) (Q k) h.0 j.0, l.within_both P Q v.1 h.1 j.1);
   Owes = ReadsBackTo s × l.Owes;
   back = λ owes. both_back k s.takes l.takes l.declares l.sound s.blank l.blank (s.records k) l.records s.normal l.normal s.levels l.levels l.within l.within_both (owes.0.back k) (l.back owes.1);
 }

@@ -1,6 +1,6 @@
 -- What a field and the others owe together.
 use Rattle.std.proofs.Common.{◌≡◌, ◌≢◌, inl, inr, ℕ, ◌==◌, ◌≤◌, max, Bool, true, false, not, ◌&&◌, List, [], ◌∷◌, ◌++◌, Result, Ok, Err, refl, sym, ap, subst, ◌∙◌, arith, append_assoc, if◌then◌else◌}
-use Rattle.std.proofs.lemmas.Bool.{eq-eqb, eqb-true, ltb-true, ne_eqb}
+use Rattle.std.proofs.lemmas.Bool.{and_parts, eq-eqb, eqb-true, ltb-true, ne_eqb}
 use Rattle.std.specs.Option.{option_map}
 use Rattle.std.specs.Prelude.{nat_lt}
 use Rattle.buffa_bytes.specs.declared.wire_type.WireType.{WireType}
@@ -37,22 +37,11 @@ pub leads_both : {X : Type 0} (T : Taker X) (P : ℕ → Bool) (d : ℕ) (s t u 
 leads_both T P d s t u [] gs h l = subst (λ z. Leads T P d z gs u) (sym h) l
 leads_both T P d s t u (x ∷ fs) gs (is, tag, payload, v, h, j) l = (is, tag, payload, v, h, leads_both T P d v t u fs gs j l)
 
-and_left : (a b : Bool) → (a && b) ≡ true → a ≡ true
-and_left true b h = refl
-and_left false b h = cc
-
-and_right : (a b : Bool) → (a && b) ≡ true → b ≡ true
-and_right true b h = h
-and_right false b h = cc
-
-pub both_true : (a b : Bool) → a ≡ true → b ≡ true → (a && b) ≡ true
-both_true true b h k = k
-both_true false b h k = cc
-
 pub number_of_test : (n : ℕ) → is_number n ≡ true → IsNumber n
 number_of_test n h =
-    let low = ltb-true 0 n (and_left (nat_lt 0 n) (nat_lt n 536870912) h) in
-    let high = ltb-true n 536870912 (and_right (nat_lt 0 n) (nat_lt n 536870912) h) in
+    let both = and_parts (nat_lt 0 n) (nat_lt n 536870912) h in
+    let low = ltb-true 0 n both.0 in
+    let high = ltb-true n 536870912 both.1 in
     (omega (arith, low), omega (arith, high))
 
 module _ {A B : Type 0} (k : ℕ) (f : Taker A) (g : Taker B) (P : ℕ → Bool) where
@@ -66,8 +55,9 @@ module _ {A B : Type 0} (k : ℕ) (f : Taker A) (g : Taker B) (P : ℕ → Bool)
   others : (d : ℕ) (a : A) (s t : B) (fs : List Piece) → Leads g (λ n. not (n == k) && P n) d s fs t → Leads (both_take k f g) P d (a, s) fs (a, t)
   others d a s t [] h = ap (λ x. (a, x)) h
   others d a s t (x ∷ fs) (is, tag, payload, u, h, l) =
-      let off = same_false_only (x.number == k) (and_left (not (x.number == k)) (P x.number) is) in
-      (and_right (not (x.number == k)) (P x.number) is, tag, payload, (a, u), rw (off, h) refl, others d a u t fs l)
+      let both = and_parts (not (x.number == k)) (P x.number) is in
+      let off = same_false_only (x.number == k) both.0 in
+      (both.1, tag, payload, (a, u), rw (off, h) refl, others d a u t fs l)
 
 pub both_back : {A B : Type 0} (k : ℕ) (f : Taker A) (g : Taker B) (D : ℕ → Bool) (sound : Bool) (a : A) (b : B)
     (fr : A → List (ℕ × Datum)) (gr : B → List (ℕ × Datum)) (fn : A → Type 0) (gn : B → Type 0) (fl : A → ℕ) (gl : B → ℕ) (within : (ℕ → Bool) → B → Type 0) →
@@ -77,10 +67,10 @@ pub both_back : {A B : Type 0} (k : ℕ) (f : Taker A) (g : Taker B) (D : ℕ �
     (is_number k && not (D k) && sound) ≡ true → (P : ℕ → Bool) (d : ℕ) (v : A × B) → (P k ≡ true) × within P v.1 → Fits (records_of (fr v.0 ++ gr v.1)) → fn v.0 × gn v.1 × within (λ n. not (n == k)) v.1 → max (fl v.0) (gl v.1) ≤ d →
     ReadsBack (both_take k f g) P d (a, b) (records_encoding (fr v.0 ++ gr v.1)) v
 both_back k f g D sound a b fr gr fn gn fl gl within both one more ok P d v has fits normal low =
-    let two = and_left (is_number k && not (D k)) sound ok in
+    let two = and_parts (is_number k && not (D k)) sound ok in
     let all = fits_both (fr v.0) (gr v.1) fits in
-    let x = one (number_of_test k (and_left (is_number k) (not (D k)) two)) d v.0 all.0 normal.0 (omega (arith, low)) in
-    let y = more (and_right (is_number k && not (D k)) sound ok) (λ n. not (n == k) && P n) d v.1 (both (λ n. not (n == k)) P v.1 normal.2 has.1) all.1 normal.1 (omega (arith, low)) in
+    let x = one (number_of_test k (and_parts (is_number k) (not (D k)) two.0).0) d v.0 all.0 normal.0 (omega (arith, low)) in
+    let y = more two.1 (λ n. not (n == k) && P n) d v.1 (both (λ n. not (n == k)) P v.1 normal.2 has.1) all.1 normal.1 (omega (arith, low)) in
     record {
       pieces = x.pieces ++ y.pieces;
       spelled = records_encoding-append (fr v.0) (gr v.1) ∙ (λ i. x.spelled i ++ y.spelled i) ∙ sym (joined-append x.pieces y.pieces);

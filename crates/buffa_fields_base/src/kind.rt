@@ -1,6 +1,6 @@
 //! Proto types whose values can stand in a field by themselves.
 
-ghost use Rattle.std.specs.Prelude.{◌≡◌, ◌++◌, ℕ, Bool, true, IsTrue, ◌↔◌};
+ghost use Rattle.std.specs.Prelude.{◌≡◌, ◌++◌, ℕ, Bool, true};
 ghost use Rattle.buffa_wire.specs.Records.{Datum};
 ghost use Rattle.buffa_wire.specs.Encoding.{tagged_encoding};
 ghost use Rattle.buffa_bytes.specs.Values.{tag_encoding};

@@ -1,11 +1,9 @@
 //! A struct of one's own is a message.
 
-ghost use Rattle.std.specs.Prelude.{◌≡◌, ◌≢◌, ◌≤◌, [], IsOk, Ok, Some, refl, ℕ};
+ghost use Rattle.std.specs.Prelude.{◌≡◌, ◌≢◌, [], IsOk, Ok, refl};
 ghost use Rattle.std.proofs.Common.{ap, ◌∙◌};
 ghost use Rattle.buffa_bytes.specs.Gives.{FullOnlyIf};
-ghost use Rattle.buffa_wire.specs.Parse.{Fits};
-ghost use Rattle.buffa_wire.specs.Passes.{IsNext, IsSized, IsWritten};
-ghost use Rattle.buffa_wire.specs.Records.{records_of};
+ghost use Rattle.buffa_wire.specs.Passes.{IsNext, IsSized};
 ghost use Rattle.buffa_wire.specs.Encoding.{records_encoding};
 ghost use Rattle.buffa_fields_base.specs.Calls.{MemberTakes, MembersReadBack, MergesIn, WritesMembers};
 ghost use Rattle.buffa_fields_base.specs.LayoutFacts.{comes_free, reads_back};

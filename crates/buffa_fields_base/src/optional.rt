@@ -1,6 +1,6 @@
 //! Members that may be absent.
 
-ghost use Rattle.std.specs.Prelude.{[], None, refl, ◌==◌};
+ghost use Rattle.std.specs.Prelude.{[], None, refl};
 ghost use Rattle.std.specs.Option.{option_map};
 ghost use Rattle.buffa_bytes.specs.Front.{check_wire};
 ghost use Rattle.buffa_fields_base.specs.Values.{IfThere, RefusesAlone, ValueTakesMemory, free, some_taken};

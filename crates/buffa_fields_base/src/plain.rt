@@ -1,6 +1,6 @@
 //! Members that aren't written where they are the default.
 
-ghost use Rattle.std.specs.Prelude.{[], ◌∷◌, refl, ◌==◌};
+ghost use Rattle.std.specs.Prelude.{[], refl};
 ghost use Rattle.buffa_bytes.specs.Front.{check_wire};
 ghost use Rattle.buffa_fields_base.specs.Values.{RefusesAlone, ValueTakesMemory, free, value_taken};
 ghost use Rattle.buffa_fields_base.specs.ValueFacts.{plain_back};

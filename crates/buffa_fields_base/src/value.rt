@@ -1,17 +1,14 @@
 //! The value of a field, by a codec.
 
 ghost use Rattle.std.specs.Prelude.{◌≡◌, ◌∷◌, ◌++◌, [], length, Err};
-ghost use Rattle.buffa_wire.specs.BudgetLeft.{budget_left};
 ghost use Rattle.buffa_bytes.specs.Gives.{FullOnlyIf};
 ghost use Rattle.buffa_bytes.specs.Number.{IsNumber};
 ghost use Rattle.buffa_wire.specs.Passes.{cap};
 ghost use Rattle.buffa_wire.specs.Encoding.{records_encoding};
 ghost use Rattle.buffa_bytes.specs.Values.{tag_encoding};
 ghost use Rattle.buffa_bytes.specs.Written.{Writes};
-ghost use Rattle.buffa_bytes.specs.Front.{check_wire};
 ghost use Rattle.buffa_fields_base.specs.Calls.{ChecksWire, TakesValue};
-ghost use Rattle.buffa_wire.specs.Takes.{IsTaken};
-ghost use Rattle.buffa_fields_base.specs.Values.{RefusesAlone, ValueTakesMemory, free, value_taken};
+ghost use Rattle.buffa_fields_base.specs.Values.{RefusesAlone, ValueTakesMemory};
 
 use crate::kind::Kind;
 use buffa_map_base::codec::{MapCodec, MapValueDecode};

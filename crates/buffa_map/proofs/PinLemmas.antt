@@ -24,7 +24,7 @@ use Rattle.buffa_map_base.specs.Run.{EntryRecord, ArePaid, RecordFault, Run, Run
 use Rattle.buffa_map_base.proofs.EntryLemmas.{Plain, need_by-nothing, value_faulty}
 use Rattle.buffa_map.proofs.FrontLemmas.{paid_no_fault, same_front, same_taken}
 use Rattle.buffa_map_base.proofs.NeedLemmas.{need_free}
-use Rattle.buffa_map_base.proofs.ResultLemmas.{not_ok}
+use Rattle.buffa_bytes.proofs.ResultLemmas.{not_ok}
 use Rattle.buffa_map_base.proofs.RunLemmas.{InFault, in_faulty, run_complete, run_faulty, said_complete, said_faulty, extra_kept}
 use Rattle.buffa_map_base.proofs.TailLemmas.{no_tag, one_number, one_wire, one_after}
 

@@ -52,16 +52,16 @@ fn read_anew<KC: MapCodec, VC: MapCodec, C: MapStorage<Key = KC::Value, Value = 
     number: u32,
     buf: &mut B,
     ctx: DecodeContext<'_>,
-    kept: &mut UnknownFields,
+    aside: &mut UnknownFields,
 ) -> Result<(), DecodeError>
     ensures ok { OnOk result (ReadsAnew ⟦<Field<KC, VC, C> as Rewrites>⟧.rewriter number map.new
-        B.unread buf.old buf.new ctx.entry ctx.exit kept.old kept.new) }
+        B.unread buf.old buf.new ctx.entry ctx.exit aside.old aside.new) }
     ensures err { IfErr result (StopsAnew ⟦<Field<KC, VC, C> as Rewrites>⟧.rewriter number map.new
-        B.unread buf.old buf.new ctx.entry ctx.exit kept.old kept.new) }
+        B.unread buf.old buf.new ctx.entry ctx.exit aside.old aside.new) }
     ensures kept { B.beyond buf.new ≡ B.beyond buf.old }
 {
     map.storage_clear();
-    read_run_by::<KC, VC, C, B, UnknownFields>(alloc, map, number, buf, ctx, kept)
+    read_run_by::<KC, VC, C, B, UnknownFields>(alloc, map, number, buf, ctx, aside)
 }
 
 // Writes the map, and the records of the list behind it.
@@ -70,13 +70,13 @@ fn write_with<
     VC: MapCodec,
     C: MapWrite + MapStorage<Key = KC::Value, Value = VC::Value>,
     S: EncodeSink,
->(map: &C, number: u32, kept: &UnknownFields, sink: &mut S) -> Result<(), EncodeError>
+>(map: &C, number: u32, aside: &UnknownFields, sink: &mut S) -> Result<(), EncodeError>
     requires { IsNumber number }
     ensures { WritesWalkIn C.equal C.walks C.pairs map.now KC.writing VC.writing KC.fits VC.fits number
-        kept.now.records S.written S.room sink.old sink.new result }
+        aside.now.records S.written S.room sink.old sink.new result }
 {
     map.storage_write::<KC, VC, S>(number, sink)?;
-    kept.write_to(sink)
+    aside.write_to(sink)
 }
 
 /// Rewrites a map field: empties the map, reads the records to the end of the buffer into it, and writes

@@ -1,18 +1,16 @@
 -- The fields of an entry: what is read of them, and the grammar.
 use Rattle.std.proofs.Common.{◌≡◌, ◌≢◌, ◌⊎◌, inl, inr, ℕ, ◌==◌, ◌<◌, Bool, true, false, List, ◌++◌, length, Result, Ok, Err, refl, sym, ap, subst, ◌∙◌, arith, append_assoc, length-append}
-use Rattle.std.proofs.lemmas.Bool.{eqb-true, eqb-false, ne_eqb, false_from_ne_true}
+use Rattle.std.proofs.lemmas.Bool.{eqb-true, eqb-false, ne_eqb}
 use Rattle.buffa_bytes.proofs.ListLemmas.{cut_twice}
 use Rattle.buffa_bytes.specs.Gives.{◌>>=◌}
 use Rattle.buffa_bytes.specs.Field.{IsTag, TakesTag}
 use Rattle.buffa_bytes.specs.Content.{Content, HasContent, content_at}
-use Rattle.buffa_bytes.specs.Front.{check_wire}
-use Rattle.buffa_bytes.specs.WireType.{same_wire}
 use Rattle.buffa_bytes.specs.declared.wire_type.WireType.{WireType}
 use Rattle.buffa_bytes.specs.declared.error.DecodeError.{DecodeError}
-use Rattle.buffa_bytes.specs.declared.error.DecodeError.TheVariants.{WireTypeMismatch}
 use Rattle.buffa_bytes.proofs.StepLemmas.{Agrees, agree_bind, agree_if, agree_ok, agree_err, agree_weaker}
-use Rattle.buffa_bytes.proofs.FieldLemmas.{tag_as, tag_sound, tag_complete, tag_faulty, tag_some, payload_sound, payload_complete, payload_faulty, same_refl, same_true, tag_read}
+use Rattle.buffa_bytes.proofs.FieldLemmas.{tag_as, tag_sound, tag_complete, tag_faulty, tag_some, payload_sound, payload_complete, payload_faulty, tag_read}
 use Rattle.buffa_bytes.proofs.ContentLemmas.{content_sound, content_complete, content_taken, content_faulty}
+use Rattle.buffa_bytes.proofs.WireLemmas.{check_sound, check_same, check_differs}
 use Rattle.buffa_wire.specs.BudgetLeft.{BudgetLeft, Lacks, need_by, nothing}
 use Rattle.buffa_wire.proofs.SpentLemmas.{PaysAtMost_nothing, Pays_nothing}
 use Rattle.buffa_wire.specs.Sequence.{ParsesTo}
@@ -20,22 +18,6 @@ use Rattle.buffa_map_base.specs.Codec.{Reading, RefusesValue, Spends, Tells, Val
 use Rattle.buffa_map_base.specs.Entry.{CodecFault, IsCodecField, codec_at, blanks, IsEntryField, EntryFieldFault, IsEntry, FaultOf, entry_field_at, entry_of}
 use Rattle.buffa_map_base.specs.declared.map_entry.MapEntry.{MapEntry}
 use Rattle.buffa_wire.proofs.SequenceLemmas.{Answers, answer, answers_as, along_sound, along_complete, along_faulty, ParsesTo-more}
-
-pub same_false : (v w : WireType) → w ≢ v → same_wire v w ≡ false
-same_false v w n = false_from_ne_true (same_wire v w) (λ h. n (sym (same_true v w h)))
-
-pub same_differs : (v w : WireType) → same_wire v w ≡ false → w ≢ v
-same_differs v w h e = let k : same_wire v v ≡ false = subst (λ z. same_wire v z ≡ false) e h in let t = same_refl v in cc
-
--- what is checked of a wire type
-pub check_sound : (f : ℕ) (v w : WireType) → Agrees (check_wire f v w) (λ _. w ≡ v) (λ e. (w ≢ v) × (e ≡ WireTypeMismatch f v w))
-check_sound f v w = agree_if (same_wire v w) (λ h. record { holds = sym (same_true v w h) }) (λ h. record { holds = (same_differs v w h, refl) })
-
-pub check_same : (f : ℕ) (v w : WireType) → w ≡ v → check_wire f v w ≡ Ok tt
-check_same f v w e = rw e (rw (same_refl v) refl)
-
-pub check_differs : (f : ℕ) (v w : WireType) → w ≢ v → check_wire f v w ≡ Err (WireTypeMismatch f v w)
-check_differs f v w n = rw (same_false v w n) refl
 
 -- ---- budgets
 -- what a codec spends, whether its payloads are nested or not

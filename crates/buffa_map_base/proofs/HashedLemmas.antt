@@ -6,6 +6,7 @@ use Rattle.std.specs.Map.{lookup_entry, lookup, keys_of, set_value}
 use Rattle.std.specs.List.{IsDistinct}
 use Rattle.std.specs.List.Sorted.{IsPermutation}
 use Rattle.std.proofs.lemmas.List.Sorted.{IsPermutation-map}
+use Rattle.std.proofs.lemmas.Map.Lookups.{map_keys}
 use Rattle.indexmap.proofs.MapLemmas.{lookup_permutation}
 use Rattle.indexmap.specs.IndexMap.{insert_entry}
 use Rattle.buffa_map_base.specs.Pairs.{means, put, SamePairs}
@@ -27,6 +28,11 @@ keys-beside (e ∷ es) = ap (λ z. e.0 ∷ z) (keys-beside es)
 pub values-beside : {K V : Type 0} (es : List (K × V)) → map (λ (z : K × (K × V)). z.1) (map beside es) ≡ es
 values-beside [] = refl
 values-beside (e ∷ es) = ap (λ z. e ∷ z) (values-beside es)
+
+-- entries whose keys are told by something else have the same values
+pub values-map_keys : {K B X : Type 0} (f : K → B) (es : List (K × X)) → map (λ (e : B × X). e.1) (map_keys f es) ≡ map (λ (e : K × X). e.1) es
+values-map_keys f [] = refl
+values-map_keys f (e ∷ es) = ap (λ z. e.1 ∷ z) (values-map_keys f es)
 
 module _ {K V : Type 0} {eq : K → K → Bool} (laws : IsEquivalence eq) where
   pub SamePairs-permutation : (es fs : List (K × V)) → IsPermutation es fs → IsDistinct eq (keys_of fs) → SamePairs eq es fs

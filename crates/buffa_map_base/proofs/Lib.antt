@@ -7,7 +7,6 @@ pub mod NeedLemmas
 pub mod MemoryLemmas
 pub mod TailLemmas
 pub mod MessageLemmas
-pub mod ResultLemmas
 pub mod RunLemmas
 pub mod SizeLemmas
 pub mod WalkLemmas

@@ -1,20 +1,12 @@
 -- Where reading takes memory, and where out of memory is never told.
 use Rattle.std.proofs.Common.{◌≡◌, ◌<◌, ℕ, zero, suc, true, List, Result, Ok, Err, ap, arith}
 use Rattle.buffa_bytes.proofs.FullLemmas.{varint_no_full}
-use Rattle.buffa_bytes.proofs.StepLemmas.{agree_err}
 use Rattle.buffa_bytes.specs.declared.error.DecodeError.{DecodeError}
-use Rattle.buffa_bytes.specs.declared.error.DecodeError.TheVariants.{OutOfMemory, WireTypeMismatch}
-use Rattle.buffa_bytes.specs.declared.wire_type.WireType.{WireType}
+use Rattle.buffa_bytes.specs.declared.error.DecodeError.TheVariants.{OutOfMemory}
 use Rattle.buffa_bytes.specs.Gives.{◌>>=◌}
-use Rattle.buffa_bytes.specs.Front.{check_wire, varint_at}
+use Rattle.buffa_bytes.specs.Front.{varint_at}
 use Rattle.buffa_bytes.specs.Values.{int32_at}
 use Rattle.buffa_map_base.specs.Codec.{level}
-use Rattle.buffa_map_base.proofs.EntryLemmas.{check_sound}
-
-pub mismatch_no_full : {P : Type 0} (n : ℕ) (v w : WireType) (e : DecodeError) → check_wire n v w ≡ Err e → e ≡ OutOfMemory → P
-mismatch_no_full n v w e h k =
-    let which : e ≡ WireTypeMismatch n v w = (agree_err (check_wire n v w) e (check_sound n v w) h).1 in
-    cc
 
 -- a level is left to no depth of 0
 pub depth_left : (d : ℕ) → level true d ≡ Ok tt → 0 < d

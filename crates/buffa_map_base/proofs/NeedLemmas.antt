@@ -16,16 +16,14 @@ use Rattle.buffa_bytes.proofs.FieldLemmas.{tag_falls, tag_sound, same_refl}
 use Rattle.buffa_bytes.specs.Scan.{step_then}
 use Rattle.buffa_bytes.proofs.ScanLemmas.{Leads, Shortens, scan_leads, scan_step}
 use Rattle.buffa_bytes.specs.Content.{Content}
+use Rattle.buffa_bytes.proofs.WireLemmas.{check_same}
 use Rattle.buffa_wire.specs.ByField.{costs}
 use Rattle.buffa_wire.specs.Sequence.{ParsesTo}
 use Rattle.buffa_map_base.specs.Codec.{Reading, Tells, ValueFault, level, value_at, value_need}
 use Rattle.buffa_map_base.specs.Entry.{CodecFault, EntryFault, EntryOf, FaultOf, EntryFieldFault, IsEntry, IsEntryField, blanks, codec_need, entry_field_at, field_need, inner_need, need_at, need_of}
 use Rattle.buffa_map_base.specs.declared.map_entry.MapEntry.{MapEntry}
-use Rattle.buffa_map_base.proofs.EntryLemmas.{Plain, check_sound, check_same, field_shorter, field_sound, need_by-nothing, value_free}
+use Rattle.buffa_map_base.proofs.EntryLemmas.{Plain, field_shorter, field_sound, need_by-nothing, value_free}
 use Rattle.buffa_wire.proofs.KeepLemmas.{content_no_limit}
-
-pub checked : (f : ℕ) (v w : WireType) → check_wire f v w ≡ Ok tt → w ≡ v
-checked f v w h = agree_ok (check_wire f v w) tt (check_sound f v w) h
 
 codec_needs : {V : Type 0} (codec : Reading V) (d : ℕ) (w : WireType) (bs : List ℕ) → w ≡ codec.wire → codec_need codec d w bs ≡ value_need codec d bs
 codec_needs codec d w bs same = rw (same, same_refl codec.wire) refl

@@ -13,6 +13,7 @@ use Rattle.buffa_bytes.proofs.FieldLemmas.{tag_as, tag_sound, tag_complete, take
 use Rattle.buffa_bytes.proofs.DelimitedLemmas.{delimited_sound, delimited_complete, delimited_faulty}
 use Rattle.buffa_wire.specs.BudgetLeft.{BudgetLeft, Lacks, Pays, nothing, plus, unknown_fields}
 use Rattle.buffa_bytes.specs.Content.{Content}
+use Rattle.buffa_bytes.proofs.WireLemmas.{check_sound, check_differs, checked_same, checked_other}
 use Rattle.buffa_wire.specs.Records.{Datum, bytes}
 use Rattle.buffa_wire.specs.Sequence.{join, ParsesEach}
 use Rattle.buffa_map_base.specs.Codec.{Reading}
@@ -21,7 +22,7 @@ use Rattle.buffa_map_base.specs.Pairs.{InOrder, put, SamePairs}
 use Rattle.buffa_map_base.specs.Run.{EntryRecord, IsRecord, Run, ArePaid, RecordFault, RunFault, entry_in, inner_needs, lacks, record_need, record_at, after_entry, next_record, run_of, step, fold_entries, undeclared, added, undeclared_record, undeclared_records}
 use Rattle.buffa_map_base.specs.declared.map_entry.MapEntry.{MapEntry}
 use Rattle.buffa_wire.proofs.SequenceLemmas.{Answers, answer, answers_as, along_sound, along_complete, along_faulty}
-use Rattle.buffa_map_base.proofs.EntryLemmas.{Plain, check_sound, check_differs, entry_sound, entry_complete, entry_faulty}
+use Rattle.buffa_map_base.proofs.EntryLemmas.{Plain, entry_sound, entry_complete, entry_faulty}
 use Rattle.buffa_map_base.proofs.NeedLemmas.{need_free}
 use Rattle.buffa_map_base.proofs.PutLemmas.{SamePairs-put}
 
@@ -80,7 +81,7 @@ module _ {K V : Type 0} (key : Reading K) (val : Reading V) (d n : ℕ) where
       (r : List ℕ) × IsRecord key val d n r (record { bytes = e; parts = s }) × (bs ≡ r ++ rest)
   record_found bs mid rest g w s h same checked e (l, v, is, entry) =
       let u : TakesTag bs g w mid = agree_ok (tag_at bs) (g, w, mid) (tag_sound bs) h in
-      let wire : w ≡ LengthDelimited = agree_ok (check_wire g LengthDelimited w) tt (check_sound g LengthDelimited w) checked in
+      let wire : w ≡ LengthDelimited = checked_same g LengthDelimited w checked in
       let tag : IsTag u.0 n LengthDelimited = tag_as u.0 g n w LengthDelimited u.1 same wire in (
         u.0 ++ (l ++ e),
         (u.0, l, tag, v, refl, entry),
@@ -96,13 +97,13 @@ module _ {K V : Type 0} (key : Reading K) (val : Reading V) (d n : ℕ) where
   pub record_mismatch : (cost extra : ℕ) (left : BudgetLeft) (bs mid : List ℕ) (g : ℕ) (w : WireType) (f : DecodeError) → tag_at bs ≡ Ok (g, w, mid) → g ≡ n → check_wire g LengthDelimited w ≡ Err f → RecordFault key val d n cost extra left bs f
   record_mismatch cost extra left bs mid g w f h same k =
       let u : TakesTag bs g w mid = agree_ok (tag_at bs) (g, w, mid) (tag_sound bs) h in
-      let m = agree_err (check_wire n LengthDelimited w) f (check_sound n LengthDelimited w) (subst (λ z. check_wire z LengthDelimited w ≡ Err f) same k) in
+      let m = checked_other n LengthDelimited w f (subst (λ z. check_wire z LengthDelimited w ≡ Err f) same k) in
       inr (inr (inl (w, mid, subst (λ z. TakesTag bs z w mid) same u, m.0, m.1)))
 
   pub record_entry : (cost extra : ℕ) (left : BudgetLeft) (bs mid : List ℕ) (g : ℕ) (w : WireType) (f : DecodeError) → tag_at bs ≡ Ok (g, w, mid) → g ≡ n → check_wire g LengthDelimited w ≡ Ok tt → EntryFault key val d cost extra left mid f → RecordFault key val d n cost extra left bs f
   record_entry cost extra left bs mid g w f h same checked k =
       let u : TakesTag bs g w mid = agree_ok (tag_at bs) (g, w, mid) (tag_sound bs) h in
-      let wire : w ≡ LengthDelimited = agree_ok (check_wire g LengthDelimited w) tt (check_sound g LengthDelimited w) checked in
+      let wire : w ≡ LengthDelimited = checked_same g LengthDelimited w checked in
       inr (inr (inr (mid, takes_tag_as bs mid g n w LengthDelimited u same wire, k)))
 
   -- what is needed in a record, once its tag is read

@@ -1,23 +1,21 @@
 -- Two walks of one map.
-use Rattle.std.proofs.Common.{◌≡◌, ◌≢◌, ◌⊎◌, inl, inr, ℕ, ◌+◌, ◌*◌, ◌^◌, ◌<◌, Bool, true, false, cond, List, [], ◌∷◌, ◌++◌, Some, None, length, map, refl, sym, ap, subst, ◌∙◌, arith, length-append}
+use Rattle.std.proofs.Common.{◌≡◌, ◌≢◌, ℕ, ◌+◌, ◌*◌, ◌^◌, ◌<◌, Bool, List, [], ◌∷◌, ◌++◌, length, map, refl, sym, ap, subst, ◌∙◌, arith, length-append}
 use Rattle.std.specs.Cmp.{IsEquivalence}
-use Rattle.std.specs.List.{AllByRecursion, IsDistinct, sum_by}
+use Rattle.std.specs.HashMap.{HashMap}
+use Rattle.std.specs.List.{IsDistinct, sum_by}
 use Rattle.std.specs.List.Sorted.{IsPermutation}
-use Rattle.std.specs.Map.{keys_of, lookup, remove_entry}
-use Rattle.std.proofs.lemmas.Bool.{cases_Bool, cond-false, cond-true, cond_both}
-use Rattle.std.proofs.lemmas.List.Sorted.{IsPermutation-cons, IsPermutation-refl, IsPermutation-swap, IsPermutation-sym, IsPermutation-trans, length_permutation, sum_by-IsPermutation}
+use Rattle.std.specs.Map.{keys_of, lookup}
+use Rattle.std.proofs.lemmas.List.Sorted.{IsPermutation-map, length_permutation, sum_by-IsPermutation}
 use Rattle.std.proofs.lemmas.List.Sums.{sum_by-cons}
-use Rattle.std.proofs.lemmas.Map.{lookup-remove_entry}
-use Rattle.std.proofs.lemmas.Map.Entries.{lookup_head, lookup_tail}
-use Rattle.std.proofs.lemmas.Map.Keys.{IsDistinct-cons, IsDistinct-head, IsDistinct-tail}
-use Rattle.std.proofs.lemmas.Option.{none-some, same_Some}
+use Rattle.std.proofs.lemmas.Map.Lookups.{hash_map_IsPermutation_from_get, map_keys}
+use Rattle.indexmap.specs.Layout.{hash_map}
 use Rattle.buffa_bytes.specs.Values.{tag_encoding}
 use Rattle.buffa_bytes.specs.Varint.{varint_encoding}
 use Rattle.buffa_bytes.specs.declared.wire_type.WireType.TheVariants.{LengthDelimited}
 use Rattle.buffa_map_base.specs.Codec.{Writing}
 use Rattle.buffa_map_base.specs.Pairs.{ListsOnce}
 use Rattle.buffa_map_base.specs.Encoding.{entry_encoding, field_size, field_encoding, saturated}
-use Rattle.buffa_map_base.proofs.HashedLemmas.{beside, keys-beside, lookup-beside, values-beside}
+use Rattle.buffa_map_base.proofs.HashedLemmas.{beside, keys-beside, lookup-beside, values-beside, values-map_keys}
 use Rattle.buffa_map_base.proofs.SizeLemmas.{counted_size, length-field_encoding}
 
 -- ---- values under keys that differ: equal look-ups give equal values, in some order
@@ -26,42 +24,19 @@ module _ {K X : Type 0} {eq : K → K → Bool} (laws : IsEquivalence eq) where
   abbrev values : List (K × X) → List X
   values es = map (λ e. e.1) es
 
-  all_without : (P : K → Type 0) (test : K → Bool) (es : List (K × X)) → AllByRecursion P (keys_of es) → AllByRecursion P (keys_of (remove_entry test es))
-  all_without P test [] a = tt
-  all_without P test (e ∷ es) a = cond_both (test e.0) es (e ∷ remove_entry test es) (λ l. AllByRecursion P (keys_of l)) (λ _. a.1) (λ _. (a.0, all_without P test es a.1))
+  -- a map of these entries; its hasher and its room are never asked for
+  abbrev of_entries : List (K × X) → HashMap K X ℕ
+  of_entries es = hash_map es 0 0
 
-  distinct_without : (test : K → Bool) (es : List (K × X)) → IsDistinct eq (keys_of es) → IsDistinct eq (keys_of (remove_entry test es))
-  distinct_without test [] d = d
-  distinct_without test (e ∷ es) d =
-      let rest = IsDistinct-tail eq e.0 (keys_of es) d in
-      cond_both (test e.0) es (e ∷ remove_entry test es) (λ l. IsDistinct eq (keys_of l)) (λ _. rest)
-      (λ _. IsDistinct-cons eq e.0 _ (all_without (λ y. eq e.0 y ≡ false) test es (IsDistinct-head eq e.0 (keys_of es) d)) (distinct_without test es rest))
-
-  -- the value that is found comes first
-  pulled_at : (q : K) (v : X) (e : K × X) (es : List (K × X)) → (eq q e.0 ≡ true) ⊎ (eq q e.0 ≡ false) → lookup (eq q) (e ∷ es) ≡ Some v →
-      (lookup (eq q) es ≡ Some v → IsPermutation (values es) (v ∷ values (remove_entry (eq q) es))) → IsPermutation (values (e ∷ es)) (v ∷ values (remove_entry (eq q) (e ∷ es)))
-  pulled_at q v e es (inl is) h ih =
-      let value : e.1 ≡ v = same_Some e.1 v (sym (lookup_head (eq q) e es is) ∙ h) in
-      let gone : es ≡ remove_entry (eq q) (e ∷ es) = sym (cond-true (eq q e.0) es (e ∷ remove_entry (eq q) es) is) in
-      subst (λ z. IsPermutation (values (e ∷ es)) (z ∷ values (remove_entry (eq q) (e ∷ es)))) value (subst (λ z. IsPermutation (values (e ∷ es)) (e.1 ∷ values z)) gone (IsPermutation-refl (values (e ∷ es))))
-  pulled_at q v e es (inr is) h ih =
-      let more = values (remove_entry (eq q) es) in
-      let turned : IsPermutation (e.1 ∷ values es) (v ∷ e.1 ∷ more) = IsPermutation-trans _ _ _ (IsPermutation-cons e.1 _ _ (ih (sym (lookup_tail (eq q) e es is) ∙ h))) (IsPermutation-swap (e.1 ∷ v ∷ more) (v ∷ e.1 ∷ more) 0 1 (omega arith) (omega arith) refl) in
-      subst (λ z. IsPermutation (values (e ∷ es)) (v ∷ values z)) (sym (cond-false (eq q e.0) es (e ∷ remove_entry (eq q) es) is)) turned
-
-  pulled : (q : K) (v : X) (es : List (K × X)) → lookup (eq q) es ≡ Some v → IsPermutation (values es) (v ∷ values (remove_entry (eq q) es))
-  pulled q v [] h = absurd (none-some v h)
-  pulled q v (e ∷ es) h = pulled_at q v e es (cases_Bool (eq q e.0)) h (pulled q v es)
+  -- their keys told by nothing
+  abbrev keyless : List (K × X) → List (ℕ × X)
+  keyless es = map_keys (λ k. 0) es
 
   reordered : (es fs : List (K × X)) → IsDistinct eq (keys_of es) → IsDistinct eq (keys_of fs) → ((q : K) → lookup (eq q) es ≡ lookup (eq q) fs) → IsPermutation (values es) (values fs)
-  reordered [] [] c d h = IsPermutation-refl []
-  reordered [] (y ∷ ys) c d h = absurd (none-some y.1 (h y.0 ∙ lookup_head (eq y.0) y ys (laws.refl y.0)))
-  reordered (x ∷ xs) fs c d h =
-      let k = x.0 in
-      let gone : xs ≡ remove_entry (eq k) (x ∷ xs) = sym (cond-true (eq k k) xs (x ∷ remove_entry (eq k) xs) (laws.refl k)) in
-      let others = reordered xs (remove_entry (eq k) fs) (IsDistinct-tail eq k (keys_of xs) c) (distinct_without (eq k) fs d)
-      (λ q. ap (lookup (eq q)) gone ∙ lookup-remove_entry laws (eq k) (laws.congr k) q (x ∷ xs) c ∙ ap (cond (eq k q) None) (h q) ∙ sym (lookup-remove_entry laws (eq k) (laws.congr k) q fs d)) in
-      IsPermutation-trans _ _ _ (IsPermutation-cons x.1 _ _ others) (IsPermutation-sym _ _ (pulled k x.1 fs (sym (h k) ∙ lookup_head (eq k) x xs (laws.refl k))))
+  reordered es fs c d h =
+      let alike : IsPermutation (keyless es) (keyless fs) = hash_map_IsPermutation_from_get laws (of_entries es) (of_entries fs) c d h (λ k. 0) (λ x y e. refl) in
+      let valued : IsPermutation (map (λ e. e.1) (keyless es)) (map (λ e. e.1) (keyless fs)) = IsPermutation-map (λ (e : ℕ × X). e.1) (keyless es) (keyless fs) alike in
+      subst (λ z. IsPermutation z (values fs)) (values-map_keys (λ k. 0) es) (subst (λ z. IsPermutation (map (λ e. e.1) (keyless es)) z) (values-map_keys (λ k. 0) fs) valued)
 
 -- ---- two walks
 

@@ -1,7 +1,6 @@
 //! `IndexMap` as a storage, walked in the order in which its keys came.
 
 ghost use Rattle.std.specs.Prelude.{◌≡◌, true};
-ghost use Rattle.std.specs.HashMap.{HashMap};
 ghost use Rattle.buffa_map_base.specs.Pairs.{means};
 
 use crate::storage::{MapStorage, MapWalk, StableOrder, StableWalk};

@@ -1,6 +1,6 @@
 //! The codec of messages.
 
-ghost use Rattle.std.specs.Prelude.{false, refl, true};
+ghost use Rattle.std.specs.Prelude.{false, refl};
 ghost use Rattle.buffa_bytes.specs.declared.wire_type.WireType.TheVariants.{LengthDelimited};
 ghost use Rattle.buffa_wire.specs.Message.{merged_in};
 ghost use Rattle.buffa_bytes.specs.Content.{bytes_in};

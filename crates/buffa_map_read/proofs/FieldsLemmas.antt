@@ -10,6 +10,7 @@ use Rattle.buffa_bytes.specs.declared.wire_type.WireType.{WireType}
 use Rattle.buffa_bytes.specs.Content.{Content}
 use Rattle.buffa_wire.specs.BudgetLeft.{BudgetLeft, Pays, PaysAtMost, nothing}
 use Rattle.buffa_bytes.specs.Front.{check_wire, skip_at, tag_at}
+use Rattle.buffa_bytes.proofs.WireLemmas.{checked_same, other_not_full}
 use Rattle.buffa_wire.specs.Sequence.{ParsesTo}
 use Rattle.buffa_map_base.specs.Codec.{Reading, RefusesValue, Spends, ReadingTakesMemory, is_known, value_at, value_need}
 use Rattle.buffa_map_base.specs.Entry.{EntryFieldFault, IsEntryField, blanks, need_at}
@@ -18,8 +19,7 @@ use Rattle.buffa_map_base.specs.declared.codec.MapValueDecodeStatus.{MapValueDec
 use Rattle.buffa_map_base.specs.declared.codec.MapValueDecodeStatus.TheVariants.{Known, Unknown}
 use Rattle.buffa_map_base.specs.declared.map_entry.MapEntry.{MapEntry}
 use Rattle.buffa_map_base.proofs.EntryLemmas.{field_shorter, field_step, refused_in, spent_in, value_free}
-use Rattle.buffa_map_base.proofs.MemoryLemmas.{mismatch_no_full}
-use Rattle.buffa_map_base.proofs.NeedLemmas.{checked, field_broken, fields_fault, fields_spent, key_mismatch, key_refused, need-key, need-value, need_end, need_step, other_broken, value_merged, value_mismatch, value_refused}
+use Rattle.buffa_map_base.proofs.NeedLemmas.{field_broken, fields_fault, fields_spent, key_mismatch, key_refused, need-key, need-value, need_end, need_step, other_broken, value_merged, value_mismatch, value_refused}
 
 module _ {K V : Type 0} (key : Reading K) (val : Reading V) (d : ℕ) (s : MapEntry K V) (left : BudgetLeft) (bs : List ℕ) where
   -- nothing was spent
@@ -32,12 +32,12 @@ module _ {K V : Type 0} (key : Reading K) (val : Reading V) (d : ℕ) (s : MapEn
   module _ (n : ℕ) (w : WireType) (rest : List ℕ) (tag : tag_at bs ≡ Ok (n, w, rest)) where
     module _ (one : n ≡ 1) (v : WireType) (is : v ≡ key.wire) where
       pub wrong_key : (f : DecodeError) → check_wire n v w ≡ Err f → RefusesEntryField key val d s left bs left f
-      wrong_key f h = refused f (mismatch_no_full n v w f h) (λ ne. key_mismatch key val d s bs rest n v w f tag one is h)
+      wrong_key f h = refused f (other_not_full n v w f h) (λ ne. key_mismatch key val d s bs rest n v w f tag one is h)
 
       pub bad_key : (T : Type 0) (over : BudgetLeft) (f : DecodeError) → check_wire n v w ≡ Ok tt → (key.nested ≡ false → (c : Content) → key.cost d c ≡ nothing) →
           (f ≢ OutOfMemory → RefusesValue key.nested key d s.key rest left f) → (f ≡ OutOfMemory → ReadingTakesMemory key d rest) → Spends {T = T} key.nested (Err f) left (value_need key d rest) over → RefusesEntryField key val d s left bs over f
       bad_key T over f wire free fault full spent =
-          let same : w ≡ key.wire = checked n v w wire ∙ is in
+          let same : w ≡ key.wire = checked_same n v w wire ∙ is in
           let paid : PaysAtMost left (value_need key d rest) over = spent_in {T = T} key.nested (Err f) left (value_need key d rest) over (λ plain. value_free key d s.key rest (free plain)) spent in
           record {
             fault = λ ne. key_refused key val d s bs rest n w left f tag one same (refused_in key d s.key key.nested rest left f (fault ne));
@@ -47,13 +47,13 @@ module _ {K V : Type 0} (key : Reading K) (val : Reading V) (d : ℕ) (s : MapEn
 
     module _ (not_one : n ≢ 1) (two : n ≡ 2) (v : WireType) (is : v ≡ val.wire) where
       pub wrong_value : (f : DecodeError) → check_wire n v w ≡ Err f → RefusesEntryField key val d s left bs left f
-      wrong_value f h = refused f (mismatch_no_full n v w f h) (λ ne. value_mismatch key val d s bs rest n v w f tag not_one two is h)
+      wrong_value f h = refused f (other_not_full n v w f h) (λ ne. value_mismatch key val d s bs rest n v w f tag not_one two is h)
 
       module _ (wire : check_wire n v w ≡ Ok tt) (free : val.nested ≡ false → (c : Content) → val.cost d c ≡ nothing) where
         pub bad_value : (T : Type 0) (over : BudgetLeft) (f : DecodeError) →
             (f ≢ OutOfMemory → RefusesValue val.nested val d s.value rest left f) → (f ≡ OutOfMemory → ReadingTakesMemory val d rest) → Spends {T = T} val.nested (Err f) left (value_need val d rest) over → RefusesEntryField key val d s left bs over f
         bad_value T over f fault full spent =
-            let same : w ≡ val.wire = checked n v w wire ∙ is in
+            let same : w ≡ val.wire = checked_same n v w wire ∙ is in
             let paid : PaysAtMost left (value_need val d rest) over = spent_in {T = T} val.nested (Err f) left (value_need val d rest) over (λ plain. value_free val d s.value rest (free plain)) spent in
             record {
               fault = λ ne. value_refused key val d s bs rest n w left f tag not_one two same (refused_in val d s.value val.nested rest left f (fault ne));
@@ -64,7 +64,7 @@ module _ {K V : Type 0} (key : Reading K) (val : Reading V) (d : ℕ) (s : MapEn
         pub good_value : {T : Type 0} (x : T) (over : BudgetLeft) (after : List ℕ) (new : V) (known now : Bool) → value_at val d s.value rest ≡ Ok ((new, known), after) → known ≡ now →
             Spends {T = T} val.nested (Ok x) left (value_need val d rest) over → MergesEntryField key val d s left bs (record s { value = new; known = now }) over after
         good_value {T = T} x over after new known now reads same_known spent =
-            let same : w ≡ val.wire = checked n v w wire ∙ is in
+            let same : w ≡ val.wire = checked_same n v w wire ∙ is in
             let paid : Pays left (value_need val d rest) over = spent_in {T = T} val.nested (Ok x) left (value_need val d rest) over (λ plain. value_free val d s.value rest (free plain)) spent in
             let both = value_merged key val d s bs rest after n w new known now left over tag not_one two same reads same_known paid in
             record { field = both.0; pays = both.1 }

@@ -4,7 +4,6 @@ use Rattle.std.specs.Cmp.{IsEquivalence}
 use Rattle.std.proofs.lemmas.List.{nil_from_length}
 use Rattle.buffa_bytes.proofs.FieldLemmas.{tag_at_as, tag_falls}
 use Rattle.buffa_bytes.proofs.FullLemmas.{tag_no_full}
-use Rattle.buffa_bytes.proofs.StepLemmas.{agree_err, agree_ok}
 use Rattle.buffa_bytes.specs.declared.error.DecodeError.{DecodeError}
 use Rattle.buffa_bytes.specs.declared.error.DecodeError.TheVariants.{OutOfMemory, UnexpectedField}
 use Rattle.buffa_bytes.specs.declared.wire_type.WireType.{WireType}
@@ -16,11 +15,10 @@ use Rattle.buffa_bytes.specs.Front.{check_wire, delimited_at, tag_at}
 use Rattle.buffa_map_base.specs.Merge.{MergesEntry, ReadsRun, RefusesEntry, Rules, State, StopsRun}
 use Rattle.buffa_map_base.specs.Pairs.{InOrder, SamePairs}
 use Rattle.buffa_map_base.specs.Run.{fold_entries, ArePaid, RecordFault, Run, EntryRecord, added}
-use Rattle.buffa_map_base.proofs.EntryLemmas.{check_sound}
 use Rattle.buffa_bytes.proofs.TailLemmas.{tail_more}
 use Rattle.buffa_bytes.specs.Unread.{IsTailOf}
 use Rattle.buffa_bytes.specs.Field.{TakesDelimited}
-use Rattle.buffa_map_base.proofs.MemoryLemmas.{mismatch_no_full}
+use Rattle.buffa_bytes.proofs.WireLemmas.{checked_same, checked_other, other_not_full}
 use Rattle.buffa_map_base.proofs.TailLemmas.{no_tag, one_after, one_number, one_wire, tag_tail}
 use Rattle.buffa_map_base.proofs.RunLemmas.{fold_entries-more, fold_entries-order, Paid-more, Run-last, added-more, entry_falls, record_entry, record_found, record_mismatch, record_needs, record_other, record_tag}
 
@@ -95,13 +93,13 @@ module _ {K V : Type 0} (r : Rules K V) (old : State K V) (bs : List ℕ) where
 
       pub stop_mismatch : (f : DecodeError) → g ≡ r.number → check_wire g LengthDelimited w ≡ Err f → StopsRun r old bs now mid f
       stop_mismatch f same is =
-          let differs = (agree_err (check_wire g LengthDelimited w) f (check_sound g LengthDelimited w) is).0 in
-          stop_here mid f (tag_tail rest mid g w tag) (λ h v m k _. one_after rest mid m g h w v tag k, λ m k. differs (one_wire rest mid m g r.number w LengthDelimited tag k)) (λ x no. absurd (ok_no_err (sym tag ∙ no))) more (mismatch_no_full g LengthDelimited w f is) (λ ne. record_mismatch r.key r.val r.depth r.number r.cost r.extra now.left rest mid g w f tag same is)
+          let differs = (checked_other g LengthDelimited w f is).0 in
+          stop_here mid f (tag_tail rest mid g w tag) (λ h v m k _. one_after rest mid m g h w v tag k, λ m k. differs (one_wire rest mid m g r.number w LengthDelimited tag k)) (λ x no. absurd (ok_no_err (sym tag ∙ no))) more (other_not_full g LengthDelimited w f is) (λ ne. record_mismatch r.key r.val r.depth r.number r.cost r.extra now.left rest mid g w f tag same is)
 
       module _ (same : g ≡ r.number) (wire : check_wire g LengthDelimited w ≡ Ok tt) where
         pub stop_entry : (new : State K V) (unread : List ℕ) (f : DecodeError) → RefusesEntry r now mid new unread f → StopsRun r old bs new unread f
         stop_entry new unread f k =
-            let is_wire : w ≡ LengthDelimited = agree_ok (check_wire g LengthDelimited w) tt (check_sound g LengthDelimited w) wire in
+            let is_wire : w ≡ LengthDelimited = checked_same g LengthDelimited w wire in
             let found = tag_at_as rest mid g r.number w LengthDelimited tag same is_wire in
             let need = record_needs r.key r.val r.depth r.number rest mid g w tag in
             let units = ap (λ (z : BudgetLeft). z.memory) need in

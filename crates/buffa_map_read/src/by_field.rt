@@ -2,7 +2,6 @@
 //! to a keeper. There is nothing to call here.
 
 ghost use Rattle.std.specs.Prelude.{◌+◌};
-ghost use Rattle.buffa_map_base.specs.Calls.{Reader};
 ghost use Rattle.buffa_map_base.specs.Merge.{rules};
 
 use crate::keep::Keeper;

@@ -11,7 +11,8 @@ use Rattle.buffa_bytes.specs.declared.error.EncodeError.{EncodeError}
 use Rattle.buffa_bytes.specs.declared.error.EncodeError.TheVariants.{OutOfMemory}
 use Rattle.buffa_wire.specs.Cache.{Cache, advanced}
 use Rattle.buffa_wire.specs.Passes.{IsSmall, IsWritten, cap}
-use Rattle.buffa_wire.proofs.PassLemmas.{done, refused, written_behind, written_put, written_same, written_then}
+use Rattle.buffa_wire.proofs.PassLemmas.{written_behind, written_put, written_same, written_then}
+use Rattle.buffa_wire.specs.Pinned.{done, refusal}
 use Rattle.buffa_bytes.specs.Values.{tag_encoding}
 use Rattle.buffa_bytes.specs.Varint.{varint_encoding}
 use Rattle.buffa_map_base.specs.Codec.{Writing}
@@ -122,7 +123,7 @@ module _ {K M : Type 0} (key : Writing K) (encoding slots : M → List ℕ) (n :
       let same = written_same (IsSmallPair key encoding p) (IsSmallPair key encoding p) (head ++ encoding p.1) (record_encoding key (delimited_writing encoding) n p) (slots p.1) 0 c1 c2 c2 b0 b2 (λ s. s) (λ s. head_then key encoding p inner is n s.0 s.1) r both in
       written_behind (IsSmallPair key encoding p) (IsSmallPair key encoding p) (record_encoding key (delimited_writing encoding) n p) [] (slots p.1) (cap (length (encoding p.1))) c0 c1 c2 b0 b2 on r same
 
-  pub head_short : (e : EncodeError) → (e ≡ OutOfMemory) × WritesFront b0 (head_encoding key n p.0 inner) b1 → IsRecordWritten key encoding slots n p c0 b0 (refused e) c1 b1
+  pub head_short : (e : EncodeError) → (e ≡ OutOfMemory) × WritesFront b0 (head_encoding key n p.0 inner) b1 → IsRecordWritten key encoding slots n p c0 b0 (refusal e) c1 b1
   head_short e (m, (front, rest, split, is_new, more)) = (
     front,
     is_new,

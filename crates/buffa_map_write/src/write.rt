@@ -3,9 +3,9 @@
 //! The steps of a record stand inside the loop over the pairs (`inline`): a call would hand each result over in
 //! memory, which cost a third of the time.
 
-ghost use Rattle.std.specs.Prelude.{◌≡◌, ◌++◌};
+ghost use Rattle.std.specs.Prelude.{◌++◌};
 ghost use Rattle.buffa_bytes.specs.Number.{IsNumber};
-ghost use Rattle.buffa_bytes.specs.Values.{delimited_encoding, tag_encoding};
+ghost use Rattle.buffa_bytes.specs.Values.{tag_encoding};
 ghost use Rattle.buffa_bytes.specs.Varint.{varint_encoding};
 ghost use Rattle.buffa_bytes.specs.Written.{UsesRoom, Writes};
 ghost use Rattle.buffa_map_base.specs.Calls.{WritesMapField};

@@ -40,18 +40,11 @@ use Rattle.buffa_fields.proofs.MapLemmas.{map_err, map_ok}
 use Rattle.buffa_node.specs.Branch.{Branch, NodeKept, Scores, Shades, blank_node, branch, shade_number}
 use Rattle.buffa_node.specs.declared.shade.Shade.{Shade}
 use Rattle.buffa_node.proofs.StopLemmas.{node_by_payloads}
-use Rattle.buffa_wire.specs.Pinned.{refusal}
+use Rattle.buffa_wire.specs.Pinned.{refusal, done}
 use Rattle.buffa_node.specs.NodeMeaning.{children_cost, children_take, node_cost, node_field_need, node_field_takes, node_merged, put_shade, scores_cost, scores_take, shade_cost, shade_reading, shades_cost, shades_take, text_cmp}
 
 abbrev Answer : Type 0
 Answer = Result (Unit {0}) DecodeError
-
-abbrev good : Answer
-good = Ok tt
-
-pub on_err : {P Q : Type 0} (r : Answer) → (P → Q) → OnErr r P → OnErr r Q
-on_err (Ok x) f h = tt
-on_err (Err e) f h = f h
 
 pub both_stay : (r : Answer) (made : Shades → NodeKept → Branch) (old : Branch) (h g : Shades) (q s : NodeKept) → made h q ≡ old → OnErr r (g ≡ h) → OnErr r (s ≡ q) → OnErr r (made g s ≡ old)
 both_stay (Ok x) made old h g q s is a b = tt
@@ -75,7 +68,7 @@ module _ {K : Type 0} (f : K → List ℕ) (d n : ℕ) (w : WireType) (es fs : L
   scores_rules = dropping text_reading int32_reading (pointwise nat_eq) false d 0 28
 
   score_ok : IsStrictlySortedBy (λ x y. text_cmp (f x) (f y)) (keys_of es) → IsStrictlySortedBy (λ x y. text_cmp (f x) (f y)) (keys_of fs) → check_wire n LengthDelimited w ≡ Ok tt →
-      MergesEntry scores_rules (state (as_scores es) [] before) bs (state (as_scores fs) [] after) rest → IsTaken scores_take scores_cost d (as_scores es) n w bs before good (as_scores fs) after rest
+      MergesEntry scores_rules (state (as_scores es) [] before) bs (state (as_scores fs) [] after) rest → IsTaken scores_take scores_cost d (as_scores es) n w bs before done (as_scores fs) after rest
   score_ok s t checked m =
       let put = is_put_by nat_list_cmp_total (as_scores es) (as_scores fs) m.says (sorted_means text_cmp f (λ v. v) es s) (sorted_means text_cmp f (λ v. v) fs t) (pointwise nat_eq) texts_ties m.put in
       map_ok text_reading int32_reading (pointwise nat_eq) false (insert_entry text_cmp) 28 d n w bs rest _ _ checked (as_scores es) (as_scores fs) m put
@@ -103,7 +96,7 @@ module _ (n : ℕ) (w : WireType) (es fs : List (ℤ × Branch)) (bs rest : List
   abbrev ChildTaken : ℕ → Answer → Type 0
   ChildTaken d r = IsTaken (children_take (merged_in node_merged d)) (children_cost (merged_in node_merged d) (cost_in node_cost d)) d es n w bs before r fs after rest
 
-  child_ok : (d : ℕ) → IsStrictlySortedBy int_cmp (keys_of es) → IsStrictlySortedBy int_cmp (keys_of fs) → check_wire n LengthDelimited w ≡ Ok tt → NodePut d → ChildTaken d good
+  child_ok : (d : ℕ) → IsStrictlySortedBy int_cmp (keys_of es) → IsStrictlySortedBy int_cmp (keys_of fs) → check_wire n LengthDelimited w ≡ Ok tt → NodePut d → ChildTaken d done
   unfolding entry_taken entry_cost need_at
   child_ok zero a b checked h = map_ok int32_reading (message_reading blank_node node_merged node_cost) int_eq false (insert_entry int_cmp) 100 zero n w bs rest _ _ checked es fs h (child_put es fs h.says a b h.put)
   child_ok (suc d) a b checked h = map_ok int32_reading (message_reading blank_node node_merged node_cost) int_eq false (insert_entry int_cmp) 100 (suc d) n w bs rest _ _ checked es fs h (child_put es fs h.says a b h.put)
@@ -133,7 +126,7 @@ module _ (d n : ℕ) (w : WireType) (es fs : List (ℤ × Shade)) (rs ss : NodeK
   is_cost e = ((omega arith, omega arith), λ s entry. rw (entry_complete int32_reading shade_reading d e s entry) refl)
 
   pub shade_ok : IsStrictlySortedBy int_cmp (keys_of es) → IsStrictlySortedBy int_cmp (keys_of fs) → check_wire n LengthDelimited w ≡ Ok tt →
-      MergesEntry shades_rules (state (as_shades es) rs before) bs (state (as_shades fs) ss after) rest → IsTaken shades_take shades_cost d (as_shades es, rs) n w bs before good (as_shades fs, ss) after rest
+      MergesEntry shades_rules (state (as_shades es) rs before) bs (state (as_shades fs) ss after) rest → IsTaken shades_take shades_cost d (as_shades es, rs) n w bs before done (as_shades fs, ss) after rest
   shade_ok s t checked m =
       let put = is_put int_cmp_total (as_shades es) (as_shades fs) m.says (sorted_means int_cmp (λ k. k) shade_number es s) (sorted_means int_cmp (λ k. k) shade_number fs t) m.put in
       entry_ok shades_rules put_shade shade_cost is_cost n w (as_shades es, rs) (as_shades fs, ss) bs rest _ _ checked m (λ i. (put i, m.keeps i))

@@ -3,10 +3,11 @@ use Rattle.std.proofs.Common.{◌≡◌, ℕ, ℤ, ◌+◌, List, [], ◌++◌, 
 use Rattle.buffa_bytes.proofs.ShortestLemmas.{varint_encoding-last}
 use Rattle.buffa_bytes.specs.Written.{Writes}
 use Rattle.buffa_bytes.specs.declared.error.EncodeError.{EncodeError}
-use Rattle.buffa_wire.proofs.PassLemmas.{done, refused, written_put, written_short, written_then}
+use Rattle.buffa_wire.proofs.PassLemmas.{written_put, written_short, written_then}
 use Rattle.buffa_wire.specs.Cache.{Cache}
 use Rattle.buffa_wire.specs.Passes.{IsSmall, WritesIf, cap}
 use Rattle.buffa_wire.specs.Encoding.{records_encoding}
+use Rattle.buffa_wire.specs.Pinned.{done, refusal}
 use Rattle.buffa_map_write.proofs.MessageFieldLemmas.{small_field}
 use Rattle.buffa_map.proofs.ChildrenLemmas.{size_is, slots_are}
 use Rattle.buffa_map.specs.Children.{children_encoding-field, children_in, meant_children}
@@ -94,21 +95,21 @@ module _ (t : Branch) (a : Scores) (es : List (ℤ × Branch)) (h : Shades) (r :
         WritesIf IsSmallNode (below ++ (shades_encoding h ++ records_encoding r)) (below_slots ++ []) c b1 q e last
     second_done w e last q more = written_then (IsSmallField int32_writing node_encoding (meant_children es)) IsSmallNode IsSmallNode below (shades_encoding h ++ records_encoding r) below_slots [] c d e b1 b2 last (λ s. (small_children s, s)) q w more
 
-    pub scores_stop : (q : Result (Unit {0}) EncodeError) (e f : EncodeError) → q ≡ Err f → f ≡ e → WritesSmall (scores_encoding a) b0 (refused e) b1 → IsNodeWritten t c b0 q c b1
+    pub scores_stop : (q : Result (Unit {0}) EncodeError) (e f : EncodeError) → q ≡ Err f → f ≡ e → WritesSmall (scores_encoding a) b0 (refusal e) b1 → IsNodeWritten t c b0 q c b1
     scores_stop q e f is same w =
         subst (λ z. IsNodeWritten t c b0 z c b1) (sym (is ∙ ap (λ x. Err x) same))
-        (whole c b1 (refused e) (written_short (IsSmall (scores_encoding a)) IsSmallNode IsSmallNode (scores_encoding a) (below ++ (shades_encoding h ++ records_encoding r)) [] (below_slots ++ []) c c c b0 b1 b1 small_scores e (as_pass (scores_encoding a) b0 b1 (refused e) c w)))
+        (whole c b1 (refusal e) (written_short (IsSmall (scores_encoding a)) IsSmallNode IsSmallNode (scores_encoding a) (below ++ (shades_encoding h ++ records_encoding r)) [] (below_slots ++ []) c c c b0 b1 b1 small_scores e (as_pass (scores_encoding a) b0 b1 (refusal e) c w)))
 
-    pub children_stop : (q : Result (Unit {0}) EncodeError) (e f : EncodeError) → q ≡ Err f → f ≡ e → WritesSmall (scores_encoding a) b0 done b1 → IsFieldWritten int32_writing node_encoding node_slots 2 (meant_children es) c b1 (refused e) d b2 → IsNodeWritten t c b0 q d b2
+    pub children_stop : (q : Result (Unit {0}) EncodeError) (e f : EncodeError) → q ≡ Err f → f ≡ e → WritesSmall (scores_encoding a) b0 done b1 → IsFieldWritten int32_writing node_encoding node_slots 2 (meant_children es) c b1 (refusal e) d b2 → IsNodeWritten t c b0 q d b2
     children_stop q e f is same w v =
         subst (λ z. IsNodeWritten t c b0 z d b2) (sym (is ∙ ap (λ x. Err x) same))
-        (whole d b2 (refused e) (first_done w d b2 (refused e) (written_short (IsSmallField int32_writing node_encoding (meant_children es)) IsSmallNode IsSmallNode below (shades_encoding h ++ records_encoding r) below_slots [] c d d b1 b2 b2 small_children e v)))
+        (whole d b2 (refusal e) (first_done w d b2 (refusal e) (written_short (IsSmallField int32_writing node_encoding (meant_children es)) IsSmallNode IsSmallNode below (shades_encoding h ++ records_encoding r) below_slots [] c d d b1 b2 b2 small_children e v)))
 
-    pub shades_stop : (q : Result (Unit {0}) EncodeError) (e f : EncodeError) → q ≡ Err f → f ≡ e → WritesSmall (scores_encoding a) b0 done b1 → IsFieldWritten int32_writing node_encoding node_slots 2 (meant_children es) c b1 done d b2 → WritesSmall (shades_encoding h) b2 (refused e) b3 →
+    pub shades_stop : (q : Result (Unit {0}) EncodeError) (e f : EncodeError) → q ≡ Err f → f ≡ e → WritesSmall (scores_encoding a) b0 done b1 → IsFieldWritten int32_writing node_encoding node_slots 2 (meant_children es) c b1 done d b2 → WritesSmall (shades_encoding h) b2 (refusal e) b3 →
         IsNodeWritten t c b0 q d b3
     shades_stop q e f is same w v u =
         subst (λ z. IsNodeWritten t c b0 z d b3) (sym (is ∙ ap (λ x. Err x) same))
-        (whole d b3 (refused e) (first_done w d b3 (refused e) (second_done v d b3 (refused e) (written_short (IsSmall (shades_encoding h)) IsSmallNode IsSmallNode (shades_encoding h) (records_encoding r) [] [] d d d b2 b3 b3 small_shades e (as_pass (shades_encoding h) b2 b3 (refused e) d u)))))
+        (whole d b3 (refusal e) (first_done w d b3 (refusal e) (second_done v d b3 (refusal e) (written_short (IsSmall (shades_encoding h)) IsSmallNode IsSmallNode (shades_encoding h) (records_encoding r) [] [] d d d b2 b3 b3 small_shades e (as_pass (shades_encoding h) b2 b3 (refusal e) d u)))))
 
     pub all_written : (q : Result (Unit {0}) EncodeError) → WritesSmall (scores_encoding a) b0 done b1 → IsFieldWritten int32_writing node_encoding node_slots 2 (meant_children es) c b1 done d b2 → WritesSmall (shades_encoding h) b2 done b3 → Writes q b3 (records_encoding r) b4 → IsNodeWritten t c b0 q d b4
     all_written q w v u x =

@@ -2,9 +2,10 @@
 use Rattle.std.proofs.Common.{◌≡◌, ℕ, List, [], ◌++◌, length, Result, Ok, Err, sym, ap, subst, arith}
 use Rattle.buffa_bytes.specs.declared.error.EncodeError.{EncodeError}
 use Rattle.buffa_bytes.specs.declared.error.EncodeError.TheVariants as error
-use Rattle.buffa_wire.proofs.PassLemmas.{consumes_none, done, refused, written_none}
+use Rattle.buffa_wire.proofs.PassLemmas.{consumes_none, written_none}
 use Rattle.buffa_wire.specs.Cache.{Cache}
 use Rattle.buffa_wire.specs.Passes.{IsSmall, WritesIf}
+use Rattle.buffa_wire.specs.Pinned.{done, refusal}
 use Rattle.buffa_map_base.specs.Codec.{Writing}
 use Rattle.buffa_map_base.specs.Encoding.{RefusesField, field_encoding}
 use Rattle.buffa_fields.proofs.MapLemmas.{long_in, map_unwritten}
@@ -16,7 +17,7 @@ module _ {K V : Type 0} (kw : Writing K) (vw : Writing V) (n : ℕ) (l m : List 
   map_put h = (field_encoding kw vw n l, h, λ small. ap (field_encoding kw vw n) walk)
 
   by_error : (e : EncodeError) → RefusesField kw vw n old new l e → WritesSmall (field_encoding kw vw n m) old (only_memory e) new
-  by_error error.OutOfMemory h = subst (λ t. WritesSmall t old (refused error.OutOfMemory) new) (map_encoding kw vw n m) (map_unwritten kw vw n l m old new walk error.OutOfMemory h)
+  by_error error.OutOfMemory h = subst (λ t. WritesSmall t old (refusal error.OutOfMemory) new) (map_encoding kw vw n m) (map_unwritten kw vw n l m old new walk error.OutOfMemory h)
   by_error error.MessageTooLarge (done, p, rest, split, has, long, h) =
       (field_encoding kw vw n done, h, λ small. absurd (omega (arith, small, long, long_in kw vw n done p rest l split, ap (λ (z : List (K × V)). length (field_encoding kw vw n z)) walk)))
   by_error (error.GroupRefused e) h = absurd h

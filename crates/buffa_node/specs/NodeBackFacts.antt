@@ -35,12 +35,10 @@ use Rattle.buffa_fields.specs.EntriesFacts.{read_entry}
 use Rattle.buffa_fields.specs.MapFields.{map_records, stepped}
 use Rattle.buffa_fields.specs.MapFacts.{map_has_encoding}
 use Rattle.buffa_fields_base.specs.BackFacts.{pieces_of}
-use Rattle.buffa_fields_base.specs.KeepFacts.{records_lead}
+use Rattle.buffa_fields_base.specs.KeepFacts.{records_lead, kept_record}
 use Rattle.buffa_fields_base.specs.PairFacts.{fits_both, joined-append, leads_both}
-use Rattle.buffa_fields_base.specs.Keep.{keep_takes, record_in}
 use Rattle.buffa_wire.specs.Takes.{Leads, Piece, Taker, joined_fields, merged_of}
 use Rattle.buffa_wire.proofs.TakesLemmas.{back as leads_back}
-use Rattle.buffa_wire.proofs.KeepLemmas.{all_fields}
 use Rattle.buffa_node.specs.Branch.{Branch, NodeOwn, NodeKept, Scores, Shades, blank_node, branch, kept_of, scores_of, shade_numbers, shades_of}
 use Rattle.buffa_node.specs.Leading.{IsInserted, any, entries_lead}
 use Rattle.buffa_node.specs.Nesting.{undeclared_at}
@@ -187,15 +185,12 @@ module _ (d : ℕ) (m : ChildMeaning Branch) where
             let alone : delimited_at p ≡ Ok (e, []) = ap delimited_at (is ∙ ap (λ z. t ++ z) (sym (append-nil e))) ∙ delimited_complete t e [] v in
             rw (alone, entry_complete int32_reading shade_reading d e s.0 s.1, s.2) refl
 
-        kept_field : (done : NodeKept) (n : ℕ) (x : Datum) (p : List ℕ) → IsPayload d n x p → keep_takes d done n (wire_of x) p ≡ Some (done ++ (n, x) ∷ [])
-        kept_field done n x p payload = ap (λ z. option_map (λ y. done ++ (n, y) ∷ []) (record_in z)) (all_fields d n (wire_of x) p p [] x payload refl (sym (append-nil p)))
-
         kept_one : (done : NodeKept) (n : ℕ) (x : Datum) (p : List ℕ) → IsKept (n, x) → (if n == 3 then kept_under x else datum_height x) ≤ d → IsPayload d n x p → taker d (branch a cs h done) n (wire_of x) p ≡ Some (branch a cs h (done ++ (n, x) ∷ []))
         kept_one done n x p (inl (high, fits)) low payload =
             let one = ne_eqb n 1 (λ e. absurd (omega (arith, high, e))) in
             let two = ne_eqb n 2 (λ e. absurd (omega (arith, high, e))) in
             let three = ne_eqb n 3 (λ e. absurd (omega (arith, high, e))) in
-            rw (one, two, three) (ap (option_map (λ (s : NodeKept). branch a cs h s)) (kept_field done n x p payload))
+            rw (one, two, three) (ap (option_map (λ (s : NodeKept). branch a cs h s)) (kept_record d n x p done payload))
         kept_one done n x p (inr (three, e, is, undeclared)) low payload =
             let here : IsPayload d 3 (bytes e) p = subst (λ z. IsPayload d 3 z p) is (subst (λ z. IsPayload d z x p) three payload) in
             let below : kept_under x ≤ d = subst (λ z. (if z == 3 then kept_under x else datum_height x) ≤ d) three low in

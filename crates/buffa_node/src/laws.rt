@@ -1,6 +1,6 @@
 //! Laws: which message a node is, and which enum a shade.
 
-ghost use Rattle.std.specs.Prelude.{◌≡◌, ◌↔◌, ◌∷◌, [], ℕ, None, Some, map, pos, string_bytes};
+ghost use Rattle.std.specs.Prelude.{◌≡◌, ◌↔◌, ◌∷◌, [], None, Some, map, pos, string_bytes};
 ghost use Rattle.buffa_bytes.specs.Pinned.{IsCopied, SameIsOne};
 ghost use Rattle.buffa_map_base.specs.Pairs.{means};
 ghost use Rattle.buffa_map.specs.Children.{children_in};

@@ -1,6 +1,6 @@
 //! A message that holds itself, keeps entries with undeclared values, and every field that it doesn't declare.
 
-ghost use Rattle.std.specs.Prelude.{OnErr, [], pos, IfErr, ◌≡◌, ◌≢◌, ◌+◌};
+ghost use Rattle.std.specs.Prelude.{OnErr, [], IfErr, ◌≡◌, ◌≢◌, ◌+◌};
 ghost use Rattle.buffa_wire.specs.Passes.{IsNext, IsSized};
 ghost use Rattle.std.specs.BTreeMap.{values};
 ghost use Rattle.std.specs.List.{Contains};

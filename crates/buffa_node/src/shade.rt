@@ -1,6 +1,6 @@
 //! A closed enum.
 
-ghost use Rattle.std.specs.Prelude.{◌≡◌, pos, refl};
+ghost use Rattle.std.specs.Prelude.{pos, refl};
 
 use buffa_wire::{Blank, Enumeration};
 use std::alloc::Global;

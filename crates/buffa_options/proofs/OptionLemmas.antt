@@ -1,5 +1,5 @@
 -- What an option is read as, or its default.
-use Rattle.std.proofs.Common.{◌≡◌, ◌⊎◌, inl, inr, ℕ, List, [], ◌∷◌, ◌++◌, Option, Some, None, IfOk, Result, Ok, Err, unwrap_or, refl, sym, subst, Global}
+use Rattle.std.proofs.Common.{◌≡◌, ◌⊎◌, inl, inr, ℕ, List, [], ◌∷◌, ◌++◌, Option, Some, None, Result, Ok, Err, unwrap_or, refl, sym, subst, Global}
 use Rattle.std.specs.List.{cons_option, filter_map, last_or}
 use Rattle.std.specs.Result.{IsOk, OnErr}
 use Rattle.std.specs.declared.alloc.AllocError.{AllocError}
@@ -22,10 +22,6 @@ pub default_of : {V : Type 0} {reads declared : Option V → Type 0} {blank : Ty
 default_of {v = v} r d (inl h) is says = some_read r v d (is (Some v) h)
 default_of {v = v} r d (inr (h, inl k)) is says = none_read r v d (is None h) (same_Some v d (says (Some v) k))
 default_of {v = v} r d (inr (h, inr k)) is says = absurd (none-some d (says None k.0))
-
-pub if_ok : {V E : Type 0} (r : Result V E) (P Q : V → Type 0) → IfOk r P → ((v : V) → P v → Q v) → IfOk r Q
-if_ok (Ok v) P Q h f = f v h
-if_ok (Err e) P Q h f = tt
 
 made : {V : Type 0} {Q : Global → V → Type 0} (d : V) → ((a : Global) (w : V) → Q a w → w ≡ d) → (o : Option V)
     → ((a : Global) × (w : V) × Q a w × (o ≡ Some w)) → o ≡ Some d

@@ -19,6 +19,9 @@ use Rattle.std.proofs.lemmas.Bool.Decides.{Decides-and, Decides-int_eq, Decides-
 use Rattle.std.specs.Int.Signed.{◌≤ℤ◌, ◌<ℤ◌, clash_ℤ}
 use Rattle.std.proofs.lemmas.Int.{by_lt_z}
 use Rattle.std.proofs.lemmas.Option.{none-some, same_Some}
+use Rattle.std.proofs.lemmas.Bool.{false≢true}
+use Rattle.std.specs.Cmp.{booleans_Decides}
+use Rattle.std.proofs.lemmas.Iterator.Adapters.{option_map_id}
 use Rattle.buffa_options.specs.Rules.{Accepts, BreaksRule}
 use Rattle.buffa_options.specs.Pinned.{AcceptsOrBreaks, NotBoth, OneViolation}
 use Rattle.buffa_options.specs.declared.rules.Rules.{Rules}
@@ -52,12 +55,6 @@ is_judged rules (Some v) = some_judged rules v (least_or rules.min v) (most_or r
 
 -- ---- in one way
 
-not_both_of : (b : Bool) → b ≡ false → b ≡ true → ⊥
-not_both_of b h k = by (sym h ∙ k)
-  where
-    by : false ≡ true → ⊥
-    by e = cc
-
 too_small : (m : Option ℤ) (v w least : ℤ) → IfSome m (λ l. l ≤ℤ v) → m ≡ Some least → v ≡ w → w <ℤ least → ⊥
 too_small m v w least a e same lt = clash_ℤ lt (subst (λ x. least ≤ℤ x) same (subst (λ o. IfSome o (λ l. l ≤ℤ v)) e a))
 
@@ -65,7 +62,7 @@ too_great : (m : Option ℤ) (v w most : ℤ) → IfSome m (λ l. v ≤ℤ l) �
 too_great m v w most a e same lt = clash_ℤ lt (subst (λ x. x ≤ℤ most) same (subst (λ o. IfSome o (λ l. v ≤ℤ l)) e a))
 
 pub not_both : NotBoth
-not_both rules None Missing a h = not_both_of rules.required a h.1
+not_both rules None Missing a h = false≢true (sym a ∙ h.1)
 not_both rules None TooSmall a h = absurd (none-some h.0 h.2)
 not_both rules None TooGreat a h = absurd (none-some h.0 h.2)
 not_both rules (Some v) Missing a h = absurd (none-some v (sym h.0))
@@ -85,31 +82,17 @@ one_violation rules o TooGreat TooGreat h k = refl
 
 -- ---- rules that `==` says are equal are one
 
-bits : (a b : Bool) → Decides (beq a b) (a ≡ b)
-bits true true = (λ _. refl, λ _. refl)
-bits false false = (λ _. refl, λ _. refl)
-bits true false = (λ h. absurd (true≢false (sym h)), λ h. absurd (true≢false h))
-bits false true = (λ h. absurd (true≢false (sym h)), λ h. absurd (true≢false (sym h)))
-
-some_is : (a b : ℤ) → Some a ≡ Some b → a ≡ b
-some_is a b e = same_Some a b e
-
 bounds : (a b : Option ℤ) → Decides (option_eq int_eq a b) (a ≡ b)
 bounds None None = (λ _. refl, λ _. refl)
 bounds None (Some b) = (λ h. absurd (true≢false (sym h)), λ h. absurd (none-some b h))
 bounds (Some a) None = (λ h. absurd (true≢false (sym h)), λ h. absurd (none-some a (sym h)))
-bounds (Some a) (Some b) = Decides-like (int_eq a b) (λ e. ap Some e) (some_is a b) (Decides-int_eq a b)
+bounds (Some a) (Some b) = Decides-like (int_eq a b) (λ e. ap Some e) (same_Some a b) (Decides-int_eq a b)
 
 pub rules_decide : (a b : Rules) → Decides (option_eq int_eq a.min b.min && (option_eq int_eq a.max b.max && beq a.required b.required)) (a ≡ b)
 rules_decide a b =
     Decides-like _ (λ h i. record { min = h.0 i; max = h.1.0 i; required = h.1.1 i })
     (λ e. (ap (λ (r : Rules). r.min) e, (ap (λ (r : Rules). r.max) e, ap (λ (r : Rules). r.required) e)))
-    (Decides-and _ _ (bounds a.min b.min) (Decides-and _ _ (bounds a.max b.max) (bits a.required b.required)))
-
--- ---- a member that may be absent means its bit
-pub bit_is : (x : Option Bool) → option_map (λ b. b) x ≡ x
-bit_is None = refl
-bit_is (Some b) = refl
+    (Decides-and _ _ (bounds a.min b.min) (Decides-and _ _ (bounds a.max b.max) (booleans_Decides a.required b.required)))
 
 -- ---- the declared field
 module _ (d n : ℕ) where
@@ -132,10 +115,10 @@ module _ (d n : ℕ) where
       let read = declared_ok w (option_map (λ b. b) x) p rest (option_map (λ b. b) y) h t in
       let unknown : after.unknown ≡ before.unknown = omega (arith, k.0) in
       let memory : after.memory ≡ before.memory = omega (arith, k.1) in
-      ((read.0, sym (bit_is y) ∙ read.1, ap (field_value_at bool_reading d false n w) e ∙ read.2), λ i. record { unknown = unknown i; memory = memory i })
+      ((read.0, sym (option_map_id y) ∙ read.1, ap (field_value_at bool_reading d false n w) e ∙ read.2), λ i. record { unknown = unknown i; memory = memory i })
   declared_read x y w bs rest before after (Err e) (k, why, end) full refused =
       let unknown : after.unknown ≡ before.unknown = omega (arith, k.0, k.1, k.2, k.3) in
       let memory : after.memory ≡ before.memory = omega (arith, k.0, k.1, k.2, k.3) in
       let told = refused e refl in
       let none : e ≢ OutOfMemory = λ is. let asked = (full is).1 in cc in
-      ((sym (bit_is y) ∙ sym told.0 ∙ bit_is x, told.1 none), λ i. record { unknown = unknown i; memory = memory i })
+      ((sym (option_map_id y) ∙ sym told.0 ∙ option_map_id x, told.1 none), λ i. record { unknown = unknown i; memory = memory i })

@@ -2,7 +2,6 @@
 
 ghost use Rattle.std.proofs.Common.{lit<};
 ghost use Rattle.std.specs.Prelude.{codes, refl};
-ghost use Rattle.buffa_wire.specs.Records.{Held};
 ghost use Rattle.buffa_fields_base.specs.Members.{keep};
 
 use buffa_ext::ExtensionSet;

@@ -1,7 +1,7 @@
 //! What the definitions of options and rules say together: each law is a function with nothing to do, whose
 //! contract is the law.
 
-ghost use Rattle.std.specs.Prelude.{◌≡◌, ◌↔◌, ◌⊎◌, ℕ, ℤ, List, [], ◌∷◌, FitsSigned, None, Option, Some, codes, map, option_map};
+ghost use Rattle.std.specs.Prelude.{◌≡◌, ◌↔◌, ℕ, ℤ, List, [], ◌∷◌, FitsSigned, None, Option, Some, codes, map, option_map};
 ghost use Rattle.std.specs.Prelude.{pos};
 ghost use Rattle.std.specs.Int.{w64};
 ghost use Rattle.buffa_bytes.specs.Scalars.{sint64_of, sint64_encoding, zigzag};

@@ -3,7 +3,6 @@
 ghost use Rattle.std.specs.Prelude.{◌≡◌, ◌≢◌, [], codes, refl, pos, unwrap_or};
 ghost use Rattle.std.proofs.Common.{lit<};
 ghost use Rattle.std.specs.Prelude.{IfOk, IsOk, OnErr, option_map, string_bytes};
-ghost use Rattle.buffa_wire.specs.Records.{Held};
 ghost use Rattle.buffa_codec.specs.Decoded.{HasByte};
 ghost use Rattle.buffa_fields_base.specs.Members.{field, keep};
 ghost use Rattle.buffa_options.specs.Options.{bool_option, int32_list, int32_option, string_option};

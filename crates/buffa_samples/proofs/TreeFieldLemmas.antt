@@ -15,23 +15,17 @@ use Rattle.buffa_bytes.specs.Gives.{◌>>=◌, FullOnlyIf, Gives}
 use Rattle.buffa_wire.specs.Message.{IsFieldMerged, cost_in, merged_in}
 use Rattle.buffa_bytes.specs.Front.{check_wire, skip_at}
 use Rattle.buffa_bytes.specs.Values.{int32_at}
-use Rattle.buffa_fields_base.proofs.WireLemmas.{checked_same, checked_other}
-use Rattle.buffa_map_base.proofs.NeedLemmas.{checked}
+use Rattle.buffa_bytes.proofs.WireLemmas.{checked_same, checked_other}
 use Rattle.buffa_map.specs.Children.{ChildCost, ChildMeaning, Children, children_in, listed-children_in}
 use Rattle.buffa_map.specs.declared.map_entry.MapEntry.{MapEntry}
 use Rattle.buffa_wire.proofs.CostLemmas.{paid}
 use Rattle.buffa_wire.proofs.ByPayloadLemmas.{ByPayload, by_payload}
+use Rattle.buffa_wire.specs.Pinned.{done, refusal}
 use Rattle.buffa_samples.specs.Fields.{int32_field, skipped_field, value_field}
 use Rattle.buffa_samples.specs.FieldsFacts.{value_sound}
 use Rattle.buffa_samples.specs.Grown.{Grown, grown}
 use Rattle.buffa_samples.specs.TreeFacts.{tree_cost_is, tree_field_stays, tree_merged_is, tree_need_stays, tree_same, tree_sound}
 use Rattle.buffa_samples.specs.TreeMeaning.{IsChildMerged, child_at, tree_cost, entry_need, tree_merged, tree_need, tree_takes, tree_field, tree_field_need, with_child, with_label}
-
-abbrev pub done : Result (Unit {0}) DecodeError
-done = Ok tt
-
-abbrev pub refused : DecodeError → Result (Unit {0}) DecodeError
-refused e = Err e
 
 -- ---- one field, at a level
 module _ (d : ℕ) (m : ChildMeaning Grown) (c : ChildCost) where
@@ -92,7 +86,7 @@ module _ (d : ℕ) (m : ChildMeaning Grown) (c : ChildCost) where
   no_mismatch w e h = subst (λ z. NoLimit z) (sym (checked_other 2 LengthDelimited w e h).1) (λ l. l)
 
   pub wire_paid : (e : DecodeError) (old : Grown) (n : ℕ) (w : WireType) (bs : List ℕ) (left : BudgetLeft) → n ≡ 2 → check_wire n LengthDelimited w ≡ Err e →
-      TreePaid (refused e) old old n w bs bs left left
+      TreePaid (refusal e) old old n w bs bs left left
   wire_paid e old n w bs left two h =
       let here : check_wire 2 LengthDelimited w ≡ Err e = subst (λ z. check_wire z LengthDelimited w ≡ Err e) two h in
       ((omega arith, omega arith, omega arith, omega arith), λ ne. inr (e, rw (two, here) refl, no_mismatch w e here))
@@ -110,7 +104,7 @@ module _ (d : ℕ) (m : ChildMeaning Grown) (c : ChildCost) where
     said_err e wire h = rw (wire, h) refl
 
     need_is : check_wire 2 LengthDelimited w ≡ Ok tt → tree_field_need d m c 2 w bs ≡ entry_need d m c bs
-    need_is wire = rw (checked 2 LengthDelimited w wire) refl
+    need_is wire = rw (checked_same 2 LengthDelimited w wire) refl
 
     -- the entry is merged, and so is the field
     pub ok_paid : (s : MapEntry ℤ Grown) (n : ℕ) (new : List (ℤ × Grown)) (rest : List ℕ) (before after : BudgetLeft) → n ≡ 2 → check_wire n LengthDelimited w ≡ Ok tt → child_at d m bs ≡ Ok (s, rest) →
@@ -121,10 +115,10 @@ module _ (d : ℕ) (m : ChildMeaning Grown) (c : ChildCost) where
         (said_ok s new rest here h is, subst (λ z. Pays before z after) (sym (need_is here)) p)
 
     pub err_paid : (e : DecodeError) (n : ℕ) (new : Grown) (rest : List ℕ) (before after : BudgetLeft) → n ≡ 2 → check_wire n LengthDelimited w ≡ Ok tt → PaysAtMost before (entry_need d m c bs) after →
-        (e ≢ OutOfMemory → Lacks before (entry_need d m c bs) ⊎ ((x : DecodeError) × (child_at d m bs ≡ Err x) × NoLimit e)) → TreePaid (refused e) (grown l (children_in es)) new n w bs rest before after
+        (e ≢ OutOfMemory → Lacks before (entry_need d m c bs) ⊎ ((x : DecodeError) × (child_at d m bs ≡ Err x) × NoLimit e)) → TreePaid (refusal e) (grown l (children_in es)) new n w bs rest before after
     err_paid e n new rest before after two wire p why =
         let here : check_wire 2 LengthDelimited w ≡ Ok tt = subst (λ z. check_wire z LengthDelimited w ≡ Ok tt) two wire in
-        subst (λ z. TreePaid (refused e) (grown l (children_in es)) new z w bs rest before after) (sym two)
+        subst (λ z. TreePaid (refusal e) (grown l (children_in es)) new z w bs rest before after) (sym two)
         (subst (λ z. PaysAtMost before z after) (sym (need_is here)) p, λ ne. told here (why ne))
       where
         told : check_wire 2 LengthDelimited w ≡ Ok tt → Lacks before (entry_need d m c bs) ⊎ ((x : DecodeError) × (child_at d m bs ≡ Err x) × NoLimit e) →
@@ -145,8 +139,8 @@ module _ (n : ℕ) (w : WireType) (bs rest : List ℕ) (before after : BudgetLef
         subst (λ z. IsFieldMerged tree_merged tree_cost d z n w bs before done (grown l (children_in new)) after rest) is
         (as_merged d done (grown l (children_in es)) (grown l (children_in new)) (ok_paid d (merged_in tree_merged d) (cost_in tree_cost d) l es w bs s n new rest before after two wire h k p))
     child_merged (Err e) new two wire (p, why) =
-        subst (λ z. IsFieldMerged tree_merged tree_cost d z n w bs before (refused e) (grown l (children_in new)) after rest) is
-        (as_merged d (refused e) (grown l (children_in es)) (grown l (children_in new)) (err_paid d (merged_in tree_merged d) (cost_in tree_cost d) l es w bs e n (grown l (children_in new)) rest before after two wire p why))
+        subst (λ z. IsFieldMerged tree_merged tree_cost d z n w bs before (refusal e) (grown l (children_in new)) after rest) is
+        (as_merged d (refusal e) (grown l (children_in es)) (grown l (children_in new)) (err_paid d (merged_in tree_merged d) (cost_in tree_cost d) l es w bs e n (grown l (children_in new)) rest before after two wire p why))
 
 module _ (n : ℕ) (w : WireType) (bs rest : List ℕ) (left : BudgetLeft) (d : ℕ) (old : Grown) where
   pub label_merged : (l : ℤ) (es : List (ℤ × Grown)) → grown l (children_in es) ≡ old → (r : Result (Unit {0}) DecodeError) (new : ℤ) → n ≢ 2 → Gives (λ _. (new, rest)) r (value_field d l n w bs) →
@@ -155,8 +149,8 @@ module _ (n : ℕ) (w : WireType) (bs rest : List ℕ) (left : BudgetLeft) (d : 
       subst (λ z. IsFieldMerged tree_merged tree_cost d z n w bs left r (grown new (children_in es)) left rest) is
       (as_merged n w bs rest left left d r (grown l (children_in es)) (grown new (children_in es)) (label_paid d (merged_in tree_merged d) (cost_in tree_cost d) r l new (children_in es) n w bs rest left other h))
 
-  pub wire_merged : (e : DecodeError) → n ≡ 2 → check_wire n LengthDelimited w ≡ Err e → IsFieldMerged tree_merged tree_cost d old n w bs left (refused e) old left bs
-  wire_merged e two h = as_merged n w bs bs left left d (refused e) old old (wire_paid d (merged_in tree_merged d) (cost_in tree_cost d) e old n w bs left two h)
+  pub wire_merged : (e : DecodeError) → n ≡ 2 → check_wire n LengthDelimited w ≡ Err e → IsFieldMerged tree_merged tree_cost d old n w bs left (refusal e) old left bs
+  wire_merged e two h = as_merged n w bs bs left left d (refusal e) old old (wire_paid d (merged_in tree_merged d) (cost_in tree_cost d) e old n w bs left two h)
 
 -- ---- all fields
 pub tree_by_payloads : ByPayload tree_takes tree_need tree_merged tree_cost

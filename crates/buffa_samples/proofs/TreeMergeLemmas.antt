@@ -20,10 +20,10 @@ use Rattle.buffa_map.specs.Children.{ChildCost, ChildMeaning, child_reading, mea
 use Rattle.buffa_map_base.specs.MessageFacts.{meant_known}
 use Rattle.buffa_map_base.specs.Pairs.{SamePairs}
 use Rattle.buffa_wire.specs.Sequence.{ParsesEach}
+use Rattle.buffa_wire.specs.Pinned.{done, refusal}
 use Rattle.buffa_map_base.specs.Run.{step}
 use Rattle.buffa_map.specs.declared.map_entry.MapEntry.{MapEntry}
 use Rattle.buffa_samples.specs.Grown.{Grown, blank_tree}
-use Rattle.buffa_samples.proofs.TreeFieldLemmas.{done, refused}
 use Rattle.buffa_samples.specs.TreeFacts.{entry_no_limit}
 use Rattle.buffa_samples.specs.TreeMeaning.{IsChildMerged, child_at, entry_need, tree_cost, tree_merged}
 
@@ -96,7 +96,7 @@ module _ (old new : List (ℤ × Grown)) (before after : BudgetLeft) (bs rest : 
       let q = said (suc d) (tree_merged d) (tree_cost d) bs h.entry rest h.says h.read in
       (h.says, q.0, is_put old new h.says s t q.1 h.put, paid (suc d) (tree_merged d) (tree_cost d) bs h.entry rest h.says before after h.read h.pays)
 
-  child_refused : (d : ℕ) (f : DecodeError) → TreeRefused d f → IsChildMerged d old bs before (refused f) new after rest
+  child_refused : (d : ℕ) (f : DecodeError) → TreeRefused d f → IsChildMerged d old bs before (refusal f) new after rest
   unfolding need_at
   child_refused zero f h = (spent zero (λ _ _. None) (λ _. nothing) before after bs h.units h.most h.least, λ ne. told zero (λ _ _. None) (λ _. nothing) bs before f (h.fault ne))
   child_refused (suc d) f h = (spent (suc d) (tree_merged d) (tree_cost d) before after bs h.units h.most h.least, λ ne. told (suc d) (tree_merged d) (tree_cost d) bs before f (h.fault ne))

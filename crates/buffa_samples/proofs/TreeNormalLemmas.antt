@@ -25,7 +25,8 @@ use Rattle.buffa_wire.specs.BudgetLeft.{nothing}
 use Rattle.buffa_wire.specs.Sequence.{ParsesEach}
 use Rattle.buffa_bytes.proofs.ScalarLemmas.{int32_fits}
 use Rattle.buffa_bytes.specs.Values.{int32_at, int32_of}
-use Rattle.buffa_map_base.proofs.EntryLemmas.{check_sound, entry_sound}
+use Rattle.buffa_bytes.proofs.WireLemmas.{check_sound}
+use Rattle.buffa_map_base.proofs.EntryLemmas.{entry_sound}
 use Rattle.buffa_map_base.specs.Entry.{IsEntry, IsEntryField, blanks}
 use Rattle.buffa_map.specs.declared.map_entry.MapEntry.{MapEntry}
 use Rattle.buffa_map_base.proofs.SortedLemmas.{sorted_put}

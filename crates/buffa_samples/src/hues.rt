@@ -1,6 +1,6 @@
 //! Enums of one's own: an old one, and a new one that declares a third value.
 
-ghost use Rattle.std.specs.Prelude.{◌≡◌, None, Some, if◌then◌else◌, pos, refl};
+ghost use Rattle.std.specs.Prelude.{None, Some, if◌then◌else◌, pos, refl};
 ghost use Rattle.std.specs.Ordering.{int_eq};
 
 use buffa_wire::{Blank, Enumeration, MapKey, PlainKey};

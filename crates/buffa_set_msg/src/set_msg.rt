@@ -6,7 +6,6 @@ ghost use Rattle.buffa_wire.specs.BudgetLeft.{budget_left};
 ghost use Rattle.buffa_bytes.specs.Gives.{FullOnlyIf};
 ghost use Rattle.buffa_wire.specs.Message.{BeginsField, MergesBytes, MergesField};
 ghost use Rattle.buffa_wire.specs.Passes.{IsSized, IsWritten};
-ghost use Rattle.buffa_wire.specs.Records.{Held};
 ghost use Rattle.buffa_bytes.specs.Written.{UsesRoom, Writes};
 ghost use Rattle.buffa_wire.specs.Takes.{taken_by};
 ghost use Rattle.buffa_wire.proofs.TakesLemmas.{cost_by_is, merged_by_is};

@@ -1,7 +1,6 @@
 //! A message of one's own with extensions: its other fields stay.
 
 ghost use Rattle.std.specs.Prelude.{◌≡◌, codes, refl};
-ghost use Rattle.buffa_wire.specs.Records.{Held};
 
 use buffa::extension::codecs::Int32;
 use buffa::{EncodeError, Extension, ExtensionSet, UnknownFields};

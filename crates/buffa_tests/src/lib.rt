@@ -1,6 +1,6 @@
 //! Tests of what crosses crates, by the names of the facade, and of what is no case of a table: the cases stand in
-//! `vectors`, and the programs `conformance..` run them. Then the examples of the documentation, run: each line of them
-//! stands in a function here, or in another proved one. Nothing stands on this crate.
+//! `vectors`, and the programs `conformance..` run them. Then the worked examples of docs/GUIDE.md, run. Nothing stands on
+//! this crate.
 //!
 //! Expected values come from outside: from the protobuf encoding guide, worked out by hand, or from a table. The
 //! messages, enums and keys stand in `buffa_samples`, an extendee and the options in `buffa_options`. Tests compare
@@ -10,12 +10,9 @@
 #[cfg(test)]
 mod carrier;
 #[cfg(test)]
-mod examples;
 #[cfg(test)]
 mod facade;
 #[cfg(test)]
 mod guide;
 #[cfg(test)]
 mod large;
-#[cfg(test)]
-mod user;

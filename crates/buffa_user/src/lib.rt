@@ -3,6 +3,8 @@
 #![tactic(auto)]
 
 pub mod stock;
+#[cfg(test)]
+mod tests;
 
 ghost use Rattle.std.specs.Prelude.{◌≡◌, IfOk, string_bytes, vec_items};
 ghost use Rattle.buffa.specs.MapFields.{field_size, field_encoding, means, saturated};

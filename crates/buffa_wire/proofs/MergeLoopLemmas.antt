@@ -1,5 +1,5 @@
 -- Merging the fields of a message one after the other: how far it came, and why it stops.
-use Rattle.std.proofs.Common.{◌≡◌, ◌≢◌, ◌⊎◌, inl, inr, ℕ, ◌<◌, ◌≤◌, List, [], ◌++◌, length, Option, Some, Result, Ok, Err, refl, sym, ap, subst, ◌∙◌, arith, append_assoc, append-nil, length-append}
+use Rattle.std.proofs.Common.{◌≡◌, ◌≢◌, ◌⊎◌, inl, inr, ℕ, ◌<◌, ◌≤◌, List, [], ◌++◌, length, Option, Some, Ok, Err, refl, sym, ap, subst, ◌∙◌, arith, append_assoc, append-nil, length-append}
 use Rattle.std.proofs.lemmas.List.{nil_from_length}
 use Rattle.std.proofs.lemmas.Option.{same_Some}
 use Rattle.std.specs.Option.{option_and_then}
@@ -18,12 +18,7 @@ use Rattle.buffa_wire.proofs.MessageLemmas.{join_more, loop_fault, reaches_tag}
 use Rattle.buffa_wire.specs.BudgetLeft.{BudgetLeft, Pays, PaysAtMost, plus}
 use Rattle.buffa_wire.specs.Message.{BeginsField, IsFieldMerged, MergeFault}
 use Rattle.buffa_wire.specs.Takes.{Need, Taker}
-
-abbrev good : Result (Unit {0}) DecodeError
-good = Ok tt
-
-abbrev bad : DecodeError → Result (Unit {0}) DecodeError
-bad e = Err e
+use Rattle.buffa_wire.specs.Pinned.{done, refusal}
 
 -- the fields before what is left were merged, and exactly their cost was spent
 pub record CameTo {X : Type 0} (merged : ℕ → X → List ℕ → Option X) (cost : ℕ → List ℕ → BudgetLeft) (d : ℕ) (old : X) (all : List ℕ) (first : BudgetLeft) (now : X) (rest : List ℕ) (left : BudgetLeft) : Type 0 where
@@ -95,7 +90,7 @@ module _ {X : Type 0} {takes : Taker X} {need : Need} {merged : ℕ → X → Li
       took = agree_ok (tag_at rest) (n, w, bs) (tag_sound rest) tag
 
       -- a field more
-      pub goes_on : (new : X) (x : List ℕ) (over : BudgetLeft) → IsFieldMerged merged cost d now n w bs left good new over x → CameTo merged cost d old all first new x over
+      pub goes_on : (new : X) (x : List ℕ) (over : BudgetLeft) → IsFieldMerged merged cost d now n w bs left done new over x → CameTo merged cost d old all first new x over
       goes_on new x over (p, payload, is, one) =
           let t = took.0 in
           let f = came.front in
@@ -109,11 +104,11 @@ module _ {X : Type 0} {takes : Taker X} {need : Need} {merged : ℕ → X → Li
             pays = (omega (arith, came.pays.0, this.1.0, ap (λ (z : BudgetLeft). z.unknown) adds), omega (arith, came.pays.1, this.1.1, ap (λ (z : BudgetLeft). z.memory) adds));
           }
 
-      pub shorter : (new : X) (x : List ℕ) (over : BudgetLeft) → IsFieldMerged merged cost d now n w bs left good new over x → length x < length rest
+      pub shorter : (new : X) (x : List ℕ) (over : BudgetLeft) → IsFieldMerged merged cost d now n w bs left done new over x → length x < length rest
       shorter new x over (p, payload, is, one) = omega (arith, tag_some took.0 n w took.1, ap length took.2, length-append took.0 bs, ap length is, length-append p x)
 
       -- the next field is refused
-      pub refused_next : (e : DecodeError) (new : X) (x : List ℕ) (over : BudgetLeft) → IsFieldMerged merged cost d now n w bs left (bad e) new over x → Refuses e over
+      pub refused_next : (e : DecodeError) (new : X) (x : List ℕ) (over : BudgetLeft) → IsFieldMerged merged cost d now n w bs left (refusal e) new over x → Refuses e over
       refused_next e new x over why =
           stopped e over (subst (λ (z : List ℕ). PaysAtMost left (cost d z) over × (e ≢ OutOfMemory → MergeFault (merged d now z) (cost d z) left e)) (sym took.2)
           (judged_all by d now n w bs left over e why took.0 took.1))

@@ -4,6 +4,7 @@ use Rattle.buffa_bytes.specs.Written.{Writes}
 use Rattle.buffa_bytes.specs.declared.error.EncodeError.{EncodeError}
 use Rattle.buffa_wire.specs.Passes.{Consumes, IsLonger, IsNext, WritesIf}
 use Rattle.buffa_wire.specs.Cache.{Cache, advanced, appended}
+use Rattle.buffa_wire.specs.Pinned.{done, refusal}
 
 -- ---- the cursor
 
@@ -33,12 +34,6 @@ pub next_front : (ss zs : List ℕ) (c : Cache) → IsNext (ss ++ zs) c → IsNe
 next_front ss zs c (rest, e) = (zs ++ rest, e ∙ append_assoc ss zs rest)
 
 -- ---- the write pass
-
-abbrev pub done : Result (Unit {0}) EncodeError
-done = Ok tt
-
-abbrev pub refused : EncodeError → Result (Unit {0}) EncodeError
-refused e = Err e
 
 stays : (c : Cache) → c ≡ advanced 0 c
 stays c = λ i. record { slots = c.slots; next = sym (add-zero c.next) i }
@@ -93,7 +88,7 @@ module _ (P Q R : Type 0) (t u s z : List ℕ) (c0 c1 c2 : Cache) (b0 b1 b2 : Li
   )
 
   -- an encoding that was cut short
-  pub written_short : (R → P) → (e : EncodeError) → WritesIf P t s c0 b0 (refused e) c1 b1 → WritesIf R (t ++ u) (s ++ z) c0 b0 (refused e) c1 b1
+  pub written_short : (R → P) → (e : EncodeError) → WritesIf P t s c0 b0 (refusal e) c1 b1 → WritesIf R (t ++ u) (s ++ z) c0 b0 (refusal e) c1 b1
   written_short f e (xs, p, q) = (
     xs,
     p,
@@ -110,7 +105,7 @@ module _ (P Q R : Type 0) (t u s z : List ℕ) (c0 c1 c2 : Cache) (b0 b1 b2 : Li
 
 -- an error that is passed on by `?`
 pub written_err : (P : Type 0) (t s : List ℕ) (c0 c1 : Cache) (b0 b1 : List ℕ) (r : Result (Unit {0}) EncodeError) (e f : EncodeError) → r ≡ Err f → f ≡ e →
-    WritesIf P t s c0 b0 (refused e) c1 b1 → WritesIf P t s c0 b0 r c1 b1
+    WritesIf P t s c0 b0 (refusal e) c1 b1 → WritesIf P t s c0 b0 r c1 b1
 written_err P t s c0 c1 b0 b1 r e f p q h = subst (λ r. WritesIf P t s c0 b0 r c1 b1) (sym (p ∙ ap (λ x. Err x) q)) h
 
 -- an encoding that needs no slot

@@ -68,8 +68,11 @@ item_equal (x ∷ xs) (y ∷ ys) (suc i) d e h k p = let b : records_in xs ≡ r
 pub held_eq_yes : (a b : Held) → a.records ≡ b.records → held_eq a b ≡ true
 held_eq_yes a b e = (records_eq-Decides (records_of a.records) (records_of b.records)).1 (ap records_of e)
 
+pub held_eq_same : (a b : Held) → held_eq a b ≡ true → a.records ≡ b.records
+held_eq_same a b e = sym (list-records a.records) ∙ ap list_of ((records_eq-Decides (records_of a.records) (records_of b.records)).0 e) ∙ list-records b.records
+
 pub held_eq_no : (a b : Held) → (a.records ≡ b.records → ⊥) → held_eq a b ≡ false
-held_eq_no a b other = false_from_ne_true (held_eq a b) (λ h. other (sym (list-records a.records) ∙ ap list_of ((records_eq-Decides (records_of a.records) (records_of b.records)).0 h) ∙ list-records b.records))
+held_eq_no a b other = false_from_ne_true (held_eq a b) (λ h. other (held_eq_same a b h))
 
 pub not_same : (s o : Held) (xs ys : List UnknownField) (i : ℕ) (a b : UnknownField) → records_in xs ≡ s.records → records_in ys ≡ o.records → i < length xs → i < length ys
     → a ≡ get_or xs i a → b ≡ get_or ys i b → field_eq a b ≡ false → false ≡ held_eq s o

@@ -2,9 +2,10 @@
 use Rattle.std.proofs.Common.{rules, arith, ◌≡◌, ◌<◌, ◌≤◌, ◌^◌, ℕ, List, Result, Some, None, Ok, Err, true, length, ap, ◌∙◌}
 use Rattle.std.proofs.lemmas.Str.Parse.{IsNumeralModel, numerals_by_value, parse_digits, digits_value_short}
 use Rattle.std.specs.Str.Parse.{digits_value, ParsesUnsigned}
+use Rattle.std.proofs.lemmas.Result.{Ok-from_Ok_iff}
 use Rattle.std.specs.List.{list_all}
 use Rattle.std.specs.Char.{is_ascii_digit}
-use Rattle.std.specs.Result.{OkIff, result_ok}
+use Rattle.std.specs.Result.{result_ok}
 use Rattle.std.specs.Prelude.{IsUtf8, MatchResult}
 use Rattle.std.proofs.Common.{Bor}
 use Rattle.std.proofs.lemmas.Str.{IsUtf8-from_ascii}
@@ -20,11 +21,7 @@ own = numerals_by_value _ (search rules)
 pub parsed : {E : Type 0} (ds : List ℕ) (r : Result ℕ E) → IsDigits ds → 0 < length ds → length ds ≤ 10 → ParsesUnsigned 64 10 ds r → r ≡ Ok (digits_value 10 ds)
 parsed ds r digits some few h =
     let small : digits_value 10 ds < 10 ^ 10 = digits_value_short own ds 10 digits few in
-    ok r (digits_value 10 ds) (0 < length ds × (digits_value 10 ds < 2 ^ 64)) (some, omega arith) (parse_digits own 64 ds r h digits)
-  where
-    ok : {E : Type 0} (r : Result ℕ E) (n : ℕ) (P : Type 0) → P → OkIff r P n → r ≡ Ok n
-    ok (Ok x) n P p h = ap Ok h.1
-    ok (Err e) n P p h = absurd (h p)
+    Ok-from_Ok_iff r (0 < length ds × (digits_value 10 ds < 2 ^ 64)) (digits_value 10 ds) (parse_digits own 64 ds r h digits) (some, omega arith)
 
 -- digits are text
 pub digits_are_text : (ds : List ℕ) → IsDigits ds → IsUtf8 ds

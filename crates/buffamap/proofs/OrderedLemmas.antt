@@ -1,8 +1,8 @@
 -- A map of texts whose entries are in the order of its keys is a list of its pairs in the order of their bytes.
 use Rattle.std.proofs.Common.{◌≡◌, List, [], ◌∷◌, refl, sym, ◌∙◌, ap, subst, Ordering, ℕ, ℤ, String, string_bytes}
-use Rattle.std.specs.Cmp.Lexicographic.{nat_list_cmp_total, slice_cmp, texts_ties}
+use Rattle.std.specs.Cmp.Lexicographic.{nat_list_cmp_total, texts_ties}
 use Rattle.std.specs.Cmp.{eq_by_cmp_equiv}
-use Rattle.std.specs.Ordering.{nat_cmp, eq_by_cmp, match_ordering}
+use Rattle.std.specs.Ordering.{eq_by_cmp, match_ordering}
 use Rattle.std.specs.String.{string_cmp}
 use Rattle.std.specs.Map.{keys_of}
 use Rattle.std.specs.List.{IsDistinct}
@@ -14,11 +14,9 @@ use Rattle.buffa_map_base.specs.Pairs.{SamePairs}
 use Rattle.buffa_map_base.specs.Pairs as maps
 use Rattle.buffa_map_base.proofs.PutLemmas.{SamePairs-insert_entry, SamePairs-put}
 use Rattle.buffa_fields.proofs.OrderedLemmas.{sorted_means}
+use Rattle.buffa_node.specs.NodeMeaning.{text_cmp}
 use Rattle.buffamap.specs.Lines.{ListedInOrder, Pair, pairs_of, with_pair, same_key}
 use Rattle.buffa_map_base.proofs.SortedLemmas.{same_sorted}
-
-abbrev text_cmp : List ℕ → List ℕ → Ordering
-text_cmp = slice_cmp nat_cmp
 
 -- keys are one key where they are one in the order
 pub same_test : eq_by_cmp text_cmp ≡ same_key

@@ -5,7 +5,7 @@ use Rattle.std.specs.Int.{w32}
 use Rattle.std.specs.List.Sorted.{IsStrictlySortedBy}
 use Rattle.std.specs.Map.{keys_of}
 use Rattle.std.specs.Ordering.{int_cmp, int_eq}
-use Rattle.std.proofs.lemmas.Result.{on_ok_weaker}
+use Rattle.std.proofs.lemmas.Result.{on_ok_weaker, IfErr-weaker}
 use Rattle.buffa_bytes.specs.declared.error.DecodeError.{DecodeError}
 use Rattle.buffa_bytes.specs.declared.error.EncodeError.TheVariants.{GroupRefused, MessageTooLarge, OutOfMemory}
 use Rattle.buffa_wire.specs.BudgetLeft.{BudgetLeft, defaults}
@@ -18,7 +18,6 @@ use Rattle.buffa_map_base.specs.Encoding.{HasEncoding, entry_encoding}
 use Rattle.buffa_map.specs.declared.rewrite.RewriteError.{RewriteError}
 use Rattle.buffa_map.specs.declared.rewrite.RewriteError.TheVariants.{Decode, Encode}
 use Rattle.buffa_map_base.proofs.RunLemmas.{run_complete}
-use Rattle.buffa_map_base.proofs.ResultLemmas.{IfErr-map}
 use Rattle.buffamap.specs.declared.choice.Choice.{Choice}
 use Rattle.buffamap.specs.Choice.{two_numbers}
 use Rattle.buffa_map_base.specs.Scalars.{int32_reading, int32_writing}
@@ -79,7 +78,7 @@ module _ (d n : ℕ) (left over : BudgetLeft) (bs rest old new : List ℕ) (befo
   why (Encode (GroupRefused e)) k = λ real. absurd k.encoding
 
   pub refused : {T : Type 0} (r : Result T RewriteError) → IfErr r Refuses → IfErr r (IsRewriteError (choice_run n bs))
-  refused r h = IfErr-map r why h
+  refused r h = IfErr-weaker r _ _ why h
 
 -- what was written, in hexadecimal, is the reply
 pub replied : (n : ℕ) (run : Result (List Entry × BudgetLeft) DecodeError) (out text : List ℕ) → RunRewritesTo n run out → text ≡ hex_line out → IsRewritten n run (success text)

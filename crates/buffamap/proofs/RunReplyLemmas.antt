@@ -1,7 +1,7 @@
 -- What a run into an empty map gives, as the reading of the run.
 use Rattle.std.proofs.Common.{◌≡◌, ◌≢◌, ℕ, Bool, false, List, [], ◌++◌, Result, Ok, Err, sym, ap, ◌∙◌, subst}
 use Rattle.std.specs.Prelude.{IfErr, OnOk}
-use Rattle.std.proofs.lemmas.Result.{on_ok_weaker}
+use Rattle.std.proofs.lemmas.Result.{on_ok_weaker, IfErr-weaker}
 use Rattle.buffa_bytes.specs.declared.error.DecodeError.{DecodeError}
 use Rattle.buffa_bytes.specs.declared.error.DecodeError.TheVariants.{OutOfMemory}
 use Rattle.buffa_wire.specs.BudgetLeft.{BudgetLeft, defaults, nothing}
@@ -12,7 +12,6 @@ use Rattle.buffa_map_base.specs.Pairs.{SamePairs}
 use Rattle.buffa_map_base.specs.Merge.{ReadsRun, StopsRun, rules, state}
 use Rattle.buffa_map_base.specs.Run.{fold_entries, ArePaid, Run, EntryRecord, added, run_of}
 use Rattle.buffa_map_base.proofs.RunLemmas.{run_complete, run_faulty}
-use Rattle.buffa_map_base.proofs.ResultLemmas.{IfErr-map}
 
 module _ {K V : Type 0} (key : Reading K) (val : Reading V) (eq : K → K → Bool) (cost slot : ℕ) (adds : ℕ → List ℕ → List (ℕ × Datum))
     (key_free : key.nested ≡ false → (d : ℕ) (c : Content) → key.cost d c ≡ nothing) (val_free : val.nested ≡ false → (d : ℕ) (c : Content) → val.cost d c ≡ nothing)
@@ -43,4 +42,4 @@ module _ {K V : Type 0} (key : Reading K) (val : Reading V) (eq : K → K → Bo
 
   pub stopped : (unread : List ℕ) → IfErr r (StopsRun (rules key val eq false d n cost slot adds) (state old records left) bs (state new kept over) unread) →
       IfErr r (λ f. f ≢ OutOfMemory → run_of key val 100 n cost slot defaults bs ≡ Err f)
-  stopped unread h = IfErr-map r (stops unread) h
+  stopped unread h = IfErr-weaker r _ _ (stops unread) h

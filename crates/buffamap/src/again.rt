@@ -1,5 +1,5 @@
 // `again node`, `again set`: a message, read and written again.
-ghost use Rattle.std.specs.Prelude.{◌≡◌, IfErr, IfOk};
+ghost use Rattle.std.specs.Prelude.{IfErr, IfOk};
 ghost use Rattle.buffamap.specs.Again.{IsReadAgain, RepliesToAgain};
 ghost use Rattle.buffamap.specs.Fault.{TellsReply};
 ghost use Rattle.buffamap.specs.Reply.{success};

@@ -1,5 +1,5 @@
 // The enum whose values `rewrite N` knows.
-ghost use Rattle.std.specs.Prelude.{◌≡◌, pos, refl};
+ghost use Rattle.std.specs.Prelude.{pos, refl};
 ghost use Rattle.buffamap.specs.Choice.{choice_of, number_of};
 
 use buffa::{Blank, Enumeration};

@@ -1,11 +1,7 @@
 // `read N`: the pairs of a run, a line each.
-ghost use Rattle.std.specs.Prelude.{◌≡◌, ◌≢◌, ℕ, ℤ, List, [], nat_eq, IfErr, IfOk, OnOk, Err, Ok};
-ghost use Rattle.std.specs.Cmp.Lexicographic.{pointwise};
+ghost use Rattle.std.specs.Prelude.{◌≡◌, ◌≢◌, [], IfErr, IfOk, OnOk, Err, Ok};
 ghost use Rattle.buffa_bytes.specs.declared.error.DecodeError.TheVariants.{OutOfMemory};
-ghost use Rattle.buffa_wire.specs.BudgetLeft.{BudgetLeft};
-ghost use Rattle.buffa_map_base.specs.Pairs.{SamePairs};
-ghost use Rattle.buffa_map_base.specs.Run.{fold_entries, EntryRecord};
-ghost use Rattle.buffamap.specs.Lines.{pairs_of, same_key};
+ghost use Rattle.buffamap.specs.Lines.{pairs_of};
 ghost use Rattle.buffamap.specs.Read.{ArePairsOfRun, RepliesToRead, RepliesToRun, run_from};
 ghost use Rattle.buffamap.specs.Fault.{TellsReply};
 ghost use Rattle.buffamap.specs.Reply.{success};

@@ -1,5 +1,5 @@
 // `write N`: the field of a map whose pairs are given in lines.
-ghost use Rattle.std.specs.Prelude.{◌≡◌, IfErr, IfOk};
+ghost use Rattle.std.specs.Prelude.{IfErr, IfOk};
 ghost use Rattle.buffa_bytes.specs.Number.{IsNumber};
 ghost use Rattle.buffamap.specs.Lines.{pairs_of};
 ghost use Rattle.buffamap.specs.Fault.{TellsReply};

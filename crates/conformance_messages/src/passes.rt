@@ -1,6 +1,6 @@
 // Map fields of messages, sized and written by both passes.
 
-ghost use Rattle.std.specs.Prelude.{◌≡◌, length, OnOk};
+ghost use Rattle.std.specs.Prelude.{◌≡◌, length};
 ghost use Rattle.buffa_bytes.specs.Number.{IsNumber};
 ghost use Rattle.buffa_wire.specs.Passes.{IsNext};
 ghost use Rattle.buffa_map_base.specs.MessageField.{IsFieldSized, field_slots};

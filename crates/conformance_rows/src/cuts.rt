@@ -1,6 +1,6 @@
 // Slices that are read one after another, of any cut.
 
-ghost use Rattle.std.specs.Prelude.{◌≡◌, ◌<◌, ◌^◌, length, IfSome};
+ghost use Rattle.std.specs.Prelude.{◌≡◌, ◌<◌, length, IfSome};
 ghost use Rattle.buffa_bytes.specs.Pieces.{joined};
 
 use buffa_wire::Pieces;

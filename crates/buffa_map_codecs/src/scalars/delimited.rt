@@ -1,6 +1,6 @@
 //! Codecs of strings and bytes: a length and so many bytes.
 
-ghost use Rattle.std.specs.Prelude.{◌≡◌, [], None, false, refl, true};
+ghost use Rattle.std.specs.Prelude.{[], None, false, refl};
 ghost use Rattle.buffa_bytes.specs.declared.wire_type.WireType.TheVariants.{LengthDelimited};
 ghost use Rattle.buffa_map_base.specs.Scalars.{IsLengthy, IsText, bytes_reading, delimited_writing, string_reading};
 ghost use Rattle.buffa_map_base.specs.ScalarFacts.{always_known, bytes_read_back, never_faulty, no_fixed_length};

@@ -1,6 +1,6 @@
 //! Codecs of enums: an int32.
 
-ghost use Rattle.std.specs.Prelude.{◌≡◌, None, false, refl, true};
+ghost use Rattle.std.specs.Prelude.{None, false, refl, true};
 ghost use Rattle.buffa_bytes.specs.declared.wire_type.WireType.TheVariants.{Varint};
 ghost use Rattle.buffa_wire.specs.Enums.{numbers};
 ghost use Rattle.buffa_map_base.specs.Enums.{ClosedFits, OpenFits, OpenNormal, closed_reading, closed_writing};

@@ -1,6 +1,6 @@
 //! Scalars of four and of eight bytes, the lowest first.
 
-ghost use Rattle.std.specs.Prelude.{◌≡◌, ◌<◌, ◌^◌, FitsSigned, Some, refl};
+ghost use Rattle.std.specs.Prelude.{◌<◌, ◌^◌, FitsSigned, Some, refl};
 ghost use Rattle.std.specs.Int.{cast_unsigned, w32, w64};
 ghost use Rattle.buffa_bytes.specs.Scalars.{sfixed32_of, sfixed64_of};
 ghost use Rattle.buffa_bytes.proofs.ScalarLemmas.{sfixed32_means, sfixed64_means, unsigned32_fits, unsigned64_fits};

@@ -1,6 +1,6 @@
 //! Scalars that are varints.
 
-ghost use Rattle.std.specs.Prelude.{◌≡◌, ◌<◌, ◌^◌, FitsSigned, None, Some, refl};
+ghost use Rattle.std.specs.Prelude.{◌<◌, ◌^◌, FitsSigned, None, Some, refl};
 ghost use Rattle.std.specs.Int.{cast_unsigned, from_bool, w32, w64};
 ghost use Rattle.buffa_bytes.specs.Scalars.{bool_of, int32_of, int64_of, sint32_of, sint64_of, uint32_of, zigzag};
 ghost use Rattle.buffa_bytes.proofs.IntLemmas.{int32_below, int32_means};

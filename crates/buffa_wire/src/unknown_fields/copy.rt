@@ -2,7 +2,7 @@
 
 ghost use Rattle.std.specs.Prelude.{◌≡◌, [], IfOk, IsOk};
 ghost use Rattle.buffa_wire.specs.Records.{IsEmpty, IsNumeric};
-ghost use Rattle.buffa_wire.specs.View.{datum_of, record_of, records_in};
+ghost use Rattle.buffa_wire.specs.View.{datum_of, record_of};
 
 use crate::unknown_fields::{UnknownField, UnknownFieldData, UnknownFields};
 use std::alloc::AllocError;

@@ -1,7 +1,7 @@
 use Rattle.std.proofs.Common.{refl}
 use Rattle.buffa_bytes.specs.declared.wire_type.WireType.TheVariants.{StartGroup}
+use Rattle.buffa_bytes.proofs.WireLemmas.{checked_same}
 use Rattle.buffa_fields.specs.Groups.{group_cost}
-use Rattle.buffa_fields_base.proofs.WireLemmas.{checked_same}
 use Rattle.buffa_fields.proofs.GroupLemmas.{group_wire_err}
 use Rattle.buffa_fields.proofs.group.take_group.Goals as goal
 

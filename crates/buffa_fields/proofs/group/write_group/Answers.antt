@@ -3,8 +3,8 @@ use Rattle.std.specs.Prelude.{length}
 use Rattle.buffa_bytes.specs.declared.wire_type.WireType.TheVariants.{EndGroup, StartGroup}
 use Rattle.buffa_bytes.specs.Values.{tag_encoding}
 use Rattle.buffa_bytes.specs.Written.{Writes}
-use Rattle.buffa_wire.proofs.PassLemmas.{done, refused}
 use Rattle.buffa_wire.specs.Passes.{IsWritten, cap}
+use Rattle.buffa_wire.specs.Pinned.{done, refusal}
 use Rattle.buffa_fields.proofs.GroupLemmas.{group_written, inner_short}
 use Rattle.buffa_fields.proofs.group.write_group.Goals as goal
 
@@ -34,4 +34,4 @@ returns-in-Err-write_to g c =
     let b2 = g.S.EncodeSink.written c.write_to.new.sink in
     let started : b1 ≡ b0 ++ tag_encoding c.args.number StartGroup = c.in-Ok.ensures.writes ∙ (λ i. b0 ++ tag_encoding (c.new.ensures.number i) (c.new.ensures.wire_type i)) in
     inner_short c.args.number (g.N.MessageSpec.records v) slots (cap (length (g.N.MessageSpec.encoding v))) c.args.cache.now c1 c.consume_next-size.ensures.rest b0 b1 started c.in-Err-write_to.error c2 b2
-    (subst (λ (z : List ℕ). IsWritten z slots c1 b1 (refused c.in-Err-write_to.error) c2 b2) (g.N.MessageSpec.encoding_records v) c.in-Err-write_to.ensures)
+    (subst (λ (z : List ℕ). IsWritten z slots c1 b1 (refusal c.in-Err-write_to.error) c2 b2) (g.N.MessageSpec.encoding_records v) c.in-Err-write_to.ensures)

@@ -2,7 +2,7 @@ use Rattle.std.proofs.Common.{◌≡◌, ◌∙◌, inl, inr, Err, IsOk, ap, map
 use Rattle.buffa_bytes.specs.Content.{content_at}
 use Rattle.buffa_bytes.specs.declared.wire_type.WireType.TheVariants.{LengthDelimited}
 use Rattle.buffa_bytes.specs.Front.{check_wire}
-use Rattle.buffa_fields_base.proofs.WireLemmas.{checked_same, checked_other, other_not_full}
+use Rattle.buffa_bytes.proofs.WireLemmas.{checked_same, checked_other, other_not_full}
 use Rattle.buffa_fields.proofs.ListLemmas.{element_refused, element_taken, neither_err, neither_refused, other_wire, own_wire, packed_refused, packed_taken, packed_wire}
 use Rattle.buffa_fields.specs.Lists.{ElementsTakeMemory, PackedTakeMemory}
 use Rattle.buffa_wire.proofs.SequenceLemmas.{err_same}

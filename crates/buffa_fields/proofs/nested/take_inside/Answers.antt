@@ -1,7 +1,7 @@
 use Rattle.std.proofs.Common.{refl, sym}
 use Rattle.buffa_bytes.specs.declared.wire_type.WireType.TheVariants.{LengthDelimited}
+use Rattle.buffa_bytes.proofs.WireLemmas.{checked_same, other_not_full}
 use Rattle.buffa_fields.specs.Nested.{message_cost}
-use Rattle.buffa_fields_base.proofs.WireLemmas.{checked_same, other_not_full}
 use Rattle.buffa_fields.proofs.NestedLemmas.{inside_full, inside_taken, message_wire_err}
 use Rattle.buffa_fields.proofs.nested.take_inside.Goals as goal
 

@@ -1,6 +1,6 @@
 use Rattle.std.proofs.Common.{◌-◌, ◌∙◌, sym}
 use Rattle.buffa_bytes.specs.declared.wire_type.WireType.TheVariants.{StartGroup}
-use Rattle.buffa_fields_base.proofs.WireLemmas.{other_not_full}
+use Rattle.buffa_bytes.proofs.WireLemmas.{other_not_full}
 use Rattle.buffa_wire.specs.Message.{cost_in}
 use Rattle.buffa_fields.specs.Groups.{group_body, group_cost, group_merged}
 use Rattle.buffa_fields.specs.RepeatedGroups.{groups_cost}

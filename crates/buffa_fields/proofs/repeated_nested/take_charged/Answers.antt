@@ -1,7 +1,7 @@
 use Rattle.std.proofs.Common.{◌∙◌, sym}
 use Rattle.buffa_bytes.specs.declared.wire_type.WireType.TheVariants.{LengthDelimited}
-use Rattle.buffa_fields_base.proofs.WireLemmas.{other_not_full}
 use Rattle.buffa_bytes.specs.Front.{delimited_at}
+use Rattle.buffa_bytes.proofs.WireLemmas.{other_not_full}
 use Rattle.buffa_wire.specs.Message.{cost_of_payload}
 use Rattle.buffa_fields.specs.Nested.{message_cost, message_merged}
 use Rattle.buffa_fields.proofs.NestedLemmas.{inside_full, inside_taken, message_wire_err}

@@ -1,7 +1,7 @@
 use Rattle.std.proofs.Common.{map, take}
-use Rattle.buffa_wire.proofs.PassLemmas.{done}
 use Rattle.buffa_wire.specs.Passes.{IsWritten}
 use Rattle.buffa_wire.specs.Encoding.{records_encoding}
+use Rattle.buffa_wire.specs.Pinned.{done}
 use Rattle.buffa_fields.specs.RepeatedNested.{messages_records, messages_slots}
 use Rattle.buffa_fields.proofs.repeated_nested.write_messages.Given as goal
 

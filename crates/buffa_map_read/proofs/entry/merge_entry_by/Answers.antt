@@ -1,19 +1,17 @@
-use Rattle.std.proofs.Common.{sym, ◌≡◌, ◌∙◌, Bool, true, false}
-use Rattle.std.proofs.lemmas.Result.{err_from_is_err_and, on_ok_weaker}
+use Rattle.std.proofs.Common.{sym, ◌≡◌, ◌∙◌, true, false}
+use Rattle.std.proofs.lemmas.Result.{err_from_is_err_and, on_ok_weaker, IfErr-weaker}
+use Rattle.std.proofs.lemmas.Bool.{false≢true}
 use Rattle.buffa_bytes.proofs.FullLemmas.{varint_no_full}
 use Rattle.buffa_bytes.proofs.TailLemmas.{tail_more}
 use Rattle.buffa_bytes.proofs.LendLemmas.{delimited_front}
 use Rattle.buffa_map_read.proofs.MergeLemmas.{bad_cut, is_dropped, is_put, no_copy, no_entry, not_put}
 use Rattle.buffa_map_read.proofs.PartsLemmas.{entry_declared}
-use Rattle.buffa_map_base.proofs.ResultLemmas.{IfErr-map, IfErr-with, OnOk-both}
+use Rattle.buffa_bytes.proofs.ResultLemmas.{IfErr-with, OnOk-both}
 use Rattle.buffa_map_base.proofs.NeedLemmas.{no_length}
 use Rattle.buffa_map_base.proofs.TailLemmas.{near_rest, cut_front, past_copy, past_short, delimited_short}
 use Rattle.buffa_bytes.proofs.DelimitedLemmas.{after_length}
 use Rattle.buffa_map_read.proofs.entry.merge_entry_by.Goals.{else-KEEPS-via-then-KEEPS+else-MAY_RETURN_UNKNOWN, else-KEEPS-via-else-KEEPS}
 use Rattle.buffa_map_read.proofs.entry.merge_entry_by.Goals as goal
-
-not_both : {b : Bool} → b ≡ true → b ≡ false → ⊥
-not_both is not = cc
 
 pub returns-in_err-len-clause-err : goal.returns-in_err-len-clause-err
 returns-in_err-len-clause-err g c =
@@ -27,7 +25,7 @@ returns-in-Some-clause-ok g c =
 
 pub returns-in-Some-clause-err : goal.returns-in-Some-clause-err
 returns-in-Some-clause-err g c =
-    IfErr-map c.merge_whole-merged.result (λ f h. h _ _ (rw c.advance.ensures.rest (delimited_front _ _ _ _ c.in_ok-len.ensures.reads c.in-Some.ensures))) c.merge_whole-merged.ensures.err
+    IfErr-weaker c.merge_whole-merged.result _ _ (λ f h. h _ _ (rw c.advance.ensures.rest (delimited_front _ _ _ _ c.in_ok-len.ensures.reads c.in-Some.ensures))) c.merge_whole-merged.ensures.err
 
 pub returns-in_err-entry-clause-err : goal.returns-in_err-entry-clause-err
 returns-in_err-entry-clause-err g c =
@@ -49,7 +47,7 @@ returns-then-not-parts-clause-ok g c =
     elim c.else-KEEPS.branch [
       | else-KEEPS-via-then-KEEPS+else-MAY_RETURN_UNKNOWN w ↦
           let all = g.met.W.MergeValue.declared (sym w.MAY_RETURN_UNKNOWN.ensures ∙ w.if-MAY_RETURN_UNKNOWN.false) in
-          absurd (not_both (entry_declared _ _ _ all cut.parts) c.if-not-parts.true)
+          absurd (false≢true (sym c.if-not-parts.true ∙ entry_declared _ _ _ all cut.parts))
       | else-KEEPS-via-else-KEEPS w ↦
           let none = g.met.L.Keeper.drops (sym c.KEEPS.ensures ∙ w.if-KEEPS.false) in
           is_dropped _ _ _ _ _ _ _ (cut_front _ _ _ _ c.in_ok-len.ensures.reads cut.fits cut.follows) _ _ cut.parts c.if-not-parts.true none.0 none.1

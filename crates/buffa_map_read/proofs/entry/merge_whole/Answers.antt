@@ -1,6 +1,6 @@
 use Rattle.std.proofs.lemmas.Result.{err_from_is_err_and, on_ok_weaker}
 use Rattle.buffa_map_read.proofs.MergeLemmas.{bad_parts, is_kept, is_put, not_kept, not_put}
-use Rattle.buffa_map_base.proofs.ResultLemmas.{IfErr-both, IfErr-with, OnOk-both}
+use Rattle.buffa_bytes.proofs.ResultLemmas.{IfErr-both, IfErr-with, OnOk-both}
 use Rattle.buffa_map_read.proofs.entry.merge_whole.Goals as goal
 
 pub returns-in_err-parts-clause-err : goal.returns-in_err-parts-clause-err

@@ -1,7 +1,6 @@
 use Rattle.std.proofs.Common.{arith}
-use Rattle.std.proofs.lemmas.Result.{err_from_is_err_and}
+use Rattle.std.proofs.lemmas.Result.{err_from_is_err_and, IfErr-weaker, IfOk-weaker}
 use Rattle.buffa_map_read.proofs.PartsLemmas.{all_read, bad_fields, no_units}
-use Rattle.buffa_map_base.proofs.ResultLemmas.{IfErr-map, IfOk-map}
 use Rattle.buffa_map_read.proofs.entry.read_parts.Goals as goal
 
 pub returns-in_err-charge-clause-err : goal.returns-in_err-charge-clause-err
@@ -13,9 +12,9 @@ returns-in_err-charge-clause-err g c =
 pub returns-clause-ok : goal.returns-clause-ok
 returns-clause-ok g c =
     let charged = c.in_ok-charge.ensures.ok in
-    IfOk-map c.merge_fields.result (λ parts h. all_read _ _ _ _ _ _ c.charge.new.budget (omega (arith, charged.0, c.COST.ensures, c.COST-2.ensures)) charged.1 _ _ h) c.merge_fields.ensures.ok
+    IfOk-weaker c.merge_fields.result _ _ (λ parts h. all_read _ _ _ _ _ _ c.charge.new.budget (omega (arith, charged.0, c.COST.ensures, c.COST-2.ensures)) charged.1 _ _ h) c.merge_fields.ensures.ok
 
 pub returns-clause-err : goal.returns-clause-err
 returns-clause-err g c =
     let charged = c.in_ok-charge.ensures.ok in
-    IfErr-map c.merge_fields.result (λ f h. bad_fields _ _ _ _ _ _ c.charge.new.budget (omega (arith, charged.0, c.COST.ensures, c.COST-2.ensures)) charged.1 _ f h) c.merge_fields.ensures.err
+    IfErr-weaker c.merge_fields.result _ _ (λ f h. bad_fields _ _ _ _ _ _ c.charge.new.budget (omega (arith, charged.0, c.COST.ensures, c.COST-2.ensures)) charged.1 _ f h) c.merge_fields.ensures.err

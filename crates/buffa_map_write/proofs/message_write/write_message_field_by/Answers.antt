@@ -4,7 +4,8 @@ use Rattle.std.specs.Map.{values_of}
 use Rattle.std.proofs.lemmas.Result.{err_from_is_err_and}
 use Rattle.buffa_wire.proofs.ByValueLemmas.{length_cut, length_last}
 use Rattle.buffa_wire.specs.Passes.{IsNext, cap}
-use Rattle.buffa_wire.proofs.PassLemmas.{done, next_front, next_past, written_err, written_none, written_short, written_then}
+use Rattle.buffa_wire.proofs.PassLemmas.{next_front, next_past, written_err, written_none, written_short, written_then}
+use Rattle.buffa_wire.specs.Pinned.{done}
 use Rattle.buffa_map_base.specs.MessageField.{IsFieldWritten, IsSmallField, IsSmallPair, field_slots}
 use Rattle.buffa_map_base.specs.Pairs.{mean, means}
 use Rattle.buffa_map_base.specs.Scalars.{delimited_writing}

@@ -1,13 +1,13 @@
 use Rattle.std.proofs.Common.{◌≡◌, ◌≢◌, Err, ◌∙◌, arith, ap}
 use Rattle.std.specs.Prelude.{string_bytes}
-use Rattle.std.proofs.lemmas.Result.{err_from_is_err_and}
+use Rattle.std.proofs.lemmas.Result.{err_from_is_err_and, on_err_weaker}
 use Rattle.buffa_bytes.proofs.FullLemmas.{tag_full}
 use Rattle.buffa_wire.specs.Message.{cost_in, merged_in}
 use Rattle.buffa_map_base.specs.Pairs.{means}
 use Rattle.buffa_wire.specs.Kept.{keep_need}
 use Rattle.buffa_fields_base.specs.Keep.{keep_takes}
 use Rattle.buffa_wire.proofs.TakesLemmas.{taken_full}
-use Rattle.buffa_node.proofs.FieldMergeLemmas.{both_stay, child_merged, kept_merged, on_err, score_merged, shade_merged}
+use Rattle.buffa_node.proofs.FieldMergeLemmas.{both_stay, child_merged, kept_merged, score_merged, shade_merged}
 use Rattle.buffa_wire.proofs.MergeLoopLemmas.{begins, ended, goes_on, no_tag, reached, refused_next, shorter}
 use Rattle.buffa_node.proofs.StopLemmas.{node_by_payloads, stops_at, stops_untagged}
 use Rattle.buffa_map.specs.Children.{children_in}
@@ -66,7 +66,7 @@ merge_node_field-returns-then-number-eq1 t c =
       merged = score_merged c.args.depth c.args.tag.number c.args.tag.wire_type c.args.buf.now.now call.new.buf.now c.args.budget.now call.new.budget call.result (means string_bytes (λ v. v) n.scores.entries) n.children.entries (means (λ k. k) shade_number n.shades.entries) n.rest.records c.args.node.now c.node.view_is
           (means string_bytes (λ v. v) call.new.scores.entries) one call.ensures.taken;
       full = taken_full scores_take scores_cost c.args.depth (means string_bytes (λ v. v) n.scores.entries) (means string_bytes (λ v. v) call.new.scores.entries) c.args.tag.number c.args.tag.wire_type c.args.buf.now.now call.new.buf.now c.args.budget.now call.new.budget call.result call.ensures.taken;
-      stays = on_err call.result (λ h. ap (λ z. branch z (children_in n.children.entries) (means (λ k. k) shade_number n.shades.entries) n.rest.records) h ∙ c.node.view_is) call.ensures.stays;
+      stays = on_err_weaker call.result (λ h. ap (λ z. branch z (children_in n.children.entries) (means (λ k. k) shade_number n.shades.entries) n.rest.records) h ∙ c.node.view_is) call.ensures.stays;
     }
 
 pub merge_node_field-returns-then-number-eq2 : goal.merge_node_field-returns-then-number-eq2
@@ -79,7 +79,7 @@ merge_node_field-returns-then-number-eq2 t c =
       merged = child_merged c.args.depth c.args.tag.number c.args.tag.wire_type c.args.buf.now.now call.new.buf.now c.args.budget.now call.new.budget call.result (means string_bytes (λ v. v) n.scores.entries) n.children.entries (means (λ k. k) shade_number n.shades.entries) n.rest.records c.args.node.now c.node.view_is
           call.new.children.entries two call.ensures.taken;
       full = taken_full (children_take m) (children_cost m (cost_in node_cost c.args.depth)) c.args.depth n.children.entries call.new.children.entries c.args.tag.number c.args.tag.wire_type c.args.buf.now.now call.new.buf.now c.args.budget.now call.new.budget call.result call.ensures.taken;
-      stays = on_err call.result (λ h. ap (λ z. branch (means string_bytes (λ v. v) n.scores.entries) (children_in z) (means (λ k. k) shade_number n.shades.entries) n.rest.records) h ∙ c.node.view_is) call.ensures.stays;
+      stays = on_err_weaker call.result (λ h. ap (λ z. branch (means string_bytes (λ v. v) n.scores.entries) (children_in z) (means (λ k. k) shade_number n.shades.entries) n.rest.records) h ∙ c.node.view_is) call.ensures.stays;
     }
 
 pub merge_node_field-returns-then-number-eq3 : goal.merge_node_field-returns-then-number-eq3
@@ -105,5 +105,5 @@ merge_node_field-returns t c =
       merged = kept_merged c.args.depth c.args.tag.number c.args.tag.wire_type c.args.buf.now.now call.new.buf.now c.args.budget.now call.new.budget call.result (means string_bytes (λ v. v) n.scores.entries) n.children.entries (means (λ k. k) shade_number n.shades.entries) n.rest.records c.args.node.now c.node.view_is
           call.new.fields.records one two three call.ensures.taken;
       full = taken_full keep_takes keep_need c.args.depth n.rest.records call.new.fields.records c.args.tag.number c.args.tag.wire_type c.args.buf.now.now call.new.buf.now c.args.budget.now call.new.budget call.result call.ensures.taken;
-      stays = on_err call.result (λ h. ap (λ z. branch (means string_bytes (λ v. v) n.scores.entries) (children_in n.children.entries) (means (λ k. k) shade_number n.shades.entries) z) h ∙ c.node.view_is) call.ensures.stays;
+      stays = on_err_weaker call.result (λ h. ap (λ z. branch (means string_bytes (λ v. v) n.scores.entries) (children_in n.children.entries) (means (λ k. k) shade_number n.shades.entries) z) h ∙ c.node.view_is) call.ensures.stays;
     }

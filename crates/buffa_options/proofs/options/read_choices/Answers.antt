@@ -1,15 +1,14 @@
 use Rattle.std.proofs.Common.{sym, ◌∙◌, ap}
 use Rattle.std.proofs.lemmas.List.{map-id}
-use Rattle.std.proofs.lemmas.Result.{on_err_weaker}
+use Rattle.std.proofs.lemmas.Result.{on_err_weaker, IfOk-weaker}
 use Rattle.buffa_options.specs.Options.{int32_list}
-use Rattle.buffa_options.proofs.OptionLemmas.{if_ok}
 use Rattle.buffa_options.proofs.ListLemmas.{has_number, in_list}
 use Rattle.buffa_options.proofs.options.read_choices.Goals as goal
 
 pub returns-clause-value : goal.returns-clause-value
 returns-clause-value c =
     let rs = c.args.options.now.fields.records in
-    if_ok c.extension.result _ _ c.extension.ensures.value (λ v h. sym (map-id _) ∙ in_list _ _ h ∙ ap (λ n. int32_list n rs) c.new-choices.ensures.number)
+    IfOk-weaker c.extension.result _ _ (λ v h. sym (map-id _) ∙ in_list _ _ h ∙ ap (λ n. int32_list n rs) c.new-choices.ensures.number) c.extension.ensures.value
 
 pub returns-clause-full : goal.returns-clause-full
 returns-clause-full c =

@@ -1,6 +1,6 @@
 use Rattle.std.proofs.Common.{◌-◌, arith}
 use Rattle.std.proofs.lemmas.Result.{err_from_is_err_and}
-use Rattle.buffa_wire.proofs.PassLemmas.{done}
+use Rattle.buffa_wire.specs.Pinned.{done}
 use Rattle.buffa_samples.specs.CountFacts.{nothing_counted, count_short, count_turn}
 use Rattle.buffa_samples.proofs.count.write_count.Goals as goal
 

@@ -1,6 +1,7 @@
 use Rattle.std.proofs.Common.{[], sym, subst}
 use Rattle.buffa_wire.specs.Passes.{IsNext, IsSmall, IsWritten, WritesIf}
-use Rattle.buffa_wire.proofs.PassLemmas.{done, written_put, written_then}
+use Rattle.buffa_wire.proofs.PassLemmas.{written_put, written_then}
+use Rattle.buffa_wire.specs.Pinned.{done}
 use Rattle.buffa_map.proofs.ChildrenLemmas.{slots_are}
 use Rattle.buffa_map.specs.Children.{meant_children}
 use Rattle.buffa_map_base.specs.MessageField.{IsSmallField, field_slots}

@@ -2,8 +2,8 @@ use Rattle.std.proofs.Common.{◌≡◌, ◌≢◌, Err, ◌∙◌, arith, ap}
 use Rattle.std.proofs.lemmas.Result.{err_from_is_err_and}
 use Rattle.buffa_bytes.specs.declared.wire_type.WireType.TheVariants.{LengthDelimited}
 use Rattle.buffa_bytes.proofs.FullLemmas.{tag_full}
+use Rattle.buffa_bytes.proofs.WireLemmas.{other_not_full}
 use Rattle.buffa_wire.proofs.MergeLoopLemmas.{begins, ended, goes_on, no_tag, reached, refused_next, shorter}
-use Rattle.buffa_fields_base.proofs.WireLemmas.{other_not_full}
 use Rattle.buffa_samples.proofs.TreeFieldLemmas.{child_full, child_merged, label_merged, tree_by_payloads, wire_merged}
 use Rattle.buffa_samples.specs.Fields.{value_field}
 use Rattle.buffa_samples.specs.FieldsFacts.{full_not_at_end, value_ends}

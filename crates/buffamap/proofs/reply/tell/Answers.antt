@@ -2,16 +2,16 @@ use Rattle.std.proofs.Common.{inl, codes, ◌++◌}
 use Rattle.buffa_bytes.specs.ErrorText.{decode_error_text, encode_error_text}
 use Rattle.buffamap.specs.Reply.{line}
 use Rattle.buffamap.proofs.EngineLemmas.{named_or_not}
-use Rattle.buffamap.proofs.WrittenLemmas.{nothing_more}
+use Rattle.std.proofs.KnownBytes.{Appends-nil}
 use Rattle.buffamap.proofs.reply.tell.Goals as goal
 
 pub returns-in-Words-clause-told : goal.returns-in-Words-clause-told
 returns-in-Words-clause-told g c =
-    rw c.in-Words.is (inl (inl (c.complain.ensures.status, nothing_more (g.W.Write.contents c.args.output.now), c.complain.ensures.line)))
+    rw c.in-Words.is (inl (inl (c.complain.ensures.status, Appends-nil (g.W.Write.contents c.args.output.now), c.complain.ensures.line)))
 
 pub returns-in-Stream-clause-told : goal.returns-in-Stream-clause-told
 returns-in-Stream-clause-told g c =
-    rw c.in-Stream.is (inl (inl (c.complain-in-Stream.ensures.status, nothing_more (g.W.Write.contents c.args.output.now), c.complain-in-Stream.ensures.line)))
+    rw c.in-Stream.is (inl (inl (c.complain-in-Stream.ensures.status, Appends-nil (g.W.Write.contents c.args.output.now), c.complain-in-Stream.ensures.line)))
 
 pub returns-in-Form-clause-told : goal.returns-in-Form-clause-told
 returns-in-Form-clause-told g c = rw c.in-Form.is (inl c.finish.ensures)

@@ -4,6 +4,7 @@ use Rattle.std.proofs.lemmas.Bool.{eqb-true, eq-eqb, false≢true}
 use Rattle.std.proofs.lemmas.List.{append-nil}
 use Rattle.std.proofs.lemmas.Result.{err_from_is_err_and}
 use Rattle.std.specs.Result.{OnErr, OnOk}
+use Rattle.buffa_bytes.proofs.ResultLemmas.{OnOk-always}
 use Rattle.buffa_wire.specs.Records.{Datum, Held, bytes}
 use Rattle.buffa_codec.specs.Decoded.{Adds, AddsSome, packed_record}
 use Rattle.buffa_codec.specs.Sub.{tagged}
@@ -39,10 +40,6 @@ packs_one encoding meaning n (v ∷ vs) b some e = ap (λ z. (n, bytes z) ∷ []
 stayed : {T E : Type 0} (r : Result T E) (old new : Held) (ds : List (ℕ × Datum)) → 0 < length ds → OnErr r (new ≡ old) → OnErr r (AddsSome old.records ds new.records)
 stayed (Ok u) old new ds some e = tt
 stayed (Err u) old new ds some e = (0, some, ap (λ h. h.records) e ∙ sym (append-nil old.records))
-
-holds_anyhow : {T E : Type 0} (r : Result T E) (P : Type 0) → P → OnOk r P
-holds_anyhow (Ok u) P p = p
-holds_anyhow (Err u) P p = tt
 
 pub returns-then-is_empty-clause-ok : goal.returns-then-is_empty-clause-ok
 returns-then-is_empty-clause-ok g c =
@@ -103,5 +100,5 @@ returns-clause-room g c = c.push_record.ensures.room
 
 pub returns-clause-fits : goal.returns-clause-fits
 returns-clause-fits g c =
-    holds_anyhow c.push_record.result _
+    OnOk-always c.push_record.result
     (subst (λ l. AllByRecursion g.C.SingularCodec.fits (map g.C.Value.Blank.meaning l)) c.as_slice.ensures.value c.in_ok-bytes.ensures.fits)

@@ -1,7 +1,7 @@
-//! The calls of a crate that names the facade alone.
+//! A field that is written, and its size.
 
+use crate::{announced, encoding_of, number_at};
 use buffa::map_codec::MapStorage;
-use buffa_user::{announced, encoding_of, number_at};
 use std::collections::BTreeMap;
 use std::test::Fail;
 

@@ -1,21 +1,17 @@
--- What holds of an answer, weakened.
-use Rattle.std.specs.Prelude.{◌≡◌, Result, Ok, Err, OnOk, OnErr, IfErr, IfOk, IsOk}
-
-pub IfErr-map : {T E : Type 0} {P Q : E → Type 0} (r : Result T E) → ((e : E) → P e → Q e) → IfErr r P → IfErr r Q
-IfErr-map (Ok v) f h = h
-IfErr-map (Err e) f h = f e h
-
-pub IfOk-map : {T E : Type 0} {P Q : T → Type 0} (r : Result T E) → ((v : T) → P v → Q v) → IfOk r P → IfOk r Q
-IfOk-map (Ok v) f h = f v h
-IfOk-map (Err e) f h = h
-
-pub OnOk-both : {T E : Type 0} {P Q R : Type 0} (r : Result T E) → (P → Q → R) → OnOk r P → OnOk r Q → OnOk r R
-OnOk-both (Ok v) f h k = f h k
-OnOk-both (Err e) f h k = h
+-- What holds of an answer.
+use Rattle.std.specs.Prelude.{◌≡◌, Result, Ok, Err, OnOk, OnErr, IfErr, IsOk}
 
 pub OnOk-always : {T E : Type 0} {P : Type 0} (r : Result T E) → P → OnOk r P
 OnOk-always (Ok v) h = h
 OnOk-always (Err e) h = tt
+
+pub OnErr-always : {T E : Type 0} {P : Type 0} (r : Result T E) → P → OnErr r P
+OnErr-always (Ok v) h = tt
+OnErr-always (Err e) h = h
+
+pub OnOk-both : {T E : Type 0} {P Q R : Type 0} (r : Result T E) → (P → Q → R) → OnOk r P → OnOk r Q → OnOk r R
+OnOk-both (Ok v) f h k = f h k
+OnOk-both (Err e) f h k = h
 
 pub IfErr-with : {T E : Type 0} {A : Type 0} {P Q : E → Type 0} (r : Result T E) → ((e : E) → A → P e → Q e) → OnErr r A → IfErr r P → IfErr r Q
 IfErr-with (Ok v) f a h = h
