@@ -10,7 +10,6 @@
 #[cfg(test)]
 mod carrier;
 #[cfg(test)]
-#[cfg(test)]
 mod facade;
 #[cfg(test)]
 mod guide;
